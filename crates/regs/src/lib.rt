@@ -1,0 +1,37 @@
+// The registers that the driver reads and writes, in the numbers of this port (0 to 18, in this order).
+pub enum Reg {
+    IntFg,
+    IntSt,
+    MisSt,
+    RxLen,
+    FrameNo,
+    Ctrl,
+    IntEn,
+    DevAd,
+    HostCtrl,
+    EpConfig,
+    EpType,
+    EpBufMod,
+    Ep0Dma,
+    EpMaxLen,
+    EpTLen,
+    EpRxDma,
+    EpTxDma,
+    EpRxCtrl,
+    EpTxCtrl,
+}
+
+// An endpoint's direction, as the host sees it.
+pub enum Dir {
+    Out,
+    In,
+}
+
+// What one call hands out: a reading, a write of a value, a wait in microseconds, the start-of-frame callback.
+// The number beside a register is the endpoint's, 0 where the register has none.
+pub enum Access {
+    Read(Reg, u8),
+    Write(Reg, u8, u32),
+    Wait(u8),
+    Callback,
+}
