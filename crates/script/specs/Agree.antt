@@ -1,5 +1,5 @@
 -- A driver and a book whose operations agree one by one agree over every list of calls
-use mathlib.Core.Bool.{Bool, true, false, not}
+use mathlib.Core.Bool.{Bool, true, false, not, cond}
 use mathlib.Core.List.{List, [], _∷_}
 use mathlib.Core.Path.{_≡_, refl, ap, subst, sym, _∙_}
 use Prim.Native.Nat.{ℕ, zero, suc}
@@ -9,7 +9,7 @@ use Rattle.regs.specs.declared.Access.{Access}
 use Rattle.regs.specs.declared.Access.the-variants.{Read, Write, Receive, Transmit, Ep0Dma, Wait, Callback}
 use Rattle.regs.specs.declared.Dir.the-variants.{Out, In}
 use Rattle.script.specs.Tree as tree
-use Rattle.script.specs.Tree.{ends, asks, bindOut, if}
+use Rattle.script.specs.Tree.{ends, asks, bindOut}
 use Rattle.script.specs.Cells.{Cell, Val}
 use Rattle.script.specs.Script.{Ops, Script, run, Test, Look, Fetch, Act, Hand, arrive, send, place, place0, handAsk, dma, Row, switch, bus-reset, lastOf, rowAsk, switchAsk, resetAsk}
 use Rattle.script.specs.Alike.{Rels, Sim, end, ask, alike, Phase, quiet, mid, Fits, Bare}
@@ -114,7 +114,7 @@ module _ {C S T : Type 0} (D : Driver C S) (K : Book C T) (M : Agree D K) where
 
     abbrev pub Lent : Call C Op → Machine A S → Machine A T → Buf → Type 0
     Lent (start c) m d b = Unit {0}
-    Lent (begin o) m d b = unless (if (L .slots o) (misfit L D (m .st) b) false) (M .Chip (d .st) (m .buf) b)
+    Lent (begin o) m d b = unless (cond (L .slots o) (misfit L D (m .st) b) false) (M .Chip (d .st) (m .buf) b)
     Lent (go v) m d b = unless (misfit L D (m .st) b) (M .Chip (d .st) (m .buf) b)
     Lent (question q) m d b = M .Chip (d .st) (m .buf) b
 
@@ -145,7 +145,7 @@ module _ {C S T : Type 0} (D : Driver C S) (K : Book C T) (M : Agree D K) where
     -- while an operation is under way
     asides : (g : Bool) {i : Bool} {φ : Phase} (j : Bool) → Fits j φ → (m : Machine A S) (d : Machine A T) → Ways φ (m .way) (d .way) → M .Rest φ (m .buf) (m .st) (d .st)
         → {o : tree.Out (S × Buf) A} {u : tree.Out (T × Buf) A} → (φ ≡ quiet → Sim rels i o u)
-        → After (if (if j g false) (beside L D m o) (stay L D 3 m)) (if (if j g false) (beside L (K .driver) d u) (stay L (K .driver) 3 d))
+        → After (cond (cond j g false) (beside L D m o) (stay L D 3 m)) (cond (cond j g false) (beside L (K .driver) d u) (stay L (K .driver) 3 d))
     asides true {φ = quiet} true p m d w r h = besides m d w r (h refl)
     asides true {φ = mid g n} true p m d w r h = absurd p
     asides false true p m d w r h = stays 3 m d w r
@@ -158,7 +158,7 @@ module _ {C S T : Type 0} (D : Driver C S) (K : Book C T) (M : Agree D K) where
         (λ e. alike rels (L .code o) (m .st, b) (d .st, b) (record { bytes = refl; rest = subst (λ φ. M .Rest φ b (m .st) (d .st)) e r }))
 
     wides : (g : Bool) {φ : Phase} {i : Bool} (m : Machine A S) (d : Machine A T) → Ways φ (m .way) (d .way) → M .Rest φ (m .buf) (m .st) (d .st) → {o : tree.Out (S × Buf) A} {u : tree.Out (T × Buf) A} → Sim rels i o u
-        → let x = if g (stay L D 16 m) (halt L D (λ s. s) i o) in After x (if g (stay L (K .driver) 16 d) (halt L (K .driver) (fed K (x .0)) i u))
+        → let x = cond g (stay L D 16 m) (halt L D (λ s. s) i o) in After x (cond g (stay L (K .driver) 16 d) (halt L (K .driver) (fed K (x .0)) i u))
     wides true m d w r h = stays 16 m d w r
     wides false m d w r h = halts _ h
 
@@ -167,16 +167,16 @@ module _ {C S T : Type 0} (D : Driver C S) (K : Book C T) (M : Agree D K) where
     continues n m d b v both-idle r = stays 15 (lentTo L D m b) (lentTo L (K .driver) d b) v r
     continues n m d b v (both-busy i q q′ {k = k} {k′ = k′} x p h) r =
         let s : S × Buf = (m .st, b) in let t : T × Buf = (d .st, b) in
-        let now = if (over L q n) (stay L D 16 (lentTo L D m b)) (halt L D (λ s. s) i (k n s)) in
-        subst (λ g. After now (if g (stay L (K .driver) 16 (lentTo L (K .driver) d b)) (halt L (K .driver) (fed K (now .0)) i (k′ n t)))) (over-same q q′ n x)
+        let now = cond (over L q n) (stay L D 16 (lentTo L D m b)) (halt L D (λ s. s) i (k n s)) in
+        subst (λ g. After now (cond g (stay L (K .driver) 16 (lentTo L (K .driver) d b)) (halt L (K .driver) (fed K (now .0)) i (k′ n t)))) (over-same q q′ n x)
         (wides (over L q n) (lentTo L D m b) (lentTo L (K .driver) d b) v r (h n s t (record { bytes = refl; rest = r })))
 
     -- row 1 is the same for both
     fitted : (g g′ : Bool) → g ≡ g′ → {φ : Phase} (m : Machine A S) (d : Machine A T) → Ways φ (m .way) (d .way) → M .Rest φ (m .buf) (m .st) (d .st)
         → {X : Type 0} → unless g X → (x : Ans A × Machine A S) (y : Ans A → Ans A × Machine A T) → (X → After x (y (x .0)))
-        → let z = if g (stay L D 1 m) x in After z (if g′ (stay L (K .driver) 1 d) (y (z .0)))
-    fitted true g′ e m d w r p x y f = subst (λ g. After (stay L D 1 m) (if g (stay L (K .driver) 1 d) (y (refused 1)))) e (stays 1 m d w r)
-    fitted false g′ e m d w r p x y f = subst (λ g. After x (if g (stay L (K .driver) 1 d) (y (x .0)))) e (f p)
+        → let z = cond g (stay L D 1 m) x in After z (cond g′ (stay L (K .driver) 1 d) (y (z .0)))
+    fitted true g′ e m d w r p x y f = subst (λ g. After (stay L D 1 m) (cond g (stay L (K .driver) 1 d) (y (refused 1)))) e (stays 1 m d w r)
+    fitted false g′ e m d w r p x y f = subst (λ g. After x (cond g (stay L (K .driver) 1 d) (y (x .0)))) e (f p)
 
     module _ (fresh : (c : C) (b : Buf) → L .refuses c b ≡ zero → M .Rest quiet b (D .fresh c) (K .driver .fresh c)) where
       starting : (c : C) (b : Buf) (n : ℕ) → L .refuses c b ≡ n → {φ : Phase} (m : Machine A S) (d : Machine A T) → Ways φ (m .way) (d .way) → M .Rest φ (m .buf) (m .st) (d .st)
@@ -189,7 +189,7 @@ module _ {C S T : Type 0} (D : Driver C S) (K : Book C T) (M : Agree D K) where
           → After (drive c m b) (write-up (drive c m b .0) c d b)
       agrees (start c) b m d w r l = starting c b (L .refuses c b) refl m d w r
       agrees (begin o) b {φ = φ} m d w r l =
-          fitted _ _ (ap (λ n. if (L .slots o) (not (eqb (length b) n)) false) (M .size φ (m .buf) (m .st) (d .st) r)) m d w r l
+          fitted _ _ (ap (λ n. cond (L .slots o) (not (eqb (length b) n)) false) (M .size φ (m .buf) (m .st) (d .st) r)) m d w r l
           (begun L D (λ s. s) o m (m .way) b) (λ x. begun L (K .driver) (fed K x) o d (d .way) b)
           (λ k. begins o m d b w w (M .chip (m .buf) b φ (m .st) (d .st) r k))
       agrees (go v) b {φ = φ} m d w r l =

@@ -6,7 +6,7 @@ use Prim.Native.Nat.{ℕ, zero, suc}
 use Rattle.regs.specs.declared.Access.{Access}
 use Rattle.regs.specs.declared.Access.the-variants.{Read, Write, Receive, Transmit, Ep0Dma, Wait, Callback}
 use Rattle.script.specs.Tree as tree
-use Rattle.script.specs.Tree.{ends, asks, Prog, bindOut, if}
+use Rattle.script.specs.Tree.{ends, asks, Prog, bindOut}
 use Rattle.script.specs.Cells.{Cell, Val}
 use Rattle.script.specs.Script.{Script, Ops, run, rows, Test, Look, Fetch, Act, Hand, handAsk, Row, lastOf, rowAsk, ret, bind, test, read-then, write-then, wait-then, callback-then, get-then, put-then, is-then, look-then, fetch-then, act-then, hand-then, row-then}
 

@@ -1,5 +1,5 @@
 -- Two machines run the same calls: the driver's, and a book's that is told the accesses which the driver handed out
-use mathlib.Core.Bool.{Bool, true, false, not}
+use mathlib.Core.Bool.{Bool, true, false, not, cond}
 use mathlib.Core.List.{List, [], _∷_}
 use mathlib.Core.Path.{_≡_, refl, ap, subst, sym, _∙_}
 use Prim.Native.Nat.{ℕ, zero, suc, _+_, _*_}
@@ -11,7 +11,7 @@ use Rattle.regs.specs.declared.Reg.{Reg}
 use Rattle.regs.specs.declared.Dir.{Dir}
 use Rattle.regs.specs.declared.Dir.the-variants.{Out, In}
 use Rattle.script.specs.Tree as tree
-use Rattle.script.specs.Tree.{ends, asks, bindOut, if}
+use Rattle.script.specs.Tree.{ends, asks, bindOut}
 use Rattle.script.specs.Cells.{Cell, Val}
 use Rattle.script.specs.Script.{Ops, Script, run, Test, Look, Fetch, Act, Hand, arrive, send, place, place0, handAsk, dma, Row, switch, bus-reset, lastOf, rowAsk, switchAsk, resetAsk}
 use Rattle.script.specs.Alike.{Rels, Sim, end, ask, alike, Phase, quiet, mid, Fits, Bare}
@@ -104,11 +104,11 @@ module _ {C Op A : Type 0} (L : Calls C Op A) {S : Type 0} (D : Driver C S) wher
 
     abbrev pub begun : Op → Machine A S → Way A S → Buf → Ans A × Machine A S
     begun o m idle b = halt (L .irq o) (run (D .ops) (L .code o) (m .st, b))
-    begun o m (busy i q k) b = if (if i (L .aside o) false) (beside (lentTo m b) (run (D .ops) (L .code o) (m .st, b))) (stay 3 (lentTo m b))
+    begun o m (busy i q k) b = cond (cond i (L .aside o) false) (beside (lentTo m b) (run (D .ops) (L .code o) (m .st, b))) (stay 3 (lentTo m b))
 
     abbrev pub continued : ℕ → Machine A S → Way A S → Buf → Ans A × Machine A S
     continued v m idle b = stay 15 (lentTo m b)
-    continued v m (busy i q k) b = if (over L q v) (stay 16 (lentTo m b)) (halt i (k v (m .st, b)))
+    continued v m (busy i q k) b = cond (over L q v) (stay 16 (lentTo m b)) (halt i (k v (m .st, b)))
 
     abbrev pub started : C → ℕ → Machine A S → Buf → Ans A × Machine A S
     started c zero m b = halt false (run (D .ops) (L .starts c) (D .fresh c, b))
@@ -117,8 +117,8 @@ module _ {C Op A : Type 0} (L : Calls C Op A) {S : Type 0} (D : Driver C S) wher
     -- one call, with the slot buffer as it stands then
     abbrev pub call : Call C Op → Machine A S → Buf → Ans A × Machine A S
     call (start c) m b = started c (L .refuses c b) m b
-    call (begin o) m b = if (if (L .slots o) (misfit (m .st) b) false) (stay 1 m) (begun o m (m .way) b)
-    call (go v) m b = if (misfit (m .st) b) (stay 1 m) (continued v m (m .way) b)
+    call (begin o) m b = cond (cond (L .slots o) (misfit (m .st) b) false) (stay 1 m) (begun o m (m .way) b)
+    call (go v) m b = cond (misfit (m .st) b) (stay 1 m) (continued v m (m .way) b)
     call (question q) m b = (told (D .question q (m .st)), lentTo m b)
 
 -- an access but for the address in it

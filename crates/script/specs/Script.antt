@@ -1,5 +1,5 @@
 -- Scripts, what they may do to a state, and their run over one
-use mathlib.Core.Bool.{Bool, true, false}
+use mathlib.Core.Bool.{Bool, true, false, cond}
 use mathlib.Core.List.{List}
 use Prim.Native.Nat.{ℕ, zero, suc}
 use Rattle.regs.specs.declared.Access.{Access}
@@ -14,7 +14,7 @@ use Rattle.state.specs.declared.Allocator.{Allocator}
 use Rattle.state.specs.declared.Request.{Request}
 use Rattle.state.specs.declared.Control.{Control}
 use Rattle.script.specs.Tree as tree
-use Rattle.script.specs.Tree.{ends, asks, bindOut, if}
+use Rattle.script.specs.Tree.{ends, asks, bindOut}
 use Rattle.script.specs.Cells.{Cell, Val, Plain, globals-cell, wakes-cell, control-cell, allocator-cell, ep-cell, request-cell, paced-cell}
 
 -- what is asked of a ring or of slots
@@ -80,7 +80,7 @@ lastOf bus-reset = 3
 abbrev pub switchAsk : ℕ → Bool → ℕ → ℕ → Access
 switchAsk e on zero x = Write EpConfig 0 x
 switchAsk e on (suc zero) x = Write EpType 0 x
-switchAsk e on (suc (suc zero)) x = Write EpRxCtrl e (if on 1 2)
+switchAsk e on (suc (suc zero)) x = Write EpRxCtrl e (cond on 1 2)
 switchAsk e on (suc (suc (suc n))) x = Receive e x
 
 abbrev pub resetAsk : ℕ → ℕ → Access
@@ -178,7 +178,7 @@ rows O g (suc n) k s = asks (rowAsk g (suc n) (O .row g (suc n) s .0)) (O .row g
 abbrev pub run : {S : Type 0} {i : Bool} {A : Type 0} → Ops S → Script i A → S → tree.Out S A
 run O (ret a) s = ends a s
 run O (bind p f) s = bindOut (run O p s) (λ a t. run O (f a) t)
-run O (test b p q) s = if b (run O p s) (run O q s)
+run O (test b p q) s = cond b (run O p s) (run O q s)
 run O (read-then r e k) s = asks (Read r e) s (λ v t. run O (k v) t)
 run O (write-then r e v p) s = asks (Write r e v) s (λ _ t. run O p t)
 run O (wait-then n p) s = asks (Wait n) s (λ _ t. run O p t)

@@ -16,6 +16,3 @@ abbrev pub bindOut : {S A B : Type 0} → Out S A → (A → Prog S B) → Out S
 bindOut (ends a s) f = f a s
 bindOut (asks q s k) f = asks q s (λ v t. bindOut (k v t) f)
 
-abbrev pub if : {A : Type 0} → Bool → A → A → A
-if true a b = a
-if false a b = b
