@@ -1,3 +1,13 @@
+// The chip's registers as this port numbers and packs them: what a reading's bits say, and the words that are written.
+pub mod control_word;
+pub mod ctrl;
+pub mod enables;
+pub mod flags;
+pub mod int_en;
+pub mod mis_status;
+pub mod registers;
+pub mod status;
+
 // The registers that the driver reads and writes, in the numbers of this port (0 to 18, in this order).
 pub enum Reg {
     IntFg,
@@ -34,4 +44,12 @@ pub enum Access {
     Write(Reg, u8, u32),
     Wait(u8),
     Callback,
+}
+
+// The token of a transaction, as the interrupt status shows it.
+pub enum Token {
+    Out,
+    Sof,
+    In,
+    Setup,
 }
