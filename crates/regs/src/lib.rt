@@ -1,3 +1,13 @@
+// The chip's registers as this port numbers and packs them: what a reading's bits say, and the words that are written.
+pub mod control_word;
+pub mod ctrl;
+pub mod enables;
+pub mod flags;
+pub mod int_en;
+pub mod mis_status;
+pub mod registers;
+pub mod status;
+
 // The registers that the driver reads and writes, but for the addresses of buffers (see Access).
 pub enum Reg {
     IntFg,
@@ -35,4 +45,12 @@ pub enum Access {
     Ep0Dma(u32),
     Wait(u8),
     Callback,
+}
+
+// The token of a transaction, as the interrupt status shows it.
+pub enum Token {
+    Out,
+    Sof,
+    In,
+    Setup,
 }

@@ -4,3 +4,11 @@ pub mod Script
 pub mod Alike
 pub mod Machine
 pub mod Agree
+pub mod Frames
+pub mod Statics
+pub mod IsoIn
+pub mod IsoOut
+pub mod Handler
+pub mod Answers
+pub mod Bus
+pub mod Endpoint
