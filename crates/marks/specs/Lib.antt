@@ -4,4 +4,5 @@ pub mod Only
 pub mod Arms
 pub mod Finds
 pub mod Slots
+pub mod Stored
 pub mod Table

@@ -16,7 +16,7 @@ use Rattle.marks.specs.Only.{Same, Only, only-refl, only-part}
 use Rattle.marks.specs.Arms.{same-mark, only-arm, arm-first, MarkedEmpty, arm-empties}
 use Rattle.marks.specs.Finds.{Telling, MarkedAfter, telling-word, found-is, found-most}
 
-back : (b p : List ℕ) (at : ℕ) → at ≤ length b → drop at (take at b ++ p) ≡ p
+pub back : (b p : List ℕ) (at : ℕ) → at ≤ length b → drop at (take at b ++ p) ≡ p
 back b p at h = drop-at (take at b) p at (length-take-le at b h)
 
 -- ---- arming
