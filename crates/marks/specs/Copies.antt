@@ -1,7 +1,7 @@
 -- Packets copied into a slot and out of one. A copy that would reach past the end of either side touches nothing.
 use mathlib.Core.Bool.{cond}
 use mathlib.Core.List.{List, _++_}
-use Prim.Native.Nat.{ℕ, _+_}
+use Prim.Native.Nat.{ℕ}
 use lib.Dec.{ltb}
 use lib.ListN.{length, take, drop}
 use Rattle.marks.specs.Marks.{short}

@@ -1,14 +1,12 @@
 -- The length by the marks is the packet's, for every maximum, where no word of the packet is taken for a mark.
-use mathlib.Core.Logic.{_⊎_, inl, inr, ⊎-elim}
-use mathlib.Core.Path.{_≡_, refl, sym, ap, _∙_}
+use mathlib.Core.Path.{_≡_}
 use mathlib.Core.Bool.{Bool, true, false, cond, _&&_, and-false}
-use mathlib.Core.List.{List, [], _∷_, _++_}
-use Prim.Native.Nat.{ℕ, zero, suc, _+_, _-_, _*_, _/_, _≤_, _<_, min, max}
+use mathlib.Core.List.{List}
+use Prim.Native.Nat.{ℕ, zero, suc, _+_, _-_, _*_, _/_, _≤_, _<_, min}
 use native.Mathlib.Omega.{arith}
 use native.Mathlib.Decide.{decLt}
-use borrow.Author.Tests.{lt-ltb, le-ltb, eq-eqb, ne-eqb}
+use borrow.Author.Tests.{lt-ltb, le-ltb, ne-eqb}
 use lib.Dec.{eqb}
-use lib.ListN.{length, getD}
 use Rattle.marks.specs.Marks.{words, agrees, isMark, halving, lastOther, upTo, found}
 use Rattle.marks.specs.Arms.{all-agree}
 
@@ -66,35 +64,34 @@ pub record Telling (n : ℕ) (p : List ℕ) : Type 0 where
 abbrev pub MarkedAfter : ℕ → ℕ → List ℕ → Type 0
 MarkedAfter n maximum p = (i k : ℕ) → k < 4 → n ≤ i * 4 + k → i < words maximum → agrees p i k ≡ true
 
-module _ (p : List ℕ) (n maximum : ℕ) (t : Telling n p) where
-  -- the word of the last byte is no mark either
-  pub telling-word : (i : ℕ) → i < words n → isMark p i ≡ false
-  telling-word i h = elim (decLt (i * 4 + 4) n) [
-    | yes g ↦ t .before i g
-    | no g ↦ one-differs p i (n - i * 4 - 1) (omega arith) (t .last i (n - i * 4 - 1) (omega arith) (omega arith))
-  ]
+-- the word of the last byte is no mark either
+pub telling-word : (p : List ℕ) (n i : ℕ) → Telling n p → i < words n → isMark p i ≡ false
+telling-word p n i t h = elim (decLt (i * 4 + 4) n) [
+  | yes g ↦ t .before i g
+  | no g ↦ one-differs p i (n - i * 4 - 1) (omega arith) (t .last i (n - i * 4 - 1) (omega arith) (omega arith))
+]
 
-  module _ (small : n ≤ maximum) (m : MarkedAfter n maximum p) where
-    split : Split p 0 (words n) (words maximum)
-    split = record {
-      low = omega arith;
-      high = omega arith;
-      packet = λ i a b. telling-word i b;
-      marks = λ i a b. all-agree p i (λ k c. m i k c (omega arith) b);
-    }
+module _ (p : List ℕ) (n maximum : ℕ) (t : Telling n p) (small : n ≤ maximum) (m : MarkedAfter n maximum p) where
+  split : Split p 0 (words n) (words maximum)
+  split = record {
+    low = omega arith;
+    high = omega arith;
+    packet = λ i a b. telling-word p n i t b;
+    marks = λ i a b. all-agree p i (λ k c. m i k c (omega arith) b);
+  }
 
-    up-to : (w : ℕ) → w ≡ words n → upTo p maximum w ≡ n
-    up-to zero e = omega arith
-    up-to (suc w) e =
-        let d : suc w - 1 ≡ w = omega arith in
-        let l : lastOther p w 4 ≡ suc (n - w * 4 - 1) =
-        last-finds p w 4 (n - w * 4 - 1) (omega arith) (t .last w (n - w * 4 - 1) (omega arith) (omega arith)) (λ j a b. m w j b (omega arith) (omega arith))
-        in
-        rw (ne-eqb (suc w) 0 (λ (z : suc w ≡ 0). omega arith), d, l) (omega arith)
+  up-to : (w : ℕ) → w ≡ words n → upTo p maximum w ≡ n
+  up-to zero e = omega arith
+  up-to (suc w) e =
+      let d : suc w - 1 ≡ w = omega arith in
+      let l : lastOther p w 4 ≡ suc (n - w * 4 - 1) =
+      last-finds p w 4 (n - w * 4 - 1) (omega arith) (t .last w (n - w * 4 - 1) (omega arith) (omega arith)) (λ j a b. m w j b (omega arith) (omega arith))
+      in
+      rw (ne-eqb (suc w) 0 (λ (z : suc w ≡ 0). omega arith), d, l) (omega arith)
 
-    pub found-is : found maximum p ≡ n
-    unfolding found
-    found-is = up-to (halving p (words maximum) 0 (words maximum)) (halving-finds p (words maximum) 0 (words n) (words maximum) (omega arith) split)
+  pub found-is : found maximum p ≡ n
+  unfolding found
+  found-is = up-to (halving p (words maximum) 0 (words maximum)) (halving-finds p (words maximum) 0 (words n) (words maximum) (omega arith) split)
 
 -- it is never above the maximum
 pub found-most : (p : List ℕ) (maximum : ℕ) → found maximum p ≤ maximum

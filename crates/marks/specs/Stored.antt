@@ -1,73 +1,19 @@
 -- A packet stored in a slot that is marked empty: its length is found, and armed again the slot is marked empty again.
-use mathlib.Core.Logic.{_⊎_, inl, inr, ⊎-elim}
-use mathlib.Core.Path.{_≡_, refl, sym, ap, _∙_}
-use mathlib.Core.Bool.{Bool, true, false, cond, _&&_}
-use mathlib.Core.List.{List, [], _∷_, _++_}
-use Prim.Native.Nat.{ℕ, zero, suc, _+_, _-_, _*_, _/_, _≤_, _<_, max}
+use mathlib.Core.Logic.{_⊎_, ⊎-elim}
+use mathlib.Core.Path.{_≡_, refl, sym, _∙_}
+use mathlib.Core.Bool.{Bool, true, false, _&&_}
+use mathlib.Core.List.{List}
+use Prim.Native.Nat.{ℕ, zero, suc, _+_, _*_, _≤_, _<_}
 use native.Mathlib.Omega.{arith}
 use native.Mathlib.Decide.{decLt}
-use borrow.Author.Tests.{lt-ltb, le-ltb}
-use lib.Dec.{ltb, eqb}
-use lib.ListN.{length, take, drop, getD, length-append, length-drop, length-take, List·getD-append, take-append-drop}
-use lib.Seq.{take-append-seam, drop-at, getD-append-add, getD-drop, length-take-le, take-at}
-use Rattle.marks.specs.Marks.{words, agrees, isMark, firstWord, reach, isMarked, armed, markedLen}
-use Rattle.marks.specs.Copies.{over, bytesAt, copied, copiedOut}
-use Rattle.marks.specs.Only.{Same, Only, only-refl, only-part}
+use lib.ListN.{length, drop, getD}
+use lib.Seq.{getD-drop}
+use Rattle.marks.specs.Marks.{words, agrees, isMark, firstWord, reach, armed, markedLen}
+use Rattle.marks.specs.Copies.{over, copied}
+use Rattle.marks.specs.Only.{Only}
 use Rattle.marks.specs.Arms.{same-mark, MarkedEmpty}
 use Rattle.marks.specs.Finds.{Telling, MarkedAfter}
-use Rattle.marks.specs.Slots.{back, armed-empties, len-is}
-
--- ---- copies
-
-over-low : (s p : List ℕ) (k : ℕ) → k < length s → getD (over s p) k 0 ≡ getD s k 0
-over-low s p k h = List·getD-append s (drop (length s) p) 0 k h
-
-over-high : (s p : List ℕ) (k : ℕ) → length s ≤ k → getD (over s p) k 0 ≡ getD p k 0
-over-high s p k h =
-    let e : length s + (k - length s) ≡ k = omega arith in
-    rw e at (getD-append-add s (drop (length s) p) (k - length s) 0 ∙ getD-drop (length s) p (k - length s) 0)
-
-only-over : (s p : List ℕ) → length s ≤ length p → Only 0 (length s) p (over s p)
-only-over s p h = record {
-  long = simp (length-append, length-drop) (omega arith);
-  below = λ k l. absurd (omega arith);
-  above = λ k l. over-high s p k l;
-}
-
--- bytes outside of the packet's stay, and so does the length
-pub only-copied : (b : List ℕ) (at : ℕ) (s : List ℕ) → Only at (at + length s) b (copied b at s)
-unfolding copied
-only-copied b at s = elim (decLt (length b) (at + length s)) [
-  | yes g ↦ rw (lt-ltb (length b) (at + length s) g) (only-refl _ _ b)
-  | no g ↦ rw (le-ltb (length b) (at + length s) (omega arith))
-      (only-part b (over s (drop at b)) at (length s) (omega arith) (only-over s (drop at b) (simp length-drop (omega arith))))
-]
-
-pub copied-part : (b : List ℕ) (at : ℕ) (s : List ℕ) → at + length s ≤ length b → drop at (copied b at s) ≡ over s (drop at b)
-unfolding copied
-copied-part b at s h = rw (le-ltb (length b) (at + length s) h) (back b (over s (drop at b)) at (omega arith))
-
-pub copied-bytes : (b : List ℕ) (at : ℕ) (s : List ℕ) → at + length s ≤ length b → bytesAt (copied b at s) at (length s) ≡ s
-copied-bytes b at s h = rw (copied-part b at s h) (take-append-seam s (drop (length s) (drop at b)))
-
--- what is copied out
-pub out-length : (b : List ℕ) (at : ℕ) (out : List ℕ) (n : ℕ) → length (copiedOut b at out n) ≡ length out
-unfolding copiedOut
-out-length b at out n = elim (decLt (length b) (at + n)) [
-  | yes g ↦ rw (lt-ltb (length b) (at + n) g)
-  | no g ↦ elim (decLt (length out) n) [
-    | yes d ↦ rw (le-ltb (length b) (at + n) (omega arith), lt-ltb (length out) n d)
-    | no d ↦ rw (le-ltb (length b) (at + n) (omega arith), le-ltb (length out) n (omega arith))
-        (simp (length-append, length-drop, length-take) (omega arith))
-  ]
-]
-
-pub out-bytes : (b : List ℕ) (at : ℕ) (out : List ℕ) (n : ℕ) → at + n ≤ length b → n ≤ length out → take n (copiedOut b at out n) ≡ bytesAt b at n
-unfolding copiedOut
-out-bytes b at out n h g =
-    let l : n ≤ length (drop at b) = simp length-drop (omega arith) in
-    rw (le-ltb (length b) (at + n) h, le-ltb (length out) n g)
-    (take-at (take n (drop at b)) (drop (length (take n (drop at b))) out) n (length-take-le n (drop at b) l))
+use Rattle.marks.specs.Slots.{over-low, only-copied, copied-part, armed-empties, len-is}
 
 -- ---- a packet in the slot
 

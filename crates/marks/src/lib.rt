@@ -2,7 +2,6 @@
 // The public functions take the whole lent buffer and a slot's offset, any number; the others the part of the buffer from the slot's
 // start. What would reach past the buffer's end touches nothing.
 ghost use mathlib.Core.Path.{_≡_};
-ghost use mathlib.Core.List.{_++_};
 ghost use Prim.Native.Nat.{_+_, _-_, _*_, _≤_};
 ghost use lib.ListN.{length};
 ghost use Rattle.marks.specs.Marks.{words, isMark, marked, markedRun, reach, arm, halving, lastOther, found, isMarked, armed, markedLen};

@@ -1,5 +1,4 @@
 use native.Mathlib.Omega.{arith}
-use Prim.Native.Nat.{ℕ}
 use mathlib.Core.Path.{_∙_, ap}
 use Rattle.marks.specs.Marks.{upTo, found}
 use Rattle.marks.proofs.Slot.{len-zero, len-some}
