@@ -1,0 +1,5 @@
+pub mod Fields
+pub mod Slot
+pub mod Out
+pub mod In
+pub mod Table
