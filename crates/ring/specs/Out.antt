@@ -3,8 +3,8 @@ use mathlib.Core.Bool.{Bool, cond}
 use Prim.Native.Nat.{ℕ, _+_, _-_, _%_, _^_}
 use lib.Dec.{ltb, eqb}
 use Rattle.state.specs.declared.EpState.{EpState}
-use Rattle.ring.specs.Fields.{withTail, withOverruns, withMinLen, withArmedSlot, withOpen}
-use Rattle.ring.specs.Slot.{slotOf, countOf}
+use Rattle.ring.specs.Fields.{withOverruns, withMinLen, withArmedSlot, withOpen}
+use Rattle.ring.specs.Slot.{slotOf, countOf, passedOf}
 
 -- "Admitted with 14 queued; with 15 the slot is armed again": below slots - 1
 unfoldable pub hasRoomOut : EpState → Bool
@@ -35,4 +35,4 @@ openedOf s = withOpen s 1
 
 -- a close, or a read's poll that takes the packet
 unfoldable pub closedOf : EpState → EpState
-closedOf s = withOpen (withTail s ((s .tail + 1) % 2 ^ 8)) 0
+closedOf s = withOpen (passedOf s) 0

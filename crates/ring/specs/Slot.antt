@@ -3,9 +3,9 @@ use mathlib.Core.Bool.{Bool, cond}
 use Prim.Native.Nat.{ℕ, _+_, _-_, _*_, _%_, _^_}
 use lib.Dec.{ltb, eqb}
 use Rattle.state.specs.declared.EpState.{EpState}
-use Rattle.ring.specs.Fields.{withHead}
+use Rattle.ring.specs.Fields.{withHead, withTail}
 
--- the next value of a counter, and the `j`th after it: 8 bits that run free
+-- the `j`th value of a counter after `i`: "Head and tail are 8-bit and run free"
 abbrev pub after : ℕ → ℕ → ℕ
 after i j = (i + j) % 2 ^ 8
 
@@ -26,4 +26,8 @@ hasWaiting s = ltb 0 (countOf s)
 
 -- one more waits: the packet in the head's slot
 unfoldable pub joinedOf : EpState → EpState
-joinedOf s = withHead s ((s .head + 1) % 2 ^ 8)
+joinedOf s = withHead s (after (s .head) 1)
+
+-- one less waits: the oldest is read or sent
+unfoldable pub passedOf : EpState → EpState
+passedOf s = withTail s (after (s .tail) 1)

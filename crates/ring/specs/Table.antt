@@ -6,7 +6,7 @@ use Rattle.ring.specs.Slot.{slotOf, countOf}
 use Rattle.ring.specs.Out.{turnedAwayOf}
 
 -- a ring of 16 slots
-sample : ℕ → ℕ → ℕ → EpState
+abbrev pub sample : ℕ → ℕ → ℕ → EpState
 sample h t n = record {
   ready = 0;
   len = 0;
@@ -32,5 +32,5 @@ pub table :
     (countOf (sample 3 250 0) ≡ 9)
     × (slotOf (sample 3 250 0) 250 ≡ 10)
     × (turnedAwayOf (sample 3 250 4294967295) .overruns ≡ 0)
-unfolding sample countOf slotOf turnedAwayOf
+unfolding countOf slotOf turnedAwayOf
 table = (refl, refl, refl)
