@@ -1,6 +1,6 @@
 -- What a ring holds, and what one more and one less do to it. Assumes nothing.
 use mathlib.Core.Logic.{_≢_, _⊎_, inl, inr}
-use mathlib.Core.Path.{_≡_, refl, ap, ap₂, sym, _∙_}
+use mathlib.Core.Path.{_≡_, refl, ap, ap₂, sym, subst, _∙_}
 use mathlib.Core.List.{List, [], _∷_, _++_, tail}
 use Prim.Native.Nat.{ℕ, zero, suc, _+_, _-_, _*_, _%_, _^_, _≤_, _<_}
 use native.Mathlib.Omega.{arith}
@@ -9,8 +9,8 @@ use lib.ListN.{length, getD, set, take, drop, length-set}
 use lib.Seq.{getD-set-other, getD-set-same}
 use Rattle.state.specs.declared.EpState.{EpState}
 use Rattle.ring.specs.Slot.{after, slotOf, slotAddr, countOf, joinedOf, passedOf}
-use Rattle.ring.specs.Waiting.{window, packet, packets, waiting, Away, Same, Only, Placed, Ring, Alike}
-use Rattle.ring.specs.Window.{window-same, window-is, only-apart}
+use Rattle.ring.specs.Waiting.{window, packet, packets, waiting, Away, Same, Only, Placed, Ring, OutRing, InRing, Place, Alike}
+use Rattle.ring.specs.Window.{window-length, window-same, window-is, only-apart, only-wider}
 use Rattle.ring.specs.Slots.{slots-some, slots-half, slot-is, slot-in, slot-wraps, slot-other, slot-lies, slot-from, slot-upto, places-apart, slots-apart}
 
 -- ---- packets from a counter on
@@ -48,41 +48,54 @@ unfolding waiting packets
 waiting-none b s ls e = ap (packets b s ls (s .tail)) e
 
 -- ---- two records of one ring hold the same
+
+pub place-placed : {n : ℕ} {s t : EpState} → Place s t → Placed n s → Placed n t
+place-placed k g = record {
+  part = g .part;
+  divides = rw (k .slots) (g .divides);
+  byte = rw (k .slots) (g .byte);
+  inside = rw (k .slots, k .base, k .stride) (g .inside);
+  low = g .low;
+}
+
+module _ {s t : EpState} (k : Place s t) where
+  pub place-slot : (i : ℕ) → slotOf t i ≡ slotOf s i
+  unfolding slotOf
+  place-slot i = rw (k .slots) refl
+
+  pub place-addr : (i : ℕ) → slotAddr t i ≡ slotAddr s i
+  unfolding slotAddr
+  place-addr i = rw (place-slot i, k .base, k .stride) refl
+
 module _ {s t : EpState} (k : Alike s t) where
   pub alike-count : countOf t ≡ countOf s
   unfolding countOf
   alike-count = rw (k .head, k .tail) refl
 
-  pub alike-slot : (i : ℕ) → slotOf t i ≡ slotOf s i
-  unfolding slotOf
-  alike-slot i = rw (k .slots) refl
-
-  pub alike-addr : (i : ℕ) → slotAddr t i ≡ slotAddr s i
-  unfolding slotAddr
-  alike-addr i = rw (alike-slot i, k .base, k .stride) refl
-
   pub alike-waits : (b ls : List ℕ) → s .tail < 256 → waiting b t ls ≡ waiting b s ls
   unfolding waiting packet
   alike-waits b ls h = ap₂ (packets b t ls) (k .tail) alike-count
-      ∙ packets-same b b s t ls ls (s .tail) (countOf s) h (λ j l. rw (alike-slot (after (s .tail) j), alike-addr (after (s .tail) j)) refl)
-
-  pub alike-placed : {n : ℕ} → Placed n s → Placed n t
-  alike-placed g = record {
-    part = g .part;
-    divides = rw (k .slots) (g .divides);
-    byte = rw (k .slots) (g .byte);
-    inside = rw (k .slots, k .base, k .stride) (g .inside);
-    low = g .low;
-  }
+      ∙ packets-same b b s t ls ls (s .tail) (countOf s) h (λ j l.
+      rw (place-slot (k .place) (after (s .tail) j), place-addr (k .place) (after (s .tail) j)) refl)
 
   pub alike-ring : {most : ℕ} {ls : List ℕ} → Ring most s ls → Ring most t ls
   alike-ring a = record {
-    whole = rw (k .slots) (a .whole);
-    capped = λ i. rw (k .stride) (a .capped i);
+    whole = rw (k .place .slots) (a .whole);
+    capped = λ i. rw (k .place .stride) (a .capped i);
     head8 = rw (k .head) (a .head8);
     tail8 = rw (k .tail) (a .tail8);
     few = rw alike-count (a .few);
   }
+
+  pub alike-out : {ls : List ℕ} → OutRing s ls → OutRing t ls
+  alike-out {ls} a = subst (λ (m : ℕ). Ring m t ls) (ap (_- 1) (sym (k .place .slots))) (alike-ring a)
+
+  pub alike-in : {ls : List ℕ} → InRing s ls → InRing t ls
+  alike-in {ls} a = subst (λ (m : ℕ). Ring m t ls) (sym (k .place .slots)) (alike-ring a)
+
+  pub alike-away : (x : ℕ) → Away s x → Away t x
+  alike-away x h j l e = h j (omega (arith, alike-count))
+      (ap (λ (y : ℕ). slotOf s (after y j)) (sym (k .tail)) ∙ sym (place-slot (k .place) (after (t .tail) j)) ∙ e)
 
 -- ---- a reset, enabling: none wait
 module _ (t : EpState) (h : t .head ≡ 0) (l : t .tail ≡ 0) where
@@ -99,8 +112,28 @@ module _ (t : EpState) (h : t .head ≡ 0) (l : t .tail ≡ 0) where
   pub reset-away : (x : ℕ) → Away t x
   reset-away x j m = absurd (omega (arith, reset-count))
 
+pub join-place : (s : EpState) → Place s (joinedOf s)
+unfolding joinedOf
+join-place s = record { base = refl; stride = refl; slots = refl }
+
+pub pass-place : (s : EpState) → Place s (passedOf s)
+unfolding passedOf
+pass-place s = record { base = refl; stride = refl; slots = refl }
+
+-- ---- bytes shown
+
+module _ {s : EpState} (b : List ℕ) (g : Placed (length b) s) where
+  -- what a slot shows is a part of the buffer
+  pub slot-shows : (i len : ℕ) → len ≤ s .stride → window b (slotAddr s i) len ≡ take len (drop (slotAddr s i) b)
+  slot-shows i len h = window-is b (slotAddr s i) len (omega (arith, slot-upto g i, g .inside))
+
 module _ {n most : ℕ} {s : EpState} {ls : List ℕ} (g : Placed n s) (a : Ring most s ls) where
   -- ---- bytes that may change
+
+  -- a change in a slot is one in the ring's region
+  pub slot-region : (i : ℕ) (b b′ : List ℕ) → Only (slotAddr s i) (slotAddr s i + s .stride) b b′
+      → Only (s .base) (s .base + s .slots * s .stride) b b′
+  slot-region i b b′ o = only-wider _ _ _ _ b b′ (slot-from g i) (slot-upto g i) o
 
   -- the packets' slots stay, so they stay
   pub waiting-kept : (b b′ : List ℕ)
@@ -207,6 +240,9 @@ module _ {n most : ℕ} {s : EpState} {ls : List ℕ} (g : Placed n s) (a : Ring
     pub pass-waits : (b : List ℕ) → waiting b (passedOf s) ls ≡ tail (waiting b s ls)
     pass-waits b = rw (waiting-split b) refl
 
+    pub first-is : (b p : List ℕ) (ps : List (List ℕ)) → waiting b s ls ≡ p ∷ ps → packet b s ls (s .tail) ≡ p
+    first-is b p ps e = cc (waiting-split b)
+
     pub pass-ring : Ring most (passedOf s) ls
     unfolding passedOf
     pass-ring = record {
@@ -222,3 +258,16 @@ module _ {n most : ℕ} {s : EpState} {ls : List ℕ} (g : Placed n s) (a : Ring
     pass-away x h j l e =
         let f : after (after (s .tail) 1) j ≡ after (s .tail) (suc j) = omega arith in
         h (suc j) (omega (arith, pass-count)) (ap (slotOf s) (sym f) ∙ e)
+
+  -- ---- the first of those that wait lies in the tail's slot
+  module _ (b p : List ℕ) (ps : List (List ℕ)) (e : waiting b s ls ≡ p ∷ ps) where
+    pub first-count : 0 < countOf s
+    first-count = omega (arith, sym (waiting-length b s ls) ∙ ap length e)
+
+    pub first-length : getD ls (slotOf s (s .tail)) 0 ≡ length p
+    unfolding packet
+    first-length = sym (window-length b (slotAddr s (s .tail)) _) ∙ ap length (first-is first-count b p ps e)
+
+    pub first-shows : window b (slotAddr s (s .tail)) (length p) ≡ p
+    unfolding packet
+    first-shows = rw first-length at (first-is first-count b p ps e)

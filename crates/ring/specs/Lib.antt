@@ -6,4 +6,6 @@ pub mod Waiting
 pub mod Window
 pub mod Slots
 pub mod Laws
+pub mod OutLaws
+pub mod InLaws
 pub mod Table

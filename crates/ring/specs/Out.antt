@@ -1,10 +1,12 @@
 -- An isochronous OUT endpoint's ring: iso_out_check, iso_out_arm, iso_out_take.
 use mathlib.Core.Bool.{Bool, cond}
+use mathlib.Core.List.{List}
 use Prim.Native.Nat.{ℕ, _+_, _-_, _%_, _^_}
 use lib.Dec.{ltb, eqb}
+use lib.ListN.{set}
 use Rattle.state.specs.declared.EpState.{EpState}
 use Rattle.ring.specs.Fields.{withOverruns, withMinLen, withArmedSlot, withOpen}
-use Rattle.ring.specs.Slot.{slotOf, countOf, passedOf}
+use Rattle.ring.specs.Slot.{slotOf, countOf, joinedOf, passedOf}
 
 -- "Admitted with 14 queued; with 15 the slot is armed again": below slots - 1
 unfoldable pub hasRoomOut : EpState → Bool
@@ -21,6 +23,13 @@ shortestOf s len = cond (eqb len 0) s (cond (ltb len (s .«min_len»)) (withMinL
 -- "overruns" wraps at 32 bits
 unfoldable pub turnedAwayOf : EpState → EpState
 turnedAwayOf s = withOverruns s ((s .overruns + 1) % 2 ^ 32)
+
+-- an arrival of `len` bytes in the head's slot: the record, and the recorded lengths
+abbrev pub arrivedOf : EpState → EpState
+arrivedOf s = cond (hasRoomOut s) (joinedOf s) (turnedAwayOf s)
+
+abbrev pub arrivedLens : EpState → List ℕ → ℕ → List ℕ
+arrivedLens s ls len = cond (hasRoomOut s) (set ls (slotOf s (s .head)) len) ls
 
 -- the slot to arm, and so the place of the stale length: the head's
 unfoldable pub armSlot : EpState → ℕ

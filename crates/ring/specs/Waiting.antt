@@ -1,8 +1,10 @@
 -- What a ring in a buffer holds: the packets that wait, as a list. `ls` are the ring's recorded lengths.
 use mathlib.Core.Logic.{_≢_, _⊎_}
 use mathlib.Core.Path.{_≡_}
-use mathlib.Core.List.{List, [], _∷_}
-use Prim.Native.Nat.{ℕ, zero, suc, _+_, _*_, _^_, _≤_, _<_}
+use mathlib.Core.Bool.{cond}
+use mathlib.Core.List.{List, [], _∷_, _++_}
+use Prim.Native.Nat.{ℕ, zero, suc, _+_, _-_, _*_, _^_, _≤_, _<_}
+use lib.Dec.{ltb}
 use lib.ListN.{length, getD}
 use Rattle.state.specs.declared.EpState.{EpState}
 use Rattle.ring.specs.Slot.{after, slotOf, slotAddr, countOf}
@@ -25,6 +27,10 @@ packets b s ls i (suc n) = packet b s ls i ∷ packets b s ls (after i 1) n
 unfoldable pub waiting : List ℕ → EpState → List ℕ → List (List ℕ)
 waiting b s ls = packets b s ls (s .tail) (countOf s)
 
+-- a packet joins those that wait, last, where fewer than `most` do
+abbrev pub join : ℕ → List (List ℕ) → List ℕ → List (List ℕ)
+join most w p = cond (ltb (length w) most) (w ++ (p ∷ [])) w
+
 -- slot `x` is none of those that wait
 abbrev pub Away : EpState → ℕ → Type 0
 Away s x = (j : ℕ) → j < countOf s → slotOf s (after (s .tail) j) ≢ x
@@ -45,7 +51,7 @@ pub record Placed (n : ℕ) (s : EpState) : Type 0 where
   pub inside : s .base + s .slots * s .stride ≤ n
   pub low : n < 2 ^ 32
 
--- a ring of which at most `most` wait: slots - 1 for OUT, slots for IN
+-- a ring of which at most `most` wait: all slots but the armed one for OUT, all for IN
 pub record Ring (most : ℕ) (s : EpState) (ls : List ℕ) : Type 0 where
   pub whole : s .slots ≤ length ls
   pub capped : (i : ℕ) → getD ls i 0 ≤ s .stride
@@ -53,10 +59,20 @@ pub record Ring (most : ℕ) (s : EpState) (ls : List ℕ) : Type 0 where
   pub tail8 : s .tail < 256
   pub few : countOf s ≤ most
 
--- two records of one ring: geometry, head and tail are the same
-pub record Alike (s t : EpState) : Type 0 where
+abbrev pub OutRing : EpState → List ℕ → Type 0
+OutRing s ls = Ring (s .slots - 1) s ls
+
+abbrev pub InRing : EpState → List ℕ → Type 0
+InRing s ls = Ring (s .slots) s ls
+
+-- two records whose ring has the same place
+pub record Place (s t : EpState) : Type 0 where
   pub base : t .base ≡ s .base
   pub stride : t .stride ≡ s .stride
   pub slots : t .slots ≡ s .slots
+
+-- and the same head and tail
+pub record Alike (s t : EpState) : Type 0 where
+  pub place : Place s t
   pub head : t .head ≡ s .head
   pub tail : t .tail ≡ s .tail
