@@ -1,6 +1,5 @@
 -- An isochronous IN endpoint's ring: iso_in_enqueue, iso_in_complete, iso_in_load.
 use mathlib.Core.Bool.{Bool, cond}
-use Prim.Native.Nat.{ℕ}
 use lib.Dec.{ltb, eqb}
 use Rattle.state.specs.declared.EpState.{EpState}
 use Rattle.ring.specs.declared.Next.{Next}

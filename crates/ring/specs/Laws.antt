@@ -1,17 +1,18 @@
 -- What a ring holds, and what one more and one less do to it. Assumes nothing.
-use mathlib.Core.Logic.{_≢_, _⊎_, inl, inr}
-use mathlib.Core.Path.{_≡_, refl, ap, ap₂, sym, subst, _∙_}
+use mathlib.Core.Logic.{_⊎_}
+use mathlib.Core.Path.{_≡_, refl, ap, ap₂, sym, _∙_}
 use mathlib.Core.List.{List, [], _∷_, _++_, tail}
-use Prim.Native.Nat.{ℕ, zero, suc, _+_, _-_, _*_, _%_, _^_, _≤_, _<_}
+use Prim.Native.Nat.{ℕ, zero, suc, _+_, _-_, _*_, _≤_, _<_}
 use native.Mathlib.Omega.{arith}
-use native.Mathlib.Decide.{ℕ-discrete}
-use lib.ListN.{length, getD, set, take, drop, length-set}
-use lib.Seq.{getD-set-other, getD-set-same}
+use native.Mathlib.Decide.{ℕ-discrete, decLt}
+use lib.Dec.{ltb}
+use lib.ListN.{length, getD, set, take, drop, replicate, length-set, length-replicate, getD-replicate, List·getD-eq-default}
+use lib.Seq.{getD-set-other, getD-set-same, set-out}
 use Rattle.state.specs.declared.EpState.{EpState}
-use Rattle.ring.specs.Slot.{after, slotOf, slotAddr, countOf, joinedOf, passedOf}
-use Rattle.ring.specs.Waiting.{window, packet, packets, waiting, Away, Same, Only, Placed, Ring, OutRing, InRing, Place, Alike}
+use Rattle.ring.specs.Slot.{after, slotOf, slotAddr, countOf, hasWaiting, joinedOf, passedOf}
+use Rattle.ring.specs.Waiting.{window, packet, packets, waiting, Away, Same, Only, Placed, Ring, OutRing, InRing, SamePlace, Alike}
 use Rattle.ring.specs.Window.{window-length, window-same, window-is, only-apart, only-wider}
-use Rattle.ring.specs.Slots.{slots-some, slots-half, slot-is, slot-in, slot-wraps, slot-other, slot-lies, slot-from, slot-upto, places-apart, slots-apart}
+use Rattle.ring.specs.Slots.{slots-half, slot-in, slot-wraps, slot-other, slot-lies, slot-from, slot-upto, places-apart}
 
 -- ---- packets from a counter on
 
@@ -43,13 +44,40 @@ pub waiting-length : (b : List ℕ) (s : EpState) (ls : List ℕ) → length (wa
 unfolding waiting
 waiting-length b s ls = packets-length b s ls (s .tail) (countOf s)
 
+pub waiting-some : (b : List ℕ) (s : EpState) (ls : List ℕ) → hasWaiting s ≡ ltb 0 (length (waiting b s ls))
+unfolding hasWaiting
+waiting-some b s ls = rw (waiting-length b s ls) refl
+
 pub waiting-none : (b : List ℕ) (s : EpState) (ls : List ℕ) → countOf s ≡ 0 → waiting b s ls ≡ []
 unfolding waiting packets
 waiting-none b s ls e = ap (packets b s ls (s .tail)) e
 
+pub ring-most : {m m′ : ℕ} {s : EpState} {ls : List ℕ} → m ≤ m′ → Ring m s ls → Ring m′ s ls
+ring-most h a = record { whole = a .whole; capped = a .capped; head8 = a .head8; tail8 = a .tail8; few = omega (arith, a .few) }
+
+set-capped : (ls : List ℕ) (i len most : ℕ) → ((k : ℕ) → getD ls k 0 ≤ most) → len ≤ most → (k : ℕ) → getD (set ls i len) k 0 ≤ most
+set-capped ls i len most c h k = elim (ℕ-discrete k i) [
+  | yes e ↦ (elim (decLt i (length ls)) [
+    | yes l ↦ rw (e, getD-set-same ls i len 0 l) h
+    | no l ↦ rw (set-out ls i len (omega arith)) (c k)
+  ])
+  | no d ↦ rw (getD-set-other ls i k len 0 d) (c k)
+]
+
+-- a length recorded anew
+pub ring-length : {most : ℕ} {s : EpState} {ls : List ℕ} → Ring most s ls → (i len : ℕ) → len ≤ s .stride
+    → Ring most s (set ls i len)
+ring-length {most} {s} {ls} a i len h = record {
+  whole = rw (length-set ls i len) (a .whole);
+  capped = set-capped ls i len (s .stride) (a .capped) h;
+  head8 = a .head8;
+  tail8 = a .tail8;
+  few = a .few;
+}
+
 -- ---- two records of one ring hold the same
 
-pub place-placed : {n : ℕ} {s t : EpState} → Place s t → Placed n s → Placed n t
+pub place-placed : {n : ℕ} {s t : EpState} → SamePlace s t → Placed n s → Placed n t
 place-placed k g = record {
   part = g .part;
   divides = rw (k .slots) (g .divides);
@@ -58,7 +86,7 @@ place-placed k g = record {
   low = g .low;
 }
 
-module _ {s t : EpState} (k : Place s t) where
+module _ {s t : EpState} (k : SamePlace s t) where
   pub place-slot : (i : ℕ) → slotOf t i ≡ slotOf s i
   unfolding slotOf
   place-slot i = rw (k .slots) refl
@@ -88,16 +116,24 @@ module _ {s t : EpState} (k : Alike s t) where
   }
 
   pub alike-out : {ls : List ℕ} → OutRing s ls → OutRing t ls
-  alike-out {ls} a = subst (λ (m : ℕ). Ring m t ls) (ap (_- 1) (sym (k .place .slots))) (alike-ring a)
+  alike-out a = ring-most (omega (arith, k .place .slots)) (alike-ring a)
 
   pub alike-in : {ls : List ℕ} → InRing s ls → InRing t ls
-  alike-in {ls} a = subst (λ (m : ℕ). Ring m t ls) (sym (k .place .slots)) (alike-ring a)
+  alike-in a = ring-most (omega (arith, k .place .slots)) (alike-ring a)
 
   pub alike-away : (x : ℕ) → Away s x → Away t x
   alike-away x h j l e = h j (omega (arith, alike-count))
       (ap (λ (y : ℕ). slotOf s (after y j)) (sym (k .tail)) ∙ sym (place-slot (k .place) (after (t .tail) j)) ∙ e)
 
 -- ---- a reset, enabling: none wait
+
+-- enabling records the maximum for every slot
+pub replicate-capped : (n m i : ℕ) → getD (replicate n m) i 0 ≤ m
+replicate-capped n m i = elim (decLt i n) [
+  | yes h ↦ rw (getD-replicate n i m 0 h) (omega arith)
+  | no h ↦ rw (List·getD-eq-default (replicate n m) 0 {n = i} (omega (arith, length-replicate n m))) (omega arith)
+]
+
 module _ (t : EpState) (h : t .head ≡ 0) (l : t .tail ≡ 0) where
   pub reset-count : countOf t ≡ 0
   unfolding countOf
@@ -112,11 +148,11 @@ module _ (t : EpState) (h : t .head ≡ 0) (l : t .tail ≡ 0) where
   pub reset-away : (x : ℕ) → Away t x
   reset-away x j m = absurd (omega (arith, reset-count))
 
-pub join-place : (s : EpState) → Place s (joinedOf s)
+pub join-place : (s : EpState) → SamePlace s (joinedOf s)
 unfolding joinedOf
 join-place s = record { base = refl; stride = refl; slots = refl }
 
-pub pass-place : (s : EpState) → Place s (passedOf s)
+pub pass-place : (s : EpState) → SamePlace s (passedOf s)
 unfolding passedOf
 pass-place s = record { base = refl; stride = refl; slots = refl }
 
@@ -213,10 +249,7 @@ module _ {n most : ℕ} {s : EpState} {ls : List ℕ} (g : Placed n s) (a : Ring
     unfolding joinedOf
     join-ring small few = record {
       whole = rw (length-set ls (slotOf s (s .head)) len) (a .whole);
-      capped = λ i. elim (ℕ-discrete i (slotOf s (s .head))) [
-        | yes e ↦ rw (e, getD-set-same ls (slotOf s (s .head)) len 0 head-in) small
-        | no d ↦ rw (getD-set-other ls (slotOf s (s .head)) i len 0 d) (a .capped i)
-      ];
+      capped = set-capped ls (slotOf s (s .head)) len (s .stride) (a .capped) small;
       head8 = omega arith;
       tail8 = a .tail8;
       few = omega (arith, join-count room);
@@ -271,3 +304,10 @@ module _ {n most : ℕ} {s : EpState} {ls : List ℕ} (g : Placed n s) (a : Ring
     pub first-shows : window b (slotAddr s (s .tail)) (length p) ≡ p
     unfolding packet
     first-shows = rw first-length at (first-is first-count b p ps e)
+
+    -- as a part of the buffer
+    pub first-part : n ≤ length b → take (length p) (drop (slotAddr s (s .tail)) b) ≡ p
+    first-part h =
+        sym (window-is b (slotAddr s (s .tail)) (length p)
+        (omega (arith, slot-upto g (s .tail), g .inside, a .capped (slotOf s (s .tail)), first-length)))
+        ∙ first-shows

@@ -20,7 +20,7 @@ cappedAt s len = cond (ltb len (s .«max_len»)) len (s .«max_len»)
 unfoldable pub shortestOf : EpState → ℕ → EpState
 shortestOf s len = cond (eqb len 0) s (cond (ltb len (s .«min_len»)) (withMinLen s len) s)
 
--- "overruns" wraps at 32 bits
+-- "the overrun count wraps at 32 bits"
 unfoldable pub turnedAwayOf : EpState → EpState
 turnedAwayOf s = withOverruns s ((s .overruns + 1) % 2 ^ 32)
 

@@ -1,21 +1,20 @@
 -- What each operation of an OUT ring does to the packets that wait. Assumes nothing.
-use mathlib.Core.Logic.{_≢_}
-use mathlib.Core.Path.{_≡_, refl, ap, sym, _∙_}
+use mathlib.Core.Path.{_≡_, refl, sym, _∙_}
 use mathlib.Core.Bool.{Bool, true, false, cond}
 use mathlib.Core.List.{List, [], _∷_, _++_, tail}
-use Prim.Native.Nat.{ℕ, suc, _+_, _-_, _*_, _%_, _^_, _≤_, _<_, min}
+use Prim.Native.Nat.{ℕ, _+_, _-_, _%_, _^_, _≤_, _<_, min}
 use native.Mathlib.Omega.{arith}
 use lib.Dec.{ltb, eqb}
-use borrow.Author.Tests.{ltb-true, ltb-false, lt-ltb, le-ltb, eqb-true, eqb-false}
+use borrow.Author.Tests.{ltb-true, ltb-false, le-ltb}
 use lib.ListN.{length, getD, set}
 use lib.Seq.{getD-set-other}
 use Rattle.state.specs.declared.EpState.{EpState}
 use Rattle.ring.specs.Fields.{withMinLen}
 use Rattle.ring.specs.Slot.{slotOf, slotAddr, countOf, joinedOf, passedOf}
 use Rattle.ring.specs.Out.{hasRoomOut, cappedAt, shortestOf, turnedAwayOf, arrivedOf, arrivedLens, armSlot, armedAt, openedOf, closedOf}
-use Rattle.ring.specs.Waiting.{window, waiting, join, Away, Only, Placed, Ring, OutRing, Place, Alike}
+use Rattle.ring.specs.Waiting.{window, waiting, join, Away, Only, Shows, Placed, OutRing, SamePlace, Alike}
 use Rattle.ring.specs.Slots.{slots-some, slot-other, slot-wraps}
-use Rattle.ring.specs.Laws.{waiting-length, alike-count, alike-waits, alike-out, alike-away, head-away, waiting-head, join-waits, join-ring, pass-waits, pass-ring, pass-away}
+use Rattle.ring.specs.Laws.{waiting-length, alike-count, alike-waits, alike-out, alike-away, head-away, waiting-head, join-place, join-count, join-waits, join-ring, pass-waits, pass-ring, pass-away}
 
 -- ---- what touches neither place, head nor tail
 
@@ -44,6 +43,26 @@ pub closed-alike : (s : EpState) → Alike (passedOf s) (closedOf s)
 unfolding closedOf
 closed-alike s = record { place = record { base = refl; stride = refl; slots = refl }; head = refl; tail = refl }
 
+pub closed-place : (s : EpState) → SamePlace s (closedOf s)
+unfolding closedOf passedOf
+closed-place s = record { base = refl; stride = refl; slots = refl }
+
+arrived-by : (s : EpState) (t : Bool) → SamePlace s (cond t (joinedOf s) (turnedAwayOf s))
+arrived-by s true = join-place s
+arrived-by s false = turned-alike s .place
+
+pub arrived-place : (s : EpState) → SamePlace s (arrivedOf s)
+arrived-place s = arrived-by s (hasRoomOut s)
+
+-- ---- a packet that is open waits
+
+pub opened-shows : (s : EpState) → 0 < countOf s → Shows (openedOf s)
+opened-shows s h e = omega (arith, alike-count (opened-alike s))
+
+pub closed-shows : (s : EpState) → Shows (closedOf s)
+unfolding closedOf
+closed-shows s e = absurd (let z : _≡_ {A = ℕ} 0 1 = cc in omega arith)
+
 -- ---- numbers that arming needs
 
 pub capped-is : (s : EpState) (len : ℕ) → cappedAt s len ≡ min len (s .«max_len»)
@@ -61,7 +80,8 @@ least-by s len false true p q = q
 least-by s len false false p q = p
 
 -- the shortest stays within the maximum
-pub shortest-least : (s : EpState) (len : ℕ) → s .«min_len» ≤ s .«max_len» → len ≤ s .«max_len» → shortestOf s len .«min_len» ≤ s .«max_len»
+pub shortest-least : (s : EpState) (len : ℕ) → s .«min_len» ≤ s .«max_len» → len ≤ s .«max_len»
+    → shortestOf s len .«min_len» ≤ s .«max_len»
 unfolding shortestOf
 shortest-least s len p q = least-by s len (eqb len 0) (ltb len (s .«min_len»)) p q
 
@@ -81,7 +101,8 @@ module _ {n : ℕ} {s : EpState} {ls : List ℕ} (g : Placed n s) (a : OutRing s
   armed-away = head-away g a few
 
   -- so the chip's stores and marks in it leave them
-  pub waiting-armed : (b b′ : List ℕ) → Only (slotAddr s (s .head)) (slotAddr s (s .head) + s .stride) b b′ → waiting b′ s ls ≡ waiting b s ls
+  pub waiting-armed : (b b′ : List ℕ) → Only (slotAddr s (s .head)) (slotAddr s (s .head) + s .stride) b b′
+      → waiting b′ s ls ≡ waiting b s ls
   waiting-armed b b′ o = waiting-head g a b b′ few o
 
   -- ---- an arrival
@@ -130,13 +151,22 @@ module _ {n : ℕ} {s : EpState} {ls : List ℕ} (g : Placed n s) (a : OutRing s
   pub arrive-ring : (len : ℕ) → len ≤ s .stride → OutRing (arrivedOf s) (arrivedLens s ls len)
   arrive-ring len h = arrive-ring-by (hasRoomOut s) refl len h
 
+  shows-by : (t : Bool) → hasRoomOut s ≡ t → Shows s → Shows (cond t (joinedOf s) (turnedAwayOf s))
+  unfolding turnedAwayOf
+  shows-by true e h f = omega (arith, join-count g a few)
+  shows-by false e h f = omega (arith, h f, alike-count (turned-alike s))
+
+  pub arrive-shows : Shows s → Shows (arrivedOf s)
+  arrive-shows h = shows-by (hasRoomOut s) refl h
+
   -- after an admission the slot to arm is the next one
   pub arm-next : armSlot (joinedOf s) ≡ slotOf s (s .head + 1)
   unfolding armSlot joinedOf slotOf
   arm-next = slot-wraps g (s .head + 1)
 
   -- and the stale length is the one recorded there before
-  pub stale-is : 2 ≤ s .slots → (len : ℕ) → getD (set ls (slotOf s (s .head)) len) (armSlot (joinedOf s)) 0 ≡ getD ls (armSlot (joinedOf s)) 0
+  pub stale-is : 2 ≤ s .slots → (len : ℕ)
+      → getD (set ls (slotOf s (s .head)) len) (armSlot (joinedOf s)) 0 ≡ getD ls (armSlot (joinedOf s)) 0
   stale-is two len = getD-set-other ls (slotOf s (s .head)) (armSlot (joinedOf s)) len 0
       (λ e. slot-other g (s .head) 1 (omega arith) (omega arith) (sym arm-next ∙ e))
 

@@ -1,13 +1,13 @@
 -- Laws on the slots of a ring: where they lie, that they lie apart. Assumes nothing.
 use mathlib.Core.Logic.{_≢_, _⊎_, inl, inr}
-use mathlib.Core.Path.{_≡_, refl, ap, sym, _∙_}
+use mathlib.Core.Path.{_≡_, ap, sym, _∙_}
 use Prim.Native.Nat.{ℕ, zero, suc, _+_, _-_, _*_, _%_, _/_, _^_, _≤_, _<_}
 use native.Mathlib.Omega.{arith}
 use native.Mathlib.Nat.{mod-lt, mod-add-mod, mod-eq-of-lt, mod-eq-sub-mod, mul-add-mod-self-left, mul-le-mul-right, mul-assoc}
 use native.Mathlib.Decide.{decLt}
 use borrow.Author.Tests.{ne-eqb}
 use Rattle.state.specs.declared.EpState.{EpState}
-use Rattle.ring.specs.Slot.{after, slotOf, slotAddr}
+use Rattle.ring.specs.Slot.{slotOf, slotAddr}
 use Rattle.ring.specs.Waiting.{Placed}
 
 -- numbers that differ by less than `n` have different remainders

@@ -1,10 +1,10 @@
 -- What a ring in a buffer holds: the packets that wait, as a list. `ls` are the ring's recorded lengths.
 use mathlib.Core.Logic.{_≢_, _⊎_}
 use mathlib.Core.Path.{_≡_}
-use mathlib.Core.Bool.{cond}
+use mathlib.Core.Bool.{false, cond}
 use mathlib.Core.List.{List, [], _∷_, _++_}
 use Prim.Native.Nat.{ℕ, zero, suc, _+_, _-_, _*_, _^_, _≤_, _<_}
-use lib.Dec.{ltb}
+use lib.Dec.{ltb, eqb}
 use lib.ListN.{length, getD}
 use Rattle.state.specs.declared.EpState.{EpState}
 use Rattle.ring.specs.Slot.{after, slotOf, slotAddr, countOf}
@@ -23,7 +23,7 @@ unfoldable pub packets : List ℕ → EpState → List ℕ → ℕ → ℕ → L
 packets b s ls i zero = []
 packets b s ls i (suc n) = packet b s ls i ∷ packets b s ls (after i 1) n
 
--- "the bytes of the ring's slots, tail to head, each up to its recorded length"
+-- the bytes of the ring's slots, tail to head, each up to its recorded length
 unfoldable pub waiting : List ℕ → EpState → List ℕ → List (List ℕ)
 waiting b s ls = packets b s ls (s .tail) (countOf s)
 
@@ -65,14 +65,22 @@ OutRing s ls = Ring (s .slots - 1) s ls
 abbrev pub InRing : EpState → List ℕ → Type 0
 InRing s ls = Ring (s .slots) s ls
 
+-- a packet that is loaded waits
+abbrev pub Sends : EpState → Type 0
+Sends s = eqb (s .loaded) 0 ≡ false → 0 < countOf s
+
+-- a packet that is open waits
+abbrev pub Shows : EpState → Type 0
+Shows s = eqb (s .«open») 0 ≡ false → 0 < countOf s
+
 -- two records whose ring has the same place
-pub record Place (s t : EpState) : Type 0 where
+pub record SamePlace (s t : EpState) : Type 0 where
   pub base : t .base ≡ s .base
   pub stride : t .stride ≡ s .stride
   pub slots : t .slots ≡ s .slots
 
 -- and the same head and tail
 pub record Alike (s t : EpState) : Type 0 where
-  pub place : Place s t
+  pub place : SamePlace s t
   pub head : t .head ≡ s .head
   pub tail : t .tail ≡ s .tail
