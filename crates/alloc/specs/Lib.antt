@@ -1,0 +1,3 @@
+pub mod Alloc
+pub mod Number
+pub mod Buffer
