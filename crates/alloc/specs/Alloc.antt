@@ -49,48 +49,56 @@ unfoldable pub allocatedIn : Allocator → Dir → ℕ
 allocatedIn a Out = a .«allocated_out»
 allocatedIn a In = a .«allocated_in»
 
--- the same, with other sets
-abbrev withSets : Allocator → ℕ → ℕ → ℕ → ℕ → ℕ → ℕ → ℕ → Allocator
-withSets a next to ti is os ao ai = record {
+-- a set with e, where it is the one that is meant
+unfoldable pub addTo : Bool → ℕ → ℕ → ℕ
+addTo true w e = withBit w e true
+addTo false w e = w
+
+unfoldable pub isOut : Dir → Bool
+isOut Out = true
+isOut In = false
+
+-- the number is taken: in its direction and for its sort
+unfoldable pub taken : Allocator → Bool → Dir → ℕ → Allocator
+taken a iso dir e = record {
+  size = a .size;
+  count = a .count;
+  next = a .next;
+  «taken_out» = addTo (isOut dir) (a .«taken_out») e;
+  «taken_in» = addTo (not (isOut dir)) (a .«taken_in») e;
+  «iso_nums» = addTo iso (a .«iso_nums») e;
+  «other_nums» = addTo (not iso) (a .«other_nums») e;
+  «allocated_out» = a .«allocated_out»;
+  «allocated_in» = a .«allocated_in»;
+}
+
+-- the number is allocated in its direction
+unfoldable pub withAllocated : Allocator → Dir → ℕ → Allocator
+withAllocated a dir e = record {
+  size = a .size;
+  count = a .count;
+  next = a .next;
+  «taken_out» = a .«taken_out»;
+  «taken_in» = a .«taken_in»;
+  «iso_nums» = a .«iso_nums»;
+  «other_nums» = a .«other_nums»;
+  «allocated_out» = addTo (isOut dir) (a .«allocated_out») e;
+  «allocated_in» = addTo (not (isOut dir)) (a .«allocated_in») e;
+}
+
+-- the buffers before this one are used
+unfoldable pub withNext : Allocator → ℕ → Allocator
+withNext a next = record {
   size = a .size;
   count = a .count;
   next = next;
-  «taken_out» = to;
-  «taken_in» = ti;
-  «iso_nums» = is;
-  «other_nums» = os;
-  «allocated_out» = ao;
-  «allocated_in» = ai;
+  «taken_out» = a .«taken_out»;
+  «taken_in» = a .«taken_in»;
+  «iso_nums» = a .«iso_nums»;
+  «other_nums» = a .«other_nums»;
+  «allocated_out» = a .«allocated_out»;
+  «allocated_in» = a .«allocated_in»;
 }
-
-unfoldable pub withTaken : Allocator → Dir → ℕ → Allocator
-withTaken a Out e =
-    withSets a (a .next) (withBit (a .«taken_out») e true) (a .«taken_in») (a .«iso_nums») (a .«other_nums»)
-    (a .«allocated_out») (a .«allocated_in»)
-withTaken a In e =
-    withSets a (a .next) (a .«taken_out») (withBit (a .«taken_in») e true) (a .«iso_nums») (a .«other_nums»)
-    (a .«allocated_out») (a .«allocated_in»)
-
-unfoldable pub withNum : Allocator → Bool → ℕ → Allocator
-withNum a true e =
-    withSets a (a .next) (a .«taken_out») (a .«taken_in») (withBit (a .«iso_nums») e true) (a .«other_nums»)
-    (a .«allocated_out») (a .«allocated_in»)
-withNum a false e =
-    withSets a (a .next) (a .«taken_out») (a .«taken_in») (a .«iso_nums») (withBit (a .«other_nums») e true)
-    (a .«allocated_out») (a .«allocated_in»)
-
-unfoldable pub withAllocated : Allocator → Dir → ℕ → Allocator
-withAllocated a Out e =
-    withSets a (a .next) (a .«taken_out») (a .«taken_in») (a .«iso_nums») (a .«other_nums»)
-    (withBit (a .«allocated_out») e true) (a .«allocated_in»)
-withAllocated a In e =
-    withSets a (a .next) (a .«taken_out») (a .«taken_in») (a .«iso_nums») (a .«other_nums»)
-    (a .«allocated_out») (withBit (a .«allocated_in») e true)
-
-unfoldable pub withNext : Allocator → ℕ → Allocator
-withNext a n =
-    withSets a n (a .«taken_out») (a .«taken_in») (a .«iso_nums») (a .«other_nums»)
-    (a .«allocated_out») (a .«allocated_in»)
 
 -- ---- the number (row 7)
 
@@ -135,10 +143,6 @@ slotsOf true In = 2
 
 abbrev pub refused : ℕ → Allocator → Allocation
 refused n a = record { answer = Refused n; after = a }
-
--- the number is taken: in its direction and for its sort
-unfoldable pub taken : Allocator → Bool → Dir → ℕ → Allocator
-taken a iso dir e = withNum (withTaken a dir e) iso e
 
 -- the ring's slots are consecutive buffers. Where they run out, all that were left are used up, and the number is not allocated
 unfoldable pub bufferedOf : Allocator → Bool → Dir → ℕ → Allocation

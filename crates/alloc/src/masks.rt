@@ -3,7 +3,7 @@ ghost use mathlib.Core.Path.{_≡_};
 ghost use Prim.Native.Nat.{_<_};
 ghost use mathlib.Core.Bool.{true};
 ghost use Rattle.bits.specs.Bit.{isSet, withBit};
-ghost use Rattle.alloc.specs.Alloc.{takenIn, numsOf, withTaken, withNum, withAllocated, withNext, isFree, taken};
+ghost use Rattle.alloc.specs.Alloc.{takenIn, numsOf, isFree, isOut, addTo, taken, withAllocated, withNext};
 use regs::Dir;
 use state::Allocator;
 
@@ -50,59 +50,48 @@ pub fn is_free(a: Allocator, iso: bool, dir: Dir, e: u8) -> bool
     !has(nums(a, !iso), e)
 }
 
-fn with_taken(mut a: Allocator, dir: Dir, e: u8) -> Allocator
-    requires { ⌜ e < 16 ⌝ }
-    ensures { λ r. ⌜ r ≡ withTaken a dir e ⌝ }
+fn is_out(dir: Dir) -> bool
+    ensures { λ r. ⌜ r ≡ isOut dir ⌝ }
 {
     match dir {
-        Dir::Out => {
-            a.taken_out = with(a.taken_out, e);
-            a
-        }
-        Dir::In => {
-            a.taken_in = with(a.taken_in, e);
-            a
-        }
+        Dir::Out => true,
+        Dir::In => false,
     }
 }
 
-fn with_num(mut a: Allocator, iso: bool, e: u8) -> Allocator
+// The set with e, where it is the one that is meant.
+fn add_to(here: bool, m: u16, e: u8) -> u16
     requires { ⌜ e < 16 ⌝ }
-    ensures { λ r. ⌜ r ≡ withNum a iso e ⌝ }
+    ensures { λ r. ⌜ r ≡ addTo here m e ⌝ }
 {
-    if iso {
-        a.iso_nums = with(a.iso_nums, e);
-        a
-    } else {
-        a.other_nums = with(a.other_nums, e);
-        a
-    }
+    if here { with(m, e) } else { m }
 }
 
 // The number taken in its direction and for its sort.
-pub fn taken(a: Allocator, iso: bool, dir: Dir, e: u8) -> Allocator
+pub fn taken(mut a: Allocator, iso: bool, dir: Dir, e: u8) -> Allocator
     requires { ⌜ e < 16 ⌝ }
     ensures { λ r. ⌜ r ≡ taken a iso dir e ⌝ }
 {
-    with_num(with_taken(a, dir, e), iso, e)
+    let out = is_out(dir);
+    a.taken_out = add_to(out, a.taken_out, e);
+    a.taken_in = add_to(!out, a.taken_in, e);
+    a.iso_nums = add_to(iso, a.iso_nums, e);
+    a.other_nums = add_to(!iso, a.other_nums, e);
+    a
 }
 
+// The number allocated in its direction.
 pub fn with_allocated(mut a: Allocator, dir: Dir, e: u8) -> Allocator
     requires { ⌜ e < 16 ⌝ }
     ensures { λ r. ⌜ r ≡ withAllocated a dir e ⌝ }
 {
-    match dir {
-        Dir::Out => {
-            a.allocated_out = with(a.allocated_out, e);
-            a
-        }
-        Dir::In => {
-            a.allocated_in = with(a.allocated_in, e);
-            a
-        }
-    }
+    let out = is_out(dir);
+    a.allocated_out = add_to(out, a.allocated_out, e);
+    a.allocated_in = add_to(!out, a.allocated_in, e);
+    a
 }
 
+// The buffers before `next` used.
 pub fn with_next(mut a: Allocator, next: u16) -> Allocator
     ensures { λ r. ⌜ r ≡ withNext a next ⌝ }
 {

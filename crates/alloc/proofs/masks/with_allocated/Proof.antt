@@ -3,26 +3,19 @@ use borrow.Author.Needs.{needs}
 use Rattle.alloc.proofs.masks.with_allocated.Statement.{statement}
 use Rattle.alloc.proofs.masks.with_allocated.Tie as tie
 
-enum-told : tie.Need-enum-told
-enum-told c = search needs
+is-out-requires : tie.Need-is-out-requires
+is-out-requires c κs = search needs
 
-with-requires : tie.Need-with-requires
-with-requires c κs = search needs
+add-to-requires : tie.Need-add-to-requires
+add-to-requires c κs = search needs
 
-enum-told-2 : tie.Need-enum-told-2
-enum-told-2 c = search needs
-
-with-requires-2 : tie.Need-with-requires-2
-with-requires-2 c κs = search needs
+add-to-requires-2 : tie.Need-add-to-requires-2
+add-to-requires-2 c κs = search needs
 
 returns : tie.Need-returns
 unfolding withAllocated
-returns c = simp (c .with .ensures, c .before .enum-told .given .1)
-
-returns-2 : tie.Need-returns-2
-unfolding withAllocated
-returns-2 c = simp (c .with2 .ensures, c .before .enum-told2 .given .1)
+returns c = simp (c .add-to2 .ensures, ← c .before .add-to .ensures, ← c .before .before .is-out .ensures)
 
 pub with-allocated-spec : {M : Type 1} → statement M
 with-allocated-spec =
-    tie.close (tie.spec enum-told with-requires enum-told-2 with-requires-2 returns returns-2)
+    tie.close (tie.spec is-out-requires add-to-requires add-to-requires-2 returns)
