@@ -1,0 +1,64 @@
+use native.Mathlib.Omega.{arith}
+use mathlib.Core.Path.{sym, _∙_}
+use borrow.Author.Tests.{lt-ltb, le-ltb}
+use Rattle.alloc.specs.Number.{number-good}
+use Rattle.alloc.specs.Alloc.{numberedOf, allocateOf}
+use borrow.Author.Needs.{needs}
+use Rattle.alloc.proofs.allocate.Statement.{statement}
+use Rattle.alloc.proofs.allocate.Tie as tie
+
+cast-if1 : tie.Need-cast-if1
+cast-if1 c = search needs
+
+returns : tie.Need-returns
+unfolding allocateOf
+returns c = simp (lt-ltb _ _ (c .if1 .taken))
+
+is-iso-requires : tie.Need-is-iso-requires
+is-iso-requires c κs = search needs
+
+find-requires : tie.Need-find-requires
+find-requires c κs = search needs
+
+enum-told : tie.Need-enum-told
+enum-told c = search needs
+
+enum-known-found : tie.Need-enum-known-found
+enum-known-found c = search needs
+
+taken-requires : tie.Need-taken-requires
+taken-requires c κs =
+    let a = c .before .before .before .before .before .before .before .args in
+    let h = number-good (a .a) (c .before .before .before .before .is-iso .result) (a .dir) (a .address) (c .before .found .given .0 .0)
+    (sym (c .before .before .before .find .ensures) ∙ c .before .found .given .1) in
+    omega arith
+
+buffered-requires : tie.Need-buffered-requires
+buffered-requires c κs =
+    let a = c .before .before .before .before .before .before .before .before .args in
+    let h = number-good (a .a) (c .before .before .before .before .before .is-iso .result) (a .dir) (a .address) (c .before .before .found .given .0 .0)
+    (sym (c .before .before .before .before .find .ensures) ∙ c .before .before .found .given .1) in
+    omega arith
+
+returns-2 : tie.Need-returns-2
+unfolding allocateOf numberedOf
+returns-2 c = simp (le-ltb _ _ (c .before .before .before .before .if1 .left), ← c .before .before .before .is-iso .ensures, ← c .before .before .find .ensures, c .enum-told .given .1)
+
+returns-3 : tie.Need-returns-3
+unfolding allocateOf numberedOf
+returns-3 c = simp (c .buffered .ensures, ← c .before .taken .ensures, le-ltb _ _ (c .before .before .before .before .before .before .before .if1 .left), ← c .before .before .before .before .before .before .is-iso .ensures, ← c .before .before .before .before .before .find .ensures, c .before .before .before .found .given .1)
+
+pub allocate-spec : {M : Type 1} → statement M
+allocate-spec =
+    tie.close
+    (tie.spec
+    cast-if1
+    returns
+    is-iso-requires
+    find-requires
+    enum-told
+    enum-known-found
+    taken-requires
+    buffered-requires
+    returns-2
+    returns-3)

@@ -1,0 +1,69 @@
+use Rattle.alloc.proofs.Product.{below}
+use borrow.Author.Tests.{lt-ltb, le-ltb}
+use Rattle.alloc.specs.Alloc.{bufferedOf}
+use borrow.Author.Needs.{needs}
+use Rattle.alloc.proofs.buffered.Statement.{statement}
+use Rattle.alloc.proofs.buffered.Tie as tie
+
+slots-requires : tie.Need-slots-requires
+slots-requires c κs = search needs
+
+cast-end : tie.Need-cast-end
+cast-end c = search needs
+
+cast-end-2 : tie.Need-cast-end-2
+cast-end-2 c = search needs
+
+add-end : tie.Need-add-end
+add-end c = search needs
+
+cast-if1 : tie.Need-cast-if1
+cast-if1 c = search needs
+
+with-next-requires : tie.Need-with-next-requires
+with-next-requires c κs = search needs
+
+returns : tie.Need-returns
+unfolding bufferedOf
+returns c = simp (c .with-next .ensures, lt-ltb _ _ (c .before .if1 .taken), ← c .before .before .before .before .slots .ensures)
+
+cast-base : tie.Need-cast-base
+cast-base c = search needs
+
+cast-base-2 : tie.Need-cast-base-2
+cast-base-2 c = search needs
+
+mul-base : tie.Need-mul-base
+mul-base c = record { fits = below 16 (search needs) (search needs) }
+
+cast-with-next : tie.Need-cast-with-next
+cast-with-next c = search needs
+
+with-next-requires-2 : tie.Need-with-next-requires-2
+with-next-requires-2 c κs = search needs
+
+with-allocated-requires : tie.Need-with-allocated-requires
+with-allocated-requires c κs = search needs
+
+returns-2 : tie.Need-returns-2
+unfolding bufferedOf
+returns-2 c = simp (c .with-allocated .ensures, ← c .before .with-next2 .ensures, le-ltb _ _ (c .before .before .before .before .if1 .left), ← c .before .before .before .before .before .before .before .slots .ensures)
+
+pub buffered-spec : {M : Type 1} → statement M
+buffered-spec =
+    tie.close
+    (tie.spec
+    slots-requires
+    cast-end
+    cast-end-2
+    add-end
+    cast-if1
+    with-next-requires
+    returns
+    cast-base
+    cast-base-2
+    mul-base
+    cast-with-next
+    with-next-requires-2
+    with-allocated-requires
+    returns-2)

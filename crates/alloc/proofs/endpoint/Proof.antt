@@ -1,0 +1,17 @@
+use Rattle.alloc.specs.Alloc.{allocated}
+use borrow.Author.Needs.{needs}
+use Rattle.alloc.proofs.endpoint.Statement.{statement}
+use Rattle.alloc.proofs.endpoint.Tie as tie
+
+is-iso-requires : tie.Need-is-iso-requires
+is-iso-requires c κs = search needs
+
+flag-requires : tie.Need-flag-requires
+flag-requires c κs = search needs
+
+returns : tie.Need-returns
+unfolding allocated
+returns c = simp (c .flag .ensures, ← c .before .is-iso .ensures)
+
+pub endpoint-spec : {M : Type 1} → statement M
+endpoint-spec = tie.close (tie.spec is-iso-requires flag-requires returns)

@@ -1,0 +1,4 @@
+pub mod Alloc
+pub mod Number
+pub mod Outcome
+pub mod Buffer

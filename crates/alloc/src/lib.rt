@@ -1,0 +1,136 @@
+ghost use mathlib.Core.Path.{_≡_};
+ghost use Prim.Native.Nat.{_<_};
+ghost use Rattle.alloc.specs.Alloc.{fresh, bufferedOf, numberedOf, allocateOf, allocateEp0Of, allocated};
+use regs::Dir;
+use state::Allocator;
+use state::EpState;
+
+pub mod masks; // masks.rt: sets of endpoint numbers
+pub mod number; // number.rt: the number of an allocation
+pub mod buffer; // buffer.rt: the lent slot buffer's size and length
+
+// An endpoint number that may be given, if there is one.
+pub enum Found {
+    Number(u8),
+    Nothing,
+}
+
+// What an allocation answers: document 01's number, or the endpoint number, the offset of its buffers and how many they are.
+pub enum Answer {
+    Refused(u8),
+    Given(u8, u32, u8),
+}
+
+pub struct Allocation {
+    pub answer: Answer,
+    pub after: Allocator,
+}
+
+// The allocator that start-up makes.
+pub fn new(size: u16, count: u16) -> Allocator
+    ensures { λ r. ⌜ r ≡ fresh size count ⌝ }
+{
+    Allocator {
+        size,
+        count,
+        next: 0,
+        taken_out: 0,
+        taken_in: 0,
+        iso_nums: 0,
+        other_nums: 0,
+        allocated_out: 0,
+        allocated_in: 0,
+    }
+}
+
+// The buffers of a number that is taken: row 8, or the endpoint is allocated.
+fn buffered(a: Allocator, iso: bool, dir: Dir, e: u8) -> Allocation
+    requires { ⌜ e < 16 ⌝ }
+    ensures { λ r. ⌜ r ≡ bufferedOf a iso dir e ⌝ }
+{
+    let n = number::slots(iso, dir);
+    let end = (a.next as u32) + (n as u32);
+    if (a.count as u32) < end {
+        let after = masks::with_next(a, a.count);
+        return Allocation {
+            answer: Answer::Refused(8),
+            after,
+        };
+    }
+    let base = (a.next as u32) * (a.size as u32);
+    let used = masks::with_next(a, end as u16);
+    let after = masks::with_allocated(used, dir, e);
+    Allocation {
+        answer: Answer::Given(e, base, n),
+        after,
+    }
+}
+
+// An endpoint number and its buffers: rows 6, 7, 8. `address` is a descriptor's byte, or 256 or more where none is asked for.
+pub fn allocate(a: Allocator, kind: u8, address: u32, maximum: u32, dir: Dir) -> Allocation
+    ensures { λ r. ⌜ r ≡ allocateOf a kind address maximum dir ⌝ }
+{
+    if (a.size as u32) < maximum {
+        return Allocation {
+            answer: Answer::Refused(6),
+            after: a,
+        };
+    }
+    let iso = number::is_iso(kind);
+    let found = number::find(a, iso, address, dir);
+    match found {
+        Found::Nothing => Allocation {
+            answer: Answer::Refused(7),
+            after: a,
+        },
+        Found::Number(e) => {
+            let t = masks::taken(a, iso, dir, e);
+            buffered(t, iso, dir, e)
+        }
+    }
+}
+
+// EP0's buffer: rows 6, 8. The number given is 0.
+pub fn allocate_ep0(a: Allocator, maximum: u32) -> Allocation
+    ensures { λ r. ⌜ r ≡ allocateEp0Of a maximum ⌝ }
+{
+    if (a.size as u32) < maximum {
+        return Allocation {
+            answer: Answer::Refused(6),
+            after: a,
+        };
+    }
+    if a.count <= a.next {
+        return Allocation {
+            answer: Answer::Refused(8),
+            after: a,
+        };
+    }
+    let base = (a.next as u32) * (a.size as u32);
+    let after = masks::with_next(a, a.next + 1);
+    Allocation {
+        answer: Answer::Given(0, base, 1),
+        after,
+    }
+}
+
+// The endpoint's record after an accepted allocation.
+pub fn endpoint(mut s: EpState, kind: u8, maximum: u16, base: u32, size: u16, slots: u8) -> EpState
+    ensures { λ r. ⌜ r ≡ allocated s kind maximum base size slots ⌝ }
+{
+    s.iso = number::flag(number::is_iso(kind));
+    s.kind = kind % 4;
+    s.max_len = maximum;
+    s.base = base;
+    s.stride = size;
+    s.slots = slots;
+    s.last_frame = 0x1800;
+    s.ready = 0;
+    s.armed = 0;
+    s.head = 0;
+    s.tail = 0;
+    s.loaded = 0;
+    s.tog = 0;
+    s.open = 0;
+    s
+}
