@@ -13,11 +13,11 @@ use Rattle.script.specs.Script.{Script, ret, test, _>>=_, _>>_, get, put
 use Rattle.script.specs.Statics.{none-woken}
 
 pub data Answer : Type 0 where
-  Refused : ℕ → Answer         -- by the row of that number
-  End : ℕ → Wakes → Answer     -- the operation's result (0 where the Rust has none) and its wake-ups
-  NotYet : Answer              -- a poll
-  Done : List ℕ → Answer       -- a poll, with the bytes that it brought
-  Shown : List ℕ → Answer      -- an open packet
+  Refused : ℕ → Answer  -- by the row of that number
+  End : ℕ → Wakes → Answer  -- the operation's result (0 where the Rust has none) and its wake-ups
+  NotYet : Answer  -- a poll
+  Done : List ℕ → Answer  -- a poll, with the bytes that it brought
+  Shown : List ℕ → Answer  -- an open packet
 
 -- an operation: its wake-ups are gathered from none and answered at its end
 abbrev pub operation : {i : Bool} → Script i ℕ → Script i Answer

@@ -93,23 +93,23 @@ abbrev pub poll : Script false ℕ
 poll = do
   g ← get globals-cell
   test (isOn (g .power))
-    (do
-      flags ← read IntFg 0
-      test (busRst flags)
-        (do
-          busReset
-          modifyIntEn (λ w. withBusRst w true)
-          ret 2)
-        (test (suspend flags)
-          (do
-            m ← read MisSt 0
-            write IntFg 0 SUSPEND
-            modifyIntEn (λ w. withSuspend w true)
-            ret (cond (suspended m) 3 4))
-          (ret 0)))
-    (do
-      put globals-cell (withPower 1 g)
-      ret 1)
+      (do
+        flags ← read IntFg 0
+        test (busRst flags)
+            (do
+              busReset
+              modifyIntEn (λ w. withBusRst w true)
+              ret 2)
+            (test (suspend flags)
+            (do
+              m ← read MisSt 0
+              write IntFg 0 SUSPEND
+              modifyIntEn (λ w. withSuspend w true)
+              ret (cond (suspended m) 3 4))
+            (ret 0)))
+      (do
+        put globals-cell (withPower 1 g)
+        ret 1)
 
 -- ---- `endpoint_set_enabled`, 1268-1330
 

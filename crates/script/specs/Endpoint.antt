@@ -3,7 +3,7 @@ use mathlib.Core.Bool.{Bool, true, false, not, cond, _&&_, _||_}
 use mathlib.Core.List.{List, []}
 use Prim.Native.Nat.{ℕ}
 use lib.Dec.{eqb, ltb}
-use lib.ListN.{length}
+use lib.ListN.{length, take}
 use Rattle.regs.specs.declared.Reg.the-variants.{EpTLen, EpRxCtrl, EpTxCtrl}
 use Rattle.regs.specs.declared.Dir.{Dir}
 use Rattle.regs.specs.declared.Dir.the-variants.{Out, In}
@@ -51,23 +51,23 @@ abbrev pub polled : {i : Bool} → Dir → ℕ → ℕ → (Plain → Script i A
 polled d ep n p = do
   r ← get (request-cell d ep)
   unless (not (isOn (r .begun))) 15 (test (eqb (r .length) n)
-    (do
-      s ← get (ep-cell d ep)
-      p s)
-    (do
-      modifyEp d ep (withReady 0)
-      ends-request d ep (Refused 10)))
+      (do
+        s ← get (ep-cell d ep)
+        p s)
+      (do
+        modifyEp d ep (withReady 0)
+        ends-request d ep (Refused 10)))
 
 -- 100-114: drain the ring the interrupt fills
-abbrev pub take-iso : {i : Bool} → ℕ → Script i Answer
-take-iso ep = enabled-else Out ep (ends-request Out ep (Refused 9)) (do
+abbrev pub take-iso : {i : Bool} → ℕ → ℕ → Script i Answer
+take-iso ep n = enabled-else Out ep (ends-request Out ep (Refused 9)) (do
   b ← is (waiting Out ep)
   test b
-    (do
-      bytes ← fetch (oldest ep)
-      act (take-oldest ep)
-      ends-request Out ep (Done bytes))
-    (ret NotYet))
+      (do
+        bytes ← fetch (oldest ep)
+        act (take-oldest ep)
+        ends-request Out ep (Done (take n bytes)))
+      (ret NotYet))
 
 -- received longer than the slice or the maximum
 unfoldable pub tooLong : ℕ → Plain → Bool
@@ -76,15 +76,15 @@ tooLong n s = ltb n (s .len) || ltb (s .«max_len») (s .len)
 -- 126-140
 abbrev pub take-ready : {i : Bool} → ℕ → ℕ → Plain → Script i Answer
 take-ready ep n s = test (isOn (s .ready))
-  (do
-    modifyEp Out ep (withReady 0)
-    test (tooLong n s) (ends-request Out ep (Refused 10)) (do
-      bytes ← fetch (received ep (s .len))
-      ends-request Out ep (Done bytes)))
-  (enabled-else Out ep (ends-request Out ep (Refused 9)) (ret NotYet))
+    (do
+      modifyEp Out ep (withReady 0)
+      test (tooLong n s) (ends-request Out ep (Refused 10)) (do
+        bytes ← fetch (received ep (s .len))
+        ends-request Out ep (Done bytes)))
+    (enabled-else Out ep (ends-request Out ep (Refused 9)) (ret NotYet))
 
 abbrev pub pollRead : {i : Bool} → ℕ → ℕ → Script i Answer
-pollRead ep n = staged 2 (named Out ep (polled Out ep n (λ s. test (isOn (s .iso)) (take-iso ep) (take-ready ep n s))))
+pollRead ep n = staged 2 (named Out ep (polled Out ep n (λ s. test (isOn (s .iso)) (take-iso ep n) (take-ready ep n s))))
 
 -- ---- `write`, 146-194
 
@@ -107,18 +107,18 @@ abbrev pub put-iso : {i : Bool} → ℕ → List ℕ → Script i Answer
 put-iso ep bytes = enabled-else In ep (ends-request In ep (Refused 9)) (do
   b ← is (room ep)
   test b
-    (do
-      act (enqueue ep bytes)
-      ends-request In ep (Done []))
-    (ret NotYet))
+      (do
+        act (enqueue ep bytes)
+        ends-request In ep (Done []))
+      (ret NotYet))
 
 -- 183-193
 abbrev pub sent-ready : {i : Bool} → ℕ → Plain → Script i Answer
 sent-ready ep s = test (isOn (s .ready))
-  (do
-    modifyEp In ep (withReady 0)
-    ends-request In ep (Done []))
-  (enabled-else In ep (ends-request In ep (Refused 9)) (ret NotYet))
+    (do
+      modifyEp In ep (withReady 0)
+      ends-request In ep (Done []))
+    (enabled-else In ep (ends-request In ep (Refused 9)) (ret NotYet))
 
 abbrev pub pollWrite : {i : Bool} → ℕ → List ℕ → Script i Answer
 pollWrite ep bytes = staged 2 (named In ep (polled In ep (length bytes) (λ s. test (isOn (s .iso)) (put-iso ep bytes) (sent-ready ep s))))

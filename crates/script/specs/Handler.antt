@@ -46,8 +46,8 @@ nakNonIso st = do
   o ← get (ep-cell Out (endpoint st))
   n ← get (ep-cell In (endpoint st))
   test (outNaks st o)
-    (modifyReg EpRxCtrl (endpoint st) nak)
-    (when (inNaks st n) (modifyReg EpTxCtrl (endpoint st) nak))
+      (modifyReg EpRxCtrl (endpoint st) nak)
+      (when (inNaks st n) (modifyReg EpTxCtrl (endpoint st) nak))
 
 -- ---- `toggled`, 433-458
 
@@ -61,12 +61,12 @@ toggled dir ep = do
   word ← read (ctrlOf dir) ep
   s ← get (ep-cell dir ep)
   test (repeated s word)
-    (do
-      when (isOn (s .armed)) (modifyReg (ctrlOf dir) ep ack)
-      ret false)
-    (do
-      modifyEp dir ep (λ s. withArmed 0 (withTog (flag (isData1 word)) s))
-      ret true)
+      (do
+        when (isOn (s .armed)) (modifyReg (ctrlOf dir) ep ack)
+        ret false)
+      (do
+        modifyEp dir ep (λ s. withArmed 0 (withTog (flag (isData1 word)) s))
+        ret true)
 
 -- ---- the transfer, 656-801
 
@@ -101,13 +101,13 @@ abbrev pub retake : {i : Bool} → Transfer → Script i Transfer
 retake x = do
   m ← read MisSt 0
   test (sieFree m)
-    (do
-      f ← read IntFg 0
-      test (transfer f) (ret x) (do
-        st ← read IntSt 0
-        nakNonIso st
-        ret (retaken x st)))
-    (ret x)
+      (do
+        f ← read IntFg 0
+        test (transfer f) (ret x) (do
+          st ← read IntSt 0
+          nakNonIso st
+          ret (retaken x st)))
+      (ret x)
 
 -- 669-716
 abbrev pub settle : {i : Bool} → Transfer → Script i Transfer
@@ -115,12 +115,12 @@ settle x = do
   o ← get (ep-cell Out (endpoint (x .st)))
   n ← get (ep-cell In (endpoint (x .st)))
   test (waitsForIso x o)
-    (do
-      sieWait
-      now ← read IntSt 0
-      len ← read RxLen 0
-      ret (lateTaken x now len))
-    (test (waitsForBulk x n)
+      (do
+        sieWait
+        now ← read IntSt 0
+        len ← read RxLen 0
+        ret (lateTaken x now len))
+      (test (waitsForBulk x n)
       (do
         sieWait
         len ← read RxLen 0
@@ -156,12 +156,12 @@ sofArm frame = do
 
 abbrev pub outArm : {i : Bool} → Transfer → Bool → Script i Unit
 outArm x iso = test iso done (test (eqb (endpoint (x .st)) 0)
-  (when (togOk (x .st)) (do
-    modifyReg EpRxCtrl 0 flip
-    received 0 (x .len)))
-  (do
-    b ← toggled Out (endpoint (x .st))
-    when b (received (endpoint (x .st)) (x .len))))
+    (when (togOk (x .st)) (do
+      modifyReg EpRxCtrl 0 flip
+      received 0 (x .len)))
+    (do
+      b ← toggled Out (endpoint (x .st))
+      when b (received (endpoint (x .st)) (x .len))))
 
 abbrev pub isoInArm : {i : Bool} → ℕ → ℕ → Script i Unit
 isoInArm ep frame = do
@@ -172,13 +172,13 @@ isoInArm ep frame = do
 
 abbrev pub inArm : {i : Bool} → Transfer → Bool → ℕ → Script i Unit
 inArm x iso frame = test iso (isoInArm (endpoint (x .st)) frame) (test (eqb (endpoint (x .st)) 0)
-  (do
-    modifyReg EpTxCtrl 0 flip
-    modifyEp In 0 (withArmed 0)
-    sent 0)
-  (do
-    b ← toggled In (endpoint (x .st))
-    when b (sent (endpoint (x .st)))))
+    (do
+      modifyReg EpTxCtrl 0 flip
+      modifyEp In 0 (withArmed 0)
+      sent 0)
+    (do
+      b ← toggled In (endpoint (x .st))
+      when b (sent (endpoint (x .st)))))
 
 abbrev pub dispatch : {i : Bool} → Token → Transfer → Bool → ℕ → Script i Unit
 dispatch tok.Sof x iso frame = sofArm frame

@@ -27,11 +27,11 @@ abbrev pub isoInLoad : {i : Bool} → ℕ → Script i Unit
 isoInLoad ep = do
   b ← is (waiting In ep)
   test b
-    (do
-      hand (send ep)
-      n ← look (next-len In ep)
-      write EpTLen ep n)
-    (write EpTLen ep 0)
+      (do
+        hand (send ep)
+        n ← look (next-len In ep)
+        write EpTLen ep n)
+      (write EpTLen ep 0)
 
 -- `iso_in_complete`, 405-414: the loaded packet went out, load the next
 abbrev pub isoInComplete : {i : Bool} → ℕ → Script i Unit
@@ -103,7 +103,7 @@ abbrev pub isoInAdvance : {i : Bool} → ℕ → Script i Unit
 isoInAdvance ep = do
   g ← get globals-cell
   when (isSet (g .«iso_in_paced») ep) (
-    test (enables.isOn (g .«ep_config») In ep)
+      test (enables.isOn (g .«ep_config») In ep)
       (do
         frame ← read FrameNo 0
         last ← get (paced-cell ep)

@@ -35,14 +35,14 @@ abbrev pub checkOne : {i : Bool} → Transfer → Bool → ℕ → Script i Unit
 checkOne x iso ep = do
   b ← is (changed ep)
   when b (test (entry x iso ep)
-    (do
-      s ← get (ep-cell Out ep)
-      arrives ep (capped s (x .len)))
-    (do
-      st ← read IntSt 0
-      test (arriving st ep) done (do
-        len ← look (marked ep)
-        arrives ep len)))
+      (do
+        s ← get (ep-cell Out ep)
+        arrives ep (capped s (x .len)))
+      (do
+        st ← read IntSt 0
+        test (arriving st ep) done (do
+          len ← look (marked ep)
+          arrives ep len)))
 
 -- lowest number first
 unfoldable pub checkWalk : {i : Bool} → Transfer → Bool → List ℕ → Script i Unit

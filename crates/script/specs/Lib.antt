@@ -12,3 +12,6 @@ pub mod Handler
 pub mod Answers
 pub mod Bus
 pub mod Endpoint
+pub mod Control
+pub mod Driver
+pub mod Calls

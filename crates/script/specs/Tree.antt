@@ -15,4 +15,3 @@ Prog S A = S → Out S A
 abbrev pub bindOut : {S A B : Type 0} → Out S A → (A → Prog S B) → Out S B
 bindOut (ends a s) f = f a s
 bindOut (asks q s k) f = asks q s (λ v t. bindOut (k v t) f)
-
