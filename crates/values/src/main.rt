@@ -35,13 +35,19 @@ fn advance(from: u16, to: u16) -> u16 {
     frame::completions(frame::frame_of_index(Index(from)), Index(to))
 }
 
-fn frames() {
+fn indices() {
     answer(b"index of 0x0000: ", index(0x0000));
     answer(b"index of 0xE7FF: ", index(0xE7FF));
     answer(b"index of 0x1800: ", index(0x1800));
+}
+
+fn registers() {
     answer_register(b"frame of 9: ", register(9));
     answer_register(b"frame of 16383: ", register(16383));
     answer_register(b"frame of 16384: ", register(16384));
+}
+
+fn advances() {
     answer(b"advance from 16383 to 1: ", advance(16383, 1));
     answer(b"advance from 5 to 5: ", advance(5, 5));
     answer(b"advance from 5 to 4: ", advance(5, 4));
@@ -87,7 +93,9 @@ fn arrival(packet: &[u8]) {
 }
 
 fn main() {
-    frames();
+    indices();
+    registers();
+    advances();
     lengths();
     print(b"a packet of one byte: ");
     arrival(b"\x01");
