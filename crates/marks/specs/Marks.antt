@@ -42,6 +42,7 @@ lastOther p i (suc k) = cond (agrees p i k) (lastOther p i k) (suc k)
 abbrev pub upTo : List ℕ → ℕ → ℕ → ℕ
 upTo p maximum w = cond (eqb w 0) 0 (min ((w - 1) * 4 + lastOther p (w - 1) 4) maximum)
 
+-- the length of the packet in the part
 unfoldable pub found : ℕ → List ℕ → ℕ
 found maximum p = upTo p maximum (halving p (words maximum) 0 (words maximum))
 
@@ -60,7 +61,7 @@ markedRun p i (suc n) = markedRun (marked p i) (i + 1) n
 abbrev pub firstWord : ℕ → ℕ
 firstWord from = max 1 (from / 4)
 
--- word 0, then the words from firstWord up to the last stale byte
+-- the part armed: word 0, then the words from firstWord up to the last stale byte
 unfoldable pub arm : ℕ → ℕ → List ℕ → List ℕ
 arm from dirty p = markedRun (marked p 0) (firstWord from) (words dirty - firstWord from)
 
@@ -70,9 +71,11 @@ arm from dirty p = markedRun (marked p 0) (firstWord from) (words dirty - firstW
 abbrev pub short : List ℕ → ℕ → ℕ → Bool
 short b at n = ltb (length b) (at + n)
 
+-- is its first word the mark? (iso_out_check: if not, a packet has arrived)
 unfoldable pub isMarked : List ℕ → ℕ → Bool
 isMarked b at = cond (short b at 4) true (isMark (drop at b) 0)
 
+-- the length of the packet in it
 unfoldable pub markedLen : List ℕ → ℕ → ℕ → ℕ
 markedLen b at maximum = cond (short b at (words maximum * 4)) 0 (found maximum (drop at b))
 
@@ -80,5 +83,6 @@ markedLen b at maximum = cond (short b at (words maximum * 4)) 0 (found maximum 
 abbrev pub reach : ℕ → ℕ
 reach dirty = max 1 (words dirty) * 4
 
+-- the buffer with the slot armed
 unfoldable pub armed : List ℕ → ℕ → ℕ → ℕ → List ℕ
 armed b at from dirty = cond (short b at (reach dirty)) b (take at b ++ arm from dirty (drop at b))

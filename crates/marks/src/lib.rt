@@ -155,8 +155,8 @@ pub fn marked_len(buf: &[u8], at: u32, max: u16) -> u16
     len_part(&buf[a..], max)
 }
 
-// Marks the slot empty: its first word and its bytes from..dirty; past dirty they still are, and below from the next packet overwrites
-// them.
+// Marks the slot empty: its first word and its bytes `from..dirty`. Past `dirty` they still are marked, and below `from` the next
+// packet overwrites them.
 pub fn iso_out_arm(buf: &mut [u8], at: u32, from: u16, dirty: u16)
     ensures { λ r. ⌜ now (buf .exit) ≡ armed (now (buf .entry)) at from dirty ⌝ }
 {
@@ -185,7 +185,7 @@ pub fn copy_in(buf: &mut [u8], at: u32, packet: &[u8])
     copy(&mut buf[a..], packet);
 }
 
-// Copies n bytes of the slot to the front of out.
+// Copies the slot's first n bytes to the front of `out`.
 pub fn copy_out(buf: &[u8], at: u32, out: &mut [u8], n: u16)
     ensures { λ r. ⌜ now (out .exit) ≡ copiedOut (now (buf .entry)) at (now (out .entry)) n ⌝ }
 {
