@@ -1,3 +1,9 @@
+mod codec;
+mod words;
+
+// The driver's whole state, lent as bytes; all 0 is before the first start-up.
+pub const STATE_LEN: usize = 2329;
+
 // Per endpoint and direction, as in the Rust without the waker: flags are 0 or 1 in a byte; `lens` stands apart.
 pub struct EpState {
     pub ready: u8,
