@@ -1,1 +1,5 @@
 mod Fields
+mod Runs
+mod Numbers
+mod Tables
+mod Views

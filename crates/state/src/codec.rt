@@ -1,7 +1,22 @@
 // Each record's bytes, from o: read field by field, and written.
-use crate::words::{get16, get16x5, get32, get8, get8x5, put16, put16x5, put32, put8, put8x5};
-use crate::{Allocator, Control, EpState, Globals, Request, Saved, Wakes, STATE_LEN};
-
+use crate::Allocator;
+use crate::Control;
+use crate::EpState;
+use crate::Globals;
+use crate::Request;
+use crate::STATE_LEN;
+use crate::Saved;
+use crate::Wakes;
+use crate::words::get8;
+use crate::words::get8x5;
+use crate::words::get16;
+use crate::words::get16x5;
+use crate::words::get32;
+use crate::words::put8;
+use crate::words::put8x5;
+use crate::words::put16;
+use crate::words::put16x5;
+use crate::words::put32;
 ghost use mathlib.Core.Path.{_≡_};
 ghost use Prim.Native.Nat.{_+_, _≤_};
 ghost use Rattle.state.specs.Bytes.{gets, puts, numbers, bytes, Each};
@@ -42,7 +57,16 @@ pub fn write_ep(s: &mut [u8; STATE_LEN], o: usize, r: EpState)
 {
     put8x5(s, o, 0, r.ready, r.armed, r.iso, r.kind, r.slots);
     put8x5(s, o, 5, r.head, r.tail, r.loaded, r.tog, r.open);
-    put16x5(s, o, 10, r.len, r.stride, r.last_frame, r.max_len, r.min_len);
+    put16x5(
+        s,
+        o,
+        10,
+        r.len,
+        r.stride,
+        r.last_frame,
+        r.max_len,
+        r.min_len,
+    );
     put32(s, o, 20, r.base);
     put32(s, o, 24, r.overruns);
     put32(s, o, 28, r.armed_slot);
@@ -106,8 +130,26 @@ pub fn write_globals(s: &mut [u8; STATE_LEN], o: usize, r: Globals)
     requires { ⌜ o + 35 ≤ 2329 ⌝ }
     ensures { λ _. ⌜ now (s .exit) ≡ puts (now (s .entry)) o 0 (bytes globalsWidths (globalsAs r)) ⌝ }
 {
-    put8x5(s, o, 0, r.stage, r.callback, r.power, r.setup_ready, r.int_en);
-    put16x5(s, o, 5, r.iso_out_eps, r.iso_in_every, r.iso_in_paced, r.sof_frame, r.ep0_max);
+    put8x5(
+        s,
+        o,
+        0,
+        r.stage,
+        r.callback,
+        r.power,
+        r.setup_ready,
+        r.int_en,
+    );
+    put16x5(
+        s,
+        o,
+        5,
+        r.iso_out_eps,
+        r.iso_in_every,
+        r.iso_in_paced,
+        r.sof_frame,
+        r.ep0_max,
+    );
     put32(s, o, 15, r.setup_low);
     put32(s, o, 19, r.setup_high);
     put32(s, o, 23, r.ep_config);

@@ -1,6 +1,5 @@
 // Numbers in the state's bytes, low byte first: one at o + k, or five of a width in a row.
 use crate::STATE_LEN;
-
 ghost use mathlib.Core.Path.{_≡_};
 ghost use mathlib.Core.List.{[], _∷_};
 ghost use Prim.Native.Nat.{_+_, _*_, _≤_};

@@ -2,37 +2,25 @@ use Rattle.state.proofs.Fields.{five}
 use borrow.Author.Needs.{needs}
 use Rattle.state.proofs.codec.read_ep.Statement.{statement}
 use Rattle.state.proofs.codec.read_ep.Tie as tie
-use Rattle.state.proofs.codec.read_ep.Reads as reads
-use Rattle.state.proofs.codec.read_ep.Lts as lts
-use Rattle.state.proofs.words.get16x5.Reads as get16x5-reads
-use Rattle.state.proofs.words.get32.Reads as get32-reads
-use Rattle.state.proofs.words.get8x5.Reads as get8x5-reads
 
--- src/codec.rt:14:9
 get8x5-requires : tie.Need-get8x5-requires
 get8x5-requires c κs = search needs
 
--- src/codec.rt:15:9
 get8x5-requires-2 : tie.Need-get8x5-requires-2
 get8x5-requires-2 c κs = search needs
 
--- src/codec.rt:16:9
 get16x5-requires : tie.Need-get16x5-requires
 get16x5-requires c κs = search needs
 
--- src/codec.rt:33:15
 get32-requires : tie.Need-get32-requires
 get32-requires c κs = search needs
 
--- src/codec.rt:34:19
 get32-requires-2 : tie.Need-get32-requires-2
 get32-requires-2 c κs = search needs
 
--- src/codec.rt:35:21
 get32-requires-3 : tie.Need-get32-requires-3
 get32-requires-3 c κs = search needs
 
--- src/codec.rt:10:1
 returns : tie.Need-returns
 returns c =
     five (c .before .before .before .before .before .get8x5 .ensures)

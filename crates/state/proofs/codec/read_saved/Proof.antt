@@ -2,41 +2,28 @@ use Rattle.state.proofs.Fields.{five}
 use borrow.Author.Needs.{needs}
 use Rattle.state.proofs.codec.read_saved.Statement.{statement}
 use Rattle.state.proofs.codec.read_saved.Tie as tie
-use Rattle.state.proofs.codec.read_saved.Reads as reads
-use Rattle.state.proofs.codec.read_saved.Lts as lts
-use Rattle.state.proofs.words.get16.Reads as get16-reads
-use Rattle.state.proofs.words.get32.Reads as get32-reads
-use Rattle.state.proofs.words.get8x5.Reads as get8x5-reads
 
--- src/codec.rt:183:9
 get8x5-requires : tie.Need-get8x5-requires
 get8x5-requires c κs = search needs
 
--- src/codec.rt:184:9
 get8x5-requires-2 : tie.Need-get8x5-requires-2
 get8x5-requires-2 c κs = search needs
 
--- src/codec.rt:196:14
 get16-requires : tie.Need-get16-requires
 get16-requires c κs = search needs
 
--- src/codec.rt:197:16
 get16-requires-2 : tie.Need-get16-requires-2
 get16-requires-2 c κs = search needs
 
--- src/codec.rt:198:14
 get16-requires-3 : tie.Need-get16-requires-3
 get16-requires-3 c κs = search needs
 
--- src/codec.rt:199:12
 get16-requires-4 : tie.Need-get16-requires-4
 get16-requires-4 c κs = search needs
 
--- src/codec.rt:200:16
 get32-requires : tie.Need-get32-requires
 get32-requires c κs = search needs
 
--- src/codec.rt:179:1
 returns : tie.Need-returns
 returns c =
     five (c .before .before .before .before .before .before .get8x5 .ensures)

@@ -5,32 +5,22 @@ use Rattle.state.proofs.Fields.{rest}
 use borrow.Author.Needs.{needs}
 use Rattle.state.proofs.codec.write_allocator.Statement.{statement}
 use Rattle.state.proofs.codec.write_allocator.Tie as tie
-use Rattle.state.proofs.codec.write_allocator.Reads as reads
-use Rattle.state.proofs.codec.write_allocator.Lts as lts
-use Rattle.state.proofs.words.put16.Reads as put16-reads
-use Rattle.state.proofs.words.put16x5.Reads as put16x5-reads
 
--- src/codec.rt:73:5
 put16x5-requires : tie.Need-put16x5-requires
 put16x5-requires c κs = search needs
 
--- src/codec.rt:74:5
 put16-requires : tie.Need-put16-requires
 put16-requires c κs = search needs
 
--- src/codec.rt:75:5
 put16-requires-2 : tie.Need-put16-requires-2
 put16-requires-2 c κs = search needs
 
--- src/codec.rt:76:5
 put16-requires-3 : tie.Need-put16-requires-3
 put16-requires-3 c κs = search needs
 
--- src/codec.rt:77:5
 put16-requires-4 : tie.Need-put16-requires-4
 put16-requires-4 c κs = search needs
 
--- src/codec.rt:69:1
 returns : tie.Need-returns
 returns c =
     let st = c .before .before .before .before .before .before .before .before .before .before in

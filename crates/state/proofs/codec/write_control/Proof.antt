@@ -5,20 +5,13 @@ use Rattle.state.proofs.Fields.{rest}
 use borrow.Author.Needs.{needs}
 use Rattle.state.proofs.codec.write_control.Statement.{statement}
 use Rattle.state.proofs.codec.write_control.Tie as tie
-use Rattle.state.proofs.codec.write_control.Reads as reads
-use Rattle.state.proofs.codec.write_control.Lts as lts
-use Rattle.state.proofs.words.put32.Reads as put32-reads
-use Rattle.state.proofs.words.put8x5.Reads as put8x5-reads
 
--- src/codec.rt:175:5
 put8x5-requires : tie.Need-put8x5-requires
 put8x5-requires c κs = search needs
 
--- src/codec.rt:176:5
 put32-requires : tie.Need-put32-requires
 put32-requires c κs = search needs
 
--- src/codec.rt:171:1
 returns : tie.Need-returns
 returns c =
     let st = c .before .before .before .before in

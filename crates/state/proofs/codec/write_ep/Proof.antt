@@ -5,37 +5,25 @@ use Rattle.state.proofs.Fields.{rest}
 use borrow.Author.Needs.{needs}
 use Rattle.state.proofs.codec.write_ep.Statement.{statement}
 use Rattle.state.proofs.codec.write_ep.Tie as tie
-use Rattle.state.proofs.codec.write_ep.Reads as reads
-use Rattle.state.proofs.codec.write_ep.Lts as lts
-use Rattle.state.proofs.words.put16x5.Reads as put16x5-reads
-use Rattle.state.proofs.words.put32.Reads as put32-reads
-use Rattle.state.proofs.words.put8x5.Reads as put8x5-reads
 
--- src/codec.rt:43:5
 put8x5-requires : tie.Need-put8x5-requires
 put8x5-requires c κs = search needs
 
--- src/codec.rt:44:5
 put8x5-requires-2 : tie.Need-put8x5-requires-2
 put8x5-requires-2 c κs = search needs
 
--- src/codec.rt:45:5
 put16x5-requires : tie.Need-put16x5-requires
 put16x5-requires c κs = search needs
 
--- src/codec.rt:46:5
 put32-requires : tie.Need-put32-requires
 put32-requires c κs = search needs
 
--- src/codec.rt:47:5
 put32-requires-2 : tie.Need-put32-requires-2
 put32-requires-2 c κs = search needs
 
--- src/codec.rt:48:5
 put32-requires-3 : tie.Need-put32-requires-3
 put32-requires-3 c κs = search needs
 
--- src/codec.rt:39:1
 returns : tie.Need-returns
 returns c =
     let st = c .before .before .before .before .before .before .before .before .before .before .before .before in

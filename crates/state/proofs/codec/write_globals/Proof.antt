@@ -5,41 +5,28 @@ use Rattle.state.proofs.Fields.{rest}
 use borrow.Author.Needs.{needs}
 use Rattle.state.proofs.codec.write_globals.Statement.{statement}
 use Rattle.state.proofs.codec.write_globals.Tie as tie
-use Rattle.state.proofs.codec.write_globals.Reads as reads
-use Rattle.state.proofs.codec.write_globals.Lts as lts
-use Rattle.state.proofs.words.put16x5.Reads as put16x5-reads
-use Rattle.state.proofs.words.put32.Reads as put32-reads
-use Rattle.state.proofs.words.put8x5.Reads as put8x5-reads
 
--- src/codec.rt:109:5
 put8x5-requires : tie.Need-put8x5-requires
 put8x5-requires c κs = search needs
 
--- src/codec.rt:110:5
 put16x5-requires : tie.Need-put16x5-requires
 put16x5-requires c κs = search needs
 
--- src/codec.rt:111:5
 put32-requires : tie.Need-put32-requires
 put32-requires c κs = search needs
 
--- src/codec.rt:112:5
 put32-requires-2 : tie.Need-put32-requires-2
 put32-requires-2 c κs = search needs
 
--- src/codec.rt:113:5
 put32-requires-3 : tie.Need-put32-requires-3
 put32-requires-3 c κs = search needs
 
--- src/codec.rt:114:5
 put32-requires-4 : tie.Need-put32-requires-4
 put32-requires-4 c κs = search needs
 
--- src/codec.rt:115:5
 put32-requires-5 : tie.Need-put32-requires-5
 put32-requires-5 c κs = search needs
 
--- src/codec.rt:105:1
 returns : tie.Need-returns
 returns c =
     let st = c .before .before .before .before .before .before .before .before .before .before .before .before .before .before in

@@ -5,20 +5,13 @@ use Rattle.state.proofs.Fields.{rest}
 use borrow.Author.Needs.{needs}
 use Rattle.state.proofs.codec.write_request.Statement.{statement}
 use Rattle.state.proofs.codec.write_request.Tie as tie
-use Rattle.state.proofs.codec.write_request.Reads as reads
-use Rattle.state.proofs.codec.write_request.Lts as lts
-use Rattle.state.proofs.words.put32.Reads as put32-reads
-use Rattle.state.proofs.words.put8.Reads as put8-reads
 
--- src/codec.rt:152:5
 put8-requires : tie.Need-put8-requires
 put8-requires c κs = search needs
 
--- src/codec.rt:153:5
 put32-requires : tie.Need-put32-requires
 put32-requires c κs = search needs
 
--- src/codec.rt:148:1
 returns : tie.Need-returns
 returns c =
     let st = c .before .before .before .before in

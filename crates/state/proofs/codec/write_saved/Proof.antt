@@ -5,41 +5,28 @@ use Rattle.state.proofs.Fields.{rest}
 use borrow.Author.Needs.{needs}
 use Rattle.state.proofs.codec.write_saved.Statement.{statement}
 use Rattle.state.proofs.codec.write_saved.Tie as tie
-use Rattle.state.proofs.codec.write_saved.Reads as reads
-use Rattle.state.proofs.codec.write_saved.Lts as lts
-use Rattle.state.proofs.words.put16.Reads as put16-reads
-use Rattle.state.proofs.words.put32.Reads as put32-reads
-use Rattle.state.proofs.words.put8x5.Reads as put8x5-reads
 
--- src/codec.rt:208:5
 put8x5-requires : tie.Need-put8x5-requires
 put8x5-requires c κs = search needs
 
--- src/codec.rt:209:5
 put8x5-requires-2 : tie.Need-put8x5-requires-2
 put8x5-requires-2 c κs = search needs
 
--- src/codec.rt:210:5
 put16-requires : tie.Need-put16-requires
 put16-requires c κs = search needs
 
--- src/codec.rt:211:5
 put16-requires-2 : tie.Need-put16-requires-2
 put16-requires-2 c κs = search needs
 
--- src/codec.rt:212:5
 put16-requires-3 : tie.Need-put16-requires-3
 put16-requires-3 c κs = search needs
 
--- src/codec.rt:213:5
 put16-requires-4 : tie.Need-put16-requires-4
 put16-requires-4 c κs = search needs
 
--- src/codec.rt:214:5
 put32-requires : tie.Need-put32-requires
 put32-requires c κs = search needs
 
--- src/codec.rt:204:1
 returns : tie.Need-returns
 returns c =
     let st = c .before .before .before .before .before .before .before .before .before .before .before .before .before .before in

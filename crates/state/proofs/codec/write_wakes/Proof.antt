@@ -5,24 +5,16 @@ use Rattle.state.proofs.Fields.{rest}
 use borrow.Author.Needs.{needs}
 use Rattle.state.proofs.codec.write_wakes.Statement.{statement}
 use Rattle.state.proofs.codec.write_wakes.Tie as tie
-use Rattle.state.proofs.codec.write_wakes.Reads as reads
-use Rattle.state.proofs.codec.write_wakes.Lts as lts
-use Rattle.state.proofs.words.put16.Reads as put16-reads
-use Rattle.state.proofs.words.put8.Reads as put8-reads
 
--- src/codec.rt:133:5
 put8-requires : tie.Need-put8-requires
 put8-requires c κs = search needs
 
--- src/codec.rt:134:5
 put16-requires : tie.Need-put16-requires
 put16-requires c κs = search needs
 
--- src/codec.rt:135:5
 put16-requires-2 : tie.Need-put16-requires-2
 put16-requires-2 c κs = search needs
 
--- src/codec.rt:129:1
 returns : tie.Need-returns
 returns c =
     let st = c .before .before .before .before .before .before in
