@@ -86,6 +86,9 @@ place-placed k g = record {
   low = g .low;
 }
 
+pub place-trans : {s t u : EpState} → SamePlace s t → SamePlace t u → SamePlace s u
+place-trans k l = record { base = l .base ∙ k .base; stride = l .stride ∙ k .stride; slots = l .slots ∙ k .slots }
+
 module _ {s t : EpState} (k : SamePlace s t) where
   pub place-slot : (i : ℕ) → slotOf t i ≡ slotOf s i
   unfolding slotOf
@@ -124,6 +127,14 @@ module _ {s t : EpState} (k : Alike s t) where
   pub alike-away : (x : ℕ) → Away s x → Away t x
   alike-away x h j l e = h j (omega (arith, alike-count))
       (ap (λ (y : ℕ). slotOf s (after y j)) (sym (k .tail)) ∙ sym (place-slot (k .place) (after (t .tail) j)) ∙ e)
+
+  pub alike-join : Alike (joinedOf s) (joinedOf t)
+  unfolding joinedOf
+  alike-join = record {
+    place = record { base = k .place .base; stride = k .place .stride; slots = k .place .slots };
+    head = ap (λ (x : ℕ). after x 1) (k .head);
+    tail = k .tail;
+  }
 
 -- ---- a reset, enabling: none wait
 

@@ -4,7 +4,7 @@ use state::EpState;
 ghost use mathlib.Core.Path.{_≡_};
 ghost use Prim.Native.Nat.{_+_, _-_, _*_, _%_, _^_, _≤_, _<_};
 ghost use Rattle.ring.specs.Slot.{slotOf, slotAddr, countOf, hasWaiting, joinedOf};
-ghost use Rattle.ring.specs.Out.{hasRoomOut, cappedAt, shortestOf, turnedAwayOf, armSlot, armedAt, openedOf, closedOf};
+ghost use Rattle.ring.specs.Out.{hasRoomOut, cappedAt, shortestOf, turnedAwayOf, arrivedOf, armSlot, armedAt, openedOf, closedOf};
 ghost use Rattle.ring.specs.In.{hasRoomIn, completedOf, loadedOf, unloadedOf, nextLoad};
 
 // The slot of counter i.
@@ -85,6 +85,17 @@ pub fn turned_away(mut s: EpState) -> EpState
 {
     s.overruns = std::num::wrapping_add_u32(s.overruns, 1);
     s
+}
+
+// An arrival of `len` bytes in the head's slot is admitted or turned away (mod.rs 491-507).
+pub fn arrived(s: EpState, len: u16) -> EpState
+    ensures { λ r. ⌜ r ≡ arrivedOf s len ⌝ }
+{
+    let t = shortest(s, len);
+    if has_room_out(s) {
+        return joined(t);
+    }
+    turned_away(t)
 }
 
 // The slot to arm, whose recorded length is the stale one: the head's, after an admission the new head's (mod.rs 502).
