@@ -17,7 +17,8 @@ use Rattle.ring.specs.Slots.{slots-half, slot-in, slot-wraps, slot-other
 -- ---- packets from a counter on
 
 packets-same : (b b′ : List ℕ) (s s′ : EpState) (ls ls′ : List ℕ) (i n : ℕ) → i < 256
-    → ((j : ℕ) → j < n → packet b′ s′ ls′ (after i j) ≡ packet b s ls (after i j)) → packets b′ s′ ls′ i n ≡ packets b s ls i n
+    → ((j : ℕ) → j < n → packet b′ s′ ls′ (after i j) ≡ packet b s ls (after i j))
+    → packets b′ s′ ls′ i n ≡ packets b s ls i n
 unfolding packets
 packets-same b b′ s s′ ls ls′ i zero l h = refl
 packets-same b b′ s s′ ls ls′ i (suc n) l h =
@@ -55,7 +56,8 @@ waiting-none b s ls e = ap (packets b s ls (s .tail)) e
 pub ring-most : {m m′ : ℕ} {s : EpState} {ls : List ℕ} → m ≤ m′ → Ring m s ls → Ring m′ s ls
 ring-most h a = record { whole = a .whole; capped = a .capped; head8 = a .head8; tail8 = a .tail8; few = omega (arith, a .few) }
 
-set-capped : (ls : List ℕ) (i len most : ℕ) → ((k : ℕ) → getD ls k 0 ≤ most) → len ≤ most → (k : ℕ) → getD (set ls i len) k 0 ≤ most
+set-capped : (ls : List ℕ) (i len most : ℕ) → ((k : ℕ) → getD ls k 0 ≤ most) → len ≤ most
+    → (k : ℕ) → getD (set ls i len) k 0 ≤ most
 set-capped ls i len most c h k = elim (ℕ-discrete k i) [
   | yes e ↦ (elim (decLt i (length ls)) [
     | yes l ↦ rw (e, getD-set-same ls i len 0 l) h
@@ -85,6 +87,9 @@ place-placed k g = record {
   inside = rw (k .slots, k .base, k .stride) (g .inside);
   low = g .low;
 }
+
+pub place-trans : {s t u : EpState} → SamePlace s t → SamePlace t u → SamePlace s u
+place-trans k l = record { base = l .base ∙ k .base; stride = l .stride ∙ k .stride; slots = l .slots ∙ k .slots }
 
 module _ {s t : EpState} (k : SamePlace s t) where
   pub place-slot : (i : ℕ) → slotOf t i ≡ slotOf s i
@@ -124,6 +129,14 @@ module _ {s t : EpState} (k : Alike s t) where
   pub alike-away : (x : ℕ) → Away s x → Away t x
   alike-away x h j l e = h j (omega (arith, alike-count))
       (ap (λ (y : ℕ). slotOf s (after y j)) (sym (k .tail)) ∙ sym (place-slot (k .place) (after (t .tail) j)) ∙ e)
+
+  pub alike-join : Alike (joinedOf s) (joinedOf t)
+  unfolding joinedOf
+  alike-join = record {
+    place = record { base = k .place .base; stride = k .place .stride; slots = k .place .slots };
+    head = ap (λ (x : ℕ). after x 1) (k .head);
+    tail = k .tail;
+  }
 
 -- ---- a reset, enabling: none wait
 

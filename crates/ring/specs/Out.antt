@@ -25,10 +25,10 @@ unfoldable pub turnedAwayOf : EpState → EpState
 turnedAwayOf s = withOverruns s ((s .overruns + 1) % 2 ^ 32)
 
 -- an arrival of `len` bytes in the head's slot: the record, and the recorded lengths
-abbrev pub arrivedOf : EpState → EpState
-arrivedOf s = cond (hasRoomOut s) (joinedOf s) (turnedAwayOf s)
+unfoldable pub arrivedOf : EpState → ℕ → EpState
+arrivedOf s len = cond (hasRoomOut s) (joinedOf (shortestOf s len)) (turnedAwayOf (shortestOf s len))
 
-abbrev pub arrivedLens : EpState → List ℕ → ℕ → List ℕ
+unfoldable pub arrivedLens : EpState → List ℕ → ℕ → List ℕ
 arrivedLens s ls len = cond (hasRoomOut s) (set ls (slotOf s (s .head)) len) ls
 
 -- the slot to arm, and so the place of the stale length: the head's

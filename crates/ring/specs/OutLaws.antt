@@ -14,7 +14,7 @@ use Rattle.ring.specs.Slot.{slotOf, slotAddr, countOf, joinedOf, passedO
 use Rattle.ring.specs.Out.{hasRoomOut, cappedAt, shortestOf, turnedAwayOf, arrivedOf, arrivedLens, armSlot, armedAt, openedOf, closedOf}
 use Rattle.ring.specs.Waiting.{window, waiting, join, Away, Only, Shows, Placed, OutRing, SamePlace, Alike}
 use Rattle.ring.specs.Slots.{slots-some, slot-other, slot-wraps}
-use Rattle.ring.specs.Laws.{waiting-length, alike-count, alike-waits, alike-out, alike-away, head-away, waiting-head, join-place, join-count, join-waits, join-ring, pass-waits, pass-ring, pass-away}
+use Rattle.ring.specs.Laws.{waiting-length, alike-count, alike-waits, alike-out, alike-away, alike-join, place-trans, head-away, waiting-head, join-place, join-count, join-waits, join-ring, pass-waits, pass-ring, pass-away}
 
 -- ---- what touches neither place, head nor tail
 
@@ -26,6 +26,15 @@ shortest-by s len false false = record { place = record { base = refl; stride = 
 pub shortest-alike : (s : EpState) (len : ℕ) → Alike s (shortestOf s len)
 unfolding shortestOf
 shortest-alike s len = shortest-by s len (eqb len 0) (ltb len (s .«min_len»))
+
+open-by : (s : EpState) (len : ℕ) (t u : Bool) → cond t s (cond u (withMinLen s len) s) .«open» ≡ s .«open»
+open-by s len true u = refl
+open-by s len false true = refl
+open-by s len false false = refl
+
+pub shortest-open : (s : EpState) (len : ℕ) → shortestOf s len .«open» ≡ s .«open»
+unfolding shortestOf
+shortest-open s len = open-by s len (eqb len 0) (ltb len (s .«min_len»))
 
 pub turned-alike : (s : EpState) → Alike s (turnedAwayOf s)
 unfolding turnedAwayOf
@@ -47,12 +56,13 @@ pub closed-place : (s : EpState) → SamePlace s (closedOf s)
 unfolding closedOf passedOf
 closed-place s = record { base = refl; stride = refl; slots = refl }
 
-arrived-by : (s : EpState) (t : Bool) → SamePlace s (cond t (joinedOf s) (turnedAwayOf s))
-arrived-by s true = join-place s
-arrived-by s false = turned-alike s .place
+arrived-by : (s : EpState) (len : ℕ) (t : Bool) → SamePlace s (cond t (joinedOf (shortestOf s len)) (turnedAwayOf (shortestOf s len)))
+arrived-by s len true = place-trans (shortest-alike s len .place) (join-place (shortestOf s len))
+arrived-by s len false = place-trans (shortest-alike s len .place) (turned-alike (shortestOf s len) .place)
 
-pub arrived-place : (s : EpState) → SamePlace s (arrivedOf s)
-arrived-place s = arrived-by s (hasRoomOut s)
+pub arrived-place : (s : EpState) (len : ℕ) → SamePlace s (arrivedOf s len)
+unfolding arrivedOf
+arrived-place s len = arrived-by s len (hasRoomOut s)
 
 -- ---- a packet that is open waits
 
@@ -132,32 +142,40 @@ module _ {n : ℕ} {s : EpState} {ls : List ℕ} (g : Placed n s) (a : OutRing s
     unfolding joinedOf
     admit-ring len small = join-ring g a len few small room-count
 
-  -- an arrival joins, last, or is turned away
-  arrive-by : (t : Bool) → hasRoomOut s ≡ t → (len : ℕ) (b : List ℕ)
-      → waiting b (cond t (joinedOf s) (turnedAwayOf s)) (cond t (set ls (slotOf s (s .head)) len) ls)
-      ≡ cond t (waiting b s ls ++ (window b (slotAddr s (s .head)) len ∷ [])) (waiting b s ls)
-  arrive-by true e len b = admit-waits e len b
-  arrive-by false e len b = alike-waits (turned-alike s) b ls (a .tail8)
+  -- an arrival joins, last, or is turned away; lowering the shortest length changes nothing of this
+  module _ (len : ℕ) where
+    near : Alike s (shortestOf s len)
+    near = shortest-alike s len
 
-  pub arrive-waits : (len : ℕ) (b : List ℕ)
-      → waiting b (arrivedOf s) (arrivedLens s ls len) ≡ join (s .slots - 1) (waiting b s ls) (window b (slotAddr s (s .head)) len)
-  arrive-waits len b = rw (← room-out b) (arrive-by (hasRoomOut s) refl len b)
+    arrive-by : (t : Bool) → hasRoomOut s ≡ t → (b : List ℕ)
+        → waiting b (cond t (joinedOf (shortestOf s len)) (turnedAwayOf (shortestOf s len))) (cond t (set ls (slotOf s (s .head)) len) ls)
+        ≡ cond t (waiting b s ls ++ (window b (slotAddr s (s .head)) len ∷ [])) (waiting b s ls)
+    unfolding joinedOf
+    arrive-by true e b = alike-waits (alike-join near) b (set ls (slotOf s (s .head)) len) (a .tail8) ∙ admit-waits e len b
+    arrive-by false e b = alike-waits (turned-alike (shortestOf s len)) b ls (rw (near .tail) (a .tail8)) ∙ alike-waits near b ls (a .tail8)
 
-  arrive-ring-by : (t : Bool) → hasRoomOut s ≡ t → (len : ℕ) → len ≤ s .stride
-      → OutRing (cond t (joinedOf s) (turnedAwayOf s)) (cond t (set ls (slotOf s (s .head)) len) ls)
-  arrive-ring-by true e len h = admit-ring e len h
-  arrive-ring-by false e len h = alike-out (turned-alike s) a
+    pub arrive-waits : (b : List ℕ)
+        → waiting b (arrivedOf s len) (arrivedLens s ls len) ≡ join (s .slots - 1) (waiting b s ls) (window b (slotAddr s (s .head)) len)
+    unfolding arrivedOf arrivedLens
+    arrive-waits b = rw (← room-out b) (arrive-by (hasRoomOut s) refl b)
 
-  pub arrive-ring : (len : ℕ) → len ≤ s .stride → OutRing (arrivedOf s) (arrivedLens s ls len)
-  arrive-ring len h = arrive-ring-by (hasRoomOut s) refl len h
+    ring-by : (t : Bool) → hasRoomOut s ≡ t → len ≤ s .stride
+        → OutRing (cond t (joinedOf (shortestOf s len)) (turnedAwayOf (shortestOf s len))) (cond t (set ls (slotOf s (s .head)) len) ls)
+    ring-by true e h = alike-out (alike-join near) (admit-ring e len h)
+    ring-by false e h = alike-out (turned-alike (shortestOf s len)) (alike-out near a)
 
-  shows-by : (t : Bool) → hasRoomOut s ≡ t → Shows s → Shows (cond t (joinedOf s) (turnedAwayOf s))
-  unfolding turnedAwayOf
-  shows-by true e h f = omega (arith, join-count g a few)
-  shows-by false e h f = omega (arith, h f, alike-count (turned-alike s))
+    pub arrive-ring : len ≤ s .stride → OutRing (arrivedOf s len) (arrivedLens s ls len)
+    unfolding arrivedOf arrivedLens
+    arrive-ring h = ring-by (hasRoomOut s) refl h
 
-  pub arrive-shows : Shows s → Shows (arrivedOf s)
-  arrive-shows h = shows-by (hasRoomOut s) refl h
+    shows-by : (t : Bool) → hasRoomOut s ≡ t → Shows s → Shows (cond t (joinedOf (shortestOf s len)) (turnedAwayOf (shortestOf s len)))
+    unfolding turnedAwayOf
+    shows-by true e h f = omega (arith, alike-count (alike-join near), join-count g a few)
+    shows-by false e h f = omega (arith, h (rw (shortest-open s len) at f), alike-count (turned-alike (shortestOf s len)), alike-count near)
+
+    pub arrive-shows : Shows s → Shows (arrivedOf s len)
+    unfolding arrivedOf
+    arrive-shows h = shows-by (hasRoomOut s) refl h
 
   -- after an admission the slot to arm is the next one
   pub arm-next : armSlot (joinedOf s) ≡ slotOf s (s .head + 1)

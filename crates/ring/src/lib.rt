@@ -4,7 +4,7 @@ use state::EpState;
 ghost use mathlib.Core.Path.{_≡_};
 ghost use Prim.Native.Nat.{_+_, _-_, _*_, _%_, _^_, _≤_, _<_};
 ghost use Rattle.ring.specs.Slot.{slotOf, slotAddr, countOf, hasWaiting, joinedOf};
-ghost use Rattle.ring.specs.Out.{hasRoomOut, cappedAt, shortestOf, turnedAwayOf, armSlot, armedAt, openedOf, closedOf};
+ghost use Rattle.ring.specs.Out.{hasRoomOut, cappedAt, shortestOf, turnedAwayOf, arrivedOf, armSlot, armedAt, openedOf, closedOf};
 ghost use Rattle.ring.specs.In.{hasRoomIn, completedOf, loadedOf, unloadedOf, nextLoad};
 
 // The slot of counter i.
@@ -18,7 +18,7 @@ pub fn slot_index(s: EpState, i: u8) -> u8
     i % n
 }
 
-// Where the slot of counter i lies (mod.rs 184).
+// Where the slot of counter i lies (mod.rs 181).
 pub fn slot_addr(s: EpState, i: u8) -> u32
     ensures { λ r. ⌜ r ≡ slotAddr s i ⌝ }
 {
@@ -26,7 +26,7 @@ pub fn slot_addr(s: EpState, i: u8) -> u32
     std::num::wrapping_add_u32(s.base, offset)
 }
 
-// How many packets wait (mod.rs 178).
+// How many packets wait (mod.rs 175).
 pub fn count(s: EpState) -> u8
     ensures { λ r. ⌜ r ≡ countOf s ⌝ }
 {
@@ -39,7 +39,7 @@ pub fn has_waiting(s: EpState) -> bool
     0 < count(s)
 }
 
-// The packet in the head's slot joins those that wait: an admission (mod.rs 500), a queue (mod.rs 393).
+// The packet in the head's slot joins those that wait: an admission (mod.rs 501), a queue (mod.rs 393).
 pub fn joined(mut s: EpState) -> EpState
     ensures { λ r. ⌜ r ≡ joinedOf s ⌝ }
 {
@@ -79,12 +79,23 @@ pub fn shortest(mut s: EpState, len: u16) -> EpState
     s
 }
 
-// The arrival is dropped and counted (mod.rs 504).
+// The arrival is dropped and counted (mod.rs 505).
 pub fn turned_away(mut s: EpState) -> EpState
     ensures { λ r. ⌜ r ≡ turnedAwayOf s ⌝ }
 {
     s.overruns = std::num::wrapping_add_u32(s.overruns, 1);
     s
+}
+
+// An arrival of `len` bytes in the head's slot is admitted or turned away (mod.rs 491-507).
+pub fn arrived(s: EpState, len: u16) -> EpState
+    ensures { λ r. ⌜ r ≡ arrivedOf s len ⌝ }
+{
+    let t = shortest(s, len);
+    if has_room_out(s) {
+        return joined(t);
+    }
+    turned_away(t)
 }
 
 // The slot to arm, whose recorded length is the stale one: the head's, after an admission the new head's (mod.rs 502).
