@@ -1,4 +1,5 @@
 pub mod Alloc
 pub mod Number
 pub mod Outcome
+pub mod Run
 pub mod Buffer
