@@ -2,4 +2,5 @@ pub mod Alloc
 pub mod Number
 pub mod Outcome
 pub mod Run
+pub mod Sound
 pub mod Buffer

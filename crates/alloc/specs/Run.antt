@@ -149,12 +149,12 @@ apart size from to (r ∷ rs) s =
 
 -- no byte is given twice
 pub disjoint : (a : Allocator) → a .next ≤ a .count → (cs : List Call) → Disjoint (a .size) (regions a cs)
-disjoint a h cs = apart _ _ _ _ (stacked a h cs)
+disjoint a h cs = apart (a .size) (a .next * a .size) (a .count * a .size) (regions a cs) (stacked a h cs)
 
 -- and none outside the buffers that were left
 pub inside : (a : Allocator) → a .next ≤ a .count → (cs : List Call)
     → All (λ r. (a .next * a .size ≤ r .base) × (end (a .size) r ≤ a .count * a .size)) (regions a cs)
-inside a h cs = within _ _ _ _ (stacked a h cs)
+inside a h cs = within (a .size) (a .next * a .size) (a .count * a .size) (regions a cs) (stacked a h cs)
 
 -- ---- 8
 
