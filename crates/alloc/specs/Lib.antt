@@ -1,4 +1,6 @@
 pub mod Alloc
 pub mod Number
 pub mod Outcome
+pub mod Run
+pub mod Sound
 pub mod Buffer

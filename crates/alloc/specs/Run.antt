@@ -1,0 +1,189 @@
+-- Any list of allocations and EP0 starts: the buffers that were given lie one above the other inside the slot buffer, and after an 8
+-- none is given any more. Assumes nothing.
+use mathlib.Core.Path.{_≡_, refl, sym, ap, subst, _∙_}
+use mathlib.Core.Bool.{Bool, true, false, not, true≢false}
+use mathlib.Core.List.{List, [], _∷_}
+use Prim.Native.Nat.{ℕ, _+_, _*_, _≤_, _<_}
+use native.Mathlib.Nat.{le-refl, le-trans, add-mul, mul-le-mul-right}
+use native.Mathlib.Omega.{arith}
+use lib.Dec.{leb, ltb}
+use borrow.Author.Tests.{ltb-true, ltb-false, leb-true, leb-false}
+use Rattle.state.specs.declared.Allocator.{Allocator}
+use Rattle.regs.specs.declared.Dir.{Dir}
+use Rattle.regs.specs.declared.Dir.the-variants.{Out, In}
+use Rattle.alloc.specs.declared.Answer.{Answer}
+use Rattle.alloc.specs.declared.Answer.the-variants.{Refused, Given}
+use Rattle.alloc.specs.declared.Allocation.{Allocation}
+use Rattle.alloc.specs.Alloc.{if, isIso, slotsOf, withNext, refused, allocateOf, allocateEp0Of}
+use Rattle.alloc.specs.Number.{either}
+use Rattle.alloc.specs.Outcome.{Takes, RunsOut, Gives, Outcome, six, seven, eight, given, outcome}
+
+-- ---- calls
+
+-- an allocation, or EP0's start
+pub data Call : Type 0 where
+  endpoint : (kind address maximum : ℕ) → Dir → Call
+  ep0 : (maximum : ℕ) → Call
+
+abbrev pub called : Allocator → Call → Allocation
+called a (endpoint kind address maximum dir) = allocateOf a kind address maximum dir
+called a (ep0 maximum) = allocateEp0Of a maximum
+
+-- what a call does: it is refused and changes nothing, is refused with 8 and keeps what it marked, or is given buffers
+pub data Step (a : Allocator) : Call → Allocation → Type 0 where
+  kept : (c : Call) (n : ℕ) → (n ≡ 8 → a .count ≤ a .next) → Step a c (refused n a)
+  out : (kind address maximum : ℕ) (dir : Dir) (e : ℕ) (b : Allocator) → RunsOut a (isIso kind) dir e b
+      → Step a (endpoint kind address maximum dir) (refused 8 b)
+  gave : (kind address maximum : ℕ) (dir : Dir) (e base n : ℕ) (b : Allocator) → maximum ≤ a .size → Gives a (isIso kind) dir e base n b
+      → Step a (endpoint kind address maximum dir) (record { answer = Given e base n; after = b })
+  gave-ep0 : (maximum : ℕ) → maximum ≤ a .size → a .next < a .count
+      → Step a (ep0 maximum) (record { answer = Given 0 (a .next * a .size) 1; after = withNext a (a .next + 1) })
+
+-- ---- the buffers that were given
+
+pub record Region : Type 0 where
+  pub call : Call
+  pub number : ℕ
+  pub base : ℕ
+  pub slots : ℕ
+
+abbrev pub noted : Call → Answer → List Region → List Region
+noted c (Refused n) rs = rs
+noted c (Given e base n) rs = record { call = c; number = e; base = base; slots = n } ∷ rs
+
+-- in the order of the calls
+unfoldable pub regions : Allocator → List Call → List Region
+regions a [] = []
+regions a (c ∷ cs) = noted c (called a c .answer) (regions (called a c .after) cs)
+
+-- the first byte after a region
+abbrev pub end : ℕ → Region → ℕ
+end size r = r .base + r .slots * size
+
+-- regions one above the other, from one offset up to another
+abbrev pub Stacked : ℕ → ℕ → ℕ → List Region → Type 0
+Stacked size from to [] = from ≤ to
+Stacked size from to (r ∷ rs) = (from ≤ r .base) × Stacked size (end size r) to rs
+
+abbrev pub All : (Region → Type 0) → List Region → Type 0
+All P [] = Unit {0}
+All P (r ∷ rs) = P r × All P rs
+
+-- no byte is in two of them
+abbrev pub Disjoint : ℕ → List Region → Type 0
+Disjoint size [] = Unit {0}
+Disjoint size (r ∷ rs) = All (λ q. end size r ≤ q .base) rs × Disjoint size rs
+
+-- ---- laws
+
+numbered : (a : Allocator) (kind address maximum : ℕ) (dir : Dir) (r : Allocation) → Outcome a kind address maximum dir r
+    → Step a (endpoint kind address maximum dir) r
+numbered a kind address maximum dir r (six l) = kept _ 6 (λ n. absurd (omega arith))
+numbered a kind address maximum dir r (seven m q) = kept _ 7 (λ n. absurd (omega arith))
+numbered a kind address maximum dir r (eight e b m q o) = out kind address maximum dir e b o
+numbered a kind address maximum dir r (given e base n b m q g) = gave kind address maximum dir e base n b m g
+
+pub step : (a : Allocator) (c : Call) → Step a c (called a c)
+unfolding allocateEp0Of
+step a (endpoint kind address maximum dir) = numbered a kind address maximum dir _ (outcome a kind address maximum dir)
+step a (ep0 maximum) =
+    either (Step a (ep0 maximum)) (ltb (a .size) maximum) _ _ (λ t. kept (ep0 maximum) 6 (λ n. absurd (omega arith)))
+    (λ m. either (Step a (ep0 maximum)) (leb (a .count) (a .next)) _ _ (λ t. kept (ep0 maximum) 8 (λ n. leb-true _ _ t))
+    (λ f. gave-ep0 maximum (ltb-false _ _ m) (leb-false _ _ f)))
+
+lower : (size from less to : ℕ) (rs : List Region) → less ≤ from → Stacked size from to rs → Stacked size less to rs
+lower size from less to [] h s = le-trans h s
+lower size from less to (r ∷ rs) h s = (le-trans h (s .0), s .1)
+
+same-stack : (size from to size' from' to' : ℕ) (rs : List Region) → size' ≡ size → from' ≡ from → to' ≡ to
+    → Stacked size' from' to' rs → Stacked size from to rs
+same-stack size from to size' from' to' rs p q r s =
+    subst (λ (x : ℕ). Stacked x from to rs) p
+    (subst (λ (x : ℕ). Stacked size' x to rs) q (subst (λ (x : ℕ). Stacked size' from' x rs) r s))
+
+stacked-step : (a : Allocator) (c : Call) (r : Allocation) → Step a c r → a .next ≤ a .count → (rs : List Region)
+    → (r .after .next ≤ r .after .count → Stacked (r .after .size) (r .after .next * r .after .size) (r .after .count * r .after .size) rs)
+    → Stacked (a .size) (a .next * a .size) (a .count * a .size) (noted c (r .answer) rs)
+unfolding withNext
+stacked-step a c r (kept d n k) h rs ih = ih h
+stacked-step a c r (out kind address maximum dir e b o) h rs ih =
+    lower _ (a .count * a .size) _ _ rs (mul-le-mul-right (a .size) h)
+    (same-stack _ _ _ _ _ _ rs (o .number .same-size) (cc) (cc) (ih (omega (arith, o .used-up, o .number .same-count))))
+stacked-step a c r (gave kind address maximum dir e base n b m g) h rs ih =
+    let d = add-mul (a .next) n (a .size) in (
+      omega (arith, g .starts),
+      same-stack _ _ _ _ _ _ rs (g .number .same-size) (cc) (cc) (ih (omega (arith, g .used, g .fits, g .number .same-count))),
+    )
+stacked-step a c r (gave-ep0 maximum m l) h rs ih = (
+  le-refl _,
+  same-stack _ _ _ _ _ _ rs refl (add-mul (a .next) 1 (a .size)) refl (ih (omega arith)),
+)
+
+-- the buffers given by any calls lie one above the other, from the next buffer up to the last
+pub stacked : (a : Allocator) → a .next ≤ a .count → (cs : List Call)
+    → Stacked (a .size) (a .next * a .size) (a .count * a .size) (regions a cs)
+unfolding regions
+stacked a h [] = mul-le-mul-right (a .size) h
+stacked a h (c ∷ cs) = stacked-step a c (called a c) (step a c) h _ (λ k. stacked (called a c .after) k cs)
+
+within : (size from to : ℕ) (rs : List Region) → Stacked size from to rs → All (λ r. (from ≤ r .base) × (end size r ≤ to)) rs
+within size from to [] s = tt
+within size from to (r ∷ rs) s = ((s .0, top size (end size r) to rs (s .1)), raised rs (within size (end size r) to rs (s .1)))
+  where
+    top : (size from to : ℕ) (rs : List Region) → Stacked size from to rs → from ≤ to
+    top size from to [] s = s
+    top size from to (q ∷ rs) s = let t = top size (end size q) to rs (s .1) in omega (arith, s .0)
+
+    raised : (rs : List Region) → All (λ q. (end size r ≤ q .base) × (end size q ≤ to)) rs → All (λ q. (from ≤ q .base) × (end size q ≤ to)) rs
+    raised [] a = tt
+    raised (q ∷ rs) a = ((omega (arith, s .0, a .0 .0), a .0 .1), raised rs (a .1))
+
+first : (P Q : Region → Type 0) → ((r : Region) → P r → Q r) → (rs : List Region) → All P rs → All Q rs
+first P Q f [] a = tt
+first P Q f (r ∷ rs) a = (f r (a .0), first P Q f rs (a .1))
+
+apart : (size from to : ℕ) (rs : List Region) → Stacked size from to rs → Disjoint size rs
+apart size from to [] s = tt
+apart size from to (r ∷ rs) s =
+    (first _ _ (λ q h. h .0) rs (within size (end size r) to rs (s .1)), apart size (end size r) to rs (s .1))
+
+-- no byte is given twice
+pub disjoint : (a : Allocator) → a .next ≤ a .count → (cs : List Call) → Disjoint (a .size) (regions a cs)
+disjoint a h cs = apart (a .size) (a .next * a .size) (a .count * a .size) (regions a cs) (stacked a h cs)
+
+-- and none outside the buffers that were left
+pub inside : (a : Allocator) → a .next ≤ a .count → (cs : List Call)
+    → All (λ r. (a .next * a .size ≤ r .base) × (end (a .size) r ≤ a .count * a .size)) (regions a cs)
+inside a h cs = within (a .size) (a .next * a .size) (a .count * a .size) (regions a cs) (stacked a h cs)
+
+-- ---- 8
+
+slots-some : (iso : Bool) (dir : Dir) → 1 ≤ slotsOf iso dir
+unfolding slotsOf
+slots-some true Out = omega arith
+slots-some true In = omega arith
+slots-some false dir = omega arith
+
+none-step : (a : Allocator) (c : Call) (r : Allocation) → Step a c r → a .count ≤ a .next → (rs : List Region)
+    → (r .after .count ≤ r .after .next → rs ≡ []) → noted c (r .answer) rs ≡ []
+none-step a c r (kept d n k) h rs ih = ih h
+none-step a c r (out kind address maximum dir e b o) h rs ih = ih (omega (arith, o .used-up, o .number .same-count))
+none-step a c r (gave kind address maximum dir e base n b m g) h rs ih =
+    absurd (omega (arith, g .fits, g .slots, slots-some (isIso kind) dir))
+none-step a c r (gave-ep0 maximum m l) h rs ih = absurd (omega arith)
+
+-- where no buffer is left, none is given
+pub none : (a : Allocator) → a .count ≤ a .next → (cs : List Call) → regions a cs ≡ []
+unfolding regions
+none a h [] = refl
+none a h (c ∷ cs) = none-step a c (called a c) (step a c) h _ (λ k. none (called a c .after) k cs)
+
+eight-step : (a : Allocator) (c : Call) (r : Allocation) → Step a c r → r .answer ≡ Refused 8 → r .after .count ≤ r .after .next
+eight-step a c r (kept d n k) q = let e : n ≡ 8 = cc in k e
+eight-step a c r (out kind address maximum dir e b o) q = omega (arith, o .used-up, o .number .same-count)
+eight-step a c r (gave kind address maximum dir e base n b m g) q = let z : _≡_ {A = ℕ} 0 1 = cc in absurd (omega arith)
+eight-step a c r (gave-ep0 maximum m l) q = let z : _≡_ {A = ℕ} 0 1 = cc in absurd (omega arith)
+
+-- after an 8 every later allocation and every EP0 start is refused
+pub after-eight : (a : Allocator) (c : Call) → called a c .answer ≡ Refused 8 → (cs : List Call) → regions (called a c .after) cs ≡ []
+after-eight a c q cs = none (called a c .after) (eight-step a c (called a c) (step a c) q) cs
