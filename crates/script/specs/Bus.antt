@@ -14,8 +14,8 @@ use Rattle.regs.specs.Ctrl.{pulledUp}
 use Rattle.regs.specs.Enables as enables
 use Rattle.script.specs.Cells.{Plain, globals-cell, ep-cell, paced-cell}
 use Rattle.script.specs.Script.{Script, ret, done, test, _>>=_, _>>_, read, write, get, put, act, hand, row, when, reset-ring, set-enabled, place, switch, bus-reset}
-use Rattle.script.specs.Frames.{NO_FRAME}
-use Rattle.script.specs.Statics.{isOn, flag, withTog, withArmed, renewed, completed, withPower, modify, modifyEp, modifyReg, modifyIntEn, modifyEpType, wake}
+use Rattle.frame.specs.Advance.{NO_FRAME}
+use Rattle.script.specs.Statics.{isOn, flag, withTog, withArmed, renewed, completed, withPower, modify, modifyEp, modifyReg, modifyIntEn, modifyEpType, wake, wakeAll}
 
 -- ---- `set_endpoint_stalled`, 1053-1099
 
@@ -71,12 +71,6 @@ nakAll (suc n) ep = do
   write EpRxCtrl ep (wordOf NAK DATA0 false)
   nakAll n (suc ep)
 
-unfoldable pub wakeAll : {i : Bool} → Dir → ℕ → ℕ → Script i Unit
-wakeAll d zero ep = done
-wakeAll d (suc n) ep = do
-  wake d ep
-  wakeAll d n (suc ep)
-
 -- the row disables all endpoints, resets all records and ends with the release of the flag (1243)
 abbrev pub busReset : Script false Unit
 busReset = do
@@ -85,8 +79,7 @@ busReset = do
   write EpTxCtrl 0 (wordOf NAK DATA0 false)
   nakAll 15 1
   row bus-reset
-  wakeAll Out 16 0
-  wakeAll In 16 0
+  wakeAll
 
 -- the events of `poll`: 0 not yet, 1 power detected, 2 reset, 3 suspend, 4 resume
 abbrev pub poll : Script false ℕ

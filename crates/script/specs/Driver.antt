@@ -15,7 +15,7 @@ use Rattle.alloc.specs.declared.Answer as alloc-answer
 use Rattle.alloc.specs.declared.Answer.the-variants as alloc
 use Rattle.alloc.specs.Alloc.{allocateOf, allocateEp0Of}
 use Rattle.script.specs.Cells.{Plain, globals-cell, ep-cell, allocator-cell}
-use Rattle.script.specs.Script.{Script, ret, done, test, _>>=_, _>>_, read, write, wait, get, put, is, fetch, act, hand, when, waiting, room, opened, oldest, place, place0, open-oldest, take-oldest, enqueue, allocate, allocate0}
+use Rattle.script.specs.Script.{Script, ret, done, test, _>>=_, _>>_, read, write, wait, get, put, is, fetch, act, hand, when, waiting, room, opened, oldest, place, place0, open-oldest, close-oldest, enqueue, allocate, allocate0}
 use Rattle.script.specs.Statics.{isOn, modifyIntEn, modifyReg}
 use Rattle.script.specs.Answers.{Answer, Refused, End, Shown, ok, operation, resultless, staged, named, unless}
 use Rattle.script.specs.Endpoint.{enabled-else}
@@ -86,7 +86,7 @@ closePacket ep = staged 2 (named Out ep (do
   b ← is (opened ep)
   test b
       (do
-        act (take-oldest ep)
+        act (close-oldest ep)
         ret ok)
       (ret (Refused 14))))
 
@@ -97,7 +97,7 @@ queuePacket ep bytes = staged 2 (named In ep (enabled-else In ep (ret (Refused 9
   unless (ltb (a .size) (length bytes)) 10 (do
     s ← get (ep-cell In ep)
     unless (not (isOn (s .iso))) 11 (do
-      b ← is (room ep)
+      b ← is (room ep (length bytes))
       test b
           (do
             act (enqueue ep bytes)

@@ -105,7 +105,7 @@ beginWrite ep bytes = staged 2 (named In ep (enabled-else In ep (ret (Refused 9)
 -- 161-170
 abbrev pub put-iso : {i : Bool} → ℕ → List ℕ → Script i Answer
 put-iso ep bytes = enabled-else In ep (ends-request In ep (Refused 9)) (do
-  b ← is (room ep)
+  b ← is (room ep (length bytes))
   test b
       (do
         act (enqueue ep bytes)

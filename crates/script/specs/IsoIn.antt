@@ -12,7 +12,8 @@ use Rattle.regs.specs.Status.{endpoint, isIn}
 use Rattle.regs.specs.Enables as enables
 use Rattle.script.specs.Cells.{Plain, globals-cell, ep-cell, paced-cell}
 use Rattle.script.specs.Script.{Script, ret, done, test, _>>=_, _>>_, read, write, callback, get, put, is, look, act, hand, when, waiting, next-len, complete, send}
-use Rattle.script.specs.Frames.{NO_FRAME, indexOf, frameOf, prevOf, steps}
+use Rattle.frame.specs.Usb20.{indexOf, frameOf}
+use Rattle.frame.specs.Advance.{NO_FRAME, previous, completions, inPrevious}
 use Rattle.script.specs.Statics.{isOn, withLastFrame, withSofFrame, withPaced, modify, modifyEp, wake, isoInEvery}
 
 -- `first_in_frame`, 396-403: the frame is recorded in either case
@@ -44,20 +45,16 @@ isoInComplete ep = do
 unfoldable pub leaving : ℕ → ℕ → Bool
 leaving st ep = isIn st && eqb (endpoint st) ep
 
--- it completed in the last microframe
-unfoldable pub completedLast : Plain → ℕ → Bool
-completedLast s frame = not (eqb (s .«last_frame») NO_FRAME) && eqb (indexOf (s .«last_frame»)) (prevOf (indexOf frame))
-
 -- `on_sof`, 573-582, one endpoint: it went out unseen in the last microframe
 abbrev pub unseen : {i : Bool} → ℕ → ℕ → Script i Unit
 unseen frame ep = do
-  modifyEp In ep (withLastFrame (frameOf (prevOf (indexOf frame))))
+  modifyEp In ep (withLastFrame (frameOf (previous (indexOf frame))))
   isoInComplete ep
 
 abbrev pub sofOne : {i : Bool} → ℕ → ℕ → Script i Unit
 sofOne frame ep = do
   s ← get (ep-cell In ep)
-  test (completedLast s frame) done (do
+  test (inPrevious (s .«last_frame») frame) done (do
     m ← read MisSt 0
     test (sieFree m) (unseen frame ep) (do
       st ← read IntSt 0
@@ -92,11 +89,11 @@ lateWalk frame (ep ∷ eps) = do
   lateWalk frame eps
 
 -- `for _ in 0..n`
-unfoldable pub completions : {i : Bool} → ℕ → ℕ → Script i Unit
-completions zero ep = done
-completions (suc n) ep = do
+unfoldable pub isoInCompletions : {i : Bool} → ℕ → ℕ → Script i Unit
+isoInCompletions zero ep = done
+isoInCompletions (suc n) ep = do
   isoInComplete ep
-  completions n ep
+  isoInCompletions n ep
 
 -- `iso_in_advance`, 323-341
 abbrev pub isoInAdvance : {i : Bool} → ℕ → Script i Unit
@@ -107,7 +104,7 @@ isoInAdvance ep = do
       (do
         frame ← read FrameNo 0
         last ← get (paced-cell ep)
-        completions (steps last (indexOf frame)) ep
+        isoInCompletions (completions last (indexOf frame)) ep
         put (paced-cell ep) (frameOf (indexOf frame)))
       (put (paced-cell ep) NO_FRAME))
 

@@ -2,13 +2,13 @@
 use mathlib.Core.Bool.{Bool, true, false, not, cond, _&&_}
 use mathlib.Core.List.{List, [], _∷_}
 use Prim.Native.Nat.{ℕ}
-use lib.Dec.{eqb, ltb}
+use lib.Dec.{eqb}
 use Rattle.bits.specs.Walk.{setBits}
 use Rattle.regs.specs.declared.Reg.the-variants.{IntSt}
 use Rattle.regs.specs.declared.Dir.the-variants.{Out, In}
 use Rattle.regs.specs.Status.{endpoint, isOut, togOk}
 use Rattle.script.specs.declared.Transfer.{Transfer}
-use Rattle.script.specs.Cells.{Plain, globals-cell, ep-cell}
+use Rattle.script.specs.Cells.{globals-cell}
 use Rattle.script.specs.Script.{Script, ret, done, test, _>>=_, _>>_, read, write, get, put, is, look, hand, when, changed, marked, arrive}
 use Rattle.script.specs.Statics.{wake, isoOuts}
 
@@ -20,11 +20,8 @@ arriving st ep = isOut st && eqb (endpoint st) ep
 unfoldable pub entry : Transfer → Bool → ℕ → Bool
 entry x iso ep = not (x .busy) && (x .«len_ok» && (iso && (togOk (x .st) && arriving (x .st) ep)))
 
--- an isochronous length is capped at the maximum
-unfoldable pub capped : Plain → ℕ → ℕ
-capped s len = cond (ltb len (s .«max_len»)) len (s .«max_len»)
-
--- 491-509: the packet is admitted or turned away and the next slot armed, all in the call that hands out its address
+-- 491-509: the packet is admitted or turned away and the next slot armed, all in the call that hands out its address; a length above the
+-- maximum is capped there
 abbrev pub arrives : {i : Bool} → ℕ → ℕ → Script i Unit
 arrives ep len = do
   hand (arrive ep len)
@@ -35,9 +32,7 @@ abbrev pub checkOne : {i : Bool} → Transfer → Bool → ℕ → Script i Unit
 checkOne x iso ep = do
   b ← is (changed ep)
   when b (test (entry x iso ep)
-      (do
-        s ← get (ep-cell Out ep)
-        arrives ep (capped s (x .len)))
+      (arrives ep (x .len))
       (do
         st ← read IntSt 0
         test (arriving st ep) done (do

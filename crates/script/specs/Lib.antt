@@ -4,7 +4,6 @@ pub mod Script
 pub mod Alike
 pub mod Machine
 pub mod Agree
-pub mod Frames
 pub mod Statics
 pub mod IsoIn
 pub mod IsoOut

@@ -21,7 +21,7 @@ use Rattle.script.specs.Cells.{Cell, Val, Plain, globals-cell, wakes-cel
 pub data Test : Type 0 where
   changed : ℕ → Test  -- OUT e: the armed slot's first word is not the mark
   waiting : Dir → ℕ → Test  -- a packet is queued
-  room : ℕ → Test  -- IN e: not every slot is queued
+  room : ℕ → ℕ → Test  -- IN e, isochronous: a slot is free for so many bytes
   opened : ℕ → Test  -- OUT e: a packet is open
 
 -- numbers
@@ -43,7 +43,9 @@ pub data Act : Type 0 where
   set-enabled : Dir → ℕ → Bool → Act  -- the kept ep_config bit; of an isochronous OUT, nothing
   fill : ℕ → List ℕ → Act  -- IN e, not isochronous: bytes into its slot
   fill0 : List ℕ → Act  -- bytes into EP0's slot
-  open-oldest take-oldest : ℕ → Act  -- OUT e: the oldest packet is open; is read
+  open-oldest : ℕ → Act  -- OUT e: the oldest packet is open
+  close-oldest : ℕ → Act  -- OUT e: the open packet is read
+  take-oldest : ℕ → Act  -- OUT e: the oldest packet is read
   enqueue : ℕ → List ℕ → Act  -- IN e: a packet into the next free slot
   allocate : Dir → ℕ → ℕ → ℕ → ℕ → Act  -- kind, address, maximum, interval
   allocate0 : ℕ → Act  -- EP0's buffer, its maximum

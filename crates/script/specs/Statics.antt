@@ -13,7 +13,7 @@ use Rattle.state.specs.declared.Globals.{Globals}
 use Rattle.state.specs.declared.Wakes.{Wakes}
 use Rattle.script.specs.Cells.{Plain, globals-cell, wakes-cell, ep-cell, paced-cell}
 use Rattle.script.specs.Script.{Script, ret, done, test, _>>=_, _>>_, read, write, get, put, when}
-use Rattle.script.specs.Frames.{NO_FRAME}
+use Rattle.frame.specs.Advance.{NO_FRAME}
 
 -- a flag in a byte
 unfoldable pub isOn : ℕ → Bool
@@ -77,6 +77,10 @@ unfoldable pub woken : Dir → ℕ → Wakes → Wakes
 woken Out e w = record { outs = withBit (w .outs) (e % 16) true; ins = w .ins; bus = w .bus }
 woken In e w = record { outs = w .outs; ins = withBit (w .ins) (e % 16) true; bus = w .bus }
 
+-- OUT 0 to 15, then IN 0 to 15
+unfoldable pub all-woken : Wakes → Wakes
+all-woken w = record { outs = 65535; ins = 65535; bus = w .bus }
+
 unfoldable pub bus-woken : Wakes → Wakes
 bus-woken w = record { outs = w .outs; ins = w .ins; bus = 1 }
 
@@ -97,6 +101,11 @@ abbrev pub wake : {i : Bool} → Dir → ℕ → Script i Unit
 wake d e = do
   w ← get wakes-cell
   put wakes-cell (woken d e w)
+
+abbrev pub wakeAll : {i : Bool} → Script i Unit
+wakeAll = do
+  w ← get wakes-cell
+  put wakes-cell (all-woken w)
 
 -- `BUS_WAKER.wake()`
 abbrev pub wakeBus : {i : Bool} → Script i Unit
