@@ -21,6 +21,23 @@ pub fn with_bit(word: u32, bit: u8, on: bool) -> u32
     }
 }
 
+// The same of a byte; the bit's number counts modulo 8.
+pub fn byte_has(byte: u8, bit: u8) -> bool
+    ensures { λ r. ⌜ r ≡ isSet byte (bit % 8) ⌝ }
+{
+    byte >> (bit % 8) & 1 == 1
+}
+
+pub fn byte_with(byte: u8, bit: u8, on: bool) -> u8
+    ensures { λ r. ⌜ r ≡ withBit byte (bit % 8) on ⌝ }
+{
+    if on {
+        byte | 1 << (bit % 8)
+    } else {
+        byte & !(1 << (bit % 8))
+    }
+}
+
 // Is this endpoint in a mask? Its number counts modulo 16.
 pub fn mask_has(mask: u16, endpoint: u8) -> bool
     ensures { λ r. ⌜ r ≡ isSet mask (endpoint % 16) ⌝ }

@@ -1,0 +1,5 @@
+pub mod Bytes
+pub mod Codec
+pub mod Ep
+pub mod Driver
+pub mod State

@@ -1,3 +1,54 @@
+// The driver's one state, in lent bytes. Only this crate sees bytes: others load and store records by value, and their contracts speak
+// of `view` and `saved`. Any bytes are a state.
+use codec::read_allocator;
+use codec::read_control;
+use codec::read_ep;
+use codec::read_globals;
+use codec::read_request;
+use codec::read_saved;
+use codec::read_wakes;
+use codec::write_allocator;
+use codec::write_control;
+use codec::write_ep;
+use codec::write_globals;
+use codec::write_request;
+use codec::write_saved;
+use codec::write_wakes;
+use regs::Dir;
+use words::get16;
+use words::put16;
+
+mod codec;
+mod words;
+
+ghost use mathlib.Core.Path.{_≡_};
+ghost use Prim.Native.Nat.{_<_};
+ghost use Rattle.state.specs.Driver.{key, lenKey, epOn, withOn, lenOn, withLenOn, pacedOn, withPacedOn, requestOn, withRequestOn, withGlobals, withAllocator, withControl, withWakes};
+ghost use Rattle.state.specs.Ep.{newEp, resetOf, countOf};
+ghost use Rattle.state.specs.State.{view, saved};
+
+// The state's length. All bytes 0: before the first start-up.
+pub const STATE_LEN: usize = 2329;
+
+// Where each part starts.
+const EPS: usize = 0;
+
+const LENS: usize = 1024;
+
+const GLOBALS: usize = 2048;
+
+const ALLOCATOR: usize = 2083;
+
+const PACED: usize = 2101;
+
+const REQUESTS: usize = 2133;
+
+const CONTROL: usize = 2293;
+
+const WAKES: usize = 2302;
+
+const SAVED: usize = 2307;
+
 // Per endpoint and direction, as in the Rust without the waker: flags are 0 or 1 in a byte; `lens` stands apart.
 pub struct EpState {
     pub ready: u8,
@@ -18,6 +69,77 @@ pub struct EpState {
     pub armed_slot: u32,
     pub tog: u8,
     pub open: u8,
+}
+
+impl EpState {
+    // Never a frame number: bits 11 and 12 of one are 0.
+    pub const NO_FRAME: u16 = 0x1800;
+
+    pub const NEW: EpState = EpState {
+        ready: 0,
+        len: 0,
+        armed: 0,
+        iso: 0,
+        kind: 0,
+        base: 0,
+        stride: 0,
+        slots: 1,
+        head: 0,
+        tail: 0,
+        loaded: 0,
+        overruns: 0,
+        last_frame: 0x1800,
+        max_len: 0,
+        min_len: 0,
+        armed_slot: 0,
+        tog: 0,
+        open: 0,
+    };
+
+    pub fn new() -> EpState
+        ensures { λ r. ⌜ r ≡ newEp ⌝ }
+    {
+        EpState::NEW
+    }
+
+    // Nothing waits and nothing is open; overruns, the shortest packet, the armed slot and the geometry stay.
+    pub fn reset(mut self) -> EpState
+        ensures { λ r. ⌜ r ≡ resetOf self ⌝ }
+    {
+        self.last_frame = EpState::NO_FRAME;
+        self.ready = 0;
+        self.armed = 0;
+        self.head = 0;
+        self.tail = 0;
+        self.loaded = 0;
+        self.tog = 0;
+        self.open = 0;
+        self
+    }
+
+    // How many packets wait.
+    pub fn count(self) -> u8
+        ensures { λ r. ⌜ r ≡ countOf self ⌝ }
+    {
+        std::num::wrapping_sub_u8(self.head, self.tail)
+    }
+}
+
+// The one record that is lent is taken apart, and reset by value.
+pub fn reset(s: &mut EpState)
+    ensures { λ _. ⌜ now (s .exit) ≡ resetOf (now (s .entry)) ⌝ }
+{
+    let t = *s;
+    *s = t.reset();
+}
+
+// A caller that lends a local.
+pub fn by_loan(s: EpState) -> EpState
+    ensures { λ r. ⌜ r ≡ resetOf s ⌝ }
+{
+    let mut t = s;
+    reset(&mut t);
+    t
 }
 
 // The buffers and the endpoint numbers: buffer size and count, the next free buffer; a bit for each number, taken in a
@@ -94,4 +216,161 @@ pub struct Saved {
     pub eps: u16,
     pub n: u16,
     pub value: u32,
+}
+
+// Lends an array as a slice, by which its borrower learns how long the list is.
+fn sized(_s: &[u8]) {}
+
+// An endpoint's place among the records: OUT 0 to 15, then IN.
+fn key_of(dir: Dir, e: u8) -> usize
+    ensures { λ r. ⌜ (r ≡ key dir e) × (r < 32) ⌝ }
+{
+    match dir {
+        Dir::Out => (e % 16) as usize,
+        Dir::In => 16 + (e % 16) as usize,
+    }
+}
+
+// The place of slot i's length.
+fn len_key(dir: Dir, e: u8, i: u8) -> usize
+    ensures { λ r. ⌜ (r ≡ lenKey dir e i) × (r < 512) ⌝ }
+{
+    key_of(dir, e) * 16 + (i % 16) as usize
+}
+
+// The record of endpoint e, taken modulo 16, in a direction.
+pub fn load_ep(s: &[u8; STATE_LEN], dir: Dir, e: u8) -> EpState
+    ensures { λ r. ⌜ r ≡ epOn (view (now (s .entry))) dir e ⌝ }
+{
+    let k = key_of(dir, e);
+    read_ep(s, EPS + k * 32)
+}
+
+pub fn store_ep(s: &mut [u8; STATE_LEN], dir: Dir, e: u8, r: EpState)
+    ensures { λ _. ⌜ view (now (s .exit)) ≡ withOn (view (now (s .entry))) dir e r ⌝ }
+    ensures { λ _. ⌜ saved (now (s .exit)) ≡ saved (now (s .entry)) ⌝ }
+{
+    sized(s);
+    let k = key_of(dir, e);
+    write_ep(s, EPS + k * 32, r);
+}
+
+// The length of slot i, taken modulo 16.
+pub fn load_len(s: &[u8; STATE_LEN], dir: Dir, e: u8, i: u8) -> u16
+    ensures { λ r. ⌜ r ≡ lenOn (view (now (s .entry))) dir e i ⌝ }
+{
+    let k = len_key(dir, e, i);
+    get16(s, LENS + k * 2, 0)
+}
+
+pub fn store_len(s: &mut [u8; STATE_LEN], dir: Dir, e: u8, i: u8, v: u16)
+    ensures { λ _. ⌜ view (now (s .exit)) ≡ withLenOn (view (now (s .entry))) dir e i v ⌝ }
+    ensures { λ _. ⌜ saved (now (s .exit)) ≡ saved (now (s .entry)) ⌝ }
+{
+    sized(s);
+    let k = len_key(dir, e, i);
+    put16(s, LENS + k * 2, 0, v);
+}
+
+// A paced endpoint's last microframe.
+pub fn load_paced(s: &[u8; STATE_LEN], e: u8) -> u16
+    ensures { λ r. ⌜ r ≡ pacedOn (view (now (s .entry))) e ⌝ }
+{
+    get16(s, PACED + (e % 16) as usize * 2, 0)
+}
+
+pub fn store_paced(s: &mut [u8; STATE_LEN], e: u8, v: u16)
+    ensures { λ _. ⌜ view (now (s .exit)) ≡ withPacedOn (view (now (s .entry))) e v ⌝ }
+    ensures { λ _. ⌜ saved (now (s .exit)) ≡ saved (now (s .entry)) ⌝ }
+{
+    sized(s);
+    put16(s, PACED + (e % 16) as usize * 2, 0, v);
+}
+
+// The read begun on OUT e, the write begun on IN e.
+pub fn load_request(s: &[u8; STATE_LEN], dir: Dir, e: u8) -> Request
+    ensures { λ r. ⌜ r ≡ requestOn (view (now (s .entry))) dir e ⌝ }
+{
+    let k = key_of(dir, e);
+    read_request(s, REQUESTS + k * 5)
+}
+
+pub fn store_request(s: &mut [u8; STATE_LEN], dir: Dir, e: u8, r: Request)
+    ensures { λ _. ⌜ view (now (s .exit)) ≡ withRequestOn (view (now (s .entry))) dir e r ⌝ }
+    ensures { λ _. ⌜ saved (now (s .exit)) ≡ saved (now (s .entry)) ⌝ }
+{
+    sized(s);
+    let k = key_of(dir, e);
+    write_request(s, REQUESTS + k * 5, r);
+}
+
+pub fn load_globals(s: &[u8; STATE_LEN]) -> Globals
+    ensures { λ r. ⌜ r ≡ view (now (s .entry)) .globals ⌝ }
+{
+    read_globals(s, GLOBALS)
+}
+
+pub fn store_globals(s: &mut [u8; STATE_LEN], r: Globals)
+    ensures { λ _. ⌜ view (now (s .exit)) ≡ withGlobals (view (now (s .entry))) r ⌝ }
+    ensures { λ _. ⌜ saved (now (s .exit)) ≡ saved (now (s .entry)) ⌝ }
+{
+    sized(s);
+    write_globals(s, GLOBALS, r);
+}
+
+pub fn load_allocator(s: &[u8; STATE_LEN]) -> Allocator
+    ensures { λ r. ⌜ r ≡ view (now (s .entry)) .allocator ⌝ }
+{
+    read_allocator(s, ALLOCATOR)
+}
+
+pub fn store_allocator(s: &mut [u8; STATE_LEN], r: Allocator)
+    ensures { λ _. ⌜ view (now (s .exit)) ≡ withAllocator (view (now (s .entry))) r ⌝ }
+    ensures { λ _. ⌜ saved (now (s .exit)) ≡ saved (now (s .entry)) ⌝ }
+{
+    sized(s);
+    write_allocator(s, ALLOCATOR, r);
+}
+
+pub fn load_control(s: &[u8; STATE_LEN]) -> Control
+    ensures { λ r. ⌜ r ≡ view (now (s .entry)) .control ⌝ }
+{
+    read_control(s, CONTROL)
+}
+
+pub fn store_control(s: &mut [u8; STATE_LEN], r: Control)
+    ensures { λ _. ⌜ view (now (s .exit)) ≡ withControl (view (now (s .entry))) r ⌝ }
+    ensures { λ _. ⌜ saved (now (s .exit)) ≡ saved (now (s .entry)) ⌝ }
+{
+    sized(s);
+    write_control(s, CONTROL, r);
+}
+
+pub fn load_wakes(s: &[u8; STATE_LEN]) -> Wakes
+    ensures { λ r. ⌜ r ≡ view (now (s .entry)) .wakes ⌝ }
+{
+    read_wakes(s, WAKES)
+}
+
+pub fn store_wakes(s: &mut [u8; STATE_LEN], r: Wakes)
+    ensures { λ _. ⌜ view (now (s .exit)) ≡ withWakes (view (now (s .entry))) r ⌝ }
+    ensures { λ _. ⌜ saved (now (s .exit)) ≡ saved (now (s .entry)) ⌝ }
+{
+    sized(s);
+    write_wakes(s, WAKES, r);
+}
+
+// The suspended operation stands beside the view.
+pub fn load_saved(s: &[u8; STATE_LEN]) -> Saved
+    ensures { λ r. ⌜ r ≡ saved (now (s .entry)) ⌝ }
+{
+    read_saved(s, SAVED)
+}
+
+pub fn store_saved(s: &mut [u8; STATE_LEN], r: Saved)
+    ensures { λ _. ⌜ view (now (s .exit)) ≡ view (now (s .entry)) ⌝ }
+    ensures { λ _. ⌜ saved (now (s .exit)) ≡ r ⌝ }
+{
+    sized(s);
+    write_saved(s, SAVED, r);
 }

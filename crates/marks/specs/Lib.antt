@@ -1,0 +1,9 @@
+pub mod Marks
+pub mod Copies
+pub mod Only
+pub mod Words
+pub mod Arms
+pub mod Finds
+pub mod Slots
+pub mod Stored
+pub mod Table

@@ -1,0 +1,25 @@
+use mathlib.Core.Path.{_∙_, sym}
+use native.Mathlib.Omega.{arith}
+use borrow.Author.Tests.{eq-eqb, ne-eqb}
+use Rattle.regs.proofs.Words.{toggles, toggles-back}
+use Rattle.regs.specs.ControlWord.{flip}
+use borrow.Author.Needs.{needs}
+use Rattle.regs.proofs.control_word.flip.Statement.{statement}
+use Rattle.regs.proofs.control_word.flip.Tie as tie
+use Rattle.regs.proofs.control_word.flip.Reads as reads
+use Rattle.regs.proofs.control_word.flip.Lts as lts
+use Rattle.regs.proofs.control_word.toggle.Reads as toggle-reads
+
+toggle-requires : tie.Need-toggle-requires
+toggle-requires c κs = search needs
+
+returns : tie.Need-returns
+unfolding flip
+returns c = simp (eq-eqb _ _ (sym (c .before .toggle .ensures) ∙ c .if1 .taken)) (toggles (c .before .before .args .word) 1 (c .before .before .fits .word .fits) (omega arith))
+
+returns-2 : tie.Need-returns-2
+unfolding flip
+returns-2 c = simp (ne-eqb _ _ (λ z. c .if1 .left (c .before .toggle .ensures ∙ z))) (toggles-back (c .before .before .args .word) (c .before .before .fits .word .fits))
+
+pub flip-spec : {M : Type 1} → statement M
+flip-spec = tie.close (tie.spec toggle-requires returns returns-2)

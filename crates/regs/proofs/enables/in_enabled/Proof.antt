@@ -1,0 +1,18 @@
+use mathlib.Core.Path.{ap}
+use native.Mathlib.Omega.{arith}
+use lib.Bits.{bitAnd, and-mask}
+use Rattle.regs.specs.Enables.{inEnabled}
+use Rattle.regs.proofs.enables.in_enabled.Statement.{statement}
+use Rattle.regs.proofs.enables.in_enabled.Tie as tie
+use Rattle.regs.proofs.enables.in_enabled.Reads as reads
+use Rattle.regs.proofs.enables.in_enabled.Lts as lts
+
+cast-result : tie.Need-cast-result
+cast-result c = omega (arith, and-mask (c .args .config) 16)
+
+returns : tie.Need-returns
+unfolding inEnabled
+returns c = ap (bitAnd (c .args .mask)) (and-mask (c .args .config) 16)
+
+pub in-enabled-spec : {M : Type 1} → statement M
+in-enabled-spec = tie.close (tie.spec cast-result returns)

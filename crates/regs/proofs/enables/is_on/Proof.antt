@@ -1,0 +1,25 @@
+use Prim.Native.Nat.{ℕ, _%_}
+use mathlib.Core.Path.{ap, _∙_}
+use Rattle.bits.specs.Bit.{isSet}
+use Rattle.regs.proofs.Places.{place-mod}
+use Rattle.regs.specs.Enables.{isOn}
+use borrow.Author.Needs.{needs}
+use Rattle.regs.proofs.enables.is_on.Statement.{statement}
+use Rattle.regs.proofs.enables.is_on.Tie as tie
+use Rattle.regs.proofs.enables.is_on.Reads as reads
+use Rattle.regs.proofs.enables.is_on.Lts as lts
+use Rattle.bits.proofs.is_set.Reads as is-set-reads
+use Rattle.regs.proofs.enables.place.Reads as place-reads
+
+place-requires : tie.Need-place-requires
+place-requires c κs = search needs
+
+is-set-requires : tie.Need-is-set-requires
+is-set-requires c κs = search needs
+
+returns : tie.Need-returns
+unfolding isOn
+returns c = c .is-set .ensures ∙ ap (isSet (c .before .before .args .word)) (ap (λ (x : ℕ). x % 32) (c .before .place .ensures) ∙ place-mod (c .before .before .args .dir) (c .before .before .args .endpoint))
+
+pub is-on-spec : {M : Type 1} → statement M
+is-on-spec = tie.close (tie.spec place-requires is-set-requires returns)

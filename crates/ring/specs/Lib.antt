@@ -1,0 +1,11 @@
+pub mod Fields
+pub mod Slot
+pub mod Out
+pub mod In
+pub mod Waiting
+pub mod Window
+pub mod Slots
+pub mod Laws
+pub mod OutLaws
+pub mod InLaws
+pub mod Table

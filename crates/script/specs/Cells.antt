@@ -1,0 +1,35 @@
+-- What a script reads and changes by plain assignment: the Rust's statics, record by record
+use Prim.Native.Nat.{ℕ}
+use Rattle.regs.specs.declared.Dir.{Dir}
+use Rattle.state.specs.declared.Globals.{Globals}
+use Rattle.state.specs.declared.Wakes.{Wakes}
+use Rattle.state.specs.declared.Allocator.{Allocator}
+use Rattle.state.specs.declared.Request.{Request}
+use Rattle.state.specs.declared.Control.{Control}
+
+-- what the script sees of an endpoint's record: all but its ring. Of it `ready`, `len`, `armed`, `last_frame` and `tog` are assigned;
+-- the others come with the allocation
+pub record Plain : Type 0 where
+  pub ready : ℕ
+  pub len : ℕ
+  pub armed : ℕ
+  pub «last_frame» : ℕ
+  pub tog : ℕ
+  pub iso : ℕ
+  pub kind : ℕ
+  pub base : ℕ
+  pub «max_len» : ℕ
+
+pub data Cell : Type 0 where
+  globals-cell wakes-cell control-cell allocator-cell : Cell
+  ep-cell request-cell : Dir → ℕ → Cell
+  paced-cell : ℕ → Cell
+
+abbrev pub Val : Cell → Type 0
+Val globals-cell = Globals
+Val wakes-cell = Wakes
+Val control-cell = Control
+Val allocator-cell = Allocator
+Val (ep-cell d e) = Plain
+Val (request-cell d e) = Request
+Val (paced-cell e) = ℕ

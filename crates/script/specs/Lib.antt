@@ -1,0 +1,16 @@
+pub mod Tree
+pub mod Cells
+pub mod Script
+pub mod Alike
+pub mod Machine
+pub mod Agree
+pub mod Statics
+pub mod IsoIn
+pub mod IsoOut
+pub mod Handler
+pub mod Answers
+pub mod Bus
+pub mod Endpoint
+pub mod Control
+pub mod Driver
+pub mod Calls

@@ -1,0 +1,5 @@
+mod Fields
+mod Runs
+mod Numbers
+mod Tables
+mod Views

@@ -1,0 +1,41 @@
+use Rattle.state.proofs.Fields.{five}
+use borrow.Author.Needs.{needs}
+use Rattle.state.proofs.codec.read_ep.Statement.{statement}
+use Rattle.state.proofs.codec.read_ep.Tie as tie
+
+get8x5-requires : tie.Need-get8x5-requires
+get8x5-requires c κs = search needs
+
+get8x5-requires-2 : tie.Need-get8x5-requires-2
+get8x5-requires-2 c κs = search needs
+
+get16x5-requires : tie.Need-get16x5-requires
+get16x5-requires c κs = search needs
+
+get32-requires : tie.Need-get32-requires
+get32-requires c κs = search needs
+
+get32-requires-2 : tie.Need-get32-requires-2
+get32-requires-2 c κs = search needs
+
+get32-requires-3 : tie.Need-get32-requires-3
+get32-requires-3 c κs = search needs
+
+returns : tie.Need-returns
+returns c =
+    five (c .before .before .before .before .before .get8x5 .ensures)
+    (five (c .before .before .before .before .get8x52 .ensures)
+    (five (c .before .before .before .get16x5 .ensures)
+    ((c .before .before .get32 .ensures, (c .before .get322 .ensures, (c .get323 .ensures, tt))))))
+
+pub read-ep-spec : {M : Type 1} → statement M
+read-ep-spec =
+    tie.close
+    (tie.spec
+    get8x5-requires
+    get8x5-requires-2
+    get16x5-requires
+    get32-requires
+    get32-requires-2
+    get32-requires-3
+    returns)

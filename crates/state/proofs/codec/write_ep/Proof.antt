@@ -1,0 +1,48 @@
+use mathlib.Core.Path.{ap, _∙_}
+use Rattle.state.specs.Bytes.{bytes}
+use Rattle.state.specs.Codec.{epWidths, epAs}
+use Rattle.state.proofs.Fields.{rest}
+use borrow.Author.Needs.{needs}
+use Rattle.state.proofs.codec.write_ep.Statement.{statement}
+use Rattle.state.proofs.codec.write_ep.Tie as tie
+
+put8x5-requires : tie.Need-put8x5-requires
+put8x5-requires c κs = search needs
+
+put8x5-requires-2 : tie.Need-put8x5-requires-2
+put8x5-requires-2 c κs = search needs
+
+put16x5-requires : tie.Need-put16x5-requires
+put16x5-requires c κs = search needs
+
+put32-requires : tie.Need-put32-requires
+put32-requires c κs = search needs
+
+put32-requires-2 : tie.Need-put32-requires-2
+put32-requires-2 c κs = search needs
+
+put32-requires-3 : tie.Need-put32-requires-3
+put32-requires-3 c κs = search needs
+
+returns : tie.Need-returns
+returns c =
+    let st = c .before .before .before .before .before .before .before .before .before .before .before .before in
+    let left = rest (st .args .o) (bytes epWidths (epAs (st .args .r))) in
+    c .put323 .ensures
+    ∙ ap (left 28) (c .before .before .put322 .ensures)
+    ∙ ap (left 24) (c .before .before .before .before .put32 .ensures)
+    ∙ ap (left 20) (c .before .before .before .before .before .before .put16x5 .ensures)
+    ∙ ap (left 10) (c .before .before .before .before .before .before .before .before .put8x52 .ensures)
+    ∙ ap (left 5) (c .before .before .before .before .before .before .before .before .before .before .put8x5 .ensures)
+
+pub write-ep-spec : {M : Type 1} → statement M
+write-ep-spec =
+    tie.close
+    (tie.spec
+    put8x5-requires
+    put8x5-requires-2
+    put16x5-requires
+    put32-requires
+    put32-requires-2
+    put32-requires-3
+    returns)

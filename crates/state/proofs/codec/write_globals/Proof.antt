@@ -1,0 +1,53 @@
+use mathlib.Core.Path.{ap, _∙_}
+use Rattle.state.specs.Bytes.{bytes}
+use Rattle.state.specs.Codec.{globalsWidths, globalsAs}
+use Rattle.state.proofs.Fields.{rest}
+use borrow.Author.Needs.{needs}
+use Rattle.state.proofs.codec.write_globals.Statement.{statement}
+use Rattle.state.proofs.codec.write_globals.Tie as tie
+
+put8x5-requires : tie.Need-put8x5-requires
+put8x5-requires c κs = search needs
+
+put16x5-requires : tie.Need-put16x5-requires
+put16x5-requires c κs = search needs
+
+put32-requires : tie.Need-put32-requires
+put32-requires c κs = search needs
+
+put32-requires-2 : tie.Need-put32-requires-2
+put32-requires-2 c κs = search needs
+
+put32-requires-3 : tie.Need-put32-requires-3
+put32-requires-3 c κs = search needs
+
+put32-requires-4 : tie.Need-put32-requires-4
+put32-requires-4 c κs = search needs
+
+put32-requires-5 : tie.Need-put32-requires-5
+put32-requires-5 c κs = search needs
+
+returns : tie.Need-returns
+returns c =
+    let st = c .before .before .before .before .before .before .before .before .before .before .before .before .before .before in
+    let left = rest (st .args .o) (bytes globalsWidths (globalsAs (st .args .r))) in
+    c .put325 .ensures
+    ∙ ap (left 31) (c .before .before .put324 .ensures)
+    ∙ ap (left 27) (c .before .before .before .before .put323 .ensures)
+    ∙ ap (left 23) (c .before .before .before .before .before .before .put322 .ensures)
+    ∙ ap (left 19) (c .before .before .before .before .before .before .before .before .put32 .ensures)
+    ∙ ap (left 15) (c .before .before .before .before .before .before .before .before .before .before .put16x5 .ensures)
+    ∙ ap (left 5) (c .before .before .before .before .before .before .before .before .before .before .before .before .put8x5 .ensures)
+
+pub write-globals-spec : {M : Type 1} → statement M
+write-globals-spec =
+    tie.close
+    (tie.spec
+    put8x5-requires
+    put16x5-requires
+    put32-requires
+    put32-requires-2
+    put32-requires-3
+    put32-requires-4
+    put32-requires-5
+    returns)

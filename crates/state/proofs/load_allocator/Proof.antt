@@ -1,0 +1,21 @@
+use mathlib.Core.Path.{ap}
+use denote.Ref.{now}
+use Rattle.state.specs.Bytes.{gets, numbers}
+use Rattle.state.specs.Codec.{allocatorWidths, allocatorAs, allocatorOf}
+use Rattle.state.specs.State.{view, saved}
+use Rattle.state.proofs.Numbers.{each-eq}
+use borrow.Author.Needs.{needs}
+use Rattle.state.proofs.load_allocator.Statement.{statement}
+use Rattle.state.proofs.load_allocator.Tie as tie
+
+read-allocator-requires : tie.Need-read-allocator-requires
+read-allocator-requires c κs = search needs
+
+returns : tie.Need-returns
+unfolding view
+returns c =
+    let st = c .before in
+    ap allocatorOf (each-eq (allocatorAs (c .read-allocator .result)) (numbers allocatorWidths (gets (now (st .args .s)) 2083 0 18)) (c .read-allocator .ensures))
+
+pub load-allocator-spec : {M : Type 1} → statement M
+load-allocator-spec = tie.close (tie.spec read-allocator-requires returns)

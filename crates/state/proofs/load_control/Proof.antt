@@ -1,0 +1,21 @@
+use mathlib.Core.Path.{ap}
+use denote.Ref.{now}
+use Rattle.state.specs.Bytes.{gets, numbers}
+use Rattle.state.specs.Codec.{controlWidths, controlAs, controlOf}
+use Rattle.state.specs.State.{view, saved}
+use Rattle.state.proofs.Numbers.{each-eq}
+use borrow.Author.Needs.{needs}
+use Rattle.state.proofs.load_control.Statement.{statement}
+use Rattle.state.proofs.load_control.Tie as tie
+
+read-control-requires : tie.Need-read-control-requires
+read-control-requires c κs = search needs
+
+returns : tie.Need-returns
+unfolding view
+returns c =
+    let st = c .before in
+    ap controlOf (each-eq (controlAs (c .read-control .result)) (numbers controlWidths (gets (now (st .args .s)) 2293 0 9)) (c .read-control .ensures))
+
+pub load-control-spec : {M : Type 1} → statement M
+load-control-spec = tie.close (tie.spec read-control-requires returns)

@@ -1,0 +1,21 @@
+use mathlib.Core.Path.{ap}
+use denote.Ref.{now}
+use Rattle.state.specs.Bytes.{gets, numbers}
+use Rattle.state.specs.Codec.{globalsWidths, globalsAs, globalsOf}
+use Rattle.state.specs.State.{view, saved}
+use Rattle.state.proofs.Numbers.{each-eq}
+use borrow.Author.Needs.{needs}
+use Rattle.state.proofs.load_globals.Statement.{statement}
+use Rattle.state.proofs.load_globals.Tie as tie
+
+read-globals-requires : tie.Need-read-globals-requires
+read-globals-requires c κs = search needs
+
+returns : tie.Need-returns
+unfolding view
+returns c =
+    let st = c .before in
+    ap globalsOf (each-eq (globalsAs (c .read-globals .result)) (numbers globalsWidths (gets (now (st .args .s)) 2048 0 35)) (c .read-globals .ensures))
+
+pub load-globals-spec : {M : Type 1} → statement M
+load-globals-spec = tie.close (tie.spec read-globals-requires returns)

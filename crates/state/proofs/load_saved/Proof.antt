@@ -1,0 +1,21 @@
+use mathlib.Core.Path.{ap}
+use denote.Ref.{now}
+use Rattle.state.specs.Bytes.{gets, numbers}
+use Rattle.state.specs.Codec.{savedWidths, savedAs, savedOf}
+use Rattle.state.specs.State.{view, saved}
+use Rattle.state.proofs.Numbers.{each-eq}
+use borrow.Author.Needs.{needs}
+use Rattle.state.proofs.load_saved.Statement.{statement}
+use Rattle.state.proofs.load_saved.Tie as tie
+
+read-saved-requires : tie.Need-read-saved-requires
+read-saved-requires c κs = search needs
+
+returns : tie.Need-returns
+unfolding saved
+returns c =
+    let st = c .before in
+    ap savedOf (each-eq (savedAs (c .read-saved .result)) (numbers savedWidths (gets (now (st .args .s)) 2307 0 22)) (c .read-saved .ensures))
+
+pub load-saved-spec : {M : Type 1} → statement M
+load-saved-spec = tie.close (tie.spec read-saved-requires returns)

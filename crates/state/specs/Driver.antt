@@ -1,0 +1,181 @@
+-- What the state says of the driver: all but the suspended operation. Which record an endpoint has, and one record changed.
+use mathlib.Core.List.{List}
+use Prim.Native.Nat.{ℕ, _+_, _*_, _%_}
+use lib.ListN.{getD, set}
+use Rattle.regs.specs.declared.Dir.{Dir}
+use Rattle.regs.specs.declared.Dir.the-variants.{Out, In}
+use Rattle.state.specs.declared.EpState.{EpState}
+use Rattle.state.specs.declared.Allocator.{Allocator}
+use Rattle.state.specs.declared.Globals.{Globals}
+use Rattle.state.specs.declared.Wakes.{Wakes}
+use Rattle.state.specs.declared.Request.{Request}
+use Rattle.state.specs.declared.Control.{Control}
+
+-- `eps` and `requests`: OUT 0 to 15, then IN 0 to 15; `lens`: 16 for each of `eps`; `paced`: a last microframe for each endpoint
+pub record Driver : Type 0 where
+  pub eps : List EpState
+  pub lens : List ℕ
+  pub globals : Globals
+  pub allocator : Allocator
+  pub paced : List ℕ
+  pub requests : List Request
+  pub control : Control
+  pub wakes : Wakes
+
+-- an endpoint's place among 32
+unfoldable pub key : Dir → ℕ → ℕ
+key Out e = e % 16
+key In e = 16 + e % 16
+
+-- the place of slot i's length among 512
+unfoldable pub lenKey : Dir → ℕ → ℕ → ℕ
+lenKey dir e i = key dir e * 16 + i % 16
+
+-- what a list answers past its end
+abbrev pub noEp : EpState
+noEp = record {
+  ready = 0;
+  len = 0;
+  armed = 0;
+  iso = 0;
+  kind = 0;
+  base = 0;
+  stride = 0;
+  slots = 0;
+  head = 0;
+  tail = 0;
+  loaded = 0;
+  overruns = 0;
+  «last_frame» = 0;
+  «max_len» = 0;
+  «min_len» = 0;
+  «armed_slot» = 0;
+  tog = 0;
+  «open» = 0;
+}
+
+abbrev pub noRequest : Request
+noRequest = record { begun = 0; length = 0 }
+
+abbrev pub withEps : Driver → List EpState → Driver
+withEps d x = record {
+  eps = x;
+  lens = d .lens;
+  globals = d .globals;
+  allocator = d .allocator;
+  paced = d .paced;
+  requests = d .requests;
+  control = d .control;
+  wakes = d .wakes;
+}
+
+abbrev pub withLens : Driver → List ℕ → Driver
+withLens d x = record {
+  eps = d .eps;
+  lens = x;
+  globals = d .globals;
+  allocator = d .allocator;
+  paced = d .paced;
+  requests = d .requests;
+  control = d .control;
+  wakes = d .wakes;
+}
+
+abbrev pub withGlobals : Driver → Globals → Driver
+withGlobals d x = record {
+  eps = d .eps;
+  lens = d .lens;
+  globals = x;
+  allocator = d .allocator;
+  paced = d .paced;
+  requests = d .requests;
+  control = d .control;
+  wakes = d .wakes;
+}
+
+abbrev pub withAllocator : Driver → Allocator → Driver
+withAllocator d x = record {
+  eps = d .eps;
+  lens = d .lens;
+  globals = d .globals;
+  allocator = x;
+  paced = d .paced;
+  requests = d .requests;
+  control = d .control;
+  wakes = d .wakes;
+}
+
+abbrev pub withPaced : Driver → List ℕ → Driver
+withPaced d x = record {
+  eps = d .eps;
+  lens = d .lens;
+  globals = d .globals;
+  allocator = d .allocator;
+  paced = x;
+  requests = d .requests;
+  control = d .control;
+  wakes = d .wakes;
+}
+
+abbrev pub withRequests : Driver → List Request → Driver
+withRequests d x = record {
+  eps = d .eps;
+  lens = d .lens;
+  globals = d .globals;
+  allocator = d .allocator;
+  paced = d .paced;
+  requests = x;
+  control = d .control;
+  wakes = d .wakes;
+}
+
+abbrev pub withControl : Driver → Control → Driver
+withControl d x = record {
+  eps = d .eps;
+  lens = d .lens;
+  globals = d .globals;
+  allocator = d .allocator;
+  paced = d .paced;
+  requests = d .requests;
+  control = x;
+  wakes = d .wakes;
+}
+
+abbrev pub withWakes : Driver → Wakes → Driver
+withWakes d x = record {
+  eps = d .eps;
+  lens = d .lens;
+  globals = d .globals;
+  allocator = d .allocator;
+  paced = d .paced;
+  requests = d .requests;
+  control = d .control;
+  wakes = x;
+}
+
+-- the record of endpoint e, any number, in a direction
+unfoldable pub epOn : Driver → Dir → ℕ → EpState
+epOn d dir e = getD (d .eps) (key dir e) noEp
+
+unfoldable pub withOn : Driver → Dir → ℕ → EpState → Driver
+withOn d dir e r = withEps d (set (d .eps) (key dir e) r)
+
+-- the length of slot i, any number
+unfoldable pub lenOn : Driver → Dir → ℕ → ℕ → ℕ
+lenOn d dir e i = getD (d .lens) (lenKey dir e i) 0
+
+unfoldable pub withLenOn : Driver → Dir → ℕ → ℕ → ℕ → Driver
+withLenOn d dir e i v = withLens d (set (d .lens) (lenKey dir e i) v)
+
+unfoldable pub pacedOn : Driver → ℕ → ℕ
+pacedOn d e = getD (d .paced) (e % 16) 0
+
+unfoldable pub withPacedOn : Driver → ℕ → ℕ → Driver
+withPacedOn d e v = withPaced d (set (d .paced) (e % 16) v)
+
+-- the read of OUT e, the write of IN e
+unfoldable pub requestOn : Driver → Dir → ℕ → Request
+requestOn d dir e = getD (d .requests) (key dir e) noRequest
+
+unfoldable pub withRequestOn : Driver → Dir → ℕ → Request → Driver
+withRequestOn d dir e r = withRequests d (set (d .requests) (key dir e) r)

@@ -1,0 +1,62 @@
+-- The state's bytes: which part of them is which record of the driver.
+use mathlib.Core.List.{List, [], _∷_}
+use Prim.Native.Nat.{ℕ, zero, suc, _+_, _*_}
+use Rattle.state.specs.declared.EpState.{EpState}
+use Rattle.state.specs.declared.Allocator.{Allocator}
+use Rattle.state.specs.declared.Globals.{Globals}
+use Rattle.state.specs.declared.Wakes.{Wakes}
+use Rattle.state.specs.declared.Request.{Request}
+use Rattle.state.specs.declared.Control.{Control}
+use Rattle.state.specs.declared.Saved.{Saved}
+use Rattle.state.specs.Bytes.{gets, number, numbers}
+use Rattle.state.specs.Codec as codec
+use Rattle.state.specs.Driver.{Driver}
+
+-- f from i, n values
+abbrev pub tabFrom : {A : Type 0} → ℕ → ℕ → (ℕ → A) → List A
+tabFrom i zero f = []
+tabFrom i (suc n) f = f i ∷ tabFrom (i + 1) n f
+
+abbrev pub tab : {A : Type 0} → ℕ → (ℕ → A) → List A
+tab n f = tabFrom 0 n f
+
+-- n records of z bytes each, from o
+abbrev pub table : {A : Type 0} → List ℕ → ℕ → ℕ → ℕ → (List ℕ → A) → List A
+table xs o n z f = tab n (λ k. f (gets xs (o + k * z) 0 z))
+
+abbrev pub epIn : List ℕ → EpState
+epIn bs = codec.epOf (numbers codec.epWidths bs)
+
+abbrev pub allocatorIn : List ℕ → Allocator
+allocatorIn bs = codec.allocatorOf (numbers codec.allocatorWidths bs)
+
+abbrev pub globalsIn : List ℕ → Globals
+globalsIn bs = codec.globalsOf (numbers codec.globalsWidths bs)
+
+abbrev pub wakesIn : List ℕ → Wakes
+wakesIn bs = codec.wakesOf (numbers codec.wakesWidths bs)
+
+abbrev pub requestIn : List ℕ → Request
+requestIn bs = codec.requestOf (numbers codec.requestWidths bs)
+
+abbrev pub controlIn : List ℕ → Control
+controlIn bs = codec.controlOf (numbers codec.controlWidths bs)
+
+abbrev pub savedIn : List ℕ → Saved
+savedIn bs = codec.savedOf (numbers codec.savedWidths bs)
+
+unfoldable pub view : List ℕ → Driver
+view xs = record {
+  eps = table xs 0 32 32 epIn;
+  lens = table xs 1024 512 2 number;
+  globals = globalsIn (gets xs 2048 0 35);
+  allocator = allocatorIn (gets xs 2083 0 18);
+  paced = table xs 2101 16 2 number;
+  requests = table xs 2133 32 5 requestIn;
+  control = controlIn (gets xs 2293 0 9);
+  wakes = wakesIn (gets xs 2302 0 5);
+}
+
+-- the suspended operation
+unfoldable pub saved : List ℕ → Saved
+saved xs = savedIn (gets xs 2307 0 22)
