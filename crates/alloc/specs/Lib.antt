@@ -3,4 +3,7 @@ pub mod Number
 pub mod Outcome
 pub mod Run
 pub mod Sound
+pub mod Apart
+pub mod Rows
+pub mod OneByOne
 pub mod Buffer

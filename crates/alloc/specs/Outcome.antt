@@ -45,6 +45,14 @@ unfolding addTo
 added true w e j = set-with w e j
 added false w e j = refl
 
+pub stays : (here : Bool) (w e j : ℕ) → isSet w j ≡ true → inAdded here w e j ≡ true
+stays true w e j q = go (eqb e j) q
+  where
+    go : (t : Bool) → isSet w j ≡ true → if t true (isSet w j) ≡ true
+    go true q = refl
+    go false q = q
+stays false w e j q = q
+
 -- ---- what each answer says of the allocator a before and b after it
 
 -- the number e is 1 to 15, was not taken in this direction, nor by the other sort; it is taken, and every other number is as before

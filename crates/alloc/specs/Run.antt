@@ -31,7 +31,7 @@ called a (ep0 maximum) = allocateEp0Of a maximum
 
 -- what a call does: it is refused and changes nothing, is refused with 8 and keeps what it marked, or is given buffers
 pub data Step (a : Allocator) : Call → Allocation → Type 0 where
-  kept : (c : Call) (n : ℕ) → (n ≡ 8 → a .count ≤ a .next) → Step a c (refused n a)
+  kept : (c : Call) (n : ℕ) → 6 ≤ n → n ≤ 8 → (n ≡ 8 → a .count ≤ a .next) → Step a c (refused n a)
   out : (kind address maximum : ℕ) (dir : Dir) (e : ℕ) (b : Allocator) → RunsOut a (isIso kind) dir e b
       → Step a (endpoint kind address maximum dir) (refused 8 b)
   gave : (kind address maximum : ℕ) (dir : Dir) (e base n : ℕ) (b : Allocator) → maximum ≤ a .size → Gives a (isIso kind) dir e base n b
@@ -56,6 +56,11 @@ unfoldable pub regions : Allocator → List Call → List Region
 regions a [] = []
 regions a (c ∷ cs) = noted c (called a c .answer) (regions (called a c .after) cs)
 
+-- the allocator after them
+unfoldable pub calledAll : Allocator → List Call → Allocator
+calledAll a [] = a
+calledAll a (c ∷ cs) = calledAll (called a c .after) cs
+
 -- the first byte after a region
 abbrev pub end : ℕ → Region → ℕ
 end size r = r .base + r .slots * size
@@ -78,8 +83,8 @@ Disjoint size (r ∷ rs) = All (λ q. end size r ≤ q .base) rs × Disjoint siz
 
 numbered : (a : Allocator) (kind address maximum : ℕ) (dir : Dir) (r : Allocation) → Outcome a kind address maximum dir r
     → Step a (endpoint kind address maximum dir) r
-numbered a kind address maximum dir r (six l) = kept _ 6 (λ n. absurd (omega arith))
-numbered a kind address maximum dir r (seven m q) = kept _ 7 (λ n. absurd (omega arith))
+numbered a kind address maximum dir r (six l) = kept _ 6 (omega arith) (omega arith) (λ n. absurd (omega arith))
+numbered a kind address maximum dir r (seven m q) = kept _ 7 (omega arith) (omega arith) (λ n. absurd (omega arith))
 numbered a kind address maximum dir r (eight e b m q o) = out kind address maximum dir e b o
 numbered a kind address maximum dir r (given e base n b m q g) = gave kind address maximum dir e base n b m g
 
@@ -87,8 +92,8 @@ pub step : (a : Allocator) (c : Call) → Step a c (called a c)
 unfolding allocateEp0Of
 step a (endpoint kind address maximum dir) = numbered a kind address maximum dir _ (outcome a kind address maximum dir)
 step a (ep0 maximum) =
-    either (Step a (ep0 maximum)) (ltb (a .size) maximum) _ _ (λ t. kept (ep0 maximum) 6 (λ n. absurd (omega arith)))
-    (λ m. either (Step a (ep0 maximum)) (leb (a .count) (a .next)) _ _ (λ t. kept (ep0 maximum) 8 (λ n. leb-true _ _ t))
+    either (Step a (ep0 maximum)) (ltb (a .size) maximum) _ _ (λ t. kept (ep0 maximum) 6 (omega arith) (omega arith) (λ n. absurd (omega arith)))
+    (λ m. either (Step a (ep0 maximum)) (leb (a .count) (a .next)) _ _ (λ t. kept (ep0 maximum) 8 (omega arith) (omega arith) (λ n. leb-true _ _ t))
     (λ f. gave-ep0 maximum (ltb-false _ _ m) (leb-false _ _ f)))
 
 lower : (size from less to : ℕ) (rs : List Region) → less ≤ from → Stacked size from to rs → Stacked size less to rs
@@ -105,7 +110,7 @@ stacked-step : (a : Allocator) (c : Call) (r : Allocation) → Step a c r → a 
     → (r .after .next ≤ r .after .count → Stacked (r .after .size) (r .after .next * r .after .size) (r .after .count * r .after .size) rs)
     → Stacked (a .size) (a .next * a .size) (a .count * a .size) (noted c (r .answer) rs)
 unfolding withNext
-stacked-step a c r (kept d n k) h rs ih = ih h
+stacked-step a c r (kept d n lo hi k) h rs ih = ih h
 stacked-step a c r (out kind address maximum dir e b o) h rs ih =
     lower _ (a .count * a .size) _ _ rs (mul-le-mul-right (a .size) h)
     (same-stack _ _ _ _ _ _ rs (o .number .same-size) (cc) (cc) (ih (omega (arith, o .used-up, o .number .same-count))))
@@ -166,7 +171,7 @@ slots-some false dir = omega arith
 
 none-step : (a : Allocator) (c : Call) (r : Allocation) → Step a c r → a .count ≤ a .next → (rs : List Region)
     → (r .after .count ≤ r .after .next → rs ≡ []) → noted c (r .answer) rs ≡ []
-none-step a c r (kept d n k) h rs ih = ih h
+none-step a c r (kept d n lo hi k) h rs ih = ih h
 none-step a c r (out kind address maximum dir e b o) h rs ih = ih (omega (arith, o .used-up, o .number .same-count))
 none-step a c r (gave kind address maximum dir e base n b m g) h rs ih =
     absurd (omega (arith, g .fits, g .slots, slots-some (isIso kind) dir))
@@ -179,7 +184,7 @@ none a h [] = refl
 none a h (c ∷ cs) = none-step a c (called a c) (step a c) h _ (λ k. none (called a c .after) k cs)
 
 eight-step : (a : Allocator) (c : Call) (r : Allocation) → Step a c r → r .answer ≡ Refused 8 → r .after .count ≤ r .after .next
-eight-step a c r (kept d n k) q = let e : n ≡ 8 = cc in k e
+eight-step a c r (kept d n lo hi k) q = let e : n ≡ 8 = cc in k e
 eight-step a c r (out kind address maximum dir e b o) q = omega (arith, o .used-up, o .number .same-count)
 eight-step a c r (gave kind address maximum dir e base n b m g) q = let z : _≡_ {A = ℕ} 0 1 = cc in absurd (omega arith)
 eight-step a c r (gave-ep0 maximum m l) q = let z : _≡_ {A = ℕ} 0 1 = cc in absurd (omega arith)

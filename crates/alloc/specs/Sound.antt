@@ -4,7 +4,7 @@ use mathlib.Core.Path.{_≡_, refl, sym, ap, subst, _∙_}
 use mathlib.Core.Bool.{Bool, true, false, not, true≢false}
 use mathlib.Core.List.{List, [], _∷_}
 use Prim.Native.Nat.{ℕ, _+_, _*_, _≤_, _<_}
-use native.Mathlib.Nat.{zero-div}
+use native.Mathlib.Nat.{zero-div, le-trans}
 use native.Mathlib.Omega.{arith}
 use lib.Dec.{eqb, leb}
 use lib.Pow.{pow-pos}
@@ -16,8 +16,8 @@ use Rattle.regs.specs.declared.Dir.the-variants.{Out, In}
 use Rattle.alloc.specs.declared.Allocation.{Allocation}
 use Rattle.alloc.specs.Alloc.{if, fresh, takenIn, numsOf, allocatedIn, isIso, isOut, withNext}
 use Rattle.alloc.specs.Buffer.{goodSize, goodBuffer}
-use Rattle.alloc.specs.Outcome.{same, sameDir, inAdded, Takes, RunsOut, Gives}
-use Rattle.alloc.specs.Run.{Call, endpoint, ep0, called, Step, kept, out, gave, gave-ep0, step, Region, noted, regions, All, end, inside}
+use Rattle.alloc.specs.Outcome.{same, sameDir, inAdded, stays, Takes, RunsOut, Gives}
+use Rattle.alloc.specs.Run.{Call, endpoint, ep0, called, Step, kept, out, gave, gave-ep0, step, Region, noted, regions, calledAll, All, end, inside}
 
 pub record Sound (a : Allocator) : Type 0 where
   pub room : a .next ≤ a .count
@@ -58,14 +58,6 @@ sound-fresh size count q = record {
 
 -- ---- each call
 
-stays : (here : Bool) (w e j : ℕ) → isSet w j ≡ true → inAdded here w e j ≡ true
-stays true w e j q = go (eqb e j) q
-  where
-    go : (t : Bool) → isSet w j ≡ true → if t true (isSet w j) ≡ true
-    go true q = refl
-    go false q = q
-stays false w e j q = q
-
 module _ (a : Allocator) (iso : Bool) (dir : Dir) (e : ℕ) (b : Allocator) (t : Takes a iso dir e b) (s : Sound a) where
   zero-kept : (d : Dir) → isSet (takenIn b d) 0 ≡ false
   zero-kept d = t .takes d 0 ∙ go (sameDir dir d)
@@ -86,7 +78,7 @@ module _ (a : Allocator) (iso : Bool) (dir : Dir) (e : ℕ) (b : Allocator) (t :
 
 sound-step : (a : Allocator) (c : Call) (r : Allocation) → Step a c r → Sound a → Sound (r .after)
 unfolding withNext takenIn numsOf allocatedIn
-sound-step a c r (kept d n k) s = s
+sound-step a c r (kept d n lo hi k) s = s
 sound-step a c r (out kind address maximum dir e b o) s = record {
   room = omega (arith, o .used-up, o .number .same-count);
   small = rw (o .number .same-size, o .number .same-count) (s .small);
@@ -126,3 +118,18 @@ sound-step a c r (gave-ep0 maximum m l) s = record {
 -- every call, refused or not, keeps the allocator sound
 pub sound-call : (a : Allocator) (c : Call) → Sound a → Sound (called a c .after)
 sound-call a c s = sound-step a c (called a c) (step a c) s
+
+pub sound-calls : (a : Allocator) (cs : List Call) → Sound a → Sound (calledAll a cs)
+unfolding calledAll
+sound-calls a [] s = s
+sound-calls a (c ∷ cs) s = sound-calls (called a c .after) cs (sound-call a c s)
+
+-- every buffer given lies inside the slot buffer, and so below 65,536
+pub sound-inside : (a : Allocator) → Sound a → (cs : List Call)
+    → All (λ r. (end (a .size) r ≤ a .count * a .size) × (end (a .size) r ≤ 65536)) (regions a cs)
+sound-inside a s cs = go (regions a cs) (inside a (s .room) cs)
+  where
+    go : (rs : List Region) → All (λ r. (a .next * a .size ≤ r .base) × (end (a .size) r ≤ a .count * a .size)) rs
+        → All (λ r. (end (a .size) r ≤ a .count * a .size) × (end (a .size) r ≤ 65536)) rs
+    go [] h = tt
+    go (r ∷ rs) h = ((h .0 .1, le-trans (h .0 .1) (s .small)), go rs (h .1))

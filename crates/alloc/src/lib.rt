@@ -1,6 +1,6 @@
 ghost use mathlib.Core.Path.{_≡_};
 ghost use Prim.Native.Nat.{_<_};
-ghost use Rattle.alloc.specs.Alloc.{fresh, bufferedOf, numberedOf, allocateOf, allocateEp0Of, allocated};
+ghost use Rattle.alloc.specs.Alloc.{fresh, refused, bufferedOf, allocateOf, allocateEp0Of, allocated};
 use regs::Dir;
 use state::Allocator;
 use state::EpState;
@@ -43,6 +43,15 @@ pub fn new(size: u16, count: u16) -> Allocator
     }
 }
 
+fn refused(row: u8, a: Allocator) -> Allocation
+    ensures { λ r. ⌜ r ≡ refused row a ⌝ }
+{
+    Allocation {
+        answer: Answer::Refused(row),
+        after: a,
+    }
+}
+
 // The buffers of a number that is taken: row 8, or the endpoint is allocated.
 fn buffered(a: Allocator, iso: bool, dir: Dir, e: u8) -> Allocation
     requires { ⌜ e < 16 ⌝ }
@@ -52,10 +61,7 @@ fn buffered(a: Allocator, iso: bool, dir: Dir, e: u8) -> Allocation
     let end = (a.next as u32) + (n as u32);
     if (a.count as u32) < end {
         let after = masks::with_next(a, a.count);
-        return Allocation {
-            answer: Answer::Refused(8),
-            after,
-        };
+        return refused(8, after);
     }
     let base = (a.next as u32) * (a.size as u32);
     let used = masks::with_next(a, end as u16);
@@ -71,18 +77,12 @@ pub fn allocate(a: Allocator, kind: u8, address: u32, maximum: u32, dir: Dir) ->
     ensures { λ r. ⌜ r ≡ allocateOf a kind address maximum dir ⌝ }
 {
     if (a.size as u32) < maximum {
-        return Allocation {
-            answer: Answer::Refused(6),
-            after: a,
-        };
+        return refused(6, a);
     }
     let iso = number::is_iso(kind);
     let found = number::find(a, iso, address, dir);
     match found {
-        Found::Nothing => Allocation {
-            answer: Answer::Refused(7),
-            after: a,
-        },
+        Found::Nothing => refused(7, a),
         Found::Number(e) => {
             let t = masks::taken(a, iso, dir, e);
             buffered(t, iso, dir, e)
@@ -95,16 +95,10 @@ pub fn allocate_ep0(a: Allocator, maximum: u32) -> Allocation
     ensures { λ r. ⌜ r ≡ allocateEp0Of a maximum ⌝ }
 {
     if (a.size as u32) < maximum {
-        return Allocation {
-            answer: Answer::Refused(6),
-            after: a,
-        };
+        return refused(6, a);
     }
     if a.count <= a.next {
-        return Allocation {
-            answer: Answer::Refused(8),
-            after: a,
-        };
+        return refused(8, a);
     }
     let base = (a.next as u32) * (a.size as u32);
     let after = masks::with_next(a, a.next + 1);

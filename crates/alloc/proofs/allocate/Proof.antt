@@ -10,9 +10,12 @@ use Rattle.alloc.proofs.allocate.Tie as tie
 cast-if1 : tie.Need-cast-if1
 cast-if1 c = search needs
 
+refused-requires : tie.Need-refused-requires
+refused-requires c κs = search needs
+
 returns : tie.Need-returns
 unfolding allocateOf
-returns c = simp (lt-ltb _ _ (c .if1 .taken))
+returns c = simp (c .refused .ensures, lt-ltb _ _ (c .before .if1 .taken))
 
 is-iso-requires : tie.Need-is-iso-requires
 is-iso-requires c κs = search needs
@@ -22,6 +25,9 @@ find-requires c κs = search needs
 
 enum-told : tie.Need-enum-told
 enum-told c = search needs
+
+refused-requires-2 : tie.Need-refused-requires-2
+refused-requires-2 c κs = search needs
 
 enum-known-found : tie.Need-enum-known-found
 enum-known-found c = search needs
@@ -42,7 +48,7 @@ buffered-requires c κs =
 
 returns-2 : tie.Need-returns-2
 unfolding allocateOf numberedOf
-returns-2 c = simp (le-ltb _ _ (c .before .before .before .before .if1 .left), ← c .before .before .before .is-iso .ensures, ← c .before .before .find .ensures, c .enum-told .given .1)
+returns-2 c = simp (c .refused2 .ensures, le-ltb _ _ (c .before .before .before .before .before .if1 .left), ← c .before .before .before .before .is-iso .ensures, ← c .before .before .before .find .ensures, c .before .enum-told .given .1)
 
 returns-3 : tie.Need-returns-3
 unfolding allocateOf numberedOf
@@ -53,10 +59,12 @@ allocate-spec =
     tie.close
     (tie.spec
     cast-if1
+    refused-requires
     returns
     is-iso-requires
     find-requires
     enum-told
+    refused-requires-2
     enum-known-found
     taken-requires
     buffered-requires

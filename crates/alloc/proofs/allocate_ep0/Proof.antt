@@ -1,6 +1,6 @@
-use Rattle.alloc.proofs.Product.{below}
 use borrow.Author.Tests.{lt-ltb, le-ltb, le-leb, lt-leb}
 use Rattle.alloc.specs.Alloc.{allocateEp0Of}
+use Rattle.alloc.proofs.Product.{below}
 use borrow.Author.Needs.{needs}
 use Rattle.alloc.proofs.allocate_ep0.Statement.{statement}
 use Rattle.alloc.proofs.allocate_ep0.Tie as tie
@@ -8,13 +8,19 @@ use Rattle.alloc.proofs.allocate_ep0.Tie as tie
 cast-if1 : tie.Need-cast-if1
 cast-if1 c = search needs
 
+refused-requires : tie.Need-refused-requires
+refused-requires c κs = search needs
+
 returns : tie.Need-returns
 unfolding allocateEp0Of
-returns c = simp (lt-ltb _ _ (c .if1 .taken))
+returns c = simp (c .refused .ensures, lt-ltb _ _ (c .before .if1 .taken))
+
+refused-requires-2 : tie.Need-refused-requires-2
+refused-requires-2 c κs = search needs
 
 returns-2 : tie.Need-returns-2
 unfolding allocateEp0Of
-returns-2 c = simp (le-leb _ _ (c .if2 .taken), le-ltb _ _ (c .before .before .if1 .left))
+returns-2 c = simp (c .refused2 .ensures, le-leb _ _ (c .before .if2 .taken), le-ltb _ _ (c .before .before .before .if1 .left))
 
 cast-base : tie.Need-cast-base
 cast-base c = search needs
@@ -40,7 +46,9 @@ allocate-ep0-spec =
     tie.close
     (tie.spec
     cast-if1
+    refused-requires
     returns
+    refused-requires-2
     returns-2
     cast-base
     cast-base-2

@@ -1,6 +1,6 @@
-use Rattle.alloc.proofs.Product.{below}
 use borrow.Author.Tests.{lt-ltb, le-ltb}
 use Rattle.alloc.specs.Alloc.{bufferedOf}
+use Rattle.alloc.proofs.Product.{below}
 use borrow.Author.Needs.{needs}
 use Rattle.alloc.proofs.buffered.Statement.{statement}
 use Rattle.alloc.proofs.buffered.Tie as tie
@@ -23,9 +23,12 @@ cast-if1 c = search needs
 with-next-requires : tie.Need-with-next-requires
 with-next-requires c κs = search needs
 
+refused-requires : tie.Need-refused-requires
+refused-requires c κs = search needs
+
 returns : tie.Need-returns
 unfolding bufferedOf
-returns c = simp (c .with-next .ensures, lt-ltb _ _ (c .before .if1 .taken), ← c .before .before .before .before .slots .ensures)
+returns c = simp (c .refused .ensures, ← c .before .with-next .ensures, lt-ltb _ _ (c .before .before .if1 .taken), ← c .before .before .before .before .before .slots .ensures)
 
 cast-base : tie.Need-cast-base
 cast-base c = search needs
@@ -59,6 +62,7 @@ buffered-spec =
     add-end
     cast-if1
     with-next-requires
+    refused-requires
     returns
     cast-base
     cast-base-2
