@@ -10,7 +10,7 @@ use Rattle.state.specs.declared.Wakes.{Wakes}
 use Rattle.state.specs.declared.Allocator.{Allocator}
 use Rattle.script.specs.Cells.{globals-cell, wakes-cell, allocator-cell}
 use Rattle.script.specs.Script.{Script, ret, test, _>>=_, _>>_, get, put}
-use Rattle.script.specs.Statics.{none-woken}
+use Rattle.state.specs.Wakes.{none-woken}
 
 pub data Answer : Type 0 where
   Refused : ℕ → Answer  -- by the row of that number

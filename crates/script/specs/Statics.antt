@@ -11,6 +11,8 @@ use Rattle.regs.specs.declared.Dir.the-variants.{Out, In}
 use Rattle.regs.specs.Enables.{inEnabled, outEnabled}
 use Rattle.state.specs.declared.Globals.{Globals}
 use Rattle.state.specs.declared.Wakes.{Wakes}
+use Rattle.state.specs.Wakes.{woken, bus-woken}
+use Rattle.state.specs.Kept.{withIntEn, withEpType}
 use Rattle.script.specs.Cells.{Plain, globals-cell, wakes-cell, ep-cell, paced-cell}
 use Rattle.script.specs.Script.{Script, ret, done, test, _>>=_, _>>_, read, write, get, put, when}
 use Rattle.frame.specs.Advance.{NO_FRAME}
@@ -56,12 +58,6 @@ withPower v g = record { stage = g .stage; callback = g .callback; power = v; «
 abbrev pub withSetup : ℕ → ℕ → ℕ → Globals → Globals
 withSetup v lo hi g = record { stage = g .stage; callback = g .callback; power = g .power; «setup_ready» = v; «setup_low» = lo; «setup_high» = hi; «int_en» = g .«int_en»; «ep_config» = g .«ep_config»; «ep_type» = g .«ep_type»; «iso_out_eps» = g .«iso_out_eps»; «iso_in_every» = g .«iso_in_every»; «iso_in_paced» = g .«iso_in_paced»; «sof_frame» = g .«sof_frame»; «ep0_buf» = g .«ep0_buf»; «ep0_max» = g .«ep0_max» }
 
-abbrev pub withIntEn : ℕ → Globals → Globals
-withIntEn v g = record { stage = g .stage; callback = g .callback; power = g .power; «setup_ready» = g .«setup_ready»; «setup_low» = g .«setup_low»; «setup_high» = g .«setup_high»; «int_en» = v; «ep_config» = g .«ep_config»; «ep_type» = g .«ep_type»; «iso_out_eps» = g .«iso_out_eps»; «iso_in_every» = g .«iso_in_every»; «iso_in_paced» = g .«iso_in_paced»; «sof_frame» = g .«sof_frame»; «ep0_buf» = g .«ep0_buf»; «ep0_max» = g .«ep0_max» }
-
-abbrev pub withEpType : ℕ → Globals → Globals
-withEpType v g = record { stage = g .stage; callback = g .callback; power = g .power; «setup_ready» = g .«setup_ready»; «setup_low» = g .«setup_low»; «setup_high» = g .«setup_high»; «int_en» = g .«int_en»; «ep_config» = g .«ep_config»; «ep_type» = v; «iso_out_eps» = g .«iso_out_eps»; «iso_in_every» = g .«iso_in_every»; «iso_in_paced» = g .«iso_in_paced»; «sof_frame» = g .«sof_frame»; «ep0_buf» = g .«ep0_buf»; «ep0_max» = g .«ep0_max» }
-
 abbrev pub withPaced : ℕ → Globals → Globals
 withPaced v g = record { stage = g .stage; callback = g .callback; power = g .power; «setup_ready» = g .«setup_ready»; «setup_low» = g .«setup_low»; «setup_high» = g .«setup_high»; «int_en» = g .«int_en»; «ep_config» = g .«ep_config»; «ep_type» = g .«ep_type»; «iso_out_eps» = g .«iso_out_eps»; «iso_in_every» = g .«iso_in_every»; «iso_in_paced» = v; «sof_frame» = g .«sof_frame»; «ep0_buf» = g .«ep0_buf»; «ep0_max» = g .«ep0_max» }
 
@@ -70,19 +66,9 @@ withSofFrame v g = record { stage = g .stage; callback = g .callback; power = g 
 
 -- ---- wake-ups
 
-abbrev pub none-woken : Wakes
-none-woken = record { outs = 0; ins = 0; bus = 0 }
-
-unfoldable pub woken : Dir → ℕ → Wakes → Wakes
-woken Out e w = record { outs = withBit (w .outs) (e % 16) true; ins = w .ins; bus = w .bus }
-woken In e w = record { outs = w .outs; ins = withBit (w .ins) (e % 16) true; bus = w .bus }
-
 -- OUT 0 to 15, then IN 0 to 15
 unfoldable pub all-woken : Wakes → Wakes
 all-woken w = record { outs = 65535; ins = 65535; bus = w .bus }
-
-unfoldable pub bus-woken : Wakes → Wakes
-bus-woken w = record { outs = w .outs; ins = w .ins; bus = 1 }
 
 -- ---- assignments
 

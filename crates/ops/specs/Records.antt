@@ -1,0 +1,156 @@
+-- The driver's records as a script sees and assigns them
+use mathlib.Core.Bool.{Bool, true, false, not, cond, _&&_}
+use Prim.Native.Nat.{ℕ, zero, suc, _+_, _*_, _%_}
+use lib.Dec.{eqb, ltb}
+use Rattle.bits.specs.Bit.{isSet, withBit}
+use Rattle.regs.specs.declared.Dir.{Dir}
+use Rattle.regs.specs.declared.Dir.the-variants.{Out, In}
+use Rattle.regs.specs.Enables as enables
+use Rattle.state.specs.declared.EpState.{EpState}
+use Rattle.state.specs.declared.Globals.{Globals}
+use Rattle.state.specs.Driver.{Driver, epOn, withOn, withGlobals, withAllocator}
+use Rattle.state.specs.Kept.{withEpConfig}
+use Rattle.alloc.specs.declared.Answer.{Answer}
+use Rattle.alloc.specs.declared.Answer.the-variants.{Refused, Given}
+use Rattle.alloc.specs.Alloc.{allocateOf, allocateEp0Of, allocated, isIso}
+use Rattle.script.specs.Cells.{Plain}
+use Rattle.script.specs.Statics.{isOn}
+
+-- all but the ring
+abbrev pub plainOf : EpState → Plain
+plainOf r = record {
+  ready = r .ready;
+  len = r .len;
+  armed = r .armed;
+  «last_frame» = r .«last_frame»;
+  tog = r .tog;
+  iso = r .iso;
+  kind = r .kind;
+  base = r .base;
+  «max_len» = r .«max_len»;
+}
+
+-- `ready`, `len`, `armed`, `last_frame` and `tog` are assigned
+abbrev pub merged : EpState → Plain → EpState
+merged r p = record {
+  ready = p .ready;
+  len = p .len;
+  armed = p .armed;
+  iso = r .iso;
+  kind = r .kind;
+  base = r .base;
+  stride = r .stride;
+  slots = r .slots;
+  head = r .head;
+  tail = r .tail;
+  loaded = r .loaded;
+  overruns = r .overruns;
+  «last_frame» = p .«last_frame»;
+  «max_len» = r .«max_len»;
+  «min_len» = r .«min_len»;
+  «armed_slot» = r .«armed_slot»;
+  tog = p .tog;
+  «open» = r .«open»;
+}
+
+-- of the globals what neither an allocation, nor enabling, nor start-up sets
+abbrev pub mergedGlobals : Globals → Globals → Globals
+mergedGlobals g v = record {
+  stage = g .stage;
+  callback = g .callback;
+  power = v .power;
+  «setup_ready» = v .«setup_ready»;
+  «setup_low» = v .«setup_low»;
+  «setup_high» = v .«setup_high»;
+  «int_en» = v .«int_en»;
+  «ep_config» = g .«ep_config»;
+  «ep_type» = v .«ep_type»;
+  «iso_out_eps» = g .«iso_out_eps»;
+  «iso_in_every» = g .«iso_in_every»;
+  «iso_in_paced» = v .«iso_in_paced»;
+  «sof_frame» = v .«sof_frame»;
+  «ep0_buf» = g .«ep0_buf»;
+  «ep0_max» = g .«ep0_max»;
+}
+
+-- an isochronous OUT, whose ring is reset and whose enable bit is set in a row
+unfoldable pub isoOut : Driver → Dir → ℕ → Bool
+isoOut d Out e = isOn (epOn d Out e .iso)
+isoOut d In e = false
+
+-- the kept ep_config bit
+unfoldable pub configured : Driver → Dir → ℕ → Bool → Driver
+configured d dir e on = withGlobals d (withEpConfig (enables.withOn (d .globals .«ep_config») dir e on) (d .globals))
+
+unfoldable pub enabledOn : Driver → Dir → ℕ → Bool → Driver
+enabledOn d dir e on = cond (isoOut d dir e) d (configured d dir e on)
+
+-- ---- allocation
+
+-- iso_out_eps and iso_in_every (mod.rs 1014-1027)
+unfoldable pub withSets : Dir → ℕ → ℕ → ℕ → Globals → Globals
+withSets dir kind interval e g = record {
+  stage = g .stage;
+  callback = g .callback;
+  power = g .power;
+  «setup_ready» = g .«setup_ready»;
+  «setup_low» = g .«setup_low»;
+  «setup_high» = g .«setup_high»;
+  «int_en» = g .«int_en»;
+  «ep_config» = g .«ep_config»;
+  «ep_type» = g .«ep_type»;
+  «iso_out_eps» = outSet dir (g .«iso_out_eps»);
+  «iso_in_every» = inSet dir (g .«iso_in_every»);
+  «iso_in_paced» = g .«iso_in_paced»;
+  «sof_frame» = g .«sof_frame»;
+  «ep0_buf» = g .«ep0_buf»;
+  «ep0_max» = g .«ep0_max»;
+}
+  where
+    outSet : Dir → ℕ → ℕ
+    outSet Out m = cond (isIso kind) (withBit m (e % 16) true) m
+    outSet In m = m
+
+    inSet : Dir → ℕ → ℕ
+    inSet Out m = m
+    inSet In m = cond (isIso kind && ltb interval 2) (withBit m (e % 16) true) m
+
+unfoldable pub givenTo : Dir → ℕ → ℕ → ℕ → Answer → Driver → Driver
+givenTo dir kind maximum interval (Refused n) d = d
+givenTo dir kind maximum interval (Given e base slots) d =
+    withGlobals (withOn d dir e (allocated (epOn d dir e) kind maximum base (d .allocator .size) slots))
+    (withSets dir kind interval e (d .globals))
+
+unfoldable pub allocatedOn : Driver → Dir → ℕ → ℕ → ℕ → ℕ → Driver
+allocatedOn d dir kind address maximum interval =
+    let z = allocateOf (d .allocator) kind address maximum dir in
+    givenTo dir kind maximum interval (z .answer) (withAllocator d (z .after))
+
+-- EP0's buffer and maximum; the stage after its start, and no power event yet
+abbrev pub withEp0 : ℕ → ℕ → Globals → Globals
+withEp0 base maximum g = record {
+  stage = 2;
+  callback = g .callback;
+  power = 0;
+  «setup_ready» = g .«setup_ready»;
+  «setup_low» = g .«setup_low»;
+  «setup_high» = g .«setup_high»;
+  «int_en» = g .«int_en»;
+  «ep_config» = g .«ep_config»;
+  «ep_type» = g .«ep_type»;
+  «iso_out_eps» = g .«iso_out_eps»;
+  «iso_in_every» = g .«iso_in_every»;
+  «iso_in_paced» = g .«iso_in_paced»;
+  «sof_frame» = g .«sof_frame»;
+  «ep0_buf» = base;
+  «ep0_max» = maximum;
+}
+
+unfoldable pub startedWith : ℕ → Answer → Driver → Driver
+startedWith maximum (Refused n) d = d
+startedWith maximum (Given e base slots) d = withGlobals d (withEp0 base maximum (d .globals))
+
+unfoldable pub allocatedEp0 : Driver → ℕ → Driver
+allocatedEp0 d maximum =
+    let z = allocateEp0Of (d .allocator) maximum in
+    startedWith maximum (z .answer) (withAllocator d (z .after))
