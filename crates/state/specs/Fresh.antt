@@ -1,0 +1,89 @@
+-- The state that start-up makes, and the lengths of an OUT ring made one
+use mathlib.Core.List.{List}
+use Prim.Native.Nat.{ℕ, zero, suc, _+_, _*_, _%_}
+use lib.ListN.{set, replicate}
+use Rattle.state.specs.declared.Allocator.{Allocator}
+use Rattle.state.specs.declared.Globals.{Globals}
+use Rattle.state.specs.declared.Control.{Control}
+use Rattle.state.specs.declared.Saved.{Saved}
+use Rattle.state.specs.Ep.{newEp}
+use Rattle.state.specs.Wakes.{none-woken}
+use Rattle.state.specs.Driver.{Driver, noRequest, withLens}
+
+-- v at each of the n places from a
+unfoldable pub filled : {A : Type 0} → List A → ℕ → ℕ → A → List A
+filled l a zero v = l
+filled l a (suc n) v = set (filled l a n v) (a + n) v
+
+-- all 16 lengths of OUT e
+unfoldable pub fillLens : Driver → ℕ → ℕ → Driver
+fillLens d e v = withLens d (filled (d .lens) (e % 16 * 16) 16 v)
+
+abbrev pub noControl : Control
+noControl = record { sort = 0; length = 0; last = 0; wait = 0; «sets_address» = 0; address = 0 }
+
+-- nothing is under way
+abbrev pub nothing : Saved
+nothing = record {
+  tag = 0;
+  sub = 0;
+  site = 0;
+  flag = 0;
+  busy = 0;
+  late = 0;
+  «len_ok» = 0;
+  st = 0;
+  now = 0;
+  ep = 0;
+  len = 0;
+  frame = 0;
+  eps = 0;
+  n = 0;
+  value = 0;
+}
+
+-- stage 1: started up, before EP0's start
+abbrev pub freshGlobals : ℕ → Globals
+freshGlobals callback = record {
+  stage = 1;
+  callback = callback;
+  power = 0;
+  «setup_ready» = 0;
+  «setup_low» = 0;
+  «setup_high» = 0;
+  «int_en» = 0;
+  «ep_config» = 0;
+  «ep_type» = 0;
+  «iso_out_eps» = 0;
+  «iso_in_every» = 0;
+  «iso_in_paced» = 0;
+  «sof_frame» = 0x1800;
+  «ep0_buf» = 0;
+  «ep0_max» = 0;
+}
+
+abbrev pub freshAllocator : ℕ → ℕ → Allocator
+freshAllocator size count = record {
+  size = size;
+  count = count;
+  next = 0;
+  «taken_out» = 0;
+  «taken_in» = 0;
+  «iso_nums» = 0;
+  «other_nums» = 0;
+  «allocated_out» = 0;
+  «allocated_in» = 0;
+}
+
+-- as the Rust's statics at power-on, with the buffers' size and count and the callback
+unfoldable pub freshDriver : ℕ → ℕ → ℕ → Driver
+freshDriver size count callback = record {
+  eps = replicate 32 newEp;
+  lens = replicate 512 0;
+  globals = freshGlobals callback;
+  allocator = freshAllocator size count;
+  paced = replicate 16 0x1800;
+  requests = replicate 32 noRequest;
+  control = noControl;
+  wakes = none-woken;
+}
