@@ -1,5 +1,3 @@
 mod Fields
-mod Runs
-mod Numbers
-mod Tables
 mod Views
+mod Filling

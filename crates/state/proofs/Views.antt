@@ -13,13 +13,13 @@ use Rattle.state.specs.declared.Wakes.{Wakes}
 use Rattle.state.specs.declared.Request.{Request}
 use Rattle.state.specs.declared.Control.{Control}
 use Rattle.state.specs.declared.Saved.{Saved}
-use Rattle.state.specs.Bytes.{gets, puts, number, digits, numbers, bytes, Each}
+use Rattle.fields.specs.Bytes.{gets, puts, number, digits, numbers, bytes, Each}
 use Rattle.state.specs.Codec.{epWidths, epAs, epOf, allocatorWidths, allocatorAs, allocatorOf, globalsWidths, globalsAs, globalsOf, wakesWidths, wakesAs, wakesOf, requestWidths, requestAs, requestOf, controlWidths, controlAs, controlOf, savedWidths, savedAs, savedOf}
 use Rattle.state.specs.Driver.{Driver, key, lenKey, noEp, noRequest, withEps, withLens, withPaced, withRequests, withGlobals, withAllocator, withControl, withWakes, epOn, withOn, lenOn, withLenOn, pacedOn, withPacedOn, requestOn, withRequestOn}
-use Rattle.state.specs.State.{table, epIn, allocatorIn, globalsIn, wakesIn, requestIn, controlIn, savedIn, view, saved}
-use Rattle.state.proofs.Runs.{Same, puts-same, gets-same, gets-puts}
-use Rattle.state.proofs.Numbers.{number-digits, numbers-bytes, each-eq}
-use Rattle.state.proofs.Tables.{table-same, table-set, table-at}
+use Rattle.state.specs.State.{epIn, allocatorIn, globalsIn, wakesIn, requestIn, controlIn, savedIn, view, saved}
+use Rattle.fields.specs.Runs.{Same, puts-same, gets-same, gets-puts}
+use Rattle.fields.specs.Numbers.{number-digits, numbers-bytes, each-eq}
+use Rattle.fields.specs.Tables.{table, table-same, table-set, table-at}
 
 -- each part of the view, after bytes were stored elsewhere
 module _ (xs : List ℕ) (o : ℕ) (bs : List ℕ) where
@@ -72,7 +72,7 @@ back : {A : Type 0} (f : List ℕ → A) (xs : List ℕ) (o : ℕ) (bs : List �
 back f xs o bs r h p = ap f (gets-puts xs o bs h) ∙ p
 
 module _ (xs : List ℕ) (sized : length xs ≡ 2329) where
-  view-eps : (k : ℕ) (r : EpState) → k < 32 → view (puts xs (0 + k * 32) 0 (bytes epWidths (epAs r))) ≡ withEps (view xs) (set (view xs .eps) k r)
+  pub view-eps : (k : ℕ) (r : EpState) → k < 32 → view (puts xs (0 + k * 32) 0 (bytes epWidths (epAs r))) ≡ withEps (view xs) (set (view xs .eps) k r)
   unfolding view
   view-eps k r l =
       let o = 0 + k * 32 in
@@ -88,7 +88,7 @@ module _ (xs : List ℕ) (sized : length xs ≡ 2329) where
         wakes = wakes-off xs o bs (inr (omega arith)) i;
       }
 
-  view-lens : (k v : ℕ) → k < 512 → view (puts xs (1024 + k * 2) 0 (digits 2 v)) ≡ withLens (view xs) (set (view xs .lens) k v)
+  pub view-lens : (k v : ℕ) → k < 512 → view (puts xs (1024 + k * 2) 0 (digits 2 v)) ≡ withLens (view xs) (set (view xs .lens) k v)
   unfolding view
   view-lens k v l =
       let o = 1024 + k * 2 in
@@ -136,7 +136,7 @@ module _ (xs : List ℕ) (sized : length xs ≡ 2329) where
         wakes = wakes-off xs o bs (inr (omega arith)) i;
       }
 
-  view-paceds : (k v : ℕ) → k < 16 → view (puts xs (2101 + k * 2) 0 (digits 2 v)) ≡ withPaced (view xs) (set (view xs .paced) k v)
+  pub view-paceds : (k v : ℕ) → k < 16 → view (puts xs (2101 + k * 2) 0 (digits 2 v)) ≡ withPaced (view xs) (set (view xs .paced) k v)
   unfolding view
   view-paceds k v l =
       let o = 2101 + k * 2 in
@@ -152,7 +152,7 @@ module _ (xs : List ℕ) (sized : length xs ≡ 2329) where
         wakes = wakes-off xs o bs (inr (omega arith)) i;
       }
 
-  view-requests : (k : ℕ) (r : Request) → k < 32 → view (puts xs (2133 + k * 5) 0 (bytes requestWidths (requestAs r))) ≡ withRequests (view xs) (set (view xs .requests) k r)
+  pub view-requests : (k : ℕ) (r : Request) → k < 32 → view (puts xs (2133 + k * 5) 0 (bytes requestWidths (requestAs r))) ≡ withRequests (view xs) (set (view xs .requests) k r)
   unfolding view
   view-requests k r l =
       let o = 2133 + k * 5 in

@@ -10,7 +10,7 @@ use Rattle.state.specs.declared.Wakes.{Wakes}
 use Rattle.state.specs.declared.Request.{Request}
 use Rattle.state.specs.declared.Control.{Control}
 use Rattle.state.specs.declared.Saved.{Saved}
-use Rattle.state.specs.Bytes.{numbers, bytes}
+use Rattle.fields.specs.Bytes.{numbers, bytes}
 
 abbrev pub epWidths : List ℕ
 epWidths = 1 ∷ 1 ∷ 1 ∷ 1 ∷ 1 ∷ 1 ∷ 1 ∷ 1 ∷ 1 ∷ 1 ∷ 2 ∷ 2 ∷ 2 ∷ 2 ∷ 2 ∷ 4 ∷ 4 ∷ 4 ∷ []

@@ -1,4 +1,3 @@
-pub mod Bytes
 pub mod Codec
 pub mod Ep
 pub mod Driver

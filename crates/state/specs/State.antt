@@ -1,6 +1,6 @@
 -- The state's bytes: which part of them is which record of the driver.
-use mathlib.Core.List.{List, [], _∷_}
-use Prim.Native.Nat.{ℕ, zero, suc, _+_, _*_}
+use mathlib.Core.List.{List}
+use Prim.Native.Nat.{ℕ}
 use Rattle.state.specs.declared.EpState.{EpState}
 use Rattle.state.specs.declared.Allocator.{Allocator}
 use Rattle.state.specs.declared.Globals.{Globals}
@@ -8,21 +8,10 @@ use Rattle.state.specs.declared.Wakes.{Wakes}
 use Rattle.state.specs.declared.Request.{Request}
 use Rattle.state.specs.declared.Control.{Control}
 use Rattle.state.specs.declared.Saved.{Saved}
-use Rattle.state.specs.Bytes.{gets, number, numbers}
+use Rattle.fields.specs.Bytes.{gets, number, numbers}
+use Rattle.fields.specs.Tables.{table}
 use Rattle.state.specs.Codec as codec
 use Rattle.state.specs.Driver.{Driver}
-
--- f from i, n values
-abbrev pub tabFrom : {A : Type 0} → ℕ → ℕ → (ℕ → A) → List A
-tabFrom i zero f = []
-tabFrom i (suc n) f = f i ∷ tabFrom (i + 1) n f
-
-abbrev pub tab : {A : Type 0} → ℕ → (ℕ → A) → List A
-tab n f = tabFrom 0 n f
-
--- n records of z bytes each, from o
-abbrev pub table : {A : Type 0} → List ℕ → ℕ → ℕ → ℕ → (List ℕ → A) → List A
-table xs o n z f = tab n (λ k. f (gets xs (o + k * z) 0 z))
 
 abbrev pub epIn : List ℕ → EpState
 epIn bs = codec.epOf (numbers codec.epWidths bs)

@@ -1,5 +1,5 @@
 // The driver's one state, in lent bytes. Only this crate sees bytes: others load and store records by value, and their contracts speak
-// of `view` and `saved`. Any bytes are a state.
+// of `view` and `saved`. Any bytes are a state; all 0 is before the first start-up.
 use codec::read_allocator;
 use codec::read_control;
 use codec::read_ep;
@@ -14,21 +14,30 @@ use codec::write_globals;
 use codec::write_request;
 use codec::write_saved;
 use codec::write_wakes;
+use fields::get16;
+use fields::put16;
 use regs::Dir;
-use words::get16;
-use words::put16;
 
 mod codec;
-mod words;
+mod kept;
+mod start_up;
+mod wake;
 
+pub use fields::STATE_LEN;
+pub use kept::set_ep_config;
+pub use kept::set_ep_type;
+pub use kept::set_int_en;
+pub use start_up::fill_lens;
+pub use start_up::fresh;
+pub use wake::clear_wakes;
+pub use wake::wake_bus;
+pub use wake::wake_in;
+pub use wake::wake_out;
 ghost use mathlib.Core.Path.{_≡_};
 ghost use Prim.Native.Nat.{_<_};
 ghost use Rattle.state.specs.Driver.{key, lenKey, epOn, withOn, lenOn, withLenOn, pacedOn, withPacedOn, requestOn, withRequestOn, withGlobals, withAllocator, withControl, withWakes};
 ghost use Rattle.state.specs.Ep.{newEp, resetOf, countOf};
 ghost use Rattle.state.specs.State.{view, saved};
-
-// The state's length. All bytes 0: before the first start-up.
-pub const STATE_LEN: usize = 2329;
 
 // Where each part starts.
 const EPS: usize = 0;

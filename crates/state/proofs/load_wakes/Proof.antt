@@ -1,9 +1,9 @@
 use mathlib.Core.Path.{ap}
 use denote.Ref.{now}
-use Rattle.state.specs.Bytes.{gets, numbers}
+use Rattle.fields.specs.Bytes.{gets, numbers}
 use Rattle.state.specs.Codec.{wakesWidths, wakesAs, wakesOf}
 use Rattle.state.specs.State.{view, saved}
-use Rattle.state.proofs.Numbers.{each-eq}
+use Rattle.fields.specs.Numbers.{each-eq}
 use borrow.Author.Needs.{needs}
 use Rattle.state.proofs.load_wakes.Statement.{statement}
 use Rattle.state.proofs.load_wakes.Tie as tie

@@ -5,7 +5,7 @@ use Prim.Native.Nat.{ℕ, zero, suc, _+_, _*_, _/_, _%_, _≤_, _<_}
 use native.Mathlib.Omega.{arith}
 use lib.ListN.{length, take, drop}
 use lib.Seq.{take-at, drop-at}
-use Rattle.state.specs.Bytes.{number, digits, numbers, bytes, Each}
+use Rattle.fields.specs.Bytes.{number, digits, numbers, bytes, Each}
 
 -- as many numbers as widths, and no width is 0
 abbrev pub Fit : List ℕ → List ℕ → Type 0

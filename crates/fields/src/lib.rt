@@ -1,9 +1,11 @@
 // Numbers in the state's bytes, low byte first: one at o + k, or five of a width in a row.
-use crate::STATE_LEN;
 ghost use mathlib.Core.Path.{_≡_};
 ghost use mathlib.Core.List.{[], _∷_};
 ghost use Prim.Native.Nat.{_+_, _*_, _≤_};
-ghost use Rattle.state.specs.Bytes.{gets, puts, field, digits, numbers, bytes, bytes5, words5, Each};
+ghost use Rattle.fields.specs.Bytes.{gets, puts, field, digits, numbers, bytes, bytes5, words5, Each};
+
+// The length of the driver's state.
+pub const STATE_LEN: usize = 2329;
 
 pub struct Bytes5(pub u8, pub u8, pub u8, pub u8, pub u8);
 

@@ -6,7 +6,7 @@ use Prim.Native.Nat.{ℕ, zero, suc, _+_, _*_, _≤_, _<_}
 use native.Mathlib.Omega.{arith}
 use lib.ListN.{length, getD, set, length-set}
 use lib.Seq.{getD-set-same, getD-set-other}
-use Rattle.state.specs.Bytes.{getsFrom, gets, putsFrom, puts}
+use Rattle.fields.specs.Bytes.{getsFrom, gets, putsFrom, puts}
 
 -- ys has xs's bytes from p up to q
 abbrev pub Same : List ℕ → List ℕ → ℕ → ℕ → Type 0

@@ -1,4 +1,4 @@
--- A table of records: one stored, all others as they were; a table of bytes that did not change. Assumes nothing.
+-- A table of records in a list of bytes. Laws: one is stored and all others are as they were; bytes that did not change. Assumes nothing.
 use mathlib.Core.Path.{_≡_, refl, sym, ap, subst, _∙_}
 use mathlib.Core.Logic.{_≢_, _⊎_, inl, inr, ⊎-elim}
 use mathlib.Core.List.{List, [], _∷_}
@@ -6,9 +6,20 @@ use Prim.Native.Nat.{ℕ, zero, suc, _+_, _*_, _≤_, _<_}
 use native.Mathlib.Omega.{arith}
 use native.Mathlib.Nat.{add-zero, mul-le-mul-right, suc-mul}
 use lib.ListN.{length, getD, set}
-use Rattle.state.specs.Bytes.{gets, puts}
-use Rattle.state.specs.State.{tabFrom, tab, table}
-use Rattle.state.proofs.Runs.{Same, puts-same, gets-same, gets-puts}
+use Rattle.fields.specs.Bytes.{gets, puts}
+use Rattle.fields.specs.Runs.{Same, puts-same, gets-same, gets-puts}
+
+-- f from i, n values
+abbrev pub tabFrom : {A : Type 0} → ℕ → ℕ → (ℕ → A) → List A
+tabFrom i zero f = []
+tabFrom i (suc n) f = f i ∷ tabFrom (i + 1) n f
+
+abbrev pub tab : {A : Type 0} → ℕ → (ℕ → A) → List A
+tab n f = tabFrom 0 n f
+
+-- n records of z bytes each, from o
+abbrev pub table : {A : Type 0} → List ℕ → ℕ → ℕ → ℕ → (List ℕ → A) → List A
+table xs o n z f = tab n (λ k. f (gets xs (o + k * z) 0 z))
 
 module _ {A : Type 0} (f g : ℕ → A) where
   tab-extFrom : (i n : ℕ) → ((j : ℕ) → i ≤ j → j < i + n → g j ≡ f j) → tabFrom i n g ≡ tabFrom i n f

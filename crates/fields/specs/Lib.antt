@@ -1,0 +1,4 @@
+pub mod Bytes
+pub mod Runs
+pub mod Numbers
+pub mod Tables

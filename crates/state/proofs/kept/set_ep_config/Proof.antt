@@ -1,0 +1,15 @@
+use borrow.Author.Needs.{needs}
+use Rattle.state.proofs.kept.set_ep_config.Statement.{statement}
+use Rattle.state.proofs.kept.set_ep_config.Tie as tie
+
+load-globals-requires : tie.Need-load-globals-requires
+load-globals-requires c κs = search needs
+
+store-globals-requires : tie.Need-store-globals-requires
+store-globals-requires c κs = search needs
+
+returns : tie.Need-returns
+returns c = (simp (c .store-globals .ensures .0, c .before .before .load-globals .ensures), c .store-globals .ensures .1)
+
+pub set-ep-config-spec : {M : Type 1} → statement M
+set-ep-config-spec = tie.close (tie.spec load-globals-requires store-globals-requires returns)

@@ -1,0 +1,72 @@
+// Each wake-up goes through one of these.
+use crate::STATE_LEN;
+use crate::Wakes;
+use crate::load_wakes;
+use crate::store_wakes;
+use bits::mask_with;
+ghost use mathlib.Core.Path.{_≡_};
+ghost use Rattle.regs.specs.declared.Dir.the-variants.{Out, In};
+ghost use Rattle.state.specs.Driver.{withWakes};
+ghost use Rattle.state.specs.State.{view, saved};
+ghost use Rattle.state.specs.Wakes.{woken, bus-woken, none-woken};
+
+pub fn wake_out(s: &mut [u8; STATE_LEN], e: u8)
+    ensures { λ _. ⌜ view (now (s .exit)) ≡ withWakes (view (now (s .entry))) (woken Out e (view (now (s .entry)) .wakes)) ⌝ }
+    ensures { λ _. ⌜ saved (now (s .exit)) ≡ saved (now (s .entry)) ⌝ }
+{
+    let w = load_wakes(s);
+    let outs = mask_with(w.outs, e, true);
+    store_wakes(
+        s,
+        Wakes {
+            outs: outs,
+            ins: w.ins,
+            bus: w.bus,
+        },
+    );
+}
+
+pub fn wake_in(s: &mut [u8; STATE_LEN], e: u8)
+    ensures { λ _. ⌜ view (now (s .exit)) ≡ withWakes (view (now (s .entry))) (woken In e (view (now (s .entry)) .wakes)) ⌝ }
+    ensures { λ _. ⌜ saved (now (s .exit)) ≡ saved (now (s .entry)) ⌝ }
+{
+    let w = load_wakes(s);
+    let ins = mask_with(w.ins, e, true);
+    store_wakes(
+        s,
+        Wakes {
+            outs: w.outs,
+            ins: ins,
+            bus: w.bus,
+        },
+    );
+}
+
+pub fn wake_bus(s: &mut [u8; STATE_LEN])
+    ensures { λ _. ⌜ view (now (s .exit)) ≡ withWakes (view (now (s .entry))) (bus-woken (view (now (s .entry)) .wakes)) ⌝ }
+    ensures { λ _. ⌜ saved (now (s .exit)) ≡ saved (now (s .entry)) ⌝ }
+{
+    let w = load_wakes(s);
+    store_wakes(
+        s,
+        Wakes {
+            outs: w.outs,
+            ins: w.ins,
+            bus: 1,
+        },
+    );
+}
+
+pub fn clear_wakes(s: &mut [u8; STATE_LEN])
+    ensures { λ _. ⌜ view (now (s .exit)) ≡ withWakes (view (now (s .entry))) none-woken ⌝ }
+    ensures { λ _. ⌜ saved (now (s .exit)) ≡ saved (now (s .entry)) ⌝ }
+{
+    store_wakes(
+        s,
+        Wakes {
+            outs: 0,
+            ins: 0,
+            bus: 0,
+        },
+    );
+}
