@@ -5,11 +5,11 @@ use Prim.Native.Nat.{ℕ, zero, suc, _+_, _*_, _/_, _%_}
 use lib.Dec.{eqb, leb, ltb}
 use Rattle.state.specs.declared.Allocator.{Allocator}
 use Rattle.state.specs.declared.EpState.{EpState}
+use Rattle.state.specs.Ep.{resetOf}
 use Rattle.regs.specs.declared.Dir.{Dir}
 use Rattle.regs.specs.declared.Dir.the-variants.{Out, In}
 use Rattle.alloc.specs.declared.Found.{Found}
 use Rattle.alloc.specs.declared.Found.the-variants.{Number, Nothing}
-use Rattle.alloc.specs.declared.Answer.{Answer}
 use Rattle.alloc.specs.declared.Answer.the-variants.{Refused, Given}
 use Rattle.alloc.specs.declared.Allocation.{Allocation}
 use Rattle.bits.specs.Bit.{isSet, withBit}
@@ -177,25 +177,29 @@ abbrev pub flag : Bool → ℕ
 flag true = 1
 flag false = 0
 
--- after an accepted allocation (mod.rs 1010-1031): sort, kind, maximum, base, stride and slots set, then reset
-unfoldable pub allocated : EpState → ℕ → ℕ → ℕ → ℕ → ℕ → EpState
-allocated s kind maximum base size slots = record {
-  ready = 0;
+-- sort, kind, maximum, base, stride and slots set
+abbrev pub shaped : EpState → ℕ → ℕ → ℕ → ℕ → ℕ → EpState
+shaped s kind maximum base size slots = record {
+  ready = s .ready;
   len = s .len;
-  armed = 0;
+  armed = s .armed;
   iso = flag (isIso kind);
   kind = kind % 4;
   base = base;
   stride = size;
   slots = slots;
-  head = 0;
-  tail = 0;
-  loaded = 0;
+  head = s .head;
+  tail = s .tail;
+  loaded = s .loaded;
   overruns = s .overruns;
-  «last_frame» = 0x1800;
+  «last_frame» = s .«last_frame»;
   «max_len» = maximum;
   «min_len» = s .«min_len»;
   «armed_slot» = s .«armed_slot»;
-  tog = 0;
-  «open» = 0;
+  tog = s .tog;
+  «open» = s .«open»;
 }
+
+-- after an accepted allocation (mod.rs 1010-1031)
+unfoldable pub allocated : EpState → ℕ → ℕ → ℕ → ℕ → ℕ → EpState
+allocated s kind maximum base size slots = resetOf (shaped s kind maximum base size slots)

@@ -1,18 +1,17 @@
 -- The endpoint numbers that any list of calls was given: 1 to 15, no number twice in one direction, and no two sorts on one number.
 -- Assumes nothing.
-use mathlib.Core.Path.{_≡_, refl, sym, ap, subst, _∙_}
+use mathlib.Core.Path.{_≡_, refl, sym, ap, _∙_}
 use mathlib.Core.Bool.{Bool, true, false, not, true≢false}
 use mathlib.Core.List.{List, [], _∷_}
 use Prim.Native.Nat.{ℕ, _+_, _≤_}
-use lib.Dec.{eqb}
 use borrow.Author.Tests.{eq-eqb}
 use Rattle.bits.specs.Bit.{isSet}
 use Rattle.state.specs.declared.Allocator.{Allocator}
 use Rattle.regs.specs.declared.Dir.{Dir}
 use Rattle.regs.specs.declared.Dir.the-variants.{Out, In}
 use Rattle.alloc.specs.declared.Allocation.{Allocation}
-use Rattle.alloc.specs.Alloc.{if, takenIn, numsOf, isIso, isOut, withNext}
-use Rattle.alloc.specs.Outcome.{same, sameDir, inAdded, Takes, RunsOut, Gives, stays}
+use Rattle.alloc.specs.Alloc.{takenIn, numsOf, isIso, isOut, withNext}
+use Rattle.alloc.specs.Outcome.{same, sameDir, inAdded, Takes, stays}
 use Rattle.alloc.specs.Run.{Call, endpoint, ep0, called, Step, kept, out, gave, gave-ep0, step, Region, noted, regions, All}
 
 -- an endpoint's number is 1 to 15, EP0's 0

@@ -6,4 +6,5 @@ pub mod Sound
 pub mod Apart
 pub mod Rows
 pub mod OneByOne
+pub mod Endpoint
 pub mod Buffer

@@ -1,20 +1,18 @@
 -- What an allocation does, by its answer: which numbers its sets then have, which buffers are used, and that nothing else changes. Assumes nothing.
-use mathlib.Core.Path.{_≡_, refl, sym, ap, subst, _∙_}
+use mathlib.Core.Path.{_≡_, refl, sym, ap, _∙_}
 use mathlib.Core.Bool.{Bool, true, false, not, true≢false}
 use Prim.Native.Nat.{ℕ, _+_, _*_, _≤_, _<_}
-use native.Mathlib.Omega.{arith}
-use lib.Dec.{eqb, leb, ltb}
-use borrow.Author.Tests.{ltb-true, ltb-false, leb-true, leb-false, not-true}
+use lib.Dec.{eqb, ltb}
+use borrow.Author.Tests.{ltb-true, ltb-false, not-true}
 use Rattle.bits.specs.Bit.{bit, pick, isSet, withBit, bit-with}
 use Rattle.state.specs.declared.Allocator.{Allocator}
 use Rattle.regs.specs.declared.Dir.{Dir}
 use Rattle.regs.specs.declared.Dir.the-variants.{Out, In}
 use Rattle.alloc.specs.declared.Found.{Found}
 use Rattle.alloc.specs.declared.Found.the-variants.{Number, Nothing}
-use Rattle.alloc.specs.declared.Answer.{Answer}
-use Rattle.alloc.specs.declared.Answer.the-variants.{Refused, Given}
+use Rattle.alloc.specs.declared.Answer.the-variants.{Given}
 use Rattle.alloc.specs.declared.Allocation.{Allocation}
-use Rattle.alloc.specs.Alloc.{if, takenIn, numsOf, allocatedIn, addTo, isOut, isIso, isFree, numberOf, slotsOf, taken, withAllocated, withNext, refused, bufferedOf, numberedOf, allocateOf, allocateEp0Of}
+use Rattle.alloc.specs.Alloc.{if, takenIn, numsOf, allocatedIn, addTo, isOut, isIso, isFree, numberOf, slotsOf, taken, withAllocated, withNext, refused, bufferedOf, numberedOf, allocateOf}
 use Rattle.alloc.specs.Number.{either, number-good}
 
 -- ---- the sets

@@ -1,10 +1,9 @@
 -- Document 01's rows for an allocation and EP0's start: a refusal is 6, 7 or 8; 6, 7 and EP0's 8 change nothing; what is accepted has a
 -- maximum within the buffer size. Assumes nothing.
 use mathlib.Core.Path.{_≡_, refl}
-use Prim.Native.Nat.{ℕ, _+_, _*_, _≤_}
+use Prim.Native.Nat.{ℕ, _≤_}
 use native.Mathlib.Omega.{arith}
 use Rattle.state.specs.declared.Allocator.{Allocator}
-use Rattle.regs.specs.declared.Dir.{Dir}
 use Rattle.alloc.specs.declared.Answer.the-variants.{Refused, Given}
 use Rattle.alloc.specs.declared.Allocation.{Allocation}
 use Rattle.alloc.specs.Run.{Call, endpoint, ep0, called, Step, kept, out, gave, gave-ep0, step}

@@ -1,22 +1,22 @@
 -- Any list of allocations and EP0 starts: the buffers that were given lie one above the other inside the slot buffer, and after an 8
 -- none is given any more. Assumes nothing.
-use mathlib.Core.Path.{_≡_, refl, sym, ap, subst, _∙_}
-use mathlib.Core.Bool.{Bool, true, false, not, true≢false}
+use mathlib.Core.Path.{_≡_, refl, subst}
+use mathlib.Core.Bool.{Bool, true, false}
 use mathlib.Core.List.{List, [], _∷_}
 use Prim.Native.Nat.{ℕ, _+_, _*_, _≤_, _<_}
 use native.Mathlib.Nat.{le-refl, le-trans, add-mul, mul-le-mul-right}
 use native.Mathlib.Omega.{arith}
 use lib.Dec.{leb, ltb}
-use borrow.Author.Tests.{ltb-true, ltb-false, leb-true, leb-false}
+use borrow.Author.Tests.{ltb-false, leb-true, leb-false}
 use Rattle.state.specs.declared.Allocator.{Allocator}
 use Rattle.regs.specs.declared.Dir.{Dir}
 use Rattle.regs.specs.declared.Dir.the-variants.{Out, In}
 use Rattle.alloc.specs.declared.Answer.{Answer}
 use Rattle.alloc.specs.declared.Answer.the-variants.{Refused, Given}
 use Rattle.alloc.specs.declared.Allocation.{Allocation}
-use Rattle.alloc.specs.Alloc.{if, isIso, slotsOf, withNext, refused, allocateOf, allocateEp0Of}
+use Rattle.alloc.specs.Alloc.{isIso, slotsOf, withNext, refused, allocateOf, allocateEp0Of}
 use Rattle.alloc.specs.Number.{either}
-use Rattle.alloc.specs.Outcome.{Takes, RunsOut, Gives, Outcome, six, seven, eight, given, outcome}
+use Rattle.alloc.specs.Outcome.{RunsOut, Gives, Outcome, six, seven, eight, given, outcome}
 
 -- ---- calls
 
@@ -143,14 +143,14 @@ within size from to (r ∷ rs) s = ((s .0, top size (end size r) to rs (s .1)), 
     raised [] a = tt
     raised (q ∷ rs) a = ((omega (arith, s .0, a .0 .0), a .0 .1), raised rs (a .1))
 
-first : (P Q : Region → Type 0) → ((r : Region) → P r → Q r) → (rs : List Region) → All P rs → All Q rs
-first P Q f [] a = tt
-first P Q f (r ∷ rs) a = (f r (a .0), first P Q f rs (a .1))
+for-all : (P Q : Region → Type 0) → ((r : Region) → P r → Q r) → (rs : List Region) → All P rs → All Q rs
+for-all P Q f [] a = tt
+for-all P Q f (r ∷ rs) a = (f r (a .0), for-all P Q f rs (a .1))
 
 apart : (size from to : ℕ) (rs : List Region) → Stacked size from to rs → Disjoint size rs
 apart size from to [] s = tt
 apart size from to (r ∷ rs) s =
-    (first _ _ (λ q h. h .0) rs (within size (end size r) to rs (s .1)), apart size (end size r) to rs (s .1))
+    (for-all _ _ (λ q h. h .0) rs (within size (end size r) to rs (s .1)), apart size (end size r) to rs (s .1))
 
 -- no byte is given twice
 pub disjoint : (a : Allocator) → a .next ≤ a .count → (cs : List Call) → Disjoint (a .size) (regions a cs)

@@ -1,23 +1,22 @@
 -- What holds of the allocator from an accepted start-up on: the buffers used are among those that there are, number 0 is never taken,
 -- what is allocated is taken, and no number has both sorts. Assumes nothing.
-use mathlib.Core.Path.{_≡_, refl, sym, ap, subst, _∙_}
+use mathlib.Core.Path.{_≡_, refl, sym, ap, _∙_}
 use mathlib.Core.Bool.{Bool, true, false, not, true≢false}
 use mathlib.Core.List.{List, [], _∷_}
-use Prim.Native.Nat.{ℕ, _+_, _*_, _≤_, _<_}
+use Prim.Native.Nat.{ℕ, _+_, _*_, _≤_}
 use native.Mathlib.Nat.{zero-div, le-trans}
 use native.Mathlib.Omega.{arith}
 use lib.Dec.{eqb, leb}
-use lib.Pow.{pow-pos}
 use borrow.Author.Tests.{eqb-true, ne-eqb, leb-true}
 use Rattle.bits.specs.Bit.{isSet}
 use Rattle.state.specs.declared.Allocator.{Allocator}
 use Rattle.regs.specs.declared.Dir.{Dir}
 use Rattle.regs.specs.declared.Dir.the-variants.{Out, In}
 use Rattle.alloc.specs.declared.Allocation.{Allocation}
-use Rattle.alloc.specs.Alloc.{if, fresh, takenIn, numsOf, allocatedIn, isIso, isOut, withNext}
+use Rattle.alloc.specs.Alloc.{if, fresh, takenIn, numsOf, allocatedIn, isIso, withNext}
 use Rattle.alloc.specs.Buffer.{goodSize, goodBuffer}
-use Rattle.alloc.specs.Outcome.{same, sameDir, inAdded, stays, Takes, RunsOut, Gives}
-use Rattle.alloc.specs.Run.{Call, endpoint, ep0, called, Step, kept, out, gave, gave-ep0, step, Region, noted, regions, calledAll, All, end, inside}
+use Rattle.alloc.specs.Outcome.{sameDir, inAdded, stays, Takes}
+use Rattle.alloc.specs.Run.{Call, called, Step, kept, out, gave, gave-ep0, step, Region, regions, calledAll, All, end, inside}
 
 pub record Sound (a : Allocator) : Type 0 where
   pub room : a .next ≤ a .count

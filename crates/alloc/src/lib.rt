@@ -118,13 +118,5 @@ pub fn endpoint(mut s: EpState, kind: u8, maximum: u16, base: u32, size: u16, sl
     s.base = base;
     s.stride = size;
     s.slots = slots;
-    s.last_frame = 0x1800;
-    s.ready = 0;
-    s.armed = 0;
-    s.head = 0;
-    s.tail = 0;
-    s.loaded = 0;
-    s.tog = 0;
-    s.open = 0;
-    s
+    s.reset()
 }

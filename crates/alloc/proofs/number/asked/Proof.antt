@@ -1,7 +1,6 @@
 use mathlib.Core.Path.{_≡_}
 use Prim.Native.Nat.{_%_}
 use lib.Bits.{bitAnd, and-mask}
-use native.Mathlib.Omega.{arith}
 use borrow.Author.Tests.{eq-eqb, ne-eqb, le-leb, lt-leb}
 use Rattle.alloc.specs.Alloc.{askedOf}
 use borrow.Author.Needs.{needs}
