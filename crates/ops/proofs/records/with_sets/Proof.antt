@@ -1,0 +1,49 @@
+use Rattle.ops.specs.Records.{withSets}
+use borrow.Author.Needs.{needs}
+use Rattle.ops.proofs.records.with_sets.Statement.{statement}
+use Rattle.ops.proofs.records.with_sets.Tie as tie
+use Rattle.ops.proofs.records.with_sets.Reads as reads
+use Rattle.ops.proofs.records.with_sets.Lts as lts
+use Rattle.alloc.proofs.number.is_iso.Reads as is-iso-reads
+use Rattle.bits.proofs.mask_with.Reads as mask-with-reads
+
+is-iso-requires : tie.Need-is-iso-requires
+is-iso-requires c κs = search needs
+
+enum-told : tie.Need-enum-told
+enum-told c = search needs
+
+mask-with-requires : tie.Need-mask-with-requires
+mask-with-requires c κs = search needs
+
+enum-told-2 : tie.Need-enum-told-2
+enum-told-2 c = search needs
+
+mask-with-requires-2 : tie.Need-mask-with-requires-2
+mask-with-requires-2 c κs = search needs
+
+returns : tie.Need-returns
+returns c = ?
+
+returns-2 : tie.Need-returns-2
+returns-2 c = ?
+
+returns-3 : tie.Need-returns-3
+returns-3 c = ?
+
+returns-4 : tie.Need-returns-4
+returns-4 c = ?
+
+pub with-sets-spec : {M : Type 1} → statement M
+with-sets-spec =
+    tie.close
+    (tie.spec
+    is-iso-requires
+    enum-told
+    mask-with-requires
+    enum-told-2
+    mask-with-requires-2
+    returns
+    returns-2
+    returns-3
+    returns-4)
