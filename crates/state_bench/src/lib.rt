@@ -1,10 +1,9 @@
 // What the benchmark in bench/ measures: a record is loaded, its head and one length change, and it is stored.
 use regs::Dir;
+use state::STATE_LEN;
 use state::load_ep;
 use state::store_ep;
 use state::store_len;
-use state::STATE_LEN;
-
 ghost use mathlib.Core.Path.{_≡_};
 ghost use Rattle.state.specs.State.{view};
 ghost use Rattle.state_bench.specs.Push.{pushed};
