@@ -13,7 +13,7 @@ use Rattle.regs.specs.declared.Dir.the-variants.{Out, In}
 use Rattle.state.specs.declared.EpState.{EpState}
 use Rattle.state.specs.declared.Request.{Request}
 use Rattle.state.specs.Driver.{Driver, key, lenKey, noEp, noRequest, withEps, withLens, withPaced, withRequests, epOn, withOn, lenOn, withLenOn, pacedOn, withPacedOn, requestOn, withRequestOn}
-use Rattle.state.specs.State.{view, epIn, requestIn}
+use Rattle.state.specs.State.{view, saved, epIn, requestIn}
 
 -- every endpoint has its place
 pub record Sized (d : Driver) : Type 0 where
@@ -116,3 +116,8 @@ module _ (d : Driver) (e : ℕ) where
   pub withPacedOn-back : withPacedOn d e (pacedOn d e) ≡ d
   unfolding withPacedOn pacedOn
   withPacedOn-back = ap (withPaced d) (set-getD (d .paced) (e % 16) 0)
+
+-- all bytes 0: before the first start-up, and nothing is under way
+pub before-start : (xs : List ℕ) → ((i : ℕ) → getD xs i 0 ≡ 0) → (view xs .globals .stage ≡ 0) × (saved xs .tag ≡ 0)
+unfolding view saved
+before-start xs h = (omega (arith, h 2048), omega (arith, h 2307))
