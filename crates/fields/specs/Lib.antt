@@ -2,3 +2,4 @@ pub mod Bytes
 pub mod Runs
 pub mod Numbers
 pub mod Tables
+pub mod Injective

@@ -1,18 +1,18 @@
--- Places of a list, filled one after the other; all of them filled. The view's lists are as long as the state says. Assumes nothing.
+-- Places of a list, filled one after the other; all of them filled. Assumes nothing.
 use mathlib.Core.Path.{_≡_, refl, sym, ap, _∙_}
 use mathlib.Core.Logic.{⊎-elim}
 use mathlib.Core.List.{List, [], _∷_}
-use Prim.Native.Nat.{ℕ, zero, suc, _+_, _*_, _≤_, _<_}
+use Prim.Native.Nat.{ℕ, zero, suc, _+_, _≤_, _<_}
 use native.Mathlib.Omega.{arith}
 use native.Mathlib.Numerals.{add-one}
 use lib.ListN.{length, getD, set, replicate, length-set}
 use lib.Seq.{getD-set-same, getD-set-other, ext-getD}
-use Rattle.fields.specs.Bytes.{gets, number}
-use Rattle.fields.specs.Tables.{length-tab, lt-or-ge}
-use Rattle.state.specs.State.{view, epIn, requestIn}
+use Rattle.fields.specs.Tables.{lt-or-ge}
+use Rattle.state.specs.State.{view}
 use Rattle.state.specs.Ep.{newEp}
 use Rattle.state.specs.Wakes.{none-woken}
 use Rattle.state.specs.Driver.{Driver, noRequest}
+use Rattle.state.specs.Laws.{view-sized}
 use Rattle.state.specs.Fresh.{filled, freshGlobals, freshAllocator, noControl, freshDriver}
 
 module _ {A : Type 0} (l : List A) where
@@ -60,43 +60,27 @@ filled-all l n v e =
     ext-getD v (filled l 0 n v) (replicate n v) (length-filled l 0 n v ∙ e ∙ sym (length-replicate n v))
     (λ i b. getD-filled l 0 n v i (omega arith) (omega (arith, length-filled l 0 n v)) (omega (arith, length-filled l 0 n v)) ∙ sym (getD-replicate n v i))
 
-module _ (xs : List ℕ) where
-  pub eps-long : length (view xs .eps) ≡ 32
-  unfolding view
-  eps-long = length-tab (λ k. epIn (gets xs (0 + k * 32) 0 32)) 32
-
-  pub lens-long : length (view xs .lens) ≡ 512
-  unfolding view
-  lens-long = length-tab (λ k. number (gets xs (1024 + k * 2) 0 2)) 512
-
-  pub paced-long : length (view xs .paced) ≡ 16
-  unfolding view
-  paced-long = length-tab (λ k. number (gets xs (2101 + k * 2) 0 2)) 16
-
-  pub requests-long : length (view xs .requests) ≡ 32
-  unfolding view
-  requests-long = length-tab (λ k. requestIn (gets xs (2133 + k * 5) 0 5)) 32
-
-  -- every record filled or stored
-  pub made-afresh : (size count callback : ℕ) → _≡_ {A = Driver} (record {
-    eps = filled (view xs .eps) 0 32 newEp;
-    lens = filled (view xs .lens) 0 512 0;
-    globals = freshGlobals callback;
-    allocator = freshAllocator size count;
-    paced = filled (view xs .paced) 0 16 0x1800;
-    requests = filled (view xs .requests) 0 32 noRequest;
-    control = noControl;
-    wakes = none-woken;
-  }) (freshDriver size count callback)
-  unfolding freshDriver
-  made-afresh size count callback =
-      λ i. record {
-        eps = filled-all (view xs .eps) 32 newEp eps-long i;
-        lens = filled-all (view xs .lens) 512 0 lens-long i;
-        globals = freshGlobals callback;
-        allocator = freshAllocator size count;
-        paced = filled-all (view xs .paced) 16 0x1800 paced-long i;
-        requests = filled-all (view xs .requests) 32 noRequest requests-long i;
-        control = noControl;
-        wakes = none-woken;
-      }
+-- every record filled or stored
+pub made-afresh : (xs : List ℕ) (size count callback : ℕ) → _≡_ {A = Driver} (record {
+  eps = filled (view xs .eps) 0 32 newEp;
+  lens = filled (view xs .lens) 0 512 0;
+  globals = freshGlobals callback;
+  allocator = freshAllocator size count;
+  paced = filled (view xs .paced) 0 16 0x1800;
+  requests = filled (view xs .requests) 0 32 noRequest;
+  control = noControl;
+  wakes = none-woken;
+}) (freshDriver size count callback)
+unfolding freshDriver
+made-afresh xs size count callback =
+    let s = view-sized xs in
+    λ i. record {
+      eps = filled-all (view xs .eps) 32 newEp (s .eps) i;
+      lens = filled-all (view xs .lens) 512 0 (s .lens) i;
+      globals = freshGlobals callback;
+      allocator = freshAllocator size count;
+      paced = filled-all (view xs .paced) 16 0x1800 (s .paced) i;
+      requests = filled-all (view xs .requests) 32 noRequest (s .requests) i;
+      control = noControl;
+      wakes = none-woken;
+    }

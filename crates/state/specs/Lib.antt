@@ -5,3 +5,5 @@ pub mod State
 pub mod Wakes
 pub mod Kept
 pub mod Fresh
+pub mod Laws
+pub mod Determined

@@ -14,47 +14,27 @@ pub fn wake_out(s: &mut [u8; STATE_LEN], e: u8)
     ensures { λ _. ⌜ view (now (s .exit)) ≡ withWakes (view (now (s .entry))) (woken Out e (view (now (s .entry)) .wakes)) ⌝ }
     ensures { λ _. ⌜ saved (now (s .exit)) ≡ saved (now (s .entry)) ⌝ }
 {
-    let w = load_wakes(s);
-    let outs = mask_with(w.outs, e, true);
-    store_wakes(
-        s,
-        Wakes {
-            outs: outs,
-            ins: w.ins,
-            bus: w.bus,
-        },
-    );
+    let mut w = load_wakes(s);
+    w.outs = mask_with(w.outs, e, true);
+    store_wakes(s, w);
 }
 
 pub fn wake_in(s: &mut [u8; STATE_LEN], e: u8)
     ensures { λ _. ⌜ view (now (s .exit)) ≡ withWakes (view (now (s .entry))) (woken In e (view (now (s .entry)) .wakes)) ⌝ }
     ensures { λ _. ⌜ saved (now (s .exit)) ≡ saved (now (s .entry)) ⌝ }
 {
-    let w = load_wakes(s);
-    let ins = mask_with(w.ins, e, true);
-    store_wakes(
-        s,
-        Wakes {
-            outs: w.outs,
-            ins: ins,
-            bus: w.bus,
-        },
-    );
+    let mut w = load_wakes(s);
+    w.ins = mask_with(w.ins, e, true);
+    store_wakes(s, w);
 }
 
 pub fn wake_bus(s: &mut [u8; STATE_LEN])
     ensures { λ _. ⌜ view (now (s .exit)) ≡ withWakes (view (now (s .entry))) (bus-woken (view (now (s .entry)) .wakes)) ⌝ }
     ensures { λ _. ⌜ saved (now (s .exit)) ≡ saved (now (s .entry)) ⌝ }
 {
-    let w = load_wakes(s);
-    store_wakes(
-        s,
-        Wakes {
-            outs: w.outs,
-            ins: w.ins,
-            bus: 1,
-        },
-    );
+    let mut w = load_wakes(s);
+    w.bus = 1;
+    store_wakes(s, w);
 }
 
 pub fn clear_wakes(s: &mut [u8; STATE_LEN])

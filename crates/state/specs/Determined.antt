@@ -1,0 +1,46 @@
+-- The view and the suspended operation determine every byte: so storing what was loaded changes none. Assumes nothing.
+use mathlib.Core.Path.{_≡_, refl, sym, ap, _∙_}
+use mathlib.Core.Logic.{⊎-elim}
+use mathlib.Core.List.{List}
+use Prim.Native.Nat.{ℕ, _≤_, _<_}
+use native.Mathlib.Omega.{arith}
+use lib.ListN.{length, getD}
+use lib.Seq.{ext-getD}
+use Rattle.fields.specs.Bytes.{number, numbers}
+use Rattle.fields.specs.Runs.{Same}
+use Rattle.fields.specs.Tables.{lt-or-ge}
+use Rattle.fields.specs.Injective.{Tells, tells-number, tells-numbers, one-tells, table-tells}
+use Rattle.regs.specs.declared.Dir.{Dir}
+use Rattle.state.specs.declared.EpState.{EpState}
+use Rattle.state.specs.Codec as codec
+use Rattle.state.specs.Driver.{Driver, noEp, noRequest, epOn, withOn}
+use Rattle.state.specs.State.{epIn, allocatorIn, globalsIn, wakesIn, requestIn, controlIn, savedIn, view, saved}
+use Rattle.state.specs.Laws.{withOn-back}
+
+-- a state's bytes
+pub record Bytes (xs : List ℕ) : Type 0 where
+  pub long : length xs ≡ 2329
+  pub small : (i : ℕ) → getD xs i 0 < 256
+
+-- two runs in a row
+meet : (xs ys : List ℕ) (a b c : ℕ) → Same xs ys a b → Same xs ys b c → Same xs ys a c
+meet xs ys a b c p q i l m = ⊎-elim (λ (h : i < b). p i l h) (λ (h : b ≤ i). q i h m) (lt-or-ge i b)
+
+pub determined : (xs ys : List ℕ) → Bytes xs → Bytes ys → view ys ≡ view xs → saved ys ≡ saved xs → ys ≡ xs
+unfolding view saved
+determined xs ys x y v s =
+    let all : Same xs ys 0 2329 =
+    meet xs ys 0 1024 2329 (table-tells xs ys (x .small) (y .small) epIn 0 32 32 noEp (omega arith) (λ bs cs l m p q e. tells-numbers codec.epWidths bs cs l m p q (ap codec.epAs e)) (ap (λ (d : Driver). d .eps) v))
+    (meet xs ys 1024 2048 2329 (table-tells xs ys (x .small) (y .small) number 1024 512 2 0 (omega arith) (tells-number 2) (ap (λ (d : Driver). d .lens) v))
+    (meet xs ys 2048 2083 2329 (one-tells xs ys (x .small) (y .small) globalsIn 2048 35 (λ bs cs l m p q e. tells-numbers codec.globalsWidths bs cs l m p q (ap codec.globalsAs e)) (ap (λ (d : Driver). d .globals) v))
+    (meet xs ys 2083 2101 2329 (one-tells xs ys (x .small) (y .small) allocatorIn 2083 18 (λ bs cs l m p q e. tells-numbers codec.allocatorWidths bs cs l m p q (ap codec.allocatorAs e)) (ap (λ (d : Driver). d .allocator) v))
+    (meet xs ys 2101 2133 2329 (table-tells xs ys (x .small) (y .small) number 2101 16 2 0 (omega arith) (tells-number 2) (ap (λ (d : Driver). d .paced) v))
+    (meet xs ys 2133 2293 2329 (table-tells xs ys (x .small) (y .small) requestIn 2133 32 5 noRequest (omega arith) (λ bs cs l m p q e. tells-numbers codec.requestWidths bs cs l m p q (ap codec.requestAs e)) (ap (λ (d : Driver). d .requests) v))
+    (meet xs ys 2293 2302 2329 (one-tells xs ys (x .small) (y .small) controlIn 2293 9 (λ bs cs l m p q e. tells-numbers codec.controlWidths bs cs l m p q (ap codec.controlAs e)) (ap (λ (d : Driver). d .control) v))
+    (meet xs ys 2302 2307 2329 (one-tells xs ys (x .small) (y .small) wakesIn 2302 5 (λ bs cs l m p q e. tells-numbers codec.wakesWidths bs cs l m p q (ap codec.wakesAs e)) (ap (λ (d : Driver). d .wakes) v))
+    (one-tells xs ys (x .small) (y .small) savedIn 2307 22 (λ bs cs l m p q e. tells-numbers codec.savedWidths bs cs l m p q (ap codec.savedAs e)) s)))))))) in
+    ext-getD 0 ys xs (y .long ∙ sym (x .long)) (λ i b. all i (omega arith) (omega (arith, y .long)))
+
+-- an endpoint's record, stored as it was loaded; the other records likewise, by their laws `…-back`
+pub stored-back : (xs ys : List ℕ) (dir : Dir) (e : ℕ) → Bytes xs → Bytes ys → view ys ≡ withOn (view xs) dir e (epOn (view xs) dir e) → saved ys ≡ saved xs → ys ≡ xs
+stored-back xs ys dir e x y v s = determined xs ys x y (v ∙ withOn-back (view xs) dir e) s

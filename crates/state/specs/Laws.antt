@@ -1,0 +1,123 @@
+-- Storing one record changes that record of the view and nothing else; storing what was there changes nothing. Assumes nothing.
+use mathlib.Core.Path.{_≡_, refl, ap}
+use mathlib.Core.Logic.{_≢_}
+use mathlib.Core.List.{List}
+use Prim.Native.Nat.{ℕ, _+_, _*_, _%_, _<_}
+use native.Mathlib.Omega.{arith}
+use lib.ListN.{length, getD, set}
+use lib.Seq.{getD-set-same, getD-set-other, set-getD}
+use Rattle.fields.specs.Bytes.{gets, number}
+use Rattle.fields.specs.Tables.{length-tab}
+use Rattle.regs.specs.declared.Dir.{Dir}
+use Rattle.regs.specs.declared.Dir.the-variants.{Out, In}
+use Rattle.state.specs.declared.EpState.{EpState}
+use Rattle.state.specs.declared.Request.{Request}
+use Rattle.state.specs.Driver.{Driver, key, lenKey, noEp, noRequest, withEps, withLens, withPaced, withRequests, epOn, withOn, lenOn, withLenOn, pacedOn, withPacedOn, requestOn, withRequestOn}
+use Rattle.state.specs.State.{view, saved, epIn, requestIn}
+
+-- every endpoint has its place
+pub record Sized (d : Driver) : Type 0 where
+  pub eps : length (d .eps) ≡ 32
+  pub lens : length (d .lens) ≡ 512
+  pub paced : length (d .paced) ≡ 16
+  pub requests : length (d .requests) ≡ 32
+
+pub view-sized : (xs : List ℕ) → Sized (view xs)
+unfolding view
+view-sized xs = record {
+  eps = length-tab (λ k. epIn (gets xs (0 + k * 32) 0 32)) 32;
+  lens = length-tab (λ k. number (gets xs (1024 + k * 2) 0 2)) 512;
+  paced = length-tab (λ k. number (gets xs (2101 + k * 2) 0 2)) 16;
+  requests = length-tab (λ k. requestIn (gets xs (2133 + k * 5) 0 5)) 32;
+}
+
+pub key-lt : (dir : Dir) (e : ℕ) → key dir e < 32
+unfolding key
+key-lt Out e = omega arith
+key-lt In e = omega arith
+
+-- an OUT endpoint's place is no IN endpoint's
+pub key-apart : (e f : ℕ) → key Out e ≢ key In f
+unfolding key
+key-apart e f h = omega arith
+
+pub key-same : (dir : Dir) (e f : ℕ) → key dir e ≡ key dir f → e % 16 ≡ f % 16
+unfolding key
+key-same Out e f h = omega arith
+key-same In e f h = omega arith
+
+pub lenKey-lt : (dir : Dir) (e i : ℕ) → lenKey dir e i < 512
+unfolding lenKey
+lenKey-lt dir e i = omega (arith, key-lt dir e)
+
+module _ (d : Driver) (dir : Dir) (e : ℕ) where
+  pub epOn-same : (r : EpState) → Sized d → epOn (withOn d dir e r) dir e ≡ r
+  unfolding epOn withOn
+  epOn-same r s = getD-set-same (d .eps) (key dir e) r noEp (omega (arith, s .eps, key-lt dir e))
+
+  pub epOn-other : (r : EpState) (dir′ : Dir) (e′ : ℕ) → key dir′ e′ ≢ key dir e → epOn (withOn d dir e r) dir′ e′ ≡ epOn d dir′ e′
+  unfolding epOn withOn
+  epOn-other r dir′ e′ h = getD-set-other (d .eps) (key dir e) (key dir′ e′) r noEp h
+
+  -- all but the endpoints' records is as it was
+  pub withOn-only : (r : EpState) → withOn d dir e r ≡ withEps d (withOn d dir e r .eps)
+  unfolding withOn
+  withOn-only r = refl
+
+  pub withOn-back : withOn d dir e (epOn d dir e) ≡ d
+  unfolding withOn epOn
+  withOn-back = ap (withEps d) (set-getD (d .eps) (key dir e) noEp)
+
+  pub lenOn-same : (i v : ℕ) → Sized d → lenOn (withLenOn d dir e i v) dir e i ≡ v
+  unfolding lenOn withLenOn
+  lenOn-same i v s = getD-set-same (d .lens) (lenKey dir e i) v 0 (omega (arith, s .lens, lenKey-lt dir e i))
+
+  pub lenOn-other : (i v : ℕ) (dir′ : Dir) (e′ i′ : ℕ) → lenKey dir′ e′ i′ ≢ lenKey dir e i → lenOn (withLenOn d dir e i v) dir′ e′ i′ ≡ lenOn d dir′ e′ i′
+  unfolding lenOn withLenOn
+  lenOn-other i v dir′ e′ i′ h = getD-set-other (d .lens) (lenKey dir e i) (lenKey dir′ e′ i′) v 0 h
+
+  pub withLenOn-only : (i v : ℕ) → withLenOn d dir e i v ≡ withLens d (withLenOn d dir e i v .lens)
+  unfolding withLenOn
+  withLenOn-only i v = refl
+
+  pub withLenOn-back : (i : ℕ) → withLenOn d dir e i (lenOn d dir e i) ≡ d
+  unfolding withLenOn lenOn
+  withLenOn-back i = ap (withLens d) (set-getD (d .lens) (lenKey dir e i) 0)
+
+  pub requestOn-same : (r : Request) → Sized d → requestOn (withRequestOn d dir e r) dir e ≡ r
+  unfolding requestOn withRequestOn
+  requestOn-same r s = getD-set-same (d .requests) (key dir e) r noRequest (omega (arith, s .requests, key-lt dir e))
+
+  pub requestOn-other : (r : Request) (dir′ : Dir) (e′ : ℕ) → key dir′ e′ ≢ key dir e → requestOn (withRequestOn d dir e r) dir′ e′ ≡ requestOn d dir′ e′
+  unfolding requestOn withRequestOn
+  requestOn-other r dir′ e′ h = getD-set-other (d .requests) (key dir e) (key dir′ e′) r noRequest h
+
+  pub withRequestOn-only : (r : Request) → withRequestOn d dir e r ≡ withRequests d (withRequestOn d dir e r .requests)
+  unfolding withRequestOn
+  withRequestOn-only r = refl
+
+  pub withRequestOn-back : withRequestOn d dir e (requestOn d dir e) ≡ d
+  unfolding withRequestOn requestOn
+  withRequestOn-back = ap (withRequests d) (set-getD (d .requests) (key dir e) noRequest)
+
+module _ (d : Driver) (e : ℕ) where
+  pub pacedOn-same : (v : ℕ) → Sized d → pacedOn (withPacedOn d e v) e ≡ v
+  unfolding pacedOn withPacedOn
+  pacedOn-same v s = getD-set-same (d .paced) (e % 16) v 0 (omega (arith, s .paced))
+
+  pub pacedOn-other : (v e′ : ℕ) → e′ % 16 ≢ e % 16 → pacedOn (withPacedOn d e v) e′ ≡ pacedOn d e′
+  unfolding pacedOn withPacedOn
+  pacedOn-other v e′ h = getD-set-other (d .paced) (e % 16) (e′ % 16) v 0 h
+
+  pub withPacedOn-only : (v : ℕ) → withPacedOn d e v ≡ withPaced d (withPacedOn d e v .paced)
+  unfolding withPacedOn
+  withPacedOn-only v = refl
+
+  pub withPacedOn-back : withPacedOn d e (pacedOn d e) ≡ d
+  unfolding withPacedOn pacedOn
+  withPacedOn-back = ap (withPaced d) (set-getD (d .paced) (e % 16) 0)
+
+-- all bytes 0: before the first start-up, and nothing is under way
+pub before-start : (xs : List ℕ) → ((i : ℕ) → getD xs i 0 ≡ 0) → (view xs .globals .stage ≡ 0) × (saved xs .tag ≡ 0)
+unfolding view saved
+before-start xs h = (omega (arith, h 2048), omega (arith, h 2307))
