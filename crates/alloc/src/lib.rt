@@ -58,7 +58,7 @@ fn buffered(a: Allocator, iso: bool, dir: Dir, e: u8) -> Allocation
     ensures { λ r. ⌜ r ≡ bufferedOf a iso dir e ⌝ }
 {
     let n = number::slots(iso, dir);
-    let end = (a.next as u32) + (n as u32);
+    let end = number::end(a.next, n);
     if (a.count as u32) < end {
         let after = masks::with_next(a, a.count);
         return refused(8, after);

@@ -1,5 +1,6 @@
 // The endpoint number of an allocation, its sort and how many buffers it needs.
 ghost use mathlib.Core.Path.{_≡_};
+ghost use Prim.Native.Nat.{_+_};
 ghost use Rattle.alloc.specs.Alloc.{isIso, flag, dirBit, slotsOf, askedOf, lowestOf, numberOf};
 use crate::Found;
 use crate::masks::is_free;
@@ -36,6 +37,13 @@ pub fn slots(iso: bool, dir: Dir) -> u8
     } else {
         1
     }
+}
+
+// The first buffer after n from `next` on.
+pub fn end(next: u16, n: u8) -> u32
+    ensures { λ r. ⌜ r ≡ next + n ⌝ }
+{
+    (next as u32) + (n as u32)
 }
 
 fn dir_bit(dir: Dir) -> u32

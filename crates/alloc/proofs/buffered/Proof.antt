@@ -8,14 +8,8 @@ use Rattle.alloc.proofs.buffered.Tie as tie
 slots-requires : tie.Need-slots-requires
 slots-requires c κs = search needs
 
-cast-end : tie.Need-cast-end
-cast-end c = search needs
-
-cast-end-2 : tie.Need-cast-end-2
-cast-end-2 c = search needs
-
-add-end : tie.Need-add-end
-add-end c = search needs
+end-requires : tie.Need-end-requires
+end-requires c κs = search needs
 
 cast-if1 : tie.Need-cast-if1
 cast-if1 c = search needs
@@ -28,7 +22,14 @@ refused-requires c κs = search needs
 
 returns : tie.Need-returns
 unfolding bufferedOf
-returns c = simp (c .refused .ensures, ← c .before .with-next .ensures, lt-ltb _ _ (c .before .before .if1 .taken), ← c .before .before .before .before .before .slots .ensures)
+returns c =
+    simp (
+      c .refused .ensures,
+      ← c .before .with-next .ensures,
+      lt-ltb _ _ (c .before .before .if1 .taken),
+      ← c .before .before .before .before .end .ensures,
+      ← c .before .before .before .before .before .slots .ensures,
+    )
 
 cast-base : tie.Need-cast-base
 cast-base c = search needs
@@ -50,16 +51,21 @@ with-allocated-requires c κs = search needs
 
 returns-2 : tie.Need-returns-2
 unfolding bufferedOf
-returns-2 c = simp (c .with-allocated .ensures, ← c .before .with-next2 .ensures, le-ltb _ _ (c .before .before .before .before .if1 .left), ← c .before .before .before .before .before .before .before .slots .ensures)
+returns-2 c =
+    simp (
+      c .with-allocated .ensures,
+      ← c .before .with-next2 .ensures,
+      le-ltb _ _ (c .before .before .before .before .if1 .left),
+      ← c .before .before .before .before .before .before .end .ensures,
+      ← c .before .before .before .before .before .before .before .slots .ensures,
+    )
 
 pub buffered-spec : {M : Type 1} → statement M
 buffered-spec =
     tie.close
     (tie.spec
     slots-requires
-    cast-end
-    cast-end-2
-    add-end
+    end-requires
     cast-if1
     with-next-requires
     refused-requires

@@ -1,0 +1,13 @@
+use native.Mathlib.Omega.{arith}
+use borrow.Author.Needs.{needs}
+use Rattle.alloc.proofs.number.end.Statement.{statement}
+use Rattle.alloc.proofs.number.end.Tie as tie
+
+add-result : tie.Need-add-result
+add-result c = search needs
+
+returns : tie.Need-returns
+returns c = omega arith
+
+pub end-spec : {M : Type 1} → statement M
+end-spec = tie.close (tie.spec add-result returns)
