@@ -15,3 +15,6 @@ pub mod Endpoint
 pub mod Control
 pub mod Driver
 pub mod Calls
+pub mod Readings
+pub mod ReadingsLaws
+pub mod ReadingsOf
