@@ -17,4 +17,5 @@ pub mod Driver
 pub mod Calls
 pub mod Readings
 pub mod ReadingsLaws
-pub mod ReadingsOf
+pub mod ReadingsInterrupt
+pub mod ReadingsCalls

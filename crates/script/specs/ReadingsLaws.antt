@@ -15,7 +15,8 @@ use Rattle.regs.specs.declared.Dir.the-variants.{Out, In}
 use Rattle.script.specs.Tree as tree
 use Rattle.script.specs.Tree.{ends, asks, Prog, bindOut}
 use Rattle.script.specs.Cells.{Cell, Val}
-use Rattle.script.specs.Script.{Script, Ops, run, rows, Test, Look, Fetch, Act, Hand, handAsk, arrive, send, place, place0, Row, switch, bus-reset, lastOf, rowAsk, ret, bind, test, when, read-then, write-then, wait-then, callback-then, get-then, put-then, is-then, look-then, fetch-then, act-then, hand-then, row-then, _>>_, done}
+use Rattle.script.specs.Script.{Script, Ops, run, rows, Test, Look, Fetch, Act, Hand, handAsk, arrive, send, place, place0, Row, switch, bus-reset, lastOf, rowAsk, ret, bind, test, read-then, write-then, wait-then, callback-then, get-then, put-then, is-then, look-then, fetch-then, act-then, hand-then, row-then, _>>_, done, when, read, write, callback, get, put, is, look, fetch, act, hand}
+use Rattle.script.specs.Statics.{modifyReg}
 use Rattle.script.specs.Readings.{reading, Path, readings, AtMost, Reads≤}
 
 -- ---- outcomes
@@ -136,6 +137,51 @@ module _ {i : Bool} {A : Type 0} where
 -- a row is writes and addresses
 pub reads-row : {A : Type 0} {n : ℕ} {g : Row} {p : Script false A} → Reads≤ n p → Reads≤ n (row-then g p)
 reads-row {g = g} x = record { on = λ S O s. rows-path O g (lastOf g) _ _ (λ t. x .on S O t) s }
+
+module _ {i : Bool} where
+  -- single steps
+  pub one-read : {n : ℕ} {r : Reg} {e : ℕ} → Reads≤ {i = i} (suc n) (read r e)
+  one-read = reads-read (λ _. reads-ret)
+
+  pub no-write : {n : ℕ} {r : Reg} {e v : ℕ} → Reads≤ {i = i} n (write r e v)
+  no-write = reads-write reads-ret
+
+  pub no-get : {n : ℕ} (c : Cell) → Reads≤ {i = i} n (get c)
+  no-get c = reads-get (λ _. reads-ret)
+
+  pub no-put : {n : ℕ} (c : Cell) {v : Val c} → Reads≤ {i = i} n (put c v)
+  no-put c = reads-put reads-ret
+
+  pub no-is : {n : ℕ} {q : Test} → Reads≤ {i = i} n (is q)
+  no-is = reads-is (λ _. reads-ret)
+
+  pub no-look : {n : ℕ} {q : Look} → Reads≤ {i = i} n (look q)
+  no-look = reads-look (λ _. reads-ret)
+
+  pub no-fetch : {n : ℕ} {q : Fetch} → Reads≤ {i = i} n (fetch q)
+  no-fetch = reads-fetch (λ _. reads-ret)
+
+  pub no-act : {n : ℕ} {q : Act} → Reads≤ {i = i} n (act q)
+  no-act = reads-act reads-ret
+
+  pub no-hand : {n : ℕ} {q : Hand} → Reads≤ {i = i} n (hand q)
+  no-hand = reads-hand reads-ret
+
+  pub no-callback : {n : ℕ} → Reads≤ {i = i} n callback
+  no-callback = reads-callback reads-ret
+
+  pub when-reads : {n : ℕ} {b : Bool} {p : Script i Unit} → Reads≤ n p → Reads≤ n (when b p)
+  when-reads x = either x reads-ret
+
+  -- an assignment (`modify`, `modifyEp`, `wake`), and one that is written out (`modifyIntEn`)
+  pub assign : {n : ℕ} (c : Cell) {f : Val c → Val c} → Reads≤ {i = i} n (bind (get c) (λ v. put c (f v)))
+  assign c = free (no-get c) (λ _. no-put c)
+
+  pub assign-write : {n : ℕ} (c : Cell) {f : Val c → Val c} {r : Reg} {e : ℕ} {h : Val c → ℕ} → Reads≤ {i = i} n (bind (get c) (λ v. bind (put c (f v)) (λ _. write r e (h v))))
+  assign-write c = free (no-get c) (λ _. free (no-put c) (λ _. no-write))
+
+  pub modifyReg-reads : {n : ℕ} {r : Reg} {e : ℕ} {f : ℕ → ℕ} → Reads≤ {i = i} (suc n) (modifyReg r e f)
+  modifyReg-reads = once one-read (λ _. no-write)
 
 -- a walk over a list: one endpoint's for each
 module _ {i : Bool} (W : List ℕ → Script i Unit) (one : ℕ → Script i Unit) (none : W [] ≡ done) (step : (e : ℕ) (es : List ℕ) → W (e ∷ es) ≡ (one e >> W es)) where

@@ -1,30 +1,26 @@
--- The readings of the interrupt (document 01, demand 1: at most 4,096). On every path, whatever is read and whatever becomes of the state between
--- two accesses: at most two of its waits for sie_free, one before the release is known to be over (`settle`), one for the toggle (`toggled`)
-use mathlib.Core.Bool.{Bool, true, false, not, cond, _&&_, _||_}
-use mathlib.Core.List.{List, [], _∷_}
-use mathlib.Core.Path.{_≡_, refl}
-use Prim.Native.Nat.{ℕ, zero, suc, _+_, _*_, _≤_}
+-- The interrupt has at most 4,096 readings (document 01, demand 1), whatever is read and whatever becomes of the state between two accesses: on no
+-- path are there more than two of its waits for sie_free, one in `settle` and one in `toggled`
+use mathlib.Core.Bool.{Bool, true, false, cond}
+use mathlib.Core.Path.{refl}
+use Prim.Native.Nat.{ℕ, zero, suc, _+_, _≤_}
 use native.Mathlib.Omega.{arith}
 use lib.Dec.{eqb}
 use Rattle.bits.specs.Walk.{setBits}
-use Rattle.regs.specs.declared.Reg.{Reg}
 use Rattle.regs.specs.declared.Dir.{Dir}
 use Rattle.regs.specs.declared.Dir.the-variants.{Out, In}
 use Rattle.regs.specs.declared.Token.{Token}
 use Rattle.regs.specs.declared.Token.the-variants as tok
 use Rattle.regs.specs.Status.{endpoint, token}
-use Rattle.state.specs.declared.Globals.{Globals}
 use Rattle.script.specs.declared.Transfer.{Transfer}
-use Rattle.script.specs.Cells.{Cell, Val, globals-cell, wakes-cell, ep-cell}
-use Rattle.script.specs.Script.{Script, ret, bind, done, test, when, read, write, wait, callback, get, put, is, look, fetch, act, hand, row, Test, Look, Fetch, Act, Hand, Row}
-use Rattle.script.specs.Statics.{modify, modifyEp, modifyReg, modifyIntEn, modifyEpType, wake, wakeBus}
+use Rattle.script.specs.Cells.{globals-cell, wakes-cell, ep-cell}
+use Rattle.script.specs.Script.{Script}
 use Rattle.script.specs.IsoIn.{firstInFrame, isoInLoad, isoInComplete, unseen, sofOne, sofWalk, onSof, lateOne, lateWalk}
 use Rattle.script.specs.IsoOut.{arrives, checkOne, checkWalk, isoOutCheck}
 use Rattle.script.specs.Handler.{looks, sieWait, nakNonIso, toggled, retake, settle, received, sent, sofArm, outArm, isoInArm, inArm, dispatch, movedOn, ep0MovedOn, isoFor, framed, served, onTransfer, onSetup, onInterrupt}
 use Rattle.script.specs.Answers.{Answer, staged, resultless, operation}
 use Rattle.script.specs.Calls.{interruptCode}
 use Rattle.script.specs.Readings.{Reads≤}
-use Rattle.script.specs.ReadingsLaws.{reads-more, reads-ret, reads-bind, reads-test, reads-cond, reads-read, reads-write, reads-wait, reads-callback, reads-hand, reads-get, reads-put, reads-is, reads-look, reads-fetch, reads-act, reads-row, reads-mask, free, once, then-free, either}
+use Rattle.script.specs.ReadingsLaws.{reads-more, reads-ret, reads-bind, reads-test, reads-cond, reads-mask, free, once, then-free, either, one-read, no-write, no-get, no-put, no-is, no-look, no-act, no-hand, no-callback, when-reads, assign, assign-write, modifyReg-reads}
 
 -- what an arm reads at most, EP0's and another's; and what any token's does
 abbrev armMost : Bool → ℕ
@@ -47,51 +43,6 @@ served-le true = omega arith
 served-le false = omega arith
 
 module _ {i : Bool} where
-  -- ---- single steps
-
-  pub one-read : {n : ℕ} {r : Reg} {e : ℕ} → Reads≤ {i = i} (suc n) (read r e)
-  one-read = reads-read (λ _. reads-ret)
-
-  pub no-write : {n : ℕ} {r : Reg} {e v : ℕ} → Reads≤ {i = i} n (write r e v)
-  no-write = reads-write reads-ret
-
-  pub no-get : {n : ℕ} (c : Cell) → Reads≤ {i = i} n (get c)
-  no-get c = reads-get (λ _. reads-ret)
-
-  pub no-put : {n : ℕ} (c : Cell) {v : Val c} → Reads≤ {i = i} n (put c v)
-  no-put c = reads-put reads-ret
-
-  pub no-is : {n : ℕ} {q : Test} → Reads≤ {i = i} n (is q)
-  no-is = reads-is (λ _. reads-ret)
-
-  pub no-look : {n : ℕ} {q : Look} → Reads≤ {i = i} n (look q)
-  no-look = reads-look (λ _. reads-ret)
-
-  pub no-fetch : {n : ℕ} {q : Fetch} → Reads≤ {i = i} n (fetch q)
-  no-fetch = reads-fetch (λ _. reads-ret)
-
-  pub no-act : {n : ℕ} {q : Act} → Reads≤ {i = i} n (act q)
-  no-act = reads-act reads-ret
-
-  pub no-hand : {n : ℕ} {q : Hand} → Reads≤ {i = i} n (hand q)
-  no-hand = reads-hand reads-ret
-
-  pub no-callback : {n : ℕ} → Reads≤ {i = i} n callback
-  no-callback = reads-callback reads-ret
-
-  pub when-reads : {n : ℕ} {b : Bool} {p : Script i Unit} → Reads≤ n p → Reads≤ n (when b p)
-  when-reads x = either x reads-ret
-
-  -- an assignment (`modify`, `modifyEp`, `wake`), and one that is written out (`modifyIntEn`)
-  pub assign : {n : ℕ} (c : Cell) {f : Val c → Val c} → Reads≤ {i = i} n (bind (get c) (λ v. put c (f v)))
-  assign c = free (no-get c) (λ _. no-put c)
-
-  pub assign-write : {n : ℕ} (c : Cell) {f : Val c → Val c} {r : Reg} {e : ℕ} {h : Val c → ℕ} → Reads≤ {i = i} n (bind (get c) (λ v. bind (put c (f v)) (λ _. write r e (h v))))
-  assign-write c = free (no-get c) (λ _. free (no-put c) (λ _. no-write))
-
-  pub modifyReg-reads : {n : ℕ} {r : Reg} {e : ℕ} {f : ℕ → ℕ} → Reads≤ {i = i} (suc n) (modifyReg r e f)
-  modifyReg-reads = once one-read (λ _. no-write)
-
   -- ---- isochronous walks
 
   isoInLoad-reads : {n : ℕ} (e : ℕ) → Reads≤ {i = i} n (isoInLoad e)
