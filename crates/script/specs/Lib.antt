@@ -19,3 +19,4 @@ pub mod Readings
 pub mod ReadingsLaws
 pub mod ReadingsInterrupt
 pub mod ReadingsCalls
+pub mod ReadingsReached
