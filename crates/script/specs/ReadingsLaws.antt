@@ -17,7 +17,7 @@ use Rattle.script.specs.Tree.{ends, asks, Prog, bindOut}
 use Rattle.script.specs.Cells.{Cell, Val}
 use Rattle.script.specs.Script.{Script, Ops, run, rows, Test, Look, Fetch, Act, Hand, handAsk, arrive, send, place, place0, Row, switch, bus-reset, lastOf, rowAsk, ret, bind, test, read-then, write-then, wait-then, callback-then, get-then, put-then, is-then, look-then, fetch-then, act-then, hand-then, row-then, _>>_, done, when, read, write, callback, get, put, is, look, fetch, act, hand}
 use Rattle.script.specs.Statics.{modifyReg}
-use Rattle.script.specs.Readings.{reading, Path, readings, AtMost, Reads≤}
+use Rattle.script.specs.Readings.{reading, Continues, readings, AtMost, Reads≤}
 
 -- ---- outcomes
 

@@ -1,4 +1,4 @@
--- The bound of the interrupt's readings is met, so that without a premise on the state no smaller one holds: a run of 4,060
+-- A run of the interrupt with 4,060 readings: no smaller bound holds of every state
 use mathlib.Core.Bool.{Bool, true, false}
 use mathlib.Core.List.{List, [], _∷_}
 use mathlib.Core.Path.{_≡_, refl}
@@ -20,10 +20,10 @@ use Rattle.script.specs.Handler.{looks, outNaks, inNaks, repeated, sameO
 use Rattle.script.specs.Endpoint.{no-request}
 use Rattle.script.specs.Control.{no-control}
 use Rattle.script.specs.Calls.{interruptCode}
-use Rattle.script.specs.Readings.{Path, readings}
+use Rattle.script.specs.Readings.{Continues, readings}
 
--- a state that is no more than whether endpoints are isochronous: all others' numbers stand still. Every endpoint is enabled, polled every
--- microframe, armed, and its slot has changed; the last start of frame was another
+-- a state that is no more than whether the endpoints are isochronous; all else stands still. Every endpoint is in both walks and armed, every
+-- slot has changed, and the last start of frame was another
 abbrev plain : Bool → Plain
 plain iso = record { ready = 0; len = 0; armed = 1; «last_frame» = 0x1800; tog = 0; iso = flag iso; kind = 0; base = 0; «max_len» = 64 }
 
@@ -55,13 +55,13 @@ standing = record {
 }
 
 -- every reading 0
-abbrev zeros : ℕ → Path Bool
+abbrev zeros : ℕ → Continues Bool
 zeros zero = []
 zeros (suc n) = (0, false) ∷ zeros n
 
 -- int_fg a transfer; the SIE busy; OUT 1, not isochronous when it is answered NAK, isochronous after the release, not isochronous
 -- after the wait
-abbrev longest : Path Bool
+abbrev longest : Continues Bool
 longest = (2, false) ∷ (0, false) ∷ (1, false) ∷ (0, false) ∷ (0, false) ∷ (0, false) ∷ (0, true) ∷ zeros 4200
 
 pub interrupt-reached : readings (run standing interruptCode false) longest ≡ 4060
