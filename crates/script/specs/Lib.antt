@@ -14,3 +14,8 @@ pub mod Endpoint
 pub mod Control
 pub mod Driver
 pub mod Calls
+pub mod Readings
+pub mod ReadingsLaws
+pub mod ReadingsInterrupt
+pub mod ReadingsCalls
+pub mod ReadingsReached
