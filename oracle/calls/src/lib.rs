@@ -2,6 +2,7 @@
 //! port) is driven through. Nothing here knows an implementation.
 
 mod call;
+pub mod edits;
 pub mod random;
 pub mod replay;
 mod rng;

@@ -55,6 +55,8 @@ struct Run<'a> {
     left: i32,
     reads: u32,
     writes: u32,
+    /// The firmware does nothing meanwhile: rings fill.
+    flood: bool,
 }
 
 /// A run of about `length` calls.
@@ -82,6 +84,7 @@ pub fn run(driver: &mut dyn Driver, seed: u64, length: u32) -> Vec<Entry> {
         left: length as i32,
         reads: 0,
         writes: 0,
+        flood: false,
     };
     r.start_up();
     while r.left > 0 {
@@ -157,7 +160,7 @@ impl Run<'_> {
         self.status = None;
         self.call(call);
         while !self.ended() {
-            if self.answer == Answer::Callback && self.rng.chance(70) {
+            if self.answer == Answer::Callback && !self.flood && self.rng.chance(70) {
                 for _ in 0..self.rng.range(1, 3) {
                     self.user();
                 }
@@ -165,8 +168,12 @@ impl Run<'_> {
             if self.rng.chance(8) {
                 self.any_store();
             }
-            if interrupt && self.rng.chance(10) {
+            if interrupt && !self.flood && self.rng.chance(10) {
                 self.user();
+            }
+            // the mark over a packet that the check has seen
+            if interrupt && matches!(self.answer, Answer::Read { reg: 1, .. }) && self.rng.chance(4) {
+                self.store_marks();
             }
             if self.rng.chance(2) {
                 self.question();
@@ -349,6 +356,16 @@ impl Run<'_> {
         }
     }
 
+    fn store_marks(&mut self) {
+        if let Some(ep) = self.one_of(Dir::Out, true) {
+            let max = self.outs[ep as usize].unwrap().max as usize;
+            if let (Some(offset), 4..) = (self.receive[ep as usize], max) {
+                let data = [0xC3, 0xA5, 0x3C, 0x5A].repeat(max / 4);
+                self.call(Call::Store { offset, data });
+            }
+        }
+    }
+
     /// Open, close or queue: between operations or in an interrupt.
     fn user(&mut self) {
         match self.rng.below(12) {
@@ -467,12 +484,12 @@ impl Run<'_> {
                 self.operate(Call::Interrupt);
             }
             710..=729 => self.any_store(),
-            730..=829 => self.user(),
-            830..=909 => self.request(),
-            910..=929 => self.bus(),
-            930..=944 => self.enabling(),
-            945..=959 => self.stalling(),
-            960..=979 => self.pacing(),
+            730..=799 => self.user(),
+            800..=894 => self.request(),
+            895..=909 => self.bus(),
+            910..=929 => self.enabling(),
+            930..=954 => self.stalling(),
+            955..=979 => self.pacing(),
             980..=989 => self.control_call(),
             _ => self.question(),
         }
@@ -490,8 +507,10 @@ impl Run<'_> {
             self.next_frame();
         }
         // a flood fills the ring
-        let times = if self.rng.chance(6) { self.rng.range(10, 20) } else { 1 };
+        let times = if self.rng.chance(8) { self.rng.range(14, 20) } else { 1 };
+        self.flood = times > 1;
         for _ in 0..times {
+            let n = if self.flood { n.max(1).min(max) } else { n };
             self.store(ep as usize, n);
             if self.rng.chance(80) {
                 self.token(OUT, ep as u32, n);
@@ -501,6 +520,7 @@ impl Run<'_> {
                 self.token(token, other, n);
             }
         }
+        self.flood = false;
     }
 
     fn bulk_out(&mut self) {
@@ -554,6 +574,18 @@ impl Run<'_> {
         }
     }
 
+    /// Poll every request that was begun.
+    fn poll_all(&mut self) {
+        for ep in 1..16 {
+            if self.reads >> ep & 1 != 0 && self.call(Call::PollRead(ep)) != Answer::NotYet {
+                self.reads &= !(1 << ep);
+            }
+            if self.writes >> ep & 1 != 0 && self.call(Call::PollWrite(ep)) != Answer::NotYet {
+                self.writes &= !(1 << ep);
+            }
+        }
+    }
+
     fn bus(&mut self) {
         self.plan = Plan::default();
         match self.rng.below(10) {
@@ -599,6 +631,7 @@ impl Run<'_> {
         let on = self.rng.chance(50);
         self.operate(Call::SetEnabled { ep, dir, on });
         if !on && self.rng.chance(70) {
+            self.poll_all();
             if self.rng.chance(50) {
                 self.request();
             }

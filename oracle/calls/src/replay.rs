@@ -95,6 +95,22 @@ pub fn replay(driver: &mut dyn Driver, list: &str) -> Result<(String, Option<Str
         i += 1;
         match line {
             Line::Comment(c) => printer.comment(c),
+            Line::Whole { call, readings } => {
+                let mut readings = readings.iter();
+                let mut entry = session.call(call);
+                loop {
+                    printer.entry(&entry);
+                    let value = match entry.answer {
+                        Answer::Read { .. } => *readings.next().ok_or(format!("line {number}: a reading is missing"))?,
+                        Answer::Write { .. } | Answer::Wait(_) | Answer::Callback => 0,
+                        _ => break,
+                    };
+                    entry = session.call(&Call::Continue(value));
+                }
+                if readings.next().is_some() {
+                    return Err(format!("line {number}: a reading is left"));
+                }
+            }
             Line::Slots { .. } => return Err(format!("line {number}: no call before")),
             Line::Call { call, answer } => {
                 let mut said = vec![];

@@ -387,6 +387,8 @@ pub enum Line {
     Comment(String),
     /// A call, and the answer it is said to have.
     Call { call: Call, answer: Option<Answer> },
+    /// A call to be continued to its end, with these readings in order.
+    Whole { call: Call, readings: Vec<u32> },
     /// The call before changed these bytes.
     Slots { offset: u32, bytes: Vec<u8> },
 }
@@ -416,6 +418,17 @@ pub fn parse(text: &str) -> Parsed<Vec<(usize, Line)>> {
             }
             _ => (line, 1),
         };
+        if let Some((c, r)) = line.split_once('<') {
+            let call = parse_call(c).map_err(at)?;
+            let mut readings = vec![];
+            for w in r.split_whitespace() {
+                let (v, n) = w.split_once('*').unwrap_or((w, "1"));
+                let (v, n) = (number(v).map_err(at)?, number(n).map_err(at)?);
+                readings.extend((0..n).map(|_| v));
+            }
+            all.push((i + 1, Line::Whole { call, readings }));
+            continue;
+        }
         let one = match line.split_once("->") {
             None => Line::Call { call: parse_call(line).map_err(at)?, answer: None },
             Some((c, a)) => Line::Call {

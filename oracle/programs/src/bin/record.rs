@@ -1,4 +1,5 @@
-//! record [--seed N] [--runs N] [--length N] [--print]: random runs on the Rust, from a seed.
+//! record [--seed N] [--runs N] [--length N] [--print]: random runs on the Rust, from a seed. Prints how often each arm was
+//! reached, or with --print the runs themselves.
 
 fn main() {
     let (mut seed, mut runs, mut length, mut print) = (1, 1000, 300, false);
@@ -13,7 +14,7 @@ fn main() {
             _ => panic!("{a}"),
         }
     }
-    let mut rust = original::Rust::new();
+    let mut rust = traced::Rust::new();
     let (mut calls, start) = (0, std::time::Instant::now());
     for i in 0..runs {
         let entries = oracle::random::run(&mut rust, seed + i, length);
@@ -23,6 +24,9 @@ fn main() {
             println!("# seed {}", seed + i);
             print!("{}", oracle::text::print(&entries));
         }
+    }
+    if !print {
+        print!("{}", programs::branch_table().0);
     }
     eprintln!("{runs} runs, {calls} calls, {:.2} s", start.elapsed().as_secs_f64());
 }

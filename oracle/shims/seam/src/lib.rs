@@ -76,7 +76,7 @@ struct Seam {
     cheap: bool,
     regs: [[u32; 16]; reg::COUNT],
     written: [[u32; 16]; reg::COUNT],
-    hits: [u64; 256],
+    hits: [u64; 512],
 }
 
 static mut SEAM: Seam = Seam {
@@ -87,7 +87,7 @@ static mut SEAM: Seam = Seam {
     cheap: false,
     regs: [[0; 16]; reg::COUNT],
     written: [[0; 16]; reg::COUNT],
-    hits: [0; 256],
+    hits: [0; 512],
 };
 
 /// The Rust under test has statics, and so has this crate: one thread at a time.
@@ -208,7 +208,14 @@ pub fn hit(arm: usize) -> bool {
     true
 }
 
-pub fn hits() -> [u64; 256] {
+/// Counts `arm` where `c` holds, else the arm after it.
+#[inline]
+pub fn branch(arm: usize, c: bool) -> bool {
+    hit(if c { arm } else { arm + 1 });
+    c
+}
+
+pub fn hits() -> [u64; 512] {
     seam().hits
 }
 
