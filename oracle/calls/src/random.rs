@@ -34,6 +34,7 @@ struct Run<'a> {
     rng: Rng,
     session: Session<'a>,
     entries: Vec<Entry>,
+    buffer: Option<(u32, u32)>,
     size: u32,
     count: u32,
     callback: bool,
@@ -61,10 +62,16 @@ struct Run<'a> {
 
 /// A run of about `length` calls.
 pub fn run(driver: &mut dyn Driver, seed: u64, length: u32) -> Vec<Entry> {
+    run_in(driver, seed, length, None)
+}
+
+/// The same with this buffer size and count.
+pub fn run_in(driver: &mut dyn Driver, seed: u64, length: u32, buffer: Option<(u32, u32)>) -> Vec<Entry> {
     let mut r = Run {
         rng: Rng::new(seed),
         session: Session::new(driver),
         entries: vec![],
+        buffer,
         size: 0,
         count: 0,
         callback: false,
@@ -825,7 +832,7 @@ impl Run<'_> {
         self.paced = 0;
         (self.reads, self.writes) = (0, 0);
         self.index = self.rng.below(16384);
-        self.size = self.rng.pick(&[8, 8, 16, 32, 64, 64, 512]);
+        self.size = self.buffer.map_or_else(|| self.rng.pick(&[8, 8, 16, 32, 64, 64, 512]), |b| b.0);
         let wanted = self.wanted();
         let need: u32 = wanted.iter().map(|w| buffers(w.0, w.3)).sum::<u32>() + 1;
         let most = 65_536 / self.size;
@@ -836,6 +843,7 @@ impl Run<'_> {
             _ => need + self.rng.below(3),
         }
         .min(most);
+        self.count = self.buffer.map_or(self.count, |b| b.1);
         self.callback = self.rng.chance(50);
         self.operate(Call::StartUp { size: self.size, count: self.count, callback: self.callback });
         if self.rng.chance(50) {

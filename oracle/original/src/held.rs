@@ -63,7 +63,10 @@ pub fn objects(size: u32) -> Box<dyn Objects> {
     }
 }
 
-/// The same with the array's own length.
+/// Sizes and counts for which there are arrays of their own length.
+pub const EXACT: [(u32, u32); 5] = [(8, 30), (16, 41), (32, 20), (64, 24), (512, 23)];
+
+/// `objects` over an array of its own length.
 pub fn exact_objects(size: u32, count: u32) -> Option<Box<dyn Objects>> {
     Some(match (size, count) {
         (8, 30) => Box::new(Held::<30, 8>::new()),

@@ -17,5 +17,5 @@ pub mod usb;
 pub mod usbhs;
 
 pub(crate) use hal::*;
-pub use held::bench;
+pub use held::{bench, EXACT};
 pub use rust::Rust;
