@@ -22,7 +22,11 @@ pub fn parse(text: &str) -> Vec<Edit> {
         .map(|pair| {
             let (place, title) = pair[0].split_once(' ').expect("a title");
             let file = FILES.iter().find(|f| place.starts_with(f.0)).expect("M, E, C or A").1;
-            let (old, new) = pair[1].trim().split_once(" ~> ").expect("old ~> new");
+            let edit = pair[1].trim();
+            let (old, new) = match edit.strip_suffix(" ~>") {
+                Some(old) => (old, ""),
+                None => edit.split_once(" ~> ").expect("old ~> new"),
+            };
             Edit {
                 file,
                 line: place[1..].parse().expect("a line's number"),

@@ -64,16 +64,13 @@ pub fn objects(size: u32) -> Box<dyn Objects> {
 }
 
 /// Sizes and counts for which there are arrays of their own length.
-pub const EXACT: [(u32, u32); 5] = [(8, 30), (16, 41), (32, 20), (64, 24), (512, 23)];
+pub const EXACT: [(u32, u32); 2] = [(8, 41), (64, 24)];
 
 /// `objects` over an array of its own length.
 pub fn exact_objects(size: u32, count: u32) -> Option<Box<dyn Objects>> {
     Some(match (size, count) {
-        (8, 30) => Box::new(Held::<30, 8>::new()),
-        (16, 41) => Box::new(Held::<41, 16>::new()),
-        (32, 20) => Box::new(Held::<20, 32>::new()),
+        (8, 41) => Box::new(Held::<41, 8>::new()),
         (64, 24) => Box::new(Held::<24, 64>::new()),
-        (512, 23) => Box::new(Held::<23, 512>::new()),
         _ => return None,
     })
 }
@@ -315,7 +312,7 @@ impl<const NR: usize, const SIZE: usize> Objects for Held<NR, SIZE> {
     }
 }
 
-/// For measuring: the interrupt with nothing around it.
+/// For measuring: the Rust's functions with nothing around them.
 pub mod bench {
     use super::*;
 
@@ -324,5 +321,14 @@ pub mod bench {
     #[inline]
     pub unsafe fn on_interrupt() {
         <InterruptHandler<USBHS> as Handler<Global>>::on_interrupt()
+    }
+
+    /// The length of the oldest packet, which is taken.
+    pub fn take(ep: usize) -> Option<usize> {
+        usbhs::iso_out_take(ep, |p| p.len())
+    }
+
+    pub fn queue(ep: usize, data: &[u8]) -> bool {
+        usbhs::iso_in_prime(ep, data)
     }
 }

@@ -197,6 +197,7 @@ impl Rust {
                 // an accept that ends silently
                 (On::Control, Out::Ended(Finish::Nothing)) => Answer::Refused(9),
                 (_, Out::Ended(Finish::Refused(n))) => Answer::Refused(n),
+                (_, Out::Panicked) => Answer::Panicked,
                 (_, out) => panic!("{call:?} is over at once: {out:?}"),
             };
         }

@@ -35,7 +35,7 @@ fn any_order() {
 #[test]
 fn exact_arrays() {
     for (i, buffer) in original::EXACT.into_iter().enumerate() {
-        for seed in 0..100 {
+        for seed in 0..200 {
             let seed = seed + 1000 * i as u64;
             let longest = print(&run_in(&mut original::Rust::new(), seed, 250, Some(buffer)));
             let exact = print(&run_in(&mut original::Rust::exact(), seed, 250, Some(buffer)));

@@ -136,8 +136,8 @@ pub fn write(reg: u8, ep: u8, value: u32) {
     if kept(reg) {
         s.regs[reg as usize][ep as usize] = value;
     }
+    s.written[reg as usize][ep as usize] = value;
     if s.cheap {
-        s.written[reg as usize][ep as usize] = value;
         return;
     }
     suspend(Ask::Write { reg, ep, value });
