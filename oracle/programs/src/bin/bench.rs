@@ -6,8 +6,8 @@ use std::time::Instant;
 use oracle::{Answer, Call, Dir, Driver, Kind};
 use seam::reg;
 
-const RUNS: usize = 15;
-const ROUNDS: usize = 20_000;
+const RUNS: usize = 300;
+const ROUNDS: usize = 1000;
 
 /// Endpoints as in runs/worked-traces.txt: 1 isochronous OUT, 2 isochronous IN, 3 bulk OUT, 4 bulk IN, all enabled.
 fn set_up(rust: &mut original::Rust) {
