@@ -3,6 +3,7 @@
 
 mod call;
 pub mod edits;
+pub mod number;
 pub mod random;
 pub mod replay;
 mod rng;

@@ -85,9 +85,20 @@ pub fn as_set(answer: &Answer) -> Answer {
 
 /// Replays a list; answers it with the driver's answers, and the first line where they are not the list's.
 pub fn replay(driver: &mut dyn Driver, list: &str) -> Result<(String, Option<String>), String> {
+    replay_entries(driver, list).map(|r| (r.text, r.wrong))
+}
+
+pub struct Replayed {
+    pub text: String,
+    pub entries: Vec<Entry>,
+    pub wrong: Option<String>,
+}
+
+pub fn replay_entries(driver: &mut dyn Driver, list: &str) -> Result<Replayed, String> {
     let lines = text::parse(list)?;
     let mut session = Session::new(driver);
     let mut printer = Printer::default();
+    let mut entries = vec![];
     let mut wrong = None;
     let mut i = 0;
     while i < lines.len() {
@@ -100,6 +111,7 @@ pub fn replay(driver: &mut dyn Driver, list: &str) -> Result<(String, Option<Str
                 let mut entry = session.call(call);
                 loop {
                     printer.entry(&entry);
+                    entries.push(entry.clone());
                     let value = match entry.answer {
                         Answer::Read { .. } => *readings.next().ok_or(format!("line {number}: a reading is missing"))?,
                         Answer::Write { .. } | Answer::Wait(_) | Answer::Callback => 0,
@@ -128,11 +140,12 @@ pub fn replay(driver: &mut dyn Driver, list: &str) -> Result<(String, Option<Str
                     wrong = Some(format!("line {number}: the driver answers {}", is.trim_end()));
                 }
                 printer.entry(&entry);
+                entries.push(entry);
             }
         }
     }
     printer.flush();
-    Ok((printer.out, wrong))
+    Ok(Replayed { text: printer.out, entries, wrong })
 }
 
 /// Two drivers, given the same calls: the first difference but for the order of wake-ups.

@@ -1,6 +1,7 @@
 //! The port through its exported calls (include/usbhs.h).
 
-use oracle::{Answer, Call, Dir, Driver, Wake};
+use oracle::number::decode as answer;
+use oracle::{Answer, Call, Dir, Driver};
 
 macro_rules! exported {
     ($(fn $name:ident($($arg:ident: $type:ty),*) -> $answer:ty;)*) => {
@@ -77,30 +78,6 @@ impl Port {
 
 fn dir(d: Dir) -> u32 {
     (d == Dir::In) as u32
-}
-
-fn answer(a: u64) -> Answer {
-    let byte = |at: u32| (a >> at) as u8;
-    let short = |at: u32| (a >> at & 0xFFFF) as u32;
-    match a & 15 {
-        0 => Answer::Refused(byte(8)),
-        1 => Answer::Read { reg: byte(8), ep: byte(16) },
-        2 => Answer::Write { reg: byte(8), ep: byte(16), value: (a >> 32) as u32 },
-        3 => Answer::Wait(byte(8) as u32),
-        4 => Answer::Callback,
-        5 => {
-            let set = |at: u32| (0..16u8).filter(move |e| a >> (at + *e as u32) & 1 != 0);
-            let bus = (a >> 56 & 1 != 0).then_some(Wake::Bus);
-            Answer::End {
-                result: short(8),
-                wakes: bus.into_iter().chain(set(40).map(Wake::Out)).chain(set(24).map(Wake::In)).collect(),
-            }
-        }
-        6 => Answer::NotYet,
-        7 => Answer::Done { length: short(8), bytes: vec![] },
-        8 => Answer::Shown { offset: (a >> 32) as u32, length: short(8) },
-        k => panic!("an answer of kind {k}"),
-    }
 }
 
 /// A poll that fills `slice`.
