@@ -17,29 +17,66 @@ pub enum Kind {
 
 #[derive(Clone, PartialEq, Eq, Debug)]
 pub enum Call {
-    StartUp { size: u32, count: u32, callback: bool },
+    StartUp {
+        size: u32,
+        count: u32,
+        callback: bool,
+    },
     Continue(u32),
-    Allocate { kind: Kind, address: Option<u8>, maximum: u16, interval: u8, dir: Dir },
+    Allocate {
+        kind: Kind,
+        address: Option<u8>,
+        maximum: u16,
+        interval: u8,
+        dir: Dir,
+    },
     Start(u16),
     Interrupt,
     BusPoll,
     BusEnable,
     BusDisable,
-    SetEnabled { ep: u8, dir: Dir, on: bool },
-    SetStalled { ep: u8, dir: Dir, on: bool },
-    IsStalled { ep: u8, dir: Dir },
-    SetPaced { ep: u8, on: bool },
+    SetEnabled {
+        ep: u8,
+        dir: Dir,
+        on: bool,
+    },
+    SetStalled {
+        ep: u8,
+        dir: Dir,
+        on: bool,
+    },
+    IsStalled {
+        ep: u8,
+        dir: Dir,
+    },
+    SetPaced {
+        ep: u8,
+        on: bool,
+    },
     Advance(u8),
     Microframe,
-    Read { ep: u8, length: u32 },
+    Read {
+        ep: u8,
+        length: u32,
+    },
     PollRead(u8),
-    Write { ep: u8, data: Vec<u8> },
+    Write {
+        ep: u8,
+        data: Vec<u8>,
+    },
     PollWrite(u8),
     Setup,
     PollSetup,
-    DataOut { length: u32, first: bool },
+    DataOut {
+        length: u32,
+        first: bool,
+    },
     PollDataOut,
-    DataIn { data: Vec<u8>, first: bool, last: bool },
+    DataIn {
+        data: Vec<u8>,
+        first: bool,
+        last: bool,
+    },
     PollDataIn,
     Accept,
     AcceptSetAddress(u8),
@@ -47,12 +84,21 @@ pub enum Call {
     Reject,
     Open(u8),
     Close(u8),
-    Queue { ep: u8, data: Vec<u8> },
+    Queue {
+        ep: u8,
+        data: Vec<u8>,
+    },
     Pending(u8),
     Overruns(u8),
-    Enabled { ep: u8, dir: Dir },
+    Enabled {
+        ep: u8,
+        dir: Dir,
+    },
     /// The chip stores these bytes in the slot buffer.
-    Store { offset: u32, data: Vec<u8> },
+    Store {
+        offset: u32,
+        data: Vec<u8>,
+    },
     /// The firmware fills the whole buffer before it is lent: byte i is `(seed + i * 37) mod 256`.
     Fill(u8),
 }
@@ -66,16 +112,32 @@ pub enum Wake {
 
 #[derive(Clone, PartialEq, Eq, Debug)]
 pub enum Answer {
-    Read { reg: u8, ep: u8 },
-    Write { reg: u8, ep: u8, value: u32 },
+    Read {
+        reg: u8,
+        ep: u8,
+    },
+    Write {
+        reg: u8,
+        ep: u8,
+        value: u32,
+    },
     Wait(u32),
     Callback,
     /// In the Rust's order, repeats included.
-    End { result: u32, wakes: Vec<Wake> },
+    End {
+        result: u32,
+        wakes: Vec<Wake>,
+    },
     NotYet,
     /// The bytes are those that a read, a data_out or a setup received.
-    Done { length: u32, bytes: Vec<u8> },
-    Shown { offset: u32, length: u32 },
+    Done {
+        length: u32,
+        bytes: Vec<u8>,
+    },
+    Shown {
+        offset: u32,
+        length: u32,
+    },
     /// A question's answer.
     Number(u32),
     Refused(u8),

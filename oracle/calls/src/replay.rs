@@ -62,7 +62,7 @@ fn changes(before: &mut [u8], now: &[u8]) -> Vec<(u32, Vec<u8>)> {
             i += 1;
         }
         // whole marks read as marks
-        let (from, end) = (from & !3, (end + 3 & !3).min(now.len()));
+        let (from, end) = (from & !3, ((end + 3) & !3).min(now.len()));
         all.push((from as u32, now[from..end].to_vec()));
         before[from..end].copy_from_slice(&now[from..end]);
         i = end;
@@ -113,7 +113,9 @@ pub fn replay_entries(driver: &mut dyn Driver, list: &str) -> Result<Replayed, S
                     printer.entry(&entry);
                     entries.push(entry.clone());
                     let value = match entry.answer {
-                        Answer::Read { .. } => *readings.next().ok_or(format!("line {number}: a reading is missing"))?,
+                        Answer::Read { .. } => {
+                            *readings.next().ok_or(format!("line {number}: a reading is missing"))?
+                        }
                         Answer::Write { .. } | Answer::Wait(_) | Answer::Callback => 0,
                         _ => break,
                     };
@@ -146,17 +148,4 @@ pub fn replay_entries(driver: &mut dyn Driver, list: &str) -> Result<Replayed, S
     }
     printer.flush();
     Ok(Replayed { text: printer.out, entries, wrong })
-}
-
-/// Two drivers, given the same calls: the first difference but for the order of wake-ups.
-pub fn compare(a: &mut dyn Driver, b: &mut dyn Driver, calls: &[Call]) -> Option<String> {
-    let (mut a, mut b) = (Session::new(a), Session::new(b));
-    for (i, call) in calls.iter().enumerate() {
-        let (x, y) = (a.call(call), b.call(call));
-        let outside = x.answer == Answer::Outside || y.answer == Answer::Outside;
-        if !outside && (as_set(&x.answer), &x.changed) != (as_set(&y.answer), &y.changed) {
-            return Some(format!("call {i}: {}against {}", text::print(&[x]), text::print(&[y])));
-        }
-    }
-    None
 }

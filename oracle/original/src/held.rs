@@ -14,7 +14,9 @@ use seam::{Coroutine, Finish, Out};
 use crate::interrupt::typelevel::{Binding, Handler};
 use crate::peripherals::USBHS;
 use crate::usb::EndpointDataBuffer;
-use crate::usbhs::{self, control::ControlPipe, probe, Bus, Driver, Instance, InterruptHandler, WakeupInterruptHandler};
+use crate::usbhs::{
+    self, control::ControlPipe, probe, Bus, Driver, Instance, InterruptHandler, WakeupInterruptHandler,
+};
 use crate::Peri;
 
 struct Pin;
@@ -30,8 +32,7 @@ unsafe impl Binding<Global, InterruptHandler<USBHS>> for Irqs {}
 unsafe impl Binding<Wakeup, WakeupInterruptHandler<USBHS>> for Irqs {}
 
 type Side<const NR: usize, const SIZE: usize> = Driver<'static, USBHS, NR, SIZE>;
-type EpOut<const NR: usize, const SIZE: usize> =
-    <Side<NR, SIZE> as embassy_usb_driver::Driver<'static>>::EndpointOut;
+type EpOut<const NR: usize, const SIZE: usize> = <Side<NR, SIZE> as embassy_usb_driver::Driver<'static>>::EndpointOut;
 type EpIn<const NR: usize, const SIZE: usize> = <Side<NR, SIZE> as embassy_usb_driver::Driver<'static>>::EndpointIn;
 
 pub struct Held<const NR: usize, const SIZE: usize> {
@@ -167,7 +168,7 @@ impl<const NR: usize, const SIZE: usize> Held<NR, SIZE> {
         // SAFETY: the driver stays if this panics; nothing in it is dropped twice, as it drops nothing
         let driver = unsafe { core::ptr::read(self.driver.as_ref().unwrap()) };
         let (bus, control) = driver.start(maximum);
-        core::mem::forget(self.driver.take());
+        self.driver = None;
         self.bus = Some(bus);
         self.control = Some(control);
         Finish::Value(0)
@@ -284,14 +285,18 @@ impl<const NR: usize, const SIZE: usize> Objects for Held<NR, SIZE> {
                 let data = data.clone();
                 text!(begin | h | h.data_in(&data, first, last))
             }
-            Call::Accept => text!(begin | h | {
-                drive(h.control.as_mut().unwrap().accept());
-                Finish::Nothing
-            }),
-            Call::AcceptSetAddress(a) => text!(begin | h | {
-                drive(h.control.as_mut().unwrap().accept_set_address(a));
-                Finish::Nothing
-            }),
+            Call::Accept => text!(
+                begin | h | {
+                    drive(h.control.as_mut().unwrap().accept());
+                    Finish::Nothing
+                }
+            ),
+            Call::AcceptSetAddress(a) => text!(
+                begin | h | {
+                    drive(h.control.as_mut().unwrap().accept_set_address(a));
+                    Finish::Nothing
+                }
+            ),
             Call::Open(ep) => text!(|_h| match usbhs::iso_out_take(ep as usize, seam::shown) {
                 Some(()) => Finish::Value(0),
                 None => Finish::Nothing,

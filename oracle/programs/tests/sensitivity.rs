@@ -27,8 +27,7 @@ fn main() {
 }
 "#;
 
-const SHIMS: [&str; 6] =
-    ["seam", "ch32_metapac", "embassy_sync", "embassy_usb_driver", "bitmaps", "critical_section"];
+const SHIMS: [&str; 6] = ["seam", "ch32_metapac", "embassy_sync", "embassy_usb_driver", "bitmaps", "critical_section"];
 
 fn rustc(out: &Path, source: &Path, name: &str, kind: &str) {
     let mut c = Command::new(std::env::var("RUSTC").unwrap_or_else(|_| "rustc".into()));
@@ -68,8 +67,7 @@ fn every_mutation_is_noticed() {
     let out = Path::new(env!("CARGO_TARGET_TMPDIR")).join("mutants");
     let _ = std::fs::remove_dir_all(&out);
     std::fs::create_dir_all(&out).unwrap();
-    let mut sample: Vec<PathBuf> =
-        std::fs::read_dir(oracle.join("runs")).unwrap().map(|f| f.unwrap().path()).collect();
+    let mut sample: Vec<PathBuf> = std::fs::read_dir(oracle.join("runs")).unwrap().map(|f| f.unwrap().path()).collect();
     sample.sort();
     for shim in SHIMS {
         rustc(&out, &oracle.join(format!("shims/{shim}/src/lib.rs")), shim, "lib");
@@ -83,7 +81,7 @@ fn every_mutation_is_noticed() {
     let next = Mutex::new(edits.iter().enumerate());
     let lines = Mutex::new(vec![]);
     std::thread::scope(|s| {
-        for _ in 0..2 {
+        for _ in 0..std::thread::available_parallelism().map_or(2, Into::into) {
             s.spawn(|| loop {
                 let Some((i, edit)) = next.lock().unwrap().next() else { break };
                 let said = noticed(&oracle, &out, &format!("mutant_{i}"), std::slice::from_ref(edit), &sample);

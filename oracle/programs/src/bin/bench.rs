@@ -91,8 +91,10 @@ fn main() {
         }
     };
     let mut index = 0;
-    let drain = || while let Some(n) = original::bench::take(1) {
-        black_box(n);
+    let drain = || {
+        while let Some(n) = original::bench::take(1) {
+            black_box(n);
+        }
     };
     println!("| case | ns |");
     println!("|---|---|");
@@ -101,13 +103,20 @@ fn main() {
     next_frame(&mut index);
     read_as(2, 0x10, 0);
     interrupt();
-    line("flag 0: one reading", { read_as(0, 0, 0); best(16, || {}, |_| interrupt()) });
+    line("flag 0: one reading", {
+        read_as(0, 0, 0);
+        best(16, || {}, |_| interrupt())
+    });
     read_as(2, 0x10, 0);
     line("SOF of the same microframe", best(16, || {}, |_| interrupt()));
-    let sof = best(16, || {}, |_| {
-        next_frame(&mut index);
-        interrupt();
-    });
+    let sof = best(
+        16,
+        || {},
+        |_| {
+            next_frame(&mut index);
+            interrupt();
+        },
+    );
     line("SOF, an isochronous IN caught up", sof);
     line(
         "isochronous IN in its microframe, with that microframe's SOF (two interrupts), a packet queued",
@@ -152,10 +161,14 @@ fn main() {
     read_as(2, 0x43, 64);
     line(
         "bulk OUT, a new packet",
-        best(16, || {}, |i| {
-            seam::set(reg::EP_RX_CTRL, 3, if i % 2 == 0 { 0x16 } else { 0x12 });
-            interrupt();
-        }),
+        best(
+            16,
+            || {},
+            |i| {
+                seam::set(reg::EP_RX_CTRL, 3, if i % 2 == 0 { 0x16 } else { 0x12 });
+                interrupt();
+            },
+        ),
     );
     read_as(0x20, 0x30, 8);
     line("setup", best(16, || {}, |_| interrupt()));

@@ -45,8 +45,15 @@ const fn kept(reg: u8) -> bool {
 /// What a coroutine hands out when it suspends.
 #[derive(Clone, Copy, PartialEq, Eq, Debug)]
 pub enum Ask {
-    Read { reg: u8, ep: u8 },
-    Write { reg: u8, ep: u8, value: u32 },
+    Read {
+        reg: u8,
+        ep: u8,
+    },
+    Write {
+        reg: u8,
+        ep: u8,
+        value: u32,
+    },
     Wait(u32),
     Callback,
     /// A request registered its waker for the first time: its begin is over.

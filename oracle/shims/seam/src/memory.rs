@@ -26,7 +26,7 @@ pub struct Mapping {
 impl Mapping {
     /// `len` bytes (whole pages), zero, an unmapped page on either side.
     pub fn new(len: usize) -> Self {
-        assert!(len % PAGE == 0);
+        assert!(len.is_multiple_of(PAGE));
         let all = len + 2 * PAGE;
         let flags = MAP_PRIVATE | MAP_ANONYMOUS | MAP_32BIT;
         // SAFETY: a fresh mapping
