@@ -37,6 +37,7 @@ fn rustc(out: &Path, source: &Path, name: &str, kind: &str) {
     c.args(["-C", level, "-C", "debuginfo=0", "-C", "codegen-units=1"]);
     c.arg("--out-dir").arg(out).arg("-L").arg(out).arg(source);
     if kind == "bin" {
+        c.args(["-C", "prefer-dynamic", "-C", "rpath"]);
         for shim in SHIMS.iter().chain(&["oracle"]) {
             c.arg("--extern").arg(format!("{shim}={}/lib{shim}.rlib", out.display()));
         }

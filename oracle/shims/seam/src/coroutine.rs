@@ -10,7 +10,7 @@ use super::{seam, Ask, Finish, Mapping};
 compile_error!("the coroutine's switch is written for x86-64 and the System V ABI");
 
 // seam_switch(save, to): keep the callee-saved registers on this stack and its top in *save, go on at `to`.
-// seam_entry: the first return of a new stack; r12 the coroutine, r13 the closure, r14 what runs it.
+// seam_entry: the first return of a new stack; r12 the coroutine, r13 the closure, rbx what calls it, r14 `run`.
 global_asm!(
     ".text",
     ".globl seam_switch",
@@ -36,6 +36,7 @@ global_asm!(
     "seam_entry:",
     "mov rdi, r12",
     "mov rsi, r13",
+    "mov rdx, rbx",
     "call r14",
     "ud2",
 );
@@ -92,25 +93,28 @@ impl Coroutine {
 
     /// Run `text` up to its first suspension or its end. `begin`: the first registration of a waker suspends.
     pub fn start<F: FnOnce() -> Finish>(&mut self, begin: bool, text: F) -> Out {
-        let end = self.stack.end();
-        // the closure at the top of the stack, below it what seam_switch pops
-        let at = (end as usize - size_of::<F>()) & !(align_of::<F>().max(16) - 1);
+        // the closure at the top of the stack
+        let at = (self.stack.end() as usize - size_of::<F>()) & !(align_of::<F>().max(16) - 1);
         assert!(at > self.stack.ptr() as usize + STACK / 2);
         // SAFETY: inside the stack, which nothing uses: what was under way is abandoned
+        unsafe { (at as *mut F).write(text) };
+        self.start_at(begin, at, call::<F>)
+    }
+
+    fn start_at(&mut self, begin: bool, at: usize, call: unsafe fn(*mut u8) -> Finish) -> Out {
+        let words = [
+            0,                              // r15
+            run as *const () as u64,        // r14
+            at as u64,                      // r13
+            self as *mut Self as u64,       // r12
+            call as *const () as u64,       // rbx
+            0,                              // rbp
+            seam_entry as *const () as u64, // return address
+            0,
+        ];
+        // SAFETY: below the closure; after the return into seam_entry the top is at - 16, aligned as its call needs it
         unsafe {
-            (at as *mut F).write(text);
-            // after the return into seam_entry the top is at - 16: aligned as its call needs it
             let frame = (at as *mut u64).sub(9);
-            let words = [
-                0,                              // r15
-                run::<F> as *const () as u64,   // r14
-                at as u64,                      // r13
-                self as *mut Self as u64,       // r12
-                0,                              // rbx
-                0,                              // rbp
-                seam_entry as *const () as u64, // return address
-                0,
-            ];
             core::ptr::copy_nonoverlapping(words.as_ptr(), frame, words.len());
             self.own = frame as *mut u8;
         }
@@ -154,8 +158,14 @@ impl Coroutine {
     }
 }
 
-unsafe extern "C" fn run<F: FnOnce() -> Finish>(this: *mut Coroutine, text: *mut F) -> ! {
-    let out = match catch_unwind(AssertUnwindSafe(|| (text.read())())) {
+unsafe fn call<F: FnOnce() -> Finish>(text: *mut u8) -> Finish {
+    text.cast::<F>().read()()
+}
+
+/// `call` is a `call::<F>`, `text` its closure.
+unsafe extern "C" fn run(this: *mut Coroutine, text: *mut u8, call: *const ()) -> ! {
+    let call: unsafe fn(*mut u8) -> Finish = core::mem::transmute(call);
+    let out = match catch_unwind(AssertUnwindSafe(|| call(text))) {
         Ok(finish) => Out::Ended(finish),
         Err(_) => Out::Panicked,
     };
