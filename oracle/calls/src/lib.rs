@@ -1,0 +1,25 @@
+//! The driver as a list of calls: what is called, what a call answers, and the trait that the Rust (and later the
+//! port) is driven through. Nothing here knows an implementation.
+
+mod call;
+pub mod edits;
+pub mod number;
+pub mod random;
+pub mod replay;
+mod rng;
+pub mod text;
+
+pub use call::{Answer, Call, Dir, Kind, Wake, REGISTERS};
+pub use rng::Rng;
+
+/// Something that takes the calls.
+pub trait Driver {
+    /// A state as before the first start-up, with an empty buffer.
+    fn fresh(&mut self);
+
+    /// Every call but the buffer's own: see [`Call`].
+    fn call(&mut self, call: &Call) -> Answer;
+
+    /// The slot buffer: `count * size` bytes of the last accepted start-up.
+    fn slots(&mut self) -> &mut [u8];
+}

@@ -1,0 +1,201 @@
+//! What the firmware calls besides the interrupt.
+
+use super::*;
+
+impl Run<'_> {
+    /// Open, close or queue: between operations or in an interrupt.
+    pub(super) fn user(&mut self) {
+        match self.rng.below(12) {
+            0..=3 => {
+                if let Some(ep) = self.one_of(Dir::Out, true) {
+                    self.call(Call::Open(ep));
+                    if self.rng.chance(70) {
+                        self.call(Call::Close(ep));
+                    }
+                }
+            }
+            4 | 5 => {
+                if let Some(ep) = self.one_of(Dir::Out, true) {
+                    self.call(Call::Close(ep));
+                }
+            }
+            6..=10 => {
+                if let Some(ep) = self.one_of(Dir::In, true) {
+                    let n = match self.rng.below(20) {
+                        0 => self.size + 1,
+                        1 => self.size,
+                        2 => 0,
+                        _ => self.rng.range(0, self.ins[ep as usize].unwrap().max as u32),
+                    };
+                    let data = self.packet(n as usize);
+                    self.call(Call::Queue { ep, data });
+                }
+            }
+            _ => {
+                let iso = self.rng.chance(30);
+                if let Some(ep) = self.one_of(Dir::Out, iso) {
+                    self.call(Call::Open(ep));
+                }
+                if let Some(ep) = self.one_of(Dir::In, iso) {
+                    let data = self.packet(3);
+                    self.call(Call::Queue { ep, data });
+                }
+            }
+        }
+    }
+
+    pub(super) fn question(&mut self) {
+        let ep = self.rng.below(17) as u8;
+        let dir = self.rng.pick(&[Dir::Out, Dir::In]);
+        match self.rng.below(3) {
+            0 => self.call(Call::Pending(ep)),
+            1 => self.call(Call::Overruns(ep)),
+            _ => self.call(Call::Enabled { ep, dir }),
+        };
+    }
+
+    pub(super) fn request(&mut self) {
+        let iso = self.rng.chance(40);
+        if self.rng.chance(50) {
+            let Some(ep) = self.one_of(Dir::Out, iso) else { return };
+            if self.rng.chance(50) || self.reads >> ep & 1 == 0 {
+                let max = self.outs[ep as usize].unwrap().max as u32;
+                let length = match self.rng.below(10) {
+                    0 if max > 0 => self.rng.below(max),
+                    1 => max + self.rng.below(9),
+                    _ => max,
+                };
+                if !matches!(self.operate(Call::Read { ep, length }), Answer::Refused(_)) {
+                    self.reads |= 1 << ep;
+                }
+            }
+            if self.rng.chance(75) && self.reads >> ep & 1 != 0 {
+                let a = self.call(Call::PollRead(ep));
+                if a != Answer::NotYet {
+                    self.reads &= !(1 << ep);
+                }
+            }
+        } else {
+            let Some(ep) = self.one_of(Dir::In, iso) else { return };
+            if self.rng.chance(50) || self.writes >> ep & 1 == 0 {
+                let max = self.ins[ep as usize].unwrap().max as u32;
+                let n = match self.rng.below(10) {
+                    0 => max + 1,
+                    1 => max,
+                    _ => self.rng.range(0, max),
+                };
+                let data = self.rng.bytes(n as usize);
+                if !matches!(self.operate(Call::Write { ep, data }), Answer::Refused(_)) {
+                    self.writes |= 1 << ep;
+                }
+            }
+            if self.rng.chance(75) && self.writes >> ep & 1 != 0 {
+                let a = self.call(Call::PollWrite(ep));
+                if a != Answer::NotYet {
+                    self.writes &= !(1 << ep);
+                }
+            }
+        }
+    }
+
+    /// Poll every request that was begun.
+    pub(super) fn poll_all(&mut self) {
+        for ep in 1..16 {
+            if self.reads >> ep & 1 != 0 && self.call(Call::PollRead(ep)) != Answer::NotYet {
+                self.reads &= !(1 << ep);
+            }
+            if self.writes >> ep & 1 != 0 && self.call(Call::PollWrite(ep)) != Answer::NotYet {
+                self.writes &= !(1 << ep);
+            }
+        }
+    }
+
+    pub(super) fn bus(&mut self) {
+        self.plan = Plan::default();
+        match self.rng.below(10) {
+            0 => {
+                self.operate(Call::BusEnable);
+            }
+            1 => {
+                self.operate(Call::BusDisable);
+            }
+            _ => {
+                self.plan.flags = self.rng.pick(&[0, 2, 4, 4, 6, 32, 1, 5]);
+                let reset = self.plan.flags & 1 != 0;
+                if self.rng.chance(40) {
+                    self.operate(Call::Interrupt);
+                    self.status = None;
+                }
+                self.operate(Call::BusPoll);
+                if reset && self.rng.chance(85) {
+                    self.enable_most();
+                }
+            }
+        }
+    }
+
+    pub(super) fn enable_most(&mut self) {
+        for ep in 1..16 {
+            for dir in [Dir::Out, Dir::In] {
+                let of = if dir == Dir::In { &self.ins } else { &self.outs };
+                if of[ep].is_some() && self.rng.chance(90) {
+                    self.operate(Call::SetEnabled { ep: ep as u8, dir, on: true });
+                }
+            }
+        }
+    }
+
+    pub(super) fn some_endpoint(&mut self) -> Option<(u8, Dir)> {
+        let (dir, iso) = (self.rng.pick(&[Dir::Out, Dir::In]), self.rng.chance(50));
+        self.one_of(dir, iso).map(|ep| (ep, dir))
+    }
+
+    pub(super) fn enabling(&mut self) {
+        let Some((ep, dir)) = self.some_endpoint() else { return };
+        let on = self.rng.chance(50);
+        self.operate(Call::SetEnabled { ep, dir, on });
+        if !on && self.rng.chance(70) {
+            self.poll_all();
+            if self.rng.chance(50) {
+                self.request();
+            }
+            self.operate(Call::SetEnabled { ep, dir, on: true });
+        }
+    }
+
+    pub(super) fn stalling(&mut self) {
+        let Some((mut ep, dir)) = self.some_endpoint() else { return };
+        if self.rng.chance(20) {
+            ep = 0;
+        }
+        match self.rng.below(3) {
+            0 => self.operate(Call::IsStalled { ep, dir }),
+            1 => self.operate(Call::SetStalled { ep, dir, on: true }),
+            _ => self.operate(Call::SetStalled { ep, dir, on: false }),
+        };
+    }
+
+    pub(super) fn pacing(&mut self) {
+        let ep = match self.one_of(Dir::In, true) {
+            Some(ep) if self.rng.chance(92) => ep,
+            _ => self.rng.range(1, 15) as u8,
+        };
+        if self.rng.chance(12) {
+            self.operate(Call::Microframe);
+        }
+        if self.rng.chance(if self.paced >> ep & 1 != 0 { 15 } else { 50 }) {
+            let on = self.rng.chance(70);
+            self.paced = self.paced & !(1 << ep) | (on as u32) << ep;
+            self.call(Call::SetPaced { ep, on });
+        }
+        for _ in 0..self.rng.range(1, 3) {
+            if self.rng.chance(60) {
+                self.next_frame();
+            }
+            if self.rng.chance(50) {
+                self.user();
+            }
+            self.operate(Call::Advance(ep));
+        }
+    }
+}

@@ -1,0 +1,70 @@
+//! compare [--seed N] [--runs N] [--length N]: random runs of the Rust, made on the port too, call by call. Ends with 1 at the first difference.
+//! compare FILE...: the same with recorded lists.
+
+mod port;
+
+use oracle::replay::{as_set, Session};
+use oracle::text::{print, Entry, Line};
+use oracle::{Answer, Driver};
+
+/// The first entry that the driver answers otherwise, but for the order of wake-ups and for what the Rust has no counterpart of.
+fn difference(driver: &mut dyn Driver, entries: &[Entry]) -> Option<(usize, Entry)> {
+    let mut session = Session::new(driver);
+    for (i, e) in entries.iter().enumerate() {
+        let own = session.call(&e.call);
+        if e.answer == Answer::Outside {
+            assert!(matches!(own.answer, Answer::Refused(_)) && own.changed.is_empty(), "{own:?}");
+        } else if as_set(&own.answer) != as_set(&e.answer) || own.changed != e.changed {
+            return Some((i, own));
+        }
+    }
+    None
+}
+
+fn check(port: &mut port::Port, name: &str, entries: &[Entry]) {
+    if let Some((i, own)) = difference(port, entries) {
+        println!("# {name}");
+        print!("{}", print(&entries[..=i]));
+        println!("# the port answers");
+        print!("{}", print(&[own]));
+        std::process::exit(1);
+    }
+}
+
+fn main() {
+    let (mut seed, mut runs, mut length) = (1, 1000, 300);
+    let mut files = vec![];
+    let mut args = std::env::args().skip(1);
+    while let Some(a) = args.next() {
+        let mut number = || args.next().and_then(|n| n.parse().ok()).expect("a number");
+        match a.as_str() {
+            "--seed" => seed = number(),
+            "--runs" => runs = number(),
+            "--length" => length = number() as u32,
+            _ => files.push(a),
+        }
+    }
+    let mut rust = original::Rust::new();
+    let mut port = port::Port::new();
+    for file in &files {
+        let list = oracle::text::parse(&std::fs::read_to_string(file).unwrap()).unwrap();
+        let mut session = Session::new(&mut rust);
+        let entries: Vec<Entry> = list
+            .iter()
+            .filter_map(|(_, l)| match l {
+                Line::Call { call, .. } => Some(session.call(call)),
+                _ => None,
+            })
+            .collect();
+        check(&mut port, file, &entries);
+    }
+    if files.is_empty() {
+        let mut calls = 0;
+        for seed in seed..seed + runs {
+            let entries = oracle::random::run(&mut rust, seed, length);
+            check(&mut port, &format!("seed {seed}"), &entries);
+            calls += entries.len();
+        }
+        println!("{runs} runs, {calls} calls: no difference");
+    }
+}

@@ -1,0 +1,194 @@
+//! The port through its exported calls (include/usbhs.h).
+
+use oracle::number::decode as answer;
+use oracle::{Answer, Call, Dir, Driver};
+
+macro_rules! exported {
+    ($(fn $name:ident($($arg:ident: $type:ty),*) -> $answer:ty;)*) => {
+        extern "C" {
+            $(fn $name($($arg: $type),*) -> $answer;)*
+        }
+    };
+}
+
+type State = *mut u8;
+
+exported! {
+    fn usbhs_start_up(state: State, slots: *mut u8, len: usize, size: u32, count: u32, callback: u32) -> u64;
+    fn usbhs_allocate(state: State, kind: u32, address: u32, maximum: u32, interval: u32, dir: u32) -> u64;
+    fn usbhs_start(state: State, maximum: u32) -> u64;
+    fn usbhs_continue(state: State, slots: *mut u8, len: usize, value: u32) -> u64;
+    fn usbhs_begin_interrupt(state: State) -> u64;
+    fn usbhs_begin_bus_poll(state: State) -> u64;
+    fn usbhs_begin_bus_enable(state: State) -> u64;
+    fn usbhs_begin_bus_disable(state: State) -> u64;
+    fn usbhs_begin_set_enabled(state: State, slots: *mut u8, len: usize, ep: u32, dir: u32, on: u32) -> u64;
+    fn usbhs_begin_set_stalled(state: State, ep: u32, dir: u32, on: u32) -> u64;
+    fn usbhs_begin_is_stalled(state: State, ep: u32, dir: u32) -> u64;
+    fn usbhs_set_paced(state: State, ep: u32, on: u32) -> u64;
+    fn usbhs_begin_advance(state: State, ep: u32) -> u64;
+    fn usbhs_begin_microframe(state: State) -> u64;
+    fn usbhs_begin_read(state: State, ep: u32, length: u32) -> u64;
+    fn usbhs_poll_read(state: State, slots: *mut u8, len: usize, ep: u32, slice: *mut u8, slice_len: usize) -> u64;
+    fn usbhs_begin_write(state: State, slots: *mut u8, len: usize, ep: u32, data: *const u8, data_len: usize) -> u64;
+    fn usbhs_poll_write(state: State, slots: *mut u8, len: usize, ep: u32, data: *const u8, data_len: usize) -> u64;
+    fn usbhs_begin_setup(state: State) -> u64;
+    fn usbhs_poll_setup(state: State, packet: *mut u8) -> u64;
+    fn usbhs_begin_data_out(state: State, length: u32, first: u32) -> u64;
+    fn usbhs_poll_data_out(state: State, slots: *mut u8, len: usize, slice: *mut u8, slice_len: usize) -> u64;
+    fn usbhs_begin_data_in(state: State, slots: *mut u8, len: usize, data: *const u8, data_len: usize, first: u32, last: u32) -> u64;
+    fn usbhs_poll_data_in(state: State) -> u64;
+    fn usbhs_begin_accept(state: State) -> u64;
+    fn usbhs_begin_accept_set_address(state: State, address: u32) -> u64;
+    fn usbhs_poll_accept(state: State) -> u64;
+    fn usbhs_begin_reject(state: State) -> u64;
+    fn usbhs_open(state: State, slots: *mut u8, len: usize, ep: u32) -> u64;
+    fn usbhs_close(state: State, ep: u32) -> u64;
+    fn usbhs_queue(state: State, slots: *mut u8, len: usize, ep: u32, data: *const u8, data_len: usize) -> u64;
+    fn usbhs_pending(state: State, ep: u32) -> u32;
+    fn usbhs_overruns(state: State, ep: u32) -> u32;
+    fn usbhs_enabled(state: State, ep: u32, dir: u32) -> u32;
+}
+
+/// At least as long as the port's state.
+const STATE: usize = 65_536;
+
+pub struct Port {
+    state: Vec<u8>,
+    slots: Vec<u8>,
+    geometry: (u32, u32),
+    /// What each request's begin brought: its polls bring the same.
+    read: [usize; 16],
+    write: [Vec<u8>; 16],
+    data_out: usize,
+}
+
+impl Port {
+    pub fn new() -> Self {
+        Self {
+            state: vec![0; STATE],
+            slots: vec![],
+            geometry: (0, 0),
+            read: [0; 16],
+            write: [const { vec![] }; 16],
+            data_out: 0,
+        }
+    }
+}
+
+fn dir(d: Dir) -> u32 {
+    (d == Dir::In) as u32
+}
+
+/// A poll that fills `slice`.
+fn received(a: u64, slice: &[u8]) -> Answer {
+    match answer(a) {
+        Answer::Done { length, .. } => Answer::Done { length, bytes: slice[..length as usize].to_vec() },
+        a => a,
+    }
+}
+
+fn accepted(a: u64) -> bool {
+    a & 15 != 0
+}
+
+impl Driver for Port {
+    fn fresh(&mut self) {
+        self.state.fill(0);
+        self.slots.clear();
+        self.geometry = (0, 0);
+    }
+
+    fn slots(&mut self) -> &mut [u8] {
+        &mut self.slots
+    }
+
+    fn call(&mut self, call: &Call) -> Answer {
+        if let Call::StartUp { size, count, .. } = *call {
+            if self.geometry != (size, count) {
+                self.geometry = (size, count);
+                self.slots = vec![0; (size * count) as usize];
+            }
+        }
+        let s = self.state.as_mut_ptr();
+        let (p, n) = (self.slots.as_mut_ptr(), self.slots.len());
+        // SAFETY: the exported calls are total; every slice is given with its own length
+        answer(unsafe {
+            match *call {
+                Call::StartUp { size, count, callback } => usbhs_start_up(s, p, n, size, count, callback as u32),
+                Call::Continue(value) => usbhs_continue(s, p, n, value),
+                Call::Allocate { kind, address, maximum, interval, dir: d } => {
+                    let address = address.map_or(256, u32::from);
+                    usbhs_allocate(s, kind as u32, address, maximum as u32, interval as u32, dir(d))
+                }
+                Call::Start(maximum) => usbhs_start(s, maximum as u32),
+                Call::Interrupt => usbhs_begin_interrupt(s),
+                Call::BusPoll => usbhs_begin_bus_poll(s),
+                Call::BusEnable => usbhs_begin_bus_enable(s),
+                Call::BusDisable => usbhs_begin_bus_disable(s),
+                Call::SetEnabled { ep, dir: d, on } => usbhs_begin_set_enabled(s, p, n, ep as u32, dir(d), on as u32),
+                Call::SetStalled { ep, dir: d, on } => usbhs_begin_set_stalled(s, ep as u32, dir(d), on as u32),
+                Call::IsStalled { ep, dir: d } => usbhs_begin_is_stalled(s, ep as u32, dir(d)),
+                Call::SetPaced { ep, on } => usbhs_set_paced(s, ep as u32, on as u32),
+                Call::Advance(ep) => usbhs_begin_advance(s, ep as u32),
+                Call::Microframe => usbhs_begin_microframe(s),
+                Call::Read { ep, length } => {
+                    let a = usbhs_begin_read(s, ep as u32, length);
+                    if accepted(a) {
+                        self.read[ep as usize & 15] = length as usize;
+                    }
+                    a
+                }
+                Call::PollRead(ep) => {
+                    let mut slice = vec![0; self.read[ep as usize & 15]];
+                    let a = usbhs_poll_read(s, p, n, ep as u32, slice.as_mut_ptr(), slice.len());
+                    return received(a, &slice);
+                }
+                Call::Write { ep, ref data } => {
+                    let a = usbhs_begin_write(s, p, n, ep as u32, data.as_ptr(), data.len());
+                    if accepted(a) {
+                        self.write[ep as usize & 15] = data.clone();
+                    }
+                    a
+                }
+                Call::PollWrite(ep) => {
+                    let data = &self.write[ep as usize & 15];
+                    usbhs_poll_write(s, p, n, ep as u32, data.as_ptr(), data.len())
+                }
+                Call::Setup => usbhs_begin_setup(s),
+                Call::PollSetup => {
+                    let mut packet = [0; 8];
+                    let a = usbhs_poll_setup(s, packet.as_mut_ptr());
+                    return received(a, &packet);
+                }
+                Call::DataOut { length, first } => {
+                    let a = usbhs_begin_data_out(s, length, first as u32);
+                    if accepted(a) {
+                        self.data_out = length as usize;
+                    }
+                    a
+                }
+                Call::PollDataOut => {
+                    let mut slice = vec![0; self.data_out];
+                    let a = usbhs_poll_data_out(s, p, n, slice.as_mut_ptr(), slice.len());
+                    return received(a, &slice);
+                }
+                Call::DataIn { ref data, first, last } => {
+                    usbhs_begin_data_in(s, p, n, data.as_ptr(), data.len(), first as u32, last as u32)
+                }
+                Call::PollDataIn => usbhs_poll_data_in(s),
+                Call::Accept => usbhs_begin_accept(s),
+                Call::AcceptSetAddress(address) => usbhs_begin_accept_set_address(s, address as u32),
+                Call::PollAccept => usbhs_poll_accept(s),
+                Call::Reject => usbhs_begin_reject(s),
+                Call::Open(ep) => usbhs_open(s, p, n, ep as u32),
+                Call::Close(ep) => usbhs_close(s, ep as u32),
+                Call::Queue { ep, ref data } => usbhs_queue(s, p, n, ep as u32, data.as_ptr(), data.len()),
+                Call::Pending(ep) => return Answer::Number(usbhs_pending(s, ep as u32)),
+                Call::Overruns(ep) => return Answer::Number(usbhs_overruns(s, ep as u32)),
+                Call::Enabled { ep, dir: d } => return Answer::Number(usbhs_enabled(s, ep as u32, dir(d))),
+                Call::Store { .. } | Call::Fill(_) => unreachable!(),
+            }
+        })
+    }
+}
