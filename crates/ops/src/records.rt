@@ -1,9 +1,8 @@
 use alloc::Answer;
 use regs::Dir;
 use state::Globals;
-use state::Wakes;
 use state::STATE_LEN;
-
+use state::Wakes;
 ghost use mathlib.Core.Path.{_≡_};
 ghost use mathlib.Core.Bool.{true, false};
 ghost use Rattle.state.specs.Driver.{withWakes};

@@ -11,7 +11,7 @@ use Rattle.state.specs.declared.Control.{Control}
 use Rattle.script.specs.Cells.{Plain, globals-cell, wakes-cell, control-cell, allocator-cell, ep-cell, request-cell, paced-cell}
 use Rattle.script.specs.Script.{Script}
 use Rattle.script.specs.Statics.{isOn}
-use Rattle.script.specs.IsoIn.{completions, isoInAdvance}
+use Rattle.script.specs.IsoIn.{isoInCompletions, isoInAdvance}
 use Rattle.script.specs.Bus as bus
 use Rattle.script.specs.Endpoint.{enabled-else, ends-request, arm-read, polled, take-iso, take-ready, load-write, put-iso, sent-ready}
 use Rattle.script.specs.Control.{ends-control, unlessSetup, withinMaximum, requested, aborted-else, acks, take-out, beginDataIn, take-closing, take-in, statusIn}
@@ -107,11 +107,6 @@ module _ {i : Bool} where
   nakAll-reads zero e = reads-ret
   nakAll-reads (suc n) e = free no-write (λ _. free no-write (λ _. nakAll-reads n (suc e)))
 
-  wakeAll-reads : (d : Dir) (n e : ℕ) → Reads≤ {i = i} 0 (bus.wakeAll d n e)
-  unfolding bus.wakeAll
-  wakeAll-reads d zero e = reads-ret
-  wakeAll-reads d (suc n) e = free (assign wakes-cell) (λ _. wakeAll-reads d n (suc e))
-
   kept-reads : (d : Dir) (e : ℕ) (iso on : Bool) → Reads≤ {i = i} 0 (bus.kept d e iso on)
   kept-reads d e iso on = free (assign-write globals-cell) (λ _. free no-act (λ _. free (no-get globals-cell) (λ _. no-write)))
 
@@ -121,8 +116,8 @@ module _ {i : Bool} where
   stall-reads Out e false = free (no-get (ep-cell _ _)) (λ _. free (no-put (ep-cell _ _)) (λ _. free no-write (λ _. assign wakes-cell)))
   stall-reads In e false = free (no-get (ep-cell _ _)) (λ _. free (no-put (ep-cell _ _)) (λ _. free no-write (λ _. free (when-reads (assign (ep-cell _ _))) (λ _. assign wakes-cell))))
 
-  completions-reads : (n e : ℕ) → Reads≤ {i = i} 0 (completions n e)
-  unfolding completions
+  completions-reads : (n e : ℕ) → Reads≤ {i = i} 0 (isoInCompletions n e)
+  unfolding isoInCompletions
   completions-reads zero e = reads-ret
   completions-reads (suc n) e = free (isoInComplete-reads e) (λ _. completions-reads n e)
 
@@ -134,7 +129,7 @@ module _ {i : Bool} where
 
 busReset-reads : Reads≤ 0 bus.busReset
 busReset-reads = free no-write (λ _. free no-write (λ _. free no-write (λ _. free (nakAll-reads 15 1) (λ _.
-    free (reads-row reads-ret) (λ _. free (wakeAll-reads Out 16 0) (λ _. wakeAll-reads In 16 0))))))
+    free (reads-row reads-ret) (λ _. assign wakes-cell)))))
 
 -- int_fg; where it shows a suspend, mis_st
 poll-reads : Reads≤ 2 bus.poll

@@ -82,7 +82,7 @@ module _ {i : Bool} where
   -- int_st
   checkOne-reads : (x : Transfer) (iso : Bool) (e : ℕ) → Reads≤ {i = i} 1 (checkOne x iso e)
   checkOne-reads x iso e = free no-is (λ _. when-reads (either
-      (free (no-get (ep-cell _ _)) (λ _. arrives-reads e _))
+      (arrives-reads e _)
       (once one-read (λ _. either reads-ret (free no-look (λ _. arrives-reads e _))))))
 
   checkWalk-reads : (x : Transfer) (iso : Bool) (m : ℕ) → Reads≤ {i = i} 16 (checkWalk x iso (setBits m))

@@ -12,9 +12,11 @@ use Rattle.state.specs.declared.Globals.{Globals}
 use Rattle.state.specs.declared.Allocator.{Allocator}
 use Rattle.script.specs.Cells.{Cell, Val, Plain, globals-cell, wakes-cell, control-cell, allocator-cell, ep-cell, request-cell, paced-cell}
 use Rattle.script.specs.Script.{Ops, run}
-use Rattle.script.specs.Frames.{indexOf, prevOf, frameOf}
-use Rattle.script.specs.Statics.{isOn, flag, none-woken, isoInEvery, isoOuts, woken}
-use Rattle.script.specs.IsoIn.{sofWalk, lateWalk, leaving, completedLast}
+use Rattle.frame.specs.Usb20.{frameNumber, microframe, indexOf, frameOf}
+use Rattle.frame.specs.Advance.{isNone, previous, inPrevious}
+use Rattle.state.specs.Wakes.{none-woken, woken}
+use Rattle.script.specs.Statics.{isOn, flag, isoInEvery, isoOuts}
+use Rattle.script.specs.IsoIn.{sofWalk, lateWalk, leaving}
 use Rattle.script.specs.IsoOut.{arriving, entry, checkWalk}
 use Rattle.script.specs.Handler.{looks, outNaks, inNaks, repeated, sameOut, waitsForIso, waitsForBulk, isoFor, ownIn}
 use Rattle.script.specs.Endpoint.{no-request}
@@ -65,5 +67,5 @@ abbrev longest : Continues Bool
 longest = (2, false) ∷ (0, false) ∷ (1, false) ∷ (0, false) ∷ (0, false) ∷ (0, false) ∷ (0, true) ∷ zeros 4200
 
 pub interrupt-reached : readings (run standing interruptCode false) longest ≡ 4060
-unfolding readings looks sofWalk lateWalk checkWalk isSet bitsFrom inEnabled outEnabled isOn isoInEvery isoOuts woken withBit endpoint tokenNumbered token isOut isSof isIn toggle isData1 indexOf prevOf frameOf leaving completedLast arriving entry outNaks inNaks repeated sameOut waitsForIso waitsForBulk isoFor ownIn
+unfolding readings looks sofWalk lateWalk checkWalk isSet bitsFrom inEnabled outEnabled isOn isoInEvery isoOuts woken withBit endpoint tokenNumbered token isOut isSof isIn toggle isData1 frameNumber microframe indexOf frameOf isNone previous inPrevious leaving arriving entry outNaks inNaks repeated sameOut waitsForIso waitsForBulk isoFor ownIn
 interrupt-reached = refl

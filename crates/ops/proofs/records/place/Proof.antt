@@ -1,4 +1,3 @@
-use Rattle.script.specs.IsoOut.{entry}
 use Rattle.ops.specs.Rings.{placeOn}
 use borrow.Author.Needs.{needs}
 use Rattle.ops.proofs.records.place.Statement.{statement}
@@ -23,7 +22,8 @@ receives-requires : tie.Need-receives-requires
 receives-requires c κs = search needs
 
 returns : tie.Need-returns
-returns c = ?
+unfolding placeOn
+returns c = (simp (c .before .before .before .enum-told2 .given .1, ← c .before .receives .ensures, c .if1 .taken, ← c .before .before .before .before .before .load-ep .ensures), simp (c .before .before .before .enum-told2 .given .1, ← c .before .receives .ensures, c .if1 .taken), refl)
 
 armed-requires : tie.Need-armed-requires
 armed-requires c κs = search needs
@@ -32,10 +32,12 @@ store-ep-requires : tie.Need-store-ep-requires
 store-ep-requires c κs = search needs
 
 returns-2 : tie.Need-returns-2
-returns-2 c = ?
+unfolding placeOn
+returns-2 c = (simp (c .enum-told .given .1, c .before .before .load-ep .ensures), simp (c .enum-told .given .1), refl)
 
 returns-3 : tie.Need-returns-3
-returns-3 c = ?
+unfolding placeOn
+returns-3 c = (simp (c .before .before .before .before .before .before .enum-told2 .given .1, ← c .before .before .before .before .receives .ensures, c .before .before .before .if1 .left, ← c .before .before .before .before .before .before .before .before .load-ep .ensures), simp (c .store-ep .ensures .0, c .before .armed .ensures, c .before .before .before .before .before .before .enum-told2 .given .1, ← c .before .before .before .before .receives .ensures, c .before .before .before .if1 .left, c .before .before .before .before .before .before .before .before .load-ep .ensures), c .store-ep .ensures .1)
 
 pub place-spec : {M : Type 1} → statement M
 place-spec =

@@ -1,6 +1,4 @@
-use Rattle.script.specs.IsoOut.{entry}
 use Rattle.script.specs.Statics.{isoOuts}
-use Rattle.bits.specs.Bit.{isSet}
 use borrow.Author.Needs.{needs}
 use Rattle.ops.proofs.records.receives.Statement.{statement}
 use Rattle.ops.proofs.records.receives.Tie as tie
@@ -20,7 +18,8 @@ mask-has-requires : tie.Need-mask-has-requires
 mask-has-requires c κs = search needs
 
 returns : tie.Need-returns
-returns c = ?
+unfolding isoOuts
+returns c = simp (c .mask-has .ensures, c .before .out-enabled .ensures, c .before .before .load-globals .ensures)
 
 pub receives-spec : {M : Type 1} → statement M
 receives-spec =

@@ -1,4 +1,4 @@
-use Rattle.script.specs.IsoOut.{entry}
+use Rattle.ops.specs.Records.{configured}
 use Rattle.ops.specs.Records.{enabledOn}
 use borrow.Author.Needs.{needs}
 use Rattle.ops.proofs.records.set_enabled.Statement.{statement}
@@ -14,7 +14,8 @@ iso-out-requires : tie.Need-iso-out-requires
 iso-out-requires c κs = search needs
 
 returns : tie.Need-returns
-returns c = ?
+unfolding enabledOn
+returns c = (simp (← c .before .iso-out .ensures, c .if1 .taken), refl)
 
 load-globals-requires : tie.Need-load-globals-requires
 load-globals-requires c κs = search needs
@@ -26,7 +27,8 @@ set-ep-config-requires : tie.Need-set-ep-config-requires
 set-ep-config-requires c κs = search needs
 
 returns-2 : tie.Need-returns-2
-returns-2 c = ?
+unfolding enabledOn configured
+returns-2 c = (simp (c .set-ep-config .ensures .0, c .before .with-on .ensures, c .before .before .before .load-globals .ensures, ← c .before .before .before .before .before .before .iso-out .ensures, c .before .before .before .before .before .if1 .left), c .set-ep-config .ensures .1)
 
 pub set-enabled-spec : {M : Type 1} → statement M
 set-enabled-spec =

@@ -23,16 +23,20 @@ mask-with-requires-2 : tie.Need-mask-with-requires-2
 mask-with-requires-2 c κs = search needs
 
 returns : tie.Need-returns
-returns c = ?
+unfolding withSets
+returns c = simp (← c .before .before .before .before .before .is-iso .ensures, c .before .before .before .before .if1 .taken, c .before .before .enum-told2 .given .1, c .mask-with2 .ensures, c .before .if2 .taken)
 
 returns-2 : tie.Need-returns-2
-returns-2 c = ?
+unfolding withSets
+returns-2 c = simp (← c .before .before .before .before .is-iso .ensures, c .before .before .before .if1 .taken, c .before .enum-told .given .1, c .mask-with .ensures)
 
 returns-3 : tie.Need-returns-3
-returns-3 c = ?
+unfolding withSets
+returns-3 c = simp (← c .before .before .before .before .is-iso .ensures, c .before .before .before .if1 .taken, c .before .enum-told2 .given .1, c .if2 .left)
 
 returns-4 : tie.Need-returns-4
-returns-4 c = ?
+unfolding withSets
+returns-4 c = simp (← c .before .is-iso .ensures, c .if1 .left)
 
 pub with-sets-spec : {M : Type 1} → statement M
 with-sets-spec =
