@@ -1,3 +1,4 @@
 pub mod Records
 pub mod Rings
+pub mod RingLaws
 pub mod Conc

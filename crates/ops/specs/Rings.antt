@@ -39,8 +39,11 @@ unfoldable pub waitingOn : Driver → Dir → ℕ → Bool
 waitingOn d dir e = hasWaiting (epOn d dir e)
 
 -- isochronous, a free slot, and bytes that fit it
+unfoldable pub roomIn : EpState → ℕ → Bool
+roomIn r n = isOn (r .iso) && (hasRoomIn r && not (ltb (r .stride) n))
+
 unfoldable pub roomOn : Driver → ℕ → ℕ → Bool
-roomOn d e n = isOn (epOn d In e .iso) && (hasRoomIn (epOn d In e) && not (ltb (epOn d In e .stride) n))
+roomOn d e n = roomIn (epOn d In e) n
 
 unfoldable pub openedOn : Driver → ℕ → Bool
 openedOn d e = isOn (epOn d Out e .«open»)
@@ -49,8 +52,12 @@ openedOn d e = isOn (epOn d Out e .«open»)
 unfoldable pub nextLen : Driver → Dir → ℕ → ℕ
 nextLen d dir e = lenOn d dir e (slotOf (epOn d dir e) (epOn d dir e .tail))
 
+-- where the oldest packet lies
+unfoldable pub oldestAt : Driver → ℕ → ℕ
+oldestAt d e = slotAddr (epOn d Out e) (epOn d Out e .tail)
+
 unfoldable pub oldestOn : Driver → ℕ → List ℕ → List ℕ
-oldestOn d e b = bytesAt b (slotAddr (epOn d Out e) (epOn d Out e .tail)) (nextLen d Out e)
+oldestOn d e b = bytesAt b (oldestAt d e) (nextLen d Out e)
 
 -- a word of the buffer, lowest byte first; past its end 0
 unfoldable pub wordAt : List ℕ → ℕ → ℕ
@@ -119,10 +126,11 @@ filledEp0 d bytes b = cond (ltb (d .globals .«ep0_max») (length bytes)) b (cop
 -- ---- addresses
 
 -- an arrival, of an enabled isochronous OUT: its length recorded, or the packet turned away
+unfoldable pub recordedOn : Driver → ℕ → ℕ → Driver
+recordedOn d e len = cond (hasRoomOut (epOn d Out e)) (withLenOn d Out e (slotOf (epOn d Out e) (epOn d Out e .head)) len) d
+
 unfoldable pub admittedOn : Driver → ℕ → ℕ → Driver
-admittedOn d e len =
-    withOn (cond (hasRoomOut (epOn d Out e)) (withLenOn d Out e (slotOf (epOn d Out e) (epOn d Out e .head)) len) d) Out e
-    (arrivedOf (epOn d Out e) len)
+admittedOn d e len = withOn (recordedOn d e len) Out e (arrivedOf (epOn d Out e) len)
 
 -- how far the slot to arm is stale: by its last packet, or by this one where it was turned away
 unfoldable pub staleOn : Driver → ℕ → ℕ → Bool → ℕ
