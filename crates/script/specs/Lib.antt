@@ -15,3 +15,7 @@ pub mod Endpoint
 pub mod Control
 pub mod Driver
 pub mod Calls
+pub mod Every
+pub mod Usb20Toggles
+pub mod Usb20Control
+pub mod TogglesLaws
