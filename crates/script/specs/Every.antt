@@ -1,9 +1,12 @@
 -- What holds on every way through an outcome, whatever is read
 use mathlib.Core.Bool.{Bool, true, false, cond}
+use mathlib.Core.Path.{_≡_, refl}
 use Prim.Native.Nat.{ℕ, zero, suc}
+use lib.Dec.{eqb}
 use Rattle.regs.specs.declared.Access.{Access}
 use Rattle.regs.specs.declared.Access.the-variants.{Read, Write, Wait, Callback}
 use Rattle.regs.specs.declared.Reg.{Reg}
+use Rattle.regs.specs.Registers.{numberOf}
 use Rattle.script.specs.Tree as tree
 use Rattle.script.specs.Tree.{ends, asks, bindOut}
 use Rattle.script.specs.Script.{Script, ret, bind, test, read-then, write-then, wait-then, callback-then, get-then, put-then, is-then, look-then, fetch-then, act-then, hand-then, row-then, Ops, run, rows, Row, handAsk, rowAsk, lastOf}
@@ -13,6 +16,14 @@ pub record Chip : Type 1 where
   pub Holds : Type 0
   pub Brings : Holds → Access → ℕ → Type 0
   pub after : Holds → Access → Holds
+
+-- what an access has to meet where a test holds
+abbrev pub Where : Bool → Type 0 → Type 0
+Where true X = X
+Where false X = Unit {0}
+
+abbrev pub sameReg : Reg → Reg → Bool
+sameReg r q = eqb (numberOf r) (numberOf q)
 
 -- `Ok` of each access that is handed out, and `P` of what the chip holds, the answer and the state at each end. `Keeps`: what becomes of the
 -- state between an access and the next call
@@ -26,9 +37,9 @@ module _ {S : Type 0} {C : Chip} {Keeps : S → S → Type 0} {Ok : Access → T
   every-bind (at-end x) k = k _ _ _ x
   every-bind (at-ask ok x) k = at-ask ok (λ v t b i. every-bind (x v t b i) k)
 
-  pub every-cond : {A : Type 0} {P : C .Holds → A → S → Type 0} {h : C .Holds} (b : Bool) {o u : tree.Out S A} → Every C Keeps Ok P h o → Every C Keeps Ok P h u → Every C Keeps Ok P h (cond b o u)
-  every-cond true x y = x
-  every-cond false x y = y
+  pub every-cond : {A : Type 0} {P : C .Holds → A → S → Type 0} {h : C .Holds} (b : Bool) {o u : tree.Out S A} → (b ≡ true → Every C Keeps Ok P h o) → (b ≡ false → Every C Keeps Ok P h u) → Every C Keeps Ok P h (cond b o u)
+  every-cond true x y = x refl
+  every-cond false x y = y refl
 
 -- each access of a script, whatever was read and whatever the state
 abbrev pub Only : {i : Bool} {A : Type 0} → (Access → Type 0) → Script i A → Type 0
@@ -60,7 +71,7 @@ module _ {S : Type 0} {C : Chip} {Keeps : S → S → Type 0} {Ok : Access → T
   pub only-run : {i : Bool} {A : Type 0} (p : Script i A) → Only Ok p → (h : C .Holds) (s : S) → All C Keeps Ok h (run O p s)
   only-run (ret a) x h s = at-end tt
   only-run (bind p f) x h s = every-bind (only-run p (x .0) h s) (λ g a t _. only-run (f a) (x .1 a) g t)
-  only-run (test b p q) x h s = every-cond b (only-run p (x .0) h s) (only-run q (x .1) h s)
+  only-run (test b p q) x h s = every-cond b (λ _. only-run p (x .0) h s) (λ _. only-run q (x .1) h s)
   only-run (read-then r e k) x h s = at-ask (x .0) (λ v t _ _. only-run (k v) (x .1 v) _ t)
   only-run (write-then r e v p) x h s = at-ask (x .0) (λ _ t _ _. only-run p (x .1) _ t)
   only-run (wait-then n p) x h s = at-ask (x .0) (λ _ t _ _. only-run p (x .1) _ t)

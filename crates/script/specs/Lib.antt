@@ -19,3 +19,7 @@ pub mod Every
 pub mod Usb20Toggles
 pub mod Usb20Control
 pub mod TogglesLaws
+pub mod ToggledLaws
+pub mod Data0Laws
+pub mod RestartLaws
+pub mod ControlLaws

@@ -49,7 +49,7 @@ lost-acks n DATA1 = let h = not-again n DATA1 in omega arith
 
 -- ---- the record and the chip's toggle
 
-shown : (p : Pid) (w : ℕ) → toggle w ≡ number p → flag (isData1 w) ≡ number p
+pub shown : (p : Pid) (w : ℕ) → toggle w ≡ number p → flag (isData1 w) ≡ number p
 unfolding isData1
 shown DATA0 w e = ap (λ n. flag (eqb n 1)) e
 shown DATA1 w e = ap (λ n. flag (eqb n 1)) e
