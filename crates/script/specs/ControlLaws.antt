@@ -1,7 +1,7 @@
 -- The script's control transfers have the stages of USB 2.0, 8.5.3: the toggle of EP0's control words, which the chip leaves as it is written
 use mathlib.Core.Bool.{Bool, true, false, not, cond, _&&_}
 use mathlib.Core.List.{List}
-use mathlib.Core.Path.{_≡_, refl, ap, sym, _∙_}
+use mathlib.Core.Path.{_≡_, refl, ap, subst, sym, _∙_}
 use Prim.Native.Nat.{ℕ, zero, suc, _+_, _-_, _*_, _/_, _%_, _<_}
 use native.Mathlib.Omega.{arith}
 use lib.Dec.{eqb, ltb}
@@ -163,3 +163,34 @@ module _ {S : Type 0} (O : Ops S) where
 
   pub status-in-address : (i : Bool) (address k b : ℕ) (s : S) → Leads (statusDir Out k) (Begun b (number statusPid)) b (run O (beginAcceptSetAddress {i = i} address) s)
   status-in-address i address k b s = rw (in-status k) (accepts s (at-ask tt (λ _ _ _ _. at-ask tt (λ w _ _ _. at-ask tt (λ _ _ _ _. at-end (status-data1 w))))))
+
+  -- ---- packet by packet: the first is armed, then each time the interrupt sees one go through and the next is armed
+  abbrev pub goesThrough : {i : Bool} → Dir → Transfer → ℕ → Script i Unit
+  goesThrough Out x frame = outArm x false
+  goesThrough In x frame = inArm x false frame
+
+  abbrev pub stage : {i : Bool} → Dir → Transfer → ℕ → ℕ → Script i Unit
+  stage d x frame zero = acks d true
+  stage d x frame (suc k) = do
+    stage d x frame k
+    goesThrough d x frame
+    acks d false
+
+  armed-next : (i : Bool) (d : Dir) (b : ℕ) (s : S) → Leads d (λ c _. c ≡ b) b (run O (acks {i = i} d false) s)
+  armed-next i Out b s = at-ask tt (λ w _ r _. at-ask tt (λ _ _ _ _. at-end (ack-keeps w ∙ r refl)))
+  armed-next i In b s = at-ask tt (λ w _ r _. at-ask tt (λ _ _ _ _. at-end (ack-keeps w ∙ r refl)))
+
+  armed-first : (i : Bool) (d : Dir) (b : ℕ) (s : S) → Leads d (λ c _. c ≡ number (dataPid 0)) b (run O (acks {i = i} d true) s)
+  armed-first i Out b s = at-ask tt (λ _ _ _ _. at-end acked-data1)
+  armed-first i In b s = at-ask tt (λ _ _ _ _. at-end acked-data1)
+
+  gone-through : (i : Bool) (d : Dir) (x : Transfer) (frame k : ℕ) → eqb (endpoint (x .st)) 0 ≡ true → togOk (x .st) ≡ true → (s : S)
+      → Leads d (λ b _. b ≡ number (dataPid (suc k))) (number (dataPid k)) (run O (goesThrough {i = i} d x frame) s)
+  gone-through i Out x frame k h t s = subst (λ (ok : Bool). Leads Out (λ b _. b ≡ number (dataPid (cond ok (suc k) k))) (number (dataPid k)) (run O (goesThrough {i = i} Out x frame) s)) t (passed-out i x k s h)
+  gone-through i In x frame k h t s = passed-in i x frame k s h
+
+  pub kth-packet : (i : Bool) (d : Dir) (x : Transfer) (frame k b : ℕ) → eqb (endpoint (x .st)) 0 ≡ true → togOk (x .st) ≡ true → (s : S)
+      → Leads d (λ c _. c ≡ number (dataPid k)) b (run O (stage {i = i} d x frame k) s)
+  kth-packet i d x frame zero b h t s = armed-first i d b s
+  kth-packet i d x frame (suc k) b h t s = every-bind (kth-packet i d x frame k b h t s) (λ c _ u e. rw e
+      (every-bind (gone-through i d x frame k h t u) (λ c _ u e. rw e (armed-next i d (number (dataPid (suc k))) u))))

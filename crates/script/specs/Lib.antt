@@ -23,3 +23,4 @@ pub mod ToggledLaws
 pub mod Data0Laws
 pub mod RestartLaws
 pub mod ControlLaws
+pub mod AddressLaws
