@@ -9,10 +9,12 @@ use Rattle.regs.specs.declared.Reg.the-variants.{DevAd}
 use Rattle.regs.specs.declared.Dir.the-variants.{In}
 use Rattle.script.specs.Tree as tree
 use Rattle.script.specs.Cells.{globals-cell, control-cell, ep-cell}
-use Rattle.script.specs.Script.{Ops, run}
+use Rattle.script.specs.Script.{Ops, run, Script}
 use Rattle.script.specs.Statics.{isOn}
 use Rattle.script.specs.Control.{ACCEPT, pollAccept}
-use Rattle.script.specs.Every.{Chip, Every, at-end, at-ask, every-cond, sameReg}
+use Rattle.script.specs.Every.{Chip, Every, at-end, at-ask, every-cond, sameReg, Where, only-run}
+use Rattle.script.specs.AddressWrites.{Writes}
+use Rattle.script.specs.AddressCalls.{None, N}
 use Rattle.script.specs.Usb20Control.{addressAfter}
 
 -- the address in force: the one last written
@@ -48,3 +50,23 @@ address-after-status i O a s =
     (λ ready. every-cond (isOn (O .get globals-cell s .«setup_ready»)) (λ _. at-end (simp (staged, sort, ready))) (λ _. at-end (simp (staged, sort, ready)))))
     (λ sort. at-end (simp (staged, sort))))
     (λ staged. at-end (simp staged))
+
+-- where no address is written, the address stays: every call but a poll of the bus and of an accept, by `address-writes`
+keeps : (q : Access) (a : ℕ) → Writes None q → inForce a q ≡ a
+keeps (Write r e v) a x = go (sameReg r DevAd) x
+  where
+    go : (t : Bool) → Where t ⊥ → cond t v a ≡ a
+    go false y = refl
+keeps (Read r e) a x = refl
+keeps (Receive e y) a x = refl
+keeps (Transmit e y) a x = refl
+keeps (Ep0Dma y) a x = refl
+keeps (Wait n) a x = refl
+keeps Callback a x = refl
+
+stays : {S A : Type 0} {a b : ℕ} {o : tree.Out S A} → Every addressed (λ (s t : S). Unit {0}) (Writes None) (λ _ _ _. Unit {0}) b o → b ≡ a → Addressed (λ c. c ≡ a) b o
+stays (at-end x) e = at-end e
+stays {b = b} (at-ask {q = q} ok k) e = at-ask tt (λ v t y z. stays (k v t y z) (keeps q b ok ∙ e))
+
+pub address-stays : {S : Type 0} {i : Bool} {A : Type 0} (O : Ops S) (p : Script i A) → N p → (a : ℕ) (s : S) → Addressed (λ b. b ≡ a) a (run O p s)
+address-stays O p x a s = stays (only-run O p x a s) refl

@@ -23,4 +23,6 @@ pub mod ToggledLaws
 pub mod Data0Laws
 pub mod RestartLaws
 pub mod ControlLaws
+pub mod AddressWrites
+pub mod AddressCalls
 pub mod AddressLaws
