@@ -9,7 +9,7 @@ use lib.ListN.{length}
 use Rattle.bits.specs.Bit.{pick}
 use Rattle.regs.specs.declared.Access.{Access}
 use Rattle.regs.specs.declared.Access.the-variants.{Read, Write, Receive, Transmit, Ep0Dma, Wait, Callback}
-use Rattle.regs.specs.declared.Reg.the-variants.{EpRxCtrl}
+use Rattle.regs.specs.declared.Reg.the-variants.{EpRxCtrl, EpTLen}
 use Rattle.regs.specs.declared.Dir.{Dir}
 use Rattle.regs.specs.declared.Dir.the-variants.{Out, In}
 use Rattle.regs.specs.Registers.{ctrlOf}
@@ -24,10 +24,10 @@ use Rattle.script.specs.Script.{Ops, run, Script, ret, done, when, _>>=_
 use Rattle.script.specs.Statics.{isOn, modifyReg, modifyEp, completed, wake}
 use Rattle.script.specs.Answers.{Answer, Refused, End, NotYet, Done, Shown}
 use Rattle.script.specs.Handler.{outArm, inArm, received, movedOn}
-use Rattle.script.specs.Control.{acks, beginDataOut, beginDataIn, beginAccept, beginAcceptSetAddress}
-use Rattle.script.specs.Every.{Chip, Every, at-end, at-ask, every-bind, every-cond, sameReg}
+use Rattle.script.specs.Control.{acks, beginDataOut, beginDataIn, statusIn, beginAccept, beginAcceptSetAddress}
+use Rattle.script.specs.Every.{Chip, Every, at-end, at-ask, every-bind, every-cond, Only, Where, sameReg}
 use Rattle.script.specs.Usb20Toggles.{Pid, DATA0, DATA1, other}
-use Rattle.script.specs.Usb20Control.{dataPid, statusPid, statusDir}
+use Rattle.script.specs.Usb20Control.{dataPid, statusPid, statusLength, statusDir}
 use Rattle.script.specs.TogglesLaws.{number}
 use Rattle.script.specs.ToggledLaws.{ack-keeps, apart}
 
@@ -72,6 +72,20 @@ left d b Callback = b
 
 abbrev pub ep0 : Dir → Chip
 ep0 d = record { Holds = ℕ; Brings = λ b q v. q ≡ Read (ctrlOf d) 0 → toggle v ≡ b; after = left d }
+
+-- a packet's length, as it is written for an IN
+abbrev pub Empty : Access → Type 0
+Empty (Write r e v) = Where (sameReg r EpTLen) (v ≡ statusLength)
+Empty (Read r e) = Unit {0}
+Empty (Receive e x) = Unit {0}
+Empty (Transmit e x) = Unit {0}
+Empty (Ep0Dma x) = Unit {0}
+Empty (Wait n) = Unit {0}
+Empty Callback = Unit {0}
+
+-- the status stage IN has no bytes
+pub status-empty : (i : Bool) → Only Empty (statusIn {i = i})
+status-empty i = ((λ _. tt, λ _. tt), λ _. ((refl, tt), λ _. ((tt, λ _. tt), λ _. (tt, tt))))
 
 -- from the toggle b, `P` of the toggle left and of the answer, whatever is read else and whatever becomes of the state
 abbrev pub Leads : {S : Type 0} (d : Dir) {A : Type 0} → (ℕ → A → Type 0) → ℕ → tree.Out S A → Type 0

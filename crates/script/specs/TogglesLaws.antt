@@ -11,7 +11,7 @@ use Rattle.regs.specs.ControlWord.{toggle, isData1}
 use Rattle.script.specs.Cells.{Plain}
 use Rattle.script.specs.Statics.{flag}
 use Rattle.script.specs.Handler.{repeated}
-use Rattle.script.specs.Usb20Toggles.{Pid, DATA0, DATA1, other, same, Transaction, received, not-taken, passes, bitAfter, bitAfterAll, count, passed}
+use Rattle.script.specs.Usb20Toggles.{Pid, DATA0, DATA1, other, same, Transaction, received, not-taken, passes, acknowledges, bitAfter, bitAfterAll, count, passed}
 
 -- a bit as the control word and the driver's record have it
 abbrev pub number : Pid → ℕ
@@ -32,6 +32,11 @@ one-more b false n = let e : n ≡ 0 + n = omega arith in ap (λ (m : ℕ). time
 pub bit-counts : {d : Dir} (b : Pid) (ts : List (Transaction d)) → bitAfterAll b ts ≡ times (passed b ts) b
 bit-counts b [] = refl
 bit-counts b (t ∷ ts) = bit-counts (bitAfter b t) ts ∙ one-more b (passes b t) (passed (bitAfter b t) ts)
+
+-- a packet whose ID is not the bit: acknowledged and not delivered
+pub repeat-acknowledged : (p : Pid) → (acknowledges (received p) ≡ true) × (passes (other p) (received p) ≡ false)
+repeat-acknowledged DATA0 = (refl, refl)
+repeat-acknowledged DATA1 = (refl, refl)
 
 -- however often a packet comes again after lost ACKs, it passes once
 abbrev pub again : ℕ → Pid → List (Transaction Out)

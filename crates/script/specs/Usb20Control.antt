@@ -3,13 +3,9 @@ use mathlib.Core.Bool.{Bool, true, false, cond}
 use Prim.Native.Nat.{ℕ, zero, suc}
 use Rattle.regs.specs.declared.Dir.{Dir}
 use Rattle.regs.specs.declared.Dir.the-variants.{Out, In}
-use Rattle.script.specs.Usb20Toggles.{Pid, DATA0, DATA1, other}
+use Rattle.script.specs.Usb20Toggles.{Pid, DATA1, other}
 
--- the setup packet (8.5.3)
-abbrev pub setupPid : Pid
-setupPid = DATA0
-
--- the data stage's packet k, counted from 0: it begins with DATA1 and alternates (8.5.3, figure 8-37)
+-- the data stage's packet k, counted from 0: it begins with DATA1 and alternates (8.5.3)
 abbrev pub dataPid : ℕ → Pid
 dataPid zero = DATA1
 dataPid (suc k) = other (dataPid k)
