@@ -1,4 +1,4 @@
--- Which addresses each call writes to dev_ad: none but a bus reset's 0 and the one accepted
+-- Which addresses each call writes to dev_ad: none but a bus reset's 0 and the one accepted. Proofs as in AddressWrites
 use mathlib.Core.Bool.{Bool, true, false}
 use mathlib.Core.List.{List}
 use mathlib.Core.Path.{_≡_, refl}

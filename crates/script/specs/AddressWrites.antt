@@ -1,4 +1,5 @@
--- Which addresses a script writes to dev_ad: the interrupt writes none
+-- Which addresses a script writes to dev_ad: the interrupt writes none. A proof has the shape of its script: a pair for each bind and test, a function
+-- for each number brought, `tt` at each access that is no write of dev_ad
 use mathlib.Core.Bool.{Bool, true, false}
 use mathlib.Core.List.{List, [], _∷_}
 use Prim.Native.Nat.{ℕ, zero, suc}
