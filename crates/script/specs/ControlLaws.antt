@@ -4,12 +4,12 @@ use mathlib.Core.List.{List}
 use mathlib.Core.Path.{_≡_, refl, ap, subst, sym, _∙_}
 use Prim.Native.Nat.{ℕ, zero, suc, _+_, _-_, _*_, _/_, _%_, _<_}
 use native.Mathlib.Omega.{arith}
-use lib.Dec.{eqb, ltb}
+use lib.Dec.{eqb, ltb, eqb·suc-zero}
 use lib.ListN.{length}
 use Rattle.bits.specs.Bit.{pick}
 use Rattle.regs.specs.declared.Access.{Access}
 use Rattle.regs.specs.declared.Access.the-variants.{Read, Write, Receive, Transmit, Ep0Dma, Wait, Callback}
-use Rattle.regs.specs.declared.Reg.the-variants.{EpRxCtrl, EpTLen}
+use Rattle.regs.specs.declared.Reg.the-variants.{EpRxCtrl, EpTxCtrl, EpTLen}
 use Rattle.regs.specs.declared.Dir.{Dir}
 use Rattle.regs.specs.declared.Dir.the-variants.{Out, In}
 use Rattle.regs.specs.Registers.{ctrlOf}
@@ -23,7 +23,7 @@ use Rattle.script.specs.Cells.{Plain, ep-cell, globals-cell}
 use Rattle.script.specs.Script.{Ops, run, Script, ret, done, when, _>>=_, _>>_}
 use Rattle.script.specs.Statics.{isOn, modifyReg, modifyEp, completed, wake}
 use Rattle.script.specs.Answers.{Answer, Refused, End, NotYet, Done, Shown}
-use Rattle.script.specs.Handler.{outArm, inArm, received, movedOn}
+use Rattle.script.specs.Handler.{outNaks, inNaks, nakNonIso, outArm, inArm, received, movedOn}
 use Rattle.script.specs.Control.{acks, beginDataOut, beginDataIn, statusIn, beginAccept, beginAcceptSetAddress}
 use Rattle.script.specs.Every.{Chip, Every, at-end, at-ask, every-bind, every-cond, Only, Where, sameReg}
 use Rattle.script.specs.Usb20Toggles.{Pid, DATA0, DATA1, other}
@@ -46,6 +46,10 @@ flips DATA1 w e = ap (λ (n : ℕ). toggle (withToggle w (pick (eqb n word.DATA0
 pub nak-keeps : (w : ℕ) → toggle (nak w) ≡ toggle w
 unfolding nak withResponse response toggle
 nak-keeps w = omega arith
+
+left-nak : (e b w : ℕ) → (e ≡ 0 → toggle w ≡ b) → cond (eqb e 0) (toggle (nak w)) b ≡ b
+left-nak zero b w h = nak-keeps w ∙ h refl
+left-nak (suc n) b w h = simp (eqb·suc-zero n)
 
 nak-flips : (p : Pid) (w : ℕ) → toggle w ≡ number p → toggle (nakflip w) ≡ number (other p)
 unfolding nakflip
@@ -126,6 +130,13 @@ module _ {S : Type 0} (O : Ops S) where
   pub next-in : (i : Bool) (bytes : List ℕ) (last : Bool) (b : ℕ) (s : S) → Leads In (Begun b b) b (run O (beginDataIn {i = i} bytes false last) s)
   next-in i bytes true b s = begins (length bytes) s (at-ask tt (λ _ _ _ _. at-ask tt (λ _ _ _ _. at-ask tt (λ w _ r _. at-ask tt (λ _ _ _ _. at-end (ack-keeps w ∙ r refl))))))
   next-in i bytes false b s = begins (length bytes) s (at-ask tt (λ _ _ _ _. at-ask tt (λ w _ r _. at-ask tt (λ _ _ _ _. at-end (ack-keeps w ∙ r refl)))))
+
+  -- the interrupt's NAK, of whichever endpoint, leaves it
+  pub nak-leaves : (i : Bool) (d : Dir) (st b : ℕ) (s : S) → Leads d (λ c _. c ≡ b) b (run O (nakNonIso {i = i} st) s)
+  nak-leaves i Out st b s = every-cond (outNaks st (O .get (ep-cell Out (endpoint st)) s)) (λ _. at-ask tt (λ w _ r _. at-ask tt (λ _ _ _ _. at-end (left-nak (endpoint st) b w (λ z. r (ap (Read EpRxCtrl) z))))))
+      (λ _. every-cond (inNaks st (O .get (ep-cell In (endpoint st)) s)) (λ _. at-ask tt (λ _ _ _ _. at-ask tt (λ _ _ _ _. at-end refl))) (λ _. at-end refl))
+  nak-leaves i In st b s = every-cond (outNaks st (O .get (ep-cell Out (endpoint st)) s)) (λ _. at-ask tt (λ _ _ _ _. at-ask tt (λ _ _ _ _. at-end refl)))
+      (λ _. every-cond (inNaks st (O .get (ep-cell In (endpoint st)) s)) (λ _. at-ask tt (λ w _ r _. at-ask tt (λ _ _ _ _. at-end (left-nak (endpoint st) b w (λ z. r (ap (Read EpTxCtrl) z)))))) (λ _. at-end refl))
 
   -- the interrupt that saw packet k leaves the toggle of packet k + 1; an OUT packet that is no new one leaves it
   pub passed-out : (i : Bool) (x : Transfer) (k : ℕ) (s : S) → eqb (endpoint (x .st)) 0 ≡ true
