@@ -1,3 +1,5 @@
+use crate::arming::receiving;
+use crate::rings::is_on;
 use alloc::Answer;
 use regs::Dir;
 use state::Globals;
@@ -14,13 +16,6 @@ ghost use Rattle.script.specs.Statics.{isOn, isoOuts, all-woken};
 ghost use Rattle.ops.specs.Records.{isoOut, configured, enabledOn, withSets, givenTo, allocatedOn, startedWith, allocatedEp0};
 ghost use Rattle.ops.specs.Rings.{placeOn, typeStep, configStep};
 ghost use Rattle.alloc.specs.Alloc.{allocateOf, allocateEp0Of};
-
-// A flag in a byte.
-pub fn is_on(flag: u8) -> bool
-    ensures { λ r. ⌜ r ≡ isOn flag ⌝ }
-{
-    !(flag == 0)
-}
 
 pub fn wake(s: &mut [u8; STATE_LEN], dir: Dir, e: u8)
     ensures { λ _. ⌜ view (now (s .exit)) ≡ withWakes (view (now (s .entry))) (woken dir e (view (now (s .entry)) .wakes)) ⌝ }
@@ -73,14 +68,6 @@ pub fn set_enabled(s: &mut [u8; STATE_LEN], dir: Dir, e: u8, on: bool)
     state::set_ep_config(s, regs::enables::with_on(g.ep_config, dir, e, on));
 }
 
-// Is a ring being received in: is the endpoint an enabled isochronous OUT?
-pub fn receives(s: &[u8; STATE_LEN], e: u8) -> bool
-    ensures { λ r. ⌜ r ≡ isSet (isoOuts (view (now (s .entry)) .globals)) (e % 16) ⌝ }
-{
-    let g = state::load_globals(s);
-    bits::mask_has(regs::enables::out_enabled(g.ep_config, g.iso_out_eps), e)
-}
-
 // The address of the endpoint's buffer, which of OUT is from now on the armed slot.
 pub fn place(s: &mut [u8; STATE_LEN], dir: Dir, e: u8) -> u32
     ensures { λ r. ⌜ r ≡ placeOn dir e (view (now (s .entry))) .0 ⌝ }
@@ -91,7 +78,7 @@ pub fn place(s: &mut [u8; STATE_LEN], dir: Dir, e: u8) -> u32
     match dir {
         Dir::In => r.base,
         Dir::Out => {
-            if receives(s, e) {
+            if receiving(s, e) {
                 return r.armed_slot;
             }
             state::store_ep(s, Dir::Out, e, ring::armed(r, r.base));

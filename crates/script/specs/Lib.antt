@@ -19,3 +19,14 @@ pub mod ReadingsLaws
 pub mod ReadingsInterrupt
 pub mod ReadingsCalls
 pub mod ReadingsReached
+pub mod Every
+pub mod Usb20Toggles
+pub mod Usb20Control
+pub mod TogglesLaws
+pub mod ToggledLaws
+pub mod Data0Laws
+pub mod RestartLaws
+pub mod ControlLaws
+pub mod AddressWrites
+pub mod AddressCalls
+pub mod AddressLaws
