@@ -10,7 +10,7 @@ use Rattle.alloc.specs.declared.Answer.the-variants as alloc
 use Rattle.alloc.specs.Alloc.{allocateOf, allocateEp0Of}
 use Rattle.script.specs.Script.{Script, switchAsk, resetAsk}
 use Rattle.script.specs.Bus as bus
-use Rattle.script.specs.Bus.{nakAll, wakeAll}
+use Rattle.script.specs.Bus.{nakAll}
 use Rattle.script.specs.Endpoint.{beginRead, pollRead, beginWrite, pollWrite}
 use Rattle.script.specs.Control.{acks, beginDataOut, pollDataOut, beginDataIn, pollDataIn}
 use Rattle.script.specs.Driver.{allocated-as, started-as}
@@ -90,13 +90,8 @@ unfolding nakAll
 of-nak-all Allowed zero e = tt
 of-nak-all Allowed (suc n) e = ((tt, tt), λ _. ((tt, tt), λ _. of-nak-all Allowed n (suc e)))
 
-of-wake-all : (Allowed : ℕ → Type 0) (d : Dir) (n e : ℕ) → Only (Writes Allowed) (wakeAll {i = false} d n e)
-unfolding wakeAll
-of-wake-all Allowed d zero e = tt
-of-wake-all Allowed d (suc n) e = ((λ _. tt, λ _. tt), λ _. of-wake-all Allowed d n (suc e))
-
 of-bus-poll : Only (Writes Zero) bus.poll
-of-bus-poll = (λ _. tt, λ _. (((tt, λ _. tt), λ _. ((((refl, tt), λ _. ((tt, tt), λ _. ((tt, tt), λ _. (of-nak-all Zero 15 1, λ _. ((of-reset Zero, tt), λ _. (of-wake-all Zero Out 16 0, λ _. of-wake-all Zero In 16 0)))))), λ _. ((λ _. tt, λ _. (tt, λ _. (tt, tt))), λ _. tt)), (((tt, λ _. tt), λ _. ((tt, tt), λ _. ((λ _. tt, λ _. (tt, λ _. (tt, tt))), λ _. tt))), tt))), (tt, λ _. tt)))
+of-bus-poll = (λ _. tt, λ _. (((tt, λ _. tt), λ _. ((((refl, tt), λ _. ((tt, tt), λ _. ((tt, tt), λ _. (of-nak-all Zero 15 1, λ _. ((of-reset Zero, tt), λ _. (λ _. tt, λ _. tt)))))), λ _. ((λ _. tt, λ _. (tt, λ _. (tt, tt))), λ _. tt)), (((tt, λ _. tt), λ _. ((tt, tt), λ _. ((λ _. tt, λ _. (tt, λ _. (tt, tt))), λ _. tt))), tt))), (tt, λ _. tt)))
 
 -- the addresses that a call may write: 0 at a bus reset, and the accepted one once its status stage is complete (AddressLaws)
 abbrev pub OfOther : Other → ℕ → Type 0

@@ -15,9 +15,10 @@ use Rattle.regs.specs.Registers.{ctrlOf}
 use Rattle.regs.specs.Status.{endpoint, token}
 use Rattle.script.specs.declared.Transfer.{Transfer}
 use Rattle.script.specs.Script.{Script, dma}
-use Rattle.script.specs.Frames.{indexOf, steps}
+use Rattle.frame.specs.Usb20.{indexOf}
+use Rattle.frame.specs.Advance.{completions}
 use Rattle.script.specs.Statics.{isoInEvery, isoOuts}
-use Rattle.script.specs.IsoIn.{isoInComplete, sofOne, sofWalk, onSof, lateWalk, completions, isoInAdvance}
+use Rattle.script.specs.IsoIn.{isoInComplete, sofOne, sofWalk, onSof, lateWalk, isoInCompletions, isoInAdvance}
 use Rattle.script.specs.IsoOut.{checkWalk}
 use Rattle.script.specs.Handler.{looks, nakNonIso, toggled, retake, settle, outArm, inArm, entered, framed, isoFor, dispatch, movedOn, ep0MovedOn, served, onTransfer, onSetup, onInterrupt}
 use Rattle.script.specs.Every.{Only, Where, sameReg}
@@ -83,7 +84,7 @@ module _ (Allowed : ℕ → Type 0) where
   of-check-walk : (i : Bool) (x : Transfer) (iso : Bool) (es : List ℕ) → N (checkWalk {i = i} x iso es)
   unfolding checkWalk
   of-check-walk i x iso [] = tt
-  of-check-walk i x iso (e ∷ es) = ((λ _. tt, λ _. (((λ _. tt, λ _. ((λ _. tt, tt), λ _. (λ _. tt, λ _. tt))), ((tt, λ _. tt), λ _. (tt, (λ _. tt, λ _. ((λ _. tt, tt), λ _. (λ _. tt, λ _. tt)))))), tt)), λ _. of-check-walk i x iso es)
+  of-check-walk i x iso (e ∷ es) = ((λ _. tt, λ _. ((((λ _. tt, tt), λ _. (λ _. tt, λ _. tt)), ((tt, λ _. tt), λ _. (tt, (λ _. tt, λ _. ((λ _. tt, tt), λ _. (λ _. tt, λ _. tt)))))), tt)), λ _. of-check-walk i x iso es)
 
   of-out : (i : Bool) (x : Transfer) (iso : Bool) → N (outArm {i = i} x iso)
   of-out i x iso = (tt, (((((tt, λ _. tt), λ _. (tt, tt)), λ _. ((λ _. tt, λ _. tt), λ _. (λ _. tt, λ _. tt))), tt), (of-toggled i Out (endpoint (x .st)), λ _. (((λ _. tt, λ _. tt), λ _. (λ _. tt, λ _. tt)), tt))))
@@ -118,10 +119,10 @@ module _ (Allowed : ℕ → Type 0) where
   pub of-interrupt : (i : Bool) → N (onInterrupt {i = i})
   of-interrupt i = ((tt, λ _. tt), λ _. ((((λ _. tt, λ _. (tt, λ _. (tt, tt))), λ _. (λ _. tt, λ _. tt)), tt), λ _. ((((λ _. tt, λ _. (tt, λ _. (tt, tt))), λ _. (λ _. tt, λ _. tt)), tt), λ _. (((tt, tt), tt), λ _. (((tt, tt), tt), λ _. ((of-transfer i, tt), λ _. (of-setup i, tt)))))))
 
-  of-completions : (i : Bool) (n e : ℕ) → N (completions {i = i} n e)
-  unfolding completions
+  of-completions : (i : Bool) (n e : ℕ) → N (isoInCompletions {i = i} n e)
+  unfolding isoInCompletions
   of-completions i zero e = tt
   of-completions i (suc n) e = (of-complete i e, λ _. of-completions i n e)
 
   pub of-advance : (i : Bool) (e : ℕ) → N (isoInAdvance {i = i} e)
-  of-advance i e = (λ _. tt, λ _. ((((tt, λ _. tt), λ frame. (λ _. tt, λ last. (of-completions i (steps last (indexOf frame)) e, λ _. tt))), tt), tt))
+  of-advance i e = (λ _. tt, λ _. ((((tt, λ _. tt), λ frame. (λ _. tt, λ last. (of-completions i (completions last (indexOf frame)) e, λ _. tt))), tt), tt))

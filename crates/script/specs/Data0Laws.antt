@@ -15,7 +15,7 @@ use Rattle.regs.specs.ControlWord.{toggle, wordOf}
 use Rattle.script.specs.Cells.{Plain, ep-cell}
 use Rattle.script.specs.Script.{Ops, run, Script, row, Row, switch, bus-reset, rowAsk, resetAsk, switchAsk}
 use Rattle.script.specs.Statics.{isOn}
-use Rattle.script.specs.Bus.{setStalled, setEnabled, setEnabledOut, setEnabledIn, kept, busReset, nakAll, wakeAll, restarted, restartedOut, restartedIn}
+use Rattle.script.specs.Bus.{setStalled, setEnabled, setEnabledOut, setEnabledIn, kept, busReset, nakAll, restarted, restartedOut, restartedIn}
 use Rattle.script.specs.Every.{Only, sameReg, Where}
 use Rattle.script.specs.Usb20Toggles.{initial}
 use Rattle.script.specs.TogglesLaws.{number}
@@ -89,10 +89,5 @@ unfolding nakAll
 nak-data0 i zero e = tt
 nak-data0 i (suc n) e = ((word-data0 _ _, tt), λ _. ((word-data0 _ _, tt), λ _. nak-data0 i n (suc e)))
 
-wake-data0 : (i : Bool) (d : Dir) (n e : ℕ) → Only Initial (wakeAll {i = i} d n e)
-unfolding wakeAll
-wake-data0 i d zero e = tt
-wake-data0 i d (suc n) e = ((λ _. tt, λ _. tt), λ _. wake-data0 i d n (suc e))
-
 pub bus-reset-data0 : Only Initial busReset
-bus-reset-data0 = ((tt, tt), λ _. ((word-data0 _ _, tt), λ _. ((word-data0 _ _, tt), λ _. (nak-data0 false 15 1, λ _. ((reset-data0, tt), λ _. (wake-data0 false Out 16 0, λ _. wake-data0 false In 16 0))))))
+bus-reset-data0 = ((tt, tt), λ _. ((word-data0 _ _, tt), λ _. ((word-data0 _ _, tt), λ _. (nak-data0 false 15 1, λ _. ((reset-data0, tt), λ _. (λ _. tt, λ _. tt))))))
