@@ -3,12 +3,13 @@ use mathlib.Core.Path.{_≡_, refl, ap, _∙_, sym}
 use mathlib.Core.Bool.{Bool, true, false}
 use mathlib.Core.Logic.{_⊎_, inl, inr, ⊎-elim}
 use Prim.Native.Nat.{ℕ, zero, suc, _+_, _-_, _*_, _/_, _%_, _^_, _≤_, _<_, min}
-use native.Mathlib.Nat.{mod-lt, zero-div, pow-suc, add-comm, mod-eq-of-lt}
+use native.Mathlib.Nat.{mod-lt, zero-div, pow-suc, add-comm, mod-eq-of-lt, lt-of-le-of-lt}
 use native.Mathlib.Numerals.{add-one}
 use native.Mathlib.Omega.{arith}
-use lib.Bits.{bitAnd, bitOr, or-shr, and-shr, or-mod, and-mod, or-zero-r, and-zero-r, and-step, or-step, and-mask}
+use lib.Bits.{bitAnd, bitOr, or-shr, and-shr, or-mod, and-mod, or-zero-r, and-zero-r, and-step, or-step, and-mask, and-le-l, or-lt}
+use borrow.Author.Tests.{eqb-true, eq-eqb}
 use lib.Dec.{eqb, eqb·zero-suc, eqb·suc-zero, eqb·suc-suc}
-use lib.Pow.{pow-pos, pow-lt, shr-shr}
+use lib.Pow.{pow-pos, pow-lt, shr-shr, field, mod-mod-pow}
 use Rattle.bits.specs.Pack.{one-shifted}
 
 -- ---- definitions
@@ -30,9 +31,13 @@ digit false = 0
 unfoldable pub withBit : ℕ → ℕ → Bool → ℕ
 withBit w j on = w - bit w j * 2 ^ j + digit on * 2 ^ j
 
-abbrev pub pick : Bool → ℕ → ℕ → ℕ
+abbrev pub pick : {A : Type 0} → Bool → A → A → A
 pick true a b = a
 pick false a b = b
+
+abbrev pub both : Bool → Bool → Bool
+both true b = b
+both false b = false
 
 -- ---- laws
 
@@ -159,3 +164,54 @@ sets n w k h = ap (bitOr w) (one-shifted n k h) ∙ or-sets w k
 -- `w & !(1 << k)`
 pub clears : (n w k : ℕ) → w < 2 ^ n → k < n → bitAnd w ((2 ^ n - 1) - 1 * 2 ^ k % 2 ^ n) ≡ withBit w k false
 clears n w k l h = ap (λ (x : ℕ). bitAnd w ((2 ^ n - 1) - x)) (one-shifted n k h) ∙ and-clears n w k l h
+
+-- ---- the same by answers
+
+-- a set bit is 1
+pub set-one : (w j : ℕ) → isSet w j ≡ true → bit w j ≡ 1
+unfolding isSet
+set-one w j e = eqb-true (bit w j) 1 e
+
+pub one-set : (w j : ℕ) → bit w j ≡ 1 → isSet w j ≡ true
+unfolding isSet
+one-set w j e = eq-eqb (bit w j) 1 e
+
+-- the bit is as it was made, and the others as they were
+pub set-with : (w k : ℕ) (on : Bool) (j : ℕ) → isSet (withBit w k on) j ≡ pick (eqb k j) on (isSet w j)
+unfolding isSet
+set-with w k on j = ap (λ (x : ℕ). eqb x 1) (bit-with w k on j) ∙ go (eqb k j) on
+  where
+    go : (t on : Bool) → eqb (pick t (digit on) (bit w j)) 1 ≡ pick t on (eqb (bit w j) 1)
+    go true true = refl
+    go true false = refl
+    go false on = refl
+
+-- `a & b` has the bits that both have
+pub set-and : (a b j : ℕ) → isSet (bitAnd a b) j ≡ both (isSet a j) (isSet b j)
+unfolding isSet
+set-and a b j = ap (λ (x : ℕ). eqb x 1) (bit-and a b j) ∙ go (bit a j) (bit b j) (mod-lt (a / 2 ^ j) (pow-pos 1)) (mod-lt (b / 2 ^ j) (pow-pos 1))
+  where
+    go : (x y : ℕ) → x < 2 → y < 2 → eqb (bitAnd x y) 1 ≡ both (eqb x 1) (eqb y 1)
+    go zero y h k = refl
+    go (suc zero) zero h k = refl
+    go (suc zero) (suc zero) h k = refl
+    go (suc zero) (suc (suc y)) h k = absurd (omega arith)
+    go (suc (suc x)) y h k = absurd (omega arith)
+
+-- the n low bits of a word, and those from n up
+pub set-low : (n w j : ℕ) → j < n → isSet (w % 2 ^ n) j ≡ isSet w j
+unfolding isSet
+set-low n w j h =
+    let d = n - suc j in
+    let e : n ≡ (d + 1) + j = omega arith in
+    ap (λ (x : ℕ). eqb (w % 2 ^ x / 2 ^ j % 2) 1) e ∙ ap (λ (x : ℕ). eqb (x % 2) 1) (field w (d + 1) j)
+    ∙ ap (λ (x : ℕ). eqb x 1) (mod-mod-pow (w / 2 ^ j) d 1)
+
+pub set-high : (n w j : ℕ) → isSet (w / 2 ^ n) j ≡ isSet w (n + j)
+unfolding isSet
+set-high n w j = ap (λ (x : ℕ). eqb (x % 2) 1) (shr-shr w n j)
+
+-- a word of n bits stays one
+pub with-lt : (n w k : ℕ) (on : Bool) → w < 2 ^ n → k < n → withBit w k on < 2 ^ n
+with-lt n w k true l h = rw (← or-sets w k) (or-lt n w (2 ^ k) l (pow-lt {i = k} {j = n} h))
+with-lt n w k false l h = rw (← and-clears n w k l h) (lt-of-le-of-lt (and-le-l w ((2 ^ n - 1) - 2 ^ k)) l)

@@ -1,7 +1,7 @@
 -- The walk over a 16-bit mask, lowest bit first: the list of the set bits, its first and the mask of the others. It has exactly the set bits, each
 -- once, rising. Assumes nothing.
 use mathlib.Core.Path.{_≡_, refl, ap, _∙_, sym}
-use mathlib.Core.Bool.{false}
+use mathlib.Core.Bool.{true, false}
 use mathlib.Core.Logic.{_⊎_, inl, inr, ⊎-elim}
 use mathlib.Core.List.{List, [], _∷_}
 use Prim.Native.Nat.{ℕ, zero, suc, _+_, _-_, _*_, _/_, _%_, _^_, _≤_, _<_}
@@ -11,7 +11,7 @@ use lib.Bits.{bitAnd, and-step, and-self, and-le-r, and-zero-l}
 use lib.Count.{trailingZeros, trailing-of-zero}
 use lib.ListN.{length}
 use lib.Pow.{pow-pos}
-use Rattle.bits.specs.Bit.{bit, bit-suc, withBit, with-suc}
+use Rattle.bits.specs.Bit.{bit, bit-suc, isSet, set-one, one-set, withBit, with-suc}
 
 -- ---- definitions
 
@@ -89,12 +89,12 @@ rises (suc k) i m = go (m % 2) (rises k (suc i) (m / 2))
     go (suc d) r = (omega arith, r)
 
 -- a set bit is walked
-pub walks-set : (m e : ℕ) → e < 16 → bit m e ≡ 1 → In e (setBits m)
-walks-set m e h b = rw (zero-add e) at (set-in 16 0 m e h b)
+pub walks-set : (m e : ℕ) → e < 16 → isSet m e ≡ true → In e (setBits m)
+walks-set m e h b = rw (zero-add e) at (set-in 16 0 m e h (set-one m e b))
 
 -- what is walked is a set bit
-pub walked-set : (m e : ℕ) → In e (setBits m) → (e < 16) × (bit m e ≡ 1)
-walked-set m e p = let r = in-set 16 0 m e p in let q : e ≡ r .0 = r .2 ∙ zero-add (r .0) in rw q (r .1, r .3)
+pub walked-set : (m e : ℕ) → In e (setBits m) → (e < 16) × (isSet m e ≡ true)
+walked-set m e p = let r = in-set 16 0 m e p in let q : e ≡ r .0 = r .2 ∙ zero-add (r .0) in rw q (r .1, one-set m (r .0) (r .3))
 
 -- in rising order
 pub walk-rises : (m : ℕ) → Rising 0 (setBits m)

@@ -1,6 +1,7 @@
 ghost use mathlib.Core.Path.{_≡_};
 ghost use Prim.Native.Nat.{_%_};
 ghost use Rattle.bits.specs.Bit.{isSet, withBit};
+ghost use Rattle.bits.specs.Mask.{except};
 ghost use Rattle.bits.specs.Walk.{lowest, rest};
 
 // Is this bit of a word set? The bit's number counts modulo 32.
@@ -54,6 +55,13 @@ pub fn mask_with(mask: u16, endpoint: u8, on: bool) -> u16
     } else {
         mask & !(1 << (endpoint % 16))
     }
+}
+
+// The endpoints of a mask that are not among the others.
+pub fn mask_except(mask: u16, others: u16) -> u16
+    ensures { λ r. ⌜ r ≡ except mask others ⌝ }
+{
+    mask & !others
 }
 
 // The next endpoint of a walk, the lowest set bit of the mask; 16 for an empty mask.

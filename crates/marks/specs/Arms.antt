@@ -9,19 +9,9 @@ use native.Mathlib.Decide.{decLt}
 use borrow.Author.Tests.{eq-eqb}
 use lib.ListN.{length, getD, set, length-set}
 use lib.Seq.{sets, getD-set-same}
-use Rattle.marks.specs.Marks.{mark, words, agrees, isMark, marked, markedRun, firstWord, arm, reach}
-use Rattle.marks.specs.Only.{Same, Only, only-refl, only-trans, only-wider, only-sets, only-apart}
-
--- ---- the mark test reads the four bytes of its word
-
-pub all-agree : (p : List ℕ) (i : ℕ) → ((k : ℕ) → k < 4 → agrees p i k ≡ true) → isMark p i ≡ true
-unfolding isMark
-all-agree p i h = rw (h 0 (omega arith), h 1 (omega arith), h 2 (omega arith), h 3 (omega arith))
-
-pub same-mark : (p q : List ℕ) (i : ℕ) → Same (i * 4) (i * 4 + 4) p q → isMark q i ≡ isMark p i
-unfolding isMark
-same-mark p q i h =
-    rw (h (i * 4 + 0) (omega arith) (omega arith), h (i * 4 + 1) (omega arith) (omega arith), h (i * 4 + 2) (omega arith) (omega arith), h (i * 4 + 3) (omega arith) (omega arith))
+use Rattle.marks.specs.Marks.{mark, words, isMark, marked, markedRun, firstWord, arm, reach}
+use Rattle.marks.specs.Words.{all-agree, same-mark}
+use Rattle.marks.specs.Only.{Only, only-refl, only-trans, only-wider, only-sets, only-apart}
 
 -- ---- one word, and a run of words
 

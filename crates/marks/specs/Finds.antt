@@ -1,14 +1,16 @@
 -- The length by the marks is the packet's, for every maximum, where no word of the packet is taken for a mark.
-use mathlib.Core.Path.{_≡_}
-use mathlib.Core.Bool.{Bool, true, false, cond, _&&_, and-false}
+use mathlib.Core.Logic.{_⊎_, inl, inr, ⊎-elim}
+use mathlib.Core.Path.{_≡_, refl}
+use mathlib.Core.Bool.{Bool, true, false, cond}
 use mathlib.Core.List.{List}
 use Prim.Native.Nat.{ℕ, zero, suc, _+_, _-_, _*_, _/_, _≤_, _<_, min}
 use native.Mathlib.Omega.{arith}
 use native.Mathlib.Decide.{decLt}
-use borrow.Author.Tests.{lt-ltb, le-ltb, ne-eqb}
-use lib.Dec.{eqb}
+use borrow.Author.Tests.{ltb-true, lt-ltb, le-ltb, ne-eqb}
+use lib.Dec.{ltb, eqb}
 use Rattle.marks.specs.Marks.{words, agrees, isMark, halving, lastOther, upTo, found}
-use Rattle.marks.specs.Arms.{all-agree}
+use Rattle.marks.specs.Only.{Same}
+use Rattle.marks.specs.Words.{all-agree, same-mark, one-differs}
 
 -- ---- the search by halving
 
@@ -34,6 +36,43 @@ halving-finds p (suc steps) lo t hi h s = elim (decLt lo hi) [
   ]
 ]
 
+-- what holds of both arms
+by-arms : (P : ℕ → Type 0) (t : Bool) (x y : ℕ) → (t ≡ true → P x) → (t ≡ false → P y) → P (cond t x y)
+by-arms P true x y f g = f refl
+by-arms P false x y f g = g refl
+
+halving-by : (P : ℕ → Type 0) (p : List ℕ) (steps lo hi : ℕ) → P lo
+    → (lo < hi → isMark p ((lo + hi) / 2) ≡ true → P (halving p steps lo ((lo + hi) / 2)))
+    → (lo < hi → isMark p ((lo + hi) / 2) ≡ false → P (halving p steps ((lo + hi) / 2 + 1) hi))
+    → P (halving p (suc steps) lo hi)
+unfolding halving
+halving-by P p steps lo hi stop down up =
+    by-arms P (ltb lo hi) (cond (isMark p ((lo + hi) / 2)) (halving p steps lo ((lo + hi) / 2)) (halving p steps ((lo + hi) / 2 + 1) hi)) lo
+    (λ l. by-arms P (isMark p ((lo + hi) / 2)) (halving p steps lo ((lo + hi) / 2)) (halving p steps ((lo + hi) / 2 + 1) hi)
+    (down (ltb-true lo hi l)) (up (ltb-true lo hi l)))
+    (λ l. stop)
+
+pub halving-most : (p : List ℕ) (steps lo hi : ℕ) → lo ≤ hi → halving p steps lo hi ≤ hi
+unfolding halving
+halving-most p zero lo hi h = h
+halving-most p (suc steps) lo hi h =
+    halving-by (λ (r : ℕ). r ≤ hi) p steps lo hi h
+    (λ l m. omega (arith, halving-most p steps lo ((lo + hi) / 2) (omega arith)))
+    (λ l m. halving-most p steps ((lo + hi) / 2 + 1) hi (omega arith))
+
+-- the word before the one that is found is no mark: one of its bytes differs
+pub halving-before : (p : List ℕ) (steps lo hi : ℕ) → (halving p steps lo hi ≡ lo) ⊎ (isMark p (halving p steps lo hi - 1) ≡ false)
+unfolding halving
+halving-before p zero lo hi = inl refl
+halving-before p (suc steps) lo hi =
+    halving-by (λ (r : ℕ). (r ≡ lo) ⊎ (isMark p (r - 1) ≡ false)) p steps lo hi (inl refl)
+    (λ l m. halving-before p steps lo ((lo + hi) / 2))
+    (λ l m. inr (⊎-elim
+    (λ (x : halving p steps ((lo + hi) / 2 + 1) hi ≡ (lo + hi) / 2 + 1).
+    let d : halving p steps ((lo + hi) / 2 + 1) hi - 1 ≡ (lo + hi) / 2 = omega arith in rw d m)
+    (λ (x : isMark p (halving p steps ((lo + hi) / 2 + 1) hi - 1) ≡ false). x)
+    (halving-before p steps ((lo + hi) / 2 + 1) hi)))
+
 -- ---- the last byte that is not the mark's
 
 pub last-finds : (p : List ℕ) (i n k : ℕ) → k < n → agrees p i k ≡ false → ((j : ℕ) → k < j → j < n → agrees p i j ≡ true) → lastOther p i n ≡ suc k
@@ -43,14 +82,6 @@ last-finds p i (suc n) k h o m = elim (decLt k n) [
   | yes g ↦ rw (m n g (omega arith)) (last-finds p i n k g o (λ j a b. m j a (omega arith)))
   | no g ↦ (let e : n ≡ k = omega arith in rw (e, o))
 ]
-
-one-differs : (p : List ℕ) (i k : ℕ) → k < 4 → agrees p i k ≡ false → isMark p i ≡ false
-unfolding isMark
-one-differs p i zero h o = rw o
-one-differs p i (suc zero) h o = rw (o, and-false (agrees p i 0))
-one-differs p i (suc (suc zero)) h o = rw (o, and-false (agrees p i 0 && agrees p i 1))
-one-differs p i (suc (suc (suc zero))) h o = rw (o, and-false (agrees p i 0 && agrees p i 1 && agrees p i 2))
-one-differs p i (suc (suc (suc (suc k)))) h o = absurd (omega arith)
 
 -- ---- the length
 
@@ -94,10 +125,40 @@ module _ (p : List ℕ) (n maximum : ℕ) (t : Telling n p) (small : n ≤ maxim
   found-is = up-to (halving p (words maximum) 0 (words maximum)) (halving-finds p (words maximum) 0 (words n) (words maximum) (omega arith) split)
 
 -- it is never above the maximum
+up-to-most : (p : List ℕ) (maximum w : ℕ) → upTo p maximum w ≤ maximum
+up-to-most p maximum w =
+    by-arms (λ (r : ℕ). r ≤ maximum) (eqb w 0) 0 (min ((w - 1) * 4 + lastOther p (w - 1) 4) maximum) (λ e. omega arith) (λ e. omega arith)
+
 pub found-most : (p : List ℕ) (maximum : ℕ) → found maximum p ≤ maximum
 unfolding found
-found-most p maximum = go (eqb (halving p (words maximum) 0 (words maximum)) 0) ((halving p (words maximum) 0 (words maximum) - 1) * 4 + lastOther p (halving p (words maximum) 0 (words maximum) - 1) 4)
+found-most p maximum = up-to-most p maximum (halving p (words maximum) 0 (words maximum))
+
+-- it follows from the words up to the maximum alone
+module _ (p q : List ℕ) (n : ℕ) (s : Same 0 (n * 4) p q) where
+  halving-same : (steps lo hi : ℕ) → hi ≤ n → halving q steps lo hi ≡ halving p steps lo hi
+  unfolding halving
+  halving-same zero lo hi h = refl
+  halving-same (suc steps) lo hi h = elim (decLt lo hi) [
+    | no g ↦ rw (le-ltb lo hi (omega arith))
+    | yes g ↦ rw (
+      lt-ltb lo hi g,
+      same-mark p q ((lo + hi) / 2) (λ k a b. s k (omega arith) (omega arith)),
+      halving-same steps lo ((lo + hi) / 2) (omega arith),
+      halving-same steps ((lo + hi) / 2 + 1) hi h,
+    )
+  ]
+
+  last-same : (i k : ℕ) → i < n → k ≤ 4 → lastOther q i k ≡ lastOther p i k
+  unfolding lastOther
+  last-same i zero h l = refl
+  last-same i (suc k) h l = rw (s (i * 4 + k) (omega arith) (omega arith), last-same i k h (omega arith))
+
+pub found-same : (p q : List ℕ) (maximum : ℕ) → Same 0 (words maximum * 4) p q → found maximum q ≡ found maximum p
+unfolding found
+found-same p q maximum s =
+    rw (halving-same p q (words maximum) s (words maximum) 0 (words maximum) (omega arith))
+    (up-to (halving p (words maximum) 0 (words maximum)) (halving-most p (words maximum) 0 (words maximum) (omega arith)))
   where
-    go : (z : Bool) (n : ℕ) → cond z 0 (min n maximum) ≤ maximum
-    go true n = omega arith
-    go false n = omega arith
+    up-to : (w : ℕ) → w ≤ words maximum → upTo q maximum w ≡ upTo p maximum w
+    up-to zero h = refl
+    up-to (suc w) h = rw (last-same p q (words maximum) s (suc w - 1) 4 (omega arith) (omega arith))

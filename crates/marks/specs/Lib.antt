@@ -1,6 +1,7 @@
 pub mod Marks
 pub mod Copies
 pub mod Only
+pub mod Words
 pub mod Arms
 pub mod Finds
 pub mod Slots

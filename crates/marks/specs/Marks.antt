@@ -23,25 +23,6 @@ agrees p i k = eqb (getD p (i * 4 + k) 0) (getD mark k 0)
 unfoldable pub isMark : List ℕ → ℕ → Bool
 isMark p i = agrees p i 0 && agrees p i 1 && agrees p i 2 && agrees p i 3
 
--- ---- arming (iso_out_arm)
-
--- word i marked
-unfoldable pub marked : List ℕ → ℕ → List ℕ
-marked p i = sets p (i * 4) mark
-
--- n words from word i on marked
-unfoldable pub markedRun : List ℕ → ℕ → ℕ → List ℕ
-markedRun p i zero = p
-markedRun p i (suc n) = markedRun (marked p i) (i + 1) n
-
--- the first word after word 0 that is marked
-abbrev pub firstWord : ℕ → ℕ
-firstWord from = max 1 (from / 4)
-
--- word 0, then the words from firstWord up to the last stale byte
-unfoldable pub arm : ℕ → ℕ → List ℕ → List ℕ
-arm from dirty p = markedRun (marked p 0) (firstWord from) (words dirty - firstWord from)
-
 -- ---- the length by the marks (marked_len)
 
 -- the first word of the marks, by halving between lo and hi; each step narrows these, so as many steps as words are enough
@@ -64,6 +45,25 @@ upTo p maximum w = cond (eqb w 0) 0 (min ((w - 1) * 4 + lastOther p (w - 1) 4) m
 unfoldable pub found : ℕ → List ℕ → ℕ
 found maximum p = upTo p maximum (halving p (words maximum) 0 (words maximum))
 
+-- ---- arming (iso_out_arm)
+
+-- word i marked
+unfoldable pub marked : List ℕ → ℕ → List ℕ
+marked p i = sets p (i * 4) mark
+
+-- n words from word i on marked
+unfoldable pub markedRun : List ℕ → ℕ → ℕ → List ℕ
+markedRun p i zero = p
+markedRun p i (suc n) = markedRun (marked p i) (i + 1) n
+
+-- the first word after word 0 that is marked
+abbrev pub firstWord : ℕ → ℕ
+firstWord from = max 1 (from / 4)
+
+-- word 0, then the words from firstWord up to the last stale byte
+unfoldable pub arm : ℕ → ℕ → List ℕ → List ℕ
+arm from dirty p = markedRun (marked p 0) (firstWord from) (words dirty - firstWord from)
+
 -- ---- of the slot at offset `at` of the lent buffer
 
 -- do n bytes from `at` on reach past the buffer's end?
@@ -73,12 +73,12 @@ short b at n = ltb (length b) (at + n)
 unfoldable pub isMarked : List ℕ → ℕ → Bool
 isMarked b at = cond (short b at 4) true (isMark (drop at b) 0)
 
+unfoldable pub markedLen : List ℕ → ℕ → ℕ → ℕ
+markedLen b at maximum = cond (short b at (words maximum * 4)) 0 (found maximum (drop at b))
+
 -- how many bytes of the slot arming needs
 abbrev pub reach : ℕ → ℕ
 reach dirty = max 1 (words dirty) * 4
 
 unfoldable pub armed : List ℕ → ℕ → ℕ → ℕ → List ℕ
 armed b at from dirty = cond (short b at (reach dirty)) b (take at b ++ arm from dirty (drop at b))
-
-unfoldable pub markedLen : List ℕ → ℕ → ℕ → ℕ
-markedLen b at maximum = cond (short b at (words maximum * 4)) 0 (found maximum (drop at b))

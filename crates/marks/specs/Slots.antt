@@ -1,6 +1,6 @@
 -- The laws of marks and copies over the lent buffer, for every buffer size, offset and maximum.
 use mathlib.Core.Logic.{_⊎_}
-use mathlib.Core.Path.{_≡_, _∙_}
+use mathlib.Core.Path.{_≡_, sym, _∙_}
 use mathlib.Core.Bool.{true, false}
 use mathlib.Core.List.{List, _++_}
 use Prim.Native.Nat.{ℕ, _+_, _-_, _*_, _/_, _≤_, _<_}
@@ -11,9 +11,10 @@ use lib.ListN.{length, take, drop, getD, length-append, length-drop, List·getD-
 use lib.Seq.{take-append-seam, drop-at, getD-append-add, getD-drop, length-take-le, take-at}
 use Rattle.marks.specs.Marks.{words, isMark, firstWord, arm, reach, isMarked, armed, markedLen}
 use Rattle.marks.specs.Copies.{over, bytesAt, copied, copiedOut}
-use Rattle.marks.specs.Only.{only-wider, Only, only-refl, only-part}
+use Rattle.marks.specs.Only.{Same, Only, only-refl, only-wider, only-part}
+use Rattle.marks.specs.Words.{same-mark}
 use Rattle.marks.specs.Arms.{MarkedEmpty, only-arm, arm-first, arm-empties}
-use Rattle.marks.specs.Finds.{Telling, MarkedAfter, telling-word, found-is, found-most}
+use Rattle.marks.specs.Finds.{Telling, MarkedAfter, telling-word, found-is, found-most, found-same}
 
 back : (b p : List ℕ) (at : ℕ) → at ≤ length b → drop at (take at b ++ p) ≡ p
 back b p at h = drop-at (take at b) p at (length-take-le at b h)
@@ -72,6 +73,20 @@ len-is b at n maximum fits small t m = rw (le-ltb (length b) (at + words maximum
 pub arrival : (b : List ℕ) (at n : ℕ) → at + 4 ≤ length b → 0 < n → Telling n (drop at b) → isMarked b at ≡ false
 unfolding isMarked
 arrival b at n fits some t = rw (le-ltb (length b) (at + 4) fits) (telling-word (drop at b) n 0 t (omega arith))
+
+-- ---- both answers follow from the slot's bytes alone
+
+module _ (b c : List ℕ) (at : ℕ) (long : length c ≡ length b) where
+  part-same : (n : ℕ) → Same at (at + n) b c → Same 0 n (drop at b) (drop at c)
+  part-same n s k l h = getD-drop at c k 0 ∙ s (at + k) (omega arith) (omega arith) ∙ sym (getD-drop at b k 0)
+
+  pub marked-same : Same at (at + 4) b c → isMarked c at ≡ isMarked b at
+  unfolding isMarked
+  marked-same s = rw (long, same-mark (drop at b) (drop at c) 0 (part-same 4 s))
+
+  pub len-same : (maximum : ℕ) → Same at (at + words maximum * 4) b c → markedLen c at maximum ≡ markedLen b at maximum
+  unfolding markedLen
+  len-same maximum s = rw (long, found-same (drop at b) (drop at c) maximum (part-same (words maximum * 4) s))
 
 -- ---- copies
 

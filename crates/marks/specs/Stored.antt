@@ -1,38 +1,19 @@
 -- A packet stored in a slot that is marked empty: its length is found, and armed again the slot is marked empty again.
 use mathlib.Core.Logic.{_⊎_, ⊎-elim}
-use mathlib.Core.Path.{_≡_, refl, sym, _∙_}
-use mathlib.Core.Bool.{Bool, true, false, _&&_}
+use mathlib.Core.Path.{_≡_, sym, _∙_}
 use mathlib.Core.List.{List}
-use Prim.Native.Nat.{ℕ, zero, suc, _+_, _*_, _≤_, _<_}
+use Prim.Native.Nat.{ℕ, _+_, _*_, _≤_, _<_}
 use native.Mathlib.Omega.{arith}
 use native.Mathlib.Decide.{decLt}
 use lib.ListN.{length, drop, getD}
 use lib.Seq.{getD-drop}
-use Rattle.marks.specs.Marks.{words, agrees, isMark, firstWord, reach, armed, markedLen}
+use Rattle.marks.specs.Marks.{words, firstWord, reach, armed, markedLen}
 use Rattle.marks.specs.Copies.{over, copied}
 use Rattle.marks.specs.Only.{Only}
-use Rattle.marks.specs.Arms.{same-mark, MarkedEmpty}
+use Rattle.marks.specs.Arms.{MarkedEmpty}
+use Rattle.marks.specs.Words.{same-mark, agree-all}
 use Rattle.marks.specs.Finds.{Telling, MarkedAfter}
 use Rattle.marks.specs.Slots.{over-low, only-copied, copied-part, armed-empties, len-is}
-
--- ---- a packet in the slot
-
-pub agree-all : (p : List ℕ) (i k : ℕ) → isMark p i ≡ true → k < 4 → agrees p i k ≡ true
-unfolding isMark
-agree-all p i k m h = pick k h (four (agrees p i 0) (agrees p i 1) (agrees p i 2) (agrees p i 3) m)
-  where
-    four : (a b c d : Bool) → (a && b && c && d) ≡ true → (a ≡ true) × (b ≡ true) × (c ≡ true) × (d ≡ true)
-    four true true true d e = (refl, refl, refl, e)
-    four true true false d e = absurd (let z : _≡_ {A = ℕ} 0 1 = cc in omega arith)
-    four true false c d e = absurd (let z : _≡_ {A = ℕ} 0 1 = cc in omega arith)
-    four false b c d e = absurd (let z : _≡_ {A = ℕ} 0 1 = cc in omega arith)
-
-    pick : (k : ℕ) → k < 4 → (agrees p i 0 ≡ true) × (agrees p i 1 ≡ true) × (agrees p i 2 ≡ true) × (agrees p i 3 ≡ true) → agrees p i k ≡ true
-    pick zero h a = a .0
-    pick (suc zero) h a = a .1
-    pick (suc (suc zero)) h a = a .2
-    pick (suc (suc (suc zero))) h a = a .3
-    pick (suc (suc (suc (suc k)))) h a = absurd (omega arith)
 
 -- the slot at `at` was marked empty, and then n bytes from its start were stored
 module _ (b c : List ℕ) (at n least maximum : ℕ) (e : MarkedEmpty least maximum (drop at b)) (o : Only at (at + n) b c) where
@@ -42,10 +23,10 @@ module _ (b c : List ℕ) (at n least maximum : ℕ) (e : MarkedEmpty least maxi
   pub stored-marks : least ≤ n → MarkedAfter n maximum (drop at c)
   stored-marks l i k h g m =
       rw (stays (i * 4 + k) g)
-      (agree-all (drop at b) i k (elim (decLt 0 i) [
+      (agree-all (drop at b) i k h (elim (decLt 0 i) [
         | yes z ↦ e .rest i (omega arith) m
         | no z ↦ (let s : i ≡ 0 = omega arith in rw s (e .first))
-      ]) h)
+      ]))
 
   -- its length is found, if its bytes are not taken for marks
   pub stored-len : at + words maximum * 4 ≤ length b → least ≤ n → n ≤ maximum → Telling n (drop at c) → markedLen c at maximum ≡ n

@@ -25,45 +25,6 @@ fn is_mark(part: &[u8], i: usize) -> bool
     part[a + 3] == 0x5A
 }
 
-// Marks word i of the part.
-fn mark_word(part: &mut [u8], i: usize)
-    requires { ⌜ i * 4 + 4 ≤ length (now part) ⌝ }
-    ensures { λ r. ⌜ now (part .exit) ≡ marked (now (part .entry)) i ⌝ }
-{
-    let a = i * 4;
-    part[a] = 0xC3;
-    part[a + 1] = 0xA5;
-    part[a + 2] = 0x3C;
-    part[a + 3] = 0x5A;
-}
-
-// Marks the words from lo up to hi, if any.
-fn mark_words(part: &mut [u8], lo: usize, hi: usize)
-    requires { ⌜ hi * 4 ≤ length (now part) ⌝ }
-    ensures { λ r. ⌜ now (part .exit) ≡ markedRun (now (part .entry)) lo (hi - lo) ⌝ }
-{
-    let mut i = lo;
-    while i < hi {
-        mark_word(part, i);
-        i += 1;
-    }
-}
-
-// Marks word 0, then the words from from/4, at least 1, up to the last stale byte.
-fn arm_part(part: &mut [u8], from: u16, dirty: u16)
-    requires { ⌜ reach dirty ≤ length (now part) ⌝ }
-    ensures { λ r. ⌜ now (part .exit) ≡ arm from dirty (now (part .entry)) ⌝ }
-{
-    mark_word(part, 0);
-    let w = from as usize / 4;
-    let hi = (dirty as usize + 3) / 4;
-    if w < 1 {
-        mark_words(part, 1, hi);
-    } else {
-        mark_words(part, w, hi);
-    }
-}
-
 // The first word of the marks after the packet, by halving (a packet word that equals the mark can throw this off).
 fn first_mark(part: &[u8], n: usize) -> usize
     requires { ⌜ n * 4 ≤ length (now part) ⌝ }
@@ -120,6 +81,45 @@ fn len_part(part: &[u8], max: u16) -> u16
     max
 }
 
+// Marks word i of the part.
+fn mark_word(part: &mut [u8], i: usize)
+    requires { ⌜ i * 4 + 4 ≤ length (now part) ⌝ }
+    ensures { λ r. ⌜ now (part .exit) ≡ marked (now (part .entry)) i ⌝ }
+{
+    let a = i * 4;
+    part[a] = 0xC3;
+    part[a + 1] = 0xA5;
+    part[a + 2] = 0x3C;
+    part[a + 3] = 0x5A;
+}
+
+// Marks the words from lo up to hi, if any.
+fn mark_words(part: &mut [u8], lo: usize, hi: usize)
+    requires { ⌜ hi * 4 ≤ length (now part) ⌝ }
+    ensures { λ r. ⌜ now (part .exit) ≡ markedRun (now (part .entry)) lo (hi - lo) ⌝ }
+{
+    let mut i = lo;
+    while i < hi {
+        mark_word(part, i);
+        i += 1;
+    }
+}
+
+// Marks word 0, then the words from from/4, at least 1, up to the last stale byte.
+fn arm_part(part: &mut [u8], from: u16, dirty: u16)
+    requires { ⌜ reach dirty ≤ length (now part) ⌝ }
+    ensures { λ r. ⌜ now (part .exit) ≡ arm from dirty (now (part .entry)) ⌝ }
+{
+    mark_word(part, 0);
+    let w = from as usize / 4;
+    let hi = (dirty as usize + 3) / 4;
+    if w < 1 {
+        mark_words(part, 1, hi);
+    } else {
+        mark_words(part, w, hi);
+    }
+}
+
 // Copies the packet to the part's start.
 fn copy(part: &mut [u8], packet: &[u8])
     requires { ⌜ length (now packet) ≤ length (now part) ⌝ }
@@ -143,6 +143,18 @@ pub fn is_marked(buf: &[u8], at: u32) -> bool
     is_mark(&buf[a..], 0)
 }
 
+// The length of the packet in the slot, by the marks.
+pub fn marked_len(buf: &[u8], at: u32, max: u16) -> u16
+    ensures { λ r. ⌜ r ≡ markedLen (now (buf .entry)) at max ⌝ }
+{
+    let a = at as usize;
+    let n = (max as usize + 3) / 4 * 4;
+    if buf.len() < a + n {
+        return 0;
+    }
+    len_part(&buf[a..], max)
+}
+
 // Marks the slot empty: its first word and its bytes from..dirty; past dirty they still are, and below from the next packet overwrites
 // them.
 pub fn iso_out_arm(buf: &mut [u8], at: u32, from: u16, dirty: u16)
@@ -157,18 +169,6 @@ pub fn iso_out_arm(buf: &mut [u8], at: u32, from: u16, dirty: u16)
         return;
     }
     arm_part(&mut buf[a..], from, dirty);
-}
-
-// The length of the packet in the slot, by the marks.
-pub fn marked_len(buf: &[u8], at: u32, max: u16) -> u16
-    ensures { λ r. ⌜ r ≡ markedLen (now (buf .entry)) at max ⌝ }
-{
-    let a = at as usize;
-    let n = (max as usize + 3) / 4 * 4;
-    if buf.len() < a + n {
-        return 0;
-    }
-    len_part(&buf[a..], max)
 }
 
 // Copies the packet into the slot.

@@ -37,11 +37,9 @@ automatic w = isSet w 4
 
 -- the word with a field changed
 unfoldable pub withResponse : ℕ → ℕ → ℕ
-unfolding response
 withResponse w r = w - response w + r % 4
 
 unfoldable pub withToggle : ℕ → ℕ → ℕ
-unfolding toggle
 withToggle w t = w - toggle w * 4 + t % 4 * 4
 
 -- a word made of its fields
@@ -62,7 +60,7 @@ stall w = withResponse w STALL
 unfoldable pub flip : ℕ → ℕ
 flip w = withToggle w (pick (eqb (toggle w) DATA0) DATA1 DATA0)
 
--- both in one change
+-- both in one change, the toggle as it was read
 unfoldable pub nakflip : ℕ → ℕ
 nakflip w = flip (nak w)
 

@@ -6,3 +6,6 @@ pub mod MisStatus
 pub mod Ctrl
 pub mod IntEn
 pub mod Enables
+pub mod ControlWordLaws
+pub mod EnablesLaws
+pub mod Words

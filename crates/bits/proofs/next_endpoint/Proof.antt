@@ -6,11 +6,9 @@ use Rattle.bits.proofs.next_endpoint.Tie as tie
 use Rattle.bits.proofs.next_endpoint.Reads as reads
 use Rattle.bits.proofs.next_endpoint.Lts as lts
 
--- src/lib.rt:46:5
 cast-result : tie.Need-cast-result
 cast-result c = omega (arith, trailing-le 16 (c .args .mask))
 
--- src/lib.rt:43:1
 returns : tie.Need-returns
 returns c = search needs
 

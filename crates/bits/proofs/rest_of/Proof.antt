@@ -6,11 +6,9 @@ use Rattle.bits.proofs.rest_of.Reads as reads
 use Rattle.bits.proofs.rest_of.Lts as lts
 use Rattle.std.proofs.num.wrapping_sub_u16.Reads as wrapping-sub-u16-reads
 
--- src/lib.rt:53:12
 wrapping-sub-u16-requires : tie.Need-wrapping-sub-u16-requires
 wrapping-sub-u16-requires c κs = search needs
 
--- src/lib.rt:50:1
 returns : tie.Need-returns
 returns c = rest-code (c .before .args .mask) (c .wrapping-sub-u16 .result) (c .before .fits .mask .fits) (search needs) (c .wrapping-sub-u16 .ensures)
 

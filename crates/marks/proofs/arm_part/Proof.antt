@@ -1,7 +1,7 @@
 use Prim.Native.Nat.{_/_}
 use native.Mathlib.Omega.{arith}
-use Rattle.marks.proofs.Slot.{arm-is}
 use borrow.Author.Needs.{needs}
+use Rattle.marks.proofs.Slot.{arm-is}
 use Rattle.marks.proofs.arm_part.Statement.{statement}
 use Rattle.marks.proofs.arm_part.Tie as tie
 

@@ -1,9 +1,9 @@
-use native.Mathlib.Omega.{arith}
-use Prim.Native.Nat.{_-_, _≤_, zero-le}
-use mathlib.Core.Path.{_≡_, refl, ap, _∙_}
 use mathlib.Core.List.{_++_}
-use lib.Seq.{take-length}
+use mathlib.Core.Path.{_≡_, refl, ap, _∙_}
+use Prim.Native.Nat.{_-_, _≤_, zero-le}
+use native.Mathlib.Omega.{arith}
 use lib.ListN.{length, take, drop}
+use lib.Seq.{take-length}
 use Rattle.marks.proofs.Laws.{copy-more, length-copy}
 use Rattle.marks.proofs.copy.Statement.{statement}
 use Rattle.marks.proofs.copy.Tie as tie

@@ -1,6 +1,6 @@
 use native.Mathlib.Omega.{arith}
-use Rattle.marks.proofs.Slot.{copied-short, copied-fits}
 use borrow.Author.Needs.{needs}
+use Rattle.marks.proofs.Slot.{copied-short, copied-fits}
 use Rattle.marks.proofs.copy_in.Statement.{statement}
 use Rattle.marks.proofs.copy_in.Tie as tie
 

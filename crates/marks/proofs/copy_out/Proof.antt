@@ -1,7 +1,7 @@
-use native.Mathlib.Omega.{arith}
 use Prim.Native.Nat.{_+_, _-_}
-use Rattle.marks.proofs.Slot.{out-short, out-small, out-fits}
+use native.Mathlib.Omega.{arith}
 use borrow.Author.Needs.{needs}
+use Rattle.marks.proofs.Slot.{out-short, out-small, out-fits}
 use Rattle.marks.proofs.copy_out.Statement.{statement}
 use Rattle.marks.proofs.copy_out.Tie as tie
 

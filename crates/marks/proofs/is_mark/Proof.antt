@@ -1,8 +1,8 @@
 use native.Mathlib.Nat.{add-zero}
+use borrow.Author.Needs.{needs}
 use borrow.Author.Tests.{eq-eqb, ne-eqb}
 use Rattle.marks.specs.Marks.{isMark}
 use Rattle.marks.proofs.Laws.{all-four}
-use borrow.Author.Needs.{needs}
 use Rattle.marks.proofs.is_mark.Statement.{statement}
 use Rattle.marks.proofs.is_mark.Tie as tie
 

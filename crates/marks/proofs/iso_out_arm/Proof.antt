@@ -1,6 +1,6 @@
 use native.Mathlib.Omega.{arith}
-use Rattle.marks.proofs.Slot.{armed-short, armed-fits}
 use borrow.Author.Needs.{needs}
+use Rattle.marks.proofs.Slot.{armed-short, armed-fits}
 use Rattle.marks.proofs.iso_out_arm.Statement.{statement}
 use Rattle.marks.proofs.iso_out_arm.Tie as tie
 

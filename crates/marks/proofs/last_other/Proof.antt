@@ -1,8 +1,8 @@
 use native.Mathlib.Nat.{add-zero}
 use native.Mathlib.Omega.{arith}
+use borrow.Author.Needs.{needs}
 use borrow.Author.Tests.{eq-eqb, ne-eqb}
 use Rattle.marks.specs.Marks.{lastOther}
-use borrow.Author.Needs.{needs}
 use Rattle.marks.proofs.last_other.Statement.{statement}
 use Rattle.marks.proofs.last_other.Tie as tie
 

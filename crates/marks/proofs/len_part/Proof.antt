@@ -1,8 +1,8 @@
-use native.Mathlib.Omega.{arith}
 use mathlib.Core.Path.{_∙_, ap}
+use native.Mathlib.Omega.{arith}
+use borrow.Author.Needs.{needs}
 use Rattle.marks.specs.Marks.{upTo, found}
 use Rattle.marks.proofs.Slot.{len-zero, len-some}
-use borrow.Author.Needs.{needs}
 use Rattle.marks.proofs.len_part.Statement.{statement}
 use Rattle.marks.proofs.len_part.Tie as tie
 

@@ -1,7 +1,7 @@
 use native.Mathlib.Omega.{arith}
 use lib.ListN.{length-set}
-use Rattle.marks.proofs.Laws.{stores}
 use borrow.Author.Needs.{needs}
+use Rattle.marks.proofs.Laws.{stores}
 use Rattle.marks.proofs.mark_word.Statement.{statement}
 use Rattle.marks.proofs.mark_word.Tie as tie
 

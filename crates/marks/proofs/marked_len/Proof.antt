@@ -1,7 +1,7 @@
-use native.Mathlib.Omega.{arith}
 use mathlib.Core.Path.{_∙_}
-use Rattle.marks.proofs.Slot.{len-short, len-fits}
+use native.Mathlib.Omega.{arith}
 use borrow.Author.Needs.{needs}
+use Rattle.marks.proofs.Slot.{len-short, len-fits}
 use Rattle.marks.proofs.marked_len.Statement.{statement}
 use Rattle.marks.proofs.marked_len.Tie as tie
 

@@ -1,0 +1,44 @@
+use native.Mathlib.Omega.{arith}
+use Rattle.frame.specs.Advance.{completions}
+use borrow.Author.Needs.{needs}
+use Rattle.frame.proofs.completions.Statement.{statement}
+use Rattle.frame.proofs.completions.Tie as tie
+use Rattle.frame.proofs.completions.Reads as reads
+use Rattle.frame.proofs.completions.Lts as lts
+use Rattle.frame.proofs.distance.Reads as distance-reads
+use Rattle.frame.proofs.is_none.Reads as is-none-reads
+use Rattle.frame.proofs.microframe_index.Reads as microframe-index-reads
+
+is-none-requires : tie.Need-is-none-requires
+is-none-requires c κs = search needs
+
+returns : tie.Need-returns
+unfolding completions
+returns c = simp (← c .before .is-none .ensures, c .if1 .taken)
+
+microframe-index-requires : tie.Need-microframe-index-requires
+microframe-index-requires c κs = search needs
+
+distance-requires : tie.Need-distance-requires
+distance-requires c κs = search needs
+
+returns-2 : tie.Need-returns-2
+unfolding completions
+returns-2 c =
+    simp (← c .before .before .before .before .is-none .ensures, c .before .before .before .if1 .left, ← c .before .before .microframe-index .ensures, ← c .before .distance .ensures) (omega arith)
+
+returns-3 : tie.Need-returns-3
+unfolding completions
+returns-3 c =
+    simp (← c .before .before .before .before .is-none .ensures, c .before .before .before .if1 .left, ← c .before .before .microframe-index .ensures, ← c .before .distance .ensures) (omega arith)
+
+pub completions-spec : {M : Type 1} → statement M
+completions-spec =
+    tie.close
+    (tie.spec
+    is-none-requires
+    returns
+    microframe-index-requires
+    distance-requires
+    returns-2
+    returns-3)

@@ -1,0 +1,4 @@
+pub mod Usb20
+pub mod Advance
+pub mod Laws
+pub mod Table
