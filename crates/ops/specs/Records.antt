@@ -53,7 +53,8 @@ merged r p = record {
   «open» = r .«open»;
 }
 
--- of the globals what neither an allocation, nor enabling, nor start-up sets
+-- the globals that scripts assign; stage, callback, ep_config, the two sets of isochronous endpoints and EP0's buffer and maximum change by
+-- their own operations alone
 abbrev pub mergedGlobals : Globals → Globals → Globals
 mergedGlobals g v = record {
   stage = g .stage;
@@ -87,9 +88,9 @@ enabledOn d dir e on = cond (isoOut d dir e) d (configured d dir e on)
 
 -- ---- allocation
 
--- iso_out_eps and iso_in_every (mod.rs 1014-1027)
-unfoldable pub withSets : Dir → ℕ → ℕ → ℕ → Globals → Globals
-withSets dir kind interval e g = record {
+-- iso_out_eps and iso_in_every (mod.rs 1015-1027)
+abbrev pub withIsoSets : ℕ → ℕ → Globals → Globals
+withIsoSets outs every g = record {
   stage = g .stage;
   callback = g .callback;
   power = g .power;
@@ -99,21 +100,21 @@ withSets dir kind interval e g = record {
   «int_en» = g .«int_en»;
   «ep_config» = g .«ep_config»;
   «ep_type» = g .«ep_type»;
-  «iso_out_eps» = outSet dir (g .«iso_out_eps»);
-  «iso_in_every» = inSet dir (g .«iso_in_every»);
+  «iso_out_eps» = outs;
+  «iso_in_every» = every;
   «iso_in_paced» = g .«iso_in_paced»;
   «sof_frame» = g .«sof_frame»;
   «ep0_buf» = g .«ep0_buf»;
   «ep0_max» = g .«ep0_max»;
 }
-  where
-    outSet : Dir → ℕ → ℕ
-    outSet Out m = cond (isIso kind) (withBit m (e % 16) true) m
-    outSet In m = m
 
-    inSet : Dir → ℕ → ℕ
-    inSet Out m = m
-    inSet In m = cond (isIso kind && ltb interval 2) (withBit m (e % 16) true) m
+-- an isochronous IN is polled every microframe where its interval is 1, or 0
+abbrev pub isoAdded : Dir → ℕ → ℕ → Globals → Globals
+isoAdded Out interval e g = withIsoSets (withBit (g .«iso_out_eps») (e % 16) true) (g .«iso_in_every») g
+isoAdded In interval e g = cond (ltb interval 2) (withIsoSets (g .«iso_out_eps») (withBit (g .«iso_in_every») (e % 16) true) g) g
+
+unfoldable pub withSets : Dir → ℕ → ℕ → ℕ → Globals → Globals
+withSets dir kind interval e g = cond (isIso kind) (isoAdded dir interval e g) g
 
 unfoldable pub givenTo : Dir → ℕ → ℕ → ℕ → Answer → Driver → Driver
 givenTo dir kind maximum interval (Refused n) d = d
@@ -126,7 +127,8 @@ allocatedOn d dir kind address maximum interval =
     let z = allocateOf (d .allocator) kind address maximum dir in
     givenTo dir kind maximum interval (z .answer) (withAllocator d (z .after))
 
--- EP0's buffer and maximum; the stage after its start, and no power event yet
+-- EP0's buffer and maximum; the stage after its start, and no power event yet. All in the begin: only an interrupt reads the buffer, and none
+-- passes before EP0's start has ended
 abbrev pub withEp0 : ℕ → ℕ → Globals → Globals
 withEp0 base maximum g = record {
   stage = 2;

@@ -1,6 +1,5 @@
 use crate::arming::receiving;
 use crate::rings::is_on;
-use alloc::Answer;
 use regs::Dir;
 use state::Globals;
 use state::STATE_LEN;
@@ -13,9 +12,8 @@ ghost use Rattle.state.specs.Wakes.{woken};
 ghost use Prim.Native.Nat.{_%_};
 ghost use Rattle.bits.specs.Bit.{isSet};
 ghost use Rattle.script.specs.Statics.{isOn, isoOuts, all-woken};
-ghost use Rattle.ops.specs.Records.{isoOut, configured, enabledOn, withSets, givenTo, allocatedOn, startedWith, allocatedEp0};
+ghost use Rattle.ops.specs.Records.{isoOut, configured, enabledOn, withSets};
 ghost use Rattle.ops.specs.Rings.{placeOn, typeStep, configStep};
-ghost use Rattle.alloc.specs.Alloc.{allocateOf, allocateEp0Of};
 
 pub fn wake(s: &mut [u8; STATE_LEN], dir: Dir, e: u8)
     ensures { λ _. ⌜ view (now (s .exit)) ≡ withWakes (view (now (s .entry))) (woken dir e (view (now (s .entry)) .wakes)) ⌝ }

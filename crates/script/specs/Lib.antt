@@ -30,3 +30,4 @@ pub mod ControlLaws
 pub mod AddressWrites
 pub mod AddressCalls
 pub mod AddressLaws
+pub mod FrameLaws

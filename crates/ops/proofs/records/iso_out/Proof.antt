@@ -4,7 +4,7 @@ use Rattle.ops.proofs.records.iso_out.Statement.{statement}
 use Rattle.ops.proofs.records.iso_out.Tie as tie
 use Rattle.ops.proofs.records.iso_out.Reads as reads
 use Rattle.ops.proofs.records.iso_out.Lts as lts
-use Rattle.ops.proofs.records.is_on.Reads as is-on-reads
+use Rattle.ops.proofs.rings.is_on.Reads as is-on-reads
 use Rattle.state.proofs.load_ep.Reads as load-ep-reads
 
 enum-told : tie.Need-enum-told

@@ -1,3 +1,4 @@
+use mathlib.Core.Path.{refl}
 use Rattle.ops.specs.Records.{configured}
 use Rattle.ops.specs.Records.{enabledOn}
 use borrow.Author.Needs.{needs}

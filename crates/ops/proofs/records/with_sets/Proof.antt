@@ -1,5 +1,6 @@
 use Rattle.ops.specs.Records.{withSets}
 use borrow.Author.Needs.{needs}
+use borrow.Author.Tests.{lt-ltb, le-ltb}
 use Rattle.ops.proofs.records.with_sets.Statement.{statement}
 use Rattle.ops.proofs.records.with_sets.Tie as tie
 use Rattle.ops.proofs.records.with_sets.Reads as reads
@@ -24,7 +25,7 @@ mask-with-requires-2 c κs = search needs
 
 returns : tie.Need-returns
 unfolding withSets
-returns c = simp (← c .before .before .before .before .before .is-iso .ensures, c .before .before .before .before .if1 .taken, c .before .before .enum-told2 .given .1, c .mask-with2 .ensures, c .before .if2 .taken)
+returns c = simp (← c .before .before .before .before .before .is-iso .ensures, c .before .before .before .before .if1 .taken, c .before .before .enum-told2 .given .1, c .mask-with2 .ensures, lt-ltb _ _ (c .before .if2 .taken))
 
 returns-2 : tie.Need-returns-2
 unfolding withSets
@@ -32,7 +33,7 @@ returns-2 c = simp (← c .before .before .before .before .is-iso .ensures, c .b
 
 returns-3 : tie.Need-returns-3
 unfolding withSets
-returns-3 c = simp (← c .before .before .before .before .is-iso .ensures, c .before .before .before .if1 .taken, c .before .enum-told2 .given .1, c .if2 .left)
+returns-3 c = simp (← c .before .before .before .before .is-iso .ensures, c .before .before .before .if1 .taken, c .before .enum-told2 .given .1, le-ltb _ _ (c .if2 .left))
 
 returns-4 : tie.Need-returns-4
 unfolding withSets
