@@ -21,14 +21,17 @@ use Rattle.script.specs.Answers.{Answer, Refused, End, Shown, ok, operat
 use Rattle.script.specs.Endpoint.{enabled-else}
 
 -- `Driver::new`, 907-941
-abbrev pub startUp : {i : Bool} → Bool → Script i Answer
-startUp callback = resultless (do
+abbrev pub new : {i : Bool} → Bool → Script i Unit
+new callback = do
   write Ctrl 0 CLEAR
   wait 10
   modifyReg Ctrl 0 resetEnded
   write HostCtrl 0 PHY_SUSPENDM
   write Ctrl 0 RUN
-  modifyIntEn (λ _. atStart callback))
+  modifyIntEn (λ _. atStart callback)
+
+abbrev pub startUp : {i : Bool} → Bool → Script i Answer
+startUp callback = resultless (new callback)
 
 -- `Endpoint::new`: the number given, its maximum, its buffer
 abbrev pub newEndpoint : {i : Bool} → Dir → ℕ → ℕ → ℕ → Script i ℕ
