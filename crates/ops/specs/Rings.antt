@@ -169,7 +169,7 @@ placeOn Out e d =
 
 -- ---- rows
 
--- `endpoint_set_enabled`, 1286-1291: the record reset, every length the maximum
+-- `endpoint_set_enabled`, 1279 and 1286-1291: the record reset, every length the maximum
 unfoldable pub renewedOn : Driver → ℕ → Driver
 renewedOn d e = withOn (fillLens d e (epOn d Out e .«max_len»)) Out e (withMinLen (resetOf (epOn d Out e)) (epOn d Out e .«max_len»))
 
@@ -210,7 +210,7 @@ resetBelow (suc n) d =
     let y = withOn x Out n (resetOf (epOn x Out n)) in
     withOn y In n (resetOf (epOn y In n))
 
--- 1212-1215
+-- 1213-1216
 unfoldable pub resetAll : Driver → Driver
 resetAll d = let x = resetBelow 16 d in withGlobals x (withSetup 0 (x .globals .«setup_low») (x .globals .«setup_high») (x .globals))
 

@@ -13,7 +13,7 @@ use Rattle.script.specs.Tree.{ends, asks, bindOut}
 use Rattle.script.specs.Cells.{Cell, Val}
 use Rattle.script.specs.Script.{Ops, Script, run, Test, Look, Fetch, Act, Hand, arrive, send, place, place0, handAsk, dma, Row, switch, bus-reset, lastOf, rowAsk, switchAsk, resetAsk}
 use Rattle.script.specs.Alike.{Rels, Sim, end, ask, alike, Phase, quiet, mid, Fits, Bare}
-use Rattle.script.specs.Machine.{Buf, Question, Call, start, begin, go, question, Event, Ans, refused, ended, handed, told, Way, idle, busy, Machine, Calls, Driver, Book, fed, blank, blankA, over, misfit, stay, lentTo, beside, halt, begun, continued, started, call}
+use Rattle.script.specs.Machine.{Buf, Question, Call, start, begin, go, question, Event, Ans, refused, ended, handed, told, Awaits, awaited, Way, idle, busy, Machine, Calls, Driver, Book, fed, blank, blankA, over, misfit, stay, lentTo, beside, halt, begun, continued, started, call}
 
 -- what is to be shown of a driver D and a book K, operation by operation
 pub record Agree {C S T : Type 0} (D : Driver C S) (K : Book C T) : Type 1 where
@@ -83,7 +83,7 @@ module _ {C S T : Type 0} (D : Driver C S) (K : Book C T) (M : Agree D K) where
     -- between calls: what is under way, and in which phase
     pub data Ways : Phase → Way A S → Way A T → Type 0 where
       both-idle : Ways quiet idle idle
-      both-busy : (i : Bool) {φ : Phase} (q q′ : Access) {k : ℕ → S × Buf → tree.Out (S × Buf) A} {k′ : ℕ → T × Buf → tree.Out (T × Buf) A} → blank q ≡ blank q′ → Fits i φ → ((v : ℕ) (s : S × Buf) (t : T × Buf) → In-call φ s t → Sim rels i (k v s) (k′ v t)) → Ways φ (busy i q k) (busy i q′ k′)
+      both-busy : (i : Bool) (a : Awaits) {φ : Phase} {k : ℕ → S × Buf → tree.Out (S × Buf) A} {k′ : ℕ → T × Buf → tree.Out (T × Buf) A} → Fits i φ → ((v : ℕ) (s : S × Buf) (t : T × Buf) → In-call φ s t → Sim rels i (k v s) (k′ v t)) → Ways φ (busy i a k) (busy i a k′)
 
     abbrev pub GoodA : Ans A → Buf → T → Type 0
     GoodA (refused n) b t = Unit {0}
@@ -106,8 +106,8 @@ module _ {C S T : Type 0} (D : Driver C S) (K : Book C T) (M : Agree D K) where
     abbrev pub write-up : Ans A → Call C Op → Machine A T → Buf → Ans A × Machine A T
     write-up x c d b = call L (K .driver) (fed K x) c d b
 
-    -- what is lent: after an accepted start-up, or where the length is wrong (row 1), any buffer; else the last one left, but for
-    -- the chip's stores
+    -- what is lent: to a start-up, or where the length is wrong (row 1), any buffer; else the one that the last call left, but for the chip's
+    -- stores
     abbrev pub unless : Bool → Type 0 → Type 0
     unless true X = Unit {0}
     unless false X = X
@@ -118,21 +118,25 @@ module _ {C S T : Type 0} (D : Driver C S) (K : Book C T) (M : Agree D K) where
     Lent (go v) m d b = unless (misfit L D (m .st) b) (M .Chip (d .st) (m .buf) b)
     Lent (question q) m d b = M .Chip (d .st) (m .buf) b
 
-    over-blank : (q : Access) (v : ℕ) → over L q v ≡ over L (blank q) v
-    over-blank (Read r e) v = refl
-    over-blank (Write r e x) v = refl
-    over-blank (Receive e x) v = refl
-    over-blank (Transmit e x) v = refl
-    over-blank (Ep0Dma x) v = refl
-    over-blank (Wait n) v = refl
-    over-blank Callback v = refl
+    awaited-blank : (q : Access) → awaited q ≡ awaited (blank q)
+    awaited-blank (Read r e) = refl
+    awaited-blank (Write r e x) = refl
+    awaited-blank (Receive e x) = refl
+    awaited-blank (Transmit e x) = refl
+    awaited-blank (Ep0Dma x) = refl
+    awaited-blank (Wait n) = refl
+    awaited-blank Callback = refl
 
-    over-same : (q q′ : Access) (v : ℕ) → blank q ≡ blank q′ → over L q v ≡ over L q′ v
-    over-same q q′ v p = over-blank q v ∙ (ap (λ z. over L z v) p ∙ sym (over-blank q′ v))
+    -- accesses that are the same but for addresses await the same
+    awaited-same : (q q′ : Access) → blank q ≡ blank q′ → awaited q ≡ awaited q′
+    awaited-same q q′ p = awaited-blank q ∙ (ap awaited p ∙ sym (awaited-blank q′))
+
+    both-ask : (i : Bool) (q q′ : Access) → blank q ≡ blank q′ → {φ : Phase} {k : ℕ → S × Buf → tree.Out (S × Buf) A} {k′ : ℕ → T × Buf → tree.Out (T × Buf) A} → Fits i φ → ((v : ℕ) (s : S × Buf) (t : T × Buf) → In-call φ s t → Sim rels i (k v s) (k′ v t)) → Ways φ (busy i (awaited q) k) (busy i (awaited q′) k′)
+    both-ask i q q′ e {φ = φ} {k = k} {k′ = k′} p h = subst (λ a. Ways φ (busy i (awaited q) k) (busy i a k′)) (awaited-same q q′ e) (both-busy i (awaited q) p h)
 
     halts : (i : Bool) {o : tree.Out (S × Buf) A} {u : tree.Out (T × Buf) A} → Sim rels i o u → After (halt L D (λ s. s) i o) (halt L (K .driver) (fed K (halt L D (λ s. s) i o .0)) i u)
     halts i (end e r) = record { same = ap ended e; phase = quiet; ways = both-idle; rest = r .rest; good = tt }
-    halts i (ask φ p x k) = record { same = ap handed (x .same); phase = φ; ways = both-busy i _ _ (x .same) p k; rest = x .rest; good = x .good }
+    halts i (ask {q = q} {q′ = q′} φ p x k) = record { same = ap handed (x .same); phase = φ; ways = both-ask i q q′ (x .same) p k; rest = x .rest; good = x .good }
 
     -- refused: nothing changes
     stays : (n : ℕ) {φ : Phase} (m : Machine A S) (d : Machine A T) → Ways φ (m .way) (d .way) → M .Rest φ (m .buf) (m .st) (d .st) → After (stay L D n m) (stay L (K .driver) n d)
@@ -154,7 +158,7 @@ module _ {C S T : Type 0} (D : Driver C S) (K : Book C T) (M : Agree D K) where
     begins : (o : Op) {φ : Phase} (m : Machine A S) (d : Machine A T) (b : Buf) {w : Way A S} {w′ : Way A T} → Ways φ (m .way) (d .way) → Ways φ w w′ → M .Rest φ b (m .st) (d .st)
         → After (begun L D (λ s. s) o m w b) (begun L (K .driver) (fed K (begun L D (λ s. s) o m w b .0)) o d w′ b)
     begins o m d b v both-idle r = halts (L .irq o) (alike rels (L .code o) (m .st, b) (d .st, b) (record { bytes = refl; rest = r }))
-    begins o m d b v (both-busy i q q′ x p k) r = asides (L .aside o) i p (lentTo L D m b) (lentTo L (K .driver) d b) v r
+    begins o m d b v (both-busy i a p k) r = asides (L .aside o) i p (lentTo L D m b) (lentTo L (K .driver) d b) v r
         (λ e. alike rels (L .code o) (m .st, b) (d .st, b) (record { bytes = refl; rest = subst (λ φ. M .Rest φ b (m .st) (d .st)) e r }))
 
     wides : (g : Bool) {φ : Phase} {i : Bool} (m : Machine A S) (d : Machine A T) → Ways φ (m .way) (d .way) → M .Rest φ (m .buf) (m .st) (d .st) → {o : tree.Out (S × Buf) A} {u : tree.Out (T × Buf) A} → Sim rels i o u
@@ -165,11 +169,8 @@ module _ {C S T : Type 0} (D : Driver C S) (K : Book C T) (M : Agree D K) where
     continues : (n : ℕ) {φ : Phase} (m : Machine A S) (d : Machine A T) (b : Buf) {w : Way A S} {w′ : Way A T} → Ways φ (m .way) (d .way) → Ways φ w w′ → M .Rest φ b (m .st) (d .st)
         → After (continued L D (λ s. s) n m w b) (continued L (K .driver) (fed K (continued L D (λ s. s) n m w b .0)) n d w′ b)
     continues n m d b v both-idle r = stays 15 (lentTo L D m b) (lentTo L (K .driver) d b) v r
-    continues n m d b v (both-busy i q q′ {k = k} {k′ = k′} x p h) r =
-        let s : S × Buf = (m .st, b) in let t : T × Buf = (d .st, b) in
-        let now = cond (over L q n) (stay L D 16 (lentTo L D m b)) (halt L D (λ s. s) i (k n s)) in
-        subst (λ g. After now (cond g (stay L (K .driver) 16 (lentTo L (K .driver) d b)) (halt L (K .driver) (fed K (now .0)) i (k′ n t)))) (over-same q q′ n x)
-        (wides (over L q n) (lentTo L D m b) (lentTo L (K .driver) d b) v r (h n s t (record { bytes = refl; rest = r })))
+    continues n m d b v (both-busy i a p h) r =
+        wides (over L a n) (lentTo L D m b) (lentTo L (K .driver) d b) v r (h n (m .st, b) (d .st, b) (record { bytes = refl; rest = r }))
 
     -- row 1 is the same for both
     fitted : (g g′ : Bool) → g ≡ g′ → {φ : Phase} (m : Machine A S) (d : Machine A T) → Ways φ (m .way) (d .way) → M .Rest φ (m .buf) (m .st) (d .st)
@@ -222,3 +223,11 @@ module _ {C S T : Type 0} (D : Driver C S) (K : Book C T) (M : Agree D K) where
       always (e ∷ es) m d w r l =
           let a = agrees (e .call) (e .lent) m d w r (l .0) in
           (a, always es _ _ (a .ways) (a .rest) (l .1))
+
+      -- demand 3, once the operations agree: every list of calls that follows an accepted start-up, from whatever was before
+      pub from-start : (c : C) (b : Buf) → L .refuses c b ≡ zero → (es : List (Event C Op)) (m : Machine A S) (d : Machine A T)
+          → let x = started L D (λ s. s) c zero m b in let y = started L (K .driver) (fed K (x .0)) c zero d b in
+          Lawful es (x .1) (y .1) → After x y × All es (x .1) (y .1)
+      from-start c b e es m d l =
+          let a = halts false (alike rels (L .starts c) (D .fresh c, b) (K .driver .fresh c, b) (record { bytes = refl; rest = fresh c b e })) in
+          (a, always es _ _ (a .ways) (a .rest) l)

@@ -55,6 +55,6 @@ named d e p = do
   a ← get allocator-cell
   test (isAllocated a d e) p (ret (Refused 5))
 
--- a condition that must hold, else the row
+-- where `bad` holds, the row's refusal
 abbrev pub unless : {i : Bool} → Bool → ℕ → Script i Answer → Script i Answer
 unless bad n p = test bad (ret (Refused n)) p

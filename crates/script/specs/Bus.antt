@@ -1,4 +1,4 @@
--- The bus: stalls (mod.rs 1053-1106), reset, enable, poll (1187-1266), endpoint_set_enabled (1268-1330)
+-- The bus: stalls (mod.rs 1053-1108), reset, enable, poll (1187-1266), endpoint_set_enabled (1268-1330)
 use mathlib.Core.Bool.{Bool, true, false, not, cond, _&&_}
 use Prim.Native.Nat.{ℕ, zero, suc, _+_, _-_}
 use lib.Dec.{eqb}
@@ -51,7 +51,7 @@ setStalled In ep false = do
   when (not (isOn (s .iso))) (modifyEp In ep completed)
   wake In ep
 
--- `is_endpoint_stalled`, 1101-1106
+-- `is_endpoint_stalled`, 1101-1108
 abbrev pub isEndpointStalled : {i : Bool} → Dir → ℕ → Script i ℕ
 isEndpointStalled d ep = do
   word ← read (ctrlOf d) ep
@@ -63,7 +63,7 @@ isEndpointStalled d ep = do
 abbrev pub enable : {i : Bool} → Script i Unit
 enable = modifyReg Ctrl 0 pulledUp
 
--- `bus_reset`, 1187-1221: endpoints `i` to 15 answer NAK, `n` of them
+-- `bus_reset`, 1202-1206: `n` endpoints from `ep` on answer NAK
 unfoldable pub nakAll : {i : Bool} → ℕ → ℕ → Script i Unit
 nakAll zero ep = done
 nakAll (suc n) ep = do
@@ -71,7 +71,7 @@ nakAll (suc n) ep = do
   write EpRxCtrl ep (wordOf NAK DATA0 false)
   nakAll n (suc ep)
 
--- the row disables all endpoints, resets all records and ends with the release of the flag (1243)
+-- the row disables all endpoints, resets all records and ends with the release of the flag (1245)
 abbrev pub busReset : Script false Unit
 busReset = do
   write DevAd 0 0
@@ -106,7 +106,7 @@ poll = do
 
 -- ---- `endpoint_set_enabled`, 1268-1330
 
--- 1326-1327, 1312-1313: ep_type's bit, then ep_config's
+-- 1324-1325, 1310-1311: ep_type's bit, then ep_config's
 abbrev pub kept : {i : Bool} → Dir → ℕ → Bool → Bool → Script i Unit
 kept d ep iso on = do
   modifyEpType (λ w. enables.withOn w d ep (iso && on))

@@ -1,4 +1,6 @@
--- What a script reads and changes by plain assignment: the Rust's statics, record by record
+-- What a script reads and assigns: the Rust's statics, the requests and the allocator, record by record. What comes with start-up, an
+-- allocation or enabling (the allocator, stage, callback, ep_config, the sets of isochronous endpoints, EP0's buffer and maximum) changes by
+-- operations of its own: an assignment leaves it
 use Prim.Native.Nat.{ℕ}
 use Rattle.regs.specs.declared.Dir.{Dir}
 use Rattle.state.specs.declared.Globals.{Globals}

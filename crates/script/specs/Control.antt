@@ -1,4 +1,4 @@
--- The control pipe (control.rs 26-186): one request, each stage a begin and a poll
+-- The control pipe (control.rs 26-185): one request, each stage a begin and a poll
 use mathlib.Core.Bool.{Bool, true, false, not, cond, _&&_, _||_}
 use mathlib.Core.List.{List, [], _∷_, _++_}
 use Prim.Native.Nat.{ℕ, _+_, _*_, _/_, _%_}
@@ -171,7 +171,7 @@ take-in c = do
 abbrev pub pollDataIn : {i : Bool} → Script i Answer
 pollDataIn = staged 2 (requested DATA-IN (λ c. test (eqb (c .wait) 2) (take-closing false c) (take-in c)))
 
--- ---- `accept`, `accept_set_address`, 26-46, 163-166, 179-186
+-- ---- `accept`, `accept_set_address`, 26-44, 163-166, 179-185
 
 abbrev pub statusIn : {i : Bool} → Script i Unit
 statusIn = do

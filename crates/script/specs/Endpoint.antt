@@ -21,7 +21,7 @@ begun n = record { begun = 1; length = n }
 abbrev pub no-request : Request
 no-request = record { begun = 0; length = 0 }
 
--- `is_enabled`, endpoint.rs 57-62; row 9
+-- `is_enabled`, endpoint.rs 55-60; row 9
 abbrev pub enabled-else : {i : Bool} → Dir → ℕ → Script i Answer → Script i Answer → Script i Answer
 enabled-else d ep q p = do
   g ← get globals-cell
@@ -58,7 +58,7 @@ polled d ep n p = do
         modifyEp d ep (withReady 0)
         ends-request d ep (Refused 10)))
 
--- 100-114: drain the ring the interrupt fills
+-- 96-113: drain the ring the interrupt fills
 abbrev pub take-iso : {i : Bool} → ℕ → ℕ → Script i Answer
 take-iso ep n = enabled-else Out ep (ends-request Out ep (Refused 9)) (do
   b ← is (waiting Out ep)
@@ -73,7 +73,7 @@ take-iso ep n = enabled-else Out ep (ends-request Out ep (Refused 9)) (do
 unfoldable pub tooLong : ℕ → Plain → Bool
 tooLong n s = ltb n (s .len) || ltb (s .«max_len») (s .len)
 
--- 126-140
+-- 125-141
 abbrev pub take-ready : {i : Bool} → ℕ → ℕ → Plain → Script i Answer
 take-ready ep n s = test (isOn (s .ready))
     (do
@@ -102,7 +102,7 @@ beginWrite ep bytes = staged 2 (named In ep (enabled-else In ep (ret (Refused 9)
     put (request-cell In ep) (begun (length bytes))
     resultless (test (isOn (s .iso)) done (load-write ep bytes))))))
 
--- 161-170
+-- 157-171
 abbrev pub put-iso : {i : Bool} → ℕ → List ℕ → Script i Answer
 put-iso ep bytes = enabled-else In ep (ends-request In ep (Refused 9)) (do
   b ← is (room ep (length bytes))
@@ -112,7 +112,7 @@ put-iso ep bytes = enabled-else In ep (ends-request In ep (Refused 9)) (do
         ends-request In ep (Done []))
       (ret NotYet))
 
--- 183-193
+-- 182-193
 abbrev pub sent-ready : {i : Bool} → ℕ → Plain → Script i Answer
 sent-ready ep s = test (isOn (s .ready))
     (do

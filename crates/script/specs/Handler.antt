@@ -1,4 +1,4 @@
--- The interrupt (mod.rs 416-458, 634-850)
+-- The interrupt (mod.rs 416-459, 634-852)
 use mathlib.Core.Bool.{Bool, true, false, not, cond, _&&_, _||_}
 use Prim.Native.Nat.{ℕ, zero, suc}
 use lib.Dec.{eqb}
@@ -49,7 +49,7 @@ nakNonIso st = do
       (modifyReg EpRxCtrl (endpoint st) nak)
       (when (inNaks st n) (modifyReg EpTxCtrl (endpoint st) nak))
 
--- ---- `toggled`, 433-458
+-- ---- `toggled`, 433-459
 
 -- the chip's toggle is still the one recorded: no new packet
 unfoldable pub repeated : Plain → ℕ → Bool
@@ -73,14 +73,14 @@ toggled dir ep = do
 abbrev pub entered : ℕ → ℕ → ℕ → Transfer
 entered m st n = record { busy = not (sieFree m); st = st; len = n; late = false; «len_ok» = true }
 
--- 680-688: an isochronous OUT was on the bus. A length of 0: it completed before the release; another token: the next transaction
+-- 679-687: an isochronous OUT was on the bus. A length of 0: it completed before the release; another token: the next transaction
 unfoldable pub sameOut : Transfer → ℕ → ℕ → Bool
 sameOut x now n = not (eqb n 0) && (isOut now && eqb (endpoint now) (endpoint (x .st)))
 
 abbrev pub lateTaken : Transfer → ℕ → ℕ → Transfer
 lateTaken x now n = record { busy = false; st = x .st; len = n; late = true; «len_ok» = sameOut x now n }
 
--- 701-706: a bulk or interrupt transaction was on the bus
+-- 703-707: a bulk or interrupt transaction was on the bus
 abbrev pub waited : Transfer → ℕ → Transfer
 waited x n = record { busy = false; st = x .st; len = cond (eqb n 0) (x .len) n; late = x .late; «len_ok» = x .«len_ok» }
 
@@ -109,7 +109,7 @@ retake x = do
           ret (retaken x st)))
       (ret x)
 
--- 669-716
+-- 668-715
 abbrev pub settle : {i : Bool} → Transfer → Script i Transfer
 settle x = do
   o ← get (ep-cell Out (endpoint (x .st)))
@@ -186,7 +186,7 @@ dispatch tok.Out x iso frame = outArm x iso
 dispatch tok.In x iso frame = inArm x iso frame
 dispatch tok.Setup x iso frame = done
 
--- `ep0_moved_on`, 821-850: the host's token for the other direction says that a hidden stage went through
+-- `ep0_moved_on`, 822-852: the host's token for the other direction says that a hidden stage went through
 abbrev pub movedOn : {i : Bool} → Dir → Script i Unit
 movedOn d = do
   s ← get (ep-cell d 0)
@@ -201,7 +201,7 @@ ep0MovedOn tok.In = movedOn Out
 ep0MovedOn tok.Sof = done
 ep0MovedOn tok.Setup = done
 
--- 733-801, the frame read
+-- 729-800, the frame read
 abbrev pub served : {i : Bool} → Transfer → Bool → ℕ → Script i Unit
 served x iso frame = do
   g ← get globals-cell

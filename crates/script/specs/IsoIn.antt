@@ -1,4 +1,4 @@
--- Isochronous IN: completions and loads (mod.rs 396-415, 557-609), paced advance (323-341)
+-- Isochronous IN: completions and loads (mod.rs 397-414, 558-608), paced advance (323-340)
 use mathlib.Core.Bool.{Bool, true, false, not, cond, _&&_}
 use mathlib.Core.List.{List, [], _∷_}
 use Prim.Native.Nat.{ℕ, zero, suc, _+_, _-_, _*_, _/_, _%_}
@@ -16,14 +16,14 @@ use Rattle.frame.specs.Usb20.{indexOf, frameOf}
 use Rattle.frame.specs.Advance.{NO_FRAME, previous, completions, inPrevious}
 use Rattle.script.specs.Statics.{isOn, withLastFrame, withSofFrame, withPaced, modify, modifyEp, wake, isoInEvery}
 
--- `first_in_frame`, 396-403: the frame is recorded in either case
+-- `first_in_frame`, 397-403: the frame is recorded in either case
 abbrev pub firstInFrame : {i : Bool} → ℕ → ℕ → Script i Bool
 firstInFrame ep frame = do
   s ← get (ep-cell In ep)
   put (ep-cell In ep) (withLastFrame frame s)
   ret (not (eqb (s .«last_frame») frame))
 
--- `iso_in_load`, 592-608: the oldest packet, or a zero-length one. `send` marks the slot as loaded in the call that hands out its address
+-- `iso_in_load`, 593-608: the oldest packet, or a zero-length one. `send` marks the slot as loaded in the call that hands out its address
 abbrev pub isoInLoad : {i : Bool} → ℕ → Script i Unit
 isoInLoad ep = do
   b ← is (waiting In ep)
@@ -95,7 +95,7 @@ isoInCompletions (suc n) ep = do
   isoInComplete ep
   isoInCompletions n ep
 
--- `iso_in_advance`, 323-341
+-- `iso_in_advance`, 323-340
 abbrev pub isoInAdvance : {i : Bool} → ℕ → Script i Unit
 isoInAdvance ep = do
   g ← get globals-cell

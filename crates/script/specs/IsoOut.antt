@@ -1,4 +1,4 @@
--- Isochronous OUT: arrivals (`iso_out_check`, mod.rs 460-509)
+-- Isochronous OUT: arrivals (`iso_out_check`, mod.rs 461-512)
 use mathlib.Core.Bool.{Bool, true, false, not, cond, _&&_}
 use mathlib.Core.List.{List, [], _∷_}
 use Prim.Native.Nat.{ℕ}
@@ -20,14 +20,14 @@ arriving st ep = isOut st && eqb (endpoint st) ep
 unfoldable pub entry : Transfer → Bool → ℕ → Bool
 entry x iso ep = not (x .busy) && (x .«len_ok» && (iso && (togOk (x .st) && arriving (x .st) ep)))
 
--- 491-509: the packet is admitted or turned away and the next slot armed, all in the call that hands out its address; a length above the
+-- 491-509: the packet is admitted or turned away and the head's slot armed, all in the call that hands out its address; a length above the
 -- maximum is capped there
 abbrev pub arrives : {i : Bool} → ℕ → ℕ → Script i Unit
 arrives ep len = do
   hand (arrive ep len)
   wake Out ep
 
--- 471-508, one endpoint; the first word is looked at before the status is read
+-- 471-511, one endpoint; the first word is looked at before the status is read
 abbrev pub checkOne : {i : Bool} → Transfer → Bool → ℕ → Script i Unit
 checkOne x iso ep = do
   b ← is (changed ep)

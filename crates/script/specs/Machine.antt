@@ -42,10 +42,24 @@ pub data Ans (A : Type 0) : Type 0 where
   handed : Access → Ans A
   told : ℕ → Ans A
 
+-- what an operation awaits: a reading, or nothing
+pub data Awaits : Type 0 where
+  nothing : Awaits
+  reading : Reg → Awaits
+
+abbrev pub awaited : Access → Awaits
+awaited (Read r e) = reading r
+awaited (Write r e x) = nothing
+awaited (Receive e x) = nothing
+awaited (Transmit e x) = nothing
+awaited (Ep0Dma x) = nothing
+awaited (Wait n) = nothing
+awaited Callback = nothing
+
 -- what is under way: nothing, or an operation that handed out an access; `true`: an interrupt
 pub data Way (A S : Type 0) : Type 0 where
   idle : Way A S
-  busy : Bool → Access → (ℕ → S × Buf → tree.Out (S × Buf) A) → Way A S
+  busy : Bool → Awaits → (ℕ → S × Buf → tree.Out (S × Buf) A) → Way A S
 
 pub record Machine (A S : Type 0) : Type 0 where
   pub way : Way A S
@@ -71,14 +85,9 @@ pub record Driver (C S : Type 0) : Type 0 where
   pub question : Question → S → ℕ
 
 -- row 16
-abbrev pub over : {C Op A : Type 0} → Calls C Op A → Access → ℕ → Bool
-over L (Read r e) v = L .wide r v
-over L (Write r e x) v = false
-over L (Receive e x) v = false
-over L (Transmit e x) v = false
-over L (Ep0Dma x) v = false
-over L (Wait n) v = false
-over L Callback v = false
+abbrev pub over : {C Op A : Type 0} → Calls C Op A → Awaits → ℕ → Bool
+over L (reading r) v = L .wide r v
+over L nothing v = false
 
 module _ {C Op A : Type 0} (L : Calls C Op A) {S : Type 0} (D : Driver C S) where
   -- row 1
@@ -100,7 +109,7 @@ module _ {C Op A : Type 0} (L : Calls C Op A) {S : Type 0} (D : Driver C S) wher
   module _ (told-of : S → S) where
     abbrev pub halt : Bool → tree.Out (S × Buf) A → Ans A × Machine A S
     halt i (ends a s) = (ended a, record { way = idle; st = s .0; buf = s .1 })
-    halt i (asks q s k) = (handed q, record { way = busy i q k; st = told-of (s .0); buf = s .1 })
+    halt i (asks q s k) = (handed q, record { way = busy i (awaited q) k; st = told-of (s .0); buf = s .1 })
 
     abbrev pub begun : Op → Machine A S → Way A S → Buf → Ans A × Machine A S
     begun o m idle b = halt (L .irq o) (run (D .ops) (L .code o) (m .st, b))

@@ -52,7 +52,7 @@ pub data Act : Type 0 where
 
 -- changes in the call that hands out the address they come to
 pub data Hand : Type 0 where
-  arrive : ℕ → ℕ → Hand  -- OUT e: a packet of that length; the next slot is armed
+  arrive : ℕ → ℕ → Hand  -- OUT e: a packet of that length; the head's slot is armed, the next one, or the same where it was turned away
   send : ℕ → Hand  -- IN e: the oldest packet is being sent
   place : Dir → ℕ → Hand  -- the endpoint's buffer
   place0 : Hand  -- EP0's buffer
@@ -67,8 +67,8 @@ handAsk (send e) x = Transmit e x
 handAsk (place d e) x = dma d e x
 handAsk place0 x = Ep0Dma x
 
--- accesses in a row, between which no other call changes anything. Each step hands out a number that the state gives: an
--- address, or a kept word
+-- accesses in a row, between which no other call changes anything. A step may hand out a number that the state
+-- gives: an address, or a kept word
 pub data Row : Type 0 where
   switch : ℕ → Bool → Row  -- an isochronous OUT that is enabled or disabled: its record reset and every slot marked, from the last
   bus-reset : Row  -- every endpoint disabled, every record reset

@@ -118,10 +118,10 @@ modifyEpType f = do
   put globals-cell (withEpType (f (g .«ep_type»)) g)
   write EpType 0 (f (g .«ep_type»))
 
--- the iso IN endpoints the interrupt completes: polled every microframe, not paced, enabled (`iso_in_every`, mod.rs 83-94)
+-- the iso IN endpoints the interrupt completes: polled every microframe, not paced, enabled (`iso_in_every`, mod.rs 80-92)
 unfoldable pub isoInEvery : Globals → ℕ
 isoInEvery g = inEnabled (g .«ep_config») (bitAnd (g .«iso_in_every») (65535 - g .«iso_in_paced»))
 
--- the enabled isochronous OUT endpoints (mod.rs 97-103, 467)
+-- the enabled isochronous OUT endpoints (mod.rs 94-101, 467)
 unfoldable pub isoOuts : Globals → ℕ
 isoOuts g = outEnabled (g .«ep_config») (g .«iso_out_eps»)
