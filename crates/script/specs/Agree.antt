@@ -13,7 +13,7 @@ use Rattle.script.specs.Tree.{ends, asks, bindOut}
 use Rattle.script.specs.Cells.{Cell, Val}
 use Rattle.script.specs.Script.{Ops, Script, run, Test, Look, Fetch, Act, Hand, arrive, send, place, place0, handAsk, dma, Row, switch, bus-reset, lastOf, rowAsk, switchAsk, resetAsk}
 use Rattle.script.specs.Alike.{Rels, Sim, end, ask, alike, Phase, quiet, mid, Fits, Bare}
-use Rattle.script.specs.Machine.{Buf, Question, Call, start, begin, go, question, Event, Ans, refused, ended, handed, told, Awaits, awaited, Way, idle, busy, Machine, Calls, Driver, Book, fed, blank, blankA, over, misfit, stay, lentTo, beside, halt, begun, continued, started, call}
+use Rattle.script.specs.Machine.{Buf, Question, Call, start, begin, go, question, Event, Ans, ended, handed, told, Awaits, awaited, Way, idle, busy, Machine, Calls, Driver, Book, fed, blank, blankA, over, misfit, stay, lentTo, beside, halt, begun, continued, started, call}
 
 -- what is to be shown of a driver D and a book K, operation by operation
 pub record Agree {C S T : Type 0} (D : Driver C S) (K : Book C T) : Type 1 where
@@ -86,7 +86,6 @@ module _ {C S T : Type 0} (D : Driver C S) (K : Book C T) (M : Agree D K) where
       both-busy : (i : Bool) (a : Awaits) {φ : Phase} {k : ℕ → S × Buf → tree.Out (S × Buf) A} {k′ : ℕ → T × Buf → tree.Out (T × Buf) A} → Fits i φ → ((v : ℕ) (s : S × Buf) (t : T × Buf) → In-call φ s t → Sim rels i (k v s) (k′ v t)) → Ways φ (busy i a k) (busy i a k′)
 
     abbrev pub GoodA : Ans A → Buf → T → Type 0
-    GoodA (refused n) b t = Unit {0}
     GoodA (ended a) b t = Unit {0}
     GoodA (handed q) b t = M .Good q b t
     GoodA (told n) b t = Unit {0}
@@ -176,7 +175,7 @@ module _ {C S T : Type 0} (D : Driver C S) (K : Book C T) (M : Agree D K) where
     fitted : (g g′ : Bool) → g ≡ g′ → {φ : Phase} (m : Machine A S) (d : Machine A T) → Ways φ (m .way) (d .way) → M .Rest φ (m .buf) (m .st) (d .st)
         → {X : Type 0} → unless g X → (x : Ans A × Machine A S) (y : Ans A → Ans A × Machine A T) → (X → After x (y (x .0)))
         → let z = cond g (stay L D 1 m) x in After z (cond g′ (stay L (K .driver) 1 d) (y (z .0)))
-    fitted true g′ e m d w r p x y f = subst (λ g. After (stay L D 1 m) (cond g (stay L (K .driver) 1 d) (y (refused 1)))) e (stays 1 m d w r)
+    fitted true g′ e m d w r p x y f = subst (λ g. After (stay L D 1 m) (cond g (stay L (K .driver) 1 d) (y (ended (L .refusal 1))))) e (stays 1 m d w r)
     fitted false g′ e m d w r p x y f = subst (λ g. After x (cond g (stay L (K .driver) 1 d) (y (x .0)))) e (f p)
 
     module _ (fresh : (c : C) (b : Buf) → L .refuses c b ≡ zero → M .Rest quiet b (D .fresh c) (K .driver .fresh c)) where

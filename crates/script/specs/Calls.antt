@@ -160,4 +160,4 @@ abbrev pub tooWide : Reg → ℕ → Bool
 tooWide r v = not (fitsIn v (widthOf r))
 
 abbrev pub calls : Calls Config Op Answer
-calls = record { irq = irq; code = code; slots = slots; aside = passes; starts = starting; refuses = startRow; wide = tooWide }
+calls = record { irq = irq; code = code; slots = slots; aside = passes; starts = starting; refuses = startRow; wide = tooWide; refusal = Refused }

@@ -37,7 +37,6 @@ pub record Event (C Op : Type 0) : Type 0 where
   pub lent : Buf
 
 pub data Ans (A : Type 0) : Type 0 where
-  refused : ℕ → Ans A
   ended : A → Ans A
   handed : Access → Ans A
   told : ℕ → Ans A
@@ -67,7 +66,7 @@ pub record Machine (A S : Type 0) : Type 0 where
   pub buf : Buf
 
 -- the calls: their scripts; which bring the slot buffer; which pass during an interrupt; the rows of start-up (0: accepted); whether a
--- reading has bits above its width
+-- reading has bits above its width; the answer that a row gives
 pub record Calls (C Op A : Type 0) : Type 1 where
   pub irq : Op → Bool
   pub code : (o : Op) → Script (irq o) A
@@ -76,6 +75,7 @@ pub record Calls (C Op A : Type 0) : Type 1 where
   pub starts : C → Script false A
   pub refuses : C → Buf → ℕ
   pub wide : Reg → ℕ → Bool
+  pub refusal : ℕ → A
 
 -- a driver: its operations over its state with the buffer, the state that a start-up makes, the buffer's length, the questions
 pub record Driver (C S : Type 0) : Type 0 where
@@ -95,7 +95,7 @@ module _ {C Op A : Type 0} (L : Calls C Op A) {S : Type 0} (D : Driver C S) wher
   misfit s b = not (eqb (length b) (D .size s))
 
   abbrev pub stay : ℕ → Machine A S → Ans A × Machine A S
-  stay n m = (refused n, m)
+  stay n m = (ended (L .refusal n), m)
 
   abbrev pub lentTo : Machine A S → Buf → Machine A S
   lentTo m b = record { way = m .way; st = m .st; buf = b }
@@ -141,7 +141,6 @@ blank (Wait n) = Wait n
 blank Callback = Callback
 
 abbrev pub blankA : {A : Type 0} → Ans A → Ans A
-blankA (refused n) = refused n
 blankA (ended a) = ended a
 blankA (handed q) = handed (blank q)
 blankA (told n) = told n
@@ -152,7 +151,6 @@ pub record Book (C T : Type 0) : Type 0 where
   pub feed : Access → T → T
 
 abbrev pub fed : {C T A : Type 0} → Book C T → Ans A → T → T
-fed K (refused n) t = t
 fed K (ended a) t = t
 fed K (handed q) t = K .feed q t
 fed K (told n) t = t
