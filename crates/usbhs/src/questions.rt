@@ -1,0 +1,63 @@
+use ops::rings::is_on;
+use regs::Dir;
+use state::STATE_LEN;
+
+ghost use mathlib.Core.Path.{_≡_};
+ghost use mathlib.Core.Bool.{true};
+ghost use Rattle.state.specs.State.{view};
+ghost use Rattle.script.specs.Answers.{isNumber};
+ghost use Rattle.usbhs.specs.Questions.{pendingOn, overrunsOn, enabledAsked};
+
+// 1 to 15: an endpoint's number other than EP0's.
+pub fn is_number(e: u32) -> bool
+    ensures { λ r. ⌜ r ≡ isNumber e ⌝ }
+{
+    if 0 < e {
+        return e < 16;
+    }
+    false
+}
+
+// A number of any size as an endpoint's: its low byte.
+fn low(e: u32) -> u8
+    requires { ⌜ isNumber e ≡ true ⌝ }
+    ensures { λ r. ⌜ r ≡ e ⌝ }
+{
+    e as u8
+}
+
+// The packets queued on IN e and not yet taken by the host.
+pub fn pending(s: &[u8; STATE_LEN], e: u32) -> u32
+    ensures { λ r. ⌜ r ≡ pendingOn (view (now (s .entry))) e ⌝ }
+{
+    if is_number(e) {
+        let r = state::load_ep(s, Dir::In, low(e));
+        return ring::count(r) as u32;
+    }
+    0
+}
+
+// The packets of OUT e that were turned away.
+pub fn overruns(s: &[u8; STATE_LEN], e: u32) -> u32
+    ensures { λ r. ⌜ r ≡ overrunsOn (view (now (s .entry))) e ⌝ }
+{
+    if is_number(e) {
+        let r = state::load_ep(s, Dir::Out, low(e));
+        if is_on(r.iso) {
+            return r.overruns;
+        }
+        return 0;
+    }
+    0
+}
+
+// Whether the host enabled the endpoint.
+pub fn enabled(s: &[u8; STATE_LEN], dir: Dir, e: u32) -> bool
+    ensures { λ r. ⌜ r ≡ enabledAsked (view (now (s .entry))) dir e ⌝ }
+{
+    if is_number(e) {
+        let g = state::load_globals(s);
+        return regs::enables::is_on(g.ep_config, dir, low(e));
+    }
+    false
+}
