@@ -136,12 +136,16 @@ admittedOn d e len = withOn (recordedOn d e len) Out e (arrivedOf (epOn d Out e)
 unfoldable pub staleOn : Driver → ℕ → ℕ → Bool → ℕ
 staleOn d e len room = cond room (lenOn d Out e (armSlot (epOn d Out e))) len
 
--- the head's slot armed: marked over what is stale, its address recorded
-abbrev pub armOn : ℕ → ℕ → ℕ → St → ℕ × St
-armOn e from dirty s =
+-- slot i armed: marked over what is stale, its address recorded
+abbrev pub armAt : ℕ → ℕ → ℕ → ℕ → St → ℕ × St
+armAt e i from dirty s =
     let r = epOn (s .0) Out e in
-    let a = slotAddr r (r .head) in
+    let a = slotAddr r i in
     (a, (withOn (s .0) Out e (armedAt r a), armed (s .1) a from dirty))
+
+-- the head's
+abbrev pub armOn : ℕ → ℕ → ℕ → St → ℕ × St
+armOn e from dirty s = armAt e (epOn (s .0) Out e .head) from dirty s
 
 abbrev pub arrivedAt : ℕ → ℕ → St → ℕ × St
 arrivedAt e len s =
@@ -175,10 +179,7 @@ renewedOn d e = withOn (fillLens d e (epOn d Out e .«max_len»)) Out e (withMin
 
 -- 1292-1294: slot k marked over the maximum and armed
 abbrev pub armSlotOn : ℕ → ℕ → St → ℕ × St
-armSlotOn e k s =
-    let r = epOn (s .0) Out e in
-    let a = slotAddr r k in
-    (a, (withOn (s .0) Out e (armedAt r a), armed (s .1) a 0 (r .«max_len»)))
+armSlotOn e k s = armAt e k 0 (epOn (s .0) Out e .«max_len») s
 
 unfoldable pub slotStep : ℕ → ℕ → St → ℕ × St
 slotStep e k s =

@@ -28,9 +28,9 @@ ghost use Rattle.state.specs.Driver.{epOn, withOn};
 ghost use Rattle.state.specs.Ep.{resetOf};
 ghost use Rattle.state.specs.State.{view, saved};
 ghost use Rattle.script.specs.Statics.{isoOuts};
-ghost use Rattle.ops.specs.Rings.{recordedOn, admittedOn, staleOn, armOn, arrivedAt, arriveOn, renewedOn, armSlotOn, slotStep, resetBelow, resetAll};
+ghost use Rattle.ops.specs.Rings.{recordedOn, admittedOn, staleOn, armAt, arrivedAt, arriveOn, renewedOn, slotStep, resetBelow, resetAll};
 
-// Is OUT e an enabled isochronous endpoint (mod.rs 97-103)?
+// Is OUT e an enabled isochronous endpoint (mod.rs 95-101, 467)?
 pub fn receiving(s: &[u8; STATE_LEN], e: u8) -> bool
     ensures { λ r. ⌜ r ≡ isSet (isoOuts (view (now (s .entry)) .globals)) (e % 16) ⌝ }
 {
@@ -60,7 +60,7 @@ fn admit(s: &mut [u8; STATE_LEN], e: u8, len: u16)
     store_ep(s, Dir::Out, e, ring::arrived(r, len));
 }
 
-// How far the slot to arm is stale (mod.rs 502, 506).
+// How far the slot to arm is stale (mod.rs 497, 502).
 fn stale(s: &[u8; STATE_LEN], e: u8, len: u16, room: bool) -> u16
     ensures { λ r. ⌜ r ≡ staleOn (view (now (s .entry))) e len room ⌝ }
 {
@@ -71,15 +71,15 @@ fn stale(s: &[u8; STATE_LEN], e: u8, len: u16, room: bool) -> u16
     len
 }
 
-// The head's slot is armed: marked over what is stale, its address recorded (mod.rs 545-555).
-fn arm(s: &mut [u8; STATE_LEN], buf: &mut [u8], e: u8, from: u16, dirty: u16) -> u32
-    ensures { λ r. ⌜ r ≡ armOn e from dirty (view (now (s .entry)), now (buf .entry)) .0 ⌝ }
-    ensures { λ _. ⌜ view (now (s .exit)) ≡ armOn e from dirty (view (now (s .entry)), now (buf .entry)) .1 .0 ⌝ }
-    ensures { λ _. ⌜ now (buf .exit) ≡ armOn e from dirty (view (now (s .entry)), now (buf .entry)) .1 .1 ⌝ }
+// The slot of counter i is armed: marked over what is stale, its address recorded (mod.rs 547-556).
+fn arm(s: &mut [u8; STATE_LEN], buf: &mut [u8], e: u8, i: u8, from: u16, dirty: u16) -> u32
+    ensures { λ r. ⌜ r ≡ armAt e i from dirty (view (now (s .entry)), now (buf .entry)) .0 ⌝ }
+    ensures { λ _. ⌜ view (now (s .exit)) ≡ armAt e i from dirty (view (now (s .entry)), now (buf .entry)) .1 .0 ⌝ }
+    ensures { λ _. ⌜ now (buf .exit) ≡ armAt e i from dirty (view (now (s .entry)), now (buf .entry)) .1 .1 ⌝ }
     ensures { λ _. ⌜ saved (now (s .exit)) ≡ saved (now (s .entry)) ⌝ }
 {
     let r = load_ep(s, Dir::Out, e);
-    let at = slot_addr(r, r.head);
+    let at = slot_addr(r, i);
     store_ep(s, Dir::Out, e, armed(r, at));
     iso_out_arm(buf, at, from, dirty);
     at
@@ -92,11 +92,12 @@ fn arrived(s: &mut [u8; STATE_LEN], buf: &mut [u8], e: u8, len: u16) -> u32
     ensures { λ _. ⌜ now (buf .exit) ≡ arrivedAt e len (view (now (s .entry)), now (buf .entry)) .1 .1 ⌝ }
     ensures { λ _. ⌜ saved (now (s .exit)) ≡ saved (now (s .entry)) ⌝ }
 {
-    let room = has_room_out(load_ep(s, Dir::Out, e));
+    let old = load_ep(s, Dir::Out, e);
+    let room = has_room_out(old);
     admit(s, e, len);
     let r = load_ep(s, Dir::Out, e);
     let dirty = capped(r, stale(s, e, len, room));
-    arm(s, buf, e, r.min_len, dirty)
+    arm(s, buf, e, r.head, r.min_len, dirty)
 }
 
 // A packet of OUT e arrived: it is admitted or turned away, and the next slot armed, whose address is handed out.
@@ -114,7 +115,7 @@ pub fn arrive(s: &mut [u8; STATE_LEN], buf: &mut [u8], e: u8, n: u16) -> u32
     r.armed_slot
 }
 
-// The record reset, every length the maximum (mod.rs 1286-1291).
+// The record reset, every length the maximum (mod.rs 1287-1291).
 fn renew(s: &mut [u8; STATE_LEN], e: u8)
     ensures { λ _. ⌜ view (now (s .exit)) ≡ renewedOn (view (now (s .entry))) e ⌝ }
     ensures { λ _. ⌜ saved (now (s .exit)) ≡ saved (now (s .entry)) ⌝ }
@@ -138,21 +139,7 @@ fn renew_first(s: &mut [u8; STATE_LEN], e: u8, k: u8)
     }
 }
 
-// Slot k marked over the maximum and armed (mod.rs 1292-1294).
-fn mark_slot(s: &mut [u8; STATE_LEN], buf: &mut [u8], e: u8, k: u8) -> u32
-    ensures { λ r. ⌜ r ≡ armSlotOn e k (view (now (s .entry)), now (buf .entry)) .0 ⌝ }
-    ensures { λ _. ⌜ view (now (s .exit)) ≡ armSlotOn e k (view (now (s .entry)), now (buf .entry)) .1 .0 ⌝ }
-    ensures { λ _. ⌜ now (buf .exit) ≡ armSlotOn e k (view (now (s .entry)), now (buf .entry)) .1 .1 ⌝ }
-    ensures { λ _. ⌜ saved (now (s .exit)) ≡ saved (now (s .entry)) ⌝ }
-{
-    let r = load_ep(s, Dir::Out, e);
-    let at = slot_addr(r, k);
-    store_ep(s, Dir::Out, e, armed(r, at));
-    iso_out_arm(buf, at, 0, r.max_len);
-    at
-}
-
-// Slot k of an isochronous OUT that is enabled or disabled, from slot 15 down (mod.rs 1286-1294).
+// Slot k of an isochronous OUT that is enabled or disabled, from slot 15 down: marked over the maximum and armed (mod.rs 1292-1294).
 pub fn slot_step(s: &mut [u8; STATE_LEN], buf: &mut [u8], e: u8, k: u8) -> u32
     ensures { λ r. ⌜ r ≡ slotStep e k (view (now (s .entry)), now (buf .entry)) .0 ⌝ }
     ensures { λ _. ⌜ view (now (s .exit)) ≡ slotStep e k (view (now (s .entry)), now (buf .entry)) .1 .0 ⌝ }
@@ -162,7 +149,8 @@ pub fn slot_step(s: &mut [u8; STATE_LEN], buf: &mut [u8], e: u8, k: u8) -> u32
     let r = load_ep(s, Dir::Out, e);
     if is_on(r.iso) {
         renew_first(s, e, k);
-        return mark_slot(s, buf, e, k);
+        let t = load_ep(s, Dir::Out, e);
+        return arm(s, buf, e, k, 0, t.max_len);
     }
     r.armed_slot
 }
@@ -189,7 +177,7 @@ fn reset_eps(s: &mut [u8; STATE_LEN])
     }
 }
 
-// The bus's reset: every record reset, no setup is ready (mod.rs 1212-1215).
+// The bus's reset: every record reset, no setup is ready (mod.rs 1213-1216).
 pub fn reset_all(s: &mut [u8; STATE_LEN])
     ensures { λ _. ⌜ view (now (s .exit)) ≡ resetAll (view (now (s .entry))) ⌝ }
     ensures { λ _. ⌜ saved (now (s .exit)) ≡ saved (now (s .entry)) ⌝ }

@@ -33,7 +33,7 @@ pub fn is_on(n: u8) -> bool
     n != 0
 }
 
-// Has the armed slot's first word changed: a packet arrived (mod.rs 471)?
+// Has the armed slot's first word changed: a packet arrived (mod.rs 474)?
 pub fn changed(s: &[u8; STATE_LEN], buf: &[u8], e: u8) -> bool
     ensures { λ r. ⌜ r ≡ changedOn (view (now (s .entry))) e (now (buf .entry)) ⌝ }
 {
@@ -128,7 +128,7 @@ pub fn setup_word(s: &[u8; STATE_LEN], buf: &[u8], k: u8) -> u32
     word_at(buf, g.ep0_buf as usize + k as usize * 4)
 }
 
-// The loaded packet went out (mod.rs 406-409).
+// The loaded packet went out (mod.rs 408-411, 606).
 pub fn complete(s: &mut [u8; STATE_LEN], e: u8)
     ensures { λ _. ⌜ view (now (s .exit)) ≡ completeOn (view (now (s .entry))) e ⌝ }
     ensures { λ _. ⌜ saved (now (s .exit)) ≡ saved (now (s .entry)) ⌝ }
@@ -174,7 +174,7 @@ pub fn take_oldest(s: &mut [u8; STATE_LEN], e: u8)
     }
 }
 
-// The oldest packet is being sent; where it lies (mod.rs 595-603).
+// The oldest packet is being sent; where it lies (mod.rs 597-603).
 pub fn send(s: &mut [u8; STATE_LEN], e: u8) -> u32
     ensures { λ r. ⌜ r ≡ sendAddr (view (now (s .entry))) e ⌝ }
     ensures { λ _. ⌜ view (now (s .exit)) ≡ sendOn (view (now (s .entry))) e ⌝ }
@@ -197,7 +197,7 @@ fn length16(n: usize, most: u16) -> u16
     n as u16
 }
 
-// A packet into the head's slot of an isochronous IN, where it has room (mod.rs 380-394).
+// A packet into the head's slot of an isochronous IN, where it has room (mod.rs 382-395).
 pub fn enqueue(s: &mut [u8; STATE_LEN], buf: &mut [u8], e: u8, bytes: &[u8])
     ensures { λ _. ⌜ view (now (s .exit)) ≡ enqueueOn e (now (bytes .entry)) (view (now (s .entry)), now (buf .entry)) .0 ⌝ }
     ensures { λ _. ⌜ now (buf .exit) ≡ enqueueOn e (now (bytes .entry)) (view (now (s .entry)), now (buf .entry)) .1 ⌝ }

@@ -1,4 +1,4 @@
-use mathlib.Core.Path.{_≡_, _∙_}
+use mathlib.Core.Path.{_≡_, ap, _∙_}
 use mathlib.Core.Bool.{Bool}
 use mathlib.Core.List.{List}
 use Prim.Native.Nat.{ℕ}
@@ -7,7 +7,7 @@ use Rattle.state.specs.declared.EpState.{EpState}
 use Rattle.state.specs.Driver.{Driver, epOn}
 use Rattle.state.specs.State.{view}
 use Rattle.ring.specs.Out.{hasRoomOut, cappedAt}
-use Rattle.ops.specs.Rings.{admittedOn, staleOn, armOn, arrivedAt}
+use Rattle.ops.specs.Rings.{St, admittedOn, staleOn, armAt, arrivedAt}
 use borrow.Author.Needs.{needs}
 use Rattle.ops.proofs.arming.arrived.Statement.{statement}
 use Rattle.ops.proofs.arming.arrived.Tie as tie
@@ -15,7 +15,7 @@ use Rattle.ops.proofs.arming.arrived.Tie as tie
 -- the code's steps, each by its result
 stages : (e len : ℕ) (d : Driver) (b : List ℕ) {d′ : Driver} {r r′ : EpState} {room : Bool} {stale dirty : ℕ}
     → r ≡ epOn d Out e → room ≡ hasRoomOut r → d′ ≡ admittedOn d e len → r′ ≡ epOn d′ Out e → stale ≡ staleOn d′ e len room → dirty ≡ cappedAt r′ stale
-    → armOn e (r′ .«min_len») dirty (d′, b) .1 .1 ≡ arrivedAt e len (d, b) .1 .1
+    → armAt e (r′ .head) (r′ .«min_len») dirty (d′, b) ≡ arrivedAt e len (d, b)
 stages e len d b h₁ h₂ h₃ h₄ h₅ h₆ = simp (h₆, h₅, h₄, h₃, h₂, h₁)
 
 load-ep-requires : tie.Need-load-ep-requires
@@ -44,14 +44,12 @@ same-length c = search needs
 
 returns : tie.Need-returns
 returns c =
-    let a = c .before .before .before .before .before .before .before .before .before .before .before .before .before .before .before .before .args in (
-      simp (c .before .before .arm .ensures .0, c .before .before .before .before .before .before .before .before .before .before .admit .ensures .0),
+    let a = c .before .before .before .before .before .before .before .before .before .before .before .before .before .before .before .before .args in
+    let h = stages (a .e) (a .len) (view (a .s .now)) (a .buf .now) (c .before .before .before .before .before .before .before .before .before .before .before .before .before .load-ep .ensures) (c .before .before .before .before .before .before .before .before .before .before .before .before .has-room-out .ensures) (c .before .before .before .before .before .before .before .before .before .before .admit .ensures .0) (c .before .before .before .before .before .before .before .before .load-ep2 .ensures) (c .before .before .before .before .before .before .stale .ensures) (c .before .before .before .before .before .capped .ensures) in (
+      c .before .before .arm .ensures .0 ∙ ap (λ (x : ℕ × St). x .0) h,
       (
-        simp (c .before .before .arm .ensures .1 .0, c .before .before .before .before .before .before .before .before .before .before .admit .ensures .0),
-        (
-          c .before .before .arm .ensures .1 .1 .0 ∙ stages (a .e) (a .len) (view (a .s .now)) (a .buf .now) (c .before .before .before .before .before .before .before .before .before .before .before .before .before .load-ep .ensures) (c .before .before .before .before .before .before .before .before .before .before .before .before .has-room-out .ensures) (c .before .before .before .before .before .before .before .before .before .before .admit .ensures .0) (c .before .before .before .before .before .before .before .before .load-ep2 .ensures) (c .before .before .before .before .before .before .stale .ensures) (c .before .before .before .before .before .capped .ensures),
-          c .before .before .arm .ensures .1 .1 .1 ∙ c .before .before .before .before .before .before .before .before .before .before .admit .ensures .1,
-        ),
+        c .before .before .arm .ensures .1 .0 ∙ ap (λ (x : ℕ × St). x .1 .0) h,
+        (c .before .before .arm .ensures .1 .1 .0 ∙ ap (λ (x : ℕ × St). x .1 .1) h, c .before .before .arm .ensures .1 .1 .1 ∙ c .before .before .before .before .before .before .before .before .before .before .admit .ensures .1),
       ),
     )
 
