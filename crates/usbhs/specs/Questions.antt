@@ -4,6 +4,7 @@ use Prim.Native.Nat.{ℕ}
 use Rattle.regs.specs.declared.Dir.{Dir}
 use Rattle.regs.specs.declared.Dir.the-variants.{Out, In}
 use Rattle.regs.specs.Enables as enables
+use Rattle.state.specs.declared.EpState.{EpState}
 use Rattle.state.specs.Driver.{Driver, epOn}
 use Rattle.ring.specs.Slot.{countOf}
 use Rattle.script.specs.Statics.{isOn, flag}
@@ -14,9 +15,12 @@ use Rattle.script.specs.Machine.{Question, pending, overruns, enabled}
 unfoldable pub pendingOn : Driver → ℕ → ℕ
 pendingOn d e = cond (isNumber e) (countOf (epOn d In e)) 0
 
--- `iso_out_overruns`, 273-280
+-- `iso_out_overruns`, 273-280: 0 for an endpoint that is not isochronous
+unfoldable pub overrunsOf : EpState → ℕ
+overrunsOf r = cond (isOn (r .iso)) (r .overruns) 0
+
 unfoldable pub overrunsOn : Driver → ℕ → ℕ
-overrunsOn d e = cond (isNumber e) (cond (isOn (epOn d Out e .iso)) (epOn d Out e .overruns) 0) 0
+overrunsOn d e = cond (isNumber e) (overrunsOf (epOn d Out e)) 0
 
 -- `endpoint_enabled`, 240-251, by the kept ep_config
 unfoldable pub enabledAsked : Driver → Dir → ℕ → Bool

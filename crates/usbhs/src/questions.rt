@@ -1,12 +1,12 @@
 use ops::rings::is_on;
 use regs::Dir;
+use state::EpState;
 use state::STATE_LEN;
-
 ghost use mathlib.Core.Path.{_≡_};
 ghost use mathlib.Core.Bool.{true};
 ghost use Rattle.state.specs.State.{view};
 ghost use Rattle.script.specs.Answers.{isNumber};
-ghost use Rattle.usbhs.specs.Questions.{pendingOn, overrunsOn, enabledAsked};
+ghost use Rattle.usbhs.specs.Questions.{pendingOn, overrunsOf, overrunsOn, enabledAsked};
 
 // 1 to 15: an endpoint's number other than EP0's.
 pub fn is_number(e: u32) -> bool
@@ -37,16 +37,22 @@ pub fn pending(s: &[u8; STATE_LEN], e: u32) -> u32
     0
 }
 
+fn overruns_of(r: EpState) -> u32
+    ensures { λ n. ⌜ n ≡ overrunsOf r ⌝ }
+{
+    if is_on(r.iso) {
+        return r.overruns;
+    }
+    0
+}
+
 // The packets of OUT e that were turned away.
 pub fn overruns(s: &[u8; STATE_LEN], e: u32) -> u32
     ensures { λ r. ⌜ r ≡ overrunsOn (view (now (s .entry))) e ⌝ }
 {
     if is_number(e) {
         let r = state::load_ep(s, Dir::Out, low(e));
-        if is_on(r.iso) {
-            return r.overruns;
-        }
-        return 0;
+        return overruns_of(r);
     }
     0
 }

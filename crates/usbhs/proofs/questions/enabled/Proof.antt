@@ -1,3 +1,4 @@
+use Rattle.usbhs.specs.Questions.{enabledAsked}
 use borrow.Author.Needs.{needs}
 use Rattle.usbhs.proofs.questions.enabled.Statement.{statement}
 use Rattle.usbhs.proofs.questions.enabled.Tie as tie
@@ -8,29 +9,25 @@ use Rattle.state.proofs.load_globals.Reads as load-globals-reads
 use Rattle.usbhs.proofs.questions.is_number.Reads as is-number-reads
 use Rattle.usbhs.proofs.questions.low.Reads as low-reads
 
--- src/questions.rt:58:8
 is-number-requires : tie.Need-is-number-requires
 is-number-requires c κs = search needs
 
--- src/questions.rt:59:13
 load-globals-requires : tie.Need-load-globals-requires
 load-globals-requires c κs = search needs
 
--- src/questions.rt:60:55
 low-requires : tie.Need-low-requires
-low-requires c κs = ?
+low-requires c κs = simp (← c .before .before .is-number .ensures, c .before .if1 .taken)
 
--- src/questions.rt:60:9
 is-on-requires : tie.Need-is-on-requires
 is-on-requires c κs = search needs
 
--- src/questions.rt:60:9
 returns : tie.Need-returns
-returns c = ?
+unfolding enabledAsked
+returns c = simp (c .is-on .ensures, c .before .low .ensures, c .before .before .load-globals .ensures, ← c .before .before .before .before .is-number .ensures, c .before .before .before .if1 .taken)
 
--- src/questions.rt:55:1
 returns-2 : tie.Need-returns-2
-returns-2 c = ?
+unfolding enabledAsked
+returns-2 c = simp (← c .before .is-number .ensures, c .if1 .left)
 
 pub enabled-spec : {M : Type 1} → statement M
 enabled-spec =

@@ -1,14 +1,14 @@
+use Rattle.usbhs.specs.Numbers.{number-lt}
+use native.Mathlib.Omega.{arith}
 use borrow.Author.Needs.{needs}
 use Rattle.usbhs.proofs.questions.low.Statement.{statement}
 use Rattle.usbhs.proofs.questions.low.Tie as tie
 use Rattle.usbhs.proofs.questions.low.Reads as reads
 use Rattle.usbhs.proofs.questions.low.Lts as lts
 
--- src/questions.rt:26:5
 cast-result : tie.Need-cast-result
-cast-result c = ?
+cast-result c = omega (arith, number-lt (c .args .e) (c .pre))
 
--- src/questions.rt:22:1
 returns : tie.Need-returns
 returns c = search needs
 

@@ -1,40 +1,33 @@
+use Rattle.usbhs.specs.Questions.{overrunsOn}
 use borrow.Author.Needs.{needs}
 use Rattle.usbhs.proofs.questions.overruns.Statement.{statement}
 use Rattle.usbhs.proofs.questions.overruns.Tie as tie
 use Rattle.usbhs.proofs.questions.overruns.Reads as reads
 use Rattle.usbhs.proofs.questions.overruns.Lts as lts
-use Rattle.ops.proofs.rings.is_on.Reads as is-on-reads
 use Rattle.state.proofs.load_ep.Reads as load-ep-reads
 use Rattle.usbhs.proofs.questions.is_number.Reads as is-number-reads
 use Rattle.usbhs.proofs.questions.low.Reads as low-reads
+use Rattle.usbhs.proofs.questions.overruns_of.Reads as overruns-of-reads
 
--- src/questions.rt:44:8
 is-number-requires : tie.Need-is-number-requires
 is-number-requires c κs = search needs
 
--- src/questions.rt:45:45
 low-requires : tie.Need-low-requires
-low-requires c κs = ?
+low-requires c κs = simp (← c .before .is-number .ensures, c .if1 .taken)
 
--- src/questions.rt:45:13
 load-ep-requires : tie.Need-load-ep-requires
 load-ep-requires c κs = search needs
 
--- src/questions.rt:46:12
-is-on-requires : tie.Need-is-on-requires
-is-on-requires c κs = search needs
+overruns-of-requires : tie.Need-overruns-of-requires
+overruns-of-requires c κs = search needs
 
--- src/questions.rt:47:13
 returns : tie.Need-returns
-returns c = ?
+unfolding overrunsOn
+returns c = simp (c .overruns-of .ensures, c .before .load-ep .ensures, c .before .before .low .ensures, ← c .before .before .before .before .is-number .ensures, c .before .before .before .if1 .taken)
 
--- src/questions.rt:49:9
 returns-2 : tie.Need-returns-2
-returns-2 c = ?
-
--- src/questions.rt:41:1
-returns-3 : tie.Need-returns-3
-returns-3 c = ?
+unfolding overrunsOn
+returns-2 c = simp (← c .before .is-number .ensures, c .if1 .left)
 
 pub overruns-spec : {M : Type 1} → statement M
 overruns-spec =
@@ -43,7 +36,6 @@ overruns-spec =
     is-number-requires
     low-requires
     load-ep-requires
-    is-on-requires
+    overruns-of-requires
     returns
-    returns-2
-    returns-3)
+    returns-2)

@@ -1,3 +1,4 @@
+use Rattle.usbhs.specs.Questions.{pendingOn}
 use borrow.Author.Needs.{needs}
 use Rattle.usbhs.proofs.questions.pending.Statement.{statement}
 use Rattle.usbhs.proofs.questions.pending.Tie as tie
@@ -8,33 +9,28 @@ use Rattle.state.proofs.load_ep.Reads as load-ep-reads
 use Rattle.usbhs.proofs.questions.is_number.Reads as is-number-reads
 use Rattle.usbhs.proofs.questions.low.Reads as low-reads
 
--- src/questions.rt:33:8
 is-number-requires : tie.Need-is-number-requires
 is-number-requires c κs = search needs
 
--- src/questions.rt:34:44
 low-requires : tie.Need-low-requires
-low-requires c κs = ?
+low-requires c κs = simp (← c .before .is-number .ensures, c .if1 .taken)
 
--- src/questions.rt:34:13
 load-ep-requires : tie.Need-load-ep-requires
 load-ep-requires c κs = search needs
 
--- src/questions.rt:35:16
 count-requires : tie.Need-count-requires
 count-requires c κs = search needs
 
--- src/questions.rt:35:16
 cast-result : tie.Need-cast-result
 cast-result c = search needs
 
--- src/questions.rt:35:9
 returns : tie.Need-returns
-returns c = ?
+unfolding pendingOn
+returns c = simp (c .count .ensures, c .before .load-ep .ensures, c .before .before .low .ensures, ← c .before .before .before .before .is-number .ensures, c .before .before .before .if1 .taken)
 
--- src/questions.rt:30:1
 returns-2 : tie.Need-returns-2
-returns-2 c = ?
+unfolding pendingOn
+returns-2 c = simp (← c .before .is-number .ensures, c .if1 .left)
 
 pub pending-spec : {M : Type 1} → statement M
 pending-spec =
