@@ -1,2 +1,21 @@
-// The driver's calls: what stops one, what it begins, what it answers.
+// The driver's calls: what stops one, what it begins, what it answers. Each call is one step of the machine of calls (specs/Under.antt) that the
+// lent bytes are.
 pub mod questions; // questions.rt: pending, overruns, enabled
+pub mod under; // under.rt: what is under way, and how a call ends
+pub mod begins; // begins.rt: the operations' begins
+
+use regs::Access;
+use state::Wakes;
+
+// What is under way: nothing, or an operation at the point where it handed out its last access. (The interrupt, requests and control are to come.)
+pub enum Under {
+    Idle,
+    Driver(driver::Point),
+}
+
+// What a call answers: the row that stopped it, the access that it hands out, or the operation's result with its wake-ups.
+pub enum Step {
+    Refused(u8),
+    Asks(Access),
+    Ends(u16, Wakes),
+}

@@ -1,0 +1,30 @@
+use crate::Step;
+use crate::Under;
+use crate::under::halted;
+use crate::under::under;
+use state::STATE_LEN;
+
+ghost use mathlib.Core.Path.{_≡_};
+ghost use mathlib.Core.List.{List};
+ghost use Prim.Native.Nat.{ℕ};
+ghost use Rattle.script.specs.Machine.{begin};
+ghost use Rattle.script.specs.Calls.{other, Microframe};
+ghost use Rattle.usbhs.specs.Under.{machineOf, drive, answerOf};
+
+// The current microframe number (mod.rs 236-238).
+pub fn begin_microframe(s: &mut [u8; STATE_LEN]) -> Step
+    ensures { λ r. ⌜ ((a b : List ℕ) → (answerOf r, machineOf (now (s .exit)) b) ≡ drive (begin (other Microframe)) (machineOf (now (s .entry)) a) b) ⌝ }
+{
+    let u = under(s);
+    match u {
+        Under::Driver(_p) => Step::Refused(3),
+        Under::Idle => {
+            let g = state::load_globals(s);
+            if g.stage == 2 {
+                state::clear_wakes(s);
+                return halted(s, driver::microframe());
+            }
+            Step::Refused(4)
+        }
+    }
+}
