@@ -18,6 +18,7 @@ use Rattle.script.specs.Script.{Script, ret, _>>=_, _>>_, write, wait, when, ha
 use Rattle.script.specs.Statics.{modifyReg, modifyIntEn}
 use Rattle.script.specs.Driver as driver
 use Rattle.script.specs.IsoIn as isoIn
+use Rattle.script.specs.Machine.{Awaits, nothing, reading, awaited}
 use Rattle.ops.specs.Rings.{St}
 use Rattle.ops.specs.Conc.{conc}
 use Rattle.driver.specs.declared.Point.{Point}
@@ -109,6 +110,28 @@ denote point.FrameNo v = ret (indexOf v)
 abbrev pub meaning : Next → Driver → List ℕ → tree.Out St ℕ
 meaning (next.Asks q p) d b = asks q (d, b) (λ v t. run conc (denote p v) t)
 meaning (next.Ends n) d b = ends n (d, b)
+
+-- what a point awaits, and that it is the access handed out with it
+abbrev pub awaitsAt : Point → Awaits
+awaitsAt (point.Clear callback) = nothing
+awaitsAt (point.Wait callback) = nothing
+awaitsAt (point.Reset callback) = reading Ctrl
+awaitsAt (point.ResetEnd callback) = nothing
+awaitsAt (point.Host callback) = nothing
+awaitsAt (point.Run callback) = nothing
+awaitsAt point.IntEn = nothing
+awaitsAt (point.MaxLen d kind ep) = nothing
+awaitsAt (point.Place ep) = nothing
+awaitsAt (point.Ep0Place maximum) = nothing
+awaitsAt point.Ep0MaxLen = nothing
+awaitsAt point.Ep0Rx = nothing
+awaitsAt point.Ep0Tx = nothing
+awaitsAt point.Ep0Packet = nothing
+awaitsAt point.FrameNo = reading FrameNo
+
+abbrev pub Linked : Next → Type 0
+Linked (next.Asks q p) = awaited q ≡ awaitsAt p
+Linked (next.Ends n) = Unit {0}
 
 -- row 16 turned round: a reading has no bit above the register's width; any other number brought is ignored
 unfoldable pub fitsAt : Point → ℕ → Bool

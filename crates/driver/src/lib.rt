@@ -29,7 +29,7 @@ ghost use Rattle.state.specs.Driver.{Driver};
 ghost use Rattle.state.specs.State.{view, saved};
 ghost use Rattle.script.specs.Tree.{ends};
 ghost use Rattle.ops.specs.Conc.{go};
-ghost use Rattle.driver.specs.Points.{numbered, startUp, newEndpoint, startEp0, microframe, setPaced, afterRun, afterMaxLen, denote, meaning, fitsAt};
+ghost use Rattle.driver.specs.Points.{numbered, startUp, newEndpoint, startEp0, microframe, setPaced, afterRun, afterMaxLen, denote, meaning, awaitsAt, Linked, fitsAt};
 
 // The access that was handed out last, and what the rest needs.
 pub enum Point {
@@ -71,6 +71,7 @@ fn half(v: u32) -> u16
 // `Driver::new`, 907-941, on a fresh state.
 pub fn start_up(callback: bool) -> Next
     ensures { λ r. ⌜ ((d : Driver) (b : List ℕ) → meaning r d b ≡ go (startUp callback) d b) ⌝ }
+    ensures { λ r. ⌜ Linked r ⌝ }
 {
     Next::Asks(
         Access::Write(Reg::Ctrl, 0, regs::ctrl::clear()),
@@ -81,6 +82,7 @@ pub fn start_up(callback: bool) -> Next
 // `Endpoint::new`, after an accepted allocation.
 pub fn new_endpoint(dir: Dir, kind: u8, maximum: u32, ep: u8) -> Next
     ensures { λ r. ⌜ ((d : Driver) (b : List ℕ) → meaning r d b ≡ go (newEndpoint dir kind maximum ep) d b) ⌝ }
+    ensures { λ r. ⌜ Linked r ⌝ }
 {
     Next::Asks(
         Access::Write(Reg::EpMaxLen, ep, maximum),
@@ -91,6 +93,7 @@ pub fn new_endpoint(dir: Dir, kind: u8, maximum: u32, ep: u8) -> Next
 // `start`, after EP0's buffer was given.
 pub fn start_ep0(s: &[u8; STATE_LEN], maximum: u32) -> Next
     ensures { λ r. ⌜ ((b : List ℕ) → meaning r (view (now (s .entry))) b ≡ go (startEp0 maximum) (view (now (s .entry))) b) ⌝ }
+    ensures { λ r. ⌜ Linked r ⌝ }
 {
     let g = load_globals(s);
     Next::Asks(Access::Ep0Dma(g.ep0_buf), Point::Ep0Place(maximum))
@@ -98,6 +101,7 @@ pub fn start_ep0(s: &[u8; STATE_LEN], maximum: u32) -> Next
 
 pub fn microframe() -> Next
     ensures { λ r. ⌜ ((d : Driver) (b : List ℕ) → meaning r d b ≡ go microframe d b) ⌝ }
+    ensures { λ r. ⌜ Linked r ⌝ }
 {
     Next::Asks(Access::Read(Reg::FrameNo, 0), Point::FrameNo)
 }
@@ -118,6 +122,7 @@ pub fn set_paced(s: &mut [u8; STATE_LEN], e: u8, on: bool)
 fn after_run(s: &mut [u8; STATE_LEN], callback: bool) -> Next
     ensures { λ r. ⌜ ((b : List ℕ) → meaning r (view (now (s .exit))) b ≡ go (numbered (afterRun callback)) (view (now (s .entry))) b) ⌝ }
     ensures { λ _. ⌜ saved (now (s .exit)) ≡ saved (now (s .entry)) ⌝ }
+    ensures { λ r. ⌜ Linked r ⌝ }
 {
     let enables = regs::int_en::at_start(callback);
     set_int_en(s, enables);
@@ -128,6 +133,7 @@ fn after_run(s: &mut [u8; STATE_LEN], callback: bool) -> Next
 fn after_max_len(s: &mut [u8; STATE_LEN], dir: Dir, kind: u8, ep: u8) -> Next
     ensures { λ r. ⌜ ((b : List ℕ) → meaning r (view (now (s .exit))) b ≡ go (afterMaxLen dir kind ep) (view (now (s .entry))) b) ⌝ }
     ensures { λ _. ⌜ saved (now (s .exit)) ≡ saved (now (s .entry)) ⌝ }
+    ensures { λ r. ⌜ Linked r ⌝ }
 {
     if kind % 4 == 0 {
         return Next::Ends(ep as u16);
@@ -150,6 +156,7 @@ fn ep0_word() -> u32
 fn after_frame_no(v: u32) -> Next
     requires { ⌜ fitsIn v 16 ≡ true ⌝ }
     ensures { λ r. ⌜ ((d : Driver) (b : List ℕ) → meaning r d b ≡ go (denote Point.FrameNo v) d b) ⌝ }
+    ensures { λ r. ⌜ Linked r ⌝ }
 {
     let i = microframe_index(Frame(half(v)));
     Next::Ends(i.0)
@@ -183,6 +190,7 @@ pub fn resume(s: &mut [u8; STATE_LEN], p: Point, v: u32) -> Next
     requires { ⌜ fitsAt p v ≡ true ⌝ }
     ensures { λ r. ⌜ ((b : List ℕ) → meaning r (view (now (s .exit))) b ≡ go (denote p v) (view (now (s .entry))) b) ⌝ }
     ensures { λ _. ⌜ saved (now (s .exit)) ≡ saved (now (s .entry)) ⌝ }
+    ensures { λ r. ⌜ Linked r ⌝ }
 {
     match p {
         Point::Clear(callback) => Next::Asks(Access::Wait(10), Point::Wait(callback)),

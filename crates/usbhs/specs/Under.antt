@@ -1,7 +1,7 @@
 -- What is under way, as the saved record says it, and the machine of calls that the lent bytes are
 use mathlib.Core.Bool.{Bool, true, false, not, cond}
 use mathlib.Core.List.{List}
-use mathlib.Core.Path.{_≡_, refl}
+use mathlib.Core.Path.{_≡_, refl, ap}
 use Prim.Native.Nat.{ℕ, _*_}
 use lib.Dec.{eqb}
 use Rattle.regs.specs.declared.Reg.the-variants.{Ctrl, FrameNo}
@@ -21,7 +21,7 @@ use Rattle.script.specs.Machine.{Buf, Awaits, nothing, reading, Way, idle, busy
 use Rattle.ops.specs.Rings.{St}
 use Rattle.ops.specs.Conc.{conc}
 use Rattle.driver.specs.Points as driver
-use Rattle.driver.specs.Codec as driver
+use Rattle.driver.specs.Codec as codec
 use Rattle.usbhs.specs.declared.Under.{Under}
 use Rattle.usbhs.specs.declared.Under.the-variants as under
 use Rattle.usbhs.specs.declared.Step.{Step}
@@ -51,15 +51,15 @@ withTag t c = record {
 
 unfoldable pub encode : Under → Saved
 encode under.Idle = fresh.nothing
-encode (under.Driver p) = withTag 1 (driver.encode p)
+encode (under.Driver p) = withTag 1 (codec.encode p)
 
 unfoldable pub decode : Saved → Under
-decode c = cond (eqb (c .tag) 1) (under.Driver (driver.decode c)) under.Idle
+decode c = cond (eqb (c .tag) 1) (under.Driver (codec.decode c)) under.Idle
 
 pub decode-encode : (u : Under) → decode (encode u) ≡ u
-unfolding encode decode
+unfolding encode decode codec.decode
 decode-encode under.Idle = refl
-decode-encode (under.Driver p) = ?
+decode-encode (under.Driver p) = ap under.Driver (codec.decode-encode p)
 
 -- ---- what is left of the call
 

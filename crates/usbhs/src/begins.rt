@@ -3,7 +3,6 @@ use crate::Under;
 use crate::under::halted;
 use crate::under::under;
 use state::STATE_LEN;
-
 ghost use mathlib.Core.Path.{_≡_};
 ghost use mathlib.Core.List.{List};
 ghost use Prim.Native.Nat.{ℕ};

@@ -3,7 +3,6 @@ use crate::Under;
 use driver::Next;
 use state::STATE_LEN;
 use state::Saved;
-
 ghost use mathlib.Core.Path.{_≡_};
 ghost use mathlib.Core.List.{List};
 ghost use Prim.Native.Nat.{ℕ};

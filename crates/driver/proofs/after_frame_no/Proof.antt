@@ -13,7 +13,7 @@ microframe-index-requires : tie.Need-microframe-index-requires
 microframe-index-requires c κs = search needs
 
 returns : tie.Need-returns
-returns c = λ d b. simp (c .microframe-index .ensures, c .before .half .ensures)
+returns c = (λ d b. simp (c .microframe-index .ensures, c .before .half .ensures), tt)
 
 pub after-frame-no-spec : {M : Type 1} → statement M
 after-frame-no-spec = tie.close (tie.spec half-requires microframe-index-requires returns)

@@ -1,3 +1,4 @@
+use mathlib.Core.Path.{refl}
 use borrow.Author.Needs.{needs}
 use Rattle.driver.proofs.after_run.Statement.{statement}
 use Rattle.driver.proofs.after_run.Tie as tie
@@ -16,7 +17,7 @@ cast-t7 : tie.Need-cast-t7
 cast-t7 c = search needs
 
 returns : tie.Need-returns
-returns c = (λ b. simp (c .set-int-en .ensures .0, c .before .before .at-start .ensures), c .set-int-en .ensures .1)
+returns c = (λ b. simp (c .set-int-en .ensures .0, c .before .before .at-start .ensures), (c .set-int-en .ensures .1, refl))
 
 pub after-run-spec : {M : Type 1} → statement M
 after-run-spec = tie.close (tie.spec at-start-requires set-int-en-requires cast-t7 returns)

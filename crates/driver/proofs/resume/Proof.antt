@@ -87,49 +87,49 @@ unfolding fitsAt
 after-frame-no-requires c κs = rw (c .enum-told6 .given .1) at (c .before .before .pre)
 
 returns : tie.Need-returns
-returns c = (λ b. simp (c .before .p .given .1), refl)
+returns c = (λ b. simp (c .before .p .given .1), (refl, refl))
 
 returns-2 : tie.Need-returns-2
-returns-2 c = (λ b. simp (c .before .p2 .given .1), refl)
+returns-2 c = (λ b. simp (c .before .p2 .given .1), (refl, refl))
 
 returns-3 : tie.Need-returns-3
-returns-3 c = (λ b. simp (c .reset-ended .ensures, c .before .before .p3 .given .1), refl)
+returns-3 c = (λ b. simp (c .reset-ended .ensures, c .before .before .p3 .given .1), (refl, refl))
 
 returns-4 : tie.Need-returns-4
-returns-4 c = (λ b. simp (c .phy-suspendm .ensures, c .before .before .p4 .given .1), refl)
+returns-4 c = (λ b. simp (c .phy-suspendm .ensures, c .before .before .p4 .given .1), (refl, refl))
 
 returns-5 : tie.Need-returns-5
-returns-5 c = (λ b. simp (c .run .ensures, c .before .before .p5 .given .1), refl)
+returns-5 c = (λ b. simp (c .run .ensures, c .before .before .p5 .given .1), (refl, refl))
 
 returns-6 : tie.Need-returns-6
-returns-6 c = (λ b. simp (c .after-run .ensures .0, c .before .before .before .p6 .given .1), c .after-run .ensures .1)
+returns-6 c = (λ b. simp (c .after-run .ensures .0, c .before .before .before .p6 .given .1), (c .after-run .ensures .1 .0, c .after-run .ensures .1 .1))
 
 returns-7 : tie.Need-returns-7
-returns-7 c = (λ b. simp (c .enum-told .given .1), refl)
+returns-7 c = (λ b. simp (c .enum-told .given .1), (refl, tt))
 
 returns-8 : tie.Need-returns-8
-returns-8 c = (λ b. simp (c .after-max-len .ensures .0, c .before .before .before .p7 .given .1), c .after-max-len .ensures .1)
+returns-8 c = (λ b. simp (c .after-max-len .ensures .0, c .before .before .before .p7 .given .1), (c .after-max-len .ensures .1 .0, c .after-max-len .ensures .1 .1))
 
 returns-9 : tie.Need-returns-9
-returns-9 c = (λ b. simp (c .before .p8 .given .1), refl)
+returns-9 c = (λ b. simp (c .before .p8 .given .1), (refl, tt))
 
 returns-10 : tie.Need-returns-10
-returns-10 c = (λ b. simp (c .before .p9 .given .1), refl)
+returns-10 c = (λ b. simp (c .before .p9 .given .1), (refl, refl))
 
 returns-11 : tie.Need-returns-11
-returns-11 c = (λ b. simp (c .ep0-word .ensures, c .before .enum-told2 .given .1), refl)
+returns-11 c = (λ b. simp (c .ep0-word .ensures, c .before .enum-told2 .given .1), (refl, refl))
 
 returns-12 : tie.Need-returns-12
-returns-12 c = (λ b. simp (c .ep0-word2 .ensures, c .before .enum-told3 .given .1), refl)
+returns-12 c = (λ b. simp (c .ep0-word2 .ensures, c .before .enum-told3 .given .1), (refl, refl))
 
 returns-13 : tie.Need-returns-13
-returns-13 c = (λ b. simp (c .enum-told4 .given .1), refl)
+returns-13 c = (λ b. simp (c .enum-told4 .given .1), (refl, refl))
 
 returns-14 : tie.Need-returns-14
-returns-14 c = (λ b. simp (c .enum-told5 .given .1), refl)
+returns-14 c = (λ b. simp (c .enum-told5 .given .1), (refl, tt))
 
 returns-15 : tie.Need-returns-15
-returns-15 c = (λ b. simp (c .after-frame-no .ensures, c .before .enum-told6 .given .1), refl)
+returns-15 c = (λ b. simp (c .after-frame-no .ensures .0, c .before .enum-told6 .given .1), (refl, c .after-frame-no .ensures .1))
 
 pub resume-spec : {M : Type 1} → statement M
 resume-spec =

@@ -1,3 +1,4 @@
+use mathlib.Core.Path.{refl}
 use borrow.Author.Needs.{needs}
 use Rattle.driver.proofs.start_ep0.Statement.{statement}
 use Rattle.driver.proofs.start_ep0.Tie as tie
@@ -9,7 +10,7 @@ load-globals-requires : tie.Need-load-globals-requires
 load-globals-requires c κs = search needs
 
 returns : tie.Need-returns
-returns c = λ b. simp (c .load-globals .ensures)
+returns c = (λ b. simp (c .load-globals .ensures), refl)
 
 pub start-ep0-spec : {M : Type 1} → statement M
 start-ep0-spec = tie.close (tie.spec load-globals-requires returns)
