@@ -1,7 +1,7 @@
 -- What is under way, as the saved record says it, and the machine of calls that the lent bytes are
 use mathlib.Core.Bool.{Bool, true, false, not, cond}
 use mathlib.Core.List.{List}
-use mathlib.Core.Path.{_≡_, refl, ap}
+use mathlib.Core.Path.{_≡_, refl, ap, subst}
 use Prim.Native.Nat.{ℕ, _*_}
 use lib.Dec.{eqb}
 use Rattle.regs.specs.declared.Reg.the-variants.{Ctrl, FrameNo}
@@ -17,9 +17,13 @@ use Rattle.script.specs.Statics.{flag}
 use Rattle.script.specs.Answers.{Answer, Refused, End}
 use Rattle.script.specs.Calls.{Config, Op, calls}
 use Rattle.script.specs.Machine as machine
-use Rattle.script.specs.Machine.{Buf, Awaits, nothing, reading, Way, idle, busy, Machine, Ans, ended, handed, call, Call}
+use Rattle.script.specs.Machine.{Buf, Awaits, nothing, reading, awaited, Way, idle, busy, Machine, Ans, ended, handed, call, Call}
 use Rattle.ops.specs.Rings.{St}
 use Rattle.ops.specs.Conc.{conc}
+use Rattle.regs.specs.declared.Access.{Access}
+use Rattle.driver.specs.declared.Point.{Point}
+use Rattle.driver.specs.declared.Next.{Next}
+use Rattle.driver.specs.declared.Next.the-variants as next
 use Rattle.driver.specs.Points as driver
 use Rattle.driver.specs.Codec as codec
 use Rattle.usbhs.specs.declared.Under.{Under}
@@ -100,3 +104,7 @@ abbrev pub answerOf : Step → Ans Answer
 answerOf (step.Refused n) = ended (Refused n)
 answerOf (step.Asks q) = handed q
 answerOf (step.Ends n w) = ended (End n w)
+
+-- the access handed out with a point is the one that the point awaits
+pub linked : (n : Next) (q : Access) (p : Point) → n ≡ next.Asks q p → driver.Linked n → awaited q ≡ driver.awaitsAt p
+linked n q p e l = subst driver.Linked e l

@@ -1,7 +1,7 @@
 use crate::Step;
 use crate::Under;
-use crate::under::halted;
-use crate::under::under;
+use crate::way::halted;
+use crate::way::under_way;
 use state::STATE_LEN;
 ghost use mathlib.Core.Path.{_≡_};
 ghost use mathlib.Core.List.{List};
@@ -14,7 +14,7 @@ ghost use Rattle.usbhs.specs.Under.{machineOf, drive, answerOf};
 pub fn begin_microframe(s: &mut [u8; STATE_LEN]) -> Step
     ensures { λ r. ⌜ ((a b : List ℕ) → (answerOf r, machineOf (now (s .exit)) b) ≡ drive (begin (other Microframe)) (machineOf (now (s .entry)) a) b) ⌝ }
 {
-    let u = under(s);
+    let u = under_way(s);
     match u {
         Under::Driver(_p) => Step::Refused(3),
         Under::Idle => {

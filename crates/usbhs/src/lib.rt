@@ -1,7 +1,7 @@
 // The driver's calls: what stops one, what it begins, what it answers. Each call is one step of the machine of calls (specs/Under.antt) that the
 // lent bytes are.
 pub mod questions; // questions.rt: pending, overruns, enabled
-pub mod under; // under.rt: what is under way, and how a call ends
+pub mod way; // way.rt: what is under way, and how a call ends
 pub mod begins; // begins.rt: the operations' begins
 
 use regs::Access;

@@ -4,6 +4,7 @@ use driver::Next;
 use state::STATE_LEN;
 use state::Saved;
 ghost use mathlib.Core.Path.{_≡_};
+ghost use mathlib.Core.Bool.{true, false};
 ghost use mathlib.Core.List.{List};
 ghost use Prim.Native.Nat.{ℕ};
 ghost use Rattle.state.specs.State.{view, saved};
@@ -12,11 +13,11 @@ ghost use Rattle.script.specs.Script.{run};
 ghost use Rattle.script.specs.Machine.{halt};
 ghost use Rattle.script.specs.Calls.{calls};
 ghost use Rattle.ops.specs.Conc.{conc};
-ghost use Rattle.driver.specs.Points as driver;
+ghost use Rattle.driver.specs.Points.{Linked, meaning};
 ghost use Rattle.usbhs.specs.Under.{encode, decode, finish, machineOf, driverOf, answerOf};
 
 // What is under way.
-pub fn under(s: &[u8; STATE_LEN]) -> Under
+pub fn under_way(s: &[u8; STATE_LEN]) -> Under
     ensures { λ r. ⌜ r ≡ decode (saved (now (s .entry))) ⌝ }
 {
     let c = state::load_saved(s);
@@ -66,8 +67,8 @@ fn ended(s: &mut [u8; STATE_LEN], n: u16) -> Step
 
 // It goes on, or has ended.
 pub fn halted(s: &mut [u8; STATE_LEN], n: Next) -> Step
-    requires { ⌜ driver.Linked n ⌝ }
-    ensures { λ r. ⌜ ((b : List ℕ) → (answerOf r, machineOf (now (s .exit)) b) ≡ halt calls driverOf (λ t. t) false (bindOut (driver.meaning n (view (now (s .entry))) b) (λ k t. run conc (finish k) t))) ⌝ }
+    requires { ⌜ Linked n ⌝ }
+    ensures { λ r. ⌜ ((b : List ℕ) → (answerOf r, machineOf (now (s .exit)) b) ≡ halt calls driverOf (λ t. t) false (bindOut (meaning n (view (now (s .entry))) b) (λ k t. run conc (finish k) t))) ⌝ }
 {
     match n {
         Next::Asks(q, p) => {
