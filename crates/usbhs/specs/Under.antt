@@ -4,6 +4,7 @@ use mathlib.Core.List.{List}
 use mathlib.Core.Path.{_≡_, refl, ap, subst}
 use Prim.Native.Nat.{ℕ, _*_}
 use lib.Dec.{eqb}
+use lib.ListN.{length}
 use Rattle.regs.specs.declared.Reg.the-variants.{Ctrl, FrameNo}
 use Rattle.state.specs.declared.Saved.{Saved}
 use Rattle.state.specs.declared.Wakes.{Wakes}
@@ -17,11 +18,12 @@ use Rattle.script.specs.Statics.{flag}
 use Rattle.script.specs.Answers.{Answer, Refused, End}
 use Rattle.script.specs.Calls.{Config, Op, calls}
 use Rattle.script.specs.Machine as machine
-use Rattle.script.specs.Machine.{Buf, Awaits, nothing, reading, awaited, Way, idle, busy, Machine, Ans, ended, handed, call, Call}
+use Rattle.script.specs.Machine.{Buf, Awaits, nothing, reading, awaited, over, Way, idle, busy, Machine, Ans, ended, handed, call, Call}
 use Rattle.ops.specs.Rings.{St}
 use Rattle.ops.specs.Conc.{conc}
 use Rattle.regs.specs.declared.Access.{Access}
 use Rattle.driver.specs.declared.Point.{Point}
+use Rattle.driver.specs.declared.Point.the-variants as point
 use Rattle.driver.specs.declared.Next.{Next}
 use Rattle.driver.specs.declared.Next.the-variants as next
 use Rattle.driver.specs.Points as driver
@@ -108,3 +110,30 @@ answerOf (step.Ends n w) = ended (End n w)
 -- the access handed out with a point is the one that the point awaits
 pub linked : (n : Next) (q : Access) (p : Point) → n ≡ next.Asks q p → driver.Linked n → awaited q ≡ driver.awaitsAt p
 linked n q p e l = subst driver.Linked e l
+
+-- row 16 by the point is row 16 by the access
+pub over-fits : (p : Point) (v : ℕ) → over calls (driver.awaitsAt p) v ≡ not (driver.fitsAt p v)
+unfolding driver.fitsAt
+over-fits (point.Clear callback) v = refl
+over-fits (point.Wait callback) v = refl
+over-fits (point.Reset callback) v = refl
+over-fits (point.ResetEnd callback) v = refl
+over-fits (point.Host callback) v = refl
+over-fits (point.Run callback) v = refl
+over-fits point.IntEn v = refl
+over-fits (point.MaxLen d kind ep) v = refl
+over-fits (point.Place ep) v = refl
+over-fits (point.Ep0Place maximum) v = refl
+over-fits point.Ep0MaxLen v = refl
+over-fits point.Ep0Rx v = refl
+over-fits point.Ep0Tx v = refl
+over-fits point.Ep0Packet v = refl
+over-fits point.FrameNo v = refl
+
+-- row 1: as long as the driver's buffers
+unfoldable pub slotsFit : Driver → Buf → Bool
+slotsFit d b = eqb (length b) (d .allocator .count * d .allocator .size)
+
+-- the slot buffer after a call that brought it: where its length was wrong, the run's own stays
+abbrev pub lentOr : Driver → Buf → Buf → Buf → Buf
+lentOr d b after old = cond (slotsFit d b) after old

@@ -19,7 +19,7 @@ pub fn is_number(e: u32) -> bool
 }
 
 // A number of any size as an endpoint's: its low byte.
-fn low(e: u32) -> u8
+pub fn low(e: u32) -> u8
     requires { ⌜ isNumber e ≡ true ⌝ }
     ensures { λ r. ⌜ r ≡ e ⌝ }
 {
