@@ -116,11 +116,16 @@ isoAdded In interval e g = cond (ltb interval 2) (withIsoSets (g .«iso_out_eps�
 unfoldable pub withSets : Dir → ℕ → ℕ → ℕ → Globals → Globals
 withSets dir kind interval e g = cond (isIso kind) (isoAdded dir interval e g) g
 
+-- the endpoint's record
+unfoldable pub recordGiven : Dir → ℕ → ℕ → ℕ → ℕ → ℕ → Driver → Driver
+recordGiven dir kind maximum e base slots d = withOn d dir e (allocated (epOn d dir e) kind maximum base (d .allocator .size) slots)
+
+unfoldable pub setsGiven : Dir → ℕ → ℕ → ℕ → Driver → Driver
+setsGiven dir kind interval e d = withGlobals d (withSets dir kind interval e (d .globals))
+
 unfoldable pub givenTo : Dir → ℕ → ℕ → ℕ → Answer → Driver → Driver
 givenTo dir kind maximum interval (Refused n) d = d
-givenTo dir kind maximum interval (Given e base slots) d =
-    withGlobals (withOn d dir e (allocated (epOn d dir e) kind maximum base (d .allocator .size) slots))
-    (withSets dir kind interval e (d .globals))
+givenTo dir kind maximum interval (Given e base slots) d = setsGiven dir kind interval e (recordGiven dir kind maximum e base slots d)
 
 unfoldable pub allocatedOn : Driver → Dir → ℕ → ℕ → ℕ → ℕ → Driver
 allocatedOn d dir kind address maximum interval =

@@ -1,5 +1,6 @@
 use crate::arming::receiving;
 use crate::rings::is_on;
+use alloc::Answer;
 use regs::Dir;
 use state::Globals;
 use state::STATE_LEN;
@@ -9,10 +10,11 @@ ghost use mathlib.Core.Bool.{true, false};
 ghost use Rattle.state.specs.Driver.{withWakes};
 ghost use Rattle.state.specs.State.{view, saved};
 ghost use Rattle.state.specs.Wakes.{woken};
-ghost use Prim.Native.Nat.{_%_};
+ghost use Prim.Native.Nat.{_%_, _≤_};
 ghost use Rattle.bits.specs.Bit.{isSet};
+ghost use Rattle.alloc.specs.Alloc.{allocateOf, allocateEp0Of};
 ghost use Rattle.script.specs.Statics.{isOn, isoOuts, all-woken};
-ghost use Rattle.ops.specs.Records.{isoOut, configured, enabledOn, withSets};
+ghost use Rattle.ops.specs.Records.{isoOut, configured, enabledOn, withSets, recordGiven, setsGiven, givenTo, allocatedOn, startedWith, allocatedEp0};
 ghost use Rattle.ops.specs.Rings.{placeOn, typeStep, configStep};
 
 pub fn wake(s: &mut [u8; STATE_LEN], dir: Dir, e: u8)
@@ -140,4 +142,121 @@ fn with_sets(mut g: Globals, dir: Dir, kind: u8, interval: u32, e: u8) -> Global
     } else {
         g
     }
+}
+
+// The record of the endpoint that was allocated.
+fn give_record(
+    s: &mut [u8; STATE_LEN],
+    dir: Dir,
+    kind: u8,
+    maximum: u16,
+    e: u8,
+    base: u32,
+    slots: u8,
+)
+    ensures { λ _. ⌜ view (now (s .exit)) ≡ recordGiven dir kind maximum e base slots (view (now (s .entry))) ⌝ }
+    ensures { λ _. ⌜ saved (now (s .exit)) ≡ saved (now (s .entry)) ⌝ }
+{
+    let r = state::load_ep(s, dir, e);
+    let b = state::load_allocator(s);
+    state::store_ep(
+        s,
+        dir,
+        e,
+        alloc::endpoint(r, kind, maximum, base, b.size, slots),
+    );
+}
+
+// And the sets.
+fn give_sets(s: &mut [u8; STATE_LEN], dir: Dir, kind: u8, interval: u32, e: u8)
+    ensures { λ _. ⌜ view (now (s .exit)) ≡ setsGiven dir kind interval e (view (now (s .entry))) ⌝ }
+    ensures { λ _. ⌜ saved (now (s .exit)) ≡ saved (now (s .entry)) ⌝ }
+{
+    let g = state::load_globals(s);
+    state::store_globals(s, with_sets(g, dir, kind, interval, e));
+}
+
+// What an answer to an allocation makes of the records and the sets.
+fn given(s: &mut [u8; STATE_LEN], dir: Dir, kind: u8, maximum: u16, interval: u32, a: Answer)
+    ensures { λ _. ⌜ view (now (s .exit)) ≡ givenTo dir kind maximum interval a (view (now (s .entry))) ⌝ }
+    ensures { λ _. ⌜ saved (now (s .exit)) ≡ saved (now (s .entry)) ⌝ }
+{
+    match a {
+        Answer::Refused(_n) => {}
+        Answer::Given(e, base, slots) => {
+            give_record(s, dir, kind, maximum, e, base, slots);
+            give_sets(s, dir, kind, interval, e);
+        }
+    }
+}
+
+// A maximum that is at most a buffer's size.
+fn maximum16(n: u32, most: u16) -> u16
+    requires { ⌜ n ≤ most ⌝ }
+    ensures { λ r. ⌜ r ≡ n ⌝ }
+{
+    n as u16
+}
+
+// An endpoint is allocated, or refused: the number, its buffers, its record (mod.rs 953-1043).
+pub fn allocate(
+    s: &mut [u8; STATE_LEN],
+    dir: Dir,
+    kind: u8,
+    address: u32,
+    maximum: u32,
+    interval: u32,
+) -> Answer
+    ensures { λ r. ⌜ r ≡ allocateOf (view (now (s .entry)) .allocator) kind address maximum dir .answer ⌝ }
+    ensures { λ _. ⌜ view (now (s .exit)) ≡ allocatedOn (view (now (s .entry))) dir kind address maximum interval ⌝ }
+    ensures { λ _. ⌜ saved (now (s .exit)) ≡ saved (now (s .entry)) ⌝ }
+{
+    let b = state::load_allocator(s);
+    let size = b.size;
+    let z = alloc::allocate(b, kind, address, maximum, dir);
+    let a = z.answer;
+    state::store_allocator(s, z.after);
+    if (size as u32) < maximum {
+        return a;
+    }
+    let m = maximum16(maximum, size);
+    given(s, dir, kind, m, interval, a);
+    a
+}
+
+// EP0's buffer was given: the stage after its start, and no power event yet.
+fn started(s: &mut [u8; STATE_LEN], maximum: u16, a: Answer)
+    ensures { λ _. ⌜ view (now (s .exit)) ≡ startedWith maximum a (view (now (s .entry))) ⌝ }
+    ensures { λ _. ⌜ saved (now (s .exit)) ≡ saved (now (s .entry)) ⌝ }
+{
+    match a {
+        Answer::Refused(_n) => {}
+        Answer::Given(_e, base, _slots) => {
+            let mut g = state::load_globals(s);
+            g.stage = 2;
+            g.power = 0;
+            g.ep0_buf = base;
+            g.ep0_max = maximum;
+            state::store_globals(s, g);
+        }
+    }
+}
+
+// EP0's buffer, or a refusal (mod.rs 1144-1149).
+pub fn allocate0(s: &mut [u8; STATE_LEN], maximum: u32) -> Answer
+    ensures { λ r. ⌜ r ≡ allocateEp0Of (view (now (s .entry)) .allocator) maximum .answer ⌝ }
+    ensures { λ _. ⌜ view (now (s .exit)) ≡ allocatedEp0 (view (now (s .entry))) maximum ⌝ }
+    ensures { λ _. ⌜ saved (now (s .exit)) ≡ saved (now (s .entry)) ⌝ }
+{
+    let b = state::load_allocator(s);
+    let size = b.size;
+    let z = alloc::allocate_ep0(b, maximum);
+    let a = z.answer;
+    state::store_allocator(s, z.after);
+    if (size as u32) < maximum {
+        return a;
+    }
+    let m = maximum16(maximum, size);
+    started(s, m, a);
+    a
 }
