@@ -3,7 +3,6 @@ use crate::Under;
 use crate::way::halted;
 use crate::way::under_way;
 use state::STATE_LEN;
-
 ghost use mathlib.Core.Path.{_≡_};
 ghost use mathlib.Core.List.{List};
 ghost use Prim.Native.Nat.{ℕ};
