@@ -1,8 +1,6 @@
 -- A maximum above the buffer size is refused, and nothing changes: where the code ends after the allocator is stored. Assumes nothing.
-use mathlib.Core.Path.{_≡_, refl, ap, sym, _∙_}
-use mathlib.Core.Bool.{Bool, true, false}
+use mathlib.Core.Path.{_≡_, ap, sym, _∙_}
 use Prim.Native.Nat.{ℕ, _<_}
-use lib.Dec.{ltb}
 use borrow.Author.Tests.{lt-ltb}
 use Rattle.regs.specs.declared.Dir.{Dir}
 use Rattle.state.specs.declared.Allocator.{Allocator}

@@ -10,11 +10,10 @@ ghost use mathlib.Core.Bool.{true, false};
 ghost use Rattle.state.specs.Driver.{withWakes};
 ghost use Rattle.state.specs.State.{view, saved};
 ghost use Rattle.state.specs.Wakes.{woken};
-ghost use Prim.Native.Nat.{_%_, _≤_};
-ghost use Rattle.bits.specs.Bit.{isSet};
+ghost use Prim.Native.Nat.{_≤_};
 ghost use Rattle.alloc.specs.Alloc.{allocateOf, allocateEp0Of};
-ghost use Rattle.script.specs.Statics.{isOn, isoOuts, all-woken};
-ghost use Rattle.ops.specs.Records.{isoOut, configured, enabledOn, withSets, recordGiven, setsGiven, givenTo, allocatedOn, startedWith, allocatedEp0};
+ghost use Rattle.script.specs.Statics.{all-woken};
+ghost use Rattle.ops.specs.Records.{isoOut, enabledOn, withSets, recordGiven, setsGiven, givenTo, allocatedOn, startedWith, allocatedEp0};
 ghost use Rattle.ops.specs.Rings.{placeOn, typeStep, configStep};
 
 pub fn wake(s: &mut [u8; STATE_LEN], dir: Dir, e: u8)
