@@ -1,4 +1,5 @@
 -- What is left to run at each suspension point, and what a call's answer comes to
+use mathlib.Core.Path.{_≡_}
 use mathlib.Core.Bool.{Bool, true, false, not}
 use mathlib.Core.List.{List}
 use Prim.Native.Nat.{ℕ, _%_}
