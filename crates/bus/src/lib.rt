@@ -1,0 +1,74 @@
+// The bus (mod.rs 1053-1106, 1187-1330) one access at a time: stalls, enable, poll with reset, suspend and resume, endpoints enabled and
+// disabled. Every function is total: any number is safe.
+pub mod stall; // stall.rt: endpoints stalled and restarted
+
+use regs::Access;
+use regs::Dir;
+use regs::Reg;
+ghost use mathlib.Core.Path.{_≡_};
+ghost use mathlib.Core.Bool.{true, false};
+ghost use mathlib.Core.List.{List};
+ghost use Prim.Native.Nat.{ℕ};
+ghost use Rattle.regs.specs.Registers.{fitsIn};
+ghost use Rattle.state.specs.Driver.{Driver};
+ghost use Rattle.script.specs.Bus as script;
+ghost use Rattle.ops.specs.Conc.{go};
+ghost use Rattle.bus.specs.Points.{resultless, denote, meaning};
+
+// Where an operation stands: what it handed out last, with what the rest of it needs.
+pub enum Point {
+    Enable, // ctrl is read
+    Event(u8), // the last access; the result
+    Stalled, // a control word is read, to be asked
+    StallLen(u8), // ep_t_len is 0
+    StallWord(Dir, u8), // a control word is read, to be stalled
+    Restarted(u8, bool), // an IN's control word is restarted; isochronous
+    Woken(Dir, u8), // the last access; the endpoint is woken
+    Flags, // int_fg is read
+    Status, // mis_st is read
+    Released(bool), // the suspend flag is cleared; suspended
+    Address, // dev_ad is 0
+    Ep0Out, // EP0's OUT answers ACK
+    NakIn(u8), // IN e answers NAK
+    Naked(u8), // endpoint e answers NAK
+    Disabled, // ep_config is 0
+    Untyped, // ep_type is 0
+    Single, // ep_buf_mod is 0
+    Reset, // the reset flag is cleared
+    PlacedOut(u8, bool), // an OUT's address is set; enabled
+    PlacedIn(u8, bool, bool), // an IN's; isochronous, enabled
+    NoLength(u8, bool, bool), // ep_t_len is 0
+    Words(Dir, u8, bool, bool), // the control word is set; isochronous, enabled
+    Type(Dir, u8, bool), // ep_type is set; enabled
+    Switch(u8, bool, u8), // in the row of an isochronous OUT; enabled, how many of its accesses are left
+}
+
+// The next access with the point at which the operation stops, or its result.
+pub enum Next {
+    Asks(Access, Point),
+    Ends(u16),
+}
+
+// `enable` (mod.rs 1225-1227).
+pub fn enable() -> Next
+    ensures { λ r. ⌜ ((d : Driver) (b : List ℕ) → meaning r d b ≡ go (resultless script.enable) d b) ⌝ }
+{
+    Next::Asks(Access::Read(Reg::Ctrl, 0), Point::Enable)
+}
+
+fn after_enable(v: u32) -> Next
+    ensures { λ r. ⌜ ((d : Driver) (b : List ℕ) → meaning r d b ≡ denote Point.Enable v (d, b)) ⌝ }
+{
+    Next::Asks(
+        Access::Write(Reg::Ctrl, 0, regs::ctrl::pulled_up(v)),
+        Point::Event(0),
+    )
+}
+
+// A reading of a byte or less.
+fn byte(v: u32) -> u8
+    requires { ⌜ fitsIn v 8 ≡ true ⌝ }
+    ensures { λ r. ⌜ r ≡ v ⌝ }
+{
+    v as u8
+}
