@@ -11,14 +11,16 @@ use Rattle.regs.specs.Flags.{busRst, suspend, SUSPEND}
 use Rattle.regs.specs.MisStatus.{suspended}
 use Rattle.regs.specs.IntEn.{withBusRst, withSuspend}
 use Rattle.regs.specs.Ctrl.{pulledUp}
+use Rattle.state.specs.declared.EpState.{EpState}
 use Rattle.state.specs.Driver.{Driver, epOn, withOn}
 use Rattle.script.specs.Tree as tree
 use Rattle.script.specs.Tree.{asks, ends, bindOut}
 use Rattle.script.specs.Cells.{globals-cell}
 use Rattle.script.specs.Script.{Script, run, rows, ret, done, test, _>>=_, _>>_, read, write, get, act, row, when, set-enabled, switch, bus-reset}
-use Rattle.script.specs.Statics.{flag, completed, modifyEp, modifyIntEn, wake, wakeAll}
-use Rattle.script.specs.Bus.{nakAll, busReset, kept}
-use Rattle.ops.specs.Rings.{St}
+use Rattle.script.specs.Statics.{flag, completed, renewed, withArmed, modifyEp, modifyIntEn, wake, wakeAll}
+use Rattle.script.specs.Bus.{nakAll, busReset, kept, setEnabledOut}
+use Rattle.ops.specs.Records.{plainOf, merged}
+use Rattle.ops.specs.Rings.{St, emptiedOn}
 use Rattle.ops.specs.Conc.{conc}
 use Rattle.bus.specs.declared.Point.{Point}
 use Rattle.bus.specs.declared.Point.the-variants as point
@@ -88,6 +90,40 @@ afterFlags flags =
     (ret {A = ℕ} 0))
 
 -- ---- `endpoint_set_enabled`
+
+-- `reset-ring`, and the record's other fields renewed
+abbrev pub renewedAs : Driver → Dir → ℕ → ℕ → Driver
+renewedAs d dir e armed =
+    let x = emptiedOn d dir e in
+    withOn x dir e (merged (epOn x dir e) (withArmed armed (renewed (plainOf (epOn x dir e)))))
+
+-- both in one: `EpState::reset`, and armed or not
+abbrev pub resetAs : EpState → ℕ → EpState
+resetAs r armed = record {
+  ready = 0;
+  len = r .len;
+  armed = armed;
+  iso = r .iso;
+  kind = r .kind;
+  base = r .base;
+  stride = r .stride;
+  slots = r .slots;
+  head = 0;
+  tail = 0;
+  loaded = 0;
+  overruns = r .overruns;
+  «last_frame» = 0x1800;
+  «max_len» = r .«max_len»;
+  «min_len» = r .«min_len»;
+  «armed_slot» = r .«armed_slot»;
+  tog = 0;
+  «open» = 0;
+}
+
+abbrev pub enabledOut : ℕ → Bool → Script false ℕ
+enabledOut e on = resultless (do
+  setEnabledOut e on
+  wake Out e)
 
 unfoldable pub afterType : Dir → ℕ → Bool → Script false ℕ
 afterType d e on = do

@@ -1,5 +1,6 @@
 // The bus (mod.rs 1053-1106, 1187-1330) one access at a time: stalls, enable, poll with reset, suspend and resume, endpoints enabled and
 // disabled. Every function is total: any number is safe.
+pub mod enabling; // enabling.rt: endpoints enabled and disabled
 pub mod poll; // poll.rt: power, reset, suspend and resume
 pub mod stall; // stall.rt: endpoints stalled and restarted
 
