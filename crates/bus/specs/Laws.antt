@@ -3,10 +3,13 @@ use mathlib.Core.Path.{_≡_, refl, ap, sym, _∙_}
 use mathlib.Core.Logic.{_≢_}
 use mathlib.Core.Bool.{Bool, true, false, cond, _&&_}
 use mathlib.Core.List.{List}
-use Prim.Native.Nat.{ℕ, zero, suc, _+_, _-_, _<_, _≤_}
+use Prim.Native.Nat.{ℕ, zero, suc, _+_, _-_, _^_, _<_, _≤_}
 use native.Mathlib.Numerals.{add-one}
 use native.Mathlib.Omega.{arith}
 use lib.Seq.{set-set}
+use borrow.Author.Tests.{lt-ltb, ltb-true}
+use Rattle.regs.specs.Registers.{ctrlOf, widthOf, fitsIn}
+use Rattle.bus.specs.declared.Point.{Point}
 use Rattle.regs.specs.declared.Access.the-variants.{Write, Receive, Transmit}
 use Rattle.regs.specs.declared.Reg.the-variants.{EpConfig, EpType, EpRxCtrl, EpTxCtrl}
 use Rattle.regs.specs.declared.Dir.{Dir}
@@ -24,7 +27,7 @@ use Rattle.ops.specs.Records.{plainOf, merged, isoOut}
 use Rattle.ops.specs.Rings.{St, emptied, emptiedOn, slotStep, typeStep, configStep, placeOn}
 use Rattle.ops.specs.Conc.{conc, go}
 use Rattle.bus.specs.declared.Point.the-variants as point
-use Rattle.bus.specs.Points.{resultless, woken, resetAs, renewedAs, enabledOut, afterPlaced, afterWords, switching, denote}
+use Rattle.bus.specs.Points.{resultless, woken, resetAs, renewedAs, enabledOut, afterPlaced, afterWords, switching, denote, fitsAt}
 
 pub and-no : (b : Bool) → (b && false) ≡ false
 and-no true = refl
@@ -165,3 +168,36 @@ enable-in e on d x y iso at b h k m n =
     ∙ (ap (λ (z : Driver). placed e on (isOn (epOn d In e .iso)) (placeOn In e x .0, z) b) n
     ∙ (ap (λ (z : Driver). placed e on (isOn (epOn d In e .iso)) (placeOn In e z) b) k
     ∙ begun e on d b)))
+
+-- ---- a reading of 8 bits or less is a byte
+
+below : (v m : ℕ) → m ≤ 256 → v < m → v < 256
+below v m h k = omega arith
+
+wider : (v w : ℕ) → 2 ^ w ≤ 256 → fitsIn v w ≡ true → fitsIn v 8 ≡ true
+unfolding fitsIn
+wider v w h fits = lt-ltb v 256 (below v (2 ^ w) h (ltb-true v (2 ^ w) fits))
+
+pub fits-stalled : (p : Point) (v : ℕ) → p ≡ point.Stalled → fitsAt p v ≡ true → fitsIn v 8 ≡ true
+unfolding fitsAt
+fits-stalled p v h fits = ap (λ (q : Point). fitsAt q v) (sym h) ∙ fits
+
+pub word-width : (d : Dir) → widthOf (ctrlOf d) ≡ 8
+word-width Out = refl
+word-width In = refl
+
+word-fits : (d : Dir) (e v : ℕ) → fitsAt (point.StallWord d e) v ≡ true → fitsIn v 8 ≡ true
+unfolding fitsAt
+word-fits Out e v fits = fits
+word-fits In e v fits = fits
+
+pub fits-word : (p : Point) (v : ℕ) (d : Dir) (e : ℕ) → p ≡ point.StallWord d e → fitsAt p v ≡ true → fitsIn v 8 ≡ true
+fits-word p v d e h fits = word-fits d e v (ap (λ (q : Point). fitsAt q v) (sym h) ∙ fits)
+
+pub fits-flags : (p : Point) (v : ℕ) → p ≡ point.Flags → fitsAt p v ≡ true → fitsIn v 8 ≡ true
+unfolding fitsAt
+fits-flags p v h fits = wider v 6 (omega arith) (ap (λ (q : Point). fitsAt q v) (sym h) ∙ fits)
+
+pub fits-status : (p : Point) (v : ℕ) → p ≡ point.Status → fitsAt p v ≡ true → fitsIn v 8 ≡ true
+unfolding fitsAt
+fits-status p v h fits = wider v 2 (omega arith) (ap (λ (q : Point). fitsAt q v) (sym h) ∙ fits)

@@ -84,7 +84,7 @@ fn renew(s: &mut [u8; STATE_LEN], dir: Dir, e: u8, armed: u8)
     store_ep(s, dir, e, t);
 }
 
-fn flag_of(on: bool) -> u8
+pub fn flag_of(on: bool) -> u8
     ensures { λ r. ⌜ r ≡ flag on ⌝ }
 {
     if on {

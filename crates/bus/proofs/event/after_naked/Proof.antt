@@ -2,11 +2,11 @@ use Rattle.bus.specs.Laws.{nak-more, nak-none}
 use Rattle.bus.specs.Points.{afterNaked, afterReset}
 use mathlib.Core.Path.{refl}
 use borrow.Author.Needs.{needs}
-use Rattle.bus.proofs.poll.after_naked.Statement.{statement}
-use Rattle.bus.proofs.poll.after_naked.Tie as tie
-use Rattle.bus.proofs.poll.after_naked.Reads as reads
-use Rattle.bus.proofs.poll.after_naked.Lts as lts
-use Rattle.bus.proofs.poll.nak_word.Reads as nak-word-reads
+use Rattle.bus.proofs.event.after_naked.Statement.{statement}
+use Rattle.bus.proofs.event.after_naked.Tie as tie
+use Rattle.bus.proofs.event.after_naked.Reads as reads
+use Rattle.bus.proofs.event.after_naked.Lts as lts
+use Rattle.bus.proofs.event.nak_word.Reads as nak-word-reads
 use Rattle.state.proofs.set_ep_config.Reads as set-ep-config-reads
 
 add-t5 : tie.Need-add-t5

@@ -1,8 +1,8 @@
 use borrow.Author.Needs.{needs}
-use Rattle.bus.proofs.poll.after_disabled.Statement.{statement}
-use Rattle.bus.proofs.poll.after_disabled.Tie as tie
-use Rattle.bus.proofs.poll.after_disabled.Reads as reads
-use Rattle.bus.proofs.poll.after_disabled.Lts as lts
+use Rattle.bus.proofs.event.after_disabled.Statement.{statement}
+use Rattle.bus.proofs.event.after_disabled.Tie as tie
+use Rattle.bus.proofs.event.after_disabled.Reads as reads
+use Rattle.bus.proofs.event.after_disabled.Lts as lts
 use Rattle.state.proofs.set_ep_type.Reads as set-ep-type-reads
 
 set-ep-type-requires : tie.Need-set-ep-type-requires

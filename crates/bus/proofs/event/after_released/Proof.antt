@@ -1,9 +1,9 @@
 use Rattle.bus.specs.Points.{afterReleased}
 use borrow.Author.Needs.{needs}
-use Rattle.bus.proofs.poll.after_released.Statement.{statement}
-use Rattle.bus.proofs.poll.after_released.Tie as tie
-use Rattle.bus.proofs.poll.after_released.Reads as reads
-use Rattle.bus.proofs.poll.after_released.Lts as lts
+use Rattle.bus.proofs.event.after_released.Statement.{statement}
+use Rattle.bus.proofs.event.after_released.Tie as tie
+use Rattle.bus.proofs.event.after_released.Reads as reads
+use Rattle.bus.proofs.event.after_released.Lts as lts
 use Rattle.regs.proofs.int_en.with_suspend.Reads as with-suspend-reads
 use Rattle.state.proofs.set_int_en.Reads as set-int-en-reads
 use Rattle.state.proofs.load_globals.Reads as load-globals-reads

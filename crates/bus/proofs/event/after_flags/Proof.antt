@@ -1,9 +1,9 @@
 use Rattle.bus.specs.Points.{afterFlags, afterNaked}
 use borrow.Author.Needs.{needs}
-use Rattle.bus.proofs.poll.after_flags.Statement.{statement}
-use Rattle.bus.proofs.poll.after_flags.Tie as tie
-use Rattle.bus.proofs.poll.after_flags.Reads as reads
-use Rattle.bus.proofs.poll.after_flags.Lts as lts
+use Rattle.bus.proofs.event.after_flags.Statement.{statement}
+use Rattle.bus.proofs.event.after_flags.Tie as tie
+use Rattle.bus.proofs.event.after_flags.Reads as reads
+use Rattle.bus.proofs.event.after_flags.Lts as lts
 use Rattle.bus.proofs.byte.Reads as byte-reads
 use Rattle.regs.proofs.flags.bus_rst.Reads as bus-rst-reads
 use Rattle.regs.proofs.flags.suspend.Reads as suspend-reads

@@ -1,10 +1,10 @@
 use Rattle.bus.specs.Points.{afterReset}
 use mathlib.Core.Path.{_∙_}
 use borrow.Author.Needs.{needs}
-use Rattle.bus.proofs.poll.after_reset.Statement.{statement}
-use Rattle.bus.proofs.poll.after_reset.Tie as tie
-use Rattle.bus.proofs.poll.after_reset.Reads as reads
-use Rattle.bus.proofs.poll.after_reset.Lts as lts
+use Rattle.bus.proofs.event.after_reset.Statement.{statement}
+use Rattle.bus.proofs.event.after_reset.Tie as tie
+use Rattle.bus.proofs.event.after_reset.Reads as reads
+use Rattle.bus.proofs.event.after_reset.Lts as lts
 use Rattle.ops.proofs.records.wake_all.Reads as wake-all-reads
 use Rattle.regs.proofs.int_en.with_bus_rst.Reads as with-bus-rst-reads
 use Rattle.state.proofs.set_int_en.Reads as set-int-en-reads

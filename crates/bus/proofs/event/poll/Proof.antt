@@ -1,10 +1,10 @@
 use Rattle.bus.specs.Points.{afterFlags, afterReleased, afterStatus}
 use mathlib.Core.Path.{refl}
 use borrow.Author.Needs.{needs}
-use Rattle.bus.proofs.poll.poll.Statement.{statement}
-use Rattle.bus.proofs.poll.poll.Tie as tie
-use Rattle.bus.proofs.poll.poll.Reads as reads
-use Rattle.bus.proofs.poll.poll.Lts as lts
+use Rattle.bus.proofs.event.poll.Statement.{statement}
+use Rattle.bus.proofs.event.poll.Tie as tie
+use Rattle.bus.proofs.event.poll.Reads as reads
+use Rattle.bus.proofs.event.poll.Lts as lts
 use Rattle.ops.proofs.rings.is_on.Reads as is-on-reads
 use Rattle.state.proofs.load_globals.Reads as load-globals-reads
 use Rattle.state.proofs.store_globals.Reads as store-globals-reads

@@ -1,9 +1,9 @@
 use Rattle.bus.specs.Points.{afterStatus}
 use borrow.Author.Needs.{needs}
-use Rattle.bus.proofs.poll.after_status.Statement.{statement}
-use Rattle.bus.proofs.poll.after_status.Tie as tie
-use Rattle.bus.proofs.poll.after_status.Reads as reads
-use Rattle.bus.proofs.poll.after_status.Lts as lts
+use Rattle.bus.proofs.event.after_status.Statement.{statement}
+use Rattle.bus.proofs.event.after_status.Tie as tie
+use Rattle.bus.proofs.event.after_status.Reads as reads
+use Rattle.bus.proofs.event.after_status.Lts as lts
 use Rattle.bus.proofs.byte.Reads as byte-reads
 use Rattle.regs.proofs.mis_status.suspended.Reads as suspended-reads
 

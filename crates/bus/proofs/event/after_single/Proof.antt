@@ -1,8 +1,8 @@
 use borrow.Author.Needs.{needs}
-use Rattle.bus.proofs.poll.after_single.Statement.{statement}
-use Rattle.bus.proofs.poll.after_single.Tie as tie
-use Rattle.bus.proofs.poll.after_single.Reads as reads
-use Rattle.bus.proofs.poll.after_single.Lts as lts
+use Rattle.bus.proofs.event.after_single.Statement.{statement}
+use Rattle.bus.proofs.event.after_single.Tie as tie
+use Rattle.bus.proofs.event.after_single.Reads as reads
+use Rattle.bus.proofs.event.after_single.Lts as lts
 use Rattle.ops.proofs.arming.reset_all.Reads as reset-all-reads
 
 reset-all-requires : tie.Need-reset-all-requires
