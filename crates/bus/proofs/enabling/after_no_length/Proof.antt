@@ -1,0 +1,20 @@
+use Rattle.bus.specs.Points.{afterPlaced}
+use borrow.Author.Needs.{needs}
+use Rattle.bus.proofs.enabling.after_no_length.Statement.{statement}
+use Rattle.bus.proofs.enabling.after_no_length.Tie as tie
+use Rattle.bus.proofs.enabling.after_no_length.Reads as reads
+use Rattle.bus.proofs.enabling.after_no_length.Lts as lts
+use Rattle.bus.proofs.enabling.in_word.Reads as in-word-reads
+
+in-word-requires : tie.Need-in-word-requires
+in-word-requires c κs = search needs
+
+cast-t6 : tie.Need-cast-t6
+cast-t6 c = search needs
+
+returns : tie.Need-returns
+unfolding afterPlaced
+returns c = λ d b. simp (c .in-word .ensures)
+
+pub after-no-length-spec : {M : Type 1} → statement M
+after-no-length-spec = tie.close (tie.spec in-word-requires cast-t6 returns)

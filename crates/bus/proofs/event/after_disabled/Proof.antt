@@ -1,0 +1,15 @@
+use borrow.Author.Needs.{needs}
+use Rattle.bus.proofs.event.after_disabled.Statement.{statement}
+use Rattle.bus.proofs.event.after_disabled.Tie as tie
+use Rattle.bus.proofs.event.after_disabled.Reads as reads
+use Rattle.bus.proofs.event.after_disabled.Lts as lts
+use Rattle.state.proofs.set_ep_type.Reads as set-ep-type-reads
+
+set-ep-type-requires : tie.Need-set-ep-type-requires
+set-ep-type-requires c κs = search needs
+
+returns : tie.Need-returns
+returns c = (λ v b. simp (c .set-ep-type .ensures .0), c .set-ep-type .ensures .1)
+
+pub after-disabled-spec : {M : Type 1} → statement M
+after-disabled-spec = tie.close (tie.spec set-ep-type-requires returns)

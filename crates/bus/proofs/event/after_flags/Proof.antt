@@ -1,0 +1,35 @@
+use Rattle.bus.specs.Points.{afterFlags, afterNaked}
+use borrow.Author.Needs.{needs}
+use Rattle.bus.proofs.event.after_flags.Statement.{statement}
+use Rattle.bus.proofs.event.after_flags.Tie as tie
+use Rattle.bus.proofs.event.after_flags.Reads as reads
+use Rattle.bus.proofs.event.after_flags.Lts as lts
+use Rattle.bus.proofs.byte.Reads as byte-reads
+use Rattle.regs.proofs.flags.bus_rst.Reads as bus-rst-reads
+use Rattle.regs.proofs.flags.suspend.Reads as suspend-reads
+
+byte-requires : tie.Need-byte-requires
+byte-requires c κs = search needs
+
+bus-rst-requires : tie.Need-bus-rst-requires
+bus-rst-requires c κs = search needs
+
+returns : tie.Need-returns
+unfolding afterFlags afterNaked
+returns c = λ d b. simp (← c .before .before .byte .ensures, ← c .before .bus-rst .ensures, c .if1 .taken)
+
+suspend-requires : tie.Need-suspend-requires
+suspend-requires c κs = search needs
+
+returns-2 : tie.Need-returns-2
+unfolding afterFlags
+returns-2 c = λ d b. simp (← c .before .before .before .before .byte .ensures, ← c .before .before .before .bus-rst .ensures, c .before .before .if1 .left, ← c .before .suspend .ensures, c .if2 .taken)
+
+returns-3 : tie.Need-returns-3
+unfolding afterFlags
+returns-3 c = λ d b. simp (← c .before .before .before .before .byte .ensures, ← c .before .before .before .bus-rst .ensures, c .before .before .if1 .left, ← c .before .suspend .ensures, c .if2 .left)
+
+pub after-flags-spec : {M : Type 1} → statement M
+after-flags-spec =
+    tie.close
+    (tie.spec byte-requires bus-rst-requires returns suspend-requires returns-2 returns-3)

@@ -1,0 +1,15 @@
+use borrow.Author.Needs.{needs}
+use Rattle.bus.proofs.event.after_single.Statement.{statement}
+use Rattle.bus.proofs.event.after_single.Tie as tie
+use Rattle.bus.proofs.event.after_single.Reads as reads
+use Rattle.bus.proofs.event.after_single.Lts as lts
+use Rattle.ops.proofs.arming.reset_all.Reads as reset-all-reads
+
+reset-all-requires : tie.Need-reset-all-requires
+reset-all-requires c κs = search needs
+
+returns : tie.Need-returns
+returns c = (λ v b. simp (c .reset-all .ensures .0), c .reset-all .ensures .1)
+
+pub after-single-spec : {M : Type 1} → statement M
+after-single-spec = tie.close (tie.spec reset-all-requires returns)

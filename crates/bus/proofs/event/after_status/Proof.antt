@@ -1,0 +1,21 @@
+use Rattle.bus.specs.Points.{afterStatus}
+use borrow.Author.Needs.{needs}
+use Rattle.bus.proofs.event.after_status.Statement.{statement}
+use Rattle.bus.proofs.event.after_status.Tie as tie
+use Rattle.bus.proofs.event.after_status.Reads as reads
+use Rattle.bus.proofs.event.after_status.Lts as lts
+use Rattle.bus.proofs.byte.Reads as byte-reads
+use Rattle.regs.proofs.mis_status.suspended.Reads as suspended-reads
+
+byte-requires : tie.Need-byte-requires
+byte-requires c κs = search needs
+
+suspended-requires : tie.Need-suspended-requires
+suspended-requires c κs = search needs
+
+returns : tie.Need-returns
+unfolding afterStatus
+returns c = λ d b. simp (← c .before .byte .ensures, ← c .suspended .ensures)
+
+pub after-status-spec : {M : Type 1} → statement M
+after-status-spec = tie.close (tie.spec byte-requires suspended-requires returns)

@@ -1,0 +1,130 @@
+-- A point as numbers, and back: which point, its direction, enabled, isochronous or suspended, a count or a result, its endpoint
+use mathlib.Core.Path.{_≡_, refl}
+use mathlib.Core.Bool.{Bool, true, false, cond}
+use Prim.Native.Nat.{ℕ}
+use lib.Dec.{eqb}
+use Rattle.regs.specs.declared.Dir.{Dir}
+use Rattle.regs.specs.declared.Dir.the-variants.{Out, In}
+use Rattle.state.specs.declared.Saved.{Saved}
+use Rattle.script.specs.Statics.{isOn, flag}
+use Rattle.bus.specs.declared.Point.{Point}
+use Rattle.bus.specs.declared.Point.the-variants as point
+
+abbrev pub dirAs : Dir → ℕ
+dirAs Out = 0
+dirAs In = 1
+
+abbrev pub dirOf : ℕ → Dir
+dirOf n = cond (eqb n 0) Out In
+
+abbrev pub code : ℕ → ℕ → ℕ → ℕ → ℕ → ℕ → Saved
+code sub site on iso n e = record {
+  tag = 0;
+  sub = sub;
+  site = site;
+  flag = on;
+  busy = iso;
+  late = 0;
+  «len_ok» = 0;
+  st = n;
+  now = 0;
+  ep = e;
+  len = 0;
+  frame = 0;
+  eps = 0;
+  n = 0;
+  value = 0;
+}
+
+unfoldable pub encode : Point → Saved
+encode point.Enable = code 0 0 0 0 0 0
+encode (point.Event n) = code 1 0 0 0 n 0
+encode point.Stalled = code 2 0 0 0 0 0
+encode (point.StallLen e) = code 3 0 0 0 0 e
+encode (point.StallWord d e) = code 4 (dirAs d) 0 0 0 e
+encode (point.Restarted e iso) = code 5 0 0 (flag iso) 0 e
+encode (point.Woken d e) = code 6 (dirAs d) 0 0 0 e
+encode point.Flags = code 7 0 0 0 0 0
+encode point.Status = code 8 0 0 0 0 0
+encode (point.Released iso) = code 9 0 0 (flag iso) 0 0
+encode point.Address = code 10 0 0 0 0 0
+encode point.Ep0Out = code 11 0 0 0 0 0
+encode (point.NakIn e) = code 12 0 0 0 0 e
+encode (point.Naked e) = code 13 0 0 0 0 e
+encode point.Disabled = code 14 0 0 0 0 0
+encode point.Untyped = code 15 0 0 0 0 0
+encode point.Single = code 16 0 0 0 0 0
+encode point.Reset = code 17 0 0 0 0 0
+encode (point.PlacedOut e on) = code 18 0 (flag on) 0 0 e
+encode (point.PlacedIn e iso on) = code 19 0 (flag on) (flag iso) 0 e
+encode (point.NoLength e iso on) = code 20 0 (flag on) (flag iso) 0 e
+encode (point.Words d e iso on) = code 21 (dirAs d) (flag on) (flag iso) 0 e
+encode (point.Type d e on) = code 22 (dirAs d) (flag on) 0 0 e
+encode (point.Switch e on n) = code 23 0 (flag on) 0 n e
+
+-- an unknown number is the first point
+abbrev pub byNumber : ℕ → Saved → Point
+byNumber k c =
+    cond (eqb k 1) (point.Event (c .st)) (
+    cond (eqb k 2) point.Stalled (
+    cond (eqb k 3) (point.StallLen (c .ep)) (
+    cond (eqb k 4) (point.StallWord (dirOf (c .site)) (c .ep)) (
+    cond (eqb k 5) (point.Restarted (c .ep) (isOn (c .busy))) (
+    cond (eqb k 6) (point.Woken (dirOf (c .site)) (c .ep)) (
+    cond (eqb k 7) point.Flags (
+    cond (eqb k 8) point.Status (
+    cond (eqb k 9) (point.Released (isOn (c .busy))) (
+    cond (eqb k 10) point.Address (
+    cond (eqb k 11) point.Ep0Out (
+    cond (eqb k 12) (point.NakIn (c .ep)) (
+    cond (eqb k 13) (point.Naked (c .ep)) (
+    cond (eqb k 14) point.Disabled (
+    cond (eqb k 15) point.Untyped (
+    cond (eqb k 16) point.Single (
+    cond (eqb k 17) point.Reset (
+    cond (eqb k 18) (point.PlacedOut (c .ep) (isOn (c .flag))) (
+    cond (eqb k 19) (point.PlacedIn (c .ep) (isOn (c .busy)) (isOn (c .flag))) (
+    cond (eqb k 20) (point.NoLength (c .ep) (isOn (c .busy)) (isOn (c .flag))) (
+    cond (eqb k 21) (point.Words (dirOf (c .site)) (c .ep) (isOn (c .busy)) (isOn (c .flag))) (
+    cond (eqb k 22) (point.Type (dirOf (c .site)) (c .ep) (isOn (c .flag))) (
+    cond (eqb k 23) (point.Switch (c .ep) (isOn (c .flag)) (c .st)) (
+    point.Enable)))))))))))))))))))))))
+
+unfoldable pub decode : Saved → Point
+decode c = byNumber (c .sub) c
+
+flag-back : (b : Bool) → isOn (flag b) ≡ b
+unfolding isOn
+flag-back true = refl
+flag-back false = refl
+
+dir-back : (d : Dir) → dirOf (dirAs d) ≡ d
+dir-back Out = refl
+dir-back In = refl
+
+pub decode-encode : (p : Point) → decode (encode p) ≡ p
+unfolding encode decode
+decode-encode point.Enable = refl
+decode-encode (point.Event n) = refl
+decode-encode point.Stalled = refl
+decode-encode (point.StallLen e) = refl
+decode-encode (point.StallWord d e) = simp dir-back
+decode-encode (point.Restarted e iso) = simp flag-back
+decode-encode (point.Woken d e) = simp dir-back
+decode-encode point.Flags = refl
+decode-encode point.Status = refl
+decode-encode (point.Released iso) = simp flag-back
+decode-encode point.Address = refl
+decode-encode point.Ep0Out = refl
+decode-encode (point.NakIn e) = refl
+decode-encode (point.Naked e) = refl
+decode-encode point.Disabled = refl
+decode-encode point.Untyped = refl
+decode-encode point.Single = refl
+decode-encode point.Reset = refl
+decode-encode (point.PlacedOut e on) = simp flag-back
+decode-encode (point.PlacedIn e iso on) = simp flag-back
+decode-encode (point.NoLength e iso on) = simp flag-back
+decode-encode (point.Words d e iso on) = simp (dir-back, flag-back)
+decode-encode (point.Type d e on) = simp (dir-back, flag-back)
+decode-encode (point.Switch e on n) = simp flag-back

@@ -1,0 +1,221 @@
+-- What is left to run at each point of the bus's operations
+use mathlib.Core.Bool.{Bool, true, false, not, cond, _&&_}
+use mathlib.Core.List.{List}
+use Prim.Native.Nat.{ℕ, zero, suc, _+_, _-_}
+use Rattle.regs.specs.declared.Reg.the-variants.{IntFg, MisSt, Ctrl, EpConfig, EpTLen, EpRxCtrl, EpTxCtrl}
+use Rattle.regs.specs.declared.Dir.{Dir}
+use Rattle.regs.specs.declared.Dir.the-variants.{Out, In}
+use Rattle.regs.specs.Registers.{ctrlOf, widthOf, fitsIn}
+use Rattle.regs.specs.ControlWord.{ACK, NYET, NAK, DATA0, wordOf, stall, isStalled}
+use Rattle.regs.specs.Flags.{busRst, suspend, SUSPEND}
+use Rattle.regs.specs.MisStatus.{suspended}
+use Rattle.regs.specs.IntEn.{withBusRst, withSuspend}
+use Rattle.regs.specs.Ctrl.{pulledUp}
+use Rattle.state.specs.declared.EpState.{EpState}
+use Rattle.state.specs.Driver.{Driver, epOn, withOn}
+use Rattle.script.specs.Tree as tree
+use Rattle.script.specs.Tree.{asks, ends, bindOut}
+use Rattle.script.specs.Cells.{globals-cell}
+use Rattle.script.specs.Script.{Script, run, rows, ret, done, test, _>>=_, _>>_, read, write, get, act, row, when, set-enabled, switch, bus-reset}
+use Rattle.script.specs.Statics.{flag, completed, renewed, withArmed, modifyEp, modifyIntEn, wake, wakeAll}
+use Rattle.script.specs.Bus.{nakAll, busReset, kept, setEnabledOut}
+use Rattle.ops.specs.Records.{plainOf, merged}
+use Rattle.ops.specs.Rings.{St, emptiedOn}
+use Rattle.ops.specs.Conc.{conc}
+use Rattle.bus.specs.declared.Point.{Point}
+use Rattle.bus.specs.declared.Point.the-variants as point
+use Rattle.bus.specs.declared.Next.{Next}
+use Rattle.bus.specs.declared.Next.the-variants as next
+
+-- an operation without a result answers 0
+abbrev pub resultless : Script false Unit → Script false ℕ
+resultless p = do
+  p
+  ret 0
+
+unfoldable pub woken : Dir → ℕ → Script false ℕ
+woken d e = resultless (wake d e)
+
+-- ---- `set_endpoint_stalled`
+
+unfoldable pub afterStallWord : Dir → ℕ → ℕ → Script false ℕ
+afterStallWord d e word = do
+  write (ctrlOf d) e (stall word)
+  woken d e
+
+unfoldable pub afterRestart : ℕ → Bool → Script false ℕ
+afterRestart e iso = resultless (do
+  when (not iso) (modifyEp In e completed)
+  wake In e)
+
+-- ---- `poll`
+
+unfoldable pub afterReset : Script false ℕ
+afterReset = do
+  wakeAll
+  modifyIntEn (λ w. withBusRst w true)
+  ret 2
+
+-- the endpoints up to e answer NAK
+unfoldable pub afterNaked : ℕ → Script false ℕ
+afterNaked e = do
+  (do
+    nakAll (15 - e) (suc e)
+    row bus-reset
+    wakeAll)
+  modifyIntEn (λ w. withBusRst w true)
+  ret 2
+
+unfoldable pub afterReleased : Bool → Script false ℕ
+afterReleased down = do
+  modifyIntEn (λ w. withSuspend w true)
+  ret (cond down 3 4)
+
+unfoldable pub afterStatus : ℕ → Script false ℕ
+afterStatus m = do
+  write IntFg 0 SUSPEND
+  afterReleased (suspended m)
+
+unfoldable pub afterFlags : ℕ → Script false ℕ
+afterFlags flags =
+    test {A = ℕ} (busRst flags)
+    (do
+      busReset
+      modifyIntEn (λ w. withBusRst w true)
+      ret 2)
+    (test {A = ℕ} (suspend flags)
+    (do
+      m ← read MisSt 0
+      afterStatus m)
+    (ret {A = ℕ} 0))
+
+-- ---- `endpoint_set_enabled`
+
+-- `reset-ring`, and the record's other fields renewed
+abbrev pub renewedAs : Driver → Dir → ℕ → ℕ → Driver
+renewedAs d dir e armed =
+    let x = emptiedOn d dir e in
+    withOn x dir e (merged (epOn x dir e) (withArmed armed (renewed (plainOf (epOn x dir e)))))
+
+-- both in one: `EpState::reset`, and armed or not
+abbrev pub resetAs : EpState → ℕ → EpState
+resetAs r armed = record {
+  ready = 0;
+  len = r .len;
+  armed = armed;
+  iso = r .iso;
+  kind = r .kind;
+  base = r .base;
+  stride = r .stride;
+  slots = r .slots;
+  head = 0;
+  tail = 0;
+  loaded = 0;
+  overruns = r .overruns;
+  «last_frame» = 0x1800;
+  «max_len» = r .«max_len»;
+  «min_len» = r .«min_len»;
+  «armed_slot» = r .«armed_slot»;
+  tog = 0;
+  «open» = 0;
+}
+
+abbrev pub enabledOut : ℕ → Bool → Script false ℕ
+enabledOut e on = resultless (do
+  setEnabledOut e on
+  wake Out e)
+
+unfoldable pub afterType : Dir → ℕ → Bool → Script false ℕ
+afterType d e on = do
+  act (set-enabled d e on)
+  g ← get globals-cell
+  write EpConfig 0 (g .«ep_config»)
+  woken d e
+
+unfoldable pub afterWords : Dir → ℕ → Bool → Bool → Script false ℕ
+afterWords d e iso on = do
+  kept d e iso on
+  woken d e
+
+unfoldable pub afterPlaced : ℕ → Bool → Bool → Script false ℕ
+afterPlaced e iso on = do
+  write EpTxCtrl e (wordOf (cond (iso && on) NYET NAK) DATA0 (not iso))
+  afterWords In e iso on
+
+-- n accesses of the row are left
+unfoldable pub switching : ℕ → Bool → ℕ → tree.Prog St ℕ
+switching e on zero t = run conc (woken Out e) t
+switching e on (suc n) t = bindOut (bindOut (rows conc (switch e on) n (λ u. run conc (done {i = false}) u) t) (λ _ u. run conc (wake {i = false} Out e) u)) (λ _ u. ends 0 u)
+
+-- ---- points
+
+-- the run from a point with the number brought: a script's, and inside a row the accesses of it that are left
+abbrev pub denote : Point → ℕ → tree.Prog St ℕ
+denote point.Enable v t = run conc (resultless (write Ctrl 0 (pulledUp v))) t
+denote (point.Event n) v t = ends n t
+denote point.Stalled v t = ends (flag (isStalled v)) t
+denote (point.StallLen e) v t = run conc (do
+  word ← read EpTxCtrl e
+  afterStallWord In e word) t
+denote (point.StallWord d e) v t = run conc (afterStallWord d e v) t
+denote (point.Restarted e iso) v t = run conc (afterRestart e iso) t
+denote (point.Woken d e) v t = run conc (woken d e) t
+denote point.Flags v t = run conc (afterFlags v) t
+denote point.Status v t = run conc (afterStatus v) t
+denote (point.Released down) v t = run conc (afterReleased down) t
+denote point.Address v t = run conc (do
+  write EpRxCtrl 0 (wordOf ACK DATA0 false)
+  write EpTxCtrl 0 (wordOf NAK DATA0 false)
+  afterNaked 0) t
+denote point.Ep0Out v t = run conc (do
+  write EpTxCtrl 0 (wordOf NAK DATA0 false)
+  afterNaked 0) t
+denote (point.NakIn e) v t = run conc (do
+  write EpRxCtrl e (wordOf NAK DATA0 false)
+  afterNaked e) t
+denote (point.Naked e) v t = run conc (afterNaked e) t
+denote point.Disabled v t = rows conc bus-reset 2 (λ u. run conc afterReset u) t
+denote point.Untyped v t = rows conc bus-reset 1 (λ u. run conc afterReset u) t
+denote point.Single v t = rows conc bus-reset 0 (λ u. run conc afterReset u) t
+denote point.Reset v t = run conc afterReset t
+denote (point.PlacedOut e on) v t = run conc (do
+  write EpRxCtrl e (wordOf (cond on ACK NAK) DATA0 true)
+  afterWords Out e false on) t
+denote (point.PlacedIn e iso on) v t = run conc (do
+  write EpTLen e 0
+  afterPlaced e iso on) t
+denote (point.NoLength e iso on) v t = run conc (afterPlaced e iso on) t
+denote (point.Words d e iso on) v t = run conc (afterWords d e iso on) t
+denote (point.Type d e on) v t = run conc (afterType d e on) t
+denote (point.Switch e on n) v t = switching e on n t
+
+abbrev pub meaning : Next → Driver → List ℕ → tree.Out St ℕ
+meaning (next.Asks q p) d b = asks q (d, b) (λ v t. denote p v t)
+meaning (next.Ends n) d b = ends n (d, b)
+
+-- row 16 turned round: a reading has no bit above its register's width
+unfoldable pub fitsAt : Point → ℕ → Bool
+fitsAt point.Enable v = fitsIn v (widthOf Ctrl)
+fitsAt (point.Event n) v = true
+fitsAt point.Stalled v = fitsIn v (widthOf EpTxCtrl)
+fitsAt (point.StallLen e) v = true
+fitsAt (point.StallWord d e) v = fitsIn v (widthOf (ctrlOf d))
+fitsAt (point.Restarted e iso) v = true
+fitsAt (point.Woken d e) v = true
+fitsAt point.Flags v = fitsIn v (widthOf IntFg)
+fitsAt point.Status v = fitsIn v (widthOf MisSt)
+fitsAt (point.Released down) v = true
+fitsAt point.Address v = true
+fitsAt point.Ep0Out v = true
+fitsAt (point.NakIn e) v = true
+fitsAt (point.Naked e) v = true
+fitsAt point.Disabled v = true
+fitsAt point.Untyped v = true
+fitsAt point.Single v = true
+fitsAt point.Reset v = true
+fitsAt (point.PlacedOut e on) v = true
+fitsAt (point.PlacedIn e iso on) v = true
+fitsAt (point.NoLength e iso on) v = true
+fitsAt (point.Words d e iso on) v = true
+fitsAt (point.Type d e on) v = true
+fitsAt (point.Switch e on n) v = true

@@ -1,0 +1,212 @@
+use crate::Next;
+use crate::Point;
+use crate::stall::after_woken;
+use ops::arming::slot_step;
+use ops::records::config_step;
+use ops::records::iso_out;
+use ops::records::place;
+use ops::records::type_step;
+use ops::rings::is_on;
+use regs::Access;
+use regs::Dir;
+use regs::Reg;
+use regs::control_word;
+use regs::enables;
+use state::EpState;
+use state::STATE_LEN;
+use state::load_ep;
+use state::load_globals;
+use state::set_ep_type;
+use state::store_ep;
+use state::store_paced;
+ghost use mathlib.Core.Path.{_≡_};
+ghost use mathlib.Core.Bool.{true, false, cond, not, _&&_};
+ghost use mathlib.Core.List.{List};
+ghost use Prim.Native.Nat.{ℕ};
+ghost use Rattle.regs.specs.ControlWord.{NYET, NAK, DATA0, wordOf};
+ghost use Rattle.state.specs.Driver.{Driver};
+ghost use Rattle.state.specs.State.{view, saved};
+ghost use Rattle.script.specs.Bus as script;
+ghost use Rattle.script.specs.Statics.{flag};
+ghost use Rattle.ops.specs.Conc.{go};
+ghost use Rattle.ops.specs.Records.{isoOut};
+ghost use Rattle.bus.specs.Points.{resultless, renewedAs, enabledOut, afterType, afterWords, afterPlaced, switching, denote, meaning};
+
+// The word of the row: ISO responses, or NAK.
+fn switch_word(on: bool) -> u32
+    ensures { λ r. ⌜ r ≡ cond on 1 2 ⌝ }
+{
+    if on {
+        return 1;
+    }
+    2
+}
+
+// An isochronous OUT (mod.rs 1280-1299): every slot armed from the last, its control word, ep_type, ep_config. `n` of these are left.
+pub fn after_switch(s: &mut [u8; STATE_LEN], buf: &mut [u8], e: u8, on: bool, n: u8) -> Next
+    ensures { λ r. ⌜ meaning r (view (now (s .exit))) (now (buf .exit)) ≡ switching e on n (view (now (s .entry)), now (buf .entry)) ⌝ }
+    ensures { λ _. ⌜ saved (now (s .exit)) ≡ saved (now (s .entry)) ⌝ }
+{
+    if 3 < n {
+        let at = slot_step(s, buf, e, n - 4);
+        return Next::Asks(Access::Receive(e, at), Point::Switch(e, on, n - 1));
+    }
+    if n == 3 {
+        let word = switch_word(on);
+        return Next::Asks(
+            Access::Write(Reg::EpRxCtrl, e, word),
+            Point::Switch(e, on, 2),
+        );
+    }
+    if n == 2 {
+        let word = type_step(s, e, on);
+        return Next::Asks(Access::Write(Reg::EpType, 0, word), Point::Switch(e, on, 1));
+    }
+    if n == 1 {
+        let word = config_step(s, e, on);
+        return Next::Asks(
+            Access::Write(Reg::EpConfig, 0, word),
+            Point::Switch(e, on, 0),
+        );
+    }
+    after_woken(s, Dir::Out, e)
+}
+
+// The record reset, and armed or not.
+fn renew(s: &mut [u8; STATE_LEN], dir: Dir, e: u8, armed: u8)
+    requires { ⌜ isoOut (view (now s)) dir e ≡ false ⌝ }
+    ensures { λ _. ⌜ view (now (s .exit)) ≡ renewedAs (view (now (s .entry))) dir e armed ⌝ }
+    ensures { λ _. ⌜ saved (now (s .exit)) ≡ saved (now (s .entry)) ⌝ }
+{
+    let r = load_ep(s, dir, e);
+    let mut t = r.reset();
+    t.armed = armed;
+    store_ep(s, dir, e, t);
+}
+
+pub fn flag_of(on: bool) -> u8
+    ensures { λ r. ⌜ r ≡ flag on ⌝ }
+{
+    if on {
+        return 1;
+    }
+    0
+}
+
+// Not isochronous: armed as soon as it is enabled (mod.rs 1300-1311).
+fn set_enabled_out(s: &mut [u8; STATE_LEN], e: u8, on: bool) -> Next
+    requires { ⌜ isoOut (view (now s)) Dir.Out e ≡ false ⌝ }
+    ensures { λ r. ⌜ ((b : List ℕ) → meaning r (view (now (s .exit))) b ≡ go (enabledOut e on) (view (now (s .entry))) b) ⌝ }
+    ensures { λ _. ⌜ saved (now (s .exit)) ≡ saved (now (s .entry)) ⌝ }
+{
+    renew(s, Dir::Out, e, flag_of(on));
+    let at = place(s, Dir::Out, e);
+    Next::Asks(Access::Receive(e, at), Point::PlacedOut(e, on))
+}
+
+fn set_enabled_in(s: &mut [u8; STATE_LEN], e: u8, on: bool) -> Next
+    ensures { λ r. ⌜ ((b : List ℕ) → meaning r (view (now (s .exit))) b ≡ go (resultless (script.setEnabled Dir.In e on)) (view (now (s .entry))) b) ⌝ }
+    ensures { λ _. ⌜ saved (now (s .exit)) ≡ saved (now (s .entry)) ⌝ }
+{
+    let r = load_ep(s, Dir::In, e);
+    let iso = is_on(r.iso);
+    renew(s, Dir::In, e, 0);
+    store_paced(s, e, EpState::NO_FRAME);
+    let at = place(s, Dir::In, e);
+    Next::Asks(Access::Transmit(e, at), Point::PlacedIn(e, iso, on))
+}
+
+// `endpoint_set_enabled` (mod.rs 1268-1330).
+pub fn set_enabled(s: &mut [u8; STATE_LEN], buf: &mut [u8], dir: Dir, e: u8, on: bool) -> Next
+    ensures { λ r. ⌜ meaning r (view (now (s .exit))) (now (buf .exit)) ≡ go (resultless (script.setEnabled dir e on)) (view (now (s .entry))) (now (buf .entry)) ⌝ }
+    ensures { λ _. ⌜ saved (now (s .exit)) ≡ saved (now (s .entry)) ⌝ }
+{
+    match dir {
+        Dir::Out => {
+            if iso_out(s, Dir::Out, e) {
+                return after_switch(s, buf, e, on, 19);
+            }
+            set_enabled_out(s, e, on)
+        }
+        Dir::In => set_enabled_in(s, e, on),
+    }
+}
+
+pub fn after_placed_out(e: u8, on: bool) -> Next
+    ensures { λ r. ⌜ ((v : ℕ) (d : Driver) (b : List ℕ) → meaning r d b ≡ denote (Point.PlacedOut e on) v (d, b)) ⌝ }
+{
+    if on {
+        let word = control_word::word_of(control_word::ACK, control_word::DATA0, true);
+        return Next::Asks(
+            Access::Write(Reg::EpRxCtrl, e, word as u32),
+            Point::Words(Dir::Out, e, false, on),
+        );
+    }
+    let word = control_word::word_of(control_word::NAK, control_word::DATA0, true);
+    Next::Asks(
+        Access::Write(Reg::EpRxCtrl, e, word as u32),
+        Point::Words(Dir::Out, e, false, on),
+    )
+}
+
+pub fn after_placed_in(e: u8, iso: bool, on: bool) -> Next
+    ensures { λ r. ⌜ ((v : ℕ) (d : Driver) (b : List ℕ) → meaning r d b ≡ denote (Point.PlacedIn e iso on) v (d, b)) ⌝ }
+{
+    Next::Asks(
+        Access::Write(Reg::EpTLen, e, 0),
+        Point::NoLength(e, iso, on),
+    )
+}
+
+fn both(iso: bool, on: bool) -> bool
+    ensures { λ r. ⌜ r ≡ (iso && on) ⌝ }
+{
+    if iso {
+        return on;
+    }
+    false
+}
+
+// The word of an IN (mod.rs 1318-1324).
+fn in_word(iso: bool, on: bool) -> u8
+    ensures { λ r. ⌜ r ≡ wordOf (cond (iso && on) NYET NAK) DATA0 (not iso) ⌝ }
+{
+    if both(iso, on) {
+        return control_word::word_of(control_word::NYET, control_word::DATA0, !iso);
+    }
+    control_word::word_of(control_word::NAK, control_word::DATA0, !iso)
+}
+
+pub fn after_no_length(e: u8, iso: bool, on: bool) -> Next
+    ensures { λ r. ⌜ ((d : Driver) (b : List ℕ) → meaning r d b ≡ go (afterPlaced e iso on) d b) ⌝ }
+{
+    let word = in_word(iso, on);
+    Next::Asks(
+        Access::Write(Reg::EpTxCtrl, e, word as u32),
+        Point::Words(Dir::In, e, iso, on),
+    )
+}
+
+// ep_type's bit, then ep_config's (mod.rs 1312-1313, 1326-1327).
+pub fn after_words(s: &mut [u8; STATE_LEN], dir: Dir, e: u8, iso: bool, on: bool) -> Next
+    ensures { λ r. ⌜ ((b : List ℕ) → meaning r (view (now (s .exit))) b ≡ go (afterWords dir e iso on) (view (now (s .entry))) b) ⌝ }
+    ensures { λ _. ⌜ saved (now (s .exit)) ≡ saved (now (s .entry)) ⌝ }
+{
+    let g = load_globals(s);
+    let bit = both(iso, on);
+    let word = enables::with_on(g.ep_type, dir, e, bit);
+    set_ep_type(s, word);
+    Next::Asks(Access::Write(Reg::EpType, 0, word), Point::Type(dir, e, on))
+}
+
+pub fn after_type(s: &mut [u8; STATE_LEN], dir: Dir, e: u8, on: bool) -> Next
+    ensures { λ r. ⌜ ((b : List ℕ) → meaning r (view (now (s .exit))) b ≡ go (afterType dir e on) (view (now (s .entry))) b) ⌝ }
+    ensures { λ _. ⌜ saved (now (s .exit)) ≡ saved (now (s .entry)) ⌝ }
+{
+    ops::records::set_enabled(s, dir, e, on);
+    let g = load_globals(s);
+    Next::Asks(
+        Access::Write(Reg::EpConfig, 0, g.ep_config),
+        Point::Woken(dir, e),
+    )
+}
