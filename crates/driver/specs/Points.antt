@@ -115,7 +115,7 @@ meaning (next.Ends n) d b = ends n (d, b)
 abbrev pub awaitsAt : Point → Awaits
 awaitsAt (point.Clear callback) = nothing
 awaitsAt (point.Wait callback) = nothing
-awaitsAt (point.Reset callback) = reading Ctrl
+awaitsAt (point.Reset callback) = reading (widthOf Ctrl)
 awaitsAt (point.ResetEnd callback) = nothing
 awaitsAt (point.Host callback) = nothing
 awaitsAt (point.Run callback) = nothing
@@ -127,7 +127,7 @@ awaitsAt point.Ep0MaxLen = nothing
 awaitsAt point.Ep0Rx = nothing
 awaitsAt point.Ep0Tx = nothing
 awaitsAt point.Ep0Packet = nothing
-awaitsAt point.FrameNo = reading FrameNo
+awaitsAt point.FrameNo = reading (widthOf FrameNo)
 
 abbrev pub Linked : Next → Type 0
 Linked (next.Asks q p) = awaited q ≡ awaitsAt p

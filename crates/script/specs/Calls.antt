@@ -5,8 +5,7 @@ use Prim.Native.Nat.{ℕ, _%_, _*_, _^_}
 use lib.Dec.{eqb, ltb}
 use lib.ListN.{length}
 use Rattle.regs.specs.declared.Dir.{Dir}
-use Rattle.regs.specs.declared.Reg.{Reg}
-use Rattle.regs.specs.Registers.{widthOf, fitsIn}
+use Rattle.regs.specs.Registers.{fitsIn}
 use Rattle.alloc.specs.Buffer.{goodBuffer, fits}
 use Rattle.script.specs.Cells.{globals-cell}
 use Rattle.script.specs.Script.{Script, ret, done, test, _>>=_, _>>_}
@@ -156,8 +155,8 @@ abbrev pub starting : Config → Script false Answer
 starting c = startUp (c .callback)
 
 -- row 16
-abbrev pub tooWide : Reg → ℕ → Bool
-tooWide r v = not (fitsIn v (widthOf r))
+abbrev pub tooWide : ℕ → ℕ → Bool
+tooWide width v = not (fitsIn v width)
 
 abbrev pub calls : Calls Config Op Answer
 calls = record { irq = irq; code = code; slots = slots; aside = passes; starts = starting; refuses = startRow; wide = tooWide; refusal = Refused }

@@ -7,7 +7,7 @@ use lib.Dec.{eqb}
 use lib.ListN.{length}
 use Rattle.regs.specs.declared.Access.{Access}
 use Rattle.regs.specs.declared.Access.the-variants.{Read, Write, Receive, Transmit, Ep0Dma, Wait, Callback}
-use Rattle.regs.specs.declared.Reg.{Reg}
+use Rattle.regs.specs.Registers.{widthOf}
 use Rattle.regs.specs.declared.Dir.{Dir}
 use Rattle.regs.specs.declared.Dir.the-variants.{Out, In}
 use Rattle.script.specs.Tree as tree
@@ -41,13 +41,13 @@ pub data Ans (A : Type 0) : Type 0 where
   handed : Access → Ans A
   told : ℕ → Ans A
 
--- what an operation awaits: a reading, or nothing
+-- what an operation awaits: a reading of so many bits, or nothing
 pub data Awaits : Type 0 where
   nothing : Awaits
-  reading : Reg → Awaits
+  reading : ℕ → Awaits
 
 abbrev pub awaited : Access → Awaits
-awaited (Read r e) = reading r
+awaited (Read r e) = reading (widthOf r)
 awaited (Write r e x) = nothing
 awaited (Receive e x) = nothing
 awaited (Transmit e x) = nothing
@@ -74,7 +74,7 @@ pub record Calls (C Op A : Type 0) : Type 1 where
   pub aside : Op → Bool
   pub starts : C → Script false A
   pub refuses : C → Buf → ℕ
-  pub wide : Reg → ℕ → Bool
+  pub wide : ℕ → ℕ → Bool
   pub refusal : ℕ → A
 
 -- a driver: its operations over its state with the buffer, the state that a start-up makes, the buffer's length, the questions
@@ -86,7 +86,7 @@ pub record Driver (C S : Type 0) : Type 0 where
 
 -- row 16
 abbrev pub over : {C Op A : Type 0} → Calls C Op A → Awaits → ℕ → Bool
-over L (reading r) v = L .wide r v
+over L (reading w) v = L .wide w v
 over L nothing v = false
 
 module _ {C Op A : Type 0} (L : Calls C Op A) {S : Type 0} (D : Driver C S) where
