@@ -1,3 +1,5 @@
 pub mod Questions
 pub mod Numbers
 pub mod Under
+pub mod Begins
+pub mod Starts

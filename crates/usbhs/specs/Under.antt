@@ -98,6 +98,10 @@ driverOf = record {
   question = questionOf;
 }
 
+-- a start-up's inputs
+abbrev pub configOf : ℕ → ℕ → Bool → Config
+configOf size count callback = record { size = size; count = count; callback = callback }
+
 -- what a call comes to
 abbrev pub drive : Call Config Op → Machine Answer Driver → Buf → Ans Answer × Machine Answer Driver
 drive c m b = call calls driverOf (λ s. s) c m b

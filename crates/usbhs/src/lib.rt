@@ -4,6 +4,7 @@ pub mod questions; // questions.rt: pending, overruns, enabled
 pub mod way; // way.rt: what is under way, and how a call ends
 pub mod begins; // begins.rt: the operations' begins
 pub mod proceeds; // proceeds.rt: continue
+pub mod starting; // starting.rt: start-up, allocation, EP0's start
 
 use regs::Access;
 use state::Wakes;
