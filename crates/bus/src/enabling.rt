@@ -42,7 +42,7 @@ fn switch_word(on: bool) -> u32
     2
 }
 
-// An isochronous OUT (mod.rs 1280-1299): every slot armed from the last, its control word, ep_type, ep_config. `n` of these are left.
+// An isochronous OUT (mod.rs 1285-1311): every slot armed from the last, its control word, ep_type, ep_config. `n` of these are left.
 pub fn after_switch(s: &mut [u8; STATE_LEN], buf: &mut [u8], e: u8, on: bool, n: u8) -> Next
     ensures { λ r. ⌜ meaning r (view (now (s .exit))) (now (buf .exit)) ≡ switching e on n (view (now (s .entry)), now (buf .entry)) ⌝ }
     ensures { λ _. ⌜ saved (now (s .exit)) ≡ saved (now (s .entry)) ⌝ }
@@ -93,7 +93,7 @@ pub fn flag_of(on: bool) -> u8
     0
 }
 
-// Not isochronous: armed as soon as it is enabled (mod.rs 1300-1311).
+// Not isochronous: armed as soon as it is enabled (mod.rs 1279-1282, 1296).
 fn set_enabled_out(s: &mut [u8; STATE_LEN], e: u8, on: bool) -> Next
     requires { ⌜ isoOut (view (now s)) Dir.Out e ≡ false ⌝ }
     ensures { λ r. ⌜ ((b : List ℕ) → meaning r (view (now (s .exit))) b ≡ go (enabledOut e on) (view (now (s .entry))) b) ⌝ }
@@ -167,7 +167,7 @@ fn both(iso: bool, on: bool) -> bool
     false
 }
 
-// The word of an IN (mod.rs 1318-1324).
+// The word of an IN (mod.rs 1317-1323).
 fn in_word(iso: bool, on: bool) -> u8
     ensures { λ r. ⌜ r ≡ wordOf (cond (iso && on) NYET NAK) DATA0 (not iso) ⌝ }
 {
@@ -187,7 +187,7 @@ pub fn after_no_length(e: u8, iso: bool, on: bool) -> Next
     )
 }
 
-// ep_type's bit, then ep_config's (mod.rs 1312-1313, 1326-1327).
+// ep_type's bit, then ep_config's (mod.rs 1310-1311, 1324-1325).
 pub fn after_words(s: &mut [u8; STATE_LEN], dir: Dir, e: u8, iso: bool, on: bool) -> Next
     ensures { λ r. ⌜ ((b : List ℕ) → meaning r (view (now (s .exit))) b ≡ go (afterWords dir e iso on) (view (now (s .entry))) b) ⌝ }
     ensures { λ _. ⌜ saved (now (s .exit)) ≡ saved (now (s .entry)) ⌝ }

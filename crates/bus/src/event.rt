@@ -28,7 +28,7 @@ ghost use Rattle.script.specs.Bus as script;
 ghost use Rattle.ops.specs.Conc.{go};
 ghost use Rattle.bus.specs.Points.{afterReset, afterNaked, afterStatus, afterReleased, afterFlags, denote, meaning};
 
-// `poll` (mod.rs 1229-1266).
+// `poll` (mod.rs 1231-1266).
 pub fn poll(s: &mut [u8; STATE_LEN]) -> Next
     ensures { λ r. ⌜ ((b : List ℕ) → meaning r (view (now (s .exit))) b ≡ go script.poll (view (now (s .entry))) b) ⌝ }
     ensures { λ _. ⌜ saved (now (s .exit)) ≡ saved (now (s .entry)) ⌝ }
@@ -67,7 +67,7 @@ pub fn after_status(v: u32) -> Next
     )
 }
 
-// The suspend interrupt is enabled again (mod.rs 1254).
+// The suspend interrupt is enabled again (mod.rs 1254), and the event is by the status.
 pub fn after_released(s: &mut [u8; STATE_LEN], down: bool) -> Next
     ensures { λ r. ⌜ ((b : List ℕ) → meaning r (view (now (s .exit))) b ≡ go (afterReleased down) (view (now (s .entry))) b) ⌝ }
     ensures { λ _. ⌜ saved (now (s .exit)) ≡ saved (now (s .entry)) ⌝ }
@@ -137,7 +137,7 @@ pub fn after_untyped() -> Next
     Next::Asks(Access::Write(Reg::EpBufMod, 0, 0), Point::Single)
 }
 
-// Every record is reset in the call that clears the flag (mod.rs 1212-1215, 1243).
+// Every record is reset in the call that clears the flag (mod.rs 1213-1216, 1245).
 pub fn after_single(s: &mut [u8; STATE_LEN]) -> Next
     ensures { λ r. ⌜ ((v : ℕ) (b : List ℕ) → meaning r (view (now (s .exit))) b ≡ denote Point.Single v (view (now (s .entry)), b)) ⌝ }
     ensures { λ _. ⌜ saved (now (s .exit)) ≡ saved (now (s .entry)) ⌝ }
@@ -146,7 +146,7 @@ pub fn after_single(s: &mut [u8; STATE_LEN]) -> Next
     Next::Asks(Access::Write(Reg::IntFg, 0, flags::BUS_RST), Point::Reset)
 }
 
-// All are woken, and the reset interrupt is enabled again (mod.rs 1217-1220, 1244).
+// All are woken, and the reset interrupt is enabled again (mod.rs 1218-1220, 1247).
 pub fn after_reset(s: &mut [u8; STATE_LEN]) -> Next
     ensures { λ r. ⌜ ((b : List ℕ) → meaning r (view (now (s .exit))) b ≡ go afterReset (view (now (s .entry))) b) ⌝ }
     ensures { λ _. ⌜ saved (now (s .exit)) ≡ saved (now (s .entry)) ⌝ }

@@ -41,7 +41,7 @@ pub fn after_stalled(v: u32) -> Next
     Next::Ends(0)
 }
 
-// Un-stalled: DATA0, automatic but for EP0 and isochronous endpoints (mod.rs 1069-1076, 1083-1090).
+// Un-stalled: DATA0, automatic but for EP0 and isochronous endpoints (mod.rs 1069-1091).
 fn restarted(response: u8, e: u8, r: EpState) -> u8
     ensures { λ w. ⌜ w ≡ script.restarted response e (plainOf r) ⌝ }
 {
@@ -150,7 +150,7 @@ pub fn after_woken(s: &mut [u8; STATE_LEN], dir: Dir, e: u8) -> Next
     Next::Ends(0)
 }
 
-// A write waiting on the stalled endpoint finishes (its data is dropped).
+// A write waiting on the stalled endpoint finishes; its data is dropped (mod.rs 1093-1098).
 pub fn after_restart(s: &mut [u8; STATE_LEN], e: u8, iso: bool) -> Next
     ensures { λ r. ⌜ ((b : List ℕ) → meaning r (view (now (s .exit))) b ≡ go (afterRestart e iso) (view (now (s .entry))) b) ⌝ }
     ensures { λ _. ⌜ saved (now (s .exit)) ≡ saved (now (s .entry)) ⌝ }
