@@ -34,7 +34,11 @@ fn access_word(q: Access) -> u64
 fn end_word(n: u16, w: Wakes) -> u64
     ensures { λ r. ⌜ r ≡ endWord n w ⌝ }
 {
-    5 + n as u64 * 0x100 + w.ins as u64 * 0x100_0000 + w.outs as u64 * 0x100_0000_0000 + w.bus as u64 * 0x100_0000_0000_0000
+    5
+        + n as u64 * 0x100
+        + w.ins as u64 * 0x100_0000
+        + w.outs as u64 * 0x100_0000_0000
+        + w.bus as u64 * 0x100_0000_0000_0000
 }
 
 // The word of a call's answer.
