@@ -1,0 +1,17 @@
+use borrow.Author.Tests.{eq-eqb, ne-eqb}
+use Rattle.usbhs_c.specs.Calls.{dirOf}
+use Rattle.usbhs_c.proofs.inputs.dir_of.Statement.{statement}
+use Rattle.usbhs_c.proofs.inputs.dir_of.Tie as tie
+use Rattle.usbhs_c.proofs.inputs.dir_of.Reads as reads
+use Rattle.usbhs_c.proofs.inputs.dir_of.Lts as lts
+
+returns : tie.Need-returns
+unfolding dirOf
+returns c = simp (eq-eqb _ _ (c .if1 .taken))
+
+returns-2 : tie.Need-returns-2
+unfolding dirOf
+returns-2 c = simp (ne-eqb _ _ (c .if1 .left))
+
+pub dir-of-spec : {M : Type 1} → statement M
+dir-of-spec = tie.close (tie.spec returns returns-2)

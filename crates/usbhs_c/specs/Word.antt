@@ -1,0 +1,41 @@
+-- A call's answer as one word of 64 bits: the kind in bits 0-3, then each number at the bit that include/usbhs.h says
+use mathlib.Core.Path.{_≡_}
+use Prim.Native.Nat.{ℕ, _+_, _*_, _^_}
+use Rattle.regs.specs.declared.Access.{Access}
+use Rattle.regs.specs.declared.Access.the-variants.{Read, Write, Receive, Transmit, Ep0Dma, Wait, Callback}
+use Rattle.regs.specs.Registers.{numberOf}
+use Rattle.state.specs.declared.Wakes.{Wakes}
+use Rattle.usbhs.specs.declared.Step.{Step}
+use Rattle.usbhs.specs.declared.Step.the-variants.{Refused, Asks, Ends}
+
+-- kind 1: register 8-15, endpoint 16-23
+abbrev pub readWord : ℕ → ℕ → ℕ
+readWord register endpoint = 1 + register * 2 ^ 8 + endpoint * 2 ^ 16
+
+-- kind 2: register 8-15, endpoint 16-23, value 32-63
+abbrev pub writeWord : ℕ → ℕ → ℕ → ℕ
+writeWord register endpoint value = 2 + register * 2 ^ 8 + endpoint * 2 ^ 16 + value * 2 ^ 32
+
+-- kinds 1 to 4: the access handed out; the registers 12, 15 and 16 are ep0_dma, ep_rx_dma and ep_tx_dma
+unfoldable pub accessWord : Access → ℕ
+accessWord (Read r e) = readWord (numberOf r) e
+accessWord (Write r e x) = writeWord (numberOf r) e x
+accessWord (Receive e x) = writeWord 15 e x
+accessWord (Transmit e x) = writeWord 16 e x
+accessWord (Ep0Dma x) = writeWord 12 0 x
+accessWord (Wait microseconds) = 3 + microseconds * 2 ^ 8
+accessWord Callback = 4
+
+-- kind 5: result 8-23; wake-ups: 24-39 IN 0-15, 40-55 OUT 0-15, 56 bus
+unfoldable pub endWord : ℕ → Wakes → ℕ
+endWord n w = 5 + n * 2 ^ 8 + w .ins * 2 ^ 24 + w .outs * 2 ^ 40 + w .bus * 2 ^ 56
+
+-- kind 0: the row's number 8-15
+unfoldable pub wordOf : Step → ℕ
+wordOf (Refused n) = n * 2 ^ 8
+wordOf (Asks q) = accessWord q
+wordOf (Ends n w) = endWord n w
+
+-- the word of an answer of which P holds
+abbrev pub Worded : ℕ → (Step → Type 0) → Type 0
+Worded r P = (step : Step) × (r ≡ wordOf step) × P step

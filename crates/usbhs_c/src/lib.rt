@@ -1,0 +1,58 @@
+// The driver's calls for programs in other languages (include/usbhs.h): a direction is 0 for OUT, else IN, a flag 0 for no, else yes, and any
+// number is safe. Each call answers one word (specs/Word.antt), a question its number.
+pub mod word; // word.rt: an answer's word
+pub mod inputs; // inputs.rt: directions and flags as numbers
+
+use inputs::dir_of;
+use state::STATE_LEN;
+use word::word_of;
+ghost use mathlib.Core.Path.{_≡_};
+ghost use Rattle.state.specs.State.{view};
+ghost use Rattle.script.specs.Statics.{flag};
+ghost use Rattle.script.specs.Machine.{begin, go};
+ghost use Rattle.script.specs.Calls.{other, Microframe};
+ghost use Rattle.usbhs.specs.Questions.{pendingOn, overrunsOn, enabledAsked};
+ghost use Rattle.usbhs_c.specs.Calls.{Answers, AnswersLent, dirOf};
+
+// Goes on with the operation under way, with the number brought.
+#[no_mangle]
+pub extern "C" fn usbhs_continue(s: &mut [u8; STATE_LEN], slots: &mut [u8], value: u32) -> u64
+    ensures { λ r. ⌜ AnswersLent r (go value) (now (s .entry)) (now (s .exit)) (now (slots .entry)) (now (slots .exit)) ⌝ }
+{
+    word_of(usbhs::proceeds::proceed(s, slots, value))
+}
+
+// The current microframe number.
+#[no_mangle]
+pub extern "C" fn usbhs_begin_microframe(s: &mut [u8; STATE_LEN]) -> u64
+    ensures { λ r. ⌜ Answers r (begin (other Microframe)) (now (s .entry)) (now (s .exit)) ⌝ }
+{
+    word_of(usbhs::begins::begin_microframe(s))
+}
+
+// The packets queued on the IN endpoint and not yet taken by the host.
+#[no_mangle]
+pub extern "C" fn usbhs_pending(s: &[u8; STATE_LEN], endpoint: u32) -> u32
+    ensures { λ r. ⌜ r ≡ pendingOn (view (now (s .entry))) endpoint ⌝ }
+{
+    usbhs::questions::pending(s, endpoint)
+}
+
+// The packets of the OUT endpoint that were turned away.
+#[no_mangle]
+pub extern "C" fn usbhs_overruns(s: &[u8; STATE_LEN], endpoint: u32) -> u32
+    ensures { λ r. ⌜ r ≡ overrunsOn (view (now (s .entry))) endpoint ⌝ }
+{
+    usbhs::questions::overruns(s, endpoint)
+}
+
+// Whether the host enabled the endpoint: 1 or 0.
+#[no_mangle]
+pub extern "C" fn usbhs_enabled(s: &[u8; STATE_LEN], endpoint: u32, dir: u32) -> u32
+    ensures { λ r. ⌜ r ≡ flag (enabledAsked (view (now (s .entry))) (dirOf dir) endpoint) ⌝ }
+{
+    if usbhs::questions::enabled(s, dir_of(dir), endpoint) {
+        return 1;
+    }
+    0
+}

@@ -1,0 +1,53 @@
+use regs::Access;
+use regs::registers::number;
+use state::Wakes;
+use usbhs::Step;
+ghost use mathlib.Core.Path.{_≡_};
+ghost use Rattle.usbhs_c.specs.Word.{readWord, writeWord, accessWord, endWord, wordOf};
+
+fn read_word(register: u8, endpoint: u8) -> u64
+    ensures { λ r. ⌜ r ≡ readWord register endpoint ⌝ }
+{
+    1 + register as u64 * 0x100 + endpoint as u64 * 0x10000
+}
+
+fn write_word(register: u8, endpoint: u8, value: u32) -> u64
+    ensures { λ r. ⌜ r ≡ writeWord register endpoint value ⌝ }
+{
+    2 + register as u64 * 0x100 + endpoint as u64 * 0x10000 + value as u64 * 0x1_0000_0000
+}
+
+fn access_word(q: Access) -> u64
+    ensures { λ r. ⌜ r ≡ accessWord q ⌝ }
+{
+    match q {
+        Access::Read(r, e) => read_word(number(r), e),
+        Access::Write(r, e, x) => write_word(number(r), e, x),
+        Access::Receive(e, x) => write_word(15, e, x),
+        Access::Transmit(e, x) => write_word(16, e, x),
+        Access::Ep0Dma(x) => write_word(12, 0, x),
+        Access::Wait(n) => 3 + n as u64 * 0x100,
+        Access::Callback => 4,
+    }
+}
+
+fn end_word(n: u16, w: Wakes) -> u64
+    ensures { λ r. ⌜ r ≡ endWord n w ⌝ }
+{
+    5
+        + n as u64 * 0x100
+        + w.ins as u64 * 0x100_0000
+        + w.outs as u64 * 0x100_0000_0000
+        + w.bus as u64 * 0x100_0000_0000_0000
+}
+
+// The word of a call's answer.
+pub fn word_of(step: Step) -> u64
+    ensures { λ r. ⌜ r ≡ wordOf step ⌝ }
+{
+    match step {
+        Step::Refused(n) => n as u64 * 0x100,
+        Step::Asks(q) => access_word(q),
+        Step::Ends(n, w) => end_word(n, w),
+    }
+}

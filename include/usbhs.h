@@ -1,0 +1,109 @@
+/* The USBHS device driver's calls. The driver's state lies in USBHS_STATE_LEN bytes of the caller's, its packets in the caller's
+ * slots; the library has no state of its own. Before the first start-up the state's bytes are to be zero.
+ *
+ * A slice is a pointer and a length. Any number is safe. dir: 0 OUT, else IN. Flags: 0 no, else yes.
+ *
+ * Each call answers one word:
+ *
+ *   kind (bits 0-3)  other bits
+ *   0 refused        8-15 the row's number
+ *   1 read           8-15 register, 16-23 endpoint: usbhs_continue brings the reading
+ *   2 write          8-15 register, 16-23 endpoint, 32-63 value
+ *   3 wait           8-15 microseconds
+ *   4 callback       the start-of-frame callback
+ *   5 end            8-23 result; wake-ups: 24-39 IN 0-15, 40-55 OUT 0-15, 56 bus
+ *
+ * After kinds 1 to 4 the operation is under way: make the access, then call usbhs_continue, with the reading after a read and with any
+ * number after the others. The registers' numbers are those of enum usbhs_register.
+ */
+#ifndef USBHS_H
+#define USBHS_H
+
+#include <stddef.h>
+#include <stdint.h>
+
+#ifdef __cplusplus
+extern "C" {
+#endif
+
+#define USBHS_STATE_LEN 2329
+
+/* The kinds of answer. */
+enum usbhs_kind {
+    USBHS_REFUSED = 0,
+    USBHS_READ = 1,
+    USBHS_WRITE = 2,
+    USBHS_WAIT = 3,
+    USBHS_CALLBACK = 4,
+    USBHS_END = 5
+};
+
+/* The registers. The value of a buffer's register (12, 15, 16) is an offset into the slots. */
+enum usbhs_register {
+    USBHS_INT_FG = 0,
+    USBHS_INT_ST = 1,
+    USBHS_MIS_ST = 2,
+    USBHS_RX_LEN = 3,
+    USBHS_FRAME_NO = 4,
+    USBHS_CTRL = 5,
+    USBHS_INT_EN = 6,
+    USBHS_DEV_AD = 7,
+    USBHS_HOST_CTRL = 8,
+    USBHS_EP_CONFIG = 9,
+    USBHS_EP_TYPE = 10,
+    USBHS_EP_BUF_MOD = 11,
+    USBHS_EP0_DMA = 12,
+    USBHS_EP_MAX_LEN = 13,
+    USBHS_EP_T_LEN = 14,
+    USBHS_EP_RX_DMA = 15,
+    USBHS_EP_TX_DMA = 16,
+    USBHS_EP_RX_CTRL = 17,
+    USBHS_EP_TX_CTRL = 18
+};
+
+#define USBHS_OUT 0u
+#define USBHS_IN 1u
+
+/* `address` of usbhs_allocate where none is asked for. */
+#define USBHS_ANY_ADDRESS 256u
+
+/* The parts of a word. */
+#define USBHS_KIND(word) ((unsigned)((word) & 0xF))
+#define USBHS_ROW(word) ((unsigned)((word) >> 8 & 0xFF))          /* refused */
+#define USBHS_REGISTER(word) ((unsigned)((word) >> 8 & 0xFF))     /* read, write */
+#define USBHS_ENDPOINT(word) ((unsigned)((word) >> 16 & 0xFF))    /* read, write */
+#define USBHS_VALUE(word) ((uint32_t)((word) >> 32))              /* write */
+#define USBHS_MICROSECONDS(word) ((unsigned)((word) >> 8 & 0xFF)) /* wait */
+#define USBHS_RESULT(word) ((unsigned)((word) >> 8 & 0xFFFF))     /* end */
+#define USBHS_WAKES_IN(word) ((unsigned)((word) >> 24 & 0xFFFF))  /* end: bit e is IN e */
+#define USBHS_WAKES_OUT(word) ((unsigned)((word) >> 40 & 0xFFFF)) /* end: bit e is OUT e */
+#define USBHS_WAKES_BUS(word) ((unsigned)((word) >> 56 & 1))      /* end */
+
+/* Start-up, endpoints, EP0's start. */
+uint64_t usbhs_start_up(uint8_t state[USBHS_STATE_LEN], const uint8_t *slots, size_t slots_length, uint32_t size, uint32_t count, uint32_t callback);
+uint64_t usbhs_allocate(uint8_t state[USBHS_STATE_LEN], uint32_t kind, uint32_t address, uint32_t maximum, uint32_t interval, uint32_t dir);
+uint64_t usbhs_start(uint8_t state[USBHS_STATE_LEN], uint32_t maximum);
+
+/* Goes on with the operation under way. */
+uint64_t usbhs_continue(uint8_t state[USBHS_STATE_LEN], uint8_t *slots, size_t slots_length, uint32_t value);
+
+/* The operations. */
+uint64_t usbhs_begin_bus_poll(uint8_t state[USBHS_STATE_LEN]);
+uint64_t usbhs_begin_bus_enable(uint8_t state[USBHS_STATE_LEN]);
+uint64_t usbhs_begin_bus_disable(uint8_t state[USBHS_STATE_LEN]);
+uint64_t usbhs_begin_set_enabled(uint8_t state[USBHS_STATE_LEN], uint8_t *slots, size_t slots_length, uint32_t endpoint, uint32_t dir, uint32_t enabled);
+uint64_t usbhs_begin_set_stalled(uint8_t state[USBHS_STATE_LEN], uint32_t endpoint, uint32_t dir, uint32_t stalled);
+uint64_t usbhs_begin_is_stalled(uint8_t state[USBHS_STATE_LEN], uint32_t endpoint, uint32_t dir);
+uint64_t usbhs_set_paced(uint8_t state[USBHS_STATE_LEN], uint32_t endpoint, uint32_t paced);
+uint64_t usbhs_begin_microframe(uint8_t state[USBHS_STATE_LEN]);
+
+/* The questions, at any time: packets queued on IN, packets of OUT turned away, whether the host enabled the endpoint (1 or 0). */
+uint32_t usbhs_pending(const uint8_t state[USBHS_STATE_LEN], uint32_t endpoint);
+uint32_t usbhs_overruns(const uint8_t state[USBHS_STATE_LEN], uint32_t endpoint);
+uint32_t usbhs_enabled(const uint8_t state[USBHS_STATE_LEN], uint32_t endpoint, uint32_t dir);
+
+#ifdef __cplusplus
+}
+#endif
+
+#endif
