@@ -7,8 +7,8 @@ use lib.Dec.{eqb}
 use Rattle.regs.specs.declared.Dir.{Dir}
 use Rattle.regs.specs.declared.Dir.the-variants.{Out, In}
 use Rattle.state.specs.State.{view}
-use Rattle.script.specs.Calls.{Config, Op}
-use Rattle.script.specs.Machine.{Buf, Call}
+use Rattle.script.specs.Calls.{Config, Op, startRow}
+use Rattle.script.specs.Machine.{Buf, Call, start}
 use Rattle.usbhs.specs.Under.{machineOf, drive, answerOf, lentOr}
 use Rattle.usbhs_c.specs.Word.{Worded}
 
@@ -30,3 +30,9 @@ abbrev pub AnswersLent : ℕ → Call Config Op → List ℕ → List ℕ → Bu
 AnswersLent r c before after slots slots′ =
     Worded r
     (λ step. (a : Buf) → (answerOf step, machineOf after (lentOr (view before) slots slots′ a)) ≡ drive c (machineOf before a) slots)
+
+-- start-up: the slots that it is brought are the run's from then on, unless it is refused
+abbrev pub AnswersStart : ℕ → Config → List ℕ → List ℕ → Buf → Type 0
+AnswersStart r c before after slots =
+    Worded r
+    (λ step. (a : Buf) → (answerOf step, machineOf after (cond (eqb (startRow c slots) 0) slots a)) ≡ drive (start c) (machineOf before a) slots)

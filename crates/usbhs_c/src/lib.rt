@@ -4,15 +4,55 @@ pub mod word; // word.rt: an answer's word
 pub mod inputs; // inputs.rt: directions and flags as numbers
 
 use inputs::dir_of;
+use inputs::flag_of;
 use state::STATE_LEN;
 use word::word_of;
 ghost use mathlib.Core.Path.{_≡_};
 ghost use Rattle.state.specs.State.{view};
 ghost use Rattle.script.specs.Statics.{flag};
-ghost use Rattle.script.specs.Machine.{begin, go};
-ghost use Rattle.script.specs.Calls.{other, Microframe};
+ghost use Rattle.script.specs.Machine.{begin, go, start};
+ghost use Rattle.script.specs.Calls.{other, Microframe, Allocate, Start};
+ghost use Prim.Native.Nat.{_%_};
+ghost use Rattle.usbhs.specs.Under.{configOf};
 ghost use Rattle.usbhs.specs.Questions.{pendingOn, overrunsOn, enabledAsked};
-ghost use Rattle.usbhs_c.specs.Calls.{Answers, AnswersLent, dirOf};
+ghost use Rattle.usbhs_c.specs.Calls.{Answers, AnswersLent, AnswersStart, dirOf, flagOf};
+
+// Start-up on any state, with the buffer's size and count and whether there is a start-of-frame callback.
+#[no_mangle]
+pub extern "C" fn usbhs_start_up(
+    s: &mut [u8; STATE_LEN],
+    slots: &[u8],
+    size: u32,
+    count: u32,
+    callback: u32,
+) -> u64
+    ensures { λ r. ⌜ AnswersStart r (configOf size count (flagOf callback)) (now (s .entry)) (now (s .exit)) (now (slots .entry)) ⌝ }
+{
+    word_of(usbhs::starting::start_up(s, slots, size, count, flag_of(callback)))
+}
+
+// An endpoint; its kind counts modulo 4, and an address of 256 or more asks for none.
+#[no_mangle]
+pub extern "C" fn usbhs_allocate(
+    s: &mut [u8; STATE_LEN],
+    kind: u32,
+    address: u32,
+    maximum: u32,
+    interval: u32,
+    dir: u32,
+) -> u64
+    ensures { λ r. ⌜ Answers r (begin (other (Allocate (dirOf dir) (kind % 4) address maximum interval))) (now (s .entry)) (now (s .exit)) ⌝ }
+{
+    word_of(usbhs::starting::allocate(s, dir_of(dir), (kind % 4) as u8, address, maximum, interval))
+}
+
+// EP0's start, with its maximum.
+#[no_mangle]
+pub extern "C" fn usbhs_start(s: &mut [u8; STATE_LEN], maximum: u32) -> u64
+    ensures { λ r. ⌜ Answers r (begin (other (Start maximum))) (now (s .entry)) (now (s .exit)) ⌝ }
+{
+    word_of(usbhs::starting::start(s, maximum))
+}
 
 // Goes on with the operation under way, with the number brought.
 #[no_mangle]

@@ -1,0 +1,27 @@
+use borrow.Author.Needs.{needs}
+use Rattle.usbhs_c.proofs.usbhs_allocate.Statement.{statement}
+use Rattle.usbhs_c.proofs.usbhs_allocate.Tie as tie
+use Rattle.usbhs_c.proofs.usbhs_allocate.Reads as reads
+use Rattle.usbhs_c.proofs.usbhs_allocate.Lts as lts
+use Rattle.usbhs.proofs.starting.allocate.Reads as allocate-reads
+use Rattle.usbhs_c.proofs.inputs.dir_of.Reads as dir-of-reads
+use Rattle.usbhs_c.proofs.word.word_of.Reads as word-of-reads
+
+dir-of-requires : tie.Need-dir-of-requires
+dir-of-requires c κs = search needs
+
+cast-allocate : tie.Need-cast-allocate
+cast-allocate c = search needs
+
+allocate-requires : tie.Need-allocate-requires
+allocate-requires c κs = search needs
+
+word-of-requires : tie.Need-word-of-requires
+word-of-requires c κs = search needs
+
+returns : tie.Need-returns
+returns c = (_, (c .word-of .ensures, λ a b. simp (c .before .allocate .ensures, c .before .before .dir-of .ensures)))
+
+pub usbhs-allocate-spec : {M : Type 1} → statement M
+usbhs-allocate-spec =
+    tie.close (tie.spec dir-of-requires cast-allocate allocate-requires word-of-requires returns)
