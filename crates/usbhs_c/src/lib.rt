@@ -11,7 +11,7 @@ ghost use mathlib.Core.Path.{_≡_};
 ghost use Rattle.state.specs.State.{view};
 ghost use Rattle.script.specs.Statics.{flag};
 ghost use Rattle.script.specs.Machine.{begin, go, start};
-ghost use Rattle.script.specs.Calls.{other, Microframe, Allocate, Start};
+ghost use Rattle.script.specs.Calls.{other, Microframe, Allocate, Start, SetPaced};
 ghost use Prim.Native.Nat.{_%_};
 ghost use Rattle.usbhs.specs.Under.{configOf};
 ghost use Rattle.usbhs.specs.Questions.{pendingOn, overrunsOn, enabledAsked};
@@ -68,6 +68,14 @@ pub extern "C" fn usbhs_begin_microframe(s: &mut [u8; STATE_LEN]) -> u64
     ensures { λ r. ⌜ Answers r (begin (other Microframe)) (now (s .entry)) (now (s .exit)) ⌝ }
 {
     word_of(usbhs::begins::begin_microframe(s))
+}
+
+// Whether advance moves the IN endpoint on.
+#[no_mangle]
+pub extern "C" fn usbhs_set_paced(s: &mut [u8; STATE_LEN], endpoint: u32, paced: u32) -> u64
+    ensures { λ r. ⌜ Answers r (begin (other (SetPaced endpoint (flagOf paced)))) (now (s .entry)) (now (s .exit)) ⌝ }
+{
+    word_of(usbhs::begins::set_paced(s, endpoint, flag_of(paced)))
 }
 
 // The packets queued on the IN endpoint and not yet taken by the host.

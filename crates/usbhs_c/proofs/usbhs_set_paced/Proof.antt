@@ -1,0 +1,24 @@
+use borrow.Author.Needs.{needs}
+use Rattle.usbhs_c.proofs.usbhs_set_paced.Statement.{statement}
+use Rattle.usbhs_c.proofs.usbhs_set_paced.Tie as tie
+use Rattle.usbhs_c.proofs.usbhs_set_paced.Reads as reads
+use Rattle.usbhs_c.proofs.usbhs_set_paced.Lts as lts
+use Rattle.usbhs.proofs.begins.set_paced.Reads as set-paced-reads
+use Rattle.usbhs_c.proofs.inputs.flag_of.Reads as flag-of-reads
+use Rattle.usbhs_c.proofs.word.word_of.Reads as word-of-reads
+
+flag-of-requires : tie.Need-flag-of-requires
+flag-of-requires c κs = search needs
+
+set-paced-requires : tie.Need-set-paced-requires
+set-paced-requires c κs = search needs
+
+word-of-requires : tie.Need-word-of-requires
+word-of-requires c κs = search needs
+
+returns : tie.Need-returns
+returns c = (_, c .word-of .ensures, λ a b. simp (← c .before .before .flag-of .ensures) (c .before .set-paced .ensures a b))
+
+pub usbhs-set-paced-spec : {M : Type 1} → statement M
+usbhs-set-paced-spec =
+    tie.close (tie.spec flag-of-requires set-paced-requires word-of-requires returns)
