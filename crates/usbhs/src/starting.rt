@@ -15,7 +15,7 @@ ghost use Rattle.script.specs.Calls.{other, Allocate, Start, startRow};
 ghost use Rattle.script.specs.Statics.{flag};
 ghost use Rattle.usbhs.specs.Under.{machineOf, drive, answerOf, configOf};
 
-// An endpoint of the kind, at the address or at any: what is allocated stays where row 8 refuses (mod.rs 953-1043).
+// Allocation (mod.rs 953-1043, endpoint.rs 18-36): rows 6, 7, 8 are the allocator's answer, and what row 8 keeps is in its change.
 pub fn allocate(
     s: &mut [u8; STATE_LEN],
     dir: Dir,
@@ -83,7 +83,7 @@ fn flag_of(on: bool) -> u8
     0
 }
 
-// Start-up on any state (mod.rs 886-951): a refused one changes nothing.
+// Start-up on any state (mod.rs 886-951), whatever is under way: a refused one changes nothing.
 pub fn start_up(
     s: &mut [u8; STATE_LEN],
     slots: &[u8],
