@@ -1,0 +1,143 @@
+use Rattle.control.specs.Codec.{encode}
+use borrow.Author.Needs.{needs}
+use Rattle.control.proofs.codec.encode.Statement.{statement}
+use Rattle.control.proofs.codec.encode.Tie as tie
+use Rattle.control.proofs.codec.encode.Reads as reads
+use Rattle.control.proofs.codec.encode.Lts as lts
+use Rattle.control.proofs.codec.code.Reads as code-reads
+use Rattle.control.proofs.codec.dir_as.Reads as dir-as-reads
+use Rattle.control.proofs.codec.flag_as.Reads as flag-as-reads
+
+enum-told : tie.Need-enum-told
+enum-told c = search needs
+
+code-requires : tie.Need-code-requires
+code-requires c κs = search needs
+
+enum-known-p : tie.Need-enum-known-p
+enum-known-p c = search needs
+
+dir-as-requires : tie.Need-dir-as-requires
+dir-as-requires c κs = search needs
+
+code-requires-2 : tie.Need-code-requires-2
+code-requires-2 c κs = search needs
+
+enum-told-2 : tie.Need-enum-told-2
+enum-told-2 c = search needs
+
+code-requires-3 : tie.Need-code-requires-3
+code-requires-3 c κs = search needs
+
+enum-told-3 : tie.Need-enum-told-3
+enum-told-3 c = search needs
+
+code-requires-4 : tie.Need-code-requires-4
+code-requires-4 c κs = search needs
+
+enum-told-4 : tie.Need-enum-told-4
+enum-told-4 c = search needs
+
+code-requires-5 : tie.Need-code-requires-5
+code-requires-5 c κs = search needs
+
+enum-told-5 : tie.Need-enum-told-5
+enum-told-5 c = search needs
+
+code-requires-6 : tie.Need-code-requires-6
+code-requires-6 c κs = search needs
+
+enum-told-6 : tie.Need-enum-told-6
+enum-told-6 c = search needs
+
+code-requires-7 : tie.Need-code-requires-7
+code-requires-7 c κs = search needs
+
+enum-known-p-2 : tie.Need-enum-known-p-2
+enum-known-p-2 c = search needs
+
+flag-as-requires : tie.Need-flag-as-requires
+flag-as-requires c κs = search needs
+
+code-requires-8 : tie.Need-code-requires-8
+code-requires-8 c κs = search needs
+
+enum-known-p-3 : tie.Need-enum-known-p-3
+enum-known-p-3 c = search needs
+
+flag-as-requires-2 : tie.Need-flag-as-requires-2
+flag-as-requires-2 c κs = search needs
+
+code-requires-9 : tie.Need-code-requires-9
+code-requires-9 c κs = search needs
+
+returns : tie.Need-returns
+unfolding encode
+returns c = simp (c .code .ensures, c .before .enum-told .given .1)
+
+returns-2 : tie.Need-returns-2
+unfolding encode
+returns-2 c = simp (c .code2 .ensures, c .before .dir-as .ensures, c .before .before .before .p .given .1)
+
+returns-3 : tie.Need-returns-3
+unfolding encode
+returns-3 c = simp (c .code3 .ensures, c .before .enum-told2 .given .1)
+
+returns-4 : tie.Need-returns-4
+unfolding encode
+returns-4 c = simp (c .code4 .ensures, c .before .enum-told3 .given .1)
+
+returns-5 : tie.Need-returns-5
+unfolding encode
+returns-5 c = simp (c .code5 .ensures, c .before .enum-told4 .given .1)
+
+returns-6 : tie.Need-returns-6
+unfolding encode
+returns-6 c = simp (c .code6 .ensures, c .before .enum-told5 .given .1)
+
+returns-7 : tie.Need-returns-7
+unfolding encode
+returns-7 c = simp (c .code7 .ensures, c .before .enum-told6 .given .1)
+
+returns-8 : tie.Need-returns-8
+unfolding encode
+returns-8 c = simp (c .code8 .ensures, c .before .flag-as .ensures, c .before .before .before .p2 .given .1)
+
+returns-9 : tie.Need-returns-9
+unfolding encode
+returns-9 c = simp (c .code9 .ensures, c .before .flag-as2 .ensures, c .before .before .before .p3 .given .1)
+
+pub encode-spec : {M : Type 1} → statement M
+encode-spec =
+    tie.close
+    (tie.spec
+    enum-told
+    code-requires
+    enum-known-p
+    dir-as-requires
+    code-requires-2
+    enum-told-2
+    code-requires-3
+    enum-told-3
+    code-requires-4
+    enum-told-4
+    code-requires-5
+    enum-told-5
+    code-requires-6
+    enum-told-6
+    code-requires-7
+    enum-known-p-2
+    flag-as-requires
+    code-requires-8
+    enum-known-p-3
+    flag-as-requires-2
+    code-requires-9
+    returns
+    returns-2
+    returns-3
+    returns-4
+    returns-5
+    returns-6
+    returns-7
+    returns-8
+    returns-9)

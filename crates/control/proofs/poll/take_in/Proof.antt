@@ -1,0 +1,57 @@
+use mathlib.Core.Path.{_∙_}
+use borrow.Author.Needs.{needs}
+use Rattle.control.proofs.poll.take_in.Statement.{statement}
+use Rattle.control.proofs.poll.take_in.Tie as tie
+use Rattle.control.proofs.poll.take_in.Reads as reads
+use Rattle.control.proofs.poll.take_in.Lts as lts
+use Rattle.control.proofs.checks.set_request.Reads as set-request-reads
+use Rattle.control.proofs.poll.take_closing.Reads as take-closing-reads
+use Rattle.control.proofs.poll.wait_on.Reads as wait-on-reads
+use Rattle.ops.proofs.rings.is_on.Reads as is-on-reads
+use Rattle.request.proofs.unready.Reads as unready-reads
+use Rattle.state.proofs.load_ep.Reads as load-ep-reads
+
+load-ep-requires : tie.Need-load-ep-requires
+load-ep-requires c κs = search needs
+
+is-on-requires : tie.Need-is-on-requires
+is-on-requires c κs = search needs
+
+is-on-requires-2 : tie.Need-is-on-requires-2
+is-on-requires-2 c κs = search needs
+
+take-closing-requires : tie.Need-take-closing-requires
+take-closing-requires c κs = search needs
+
+returns : tie.Need-returns
+returns c = (λ b. simp (c .take-closing .ensures .0, c .before .before .if2 .taken, ← c .before .before .before .is-on2 .ensures, c .before .before .before .before .if1 .taken, ← c .before .before .before .before .before .is-on .ensures, ← c .before .before .before .before .before .before .load-ep .ensures), c .take-closing .ensures .1)
+
+unready-requires : tie.Need-unready-requires
+unready-requires c κs = search needs
+
+set-request-requires : tie.Need-set-request-requires
+set-request-requires c κs = search needs
+
+returns-2 : tie.Need-returns-2
+returns-2 c = (λ b. simp (c .set-request .ensures .0, c .before .before .unready .ensures .0, c .before .before .before .before .if2 .left, ← c .before .before .before .before .before .is-on2 .ensures, c .before .before .before .before .before .before .if1 .taken, ← c .before .before .before .before .before .before .before .is-on .ensures, ← c .before .before .before .before .before .before .before .before .load-ep .ensures), c .set-request .ensures .1 ∙ c .before .before .unready .ensures .1)
+
+wait-on-requires : tie.Need-wait-on-requires
+wait-on-requires c κs = search needs
+
+returns-3 : tie.Need-returns-3
+returns-3 c = (λ b. simp (c .wait-on .ensures .0, c .before .before .if1 .left, ← c .before .before .before .is-on .ensures, ← c .before .before .before .before .load-ep .ensures), c .wait-on .ensures .1)
+
+pub take-in-spec : {M : Type 1} → statement M
+take-in-spec =
+    tie.close
+    (tie.spec
+    load-ep-requires
+    is-on-requires
+    is-on-requires-2
+    take-closing-requires
+    returns
+    unready-requires
+    set-request-requires
+    returns-2
+    wait-on-requires
+    returns-3)

@@ -1,0 +1,86 @@
+-- A point as numbers, and back
+use mathlib.Core.Path.{_≡_, refl}
+use mathlib.Core.Bool.{Bool, true, false, cond}
+use Prim.Native.Nat.{ℕ}
+use lib.Dec.{eqb}
+use Rattle.regs.specs.declared.Dir.{Dir}
+use Rattle.regs.specs.declared.Dir.the-variants.{Out, In}
+use Rattle.state.specs.declared.Saved.{Saved}
+use Rattle.script.specs.Statics.{isOn, flag}
+use Rattle.control.specs.declared.Point.{Point}
+use Rattle.control.specs.declared.Point.the-variants as point
+
+abbrev pub dirAs : Dir → ℕ
+dirAs Out = 0
+dirAs In = 1
+
+abbrev pub dirOf : ℕ → Dir
+dirOf n = cond (eqb n 0) Out In
+
+-- the point's number, its direction, its flag and its length
+abbrev pub code : ℕ → ℕ → ℕ → ℕ → Saved
+code sub site f n = record {
+  tag = 0;
+  sub = sub;
+  site = site;
+  flag = f;
+  busy = 0;
+  late = 0;
+  «len_ok» = 0;
+  st = 0;
+  now = 0;
+  ep = 0;
+  len = n;
+  frame = 0;
+  eps = 0;
+  n = 0;
+  value = 0;
+}
+
+unfoldable pub encode : Point → Saved
+encode point.Wrote = code 0 0 0 0
+encode (point.Ack d) = code 1 (dirAs d) 0 0
+encode point.StatusLen = code 2 0 0 0
+encode point.Status = code 3 0 0 0
+encode point.StallIn = code 4 0 0 0
+encode point.StalledIn = code 5 0 0 0
+encode point.StallOut = code 6 0 0 0
+encode (point.Closing n first) = code 7 0 (flag first) n
+encode (point.Loaded first) = code 8 0 (flag first) 0
+
+-- by the number
+abbrev pub byNumber : ℕ → Saved → Point
+byNumber k c =
+    cond (eqb k 1) (point.Ack (dirOf (c .site)))
+    (cond (eqb k 2) point.StatusLen
+    (cond (eqb k 3) point.Status
+    (cond (eqb k 4) point.StallIn
+    (cond (eqb k 5) point.StalledIn
+    (cond (eqb k 6) point.StallOut
+    (cond (eqb k 7) (point.Closing (c .len) (isOn (c .flag)))
+    (cond (eqb k 8) (point.Loaded (isOn (c .flag)))
+    point.Wrote)))))))
+
+unfoldable pub decode : Saved → Point
+decode c = byNumber (c .sub) c
+
+flag-back : (b : Bool) → isOn (flag b) ≡ b
+unfolding isOn
+flag-back true = refl
+flag-back false = refl
+
+dir-back : (d : Dir) → dirOf (dirAs d) ≡ d
+dir-back Out = refl
+dir-back In = refl
+
+pub decode-encode : (p : Point) → decode (encode p) ≡ p
+unfolding encode decode
+decode-encode point.Wrote = refl
+decode-encode (point.Ack d) = simp dir-back
+decode-encode point.StatusLen = refl
+decode-encode point.Status = refl
+decode-encode point.StallIn = refl
+decode-encode point.StalledIn = refl
+decode-encode point.StallOut = refl
+decode-encode (point.Closing n first) = simp flag-back
+decode-encode (point.Loaded first) = simp flag-back

@@ -1,0 +1,119 @@
+-- What is left to run at each point, and what the answers of the control pipe's calls mean
+use mathlib.Core.Path.{_≡_, refl}
+use mathlib.Core.Bool.{Bool, true, false}
+use mathlib.Core.List.{List, [], _++_}
+use Prim.Native.Nat.{ℕ}
+use lib.ListN.{take}
+use Rattle.regs.specs.declared.Reg.the-variants.{DevAd, EpTLen, EpRxCtrl, EpTxCtrl}
+use Rattle.regs.specs.declared.Dir.{Dir}
+use Rattle.regs.specs.declared.Dir.the-variants.{Out, In}
+use Rattle.regs.specs.Registers.{ctrlOf, widthOf, fitsIn}
+use Rattle.regs.specs.ControlWord.{ack, stall, status}
+use Rattle.state.specs.Driver.{Driver}
+use Rattle.marks.specs.Copies.{over}
+use Rattle.script.specs.Tree as tree
+use Rattle.script.specs.Tree.{ends, asks}
+use Rattle.script.specs.Cells.{wakes-cell}
+use Rattle.script.specs.Script.{Script, run, ret, _>>=_, _>>_, read, write, get}
+use Rattle.script.specs.Statics.{withArmed, modifyEp, modifyReg}
+use Rattle.script.specs.Answers.{Answer, Refused, End, NotYet, Done, Shown}
+use Rattle.script.specs.Control.{acks, wordBytes}
+use Rattle.ops.specs.Rings.{St}
+use Rattle.ops.specs.Conc.{conc}
+use Rattle.control.specs.declared.Point.{Point}
+use Rattle.control.specs.declared.Point.the-variants as point
+use Rattle.control.specs.declared.Next.{Next}
+use Rattle.control.specs.declared.Next.the-variants as next
+use Rattle.control.specs.declared.Begun.{Begun}
+use Rattle.control.specs.declared.Begun.the-variants as begun
+use Rattle.control.specs.declared.Polled.{Polled}
+use Rattle.control.specs.declared.Polled.the-variants as polled
+
+-- data_in after its closing OUT
+abbrev pub loaded : ℕ → Bool → Script false Unit
+loaded n first = do
+  modifyEp In 0 (withArmed 1)
+  write EpTLen 0 n
+  acks In first
+
+abbrev pub denote : Point → ℕ → Script false ℕ
+denote point.Wrote v = ret {A = ℕ} 0
+denote (point.Ack d) v = do
+  write (ctrlOf d) 0 (ack v)
+  ret 0
+denote point.StatusLen v = do
+  modifyReg EpTxCtrl 0 status
+  ret 0
+denote point.Status v = do
+  write EpTxCtrl 0 (status v)
+  ret 0
+denote point.StallIn v = do
+  write EpTxCtrl 0 (stall v)
+  modifyReg EpRxCtrl 0 stall
+  ret 0
+denote point.StalledIn v = do
+  modifyReg EpRxCtrl 0 stall
+  ret 0
+denote point.StallOut v = do
+  write EpRxCtrl 0 (stall v)
+  ret 0
+denote (point.Closing n first) v = do
+  loaded n first
+  ret 0
+denote (point.Loaded first) v = do
+  acks In first
+  ret 0
+
+-- row 16 turned round: what was read at the point fits its register
+unfoldable pub fitsAt : Point → ℕ → Bool
+fitsAt point.Wrote v = true
+fitsAt (point.Ack d) v = fitsIn v (widthOf (ctrlOf d))
+fitsAt point.StatusLen v = true
+fitsAt point.Status v = fitsIn v (widthOf EpTxCtrl)
+fitsAt point.StallIn v = fitsIn v (widthOf EpTxCtrl)
+fitsAt point.StalledIn v = true
+fitsAt point.StallOut v = fitsIn v (widthOf EpRxCtrl)
+fitsAt (point.Closing n first) v = true
+fitsAt (point.Loaded first) v = true
+
+pub ctrl-width : (d : Dir) → widthOf (ctrlOf d) ≡ 8
+ctrl-width Out = refl
+ctrl-width In = refl
+
+-- the operation's end, with its wake-ups (`operation`)
+abbrev pub finished : Script false ℕ → Script false Answer
+finished p = do
+  n ← p
+  w ← get wakes-cell
+  ret (End n w)
+
+-- the next access and the point at which it stops, or the result
+abbrev pub meaning : Next → Driver → List ℕ → tree.Out St ℕ
+meaning (next.Asks q p) d b = asks q (d, b) (λ v t. run conc (denote p v) t)
+meaning (next.Ends n) d b = ends n (d, b)
+
+-- a begin's answer
+abbrev pub begunAs : Begun → Driver → List ℕ → tree.Out St Answer
+begunAs (begun.Refused n) d b = ends (Refused n) (d, b)
+begunAs (begun.Asks q p) d b = asks q (d, b) (λ v t. run conc (finished (denote p v)) t)
+begunAs (begun.Ends n) d b = ends (End n (d .wakes)) (d, b)
+
+-- a poll's, with the slice it was lent: Done n brings the slice's first n bytes, Setup the packet as two words
+abbrev pub polledAs : Polled → List ℕ → Driver → List ℕ → tree.Out St Answer
+polledAs (polled.Refused n) out d b = ends (Refused n) (d, b)
+polledAs polled.NotYet out d b = ends NotYet (d, b)
+polledAs (polled.Done n) out d b = ends (Done (take n out)) (d, b)
+polledAs (polled.Setup low high) out d b = ends (Done (wordBytes low ++ wordBytes high)) (d, b)
+polledAs (polled.Asks q p) out d b = asks q (d, b) (λ v t. run conc (finished (denote p v)) t)
+
+-- the lent slice after a poll: the bytes that it brought at its front
+abbrev pub broughtBy : Answer → List ℕ → List ℕ
+broughtBy (Done bytes) out = over bytes out
+broughtBy (Refused n) out = out
+broughtBy (End n w) out = out
+broughtBy NotYet out = out
+broughtBy (Shown bytes) out = out
+
+abbrev pub lentAfter : tree.Out St Answer → List ℕ → List ℕ
+lentAfter (ends a s) out = broughtBy a out
+lentAfter (asks q s k) out = out

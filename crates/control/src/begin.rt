@@ -1,0 +1,169 @@
+// The begins of the control pipe's stages.
+use crate::Begun;
+use crate::Point;
+use crate::checks::ACCEPT;
+use crate::checks::DATA_OUT;
+use crate::checks::SETUP;
+use crate::checks::arm_out;
+use crate::checks::close_out;
+use crate::checks::is_above;
+use crate::checks::is_started;
+use crate::checks::set_address;
+use crate::checks::set_data_in;
+use crate::checks::set_request;
+use crate::codec::flag_as;
+use ops::rings::fill0;
+use ops::rings::is_on;
+use regs::Access;
+use regs::Dir;
+use regs::Reg;
+use regs::control_word::ACK;
+use regs::control_word::DATA1;
+use regs::control_word::word_of;
+use request::length16;
+use request::set_armed;
+use request::unready;
+use state::STATE_LEN;
+use state::clear_wakes;
+use state::load_globals;
+ghost use mathlib.Core.Path.{_≡_};
+ghost use mathlib.Core.Bool.{true, false};
+ghost use mathlib.Core.List.{List};
+ghost use Prim.Native.Nat.{ℕ};
+ghost use Rattle.state.specs.State.{view, saved};
+ghost use Rattle.script.specs.Control.{beginSetup, beginDataOut, beginDataIn, beginAccept, beginAcceptSetAddress, beginReject};
+ghost use Rattle.ops.specs.Conc.{go};
+ghost use Rattle.control.specs.Points.{begunAs};
+
+// `setup`, control.rs 70-80.
+pub fn begin_setup(s: &mut [u8; STATE_LEN]) -> Begun
+    ensures { λ r. ⌜ ((b : List ℕ) → begunAs r (view (now (s .exit))) b ≡ go {i = false} beginSetup (view (now (s .entry))) b) ⌝ }
+    ensures { λ _. ⌜ saved (now (s .exit)) ≡ saved (now (s .entry)) ⌝ }
+{
+    let g = load_globals(s);
+    if is_started(g) {
+        set_request(s, SETUP, 0);
+        clear_wakes(s);
+        return Begun::Ends(0);
+    }
+    Begun::Refused(4)
+}
+
+// `data_out`, 82-115, into a slice of n bytes.
+pub fn begin_data_out(s: &mut [u8; STATE_LEN], n: u32, first: bool) -> Begun
+    ensures { λ r. ⌜ ((b : List ℕ) → begunAs r (view (now (s .exit))) b ≡ go {i = false} (beginDataOut n first) (view (now (s .entry))) b) ⌝ }
+    ensures { λ _. ⌜ saved (now (s .exit)) ≡ saved (now (s .entry)) ⌝ }
+{
+    let g = load_globals(s);
+    if !is_started(g) {
+        return Begun::Refused(4);
+    }
+    if is_above(g, n as usize) {
+        return Begun::Refused(10);
+    }
+    if is_on(g.setup_ready) {
+        return Begun::Refused(9);
+    }
+    let k = length16(n as usize, g.ep0_max);
+    set_request(s, DATA_OUT, n);
+    clear_wakes(s);
+    arm_out(s, k);
+    if first {
+        let w = word_of(ACK, DATA1, false);
+        return Begun::Asks(Access::Write(Reg::EpRxCtrl, 0, w as u32), Point::Wrote);
+    }
+    Begun::Asks(Access::Read(Reg::EpRxCtrl, 0), Point::Ack(Dir::Out))
+}
+
+// `data_in`, 117-161: the packet into EP0's slot; with the last one the status stage's OUT right away.
+pub fn begin_data_in(
+    s: &mut [u8; STATE_LEN],
+    buf: &mut [u8],
+    bytes: &[u8],
+    first: bool,
+    last: bool,
+) -> Begun
+    ensures { λ r. ⌜ begunAs r (view (now (s .exit))) (now (buf .exit)) ≡ go {i = false} (beginDataIn (now (bytes .entry)) first last) (view (now (s .entry))) (now (buf .entry)) ⌝ }
+    ensures { λ _. ⌜ saved (now (s .exit)) ≡ saved (now (s .entry)) ⌝ }
+{
+    let g = load_globals(s);
+    if !is_started(g) {
+        return Begun::Refused(4);
+    }
+    if is_above(g, bytes.len()) {
+        return Begun::Refused(10);
+    }
+    if is_on(g.setup_ready) {
+        return Begun::Refused(9);
+    }
+    let n = length16(bytes.len(), g.ep0_max);
+    set_data_in(s, n as u32, flag_as(last), 1);
+    clear_wakes(s);
+    fill0(s, buf, bytes);
+    unready(s, Dir::In, 0);
+    if last {
+        close_out(s);
+        let w = word_of(ACK, DATA1, false);
+        return Begun::Asks(
+            Access::Write(Reg::EpRxCtrl, 0, w as u32),
+            Point::Closing(n, first),
+        );
+    }
+    set_armed(s, Dir::In, 0, 1);
+    Begun::Asks(
+        Access::Write(Reg::EpTLen, 0, n as u32),
+        Point::Loaded(first),
+    )
+}
+
+// `accept`, 26-46, 163-166.
+pub fn begin_accept(s: &mut [u8; STATE_LEN]) -> Begun
+    ensures { λ r. ⌜ ((b : List ℕ) → begunAs r (view (now (s .exit))) b ≡ go {i = false} beginAccept (view (now (s .entry))) b) ⌝ }
+    ensures { λ _. ⌜ saved (now (s .exit)) ≡ saved (now (s .entry)) ⌝ }
+{
+    let g = load_globals(s);
+    if !is_started(g) {
+        return Begun::Refused(4);
+    }
+    if is_on(g.setup_ready) {
+        return Begun::Refused(9);
+    }
+    set_request(s, ACCEPT, 0);
+    clear_wakes(s);
+    unready(s, Dir::In, 0);
+    Begun::Asks(Access::Write(Reg::EpTLen, 0, 0), Point::StatusLen)
+}
+
+// `accept_set_address`, 179-186.
+pub fn begin_accept_set_address(s: &mut [u8; STATE_LEN], address: u32) -> Begun
+    ensures { λ r. ⌜ ((b : List ℕ) → begunAs r (view (now (s .exit))) b ≡ go {i = false} (beginAcceptSetAddress address) (view (now (s .entry))) b) ⌝ }
+    ensures { λ _. ⌜ saved (now (s .exit)) ≡ saved (now (s .entry)) ⌝ }
+{
+    let g = load_globals(s);
+    if !is_started(g) {
+        return Begun::Refused(4);
+    }
+    if is_on(g.setup_ready) {
+        return Begun::Refused(9);
+    }
+    set_address(s, (address % 256) as u8);
+    clear_wakes(s);
+    unready(s, Dir::In, 0);
+    Begun::Asks(Access::Write(Reg::EpTLen, 0, 0), Point::StatusLen)
+}
+
+// `reject`, 168-177.
+pub fn begin_reject(s: &mut [u8; STATE_LEN]) -> Begun
+    ensures { λ r. ⌜ ((b : List ℕ) → begunAs r (view (now (s .exit))) b ≡ go {i = false} beginReject (view (now (s .entry))) b) ⌝ }
+    ensures { λ _. ⌜ saved (now (s .exit)) ≡ saved (now (s .entry)) ⌝ }
+{
+    let g = load_globals(s);
+    if is_started(g) {
+        set_request(s, 0, 0);
+        clear_wakes(s);
+        set_armed(s, Dir::Out, 0, 0);
+        set_armed(s, Dir::In, 0, 0);
+        return Begun::Asks(Access::Read(Reg::EpTxCtrl, 0), Point::StallIn);
+    }
+    Begun::Refused(4)
+}

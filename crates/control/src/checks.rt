@@ -1,0 +1,120 @@
+// The checks before a stage (rows 4, 15 and 10), the pipe's request, and EP0's record where a stage begins.
+use regs::Dir;
+use state::Control;
+use state::Globals;
+use state::STATE_LEN;
+use state::load_ep;
+use state::store_control;
+use state::store_ep;
+ghost use mathlib.Core.Path.{_≡_};
+ghost use lib.Dec.{eqb, ltb};
+ghost use Rattle.regs.specs.declared.Dir.the-variants.{Out, In};
+ghost use Rattle.state.specs.Driver.{withControl};
+ghost use Rattle.state.specs.State.{view, saved};
+ghost use Rattle.script.specs.Statics.{withReady, withLen, withArmed};
+ghost use Rattle.script.specs.Control.{requestOf, dataInOf, addressOf};
+ghost use Rattle.request.specs.Records.{modifiedOn};
+
+pub const SETUP: u8 = 1;
+
+pub const DATA_OUT: u8 = 2;
+
+pub const DATA_IN: u8 = 3;
+
+pub const ACCEPT: u8 = 4;
+
+// After EP0's start (row 4 turned round)?
+pub fn is_started(g: Globals) -> bool
+    ensures { λ r. ⌜ r ≡ eqb (g .stage) 2 ⌝ }
+{
+    g.stage == 2
+}
+
+// Is the request of this sort (row 15 turned round)?
+pub fn is_sort(c: Control, sort: u8) -> bool
+    ensures { λ r. ⌜ r ≡ eqb (c .sort) sort ⌝ }
+{
+    c.sort == sort
+}
+
+// More than EP0's maximum (row 10)?
+pub fn is_above(g: Globals, n: usize) -> bool
+    ensures { λ r. ⌜ r ≡ ltb (g .«ep0_max») n ⌝ }
+{
+    (g.ep0_max as usize) < n
+}
+
+// The request that an accepted begin leaves; of sort 0, none.
+pub fn set_request(s: &mut [u8; STATE_LEN], sort: u8, n: u32)
+    ensures { λ _. ⌜ view (now (s .exit)) ≡ withControl (view (now (s .entry))) (requestOf sort n) ⌝ }
+    ensures { λ _. ⌜ saved (now (s .exit)) ≡ saved (now (s .entry)) ⌝ }
+{
+    store_control(
+        s,
+        Control {
+            sort,
+            length: n,
+            last: 0,
+            wait: 0,
+            sets_address: 0,
+            address: 0,
+        },
+    );
+}
+
+pub fn set_data_in(s: &mut [u8; STATE_LEN], n: u32, last: u8, wait: u8)
+    ensures { λ _. ⌜ view (now (s .exit)) ≡ withControl (view (now (s .entry))) (dataInOf n last wait) ⌝ }
+    ensures { λ _. ⌜ saved (now (s .exit)) ≡ saved (now (s .entry)) ⌝ }
+{
+    store_control(
+        s,
+        Control {
+            sort: DATA_IN,
+            length: n,
+            last,
+            wait,
+            sets_address: 0,
+            address: 0,
+        },
+    );
+}
+
+pub fn set_address(s: &mut [u8; STATE_LEN], address: u8)
+    ensures { λ _. ⌜ view (now (s .exit)) ≡ withControl (view (now (s .entry))) (addressOf address) ⌝ }
+    ensures { λ _. ⌜ saved (now (s .exit)) ≡ saved (now (s .entry)) ⌝ }
+{
+    store_control(
+        s,
+        Control {
+            sort: ACCEPT,
+            length: 0,
+            last: 0,
+            wait: 0,
+            sets_address: 1,
+            address,
+        },
+    );
+}
+
+// OUT 0 awaits a packet of at most n bytes.
+pub fn arm_out(s: &mut [u8; STATE_LEN], n: u16)
+    ensures { λ _. ⌜ view (now (s .exit)) ≡ modifiedOn Out 0 (λ p. withArmed 1 (withLen n (withReady 0 p))) (view (now (s .entry))) ⌝ }
+    ensures { λ _. ⌜ saved (now (s .exit)) ≡ saved (now (s .entry)) ⌝ }
+{
+    let mut r = load_ep(s, Dir::Out, 0);
+    r.ready = 0;
+    r.len = n;
+    r.armed = 1;
+    store_ep(s, Dir::Out, 0, r);
+}
+
+// OUT 0 awaits the status stage's empty packet.
+pub fn close_out(s: &mut [u8; STATE_LEN])
+    ensures { λ _. ⌜ view (now (s .exit)) ≡ modifiedOn Out 0 (λ p. withLen 0 (withReady 0 p)) (view (now (s .entry))) ⌝ }
+    ensures { λ _. ⌜ saved (now (s .exit)) ≡ saved (now (s .entry)) ⌝ }
+{
+    let mut r = load_ep(s, Dir::Out, 0);
+    r.ready = 0;
+    r.len = 0;
+    store_ep(s, Dir::Out, 0, r);
+}

@@ -1,0 +1,219 @@
+// The polls of the control pipe's stages.
+use crate::Point;
+use crate::Polled;
+use crate::checks::ACCEPT;
+use crate::checks::DATA_IN;
+use crate::checks::DATA_OUT;
+use crate::checks::SETUP;
+use crate::checks::is_sort;
+use crate::checks::is_started;
+use crate::checks::set_data_in;
+use crate::checks::set_request;
+use ops::rings::is_on;
+use regs::Access;
+use regs::Dir;
+use regs::Reg;
+use request::fetch;
+use request::unready;
+use state::Control;
+use state::STATE_LEN;
+use state::clear_wakes;
+use state::load_control;
+use state::load_ep;
+use state::load_globals;
+use state::store_globals;
+ghost use mathlib.Core.Path.{_≡_};
+ghost use mathlib.Core.Bool.{true, false, cond};
+ghost use mathlib.Core.List.{List, []};
+ghost use Prim.Native.Nat.{ℕ};
+ghost use lib.Dec.{eqb, ltb};
+ghost use lib.ListN.{length};
+ghost use Rattle.state.specs.Driver.{Driver};
+ghost use Rattle.state.specs.State.{view, saved};
+ghost use Rattle.script.specs.Tree.{ends};
+ghost use Rattle.script.specs.Answers.{Refused, Done};
+ghost use Rattle.script.specs.Control.{pollSetup, pollDataOut, pollDataIn, pollAccept, aborted-else, take-out, take-closing, take-in};
+ghost use Rattle.script.specs.Script.{ret};
+ghost use Rattle.script.specs.Answers.{NotYet};
+ghost use Rattle.ops.specs.Conc.{go};
+ghost use Rattle.control.specs.Points.{polledAs, lentAfter};
+
+// Not ready yet, or a setup packet ends the stage (`complete`, control.rs 48-61).
+fn wait_on(s: &mut [u8; STATE_LEN]) -> Polled
+    ensures { λ r. ⌜ ((out b : List ℕ) → polledAs r out (view (now (s .exit))) b ≡ go {i = false} (aborted-else (ret NotYet)) (view (now (s .entry))) b) ⌝ }
+    ensures { λ _. ⌜ saved (now (s .exit)) ≡ saved (now (s .entry)) ⌝ }
+{
+    let g = load_globals(s);
+    if is_on(g.setup_ready) {
+        set_request(s, 0, 0);
+        return Polled::Refused(9);
+    }
+    Polled::NotYet
+}
+
+// `setup`, 70-80.
+pub fn poll_setup(s: &mut [u8; STATE_LEN]) -> Polled
+    ensures { λ r. ⌜ ((b : List ℕ) → polledAs r [] (view (now (s .exit))) b ≡ go {i = false} pollSetup (view (now (s .entry))) b) ⌝ }
+    ensures { λ _. ⌜ saved (now (s .exit)) ≡ saved (now (s .entry)) ⌝ }
+{
+    let mut g = load_globals(s);
+    if !is_started(g) {
+        return Polled::Refused(4);
+    }
+    let c = load_control(s);
+    if !is_sort(c, SETUP) {
+        return Polled::Refused(15);
+    }
+    if is_on(g.setup_ready) {
+        g.setup_ready = 0;
+        store_globals(s, g);
+        set_request(s, 0, 0);
+        return Polled::Setup(g.setup_low, g.setup_high);
+    }
+    Polled::NotYet
+}
+
+// `accept` and `accept_set_address`, 26-46: the address changes only after the status stage.
+pub fn poll_accept(s: &mut [u8; STATE_LEN]) -> Polled
+    ensures { λ r. ⌜ ((b : List ℕ) → polledAs r [] (view (now (s .exit))) b ≡ go {i = false} pollAccept (view (now (s .entry))) b) ⌝ }
+    ensures { λ _. ⌜ saved (now (s .exit)) ≡ saved (now (s .entry)) ⌝ }
+{
+    let g = load_globals(s);
+    if !is_started(g) {
+        return Polled::Refused(4);
+    }
+    let c = load_control(s);
+    if !is_sort(c, ACCEPT) {
+        return Polled::Refused(15);
+    }
+    let r = load_ep(s, Dir::In, 0);
+    if is_on(r.ready) {
+        unready(s, Dir::In, 0);
+        set_request(s, 0, 0);
+        if is_on(c.sets_address) {
+            clear_wakes(s);
+            let a = c.address % 128;
+            return Polled::Asks(Access::Write(Reg::DevAd, 0, a as u32), Point::Wrote);
+        }
+        return Polled::Done(0);
+    }
+    wait_on(s)
+}
+
+// The closing OUT must be empty.
+fn closed(n: u16) -> Polled
+    ensures { λ r. ⌜ ((d : Driver) (b : List ℕ) → polledAs r [] d b ≡ ends (cond (eqb n 0) (Done []) (Refused 10)) (d, b)) ⌝ }
+{
+    if n == 0 {
+        return Polled::Done(0);
+    }
+    Polled::Refused(10)
+}
+
+// The second wait of the last data_in, for the closing OUT; `both`: together with the data packet's completion.
+fn take_closing(s: &mut [u8; STATE_LEN], both: bool, c: Control) -> Polled
+    ensures { λ r. ⌜ ((b : List ℕ) → polledAs r [] (view (now (s .exit))) b ≡ go {i = false} (take-closing both c) (view (now (s .entry))) b) ⌝ }
+    ensures { λ _. ⌜ saved (now (s .exit)) ≡ saved (now (s .entry)) ⌝ }
+{
+    let r = load_ep(s, Dir::Out, 0);
+    if is_on(r.ready) {
+        unready(s, Dir::Out, 0);
+        if both {
+            unready(s, Dir::In, 0);
+            set_request(s, 0, 0);
+            return closed(r.len);
+        }
+        set_request(s, 0, 0);
+        return closed(r.len);
+    }
+    let g = load_globals(s);
+    if is_on(g.setup_ready) {
+        set_request(s, 0, 0);
+        return Polled::Refused(9);
+    }
+    if both {
+        unready(s, Dir::In, 0);
+        set_data_in(s, c.length, c.last, 2);
+        return Polled::NotYet;
+    }
+    Polled::NotYet
+}
+
+// The first wait, for the data packet.
+fn take_in(s: &mut [u8; STATE_LEN], c: Control) -> Polled
+    ensures { λ r. ⌜ ((b : List ℕ) → polledAs r [] (view (now (s .exit))) b ≡ go {i = false} (take-in c) (view (now (s .entry))) b) ⌝ }
+    ensures { λ _. ⌜ saved (now (s .exit)) ≡ saved (now (s .entry)) ⌝ }
+{
+    let r = load_ep(s, Dir::In, 0);
+    if is_on(r.ready) {
+        if is_on(c.last) {
+            return take_closing(s, true, c);
+        }
+        unready(s, Dir::In, 0);
+        set_request(s, 0, 0);
+        return Polled::Done(0);
+    }
+    wait_on(s)
+}
+
+// `data_in`, 117-161.
+pub fn poll_data_in(s: &mut [u8; STATE_LEN]) -> Polled
+    ensures { λ r. ⌜ ((b : List ℕ) → polledAs r [] (view (now (s .exit))) b ≡ go {i = false} pollDataIn (view (now (s .entry))) b) ⌝ }
+    ensures { λ _. ⌜ saved (now (s .exit)) ≡ saved (now (s .entry)) ⌝ }
+{
+    let g = load_globals(s);
+    if !is_started(g) {
+        return Polled::Refused(4);
+    }
+    let c = load_control(s);
+    if !is_sort(c, DATA_IN) {
+        return Polled::Refused(15);
+    }
+    if c.wait == 2 {
+        return take_closing(s, false, c);
+    }
+    take_in(s, c)
+}
+
+// The packet out of EP0's slot, no longer than the slice.
+fn take_out(s: &mut [u8; STATE_LEN], buf: &[u8], out: &mut [u8]) -> Polled
+    ensures { λ r. ⌜ polledAs r (now (out .exit)) (view (now (s .exit))) (now (buf .entry)) ≡ go {i = false} (take-out (length (now (out .entry)))) (view (now (s .entry))) (now (buf .entry)) ⌝ }
+    ensures { λ _. ⌜ now (out .exit) ≡ lentAfter (go {i = false} (take-out (length (now (out .entry)))) (view (now (s .entry))) (now (buf .entry))) (now (out .entry)) ⌝ }
+    ensures { λ _. ⌜ saved (now (s .exit)) ≡ saved (now (s .entry)) ⌝ }
+{
+    let r = load_ep(s, Dir::Out, 0);
+    if is_on(r.ready) {
+        unready(s, Dir::Out, 0);
+        if out.len() < r.len as usize {
+            set_request(s, 0, 0);
+            return Polled::Refused(10);
+        }
+        let g = load_globals(s);
+        let n = fetch(buf, g.ep0_buf, out, r.len);
+        set_request(s, 0, 0);
+        return Polled::Done(n);
+    }
+    wait_on(s)
+}
+
+// `data_out`, 82-115; the slice has its begin's length, else row 10.
+pub fn poll_data_out(s: &mut [u8; STATE_LEN], buf: &[u8], out: &mut [u8]) -> Polled
+    ensures { λ r. ⌜ polledAs r (now (out .exit)) (view (now (s .exit))) (now (buf .entry)) ≡ go {i = false} (pollDataOut (length (now (out .entry)))) (view (now (s .entry))) (now (buf .entry)) ⌝ }
+    ensures { λ _. ⌜ now (out .exit) ≡ lentAfter (go {i = false} (pollDataOut (length (now (out .entry)))) (view (now (s .entry))) (now (buf .entry))) (now (out .entry)) ⌝ }
+    ensures { λ _. ⌜ saved (now (s .exit)) ≡ saved (now (s .entry)) ⌝ }
+{
+    let g = load_globals(s);
+    if !is_started(g) {
+        return Polled::Refused(4);
+    }
+    let c = load_control(s);
+    if !is_sort(c, DATA_OUT) {
+        return Polled::Refused(15);
+    }
+    if c.length as usize == out.len() {
+        return take_out(s, buf, out);
+    }
+    unready(s, Dir::Out, 0);
+    set_request(s, 0, 0);
+    Polled::Refused(10)
+}
