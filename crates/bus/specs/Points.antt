@@ -1,4 +1,5 @@
 -- What is left to run at each point of the bus's operations
+use mathlib.Core.Path.{_≡_}
 use mathlib.Core.Bool.{Bool, true, false, not, cond, _&&_}
 use mathlib.Core.List.{List}
 use Prim.Native.Nat.{ℕ, zero, suc, _-_}
@@ -18,6 +19,7 @@ use Rattle.script.specs.Tree.{asks, ends, bindOut}
 use Rattle.script.specs.Cells.{globals-cell}
 use Rattle.script.specs.Script.{Script, run, rows, ret, done, test, _>>=_, _>>_, read, write, get, act, row, when, set-enabled, switch, bus-reset}
 use Rattle.script.specs.Statics.{flag, completed, renewed, withArmed, modifyEp, modifyIntEn, wake, wakeAll}
+use Rattle.script.specs.Machine.{Awaits, nothing, reading, awaited}
 use Rattle.script.specs.Bus.{nakAll, busReset, kept, setEnabledOut}
 use Rattle.ops.specs.Records.{plainOf, merged}
 use Rattle.ops.specs.Rings.{St, emptiedOn}
@@ -192,6 +194,37 @@ denote (point.Switch e on n) v t = switching e on n t
 abbrev pub meaning : Next → Driver → List ℕ → tree.Out St ℕ
 meaning (next.Asks q p) d b = asks q (d, b) (λ v t. denote p v t)
 meaning (next.Ends n) d b = ends n (d, b)
+
+-- what a point awaits, and that it is the access handed out with it
+abbrev pub awaitsAt : Point → Awaits
+awaitsAt point.Enable = reading (widthOf Ctrl)
+awaitsAt (point.Event n) = nothing
+awaitsAt point.Stalled = reading (widthOf EpTxCtrl)
+awaitsAt (point.StallLen e) = nothing
+awaitsAt (point.StallWord d e) = reading (widthOf EpTxCtrl)
+awaitsAt (point.Restarted e iso) = nothing
+awaitsAt (point.Woken d e) = nothing
+awaitsAt point.Flags = reading (widthOf IntFg)
+awaitsAt point.Status = reading (widthOf MisSt)
+awaitsAt (point.Released down) = nothing
+awaitsAt point.Address = nothing
+awaitsAt point.Ep0Out = nothing
+awaitsAt (point.NakIn e) = nothing
+awaitsAt (point.Naked e) = nothing
+awaitsAt point.Disabled = nothing
+awaitsAt point.Untyped = nothing
+awaitsAt point.Single = nothing
+awaitsAt point.Reset = nothing
+awaitsAt (point.PlacedOut e on) = nothing
+awaitsAt (point.PlacedIn e iso on) = nothing
+awaitsAt (point.NoLength e iso on) = nothing
+awaitsAt (point.Words d e iso on) = nothing
+awaitsAt (point.Type d e on) = nothing
+awaitsAt (point.Switch e on n) = nothing
+
+abbrev pub Linked : Next → Type 0
+Linked (next.Asks q p) = awaited q ≡ awaitsAt p
+Linked (next.Ends n) = Unit {0}
 
 -- row 16 turned round: a reading has no bit above its register's width
 unfoldable pub fitsAt : Point → ℕ → Bool

@@ -30,7 +30,7 @@ ghost use Rattle.script.specs.Bus as script;
 ghost use Rattle.script.specs.Statics.{flag};
 ghost use Rattle.ops.specs.Conc.{go};
 ghost use Rattle.ops.specs.Records.{isoOut};
-ghost use Rattle.bus.specs.Points.{resultless, renewedAs, enabledOut, afterType, afterWords, afterPlaced, switching, denote, meaning};
+ghost use Rattle.bus.specs.Points.{resultless, renewedAs, enabledOut, afterType, afterWords, afterPlaced, switching, denote, meaning, Linked};
 
 // The word of the row: ISO responses, or NAK.
 fn switch_word(on: bool) -> u32
@@ -46,6 +46,7 @@ fn switch_word(on: bool) -> u32
 pub fn after_switch(s: &mut [u8; STATE_LEN], buf: &mut [u8], e: u8, on: bool, n: u8) -> Next
     ensures { λ r. ⌜ meaning r (view (now (s .exit))) (now (buf .exit)) ≡ switching e on n (view (now (s .entry)), now (buf .entry)) ⌝ }
     ensures { λ _. ⌜ saved (now (s .exit)) ≡ saved (now (s .entry)) ⌝ }
+    ensures { λ r. ⌜ Linked r ⌝ }
 {
     if 3 < n {
         let at = slot_step(s, buf, e, n - 4);
@@ -98,6 +99,7 @@ fn set_enabled_out(s: &mut [u8; STATE_LEN], e: u8, on: bool) -> Next
     requires { ⌜ isoOut (view (now s)) Dir.Out e ≡ false ⌝ }
     ensures { λ r. ⌜ ((b : List ℕ) → meaning r (view (now (s .exit))) b ≡ go (enabledOut e on) (view (now (s .entry))) b) ⌝ }
     ensures { λ _. ⌜ saved (now (s .exit)) ≡ saved (now (s .entry)) ⌝ }
+    ensures { λ r. ⌜ Linked r ⌝ }
 {
     renew(s, Dir::Out, e, flag_of(on));
     let at = place(s, Dir::Out, e);
@@ -107,6 +109,7 @@ fn set_enabled_out(s: &mut [u8; STATE_LEN], e: u8, on: bool) -> Next
 fn set_enabled_in(s: &mut [u8; STATE_LEN], e: u8, on: bool) -> Next
     ensures { λ r. ⌜ ((b : List ℕ) → meaning r (view (now (s .exit))) b ≡ go (resultless (script.setEnabled Dir.In e on)) (view (now (s .entry))) b) ⌝ }
     ensures { λ _. ⌜ saved (now (s .exit)) ≡ saved (now (s .entry)) ⌝ }
+    ensures { λ r. ⌜ Linked r ⌝ }
 {
     let r = load_ep(s, Dir::In, e);
     let iso = is_on(r.iso);
@@ -120,6 +123,7 @@ fn set_enabled_in(s: &mut [u8; STATE_LEN], e: u8, on: bool) -> Next
 pub fn set_enabled(s: &mut [u8; STATE_LEN], buf: &mut [u8], dir: Dir, e: u8, on: bool) -> Next
     ensures { λ r. ⌜ meaning r (view (now (s .exit))) (now (buf .exit)) ≡ go (resultless (script.setEnabled dir e on)) (view (now (s .entry))) (now (buf .entry)) ⌝ }
     ensures { λ _. ⌜ saved (now (s .exit)) ≡ saved (now (s .entry)) ⌝ }
+    ensures { λ r. ⌜ Linked r ⌝ }
 {
     match dir {
         Dir::Out => {
@@ -134,6 +138,7 @@ pub fn set_enabled(s: &mut [u8; STATE_LEN], buf: &mut [u8], dir: Dir, e: u8, on:
 
 pub fn after_placed_out(e: u8, on: bool) -> Next
     ensures { λ r. ⌜ ((v : ℕ) (d : Driver) (b : List ℕ) → meaning r d b ≡ denote (Point.PlacedOut e on) v (d, b)) ⌝ }
+    ensures { λ r. ⌜ Linked r ⌝ }
 {
     if on {
         let word = control_word::word_of(control_word::ACK, control_word::DATA0, true);
@@ -151,6 +156,7 @@ pub fn after_placed_out(e: u8, on: bool) -> Next
 
 pub fn after_placed_in(e: u8, iso: bool, on: bool) -> Next
     ensures { λ r. ⌜ ((v : ℕ) (d : Driver) (b : List ℕ) → meaning r d b ≡ denote (Point.PlacedIn e iso on) v (d, b)) ⌝ }
+    ensures { λ r. ⌜ Linked r ⌝ }
 {
     Next::Asks(
         Access::Write(Reg::EpTLen, e, 0),
@@ -179,6 +185,7 @@ fn in_word(iso: bool, on: bool) -> u8
 
 pub fn after_no_length(e: u8, iso: bool, on: bool) -> Next
     ensures { λ r. ⌜ ((d : Driver) (b : List ℕ) → meaning r d b ≡ go (afterPlaced e iso on) d b) ⌝ }
+    ensures { λ r. ⌜ Linked r ⌝ }
 {
     let word = in_word(iso, on);
     Next::Asks(
@@ -191,6 +198,7 @@ pub fn after_no_length(e: u8, iso: bool, on: bool) -> Next
 pub fn after_words(s: &mut [u8; STATE_LEN], dir: Dir, e: u8, iso: bool, on: bool) -> Next
     ensures { λ r. ⌜ ((b : List ℕ) → meaning r (view (now (s .exit))) b ≡ go (afterWords dir e iso on) (view (now (s .entry))) b) ⌝ }
     ensures { λ _. ⌜ saved (now (s .exit)) ≡ saved (now (s .entry)) ⌝ }
+    ensures { λ r. ⌜ Linked r ⌝ }
 {
     let g = load_globals(s);
     let bit = both(iso, on);
@@ -202,6 +210,7 @@ pub fn after_words(s: &mut [u8; STATE_LEN], dir: Dir, e: u8, iso: bool, on: bool
 pub fn after_type(s: &mut [u8; STATE_LEN], dir: Dir, e: u8, on: bool) -> Next
     ensures { λ r. ⌜ ((b : List ℕ) → meaning r (view (now (s .exit))) b ≡ go (afterType dir e on) (view (now (s .entry))) b) ⌝ }
     ensures { λ _. ⌜ saved (now (s .exit)) ≡ saved (now (s .entry)) ⌝ }
+    ensures { λ r. ⌜ Linked r ⌝ }
 {
     ops::records::set_enabled(s, dir, e, on);
     let g = load_globals(s);

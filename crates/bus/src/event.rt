@@ -26,12 +26,13 @@ ghost use Rattle.state.specs.Driver.{Driver};
 ghost use Rattle.state.specs.State.{view, saved};
 ghost use Rattle.script.specs.Bus as script;
 ghost use Rattle.ops.specs.Conc.{go};
-ghost use Rattle.bus.specs.Points.{afterReset, afterNaked, afterStatus, afterReleased, afterFlags, denote, meaning};
+ghost use Rattle.bus.specs.Points.{afterReset, afterNaked, afterStatus, afterReleased, afterFlags, denote, meaning, Linked};
 
 // `poll` (mod.rs 1231-1266).
 pub fn poll(s: &mut [u8; STATE_LEN]) -> Next
     ensures { λ r. ⌜ ((b : List ℕ) → meaning r (view (now (s .exit))) b ≡ go script.poll (view (now (s .entry))) b) ⌝ }
     ensures { λ _. ⌜ saved (now (s .exit)) ≡ saved (now (s .entry)) ⌝ }
+    ensures { λ r. ⌜ Linked r ⌝ }
 {
     let mut g = load_globals(s);
     if is_on(g.power) {
@@ -45,6 +46,7 @@ pub fn poll(s: &mut [u8; STATE_LEN]) -> Next
 pub fn after_flags(v: u32) -> Next
     requires { ⌜ fitsIn v 8 ≡ true ⌝ }
     ensures { λ r. ⌜ ((d : Driver) (b : List ℕ) → meaning r d b ≡ go (afterFlags v) d b) ⌝ }
+    ensures { λ r. ⌜ Linked r ⌝ }
 {
     let word = byte(v);
     if flags::bus_rst(word) {
@@ -59,6 +61,7 @@ pub fn after_flags(v: u32) -> Next
 pub fn after_status(v: u32) -> Next
     requires { ⌜ fitsIn v 8 ≡ true ⌝ }
     ensures { λ r. ⌜ ((d : Driver) (b : List ℕ) → meaning r d b ≡ go (afterStatus v) d b) ⌝ }
+    ensures { λ r. ⌜ Linked r ⌝ }
 {
     let down = mis_status::suspended(byte(v));
     Next::Asks(
@@ -71,6 +74,7 @@ pub fn after_status(v: u32) -> Next
 pub fn after_released(s: &mut [u8; STATE_LEN], down: bool) -> Next
     ensures { λ r. ⌜ ((b : List ℕ) → meaning r (view (now (s .exit))) b ≡ go (afterReleased down) (view (now (s .entry))) b) ⌝ }
     ensures { λ _. ⌜ saved (now (s .exit)) ≡ saved (now (s .entry)) ⌝ }
+    ensures { λ r. ⌜ Linked r ⌝ }
 {
     let g = load_globals(s);
     let word = int_en::with_suspend(g.int_en, true);
@@ -91,6 +95,7 @@ fn nak_word() -> u32
 // `bus_reset` (mod.rs 1187-1221): EP0's OUT answers ACK, all else NAK.
 pub fn after_address() -> Next
     ensures { λ r. ⌜ ((v : ℕ) (d : Driver) (b : List ℕ) → meaning r d b ≡ denote Point.Address v (d, b)) ⌝ }
+    ensures { λ r. ⌜ Linked r ⌝ }
 {
     let word = control_word::word_of(control_word::ACK, control_word::DATA0, false);
     Next::Asks(Access::Write(Reg::EpRxCtrl, 0, word as u32), Point::Ep0Out)
@@ -98,12 +103,14 @@ pub fn after_address() -> Next
 
 pub fn after_ep0_out() -> Next
     ensures { λ r. ⌜ ((v : ℕ) (d : Driver) (b : List ℕ) → meaning r d b ≡ denote Point.Ep0Out v (d, b)) ⌝ }
+    ensures { λ r. ⌜ Linked r ⌝ }
 {
     Next::Asks(Access::Write(Reg::EpTxCtrl, 0, nak_word()), Point::Naked(0))
 }
 
 pub fn after_nak_in(e: u8) -> Next
     ensures { λ r. ⌜ ((v : ℕ) (d : Driver) (b : List ℕ) → meaning r d b ≡ denote (Point.NakIn e) v (d, b)) ⌝ }
+    ensures { λ r. ⌜ Linked r ⌝ }
 {
     Next::Asks(Access::Write(Reg::EpRxCtrl, e, nak_word()), Point::Naked(e))
 }
@@ -112,6 +119,7 @@ pub fn after_nak_in(e: u8) -> Next
 pub fn after_naked(s: &mut [u8; STATE_LEN], e: u8) -> Next
     ensures { λ r. ⌜ ((b : List ℕ) → meaning r (view (now (s .exit))) b ≡ go (afterNaked e) (view (now (s .entry))) b) ⌝ }
     ensures { λ _. ⌜ saved (now (s .exit)) ≡ saved (now (s .entry)) ⌝ }
+    ensures { λ r. ⌜ Linked r ⌝ }
 {
     if e < 15 {
         return Next::Asks(
@@ -126,6 +134,7 @@ pub fn after_naked(s: &mut [u8; STATE_LEN], e: u8) -> Next
 pub fn after_disabled(s: &mut [u8; STATE_LEN]) -> Next
     ensures { λ r. ⌜ ((v : ℕ) (b : List ℕ) → meaning r (view (now (s .exit))) b ≡ denote Point.Disabled v (view (now (s .entry)), b)) ⌝ }
     ensures { λ _. ⌜ saved (now (s .exit)) ≡ saved (now (s .entry)) ⌝ }
+    ensures { λ r. ⌜ Linked r ⌝ }
 {
     set_ep_type(s, 0);
     Next::Asks(Access::Write(Reg::EpType, 0, 0), Point::Untyped)
@@ -133,6 +142,7 @@ pub fn after_disabled(s: &mut [u8; STATE_LEN]) -> Next
 
 pub fn after_untyped() -> Next
     ensures { λ r. ⌜ ((v : ℕ) (d : Driver) (b : List ℕ) → meaning r d b ≡ denote Point.Untyped v (d, b)) ⌝ }
+    ensures { λ r. ⌜ Linked r ⌝ }
 {
     Next::Asks(Access::Write(Reg::EpBufMod, 0, 0), Point::Single)
 }
@@ -141,6 +151,7 @@ pub fn after_untyped() -> Next
 pub fn after_single(s: &mut [u8; STATE_LEN]) -> Next
     ensures { λ r. ⌜ ((v : ℕ) (b : List ℕ) → meaning r (view (now (s .exit))) b ≡ denote Point.Single v (view (now (s .entry)), b)) ⌝ }
     ensures { λ _. ⌜ saved (now (s .exit)) ≡ saved (now (s .entry)) ⌝ }
+    ensures { λ r. ⌜ Linked r ⌝ }
 {
     reset_all(s);
     Next::Asks(Access::Write(Reg::IntFg, 0, flags::BUS_RST), Point::Reset)
@@ -150,6 +161,7 @@ pub fn after_single(s: &mut [u8; STATE_LEN]) -> Next
 pub fn after_reset(s: &mut [u8; STATE_LEN]) -> Next
     ensures { λ r. ⌜ ((b : List ℕ) → meaning r (view (now (s .exit))) b ≡ go afterReset (view (now (s .entry))) b) ⌝ }
     ensures { λ _. ⌜ saved (now (s .exit)) ≡ saved (now (s .entry)) ⌝ }
+    ensures { λ r. ⌜ Linked r ⌝ }
 {
     wake_all(s);
     let g = load_globals(s);

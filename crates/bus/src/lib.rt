@@ -48,7 +48,7 @@ ghost use Rattle.state.specs.Driver.{Driver};
 ghost use Rattle.state.specs.State.{view, saved};
 ghost use Rattle.script.specs.Bus as script;
 ghost use Rattle.ops.specs.Conc.{go};
-ghost use Rattle.bus.specs.Points.{resultless, denote, meaning, fitsAt};
+ghost use Rattle.bus.specs.Points.{resultless, denote, meaning, Linked, fitsAt};
 
 // Where an operation stands: what it handed out last, with what the rest of it needs.
 pub enum Point {
@@ -87,12 +87,14 @@ pub enum Next {
 // `enable` (mod.rs 1225-1227).
 pub fn enable() -> Next
     ensures { λ r. ⌜ ((d : Driver) (b : List ℕ) → meaning r d b ≡ go (resultless script.enable) d b) ⌝ }
+    ensures { λ r. ⌜ Linked r ⌝ }
 {
     Next::Asks(Access::Read(Reg::Ctrl, 0), Point::Enable)
 }
 
 fn after_enable(v: u32) -> Next
     ensures { λ r. ⌜ ((d : Driver) (b : List ℕ) → meaning r d b ≡ denote Point.Enable v (d, b)) ⌝ }
+    ensures { λ r. ⌜ Linked r ⌝ }
 {
     Next::Asks(
         Access::Write(Reg::Ctrl, 0, regs::ctrl::pulled_up(v)),
@@ -145,6 +147,7 @@ pub fn resume(s: &mut [u8; STATE_LEN], buf: &mut [u8], p: Point, v: u32) -> Next
     requires { ⌜ fitsAt p v ≡ true ⌝ }
     ensures { λ r. ⌜ meaning r (view (now (s .exit))) (now (buf .exit)) ≡ denote p v (view (now (s .entry)), now (buf .entry)) ⌝ }
     ensures { λ _. ⌜ saved (now (s .exit)) ≡ saved (now (s .entry)) ⌝ }
+    ensures { λ r. ⌜ Linked r ⌝ }
 {
     match p {
         Point::Enable => after_enable(v),

@@ -22,11 +22,12 @@ ghost use Rattle.state.specs.State.{view, saved};
 ghost use Rattle.script.specs.Bus as script;
 ghost use Rattle.ops.specs.Conc.{go};
 ghost use Rattle.ops.specs.Records.{plainOf};
-ghost use Rattle.bus.specs.Points.{resultless, woken, afterStallWord, afterRestart, denote, meaning};
+ghost use Rattle.bus.specs.Points.{resultless, woken, afterStallWord, afterRestart, denote, meaning, Linked};
 
 // `is_endpoint_stalled` (mod.rs 1101-1106).
 pub fn is_stalled(dir: Dir, e: u8) -> Next
     ensures { λ r. ⌜ ((d : Driver) (b : List ℕ) → meaning r d b ≡ go {i = false} (script.isEndpointStalled dir e) d b) ⌝ }
+    ensures { λ r. ⌜ Linked r ⌝ }
 {
     Next::Asks(Access::Read(ctrl_of(dir), e), Point::Stalled)
 }
@@ -34,6 +35,7 @@ pub fn is_stalled(dir: Dir, e: u8) -> Next
 pub fn after_stalled(v: u32) -> Next
     requires { ⌜ fitsIn v 8 ≡ true ⌝ }
     ensures { λ r. ⌜ ((d : Driver) (b : List ℕ) → meaning r d b ≡ denote Point.Stalled v (d, b)) ⌝ }
+    ensures { λ r. ⌜ Linked r ⌝ }
 {
     if control_word::is_stalled(byte(v)) {
         return Next::Ends(1);
@@ -72,6 +74,7 @@ fn restarted_in(e: u8, r: EpState) -> u8
 fn restart_out(s: &mut [u8; STATE_LEN], e: u8) -> Next
     ensures { λ r. ⌜ ((b : List ℕ) → meaning r (view (now (s .exit))) b ≡ go (resultless (script.setStalled Dir.Out e false)) (view (now (s .entry))) b) ⌝ }
     ensures { λ _. ⌜ saved (now (s .exit)) ≡ saved (now (s .entry)) ⌝ }
+    ensures { λ r. ⌜ Linked r ⌝ }
 {
     let r = load_ep(s, Dir::Out, e);
     let word = restarted_out(e, r);
@@ -87,6 +90,7 @@ fn restart_out(s: &mut [u8; STATE_LEN], e: u8) -> Next
 fn restart_in(s: &mut [u8; STATE_LEN], e: u8) -> Next
     ensures { λ r. ⌜ ((b : List ℕ) → meaning r (view (now (s .exit))) b ≡ go (resultless (script.setStalled Dir.In e false)) (view (now (s .entry))) b) ⌝ }
     ensures { λ _. ⌜ saved (now (s .exit)) ≡ saved (now (s .entry)) ⌝ }
+    ensures { λ r. ⌜ Linked r ⌝ }
 {
     let r = load_ep(s, Dir::In, e);
     let word = restarted_in(e, r);
@@ -104,6 +108,7 @@ fn restart_in(s: &mut [u8; STATE_LEN], e: u8) -> Next
 pub fn set_stalled(s: &mut [u8; STATE_LEN], dir: Dir, e: u8, on: bool) -> Next
     ensures { λ r. ⌜ ((b : List ℕ) → meaning r (view (now (s .exit))) b ≡ go (resultless (script.setStalled dir e on)) (view (now (s .entry))) b) ⌝ }
     ensures { λ _. ⌜ saved (now (s .exit)) ≡ saved (now (s .entry)) ⌝ }
+    ensures { λ r. ⌜ Linked r ⌝ }
 {
     match dir {
         Dir::Out => {
@@ -126,6 +131,7 @@ pub fn set_stalled(s: &mut [u8; STATE_LEN], dir: Dir, e: u8, on: bool) -> Next
 
 pub fn after_stall_len(e: u8) -> Next
     ensures { λ r. ⌜ ((v : ℕ) (d : Driver) (b : List ℕ) → meaning r d b ≡ denote (Point.StallLen e) v (d, b)) ⌝ }
+    ensures { λ r. ⌜ Linked r ⌝ }
 {
     Next::Asks(Access::Read(Reg::EpTxCtrl, e), Point::StallWord(Dir::In, e))
 }
@@ -133,6 +139,7 @@ pub fn after_stall_len(e: u8) -> Next
 pub fn after_stall_word(dir: Dir, e: u8, v: u32) -> Next
     requires { ⌜ fitsIn v 8 ≡ true ⌝ }
     ensures { λ r. ⌜ ((d : Driver) (b : List ℕ) → meaning r d b ≡ go (afterStallWord dir e v) d b) ⌝ }
+    ensures { λ r. ⌜ Linked r ⌝ }
 {
     let word = control_word::stall(byte(v));
     Next::Asks(
@@ -145,6 +152,7 @@ pub fn after_stall_word(dir: Dir, e: u8, v: u32) -> Next
 pub fn after_woken(s: &mut [u8; STATE_LEN], dir: Dir, e: u8) -> Next
     ensures { λ r. ⌜ ((b : List ℕ) → meaning r (view (now (s .exit))) b ≡ go (woken dir e) (view (now (s .entry))) b) ⌝ }
     ensures { λ _. ⌜ saved (now (s .exit)) ≡ saved (now (s .entry)) ⌝ }
+    ensures { λ r. ⌜ Linked r ⌝ }
 {
     wake(s, dir, e);
     Next::Ends(0)
@@ -154,6 +162,7 @@ pub fn after_woken(s: &mut [u8; STATE_LEN], dir: Dir, e: u8) -> Next
 pub fn after_restart(s: &mut [u8; STATE_LEN], e: u8, iso: bool) -> Next
     ensures { λ r. ⌜ ((b : List ℕ) → meaning r (view (now (s .exit))) b ≡ go (afterRestart e iso) (view (now (s .entry))) b) ⌝ }
     ensures { λ _. ⌜ saved (now (s .exit)) ≡ saved (now (s .entry)) ⌝ }
+    ensures { λ r. ⌜ Linked r ⌝ }
 {
     if iso {
         return after_woken(s, Dir::In, e);

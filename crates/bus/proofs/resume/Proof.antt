@@ -174,79 +174,79 @@ after-switch-requires : tie.Need-after-switch-requires
 after-switch-requires c κs = search needs
 
 returns : tie.Need-returns
-returns c = (simp (c .after-enable .ensures, c .before .enum-told .given .1), refl)
+returns c = (simp (c .after-enable .ensures .0, c .before .enum-told .given .1), (refl, c .after-enable .ensures .1))
 
 returns-2 : tie.Need-returns-2
-returns-2 c = (simp (c .before .p .given .1), refl)
+returns-2 c = (simp (c .before .p .given .1), (refl, tt))
 
 returns-3 : tie.Need-returns-3
-returns-3 c = (simp (c .after-stalled .ensures, c .before .enum-told2 .given .1), refl)
+returns-3 c = (simp (c .after-stalled .ensures .0, c .before .enum-told2 .given .1), (refl, c .after-stalled .ensures .1))
 
 returns-4 : tie.Need-returns-4
-returns-4 c = (simp (c .after-stall-len .ensures (c .before .before .before .before .before .args .v), c .before .before .p2 .given .1), refl)
+returns-4 c = (simp (c .after-stall-len .ensures .0 (c .before .before .before .before .before .args .v), c .before .before .p2 .given .1), (refl, c .after-stall-len .ensures .1))
 
 returns-5 : tie.Need-returns-5
-returns-5 c = (simp (c .after-stall-word .ensures, c .before .before .p3 .given .1), refl)
+returns-5 c = (simp (c .after-stall-word .ensures .0, c .before .before .p3 .given .1), (refl, c .after-stall-word .ensures .1))
 
 returns-6 : tie.Need-returns-6
-returns-6 c = (simp (c .after-restart .ensures .0, c .before .before .before .p4 .given .1), c .after-restart .ensures .1)
+returns-6 c = (simp (c .after-restart .ensures .0, c .before .before .before .p4 .given .1), (c .after-restart .ensures .1 .0, c .after-restart .ensures .1 .1))
 
 returns-7 : tie.Need-returns-7
-returns-7 c = (simp (c .after-woken .ensures .0, c .before .before .before .p5 .given .1), c .after-woken .ensures .1)
+returns-7 c = (simp (c .after-woken .ensures .0, c .before .before .before .p5 .given .1), (c .after-woken .ensures .1 .0, c .after-woken .ensures .1 .1))
 
 returns-8 : tie.Need-returns-8
-returns-8 c = (simp (c .after-flags .ensures, c .before .enum-told3 .given .1), refl)
+returns-8 c = (simp (c .after-flags .ensures .0, c .before .enum-told3 .given .1), (refl, c .after-flags .ensures .1))
 
 returns-9 : tie.Need-returns-9
-returns-9 c = (simp (c .after-status .ensures, c .before .enum-told4 .given .1), refl)
+returns-9 c = (simp (c .after-status .ensures .0, c .before .enum-told4 .given .1), (refl, c .after-status .ensures .1))
 
 returns-10 : tie.Need-returns-10
-returns-10 c = (simp (c .after-released .ensures .0, c .before .before .before .p6 .given .1), c .after-released .ensures .1)
+returns-10 c = (simp (c .after-released .ensures .0, c .before .before .before .p6 .given .1), (c .after-released .ensures .1 .0, c .after-released .ensures .1 .1))
 
 returns-11 : tie.Need-returns-11
-returns-11 c = (simp (c .after-address .ensures (c .before .before .before .before .args .v), c .before .enum-told5 .given .1), refl)
+returns-11 c = (simp (c .after-address .ensures .0 (c .before .before .before .before .args .v), c .before .enum-told5 .given .1), (refl, c .after-address .ensures .1))
 
 returns-12 : tie.Need-returns-12
-returns-12 c = (simp (c .after-ep0-out .ensures (c .before .before .before .before .args .v), c .before .enum-told6 .given .1), refl)
+returns-12 c = (simp (c .after-ep0-out .ensures .0 (c .before .before .before .before .args .v), c .before .enum-told6 .given .1), (refl, c .after-ep0-out .ensures .1))
 
 returns-13 : tie.Need-returns-13
-returns-13 c = (simp (c .after-nak-in .ensures (c .before .before .before .before .before .args .v), c .before .before .p7 .given .1), refl)
+returns-13 c = (simp (c .after-nak-in .ensures .0 (c .before .before .before .before .before .args .v), c .before .before .p7 .given .1), (refl, c .after-nak-in .ensures .1))
 
 returns-14 : tie.Need-returns-14
-returns-14 c = (simp (c .after-naked .ensures .0, c .before .before .before .p8 .given .1), c .after-naked .ensures .1)
+returns-14 c = (simp (c .after-naked .ensures .0, c .before .before .before .p8 .given .1), (c .after-naked .ensures .1 .0, c .after-naked .ensures .1 .1))
 
 returns-15 : tie.Need-returns-15
-returns-15 c = (simp (c .after-disabled .ensures .0 (c .before .before .before .before .before .args .v), c .before .before .enum-told7 .given .1), c .after-disabled .ensures .1)
+returns-15 c = (simp (c .after-disabled .ensures .0 (c .before .before .before .before .before .args .v), c .before .before .enum-told7 .given .1), (c .after-disabled .ensures .1 .0, c .after-disabled .ensures .1 .1))
 
 returns-16 : tie.Need-returns-16
-returns-16 c = (simp (c .after-untyped .ensures (c .before .before .before .before .args .v), c .before .enum-told8 .given .1), refl)
+returns-16 c = (simp (c .after-untyped .ensures .0 (c .before .before .before .before .args .v), c .before .enum-told8 .given .1), (refl, c .after-untyped .ensures .1))
 
 returns-17 : tie.Need-returns-17
-returns-17 c = (simp (c .after-single .ensures .0 (c .before .before .before .before .before .args .v), c .before .before .enum-told9 .given .1), c .after-single .ensures .1)
+returns-17 c = (simp (c .after-single .ensures .0 (c .before .before .before .before .before .args .v), c .before .before .enum-told9 .given .1), (c .after-single .ensures .1 .0, c .after-single .ensures .1 .1))
 
 returns-18 : tie.Need-returns-18
-returns-18 c = (simp (c .after-reset .ensures .0, c .before .before .enum-told10 .given .1), c .after-reset .ensures .1)
+returns-18 c = (simp (c .after-reset .ensures .0, c .before .before .enum-told10 .given .1), (c .after-reset .ensures .1 .0, c .after-reset .ensures .1 .1))
 
 returns-19 : tie.Need-returns-19
-returns-19 c = (simp (c .after-placed-out .ensures (c .before .before .before .before .before .args .v), c .before .before .p9 .given .1), refl)
+returns-19 c = (simp (c .after-placed-out .ensures .0 (c .before .before .before .before .before .args .v), c .before .before .p9 .given .1), (refl, c .after-placed-out .ensures .1))
 
 returns-20 : tie.Need-returns-20
-returns-20 c = (simp (c .after-placed-in .ensures (c .before .before .before .before .before .args .v), c .before .before .p10 .given .1), refl)
+returns-20 c = (simp (c .after-placed-in .ensures .0 (c .before .before .before .before .before .args .v), c .before .before .p10 .given .1), (refl, c .after-placed-in .ensures .1))
 
 returns-21 : tie.Need-returns-21
-returns-21 c = (simp (c .after-no-length .ensures, c .before .before .p11 .given .1), refl)
+returns-21 c = (simp (c .after-no-length .ensures .0, c .before .before .p11 .given .1), (refl, c .after-no-length .ensures .1))
 
 returns-22 : tie.Need-returns-22
-returns-22 c = (simp (c .after-words .ensures .0, c .before .before .before .p12 .given .1), c .after-words .ensures .1)
+returns-22 c = (simp (c .after-words .ensures .0, c .before .before .before .p12 .given .1), (c .after-words .ensures .1 .0, c .after-words .ensures .1 .1))
 
 returns-23 : tie.Need-returns-23
-returns-23 c = (simp (c .after-type .ensures .0, c .before .before .before .p13 .given .1), c .after-type .ensures .1)
+returns-23 c = (simp (c .after-type .ensures .0, c .before .before .before .p13 .given .1), (c .after-type .ensures .1 .0, c .after-type .ensures .1 .1))
 
 same-length : tie.Need-same-length
 same-length c = search needs
 
 returns-24 : tie.Need-returns-24
-returns-24 c = (simp (c .before .before .after-switch .ensures .0, c .before .before .before .before .before .before .p14 .given .1), c .before .before .after-switch .ensures .1)
+returns-24 c = (simp (c .before .before .after-switch .ensures .0, c .before .before .before .before .before .before .p14 .given .1), (c .before .before .after-switch .ensures .1 .0, c .before .before .after-switch .ensures .1 .1))
 
 pub resume-spec : {M : Type 1} → statement M
 resume-spec =

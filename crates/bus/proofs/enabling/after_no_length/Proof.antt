@@ -1,3 +1,4 @@
+use mathlib.Core.Path.{refl}
 use Rattle.bus.specs.Points.{afterPlaced}
 use borrow.Author.Needs.{needs}
 use Rattle.bus.proofs.enabling.after_no_length.Statement.{statement}
@@ -14,7 +15,7 @@ cast-t6 c = search needs
 
 returns : tie.Need-returns
 unfolding afterPlaced
-returns c = λ d b. simp (c .in-word .ensures)
+returns c = (λ d b. simp (c .in-word .ensures), refl)
 
 pub after-no-length-spec : {M : Type 1} → statement M
 after-no-length-spec = tie.close (tie.spec in-word-requires cast-t6 returns)

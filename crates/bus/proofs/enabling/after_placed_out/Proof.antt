@@ -1,3 +1,4 @@
+use mathlib.Core.Path.{refl}
 use borrow.Author.Needs.{needs}
 use Rattle.bus.proofs.enabling.after_placed_out.Statement.{statement}
 use Rattle.bus.proofs.enabling.after_placed_out.Tie as tie
@@ -12,7 +13,7 @@ cast-t7 : tie.Need-cast-t7
 cast-t7 c = search needs
 
 returns : tie.Need-returns
-returns c = λ v d b. simp (c .word-of .ensures, c .before .if1 .taken)
+returns c = (λ v d b. simp (c .word-of .ensures, c .before .if1 .taken), refl)
 
 word-of-requires-2 : tie.Need-word-of-requires-2
 word-of-requires-2 c κs = search needs
@@ -21,7 +22,7 @@ cast-t12 : tie.Need-cast-t12
 cast-t12 c = search needs
 
 returns-2 : tie.Need-returns-2
-returns-2 c = λ v d b. simp (c .word-of2 .ensures, c .before .if1 .left)
+returns-2 c = (λ v d b. simp (c .word-of2 .ensures, c .before .if1 .left), refl)
 
 pub after-placed-out-spec : {M : Type 1} → statement M
 after-placed-out-spec =

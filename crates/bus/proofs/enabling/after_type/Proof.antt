@@ -1,3 +1,4 @@
+use mathlib.Core.Path.{refl}
 use Rattle.bus.specs.Points.{afterType}
 use borrow.Author.Needs.{needs}
 use Rattle.bus.proofs.enabling.after_type.Statement.{statement}
@@ -15,7 +16,7 @@ load-globals-requires c κs = search needs
 
 returns : tie.Need-returns
 unfolding afterType
-returns c = (λ b. simp (c .load-globals .ensures, c .before .before .set-enabled .ensures .0), c .before .before .set-enabled .ensures .1)
+returns c = (λ b. simp (c .load-globals .ensures, c .before .before .set-enabled .ensures .0), (c .before .before .set-enabled .ensures .1, refl))
 
 pub after-type-spec : {M : Type 1} → statement M
 after-type-spec = tie.close (tie.spec set-enabled-requires load-globals-requires returns)

@@ -1,3 +1,4 @@
+use mathlib.Core.Path.{refl}
 use Rattle.bus.specs.Points.{afterFlags, afterNaked}
 use borrow.Author.Needs.{needs}
 use Rattle.bus.proofs.event.after_flags.Statement.{statement}
@@ -16,18 +17,18 @@ bus-rst-requires c κs = search needs
 
 returns : tie.Need-returns
 unfolding afterFlags afterNaked
-returns c = λ d b. simp (← c .before .before .byte .ensures, ← c .before .bus-rst .ensures, c .if1 .taken)
+returns c = (λ d b. simp (← c .before .before .byte .ensures, ← c .before .bus-rst .ensures, c .if1 .taken), refl)
 
 suspend-requires : tie.Need-suspend-requires
 suspend-requires c κs = search needs
 
 returns-2 : tie.Need-returns-2
 unfolding afterFlags
-returns-2 c = λ d b. simp (← c .before .before .before .before .byte .ensures, ← c .before .before .before .bus-rst .ensures, c .before .before .if1 .left, ← c .before .suspend .ensures, c .if2 .taken)
+returns-2 c = (λ d b. simp (← c .before .before .before .before .byte .ensures, ← c .before .before .before .bus-rst .ensures, c .before .before .if1 .left, ← c .before .suspend .ensures, c .if2 .taken), refl)
 
 returns-3 : tie.Need-returns-3
 unfolding afterFlags
-returns-3 c = λ d b. simp (← c .before .before .before .before .byte .ensures, ← c .before .before .before .bus-rst .ensures, c .before .before .if1 .left, ← c .before .suspend .ensures, c .if2 .left)
+returns-3 c = (λ d b. simp (← c .before .before .before .before .byte .ensures, ← c .before .before .before .bus-rst .ensures, c .before .before .if1 .left, ← c .before .suspend .ensures, c .if2 .left), tt)
 
 pub after-flags-spec : {M : Type 1} → statement M
 after-flags-spec =

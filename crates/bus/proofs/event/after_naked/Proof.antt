@@ -20,14 +20,14 @@ add-t8 c = search needs
 
 returns : tie.Need-returns
 unfolding afterNaked
-returns c = (λ b. simp (c .nak-word .ensures, nak-more _ (c .before .if1 .taken)), refl)
+returns c = (λ b. simp (c .nak-word .ensures, nak-more _ (c .before .if1 .taken)), (refl, refl))
 
 set-ep-config-requires : tie.Need-set-ep-config-requires
 set-ep-config-requires c κs = search needs
 
 returns-2 : tie.Need-returns-2
 unfolding afterNaked afterReset
-returns-2 c = (λ b. simp (c .set-ep-config .ensures .0, nak-none _ (c .before .before .if1 .left)), c .set-ep-config .ensures .1)
+returns-2 c = (λ b. simp (c .set-ep-config .ensures .0, nak-none _ (c .before .before .if1 .left)), (c .set-ep-config .ensures .1, refl))
 
 pub after-naked-spec : {M : Type 1} → statement M
 after-naked-spec =

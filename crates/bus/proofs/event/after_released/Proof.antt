@@ -1,3 +1,4 @@
+use mathlib.Core.Path.{refl}
 use Rattle.bus.specs.Points.{afterReleased}
 use borrow.Author.Needs.{needs}
 use Rattle.bus.proofs.event.after_released.Statement.{statement}
@@ -22,14 +23,14 @@ cast-t10 c = search needs
 
 returns : tie.Need-returns
 unfolding afterReleased
-returns c = (λ b. simp (c .before .set-int-en .ensures .0, c .before .before .before .with-suspend .ensures, c .before .before .before .before .load-globals .ensures, c .if1 .taken), c .before .set-int-en .ensures .1)
+returns c = (λ b. simp (c .before .set-int-en .ensures .0, c .before .before .before .with-suspend .ensures, c .before .before .before .before .load-globals .ensures, c .if1 .taken), (c .before .set-int-en .ensures .1, refl))
 
 cast-t14 : tie.Need-cast-t14
 cast-t14 c = search needs
 
 returns-2 : tie.Need-returns-2
 unfolding afterReleased
-returns-2 c = (λ b. simp (c .before .set-int-en .ensures .0, c .before .before .before .with-suspend .ensures, c .before .before .before .before .load-globals .ensures, c .if1 .left), c .before .set-int-en .ensures .1)
+returns-2 c = (λ b. simp (c .before .set-int-en .ensures .0, c .before .before .before .with-suspend .ensures, c .before .before .before .before .load-globals .ensures, c .if1 .left), (c .before .set-int-en .ensures .1, refl))
 
 pub after-released-spec : {M : Type 1} → statement M
 after-released-spec =

@@ -1,5 +1,5 @@
 use Rattle.bus.specs.Points.{afterReset}
-use mathlib.Core.Path.{_∙_}
+use mathlib.Core.Path.{_∙_, refl}
 use borrow.Author.Needs.{needs}
 use Rattle.bus.proofs.event.after_reset.Statement.{statement}
 use Rattle.bus.proofs.event.after_reset.Tie as tie
@@ -27,7 +27,7 @@ cast-t9 c = search needs
 
 returns : tie.Need-returns
 unfolding afterReset
-returns c = (λ b. simp (c .set-int-en .ensures .0, c .before .before .with-bus-rst .ensures, c .before .before .before .load-globals .ensures, c .before .before .before .before .before .wake-all .ensures .0), c .set-int-en .ensures .1 ∙ c .before .before .before .before .before .wake-all .ensures .1)
+returns c = (λ b. simp (c .set-int-en .ensures .0, c .before .before .with-bus-rst .ensures, c .before .before .before .load-globals .ensures, c .before .before .before .before .before .wake-all .ensures .0), (c .set-int-en .ensures .1 ∙ c .before .before .before .before .before .wake-all .ensures .1, refl))
 
 pub after-reset-spec : {M : Type 1} → statement M
 after-reset-spec =

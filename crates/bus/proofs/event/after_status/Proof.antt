@@ -1,3 +1,4 @@
+use mathlib.Core.Path.{refl}
 use Rattle.bus.specs.Points.{afterStatus}
 use borrow.Author.Needs.{needs}
 use Rattle.bus.proofs.event.after_status.Statement.{statement}
@@ -15,7 +16,7 @@ suspended-requires c κs = search needs
 
 returns : tie.Need-returns
 unfolding afterStatus
-returns c = λ d b. simp (← c .before .byte .ensures, ← c .suspended .ensures)
+returns c = (λ d b. simp (← c .before .byte .ensures, ← c .suspended .ensures), refl)
 
 pub after-status-spec : {M : Type 1} → statement M
 after-status-spec = tie.close (tie.spec byte-requires suspended-requires returns)

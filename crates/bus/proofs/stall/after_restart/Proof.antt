@@ -14,7 +14,7 @@ after-woken-requires c κs = search needs
 
 returns : tie.Need-returns
 unfolding afterRestart woken
-returns c = (λ b. simp (c .after-woken .ensures .0, c .before .before .if1 .taken), c .after-woken .ensures .1)
+returns c = (λ b. simp (c .after-woken .ensures .0, c .before .before .if1 .taken), (c .after-woken .ensures .1 .0, c .after-woken .ensures .1 .1))
 
 load-ep-requires : tie.Need-load-ep-requires
 load-ep-requires c κs = search needs
@@ -27,7 +27,7 @@ after-woken-requires-2 c κs = search needs
 
 returns-2 : tie.Need-returns-2
 unfolding afterRestart woken
-returns-2 c = (λ b. simp (c .after-woken2 .ensures .0, c .before .before .store-ep .ensures .0, c .before .before .before .before .load-ep .ensures, c .before .before .before .before .before .before .if1 .left), c .after-woken2 .ensures .1 ∙ c .before .before .store-ep .ensures .1)
+returns-2 c = (λ b. simp (c .after-woken2 .ensures .0, c .before .before .store-ep .ensures .0, c .before .before .before .before .load-ep .ensures, c .before .before .before .before .before .before .if1 .left), (c .after-woken2 .ensures .1 .0 ∙ c .before .before .store-ep .ensures .1, c .after-woken2 .ensures .1 .1))
 
 pub after-restart-spec : {M : Type 1} → statement M
 after-restart-spec =

@@ -1,3 +1,4 @@
+use mathlib.Core.Path.{refl}
 use Rattle.bus.specs.Points.{afterStallWord}
 use borrow.Author.Needs.{needs}
 use Rattle.bus.proofs.stall.after_stall_word.Statement.{statement}
@@ -22,7 +23,7 @@ cast-t7 c = search needs
 
 returns : tie.Need-returns
 unfolding afterStallWord
-returns c = λ d b. simp (c .ctrl-of .ensures, c .before .stall .ensures, c .before .before .byte .ensures)
+returns c = (λ d b. simp (c .ctrl-of .ensures, c .before .stall .ensures, c .before .before .byte .ensures), refl)
 
 pub after-stall-word-spec : {M : Type 1} → statement M
 after-stall-word-spec =

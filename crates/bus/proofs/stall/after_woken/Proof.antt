@@ -11,7 +11,7 @@ wake-requires c κs = search needs
 
 returns : tie.Need-returns
 unfolding woken
-returns c = (λ b. simp (c .wake .ensures .0), c .wake .ensures .1)
+returns c = (λ b. simp (c .wake .ensures .0), (c .wake .ensures .1, tt))
 
 pub after-woken-spec : {M : Type 1} → statement M
 after-woken-spec = tie.close (tie.spec wake-requires returns)

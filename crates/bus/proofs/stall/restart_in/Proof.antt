@@ -1,3 +1,4 @@
+use mathlib.Core.Path.{refl}
 use Rattle.bus.specs.Points.{afterRestart, woken}
 use borrow.Author.Needs.{needs}
 use Rattle.bus.proofs.stall.restart_in.Statement.{statement}
@@ -26,7 +27,7 @@ cast-t12 c = search needs
 
 returns : tie.Need-returns
 unfolding woken afterRestart
-returns c = (λ b. simp (c .store-ep .ensures .0, c .before .before .before .restarted-in .ensures, c .before .before .is-on .ensures, c .before .before .before .before .load-ep .ensures), c .store-ep .ensures .1)
+returns c = (λ b. simp (c .store-ep .ensures .0, c .before .before .before .restarted-in .ensures, c .before .before .is-on .ensures, c .before .before .before .before .load-ep .ensures), (c .store-ep .ensures .1, refl))
 
 pub restart-in-spec : {M : Type 1} → statement M
 restart-in-spec =

@@ -1,3 +1,4 @@
+use mathlib.Core.Path.{refl}
 use Rattle.bus.specs.Points.{woken}
 use borrow.Author.Needs.{needs}
 use Rattle.bus.proofs.stall.restart_out.Statement.{statement}
@@ -22,7 +23,7 @@ cast-t11 c = search needs
 
 returns : tie.Need-returns
 unfolding woken
-returns c = (λ b. simp (c .store-ep .ensures .0, c .before .before .restarted-out .ensures, c .before .before .before .load-ep .ensures), c .store-ep .ensures .1)
+returns c = (λ b. simp (c .store-ep .ensures .0, c .before .before .restarted-out .ensures, c .before .before .before .load-ep .ensures), (c .store-ep .ensures .1, refl))
 
 pub restart-out-spec : {M : Type 1} → statement M
 restart-out-spec =
