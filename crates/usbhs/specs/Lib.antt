@@ -1,3 +1,4 @@
 pub mod Questions
 pub mod Numbers
 pub mod Under
+pub mod Rows
