@@ -23,13 +23,13 @@ use Rattle.usbhs.specs.declared.Under.the-variants as under
 use Rattle.usbhs.specs.Under.{wayOf, driverOf, drive, slotsFit}
 use Rattle.usbhs.specs.Numbers.{number-lt}
 
--- the row, 3 or 4; 0 where neither stops it
+-- another operation is under way (3), or the driver is not started (4); 0 where neither stops it
 unfoldable pub stopOf : Under → ℕ → ℕ
 stopOf under.Idle stage = cond (eqb stage 2) 0 4
 stopOf (under.Driver p) stage = 3
 stopOf (under.Bus p) stage = 3
 
--- row 5 of a stall: EP0 has no number there
+-- row 5 of a stall, which takes EP0 too
 unfoldable pub stallable : Allocator → Dir → ℕ → Bool
 stallable a d e = cond (eqb e 0) true (isAllocated a d e)
 

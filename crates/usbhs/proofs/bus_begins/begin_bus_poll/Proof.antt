@@ -1,12 +1,11 @@
-use Rattle.usbhs.specs.Rows.{back, other-call, stall-call}
+use Rattle.usbhs.specs.Rows.{back, other-call}
 use Rattle.script.specs.Calls as calls
-use Rattle.script.specs.Answers.{operation, resultless}
-use Rattle.script.specs.Script.{done}
+use Rattle.script.specs.Answers.{operation}
 use Rattle.script.specs.Bus as script
 use Rattle.usbhs.specs.Under.{decode}
 use Rattle.state.specs.State.{view, saved}
 use denote.Ref.{now}
-use mathlib.Core.Path.{_∙_, sym, refl}
+use mathlib.Core.Path.{_∙_, refl}
 use borrow.Author.Tests.{eq-eqb, ne-eqb}
 use borrow.Author.Needs.{needs}
 use Rattle.usbhs.proofs.bus_begins.begin_bus_poll.Statement.{statement}

@@ -1,7 +1,6 @@
 use Rattle.usbhs.specs.Rows.{back, stall-call, stallable-lt}
 use Rattle.script.specs.Calls as calls
-use Rattle.script.specs.Answers.{operation, resultless}
-use Rattle.script.specs.Script.{done}
+use Rattle.script.specs.Answers.{operation}
 use Rattle.script.specs.Bus as script
 use Rattle.usbhs.specs.Under.{decode}
 use Rattle.state.specs.State.{view, saved}

@@ -1,4 +1,4 @@
-use Rattle.usbhs.specs.Under.{encode, decode, decode-encode, linked-bus}
+use Rattle.usbhs.specs.Under.{decode-encode, linked-bus}
 use borrow.Author.Needs.{needs}
 use Rattle.usbhs.proofs.way.halted_bus.Statement.{statement}
 use Rattle.usbhs.proofs.way.halted_bus.Tie as tie

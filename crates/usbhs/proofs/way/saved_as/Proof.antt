@@ -1,4 +1,4 @@
-use Rattle.usbhs.specs.Under.{encode, decode}
+use Rattle.usbhs.specs.Under.{encode}
 use borrow.Author.Needs.{needs}
 use Rattle.usbhs.proofs.way.saved_as.Statement.{statement}
 use Rattle.usbhs.proofs.way.saved_as.Tie as tie

@@ -1,4 +1,4 @@
-use Rattle.usbhs.specs.Under.{encode, decode}
+use Rattle.usbhs.specs.Under.{decode}
 use borrow.Author.Tests.{eq-eqb, ne-eqb}
 use borrow.Author.Needs.{needs}
 use Rattle.usbhs.proofs.way.under_way.Statement.{statement}
