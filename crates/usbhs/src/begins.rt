@@ -20,6 +20,7 @@ pub fn begin_microframe(s: &mut [u8; STATE_LEN]) -> Step
     let u = under_way(s);
     match u {
         Under::Driver(_p) => Step::Refused(3),
+        Under::Bus(_p) => Step::Refused(3),
         Under::Idle => {
             let g = state::load_globals(s);
             if g.stage == 2 {

@@ -3,6 +3,8 @@
 pub mod questions; // questions.rt: pending, overruns, enabled
 pub mod way; // way.rt: what is under way, and how a call ends
 pub mod begins; // begins.rt: the operations' begins
+pub mod rows; // rows.rt: the rows that stop a call
+pub mod bus_begins; // bus_begins.rt: the bus's begins
 pub mod proceeds; // proceeds.rt: continue
 pub mod starting; // starting.rt: start-up, allocation, EP0's start
 
@@ -13,6 +15,7 @@ use state::Wakes;
 pub enum Under {
     Idle,
     Driver(driver::Point),
+    Bus(bus::Point),
 }
 
 // What a call answers: the row that stopped it, the access that it hands out, or the operation's result with its wake-ups.

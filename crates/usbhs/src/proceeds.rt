@@ -1,6 +1,7 @@
 use crate::Step;
 use crate::Under;
 use crate::way::halted;
+use crate::way::halted_bus;
 use crate::way::under_way;
 use state::STATE_LEN;
 ghost use mathlib.Core.Path.{_≡_};
@@ -32,6 +33,13 @@ pub fn proceed(s: &mut [u8; STATE_LEN], slots: &mut [u8], v: u32) -> Step
                 if driver::fits_at(p, v) {
                     let n = driver::resume(s, p, v);
                     return halted(s, n);
+                }
+                return Step::Refused(16);
+            }
+            Under::Bus(p) => {
+                if bus::fits_at(p, v) {
+                    let n = bus::resume(s, slots, p, v);
+                    return halted_bus(s, n);
                 }
                 return Step::Refused(16);
             }

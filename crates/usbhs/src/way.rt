@@ -14,6 +14,7 @@ ghost use Rattle.script.specs.Machine.{halt};
 ghost use Rattle.script.specs.Calls.{calls};
 ghost use Rattle.ops.specs.Conc.{conc};
 ghost use Rattle.driver.specs.Points.{Linked, meaning};
+ghost use Rattle.bus.specs.Points as bus;
 ghost use Rattle.usbhs.specs.Under.{encode, decode, finish, machineOf, driverOf, answerOf};
 
 // What is under way.
@@ -23,6 +24,9 @@ pub fn under_way(s: &[u8; STATE_LEN]) -> Under
     let c = state::load_saved(s);
     if c.tag == 1 {
         return Under::Driver(driver::codec::decode(c));
+    }
+    if c.tag == 2 {
+        return Under::Bus(bus::decode(c));
     }
     Under::Idle
 }
@@ -53,6 +57,11 @@ fn saved_as(u: Under) -> Saved
             c.tag = 1;
             c
         }
+        Under::Bus(p) => {
+            let mut c = bus::encode(p);
+            c.tag = 2;
+            c
+        }
     }
 }
 
@@ -76,5 +85,19 @@ pub fn halted(s: &mut [u8; STATE_LEN], n: Next) -> Step
             Step::Asks(q)
         }
         Next::Ends(k) => ended(s, k),
+    }
+}
+
+// The same of the bus's operations.
+pub fn halted_bus(s: &mut [u8; STATE_LEN], n: bus::Next) -> Step
+    requires { ⌜ bus.Linked n ⌝ }
+    ensures { λ r. ⌜ ((b : List ℕ) → (answerOf r, machineOf (now (s .exit)) b) ≡ halt calls driverOf (λ t. t) false (bindOut (bus.meaning n (view (now (s .entry))) b) (λ k t. run conc (finish k) t))) ⌝ }
+{
+    match n {
+        bus::Next::Asks(q, p) => {
+            state::store_saved(s, saved_as(Under::Bus(p)));
+            Step::Asks(q)
+        }
+        bus::Next::Ends(k) => ended(s, k),
     }
 }

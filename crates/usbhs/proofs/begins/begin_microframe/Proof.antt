@@ -17,6 +17,9 @@ under-way-requires c κs = search needs
 enum-known-u : tie.Need-enum-known-u
 enum-known-u c = search needs
 
+enum-known-u-2 : tie.Need-enum-known-u-2
+enum-known-u-2 c = search needs
+
 enum-told : tie.Need-enum-told
 enum-told c = search needs
 
@@ -39,7 +42,10 @@ returns-2 : tie.Need-returns-2
 returns-2 c a b = simp (← c .before .before .before .under-way .ensures, c .before .u .given .1)
 
 returns-3 : tie.Need-returns-3
-returns-3 c a b = simp (← c .before .before .before .before .before .before .under-way .ensures, c .before .before .before .before .enum-told .given .1, ← c .before .before .load-globals .ensures, ne-eqb _ _ (c .if1 .left))
+returns-3 c a b = simp (← c .before .before .before .under-way .ensures, c .before .u2 .given .1)
+
+returns-4 : tie.Need-returns-4
+returns-4 c a b = simp (← c .before .before .before .before .before .before .under-way .ensures, c .before .before .before .before .enum-told .given .1, ← c .before .before .load-globals .ensures, ne-eqb _ _ (c .if1 .left))
 
 pub begin-microframe-spec : {M : Type 1} → statement M
 begin-microframe-spec =
@@ -47,6 +53,7 @@ begin-microframe-spec =
     (tie.spec
     under-way-requires
     enum-known-u
+    enum-known-u-2
     enum-told
     load-globals-requires
     clear-wakes-requires
@@ -54,4 +61,5 @@ begin-microframe-spec =
     halted-requires
     returns
     returns-2
-    returns-3)
+    returns-3
+    returns-4)

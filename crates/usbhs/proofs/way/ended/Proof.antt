@@ -1,4 +1,4 @@
-use Rattle.usbhs.specs.Under.{encode, decode, decode-encode}
+use Rattle.usbhs.specs.Under.{decode-encode}
 use borrow.Author.Needs.{needs}
 use Rattle.usbhs.proofs.way.ended.Statement.{statement}
 use Rattle.usbhs.proofs.way.ended.Tie as tie

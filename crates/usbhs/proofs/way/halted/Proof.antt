@@ -1,4 +1,4 @@
-use Rattle.usbhs.specs.Under.{encode, decode, decode-encode, linked}
+use Rattle.usbhs.specs.Under.{decode-encode, linked}
 use borrow.Author.Needs.{needs}
 use Rattle.usbhs.proofs.way.halted.Statement.{statement}
 use Rattle.usbhs.proofs.way.halted.Tie as tie
