@@ -39,6 +39,7 @@ pub fn set_paced(s: &mut [u8; STATE_LEN], e: u32, on: bool) -> Step
     let u = under_way(s);
     match u {
         Under::Driver(_p) => Step::Refused(3),
+        Under::Bus(_p) => Step::Refused(3),
         Under::Idle => {
             let g = state::load_globals(s);
             if g.stage == 2 {

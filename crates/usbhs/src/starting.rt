@@ -29,6 +29,7 @@ pub fn allocate(
     let u = under_way(s);
     match u {
         Under::Driver(_p) => Step::Refused(3),
+        Under::Bus(_p) => Step::Refused(3),
         Under::Idle => {
             let g = state::load_globals(s);
             if g.stage == 1 {
@@ -55,6 +56,7 @@ pub fn start(s: &mut [u8; STATE_LEN], maximum: u32) -> Step
     let u = under_way(s);
     match u {
         Under::Driver(_p) => Step::Refused(3),
+        Under::Bus(_p) => Step::Refused(3),
         Under::Idle => {
             let g = state::load_globals(s);
             if g.stage == 1 {

@@ -19,6 +19,9 @@ under-way-requires c κs = search needs
 enum-known-u : tie.Need-enum-known-u
 enum-known-u c = search needs
 
+enum-known-u-2 : tie.Need-enum-known-u-2
+enum-known-u-2 c = search needs
+
 enum-told : tie.Need-enum-told
 enum-told c = search needs
 
@@ -53,7 +56,10 @@ returns-3 : tie.Need-returns-3
 returns-3 c a b = simp (← c .before .before .before .under-way .ensures, c .before .u .given .1)
 
 returns-4 : tie.Need-returns-4
-returns-4 c a b = simp (← c .before .before .before .before .before .before .under-way .ensures, c .before .before .before .before .enum-told .given .1, ← c .before .before .load-globals .ensures, ne-eqb _ _ (c .if1 .left))
+returns-4 c a b = simp (← c .before .before .before .under-way .ensures, c .before .u2 .given .1)
+
+returns-5 : tie.Need-returns-5
+returns-5 c a b = simp (← c .before .before .before .before .before .before .under-way .ensures, c .before .before .before .before .enum-told .given .1, ← c .before .before .load-globals .ensures, ne-eqb _ _ (c .if1 .left))
 
 pub allocate-spec : {M : Type 1} → statement M
 allocate-spec =
@@ -61,6 +67,7 @@ allocate-spec =
     (tie.spec
     under-way-requires
     enum-known-u
+    enum-known-u-2
     enum-told
     load-globals-requires
     allocate-requires
@@ -72,4 +79,5 @@ allocate-spec =
     halted-requires
     returns-2
     returns-3
-    returns-4)
+    returns-4
+    returns-5)
