@@ -1,2 +1,4 @@
 pub mod Word
+pub mod Parts
+pub mod WordLaws
 pub mod Calls
