@@ -11,7 +11,7 @@ ghost use mathlib.Core.Path.{_≡_};
 ghost use Rattle.state.specs.State.{view};
 ghost use Rattle.script.specs.Statics.{flag};
 ghost use Rattle.script.specs.Machine.{begin, go, start};
-ghost use Rattle.script.specs.Calls.{other, Microframe, Allocate, Start, SetPaced};
+ghost use Rattle.script.specs.Calls.{other, slotted, Microframe, Allocate, Start, SetPaced, BusEnable, BusDisable, BusPoll, IsStalled, SetStalled, SetEnabled};
 ghost use Prim.Native.Nat.{_%_};
 ghost use Rattle.usbhs.specs.Under.{configOf};
 ghost use Rattle.usbhs.specs.Questions.{pendingOn, overrunsOn, enabledAsked};
@@ -76,6 +76,60 @@ pub extern "C" fn usbhs_set_paced(s: &mut [u8; STATE_LEN], endpoint: u32, paced:
     ensures { λ r. ⌜ Answers r (begin (other (SetPaced endpoint (flagOf paced)))) (now (s .entry)) (now (s .exit)) ⌝ }
 {
     word_of(usbhs::begins::set_paced(s, endpoint, flag_of(paced)))
+}
+
+// Pulls the bus up.
+#[no_mangle]
+pub extern "C" fn usbhs_begin_bus_enable(s: &mut [u8; STATE_LEN]) -> u64
+    ensures { λ r. ⌜ Answers r (begin (other BusEnable)) (now (s .entry)) (now (s .exit)) ⌝ }
+{
+    word_of(usbhs::bus_begins::begin_bus_enable(s))
+}
+
+// Nothing, as in the Rust.
+#[no_mangle]
+pub extern "C" fn usbhs_begin_bus_disable(s: &mut [u8; STATE_LEN]) -> u64
+    ensures { λ r. ⌜ Answers r (begin (other BusDisable)) (now (s .entry)) (now (s .exit)) ⌝ }
+{
+    word_of(usbhs::bus_begins::begin_bus_disable(s))
+}
+
+// The bus's event: 0 not yet, 1 power detected, 2 reset, 3 suspend, 4 resume.
+#[no_mangle]
+pub extern "C" fn usbhs_begin_bus_poll(s: &mut [u8; STATE_LEN]) -> u64
+    ensures { λ r. ⌜ Answers r (begin (other BusPoll)) (now (s .entry)) (now (s .exit)) ⌝ }
+{
+    word_of(usbhs::bus_begins::begin_bus_poll(s))
+}
+
+// Whether the endpoint answers STALL: 1 or 0.
+#[no_mangle]
+pub extern "C" fn usbhs_begin_is_stalled(s: &mut [u8; STATE_LEN], endpoint: u32, dir: u32) -> u64
+    ensures { λ r. ⌜ Answers r (begin (other (IsStalled (dirOf dir) endpoint))) (now (s .entry)) (now (s .exit)) ⌝ }
+{
+    word_of(usbhs::bus_begins::begin_is_stalled(s, dir_of(dir), endpoint))
+}
+
+// The endpoint stalled or restarted.
+#[no_mangle]
+pub extern "C" fn usbhs_begin_set_stalled(s: &mut [u8; STATE_LEN], endpoint: u32, dir: u32, stalled: u32) -> u64
+    ensures { λ r. ⌜ Answers r (begin (other (SetStalled (dirOf dir) endpoint (flagOf stalled)))) (now (s .entry)) (now (s .exit)) ⌝ }
+{
+    word_of(usbhs::bus_begins::begin_set_stalled(s, dir_of(dir), endpoint, flag_of(stalled)))
+}
+
+// The endpoint enabled or disabled.
+#[no_mangle]
+pub extern "C" fn usbhs_begin_set_enabled(
+    s: &mut [u8; STATE_LEN],
+    slots: &mut [u8],
+    endpoint: u32,
+    dir: u32,
+    enabled: u32,
+) -> u64
+    ensures { λ r. ⌜ AnswersLent r (begin (slotted (SetEnabled (dirOf dir) endpoint (flagOf enabled)))) (now (s .entry)) (now (s .exit)) (now (slots .entry)) (now (slots .exit)) ⌝ }
+{
+    word_of(usbhs::bus_begins::begin_set_enabled(s, slots, dir_of(dir), endpoint, flag_of(enabled)))
 }
 
 // The packets queued on the IN endpoint and not yet taken by the host.
