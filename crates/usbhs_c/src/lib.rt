@@ -112,7 +112,12 @@ pub extern "C" fn usbhs_begin_is_stalled(s: &mut [u8; STATE_LEN], endpoint: u32,
 
 // The endpoint stalled or restarted.
 #[no_mangle]
-pub extern "C" fn usbhs_begin_set_stalled(s: &mut [u8; STATE_LEN], endpoint: u32, dir: u32, stalled: u32) -> u64
+pub extern "C" fn usbhs_begin_set_stalled(
+    s: &mut [u8; STATE_LEN],
+    endpoint: u32,
+    dir: u32,
+    stalled: u32,
+) -> u64
     ensures { λ r. ⌜ Answers r (begin (other (SetStalled (dirOf dir) endpoint (flagOf stalled)))) (now (s .entry)) (now (s .exit)) ⌝ }
 {
     word_of(usbhs::bus_begins::begin_set_stalled(s, dir_of(dir), endpoint, flag_of(stalled)))

@@ -1,0 +1,24 @@
+use borrow.Author.Needs.{needs}
+use Rattle.usbhs_c.proofs.usbhs_begin_is_stalled.Statement.{statement}
+use Rattle.usbhs_c.proofs.usbhs_begin_is_stalled.Tie as tie
+use Rattle.usbhs_c.proofs.usbhs_begin_is_stalled.Reads as reads
+use Rattle.usbhs_c.proofs.usbhs_begin_is_stalled.Lts as lts
+use Rattle.usbhs.proofs.bus_begins.begin_is_stalled.Reads as begin-is-stalled-reads
+use Rattle.usbhs_c.proofs.inputs.dir_of.Reads as dir-of-reads
+use Rattle.usbhs_c.proofs.word.word_of.Reads as word-of-reads
+
+dir-of-requires : tie.Need-dir-of-requires
+dir-of-requires c κs = search needs
+
+begin-is-stalled-requires : tie.Need-begin-is-stalled-requires
+begin-is-stalled-requires c κs = search needs
+
+word-of-requires : tie.Need-word-of-requires
+word-of-requires c κs = search needs
+
+returns : tie.Need-returns
+returns c = (_, c .word-of .ensures, λ a b. simp (← c .before .before .dir-of .ensures) (c .before .begin-is-stalled .ensures a b))
+
+pub usbhs-begin-is-stalled-spec : {M : Type 1} → statement M
+usbhs-begin-is-stalled-spec =
+    tie.close (tie.spec dir-of-requires begin-is-stalled-requires word-of-requires returns)

@@ -1,0 +1,38 @@
+use borrow.Author.Needs.{needs}
+use Rattle.usbhs_c.proofs.usbhs_begin_set_enabled.Statement.{statement}
+use Rattle.usbhs_c.proofs.usbhs_begin_set_enabled.Tie as tie
+use Rattle.usbhs_c.proofs.usbhs_begin_set_enabled.Reads as reads
+use Rattle.usbhs_c.proofs.usbhs_begin_set_enabled.Lts as lts
+use Rattle.usbhs.proofs.bus_begins.begin_set_enabled.Reads as begin-set-enabled-reads
+use Rattle.usbhs_c.proofs.inputs.dir_of.Reads as dir-of-reads
+use Rattle.usbhs_c.proofs.inputs.flag_of.Reads as flag-of-reads
+use Rattle.usbhs_c.proofs.word.word_of.Reads as word-of-reads
+
+dir-of-requires : tie.Need-dir-of-requires
+dir-of-requires c κs = search needs
+
+flag-of-requires : tie.Need-flag-of-requires
+flag-of-requires c κs = search needs
+
+begin-set-enabled-requires : tie.Need-begin-set-enabled-requires
+begin-set-enabled-requires c κs = search needs
+
+word-of-requires : tie.Need-word-of-requires
+word-of-requires c κs = search needs
+
+same-length : tie.Need-same-length
+same-length c = search needs
+
+returns : tie.Need-returns
+returns c = (_, c .word-of .ensures, λ a. simp (← c .before .before .before .before .flag-of .ensures, ← c .before .before .before .before .before .dir-of .ensures) (c .before .before .before .begin-set-enabled .ensures a))
+
+pub usbhs-begin-set-enabled-spec : {M : Type 1} → statement M
+usbhs-begin-set-enabled-spec =
+    tie.close
+    (tie.spec
+    dir-of-requires
+    flag-of-requires
+    begin-set-enabled-requires
+    word-of-requires
+    same-length
+    returns)
