@@ -61,6 +61,58 @@ fn before_start_up() {
     questions(&s, 1);
 }
 
+// Allocates an endpoint with a maximum of 8 bytes and shows what is handed out.
+fn endpoint(s: &mut [u8; STATE_LEN], slots: &mut [u8], dir: Dir, kind: u8) {
+    let first = usbhs::starting::allocate(s, dir, kind, 256, 8, 1);
+    run(s, slots, first, 64);
+}
+
+fn enable(s: &mut [u8; STATE_LEN], slots: &mut [u8], dir: Dir, e: u32) {
+    let first = usbhs::bus_begins::begin_set_enabled(s, slots, dir, e, true);
+    run(s, slots, first, 64);
+}
+
+// A driver on 21 buffers of 8 bytes, with an isochronous OUT and IN.
+fn started(s: &mut [u8; STATE_LEN], slots: &mut [u8]) {
+    print(b"\nstart-up, 21 buffers of 8 bytes\n");
+    let first = usbhs::starting::start_up(s, slots, 8, 21, false);
+    run(s, slots, first, 64);
+    print(b"\nallocate an isochronous OUT\n");
+    endpoint(s, slots, Dir::Out, 1);
+    print(b"\nallocate an isochronous IN\n");
+    endpoint(s, slots, Dir::In, 1);
+}
+
+// A bulk pair and EP0.
+fn others(s: &mut [u8; STATE_LEN], slots: &mut [u8]) {
+    print(b"\nallocate a bulk OUT\n");
+    endpoint(s, slots, Dir::Out, 2);
+    print(b"\nallocate a bulk IN\n");
+    endpoint(s, slots, Dir::In, 2);
+    print(b"\nstart EP0\n");
+    let ep0 = usbhs::starting::start(s, 8);
+    run(s, slots, ep0, 64);
+}
+
+fn enabled(s: &mut [u8; STATE_LEN], slots: &mut [u8]) {
+    print(b"\npull the bus up\n");
+    let up = usbhs::bus_begins::begin_bus_enable(s);
+    run(s, slots, up, 64);
+    print(b"\nenable the isochronous OUT\n");
+    enable(s, slots, Dir::Out, 1);
+    print(b"\nenable the isochronous IN\n");
+    enable(s, slots, Dir::In, 1);
+    print(b"\nenable the bulk OUT\n");
+    enable(s, slots, Dir::Out, 2);
+    print(b"\nenable the bulk IN\n");
+    enable(s, slots, Dir::In, 2);
+}
+
 fn main() {
     before_start_up();
+    let mut s = [0u8; STATE_LEN];
+    let mut slots = [0u8; 168];
+    started(&mut s, &mut slots);
+    others(&mut s, &mut slots);
+    enabled(&mut s, &mut slots);
 }
