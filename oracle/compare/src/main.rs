@@ -1,11 +1,36 @@
 //! compare [--seed N] [--runs N] [--length N]: random runs of the Rust, made on the port too, call by call. Ends with 1 at the first difference.
+//! compare --begun [...]: the same with the calls that the port exports now: of each random run, start-up, allocation, EP0's start, the bus,
+//! enabling, stalls, the microframe, pacing and the questions, with the continues that follow them.
 //! compare FILE...: the same with recorded lists.
 
+mod absent;
 mod port;
 
 use oracle::replay::{as_set, Session};
 use oracle::text::{print, Entry, Line};
-use oracle::{Answer, Driver};
+use oracle::{Answer, Call, Driver};
+
+/// Of a run's calls those that the port exports now, without the operations that it does not and their continues.
+fn begun(entries: &[Entry]) -> Vec<Call> {
+    let mut kept = true;
+    let mut calls = vec![];
+    for e in entries {
+        match e.call {
+            Call::StartUp { .. } | Call::Allocate { .. } | Call::Start(_) | Call::BusPoll | Call::BusEnable | Call::BusDisable => kept = true,
+            Call::SetEnabled { .. } | Call::SetStalled { .. } | Call::IsStalled { .. } | Call::Microframe => kept = true,
+            Call::SetPaced { .. } | Call::Pending(_) | Call::Overruns(_) | Call::Enabled { .. } | Call::Store { .. } | Call::Fill(_) => {
+                calls.push(e.call.clone());
+                continue;
+            }
+            Call::Continue(_) => {}
+            _ => kept = false,
+        }
+        if kept {
+            calls.push(e.call.clone());
+        }
+    }
+    calls
+}
 
 /// The first entry that the driver answers otherwise, but for the order of wake-ups and for what the Rust has no counterpart of.
 fn difference(driver: &mut dyn Driver, entries: &[Entry]) -> Option<(usize, Entry)> {
@@ -33,6 +58,7 @@ fn check(port: &mut port::Port, name: &str, entries: &[Entry]) {
 
 fn main() {
     let (mut seed, mut runs, mut length) = (1, 1000, 300);
+    let mut only_begun = false;
     let mut files = vec![];
     let mut args = std::env::args().skip(1);
     while let Some(a) = args.next() {
@@ -41,6 +67,7 @@ fn main() {
             "--seed" => seed = number(),
             "--runs" => runs = number(),
             "--length" => length = number() as u32,
+            "--begun" => only_begun = true,
             _ => files.push(a),
         }
     }
@@ -61,7 +88,11 @@ fn main() {
     if files.is_empty() {
         let mut calls = 0;
         for seed in seed..seed + runs {
-            let entries = oracle::random::run(&mut rust, seed, length);
+            let mut entries = oracle::random::run(&mut rust, seed, length);
+            if only_begun {
+                let mut session = Session::new(&mut rust);
+                entries = begun(&entries).iter().map(|call| session.call(call)).collect();
+            }
             check(&mut port, &format!("seed {seed}"), &entries);
             calls += entries.len();
         }
