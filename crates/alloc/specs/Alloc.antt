@@ -177,7 +177,7 @@ abbrev pub flag : Bool → ℕ
 flag true = 1
 flag false = 0
 
--- sort, kind, maximum, base, stride and slots set
+-- sort, kind, maximum, base, stride and slots set; no slot is armed yet, and what stands for it is the first
 abbrev pub shaped : EpState → ℕ → ℕ → ℕ → ℕ → ℕ → EpState
 shaped s kind maximum base size slots = record {
   ready = s .ready;
@@ -195,7 +195,7 @@ shaped s kind maximum base size slots = record {
   «last_frame» = s .«last_frame»;
   «max_len» = maximum;
   «min_len» = s .«min_len»;
-  «armed_slot» = s .«armed_slot»;
+  «armed_slot» = base;
   tog = s .tog;
   «open» = s .«open»;
 }

@@ -117,6 +117,7 @@ pub fn endpoint(mut s: EpState, kind: u8, maximum: u16, base: u32, size: u16, sl
     s.max_len = maximum;
     s.base = base;
     s.stride = size;
+    s.armed_slot = base;
     s.slots = slots;
     s.reset()
 }

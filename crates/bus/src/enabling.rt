@@ -1,7 +1,7 @@
 use crate::Next;
 use crate::Point;
 use crate::stall::after_woken;
-use ops::arming::slot_step;
+use arming::slot_step;
 use ops::records::config_step;
 use ops::records::iso_out;
 use ops::records::place;

@@ -1,7 +1,7 @@
 use crate::Next;
 use crate::Point;
 use crate::byte;
-use ops::arming::reset_all;
+use arming::reset_all;
 use ops::records::wake_all;
 use ops::rings::is_on;
 use regs::Access;

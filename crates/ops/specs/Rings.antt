@@ -48,9 +48,9 @@ roomOn d e n = roomIn (epOn d In e) n
 unfoldable pub openedOn : Driver → ℕ → Bool
 openedOn d e = isOn (epOn d Out e .«open»)
 
--- the length of the oldest packet
+-- the length of the oldest packet; 0 where none waits
 unfoldable pub nextLen : Driver → Dir → ℕ → ℕ
-nextLen d dir e = lenOn d dir e (slotOf (epOn d dir e) (epOn d dir e .tail))
+nextLen d dir e = cond (hasWaiting (epOn d dir e)) (lenOn d dir e (slotOf (epOn d dir e) (epOn d dir e .tail))) 0
 
 -- where the oldest packet lies
 unfoldable pub oldestAt : Driver → ℕ → ℕ

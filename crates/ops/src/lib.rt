@@ -1,4 +1,3 @@
 // The operations of scripts on the state in lent bytes and the lent buffer.
 pub mod records; // records.rt: wake-ups, enabling, addresses of buffers, allocation
 pub mod rings; // rings.rt: rings of packets, and the buffers of endpoints
-pub mod arming; // arming.rt: arrivals, slots that are armed, records that are reset

@@ -1,18 +1,20 @@
-use crate::arming::receiving;
 use crate::rings::is_on;
 use alloc::Answer;
+use bits::mask_has;
 use regs::Dir;
+use regs::enables::out_enabled;
 use state::Globals;
 use state::STATE_LEN;
 use state::Wakes;
 ghost use mathlib.Core.Path.{_≡_};
 ghost use mathlib.Core.Bool.{true, false};
+ghost use Rattle.bits.specs.Bit.{isSet};
 ghost use Rattle.state.specs.Driver.{withWakes};
 ghost use Rattle.state.specs.State.{view, saved};
 ghost use Rattle.state.specs.Wakes.{woken};
-ghost use Prim.Native.Nat.{_≤_};
+ghost use Prim.Native.Nat.{_≤_, _%_};
 ghost use Rattle.alloc.specs.Alloc.{allocateOf, allocateEp0Of};
-ghost use Rattle.script.specs.Statics.{all-woken};
+ghost use Rattle.script.specs.Statics.{all-woken, isoOuts};
 ghost use Rattle.ops.specs.Records.{isoOut, enabledOn, withSets, recordGiven, setsGiven, givenTo, allocatedOn, startedWith, allocatedEp0};
 ghost use Rattle.ops.specs.Rings.{placeOn, typeStep, configStep};
 
@@ -65,6 +67,14 @@ pub fn set_enabled(s: &mut [u8; STATE_LEN], dir: Dir, e: u8, on: bool)
     }
     let g = state::load_globals(s);
     state::set_ep_config(s, regs::enables::with_on(g.ep_config, dir, e, on));
+}
+
+// Is OUT e an enabled isochronous endpoint (mod.rs 95-101, 467)?
+pub fn receiving(s: &[u8; STATE_LEN], e: u8) -> bool
+    ensures { λ r. ⌜ r ≡ isSet (isoOuts (view (now (s .entry)) .globals)) (e % 16) ⌝ }
+{
+    let g = state::load_globals(s);
+    mask_has(out_enabled(g.ep_config, g.iso_out_eps), e)
 }
 
 // The address of the endpoint's buffer, which of OUT is from now on the armed slot.

@@ -85,12 +85,15 @@ pub fn opened(s: &[u8; STATE_LEN], e: u8) -> bool
     is_on(r.open)
 }
 
-// The length of the oldest packet.
+// The length of the oldest packet; 0 where none waits.
 pub fn next_len(s: &[u8; STATE_LEN], dir: Dir, e: u8) -> u16
     ensures { λ r. ⌜ r ≡ nextLen (view (now (s .entry))) dir e ⌝ }
 {
     let r = load_ep(s, dir, e);
-    load_len(s, dir, e, slot_index(r, r.tail))
+    if has_waiting(r) {
+        return load_len(s, dir, e, slot_index(r, r.tail));
+    }
+    0
 }
 
 // Where the oldest packet of OUT e lies.

@@ -7,7 +7,7 @@ use Rattle.bus.proofs.enabling.after_switch.Reads as reads
 use Rattle.bus.proofs.enabling.after_switch.Lts as lts
 use Rattle.bus.proofs.enabling.switch_word.Reads as switch-word-reads
 use Rattle.bus.proofs.stall.after_woken.Reads as after-woken-reads
-use Rattle.ops.proofs.arming.slot_step.Reads as slot-step-reads
+use Rattle.arming.proofs.slot_step.Reads as slot-step-reads
 use Rattle.ops.proofs.records.config_step.Reads as config-step-reads
 use Rattle.ops.proofs.records.type_step.Reads as type-step-reads
 

@@ -4,7 +4,7 @@ use Rattle.bus.proofs.event.after_single.Statement.{statement}
 use Rattle.bus.proofs.event.after_single.Tie as tie
 use Rattle.bus.proofs.event.after_single.Reads as reads
 use Rattle.bus.proofs.event.after_single.Lts as lts
-use Rattle.ops.proofs.arming.reset_all.Reads as reset-all-reads
+use Rattle.arming.proofs.reset_all.Reads as reset-all-reads
 
 reset-all-requires : tie.Need-reset-all-requires
 reset-all-requires c κs = search needs

@@ -5,7 +5,7 @@ use Rattle.ops.proofs.records.place.Statement.{statement}
 use Rattle.ops.proofs.records.place.Tie as tie
 use Rattle.ops.proofs.records.place.Reads as reads
 use Rattle.ops.proofs.records.place.Lts as lts
-use Rattle.ops.proofs.arming.receiving.Reads as receiving-reads
+use Rattle.ops.proofs.records.receiving.Reads as receiving-reads
 use Rattle.ring.proofs.armed.Reads as armed-reads
 use Rattle.state.proofs.load_ep.Reads as load-ep-reads
 use Rattle.state.proofs.store_ep.Reads as store-ep-reads

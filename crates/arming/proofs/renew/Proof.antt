@@ -1,0 +1,24 @@
+use mathlib.Core.Path.{_∙_}
+use Rattle.ops.specs.Rings.{renewedOn}
+use borrow.Author.Needs.{needs}
+use Rattle.arming.proofs.renew.Statement.{statement}
+use Rattle.arming.proofs.renew.Tie as tie
+
+load-ep-requires : tie.Need-load-ep-requires
+load-ep-requires c κs = search needs
+
+fill-lens-requires : tie.Need-fill-lens-requires
+fill-lens-requires c κs = search needs
+
+reset-requires : tie.Need-reset-requires
+reset-requires c κs = search needs
+
+store-ep-requires : tie.Need-store-ep-requires
+store-ep-requires c κs = search needs
+
+returns : tie.Need-returns
+unfolding renewedOn
+returns c = (simp (c .store-ep .ensures .0, c .before .before .reset .ensures, c .before .before .before .fill-lens .ensures .0, c .before .before .before .before .before .load-ep .ensures), c .store-ep .ensures .1 ∙ c .before .before .before .fill-lens .ensures .1)
+
+pub renew-spec : {M : Type 1} → statement M
+renew-spec = tie.close (tie.spec load-ep-requires fill-lens-requires reset-requires store-ep-requires returns)

@@ -1,0 +1,18 @@
+use borrow.Author.Needs.{needs}
+use Rattle.arming.proofs.reset_one.Statement.{statement}
+use Rattle.arming.proofs.reset_one.Tie as tie
+
+load-ep-requires : tie.Need-load-ep-requires
+load-ep-requires c κs = search needs
+
+reset-requires : tie.Need-reset-requires
+reset-requires c κs = search needs
+
+store-ep-requires : tie.Need-store-ep-requires
+store-ep-requires c κs = search needs
+
+returns : tie.Need-returns
+returns c = (simp (c .store-ep .ensures .0, c .before .reset .ensures, c .before .before .before .load-ep .ensures), c .store-ep .ensures .1)
+
+pub reset-one-spec : {M : Type 1} → statement M
+reset-one-spec = tie.close (tie.spec load-ep-requires reset-requires store-ep-requires returns)
