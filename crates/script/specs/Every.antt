@@ -37,6 +37,10 @@ module _ {S : Type 0} {C : Chip} {Keeps : S → S → Type 0} {Ok : Access → T
   every-bind (at-end x) k = k _ _ _ x
   every-bind (at-ask ok x) k = at-ask ok (λ v t b i. every-bind (x v t b i) k)
 
+  pub every-more : {A : Type 0} {P Q : C .Holds → A → S → Type 0} {h : C .Holds} {o : tree.Out S A} → Every C Keeps Ok P h o → ((g : C .Holds) (a : A) (s : S) → P g a s → Q g a s) → Every C Keeps Ok Q h o
+  every-more (at-end x) f = at-end (f _ _ _ x)
+  every-more (at-ask ok x) f = at-ask ok (λ v t b i. every-more (x v t b i) f)
+
   pub every-cond : {A : Type 0} {P : C .Holds → A → S → Type 0} {h : C .Holds} (b : Bool) {o u : tree.Out S A} → (b ≡ true → Every C Keeps Ok P h o) → (b ≡ false → Every C Keeps Ok P h u) → Every C Keeps Ok P h (cond b o u)
   every-cond true x y = x refl
   every-cond false x y = y refl

@@ -31,3 +31,9 @@ pub mod AddressWrites
 pub mod AddressCalls
 pub mod AddressLaws
 pub mod FrameLaws
+pub mod Sorts
+pub mod SortsWalks
+pub mod SortsLaws
+pub mod SortsInterrupt
+pub mod SortsAside
+pub mod SortsReached

@@ -39,7 +39,7 @@ unfolding readings
 quiet-path n q s k z x [] = omega (arith, z)
 quiet-path n q s k z x (c ∷ w) = omega (arith, z, x (c .0) (c .1) w)
 
-hand-quiet : (q : Hand) (x : ℕ) → reading (handAsk q x) ≡ 0
+pub hand-quiet : (q : Hand) (x : ℕ) → reading (handAsk q x) ≡ 0
 hand-quiet (arrive e n) x = refl
 hand-quiet (send e) x = refl
 hand-quiet (place Out e) x = refl

@@ -26,13 +26,13 @@ use Rattle.script.specs.Readings.{Continues, readings}
 
 -- a state that is no more than whether the endpoints are isochronous; all else stands still. Every endpoint is in both walks and armed, every
 -- slot has changed, and the last start of frame was another
-abbrev plain : Bool → Plain
+abbrev pub plain : Bool → Plain
 plain iso = record { ready = 0; len = 0; armed = 1; «last_frame» = 0x1800; tog = 0; iso = flag iso; kind = 0; base = 0; «max_len» = 64 }
 
 abbrev globals : Globals
 globals = record { stage = 2; callback = 0; power = 1; «setup_ready» = 0; «setup_low» = 0; «setup_high» = 0; «int_en» = 0; «ep_config» = 0xFFFFFFFF; «ep_type» = 0; «iso_out_eps» = 0xFFFF; «iso_in_every» = 0xFFFF; «iso_in_paced» = 0; «sof_frame» = 7; «ep0_buf» = 0; «ep0_max» = 64 }
 
-abbrev allocator : Allocator
+abbrev pub allocator : Allocator
 allocator = record { size = 64; count = 1; next = 0; «taken_out» = 0; «taken_in» = 0; «iso_nums» = 0; «other_nums» = 0; «allocated_out» = 0; «allocated_in» = 0 }
 
 abbrev cells : (c : Cell) → Bool → Val c
