@@ -1,0 +1,58 @@
+// An advance's point as numbers, and back.
+use crate::advance::Advance;
+use crate::complete::Complete;
+use state::Saved;
+ghost use mathlib.Core.Path.{_≡_};
+ghost use Rattle.iso_in.specs.Codec.{code, completingAs, encode, decode};
+
+fn code(sub: u8, e: u8, left: u8, frame: u16, of: u8) -> Saved
+    ensures { λ r. ⌜ r ≡ code sub e left frame of ⌝ }
+{
+    Saved {
+        tag: 0,
+        sub,
+        site: 0,
+        flag: 0,
+        busy: 0,
+        late: 0,
+        len_ok: 0,
+        st: left,
+        now: of,
+        ep: e,
+        len: 0,
+        frame,
+        eps: 0,
+        n: 0,
+        value: 0,
+    }
+}
+
+fn completing_as(e: u8, left: u8, frame: u16, p: Complete) -> Saved
+    ensures { λ r. ⌜ r ≡ completingAs e left frame p ⌝ }
+{
+    match p {
+        Complete::Sent(of) => code(1, e, left, frame, of),
+        Complete::Loaded(of) => code(2, e, left, frame, of),
+    }
+}
+
+pub fn encode(p: Advance) -> Saved
+    ensures { λ r. ⌜ r ≡ encode p ⌝ }
+{
+    match p {
+        Advance::FrameNo(e) => code(0, e, 0, 0, 0),
+        Advance::Completing(e, left, frame, q) => completing_as(e, left, frame, q),
+    }
+}
+
+// Any numbers are a point: an unknown one is the first.
+pub fn decode(c: Saved) -> Advance
+    ensures { λ r. ⌜ r ≡ decode c ⌝ }
+{
+    let k = c.sub;
+    match k {
+        1 => Advance::Completing(c.ep, c.st, c.frame, Complete::Sent(c.now)),
+        2 => Advance::Completing(c.ep, c.st, c.frame, Complete::Loaded(c.now)),
+        _ => Advance::FrameNo(c.ep),
+    }
+}

@@ -1,0 +1,71 @@
+// Isochronous IN (mod.rs 323-340, 397-414, 558-608, 736-746), one access at a time. Every function is total: any number is safe.
+pub mod advance; // advance.rt: a paced endpoint's completions
+pub mod codec; // codec.rt: an advance's point as numbers
+pub mod complete; // complete.rt: one completion
+pub mod late; // late.rt: the completions of a late entry
+pub mod sof; // sof.rt: a microframe's SOF
+
+use bits::mask_except;
+use regs::Dir;
+use regs::enables::in_enabled;
+use state::Globals;
+use state::STATE_LEN;
+use state::load_ep;
+use state::store_ep;
+ghost use mathlib.Core.Path.{_≡_};
+ghost use mathlib.Core.Bool.{true};
+ghost use Rattle.regs.specs.Registers.{fitsIn};
+ghost use Rattle.state.specs.State.{view, saved};
+ghost use Rattle.script.specs.Statics.{isoInEvery};
+ghost use Rattle.iso_in.specs.Frames.{framedOn, isFirst};
+
+// A walk's next endpoint that is not passed over, with the mask of those after it.
+pub enum Found {
+    At(u8, u16),
+    Nothing,
+}
+
+// `iso_in_every` (mod.rs 80-92).
+pub fn every(g: Globals) -> u16
+    ensures { λ r. ⌜ r ≡ isoInEvery g ⌝ }
+{
+    in_enabled(g.ep_config, mask_except(g.iso_in_every, g.iso_in_paced))
+}
+
+// The microframe of an IN's completion is recorded.
+fn record_frame(s: &mut [u8; STATE_LEN], e: u8, frame: u16)
+    ensures { λ _. ⌜ view (now (s .exit)) ≡ framedOn (view (now (s .entry))) e frame ⌝ }
+    ensures { λ _. ⌜ saved (now (s .exit)) ≡ saved (now (s .entry)) ⌝ }
+{
+    let mut r = load_ep(s, Dir::In, e);
+    r.last_frame = frame;
+    store_ep(s, Dir::In, e, r);
+}
+
+// `first_in_frame` (mod.rs 397-403).
+pub fn first_in_frame(s: &mut [u8; STATE_LEN], e: u8, frame: u16) -> bool
+    ensures { λ r. ⌜ r ≡ isFirst (view (now (s .entry))) e frame ⌝ }
+    ensures { λ _. ⌜ view (now (s .exit)) ≡ framedOn (view (now (s .entry))) e frame ⌝ }
+    ensures { λ _. ⌜ saved (now (s .exit)) ≡ saved (now (s .entry)) ⌝ }
+{
+    let r = load_ep(s, Dir::In, e);
+    let first = r.last_frame != frame;
+    record_frame(s, e, frame);
+    first
+}
+
+// A reading of 8 bits or less.
+fn byte(v: u32) -> u8
+    requires { ⌜ fitsIn v 8 ≡ true ⌝ }
+    ensures { λ r. ⌜ r ≡ v ⌝ }
+{
+    v as u8
+}
+
+// One of 16 bits.
+fn half(v: u32) -> u16
+    requires { ⌜ fitsIn v 16 ≡ true ⌝ }
+    ensures { λ r. ⌜ r ≡ v ⌝ }
+{
+    v as u16
+}

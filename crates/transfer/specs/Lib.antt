@@ -1,0 +1,5 @@
+pub mod Wait
+pub mod Nak
+pub mod Toggled
+pub mod Settle
+pub mod Laws
