@@ -4,8 +4,7 @@ use mathlib.Core.Bool.{Bool, true, false, cond}
 use mathlib.Core.List.{List, []}
 use Prim.Native.Nat.{ℕ, _%_}
 use lib.Dec.{eqb, ltb}
-use lib.ListN.{length, take, drop}
-use lib.Seq.{take-at}
+use lib.ListN.{length}
 use Rattle.marks.specs.Copies.{over, bytesAt}
 use Rattle.regs.specs.declared.Reg.the-variants.{DevAd, EpTLen, EpRxCtrl, EpTxCtrl}
 use Rattle.regs.specs.declared.Access.the-variants.{Read, Write}
@@ -26,16 +25,14 @@ use Rattle.script.specs.Control.{SETUP, ACCEPT, DATA-OUT, setupBytes, pollSetup
 use Rattle.ops.specs.Rings.{St, filledEp0}
 use Rattle.ops.specs.Conc.{go}
 use Rattle.request.specs.Records.{modifiedOn}
+use Rattle.request.specs.Fetch.{take-front}
+use Rattle.request.specs.Answers.{lentAfter}
 use Rattle.control.specs.declared.Point.{Point}
 use Rattle.control.specs.declared.Point.the-variants as point
 use Rattle.control.specs.declared.Begun.the-variants as begun
 use Rattle.control.specs.declared.Polled.{Polled}
 use Rattle.control.specs.declared.Polled.the-variants as polled
-use Rattle.control.specs.Points.{begunAs, polledAs, lentAfter, fitsAt}
-
--- a test's value on the driver
-pub on-driver : {A : Type 0} {x y : A} (f : A → Bool) {r t : Bool} → x ≡ y → r ≡ f x → r ≡ t → f y ≡ t
-on-driver f e h k = rw (← e, ← h) k
+use Rattle.control.specs.Points.{begunAs, polledAs, fitsAt}
 
 -- what was read is a byte
 pub told-fits : {p q : Point} (v : ℕ) → p ≡ q → fitsAt p v ≡ true → fitsAt q v ≡ true
@@ -113,9 +110,6 @@ pub closing-waits : (d d1 d2 : Driver) (c : Control) (b : List ℕ) → d1 ≡ m
 closing-waits d d1 d2 c b h1 h2 u g = rw (h2, h1, u, g)
 
 -- ---- the poll of data_out, with the slice it was lent
-
-pub take-front : (xs ys : List ℕ) → take (length xs) (over xs ys) ≡ xs
-take-front xs ys = take-at xs (drop (length xs) ys) (length xs) refl
 
 module _ (d d1 d2 : Driver) (b out : List ℕ) (n : ℕ) (h1 : d1 ≡ modifiedOn Out 0 (withReady 0) d) (u : isOn (epOn d Out 0 .ready) ≡ true) where
   pub long-told : d2 ≡ withControl d1 no-control → ltb n (epOn d Out 0 .len) ≡ true → polledAs (polled.Refused 10) out d2 b ≡ go {i = false} (take-out n) d b

@@ -10,16 +10,16 @@ use Rattle.regs.specs.declared.Dir.the-variants.{Out, In}
 use Rattle.regs.specs.Registers.{ctrlOf, widthOf, fitsIn}
 use Rattle.regs.specs.ControlWord.{ack, stall, status}
 use Rattle.state.specs.Driver.{Driver}
-use Rattle.marks.specs.Copies.{over}
 use Rattle.script.specs.Tree as tree
 use Rattle.script.specs.Tree.{ends, asks}
-use Rattle.script.specs.Cells.{wakes-cell}
-use Rattle.script.specs.Script.{Script, run, ret, _>>=_, _>>_, read, write, get}
+use Rattle.script.specs.Script.{Script, run, ret, _>>=_, _>>_, read, write}
 use Rattle.script.specs.Statics.{withArmed, modifyEp, modifyReg}
-use Rattle.script.specs.Answers.{Answer, Refused, End, NotYet, Done, Shown}
+use Rattle.script.specs.Machine.{Awaits, nothing, reading, awaited}
+use Rattle.script.specs.Answers.{Answer, Refused, End, NotYet, Done}
 use Rattle.script.specs.Control.{acks, wordBytes}
 use Rattle.ops.specs.Rings.{St}
 use Rattle.ops.specs.Conc.{conc}
+use Rattle.request.specs.Answers.{finished}
 use Rattle.control.specs.declared.Point.{Point}
 use Rattle.control.specs.declared.Point.the-variants as point
 use Rattle.control.specs.declared.Next.{Next}
@@ -80,13 +80,6 @@ pub ctrl-width : (d : Dir) → widthOf (ctrlOf d) ≡ 8
 ctrl-width Out = refl
 ctrl-width In = refl
 
--- the operation's end, with its wake-ups (`operation`)
-abbrev pub finished : Script false ℕ → Script false Answer
-finished p = do
-  n ← p
-  w ← get wakes-cell
-  ret (End n w)
-
 -- the next access and the point at which it stops, or the result
 abbrev pub meaning : Next → Driver → List ℕ → tree.Out St ℕ
 meaning (next.Asks q p) d b = asks q (d, b) (λ v t. run conc (denote p v) t)
@@ -106,14 +99,30 @@ polledAs (polled.Done n) out d b = ends (Done (take n out)) (d, b)
 polledAs (polled.Setup low high) out d b = ends (Done (wordBytes low ++ wordBytes high)) (d, b)
 polledAs (polled.Asks q p) out d b = asks q (d, b) (λ v t. run conc (finished (denote p v)) t)
 
--- the lent slice after a poll: the bytes that it brought at its front
-abbrev pub broughtBy : Answer → List ℕ → List ℕ
-broughtBy (Done bytes) out = over bytes out
-broughtBy (Refused n) out = out
-broughtBy (End n w) out = out
-broughtBy NotYet out = out
-broughtBy (Shown bytes) out = out
+-- what a point awaits, and that it is the access handed out with it
+abbrev pub awaitsAt : Point → Awaits
+awaitsAt point.Wrote = nothing
+awaitsAt (point.Ack d) = reading (widthOf EpTxCtrl)
+awaitsAt point.StatusLen = nothing
+awaitsAt point.Status = reading (widthOf EpTxCtrl)
+awaitsAt point.StallIn = reading (widthOf EpTxCtrl)
+awaitsAt point.StalledIn = nothing
+awaitsAt point.StallOut = reading (widthOf EpRxCtrl)
+awaitsAt (point.Closing n first) = nothing
+awaitsAt (point.Loaded first) = nothing
 
-abbrev pub lentAfter : tree.Out St Answer → List ℕ → List ℕ
-lentAfter (ends a s) out = broughtBy a out
-lentAfter (asks q s k) out = out
+abbrev pub Linked : Next → Type 0
+Linked (next.Asks q p) = awaited q ≡ awaitsAt p
+Linked (next.Ends n) = Unit {0}
+
+abbrev pub LinkedBegun : Begun → Type 0
+LinkedBegun (begun.Refused n) = Unit {0}
+LinkedBegun (begun.Asks q p) = awaited q ≡ awaitsAt p
+LinkedBegun (begun.Ends n) = Unit {0}
+
+abbrev pub LinkedPolled : Polled → Type 0
+LinkedPolled (polled.Refused n) = Unit {0}
+LinkedPolled polled.NotYet = Unit {0}
+LinkedPolled (polled.Done n) = Unit {0}
+LinkedPolled (polled.Setup low high) = Unit {0}
+LinkedPolled (polled.Asks q p) = awaited q ≡ awaitsAt p

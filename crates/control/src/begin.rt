@@ -33,12 +33,13 @@ ghost use Prim.Native.Nat.{ℕ};
 ghost use Rattle.state.specs.State.{view, saved};
 ghost use Rattle.script.specs.Control.{beginSetup, beginDataOut, beginDataIn, beginAccept, beginAcceptSetAddress, beginReject};
 ghost use Rattle.ops.specs.Conc.{go};
-ghost use Rattle.control.specs.Points.{begunAs};
+ghost use Rattle.control.specs.Points.{begunAs, LinkedBegun};
 
 // `setup`, control.rs 70-80.
 pub fn begin_setup(s: &mut [u8; STATE_LEN]) -> Begun
     ensures { λ r. ⌜ ((b : List ℕ) → begunAs r (view (now (s .exit))) b ≡ go {i = false} beginSetup (view (now (s .entry))) b) ⌝ }
     ensures { λ _. ⌜ saved (now (s .exit)) ≡ saved (now (s .entry)) ⌝ }
+    ensures { λ r. ⌜ LinkedBegun r ⌝ }
 {
     let g = load_globals(s);
     if is_started(g) {
@@ -53,6 +54,7 @@ pub fn begin_setup(s: &mut [u8; STATE_LEN]) -> Begun
 pub fn begin_data_out(s: &mut [u8; STATE_LEN], n: u32, first: bool) -> Begun
     ensures { λ r. ⌜ ((b : List ℕ) → begunAs r (view (now (s .exit))) b ≡ go {i = false} (beginDataOut n first) (view (now (s .entry))) b) ⌝ }
     ensures { λ _. ⌜ saved (now (s .exit)) ≡ saved (now (s .entry)) ⌝ }
+    ensures { λ r. ⌜ LinkedBegun r ⌝ }
 {
     let g = load_globals(s);
     if !is_started(g) {
@@ -85,6 +87,7 @@ pub fn begin_data_in(
 ) -> Begun
     ensures { λ r. ⌜ begunAs r (view (now (s .exit))) (now (buf .exit)) ≡ go {i = false} (beginDataIn (now (bytes .entry)) first last) (view (now (s .entry))) (now (buf .entry)) ⌝ }
     ensures { λ _. ⌜ saved (now (s .exit)) ≡ saved (now (s .entry)) ⌝ }
+    ensures { λ r. ⌜ LinkedBegun r ⌝ }
 {
     let g = load_globals(s);
     if !is_started(g) {
@@ -120,6 +123,7 @@ pub fn begin_data_in(
 pub fn begin_accept(s: &mut [u8; STATE_LEN]) -> Begun
     ensures { λ r. ⌜ ((b : List ℕ) → begunAs r (view (now (s .exit))) b ≡ go {i = false} beginAccept (view (now (s .entry))) b) ⌝ }
     ensures { λ _. ⌜ saved (now (s .exit)) ≡ saved (now (s .entry)) ⌝ }
+    ensures { λ r. ⌜ LinkedBegun r ⌝ }
 {
     let g = load_globals(s);
     if !is_started(g) {
@@ -138,6 +142,7 @@ pub fn begin_accept(s: &mut [u8; STATE_LEN]) -> Begun
 pub fn begin_accept_set_address(s: &mut [u8; STATE_LEN], address: u32) -> Begun
     ensures { λ r. ⌜ ((b : List ℕ) → begunAs r (view (now (s .exit))) b ≡ go {i = false} (beginAcceptSetAddress address) (view (now (s .entry))) b) ⌝ }
     ensures { λ _. ⌜ saved (now (s .exit)) ≡ saved (now (s .entry)) ⌝ }
+    ensures { λ r. ⌜ LinkedBegun r ⌝ }
 {
     let g = load_globals(s);
     if !is_started(g) {
@@ -156,6 +161,7 @@ pub fn begin_accept_set_address(s: &mut [u8; STATE_LEN], address: u32) -> Begun
 pub fn begin_reject(s: &mut [u8; STATE_LEN]) -> Begun
     ensures { λ r. ⌜ ((b : List ℕ) → begunAs r (view (now (s .exit))) b ≡ go {i = false} beginReject (view (now (s .entry))) b) ⌝ }
     ensures { λ _. ⌜ saved (now (s .exit)) ≡ saved (now (s .entry)) ⌝ }
+    ensures { λ r. ⌜ LinkedBegun r ⌝ }
 {
     let g = load_globals(s);
     if is_started(g) {

@@ -39,7 +39,7 @@ ghost use Prim.Native.Nat.{ℕ};
 ghost use Rattle.state.specs.Driver.{Driver};
 ghost use Rattle.state.specs.State.{view, saved};
 ghost use Rattle.ops.specs.Conc.{go};
-ghost use Rattle.control.specs.Points.{denote, meaning, fitsAt};
+ghost use Rattle.control.specs.Points.{denote, meaning, Linked, fitsAt};
 ghost use Rattle.regs.specs.Registers.{fitsIn, widthOf};
 
 // Where an operation stops: what was handed out last, or which reading is awaited.
@@ -79,6 +79,7 @@ pub enum Polled {
 // The first packet of a stage is DATA1; else the word is read.
 fn after_loaded(first: bool) -> Next
     ensures { λ r. ⌜ ((d : Driver) (b : List ℕ) → meaning r d b ≡ go (denote (Point.Loaded first) 0) d b) ⌝ }
+    ensures { λ r. ⌜ Linked r ⌝ }
 {
     if first {
         let w = word_of(ACK, DATA1, false);
@@ -92,6 +93,7 @@ pub fn resume(s: &mut [u8; STATE_LEN], p: Point, v: u32) -> Next
     requires { ⌜ fitsAt p v ≡ true ⌝ }
     ensures { λ r. ⌜ ((b : List ℕ) → meaning r (view (now (s .exit))) b ≡ go (denote p v) (view (now (s .entry))) b) ⌝ }
     ensures { λ _. ⌜ saved (now (s .exit)) ≡ saved (now (s .entry)) ⌝ }
+    ensures { λ r. ⌜ Linked r ⌝ }
 {
     match p {
         Point::Wrote => Next::Ends(0),

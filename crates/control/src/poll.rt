@@ -36,12 +36,14 @@ ghost use Rattle.script.specs.Control.{pollSetup, pollDataOut, pollDataIn, poll
 ghost use Rattle.script.specs.Script.{ret};
 ghost use Rattle.script.specs.Answers.{NotYet};
 ghost use Rattle.ops.specs.Conc.{go};
-ghost use Rattle.control.specs.Points.{polledAs, lentAfter};
+ghost use Rattle.request.specs.Answers.{lentAfter};
+ghost use Rattle.control.specs.Points.{polledAs, LinkedPolled};
 
 // Not ready yet, or a setup packet ends the stage (`complete`, control.rs 48-61).
 fn wait_on(s: &mut [u8; STATE_LEN]) -> Polled
     ensures { λ r. ⌜ ((out b : List ℕ) → polledAs r out (view (now (s .exit))) b ≡ go {i = false} (aborted-else (ret NotYet)) (view (now (s .entry))) b) ⌝ }
     ensures { λ _. ⌜ saved (now (s .exit)) ≡ saved (now (s .entry)) ⌝ }
+    ensures { λ r. ⌜ LinkedPolled r ⌝ }
 {
     let g = load_globals(s);
     if is_on(g.setup_ready) {
@@ -55,6 +57,7 @@ fn wait_on(s: &mut [u8; STATE_LEN]) -> Polled
 pub fn poll_setup(s: &mut [u8; STATE_LEN]) -> Polled
     ensures { λ r. ⌜ ((b : List ℕ) → polledAs r [] (view (now (s .exit))) b ≡ go {i = false} pollSetup (view (now (s .entry))) b) ⌝ }
     ensures { λ _. ⌜ saved (now (s .exit)) ≡ saved (now (s .entry)) ⌝ }
+    ensures { λ r. ⌜ LinkedPolled r ⌝ }
 {
     let mut g = load_globals(s);
     if !is_started(g) {
@@ -77,6 +80,7 @@ pub fn poll_setup(s: &mut [u8; STATE_LEN]) -> Polled
 pub fn poll_accept(s: &mut [u8; STATE_LEN]) -> Polled
     ensures { λ r. ⌜ ((b : List ℕ) → polledAs r [] (view (now (s .exit))) b ≡ go {i = false} pollAccept (view (now (s .entry))) b) ⌝ }
     ensures { λ _. ⌜ saved (now (s .exit)) ≡ saved (now (s .entry)) ⌝ }
+    ensures { λ r. ⌜ LinkedPolled r ⌝ }
 {
     let g = load_globals(s);
     if !is_started(g) {
@@ -103,6 +107,7 @@ pub fn poll_accept(s: &mut [u8; STATE_LEN]) -> Polled
 // The closing OUT must be empty.
 fn closed(n: u16) -> Polled
     ensures { λ r. ⌜ ((d : Driver) (b : List ℕ) → polledAs r [] d b ≡ ends (cond (eqb n 0) (Done []) (Refused 10)) (d, b)) ⌝ }
+    ensures { λ r. ⌜ LinkedPolled r ⌝ }
 {
     if n == 0 {
         return Polled::Done(0);
@@ -114,6 +119,7 @@ fn closed(n: u16) -> Polled
 fn take_closing(s: &mut [u8; STATE_LEN], both: bool, c: Control) -> Polled
     ensures { λ r. ⌜ ((b : List ℕ) → polledAs r [] (view (now (s .exit))) b ≡ go {i = false} (take-closing both c) (view (now (s .entry))) b) ⌝ }
     ensures { λ _. ⌜ saved (now (s .exit)) ≡ saved (now (s .entry)) ⌝ }
+    ensures { λ r. ⌜ LinkedPolled r ⌝ }
 {
     let r = load_ep(s, Dir::Out, 0);
     if is_on(r.ready) {
@@ -143,6 +149,7 @@ fn take_closing(s: &mut [u8; STATE_LEN], both: bool, c: Control) -> Polled
 fn take_in(s: &mut [u8; STATE_LEN], c: Control) -> Polled
     ensures { λ r. ⌜ ((b : List ℕ) → polledAs r [] (view (now (s .exit))) b ≡ go {i = false} (take-in c) (view (now (s .entry))) b) ⌝ }
     ensures { λ _. ⌜ saved (now (s .exit)) ≡ saved (now (s .entry)) ⌝ }
+    ensures { λ r. ⌜ LinkedPolled r ⌝ }
 {
     let r = load_ep(s, Dir::In, 0);
     if is_on(r.ready) {
@@ -160,6 +167,7 @@ fn take_in(s: &mut [u8; STATE_LEN], c: Control) -> Polled
 pub fn poll_data_in(s: &mut [u8; STATE_LEN]) -> Polled
     ensures { λ r. ⌜ ((b : List ℕ) → polledAs r [] (view (now (s .exit))) b ≡ go {i = false} pollDataIn (view (now (s .entry))) b) ⌝ }
     ensures { λ _. ⌜ saved (now (s .exit)) ≡ saved (now (s .entry)) ⌝ }
+    ensures { λ r. ⌜ LinkedPolled r ⌝ }
 {
     let g = load_globals(s);
     if !is_started(g) {
@@ -180,6 +188,7 @@ fn take_out(s: &mut [u8; STATE_LEN], buf: &[u8], out: &mut [u8]) -> Polled
     ensures { λ r. ⌜ polledAs r (now (out .exit)) (view (now (s .exit))) (now (buf .entry)) ≡ go {i = false} (take-out (length (now (out .entry)))) (view (now (s .entry))) (now (buf .entry)) ⌝ }
     ensures { λ _. ⌜ now (out .exit) ≡ lentAfter (go {i = false} (take-out (length (now (out .entry)))) (view (now (s .entry))) (now (buf .entry))) (now (out .entry)) ⌝ }
     ensures { λ _. ⌜ saved (now (s .exit)) ≡ saved (now (s .entry)) ⌝ }
+    ensures { λ r. ⌜ LinkedPolled r ⌝ }
 {
     let r = load_ep(s, Dir::Out, 0);
     if is_on(r.ready) {
@@ -201,6 +210,7 @@ pub fn poll_data_out(s: &mut [u8; STATE_LEN], buf: &[u8], out: &mut [u8]) -> Pol
     ensures { λ r. ⌜ polledAs r (now (out .exit)) (view (now (s .exit))) (now (buf .entry)) ≡ go {i = false} (pollDataOut (length (now (out .entry)))) (view (now (s .entry))) (now (buf .entry)) ⌝ }
     ensures { λ _. ⌜ now (out .exit) ≡ lentAfter (go {i = false} (pollDataOut (length (now (out .entry)))) (view (now (s .entry))) (now (buf .entry))) (now (out .entry)) ⌝ }
     ensures { λ _. ⌜ saved (now (s .exit)) ≡ saved (now (s .entry)) ⌝ }
+    ensures { λ r. ⌜ LinkedPolled r ⌝ }
 {
     let g = load_globals(s);
     if !is_started(g) {

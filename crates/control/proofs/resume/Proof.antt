@@ -93,31 +93,31 @@ after-loaded-requires : tie.Need-after-loaded-requires
 after-loaded-requires c κs = search needs
 
 returns : tie.Need-returns
-returns c = (λ b. simp (c .enum-told .given .1), refl)
+returns c = (λ b. simp (c .enum-told .given .1), (refl, tt))
 
 returns-2 : tie.Need-returns-2
-returns-2 c = (λ b. simp (c .ctrl-of .ensures, c .before .ack .ensures, c .before .before .byte .ensures, c .before .before .before .before .p .given .1), refl)
+returns-2 c = (λ b. simp (c .ctrl-of .ensures, c .before .ack .ensures, c .before .before .byte .ensures, c .before .before .before .before .p .given .1), (refl, refl))
 
 returns-3 : tie.Need-returns-3
-returns-3 c = (λ b. simp (c .enum-told2 .given .1), refl)
+returns-3 c = (λ b. simp (c .enum-told2 .given .1), (refl, refl))
 
 returns-4 : tie.Need-returns-4
-returns-4 c = (λ b. simp (c .status .ensures, c .before .byte2 .ensures, c .before .before .enum-told3 .given .1), refl)
+returns-4 c = (λ b. simp (c .status .ensures, c .before .byte2 .ensures, c .before .before .enum-told3 .given .1), (refl, refl))
 
 returns-5 : tie.Need-returns-5
-returns-5 c = (λ b. simp (c .stall .ensures, c .before .byte3 .ensures, c .before .before .enum-told4 .given .1), refl)
+returns-5 c = (λ b. simp (c .stall .ensures, c .before .byte3 .ensures, c .before .before .enum-told4 .given .1), (refl, refl))
 
 returns-6 : tie.Need-returns-6
-returns-6 c = (λ b. simp (c .enum-told5 .given .1), refl)
+returns-6 c = (λ b. simp (c .enum-told5 .given .1), (refl, refl))
 
 returns-7 : tie.Need-returns-7
-returns-7 c = (λ b. simp (c .stall2 .ensures, c .before .byte4 .ensures, c .before .before .enum-told6 .given .1), refl)
+returns-7 c = (λ b. simp (c .stall2 .ensures, c .before .byte4 .ensures, c .before .before .enum-told6 .given .1), (refl, refl))
 
 returns-8 : tie.Need-returns-8
-returns-8 c = (λ b. simp (c .set-armed .ensures .0, c .before .before .before .p2 .given .1), c .set-armed .ensures .1)
+returns-8 c = (λ b. simp (c .set-armed .ensures .0, c .before .before .before .p2 .given .1), (c .set-armed .ensures .1, refl))
 
 returns-9 : tie.Need-returns-9
-returns-9 c = (λ b. simp (c .after-loaded .ensures, c .before .before .p3 .given .1), refl)
+returns-9 c = (λ b. simp (c .after-loaded .ensures .0, c .before .before .p3 .given .1), (refl, c .after-loaded .ensures .1))
 
 pub resume-spec : {M : Type 1} → statement M
 resume-spec =

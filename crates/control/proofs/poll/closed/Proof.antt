@@ -5,10 +5,10 @@ use Rattle.control.proofs.poll.closed.Reads as reads
 use Rattle.control.proofs.poll.closed.Lts as lts
 
 returns : tie.Need-returns
-returns c = λ d b. simp (eq-eqb _ _ (c .if1 .taken))
+returns c = (λ d b. simp (eq-eqb _ _ (c .if1 .taken)), tt)
 
 returns-2 : tie.Need-returns-2
-returns-2 c = λ d b. simp (ne-eqb _ _ (c .if1 .left))
+returns-2 c = (λ d b. simp (ne-eqb _ _ (c .if1 .left)), tt)
 
 pub closed-spec : {M : Type 1} → statement M
 closed-spec = tie.close (tie.spec returns returns-2)

@@ -1,0 +1,17 @@
+use borrow.Author.Needs.{needs}
+use Rattle.endpoint.proofs.write.arm_in.Statement.{statement}
+use Rattle.endpoint.proofs.write.arm_in.Tie as tie
+use Rattle.endpoint.proofs.write.arm_in.Reads as reads
+use Rattle.endpoint.proofs.write.arm_in.Lts as lts
+
+load-ep-requires : tie.Need-load-ep-requires
+load-ep-requires c κs = search needs
+
+store-ep-requires : tie.Need-store-ep-requires
+store-ep-requires c κs = search needs
+
+returns : tie.Need-returns
+returns c = (simp (c .store-ep .ensures .0, ← c .before .before .load-ep .ensures), c .store-ep .ensures .1)
+
+pub arm-in-spec : {M : Type 1} → statement M
+arm-in-spec = tie.close (tie.spec load-ep-requires store-ep-requires returns)

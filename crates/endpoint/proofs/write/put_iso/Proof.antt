@@ -1,0 +1,50 @@
+use mathlib.Core.Path.{refl, sym, _∙_}
+use borrow.Author.Tests.{not-true, not-false}
+use Rattle.state.specs.State.{view}
+use Rattle.endpoint.proofs.Laws.{put-disabled, put-full, put-done}
+use borrow.Author.Needs.{needs}
+use Rattle.endpoint.proofs.write.put_iso.Statement.{statement}
+use Rattle.endpoint.proofs.write.put_iso.Tie as tie
+use Rattle.endpoint.proofs.write.put_iso.Reads as reads
+use Rattle.endpoint.proofs.write.put_iso.Lts as lts
+
+is-enabled-requires : tie.Need-is-enabled-requires
+is-enabled-requires c κs = search needs
+
+end-request-requires : tie.Need-end-request-requires
+end-request-requires c κs = search needs
+
+returns : tie.Need-returns
+returns c = (put-disabled (view (c .before .before .before .before .before .before .before .args .s .now)) (c .before .before .before .before .before .before .before .args .buf .now) (c .before .before .before .before .before .before .before .args .bytes .now) (c .before .before .before .before .before .before .before .args .e) (sym (c .before .before .before .is-enabled .ensures) ∙ not-true (c .before .before .before .is-enabled .result) (c .before .before .if1 .taken)) _ (c .end-request .ensures .0), c .end-request .ensures .1)
+
+room-requires : tie.Need-room-requires
+room-requires c κs = search needs
+
+returns-2 : tie.Need-returns-2
+returns-2 c = (put-full (view (c .before .before .before .before .before .before .before .before .args .s .now)) (c .before .before .before .before .before .before .before .before .args .buf .now) (c .before .before .before .before .before .before .before .before .args .bytes .now) (c .before .before .before .before .before .before .before .before .args .e) (sym (c .before .before .before .before .is-enabled .ensures) ∙ not-false (c .before .before .before .before .is-enabled .result) (c .before .before .before .if1 .left)) (sym (c .before .room .ensures) ∙ not-true (c .before .room .result) (c .if2 .taken)), refl)
+
+enqueue-requires : tie.Need-enqueue-requires
+enqueue-requires c κs = search needs
+
+end-request-requires-2 : tie.Need-end-request-requires-2
+end-request-requires-2 c κs = search needs
+
+same-length : tie.Need-same-length
+same-length c = search needs
+
+returns-3 : tie.Need-returns-3
+returns-3 c = (put-done (view (c .before .before .before .before .before .before .before .before .before .before .before .before .before .before .before .args .s .now)) (c .before .before .before .before .before .before .before .before .before .before .before .before .before .before .before .args .buf .now) (c .before .before .before .before .before .before .before .before .before .before .before .before .before .before .before .args .bytes .now) (c .before .before .before .before .before .before .before .before .before .before .before .before .before .before .before .args .e) (sym (c .before .before .before .before .before .before .before .before .before .before .before .is-enabled .ensures) ∙ not-false (c .before .before .before .before .before .before .before .before .before .before .before .is-enabled .result) (c .before .before .before .before .before .before .before .before .before .before .if1 .left)) (sym (c .before .before .before .before .before .before .before .before .room .ensures) ∙ not-false (c .before .before .before .before .before .before .before .before .room .result) (c .before .before .before .before .before .before .before .if2 .left)) _ _ _ (c .before .before .before .before .enqueue .ensures .0) (c .before .before .before .before .enqueue .ensures .1 .0) (c .end-request2 .ensures .0), c .end-request2 .ensures .1 ∙ c .before .before .before .before .enqueue .ensures .1 .1)
+
+pub put-iso-spec : {M : Type 1} → statement M
+put-iso-spec =
+    tie.close
+    (tie.spec
+    is-enabled-requires
+    end-request-requires
+    returns
+    room-requires
+    returns-2
+    enqueue-requires
+    end-request-requires-2
+    same-length
+    returns-3)

@@ -1,0 +1,74 @@
+-- What is left to run at each point, and what the answers of reads and writes mean
+use mathlib.Core.Path.{_≡_}
+use mathlib.Core.Bool.{Bool, true, false}
+use mathlib.Core.List.{List}
+use Prim.Native.Nat.{ℕ}
+use lib.ListN.{take}
+use Rattle.regs.specs.declared.Reg.the-variants.{EpTxCtrl}
+use Rattle.regs.specs.Registers.{ctrlOf, widthOf, fitsIn}
+use Rattle.regs.specs.ControlWord.{ack}
+use Rattle.state.specs.Driver.{Driver}
+use Rattle.script.specs.Tree as tree
+use Rattle.script.specs.Tree.{ends, asks}
+use Rattle.script.specs.Script.{Script, run, ret, _>>=_, _>>_, read, write}
+use Rattle.script.specs.Statics.{modifyReg}
+use Rattle.script.specs.Machine.{Awaits, nothing, reading, awaited}
+use Rattle.script.specs.Answers.{Answer, Refused, End, NotYet, Done}
+use Rattle.ops.specs.Rings.{St}
+use Rattle.ops.specs.Conc.{conc}
+use Rattle.request.specs.Answers.{finished}
+use Rattle.endpoint.specs.declared.Point.{Point}
+use Rattle.endpoint.specs.declared.Point.the-variants as point
+use Rattle.endpoint.specs.declared.Next.{Next}
+use Rattle.endpoint.specs.declared.Next.the-variants as next
+use Rattle.endpoint.specs.declared.Begun.{Begun}
+use Rattle.endpoint.specs.declared.Begun.the-variants as begun
+use Rattle.endpoint.specs.declared.Polled.{Polled}
+use Rattle.endpoint.specs.declared.Polled.the-variants as polled
+
+abbrev pub denote : Point → ℕ → Script false ℕ
+denote (point.Ack d e) v = do
+  write (ctrlOf d) e (ack v)
+  ret 0
+denote point.Wrote v = ret {A = ℕ} 0
+denote (point.Loaded e) v = do
+  modifyReg EpTxCtrl e ack
+  ret 0
+
+-- row 16 turned round: what was read at the point fits its register
+unfoldable pub fitsAt : Point → ℕ → Bool
+fitsAt (point.Ack d e) v = fitsIn v (widthOf (ctrlOf d))
+fitsAt point.Wrote v = true
+fitsAt (point.Loaded e) v = true
+
+-- the next access and the point at which it stops, or the result
+abbrev pub meaning : Next → Driver → List ℕ → tree.Out St ℕ
+meaning (next.Asks q p) d b = asks q (d, b) (λ v t. run conc (denote p v) t)
+meaning (next.Ends n) d b = ends n (d, b)
+
+-- a begin's answer
+abbrev pub begunAs : Begun → Driver → List ℕ → tree.Out St Answer
+begunAs (begun.Refused n) d b = ends (Refused n) (d, b)
+begunAs (begun.Asks q p) d b = asks q (d, b) (λ v t. run conc (finished (denote p v)) t)
+begunAs (begun.Ends n) d b = ends (End n (d .wakes)) (d, b)
+
+-- a poll's, with the slice it was lent: Done n brings the slice's first n bytes
+abbrev pub polledAs : Polled → List ℕ → Driver → List ℕ → tree.Out St Answer
+polledAs (polled.Refused n) out d b = ends (Refused n) (d, b)
+polledAs polled.NotYet out d b = ends NotYet (d, b)
+polledAs (polled.Done n) out d b = ends (Done (take n out)) (d, b)
+
+-- what a point awaits, and that it is the access handed out with it
+abbrev pub awaitsAt : Point → Awaits
+awaitsAt (point.Ack d e) = reading (widthOf EpTxCtrl)
+awaitsAt point.Wrote = nothing
+awaitsAt (point.Loaded e) = nothing
+
+abbrev pub Linked : Next → Type 0
+Linked (next.Asks q p) = awaited q ≡ awaitsAt p
+Linked (next.Ends n) = Unit {0}
+
+abbrev pub LinkedBegun : Begun → Type 0
+LinkedBegun (begun.Refused n) = Unit {0}
+LinkedBegun (begun.Asks q p) = awaited q ≡ awaitsAt p
+LinkedBegun (begun.Ends n) = Unit {0}

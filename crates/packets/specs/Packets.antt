@@ -1,0 +1,69 @@
+-- What open, close and queue answer, and their scripts behind rows 4 and 5
+use mathlib.Core.Path.{_≡_}
+use mathlib.Core.Bool.{false, not}
+use mathlib.Core.List.{List}
+use Prim.Native.Nat.{ℕ}
+use lib.Dec.{ltb}
+use lib.ListN.{length}
+use Rattle.regs.specs.declared.Dir.the-variants.{Out, In}
+use Rattle.state.specs.Driver.{Driver}
+use Rattle.marks.specs.Copies.{bytesAt}
+use Rattle.script.specs.Tree as tree
+use Rattle.script.specs.Tree.{ends}
+use Rattle.script.specs.Cells.{ep-cell, allocator-cell}
+use Rattle.script.specs.Script.{Script, ret, test, _>>=_, _>>_, get, is, fetch, act, waiting, room, opened, oldest, open-oldest, close-oldest, enqueue}
+use Rattle.script.specs.Statics.{isOn}
+use Rattle.script.specs.Answers.{Answer, Refused, Shown, ok, unless}
+use Rattle.script.specs.Endpoint.{enabled-else}
+use Rattle.ops.specs.Rings.{St, oldestAt, nextLen}
+use Rattle.packets.specs.declared.Packet.{Packet}
+use Rattle.packets.specs.declared.Packet.the-variants as packet
+
+-- the bytes of a packet that is shown are the slots' at the offset
+abbrev pub answerOf : Packet → List ℕ → Answer
+answerOf (packet.Refused n) b = Refused n
+answerOf (packet.Shown at n) b = Shown (bytesAt b at n)
+answerOf packet.Ok b = ok
+
+abbrev pub answered : Packet → Driver → List ℕ → tree.Out St Answer
+answered r d b = ends (answerOf r b) (d, b)
+
+-- and they are the oldest packet's
+abbrev pub ShownAt : Packet → Driver → ℕ → Type 0
+ShownAt (packet.Refused n) d e = Unit {0}
+ShownAt (packet.Shown at n) d e = (at ≡ oldestAt d e) × (n ≡ nextLen d Out e)
+ShownAt packet.Ok d e = Unit {0}
+
+abbrev pub opening : ℕ → Script false Answer
+opening ep = do
+  s ← get (ep-cell Out ep)
+  unless (not (isOn (s .iso))) 11 (do
+    b ← is (waiting Out ep)
+    test b
+        (do
+          act (open-oldest ep)
+          bytes ← fetch (oldest ep)
+          ret (Shown bytes))
+        (ret (Refused 12)))
+
+abbrev pub closing : ℕ → Script false Answer
+closing ep = do
+  b ← is (opened ep)
+  test b
+      (do
+        act (close-oldest ep)
+        ret ok)
+      (ret (Refused 14))
+
+abbrev pub queueing : ℕ → List ℕ → Script false Answer
+queueing ep bytes = enabled-else In ep (ret (Refused 9)) (do
+  a ← get allocator-cell
+  unless (ltb (a .size) (length bytes)) 10 (do
+    s ← get (ep-cell In ep)
+    unless (not (isOn (s .iso))) 11 (do
+      b ← is (room ep (length bytes))
+      test b
+          (do
+            act (enqueue ep bytes)
+            ret ok)
+          (ret (Refused 13)))))

@@ -1,0 +1,30 @@
+-- A begun operation's end, and what a poll leaves in the slice it was lent
+use mathlib.Core.Bool.{false}
+use mathlib.Core.List.{List}
+use Prim.Native.Nat.{ℕ}
+use Rattle.marks.specs.Copies.{over}
+use Rattle.script.specs.Tree as tree
+use Rattle.script.specs.Tree.{ends, asks}
+use Rattle.script.specs.Cells.{wakes-cell}
+use Rattle.script.specs.Script.{Script, ret, _>>=_, get}
+use Rattle.script.specs.Answers.{Answer, Refused, End, NotYet, Done, Shown}
+use Rattle.ops.specs.Rings.{St}
+
+-- the result with the wake-ups (`operation`)
+abbrev pub finished : Script false ℕ → Script false Answer
+finished p = do
+  n ← p
+  w ← get wakes-cell
+  ret (End n w)
+
+-- the bytes that were brought at the slice's front
+abbrev pub broughtBy : Answer → List ℕ → List ℕ
+broughtBy (Done bytes) out = over bytes out
+broughtBy (Refused n) out = out
+broughtBy (End n w) out = out
+broughtBy NotYet out = out
+broughtBy (Shown bytes) out = out
+
+abbrev pub lentAfter : tree.Out St Answer → List ℕ → List ℕ
+lentAfter (ends a s) out = broughtBy a out
+lentAfter (asks q s k) out = out
