@@ -12,6 +12,9 @@
  *   3 wait           8-15 microseconds
  *   4 callback       the start-of-frame callback
  *   5 end            8-23 result; wake-ups: 24-39 IN 0-15, 40-55 OUT 0-15, 56 bus
+ *   6 not yet        of a poll: wait for a wake-up, then poll again
+ *   7 done           8-23 length: of a poll, so many bytes at the slice's front; the request is over
+ *   8 shown          8-23 length, 32-63 offset into the slots: an open packet
  *
  * After kinds 1 to 4 the operation is under way: make the access, then call usbhs_continue, with the reading after a read and with any
  * number after the others. The registers' numbers are those of enum usbhs_register.
@@ -35,7 +38,10 @@ enum usbhs_kind {
     USBHS_WRITE = 2,
     USBHS_WAIT = 3,
     USBHS_CALLBACK = 4,
-    USBHS_END = 5
+    USBHS_END = 5,
+    USBHS_NOT_YET = 6,
+    USBHS_DONE = 7,
+    USBHS_SHOWN = 8
 };
 
 /* The registers. The value of a buffer's register (12, 15, 16) is an offset into the slots. */
@@ -78,6 +84,8 @@ enum usbhs_register {
 #define USBHS_WAKES_IN(word) ((unsigned)((word) >> 24 & 0xFFFF))  /* end: bit e is IN e */
 #define USBHS_WAKES_OUT(word) ((unsigned)((word) >> 40 & 0xFFFF)) /* end: bit e is OUT e */
 #define USBHS_WAKES_BUS(word) ((unsigned)((word) >> 56 & 1))      /* end */
+#define USBHS_LENGTH(word) ((unsigned)((word) >> 8 & 0xFFFF))     /* done, shown */
+#define USBHS_OFFSET(word) ((uint32_t)((word) >> 32))             /* shown */
 
 /* Start-up, endpoints, EP0's start. */
 uint64_t usbhs_start_up(uint8_t state[USBHS_STATE_LEN], const uint8_t *slots, size_t slots_length, uint32_t size, uint32_t count, uint32_t callback);
@@ -87,6 +95,9 @@ uint64_t usbhs_start(uint8_t state[USBHS_STATE_LEN], uint32_t maximum);
 /* Goes on with the operation under way. */
 uint64_t usbhs_continue(uint8_t state[USBHS_STATE_LEN], uint8_t *slots, size_t slots_length, uint32_t value);
 
+/* The interrupt: on the chip's interrupt, or whenever it may be raised. While it is under way packets may be opened, closed and queued. */
+uint64_t usbhs_begin_interrupt(uint8_t state[USBHS_STATE_LEN]);
+
 /* The operations. */
 uint64_t usbhs_begin_bus_poll(uint8_t state[USBHS_STATE_LEN]);
 uint64_t usbhs_begin_bus_enable(uint8_t state[USBHS_STATE_LEN]);
@@ -95,7 +106,33 @@ uint64_t usbhs_begin_set_enabled(uint8_t state[USBHS_STATE_LEN], uint8_t *slots,
 uint64_t usbhs_begin_set_stalled(uint8_t state[USBHS_STATE_LEN], uint32_t endpoint, uint32_t dir, uint32_t stalled);
 uint64_t usbhs_begin_is_stalled(uint8_t state[USBHS_STATE_LEN], uint32_t endpoint, uint32_t dir);
 uint64_t usbhs_set_paced(uint8_t state[USBHS_STATE_LEN], uint32_t endpoint, uint32_t paced);
+uint64_t usbhs_begin_advance(uint8_t state[USBHS_STATE_LEN], uint32_t endpoint);
 uint64_t usbhs_begin_microframe(uint8_t state[USBHS_STATE_LEN]);
+
+/* Reads and writes: each is begun, then polled until it is done. A poll of a read brings a slice of the begin's length, a poll of a write its packet
+ * again. */
+uint64_t usbhs_begin_read(uint8_t state[USBHS_STATE_LEN], uint32_t endpoint, uint32_t length);
+uint64_t usbhs_poll_read(uint8_t state[USBHS_STATE_LEN], const uint8_t *slots, size_t slots_length, uint32_t endpoint, uint8_t *slice, size_t slice_length);
+uint64_t usbhs_begin_write(uint8_t state[USBHS_STATE_LEN], uint8_t *slots, size_t slots_length, uint32_t endpoint, const uint8_t *data, size_t data_length);
+uint64_t usbhs_poll_write(uint8_t state[USBHS_STATE_LEN], uint8_t *slots, size_t slots_length, uint32_t endpoint, const uint8_t *data, size_t data_length);
+
+/* The control pipe: each stage is begun, then polled until it is done. A poll of data out brings a slice of the begin's length. A poll of setup fills
+ * the packet (done, 8); a poll of an accepted address may hand out its write. */
+uint64_t usbhs_begin_setup(uint8_t state[USBHS_STATE_LEN]);
+uint64_t usbhs_poll_setup(uint8_t state[USBHS_STATE_LEN], uint8_t packet[8]);
+uint64_t usbhs_begin_data_out(uint8_t state[USBHS_STATE_LEN], uint32_t length, uint32_t first);
+uint64_t usbhs_poll_data_out(uint8_t state[USBHS_STATE_LEN], const uint8_t *slots, size_t slots_length, uint8_t *slice, size_t slice_length);
+uint64_t usbhs_begin_data_in(uint8_t state[USBHS_STATE_LEN], uint8_t *slots, size_t slots_length, const uint8_t *data, size_t data_length, uint32_t first, uint32_t last);
+uint64_t usbhs_poll_data_in(uint8_t state[USBHS_STATE_LEN]);
+uint64_t usbhs_begin_accept(uint8_t state[USBHS_STATE_LEN]);
+uint64_t usbhs_begin_accept_set_address(uint8_t state[USBHS_STATE_LEN], uint32_t address);
+uint64_t usbhs_poll_accept(uint8_t state[USBHS_STATE_LEN]);
+uint64_t usbhs_begin_reject(uint8_t state[USBHS_STATE_LEN]);
+
+/* Packets in place, each call over at once: an isochronous OUT's oldest is opened (shown) and closed, an isochronous IN's is queued. */
+uint64_t usbhs_open(uint8_t state[USBHS_STATE_LEN], const uint8_t *slots, size_t slots_length, uint32_t endpoint);
+uint64_t usbhs_close(uint8_t state[USBHS_STATE_LEN], uint32_t endpoint);
+uint64_t usbhs_queue(uint8_t state[USBHS_STATE_LEN], uint8_t *slots, size_t slots_length, uint32_t endpoint, const uint8_t *data, size_t data_length);
 
 /* The questions, at any time: packets queued on IN, packets of OUT turned away, whether the host enabled the endpoint (1 or 0). */
 uint32_t usbhs_pending(const uint8_t state[USBHS_STATE_LEN], uint32_t endpoint);

@@ -1,26 +1,26 @@
-use crate::Step;
-use crate::proceeds::slots_fit;
-use crate::questions::low;
-use crate::rows::endpoint;
-use crate::rows::is_allocated;
-use crate::rows::is_stallable;
-use crate::rows::stop;
-use crate::way::halted_bus;
 use regs::Dir;
 use state::STATE_LEN;
+use way::Step;
+use way::endpoints::endpoint;
+use way::endpoints::is_allocated;
+use way::endpoints::is_stallable;
+use way::endpoints::low;
+use way::halts::halted_bus;
+use way::rows::slots_fit;
+use way::rows::stop;
 ghost use mathlib.Core.Path.{_≡_};
-ghost use mathlib.Core.List.{List};
+ghost use mathlib.Core.List.{List, []};
 ghost use Prim.Native.Nat.{ℕ};
 ghost use Rattle.state.specs.State.{view};
 ghost use Rattle.script.specs.Machine.{begin};
 ghost use Rattle.script.specs.Calls.{other, slotted, BusEnable, BusDisable, BusPoll, IsStalled, SetStalled, SetEnabled};
-ghost use Rattle.usbhs.specs.Under.{machineOf, drive, answerOf, lentOr};
+ghost use Rattle.way.specs.Under.{machineOf, drive, answerOf, lentOr};
 
 // `enable` (mod.rs 1225-1227).
 pub fn begin_bus_enable(s: &mut [u8; STATE_LEN]) -> Step
-    ensures { λ r. ⌜ ((a b : List ℕ) → (answerOf r, machineOf (now (s .exit)) b) ≡ drive (begin (other BusEnable)) (machineOf (now (s .entry)) a) b) ⌝ }
+    ensures { λ r. ⌜ ((a b : List ℕ) → (answerOf r [], machineOf (now (s .exit)) b) ≡ drive (begin (other BusEnable)) (machineOf (now (s .entry)) a) b) ⌝ }
 {
-    let n = stop(s);
+    let n = stop(s, 2);
     if n == 0 {
         state::clear_wakes(s);
         return halted_bus(s, bus::enable());
@@ -30,9 +30,9 @@ pub fn begin_bus_enable(s: &mut [u8; STATE_LEN]) -> Step
 
 // `disable`, which has no access.
 pub fn begin_bus_disable(s: &mut [u8; STATE_LEN]) -> Step
-    ensures { λ r. ⌜ ((a b : List ℕ) → (answerOf r, machineOf (now (s .exit)) b) ≡ drive (begin (other BusDisable)) (machineOf (now (s .entry)) a) b) ⌝ }
+    ensures { λ r. ⌜ ((a b : List ℕ) → (answerOf r [], machineOf (now (s .exit)) b) ≡ drive (begin (other BusDisable)) (machineOf (now (s .entry)) a) b) ⌝ }
 {
-    let n = stop(s);
+    let n = stop(s, 2);
     if n == 0 {
         state::clear_wakes(s);
         return halted_bus(s, bus::Next::Ends(0));
@@ -42,9 +42,9 @@ pub fn begin_bus_disable(s: &mut [u8; STATE_LEN]) -> Step
 
 // `poll` (mod.rs 1229-1266).
 pub fn begin_bus_poll(s: &mut [u8; STATE_LEN]) -> Step
-    ensures { λ r. ⌜ ((a b : List ℕ) → (answerOf r, machineOf (now (s .exit)) b) ≡ drive (begin (other BusPoll)) (machineOf (now (s .entry)) a) b) ⌝ }
+    ensures { λ r. ⌜ ((a b : List ℕ) → (answerOf r [], machineOf (now (s .exit)) b) ≡ drive (begin (other BusPoll)) (machineOf (now (s .entry)) a) b) ⌝ }
 {
-    let n = stop(s);
+    let n = stop(s, 2);
     if n == 0 {
         state::clear_wakes(s);
         let x = bus::poll(s);
@@ -55,9 +55,9 @@ pub fn begin_bus_poll(s: &mut [u8; STATE_LEN]) -> Step
 
 // `is_endpoint_stalled` (mod.rs 1101-1106).
 pub fn begin_is_stalled(s: &mut [u8; STATE_LEN], dir: Dir, e: u32) -> Step
-    ensures { λ r. ⌜ ((a b : List ℕ) → (answerOf r, machineOf (now (s .exit)) b) ≡ drive (begin (other (IsStalled dir e))) (machineOf (now (s .entry)) a) b) ⌝ }
+    ensures { λ r. ⌜ ((a b : List ℕ) → (answerOf r [], machineOf (now (s .exit)) b) ≡ drive (begin (other (IsStalled dir e))) (machineOf (now (s .entry)) a) b) ⌝ }
 {
-    let n = stop(s);
+    let n = stop(s, 2);
     if n == 0 {
         if is_stallable(s, dir, e) {
             state::clear_wakes(s);
@@ -71,9 +71,9 @@ pub fn begin_is_stalled(s: &mut [u8; STATE_LEN], dir: Dir, e: u32) -> Step
 
 // `set_endpoint_stalled` (mod.rs 1053-1099).
 pub fn begin_set_stalled(s: &mut [u8; STATE_LEN], dir: Dir, e: u32, on: bool) -> Step
-    ensures { λ r. ⌜ ((a b : List ℕ) → (answerOf r, machineOf (now (s .exit)) b) ≡ drive (begin (other (SetStalled dir e on))) (machineOf (now (s .entry)) a) b) ⌝ }
+    ensures { λ r. ⌜ ((a b : List ℕ) → (answerOf r [], machineOf (now (s .exit)) b) ≡ drive (begin (other (SetStalled dir e on))) (machineOf (now (s .entry)) a) b) ⌝ }
 {
-    let n = stop(s);
+    let n = stop(s, 2);
     if n == 0 {
         if is_stallable(s, dir, e) {
             state::clear_wakes(s);
@@ -93,10 +93,10 @@ pub fn begin_set_enabled(
     e: u32,
     on: bool,
 ) -> Step
-    ensures { λ r. ⌜ ((a : List ℕ) → (answerOf r, machineOf (now (s .exit)) (lentOr (view (now (s .entry))) (now (slots .entry)) (now (slots .exit)) a)) ≡ drive (begin (slotted (SetEnabled dir e on))) (machineOf (now (s .entry)) a) (now (slots .entry))) ⌝ }
+    ensures { λ r. ⌜ ((a : List ℕ) → (answerOf r [], machineOf (now (s .exit)) (lentOr (view (now (s .entry))) (now (slots .entry)) (now (slots .exit)) a)) ≡ drive (begin (slotted (SetEnabled dir e on))) (machineOf (now (s .entry)) a) (now (slots .entry))) ⌝ }
 {
     if slots_fit(s, slots) {
-        let n = stop(s);
+        let n = stop(s, 2);
         if n == 0 {
             if is_allocated(s, dir, e) {
                 state::clear_wakes(s);

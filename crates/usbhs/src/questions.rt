@@ -2,29 +2,11 @@ use ops::rings::is_on;
 use regs::Dir;
 use state::EpState;
 use state::STATE_LEN;
+use way::endpoints::is_number;
+use way::endpoints::low;
 ghost use mathlib.Core.Path.{_≡_};
-ghost use mathlib.Core.Bool.{true};
 ghost use Rattle.state.specs.State.{view};
-ghost use Rattle.script.specs.Answers.{isNumber};
-ghost use Rattle.usbhs.specs.Questions.{pendingOn, overrunsOf, overrunsOn, enabledAsked};
-
-// 1 to 15: an endpoint's number other than EP0's.
-pub fn is_number(e: u32) -> bool
-    ensures { λ r. ⌜ r ≡ isNumber e ⌝ }
-{
-    if 0 < e {
-        return e < 16;
-    }
-    false
-}
-
-// A number of any size as an endpoint's: its low byte.
-pub fn low(e: u32) -> u8
-    requires { ⌜ isNumber e ≡ true ⌝ }
-    ensures { λ r. ⌜ r ≡ e ⌝ }
-{
-    e as u8
-}
+ghost use Rattle.way.specs.Questions.{pendingOn, overrunsOf, overrunsOn, enabledAsked};
 
 // The packets queued on IN e and not yet taken by the host.
 pub fn pending(s: &[u8; STATE_LEN], e: u32) -> u32

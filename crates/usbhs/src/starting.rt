@@ -1,19 +1,18 @@
-use crate::Step;
-use crate::Under;
-use crate::way::halted;
-use crate::way::under_way;
 use alloc::Answer;
 use regs::Dir;
 use state::STATE_LEN;
+use way::Step;
+use way::halts::halted;
+use way::rows::stop;
 ghost use mathlib.Core.Path.{_≡_};
 ghost use mathlib.Core.Bool.{cond};
-ghost use mathlib.Core.List.{List};
+ghost use mathlib.Core.List.{List, []};
 ghost use Prim.Native.Nat.{ℕ};
 ghost use lib.Dec.{eqb};
 ghost use Rattle.script.specs.Machine.{begin, start};
 ghost use Rattle.script.specs.Calls.{other, Allocate, Start, startRow};
 ghost use Rattle.script.specs.Statics.{flag};
-ghost use Rattle.usbhs.specs.Under.{machineOf, drive, answerOf, configOf};
+ghost use Rattle.way.specs.Under.{machineOf, drive, answerOf, configOf};
 
 // Allocation (mod.rs 953-1043, endpoint.rs 18-36): rows 6, 7, 8 are the allocator's answer, and what row 8 keeps is in its change.
 pub fn allocate(
@@ -24,56 +23,42 @@ pub fn allocate(
     maximum: u32,
     interval: u32,
 ) -> Step
-    ensures { λ r. ⌜ ((a b : List ℕ) → (answerOf r, machineOf (now (s .exit)) b) ≡ drive (begin (other (Allocate dir kind address maximum interval))) (machineOf (now (s .entry)) a) b) ⌝ }
+    ensures { λ r. ⌜ ((a b : List ℕ) → (answerOf r [], machineOf (now (s .exit)) b) ≡ drive (begin (other (Allocate dir kind address maximum interval))) (machineOf (now (s .entry)) a) b) ⌝ }
 {
-    let u = under_way(s);
-    match u {
-        Under::Driver(_p) => Step::Refused(3),
-        Under::Bus(_p) => Step::Refused(3),
-        Under::Idle => {
-            let g = state::load_globals(s);
-            if g.stage == 1 {
-                let z = ops::records::allocate(s, dir, kind, address, maximum, interval);
-                match z {
-                    Answer::Refused(n) => {
-                        return Step::Refused(n);
-                    }
-                    Answer::Given(e, _base, _slots) => {
-                        state::clear_wakes(s);
-                        return halted(s, driver::new_endpoint(dir, kind, maximum, e));
-                    }
-                }
+    let n = stop(s, 1);
+    if n == 0 {
+        let z = ops::records::allocate(s, dir, kind, address, maximum, interval);
+        match z {
+            Answer::Refused(row) => {
+                return Step::Refused(row);
             }
-            Step::Refused(4)
+            Answer::Given(e, _base, _slots) => {
+                state::clear_wakes(s);
+                return halted(s, driver::new_endpoint(dir, kind, maximum, e));
+            }
         }
     }
+    Step::Refused(n)
 }
 
 // EP0's start (mod.rs 1144-1178).
 pub fn start(s: &mut [u8; STATE_LEN], maximum: u32) -> Step
-    ensures { λ r. ⌜ ((a b : List ℕ) → (answerOf r, machineOf (now (s .exit)) b) ≡ drive (begin (other (Start maximum))) (machineOf (now (s .entry)) a) b) ⌝ }
+    ensures { λ r. ⌜ ((a b : List ℕ) → (answerOf r [], machineOf (now (s .exit)) b) ≡ drive (begin (other (Start maximum))) (machineOf (now (s .entry)) a) b) ⌝ }
 {
-    let u = under_way(s);
-    match u {
-        Under::Driver(_p) => Step::Refused(3),
-        Under::Bus(_p) => Step::Refused(3),
-        Under::Idle => {
-            let g = state::load_globals(s);
-            if g.stage == 1 {
-                let z = ops::records::allocate0(s, maximum);
-                match z {
-                    Answer::Refused(n) => {
-                        return Step::Refused(n);
-                    }
-                    Answer::Given(_e, _base, _slots) => {
-                        state::clear_wakes(s);
-                        return halted(s, driver::start_ep0(s, maximum));
-                    }
-                }
+    let n = stop(s, 1);
+    if n == 0 {
+        let z = ops::records::allocate0(s, maximum);
+        match z {
+            Answer::Refused(row) => {
+                return Step::Refused(row);
             }
-            Step::Refused(4)
+            Answer::Given(_e, _base, _slots) => {
+                state::clear_wakes(s);
+                return halted(s, driver::start_ep0(s, maximum));
+            }
         }
     }
+    Step::Refused(n)
 }
 
 fn flag_of(on: bool) -> u8
@@ -93,7 +78,7 @@ pub fn start_up(
     count: u32,
     callback: bool,
 ) -> Step
-    ensures { λ r. ⌜ ((a : List ℕ) → (answerOf r, machineOf (now (s .exit)) (cond (eqb (startRow (configOf size count callback) (now (slots .entry))) 0) (now (slots .entry)) a)) ≡ drive (start (configOf size count callback)) (machineOf (now (s .entry)) a) (now (slots .entry))) ⌝ }
+    ensures { λ r. ⌜ ((a : List ℕ) → (answerOf r [], machineOf (now (s .exit)) (cond (eqb (startRow (configOf size count callback) (now (slots .entry))) 0) (now (slots .entry)) a)) ≡ drive (start (configOf size count callback)) (machineOf (now (s .entry)) a) (now (slots .entry))) ⌝ }
 {
     if alloc::buffer::fits(slots.len() as u64, size, count) {
         if alloc::buffer::good_buffer(size, count) {

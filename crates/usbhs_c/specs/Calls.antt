@@ -1,6 +1,6 @@
 -- What an exported call says: its word is that of the answer which the machine of calls gives
 use mathlib.Core.Bool.{Bool, true, false, not, cond}
-use mathlib.Core.List.{List}
+use mathlib.Core.List.{List, []}
 use mathlib.Core.Path.{_≡_}
 use Prim.Native.Nat.{ℕ}
 use lib.Dec.{eqb}
@@ -9,7 +9,7 @@ use Rattle.regs.specs.declared.Dir.the-variants.{Out, In}
 use Rattle.state.specs.State.{view}
 use Rattle.script.specs.Calls.{Config, Op, startRow}
 use Rattle.script.specs.Machine.{Buf, Call, start}
-use Rattle.usbhs.specs.Under.{machineOf, drive, answerOf, lentOr}
+use Rattle.way.specs.Under.{machineOf, drive, answerOf, lentOr, lentBy}
 use Rattle.usbhs_c.specs.Word.{Worded}
 
 -- a number as a direction: 0 OUT, else IN
@@ -23,16 +23,39 @@ flagOf n = not (eqb n 0)
 -- a call that brings no slots: the state's bytes before and after; the slots may be any
 abbrev pub Answers : ℕ → Call Config Op → List ℕ → List ℕ → Type 0
 Answers r c before after =
-    Worded r (λ step. (a b : Buf) → (answerOf step, machineOf after b) ≡ drive c (machineOf before a) b)
+    Worded r (λ step. (a b : Buf) → (answerOf step [], machineOf after b) ≡ drive c (machineOf before a) b)
 
 -- a call that brings the slots: their bytes before and after
 abbrev pub AnswersLent : ℕ → Call Config Op → List ℕ → List ℕ → Buf → Buf → Type 0
 AnswersLent r c before after slots slots′ =
     Worded r
-    (λ step. (a : Buf) → (answerOf step, machineOf after (lentOr (view before) slots slots′ a)) ≡ drive c (machineOf before a) slots)
+    (λ step. (a : Buf) → (answerOf step [], machineOf after (lentOr (view before) slots slots′ a)) ≡ drive c (machineOf before a) slots)
+
+-- a poll that fills a slice: its bytes after the call are those that the answer brings, or they stay
+abbrev pub AnswersInto : ℕ → Call Config Op → List ℕ → List ℕ → List ℕ → List ℕ → Type 0
+AnswersInto r c before after out out′ =
+    Worded r (λ step. (a b : Buf) → (answerOf step out′, machineOf after b) ≡ drive c (machineOf before a) b)
+    × ((a b : Buf) → out′ ≡ lentBy (drive c (machineOf before a) b .0) out)
+
+-- the same with the slots, which it reads
+abbrev pub AnswersOutOf : ℕ → Call Config Op → List ℕ → List ℕ → Buf → List ℕ → List ℕ → Type 0
+AnswersOutOf r c before after slots out out′ =
+    Worded r (λ step. (a : Buf) → (answerOf step out′, machineOf after (lentOr (view before) slots slots a)) ≡ drive c (machineOf before a) slots)
+    × ((a : Buf) → out′ ≡ lentBy (drive c (machineOf before a) slots .0) out)
+
+-- packets in place: of one that is shown, the bytes are the slots'
+abbrev pub AnswersBeside : ℕ → Call Config Op → List ℕ → List ℕ → Type 0
+AnswersBeside r c before after =
+    Worded r (λ step. (a b : Buf) → (answerOf step b, machineOf after b) ≡ drive c (machineOf before a) b)
+
+-- the same with the slots: their bytes before and after
+abbrev pub AnswersShown : ℕ → Call Config Op → List ℕ → List ℕ → Buf → Buf → Type 0
+AnswersShown r c before after slots slots′ =
+    Worded r
+    (λ step. (a : Buf) → (answerOf step slots′, machineOf after (lentOr (view before) slots slots′ a)) ≡ drive c (machineOf before a) slots)
 
 -- start-up: the slots that it is brought are the run's from then on, unless it is refused
 abbrev pub AnswersStart : ℕ → Config → List ℕ → List ℕ → Buf → Type 0
 AnswersStart r c before after slots =
     Worded r
-    (λ step. (a : Buf) → (answerOf step, machineOf after (cond (eqb (startRow c slots) 0) slots a)) ≡ drive (start c) (machineOf before a) slots)
+    (λ step. (a : Buf) → (answerOf step [], machineOf after (cond (eqb (startRow c slots) 0) slots a)) ≡ drive (start c) (machineOf before a) slots)

@@ -2,3 +2,4 @@ pub mod Word
 pub mod Parts
 pub mod WordLaws
 pub mod Calls
+pub mod Setup

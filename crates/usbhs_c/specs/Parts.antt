@@ -1,5 +1,6 @@
 -- The answer that a word says: its parts, as the header's macros take them
-use mathlib.Core.Bool.{cond}
+use mathlib.Core.Bool.{true, false, cond}
+use mathlib.Core.Path.{_≡_}
 use Prim.Native.Nat.{ℕ, _/_, _%_, _^_, _<_}
 use lib.Dec.{eqb}
 use Rattle.regs.specs.declared.Reg.{Reg}
@@ -7,8 +8,8 @@ use Rattle.regs.specs.declared.Reg.the-variants.{IntFg, IntSt, MisSt, RxLen, Fr
 use Rattle.regs.specs.declared.Access.{Access}
 use Rattle.regs.specs.declared.Access.the-variants.{Read, Write, Receive, Transmit, Ep0Dma, Wait, Callback}
 use Rattle.state.specs.declared.Wakes.{Wakes}
-use Rattle.usbhs.specs.declared.Step.{Step}
-use Rattle.usbhs.specs.declared.Step.the-variants.{Refused, Asks, Ends}
+use Rattle.way.specs.declared.Step.{Step}
+use Rattle.way.specs.declared.Step.the-variants.{Refused, Asks, Ends, NotYet, Done, Setup, Shown}
 
 -- the register of a number; numbers that no register has read as the last
 abbrev pub regOf : ℕ → Reg
@@ -48,12 +49,15 @@ ofKind k w =
     (cond (eqb k 2) (Asks (writeOf (byteAt w 8) (byteAt w 16) (w / 2 ^ 32)))
     (cond (eqb k 3) (Asks (Wait (byteAt w 8)))
     (cond (eqb k 4) (Asks Callback)
-    (Ends (halfAt w 8) (record { outs = halfAt w 40; ins = halfAt w 24; bus = w / 2 ^ 56 }))))))
+    (cond (eqb k 5) (Ends (halfAt w 8) (record { outs = halfAt w 40; ins = halfAt w 24; bus = w / 2 ^ 56 }))
+    (cond (eqb k 6) NotYet
+    (cond (eqb k 7) (Done (halfAt w 8))
+    (Shown (w / 2 ^ 32) (halfAt w 8)))))))))
 
 unfoldable pub stepOf : ℕ → Step
 stepOf w = ofKind (w % 2 ^ 4) w
 
--- the numbers of an answer are as wide as the call's types
+-- the numbers of an answer are as wide as the call's types; a setup packet is no word's
 abbrev pub AccessFits : Access → Type 0
 AccessFits (Read r e) = e < 2 ^ 8
 AccessFits (Write r e x) = (e < 2 ^ 8) × (x < 2 ^ 32)
@@ -67,3 +71,7 @@ abbrev pub Fits : Step → Type 0
 Fits (Refused n) = n < 2 ^ 8
 Fits (Asks q) = AccessFits q
 Fits (Ends n w) = (n < 2 ^ 16) × (w .ins < 2 ^ 16) × (w .outs < 2 ^ 16) × (w .bus < 2 ^ 8)
+Fits NotYet = Unit
+Fits (Done n) = n < 2 ^ 16
+Fits (Setup low high) = true ≡ false
+Fits (Shown at n) = (at < 2 ^ 32) × (n < 2 ^ 16)

@@ -5,8 +5,8 @@ use Rattle.regs.specs.declared.Access.{Access}
 use Rattle.regs.specs.declared.Access.the-variants.{Read, Write, Receive, Transmit, Ep0Dma, Wait, Callback}
 use Rattle.regs.specs.Registers.{numberOf}
 use Rattle.state.specs.declared.Wakes.{Wakes}
-use Rattle.usbhs.specs.declared.Step.{Step}
-use Rattle.usbhs.specs.declared.Step.the-variants.{Refused, Asks, Ends}
+use Rattle.way.specs.declared.Step.{Step}
+use Rattle.way.specs.declared.Step.the-variants.{Refused, Asks, Ends, NotYet, Done, Setup, Shown}
 
 -- kind 1: register 8-15, endpoint 16-23
 abbrev pub readWord : ℕ → ℕ → ℕ
@@ -30,11 +30,23 @@ accessWord Callback = 4
 unfoldable pub endWord : ℕ → Wakes → ℕ
 endWord n w = 5 + n * 2 ^ 8 + w .ins * 2 ^ 24 + w .outs * 2 ^ 40 + w .bus * 2 ^ 56
 
--- kind 0: the row's number 8-15
+-- kind 7: length 8-23
+abbrev pub doneWord : ℕ → ℕ
+doneWord n = 7 + n * 2 ^ 8
+
+-- kind 8: length 8-23, offset into the slots 32-63
+abbrev pub shownWord : ℕ → ℕ → ℕ
+shownWord at n = 8 + n * 2 ^ 8 + at * 2 ^ 32
+
+-- kind 0: the row's number 8-15; kind 6: not yet. A setup packet has no word of its own: its 8 bytes are in the caller's packet
 unfoldable pub wordOf : Step → ℕ
 wordOf (Refused n) = n * 2 ^ 8
 wordOf (Asks q) = accessWord q
 wordOf (Ends n w) = endWord n w
+wordOf NotYet = 6
+wordOf (Done n) = doneWord n
+wordOf (Setup low high) = doneWord 8
+wordOf (Shown at n) = shownWord at n
 
 -- the word of an answer of which P holds
 abbrev pub Worded : ℕ → (Step → Type 0) → Type 0

@@ -1,4 +1,5 @@
 -- A word says its answer: different answers have different words
+use mathlib.Core.Bool.{true≢false}
 use mathlib.Core.Path.{_≡_, refl, sym, ap, _∙_}
 use Prim.Native.Nat.{ℕ, _+_, _*_, _/_, _%_, _^_, _<_}
 use native.Mathlib.Omega.{arith}
@@ -8,9 +9,9 @@ use Rattle.regs.specs.Registers.{numberOf}
 use Rattle.regs.specs.declared.Access.{Access}
 use Rattle.regs.specs.declared.Access.the-variants.{Read, Write, Receive, Transmit, Ep0Dma, Wait, Callback}
 use Rattle.state.specs.declared.Wakes.{Wakes}
-use Rattle.usbhs.specs.declared.Step.{Step}
-use Rattle.usbhs.specs.declared.Step.the-variants.{Refused, Asks, Ends}
-use Rattle.usbhs_c.specs.Word.{readWord, writeWord, accessWord, endWord, wordOf}
+use Rattle.way.specs.declared.Step.{Step}
+use Rattle.way.specs.declared.Step.the-variants.{Refused, Asks, Ends, NotYet, Done, Setup, Shown}
+use Rattle.usbhs_c.specs.Word.{readWord, writeWord, accessWord, endWord, doneWord, shownWord, wordOf}
 use Rattle.usbhs_c.specs.Parts.{regOf, writeOf, byteAt, halfAt, ofKind, stepOf, AccessFits, Fits}
 
 number-lt : (r : Reg) → numberOf r < 2 ^ 8
@@ -135,6 +136,22 @@ end-word n w hn hi ho =
     let b : endWord n w / 2 ^ 56 ≡ w .bus = from-56 n (w .ins) (w .outs) (w .bus) hn hi ho in
     ap (λ k. ofKind k (endWord n w)) k ∙ (λ i. Ends (r i) (record { outs = o i; ins = a i; bus = b i }))
 
+done-word : (n : ℕ) → n < 2 ^ 16 → stepOf (doneWord n) ≡ Done n
+unfolding stepOf
+done-word n h =
+    let k : doneWord n % 2 ^ 4 ≡ 7 = omega arith in
+    let b : halfAt (doneWord n) 8 ≡ n = omega arith in
+    ap (λ k. ofKind k (doneWord n)) k ∙ ap Done b
+
+shown-word : (at n : ℕ) → n < 2 ^ 16 → stepOf (shownWord at n) ≡ Shown at n
+unfolding stepOf
+shown-word at n h =
+    let k : shownWord at n % 2 ^ 4 ≡ 8 = omega arith in
+    let m : shownWord at n / 2 ^ 8 ≡ n + (at * 2 ^ 8) * 2 ^ 16 = omega arith in
+    let b : halfAt (shownWord at n) 8 ≡ n = ap (λ m. m % 2 ^ 16) m ∙ low-half n _ h in
+    let o : shownWord at n / 2 ^ 32 ≡ at = omega arith in
+    ap (λ k. ofKind k (shownWord at n)) k ∙ (λ i. Shown (o i) (b i))
+
 access-word : (q : Access) → AccessFits q → stepOf (accessWord q) ≡ Asks q
 unfolding stepOf accessWord
 access-word (Read r e) h = read-word r e h
@@ -147,10 +164,14 @@ access-word Callback h = refl
 
 -- the answer comes back
 pub step-word : (step : Step) → Fits step → stepOf (wordOf step) ≡ step
-unfolding wordOf
+unfolding wordOf stepOf
 step-word (Refused n) h = refused-word n h
 step-word (Asks q) h = access-word q h
 step-word (Ends n w) h = end-word n w (h .0) (h .1) (h .2)
+step-word NotYet h = refl
+step-word (Done n) h = done-word n h
+step-word (Setup low high) h = absurd (true≢false h)
+step-word (Shown at n) h = shown-word at n (h .1)
 
 pub words-apart : (a b : Step) → Fits a → Fits b → wordOf a ≡ wordOf b → a ≡ b
 words-apart a b ha hb e = sym (step-word a ha) ∙ ap stepOf e ∙ step-word b hb

@@ -2,20 +2,23 @@
 // number is safe. Each call answers one word (specs/Word.antt), a question its number.
 pub mod word; // word.rt: an answer's word
 pub mod inputs; // inputs.rt: directions and flags as numbers
+pub mod setup; // setup.rt: a setup packet's bytes
 
 use inputs::dir_of;
 use inputs::flag_of;
+use setup::setup_word;
 use state::STATE_LEN;
 use word::word_of;
 ghost use mathlib.Core.Path.{_≡_};
 ghost use Rattle.state.specs.State.{view};
 ghost use Rattle.script.specs.Statics.{flag};
 ghost use Rattle.script.specs.Machine.{begin, go, start};
-ghost use Rattle.script.specs.Calls.{other, slotted, Microframe, Allocate, Start, SetPaced, BusEnable, BusDisable, BusPoll, IsStalled, SetStalled, SetEnabled};
+ghost use Rattle.script.specs.Calls.{other, slotted, aside, interrupt, Microframe, Allocate, Start, SetPaced, BusEnable, BusDisable, BusPoll, IsStalled, SetStalled, SetEnabled, BeginSetup, PollSetup, BeginDataOut, PollDataOut, BeginDataIn, PollDataIn, BeginAccept, BeginAcceptSetAddress, PollAccept, BeginReject, Advance, BeginRead, PollRead, BeginWrite, PollWrite, Open, Close, Queue};
 ghost use Prim.Native.Nat.{_%_};
-ghost use Rattle.usbhs.specs.Under.{configOf};
-ghost use Rattle.usbhs.specs.Questions.{pendingOn, overrunsOn, enabledAsked};
-ghost use Rattle.usbhs_c.specs.Calls.{Answers, AnswersLent, AnswersStart, dirOf, flagOf};
+ghost use lib.ListN.{length};
+ghost use Rattle.way.specs.Under.{configOf};
+ghost use Rattle.way.specs.Questions.{pendingOn, overrunsOn, enabledAsked};
+ghost use Rattle.usbhs_c.specs.Calls.{Answers, AnswersLent, AnswersInto, AnswersOutOf, AnswersStart, AnswersBeside, AnswersShown, dirOf, flagOf};
 
 // Start-up on any state, with the buffer's size and count and whether there is a start-of-frame callback.
 #[no_mangle]
@@ -78,6 +81,22 @@ pub extern "C" fn usbhs_set_paced(s: &mut [u8; STATE_LEN], endpoint: u32, paced:
     word_of(usbhs::begins::set_paced(s, endpoint, flag_of(paced)))
 }
 
+// The paced IN endpoint moved on.
+#[no_mangle]
+pub extern "C" fn usbhs_begin_advance(s: &mut [u8; STATE_LEN], endpoint: u32) -> u64
+    ensures { λ r. ⌜ Answers r (begin (other (Advance endpoint))) (now (s .entry)) (now (s .exit)) ⌝ }
+{
+    word_of(usbhs::begins::begin_advance(s, endpoint))
+}
+
+// The interrupt: while it is under way packets may be opened, closed and queued.
+#[no_mangle]
+pub extern "C" fn usbhs_begin_interrupt(s: &mut [u8; STATE_LEN]) -> u64
+    ensures { λ r. ⌜ Answers r (begin interrupt) (now (s .entry)) (now (s .exit)) ⌝ }
+{
+    word_of(usbhs::begins::begin_interrupt(s))
+}
+
 // Pulls the bus up.
 #[no_mangle]
 pub extern "C" fn usbhs_begin_bus_enable(s: &mut [u8; STATE_LEN]) -> u64
@@ -135,6 +154,172 @@ pub extern "C" fn usbhs_begin_set_enabled(
     ensures { λ r. ⌜ AnswersLent r (begin (slotted (SetEnabled (dirOf dir) endpoint (flagOf enabled)))) (now (s .entry)) (now (s .exit)) (now (slots .entry)) (now (slots .exit)) ⌝ }
 {
     word_of(usbhs::bus_begins::begin_set_enabled(s, slots, dir_of(dir), endpoint, flag_of(enabled)))
+}
+
+// A packet awaited from the host, into a slice of that length.
+#[no_mangle]
+pub extern "C" fn usbhs_begin_read(s: &mut [u8; STATE_LEN], endpoint: u32, length: u32) -> u64
+    ensures { λ r. ⌜ Answers r (begin (other (BeginRead endpoint length))) (now (s .entry)) (now (s .exit)) ⌝ }
+{
+    word_of(usbhs::requests::begin_read(s, endpoint, length))
+}
+
+// The packet at the slice's front.
+#[no_mangle]
+pub extern "C" fn usbhs_poll_read(
+    s: &mut [u8; STATE_LEN],
+    slots: &[u8],
+    endpoint: u32,
+    slice: &mut [u8],
+) -> u64
+    ensures { λ r. ⌜ AnswersOutOf r (begin (slotted (PollRead endpoint (length (now (slice .entry)))))) (now (s .entry)) (now (s .exit)) (now (slots .entry)) (now (slice .entry)) (now (slice .exit)) ⌝ }
+{
+    word_of(usbhs::requests::poll_read(s, slots, endpoint, slice))
+}
+
+// A packet for the host.
+#[no_mangle]
+pub extern "C" fn usbhs_begin_write(
+    s: &mut [u8; STATE_LEN],
+    slots: &mut [u8],
+    endpoint: u32,
+    bytes: &[u8],
+) -> u64
+    ensures { λ r. ⌜ AnswersLent r (begin (slotted (BeginWrite endpoint (now (bytes .entry))))) (now (s .entry)) (now (s .exit)) (now (slots .entry)) (now (slots .exit)) ⌝ }
+{
+    word_of(usbhs::requests::begin_write(s, slots, endpoint, bytes))
+}
+
+// Whether the host has taken it, or, of an isochronous endpoint, whether it is queued.
+#[no_mangle]
+pub extern "C" fn usbhs_poll_write(
+    s: &mut [u8; STATE_LEN],
+    slots: &mut [u8],
+    endpoint: u32,
+    bytes: &[u8],
+) -> u64
+    ensures { λ r. ⌜ AnswersLent r (begin (slotted (PollWrite endpoint (now (bytes .entry))))) (now (s .entry)) (now (s .exit)) (now (slots .entry)) (now (slots .exit)) ⌝ }
+{
+    word_of(usbhs::requests::poll_write(s, slots, endpoint, bytes))
+}
+
+// Setup begun: its poll waits for a setup packet.
+#[no_mangle]
+pub extern "C" fn usbhs_begin_setup(s: &mut [u8; STATE_LEN]) -> u64
+    ensures { λ r. ⌜ Answers r (begin (other BeginSetup)) (now (s .entry)) (now (s .exit)) ⌝ }
+{
+    word_of(usbhs::control_begins::begin_setup(s))
+}
+
+// The setup packet's 8 bytes.
+#[no_mangle]
+pub extern "C" fn usbhs_poll_setup(s: &mut [u8; STATE_LEN], packet: &mut [u8; 8]) -> u64
+    ensures { λ r. ⌜ AnswersInto r (begin (other PollSetup)) (now (s .entry)) (now (s .exit)) (now (packet .entry)) (now (packet .exit)) ⌝ }
+{
+    setup_word(packet, usbhs::control_polls::poll_setup(s))
+}
+
+// A packet of data awaited from the host, into a slice of that length; the first of its stage or a later one.
+#[no_mangle]
+pub extern "C" fn usbhs_begin_data_out(s: &mut [u8; STATE_LEN], length: u32, first: u32) -> u64
+    ensures { λ r. ⌜ Answers r (begin (other (BeginDataOut length (flagOf first)))) (now (s .entry)) (now (s .exit)) ⌝ }
+{
+    word_of(usbhs::control_begins::begin_data_out(s, length, flag_of(first)))
+}
+
+// The packet at the slice's front.
+#[no_mangle]
+pub extern "C" fn usbhs_poll_data_out(
+    s: &mut [u8; STATE_LEN],
+    slots: &[u8],
+    slice: &mut [u8],
+) -> u64
+    ensures { λ r. ⌜ AnswersOutOf r (begin (slotted (PollDataOut (length (now (slice .entry)))))) (now (s .entry)) (now (s .exit)) (now (slots .entry)) (now (slice .entry)) (now (slice .exit)) ⌝ }
+{
+    word_of(usbhs::control_polls::poll_data_out(s, slots, slice))
+}
+
+// A packet of data for the host, with whether it is its stage's first and its last.
+#[no_mangle]
+pub extern "C" fn usbhs_begin_data_in(
+    s: &mut [u8; STATE_LEN],
+    slots: &mut [u8],
+    bytes: &[u8],
+    first: u32,
+    last: u32,
+) -> u64
+    ensures { λ r. ⌜ AnswersLent r (begin (slotted (BeginDataIn (now (bytes .entry)) (flagOf first) (flagOf last)))) (now (s .entry)) (now (s .exit)) (now (slots .entry)) (now (slots .exit)) ⌝ }
+{
+    word_of(usbhs::control_begins::begin_data_in(s, slots, bytes, flag_of(first), flag_of(last)))
+}
+
+// Whether the host has taken it.
+#[no_mangle]
+pub extern "C" fn usbhs_poll_data_in(s: &mut [u8; STATE_LEN]) -> u64
+    ensures { λ r. ⌜ Answers r (begin (other PollDataIn)) (now (s .entry)) (now (s .exit)) ⌝ }
+{
+    word_of(usbhs::control_polls::poll_data_in(s))
+}
+
+// The request accepted.
+#[no_mangle]
+pub extern "C" fn usbhs_begin_accept(s: &mut [u8; STATE_LEN]) -> u64
+    ensures { λ r. ⌜ Answers r (begin (other BeginAccept)) (now (s .entry)) (now (s .exit)) ⌝ }
+{
+    word_of(usbhs::control_begins::begin_accept(s))
+}
+
+// The same, and then the address modulo 128 taken.
+#[no_mangle]
+pub extern "C" fn usbhs_begin_accept_set_address(s: &mut [u8; STATE_LEN], address: u32) -> u64
+    ensures { λ r. ⌜ Answers r (begin (other (BeginAcceptSetAddress address))) (now (s .entry)) (now (s .exit)) ⌝ }
+{
+    word_of(usbhs::control_begins::begin_accept_set_address(s, address))
+}
+
+// Whether the status stage is over; it hands out the address's write.
+#[no_mangle]
+pub extern "C" fn usbhs_poll_accept(s: &mut [u8; STATE_LEN]) -> u64
+    ensures { λ r. ⌜ Answers r (begin (other PollAccept)) (now (s .entry)) (now (s .exit)) ⌝ }
+{
+    word_of(usbhs::control_polls::poll_accept(s))
+}
+
+// The request refused: EP0 stalled.
+#[no_mangle]
+pub extern "C" fn usbhs_begin_reject(s: &mut [u8; STATE_LEN]) -> u64
+    ensures { λ r. ⌜ Answers r (begin (other BeginReject)) (now (s .entry)) (now (s .exit)) ⌝ }
+{
+    word_of(usbhs::control_begins::begin_reject(s))
+}
+
+// The isochronous OUT endpoint's oldest packet shown in its slot.
+#[no_mangle]
+pub extern "C" fn usbhs_open(s: &mut [u8; STATE_LEN], slots: &[u8], endpoint: u32) -> u64
+    ensures { λ r. ⌜ AnswersShown r (begin (aside (Open endpoint))) (now (s .entry)) (now (s .exit)) (now (slots .entry)) (now (slots .entry)) ⌝ }
+{
+    word_of(usbhs::in_place::open(s, slots, endpoint))
+}
+
+// Its slot given back.
+#[no_mangle]
+pub extern "C" fn usbhs_close(s: &mut [u8; STATE_LEN], endpoint: u32) -> u64
+    ensures { λ r. ⌜ AnswersBeside r (begin (aside (Close endpoint))) (now (s .entry)) (now (s .exit)) ⌝ }
+{
+    word_of(usbhs::in_place::close(s, endpoint))
+}
+
+// A packet queued on the isochronous IN endpoint.
+#[no_mangle]
+pub extern "C" fn usbhs_queue(
+    s: &mut [u8; STATE_LEN],
+    slots: &mut [u8],
+    endpoint: u32,
+    bytes: &[u8],
+) -> u64
+    ensures { λ r. ⌜ AnswersShown r (begin (aside (Queue endpoint (now (bytes .entry))))) (now (s .entry)) (now (s .exit)) (now (slots .entry)) (now (slots .exit)) ⌝ }
+{
+    word_of(usbhs::in_place::queue(s, slots, endpoint, bytes))
 }
 
 // The packets queued on the IN endpoint and not yet taken by the host.

@@ -3,7 +3,7 @@ use regs::registers::number;
 use state::Wakes;
 use usbhs::Step;
 ghost use mathlib.Core.Path.{_≡_};
-ghost use Rattle.usbhs_c.specs.Word.{readWord, writeWord, accessWord, endWord, wordOf};
+ghost use Rattle.usbhs_c.specs.Word.{readWord, writeWord, accessWord, endWord, doneWord, shownWord, wordOf};
 
 fn read_word(register: u8, endpoint: u8) -> u64
     ensures { λ r. ⌜ r ≡ readWord register endpoint ⌝ }
@@ -41,7 +41,19 @@ fn end_word(n: u16, w: Wakes) -> u64
         + w.bus as u64 * 0x100_0000_0000_0000
 }
 
-// The word of a call's answer.
+fn done_word(n: u16) -> u64
+    ensures { λ r. ⌜ r ≡ doneWord n ⌝ }
+{
+    7 + n as u64 * 0x100
+}
+
+fn shown_word(at: u32, n: u16) -> u64
+    ensures { λ r. ⌜ r ≡ shownWord at n ⌝ }
+{
+    8 + n as u64 * 0x100 + at as u64 * 0x1_0000_0000
+}
+
+// The word of a call's answer. A setup packet's bytes lie in the caller's packet: 8 are brought.
 pub fn word_of(step: Step) -> u64
     ensures { λ r. ⌜ r ≡ wordOf step ⌝ }
 {
@@ -49,5 +61,9 @@ pub fn word_of(step: Step) -> u64
         Step::Refused(n) => n as u64 * 0x100,
         Step::Asks(q) => access_word(q),
         Step::Ends(n, w) => end_word(n, w),
+        Step::NotYet => 6,
+        Step::Done(n) => done_word(n),
+        Step::Setup(_low, _high) => done_word(8),
+        Step::Shown(at, n) => shown_word(at, n),
     }
 }

@@ -1,6 +1,11 @@
-use Rattle.usbhs.specs.Begins.{set-paced-begins}
-use mathlib.Core.Path.{_∙_, sym}
-use Rattle.usbhs.specs.Numbers.{number-lt}
+use Rattle.way.specs.Rows.{back, numbered-call}
+use Rattle.way.specs.Numbers.{number-lt}
+use Rattle.usbhs.specs.Begins.{pacing, set-paced-begins}
+use Rattle.script.specs.Calls as calls
+use Rattle.way.specs.Under.{decode}
+use Rattle.state.specs.State.{view, saved}
+use denote.Ref.{now}
+use mathlib.Core.Path.{_∙_, sym, refl}
 use borrow.Author.Tests.{eq-eqb, ne-eqb}
 use borrow.Author.Needs.{needs}
 use Rattle.usbhs.proofs.begins.set_paced.Statement.{statement}
@@ -8,25 +13,12 @@ use Rattle.usbhs.proofs.begins.set_paced.Tie as tie
 use Rattle.usbhs.proofs.begins.set_paced.Reads as reads
 use Rattle.usbhs.proofs.begins.set_paced.Lts as lts
 use Rattle.driver.proofs.set_paced.Reads as set-paced-reads
-use Rattle.state.proofs.load_globals.Reads as load-globals-reads
-use Rattle.usbhs.proofs.questions.is_number.Reads as is-number-reads
-use Rattle.usbhs.proofs.questions.low.Reads as low-reads
-use Rattle.usbhs.proofs.way.under_way.Reads as under-way-reads
+use Rattle.way.proofs.endpoints.is_number.Reads as is-number-reads
+use Rattle.way.proofs.endpoints.low.Reads as low-reads
+use Rattle.way.proofs.rows.stop.Reads as stop-reads
 
-under-way-requires : tie.Need-under-way-requires
-under-way-requires c κs = search needs
-
-enum-known-u : tie.Need-enum-known-u
-enum-known-u c = search needs
-
-enum-known-u-2 : tie.Need-enum-known-u-2
-enum-known-u-2 c = search needs
-
-enum-told : tie.Need-enum-told
-enum-told c = search needs
-
-load-globals-requires : tie.Need-load-globals-requires
-load-globals-requires c κs = search needs
+stop-requires : tie.Need-stop-requires
+stop-requires c κs = search needs
 
 is-number-requires : tie.Need-is-number-requires
 is-number-requires c κs = search needs
@@ -38,34 +30,22 @@ set-paced-requires : tie.Need-set-paced-requires
 set-paced-requires c κs = simp (c .low .ensures) (number-lt _ (sym (c .before .before .before .is-number .ensures) ∙ c .before .before .if2 .taken))
 
 returns : tie.Need-returns
-returns c a b = simp (c .set-paced .ensures .1) (set-paced-begins _ _ _ a b _ _ _ (sym (c .before .before .before .before .before .before .before .before .before .before .before .under-way .ensures) ∙ c .before .before .before .before .before .before .before .before .before .enum-told .given .1) (simp (← c .before .before .before .before .before .before .before .load-globals .ensures, eq-eqb _ _ (c .before .before .before .before .before .if1 .taken))) (sym (c .before .before .before .before .is-number .ensures) ∙ c .before .before .before .if2 .taken) (c .before .low .ensures) (c .set-paced .ensures .0 b))
+returns c a b = simp (c .set-paced .ensures .1) (set-paced-begins (decode (saved (now (c .before .before .before .before .before .before .before .before .args .s)))) (view (now (c .before .before .before .before .before .before .before .before .args .s))) _ a b (c .before .before .before .before .before .before .before .before .args .e) _ (c .before .before .before .before .before .before .before .before .args .on) (eq-eqb _ _ (sym (c .before .before .before .before .before .before .stop .ensures) ∙ c .before .before .before .before .before .if1 .taken)) (sym (c .before .before .before .before .is-number .ensures) ∙ c .before .before .before .if2 .taken) (c .before .low .ensures) (c .set-paced .ensures .0 b))
 
 returns-2 : tie.Need-returns-2
-returns-2 c a b = simp (← c .before .before .before .before .before .before .before .before .under-way .ensures, c .before .before .before .before .before .before .enum-told .given .1, ← c .before .before .before .before .load-globals .ensures, eq-eqb _ _ (c .before .before .if1 .taken), ← c .before .is-number .ensures, c .if2 .left)
+returns-2 c a b = back (numbered-call (calls.SetPaced (c .before .before .before .before .before .args .e) (c .before .before .before .before .before .args .on)) (c .before .before .before .before .before .args .e) (pacing (c .before .before .before .before .before .args .e) (c .before .before .before .before .before .args .on)) (decode (saved (now (c .before .before .before .before .before .args .s)))) (view (now (c .before .before .before .before .before .args .s))) a b refl) (simp (← c .before .before .before .stop .ensures, eq-eqb _ _ (c .before .before .if1 .taken), ← c .before .is-number .ensures, c .if2 .left))
 
 returns-3 : tie.Need-returns-3
-returns-3 c a b = simp (← c .before .before .before .under-way .ensures, c .before .u .given .1)
-
-returns-4 : tie.Need-returns-4
-returns-4 c a b = simp (← c .before .before .before .under-way .ensures, c .before .u2 .given .1)
-
-returns-5 : tie.Need-returns-5
-returns-5 c a b = simp (← c .before .before .before .before .before .before .under-way .ensures, c .before .before .before .before .enum-told .given .1, ← c .before .before .load-globals .ensures, ne-eqb _ _ (c .if1 .left))
+returns-3 c a b = back (numbered-call (calls.SetPaced (c .before .before .before .args .e) (c .before .before .before .args .on)) (c .before .before .before .args .e) (pacing (c .before .before .before .args .e) (c .before .before .before .args .on)) (decode (saved (now (c .before .before .before .args .s)))) (view (now (c .before .before .before .args .s))) a b refl) (simp (← c .before .stop .ensures, ne-eqb _ _ (c .if1 .left)))
 
 pub set-paced-spec : {M : Type 1} → statement M
 set-paced-spec =
     tie.close
     (tie.spec
-    under-way-requires
-    enum-known-u
-    enum-known-u-2
-    enum-told
-    load-globals-requires
+    stop-requires
     is-number-requires
     low-requires
     set-paced-requires
     returns
     returns-2
-    returns-3
-    returns-4
-    returns-5)
+    returns-3)

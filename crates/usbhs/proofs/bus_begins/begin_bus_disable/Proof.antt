@@ -1,8 +1,8 @@
-use Rattle.usbhs.specs.Rows.{back, other-call}
+use Rattle.way.specs.Rows.{back, other-call}
 use Rattle.script.specs.Calls as calls
 use Rattle.script.specs.Answers.{resultless}
 use Rattle.script.specs.Script.{done}
-use Rattle.usbhs.specs.Under.{decode}
+use Rattle.way.specs.Under.{decode}
 use Rattle.state.specs.State.{view, saved}
 use denote.Ref.{now}
 use mathlib.Core.Path.{_∙_, refl}
@@ -13,8 +13,8 @@ use Rattle.usbhs.proofs.bus_begins.begin_bus_disable.Tie as tie
 use Rattle.usbhs.proofs.bus_begins.begin_bus_disable.Reads as reads
 use Rattle.usbhs.proofs.bus_begins.begin_bus_disable.Lts as lts
 use Rattle.state.proofs.clear_wakes.Reads as clear-wakes-reads
-use Rattle.usbhs.proofs.rows.stop.Reads as stop-reads
-use Rattle.usbhs.proofs.way.halted_bus.Reads as halted-bus-reads
+use Rattle.way.proofs.rows.stop.Reads as stop-reads
+use Rattle.way.proofs.halts.halted_bus.Reads as halted-bus-reads
 
 stop-requires : tie.Need-stop-requires
 stop-requires c κs = search needs
@@ -26,10 +26,10 @@ halted-bus-requires : tie.Need-halted-bus-requires
 halted-bus-requires c κs = tt
 
 returns : tie.Need-returns
-returns c a b = back (other-call calls.BusDisable (resultless done) (decode (saved (now (c .before .before .before .before .before .before .before .args .s)))) (view (now (c .before .before .before .before .before .before .before .args .s))) a b refl) (c .halted-bus .ensures b ∙ simp (c .before .before .clear-wakes .ensures .0, ← c .before .before .before .before .before .stop .ensures, eq-eqb _ _ (c .before .before .before .before .if1 .taken)))
+returns c a b = back (other-call calls.BusDisable 2 (resultless done) (decode (saved (now (c .before .before .before .before .before .before .before .args .s)))) (view (now (c .before .before .before .before .before .before .before .args .s))) a b refl) (c .halted-bus .ensures b ∙ simp (c .before .before .clear-wakes .ensures .0, ← c .before .before .before .before .before .stop .ensures, eq-eqb _ _ (c .before .before .before .before .if1 .taken)))
 
 returns-2 : tie.Need-returns-2
-returns-2 c a b = back (other-call calls.BusDisable (resultless done) (decode (saved (now (c .before .before .before .args .s)))) (view (now (c .before .before .before .args .s))) a b refl) (simp (← c .before .stop .ensures, ne-eqb _ _ (c .if1 .left)))
+returns-2 c a b = back (other-call calls.BusDisable 2 (resultless done) (decode (saved (now (c .before .before .before .args .s)))) (view (now (c .before .before .before .args .s))) a b refl) (simp (← c .before .stop .ensures, ne-eqb _ _ (c .if1 .left)))
 
 pub begin-bus-disable-spec : {M : Type 1} → statement M
 begin-bus-disable-spec =

@@ -1,8 +1,8 @@
-use Rattle.usbhs.specs.Rows.{back, other-call}
+use Rattle.way.specs.Rows.{back, other-call}
 use Rattle.script.specs.Calls as calls
 use Rattle.script.specs.Answers.{resultless}
 use Rattle.script.specs.Bus as script
-use Rattle.usbhs.specs.Under.{decode}
+use Rattle.way.specs.Under.{decode}
 use Rattle.state.specs.State.{view, saved}
 use denote.Ref.{now}
 use mathlib.Core.Path.{_∙_, refl}
@@ -14,8 +14,8 @@ use Rattle.usbhs.proofs.bus_begins.begin_bus_enable.Reads as reads
 use Rattle.usbhs.proofs.bus_begins.begin_bus_enable.Lts as lts
 use Rattle.bus.proofs.enable.Reads as enable-reads
 use Rattle.state.proofs.clear_wakes.Reads as clear-wakes-reads
-use Rattle.usbhs.proofs.rows.stop.Reads as stop-reads
-use Rattle.usbhs.proofs.way.halted_bus.Reads as halted-bus-reads
+use Rattle.way.proofs.rows.stop.Reads as stop-reads
+use Rattle.way.proofs.halts.halted_bus.Reads as halted-bus-reads
 
 stop-requires : tie.Need-stop-requires
 stop-requires c κs = search needs
@@ -30,10 +30,10 @@ halted-bus-requires : tie.Need-halted-bus-requires
 halted-bus-requires c κs = c .enable .ensures .1
 
 returns : tie.Need-returns
-returns c a b = back (other-call calls.BusEnable (resultless script.enable) (decode (saved (now (c .before .before .before .before .before .before .before .before .args .s)))) (view (now (c .before .before .before .before .before .before .before .before .args .s))) a b refl) (c .halted-bus .ensures b ∙ simp (c .before .enable .ensures .0, c .before .before .before .clear-wakes .ensures .0, ← c .before .before .before .before .before .before .stop .ensures, eq-eqb _ _ (c .before .before .before .before .before .if1 .taken)))
+returns c a b = back (other-call calls.BusEnable 2 (resultless script.enable) (decode (saved (now (c .before .before .before .before .before .before .before .before .args .s)))) (view (now (c .before .before .before .before .before .before .before .before .args .s))) a b refl) (c .halted-bus .ensures b ∙ simp (c .before .enable .ensures .0, c .before .before .before .clear-wakes .ensures .0, ← c .before .before .before .before .before .before .stop .ensures, eq-eqb _ _ (c .before .before .before .before .before .if1 .taken)))
 
 returns-2 : tie.Need-returns-2
-returns-2 c a b = back (other-call calls.BusEnable (resultless script.enable) (decode (saved (now (c .before .before .before .args .s)))) (view (now (c .before .before .before .args .s))) a b refl) (simp (← c .before .stop .ensures, ne-eqb _ _ (c .if1 .left)))
+returns-2 c a b = back (other-call calls.BusEnable 2 (resultless script.enable) (decode (saved (now (c .before .before .before .args .s)))) (view (now (c .before .before .before .args .s))) a b refl) (simp (← c .before .stop .ensures, ne-eqb _ _ (c .if1 .left)))
 
 pub begin-bus-enable-spec : {M : Type 1} → statement M
 begin-bus-enable-spec =

@@ -1,8 +1,9 @@
-use Rattle.usbhs.specs.Rows.{back, named-call, allocated-number}
+use Rattle.way.specs.Endpoints.{allocated-number}
+use Rattle.way.specs.Rows.{back, named-call}
 use Rattle.script.specs.Calls as calls
 use Rattle.script.specs.Answers.{resultless}
 use Rattle.script.specs.Bus as script
-use Rattle.usbhs.specs.Under.{decode}
+use Rattle.way.specs.Under.{decode}
 use Rattle.state.specs.State.{view, saved}
 use denote.Ref.{now}
 use mathlib.Core.Path.{_∙_, sym, refl}
@@ -14,11 +15,11 @@ use Rattle.usbhs.proofs.bus_begins.begin_set_enabled.Reads as reads
 use Rattle.usbhs.proofs.bus_begins.begin_set_enabled.Lts as lts
 use Rattle.bus.proofs.set_enabled.Reads as set-enabled-reads
 use Rattle.state.proofs.clear_wakes.Reads as clear-wakes-reads
-use Rattle.usbhs.proofs.proceeds.slots_fit.Reads as slots-fit-reads
-use Rattle.usbhs.proofs.questions.low.Reads as low-reads
-use Rattle.usbhs.proofs.rows.is_allocated.Reads as is-allocated-reads
-use Rattle.usbhs.proofs.rows.stop.Reads as stop-reads
-use Rattle.usbhs.proofs.way.halted_bus.Reads as halted-bus-reads
+use Rattle.way.proofs.rows.slots_fit.Reads as slots-fit-reads
+use Rattle.way.proofs.endpoints.low.Reads as low-reads
+use Rattle.way.proofs.endpoints.is_allocated.Reads as is-allocated-reads
+use Rattle.way.proofs.rows.stop.Reads as stop-reads
+use Rattle.way.proofs.halts.halted_bus.Reads as halted-bus-reads
 
 slots-fit-requires : tie.Need-slots-fit-requires
 slots-fit-requires c κs = search needs

@@ -1,4 +1,4 @@
-use Rattle.usbhs.specs.Questions.{enabledAsked}
+use Rattle.way.specs.Questions.{enabledAsked}
 use borrow.Author.Needs.{needs}
 use Rattle.usbhs.proofs.questions.enabled.Statement.{statement}
 use Rattle.usbhs.proofs.questions.enabled.Tie as tie
@@ -6,8 +6,8 @@ use Rattle.usbhs.proofs.questions.enabled.Reads as reads
 use Rattle.usbhs.proofs.questions.enabled.Lts as lts
 use Rattle.regs.proofs.enables.is_on.Reads as is-on-reads
 use Rattle.state.proofs.load_globals.Reads as load-globals-reads
-use Rattle.usbhs.proofs.questions.is_number.Reads as is-number-reads
-use Rattle.usbhs.proofs.questions.low.Reads as low-reads
+use Rattle.way.proofs.endpoints.is_number.Reads as is-number-reads
+use Rattle.way.proofs.endpoints.low.Reads as low-reads
 
 is-number-requires : tie.Need-is-number-requires
 is-number-requires c κs = search needs

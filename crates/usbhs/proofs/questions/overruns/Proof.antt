@@ -1,12 +1,12 @@
-use Rattle.usbhs.specs.Questions.{overrunsOn}
+use Rattle.way.specs.Questions.{overrunsOn}
 use borrow.Author.Needs.{needs}
 use Rattle.usbhs.proofs.questions.overruns.Statement.{statement}
 use Rattle.usbhs.proofs.questions.overruns.Tie as tie
 use Rattle.usbhs.proofs.questions.overruns.Reads as reads
 use Rattle.usbhs.proofs.questions.overruns.Lts as lts
 use Rattle.state.proofs.load_ep.Reads as load-ep-reads
-use Rattle.usbhs.proofs.questions.is_number.Reads as is-number-reads
-use Rattle.usbhs.proofs.questions.low.Reads as low-reads
+use Rattle.way.proofs.endpoints.is_number.Reads as is-number-reads
+use Rattle.way.proofs.endpoints.low.Reads as low-reads
 use Rattle.usbhs.proofs.questions.overruns_of.Reads as overruns-of-reads
 
 is-number-requires : tie.Need-is-number-requires

@@ -1,4 +1,4 @@
-use Rattle.usbhs.specs.Questions.{overrunsOf}
+use Rattle.way.specs.Questions.{overrunsOf}
 use borrow.Author.Needs.{needs}
 use Rattle.usbhs.proofs.questions.overruns_of.Statement.{statement}
 use Rattle.usbhs.proofs.questions.overruns_of.Tie as tie

@@ -1,4 +1,4 @@
-use Rattle.usbhs.specs.Questions.{pendingOn}
+use Rattle.way.specs.Questions.{pendingOn}
 use borrow.Author.Needs.{needs}
 use Rattle.usbhs.proofs.questions.pending.Statement.{statement}
 use Rattle.usbhs.proofs.questions.pending.Tie as tie
@@ -6,8 +6,8 @@ use Rattle.usbhs.proofs.questions.pending.Reads as reads
 use Rattle.usbhs.proofs.questions.pending.Lts as lts
 use Rattle.ring.proofs.count.Reads as count-reads
 use Rattle.state.proofs.load_ep.Reads as load-ep-reads
-use Rattle.usbhs.proofs.questions.is_number.Reads as is-number-reads
-use Rattle.usbhs.proofs.questions.low.Reads as low-reads
+use Rattle.way.proofs.endpoints.is_number.Reads as is-number-reads
+use Rattle.way.proofs.endpoints.low.Reads as low-reads
 
 is-number-requires : tie.Need-is-number-requires
 is-number-requires c κs = search needs

@@ -12,7 +12,7 @@ use Rattle.driver.proofs.start_up.Reads as start-up-reads
 use Rattle.state.proofs.fresh.Reads as fresh-reads
 use Rattle.state.proofs.clear_wakes.Reads as clear-wakes-reads
 use Rattle.usbhs.proofs.starting.flag_of.Reads as flag-of-reads
-use Rattle.usbhs.proofs.way.halted.Reads as halted-reads
+use Rattle.way.proofs.halts.halted.Reads as halted-reads
 
 fits-requires : tie.Need-fits-requires
 fits-requires c κs = search needs

@@ -1,0 +1,62 @@
+// The polls of the control pipe's stages. Rows 4, 15, 10 and 9 are `control`'s.
+use state::STATE_LEN;
+use way::Step;
+use way::halts::polled_control;
+use way::rows::slots_fit;
+use way::saved::is_idle;
+ghost use mathlib.Core.Path.{_≡_};
+ghost use mathlib.Core.List.{List, []};
+ghost use Prim.Native.Nat.{ℕ};
+ghost use lib.ListN.{length};
+ghost use Rattle.state.specs.State.{view};
+ghost use Rattle.script.specs.Machine.{begin};
+ghost use Rattle.script.specs.Calls.{other, slotted, PollSetup, PollDataOut, PollDataIn, PollAccept};
+ghost use Rattle.way.specs.Under.{machineOf, drive, answerOf, lentOr, lentBy};
+
+// `setup` (control.rs 70-80).
+pub fn poll_setup(s: &mut [u8; STATE_LEN]) -> Step
+    ensures { λ r. ⌜ ((a b : List ℕ) → (answerOf r [], machineOf (now (s .exit)) b) ≡ drive (begin (other PollSetup)) (machineOf (now (s .entry)) a) b) ⌝ }
+{
+    if is_idle(s) {
+        let x = control::poll_setup(s);
+        return polled_control(s, x);
+    }
+    Step::Refused(3)
+}
+
+// `data_out` (82-115): the packet at the front of `out`.
+pub fn poll_data_out(s: &mut [u8; STATE_LEN], slots: &[u8], out: &mut [u8]) -> Step
+    ensures { λ r. ⌜ ((a : List ℕ) → (answerOf r (now (out .exit)), machineOf (now (s .exit)) (lentOr (view (now (s .entry))) (now (slots .entry)) (now (slots .entry)) a)) ≡ drive (begin (slotted (PollDataOut (length (now (out .entry)))))) (machineOf (now (s .entry)) a) (now (slots .entry))) ⌝ }
+    ensures { λ _. ⌜ ((a : List ℕ) → now (out .exit) ≡ lentBy (drive (begin (slotted (PollDataOut (length (now (out .entry)))))) (machineOf (now (s .entry)) a) (now (slots .entry)) .0) (now (out .entry))) ⌝ }
+{
+    if slots_fit(s, slots) {
+        if is_idle(s) {
+            let x = control::poll_data_out(s, slots, out);
+            return polled_control(s, x);
+        }
+        return Step::Refused(3);
+    }
+    Step::Refused(1)
+}
+
+// `data_in` (117-161).
+pub fn poll_data_in(s: &mut [u8; STATE_LEN]) -> Step
+    ensures { λ r. ⌜ ((a b : List ℕ) → (answerOf r [], machineOf (now (s .exit)) b) ≡ drive (begin (other PollDataIn)) (machineOf (now (s .entry)) a) b) ⌝ }
+{
+    if is_idle(s) {
+        let x = control::poll_data_in(s);
+        return polled_control(s, x);
+    }
+    Step::Refused(3)
+}
+
+// `accept` and `accept_set_address` (26-46).
+pub fn poll_accept(s: &mut [u8; STATE_LEN]) -> Step
+    ensures { λ r. ⌜ ((a b : List ℕ) → (answerOf r [], machineOf (now (s .exit)) b) ≡ drive (begin (other PollAccept)) (machineOf (now (s .entry)) a) b) ⌝ }
+{
+    if is_idle(s) {
+        let x = control::poll_accept(s);
+        return polled_control(s, x);
+    }
+    Step::Refused(3)
+}

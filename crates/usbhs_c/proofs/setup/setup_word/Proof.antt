@@ -1,0 +1,102 @@
+use Rattle.usbhs_c.specs.Setup.{take-nil, drop-nil}
+use mathlib.Core.Path.{_∙_}
+use borrow.Author.Needs.{needs}
+use Rattle.usbhs_c.proofs.setup.setup_word.Statement.{statement}
+use Rattle.usbhs_c.proofs.setup.setup_word.Tie as tie
+use Rattle.usbhs_c.proofs.setup.setup_word.Reads as reads
+use Rattle.usbhs_c.proofs.setup.setup_word.Lts as lts
+use Rattle.usbhs_c.proofs.setup.fill.Reads as fill-reads
+use Rattle.usbhs_c.proofs.word.word_of.Reads as word-of-reads
+
+enum-known-step : tie.Need-enum-known-step
+enum-known-step c = search needs
+
+fill-requires : tie.Need-fill-requires
+fill-requires c κs = search needs
+
+word-of-requires : tie.Need-word-of-requires
+word-of-requires c κs = search needs
+
+enum-known-step-2 : tie.Need-enum-known-step-2
+enum-known-step-2 c = search needs
+
+word-of-requires-2 : tie.Need-word-of-requires-2
+word-of-requires-2 c κs = search needs
+
+enum-known-step-3 : tie.Need-enum-known-step-3
+enum-known-step-3 c = search needs
+
+word-of-requires-3 : tie.Need-word-of-requires-3
+word-of-requires-3 c κs = search needs
+
+enum-known-step-4 : tie.Need-enum-known-step-4
+enum-known-step-4 c = search needs
+
+word-of-requires-4 : tie.Need-word-of-requires-4
+word-of-requires-4 c κs = search needs
+
+enum-known-step-5 : tie.Need-enum-known-step-5
+enum-known-step-5 c = search needs
+
+word-of-requires-5 : tie.Need-word-of-requires-5
+word-of-requires-5 c κs = search needs
+
+enum-known-step-6 : tie.Need-enum-known-step-6
+enum-known-step-6 c = search needs
+
+word-of-requires-6 : tie.Need-word-of-requires-6
+word-of-requires-6 c κs = search needs
+
+enum-told : tie.Need-enum-told
+enum-told c = search needs
+
+word-of-requires-7 : tie.Need-word-of-requires-7
+word-of-requires-7 c κs = search needs
+
+returns : tie.Need-returns
+returns c = ((_, c .word-of .ensures, simp (c .before .fill .ensures .0, c .before .before .before .before .step .given .1)), c .before .fill .ensures .1 ∙ simp (c .before .before .before .before .step .given .1))
+
+returns-2 : tie.Need-returns-2
+returns-2 c = ((_, c .word-of2 .ensures, simp (take-nil, c .before .before .step2 .given .1)), simp (take-nil, c .before .before .step2 .given .1))
+
+returns-3 : tie.Need-returns-3
+returns-3 c = ((_, c .word-of3 .ensures, simp (take-nil, drop-nil, c .before .before .step3 .given .1)), simp (take-nil, drop-nil, c .before .before .step3 .given .1))
+
+returns-4 : tie.Need-returns-4
+returns-4 c = ((_, c .word-of4 .ensures, simp (c .before .before .step4 .given .1)), simp (c .before .before .step4 .given .1))
+
+returns-5 : tie.Need-returns-5
+returns-5 c = ((_, c .word-of5 .ensures, simp (c .before .before .step5 .given .1)), simp (c .before .before .step5 .given .1))
+
+returns-6 : tie.Need-returns-6
+returns-6 c = ((_, c .word-of6 .ensures, simp (c .before .before .step6 .given .1)), simp (c .before .before .step6 .given .1))
+
+returns-7 : tie.Need-returns-7
+returns-7 c = ((_, c .word-of7 .ensures, simp (c .before .enum-told .given .1)), simp (c .before .enum-told .given .1))
+
+pub setup-word-spec : {M : Type 1} → statement M
+setup-word-spec =
+    tie.close
+    (tie.spec
+    enum-known-step
+    fill-requires
+    word-of-requires
+    enum-known-step-2
+    word-of-requires-2
+    enum-known-step-3
+    word-of-requires-3
+    enum-known-step-4
+    word-of-requires-4
+    enum-known-step-5
+    word-of-requires-5
+    enum-known-step-6
+    word-of-requires-6
+    enum-told
+    word-of-requires-7
+    returns
+    returns-2
+    returns-3
+    returns-4
+    returns-5
+    returns-6
+    returns-7)

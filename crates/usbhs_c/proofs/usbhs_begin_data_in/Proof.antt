@@ -1,0 +1,37 @@
+use borrow.Author.Needs.{needs}
+use Rattle.usbhs_c.proofs.usbhs_begin_data_in.Statement.{statement}
+use Rattle.usbhs_c.proofs.usbhs_begin_data_in.Tie as tie
+use Rattle.usbhs_c.proofs.usbhs_begin_data_in.Reads as reads
+use Rattle.usbhs_c.proofs.usbhs_begin_data_in.Lts as lts
+use Rattle.usbhs.proofs.control_begins.begin_data_in.Reads as begin-data-in-reads
+use Rattle.usbhs_c.proofs.inputs.flag_of.Reads as flag-of-reads
+use Rattle.usbhs_c.proofs.word.word_of.Reads as word-of-reads
+
+flag-of-requires : tie.Need-flag-of-requires
+flag-of-requires c κs = search needs
+
+flag-of-requires-2 : tie.Need-flag-of-requires-2
+flag-of-requires-2 c κs = search needs
+
+begin-data-in-requires : tie.Need-begin-data-in-requires
+begin-data-in-requires c κs = search needs
+
+word-of-requires : tie.Need-word-of-requires
+word-of-requires c κs = search needs
+
+same-length : tie.Need-same-length
+same-length c = search needs
+
+returns : tie.Need-returns
+returns c = (_, c .word-of .ensures, λ a. simp (← c .before .before .before .before .flag-of2 .ensures, ← c .before .before .before .before .before .flag-of .ensures) (c .before .before .before .begin-data-in .ensures a))
+
+pub usbhs-begin-data-in-spec : {M : Type 1} → statement M
+usbhs-begin-data-in-spec =
+    tie.close
+    (tie.spec
+    flag-of-requires
+    flag-of-requires-2
+    begin-data-in-requires
+    word-of-requires
+    same-length
+    returns)

@@ -1,0 +1,28 @@
+use borrow.Author.Needs.{needs}
+use Rattle.usbhs_c.proofs.usbhs_poll_read.Statement.{statement}
+use Rattle.usbhs_c.proofs.usbhs_poll_read.Tie as tie
+use Rattle.usbhs_c.proofs.usbhs_poll_read.Reads as reads
+use Rattle.usbhs_c.proofs.usbhs_poll_read.Lts as lts
+use Rattle.usbhs.proofs.requests.poll_read.Reads as poll-read-reads
+use Rattle.usbhs_c.proofs.word.word_of.Reads as word-of-reads
+
+poll-read-requires : tie.Need-poll-read-requires
+poll-read-requires c κs = search needs
+
+word-of-requires : tie.Need-word-of-requires
+word-of-requires c κs = search needs
+
+same-length : tie.Need-same-length
+same-length c = search needs
+
+returns : tie.Need-returns
+returns c = ((_, c .word-of .ensures, c .before .before .before .poll-read .ensures .0), c .before .before .before .poll-read .ensures .1)
+
+pub usbhs-poll-read-spec : {M : Type 1} → statement M
+usbhs-poll-read-spec =
+    tie.close
+    (tie.spec
+    poll-read-requires
+    word-of-requires
+    same-length
+    returns)

@@ -1,0 +1,29 @@
+use Rattle.usbhs_c.specs.Setup.{told-by}
+use Rattle.way.specs.Goes.{Called}
+use Rattle.way.specs.Under.{lentBy}
+use denote.Ref.{now}
+use mathlib.Core.Path.{_∙_, ap}
+use borrow.Author.Needs.{needs}
+use Rattle.usbhs_c.proofs.usbhs_poll_setup.Statement.{statement}
+use Rattle.usbhs_c.proofs.usbhs_poll_setup.Tie as tie
+use Rattle.usbhs_c.proofs.usbhs_poll_setup.Reads as reads
+use Rattle.usbhs_c.proofs.usbhs_poll_setup.Lts as lts
+use Rattle.usbhs.proofs.control_polls.poll_setup.Reads as poll-setup-reads
+use Rattle.usbhs_c.proofs.setup.setup_word.Reads as setup-word-reads
+
+poll-setup-requires : tie.Need-poll-setup-requires
+poll-setup-requires c κs = search needs
+
+setup-word-requires : tie.Need-setup-word-requires
+setup-word-requires c κs = search needs
+
+returns : tie.Need-returns
+returns c = ((c .setup-word .ensures .0 .0, c .setup-word .ensures .0 .1, λ a b. told-by (c .setup-word .ensures .0 .2) (c .before .poll-setup .ensures a b)), λ a b. c .setup-word .ensures .1 ∙ ap (λ (x : Called). lentBy (x .0) (now (c .before .before .before .before .args .packet))) (c .before .poll-setup .ensures a b))
+
+pub usbhs-poll-setup-spec : {M : Type 1} → statement M
+usbhs-poll-setup-spec =
+    tie.close
+    (tie.spec
+    poll-setup-requires
+    setup-word-requires
+    returns)

@@ -1,0 +1,54 @@
+use crate::word::word_of;
+use way::Step;
+ghost use mathlib.Core.Path.{_≡_};
+ghost use mathlib.Core.List.{[], _++_};
+ghost use Rattle.marks.specs.Copies.{over};
+ghost use Rattle.script.specs.Control.{wordBytes};
+ghost use Rattle.way.specs.Under.{answerOf, lentBy};
+ghost use Rattle.usbhs_c.specs.Word.{Worded};
+
+fn sized(_b: &[u8]) {}
+
+// A setup packet's bytes, lowest first.
+fn bytes_of(low: u32, high: u32) -> [u8; 8]
+    ensures { λ r. ⌜ r ≡ wordBytes low ++ wordBytes high ⌝ }
+{
+    [
+        (low % 256) as u8,
+        (low / 256 % 256) as u8,
+        (low / 65536 % 256) as u8,
+        (low / 16777216 % 256) as u8,
+        (high % 256) as u8,
+        (high / 256 % 256) as u8,
+        (high / 65536 % 256) as u8,
+        (high / 16777216 % 256) as u8,
+    ]
+}
+
+fn fill(packet: &mut [u8; 8], low: u32, high: u32)
+    ensures { λ _. ⌜ now (packet .exit) ≡ wordBytes low ++ wordBytes high ⌝ }
+    ensures { λ _. ⌜ now (packet .exit) ≡ over (wordBytes low ++ wordBytes high) (now (packet .entry)) ⌝ }
+{
+    sized(packet);
+    let bytes = bytes_of(low, high);
+    *packet = bytes;
+}
+
+// The word of setup's poll, with the packet's bytes; no other answer of it brings any.
+pub fn setup_word(packet: &mut [u8; 8], step: Step) -> u64
+    ensures { λ r. ⌜ Worded r (λ t. answerOf t (now (packet .exit)) ≡ answerOf step []) ⌝ }
+    ensures { λ _. ⌜ now (packet .exit) ≡ lentBy (answerOf step []) (now (packet .entry)) ⌝ }
+{
+    match step {
+        Step::Setup(low, high) => {
+            fill(packet, low, high);
+            word_of(Step::Done(8))
+        }
+        Step::Done(_n) => word_of(Step::Done(0)),
+        Step::Shown(_at, _n) => word_of(Step::Shown(0, 0)),
+        Step::Refused(_n) => word_of(step),
+        Step::Asks(_q) => word_of(step),
+        Step::Ends(_n, _w) => word_of(step),
+        Step::NotYet => word_of(step),
+    }
+}

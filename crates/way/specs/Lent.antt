@@ -1,0 +1,42 @@
+-- The slice after a poll that brings the slots
+use mathlib.Core.Bool.{Bool, true, false, cond}
+use mathlib.Core.List.{List}
+use mathlib.Core.Path.{_≡_, refl, ap, _∙_}
+use Prim.Native.Nat.{ℕ}
+use Rattle.state.specs.Driver.{Driver}
+use Rattle.request.specs.Answers.{lentAfter}
+use Rattle.script.specs.Script.{run}
+use Rattle.script.specs.Answers.{Answer, Refused}
+use Rattle.script.specs.Calls.{Slotted, slotted, slottedCode}
+use Rattle.script.specs.Machine.{Buf, Machine, Ans, ended, begin}
+use Rattle.ops.specs.Conc.{conc}
+use Rattle.way.specs.declared.Under.{Under}
+use Rattle.way.specs.Under.{machineAt, drive, halts, slotsFit, lentBy, lent-halts}
+use Rattle.way.specs.Goes.{Called}
+use Rattle.way.specs.Rows.{isIdle, slotted-idle}
+
+module _ (o : Slotted) (u : Under) (d : Driver) (a b : Buf) (out : List ℕ) where
+  abbrev misfitted : Called
+  misfitted = (ended (Refused 1), machineAt u d a)
+
+  abbrev unless-busy : Bool → Called
+  unless-busy x = cond x (halts (run conc (slottedCode o) (d, b))) (ended (Refused 3), machineAt u d b)
+
+  abbrev fitting : Bool → Called
+  fitting x = cond x (unless-busy (isIdle u)) misfitted
+
+  abbrev lent : Called → List ℕ
+  lent x = lentBy (x .0) out
+
+  pub lent-done : slotsFit d b ≡ true → isIdle u ≡ true → lentBy (drive (begin (slotted o)) (machineAt u d a) b .0) out ≡ lentAfter (run conc (slottedCode o) (d, b)) out
+  lent-done f i = ap lent (slotted-idle o u d a b ∙ (ap fitting f ∙ ap unless-busy i)) ∙ lent-halts (run conc (slottedCode o) (d, b)) out
+
+  pub lent-busy : slotsFit d b ≡ true → isIdle u ≡ false → lentBy (drive (begin (slotted o)) (machineAt u d a) b .0) out ≡ out
+  lent-busy f i = ap lent (slotted-idle o u d a b ∙ (ap fitting f ∙ ap unless-busy i))
+
+  pub lent-misfit : slotsFit d b ≡ false → lentBy (drive (begin (slotted o)) (machineAt u d a) b .0) out ≡ out
+  lent-misfit f = ap lent (slotted-idle o u d a b ∙ ap fitting f)
+
+-- what holds of any slice holds of that one
+pub at-out : {f g : List ℕ → Called} (after x : List ℕ) → after ≡ x → ((out : List ℕ) → f out ≡ g out) → f after ≡ g after
+at-out after x e h = h after

@@ -1,0 +1,32 @@
+// What is under way, which rows stop a call, how one goes on and ends: the machine of calls (specs/Under.antt) that the lent bytes are.
+pub mod endpoints; // endpoints.rt: endpoint numbers (row 5)
+pub mod saved; // saved.rt: what is under way
+pub mod halts; // halts.rt: how a call ends
+pub mod rows; // rows.rt: rows 1, 3 and 4
+pub mod proceeds; // proceeds.rt: continue
+
+use regs::Access;
+use state::Wakes;
+
+// What is under way: nothing, or an operation at the point where it handed out its last access.
+pub enum Under {
+    Idle,
+    Driver(driver::Point),
+    Bus(bus::Point),
+    Control(control::Point),
+    Endpoint(endpoint::Point),
+    Advance(iso_in::advance::Advance),
+    Interrupt(handler::Point),
+}
+
+// What a call answers: the row that stopped it, the access that it hands out, the operation's result with its wake-ups; of a poll, that it is not
+// done, so many bytes at the lent slice's front, a setup packet as two words, lowest byte first; of an open packet, its offset and length in the slots.
+pub enum Step {
+    Refused(u8),
+    Asks(Access),
+    Ends(u16, Wakes),
+    NotYet,
+    Done(u16),
+    Setup(u32, u32),
+    Shown(u32, u16),
+}
