@@ -1,14 +1,12 @@
 // What the driver asks of the chip, in words.
-mod registers; // registers.rt: names, values, meanings
 mod steps; // steps.rt: a line for an answer
-mod text; // text.rt: text and numbers
 
 use regs::Dir;
 use state::STATE_LEN;
 use steps::show;
-use text::number;
-use text::print;
 use usbhs::Step;
+use wording::text::number;
+use wording::text::print;
 
 // What a chip with nothing to tell reads: 0.
 const READING: u32 = 0;

@@ -1,67 +1,13 @@
 // What a call answers, one line for each.
-use crate::registers;
-use crate::text::endpoints;
-use crate::text::hex;
-use crate::text::item;
-use crate::text::none;
-use crate::text::number;
-use crate::text::print;
-use regs::Access;
-use regs::Reg;
 use state::Wakes;
 use usbhs::Step;
-
-fn register(reg: Reg, e: u8) {
-    registers::name(reg);
-    if registers::has_endpoint(reg) {
-        print(b"(");
-        number(e as u32);
-        print(b")");
-    }
-}
-
-fn write(reg: Reg, e: u8, x: u32) {
-    print(b"write ");
-    register(reg, e);
-    print(b" = ");
-    registers::value(reg, x);
-    print(b"  ");
-    registers::meaning(reg, x);
-}
-
-// A buffer's address: an offset into the slots.
-fn address(what: &[u8], e: u8, x: u32, meaning: &[u8]) {
-    print(b"write ");
-    print(what);
-    if e != 0 {
-        print(b"(");
-        number(e as u32);
-        print(b")");
-    }
-    print(b" = ");
-    hex(x, 8);
-    print(meaning);
-    number(x);
-}
-
-fn access(q: Access) {
-    match q {
-        Access::Read(reg, e) => {
-            print(b"read ");
-            register(reg, e);
-        }
-        Access::Write(reg, e, x) => write(reg, e, x),
-        Access::Receive(e, x) => address(b"ep_rx_dma", e, x, b"  receives at slot byte "),
-        Access::Transmit(e, x) => address(b"ep_tx_dma", e, x, b"  sends from slot byte "),
-        Access::Ep0Dma(x) => address(b"ep0_dma", 0, x, b"  EP0's buffer at slot byte "),
-        Access::Wait(n) => {
-            print(b"wait ");
-            number(n as u32);
-            print(b" us");
-        }
-        Access::Callback => print(b"start-of-frame callback"),
-    }
-}
+use wording::accesses::access;
+use wording::text::endpoints;
+use wording::text::hex;
+use wording::text::item;
+use wording::text::none;
+use wording::text::number;
+use wording::text::print;
 
 fn wakes(w: Wakes) {
     print(b", wakes ");
@@ -106,11 +52,35 @@ fn refused(n: u8) {
     row(n);
 }
 
+// What a poll brought, and where an open packet lies.
+fn done(n: u16) {
+    print(b"done: bytes ");
+    number(n as u32);
+}
+
+fn setup(low: u32, high: u32) {
+    print(b"setup: words ");
+    hex(low, 8);
+    print(b", ");
+    hex(high, 8);
+}
+
+fn shown(at: u32, n: u16) {
+    print(b"shown: slot byte ");
+    number(at);
+    print(b", bytes ");
+    number(n as u32);
+}
+
 pub fn show(step: Step) {
     match step {
         Step::Refused(n) => refused(n),
         Step::Asks(q) => access(q),
         Step::Ends(n, w) => end(n, w),
+        Step::NotYet => print(b"not yet"),
+        Step::Done(n) => done(n),
+        Step::Setup(low, high) => setup(low, high),
+        Step::Shown(at, n) => shown(at, n),
     }
     print(b"\n");
 }

@@ -1,12 +1,12 @@
 use Prim.Native.Nat.{_≤_, _-_}
 use borrow.Author.Needs.{needs}
-use Rattle.readout.proofs.text.endpoints.Statement.{statement}
-use Rattle.readout.proofs.text.endpoints.Tie as tie
-use Rattle.readout.proofs.text.endpoints.Reads as reads
-use Rattle.readout.proofs.text.endpoints.Lts as lts
+use Rattle.wording.proofs.text.endpoints.Statement.{statement}
+use Rattle.wording.proofs.text.endpoints.Tie as tie
+use Rattle.wording.proofs.text.endpoints.Reads as reads
+use Rattle.wording.proofs.text.endpoints.Lts as lts
 use Rattle.bits.proofs.mask_has.Reads as mask-has-reads
-use Rattle.readout.proofs.text.number.Reads as number-reads
-use Rattle.readout.proofs.text.print.Reads as print-reads
+use Rattle.wording.proofs.text.number.Reads as number-reads
+use Rattle.wording.proofs.text.print.Reads as print-reads
 
 abbrev Inv-loop : tie.InvT-loop
 Inv-loop mask direction some any₀ e₀ t6 any e = e ≤ 16
