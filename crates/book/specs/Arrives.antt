@@ -1,0 +1,351 @@
+-- A packet that arrives on an OUT endpoint, and its receive address handed out
+use mathlib.Core.Bool.{Bool, true, false, cond, true≢false}
+use mathlib.Core.List.{List, [], _∷_, _++_}
+use mathlib.Core.Path.{_≡_, refl, ap, subst, sym, _∙_}
+use Prim.Native.Nat.{ℕ, _+_, _-_, _*_, _/_, _%_, _^_, _≤_, _<_, min}
+use native.Mathlib.Omega.{arith}
+use lib.Dec.{eqb, ltb}
+use lib.ListN.{length, set}
+use Rattle.bits.specs.Bit.{isSet}
+use Rattle.regs.specs.declared.Dir.the-variants.{Out}
+use Rattle.regs.specs.declared.Access.the-variants.{Receive}
+use Rattle.state.specs.declared.EpState.{EpState}
+use Rattle.state.specs.declared.Globals.{Globals}
+use Rattle.state.specs.Driver.{Driver, epOn, withOn, withLenOn}
+use Rattle.state.specs.Laws.{Sized, epOn-same}
+use Rattle.ring.specs.Fields.{withHead, withOverruns, withMinLen}
+use Rattle.ring.specs.Slot.{slotOf, slotAddr, joinedOf}
+use Rattle.ring.specs.Out.{hasRoomOut, cappedAt, shortestOf, turnedAwayOf, arrivedOf, arrivedLens, armedAt}
+use Rattle.ring.specs.Waiting.{window, waiting, join, Only, SamePlace, Placed}
+use Rattle.ring.specs.Window.{only-wider}
+use Rattle.ring.specs.Slots.{slot-in, slot-from, slot-upto}
+use Rattle.ring.specs.Laws.{place-placed, place-addr, alike-count, alike-waits, alike-out, slot-shows, slot-region}
+use Rattle.ring.specs.OutLaws.{armed-alike, arrived-place, capped-is, turned-counts, waiting-armed, room-out, arrive-waits, arrive-ring, arrive-shows}
+use Rattle.marks.specs.Marks.{armed}
+use Rattle.marks.specs.Copies.{bytesAt}
+use Rattle.marks.specs.Slots.{armed-slot}
+use Rattle.marks.specs.Only as marks
+use Rattle.script.specs.Cells.{Plain}
+use Rattle.script.specs.Script as script
+use Rattle.script.specs.Alike.{quiet}
+use Rattle.script.specs.Statics.{flag, isoOuts}
+use Rattle.script.specs.Machine.{Buf}
+use Rattle.ops.specs.Records.{plainOf}
+use Rattle.ops.specs.Rings.{recordedOn, admittedOn, staleOn, arrivedAt, arriveOn, placeOn}
+use Rattle.book.specs.Pages.{OutPage, Pages, withOut}
+use Rattle.book.specs.Book.{withWaiting, arrived, slotTold, receiving, feedB}
+use Rattle.book.specs.Rest.{lensOf, OutFits, Armed, Rest}
+use Rattle.book.specs.Lens.{lens-set, lens-on, ep-len}
+use Rattle.book.specs.Frame.{Changed, changed-not, changed-on, changed-len, changed-trans, kept-same, end-kept, out-changed, out-moved, out-same, out-twice, only-bytes}
+use Rattle.book.specs.Held.{HandAgrees, receives, receives-used, receives-slots, good-words}
+use Rattle.book.specs.Outs.{Inner, out-on, out-page}
+
+-- ---- the record
+
+-- an arrival changes the head, the count of those turned away and the shortest length
+module _ {A : Type 0} (f : EpState → A) (r : EpState) (len : ℕ) (m : (s : EpState) (n : ℕ) → f (withMinLen s n) ≡ f s) where
+  short-by : (u v : Bool) → f (cond u r (cond v (withMinLen r len) r)) ≡ f r
+  short-by true v = refl
+  short-by false true = m r len
+  short-by false false = refl
+
+  shortest-keeps : f (shortestOf r len) ≡ f r
+  unfolding shortestOf
+  shortest-keeps = short-by (eqb len 0) (ltb len (r .«min_len»))
+
+  module _ (h : (s : EpState) (n : ℕ) → f (withHead s n) ≡ f s) (o : (s : EpState) (n : ℕ) → f (withOverruns s n) ≡ f s) where
+    arrived-by : (u : Bool) → f (cond u (joinedOf (shortestOf r len)) (turnedAwayOf (shortestOf r len))) ≡ f r
+    unfolding joinedOf turnedAwayOf
+    arrived-by true = h (shortestOf r len) _ ∙ shortest-keeps
+    arrived-by false = o (shortestOf r len) _ ∙ shortest-keeps
+
+    arrived-keeps : f (arrivedOf r len) ≡ f r
+    unfolding arrivedOf
+    arrived-keeps = arrived-by (hasRoomOut r)
+
+arrived-plain : (r : EpState) (len : ℕ) → plainOf (arrivedOf r len) ≡ plainOf r
+arrived-plain r len = arrived-keeps plainOf r len (λ s n. refl) (λ s n. refl) (λ s n. refl)
+
+arrived-slot : (r : EpState) (len : ℕ) → arrivedOf r len .«armed_slot» ≡ r .«armed_slot»
+arrived-slot r len = arrived-keeps (λ s. s .«armed_slot») r len (λ s n. refl) (λ s n. refl) (λ s n. refl)
+
+arrived-open : (r : EpState) (len : ℕ) → arrivedOf r len .«open» ≡ r .«open»
+arrived-open r len = arrived-keeps (λ s. s .«open») r len (λ s n. refl) (λ s n. refl) (λ s n. refl)
+
+arrived-inner : (r : EpState) (len : ℕ) → Inner r (arrivedOf r len)
+arrived-inner r len = record { place = arrived-place r len; plain = arrived-plain r len }
+
+-- ---- the page
+
+module _ (p : OutPage) (bytes : List ℕ) where
+  page-keeps : {A : Type 0} (f : OutPage → A) → ((w : List (List ℕ)) (n : ℕ) → f (record { waiting = w; opened = p .opened; lost = n; slot = p .slot }) ≡ f p) → f (arrived p bytes) ≡ f p
+  page-keeps f h = go (ltb (length (p .waiting)) 15)
+    where
+      go : (u : Bool) → f (cond u (withWaiting p (p .waiting ++ (bytes ∷ [])) (p .opened)) (record { waiting = p .waiting; opened = p .opened; lost = p .lost + 1; slot = p .slot })) ≡ f p
+      go true = h _ _
+      go false = h _ _
+
+  page-waiting : arrived p bytes .waiting ≡ join 15 (p .waiting) bytes
+  page-waiting = go (ltb (length (p .waiting)) 15)
+    where
+      go : (u : Bool) → cond u (withWaiting p (p .waiting ++ (bytes ∷ [])) (p .opened)) (record { waiting = p .waiting; opened = p .opened; lost = p .lost + 1; slot = p .slot }) .waiting
+          ≡ cond u (p .waiting ++ (bytes ∷ [])) (p .waiting)
+      go true = refl
+      go false = refl
+
+-- ---- an arrival, before its receive address is handed out
+
+module _ {b : Buf} {r : EpState} {ls : List ℕ} {p : OutPage} (f : OutFits b r ls p) (sixteen : r .slots ≡ 16) (len : ℕ) (small : len ≤ r .stride) where
+  room-same : hasRoomOut r ≡ ltb (length (p .waiting)) 15
+  room-same = room-out (f .held .placed) (f .held .ring) b
+      ∙ ap (λ w. ltb (length w) (r .slots - 1)) (f .held .waits) ∙ ap (λ (n : ℕ). ltb (length (p .waiting)) (n - 1)) sixteen
+
+  lost-by : (bytes : List ℕ) (u : Bool)
+      → cond u (joinedOf (shortestOf r len)) (turnedAwayOf (shortestOf r len)) .overruns
+      ≡ cond u (withWaiting p (p .waiting ++ (bytes ∷ [])) (p .opened)) (record { waiting = p .waiting; opened = p .opened; lost = p .lost + 1; slot = p .slot }) .lost % 2 ^ 32
+  unfolding joinedOf
+  lost-by bytes true = shortest-keeps (λ s. s .overruns) r len (λ s n. refl) ∙ f .lost
+  lost-by bytes false = turned-counts (shortestOf r len) (p .lost) (shortest-keeps (λ s. s .overruns) r len (λ s n. refl) ∙ f .lost)
+
+  arrived-lost : (bytes : List ℕ) → arrivedOf r len .overruns ≡ arrived p bytes .lost % 2 ^ 32
+  unfolding arrivedOf
+  arrived-lost bytes = subst (λ u. cond u (joinedOf (shortestOf r len)) (turnedAwayOf (shortestOf r len)) .overruns ≡ arrived p bytes .lost % 2 ^ 32)
+      (sym room-same) (lost-by bytes (ltb (length (p .waiting)) 15))
+
+  module _ (bytes : List ℕ) (shown : window b (slotAddr r (r .head)) len ≡ bytes) where
+    arrived-waits : waiting b (arrivedOf r len) (arrivedLens r ls len) ≡ arrived p bytes .waiting
+    arrived-waits = arrive-waits (f .held .placed) (f .held .ring) len b
+        ∙ ap (λ (n : ℕ). join (n - 1) (waiting b r ls) (window b (slotAddr r (r .head)) len)) sixteen
+        ∙ ap (λ w. join 15 w (window b (slotAddr r (r .head)) len)) (f .held .waits)
+        ∙ ap (λ x. join 15 (p .waiting) x) shown
+        ∙ sym (page-waiting p bytes)
+
+    arrived-fits : OutFits b (arrivedOf r len) (arrivedLens r ls len) (arrived p bytes)
+    arrived-fits =
+        let k = arrived-place r len in
+        let s : arrived p bytes .slot ≡ p .slot = page-keeps p bytes (λ q. q .slot) (λ w n. refl) in
+        let m : arrivedOf r len .«max_len» ≡ r .«max_len» = ap (λ (q : Plain). q .«max_len») (arrived-plain r len) in
+        record {
+          held = record {
+            placed = place-placed k (f .held .placed);
+            ring = arrive-ring (f .held .placed) (f .held .ring) len small;
+            least = omega (arith, m, k .stride, f .held .least);
+            waits = arrived-waits;
+          };
+          opened = arrived-open r len ∙ f .opened ∙ ap (λ u. flag u) (sym (page-keeps p bytes (λ q. q .opened) (λ w n. refl)));
+          shows = arrive-shows (f .held .placed) (f .held .ring) len (f .shows);
+          lost = arrived-lost bytes;
+          slot = arrived-slot r len ∙ f .slot ∙ sym s;
+          from = omega (arith, s, k .base, f .from);
+          upto = omega (arith, s, k .stride, end-kept k, f .upto);
+        }
+
+-- ---- the head's slot armed
+
+module _ {b b′ : Buf} {r : EpState} {ls : List ℕ} {p : OutPage} (f : OutFits b r ls p) (long : length b′ ≡ length b)
+    (o : Only (slotAddr r (r .head)) (slotAddr r (r .head) + r .stride) b b′) where
+  pub armed-fits : OutFits b′ (armedAt r (slotAddr r (r .head))) ls (slotTold p (slotAddr r (r .head)))
+  unfolding armedAt
+  armed-fits =
+      let k = armed-alike r (slotAddr r (r .head)) in
+      record {
+        held = record {
+          placed = place-placed (k .place) (subst (λ n. Placed n r) (sym long) (f .held .placed));
+          ring = alike-out k (f .held .ring);
+          least = f .held .least;
+          waits = alike-waits k b′ ls (f .held .ring .tail8) ∙ waiting-armed (f .held .placed) (f .held .ring) b b′ o ∙ f .held .waits;
+        };
+        opened = f .opened;
+        shows = λ h. omega (arith, f .shows h, alike-count k);
+        lost = f .lost;
+        slot = refl;
+        from = slot-from (f .held .placed) (r .head);
+        upto = slot-upto (f .held .placed) (r .head);
+      }
+
+armed-plain : (r : EpState) (x : ℕ) → plainOf (armedAt r x) ≡ plainOf r
+unfolding armedAt
+armed-plain r x = refl
+
+armed-head : (r : EpState) (x : ℕ) → armedAt r x .head ≡ r .head
+unfolding armedAt
+armed-head r x = refl
+
+-- after the record and the lengths of OUT e changed
+arm-rest : {b b′ : Buf} {d : Driver} {t : Pages} → Rest quiet b d t → (e : ℕ) (d1 : Driver) (p : OutPage) → Changed Out e d d1
+    → plainOf (epOn d1 Out e) ≡ plainOf (epOn d Out e) → OutFits b (epOn d1 Out e) (lensOf d1 Out e) p → receives d e ≡ true → length b′ ≡ length b
+    → Only (slotAddr (epOn d1 Out e) (epOn d1 Out e .head)) (slotAddr (epOn d1 Out e) (epOn d1 Out e .head) + epOn d1 Out e .stride) b b′
+    → Rest quiet b′ (withOn d1 Out e (armedAt (epOn d1 Out e) (slotAddr (epOn d1 Out e) (epOn d1 Out e .head))))
+    (withOut t e (slotTold p (slotAddr (epOn d1 Out e) (epOn d1 Out e .head))))
+arm-rest {b} {b′} {d} {t} R e d1 p c same f u long o =
+    let r = epOn d1 Out e in
+    let a = slotAddr r (r .head) in
+    let k = armed-alike r a in
+    let s = c .sized in
+    let c2 = changed-trans (R .sized) Out e c (changed-on s Out e (armedAt r a) (k .place) (ap (λ (q : Plain). q .iso) (armed-plain r a))) in
+    let z : epOn (withOn d1 Out e (armedAt r a)) Out e ≡ armedAt r a = epOn-same d1 Out e (armedAt r a) s in
+    out-changed R e (slotTold p a) c2 (kept-same c2 (ap plainOf z ∙ armed-plain r a ∙ same) (R .same)) long
+    (only-wider _ _ _ _ b b′ (omega (arith, c .place .base)) (omega (arith, end-kept (c .place))) (slot-region (f .held .placed) (f .held .ring) (r .head) b b′ o))
+    (out-moved z (lens-on d1 Out e (armedAt r a) Out e) (armed-fits f long o)) tt (λ x v n y. y)
+    (record {
+      armed = λ h. subst (λ y. Armed y (slotTold p a)) (sym z) (ap (slotAddr r) (sym (armed-head r a)) ∙ sym (place-addr (k .place) (armedAt r a .head)));
+      none = λ h. absurd (true≢false (sym u ∙ h));
+    })
+
+-- ---- a packet admitted, or turned away
+
+module _ (d : Driver) (s : Sized d) (e len : ℕ) where
+  recorded-by : (u : Bool) → Changed Out e d (cond u (withLenOn d Out e (slotOf (epOn d Out e) (epOn d Out e .head)) len) d)
+  recorded-by true = changed-len s Out e _ len
+  recorded-by false = changed-not s Out e
+
+  recorded-changed : Changed Out e d (recordedOn d e len)
+  unfolding recordedOn
+  recorded-changed = recorded-by (hasRoomOut (epOn d Out e))
+
+  recorded-ep-by : (u : Bool) → epOn (cond u (withLenOn d Out e (slotOf (epOn d Out e) (epOn d Out e .head)) len) d) Out e ≡ epOn d Out e
+  recorded-ep-by true = ep-len d Out e _ len Out e
+  recorded-ep-by false = refl
+
+  recorded-ep : epOn (recordedOn d e len) Out e ≡ epOn d Out e
+  unfolding recordedOn
+  recorded-ep = recorded-ep-by (hasRoomOut (epOn d Out e))
+
+  recorded-lens-by : slotOf (epOn d Out e) (epOn d Out e .head) < 16 → (u : Bool)
+      → lensOf (cond u (withLenOn d Out e (slotOf (epOn d Out e) (epOn d Out e .head)) len) d) Out e
+      ≡ cond u (set (lensOf d Out e) (slotOf (epOn d Out e) (epOn d Out e .head)) len) (lensOf d Out e)
+  recorded-lens-by i true = lens-set d Out e s _ len i
+  recorded-lens-by i false = refl
+
+  recorded-lens : slotOf (epOn d Out e) (epOn d Out e .head) < 16 → lensOf (recordedOn d e len) Out e ≡ arrivedLens (epOn d Out e) (lensOf d Out e) len
+  unfolding recordedOn arrivedLens
+  recorded-lens i = recorded-lens-by i (hasRoomOut (epOn d Out e))
+
+  admitted-ep : epOn (admittedOn d e len) Out e ≡ arrivedOf (epOn d Out e) len
+  unfolding admittedOn
+  admitted-ep = epOn-same (recordedOn d e len) Out e (arrivedOf (epOn d Out e) len) (recorded-changed .sized)
+
+  admitted-lens : slotOf (epOn d Out e) (epOn d Out e .head) < 16 → lensOf (admittedOn d e len) Out e ≡ arrivedLens (epOn d Out e) (lensOf d Out e) len
+  unfolding admittedOn
+  admitted-lens i = lens-on (recordedOn d e len) Out e (arrivedOf (epOn d Out e) len) Out e ∙ recorded-lens i
+
+  admitted-changed : Changed Out e d (admittedOn d e len)
+  unfolding admittedOn
+  admitted-changed =
+      let k = arrived-inner (epOn d Out e) len in
+      changed-trans s Out e recorded-changed (changed-on (recorded-changed .sized) Out e (arrivedOf (epOn d Out e) len)
+      (subst (λ r. SamePlace r (arrivedOf (epOn d Out e) len)) (sym recorded-ep) (k .place))
+      (ap (λ (q : Plain). q .iso) (k .plain) ∙ ap (λ (r : EpState). r .iso) (sym recorded-ep)))
+
+-- the driver after it, its slot not yet armed
+abbrev admits : Driver → ℕ → ℕ → Driver
+admits d e n = admittedOn d e (cappedAt (epOn d Out e) n)
+
+-- the bytes, by the book
+abbrev packetOf : Buf → Pages → ℕ → ℕ → List ℕ
+packetOf b t e n = bytesAt b (t .outs e .slot) (min n (t .kept .plain Out e .«max_len»))
+
+-- the head's address
+abbrev headAddr : EpState → ℕ
+headAddr r = slotAddr r (r .head)
+
+-- the address told after the page changed
+told : (t : Pages) (e x : ℕ) (q : OutPage) → feedB (Receive e x) (withOut t e q) ≡ withOut t e (slotTold q x)
+told t e x q = ap (λ z. withOut (withOut t e q) e (slotTold z x)) (out-same t e q) ∙ out-twice t e (slotTold q x) q
+
+module _ {b : Buf} {d : Driver} {t : Pages} (R : Rest quiet b d t) (e : ℕ) where
+  max-same : epOn d Out e .«max_len» ≡ t .kept .plain Out e .«max_len»
+  max-same = ap (λ (p : Plain). p .«max_len») (R .same .plain Out e)
+
+  -- the address told is the one that was
+  same-told : Rest quiet b d (withOut t e (slotTold (t .outs e) (epOn d Out e .«armed_slot»)))
+  same-told = subst (λ (x : ℕ). Rest quiet b d (withOut t e (slotTold (t .outs e) x))) (sym (R .outs e .slot)) (out-page R e (t .outs e) (R .outs e) (R .arming e))
+
+  module _ (n : ℕ) (u : receives d e ≡ true) where
+    capped-small : cappedAt (epOn d Out e) n ≤ epOn d Out e .stride
+    capped-small = omega (arith, capped-is (epOn d Out e) n, R .outs e .held .least)
+
+    shown : window b (slotAddr (epOn d Out e) (epOn d Out e .head)) (cappedAt (epOn d Out e) n)
+        ≡ packetOf b t e n
+    shown = slot-shows b (R .outs e .held .placed) (epOn d Out e .head) (cappedAt (epOn d Out e) n) capped-small
+        ∙ ap (λ (x : ℕ). bytesAt b x (cappedAt (epOn d Out e) n)) (sym (R .arming e .armed u))
+        ∙ ap (λ (x : ℕ). bytesAt b (t .outs e .slot) x) (capped-is (epOn d Out e) n ∙ ap (λ (x : ℕ). min n x) max-same)
+
+    admitted-fits : OutFits b (epOn (admits d e n) Out e) (lensOf (admits d e n) Out e) (arrived (t .outs e) (packetOf b t e n))
+    admitted-fits =
+        let f = R .outs e in
+        let len = cappedAt (epOn d Out e) n in
+        let sixteen = receives-slots R e u in
+        let i : slotOf (epOn d Out e) (epOn d Out e .head) < 16 = omega (arith, slot-in (f .held .placed) (epOn d Out e .head), sixteen) in
+        out-moved (admitted-ep d (R .sized) e len) (admitted-lens d (R .sized) e len i) (arrived-fits f sixteen len capped-small _ shown)
+
+    arrived-words : (stale : ℕ) → let r = epOn (admits d e n) Out e in
+        marks.Only (headAddr r) (headAddr r + r .stride) b (armed b (headAddr r) (r .«min_len») (cappedAt r stale))
+    arrived-words stale =
+        let r = epOn (admits d e n) Out e in
+        let c = admitted-changed d (R .sized) e (cappedAt (epOn d Out e) n) in
+        let z : r .stride ≡ d .allocator .size = c .place .stride ∙ receives-used R e u .stride in
+        let w = good-words (d .allocator .size) (R .good) in
+        armed-slot b (slotAddr r (r .head)) (r .«min_len») (cappedAt r stale) (r .stride)
+        (omega (arith, z, w .0)) (ap (λ (x : ℕ). x / 4 * 4) z ∙ w .1 ∙ sym z) (omega (arith, capped-is r stale, admitted-fits .held .least))
+
+    arrive-rest : let x = arrivedAt e (cappedAt (epOn d Out e) n) (d, b) in
+        Rest quiet (x .1 .1) (x .1 .0) (feedB (Receive e (x .0)) (withOut t e (arrived (t .outs e) (packetOf b t e n))))
+    arrive-rest =
+        let len = cappedAt (epOn d Out e) n in
+        let d1 = admittedOn d e len in
+        let r = epOn d1 Out e in
+        let o = arrived-words (staleOn d1 e len (hasRoomOut (epOn d Out e))) in
+        subst (Rest quiet (arrivedAt e len (d, b) .1 .1) (arrivedAt e len (d, b) .1 .0)) (sym (told t e (slotAddr r (r .head)) _))
+        (arm-rest R e d1 _ (admitted-changed d (R .sized) e len) (ap plainOf (admitted-ep d (R .sized) e len) ∙ arrived-plain (epOn d Out e) len) admitted-fits u (o .long) (only-bytes o))
+
+  arrive-by : (n : ℕ) (v : Bool) → receives d e ≡ v → let x = cond v (arrivedAt e (cappedAt (epOn d Out e) n) (d, b)) (epOn d Out e .«armed_slot», (d, b)) in
+      Rest quiet (x .1 .1) (x .1 .0) (feedB (Receive e (x .0))
+      (cond v (withOut t e (arrived (t .outs e) (packetOf b t e n))) t))
+  arrive-by n true h = arrive-rest n h
+  arrive-by n false h = same-told
+
+  receiving-same : receives d e ≡ receiving t e
+  receiving-same = ap (λ (g : Globals). isSet (isoOuts g) (e % 16)) (R .same .globals)
+
+pub hand-arrive : (e n : ℕ) → HandAgrees (script.arrive e n)
+unfolding arriveOn
+hand-arrive e n b d t R =
+    let x = cond (receives d e) (arrivedAt e (cappedAt (epOn d Out e) n) (d, b)) (epOn d Out e .«armed_slot», (d, b)) in
+    let p = arrived (t .outs e) (packetOf b t e n) in
+    (subst (λ v. Rest quiet (x .1 .1) (x .1 .0) (feedB (Receive e (x .0)) (cond v (withOut t e p) t))) (receiving-same R e) (arrive-by R e n (receives d e) refl), tt)
+
+-- ---- an endpoint's buffer handed out
+
+placed-fits : {b : Buf} {r : EpState} {ls : List ℕ} {p : OutPage} → OutFits b r ls p → OutFits b (armedAt r (r .base)) ls (slotTold p (r .base))
+unfolding armedAt
+placed-fits {b} {r} {ls} f =
+    let k = armed-alike r (r .base) in
+    record {
+      held = record {
+        placed = place-placed (k .place) (f .held .placed);
+        ring = alike-out k (f .held .ring);
+        least = f .held .least;
+        waits = alike-waits k b ls (f .held .ring .tail8) ∙ f .held .waits;
+      };
+      opened = f .opened;
+      shows = λ h. omega (arith, f .shows h, alike-count k);
+      lost = f .lost;
+      slot = refl;
+      from = omega arith;
+      upto = omega (arith, f .from, f .upto);
+    }
+
+module _ {b : Buf} {d : Driver} {t : Pages} (R : Rest quiet b d t) (e : ℕ) where
+  place-by : (v : Bool) → receives d e ≡ v
+      → let x = cond {A = ℕ × Driver} v (epOn d Out e .«armed_slot», d) (epOn d Out e .base, withOn d Out e (armedAt (epOn d Out e) (epOn d Out e .base))) in
+      Rest quiet b (x .1) (feedB (Receive e (x .0)) t)
+  place-by true h = same-told R e
+  place-by false h =
+      let r = epOn d Out e in
+      out-on R e (armedAt r (r .base)) (slotTold (t .outs e) (r .base)) (record { place = armed-alike r (r .base) .place; plain = armed-plain r (r .base) }) (placed-fits (R .outs e))
+      (record { armed = λ z. absurd (true≢false (sym z ∙ h)); none = λ z. alike-count (armed-alike r (r .base)) ∙ R .arming e .none h })
+
+pub hand-place-out : (e : ℕ) → HandAgrees (script.place Out e)
+unfolding placeOn
+hand-place-out e b d t R = (place-by R e (receives d e) refl, tt)

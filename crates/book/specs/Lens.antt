@@ -1,0 +1,128 @@
+-- Endpoints count modulo 16, and the recorded lengths of one
+use mathlib.Core.List.{List}
+use mathlib.Core.Logic.{_≢_, _⊎_, inl, inr, ⊎-elim}
+use mathlib.Core.Path.{_≡_, refl, ap, _∙_}
+use Prim.Native.Nat.{ℕ, zero, suc, _+_, _*_, _%_, _≤_, _<_}
+use native.Mathlib.Omega.{arith}
+use native.Mathlib.Decide.{ℕ-discrete, decLt}
+use lib.ListN.{length, getD, set, replicate, length-set}
+use lib.Seq.{getD-set-same, getD-set-other}
+use Rattle.fields.specs.Tables.{tab, tab-ext, tab-set, getD-tab, length-tab}
+use Rattle.regs.specs.declared.Dir.{Dir}
+use Rattle.regs.specs.declared.Dir.the-variants.{Out, In}
+use Rattle.state.specs.declared.EpState.{EpState}
+use Rattle.state.specs.Fresh.{filled, fillLens}
+use Rattle.state.specs.Driver.{Driver, key, lenKey, noEp, epOn, withOn, lenOn, withLenOn}
+use Rattle.state.specs.Laws.{Sized, key-same, lenOn-same, lenOn-other}
+use Rattle.book.specs.Rest.{lensOf}
+
+-- ---- endpoints count modulo 16
+
+pub key-mod : (dir : Dir) (x e : ℕ) → x % 16 ≡ e % 16 → key dir x ≡ key dir e
+unfolding key
+key-mod Out x e h = h
+key-mod In x e h = ap (λ (k : ℕ). 16 + k) h
+
+pub key-other : (dir : Dir) (x e : ℕ) → x % 16 ≢ e % 16 → key dir x ≢ key dir e
+key-other dir x e n h = n (key-same dir x e h)
+
+pub ep-mod : (d : Driver) (dir : Dir) (x e : ℕ) → x % 16 ≡ e % 16 → epOn d dir x ≡ epOn d dir e
+unfolding epOn
+ep-mod d dir x e h = ap (λ (k : ℕ). getD (d .eps) k noEp) (key-mod dir x e h)
+
+pub lens-mod : (d : Driver) (dir : Dir) (x e : ℕ) → x % 16 ≡ e % 16 → lensOf d dir x ≡ lensOf d dir e
+unfolding lenOn lenKey
+lens-mod d dir x e h = ap (λ (k : ℕ). tab 16 (λ i. getD (d .lens) (k * 16 + i % 16) 0)) (key-mod dir x e h)
+
+pub key-ep : (d : Driver) (dir dir′ : Dir) (x e : ℕ) → key dir x ≡ key dir′ e → epOn d dir x ≡ epOn d dir′ e
+unfolding epOn
+key-ep d dir dir′ x e h = ap (λ (k : ℕ). getD (d .eps) k noEp) h
+
+-- ---- the recorded lengths
+
+pub lens-length : (d : Driver) (dir : Dir) (e : ℕ) → length (lensOf d dir e) ≡ 16
+lens-length d dir e = length-tab (λ i. lenOn d dir e i) 16
+
+pub lens-at : (d : Driver) (dir : Dir) (e i : ℕ) → i < 16 → getD (lensOf d dir e) i 0 ≡ lenOn d dir e i
+lens-at d dir e i h = getD-tab (λ j. lenOn d dir e j) 16 i 0 h
+
+lenKey-slot : (dir : Dir) (e i j : ℕ) → i < 16 → j < 16 → j ≢ i → lenKey dir e j ≢ lenKey dir e i
+unfolding lenKey
+lenKey-slot dir e i j h l n z = n (omega arith)
+
+lenKey-key : (dir dir′ : Dir) (e e′ i j : ℕ) → key dir′ e′ ≢ key dir e → lenKey dir′ e′ j ≢ lenKey dir e i
+unfolding lenKey
+lenKey-key dir dir′ e e′ i j n z = n (omega arith)
+
+module _ (d : Driver) (dir : Dir) (e : ℕ) where
+  pub lens-set : Sized d → (i v : ℕ) → i < 16 → lensOf (withLenOn d dir e i v) dir e ≡ set (lensOf d dir e) i v
+  lens-set s i v h =
+      tab-set (λ j. lenOn d dir e j) (λ j. lenOn (withLenOn d dir e i v) dir e j) 16 i v h (lenOn-same d dir e i v s)
+      (λ j l n. lenOn-other d dir e i v dir e j (lenKey-slot dir e i j h l n))
+
+  pub lens-set-other : (i v : ℕ) (dir′ : Dir) (e′ : ℕ) → key dir′ e′ ≢ key dir e → lensOf (withLenOn d dir e i v) dir′ e′ ≡ lensOf d dir′ e′
+  lens-set-other i v dir′ e′ n =
+      tab-ext (λ j. lenOn d dir′ e′ j) (λ j. lenOn (withLenOn d dir e i v) dir′ e′ j) 16
+      (λ j l. lenOn-other d dir e i v dir′ e′ j (lenKey-key dir dir′ e e′ i j n))
+
+  pub lens-on : (r : EpState) (dir′ : Dir) (e′ : ℕ) → lensOf (withOn d dir e r) dir′ e′ ≡ lensOf d dir′ e′
+  unfolding withOn lenOn
+  lens-on r dir′ e′ = refl
+
+  pub ep-len : (i v : ℕ) (dir′ : Dir) (e′ : ℕ) → epOn (withLenOn d dir e i v) dir′ e′ ≡ epOn d dir′ e′
+  unfolding withLenOn epOn
+  ep-len i v dir′ e′ = refl
+
+-- ---- all lengths of an OUT ring
+
+pub length-filled : (l : List ℕ) (a n v : ℕ) → length (filled l a n v) ≡ length l
+unfolding filled
+length-filled l a zero v = refl
+length-filled l a (suc n) v = length-set (filled l a n v) (a + n) v ∙ length-filled l a n v
+
+filled-out : (l : List ℕ) (a n v k : ℕ) → (k < a) ⊎ (a + n ≤ k) → getD (filled l a n v) k 0 ≡ getD l k 0
+unfolding filled
+filled-out l a zero v k h = refl
+filled-out l a (suc n) v k h =
+    getD-set-other (filled l a n v) (a + n) k v 0 (⊎-elim (λ p. λ z. omega arith) (λ p. λ z. omega arith) h)
+    ∙ filled-out l a n v k (⊎-elim (λ p. inl p) (λ p. inr (omega arith)) h)
+
+filled-in : (l : List ℕ) (a n v j : ℕ) → j < n → a + n ≤ length l → getD (filled l a n v) (a + j) 0 ≡ v
+unfolding filled
+filled-in l a zero v j h w = absurd (omega arith)
+filled-in l a (suc n) v j h w = elim (ℕ-discrete j n) [
+  | yes p ↦ ap (λ (k : ℕ). getD (set (filled l a n v) (a + n) v) (a + k) 0) p
+      ∙ getD-set-same (filled l a n v) (a + n) v 0 (omega (arith, length-filled l a n v))
+  | no p ↦ getD-set-other (filled l a n v) (a + n) (a + j) v 0 (λ z. p (omega arith)) ∙ filled-in l a n v j (omega arith) (omega arith)
+]
+
+module _ (d : Driver) (e v : ℕ) where
+  pub ep-fill : (dir′ : Dir) (e′ : ℕ) → epOn (fillLens d e v) dir′ e′ ≡ epOn d dir′ e′
+  unfolding fillLens epOn
+  ep-fill dir′ e′ = refl
+
+  fill-in : Sized d → (j : ℕ) → j < 16 → lenOn (fillLens d e v) Out e j ≡ v
+  unfolding fillLens lenOn lenKey key
+  fill-in s j h =
+      let k : e % 16 * 16 + j % 16 ≡ e % 16 * 16 + j = omega arith in
+      ap (λ (x : ℕ). getD (filled (d .lens) (e % 16 * 16) 16 v) x 0) k ∙ filled-in (d .lens) (e % 16 * 16) 16 v j h (omega (arith, s .lens))
+
+  pub lens-fill : Sized d → lensOf (fillLens d e v) Out e ≡ replicate 16 v
+  lens-fill s = tab-ext (λ j. v) (λ j. lenOn (fillLens d e v) Out e j) 16 (fill-in s)
+
+  fill-out : (dir′ : Dir) (e′ j : ℕ) → key dir′ e′ ≢ key Out e → lenOn (fillLens d e v) dir′ e′ j ≡ lenOn d dir′ e′ j
+  unfolding fillLens lenOn lenKey key
+  fill-out Out e′ j n = filled-out (d .lens) (e % 16 * 16) 16 v (e′ % 16 * 16 + j % 16) (side (e′ % 16) (e % 16) n)
+    where
+      side : (x y : ℕ) → x ≢ y → (x * 16 + j % 16 < y * 16) ⊎ (y * 16 + 16 ≤ x * 16 + j % 16)
+      side x y n = elim (decLt x y) [
+        | yes p ↦ inl (omega arith)
+        | no p ↦ inr (elim (decLt y x) [
+          | yes q ↦ omega arith
+          | no q ↦ absurd (n (omega arith))
+        ])
+      ]
+  fill-out In e′ j n = filled-out (d .lens) (e % 16 * 16) 16 v ((16 + e′ % 16) * 16 + j % 16) (inr (omega arith))
+
+  pub lens-fill-other : (dir′ : Dir) (e′ : ℕ) → key dir′ e′ ≢ key Out e → lensOf (fillLens d e v) dir′ e′ ≡ lensOf d dir′ e′
+  lens-fill-other dir′ e′ n = tab-ext (λ j. lenOn d dir′ e′ j) (λ j. lenOn (fillLens d e v) dir′ e′ j) 16 (λ j l. fill-out dir′ e′ j n)
