@@ -1,16 +1,16 @@
 //! compare [--seed N] [--runs N] [--length N]: random runs of the Rust, made on the port too, call by call. Ends with 1 at the first difference.
-//! compare --begun [...]: the same with the calls that the port exports now: of each random run, start-up, allocation, EP0's start, the bus,
-//! enabling, stalls, the microframe, pacing and the questions, with the continues that follow them.
+//! compare --begun [...]: the same without the interrupt: of each random run, start-up, allocation, EP0's start, the bus,
+//! enabling, stalls, the microframe, pacing, advance, reads, writes, the control pipe, open, close, queue and the questions, with the continues
+//! that follow them.
 //! compare FILE...: the same with recorded lists.
 
-mod absent;
 mod port;
 
 use oracle::replay::{as_set, Session};
 use oracle::text::{print, Entry, Line};
 use oracle::{Answer, Call, Driver};
 
-/// Of a run's calls those that the port exports now, without the operations that it does not and their continues.
+/// Of a run's calls all but the interrupt and its continues.
 fn begun(entries: &[Entry]) -> Vec<Call> {
     let mut kept = true;
     let mut calls = vec![];
@@ -18,7 +18,11 @@ fn begun(entries: &[Entry]) -> Vec<Call> {
         match e.call {
             Call::StartUp { .. } | Call::Allocate { .. } | Call::Start(_) | Call::BusPoll | Call::BusEnable | Call::BusDisable => kept = true,
             Call::SetEnabled { .. } | Call::SetStalled { .. } | Call::IsStalled { .. } | Call::Microframe => kept = true,
-            Call::SetPaced { .. } | Call::Pending(_) | Call::Overruns(_) | Call::Enabled { .. } | Call::Store { .. } | Call::Fill(_) => {
+            Call::Setup | Call::DataOut { .. } | Call::DataIn { .. } | Call::Accept | Call::AcceptSetAddress(_) | Call::Reject => kept = true,
+            Call::PollSetup | Call::PollDataOut | Call::PollDataIn | Call::PollAccept => kept = true,
+            Call::Advance(_) | Call::Read { .. } | Call::PollRead(_) | Call::Write { .. } | Call::PollWrite(_) => kept = true,
+            Call::SetPaced { .. } | Call::Open(_) | Call::Close(_) | Call::Queue { .. } | Call::Pending(_) | Call::Overruns(_) | Call::Enabled { .. }
+            | Call::Store { .. } | Call::Fill(_) => {
                 calls.push(e.call.clone());
                 continue;
             }
@@ -30,6 +34,29 @@ fn begun(entries: &[Entry]) -> Vec<Call> {
         }
     }
     calls
+}
+
+/// The bits that the next continue may bring, where the answer is of the operation under way: a continue may follow another access than it did
+/// in the whole run, and the Rust has no counterpart of a reading with bits above its register's width.
+fn width(answer: &Answer) -> Option<u32> {
+    match answer {
+        Answer::Read { reg, .. } => Some(match reg {
+            0 | 5 => 6,
+            1 => 7,
+            2 => 2,
+            3 | 4 => 16,
+            _ => 8,
+        }),
+        Answer::Write { .. } | Answer::Wait(_) | Answer::Callback | Answer::End { .. } => Some(32),
+        _ => None,
+    }
+}
+
+fn within(call: Call, bits: u32) -> Call {
+    match call {
+        Call::Continue(value) => Call::Continue((u64::from(value) & ((1 << bits) - 1)) as u32),
+        call => call,
+    }
 }
 
 /// The first entry that the driver answers otherwise, but for the order of wake-ups and for what the Rust has no counterpart of.
@@ -90,8 +117,15 @@ fn main() {
         for seed in seed..seed + runs {
             let mut entries = oracle::random::run(&mut rust, seed, length);
             if only_begun {
+                let entries_of = entries;
                 let mut session = Session::new(&mut rust);
-                entries = begun(&entries).iter().map(|call| session.call(call)).collect();
+                let mut awaited = 32;
+                entries = vec![];
+                for call in begun(&entries_of) {
+                    let entry = session.call(&within(call, awaited));
+                    awaited = width(&entry.answer).unwrap_or(awaited);
+                    entries.push(entry);
+                }
             }
             check(&mut port, &format!("seed {seed}"), &entries);
             calls += entries.len();

@@ -317,23 +317,5 @@ impl<const NR: usize, const SIZE: usize> Objects for Held<NR, SIZE> {
     }
 }
 
-/// For measuring: the Rust's functions with nothing around them.
-pub mod bench {
-    use super::*;
-
-    /// # Safety
-    /// After start-up and EP0's start, in cheap mode.
-    #[inline]
-    pub unsafe fn on_interrupt() {
-        <InterruptHandler<USBHS> as Handler<Global>>::on_interrupt()
-    }
-
-    /// The length of the oldest packet, which is taken.
-    pub fn take(ep: usize) -> Option<usize> {
-        usbhs::iso_out_take(ep, |p| p.len())
-    }
-
-    pub fn queue(ep: usize, data: &[u8]) -> bool {
-        usbhs::iso_in_prime(ep, data)
-    }
-}
+#[path = "bench.rs"]
+pub mod bench;

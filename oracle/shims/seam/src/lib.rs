@@ -194,6 +194,12 @@ pub fn take_wakes() -> Vec<usize> {
     core::mem::take(&mut seam().wakes)
 }
 
+/// The wakes are taken by nobody; their memory stays.
+#[inline]
+pub fn drop_wakes() {
+    seam().wakes.clear();
+}
+
 /// `error!` was reached.
 pub fn error() {
     seam().errors += 1;
@@ -229,6 +235,11 @@ pub fn hits() -> [u64; 512] {
 /// Registers as plain memory from here on: `set` gives what they read.
 pub fn cheap() {
     seam().cheap = true;
+}
+
+/// Every access suspends again.
+pub fn stepped() {
+    seam().cheap = false;
 }
 
 #[inline]

@@ -1,0 +1,288 @@
+//! steps: the cost of a call of the port against the Rust's, operation by operation, over the same registers in one run.
+//!
+//! Both are stepped: a call answers an access, the access is made on registers that are memory, and the next call brings the reading. The Rust's call is
+//! the resumption of its coroutine. Beside it the Rust in one go, where an access is a load or a store in the midst of its text.
+//! `steps OPERATION (port|stepped|whole) N` makes the operation N times and prints nothing: for counting instructions.
+
+use std::hint::black_box;
+use std::time::Instant;
+
+use oracle::{Call, Dir, Kind};
+use original::bench::Bare;
+use seam::{reg, Ask, Coroutine, Finish, Out};
+
+extern "C" {
+    fn usbhs_start_up(state: *mut u8, slots: *mut u8, len: usize, size: u32, count: u32, callback: u32) -> u64;
+    fn usbhs_allocate(state: *mut u8, kind: u32, address: u32, maximum: u32, interval: u32, dir: u32) -> u64;
+    fn usbhs_start(state: *mut u8, maximum: u32) -> u64;
+    fn usbhs_continue(state: *mut u8, slots: *mut u8, len: usize, value: u32) -> u64;
+    fn usbhs_begin_bus_poll(state: *mut u8) -> u64;
+    fn usbhs_begin_set_enabled(state: *mut u8, slots: *mut u8, len: usize, ep: u32, dir: u32, on: u32) -> u64;
+    fn usbhs_begin_set_stalled(state: *mut u8, ep: u32, dir: u32, on: u32) -> u64;
+}
+
+const STATE: usize = 4096;
+const SIZE: u32 = 64;
+const COUNT: u32 = 24;
+const ROUNDS: usize = 400;
+const TIMES: usize = 1000;
+
+/// What each register reads, and what was written last.
+#[derive(Clone, PartialEq)]
+struct Registers {
+    reads: [[u32; 16]; reg::COUNT],
+    written: [[u32; 16]; reg::COUNT],
+}
+
+impl Registers {
+    /// A bus reset is flagged, the control words answer ACK with DATA1.
+    fn new() -> Self {
+        let mut reads = [[0; 16]; reg::COUNT];
+        reads[reg::INT_FG as usize][0] = 1;
+        reads[reg::CTRL as usize][0] = 6;
+        reads[reg::EP_RX_CTRL as usize] = [4; 16];
+        reads[reg::EP_TX_CTRL as usize] = [4; 16];
+        Self { reads, written: [[0; 16]; reg::COUNT] }
+    }
+
+    #[inline(always)]
+    fn read(&self, reg: u8, ep: u8) -> u32 {
+        self.reads[reg as usize][ep as usize % 16]
+    }
+
+    #[inline(always)]
+    fn write(&mut self, reg: u8, ep: u8, value: u32) -> u32 {
+        self.written[reg as usize][ep as usize % 16] = value;
+        0
+    }
+}
+
+fn dir(d: Dir) -> u32 {
+    (d == Dir::In) as u32
+}
+
+struct Port {
+    state: Vec<u8>,
+    slots: Vec<u8>,
+    registers: Registers,
+}
+
+impl Port {
+    fn new() -> Self {
+        Self { state: vec![0; STATE], slots: vec![0; (SIZE * COUNT) as usize], registers: Registers::new() }
+    }
+
+    #[inline]
+    fn begin(&mut self, call: &Call) -> u64 {
+        let s = self.state.as_mut_ptr();
+        let (p, n) = (self.slots.as_mut_ptr(), self.slots.len());
+        // SAFETY: the exported calls are total; the state is longer than theirs, the slice is given with its length
+        unsafe {
+            match *call {
+                Call::StartUp { size, count, callback } => usbhs_start_up(s, p, n, size, count, callback as u32),
+                Call::Allocate { kind, address, maximum, interval, dir: d } => {
+                    let address = address.map_or(256, u32::from);
+                    usbhs_allocate(s, kind as u32, address, maximum as u32, interval as u32, dir(d))
+                }
+                Call::Start(maximum) => usbhs_start(s, maximum as u32),
+                Call::BusPoll => usbhs_begin_bus_poll(s),
+                Call::SetEnabled { ep, dir: d, on } => usbhs_begin_set_enabled(s, p, n, ep as u32, dir(d), on as u32),
+                Call::SetStalled { ep, dir: d, on } => usbhs_begin_set_stalled(s, ep as u32, dir(d), on as u32),
+                _ => unreachable!("{call:?} is not measured"),
+            }
+        }
+    }
+
+    /// The whole operation; how many calls it took.
+    #[inline(never)]
+    fn operate(&mut self, call: &Call) -> u32 {
+        let mut calls = 1;
+        let mut a = self.begin(call);
+        loop {
+            let value = match a & 15 {
+                1 => self.registers.read((a >> 8) as u8, (a >> 16) as u8),
+                2 => self.registers.write((a >> 8) as u8, (a >> 16) as u8, (a >> 32) as u32),
+                3 => 0,
+                5 => return calls,
+                _ => panic!("{call:?}: {a:#x}"),
+            };
+            calls += 1;
+            // SAFETY: as in `begin`
+            a = unsafe { usbhs_continue(self.state.as_mut_ptr(), self.slots.as_mut_ptr(), self.slots.len(), value) };
+        }
+    }
+}
+
+struct Stepped {
+    bare: Bare,
+    registers: Registers,
+}
+
+impl Stepped {
+    /// The same of the Rust.
+    #[inline(never)]
+    fn operate(&mut self, call: &Call) -> u32 {
+        let mut calls = 1;
+        let mut out = self.bare.begin(call);
+        loop {
+            let value = match out {
+                Out::Asked(Ask::Read { reg, ep }) => self.registers.read(reg, ep),
+                Out::Asked(Ask::Write { reg, ep, value }) => self.registers.write(reg, ep, value),
+                Out::Asked(Ask::Wait(_)) => 0,
+                Out::Ended(_) => {
+                    seam::drop_wakes();
+                    return calls;
+                }
+                _ => panic!("{call:?}: {out:?}"),
+            };
+            calls += 1;
+            out = self.bare.resume(value);
+        }
+    }
+
+    /// In one go, over the seam's registers.
+    #[inline(never)]
+    fn whole(&mut self, call: &Call) {
+        black_box(self.bare.run(call));
+    }
+}
+
+fn start_up() -> Call {
+    Call::StartUp { size: SIZE, count: COUNT, callback: false }
+}
+
+/// Endpoints as in runs/worked-traces.txt: 1 isochronous OUT, 2 isochronous IN, 3 bulk OUT, 4 bulk IN. The first poll answers the power.
+fn prepared() -> Vec<Call> {
+    let endpoint = |kind, address, dir| Call::Allocate { kind, address: Some(address), maximum: 64, interval: 1, dir };
+    vec![
+        start_up(),
+        endpoint(Kind::Isochronous, 1, Dir::Out),
+        endpoint(Kind::Isochronous, 0x82, Dir::In),
+        endpoint(Kind::Bulk, 3, Dir::Out),
+        endpoint(Kind::Bulk, 0x84, Dir::In),
+        Call::Start(64),
+        Call::BusPoll,
+    ]
+}
+
+/// Each is made over and over: nothing that it does depends on what the last one left.
+fn operations() -> Vec<(&'static str, Call)> {
+    vec![
+        ("start-up", start_up()),
+        ("bus-reset", Call::BusPoll),
+        ("enable-iso-out", Call::SetEnabled { ep: 1, dir: Dir::Out, on: true }),
+        ("stall-out", Call::SetStalled { ep: 3, dir: Dir::Out, on: true }),
+        ("clear-stall-out", Call::SetStalled { ep: 3, dir: Dir::Out, on: false }),
+        ("stall-in", Call::SetStalled { ep: 4, dir: Dir::In, on: true }),
+        ("clear-stall-in", Call::SetStalled { ep: 4, dir: Dir::In, on: false }),
+    ]
+}
+
+/// Both sides after the first calls, with a last one that both made alike.
+fn both(call: &Call) -> (Port, Stepped, u32) {
+    let mut port = Port::new();
+    let mut rust = Stepped { bare: Bare::new(), registers: Registers::new() };
+    let mut calls = 0;
+    for c in prepared().iter().chain([call]) {
+        calls = port.operate(c);
+        assert_eq!(calls, rust.operate(c), "{c:?}");
+    }
+    for r in [reg::EP0_DMA, reg::EP_RX_DMA, reg::EP_TX_DMA] {
+        for w in rust.registers.written[r as usize].iter_mut().filter(|w| **w != 0) {
+            *w -= rust.bare.base();
+        }
+    }
+    assert!(port.registers == rust.registers && port.slots == rust.bare.slots(), "{call:?}");
+    for (r, row) in rust.registers.reads.iter().enumerate() {
+        for (e, &value) in row.iter().enumerate() {
+            // the driver keeps these: they read as written
+            if !matches!(r as u8, reg::INT_EN | reg::EP_CONFIG | reg::EP_TYPE) {
+                seam::set(r as u8, e as u8, value);
+            }
+        }
+    }
+    (port, rust, calls)
+}
+
+/// A coroutine that does nothing but read: the stepping's own cost, in nanoseconds a call.
+fn switches() -> f64 {
+    const CALLS: u32 = 40;
+    let mut on = Coroutine::new();
+    let registers = Registers::new();
+    let mut best = f64::MAX;
+    for _ in 0..ROUNDS {
+        best = best.min(nanoseconds(|| {
+            let mut out = on.start(false, || {
+                for _ in 1..CALLS {
+                    black_box(seam::read(reg::INT_FG, 0));
+                }
+                Finish::Nothing
+            });
+            while let Out::Asked(Ask::Read { reg, ep }) = out {
+                out = on.resume(registers.read(reg, ep));
+            }
+        }));
+    }
+    best / CALLS as f64
+}
+
+fn nanoseconds(mut operation: impl FnMut()) -> f64 {
+    let t = Instant::now();
+    for _ in 0..TIMES {
+        operation();
+    }
+    t.elapsed().as_nanos() as f64 / TIMES as f64
+}
+
+fn measure(name: &str, call: &Call) {
+    let (mut port, mut rust, calls) = both(call);
+    let (mut ported, mut stepped, mut whole) = (f64::MAX, f64::MAX, f64::MAX);
+    for _ in 0..ROUNDS {
+        ported = ported.min(nanoseconds(|| {
+            black_box(port.operate(black_box(call)));
+        }));
+        stepped = stepped.min(nanoseconds(|| {
+            black_box(rust.operate(black_box(call)));
+        }));
+        seam::cheap();
+        whole = whole.min(nanoseconds(|| rust.whole(black_box(call))));
+        seam::stepped();
+    }
+    let per = |ns: f64| ns / calls as f64;
+    println!(
+        "| {name} | {calls} | {:.1} | {:.1} | {:.2} | {:.1} | {:.1} |",
+        per(ported),
+        per(stepped),
+        ported / stepped,
+        per(whole),
+        ported / whole
+    );
+}
+
+fn main() {
+    let args: Vec<String> = std::env::args().skip(1).collect();
+    // the Rust has statics, and so has the seam
+    let _lock = seam::lock();
+    if let [name, how, times] = &args[..] {
+        let (_, call) = operations().into_iter().find(|(n, _)| n == name).expect("an operation");
+        let (mut port, mut rust, _) = both(&call);
+        for _ in 0..times.parse().expect("a number") {
+            match how.as_str() {
+                "port" => port.operate(&call),
+                "stepped" => rust.operate(&call),
+                _ => {
+                    seam::cheap();
+                    rust.whole(&call);
+                    0
+                }
+            };
+        }
+        return;
+    }
+    println!("| operation | calls | port, ns a call | Rust stepped, ns a call | port / Rust stepped | Rust in one go, ns a call | port / Rust in one go |");
+    println!("|---|---|---|---|---|---|---|");
+    for (name, call) in operations() {
+        measure(name, &call);
+    }
+    println!("a call of a coroutine that only reads: {:.1} ns", switches());
+}
