@@ -199,78 +199,37 @@ gets (paced-cell e) b d t r = r .same .paced e
 
 -- ---- put
 
-same-record : (d d′ : Driver) (dir : Dir) (e : ℕ) → epOn d′ dir e ≡ epOn d dir e → Kin (epOn d dir e) (epOn d′ dir e)
-same-record d d′ dir e q = kin-by (kin-refl (epOn d dir e)) q
+-- a change of other records than the endpoints' and of globals that scripts assign
+others-still : (d d′ : Driver) → d′ .eps ≡ d .eps → d′ .lens ≡ d .lens → d′ .allocator ≡ d .allocator → d′ .globals ≡ mergedGlobals (d .globals) (d′ .globals) → Sized d′ → Still d d′
+unfolding epOn lenOn
+others-still d d′ p q a g z = record {
+  sized = z;
+  allocator = a;
+  config = ap (λ (x : Globals). x .«ep_config») g;
+  isos = ap (λ (x : Globals). x .«iso_out_eps») g;
+  stage = ap (λ (x : Globals). x .stage) g;
+  ep0-buf = ap (λ (x : Globals). x .«ep0_buf») g;
+  ep0-max = ap (λ (x : Globals). x .«ep0_max») g;
+  kin = λ dir e. kin-by (kin-refl (epOn d dir e)) (rw p refl);
+  lens = λ dir e. rw q refl;
+}
 
 globals-still : (d : Driver) (v : Globals) → Sized d → Still d (withGlobals d (mergedGlobals (d .globals) v))
-unfolding epOn lenOn
-globals-still d v z = record {
-  sized = record { eps = z .eps; lens = z .lens; paced = z .paced; requests = z .requests };
-  allocator = refl;
-  config = refl;
-  isos = refl;
-  stage = refl;
-  ep0-buf = refl;
-  ep0-max = refl;
-  kin = λ dir e. kin-refl (epOn d dir e);
-  lens = λ dir e. refl;
-}
+globals-still d v z = others-still d _ refl refl refl refl (record { eps = z .eps; lens = z .lens; paced = z .paced; requests = z .requests })
 
 wakes-still : (d : Driver) (v : _) → Sized d → Still d (withWakes d v)
-unfolding epOn lenOn
-wakes-still d v z = record {
-  sized = record { eps = z .eps; lens = z .lens; paced = z .paced; requests = z .requests };
-  allocator = refl;
-  config = refl;
-  isos = refl;
-  stage = refl;
-  ep0-buf = refl;
-  ep0-max = refl;
-  kin = λ dir e. kin-refl (epOn d dir e);
-  lens = λ dir e. refl;
-}
+wakes-still d v z = others-still d _ refl refl refl refl (record { eps = z .eps; lens = z .lens; paced = z .paced; requests = z .requests })
 
 control-still : (d : Driver) (v : _) → Sized d → Still d (withControl d v)
-unfolding epOn lenOn
-control-still d v z = record {
-  sized = record { eps = z .eps; lens = z .lens; paced = z .paced; requests = z .requests };
-  allocator = refl;
-  config = refl;
-  isos = refl;
-  stage = refl;
-  ep0-buf = refl;
-  ep0-max = refl;
-  kin = λ dir e. kin-refl (epOn d dir e);
-  lens = λ dir e. refl;
-}
+control-still d v z = others-still d _ refl refl refl refl (record { eps = z .eps; lens = z .lens; paced = z .paced; requests = z .requests })
 
 paced-still : (d : Driver) (e v : ℕ) → Sized d → Still d (withPacedOn d e v)
-unfolding epOn lenOn withPacedOn
-paced-still d e v z = record {
-  sized = record { eps = z .eps; lens = z .lens; paced = length-set (d .paced) (e % 16) v ∙ z .paced; requests = z .requests };
-  allocator = refl;
-  config = refl;
-  isos = refl;
-  stage = refl;
-  ep0-buf = refl;
-  ep0-max = refl;
-  kin = λ dir e. kin-refl (epOn d dir e);
-  lens = λ dir e. refl;
-}
+unfolding withPacedOn
+paced-still d e v z = others-still d _ refl refl refl refl (record { eps = z .eps; lens = z .lens; paced = length-set (d .paced) (e % 16) v ∙ z .paced; requests = z .requests })
 
 request-still : (d : Driver) (dir : Dir) (e : ℕ) (v : _) → Sized d → Still d (withRequestOn d dir e v)
-unfolding epOn lenOn withRequestOn
-request-still d dir e v z = record {
-  sized = record { eps = z .eps; lens = z .lens; paced = z .paced; requests = length-set (d .requests) (key dir e) v ∙ z .requests };
-  allocator = refl;
-  config = refl;
-  isos = refl;
-  stage = refl;
-  ep0-buf = refl;
-  ep0-max = refl;
-  kin = λ dir e. kin-refl (epOn d dir e);
-  lens = λ dir e. refl;
-}
+unfolding withRequestOn
+request-still d dir e v z = others-still d _ refl refl refl refl (record { eps = z .eps; lens = z .lens; paced = z .paced; requests = length-set (d .requests) (key dir e) v ∙ z .requests })
 
 -- what stands at one endpoint, and at the others
 pub at-same : {A : Type 0} (e x : ℕ) (v : A) (f : ℕ → A) → x % 16 ≡ e % 16 → at e v f x ≡ v
