@@ -19,3 +19,9 @@ pub mod Rows
 pub mod Agrees
 pub mod Demand3
 pub mod Code
+pub mod Sorts
+pub mod Always
+pub mod Sorting
+pub mod Readings
+pub mod Served
+pub mod CodeReadings
