@@ -25,7 +25,7 @@ use Rattle.script.specs.Control.{SETUP, ACCEPT, DATA-OUT, setupBytes, pollSetup
 use Rattle.ops.specs.Rings.{St, filledEp0}
 use Rattle.ops.specs.Conc.{go}
 use Rattle.request.specs.Records.{modifiedOn}
-use Rattle.request.specs.Fetch.{take-front}
+use Rattle.request.specs.Front.{front-over}
 use Rattle.request.specs.Answers.{lentAfter}
 use Rattle.control.specs.declared.Point.{Point}
 use Rattle.control.specs.declared.Point.the-variants as point
@@ -122,7 +122,7 @@ module _ (d d1 d2 : Driver) (b out : List ℕ) (n : ℕ) (h1 : d1 ≡ modifiedOn
       (l : ltb n (epOn d Out 0 .len) ≡ false) where
     pub done-told : (k : ℕ) → k ≡ length (bytesAt b (g .«ep0_buf») (x .len)) → d2 ≡ withControl d1 no-control
         → polledAs (polled.Done k) out1 d2 b ≡ go {i = false} (take-out n) d b
-    done-told k a h2 = rw (a, o, take-front (bytesAt b (g .«ep0_buf») (x .len)) out, h2, f, h1, e, u, l)
+    done-told k a h2 = rw (a, o, front-over (bytesAt b (g .«ep0_buf») (x .len)) out, h2, f, h1, e, u, l)
 
     pub done-lends : out1 ≡ lentAfter (go {i = false} (take-out n) d b) out
     done-lends = o ∙ rw (f, h1, e, u, l)

@@ -3,7 +3,6 @@ use mathlib.Core.Path.{_≡_, refl}
 use mathlib.Core.Bool.{Bool, true, false}
 use mathlib.Core.List.{List, [], _++_}
 use Prim.Native.Nat.{ℕ}
-use lib.ListN.{take}
 use Rattle.regs.specs.declared.Reg.the-variants.{DevAd, EpTLen, EpRxCtrl, EpTxCtrl}
 use Rattle.regs.specs.declared.Dir.{Dir}
 use Rattle.regs.specs.declared.Dir.the-variants.{Out, In}
@@ -19,7 +18,7 @@ use Rattle.script.specs.Answers.{Answer, Refused, End, NotYet, Done}
 use Rattle.script.specs.Control.{acks, wordBytes}
 use Rattle.ops.specs.Rings.{St}
 use Rattle.ops.specs.Conc.{conc}
-use Rattle.request.specs.Answers.{finished}
+use Rattle.request.specs.Answers.{finished, front}
 use Rattle.control.specs.declared.Point.{Point}
 use Rattle.control.specs.declared.Point.the-variants as point
 use Rattle.control.specs.declared.Next.{Next}
@@ -95,7 +94,7 @@ begunAs (begun.Ends n) d b = ends (End n (d .wakes)) (d, b)
 abbrev pub polledAs : Polled → List ℕ → Driver → List ℕ → tree.Out St Answer
 polledAs (polled.Refused n) out d b = ends (Refused n) (d, b)
 polledAs polled.NotYet out d b = ends NotYet (d, b)
-polledAs (polled.Done n) out d b = ends (Done (take n out)) (d, b)
+polledAs (polled.Done n) out d b = ends (Done (front n out)) (d, b)
 polledAs (polled.Setup low high) out d b = ends (Done (wordBytes low ++ wordBytes high)) (d, b)
 polledAs (polled.Asks q p) out d b = asks q (d, b) (λ v t. run conc (finished (denote p v)) t)
 

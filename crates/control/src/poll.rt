@@ -94,12 +94,12 @@ pub fn poll_accept(s: &mut [u8; STATE_LEN]) -> Polled
     if is_on(r.ready) {
         unready(s, Dir::In, 0);
         set_request(s, 0, 0);
-        if is_on(c.sets_address) {
-            clear_wakes(s);
-            let a = c.address % 128;
-            return Polled::Asks(Access::Write(Reg::DevAd, 0, a as u32), Point::Wrote);
+        if !is_on(c.sets_address) {
+            return Polled::Done(0);
         }
-        return Polled::Done(0);
+        clear_wakes(s);
+        let a = c.address % 128;
+        return Polled::Asks(Access::Write(Reg::DevAd, 0, a as u32), Point::Wrote);
     }
     wait_on(s)
 }

@@ -30,8 +30,8 @@ use Rattle.ops.specs.Records.{plainOf}
 use Rattle.ops.specs.Rings.{St, waitingOn, roomOn, oldestAt, nextLen, oldestOn, takeOn, enqueueOn, filledOn}
 use Rattle.ops.specs.Conc.{go}
 use Rattle.request.specs.Records.{modifiedOn}
-use Rattle.request.specs.Fetch.{take-front}
-use Rattle.request.specs.Answers.{lentAfter}
+use Rattle.request.specs.Front.{front-over}
+use Rattle.request.specs.Answers.{front, lentAfter}
 use Rattle.rows.specs.Rows.{refusalOf, started, allocated, by-row}
 use Rattle.endpoint.specs.declared.Point.{Point}
 use Rattle.endpoint.specs.declared.Point.the-variants as point
@@ -114,9 +114,9 @@ waits d b out y t = (t, lends out t)
 
 brings : (xs out out1 : List ℕ) (n : ℕ) (d : Driver) (b : List ℕ) (y : tree.Out St Answer) → n ≡ length xs → out1 ≡ over xs out → ends (Done xs) (d, b) ≡ y
     → Brought (polled-as.Done n) out1 d b out y
-brings xs out out1 n d b y k o t = (ap (λ (ys : List ℕ). ends (Done ys) (d, b)) front ∙ t, o ∙ lends out t) where
-  front : take n out1 ≡ xs
-  front = rw (k, o) (take-front xs out)
+brings xs out out1 n d b y k o t = (ap (λ (ys : List ℕ). ends (Done ys) (d, b)) first ∙ t, o ∙ lends out t) where
+  first : front n out1 ≡ xs
+  first = rw (k, o) (front-over xs out)
 
 pub read-refused : (d : Driver) (b out : List ℕ) (e n k : ℕ) → k ≡ refusalOf d Out e → eqb k 0 ≡ false
     → Brought (polled-as.Refused k) out d b out (go {i = false} (pollRead e n) d b)

@@ -3,7 +3,6 @@ use mathlib.Core.Path.{_≡_}
 use mathlib.Core.Bool.{Bool, true, false}
 use mathlib.Core.List.{List}
 use Prim.Native.Nat.{ℕ}
-use lib.ListN.{take}
 use Rattle.regs.specs.declared.Reg.the-variants.{EpTxCtrl}
 use Rattle.regs.specs.Registers.{ctrlOf, widthOf, fitsIn}
 use Rattle.regs.specs.ControlWord.{ack}
@@ -16,7 +15,7 @@ use Rattle.script.specs.Machine.{Awaits, nothing, reading, awaited}
 use Rattle.script.specs.Answers.{Answer, Refused, End, NotYet, Done}
 use Rattle.ops.specs.Rings.{St}
 use Rattle.ops.specs.Conc.{conc}
-use Rattle.request.specs.Answers.{finished}
+use Rattle.request.specs.Answers.{finished, front}
 use Rattle.endpoint.specs.declared.Point.{Point}
 use Rattle.endpoint.specs.declared.Point.the-variants as point
 use Rattle.endpoint.specs.declared.Next.{Next}
@@ -56,7 +55,7 @@ begunAs (begun.Ends n) d b = ends (End n (d .wakes)) (d, b)
 abbrev pub polledAs : Polled → List ℕ → Driver → List ℕ → tree.Out St Answer
 polledAs (polled.Refused n) out d b = ends (Refused n) (d, b)
 polledAs polled.NotYet out d b = ends NotYet (d, b)
-polledAs (polled.Done n) out d b = ends (Done (take n out)) (d, b)
+polledAs (polled.Done n) out d b = ends (Done (front n out)) (d, b)
 
 -- what a point awaits, and that it is the access handed out with it
 abbrev pub awaitsAt : Point → Awaits

@@ -1,7 +1,7 @@
 -- A begun operation's end, and what a poll leaves in the slice it was lent
 use mathlib.Core.Bool.{false}
-use mathlib.Core.List.{List}
-use Prim.Native.Nat.{ℕ}
+use mathlib.Core.List.{List, [], _∷_}
+use Prim.Native.Nat.{ℕ, zero, suc}
 use Rattle.marks.specs.Copies.{over}
 use Rattle.script.specs.Tree as tree
 use Rattle.script.specs.Tree.{ends, asks}
@@ -16,6 +16,12 @@ finished p = do
   n ← p
   w ← get wakes-cell
   ret (End n w)
+
+-- the slice's first n bytes, n of them whatever its length: those past its end read 256, which no byte is
+abbrev pub front : ℕ → List ℕ → List ℕ
+front zero out = []
+front (suc n) [] = 256 ∷ front n []
+front (suc n) (x ∷ out) = x ∷ front n out
 
 -- the bytes that were brought at the slice's front
 abbrev pub broughtBy : Answer → List ℕ → List ℕ

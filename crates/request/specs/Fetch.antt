@@ -6,7 +6,7 @@ use native.Mathlib.Omega.{arith}
 use native.Mathlib.Decide.{decLt}
 use borrow.Author.Tests.{lt-ltb, le-ltb}
 use lib.ListN.{length, take, drop, length-take, length-drop, drop-of-length-le}
-use lib.Seq.{take-all, take-at}
+use lib.Seq.{take-all}
 use Rattle.marks.specs.Copies.{over, bytesAt, copiedOut}
 
 pub fetched-length : (b : List ℕ) (at n : ℕ) → min n (length b - at) ≡ length (bytesAt b at n)
@@ -29,6 +29,3 @@ fetched b out at n k e h = elim (decLt (length b) at) [
 ] where
   there : (length b < at → ⊥) → take k (drop at b) ≡ take n (drop at b)
   there g = rw (e, ← length-drop at b, take-there n (drop at b))
-
-pub take-front : (xs ys : List ℕ) → take (length xs) (over xs ys) ≡ xs
-take-front xs ys = take-at xs (drop (length xs) ys) (length xs) refl

@@ -1,3 +1,4 @@
 pub mod Records
 pub mod Fetch
 pub mod Answers
+pub mod Front
