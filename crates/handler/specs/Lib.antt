@@ -1,3 +1,4 @@
 pub mod Tails
 pub mod Points
+pub mod Stages
 pub mod Laws

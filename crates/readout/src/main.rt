@@ -60,12 +60,14 @@ fn before_start_up() {
 }
 
 // Allocates an endpoint with a maximum of 8 bytes and shows what is handed out.
-fn endpoint(s: &mut [u8; STATE_LEN], slots: &mut [u8], dir: Dir, kind: u8) {
+fn endpoint(s: &mut [u8; STATE_LEN], slots: &mut [u8], title: &[u8], dir: Dir, kind: u8) {
+    print(title);
     let first = usbhs::starting::allocate(s, dir, kind, 256, 8, 1);
     run(s, slots, first, 64);
 }
 
-fn enable(s: &mut [u8; STATE_LEN], slots: &mut [u8], dir: Dir, e: u32) {
+fn enable(s: &mut [u8; STATE_LEN], slots: &mut [u8], title: &[u8], dir: Dir, e: u32) {
+    print(title);
     let first = usbhs::bus_begins::begin_set_enabled(s, slots, dir, e, true);
     run(s, slots, first, 64);
 }
@@ -75,18 +77,14 @@ fn started(s: &mut [u8; STATE_LEN], slots: &mut [u8]) {
     print(b"\nstart-up, 21 buffers of 8 bytes\n");
     let first = usbhs::starting::start_up(s, slots, 8, 21, false);
     run(s, slots, first, 64);
-    print(b"\nallocate an isochronous OUT\n");
-    endpoint(s, slots, Dir::Out, 1);
-    print(b"\nallocate an isochronous IN\n");
-    endpoint(s, slots, Dir::In, 1);
+    endpoint(s, slots, b"\nallocate an isochronous OUT\n", Dir::Out, 1);
+    endpoint(s, slots, b"\nallocate an isochronous IN\n", Dir::In, 1);
 }
 
 // A bulk pair and EP0.
 fn others(s: &mut [u8; STATE_LEN], slots: &mut [u8]) {
-    print(b"\nallocate a bulk OUT\n");
-    endpoint(s, slots, Dir::Out, 2);
-    print(b"\nallocate a bulk IN\n");
-    endpoint(s, slots, Dir::In, 2);
+    endpoint(s, slots, b"\nallocate a bulk OUT\n", Dir::Out, 2);
+    endpoint(s, slots, b"\nallocate a bulk IN\n", Dir::In, 2);
     print(b"\nstart EP0\n");
     let ep0 = usbhs::starting::start(s, 8);
     run(s, slots, ep0, 64);
@@ -96,14 +94,10 @@ fn enabled(s: &mut [u8; STATE_LEN], slots: &mut [u8]) {
     print(b"\npull the bus up\n");
     let up = usbhs::bus_begins::begin_bus_enable(s);
     run(s, slots, up, 64);
-    print(b"\nenable the isochronous OUT\n");
-    enable(s, slots, Dir::Out, 1);
-    print(b"\nenable the isochronous IN\n");
-    enable(s, slots, Dir::In, 1);
-    print(b"\nenable the bulk OUT\n");
-    enable(s, slots, Dir::Out, 2);
-    print(b"\nenable the bulk IN\n");
-    enable(s, slots, Dir::In, 2);
+    enable(s, slots, b"\nenable the isochronous OUT\n", Dir::Out, 1);
+    enable(s, slots, b"\nenable the isochronous IN\n", Dir::In, 1);
+    enable(s, slots, b"\nenable the bulk OUT\n", Dir::Out, 2);
+    enable(s, slots, b"\nenable the bulk IN\n", Dir::In, 2);
 }
 
 fn main() {

@@ -22,7 +22,7 @@ fn end(n: u16, w: Wakes) {
     wakes(w);
 }
 
-// The rows of "What stops a call".
+// The rows of "What stops a call": up to the allocation's, then those of packets and continue.
 fn row(n: u8) {
     match n {
         1 => print(b"the slots' length is not count times size"),
@@ -33,6 +33,12 @@ fn row(n: u8) {
         6 => print(b"the maximum is above the buffer size"),
         7 => print(b"no such endpoint number is free"),
         8 => print(b"the buffers run out"),
+        _ => packet_row(n),
+    }
+}
+
+fn packet_row(n: u8) {
+    match n {
         9 => print(b"the endpoint is disabled, or a setup waits"),
         10 => print(b"the length does not fit"),
         11 => print(b"not isochronous"),

@@ -1,2 +1,2 @@
 // Continue is the machine's own.
-pub use way::proceeds::proceed;
+pub use proceeding::proceed;

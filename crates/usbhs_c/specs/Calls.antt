@@ -7,10 +7,11 @@ use lib.Dec.{eqb}
 use Rattle.regs.specs.declared.Dir.{Dir}
 use Rattle.regs.specs.declared.Dir.the-variants.{Out, In}
 use Rattle.state.specs.State.{view}
-use Rattle.script.specs.Calls.{Config, Op, startRow}
-use Rattle.script.specs.Machine.{Buf, Call, start}
+use Rattle.script.specs.Calls.{Config, Op, aside, Open, startRow}
+use Rattle.script.specs.Machine.{Buf, Call, begin, start}
 use Rattle.way.specs.Under.{machineOf, drive, answerOf, lentOr, lentBy}
-use Rattle.usbhs_c.specs.Word.{Worded}
+use Rattle.endpoint_calls.specs.Shown.{ShownAt}
+use Rattle.answer_word.specs.Word.{Worded}
 
 -- a number as a direction: 0 OUT, else IN
 unfoldable pub dirOf : ℕ → Dir
@@ -53,6 +54,13 @@ abbrev pub AnswersShown : ℕ → Call Config Op → List ℕ → List ℕ → B
 AnswersShown r c before after slots slots′ =
     Worded r
     (λ step. (a : Buf) → (answerOf step slots′, machineOf after (lentOr (view before) slots slots′ a)) ≡ drive c (machineOf before a) slots)
+
+-- open, with the slots, which stay: a packet that is shown is the endpoint's oldest
+abbrev pub AnswersOpen : ℕ → ℕ → List ℕ → List ℕ → Buf → Type 0
+AnswersOpen r e before after slots =
+    Worded r
+    (λ step. ((a : Buf) → (answerOf step slots, machineOf after (lentOr (view before) slots slots a)) ≡ drive (begin (aside (Open e))) (machineOf before a) slots)
+    × ShownAt step (view after) e)
 
 -- start-up: the slots that it is brought are the run's from then on, unless it is refused
 abbrev pub AnswersStart : ℕ → Config → List ℕ → List ℕ → Buf → Type 0

@@ -1,10 +1,26 @@
 -- A setup packet in the caller's 8 bytes
+use mathlib.Core.Bool.{Bool, true, false, cond}
 use mathlib.Core.List.{List, [], _∷_, _++_}
-use mathlib.Core.Path.{_≡_, refl, sym, ap, _∙_}
-use Prim.Native.Nat.{ℕ, zero, suc}
+use mathlib.Core.Path.{_≡_, refl, sym, ap, subst, _∙_}
+use Prim.Native.Nat.{ℕ, zero, suc, _<_}
+use native.Mathlib.Omega.{arith}
+use lib.Dec.{eqb}
 use lib.ListN.{length, take, drop}
 use Rattle.marks.specs.Copies.{over}
-use Rattle.script.specs.Control.{wordBytes}
+use Rattle.state.specs.declared.Globals.{Globals}
+use Rattle.state.specs.Driver.{Driver}
+use Rattle.script.specs.Tree.{ends}
+use Rattle.script.specs.Statics.{isOn}
+use Rattle.script.specs.Answers.{Answer, Refused, End, NotYet, Done, Shown}
+use Rattle.script.specs.Control.{SETUP, wordBytes, setupBytes}
+use Rattle.script.specs.Calls.{other, PollSetup}
+use Rattle.script.specs.Machine.{Buf, Machine, Ans, ended, handed, told, begin}
+use Rattle.way.specs.declared.Under.{Under}
+use Rattle.way.specs.declared.Step.{Step}
+use Rattle.way.specs.declared.Step.the-variants as step
+use Rattle.way.specs.Under.{machineAt, drive, halts, answerOf}
+use Rattle.way.specs.Goes.{Called}
+use Rattle.way.specs.Rows.{isIdle, other-idle}
 
 abbrev none : List ℕ
 none = []
@@ -28,3 +44,53 @@ over-all low high xs h = ap (λ (t : List ℕ). (wordBytes low ++ wordBytes high
 -- the first of a pair by another name
 pub told-by : {A B : Type 0} {x y : A} {z : B} {w : A × B} → x ≡ y → (y, z) ≡ w → (x, z) ≡ w
 told-by {z = z} p q = ap (λ x. (x, z)) p ∙ q
+
+-- ---- setup's poll brings its packet as two words, never as bytes of a slice: it is lent none
+
+-- bytes that an answer brings begin with a byte
+abbrev ByteFirst : Ans Answer → Type 0
+ByteFirst (ended (Done [])) = ⊥
+ByteFirst (ended (Done (x ∷ xs))) = x < 256
+ByteFirst (ended (Refused n)) = Unit {0}
+ByteFirst (ended (End n w)) = Unit {0}
+ByteFirst (ended NotYet) = Unit {0}
+ByteFirst (ended (Shown bytes)) = Unit {0}
+ByteFirst (handed q) = Unit {0}
+ByteFirst (told n) = Unit {0}
+
+-- where nothing is under way (x), EP0 is started (y), setup was begun (z) and a packet is there (w)
+by-rows : (x y z w : Bool) (g : Globals) (s1 s2 s3 s4 : Driver × Buf) (m : Machine Answer Driver)
+    → ByteFirst (cond x (halts (cond y (cond z (cond w (ends (Done (setupBytes g)) s1) (ends NotYet s2)) (ends (Refused 15) s3)) (ends (Refused 4) s4))) (ended (Refused 3), m) .0)
+unfolding setupBytes
+by-rows true true true true g s1 s2 s3 s4 m = omega arith
+by-rows true true true false g s1 s2 s3 s4 m = tt
+by-rows true true false w g s1 s2 s3 s4 m = tt
+by-rows true false z w g s1 s2 s3 s4 m = tt
+by-rows false y z w g s1 s2 s3 s4 m = tt
+
+setup-first : (u : Under) (d : Driver) (a b : Buf) → ByteFirst (drive (begin (other PollSetup)) (machineAt u d a) b .0)
+setup-first u d a b =
+    subst (λ (c : Called). ByteFirst (c .0)) (sym (other-idle PollSetup u d a b))
+    (by-rows (isIdle u) (eqb (d .globals .stage) 2) (eqb (d .control .sort) SETUP) (isOn (d .globals .«setup_ready»)) (d .globals) _ _ _ _ _)
+
+abbrev pub NoSlice : Step → Type 0
+NoSlice (step.Refused n) = Unit {0}
+NoSlice (step.Asks q) = Unit {0}
+NoSlice (step.Ends n w) = Unit {0}
+NoSlice step.NotYet = Unit {0}
+NoSlice (step.Done n) = ⊥
+NoSlice (step.Setup low high) = Unit {0}
+NoSlice (step.Shown at n) = Unit {0}
+
+no-slice : (t : Step) → ByteFirst (answerOf t []) → NoSlice t
+no-slice (step.Refused n) h = tt
+no-slice (step.Asks q) h = tt
+no-slice (step.Ends n w) h = tt
+no-slice step.NotYet h = tt
+no-slice (step.Done zero) h = h
+no-slice (step.Done (suc n)) h = omega arith
+no-slice (step.Setup low high) h = tt
+no-slice (step.Shown at n) h = tt
+
+pub setup-no-slice : (t : Step) (u : Under) (d : Driver) (a b : Buf) → answerOf t [] ≡ drive (begin (other PollSetup)) (machineAt u d a) b .0 → NoSlice t
+setup-no-slice t u d a b e = no-slice t (subst ByteFirst (sym e) (setup-first u d a b))

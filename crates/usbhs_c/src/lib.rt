@@ -1,24 +1,23 @@
 // The driver's calls for programs in other languages (include/usbhs.h): a direction is 0 for OUT, else IN, a flag 0 for no, else yes, and any
-// number is safe. Each call answers one word (specs/Word.antt), a question its number.
-pub mod word; // word.rt: an answer's word
+// number is safe. Each call answers one word (crate `answer_word`), a question its number.
 pub mod inputs; // inputs.rt: directions and flags as numbers
 pub mod setup; // setup.rt: a setup packet's bytes
 
+use answer_word::word_of;
 use inputs::dir_of;
 use inputs::flag_of;
 use setup::setup_word;
 use state::STATE_LEN;
-use word::word_of;
 ghost use mathlib.Core.Path.{_≡_};
 ghost use Rattle.state.specs.State.{view};
 ghost use Rattle.script.specs.Statics.{flag};
 ghost use Rattle.script.specs.Machine.{begin, go, start};
-ghost use Rattle.script.specs.Calls.{other, slotted, aside, interrupt, Microframe, Allocate, Start, SetPaced, BusEnable, BusDisable, BusPoll, IsStalled, SetStalled, SetEnabled, BeginSetup, PollSetup, BeginDataOut, PollDataOut, BeginDataIn, PollDataIn, BeginAccept, BeginAcceptSetAddress, PollAccept, BeginReject, Advance, BeginRead, PollRead, BeginWrite, PollWrite, Open, Close, Queue};
+ghost use Rattle.script.specs.Calls.{other, slotted, aside, interrupt, Microframe, Allocate, Start, SetPaced, BusEnable, BusDisable, BusPoll, IsStalled, SetStalled, SetEnabled, BeginSetup, PollSetup, BeginDataOut, PollDataOut, BeginDataIn, PollDataIn, BeginAccept, BeginAcceptSetAddress, PollAccept, BeginReject, Advance, BeginRead, PollRead, BeginWrite, PollWrite, Close, Queue};
 ghost use Prim.Native.Nat.{_%_};
 ghost use lib.ListN.{length};
 ghost use Rattle.way.specs.Under.{configOf};
 ghost use Rattle.way.specs.Questions.{pendingOn, overrunsOn, enabledAsked};
-ghost use Rattle.usbhs_c.specs.Calls.{Answers, AnswersLent, AnswersInto, AnswersOutOf, AnswersStart, AnswersBeside, AnswersShown, dirOf, flagOf};
+ghost use Rattle.usbhs_c.specs.Calls.{Answers, AnswersLent, AnswersInto, AnswersOutOf, AnswersStart, AnswersBeside, AnswersShown, AnswersOpen, dirOf, flagOf};
 
 // Start-up on any state, with the buffer's size and count and whether there is a start-of-frame callback.
 #[no_mangle]
@@ -296,7 +295,7 @@ pub extern "C" fn usbhs_begin_reject(s: &mut [u8; STATE_LEN]) -> u64
 // The isochronous OUT endpoint's oldest packet shown in its slot.
 #[no_mangle]
 pub extern "C" fn usbhs_open(s: &mut [u8; STATE_LEN], slots: &[u8], endpoint: u32) -> u64
-    ensures { λ r. ⌜ AnswersShown r (begin (aside (Open endpoint))) (now (s .entry)) (now (s .exit)) (now (slots .entry)) (now (slots .entry)) ⌝ }
+    ensures { λ r. ⌜ AnswersOpen r endpoint (now (s .entry)) (now (s .exit)) (now (slots .entry)) ⌝ }
 {
     word_of(usbhs::in_place::open(s, slots, endpoint))
 }

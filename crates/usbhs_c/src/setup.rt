@@ -1,11 +1,12 @@
-use crate::word::word_of;
+use answer_word::word_of;
 use way::Step;
 ghost use mathlib.Core.Path.{_≡_};
 ghost use mathlib.Core.List.{[], _++_};
 ghost use Rattle.marks.specs.Copies.{over};
 ghost use Rattle.script.specs.Control.{wordBytes};
 ghost use Rattle.way.specs.Under.{answerOf, lentBy};
-ghost use Rattle.usbhs_c.specs.Word.{Worded};
+ghost use Rattle.usbhs_c.specs.Setup.{NoSlice};
+ghost use Rattle.answer_word.specs.Word.{Worded};
 
 fn sized(_b: &[u8]) {}
 
@@ -36,6 +37,7 @@ fn fill(packet: &mut [u8; 8], low: u32, high: u32)
 
 // The word of setup's poll, with the packet's bytes; no other answer of it brings any.
 pub fn setup_word(packet: &mut [u8; 8], step: Step) -> u64
+    requires { ⌜ NoSlice step ⌝ }
     ensures { λ r. ⌜ Worded r (λ t. answerOf t (now (packet .exit)) ≡ answerOf step []) ⌝ }
     ensures { λ _. ⌜ now (packet .exit) ≡ lentBy (answerOf step []) (now (packet .entry)) ⌝ }
 {

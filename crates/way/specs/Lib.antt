@@ -1,9 +1,8 @@
 pub mod Questions
-pub mod Numbers
-pub mod Endpoints
 pub mod Under
 pub mod Goes
 pub mod Fits
 pub mod Interrupt
 pub mod Rows
 pub mod Lent
+pub mod Tags

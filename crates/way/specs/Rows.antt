@@ -9,14 +9,13 @@ use Rattle.script.specs.Tree.{Out, ends}
 use Rattle.script.specs.Script.{Script, run}
 use Rattle.script.specs.Answers.{Answer, Refused, resultless, staged, named, isNumber, isAllocated}
 use Rattle.script.specs.Handler.{onInterrupt}
-use Rattle.script.specs.Calls.{Other, other, otherCode, Slotted, slotted, slottedCode, Aside, aside, asideCode, asideSlots, interrupt, interruptCode, calls, named-or-0, numbered}
+use Rattle.script.specs.Calls.{Other, other, otherCode, Slotted, slotted, slottedCode, Aside, aside, asideCode, asideSlots, interrupt, interruptCode, calls, numbered}
 use Rattle.script.specs.Machine.{Buf, Way, idle, busy, Machine, Ans, ended, begin, beside}
 use Rattle.ops.specs.Rings.{St}
 use Rattle.ops.specs.Conc.{conc}
 use Rattle.way.specs.declared.Under.{Under}
 use Rattle.way.specs.Under.{wayOf, machineAt, driverOf, drive, haltsAs, halts, slotsFit}
 use Rattle.way.specs.Goes.{Called}
-use Rattle.way.specs.Endpoints.{stallable}
 
 -- nothing is under way
 abbrev pub idleWay : Way Answer Driver → Bool
@@ -178,20 +177,9 @@ row-of true false true u o d b r h = ap (λ (w : Way Answer Driver). (ended (Ref
 row-of true false false u o d b r h = refl
 row-of false false z u o d b r h = refl
 
-past-row : (y : Bool) (o : Out St Answer) (u : Under) (d : Driver) (b : Buf) (r : Called) → cond (eqb (stopOf (isIdle u) 2 (d .globals .stage)) 0) (halts (cond y o (ends (Refused 5) (d, b)))) r ≡ cond (eqb (stopOf (isIdle u) 2 (d .globals .stage)) 0) (cond y (halts o) (ended (Refused 5), machineAt u d b)) r
+pub past-row : (y : Bool) (o : Out St Answer) (u : Under) (d : Driver) (b : Buf) (r : Called) → cond (eqb (stopOf (isIdle u) 2 (d .globals .stage)) 0) (halts (cond y o (ends (Refused 5) (d, b)))) r ≡ cond (eqb (stopOf (isIdle u) 2 (d .globals .stage)) 0) (cond y (halts o) (ended (Refused 5), machineAt u d b)) r
 unfolding stopOf
 past-row y o u d b r = row-of (isIdle u) y (eqb (d .globals .stage) 2) u o d b r refl
-
-pick : {A : Type 0} (x y : Bool) (p q : A) → cond x p (cond y p q) ≡ cond (cond x true y) p q
-pick true y p q = refl
-pick false y p q = refl
-
-stall-row : (dir : Dir) (e : ℕ) (p : Script false Answer) (d : Driver) (b : Buf) → run conc (named-or-0 dir e p) (d, b) ≡ cond (stallable (d .allocator) dir e) (run conc p (d, b)) (ends (Refused 5) (d, b))
-unfolding stallable
-stall-row dir e p d b = pick (eqb e 0) (isAllocated (d .allocator) dir e) (run conc p (d, b)) (ends (Refused 5) (d, b))
-
-pub stall-call : (o : Other) (dir : Dir) (e : ℕ) (p : Script false Answer) (u : Under) (d : Driver) (a b : Buf) → run conc (otherCode o) (d, b) ≡ run conc (staged 2 (named-or-0 dir e p)) (d, b) → drive (begin (other o)) (machineAt u d a) b ≡ rowed (stallable (d .allocator) dir e) u d b p
-stall-call o dir e p u d a b h = other-call o 2 (named-or-0 dir e p) u d a b h ∙ (ap (λ (x : Out St Answer). cond (eqb (stopOf (isIdle u) 2 (d .globals .stage)) 0) (halts x) (ended (Refused (stopOf (isIdle u) 2 (d .globals .stage))), machineAt u d b)) (stall-row dir e p d b) ∙ past-row (stallable (d .allocator) dir e) (run conc p (d, b)) u d b _)
 
 pub numbered-call : (o : Other) (e : ℕ) (p : Script false Answer) (u : Under) (d : Driver) (a b : Buf) → run conc (otherCode o) (d, b) ≡ run conc (staged 2 (numbered e p)) (d, b) → drive (begin (other o)) (machineAt u d a) b ≡ rowed (isNumber e) u d b p
 numbered-call o e p u d a b h = other-call o 2 (numbered e p) u d a b h ∙ past-row (isNumber e) (run conc p (d, b)) u d b _

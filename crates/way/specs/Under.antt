@@ -4,7 +4,7 @@ use mathlib.Core.List.{List, _++_}
 use mathlib.Core.Path.{_≡_, refl, ap}
 use Prim.Native.Nat.{ℕ, _*_}
 use lib.Dec.{eqb}
-use lib.ListN.{length, take}
+use lib.ListN.{length}
 use Rattle.marks.specs.Copies.{bytesAt}
 use Rattle.regs.specs.declared.Access.{Access}
 use Rattle.state.specs.declared.Saved.{Saved}
@@ -27,7 +27,7 @@ use Rattle.driver.specs.Points as driver
 use Rattle.driver.specs.Codec as codec
 use Rattle.bus.specs.Points as bus
 use Rattle.bus.specs.Codec as busCodec
-use Rattle.request.specs.Answers.{broughtBy, lentAfter}
+use Rattle.request.specs.Answers.{front, broughtBy, lentAfter}
 use Rattle.control.specs.Points as control
 use Rattle.control.specs.Codec as controlCodec
 use Rattle.endpoint.specs.Points as endpoint
@@ -152,7 +152,7 @@ answerOf (step.Refused n) out = ended (Refused n)
 answerOf (step.Asks q) out = handed q
 answerOf (step.Ends n w) out = ended (End n w)
 answerOf step.NotYet out = ended NotYet
-answerOf (step.Done n) out = ended (Done (take n out))
+answerOf (step.Done n) out = ended (Done (front n out))
 answerOf (step.Setup low high) out = ended (Done (wordBytes low ++ wordBytes high))
 answerOf (step.Shown at n) out = ended (Shown (bytesAt out at n))
 

@@ -1,9 +1,10 @@
 use crate::Step;
 use crate::Under;
-use crate::saved::saved_as;
+use crate::saved::nothing;
 use iso_in::advance::AdvanceNext;
 use regs::Access;
 use state::STATE_LEN;
+use state::Saved;
 ghost use mathlib.Core.Path.{_≡_};
 ghost use mathlib.Core.Bool.{true};
 ghost use mathlib.Core.List.{List, []};
@@ -19,14 +20,16 @@ ghost use Rattle.control.specs.Points as control;
 ghost use Rattle.endpoint.specs.Points as endpoint;
 ghost use Rattle.iso_in.specs.Advance as advance;
 ghost use Rattle.handler.specs.Points as handler;
-ghost use Rattle.way.specs.Under.{decode, finish, machineAt, machineOf, haltsAs, halts, handedOut, answerOf};
+ghost use Rattle.way.specs.Under.{withTag, encode, decode, finish, machineAt, machineOf, haltsAs, halts, handedOut, answerOf};
 ghost use Rattle.way.specs.Rows.{isIdle};
 
-// The operation is under way: it stands where it handed out the access.
-fn asks(s: &mut [u8; STATE_LEN], q: Access, u: Under) -> Step
-    ensures { λ r. ⌜ ((out b : List ℕ) → (answerOf r out, machineOf (now (s .exit)) b) ≡ handedOut q u (view (now (s .entry))) b) ⌝ }
+// The operation is under way: it stands where it handed out the access, at a point that is saved with its tag.
+fn asks(s: &mut [u8; STATE_LEN], q: Access, p: Saved, tag: u8) -> Step
+    ensures { λ r. ⌜ ((u : Under) → encode u ≡ withTag tag p → (out b : List ℕ) → (answerOf r out, machineOf (now (s .exit)) b) ≡ handedOut q u (view (now (s .entry))) b) ⌝ }
 {
-    state::store_saved(s, saved_as(u));
+    let mut c = p;
+    c.tag = tag;
+    state::store_saved(s, c);
     Step::Asks(q)
 }
 
@@ -34,7 +37,7 @@ fn asks(s: &mut [u8; STATE_LEN], q: Access, u: Under) -> Step
 fn ended(s: &mut [u8; STATE_LEN], n: u16) -> Step
     ensures { λ r. ⌜ ((b : List ℕ) → (answerOf r [], machineOf (now (s .exit)) b) ≡ halts (run conc (finish n) (view (now (s .entry)), b))) ⌝ }
 {
-    state::store_saved(s, saved_as(Under::Idle));
+    state::store_saved(s, nothing());
     let w = state::load_wakes(s);
     Step::Ends(n, w)
 }
@@ -45,7 +48,7 @@ pub fn halted(s: &mut [u8; STATE_LEN], n: driver::Next) -> Step
     ensures { λ r. ⌜ ((b : List ℕ) → (answerOf r [], machineOf (now (s .exit)) b) ≡ halts (bindOut (driver.meaning n (view (now (s .entry))) b) (λ k t. run conc (finish k) t))) ⌝ }
 {
     match n {
-        driver::Next::Asks(q, p) => asks(s, q, Under::Driver(p)),
+        driver::Next::Asks(q, p) => asks(s, q, driver::codec::encode(p), 1),
         driver::Next::Ends(k) => ended(s, k),
     }
 }
@@ -56,7 +59,7 @@ pub fn halted_bus(s: &mut [u8; STATE_LEN], n: bus::Next) -> Step
     ensures { λ r. ⌜ ((b : List ℕ) → (answerOf r [], machineOf (now (s .exit)) b) ≡ halts (bindOut (bus.meaning n (view (now (s .entry))) b) (λ k t. run conc (finish k) t))) ⌝ }
 {
     match n {
-        bus::Next::Asks(q, p) => asks(s, q, Under::Bus(p)),
+        bus::Next::Asks(q, p) => asks(s, q, bus::encode(p), 2),
         bus::Next::Ends(k) => ended(s, k),
     }
 }
@@ -67,7 +70,7 @@ pub fn halted_control(s: &mut [u8; STATE_LEN], n: control::Next) -> Step
     ensures { λ r. ⌜ ((b : List ℕ) → (answerOf r [], machineOf (now (s .exit)) b) ≡ halts (bindOut (control.meaning n (view (now (s .entry))) b) (λ k t. run conc (finish k) t))) ⌝ }
 {
     match n {
-        control::Next::Asks(q, p) => asks(s, q, Under::Control(p)),
+        control::Next::Asks(q, p) => asks(s, q, control::encode(p), 3),
         control::Next::Ends(k) => ended(s, k),
     }
 }
@@ -79,7 +82,7 @@ pub fn begun_control(s: &mut [u8; STATE_LEN], n: control::Begun) -> Step
 {
     match n {
         control::Begun::Refused(k) => Step::Refused(k),
-        control::Begun::Asks(q, p) => asks(s, q, Under::Control(p)),
+        control::Begun::Asks(q, p) => asks(s, q, control::encode(p), 3),
         control::Begun::Ends(k) => ended(s, k),
     }
 }
@@ -94,7 +97,7 @@ pub fn polled_control(s: &mut [u8; STATE_LEN], n: control::Polled) -> Step
         control::Polled::NotYet => Step::NotYet,
         control::Polled::Done(k) => Step::Done(k),
         control::Polled::Setup(low, high) => Step::Setup(low, high),
-        control::Polled::Asks(q, p) => asks(s, q, Under::Control(p)),
+        control::Polled::Asks(q, p) => asks(s, q, control::encode(p), 3),
     }
 }
 
@@ -104,7 +107,7 @@ pub fn halted_endpoint(s: &mut [u8; STATE_LEN], n: endpoint::Next) -> Step
     ensures { λ r. ⌜ ((b : List ℕ) → (answerOf r [], machineOf (now (s .exit)) b) ≡ halts (bindOut (endpoint.meaning n (view (now (s .entry))) b) (λ k t. run conc (finish k) t))) ⌝ }
 {
     match n {
-        endpoint::Next::Asks(q, p) => asks(s, q, Under::Endpoint(p)),
+        endpoint::Next::Asks(q, p) => asks(s, q, endpoint::encode(p), 4),
         endpoint::Next::Ends(k) => ended(s, k),
     }
 }
@@ -115,7 +118,7 @@ pub fn halted_advance(s: &mut [u8; STATE_LEN], n: AdvanceNext) -> Step
     ensures { λ r. ⌜ ((b : List ℕ) → (answerOf r [], machineOf (now (s .exit)) b) ≡ halts (bindOut (advance.meaning n (view (now (s .entry))) b) (λ k t. run conc (finish k) t))) ⌝ }
 {
     match n {
-        AdvanceNext::Asks(q, p) => asks(s, q, Under::Advance(p)),
+        AdvanceNext::Asks(q, p) => asks(s, q, iso_in::codec::encode(p), 5),
         AdvanceNext::Ends(k) => ended(s, k),
     }
 }
@@ -126,7 +129,7 @@ pub fn halted_interrupt(s: &mut [u8; STATE_LEN], n: handler::Next) -> Step
     ensures { λ r. ⌜ ((b : List ℕ) → (answerOf r [], machineOf (now (s .exit)) b) ≡ haltsAs true (bindOut (handler.meaning n (view (now (s .entry))) b) (λ k t. run conc (finish k) t))) ⌝ }
 {
     match n {
-        handler::Next::Asks(q, p) => asks(s, q, Under::Interrupt(p)),
+        handler::Next::Asks(q, p) => asks(s, q, handler_codec::encode(p), 6),
         handler::Next::Ends(k) => ended(s, k),
     }
 }
@@ -138,7 +141,7 @@ pub fn begun_endpoint(s: &mut [u8; STATE_LEN], n: endpoint::Begun) -> Step
 {
     match n {
         endpoint::Begun::Refused(k) => Step::Refused(k),
-        endpoint::Begun::Asks(q, p) => asks(s, q, Under::Endpoint(p)),
+        endpoint::Begun::Asks(q, p) => asks(s, q, endpoint::encode(p), 4),
         endpoint::Begun::Ends(k) => ended(s, k),
     }
 }

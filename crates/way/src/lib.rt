@@ -1,9 +1,7 @@
-// What is under way, which rows stop a call, how one goes on and ends: the machine of calls (specs/Under.antt) that the lent bytes are.
-pub mod endpoints; // endpoints.rt: endpoint numbers (row 5)
+// What is under way, which rows stop a call, how one ends: the machine of calls (specs/Under.antt) that the lent bytes are.
 pub mod saved; // saved.rt: what is under way
 pub mod halts; // halts.rt: how a call ends
 pub mod rows; // rows.rt: rows 1, 3 and 4
-pub mod proceeds; // proceeds.rt: continue
 
 use regs::Access;
 use state::Wakes;

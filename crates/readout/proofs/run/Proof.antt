@@ -6,7 +6,7 @@ use Rattle.readout.proofs.run.Tie as tie
 use Rattle.readout.proofs.run.Reads as reads
 use Rattle.readout.proofs.run.Lts as lts
 use Rattle.readout.proofs.steps.show.Reads as show-reads
-use Rattle.way.proofs.proceeds.proceed.Reads as proceed-reads
+use Rattle.proceeding.proofs.proceed.Reads as proceed-reads
 
 abbrev Inv-loop : tie.InvT-loop
 Inv-loop s₀ slots₀ most step₀ left₀ s slots step left = length slots ≡ length slots₀

@@ -1,6 +1,8 @@
-use Rattle.usbhs_c.specs.Setup.{told-by}
+use mathlib.Core.List.{[]}
+use Rattle.state.specs.State.{view, saved}
+use Rattle.usbhs_c.specs.Setup.{told-by, setup-no-slice}
 use Rattle.way.specs.Goes.{Called}
-use Rattle.way.specs.Under.{lentBy}
+use Rattle.way.specs.Under.{decode, lentBy}
 use denote.Ref.{now}
 use mathlib.Core.Path.{_∙_, ap}
 use borrow.Author.Needs.{needs}
@@ -15,7 +17,9 @@ poll-setup-requires : tie.Need-poll-setup-requires
 poll-setup-requires c κs = search needs
 
 setup-word-requires : tie.Need-setup-word-requires
-setup-word-requires c κs = search needs
+setup-word-requires c κs =
+    setup-no-slice (c .poll-setup .result) (decode (saved (now (c .before .before .before .args .s)))) (view (now (c .before .before .before .args .s))) [] []
+    (ap (λ (x : Called). x .0) (c .poll-setup .ensures [] []))
 
 returns : tie.Need-returns
 returns c = ((c .setup-word .ensures .0 .0, c .setup-word .ensures .0 .1, λ a b. told-by (c .setup-word .ensures .0 .2) (c .before .poll-setup .ensures a b)), λ a b. c .setup-word .ensures .1 ∙ ap (λ (x : Called). lentBy (x .0) (now (c .before .before .before .before .args .packet))) (c .before .poll-setup .ensures a b))

@@ -1,12 +1,12 @@
-use Rattle.usbhs_c.specs.Setup.{take-nil, drop-nil}
-use mathlib.Core.Path.{_∙_}
+use Rattle.usbhs_c.specs.Setup.{take-nil, drop-nil, NoSlice}
+use mathlib.Core.Path.{_∙_, subst}
 use borrow.Author.Needs.{needs}
 use Rattle.usbhs_c.proofs.setup.setup_word.Statement.{statement}
 use Rattle.usbhs_c.proofs.setup.setup_word.Tie as tie
 use Rattle.usbhs_c.proofs.setup.setup_word.Reads as reads
 use Rattle.usbhs_c.proofs.setup.setup_word.Lts as lts
 use Rattle.usbhs_c.proofs.setup.fill.Reads as fill-reads
-use Rattle.usbhs_c.proofs.word.word_of.Reads as word-of-reads
+use Rattle.answer_word.proofs.word_of.Reads as word-of-reads
 
 enum-known-step : tie.Need-enum-known-step
 enum-known-step c = search needs
@@ -57,7 +57,7 @@ returns : tie.Need-returns
 returns c = ((_, c .word-of .ensures, simp (c .before .fill .ensures .0, c .before .before .before .before .step .given .1)), c .before .fill .ensures .1 ∙ simp (c .before .before .before .before .step .given .1))
 
 returns-2 : tie.Need-returns-2
-returns-2 c = ((_, c .word-of2 .ensures, simp (take-nil, c .before .before .step2 .given .1)), simp (take-nil, c .before .before .step2 .given .1))
+returns-2 c = absurd (subst NoSlice (c .before .before .step2 .given .1) (c .before .before .before .before .pre))
 
 returns-3 : tie.Need-returns-3
 returns-3 c = ((_, c .word-of3 .ensures, simp (take-nil, drop-nil, c .before .before .step3 .given .1)), simp (take-nil, drop-nil, c .before .before .step3 .given .1))

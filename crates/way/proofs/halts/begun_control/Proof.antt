@@ -1,3 +1,4 @@
+use Rattle.way.specs.Tags.{as-control}
 use Rattle.way.specs.Fits.{linked-begun}
 use mathlib.Core.List.{[]}
 use Rattle.way.specs.Rows.{ends-idle}
@@ -19,6 +20,9 @@ enum-known-n c = search needs
 enum-known-n-2 : tie.Need-enum-known-n-2
 enum-known-n-2 c = search needs
 
+encode-requires : tie.Need-encode-requires
+encode-requires c κs = search needs
+
 asks-requires : tie.Need-asks-requires
 asks-requires c κs = search needs
 
@@ -32,7 +36,7 @@ returns : tie.Need-returns
 returns c b = ends-idle (decode (saved (now (c .before .before .before .args .s)))) (view (now (c .before .before .before .args .s))) b _ (c .before .before .before .pre .1) ∙ simp (c .before .n .given .1)
 
 returns-2 : tie.Need-returns-2
-returns-2 c b = c .asks .ensures [] b ∙ simp (c .before .before .before .n2 .given .1, linked-begun _ _ _ (c .before .before .before .n2 .given .1) (c .before .before .before .before .before .pre .0))
+returns-2 c b = c .asks .ensures _ (as-control _ _ (c .before .encode .ensures)) [] b ∙ simp (c .before .before .before .before .n2 .given .1, linked-begun _ _ _ (c .before .before .before .before .n2 .given .1) (c .before .before .before .before .before .before .pre .0))
 
 returns-3 : tie.Need-returns-3
 returns-3 c b = simp (c .ended .ensures, c .before .before .before .n3 .given .1)
@@ -43,6 +47,7 @@ begun-control-spec =
     (tie.spec
     enum-known-n
     enum-known-n-2
+    encode-requires
     asks-requires
     enum-known-n-3
     ended-requires

@@ -1,4 +1,4 @@
-use Rattle.way.specs.Under.{decode-encode}
+use Rattle.way.specs.Under.{decode}
 use borrow.Author.Needs.{needs}
 use Rattle.way.proofs.halts.ended.Statement.{statement}
 use Rattle.way.proofs.halts.ended.Tie as tie
@@ -6,10 +6,10 @@ use Rattle.way.proofs.halts.ended.Reads as reads
 use Rattle.way.proofs.halts.ended.Lts as lts
 use Rattle.state.proofs.load_wakes.Reads as load-wakes-reads
 use Rattle.state.proofs.store_saved.Reads as store-saved-reads
-use Rattle.way.proofs.saved.saved_as.Reads as saved-as-reads
+use Rattle.way.proofs.saved.nothing.Reads as nothing-reads
 
-saved-as-requires : tie.Need-saved-as-requires
-saved-as-requires c κs = search needs
+nothing-requires : tie.Need-nothing-requires
+nothing-requires c κs = search needs
 
 store-saved-requires : tie.Need-store-saved-requires
 store-saved-requires c κs = search needs
@@ -18,8 +18,9 @@ load-wakes-requires : tie.Need-load-wakes-requires
 load-wakes-requires c κs = search needs
 
 returns : tie.Need-returns
-returns c b = simp (c .load-wakes .ensures, c .before .before .store-saved .ensures .0, c .before .before .store-saved .ensures .1, c .before .before .before .saved-as .ensures, decode-encode)
+unfolding decode
+returns c b = simp (c .load-wakes .ensures, c .before .before .store-saved .ensures .0, c .before .before .store-saved .ensures .1, c .before .before .before .nothing .ensures)
 
 pub ended-spec : {M : Type 1} → statement M
 ended-spec =
-    tie.close (tie.spec saved-as-requires store-saved-requires load-wakes-requires returns)
+    tie.close (tie.spec nothing-requires store-saved-requires load-wakes-requires returns)

@@ -1,3 +1,4 @@
+use Rattle.way.specs.Tags.{as-control}
 use Rattle.way.specs.Fits.{linked-polled}
 use Rattle.way.specs.Rows.{ends-idle}
 use Rattle.way.specs.Under.{decode}
@@ -26,6 +27,9 @@ enum-known-n-3 c = search needs
 enum-known-n-4 : tie.Need-enum-known-n-4
 enum-known-n-4 c = search needs
 
+encode-requires : tie.Need-encode-requires
+encode-requires c κs = search needs
+
 asks-requires : tie.Need-asks-requires
 asks-requires c κs = search needs
 
@@ -42,7 +46,7 @@ returns-4 : tie.Need-returns-4
 returns-4 c out b = ends-idle (decode (saved (now (c .before .before .before .args .s)))) (view (now (c .before .before .before .args .s))) b _ (c .before .before .before .pre .1) ∙ simp (c .before .n3 .given .1)
 
 returns-5 : tie.Need-returns-5
-returns-5 c out b = c .asks .ensures out b ∙ simp (c .before .before .before .n4 .given .1, linked-polled _ _ _ (c .before .before .before .n4 .given .1) (c .before .before .before .before .before .pre .0))
+returns-5 c out b = c .asks .ensures _ (as-control _ _ (c .before .encode .ensures)) out b ∙ simp (c .before .before .before .before .n4 .given .1, linked-polled _ _ _ (c .before .before .before .before .n4 .given .1) (c .before .before .before .before .before .before .pre .0))
 
 pub polled-control-spec : {M : Type 1} → statement M
 polled-control-spec =
@@ -53,6 +57,7 @@ polled-control-spec =
     enum-known-n-2
     enum-known-n-3
     enum-known-n-4
+    encode-requires
     asks-requires
     returns
     returns-2

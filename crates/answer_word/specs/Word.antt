@@ -1,0 +1,58 @@
+-- A call's answer as one word of 64 bits: the kind in bits 0-3, then each number at the bit that include/usbhs.h says
+use mathlib.Core.Path.{_≡_}
+use Prim.Native.Nat.{ℕ, _+_, _*_, _^_}
+use Rattle.regs.specs.declared.Access.{Access}
+use Rattle.regs.specs.declared.Access.the-variants.{Read, Write, Receive, Transmit, Ep0Dma, Wait, Callback}
+use Rattle.regs.specs.Registers.{numberOf}
+use Rattle.state.specs.declared.Wakes.{Wakes}
+use Rattle.way.specs.declared.Step.{Step}
+use Rattle.way.specs.declared.Step.the-variants.{Refused, Asks, Ends, NotYet, Done, Setup, Shown}
+use Rattle.answer_word.specs.Parts.{stepOf, spoken}
+
+-- kind 1: register 8-15, endpoint 16-23
+abbrev pub readWord : ℕ → ℕ → ℕ
+readWord register endpoint = 1 + register * 2 ^ 8 + endpoint * 2 ^ 16
+
+-- kind 2: register 8-15, endpoint 16-23, value 32-63
+abbrev pub writeWord : ℕ → ℕ → ℕ → ℕ
+writeWord register endpoint value = 2 + register * 2 ^ 8 + endpoint * 2 ^ 16 + value * 2 ^ 32
+
+-- kinds 1 to 4: the access handed out; the registers 12, 15 and 16 are ep0_dma, ep_rx_dma and ep_tx_dma
+unfoldable pub accessWord : Access → ℕ
+accessWord (Read r e) = readWord (numberOf r) e
+accessWord (Write r e x) = writeWord (numberOf r) e x
+accessWord (Receive e x) = writeWord 15 e x
+accessWord (Transmit e x) = writeWord 16 e x
+accessWord (Ep0Dma x) = writeWord 12 0 x
+accessWord (Wait microseconds) = 3 + microseconds * 2 ^ 8
+accessWord Callback = 4
+
+-- kind 5: result 8-23; wake-ups: 24-39 IN 0-15, 40-55 OUT 0-15, 56 bus
+unfoldable pub endWord : ℕ → Wakes → ℕ
+endWord n w = 5 + n * 2 ^ 8 + w .ins * 2 ^ 24 + w .outs * 2 ^ 40 + w .bus * 2 ^ 56
+
+-- kind 7: length 8-23
+abbrev pub doneWord : ℕ → ℕ
+doneWord n = 7 + n * 2 ^ 8
+
+-- kind 8: length 8-23, offset into the slots 32-63
+abbrev pub shownWord : ℕ → ℕ → ℕ
+shownWord at n = 8 + n * 2 ^ 8 + at * 2 ^ 32
+
+-- kind 0: the row's number 8-15; kind 6: not yet. A setup packet has no word of its own: its 8 bytes are in the caller's packet
+unfoldable pub wordOf : Step → ℕ
+wordOf (Refused n) = n * 2 ^ 8
+wordOf (Asks q) = accessWord q
+wordOf (Ends n w) = endWord n w
+wordOf NotYet = 6
+wordOf (Done n) = doneWord n
+wordOf (Setup low high) = doneWord 8
+wordOf (Shown at n) = shownWord at n
+
+-- the word is the answer's, and is read back as it
+unfoldable pub Says : ℕ → Step → Type 0
+Says r step = (r ≡ wordOf step) × (stepOf r ≡ spoken step)
+
+-- it says an answer of which P holds
+abbrev pub Worded : ℕ → (Step → Type 0) → Type 0
+Worded r P = (step : Step) × Says r step × P step

@@ -1,0 +1,70 @@
+use Rattle.handler.specs.Laws.{after, in-frame, paced-told, tells, test-yes}
+use Rattle.handler.specs.Tails.{afterDispatch, thenCheck}
+use Rattle.ops.specs.Conc.{conc}
+use Rattle.script.specs.Script.{run}
+use mathlib.Core.Bool.{false, true}
+use mathlib.Core.Path.{_∙_}
+use borrow.Author.Needs.{needs}
+use Rattle.arms.proofs.iso_in_arm.Statement.{statement}
+use Rattle.arms.proofs.iso_in_arm.Tie as tie
+
+endpoint-requires : tie.Need-endpoint-requires
+endpoint-requires c κs = search needs
+
+load-globals-requires : tie.Need-load-globals-requires
+load-globals-requires c κs = search needs
+
+mask-has-requires : tie.Need-mask-has-requires
+mask-has-requires c κs = search needs
+
+after-dispatch-requires : tie.Need-after-dispatch-requires
+after-dispatch-requires c κs = search needs
+
+same-length : tie.Need-same-length
+same-length c = search needs
+
+returns : tie.Need-returns
+returns c = (c .before .before .after-dispatch .ensures .0 ∙ test-yes (thenCheck (c .before .before .before .before .before .before .before .before .before .before .before .args .setup) (c .before .before .before .before .before .before .before .before .before .before .before .args .x) (c .before .before .before .before .before .before .before .before .before .before .before .args .iso)) _ _ _ (paced-told _ _ _ _ _ _ (c .before .before .before .before .before .before .mask-has .ensures) (c .before .before .before .before .before .before .before .load-globals .ensures) (c .before .before .before .before .before .before .before .before .before .endpoint .ensures) (c .before .before .before .before .before .if1 .taken)), (c .before .before .after-dispatch .ensures .1 .0, c .before .before .after-dispatch .ensures .1 .1))
+
+first-in-frame-requires : tie.Need-first-in-frame-requires
+first-in-frame-requires c κs = search needs
+
+begin-requires : tie.Need-begin-requires
+begin-requires c κs = search needs
+
+then-complete-requires : tie.Need-then-complete-requires
+then-complete-requires c κs = c .before .before .begin .ensures .1 .1
+
+same-length-2 : tie.Need-same-length-2
+same-length-2 c = search needs
+
+returns-2 : tie.Need-returns-2
+returns-2 c = (c .before .before .then-complete .ensures .0 ∙ (after (c .before .before .before .before .before .before .before .before .before .before .before .before .before .before .before .before .args .setup) (λ _ u. run conc (afterDispatch (c .before .before .before .before .before .before .before .before .before .before .before .before .before .before .before .before .args .x) (c .before .before .before .before .before .before .before .before .before .before .before .before .before .before .before .before .args .iso)) u) _ _ (c .before .before .before .before .before .begin .ensures .0 _) ∙ in-frame (thenCheck (c .before .before .before .before .before .before .before .before .before .before .before .before .before .before .before .before .args .setup) (c .before .before .before .before .before .before .before .before .before .before .before .before .before .before .before .before .args .x) (c .before .before .before .before .before .before .before .before .before .before .before .before .before .before .before .before .args .iso)) _ _ _ _ _ ((c .before .before .before .before .before .before .before .before .before .before .before .before .before .before .before .before .args .x) .st) true (c .before .before .before .before .before .before .before .before .before .before .before .before .before .before .endpoint .ensures) (c .before .before .before .before .before .before .before .before .first-in-frame .ensures .1 .0) (tells _ _ _ (c .before .before .before .before .before .before .before .before .first-in-frame .ensures .0) (c .before .before .before .before .before .before .before .if2 .taken)) (paced-told _ _ _ _ _ _ (c .before .before .before .before .before .before .before .before .before .before .before .mask-has .ensures) (c .before .before .before .before .before .before .before .before .before .before .before .before .load-globals .ensures) (c .before .before .before .before .before .before .before .before .before .before .before .before .before .before .endpoint .ensures) (c .before .before .before .before .before .before .before .before .before .before .if1 .left))), (c .before .before .then-complete .ensures .1 .0 ∙ (c .before .before .before .before .before .begin .ensures .1 .0 ∙ c .before .before .before .before .before .before .before .before .first-in-frame .ensures .1 .1), c .before .before .then-complete .ensures .1 .1))
+
+after-dispatch-requires-2 : tie.Need-after-dispatch-requires-2
+after-dispatch-requires-2 c κs = search needs
+
+same-length-3 : tie.Need-same-length-3
+same-length-3 c = search needs
+
+returns-3 : tie.Need-returns-3
+returns-3 c = (c .before .before .after-dispatch2 .ensures .0 ∙ in-frame (thenCheck (c .before .before .before .before .before .before .before .before .before .before .before .before .before .before .args .setup) (c .before .before .before .before .before .before .before .before .before .before .before .before .before .before .args .x) (c .before .before .before .before .before .before .before .before .before .before .before .before .before .before .args .iso)) _ _ _ _ _ ((c .before .before .before .before .before .before .before .before .before .before .before .before .before .before .args .x) .st) false (c .before .before .before .before .before .before .before .before .before .before .before .before .endpoint .ensures) (c .before .before .before .before .before .before .first-in-frame .ensures .1 .0) (tells _ _ _ (c .before .before .before .before .before .before .first-in-frame .ensures .0) (c .before .before .before .before .before .if2 .left)) (paced-told _ _ _ _ _ _ (c .before .before .before .before .before .before .before .before .before .mask-has .ensures) (c .before .before .before .before .before .before .before .before .before .before .load-globals .ensures) (c .before .before .before .before .before .before .before .before .before .before .before .before .endpoint .ensures) (c .before .before .before .before .before .before .before .before .if1 .left)), (c .before .before .after-dispatch2 .ensures .1 .0 ∙ c .before .before .before .before .before .before .first-in-frame .ensures .1 .1, c .before .before .after-dispatch2 .ensures .1 .1))
+
+pub iso-in-arm-spec : {M : Type 1} → statement M
+iso-in-arm-spec =
+    tie.close
+    (tie.spec
+    endpoint-requires
+    load-globals-requires
+    mask-has-requires
+    after-dispatch-requires
+    same-length
+    returns
+    first-in-frame-requires
+    begin-requires
+    then-complete-requires
+    same-length-2
+    returns-2
+    after-dispatch-requires-2
+    same-length-3
+    returns-3)

@@ -1,0 +1,60 @@
+use Rattle.handler.specs.Laws.{at-zero, tells, test-no, test-yes}
+use Rattle.handler.specs.Tails.{thenCheck}
+use borrow.Author.Tests.{eq-eqb, ne-eqb}
+use mathlib.Core.Path.{_∙_, refl}
+use borrow.Author.Needs.{needs}
+use Rattle.arms.proofs.out_arm.Statement.{statement}
+use Rattle.arms.proofs.out_arm.Tie as tie
+
+after-dispatch-requires : tie.Need-after-dispatch-requires
+after-dispatch-requires c κs = search needs
+
+same-length : tie.Need-same-length
+same-length c = search needs
+
+returns : tie.Need-returns
+returns c = (c .before .before .after-dispatch .ensures .0 ∙ test-yes (thenCheck (c .before .before .before .before .before .before .before .args .setup) (c .before .before .before .before .before .before .before .args .x) (c .before .before .before .before .before .before .before .args .iso)) (c .before .before .before .before .before .before .before .args .iso) _ _ (c .before .before .before .before .before .if1 .taken), (c .before .before .after-dispatch .ensures .1 .0, c .before .before .after-dispatch .ensures .1 .1))
+
+endpoint-requires : tie.Need-endpoint-requires
+endpoint-requires c κs = search needs
+
+tog-ok-requires : tie.Need-tog-ok-requires
+tog-ok-requires c κs = search needs
+
+returns-2 : tie.Need-returns-2
+returns-2 c = (test-yes (thenCheck (c .before .before .before .before .before .before .args .setup) (c .before .before .before .before .before .before .args .x) (c .before .before .before .before .before .before .args .iso)) _ _ _ (tells _ _ _ (c .before .tog-ok .ensures) (c .if3 .taken)) ∙ (test-yes (thenCheck (c .before .before .before .before .before .before .args .setup) (c .before .before .before .before .before .before .args .x) (c .before .before .before .before .before .before .args .iso)) _ _ _ (at-zero _ _ _ (c .before .before .before .endpoint .ensures) (eq-eqb _ _ (c .before .before .if2 .taken))) ∙ test-no (thenCheck (c .before .before .before .before .before .before .args .setup) (c .before .before .before .before .before .before .args .x) (c .before .before .before .before .before .before .args .iso)) (c .before .before .before .before .before .before .args .iso) _ _ (c .before .before .before .before .if1 .left)), (refl, refl))
+
+after-dispatch-requires-2 : tie.Need-after-dispatch-requires-2
+after-dispatch-requires-2 c κs = search needs
+
+same-length-2 : tie.Need-same-length-2
+same-length-2 c = search needs
+
+returns-3 : tie.Need-returns-3
+returns-3 c = (c .before .before .after-dispatch2 .ensures .0 ∙ (test-no (thenCheck (c .before .before .before .before .before .before .before .before .before .before .before .args .setup) (c .before .before .before .before .before .before .before .before .before .before .before .args .x) (c .before .before .before .before .before .before .before .before .before .before .before .args .iso)) _ _ _ (tells _ _ _ (c .before .before .before .before .before .before .tog-ok .ensures) (c .before .before .before .before .before .if3 .left)) ∙ (test-yes (thenCheck (c .before .before .before .before .before .before .before .before .before .before .before .args .setup) (c .before .before .before .before .before .before .before .before .before .before .before .args .x) (c .before .before .before .before .before .before .before .before .before .before .before .args .iso)) _ _ _ (at-zero _ _ _ (c .before .before .before .before .before .before .before .before .endpoint .ensures) (eq-eqb _ _ (c .before .before .before .before .before .before .before .if2 .taken))) ∙ test-no (thenCheck (c .before .before .before .before .before .before .before .before .before .before .before .args .setup) (c .before .before .before .before .before .before .before .before .before .before .before .args .x) (c .before .before .before .before .before .before .before .before .before .before .before .args .iso)) (c .before .before .before .before .before .before .before .before .before .before .before .args .iso) _ _ (c .before .before .before .before .before .before .before .before .before .if1 .left))), (c .before .before .after-dispatch2 .ensures .1 .0, c .before .before .after-dispatch2 .ensures .1 .1))
+
+toggled-arm-requires : tie.Need-toggled-arm-requires
+toggled-arm-requires c κs = search needs
+
+same-length-3 : tie.Need-same-length-3
+same-length-3 c = search needs
+
+returns-4 : tie.Need-returns-4
+returns-4 c = (c .before .before .toggled-arm .ensures .0 ∙ (test-no (thenCheck (c .before .before .before .before .before .before .before .before .before .args .setup) (c .before .before .before .before .before .before .before .before .before .args .x) (c .before .before .before .before .before .before .before .before .before .args .iso)) _ _ _ (at-zero _ _ _ (c .before .before .before .before .before .before .endpoint .ensures) (ne-eqb _ _ (c .before .before .before .before .before .if2 .left))) ∙ test-no (thenCheck (c .before .before .before .before .before .before .before .before .before .args .setup) (c .before .before .before .before .before .before .before .before .before .args .x) (c .before .before .before .before .before .before .before .before .before .args .iso)) (c .before .before .before .before .before .before .before .before .before .args .iso) _ _ (c .before .before .before .before .before .before .before .if1 .left)), (c .before .before .toggled-arm .ensures .1 .0, c .before .before .toggled-arm .ensures .1 .1))
+
+pub out-arm-spec : {M : Type 1} → statement M
+out-arm-spec =
+    tie.close
+    (tie.spec
+    after-dispatch-requires
+    same-length
+    returns
+    endpoint-requires
+    tog-ok-requires
+    returns-2
+    after-dispatch-requires-2
+    same-length-2
+    returns-3
+    toggled-arm-requires
+    same-length-3
+    returns-4)

@@ -1,0 +1,47 @@
+use Rattle.handler.specs.Laws.{after, sof-handled, when-no, when-yes}
+use Rattle.handler.specs.Tails.{afterDispatch}
+use Rattle.ops.specs.Conc.{conc}
+use Rattle.script.specs.IsoIn.{onSof}
+use Rattle.script.specs.Script.{run}
+use borrow.Author.Tests.{eq-eqb, ne-eqb}
+use mathlib.Core.Path.{_∙_}
+use borrow.Author.Needs.{needs}
+use Rattle.arms.proofs.sof_arm.Statement.{statement}
+use Rattle.arms.proofs.sof_arm.Tie as tie
+
+load-globals-requires : tie.Need-load-globals-requires
+load-globals-requires c κs = search needs
+
+after-dispatch-requires : tie.Need-after-dispatch-requires
+after-dispatch-requires c κs = search needs
+
+same-length : tie.Need-same-length
+same-length c = search needs
+
+returns : tie.Need-returns
+returns c = (c .before .before .after-dispatch .ensures .0 ∙ when-no (c .before .before .before .before .before .before .before .before .before .before .args .setup) (onSof (c .before .before .before .before .before .before .before .before .before .before .args .frame)) (λ _ u. run conc (afterDispatch (c .before .before .before .before .before .before .before .before .before .before .args .x) (c .before .before .before .before .before .before .before .before .before .before .args .iso)) u) _ _ (sof-handled _ _ _ _ (c .before .before .before .before .before .before .before .load-globals .ensures) (eq-eqb _ _ (c .before .before .before .before .before .if1 .taken))), (c .before .before .after-dispatch .ensures .1 .0, c .before .before .after-dispatch .ensures .1 .1))
+
+begin-requires : tie.Need-begin-requires
+begin-requires c κs = search needs
+
+then-sof-arm-requires : tie.Need-then-sof-arm-requires
+then-sof-arm-requires c κs = c .before .before .begin .ensures .1 .1
+
+same-length-2 : tie.Need-same-length-2
+same-length-2 c = search needs
+
+returns-2 : tie.Need-returns-2
+returns-2 c = (c .before .before .then-sof-arm .ensures .0 ∙ (after (c .before .before .before .before .before .before .before .before .before .before .before .before .args .setup) (λ _ u. run conc (afterDispatch (c .before .before .before .before .before .before .before .before .before .before .before .before .args .x) (c .before .before .before .before .before .before .before .before .before .before .before .before .args .iso)) u) _ _ (c .before .before .before .before .before .begin .ensures .0 _) ∙ when-yes (c .before .before .before .before .before .before .before .before .before .before .before .before .args .setup) (onSof (c .before .before .before .before .before .before .before .before .before .before .before .before .args .frame)) (λ _ u. run conc (afterDispatch (c .before .before .before .before .before .before .before .before .before .before .before .before .args .x) (c .before .before .before .before .before .before .before .before .before .before .before .before .args .iso)) u) _ _ (sof-handled _ _ _ _ (c .before .before .before .before .before .before .before .before .before .load-globals .ensures) (ne-eqb _ _ (c .before .before .before .before .before .before .before .if1 .left)))), (c .before .before .then-sof-arm .ensures .1 .0 ∙ c .before .before .before .before .before .begin .ensures .1 .0, c .before .before .then-sof-arm .ensures .1 .1))
+
+pub sof-arm-spec : {M : Type 1} → statement M
+sof-arm-spec =
+    tie.close
+    (tie.spec
+    load-globals-requires
+    after-dispatch-requires
+    same-length
+    returns
+    begin-requires
+    then-sof-arm-requires
+    same-length-2
+    returns-2)

@@ -1,0 +1,44 @@
+use Rattle.way.specs.Rows.{back, interrupt-call}
+use Rattle.way.specs.Under.{decode}
+use Rattle.state.specs.State.{view, saved}
+use denote.Ref.{now}
+use mathlib.Core.Path.{_∙_}
+use borrow.Author.Tests.{eq-eqb, ne-eqb}
+use borrow.Author.Needs.{needs}
+use Rattle.driver_calls.proofs.begins.begin_interrupt.Statement.{statement}
+use Rattle.driver_calls.proofs.begins.begin_interrupt.Tie as tie
+use Rattle.driver_calls.proofs.begins.begin_interrupt.Reads as reads
+use Rattle.driver_calls.proofs.begins.begin_interrupt.Lts as lts
+use Rattle.handler.proofs.begin.Reads as begin-reads
+use Rattle.state.proofs.clear_wakes.Reads as clear-wakes-reads
+use Rattle.way.proofs.halts.halted_interrupt.Reads as halted-interrupt-reads
+use Rattle.way.proofs.rows.stop.Reads as stop-reads
+
+stop-requires : tie.Need-stop-requires
+stop-requires c κs = search needs
+
+clear-wakes-requires : tie.Need-clear-wakes-requires
+clear-wakes-requires c κs = search needs
+
+begin-requires : tie.Need-begin-requires
+begin-requires c κs = search needs
+
+halted-interrupt-requires : tie.Need-halted-interrupt-requires
+halted-interrupt-requires c κs = c .begin .ensures .1
+
+returns : tie.Need-returns
+returns c a b = back (interrupt-call (decode (saved (now (c .before .before .before .before .before .before .before .before .args .s)))) (view (now (c .before .before .before .before .before .before .before .before .args .s))) a b) (c .halted-interrupt .ensures b ∙ simp (c .before .begin .ensures .0, c .before .before .before .clear-wakes .ensures .0, ← c .before .before .before .before .before .before .stop .ensures, eq-eqb _ _ (c .before .before .before .before .before .if1 .taken)))
+
+returns-2 : tie.Need-returns-2
+returns-2 c a b = back (interrupt-call (decode (saved (now (c .before .before .before .args .s)))) (view (now (c .before .before .before .args .s))) a b) (simp (← c .before .stop .ensures, ne-eqb _ _ (c .if1 .left)))
+
+pub begin-interrupt-spec : {M : Type 1} → statement M
+begin-interrupt-spec =
+    tie.close
+    (tie.spec
+    stop-requires
+    clear-wakes-requires
+    begin-requires
+    halted-interrupt-requires
+    returns
+    returns-2)

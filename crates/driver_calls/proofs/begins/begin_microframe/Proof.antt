@@ -1,0 +1,47 @@
+use Rattle.way.specs.Rows.{back, other-call}
+use Rattle.script.specs.Calls as calls
+use Rattle.script.specs.Answers.{operation}
+use Rattle.script.specs.IsoIn as script
+use Rattle.way.specs.Under.{decode}
+use Rattle.state.specs.State.{view, saved}
+use denote.Ref.{now}
+use mathlib.Core.Path.{_∙_, refl}
+use borrow.Author.Tests.{eq-eqb, ne-eqb}
+use borrow.Author.Needs.{needs}
+use Rattle.driver_calls.proofs.begins.begin_microframe.Statement.{statement}
+use Rattle.driver_calls.proofs.begins.begin_microframe.Tie as tie
+use Rattle.driver_calls.proofs.begins.begin_microframe.Reads as reads
+use Rattle.driver_calls.proofs.begins.begin_microframe.Lts as lts
+use Rattle.driver.proofs.microframe.Reads as microframe-reads
+use Rattle.state.proofs.clear_wakes.Reads as clear-wakes-reads
+use Rattle.way.proofs.halts.halted.Reads as halted-reads
+use Rattle.way.proofs.rows.stop.Reads as stop-reads
+
+stop-requires : tie.Need-stop-requires
+stop-requires c κs = search needs
+
+clear-wakes-requires : tie.Need-clear-wakes-requires
+clear-wakes-requires c κs = search needs
+
+microframe-requires : tie.Need-microframe-requires
+microframe-requires c κs = search needs
+
+halted-requires : tie.Need-halted-requires
+halted-requires c κs = c .microframe .ensures .1
+
+returns : tie.Need-returns
+returns c a b = back (other-call calls.Microframe 2 (operation script.microframe) (decode (saved (now (c .before .before .before .before .before .before .before .before .args .s)))) (view (now (c .before .before .before .before .before .before .before .before .args .s))) a b refl) (c .halted .ensures b ∙ simp (c .before .microframe .ensures .0, c .before .before .before .clear-wakes .ensures .0, ← c .before .before .before .before .before .before .stop .ensures, eq-eqb _ _ (c .before .before .before .before .before .if1 .taken)))
+
+returns-2 : tie.Need-returns-2
+returns-2 c a b = back (other-call calls.Microframe 2 (operation script.microframe) (decode (saved (now (c .before .before .before .args .s)))) (view (now (c .before .before .before .args .s))) a b refl) (simp (← c .before .stop .ensures, ne-eqb _ _ (c .if1 .left)))
+
+pub begin-microframe-spec : {M : Type 1} → statement M
+begin-microframe-spec =
+    tie.close
+    (tie.spec
+    stop-requires
+    clear-wakes-requires
+    microframe-requires
+    halted-requires
+    returns
+    returns-2)

@@ -1,0 +1,40 @@
+use Rattle.way.specs.Rows.{back, aside-call}
+use Rattle.endpoint_calls.specs.AtOnce.{told-beside}
+use Rattle.script.specs.Calls as calls
+use Rattle.way.specs.Under.{decode}
+use Rattle.state.specs.State.{view, saved}
+use denote.Ref.{now}
+use mathlib.Core.Path.{_∙_, sym}
+use borrow.Author.Needs.{needs}
+use Rattle.endpoint_calls.proofs.in_place.close.Statement.{statement}
+use Rattle.endpoint_calls.proofs.in_place.close.Tie as tie
+use Rattle.endpoint_calls.proofs.in_place.close.Reads as reads
+use Rattle.endpoint_calls.proofs.in_place.close.Lts as lts
+use Rattle.packets.proofs.close.Reads as close-reads
+use Rattle.way.proofs.saved.may_pass.Reads as may-pass-reads
+use Rattle.endpoint_calls.proofs.in_place.told.Reads as told-reads
+
+may-pass-requires : tie.Need-may-pass-requires
+may-pass-requires c κs = search needs
+
+close-requires : tie.Need-close-requires
+close-requires c κs = search needs
+
+told-requires : tie.Need-told-requires
+told-requires c κs = search needs
+
+returns : tie.Need-returns
+returns c a b = back (aside-call (calls.Close (c .before .before .before .before .before .before .args .e)) (decode (saved (now (c .before .before .before .before .before .before .args .s)))) (view (now (c .before .before .before .before .before .before .args .s))) a b) (told-beside _ _ (view (now (c .before .before .before .before .before .before .args .s))) b _ _ _ (c .told .result) (c .before .close .result) (c .told .ensures .0) (c .before .close .ensures .1) (sym (c .before .before .before .before .may-pass .ensures) ∙ c .before .before .before .if1 .taken) (c .before .close .ensures .0 b))
+
+returns-2 : tie.Need-returns-2
+returns-2 c a b = back (aside-call (calls.Close (c .before .before .before .args .e)) (decode (saved (now (c .before .before .before .args .s)))) (view (now (c .before .before .before .args .s))) a b) (simp (← c .before .may-pass .ensures, c .if1 .left))
+
+pub close-spec : {M : Type 1} → statement M
+close-spec =
+    tie.close
+    (tie.spec
+    may-pass-requires
+    close-requires
+    told-requires
+    returns
+    returns-2)

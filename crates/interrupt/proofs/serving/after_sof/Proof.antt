@@ -1,0 +1,44 @@
+use Rattle.handler.specs.Laws.{after, when-no, when-yes}
+use Rattle.handler.specs.Tails.{afterLate, afterSof}
+use Rattle.iso_in.specs.Late.{lateAll}
+use Rattle.ops.specs.Conc.{conc}
+use Rattle.script.specs.Script.{run}
+use mathlib.Core.Path.{_∙_}
+use borrow.Author.Needs.{needs}
+use Rattle.interrupt.proofs.serving.after_sof.Statement.{statement}
+use Rattle.interrupt.proofs.serving.after_sof.Tie as tie
+
+begin-requires : tie.Need-begin-requires
+begin-requires c κs = search needs
+
+then-late-requires : tie.Need-then-late-requires
+then-late-requires c κs = c .before .before .begin .ensures .1 .1
+
+same-length : tie.Need-same-length
+same-length c = search needs
+
+returns : tie.Need-returns
+unfolding afterSof
+returns c = (c .before .before .then-late .ensures .0 ∙ (after (c .before .before .before .before .before .before .before .before .before .args .setup) (λ _ u. run conc (afterLate (c .before .before .before .before .before .before .before .before .before .args .x) (c .before .before .before .before .before .before .before .before .before .args .iso) (c .before .before .before .before .before .before .before .before .before .args .frame)) u) _ _ (c .before .before .before .before .before .begin .ensures .0 _) ∙ when-yes (c .before .before .before .before .before .before .before .before .before .args .setup) (lateAll (c .before .before .before .before .before .before .before .before .before .args .frame)) (λ _ u. run conc (afterLate (c .before .before .before .before .before .before .before .before .before .args .x) (c .before .before .before .before .before .before .before .before .before .args .iso) (c .before .before .before .before .before .before .before .before .before .args .frame)) u) _ _ (c .before .before .before .before .before .before .before .if1 .taken)), (c .before .before .then-late .ensures .1 .0 ∙ c .before .before .before .before .before .begin .ensures .1 .0, c .before .before .then-late .ensures .1 .1))
+
+after-late-requires : tie.Need-after-late-requires
+after-late-requires c κs = search needs
+
+same-length-2 : tie.Need-same-length-2
+same-length-2 c = search needs
+
+returns-2 : tie.Need-returns-2
+unfolding afterSof
+returns-2 c = (c .before .before .after-late .ensures .0 ∙ when-no (c .before .before .before .before .before .before .before .args .setup) (lateAll (c .before .before .before .before .before .before .before .args .frame)) (λ _ u. run conc (afterLate (c .before .before .before .before .before .before .before .args .x) (c .before .before .before .before .before .before .before .args .iso) (c .before .before .before .before .before .before .before .args .frame)) u) _ _ (c .before .before .before .before .before .if1 .left), (c .before .before .after-late .ensures .1 .0, c .before .before .after-late .ensures .1 .1))
+
+pub after-sof-spec : {M : Type 1} → statement M
+after-sof-spec =
+    tie.close
+    (tie.spec
+    begin-requires
+    then-late-requires
+    same-length
+    returns
+    after-late-requires
+    same-length-2
+    returns-2)

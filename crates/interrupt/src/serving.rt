@@ -1,0 +1,173 @@
+// The microframe's SOF, then a late entry's completions (mod.rs 729-747).
+use arms::checking::after_dispatch;
+use arms::dispatch;
+use handler::Next;
+use handler::Point;
+use iso_in::late;
+use iso_in::late::Late;
+use iso_in::late::LateNext;
+use iso_in::sof;
+use iso_in::sof::Sof;
+use iso_in::sof::SofNext;
+use regs::status;
+use script::Transfer;
+use state::STATE_LEN;
+use state::load_globals;
+ghost use mathlib.Core.Path.{_≡_};
+ghost use mathlib.Core.Bool.{true, false};
+ghost use mathlib.Core.List.{List};
+ghost use Prim.Native.Nat.{ℕ};
+ghost use Rattle.state.specs.Driver.{Driver};
+ghost use Rattle.state.specs.State.{view, saved};
+ghost use Rattle.script.specs.Tree.{bindOut};
+ghost use Rattle.script.specs.Script.{run};
+ghost use Rattle.iso_in.specs.Sof as sofs;
+ghost use Rattle.iso_in.specs.Late as lates;
+ghost use Rattle.ops.specs.Conc.{conc};
+ghost use Rattle.handler.specs.Tails.{finish, sofDue, afterLate, afterSof, serving};
+ghost use Rattle.handler.specs.Points.{denote, meaning, Linked};
+
+// A transaction that is still on the bus is left to its own entry (mod.rs 748).
+fn after_late(
+    s: &mut [u8; STATE_LEN],
+    buf: &mut [u8],
+    setup: bool,
+    x: Transfer,
+    iso: bool,
+    frame: u16,
+) -> Next
+    ensures { λ r. ⌜ meaning r (view (now (s .exit))) (now (buf .exit)) ≡ finish setup (run conc (afterLate x iso frame) (view (now (s .entry)), now (buf .entry))) ⌝ }
+    ensures { λ _. ⌜ saved (now (s .exit)) ≡ saved (now (s .entry)) ⌝ }
+    ensures { λ r. ⌜ Linked r ⌝ }
+{
+    if x.busy {
+        return after_dispatch(s, buf, setup, x, iso);
+    }
+    dispatch(s, buf, setup, x, iso, frame)
+}
+
+fn then_late(
+    s: &mut [u8; STATE_LEN],
+    buf: &mut [u8],
+    setup: bool,
+    x: Transfer,
+    iso: bool,
+    frame: u16,
+    n: LateNext,
+) -> Next
+    requires { ⌜ lates.Linked n ⌝ }
+    ensures { λ r. ⌜ meaning r (view (now (s .exit))) (now (buf .exit)) ≡ finish setup (bindOut (lates.meaning frame n (view (now (s .entry))) (now (buf .entry))) (λ _ u. run conc (afterLate x iso frame) u)) ⌝ }
+    ensures { λ _. ⌜ saved (now (s .exit)) ≡ saved (now (s .entry)) ⌝ }
+    ensures { λ r. ⌜ Linked r ⌝ }
+{
+    match n {
+        LateNext::Asks(q, p) => Next::Asks(q, Point::Late(setup, x, iso, frame, p)),
+        LateNext::Ends => after_late(s, buf, setup, x, iso, frame),
+    }
+}
+
+pub fn after_completions(
+    s: &mut [u8; STATE_LEN],
+    buf: &mut [u8],
+    setup: bool,
+    x: Transfer,
+    iso: bool,
+    frame: u16,
+    p: Late,
+) -> Next
+    ensures { λ r. ⌜ ((v : ℕ) → meaning r (view (now (s .exit))) (now (buf .exit)) ≡ denote (Point.Late setup x iso frame p) v (view (now (s .entry)), now (buf .entry))) ⌝ }
+    ensures { λ _. ⌜ saved (now (s .exit)) ≡ saved (now (s .entry)) ⌝ }
+    ensures { λ r. ⌜ Linked r ⌝ }
+{
+    let n = late::resume(s, frame, p);
+    then_late(s, buf, setup, x, iso, frame, n)
+}
+
+// What raised a late entry completed before the OUT (mod.rs 735-747).
+fn after_sof(
+    s: &mut [u8; STATE_LEN],
+    buf: &mut [u8],
+    setup: bool,
+    x: Transfer,
+    iso: bool,
+    frame: u16,
+) -> Next
+    ensures { λ r. ⌜ meaning r (view (now (s .exit))) (now (buf .exit)) ≡ finish setup (run conc (afterSof x iso frame) (view (now (s .entry)), now (buf .entry))) ⌝ }
+    ensures { λ _. ⌜ saved (now (s .exit)) ≡ saved (now (s .entry)) ⌝ }
+    ensures { λ r. ⌜ Linked r ⌝ }
+{
+    if x.late {
+        let n = late::begin(s, frame);
+        return then_late(s, buf, setup, x, iso, frame, n);
+    }
+    after_late(s, buf, setup, x, iso, frame)
+}
+
+fn then_sof(
+    s: &mut [u8; STATE_LEN],
+    buf: &mut [u8],
+    setup: bool,
+    x: Transfer,
+    iso: bool,
+    frame: u16,
+    n: SofNext,
+) -> Next
+    requires { ⌜ sofs.Linked n ⌝ }
+    ensures { λ r. ⌜ meaning r (view (now (s .exit))) (now (buf .exit)) ≡ finish setup (bindOut (sofs.meaning frame n (view (now (s .entry))) (now (buf .entry))) (λ _ u. run conc (afterSof x iso frame) u)) ⌝ }
+    ensures { λ _. ⌜ saved (now (s .exit)) ≡ saved (now (s .entry)) ⌝ }
+    ensures { λ r. ⌜ Linked r ⌝ }
+{
+    match n {
+        SofNext::Asks(q, p) => Next::Asks(q, Point::Sof(setup, x, iso, frame, p)),
+        SofNext::Ends => after_sof(s, buf, setup, x, iso, frame),
+    }
+}
+
+pub fn after_on_sof(
+    s: &mut [u8; STATE_LEN],
+    buf: &mut [u8],
+    setup: bool,
+    x: Transfer,
+    iso: bool,
+    frame: u16,
+    p: Sof,
+    v: u32,
+) -> Next
+    requires { ⌜ sofs.fitsAt p v ≡ true ⌝ }
+    ensures { λ r. ⌜ meaning r (view (now (s .exit))) (now (buf .exit)) ≡ denote (Point.Sof setup x iso frame p) v (view (now (s .entry)), now (buf .entry)) ⌝ }
+    ensures { λ _. ⌜ saved (now (s .exit)) ≡ saved (now (s .entry)) ⌝ }
+    ensures { λ r. ⌜ Linked r ⌝ }
+{
+    let n = sof::resume(s, frame, p, v);
+    then_sof(s, buf, setup, x, iso, frame, n)
+}
+
+fn sof_due(x: Transfer, sof: u16, frame: u16) -> bool
+    ensures { λ r. ⌜ r ≡ sofDue x sof frame ⌝ }
+{
+    if status::is_sof(x.st) {
+        return false;
+    }
+    sof != frame
+}
+
+// The flag is one bit: a late entry also stands for the SOF (mod.rs 729-733).
+pub fn serve(
+    s: &mut [u8; STATE_LEN],
+    buf: &mut [u8],
+    setup: bool,
+    x: Transfer,
+    iso: bool,
+    frame: u16,
+) -> Next
+    ensures { λ r. ⌜ meaning r (view (now (s .exit))) (now (buf .exit)) ≡ finish setup (run conc (serving x iso frame) (view (now (s .entry)), now (buf .entry))) ⌝ }
+    ensures { λ _. ⌜ saved (now (s .exit)) ≡ saved (now (s .entry)) ⌝ }
+    ensures { λ r. ⌜ Linked r ⌝ }
+{
+    let g = load_globals(s);
+    if sof_due(x, g.sof_frame, frame) {
+        let n = sof::begin(s, frame);
+        return then_sof(s, buf, setup, x, iso, frame, n);
+    }
+    after_sof(s, buf, setup, x, iso, frame)
+}

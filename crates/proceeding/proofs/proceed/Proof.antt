@@ -1,0 +1,35 @@
+use Rattle.way.specs.Rows.{back}
+use Rattle.way.specs.Goes.{proceeds}
+use Rattle.way.specs.Under.{decode}
+use Rattle.state.specs.State.{view, saved}
+use denote.Ref.{now}
+use borrow.Author.Needs.{needs}
+use Rattle.proceeding.proofs.proceed.Statement.{statement}
+use Rattle.proceeding.proofs.proceed.Tie as tie
+use Rattle.proceeding.proofs.proceed.Reads as reads
+use Rattle.proceeding.proofs.proceed.Lts as lts
+use Rattle.proceeding.proofs.proceed_at.Reads as proceed-at-reads
+use Rattle.way.proofs.rows.slots_fit.Reads as slots-fit-reads
+
+slots-fit-requires : tie.Need-slots-fit-requires
+slots-fit-requires c κs = search needs
+
+proceed-at-requires : tie.Need-proceed-at-requires
+proceed-at-requires c κs = search needs
+
+same-length : tie.Need-same-length
+same-length c = search needs
+
+returns : tie.Need-returns
+returns c a = back (proceeds (c .before .before .before .before .before .before .before .before .before .before .args .v) (decode (saved (now (c .before .before .before .before .before .before .before .before .before .before .args .s)))) (view (now (c .before .before .before .before .before .before .before .before .before .before .args .s))) a (now (c .before .before .before .before .before .before .before .before .before .before .args .slots))) (simp (← c .before .before .before .before .before .before .slots-fit .ensures, c .before .before .before .before .before .if1 .taken) (c .before .before .proceed-at .ensures))
+
+same-length-2 : tie.Need-same-length-2
+same-length-2 c = search needs
+
+returns-2 : tie.Need-returns-2
+returns-2 c a = back (proceeds (c .before .before .before .before .before .args .v) (decode (saved (now (c .before .before .before .before .before .args .s)))) (view (now (c .before .before .before .before .before .args .s))) a (now (c .before .before .before .before .before .args .slots))) (simp (← c .before .slots-fit .ensures, c .if1 .left))
+
+pub proceed-spec : {M : Type 1} → statement M
+proceed-spec =
+    tie.close
+    (tie.spec slots-fit-requires proceed-at-requires same-length returns same-length-2 returns-2)
