@@ -17,6 +17,7 @@ extern "C" {
     fn usbhs_start(state: *mut u8, maximum: u32) -> u64;
     fn usbhs_continue(state: *mut u8, slots: *mut u8, len: usize, value: u32) -> u64;
     fn usbhs_begin_bus_poll(state: *mut u8) -> u64;
+    fn usbhs_begin_interrupt(state: *mut u8) -> u64;
     fn usbhs_begin_set_enabled(state: *mut u8, slots: *mut u8, len: usize, ep: u32, dir: u32, on: u32) -> u64;
     fn usbhs_begin_set_stalled(state: *mut u8, ep: u32, dir: u32, on: u32) -> u64;
 }
@@ -35,14 +36,21 @@ struct Registers {
 }
 
 impl Registers {
-    /// A bus reset is flagged, the control words answer ACK with DATA1.
+    /// A bus reset is flagged, the control words answer ACK with DATA1, the SIE is free.
     fn new() -> Self {
         let mut reads = [[0; 16]; reg::COUNT];
         reads[reg::INT_FG as usize][0] = 1;
+        reads[reg::MIS_ST as usize][0] = 1;
         reads[reg::CTRL as usize][0] = 6;
         reads[reg::EP_RX_CTRL as usize] = [4; 16];
         reads[reg::EP_TX_CTRL as usize] = [4; 16];
         Self { reads, written: [[0; 16]; reg::COUNT] }
+    }
+
+    fn read_as(&mut self, o: &Operation) {
+        for (reg, value) in [(reg::INT_FG, o.flags), (reg::INT_ST, o.status), (reg::RX_LEN, o.len)] {
+            self.reads[reg as usize][0] = value;
+        }
     }
 
     #[inline(always)]
@@ -86,6 +94,7 @@ impl Port {
                 }
                 Call::Start(maximum) => usbhs_start(s, maximum as u32),
                 Call::BusPoll => usbhs_begin_bus_poll(s),
+                Call::Interrupt => usbhs_begin_interrupt(s),
                 Call::SetEnabled { ep, dir: d, on } => usbhs_begin_set_enabled(s, p, n, ep as u32, dir(d), on as u32),
                 Call::SetStalled { ep, dir: d, on } => usbhs_begin_set_stalled(s, ep as u32, dir(d), on as u32),
                 _ => unreachable!("{call:?} is not measured"),
@@ -110,6 +119,16 @@ impl Port {
             // SAFETY: as in `begin`
             a = unsafe { usbhs_continue(self.state.as_mut_ptr(), self.slots.as_mut_ptr(), self.slots.len(), value) };
         }
+    }
+}
+
+impl Port {
+    fn made(&mut self, o: &Operation) -> u32 {
+        if o.arrives {
+            let at = self.registers.written[reg::EP_RX_DMA as usize][1] as usize;
+            self.slots[at..at + PACKET.len()].copy_from_slice(black_box(&PACKET));
+        }
+        self.operate(&o.call)
     }
 }
 
@@ -140,10 +159,24 @@ impl Stepped {
         }
     }
 
+    /// The armed slot stays the same once the ring is full.
+    #[inline]
+    fn arrive(&mut self, o: &Operation) {
+        if o.arrives {
+            self.bare.store(self.registers.written[reg::EP_RX_DMA as usize][1], black_box(&PACKET));
+        }
+    }
+
+    fn made(&mut self, o: &Operation) -> u32 {
+        self.arrive(o);
+        self.operate(&o.call)
+    }
+
     /// In one go, over the seam's registers.
     #[inline(never)]
-    fn whole(&mut self, call: &Call) {
-        black_box(self.bare.run(call));
+    fn whole(&mut self, o: &Operation) {
+        self.arrive(o);
+        black_box(self.bare.run(&o.call));
     }
 }
 
@@ -151,9 +184,10 @@ fn start_up() -> Call {
     Call::StartUp { size: SIZE, count: COUNT, callback: false }
 }
 
-/// Endpoints as in runs/worked-traces.txt: 1 isochronous OUT, 2 isochronous IN, 3 bulk OUT, 4 bulk IN. The first poll answers the power.
+/// Endpoints as in runs/worked-traces.txt: 1 isochronous OUT, 2 isochronous IN, 3 bulk OUT, 4 bulk IN, all enabled. The first poll answers the power.
 fn prepared() -> Vec<Call> {
     let endpoint = |kind, address, dir| Call::Allocate { kind, address: Some(address), maximum: 64, interval: 1, dir };
+    let enabled = |ep, dir| Call::SetEnabled { ep, dir, on: true };
     vec![
         start_up(),
         endpoint(Kind::Isochronous, 1, Dir::Out),
@@ -162,37 +196,73 @@ fn prepared() -> Vec<Call> {
         endpoint(Kind::Bulk, 0x84, Dir::In),
         Call::Start(64),
         Call::BusPoll,
+        enabled(1, Dir::Out),
+        enabled(2, Dir::In),
+        enabled(3, Dir::Out),
+        enabled(4, Dir::In),
     ]
 }
+
+struct Operation {
+    name: &'static str,
+    call: Call,
+    /// int_fg, int_st and rx_len: a bus reset is flagged, or what the interrupt is for
+    flags: u32,
+    status: u32,
+    len: u32,
+    /// the chip has stored a packet in the armed slot
+    arrives: bool,
+}
+
+/// A packet of 36 bytes, of isochronous OUT 1.
+const PACKET: [u8; 36] = [7; 36];
 
 /// Each is made over and over: nothing that it does depends on what the last one left.
-fn operations() -> Vec<(&'static str, Call)> {
+fn operations() -> Vec<Operation> {
+    let other = |name, call| Operation { name, call, flags: 1, status: 0, len: 0, arrives: false };
+    let interrupt =
+        |name, flags, status, len| Operation { name, call: Call::Interrupt, flags, status, len, arrives: false };
     vec![
-        ("start-up", start_up()),
-        ("bus-reset", Call::BusPoll),
-        ("enable-iso-out", Call::SetEnabled { ep: 1, dir: Dir::Out, on: true }),
-        ("stall-out", Call::SetStalled { ep: 3, dir: Dir::Out, on: true }),
-        ("clear-stall-out", Call::SetStalled { ep: 3, dir: Dir::Out, on: false }),
-        ("stall-in", Call::SetStalled { ep: 4, dir: Dir::In, on: true }),
-        ("clear-stall-in", Call::SetStalled { ep: 4, dir: Dir::In, on: false }),
+        other("start-up", start_up()),
+        other("bus-reset", Call::BusPoll),
+        other("enable-iso-out", Call::SetEnabled { ep: 1, dir: Dir::Out, on: true }),
+        other("stall-out", Call::SetStalled { ep: 3, dir: Dir::Out, on: true }),
+        other("clear-stall-out", Call::SetStalled { ep: 3, dir: Dir::Out, on: false }),
+        other("stall-in", Call::SetStalled { ep: 4, dir: Dir::In, on: true }),
+        other("clear-stall-in", Call::SetStalled { ep: 4, dir: Dir::In, on: false }),
+        interrupt("interrupt-none", 0, 0, 0),
+        interrupt("interrupt-sof", 2, 0x10, 0),
+        // with 15 waiting: turned away, and its slot armed again
+        Operation { arrives: true, ..interrupt("interrupt-iso-out", 2, 0x41, 36) },
+        interrupt("interrupt-bulk-out", 2, 0x43, 64),
+        interrupt("interrupt-bulk-in", 2, 0x64, 0),
+        interrupt("interrupt-setup", 0x20, 0x30, 8),
     ]
 }
 
-/// Both sides after the first calls, with a last one that both made alike.
-fn both(call: &Call) -> (Port, Stepped, u32) {
+/// Both sides after the first calls, with the operation, which both made alike.
+fn both(o: &Operation) -> (Port, Stepped, u32) {
     let mut port = Port::new();
     let mut rust = Stepped { bare: Bare::new(), registers: Registers::new() };
-    let mut calls = 0;
-    for c in prepared().iter().chain([call]) {
-        calls = port.operate(c);
-        assert_eq!(calls, rust.operate(c), "{c:?}");
+    for c in &prepared() {
+        assert_eq!(port.operate(c), rust.operate(c), "{c:?}");
     }
+    port.registers.read_as(o);
+    rust.registers.read_as(o);
+    // a ring is then full, and the microframe handled: the Rust's statics outlive a start-up
+    for _ in 0..40 {
+        port.made(o);
+        rust.made(o);
+    }
+    let calls = port.made(o);
+    assert_eq!(calls, rust.made(o), "{}", o.name);
+    let mut told = rust.registers.clone();
     for r in [reg::EP0_DMA, reg::EP_RX_DMA, reg::EP_TX_DMA] {
-        for w in rust.registers.written[r as usize].iter_mut().filter(|w| **w != 0) {
+        for w in told.written[r as usize].iter_mut().filter(|w| **w != 0) {
             *w -= rust.bare.base();
         }
     }
-    assert!(port.registers == rust.registers && port.slots == rust.bare.slots(), "{call:?}");
+    assert!(port.registers == told && port.slots == rust.bare.slots(), "{}", o.name);
     for (r, row) in rust.registers.reads.iter().enumerate() {
         for (e, &value) in row.iter().enumerate() {
             // the driver keeps these: they read as written
@@ -234,18 +304,19 @@ fn nanoseconds(mut operation: impl FnMut()) -> f64 {
     t.elapsed().as_nanos() as f64 / TIMES as f64
 }
 
-fn measure(name: &str, call: &Call) {
-    let (mut port, mut rust, calls) = both(call);
+fn measure(o: &Operation) {
+    let name = o.name;
+    let (mut port, mut rust, calls) = both(o);
     let (mut ported, mut stepped, mut whole) = (f64::MAX, f64::MAX, f64::MAX);
     for _ in 0..ROUNDS {
         ported = ported.min(nanoseconds(|| {
-            black_box(port.operate(black_box(call)));
+            black_box(port.made(black_box(o)));
         }));
         stepped = stepped.min(nanoseconds(|| {
-            black_box(rust.operate(black_box(call)));
+            black_box(rust.made(black_box(o)));
         }));
         seam::cheap();
-        whole = whole.min(nanoseconds(|| rust.whole(black_box(call))));
+        whole = whole.min(nanoseconds(|| rust.whole(black_box(o))));
         seam::stepped();
     }
     let per = |ns: f64| ns / calls as f64;
@@ -264,15 +335,15 @@ fn main() {
     // the Rust has statics, and so has the seam
     let _lock = seam::lock();
     if let [name, how, times] = &args[..] {
-        let (_, call) = operations().into_iter().find(|(n, _)| n == name).expect("an operation");
-        let (mut port, mut rust, _) = both(&call);
+        let o = operations().into_iter().find(|o| o.name == name).expect("an operation");
+        let (mut port, mut rust, _) = both(&o);
         for _ in 0..times.parse().expect("a number") {
             match how.as_str() {
-                "port" => port.operate(&call),
-                "stepped" => rust.operate(&call),
+                "port" => port.made(&o),
+                "stepped" => rust.made(&o),
                 _ => {
                     seam::cheap();
-                    rust.whole(&call);
+                    rust.whole(&o);
                     0
                 }
             };
@@ -281,8 +352,8 @@ fn main() {
     }
     println!("| operation | calls | port, ns a call | Rust stepped, ns a call | port / Rust stepped | Rust in one go, ns a call | port / Rust in one go |");
     println!("|---|---|---|---|---|---|---|");
-    for (name, call) in operations() {
-        measure(name, &call);
+    for o in operations() {
+        measure(&o);
     }
     println!("a call of a coroutine that only reads: {:.1} ns", switches());
 }

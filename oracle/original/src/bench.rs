@@ -4,7 +4,7 @@ use super::*;
 use seam::{Mapping, ARENA};
 
 /// # Safety
-/// After start-up and EP0's start, in cheap mode.
+/// After start-up and EP0's start.
 #[inline]
 pub unsafe fn on_interrupt() {
     <InterruptHandler<USBHS> as Handler<Global>>::on_interrupt()
@@ -44,6 +44,15 @@ impl Bare {
         unsafe { core::slice::from_raw_parts(self.buffers.ptr(), NR * SIZE) }
     }
 
+    /// What the chip stores at an address that it was told.
+    #[inline]
+    pub fn store(&mut self, address: u32, bytes: &[u8]) {
+        let at = address.wrapping_sub(self.base()) as usize;
+        assert!(at + bytes.len() <= NR * SIZE);
+        // SAFETY: inside the lent buffer
+        unsafe { core::ptr::copy_nonoverlapping(bytes.as_ptr(), self.buffers.ptr().add(at), bytes.len()) }
+    }
+
     /// In one go.
     #[inline]
     pub fn run(&mut self, call: &Call) -> Finish {
@@ -72,6 +81,8 @@ fn text(held: &mut Held<NR, SIZE>, buffers: *mut u8, call: &Call) -> Finish {
         }
         Call::Start(maximum) => return held.start_ep0(maximum),
         Call::BusPoll => return held.bus_poll(),
+        // SAFETY: after start-up and EP0's start
+        Call::Interrupt => unsafe { on_interrupt() },
         Call::SetEnabled { ep, dir, on } => held.bus.as_mut().unwrap().endpoint_set_enabled(address(ep, dir), on),
         Call::SetStalled { ep, dir, on } => held.bus.as_mut().unwrap().endpoint_set_stalled(address(ep, dir), on),
         _ => unreachable!("{call:?} is not measured"),
