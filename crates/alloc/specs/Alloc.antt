@@ -1,5 +1,6 @@
 -- Allocation of an endpoint number and its buffers, and of EP0's buffer (mod.rs 953-1043, 1144-1149; usb/mod.rs 19-42): what they
--- answer and the allocator afterwards, in the order of document 01's rows 6, 7, 8. The accesses stand elsewhere.
+-- answer and the allocator afterwards, in the order of document 01's rows 6, 7, 8. A refusal changes nothing: of an 8 the Rust keeps the
+-- number and the buffers that were left. The accesses stand elsewhere.
 use mathlib.Core.Bool.{Bool, true, false, not}
 use Prim.Native.Nat.{ℕ, zero, suc, _+_, _*_, _/_, _%_}
 use lib.Dec.{eqb, leb, ltb}
@@ -144,19 +145,19 @@ slotsOf true In = 2
 abbrev pub refused : ℕ → Allocator → Allocation
 refused n a = record { answer = Refused n; after = a }
 
--- the ring's slots are consecutive buffers. Where they run out, all that were left are used up, and the number is not allocated
+-- the ring's slots are consecutive buffers: 8 where there are not as many left
 unfoldable pub bufferedOf : Allocator → Bool → Dir → ℕ → Allocation
 bufferedOf a iso dir e =
-    if (ltb (a .count) (a .next + slotsOf iso dir)) (refused 8 (withNext a (a .count)))
+    if (ltb (a .count) (a .next + slotsOf iso dir)) (refused 8 a)
     (record {
       answer = Given e (a .next * a .size) (slotsOf iso dir);
-      after = withAllocated (withNext a (a .next + slotsOf iso dir)) dir e;
+      after = withAllocated (withNext (taken a iso dir e) (a .next + slotsOf iso dir)) dir e;
     })
 
--- 7 where there is no number; the number is taken before the buffers are looked at
+-- 7 where there is no number
 unfoldable pub numberedOf : Allocator → Bool → Dir → Found → Allocation
 numberedOf a iso dir Nothing = refused 7 a
-numberedOf a iso dir (Number e) = bufferedOf (taken a iso dir e) iso dir e
+numberedOf a iso dir (Number e) = bufferedOf a iso dir e
 
 -- 6 where the maximum is above the buffer size
 unfoldable pub allocateOf : Allocator → ℕ → ℕ → ℕ → Dir → Allocation

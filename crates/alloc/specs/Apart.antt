@@ -12,7 +12,7 @@ use Rattle.regs.specs.declared.Dir.the-variants.{Out, In}
 use Rattle.alloc.specs.declared.Allocation.{Allocation}
 use Rattle.alloc.specs.Alloc.{takenIn, numsOf, isIso, isOut, withNext}
 use Rattle.alloc.specs.Outcome.{same, sameDir, inAdded, Takes, stays}
-use Rattle.alloc.specs.Run.{Call, endpoint, ep0, called, Step, kept, out, gave, gave-ep0, step, Region, noted, regions, All}
+use Rattle.alloc.specs.Run.{Call, endpoint, ep0, called, Step, kept, gave, gave-ep0, step, Region, noted, regions, All}
 
 -- an endpoint's number is 1 to 15, EP0's 0
 abbrev pub Numbered : Call → ℕ → Type 0
@@ -34,7 +34,6 @@ AllApart (r ∷ rs) = All (λ q. Apart (r .call) (r .number) (q .call) (q .numbe
 numbered-step : (a : Allocator) (c : Call) (r : Allocation) → Step a c r → (rs : List Region) → All (λ q. Numbered (q .call) (q .number)) rs
     → All (λ q. Numbered (q .call) (q .number)) (noted c (r .answer) rs)
 numbered-step a c r (kept d n lo hi k) rs h = h
-numbered-step a c r (out kind address maximum dir e b o) rs h = h
 numbered-step a c r (gave kind address maximum dir e base n b m g) rs h = ((g .number .low, g .number .high), h)
 numbered-step a c r (gave-ep0 maximum m l) rs h = (refl, h)
 
@@ -89,7 +88,6 @@ module _ (k x m : ℕ) (d : Dir) (e : ℕ) where
       → All (λ q. Apart (endpoint k x m d) e (q .call) (q .number)) (noted c (r .answer) rs)
   unfolding withNext takenIn numsOf
   later-step a c r (kept f n lo hi j) h rs ih = ih h
-  later-step a c r (out kind address maximum dir g b o) h rs ih = ih (still a (isIso kind) dir g b (o .number) (isIso k) d e h)
   later-step a c r (gave kind address maximum dir g base n b l o) h rs ih = (
     λ q. not-again a (isIso k) d e h (isIso kind) dir
         (ap (isSet (takenIn a dir)) q ∙ o .number .untaken) (ap (isSet (numsOf a (not (isIso kind)))) q ∙ o .number .unmixed),
@@ -115,7 +113,6 @@ any m e (r ∷ rs) = (tt, any m e rs)
 apart-step : (a : Allocator) (c : Call) (r : Allocation) → Step a c r → (cs : List Call) → AllApart (regions (r .after) cs)
     → AllApart (noted c (r .answer) (regions (r .after) cs))
 apart-step a c r (kept f n lo hi j) cs h = h
-apart-step a c r (out kind address maximum dir e b o) cs h = h
 apart-step a c r (gave kind address maximum dir e base n b l o) cs h =
     (later kind address maximum dir e b (had a (isIso kind) dir e b (o .number)) cs, h)
 apart-step a c r (gave-ep0 maximum l p) cs h = (any maximum 0 (regions (withNext a (a .next + 1)) cs), h)

@@ -64,13 +64,6 @@ pub record Takes (a : Allocator) (iso : Bool) (dir : Dir) (e : ℕ) (b : Allocat
   pub takes : (d : Dir) (j : ℕ) → isSet (takenIn b d) j ≡ inAdded (sameDir dir d) (takenIn a d) e j
   pub sorts : (s : Bool) (j : ℕ) → isSet (numsOf b s) j ≡ inAdded (same iso s) (numsOf a s) e j
 
--- 8: the number is taken and not allocated, and all buffers are used up
-pub record RunsOut (a : Allocator) (iso : Bool) (dir : Dir) (e : ℕ) (b : Allocator) : Type 0 where
-  pub number : Takes a iso dir e b
-  pub short : a .count < a .next + slotsOf iso dir
-  pub used-up : b .next ≡ a .count
-  pub not-allocated : (d : Dir) → allocatedIn b d ≡ allocatedIn a d
-
 -- accepted: the number is taken and allocated, and the next n buffers are its own
 pub record Gives (a : Allocator) (iso : Bool) (dir : Dir) (e base n : ℕ) (b : Allocator) : Type 0 where
   pub number : Takes a iso dir e b
@@ -80,12 +73,12 @@ pub record Gives (a : Allocator) (iso : Bool) (dir : Dir) (e base n : ℕ) (b : 
   pub used : b .next ≡ a .next + n
   pub allocates : (d : Dir) (j : ℕ) → isSet (allocatedIn b d) j ≡ inAdded (sameDir dir d) (allocatedIn a d) e j
 
--- every allocation is one of these; 6 and 7 change nothing
+-- every allocation is one of these; a refusal changes nothing
 pub data Outcome (a : Allocator) (kind address maximum : ℕ) (dir : Dir) : Allocation → Type 0 where
   six : a .size < maximum → Outcome a kind address maximum dir (refused 6 a)
   seven : maximum ≤ a .size → numberOf a (isIso kind) address dir ≡ Nothing → Outcome a kind address maximum dir (refused 7 a)
-  eight : (e : ℕ) (b : Allocator) → maximum ≤ a .size → numberOf a (isIso kind) address dir ≡ Number e
-      → RunsOut a (isIso kind) dir e b → Outcome a kind address maximum dir (refused 8 b)
+  eight : (e : ℕ) → maximum ≤ a .size → numberOf a (isIso kind) address dir ≡ Number e
+      → a .count < a .next + slotsOf (isIso kind) dir → Outcome a kind address maximum dir (refused 8 a)
   given : (e base n : ℕ) (b : Allocator) → maximum ≤ a .size → numberOf a (isIso kind) address dir ≡ Number e
       → Gives a (isIso kind) dir e base n b
       → Outcome a kind address maximum dir (record { answer = Given e base n; after = b })
@@ -129,26 +122,8 @@ takes-more a iso dir e b g p q t s =
       sorts = λ r j. ap (λ (w : ℕ). isSet w j) (s r) ∙ taken-sorts a iso dir e r j;
     }
 
--- the buffers run out
+-- the buffers are there
 module _ (a : Allocator) (iso : Bool) (dir : Dir) (e : ℕ) where
-  runs-out : (1 ≤ e) × (e ≤ 15) × (isFree a iso dir e ≡ true) → a .count < a .next + slotsOf iso dir
-      → RunsOut a iso dir e (withNext (taken a iso dir e) (a .count))
-  unfolding withNext taken takenIn numsOf allocatedIn
-  runs-out g l = record { number = takes-more a iso dir e _ g refl refl in-dir in-sort; short = l; used-up = refl; not-allocated = not-in }
-    where
-      in-dir : (d : Dir) → takenIn (withNext (taken a iso dir e) (a .count)) d ≡ takenIn (taken a iso dir e) d
-      in-dir Out = refl
-      in-dir In = refl
-
-      in-sort : (s : Bool) → numsOf (withNext (taken a iso dir e) (a .count)) s ≡ numsOf (taken a iso dir e) s
-      in-sort true = refl
-      in-sort false = refl
-
-      not-in : (d : Dir) → allocatedIn (withNext (taken a iso dir e) (a .count)) d ≡ allocatedIn a d
-      not-in Out = refl
-      not-in In = refl
-
-  -- or are there
   gives : (1 ≤ e) × (e ≤ 15) × (isFree a iso dir e ≡ true) → a .next + slotsOf iso dir ≤ a .count
       → Gives a iso dir e (a .next * a .size) (slotsOf iso dir)
       (withAllocated (withNext (taken a iso dir e) (a .next + slotsOf iso dir)) dir e)
@@ -181,12 +156,12 @@ module _ (a : Allocator) (iso : Bool) (dir : Dir) (e : ℕ) where
 module _ (a : Allocator) (kind address maximum : ℕ) (dir : Dir) where
   numbered : maximum ≤ a .size → (f : Found) → numberOf a (isIso kind) address dir ≡ f
       → Outcome a kind address maximum dir (numberedOf a (isIso kind) dir f)
-  unfolding numberedOf bufferedOf taken
+  unfolding numberedOf bufferedOf
   numbered m Nothing q = seven m q
   numbered m (Number e) q =
       let g = number-good a (isIso kind) dir address e q in
       either (Outcome a kind address maximum dir) (ltb (a .count) (a .next + slotsOf (isIso kind) dir)) _ _
-      (λ t. eight e _ m q (runs-out a (isIso kind) dir e g (ltb-true _ _ t)))
+      (λ t. eight e m q (ltb-true _ _ t))
       (λ f. given e _ _ _ m q (gives a (isIso kind) dir e g (ltb-false _ _ f)))
 
   pub outcome : Outcome a kind address maximum dir (allocateOf a kind address maximum dir)

@@ -1,5 +1,4 @@
--- Any list of allocations and EP0 starts: the buffers that were given lie one above the other inside the slot buffer, and after an 8
--- none is given any more. Assumes nothing.
+-- Any list of allocations and EP0 starts: the buffers that were given lie one above the other inside the slot buffer. Assumes nothing.
 use mathlib.Core.Path.{_≡_, refl, subst}
 use mathlib.Core.Bool.{Bool, true, false}
 use mathlib.Core.List.{List, [], _∷_}
@@ -16,7 +15,7 @@ use Rattle.alloc.specs.declared.Answer.the-variants.{Refused, Given}
 use Rattle.alloc.specs.declared.Allocation.{Allocation}
 use Rattle.alloc.specs.Alloc.{isIso, slotsOf, withNext, refused, allocateOf, allocateEp0Of}
 use Rattle.alloc.specs.Number.{either}
-use Rattle.alloc.specs.Outcome.{RunsOut, Gives, Outcome, six, seven, eight, given, outcome}
+use Rattle.alloc.specs.Outcome.{Gives, Outcome, six, seven, eight, given, outcome}
 
 -- ---- calls
 
@@ -29,11 +28,14 @@ abbrev pub called : Allocator → Call → Allocation
 called a (endpoint kind address maximum dir) = allocateOf a kind address maximum dir
 called a (ep0 maximum) = allocateEp0Of a maximum
 
--- what a call does: it is refused and changes nothing, is refused with 8 and keeps what it marked, or is given buffers
+-- the buffers that it needs
+abbrev pub slotsNeeded : Call → ℕ
+slotsNeeded (endpoint kind address maximum dir) = slotsOf (isIso kind) dir
+slotsNeeded (ep0 maximum) = 1
+
+-- what a call does: it is refused and changes nothing, or is given buffers
 pub data Step (a : Allocator) : Call → Allocation → Type 0 where
-  kept : (c : Call) (n : ℕ) → 6 ≤ n → n ≤ 8 → (n ≡ 8 → a .count ≤ a .next) → Step a c (refused n a)
-  out : (kind address maximum : ℕ) (dir : Dir) (e : ℕ) (b : Allocator) → RunsOut a (isIso kind) dir e b
-      → Step a (endpoint kind address maximum dir) (refused 8 b)
+  kept : (c : Call) (n : ℕ) → 6 ≤ n → n ≤ 8 → (n ≡ 8 → a .count < a .next + slotsNeeded c) → Step a c (refused n a)
   gave : (kind address maximum : ℕ) (dir : Dir) (e base n : ℕ) (b : Allocator) → maximum ≤ a .size → Gives a (isIso kind) dir e base n b
       → Step a (endpoint kind address maximum dir) (record { answer = Given e base n; after = b })
   gave-ep0 : (maximum : ℕ) → maximum ≤ a .size → a .next < a .count
@@ -85,7 +87,7 @@ numbered : (a : Allocator) (kind address maximum : ℕ) (dir : Dir) (r : Allocat
     → Step a (endpoint kind address maximum dir) r
 numbered a kind address maximum dir r (six l) = kept _ 6 (omega arith) (omega arith) (λ n. absurd (omega arith))
 numbered a kind address maximum dir r (seven m q) = kept _ 7 (omega arith) (omega arith) (λ n. absurd (omega arith))
-numbered a kind address maximum dir r (eight e b m q o) = out kind address maximum dir e b o
+numbered a kind address maximum dir r (eight e m q l) = kept _ 8 (omega arith) (omega arith) (λ n. l)
 numbered a kind address maximum dir r (given e base n b m q g) = gave kind address maximum dir e base n b m g
 
 pub step : (a : Allocator) (c : Call) → Step a c (called a c)
@@ -93,7 +95,7 @@ unfolding allocateEp0Of
 step a (endpoint kind address maximum dir) = numbered a kind address maximum dir _ (outcome a kind address maximum dir)
 step a (ep0 maximum) =
     either (Step a (ep0 maximum)) (ltb (a .size) maximum) _ _ (λ t. kept (ep0 maximum) 6 (omega arith) (omega arith) (λ n. absurd (omega arith)))
-    (λ m. either (Step a (ep0 maximum)) (leb (a .count) (a .next)) _ _ (λ t. kept (ep0 maximum) 8 (omega arith) (omega arith) (λ n. leb-true _ _ t))
+    (λ m. either (Step a (ep0 maximum)) (leb (a .count) (a .next)) _ _ (λ t. kept (ep0 maximum) 8 (omega arith) (omega arith) (λ n. let h : a .count ≤ a .next = leb-true _ _ t in omega arith))
     (λ f. gave-ep0 maximum (ltb-false _ _ m) (leb-false _ _ f)))
 
 lower : (size from less to : ℕ) (rs : List Region) → less ≤ from → Stacked size from to rs → Stacked size less to rs
@@ -111,9 +113,6 @@ stacked-step : (a : Allocator) (c : Call) (r : Allocation) → Step a c r → a 
     → Stacked (a .size) (a .next * a .size) (a .count * a .size) (noted c (r .answer) rs)
 unfolding withNext
 stacked-step a c r (kept d n lo hi k) h rs ih = ih h
-stacked-step a c r (out kind address maximum dir e b o) h rs ih =
-    lower _ (a .count * a .size) _ _ rs (mul-le-mul-right (a .size) h)
-    (same-stack _ _ _ _ _ _ rs (o .number .same-size) (cc) (cc) (ih (omega (arith, o .used-up, o .number .same-count))))
 stacked-step a c r (gave kind address maximum dir e base n b m g) h rs ih =
     let d = add-mul (a .next) n (a .size) in (
       omega (arith, g .starts),
@@ -160,35 +159,3 @@ disjoint a h cs = apart (a .size) (a .next * a .size) (a .count * a .size) (regi
 pub inside : (a : Allocator) → a .next ≤ a .count → (cs : List Call)
     → All (λ r. (a .next * a .size ≤ r .base) × (end (a .size) r ≤ a .count * a .size)) (regions a cs)
 inside a h cs = within (a .size) (a .next * a .size) (a .count * a .size) (regions a cs) (stacked a h cs)
-
--- ---- 8
-
-slots-some : (iso : Bool) (dir : Dir) → 1 ≤ slotsOf iso dir
-unfolding slotsOf
-slots-some true Out = omega arith
-slots-some true In = omega arith
-slots-some false dir = omega arith
-
-none-step : (a : Allocator) (c : Call) (r : Allocation) → Step a c r → a .count ≤ a .next → (rs : List Region)
-    → (r .after .count ≤ r .after .next → rs ≡ []) → noted c (r .answer) rs ≡ []
-none-step a c r (kept d n lo hi k) h rs ih = ih h
-none-step a c r (out kind address maximum dir e b o) h rs ih = ih (omega (arith, o .used-up, o .number .same-count))
-none-step a c r (gave kind address maximum dir e base n b m g) h rs ih =
-    absurd (omega (arith, g .fits, g .slots, slots-some (isIso kind) dir))
-none-step a c r (gave-ep0 maximum m l) h rs ih = absurd (omega arith)
-
--- where no buffer is left, none is given
-pub none : (a : Allocator) → a .count ≤ a .next → (cs : List Call) → regions a cs ≡ []
-unfolding regions
-none a h [] = refl
-none a h (c ∷ cs) = none-step a c (called a c) (step a c) h _ (λ k. none (called a c .after) k cs)
-
-eight-step : (a : Allocator) (c : Call) (r : Allocation) → Step a c r → r .answer ≡ Refused 8 → r .after .count ≤ r .after .next
-eight-step a c r (kept d n lo hi k) q = let e : n ≡ 8 = cc in k e
-eight-step a c r (out kind address maximum dir e b o) q = omega (arith, o .used-up, o .number .same-count)
-eight-step a c r (gave kind address maximum dir e base n b m g) q = let z : _≡_ {A = ℕ} 0 1 = cc in absurd (omega arith)
-eight-step a c r (gave-ep0 maximum m l) q = let z : _≡_ {A = ℕ} 0 1 = cc in absurd (omega arith)
-
--- after an 8 every later allocation and every EP0 start is refused
-pub after-eight : (a : Allocator) (c : Call) → called a c .answer ≡ Refused 8 → (cs : List Call) → regions (called a c .after) cs ≡ []
-after-eight a c q cs = none (called a c .after) (eight-step a c (called a c) (step a c) q) cs

@@ -1,5 +1,5 @@
 -- What holds of the allocator from an accepted start-up on: the buffers used are among those that there are, number 0 is never taken,
--- what is allocated is taken, and no number has both sorts. Assumes nothing.
+-- what is taken is what is allocated, and no number has both sorts. Assumes nothing.
 use mathlib.Core.Path.{_≡_, refl, sym, ap, _∙_}
 use mathlib.Core.Bool.{Bool, true, false, not, true≢false}
 use mathlib.Core.List.{List, [], _∷_}
@@ -15,14 +15,14 @@ use Rattle.regs.specs.declared.Dir.the-variants.{Out, In}
 use Rattle.alloc.specs.declared.Allocation.{Allocation}
 use Rattle.alloc.specs.Alloc.{if, fresh, takenIn, numsOf, allocatedIn, isIso, withNext}
 use Rattle.alloc.specs.Buffer.{goodSize, goodBuffer}
-use Rattle.alloc.specs.Outcome.{sameDir, inAdded, stays, Takes}
-use Rattle.alloc.specs.Run.{Call, called, Step, kept, out, gave, gave-ep0, step, Region, regions, calledAll, All, end, inside}
+use Rattle.alloc.specs.Outcome.{sameDir, inAdded, Takes}
+use Rattle.alloc.specs.Run.{Call, called, Step, kept, gave, gave-ep0, step, Region, regions, calledAll, All, end, inside}
 
 pub record Sound (a : Allocator) : Type 0 where
   pub room : a .next ≤ a .count
   pub small : a .count * a .size ≤ 65536
   pub not-zero : (d : Dir) → isSet (takenIn a d) 0 ≡ false
-  pub taken : (d : Dir) (e : ℕ) → isSet (allocatedIn a d) e ≡ true → isSet (takenIn a d) e ≡ true
+  pub taken : (d : Dir) (e : ℕ) → isSet (takenIn a d) e ≡ isSet (allocatedIn a d) e
   pub unmixed : (e : ℕ) → isSet (numsOf a true) e ≡ true → isSet (numsOf a false) e ≡ false
 
 -- ---- start-up
@@ -38,7 +38,7 @@ sound-fresh size count q = record {
   room = omega arith;
   small = fits (goodSize size) (eqb count 0) q;
   not-zero = clear;
-  taken = λ d e p. absurd (true≢false (sym p ∙ none d e));
+  taken = none;
   unmixed = λ e p. empty e;
 }
   where
@@ -51,9 +51,9 @@ sound-fresh size count q = record {
     clear Out = empty 0
     clear In = empty 0
 
-    none : (d : Dir) (e : ℕ) → isSet (allocatedIn (fresh size count) d) e ≡ false
-    none Out e = empty e
-    none In e = empty e
+    none : (d : Dir) (e : ℕ) → isSet (takenIn (fresh size count) d) e ≡ isSet (allocatedIn (fresh size count) d) e
+    none Out e = refl
+    none In e = refl
 
 -- ---- each call
 
@@ -78,26 +78,19 @@ module _ (a : Allocator) (iso : Bool) (dir : Dir) (e : ℕ) (b : Allocator) (t :
 sound-step : (a : Allocator) (c : Call) (r : Allocation) → Step a c r → Sound a → Sound (r .after)
 unfolding withNext takenIn numsOf allocatedIn
 sound-step a c r (kept d n lo hi k) s = s
-sound-step a c r (out kind address maximum dir e b o) s = record {
-  room = omega (arith, o .used-up, o .number .same-count);
-  small = rw (o .number .same-size, o .number .same-count) (s .small);
-  not-zero = zero-kept a (isIso kind) dir e b (o .number) s;
-  taken = λ d j p. o .number .takes d j ∙ stays (sameDir dir d) _ e j (s .taken d j (ap (λ (w : ℕ). isSet w j) (sym (o .not-allocated d)) ∙ p));
-  unmixed = unmixed-kept a (isIso kind) dir e b (o .number) s;
-}
 sound-step a c r (gave kind address maximum dir e base n b m g) s = record {
   room = omega (arith, g .used, g .fits, g .number .same-count);
   small = rw (g .number .same-size, g .number .same-count) (s .small);
   not-zero = zero-kept a (isIso kind) dir e b (g .number) s;
-  taken = λ d j p. g .number .takes d j ∙ go (sameDir dir d) (eqb e j) d j (sym (g .allocates d j) ∙ p);
+  taken = λ d j. g .number .takes d j ∙ go (sameDir dir d) (eqb e j) d j ∙ sym (g .allocates d j);
   unmixed = unmixed-kept a (isIso kind) dir e b (g .number) s;
 }
   where
-    go : (here k : Bool) (d : Dir) (j : ℕ) → if here (if k true (isSet (allocatedIn a d) j)) (isSet (allocatedIn a d) j) ≡ true
-        → if here (if k true (isSet (takenIn a d) j)) (isSet (takenIn a d) j) ≡ true
-    go true true d j p = refl
-    go true false d j p = s .taken d j p
-    go false k d j p = s .taken d j p
+    go : (here k : Bool) (d : Dir) (j : ℕ) → if here (if k true (isSet (takenIn a d) j)) (isSet (takenIn a d) j)
+        ≡ if here (if k true (isSet (allocatedIn a d) j)) (isSet (allocatedIn a d) j)
+    go true true d j = refl
+    go true false d j = s .taken d j
+    go false k d j = s .taken d j
 sound-step a c r (gave-ep0 maximum m l) s = record {
   room = omega arith;
   small = s .small;
@@ -110,9 +103,9 @@ sound-step a c r (gave-ep0 maximum m l) s = record {
     zero Out = s .not-zero Out
     zero In = s .not-zero In
 
-    more : (d : Dir) (e : ℕ) → isSet (allocatedIn (withNext a (a .next + 1)) d) e ≡ true → isSet (takenIn (withNext a (a .next + 1)) d) e ≡ true
-    more Out e p = s .taken Out e p
-    more In e p = s .taken In e p
+    more : (d : Dir) (e : ℕ) → isSet (takenIn (withNext a (a .next + 1)) d) e ≡ isSet (allocatedIn (withNext a (a .next + 1)) d) e
+    more Out e = s .taken Out e
+    more In e = s .taken In e
 
 -- every call, refused or not, keeps the allocator sound
 pub sound-call : (a : Allocator) (c : Call) → Sound a → Sound (called a c .after)

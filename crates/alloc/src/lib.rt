@@ -52,7 +52,7 @@ fn refused(row: u8, a: Allocator) -> Allocation
     }
 }
 
-// The buffers of a number that is taken: row 8, or the endpoint is allocated.
+// The buffers of a free number: row 8, or the endpoint is allocated.
 fn buffered(a: Allocator, iso: bool, dir: Dir, e: u8) -> Allocation
     requires { ⌜ e < 16 ⌝ }
     ensures { λ r. ⌜ r ≡ bufferedOf a iso dir e ⌝ }
@@ -60,11 +60,11 @@ fn buffered(a: Allocator, iso: bool, dir: Dir, e: u8) -> Allocation
     let n = number::slots(iso, dir);
     let end = number::end(a.next, n);
     if (a.count as u32) < end {
-        let after = masks::with_next(a, a.count);
-        return refused(8, after);
+        return refused(8, a);
     }
     let base = (a.next as u32) * (a.size as u32);
-    let used = masks::with_next(a, end as u16);
+    let t = masks::taken(a, iso, dir, e);
+    let used = masks::with_next(t, end as u16);
     let after = masks::with_allocated(used, dir, e);
     Allocation {
         answer: Answer::Given(e, base, n),
@@ -83,10 +83,7 @@ pub fn allocate(a: Allocator, kind: u8, address: u32, maximum: u32, dir: Dir) ->
     let found = number::find(a, iso, address, dir);
     match found {
         Found::Nothing => refused(7, a),
-        Found::Number(e) => {
-            let t = masks::taken(a, iso, dir, e);
-            buffered(t, iso, dir, e)
-        }
+        Found::Number(e) => buffered(a, iso, dir, e),
     }
 }
 

@@ -22,8 +22,8 @@ use Rattle.alloc.specs.declared.Answer.{Answer}
 use Rattle.alloc.specs.declared.Answer.the-variants.{Refused, Given}
 use Rattle.alloc.specs.declared.Allocation.{Allocation}
 use Rattle.alloc.specs.Alloc.{allocatedIn, isIso, allocateOf, allocateEp0Of, refused, withNext}
-use Rattle.alloc.specs.Outcome.{RunsOut, Gives, Outcome, six, seven, eight, given, outcome}
-use Rattle.alloc.specs.Run.{Call, endpoint, ep0, called, Step, kept, out, gave, gave-ep0, step}
+use Rattle.alloc.specs.Outcome.{Gives, Outcome, six, seven, eight, given, outcome}
+use Rattle.alloc.specs.Run.{Call, endpoint, ep0, called, Step, kept, gave, gave-ep0, step}
 use Rattle.alloc.specs.Sound.{Sound, sound-call}
 use Rattle.script.specs.Alike.{quiet}
 use Rattle.script.specs.Machine.{Buf}
@@ -59,13 +59,7 @@ answered : {b : Buf} {d : Driver} {t : Pages} → Rest quiet b d t → (dir : Di
 unfolding givenTo
 answered {d = d} r dir kind address maximum interval z s (six l) = further r (d .allocator) (same-further (d .allocator) s)
 answered {d = d} r dir kind address maximum interval z s (seven m q) = further r (d .allocator) (same-further (d .allocator) s)
-answered {d = d} r dir kind address maximum interval z s (eight e a m q o) = further r a (record {
-  size = o .number .same-size;
-  count = o .number .same-count;
-  next = omega (arith, o .used-up, r .sound .room);
-  sound = s;
-  allocated = λ dir j. ap (λ (w : ℕ). isSet w j) (o .not-allocated dir);
-})
+answered {d = d} r dir kind address maximum interval z s (eight e m q l) = further r (d .allocator) (same-further (d .allocator) s)
 answered {d = d} r dir kind address maximum interval z s (given e base n a m q g) = gives r dir kind maximum interval e base n a m g s
 
 pub allocates : {b : Buf} {d : Driver} {t : Pages} → Rest quiet b d t → (dir : Dir) (kind address maximum interval : ℕ) → Rest quiet b (allocatedOn d dir kind address maximum interval) (allocateB dir kind address maximum interval t)

@@ -26,8 +26,8 @@ use Rattle.alloc.specs.declared.Answer.the-variants.{Refused, Given}
 use Rattle.alloc.specs.declared.Allocation.{Allocation}
 use Rattle.alloc.specs.Alloc.{if, isOut, allocatedIn, takenIn, slotsOf, isIso, allocated, allocateOf, allocateEp0Of, refused, withNext}
 use Rattle.alloc.specs.Alloc as alloc
-use Rattle.alloc.specs.Outcome.{sameDir, inAdded, Takes, RunsOut, Gives, Outcome, six, seven, eight, given, outcome}
-use Rattle.alloc.specs.Run.{Call, endpoint, ep0, called, Step, kept, out, gave, gave-ep0, step}
+use Rattle.alloc.specs.Outcome.{sameDir, inAdded, Takes, Gives, Outcome, six, seven, eight, given, outcome}
+use Rattle.alloc.specs.Run.{Call, endpoint, ep0, called, Step, kept, gave, gave-ep0, step}
 use Rattle.alloc.specs.Sound.{Sound, sound-call}
 use Rattle.ring.specs.Slot.{slotOf, slotAddr, countOf}
 use Rattle.ring.specs.Waiting.{waiting, Placed, Ring, Shows, Sends}
@@ -308,7 +308,7 @@ module _ {b : Buf} {d : Driver} {t : Pages} (r : Rest quiet b d t) (dir : Dir) (
   T = givenB dir kind maximum interval (Given e base n) (withKept t (keptAllocator (t .kept) a))
 
   fresh-number : isSet (allocatedIn (d .allocator) dir) (e % 16) ≡ false
-  fresh-number = rw (low-16 e (g .number .high)) (bool-false _ _ (r .sound .taken dir e) (g .number .untaken))
+  fresh-number = rw (low-16 e (g .number .high)) (sym (r .sound .taken dir e) ∙ g .number .untaken)
 
   unused : Unused (epOn d dir e)
   unused = subst (λ (u : Bool). Shape u (d .allocator) dir (epOn d dir e)) fresh-number (r .shape dir e)

@@ -59,10 +59,17 @@ fn within(call: Call, bits: u32) -> Call {
     }
 }
 
+/// The entries up to an allocation that was refused for want of buffers, of which the Rust keeps the number and the buffers that were left.
+fn up_to_eight(entries: &[Entry]) -> &[Entry] {
+    let ends = |e: &Entry| matches!((&e.call, &e.answer), (Call::Allocate { .. }, Answer::Refused(8)));
+    let n = entries.iter().position(ends).map_or(entries.len(), |i| i + 1);
+    &entries[..n]
+}
+
 /// The first entry that the driver answers otherwise, but for the order of wake-ups and for what the Rust has no counterpart of.
 fn difference(driver: &mut dyn Driver, entries: &[Entry]) -> Option<(usize, Entry)> {
     let mut session = Session::new(driver);
-    for (i, e) in entries.iter().enumerate() {
+    for (i, e) in up_to_eight(entries).iter().enumerate() {
         let own = session.call(&e.call);
         if e.answer == Answer::Outside {
             assert!(matches!(own.answer, Answer::Refused(_)) && own.changed.is_empty(), "{own:?}");
@@ -127,7 +134,8 @@ fn main() {
                     entries.push(entry);
                 }
             }
-            check(&mut port, &format!("seed {seed}"), &entries);
+            let entries = up_to_eight(&entries);
+            check(&mut port, &format!("seed {seed}"), entries);
             calls += entries.len();
             // the others are the chip's stores, and calls that the Rust has no counterpart of: these must be refused and change no slot
             compared += entries.iter().filter(|e| !matches!(e.answer, Answer::Outside | Answer::Stored)).count();

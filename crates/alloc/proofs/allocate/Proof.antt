@@ -32,18 +32,11 @@ refused-requires-2 c κs = search needs
 enum-known-found : tie.Need-enum-known-found
 enum-known-found c = search needs
 
-taken-requires : tie.Need-taken-requires
-taken-requires c κs =
+buffered-requires : tie.Need-buffered-requires
+buffered-requires c κs =
     let a = c .before .before .before .before .before .before .before .args in
     let h = number-good (a .a) (c .before .before .before .before .is-iso .result) (a .dir) (a .address) (c .before .found .given .0 .0)
     (sym (c .before .before .before .find .ensures) ∙ c .before .found .given .1) in
-    omega arith
-
-buffered-requires : tie.Need-buffered-requires
-buffered-requires c κs =
-    let a = c .before .before .before .before .before .before .before .before .args in
-    let h = number-good (a .a) (c .before .before .before .before .before .is-iso .result) (a .dir) (a .address) (c .before .before .found .given .0 .0)
-    (sym (c .before .before .before .before .find .ensures) ∙ c .before .before .found .given .1) in
     omega arith
 
 returns-2 : tie.Need-returns-2
@@ -52,7 +45,7 @@ returns-2 c = simp (c .refused2 .ensures, le-ltb _ _ (c .before .before .before 
 
 returns-3 : tie.Need-returns-3
 unfolding allocateOf numberedOf
-returns-3 c = simp (c .buffered .ensures, ← c .before .taken .ensures, le-ltb _ _ (c .before .before .before .before .before .before .before .if1 .left), ← c .before .before .before .before .before .before .is-iso .ensures, ← c .before .before .before .before .before .find .ensures, c .before .before .before .found .given .1)
+returns-3 c = simp (c .buffered .ensures, le-ltb _ _ (c .before .before .before .before .before .before .if1 .left), ← c .before .before .before .before .before .is-iso .ensures, ← c .before .before .before .before .find .ensures, c .before .before .found .given .1)
 
 pub allocate-spec : {M : Type 1} → statement M
 allocate-spec =
@@ -66,7 +59,6 @@ allocate-spec =
     enum-told
     refused-requires-2
     enum-known-found
-    taken-requires
     buffered-requires
     returns-2
     returns-3)

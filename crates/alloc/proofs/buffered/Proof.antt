@@ -14,9 +14,6 @@ end-requires c κs = search needs
 cast-if1 : tie.Need-cast-if1
 cast-if1 c = search needs
 
-with-next-requires : tie.Need-with-next-requires
-with-next-requires c κs = search needs
-
 refused-requires : tie.Need-refused-requires
 refused-requires c κs = search needs
 
@@ -25,10 +22,9 @@ unfolding bufferedOf
 returns c =
     simp (
       c .refused .ensures,
-      ← c .before .with-next .ensures,
-      lt-ltb _ _ (c .before .before .if1 .taken),
-      ← c .before .before .before .before .end .ensures,
-      ← c .before .before .before .before .before .slots .ensures,
+      lt-ltb _ _ (c .before .if1 .taken),
+      ← c .before .before .before .end .ensures,
+      ← c .before .before .before .before .slots .ensures,
     )
 
 cast-base : tie.Need-cast-base
@@ -40,11 +36,14 @@ cast-base-2 c = search needs
 mul-base : tie.Need-mul-base
 mul-base c = record { fits = below 16 (search needs) (search needs) }
 
+taken-requires : tie.Need-taken-requires
+taken-requires c κs = search needs
+
 cast-with-next : tie.Need-cast-with-next
 cast-with-next c = search needs
 
-with-next-requires-2 : tie.Need-with-next-requires-2
-with-next-requires-2 c κs = search needs
+with-next-requires : tie.Need-with-next-requires
+with-next-requires c κs = search needs
 
 with-allocated-requires : tie.Need-with-allocated-requires
 with-allocated-requires c κs = search needs
@@ -54,10 +53,11 @@ unfolding bufferedOf
 returns-2 c =
     simp (
       c .with-allocated .ensures,
-      ← c .before .with-next2 .ensures,
-      le-ltb _ _ (c .before .before .before .before .if1 .left),
-      ← c .before .before .before .before .before .before .end .ensures,
-      ← c .before .before .before .before .before .before .before .slots .ensures,
+      ← c .before .with-next .ensures,
+      ← c .before .before .taken .ensures,
+      le-ltb _ _ (c .before .before .before .before .before .if1 .left),
+      ← c .before .before .before .before .before .before .before .end .ensures,
+      ← c .before .before .before .before .before .before .before .before .slots .ensures,
     )
 
 pub buffered-spec : {M : Type 1} → statement M
@@ -67,13 +67,13 @@ buffered-spec =
     slots-requires
     end-requires
     cast-if1
-    with-next-requires
     refused-requires
     returns
     cast-base
     cast-base-2
     mul-base
+    taken-requires
     cast-with-next
-    with-next-requires-2
+    with-next-requires
     with-allocated-requires
     returns-2)
