@@ -7,7 +7,7 @@ pub fn good_size(size: u32) -> bool
     ensures { λ r. ⌜ r ≡ goodSize size ⌝ }
 {
     match size {
-        8 | 16 | 32 | 64 | 512 => true,
+        8 | 16 | 32 | 64 | 512 | 1024 => true,
         _ => false,
     }
 }

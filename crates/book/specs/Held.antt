@@ -16,7 +16,7 @@ use Rattle.state.specs.declared.EpState.{EpState}
 use Rattle.state.specs.declared.Globals.{Globals}
 use Rattle.state.specs.Driver.{Driver, epOn, lenOn}
 use Rattle.alloc.specs.Alloc.{if, allocatedIn, slotsOf}
-use Rattle.alloc.specs.Buffer.{goodSize}
+use Rattle.alloc.specs.Buffer.{goodSize, each-size}
 use Rattle.ring.specs.Slot.{slotOf, slotAddr, countOf, hasWaiting}
 use Rattle.ring.specs.Waiting.{waiting}
 use Rattle.ring.specs.Slots.{slot-in}
@@ -135,16 +135,5 @@ module _ {φ : Phase} {b : Buf} {d : Driver} {t : Pages} (R : Rest φ b d t) (e 
 abbrev pub Words : ℕ → Type 0
 Words size = (4 ≤ size) × (size / 4 * 4 ≡ size)
 
-one-of : (size n : ℕ) (t rest : Bool) → Words n → eqb size n ≡ t → (rest ≡ true → Words size) → if t true rest ≡ true → Words size
-one-of size n true rest s e k h = subst Words (sym (eqb-true size n e)) s
-one-of size n false rest s e k h = k h
-
 pub good-words : (size : ℕ) → goodSize size ≡ true → Words size
-unfolding goodSize
-good-words size h =
-    one-of size 8 _ _ (omega arith, refl) refl
-    (one-of size 16 _ _ (omega arith, refl) refl
-    (one-of size 32 _ _ (omega arith, refl) refl
-    (one-of size 64 _ _ (omega arith, refl) refl
-    (λ e. subst Words (sym (eqb-true size 512 e)) (omega arith, refl)))))
-    h
+good-words = each-size Words (omega arith, refl) (omega arith, refl) (omega arith, refl) (omega arith, refl) (omega arith, refl) (omega arith, refl)

@@ -8,7 +8,7 @@ use Rattle.alloc.proofs.buffer.good_size.Statement.{statement}
 use Rattle.alloc.proofs.buffer.good_size.Tie as tie
 
 abbrev OneOf : ℕ → Type 0
-OneOf n = (n ≡ 8) ⊎ ((n ≡ 16) ⊎ ((n ≡ 32) ⊎ ((n ≡ 64) ⊎ (n ≡ 512))))
+OneOf n = (n ≡ 8) ⊎ ((n ≡ 16) ⊎ ((n ≡ 32) ⊎ ((n ≡ 64) ⊎ ((n ≡ 512) ⊎ (n ≡ 1024)))))
 
 good : (n : ℕ) → OneOf n → true ≡ goodSize n
 unfolding goodSize
@@ -16,7 +16,8 @@ good n (inl e) = rw e
 good n (inr (inl e)) = rw e
 good n (inr (inr (inl e))) = rw e
 good n (inr (inr (inr (inl e)))) = rw e
-good n (inr (inr (inr (inr e)))) = rw e
+good n (inr (inr (inr (inr (inl e))))) = rw e
+good n (inr (inr (inr (inr (inr e))))) = rw e
 
 bad : (n : ℕ) → (OneOf n → ⊥) → false ≡ goodSize n
 unfolding goodSize
@@ -26,7 +27,8 @@ bad n h =
       ne-eqb n 16 (λ e. h (inr (inl e))),
       ne-eqb n 32 (λ e. h (inr (inr (inl e)))),
       ne-eqb n 64 (λ e. h (inr (inr (inr (inl e))))),
-      ne-eqb n 512 (λ e. h (inr (inr (inr (inr e))))),
+      ne-eqb n 512 (λ e. h (inr (inr (inr (inr (inl e)))))),
+      ne-eqb n 1024 (λ e. h (inr (inr (inr (inr (inr e)))))),
     )
 
 returns : tie.Need-returns
