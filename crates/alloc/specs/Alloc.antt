@@ -1,5 +1,5 @@
 -- Allocation of an endpoint number and its buffers, and of EP0's buffer (mod.rs 953-1043, 1144-1149; usb/mod.rs 19-42): what they
--- answer and the allocator afterwards, in the order of document 01's rows 6, 7, 8. A refusal changes nothing: of an 8 the Rust keeps the
+-- answer and the allocator afterwards, in the order of document 01's rows 6, 7, 8, and request Twelve's 22 before them. A refusal changes nothing: of an 8 the Rust keeps the
 -- number and the buffers that were left. The accesses stand elsewhere.
 use mathlib.Core.Bool.{Bool, true, false, not}
 use Prim.Native.Nat.{ℕ, zero, suc, _+_, _*_, _/_, _%_}
@@ -165,12 +165,14 @@ allocateOf a kind address maximum dir =
     if (ltb (a .size) maximum) (refused 6 a)
     (numberedOf a (isIso kind) dir (numberOf a (isIso kind) address dir))
 
--- EP0's one buffer, for number 0; a refusal changes nothing
+-- EP0's one buffer, for number 0. 22 where the maximum is not that of a high-speed control endpoint (USB 2.0, 5.5.3)
 unfoldable pub allocateEp0Of : Allocator → ℕ → Allocation
 allocateEp0Of a maximum =
-    if (ltb (a .size) maximum) (refused 6 a)
+    if (eqb maximum 64)
+    (if (ltb (a .size) maximum) (refused 6 a)
     (if (leb (a .count) (a .next)) (refused 8 a)
-    (record { answer = Given 0 (a .next * a .size) 1; after = withNext a (a .next + 1) }))
+    (record { answer = Given 0 (a .next * a .size) 1; after = withNext a (a .next + 1) })))
+    (refused 22 a)
 
 -- ---- the endpoint's record
 

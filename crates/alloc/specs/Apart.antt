@@ -33,9 +33,9 @@ AllApart (r ∷ rs) = All (λ q. Apart (r .call) (r .number) (q .call) (q .numbe
 
 numbered-step : (a : Allocator) (c : Call) (r : Allocation) → Step a c r → (rs : List Region) → All (λ q. Numbered (q .call) (q .number)) rs
     → All (λ q. Numbered (q .call) (q .number)) (noted c (r .answer) rs)
-numbered-step a c r (kept d n lo hi k) rs h = h
+numbered-step a c r (kept d n w k) rs h = h
 numbered-step a c r (gave kind address maximum dir e base n b m g) rs h = ((g .number .low, g .number .high), h)
-numbered-step a c r (gave-ep0 maximum m l) rs h = (refl, h)
+numbered-step a c r (gave-ep0 maximum x m l) rs h = (refl, h)
 
 pub numbered : (a : Allocator) (cs : List Call) → All (λ q. Numbered (q .call) (q .number)) (regions a cs)
 unfolding regions
@@ -87,13 +87,13 @@ module _ (k x m : ℕ) (d : Dir) (e : ℕ) where
       → (Has (r .after) (isIso k) d e → All (λ q. Apart (endpoint k x m d) e (q .call) (q .number)) rs)
       → All (λ q. Apart (endpoint k x m d) e (q .call) (q .number)) (noted c (r .answer) rs)
   unfolding withNext takenIn numsOf
-  later-step a c r (kept f n lo hi j) h rs ih = ih h
+  later-step a c r (kept f n w j) h rs ih = ih h
   later-step a c r (gave kind address maximum dir g base n b l o) h rs ih = (
     λ q. not-again a (isIso k) d e h (isIso kind) dir
         (ap (isSet (takenIn a dir)) q ∙ o .number .untaken) (ap (isSet (numsOf a (not (isIso kind)))) q ∙ o .number .unmixed),
     ih (still a (isIso kind) dir g b (o .number) (isIso k) d e h),
   )
-  later-step a c r (gave-ep0 maximum l p) h rs ih = (tt, ih (dirs d (isIso k) h))
+  later-step a c r (gave-ep0 maximum x l p) h rs ih = (tt, ih (dirs d (isIso k) h))
     where
       dirs : (f : Dir) (s : Bool) → Has a s f e → Has (withNext a (a .next + 1)) s f e
       dirs Out true h = h
@@ -112,10 +112,10 @@ any m e (r ∷ rs) = (tt, any m e rs)
 
 apart-step : (a : Allocator) (c : Call) (r : Allocation) → Step a c r → (cs : List Call) → AllApart (regions (r .after) cs)
     → AllApart (noted c (r .answer) (regions (r .after) cs))
-apart-step a c r (kept f n lo hi j) cs h = h
+apart-step a c r (kept f n w j) cs h = h
 apart-step a c r (gave kind address maximum dir e base n b l o) cs h =
     (later kind address maximum dir e b (had a (isIso kind) dir e b (o .number)) cs, h)
-apart-step a c r (gave-ep0 maximum l p) cs h = (any maximum 0 (regions (withNext a (a .next + 1)) cs), h)
+apart-step a c r (gave-ep0 maximum x l p) cs h = (any maximum 0 (regions (withNext a (a .next + 1)) cs), h)
 
 -- no number is given twice in one direction, and sorts never mix on a number
 pub numbers-apart : (a : Allocator) (cs : List Call) → AllApart (regions a cs)

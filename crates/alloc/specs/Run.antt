@@ -1,12 +1,13 @@
 -- Any list of allocations and EP0 starts: the buffers that were given lie one above the other inside the slot buffer. Assumes nothing.
 use mathlib.Core.Path.{_≡_, refl, subst}
 use mathlib.Core.Bool.{Bool, true, false}
+use mathlib.Core.Logic.{_⊎_, inl, inr}
 use mathlib.Core.List.{List, [], _∷_}
 use Prim.Native.Nat.{ℕ, _+_, _*_, _≤_, _<_}
 use native.Mathlib.Nat.{le-refl, le-trans, add-mul, mul-le-mul-right}
 use native.Mathlib.Omega.{arith}
-use lib.Dec.{leb, ltb}
-use borrow.Author.Tests.{ltb-false, leb-true, leb-false}
+use lib.Dec.{eqb, leb, ltb}
+use borrow.Author.Tests.{eqb-true, eqb-false, ltb-false, leb-true, leb-false}
 use Rattle.state.specs.declared.Allocator.{Allocator}
 use Rattle.regs.specs.declared.Dir.{Dir}
 use Rattle.regs.specs.declared.Dir.the-variants.{Out, In}
@@ -33,12 +34,17 @@ abbrev pub slotsNeeded : Call → ℕ
 slotsNeeded (endpoint kind address maximum dir) = slotsOf (isIso kind) dir
 slotsNeeded (ep0 maximum) = 1
 
+-- the rows that may refuse it
+abbrev pub Refuses : Call → ℕ → Type 0
+Refuses (endpoint kind address maximum dir) n = (6 ≤ n) × (n ≤ 8)
+Refuses (ep0 maximum) n = (n ≡ 22) ⊎ ((n ≡ 6) ⊎ (n ≡ 8))
+
 -- what a call does: it is refused and changes nothing, or is given buffers
 pub data Step (a : Allocator) : Call → Allocation → Type 0 where
-  kept : (c : Call) (n : ℕ) → 6 ≤ n → n ≤ 8 → (n ≡ 8 → a .count < a .next + slotsNeeded c) → Step a c (refused n a)
+  kept : (c : Call) (n : ℕ) → Refuses c n → (n ≡ 8 → a .count < a .next + slotsNeeded c) → Step a c (refused n a)
   gave : (kind address maximum : ℕ) (dir : Dir) (e base n : ℕ) (b : Allocator) → maximum ≤ a .size → Gives a (isIso kind) dir e base n b
       → Step a (endpoint kind address maximum dir) (record { answer = Given e base n; after = b })
-  gave-ep0 : (maximum : ℕ) → maximum ≤ a .size → a .next < a .count
+  gave-ep0 : (maximum : ℕ) → maximum ≡ 64 → maximum ≤ a .size → a .next < a .count
       → Step a (ep0 maximum) (record { answer = Given 0 (a .next * a .size) 1; after = withNext a (a .next + 1) })
 
 -- ---- the buffers that were given
@@ -85,18 +91,21 @@ Disjoint size (r ∷ rs) = All (λ q. end size r ≤ q .base) rs × Disjoint siz
 
 numbered : (a : Allocator) (kind address maximum : ℕ) (dir : Dir) (r : Allocation) → Outcome a kind address maximum dir r
     → Step a (endpoint kind address maximum dir) r
-numbered a kind address maximum dir r (six l) = kept _ 6 (omega arith) (omega arith) (λ n. absurd (omega arith))
-numbered a kind address maximum dir r (seven m q) = kept _ 7 (omega arith) (omega arith) (λ n. absurd (omega arith))
-numbered a kind address maximum dir r (eight e m q l) = kept _ 8 (omega arith) (omega arith) (λ n. l)
+numbered a kind address maximum dir r (six l) = kept (endpoint kind address maximum dir) 6 (omega arith, omega arith) (λ n. absurd (omega arith))
+numbered a kind address maximum dir r (seven m q) = kept (endpoint kind address maximum dir) 7 (omega arith, omega arith) (λ n. absurd (omega arith))
+numbered a kind address maximum dir r (eight e m q l) = kept (endpoint kind address maximum dir) 8 (omega arith, omega arith) (λ n. l)
 numbered a kind address maximum dir r (given e base n b m q g) = gave kind address maximum dir e base n b m g
 
 pub step : (a : Allocator) (c : Call) → Step a c (called a c)
 unfolding allocateEp0Of
 step a (endpoint kind address maximum dir) = numbered a kind address maximum dir _ (outcome a kind address maximum dir)
 step a (ep0 maximum) =
-    either (Step a (ep0 maximum)) (ltb (a .size) maximum) _ _ (λ t. kept (ep0 maximum) 6 (omega arith) (omega arith) (λ n. absurd (omega arith)))
-    (λ m. either (Step a (ep0 maximum)) (leb (a .count) (a .next)) _ _ (λ t. kept (ep0 maximum) 8 (omega arith) (omega arith) (λ n. let h : a .count ≤ a .next = leb-true _ _ t in omega arith))
-    (λ f. gave-ep0 maximum (ltb-false _ _ m) (leb-false _ _ f)))
+    either (Step a (ep0 maximum)) (eqb maximum 64) _ _
+    (λ e. either (Step a (ep0 maximum)) (ltb (a .size) maximum) _ _ (λ t. kept (ep0 maximum) 6 (inr (inl refl)) (λ n. absurd (omega arith)))
+    (λ m. either (Step a (ep0 maximum)) (leb (a .count) (a .next)) _ _
+    (λ t. kept (ep0 maximum) 8 (inr (inr refl)) (λ n. let h : a .count ≤ a .next = leb-true _ _ t in omega arith))
+    (λ f. gave-ep0 maximum (eqb-true _ _ e) (ltb-false _ _ m) (leb-false _ _ f))))
+    (λ f. kept (ep0 maximum) 22 (inl refl) (λ n. absurd (omega arith)))
 
 lower : (size from less to : ℕ) (rs : List Region) → less ≤ from → Stacked size from to rs → Stacked size less to rs
 lower size from less to [] h s = le-trans h s
@@ -112,13 +121,13 @@ stacked-step : (a : Allocator) (c : Call) (r : Allocation) → Step a c r → a 
     → (r .after .next ≤ r .after .count → Stacked (r .after .size) (r .after .next * r .after .size) (r .after .count * r .after .size) rs)
     → Stacked (a .size) (a .next * a .size) (a .count * a .size) (noted c (r .answer) rs)
 unfolding withNext
-stacked-step a c r (kept d n lo hi k) h rs ih = ih h
+stacked-step a c r (kept d n w k) h rs ih = ih h
 stacked-step a c r (gave kind address maximum dir e base n b m g) h rs ih =
     let d = add-mul (a .next) n (a .size) in (
       omega (arith, g .starts),
       same-stack _ _ _ _ _ _ rs (g .number .same-size) (cc) (cc) (ih (omega (arith, g .used, g .fits, g .number .same-count))),
     )
-stacked-step a c r (gave-ep0 maximum m l) h rs ih = (
+stacked-step a c r (gave-ep0 maximum e m l) h rs ih = (
   le-refl _,
   same-stack _ _ _ _ _ _ rs refl (add-mul (a .next) 1 (a .size)) refl (ih (omega arith)),
 )

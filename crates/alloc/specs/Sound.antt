@@ -77,7 +77,7 @@ module _ (a : Allocator) (iso : Bool) (dir : Dir) (e : ℕ) (b : Allocator) (t :
 
 sound-step : (a : Allocator) (c : Call) (r : Allocation) → Step a c r → Sound a → Sound (r .after)
 unfolding withNext takenIn numsOf allocatedIn
-sound-step a c r (kept d n lo hi k) s = s
+sound-step a c r (kept d n w k) s = s
 sound-step a c r (gave kind address maximum dir e base n b m g) s = record {
   room = omega (arith, g .used, g .fits, g .number .same-count);
   small = rw (g .number .same-size, g .number .same-count) (s .small);
@@ -91,7 +91,7 @@ sound-step a c r (gave kind address maximum dir e base n b m g) s = record {
     go true true d j = refl
     go true false d j = s .taken d j
     go false k d j = s .taken d j
-sound-step a c r (gave-ep0 maximum m l) s = record {
+sound-step a c r (gave-ep0 maximum x m l) s = record {
   room = omega arith;
   small = s .small;
   not-zero = zero;

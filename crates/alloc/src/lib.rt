@@ -87,10 +87,16 @@ pub fn allocate(a: Allocator, kind: u8, address: u32, maximum: u32, dir: Dir) ->
     }
 }
 
-// EP0's buffer: rows 6, 8. The number given is 0.
+// The maximum of a high-speed control endpoint (USB 2.0, 5.5.3).
+const EP0_MAX: u32 = 64;
+
+// EP0's buffer: rows 22, 6, 8. The number given is 0.
 pub fn allocate_ep0(a: Allocator, maximum: u32) -> Allocation
     ensures { λ r. ⌜ r ≡ allocateEp0Of a maximum ⌝ }
 {
+    if maximum != EP0_MAX {
+        return refused(22, a);
+    }
     if (a.size as u32) < maximum {
         return refused(6, a);
     }

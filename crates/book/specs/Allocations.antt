@@ -85,8 +85,8 @@ room-up x z = omega (arith, add-mul x 1 z)
 started : {b : Buf} {d : Driver} {t : Pages} → Rest quiet b d t → (maximum : ℕ) (z : Allocation) → Sound (z .after) → Step (d .allocator) (ep0 maximum) z
     → Rest quiet b (startedWith maximum (z .answer) (withAllocator d (z .after))) (startedB maximum (z .answer) (withKept t (keptAllocator (t .kept) (z .after))))
 unfolding startedWith withNext epOn lenOn pacedOn requestOn allocatedIn
-started {d = d} r maximum z s (kept c n lo hi k) = further r (d .allocator) (same-further (d .allocator) s)
-started {b = b} {d = d} {t = t} r maximum z s (gave-ep0 m small l) =
+started {d = d} r maximum z s (kept c n w k) = further r (d .allocator) (same-further (d .allocator) s)
+started {b = b} {d = d} {t = t} r maximum z s (gave-ep0 m x small l) =
     let a = withNext (d .allocator) (d .allocator .next + 1) in
     let f : Further (d .allocator) a = record { size = refl; count = refl; next = omega arith; sound = s; allocated = same-bits } in
     let q = further r a f in

@@ -59,17 +59,19 @@ fn within(call: Call, bits: u32) -> Call {
     }
 }
 
-/// The entries up to an allocation that was refused for want of buffers, of which the Rust keeps the number and the buffers that were left.
-fn up_to_eight(entries: &[Entry]) -> &[Entry] {
-    let ends = |e: &Entry| matches!((&e.call, &e.answer), (Call::Allocate { .. }, Answer::Refused(8)));
-    let n = entries.iter().position(ends).map_or(entries.len(), |i| i + 1);
-    &entries[..n]
+/// The entries up to an allocation that was refused for want of buffers, of which the Rust keeps the number and the buffers that were left, and before
+/// a start of EP0 with another maximum than 64, which the port refuses.
+fn within_domain(entries: &[Entry]) -> &[Entry] {
+    let eight = |e: &Entry| matches!((&e.call, &e.answer), (Call::Allocate { .. }, Answer::Refused(8)));
+    let other = |e: &Entry| matches!(e.call, Call::Start(maximum) if maximum != 64);
+    let n = entries.iter().position(eight).map_or(entries.len(), |i| i + 1);
+    &entries[..entries.iter().position(other).unwrap_or(n).min(n)]
 }
 
 /// The first entry that the driver answers otherwise, but for the order of wake-ups and for what the Rust has no counterpart of.
 fn difference(driver: &mut dyn Driver, entries: &[Entry]) -> Option<(usize, Entry)> {
     let mut session = Session::new(driver);
-    for (i, e) in up_to_eight(entries).iter().enumerate() {
+    for (i, e) in within_domain(entries).iter().enumerate() {
         let own = session.call(&e.call);
         if e.answer == Answer::Outside {
             assert!(matches!(own.answer, Answer::Refused(_)) && own.changed.is_empty(), "{own:?}");
@@ -122,7 +124,7 @@ fn main() {
     if files.is_empty() {
         let (mut calls, mut compared) = (0, 0);
         for seed in seed..seed + runs {
-            let mut entries = oracle::random::run(&mut rust, seed, length);
+            let mut entries = oracle::random::run_64(&mut rust, seed, length);
             if only_begun {
                 let entries_of = entries;
                 let mut session = Session::new(&mut rust);
@@ -134,7 +136,7 @@ fn main() {
                     entries.push(entry);
                 }
             }
-            let entries = up_to_eight(&entries);
+            let entries = within_domain(&entries);
             check(&mut port, &format!("seed {seed}"), entries);
             calls += entries.len();
             // the others are the chip's stores, and calls that the Rust has no counterpart of: these must be refused and change no slot

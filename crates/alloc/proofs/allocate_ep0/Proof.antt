@@ -1,26 +1,33 @@
-use borrow.Author.Tests.{lt-ltb, le-ltb, le-leb, lt-leb}
+use borrow.Author.Tests.{eq-eqb, ne-eqb, lt-ltb, le-ltb, le-leb, lt-leb}
 use Rattle.alloc.specs.Alloc.{allocateEp0Of}
 use Rattle.alloc.proofs.Product.{below}
 use borrow.Author.Needs.{needs}
 use Rattle.alloc.proofs.allocate_ep0.Statement.{statement}
 use Rattle.alloc.proofs.allocate_ep0.Tie as tie
 
-cast-if1 : tie.Need-cast-if1
-cast-if1 c = search needs
-
 refused-requires : tie.Need-refused-requires
 refused-requires c κs = search needs
 
 returns : tie.Need-returns
 unfolding allocateEp0Of
-returns c = simp (c .refused .ensures, lt-ltb _ _ (c .before .if1 .taken))
+returns c = simp (c .refused .ensures, ne-eqb _ _ (c .before .if1 .taken))
+
+cast-if2 : tie.Need-cast-if2
+cast-if2 c = search needs
 
 refused-requires-2 : tie.Need-refused-requires-2
 refused-requires-2 c κs = search needs
 
 returns-2 : tie.Need-returns-2
 unfolding allocateEp0Of
-returns-2 c = simp (c .refused2 .ensures, le-leb _ _ (c .before .if2 .taken), le-ltb _ _ (c .before .before .before .if1 .left))
+returns-2 c = simp (c .refused2 .ensures, lt-ltb _ _ (c .before .if2 .taken), eq-eqb _ _ (c .before .before .before .if1 .left))
+
+refused-requires-3 : tie.Need-refused-requires-3
+refused-requires-3 c κs = search needs
+
+returns-3 : tie.Need-returns-3
+unfolding allocateEp0Of
+returns-3 c = simp (c .refused3 .ensures, le-leb _ _ (c .before .if3 .taken), le-ltb _ _ (c .before .before .before .if2 .left), eq-eqb _ _ (c .before .before .before .before .before .if1 .left))
 
 cast-base : tie.Need-cast-base
 cast-base c = search needs
@@ -37,22 +44,24 @@ add-with-next c = search needs
 with-next-requires : tie.Need-with-next-requires
 with-next-requires c κs = search needs
 
-returns-3 : tie.Need-returns-3
+returns-4 : tie.Need-returns-4
 unfolding allocateEp0Of
-returns-3 c = simp (c .with-next .ensures, lt-leb _ _ (c .before .before .before .before .if2 .left), le-ltb _ _ (c .before .before .before .before .before .before .if1 .left))
+returns-4 c = simp (c .with-next .ensures, lt-leb _ _ (c .before .before .before .before .if3 .left), le-ltb _ _ (c .before .before .before .before .before .before .if2 .left), eq-eqb _ _ (c .before .before .before .before .before .before .before .before .if1 .left))
 
 pub allocate-ep0-spec : {M : Type 1} → statement M
 allocate-ep0-spec =
     tie.close
     (tie.spec
-    cast-if1
     refused-requires
     returns
+    cast-if2
     refused-requires-2
     returns-2
+    refused-requires-3
+    returns-3
     cast-base
     cast-base-2
     mul-base
     add-with-next
     with-next-requires
-    returns-3)
+    returns-4)

@@ -39,6 +39,8 @@ struct Run<'a> {
     session: Session<'a>,
     entries: Vec<Entry>,
     buffer: Option<(u32, u32)>,
+    /// EP0's maximum, where it is fixed.
+    ep0: Option<u16>,
     size: u32,
     count: u32,
     callback: bool,
@@ -66,16 +68,26 @@ struct Run<'a> {
 
 /// A run of about `length` calls.
 pub fn run(driver: &mut dyn Driver, seed: u64, length: u32) -> Vec<Entry> {
-    run_in(driver, seed, length, None)
+    run_with(driver, seed, length, None, None)
+}
+
+/// The same with EP0's maximum 64, and so mostly buffers of 64 bytes or more.
+pub fn run_64(driver: &mut dyn Driver, seed: u64, length: u32) -> Vec<Entry> {
+    run_with(driver, seed, length, None, Some(64))
 }
 
 /// The same with this buffer size and count.
 pub fn run_in(driver: &mut dyn Driver, seed: u64, length: u32, buffer: Option<(u32, u32)>) -> Vec<Entry> {
+    run_with(driver, seed, length, buffer, None)
+}
+
+fn run_with(driver: &mut dyn Driver, seed: u64, length: u32, buffer: Option<(u32, u32)>, ep0: Option<u16>) -> Vec<Entry> {
     let mut r = Run {
         rng: Rng::new(seed),
         session: Session::new(driver),
         entries: vec![],
         buffer,
+        ep0,
         size: 0,
         count: 0,
         callback: false,
@@ -257,7 +269,11 @@ impl Run<'_> {
         self.paced = 0;
         (self.reads, self.writes) = (0, 0);
         self.index = self.rng.below(16384);
-        self.size = self.buffer.map_or_else(|| self.rng.pick(&[8, 8, 16, 32, 64, 64, 512]), |b| b.0);
+        self.size = match (self.buffer, self.ep0) {
+            (Some(b), _) => b.0,
+            (_, Some(_)) => self.rng.pick(&[64, 64, 64, 64, 64, 64, 512, 512, 512, 512, 512, 8, 16, 32]),
+            _ => self.rng.pick(&[8, 8, 16, 32, 64, 64, 512]),
+        };
         let wanted = self.wanted();
         let need: u32 = wanted.iter().map(|w| buffers(w.0, w.3)).sum::<u32>() + 1;
         let most = 65_536 / self.size;
@@ -282,8 +298,12 @@ impl Run<'_> {
                 of[result as usize] = Some(Endpoint { kind, max: maximum });
             }
         }
-        self.ep0_max = if self.rng.chance(60) { self.size.min(64) } else { self.rng.range(0, self.size) } as u16;
-        if matches!(self.operate(Call::Start(self.ep0_max)), Answer::Refused(_)) {
+        self.ep0_max = match self.ep0 {
+            Some(maximum) => maximum,
+            None if self.rng.chance(60) => self.size.min(64) as u16,
+            None => self.rng.range(0, self.size) as u16,
+        };
+        if matches!(self.operate(Call::Start(self.ep0_max)), Answer::Refused(_) | Answer::Outside) {
             self.left = 0;
             return;
         }
