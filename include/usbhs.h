@@ -14,7 +14,7 @@
  *   5 end            8-23 result; wake-ups: 24-39 IN 0-15, 40-55 OUT 0-15, 56 bus
  *   6 not yet        of a poll: wait for a wake-up, then poll again
  *   7 done           8-23 length: of a poll, so many bytes at the slice's front; the request is over
- *   8 shown          8-23 length, 32-63 offset into the slots: an open packet
+ *   8 shown          8-23 length, 32-63 offset into the slots: an open packet, whose stamp is at `stamp`
  *
  * After kinds 1 to 4 the operation is under way: make the access, then call usbhs_continue, with the reading after a read and with any
  * number after the others. The registers' numbers are those of enum usbhs_register.
@@ -29,7 +29,7 @@
 extern "C" {
 #endif
 
-#define USBHS_STATE_LEN 2329
+#define USBHS_STATE_LEN 2843
 
 /* The kinds of answer. */
 enum usbhs_kind {
@@ -87,7 +87,8 @@ enum usbhs_register {
 #define USBHS_LENGTH(word) ((unsigned)((word) >> 8 & 0xFFFF))     /* done, shown */
 #define USBHS_OFFSET(word) ((uint32_t)((word) >> 32))             /* shown */
 
-/* Start-up, endpoints, EP0's start. */
+/* Start-up, endpoints, EP0's start. A buffer's size is 8, 16, 32, 64, 512 or 1024; EP0's maximum is 64 (any other is refused with 22), so EP0
+ * starts on buffers of 64 bytes or more. A refused call changes nothing. */
 uint64_t usbhs_start_up(uint8_t state[USBHS_STATE_LEN], const uint8_t *slots, size_t slots_length, uint32_t size, uint32_t count, uint32_t callback);
 uint64_t usbhs_allocate(uint8_t state[USBHS_STATE_LEN], uint32_t kind, uint32_t address, uint32_t maximum, uint32_t interval, uint32_t dir);
 uint64_t usbhs_start(uint8_t state[USBHS_STATE_LEN], uint32_t maximum);
@@ -129,8 +130,10 @@ uint64_t usbhs_begin_accept_set_address(uint8_t state[USBHS_STATE_LEN], uint32_t
 uint64_t usbhs_poll_accept(uint8_t state[USBHS_STATE_LEN]);
 uint64_t usbhs_begin_reject(uint8_t state[USBHS_STATE_LEN]);
 
-/* Packets in place, each call over at once: an isochronous OUT's oldest is opened (shown) and closed, an isochronous IN's is queued. */
-uint64_t usbhs_open(uint8_t state[USBHS_STATE_LEN], const uint8_t *slots, size_t slots_length, uint32_t endpoint);
+/* Packets in place, each call over at once: an isochronous OUT's oldest is opened (shown) and closed, an isochronous IN's is queued.
+ * The stamp of an open packet is the microframe index of the frame reading with which the interrupt that admitted it began; where none is shown,
+ * *stamp stays. */
+uint64_t usbhs_open(uint8_t state[USBHS_STATE_LEN], const uint8_t *slots, size_t slots_length, uint32_t endpoint, uint16_t *stamp);
 uint64_t usbhs_close(uint8_t state[USBHS_STATE_LEN], uint32_t endpoint);
 uint64_t usbhs_queue(uint8_t state[USBHS_STATE_LEN], uint8_t *slots, size_t slots_length, uint32_t endpoint, const uint8_t *data, size_t data_length);
 

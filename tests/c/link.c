@@ -16,6 +16,7 @@ int main(void)
 {
     static uint8_t state[USBHS_STATE_LEN];
     static uint8_t slots[64];
+    uint16_t stamp = 7;
     uint64_t word;
 
     /* no buffers yet, so the slots' length is to be 0 (row 1), and nothing is under way (row 15) */
@@ -28,6 +29,10 @@ int main(void)
     word = usbhs_begin_microframe(state);
     expect("microframe: kind", USBHS_KIND(word), USBHS_REFUSED);
     expect("microframe: row", USBHS_ROW(word), 4);
+    word = usbhs_open(state, slots, 0, 1, &stamp);
+    expect("open: kind", USBHS_KIND(word), USBHS_REFUSED);
+    expect("open: row", USBHS_ROW(word), 4);
+    expect("open: stamp", stamp, 7);
     expect("pending", usbhs_pending(state, 1), 0);
     expect("overruns", usbhs_overruns(state, 1), 0);
     expect("enabled", usbhs_enabled(state, 1, USBHS_IN), 0);

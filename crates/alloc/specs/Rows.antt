@@ -3,9 +3,11 @@
 use mathlib.Core.Path.{_≡_, refl, sym, subst, _∙_}
 use Prim.Native.Nat.{ℕ, _+_, _≤_, _<_}
 use native.Mathlib.Omega.{arith}
+use borrow.Author.Tests.{lt-ltb, ne-eqb}
 use Rattle.state.specs.declared.Allocator.{Allocator}
 use Rattle.alloc.specs.declared.Answer.the-variants.{Refused, Given}
 use Rattle.alloc.specs.declared.Allocation.{Allocation}
+use Rattle.alloc.specs.Alloc.{refused, allocateEp0Of}
 use Rattle.alloc.specs.Run.{Call, endpoint, ep0, called, slotsNeeded, Refuses, Step, kept, gave, gave-ep0, step}
 
 abbrev pub maximumOf : Call → ℕ
@@ -57,3 +59,12 @@ module _ (a : Allocator) where
   -- EP0's is 64
   pub ep0-maximum : (maximum e base n : ℕ) → called a (ep0 maximum) .answer ≡ Given e base n → maximum ≡ 64
   ep0-maximum maximum e base n q = ep0-step (ep0 maximum) maximum (called a (ep0 maximum)) (step a (ep0 maximum)) refl e base n q
+
+  -- with 64, buffers of fewer bytes end at 6; any other maximum ends at 22
+  pub ep0-six : a .size < 64 → called a (ep0 64) ≡ refused 6 a
+  unfolding allocateEp0Of
+  ep0-six h = simp (lt-ltb (a .size) 64 h)
+
+  pub ep0-other : (maximum : ℕ) → (maximum ≡ 64 → ⊥) → called a (ep0 maximum) ≡ refused 22 a
+  unfolding allocateEp0Of
+  ep0-other maximum h = simp (ne-eqb maximum 64 h)

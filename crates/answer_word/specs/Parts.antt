@@ -51,12 +51,13 @@ ofKind k w =
     (cond (eqb k 5) (Ends (halfAt w 8) (record { outs = halfAt w 40; ins = halfAt w 24; bus = w / 2 ^ 56 }))
     (cond (eqb k 6) NotYet
     (cond (eqb k 7) (Done (halfAt w 8))
-    (Shown (w / 2 ^ 32) (halfAt w 8)))))))))
+    (Shown (w / 2 ^ 32) (halfAt w 8) 0))))))))
 
 unfoldable pub stepOf : ℕ → Step
 stepOf w = ofKind (w % 2 ^ 4) w
 
--- what an answer's word says: of a setup packet, whose bytes are in the caller's packet, that 8 are brought
+-- what an answer's word says: of a setup packet, whose bytes are in the caller's packet, that 8 are brought; of a packet that is shown no stamp,
+-- which is in the caller's room for it
 abbrev pub spoken : Step → Step
 spoken (Refused n) = Refused n
 spoken (Asks q) = Asks q
@@ -64,7 +65,7 @@ spoken (Ends n w) = Ends n w
 spoken NotYet = NotYet
 spoken (Done n) = Done n
 spoken (Setup low high) = Done 8
-spoken (Shown at n) = Shown at n
+spoken (Shown at n stamp) = Shown at n 0
 
 -- the numbers of an answer are as wide as the call's types
 abbrev pub AccessFits : Access → Type 0
@@ -86,4 +87,4 @@ Fits (Ends n w) = EndFits n w
 Fits NotYet = Unit
 Fits (Done n) = n < 2 ^ 16
 Fits (Setup low high) = Unit {0}
-Fits (Shown at n) = (at < 2 ^ 32) × (n < 2 ^ 16)
+Fits (Shown at n stamp) = (at < 2 ^ 32) × (n < 2 ^ 16)

@@ -35,7 +35,7 @@ endWord n w = 5 + n * 2 ^ 8 + w .ins * 2 ^ 24 + w .outs * 2 ^ 40 + w .bus * 2 ^ 
 abbrev pub doneWord : ℕ → ℕ
 doneWord n = 7 + n * 2 ^ 8
 
--- kind 8: length 8-23, offset into the slots 32-63
+-- kind 8: length 8-23, offset into the slots 32-63; both are as wide as the state has them, so the stamp has no room here
 abbrev pub shownWord : ℕ → ℕ → ℕ
 shownWord at n = 8 + n * 2 ^ 8 + at * 2 ^ 32
 
@@ -47,7 +47,7 @@ wordOf (Ends n w) = endWord n w
 wordOf NotYet = 6
 wordOf (Done n) = doneWord n
 wordOf (Setup low high) = doneWord 8
-wordOf (Shown at n) = shownWord at n
+wordOf (Shown at n stamp) = shownWord at n
 
 -- the word is the answer's, and is read back as it
 unfoldable pub Says : ℕ → Step → Type 0

@@ -142,14 +142,14 @@ done-word n h =
     let b : halfAt (doneWord n) 8 ≡ n = omega arith in
     ap (λ k. ofKind k (doneWord n)) k ∙ ap Done b
 
-shown-word : (at n : ℕ) → n < 2 ^ 16 → stepOf (shownWord at n) ≡ Shown at n
+shown-word : (at n : ℕ) → n < 2 ^ 16 → stepOf (shownWord at n) ≡ Shown at n 0
 unfolding stepOf
 shown-word at n h =
     let k : shownWord at n % 2 ^ 4 ≡ 8 = omega arith in
     let m : shownWord at n / 2 ^ 8 ≡ n + (at * 2 ^ 8) * 2 ^ 16 = omega arith in
     let b : halfAt (shownWord at n) 8 ≡ n = ap (λ m. m % 2 ^ 16) m ∙ low-half n _ h in
     let o : shownWord at n / 2 ^ 32 ≡ at = omega arith in
-    ap (λ k. ofKind k (shownWord at n)) k ∙ (λ i. Shown (o i) (b i))
+    ap (λ k. ofKind k (shownWord at n)) k ∙ (λ i. Shown (o i) (b i) 0)
 
 access-word : (q : Access) → AccessFits q → stepOf (accessWord q) ≡ Asks q
 unfolding stepOf accessWord
@@ -170,7 +170,7 @@ step-word (Ends n w) h = end-word n w (h .0) (h .1) (h .2)
 step-word NotYet h = refl
 step-word (Done n) h = done-word n h
 step-word (Setup low high) h = done-word 8 (omega arith)
-step-word (Shown at n) h = shown-word at n (h .1)
+step-word (Shown at n stamp) h = shown-word at n (h .1)
 
 -- the word of an answer by another name
 pub says : (r : ℕ) (step t : Step) → step ≡ t → Fits t → r ≡ wordOf t → Says r step

@@ -57,7 +57,8 @@ fn shown_word(at: u32, n: u16) -> u64
     8 + n as u64 * 0x100 + at as u64 * 0x1_0000_0000
 }
 
-// The word of a call's answer. A setup packet's bytes lie in the caller's packet: 8 are brought.
+// The word of a call's answer. A setup packet's bytes lie in the caller's packet: 8 are brought. The stamp of a packet that is shown lies in the
+// caller's room for it.
 pub fn word_of(step: Step) -> u64
     ensures { λ r. ⌜ Says r step ⌝ }
 {
@@ -68,6 +69,6 @@ pub fn word_of(step: Step) -> u64
         Step::NotYet => 6,
         Step::Done(n) => done_word(n),
         Step::Setup(_low, _high) => done_word(8),
-        Step::Shown(at, n) => shown_word(at, n),
+        Step::Shown(at, n, _stamp) => shown_word(at, n),
     }
 }

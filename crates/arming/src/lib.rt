@@ -11,6 +11,8 @@ use ring::has_room_out;
 use ring::slot_addr;
 use ring::slot_index;
 use state::STATE_LEN;
+use state::clear_all_stamps;
+use state::clear_stamps;
 use state::fill_lens;
 use state::load_ep;
 use state::load_globals;
@@ -18,22 +20,33 @@ use state::load_len;
 use state::store_ep;
 use state::store_globals;
 use state::store_len;
+use state::store_stamp;
 ghost use mathlib.Core.Path.{_≡_};
 ghost use mathlib.Core.Bool.{cond};
 ghost use lib.Dec.{eqb};
 ghost use Rattle.state.specs.Driver.{epOn, withOn};
 ghost use Rattle.state.specs.Ep.{resetOf};
 ghost use Rattle.state.specs.State.{view, saved};
-ghost use Rattle.ops.specs.Rings.{recordedOn, admittedOn, staleOn, armAt, arrivedAt, arriveOn, renewedOn, slotStep, resetBelow, resetAll};
+ghost use Rattle.ops.specs.Rings.{writtenOn, recordedOn, admittedOn, staleOn, armAt, arrivedAt, arriveOn, renewedOn, slotStep, resetBelow, resetAll};
 
-// An admitted packet's length is recorded (mod.rs 499).
-fn record_len(s: &mut [u8; STATE_LEN], e: u8, len: u16)
+// The length of the packet in slot i (mod.rs 499), and its microframe, that of the interrupt under way.
+fn write_packet(s: &mut [u8; STATE_LEN], e: u8, i: u8, len: u16)
+    ensures { λ _. ⌜ view (now (s .exit)) ≡ writtenOn (view (now (s .entry))) e i len ⌝ }
+    ensures { λ _. ⌜ saved (now (s .exit)) ≡ saved (now (s .entry)) ⌝ }
+{
+    let g = load_globals(s);
+    store_len(s, Dir::Out, e, i, len);
+    store_stamp(s, e, i, g.entered);
+}
+
+// An admitted packet is recorded.
+fn record(s: &mut [u8; STATE_LEN], e: u8, len: u16)
     ensures { λ _. ⌜ view (now (s .exit)) ≡ recordedOn (view (now (s .entry))) e len ⌝ }
     ensures { λ _. ⌜ saved (now (s .exit)) ≡ saved (now (s .entry)) ⌝ }
 {
     let r = load_ep(s, Dir::Out, e);
     if has_room_out(r) {
-        store_len(s, Dir::Out, e, slot_index(r, r.head), len);
+        write_packet(s, e, slot_index(r, r.head), len);
         return;
     }
 }
@@ -44,7 +57,7 @@ fn admit(s: &mut [u8; STATE_LEN], e: u8, len: u16)
     ensures { λ _. ⌜ saved (now (s .exit)) ≡ saved (now (s .entry)) ⌝ }
 {
     let r = load_ep(s, Dir::Out, e);
-    record_len(s, e, len);
+    record(s, e, len);
     store_ep(s, Dir::Out, e, ring::arrived(r, len));
 }
 
@@ -103,7 +116,7 @@ pub fn arrive(s: &mut [u8; STATE_LEN], buf: &mut [u8], e: u8, n: u16) -> u32
     r.armed_slot
 }
 
-// The record reset, every length the maximum (mod.rs 1287-1291).
+// The record reset, every length the maximum (mod.rs 1287-1291), every stamp gone.
 fn renew(s: &mut [u8; STATE_LEN], e: u8)
     ensures { λ _. ⌜ view (now (s .exit)) ≡ renewedOn (view (now (s .entry))) e ⌝ }
     ensures { λ _. ⌜ saved (now (s .exit)) ≡ saved (now (s .entry)) ⌝ }
@@ -111,6 +124,7 @@ fn renew(s: &mut [u8; STATE_LEN], e: u8)
     let r = load_ep(s, Dir::Out, e);
     let max = r.max_len;
     fill_lens(s, e, max);
+    clear_stamps(s, e);
     let mut t = r.reset();
     t.min_len = max;
     store_ep(s, Dir::Out, e, t);
@@ -165,12 +179,13 @@ fn reset_eps(s: &mut [u8; STATE_LEN])
     }
 }
 
-// The bus's reset: every record reset, no setup is ready (mod.rs 1213-1216).
+// The bus's reset: every record reset, no setup is ready (mod.rs 1213-1216), every stamp gone.
 pub fn reset_all(s: &mut [u8; STATE_LEN])
     ensures { λ _. ⌜ view (now (s .exit)) ≡ resetAll (view (now (s .entry))) ⌝ }
     ensures { λ _. ⌜ saved (now (s .exit)) ≡ saved (now (s .entry)) ⌝ }
 {
     reset_eps(s);
+    clear_all_stamps(s);
     let mut g = load_globals(s);
     g.setup_ready = 0;
     store_globals(s, g);

@@ -13,7 +13,7 @@ use Rattle.state.specs.declared.EpState.{EpState}
 use Rattle.state.specs.Driver.{Driver, epOn}
 use Rattle.ring.specs.Slot.{countOf}
 use Rattle.script.specs.Cells.{Plain}
-use Rattle.script.specs.Script.{Test, changed, waiting, room, opened, Look, marked, next-len, setup-word, Fetch, oldest, received, received0, Act, complete, reset-ring, set-enabled, fill, fill0, open-oldest, close-oldest, take-oldest, enqueue, allocate, allocate0, Hand, arrive, send, place, place0}
+use Rattle.script.specs.Script.{Test, changed, waiting, room, opened, Look, marked, next-len, next-stamp, setup-word, Fetch, oldest, received, received0, Act, complete, reset-ring, set-enabled, fill, fill0, open-oldest, close-oldest, take-oldest, enqueue, allocate, allocate0, Hand, arrive, send, place, place0}
 use Rattle.script.specs.Statics.{isOn, flag}
 use Rattle.script.specs.Answers.{isNumber}
 use Rattle.script.specs.Alike.{Phase}
@@ -28,7 +28,7 @@ use Rattle.book.specs.Held.{IsAgrees, LookAgrees, FetchAgrees, ActAgrees
 use Rattle.book.specs.Cells.{gets, puts, unfed, good-bare}
 use Rattle.book.specs.Allocations.{allocates, starts, enables-kept}
 use Rattle.book.specs.Chips.{chip}
-use Rattle.book.specs.Outs.{is-changed, is-waiting-out, is-opened, look-marked, look-next-out, fetch-oldest, fetch-received, act-open, act-close, act-take, act-reset-out}
+use Rattle.book.specs.Outs.{is-changed, is-waiting-out, is-opened, look-marked, look-next-out, look-next-stamp, fetch-oldest, fetch-received, act-open, act-close, act-take, act-reset-out}
 use Rattle.book.specs.Arrives.{hand-arrive, hand-place-out}
 use Rattle.book.specs.Ins.{is-waiting-in, look-next-in, is-room, act-complete, act-reset-in, act-enqueue, hand-place-in, hand-send}
 use Rattle.book.specs.Bytes.{act-fill, act-fill0, look-setup-word, fetch-received0, hand-place0}
@@ -58,6 +58,7 @@ pub looks : (q : Look) → LookAgrees q
 looks (marked e) = look-marked e
 looks (next-len Out e) = look-next-out e
 looks (next-len In e) = look-next-in e
+looks (next-stamp e) = look-next-stamp e
 looks (setup-word k) = look-setup-word k
 
 pub fetches : (q : Fetch) → FetchAgrees q

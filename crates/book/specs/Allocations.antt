@@ -17,7 +17,7 @@ use Rattle.regs.specs.Enables as enables
 use Rattle.state.specs.declared.EpState.{EpState}
 use Rattle.state.specs.declared.Globals.{Globals}
 use Rattle.state.specs.declared.Allocator.{Allocator}
-use Rattle.state.specs.Driver.{Driver, key, epOn, withOn, lenOn, pacedOn, requestOn, withGlobals, withAllocator}
+use Rattle.state.specs.Driver.{Driver, key, epOn, withOn, lenOn, stampOn, pacedOn, requestOn, withGlobals, withAllocator}
 use Rattle.alloc.specs.declared.Answer.{Answer}
 use Rattle.alloc.specs.declared.Answer.the-variants.{Refused, Given}
 use Rattle.alloc.specs.declared.Allocation.{Allocation}
@@ -47,7 +47,8 @@ use Rattle.book.specs.Book as book
 use Rattle.book.specs.Cells.{epOn-by}
 use Rattle.book.specs.Pages.{OutPage, Kept, Pages, withKept, keptAllocator}
 use Rattle.book.specs.Book.{freshPages, globalsBy, enableB, givenB, allocateB, startedB, allocateB0}
-use Rattle.book.specs.Rest.{Rest, Shape, Used, Unused, Held, OutFits, InFits, AtRest, SameKept, endOf, lensOf}
+use Rattle.book.specs.Rest.{Rest, Shape, Used, Unused, Held, OutFits, InFits, AtRest, SameKept, endOf, lensOf, slotStamps}
+use Rattle.book.specs.Stamps.{none-stamps}
 use Rattle.book.specs.Given.{Further, further, gives, receives, receives-by, zero-addr}
 
 same-further : (a : Allocator) → Sound a → Further a a
@@ -84,7 +85,7 @@ room-up x z = omega (arith, add-mul x 1 z)
 
 started : {b : Buf} {d : Driver} {t : Pages} → Rest quiet b d t → (maximum : ℕ) (z : Allocation) → Sound (z .after) → Step (d .allocator) (ep0 maximum) z
     → Rest quiet b (startedWith maximum (z .answer) (withAllocator d (z .after))) (startedB maximum (z .answer) (withKept t (keptAllocator (t .kept) (z .after))))
-unfolding startedWith withNext epOn lenOn pacedOn requestOn allocatedIn
+unfolding startedWith withNext epOn lenOn stampOn pacedOn requestOn allocatedIn
 started {d = d} r maximum z s (kept c n w k) = further r (d .allocator) (same-further (d .allocator) s)
 started {b = b} {d = d} {t = t} r maximum z s (gave-ep0 m x small l) =
     let a = withNext (d .allocator) (d .allocator .next + 1) in
@@ -92,7 +93,7 @@ started {b = b} {d = d} {t = t} r maximum z s (gave-ep0 m x small l) =
     let q = further r a f in
     record {
       step = tt;
-      sized = record { eps = q .sized .eps; lens = q .sized .lens; paced = q .sized .paced; requests = q .sized .requests };
+      sized = record { eps = q .sized .eps; lens = q .sized .lens; stamps = q .sized .stamps; paced = q .sized .paced; requests = q .sized .requests };
       sound = q .sound;
       good = q .good;
       long = q .long;
@@ -150,10 +151,10 @@ receives-kept {d = d} r Out e on h x = elim (ℕ-discrete (x % 16) (e % 16)) [
 
 configures : {b : Buf} {d : Driver} {t : Pages} → Rest quiet b d t → (dir : Dir) (e : ℕ) (on : Bool) → isoOut d dir e ≡ false
     → Rest quiet b (configured d dir e on) (globalsBy t (λ g. withEpConfig (enables.withOn (g .«ep_config») dir e on) g))
-unfolding configured epOn lenOn pacedOn requestOn
+unfolding configured epOn lenOn stampOn pacedOn requestOn
 configures {b = b} {d = d} {t = t} r dir e on h = record {
   step = tt;
-  sized = record { eps = r .sized .eps; lens = r .sized .lens; paced = r .sized .paced; requests = r .sized .requests };
+  sized = record { eps = r .sized .eps; lens = r .sized .lens; stamps = r .sized .stamps; paced = r .sized .paced; requests = r .sized .requests };
   sound = r .sound;
   good = r .good;
   long = r .long;
@@ -273,7 +274,7 @@ module _ (c : Config) (b : Buf) (row : startRow c b ≡ 0) where
   unfolding freshDriver
   fresh-kept = record {
     step = tt;
-    sized = record { eps = length-replicate 32 newEp; lens = length-replicate {A = ℕ} 512 0; paced = length-replicate {A = ℕ} 16 0x1800; requests = length-replicate 32 noRequest };
+    sized = record { eps = length-replicate 32 newEp; lens = length-replicate {A = ℕ} 512 0; stamps = length-replicate {A = ℕ} 256 0; paced = length-replicate {A = ℕ} 16 0x1800; requests = length-replicate 32 noRequest };
     sound = sound-new;
     good = size-good (c .size) (c .count) (rows .1);
     long = rows .0;
@@ -289,6 +290,7 @@ module _ (c : Config) (b : Buf) (row : startRow c b ≡ 0) where
     shape = λ dir e. rw (unused-new dir e, record-new dir e) (record { iso = refl; base = refl; stride = refl; slots = refl });
     outs = λ e. rw (record-new Out e) (record {
       held = held-new 0 Out e;
+      stamps = none-stamps newEp (slotStamps D e) (reset-count newEp refl refl);
       opened = refl;
       shows = λ h. absurd (true≢false h);
       lost = refl;

@@ -1,11 +1,11 @@
 -- A packet that arrives on an OUT endpoint, and its receive address handed out
 use mathlib.Core.Bool.{Bool, true, false, cond, true≢false}
-use mathlib.Core.List.{List, [], _∷_, _++_}
+use mathlib.Core.List.{List, [], _∷_, _++_, map, map-append}
 use mathlib.Core.Path.{_≡_, refl, ap, subst, sym, _∙_}
 use Prim.Native.Nat.{ℕ, _+_, _-_, _*_, _/_, _%_, _^_, _≤_, _<_, min}
 use native.Mathlib.Omega.{arith}
 use lib.Dec.{eqb, ltb}
-use lib.ListN.{length, set}
+use lib.ListN.{length, set, length-map}
 use Rattle.bits.specs.Bit.{isSet}
 use Rattle.regs.specs.declared.Dir.the-variants.{Out}
 use Rattle.regs.specs.declared.Access.the-variants.{Receive}
@@ -31,12 +31,13 @@ use Rattle.script.specs.Alike.{quiet}
 use Rattle.script.specs.Statics.{flag, isoOuts}
 use Rattle.script.specs.Machine.{Buf}
 use Rattle.ops.specs.Records.{plainOf}
-use Rattle.ops.specs.Rings.{recordedOn, admittedOn, staleOn, arrivedAt, arriveOn, placeOn}
-use Rattle.book.specs.Pages.{OutPage, Pages, withOut}
-use Rattle.book.specs.Book.{withWaiting, arrived, slotTold, receiving, feedB}
-use Rattle.book.specs.Rest.{lensOf, OutFits, Armed, Rest}
-use Rattle.book.specs.Lens.{lens-set, lens-on, ep-len}
-use Rattle.book.specs.Frame.{Changed, changed-not, changed-on, changed-len, changed-trans, kept-same, end-kept, out-changed, out-moved, out-same, out-twice, only-bytes}
+use Rattle.ops.specs.Rings.{writtenOn, recordedOn, admittedOn, staleOn, arrivedAt, arriveOn, placeOn}
+use Rattle.book.specs.Pages.{Packet, bytesOf, stampsOf, OutPage, Pages, withOut}
+use Rattle.book.specs.Book.{withWaiting, arrived, slotTold, receiving, packetB, feedB}
+use Rattle.book.specs.Rest.{lensOf, slotStamps, OutFits, Armed, Rest}
+use Rattle.book.specs.Lens.{lens-set, lens-on, ep-len, stamps-length, stamps-set, stamps-on, stamps-len, ep-stamp, lens-stamp}
+use Rattle.book.specs.Stamps.{stamped, alike-stamps, arrive-stamps}
+use Rattle.book.specs.Frame.{Changed, changed-not, changed-on, changed-len, changed-stamp, changed-trans, kept-same, end-kept, out-changed, out-moved, out-same, out-twice, only-bytes}
 use Rattle.book.specs.Held.{HandAgrees, receives, receives-used, receives-slots, good-words}
 use Rattle.book.specs.Outs.{Inner, out-on, out-page}
 
@@ -77,53 +78,65 @@ arrived-inner r len = record { place = arrived-place r len; plain = arrived-plai
 
 -- ---- the page
 
-module _ (p : OutPage) (bytes : List ℕ) where
-  page-keeps : {A : Type 0} (f : OutPage → A) → ((w : List (List ℕ)) (n : ℕ) → f (record { waiting = w; opened = p .opened; lost = n; slot = p .slot }) ≡ f p) → f (arrived p bytes) ≡ f p
+module _ (p : OutPage) (q : Packet) where
+  page-keeps : {A : Type 0} (f : OutPage → A) → ((w : List Packet) (n : ℕ) → f (record { waiting = w; opened = p .opened; lost = n; slot = p .slot }) ≡ f p) → f (arrived p q) ≡ f p
   page-keeps f h = go (ltb (length (p .waiting)) 15)
     where
-      go : (u : Bool) → f (cond u (withWaiting p (p .waiting ++ (bytes ∷ [])) (p .opened)) (record { waiting = p .waiting; opened = p .opened; lost = p .lost + 1; slot = p .slot })) ≡ f p
+      go : (u : Bool) → f (cond u (withWaiting p (p .waiting ++ (q ∷ [])) (p .opened)) (record { waiting = p .waiting; opened = p .opened; lost = p .lost + 1; slot = p .slot })) ≡ f p
       go true = h _ _
       go false = h _ _
 
-  page-waiting : arrived p bytes .waiting ≡ join 15 (p .waiting) bytes
-  page-waiting = go (ltb (length (p .waiting)) 15)
+  -- of each packet its bytes, or its stamp
+  page-joined : {A : Type 0} (f : Packet → A) → map f (arrived p q .waiting) ≡ cond (ltb (length (p .waiting)) 15) (map f (p .waiting) ++ (f q ∷ [])) (map f (p .waiting))
+  page-joined f = go (ltb (length (p .waiting)) 15)
     where
-      go : (u : Bool) → cond u (withWaiting p (p .waiting ++ (bytes ∷ [])) (p .opened)) (record { waiting = p .waiting; opened = p .opened; lost = p .lost + 1; slot = p .slot }) .waiting
-          ≡ cond u (p .waiting ++ (bytes ∷ [])) (p .waiting)
-      go true = refl
+      go : (u : Bool) → map f (cond u (withWaiting p (p .waiting ++ (q ∷ [])) (p .opened)) (record { waiting = p .waiting; opened = p .opened; lost = p .lost + 1; slot = p .slot }) .waiting)
+          ≡ cond u (map f (p .waiting) ++ (f q ∷ [])) (map f (p .waiting))
+      go true = map-append f (p .waiting) (q ∷ [])
       go false = refl
+
+  page-waiting : bytesOf (arrived p q .waiting) ≡ join 15 (bytesOf (p .waiting)) (q .bytes)
+  page-waiting = page-joined (λ (z : Packet). z .bytes)
+      ∙ ap (λ (n : ℕ). cond (ltb n 15) (bytesOf (p .waiting) ++ (q .bytes ∷ [])) (bytesOf (p .waiting))) (sym (length-map (p .waiting) (λ (z : Packet). z .bytes)))
 
 -- ---- an arrival, before its receive address is handed out
 
-module _ {b : Buf} {r : EpState} {ls : List ℕ} {p : OutPage} (f : OutFits b r ls p) (sixteen : r .slots ≡ 16) (len : ℕ) (small : len ≤ r .stride) where
+module _ {b : Buf} {r : EpState} {ls ss : List ℕ} {p : OutPage} (f : OutFits b r ls ss p) (sixteen : r .slots ≡ 16) (full : length ss ≡ 16) (len : ℕ) (small : len ≤ r .stride) where
   room-same : hasRoomOut r ≡ ltb (length (p .waiting)) 15
   room-same = room-out (f .held .placed) (f .held .ring) b
-      ∙ ap (λ w. ltb (length w) (r .slots - 1)) (f .held .waits) ∙ ap (λ (n : ℕ). ltb (length (p .waiting)) (n - 1)) sixteen
+      ∙ ap (λ w. ltb (length w) (r .slots - 1)) (f .held .waits) ∙ ap (λ (n : ℕ). ltb n (r .slots - 1)) (length-map (p .waiting) (λ (z : Packet). z .bytes))
+      ∙ ap (λ (n : ℕ). ltb (length (p .waiting)) (n - 1)) sixteen
 
-  lost-by : (bytes : List ℕ) (u : Bool)
+  lost-by : (q : Packet) (u : Bool)
       → cond u (joinedOf (shortestOf r len)) (turnedAwayOf (shortestOf r len)) .overruns
-      ≡ cond u (withWaiting p (p .waiting ++ (bytes ∷ [])) (p .opened)) (record { waiting = p .waiting; opened = p .opened; lost = p .lost + 1; slot = p .slot }) .lost % 2 ^ 32
+      ≡ cond u (withWaiting p (p .waiting ++ (q ∷ [])) (p .opened)) (record { waiting = p .waiting; opened = p .opened; lost = p .lost + 1; slot = p .slot }) .lost % 2 ^ 32
   unfolding joinedOf
-  lost-by bytes true = shortest-keeps (λ s. s .overruns) r len (λ s n. refl) ∙ f .lost
-  lost-by bytes false = turned-counts (shortestOf r len) (p .lost) (shortest-keeps (λ s. s .overruns) r len (λ s n. refl) ∙ f .lost)
+  lost-by q true = shortest-keeps (λ s. s .overruns) r len (λ s n. refl) ∙ f .lost
+  lost-by q false = turned-counts (shortestOf r len) (p .lost) (shortest-keeps (λ s. s .overruns) r len (λ s n. refl) ∙ f .lost)
 
-  arrived-lost : (bytes : List ℕ) → arrivedOf r len .overruns ≡ arrived p bytes .lost % 2 ^ 32
+  arrived-lost : (q : Packet) → arrivedOf r len .overruns ≡ arrived p q .lost % 2 ^ 32
   unfolding arrivedOf
-  arrived-lost bytes = subst (λ u. cond u (joinedOf (shortestOf r len)) (turnedAwayOf (shortestOf r len)) .overruns ≡ arrived p bytes .lost % 2 ^ 32)
-      (sym room-same) (lost-by bytes (ltb (length (p .waiting)) 15))
+  arrived-lost q = subst (λ u. cond u (joinedOf (shortestOf r len)) (turnedAwayOf (shortestOf r len)) .overruns ≡ arrived p q .lost % 2 ^ 32)
+      (sym room-same) (lost-by q (ltb (length (p .waiting)) 15))
 
-  module _ (bytes : List ℕ) (shown : window b (slotAddr r (r .head)) len ≡ bytes) where
-    arrived-waits : waiting b (arrivedOf r len) (arrivedLens r ls len) ≡ arrived p bytes .waiting
+  module _ (q : Packet) (shown : window b (slotAddr r (r .head)) len ≡ q .bytes) where
+    arrived-waits : waiting b (arrivedOf r len) (arrivedLens r ls len) ≡ bytesOf (arrived p q .waiting)
     arrived-waits = arrive-waits (f .held .placed) (f .held .ring) len b
         ∙ ap (λ (n : ℕ). join (n - 1) (waiting b r ls) (window b (slotAddr r (r .head)) len)) sixteen
         ∙ ap (λ w. join 15 w (window b (slotAddr r (r .head)) len)) (f .held .waits)
-        ∙ ap (λ x. join 15 (p .waiting) x) shown
-        ∙ sym (page-waiting p bytes)
+        ∙ ap (λ x. join 15 (bytesOf (p .waiting)) x) shown
+        ∙ sym (page-waiting p q)
 
-    arrived-fits : OutFits b (arrivedOf r len) (arrivedLens r ls len) (arrived p bytes)
+    arrived-stamps : stamped (arrivedOf r len) (arrivedLens r ss (q .stamp)) ≡ stampsOf (arrived p q .waiting)
+    arrived-stamps = arrive-stamps (f .held .placed) (f .held .ring) ss (q .stamp) len (omega arith)
+        ∙ ap (λ (u : Bool). cond u (stamped r ss ++ (q .stamp ∷ [])) (stamped r ss)) room-same
+        ∙ ap (λ (l : List ℕ). cond (ltb (length (p .waiting)) 15) (l ++ (q .stamp ∷ [])) l) (f .stamps)
+        ∙ sym (page-joined p q (λ (z : Packet). z .stamp))
+
+    arrived-fits : OutFits b (arrivedOf r len) (arrivedLens r ls len) (arrivedLens r ss (q .stamp)) (arrived p q)
     arrived-fits =
         let k = arrived-place r len in
-        let s : arrived p bytes .slot ≡ p .slot = page-keeps p bytes (λ q. q .slot) (λ w n. refl) in
+        let s : arrived p q .slot ≡ p .slot = page-keeps p q (λ z. z .slot) (λ w n. refl) in
         let m : arrivedOf r len .«max_len» ≡ r .«max_len» = ap (λ (q : Plain). q .«max_len») (arrived-plain r len) in
         record {
           held = record {
@@ -132,9 +145,10 @@ module _ {b : Buf} {r : EpState} {ls : List ℕ} {p : OutPage} (f : OutFits b r 
             least = omega (arith, m, k .stride, f .held .least);
             waits = arrived-waits;
           };
-          opened = arrived-open r len ∙ f .opened ∙ ap (λ u. flag u) (sym (page-keeps p bytes (λ q. q .opened) (λ w n. refl)));
+          stamps = arrived-stamps;
+          opened = arrived-open r len ∙ f .opened ∙ ap (λ u. flag u) (sym (page-keeps p q (λ z. z .opened) (λ w n. refl)));
           shows = arrive-shows (f .held .placed) (f .held .ring) len (f .shows);
-          lost = arrived-lost bytes;
+          lost = arrived-lost q;
           slot = arrived-slot r len ∙ f .slot ∙ sym s;
           from = omega (arith, s, k .base, f .from);
           upto = omega (arith, s, k .stride, end-kept k, f .upto);
@@ -142,9 +156,9 @@ module _ {b : Buf} {r : EpState} {ls : List ℕ} {p : OutPage} (f : OutFits b r 
 
 -- ---- the head's slot armed
 
-module _ {b b′ : Buf} {r : EpState} {ls : List ℕ} {p : OutPage} (f : OutFits b r ls p) (long : length b′ ≡ length b)
+module _ {b b′ : Buf} {r : EpState} {ls ss : List ℕ} {p : OutPage} (f : OutFits b r ls ss p) (long : length b′ ≡ length b)
     (o : Only (slotAddr r (r .head)) (slotAddr r (r .head) + r .stride) b b′) where
-  pub armed-fits : OutFits b′ (armedAt r (slotAddr r (r .head))) ls (slotTold p (slotAddr r (r .head)))
+  pub armed-fits : OutFits b′ (armedAt r (slotAddr r (r .head))) ls ss (slotTold p (slotAddr r (r .head)))
   unfolding armedAt
   armed-fits =
       let k = armed-alike r (slotAddr r (r .head)) in
@@ -155,6 +169,7 @@ module _ {b b′ : Buf} {r : EpState} {ls : List ℕ} {p : OutPage} (f : OutFits
           least = f .held .least;
           waits = alike-waits k b′ ls (f .held .ring .tail8) ∙ waiting-armed (f .held .placed) (f .held .ring) b b′ o ∙ f .held .waits;
         };
+        stamps = alike-stamps k ss (f .held .ring .tail8) ∙ f .stamps;
         opened = f .opened;
         shows = λ h. omega (arith, f .shows h, alike-count k);
         lost = f .lost;
@@ -171,9 +186,9 @@ armed-head : (r : EpState) (x : ℕ) → armedAt r x .head ≡ r .head
 unfolding armedAt
 armed-head r x = refl
 
--- after the record and the lengths of OUT e changed
+-- after the record, the lengths and the stamps of OUT e changed
 arm-rest : {b b′ : Buf} {d : Driver} {t : Pages} → Rest quiet b d t → (e : ℕ) (d1 : Driver) (p : OutPage) → Changed Out e d d1
-    → plainOf (epOn d1 Out e) ≡ plainOf (epOn d Out e) → OutFits b (epOn d1 Out e) (lensOf d1 Out e) p → receives d e ≡ true → length b′ ≡ length b
+    → plainOf (epOn d1 Out e) ≡ plainOf (epOn d Out e) → OutFits b (epOn d1 Out e) (lensOf d1 Out e) (slotStamps d1 e) p → receives d e ≡ true → length b′ ≡ length b
     → Only (slotAddr (epOn d1 Out e) (epOn d1 Out e .head)) (slotAddr (epOn d1 Out e) (epOn d1 Out e .head) + epOn d1 Out e .stride) b b′
     → Rest quiet b′ (withOn d1 Out e (armedAt (epOn d1 Out e) (slotAddr (epOn d1 Out e) (epOn d1 Out e .head))))
     (withOut t e (slotTold p (slotAddr (epOn d1 Out e) (epOn d1 Out e .head))))
@@ -186,7 +201,7 @@ arm-rest {b} {b′} {d} {t} R e d1 p c same f u long o =
     let z : epOn (withOn d1 Out e (armedAt r a)) Out e ≡ armedAt r a = epOn-same d1 Out e (armedAt r a) s in
     out-changed R e (slotTold p a) c2 (kept-same c2 (ap plainOf z ∙ armed-plain r a ∙ same) (R .same)) long
     (only-wider _ _ _ _ b b′ (omega (arith, c .place .base)) (omega (arith, end-kept (c .place))) (slot-region (f .held .placed) (f .held .ring) (r .head) b b′ o))
-    (out-moved z (lens-on d1 Out e (armedAt r a) Out e) (armed-fits f long o)) tt (λ x v n y. y)
+    (out-moved z (lens-on d1 Out e (armedAt r a) Out e) (stamps-on d1 Out e (armedAt r a) e) (armed-fits f long o)) tt (λ x v n y. y)
     (record {
       armed = λ h. subst (λ y. Armed y (slotTold p a)) (sym z) (ap (slotAddr r) (sym (armed-head r a)) ∙ sym (place-addr (k .place) (armedAt r a .head)));
       none = λ h. absurd (true≢false (sym u ∙ h));
@@ -195,39 +210,60 @@ arm-rest {b} {b′} {d} {t} R e d1 p c same f u long o =
 -- ---- a packet admitted, or turned away
 
 module _ (d : Driver) (s : Sized d) (e len : ℕ) where
-  recorded-by : (u : Bool) → Changed Out e d (cond u (withLenOn d Out e (slotOf (epOn d Out e) (epOn d Out e .head)) len) d)
-  recorded-by true = changed-len s Out e _ len
+  abbrev head-slot : ℕ
+  head-slot = slotOf (epOn d Out e) (epOn d Out e .head)
+
+  abbrev lengthened : Driver
+  lengthened = withLenOn d Out e head-slot len
+
+  lengthened-changed : Changed Out e d lengthened
+  lengthened-changed = changed-len s Out e head-slot len
+
+  recorded-by : (u : Bool) → Changed Out e d (cond u (writtenOn d e head-slot len) d)
+  recorded-by true = changed-trans s Out e lengthened-changed (changed-stamp (lengthened-changed .sized) e head-slot (d .globals .entered))
   recorded-by false = changed-not s Out e
 
   recorded-changed : Changed Out e d (recordedOn d e len)
   unfolding recordedOn
   recorded-changed = recorded-by (hasRoomOut (epOn d Out e))
 
-  recorded-ep-by : (u : Bool) → epOn (cond u (withLenOn d Out e (slotOf (epOn d Out e) (epOn d Out e .head)) len) d) Out e ≡ epOn d Out e
-  recorded-ep-by true = ep-len d Out e _ len Out e
+  recorded-ep-by : (u : Bool) → epOn (cond u (writtenOn d e head-slot len) d) Out e ≡ epOn d Out e
+  recorded-ep-by true = ep-stamp lengthened e head-slot (d .globals .entered) Out e ∙ ep-len d Out e head-slot len Out e
   recorded-ep-by false = refl
 
   recorded-ep : epOn (recordedOn d e len) Out e ≡ epOn d Out e
   unfolding recordedOn
   recorded-ep = recorded-ep-by (hasRoomOut (epOn d Out e))
 
-  recorded-lens-by : slotOf (epOn d Out e) (epOn d Out e .head) < 16 → (u : Bool)
-      → lensOf (cond u (withLenOn d Out e (slotOf (epOn d Out e) (epOn d Out e .head)) len) d) Out e
-      ≡ cond u (set (lensOf d Out e) (slotOf (epOn d Out e) (epOn d Out e .head)) len) (lensOf d Out e)
-  recorded-lens-by i true = lens-set d Out e s _ len i
-  recorded-lens-by i false = refl
+  module _ (i : head-slot < 16) where
+    recorded-lens-by : (u : Bool) → lensOf (cond u (writtenOn d e head-slot len) d) Out e ≡ cond u (set (lensOf d Out e) head-slot len) (lensOf d Out e)
+    recorded-lens-by true = lens-stamp lengthened e head-slot (d .globals .entered) Out e ∙ lens-set d Out e s head-slot len i
+    recorded-lens-by false = refl
 
-  recorded-lens : slotOf (epOn d Out e) (epOn d Out e .head) < 16 → lensOf (recordedOn d e len) Out e ≡ arrivedLens (epOn d Out e) (lensOf d Out e) len
-  unfolding recordedOn arrivedLens
-  recorded-lens i = recorded-lens-by i (hasRoomOut (epOn d Out e))
+    recorded-lens : lensOf (recordedOn d e len) Out e ≡ arrivedLens (epOn d Out e) (lensOf d Out e) len
+    unfolding recordedOn arrivedLens
+    recorded-lens = recorded-lens-by (hasRoomOut (epOn d Out e))
+
+    recorded-stamps-by : (u : Bool) → slotStamps (cond u (writtenOn d e head-slot len) d) e ≡ cond u (set (slotStamps d e) head-slot (d .globals .entered)) (slotStamps d e)
+    recorded-stamps-by true = stamps-set lengthened e (lengthened-changed .sized) head-slot (d .globals .entered) i
+        ∙ ap (λ (l : List ℕ). set l head-slot (d .globals .entered)) (stamps-len d Out e head-slot len e)
+    recorded-stamps-by false = refl
+
+    recorded-stamps : slotStamps (recordedOn d e len) e ≡ arrivedLens (epOn d Out e) (slotStamps d e) (d .globals .entered)
+    unfolding recordedOn arrivedLens
+    recorded-stamps = recorded-stamps-by (hasRoomOut (epOn d Out e))
 
   admitted-ep : epOn (admittedOn d e len) Out e ≡ arrivedOf (epOn d Out e) len
   unfolding admittedOn
   admitted-ep = epOn-same (recordedOn d e len) Out e (arrivedOf (epOn d Out e) len) (recorded-changed .sized)
 
-  admitted-lens : slotOf (epOn d Out e) (epOn d Out e .head) < 16 → lensOf (admittedOn d e len) Out e ≡ arrivedLens (epOn d Out e) (lensOf d Out e) len
+  admitted-lens : head-slot < 16 → lensOf (admittedOn d e len) Out e ≡ arrivedLens (epOn d Out e) (lensOf d Out e) len
   unfolding admittedOn
   admitted-lens i = lens-on (recordedOn d e len) Out e (arrivedOf (epOn d Out e) len) Out e ∙ recorded-lens i
+
+  admitted-stamps : head-slot < 16 → slotStamps (admittedOn d e len) e ≡ arrivedLens (epOn d Out e) (slotStamps d e) (d .globals .entered)
+  unfolding admittedOn
+  admitted-stamps i = stamps-on (recordedOn d e len) Out e (arrivedOf (epOn d Out e) len) e ∙ recorded-stamps i
 
   admitted-changed : Changed Out e d (admittedOn d e len)
   unfolding admittedOn
@@ -240,10 +276,6 @@ module _ (d : Driver) (s : Sized d) (e len : ℕ) where
 -- the driver after it, its slot not yet armed
 abbrev admits : Driver → ℕ → ℕ → Driver
 admits d e n = admittedOn d e (cappedAt (epOn d Out e) n)
-
--- the bytes, by the book
-abbrev packetOf : Buf → Pages → ℕ → ℕ → List ℕ
-packetOf b t e n = bytesAt b (t .outs e .slot) (min n (t .kept .plain Out e .«max_len»))
 
 -- the head's address
 abbrev headAddr : EpState → ℕ
@@ -266,18 +298,20 @@ module _ {b : Buf} {d : Driver} {t : Pages} (R : Rest quiet b d t) (e : ℕ) whe
     capped-small = omega (arith, capped-is (epOn d Out e) n, R .outs e .held .least)
 
     shown : window b (slotAddr (epOn d Out e) (epOn d Out e .head)) (cappedAt (epOn d Out e) n)
-        ≡ packetOf b t e n
+        ≡ packetB e n (t, b) .bytes
     shown = slot-shows b (R .outs e .held .placed) (epOn d Out e .head) (cappedAt (epOn d Out e) n) capped-small
         ∙ ap (λ (x : ℕ). bytesAt b x (cappedAt (epOn d Out e) n)) (sym (R .arming e .armed u))
         ∙ ap (λ (x : ℕ). bytesAt b (t .outs e .slot) x) (capped-is (epOn d Out e) n ∙ ap (λ (x : ℕ). min n x) max-same)
 
-    admitted-fits : OutFits b (epOn (admits d e n) Out e) (lensOf (admits d e n) Out e) (arrived (t .outs e) (packetOf b t e n))
+    admitted-fits : OutFits b (epOn (admits d e n) Out e) (lensOf (admits d e n) Out e) (slotStamps (admits d e n) e) (arrived (t .outs e) (packetB e n (t, b)))
     admitted-fits =
         let f = R .outs e in
         let len = cappedAt (epOn d Out e) n in
         let sixteen = receives-slots R e u in
         let i : slotOf (epOn d Out e) (epOn d Out e .head) < 16 = omega (arith, slot-in (f .held .placed) (epOn d Out e .head), sixteen) in
-        out-moved (admitted-ep d (R .sized) e len) (admitted-lens d (R .sized) e len i) (arrived-fits f sixteen len capped-small _ shown)
+        out-moved (admitted-ep d (R .sized) e len) (admitted-lens d (R .sized) e len i)
+        (admitted-stamps d (R .sized) e len i ∙ ap (λ (g : Globals). arrivedLens (epOn d Out e) (slotStamps d e) (g .entered)) (R .same .globals))
+        (arrived-fits f sixteen (stamps-length d e) len capped-small (packetB e n (t, b)) shown)
 
     arrived-words : (stale : ℕ) → let r = epOn (admits d e n) Out e in
         marks.Only (headAddr r) (headAddr r + r .stride) b (armed b (headAddr r) (r .«min_len») (cappedAt r stale))
@@ -290,7 +324,7 @@ module _ {b : Buf} {d : Driver} {t : Pages} (R : Rest quiet b d t) (e : ℕ) whe
         (omega (arith, z, w .0)) (ap (λ (x : ℕ). x / 4 * 4) z ∙ w .1 ∙ sym z) (omega (arith, capped-is r stale, admitted-fits .held .least))
 
     arrive-rest : let x = arrivedAt e (cappedAt (epOn d Out e) n) (d, b) in
-        Rest quiet (x .1 .1) (x .1 .0) (feedB (Receive e (x .0)) (withOut t e (arrived (t .outs e) (packetOf b t e n))))
+        Rest quiet (x .1 .1) (x .1 .0) (feedB (Receive e (x .0)) (withOut t e (arrived (t .outs e) (packetB e n (t, b)))))
     arrive-rest =
         let len = cappedAt (epOn d Out e) n in
         let d1 = admittedOn d e len in
@@ -301,7 +335,7 @@ module _ {b : Buf} {d : Driver} {t : Pages} (R : Rest quiet b d t) (e : ℕ) whe
 
   arrive-by : (n : ℕ) (v : Bool) → receives d e ≡ v → let x = cond v (arrivedAt e (cappedAt (epOn d Out e) n) (d, b)) (epOn d Out e .«armed_slot», (d, b)) in
       Rest quiet (x .1 .1) (x .1 .0) (feedB (Receive e (x .0))
-      (cond v (withOut t e (arrived (t .outs e) (packetOf b t e n))) t))
+      (cond v (withOut t e (arrived (t .outs e) (packetB e n (t, b)))) t))
   arrive-by n true h = arrive-rest n h
   arrive-by n false h = same-told
 
@@ -312,14 +346,14 @@ pub hand-arrive : (e n : ℕ) → HandAgrees (script.arrive e n)
 unfolding arriveOn
 hand-arrive e n b d t R =
     let x = cond (receives d e) (arrivedAt e (cappedAt (epOn d Out e) n) (d, b)) (epOn d Out e .«armed_slot», (d, b)) in
-    let p = arrived (t .outs e) (packetOf b t e n) in
+    let p = arrived (t .outs e) (packetB e n (t, b)) in
     (subst (λ v. Rest quiet (x .1 .1) (x .1 .0) (feedB (Receive e (x .0)) (cond v (withOut t e p) t))) (receiving-same R e) (arrive-by R e n (receives d e) refl), tt)
 
 -- ---- an endpoint's buffer handed out
 
-placed-fits : {b : Buf} {r : EpState} {ls : List ℕ} {p : OutPage} → OutFits b r ls p → OutFits b (armedAt r (r .base)) ls (slotTold p (r .base))
+placed-fits : {b : Buf} {r : EpState} {ls ss : List ℕ} {p : OutPage} → OutFits b r ls ss p → OutFits b (armedAt r (r .base)) ls ss (slotTold p (r .base))
 unfolding armedAt
-placed-fits {b} {r} {ls} f =
+placed-fits {b} {r} {ls} {ss} f =
     let k = armed-alike r (r .base) in
     record {
       held = record {
@@ -328,6 +362,7 @@ placed-fits {b} {r} {ls} f =
         least = f .held .least;
         waits = alike-waits k b ls (f .held .ring .tail8) ∙ f .held .waits;
       };
+      stamps = alike-stamps k ss (f .held .ring .tail8) ∙ f .stamps;
       opened = f .opened;
       shows = λ h. omega (arith, f .shows h, alike-count k);
       lost = f .lost;

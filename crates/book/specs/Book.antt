@@ -24,7 +24,7 @@ use Rattle.marks.specs.Marks.{isMarked, markedLen}
 use Rattle.marks.specs.Copies.{copied, bytesAt}
 use Rattle.frame.specs.Advance.{NO_FRAME}
 use Rattle.script.specs.Cells.{Plain, Cell, Val, globals-cell, wakes-cell, control-cell, allocator-cell, ep-cell, request-cell, paced-cell}
-use Rattle.script.specs.Script.{Ops, Test, changed, waiting, room, opened, Look, marked, next-len, setup-word, Fetch, oldest, received, received0, Act, complete, reset-ring, set-enabled, fill, fill0, open-oldest, close-oldest, take-oldest, enqueue, allocate, allocate0, Hand, arrive, send, place, place0, Row, switch, bus-reset}
+use Rattle.script.specs.Script.{Ops, Test, changed, waiting, room, opened, Look, marked, next-len, next-stamp, setup-word, Fetch, oldest, received, received0, Act, complete, reset-ring, set-enabled, fill, fill0, open-oldest, close-oldest, take-oldest, enqueue, allocate, allocate0, Hand, arrive, send, place, place0, Row, switch, bus-reset}
 use Rattle.script.specs.Statics.{isOn, flag, isoOuts, renewed, withSetup}
 use Rattle.script.specs.Answers.{isNumber}
 use Rattle.script.specs.Calls.{Config}
@@ -32,7 +32,7 @@ use Rattle.script.specs.Machine as machine
 use Rattle.script.specs.Machine.{Buf, Question, pending, overruns, enabled}
 use Rattle.ops.specs.Records.{plainOf, mergedGlobals, withSets, withEp0}
 use Rattle.ops.specs.Rings.{wordAt}
-use Rattle.book.specs.Pages.{OutPage, InPage, Kept, Pages, at, on, withKept, withOut, withIn, keptGlobals, keptWakes, keptControl, keptAllocator, keptPaced, keptRequest, keptPlain}
+use Rattle.book.specs.Pages.{Packet, bytesOf, OutPage, InPage, Kept, Pages, at, on, withKept, withOut, withIn, keptGlobals, keptWakes, keptControl, keptAllocator, keptPaced, keptRequest, keptPlain}
 
 -- the book with the lent bytes
 abbrev pub Bk : Type 0
@@ -48,15 +48,19 @@ abbrev pub first : List (List ℕ) → List ℕ
 first [] = []
 first (p ∷ ps) = p
 
+abbrev pub firstStamp : List Packet → ℕ
+firstStamp [] = 0
+firstStamp (p ∷ ps) = p .stamp
+
 -- ---- pages
 
-abbrev pub withWaiting : OutPage → List (List ℕ) → Bool → OutPage
+abbrev pub withWaiting : OutPage → List Packet → Bool → OutPage
 withWaiting p w o = record { waiting = w; opened = o; lost = p .lost; slot = p .slot }
 
 -- "it joins those waiting, last, …; with 15 waiting it is turned away and the endpoint's count rises"
-abbrev pub arrived : OutPage → List ℕ → OutPage
-arrived p bytes = cond (ltb (length (p .waiting)) 15)
-    (withWaiting p (p .waiting ++ (bytes ∷ [])) (p .opened))
+abbrev pub arrived : OutPage → Packet → OutPage
+arrived p q = cond (ltb (length (p .waiting)) 15)
+    (withWaiting p (p .waiting ++ (q ∷ [])) (p .opened))
     (record { waiting = p .waiting; opened = p .opened; lost = p .lost + 1; slot = p .slot })
 
 -- "the first waiting is read"
@@ -139,7 +143,7 @@ putB (paced-cell e) v s = (withKept (s .0) (keptPaced (s .0 .kept) e v), s .1)
 -- ---- what is asked
 
 abbrev pub waitsOn : Pages → Dir → ℕ → List (List ℕ)
-waitsOn t Out e = t .outs e .waiting
+waitsOn t Out e = bytesOf (t .outs e .waiting)
 waitsOn t In e = t .ins e .waiting
 
 -- room for a packet: isochronous, fewer than 2 waiting (else row 13), bytes that fit a slot
@@ -155,10 +159,11 @@ isB (opened e) s = s .0 .outs e .opened
 abbrev pub lookB : Look → Bk → ℕ
 lookB (marked e) s = markedLen (s .1) (s .0 .outs e .slot) (s .0 .kept .plain Out e .«max_len»)
 lookB (next-len d e) s = length (first (waitsOn (s .0) d e))
+lookB (next-stamp e) s = firstStamp (s .0 .outs e .waiting)
 lookB (setup-word k) s = wordAt (s .1) (s .0 .kept .globals .«ep0_buf» + k * 4)
 
 abbrev pub fetchB : Fetch → Bk → List ℕ
-fetchB (oldest e) s = first (s .0 .outs e .waiting)
+fetchB (oldest e) s = first (waitsOn (s .0) Out e)
 fetchB (received e n) s = bytesAt (s .1) (s .0 .kept .plain Out e .base) n
 fetchB (received0 n) s = bytesAt (s .1) (s .0 .kept .globals .«ep0_buf») n
 
@@ -182,13 +187,13 @@ fillB0 bytes s =
     cond (ltb (g .«ep0_max») (length bytes)) (s .1) (copied (s .1) (g .«ep0_buf») bytes)
 
 abbrev pub openB : Pages → ℕ → Pages
-openB t e = cond (some (t .outs e .waiting)) (withOut t e (openOut (t .outs e))) t
+openB t e = cond (some (waitsOn t Out e)) (withOut t e (openOut (t .outs e))) t
 
 abbrev pub closeB : Pages → ℕ → Pages
 closeB t e = cond (t .outs e .opened) (withOut t e (readOut (t .outs e))) t
 
 abbrev pub takeB : Pages → ℕ → Pages
-takeB t e = cond (some (t .outs e .waiting)) (withOut t e (readOut (t .outs e))) t
+takeB t e = cond (some (waitsOn t Out e)) (withOut t e (readOut (t .outs e))) t
 
 abbrev pub enqueueB : ℕ → List ℕ → Bk → Bk
 enqueueB e bytes s =
@@ -235,11 +240,15 @@ actB (allocate0 maximum) s = (allocateB0 maximum (s .0), s .1)
 
 -- ---- changes with an access: the book is told the driver's addresses
 
--- "with its slot's bytes in that call up to its length"; a length is capped at the maximum
+-- "with its slot's bytes in that call up to its length", a length is capped at the maximum; and with the microframe with which the interrupt began
+abbrev pub packetB : ℕ → ℕ → Bk → Packet
+packetB e n s = record {
+  bytes = bytesAt (s .1) (s .0 .outs e .slot) (min n (s .0 .kept .plain Out e .«max_len»));
+  stamp = s .0 .kept .globals .entered;
+}
+
 abbrev pub arriveB : ℕ → ℕ → Bk → Pages
-arriveB e n s = cond (receiving (s .0) e)
-    (withOut (s .0) e (arrived (s .0 .outs e) (bytesAt (s .1) (s .0 .outs e .slot) (min n (s .0 .kept .plain Out e .«max_len»)))))
-    (s .0)
+arriveB e n s = cond (receiving (s .0) e) (withOut (s .0) e (arrived (s .0 .outs e) (packetB e n s))) (s .0)
 
 abbrev pub placeB : Pages → Dir → ℕ → Pages
 placeB t Out e = t

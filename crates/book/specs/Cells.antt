@@ -19,7 +19,7 @@ use Rattle.regs.specs.Enables as enables
 use Rattle.state.specs.declared.EpState.{EpState}
 use Rattle.state.specs.declared.Globals.{Globals}
 use Rattle.state.specs.declared.Allocator.{Allocator}
-use Rattle.state.specs.Driver.{Driver, key, epOn, withOn, lenOn, pacedOn, withPacedOn, requestOn, withRequestOn, withGlobals, withControl, withWakes}
+use Rattle.state.specs.Driver.{Driver, key, epOn, withOn, lenOn, stampOn, pacedOn, withPacedOn, requestOn, withRequestOn, withGlobals, withControl, withWakes}
 use Rattle.state.specs.Laws.{Sized, epOn-same, epOn-other, pacedOn-same, pacedOn-other, requestOn-same, requestOn-other, key-same, key-apart}
 use Rattle.alloc.specs.Alloc.{allocatedIn}
 use Rattle.ring.specs.Slot.{slotAddr, countOf}
@@ -31,9 +31,10 @@ use Rattle.script.specs.Statics.{isOn, flag, isoOuts}
 use Rattle.script.specs.Machine.{Buf}
 use Rattle.ops.specs.Records.{plainOf, merged, mergedGlobals}
 use Rattle.ops.specs.Conc.{conc}
-use Rattle.book.specs.Pages.{OutPage, InPage, Kept, Pages, at, on}
+use Rattle.book.specs.Pages.{bytesOf, OutPage, InPage, Kept, Pages, at, on}
 use Rattle.book.specs.Book.{bookOps, feedB, mergedPlain}
-use Rattle.book.specs.Rest.{SameKept, Used, Unused, Shape, Held, OutFits, InFits, AtRest, Arming, Rest, Good, lensOf, endOf}
+use Rattle.book.specs.Rest.{SameKept, Used, Unused, Shape, Held, OutFits, InFits, AtRest, Arming, Rest, Good, lensOf, slotStamps, endOf}
+use Rattle.book.specs.Stamps.{alike-stamps}
 
 -- ---- an endpoint's key decides its record
 
@@ -121,9 +122,10 @@ module _ {r r′ : EpState} (k : Kin r r′) where
     waits = alike-waits (k .alike) b ls (h .ring .tail8) ∙ h .waits;
   }
 
-  pub kin-out : {b : Buf} {ls : List ℕ} {p : OutPage} → OutFits b r ls p → OutFits b r′ ls p
-  kin-out {b = b} {ls = ls} {p = p} f = record {
-    held = subst (λ n. Held (n - 1) b r′ ls (p .waiting)) (sym (k .alike .place .slots)) (kin-held (f .held));
+  pub kin-out : {b : Buf} {ls ss : List ℕ} {p : OutPage} → OutFits b r ls ss p → OutFits b r′ ls ss p
+  kin-out {b = b} {ls = ls} {ss = ss} {p = p} f = record {
+    held = subst (λ n. Held (n - 1) b r′ ls (bytesOf (p .waiting))) (sym (k .alike .place .slots)) (kin-held (f .held));
+    stamps = alike-stamps (k .alike) ss (f .held .ring .tail8) ∙ f .stamps;
     opened = k .opened ∙ f .opened;
     shows = λ e. rw (alike-count (k .alike)) (f .shows (rw (k .opened) at e));
     lost = k .overruns ∙ f .lost;
@@ -160,6 +162,7 @@ pub record Still (d d′ : Driver) : Type 0 where
   pub ep0-max : d′ .globals .«ep0_max» ≡ d .globals .«ep0_max»
   pub kin : (dir : Dir) (e : ℕ) → Kin (epOn d dir e) (epOn d′ dir e)
   pub lens : (dir : Dir) (e : ℕ) → lensOf d′ dir e ≡ lensOf d dir e
+  pub stamps : (e : ℕ) → slotStamps d′ e ≡ slotStamps d e
 
 isoOuts-by : (g g′ : Globals) → g′ .«ep_config» ≡ g .«ep_config» → g′ .«iso_out_eps» ≡ g .«iso_out_eps» → isoOuts g′ ≡ isoOuts g
 unfolding isoOuts
@@ -176,7 +179,7 @@ module _ {b : Buf} {d d′ : Driver} {t t′ : Pages} (r : Rest quiet b d t) (s 
     long = rw (s .allocator) (r .long);
     same = k;
     shape = λ dir e. rw (s .allocator) (kin-shape (s .kin dir e) (isSet (allocatedIn (d .allocator) dir) (e % 16)) (d .allocator) dir (r .shape dir e));
-    outs = λ e. rw (s .lens Out e, o) (kin-out (s .kin Out e) (r .outs e));
+    outs = λ e. rw (s .lens Out e, s .stamps e, o) (kin-out (s .kin Out e) (r .outs e));
     ins = λ e. rw (s .lens In e, i) (kin-in (s .kin In e) (r .ins e));
     arming = λ e. rw (isoOuts-by (d .globals) (d′ .globals) (s .config) (s .isos), o) (kin-rest (s .kin Out e) (r .arming e));
     apart = λ dir dir′ e e′ h. rw (s .kin dir e .alike .place .base, s .kin dir e .alike .place .slots, s .kin dir e .alike .place .stride, s .kin dir′ e′ .alike .place .base, s .kin dir′ e′ .alike .place .slots, s .kin dir′ e′ .alike .place .stride) (r .apart dir dir′ e e′ h);
@@ -200,9 +203,9 @@ gets (paced-cell e) b d t r = r .same .paced e
 -- ---- put
 
 -- a change of other records than the endpoints' and of globals that scripts assign
-others-still : (d d′ : Driver) → d′ .eps ≡ d .eps → d′ .lens ≡ d .lens → d′ .allocator ≡ d .allocator → d′ .globals ≡ mergedGlobals (d .globals) (d′ .globals) → Sized d′ → Still d d′
-unfolding epOn lenOn
-others-still d d′ p q a g z = record {
+others-still : (d d′ : Driver) → d′ .eps ≡ d .eps → d′ .lens ≡ d .lens → d′ .stamps ≡ d .stamps → d′ .allocator ≡ d .allocator → d′ .globals ≡ mergedGlobals (d .globals) (d′ .globals) → Sized d′ → Still d d′
+unfolding epOn lenOn stampOn
+others-still d d′ p q w a g z = record {
   sized = z;
   allocator = a;
   config = ap (λ (x : Globals). x .«ep_config») g;
@@ -212,24 +215,25 @@ others-still d d′ p q a g z = record {
   ep0-max = ap (λ (x : Globals). x .«ep0_max») g;
   kin = λ dir e. kin-by (kin-refl (epOn d dir e)) (rw p refl);
   lens = λ dir e. rw q refl;
+  stamps = λ e. rw w refl;
 }
 
 globals-still : (d : Driver) (v : Globals) → Sized d → Still d (withGlobals d (mergedGlobals (d .globals) v))
-globals-still d v z = others-still d _ refl refl refl refl (record { eps = z .eps; lens = z .lens; paced = z .paced; requests = z .requests })
+globals-still d v z = others-still d _ refl refl refl refl refl (record { eps = z .eps; lens = z .lens; stamps = z .stamps; paced = z .paced; requests = z .requests })
 
 wakes-still : (d : Driver) (v : _) → Sized d → Still d (withWakes d v)
-wakes-still d v z = others-still d _ refl refl refl refl (record { eps = z .eps; lens = z .lens; paced = z .paced; requests = z .requests })
+wakes-still d v z = others-still d _ refl refl refl refl refl (record { eps = z .eps; lens = z .lens; stamps = z .stamps; paced = z .paced; requests = z .requests })
 
 control-still : (d : Driver) (v : _) → Sized d → Still d (withControl d v)
-control-still d v z = others-still d _ refl refl refl refl (record { eps = z .eps; lens = z .lens; paced = z .paced; requests = z .requests })
+control-still d v z = others-still d _ refl refl refl refl refl (record { eps = z .eps; lens = z .lens; stamps = z .stamps; paced = z .paced; requests = z .requests })
 
 paced-still : (d : Driver) (e v : ℕ) → Sized d → Still d (withPacedOn d e v)
 unfolding withPacedOn
-paced-still d e v z = others-still d _ refl refl refl refl (record { eps = z .eps; lens = z .lens; paced = length-set (d .paced) (e % 16) v ∙ z .paced; requests = z .requests })
+paced-still d e v z = others-still d _ refl refl refl refl refl (record { eps = z .eps; lens = z .lens; stamps = z .stamps; paced = length-set (d .paced) (e % 16) v ∙ z .paced; requests = z .requests })
 
 request-still : (d : Driver) (dir : Dir) (e : ℕ) (v : _) → Sized d → Still d (withRequestOn d dir e v)
 unfolding withRequestOn
-request-still d dir e v z = others-still d _ refl refl refl refl (record { eps = z .eps; lens = z .lens; paced = z .paced; requests = length-set (d .requests) (key dir e) v ∙ z .requests })
+request-still d dir e v z = others-still d _ refl refl refl refl refl (record { eps = z .eps; lens = z .lens; stamps = z .stamps; paced = z .paced; requests = length-set (d .requests) (key dir e) v ∙ z .requests })
 
 -- what stands at one endpoint, and at the others
 pub at-same : {A : Type 0} (e x : ℕ) (v : A) (f : ℕ → A) → x % 16 ≡ e % 16 → at e v f x ≡ v
@@ -251,9 +255,9 @@ record-kin d dir e r z k dir′ x = elim (ℕ-discrete (key dir′ x) (key dir e
 ]
 
 pub record-still : (d : Driver) (dir : Dir) (e : ℕ) (r : EpState) → Sized d → Kin (epOn d dir e) r → Still d (withOn d dir e r)
-unfolding lenOn withOn
+unfolding lenOn stampOn withOn
 record-still d dir e r z k = record {
-  sized = record { eps = length-set (d .eps) (key dir e) r ∙ z .eps; lens = z .lens; paced = z .paced; requests = z .requests };
+  sized = record { eps = length-set (d .eps) (key dir e) r ∙ z .eps; lens = z .lens; stamps = z .stamps; paced = z .paced; requests = z .requests };
   allocator = refl;
   config = refl;
   isos = refl;
@@ -262,6 +266,7 @@ record-still d dir e r z k = record {
   ep0-max = refl;
   kin = record-kin d dir e r z k;
   lens = λ dir e. refl;
+  stamps = λ e. refl;
 }
 
 -- what the driver has for each endpoint, and the book, after one was assigned

@@ -1,4 +1,4 @@
--- The same of the Rattle code: whatever calls are made, each as its contract says, an interrupt hands out at most 4,055 readings
+-- The same of the Rattle code: whatever calls are made, each as its contract says, an interrupt hands out at most 4,056 readings
 use mathlib.Core.List.{List, [], _∷_}
 use mathlib.Core.Path.{_≡_, refl, sym, subst, ap, _∙_}
 use Prim.Native.Nat.{ℕ, zero, _≤_}
@@ -56,6 +56,6 @@ module _ (c : Config) (b : Buf) (row : startRow c b ≡ zero) (xs : List ℕ) (a
       subst (λ (n : Machine Answer Driver). Sorting (n .st)) (sym (same-after (first ∷ ms) xs a steps))
       (subst (λ (v : Event Config Op). Sorting (after calls driverOf (v ∷ events ms) (machineOf xs a) .st)) (sym is-start) (after-sorting c b row (events ms) (machineOf xs a)))
 
-  pub code-4055 : now .way ≡ idle → (i : Made) (slots : Buf) → i .event ≡ record { call = begin interrupt; lent = slots } → (fs : List Made)
-      → Steps (bytesAfter xs (first ∷ ms)) (slotsAfter a (first ∷ ms)) (i ∷ fs) → readBy (i ∷ fs) ≤ 4055
-  code-4055 w i slots is-interrupt fs h = rw (read-served (i ∷ fs) (bytesAfter xs (first ∷ ms)) (slotsAfter a (first ∷ ms)) h, is-interrupt) (sorting-served now now-sorting w slots (events fs))
+  pub code-4056 : now .way ≡ idle → (i : Made) (slots : Buf) → i .event ≡ record { call = begin interrupt; lent = slots } → (fs : List Made)
+      → Steps (bytesAfter xs (first ∷ ms)) (slotsAfter a (first ∷ ms)) (i ∷ fs) → readBy (i ∷ fs) ≤ 4056
+  code-4056 w i slots is-interrupt fs h = rw (read-served (i ∷ fs) (bytesAfter xs (first ∷ ms)) (slotsAfter a (first ∷ ms)) h, is-interrupt) (sorting-served now now-sorting w slots (events fs))

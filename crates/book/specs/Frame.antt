@@ -1,4 +1,4 @@
--- One endpoint's record, lengths, page and bytes changed: what holds between calls holds of all others still
+-- One endpoint's record, lengths, stamps, page and bytes changed: what holds between calls holds of all others still
 use mathlib.Core.Bool.{Bool, true, false, cond, _&&_}
 use mathlib.Core.List.{List}
 use mathlib.Core.Logic.{_≢_, _⊎_, inl, inr}
@@ -14,8 +14,8 @@ use Rattle.regs.specs.declared.Dir.the-variants.{Out, In}
 use Rattle.state.specs.declared.EpState.{EpState}
 use Rattle.state.specs.declared.Allocator.{Allocator}
 use Rattle.state.specs.declared.Globals.{Globals}
-use Rattle.state.specs.Fresh.{fillLens}
-use Rattle.state.specs.Driver.{Driver, key, lenKey, noRequest, epOn, withOn, withLenOn, pacedOn, requestOn}
+use Rattle.state.specs.Fresh.{fillLens, clearStamps}
+use Rattle.state.specs.Driver.{Driver, key, lenKey, stampKey, noRequest, epOn, withOn, withLenOn, withStampOn, pacedOn, requestOn}
 use Rattle.state.specs.Laws.{Sized, key-apart, epOn-same, epOn-other}
 use Rattle.alloc.specs.Alloc.{allocatedIn, slotsOf}
 use Rattle.ring.specs.Slot.{countOf}
@@ -28,11 +28,12 @@ use Rattle.script.specs.Alike.{Phase, quiet, mid}
 use Rattle.script.specs.Statics.{isOn, isoOuts}
 use Rattle.script.specs.Machine.{Buf}
 use Rattle.ops.specs.Records.{plainOf}
+use Rattle.ops.specs.Stamps.{length-filled}
 use Rattle.book.specs.Pages.{OutPage, InPage, Kept, Pages, at, on, withKept, withOut, withIn, keptPlain}
-use Rattle.book.specs.Lens.{key-mod, key-other, ep-mod, lens-mod, key-ep, lens-on, ep-len, lens-set-other, ep-fill, lens-fill-other, length-filled}
-use Rattle.book.specs.Rest.{SameKept, endOf, Shape, Apart, ep0Room, lensOf, Held, OutFits, InFits, InRow, Arming, Step, Rest}
+use Rattle.book.specs.Lens.{key-mod, key-other, ep-mod, lens-mod, key-ep, lens-on, ep-len, lens-set-other, ep-fill, lens-fill-other, stamps-mod, stamps-on, stamps-len, stamps-fill, ep-stamp, lens-stamp, stamps-set-other, ep-clear, lens-clear, stamps-clear-other}
+use Rattle.book.specs.Rest.{SameKept, endOf, Shape, Apart, ep0Room, lensOf, slotStamps, Held, OutFits, InFits, InRow, Arming, Step, Rest}
 
--- ---- one endpoint's record and lengths changed, its buffers where they were
+-- ---- one endpoint's record, lengths and stamps changed, its buffers where they were
 
 pub record Changed (dir : Dir) (e : ℕ) (d d′ : Driver) : Type 0 where
   pub sized : Sized d′
@@ -44,6 +45,7 @@ pub record Changed (dir : Dir) (e : ℕ) (d d′ : Driver) : Type 0 where
   pub requests : d′ .requests ≡ d .requests
   pub eps : (dir′ : Dir) (x : ℕ) → key dir′ x ≢ key dir e → epOn d′ dir′ x ≡ epOn d dir′ x
   pub lens : (dir′ : Dir) (x : ℕ) → key dir′ x ≢ key dir e → lensOf d′ dir′ x ≡ lensOf d dir′ x
+  pub stamps : (x : ℕ) → key Out x ≢ key dir e → slotStamps d′ x ≡ slotStamps d x
   pub place : SamePlace (epOn d dir e) (epOn d′ dir e)
   pub iso : epOn d′ dir e .iso ≡ epOn d dir e .iso
 
@@ -62,13 +64,14 @@ module _ {d : Driver} (s : Sized d) (dir : Dir) (e : ℕ) where
     requests = refl;
     eps = λ dir′ x n. refl;
     lens = λ dir′ x n. refl;
+    stamps = λ x n. refl;
     place = same-place (epOn d dir e);
     iso = refl;
   }
 
   on-sized : (r : EpState) → Sized (withOn d dir e r)
   unfolding withOn
-  on-sized r = record { eps = length-set (d .eps) (key dir e) r ∙ s .eps; lens = s .lens; paced = s .paced; requests = s .requests }
+  on-sized r = record { eps = length-set (d .eps) (key dir e) r ∙ s .eps; lens = s .lens; stamps = s .stamps; paced = s .paced; requests = s .requests }
 
   -- its record
   pub changed-on : (r : EpState) → SamePlace (epOn d dir e) r → r .iso ≡ epOn d dir e .iso → Changed dir e d (withOn d dir e r)
@@ -83,13 +86,14 @@ module _ {d : Driver} (s : Sized d) (dir : Dir) (e : ℕ) where
     requests = refl;
     eps = λ dir′ x n. epOn-other d dir e r dir′ x n;
     lens = λ dir′ x n. lens-on d dir e r dir′ x;
+    stamps = λ x n. stamps-on d dir e r x;
     place = rw (epOn-same d dir e r s) k;
     iso = rw (epOn-same d dir e r s) i;
   }
 
   len-sized : (i v : ℕ) → Sized (withLenOn d dir e i v)
   unfolding withLenOn
-  len-sized i v = record { eps = s .eps; lens = length-set (d .lens) (lenKey dir e i) v ∙ s .lens; paced = s .paced; requests = s .requests }
+  len-sized i v = record { eps = s .eps; lens = length-set (d .lens) (lenKey dir e i) v ∙ s .lens; stamps = s .stamps; paced = s .paced; requests = s .requests }
 
   -- one of its lengths
   pub changed-len : (i v : ℕ) → Changed dir e d (withLenOn d dir e i v)
@@ -104,6 +108,7 @@ module _ {d : Driver} (s : Sized d) (dir : Dir) (e : ℕ) where
     requests = refl;
     eps = λ dir′ x n. ep-len d dir e i v dir′ x;
     lens = λ dir′ x n. lens-set-other d dir e i v dir′ x n;
+    stamps = λ x n. stamps-len d dir e i v x;
     place = rw (ep-len d dir e i v dir e) (same-place (epOn d dir e));
     iso = ap (λ (r : EpState). r .iso) (ep-len d dir e i v dir e);
   }
@@ -119,6 +124,7 @@ module _ {d : Driver} (s : Sized d) (dir : Dir) (e : ℕ) where
     requests = c .requests ∙ a .requests;
     eps = λ dir′ x n. c .eps dir′ x n ∙ a .eps dir′ x n;
     lens = λ dir′ x n. c .lens dir′ x n ∙ a .lens dir′ x n;
+    stamps = λ x n. c .stamps x n ∙ a .stamps x n;
     place = place-trans (a .place) (c .place);
     iso = c .iso ∙ a .iso;
   }
@@ -127,7 +133,7 @@ module _ {d : Driver} (s : Sized d) (dir : Dir) (e : ℕ) where
 pub changed-fill : {d : Driver} → Sized d → (e v : ℕ) → Changed Out e d (fillLens d e v)
 unfolding fillLens
 changed-fill {d} s e v = record {
-  sized = record { eps = s .eps; lens = length-filled (d .lens) (e % 16 * 16) 16 v ∙ s .lens; paced = s .paced; requests = s .requests };
+  sized = record { eps = s .eps; lens = length-filled (d .lens) (e % 16 * 16) 16 v ∙ s .lens; stamps = s .stamps; paced = s .paced; requests = s .requests };
   globals = refl;
   wakes = refl;
   control = refl;
@@ -136,8 +142,45 @@ changed-fill {d} s e v = record {
   requests = refl;
   eps = λ dir′ x n. ep-fill d e v dir′ x;
   lens = λ dir′ x n. lens-fill-other d e v dir′ x n;
+  stamps = λ x n. stamps-fill d e v x;
   place = rw (ep-fill d e v Out e) (same-place (epOn d Out e));
   iso = ap (λ (r : EpState). r .iso) (ep-fill d e v Out e);
+}
+
+-- one of its stamps
+pub changed-stamp : {d : Driver} → Sized d → (e i v : ℕ) → Changed Out e d (withStampOn d e i v)
+unfolding withStampOn
+changed-stamp {d} s e i v = record {
+  sized = record { eps = s .eps; lens = s .lens; stamps = length-set (d .stamps) (stampKey e i) v ∙ s .stamps; paced = s .paced; requests = s .requests };
+  globals = refl;
+  wakes = refl;
+  control = refl;
+  allocator = refl;
+  paced = refl;
+  requests = refl;
+  eps = λ dir′ x n. ep-stamp d e i v dir′ x;
+  lens = λ dir′ x n. lens-stamp d e i v dir′ x;
+  stamps = λ x n. stamps-set-other d e i v x n;
+  place = rw (ep-stamp d e i v Out e) (same-place (epOn d Out e));
+  iso = ap (λ (r : EpState). r .iso) (ep-stamp d e i v Out e);
+}
+
+-- all its stamps
+pub changed-clear : {d : Driver} → Sized d → (e : ℕ) → Changed Out e d (clearStamps d e)
+unfolding clearStamps
+changed-clear {d} s e = record {
+  sized = record { eps = s .eps; lens = s .lens; stamps = length-filled (d .stamps) (e % 16 * 16) 16 0 ∙ s .stamps; paced = s .paced; requests = s .requests };
+  globals = refl;
+  wakes = refl;
+  control = refl;
+  allocator = refl;
+  paced = refl;
+  requests = refl;
+  eps = λ dir′ x n. ep-clear d e dir′ x;
+  lens = λ dir′ x n. lens-clear d e dir′ x;
+  stamps = λ x n. stamps-clear-other d e x n;
+  place = rw (ep-clear d e Out e) (same-place (epOn d Out e));
+  iso = ap (λ (r : EpState). r .iso) (ep-clear d e Out e);
 }
 
 -- ---- pages and kept values of one endpoint changed
@@ -222,14 +265,15 @@ module _ {b b′ : Buf} {r : EpState} {ls : List ℕ} (long : length b′ ≡ le
   pub held-bytes : {most : ℕ} {ws : List (List ℕ)} → Held most b r ls ws → Held most b′ r ls ws
   held-bytes h = record { placed = subst (λ n. Placed n r) (sym long) (h .placed); ring = h .ring; least = h .least; waits = w ∙ h .waits }
 
-  pub out-bytes : {p : OutPage} → OutFits b r ls p → OutFits b′ r ls p
-  out-bytes h = record { held = held-bytes (h .held); opened = h .opened; shows = h .shows; lost = h .lost; slot = h .slot; from = h .from; upto = h .upto }
+  pub out-bytes : {ss : List ℕ} {p : OutPage} → OutFits b r ls ss p → OutFits b′ r ls ss p
+  out-bytes h = record { held = held-bytes (h .held); stamps = h .stamps; opened = h .opened; shows = h .shows; lost = h .lost; slot = h .slot; from = h .from; upto = h .upto }
 
   pub in-bytes : {p : InPage} → InFits b r ls p → InFits b′ r ls p
   in-bytes h = record { held = held-bytes (h .held); ringless = h .ringless; loaded = h .loaded; sends = h .sends; turn = h .turn }
 
-pub out-moved : {b : Buf} {r r′ : EpState} {ls ls′ : List ℕ} {p : OutPage} → r′ ≡ r → ls′ ≡ ls → OutFits b r ls p → OutFits b r′ ls′ p
-out-moved {b} {r} {r′} {ls} {ls′} {p} h k f = subst (λ x. OutFits b x ls′ p) (sym h) (subst (λ x. OutFits b r x p) (sym k) f)
+pub out-moved : {b : Buf} {r r′ : EpState} {ls ls′ ss ss′ : List ℕ} {p : OutPage} → r′ ≡ r → ls′ ≡ ls → ss′ ≡ ss → OutFits b r ls ss p → OutFits b r′ ls′ ss′ p
+out-moved {b} {r} {r′} {ls} {ls′} {ss} {ss′} {p} h k l f =
+    subst (λ x. OutFits b x ls′ ss′ p) (sym h) (subst (λ x. OutFits b r x ss′ p) (sym k) (subst (λ x. OutFits b r ls x p) (sym l) f))
 
 pub in-moved : {b : Buf} {r r′ : EpState} {ls ls′ : List ℕ} {p : InPage} → r′ ≡ r → ls′ ≡ ls → InFits b r ls p → InFits b r′ ls′ p
 in-moved {b} {r} {r′} {ls} {ls′} {p} h k f = subst (λ x. InFits b x ls′ p) (sym h) (subst (λ x. InFits b r x p) (sym k) f)
@@ -250,7 +294,7 @@ pub record Keeps (d d′ : Driver) : Type 0 where
 pub record Parts (ψ : Phase) (b : Buf) (d : Driver) (t : Pages) : Type 0 where
   pub step : Step ψ
   pub same : SameKept d (t .kept)
-  pub outs : (e : ℕ) → OutFits b (epOn d Out e) (lensOf d Out e) (t .outs e)
+  pub outs : (e : ℕ) → OutFits b (epOn d Out e) (lensOf d Out e) (slotStamps d e) (t .outs e)
   pub ins : (e : ℕ) → InFits b (epOn d In e) (lensOf d In e) (t .ins e)
   pub arming : (e : ℕ) → Arming ψ e (isSet (isoOuts (d .globals)) (e % 16)) (epOn d Out e) (t .outs e)
 
@@ -321,10 +365,10 @@ arming-mod (mid bus-reset (suc n)) x e u r p h a = a
 
 module _ {φ : Phase} {b b′ : Buf} {d d′ : Driver} {t : Pages} (R : Rest φ b d t) where
   module _ {dir : Dir} {e : ℕ} (c : Changed dir e d d′) (long : length b′ ≡ length b) (o : Only (epOn d dir e .base) (endOf (epOn d dir e)) b b′) where
-    pub other-out : (x : ℕ) → key Out x ≢ key dir e → OutFits b′ (epOn d′ Out x) (lensOf d′ Out x) (t .outs x)
+    pub other-out : (x : ℕ) → key Out x ≢ key dir e → OutFits b′ (epOn d′ Out x) (lensOf d′ Out x) (slotStamps d′ x) (t .outs x)
     other-out x n =
         let f = R .outs x in
-        out-moved (c .eps Out x n) (c .lens Out x n)
+        out-moved (c .eps Out x n) (c .lens Out x n) (c .stamps x n)
         (out-bytes long (waiting-foreign (f .held .placed) (f .held .ring) _ _ b b′ o (R .apart Out dir x e n)) f)
 
     pub other-in : (x : ℕ) → key In x ≢ key dir e → InFits b′ (epOn d′ In x) (lensOf d′ In x) (t .ins x)
@@ -335,14 +379,14 @@ module _ {φ : Phase} {b b′ : Buf} {d d′ : Driver} {t : Pages} (R : Rest φ 
 
   -- OUT e
   pub out-changed : {ψ : Phase} {k : Kept} (e : ℕ) (p : OutPage) → Changed Out e d d′ → SameKept d′ k → length b′ ≡ length b
-      → Only (epOn d Out e .base) (endOf (epOn d Out e)) b b′ → OutFits b′ (epOn d′ Out e) (lensOf d′ Out e) p → Step ψ
+      → Only (epOn d Out e .base) (endOf (epOn d Out e)) b b′ → OutFits b′ (epOn d′ Out e) (lensOf d′ Out e) (slotStamps d′ e) p → Step ψ
       → ((x : ℕ) (u : Bool) → x % 16 ≢ e % 16 → Arming φ x u (epOn d Out x) (t .outs x) → Arming ψ x u (epOn d Out x) (t .outs x))
       → Arming ψ e (isSet (isoOuts (d .globals)) (e % 16)) (epOn d′ Out e) p → Rest ψ b′ d′ (withOut (withKept t k) e p)
   out-changed {ψ} {k} e p c s long o f step others a = rebuilt R (keeps-changed c) long (record {
     step = step;
     same = s;
-    outs = λ x. at-elim (λ q. OutFits b′ (epOn d′ Out x) (lensOf d′ Out x) q) e x p (t .outs)
-        (λ h. out-moved (ep-mod d′ Out x e h) (lens-mod d′ Out x e h) f)
+    outs = λ x. at-elim (λ q. OutFits b′ (epOn d′ Out x) (lensOf d′ Out x) (slotStamps d′ x) q) e x p (t .outs)
+        (λ h. out-moved (ep-mod d′ Out x e h) (lens-mod d′ Out x e h) (stamps-mod d′ x e h) f)
         (λ n. other-out c long o x (key-other Out x e n));
     ins = λ x. other-in c long o x (λ h. key-apart e x (sym h));
     arming = λ x. subst (λ g. Arming ψ x (isSet (isoOuts g) (x % 16)) (epOn d′ Out x) (at e p (t .outs) x)) (sym (c .globals))

@@ -19,7 +19,7 @@ use Rattle.regs.specs.EnablesLaws.{out-enabled-set}
 use Rattle.state.specs.declared.EpState.{EpState}
 use Rattle.state.specs.declared.Globals.{Globals}
 use Rattle.state.specs.declared.Allocator.{Allocator}
-use Rattle.state.specs.Driver.{Driver, key, epOn, withOn, lenOn, pacedOn, requestOn, withGlobals, withAllocator}
+use Rattle.state.specs.Driver.{Driver, key, epOn, withOn, lenOn, stampOn, pacedOn, requestOn, withGlobals, withAllocator}
 use Rattle.state.specs.Laws.{Sized, epOn-same, epOn-other, key-same, key-apart}
 use Rattle.alloc.specs.declared.Answer.{Answer}
 use Rattle.alloc.specs.declared.Answer.the-variants.{Refused, Given}
@@ -40,7 +40,8 @@ use Rattle.ops.specs.Records.{plainOf, withSets, isoAdded, withIsoSets, recordG
 use Rattle.ops.specs.Conc.{conc}
 use Rattle.book.specs.Pages.{OutPage, InPage, Kept, Pages, at, on, withKept, withOut, withIn, keptGlobals, keptAllocator, keptPlain}
 use Rattle.book.specs.Book.{bookOps, shapedPlain, slotTold, emptyOut, emptyIn, pagesGiven, givenB, allocateB, startedB, allocateB0}
-use Rattle.book.specs.Rest.{SameKept, Used, Unused, Shape, Apart, Held, OutFits, InFits, AtRest, Rest, lensOf, endOf, ep0Room}
+use Rattle.book.specs.Rest.{SameKept, Used, Unused, Shape, Apart, Held, OutFits, InFits, AtRest, Rest, lensOf, slotStamps, endOf, ep0Room}
+use Rattle.book.specs.Stamps.{none-stamps}
 use Rattle.book.specs.Cells.{Still, still, kin-refl, key-by, epOn-by, on-key, at-same, at-other, plain-put}
 
 -- ---- an allocator with the same buffers, of which perhaps more are used
@@ -61,10 +62,10 @@ shape-further false a b f dir r s = s
 
 -- the relation with the allocator further on
 pub further : {b : Buf} {d : Driver} {t : Pages} → Rest quiet b d t → (a : Allocator) → Further (d .allocator) a → Rest quiet b (withAllocator d a) (withKept t (keptAllocator (t .kept) a))
-unfolding epOn lenOn pacedOn requestOn
+unfolding epOn lenOn stampOn pacedOn requestOn
 further {b = b} {d = d} {t = t} r a f = record {
   step = tt;
-  sized = record { eps = r .sized .eps; lens = r .sized .lens; paced = r .sized .paced; requests = r .sized .requests };
+  sized = record { eps = r .sized .eps; lens = r .sized .lens; stamps = r .sized .stamps; paced = r .sized .paced; requests = r .sized .requests };
   sound = f .sound;
   good = rw (f .size) (r .good);
   long = rw (f .size, f .count) (r .long);
@@ -192,17 +193,17 @@ outs-there false dir e x w q = refl
 
 -- ---- an endpoint's page
 
-abbrev Fits : Dir → Buf → EpState → List ℕ → Pages → ℕ → Type 0
-Fits Out b r ls t x = OutFits b r ls (t .outs x)
-Fits In b r ls t x = InFits b r ls (t .ins x)
+abbrev Fits : Dir → Buf → EpState → List ℕ → List ℕ → Pages → ℕ → Type 0
+Fits Out b r ls ss t x = OutFits b r ls ss (t .outs x)
+Fits In b r ls ss t x = InFits b r ls (t .ins x)
 
 abbrev SamePage : Dir → Pages → Pages → ℕ → Type 0
 SamePage Out t t′ x = t′ .outs x ≡ t .outs x
 SamePage In t t′ x = t′ .ins x ≡ t .ins x
 
-fits-as : (dir : Dir) (b : Buf) (r r′ : EpState) (ls : List ℕ) (t t′ : Pages) (x : ℕ) → r′ ≡ r → SamePage dir t t′ x → Fits dir b r ls t x → Fits dir b r′ ls t′ x
-fits-as Out b r r′ ls t t′ x q o f = rw (q, o) f
-fits-as In b r r′ ls t t′ x q i f = rw (q, i) f
+fits-as : (dir : Dir) (b : Buf) (r r′ : EpState) (ls ss : List ℕ) (t t′ : Pages) (x : ℕ) → r′ ≡ r → SamePage dir t t′ x → Fits dir b r ls ss t x → Fits dir b r′ ls ss t′ x
+fits-as Out b r r′ ls ss t t′ x q o f = rw (q, o) f
+fits-as In b r r′ ls ss t t′ x q i f = rw (q, i) f
 
 given-page : (dir′ dir : Dir) (e base x : ℕ) (t : Pages) → key dir′ x ≢ key dir e → SamePage dir′ t (pagesGiven dir e base t) x
 given-page Out Out e base x t q = at-other e x (slotTold (emptyOut (t .outs e)) base) (t .outs) (λ h. q (key-by Out x e h))
@@ -218,13 +219,14 @@ abbrev Lost : Dir → EpState → Pages → ℕ → Type 0
 Lost Out r t e = r .overruns ≡ t .outs e .lost % 2 ^ 32
 Lost In r t e = Unit {0}
 
-new-fits : (dir : Dir) (b : Buf) (r : EpState) (ls : List ℕ) (t : Pages) (kind maximum base size n e x : ℕ) → x % 16 ≡ e % 16
+new-fits : (dir : Dir) (b : Buf) (r : EpState) (ls ss : List ℕ) (t : Pages) (kind maximum base size n e x : ℕ) → x % 16 ≡ e % 16
     → ((most : ℕ) → Held most b (allocated r kind maximum base size n) ls []) → 1 ≤ n → Lost dir r t e
-    → Fits dir b (allocated r kind maximum base size n) ls (pagesGiven dir e base t) x
+    → Fits dir b (allocated r kind maximum base size n) ls ss (pagesGiven dir e base t) x
 unfolding allocated
-new-fits Out b r ls t kind maximum base size n e x q held some lost =
+new-fits Out b r ls ss t kind maximum base size n e x q held some lost =
     rw (at-same e x (slotTold (emptyOut (t .outs e)) base) (t .outs) q) (record {
       held = held (n - 1);
+      stamps = none-stamps (allocated r kind maximum base size n) ss (reset-count (allocated r kind maximum base size n) refl refl);
       opened = refl;
       shows = λ h. absurd (true≢false h);
       lost = lost;
@@ -232,7 +234,7 @@ new-fits Out b r ls t kind maximum base size n e x q held some lost =
       from = omega arith;
       upto = omega (arith, mul-le-mul-right size some);
     })
-new-fits In b r ls t kind maximum base size n e x q held some lost =
+new-fits In b r ls ss t kind maximum base size n e x q held some lost =
     rw (at-same e x emptyIn (t .ins) q) (record {
       held = held n;
       ringless = λ h. reset-count (allocated r kind maximum base size n) refl refl;
@@ -335,7 +337,7 @@ module _ {b : Buf} {d : Driver} {t : Pages} (r : Rest quiet b d t) (dir : Dir) (
 
   here : (x : ℕ) → x % 16 ≡ e % 16 → epOn D dir x ≡ R
   unfolding epOn withOn givenTo setsGiven recordGiven
-  here x q = epOn-by (withOn (withAllocator d a) dir e R) dir x e q ∙ epOn-same (withAllocator d a) dir e R (record { eps = r .sized .eps; lens = r .sized .lens; paced = r .sized .paced; requests = r .sized .requests })
+  here x q = epOn-by (withOn (withAllocator d a) dir e R) dir x e q ∙ epOn-same (withAllocator d a) dir e R (record { eps = r .sized .eps; lens = r .sized .lens; stamps = r .sized .stamps; paced = r .sized .paced; requests = r .sized .requests })
 
   there : (dir′ : Dir) (x : ℕ) → key dir′ x ≢ key dir e → epOn D dir′ x ≡ epOn d dir′ x
   unfolding epOn withOn givenTo setsGiven recordGiven
@@ -345,7 +347,11 @@ module _ {b : Buf} {d : Driver} {t : Pages} (r : Rest quiet b d t) (dir : Dir) (
   unfolding lenOn withOn givenTo setsGiven recordGiven
   lens-as dir′ x = refl
 
-  fits : (dir′ : Dir) (x : ℕ) → Fits dir′ b (epOn d dir′ x) (lensOf d dir′ x) t x
+  stamps-as : (x : ℕ) → slotStamps D x ≡ slotStamps d x
+  unfolding stampOn withOn givenTo setsGiven recordGiven
+  stamps-as x = refl
+
+  fits : (dir′ : Dir) (x : ℕ) → Fits dir′ b (epOn d dir′ x) (lensOf d dir′ x) (slotStamps d x) t x
   fits Out x = r .outs x
   fits In x = r .ins x
 
@@ -368,13 +374,13 @@ module _ {b : Buf} {d : Driver} {t : Pages} (r : Rest quiet b d t) (dir : Dir) (
   page-there Out x q = given-page Out dir e base x T0 q
   page-there In x q = given-page In dir e base x T0 q
 
-  fits-after : (dir′ : Dir) (x : ℕ) → Fits dir′ b (epOn D dir′ x) (lensOf D dir′ x) T x
-  fits-after = on-key (λ dir′ x. Fits dir′ b (epOn D dir′ x) (lensOf D dir′ x) T x) dir e
-      (λ x q. rw (lens-as dir x) (fits-as dir b R (epOn D dir x) (lensOf d dir x) (pagesGiven dir e base T0) T x (here x q) (page-as dir x)
-      (new-fits dir b (epOn d dir e) (lensOf d dir x) T0 kind maximum base (a .size) n e x q
+  fits-after : (dir′ : Dir) (x : ℕ) → Fits dir′ b (epOn D dir′ x) (lensOf D dir′ x) (slotStamps D x) T x
+  fits-after = on-key (λ dir′ x. Fits dir′ b (epOn D dir′ x) (lensOf D dir′ x) (slotStamps D x) T x) dir e
+      (λ x q. rw (lens-as dir x, stamps-as x) (fits-as dir b R (epOn D dir x) (lensOf d dir x) (slotStamps d x) (pagesGiven dir e base T0) T x (here x q) (page-as dir x)
+      (new-fits dir b (epOn d dir e) (lensOf d dir x) (slotStamps d x) T0 kind maximum base (a .size) n e x q
       (λ most. held most (lensOf d dir x) (length-tab (λ i. lenOn d dir x i) 16) (capped-0 dir x (rw (epOn-by d dir x e q) (unused .stride))))
       (rw (g .slots) (slots-divide (isIso kind) dir .0)) (lost-as dir e))))
-      (λ dir′ x q. rw (lens-as dir′ x) (fits-as dir′ b (epOn d dir′ x) (epOn D dir′ x) (lensOf d dir′ x) t T x (there dir′ x q) (page-there dir′ x q) (fits dir′ x)))
+      (λ dir′ x q. rw (lens-as dir′ x, stamps-as x) (fits-as dir′ b (epOn d dir′ x) (epOn D dir′ x) (lensOf d dir′ x) (slotStamps d x) t T x (there dir′ x q) (page-there dir′ x q) (fits dir′ x)))
 
   plain-as : plainOf R ≡ shapedPlain (t .kept .plain dir e) kind maximum base
   unfolding allocated
@@ -461,12 +467,12 @@ module _ {b : Buf} {d : Driver} {t : Pages} (r : Rest quiet b d t) (dir : Dir) (
     allocator = refl;
     paced = r .same .paced;
     requests = r .same .requests;
-    plain = plain-put (withAllocator d a) (t .kept) dir e R (record { eps = r .sized .eps; lens = r .sized .lens; paced = r .sized .paced; requests = r .sized .requests }) (r .same .plain) (shapedPlain (t .kept .plain dir e) kind maximum base) plain-as;
+    plain = plain-put (withAllocator d a) (t .kept) dir e R (record { eps = r .sized .eps; lens = r .sized .lens; stamps = r .sized .stamps; paced = r .sized .paced; requests = r .sized .requests }) (r .same .plain) (shapedPlain (t .kept .plain dir e) kind maximum base) plain-as;
   }
 
   sized-after : Sized D
   unfolding withOn givenTo setsGiven recordGiven epOn
-  sized-after = record { eps = length-set (d .eps) (key dir e) R ∙ r .sized .eps; lens = r .sized .lens; paced = r .sized .paced; requests = r .sized .requests }
+  sized-after = record { eps = length-set (d .eps) (key dir e) R ∙ r .sized .eps; lens = r .sized .lens; stamps = r .sized .stamps; paced = r .sized .paced; requests = r .sized .requests }
 
   allocator-after : D .allocator ≡ a
   unfolding withOn givenTo setsGiven recordGiven

@@ -6,7 +6,7 @@ use Prim.Native.Nat.{ℕ, _+_, _*_, _/_, _%_, _≤_, _<_}
 use native.Mathlib.Omega.{arith}
 use lib.Dec.{eqb, ltb}
 use borrow.Author.Tests.{ltb-true, lt-ltb, eqb-true}
-use lib.ListN.{length}
+use lib.ListN.{length, getD}
 use Rattle.bits.specs.Bit.{isSet, both}
 use Rattle.regs.specs.declared.Dir.{Dir}
 use Rattle.regs.specs.declared.Dir.the-variants.{Out}
@@ -14,7 +14,7 @@ use Rattle.regs.specs.Enables as enables
 use Rattle.regs.specs.EnablesLaws.{out-enabled-set}
 use Rattle.state.specs.declared.EpState.{EpState}
 use Rattle.state.specs.declared.Globals.{Globals}
-use Rattle.state.specs.Driver.{Driver, epOn, lenOn}
+use Rattle.state.specs.Driver.{Driver, epOn, lenOn, stampOn}
 use Rattle.alloc.specs.Alloc.{if, allocatedIn, slotsOf}
 use Rattle.alloc.specs.Buffer.{goodSize, each-size}
 use Rattle.ring.specs.Slot.{slotOf, slotAddr, countOf, hasWaiting}
@@ -26,12 +26,13 @@ use Rattle.script.specs.Script.{Test, Look, Fetch, Act, Hand, handAsk}
 use Rattle.script.specs.Alike.{Phase, quiet}
 use Rattle.script.specs.Statics.{isOn, isoOuts}
 use Rattle.script.specs.Machine.{Buf}
-use Rattle.ops.specs.Rings.{nextLen}
+use Rattle.ops.specs.Rings.{nextLen, nextStamp}
 use Rattle.ops.specs.Conc.{isOf, lookOf, fetchOf, actOn, handOn}
-use Rattle.book.specs.Pages.{Pages}
-use Rattle.book.specs.Book.{some, first, isB, lookB, fetchB, actB, handB, feedB}
-use Rattle.book.specs.Rest.{Used, Shape, lensOf, Held, Rest, Good}
-use Rattle.book.specs.Lens.{lens-at, lens-length}
+use Rattle.book.specs.Pages.{Packet, bytesOf, stampsOf, OutPage, Pages}
+use Rattle.book.specs.Book.{some, first, firstStamp, isB, lookB, fetchB, actB, handB, feedB}
+use Rattle.book.specs.Rest.{Used, Shape, lensOf, slotStamps, Held, OutFits, Rest, Good}
+use Rattle.book.specs.Lens.{lens-at, lens-length, stamps-at}
+use Rattle.book.specs.Stamps.{split-stamps}
 
 -- ---- each operation, of driver and book
 
@@ -89,6 +90,19 @@ module _ (d : Driver) (dir : Dir) (e : ℕ) {most : ℕ} {b : Buf} {w : List (Li
 
   pub held-first : bytesAt b (slotAddr (epOn d dir e) (epOn d dir e .tail)) (nextLen d dir e) ≡ first w
   held-first = ap (λ n. bytesAt b (slotAddr (epOn d dir e) (epOn d dir e .tail)) n) held-next ∙ first-by w (h .waits)
+
+-- the stamp of the first
+module _ (d : Driver) (e : ℕ) {b : Buf} {p : OutPage} (f : OutFits b (epOn d Out e) (lensOf d Out e) (slotStamps d e) p) where
+  stamp-by : (w : List Packet) → p .waiting ≡ w → cond (some (bytesOf w)) (stampOn d e (slotOf (epOn d Out e) (epOn d Out e .tail))) 0 ≡ firstStamp w
+  stamp-by [] h = refl
+  stamp-by (q ∷ qs) h =
+      let n : 0 < countOf (epOn d Out e) = omega (arith, held-length (f .held) ∙ ap (λ (w : List Packet). length (bytesOf w)) h) in
+      sym (stamps-at d e _ (tail-in d Out e (f .held)))
+      ∙ ap (λ (l : List ℕ). getD l 0 0) (sym (split-stamps (f .held .placed) (f .held .ring) (slotStamps d e) n) ∙ f .stamps ∙ ap (λ (w : List Packet). stampsOf w) h)
+
+  pub held-stamp : nextStamp d e ≡ firstStamp (p .waiting)
+  unfolding nextStamp
+  held-stamp = ap (λ u. cond u (stampOn d e (slotOf (epOn d Out e) (epOn d Out e .tail))) 0) (held-some (f .held)) ∙ stamp-by (p .waiting) refl
 
 -- ---- an enabled isochronous OUT
 

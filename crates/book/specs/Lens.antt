@@ -1,20 +1,21 @@
--- Endpoints count modulo 16, and the recorded lengths of one
+-- Endpoints count modulo 16; the recorded lengths and the stamps of one
 use mathlib.Core.List.{List}
 use mathlib.Core.Logic.{_≢_, _⊎_, inl, inr, ⊎-elim}
 use mathlib.Core.Path.{_≡_, refl, ap, _∙_}
 use Prim.Native.Nat.{ℕ, zero, suc, _+_, _*_, _%_, _≤_, _<_}
 use native.Mathlib.Omega.{arith}
 use native.Mathlib.Decide.{ℕ-discrete, decLt}
-use lib.ListN.{length, getD, set, replicate, length-set}
+use lib.ListN.{length, getD, set, replicate}
 use lib.Seq.{getD-set-same, getD-set-other}
 use Rattle.fields.specs.Tables.{tab, tab-ext, tab-set, getD-tab, length-tab}
 use Rattle.regs.specs.declared.Dir.{Dir}
 use Rattle.regs.specs.declared.Dir.the-variants.{Out, In}
 use Rattle.state.specs.declared.EpState.{EpState}
-use Rattle.state.specs.Fresh.{filled, fillLens}
-use Rattle.state.specs.Driver.{Driver, key, lenKey, noEp, epOn, withOn, lenOn, withLenOn}
-use Rattle.state.specs.Laws.{Sized, key-same, lenOn-same, lenOn-other}
-use Rattle.book.specs.Rest.{lensOf}
+use Rattle.state.specs.Fresh.{filled, fillLens, clearStamps}
+use Rattle.state.specs.Driver.{Driver, key, lenKey, noEp, stampKey, epOn, withOn, lenOn, withLenOn, stampOn, withStampOn}
+use Rattle.state.specs.Laws.{Sized, key-same, stampKey-same, lenOn-same, lenOn-other, stampOn-same, stampOn-other}
+use Rattle.ops.specs.Stamps.{length-filled, cleared-other}
+use Rattle.book.specs.Rest.{lensOf, slotStamps}
 
 -- ---- endpoints count modulo 16
 
@@ -75,11 +76,6 @@ module _ (d : Driver) (dir : Dir) (e : ℕ) where
 
 -- ---- all lengths of an OUT ring
 
-pub length-filled : (l : List ℕ) (a n v : ℕ) → length (filled l a n v) ≡ length l
-unfolding filled
-length-filled l a zero v = refl
-length-filled l a (suc n) v = length-set (filled l a n v) (a + n) v ∙ length-filled l a n v
-
 filled-out : (l : List ℕ) (a n v k : ℕ) → (k < a) ⊎ (a + n ≤ k) → getD (filled l a n v) k 0 ≡ getD l k 0
 unfolding filled
 filled-out l a zero v k h = refl
@@ -126,3 +122,59 @@ module _ (d : Driver) (e v : ℕ) where
 
   pub lens-fill-other : (dir′ : Dir) (e′ : ℕ) → key dir′ e′ ≢ key Out e → lensOf (fillLens d e v) dir′ e′ ≡ lensOf d dir′ e′
   lens-fill-other dir′ e′ n = tab-ext (λ j. lenOn d dir′ e′ j) (λ j. lenOn (fillLens d e v) dir′ e′ j) 16 (λ j l. fill-out dir′ e′ j n)
+
+-- ---- the stamps
+
+pub stamps-mod : (d : Driver) (x e : ℕ) → x % 16 ≡ e % 16 → slotStamps d x ≡ slotStamps d e
+unfolding stampOn stampKey
+stamps-mod d x e h = ap (λ (k : ℕ). tab 16 (λ i. getD (d .stamps) (k * 16 + i % 16) 0)) h
+
+pub stamps-length : (d : Driver) (e : ℕ) → length (slotStamps d e) ≡ 16
+stamps-length d e = length-tab (λ i. stampOn d e i) 16
+
+pub stamps-at : (d : Driver) (e i : ℕ) → i < 16 → getD (slotStamps d e) i 0 ≡ stampOn d e i
+stamps-at d e i h = getD-tab (λ j. stampOn d e j) 16 i 0 h
+
+-- records and lengths have none
+pub stamps-on : (d : Driver) (dir : Dir) (e : ℕ) (r : EpState) (x : ℕ) → slotStamps (withOn d dir e r) x ≡ slotStamps d x
+unfolding withOn stampOn
+stamps-on d dir e r x = refl
+
+pub stamps-len : (d : Driver) (dir : Dir) (e i v x : ℕ) → slotStamps (withLenOn d dir e i v) x ≡ slotStamps d x
+unfolding withLenOn stampOn
+stamps-len d dir e i v x = refl
+
+pub stamps-fill : (d : Driver) (e v x : ℕ) → slotStamps (fillLens d e v) x ≡ slotStamps d x
+unfolding fillLens stampOn
+stamps-fill d e v x = refl
+
+module _ (d : Driver) (e : ℕ) where
+  pub stamps-set : Sized d → (i v : ℕ) → i < 16 → slotStamps (withStampOn d e i v) e ≡ set (slotStamps d e) i v
+  stamps-set s i v h =
+      tab-set (λ j. stampOn d e j) (λ j. stampOn (withStampOn d e i v) e j) 16 i v h (stampOn-same d e i v s)
+      (λ j l n. stampOn-other d e i v e j (λ z. n (omega (arith, stampKey-same e j e i z .1))))
+
+  pub stamps-set-other : (i v x : ℕ) → key Out x ≢ key Out e → slotStamps (withStampOn d e i v) x ≡ slotStamps d x
+  unfolding key
+  stamps-set-other i v x n = tab-ext (λ j. stampOn d x j) (λ j. stampOn (withStampOn d e i v) x j) 16
+      (λ j l. stampOn-other d e i v x j (λ z. n (stampKey-same x j e i z .0)))
+
+  pub ep-stamp : (i v : ℕ) (dir : Dir) (x : ℕ) → epOn (withStampOn d e i v) dir x ≡ epOn d dir x
+  unfolding withStampOn epOn
+  ep-stamp i v dir x = refl
+
+  pub lens-stamp : (i v : ℕ) (dir : Dir) (x : ℕ) → lensOf (withStampOn d e i v) dir x ≡ lensOf d dir x
+  unfolding withStampOn lenOn
+  lens-stamp i v dir x = refl
+
+  pub stamps-clear-other : (x : ℕ) → key Out x ≢ key Out e → slotStamps (clearStamps d e) x ≡ slotStamps d x
+  unfolding key
+  stamps-clear-other x n = tab-ext (λ j. stampOn d x j) (λ j. stampOn (clearStamps d e) x j) 16 (λ j l. cleared-other d e x j n)
+
+  pub ep-clear : (dir : Dir) (x : ℕ) → epOn (clearStamps d e) dir x ≡ epOn d dir x
+  unfolding clearStamps epOn
+  ep-clear dir x = refl
+
+  pub lens-clear : (dir : Dir) (x : ℕ) → lensOf (clearStamps d e) dir x ≡ lensOf d dir x
+  unfolding clearStamps lenOn
+  lens-clear dir x = refl

@@ -1,5 +1,6 @@
 pub mod Pages
 pub mod Book
+pub mod Stamps
 pub mod Rest
 pub mod Cells
 pub mod Given
@@ -23,5 +24,9 @@ pub mod Sorts
 pub mod Always
 pub mod Sorting
 pub mod Readings
+pub mod Keeping
+pub mod Entered
+pub mod Hands
+pub mod Admits
 pub mod Served
 pub mod CodeReadings

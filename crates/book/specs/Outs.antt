@@ -1,6 +1,6 @@
 -- OUT endpoints: what is asked of them, and a packet opened, closed, taken, a ring emptied
 use mathlib.Core.Bool.{Bool, true, false, not, cond, true≢false}
-use mathlib.Core.List.{List, tail}
+use mathlib.Core.List.{List, [], _∷_, map, tail}
 use mathlib.Core.Path.{_≡_, refl, ap, subst, sym, _∙_}
 use Prim.Native.Nat.{ℕ, _-_, _<_}
 use native.Mathlib.Omega.{arith}
@@ -24,12 +24,13 @@ use Rattle.script.specs.Statics.{isOn, flag}
 use Rattle.script.specs.Machine.{Buf}
 use Rattle.ops.specs.Records.{plainOf, isoOut}
 use Rattle.ops.specs.Rings.{changedOn, markedOn, waitingOn, openedOn, oldestAt, oldestOn, emptied, emptiedOn, openOn, closeOn, takeOn}
-use Rattle.book.specs.Pages.{OutPage, Pages, withOut}
+use Rattle.book.specs.Pages.{Packet, bytesOf, OutPage, Pages, withOut}
 use Rattle.book.specs.Book.{some, isoOf, openOut, readOut, emptyOut}
-use Rattle.book.specs.Rest.{lensOf, OutFits, AtRest, Rest}
-use Rattle.book.specs.Lens.{lens-on}
+use Rattle.book.specs.Rest.{lensOf, slotStamps, OutFits, AtRest, Rest}
+use Rattle.book.specs.Lens.{lens-on, stamps-on}
+use Rattle.book.specs.Stamps.{alike-stamps, none-stamps, close-stamps}
 use Rattle.book.specs.Frame.{changed-not, changed-on, kept-same, out-changed, out-moved}
-use Rattle.book.specs.Held.{IsAgrees, LookAgrees, FetchAgrees, ActAgrees, held-some, waits-count, held-next, held-first, receives, plain-receives}
+use Rattle.book.specs.Held.{IsAgrees, LookAgrees, FetchAgrees, ActAgrees, held-some, waits-count, held-next, held-first, held-stamp, receives, plain-receives}
 
 -- ---- what is asked
 
@@ -63,6 +64,9 @@ look-marked e b d t R =
 pub look-next-out : (e : ℕ) → LookAgrees (script.next-len Out e)
 look-next-out e b d t R = held-next d Out e (R .outs e .held)
 
+pub look-next-stamp : (e : ℕ) → LookAgrees (script.next-stamp e)
+look-next-stamp e b d t R = held-stamp d e (R .outs e)
+
 pub fetch-oldest : (e : ℕ) → FetchAgrees (script.oldest e)
 unfolding oldestOn oldestAt
 fetch-oldest e b d t R = held-first d Out e (R .outs e .held)
@@ -78,16 +82,16 @@ pub record Inner (r r′ : EpState) : Type 0 where
   pub plain : plainOf r′ ≡ plainOf r
 
 pub out-on : {b : Buf} {d : Driver} {t : Pages} → Rest quiet b d t → (e : ℕ) (r : EpState) (p : OutPage) → Inner (epOn d Out e) r
-    → OutFits b r (lensOf d Out e) p → AtRest (receives d e) r p → Rest quiet b (withOn d Out e r) (withOut t e p)
+    → OutFits b r (lensOf d Out e) (slotStamps d e) p → AtRest (receives d e) r p → Rest quiet b (withOn d Out e r) (withOut t e p)
 out-on {b} {d} {t} R e r p k f a =
     let s = R .sized in
     let c = changed-on s Out e r (k .place) (ap (λ (q : Plain). q .iso) (k .plain)) in
     let z : epOn (withOn d Out e r) Out e ≡ r = epOn-same d Out e r s in
-    out-changed R e p c (kept-same c (ap plainOf z ∙ k .plain) (R .same)) refl (λ i h. refl) (out-moved z (lens-on d Out e r Out e) f) tt (λ x u n y. y)
+    out-changed R e p c (kept-same c (ap plainOf z ∙ k .plain) (R .same)) refl (λ i h. refl) (out-moved z (lens-on d Out e r Out e) (stamps-on d Out e r e) f) tt (λ x u n y. y)
     (subst (λ y. AtRest (receives d e) y p) (sym z) a)
 
 -- nothing but a page that is read as it was
-pub out-page : {b : Buf} {d : Driver} {t : Pages} → Rest quiet b d t → (e : ℕ) (p : OutPage) → OutFits b (epOn d Out e) (lensOf d Out e) p
+pub out-page : {b : Buf} {d : Driver} {t : Pages} → Rest quiet b d t → (e : ℕ) (p : OutPage) → OutFits b (epOn d Out e) (lensOf d Out e) (slotStamps d e) p
     → AtRest (receives d e) (epOn d Out e) p → Rest quiet b d (withOut t e p)
 out-page {b} {d} {t} R e p f a =
     let c = changed-not (R .sized) Out e in
@@ -99,8 +103,8 @@ open-inner : (r : EpState) → Inner r (openedOf r)
 unfolding openedOf
 open-inner r = record { place = record { base = refl; stride = refl; slots = refl }; plain = refl }
 
-module _ {b : Buf} {r : EpState} {ls : List ℕ} {p : OutPage} (f : OutFits b r ls p) (w : hasWaiting r ≡ true) where
-  open-fits : OutFits b (openedOf r) ls (openOut p)
+module _ {b : Buf} {r : EpState} {ls ss : List ℕ} {p : OutPage} (f : OutFits b r ls ss p) (w : hasWaiting r ≡ true) where
+  open-fits : OutFits b (openedOf r) ls ss (openOut p)
   unfolding openedOf
   open-fits =
       let k = opened-alike r in
@@ -111,6 +115,7 @@ module _ {b : Buf} {r : EpState} {ls : List ℕ} {p : OutPage} (f : OutFits b r 
           least = f .held .least;
           waits = alike-waits k b ls (f .held .ring .tail8) ∙ f .held .waits;
         };
+        stamps = alike-stamps k ss (f .held .ring .tail8) ∙ f .stamps;
         opened = refl;
         shows = opened-shows r (waits-count r w);
         lost = f .lost;
@@ -140,27 +145,32 @@ unfolding openOn
 act-open e b d t R =
     let f = R .outs e in (
       refl,
-      cond-rest (hasWaiting (epOn d Out e)) (some (t .outs e .waiting)) (held-some (f .held))
+      cond-rest (hasWaiting (epOn d Out e)) (some (bytesOf (t .outs e .waiting))) (held-some (f .held))
           (λ h. out-on R e (openedOf (epOn d Out e)) (openOut (t .outs e)) (open-inner (epOn d Out e)) (open-fits f h) (open-rest f h (R .arming e)))
           (λ h. R),
     )
 
 -- ---- closed, taken
 
+map-tail : {A : Type 0} (f : Packet → A) (w : List Packet) → map f (tail w) ≡ tail (map f w)
+map-tail f [] = refl
+map-tail f (q ∷ qs) = refl
+
 close-inner : (r : EpState) → Inner r (closedOf r)
 unfolding closedOf passedOf
 close-inner r = record { place = record { base = refl; stride = refl; slots = refl }; plain = refl }
 
-module _ {b : Buf} {r : EpState} {ls : List ℕ} {p : OutPage} (f : OutFits b r ls p) (w : 0 < countOf r) where
-  close-fits : OutFits b (closedOf r) ls (readOut p)
+module _ {b : Buf} {r : EpState} {ls ss : List ℕ} {p : OutPage} (f : OutFits b r ls ss p) (w : 0 < countOf r) where
+  close-fits : OutFits b (closedOf r) ls ss (readOut p)
   unfolding closedOf passedOf
   close-fits = record {
     held = record {
       placed = place-placed (closed-place r) (f .held .placed);
       ring = close-ring (f .held .placed) (f .held .ring) w;
       least = f .held .least;
-      waits = close-waits (f .held .placed) (f .held .ring) w b ∙ ap (λ x. tail x) (f .held .waits);
+      waits = close-waits (f .held .placed) (f .held .ring) w b ∙ ap (λ x. tail x) (f .held .waits) ∙ sym (map-tail (λ (q : Packet). q .bytes) (p .waiting));
     };
+    stamps = close-stamps (f .held .placed) (f .held .ring) ss w ∙ ap (λ x. tail x) (f .stamps) ∙ sym (map-tail (λ (q : Packet). q .stamp) (p .waiting));
     opened = refl;
     shows = closed-shows r;
     lost = f .lost;
@@ -200,7 +210,7 @@ pub act-take : (e : ℕ) → ActAgrees (script.take-oldest e)
 unfolding takeOn
 act-take e b d t R = (
   refl,
-  cond-rest (hasWaiting (epOn d Out e)) (some (t .outs e .waiting)) (held-some (R .outs e .held))
+  cond-rest (hasWaiting (epOn d Out e)) (some (bytesOf (t .outs e .waiting))) (held-some (R .outs e .held))
       (λ h. read-out R e (waits-count (epOn d Out e) h))
       (λ h. R),
 )
@@ -211,15 +221,16 @@ empty-inner : (r : EpState) → Inner r (emptied r)
 unfolding emptied
 empty-inner r = record { place = record { base = refl; stride = refl; slots = refl }; plain = refl }
 
-empty-fits : {b : Buf} {r : EpState} {ls : List ℕ} {p : OutPage} → OutFits b r ls p → OutFits b (emptied r) ls (emptyOut p)
+empty-fits : {b : Buf} {r : EpState} {ls ss : List ℕ} {p : OutPage} → OutFits b r ls ss p → OutFits b (emptied r) ls ss (emptyOut p)
 unfolding emptied
-empty-fits {b} {r} {ls} f = record {
+empty-fits {b} {r} {ls} {ss} f = record {
   held = record {
     placed = place-placed (empty-inner r .place) (f .held .placed);
     ring = reset-ring (emptied r) refl refl (r .slots - 1) ls (f .held .ring .whole) (f .held .ring .capped);
     least = f .held .least;
     waits = reset-waits (emptied r) refl refl b ls;
   };
+  stamps = none-stamps (emptied r) ss (reset-count (emptied r) refl refl);
   opened = refl;
   shows = λ h. absurd (true≢false h);
   lost = f .lost;

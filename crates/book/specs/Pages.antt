@@ -1,6 +1,6 @@
 -- The book's state: what waits on each endpoint, beside the kept values that scripts read and assign
 use mathlib.Core.Bool.{Bool, true, false, cond}
-use mathlib.Core.List.{List, []}
+use mathlib.Core.List.{List, map}
 use Prim.Native.Nat.{ℕ, _%_}
 use lib.Dec.{eqb}
 use Rattle.regs.specs.declared.Dir.{Dir}
@@ -12,9 +12,20 @@ use Rattle.state.specs.declared.Request.{Request}
 use Rattle.state.specs.declared.Control.{Control}
 use Rattle.script.specs.Cells.{Plain}
 
+-- a packet that waits on an OUT endpoint: its bytes, and the microframe index of the interrupt that admitted it (request One)
+pub record Packet : Type 0 where
+  pub bytes : List ℕ
+  pub stamp : ℕ
+
+abbrev pub bytesOf : List Packet → List (List ℕ)
+bytesOf w = map (λ (p : Packet). p .bytes) w
+
+abbrev pub stampsOf : List Packet → List ℕ
+stampsOf w = map (λ (p : Packet). p .stamp) w
+
 -- OUT e: those waiting, first to last; whether the first is open; how many were turned away; the last receive address
 pub record OutPage : Type 0 where
-  pub waiting : List (List ℕ)
+  pub waiting : List Packet
   pub opened : Bool
   pub lost : ℕ
   pub slot : ℕ

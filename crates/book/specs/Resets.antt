@@ -6,7 +6,7 @@ use mathlib.Core.Path.{_≡_, refl, ap, subst, sym, _∙_}
 use Prim.Native.Nat.{ℕ, zero, suc, _%_, _≤_, _<_}
 use native.Mathlib.Omega.{arith}
 use native.Mathlib.Decide.{ℕ-discrete}
-use lib.ListN.{getD}
+use lib.ListN.{getD, length-replicate}
 use Rattle.bits.specs.Bit.{isSet}
 use Rattle.fields.specs.Tables.{tab}
 use Rattle.regs.specs.declared.Dir.{Dir}
@@ -14,6 +14,7 @@ use Rattle.regs.specs.declared.Dir.the-variants.{Out, In}
 use Rattle.state.specs.declared.EpState.{EpState}
 use Rattle.state.specs.declared.Globals.{Globals}
 use Rattle.state.specs.Ep.{resetOf}
+use Rattle.state.specs.Fresh.{noStamps}
 use Rattle.state.specs.Kept.{withEpConfig, withEpType}
 use Rattle.state.specs.Driver.{Driver, key, lenKey, noRequest, epOn, withOn, lenOn, pacedOn, requestOn}
 use Rattle.state.specs.Laws.{Sized, key-apart, epOn-same, epOn-other}
@@ -30,8 +31,9 @@ use Rattle.ops.specs.RingLaws.{renewed}
 use Rattle.ops.specs.Rings.{resetBelow, resetAll}
 use Rattle.book.specs.Pages.{OutPage, InPage, Pages}
 use Rattle.book.specs.Book.{emptyOut, emptyIn, allReset}
-use Rattle.book.specs.Rest.{SameKept, lensOf, Held, OutFits, InFits, Rest}
+use Rattle.book.specs.Rest.{SameKept, lensOf, slotStamps, Held, OutFits, InFits, Rest}
 use Rattle.book.specs.Lens.{ep-mod, key-other}
+use Rattle.book.specs.Stamps.{none-stamps}
 use Rattle.book.specs.Frame.{Keeps, rebuilt, changed-on, out-moved, in-moved}
 use Rattle.book.specs.Chips.{armed-or}
 use Rattle.book.specs.Steps.{RowStep, phase-changed, globals-changed, none-enabled}
@@ -50,9 +52,11 @@ reset-held {most = most} {b = b} {r = r} {ls = ls} h = record {
   waits = reset-waits (resetOf r) refl refl b ls;
 }
 
-reset-out : {b : Buf} {r : EpState} {ls : List ℕ} {p : OutPage} → OutFits b r ls p → OutFits b (resetOf r) ls (emptyOut p)
-reset-out f = record {
+-- nor any stamp, whatever its slots have
+reset-out : {b : Buf} {r : EpState} {ls ss : List ℕ} {p : OutPage} → OutFits b r ls ss p → (ss′ : List ℕ) → OutFits b (resetOf r) ls ss′ (emptyOut p)
+reset-out {r = r} f ss′ = record {
   held = reset-held (f .held);
+  stamps = none-stamps (resetOf r) ss′ (reset-count (resetOf r) refl refl);
   opened = refl;
   shows = λ q. absurd (true≢false q);
   lost = f .lost;
@@ -148,21 +152,21 @@ module _ {b : Buf} {d : Driver} {t : Pages} (R : Rest (mid bus-reset 1) b d t) w
   all-below = reset-below 16 d (omega arith) (R .sized)
 
   all-ep : (dir : Dir) (x : ℕ) → epOn (resetAll d) dir x ≡ resetOf (epOn d dir x)
-  unfolding resetAll epOn
+  unfolding resetAll noStamps epOn
   all-ep dir x = all-below .these dir x (omega arith)
 
   all-lens : (dir : Dir) (x : ℕ) → lensOf (resetAll d) dir x ≡ lensOf d dir x
-  unfolding resetAll lenOn
+  unfolding resetAll noStamps lenOn
   all-lens dir x = ap (λ (l : List ℕ). tab 16 (λ i. getD l (lenKey dir x i) 0)) (all-below .lens)
 
   all-globals : resetAll d .globals ≡ withSetup 0 (d .globals .«setup_low») (d .globals .«setup_high») (d .globals)
-  unfolding resetAll
+  unfolding resetAll noStamps
   all-globals = ap (λ (g : Globals). withSetup 0 (g .«setup_low») (g .«setup_high») g) (all-below .globals)
 
   all-keeps : Keeps d (resetAll d)
-  unfolding resetAll
+  unfolding resetAll noStamps
   all-keeps = record {
-    sized = record { eps = all-below .sized .eps; lens = all-below .sized .lens; paced = all-below .sized .paced; requests = all-below .sized .requests };
+    sized = record { eps = all-below .sized .eps; lens = all-below .sized .lens; stamps = length-replicate {A = ℕ} 256 0; paced = all-below .sized .paced; requests = all-below .sized .requests };
     allocator = all-below .allocator;
     stage = ap (λ (g : Globals). g .stage) (all-below .globals);
     ep0-buf = ap (λ (g : Globals). g .«ep0_buf») (all-below .globals);
@@ -173,7 +177,7 @@ module _ {b : Buf} {d : Driver} {t : Pages} (R : Rest (mid bus-reset 1) b d t) w
   }
 
   all-same : SameKept (resetAll d) (allReset t .kept)
-  unfolding resetAll pacedOn requestOn
+  unfolding resetAll noStamps pacedOn requestOn
   all-same = record {
     globals = all-globals ∙ ap (λ (g : Globals). withSetup 0 (g .«setup_low») (g .«setup_high») g) (R .same .globals);
     wakes = all-below .wakes ∙ R .same .wakes;
@@ -192,7 +196,7 @@ module _ {b : Buf} {d : Driver} {t : Pages} (R : Rest (mid bus-reset 1) b d t) w
   all-reset = rebuilt R all-keeps refl (record {
     step = omega arith;
     same = all-same;
-    outs = λ x. out-moved (all-ep Out x) (all-lens Out x) (reset-out (R .outs x));
+    outs = λ x. out-moved (all-ep Out x) (all-lens Out x) refl (reset-out (R .outs x) (slotStamps (resetAll d) x));
     ins = λ x. in-moved (all-ep In x) (all-lens In x) (reset-in (R .ins x));
     arming = λ x. record {
       armed = λ q. absurd (true≢false (sym q ∙ all-disabled x));

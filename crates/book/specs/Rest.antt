@@ -15,7 +15,7 @@ use Rattle.regs.specs.declared.Dir.the-variants.{Out, In}
 use Rattle.state.specs.declared.EpState.{EpState}
 use Rattle.state.specs.declared.Allocator.{Allocator}
 use Rattle.state.specs.declared.Globals.{Globals}
-use Rattle.state.specs.Driver.{Driver, key, epOn, lenOn, pacedOn, requestOn}
+use Rattle.state.specs.Driver.{Driver, key, epOn, lenOn, stampOn, pacedOn, requestOn}
 use Rattle.state.specs.Laws.{Sized}
 use Rattle.alloc.specs.Alloc.{allocatedIn, slotsOf}
 use Rattle.alloc.specs.Buffer.{goodSize}
@@ -28,7 +28,8 @@ use Rattle.script.specs.Alike.{Phase, quiet, mid}
 use Rattle.script.specs.Statics.{isOn, flag, isoOuts}
 use Rattle.script.specs.Machine.{Buf}
 use Rattle.ops.specs.Records.{plainOf}
-use Rattle.book.specs.Pages.{OutPage, InPage, Kept, Pages}
+use Rattle.book.specs.Pages.{bytesOf, stampsOf, OutPage, InPage, Kept, Pages}
+use Rattle.book.specs.Stamps.{stamped}
 
 -- ---- the kept values are the same
 
@@ -76,6 +77,10 @@ ep0Room g a = cond (eqb (g .stage) 2) (a .size) 0
 abbrev pub lensOf : Driver → Dir → ℕ → List ℕ
 lensOf d dir e = tab 16 (λ i. lenOn d dir e i)
 
+-- the stamps of the slots of OUT e
+abbrev pub slotStamps : Driver → ℕ → List ℕ
+slotStamps d e = tab 16 (λ i. stampOn d e i)
+
 pub record Held (most : ℕ) (b : Buf) (r : EpState) (ls : List ℕ) (w : List (List ℕ)) : Type 0 where
   pub placed : Placed (length b) r
   pub ring : Ring most r ls
@@ -83,8 +88,10 @@ pub record Held (most : ℕ) (b : Buf) (r : EpState) (ls : List ℕ) (w : List (
   -- "the bytes of the OUT ring's slots, tail to head, each up to its recorded length, equal those waiting, in order"
   pub waits : waiting b r ls ≡ w
 
-pub record OutFits (b : Buf) (r : EpState) (ls : List ℕ) (p : OutPage) : Type 0 where
-  pub held : Held (r .slots - 1) b r ls (p .waiting)
+pub record OutFits (b : Buf) (r : EpState) (ls ss : List ℕ) (p : OutPage) : Type 0 where
+  pub held : Held (r .slots - 1) b r ls (bytesOf (p .waiting))
+  -- and so their stamps: "a packet still waiting has the stamp of its admission"
+  pub stamps : stamped r ss ≡ stampsOf (p .waiting)
   pub opened : r .«open» ≡ flag (p .opened)
   pub shows : Shows r
   pub lost : r .overruns ≡ p .lost % 2 ^ 32
@@ -142,7 +149,7 @@ pub record Rest (φ : Phase) (b : Buf) (d : Driver) (t : Pages) : Type 0 where
   pub long : length b ≡ d .allocator .count * d .allocator .size
   pub same : SameKept d (t .kept)
   pub shape : (dir : Dir) (e : ℕ) → Shape (isSet (allocatedIn (d .allocator) dir) (e % 16)) (d .allocator) dir (epOn d dir e)
-  pub outs : (e : ℕ) → OutFits b (epOn d Out e) (lensOf d Out e) (t .outs e)
+  pub outs : (e : ℕ) → OutFits b (epOn d Out e) (lensOf d Out e) (slotStamps d e) (t .outs e)
   pub ins : (e : ℕ) → InFits b (epOn d In e) (lensOf d In e) (t .ins e)
   pub arming : (e : ℕ) → Arming φ e (isSet (isoOuts (d .globals)) (e % 16)) (epOn d Out e) (t .outs e)
   pub apart : (dir dir′ : Dir) (e e′ : ℕ) → key dir e ≢ key dir′ e′ → Apart (epOn d dir e .base) (endOf (epOn d dir e)) (epOn d dir′ e′ .base) (endOf (epOn d dir′ e′))

@@ -1,4 +1,4 @@
--- The readings of an interrupt counted in the answers of the calls: at most 4,055, whatever calls fall between
+-- The readings of an interrupt counted in the answers of the calls: at most 4,056, whatever calls fall between
 use mathlib.Core.Bool.{Bool, true, false, cond}
 use mathlib.Core.List.{List, [], _∷_}
 use mathlib.Core.Path.{_≡_, refl, sym, subst}
@@ -21,7 +21,7 @@ use Rattle.ops.specs.Conc.{conc}
 use Rattle.way.specs.Under.{driverOf, drive, haltsAs}
 use Rattle.book.specs.Always.{after}
 use Rattle.book.specs.Sorting.{Sorting, after-sorting}
-use Rattle.book.specs.Readings.{Stores, sorting-4055}
+use Rattle.book.specs.Readings.{Stores, sorting-4056}
 
 -- is an interrupt under way?
 abbrev pub serving : Way Answer Driver → Bool
@@ -123,19 +123,19 @@ unfolding served
 every [] = λ q s k a d b p. here q s k
 every (e ∷ es) = λ q s k a d b p. one es (every es) q s k a d (e .call) b (e .lent) p
 
-pub sorting-served : (n : Machine Answer Driver) → Sorting (n .st) → n .way ≡ idle → (slots : Buf) (fs : List (Event Config Op)) → served (record { call = begin interrupt; lent = slots } ∷ fs) n ≤ 4055
+pub sorting-served : (n : Machine Answer Driver) → Sorting (n .st) → n .way ≡ idle → (slots : Buf) (fs : List (Event Config Op)) → served (record { call = begin interrupt; lent = slots } ∷ fs) n ≤ 4056
 unfolding served
-sorting-served n k w slots fs = subst (λ y. counted fs (begun calls driverOf (λ s. s) interrupt n y slots) ≤ 4055) (sym w) (by (run conc interruptCode (n .st, slots)) refl)
+sorting-served n k w slots fs = subst (λ y. counted fs (begun calls driverOf (λ s. s) interrupt n y slots) ≤ 4056) (sym w) (by (run conc interruptCode (n .st, slots)) refl)
   where
-    by : (x : tree.Out St Answer) → run conc interruptCode (n .st, slots) ≡ x → counted fs (haltsAs true x) ≤ 4055
+    by : (x : tree.Out St Answer) → run conc interruptCode (n .st, slots) ≡ x → counted fs (haltsAs true x) ≤ 4056
     by (ends y t) h = omega arith
     by (asks y t j) h =
         let r = every fs y t j (awaited y) (t .0) (t .1) nothing in
-        le-trans (r .most) (subst (λ o. readings o (r .path) ≤ 4055) h (sorting-4055 (n .st) k slots (r .path) (subst (λ o. Along (Passes conc Stores) o (r .path)) (sym h) (r .along))))
+        le-trans (r .most) (subst (λ o. readings o (r .path) ≤ 4056) h (sorting-4056 (n .st) k slots (r .path) (subst (λ o. Along (Passes conc Stores) o (r .path)) (sym h) (r .along))))
 
 -- an interrupt that begins where nothing is under way, after any list of calls from an accepted start-up: whatever calls then follow, with whatever
--- numbers and slot buffers they bring, until it ends they hand out at most 4,055 readings
-pub served-4055 : (c : Config) (b : Buf) → startRow c b ≡ zero → (es : List (Event Config Op)) (m : Machine Answer Driver)
+-- numbers and slot buffers they bring, until it ends they hand out at most 4,056 readings
+pub served-4056 : (c : Config) (b : Buf) → startRow c b ≡ zero → (es : List (Event Config Op)) (m : Machine Answer Driver)
     → let n = after calls driverOf (record { call = start c; lent = b } ∷ es) m in
-    n .way ≡ idle → (slots : Buf) (fs : List (Event Config Op)) → served (record { call = begin interrupt; lent = slots } ∷ fs) n ≤ 4055
-served-4055 c b row es m = sorting-served (after calls driverOf (record { call = start c; lent = b } ∷ es) m) (after-sorting c b row es m)
+    n .way ≡ idle → (slots : Buf) (fs : List (Event Config Op)) → served (record { call = begin interrupt; lent = slots } ∷ fs) n ≤ 4056
+served-4056 c b row es m = sorting-served (after calls driverOf (record { call = start c; lent = b } ∷ es) m) (after-sorting c b row es m)

@@ -94,8 +94,8 @@ untaken {a = a} {dir = dir} {e = e} t d j h = by (isSet (takenIn a d) j) refl
 
 ep0-sorting : {d : Driver} → Sorting d → (maximum : ℕ) (z : Allocation) → Sound (z .after) → Step (d .allocator) (ep0 maximum) z → Sorting (startedWith maximum (z .answer) (withAllocator d (z .after)))
 unfolding startedWith withNext takenIn
-ep0-sorting {d = d} k maximum z s (kept c n lo hi full) = further-sorting k (d .allocator) s (λ dir j h. h)
-ep0-sorting {d = d} k maximum z s (gave-ep0 m small l) = steady-sorting (others _ _ refl refl refl refl) (further-sorting k (withNext (d .allocator) (d .allocator .next + 1)) s same)
+ep0-sorting {d = d} k maximum z s (kept c n w full) = further-sorting k (d .allocator) s (λ dir j h. h)
+ep0-sorting {d = d} k maximum z s (gave-ep0 m x small l) = steady-sorting (others _ _ refl refl refl refl) (further-sorting k (withNext (d .allocator) (d .allocator .next + 1)) s same)
   where
     same : (dir : Dir) (j : ℕ) → isSet (takenIn (withNext (d .allocator) (d .allocator .next + 1)) dir) j ≡ false → isSet (takenIn (d .allocator) dir) j ≡ false
     same Out j h = h
@@ -201,7 +201,7 @@ allocated-sorting : {d : Driver} → Sorting d → (dir : Dir) (kind address max
 unfolding givenTo
 allocated-sorting {d = d} k dir kind address maximum interval z s (six l) = further-sorting k (d .allocator) s (λ dir j h. h)
 allocated-sorting {d = d} k dir kind address maximum interval z s (seven m q) = further-sorting k (d .allocator) s (λ dir j h. h)
-allocated-sorting {d = d} k dir kind address maximum interval z s (eight e a m q o) = further-sorting k a s (untaken (o .number))
+allocated-sorting {d = d} k dir kind address maximum interval z s (eight e m q l) = further-sorting k (d .allocator) s (λ dir j h. h)
 allocated-sorting {d = d} k dir kind address maximum interval z s (given e base n a m q g) = given-sorting k dir kind maximum interval e base n a (g .number) s
 
 -- ---- each operation
@@ -237,7 +237,7 @@ unfolding isOn
 unshaped {d = d} r dir e h = by (isSet (allocatedIn (d .allocator) dir) (e % 16)) refl (r .shape dir e)
   where
     by : (u : Bool) → isSet (allocatedIn (d .allocator) dir) (e % 16) ≡ u → Shape u (d .allocator) dir (epOn d dir e) → sortsOf d dir e ≡ false
-    by true q x = absurd (true≢false (sym (r .sound .taken dir (e % 16) q) ∙ h))
+    by true q x = absurd (true≢false (sym q ∙ (sym (r .sound .taken dir (e % 16)) ∙ h)))
     by false q x = rw (x .iso) refl
 
 none : {X : Type 0} (e : ℕ) → isSet 0 e ≡ true → X

@@ -14,8 +14,8 @@ use Rattle.regs.specs.declared.Dir.{Dir}
 use Rattle.regs.specs.declared.Dir.the-variants.{Out, In}
 use Rattle.state.specs.declared.EpState.{EpState}
 use Rattle.state.specs.Ep.{resetOf}
-use Rattle.state.specs.Fresh.{fillLens}
-use Rattle.state.specs.Driver.{Driver, key, noEp, epOn, withOn, withLenOn, withPacedOn, withRequestOn}
+use Rattle.state.specs.Fresh.{fillLens, clearStamps, noStamps}
+use Rattle.state.specs.Driver.{Driver, key, noEp, epOn, withOn, withLenOn, withStampOn, withPacedOn, withRequestOn}
 use Rattle.ring.specs.Fields.{withMinLen}
 use Rattle.ring.specs.Slot.{slotAddr, joinedOf, passedOf, hasWaiting}
 use Rattle.ring.specs.Out.{hasRoomOut, cappedAt, shortestOf, turnedAwayOf, arrivedOf, armedAt, openedOf, closedOf}
@@ -141,7 +141,7 @@ unfolding armedAt
 armed-steady d e a = record-steady d Out e _ refl
 
 recorded-steady : (d : Driver) (e len : ℕ) → Steady d (recordedOn d e len)
-unfolding recordedOn withLenOn
+unfolding recordedOn withLenOn withStampOn
 recorded-steady d e len = either (hasRoomOut (epOn d Out e)) (others d _ refl refl refl refl) (steady d)
 
 admitted-steady : (d : Driver) (e len : ℕ) → Steady d (admittedOn d e len)
@@ -167,8 +167,8 @@ hand-steady place0 s = steady (s .0)
 -- ---- rows
 
 renewed-steady : (d : Driver) (e : ℕ) → Steady d (renewedOn d e)
-unfolding renewedOn fillLens epOn
-renewed-steady d e = let x = fillLens d e (epOn d Out e .«max_len») in then (others d x refl refl refl refl) (record-steady x Out e _ refl)
+unfolding renewedOn fillLens clearStamps epOn
+renewed-steady d e = let x = clearStamps (fillLens d e (epOn d Out e .«max_len»)) e in then (others d x refl refl refl refl) (record-steady x Out e _ refl)
 
 slot-steady : (e k : ℕ) (s : St) → Steady (s .0) (slotStep e k s .1 .0)
 unfolding slotStep
@@ -194,7 +194,7 @@ below-steady (suc n) d =
     then (below-steady n d) (then (record-steady x Out n (resetOf (epOn x Out n)) refl) (record-steady y In n (resetOf (epOn y In n)) refl))
 
 all-steady : (d : Driver) → Steady d (resetAll d)
-unfolding resetAll
+unfolding resetAll noStamps
 all-steady d = then (below-steady 16 d) (others (resetBelow 16 d) _ refl refl refl refl)
 
 reset-steady : (n : ℕ) (s : St) → Steady (s .0) (resetStep n s .1 .0)

@@ -12,7 +12,7 @@ use Rattle.regs.specs.Enables as enables
 use Rattle.regs.specs.EnablesLaws.{on-with}
 use Rattle.state.specs.declared.Globals.{Globals}
 use Rattle.state.specs.Kept.{withEpConfig}
-use Rattle.state.specs.Driver.{Driver, epOn, lenOn, pacedOn, requestOn, withGlobals}
+use Rattle.state.specs.Driver.{Driver, epOn, lenOn, stampOn, pacedOn, requestOn, withGlobals}
 use Rattle.script.specs.Script.{Row, rowAsk}
 use Rattle.script.specs.Alike.{Phase, mid}
 use Rattle.script.specs.Statics.{isoOuts}
@@ -43,10 +43,10 @@ module _ {φ : Phase} {b : Buf} {d : Driver} {t : Pages} (R : Rest φ b d t) whe
   pub globals-changed : {ψ : Phase} (g h : Globals) → g ≡ h → g .stage ≡ d .globals .stage → g .«ep0_buf» ≡ d .globals .«ep0_buf»
       → g .«ep0_max» ≡ d .globals .«ep0_max» → g .«iso_out_eps» ≡ d .globals .«iso_out_eps» → Step ψ
       → ((e : ℕ) → Arming ψ e (isSet (isoOuts g) (e % 16)) (epOn d Out e) (t .outs e)) → Rest ψ b (withGlobals d g) (withKept t (keptGlobals (t .kept) h))
-  unfolding epOn lenOn pacedOn requestOn
+  unfolding epOn lenOn stampOn pacedOn requestOn
   globals-changed g h q stage buf most isos s a = rebuilt R
       (record {
-        sized = record { eps = R .sized .eps; lens = R .sized .lens; paced = R .sized .paced; requests = R .sized .requests };
+        sized = record { eps = R .sized .eps; lens = R .sized .lens; stamps = R .sized .stamps; paced = R .sized .paced; requests = R .sized .requests };
         allocator = refl;
         stage = stage;
         ep0-buf = buf;

@@ -16,7 +16,7 @@ use Rattle.regs.specs.Enables as enables
 use Rattle.state.specs.declared.EpState.{EpState}
 use Rattle.state.specs.declared.Globals.{Globals}
 use Rattle.state.specs.Ep.{resetOf}
-use Rattle.state.specs.Fresh.{fillLens}
+use Rattle.state.specs.Fresh.{fillLens, clearStamps}
 use Rattle.state.specs.Kept.{withEpConfig, withEpType}
 use Rattle.state.specs.Driver.{Driver, epOn, withOn}
 use Rattle.state.specs.Laws.{Sized, epOn-same}
@@ -40,9 +40,10 @@ use Rattle.ops.specs.Records.{plainOf}
 use Rattle.ops.specs.Rings.{St, renewedOn, armSlotOn, slotStep, typeStep, configStep}
 use Rattle.book.specs.Pages.{OutPage, Kept, Pages, withKept, withOut, keptPlain}
 use Rattle.book.specs.Book.{emptyOut, slotTold, isoOf, feedB}
-use Rattle.book.specs.Rest.{SameKept, endOf, lensOf, OutFits, AtRest, Switching, InRow, Arming, Rest}
-use Rattle.book.specs.Lens.{ep-mod, lens-length, lens-on, ep-fill, lens-fill}
-use Rattle.book.specs.Frame.{Changed, changed-not, changed-on, changed-fill, changed-trans, kept-same, kept-plain, out-same, out-twice, out-moved, end-kept, out-changed, only-bytes}
+use Rattle.book.specs.Rest.{SameKept, endOf, lensOf, slotStamps, OutFits, AtRest, Switching, InRow, Arming, Rest}
+use Rattle.book.specs.Lens.{ep-mod, lens-length, lens-on, ep-fill, lens-fill, stamps-on, ep-clear, lens-clear}
+use Rattle.book.specs.Stamps.{alike-stamps, none-stamps}
+use Rattle.book.specs.Frame.{Changed, changed-not, changed-on, changed-fill, changed-clear, changed-trans, kept-same, kept-plain, out-same, out-twice, out-moved, end-kept, out-changed, only-bytes}
 use Rattle.book.specs.Held.{iso-used, Words, good-words}
 use Rattle.book.specs.Steps.{RowStep, phase-changed, globals-changed, others-enabled}
 
@@ -142,7 +143,7 @@ rx-step e onn b d t R =
 
 -- ---- a slot armed, while none wait
 
-module _ {b : Buf} {r : EpState} {ls : List ℕ} {p : OutPage} (f : OutFits b r ls p) (w : Words (r .stride)) (k : ℕ) where
+module _ {b : Buf} {r : EpState} {ls ss : List ℕ} {p : OutPage} (f : OutFits b r ls ss p) (w : Words (r .stride)) (k : ℕ) where
   -- its bytes alone change
   slot-only : marks.Only (slotAddr r k) (slotAddr r k + r .stride) b (armed b (slotAddr r k) 0 (r .«max_len»))
   slot-only = armed-slot b (slotAddr r k) 0 (r .«max_len») (r .stride) (w .0) (w .1) (f .held .least)
@@ -150,7 +151,7 @@ module _ {b : Buf} {r : EpState} {ls : List ℕ} {p : OutPage} (f : OutFits b r 
   slot-bytes : Only (r .base) (endOf r) b (armed b (slotAddr r k) 0 (r .«max_len»))
   slot-bytes = slot-region (f .held .placed) (f .held .ring) k b (armed b (slotAddr r k) 0 (r .«max_len»)) (only-bytes slot-only)
 
-  slot-fits : countOf r ≡ 0 → OutFits (armed b (slotAddr r k) 0 (r .«max_len»)) (armedAt r (slotAddr r k)) ls (slotTold p (slotAddr r k))
+  slot-fits : countOf r ≡ 0 → OutFits (armed b (slotAddr r k) 0 (r .«max_len»)) (armedAt r (slotAddr r k)) ls ss (slotTold p (slotAddr r k))
   unfolding armedAt
   slot-fits z =
       let l = armed-alike r (slotAddr r k) in
@@ -163,6 +164,7 @@ module _ {b : Buf} {r : EpState} {ls : List ℕ} {p : OutPage} (f : OutFits b r 
           least = f .held .least;
           waits = waiting-none b′ r′ ls (alike-count l ∙ z) ∙ sym (waiting-none b r ls z) ∙ f .held .waits;
         };
+        stamps = alike-stamps l ss (f .held .ring .tail8) ∙ f .stamps;
         opened = f .opened;
         shows = λ q. subst (λ n. 0 < n) (sym (alike-count l)) (f .shows q);
         lost = f .lost;
@@ -201,13 +203,16 @@ module _ (d : Driver) (z : Sized d) (e k : ℕ) where
   on-lens : lensOf armed-on Out e ≡ lensOf d Out e
   on-lens = lens-on d Out e (armedAt (epOn d Out e) (slotAddr (epOn d Out e) k)) Out e
 
+  on-stamps : slotStamps armed-on e ≡ slotStamps d e
+  on-stamps = stamps-on d Out e (armedAt (epOn d Out e) (slotAddr (epOn d Out e) k)) e
+
   on-iso : epOn armed-on Out e .iso ≡ epOn d Out e .iso
   unfolding armedAt
   on-iso = ap (λ (r : EpState). r .iso) on-is
 
 -- from where the record is reset, if it is to be, and its page with it
 module _ {φ : Phase} {b : Buf} {d d₁ : Driver} {t : Pages} (R : Rest φ b d t) (e : ℕ) (onn : Bool) (k : ℕ) {kept : Kept} {p : OutPage}
-    (c : Changed Out e d d₁) (s : SameKept d₁ kept) (f : OutFits b (epOn d₁ Out e) (lensOf d₁ Out e) p) (w : Words (epOn d₁ Out e .stride))
+    (c : Changed Out e d d₁) (s : SameKept d₁ kept) (f : OutFits b (epOn d₁ Out e) (lensOf d₁ Out e) (slotStamps d₁ e) p) (w : Words (epOn d₁ Out e .stride))
     (i : isOn (epOn d₁ Out e .iso) ≡ true) (none : countOf (epOn d₁ Out e) ≡ 0) (head : epOn d₁ Out e .head ≡ 0) (step : suc (suc (suc k)) ≤ 18)
     (others : (x : ℕ) (u : Bool) → x % 16 ≢ e % 16 → Arming φ x u (epOn d Out x) (t .outs x) → Arming (mid (switch e onn) (suc (suc (suc k)))) x u (epOn d Out x) (t .outs x)) where
   slot-armed : Rest (mid (switch e onn) (suc (suc (suc k)))) (armed b (slotAddr (epOn d₁ Out e) k) 0 (epOn d₁ Out e .«max_len»)) (armed-on d₁ (c .sized) e k)
@@ -222,7 +227,7 @@ module _ {φ : Phase} {b : Buf} {d d₁ : Driver} {t : Pages} (R : Rest φ b d t
       (kept-same (on-changed d₁ (c .sized) e k) (on-plain d₁ (c .sized) e k) s)
       (slot-only f w k .long)
       (subst (λ y. Only y (endOf (epOn d Out e)) b b′) (c .place .base) (subst (λ y. Only (r₁ .base) y b b′) (end-kept (c .place)) (slot-bytes f w k)))
-      (out-moved (on-is d₁ (c .sized) e k) (on-lens d₁ (c .sized) e k) (slot-fits f w k none))
+      (out-moved (on-is d₁ (c .sized) e k) (on-lens d₁ (c .sized) e k) (on-stamps d₁ (c .sized) e k) (slot-fits f w k none))
       step others
       (here-in e onn n e u (epOn (armed-on d₁ (c .sized) e k) Out e) (slotTold p a) refl (ap isOn (on-iso d₁ (c .sized) e k) ∙ i)
       (subst (λ y. Switching n y (slotTold p a)) (sym (on-is d₁ (c .sized) e k)) (slot-switching f w k none head)))
@@ -240,6 +245,7 @@ module _ {φ : Phase} {b : Buf} {d : Driver} {t : Pages} (R : Rest φ b d t) (e 
       out-changed R e (slotTold (t .outs e) (r .«armed_slot»)) (changed-not (R .sized) Out e) (R .same) refl (λ k h. refl)
       (record {
         held = f .held;
+        stamps = f .stamps;
         opened = f .opened;
         shows = f .shows;
         lost = f .lost;
@@ -250,13 +256,13 @@ module _ {φ : Phase} {b : Buf} {d : Driver} {t : Pages} (R : Rest φ b d t) (e 
       step others
       (plain-in e onn n e u r (slotTold (t .outs e) (r .«armed_slot»)) i (record { armed = λ q. f .slot ∙ a .armed q; none = a .none }))
 
--- ---- the first step: the record reset, every length the maximum
+-- ---- the first step: the record reset, every length the maximum, no stamp
 
 abbrev fresh : EpState → EpState
 fresh r = withMinLen (resetOf r) (r .«max_len»)
 
-fresh-fits : {b : Buf} {r : EpState} {ls : List ℕ} {p : OutPage} → r .slots ≤ 16 → OutFits b r ls p → OutFits b (fresh r) (replicate 16 (r .«max_len»)) (emptyOut p)
-fresh-fits {b = b} {r = r} l f =
+fresh-fits : {b : Buf} {r : EpState} {ls ss : List ℕ} {p : OutPage} → r .slots ≤ 16 → OutFits b r ls ss p → (ss′ : List ℕ) → OutFits b (fresh r) (replicate 16 (r .«max_len»)) ss′ (emptyOut p)
+fresh-fits {b = b} {r = r} l f ss′ =
     let m = r .«max_len» in
     record {
       held = record {
@@ -265,6 +271,7 @@ fresh-fits {b = b} {r = r} l f =
         least = f .held .least;
         waits = reset-waits (fresh r) refl refl b (replicate 16 m);
       };
+      stamps = none-stamps (fresh r) ss′ (reset-count (fresh r) refl refl);
       opened = refl;
       shows = λ q. absurd (true≢false q);
       lost = f .lost;
@@ -274,34 +281,42 @@ fresh-fits {b = b} {r = r} l f =
     }
 
 module _ {φ : Phase} {b : Buf} {d : Driver} {t : Pages} (R : Rest φ b d t) (e : ℕ) where
-  filled-sized : Sized (fillLens d e (epOn d Out e .«max_len»))
-  filled-sized = changed-fill (R .sized) e (epOn d Out e .«max_len») .sized
+  -- the lengths and stamps made new
+  abbrev filled : Driver
+  filled = clearStamps (fillLens d e (epOn d Out e .«max_len»)) e
+
+  filled-changed : Changed Out e d filled
+  filled-changed =
+      let c = changed-fill (R .sized) e (epOn d Out e .«max_len») in
+      changed-trans (R .sized) Out e c (changed-clear (c .sized) e)
+
+  filled-ep : epOn filled Out e ≡ epOn d Out e
+  filled-ep = ep-clear (fillLens d e (epOn d Out e .«max_len»)) e Out e ∙ ep-fill d e (epOn d Out e .«max_len») Out e
 
   fresh-changed : Changed Out e d (renewedOn d e)
   unfolding renewedOn
   fresh-changed =
-      let m = epOn d Out e .«max_len» in
-      let q = ep-fill d e m Out e in
-      changed-trans (R .sized) Out e (changed-fill (R .sized) e m)
-      (changed-on filled-sized Out e (fresh (epOn d Out e))
+      let q = filled-ep in
+      changed-trans (R .sized) Out e filled-changed
+      (changed-on (filled-changed .sized) Out e (fresh (epOn d Out e))
       (record { base = ap (λ (r : EpState). r .base) (sym q); stride = ap (λ (r : EpState). r .stride) (sym q); slots = ap (λ (r : EpState). r .slots) (sym q) })
       (ap (λ (r : EpState). r .iso) (sym q)))
 
   fresh-ep : epOn (renewedOn d e) Out e ≡ fresh (epOn d Out e)
   unfolding renewedOn
-  fresh-ep = epOn-same (fillLens d e (epOn d Out e .«max_len»)) Out e (fresh (epOn d Out e)) filled-sized
+  fresh-ep = epOn-same filled Out e (fresh (epOn d Out e)) (filled-changed .sized)
 
   fresh-lens : lensOf (renewedOn d e) Out e ≡ replicate 16 (epOn d Out e .«max_len»)
   unfolding renewedOn
   fresh-lens =
       let m = epOn d Out e .«max_len» in
-      lens-on (fillLens d e m) Out e (fresh (epOn d Out e)) Out e ∙ lens-fill d e m (R .sized)
+      lens-on filled Out e (fresh (epOn d Out e)) Out e ∙ lens-clear (fillLens d e m) e Out e ∙ lens-fill d e m (R .sized)
 
   fresh-kept : SameKept (renewedOn d e) (keptPlain (t .kept) Out e (statics.renewed (t .kept .plain Out e)))
   fresh-kept = kept-plain fresh-changed (ap plainOf fresh-ep ∙ ap statics.renewed (R .same .plain Out e)) (R .same)
 
-  fresh-out : OutFits b (epOn (renewedOn d e) Out e) (lensOf (renewedOn d e) Out e) (emptyOut (t .outs e))
-  fresh-out = out-moved fresh-ep fresh-lens (fresh-fits (omega (arith, R .outs e .held .ring .whole, lens-length d Out e)) (R .outs e))
+  fresh-out : OutFits b (epOn (renewedOn d e) Out e) (lensOf (renewedOn d e) Out e) (slotStamps (renewedOn d e) e) (emptyOut (t .outs e))
+  fresh-out = out-moved fresh-ep fresh-lens refl (fresh-fits (omega (arith, R .outs e .held .ring .whole, lens-length d Out e)) (R .outs e) (slotStamps (renewedOn d e) e))
 
   -- its slots are of whole words
   slot-words : isOn (epOn d Out e .iso) ≡ true → Words (epOn d Out e .stride)

@@ -14,7 +14,7 @@ ghost use Rattle.script.specs.Calls.{other, Allocate, Start, startRow};
 ghost use Rattle.script.specs.Statics.{flag};
 ghost use Rattle.way.specs.Under.{machineOf, drive, answerOf, configOf};
 
-// Allocation (mod.rs 953-1043, endpoint.rs 18-36): rows 6, 7, 8 are the allocator's answer, and what row 8 keeps is in its change.
+// Allocation (mod.rs 953-1043, endpoint.rs 18-36): rows 6, 7, 8 are the allocator's answer.
 pub fn allocate(
     s: &mut [u8; STATE_LEN],
     dir: Dir,

@@ -22,7 +22,7 @@ fn told(p: Packet) -> Step
 {
     match p {
         Packet::Refused(n) => Step::Refused(n),
-        Packet::Shown(at, n) => Step::Shown(at, n),
+        Packet::Shown(at, n, stamp) => Step::Shown(at, n, stamp),
         Packet::Ok => Step::Ends(
             0,
             Wakes {

@@ -6,9 +6,10 @@ use Prim.Native.Nat.{ℕ, _+_, _*_, _%_}
 use native.Mathlib.Omega.{arith}
 use lib.Dec.{eqb}
 use Rattle.bits.specs.Bit.{isSet}
+use Rattle.frame.specs.Usb20.{indexOf}
 use Rattle.regs.specs.declared.Access.{Access}
 use Rattle.regs.specs.declared.Access.the-variants.{Read, Write}
-use Rattle.regs.specs.declared.Reg.the-variants.{IntFg, MisSt}
+use Rattle.regs.specs.declared.Reg.the-variants.{IntFg, MisSt, FrameNo}
 use Rattle.regs.specs.declared.Dir.{Dir}
 use Rattle.regs.specs.declared.Dir.the-variants.{Out, In}
 use Rattle.regs.specs.declared.Token.{Token}
@@ -21,11 +22,11 @@ use Rattle.script.specs.declared.Transfer.{Transfer}
 use Rattle.script.specs.Tree as tree
 use Rattle.script.specs.Tree.{asks, ends, bindOut}
 use Rattle.script.specs.Script.{Script, run, read, when, _>>=_}
-use Rattle.script.specs.Statics.{withReady, withArmed, withSetup}
+use Rattle.script.specs.Statics.{withReady, withArmed, withSetup, withEntered}
 use Rattle.script.specs.Machine.{awaited}
 use Rattle.script.specs.IsoIn.{firstInFrame, isoInComplete}
 use Rattle.script.specs.Handler as script
-use Rattle.script.specs.Handler.{nakNonIso, framed, isoInArm, onTransfer, onInterrupt}
+use Rattle.script.specs.Handler.{nakNonIso, framed, isoInArm, onTransfer, onInterrupt, stampedInterrupt}
 use Rattle.iso_in.specs.Frames.{framedOn, isFirst}
 use Rattle.transfer.specs.declared.nak.Nak as nak-point
 use Rattle.transfer.specs.declared.nak.NakNext as nak-next
@@ -59,7 +60,7 @@ use Rattle.ops.specs.Records.{plainOf, merged, mergedGlobals}
 use Rattle.ops.specs.Rings.{St, wordAt}
 use Rattle.ops.specs.Conc.{conc}
 use Rattle.handler.specs.declared.Point.{Point}
-use Rattle.handler.specs.Tails.{resultless, afterSetupReleased, afterSetupTx, finish, afterTransfer, afterCheck, afterDispatch, flipDone, passed, afterLate, afterSof, sofDue, serving, afterFrame, afterSettle, afterRelease, afterNak, naksFirst, enteredAs, afterLen, afterSt, afterMis, afterHost, afterFifo, afterSuspend, afterBusRst, afterFlags}
+use Rattle.handler.specs.Tails.{resultless, afterSetupReleased, afterSetupTx, finish, afterTransfer, afterCheck, afterDispatch, flipDone, passed, afterLate, afterSof, sofDue, serving, afterFrameNo, afterSettle, afterRelease, afterNak, naksFirst, enteredAs, afterLen, afterSt, afterMis, afterHost, afterFifo, afterSuspend, afterBusRst, afterFlags, afterFrame}
 use Rattle.handler.specs.Points.{denote, fitsAt}
 
 -- ---- tests
@@ -204,18 +205,43 @@ check-linked n q p h k = subst check.Linked h k
 -- ---- the script, in the tails' nesting
 
 transfer-is : onTransfer {i = true} ≡ (read MisSt 0 >>= (λ m. afterMis m))
-unfolding afterMis afterSt afterLen naksFirst afterNak afterRelease afterSettle afterFrame serving sofDue afterSof afterLate afterDispatch afterCheck
+unfolding afterMis afterSt afterLen naksFirst afterNak afterRelease afterSettle afterFrameNo serving sofDue afterSof afterLate afterDispatch afterCheck
 transfer-is = refl
 
 pub transfer-begun : (t : St) → run conc (onTransfer {i = true}) t ≡ asks (Read MisSt 0) t (λ v u. run conc (afterMis v) u)
 transfer-begun t = ap (λ (p : Script true Unit). run conc p t) transfer-is
 
-interrupt-is : onInterrupt {i = true} ≡ (read IntFg 0 >>= (λ f. afterFlags f))
+flags-is : onInterrupt {i = true} ≡ (read IntFg 0 >>= (λ f. afterFlags f))
 unfolding afterFlags afterBusRst afterSuspend afterFifo afterHost afterTransfer
-interrupt-is = refl
+flags-is = refl
 
-pub interrupt-begun : (t : St) → asks (Read IntFg 0) t (λ v u. run conc (resultless (afterFlags v)) u) ≡ run conc (resultless onInterrupt) t
-interrupt-begun t = ap (λ (p : Script true Unit). run conc (resultless p) t) (sym interrupt-is)
+flags-begun : (t : St) → asks (Read IntFg 0) t (λ v u. run conc (resultless (afterFlags v)) u) ≡ run conc (resultless onInterrupt) t
+flags-begun t = ap (λ (p : Script true Unit). run conc (resultless p) t) (sym flags-is)
+
+-- the microframe is kept
+abbrev entering : ℕ → Globals → Driver → Driver
+entering i g d = withGlobals d (withEntered i g)
+
+pub microframe-kept : (v n i : ℕ) (g : Globals) (d x : Driver) (b : List ℕ)
+    → n ≡ v
+    → i ≡ indexOf n
+    → g ≡ d .globals
+    → x ≡ entering i g d
+    → asks (Read IntFg 0) (x, b) (λ f u. run conc (resultless (afterFlags f)) u) ≡ run conc (resultless (afterFrame v)) (d, b)
+unfolding afterFrame
+microframe-kept v n i g d x b hn hi hg hx =
+    flags-begun (x, b)
+    ∙ (ap from hx
+    ∙ (ap (λ (z : Globals). from (entering i z d)) hg
+    ∙ (ap (λ (z : ℕ). from (entering z (d .globals) d)) hi
+    ∙ ap (λ (z : ℕ). from (entering (indexOf z) (d .globals) d)) hn)))
+  where
+    from : Driver → tree.Out St ℕ
+    from z = run conc (resultless onInterrupt) (z, b)
+
+pub interrupt-begun : (t : St) → asks (Read FrameNo 0) t (λ v u. run conc (resultless (afterFrame v)) u) ≡ run conc (resultless stampedInterrupt) t
+unfolding afterFrame
+interrupt-begun t = refl
 
 -- the transfer flag; whether the setup's is set is known from here on
 module _ (f : ℕ) (setup : Bool) (d : Driver) (b : List ℕ) (h : setup ≡ setupAct f) where
@@ -312,8 +338,8 @@ pub frame-read : (setup : Bool) (x y : Transfer) (iso : Bool) (g : Globals) (d :
     → y ≡ framed x iso (g .«sof_frame») frame
     → g ≡ d .globals
     → frame ≡ v
-    → finish setup (run conc (serving y iso frame) (d, b)) ≡ finish setup (run conc (afterFrame x iso v) (d, b))
-unfolding afterFrame
+    → finish setup (run conc (serving y iso frame) (d, b)) ≡ finish setup (run conc (afterFrameNo x iso v) (d, b))
+unfolding afterFrameNo
 frame-read setup x y iso g d b frame v h k l =
     ap (λ (z : Transfer). finish setup (run conc (serving z iso frame) (d, b))) h
     ∙ (ap (λ (z : Globals). finish setup (run conc (serving (framed x iso (z .«sof_frame») frame) iso frame) (d, b))) k

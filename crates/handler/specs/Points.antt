@@ -12,7 +12,7 @@ use Rattle.script.specs.Tree.{asks, ends, bindOut}
 use Rattle.script.specs.Script.{Script, run, _>>=_, _>>_}
 use Rattle.script.specs.Statics.{wakeBus}
 use Rattle.script.specs.Machine.{Awaits, nothing, reading, awaited}
-use Rattle.script.specs.Handler.{onInterrupt}
+use Rattle.script.specs.Handler.{stampedInterrupt}
 use Rattle.transfer.specs.Nak as nak
 use Rattle.transfer.specs.Settle as settle
 use Rattle.transfer.specs.Toggled as toggled
@@ -26,13 +26,14 @@ use Rattle.handler.specs.declared.Point.{Point}
 use Rattle.handler.specs.declared.Point.the-variants as point
 use Rattle.handler.specs.declared.Next.{Next}
 use Rattle.handler.specs.declared.Next.the-variants as next
-use Rattle.handler.specs.Tails.{resultless, afterSetupReleased, afterSetupTx, afterSetupRx, finish, thenCheck, afterMovedWrote, afterMovedRead, afterCheck, afterDispatch, flipDone, afterFlip, afterToggled, afterLate, afterSof, afterFrame, afterSettle, afterRelease, afterNak, afterLen, afterSt, afterMis, afterHost, afterFifo, afterSuspend, afterBusRst, afterFlags}
+use Rattle.handler.specs.Tails.{resultless, afterSetupReleased, afterSetupTx, afterSetupRx, finish, thenCheck, afterMovedWrote, afterMovedRead, afterCheck, afterDispatch, flipDone, afterFlip, afterToggled, afterLate, afterSof, afterFrameNo, afterSettle, afterRelease, afterNak, afterLen, afterSt, afterMis, afterHost, afterFifo, afterSuspend, afterBusRst, afterFlags, afterFrame}
 
--- the operation: `on_interrupt`, 634-819
+-- the operation: `on_interrupt`, 634-819, with the frame reading before it
 abbrev pub interrupt : Script true ℕ
-interrupt = resultless onInterrupt
+interrupt = resultless stampedInterrupt
 
 abbrev pub denote : Point → ℕ → tree.Prog St ℕ
+denote point.Frame v t = run conc (resultless (afterFrame v)) t
 denote point.Flags v t = run conc (resultless (afterFlags v)) t
 denote (point.BusRst f) v t = run conc (resultless (wakeBus >> afterBusRst f)) t
 denote (point.Suspend f) v t = run conc (resultless (wakeBus >> afterSuspend f)) t
@@ -44,7 +45,7 @@ denote (point.Len setup busy st) v t = finish setup (run conc (afterLen busy st 
 denote (point.Nak setup x p) v t = finish setup (bindOut (nak.denote (x .st) p v t) (λ _ u. run conc (afterNak x) u))
 denote (point.Released setup x) v t = finish setup (run conc (afterRelease x) t)
 denote (point.Settle setup x p) v t = finish setup (bindOut (settle.denote x p v t) (λ y u. run conc (afterSettle y) u))
-denote (point.FrameNo setup x iso) v t = finish setup (run conc (afterFrame x iso v) t)
+denote (point.FrameNo setup x iso) v t = finish setup (run conc (afterFrameNo x iso v) t)
 denote (point.Sof setup x iso frame p) v t = finish setup (bindOut (sof.denote frame p v t) (λ _ u. run conc (afterSof x iso frame) u))
 denote (point.Late setup x iso frame p) v t = finish setup (bindOut (late.denote frame p t) (λ _ u. run conc (afterLate x iso frame) u))
 denote (point.SofArm setup x iso frame p) v t = thenCheck setup x iso (sof.denote frame p v t)
@@ -65,6 +66,7 @@ meaning (next.Ends n) d b = ends n (d, b)
 
 -- what a point awaits, and that it is the access handed out with it
 abbrev pub awaitsAt : Point → Awaits
+awaitsAt point.Frame = reading (widthOf FrameNo)
 awaitsAt point.Flags = reading (widthOf IntFg)
 awaitsAt (point.BusRst f) = nothing
 awaitsAt (point.Suspend f) = nothing
@@ -97,6 +99,7 @@ Linked (next.Ends n) = Unit {0}
 
 -- row 16 turned round: a reading has no bit above its register's width
 unfoldable pub fitsAt : Point → ℕ → Bool
+fitsAt point.Frame v = fitsIn v (widthOf FrameNo)
 fitsAt point.Flags v = fitsIn v (widthOf IntFg)
 fitsAt (point.BusRst f) v = true
 fitsAt (point.Suspend f) v = true

@@ -5,6 +5,7 @@ use Rattle.handler.specs.declared.Point.the-variants as point
 
 -- a transfer is entered, or what follows it
 unfoldable pub entered : Point → Bool
+entered point.Frame = false
 entered point.Flags = false
 entered (point.BusRst f) = false
 entered (point.Suspend f) = false
@@ -33,6 +34,7 @@ entered point.SetupReleased = true
 
 -- a token's arm, or what follows it
 unfoldable pub inArm : Point → Bool
+inArm point.Frame = false
 inArm point.Flags = false
 inArm (point.BusRst f) = false
 inArm (point.Suspend f) = false

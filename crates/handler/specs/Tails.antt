@@ -2,6 +2,7 @@
 use mathlib.Core.Bool.{Bool, true, false, not, cond, _&&_, _||_}
 use Prim.Native.Nat.{ℕ}
 use lib.Dec.{eqb}
+use Rattle.frame.specs.Usb20.{indexOf}
 use Rattle.regs.specs.declared.Reg.the-variants.{IntFg, IntSt, RxLen, FrameNo, EpTxCtrl}
 use Rattle.regs.specs.declared.Dir.{Dir}
 use Rattle.regs.specs.declared.Dir.the-variants.{Out, In}
@@ -16,10 +17,10 @@ use Rattle.script.specs.Tree as tree
 use Rattle.script.specs.Tree.{ends, bindOut}
 use Rattle.script.specs.Cells.{globals-cell, ep-cell}
 use Rattle.script.specs.Script.{Script, run, ret, done, _>>=_, _>>_, read, write, get, look, when, setup-word}
-use Rattle.script.specs.Statics.{withReady, withArmed, completed, withSetup, modify, modifyEp, modifyIntEn, wake, wakeBus}
+use Rattle.script.specs.Statics.{withReady, withArmed, completed, withSetup, withEntered, modify, modifyEp, modifyIntEn, wake, wakeBus}
 use Rattle.script.specs.IsoIn.{onSof}
 use Rattle.script.specs.IsoOut.{isoOutCheck}
-use Rattle.script.specs.Handler.{nakNonIso, settle, isoFor, received, sent, dispatch, ep0MovedOn, framed, onTransfer, onSetup}
+use Rattle.script.specs.Handler.{nakNonIso, settle, isoFor, received, sent, dispatch, ep0MovedOn, framed, onTransfer, onSetup, onInterrupt}
 use Rattle.iso_in.specs.Late.{lateAll}
 use Rattle.ops.specs.Rings.{St}
 use Rattle.ops.specs.Conc.{conc}
@@ -132,8 +133,8 @@ serving x iso frame = do
 
 -- ---- 656-722: the transfer is entered, released, settled
 
-unfoldable pub afterFrame : Transfer → Bool → ℕ → Script true Unit
-afterFrame x iso frame = do
+unfoldable pub afterFrameNo : Transfer → Bool → ℕ → Script true Unit
+afterFrameNo x iso frame = do
   g ← get globals-cell
   serving (framed x iso (g .«sof_frame») frame) iso frame
 
@@ -142,7 +143,7 @@ afterSettle x = do
   o ← get (ep-cell Out (endpoint (x .st)))
   n ← get (ep-cell In (endpoint (x .st)))
   frame ← read FrameNo 0
-  afterFrame x (isoFor (token (x .st)) o n) frame
+  afterFrameNo x (isoFor (token (x .st)) o n) frame
 
 unfoldable pub afterRelease : Transfer → Script true Unit
 afterRelease x = do
@@ -206,3 +207,10 @@ afterFlags f = do
     modifyIntEn (λ w. withBusRst w false)
     wakeBus)
   afterBusRst f
+
+-- ---- request One: the microframe is kept
+
+unfoldable pub afterFrame : ℕ → Script true Unit
+afterFrame frame = do
+  modify (withEntered (indexOf frame))
+  onInterrupt

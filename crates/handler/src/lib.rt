@@ -25,6 +25,7 @@ ghost use Rattle.handler.specs.Points.{interrupt, meaning, Linked, fitsA
 // Where the interrupt stands: what it handed out last, with what the rest of it needs. First, of a transfer, comes whether the setup flag is
 // set, then the transfer, whether its endpoint is isochronous, the frame.
 pub enum Point {
+    Frame, // frame_no is read, whose microframe index what the interrupt admits carries
     Flags, // int_fg is read
     BusRst(u8), // the reset interrupt is masked; the flags
     Suspend(u8), // the suspend interrupt is
@@ -58,12 +59,12 @@ pub enum Next {
     Ends(u16),
 }
 
-// `on_interrupt` begins (mod.rs 637).
+// `on_interrupt` begins (mod.rs 637), with a frame reading before it.
 pub fn begin() -> Next
     ensures { λ r. ⌜ ((d : Driver) (b : List ℕ) → meaning r d b ≡ go interrupt d b) ⌝ }
     ensures { λ r. ⌜ Linked r ⌝ }
 {
-    Next::Asks(Access::Read(Reg::IntFg, 0), Point::Flags)
+    Next::Asks(Access::Read(Reg::FrameNo, 0), Point::Frame)
 }
 
 // Row 16 turned round: where a reading is awaited, has it no bit above its register's width?
@@ -71,6 +72,7 @@ pub fn fits_at(p: Point, v: u32) -> bool
     ensures { λ r. ⌜ r ≡ fitsAt p v ⌝ }
 {
     match p {
+        Point::Frame => fits(v, 16),
         Point::Flags => fits(v, 6),
         Point::Mis(_) => fits(v, 2),
         Point::St(_, _) => fits(v, 7),

@@ -146,31 +146,32 @@ abbrev pub bare : ℕ → Saved
 bare site = code site false (early false 0) 0 (none false)
 
 unfoldable pub encode : Point → Saved
-encode point.Flags = bare 0
-encode (point.BusRst f) = code 1 false (early false f) 0 (none false)
-encode (point.Suspend f) = code 2 false (early false f) 0 (none false)
-encode (point.Fifo f) = code 3 false (early false f) 0 (none false)
-encode (point.Host f) = code 4 false (early false f) 0 (none false)
-encode (point.Mis setup) = code 5 setup (early false 0) 0 (none false)
-encode (point.St setup busy) = code 6 setup (early busy 0) 0 (none false)
-encode (point.Len setup busy st) = code 7 setup (early busy st) 0 (none false)
-encode (point.Nak setup x p) = code 8 setup x 0 (nakAs 0 p)
-encode (point.Released setup x) = code 9 setup x 0 (none false)
-encode (point.Settle setup x p) = code 10 setup x 0 (settleAs p)
-encode (point.FrameNo setup x iso) = code 11 setup x 0 (none iso)
-encode (point.Sof setup x iso frame p) = code 12 setup x frame (sofAs iso p)
-encode (point.Late setup x iso frame p) = code 13 setup x frame (lateAs iso p)
-encode (point.SofArm setup x iso frame p) = code 14 setup x frame (sofAs iso p)
-encode (point.Flip d setup x iso) = code 15 setup x 0 (onDir d iso)
-encode (point.Flipped d setup x iso) = code 16 setup x 0 (onDir d iso)
-encode (point.Toggled d setup x iso p) = code 17 setup x 0 (toggledAs d iso p)
-encode (point.Completing setup x iso p) = code 18 setup x 0 (completeAs iso 0 p)
-encode (point.Check setup x iso p) = code 19 setup x 0 (checkAs iso p)
-encode (point.MovedRead d setup) = code 20 setup (early false 0) 0 (onDir d false)
-encode (point.MovedWrote d setup) = code 21 setup (early false 0) 0 (onDir d false)
-encode point.SetupRx = bare 22
-encode point.SetupTx = bare 23
-encode point.SetupReleased = bare 24
+encode point.Frame = bare 0
+encode point.Flags = bare 1
+encode (point.BusRst f) = code 2 false (early false f) 0 (none false)
+encode (point.Suspend f) = code 3 false (early false f) 0 (none false)
+encode (point.Fifo f) = code 4 false (early false f) 0 (none false)
+encode (point.Host f) = code 5 false (early false f) 0 (none false)
+encode (point.Mis setup) = code 6 setup (early false 0) 0 (none false)
+encode (point.St setup busy) = code 7 setup (early busy 0) 0 (none false)
+encode (point.Len setup busy st) = code 8 setup (early busy st) 0 (none false)
+encode (point.Nak setup x p) = code 9 setup x 0 (nakAs 0 p)
+encode (point.Released setup x) = code 10 setup x 0 (none false)
+encode (point.Settle setup x p) = code 11 setup x 0 (settleAs p)
+encode (point.FrameNo setup x iso) = code 12 setup x 0 (none iso)
+encode (point.Sof setup x iso frame p) = code 13 setup x frame (sofAs iso p)
+encode (point.Late setup x iso frame p) = code 14 setup x frame (lateAs iso p)
+encode (point.SofArm setup x iso frame p) = code 15 setup x frame (sofAs iso p)
+encode (point.Flip d setup x iso) = code 16 setup x 0 (onDir d iso)
+encode (point.Flipped d setup x iso) = code 17 setup x 0 (onDir d iso)
+encode (point.Toggled d setup x iso p) = code 18 setup x 0 (toggledAs d iso p)
+encode (point.Completing setup x iso p) = code 19 setup x 0 (completeAs iso 0 p)
+encode (point.Check setup x iso p) = code 20 setup x 0 (checkAs iso p)
+encode (point.MovedRead d setup) = code 21 setup (early false 0) 0 (onDir d false)
+encode (point.MovedWrote d setup) = code 22 setup (early false 0) 0 (onDir d false)
+encode point.SetupRx = bare 23
+encode point.SetupTx = bare 24
+encode point.SetupReleased = bare 25
 
 abbrev pub transferOf : Saved → Transfer
 transferOf c = record { busy = isOn (c .busy); st = c .st; len = c .len; late = isOn (c .late); «len_ok» = isOn (c .«len_ok») }
@@ -178,31 +179,32 @@ transferOf c = record { busy = isOn (c .busy); st = c .st; len = c .len; late = 
 -- an unknown number is the first point
 unfoldable pub decode : Saved → Point
 decode c =
-    cond (eqb (c .site) 1) (point.BusRst (c .st)) (
-    cond (eqb (c .site) 2) (point.Suspend (c .st)) (
-    cond (eqb (c .site) 3) (point.Fifo (c .st)) (
-    cond (eqb (c .site) 4) (point.Host (c .st)) (
-    cond (eqb (c .site) 5) (point.Mis (isOn (c .flag))) (
-    cond (eqb (c .site) 6) (point.St (isOn (c .flag)) (isOn (c .busy))) (
-    cond (eqb (c .site) 7) (point.Len (isOn (c .flag)) (isOn (c .busy)) (c .st)) (
-    cond (eqb (c .site) 8) (point.Nak (isOn (c .flag)) (transferOf c) (nakOf (c .sub))) (
-    cond (eqb (c .site) 9) (point.Released (isOn (c .flag)) (transferOf c)) (
-    cond (eqb (c .site) 10) (point.Settle (isOn (c .flag)) (transferOf c) (settleOf (c .sub) (c .now) (c .n))) (
-    cond (eqb (c .site) 11) (point.FrameNo (isOn (c .flag)) (transferOf c) (isOn (c .now))) (
-    cond (eqb (c .site) 12) (point.Sof (isOn (c .flag)) (transferOf c) (isOn (c .now)) (c .frame) (sofOf (c .sub) (c .ep) (c .eps))) (
-    cond (eqb (c .site) 13) (point.Late (isOn (c .flag)) (transferOf c) (isOn (c .now)) (c .frame) (lateOf (c .sub) (c .ep) (c .eps))) (
-    cond (eqb (c .site) 14) (point.SofArm (isOn (c .flag)) (transferOf c) (isOn (c .now)) (c .frame) (sofOf (c .sub) (c .ep) (c .eps))) (
-    cond (eqb (c .site) 15) (point.Flip (dirOf (c .ep)) (isOn (c .flag)) (transferOf c) (isOn (c .now))) (
-    cond (eqb (c .site) 16) (point.Flipped (dirOf (c .ep)) (isOn (c .flag)) (transferOf c) (isOn (c .now))) (
-    cond (eqb (c .site) 17) (point.Toggled (dirOf (c .ep)) (isOn (c .flag)) (transferOf c) (isOn (c .now)) (toggledOf (c .sub) (c .n))) (
-    cond (eqb (c .site) 18) (point.Completing (isOn (c .flag)) (transferOf c) (isOn (c .now)) (completeOf (c .sub) (c .ep))) (
-    cond (eqb (c .site) 19) (point.Check (isOn (c .flag)) (transferOf c) (isOn (c .now)) (checkOf (c .sub) (c .ep) (c .eps))) (
-    cond (eqb (c .site) 20) (point.MovedRead (dirOf (c .ep)) (isOn (c .flag))) (
-    cond (eqb (c .site) 21) (point.MovedWrote (dirOf (c .ep)) (isOn (c .flag))) (
-    cond (eqb (c .site) 22) point.SetupRx (
-    cond (eqb (c .site) 23) point.SetupTx (
-    cond (eqb (c .site) 24) point.SetupReleased (
-    point.Flags))))))))))))))))))))))))
+    cond (eqb (c .site) 1) point.Flags (
+    cond (eqb (c .site) 2) (point.BusRst (c .st)) (
+    cond (eqb (c .site) 3) (point.Suspend (c .st)) (
+    cond (eqb (c .site) 4) (point.Fifo (c .st)) (
+    cond (eqb (c .site) 5) (point.Host (c .st)) (
+    cond (eqb (c .site) 6) (point.Mis (isOn (c .flag))) (
+    cond (eqb (c .site) 7) (point.St (isOn (c .flag)) (isOn (c .busy))) (
+    cond (eqb (c .site) 8) (point.Len (isOn (c .flag)) (isOn (c .busy)) (c .st)) (
+    cond (eqb (c .site) 9) (point.Nak (isOn (c .flag)) (transferOf c) (nakOf (c .sub))) (
+    cond (eqb (c .site) 10) (point.Released (isOn (c .flag)) (transferOf c)) (
+    cond (eqb (c .site) 11) (point.Settle (isOn (c .flag)) (transferOf c) (settleOf (c .sub) (c .now) (c .n))) (
+    cond (eqb (c .site) 12) (point.FrameNo (isOn (c .flag)) (transferOf c) (isOn (c .now))) (
+    cond (eqb (c .site) 13) (point.Sof (isOn (c .flag)) (transferOf c) (isOn (c .now)) (c .frame) (sofOf (c .sub) (c .ep) (c .eps))) (
+    cond (eqb (c .site) 14) (point.Late (isOn (c .flag)) (transferOf c) (isOn (c .now)) (c .frame) (lateOf (c .sub) (c .ep) (c .eps))) (
+    cond (eqb (c .site) 15) (point.SofArm (isOn (c .flag)) (transferOf c) (isOn (c .now)) (c .frame) (sofOf (c .sub) (c .ep) (c .eps))) (
+    cond (eqb (c .site) 16) (point.Flip (dirOf (c .ep)) (isOn (c .flag)) (transferOf c) (isOn (c .now))) (
+    cond (eqb (c .site) 17) (point.Flipped (dirOf (c .ep)) (isOn (c .flag)) (transferOf c) (isOn (c .now))) (
+    cond (eqb (c .site) 18) (point.Toggled (dirOf (c .ep)) (isOn (c .flag)) (transferOf c) (isOn (c .now)) (toggledOf (c .sub) (c .n))) (
+    cond (eqb (c .site) 19) (point.Completing (isOn (c .flag)) (transferOf c) (isOn (c .now)) (completeOf (c .sub) (c .ep))) (
+    cond (eqb (c .site) 20) (point.Check (isOn (c .flag)) (transferOf c) (isOn (c .now)) (checkOf (c .sub) (c .ep) (c .eps))) (
+    cond (eqb (c .site) 21) (point.MovedRead (dirOf (c .ep)) (isOn (c .flag))) (
+    cond (eqb (c .site) 22) (point.MovedWrote (dirOf (c .ep)) (isOn (c .flag))) (
+    cond (eqb (c .site) 23) point.SetupRx (
+    cond (eqb (c .site) 24) point.SetupTx (
+    cond (eqb (c .site) 25) point.SetupReleased (
+    point.Frame)))))))))))))))))))))))))
 
 -- ---- back
 
@@ -222,6 +224,7 @@ late-back setup x iso frame m (complete.Loaded e) = simp flag-back
 
 pub decode-encode : (p : Point) → decode (encode p) ≡ p
 unfolding encode decode nakAs nakOf settleAs settleOf toggledAs toggledOf completeAs completeOf sofAs sofOf lateAs lateOf checkAs checkOf
+decode-encode point.Frame = refl
 decode-encode point.Flags = refl
 decode-encode (point.BusRst f) = refl
 decode-encode (point.Suspend f) = refl

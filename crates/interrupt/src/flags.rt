@@ -1,5 +1,7 @@
-// The flags but the setup's (mod.rs 637-655).
+// The microframe, then the flags but the setup's (mod.rs 637-655).
 use arms::setup::after_transfer;
+use frame::Frame;
+use frame::microframe_index;
 use handler::Next;
 use handler::Point;
 use regs::Access;
@@ -9,8 +11,10 @@ use regs::int_en;
 use state::STATE_LEN;
 use state::load_globals;
 use state::set_int_en;
+use state::store_globals;
 use state::wake_bus;
 use transfer::wait::byte;
+use transfer::wait::short;
 ghost use mathlib.Core.Path.{_≡_};
 ghost use mathlib.Core.Bool.{true, false};
 ghost use mathlib.Core.List.{List};
@@ -19,7 +23,7 @@ ghost use Rattle.regs.specs.Registers.{fitsIn};
 ghost use Rattle.state.specs.Driver.{Driver};
 ghost use Rattle.state.specs.State.{view, saved};
 ghost use Rattle.ops.specs.Conc.{go};
-ghost use Rattle.handler.specs.Tails.{resultless, afterFlags, afterBusRst, afterSuspend, afterFifo, afterHost};
+ghost use Rattle.handler.specs.Tails.{resultless, afterFrame, afterFlags, afterBusRst, afterSuspend, afterFifo, afterHost};
 ghost use Rattle.handler.specs.Points.{denote, meaning, Linked};
 
 pub fn after_host(f: u8) -> Next
@@ -101,4 +105,19 @@ pub fn after_flags(s: &mut [u8; STATE_LEN], v: u32) -> Next
         return Next::Asks(Access::Write(Reg::IntEn, 0, word as u32), Point::BusRst(f));
     }
     suspend(s, f)
+}
+
+// The microframe in which the interrupt began: what it admits carries it.
+pub fn after_frame(s: &mut [u8; STATE_LEN], v: u32) -> Next
+    requires { ⌜ fitsIn v 16 ≡ true ⌝ }
+    ensures { λ r. ⌜ ((b : List ℕ) → meaning r (view (now (s .exit))) b ≡ go (resultless (afterFrame v)) (view (now (s .entry))) b) ⌝ }
+    ensures { λ _. ⌜ saved (now (s .exit)) ≡ saved (now (s .entry)) ⌝ }
+    ensures { λ r. ⌜ Linked r ⌝ }
+{
+    let frame = short(v);
+    let i = microframe_index(Frame(frame));
+    let mut g = load_globals(s);
+    g.entered = i.0;
+    store_globals(s, g);
+    Next::Asks(Access::Read(Reg::IntFg, 0), Point::Flags)
 }

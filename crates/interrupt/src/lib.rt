@@ -9,6 +9,7 @@ use entering::after_st;
 use flags::after_bus_rst;
 use flags::after_fifo;
 use flags::after_flags;
+use flags::after_frame;
 use flags::after_host;
 use flags::after_suspend;
 use handler::Next;
@@ -18,7 +19,7 @@ use serving::after_on_sof;
 use state::STATE_LEN;
 
 mod entering; // entering.rt: the transfer is entered, released, settled
-mod flags; // flags.rt: the flags but the setup's
+mod flags; // flags.rt: the microframe, the flags but the setup's
 mod serving; // serving.rt: the microframe's SOF and a late entry's completions
 
 ghost use mathlib.Core.Path.{_≡_};
@@ -54,6 +55,7 @@ pub fn resume(s: &mut [u8; STATE_LEN], buf: &mut [u8], p: Point, v: u32) -> Next
     ensures { λ r. ⌜ Linked r ⌝ }
 {
     match p {
+        Point::Frame => after_frame(s, v),
         Point::Flags => after_flags(s, v),
         Point::BusRst(f) => after_bus_rst(s, f),
         Point::Suspend(f) => after_suspend(s, f),

@@ -8,9 +8,9 @@ use Rattle.state.specs.Driver.{Driver, epOn, withOn, pacedOn, withPacedOn, requ
 use Rattle.marks.specs.Copies.{bytesAt}
 use Rattle.script.specs.Tree as tree
 use Rattle.script.specs.Cells.{Cell, Val, globals-cell, wakes-cell, control-cell, allocator-cell, ep-cell, request-cell, paced-cell}
-use Rattle.script.specs.Script.{Script, Ops, run, Test, changed, waiting, room, opened, Look, marked, next-len, setup-word, Fetch, oldest, received, received0, Act, complete, reset-ring, set-enabled, fill, fill0, open-oldest, close-oldest, take-oldest, enqueue, allocate, allocate0, Hand, arrive, send, place, place0}
+use Rattle.script.specs.Script.{Script, Ops, run, Test, changed, waiting, room, opened, Look, marked, next-len, next-stamp, setup-word, Fetch, oldest, received, received0, Act, complete, reset-ring, set-enabled, fill, fill0, open-oldest, close-oldest, take-oldest, enqueue, allocate, allocate0, Hand, arrive, send, place, place0}
 use Rattle.ops.specs.Records.{plainOf, merged, mergedGlobals, enabledOn, allocatedOn, allocatedEp0}
-use Rattle.ops.specs.Rings.{St, changedOn, markedOn, waitingOn, roomOn, openedOn, nextLen, oldestOn, wordAt, completeOn, emptiedOn, openOn, closeOn, takeOn, enqueueOn, filledOn, filledEp0, arriveOn, sendOn, sendAddr, placeOn, rowOn}
+use Rattle.ops.specs.Rings.{St, changedOn, markedOn, waitingOn, roomOn, openedOn, nextLen, nextStamp, oldestOn, wordAt, completeOn, emptiedOn, openOn, closeOn, takeOn, enqueueOn, filledOn, filledEp0, arriveOn, sendOn, sendAddr, placeOn, rowOn}
 
 abbrev pub getOn : (c : Cell) → St → Val c
 getOn globals-cell s = s .0 .globals
@@ -40,6 +40,7 @@ isOf (opened e) s = openedOn (s .0) e
 abbrev pub lookOf : Look → St → ℕ
 lookOf (marked e) s = markedOn (s .0) e (s .1)
 lookOf (next-len d e) s = nextLen (s .0) d e
+lookOf (next-stamp e) s = nextStamp (s .0) e
 lookOf (setup-word k) s = wordAt (s .1) (s .0 .globals .«ep0_buf» + k * 4)
 
 abbrev pub fetchOf : Fetch → St → List ℕ

@@ -1,5 +1,6 @@
 pub mod Records
 pub mod Rings
 pub mod RingLaws
+pub mod Stamps
 pub mod Conc
 pub mod Values

@@ -72,6 +72,7 @@ mergedGlobals g v = record {
   «sof_frame» = v .«sof_frame»;
   «ep0_buf» = g .«ep0_buf»;
   «ep0_max» = g .«ep0_max»;
+  entered = v .entered;
 }
 
 -- an isochronous OUT, whose ring is reset and whose enable bit is set in a row
@@ -106,6 +107,7 @@ withIsoSets outs every g = record {
   «sof_frame» = g .«sof_frame»;
   «ep0_buf» = g .«ep0_buf»;
   «ep0_max» = g .«ep0_max»;
+  entered = g .entered;
 }
 
 -- an isochronous IN is polled every microframe where its interval is 1, or 0
@@ -151,6 +153,7 @@ withEp0 base maximum g = record {
   «sof_frame» = g .«sof_frame»;
   «ep0_buf» = base;
   «ep0_max» = maximum;
+  entered = g .entered;
 }
 
 unfoldable pub startedWith : ℕ → Answer → Driver → Driver

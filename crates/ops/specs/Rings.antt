@@ -12,8 +12,8 @@ use Rattle.state.specs.declared.EpState.{EpState}
 use Rattle.state.specs.declared.Globals.{Globals}
 use Rattle.state.specs.Ep.{resetOf}
 use Rattle.state.specs.Kept.{withEpConfig, withEpType}
-use Rattle.state.specs.Fresh.{fillLens}
-use Rattle.state.specs.Driver.{Driver, epOn, withOn, lenOn, withLenOn, withGlobals}
+use Rattle.state.specs.Fresh.{fillLens, clearStamps, noStamps}
+use Rattle.state.specs.Driver.{Driver, epOn, withOn, lenOn, withLenOn, stampOn, withStampOn, withGlobals}
 use Rattle.ring.specs.Fields.{withMinLen}
 use Rattle.ring.specs.Slot.{slotOf, slotAddr, hasWaiting, joinedOf}
 use Rattle.ring.specs.Out.{hasRoomOut, cappedAt, arrivedOf, armSlot, armedAt, openedOf, closedOf}
@@ -51,6 +51,10 @@ openedOn d e = isOn (epOn d Out e .«open»)
 -- the length of the oldest packet; 0 where none waits
 unfoldable pub nextLen : Driver → Dir → ℕ → ℕ
 nextLen d dir e = cond (hasWaiting (epOn d dir e)) (lenOn d dir e (slotOf (epOn d dir e) (epOn d dir e .tail))) 0
+
+-- the microframe with the oldest packet of OUT e; 0 where none waits
+unfoldable pub nextStamp : Driver → ℕ → ℕ
+nextStamp d e = cond (hasWaiting (epOn d Out e)) (stampOn d e (slotOf (epOn d Out e) (epOn d Out e .tail))) 0
 
 -- where the oldest packet lies
 unfoldable pub oldestAt : Driver → ℕ → ℕ
@@ -125,9 +129,13 @@ filledEp0 d bytes b = cond (ltb (d .globals .«ep0_max») (length bytes)) b (cop
 
 -- ---- addresses
 
--- an arrival, of an enabled isochronous OUT: its length recorded, or the packet turned away
+-- the length of a packet in slot i and its microframe, that of the interrupt under way (request One)
+abbrev pub writtenOn : Driver → ℕ → ℕ → ℕ → Driver
+writtenOn d e i len = withStampOn (withLenOn d Out e i len) e i (d .globals .entered)
+
+-- an arrival, of an enabled isochronous OUT: recorded, or the packet turned away
 unfoldable pub recordedOn : Driver → ℕ → ℕ → Driver
-recordedOn d e len = cond (hasRoomOut (epOn d Out e)) (withLenOn d Out e (slotOf (epOn d Out e) (epOn d Out e .head)) len) d
+recordedOn d e len = cond (hasRoomOut (epOn d Out e)) (writtenOn d e (slotOf (epOn d Out e) (epOn d Out e .head)) len) d
 
 unfoldable pub admittedOn : Driver → ℕ → ℕ → Driver
 admittedOn d e len = withOn (recordedOn d e len) Out e (arrivedOf (epOn d Out e) len)
@@ -173,9 +181,9 @@ placeOn Out e d =
 
 -- ---- rows
 
--- `endpoint_set_enabled`, 1279 and 1286-1291: the record reset, every length the maximum
+-- `endpoint_set_enabled`, 1279 and 1286-1291: the record reset, every length the maximum; no stamp stays
 unfoldable pub renewedOn : Driver → ℕ → Driver
-renewedOn d e = withOn (fillLens d e (epOn d Out e .«max_len»)) Out e (withMinLen (resetOf (epOn d Out e)) (epOn d Out e .«max_len»))
+renewedOn d e = withOn (clearStamps (fillLens d e (epOn d Out e .«max_len»)) e) Out e (withMinLen (resetOf (epOn d Out e)) (epOn d Out e .«max_len»))
 
 -- 1292-1294: slot k marked over the maximum and armed
 abbrev pub armSlotOn : ℕ → ℕ → St → ℕ × St
@@ -211,9 +219,9 @@ resetBelow (suc n) d =
     let y = withOn x Out n (resetOf (epOn x Out n)) in
     withOn y In n (resetOf (epOn y In n))
 
--- 1213-1216
+-- 1213-1216; no stamp stays
 unfoldable pub resetAll : Driver → Driver
-resetAll d = let x = resetBelow 16 d in withGlobals x (withSetup 0 (x .globals .«setup_low») (x .globals .«setup_high») (x .globals))
+resetAll d = let x = noStamps (resetBelow 16 d) in withGlobals x (withSetup 0 (x .globals .«setup_low») (x .globals .«setup_high») (x .globals))
 
 abbrev pub resetStep : ℕ → St → ℕ × St
 resetStep zero s = (0, (resetAll (s .0), s .1))

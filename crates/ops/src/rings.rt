@@ -18,13 +18,14 @@ use state::STATE_LEN;
 use state::load_ep;
 use state::load_globals;
 use state::load_len;
+use state::load_stamp;
 use state::store_ep;
 use state::store_len;
 ghost use mathlib.Core.Path.{_≡_};
 ghost use Prim.Native.Nat.{_+_, _*_, _≤_};
 ghost use Rattle.state.specs.State.{view, saved};
 ghost use Rattle.script.specs.Statics.{isOn};
-ghost use Rattle.ops.specs.Rings.{changedOn, markedOn, waitingOn, roomIn, roomOn, openedOn, nextLen, oldestAt, wordAt, completeOn, openOn, closeOn, takeOn, enqueueOn, filledOn, filledEp0, sendAddr, sendOn};
+ghost use Rattle.ops.specs.Rings.{changedOn, markedOn, waitingOn, roomIn, roomOn, openedOn, nextLen, nextStamp, oldestAt, wordAt, completeOn, openOn, closeOn, takeOn, enqueueOn, filledOn, filledEp0, sendAddr, sendOn};
 
 // A flag in a byte.
 pub fn is_on(n: u8) -> bool
@@ -92,6 +93,17 @@ pub fn next_len(s: &[u8; STATE_LEN], dir: Dir, e: u8) -> u16
     let r = load_ep(s, dir, e);
     if has_waiting(r) {
         return load_len(s, dir, e, slot_index(r, r.tail));
+    }
+    0
+}
+
+// The microframe with the oldest packet of OUT e; 0 where none waits.
+pub fn next_stamp(s: &[u8; STATE_LEN], e: u8) -> u16
+    ensures { λ r. ⌜ r ≡ nextStamp (view (now (s .entry))) e ⌝ }
+{
+    let r = load_ep(s, Dir::Out, e);
+    if has_waiting(r) {
+        return load_stamp(s, e, slot_index(r, r.tail));
     }
     0
 }

@@ -17,7 +17,7 @@ use Rattle.script.specs.Script.{Script}
 use Rattle.script.specs.Statics.{isOn}
 use Rattle.script.specs.Answers.{Answer, Refused, Shown, ok, staged, named, isNumber}
 use Rattle.rows.specs.Rows.{refusalOf, numbered, by-row}
-use Rattle.ops.specs.Rings.{St, waitingOn, openedOn, roomOn, oldestOn, oldestAt, nextLen, openOn, closeOn, enqueueOn}
+use Rattle.ops.specs.Rings.{St, waitingOn, openedOn, roomOn, oldestOn, oldestAt, nextLen, nextStamp, openOn, closeOn, enqueueOn}
 use Rattle.ops.specs.Conc.{go}
 use Rattle.packets.specs.declared.Packet.the-variants as packet
 use Rattle.packets.specs.Packets.{answered, opening, closing, queueing}
@@ -42,14 +42,15 @@ passed-number d dir e row h z = numbered d dir e (eq-eqb (refusalOf d dir e) 0 (
 
 -- ---- open, by what is found
 
-pub open-shown : (e : ℕ) (d x : Driver) (b : List ℕ) (at n : ℕ) → isOn (epOn d Out e .iso) ≡ true → waitingOn d Out e ≡ true → x ≡ openOn d e → at ≡ oldestAt x e → n ≡ nextLen x Out e
-    → answered (packet.Shown at n) x b ≡ go (opening e) d b
+pub open-shown : (e : ℕ) (d x : Driver) (b : List ℕ) (at n stamp : ℕ) → isOn (epOn d Out e .iso) ≡ true → waitingOn d Out e ≡ true → x ≡ openOn d e → at ≡ oldestAt x e → n ≡ nextLen x Out e → stamp ≡ nextStamp x e
+    → answered (packet.Shown at n stamp) x b ≡ go (opening e) d b
 unfolding oldestOn
-open-shown e d x b at n iso some h p q =
-    ap (λ (y : ℕ). answered (packet.Shown y n) x b) p
-    ∙ (ap (λ (y : ℕ). answered (packet.Shown (oldestAt x e) y) x b) q
-    ∙ (ap (λ (y : Driver). ends (Shown (oldestOn y e b)) (y, b)) h
-    ∙ sym (simp (iso, some))))
+open-shown e d x b at n stamp iso some h p q r =
+    ap (λ (y : ℕ). answered (packet.Shown y n stamp) x b) p
+    ∙ (ap (λ (y : ℕ). answered (packet.Shown (oldestAt x e) y stamp) x b) q
+    ∙ (ap (λ (y : ℕ). answered (packet.Shown (oldestAt x e) (nextLen x Out e) y) x b) r
+    ∙ (ap (λ (y : Driver). ends (Shown (oldestOn y e b) (nextStamp y e)) (y, b)) h
+    ∙ sym (simp (iso, some)))))
 
 pub open-none : (e : ℕ) (d : Driver) (b : List ℕ) → isOn (epOn d Out e .iso) ≡ true → waitingOn d Out e ≡ false → answered (packet.Refused 12) d b ≡ go (opening e) d b
 open-none e d b iso none = simp (iso, none)

@@ -11,27 +11,27 @@ use Rattle.marks.specs.Copies.{bytesAt}
 use Rattle.script.specs.Tree as tree
 use Rattle.script.specs.Tree.{ends}
 use Rattle.script.specs.Cells.{ep-cell, allocator-cell}
-use Rattle.script.specs.Script.{Script, ret, test, _>>=_, _>>_, get, is, fetch, act, waiting, room, opened, oldest, open-oldest, close-oldest, enqueue}
+use Rattle.script.specs.Script.{Script, ret, test, _>>=_, _>>_, get, is, look, fetch, act, waiting, room, opened, next-stamp, oldest, open-oldest, close-oldest, enqueue}
 use Rattle.script.specs.Statics.{isOn}
 use Rattle.script.specs.Answers.{Answer, Refused, Shown, ok, unless}
 use Rattle.script.specs.Endpoint.{enabled-else}
-use Rattle.ops.specs.Rings.{St, oldestAt, nextLen}
+use Rattle.ops.specs.Rings.{St, oldestAt, nextLen, nextStamp}
 use Rattle.packets.specs.declared.Packet.{Packet}
 use Rattle.packets.specs.declared.Packet.the-variants as packet
 
 -- the bytes of a packet that is shown are the slots' at the offset
 abbrev pub answerOf : Packet → List ℕ → Answer
 answerOf (packet.Refused n) b = Refused n
-answerOf (packet.Shown at n) b = Shown (bytesAt b at n)
+answerOf (packet.Shown at n stamp) b = Shown (bytesAt b at n) stamp
 answerOf packet.Ok b = ok
 
 abbrev pub answered : Packet → Driver → List ℕ → tree.Out St Answer
 answered r d b = ends (answerOf r b) (d, b)
 
--- and they are the oldest packet's
+-- and they are the oldest packet's, as its stamp is
 abbrev pub ShownAt : Packet → Driver → ℕ → Type 0
 ShownAt (packet.Refused n) d e = Unit {0}
-ShownAt (packet.Shown at n) d e = (at ≡ oldestAt d e) × (n ≡ nextLen d Out e)
+ShownAt (packet.Shown at n stamp) d e = (at ≡ oldestAt d e) × (n ≡ nextLen d Out e) × (stamp ≡ nextStamp d e)
 ShownAt packet.Ok d e = Unit {0}
 
 abbrev pub opening : ℕ → Script false Answer
@@ -43,7 +43,8 @@ opening ep = do
         (do
           act (open-oldest ep)
           bytes ← fetch (oldest ep)
-          ret (Shown bytes))
+          stamp ← look (next-stamp ep)
+          ret (Shown bytes stamp))
         (ret (Refused 12)))
 
 abbrev pub closing : ℕ → Script false Answer

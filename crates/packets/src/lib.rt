@@ -4,6 +4,7 @@ use ops::rings::close_oldest;
 use ops::rings::enqueue;
 use ops::rings::is_on;
 use ops::rings::next_len;
+use ops::rings::next_stamp;
 use ops::rings::oldest_at;
 use ops::rings::open_oldest;
 use ops::rings::opened;
@@ -26,10 +27,10 @@ ghost use Rattle.script.specs.Driver.{openPacket, closePacket, queuePacket};
 ghost use Rattle.ops.specs.Conc.{go};
 ghost use Rattle.packets.specs.Packets.{answered, ShownAt, opening, closing, queueing};
 
-// The row that refuses the call; an open packet's offset into the slots and its length; or nothing to tell.
+// The row that refuses the call; an open packet's offset into the slots, its length and its stamp; or nothing to tell.
 pub enum Packet {
     Refused(u8),
-    Shown(u32, u16),
+    Shown(u32, u16, u16),
     Ok,
 }
 
@@ -45,7 +46,8 @@ fn open_at(s: &mut [u8; STATE_LEN], e: u8) -> Packet
             open_oldest(s, e);
             let at = oldest_at(s, e);
             let n = next_len(s, Dir::Out, e);
-            return Packet::Shown(at, n);
+            let stamp = next_stamp(s, e);
+            return Packet::Shown(at, n, stamp);
         }
         return Packet::Refused(12);
     }

@@ -8,19 +8,39 @@ use usbhs::Step;
 use wording::text::number;
 use wording::text::print;
 
-// What a chip with nothing to tell reads: 0.
+// What the chip reads where it has nothing to tell.
 const READING: u32 = 0;
 
-// Shows a call's answer, and the rest of its operation as it goes on; `most` steps at most.
-fn run(s: &mut [u8; STATE_LEN], slots: &mut [u8], first: Step, most: u32) {
+// The steps that are shown of an operation, at most.
+const MOST: u32 = 64;
+
+// What it reads in the interrupt of a packet of 4 bytes on OUT 1, in microframe 2 of frame 5, with so many steps left.
+fn arrival(left: u32) -> u32 {
+    match left {
+        63 => 0x4005, // frame_no
+        62 => 2, // int_fg: a transfer
+        61 => 1, // mis_st: the SIE is free
+        60 => 0x41, // int_st: OUT 1, the expected toggle
+        59 => 4, // rx_len
+        57 => 0x4005, // frame_no
+        _ => 1, // mis_st likewise; int_st: OUT 1
+    }
+}
+
+fn reading(arrived: bool, left: u32) -> u32 {
+    if arrived { arrival(left) } else { READING }
+}
+
+// Shows a call's answer, and the rest of its operation as it goes on.
+fn run(s: &mut [u8; STATE_LEN], slots: &mut [u8], first: Step, arrived: bool) {
     show(first);
     let mut step = first;
-    let mut left = most;
+    let mut left = MOST;
     while left > 0 {
         left -= 1;
         match step {
             Step::Asks(_q) => {
-                step = usbhs::proceeds::proceed(s, slots, READING);
+                step = usbhs::proceeds::proceed(s, slots, reading(arrived, left));
                 show(step);
             }
             _ => {
@@ -55,28 +75,28 @@ fn before_start_up() {
     show(usbhs::proceeds::proceed(&mut s, &mut slots, READING));
     print(b"microframe before start-up\n");
     let first = usbhs::begins::begin_microframe(&mut s);
-    run(&mut s, &mut slots, first, 64);
+    run(&mut s, &mut slots, first, false);
     questions(&s, 1);
 }
 
-// Allocates an endpoint with a maximum of 8 bytes and shows what is handed out.
+// Allocates an endpoint with a maximum of 64 bytes and shows what is handed out.
 fn endpoint(s: &mut [u8; STATE_LEN], slots: &mut [u8], title: &[u8], dir: Dir, kind: u8) {
     print(title);
-    let first = usbhs::starting::allocate(s, dir, kind, 256, 8, 1);
-    run(s, slots, first, 64);
+    let first = usbhs::starting::allocate(s, dir, kind, 256, 64, 1);
+    run(s, slots, first, false);
 }
 
 fn enable(s: &mut [u8; STATE_LEN], slots: &mut [u8], title: &[u8], dir: Dir, e: u32) {
     print(title);
     let first = usbhs::bus_begins::begin_set_enabled(s, slots, dir, e, true);
-    run(s, slots, first, 64);
+    run(s, slots, first, false);
 }
 
-// A driver on 21 buffers of 8 bytes, with an isochronous OUT and IN.
+// A driver on 21 buffers of 64 bytes, with an isochronous OUT and IN.
 fn started(s: &mut [u8; STATE_LEN], slots: &mut [u8]) {
-    print(b"\nstart-up, 21 buffers of 8 bytes\n");
-    let first = usbhs::starting::start_up(s, slots, 8, 21, false);
-    run(s, slots, first, 64);
+    print(b"\nstart-up, 21 buffers of 64 bytes\n");
+    let first = usbhs::starting::start_up(s, slots, 64, 21, false);
+    run(s, slots, first, false);
     endpoint(s, slots, b"\nallocate an isochronous OUT\n", Dir::Out, 1);
     endpoint(s, slots, b"\nallocate an isochronous IN\n", Dir::In, 1);
 }
@@ -86,25 +106,48 @@ fn others(s: &mut [u8; STATE_LEN], slots: &mut [u8]) {
     endpoint(s, slots, b"\nallocate a bulk OUT\n", Dir::Out, 2);
     endpoint(s, slots, b"\nallocate a bulk IN\n", Dir::In, 2);
     print(b"\nstart EP0\n");
-    let ep0 = usbhs::starting::start(s, 8);
-    run(s, slots, ep0, 64);
+    let ep0 = usbhs::starting::start(s, 64);
+    run(s, slots, ep0, false);
 }
 
 fn enabled(s: &mut [u8; STATE_LEN], slots: &mut [u8]) {
     print(b"\npull the bus up\n");
     let up = usbhs::bus_begins::begin_bus_enable(s);
-    run(s, slots, up, 64);
+    run(s, slots, up, false);
     enable(s, slots, b"\nenable the isochronous OUT\n", Dir::Out, 1);
     enable(s, slots, b"\nenable the isochronous IN\n", Dir::In, 1);
     enable(s, slots, b"\nenable the bulk OUT\n", Dir::Out, 2);
     enable(s, slots, b"\nenable the bulk IN\n", Dir::In, 2);
 }
 
+// The interrupt of a packet that the chip has stored in the first slot of OUT 1.
+fn served(s: &mut [u8; STATE_LEN], slots: &mut [u8]) {
+    print(b"\nan interrupt: 4 bytes on the isochronous OUT\n");
+    let first = usbhs::begins::begin_interrupt(s);
+    run(s, slots, first, true);
+}
+
+// The packet is read where it lies.
+fn read(s: &mut [u8; STATE_LEN], slots: &[u8]) {
+    print(b"\nopen the oldest packet of OUT 1\n");
+    show(usbhs::in_place::open(s, slots, 1));
+    print(b"\nclose it\n");
+    show(usbhs::in_place::close(s, 1));
+    print(b"\nopen the next\n");
+    show(usbhs::in_place::open(s, slots, 1));
+}
+
 fn main() {
     before_start_up();
     let mut s = [0u8; STATE_LEN];
-    let mut slots = [0u8; 168];
+    let mut slots = [0u8; 1344];
     started(&mut s, &mut slots);
     others(&mut s, &mut slots);
     enabled(&mut s, &mut slots);
+    slots[0] = 0x11;
+    slots[1] = 0x22;
+    slots[2] = 0x33;
+    slots[3] = 0x44;
+    served(&mut s, &mut slots);
+    read(&mut s, &slots);
 }

@@ -22,7 +22,7 @@ fn end(n: u16, w: Wakes) {
     wakes(w);
 }
 
-// The rows of "What stops a call": up to the allocation's, then those of packets and continue.
+// The rows of "What stops a call": up to the allocation's, then those of packets and continue, then EP0's.
 fn row(n: u8) {
     match n {
         1 => print(b"the slots' length is not count times size"),
@@ -47,6 +47,7 @@ fn packet_row(n: u8) {
         14 => print(b"no packet is open"),
         15 => print(b"nothing is under way"),
         16 => print(b"the reading has bits above its width"),
+        22 => print(b"the maximum of EP0 is 64"),
         _ => {}
     }
 }
@@ -58,7 +59,7 @@ fn refused(n: u8) {
     row(n);
 }
 
-// What a poll brought, and where an open packet lies.
+// What a poll brought, and where an open packet lies with the microframe of its admission.
 fn done(n: u16) {
     print(b"done: bytes ");
     number(n as u32);
@@ -71,11 +72,13 @@ fn setup(low: u32, high: u32) {
     hex(high, 8);
 }
 
-fn shown(at: u32, n: u16) {
+fn shown(at: u32, n: u16, stamp: u16) {
     print(b"shown: slot byte ");
     number(at);
     print(b", bytes ");
     number(n as u32);
+    print(b", microframe ");
+    number(stamp as u32);
 }
 
 pub fn show(step: Step) {
@@ -86,7 +89,7 @@ pub fn show(step: Step) {
         Step::NotYet => print(b"not yet"),
         Step::Done(n) => done(n),
         Step::Setup(low, high) => setup(low, high),
-        Step::Shown(at, n) => shown(at, n),
+        Step::Shown(at, n, stamp) => shown(at, n, stamp),
     }
     print(b"\n");
 }

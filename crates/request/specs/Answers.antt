@@ -29,7 +29,7 @@ broughtBy (Done bytes) out = over bytes out
 broughtBy (Refused n) out = out
 broughtBy (End n w) out = out
 broughtBy NotYet out = out
-broughtBy (Shown bytes) out = out
+broughtBy (Shown bytes stamp) out = out
 
 abbrev pub lentAfter : tree.Out St Answer → List ℕ → List ℕ
 lentAfter (ends a s) out = broughtBy a out

@@ -26,7 +26,7 @@ bytesOf (Done bytes) = bytes
 bytesOf (Refused n) = []
 bytesOf (End n w) = []
 bytesOf NotYet = []
-bytesOf (Shown bytes) = []
+bytesOf (Shown bytes stamp) = []
 
 -- Done n that is the script's Done: n is the number of its bytes
 pub done-length : (n : ℕ) (out bytes : List ℕ) → Done (front n out) ≡ Done bytes → n ≡ length bytes

@@ -16,7 +16,7 @@ use Rattle.script.specs.Control.{acks, beginDataOut, pollDataOut, beginD
 use Rattle.script.specs.Driver.{allocated-as, started-as}
 use Rattle.script.specs.Calls.{Config, Op, interrupt, slotted, other, aside, Slotted, SetEnabled, PollRead, BeginWrite, PollWrite, PollDataOut, BeginDataIn, Other, Allocate, Start, BusPoll, BusEnable, BusDisable, Microframe, SetStalled, IsStalled, SetPaced, Advance, BeginRead, BeginSetup, PollSetup, PollDataIn, BeginAccept, PollAccept, BeginReject, BeginDataOut, BeginAcceptSetAddress, Aside, Open, Close, Queue, slottedCode, otherCode, asideCode, code, starting}
 use Rattle.script.specs.Every.{Only}
-use Rattle.script.specs.AddressWrites.{Writes, control, placed, of-interrupt, of-advance}
+use Rattle.script.specs.AddressWrites.{Writes, control, placed, of-stamped, of-advance}
 
 abbrev pub None : ℕ → Type 0
 None v = ⊥
@@ -151,12 +151,12 @@ of-other (BeginDataOut n first) = of-begin-data-out n first
 of-other (BeginAcceptSetAddress a) = (λ _. tt, λ _. ((λ _. tt, λ _. (tt, (tt, λ _. (tt, λ _. ((((λ _. tt, λ _. tt), λ _. ((tt, tt), λ _. ((tt, λ _. tt), λ _. (tt, tt)))), λ _. tt), λ _. (λ _. tt, λ _. tt)))))), tt))
 
 of-aside : (o : Aside) → N (asideCode o)
-of-aside (Open e) = (λ _. tt, λ _. ((λ _. tt, λ _. ((λ _. tt, λ _. (tt, (λ _. tt, λ _. ((tt, λ _. (λ _. tt, λ _. tt)), tt)))), tt)), tt))
+of-aside (Open e) = (λ _. tt, λ _. ((λ _. tt, λ _. ((λ _. tt, λ _. (tt, (λ _. tt, λ _. ((tt, λ _. (λ _. tt, λ _. (λ _. tt, λ _. tt))), tt)))), tt)), tt))
 of-aside (Close e) = (λ _. tt, λ _. ((λ _. tt, λ _. ((λ _. tt, λ _. ((tt, λ _. tt), tt)), tt)), tt))
 of-aside (Queue e bs) = (λ _. tt, λ _. ((λ _. tt, λ _. ((λ _. tt, λ _. ((λ _. tt, λ _. (tt, (λ _. tt, λ _. (tt, (λ _. tt, λ _. ((tt, λ _. tt), tt)))))), tt)), tt)), tt))
 
 pub address-writes : (o : Op) → Only (Writes (Addresses o)) (code o)
-address-writes interrupt = (λ _. tt, λ _. ((tt, λ _. ((of-interrupt None true, λ _. tt), λ _. (λ _. tt, λ _. tt))), tt))
+address-writes interrupt = (λ _. tt, λ _. ((tt, λ _. ((of-stamped None true, λ _. tt), λ _. (λ _. tt, λ _. tt))), tt))
 address-writes (slotted o) = of-slotted o
 address-writes (other o) = of-other o
 address-writes (aside o) = of-aside o

@@ -20,7 +20,7 @@ use Rattle.frame.specs.Advance.{completions}
 use Rattle.script.specs.Statics.{isoInEvery, isoOuts}
 use Rattle.script.specs.IsoIn.{isoInComplete, sofOne, sofWalk, onSof, lateWalk, isoInCompletions, isoInAdvance}
 use Rattle.script.specs.IsoOut.{checkWalk}
-use Rattle.script.specs.Handler.{looks, nakNonIso, toggled, retake, settle, outArm, inArm, entered, framed, isoFor, dispatch, movedOn, ep0MovedOn, served, onTransfer, onSetup, onInterrupt}
+use Rattle.script.specs.Handler.{looks, nakNonIso, toggled, retake, settle, outArm, inArm, entered, framed, isoFor, dispatch, movedOn, ep0MovedOn, served, onTransfer, onSetup, onInterrupt, stampedInterrupt}
 use Rattle.script.specs.Every.{Only, Where, sameReg}
 
 -- each address that is written is one of those allowed
@@ -118,6 +118,9 @@ module _ (Allowed : ℕ → Type 0) where
 
   pub of-interrupt : (i : Bool) → N (onInterrupt {i = i})
   of-interrupt i = ((tt, λ _. tt), λ _. ((((λ _. tt, λ _. (tt, λ _. (tt, tt))), λ _. (λ _. tt, λ _. tt)), tt), λ _. ((((λ _. tt, λ _. (tt, λ _. (tt, tt))), λ _. (λ _. tt, λ _. tt)), tt), λ _. (((tt, tt), tt), λ _. (((tt, tt), tt), λ _. ((of-transfer i, tt), λ _. (of-setup i, tt)))))))
+
+  pub of-stamped : (i : Bool) → N (stampedInterrupt {i = i})
+  of-stamped i = (((tt, λ _. tt), λ _. (λ _. tt, λ _. tt)), λ _. of-interrupt i)
 
   of-completions : (i : Bool) (n e : ℕ) → N (isoInCompletions {i = i} n e)
   unfolding isoInCompletions

@@ -17,7 +17,7 @@ pub data Answer : Type 0 where
   End : ℕ → Wakes → Answer  -- the operation's result (0 where the Rust has none) and its wake-ups
   NotYet : Answer  -- a poll
   Done : List ℕ → Answer  -- a poll, with the bytes that it brought
-  Shown : List ℕ → Answer  -- an open packet
+  Shown : List ℕ → ℕ → Answer  -- an open packet and its stamp, the microframe index of its admission
 
 -- an operation: its wake-ups are gathered from none and answered at its end
 abbrev pub operation : {i : Bool} → Script i ℕ → Script i Answer

@@ -11,7 +11,7 @@ use Rattle.script.specs.Cells.{globals-cell}
 use Rattle.script.specs.Script.{Script, ret, done, test, _>>=_, _>>_}
 use Rattle.script.specs.Answers.{Answer, Refused, ok, operation, resultless, staged, named, unless, isNumber}
 use Rattle.script.specs.IsoIn.{isoInAdvance, isoInSetPaced, microframe}
-use Rattle.script.specs.Handler.{onInterrupt}
+use Rattle.script.specs.Handler.{stampedInterrupt}
 use Rattle.script.specs.Bus as bus
 use Rattle.script.specs.Endpoint.{beginRead, pollRead, beginWrite, pollWrite}
 use Rattle.script.specs.Control.{beginSetup, pollSetup, beginDataOut, pollDataOut, beginDataIn, pollDataIn, beginAccept, beginAcceptSetAddress, pollAccept, beginReject}
@@ -114,7 +114,7 @@ asideCode (Close e) = closePacket e
 asideCode (Queue e bs) = queuePacket e bs
 
 abbrev pub interruptCode : Script true Answer
-interruptCode = staged 2 (resultless onInterrupt)
+interruptCode = staged 2 (resultless stampedInterrupt)
 
 -- no row occurs in an interrupt
 abbrev pub irq : Op → Bool

@@ -101,7 +101,7 @@ Begun old new b (Refused n) = b ≡ old
 Begun old new b (End n w) = b ≡ new
 Begun old new b NotYet = ⊥
 Begun old new b (Done bytes) = ⊥
-Begun old new b (Shown bytes) = ⊥
+Begun old new b (Shown bytes stamp) = ⊥
 
 module _ {S : Type 0} (O : Ops S) where
   -- past the rows 4, 10 and 9

@@ -15,7 +15,7 @@ use Rattle.alloc.specs.declared.Answer as alloc-answer
 use Rattle.alloc.specs.declared.Answer.the-variants as alloc
 use Rattle.alloc.specs.Alloc.{allocateOf, allocateEp0Of}
 use Rattle.script.specs.Cells.{Plain, globals-cell, ep-cell, allocator-cell}
-use Rattle.script.specs.Script.{Script, ret, done, test, _>>=_, _>>_, read, write, wait, get, put, is, fetch, act, hand, when, waiting, room, opened, oldest, place, place0, open-oldest, close-oldest, enqueue, allocate, allocate0}
+use Rattle.script.specs.Script.{Script, ret, done, test, _>>=_, _>>_, read, write, wait, get, put, is, look, fetch, act, hand, when, waiting, room, opened, next-stamp, oldest, place, place0, open-oldest, close-oldest, enqueue, allocate, allocate0}
 use Rattle.script.specs.Statics.{isOn, modifyIntEn, modifyReg}
 use Rattle.script.specs.Answers.{Answer, Refused, End, Shown, ok, operation, resultless, staged, named, unless}
 use Rattle.script.specs.Endpoint.{enabled-else}
@@ -44,7 +44,7 @@ abbrev pub allocated-as : {i : Bool} → Dir → ℕ → ℕ → alloc-answer.An
 allocated-as d kind maximum (alloc.Refused n) = ret (Refused n)
 allocated-as d kind maximum (alloc.Given ep base slots) = operation (newEndpoint d kind maximum ep)
 
--- `alloc_endpoint`; what refusal 8 keeps is in the change itself
+-- `alloc_endpoint`; a refusal changes nothing
 abbrev pub allocEndpoint : {i : Bool} → Dir → ℕ → ℕ → ℕ → ℕ → Script i Answer
 allocEndpoint d kind address maximum interval = staged 1 (do
   a ← get allocator-cell
@@ -80,7 +80,8 @@ openPacket ep = staged 2 (named Out ep (do
         (do
           act (open-oldest ep)
           bytes ← fetch (oldest ep)
-          ret (Shown bytes))
+          stamp ← look (next-stamp ep)
+          ret (Shown bytes stamp))
         (ret (Refused 12)))))
 
 -- and close gives its slot back

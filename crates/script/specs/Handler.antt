@@ -14,11 +14,12 @@ use Rattle.regs.specs.ControlWord.{NAK, ACK, DATA0, wordOf, ack, nak, flip, nak
 use Rattle.regs.specs.Flags.{busRst, transfer, suspend, hstSof, fifoOv, setupAct, TRANSFER, HST_SOF, FIFO_OV, SETUP_ACT}
 use Rattle.regs.specs.Status.{endpoint, token, isOut, isIn, isSof, togOk}
 use Rattle.regs.specs.MisStatus.{sieFree}
+use Rattle.frame.specs.Usb20.{indexOf}
 use Rattle.regs.specs.IntEn.{withBusRst, withSuspend}
 use Rattle.script.specs.declared.Transfer.{Transfer}
 use Rattle.script.specs.Cells.{Plain, globals-cell, ep-cell}
 use Rattle.script.specs.Script.{Script, ret, done, test, _>>=_, _>>_, read, write, get, put, look, when, setup-word}
-use Rattle.script.specs.Statics.{isOn, flag, withReady, withArmed, withLen, withTog, completed, withSetup, modify, modifyEp, modifyReg, modifyIntEn, wake, wakeBus, isoInEvery}
+use Rattle.script.specs.Statics.{isOn, flag, withReady, withArmed, withLen, withTog, completed, withSetup, withEntered, modify, modifyEp, modifyReg, modifyIntEn, wake, wakeBus, isoInEvery}
 use Rattle.script.specs.IsoIn.{firstInFrame, isoInComplete, onSof, lateWalk}
 use Rattle.script.specs.IsoOut.{isoOutCheck}
 
@@ -260,3 +261,14 @@ onInterrupt = do
   when (hstSof flag) (write IntFg 0 HST_SOF)
   when (transfer flag) onTransfer
   when (setupAct flag) onSetup
+
+-- request One, which the Rust has not: an interrupt begins with a frame reading, and what it admits carries that reading's microframe index
+abbrev pub keepMicroframe : {i : Bool} → Script i Unit
+keepMicroframe = do
+  frame ← read FrameNo 0
+  modify (withEntered (indexOf frame))
+
+abbrev pub stampedInterrupt : {i : Bool} → Script i Unit
+stampedInterrupt = do
+  keepMicroframe
+  onInterrupt

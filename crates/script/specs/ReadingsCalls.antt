@@ -19,7 +19,7 @@ use Rattle.script.specs.Driver.{allocated-as, started-as}
 use Rattle.script.specs.Answers.{Answer, named, unless}
 use Rattle.script.specs.Calls.{Slotted, SetEnabled, PollRead, BeginWrite, PollWrite, PollDataOut, BeginDataIn, Other, Allocate, Start, BusPoll, BusEnable, BusDisable, Microframe, SetStalled, IsStalled, SetPaced, Advance, BeginRead, BeginSetup, PollSetup, PollDataIn, BeginAccept, PollAccept, BeginReject, BeginDataOut, BeginAcceptSetAddress, Aside, Open, Close, Queue, Op, interrupt, slotted, other, aside, numbered, named-or-0, slottedCode, otherCode, asideCode, code, Config, starting}
 use Rattle.script.specs.Readings.{Reads≤}
-use Rattle.script.specs.ReadingsLaws.{reads-ret, reads-wait, reads-row, free, once, either, one-read, no-write, no-get, no-put, no-is, no-fetch, no-act, no-hand, when-reads, assign, assign-write, modifyReg-reads}
+use Rattle.script.specs.ReadingsLaws.{reads-ret, reads-wait, reads-row, free, once, either, one-read, no-write, no-get, no-put, no-is, no-fetch, no-look, no-act, no-hand, when-reads, assign, assign-write, modifyReg-reads}
 use Rattle.script.specs.ReadingsInterrupt.{isoInComplete-reads, operation-reads, resultless-reads, staged-reads, interrupt-reads}
 
 -- ---- the table
@@ -54,7 +54,7 @@ otherMost (BeginDataOut n first) = cond first 0 1
 otherMost (BeginAcceptSetAddress a) = 1
 
 abbrev pub most : Op → ℕ
-most interrupt = 4060
+most interrupt = 4061
 most (slotted o) = slottedMost o
 most (other o) = otherMost o
 most (aside o) = 0
@@ -241,7 +241,7 @@ other-reads (BeginDataOut n first) = staged-reads 2 (withinMaximum-reads n (unle
 other-reads (BeginAcceptSetAddress a) = staged-reads 2 (unlessSetup-reads (free (no-put control-cell) (λ _. resultless-reads statusIn-reads)))
 
 aside-reads : (o : Aside) → Reads≤ 0 (asideCode o)
-aside-reads (Open e) = staged-reads 2 (named-reads Out e (free (no-get (ep-cell _ _)) (λ _. unless-reads (free no-is (λ _. either (free no-act (λ _. free no-fetch (λ _. reads-ret))) reads-ret)))))
+aside-reads (Open e) = staged-reads 2 (named-reads Out e (free (no-get (ep-cell _ _)) (λ _. unless-reads (free no-is (λ _. either (free no-act (λ _. free no-fetch (λ _. free no-look (λ _. reads-ret)))) reads-ret)))))
 aside-reads (Close e) = staged-reads 2 (named-reads Out e (free no-is (λ _. either (free no-act (λ _. reads-ret)) reads-ret)))
 aside-reads (Queue e bs) = staged-reads 2 (named-reads In e (enabled-reads In e reads-ret (free (no-get allocator-cell) (λ _. unless-reads (free (no-get (ep-cell _ _)) (λ _. unless-reads (free no-is (λ _. either (free no-act (λ _. reads-ret)) reads-ret))))))))
 

@@ -16,7 +16,7 @@ use Rattle.script.specs.Cells.{globals-cell, wakes-cell, ep-cell}
 use Rattle.script.specs.Script.{Script}
 use Rattle.script.specs.IsoIn.{firstInFrame, isoInLoad, isoInComplete, unseen, sofOne, sofWalk, onSof, lateOne, lateWalk}
 use Rattle.script.specs.IsoOut.{arrives, checkOne, checkWalk, isoOutCheck}
-use Rattle.script.specs.Handler.{looks, sieWait, nakNonIso, toggled, retake, settle, received, sent, sofArm, outArm, isoInArm, inArm, dispatch, movedOn, ep0MovedOn, isoFor, framed, served, onTransfer, onSetup, onInterrupt}
+use Rattle.script.specs.Handler.{looks, sieWait, nakNonIso, toggled, retake, settle, received, sent, sofArm, outArm, isoInArm, inArm, dispatch, movedOn, ep0MovedOn, isoFor, framed, served, onTransfer, onSetup, onInterrupt, keepMicroframe}
 use Rattle.script.specs.Answers.{Answer, staged, resultless, operation}
 use Rattle.script.specs.Calls.{interruptCode}
 use Rattle.script.specs.Readings.{Reads≤}
@@ -191,6 +191,10 @@ module _ {i : Bool} where
       free (when-reads (free (assign-write globals-cell) (λ _. assign wakes-cell))) (λ _. free (when-reads no-write) (λ _.
       free (when-reads no-write) (λ _. then-free (when-reads onTransfer-reads) (λ _. when-reads onSetup-reads))))))
 
+  -- and the reading before it
+  keepMicroframe-reads : Reads≤ {i = i} 1 keepMicroframe
+  keepMicroframe-reads = once one-read (λ _. assign globals-cell)
+
   pub operation-reads : {n : ℕ} {p : Script i ℕ} → Reads≤ n p → Reads≤ n (operation p)
   operation-reads x = free (no-put wakes-cell) (λ _. then-free x (λ _. free (no-get wakes-cell) (λ _. reads-ret)))
 
@@ -200,8 +204,8 @@ module _ {i : Bool} where
   pub staged-reads : {n : ℕ} (m : ℕ) {p : Script i Answer} → Reads≤ n p → Reads≤ n (staged m p)
   staged-reads m x = free (no-get globals-cell) (λ _. either x reads-ret)
 
-pub interrupt-reads : Reads≤ 4060 interruptCode
-interrupt-reads = staged-reads 2 (resultless-reads onInterrupt-reads)
+pub interrupt-reads : Reads≤ 4061 interruptCode
+interrupt-reads = staged-reads 2 (resultless-reads (once keepMicroframe-reads (λ _. onInterrupt-reads)))
 
 -- demand 1
 pub interrupt-4096 : Reads≤ 4096 interruptCode

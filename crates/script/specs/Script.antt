@@ -28,6 +28,7 @@ pub data Test : Type 0 where
 pub data Look : Type 0 where
   marked : ℕ → Look  -- OUT e: the length that the marks of the armed slot show
   next-len : Dir → ℕ → Look  -- the length of the oldest packet
+  next-stamp : ℕ → Look  -- OUT e: the stamp of the oldest packet
   setup-word : ℕ → Look  -- word 0 or 1 of EP0's buffer
 
 -- bytes

@@ -1,4 +1,4 @@
--- The calls that pass during an interrupt leave the sorts, so while they alone pass it has at most 4,055 readings
+-- The calls that pass during an interrupt leave the sorts, so while they alone pass it has at most 4,056 readings
 use mathlib.Core.Bool.{Bool, true, false, not}
 use mathlib.Core.List.{List, [], _∷_}
 use mathlib.Core.Path.{_≡_, refl, subst}
@@ -13,8 +13,8 @@ use Rattle.script.specs.Calls.{Aside, Open, Close, Queue, asideCode, int
 use Rattle.script.specs.Readings.{Continues, readings}
 use Rattle.script.specs.Every.{Every, at-end}
 use Rattle.script.specs.Sorts.{Sorts, Sorted, Along}
-use Rattle.script.specs.SortsLaws.{counted, Any, Staying, Reads, reads-ret, free, either, no-get, no-is, no-fetch, no-act}
-use Rattle.script.specs.SortsInterrupt.{interrupt-4055}
+use Rattle.script.specs.SortsLaws.{counted, Any, Staying, Reads, reads-ret, free, either, no-get, no-is, no-fetch, no-look, no-act}
+use Rattle.script.specs.SortsInterrupt.{interrupt-4056}
 
 -- what becomes of the state between two accesses of an interrupt: calls that pass, each run to its end, and stores by others
 pub data Passes {S : Type 0} (O : Ops S) (Stores : S → S → Type 0) (s : S) : S → Type 0 where
@@ -27,7 +27,7 @@ module _ {S : Type 0} {O : Ops S} {K : S → Type 0} {iso : Sorts} (M : Sorted O
   aside-reads (Open e) = free (no-get M globals-cell) (λ _ _. either
       (λ _. free (no-get M allocator-cell) (λ _ _. either
       (λ _. free (no-get M (ep-cell _ _)) (λ _ _. either (λ _. reads-ret tt)
-      (λ _. free no-is (λ _ _. either (λ _. free (no-act M (open-oldest e) refl) (λ _ _. free no-fetch (λ _ _. reads-ret tt))) (λ _. reads-ret tt)))))
+      (λ _. free no-is (λ _ _. either (λ _. free (no-act M (open-oldest e) refl) (λ _ _. free no-fetch (λ _ _. free no-look (λ _ _. reads-ret tt)))) (λ _. reads-ret tt)))))
       (λ _. reads-ret tt)))
       (λ _. reads-ret tt))
   aside-reads (Close e) = free (no-get M globals-cell) (λ _ _. either
@@ -60,5 +60,5 @@ module _ {S : Type 0} {O : Ops S} {K : S → Type 0} {iso : Sorts} (M : Sorted O
     all-stay (asks q s k) [] l = tt
     all-stay (asks q s k) (c ∷ w) l = (stays (l .0), all-stay (k (c .0) (c .1)) w (l .1))
 
-    pub passing-4055 : (s : S) → K s → (w : Continues S) → Along (Passes O Stores) (run O interruptCode s) w → readings (run O interruptCode s) w ≤ 4055
-    passing-4055 s k w l = interrupt-4055 M s k w (all-stay (run O interruptCode s) w l)
+    pub passing-4056 : (s : S) → K s → (w : Continues S) → Along (Passes O Stores) (run O interruptCode s) w → readings (run O interruptCode s) w ≤ 4056
+    passing-4056 s k w l = interrupt-4056 M s k w (all-stay (run O interruptCode s) w l)

@@ -1,4 +1,4 @@
--- While the endpoints' sorts stay, the interrupt has at most 4,055 readings: 1 + 3 + 1 + 2,002 + 1 + 30 + 2,003 + 14. No walk has EP0; of the two
+-- While the endpoints' sorts stay, the interrupt has at most 4,056 readings: 1 + 1 + 3 + 1 + 2,002 + 1 + 30 + 2,003 + 14. No walk has EP0; of the two
 -- waits for sie_free the isochronous one excludes `toggled`, and an endpoint that waits for both is not isochronous, so it is missing from its walk
 use mathlib.Core.Bool.{Bool, true, false, not, cond, _&&_, _||_}
 use mathlib.Core.Logic.{_⊎_, inl, inr, ⊎-elim}
@@ -22,7 +22,7 @@ use Rattle.script.specs.Script.{Script, Ops, run, bind, _>>=_, _>>_, rea
 use Rattle.script.specs.Statics.{isOn, isoInEvery, isoOuts}
 use Rattle.script.specs.IsoIn.{firstInFrame, isoInLoad, isoInComplete, unseen, sofOne, sofWalk, onSof, lateOne, lateWalk}
 use Rattle.script.specs.IsoOut.{arrives, checkOne, checkWalk, isoOutCheck}
-use Rattle.script.specs.Handler.{looks, sieWait, nakNonIso, toggled, retake, settle, entered, waitsForIso, waitsForBulk, received, sent, sofArm, outArm, isoInArm, inArm, dispatch, movedOn, ep0MovedOn, isoFor, ownIn, released, framed, served, onTransfer, onSetup, onInterrupt}
+use Rattle.script.specs.Handler.{looks, sieWait, nakNonIso, toggled, retake, settle, entered, waitsForIso, waitsForBulk, received, sent, sofArm, outArm, isoInArm, inArm, dispatch, movedOn, ep0MovedOn, isoFor, ownIn, released, framed, served, onTransfer, onSetup, onInterrupt, keepMicroframe}
 use Rattle.script.specs.Calls.{interruptCode}
 use Rattle.script.specs.Readings.{Continues, readings}
 use Rattle.script.specs.ToggledLaws.{apart}
@@ -304,11 +304,14 @@ module _ {S : Type 0} {O : Ops S} {K : S → Type 0} {iso : Sorts} (M : Sorted O
       free (when-reads (λ _. no-write)) (λ _ _. then-free (when-reads (λ _. onTransfer-reads)) (λ _ _. when-reads (λ _. onSetup-reads)))))))
 
 module _ {S : Type 0} {O : Ops S} {K : S → Type 0} {iso : Sorts} (M : Sorted O iso K) where
-  interrupt-reads : Reads O K 4055 Any interruptCode
+  keepMicroframe-reads : {i : Bool} → Reads O K {i = i} 1 Any keepMicroframe
+  keepMicroframe-reads = once one-read (λ _ _. assign M globals-cell)
+
+  interrupt-reads : Reads O K 4056 Any interruptCode
   interrupt-reads = free (no-get M globals-cell) (λ _ _. either
-      (λ _. free (no-put M wakes-cell) (λ _ _. then-free {P = Any} (then-free (onInterrupt-reads M) (λ _ _. reads-ret tt)) (λ _ _. free (no-get M wakes-cell) (λ _ _. reads-ret tt))))
+      (λ _. free (no-put M wakes-cell) (λ _ _. then-free {P = Any} (then-free (once keepMicroframe-reads (λ _ _. onInterrupt-reads M)) (λ _ _. reads-ret tt)) (λ _ _. free (no-get M wakes-cell) (λ _ _. reads-ret tt))))
       (λ _. reads-ret tt))
 
   -- from a state of these sorts, on every path on which they stay between two accesses
-  pub interrupt-4055 : (s : S) → K s → (w : Continues S) → Along (Staying K) (run O interruptCode s) w → readings (run O interruptCode s) w ≤ 4055
-  interrupt-4055 s k w l = reads-along interrupt-reads s k w l
+  pub interrupt-4056 : (s : S) → K s → (w : Continues S) → Along (Staying K) (run O interruptCode s) w → readings (run O interruptCode s) w ≤ 4056
+  interrupt-4056 s k w l = reads-along interrupt-reads s k w l

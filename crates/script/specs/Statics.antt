@@ -53,16 +53,19 @@ completed p = withReady 1 (withArmed 0 p)
 -- ---- the globals
 
 abbrev pub withPower : ℕ → Globals → Globals
-withPower v g = record { stage = g .stage; callback = g .callback; power = v; «setup_ready» = g .«setup_ready»; «setup_low» = g .«setup_low»; «setup_high» = g .«setup_high»; «int_en» = g .«int_en»; «ep_config» = g .«ep_config»; «ep_type» = g .«ep_type»; «iso_out_eps» = g .«iso_out_eps»; «iso_in_every» = g .«iso_in_every»; «iso_in_paced» = g .«iso_in_paced»; «sof_frame» = g .«sof_frame»; «ep0_buf» = g .«ep0_buf»; «ep0_max» = g .«ep0_max» }
+withPower v g = record { stage = g .stage; callback = g .callback; power = v; «setup_ready» = g .«setup_ready»; «setup_low» = g .«setup_low»; «setup_high» = g .«setup_high»; «int_en» = g .«int_en»; «ep_config» = g .«ep_config»; «ep_type» = g .«ep_type»; «iso_out_eps» = g .«iso_out_eps»; «iso_in_every» = g .«iso_in_every»; «iso_in_paced» = g .«iso_in_paced»; «sof_frame» = g .«sof_frame»; «ep0_buf» = g .«ep0_buf»; «ep0_max» = g .«ep0_max»; entered = g .entered }
 
 abbrev pub withSetup : ℕ → ℕ → ℕ → Globals → Globals
-withSetup v lo hi g = record { stage = g .stage; callback = g .callback; power = g .power; «setup_ready» = v; «setup_low» = lo; «setup_high» = hi; «int_en» = g .«int_en»; «ep_config» = g .«ep_config»; «ep_type» = g .«ep_type»; «iso_out_eps» = g .«iso_out_eps»; «iso_in_every» = g .«iso_in_every»; «iso_in_paced» = g .«iso_in_paced»; «sof_frame» = g .«sof_frame»; «ep0_buf» = g .«ep0_buf»; «ep0_max» = g .«ep0_max» }
+withSetup v lo hi g = record { stage = g .stage; callback = g .callback; power = g .power; «setup_ready» = v; «setup_low» = lo; «setup_high» = hi; «int_en» = g .«int_en»; «ep_config» = g .«ep_config»; «ep_type» = g .«ep_type»; «iso_out_eps» = g .«iso_out_eps»; «iso_in_every» = g .«iso_in_every»; «iso_in_paced» = g .«iso_in_paced»; «sof_frame» = g .«sof_frame»; «ep0_buf» = g .«ep0_buf»; «ep0_max» = g .«ep0_max»; entered = g .entered }
 
 abbrev pub withPaced : ℕ → Globals → Globals
-withPaced v g = record { stage = g .stage; callback = g .callback; power = g .power; «setup_ready» = g .«setup_ready»; «setup_low» = g .«setup_low»; «setup_high» = g .«setup_high»; «int_en» = g .«int_en»; «ep_config» = g .«ep_config»; «ep_type» = g .«ep_type»; «iso_out_eps» = g .«iso_out_eps»; «iso_in_every» = g .«iso_in_every»; «iso_in_paced» = v; «sof_frame» = g .«sof_frame»; «ep0_buf» = g .«ep0_buf»; «ep0_max» = g .«ep0_max» }
+withPaced v g = record { stage = g .stage; callback = g .callback; power = g .power; «setup_ready» = g .«setup_ready»; «setup_low» = g .«setup_low»; «setup_high» = g .«setup_high»; «int_en» = g .«int_en»; «ep_config» = g .«ep_config»; «ep_type» = g .«ep_type»; «iso_out_eps» = g .«iso_out_eps»; «iso_in_every» = g .«iso_in_every»; «iso_in_paced» = v; «sof_frame» = g .«sof_frame»; «ep0_buf» = g .«ep0_buf»; «ep0_max» = g .«ep0_max»; entered = g .entered }
 
 abbrev pub withSofFrame : ℕ → Globals → Globals
-withSofFrame v g = record { stage = g .stage; callback = g .callback; power = g .power; «setup_ready» = g .«setup_ready»; «setup_low» = g .«setup_low»; «setup_high» = g .«setup_high»; «int_en» = g .«int_en»; «ep_config» = g .«ep_config»; «ep_type» = g .«ep_type»; «iso_out_eps» = g .«iso_out_eps»; «iso_in_every» = g .«iso_in_every»; «iso_in_paced» = g .«iso_in_paced»; «sof_frame» = v; «ep0_buf» = g .«ep0_buf»; «ep0_max» = g .«ep0_max» }
+withSofFrame v g = record { stage = g .stage; callback = g .callback; power = g .power; «setup_ready» = g .«setup_ready»; «setup_low» = g .«setup_low»; «setup_high» = g .«setup_high»; «int_en» = g .«int_en»; «ep_config» = g .«ep_config»; «ep_type» = g .«ep_type»; «iso_out_eps» = g .«iso_out_eps»; «iso_in_every» = g .«iso_in_every»; «iso_in_paced» = g .«iso_in_paced»; «sof_frame» = v; «ep0_buf» = g .«ep0_buf»; «ep0_max» = g .«ep0_max»; entered = g .entered }
+
+abbrev pub withEntered : ℕ → Globals → Globals
+withEntered v g = record { stage = g .stage; callback = g .callback; power = g .power; «setup_ready» = g .«setup_ready»; «setup_low» = g .«setup_low»; «setup_high» = g .«setup_high»; «int_en» = g .«int_en»; «ep_config» = g .«ep_config»; «ep_type» = g .«ep_type»; «iso_out_eps» = g .«iso_out_eps»; «iso_in_every» = g .«iso_in_every»; «iso_in_paced» = g .«iso_in_paced»; «sof_frame» = g .«sof_frame»; «ep0_buf» = g .«ep0_buf»; «ep0_max» = g .«ep0_max»; entered = v }
 
 -- ---- wake-ups
 

@@ -64,6 +64,7 @@ filled-all l n v e =
 pub made-afresh : (xs : List ℕ) (size count callback : ℕ) → _≡_ {A = Driver} (record {
   eps = filled (view xs .eps) 0 32 newEp;
   lens = filled (view xs .lens) 0 512 0;
+  stamps = replicate 256 0;
   globals = freshGlobals callback;
   allocator = freshAllocator size count;
   paced = filled (view xs .paced) 0 16 0x1800;
@@ -77,6 +78,7 @@ made-afresh xs size count callback =
     λ i. record {
       eps = filled-all (view xs .eps) 32 newEp (s .eps) i;
       lens = filled-all (view xs .lens) 512 0 (s .lens) i;
+      stamps = replicate 256 0;
       globals = freshGlobals callback;
       allocator = freshAllocator size count;
       paced = filled-all (view xs .paced) 16 0x1800 (s .paced) i;

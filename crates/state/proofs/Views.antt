@@ -15,7 +15,7 @@ use Rattle.state.specs.declared.Control.{Control}
 use Rattle.state.specs.declared.Saved.{Saved}
 use Rattle.fields.specs.Bytes.{gets, puts, number, digits, numbers, bytes, Each}
 use Rattle.state.specs.Codec.{epWidths, epAs, epOf, allocatorWidths, allocatorAs, allocatorOf, globalsWidths, globalsAs, globalsOf, wakesWidths, wakesAs, wakesOf, requestWidths, requestAs, requestOf, controlWidths, controlAs, controlOf, savedWidths, savedAs, savedOf}
-use Rattle.state.specs.Driver.{Driver, key, lenKey, noEp, noRequest, withEps, withLens, withPaced, withRequests, withGlobals, withAllocator, withControl, withWakes, epOn, withOn, lenOn, withLenOn, pacedOn, withPacedOn, requestOn, withRequestOn}
+use Rattle.state.specs.Driver.{Driver, key, lenKey, stampKey, noEp, noRequest, withEps, withLens, withStamps, withPaced, withRequests, withGlobals, withAllocator, withControl, withWakes, epOn, withOn, lenOn, withLenOn, stampOn, withStampOn, pacedOn, withPacedOn, requestOn, withRequestOn}
 use Rattle.state.specs.State.{epIn, allocatorIn, globalsIn, wakesIn, requestIn, controlIn, savedIn, view, saved}
 use Rattle.fields.specs.Runs.{Same, puts-same, gets-same, gets-puts}
 use Rattle.fields.specs.Numbers.{number-digits, numbers-bytes, each-eq}
@@ -44,34 +44,37 @@ module _ (xs : List ℕ) (o : ℕ) (bs : List ℕ) where
   lens-off : Off 1024 2048 → table ys 1024 512 2 number ≡ table xs 1024 512 2 number
   lens-off h = many number 1024 512 2 h
 
-  globals-off : Off 2048 2083 → globalsIn (gets ys 2048 0 35) ≡ globalsIn (gets xs 2048 0 35)
-  globals-off h = one globalsIn 2048 35 h
+  stamps-off : Off 2048 2560 → table ys 2048 256 2 number ≡ table xs 2048 256 2 number
+  stamps-off h = many number 2048 256 2 h
 
-  allocator-off : Off 2083 2101 → allocatorIn (gets ys 2083 0 18) ≡ allocatorIn (gets xs 2083 0 18)
-  allocator-off h = one allocatorIn 2083 18 h
+  globals-off : Off 2560 2597 → globalsIn (gets ys 2560 0 37) ≡ globalsIn (gets xs 2560 0 37)
+  globals-off h = one globalsIn 2560 37 h
 
-  paced-off : Off 2101 2133 → table ys 2101 16 2 number ≡ table xs 2101 16 2 number
-  paced-off h = many number 2101 16 2 h
+  allocator-off : Off 2597 2615 → allocatorIn (gets ys 2597 0 18) ≡ allocatorIn (gets xs 2597 0 18)
+  allocator-off h = one allocatorIn 2597 18 h
 
-  requests-off : Off 2133 2293 → table ys 2133 32 5 requestIn ≡ table xs 2133 32 5 requestIn
-  requests-off h = many requestIn 2133 32 5 h
+  paced-off : Off 2615 2647 → table ys 2615 16 2 number ≡ table xs 2615 16 2 number
+  paced-off h = many number 2615 16 2 h
 
-  control-off : Off 2293 2302 → controlIn (gets ys 2293 0 9) ≡ controlIn (gets xs 2293 0 9)
-  control-off h = one controlIn 2293 9 h
+  requests-off : Off 2647 2807 → table ys 2647 32 5 requestIn ≡ table xs 2647 32 5 requestIn
+  requests-off h = many requestIn 2647 32 5 h
 
-  wakes-off : Off 2302 2307 → wakesIn (gets ys 2302 0 5) ≡ wakesIn (gets xs 2302 0 5)
-  wakes-off h = one wakesIn 2302 5 h
+  control-off : Off 2807 2816 → controlIn (gets ys 2807 0 9) ≡ controlIn (gets xs 2807 0 9)
+  control-off h = one controlIn 2807 9 h
+
+  wakes-off : Off 2816 2821 → wakesIn (gets ys 2816 0 5) ≡ wakesIn (gets xs 2816 0 5)
+  wakes-off h = one wakesIn 2816 5 h
 
   -- what is stored before the suspended operation leaves it
-  pub saved-off : o + length bs ≤ 2307 → saved ys ≡ saved xs
+  pub saved-off : o + length bs ≤ 2821 → saved ys ≡ saved xs
   unfolding saved
-  saved-off h = one savedIn 2307 22 (inr h)
+  saved-off h = one savedIn 2821 22 (inr h)
 
 -- a record on its own, read back
 back : {A : Type 0} (f : List ℕ → A) (xs : List ℕ) (o : ℕ) (bs : List ℕ) (r : A) → o + length bs ≤ length xs → f bs ≡ r → f (gets (puts xs o 0 bs) o 0 (length bs)) ≡ r
 back f xs o bs r h p = ap f (gets-puts xs o bs h) ∙ p
 
-module _ (xs : List ℕ) (sized : length xs ≡ 2329) where
+module _ (xs : List ℕ) (sized : length xs ≡ 2843) where
   pub view-eps : (k : ℕ) (r : EpState) → k < 32 → view (puts xs (0 + k * 32) 0 (bytes epWidths (epAs r))) ≡ withEps (view xs) (set (view xs .eps) k r)
   unfolding view
   view-eps k r l =
@@ -80,6 +83,7 @@ module _ (xs : List ℕ) (sized : length xs ≡ 2329) where
       λ i. record {
         eps = table-set epIn 0 32 32 xs k bs r l (omega arith) refl (ap epOf (numbers-bytes epWidths (epAs r) tt)) i;
         lens = lens-off xs o bs (inr (omega arith)) i;
+        stamps = stamps-off xs o bs (inr (omega arith)) i;
         globals = globals-off xs o bs (inr (omega arith)) i;
         allocator = allocator-off xs o bs (inr (omega arith)) i;
         paced = paced-off xs o bs (inr (omega arith)) i;
@@ -96,6 +100,7 @@ module _ (xs : List ℕ) (sized : length xs ≡ 2329) where
       λ i. record {
         eps = eps-off xs o bs (inl (omega arith)) i;
         lens = table-set number 1024 512 2 xs k bs v l (omega arith) refl (number-digits 1 v) i;
+        stamps = stamps-off xs o bs (inr (omega arith)) i;
         globals = globals-off xs o bs (inr (omega arith)) i;
         allocator = allocator-off xs o bs (inr (omega arith)) i;
         paced = paced-off xs o bs (inr (omega arith)) i;
@@ -104,14 +109,32 @@ module _ (xs : List ℕ) (sized : length xs ≡ 2329) where
         wakes = wakes-off xs o bs (inr (omega arith)) i;
       }
 
-  pub view-globals : (r : Globals) → view (puts xs 2048 0 (bytes globalsWidths (globalsAs r))) ≡ withGlobals (view xs) r
+  pub view-stamps : (k v : ℕ) → k < 256 → view (puts xs (2048 + k * 2) 0 (digits 2 v)) ≡ withStamps (view xs) (set (view xs .stamps) k v)
+  unfolding view
+  view-stamps k v l =
+      let o = 2048 + k * 2 in
+      let bs = digits 2 v in
+      λ i. record {
+        eps = eps-off xs o bs (inl (omega arith)) i;
+        lens = lens-off xs o bs (inl (omega arith)) i;
+        stamps = table-set number 2048 256 2 xs k bs v l (omega arith) refl (number-digits 1 v) i;
+        globals = globals-off xs o bs (inr (omega arith)) i;
+        allocator = allocator-off xs o bs (inr (omega arith)) i;
+        paced = paced-off xs o bs (inr (omega arith)) i;
+        requests = requests-off xs o bs (inr (omega arith)) i;
+        control = control-off xs o bs (inr (omega arith)) i;
+        wakes = wakes-off xs o bs (inr (omega arith)) i;
+      }
+
+  pub view-globals : (r : Globals) → view (puts xs 2560 0 (bytes globalsWidths (globalsAs r))) ≡ withGlobals (view xs) r
   unfolding view
   view-globals r =
-      let o : ℕ = 2048 in
+      let o : ℕ = 2560 in
       let bs = bytes globalsWidths (globalsAs r) in
       λ i. record {
         eps = eps-off xs o bs (inl (omega arith)) i;
         lens = lens-off xs o bs (inl (omega arith)) i;
+        stamps = stamps-off xs o bs (inl (omega arith)) i;
         globals = back globalsIn xs o bs r (omega arith) (ap globalsOf (numbers-bytes globalsWidths (globalsAs r) tt)) i;
         allocator = allocator-off xs o bs (inr (omega arith)) i;
         paced = paced-off xs o bs (inr (omega arith)) i;
@@ -120,14 +143,15 @@ module _ (xs : List ℕ) (sized : length xs ≡ 2329) where
         wakes = wakes-off xs o bs (inr (omega arith)) i;
       }
 
-  pub view-allocator : (r : Allocator) → view (puts xs 2083 0 (bytes allocatorWidths (allocatorAs r))) ≡ withAllocator (view xs) r
+  pub view-allocator : (r : Allocator) → view (puts xs 2597 0 (bytes allocatorWidths (allocatorAs r))) ≡ withAllocator (view xs) r
   unfolding view
   view-allocator r =
-      let o : ℕ = 2083 in
+      let o : ℕ = 2597 in
       let bs = bytes allocatorWidths (allocatorAs r) in
       λ i. record {
         eps = eps-off xs o bs (inl (omega arith)) i;
         lens = lens-off xs o bs (inl (omega arith)) i;
+        stamps = stamps-off xs o bs (inl (omega arith)) i;
         globals = globals-off xs o bs (inl (omega arith)) i;
         allocator = back allocatorIn xs o bs r (omega arith) (ap allocatorOf (numbers-bytes allocatorWidths (allocatorAs r) tt)) i;
         paced = paced-off xs o bs (inr (omega arith)) i;
@@ -136,46 +160,49 @@ module _ (xs : List ℕ) (sized : length xs ≡ 2329) where
         wakes = wakes-off xs o bs (inr (omega arith)) i;
       }
 
-  pub view-paceds : (k v : ℕ) → k < 16 → view (puts xs (2101 + k * 2) 0 (digits 2 v)) ≡ withPaced (view xs) (set (view xs .paced) k v)
+  pub view-paceds : (k v : ℕ) → k < 16 → view (puts xs (2615 + k * 2) 0 (digits 2 v)) ≡ withPaced (view xs) (set (view xs .paced) k v)
   unfolding view
   view-paceds k v l =
-      let o = 2101 + k * 2 in
+      let o = 2615 + k * 2 in
       let bs = digits 2 v in
       λ i. record {
         eps = eps-off xs o bs (inl (omega arith)) i;
         lens = lens-off xs o bs (inl (omega arith)) i;
+        stamps = stamps-off xs o bs (inl (omega arith)) i;
         globals = globals-off xs o bs (inl (omega arith)) i;
         allocator = allocator-off xs o bs (inl (omega arith)) i;
-        paced = table-set number 2101 16 2 xs k bs v l (omega arith) refl (number-digits 1 v) i;
+        paced = table-set number 2615 16 2 xs k bs v l (omega arith) refl (number-digits 1 v) i;
         requests = requests-off xs o bs (inr (omega arith)) i;
         control = control-off xs o bs (inr (omega arith)) i;
         wakes = wakes-off xs o bs (inr (omega arith)) i;
       }
 
-  pub view-requests : (k : ℕ) (r : Request) → k < 32 → view (puts xs (2133 + k * 5) 0 (bytes requestWidths (requestAs r))) ≡ withRequests (view xs) (set (view xs .requests) k r)
+  pub view-requests : (k : ℕ) (r : Request) → k < 32 → view (puts xs (2647 + k * 5) 0 (bytes requestWidths (requestAs r))) ≡ withRequests (view xs) (set (view xs .requests) k r)
   unfolding view
   view-requests k r l =
-      let o = 2133 + k * 5 in
+      let o = 2647 + k * 5 in
       let bs = bytes requestWidths (requestAs r) in
       λ i. record {
         eps = eps-off xs o bs (inl (omega arith)) i;
         lens = lens-off xs o bs (inl (omega arith)) i;
+        stamps = stamps-off xs o bs (inl (omega arith)) i;
         globals = globals-off xs o bs (inl (omega arith)) i;
         allocator = allocator-off xs o bs (inl (omega arith)) i;
         paced = paced-off xs o bs (inl (omega arith)) i;
-        requests = table-set requestIn 2133 32 5 xs k bs r l (omega arith) refl (ap requestOf (numbers-bytes requestWidths (requestAs r) tt)) i;
+        requests = table-set requestIn 2647 32 5 xs k bs r l (omega arith) refl (ap requestOf (numbers-bytes requestWidths (requestAs r) tt)) i;
         control = control-off xs o bs (inr (omega arith)) i;
         wakes = wakes-off xs o bs (inr (omega arith)) i;
       }
 
-  pub view-control : (r : Control) → view (puts xs 2293 0 (bytes controlWidths (controlAs r))) ≡ withControl (view xs) r
+  pub view-control : (r : Control) → view (puts xs 2807 0 (bytes controlWidths (controlAs r))) ≡ withControl (view xs) r
   unfolding view
   view-control r =
-      let o : ℕ = 2293 in
+      let o : ℕ = 2807 in
       let bs = bytes controlWidths (controlAs r) in
       λ i. record {
         eps = eps-off xs o bs (inl (omega arith)) i;
         lens = lens-off xs o bs (inl (omega arith)) i;
+        stamps = stamps-off xs o bs (inl (omega arith)) i;
         globals = globals-off xs o bs (inl (omega arith)) i;
         allocator = allocator-off xs o bs (inl (omega arith)) i;
         paced = paced-off xs o bs (inl (omega arith)) i;
@@ -184,14 +211,15 @@ module _ (xs : List ℕ) (sized : length xs ≡ 2329) where
         wakes = wakes-off xs o bs (inr (omega arith)) i;
       }
 
-  pub view-wakes : (r : Wakes) → view (puts xs 2302 0 (bytes wakesWidths (wakesAs r))) ≡ withWakes (view xs) r
+  pub view-wakes : (r : Wakes) → view (puts xs 2816 0 (bytes wakesWidths (wakesAs r))) ≡ withWakes (view xs) r
   unfolding view
   view-wakes r =
-      let o : ℕ = 2302 in
+      let o : ℕ = 2816 in
       let bs = bytes wakesWidths (wakesAs r) in
       λ i. record {
         eps = eps-off xs o bs (inl (omega arith)) i;
         lens = lens-off xs o bs (inl (omega arith)) i;
+        stamps = stamps-off xs o bs (inl (omega arith)) i;
         globals = globals-off xs o bs (inl (omega arith)) i;
         allocator = allocator-off xs o bs (inl (omega arith)) i;
         paced = paced-off xs o bs (inl (omega arith)) i;
@@ -200,14 +228,15 @@ module _ (xs : List ℕ) (sized : length xs ≡ 2329) where
         wakes = back wakesIn xs o bs r (omega arith) (ap wakesOf (numbers-bytes wakesWidths (wakesAs r) tt)) i;
       }
 
-  pub view-saved : (r : Saved) → view (puts xs 2307 0 (bytes savedWidths (savedAs r))) ≡ view xs
+  pub view-saved : (r : Saved) → view (puts xs 2821 0 (bytes savedWidths (savedAs r))) ≡ view xs
   unfolding view
   view-saved r =
-      let o : ℕ = 2307 in
+      let o : ℕ = 2821 in
       let bs = bytes savedWidths (savedAs r) in
       λ i. record {
         eps = eps-off xs o bs (inl (omega arith)) i;
         lens = lens-off xs o bs (inl (omega arith)) i;
+        stamps = stamps-off xs o bs (inl (omega arith)) i;
         globals = globals-off xs o bs (inl (omega arith)) i;
         allocator = allocator-off xs o bs (inl (omega arith)) i;
         paced = paced-off xs o bs (inl (omega arith)) i;
@@ -216,9 +245,9 @@ module _ (xs : List ℕ) (sized : length xs ≡ 2329) where
         wakes = wakes-off xs o bs (inl (omega arith)) i;
       }
 
-  pub saved-saved : (r : Saved) → saved (puts xs 2307 0 (bytes savedWidths (savedAs r))) ≡ r
+  pub saved-saved : (r : Saved) → saved (puts xs 2821 0 (bytes savedWidths (savedAs r))) ≡ r
   unfolding saved
-  saved-saved r = back savedIn xs 2307 (bytes savedWidths (savedAs r)) r (omega arith) (ap savedOf (numbers-bytes savedWidths (savedAs r) tt))
+  saved-saved r = back savedIn xs 2821 (bytes savedWidths (savedAs r)) r (omega arith) (ap savedOf (numbers-bytes savedWidths (savedAs r) tt))
 
   -- a record of a table, at the place of an endpoint
   pub view-ep : (dir : Dir) (e k : ℕ) (r : EpState) → k ≡ key dir e → k < 32 → view (puts xs (0 + k * 32) 0 (bytes epWidths (epAs r))) ≡ withOn (view xs) dir e r
@@ -229,11 +258,15 @@ module _ (xs : List ℕ) (sized : length xs ≡ 2329) where
   unfolding withLenOn
   view-len dir e i k v p l = view-lens k v l ∙ ap (λ (j : ℕ). withLens (view xs) (set (view xs .lens) j v)) p
 
-  pub view-paced : (e v : ℕ) → view (puts xs (2101 + e % 16 * 2) 0 (digits 2 v)) ≡ withPacedOn (view xs) e v
+  pub view-stamp : (e i k v : ℕ) → k ≡ stampKey e i → k < 256 → view (puts xs (2048 + k * 2) 0 (digits 2 v)) ≡ withStampOn (view xs) e i v
+  unfolding withStampOn
+  view-stamp e i k v p l = view-stamps k v l ∙ ap (λ (j : ℕ). withStamps (view xs) (set (view xs .stamps) j v)) p
+
+  pub view-paced : (e v : ℕ) → view (puts xs (2615 + e % 16 * 2) 0 (digits 2 v)) ≡ withPacedOn (view xs) e v
   unfolding withPacedOn
   view-paced e v = view-paceds (e % 16) v (omega arith)
 
-  pub view-request : (dir : Dir) (e k : ℕ) (r : Request) → k ≡ key dir e → k < 32 → view (puts xs (2133 + k * 5) 0 (bytes requestWidths (requestAs r))) ≡ withRequestOn (view xs) dir e r
+  pub view-request : (dir : Dir) (e k : ℕ) (r : Request) → k ≡ key dir e → k < 32 → view (puts xs (2647 + k * 5) 0 (bytes requestWidths (requestAs r))) ≡ withRequestOn (view xs) dir e r
   unfolding withRequestOn
   view-request dir e k r p l = view-requests k r l ∙ ap (λ (j : ℕ). withRequests (view xs) (set (view xs .requests) j r)) p
 
@@ -247,10 +280,14 @@ module _ (xs : List ℕ) where
   unfolding view lenOn
   len-at dir e i k p l = table-at number 1024 512 2 xs k 0 l ∙ ap (λ (j : ℕ). getD (view xs .lens) j 0) p
 
-  pub paced-at : (e : ℕ) → number (gets xs (2101 + e % 16 * 2) 0 2) ≡ pacedOn (view xs) e
-  unfolding view pacedOn
-  paced-at e = table-at number 2101 16 2 xs (e % 16) 0 (omega arith)
+  pub stamp-at : (e i k : ℕ) → k ≡ stampKey e i → k < 256 → number (gets xs (2048 + k * 2) 0 2) ≡ stampOn (view xs) e i
+  unfolding view stampOn
+  stamp-at e i k p l = table-at number 2048 256 2 xs k 0 l ∙ ap (λ (j : ℕ). getD (view xs .stamps) j 0) p
 
-  pub request-at : (dir : Dir) (e k : ℕ) (r : Request) → k ≡ key dir e → k < 32 → Each (requestAs r) (numbers requestWidths (gets xs (2133 + k * 5) 0 5)) → r ≡ requestOn (view xs) dir e
+  pub paced-at : (e : ℕ) → number (gets xs (2615 + e % 16 * 2) 0 2) ≡ pacedOn (view xs) e
+  unfolding view pacedOn
+  paced-at e = table-at number 2615 16 2 xs (e % 16) 0 (omega arith)
+
+  pub request-at : (dir : Dir) (e k : ℕ) (r : Request) → k ≡ key dir e → k < 32 → Each (requestAs r) (numbers requestWidths (gets xs (2647 + k * 5) 0 5)) → r ≡ requestOn (view xs) dir e
   unfolding view requestOn
-  request-at dir e k r p l h = ap requestOf (each-eq (requestAs r) (numbers requestWidths (gets xs (2133 + k * 5) 0 5)) h) ∙ table-at requestIn 2133 32 5 xs k noRequest l ∙ ap (λ (j : ℕ). getD (view xs .requests) j noRequest) p
+  request-at dir e k r p l h = ap requestOf (each-eq (requestAs r) (numbers requestWidths (gets xs (2647 + k * 5) 0 5)) h) ∙ table-at requestIn 2647 32 5 xs k noRequest l ∙ ap (λ (j : ℕ). getD (view xs .requests) j noRequest) p

@@ -65,11 +65,11 @@ allocatorOf ns = record {
 }
 
 abbrev pub globalsWidths : List ℕ
-globalsWidths = 1 ∷ 1 ∷ 1 ∷ 1 ∷ 1 ∷ 2 ∷ 2 ∷ 2 ∷ 2 ∷ 2 ∷ 4 ∷ 4 ∷ 4 ∷ 4 ∷ 4 ∷ []
+globalsWidths = 1 ∷ 1 ∷ 1 ∷ 1 ∷ 1 ∷ 2 ∷ 2 ∷ 2 ∷ 2 ∷ 2 ∷ 2 ∷ 4 ∷ 4 ∷ 4 ∷ 4 ∷ 4 ∷ []
 
 abbrev pub globalsAs : Globals → List ℕ
 globalsAs r = r .stage ∷ r .callback ∷ r .power ∷ r .«setup_ready» ∷ r .«int_en» ∷ r .«iso_out_eps» ∷ r .«iso_in_every» ∷ r
-    .«iso_in_paced» ∷ r .«sof_frame» ∷ r .«ep0_max» ∷ r .«setup_low» ∷ r .«setup_high» ∷ r .«ep_config» ∷ r .«ep_type» ∷ r .«ep0_buf» ∷ []
+    .«iso_in_paced» ∷ r .«sof_frame» ∷ r .«ep0_max» ∷ r .entered ∷ r .«setup_low» ∷ r .«setup_high» ∷ r .«ep_config» ∷ r .«ep_type» ∷ r .«ep0_buf» ∷ []
 
 abbrev pub globalsOf : List ℕ → Globals
 globalsOf ns = record {
@@ -84,12 +84,13 @@ globalsOf ns = record {
   «iso_in_paced» = getD ns 7 0;
   «sof_frame» = getD ns 8 0;
   «ep0_max» = getD ns 9 0;
+  entered = getD ns 10 0;
   «setup_low»
-      = getD ns 10 0;
-  «setup_high» = getD ns 11 0;
-  «ep_config» = getD ns 12 0;
-  «ep_type» = getD ns 13 0;
-  «ep0_buf» = getD ns 14 0;
+      = getD ns 11 0;
+  «setup_high» = getD ns 12 0;
+  «ep_config» = getD ns 13 0;
+  «ep_type» = getD ns 14 0;
+  «ep0_buf» = getD ns 15 0;
 }
 
 abbrev pub wakesWidths : List ℕ

@@ -11,10 +11,12 @@ use Rattle.state.specs.declared.Wakes.{Wakes}
 use Rattle.state.specs.declared.Request.{Request}
 use Rattle.state.specs.declared.Control.{Control}
 
--- `eps` and `requests`: OUT 0 to 15, then IN 0 to 15; `lens`: 16 for each of `eps`; `paced`: a last microframe for each endpoint
+-- `eps` and `requests`: OUT 0 to 15, then IN 0 to 15; `lens`: 16 for each of `eps`; `stamps`: 16 for each OUT endpoint, the microframe with
+-- each packet; `paced`: a last microframe for each endpoint
 pub record Driver : Type 0 where
   pub eps : List EpState
   pub lens : List ℕ
+  pub stamps : List ℕ
   pub globals : Globals
   pub allocator : Allocator
   pub paced : List ℕ
@@ -30,6 +32,10 @@ key In e = 16 + e % 16
 -- the place of slot i's length among 512
 unfoldable pub lenKey : Dir → ℕ → ℕ → ℕ
 lenKey dir e i = key dir e * 16 + i % 16
+
+-- the place of the stamp of OUT e's slot i among 256
+unfoldable pub stampKey : ℕ → ℕ → ℕ
+stampKey e i = e % 16 * 16 + i % 16
 
 -- what a list answers past its end
 abbrev pub noEp : EpState
@@ -61,6 +67,7 @@ abbrev pub withEps : Driver → List EpState → Driver
 withEps d x = record {
   eps = x;
   lens = d .lens;
+  stamps = d .stamps;
   globals = d .globals;
   allocator = d .allocator;
   paced = d .paced;
@@ -73,6 +80,20 @@ abbrev pub withLens : Driver → List ℕ → Driver
 withLens d x = record {
   eps = d .eps;
   lens = x;
+  stamps = d .stamps;
+  globals = d .globals;
+  allocator = d .allocator;
+  paced = d .paced;
+  requests = d .requests;
+  control = d .control;
+  wakes = d .wakes;
+}
+
+abbrev pub withStamps : Driver → List ℕ → Driver
+withStamps d x = record {
+  eps = d .eps;
+  lens = d .lens;
+  stamps = x;
   globals = d .globals;
   allocator = d .allocator;
   paced = d .paced;
@@ -85,6 +106,7 @@ abbrev pub withGlobals : Driver → Globals → Driver
 withGlobals d x = record {
   eps = d .eps;
   lens = d .lens;
+  stamps = d .stamps;
   globals = x;
   allocator = d .allocator;
   paced = d .paced;
@@ -97,6 +119,7 @@ abbrev pub withAllocator : Driver → Allocator → Driver
 withAllocator d x = record {
   eps = d .eps;
   lens = d .lens;
+  stamps = d .stamps;
   globals = d .globals;
   allocator = x;
   paced = d .paced;
@@ -109,6 +132,7 @@ abbrev pub withPaced : Driver → List ℕ → Driver
 withPaced d x = record {
   eps = d .eps;
   lens = d .lens;
+  stamps = d .stamps;
   globals = d .globals;
   allocator = d .allocator;
   paced = x;
@@ -121,6 +145,7 @@ abbrev pub withRequests : Driver → List Request → Driver
 withRequests d x = record {
   eps = d .eps;
   lens = d .lens;
+  stamps = d .stamps;
   globals = d .globals;
   allocator = d .allocator;
   paced = d .paced;
@@ -133,6 +158,7 @@ abbrev pub withControl : Driver → Control → Driver
 withControl d x = record {
   eps = d .eps;
   lens = d .lens;
+  stamps = d .stamps;
   globals = d .globals;
   allocator = d .allocator;
   paced = d .paced;
@@ -145,6 +171,7 @@ abbrev pub withWakes : Driver → Wakes → Driver
 withWakes d x = record {
   eps = d .eps;
   lens = d .lens;
+  stamps = d .stamps;
   globals = d .globals;
   allocator = d .allocator;
   paced = d .paced;
@@ -166,6 +193,13 @@ lenOn d dir e i = getD (d .lens) (lenKey dir e i) 0
 
 unfoldable pub withLenOn : Driver → Dir → ℕ → ℕ → ℕ → Driver
 withLenOn d dir e i v = withLens d (set (d .lens) (lenKey dir e i) v)
+
+-- the stamp of slot i of OUT e, any numbers
+unfoldable pub stampOn : Driver → ℕ → ℕ → ℕ
+stampOn d e i = getD (d .stamps) (stampKey e i) 0
+
+unfoldable pub withStampOn : Driver → ℕ → ℕ → ℕ → Driver
+withStampOn d e i v = withStamps d (set (d .stamps) (stampKey e i) v)
 
 unfoldable pub pacedOn : Driver → ℕ → ℕ
 pacedOn d e = getD (d .paced) (e % 16) 0

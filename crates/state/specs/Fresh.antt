@@ -1,4 +1,4 @@
--- The state that start-up makes, and the lengths of an OUT ring made one
+-- The state that start-up makes, the lengths of an OUT ring made one, its stamps made 0
 use mathlib.Core.List.{List}
 use Prim.Native.Nat.{ℕ, zero, suc, _+_, _*_, _%_}
 use lib.ListN.{set, replicate}
@@ -8,7 +8,7 @@ use Rattle.state.specs.declared.Control.{Control}
 use Rattle.state.specs.declared.Saved.{Saved}
 use Rattle.state.specs.Ep.{newEp}
 use Rattle.state.specs.Wakes.{none-woken}
-use Rattle.state.specs.Driver.{Driver, noRequest, withLens}
+use Rattle.state.specs.Driver.{Driver, noRequest, withLens, withStamps}
 
 -- v at each of the n places from a
 unfoldable pub filled : {A : Type 0} → List A → ℕ → ℕ → A → List A
@@ -18,6 +18,14 @@ filled l a (suc n) v = set (filled l a n v) (a + n) v
 -- all 16 lengths of OUT e
 unfoldable pub fillLens : Driver → ℕ → ℕ → Driver
 fillLens d e v = withLens d (filled (d .lens) (e % 16 * 16) 16 v)
+
+-- all 16 stamps of OUT e
+unfoldable pub clearStamps : Driver → ℕ → Driver
+clearStamps d e = withStamps d (filled (d .stamps) (e % 16 * 16) 16 0)
+
+-- all stamps
+unfoldable pub noStamps : Driver → Driver
+noStamps d = withStamps d (replicate 256 0)
 
 abbrev pub noControl : Control
 noControl = record { sort = 0; length = 0; last = 0; wait = 0; «sets_address» = 0; address = 0 }
@@ -60,6 +68,7 @@ freshGlobals callback = record {
   «sof_frame» = 0x1800;
   «ep0_buf» = 0;
   «ep0_max» = 0;
+  entered = 0;
 }
 
 abbrev pub freshAllocator : ℕ → ℕ → Allocator
@@ -80,6 +89,7 @@ unfoldable pub freshDriver : ℕ → ℕ → ℕ → Driver
 freshDriver size count callback = record {
   eps = replicate 32 newEp;
   lens = replicate 512 0;
+  stamps = replicate 256 0;
   globals = freshGlobals callback;
   allocator = freshAllocator size count;
   paced = replicate 16 0x1800;

@@ -19,6 +19,7 @@ withEpConfig v g = record {
   «sof_frame» = g .«sof_frame»;
   «ep0_buf» = g .«ep0_buf»;
   «ep0_max» = g .«ep0_max»;
+  entered = g .entered;
 }
 
 abbrev pub withEpType : ℕ → Globals → Globals
@@ -38,6 +39,7 @@ withEpType v g = record {
   «sof_frame» = g .«sof_frame»;
   «ep0_buf» = g .«ep0_buf»;
   «ep0_max» = g .«ep0_max»;
+  entered = g .entered;
 }
 
 abbrev pub withIntEn : ℕ → Globals → Globals
@@ -57,4 +59,5 @@ withIntEn v g = record {
   «sof_frame» = g .«sof_frame»;
   «ep0_buf» = g .«ep0_buf»;
   «ep0_max» = g .«ep0_max»;
+  entered = g .entered;
 }

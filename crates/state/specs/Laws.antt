@@ -12,13 +12,14 @@ use Rattle.regs.specs.declared.Dir.{Dir}
 use Rattle.regs.specs.declared.Dir.the-variants.{Out, In}
 use Rattle.state.specs.declared.EpState.{EpState}
 use Rattle.state.specs.declared.Request.{Request}
-use Rattle.state.specs.Driver.{Driver, key, lenKey, noEp, noRequest, withEps, withLens, withPaced, withRequests, epOn, withOn, lenOn, withLenOn, pacedOn, withPacedOn, requestOn, withRequestOn}
+use Rattle.state.specs.Driver.{Driver, key, lenKey, stampKey, noEp, noRequest, withEps, withLens, withStamps, withPaced, withRequests, epOn, withOn, lenOn, withLenOn, stampOn, withStampOn, pacedOn, withPacedOn, requestOn, withRequestOn}
 use Rattle.state.specs.State.{view, saved, epIn, requestIn}
 
 -- every endpoint has its place
 pub record Sized (d : Driver) : Type 0 where
   pub eps : length (d .eps) ≡ 32
   pub lens : length (d .lens) ≡ 512
+  pub stamps : length (d .stamps) ≡ 256
   pub paced : length (d .paced) ≡ 16
   pub requests : length (d .requests) ≡ 32
 
@@ -27,8 +28,9 @@ unfolding view
 view-sized xs = record {
   eps = length-tab (λ k. epIn (gets xs (0 + k * 32) 0 32)) 32;
   lens = length-tab (λ k. number (gets xs (1024 + k * 2) 0 2)) 512;
-  paced = length-tab (λ k. number (gets xs (2101 + k * 2) 0 2)) 16;
-  requests = length-tab (λ k. requestIn (gets xs (2133 + k * 5) 0 5)) 32;
+  stamps = length-tab (λ k. number (gets xs (2048 + k * 2) 0 2)) 256;
+  paced = length-tab (λ k. number (gets xs (2615 + k * 2) 0 2)) 16;
+  requests = length-tab (λ k. requestIn (gets xs (2647 + k * 5) 0 5)) 32;
 }
 
 pub key-lt : (dir : Dir) (e : ℕ) → key dir e < 32
@@ -49,6 +51,15 @@ key-same In e f h = omega arith
 pub lenKey-lt : (dir : Dir) (e i : ℕ) → lenKey dir e i < 512
 unfolding lenKey
 lenKey-lt dir e i = omega (arith, key-lt dir e)
+
+pub stampKey-lt : (e i : ℕ) → stampKey e i < 256
+unfolding stampKey
+stampKey-lt e i = omega arith
+
+-- two slots of one OUT endpoint, or of two
+pub stampKey-same : (e i f j : ℕ) → stampKey e i ≡ stampKey f j → (e % 16 ≡ f % 16) × (i % 16 ≡ j % 16)
+unfolding stampKey
+stampKey-same e i f j h = (omega arith, omega arith)
 
 module _ (d : Driver) (dir : Dir) (e : ℕ) where
   pub epOn-same : (r : EpState) → Sized d → epOn (withOn d dir e r) dir e ≡ r
@@ -101,6 +112,22 @@ module _ (d : Driver) (dir : Dir) (e : ℕ) where
   withRequestOn-back = ap (withRequests d) (set-getD (d .requests) (key dir e) noRequest)
 
 module _ (d : Driver) (e : ℕ) where
+  pub stampOn-same : (i v : ℕ) → Sized d → stampOn (withStampOn d e i v) e i ≡ v
+  unfolding stampOn withStampOn
+  stampOn-same i v s = getD-set-same (d .stamps) (stampKey e i) v 0 (omega (arith, s .stamps, stampKey-lt e i))
+
+  pub stampOn-other : (i v e′ i′ : ℕ) → stampKey e′ i′ ≢ stampKey e i → stampOn (withStampOn d e i v) e′ i′ ≡ stampOn d e′ i′
+  unfolding stampOn withStampOn
+  stampOn-other i v e′ i′ h = getD-set-other (d .stamps) (stampKey e i) (stampKey e′ i′) v 0 h
+
+  pub withStampOn-only : (i v : ℕ) → withStampOn d e i v ≡ withStamps d (withStampOn d e i v .stamps)
+  unfolding withStampOn
+  withStampOn-only i v = refl
+
+  pub withStampOn-back : (i : ℕ) → withStampOn d e i (stampOn d e i) ≡ d
+  unfolding withStampOn stampOn
+  withStampOn-back i = ap (withStamps d) (set-getD (d .stamps) (stampKey e i) 0)
+
   pub pacedOn-same : (v : ℕ) → Sized d → pacedOn (withPacedOn d e v) e ≡ v
   unfolding pacedOn withPacedOn
   pacedOn-same v s = getD-set-same (d .paced) (e % 16) v 0 (omega (arith, s .paced))
@@ -120,4 +147,4 @@ module _ (d : Driver) (e : ℕ) where
 -- all bytes 0: before the first start-up, and nothing is under way
 pub before-start : (xs : List ℕ) → ((i : ℕ) → getD xs i 0 ≡ 0) → (view xs .globals .stage ≡ 0) × (saved xs .tag ≡ 0)
 unfolding view saved
-before-start xs h = (omega (arith, h 2048), omega (arith, h 2307))
+before-start xs h = (omega (arith, h 2560), omega (arith, h 2821))

@@ -38,14 +38,15 @@ unfoldable pub view : List ℕ → Driver
 view xs = record {
   eps = table xs 0 32 32 epIn;
   lens = table xs 1024 512 2 number;
-  globals = globalsIn (gets xs 2048 0 35);
-  allocator = allocatorIn (gets xs 2083 0 18);
-  paced = table xs 2101 16 2 number;
-  requests = table xs 2133 32 5 requestIn;
-  control = controlIn (gets xs 2293 0 9);
-  wakes = wakesIn (gets xs 2302 0 5);
+  stamps = table xs 2048 256 2 number;
+  globals = globalsIn (gets xs 2560 0 37);
+  allocator = allocatorIn (gets xs 2597 0 18);
+  paced = table xs 2615 16 2 number;
+  requests = table xs 2647 32 5 requestIn;
+  control = controlIn (gets xs 2807 0 9);
+  wakes = wakesIn (gets xs 2816 0 5);
 }
 
 -- the suspended operation
 unfoldable pub saved : List ℕ → Saved
-saved xs = savedIn (gets xs 2307 0 22)
+saved xs = savedIn (gets xs 2821 0 22)

@@ -23,7 +23,7 @@ ghost use Rattle.fields.specs.Bytes.{gets, puts, numbers, bytes, Each};
 ghost use Rattle.state.specs.Codec.{epWidths, epAs, allocatorWidths, allocatorAs, globalsWidths, globalsAs, wakesWidths, wakesAs, requestWidths, requestAs, controlWidths, controlAs, savedWidths, savedAs};
 
 pub fn read_ep(s: &[u8; STATE_LEN], o: usize) -> EpState
-    requires { ⌜ o + 32 ≤ 2329 ⌝ }
+    requires { ⌜ o + 32 ≤ 2843 ⌝ }
     ensures { λ r. ⌜ Each (epAs r) (numbers epWidths (gets (now (s .entry)) o 0 32)) ⌝ }
 {
     let a = get8x5(s, o, 0);
@@ -52,7 +52,7 @@ pub fn read_ep(s: &[u8; STATE_LEN], o: usize) -> EpState
 }
 
 pub fn write_ep(s: &mut [u8; STATE_LEN], o: usize, r: EpState)
-    requires { ⌜ o + 32 ≤ 2329 ⌝ }
+    requires { ⌜ o + 32 ≤ 2843 ⌝ }
     ensures { λ _. ⌜ now (s .exit) ≡ puts (now (s .entry)) o 0 (bytes epWidths (epAs r)) ⌝ }
 {
     put8x5(s, o, 0, r.ready, r.armed, r.iso, r.kind, r.slots);
@@ -73,7 +73,7 @@ pub fn write_ep(s: &mut [u8; STATE_LEN], o: usize, r: EpState)
 }
 
 pub fn read_allocator(s: &[u8; STATE_LEN], o: usize) -> Allocator
-    requires { ⌜ o + 18 ≤ 2329 ⌝ }
+    requires { ⌜ o + 18 ≤ 2843 ⌝ }
     ensures { λ r. ⌜ Each (allocatorAs r) (numbers allocatorWidths (gets (now (s .entry)) o 0 18)) ⌝ }
 {
     let a = get16x5(s, o, 0);
@@ -91,7 +91,7 @@ pub fn read_allocator(s: &[u8; STATE_LEN], o: usize) -> Allocator
 }
 
 pub fn write_allocator(s: &mut [u8; STATE_LEN], o: usize, r: Allocator)
-    requires { ⌜ o + 18 ≤ 2329 ⌝ }
+    requires { ⌜ o + 18 ≤ 2843 ⌝ }
     ensures { λ _. ⌜ now (s .exit) ≡ puts (now (s .entry)) o 0 (bytes allocatorWidths (allocatorAs r)) ⌝ }
 {
     put16x5(s, o, 0, r.size, r.count, r.next, r.taken_out, r.taken_in);
@@ -102,8 +102,8 @@ pub fn write_allocator(s: &mut [u8; STATE_LEN], o: usize, r: Allocator)
 }
 
 pub fn read_globals(s: &[u8; STATE_LEN], o: usize) -> Globals
-    requires { ⌜ o + 35 ≤ 2329 ⌝ }
-    ensures { λ r. ⌜ Each (globalsAs r) (numbers globalsWidths (gets (now (s .entry)) o 0 35)) ⌝ }
+    requires { ⌜ o + 37 ≤ 2843 ⌝ }
+    ensures { λ r. ⌜ Each (globalsAs r) (numbers globalsWidths (gets (now (s .entry)) o 0 37)) ⌝ }
 {
     let a = get8x5(s, o, 0);
     let b = get16x5(s, o, 5);
@@ -118,16 +118,17 @@ pub fn read_globals(s: &[u8; STATE_LEN], o: usize) -> Globals
         iso_in_paced: b.2,
         sof_frame: b.3,
         ep0_max: b.4,
-        setup_low: get32(s, o, 15),
-        setup_high: get32(s, o, 19),
-        ep_config: get32(s, o, 23),
-        ep_type: get32(s, o, 27),
-        ep0_buf: get32(s, o, 31),
+        entered: get16(s, o, 15),
+        setup_low: get32(s, o, 17),
+        setup_high: get32(s, o, 21),
+        ep_config: get32(s, o, 25),
+        ep_type: get32(s, o, 29),
+        ep0_buf: get32(s, o, 33),
     }
 }
 
 pub fn write_globals(s: &mut [u8; STATE_LEN], o: usize, r: Globals)
-    requires { ⌜ o + 35 ≤ 2329 ⌝ }
+    requires { ⌜ o + 37 ≤ 2843 ⌝ }
     ensures { λ _. ⌜ now (s .exit) ≡ puts (now (s .entry)) o 0 (bytes globalsWidths (globalsAs r)) ⌝ }
 {
     put8x5(
@@ -150,15 +151,16 @@ pub fn write_globals(s: &mut [u8; STATE_LEN], o: usize, r: Globals)
         r.sof_frame,
         r.ep0_max,
     );
-    put32(s, o, 15, r.setup_low);
-    put32(s, o, 19, r.setup_high);
-    put32(s, o, 23, r.ep_config);
-    put32(s, o, 27, r.ep_type);
-    put32(s, o, 31, r.ep0_buf);
+    put16(s, o, 15, r.entered);
+    put32(s, o, 17, r.setup_low);
+    put32(s, o, 21, r.setup_high);
+    put32(s, o, 25, r.ep_config);
+    put32(s, o, 29, r.ep_type);
+    put32(s, o, 33, r.ep0_buf);
 }
 
 pub fn read_wakes(s: &[u8; STATE_LEN], o: usize) -> Wakes
-    requires { ⌜ o + 5 ≤ 2329 ⌝ }
+    requires { ⌜ o + 5 ≤ 2843 ⌝ }
     ensures { λ r. ⌜ Each (wakesAs r) (numbers wakesWidths (gets (now (s .entry)) o 0 5)) ⌝ }
 {
     Wakes {
@@ -169,7 +171,7 @@ pub fn read_wakes(s: &[u8; STATE_LEN], o: usize) -> Wakes
 }
 
 pub fn write_wakes(s: &mut [u8; STATE_LEN], o: usize, r: Wakes)
-    requires { ⌜ o + 5 ≤ 2329 ⌝ }
+    requires { ⌜ o + 5 ≤ 2843 ⌝ }
     ensures { λ _. ⌜ now (s .exit) ≡ puts (now (s .entry)) o 0 (bytes wakesWidths (wakesAs r)) ⌝ }
 {
     put8(s, o, 0, r.bus);
@@ -178,7 +180,7 @@ pub fn write_wakes(s: &mut [u8; STATE_LEN], o: usize, r: Wakes)
 }
 
 pub fn read_request(s: &[u8; STATE_LEN], o: usize) -> Request
-    requires { ⌜ o + 5 ≤ 2329 ⌝ }
+    requires { ⌜ o + 5 ≤ 2843 ⌝ }
     ensures { λ r. ⌜ Each (requestAs r) (numbers requestWidths (gets (now (s .entry)) o 0 5)) ⌝ }
 {
     Request {
@@ -188,7 +190,7 @@ pub fn read_request(s: &[u8; STATE_LEN], o: usize) -> Request
 }
 
 pub fn write_request(s: &mut [u8; STATE_LEN], o: usize, r: Request)
-    requires { ⌜ o + 5 ≤ 2329 ⌝ }
+    requires { ⌜ o + 5 ≤ 2843 ⌝ }
     ensures { λ _. ⌜ now (s .exit) ≡ puts (now (s .entry)) o 0 (bytes requestWidths (requestAs r)) ⌝ }
 {
     put8(s, o, 0, r.begun);
@@ -196,7 +198,7 @@ pub fn write_request(s: &mut [u8; STATE_LEN], o: usize, r: Request)
 }
 
 pub fn read_control(s: &[u8; STATE_LEN], o: usize) -> Control
-    requires { ⌜ o + 9 ≤ 2329 ⌝ }
+    requires { ⌜ o + 9 ≤ 2843 ⌝ }
     ensures { λ r. ⌜ Each (controlAs r) (numbers controlWidths (gets (now (s .entry)) o 0 9)) ⌝ }
 {
     let a = get8x5(s, o, 0);
@@ -211,7 +213,7 @@ pub fn read_control(s: &[u8; STATE_LEN], o: usize) -> Control
 }
 
 pub fn write_control(s: &mut [u8; STATE_LEN], o: usize, r: Control)
-    requires { ⌜ o + 9 ≤ 2329 ⌝ }
+    requires { ⌜ o + 9 ≤ 2843 ⌝ }
     ensures { λ _. ⌜ now (s .exit) ≡ puts (now (s .entry)) o 0 (bytes controlWidths (controlAs r)) ⌝ }
 {
     put8x5(s, o, 0, r.sort, r.last, r.wait, r.sets_address, r.address);
@@ -219,7 +221,7 @@ pub fn write_control(s: &mut [u8; STATE_LEN], o: usize, r: Control)
 }
 
 pub fn read_saved(s: &[u8; STATE_LEN], o: usize) -> Saved
-    requires { ⌜ o + 22 ≤ 2329 ⌝ }
+    requires { ⌜ o + 22 ≤ 2843 ⌝ }
     ensures { λ r. ⌜ Each (savedAs r) (numbers savedWidths (gets (now (s .entry)) o 0 22)) ⌝ }
 {
     let a = get8x5(s, o, 0);
@@ -244,7 +246,7 @@ pub fn read_saved(s: &[u8; STATE_LEN], o: usize) -> Saved
 }
 
 pub fn write_saved(s: &mut [u8; STATE_LEN], o: usize, r: Saved)
-    requires { ⌜ o + 22 ≤ 2329 ⌝ }
+    requires { ⌜ o + 22 ≤ 2843 ⌝ }
     ensures { λ _. ⌜ now (s .exit) ≡ puts (now (s .entry)) o 0 (bytes savedWidths (savedAs r)) ⌝ }
 {
     put8x5(s, o, 0, r.tag, r.sub, r.site, r.flag, r.busy);

@@ -20,6 +20,7 @@ use regs::Dir;
 
 mod codec;
 mod kept;
+mod stamps;
 mod start_up;
 mod wake;
 
@@ -27,6 +28,10 @@ pub use fields::STATE_LEN;
 pub use kept::set_ep_config;
 pub use kept::set_ep_type;
 pub use kept::set_int_en;
+pub use stamps::clear_all_stamps;
+pub use stamps::clear_stamps;
+pub use stamps::load_stamp;
+pub use stamps::store_stamp;
 pub use start_up::fill_lens;
 pub use start_up::fresh;
 pub use wake::clear_wakes;
@@ -44,19 +49,21 @@ const EPS: usize = 0;
 
 const LENS: usize = 1024;
 
-const GLOBALS: usize = 2048;
+const STAMPS: usize = 2048;
 
-const ALLOCATOR: usize = 2083;
+const GLOBALS: usize = 2560;
 
-const PACED: usize = 2101;
+const ALLOCATOR: usize = 2597;
 
-const REQUESTS: usize = 2133;
+const PACED: usize = 2615;
 
-const CONTROL: usize = 2293;
+const REQUESTS: usize = 2647;
 
-const WAKES: usize = 2302;
+const CONTROL: usize = 2807;
 
-const SAVED: usize = 2307;
+const WAKES: usize = 2816;
+
+const SAVED: usize = 2821;
 
 // Per endpoint and direction, as in the Rust without the waker: flags are 0 or 1 in a byte; `lens` stands apart.
 pub struct EpState {
@@ -165,7 +172,8 @@ pub struct Allocator {
     pub allocated_in: u16,
 }
 
-// What the Rust keeps in statics beside the endpoints, and the three registers that are kept and never read.
+// What the Rust keeps in statics beside the endpoints, the three registers that are kept and never read, and the microframe index of
+// the frame reading with which the interrupt under way began.
 pub struct Globals {
     pub stage: u8,
     pub callback: u8,
@@ -182,6 +190,7 @@ pub struct Globals {
     pub sof_frame: u16,
     pub ep0_buf: u32,
     pub ep0_max: u16,
+    pub entered: u16,
 }
 
 // The wake-ups gathered by the operation under way: a bit for each endpoint and direction, and the bus.

@@ -10,6 +10,7 @@ use crate::REQUESTS;
 use crate::Request;
 use crate::STATE_LEN;
 use crate::Saved;
+use crate::clear_all_stamps;
 use crate::clear_wakes;
 use crate::codec::write_ep;
 use crate::codec::write_request;
@@ -112,6 +113,7 @@ fn fresh_globals(s: &mut [u8; STATE_LEN], callback: u8)
             sof_frame: EpState::NO_FRAME,
             ep0_buf: 0,
             ep0_max: 0,
+            entered: 0,
         },
     );
 }
@@ -183,6 +185,7 @@ pub fn fresh(s: &mut [u8; STATE_LEN], size: u16, count: u16, callback: u8)
 {
     fill_eps(s);
     fill_lengths(s, 0, 512, 0);
+    clear_all_stamps(s);
     fill_paced(s);
     fill_requests(s);
     fresh_globals(s, callback);

@@ -12,6 +12,7 @@ use Rattle.script.specs.Machine.{Buf, Call, begin, start}
 use Rattle.way.specs.Under.{machineOf, drive, answerOf, lentOr, lentBy}
 use Rattle.endpoint_calls.specs.Shown.{ShownAt}
 use Rattle.answer_word.specs.Word.{Worded}
+use Rattle.usbhs_c.specs.Stamp.{stampBy}
 
 -- a number as a direction: 0 OUT, else IN
 unfoldable pub dirOf : ℕ → Dir
@@ -55,12 +56,13 @@ AnswersShown r c before after slots slots′ =
     Worded r
     (λ step. (a : Buf) → (answerOf step slots′, machineOf after (lentOr (view before) slots slots′ a)) ≡ drive c (machineOf before a) slots)
 
--- open, with the slots, which stay: a packet that is shown is the endpoint's oldest
-abbrev pub AnswersOpen : ℕ → ℕ → List ℕ → List ℕ → Buf → Type 0
-AnswersOpen r e before after slots =
+-- open, with the slots, which stay: a packet that is shown is the endpoint's oldest; its stamp is in the caller's room, before and after the call
+abbrev pub AnswersOpen : ℕ → ℕ → List ℕ → List ℕ → Buf → ℕ → ℕ → Type 0
+AnswersOpen r e before after slots stamp stamp′ =
     Worded r
     (λ step. ((a : Buf) → (answerOf step slots, machineOf after (lentOr (view before) slots slots a)) ≡ drive (begin (aside (Open e))) (machineOf before a) slots)
     × ShownAt step (view after) e)
+    × ((a : Buf) → stamp′ ≡ stampBy (drive (begin (aside (Open e))) (machineOf before a) slots .0) stamp)
 
 -- start-up: the slots that it is brought are the run's from then on, unless it is refused
 abbrev pub AnswersStart : ℕ → Config → List ℕ → List ℕ → Buf → Type 0

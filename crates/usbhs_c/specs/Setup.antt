@@ -54,7 +54,7 @@ ByteFirst (ended (Done (x ∷ xs))) = x < 256
 ByteFirst (ended (Refused n)) = Unit {0}
 ByteFirst (ended (End n w)) = Unit {0}
 ByteFirst (ended NotYet) = Unit {0}
-ByteFirst (ended (Shown bytes)) = Unit {0}
+ByteFirst (ended (Shown bytes stamp)) = Unit {0}
 ByteFirst (handed q) = Unit {0}
 ByteFirst (told n) = Unit {0}
 
@@ -80,7 +80,7 @@ NoSlice (step.Ends n w) = Unit {0}
 NoSlice step.NotYet = Unit {0}
 NoSlice (step.Done n) = ⊥
 NoSlice (step.Setup low high) = Unit {0}
-NoSlice (step.Shown at n) = Unit {0}
+NoSlice (step.Shown at n stamp) = Unit {0}
 
 no-slice : (t : Step) → ByteFirst (answerOf t []) → NoSlice t
 no-slice (step.Refused n) h = tt
@@ -90,7 +90,7 @@ no-slice step.NotYet h = tt
 no-slice (step.Done zero) h = h
 no-slice (step.Done (suc n)) h = omega arith
 no-slice (step.Setup low high) h = tt
-no-slice (step.Shown at n) h = tt
+no-slice (step.Shown at n stamp) h = tt
 
 pub setup-no-slice : (t : Step) (u : Under) (d : Driver) (a b : Buf) → answerOf t [] ≡ drive (begin (other PollSetup)) (machineAt u d a) b .0 → NoSlice t
 setup-no-slice t u d a b e = no-slice t (subst ByteFirst (sym e) (setup-first u d a b))

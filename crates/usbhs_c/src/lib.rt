@@ -2,11 +2,13 @@
 // number is safe. Each call answers one word (crate `answer_word`), a question its number.
 pub mod inputs; // inputs.rt: directions and flags as numbers
 pub mod setup; // setup.rt: a setup packet's bytes
+pub mod stamp; // stamp.rt: the stamp of a packet that is shown
 
 use answer_word::word_of;
 use inputs::dir_of;
 use inputs::flag_of;
 use setup::setup_word;
+use stamp::stamp_by;
 use state::STATE_LEN;
 ghost use mathlib.Core.Path.{_≡_};
 ghost use Rattle.state.specs.State.{view};
@@ -292,12 +294,19 @@ pub extern "C" fn usbhs_begin_reject(s: &mut [u8; STATE_LEN]) -> u64
     word_of(usbhs::control_begins::begin_reject(s))
 }
 
-// The isochronous OUT endpoint's oldest packet shown in its slot.
+// The isochronous OUT endpoint's oldest packet shown in its slot, with its stamp.
 #[no_mangle]
-pub extern "C" fn usbhs_open(s: &mut [u8; STATE_LEN], slots: &[u8], endpoint: u32) -> u64
-    ensures { λ r. ⌜ AnswersOpen r endpoint (now (s .entry)) (now (s .exit)) (now (slots .entry)) ⌝ }
+pub extern "C" fn usbhs_open(
+    s: &mut [u8; STATE_LEN],
+    slots: &[u8],
+    endpoint: u32,
+    stamp: &mut u16,
+) -> u64
+    ensures { λ r. ⌜ AnswersOpen r endpoint (now (s .entry)) (now (s .exit)) (now (slots .entry)) (now (stamp .entry)) (now (stamp .exit)) ⌝ }
 {
-    word_of(usbhs::in_place::open(s, slots, endpoint))
+    let step = usbhs::in_place::open(s, slots, endpoint);
+    *stamp = stamp_by(step, *stamp);
+    word_of(step)
 }
 
 // Its slot given back.

@@ -74,6 +74,7 @@ over-fits-check (point-of-check.Armed e m) v = refl
 
 pub over-fits-interrupt : (p : Point) (v : ℕ) → over calls (handler.awaitsAt p) v ≡ not (handler.fitsAt p v)
 unfolding handler.fitsAt
+over-fits-interrupt point.Frame v = refl
 over-fits-interrupt point.Flags v = refl
 over-fits-interrupt (point.BusRst f) v = refl
 over-fits-interrupt (point.Suspend f) v = refl

@@ -8,7 +8,7 @@ use Rattle.state.specs.Driver.{Driver}
 use Rattle.script.specs.Tree.{Out, ends}
 use Rattle.script.specs.Script.{Script, run}
 use Rattle.script.specs.Answers.{Answer, Refused, resultless, staged, named, isNumber, isAllocated}
-use Rattle.script.specs.Handler.{onInterrupt}
+use Rattle.script.specs.Handler.{stampedInterrupt}
 use Rattle.script.specs.Calls.{Other, other, otherCode, Slotted, slotted, slottedCode, Aside, aside, asideCode, asideSlots, interrupt, interruptCode, calls, numbered}
 use Rattle.script.specs.Machine.{Buf, Way, idle, busy, Machine, Ans, ended, begin, beside}
 use Rattle.ops.specs.Rings.{St}
@@ -156,11 +156,11 @@ unfolding isIdle
 interrupt-idle u d a b = interrupt-in (wayOf u) d a b
 
 abbrev pub past-interrupt : Under → Driver → Buf → Called
-past-interrupt u d b = cond (eqb (stopOf (isIdle u) 2 (d .globals .stage)) 0) (haltsAs true (run {i = true} conc (resultless onInterrupt) (d, b))) (ended (Refused (stopOf (isIdle u) 2 (d .globals .stage))), machineAt u d b)
+past-interrupt u d b = cond (eqb (stopOf (isIdle u) 2 (d .globals .stage)) 0) (haltsAs true (run {i = true} conc (resultless stampedInterrupt) (d, b))) (ended (Refused (stopOf (isIdle u) 2 (d .globals .stage))), machineAt u d b)
 
 pub interrupt-call : (u : Under) (d : Driver) (a b : Buf) → drive (begin interrupt) (machineAt u d a) b ≡ past-interrupt u d b
 unfolding stopOf
-interrupt-call u d a b = interrupt-idle u d a b ∙ staged-past true (isIdle u) (eqb (d .globals .stage) 2) u (run {i = true} conc (resultless onInterrupt) (d, b)) d b refl
+interrupt-call u d a b = interrupt-idle u d a b ∙ staged-past true (isIdle u) (eqb (d .globals .stage) 2) u (run {i = true} conc (resultless stampedInterrupt) (d, b)) d b refl
 
 -- ---- row 5 behind them, which leaves what is under way as it was
 

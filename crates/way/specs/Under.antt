@@ -154,7 +154,7 @@ answerOf (step.Ends n w) out = ended (End n w)
 answerOf step.NotYet out = ended NotYet
 answerOf (step.Done n) out = ended (Done (front n out))
 answerOf (step.Setup low high) out = ended (Done (wordBytes low ++ wordBytes high))
-answerOf (step.Shown at n) out = ended (Shown (bytesAt out at n))
+answerOf (step.Shown at n stamp) out = ended (Shown (bytesAt out at n) stamp)
 
 -- the slice after a poll that answers so
 abbrev pub lentBy : Ans Answer → List ℕ → List ℕ

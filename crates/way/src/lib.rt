@@ -18,7 +18,8 @@ pub enum Under {
 }
 
 // What a call answers: the row that stopped it, the access that it hands out, the operation's result with its wake-ups; of a poll, that it is not
-// done, so many bytes at the lent slice's front, a setup packet as two words, lowest byte first; of an open packet, its offset and length in the slots.
+// done, so many bytes at the lent slice's front, a setup packet as two words, lowest byte first; of an open packet, its offset and length in the slots
+// and its stamp.
 pub enum Step {
     Refused(u8),
     Asks(Access),
@@ -26,5 +27,5 @@ pub enum Step {
     NotYet,
     Done(u16),
     Setup(u32, u32),
-    Shown(u32, u16),
+    Shown(u32, u16, u16),
 }

@@ -143,7 +143,7 @@ pub enum Answer {
     Refused(u8),
     /// A store or a fill.
     Stored,
-    /// The Rust has no counterpart of this call here (rows 1 to 5, 15, 16): not compared.
+    /// The Rust has no counterpart of this call here (rows 1 to 6, 15, 16): not compared.
     Outside,
     /// The Rust panics.
     Panicked,

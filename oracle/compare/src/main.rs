@@ -5,6 +5,7 @@
 //! compare FILE...: the same with recorded lists.
 
 mod port;
+mod stamps;
 
 use oracle::replay::{as_set, Session};
 use oracle::text::{print, Entry, Line};
@@ -59,19 +60,47 @@ fn within(call: Call, bits: u32) -> Call {
     }
 }
 
-/// The entries up to an allocation that was refused for want of buffers, of which the Rust keeps the number and the buffers that were left, and before
-/// a start of EP0 with another maximum than 64, which the port refuses.
-fn within_domain(entries: &[Entry]) -> &[Entry] {
-    let eight = |e: &Entry| matches!((&e.call, &e.answer), (Call::Allocate { .. }, Answer::Refused(8)));
-    let other = |e: &Entry| matches!(e.call, Call::Start(maximum) if maximum != 64);
-    let n = entries.iter().position(eight).map_or(entries.len(), |i| i + 1);
-    &entries[..entries.iter().position(other).unwrap_or(n).min(n)]
+/// Of each run of a list, which an accepted start-up begins, the entries that are compared: those up to an allocation that was refused for want of
+/// buffers, of which the Rust keeps the number and the buffers that were left, and before a start of EP0 with another maximum than 64, which the
+/// port refuses. Of the run's rest, only what it left in the slots: the next run may begin with these.
+fn within_domain(entries: &[Entry]) -> Vec<Entry> {
+    let mut within = true;
+    let mut all = vec![];
+    for e in entries {
+        let (starts_up, other, eight) = match (&e.call, &e.answer) {
+            (Call::StartUp { .. }, Answer::Write { .. }) => (true, false, false),
+            (Call::Start(maximum), answer) => (false, *maximum != 64 && *answer != Answer::Outside, false),
+            (Call::Allocate { .. }, Answer::Refused(8)) => (false, false, true),
+            _ => (false, false, false),
+        };
+        within = starts_up || within && !other;
+        if within {
+            all.push(e.clone());
+        } else {
+            all.extend(stored(e));
+        }
+        within = within && !eight;
+    }
+    all
+}
+
+/// What an entry left in the slots, as stores.
+fn stored(e: &Entry) -> Vec<Entry> {
+    if e.answer == Answer::Stored {
+        return vec![e.clone()];
+    }
+    let store = |(offset, data): &(u32, Vec<u8>)| Entry {
+        call: Call::Store { offset: *offset, data: data.clone() },
+        answer: Answer::Stored,
+        changed: vec![],
+    };
+    e.changed.iter().map(store).collect()
 }
 
 /// The first entry that the driver answers otherwise, but for the order of wake-ups and for what the Rust has no counterpart of.
 fn difference(driver: &mut dyn Driver, entries: &[Entry]) -> Option<(usize, Entry)> {
     let mut session = Session::new(driver);
-    for (i, e) in within_domain(entries).iter().enumerate() {
+    for (i, e) in entries.iter().enumerate() {
         let own = session.call(&e.call);
         if e.answer == Answer::Outside {
             assert!(matches!(own.answer, Answer::Refused(_)) && own.changed.is_empty(), "{own:?}");
@@ -82,13 +111,41 @@ fn difference(driver: &mut dyn Driver, entries: &[Entry]) -> Option<(usize, Entr
     None
 }
 
-fn check(port: &mut port::Port, name: &str, entries: &[Entry]) {
-    if let Some((i, own)) = difference(port, entries) {
-        println!("# {name}");
-        print!("{}", print(&entries[..=i]));
-        println!("# the port answers");
-        print!("{}", print(&[own]));
-        std::process::exit(1);
+fn differs(name: &str, entries: &[Entry], own: &str) -> ! {
+    println!("# {name}");
+    print!("{}", print(entries));
+    println!("# the port answers");
+    println!("{}", own.trim_end());
+    std::process::exit(1);
+}
+
+/// What was compared.
+#[derive(Default)]
+struct Compared {
+    lists: usize,
+    entries: usize,
+    answers: usize,
+    stamps: usize,
+}
+
+impl Compared {
+    fn check(&mut self, port: &mut port::Port, name: &str, entries: &[Entry]) {
+        let entries = within_domain(entries);
+        if let Some((i, own)) = difference(port, &entries) {
+            differs(name, &entries[..=i], &print(&[own]));
+        }
+        let stamps = stamps::expected(&entries);
+        assert_eq!(stamps.len(), port.stamps.len());
+        for (&(i, stamp), &own) in stamps.iter().zip(&port.stamps) {
+            if own != stamp {
+                differs(name, &entries[..=i], &format!("with the stamp {own}, not {stamp}"));
+            }
+        }
+        self.lists += 1;
+        self.entries += entries.len();
+        // the others are the chip's stores, and calls that the Rust has no counterpart of: these must be refused and change no slot
+        self.answers += entries.iter().filter(|e| !matches!(e.answer, Answer::Outside | Answer::Stored)).count();
+        self.stamps += stamps.iter().filter(|s| s.1 != stamps::NONE).count();
     }
 }
 
@@ -109,6 +166,7 @@ fn main() {
     }
     let mut rust = original::Rust::new();
     let mut port = port::Port::new();
+    let mut compared = Compared::default();
     for file in &files {
         let list = oracle::text::parse(&std::fs::read_to_string(file).unwrap()).unwrap();
         let mut session = Session::new(&mut rust);
@@ -119,10 +177,9 @@ fn main() {
                 _ => None,
             })
             .collect();
-        check(&mut port, file, &entries);
+        compared.check(&mut port, file, &entries);
     }
     if files.is_empty() {
-        let (mut calls, mut compared) = (0, 0);
         for seed in seed..seed + runs {
             let mut entries = oracle::random::run_64(&mut rust, seed, length);
             if only_begun {
@@ -136,12 +193,9 @@ fn main() {
                     entries.push(entry);
                 }
             }
-            let entries = within_domain(&entries);
-            check(&mut port, &format!("seed {seed}"), entries);
-            calls += entries.len();
-            // the others are the chip's stores, and calls that the Rust has no counterpart of: these must be refused and change no slot
-            compared += entries.iter().filter(|e| !matches!(e.answer, Answer::Outside | Answer::Stored)).count();
+            compared.check(&mut port, &format!("seed {seed}"), &entries);
         }
-        println!("{runs} runs, {calls} entries, {compared} answers compared: no difference");
     }
+    let Compared { lists, entries, answers, stamps } = compared;
+    println!("{lists} runs, {entries} entries, {answers} answers and {stamps} stamps compared: no difference");
 }

@@ -3,6 +3,8 @@
 use oracle::number::decode as answer;
 use oracle::{Answer, Call, Dir, Driver};
 
+use crate::stamps;
+
 macro_rules! exported {
     ($(fn $name:ident($($arg:ident: $type:ty),*) -> $answer:ty;)*) => {
         extern "C" {
@@ -42,7 +44,7 @@ exported! {
     fn usbhs_begin_accept_set_address(state: State, address: u32) -> u64;
     fn usbhs_poll_accept(state: State) -> u64;
     fn usbhs_begin_reject(state: State) -> u64;
-    fn usbhs_open(state: State, slots: *mut u8, len: usize, ep: u32) -> u64;
+    fn usbhs_open(state: State, slots: *mut u8, len: usize, ep: u32, stamp: *mut u16) -> u64;
     fn usbhs_close(state: State, ep: u32) -> u64;
     fn usbhs_queue(state: State, slots: *mut u8, len: usize, ep: u32, data: *const u8, data_len: usize) -> u64;
     fn usbhs_pending(state: State, ep: u32) -> u32;
@@ -61,6 +63,10 @@ pub struct Port {
     read: [usize; 16],
     write: [Vec<u8>; 16],
     data_out: usize,
+    /// The interrupts begun: each is brought a frame reading at its begin, which the Rust does not have.
+    interrupts: u16,
+    /// What each open left in the room for the stamp.
+    pub stamps: Vec<u16>,
 }
 
 impl Port {
@@ -72,6 +78,8 @@ impl Port {
             read: [0; 16],
             write: [const { vec![] }; 16],
             data_out: 0,
+            interrupts: 0,
+            stamps: vec![],
         }
     }
 }
@@ -97,6 +105,8 @@ impl Driver for Port {
         self.state.fill(0);
         self.slots.clear();
         self.geometry = (0, 0);
+        self.interrupts = 0;
+        self.stamps.clear();
     }
 
     fn slots(&mut self) -> &mut [u8] {
@@ -122,7 +132,15 @@ impl Driver for Port {
                     usbhs_allocate(s, kind as u32, address, maximum as u32, interval as u32, dir(d))
                 }
                 Call::Start(maximum) => usbhs_start(s, maximum as u32),
-                Call::Interrupt => usbhs_begin_interrupt(s),
+                Call::Interrupt => {
+                    let a = usbhs_begin_interrupt(s);
+                    if accepted(a) {
+                        self.interrupts = self.interrupts.wrapping_add(1);
+                        usbhs_continue(s, p, n, stamps::frame(self.interrupts).into())
+                    } else {
+                        a
+                    }
+                }
                 Call::BusPoll => usbhs_begin_bus_poll(s),
                 Call::BusEnable => usbhs_begin_bus_enable(s),
                 Call::BusDisable => usbhs_begin_bus_disable(s),
@@ -181,7 +199,12 @@ impl Driver for Port {
                 Call::AcceptSetAddress(address) => usbhs_begin_accept_set_address(s, address as u32),
                 Call::PollAccept => usbhs_poll_accept(s),
                 Call::Reject => usbhs_begin_reject(s),
-                Call::Open(ep) => usbhs_open(s, p, n, ep as u32),
+                Call::Open(ep) => {
+                    let mut stamp = stamps::NONE;
+                    let a = usbhs_open(s, p, n, ep as u32, &mut stamp);
+                    self.stamps.push(stamp);
+                    a
+                }
                 Call::Close(ep) => usbhs_close(s, ep as u32),
                 Call::Queue { ep, ref data } => usbhs_queue(s, p, n, ep as u32, data.as_ptr(), data.len()),
                 Call::Pending(ep) => return Answer::Number(usbhs_pending(s, ep as u32)),

@@ -7,8 +7,8 @@ use Rattle.arming.proofs.admit.Tie as tie
 load-ep-requires : tie.Need-load-ep-requires
 load-ep-requires c κs = search needs
 
-record-len-requires : tie.Need-record-len-requires
-record-len-requires c κs = search needs
+record-requires : tie.Need-record-requires
+record-requires c κs = search needs
 
 arrived-requires : tie.Need-arrived-requires
 arrived-requires c κs = search needs
@@ -18,7 +18,7 @@ store-ep-requires c κs = search needs
 
 returns : tie.Need-returns
 unfolding admittedOn
-returns c = (simp (c .store-ep .ensures .0, c .before .arrived .ensures, c .before .before .before .record-len .ensures .0, c .before .before .before .before .before .load-ep .ensures), c .store-ep .ensures .1 ∙ c .before .before .before .record-len .ensures .1)
+returns c = (simp (c .store-ep .ensures .0, c .before .arrived .ensures, c .before .before .before .record .ensures .0, c .before .before .before .before .before .load-ep .ensures), c .store-ep .ensures .1 ∙ c .before .before .before .record .ensures .1)
 
 pub admit-spec : {M : Type 1} → statement M
-admit-spec = tie.close (tie.spec load-ep-requires record-len-requires arrived-requires store-ep-requires returns)
+admit-spec = tie.close (tie.spec load-ep-requires record-requires arrived-requires store-ep-requires returns)

@@ -16,10 +16,11 @@ use Rattle.arms.proofs.resume.Tie as tie
 
 -- the other points
 abbrev others : List ℕ
-others = 0 ∷ 1 ∷ 2 ∷ 3 ∷ 4 ∷ 5 ∷ 6 ∷ 7 ∷ 8 ∷ 9 ∷ 10 ∷ 11 ∷ 12 ∷ 13 ∷ []
+others = 0 ∷ 1 ∷ 2 ∷ 3 ∷ 4 ∷ 5 ∷ 6 ∷ 7 ∷ 8 ∷ 9 ∷ 10 ∷ 11 ∷ 12 ∷ 13 ∷ 14 ∷ []
 
 none : (p : Point) → OneOf others (tagOf declared.the-type p) → inArm p ≡ true → ⊥
 unfolding inArm
+none point.Frame h k = false≢true k
 none point.Flags h k = false≢true k
 none (point.BusRst f) h k = false≢true k
 none (point.Suspend f) h k = false≢true k
@@ -34,17 +35,17 @@ none (point.Settle setup x q) h k = false≢true k
 none (point.FrameNo setup x iso) h k = false≢true k
 none (point.Sof setup x iso frame q) h k = false≢true k
 none (point.Late setup x iso frame q) h k = false≢true k
-none (point.SofArm setup x iso frame q) h k = miss others 14 tt h
-none (point.Flip d setup x iso) h k = miss others 15 tt h
-none (point.Flipped d setup x iso) h k = miss others 16 tt h
-none (point.Toggled d setup x iso q) h k = miss others 17 tt h
-none (point.Completing setup x iso q) h k = miss others 18 tt h
-none (point.Check setup x iso q) h k = miss others 19 tt h
-none (point.MovedRead d setup) h k = miss others 20 tt h
-none (point.MovedWrote d setup) h k = miss others 21 tt h
-none point.SetupRx h k = miss others 22 tt h
-none point.SetupTx h k = miss others 23 tt h
-none point.SetupReleased h k = miss others 24 tt h
+none (point.SofArm setup x iso frame q) h k = miss others 15 tt h
+none (point.Flip d setup x iso) h k = miss others 16 tt h
+none (point.Flipped d setup x iso) h k = miss others 17 tt h
+none (point.Toggled d setup x iso q) h k = miss others 18 tt h
+none (point.Completing setup x iso q) h k = miss others 19 tt h
+none (point.Check setup x iso q) h k = miss others 20 tt h
+none (point.MovedRead d setup) h k = miss others 21 tt h
+none (point.MovedWrote d setup) h k = miss others 22 tt h
+none point.SetupRx h k = miss others 23 tt h
+none point.SetupTx h k = miss others 24 tt h
+none point.SetupReleased h k = miss others 25 tt h
 
 enum-known-p : tie.Need-enum-known-p
 enum-known-p c = search needs

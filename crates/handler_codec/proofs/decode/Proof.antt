@@ -70,35 +70,35 @@ returns-7 c = simp (c .match .keys7, c .before .dir-of .ensures, c .before .befo
 
 returns-8 : tie.Need-returns-8
 unfolding decode
-returns-8 c = simp (c .nak-of .ensures, c .before .match .keys8, c .before .before .dir-of .ensures, c .before .before .before .is-on2 .ensures, c .before .before .before .before .transfer-of .ensures, c .before .before .before .before .before .is-on .ensures)
+returns-8 c = simp (c .match .keys8, c .before .dir-of .ensures, c .before .before .is-on2 .ensures, c .before .before .before .transfer-of .ensures, c .before .before .before .before .is-on .ensures)
 
 returns-9 : tie.Need-returns-9
 unfolding decode
-returns-9 c = simp (c .match .keys9, c .before .dir-of .ensures, c .before .before .is-on2 .ensures, c .before .before .before .transfer-of .ensures, c .before .before .before .before .is-on .ensures)
+returns-9 c = simp (c .nak-of .ensures, c .before .match .keys9, c .before .before .dir-of .ensures, c .before .before .before .is-on2 .ensures, c .before .before .before .before .transfer-of .ensures, c .before .before .before .before .before .is-on .ensures)
 
 returns-10 : tie.Need-returns-10
 unfolding decode
-returns-10 c = simp (c .settle-of .ensures, c .before .match .keys10, c .before .before .dir-of .ensures, c .before .before .before .is-on2 .ensures, c .before .before .before .before .transfer-of .ensures, c .before .before .before .before .before .is-on .ensures)
+returns-10 c = simp (c .match .keys10, c .before .dir-of .ensures, c .before .before .is-on2 .ensures, c .before .before .before .transfer-of .ensures, c .before .before .before .before .is-on .ensures)
 
 returns-11 : tie.Need-returns-11
 unfolding decode
-returns-11 c = simp (c .match .keys11, c .before .dir-of .ensures, c .before .before .is-on2 .ensures, c .before .before .before .transfer-of .ensures, c .before .before .before .before .is-on .ensures)
+returns-11 c = simp (c .settle-of .ensures, c .before .match .keys11, c .before .before .dir-of .ensures, c .before .before .before .is-on2 .ensures, c .before .before .before .before .transfer-of .ensures, c .before .before .before .before .before .is-on .ensures)
 
 returns-12 : tie.Need-returns-12
 unfolding decode
-returns-12 c = simp (c .sof-of .ensures, c .before .match .keys12, c .before .before .dir-of .ensures, c .before .before .before .is-on2 .ensures, c .before .before .before .before .transfer-of .ensures, c .before .before .before .before .before .is-on .ensures)
+returns-12 c = simp (c .match .keys12, c .before .dir-of .ensures, c .before .before .is-on2 .ensures, c .before .before .before .transfer-of .ensures, c .before .before .before .before .is-on .ensures)
 
 returns-13 : tie.Need-returns-13
 unfolding decode
-returns-13 c = simp (c .late-of .ensures, c .before .match .keys13, c .before .before .dir-of .ensures, c .before .before .before .is-on2 .ensures, c .before .before .before .before .transfer-of .ensures, c .before .before .before .before .before .is-on .ensures)
+returns-13 c = simp (c .sof-of .ensures, c .before .match .keys13, c .before .before .dir-of .ensures, c .before .before .before .is-on2 .ensures, c .before .before .before .before .transfer-of .ensures, c .before .before .before .before .before .is-on .ensures)
 
 returns-14 : tie.Need-returns-14
 unfolding decode
-returns-14 c = simp (c .sof-of2 .ensures, c .before .match .keys14, c .before .before .dir-of .ensures, c .before .before .before .is-on2 .ensures, c .before .before .before .before .transfer-of .ensures, c .before .before .before .before .before .is-on .ensures)
+returns-14 c = simp (c .late-of .ensures, c .before .match .keys14, c .before .before .dir-of .ensures, c .before .before .before .is-on2 .ensures, c .before .before .before .before .transfer-of .ensures, c .before .before .before .before .before .is-on .ensures)
 
 returns-15 : tie.Need-returns-15
 unfolding decode
-returns-15 c = simp (c .match .keys15, c .before .dir-of .ensures, c .before .before .is-on2 .ensures, c .before .before .before .transfer-of .ensures, c .before .before .before .before .is-on .ensures)
+returns-15 c = simp (c .sof-of2 .ensures, c .before .match .keys15, c .before .before .dir-of .ensures, c .before .before .before .is-on2 .ensures, c .before .before .before .before .transfer-of .ensures, c .before .before .before .before .before .is-on .ensures)
 
 returns-16 : tie.Need-returns-16
 unfolding decode
@@ -106,19 +106,19 @@ returns-16 c = simp (c .match .keys16, c .before .dir-of .ensures, c .before .be
 
 returns-17 : tie.Need-returns-17
 unfolding decode
-returns-17 c = simp (c .toggled-of .ensures, c .before .match .keys17, c .before .before .dir-of .ensures, c .before .before .before .is-on2 .ensures, c .before .before .before .before .transfer-of .ensures, c .before .before .before .before .before .is-on .ensures)
+returns-17 c = simp (c .match .keys17, c .before .dir-of .ensures, c .before .before .is-on2 .ensures, c .before .before .before .transfer-of .ensures, c .before .before .before .before .is-on .ensures)
 
 returns-18 : tie.Need-returns-18
 unfolding decode
-returns-18 c = simp (c .complete-of .ensures, c .before .match .keys18, c .before .before .dir-of .ensures, c .before .before .before .is-on2 .ensures, c .before .before .before .before .transfer-of .ensures, c .before .before .before .before .before .is-on .ensures)
+returns-18 c = simp (c .toggled-of .ensures, c .before .match .keys18, c .before .before .dir-of .ensures, c .before .before .before .is-on2 .ensures, c .before .before .before .before .transfer-of .ensures, c .before .before .before .before .before .is-on .ensures)
 
 returns-19 : tie.Need-returns-19
 unfolding decode
-returns-19 c = simp (c .check-of .ensures, c .before .match .keys19, c .before .before .dir-of .ensures, c .before .before .before .is-on2 .ensures, c .before .before .before .before .transfer-of .ensures, c .before .before .before .before .before .is-on .ensures)
+returns-19 c = simp (c .complete-of .ensures, c .before .match .keys19, c .before .before .dir-of .ensures, c .before .before .before .is-on2 .ensures, c .before .before .before .before .transfer-of .ensures, c .before .before .before .before .before .is-on .ensures)
 
 returns-20 : tie.Need-returns-20
 unfolding decode
-returns-20 c = simp (c .match .keys20, c .before .dir-of .ensures, c .before .before .is-on2 .ensures, c .before .before .before .transfer-of .ensures, c .before .before .before .before .is-on .ensures)
+returns-20 c = simp (c .check-of .ensures, c .before .match .keys20, c .before .before .dir-of .ensures, c .before .before .before .is-on2 .ensures, c .before .before .before .before .transfer-of .ensures, c .before .before .before .before .before .is-on .ensures)
 
 returns-21 : tie.Need-returns-21
 unfolding decode
@@ -138,7 +138,11 @@ returns-24 c = simp (c .match .keys24, c .before .dir-of .ensures, c .before .be
 
 returns-25 : tie.Need-returns-25
 unfolding decode
-returns-25 c = simp (ne-eqb _ _ (c .match .rest .1), ne-eqb _ _ (c .match .rest .0 .1), ne-eqb _ _ (c .match .rest .0 .0 .1), ne-eqb _ _ (c .match .rest .0 .0 .0 .1), ne-eqb _ _ (c .match .rest .0 .0 .0 .0 .1), ne-eqb _ _ (c .match .rest .0 .0 .0 .0 .0 .1), ne-eqb _ _ (c .match .rest .0 .0 .0 .0 .0 .0 .1), ne-eqb _ _ (c .match .rest .0 .0 .0 .0 .0 .0 .0 .1), ne-eqb _ _ (c .match .rest .0 .0 .0 .0 .0 .0 .0 .0 .1), ne-eqb _ _ (c .match .rest .0 .0 .0 .0 .0 .0 .0 .0 .0 .1), ne-eqb _ _ (c .match .rest .0 .0 .0 .0 .0 .0 .0 .0 .0 .0 .1), ne-eqb _ _ (c .match .rest .0 .0 .0 .0 .0 .0 .0 .0 .0 .0 .0 .1), ne-eqb _ _ (c .match .rest .0 .0 .0 .0 .0 .0 .0 .0 .0 .0 .0 .0 .1), ne-eqb _ _ (c .match .rest .0 .0 .0 .0 .0 .0 .0 .0 .0 .0 .0 .0 .0 .1), ne-eqb _ _ (c .match .rest .0 .0 .0 .0 .0 .0 .0 .0 .0 .0 .0 .0 .0 .0 .1), ne-eqb _ _ (c .match .rest .0 .0 .0 .0 .0 .0 .0 .0 .0 .0 .0 .0 .0 .0 .0 .1), ne-eqb _ _ (c .match .rest .0 .0 .0 .0 .0 .0 .0 .0 .0 .0 .0 .0 .0 .0 .0 .0 .1), ne-eqb _ _ (c .match .rest .0 .0 .0 .0 .0 .0 .0 .0 .0 .0 .0 .0 .0 .0 .0 .0 .0 .1), ne-eqb _ _ (c .match .rest .0 .0 .0 .0 .0 .0 .0 .0 .0 .0 .0 .0 .0 .0 .0 .0 .0 .0 .1), ne-eqb _ _ (c .match .rest .0 .0 .0 .0 .0 .0 .0 .0 .0 .0 .0 .0 .0 .0 .0 .0 .0 .0 .0 .1), ne-eqb _ _ (c .match .rest .0 .0 .0 .0 .0 .0 .0 .0 .0 .0 .0 .0 .0 .0 .0 .0 .0 .0 .0 .0 .1), ne-eqb _ _ (c .match .rest .0 .0 .0 .0 .0 .0 .0 .0 .0 .0 .0 .0 .0 .0 .0 .0 .0 .0 .0 .0 .0 .1), ne-eqb _ _ (c .match .rest .0 .0 .0 .0 .0 .0 .0 .0 .0 .0 .0 .0 .0 .0 .0 .0 .0 .0 .0 .0 .0 .0 .1), ne-eqb _ _ (c .match .rest .0 .0 .0 .0 .0 .0 .0 .0 .0 .0 .0 .0 .0 .0 .0 .0 .0 .0 .0 .0 .0 .0 .0 .1), c .before .dir-of .ensures, c .before .before .is-on2 .ensures, c .before .before .before .transfer-of .ensures, c .before .before .before .before .is-on .ensures)
+returns-25 c = simp (c .match .keys25, c .before .dir-of .ensures, c .before .before .is-on2 .ensures, c .before .before .before .transfer-of .ensures, c .before .before .before .before .is-on .ensures)
+
+returns-26 : tie.Need-returns-26
+unfolding decode
+returns-26 c = simp (ne-eqb _ _ (c .match .rest .1), ne-eqb _ _ (c .match .rest .0 .1), ne-eqb _ _ (c .match .rest .0 .0 .1), ne-eqb _ _ (c .match .rest .0 .0 .0 .1), ne-eqb _ _ (c .match .rest .0 .0 .0 .0 .1), ne-eqb _ _ (c .match .rest .0 .0 .0 .0 .0 .1), ne-eqb _ _ (c .match .rest .0 .0 .0 .0 .0 .0 .1), ne-eqb _ _ (c .match .rest .0 .0 .0 .0 .0 .0 .0 .1), ne-eqb _ _ (c .match .rest .0 .0 .0 .0 .0 .0 .0 .0 .1), ne-eqb _ _ (c .match .rest .0 .0 .0 .0 .0 .0 .0 .0 .0 .1), ne-eqb _ _ (c .match .rest .0 .0 .0 .0 .0 .0 .0 .0 .0 .0 .1), ne-eqb _ _ (c .match .rest .0 .0 .0 .0 .0 .0 .0 .0 .0 .0 .0 .1), ne-eqb _ _ (c .match .rest .0 .0 .0 .0 .0 .0 .0 .0 .0 .0 .0 .0 .1), ne-eqb _ _ (c .match .rest .0 .0 .0 .0 .0 .0 .0 .0 .0 .0 .0 .0 .0 .1), ne-eqb _ _ (c .match .rest .0 .0 .0 .0 .0 .0 .0 .0 .0 .0 .0 .0 .0 .0 .1), ne-eqb _ _ (c .match .rest .0 .0 .0 .0 .0 .0 .0 .0 .0 .0 .0 .0 .0 .0 .0 .1), ne-eqb _ _ (c .match .rest .0 .0 .0 .0 .0 .0 .0 .0 .0 .0 .0 .0 .0 .0 .0 .0 .1), ne-eqb _ _ (c .match .rest .0 .0 .0 .0 .0 .0 .0 .0 .0 .0 .0 .0 .0 .0 .0 .0 .0 .1), ne-eqb _ _ (c .match .rest .0 .0 .0 .0 .0 .0 .0 .0 .0 .0 .0 .0 .0 .0 .0 .0 .0 .0 .1), ne-eqb _ _ (c .match .rest .0 .0 .0 .0 .0 .0 .0 .0 .0 .0 .0 .0 .0 .0 .0 .0 .0 .0 .0 .1), ne-eqb _ _ (c .match .rest .0 .0 .0 .0 .0 .0 .0 .0 .0 .0 .0 .0 .0 .0 .0 .0 .0 .0 .0 .0 .1), ne-eqb _ _ (c .match .rest .0 .0 .0 .0 .0 .0 .0 .0 .0 .0 .0 .0 .0 .0 .0 .0 .0 .0 .0 .0 .0 .1), ne-eqb _ _ (c .match .rest .0 .0 .0 .0 .0 .0 .0 .0 .0 .0 .0 .0 .0 .0 .0 .0 .0 .0 .0 .0 .0 .0 .1), ne-eqb _ _ (c .match .rest .0 .0 .0 .0 .0 .0 .0 .0 .0 .0 .0 .0 .0 .0 .0 .0 .0 .0 .0 .0 .0 .0 .0 .1), ne-eqb _ _ (c .match .rest .0 .0 .0 .0 .0 .0 .0 .0 .0 .0 .0 .0 .0 .0 .0 .0 .0 .0 .0 .0 .0 .0 .0 .0 .1), c .before .dir-of .ensures, c .before .before .is-on2 .ensures, c .before .before .before .transfer-of .ensures, c .before .before .before .before .is-on .ensures)
 
 pub decode-spec : {M : Type 1} → statement M
 decode-spec =
@@ -180,4 +184,5 @@ decode-spec =
     returns-22
     returns-23
     returns-24
-    returns-25)
+    returns-25
+    returns-26)

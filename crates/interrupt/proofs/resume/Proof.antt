@@ -18,18 +18,19 @@ use Rattle.interrupt.proofs.resume.Tie as tie
 
 -- the other points
 abbrev others : List ℕ
-others = 8 ∷ 9 ∷ 10 ∷ 11 ∷ 12 ∷ 13 ∷ 14 ∷ 15 ∷ 16 ∷ 17 ∷ 18 ∷ 19 ∷ 20 ∷ 21 ∷ 22 ∷ 23 ∷ 24 ∷ []
+others = 9 ∷ 10 ∷ 11 ∷ 12 ∷ 13 ∷ 14 ∷ 15 ∷ 16 ∷ 17 ∷ 18 ∷ 19 ∷ 20 ∷ 21 ∷ 22 ∷ 23 ∷ 24 ∷ 25 ∷ []
 
 later : (p : Point) → OneOf others (tagOf declared.the-type p) → entered p ≡ true
 unfolding entered
-later point.Flags h = absurd (miss others 0 tt h)
-later (point.BusRst f) h = absurd (miss others 1 tt h)
-later (point.Suspend f) h = absurd (miss others 2 tt h)
-later (point.Fifo f) h = absurd (miss others 3 tt h)
-later (point.Host f) h = absurd (miss others 4 tt h)
-later (point.Mis setup) h = absurd (miss others 5 tt h)
-later (point.St setup busy) h = absurd (miss others 6 tt h)
-later (point.Len setup busy st) h = absurd (miss others 7 tt h)
+later point.Frame h = absurd (miss others 0 tt h)
+later point.Flags h = absurd (miss others 1 tt h)
+later (point.BusRst f) h = absurd (miss others 2 tt h)
+later (point.Suspend f) h = absurd (miss others 3 tt h)
+later (point.Fifo f) h = absurd (miss others 4 tt h)
+later (point.Host f) h = absurd (miss others 5 tt h)
+later (point.Mis setup) h = absurd (miss others 6 tt h)
+later (point.St setup busy) h = absurd (miss others 7 tt h)
+later (point.Len setup busy st) h = absurd (miss others 8 tt h)
 later (point.Nak setup x q) h = refl
 later (point.Released setup x) h = refl
 later (point.Settle setup x q) h = refl
@@ -51,9 +52,16 @@ later point.SetupReleased h = refl
 enum-told : tie.Need-enum-told
 enum-told c = search needs
 
+after-frame-requires : tie.Need-after-frame-requires
+unfolding fitsAt
+after-frame-requires c κs = told _ _ (c .before .before .before .before .args .v) (c .before .enum-told .given .1) (c .before .before .before .before .pre)
+
+enum-told-2 : tie.Need-enum-told-2
+enum-told-2 c = search needs
+
 after-flags-requires : tie.Need-after-flags-requires
 unfolding fitsAt
-after-flags-requires c κs = wider _ 6 (omega arith) (told _ _ (c .before .before .before .before .args .v) (c .before .enum-told .given .1) (c .before .before .before .before .pre))
+after-flags-requires c κs = wider _ 6 (omega arith) (told _ _ (c .before .before .before .before .args .v) (c .before .enum-told2 .given .1) (c .before .before .before .before .pre))
 
 enum-known-p : tie.Need-enum-known-p
 enum-known-p c = search needs
@@ -101,43 +109,48 @@ unfolding fitsAt
 after-len-requires c κs = told _ _ (c .before .before .before .before .before .args .v) (c .before .before .p7 .given .1) (c .before .before .before .before .before .pre)
 
 resume-entered-requires : tie.Need-resume-entered-requires
-resume-entered-requires c κs = (c .before .before .before .before .pre, later _ (c .before .before .match .keys9))
+resume-entered-requires c κs = (c .before .before .before .before .pre, later _ (c .before .before .match .keys10))
 
 returns : tie.Need-returns
-returns c = (stands _ _ _ (c .before .before .before .before .before .args .v) _ (c .before .before .enum-told .given .1) (c .after-flags .ensures .0 _), (c .after-flags .ensures .1 .0, c .after-flags .ensures .1 .1))
+returns c = (stands _ _ _ (c .before .before .before .before .before .args .v) _ (c .before .before .enum-told .given .1) (c .after-frame .ensures .0 _), (c .after-frame .ensures .1 .0, c .after-frame .ensures .1 .1))
 
 returns-2 : tie.Need-returns-2
-returns-2 c = (stands _ _ _ (c .before .before .before .before .before .before .args .v) _ (c .before .before .before .p .given .1) (c .after-bus-rst .ensures .0 (c .before .before .before .before .before .before .args .v) _), (c .after-bus-rst .ensures .1 .0, c .after-bus-rst .ensures .1 .1))
+returns-2 c = (stands _ _ _ (c .before .before .before .before .before .args .v) _ (c .before .before .enum-told2 .given .1) (c .after-flags .ensures .0 _), (c .after-flags .ensures .1 .0, c .after-flags .ensures .1 .1))
 
 returns-3 : tie.Need-returns-3
-returns-3 c = (stands _ _ _ (c .before .before .before .before .before .before .args .v) _ (c .before .before .before .p2 .given .1) (c .after-suspend .ensures .0 (c .before .before .before .before .before .before .args .v) _), (c .after-suspend .ensures .1 .0, c .after-suspend .ensures .1 .1))
+returns-3 c = (stands _ _ _ (c .before .before .before .before .before .before .args .v) _ (c .before .before .before .p .given .1) (c .after-bus-rst .ensures .0 (c .before .before .before .before .before .before .args .v) _), (c .after-bus-rst .ensures .1 .0, c .after-bus-rst .ensures .1 .1))
 
 returns-4 : tie.Need-returns-4
-returns-4 c = (stands _ _ _ (c .before .before .before .before .before .args .v) _ (c .before .before .p3 .given .1) (c .after-fifo .ensures .0 _ _), (refl, c .after-fifo .ensures .1))
+returns-4 c = (stands _ _ _ (c .before .before .before .before .before .before .args .v) _ (c .before .before .before .p2 .given .1) (c .after-suspend .ensures .0 (c .before .before .before .before .before .before .args .v) _), (c .after-suspend .ensures .1 .0, c .after-suspend .ensures .1 .1))
 
 returns-5 : tie.Need-returns-5
-returns-5 c = (stands _ _ _ (c .before .before .before .before .before .args .v) _ (c .before .before .p4 .given .1) (c .after-host .ensures .0 _ _), (refl, c .after-host .ensures .1))
+returns-5 c = (stands _ _ _ (c .before .before .before .before .before .args .v) _ (c .before .before .p3 .given .1) (c .after-fifo .ensures .0 _ _), (refl, c .after-fifo .ensures .1))
 
 returns-6 : tie.Need-returns-6
-returns-6 c = (stands _ _ _ (c .before .before .before .before .before .args .v) _ (c .before .before .p5 .given .1) (c .after-mis .ensures .0 _ _), (refl, c .after-mis .ensures .1))
+returns-6 c = (stands _ _ _ (c .before .before .before .before .before .args .v) _ (c .before .before .p4 .given .1) (c .after-host .ensures .0 _ _), (refl, c .after-host .ensures .1))
 
 returns-7 : tie.Need-returns-7
-returns-7 c = (stands _ _ _ (c .before .before .before .before .before .args .v) _ (c .before .before .p6 .given .1) (c .after-st .ensures .0 _ _), (refl, c .after-st .ensures .1))
+returns-7 c = (stands _ _ _ (c .before .before .before .before .before .args .v) _ (c .before .before .p5 .given .1) (c .after-mis .ensures .0 _ _), (refl, c .after-mis .ensures .1))
 
 returns-8 : tie.Need-returns-8
-returns-8 c = (stands _ _ _ (c .before .before .before .before .before .before .args .v) _ (c .before .before .before .p7 .given .1) (c .after-len .ensures .0 _), (refl, c .after-len .ensures .1))
+returns-8 c = (stands _ _ _ (c .before .before .before .before .before .args .v) _ (c .before .before .p6 .given .1) (c .after-st .ensures .0 _ _), (refl, c .after-st .ensures .1))
+
+returns-9 : tie.Need-returns-9
+returns-9 c = (stands _ _ _ (c .before .before .before .before .before .before .args .v) _ (c .before .before .before .p7 .given .1) (c .after-len .ensures .0 _), (refl, c .after-len .ensures .1))
 
 same-length : tie.Need-same-length
 same-length c = search needs
 
-returns-9 : tie.Need-returns-9
-returns-9 c = (c .before .before .resume-entered .ensures .0, (c .before .before .resume-entered .ensures .1 .0, c .before .before .resume-entered .ensures .1 .1))
+returns-10 : tie.Need-returns-10
+returns-10 c = (c .before .before .resume-entered .ensures .0, (c .before .before .resume-entered .ensures .1 .0, c .before .before .resume-entered .ensures .1 .1))
 
 pub resume-spec : {M : Type 1} → statement M
 resume-spec =
     tie.close
     (tie.spec
     enum-told
+    after-frame-requires
+    enum-told-2
     after-flags-requires
     enum-known-p
     after-bus-rst-requires
@@ -162,5 +175,6 @@ resume-spec =
     returns-6
     returns-7
     returns-8
+    returns-9
     same-length
-    returns-9)
+    returns-10)

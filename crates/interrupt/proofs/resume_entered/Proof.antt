@@ -16,10 +16,11 @@ use Rattle.interrupt.proofs.resume_entered.Tie as tie
 
 -- the other points
 abbrev others : List ℕ
-others = 0 ∷ 1 ∷ 2 ∷ 3 ∷ 4 ∷ 5 ∷ 6 ∷ 7 ∷ 14 ∷ 15 ∷ 16 ∷ 17 ∷ 18 ∷ 19 ∷ 20 ∷ 21 ∷ 22 ∷ 23 ∷ 24 ∷ []
+others = 0 ∷ 1 ∷ 2 ∷ 3 ∷ 4 ∷ 5 ∷ 6 ∷ 7 ∷ 8 ∷ 15 ∷ 16 ∷ 17 ∷ 18 ∷ 19 ∷ 20 ∷ 21 ∷ 22 ∷ 23 ∷ 24 ∷ 25 ∷ []
 
 later : (p : Point) → OneOf others (tagOf declared.the-type p) → entered p ≡ true → inArm p ≡ true
 unfolding entered inArm
+later point.Frame h k = absurd (false≢true k)
 later point.Flags h k = absurd (false≢true k)
 later (point.BusRst f) h k = absurd (false≢true k)
 later (point.Suspend f) h k = absurd (false≢true k)
@@ -28,12 +29,12 @@ later (point.Host f) h k = absurd (false≢true k)
 later (point.Mis setup) h k = absurd (false≢true k)
 later (point.St setup busy) h k = absurd (false≢true k)
 later (point.Len setup busy st) h k = absurd (false≢true k)
-later (point.Nak setup x q) h k = absurd (miss others 8 tt h)
-later (point.Released setup x) h k = absurd (miss others 9 tt h)
-later (point.Settle setup x q) h k = absurd (miss others 10 tt h)
-later (point.FrameNo setup x iso) h k = absurd (miss others 11 tt h)
-later (point.Sof setup x iso frame q) h k = absurd (miss others 12 tt h)
-later (point.Late setup x iso frame q) h k = absurd (miss others 13 tt h)
+later (point.Nak setup x q) h k = absurd (miss others 9 tt h)
+later (point.Released setup x) h k = absurd (miss others 10 tt h)
+later (point.Settle setup x q) h k = absurd (miss others 11 tt h)
+later (point.FrameNo setup x iso) h k = absurd (miss others 12 tt h)
+later (point.Sof setup x iso frame q) h k = absurd (miss others 13 tt h)
+later (point.Late setup x iso frame q) h k = absurd (miss others 14 tt h)
 later (point.SofArm setup x iso frame q) h k = refl
 later (point.Flip d setup x iso) h k = refl
 later (point.Flipped d setup x iso) h k = refl

@@ -9,10 +9,10 @@ use Rattle.readout.proofs.steps.show.Reads as show-reads
 use Rattle.proceeding.proofs.proceed.Reads as proceed-reads
 
 abbrev Inv-loop : tie.InvT-loop
-Inv-loop s₀ slots₀ most step₀ left₀ s slots step left = length slots ≡ length slots₀
+Inv-loop s₀ slots₀ arrived step₀ left₀ s slots step left = length slots ≡ length slots₀
 
 abbrev μ-loop : tie.MeasureT-loop
-μ-loop s₀ slots₀ most step₀ left₀ s slots step left = left
+μ-loop s₀ slots₀ arrived step₀ left₀ s slots step left = left
 
 show-requires : tie.Need-show-requires Inv-loop μ-loop
 show-requires c κs = search needs
@@ -25,6 +25,9 @@ sub-left c = search needs
 
 enum-known-step : tie.Need-enum-known-step Inv-loop μ-loop
 enum-known-step c = search needs
+
+reading-requires : tie.Need-reading-requires Inv-loop μ-loop
+reading-requires c κs = search needs
 
 proceed-requires : tie.Need-proceed-requires Inv-loop μ-loop
 proceed-requires c κs = search needs
@@ -60,6 +63,7 @@ run-spec =
     loop-holds
     sub-left
     enum-known-step
+    reading-requires
     proceed-requires
     show-requires-2
     loop-less

@@ -9,6 +9,9 @@ get8x5-requires c κs = search needs
 get16x5-requires : tie.Need-get16x5-requires
 get16x5-requires c κs = search needs
 
+get16-requires : tie.Need-get16-requires
+get16-requires c κs = search needs
+
 get32-requires : tie.Need-get32-requires
 get32-requires c κs = search needs
 
@@ -26,9 +29,9 @@ get32-requires-5 c κs = search needs
 
 returns : tie.Need-returns
 returns c =
-    five (c .before .before .before .before .before .before .get8x5 .ensures)
-    (five (c .before .before .before .before .before .get16x5 .ensures)
-    ((c .before .before .before .before .get32 .ensures, (c .before .before .before .get322 .ensures, (c .before .before .get323 .ensures, (c .before .get324 .ensures, (c .get325 .ensures, tt)))))))
+    five (c .before .before .before .before .before .before .before .get8x5 .ensures)
+    (five (c .before .before .before .before .before .before .get16x5 .ensures)
+    ((c .before .before .before .before .before .get16 .ensures, (c .before .before .before .before .get32 .ensures, (c .before .before .before .get322 .ensures, (c .before .before .get323 .ensures, (c .before .get324 .ensures, (c .get325 .ensures, tt))))))))
 
 pub read-globals-spec : {M : Type 1} → statement M
 read-globals-spec =
@@ -36,6 +39,7 @@ read-globals-spec =
     (tie.spec
     get8x5-requires
     get16x5-requires
+    get16-requires
     get32-requires
     get32-requires-2
     get32-requires-3

@@ -12,6 +12,9 @@ put8x5-requires c κs = search needs
 put16x5-requires : tie.Need-put16x5-requires
 put16x5-requires c κs = search needs
 
+put16-requires : tie.Need-put16-requires
+put16-requires c κs = search needs
+
 put32-requires : tie.Need-put32-requires
 put32-requires c κs = search needs
 
@@ -29,15 +32,16 @@ put32-requires-5 c κs = search needs
 
 returns : tie.Need-returns
 returns c =
-    let st = c .before .before .before .before .before .before .before .before .before .before .before .before .before .before in
+    let st = c .before .before .before .before .before .before .before .before .before .before .before .before .before .before .before .before in
     let left = rest (st .args .o) (bytes globalsWidths (globalsAs (st .args .r))) in
     c .put325 .ensures
-    ∙ ap (left 31) (c .before .before .put324 .ensures)
-    ∙ ap (left 27) (c .before .before .before .before .put323 .ensures)
-    ∙ ap (left 23) (c .before .before .before .before .before .before .put322 .ensures)
-    ∙ ap (left 19) (c .before .before .before .before .before .before .before .before .put32 .ensures)
-    ∙ ap (left 15) (c .before .before .before .before .before .before .before .before .before .before .put16x5 .ensures)
-    ∙ ap (left 5) (c .before .before .before .before .before .before .before .before .before .before .before .before .put8x5 .ensures)
+    ∙ ap (left 33) (c .before .before .put324 .ensures)
+    ∙ ap (left 29) (c .before .before .before .before .put323 .ensures)
+    ∙ ap (left 25) (c .before .before .before .before .before .before .put322 .ensures)
+    ∙ ap (left 21) (c .before .before .before .before .before .before .before .before .put32 .ensures)
+    ∙ ap (left 17) (c .before .before .before .before .before .before .before .before .before .before .put16 .ensures)
+    ∙ ap (left 15) (c .before .before .before .before .before .before .before .before .before .before .before .before .put16x5 .ensures)
+    ∙ ap (left 5) (c .before .before .before .before .before .before .before .before .before .before .before .before .before .before .put8x5 .ensures)
 
 pub write-globals-spec : {M : Type 1} → statement M
 write-globals-spec =
@@ -45,6 +49,7 @@ write-globals-spec =
     (tie.spec
     put8x5-requires
     put16x5-requires
+    put16-requires
     put32-requires
     put32-requires-2
     put32-requires-3

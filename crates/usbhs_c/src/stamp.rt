@@ -1,0 +1,21 @@
+use way::Step;
+ghost use mathlib.Core.Path.{_≡_};
+ghost use mathlib.Core.List.{List};
+ghost use Prim.Native.Nat.{ℕ};
+ghost use Rattle.way.specs.Under.{answerOf};
+ghost use Rattle.usbhs_c.specs.Stamp.{stampBy};
+
+// The stamp of a packet that is shown; no other answer has one, and what the caller had stays.
+pub fn stamp_by(step: Step, old: u16) -> u16
+    ensures { λ r. ⌜ ((b : List ℕ) → r ≡ stampBy (answerOf step b) old) ⌝ }
+{
+    match step {
+        Step::Shown(_at, _n, stamp) => stamp,
+        Step::Refused(_n) => old,
+        Step::Asks(_q) => old,
+        Step::Ends(_n, _w) => old,
+        Step::NotYet => old,
+        Step::Done(_n) => old,
+        Step::Setup(_low, _high) => old,
+    }
+}
