@@ -1,10 +1,10 @@
 // A point as numbers, and back.
 use crate::Point;
-use crate::enabling::flag_of;
 use ops::rings::is_on;
 use regs::Dir;
 use state::Saved;
 ghost use mathlib.Core.Path.{_≡_};
+ghost use Rattle.script.specs.Statics.{flag};
 ghost use Rattle.bus.specs.Codec.{dirAs, dirOf, code, encode, decode};
 
 fn dir_as(d: Dir) -> u8
@@ -20,6 +20,15 @@ fn dir_of(n: u8) -> Dir
     ensures { λ r. ⌜ r ≡ dirOf n ⌝ }
 {
     if n == 0 { Dir::Out } else { Dir::In }
+}
+
+pub fn flag_of(on: bool) -> u8
+    ensures { λ r. ⌜ r ≡ flag on ⌝ }
+{
+    if on {
+        return 1;
+    }
+    0
 }
 
 fn code(sub: u8, site: u8, flag: u8, busy: u8, st: u8, ep: u8) -> Saved

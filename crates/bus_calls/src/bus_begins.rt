@@ -23,7 +23,7 @@ pub fn begin_bus_enable(s: &mut [u8; STATE_LEN]) -> Step
     let n = stop(s, 2);
     if n == 0 {
         state::clear_wakes(s);
-        return halted_bus(s, bus::enable());
+        return halted_bus(s, bus_events::enable());
     }
     Step::Refused(n)
 }
@@ -47,7 +47,7 @@ pub fn begin_bus_poll(s: &mut [u8; STATE_LEN]) -> Step
     let n = stop(s, 2);
     if n == 0 {
         state::clear_wakes(s);
-        let x = bus::poll(s);
+        let x = bus_events::poll(s);
         return halted_bus(s, x);
     }
     Step::Refused(n)
@@ -61,7 +61,7 @@ pub fn begin_is_stalled(s: &mut [u8; STATE_LEN], dir: Dir, e: u32) -> Step
     if n == 0 {
         if is_stallable(s, dir, e) {
             state::clear_wakes(s);
-            let x = bus::is_stalled(dir, endpoint(e));
+            let x = stalls::is_stalled(dir, endpoint(e));
             return halted_bus(s, x);
         }
         return Step::Refused(5);
@@ -77,7 +77,7 @@ pub fn begin_set_stalled(s: &mut [u8; STATE_LEN], dir: Dir, e: u32, on: bool) ->
     if n == 0 {
         if is_stallable(s, dir, e) {
             state::clear_wakes(s);
-            let x = bus::set_stalled(s, dir, endpoint(e), on);
+            let x = stalls::set_stalled(s, dir, endpoint(e), on);
             return halted_bus(s, x);
         }
         return Step::Refused(5);
@@ -100,7 +100,7 @@ pub fn begin_set_enabled(
         if n == 0 {
             if is_allocated(s, dir, e) {
                 state::clear_wakes(s);
-                let x = bus::set_enabled(s, slots, dir, low(e), on);
+                let x = enabling::set_enabled(s, slots, dir, low(e), on);
                 return halted_bus(s, x);
             }
             return Step::Refused(5);

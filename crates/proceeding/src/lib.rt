@@ -37,7 +37,7 @@ fn proceed_bus(s: &mut [u8; STATE_LEN], slots: &mut [u8], v: u32) -> Step
 {
     let p = bus::decode(state::load_saved(s));
     if bus::fits_at(p, v) {
-        let n = bus::resume(s, slots, p, v);
+        let n = bus_events::resume(s, slots, p, v);
         return halted_bus(s, n);
     }
     Step::Refused(16)

@@ -1,11 +1,48 @@
 use Rattle.bus.specs.Laws.{word-width}
 use Rattle.bus.specs.Points.{fitsAt}
+use Rattle.bus.specs.declared.Point.{Point}
+use Rattle.bus.specs.declared.Point.the-variants as point
+use Rattle.bus.proofs.Point as declared
+use denote.Enum.Declared.{tagOf}
+use types.Run.{OneOf, miss}
+use mathlib.Core.Path.{_≡_, refl}
+use mathlib.Core.Bool.{Bool, true}
+use mathlib.Core.List.{List, [], _∷_}
+use Prim.Native.Nat.{ℕ}
 use borrow.Author.Needs.{needs}
 use Rattle.bus.proofs.fits_at.Statement.{statement}
 use Rattle.bus.proofs.fits_at.Tie as tie
-use Rattle.bus.proofs.fits_at.Reads as reads
-use Rattle.bus.proofs.fits_at.Lts as lts
-use Rattle.regs.proofs.registers.fits.Reads as fits-reads
+
+-- the points whose access is a write
+abbrev writes : List ℕ
+writes = 1 ∷ 3 ∷ 5 ∷ 6 ∷ 9 ∷ 10 ∷ 11 ∷ 12 ∷ 13 ∷ 14 ∷ 15 ∷ 16 ∷ 17 ∷ 18 ∷ 19 ∷ 20 ∷ 21 ∷ 22 ∷ 23 ∷ []
+
+wrote : (p : Point) (v : ℕ) → OneOf writes (tagOf declared.the-type p) → true ≡ fitsAt p v
+unfolding fitsAt
+wrote point.Enable v h = absurd (miss writes 0 tt h)
+wrote (point.Event n) v h = refl
+wrote point.Stalled v h = absurd (miss writes 2 tt h)
+wrote (point.StallLen e) v h = refl
+wrote (point.StallWord d e) v h = absurd (miss writes 4 tt h)
+wrote (point.Restarted e iso) v h = refl
+wrote (point.Woken d e) v h = refl
+wrote point.Flags v h = absurd (miss writes 7 tt h)
+wrote point.Status v h = absurd (miss writes 8 tt h)
+wrote (point.Released down) v h = refl
+wrote point.Address v h = refl
+wrote point.Ep0Out v h = refl
+wrote (point.NakIn e) v h = refl
+wrote (point.Naked e) v h = refl
+wrote point.Disabled v h = refl
+wrote point.Untyped v h = refl
+wrote point.Single v h = refl
+wrote point.Reset v h = refl
+wrote (point.PlacedOut e on) v h = refl
+wrote (point.PlacedIn e iso on) v h = refl
+wrote (point.NoLength e iso on) v h = refl
+wrote (point.Words d e iso on) v h = refl
+wrote (point.Type d e on) v h = refl
+wrote (point.Switch e on n) v h = refl
 
 enum-told : tie.Need-enum-told
 enum-told c = search needs
@@ -13,86 +50,29 @@ enum-told c = search needs
 fits-requires : tie.Need-fits-requires
 fits-requires c κs = search needs
 
-enum-known-p : tie.Need-enum-known-p
-enum-known-p c = search needs
-
 enum-told-2 : tie.Need-enum-told-2
 enum-told-2 c = search needs
 
 fits-requires-2 : tie.Need-fits-requires-2
 fits-requires-2 c κs = search needs
 
-enum-known-p-2 : tie.Need-enum-known-p-2
-enum-known-p-2 c = search needs
-
-enum-known-p-3 : tie.Need-enum-known-p-3
-enum-known-p-3 c = search needs
+enum-told-3 : tie.Need-enum-told-3
+enum-told-3 c = search needs
 
 fits-requires-3 : tie.Need-fits-requires-3
 fits-requires-3 c κs = search needs
 
-enum-known-p-4 : tie.Need-enum-known-p-4
-enum-known-p-4 c = search needs
-
-enum-known-p-5 : tie.Need-enum-known-p-5
-enum-known-p-5 c = search needs
-
-enum-told-3 : tie.Need-enum-told-3
-enum-told-3 c = search needs
+enum-told-4 : tie.Need-enum-told-4
+enum-told-4 c = search needs
 
 fits-requires-4 : tie.Need-fits-requires-4
 fits-requires-4 c κs = search needs
 
-enum-told-4 : tie.Need-enum-told-4
-enum-told-4 c = search needs
-
-fits-requires-5 : tie.Need-fits-requires-5
-fits-requires-5 c κs = search needs
-
-enum-known-p-6 : tie.Need-enum-known-p-6
-enum-known-p-6 c = search needs
-
 enum-told-5 : tie.Need-enum-told-5
 enum-told-5 c = search needs
 
-enum-told-6 : tie.Need-enum-told-6
-enum-told-6 c = search needs
-
-enum-known-p-7 : tie.Need-enum-known-p-7
-enum-known-p-7 c = search needs
-
-enum-known-p-8 : tie.Need-enum-known-p-8
-enum-known-p-8 c = search needs
-
-enum-told-7 : tie.Need-enum-told-7
-enum-told-7 c = search needs
-
-enum-told-8 : tie.Need-enum-told-8
-enum-told-8 c = search needs
-
-enum-told-9 : tie.Need-enum-told-9
-enum-told-9 c = search needs
-
-enum-told-10 : tie.Need-enum-told-10
-enum-told-10 c = search needs
-
-enum-known-p-9 : tie.Need-enum-known-p-9
-enum-known-p-9 c = search needs
-
-enum-known-p-10 : tie.Need-enum-known-p-10
-enum-known-p-10 c = search needs
-
-enum-known-p-11 : tie.Need-enum-known-p-11
-enum-known-p-11 c = search needs
-
-enum-known-p-12 : tie.Need-enum-known-p-12
-enum-known-p-12 c = search needs
-
-enum-known-p-13 : tie.Need-enum-known-p-13
-enum-known-p-13 c = search needs
-
-enum-known-p-14 : tie.Need-enum-known-p-14
-enum-known-p-14 c = search needs
+fits-requires-5 : tie.Need-fits-requires-5
+fits-requires-5 c κs = search needs
 
 returns : tie.Need-returns
 unfolding fitsAt
@@ -100,95 +80,22 @@ returns c = simp (c .fits2 .ensures, c .before .enum-told .given .1)
 
 returns-2 : tie.Need-returns-2
 unfolding fitsAt
-returns-2 c = simp (c .before .p .given .1)
+returns-2 c = simp (c .fits3 .ensures, c .before .enum-told2 .given .1)
 
 returns-3 : tie.Need-returns-3
 unfolding fitsAt
-returns-3 c = simp (c .fits3 .ensures, c .before .enum-told2 .given .1)
+returns-3 c = simp (c .fits4 .ensures, c .before .enum-told3 .given .1, word-width)
 
 returns-4 : tie.Need-returns-4
 unfolding fitsAt
-returns-4 c = simp (c .before .p2 .given .1)
+returns-4 c = simp (c .fits5 .ensures, c .before .enum-told4 .given .1)
 
 returns-5 : tie.Need-returns-5
 unfolding fitsAt
-returns-5 c = simp (c .fits4 .ensures, c .before .before .p3 .given .1, word-width)
+returns-5 c = simp (c .fits6 .ensures, c .before .enum-told5 .given .1)
 
 returns-6 : tie.Need-returns-6
-unfolding fitsAt
-returns-6 c = simp (c .before .p4 .given .1)
-
-returns-7 : tie.Need-returns-7
-unfolding fitsAt
-returns-7 c = simp (c .before .p5 .given .1)
-
-returns-8 : tie.Need-returns-8
-unfolding fitsAt
-returns-8 c = simp (c .fits5 .ensures, c .before .enum-told3 .given .1)
-
-returns-9 : tie.Need-returns-9
-unfolding fitsAt
-returns-9 c = simp (c .fits6 .ensures, c .before .enum-told4 .given .1)
-
-returns-10 : tie.Need-returns-10
-unfolding fitsAt
-returns-10 c = simp (c .before .p6 .given .1)
-
-returns-11 : tie.Need-returns-11
-unfolding fitsAt
-returns-11 c = simp (c .enum-told5 .given .1)
-
-returns-12 : tie.Need-returns-12
-unfolding fitsAt
-returns-12 c = simp (c .enum-told6 .given .1)
-
-returns-13 : tie.Need-returns-13
-unfolding fitsAt
-returns-13 c = simp (c .before .p7 .given .1)
-
-returns-14 : tie.Need-returns-14
-unfolding fitsAt
-returns-14 c = simp (c .before .p8 .given .1)
-
-returns-15 : tie.Need-returns-15
-unfolding fitsAt
-returns-15 c = simp (c .enum-told7 .given .1)
-
-returns-16 : tie.Need-returns-16
-unfolding fitsAt
-returns-16 c = simp (c .enum-told8 .given .1)
-
-returns-17 : tie.Need-returns-17
-unfolding fitsAt
-returns-17 c = simp (c .enum-told9 .given .1)
-
-returns-18 : tie.Need-returns-18
-unfolding fitsAt
-returns-18 c = simp (c .enum-told10 .given .1)
-
-returns-19 : tie.Need-returns-19
-unfolding fitsAt
-returns-19 c = simp (c .before .p9 .given .1)
-
-returns-20 : tie.Need-returns-20
-unfolding fitsAt
-returns-20 c = simp (c .before .p10 .given .1)
-
-returns-21 : tie.Need-returns-21
-unfolding fitsAt
-returns-21 c = simp (c .before .p11 .given .1)
-
-returns-22 : tie.Need-returns-22
-unfolding fitsAt
-returns-22 c = simp (c .before .p12 .given .1)
-
-returns-23 : tie.Need-returns-23
-unfolding fitsAt
-returns-23 c = simp (c .before .p13 .given .1)
-
-returns-24 : tie.Need-returns-24
-unfolding fitsAt
-returns-24 c = simp (c .before .p14 .given .1)
+returns-6 c = wrote _ (c .before .args .v) (c .match .keys6)
 
 pub fits-at-spec : {M : Type 1} → statement M
 fits-at-spec =
@@ -196,54 +103,17 @@ fits-at-spec =
     (tie.spec
     enum-told
     fits-requires
-    enum-known-p
     enum-told-2
     fits-requires-2
-    enum-known-p-2
-    enum-known-p-3
-    fits-requires-3
-    enum-known-p-4
-    enum-known-p-5
     enum-told-3
-    fits-requires-4
+    fits-requires-3
     enum-told-4
-    fits-requires-5
-    enum-known-p-6
+    fits-requires-4
     enum-told-5
-    enum-told-6
-    enum-known-p-7
-    enum-known-p-8
-    enum-told-7
-    enum-told-8
-    enum-told-9
-    enum-told-10
-    enum-known-p-9
-    enum-known-p-10
-    enum-known-p-11
-    enum-known-p-12
-    enum-known-p-13
-    enum-known-p-14
+    fits-requires-5
     returns
     returns-2
     returns-3
     returns-4
     returns-5
-    returns-6
-    returns-7
-    returns-8
-    returns-9
-    returns-10
-    returns-11
-    returns-12
-    returns-13
-    returns-14
-    returns-15
-    returns-16
-    returns-17
-    returns-18
-    returns-19
-    returns-20
-    returns-21
-    returns-22
-    returns-23
-    returns-24)
+    returns-6)

@@ -12,7 +12,7 @@ use Rattle.proceeding.proofs.proceed_bus.Reads as reads
 use Rattle.proceeding.proofs.proceed_bus.Lts as lts
 use Rattle.bus.proofs.decode.Reads as decode-reads
 use Rattle.bus.proofs.fits_at.Reads as fits-at-reads
-use Rattle.bus.proofs.resume.Reads as resume-reads
+use Rattle.bus_events.proofs.resume.Reads as resume-reads
 use Rattle.state.proofs.load_saved.Reads as load-saved-reads
 use Rattle.way.proofs.halts.halted_bus.Reads as halted-bus-reads
 

@@ -13,7 +13,7 @@ use Rattle.bus_calls.proofs.bus_begins.begin_set_enabled.Statement.{sta
 use Rattle.bus_calls.proofs.bus_begins.begin_set_enabled.Tie as tie
 use Rattle.bus_calls.proofs.bus_begins.begin_set_enabled.Reads as reads
 use Rattle.bus_calls.proofs.bus_begins.begin_set_enabled.Lts as lts
-use Rattle.bus.proofs.set_enabled.Reads as set-enabled-reads
+use Rattle.enabling.proofs.set_enabled.Reads as set-enabled-reads
 use Rattle.state.proofs.clear_wakes.Reads as clear-wakes-reads
 use Rattle.way.proofs.rows.slots_fit.Reads as slots-fit-reads
 use Rattle.rows.proofs.low.Reads as low-reads
