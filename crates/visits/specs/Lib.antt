@@ -1,0 +1,15 @@
+pub mod Limits
+pub mod LimitsLaws
+pub mod Bounds
+pub mod Times
+pub mod SpacedLaws
+pub mod SpanLaws
+pub mod BoundsLaws
+pub mod Reaches
+pub mod Emptied
+pub mod EmptiedLaws
+pub mod Suffices
+pub mod Overruns
+pub mod Fifteen
+pub mod Told
+pub mod Table
