@@ -1,0 +1,9 @@
+pub mod Records
+pub mod Sets
+pub mod Answers
+pub mod RecordsLaws
+pub mod SetsLaws
+pub mod BestLaws
+pub mod Promises
+pub mod Alike
+pub mod Table
