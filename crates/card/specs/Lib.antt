@@ -1,0 +1,12 @@
+pub mod Packet
+pub mod Reading
+pub mod Kept
+pub mod Written
+pub mod Streams
+pub mod Steps
+pub mod Clean
+pub mod Progress
+pub mod Theorem
+pub mod Places
+pub mod Whole
+pub mod Turns

@@ -1,0 +1,3 @@
+pub mod Calls
+pub mod Rooms
+pub mod Runs

@@ -1,0 +1,23 @@
+// Packets on the card: the reader of a whole stream. No call takes the driver, and any number is safe in a reader.
+mod blocks; // blocks.rt: what stands in a block of a stream
+pub mod reading; // reading.rt: the packets of a stream
+
+// A reader: the place, counted over the packet data of all blocks, at which it goes on.
+pub struct Reader {
+    pub at: usize,
+}
+
+pub enum Started {
+    At(Reader),
+    Refused(u8),
+}
+
+pub enum Next {
+    Packet {
+        endpoint: u8,
+        len: u16,
+        then: Reader,
+    },
+    End,
+    Refused(u8),
+}

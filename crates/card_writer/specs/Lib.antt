@@ -1,0 +1,5 @@
+pub mod Writing
+pub mod Pieces
+pub mod Runs
+pub mod Begins
+pub mod Stream
