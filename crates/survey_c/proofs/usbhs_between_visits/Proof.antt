@@ -1,0 +1,41 @@
+use mathlib.Core.Path.{sym, _∙_}
+use borrow.Author.Needs.{needs}
+use Rattle.survey_c.proofs.usbhs_between_visits.Statement.{statement}
+use Rattle.survey_c.proofs.usbhs_between_visits.Tie as tie
+
+between-visits-requires : tie.Need-between-visits-requires
+between-visits-requires c κs = search needs
+
+enum-known-row : tie.Need-enum-known-row
+enum-known-row c = search needs
+
+refused-requires : tie.Need-refused-requires
+refused-requires c κs = search needs
+
+enum-known-l : tie.Need-enum-known-l
+enum-known-l c = search needs
+
+ended-requires : tie.Need-ended-requires
+ended-requires c κs = search needs
+
+returns : tie.Need-returns
+returns c =
+    let e = sym (c .before .before .before .before .between-visits .ensures) ∙ c .before .before .row .given .1 in
+    (rw e (c .refused .ensures), (rw e, rw e))
+
+returns-2 : tie.Need-returns-2
+returns-2 c =
+    let e = sym (c .before .before .before .before .between-visits .ensures) ∙ c .before .before .l .given .1 in
+    (rw e (c .ended .ensures), (rw e, rw e))
+
+pub usbhs-between-visits-spec : {M : Type 1} → statement M
+usbhs-between-visits-spec =
+    tie.close
+    (tie.spec
+    between-visits-requires
+    enum-known-row
+    refused-requires
+    enum-known-l
+    ended-requires
+    returns
+    returns-2)

@@ -1,0 +1,77 @@
+use mathlib.Core.Path.{sym, _∙_}
+use borrow.Author.Needs.{needs}
+use Rattle.survey_c.proofs.usbhs_card_finish.Statement.{statement}
+use Rattle.survey_c.proofs.usbhs_card_finish.Tie as tie
+
+writer-in-requires : tie.Need-writer-in-requires
+writer-in-requires c κs = search needs
+
+finish-requires : tie.Need-finish-requires
+finish-requires c κs = search needs
+
+enum-known-row : tie.Need-enum-known-row
+enum-known-row c = search needs
+
+refused-requires : tie.Need-refused-requires
+refused-requires c κs = search needs
+
+enum-told : tie.Need-enum-told
+enum-told c = search needs
+
+ended-requires : tie.Need-ended-requires
+ended-requires c κs = search needs
+
+enum-told-2 : tie.Need-enum-told-2
+enum-told-2 c = search needs
+
+ended-requires-2 : tie.Need-ended-requires-2
+ended-requires-2 c κs = search needs
+
+same-length : tie.Need-same-length
+same-length c = search needs
+
+returns : tie.Need-returns
+returns c =
+    let w = c .before .before .before .before .before .before .before .before .writer-in .ensures in
+    let a = c .before .before .before .before .before .before .finish .ensures in
+    let e = sym (a .0) ∙ c .before .before .row .given .1 in
+    rw (← w) (rw e (c .refused .ensures), a .1)
+
+same-length-2 : tie.Need-same-length-2
+same-length-2 c = search needs
+
+returns-2 : tie.Need-returns-2
+returns-2 c =
+    let w = c .before .before .before .before .before .before .before .writer-in .ensures in
+    let a = c .before .before .before .before .before .finish .ensures in
+    let e = sym (a .0) ∙ c .before .enum-told .given .1 in
+    rw (← w) (rw e (c .ended .ensures), a .1)
+
+same-length-3 : tie.Need-same-length-3
+same-length-3 c = search needs
+
+returns-3 : tie.Need-returns-3
+returns-3 c =
+    let w = c .before .before .before .before .before .before .before .writer-in .ensures in
+    let a = c .before .before .before .before .before .finish .ensures in
+    let e = sym (a .0) ∙ c .before .enum-told2 .given .1 in
+    rw (← w) (rw e (c .ended2 .ensures), a .1)
+
+pub usbhs-card-finish-spec : {M : Type 1} → statement M
+usbhs-card-finish-spec =
+    tie.close
+    (tie.spec
+    writer-in-requires
+    finish-requires
+    enum-known-row
+    refused-requires
+    enum-told
+    ended-requires
+    enum-told-2
+    ended-requires-2
+    same-length
+    returns
+    same-length-2
+    returns-2
+    same-length-3
+    returns-3)

@@ -1,0 +1,69 @@
+-- Packets on the card: a writer as four numbers, the calls' words, and what the caller's rooms hold then. A refusal leaves them.
+use mathlib.Core.Bool.{Bool, cond}
+use mathlib.Core.List.{List, [], _∷_}
+use Prim.Native.Nat.{ℕ, _+_, _%_}
+use lib.ListN.{getD}
+use Rattle.card_writer.specs.declared.Writer.{Writer}
+use Rattle.card_writer.specs.declared.Wrote.{Wrote}
+use Rattle.card_writer.specs.declared.Wrote.the-variants as wrote
+use Rattle.card_writer.specs.declared.Finished.{Finished}
+use Rattle.card_writer.specs.declared.Finished.the-variants as finished
+use Rattle.card_reader.specs.declared.Reader.{Reader}
+use Rattle.card_reader.specs.declared.Started.{Started}
+use Rattle.card_reader.specs.declared.Started.the-variants as started
+use Rattle.card_reader.specs.declared.Next.{Next}
+use Rattle.card_reader.specs.declared.Next.the-variants as next
+use Rattle.survey_c.specs.Words.{refusedWord, endWord, doneWord}
+
+-- ---- the writer
+
+-- number, used, first, done; the last three count modulo 65,536
+unfoldable pub writerIn : List ℕ → Writer
+writerIn s = record { number = getD s 0 0; used = getD s 1 0 % 65536; first = getD s 2 0 % 65536; done = getD s 3 0 % 65536 }
+
+unfoldable pub numbersOf : Writer → List ℕ
+numbersOf w = w .number ∷ w .used ∷ w .first ∷ w .done ∷ []
+
+-- bit 0: the block is to be stored; bit 1: the packet is written whole
+abbrev pub resultOf : Bool → Bool → ℕ
+resultOf full done = cond full 1 0 + cond done 2 0
+
+abbrev pub wroteWord : Wrote → ℕ
+wroteWord (wrote.Piece next full done) = endWord (resultOf full done)
+wroteWord (wrote.Refused row) = refusedWord row
+
+abbrev pub writerBy : Wrote → List ℕ → List ℕ
+writerBy (wrote.Piece next full done) old = numbersOf next
+writerBy (wrote.Refused row) old = old
+
+-- 1: the last block is to be stored; 0: there is none
+abbrev pub finishedWord : Finished → ℕ
+finishedWord finished.Last = endWord 1
+finishedWord finished.Nothing = endWord 0
+finishedWord (finished.Refused row) = refusedWord row
+
+-- ---- the reader
+
+abbrev pub startedWord : Started → ℕ
+startedWord (started.At reader) = endWord 0
+startedWord (started.Refused row) = refusedWord row
+
+abbrev pub startBy : Started → ℕ → ℕ
+startBy (started.At reader) old = reader .at
+startBy (started.Refused row) old = old
+
+-- a packet is done with its length, the stream with an end
+abbrev pub nextWord : Next → ℕ
+nextWord (next.Packet endpoint len then) = doneWord len
+nextWord next.End = endWord 0
+nextWord (next.Refused row) = refusedWord row
+
+abbrev pub endpointBy : Next → ℕ → ℕ
+endpointBy (next.Packet endpoint len then) old = endpoint
+endpointBy next.End old = old
+endpointBy (next.Refused row) old = old
+
+abbrev pub placeBy : Next → ℕ → ℕ
+placeBy (next.Packet endpoint len then) old = then .at
+placeBy next.End old = old
+placeBy (next.Refused row) old = old

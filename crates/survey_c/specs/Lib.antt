@@ -1,0 +1,5 @@
+pub mod Words
+pub mod Numbers
+pub mod NumbersLaws
+pub mod Card
+pub mod CardLaws

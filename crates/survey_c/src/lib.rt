@@ -1,0 +1,178 @@
+// The calls that take no driver, for programs in other languages (include/usbhs_survey.h): the best set of channels, the arrivals between visits,
+// packets on the card. Any numbers are safe. Each call answers one word; where it is refused, nothing is written.
+mod words; // words.rt: an answer as one word
+mod writer; // writer.rt: a card's writer as four numbers
+
+use card_reader::Next;
+use card_reader::Reader;
+use card_reader::Started;
+use card_writer::Finished;
+use card_writer::Wrote;
+use channels::Answer;
+use visits::Bounds;
+use words::done;
+use words::ended;
+use words::refused;
+use writer::endpoint_of;
+use writer::numbers_of;
+use writer::result_of;
+use writer::writer_in;
+ghost use mathlib.Core.Path.{_≡_};
+ghost use lib.ListN.{length};
+ghost use Rattle.channels.specs.Answers.{answerOf, recordsAfter};
+ghost use Rattle.visits.specs.Bounds.{boundsOf};
+ghost use Rattle.crc.specs.Crc.{dataCrc};
+ghost use Rattle.card.specs.Packet.{packetOf};
+ghost use Rattle.card_writer.specs.Writing.{newWriter, writeOf, writtenOf, finishOf, lastOf};
+ghost use Rattle.card_reader.specs.Calls.{startOf, nextOf, roomOf};
+ghost use Rattle.survey_c.specs.Numbers.{bestWord, totalBy, figureBy, lookedBy, boundsWord, leastBy, greatestBy};
+ghost use Rattle.survey_c.specs.Card.{writerIn, numbersOf, wroteWord, writerBy, finishedWord, startedWord, startBy, nextWord, endpointBy, placeBy};
+
+// The best set of the channels in the list: its count is the end's result; beside it the total of its maxima, a figure that no fitting set exceeds
+// and how many sets were looked at.
+#[no_mangle]
+pub extern "C" fn usbhs_best_set(
+    list: &mut [u8],
+    in_use: u32,
+    budget: u32,
+    total: &mut u32,
+    figure: &mut u32,
+    looked: &mut u32,
+) -> u64
+    ensures { λ r. ⌜ r ≡ bestWord (answerOf (now (list .entry)) in_use budget) ⌝ }
+    ensures { λ _. ⌜ now (list .exit) ≡ recordsAfter (now (list .entry)) in_use budget ⌝ }
+    ensures { λ _. ⌜ now (total .exit) ≡ totalBy (answerOf (now (list .entry)) in_use budget) (now (total .entry)) ⌝ }
+    ensures { λ _. ⌜ now (figure .exit) ≡ figureBy (answerOf (now (list .entry)) in_use budget) (now (figure .entry)) ⌝ }
+    ensures { λ _. ⌜ now (looked .exit) ≡ lookedBy (answerOf (now (list .entry)) in_use budget) (now (looked .entry)) ⌝ }
+{
+    match channels::best_set(list, in_use, budget) {
+        Answer::Refused(row) => refused(row),
+        Answer::Best(choice) => {
+            *total = choice.total;
+            *figure = choice.figure;
+            *looked = choice.looked;
+            ended(choice.set)
+        }
+    }
+}
+
+// The least and the greatest number of arrivals between two visits.
+#[no_mangle]
+pub extern "C" fn usbhs_between_visits(
+    a: u32,
+    b: u32,
+    c: u32,
+    d: u32,
+    least: &mut u32,
+    greatest: &mut u32,
+) -> u64
+    ensures { λ r. ⌜ r ≡ boundsWord (boundsOf a b c d) ⌝ }
+    ensures { λ _. ⌜ now (least .exit) ≡ leastBy (boundsOf a b c d) (now (least .entry)) ⌝ }
+    ensures { λ _. ⌜ now (greatest .exit) ≡ greatestBy (boundsOf a b c d) (now (greatest .entry)) ⌝ }
+{
+    match visits::between_visits(a, b, c, d) {
+        Bounds::Refused(row) => refused(row),
+        Bounds::Between(l, g) => {
+            *least = l.arrivals;
+            *greatest = g.arrivals;
+            ended(0)
+        }
+    }
+}
+
+// The data CRC of USB 2.0 over these bytes, the first bit sent being bit 0.
+#[no_mangle]
+pub extern "C" fn usbhs_data_crc(bytes: &[u8]) -> u32
+    ensures { λ r. ⌜ r ≡ dataCrc (now (bytes .entry)) ⌝ }
+{
+    crc::data_crc(bytes) as u32
+}
+
+// A writer at the start of a stream.
+#[no_mangle]
+pub extern "C" fn usbhs_card_new(writer: &mut [u32; 4])
+    ensures { λ _. ⌜ now (writer .exit) ≡ numbersOf newWriter ⌝ }
+{
+    let numbers = numbers_of(card_writer::writing::new());
+    *writer = numbers;
+}
+
+// Writes a piece of a packet into the lent block.
+#[no_mangle]
+pub extern "C" fn usbhs_card_write(
+    writer: &mut [u32; 4],
+    block: &mut [u8],
+    endpoint: u32,
+    bytes: &[u8],
+) -> u64
+    ensures { λ r. ⌜ r ≡ wroteWord (writeOf (writerIn (now (writer .entry))) (packetOf endpoint (now (bytes .entry))) (now (block .entry))) ⌝ }
+    ensures { λ _. ⌜ now (writer .exit) ≡ writerBy (writeOf (writerIn (now (writer .entry))) (packetOf endpoint (now (bytes .entry))) (now (block .entry))) (now (writer .entry)) ⌝ }
+    ensures { λ _. ⌜ now (block .exit) ≡ writtenOf (writerIn (now (writer .entry))) (packetOf endpoint (now (bytes .entry))) (now (block .entry)) ⌝ }
+{
+    let w = writer_in(writer);
+    match card_writer::writing::write(w, block, endpoint_of(endpoint), bytes) {
+        Wrote::Refused(row) => refused(row),
+        Wrote::Piece { next, full, done } => {
+            let numbers = numbers_of(next);
+            *writer = numbers;
+            ended(result_of(full, done))
+        }
+    }
+}
+
+// Fills the last block with zeros: 1, it is to be stored; 0, there is none.
+#[no_mangle]
+pub extern "C" fn usbhs_card_finish(writer: &[u32; 4], block: &mut [u8]) -> u64
+    ensures { λ r. ⌜ r ≡ finishedWord (finishOf (writerIn (now (writer .entry))) (now (block .entry))) ⌝ }
+    ensures { λ _. ⌜ now (block .exit) ≡ lastOf (writerIn (now (writer .entry))) (now (block .entry)) ⌝ }
+{
+    match card_writer::writing::finish(writer_in(writer), block) {
+        Finished::Refused(row) => refused(row),
+        Finished::Nothing => ended(0),
+        Finished::Last => ended(1),
+    }
+}
+
+// The place at which a reader of this stream starts.
+#[no_mangle]
+pub extern "C" fn usbhs_card_start(stream: &[u8], place: &mut usize) -> u64
+    ensures { λ r. ⌜ r ≡ startedWord (startOf (now (stream .entry))) ⌝ }
+    ensures { λ _. ⌜ now (place .exit) ≡ startBy (startOf (now (stream .entry))) (now (place .entry)) ⌝ }
+{
+    match card_reader::reading::start(stream) {
+        Started::Refused(row) => refused(row),
+        Started::At(reader) => {
+            *place = reader.at;
+            ended(0)
+        }
+    }
+}
+
+// The next packet at the room's front, with its endpoint, and the place behind it; or the end.
+#[no_mangle]
+pub extern "C" fn usbhs_card_next(
+    stream: &[u8],
+    place: &mut usize,
+    endpoint: &mut u32,
+    room: &mut [u8],
+) -> u64
+    ensures { λ r. ⌜ r ≡ nextWord (nextOf (now (stream .entry)) (now (place .entry)) (length (now (room .entry)))) ⌝ }
+    ensures { λ _. ⌜ now (place .exit) ≡ placeBy (nextOf (now (stream .entry)) (now (place .entry)) (length (now (room .entry)))) (now (place .entry)) ⌝ }
+    ensures { λ _. ⌜ now (endpoint .exit) ≡ endpointBy (nextOf (now (stream .entry)) (now (place .entry)) (length (now (room .entry)))) (now (endpoint .entry)) ⌝ }
+    ensures { λ _. ⌜ now (room .exit) ≡ roomOf (now (stream .entry)) (now (place .entry)) (now (room .entry)) ⌝ }
+{
+    let reader = Reader { at: *place };
+    match card_reader::reading::next_packet(reader, stream, room) {
+        Next::Refused(row) => refused(row),
+        Next::End => ended(0),
+        Next::Packet {
+            endpoint: e,
+            len,
+            then,
+        } => {
+            *endpoint = e as u32;
+            *place = then.at;
+            done(len)
+        }
+    }
+}

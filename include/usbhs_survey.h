@@ -1,0 +1,97 @@
+/* The survey's calls, which take no driver: the best set of channels, the arrivals between a reader's visits, packets on the card. The library
+ * (libsurvey_c.a) has no state of its own, and links with or without the driver's.
+ *
+ * A slice is a pointer and a length; the bytes of one call must not overlap. Any number is safe.
+ *
+ * Each call answers one word, as those of usbhs.h do:
+ *
+ *   kind (bits 0-3)  other bits
+ *   0 refused        8-15 the row's number; nothing is written
+ *   5 end            8-23 result
+ *   7 done           8-23 length
+ */
+#ifndef USBHS_SURVEY_H
+#define USBHS_SURVEY_H
+
+#include "usbhs.h"
+
+#ifdef __cplusplus
+extern "C" {
+#endif
+
+/* The best set of up to 16 optional channels: it fits the bus time that is left of 6,000 byte-times, and its maxima total the most.
+ *
+ * A channel is USBHS_CHANNEL_LEN bytes of the list, numbers lowest byte first: 0-1 its maximum, 2-3 its charge in byte-times, 4 its flag, which
+ * becomes 1 if the channel is chosen and 0 if not. in_use: the byte-times in use. budget: how many sets may be looked at; 65,536 are always all.
+ *
+ * Ends with the set: bit i says whether channel i is in. *total: of its maxima. *figure: no fitting set has a greater total; if all sets were
+ * looked at it is *total, else the total of all maxima. *looked: how many sets were looked at. Of equal sets the one with the smaller number.
+ *
+ * Row 20: more than 16 channels, a list of no whole channels, or a budget of 0. */
+#define USBHS_CHANNEL_LEN 5
+uint64_t usbhs_best_set(uint8_t *list, size_t list_length, uint32_t in_use, uint32_t budget, uint32_t *total, uint32_t *figure, uint32_t *looked);
+
+/* How many packets may arrive between two visits of a reader. In microframes: from a visit to the next it is at least a and at most b, from an
+ * arrival to the next at least c and at most d. The arrival on the second visit's microframe counts, the one on the first's does not.
+ *
+ * Ends with 0. *least: reached in a span of a by a first arrival d after the visit, then one every d. *greatest: reached in a span of b by a first
+ * arrival 1 after the visit, then one every c. A ring of 16 slots, which holds 15 packets, has no overrun after the first visit, however the times
+ * fall, exactly if *greatest is at most 15 and each visit empties it.
+ *
+ * Row 23: a distance of 0 or above 16,383, or a least above its greatest. */
+uint64_t usbhs_between_visits(uint32_t a, uint32_t b, uint32_t c, uint32_t d, uint32_t *least, uint32_t *greatest);
+
+/* The data CRC of USB 2.0, 8.3.5, over these bytes, 16 bits, the first bit sent being bit 0: 0xB4C8 for "123456789". */
+uint32_t usbhs_data_crc(const uint8_t *bytes, size_t length);
+
+/* Packets on the card: a stream of blocks of USBHS_BLOCK_LEN bytes.
+ *
+ *   0-3      the block's number from 0, lowest byte first
+ *   4-5      the offset of the first packet that begins in it, likewise; 65,535 if none
+ *   6-509    packet data: two bytes of length, lowest first, one byte of endpoint, its bytes; packets run on over block ends
+ *   510-511  usbhs_data_crc of bytes 0-509, lowest byte first
+ *
+ * The writer fills one block at a time. Its state is four numbers of the caller's, which usbhs_card_new sets: the block's number, the bytes of packet
+ * data in it, the offset of the first packet that begins in it, the bytes written of the packet under way. The last three count modulo 65,536.
+ *
+ *     usbhs_card_new(writer);
+ *     for each packet
+ *         do {
+ *             word = usbhs_card_write(writer, block, USBHS_BLOCK_LEN, endpoint, data, length);
+ *             if (USBHS_KIND(word) == USBHS_REFUSED) ...
+ *             if (USBHS_RESULT(word) & USBHS_BLOCK_FULL) store the block;
+ *         } while (!(USBHS_RESULT(word) & USBHS_PACKET_WRITTEN));
+ *     word = usbhs_card_finish(writer, block, USBHS_BLOCK_LEN);
+ *     if (USBHS_RESULT(word) & USBHS_BLOCK_FULL) store the block;
+ *
+ * Between the calls the block stays as it is until it is stored; what the next one holds before its first call does not matter. */
+#define USBHS_BLOCK_LEN 512
+#define USBHS_WRITER_LEN 4
+
+/* The result's bits. */
+#define USBHS_BLOCK_FULL 1u     /* the block is to be stored, and the next one lent */
+#define USBHS_PACKET_WRITTEN 2u /* the packet is written whole; else it is brought again with the next block */
+
+void usbhs_card_new(uint32_t writer[USBHS_WRITER_LEN]);
+
+/* Row 21: a block of no 512 bytes, a packet of more than 1,024, endpoint 0 or above 15. */
+uint64_t usbhs_card_write(uint32_t writer[USBHS_WRITER_LEN], uint8_t *block, size_t block_length, uint32_t endpoint, const uint8_t *data, size_t data_length);
+
+/* Fills the last block with zeros, after the last packet. Ends with USBHS_BLOCK_FULL, or with 0 where the last block is stored already.
+ * Row 21: a block of no 512 bytes. */
+uint64_t usbhs_card_finish(const uint32_t writer[USBHS_WRITER_LEN], uint8_t *block, size_t block_length);
+
+/* The reader, over the whole stream. *place is where it goes on; usbhs_card_start sets it. A block whose check fails or whose number is not its place is
+ * dropped with the packet that it cuts; every packet that lies wholly in blocks as they were written is given, in order.
+ *
+ * usbhs_card_start ends with 0. usbhs_card_next is done with the packet's length, its bytes at the room's front and its endpoint in *endpoint, or
+ * ends where there is no more packet.
+ * Row 21: a stream of no whole blocks; a room shorter than the packet, which a longer one then gets. */
+uint64_t usbhs_card_start(const uint8_t *stream, size_t stream_length, size_t *place);
+uint64_t usbhs_card_next(const uint8_t *stream, size_t stream_length, size_t *place, uint32_t *endpoint, uint8_t *room, size_t room_length);
+
+#ifdef __cplusplus
+}
+#endif
+
+#endif

@@ -1,0 +1,228 @@
+/* Links the proved archive of the calls that take no driver, and checks values worked out by hand. */
+#include <stdio.h>
+#include <string.h>
+#include "usbhs_survey.h"
+
+static int failed;
+
+static void expect(const char *what, uint64_t got, uint64_t wanted)
+{
+    if (got != wanted) {
+        printf("%s: %llu, not %llu\n", what, (unsigned long long)got, (unsigned long long)wanted);
+        failed = 1;
+    }
+}
+
+static void refused(const char *what, uint64_t word, unsigned row)
+{
+    expect(what, USBHS_KIND(word), USBHS_REFUSED);
+    expect(what, USBHS_ROW(word), row);
+}
+
+static void ended(const char *what, uint64_t word, unsigned result)
+{
+    expect(what, USBHS_KIND(word), USBHS_END);
+    expect(what, word >> 8, result);
+}
+
+/* ---- channels: maxima 100, 100, 150, charges 3,000, 3,000, 5,000 */
+
+static const uint8_t three[3 * USBHS_CHANNEL_LEN] = {100, 0, 0xB8, 0x0B, 7, 100, 0, 0xB8, 0x0B, 8, 150, 0, 0x88, 0x13, 9};
+
+static void flags(const char *what, const uint8_t *list, unsigned a, unsigned b, unsigned c)
+{
+    expect(what, list[4], a);
+    expect(what, list[9], b);
+    expect(what, list[14], c);
+}
+
+static void chosen(const char *what, uint32_t in_use, uint32_t budget, unsigned set, unsigned total, unsigned figure, unsigned looked)
+{
+    uint8_t list[sizeof three];
+    uint32_t t = 7, f = 8, l = 9;
+
+    memcpy(list, three, sizeof three);
+    ended(what, usbhs_best_set(list, sizeof list, in_use, budget, &t, &f, &l), set);
+    expect(what, t, total);
+    expect(what, f, figure);
+    expect(what, l, looked);
+    flags(what, list, set & 1, set >> 1 & 1, set >> 2 & 1);
+}
+
+static void channels(void)
+{
+    uint8_t list[17 * USBHS_CHANNEL_LEN];
+    uint32_t t = 7, f = 8, l = 9;
+    int i;
+
+    chosen("all sets", 0, 8, 3, 200, 200, 8);
+    chosen("three sets", 0, 3, 1, 100, 350, 3);
+    chosen("one byte-time less", 1, 9, 4, 150, 150, 8);
+    chosen("no time left", 7000, 9, 0, 0, 0, 8);
+
+    memcpy(list, three, sizeof three);
+    refused("budget 0", usbhs_best_set(list, sizeof three, 0, 0, &t, &f, &l), 20);
+    refused("a part of a channel", usbhs_best_set(list, sizeof three - 1, 0, 8, &t, &f, &l), 20);
+    expect("refused: list", memcmp(list, three, sizeof three) != 0, 0);
+    expect("refused: total", t, 7);
+    expect("refused: figure", f, 8);
+    expect("refused: looked", l, 9);
+    ended("no channel", usbhs_best_set(list, 0, 0, 1, &t, &f, &l), 0);
+    expect("no channel: looked", l, 1);
+
+    /* sixteen channels of charge 0, which fit where no time is left; seventeen are refused */
+    memset(list, 0, sizeof list);
+    for (i = 0; i < 17; i++)
+        list[i * USBHS_CHANNEL_LEN] = 255;
+    refused("seventeen channels", usbhs_best_set(list, sizeof list, 0, 1, &t, &f, &l), 20);
+    ended("sixteen channels", usbhs_best_set(list, 16 * USBHS_CHANNEL_LEN, 6000, 0xFFFFFFFFu, &t, &f, &l), 0xFFFF);
+    expect("sixteen channels: total", t, 16 * 255);
+    expect("sixteen channels: looked", l, 65536);
+}
+
+/* ---- visits */
+
+static void between(const char *what, uint32_t a, uint32_t b, uint32_t c, uint32_t d, unsigned least, unsigned greatest)
+{
+    uint32_t l = 7, g = 8;
+
+    ended(what, usbhs_between_visits(a, b, c, d, &l, &g), 0);
+    expect(what, l, least);
+    expect(what, g, greatest);
+}
+
+static void visits(void)
+{
+    uint32_t l = 7, g = 8;
+
+    between("8 to 120, 8 to 9", 8, 120, 8, 9, 0, 15);
+    between("9 to 121, 8 to 9", 9, 121, 8, 9, 1, 16);
+    between("the widest", 1, 16383, 1, 16383, 0, 16383);
+    refused("a distance of 0", usbhs_between_visits(0, 8, 8, 8, &l, &g), 23);
+    refused("a distance of 16,384", usbhs_between_visits(8, 16384, 8, 8, &l, &g), 23);
+    refused("visits: a least above", usbhs_between_visits(9, 8, 8, 8, &l, &g), 23);
+    refused("arrivals: a least above", usbhs_between_visits(8, 8, 9, 8, &l, &g), 23);
+    expect("refused: least", l, 7);
+    expect("refused: greatest", g, 8);
+}
+
+/* ---- the card: three packets, of 600, 0 and 1,024 bytes, in four blocks */
+
+#define PACKETS 3
+
+static const unsigned lengths[PACKETS] = {600, 0, 1024};
+static const unsigned endpoints[PACKETS] = {1, 15, 2};
+static uint8_t data[PACKETS][1024];
+static uint8_t stream[8 * USBHS_BLOCK_LEN];
+static size_t stored;
+
+static void store(uint8_t *block)
+{
+    memcpy(stream + stored, block, USBHS_BLOCK_LEN);
+    stored += USBHS_BLOCK_LEN;
+    memset(block, 0xEE, USBHS_BLOCK_LEN);
+}
+
+static void written(void)
+{
+    uint32_t writer[USBHS_WRITER_LEN];
+    uint8_t block[USBHS_BLOCK_LEN];
+    uint64_t word;
+    unsigned i, k;
+
+    for (i = 0; i < PACKETS; i++)
+        for (k = 0; k < lengths[i]; k++)
+            data[i][k] = (uint8_t)(k * 7 + i);
+    memset(block, 0xEE, sizeof block);
+    usbhs_card_new(writer);
+    refused("a short block", usbhs_card_write(writer, block, 511, 1, data[0], 600), 21);
+    refused("a long packet", usbhs_card_write(writer, block, 512, 1, stream, 1025), 21);
+    refused("endpoint 0", usbhs_card_write(writer, block, 512, 0, data[0], 600), 21);
+    refused("endpoint 16", usbhs_card_write(writer, block, 512, 16, data[0], 600), 21);
+    refused("endpoint 257", usbhs_card_write(writer, block, 512, 257, data[0], 600), 21);
+    ended("nothing to finish", usbhs_card_finish(writer, block, 512), 0);
+    refused("finish: a short block", usbhs_card_finish(writer, block, 511), 21);
+    expect("refused: block", block[0], 0xEE);
+    for (i = 0; i < PACKETS; i++) {
+        do {
+            word = usbhs_card_write(writer, block, sizeof block, endpoints[i], data[i], lengths[i]);
+            expect("write: kind", USBHS_KIND(word), USBHS_END);
+            if (USBHS_KIND(word) != USBHS_END)
+                return;
+            if (USBHS_RESULT(word) & USBHS_BLOCK_FULL)
+                store(block);
+        } while (!(USBHS_RESULT(word) & USBHS_PACKET_WRITTEN));
+    }
+    ended("finish", usbhs_card_finish(writer, block, sizeof block), USBHS_BLOCK_FULL);
+    store(block);
+
+    /* 603 + 3 + 1,027 bytes of packet data; the second block's first packet begins at 99 of its data, the third's and fourth's none */
+    expect("blocks", stored, 4 * USBHS_BLOCK_LEN);
+    for (k = 0; k < 4; k++) {
+        const uint8_t *b = stream + k * USBHS_BLOCK_LEN;
+        static const unsigned firsts[4] = {6, 6 + 99, 65535, 65535};
+
+        expect("number", b[0] + b[1] * 256u + b[2] * 65536u + b[3] * 16777216u, k);
+        expect("first", b[4] + b[5] * 256u, firsts[k]);
+        expect("check", b[510] + b[511] * 256u, usbhs_data_crc(b, 510));
+    }
+    expect("length", stream[6] + stream[7] * 256u, 600);
+    expect("endpoint", stream[8], 1);
+    expect("first byte", stream[10], 7);
+    expect("filler", stream[3 * USBHS_BLOCK_LEN + 6 + 121], 0);
+}
+
+/* the packets from the first on, each as it was written */
+static void given(const char *what, unsigned first, unsigned last)
+{
+    uint8_t room[1024];
+    uint32_t endpoint = 99;
+    size_t place = 99;
+    uint64_t word;
+    unsigned i;
+
+    ended(what, usbhs_card_start(stream, stored, &place), 0);
+    for (i = first; i <= last; i++) {
+        if (lengths[i] > 0)
+            refused(what, usbhs_card_next(stream, stored, &place, &endpoint, room, lengths[i] - 1), 21);
+        word = usbhs_card_next(stream, stored, &place, &endpoint, room, sizeof room);
+        expect(what, USBHS_KIND(word), USBHS_DONE);
+        expect(what, word >> 8, lengths[i]);
+        expect(what, endpoint, endpoints[i]);
+        expect(what, memcmp(room, data[i], lengths[i]) != 0, 0);
+    }
+    ended(what, usbhs_card_next(stream, stored, &place, &endpoint, room, sizeof room), 0);
+}
+
+static void read_back(void)
+{
+    size_t place = 99;
+    uint32_t endpoint = 99;
+    uint8_t room[1];
+
+    refused("a part of a block", usbhs_card_start(stream, 511, &place), 21);
+    refused("next: a part of a block", usbhs_card_next(stream, 511, &place, &endpoint, room, 1), 21);
+    expect("refused: place", place, 99);
+    expect("refused: endpoint", endpoint, 99);
+    given("all", 0, 2);
+    stream[2 * USBHS_BLOCK_LEN + 100] ^= 1; /* the third block: it cuts the last packet */
+    given("third block bad", 0, 1);
+    stream[2 * USBHS_BLOCK_LEN + 100] ^= 1;
+    stream[100] ^= 1; /* the first block: it cuts the first packet */
+    given("first block bad", 1, 2);
+    stream[100] ^= 1;
+    given("all again", 0, 2);
+}
+
+int main(void)
+{
+    channels();
+    visits();
+    expect("crc", usbhs_data_crc((const uint8_t *)"123456789", 9), 0xB4C8);
+    expect("crc of none", usbhs_data_crc(stream, 0), 0);
+    written();
+    read_back();
+    if (!failed)
+        printf("survey: passed\n");
+    return failed;
+}
