@@ -19,6 +19,7 @@ pub mod Switches
 pub mod Rows
 pub mod Agrees
 pub mod Demand3
+pub mod Lent
 pub mod Code
 pub mod Sorts
 pub mod Always
