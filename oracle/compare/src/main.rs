@@ -2,6 +2,7 @@
 //! compare --begun [...]: the same without the interrupt: of each random run, start-up, allocation, EP0's start, the bus,
 //! enabling, stalls, the microframe, pacing, advance, reads, writes, the control pipe, open, close, queue and the questions, with the continues
 //! that follow them.
+//! compare --wide [...]: random runs with buffers of 1,024 bytes, against the Rust read with 1,024 among its sizes.
 //! compare FILE...: the same with recorded lists.
 
 mod port;
@@ -151,7 +152,7 @@ impl Compared {
 
 fn main() {
     let (mut seed, mut runs, mut length) = (1, 1000, 300);
-    let mut only_begun = false;
+    let (mut only_begun, mut wide) = (false, false);
     let mut files = vec![];
     let mut args = std::env::args().skip(1);
     while let Some(a) = args.next() {
@@ -161,15 +162,18 @@ fn main() {
             "--runs" => runs = number(),
             "--length" => length = number() as u32,
             "--begun" => only_begun = true,
+            "--wide" => wide = true,
             _ => files.push(a),
         }
     }
-    let mut rust = original::Rust::new();
+    let mut rust: Box<dyn Driver> = if wide { Box::new(wider::Rust::new()) } else { Box::new(original::Rust::new()) };
+    let rust = rust.as_mut();
+    let run = if wide { oracle::random::run_1024 } else { oracle::random::run_64 };
     let mut port = port::Port::new();
     let mut compared = Compared::default();
     for file in &files {
         let list = oracle::text::parse(&std::fs::read_to_string(file).unwrap()).unwrap();
-        let mut session = Session::new(&mut rust);
+        let mut session = Session::new(rust);
         let entries: Vec<Entry> = list
             .iter()
             .filter_map(|(_, l)| match l {
@@ -181,10 +185,10 @@ fn main() {
     }
     if files.is_empty() {
         for seed in seed..seed + runs {
-            let mut entries = oracle::random::run_64(&mut rust, seed, length);
+            let mut entries = run(rust, seed, length);
             if only_begun {
                 let entries_of = entries;
-                let mut session = Session::new(&mut rust);
+                let mut session = Session::new(rust);
                 let mut awaited = 32;
                 entries = vec![];
                 for call in begun(&entries_of) {

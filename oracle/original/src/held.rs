@@ -53,6 +53,11 @@ pub trait Objects {
     fn got(&self) -> &[u8];
 }
 
+/// Is it one of the buffer sizes?
+pub fn is_size(size: u32) -> bool {
+    matches!(size, 8 | 16 | 32 | 64 | 512) || cfg!(feature = "wide") && size == 1024
+}
+
 /// The objects for buffers of this size, with room for `count` at least.
 pub fn objects(size: u32) -> Box<dyn Objects> {
     match size {
@@ -60,6 +65,8 @@ pub fn objects(size: u32) -> Box<dyn Objects> {
         16 => Box::new(Held::<4096, 16>::new()),
         32 => Box::new(Held::<2048, 32>::new()),
         64 => Box::new(Held::<1024, 64>::new()),
+        #[cfg(feature = "wide")]
+        1024 => Box::new(Held::<64, 1024>::new()),
         _ => Box::new(Held::<128, 512>::new()),
     }
 }

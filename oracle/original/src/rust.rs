@@ -8,7 +8,7 @@ use std::sync::{MutexGuard, Once};
 use oracle::{Answer, Call, Dir, Driver};
 use seam::{reg, Ask, Coroutine, Finish, Mapping, Out, ARENA};
 
-use crate::held::{exact_objects, objects, Objects};
+use crate::held::{exact_objects, is_size, objects, Objects};
 use crate::usbhs::{self, probe};
 use embassy_usb_driver::Direction;
 
@@ -127,7 +127,7 @@ impl Rust {
     }
 
     fn start_up(&mut self, size: u32, count: u32, callback: bool) -> Answer {
-        if !matches!(size, 8 | 16 | 32 | 64 | 512) || count == 0 || size as u64 * count as u64 > ARENA as u64 {
+        if !is_size(size) || count == 0 || size as u64 * count as u64 > ARENA as u64 {
             return Answer::Refused(2);
         }
         self.power_on();

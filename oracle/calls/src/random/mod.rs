@@ -39,6 +39,8 @@ struct Run<'a> {
     session: Session<'a>,
     entries: Vec<Entry>,
     buffer: Option<(u32, u32)>,
+    /// The buffer size, where it alone is fixed.
+    sized: Option<u32>,
     /// EP0's maximum, where it is fixed.
     ep0: Option<u16>,
     size: u32,
@@ -68,25 +70,38 @@ struct Run<'a> {
 
 /// A run of about `length` calls.
 pub fn run(driver: &mut dyn Driver, seed: u64, length: u32) -> Vec<Entry> {
-    run_with(driver, seed, length, None, None)
+    run_with(driver, seed, length, None, None, None)
 }
 
 /// The same with EP0's maximum 64, and so mostly buffers of 64 bytes or more.
 pub fn run_64(driver: &mut dyn Driver, seed: u64, length: u32) -> Vec<Entry> {
-    run_with(driver, seed, length, None, Some(64))
+    run_with(driver, seed, length, None, None, Some(64))
+}
+
+/// The same with buffers of 1,024 bytes.
+pub fn run_1024(driver: &mut dyn Driver, seed: u64, length: u32) -> Vec<Entry> {
+    run_with(driver, seed, length, None, Some(1024), Some(64))
 }
 
 /// The same with this buffer size and count.
 pub fn run_in(driver: &mut dyn Driver, seed: u64, length: u32, buffer: Option<(u32, u32)>) -> Vec<Entry> {
-    run_with(driver, seed, length, buffer, None)
+    run_with(driver, seed, length, buffer, None, None)
 }
 
-fn run_with(driver: &mut dyn Driver, seed: u64, length: u32, buffer: Option<(u32, u32)>, ep0: Option<u16>) -> Vec<Entry> {
+fn run_with(
+    driver: &mut dyn Driver,
+    seed: u64,
+    length: u32,
+    buffer: Option<(u32, u32)>,
+    sized: Option<u32>,
+    ep0: Option<u16>,
+) -> Vec<Entry> {
     let mut r = Run {
         rng: Rng::new(seed),
         session: Session::new(driver),
         entries: vec![],
         buffer,
+        sized,
         ep0,
         size: 0,
         count: 0,
@@ -269,9 +284,10 @@ impl Run<'_> {
         self.paced = 0;
         (self.reads, self.writes) = (0, 0);
         self.index = self.rng.below(16384);
-        self.size = match (self.buffer, self.ep0) {
-            (Some(b), _) => b.0,
-            (_, Some(_)) => self.rng.pick(&[64, 64, 64, 64, 64, 64, 512, 512, 512, 512, 512, 8, 16, 32]),
+        self.size = match (self.buffer, self.sized, self.ep0) {
+            (Some(b), ..) => b.0,
+            (_, Some(size), _) => size,
+            (.., Some(_)) => self.rng.pick(&[64, 64, 64, 64, 64, 64, 512, 512, 512, 512, 512, 8, 16, 32]),
             _ => self.rng.pick(&[8, 8, 16, 32, 64, 64, 512]),
         };
         let wanted = self.wanted();
