@@ -7,7 +7,7 @@ use native.Mathlib.Omega.{arith}
 use native.Mathlib.Decide.{decLt}
 use borrow.Author.Tests.{lt-ltb, le-ltb}
 use lib.ListN.{length, take, drop, getD, length-append, length-drop, List·getD-append, length-take}
-use lib.Seq.{take-append-seam, drop-at, getD-append-add, getD-drop, length-take-le, take-at}
+use lib.Seq.{take-append-seam, drop-at, ext-getD, getD-append-add, getD-drop, getD-take, length-take-le, take-at}
 use Rattle.marks.specs.Marks.{agrees, arm, reach, isMarked, armed, markedLen}
 use Rattle.marks.specs.Copies.{over, bytesAt, copied, copiedOut}
 use Rattle.marks.specs.Only.{Same, Only, only-refl, only-wider, only-part}
@@ -84,6 +84,13 @@ module _ (b c : List ℕ) (at : ℕ) (long : length c ≡ length b) where
   pub len-same : (maximum : ℕ) → Same at (at + maximum) b c → markedLen c at maximum ≡ markedLen b at maximum
   unfolding markedLen
   len-same maximum s = rw (long, found-same (drop at b) (drop at c) maximum (part-same maximum s))
+
+  pub bytes-same : (n : ℕ) → Same at (at + n) b c → bytesAt c at n ≡ bytesAt b at n
+  bytes-same n s =
+      ext-getD 0 (bytesAt c at n) (bytesAt b at n)
+      (simp (length-take, length-drop, long))
+      (λ k l. let h : k < n = omega (arith, length-take n (drop at c)) in
+      getD-take n (drop at c) k 0 h ∙ part-same n s k (omega arith) h ∙ sym (getD-take n (drop at b) k 0 h))
 
 -- ---- copies
 

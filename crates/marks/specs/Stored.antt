@@ -5,10 +5,10 @@ use Prim.Native.Nat.{ℕ, suc, _+_, _≤_, _<_}
 use native.Mathlib.Omega.{arith}
 use lib.ListN.{length, drop, getD}
 use Rattle.marks.specs.Marks.{markByte, reach, armed, markedLen}
-use Rattle.marks.specs.Copies.{over, copied}
+use Rattle.marks.specs.Copies.{over, bytesAt, copied}
 use Rattle.marks.specs.Only.{Same}
 use Rattle.marks.specs.Finds.{LastDiffers, MarkedAfter}
-use Rattle.marks.specs.Slots.{over-low, over-high, only-armed, only-copied, copied-part, armed-empties, len-is, len-same}
+use Rattle.marks.specs.Slots.{over-low, over-high, only-armed, only-copied, copied-part, copied-bytes, armed-empties, len-is, len-same, bytes-same}
 
 -- "stored alone since its slot was armed": the slot's bytes up to the maximum are those that arming left, b then being the buffer, with the packet
 -- over their front
@@ -32,10 +32,16 @@ module _ (b : List ℕ) (at maximum : ℕ) (packet : List ℕ) (fits : at + reac
       (omega (arith, only-copied (armed b at maximum) at packet .long, only-armed b at maximum .long)) small
       (rw stored-part (stored-last t)) (rw stored-part stored-after)
 
+  same-length : (c : List ℕ) → StoredAlone b at maximum packet c → length c ≡ length (copied (armed b at maximum) at packet)
+  same-length c s = s .long ∙ sym (only-armed b at maximum .long) ∙ sym (only-copied (armed b at maximum) at packet .long)
+
   -- Request Eight: a packet within the maximum, stored alone since its slot was armed, whose last byte differs from the mark's byte at its
   -- place, has the length by the marks; so has one of length 0.
   pub true-length : (c : List ℕ) → StoredAlone b at maximum packet c → LastDiffers (length packet) packet → markedLen c at maximum ≡ length packet
-  true-length c s t =
-      len-same (copied (armed b at maximum) at packet) c at
-      (s .long ∙ sym (only-armed b at maximum .long) ∙ sym (only-copied (armed b at maximum) at packet .long)) maximum (s .slot)
-      ∙ stored-len t
+  true-length c s t = len-same (copied (armed b at maximum) at packet) c at (same-length c s) maximum (s .slot) ∙ stored-len t
+
+  -- and the bytes of that length are the packet
+  pub true-bytes : (c : List ℕ) → StoredAlone b at maximum packet c → bytesAt c at (length packet) ≡ packet
+  true-bytes c s =
+      bytes-same (copied (armed b at maximum) at packet) c at (same-length c s) (length packet) (λ k l h. s .slot k l (omega arith))
+      ∙ copied-bytes (armed b at maximum) at packet (omega (arith, only-armed b at maximum .long))
