@@ -28,7 +28,15 @@ same-length : tie.Need-same-length
 same-length c = search needs
 
 returns : tie.Need-returns
-returns c = ?
+returns c =
+    let a = c .before .before .before .before .before .before .before .before .before .before .args in
+    let h = stages (a .e) (a .len) (view (a .s .now)) (a .buf .now) (c .before .before .before .before .before .before .before .admit .ensures .0) (c .before .before .before .before .before .load-ep .ensures) in (
+      c .before .before .arm .ensures .0 ∙ ap (λ (x : ℕ × St). x .0) h,
+      (
+        c .before .before .arm .ensures .1 .0 ∙ ap (λ (x : ℕ × St). x .1 .0) h,
+        (c .before .before .arm .ensures .1 .1 .0 ∙ ap (λ (x : ℕ × St). x .1 .1) h, c .before .before .arm .ensures .1 .1 .1 ∙ c .before .before .before .before .before .before .before .admit .ensures .1),
+      ),
+    )
 
 pub arrived-spec : {M : Type 1} → statement M
 arrived-spec = tie.close (tie.spec admit-requires load-ep-requires arm-requires same-length returns)
