@@ -10,6 +10,7 @@ pub mod Frame
 pub mod Held
 pub mod Chips
 pub mod Outs
+pub mod Late
 pub mod Arrives
 pub mod Ins
 pub mod Bytes
