@@ -1,4 +1,5 @@
 -- A late packet (request Eight) at any time of a run between two rows: its length is found, and it joins those that wait with its own bytes
+use mathlib.Core.Bool.{true}
 use mathlib.Core.List.{List}
 use mathlib.Core.Path.{_≡_, ap, subst, sym, _∙_}
 use Prim.Native.Nat.{ℕ, _+_, _*_, _/_, _≤_, min}

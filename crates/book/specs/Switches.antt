@@ -214,12 +214,12 @@ module _ {φ : Phase} {b : Buf} {d d₁ : Driver} {t : Pages} (R : Rest φ b d t
     (c : Changed Out e d d₁) (s : SameKept d₁ kept) (f : OutFits b (epOn d₁ Out e) (lensOf d₁ Out e) (slotStamps d₁ e) p) (w : Words (epOn d₁ Out e .stride))
     (i : isOn (epOn d₁ Out e .iso) ≡ true) (none : countOf (epOn d₁ Out e) ≡ 0) (head : epOn d₁ Out e .head ≡ 0) (step : suc (suc (suc k)) ≤ 18)
     (others : (x : ℕ) (u : Bool) → x % 16 ≢ e % 16 → Arming φ x u (epOn d Out x) (t .outs x) → Arming (mid (switch e onn) (suc (suc (suc k)))) x u (epOn d Out x) (t .outs x)) where
-  slot-armed : Rest (mid (switch e onn) (suc (suc (suc k)))) (armed b (slotAddr (epOn d₁ Out e) k) 0 (epOn d₁ Out e .«max_len»)) (armed-on d₁ (c .sized) e k)
+  slot-armed : Rest (mid (switch e onn) (suc (suc (suc k)))) (armed b (slotAddr (epOn d₁ Out e) k) (epOn d₁ Out e .«max_len»)) (armed-on d₁ (c .sized) e k)
       (withOut (withKept t kept) e (slotTold p (slotAddr (epOn d₁ Out e) k)))
   slot-armed =
       let r₁ = epOn d₁ Out e in
       let a = slotAddr r₁ k in
-      let b′ = armed b a 0 (r₁ .«max_len») in
+      let b′ = armed b a (r₁ .«max_len») in
       let n = suc (suc (suc k)) in
       let u = isSet (isoOuts (d .globals)) (e % 16) in
       out-changed R e (slotTold p a) (changed-trans (R .sized) Out e c (on-changed d₁ (c .sized) e k))
