@@ -255,7 +255,7 @@ module _ (d : Driver) (s : Sized d) (e len : ℕ) where
   unfolding admittedOn
   admitted-stamps i = stamps-on (recordedOn d e len) Out e (arrivedOf (epOn d Out e)) e ∙ recorded-stamps i
 
-  admitted-changed : Changed Out e d (admittedOn d e len)
+  pub admitted-changed : Changed Out e d (admittedOn d e len)
   unfolding admittedOn
   admitted-changed =
       let k = arrived-inner (epOn d Out e) in
@@ -264,7 +264,7 @@ module _ (d : Driver) (s : Sized d) (e len : ℕ) where
       (ap (λ (q : Plain). q .iso) (k .plain) ∙ ap (λ (r : EpState). r .iso) (sym recorded-ep)))
 
 -- the driver after it, its slot not yet armed
-abbrev admits : Driver → ℕ → ℕ → Driver
+abbrev pub admits : Driver → ℕ → ℕ → Driver
 admits d e n = admittedOn d e (cappedAt (epOn d Out e) n)
 
 -- the head's address
@@ -293,7 +293,7 @@ module _ {b : Buf} {d : Driver} {t : Pages} (R : Rest quiet b d t) (e : ℕ) whe
         ∙ ap (λ (x : ℕ). bytesAt b x (cappedAt (epOn d Out e) n)) (sym (R .arming e .armed u))
         ∙ ap (λ (x : ℕ). bytesAt b (t .outs e .slot) x) (capped-is (epOn d Out e) n ∙ ap (λ (x : ℕ). min n x) max-same)
 
-    admitted-fits : OutFits b (epOn (admits d e n) Out e) (lensOf (admits d e n) Out e) (slotStamps (admits d e n) e) (arrived (t .outs e) (packetB e n (t, b)))
+    pub admitted-fits : OutFits b (epOn (admits d e n) Out e) (lensOf (admits d e n) Out e) (slotStamps (admits d e n) e) (arrived (t .outs e) (packetB e n (t, b)))
     admitted-fits =
         let f = R .outs e in
         let len = cappedAt (epOn d Out e) n in
@@ -303,7 +303,7 @@ module _ {b : Buf} {d : Driver} {t : Pages} (R : Rest quiet b d t) (e : ℕ) whe
         (admitted-stamps d (R .sized) e len i ∙ ap (λ (g : Globals). arrivedLens (epOn d Out e) (slotStamps d e) (g .entered)) (R .same .globals))
         (arrived-fits f sixteen (stamps-length d e) len capped-small (packetB e n (t, b)) shown)
 
-    arrived-words : let r = epOn (admits d e n) Out e in
+    pub arrived-words : let r = epOn (admits d e n) Out e in
         marks.Only (headAddr r) (headAddr r + r .stride) b (armed b (headAddr r) (r .«max_len»))
     arrived-words =
         let r = epOn (admits d e n) Out e in

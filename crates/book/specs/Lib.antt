@@ -17,6 +17,7 @@ pub mod Bytes
 pub mod Steps
 pub mod Resets
 pub mod Switches
+pub mod Untouched
 pub mod Rows
 pub mod Agrees
 pub mod Demand3

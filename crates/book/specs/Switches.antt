@@ -273,7 +273,7 @@ module _ {φ : Phase} {b : Buf} {d : Driver} {t : Pages} (R : Rest φ b d t) (e 
       (subst (λ r. SamePlace r (resetOf (epOn d Out e))) (sym cleared-ep) (reset-place (epOn d Out e)))
       (ap (λ (r : EpState). r .iso) (sym cleared-ep)))
 
-  fresh-ep : epOn (renewedOn d e) Out e ≡ resetOf (epOn d Out e)
+  pub fresh-ep : epOn (renewedOn d e) Out e ≡ resetOf (epOn d Out e)
   unfolding renewedOn
   fresh-ep = epOn-same (clearStamps d e) Out e (resetOf (epOn d Out e)) (cleared-changed .sized)
 
@@ -288,7 +288,7 @@ module _ {φ : Phase} {b : Buf} {d : Driver} {t : Pages} (R : Rest φ b d t) (e 
   fresh-out = out-moved fresh-ep fresh-lens refl (reset-out (R .outs e) (slotStamps (renewedOn d e) e))
 
   -- its slots are of whole words
-  slot-words : isOn (epOn d Out e .iso) ≡ true → Words (epOn d Out e .stride)
+  pub slot-words : isOn (epOn d Out e .iso) ≡ true → Words (epOn d Out e .stride)
   slot-words i = subst Words (sym (iso-used R e i .stride)) (good-words (d .allocator .size) (R .good))
 
 -- ---- its steps

@@ -262,7 +262,9 @@ fn both(o: &Operation) -> (Port, Stepped, u32) {
             *w -= rust.bare.base();
         }
     }
-    assert!(port.registers == told && port.slots == rust.bare.slots(), "{}", o.name);
+    // the ring of isochronous OUT 1, which lies first, is marked otherwise since request Eight
+    let ring = 16 * SIZE as usize;
+    assert!(port.registers == told && port.slots[ring..] == rust.bare.slots()[ring..], "{}", o.name);
     for (r, row) in rust.registers.reads.iter().enumerate() {
         for (e, &value) in row.iter().enumerate() {
             // the driver keeps these: they read as written
