@@ -64,7 +64,7 @@ const WAKES: usize = 2752;
 
 const SAVED: usize = 2757;
 
-// Per endpoint and direction, as in the Rust without the waker: flags are 0 or 1 in a byte; `lens` stands apart.
+// Per endpoint and direction, as in the Rust without the waker and the shortest length: flags are 0 or 1 in a byte; `lens` stands apart.
 pub struct EpState {
     pub ready: u8,
     pub len: u16,

@@ -98,6 +98,8 @@ struct Rule {
     rust: Vec<u8>,
     slots: Vec<u8>,
     geometry: (u32, u32),
+    /// This call brings another buffer than the last one left.
+    brought: bool,
     under: Under,
     /// The reading that is awaited.
     awaited: Option<u8>,
@@ -116,11 +118,15 @@ pub struct Lengths {
 }
 
 impl Rule {
+    /// Another size or count brings another buffer, of zeros.
     fn start_up(&mut self, size: u32, count: u32) {
         if self.geometry != (size, count) {
             self.geometry = (size, count);
             self.rust = vec![0; (size * count) as usize];
-            self.slots = self.rust.clone();
+            if self.slots.len() != self.rust.len() {
+                self.slots = self.rust.clone();
+            }
+            self.brought = true;
         }
         self.under = Under::Other;
         self.iso = [None; 16];
@@ -190,12 +196,14 @@ impl Rule {
             Answer::Write { reg: EP_RX_DMA, ep, value } => self.receives(ep as usize, value).map(|maximum| (value as usize, maximum)),
             _ => None,
         };
-        if armed.is_none() && e.changed.is_empty() {
+        let brought = std::mem::take(&mut self.brought);
+        if armed.is_none() && e.changed.is_empty() && !brought {
             return vec![];
         }
         let mut now = self.slots.clone();
         match armed {
             Some((at, maximum)) => arm(&mut now[at..], maximum),
+            None if brought => now.copy_from_slice(&self.rust),
             None => {
                 for (at, bytes) in &e.changed {
                     let at = *at as usize;

@@ -255,7 +255,9 @@ fn both(o: &Operation) -> (Port, Stepped, u32) {
         rust.made(o);
     }
     let calls = port.made(o);
-    assert_eq!(calls, rust.made(o), "{}", o.name);
+    // request One: an interrupt begins with a reading that the Rust does not have
+    let more = matches!(o.call, Call::Interrupt) as u32;
+    assert_eq!(calls, rust.made(o) + more, "{}", o.name);
     let mut told = rust.registers.clone();
     for r in [reg::EP0_DMA, reg::EP_RX_DMA, reg::EP_TX_DMA] {
         for w in told.written[r as usize].iter_mut().filter(|w| **w != 0) {
