@@ -29,7 +29,7 @@
 extern "C" {
 #endif
 
-#define USBHS_STATE_LEN 2843
+#define USBHS_STATE_LEN 2779
 
 /* The kinds of answer. */
 enum usbhs_kind {

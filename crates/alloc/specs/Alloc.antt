@@ -197,7 +197,6 @@ shaped s kind maximum base size slots = record {
   overruns = s .overruns;
   «last_frame» = s .«last_frame»;
   «max_len» = maximum;
-  «min_len» = s .«min_len»;
   «armed_slot» = base;
   tog = s .tog;
   «open» = s .«open»;

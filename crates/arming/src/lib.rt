@@ -4,7 +4,6 @@ use marks::iso_out_arm;
 use ops::records::receiving;
 use ops::rings::is_on;
 use regs::Dir;
-use ring::arm_slot;
 use ring::armed;
 use ring::capped;
 use ring::has_room_out;
@@ -13,10 +12,8 @@ use ring::slot_index;
 use state::STATE_LEN;
 use state::clear_all_stamps;
 use state::clear_stamps;
-use state::fill_lens;
 use state::load_ep;
 use state::load_globals;
-use state::load_len;
 use state::store_ep;
 use state::store_globals;
 use state::store_len;
@@ -27,7 +24,7 @@ ghost use lib.Dec.{eqb};
 ghost use Rattle.state.specs.Driver.{epOn, withOn};
 ghost use Rattle.state.specs.Ep.{resetOf};
 ghost use Rattle.state.specs.State.{view, saved};
-ghost use Rattle.ops.specs.Rings.{writtenOn, recordedOn, admittedOn, staleOn, armAt, arrivedAt, arriveOn, renewedOn, slotStep, resetBelow, resetAll};
+ghost use Rattle.ops.specs.Rings.{writtenOn, recordedOn, admittedOn, armAt, arrivedAt, arriveOn, renewedOn, slotStep, resetBelow, resetAll};
 
 // The length of the packet in slot i (mod.rs 499), and its microframe, that of the interrupt under way.
 fn write_packet(s: &mut [u8; STATE_LEN], e: u8, i: u8, len: u16)
@@ -58,47 +55,33 @@ fn admit(s: &mut [u8; STATE_LEN], e: u8, len: u16)
 {
     let r = load_ep(s, Dir::Out, e);
     record(s, e, len);
-    store_ep(s, Dir::Out, e, ring::arrived(r, len));
+    store_ep(s, Dir::Out, e, ring::arrived(r));
 }
 
-// How far the slot to arm is stale (mod.rs 497, 502).
-fn stale(s: &[u8; STATE_LEN], e: u8, len: u16, room: bool) -> u16
-    ensures { λ r. ⌜ r ≡ staleOn (view (now (s .entry))) e len room ⌝ }
-{
-    if room {
-        let r = load_ep(s, Dir::Out, e);
-        return load_len(s, Dir::Out, e, arm_slot(r));
-    }
-    len
-}
-
-// The slot of counter i is armed: marked over what is stale, its address recorded (mod.rs 547-556).
-fn arm(s: &mut [u8; STATE_LEN], buf: &mut [u8], e: u8, i: u8, from: u16, dirty: u16) -> u32
-    ensures { λ r. ⌜ r ≡ armAt e i from dirty (view (now (s .entry)), now (buf .entry)) .0 ⌝ }
-    ensures { λ _. ⌜ view (now (s .exit)) ≡ armAt e i from dirty (view (now (s .entry)), now (buf .entry)) .1 .0 ⌝ }
-    ensures { λ _. ⌜ now (buf .exit) ≡ armAt e i from dirty (view (now (s .entry)), now (buf .entry)) .1 .1 ⌝ }
+// The slot of counter i is armed: marked up to the endpoint's maximum, its address recorded (mod.rs 547-556).
+fn arm(s: &mut [u8; STATE_LEN], buf: &mut [u8], e: u8, i: u8) -> u32
+    ensures { λ r. ⌜ r ≡ armAt e i (view (now (s .entry)), now (buf .entry)) .0 ⌝ }
+    ensures { λ _. ⌜ view (now (s .exit)) ≡ armAt e i (view (now (s .entry)), now (buf .entry)) .1 .0 ⌝ }
+    ensures { λ _. ⌜ now (buf .exit) ≡ armAt e i (view (now (s .entry)), now (buf .entry)) .1 .1 ⌝ }
     ensures { λ _. ⌜ saved (now (s .exit)) ≡ saved (now (s .entry)) ⌝ }
 {
     let r = load_ep(s, Dir::Out, e);
     let at = slot_addr(r, i);
     store_ep(s, Dir::Out, e, armed(r, at));
-    iso_out_arm(buf, at, from, dirty);
+    iso_out_arm(buf, at, r.max_len);
     at
 }
 
-// An arrival of `len` bytes, not above the maximum.
+// An arrival of `len` bytes, not above the maximum: the head's slot is armed.
 fn arrived(s: &mut [u8; STATE_LEN], buf: &mut [u8], e: u8, len: u16) -> u32
     ensures { λ r. ⌜ r ≡ arrivedAt e len (view (now (s .entry)), now (buf .entry)) .0 ⌝ }
     ensures { λ _. ⌜ view (now (s .exit)) ≡ arrivedAt e len (view (now (s .entry)), now (buf .entry)) .1 .0 ⌝ }
     ensures { λ _. ⌜ now (buf .exit) ≡ arrivedAt e len (view (now (s .entry)), now (buf .entry)) .1 .1 ⌝ }
     ensures { λ _. ⌜ saved (now (s .exit)) ≡ saved (now (s .entry)) ⌝ }
 {
-    let old = load_ep(s, Dir::Out, e);
-    let room = has_room_out(old);
     admit(s, e, len);
     let r = load_ep(s, Dir::Out, e);
-    let dirty = capped(r, stale(s, e, len, room));
-    arm(s, buf, e, r.head, r.min_len, dirty)
+    arm(s, buf, e, r.head)
 }
 
 // A packet of OUT e arrived: it is admitted or turned away, and the next slot armed, whose address is handed out.
@@ -116,18 +99,14 @@ pub fn arrive(s: &mut [u8; STATE_LEN], buf: &mut [u8], e: u8, n: u16) -> u32
     r.armed_slot
 }
 
-// The record reset, every length the maximum (mod.rs 1287-1291), every stamp gone.
+// The record reset (mod.rs 1279), every stamp gone.
 fn renew(s: &mut [u8; STATE_LEN], e: u8)
     ensures { λ _. ⌜ view (now (s .exit)) ≡ renewedOn (view (now (s .entry))) e ⌝ }
     ensures { λ _. ⌜ saved (now (s .exit)) ≡ saved (now (s .entry)) ⌝ }
 {
     let r = load_ep(s, Dir::Out, e);
-    let max = r.max_len;
-    fill_lens(s, e, max);
     clear_stamps(s, e);
-    let mut t = r.reset();
-    t.min_len = max;
-    store_ep(s, Dir::Out, e, t);
+    store_ep(s, Dir::Out, e, r.reset());
 }
 
 // Before the first of the slots, the last.
@@ -141,7 +120,7 @@ fn renew_first(s: &mut [u8; STATE_LEN], e: u8, k: u8)
     }
 }
 
-// Slot k of an isochronous OUT that is enabled or disabled, from slot 15 down: marked over the maximum and armed (mod.rs 1292-1294).
+// Slot k of an isochronous OUT that is enabled or disabled, from slot 15 down, is armed (mod.rs 1292-1294).
 pub fn slot_step(s: &mut [u8; STATE_LEN], buf: &mut [u8], e: u8, k: u8) -> u32
     ensures { λ r. ⌜ r ≡ slotStep e k (view (now (s .entry)), now (buf .entry)) .0 ⌝ }
     ensures { λ _. ⌜ view (now (s .exit)) ≡ slotStep e k (view (now (s .entry)), now (buf .entry)) .1 .0 ⌝ }
@@ -151,8 +130,7 @@ pub fn slot_step(s: &mut [u8; STATE_LEN], buf: &mut [u8], e: u8, k: u8) -> u32
     let r = load_ep(s, Dir::Out, e);
     if is_on(r.iso) {
         renew_first(s, e, k);
-        let t = load_ep(s, Dir::Out, e);
-        return arm(s, buf, e, k, 0, t.max_len);
+        return arm(s, buf, e, k);
     }
     r.armed_slot
 }

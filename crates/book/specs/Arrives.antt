@@ -4,7 +4,7 @@ use mathlib.Core.List.{List, [], _∷_, _++_, map, map-append}
 use mathlib.Core.Path.{_≡_, refl, ap, subst, sym, _∙_}
 use Prim.Native.Nat.{ℕ, _+_, _-_, _*_, _/_, _%_, _^_, _≤_, _<_, min}
 use native.Mathlib.Omega.{arith}
-use lib.Dec.{eqb, ltb}
+use lib.Dec.{ltb}
 use lib.ListN.{length, set, length-map}
 use Rattle.bits.specs.Bit.{isSet}
 use Rattle.regs.specs.declared.Dir.the-variants.{Out}
@@ -13,9 +13,9 @@ use Rattle.state.specs.declared.EpState.{EpState}
 use Rattle.state.specs.declared.Globals.{Globals}
 use Rattle.state.specs.Driver.{Driver, epOn, withOn, withLenOn}
 use Rattle.state.specs.Laws.{Sized, epOn-same}
-use Rattle.ring.specs.Fields.{withHead, withOverruns, withMinLen}
+use Rattle.ring.specs.Fields.{withHead, withOverruns}
 use Rattle.ring.specs.Slot.{slotOf, slotAddr, joinedOf}
-use Rattle.ring.specs.Out.{hasRoomOut, cappedAt, shortestOf, turnedAwayOf, arrivedOf, arrivedLens, armedAt}
+use Rattle.ring.specs.Out.{hasRoomOut, cappedAt, turnedAwayOf, arrivedOf, arrivedLens, armedAt}
 use Rattle.ring.specs.Waiting.{window, waiting, join, Only, SamePlace, Placed}
 use Rattle.ring.specs.Window.{only-wider}
 use Rattle.ring.specs.Slots.{slot-in, slot-from, slot-upto}
@@ -31,7 +31,7 @@ use Rattle.script.specs.Alike.{quiet}
 use Rattle.script.specs.Statics.{flag, isoOuts}
 use Rattle.script.specs.Machine.{Buf}
 use Rattle.ops.specs.Records.{plainOf}
-use Rattle.ops.specs.Rings.{writtenOn, recordedOn, admittedOn, staleOn, arrivedAt, arriveOn, placeOn}
+use Rattle.ops.specs.Rings.{writtenOn, recordedOn, admittedOn, arrivedAt, arriveOn, placeOn}
 use Rattle.book.specs.Pages.{Packet, bytesOf, stampsOf, OutPage, Pages, withOut}
 use Rattle.book.specs.Book.{withWaiting, arrived, slotTold, receiving, packetB, feedB}
 use Rattle.book.specs.Rest.{lensOf, slotStamps, OutFits, Armed, Rest}
@@ -43,38 +43,28 @@ use Rattle.book.specs.Outs.{Inner, out-on, out-page}
 
 -- ---- the record
 
--- an arrival changes the head, the count of those turned away and the shortest length
-module _ {A : Type 0} (f : EpState → A) (r : EpState) (len : ℕ) (m : (s : EpState) (n : ℕ) → f (withMinLen s n) ≡ f s) where
-  short-by : (u v : Bool) → f (cond u r (cond v (withMinLen r len) r)) ≡ f r
-  short-by true v = refl
-  short-by false true = m r len
-  short-by false false = refl
+-- an arrival changes the head, or the count of those turned away
+module _ {A : Type 0} (f : EpState → A) (r : EpState) (h : (s : EpState) (n : ℕ) → f (withHead s n) ≡ f s) (o : (s : EpState) (n : ℕ) → f (withOverruns s n) ≡ f s) where
+  arrived-by : (u : Bool) → f (cond u (joinedOf r) (turnedAwayOf r)) ≡ f r
+  unfolding joinedOf turnedAwayOf
+  arrived-by true = h r _
+  arrived-by false = o r _
 
-  shortest-keeps : f (shortestOf r len) ≡ f r
-  unfolding shortestOf
-  shortest-keeps = short-by (eqb len 0) (ltb len (r .«min_len»))
+  arrived-keeps : f (arrivedOf r) ≡ f r
+  unfolding arrivedOf
+  arrived-keeps = arrived-by (hasRoomOut r)
 
-  module _ (h : (s : EpState) (n : ℕ) → f (withHead s n) ≡ f s) (o : (s : EpState) (n : ℕ) → f (withOverruns s n) ≡ f s) where
-    arrived-by : (u : Bool) → f (cond u (joinedOf (shortestOf r len)) (turnedAwayOf (shortestOf r len))) ≡ f r
-    unfolding joinedOf turnedAwayOf
-    arrived-by true = h (shortestOf r len) _ ∙ shortest-keeps
-    arrived-by false = o (shortestOf r len) _ ∙ shortest-keeps
+arrived-plain : (r : EpState) → plainOf (arrivedOf r) ≡ plainOf r
+arrived-plain r = arrived-keeps plainOf r (λ s n. refl) (λ s n. refl)
 
-    arrived-keeps : f (arrivedOf r len) ≡ f r
-    unfolding arrivedOf
-    arrived-keeps = arrived-by (hasRoomOut r)
+arrived-slot : (r : EpState) → arrivedOf r .«armed_slot» ≡ r .«armed_slot»
+arrived-slot r = arrived-keeps (λ s. s .«armed_slot») r (λ s n. refl) (λ s n. refl)
 
-arrived-plain : (r : EpState) (len : ℕ) → plainOf (arrivedOf r len) ≡ plainOf r
-arrived-plain r len = arrived-keeps plainOf r len (λ s n. refl) (λ s n. refl) (λ s n. refl)
+arrived-open : (r : EpState) → arrivedOf r .«open» ≡ r .«open»
+arrived-open r = arrived-keeps (λ s. s .«open») r (λ s n. refl) (λ s n. refl)
 
-arrived-slot : (r : EpState) (len : ℕ) → arrivedOf r len .«armed_slot» ≡ r .«armed_slot»
-arrived-slot r len = arrived-keeps (λ s. s .«armed_slot») r len (λ s n. refl) (λ s n. refl) (λ s n. refl)
-
-arrived-open : (r : EpState) (len : ℕ) → arrivedOf r len .«open» ≡ r .«open»
-arrived-open r len = arrived-keeps (λ s. s .«open») r len (λ s n. refl) (λ s n. refl) (λ s n. refl)
-
-arrived-inner : (r : EpState) (len : ℕ) → Inner r (arrivedOf r len)
-arrived-inner r len = record { place = arrived-place r len; plain = arrived-plain r len }
+arrived-inner : (r : EpState) → Inner r (arrivedOf r)
+arrived-inner r = record { place = arrived-place r; plain = arrived-plain r }
 
 -- ---- the page
 
@@ -108,36 +98,36 @@ module _ {b : Buf} {r : EpState} {ls ss : List ℕ} {p : OutPage} (f : OutFits b
       ∙ ap (λ (n : ℕ). ltb (length (p .waiting)) (n - 1)) sixteen
 
   lost-by : (q : Packet) (u : Bool)
-      → cond u (joinedOf (shortestOf r len)) (turnedAwayOf (shortestOf r len)) .overruns
+      → cond u (joinedOf r) (turnedAwayOf r) .overruns
       ≡ cond u (withWaiting p (p .waiting ++ (q ∷ [])) (p .opened)) (record { waiting = p .waiting; opened = p .opened; lost = p .lost + 1; slot = p .slot }) .lost % 2 ^ 32
   unfolding joinedOf
-  lost-by q true = shortest-keeps (λ s. s .overruns) r len (λ s n. refl) ∙ f .lost
-  lost-by q false = turned-counts (shortestOf r len) (p .lost) (shortest-keeps (λ s. s .overruns) r len (λ s n. refl) ∙ f .lost)
+  lost-by q true = f .lost
+  lost-by q false = turned-counts r (p .lost) (f .lost)
 
-  arrived-lost : (q : Packet) → arrivedOf r len .overruns ≡ arrived p q .lost % 2 ^ 32
+  arrived-lost : (q : Packet) → arrivedOf r .overruns ≡ arrived p q .lost % 2 ^ 32
   unfolding arrivedOf
-  arrived-lost q = subst (λ u. cond u (joinedOf (shortestOf r len)) (turnedAwayOf (shortestOf r len)) .overruns ≡ arrived p q .lost % 2 ^ 32)
+  arrived-lost q = subst (λ u. cond u (joinedOf r) (turnedAwayOf r) .overruns ≡ arrived p q .lost % 2 ^ 32)
       (sym room-same) (lost-by q (ltb (length (p .waiting)) 15))
 
   module _ (q : Packet) (shown : window b (slotAddr r (r .head)) len ≡ q .bytes) where
-    arrived-waits : waiting b (arrivedOf r len) (arrivedLens r ls len) ≡ bytesOf (arrived p q .waiting)
+    arrived-waits : waiting b (arrivedOf r) (arrivedLens r ls len) ≡ bytesOf (arrived p q .waiting)
     arrived-waits = arrive-waits (f .held .placed) (f .held .ring) len b
         ∙ ap (λ (n : ℕ). join (n - 1) (waiting b r ls) (window b (slotAddr r (r .head)) len)) sixteen
         ∙ ap (λ w. join 15 w (window b (slotAddr r (r .head)) len)) (f .held .waits)
         ∙ ap (λ x. join 15 (bytesOf (p .waiting)) x) shown
         ∙ sym (page-waiting p q)
 
-    arrived-stamps : stamped (arrivedOf r len) (arrivedLens r ss (q .stamp)) ≡ stampsOf (arrived p q .waiting)
-    arrived-stamps = arrive-stamps (f .held .placed) (f .held .ring) ss (q .stamp) len (omega arith)
+    arrived-stamps : stamped (arrivedOf r) (arrivedLens r ss (q .stamp)) ≡ stampsOf (arrived p q .waiting)
+    arrived-stamps = arrive-stamps (f .held .placed) (f .held .ring) ss (q .stamp) (omega arith)
         ∙ ap (λ (u : Bool). cond u (stamped r ss ++ (q .stamp ∷ [])) (stamped r ss)) room-same
         ∙ ap (λ (l : List ℕ). cond (ltb (length (p .waiting)) 15) (l ++ (q .stamp ∷ [])) l) (f .stamps)
         ∙ sym (page-joined p q (λ (z : Packet). z .stamp))
 
-    arrived-fits : OutFits b (arrivedOf r len) (arrivedLens r ls len) (arrivedLens r ss (q .stamp)) (arrived p q)
+    arrived-fits : OutFits b (arrivedOf r) (arrivedLens r ls len) (arrivedLens r ss (q .stamp)) (arrived p q)
     arrived-fits =
-        let k = arrived-place r len in
+        let k = arrived-place r in
         let s : arrived p q .slot ≡ p .slot = page-keeps p q (λ z. z .slot) (λ w n. refl) in
-        let m : arrivedOf r len .«max_len» ≡ r .«max_len» = ap (λ (q : Plain). q .«max_len») (arrived-plain r len) in
+        let m : arrivedOf r .«max_len» ≡ r .«max_len» = ap (λ (q : Plain). q .«max_len») (arrived-plain r) in
         record {
           held = record {
             placed = place-placed k (f .held .placed);
@@ -146,10 +136,10 @@ module _ {b : Buf} {r : EpState} {ls ss : List ℕ} {p : OutPage} (f : OutFits b
             waits = arrived-waits;
           };
           stamps = arrived-stamps;
-          opened = arrived-open r len ∙ f .opened ∙ ap (λ u. flag u) (sym (page-keeps p q (λ z. z .opened) (λ w n. refl)));
-          shows = arrive-shows (f .held .placed) (f .held .ring) len (f .shows);
+          opened = arrived-open r ∙ f .opened ∙ ap (λ u. flag u) (sym (page-keeps p q (λ z. z .opened) (λ w n. refl)));
+          shows = arrive-shows (f .held .placed) (f .held .ring) (f .shows);
           lost = arrived-lost q;
-          slot = arrived-slot r len ∙ f .slot ∙ sym s;
+          slot = arrived-slot r ∙ f .slot ∙ sym s;
           from = omega (arith, s, k .base, f .from);
           upto = omega (arith, s, k .stride, end-kept k, f .upto);
         }
@@ -253,28 +243,28 @@ module _ (d : Driver) (s : Sized d) (e len : ℕ) where
     unfolding recordedOn arrivedLens
     recorded-stamps = recorded-stamps-by (hasRoomOut (epOn d Out e))
 
-  admitted-ep : epOn (admittedOn d e len) Out e ≡ arrivedOf (epOn d Out e) len
+  admitted-ep : epOn (admittedOn d e len) Out e ≡ arrivedOf (epOn d Out e)
   unfolding admittedOn
-  admitted-ep = epOn-same (recordedOn d e len) Out e (arrivedOf (epOn d Out e) len) (recorded-changed .sized)
+  admitted-ep = epOn-same (recordedOn d e len) Out e (arrivedOf (epOn d Out e)) (recorded-changed .sized)
 
   admitted-lens : head-slot < 16 → lensOf (admittedOn d e len) Out e ≡ arrivedLens (epOn d Out e) (lensOf d Out e) len
   unfolding admittedOn
-  admitted-lens i = lens-on (recordedOn d e len) Out e (arrivedOf (epOn d Out e) len) Out e ∙ recorded-lens i
+  admitted-lens i = lens-on (recordedOn d e len) Out e (arrivedOf (epOn d Out e)) Out e ∙ recorded-lens i
 
   admitted-stamps : head-slot < 16 → slotStamps (admittedOn d e len) e ≡ arrivedLens (epOn d Out e) (slotStamps d e) (d .globals .entered)
   unfolding admittedOn
-  admitted-stamps i = stamps-on (recordedOn d e len) Out e (arrivedOf (epOn d Out e) len) e ∙ recorded-stamps i
+  admitted-stamps i = stamps-on (recordedOn d e len) Out e (arrivedOf (epOn d Out e)) e ∙ recorded-stamps i
 
-  admitted-changed : Changed Out e d (admittedOn d e len)
+  pub admitted-changed : Changed Out e d (admittedOn d e len)
   unfolding admittedOn
   admitted-changed =
-      let k = arrived-inner (epOn d Out e) len in
-      changed-trans s Out e recorded-changed (changed-on (recorded-changed .sized) Out e (arrivedOf (epOn d Out e) len)
-      (subst (λ r. SamePlace r (arrivedOf (epOn d Out e) len)) (sym recorded-ep) (k .place))
+      let k = arrived-inner (epOn d Out e) in
+      changed-trans s Out e recorded-changed (changed-on (recorded-changed .sized) Out e (arrivedOf (epOn d Out e))
+      (subst (λ r. SamePlace r (arrivedOf (epOn d Out e))) (sym recorded-ep) (k .place))
       (ap (λ (q : Plain). q .iso) (k .plain) ∙ ap (λ (r : EpState). r .iso) (sym recorded-ep)))
 
 -- the driver after it, its slot not yet armed
-abbrev admits : Driver → ℕ → ℕ → Driver
+abbrev pub admits : Driver → ℕ → ℕ → Driver
 admits d e n = admittedOn d e (cappedAt (epOn d Out e) n)
 
 -- the head's address
@@ -303,7 +293,7 @@ module _ {b : Buf} {d : Driver} {t : Pages} (R : Rest quiet b d t) (e : ℕ) whe
         ∙ ap (λ (x : ℕ). bytesAt b x (cappedAt (epOn d Out e) n)) (sym (R .arming e .armed u))
         ∙ ap (λ (x : ℕ). bytesAt b (t .outs e .slot) x) (capped-is (epOn d Out e) n ∙ ap (λ (x : ℕ). min n x) max-same)
 
-    admitted-fits : OutFits b (epOn (admits d e n) Out e) (lensOf (admits d e n) Out e) (slotStamps (admits d e n) e) (arrived (t .outs e) (packetB e n (t, b)))
+    pub admitted-fits : OutFits b (epOn (admits d e n) Out e) (lensOf (admits d e n) Out e) (slotStamps (admits d e n) e) (arrived (t .outs e) (packetB e n (t, b)))
     admitted-fits =
         let f = R .outs e in
         let len = cappedAt (epOn d Out e) n in
@@ -313,15 +303,15 @@ module _ {b : Buf} {d : Driver} {t : Pages} (R : Rest quiet b d t) (e : ℕ) whe
         (admitted-stamps d (R .sized) e len i ∙ ap (λ (g : Globals). arrivedLens (epOn d Out e) (slotStamps d e) (g .entered)) (R .same .globals))
         (arrived-fits f sixteen (stamps-length d e) len capped-small (packetB e n (t, b)) shown)
 
-    arrived-words : (stale : ℕ) → let r = epOn (admits d e n) Out e in
-        marks.Only (headAddr r) (headAddr r + r .stride) b (armed b (headAddr r) (r .«min_len») (cappedAt r stale))
-    arrived-words stale =
+    pub arrived-words : let r = epOn (admits d e n) Out e in
+        marks.Only (headAddr r) (headAddr r + r .stride) b (armed b (headAddr r) (r .«max_len»))
+    arrived-words =
         let r = epOn (admits d e n) Out e in
         let c = admitted-changed d (R .sized) e (cappedAt (epOn d Out e) n) in
         let z : r .stride ≡ d .allocator .size = c .place .stride ∙ receives-used R e u .stride in
         let w = good-words (d .allocator .size) (R .good) in
-        armed-slot b (slotAddr r (r .head)) (r .«min_len») (cappedAt r stale) (r .stride)
-        (omega (arith, z, w .0)) (ap (λ (x : ℕ). x / 4 * 4) z ∙ w .1 ∙ sym z) (omega (arith, capped-is r stale, admitted-fits .held .least))
+        armed-slot b (slotAddr r (r .head)) (r .«max_len») (r .stride)
+        (omega (arith, z, w .0)) (ap (λ (x : ℕ). x / 4 * 4) z ∙ w .1 ∙ sym z) (admitted-fits .held .least)
 
     arrive-rest : let x = arrivedAt e (cappedAt (epOn d Out e) n) (d, b) in
         Rest quiet (x .1 .1) (x .1 .0) (feedB (Receive e (x .0)) (withOut t e (arrived (t .outs e) (packetB e n (t, b)))))
@@ -329,9 +319,9 @@ module _ {b : Buf} {d : Driver} {t : Pages} (R : Rest quiet b d t) (e : ℕ) whe
         let len = cappedAt (epOn d Out e) n in
         let d1 = admittedOn d e len in
         let r = epOn d1 Out e in
-        let o = arrived-words (staleOn d1 e len (hasRoomOut (epOn d Out e))) in
+        let o = arrived-words in
         subst (Rest quiet (arrivedAt e len (d, b) .1 .1) (arrivedAt e len (d, b) .1 .0)) (sym (told t e (slotAddr r (r .head)) _))
-        (arm-rest R e d1 _ (admitted-changed d (R .sized) e len) (ap plainOf (admitted-ep d (R .sized) e len) ∙ arrived-plain (epOn d Out e) len) admitted-fits u (o .long) (only-bytes o))
+        (arm-rest R e d1 _ (admitted-changed d (R .sized) e len) (ap plainOf (admitted-ep d (R .sized) e len) ∙ arrived-plain (epOn d Out e)) admitted-fits u (o .long) (only-bytes o))
 
   arrive-by : (n : ℕ) (v : Bool) → receives d e ≡ v → let x = cond v (arrivedAt e (cappedAt (epOn d Out e) n) (d, b)) (epOn d Out e .«armed_slot», (d, b)) in
       Rest quiet (x .1 .1) (x .1 .0) (feedB (Receive e (x .0))

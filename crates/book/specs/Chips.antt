@@ -20,7 +20,6 @@ use Rattle.ring.specs.Waiting.{waiting}
 use Rattle.ring.specs.Slots.{slots-apart, slot-from, slot-upto}
 use Rattle.ring.specs.Laws.{waiting-kept}
 use Rattle.ring.specs.OutLaws.{armed-away}
-use Rattle.ring.specs.Out.{armSlot}
 use Rattle.script.specs.Script.{switch, bus-reset}
 use Rattle.script.specs.Alike.{Phase, quiet, mid}
 use Rattle.script.specs.Statics.{isOn, isoOuts}
@@ -81,7 +80,6 @@ module _ {φ : Phase} {b : Buf} {d : Driver} {t : Pages} (R : Rest φ b d t) whe
   out-own : (x j k : ℕ) → j < countOf (epOn d Out x)
       → slotAddr (epOn d Out x) (after (epOn d Out x .tail) j) ≤ k → k < slotAddr (epOn d Out x) (after (epOn d Out x .tail) j) + epOn d Out x .stride
       → (k < t .outs x .slot) ⊎ (t .outs x .slot + epOn d Out x .stride ≤ k)
-  unfolding armSlot
   out-own x j k l p q = by (armed-or φ x (isSet (isoOuts (d .globals)) (x % 16)) (epOn d Out x) (t .outs x) (R .arming x))
     where
       by : Armed (epOn d Out x) (t .outs x) ⊎ (countOf (epOn d Out x) ≡ 0) → (k < t .outs x .slot) ⊎ (t .outs x .slot + epOn d Out x .stride ≤ k)

@@ -14,7 +14,7 @@ use Rattle.regs.specs.declared.Dir.the-variants.{Out, In}
 use Rattle.state.specs.declared.EpState.{EpState}
 use Rattle.state.specs.declared.Allocator.{Allocator}
 use Rattle.state.specs.declared.Globals.{Globals}
-use Rattle.state.specs.Fresh.{fillLens, clearStamps}
+use Rattle.state.specs.Fresh.{clearStamps}
 use Rattle.state.specs.Driver.{Driver, key, lenKey, stampKey, noRequest, epOn, withOn, withLenOn, withStampOn, pacedOn, requestOn}
 use Rattle.state.specs.Laws.{Sized, key-apart, epOn-same, epOn-other}
 use Rattle.alloc.specs.Alloc.{allocatedIn, slotsOf}
@@ -30,7 +30,7 @@ use Rattle.script.specs.Machine.{Buf}
 use Rattle.ops.specs.Records.{plainOf}
 use Rattle.ops.specs.Stamps.{length-filled}
 use Rattle.book.specs.Pages.{OutPage, InPage, Kept, Pages, at, on, withKept, withOut, withIn, keptPlain}
-use Rattle.book.specs.Lens.{key-mod, key-other, ep-mod, lens-mod, key-ep, lens-on, ep-len, lens-set-other, ep-fill, lens-fill-other, stamps-mod, stamps-on, stamps-len, stamps-fill, ep-stamp, lens-stamp, stamps-set-other, ep-clear, lens-clear, stamps-clear-other}
+use Rattle.book.specs.Lens.{key-mod, key-other, ep-mod, lens-mod, key-ep, lens-on, ep-len, lens-set-other, stamps-mod, stamps-on, stamps-len, ep-stamp, lens-stamp, stamps-set-other, ep-clear, lens-clear, stamps-clear-other}
 use Rattle.book.specs.Rest.{SameKept, endOf, Shape, Apart, ep0Room, lensOf, slotStamps, Held, OutFits, InFits, InRow, Arming, Step, Rest}
 
 -- ---- one endpoint's record, lengths and stamps changed, its buffers where they were
@@ -128,24 +128,6 @@ module _ {d : Driver} (s : Sized d) (dir : Dir) (e : ℕ) where
     place = place-trans (a .place) (c .place);
     iso = c .iso ∙ a .iso;
   }
-
--- all its lengths
-pub changed-fill : {d : Driver} → Sized d → (e v : ℕ) → Changed Out e d (fillLens d e v)
-unfolding fillLens
-changed-fill {d} s e v = record {
-  sized = record { eps = s .eps; lens = length-filled (d .lens) (e % 16 * 16) 16 v ∙ s .lens; stamps = s .stamps; paced = s .paced; requests = s .requests };
-  globals = refl;
-  wakes = refl;
-  control = refl;
-  allocator = refl;
-  paced = refl;
-  requests = refl;
-  eps = λ dir′ x n. ep-fill d e v dir′ x;
-  lens = λ dir′ x n. lens-fill-other d e v dir′ x n;
-  stamps = λ x n. stamps-fill d e v x;
-  place = rw (ep-fill d e v Out e) (same-place (epOn d Out e));
-  iso = ap (λ (r : EpState). r .iso) (ep-fill d e v Out e);
-}
 
 -- one of its stamps
 pub changed-stamp : {d : Driver} → Sized d → (e i v : ℕ) → Changed Out e d (withStampOn d e i v)

@@ -11,10 +11,10 @@ use Rattle.fields.specs.Tables.{tab, tab-ext, tab-set, getD-tab, length-tab}
 use Rattle.regs.specs.declared.Dir.{Dir}
 use Rattle.regs.specs.declared.Dir.the-variants.{Out, In}
 use Rattle.state.specs.declared.EpState.{EpState}
-use Rattle.state.specs.Fresh.{filled, fillLens, clearStamps}
+use Rattle.state.specs.Fresh.{clearStamps}
 use Rattle.state.specs.Driver.{Driver, key, lenKey, noEp, stampKey, epOn, withOn, lenOn, withLenOn, stampOn, withStampOn}
 use Rattle.state.specs.Laws.{Sized, key-same, stampKey-same, lenOn-same, lenOn-other, stampOn-same, stampOn-other}
-use Rattle.ops.specs.Stamps.{length-filled, cleared-other}
+use Rattle.ops.specs.Stamps.{cleared-other}
 use Rattle.book.specs.Rest.{lensOf, slotStamps}
 
 -- ---- endpoints count modulo 16
@@ -74,55 +74,6 @@ module _ (d : Driver) (dir : Dir) (e : ℕ) where
   unfolding withLenOn epOn
   ep-len i v dir′ e′ = refl
 
--- ---- all lengths of an OUT ring
-
-filled-out : (l : List ℕ) (a n v k : ℕ) → (k < a) ⊎ (a + n ≤ k) → getD (filled l a n v) k 0 ≡ getD l k 0
-unfolding filled
-filled-out l a zero v k h = refl
-filled-out l a (suc n) v k h =
-    getD-set-other (filled l a n v) (a + n) k v 0 (⊎-elim (λ p. λ z. omega arith) (λ p. λ z. omega arith) h)
-    ∙ filled-out l a n v k (⊎-elim (λ p. inl p) (λ p. inr (omega arith)) h)
-
-filled-in : (l : List ℕ) (a n v j : ℕ) → j < n → a + n ≤ length l → getD (filled l a n v) (a + j) 0 ≡ v
-unfolding filled
-filled-in l a zero v j h w = absurd (omega arith)
-filled-in l a (suc n) v j h w = elim (ℕ-discrete j n) [
-  | yes p ↦ ap (λ (k : ℕ). getD (set (filled l a n v) (a + n) v) (a + k) 0) p
-      ∙ getD-set-same (filled l a n v) (a + n) v 0 (omega (arith, length-filled l a n v))
-  | no p ↦ getD-set-other (filled l a n v) (a + n) (a + j) v 0 (λ z. p (omega arith)) ∙ filled-in l a n v j (omega arith) (omega arith)
-]
-
-module _ (d : Driver) (e v : ℕ) where
-  pub ep-fill : (dir′ : Dir) (e′ : ℕ) → epOn (fillLens d e v) dir′ e′ ≡ epOn d dir′ e′
-  unfolding fillLens epOn
-  ep-fill dir′ e′ = refl
-
-  fill-in : Sized d → (j : ℕ) → j < 16 → lenOn (fillLens d e v) Out e j ≡ v
-  unfolding fillLens lenOn lenKey key
-  fill-in s j h =
-      let k : e % 16 * 16 + j % 16 ≡ e % 16 * 16 + j = omega arith in
-      ap (λ (x : ℕ). getD (filled (d .lens) (e % 16 * 16) 16 v) x 0) k ∙ filled-in (d .lens) (e % 16 * 16) 16 v j h (omega (arith, s .lens))
-
-  pub lens-fill : Sized d → lensOf (fillLens d e v) Out e ≡ replicate 16 v
-  lens-fill s = tab-ext (λ j. v) (λ j. lenOn (fillLens d e v) Out e j) 16 (fill-in s)
-
-  fill-out : (dir′ : Dir) (e′ j : ℕ) → key dir′ e′ ≢ key Out e → lenOn (fillLens d e v) dir′ e′ j ≡ lenOn d dir′ e′ j
-  unfolding fillLens lenOn lenKey key
-  fill-out Out e′ j n = filled-out (d .lens) (e % 16 * 16) 16 v (e′ % 16 * 16 + j % 16) (side (e′ % 16) (e % 16) n)
-    where
-      side : (x y : ℕ) → x ≢ y → (x * 16 + j % 16 < y * 16) ⊎ (y * 16 + 16 ≤ x * 16 + j % 16)
-      side x y n = elim (decLt x y) [
-        | yes p ↦ inl (omega arith)
-        | no p ↦ inr (elim (decLt y x) [
-          | yes q ↦ omega arith
-          | no q ↦ absurd (n (omega arith))
-        ])
-      ]
-  fill-out In e′ j n = filled-out (d .lens) (e % 16 * 16) 16 v ((16 + e′ % 16) * 16 + j % 16) (inr (omega arith))
-
-  pub lens-fill-other : (dir′ : Dir) (e′ : ℕ) → key dir′ e′ ≢ key Out e → lensOf (fillLens d e v) dir′ e′ ≡ lensOf d dir′ e′
-  lens-fill-other dir′ e′ n = tab-ext (λ j. lenOn d dir′ e′ j) (λ j. lenOn (fillLens d e v) dir′ e′ j) 16 (λ j l. fill-out dir′ e′ j n)
-
 -- ---- the stamps
 
 pub stamps-mod : (d : Driver) (x e : ℕ) → x % 16 ≡ e % 16 → slotStamps d x ≡ slotStamps d e
@@ -143,10 +94,6 @@ stamps-on d dir e r x = refl
 pub stamps-len : (d : Driver) (dir : Dir) (e i v x : ℕ) → slotStamps (withLenOn d dir e i v) x ≡ slotStamps d x
 unfolding withLenOn stampOn
 stamps-len d dir e i v x = refl
-
-pub stamps-fill : (d : Driver) (e v x : ℕ) → slotStamps (fillLens d e v) x ≡ slotStamps d x
-unfolding fillLens stampOn
-stamps-fill d e v x = refl
 
 module _ (d : Driver) (e : ℕ) where
   pub stamps-set : Sized d → (i v : ℕ) → i < 16 → slotStamps (withStampOn d e i v) e ≡ set (slotStamps d e) i v

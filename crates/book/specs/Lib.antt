@@ -10,12 +10,14 @@ pub mod Frame
 pub mod Held
 pub mod Chips
 pub mod Outs
+pub mod Late
 pub mod Arrives
 pub mod Ins
 pub mod Bytes
 pub mod Steps
 pub mod Resets
 pub mod Switches
+pub mod Untouched
 pub mod Rows
 pub mod Agrees
 pub mod Demand3

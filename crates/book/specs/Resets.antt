@@ -40,7 +40,7 @@ use Rattle.book.specs.Steps.{RowStep, phase-changed, globals-changed, no
 
 -- ---- a record reset
 
-reset-place : (r : EpState) → SamePlace r (resetOf r)
+pub reset-place : (r : EpState) → SamePlace r (resetOf r)
 reset-place r = record { base = refl; stride = refl; slots = refl }
 
 -- none of a reset record wait
@@ -53,7 +53,7 @@ reset-held {most = most} {b = b} {r = r} {ls = ls} h = record {
 }
 
 -- nor any stamp, whatever its slots have
-reset-out : {b : Buf} {r : EpState} {ls ss : List ℕ} {p : OutPage} → OutFits b r ls ss p → (ss′ : List ℕ) → OutFits b (resetOf r) ls ss′ (emptyOut p)
+pub reset-out : {b : Buf} {r : EpState} {ls ss : List ℕ} {p : OutPage} → OutFits b r ls ss p → (ss′ : List ℕ) → OutFits b (resetOf r) ls ss′ (emptyOut p)
 reset-out {r = r} f ss′ = record {
   held = reset-held (f .held);
   stamps = none-stamps (resetOf r) ss′ (reset-count (resetOf r) refl refl);

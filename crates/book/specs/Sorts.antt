@@ -14,11 +14,10 @@ use Rattle.regs.specs.declared.Dir.{Dir}
 use Rattle.regs.specs.declared.Dir.the-variants.{Out, In}
 use Rattle.state.specs.declared.EpState.{EpState}
 use Rattle.state.specs.Ep.{resetOf}
-use Rattle.state.specs.Fresh.{fillLens, clearStamps, noStamps}
+use Rattle.state.specs.Fresh.{clearStamps, noStamps}
 use Rattle.state.specs.Driver.{Driver, key, noEp, epOn, withOn, withLenOn, withStampOn, withPacedOn, withRequestOn}
-use Rattle.ring.specs.Fields.{withMinLen}
 use Rattle.ring.specs.Slot.{slotAddr, joinedOf, passedOf, hasWaiting}
-use Rattle.ring.specs.Out.{hasRoomOut, cappedAt, shortestOf, turnedAwayOf, arrivedOf, armedAt, openedOf, closedOf}
+use Rattle.ring.specs.Out.{hasRoomOut, cappedAt, turnedAwayOf, arrivedOf, armedAt, openedOf, closedOf}
 use Rattle.ring.specs.In.{completedOf, loadedOf, unloadedOf}
 use Rattle.marks.specs.Copies.{copied}
 use Rattle.script.specs.Cells.{Cell, Val, globals-cell, wakes-cell, control-cell, allocator-cell, ep-cell, request-cell, paced-cell}
@@ -26,7 +25,7 @@ use Rattle.script.specs.Script.{Act, complete, reset-ring, set-enabled, fill, f
 use Rattle.script.specs.Statics.{isOn, isoOuts}
 use Rattle.script.specs.Sorts.{Sorts, Among, Shows, allocates, Sorted}
 use Rattle.ops.specs.Records.{isoOut, configured, enabledOn}
-use Rattle.ops.specs.Rings.{St, completeOn, emptied, emptiedOn, openOn, closeOn, takeOn, roomOn, queuedOn, enqueueOn, recordedOn, admittedOn, arrivedAt, arriveOn, sendOn, placeOn, renewedOn, armSlotOn, slotStep, typeStep, configStep, switchStep, resetBelow, resetAll, resetStep}
+use Rattle.ops.specs.Rings.{St, completeOn, emptied, emptiedOn, openOn, closeOn, takeOn, roomOn, queuedOn, enqueueOn, recordedOn, admittedOn, arrivedAt, arriveOn, sendOn, placeOn, renewedOn, armAt, slotStep, typeStep, configStep, switchStep, resetBelow, resetAll, resetStep}
 use Rattle.ops.specs.Conc.{conc}
 
 -- ---- what leaves the flags and the sets
@@ -85,22 +84,13 @@ completed-flag r = by (eqb (r .loaded) 0)
     by true = refl
     by false = refl
 
-shortest-flag : (r : EpState) (len : ℕ) → shortestOf r len .iso ≡ r .iso
-unfolding shortestOf
-shortest-flag r len = by (eqb len 0) (ltb len (r .«min_len»))
-  where
-    by : (a b : Bool) → cond a r (cond b (withMinLen r len) r) .iso ≡ r .iso
-    by true b = refl
-    by false true = refl
-    by false false = refl
-
-arrived-flag : (r : EpState) (len : ℕ) → arrivedOf r len .iso ≡ r .iso
+arrived-flag : (r : EpState) → arrivedOf r .iso ≡ r .iso
 unfolding arrivedOf joinedOf turnedAwayOf
-arrived-flag r len = by (hasRoomOut r)
+arrived-flag r = by (hasRoomOut r)
   where
-    by : (b : Bool) → cond b (joinedOf (shortestOf r len)) (turnedAwayOf (shortestOf r len)) .iso ≡ r .iso
-    by true = shortest-flag r len
-    by false = shortest-flag r len
+    by : (b : Bool) → cond b (joinedOf r) (turnedAwayOf r) .iso ≡ r .iso
+    by true = refl
+    by false = refl
 
 -- ---- each operation
 
@@ -146,7 +136,7 @@ recorded-steady d e len = either (hasRoomOut (epOn d Out e)) (others d _ refl re
 
 admitted-steady : (d : Driver) (e len : ℕ) → Steady d (admittedOn d e len)
 unfolding admittedOn
-admitted-steady d e len = let p = recorded-steady d e len in then p (record-steady (recordedOn d e len) Out e _ (arrived-flag (epOn d Out e) len ∙ sym (p .flags Out e)))
+admitted-steady d e len = let p = recorded-steady d e len in then p (record-steady (recordedOn d e len) Out e _ (arrived-flag (epOn d Out e) ∙ sym (p .flags Out e)))
 
 pub hand-steady : (q : Hand) (s : St) → Steady (s .0) (conc .hand q s .1 .0)
 unfolding arriveOn sendOn loadedOf placeOn
@@ -167,14 +157,14 @@ hand-steady place0 s = steady (s .0)
 -- ---- rows
 
 renewed-steady : (d : Driver) (e : ℕ) → Steady d (renewedOn d e)
-unfolding renewedOn fillLens clearStamps epOn
-renewed-steady d e = let x = clearStamps (fillLens d e (epOn d Out e .«max_len»)) e in then (others d x refl refl refl refl) (record-steady x Out e _ refl)
+unfolding renewedOn clearStamps epOn
+renewed-steady d e = let x = clearStamps d e in then (others d x refl refl refl refl) (record-steady x Out e _ refl)
 
 slot-steady : (e k : ℕ) (s : St) → Steady (s .0) (slotStep e k s .1 .0)
 unfolding slotStep
 slot-steady e k s = by (isOn (epOn (s .0) Out e .iso)) (eqb k 15)
   where
-    by : (b c : Bool) → Steady (s .0) (cond b (armSlotOn e k (cond c (renewedOn (s .0) e) (s .0), s .1)) (epOn (s .0) Out e .«armed_slot», s) .1 .0)
+    by : (b c : Bool) → Steady (s .0) (cond b (armAt e k (cond c (renewedOn (s .0) e) (s .0), s .1)) (epOn (s .0) Out e .«armed_slot», s) .1 .0)
     by true c = then (either c (renewed-steady (s .0) e) (steady (s .0))) (armed-steady (cond c (renewedOn (s .0) e) (s .0)) e _)
     by false c = steady (s .0)
 

@@ -8,11 +8,11 @@ use lib.ListN.{length, getD, set}
 use lib.Seq.{getD-set-same, getD-set-other}
 use Rattle.state.specs.declared.EpState.{EpState}
 use Rattle.ring.specs.Slot.{after, slotOf, countOf, joinedOf, passedOf}
-use Rattle.ring.specs.Out.{hasRoomOut, shortestOf, turnedAwayOf, arrivedOf, arrivedLens, closedOf}
+use Rattle.ring.specs.Out.{hasRoomOut, turnedAwayOf, arrivedOf, arrivedLens, closedOf}
 use Rattle.ring.specs.Waiting.{Placed, OutRing, Alike}
 use Rattle.ring.specs.Slots.{slots-some, slot-in}
-use Rattle.ring.specs.Laws.{place-slot, alike-count, alike-join, head-after, head-away, join-count, pass-count}
-use Rattle.ring.specs.OutLaws.{shortest-alike, turned-alike, closed-alike}
+use Rattle.ring.specs.Laws.{place-slot, alike-count, head-after, head-away, join-count, pass-count}
+use Rattle.ring.specs.OutLaws.{turned-alike, closed-alike}
 
 -- `n` stamps from counter `i` on
 unfoldable pub stampsFrom : EpState → List ℕ → ℕ → ℕ → List ℕ
@@ -75,14 +75,13 @@ module _ {n : ℕ} {s : EpState} {ls : List ℕ} (g : Placed n s) (a : OutRing s
         (from-more (joinedOf s) joined (s .tail) (countOf s) (a .tail8)
         ∙ ap₂ _++_ (from-same s (joinedOf s) ss joined (s .tail) (countOf s) (a .tail8) join-old) (ap (λ (x : ℕ). x ∷ []) (join-new w)))
 
-    module _ (len : ℕ) (w : s .slots ≤ length ss) where
-      arrive-by : (t : Bool) → stamped (cond t (joinedOf (shortestOf s len)) (turnedAwayOf (shortestOf s len))) (cond t joined ss) ≡ cond t (stamped s ss ++ (v ∷ [])) (stamped s ss)
-      unfolding joinedOf
-      arrive-by true = alike-stamps (alike-join (shortest-alike s len)) joined (a .tail8) ∙ join-stamps w
-      arrive-by false = alike-stamps (turned-alike (shortestOf s len)) ss (rw (shortest-alike s len .tail) (a .tail8)) ∙ alike-stamps (shortest-alike s len) ss (a .tail8)
+    module _ (w : s .slots ≤ length ss) where
+      arrive-by : (t : Bool) → stamped (cond t (joinedOf s) (turnedAwayOf s)) (cond t joined ss) ≡ cond t (stamped s ss ++ (v ∷ [])) (stamped s ss)
+      arrive-by true = join-stamps w
+      arrive-by false = alike-stamps (turned-alike s) ss (a .tail8)
 
       -- recorded as its length is
-      pub arrive-stamps : stamped (arrivedOf s len) (arrivedLens s ss v) ≡ cond (hasRoomOut s) (stamped s ss ++ (v ∷ [])) (stamped s ss)
+      pub arrive-stamps : stamped (arrivedOf s) (arrivedLens s ss v) ≡ cond (hasRoomOut s) (stamped s ss ++ (v ∷ [])) (stamped s ss)
       unfolding arrivedOf arrivedLens
       arrive-stamps = arrive-by (hasRoomOut s)
 

@@ -7,7 +7,6 @@ use Prim.Native.Nat.{ℕ, zero, suc, _+_, _-_, _%_, _≤_, _<_}
 use native.Mathlib.Omega.{arith}
 use lib.Dec.{eqb}
 use borrow.Author.Tests.{eqb-true, eqb-false, eq-eqb, ne-eqb}
-use lib.ListN.{replicate, length-replicate}
 use Rattle.bits.specs.Bit.{isSet}
 use Rattle.regs.specs.declared.Access.the-variants.{Write, Receive}
 use Rattle.regs.specs.declared.Reg.the-variants.{EpConfig, EpType}
@@ -16,16 +15,15 @@ use Rattle.regs.specs.Enables as enables
 use Rattle.state.specs.declared.EpState.{EpState}
 use Rattle.state.specs.declared.Globals.{Globals}
 use Rattle.state.specs.Ep.{resetOf}
-use Rattle.state.specs.Fresh.{fillLens, clearStamps}
+use Rattle.state.specs.Fresh.{clearStamps}
 use Rattle.state.specs.Kept.{withEpConfig, withEpType}
 use Rattle.state.specs.Driver.{Driver, epOn, withOn}
 use Rattle.state.specs.Laws.{Sized, epOn-same}
-use Rattle.ring.specs.Fields.{withMinLen}
 use Rattle.ring.specs.Slot.{slotAddr, countOf}
 use Rattle.ring.specs.Out.{armedAt}
-use Rattle.ring.specs.Waiting.{Only, Placed}
+use Rattle.ring.specs.Waiting.{Only, SamePlace, Placed}
 use Rattle.ring.specs.Slots.{slot-from, slot-upto}
-use Rattle.ring.specs.Laws.{place-placed, place-addr, alike-ring, alike-count, waiting-none, slot-region, reset-count, reset-waits, reset-ring, replicate-capped}
+use Rattle.ring.specs.Laws.{place-placed, place-addr, alike-ring, alike-count, waiting-none, slot-region, reset-count}
 use Rattle.ring.specs.OutLaws.{armed-alike}
 use Rattle.marks.specs.Marks.{armed}
 use Rattle.marks.specs.Only as marks
@@ -37,15 +35,16 @@ use Rattle.script.specs.Statics.{isOn, isoOuts}
 use Rattle.script.specs.Statics as statics
 use Rattle.script.specs.Machine.{Buf}
 use Rattle.ops.specs.Records.{plainOf}
-use Rattle.ops.specs.Rings.{St, renewedOn, armSlotOn, slotStep, typeStep, configStep}
+use Rattle.ops.specs.Rings.{St, renewedOn, armAt, slotStep, typeStep, configStep}
 use Rattle.book.specs.Pages.{OutPage, Kept, Pages, withKept, withOut, keptPlain}
 use Rattle.book.specs.Book.{emptyOut, slotTold, isoOf, feedB}
 use Rattle.book.specs.Rest.{SameKept, endOf, lensOf, slotStamps, OutFits, AtRest, Switching, InRow, Arming, Rest}
-use Rattle.book.specs.Lens.{ep-mod, lens-length, lens-on, ep-fill, lens-fill, stamps-on, ep-clear, lens-clear}
-use Rattle.book.specs.Stamps.{alike-stamps, none-stamps}
-use Rattle.book.specs.Frame.{Changed, changed-not, changed-on, changed-fill, changed-clear, changed-trans, kept-same, kept-plain, out-same, out-twice, out-moved, end-kept, out-changed, only-bytes}
+use Rattle.book.specs.Lens.{ep-mod, lens-on, stamps-on, ep-clear, lens-clear}
+use Rattle.book.specs.Stamps.{alike-stamps}
+use Rattle.book.specs.Frame.{Changed, changed-not, changed-on, changed-clear, changed-trans, kept-same, kept-plain, out-same, out-twice, out-moved, end-kept, out-changed, only-bytes}
 use Rattle.book.specs.Held.{iso-used, Words, good-words}
 use Rattle.book.specs.Steps.{RowStep, phase-changed, globals-changed, others-enabled}
+use Rattle.book.specs.Resets.{reset-place, reset-out}
 
 -- ---- the endpoint that is switched, and those that are not
 
@@ -145,18 +144,18 @@ rx-step e onn b d t R =
 
 module _ {b : Buf} {r : EpState} {ls ss : List ℕ} {p : OutPage} (f : OutFits b r ls ss p) (w : Words (r .stride)) (k : ℕ) where
   -- its bytes alone change
-  slot-only : marks.Only (slotAddr r k) (slotAddr r k + r .stride) b (armed b (slotAddr r k) 0 (r .«max_len»))
-  slot-only = armed-slot b (slotAddr r k) 0 (r .«max_len») (r .stride) (w .0) (w .1) (f .held .least)
+  slot-only : marks.Only (slotAddr r k) (slotAddr r k + r .stride) b (armed b (slotAddr r k) (r .«max_len»))
+  slot-only = armed-slot b (slotAddr r k) (r .«max_len») (r .stride) (w .0) (w .1) (f .held .least)
 
-  slot-bytes : Only (r .base) (endOf r) b (armed b (slotAddr r k) 0 (r .«max_len»))
-  slot-bytes = slot-region (f .held .placed) (f .held .ring) k b (armed b (slotAddr r k) 0 (r .«max_len»)) (only-bytes slot-only)
+  slot-bytes : Only (r .base) (endOf r) b (armed b (slotAddr r k) (r .«max_len»))
+  slot-bytes = slot-region (f .held .placed) (f .held .ring) k b (armed b (slotAddr r k) (r .«max_len»)) (only-bytes slot-only)
 
-  slot-fits : countOf r ≡ 0 → OutFits (armed b (slotAddr r k) 0 (r .«max_len»)) (armedAt r (slotAddr r k)) ls ss (slotTold p (slotAddr r k))
+  slot-fits : countOf r ≡ 0 → OutFits (armed b (slotAddr r k) (r .«max_len»)) (armedAt r (slotAddr r k)) ls ss (slotTold p (slotAddr r k))
   unfolding armedAt
   slot-fits z =
       let l = armed-alike r (slotAddr r k) in
       let r′ = armedAt r (slotAddr r k) in
-      let b′ = armed b (slotAddr r k) 0 (r .«max_len») in
+      let b′ = armed b (slotAddr r k) (r .«max_len») in
       record {
         held = record {
           placed = subst (λ n. Placed n r′) (sym (slot-only .long)) (place-placed (l .place) (f .held .placed));
@@ -215,12 +214,12 @@ module _ {φ : Phase} {b : Buf} {d d₁ : Driver} {t : Pages} (R : Rest φ b d t
     (c : Changed Out e d d₁) (s : SameKept d₁ kept) (f : OutFits b (epOn d₁ Out e) (lensOf d₁ Out e) (slotStamps d₁ e) p) (w : Words (epOn d₁ Out e .stride))
     (i : isOn (epOn d₁ Out e .iso) ≡ true) (none : countOf (epOn d₁ Out e) ≡ 0) (head : epOn d₁ Out e .head ≡ 0) (step : suc (suc (suc k)) ≤ 18)
     (others : (x : ℕ) (u : Bool) → x % 16 ≢ e % 16 → Arming φ x u (epOn d Out x) (t .outs x) → Arming (mid (switch e onn) (suc (suc (suc k)))) x u (epOn d Out x) (t .outs x)) where
-  slot-armed : Rest (mid (switch e onn) (suc (suc (suc k)))) (armed b (slotAddr (epOn d₁ Out e) k) 0 (epOn d₁ Out e .«max_len»)) (armed-on d₁ (c .sized) e k)
+  slot-armed : Rest (mid (switch e onn) (suc (suc (suc k)))) (armed b (slotAddr (epOn d₁ Out e) k) (epOn d₁ Out e .«max_len»)) (armed-on d₁ (c .sized) e k)
       (withOut (withKept t kept) e (slotTold p (slotAddr (epOn d₁ Out e) k)))
   slot-armed =
       let r₁ = epOn d₁ Out e in
       let a = slotAddr r₁ k in
-      let b′ = armed b a 0 (r₁ .«max_len») in
+      let b′ = armed b a (r₁ .«max_len») in
       let n = suc (suc (suc k)) in
       let u = isSet (isoOuts (d .globals)) (e % 16) in
       out-changed R e (slotTold p a) (changed-trans (R .sized) Out e c (on-changed d₁ (c .sized) e k))
@@ -256,77 +255,47 @@ module _ {φ : Phase} {b : Buf} {d : Driver} {t : Pages} (R : Rest φ b d t) (e 
       step others
       (plain-in e onn n e u r (slotTold (t .outs e) (r .«armed_slot»)) i (record { armed = λ q. f .slot ∙ a .armed q; none = a .none }))
 
--- ---- the first step: the record reset, every length the maximum, no stamp
-
-abbrev fresh : EpState → EpState
-fresh r = withMinLen (resetOf r) (r .«max_len»)
-
-fresh-fits : {b : Buf} {r : EpState} {ls ss : List ℕ} {p : OutPage} → r .slots ≤ 16 → OutFits b r ls ss p → (ss′ : List ℕ) → OutFits b (fresh r) (replicate 16 (r .«max_len»)) ss′ (emptyOut p)
-fresh-fits {b = b} {r = r} l f ss′ =
-    let m = r .«max_len» in
-    record {
-      held = record {
-        placed = place-placed (record { base = refl; stride = refl; slots = refl }) (f .held .placed);
-        ring = reset-ring (fresh r) refl refl (r .slots - 1) (replicate 16 m) (omega (arith, length-replicate 16 m)) (λ i. omega (arith, replicate-capped 16 m i, f .held .least));
-        least = f .held .least;
-        waits = reset-waits (fresh r) refl refl b (replicate 16 m);
-      };
-      stamps = none-stamps (fresh r) ss′ (reset-count (fresh r) refl refl);
-      opened = refl;
-      shows = λ q. absurd (true≢false q);
-      lost = f .lost;
-      slot = f .slot;
-      from = f .from;
-      upto = f .upto;
-    }
+-- ---- the first step: the record reset, no stamp
 
 module _ {φ : Phase} {b : Buf} {d : Driver} {t : Pages} (R : Rest φ b d t) (e : ℕ) where
-  -- the lengths and stamps made new
-  abbrev filled : Driver
-  filled = clearStamps (fillLens d e (epOn d Out e .«max_len»)) e
+  -- the stamps made new
+  cleared-changed : Changed Out e d (clearStamps d e)
+  cleared-changed = changed-clear (R .sized) e
 
-  filled-changed : Changed Out e d filled
-  filled-changed =
-      let c = changed-fill (R .sized) e (epOn d Out e .«max_len») in
-      changed-trans (R .sized) Out e c (changed-clear (c .sized) e)
-
-  filled-ep : epOn filled Out e ≡ epOn d Out e
-  filled-ep = ep-clear (fillLens d e (epOn d Out e .«max_len»)) e Out e ∙ ep-fill d e (epOn d Out e .«max_len») Out e
+  cleared-ep : epOn (clearStamps d e) Out e ≡ epOn d Out e
+  cleared-ep = ep-clear d e Out e
 
   fresh-changed : Changed Out e d (renewedOn d e)
   unfolding renewedOn
   fresh-changed =
-      let q = filled-ep in
-      changed-trans (R .sized) Out e filled-changed
-      (changed-on (filled-changed .sized) Out e (fresh (epOn d Out e))
-      (record { base = ap (λ (r : EpState). r .base) (sym q); stride = ap (λ (r : EpState). r .stride) (sym q); slots = ap (λ (r : EpState). r .slots) (sym q) })
-      (ap (λ (r : EpState). r .iso) (sym q)))
+      changed-trans (R .sized) Out e cleared-changed
+      (changed-on (cleared-changed .sized) Out e (resetOf (epOn d Out e))
+      (subst (λ r. SamePlace r (resetOf (epOn d Out e))) (sym cleared-ep) (reset-place (epOn d Out e)))
+      (ap (λ (r : EpState). r .iso) (sym cleared-ep)))
 
-  fresh-ep : epOn (renewedOn d e) Out e ≡ fresh (epOn d Out e)
+  pub fresh-ep : epOn (renewedOn d e) Out e ≡ resetOf (epOn d Out e)
   unfolding renewedOn
-  fresh-ep = epOn-same filled Out e (fresh (epOn d Out e)) (filled-changed .sized)
+  fresh-ep = epOn-same (clearStamps d e) Out e (resetOf (epOn d Out e)) (cleared-changed .sized)
 
-  fresh-lens : lensOf (renewedOn d e) Out e ≡ replicate 16 (epOn d Out e .«max_len»)
+  fresh-lens : lensOf (renewedOn d e) Out e ≡ lensOf d Out e
   unfolding renewedOn
-  fresh-lens =
-      let m = epOn d Out e .«max_len» in
-      lens-on filled Out e (fresh (epOn d Out e)) Out e ∙ lens-clear (fillLens d e m) e Out e ∙ lens-fill d e m (R .sized)
+  fresh-lens = lens-on (clearStamps d e) Out e (resetOf (epOn d Out e)) Out e ∙ lens-clear d e Out e
 
   fresh-kept : SameKept (renewedOn d e) (keptPlain (t .kept) Out e (statics.renewed (t .kept .plain Out e)))
   fresh-kept = kept-plain fresh-changed (ap plainOf fresh-ep ∙ ap statics.renewed (R .same .plain Out e)) (R .same)
 
   fresh-out : OutFits b (epOn (renewedOn d e) Out e) (lensOf (renewedOn d e) Out e) (slotStamps (renewedOn d e) e) (emptyOut (t .outs e))
-  fresh-out = out-moved fresh-ep fresh-lens refl (fresh-fits (omega (arith, R .outs e .held .ring .whole, lens-length d Out e)) (R .outs e) (slotStamps (renewedOn d e) e))
+  fresh-out = out-moved fresh-ep fresh-lens refl (reset-out (R .outs e) (slotStamps (renewedOn d e) e))
 
   -- its slots are of whole words
-  slot-words : isOn (epOn d Out e .iso) ≡ true → Words (epOn d Out e .stride)
+  pub slot-words : isOn (epOn d Out e .iso) ≡ true → Words (epOn d Out e .stride)
   slot-words i = subst Words (sym (iso-used R e i .stride)) (good-words (d .allocator .size) (R .good))
 
 -- ---- its steps
 
 -- by whether it is isochronous, for driver and book, and whether the record is to be reset
 abbrev slotted : (iso last : Bool) → ℕ → ℕ → Driver → Buf → ℕ × St
-slotted iso last e k d b = cond iso (armSlotOn e k (cond last (renewedOn d e) d, b)) (epOn d Out e .«armed_slot», (d, b))
+slotted iso last e k d b = cond iso (armAt e k (cond last (renewedOn d e) d, b)) (epOn d Out e .«armed_slot», (d, b))
 
 abbrev paged : (iso last : Bool) → ℕ → Pages → Pages
 paged iso last e t = cond (iso && last) (withOut (withKept t (keptPlain (t .kept) Out e (statics.renewed (t .kept .plain Out e)))) e (emptyOut (t .outs e))) t
@@ -349,12 +318,12 @@ slot-first e onn b d t R =
         let k = keptPlain (t .kept) Out e (statics.renewed (t .kept .plain Out e)) in
         let p = emptyOut (t .outs e) in
         let a = slotAddr (epOn (renewedOn d e) Out e) 15 in
-        subst (λ y. Rest (mid (switch e onn) 18) (armed b a 0 (epOn (renewedOn d e) Out e .«max_len»)) (armed-on (renewedOn d e) (fresh-changed R e .sized) e 15) y)
+        subst (λ y. Rest (mid (switch e onn) 18) (armed b a (epOn (renewedOn d e) Out e .«max_len»)) (armed-on (renewedOn d e) (fresh-changed R e .sized) e 15) y)
         (sym (ap (λ q. withOut (withOut (withKept t k) e p) e (slotTold q a)) (out-same (withKept t k) e p) ∙ out-twice (withKept t k) e (slotTold p a) p))
         (slot-armed R e onn 15 (fresh-changed R e) (fresh-kept R e) (fresh-out R e)
         (subst Words (sym (fresh-changed R e .place .stride)) (slot-words R e i))
         (ap isOn (fresh-changed R e .iso) ∙ i)
-        (ap countOf (fresh-ep R e) ∙ reset-count (fresh (epOn d Out e)) refl refl)
+        (ap countOf (fresh-ep R e) ∙ reset-count (resetOf (epOn d Out e)) refl refl)
         (ap (λ (r : EpState). r .head) (fresh-ep R e))
         (omega arith) others)
     go false i = told-again R e onn 18 i (omega arith) (λ u a. a) others

@@ -116,7 +116,6 @@ resetAs r armed = record {
   overruns = r .overruns;
   «last_frame» = 0x1800;
   «max_len» = r .«max_len»;
-  «min_len» = r .«min_len»;
   «armed_slot» = r .«armed_slot»;
   tog = 0;
   «open» = 0;

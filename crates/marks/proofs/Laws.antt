@@ -2,13 +2,13 @@
 use mathlib.Core.Path.{_≡_, refl, sym, _∙_}
 use mathlib.Core.Bool.{Bool, true, false, _&&_}
 use mathlib.Core.List.{List, _++_}
-use Prim.Native.Nat.{ℕ, zero, suc, _+_, _-_, _*_, _/_, _≤_, _<_}
+use Prim.Native.Nat.{ℕ, zero, suc, _+_, _-_, _*_, _≤_, _<_}
 use native.Mathlib.Numerals.{add-one}
-use borrow.Author.Tests.{lt-ltb, le-ltb}
+use borrow.Author.Tests.{eq-eqb, ne-eqb}
 use native.Mathlib.Omega.{arith}
 use lib.ListN.{length, take, drop, set, getD, length-append, length-drop}
 use lib.Seq.{length-sets, length-take-le, drop-cons, take-suc, set-at, append-snoc}
-use Rattle.marks.specs.Marks.{mark, marked, markedRun, isMark, halving}
+use Rattle.marks.specs.Marks.{mark, markByte, marked, markedRun, found}
 
 -- ---- marks
 
@@ -26,36 +26,36 @@ pub length-marked : (p : List ℕ) (i : ℕ) → length (marked p i) ≡ length 
 unfolding marked
 length-marked p i = length-sets p (i * 4) mark
 
--- one word more
-pub run-more : (p : List ℕ) (i hi : ℕ) → i < hi → markedRun p i (hi - i) ≡ markedRun (marked p i) (i + 1) (hi - (i + 1))
-unfolding markedRun
-run-more p i hi h = let e : hi - i ≡ suc (hi - (i + 1)) = omega arith in rw e
+pub run-all : (p : List ℕ) (n : ℕ) → markedRun p 0 (n - 0) ≡ markedRun p 0 n
+run-all p n = let e : n - 0 ≡ n = omega arith in rw e
 
-pub run-none : (p : List ℕ) (i hi : ℕ) → hi ≤ i → markedRun p i (hi - i) ≡ p
+-- one word more
+pub run-more : (p : List ℕ) (i n : ℕ) → i < n → markedRun p i (n - i) ≡ markedRun (marked p i) (i + 1) (n - (i + 1))
 unfolding markedRun
-run-none p i hi h = let e : hi - i ≡ 0 = omega arith in rw e
+run-more p i n h = let e : n - i ≡ suc (n - (i + 1)) = omega arith in rw e
+
+pub run-none : (p : List ℕ) (i n : ℕ) → n ≤ i → markedRun p i (n - i) ≡ p
+unfolding markedRun
+run-none p i n h = let e : n - i ≡ 0 = omega arith in rw e
 
 pub all-four : {a b c : Bool} (d : Bool) → a ≡ true → b ≡ true → c ≡ true → d ≡ (a && b && c && d)
 all-four d x y z = rw (x, y, z)
 
--- ---- the search by halving
+-- ---- the search, down from the maximum
 
-pub halve-down : (p : List ℕ) (k lo hi f : ℕ) → lo < hi → hi - lo ≤ k → halving p k lo hi ≡ f → isMark p ((lo + hi) / 2) ≡ true
-    → (j : ℕ) × ((lo + hi) / 2 - lo ≤ j) × (halving p j lo ((lo + hi) / 2) ≡ f)
-unfolding halving
-halve-down p zero lo hi f h b e m = absurd (omega arith)
-halve-down p (suc k) lo hi f h b e m = (k, omega arith, rw (lt-ltb lo hi h, m) at e)
+pub found-here : (p : List ℕ) (n : ℕ) → 0 < n → (getD p (n - 1) 0 ≡ markByte (n - 1) → ⊥) → found n p ≡ n
+unfolding found
+found-here p zero h d = absurd (omega arith)
+found-here p (suc k) h d = let e : suc k - 1 ≡ k = omega arith in rw (ne-eqb (getD p k 0) (markByte k) (rw e at d))
 
-pub halve-up : (p : List ℕ) (k lo hi f : ℕ) → lo < hi → hi - lo ≤ k → halving p k lo hi ≡ f → isMark p ((lo + hi) / 2) ≡ false
-    → (j : ℕ) × (hi - ((lo + hi) / 2 + 1) ≤ j) × (halving p j ((lo + hi) / 2 + 1) hi ≡ f)
-unfolding halving
-halve-up p zero lo hi f h b e m = absurd (omega arith)
-halve-up p (suc k) lo hi f h b e m = (k, omega arith, rw (lt-ltb lo hi h, m) at e)
+pub found-below : (p : List ℕ) (n : ℕ) → 0 < n → getD p (n - 1) 0 ≡ markByte (n - 1) → found n p ≡ found (n - 1) p
+unfolding found
+found-below p zero h d = absurd (omega arith)
+found-below p (suc k) h d = let e : suc k - 1 ≡ k = omega arith in rw (e, eq-eqb (getD p k 0) (markByte k) (rw e at d))
 
-pub halve-stop : (p : List ℕ) (k lo hi : ℕ) → hi ≤ lo → halving p k lo hi ≡ lo
-unfolding halving
-halve-stop p zero lo hi h = refl
-halve-stop p (suc k) lo hi h = rw (le-ltb lo hi h)
+pub found-none : (p : List ℕ) (n : ℕ) → n ≤ 0 → found n p ≡ 0
+unfolding found
+found-none p n h = let e : n ≡ 0 = omega arith in rw e
 
 -- ---- copies
 

@@ -2,12 +2,12 @@
 use mathlib.Core.Path.{_≡_, _∙_}
 use mathlib.Core.Bool.{true}
 use mathlib.Core.List.{List, _++_, append-nil}
-use Prim.Native.Nat.{ℕ, _+_, _-_, _*_, _≤_, _<_, min}
-use borrow.Author.Tests.{lt-ltb, le-ltb, eq-eqb, ne-eqb}
+use Prim.Native.Nat.{ℕ, _+_, _-_, _≤_, _<_}
+use borrow.Author.Tests.{lt-ltb, le-ltb}
 use native.Mathlib.Omega.{arith}
 use lib.ListN.{length, take, drop, length-drop, drop-of-length-le}
 use lib.Seq.{take-all}
-use Rattle.marks.specs.Marks.{words, firstWord, reach, marked, markedRun, isMark, arm, lastOther, upTo, found, isMarked, armed, markedLen}
+use Rattle.marks.specs.Marks.{armedWords, reach, markedRun, isMark, arm, found, isMarked, armed, markedLen}
 use Rattle.marks.specs.Copies.{over, copied, copiedOut}
 
 -- ---- the part of a list from `at` on
@@ -30,35 +30,26 @@ marked-fits b at h = rw (le-ltb (length b) (at + 4) h, part-is b at)
 
 -- ---- arming
 
-pub armed-short : (b : List ℕ) (at from dirty : ℕ) → length b < at + reach dirty → b ≡ armed b at from dirty
+pub armed-short : (b : List ℕ) (at maximum : ℕ) → length b < at + reach maximum → b ≡ armed b at maximum
 unfolding armed
-armed-short b at from dirty h = rw (lt-ltb (length b) (at + reach dirty) h)
+armed-short b at maximum h = rw (lt-ltb (length b) (at + reach maximum) h)
 
-pub armed-fits : (b ys : List ℕ) (at from dirty : ℕ) → at + reach dirty ≤ length b → ys ≡ arm from dirty (take (length b - at) (drop at b))
-    → take at b ++ (ys ++ drop (length b - at) (drop at b)) ≡ armed b at from dirty
-unfolding armed
-armed-fits b ys at from dirty h e = rw (le-ltb (length b) (at + reach dirty) h, part-back b ys at, e, part-is b at)
-
-pub arm-is : (p q r : List ℕ) (lo from dirty : ℕ) → q ≡ marked p 0 → r ≡ markedRun q lo (words dirty - lo) → lo ≡ firstWord from → r ≡ arm from dirty p
-unfolding arm
-arm-is p q r lo from dirty e f g = f ∙ rw (e, g)
+pub armed-fits : (b ys : List ℕ) (at maximum n : ℕ) → n ≡ armedWords maximum → at + reach maximum ≤ length b
+    → ys ≡ markedRun (take (length b - at) (drop at b)) 0 n
+    → take at b ++ (ys ++ drop (length b - at) (drop at b)) ≡ armed b at maximum
+unfolding armed arm
+armed-fits b ys at maximum n w h e = rw (le-ltb (length b) (at + reach maximum) h, part-back b ys at, e, part-is b at, w)
 
 -- ---- the length
 
-pub len-zero : (p : List ℕ) (w maximum : ℕ) → w ≡ 0 → 0 ≡ upTo p maximum w
-len-zero p w maximum e = rw (eq-eqb w 0 e)
-
-pub len-some : (p : List ℕ) (w maximum n r : ℕ) → (w ≡ 0 → ⊥) → n ≡ lastOther p (w - 1) 4 → r ≡ min ((w - 1) * 4 + n) maximum → r ≡ upTo p maximum w
-len-some p w maximum n r z e f = f ∙ rw (ne-eqb w 0 z, ← e)
-
-pub len-short : (b : List ℕ) (at maximum : ℕ) → length b < at + words maximum * 4 → 0 ≡ markedLen b at maximum
+pub len-short : (b : List ℕ) (at maximum : ℕ) → length b < at + maximum → 0 ≡ markedLen b at maximum
 unfolding markedLen
-len-short b at maximum h = rw (lt-ltb (length b) (at + words maximum * 4) h)
+len-short b at maximum h = rw (lt-ltb (length b) (at + maximum) h)
 
-pub len-fits : (b : List ℕ) (at maximum : ℕ) → at + words maximum * 4 ≤ length b
+pub len-fits : (b : List ℕ) (at maximum : ℕ) → at + maximum ≤ length b
     → found maximum (take (length b - at) (drop at b)) ≡ markedLen b at maximum
 unfolding markedLen
-len-fits b at maximum h = rw (le-ltb (length b) (at + words maximum * 4) h, part-is b at)
+len-fits b at maximum h = rw (le-ltb (length b) (at + maximum) h, part-is b at)
 
 -- ---- copies
 

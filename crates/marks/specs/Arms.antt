@@ -3,14 +3,14 @@ use mathlib.Core.Logic.{_⊎_, inl, inr, ⊎-elim}
 use mathlib.Core.Path.{_≡_, _∙_}
 use mathlib.Core.Bool.{true}
 use mathlib.Core.List.{List, [], _∷_}
-use Prim.Native.Nat.{ℕ, zero, suc, _+_, _-_, _*_, _≤_, _<_}
+use Prim.Native.Nat.{ℕ, zero, suc, _+_, _*_, _/_, _≤_, _<_}
 use native.Mathlib.Omega.{arith}
 use native.Mathlib.Decide.{decLt}
 use borrow.Author.Tests.{eq-eqb}
 use lib.ListN.{length, getD, set, length-set}
 use lib.Seq.{sets, getD-set-same}
-use Rattle.marks.specs.Marks.{mark, words, isMark, marked, markedRun, firstWord, arm, reach}
-use Rattle.marks.specs.Words.{all-agree, same-mark}
+use Rattle.marks.specs.Marks.{mark, markByte, isMark, marked, markedRun, armedWords, arm, reach}
+use Rattle.marks.specs.Words.{all-agree, same-mark, mark-byte}
 use Rattle.marks.specs.Only.{Only, only-refl, only-trans, only-wider, only-sets, only-apart}
 
 -- ---- one word, and a run of words
@@ -56,58 +56,17 @@ run-in (suc n) p i j l h f = elim (decLt i j) [
 
 -- ---- arming
 
-pub only-arm : (p : List ℕ) (from dirty : ℕ) → Only 0 (reach dirty) p (arm from dirty p)
-unfolding arm markedRun
-only-arm p from dirty = elim (decLt (firstWord from) (words dirty)) [
-  | yes g ↦ only-trans
-      (only-wider 0 (reach dirty) (omega arith) (omega arith) (only-marked p 0))
-      (only-wider 0 (reach dirty) (omega arith) (omega arith) (only-run (words dirty - firstWord from) (marked p 0) (firstWord from)))
-  | no g ↦ (let e : words dirty - firstWord from ≡ 0 = omega arith in
-      rw e (only-wider 0 (reach dirty) (omega arith) (omega arith) (only-marked p 0)))
-]
-
--- the words that arming marks: 0, and from firstWord up to the last stale byte
-pub arm-first : (p : List ℕ) (from dirty : ℕ) → reach dirty ≤ length p → isMark (arm from dirty p) 0 ≡ true
+pub only-arm : (p : List ℕ) (maximum : ℕ) → Only 0 (reach maximum) p (arm maximum p)
 unfolding arm
-arm-first p from dirty h =
-    run-out (words dirty - firstWord from) (marked p 0) (firstWord from) 0 (inl (omega arith)) ∙ marked-word p 0 (omega arith)
+only-arm p maximum = only-wider 0 (reach maximum) (omega arith) (omega arith) (only-run (armedWords maximum) p 0)
 
-pub arm-in : (p : List ℕ) (from dirty i : ℕ) → reach dirty ≤ length p → firstWord from ≤ i → i < words dirty → isMark (arm from dirty p) i ≡ true
+pub arm-word : (p : List ℕ) (maximum i : ℕ) → reach maximum ≤ length p → i < armedWords maximum → isMark (arm maximum p) i ≡ true
 unfolding arm
-arm-in p from dirty i h l g =
-    run-in (words dirty - firstWord from) (marked p 0) (firstWord from) i (omega arith) (omega arith) (omega (arith, only-marked p 0 .long))
+arm-word p maximum i h l = run-in (armedWords maximum) p 0 i (omega arith) (omega arith) (omega arith)
 
--- every other word stays
-pub arm-out : (p : List ℕ) (from dirty i : ℕ) → 0 < i → (i < firstWord from) ⊎ (words dirty ≤ i) → isMark (arm from dirty p) i ≡ isMark p i
-unfolding arm
-arm-out p from dirty i z h = elim (decLt i (firstWord from)) [
-  | yes g ↦ run-out (words dirty - firstWord from) (marked p 0) (firstWord from) i (inl g) ∙ first
-  | no g ↦ run-out (words dirty - firstWord from) (marked p 0) (firstWord from) i
-      (inr (⊎-elim (λ (l : i < firstWord from). omega arith) (λ (l : words dirty ≤ i). omega arith) h)) ∙ first
-]
-  where
-    first : isMark (marked p 0) i ≡ isMark p i
-    first = same-mark p (marked p 0) i (only-apart (i * 4) (i * 4 + 4) (only-marked p 0) (inr (omega arith)))
+-- every byte up to the maximum, rounded up to whole words, is the mark's
+abbrev pub MarkedEmpty : ℕ → List ℕ → Type 0
+MarkedEmpty maximum p = (k : ℕ) → k < reach maximum → getD p k 0 ≡ markByte k
 
--- ---- a slot marked empty
-
--- The slot shows the length of every packet of `least` bytes or more, up to the maximum: word 0 is marked, and each word
--- that the shortest such packet may leave as it is. With `least` 0 all its words are marked.
-pub record MarkedEmpty (least maximum : ℕ) (p : List ℕ) : Type 0 where
-  pub first : isMark p 0 ≡ true
-  pub rest : (i : ℕ) → firstWord least ≤ i → i < words maximum → isMark p i ≡ true
-
--- it is so after arming if it was so before but for word 0 and the words that arming marks
-pub arm-empties : (p : List ℕ) (least maximum from dirty : ℕ) → reach dirty ≤ length p
-    → ((i : ℕ) → firstWord least ≤ i → i < words maximum → (i < firstWord from) ⊎ (words dirty ≤ i) → isMark p i ≡ true)
-    → MarkedEmpty least maximum (arm from dirty p)
-arm-empties p least maximum from dirty h f = record {
-  first = arm-first p from dirty h;
-  rest = λ i l g. elim (decLt i (firstWord from)) [
-    | yes a ↦ arm-out p from dirty i (omega arith) (inl a) ∙ f i l g (inl a)
-    | no a ↦ elim (decLt i (words dirty)) [
-      | yes d ↦ arm-in p from dirty i h (omega arith) d
-      | no d ↦ arm-out p from dirty i (omega arith) (inr (omega arith)) ∙ f i l g (inr (omega arith))
-    ]
-  ];
-}
+pub arm-empties : (p : List ℕ) (maximum : ℕ) → reach maximum ≤ length p → MarkedEmpty maximum (arm maximum p)
+arm-empties p maximum h k l = mark-byte (arm maximum p) k (arm-word p maximum (k / 4) h (omega arith))

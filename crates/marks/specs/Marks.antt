@@ -2,7 +2,7 @@
 -- buffer's end touches nothing, and answers that the slot is marked, or the length 0.
 use mathlib.Core.Bool.{Bool, true, cond, _&&_}
 use mathlib.Core.List.{List, [], _∷_, _++_}
-use Prim.Native.Nat.{ℕ, zero, suc, _+_, _-_, _*_, _/_, min, max}
+use Prim.Native.Nat.{ℕ, zero, suc, _+_, _*_, _/_, _%_, max}
 use lib.Dec.{ltb, eqb}
 use lib.ListN.{length, take, drop, getD}
 use lib.Seq.{sets}
@@ -23,28 +23,16 @@ agrees p i k = eqb (getD p (i * 4 + k) 0) (getD mark k 0)
 unfoldable pub isMark : List ℕ → ℕ → Bool
 isMark p i = agrees p i 0 && agrees p i 1 && agrees p i 2 && agrees p i 3
 
--- ---- the length by the marks (marked_len)
+-- the mark's byte at place k of a part
+abbrev pub markByte : ℕ → ℕ
+markByte k = getD mark (k % 4) 0
 
--- the first word of the marks, by halving between lo and hi; each step narrows these, so as many steps as words are enough
-unfoldable pub halving : List ℕ → ℕ → ℕ → ℕ → ℕ
-halving p zero lo hi = lo
-halving p (suc steps) lo hi =
-    cond (ltb lo hi)
-    (cond (isMark p ((lo + hi) / 2)) (halving p steps lo ((lo + hi) / 2)) (halving p steps ((lo + hi) / 2 + 1) hi))
-    lo
+-- ---- the length by the marks (request Eight; marked_len)
 
--- of the first k bytes of word i, how many stand up to the last that is not the mark's
-unfoldable pub lastOther : List ℕ → ℕ → ℕ → ℕ
-lastOther p i zero = 0
-lastOther p i (suc k) = cond (agrees p i k) (lastOther p i k) (suc k)
-
--- the length where the marks begin at word w
-abbrev pub upTo : List ℕ → ℕ → ℕ → ℕ
-upTo p maximum w = cond (eqb w 0) 0 (min ((w - 1) * 4 + lastOther p (w - 1) 4) maximum)
-
--- the length of the packet in the part
+-- one more than the place of the last of the first n bytes that differs from the mark's byte there, or 0 if none does
 unfoldable pub found : ℕ → List ℕ → ℕ
-found maximum p = upTo p maximum (halving p (words maximum) 0 (words maximum))
+found zero p = 0
+found (suc k) p = cond (eqb (getD p k 0) (markByte k)) (found k p) (suc k)
 
 -- ---- arming (iso_out_arm)
 
@@ -57,13 +45,13 @@ unfoldable pub markedRun : List ℕ → ℕ → ℕ → List ℕ
 markedRun p i zero = p
 markedRun p i (suc n) = markedRun (marked p i) (i + 1) n
 
--- the first word after word 0 that is marked
-abbrev pub firstWord : ℕ → ℕ
-firstWord from = max 1 (from / 4)
+-- how many words arming marks: word 0 and every word up to the maximum, rounded up to whole words
+abbrev pub armedWords : ℕ → ℕ
+armedWords maximum = max 1 (words maximum)
 
--- the part armed: word 0, then the words from firstWord up to the last stale byte
-unfoldable pub arm : ℕ → ℕ → List ℕ → List ℕ
-arm from dirty p = markedRun (marked p 0) (firstWord from) (words dirty - firstWord from)
+-- the part armed (request Eight)
+unfoldable pub arm : ℕ → List ℕ → List ℕ
+arm maximum p = markedRun p 0 (armedWords maximum)
 
 -- ---- of the slot at offset `at` of the lent buffer
 
@@ -77,12 +65,12 @@ isMarked b at = cond (short b at 4) true (isMark (drop at b) 0)
 
 -- the length of the packet in it
 unfoldable pub markedLen : List ℕ → ℕ → ℕ → ℕ
-markedLen b at maximum = cond (short b at (words maximum * 4)) 0 (found maximum (drop at b))
+markedLen b at maximum = cond (short b at maximum) 0 (found maximum (drop at b))
 
--- how many bytes of the slot arming needs
+-- how many bytes of the slot arming marks
 abbrev pub reach : ℕ → ℕ
-reach dirty = max 1 (words dirty) * 4
+reach maximum = armedWords maximum * 4
 
 -- the buffer with the slot armed
-unfoldable pub armed : List ℕ → ℕ → ℕ → ℕ → List ℕ
-armed b at from dirty = cond (short b at (reach dirty)) b (take at b ++ arm from dirty (drop at b))
+unfoldable pub armed : List ℕ → ℕ → ℕ → List ℕ
+armed b at maximum = cond (short b at (reach maximum)) b (take at b ++ arm maximum (drop at b))

@@ -1,5 +1,4 @@
 -- The laws of marks and copies over the lent buffer, for every buffer size, offset and maximum.
-use mathlib.Core.Logic.{_⊎_}
 use mathlib.Core.Path.{_≡_, sym, _∙_}
 use mathlib.Core.Bool.{true, false}
 use mathlib.Core.List.{List, _++_}
@@ -8,71 +7,69 @@ use native.Mathlib.Omega.{arith}
 use native.Mathlib.Decide.{decLt}
 use borrow.Author.Tests.{lt-ltb, le-ltb}
 use lib.ListN.{length, take, drop, getD, length-append, length-drop, List·getD-append, length-take}
-use lib.Seq.{take-append-seam, drop-at, getD-append-add, getD-drop, length-take-le, take-at}
-use Rattle.marks.specs.Marks.{words, isMark, firstWord, arm, reach, isMarked, armed, markedLen}
+use lib.Seq.{take-append-seam, drop-at, ext-getD, getD-append-add, getD-drop, getD-take, length-take-le, take-at}
+use Rattle.marks.specs.Marks.{agrees, arm, reach, isMarked, armed, markedLen}
 use Rattle.marks.specs.Copies.{over, bytesAt, copied, copiedOut}
 use Rattle.marks.specs.Only.{Same, Only, only-refl, only-wider, only-part}
-use Rattle.marks.specs.Words.{same-mark}
-use Rattle.marks.specs.Arms.{MarkedEmpty, only-arm, arm-first, arm-empties}
-use Rattle.marks.specs.Finds.{Telling, MarkedAfter, telling-word, found-is, found-most, found-same}
+use Rattle.marks.specs.Words.{same-mark, one-differs}
+use Rattle.marks.specs.Arms.{MarkedEmpty, only-arm, arm-word, arm-empties}
+use Rattle.marks.specs.Finds.{LastDiffers, MarkedAfter, found-is, found-most, found-same}
 
 back : (b p : List ℕ) (at : ℕ) → at ≤ length b → drop at (take at b ++ p) ≡ p
 back b p at h = drop-at (take at b) p at (length-take-le at b h)
 
 -- ---- arming
 
--- bytes outside of what arming needs of its slot stay, and so does the length
-pub only-armed : (b : List ℕ) (at from dirty : ℕ) → Only at (at + reach dirty) b (armed b at from dirty)
+-- bytes outside of what arming marks of its slot stay, and so does the length
+pub only-armed : (b : List ℕ) (at maximum : ℕ) → Only at (at + reach maximum) b (armed b at maximum)
 unfolding armed
-only-armed b at from dirty = elim (decLt (length b) (at + reach dirty)) [
-  | yes g ↦ rw (lt-ltb (length b) (at + reach dirty) g) (only-refl _ _ b)
-  | no g ↦ rw (le-ltb (length b) (at + reach dirty) (omega arith))
-      (only-part b (arm from dirty (drop at b)) at (reach dirty) (omega arith) (only-arm (drop at b) from dirty))
+only-armed b at maximum = elim (decLt (length b) (at + reach maximum)) [
+  | yes g ↦ rw (lt-ltb (length b) (at + reach maximum) g) (only-refl _ _ b)
+  | no g ↦ rw (le-ltb (length b) (at + reach maximum) (omega arith))
+      (only-part b (arm maximum (drop at b)) at (reach maximum) (omega arith) (only-arm (drop at b) maximum))
 ]
 
--- a slot of whole words, that holds the stale bytes, holds what arming changes
-pub armed-slot : (b : List ℕ) (at from dirty size : ℕ) → 4 ≤ size → size / 4 * 4 ≡ size → dirty ≤ size → Only at (at + size) b (armed b at from dirty)
-armed-slot b at from dirty size z w d = only-wider at (at + size) (omega arith) (omega arith) (only-armed b at from dirty)
+-- a slot of whole words, that holds the maximum, holds what arming changes
+pub armed-slot : (b : List ℕ) (at maximum size : ℕ) → 4 ≤ size → size / 4 * 4 ≡ size → maximum ≤ size → Only at (at + size) b (armed b at maximum)
+armed-slot b at maximum size z w d = only-wider at (at + size) (omega arith) (omega arith) (only-armed b at maximum)
 
-module _ (b : List ℕ) (at from dirty : ℕ) (fits : at + reach dirty ≤ length b) where
-  part-fits : reach dirty ≤ length (drop at b)
+module _ (b : List ℕ) (at maximum : ℕ) (fits : at + reach maximum ≤ length b) where
+  part-fits : reach maximum ≤ length (drop at b)
   part-fits = simp length-drop (omega arith)
 
-  pub armed-part : drop at (armed b at from dirty) ≡ arm from dirty (drop at b)
+  pub armed-part : drop at (armed b at maximum) ≡ arm maximum (drop at b)
   unfolding armed
-  armed-part = rw (le-ltb (length b) (at + reach dirty) fits) (back b (arm from dirty (drop at b)) at (omega arith))
+  armed-part = rw (le-ltb (length b) (at + reach maximum) fits) (back b (arm maximum (drop at b)) at (omega arith))
 
   -- no packet has arrived in an armed slot
-  pub armed-marked : isMarked (armed b at from dirty) at ≡ true
+  pub armed-marked : isMarked (armed b at maximum) at ≡ true
   unfolding isMarked
   armed-marked =
-      rw (le-ltb (length (armed b at from dirty)) (at + 4) (omega (arith, only-armed b at from dirty .long)), armed-part)
-      (arm-first (drop at b) from dirty part-fits)
+      rw (le-ltb (length (armed b at maximum)) (at + 4) (omega (arith, only-armed b at maximum .long)), armed-part)
+      (arm-word (drop at b) maximum 0 part-fits (omega arith))
 
-  pub armed-empties : (least maximum : ℕ)
-      → ((i : ℕ) → firstWord least ≤ i → i < words maximum → (i < firstWord from) ⊎ (words dirty ≤ i) → isMark (drop at b) i ≡ true)
-      → MarkedEmpty least maximum (drop at (armed b at from dirty))
-  armed-empties least maximum h = rw armed-part (arm-empties (drop at b) least maximum from dirty part-fits h)
+  pub armed-empties : MarkedEmpty maximum (drop at (armed b at maximum))
+  armed-empties = rw armed-part (arm-empties (drop at b) maximum part-fits)
 
 -- ---- the length by the marks
 
 pub len-most : (b : List ℕ) (at maximum : ℕ) → markedLen b at maximum ≤ maximum
 unfolding markedLen
-len-most b at maximum = elim (decLt (length b) (at + words maximum * 4)) [
-  | yes g ↦ rw (lt-ltb (length b) (at + words maximum * 4) g) (omega arith)
-  | no g ↦ rw (le-ltb (length b) (at + words maximum * 4) (omega arith)) (found-most (drop at b) maximum)
+len-most b at maximum = elim (decLt (length b) (at + maximum)) [
+  | yes g ↦ rw (lt-ltb (length b) (at + maximum) g) (omega arith)
+  | no g ↦ rw (le-ltb (length b) (at + maximum) (omega arith)) (found-most (drop at b) maximum)
 ]
 
--- a slot with n bytes that are not taken for marks, and marks after them
-pub len-is : (b : List ℕ) (at n maximum : ℕ) → at + words maximum * 4 ≤ length b → n ≤ maximum
-    → Telling n (drop at b) → MarkedAfter n maximum (drop at b) → markedLen b at maximum ≡ n
+-- a slot with n bytes, of which the last differs from the mark's there, and marks after them
+pub len-is : (b : List ℕ) (at n maximum : ℕ) → at + maximum ≤ length b → n ≤ maximum
+    → LastDiffers n (drop at b) → MarkedAfter n maximum (drop at b) → markedLen b at maximum ≡ n
 unfolding markedLen
-len-is b at n maximum fits small t m = rw (le-ltb (length b) (at + words maximum * 4) fits) (found-is (drop at b) n maximum t small m)
+len-is b at n maximum fits small t m = rw (le-ltb (length b) (at + maximum) fits) (found-is (drop at b) n maximum small t m)
 
--- its first word is no mark, unless the packet is empty
-pub arrival : (b : List ℕ) (at n : ℕ) → at + 4 ≤ length b → 0 < n → Telling n (drop at b) → isMarked b at ≡ false
+-- a slot with a byte of its first word that differs from the mark's there: a packet has arrived
+pub arrival : (b : List ℕ) (at k : ℕ) → at + 4 ≤ length b → k < 4 → agrees (drop at b) 0 k ≡ false → isMarked b at ≡ false
 unfolding isMarked
-arrival b at n fits some t = rw (le-ltb (length b) (at + 4) fits) (telling-word (drop at b) n 0 t (omega arith))
+arrival b at k fits l o = rw (le-ltb (length b) (at + 4) fits) (one-differs (drop at b) 0 k l o)
 
 -- ---- both answers follow from the slot's bytes alone
 
@@ -84,16 +81,23 @@ module _ (b c : List ℕ) (at : ℕ) (long : length c ≡ length b) where
   unfolding isMarked
   marked-same s = rw (long, same-mark (drop at b) (drop at c) 0 (part-same 4 s))
 
-  pub len-same : (maximum : ℕ) → Same at (at + words maximum * 4) b c → markedLen c at maximum ≡ markedLen b at maximum
+  pub len-same : (maximum : ℕ) → Same at (at + maximum) b c → markedLen c at maximum ≡ markedLen b at maximum
   unfolding markedLen
-  len-same maximum s = rw (long, found-same (drop at b) (drop at c) maximum (part-same (words maximum * 4) s))
+  len-same maximum s = rw (long, found-same (drop at b) (drop at c) maximum (part-same maximum s))
+
+  pub bytes-same : (n : ℕ) → Same at (at + n) b c → bytesAt c at n ≡ bytesAt b at n
+  bytes-same n s =
+      ext-getD 0 (bytesAt c at n) (bytesAt b at n)
+      (simp (length-take, length-drop, long))
+      (λ k l. let h : k < n = omega (arith, length-take n (drop at c)) in
+      getD-take n (drop at c) k 0 h ∙ part-same n s k (omega arith) h ∙ sym (getD-take n (drop at b) k 0 h))
 
 -- ---- copies
 
 pub over-low : (s p : List ℕ) (k : ℕ) → k < length s → getD (over s p) k 0 ≡ getD s k 0
 over-low s p k h = List·getD-append s (drop (length s) p) 0 k h
 
-over-high : (s p : List ℕ) (k : ℕ) → length s ≤ k → getD (over s p) k 0 ≡ getD p k 0
+pub over-high : (s p : List ℕ) (k : ℕ) → length s ≤ k → getD (over s p) k 0 ≡ getD p k 0
 over-high s p k h =
     let e : length s + (k - length s) ≡ k = omega arith in
     rw e at (getD-append-add s (drop (length s) p) (k - length s) 0 ∙ getD-drop (length s) p (k - length s) 0)

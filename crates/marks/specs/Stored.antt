@@ -1,55 +1,47 @@
--- A packet stored in a slot that is marked empty: its length is found, and armed again the slot is marked empty again.
-use mathlib.Core.Logic.{_⊎_, ⊎-elim}
+-- A packet stored in an armed slot: its length is found.
 use mathlib.Core.Path.{_≡_, sym, _∙_}
 use mathlib.Core.List.{List}
-use Prim.Native.Nat.{ℕ, _+_, _*_, _≤_, _<_}
+use Prim.Native.Nat.{ℕ, suc, _+_, _≤_, _<_}
 use native.Mathlib.Omega.{arith}
-use native.Mathlib.Decide.{decLt}
 use lib.ListN.{length, drop, getD}
-use lib.Seq.{getD-drop}
-use Rattle.marks.specs.Marks.{words, firstWord, reach, armed, markedLen}
-use Rattle.marks.specs.Copies.{over, copied}
-use Rattle.marks.specs.Only.{Only}
-use Rattle.marks.specs.Arms.{MarkedEmpty}
-use Rattle.marks.specs.Words.{same-mark, agree-all}
-use Rattle.marks.specs.Finds.{Telling, MarkedAfter}
-use Rattle.marks.specs.Slots.{over-low, only-copied, copied-part, armed-empties, len-is}
+use Rattle.marks.specs.Marks.{markByte, reach, armed, markedLen}
+use Rattle.marks.specs.Copies.{over, bytesAt, copied}
+use Rattle.marks.specs.Only.{Same}
+use Rattle.marks.specs.Finds.{LastDiffers, MarkedAfter}
+use Rattle.marks.specs.Slots.{over-low, over-high, only-armed, only-copied, copied-part, copied-bytes, armed-empties, len-is, len-same, bytes-same}
 
--- the slot at `at` was marked empty, and then n bytes from its start were stored
-module _ (b c : List ℕ) (at n least maximum : ℕ) (e : MarkedEmpty least maximum (drop at b)) (o : Only at (at + n) b c) where
-  stays : (k : ℕ) → n ≤ k → getD (drop at c) k 0 ≡ getD (drop at b) k 0
-  stays k h = getD-drop at c k 0 ∙ o .above (at + k) (omega arith) ∙ sym (getD-drop at b k 0)
+-- "stored alone since its slot was armed": the slot's bytes up to the maximum are those that arming left, b then being the buffer, with the packet
+-- over their front
+pub record StoredAlone (b : List ℕ) (at maximum : ℕ) (packet c : List ℕ) : Type 0 where
+  pub long : length c ≡ length b
+  pub slot : Same at (at + maximum) (copied (armed b at maximum) at packet) c
 
-  pub stored-marks : least ≤ n → MarkedAfter n maximum (drop at c)
-  stored-marks l i k h g m =
-      rw (stays (i * 4 + k) g)
-      (agree-all (drop at b) i k h (elim (decLt 0 i) [
-        | yes z ↦ e .rest i (omega arith) m
-        | no z ↦ (let s : i ≡ 0 = omega arith in rw s (e .first))
-      ]))
+module _ (b : List ℕ) (at maximum : ℕ) (packet : List ℕ) (fits : at + reach maximum ≤ length b) (small : length packet ≤ maximum) where
+  stored-part : drop at (copied (armed b at maximum) at packet) ≡ over packet (drop at (armed b at maximum))
+  stored-part = copied-part (armed b at maximum) at packet (omega (arith, only-armed b at maximum .long))
 
-  -- its length is found, if its bytes are not taken for marks
-  pub stored-len : at + words maximum * 4 ≤ length b → least ≤ n → n ≤ maximum → Telling n (drop at c) → markedLen c at maximum ≡ n
-  stored-len fits l small t = len-is c at n maximum (omega (arith, o .long)) small t (stored-marks l)
+  stored-last : LastDiffers (length packet) packet → LastDiffers (length packet) (over packet (drop at (armed b at maximum)))
+  stored-last t k e m = t k e (sym (over-low packet (drop at (armed b at maximum)) k (omega arith)) ∙ m)
 
-  -- armed again with all that is stale, the slot is marked empty again
-  pub stored-rearmed : (from dirty least′ : ℕ) → at + reach dirty ≤ length b → n ≤ dirty → from ≤ least′ → (least ≤ least′) ⊎ (least ≤ dirty)
-      → MarkedEmpty least′ maximum (drop at (armed c at from dirty))
-  stored-rearmed from dirty least′ fits d f l =
-      armed-empties c at from dirty (omega (arith, o .long)) least′ maximum (λ i a m r.
-      let w : words dirty ≤ i = ⊎-elim (λ (x : i < firstWord from). absurd (omega arith)) (λ (x : words dirty ≤ i). x) r in
-      let g : firstWord least ≤ i = ⊎-elim (λ (x : least ≤ least′). omega arith) (λ (x : least ≤ dirty). omega arith) l in
-      same-mark (drop at b) (drop at c) i (λ k y z. stays k (omega arith)) ∙ e .rest i g m)
+  stored-after : MarkedAfter (length packet) maximum (over packet (drop at (armed b at maximum)))
+  stored-after k l h = over-high packet (drop at (armed b at maximum)) k l ∙ armed-empties b at maximum fits k (omega arith)
 
--- a packet copied into the slot
-pub telling-over : (s p : List ℕ) → Telling (length s) s → Telling (length s) (over s p)
-telling-over s p t = record {
-  before = λ i h. same-mark s (over s p) i (λ k a b. over-low s p k (omega arith)) ∙ t .before i h;
-  last = λ i k h e. rw (over-low s p (i * 4 + k) (omega arith)) (t .last i k h e);
-}
+  stored-len : LastDiffers (length packet) packet → markedLen (copied (armed b at maximum) at packet) at maximum ≡ length packet
+  stored-len t =
+      len-is (copied (armed b at maximum) at packet) at (length packet) maximum
+      (omega (arith, only-copied (armed b at maximum) at packet .long, only-armed b at maximum .long)) small
+      (rw stored-part (stored-last t)) (rw stored-part stored-after)
 
-pub copied-len : (b : List ℕ) (at least maximum : ℕ) (s : List ℕ) → at + words maximum * 4 ≤ length b → MarkedEmpty least maximum (drop at b)
-    → least ≤ length s → length s ≤ maximum → Telling (length s) s → markedLen (copied b at s) at maximum ≡ length s
-copied-len b at least maximum s fits e l small t =
-    stored-len b (copied b at s) at (length s) least maximum e (only-copied b at s) fits l small
-    (rw (copied-part b at s (omega arith)) (telling-over s (drop at b) t))
+  same-length : (c : List ℕ) → StoredAlone b at maximum packet c → length c ≡ length (copied (armed b at maximum) at packet)
+  same-length c s = s .long ∙ sym (only-armed b at maximum .long) ∙ sym (only-copied (armed b at maximum) at packet .long)
+
+  -- Request Eight: a packet within the maximum, stored alone since its slot was armed, whose last byte differs from the mark's byte at its
+  -- place, has the length by the marks; so has one of length 0.
+  pub true-length : (c : List ℕ) → StoredAlone b at maximum packet c → LastDiffers (length packet) packet → markedLen c at maximum ≡ length packet
+  true-length c s t = len-same (copied (armed b at maximum) at packet) c at (same-length c s) maximum (s .slot) ∙ stored-len t
+
+  -- and the bytes of that length are the packet
+  pub true-bytes : (c : List ℕ) → StoredAlone b at maximum packet c → bytesAt c at (length packet) ≡ packet
+  true-bytes c s =
+      bytes-same (copied (armed b at maximum) at packet) c at (same-length c s) (length packet) (λ k l h. s .slot k l (omega arith))
+      ∙ copied-bytes (armed b at maximum) at packet (omega (arith, only-armed b at maximum .long))

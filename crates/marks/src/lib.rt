@@ -2,9 +2,9 @@
 // The public functions take the whole lent buffer and a slot's offset, any number; the others the part of the buffer from the slot's
 // start. What would reach past the buffer's end touches nothing.
 ghost use mathlib.Core.Path.{_≡_};
-ghost use Prim.Native.Nat.{_+_, _-_, _*_, _≤_};
+ghost use Prim.Native.Nat.{_+_, _*_, _≤_};
 ghost use lib.ListN.{length};
-ghost use Rattle.marks.specs.Marks.{words, isMark, marked, markedRun, reach, arm, halving, lastOther, found, isMarked, armed, markedLen};
+ghost use Rattle.marks.specs.Marks.{isMark, markByte, marked, markedRun, armedWords, found, isMarked, armed, markedLen};
 ghost use Rattle.marks.specs.Copies.{over, copied, copiedOut};
 
 // Is word i of the part the mark, 0x5A3CA5C3 in bytes lowest first?
@@ -25,60 +25,28 @@ fn is_mark(part: &[u8], i: usize) -> bool
     part[a + 3] == 0x5A
 }
 
-// The first word of the marks after the packet, by halving (a packet word that equals the mark can throw this off).
-fn first_mark(part: &[u8], n: usize) -> usize
-    requires { ⌜ n * 4 ≤ length (now part) ⌝ }
-    ensures { λ r. ⌜ (r ≡ halving (now (part .entry)) n 0 n) × (r ≤ n) ⌝ }
+// The mark's byte at place k.
+fn mark_byte(k: usize) -> u8
+    ensures { λ r. ⌜ r ≡ markByte k ⌝ }
 {
-    let mut lo = 0;
-    let mut hi = n;
-    while lo < hi {
-        let mid = (lo + hi) / 2;
-        if is_mark(part, mid) {
-            hi = mid;
-        } else {
-            lo = mid + 1;
-        }
-    }
-    lo
+    let mark: [u8; 4] = [0xC3, 0xA5, 0x3C, 0x5A];
+    mark[k % 4]
 }
 
-// How many bytes of word i stand up to the last that differs from the mark's.
-fn last_other(part: &[u8], i: usize) -> usize
-    requires { ⌜ i * 4 + 4 ≤ length (now part) ⌝ }
-    ensures { λ r. ⌜ (r ≡ lastOther (now (part .entry)) i 4) × (r ≤ 4) ⌝ }
-{
-    let a = i * 4;
-    if part[a + 3] != 0x5A {
-        return 4;
-    }
-    if part[a + 2] != 0x3C {
-        return 3;
-    }
-    if part[a + 1] != 0xA5 {
-        return 2;
-    }
-    if part[a] != 0xC3 {
-        return 1;
-    }
-    0
-}
-
-// The length of the packet in the part: up to its last byte that differs from the marks, at most max.
+// The length of the packet in the part: down from max, up to the last byte that differs from the mark's.
 fn len_part(part: &[u8], max: u16) -> u16
-    requires { ⌜ words max * 4 ≤ length (now part) ⌝ }
+    requires { ⌜ max ≤ length (now part) ⌝ }
     ensures { λ r. ⌜ r ≡ found max (now (part .entry)) ⌝ }
 {
-    let w = first_mark(part, (max as usize + 3) / 4);
-    if w == 0 {
-        return 0;
+    let mut n = max;
+    while 0 < n {
+        let k = n as usize - 1;
+        if part[k] != mark_byte(k) {
+            return n;
+        }
+        n -= 1;
     }
-    let i = w - 1;
-    let n = i * 4 + last_other(part, i);
-    if n < max as usize {
-        return n as u16;
-    }
-    max
+    0
 }
 
 // Marks word i of the part.
@@ -93,31 +61,24 @@ fn mark_word(part: &mut [u8], i: usize)
     part[a + 3] = 0x5A;
 }
 
-// Marks the words from lo up to hi, if any.
-fn mark_words(part: &mut [u8], lo: usize, hi: usize)
-    requires { ⌜ hi * 4 ≤ length (now part) ⌝ }
-    ensures { λ r. ⌜ now (part .exit) ≡ markedRun (now (part .entry)) lo (hi - lo) ⌝ }
+// Marks the first n words.
+fn mark_words(part: &mut [u8], n: usize)
+    requires { ⌜ n * 4 ≤ length (now part) ⌝ }
+    ensures { λ r. ⌜ now (part .exit) ≡ markedRun (now (part .entry)) 0 n ⌝ }
 {
-    let mut i = lo;
-    while i < hi {
+    let mut i = 0;
+    while i < n {
         mark_word(part, i);
         i += 1;
     }
 }
 
-// Marks word 0, then the words from from/4, at least 1, up to the last stale byte.
-fn arm_part(part: &mut [u8], from: u16, dirty: u16)
-    requires { ⌜ reach dirty ≤ length (now part) ⌝ }
-    ensures { λ r. ⌜ now (part .exit) ≡ arm from dirty (now (part .entry)) ⌝ }
+// How many words arming marks.
+fn armed_words(max: u16) -> usize
+    ensures { λ r. ⌜ r ≡ armedWords max ⌝ }
 {
-    mark_word(part, 0);
-    let w = from as usize / 4;
-    let hi = (dirty as usize + 3) / 4;
-    if w < 1 {
-        mark_words(part, 1, hi);
-    } else {
-        mark_words(part, w, hi);
-    }
+    let n = (max as usize + 3) / 4;
+    if n < 1 { 1 } else { n }
 }
 
 // Copies the packet to the part's start.
@@ -148,27 +109,23 @@ pub fn marked_len(buf: &[u8], at: u32, max: u16) -> u16
     ensures { λ r. ⌜ r ≡ markedLen (now (buf .entry)) at max ⌝ }
 {
     let a = at as usize;
-    let n = (max as usize + 3) / 4 * 4;
+    let n = max as usize;
     if buf.len() < a + n {
         return 0;
     }
     len_part(&buf[a..], max)
 }
 
-// Marks the slot empty: its first word and its bytes `from..dirty`. Past `dirty` they still are marked, and below `from` the next
-// packet overwrites them.
-pub fn iso_out_arm(buf: &mut [u8], at: u32, from: u16, dirty: u16)
-    ensures { λ r. ⌜ now (buf .exit) ≡ armed (now (buf .entry)) at from dirty ⌝ }
+// Marks the slot empty: word 0 and every word up to max, rounded up to whole words.
+pub fn iso_out_arm(buf: &mut [u8], at: u32, max: u16)
+    ensures { λ r. ⌜ now (buf .exit) ≡ armed (now (buf .entry)) at max ⌝ }
 {
     let a = at as usize;
-    let n = (dirty as usize + 3) / 4 * 4;
-    if buf.len() < a + 4 {
+    let n = armed_words(max);
+    if buf.len() < a + n * 4 {
         return;
     }
-    if buf.len() < a + n {
-        return;
-    }
-    arm_part(&mut buf[a..], from, dirty);
+    mark_words(&mut buf[a..], n);
 }
 
 // Copies the packet into the slot.

@@ -3,4 +3,5 @@ pub mod Rings
 pub mod RingLaws
 pub mod Stamps
 pub mod Conc
+pub mod Late
 pub mod Values

@@ -47,7 +47,6 @@ merged r p = record {
   overruns = r .overruns;
   «last_frame» = p .«last_frame»;
   «max_len» = r .«max_len»;
-  «min_len» = r .«min_len»;
   «armed_slot» = r .«armed_slot»;
   tog = p .tog;
   «open» = r .«open»;

@@ -12,11 +12,10 @@ use Rattle.state.specs.declared.EpState.{EpState}
 use Rattle.state.specs.declared.Globals.{Globals}
 use Rattle.state.specs.Ep.{resetOf}
 use Rattle.state.specs.Kept.{withEpConfig, withEpType}
-use Rattle.state.specs.Fresh.{fillLens, clearStamps, noStamps}
+use Rattle.state.specs.Fresh.{clearStamps, noStamps}
 use Rattle.state.specs.Driver.{Driver, epOn, withOn, lenOn, withLenOn, stampOn, withStampOn, withGlobals}
-use Rattle.ring.specs.Fields.{withMinLen}
 use Rattle.ring.specs.Slot.{slotOf, slotAddr, hasWaiting, joinedOf}
-use Rattle.ring.specs.Out.{hasRoomOut, cappedAt, arrivedOf, armSlot, armedAt, openedOf, closedOf}
+use Rattle.ring.specs.Out.{hasRoomOut, cappedAt, arrivedOf, armedAt, openedOf, closedOf}
 use Rattle.ring.specs.In.{hasRoomIn, completedOf, loadedOf, unloadedOf}
 use Rattle.marks.specs.Marks.{isMarked, markedLen, armed}
 use Rattle.marks.specs.Copies.{copied, bytesAt}
@@ -90,7 +89,6 @@ emptied r = record {
   overruns = r .overruns;
   «last_frame» = r .«last_frame»;
   «max_len» = r .«max_len»;
-  «min_len» = r .«min_len»;
   «armed_slot» = r .«armed_slot»;
   tog = r .tog;
   «open» = 0;
@@ -138,28 +136,21 @@ unfoldable pub recordedOn : Driver → ℕ → ℕ → Driver
 recordedOn d e len = cond (hasRoomOut (epOn d Out e)) (writtenOn d e (slotOf (epOn d Out e) (epOn d Out e .head)) len) d
 
 unfoldable pub admittedOn : Driver → ℕ → ℕ → Driver
-admittedOn d e len = withOn (recordedOn d e len) Out e (arrivedOf (epOn d Out e) len)
+admittedOn d e len = withOn (recordedOn d e len) Out e (arrivedOf (epOn d Out e))
 
--- how far the slot to arm is stale: by its last packet, or by this one where it was turned away
-unfoldable pub staleOn : Driver → ℕ → ℕ → Bool → ℕ
-staleOn d e len room = cond room (lenOn d Out e (armSlot (epOn d Out e))) len
-
--- slot i armed: marked over what is stale, its address recorded
-abbrev pub armAt : ℕ → ℕ → ℕ → ℕ → St → ℕ × St
-armAt e i from dirty s =
+-- slot i armed: marked up to the endpoint's maximum, its address recorded
+abbrev pub armAt : ℕ → ℕ → St → ℕ × St
+armAt e i s =
     let r = epOn (s .0) Out e in
     let a = slotAddr r i in
-    (a, (withOn (s .0) Out e (armedAt r a), armed (s .1) a from dirty))
+    (a, (withOn (s .0) Out e (armedAt r a), armed (s .1) a (r .«max_len»)))
 
 -- the head's
-abbrev pub armOn : ℕ → ℕ → ℕ → St → ℕ × St
-armOn e from dirty s = armAt e (epOn (s .0) Out e .head) from dirty s
+abbrev pub armOn : ℕ → St → ℕ × St
+armOn e s = armAt e (epOn (s .0) Out e .head) s
 
 abbrev pub arrivedAt : ℕ → ℕ → St → ℕ × St
-arrivedAt e len s =
-    let room = hasRoomOut (epOn (s .0) Out e) in
-    let d = admittedOn (s .0) e len in
-    armOn e (epOn d Out e .«min_len») (cappedAt (epOn d Out e) (staleOn d e len room)) (d, s .1)
+arrivedAt e len s = armOn e (admittedOn (s .0) e len, s .1)
 
 unfoldable pub arriveOn : ℕ → ℕ → St → ℕ × St
 arriveOn e n s =
@@ -181,18 +172,15 @@ placeOn Out e d =
 
 -- ---- rows
 
--- `endpoint_set_enabled`, 1279 and 1286-1291: the record reset, every length the maximum; no stamp stays
+-- `endpoint_set_enabled`, 1279: the record reset; no stamp stays
 unfoldable pub renewedOn : Driver → ℕ → Driver
-renewedOn d e = withOn (clearStamps (fillLens d e (epOn d Out e .«max_len»)) e) Out e (withMinLen (resetOf (epOn d Out e)) (epOn d Out e .«max_len»))
+renewedOn d e = withOn (clearStamps d e) Out e (resetOf (epOn d Out e))
 
--- 1292-1294: slot k marked over the maximum and armed
-abbrev pub armSlotOn : ℕ → ℕ → St → ℕ × St
-armSlotOn e k s = armAt e k 0 (epOn (s .0) Out e .«max_len») s
-
+-- 1292-1294: slot k armed
 unfoldable pub slotStep : ℕ → ℕ → St → ℕ × St
 slotStep e k s =
     cond (isOn (epOn (s .0) Out e .iso))
-    (armSlotOn e k (cond (eqb k 15) (renewedOn (s .0) e) (s .0), s .1))
+    (armAt e k (cond (eqb k 15) (renewedOn (s .0) e) (s .0), s .1))
     (epOn (s .0) Out e .«armed_slot», s)
 
 unfoldable pub typeStep : ℕ → Bool → Driver → ℕ × Driver

@@ -12,7 +12,7 @@ use lib.Seq.{getD-set-same, getD-set-other}
 use Rattle.bits.specs.Bit.{isSet}
 use Rattle.regs.specs.declared.Dir.the-variants.{Out}
 use Rattle.state.specs.Driver.{Driver, stampKey, epOn, withOn, withLenOn, stampOn, withStampOn}
-use Rattle.state.specs.Fresh.{filled, fillLens, clearStamps, noStamps}
+use Rattle.state.specs.Fresh.{filled, clearStamps, noStamps}
 use Rattle.state.specs.Laws.{Sized, stampKey-lt}
 use Rattle.ring.specs.Slot.{slotOf}
 use Rattle.ring.specs.Out.{hasRoomOut, cappedAt}
@@ -117,7 +117,7 @@ module _ (d : Driver) (e : ℕ) where
 
   -- after an isochronous OUT was enabled or disabled
   pub renewed-stamp : Sized d → (i : ℕ) → stampOn (renewedOn d e) e i ≡ 0
-  unfolding renewedOn withOn fillLens clearStamps stampOn stampKey
+  unfolding renewedOn withOn clearStamps stampOn stampKey
   renewed-stamp z i = filled-in (d .stamps) (e % 16 * 16) 16 0 (i % 16) (omega arith) (omega (arith, z .stamps))
 
   -- after the bus's reset

@@ -130,17 +130,9 @@ module _ {s t : EpState} (k : Alike s t) where
   alike-away x h j l e = h j (omega (arith, alike-count))
       (ap (λ (y : ℕ). slotOf s (after y j)) (sym (k .tail)) ∙ sym (place-slot (k .place) (after (t .tail) j)) ∙ e)
 
-  pub alike-join : Alike (joinedOf s) (joinedOf t)
-  unfolding joinedOf
-  alike-join = record {
-    place = record { base = k .place .base; stride = k .place .stride; slots = k .place .slots };
-    head = ap (λ (x : ℕ). after x 1) (k .head);
-    tail = k .tail;
-  }
-
 -- ---- a reset, enabling: none wait
 
--- enabling records the maximum for every slot
+-- lengths that are all the same are capped by it
 pub replicate-capped : (n m i : ℕ) → getD (replicate n m) i 0 ≤ m
 replicate-capped n m i = elim (decLt i n) [
   | yes h ↦ rw (getD-replicate n i m 0 h) (omega arith)

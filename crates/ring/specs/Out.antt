@@ -2,38 +2,30 @@
 use mathlib.Core.Bool.{Bool, cond}
 use mathlib.Core.List.{List}
 use Prim.Native.Nat.{ℕ, _+_, _-_, _%_, _^_}
-use lib.Dec.{ltb, eqb}
+use lib.Dec.{ltb}
 use lib.ListN.{set}
 use Rattle.state.specs.declared.EpState.{EpState}
-use Rattle.ring.specs.Fields.{withOverruns, withMinLen, withArmedSlot, withOpen}
+use Rattle.ring.specs.Fields.{withOverruns, withArmedSlot, withOpen}
 use Rattle.ring.specs.Slot.{slotOf, countOf, joinedOf, passedOf}
 
 -- "Admitted with 14 queued; with 15 the slot is armed again": below slots - 1
 unfoldable pub hasRoomOut : EpState → Bool
 hasRoomOut s = ltb (countOf s) (s .slots - 1)
 
--- "an isochronous length is capped at the maximum"; so is the stale length in arming
+-- "an isochronous length is capped at the maximum"
 unfoldable pub cappedAt : EpState → ℕ → ℕ
 cappedAt s len = cond (ltb len (s .«max_len»)) len (s .«max_len»)
-
--- the shortest length lowered by one that is not 0
-unfoldable pub shortestOf : EpState → ℕ → EpState
-shortestOf s len = cond (eqb len 0) s (cond (ltb len (s .«min_len»)) (withMinLen s len) s)
 
 -- "the overrun count wraps at 32 bits"
 unfoldable pub turnedAwayOf : EpState → EpState
 turnedAwayOf s = withOverruns s ((s .overruns + 1) % 2 ^ 32)
 
--- an arrival of `len` bytes in the head's slot: the record, and the recorded lengths
-unfoldable pub arrivedOf : EpState → ℕ → EpState
-arrivedOf s len = cond (hasRoomOut s) (joinedOf (shortestOf s len)) (turnedAwayOf (shortestOf s len))
+-- an arrival in the head's slot: the record, and the recorded lengths, its own being `len`
+unfoldable pub arrivedOf : EpState → EpState
+arrivedOf s = cond (hasRoomOut s) (joinedOf s) (turnedAwayOf s)
 
 unfoldable pub arrivedLens : EpState → List ℕ → ℕ → List ℕ
 arrivedLens s ls len = cond (hasRoomOut s) (set ls (slotOf s (s .head)) len) ls
-
--- the slot to arm, and so the place of the stale length: the head's
-unfoldable pub armSlot : EpState → ℕ
-armSlot s = slotOf s (s .head)
 
 unfoldable pub armedAt : EpState → ℕ → EpState
 armedAt s addr = withArmedSlot s addr

@@ -1,40 +1,20 @@
 -- What each operation of an OUT ring does to the packets that wait. Assumes nothing.
-use mathlib.Core.Path.{_≡_, refl, sym, _∙_}
+use mathlib.Core.Path.{_≡_, refl, _∙_}
 use mathlib.Core.Bool.{Bool, true, false, cond}
 use mathlib.Core.List.{List, [], _∷_, _++_, tail}
 use Prim.Native.Nat.{ℕ, _+_, _-_, _%_, _^_, _≤_, _<_, min}
 use native.Mathlib.Omega.{arith}
-use lib.Dec.{ltb, eqb}
+use lib.Dec.{ltb}
 use borrow.Author.Tests.{ltb-true, ltb-false, le-ltb}
-use lib.ListN.{length, getD, set}
-use lib.Seq.{getD-set-other}
+use lib.ListN.{length, set}
 use Rattle.state.specs.declared.EpState.{EpState}
-use Rattle.ring.specs.Fields.{withMinLen}
 use Rattle.ring.specs.Slot.{slotOf, slotAddr, countOf, joinedOf, passedOf}
-use Rattle.ring.specs.Out.{hasRoomOut, cappedAt, shortestOf, turnedAwayOf, arrivedOf, arrivedLens, armSlot, armedAt, openedOf, closedOf}
+use Rattle.ring.specs.Out.{hasRoomOut, cappedAt, turnedAwayOf, arrivedOf, arrivedLens, armedAt, openedOf, closedOf}
 use Rattle.ring.specs.Waiting.{window, waiting, join, Away, Only, Shows, Placed, OutRing, SamePlace, Alike}
-use Rattle.ring.specs.Slots.{slots-some, slot-other, slot-wraps}
-use Rattle.ring.specs.Laws.{waiting-length, alike-count, alike-waits, alike-out, alike-away, alike-join, place-trans, head-away, waiting-head, join-place, join-count, join-waits, join-ring, pass-waits, pass-ring, pass-away}
+use Rattle.ring.specs.Slots.{slots-some}
+use Rattle.ring.specs.Laws.{waiting-length, alike-count, alike-waits, alike-out, alike-away, head-away, waiting-head, join-place, join-count, join-waits, join-ring, pass-waits, pass-ring, pass-away}
 
 -- ---- what touches neither place, head nor tail
-
-shortest-by : (s : EpState) (len : ℕ) (t u : Bool) → Alike s (cond t s (cond u (withMinLen s len) s))
-shortest-by s len true u = record { place = record { base = refl; stride = refl; slots = refl }; head = refl; tail = refl }
-shortest-by s len false true = record { place = record { base = refl; stride = refl; slots = refl }; head = refl; tail = refl }
-shortest-by s len false false = record { place = record { base = refl; stride = refl; slots = refl }; head = refl; tail = refl }
-
-pub shortest-alike : (s : EpState) (len : ℕ) → Alike s (shortestOf s len)
-unfolding shortestOf
-shortest-alike s len = shortest-by s len (eqb len 0) (ltb len (s .«min_len»))
-
-open-by : (s : EpState) (len : ℕ) (t u : Bool) → cond t s (cond u (withMinLen s len) s) .«open» ≡ s .«open»
-open-by s len true u = refl
-open-by s len false true = refl
-open-by s len false false = refl
-
-pub shortest-open : (s : EpState) (len : ℕ) → shortestOf s len .«open» ≡ s .«open»
-unfolding shortestOf
-shortest-open s len = open-by s len (eqb len 0) (ltb len (s .«min_len»))
 
 pub turned-alike : (s : EpState) → Alike s (turnedAwayOf s)
 unfolding turnedAwayOf
@@ -56,13 +36,13 @@ pub closed-place : (s : EpState) → SamePlace s (closedOf s)
 unfolding closedOf passedOf
 closed-place s = record { base = refl; stride = refl; slots = refl }
 
-arrived-by : (s : EpState) (len : ℕ) (t : Bool) → SamePlace s (cond t (joinedOf (shortestOf s len)) (turnedAwayOf (shortestOf s len)))
-arrived-by s len true = place-trans (shortest-alike s len .place) (join-place (shortestOf s len))
-arrived-by s len false = place-trans (shortest-alike s len .place) (turned-alike (shortestOf s len) .place)
+arrived-by : (s : EpState) (t : Bool) → SamePlace s (cond t (joinedOf s) (turnedAwayOf s))
+arrived-by s true = join-place s
+arrived-by s false = turned-alike s .place
 
-pub arrived-place : (s : EpState) (len : ℕ) → SamePlace s (arrivedOf s len)
+pub arrived-place : (s : EpState) → SamePlace s (arrivedOf s)
 unfolding arrivedOf
-arrived-place s len = arrived-by s len (hasRoomOut s)
+arrived-place s = arrived-by s (hasRoomOut s)
 
 -- ---- a packet that is open waits
 
@@ -73,7 +53,7 @@ pub closed-shows : (s : EpState) → Shows (closedOf s)
 unfolding closedOf
 closed-shows s e = absurd (let z : _≡_ {A = ℕ} 0 1 = cc in omega arith)
 
--- ---- numbers that arming needs
+-- ---- the length of an arrival
 
 pub capped-is : (s : EpState) (len : ℕ) → cappedAt s len ≡ min len (s .«max_len»)
 unfolding cappedAt
@@ -82,18 +62,6 @@ capped-is s len = go (ltb len (s .«max_len»)) refl
     go : (t : Bool) → ltb len (s .«max_len») ≡ t → cond t len (s .«max_len») ≡ min len (s .«max_len»)
     go true e = omega (arith, ltb-true len (s .«max_len») e)
     go false e = omega (arith, ltb-false len (s .«max_len») e)
-
-least-by : (s : EpState) (len : ℕ) (t u : Bool) → s .«min_len» ≤ s .«max_len» → len ≤ s .«max_len»
-    → cond t s (cond u (withMinLen s len) s) .«min_len» ≤ s .«max_len»
-least-by s len true u p q = p
-least-by s len false true p q = q
-least-by s len false false p q = p
-
--- the shortest stays within the maximum
-pub shortest-least : (s : EpState) (len : ℕ) → s .«min_len» ≤ s .«max_len» → len ≤ s .«max_len»
-    → shortestOf s len .«min_len» ≤ s .«max_len»
-unfolding shortestOf
-shortest-least s len p q = least-by s len (eqb len 0) (ltb len (s .«min_len»)) p q
 
 -- ---- counting those turned away, modulo 2^32
 pub turned-counts : (s : EpState) (lost : ℕ) → s .overruns ≡ lost % 2 ^ 32 → turnedAwayOf s .overruns ≡ (lost + 1) % 2 ^ 32
@@ -106,8 +74,7 @@ module _ {n : ℕ} {s : EpState} {ls : List ℕ} (g : Placed n s) (a : OutRing s
   few : countOf s < s .slots
   few = omega (arith, a .few, slots-some g)
 
-  pub armed-away : Away s (armSlot s)
-  unfolding armSlot
+  pub armed-away : Away s (slotOf s (s .head))
   armed-away = head-away g a few
 
   -- so the chip's stores and marks in it leave them
@@ -142,51 +109,35 @@ module _ {n : ℕ} {s : EpState} {ls : List ℕ} (g : Placed n s) (a : OutRing s
     unfolding joinedOf
     admit-ring len small = join-ring g a len few small room-count
 
-  -- an arrival joins, last, or is turned away; lowering the shortest length changes nothing of this
-  module _ (len : ℕ) where
-    near : Alike s (shortestOf s len)
-    near = shortest-alike s len
+  -- an arrival joins, last, or is turned away
+  arrive-by : (len : ℕ) (t : Bool) → hasRoomOut s ≡ t → (b : List ℕ)
+      → waiting b (cond t (joinedOf s) (turnedAwayOf s)) (cond t (set ls (slotOf s (s .head)) len) ls)
+      ≡ cond t (waiting b s ls ++ (window b (slotAddr s (s .head)) len ∷ [])) (waiting b s ls)
+  arrive-by len true e b = admit-waits e len b
+  arrive-by len false e b = alike-waits (turned-alike s) b ls (a .tail8)
 
-    arrive-by : (t : Bool) → hasRoomOut s ≡ t → (b : List ℕ)
-        → waiting b (cond t (joinedOf (shortestOf s len)) (turnedAwayOf (shortestOf s len))) (cond t (set ls (slotOf s (s .head)) len) ls)
-        ≡ cond t (waiting b s ls ++ (window b (slotAddr s (s .head)) len ∷ [])) (waiting b s ls)
-    unfolding joinedOf
-    arrive-by true e b = alike-waits (alike-join near) b (set ls (slotOf s (s .head)) len) (a .tail8) ∙ admit-waits e len b
-    arrive-by false e b = alike-waits (turned-alike (shortestOf s len)) b ls (rw (near .tail) (a .tail8)) ∙ alike-waits near b ls (a .tail8)
+  pub arrive-waits : (len : ℕ) (b : List ℕ)
+      → waiting b (arrivedOf s) (arrivedLens s ls len) ≡ join (s .slots - 1) (waiting b s ls) (window b (slotAddr s (s .head)) len)
+  unfolding arrivedOf arrivedLens
+  arrive-waits len b = rw (← room-out b) (arrive-by len (hasRoomOut s) refl b)
 
-    pub arrive-waits : (b : List ℕ)
-        → waiting b (arrivedOf s len) (arrivedLens s ls len) ≡ join (s .slots - 1) (waiting b s ls) (window b (slotAddr s (s .head)) len)
-    unfolding arrivedOf arrivedLens
-    arrive-waits b = rw (← room-out b) (arrive-by (hasRoomOut s) refl b)
+  ring-by : (len : ℕ) (t : Bool) → hasRoomOut s ≡ t → len ≤ s .stride
+      → OutRing (cond t (joinedOf s) (turnedAwayOf s)) (cond t (set ls (slotOf s (s .head)) len) ls)
+  ring-by len true e h = admit-ring e len h
+  ring-by len false e h = alike-out (turned-alike s) a
 
-    ring-by : (t : Bool) → hasRoomOut s ≡ t → len ≤ s .stride
-        → OutRing (cond t (joinedOf (shortestOf s len)) (turnedAwayOf (shortestOf s len))) (cond t (set ls (slotOf s (s .head)) len) ls)
-    ring-by true e h = alike-out (alike-join near) (admit-ring e len h)
-    ring-by false e h = alike-out (turned-alike (shortestOf s len)) (alike-out near a)
+  pub arrive-ring : (len : ℕ) → len ≤ s .stride → OutRing (arrivedOf s) (arrivedLens s ls len)
+  unfolding arrivedOf arrivedLens
+  arrive-ring len h = ring-by len (hasRoomOut s) refl h
 
-    pub arrive-ring : len ≤ s .stride → OutRing (arrivedOf s len) (arrivedLens s ls len)
-    unfolding arrivedOf arrivedLens
-    arrive-ring h = ring-by (hasRoomOut s) refl h
+  shows-by : (t : Bool) → hasRoomOut s ≡ t → Shows s → Shows (cond t (joinedOf s) (turnedAwayOf s))
+  unfolding turnedAwayOf
+  shows-by true e h f = omega (arith, join-count g a few)
+  shows-by false e h f = omega (arith, h f, alike-count (turned-alike s))
 
-    shows-by : (t : Bool) → hasRoomOut s ≡ t → Shows s → Shows (cond t (joinedOf (shortestOf s len)) (turnedAwayOf (shortestOf s len)))
-    unfolding turnedAwayOf
-    shows-by true e h f = omega (arith, alike-count (alike-join near), join-count g a few)
-    shows-by false e h f = omega (arith, h (rw (shortest-open s len) at f), alike-count (turned-alike (shortestOf s len)), alike-count near)
-
-    pub arrive-shows : Shows s → Shows (arrivedOf s len)
-    unfolding arrivedOf
-    arrive-shows h = shows-by (hasRoomOut s) refl h
-
-  -- after an admission the slot to arm is the next one
-  pub arm-next : armSlot (joinedOf s) ≡ slotOf s (s .head + 1)
-  unfolding armSlot joinedOf slotOf
-  arm-next = slot-wraps g (s .head + 1)
-
-  -- and the stale length is the one recorded there before
-  pub stale-is : 2 ≤ s .slots → (len : ℕ)
-      → getD (set ls (slotOf s (s .head)) len) (armSlot (joinedOf s)) 0 ≡ getD ls (armSlot (joinedOf s)) 0
-  stale-is two len = getD-set-other ls (slotOf s (s .head)) (armSlot (joinedOf s)) len 0
-      (λ e. slot-other g (s .head) 1 (omega arith) (omega arith) (sym arm-next ∙ e))
+  pub arrive-shows : Shows s → Shows (arrivedOf s)
+  unfolding arrivedOf
+  arrive-shows h = shows-by (hasRoomOut s) refl h
 
   -- ---- a close, a read's poll
 

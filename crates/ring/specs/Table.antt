@@ -26,7 +26,6 @@ sample h t n = record {
   overruns = n;
   «last_frame» = 0x1800;
   «max_len» = 64;
-  «min_len» = 64;
   «armed_slot» = 0;
   tog = 0;
   «open» = 0;

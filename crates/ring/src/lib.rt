@@ -4,7 +4,7 @@ use state::EpState;
 ghost use mathlib.Core.Path.{_≡_};
 ghost use Prim.Native.Nat.{_+_, _-_, _*_, _%_, _^_, _≤_, _<_};
 ghost use Rattle.ring.specs.Slot.{slotOf, slotAddr, countOf, hasWaiting, joinedOf};
-ghost use Rattle.ring.specs.Out.{hasRoomOut, cappedAt, shortestOf, turnedAwayOf, arrivedOf, armSlot, armedAt, openedOf, closedOf};
+ghost use Rattle.ring.specs.Out.{hasRoomOut, cappedAt, turnedAwayOf, arrivedOf, armedAt, openedOf, closedOf};
 ghost use Rattle.ring.specs.In.{hasRoomIn, completedOf, loadedOf, unloadedOf, nextLoad};
 
 // The slot of counter i.
@@ -58,25 +58,11 @@ pub fn has_room_out(s: EpState) -> bool
     count(s) < n - 1
 }
 
-// A length, received or stale, capped at the maximum.
+// A received length, capped at the maximum.
 pub fn capped(s: EpState, len: u16) -> u16
     ensures { λ r. ⌜ r ≡ cappedAt s len ⌝ }
 {
     if len < s.max_len { len } else { s.max_len }
-}
-
-// The shortest packet so far, but for empty ones; arming marks from there on (mod.rs 491).
-pub fn shortest(mut s: EpState, len: u16) -> EpState
-    ensures { λ r. ⌜ r ≡ shortestOf s len ⌝ }
-{
-    if len == 0 {
-        return s;
-    }
-    if len < s.min_len {
-        s.min_len = len;
-        return s;
-    }
-    s
 }
 
 // The arrival is dropped and counted (mod.rs 505).
@@ -87,22 +73,14 @@ pub fn turned_away(mut s: EpState) -> EpState
     s
 }
 
-// An arrival of `len` bytes in the head's slot is admitted or turned away (mod.rs 491-507).
-pub fn arrived(s: EpState, len: u16) -> EpState
-    ensures { λ r. ⌜ r ≡ arrivedOf s len ⌝ }
+// An arrival in the head's slot is admitted or turned away (mod.rs 498-507).
+pub fn arrived(s: EpState) -> EpState
+    ensures { λ r. ⌜ r ≡ arrivedOf s ⌝ }
 {
-    let t = shortest(s, len);
     if has_room_out(s) {
-        return joined(t);
+        return joined(s);
     }
-    turned_away(t)
-}
-
-// The slot to arm, whose recorded length is the stale one: the head's, after an admission the new head's (mod.rs 502).
-pub fn arm_slot(s: EpState) -> u8
-    ensures { λ r. ⌜ r ≡ armSlot s ⌝ }
-{
-    slot_index(s, s.head)
+    turned_away(s)
 }
 
 // The slot at `addr` is armed (mod.rs 554).

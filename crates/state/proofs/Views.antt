@@ -38,50 +38,50 @@ module _ (xs : List ℕ) (o : ℕ) (bs : List ℕ) where
   many : {A : Type 0} (f : List ℕ → A) (p n z : ℕ) → Off p (p + n * z) → table ys p n z f ≡ table xs p n z f
   many f p n z h = table-same f p n z xs ys (off p (p + n * z) h)
 
-  eps-off : Off 0 1024 → table ys 0 32 32 epIn ≡ table xs 0 32 32 epIn
-  eps-off h = many epIn 0 32 32 h
+  eps-off : Off 0 960 → table ys 0 32 30 epIn ≡ table xs 0 32 30 epIn
+  eps-off h = many epIn 0 32 30 h
 
-  lens-off : Off 1024 2048 → table ys 1024 512 2 number ≡ table xs 1024 512 2 number
-  lens-off h = many number 1024 512 2 h
+  lens-off : Off 960 1984 → table ys 960 512 2 number ≡ table xs 960 512 2 number
+  lens-off h = many number 960 512 2 h
 
-  stamps-off : Off 2048 2560 → table ys 2048 256 2 number ≡ table xs 2048 256 2 number
-  stamps-off h = many number 2048 256 2 h
+  stamps-off : Off 1984 2496 → table ys 1984 256 2 number ≡ table xs 1984 256 2 number
+  stamps-off h = many number 1984 256 2 h
 
-  globals-off : Off 2560 2597 → globalsIn (gets ys 2560 0 37) ≡ globalsIn (gets xs 2560 0 37)
-  globals-off h = one globalsIn 2560 37 h
+  globals-off : Off 2496 2533 → globalsIn (gets ys 2496 0 37) ≡ globalsIn (gets xs 2496 0 37)
+  globals-off h = one globalsIn 2496 37 h
 
-  allocator-off : Off 2597 2615 → allocatorIn (gets ys 2597 0 18) ≡ allocatorIn (gets xs 2597 0 18)
-  allocator-off h = one allocatorIn 2597 18 h
+  allocator-off : Off 2533 2551 → allocatorIn (gets ys 2533 0 18) ≡ allocatorIn (gets xs 2533 0 18)
+  allocator-off h = one allocatorIn 2533 18 h
 
-  paced-off : Off 2615 2647 → table ys 2615 16 2 number ≡ table xs 2615 16 2 number
-  paced-off h = many number 2615 16 2 h
+  paced-off : Off 2551 2583 → table ys 2551 16 2 number ≡ table xs 2551 16 2 number
+  paced-off h = many number 2551 16 2 h
 
-  requests-off : Off 2647 2807 → table ys 2647 32 5 requestIn ≡ table xs 2647 32 5 requestIn
-  requests-off h = many requestIn 2647 32 5 h
+  requests-off : Off 2583 2743 → table ys 2583 32 5 requestIn ≡ table xs 2583 32 5 requestIn
+  requests-off h = many requestIn 2583 32 5 h
 
-  control-off : Off 2807 2816 → controlIn (gets ys 2807 0 9) ≡ controlIn (gets xs 2807 0 9)
-  control-off h = one controlIn 2807 9 h
+  control-off : Off 2743 2752 → controlIn (gets ys 2743 0 9) ≡ controlIn (gets xs 2743 0 9)
+  control-off h = one controlIn 2743 9 h
 
-  wakes-off : Off 2816 2821 → wakesIn (gets ys 2816 0 5) ≡ wakesIn (gets xs 2816 0 5)
-  wakes-off h = one wakesIn 2816 5 h
+  wakes-off : Off 2752 2757 → wakesIn (gets ys 2752 0 5) ≡ wakesIn (gets xs 2752 0 5)
+  wakes-off h = one wakesIn 2752 5 h
 
   -- what is stored before the suspended operation leaves it
-  pub saved-off : o + length bs ≤ 2821 → saved ys ≡ saved xs
+  pub saved-off : o + length bs ≤ 2757 → saved ys ≡ saved xs
   unfolding saved
-  saved-off h = one savedIn 2821 22 (inr h)
+  saved-off h = one savedIn 2757 22 (inr h)
 
 -- a record on its own, read back
 back : {A : Type 0} (f : List ℕ → A) (xs : List ℕ) (o : ℕ) (bs : List ℕ) (r : A) → o + length bs ≤ length xs → f bs ≡ r → f (gets (puts xs o 0 bs) o 0 (length bs)) ≡ r
 back f xs o bs r h p = ap f (gets-puts xs o bs h) ∙ p
 
-module _ (xs : List ℕ) (sized : length xs ≡ 2843) where
-  pub view-eps : (k : ℕ) (r : EpState) → k < 32 → view (puts xs (0 + k * 32) 0 (bytes epWidths (epAs r))) ≡ withEps (view xs) (set (view xs .eps) k r)
+module _ (xs : List ℕ) (sized : length xs ≡ 2779) where
+  pub view-eps : (k : ℕ) (r : EpState) → k < 32 → view (puts xs (0 + k * 30) 0 (bytes epWidths (epAs r))) ≡ withEps (view xs) (set (view xs .eps) k r)
   unfolding view
   view-eps k r l =
-      let o = 0 + k * 32 in
+      let o = 0 + k * 30 in
       let bs = bytes epWidths (epAs r) in
       λ i. record {
-        eps = table-set epIn 0 32 32 xs k bs r l (omega arith) refl (ap epOf (numbers-bytes epWidths (epAs r) tt)) i;
+        eps = table-set epIn 0 32 30 xs k bs r l (omega arith) refl (ap epOf (numbers-bytes epWidths (epAs r) tt)) i;
         lens = lens-off xs o bs (inr (omega arith)) i;
         stamps = stamps-off xs o bs (inr (omega arith)) i;
         globals = globals-off xs o bs (inr (omega arith)) i;
@@ -92,14 +92,14 @@ module _ (xs : List ℕ) (sized : length xs ≡ 2843) where
         wakes = wakes-off xs o bs (inr (omega arith)) i;
       }
 
-  pub view-lens : (k v : ℕ) → k < 512 → view (puts xs (1024 + k * 2) 0 (digits 2 v)) ≡ withLens (view xs) (set (view xs .lens) k v)
+  pub view-lens : (k v : ℕ) → k < 512 → view (puts xs (960 + k * 2) 0 (digits 2 v)) ≡ withLens (view xs) (set (view xs .lens) k v)
   unfolding view
   view-lens k v l =
-      let o = 1024 + k * 2 in
+      let o = 960 + k * 2 in
       let bs = digits 2 v in
       λ i. record {
         eps = eps-off xs o bs (inl (omega arith)) i;
-        lens = table-set number 1024 512 2 xs k bs v l (omega arith) refl (number-digits 1 v) i;
+        lens = table-set number 960 512 2 xs k bs v l (omega arith) refl (number-digits 1 v) i;
         stamps = stamps-off xs o bs (inr (omega arith)) i;
         globals = globals-off xs o bs (inr (omega arith)) i;
         allocator = allocator-off xs o bs (inr (omega arith)) i;
@@ -109,15 +109,15 @@ module _ (xs : List ℕ) (sized : length xs ≡ 2843) where
         wakes = wakes-off xs o bs (inr (omega arith)) i;
       }
 
-  pub view-stamps : (k v : ℕ) → k < 256 → view (puts xs (2048 + k * 2) 0 (digits 2 v)) ≡ withStamps (view xs) (set (view xs .stamps) k v)
+  pub view-stamps : (k v : ℕ) → k < 256 → view (puts xs (1984 + k * 2) 0 (digits 2 v)) ≡ withStamps (view xs) (set (view xs .stamps) k v)
   unfolding view
   view-stamps k v l =
-      let o = 2048 + k * 2 in
+      let o = 1984 + k * 2 in
       let bs = digits 2 v in
       λ i. record {
         eps = eps-off xs o bs (inl (omega arith)) i;
         lens = lens-off xs o bs (inl (omega arith)) i;
-        stamps = table-set number 2048 256 2 xs k bs v l (omega arith) refl (number-digits 1 v) i;
+        stamps = table-set number 1984 256 2 xs k bs v l (omega arith) refl (number-digits 1 v) i;
         globals = globals-off xs o bs (inr (omega arith)) i;
         allocator = allocator-off xs o bs (inr (omega arith)) i;
         paced = paced-off xs o bs (inr (omega arith)) i;
@@ -126,10 +126,10 @@ module _ (xs : List ℕ) (sized : length xs ≡ 2843) where
         wakes = wakes-off xs o bs (inr (omega arith)) i;
       }
 
-  pub view-globals : (r : Globals) → view (puts xs 2560 0 (bytes globalsWidths (globalsAs r))) ≡ withGlobals (view xs) r
+  pub view-globals : (r : Globals) → view (puts xs 2496 0 (bytes globalsWidths (globalsAs r))) ≡ withGlobals (view xs) r
   unfolding view
   view-globals r =
-      let o : ℕ = 2560 in
+      let o : ℕ = 2496 in
       let bs = bytes globalsWidths (globalsAs r) in
       λ i. record {
         eps = eps-off xs o bs (inl (omega arith)) i;
@@ -143,10 +143,10 @@ module _ (xs : List ℕ) (sized : length xs ≡ 2843) where
         wakes = wakes-off xs o bs (inr (omega arith)) i;
       }
 
-  pub view-allocator : (r : Allocator) → view (puts xs 2597 0 (bytes allocatorWidths (allocatorAs r))) ≡ withAllocator (view xs) r
+  pub view-allocator : (r : Allocator) → view (puts xs 2533 0 (bytes allocatorWidths (allocatorAs r))) ≡ withAllocator (view xs) r
   unfolding view
   view-allocator r =
-      let o : ℕ = 2597 in
+      let o : ℕ = 2533 in
       let bs = bytes allocatorWidths (allocatorAs r) in
       λ i. record {
         eps = eps-off xs o bs (inl (omega arith)) i;
@@ -160,10 +160,10 @@ module _ (xs : List ℕ) (sized : length xs ≡ 2843) where
         wakes = wakes-off xs o bs (inr (omega arith)) i;
       }
 
-  pub view-paceds : (k v : ℕ) → k < 16 → view (puts xs (2615 + k * 2) 0 (digits 2 v)) ≡ withPaced (view xs) (set (view xs .paced) k v)
+  pub view-paceds : (k v : ℕ) → k < 16 → view (puts xs (2551 + k * 2) 0 (digits 2 v)) ≡ withPaced (view xs) (set (view xs .paced) k v)
   unfolding view
   view-paceds k v l =
-      let o = 2615 + k * 2 in
+      let o = 2551 + k * 2 in
       let bs = digits 2 v in
       λ i. record {
         eps = eps-off xs o bs (inl (omega arith)) i;
@@ -171,16 +171,16 @@ module _ (xs : List ℕ) (sized : length xs ≡ 2843) where
         stamps = stamps-off xs o bs (inl (omega arith)) i;
         globals = globals-off xs o bs (inl (omega arith)) i;
         allocator = allocator-off xs o bs (inl (omega arith)) i;
-        paced = table-set number 2615 16 2 xs k bs v l (omega arith) refl (number-digits 1 v) i;
+        paced = table-set number 2551 16 2 xs k bs v l (omega arith) refl (number-digits 1 v) i;
         requests = requests-off xs o bs (inr (omega arith)) i;
         control = control-off xs o bs (inr (omega arith)) i;
         wakes = wakes-off xs o bs (inr (omega arith)) i;
       }
 
-  pub view-requests : (k : ℕ) (r : Request) → k < 32 → view (puts xs (2647 + k * 5) 0 (bytes requestWidths (requestAs r))) ≡ withRequests (view xs) (set (view xs .requests) k r)
+  pub view-requests : (k : ℕ) (r : Request) → k < 32 → view (puts xs (2583 + k * 5) 0 (bytes requestWidths (requestAs r))) ≡ withRequests (view xs) (set (view xs .requests) k r)
   unfolding view
   view-requests k r l =
-      let o = 2647 + k * 5 in
+      let o = 2583 + k * 5 in
       let bs = bytes requestWidths (requestAs r) in
       λ i. record {
         eps = eps-off xs o bs (inl (omega arith)) i;
@@ -189,15 +189,15 @@ module _ (xs : List ℕ) (sized : length xs ≡ 2843) where
         globals = globals-off xs o bs (inl (omega arith)) i;
         allocator = allocator-off xs o bs (inl (omega arith)) i;
         paced = paced-off xs o bs (inl (omega arith)) i;
-        requests = table-set requestIn 2647 32 5 xs k bs r l (omega arith) refl (ap requestOf (numbers-bytes requestWidths (requestAs r) tt)) i;
+        requests = table-set requestIn 2583 32 5 xs k bs r l (omega arith) refl (ap requestOf (numbers-bytes requestWidths (requestAs r) tt)) i;
         control = control-off xs o bs (inr (omega arith)) i;
         wakes = wakes-off xs o bs (inr (omega arith)) i;
       }
 
-  pub view-control : (r : Control) → view (puts xs 2807 0 (bytes controlWidths (controlAs r))) ≡ withControl (view xs) r
+  pub view-control : (r : Control) → view (puts xs 2743 0 (bytes controlWidths (controlAs r))) ≡ withControl (view xs) r
   unfolding view
   view-control r =
-      let o : ℕ = 2807 in
+      let o : ℕ = 2743 in
       let bs = bytes controlWidths (controlAs r) in
       λ i. record {
         eps = eps-off xs o bs (inl (omega arith)) i;
@@ -211,10 +211,10 @@ module _ (xs : List ℕ) (sized : length xs ≡ 2843) where
         wakes = wakes-off xs o bs (inr (omega arith)) i;
       }
 
-  pub view-wakes : (r : Wakes) → view (puts xs 2816 0 (bytes wakesWidths (wakesAs r))) ≡ withWakes (view xs) r
+  pub view-wakes : (r : Wakes) → view (puts xs 2752 0 (bytes wakesWidths (wakesAs r))) ≡ withWakes (view xs) r
   unfolding view
   view-wakes r =
-      let o : ℕ = 2816 in
+      let o : ℕ = 2752 in
       let bs = bytes wakesWidths (wakesAs r) in
       λ i. record {
         eps = eps-off xs o bs (inl (omega arith)) i;
@@ -228,10 +228,10 @@ module _ (xs : List ℕ) (sized : length xs ≡ 2843) where
         wakes = back wakesIn xs o bs r (omega arith) (ap wakesOf (numbers-bytes wakesWidths (wakesAs r) tt)) i;
       }
 
-  pub view-saved : (r : Saved) → view (puts xs 2821 0 (bytes savedWidths (savedAs r))) ≡ view xs
+  pub view-saved : (r : Saved) → view (puts xs 2757 0 (bytes savedWidths (savedAs r))) ≡ view xs
   unfolding view
   view-saved r =
-      let o : ℕ = 2821 in
+      let o : ℕ = 2757 in
       let bs = bytes savedWidths (savedAs r) in
       λ i. record {
         eps = eps-off xs o bs (inl (omega arith)) i;
@@ -245,49 +245,49 @@ module _ (xs : List ℕ) (sized : length xs ≡ 2843) where
         wakes = wakes-off xs o bs (inl (omega arith)) i;
       }
 
-  pub saved-saved : (r : Saved) → saved (puts xs 2821 0 (bytes savedWidths (savedAs r))) ≡ r
+  pub saved-saved : (r : Saved) → saved (puts xs 2757 0 (bytes savedWidths (savedAs r))) ≡ r
   unfolding saved
-  saved-saved r = back savedIn xs 2821 (bytes savedWidths (savedAs r)) r (omega arith) (ap savedOf (numbers-bytes savedWidths (savedAs r) tt))
+  saved-saved r = back savedIn xs 2757 (bytes savedWidths (savedAs r)) r (omega arith) (ap savedOf (numbers-bytes savedWidths (savedAs r) tt))
 
   -- a record of a table, at the place of an endpoint
-  pub view-ep : (dir : Dir) (e k : ℕ) (r : EpState) → k ≡ key dir e → k < 32 → view (puts xs (0 + k * 32) 0 (bytes epWidths (epAs r))) ≡ withOn (view xs) dir e r
+  pub view-ep : (dir : Dir) (e k : ℕ) (r : EpState) → k ≡ key dir e → k < 32 → view (puts xs (0 + k * 30) 0 (bytes epWidths (epAs r))) ≡ withOn (view xs) dir e r
   unfolding withOn
   view-ep dir e k r p l = view-eps k r l ∙ ap (λ (j : ℕ). withEps (view xs) (set (view xs .eps) j r)) p
 
-  pub view-len : (dir : Dir) (e i k v : ℕ) → k ≡ lenKey dir e i → k < 512 → view (puts xs (1024 + k * 2) 0 (digits 2 v)) ≡ withLenOn (view xs) dir e i v
+  pub view-len : (dir : Dir) (e i k v : ℕ) → k ≡ lenKey dir e i → k < 512 → view (puts xs (960 + k * 2) 0 (digits 2 v)) ≡ withLenOn (view xs) dir e i v
   unfolding withLenOn
   view-len dir e i k v p l = view-lens k v l ∙ ap (λ (j : ℕ). withLens (view xs) (set (view xs .lens) j v)) p
 
-  pub view-stamp : (e i k v : ℕ) → k ≡ stampKey e i → k < 256 → view (puts xs (2048 + k * 2) 0 (digits 2 v)) ≡ withStampOn (view xs) e i v
+  pub view-stamp : (e i k v : ℕ) → k ≡ stampKey e i → k < 256 → view (puts xs (1984 + k * 2) 0 (digits 2 v)) ≡ withStampOn (view xs) e i v
   unfolding withStampOn
   view-stamp e i k v p l = view-stamps k v l ∙ ap (λ (j : ℕ). withStamps (view xs) (set (view xs .stamps) j v)) p
 
-  pub view-paced : (e v : ℕ) → view (puts xs (2615 + e % 16 * 2) 0 (digits 2 v)) ≡ withPacedOn (view xs) e v
+  pub view-paced : (e v : ℕ) → view (puts xs (2551 + e % 16 * 2) 0 (digits 2 v)) ≡ withPacedOn (view xs) e v
   unfolding withPacedOn
   view-paced e v = view-paceds (e % 16) v (omega arith)
 
-  pub view-request : (dir : Dir) (e k : ℕ) (r : Request) → k ≡ key dir e → k < 32 → view (puts xs (2647 + k * 5) 0 (bytes requestWidths (requestAs r))) ≡ withRequestOn (view xs) dir e r
+  pub view-request : (dir : Dir) (e k : ℕ) (r : Request) → k ≡ key dir e → k < 32 → view (puts xs (2583 + k * 5) 0 (bytes requestWidths (requestAs r))) ≡ withRequestOn (view xs) dir e r
   unfolding withRequestOn
   view-request dir e k r p l = view-requests k r l ∙ ap (λ (j : ℕ). withRequests (view xs) (set (view xs .requests) j r)) p
 
 -- what is loaded
 module _ (xs : List ℕ) where
-  pub ep-at : (dir : Dir) (e k : ℕ) (r : EpState) → k ≡ key dir e → k < 32 → Each (epAs r) (numbers epWidths (gets xs (0 + k * 32) 0 32)) → r ≡ epOn (view xs) dir e
+  pub ep-at : (dir : Dir) (e k : ℕ) (r : EpState) → k ≡ key dir e → k < 32 → Each (epAs r) (numbers epWidths (gets xs (0 + k * 30) 0 30)) → r ≡ epOn (view xs) dir e
   unfolding view epOn
-  ep-at dir e k r p l h = ap epOf (each-eq (epAs r) (numbers epWidths (gets xs (0 + k * 32) 0 32)) h) ∙ table-at epIn 0 32 32 xs k noEp l ∙ ap (λ (j : ℕ). getD (view xs .eps) j noEp) p
+  ep-at dir e k r p l h = ap epOf (each-eq (epAs r) (numbers epWidths (gets xs (0 + k * 30) 0 30)) h) ∙ table-at epIn 0 32 30 xs k noEp l ∙ ap (λ (j : ℕ). getD (view xs .eps) j noEp) p
 
-  pub len-at : (dir : Dir) (e i k : ℕ) → k ≡ lenKey dir e i → k < 512 → number (gets xs (1024 + k * 2) 0 2) ≡ lenOn (view xs) dir e i
+  pub len-at : (dir : Dir) (e i k : ℕ) → k ≡ lenKey dir e i → k < 512 → number (gets xs (960 + k * 2) 0 2) ≡ lenOn (view xs) dir e i
   unfolding view lenOn
-  len-at dir e i k p l = table-at number 1024 512 2 xs k 0 l ∙ ap (λ (j : ℕ). getD (view xs .lens) j 0) p
+  len-at dir e i k p l = table-at number 960 512 2 xs k 0 l ∙ ap (λ (j : ℕ). getD (view xs .lens) j 0) p
 
-  pub stamp-at : (e i k : ℕ) → k ≡ stampKey e i → k < 256 → number (gets xs (2048 + k * 2) 0 2) ≡ stampOn (view xs) e i
+  pub stamp-at : (e i k : ℕ) → k ≡ stampKey e i → k < 256 → number (gets xs (1984 + k * 2) 0 2) ≡ stampOn (view xs) e i
   unfolding view stampOn
-  stamp-at e i k p l = table-at number 2048 256 2 xs k 0 l ∙ ap (λ (j : ℕ). getD (view xs .stamps) j 0) p
+  stamp-at e i k p l = table-at number 1984 256 2 xs k 0 l ∙ ap (λ (j : ℕ). getD (view xs .stamps) j 0) p
 
-  pub paced-at : (e : ℕ) → number (gets xs (2615 + e % 16 * 2) 0 2) ≡ pacedOn (view xs) e
+  pub paced-at : (e : ℕ) → number (gets xs (2551 + e % 16 * 2) 0 2) ≡ pacedOn (view xs) e
   unfolding view pacedOn
-  paced-at e = table-at number 2615 16 2 xs (e % 16) 0 (omega arith)
+  paced-at e = table-at number 2551 16 2 xs (e % 16) 0 (omega arith)
 
-  pub request-at : (dir : Dir) (e k : ℕ) (r : Request) → k ≡ key dir e → k < 32 → Each (requestAs r) (numbers requestWidths (gets xs (2647 + k * 5) 0 5)) → r ≡ requestOn (view xs) dir e
+  pub request-at : (dir : Dir) (e k : ℕ) (r : Request) → k ≡ key dir e → k < 32 → Each (requestAs r) (numbers requestWidths (gets xs (2583 + k * 5) 0 5)) → r ≡ requestOn (view xs) dir e
   unfolding view requestOn
-  request-at dir e k r p l h = ap requestOf (each-eq (requestAs r) (numbers requestWidths (gets xs (2647 + k * 5) 0 5)) h) ∙ table-at requestIn 2647 32 5 xs k noRequest l ∙ ap (λ (j : ℕ). getD (view xs .requests) j noRequest) p
+  request-at dir e k r p l h = ap requestOf (each-eq (requestAs r) (numbers requestWidths (gets xs (2583 + k * 5) 0 5)) h) ∙ table-at requestIn 2583 32 5 xs k noRequest l ∙ ap (λ (j : ℕ). getD (view xs .requests) j noRequest) p

@@ -13,11 +13,11 @@ use Rattle.state.specs.declared.Saved.{Saved}
 use Rattle.fields.specs.Bytes.{numbers, bytes}
 
 abbrev pub epWidths : List ℕ
-epWidths = 1 ∷ 1 ∷ 1 ∷ 1 ∷ 1 ∷ 1 ∷ 1 ∷ 1 ∷ 1 ∷ 1 ∷ 2 ∷ 2 ∷ 2 ∷ 2 ∷ 2 ∷ 4 ∷ 4 ∷ 4 ∷ []
+epWidths = 1 ∷ 1 ∷ 1 ∷ 1 ∷ 1 ∷ 1 ∷ 1 ∷ 1 ∷ 1 ∷ 1 ∷ 2 ∷ 2 ∷ 2 ∷ 2 ∷ 4 ∷ 4 ∷ 4 ∷ []
 
 abbrev pub epAs : EpState → List ℕ
 epAs r = r .ready ∷ r .armed ∷ r .iso ∷ r .kind ∷ r .slots ∷ r .head ∷ r .tail ∷ r .loaded ∷ r .tog ∷ r .«open» ∷ r .len ∷ r .stride ∷ r
-    .«last_frame» ∷ r .«max_len» ∷ r .«min_len» ∷ r .base ∷ r .overruns ∷ r .«armed_slot» ∷ []
+    .«last_frame» ∷ r .«max_len» ∷ r .base ∷ r .overruns ∷ r .«armed_slot» ∷ []
 
 abbrev pub epOf : List ℕ → EpState
 epOf ns = record {
@@ -37,10 +37,9 @@ epOf ns = record {
   «last_frame» = getD ns 12
       0;
   «max_len» = getD ns 13 0;
-  «min_len» = getD ns 14 0;
-  base = getD ns 15 0;
-  overruns = getD ns 16 0;
-  «armed_slot» = getD ns 17 0;
+  base = getD ns 14 0;
+  overruns = getD ns 15 0;
+  «armed_slot» = getD ns 16 0;
 }
 
 abbrev pub allocatorWidths : List ℕ

@@ -54,7 +54,6 @@ noEp = record {
   overruns = 0;
   «last_frame» = 0;
   «max_len» = 0;
-  «min_len» = 0;
   «armed_slot» = 0;
   tog = 0;
   «open» = 0;

@@ -1,4 +1,4 @@
--- The state that start-up makes, the lengths of an OUT ring made one, its stamps made 0
+-- The state that start-up makes, the stamps of an OUT ring made 0
 use mathlib.Core.List.{List}
 use Prim.Native.Nat.{ℕ, zero, suc, _+_, _*_, _%_}
 use lib.ListN.{set, replicate}
@@ -8,16 +8,12 @@ use Rattle.state.specs.declared.Control.{Control}
 use Rattle.state.specs.declared.Saved.{Saved}
 use Rattle.state.specs.Ep.{newEp}
 use Rattle.state.specs.Wakes.{none-woken}
-use Rattle.state.specs.Driver.{Driver, noRequest, withLens, withStamps}
+use Rattle.state.specs.Driver.{Driver, noRequest, withStamps}
 
 -- v at each of the n places from a
 unfoldable pub filled : {A : Type 0} → List A → ℕ → ℕ → A → List A
 filled l a zero v = l
 filled l a (suc n) v = set (filled l a n v) (a + n) v
-
--- all 16 lengths of OUT e
-unfoldable pub fillLens : Driver → ℕ → ℕ → Driver
-fillLens d e v = withLens d (filled (d .lens) (e % 16 * 16) 16 v)
 
 -- all 16 stamps of OUT e
 unfoldable pub clearStamps : Driver → ℕ → Driver

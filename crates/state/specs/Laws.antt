@@ -26,11 +26,11 @@ pub record Sized (d : Driver) : Type 0 where
 pub view-sized : (xs : List ℕ) → Sized (view xs)
 unfolding view
 view-sized xs = record {
-  eps = length-tab (λ k. epIn (gets xs (0 + k * 32) 0 32)) 32;
-  lens = length-tab (λ k. number (gets xs (1024 + k * 2) 0 2)) 512;
-  stamps = length-tab (λ k. number (gets xs (2048 + k * 2) 0 2)) 256;
-  paced = length-tab (λ k. number (gets xs (2615 + k * 2) 0 2)) 16;
-  requests = length-tab (λ k. requestIn (gets xs (2647 + k * 5) 0 5)) 32;
+  eps = length-tab (λ k. epIn (gets xs (0 + k * 30) 0 30)) 32;
+  lens = length-tab (λ k. number (gets xs (960 + k * 2) 0 2)) 512;
+  stamps = length-tab (λ k. number (gets xs (1984 + k * 2) 0 2)) 256;
+  paced = length-tab (λ k. number (gets xs (2551 + k * 2) 0 2)) 16;
+  requests = length-tab (λ k. requestIn (gets xs (2583 + k * 5) 0 5)) 32;
 }
 
 pub key-lt : (dir : Dir) (e : ℕ) → key dir e < 32
@@ -147,4 +147,4 @@ module _ (d : Driver) (e : ℕ) where
 -- all bytes 0: before the first start-up, and nothing is under way
 pub before-start : (xs : List ℕ) → ((i : ℕ) → getD xs i 0 ≡ 0) → (view xs .globals .stage ≡ 0) × (saved xs .tag ≡ 0)
 unfolding view saved
-before-start xs h = (omega (arith, h 2560), omega (arith, h 2821))
+before-start xs h = (omega (arith, h 2496), omega (arith, h 2757))

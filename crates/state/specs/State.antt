@@ -36,17 +36,17 @@ savedIn bs = codec.savedOf (numbers codec.savedWidths bs)
 
 unfoldable pub view : List ℕ → Driver
 view xs = record {
-  eps = table xs 0 32 32 epIn;
-  lens = table xs 1024 512 2 number;
-  stamps = table xs 2048 256 2 number;
-  globals = globalsIn (gets xs 2560 0 37);
-  allocator = allocatorIn (gets xs 2597 0 18);
-  paced = table xs 2615 16 2 number;
-  requests = table xs 2647 32 5 requestIn;
-  control = controlIn (gets xs 2807 0 9);
-  wakes = wakesIn (gets xs 2816 0 5);
+  eps = table xs 0 32 30 epIn;
+  lens = table xs 960 512 2 number;
+  stamps = table xs 1984 256 2 number;
+  globals = globalsIn (gets xs 2496 0 37);
+  allocator = allocatorIn (gets xs 2533 0 18);
+  paced = table xs 2551 16 2 number;
+  requests = table xs 2583 32 5 requestIn;
+  control = controlIn (gets xs 2743 0 9);
+  wakes = wakesIn (gets xs 2752 0 5);
 }
 
 -- the suspended operation
 unfoldable pub saved : List ℕ → Saved
-saved xs = savedIn (gets xs 2821 0 22)
+saved xs = savedIn (gets xs 2757 0 22)

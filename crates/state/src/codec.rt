@@ -23,12 +23,11 @@ ghost use Rattle.fields.specs.Bytes.{gets, puts, numbers, bytes, Each};
 ghost use Rattle.state.specs.Codec.{epWidths, epAs, allocatorWidths, allocatorAs, globalsWidths, globalsAs, wakesWidths, wakesAs, requestWidths, requestAs, controlWidths, controlAs, savedWidths, savedAs};
 
 pub fn read_ep(s: &[u8; STATE_LEN], o: usize) -> EpState
-    requires { ⌜ o + 32 ≤ 2843 ⌝ }
-    ensures { λ r. ⌜ Each (epAs r) (numbers epWidths (gets (now (s .entry)) o 0 32)) ⌝ }
+    requires { ⌜ o + 30 ≤ 2779 ⌝ }
+    ensures { λ r. ⌜ Each (epAs r) (numbers epWidths (gets (now (s .entry)) o 0 30)) ⌝ }
 {
     let a = get8x5(s, o, 0);
     let b = get8x5(s, o, 5);
-    let c = get16x5(s, o, 10);
     EpState {
         ready: a.0,
         armed: a.1,
@@ -40,40 +39,33 @@ pub fn read_ep(s: &[u8; STATE_LEN], o: usize) -> EpState
         loaded: b.2,
         tog: b.3,
         open: b.4,
-        len: c.0,
-        stride: c.1,
-        last_frame: c.2,
-        max_len: c.3,
-        min_len: c.4,
-        base: get32(s, o, 20),
-        overruns: get32(s, o, 24),
-        armed_slot: get32(s, o, 28),
+        len: get16(s, o, 10),
+        stride: get16(s, o, 12),
+        last_frame: get16(s, o, 14),
+        max_len: get16(s, o, 16),
+        base: get32(s, o, 18),
+        overruns: get32(s, o, 22),
+        armed_slot: get32(s, o, 26),
     }
 }
 
 pub fn write_ep(s: &mut [u8; STATE_LEN], o: usize, r: EpState)
-    requires { ⌜ o + 32 ≤ 2843 ⌝ }
+    requires { ⌜ o + 30 ≤ 2779 ⌝ }
     ensures { λ _. ⌜ now (s .exit) ≡ puts (now (s .entry)) o 0 (bytes epWidths (epAs r)) ⌝ }
 {
     put8x5(s, o, 0, r.ready, r.armed, r.iso, r.kind, r.slots);
     put8x5(s, o, 5, r.head, r.tail, r.loaded, r.tog, r.open);
-    put16x5(
-        s,
-        o,
-        10,
-        r.len,
-        r.stride,
-        r.last_frame,
-        r.max_len,
-        r.min_len,
-    );
-    put32(s, o, 20, r.base);
-    put32(s, o, 24, r.overruns);
-    put32(s, o, 28, r.armed_slot);
+    put16(s, o, 10, r.len);
+    put16(s, o, 12, r.stride);
+    put16(s, o, 14, r.last_frame);
+    put16(s, o, 16, r.max_len);
+    put32(s, o, 18, r.base);
+    put32(s, o, 22, r.overruns);
+    put32(s, o, 26, r.armed_slot);
 }
 
 pub fn read_allocator(s: &[u8; STATE_LEN], o: usize) -> Allocator
-    requires { ⌜ o + 18 ≤ 2843 ⌝ }
+    requires { ⌜ o + 18 ≤ 2779 ⌝ }
     ensures { λ r. ⌜ Each (allocatorAs r) (numbers allocatorWidths (gets (now (s .entry)) o 0 18)) ⌝ }
 {
     let a = get16x5(s, o, 0);
@@ -91,7 +83,7 @@ pub fn read_allocator(s: &[u8; STATE_LEN], o: usize) -> Allocator
 }
 
 pub fn write_allocator(s: &mut [u8; STATE_LEN], o: usize, r: Allocator)
-    requires { ⌜ o + 18 ≤ 2843 ⌝ }
+    requires { ⌜ o + 18 ≤ 2779 ⌝ }
     ensures { λ _. ⌜ now (s .exit) ≡ puts (now (s .entry)) o 0 (bytes allocatorWidths (allocatorAs r)) ⌝ }
 {
     put16x5(s, o, 0, r.size, r.count, r.next, r.taken_out, r.taken_in);
@@ -102,7 +94,7 @@ pub fn write_allocator(s: &mut [u8; STATE_LEN], o: usize, r: Allocator)
 }
 
 pub fn read_globals(s: &[u8; STATE_LEN], o: usize) -> Globals
-    requires { ⌜ o + 37 ≤ 2843 ⌝ }
+    requires { ⌜ o + 37 ≤ 2779 ⌝ }
     ensures { λ r. ⌜ Each (globalsAs r) (numbers globalsWidths (gets (now (s .entry)) o 0 37)) ⌝ }
 {
     let a = get8x5(s, o, 0);
@@ -128,7 +120,7 @@ pub fn read_globals(s: &[u8; STATE_LEN], o: usize) -> Globals
 }
 
 pub fn write_globals(s: &mut [u8; STATE_LEN], o: usize, r: Globals)
-    requires { ⌜ o + 37 ≤ 2843 ⌝ }
+    requires { ⌜ o + 37 ≤ 2779 ⌝ }
     ensures { λ _. ⌜ now (s .exit) ≡ puts (now (s .entry)) o 0 (bytes globalsWidths (globalsAs r)) ⌝ }
 {
     put8x5(
@@ -160,7 +152,7 @@ pub fn write_globals(s: &mut [u8; STATE_LEN], o: usize, r: Globals)
 }
 
 pub fn read_wakes(s: &[u8; STATE_LEN], o: usize) -> Wakes
-    requires { ⌜ o + 5 ≤ 2843 ⌝ }
+    requires { ⌜ o + 5 ≤ 2779 ⌝ }
     ensures { λ r. ⌜ Each (wakesAs r) (numbers wakesWidths (gets (now (s .entry)) o 0 5)) ⌝ }
 {
     Wakes {
@@ -171,7 +163,7 @@ pub fn read_wakes(s: &[u8; STATE_LEN], o: usize) -> Wakes
 }
 
 pub fn write_wakes(s: &mut [u8; STATE_LEN], o: usize, r: Wakes)
-    requires { ⌜ o + 5 ≤ 2843 ⌝ }
+    requires { ⌜ o + 5 ≤ 2779 ⌝ }
     ensures { λ _. ⌜ now (s .exit) ≡ puts (now (s .entry)) o 0 (bytes wakesWidths (wakesAs r)) ⌝ }
 {
     put8(s, o, 0, r.bus);
@@ -180,7 +172,7 @@ pub fn write_wakes(s: &mut [u8; STATE_LEN], o: usize, r: Wakes)
 }
 
 pub fn read_request(s: &[u8; STATE_LEN], o: usize) -> Request
-    requires { ⌜ o + 5 ≤ 2843 ⌝ }
+    requires { ⌜ o + 5 ≤ 2779 ⌝ }
     ensures { λ r. ⌜ Each (requestAs r) (numbers requestWidths (gets (now (s .entry)) o 0 5)) ⌝ }
 {
     Request {
@@ -190,7 +182,7 @@ pub fn read_request(s: &[u8; STATE_LEN], o: usize) -> Request
 }
 
 pub fn write_request(s: &mut [u8; STATE_LEN], o: usize, r: Request)
-    requires { ⌜ o + 5 ≤ 2843 ⌝ }
+    requires { ⌜ o + 5 ≤ 2779 ⌝ }
     ensures { λ _. ⌜ now (s .exit) ≡ puts (now (s .entry)) o 0 (bytes requestWidths (requestAs r)) ⌝ }
 {
     put8(s, o, 0, r.begun);
@@ -198,7 +190,7 @@ pub fn write_request(s: &mut [u8; STATE_LEN], o: usize, r: Request)
 }
 
 pub fn read_control(s: &[u8; STATE_LEN], o: usize) -> Control
-    requires { ⌜ o + 9 ≤ 2843 ⌝ }
+    requires { ⌜ o + 9 ≤ 2779 ⌝ }
     ensures { λ r. ⌜ Each (controlAs r) (numbers controlWidths (gets (now (s .entry)) o 0 9)) ⌝ }
 {
     let a = get8x5(s, o, 0);
@@ -213,7 +205,7 @@ pub fn read_control(s: &[u8; STATE_LEN], o: usize) -> Control
 }
 
 pub fn write_control(s: &mut [u8; STATE_LEN], o: usize, r: Control)
-    requires { ⌜ o + 9 ≤ 2843 ⌝ }
+    requires { ⌜ o + 9 ≤ 2779 ⌝ }
     ensures { λ _. ⌜ now (s .exit) ≡ puts (now (s .entry)) o 0 (bytes controlWidths (controlAs r)) ⌝ }
 {
     put8x5(s, o, 0, r.sort, r.last, r.wait, r.sets_address, r.address);
@@ -221,7 +213,7 @@ pub fn write_control(s: &mut [u8; STATE_LEN], o: usize, r: Control)
 }
 
 pub fn read_saved(s: &[u8; STATE_LEN], o: usize) -> Saved
-    requires { ⌜ o + 22 ≤ 2843 ⌝ }
+    requires { ⌜ o + 22 ≤ 2779 ⌝ }
     ensures { λ r. ⌜ Each (savedAs r) (numbers savedWidths (gets (now (s .entry)) o 0 22)) ⌝ }
 {
     let a = get8x5(s, o, 0);
@@ -246,7 +238,7 @@ pub fn read_saved(s: &[u8; STATE_LEN], o: usize) -> Saved
 }
 
 pub fn write_saved(s: &mut [u8; STATE_LEN], o: usize, r: Saved)
-    requires { ⌜ o + 22 ≤ 2843 ⌝ }
+    requires { ⌜ o + 22 ≤ 2779 ⌝ }
     ensures { λ _. ⌜ now (s .exit) ≡ puts (now (s .entry)) o 0 (bytes savedWidths (savedAs r)) ⌝ }
 {
     put8x5(s, o, 0, r.tag, r.sub, r.site, r.flag, r.busy);

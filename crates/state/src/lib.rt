@@ -32,7 +32,6 @@ pub use stamps::clear_all_stamps;
 pub use stamps::clear_stamps;
 pub use stamps::load_stamp;
 pub use stamps::store_stamp;
-pub use start_up::fill_lens;
 pub use start_up::fresh;
 pub use wake::clear_wakes;
 pub use wake::wake_bus;
@@ -47,25 +46,25 @@ ghost use Rattle.state.specs.State.{view, saved};
 // Where each part starts.
 const EPS: usize = 0;
 
-const LENS: usize = 1024;
+const LENS: usize = 960;
 
-const STAMPS: usize = 2048;
+const STAMPS: usize = 1984;
 
-const GLOBALS: usize = 2560;
+const GLOBALS: usize = 2496;
 
-const ALLOCATOR: usize = 2597;
+const ALLOCATOR: usize = 2533;
 
-const PACED: usize = 2615;
+const PACED: usize = 2551;
 
-const REQUESTS: usize = 2647;
+const REQUESTS: usize = 2583;
 
-const CONTROL: usize = 2807;
+const CONTROL: usize = 2743;
 
-const WAKES: usize = 2816;
+const WAKES: usize = 2752;
 
-const SAVED: usize = 2821;
+const SAVED: usize = 2757;
 
-// Per endpoint and direction, as in the Rust without the waker: flags are 0 or 1 in a byte; `lens` stands apart.
+// Per endpoint and direction, as in the Rust without the waker and the shortest length: flags are 0 or 1 in a byte; `lens` stands apart.
 pub struct EpState {
     pub ready: u8,
     pub len: u16,
@@ -81,7 +80,6 @@ pub struct EpState {
     pub overruns: u32,
     pub last_frame: u16,
     pub max_len: u16,
-    pub min_len: u16,
     pub armed_slot: u32,
     pub tog: u8,
     pub open: u8,
@@ -106,7 +104,6 @@ impl EpState {
         overruns: 0,
         last_frame: 0x1800,
         max_len: 0,
-        min_len: 0,
         armed_slot: 0,
         tog: 0,
         open: 0,
@@ -118,7 +115,7 @@ impl EpState {
         EpState::NEW
     }
 
-    // Nothing waits and nothing is open; overruns, the shortest packet, the armed slot and the geometry stay.
+    // Nothing waits and nothing is open; overruns, the armed slot and the geometry stay.
     pub fn reset(mut self) -> EpState
         ensures { λ r. ⌜ r ≡ resetOf self ⌝ }
     {
@@ -261,7 +258,7 @@ pub fn load_ep(s: &[u8; STATE_LEN], dir: Dir, e: u8) -> EpState
     ensures { λ r. ⌜ r ≡ epOn (view (now (s .entry))) dir e ⌝ }
 {
     let k = key_of(dir, e);
-    read_ep(s, EPS + k * 32)
+    read_ep(s, EPS + k * 30)
 }
 
 pub fn store_ep(s: &mut [u8; STATE_LEN], dir: Dir, e: u8, r: EpState)
@@ -270,7 +267,7 @@ pub fn store_ep(s: &mut [u8; STATE_LEN], dir: Dir, e: u8, r: EpState)
 {
     sized(s);
     let k = key_of(dir, e);
-    write_ep(s, EPS + k * 32, r);
+    write_ep(s, EPS + k * 30, r);
 }
 
 // The length of slot i, taken modulo 16.

@@ -25,7 +25,7 @@ ghost use Prim.Native.Nat.{_+_, _≤_};
 ghost use Rattle.state.specs.Ep.{newEp};
 ghost use Rattle.state.specs.Driver.{noRequest, withEps, withLens, withPaced, withRequests, withGlobals, withAllocator, withControl};
 ghost use Rattle.state.specs.State.{view, saved};
-ghost use Rattle.state.specs.Fresh.{filled, fillLens, freshDriver, freshGlobals, freshAllocator, noControl, nothing};
+ghost use Rattle.state.specs.Fresh.{filled, freshDriver, freshGlobals, freshAllocator, noControl, nothing};
 
 fn fill_eps(s: &mut [u8; STATE_LEN])
     ensures { λ _. ⌜ view (now (s .exit)) ≡ withEps (view (now (s .entry))) (filled (view (now (s .entry)) .eps) 0 32 newEp) ⌝ }
@@ -34,7 +34,7 @@ fn fill_eps(s: &mut [u8; STATE_LEN])
     let mut k: usize = 0;
     while k < 32 {
         sized(s);
-        write_ep(s, EPS + k * 32, EpState::new());
+        write_ep(s, EPS + k * 30, EpState::new());
         k += 1;
     }
 }
@@ -82,14 +82,6 @@ fn fill_requests(s: &mut [u8; STATE_LEN])
         );
         k += 1;
     }
-}
-
-// All lengths of OUT e, as enabling sets them.
-pub fn fill_lens(s: &mut [u8; STATE_LEN], e: u8, v: u16)
-    ensures { λ _. ⌜ view (now (s .exit)) ≡ fillLens (view (now (s .entry))) e v ⌝ }
-    ensures { λ _. ⌜ saved (now (s .exit)) ≡ saved (now (s .entry)) ⌝ }
-{
-    fill_lengths(s, (e % 16) as usize * 16, 16, v);
 }
 
 fn fresh_globals(s: &mut [u8; STATE_LEN], callback: u8)

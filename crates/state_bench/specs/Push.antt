@@ -20,7 +20,6 @@ advanced r = record {
   overruns = r .overruns;
   «last_frame» = r .«last_frame»;
   «max_len» = r .«max_len»;
-  «min_len» = r .«min_len»;
   «armed_slot» = r .«armed_slot»;
   tog = r .tog;
   «open» = r .«open»;

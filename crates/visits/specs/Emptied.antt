@@ -27,10 +27,10 @@ pub record Moment : Type 0 where
   pub visits : ℕ
   pub ring : EpState
 
--- `visit` and `arrival` are the times, `len` the lengths of the packets that arrive
-module _ (visit arrival len : ℕ → ℕ) where
+-- `visit` and `arrival` are the times
+module _ (visit arrival : ℕ → ℕ) where
   abbrev pub arrives : Moment → Moment
-  arrives m = record { arrivals = suc (m .arrivals); visits = m .visits; ring = arrivedOf (m .ring) (len (m .arrivals)) }
+  arrives m = record { arrivals = suc (m .arrivals); visits = m .visits; ring = arrivedOf (m .ring) }
 
   abbrev pub visited : Moment → Moment
   visited m = record { arrivals = m .arrivals; visits = suc (m .visits); ring = emptied (m .ring) }
@@ -45,6 +45,6 @@ module _ (visit arrival len : ℕ → ℕ) where
   after s (suc n) = next (after s n)
 
 -- the count of those turned away stays as it was at any time after the first visit
-abbrev pub NoOverrun : (visit arrival len : ℕ → ℕ) → EpState → Type 0
-NoOverrun visit arrival len s = (n k : ℕ) → 1 ≤ after visit arrival len s n .visits
-    → after visit arrival len s (n + k) .ring .overruns ≡ after visit arrival len s n .ring .overruns
+abbrev pub NoOverrun : (visit arrival : ℕ → ℕ) → EpState → Type 0
+NoOverrun visit arrival s = (n k : ℕ) → 1 ≤ after visit arrival s n .visits
+    → after visit arrival s (n + k) .ring .overruns ≡ after visit arrival s n .ring .overruns

@@ -5,29 +5,19 @@ use mathlib.Core.Bool.{Bool, true, false, cond}
 use mathlib.Core.List.{List}
 use Prim.Native.Nat.{ℕ, zero, suc, _≤_, _<_}
 use native.Mathlib.Omega.{arith}
-use lib.Dec.{ltb, eqb}
+use lib.Dec.{ltb}
 use lib.ListN.{length}
 use borrow.Author.Tests.{ltb-false, lt-ltb, le-ltb}
 use Rattle.state.specs.declared.EpState.{EpState}
-use Rattle.ring.specs.Fields.{withMinLen}
 use Rattle.ring.specs.Slot.{countOf, joinedOf, passedOf}
-use Rattle.ring.specs.Out.{hasRoomOut, shortestOf, turnedAwayOf, arrivedOf, closedOf}
+use Rattle.ring.specs.Out.{hasRoomOut, turnedAwayOf, arrivedOf, closedOf}
 use Rattle.ring.specs.Waiting.{waiting, Alike}
-use Rattle.ring.specs.Laws.{waiting-length, alike-count, alike-join}
-use Rattle.ring.specs.OutLaws.{shortest-alike, turned-alike}
+use Rattle.ring.specs.Laws.{waiting-length}
+use Rattle.ring.specs.OutLaws.{turned-alike}
 use Rattle.visits.specs.Emptied.{Sixteen, closes, emptied}
 
 alike-sixteen : {s t : EpState} → Alike s t → Sixteen s → Sixteen t
 alike-sixteen k g = record { slots = k .place .slots ∙ g .slots; head8 = rw (k .head) (g .head8); tail8 = rw (k .tail) (g .tail8) }
-
-overruns-by : (s : EpState) (len : ℕ) (t u : Bool) → cond t s (cond u (withMinLen s len) s) .overruns ≡ s .overruns
-overruns-by s len true u = refl
-overruns-by s len false true = refl
-overruns-by s len false false = refl
-
-shortest-overruns : (s : EpState) (len : ℕ) → shortestOf s len .overruns ≡ s .overruns
-unfolding shortestOf
-shortest-overruns s len = overruns-by s len (eqb len 0) (ltb len (s .«min_len»))
 
 module _ {s : EpState} (g : Sixteen s) where
   room : hasRoomOut s ≡ ltb (countOf s) 15
@@ -51,35 +41,34 @@ module _ {s : EpState} (g : Sixteen s) where
 
   -- ---- an arrival
 
-  module _ (len : ℕ) where
-    arrive-by : (t : Bool) → Sixteen (cond t (joinedOf (shortestOf s len)) (turnedAwayOf (shortestOf s len)))
-    arrive-by true = alike-sixteen (alike-join (shortest-alike s len)) join-sixteen
-    arrive-by false = alike-sixteen (turned-alike (shortestOf s len)) (alike-sixteen (shortest-alike s len) g)
+  arrive-by : (t : Bool) → Sixteen (cond t (joinedOf s) (turnedAwayOf s))
+  arrive-by true = join-sixteen
+  arrive-by false = alike-sixteen (turned-alike s) g
 
-    pub arrive-sixteen : Sixteen (arrivedOf s len)
+  pub arrive-sixteen : Sixteen (arrivedOf s)
+  unfolding arrivedOf
+  arrive-sixteen = arrive-by (hasRoomOut s)
+
+  module _ (few : countOf s < 15) where
+    admits : arrivedOf s ≡ joinedOf s
     unfolding arrivedOf
-    arrive-sixteen = arrive-by (hasRoomOut s)
+    admits = rw (room ∙ lt-ltb (countOf s) 15 few) refl
 
-    module _ (few : countOf s < 15) where
-      admits : arrivedOf s len ≡ joinedOf (shortestOf s len)
-      unfolding arrivedOf
-      admits = rw (room ∙ lt-ltb (countOf s) 15 few) refl
+    pub admit-count : countOf (arrivedOf s) ≡ suc (countOf s)
+    admit-count = ap countOf admits ∙ join-count few
 
-      pub admit-count : countOf (arrivedOf s len) ≡ suc (countOf s)
-      admit-count = ap countOf admits ∙ alike-count (alike-join (shortest-alike s len)) ∙ join-count few
+    pub admit-overruns : arrivedOf s .overruns ≡ s .overruns
+    unfolding joinedOf
+    admit-overruns = rw admits refl
 
-      pub admit-overruns : arrivedOf s len .overruns ≡ s .overruns
-      unfolding joinedOf
-      admit-overruns = rw admits (shortest-overruns s len)
+  module _ (many : 15 ≤ countOf s) where
+    turns : arrivedOf s ≡ turnedAwayOf s
+    unfolding arrivedOf
+    turns = rw (room ∙ le-ltb (countOf s) 15 many) refl
 
-    module _ (many : 15 ≤ countOf s) where
-      turns : arrivedOf s len ≡ turnedAwayOf (shortestOf s len)
-      unfolding arrivedOf
-      turns = rw (room ∙ le-ltb (countOf s) 15 many) refl
-
-      pub turn-overruns : arrivedOf s len .overruns ≢ s .overruns
-      unfolding turnedAwayOf
-      turn-overruns e = omega (arith, ap (λ (r : EpState). r .overruns) (sym turns) ∙ e, shortest-overruns s len)
+    pub turn-overruns : arrivedOf s .overruns ≢ s .overruns
+    unfolding turnedAwayOf
+    turn-overruns e = omega (arith, ap (λ (r : EpState). r .overruns) (sym turns) ∙ e)
 
   -- ---- a visit
 

@@ -13,31 +13,31 @@ use Rattle.visits.specs.Suffices.{no-overrun}
 use Rattle.visits.specs.Overruns.{first-visited, sixteenth}
 
 -- permitted times, and an event after the first visit at which the count of those turned away changes
-pub record Overrun (a b c d : ℕ) (len : ℕ → ℕ) (s : EpState) : Type 0 where
+pub record Overrun (a b c d : ℕ) (s : EpState) : Type 0 where
   pub visit : ℕ → ℕ
   pub arrival : ℕ → ℕ
   pub permitted : Permitted a b c d visit arrival
   pub event : ℕ
-  pub later : 1 ≤ after visit arrival len s event .visits
-  pub turned : after visit arrival len s (suc event) .ring .overruns ≢ after visit arrival len s event .ring .overruns
+  pub later : 1 ≤ after visit arrival s event .visits
+  pub turned : after visit arrival s (suc event) .ring .overruns ≢ after visit arrival s event .ring .overruns
 
-module _ {a b c d : ℕ} (l : Limits a b c d) (len : ℕ → ℕ) {s : EpState} (g : Sixteen s) where
-  pub suffices : greatestOf b c .arrivals ≤ 15 → (visit arrival : ℕ → ℕ) → Permitted a b c d visit arrival → NoOverrun visit arrival len s
+module _ {a b c d : ℕ} (l : Limits a b c d) {s : EpState} (g : Sixteen s) where
+  pub suffices : greatestOf b c .arrivals ≤ 15 → (visit arrival : ℕ → ℕ) → Permitted a b c d visit arrival → NoOverrun visit arrival s
   unfolding greatestOf
-  suffices h visit arrival p = no-overrun (l .least-arrivals) h (p .visits) (p .arrivals) len s g
+  suffices h visit arrival p = no-overrun (l .least-arrivals) h (p .visits) (p .arrivals) s g
 
-  pub overruns : 15 < greatestOf b c .arrivals → Overrun a b c d len s
+  pub overruns : 15 < greatestOf b c .arrivals → Overrun a b c d s
   unfolding greatestOf
   overruns h = record {
     visit = steady 0 b;
     arrival = steady (0 + 1) c;
     permitted = greatest-reached l .permitted 0;
     event = 16;
-    later = first-visited b c (l .least-arrivals) h len s g;
-    turned = sixteenth b c (l .least-arrivals) h len s g;
+    later = first-visited b c (l .least-arrivals) h s g;
+    turned = sixteenth b c (l .least-arrivals) h s g;
   }
 
-  pub fifteen : (greatestOf b c .arrivals ≤ 15) ↔ ((visit arrival : ℕ → ℕ) → Permitted a b c d visit arrival → NoOverrun visit arrival len s)
+  pub fifteen : (greatestOf b c .arrivals ≤ 15) ↔ ((visit arrival : ℕ → ℕ) → Permitted a b c d visit arrival → NoOverrun visit arrival s)
   unfolding overruns
   fifteen = (
     suffices,

@@ -13,12 +13,12 @@ use Rattle.visits.specs.Emptied.{Sixteen, Moment, arrives, visited, next
 use Rattle.visits.specs.EmptiedLaws.{admit-count, turn-overruns, empty-count}
 use Rattle.visits.specs.Suffices.{after-sixteen}
 
-module _ (visit arrival len : ℕ → ℕ) (m : Moment) where
-  next-arrives : arrival (m .arrivals) ≤ visit (m .visits) → next visit arrival len m ≡ arrives visit arrival len m
+module _ (visit arrival : ℕ → ℕ) (m : Moment) where
+  next-arrives : arrival (m .arrivals) ≤ visit (m .visits) → next visit arrival m ≡ arrives visit arrival m
   unfolding next
   next-arrives h = rw (le-leb _ _ h) refl
 
-  next-visits : visit (m .visits) < arrival (m .arrivals) → next visit arrival len m ≡ visited visit arrival len m
+  next-visits : visit (m .visits) < arrival (m .arrivals) → next visit arrival m ≡ visited visit arrival m
   unfolding next
   next-visits h = rw (lt-leb _ _ h) refl
 
@@ -28,16 +28,16 @@ record Filled (k : ℕ) (m : Moment) : Type 0 where
   visits : m .visits ≡ 1
   count : countOf (m .ring) ≡ k
 
-module _ (b c : ℕ) (one : 1 ≤ c) (many : 15 < roundedUp b c) (len : ℕ → ℕ) (s : EpState) (g : Sixteen s) where
+module _ (b c : ℕ) (one : 1 ≤ c) (many : 15 < roundedUp b c) (s : EpState) (g : Sixteen s) where
   abbrev run : ℕ → Moment
-  run = after (steady 0 b) (steady (0 + 1) c) len s
+  run = after (steady 0 b) (steady (0 + 1) c) s
 
   soon : (k : ℕ) → k ≤ 15 → (m : Moment) → Filled k m → steady (0 + 1) c (m .arrivals) ≤ steady 0 b (m .visits)
   soon k h m f = rw (f .arrivals, f .visits) (omega (arith, within b c k one (omega arith)))
 
   start : Filled 0 (run 1)
   unfolding after
-  start = rw (next-visits (steady 0 b) (steady (0 + 1) c) len (after (steady 0 b) (steady (0 + 1) c) len s 0) (omega arith))
+  start = rw (next-visits (steady 0 b) (steady (0 + 1) c) (after (steady 0 b) (steady (0 + 1) c) s 0) (omega arith))
       (record { arrivals = refl; visits = refl; count = empty-count g })
 
   fill : (k : ℕ) → k ≤ 15 → Filled k (run (suc k))
@@ -45,11 +45,11 @@ module _ (b c : ℕ) (one : 1 ≤ c) (many : 15 < roundedUp b c) (len : ℕ → 
   fill zero h = start
   fill (suc k) h =
       let f = fill k (omega arith) in
-      rw (next-arrives (steady 0 b) (steady (0 + 1) c) len (run (suc k)) (soon k (omega arith) (run (suc k)) f))
+      rw (next-arrives (steady 0 b) (steady (0 + 1) c) (run (suc k)) (soon k (omega arith) (run (suc k)) f))
       (record {
         arrivals = ap suc (f .arrivals);
         visits = f .visits;
-        count = admit-count (after-sixteen (steady 0 b) (steady (0 + 1) c) len g (suc k)) (len (run (suc k) .arrivals)) (omega (arith, f .count)) ∙ ap suc (f .count);
+        count = admit-count (after-sixteen (steady 0 b) (steady (0 + 1) c) g (suc k)) (omega (arith, f .count)) ∙ ap suc (f .count);
       })
 
   pub first-visited : 1 ≤ run 16 .visits
@@ -60,5 +60,5 @@ module _ (b c : ℕ) (one : 1 ≤ c) (many : 15 < roundedUp b c) (len : ℕ → 
   unfolding after
   sixteenth =
       let f = fill 15 (omega arith) in
-      rw (next-arrives (steady 0 b) (steady (0 + 1) c) len (run 16) (soon 15 (omega arith) (run 16) f))
-      (turn-overruns (after-sixteen (steady 0 b) (steady (0 + 1) c) len g 16) (len (run 16 .arrivals)) (omega (arith, f .count)))
+      rw (next-arrives (steady 0 b) (steady (0 + 1) c) (run 16) (soon 15 (omega arith) (run 16) f))
+      (turn-overruns (after-sixteen (steady 0 b) (steady (0 + 1) c) g 16) (omega (arith, f .count)))

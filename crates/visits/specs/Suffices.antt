@@ -17,16 +17,16 @@ use Rattle.visits.specs.SpanLaws.{counted}
 use Rattle.visits.specs.Emptied.{Sixteen, Moment, arrives, visited, next, after, NoOverrun}
 use Rattle.visits.specs.EmptiedLaws.{arrive-sixteen, admit-count, admit-overruns, empty-sixteen, empty-overruns, empty-count}
 
-module _ (visit arrival len : ℕ → ℕ) where
-  next-by : (m : Moment) → Sixteen (m .ring) → (t : Bool) → Sixteen (cond t (arrives visit arrival len m) (visited visit arrival len m) .ring)
-  next-by m g true = arrive-sixteen g (len (m .arrivals))
+module _ (visit arrival : ℕ → ℕ) where
+  next-by : (m : Moment) → Sixteen (m .ring) → (t : Bool) → Sixteen (cond t (arrives visit arrival m) (visited visit arrival m) .ring)
+  next-by m g true = arrive-sixteen g
   next-by m g false = empty-sixteen g
 
-  pub after-sixteen : {s : EpState} → Sixteen s → (n : ℕ) → Sixteen (after visit arrival len s n .ring)
+  pub after-sixteen : {s : EpState} → Sixteen s → (n : ℕ) → Sixteen (after visit arrival s n .ring)
   unfolding after next
   after-sixteen g zero = g
   after-sixteen {s} g (suc n) =
-      let m = after visit arrival len s n in
+      let m = after visit arrival s n in
       next-by m (after-sixteen g n) (leb (arrival (m .arrivals)) (visit (m .visits)))
 
 -- those that were are not after the next visit
@@ -42,7 +42,7 @@ record Since (visit arrival : ℕ → ℕ) (m : Moment) : Type 0 where
   later : visit last < arrival first
   waits : m .arrivals ≡ first + countOf (m .ring)
 
-module _ {a b c d : ℕ} (one : 1 ≤ c) (most : roundedUp b c ≤ 15) {visit arrival : ℕ → ℕ} (v : Spaced a b visit) (w : Spaced c d arrival) (len : ℕ → ℕ) where
+module _ {a b c d : ℕ} (one : 1 ≤ c) (most : roundedUp b c ≤ 15) {visit arrival : ℕ → ℕ} (v : Spaced a b visit) (w : Spaced c d arrival) where
   few : (m : Moment) → Since visit arrival m → arrival (m .arrivals) ≤ visit (m .visits) → countOf (m .ring) < 15
   few m r h =
       let x = rw (sym (r .waits)) at (apart-by w (r .first) (countOf (m .ring))) in
@@ -55,7 +55,7 @@ module _ {a b c d : ℕ} (one : 1 ≤ c) (most : roundedUp b c ≤ 15) {visit ar
       omega (arith, rw e at (apart-by w i (k - i)))
 
   came-by : (m : Moment) (t : Bool) → leb (arrival (m .arrivals)) (visit (m .visits)) ≡ t → Came visit arrival m
-      → Came visit arrival (cond t (arrives visit arrival len m) (visited visit arrival len m))
+      → Came visit arrival (cond t (arrives visit arrival m) (visited visit arrival m))
   came-by m true e o i h = elim (decLt i (m .arrivals)) [
     | yes l ↦ o i l
     | no l ↦ (let f : i ≡ m .arrivals = omega arith in rw f (leb-true _ _ e))
@@ -64,10 +64,10 @@ module _ {a b c d : ℕ} (one : 1 ≤ c) (most : roundedUp b c ≤ 15) {visit ar
 
   -- the next event
   step-by : (m : Moment) → Sixteen (m .ring) → (t : Bool) → leb (arrival (m .arrivals)) (visit (m .visits)) ≡ t
-      → 1 ≤ cond t (arrives visit arrival len m) (visited visit arrival len m) .visits
+      → 1 ≤ cond t (arrives visit arrival m) (visited visit arrival m) .visits
       → Came visit arrival m
       → (1 ≤ m .visits → Since visit arrival m)
-      → Since visit arrival (cond t (arrives visit arrival len m) (visited visit arrival len m))
+      → Since visit arrival (cond t (arrives visit arrival m) (visited visit arrival m))
   step-by m g true e h o i =
       let r = i h in
       record {
@@ -76,7 +76,7 @@ module _ {a b c d : ℕ} (one : 1 ≤ c) (most : roundedUp b c ≤ 15) {visit ar
         first = r .first;
         earlier = r .earlier;
         later = r .later;
-        waits = omega (arith, r .waits, admit-count g (len (m .arrivals)) (few m r (leb-true _ _ e)));
+        waits = omega (arith, r .waits, admit-count g (few m r (leb-true _ _ e)));
       }
   step-by m g false e h o i = record {
     last = m .visits;
@@ -89,13 +89,13 @@ module _ {a b c d : ℕ} (one : 1 ≤ c) (most : roundedUp b c ≤ 15) {visit ar
 
   keeps-by : (m : Moment) → Sixteen (m .ring) → (t : Bool) → leb (arrival (m .arrivals)) (visit (m .visits)) ≡ t
       → Since visit arrival m
-      → cond t (arrives visit arrival len m) (visited visit arrival len m) .ring .overruns ≡ m .ring .overruns
-  keeps-by m g true e r = admit-overruns g (len (m .arrivals)) (few m r (leb-true _ _ e))
+      → cond t (arrives visit arrival m) (visited visit arrival m) .ring .overruns ≡ m .ring .overruns
+  keeps-by m g true e r = admit-overruns g (few m r (leb-true _ _ e))
   keeps-by m g false e r = empty-overruns g
 
   module _ (s : EpState) (g : Sixteen s) where
     abbrev run : ℕ → Moment
-    run = after visit arrival len s
+    run = after visit arrival s
 
     came : (n : ℕ) → Came visit arrival (run n)
     unfolding after next
@@ -105,9 +105,9 @@ module _ {a b c d : ℕ} (one : 1 ≤ c) (most : roundedUp b c ≤ 15) {visit ar
     since : (n : ℕ) → 1 ≤ run n .visits → Since visit arrival (run n)
     unfolding after next
     since zero h = absurd (omega arith)
-    since (suc n) h = step-by (run n) (after-sixteen visit arrival len g n) (leb (arrival (run n .arrivals)) (visit (run n .visits))) refl h (came n) (since n)
+    since (suc n) h = step-by (run n) (after-sixteen visit arrival g n) (leb (arrival (run n .arrivals)) (visit (run n .visits))) refl h (came n) (since n)
 
-    more-by : (m : Moment) (t : Bool) → m .visits ≤ cond t (arrives visit arrival len m) (visited visit arrival len m) .visits
+    more-by : (m : Moment) (t : Bool) → m .visits ≤ cond t (arrives visit arrival m) (visited visit arrival m) .visits
     more-by m true = omega arith
     more-by m false = omega arith
 
@@ -119,9 +119,9 @@ module _ {a b c d : ℕ} (one : 1 ≤ c) (most : roundedUp b c ≤ 15) {visit ar
 
     keeps : (n : ℕ) → 1 ≤ run n .visits → run (suc n) .ring .overruns ≡ run n .ring .overruns
     unfolding after next
-    keeps n h = keeps-by (run n) (after-sixteen visit arrival len g n) (leb (arrival (run n .arrivals)) (visit (run n .visits))) refl (since n h)
+    keeps n h = keeps-by (run n) (after-sixteen visit arrival g n) (leb (arrival (run n .arrivals)) (visit (run n .visits))) refl (since n h)
 
-    pub no-overrun : NoOverrun visit arrival len s
+    pub no-overrun : NoOverrun visit arrival s
     no-overrun n zero h = rw (add-zero n) refl
     no-overrun n (suc k) h = rw (add-suc n k) (keeps (n + k) (omega (arith, more n k)) ∙ no-overrun n k h)
 

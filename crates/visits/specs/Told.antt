@@ -24,8 +24,8 @@ pub record Told (a b c d : ℕ) (least greatest : Reached) : Type 0 where
       → arrivalsIn arrival (visit j) (visit (suc j)) ≤ greatest .arrivals
   pub least-reached : Reaches a b c d a least
   pub greatest-reached : Reaches a b c d b greatest
-  pub fifteen : (len : ℕ → ℕ) {s : EpState} → Sixteen s
-      → (greatest .arrivals ≤ 15) ↔ ((visit arrival : ℕ → ℕ) → Permitted a b c d visit arrival → NoOverrun visit arrival len s)
+  pub fifteen : {s : EpState} → Sixteen s
+      → (greatest .arrivals ≤ 15) ↔ ((visit arrival : ℕ → ℕ) → Permitted a b c d visit arrival → NoOverrun visit arrival s)
 
 within : {a b c d : ℕ} → Limits a b c d → Told a b c d (leastOf a d) (greatestOf b c)
 within l = record {
@@ -34,7 +34,7 @@ within l = record {
   no-more = λ visit arrival p j. no-more-than l p j;
   least-reached = least-reached l;
   greatest-reached = greatest-reached l;
-  fifteen = λ len g. fifteen l len g;
+  fifteen = λ g. fifteen l g;
 }
 
 module _ {a b c d : ℕ} {least greatest : Reached} where

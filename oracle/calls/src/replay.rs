@@ -43,7 +43,7 @@ impl<'a> Session<'a> {
 }
 
 /// The parts in which `now` differs, at most 3 equal bytes between two bytes of a part; `before` becomes `now`.
-fn changes(before: &mut [u8], now: &[u8]) -> Vec<(u32, Vec<u8>)> {
+pub fn changes(before: &mut [u8], now: &[u8]) -> Vec<(u32, Vec<u8>)> {
     let mut all = vec![];
     if before == now {
         return all;

@@ -5,6 +5,7 @@
 //! compare --wide [...]: random runs with buffers of 1,024 bytes, against the Rust read with 1,024 among its sizes.
 //! compare FILE...: the same with recorded lists.
 
+mod late;
 mod port;
 mod stamps;
 
@@ -127,11 +128,13 @@ struct Compared {
     entries: usize,
     answers: usize,
     stamps: usize,
+    late: usize,
+    otherwise: usize,
 }
 
 impl Compared {
     fn check(&mut self, port: &mut port::Port, name: &str, entries: &[Entry]) {
-        let entries = within_domain(entries);
+        let (entries, lengths) = late::by_rule(&within_domain(entries));
         if let Some((i, own)) = difference(port, &entries) {
             differs(name, &entries[..=i], &print(&[own]));
         }
@@ -147,6 +150,8 @@ impl Compared {
         // the others are the chip's stores, and calls that the Rust has no counterpart of: these must be refused and change no slot
         self.answers += entries.iter().filter(|e| !matches!(e.answer, Answer::Outside | Answer::Stored)).count();
         self.stamps += stamps.iter().filter(|s| s.1 != stamps::NONE).count();
+        self.late += lengths.late;
+        self.otherwise += lengths.otherwise;
     }
 }
 
@@ -200,6 +205,7 @@ fn main() {
             compared.check(&mut port, &format!("seed {seed}"), &entries);
         }
     }
-    let Compared { lists, entries, answers, stamps } = compared;
+    let Compared { lists, entries, answers, stamps, late, otherwise } = compared;
     println!("{lists} runs, {entries} entries, {answers} answers and {stamps} stamps compared: no difference");
+    println!("{late} lengths told by the marks, {otherwise} of them not the Rust's");
 }

@@ -255,14 +255,18 @@ fn both(o: &Operation) -> (Port, Stepped, u32) {
         rust.made(o);
     }
     let calls = port.made(o);
-    assert_eq!(calls, rust.made(o), "{}", o.name);
+    // request One: an interrupt begins with a reading that the Rust does not have
+    let more = matches!(o.call, Call::Interrupt) as u32;
+    assert_eq!(calls, rust.made(o) + more, "{}", o.name);
     let mut told = rust.registers.clone();
     for r in [reg::EP0_DMA, reg::EP_RX_DMA, reg::EP_TX_DMA] {
         for w in told.written[r as usize].iter_mut().filter(|w| **w != 0) {
             *w -= rust.bare.base();
         }
     }
-    assert!(port.registers == told && port.slots == rust.bare.slots(), "{}", o.name);
+    // the ring of isochronous OUT 1, which lies first, is marked otherwise since request Eight
+    let ring = 16 * SIZE as usize;
+    assert!(port.registers == told && port.slots[ring..] == rust.bare.slots()[ring..], "{}", o.name);
     for (r, row) in rust.registers.reads.iter().enumerate() {
         for (e, &value) in row.iter().enumerate() {
             // the driver keeps these: they read as written

@@ -7,9 +7,6 @@ use Rattle.arming.proofs.renew.Tie as tie
 load-ep-requires : tie.Need-load-ep-requires
 load-ep-requires c κs = search needs
 
-fill-lens-requires : tie.Need-fill-lens-requires
-fill-lens-requires c κs = search needs
-
 clear-stamps-requires : tie.Need-clear-stamps-requires
 clear-stamps-requires c κs = search needs
 
@@ -21,7 +18,7 @@ store-ep-requires c κs = search needs
 
 returns : tie.Need-returns
 unfolding renewedOn
-returns c = (simp (c .store-ep .ensures .0, c .before .before .reset .ensures, c .before .before .before .clear-stamps .ensures .0, c .before .before .before .before .before .fill-lens .ensures .0, c .before .before .before .before .before .before .before .load-ep .ensures), c .store-ep .ensures .1 ∙ c .before .before .before .clear-stamps .ensures .1 ∙ c .before .before .before .before .before .fill-lens .ensures .1)
+returns c = (simp (c .store-ep .ensures .0, c .before .reset .ensures, c .before .before .before .clear-stamps .ensures .0, c .before .before .before .before .before .load-ep .ensures), c .store-ep .ensures .1 ∙ c .before .before .before .clear-stamps .ensures .1)
 
 pub renew-spec : {M : Type 1} → statement M
-renew-spec = tie.close (tie.spec load-ep-requires fill-lens-requires clear-stamps-requires reset-requires store-ep-requires returns)
+renew-spec = tie.close (tie.spec load-ep-requires clear-stamps-requires reset-requires store-ep-requires returns)

@@ -14,13 +14,13 @@ use Rattle.arming.proofs.slot_step.Statement.{statement}
 use Rattle.arming.proofs.slot_step.Tie as tie
 
 -- the code's steps, each by its result
-stages : (e k : ℕ) (d : Driver) (b : List ℕ) {d′ : Driver} {r r′ : EpState} {on : Bool}
-    → r ≡ epOn d Out e → on ≡ isOn (r .iso) → on ≡ true → d′ ≡ cond (eqb k 15) (renewedOn d e) d → r′ ≡ epOn d′ Out e
-    → armAt e k 0 (r′ .«max_len») (d′, b) ≡ slotStep e k (d, b)
+stages : (e k : ℕ) (d : Driver) (b : List ℕ) {d′ : Driver} {r : EpState} {on : Bool}
+    → r ≡ epOn d Out e → on ≡ isOn (r .iso) → on ≡ true → d′ ≡ cond (eqb k 15) (renewedOn d e) d
+    → armAt e k (d′, b) ≡ slotStep e k (d, b)
 unfolding slotStep
-stages e k d b h₁ h₂ h₃ h₄ h₅ =
+stages e k d b h₁ h₂ h₃ h₄ =
     let h : isOn (epOn d Out e .iso) ≡ true = rw h₁ at (sym h₂ ∙ h₃) in
-    simp (h, h₅, h₄)
+    simp (h, h₄)
 
 load-ep-requires : tie.Need-load-ep-requires
 load-ep-requires c κs = search needs
@@ -31,9 +31,6 @@ is-on-requires c κs = search needs
 renew-first-requires : tie.Need-renew-first-requires
 renew-first-requires c κs = search needs
 
-load-ep-requires-2 : tie.Need-load-ep-requires-2
-load-ep-requires-2 c κs = search needs
-
 arm-requires : tie.Need-arm-requires
 arm-requires c κs = search needs
 
@@ -42,12 +39,12 @@ same-length c = search needs
 
 returns : tie.Need-returns
 returns c =
-    let a = c .before .before .before .before .before .before .before .before .before .before .before .before .before .before .args in
-    let h = stages (a .e) (a .k) (view (a .s .now)) (a .buf .now) (c .before .before .before .before .before .before .before .before .before .before .before .load-ep .ensures) (c .before .before .before .before .before .before .before .before .before .before .is-on .ensures) (c .before .before .before .before .before .before .before .before .before .if1 .taken) (c .before .before .before .before .before .before .before .renew-first .ensures .0) (c .before .before .before .before .before .load-ep2 .ensures) in (
+    let a = c .before .before .before .before .before .before .before .before .before .before .before .before .args in
+    let h = stages (a .e) (a .k) (view (a .s .now)) (a .buf .now) (c .before .before .before .before .before .before .before .before .before .load-ep .ensures) (c .before .before .before .before .before .before .before .before .is-on .ensures) (c .before .before .before .before .before .before .before .if1 .taken) (c .before .before .before .before .before .renew-first .ensures .0) in (
       c .before .before .arm .ensures .0 ∙ ap (λ (x : ℕ × St). x .0) h,
       (
         c .before .before .arm .ensures .1 .0 ∙ ap (λ (x : ℕ × St). x .1 .0) h,
-        (c .before .before .arm .ensures .1 .1 .0 ∙ ap (λ (x : ℕ × St). x .1 .1) h, c .before .before .arm .ensures .1 .1 .1 ∙ c .before .before .before .before .before .before .before .renew-first .ensures .1),
+        (c .before .before .arm .ensures .1 .1 .0 ∙ ap (λ (x : ℕ × St). x .1 .1) h, c .before .before .arm .ensures .1 .1 .1 ∙ c .before .before .before .before .before .renew-first .ensures .1),
       ),
     )
 
@@ -56,4 +53,4 @@ unfolding slotStep
 returns-2 c = (simp (c .if1 .left, ← c .before .is-on .ensures, ← c .before .before .load-ep .ensures), (simp (c .if1 .left, ← c .before .is-on .ensures, ← c .before .before .load-ep .ensures), (simp (c .if1 .left, ← c .before .is-on .ensures, ← c .before .before .load-ep .ensures), refl)))
 
 pub slot-step-spec : {M : Type 1} → statement M
-slot-step-spec = tie.close (tie.spec load-ep-requires is-on-requires renew-first-requires load-ep-requires-2 arm-requires same-length returns returns-2)
+slot-step-spec = tie.close (tie.spec load-ep-requires is-on-requires renew-first-requires arm-requires same-length returns returns-2)

@@ -4,61 +4,52 @@ use Rattle.marks.proofs.Slot.{armed-short, armed-fits}
 use Rattle.marks.proofs.iso_out_arm.Statement.{statement}
 use Rattle.marks.proofs.iso_out_arm.Tie as tie
 
-add-n : tie.Need-add-n
-add-n c = search needs
+armed-words-requires : tie.Need-armed-words-requires
+armed-words-requires c κs = search needs
 
-mul-n : tie.Need-mul-n
-mul-n c = search needs
+mul-if1 : tie.Need-mul-if1
+mul-if1 c = search needs
 
 add-if1 : tie.Need-add-if1
 add-if1 c = search needs
 
 returns : tie.Need-returns
 returns c =
-    let s = c .before .before .args in
-    armed-short (s .buf .now) (s .at) (s .from) (s .dirty) (omega arith)
-
-add-if2 : tie.Need-add-if2
-add-if2 c = search needs
-
-returns-2 : tie.Need-returns-2
-returns-2 c =
     let s = c .before .before .before .args in
-    armed-short (s .buf .now) (s .at) (s .from) (s .dirty) (omega arith)
+    armed-short (s .buf .now) (s .at) (s .max) (omega arith)
 
-sub-arm-part : tie.Need-sub-arm-part
-sub-arm-part c = search needs
+sub-mark-words : tie.Need-sub-mark-words
+sub-mark-words c = search needs
 
-part-arm-part-start : tie.Need-part-arm-part-start
-part-arm-part-start c = search needs
+part-mark-words-start : tie.Need-part-mark-words-start
+part-mark-words-start c = search needs
 
-part-arm-part-end : tie.Need-part-arm-part-end
-part-arm-part-end c = search needs
+part-mark-words-end : tie.Need-part-mark-words-end
+part-mark-words-end c = search needs
 
-arm-part-requires : tie.Need-arm-part-requires
-arm-part-requires c κs = search needs
+mark-words-requires : tie.Need-mark-words-requires
+mark-words-requires c κs = search needs
 
 same-length : tie.Need-same-length
 same-length c = search needs
 
-returns-3 : tie.Need-returns-3
-returns-3 c =
+returns-2 : tie.Need-returns-2
+returns-2 c =
     let s = c .before .before .before .before .before .before .before .args in
-    armed-fits (s .buf .now) (c .before .before .arm-part .last .0) (s .at) (s .from) (s .dirty) (omega arith) (c .before .before .arm-part .ensures)
+    let w = c .before .before .before .before .before .armed-words .ensures in
+    armed-fits (s .buf .now) (c .before .before .mark-words .last .0) (s .at) (s .max) _ w (omega arith) (c .before .before .mark-words .ensures)
 
 pub iso-out-arm-spec : {M : Type 1} → statement M
 iso-out-arm-spec =
     tie.close
     (tie.spec
-    add-n
-    mul-n
+    armed-words-requires
+    mul-if1
     add-if1
     returns
-    add-if2
-    returns-2
-    sub-arm-part
-    part-arm-part-start
-    part-arm-part-end
-    arm-part-requires
+    sub-mark-words
+    part-mark-words-start
+    part-mark-words-end
+    mark-words-requires
     same-length
-    returns-3)
+    returns-2)

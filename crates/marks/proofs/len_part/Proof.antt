@@ -1,63 +1,66 @@
-use mathlib.Core.Path.{_∙_, ap}
+use mathlib.Core.Path.{_≡_, refl, sym, _∙_}
+use Prim.Native.Nat.{_≤_}
 use native.Mathlib.Omega.{arith}
+use lib.ListN.{length}
 use borrow.Author.Needs.{needs}
-use Rattle.marks.specs.Marks.{upTo, found}
-use Rattle.marks.proofs.Slot.{len-zero, len-some}
+use Rattle.marks.specs.Marks.{found}
+use Rattle.marks.proofs.Laws.{found-here, found-below, found-none}
 use Rattle.marks.proofs.len_part.Statement.{statement}
 use Rattle.marks.proofs.len_part.Tie as tie
 
-add-first-mark : tie.Need-add-first-mark
-add-first-mark c = search needs
+abbrev Inv-loop : tie.InvT-loop
+Inv-loop part max n₀ n = (n ≤ max) × (max ≤ length part) × (found n part ≡ found max part)
 
-first-mark-requires : tie.Need-first-mark-requires
-first-mark-requires c κs = search needs
+abbrev μ-loop : tie.MeasureT-loop
+μ-loop part max n₀ n = n
 
-returns : tie.Need-returns
-unfolding found
+loop-holds : tie.Need-loop-holds Inv-loop μ-loop
+loop-holds c = (omega arith, c .before .pre, refl)
+
+cast-k : tie.Need-cast-k Inv-loop μ-loop
+cast-k c = search needs
+
+sub-k : tie.Need-sub-k Inv-loop μ-loop
+sub-k c = omega arith
+
+shared-slice-read-if1 : tie.Need-shared-slice-read-if1 Inv-loop μ-loop
+shared-slice-read-if1 c = omega arith
+
+mark-byte-requires : tie.Need-mark-byte-requires Inv-loop μ-loop
+mark-byte-requires c κs = search needs
+
+returns : tie.Need-returns Inv-loop μ-loop
 returns c =
-    let s = c .before .before .before .args in
-    len-zero _ _ _ (c .if1 .taken) ∙ ap (upTo (s .part .now) (s .max)) (c .before .first-mark .ensures .0)
+    let at = c .before .before .before .before .loop in
+    sym (found-here _ (at .n) (omega arith) (λ e. c .if1 .taken (e ∙ sym (c .before .mark-byte .ensures)))) ∙ at .inv .2
 
-sub-i : tie.Need-sub-i
-sub-i c = search needs
+sub-n : tie.Need-sub-n Inv-loop μ-loop
+sub-n c = omega arith
 
-mul-n : tie.Need-mul-n
-mul-n c = search needs
+loop-less : tie.Need-loop-less Inv-loop μ-loop
+loop-less c = omega arith
 
-last-other-requires : tie.Need-last-other-requires
-last-other-requires c κs = search needs
+loop-again : tie.Need-loop-again Inv-loop μ-loop
+loop-again c =
+    let at = c .before .before .before .before .loop in
+    (omega arith, at .inv .1, sym (found-below _ (at .n) (omega arith) (c .if1 .left ∙ c .before .mark-byte .ensures)) ∙ at .inv .2)
 
-add-n : tie.Need-add-n
-add-n c = search needs
-
-cast-result : tie.Need-cast-result
-cast-result c = search needs
-
-returns-2 : tie.Need-returns-2
-unfolding found
-returns-2 c =
-    let s = c .before .before .before .before .before .args in
-    len-some (s .part .now) _ (s .max) _ _ (c .before .before .if1 .left) (c .before .last-other .ensures .0) (omega arith)
-    ∙ ap (upTo (s .part .now) (s .max)) (c .before .before .before .first-mark .ensures .0)
-
-returns-3 : tie.Need-returns-3
-unfolding found
-returns-3 c =
-    let s = c .before .before .before .before .before .args in
-    len-some (s .part .now) _ (s .max) _ _ (c .before .before .if1 .left) (c .before .last-other .ensures .0) (omega arith)
-    ∙ ap (upTo (s .part .now) (s .max)) (c .before .before .before .first-mark .ensures .0)
+returns-2 : tie.Need-returns-2 Inv-loop μ-loop
+returns-2 c = sym (found-none _ _ (omega arith)) ∙ c .before .loop .inv .2
 
 pub len-part-spec : {M : Type 1} → statement M
 len-part-spec =
     tie.close
     (tie.spec
-    add-first-mark
-    first-mark-requires
+    Inv-loop
+    μ-loop
+    loop-holds
+    cast-k
+    sub-k
+    shared-slice-read-if1
+    mark-byte-requires
     returns
-    sub-i
-    mul-n
-    last-other-requires
-    add-n
-    cast-result
-    returns-2
-    returns-3)
+    sub-n
+    loop-less
+    loop-again
+    returns-2)

@@ -3,18 +3,18 @@ use Prim.Native.Nat.{_-_, _≤_, _*_}
 use native.Mathlib.Omega.{arith}
 use lib.ListN.{length}
 use Rattle.marks.specs.Marks.{markedRun}
-use Rattle.marks.proofs.Laws.{length-marked, run-more, run-none}
+use Rattle.marks.proofs.Laws.{length-marked, run-all, run-more, run-none}
 use Rattle.marks.proofs.mark_words.Statement.{statement}
 use Rattle.marks.proofs.mark_words.Tie as tie
 
 abbrev Inv-loop : tie.InvT-loop
-Inv-loop part₀ lo hi i₀ part i = (length part ≡ length part₀) × (hi * 4 ≤ length part₀) × (markedRun part i (hi - i) ≡ markedRun part₀ lo (hi - lo))
+Inv-loop part₀ n i₀ part i = (length part ≡ length part₀) × (n * 4 ≤ length part₀) × (markedRun part i (n - i) ≡ markedRun part₀ 0 n)
 
 abbrev μ-loop : tie.MeasureT-loop
-μ-loop part₀ lo hi i₀ part i = hi - i
+μ-loop part₀ n i₀ part i = n - i
 
 loop-holds : tie.Need-loop-holds Inv-loop μ-loop
-loop-holds c = (refl, c .before .pre, refl)
+loop-holds c = (refl, c .before .pre, run-all _ _)
 
 mark-word-requires : tie.Need-mark-word-requires Inv-loop μ-loop
 mark-word-requires c κs = omega arith

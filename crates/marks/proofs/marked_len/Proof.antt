@@ -5,12 +5,6 @@ use Rattle.marks.proofs.Slot.{len-short, len-fits}
 use Rattle.marks.proofs.marked_len.Statement.{statement}
 use Rattle.marks.proofs.marked_len.Tie as tie
 
-add-n : tie.Need-add-n
-add-n c = search needs
-
-mul-n : tie.Need-mul-n
-mul-n c = search needs
-
 add-if1 : tie.Need-add-if1
 add-if1 c = search needs
 
@@ -40,8 +34,6 @@ pub marked-len-spec : {M : Type 1} → statement M
 marked-len-spec =
     tie.close
     (tie.spec
-    add-n
-    mul-n
     add-if1
     returns
     sub-len-part

@@ -3,9 +3,6 @@ use borrow.Author.Needs.{needs}
 use Rattle.ring.proofs.arrived.Statement.{statement}
 use Rattle.ring.proofs.arrived.Tie as tie
 
-shortest-requires : tie.Need-shortest-requires
-shortest-requires c κs = search needs
-
 has-room-out-requires : tie.Need-has-room-out-requires
 has-room-out-requires c κs = search needs
 
@@ -14,20 +11,19 @@ joined-requires c κs = search needs
 
 returns : tie.Need-returns
 unfolding arrivedOf
-returns c = simp (c .joined .ensures, c .before .if1 .taken, ← c .before .before .has-room-out .ensures, ← c .before .before .before .shortest .ensures)
+returns c = simp (c .joined .ensures, c .before .if1 .taken, ← c .before .before .has-room-out .ensures)
 
 turned-away-requires : tie.Need-turned-away-requires
 turned-away-requires c κs = search needs
 
 returns-2 : tie.Need-returns-2
 unfolding arrivedOf
-returns-2 c = simp (c .turned-away .ensures, c .before .if1 .left, ← c .before .before .has-room-out .ensures, ← c .before .before .before .shortest .ensures)
+returns-2 c = simp (c .turned-away .ensures, c .before .if1 .left, ← c .before .before .has-room-out .ensures)
 
 pub arrived-spec : {M : Type 1} → statement M
 arrived-spec =
     tie.close
     (tie.spec
-    shortest-requires
     has-room-out-requires
     joined-requires
     returns

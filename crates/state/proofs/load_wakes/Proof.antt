@@ -15,7 +15,7 @@ returns : tie.Need-returns
 unfolding view
 returns c =
     let st = c .before in
-    ap wakesOf (each-eq (wakesAs (c .read-wakes .result)) (numbers wakesWidths (gets (now (st .args .s)) 2816 0 5)) (c .read-wakes .ensures))
+    ap wakesOf (each-eq (wakesAs (c .read-wakes .result)) (numbers wakesWidths (gets (now (st .args .s)) 2752 0 5)) (c .read-wakes .ensures))
 
 pub load-wakes-spec : {M : Type 1} → statement M
 load-wakes-spec = tie.close (tie.spec read-wakes-requires returns)

@@ -28,7 +28,7 @@ returns : tie.Need-returns
 returns c =
     let st = c .before .before .before .before .before in (
       ap view (c .put16 .ensures) ∙ view-paced (now (st .args .s)) (c .before .before .before .sized-arg2 .given .0) (st .args .e) (st .args .v),
-      ap saved (c .put16 .ensures) ∙ saved-off (now (st .args .s)) (2615 + st .args .e % 16 * 2) (digits 2 (st .args .v)) (omega arith),
+      ap saved (c .put16 .ensures) ∙ saved-off (now (st .args .s)) (2551 + st .args .e % 16 * 2) (digits 2 (st .args .v)) (omega arith),
     )
 
 pub store-paced-spec : {M : Type 1} → statement M

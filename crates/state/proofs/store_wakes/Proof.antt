@@ -19,7 +19,7 @@ returns : tie.Need-returns
 returns c =
     let st = c .before .before .before .before .before in (
       ap view (c .write-wakes .ensures) ∙ view-wakes (now (st .args .s)) (c .before .before .before .sized-arg2 .given .0) (st .args .r),
-      ap saved (c .write-wakes .ensures) ∙ saved-off (now (st .args .s)) 2816 (bytes wakesWidths (wakesAs (st .args .r))) (omega arith),
+      ap saved (c .write-wakes .ensures) ∙ saved-off (now (st .args .s)) 2752 (bytes wakesWidths (wakesAs (st .args .r))) (omega arith),
     )
 
 pub store-wakes-spec : {M : Type 1} → statement M

@@ -12,8 +12,17 @@ put8x5-requires c κs = search needs
 put8x5-requires-2 : tie.Need-put8x5-requires-2
 put8x5-requires-2 c κs = search needs
 
-put16x5-requires : tie.Need-put16x5-requires
-put16x5-requires c κs = search needs
+put16-requires : tie.Need-put16-requires
+put16-requires c κs = search needs
+
+put16-requires-2 : tie.Need-put16-requires-2
+put16-requires-2 c κs = search needs
+
+put16-requires-3 : tie.Need-put16-requires-3
+put16-requires-3 c κs = search needs
+
+put16-requires-4 : tie.Need-put16-requires-4
+put16-requires-4 c κs = search needs
 
 put32-requires : tie.Need-put32-requires
 put32-requires c κs = search needs
@@ -26,14 +35,17 @@ put32-requires-3 c κs = search needs
 
 returns : tie.Need-returns
 returns c =
-    let st = c .before .before .before .before .before .before .before .before .before .before .before .before in
+    let st = c .before .before .before .before .before .before .before .before .before .before .before .before .before .before .before .before .before .before in
     let left = rest (st .args .o) (bytes epWidths (epAs (st .args .r))) in
     c .put323 .ensures
-    ∙ ap (left 28) (c .before .before .put322 .ensures)
-    ∙ ap (left 24) (c .before .before .before .before .put32 .ensures)
-    ∙ ap (left 20) (c .before .before .before .before .before .before .put16x5 .ensures)
-    ∙ ap (left 10) (c .before .before .before .before .before .before .before .before .put8x52 .ensures)
-    ∙ ap (left 5) (c .before .before .before .before .before .before .before .before .before .before .put8x5 .ensures)
+    ∙ ap (left 26) (c .before .before .put322 .ensures)
+    ∙ ap (left 22) (c .before .before .before .before .put32 .ensures)
+    ∙ ap (left 18) (c .before .before .before .before .before .before .put164 .ensures)
+    ∙ ap (left 16) (c .before .before .before .before .before .before .before .before .put163 .ensures)
+    ∙ ap (left 14) (c .before .before .before .before .before .before .before .before .before .before .put162 .ensures)
+    ∙ ap (left 12) (c .before .before .before .before .before .before .before .before .before .before .before .before .put16 .ensures)
+    ∙ ap (left 10) (c .before .before .before .before .before .before .before .before .before .before .before .before .before .before .put8x52 .ensures)
+    ∙ ap (left 5) (c .before .before .before .before .before .before .before .before .before .before .before .before .before .before .before .before .put8x5 .ensures)
 
 pub write-ep-spec : {M : Type 1} → statement M
 write-ep-spec =
@@ -41,7 +53,10 @@ write-ep-spec =
     (tie.spec
     put8x5-requires
     put8x5-requires-2
-    put16x5-requires
+    put16-requires
+    put16-requires-2
+    put16-requires-3
+    put16-requires-4
     put32-requires
     put32-requires-2
     put32-requires-3

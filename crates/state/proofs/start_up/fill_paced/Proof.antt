@@ -50,7 +50,7 @@ loop-again c =
       (
         ap view e ∙ view-paceds (at .s) (c .before .before .before .sized-arg2 .given .0) (at .k) 0x1800 (omega arith)
             ∙ ap (λ (d : Driver). withPaced d (set (d .paced) (at .k) 0x1800)) (at .inv .1 .0) ∙ ap (withPaced w) (filled-first (w .paced) (at .k) 0x1800),
-        ap saved e ∙ saved-off (at .s) (2615 + (at .k) * 2) (digits 2 0x1800) (omega arith) ∙ at .inv .1 .1,
+        ap saved e ∙ saved-off (at .s) (2551 + (at .k) * 2) (digits 2 0x1800) (omega arith) ∙ at .inv .1 .1,
       ),
     )
 
