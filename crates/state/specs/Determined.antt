@@ -14,12 +14,12 @@ use Rattle.regs.specs.declared.Dir.{Dir}
 use Rattle.state.specs.declared.EpState.{EpState}
 use Rattle.state.specs.Codec as codec
 use Rattle.state.specs.Driver.{Driver, noEp, noRequest, epOn, withOn}
-use Rattle.state.specs.State.{epIn, allocatorIn, globalsIn, wakesIn, requestIn, controlIn, savedIn, view, saved}
+use Rattle.state.specs.State.{epIn, allocatorIn, globalsIn, requestIn, controlIn, savedIn, view, saved}
 use Rattle.state.specs.Laws.{withOn-back}
 
 -- a state's bytes
 pub record Bytes (xs : List ℕ) : Type 0 where
-  pub long : length xs ≡ 2843
+  pub long : length xs ≡ 2903
   pub small : (i : ℕ) → getD xs i 0 < 256
 
 -- two runs in a row
@@ -29,17 +29,18 @@ meet xs ys a b c p q i l m = ⊎-elim (λ (h : i < b). p i l h) (λ (h : b ≤ i
 pub determined : (xs ys : List ℕ) → Bytes xs → Bytes ys → view ys ≡ view xs → saved ys ≡ saved xs → ys ≡ xs
 unfolding view saved
 determined xs ys x y v s =
-    let all : Same xs ys 0 2843 =
-    meet xs ys 0 1024 2843 (table-tells xs ys (x .small) (y .small) epIn 0 32 32 noEp (omega arith) (λ bs cs l m p q e. tells-numbers codec.epWidths bs cs l m p q (ap codec.epAs e)) (ap (λ (d : Driver). d .eps) v))
-    (meet xs ys 1024 2048 2843 (table-tells xs ys (x .small) (y .small) number 1024 512 2 0 (omega arith) (tells-number 2) (ap (λ (d : Driver). d .lens) v))
-    (meet xs ys 2048 2560 2843 (table-tells xs ys (x .small) (y .small) number 2048 256 2 0 (omega arith) (tells-number 2) (ap (λ (d : Driver). d .stamps) v))
-    (meet xs ys 2560 2597 2843 (one-tells xs ys (x .small) (y .small) globalsIn 2560 37 (λ bs cs l m p q e. tells-numbers codec.globalsWidths bs cs l m p q (ap codec.globalsAs e)) (ap (λ (d : Driver). d .globals) v))
-    (meet xs ys 2597 2615 2843 (one-tells xs ys (x .small) (y .small) allocatorIn 2597 18 (λ bs cs l m p q e. tells-numbers codec.allocatorWidths bs cs l m p q (ap codec.allocatorAs e)) (ap (λ (d : Driver). d .allocator) v))
-    (meet xs ys 2615 2647 2843 (table-tells xs ys (x .small) (y .small) number 2615 16 2 0 (omega arith) (tells-number 2) (ap (λ (d : Driver). d .paced) v))
-    (meet xs ys 2647 2807 2843 (table-tells xs ys (x .small) (y .small) requestIn 2647 32 5 noRequest (omega arith) (λ bs cs l m p q e. tells-numbers codec.requestWidths bs cs l m p q (ap codec.requestAs e)) (ap (λ (d : Driver). d .requests) v))
-    (meet xs ys 2807 2816 2843 (one-tells xs ys (x .small) (y .small) controlIn 2807 9 (λ bs cs l m p q e. tells-numbers codec.controlWidths bs cs l m p q (ap codec.controlAs e)) (ap (λ (d : Driver). d .control) v))
-    (meet xs ys 2816 2821 2843 (one-tells xs ys (x .small) (y .small) wakesIn 2816 5 (λ bs cs l m p q e. tells-numbers codec.wakesWidths bs cs l m p q (ap codec.wakesAs e)) (ap (λ (d : Driver). d .wakes) v))
-    (one-tells xs ys (x .small) (y .small) savedIn 2821 22 (λ bs cs l m p q e. tells-numbers codec.savedWidths bs cs l m p q (ap codec.savedAs e)) s))))))))) in
+    let all : Same xs ys 0 2903 =
+    meet xs ys 0 1024 2903 (table-tells xs ys (x .small) (y .small) epIn 0 32 32 noEp (omega arith) (λ bs cs l m p q e. tells-numbers codec.epWidths bs cs l m p q (ap codec.epAs e)) (ap (λ (d : Driver). d .eps) v))
+    (meet xs ys 1024 2048 2903 (table-tells xs ys (x .small) (y .small) number 1024 512 2 0 (omega arith) (tells-number 2) (ap (λ (d : Driver). d .lens) v))
+    (meet xs ys 2048 2560 2903 (table-tells xs ys (x .small) (y .small) number 2048 256 2 0 (omega arith) (tells-number 2) (ap (λ (d : Driver). d .stamps) v))
+    (meet xs ys 2560 2597 2903 (one-tells xs ys (x .small) (y .small) globalsIn 2560 37 (λ bs cs l m p q e. tells-numbers codec.globalsWidths bs cs l m p q (ap codec.globalsAs e)) (ap (λ (d : Driver). d .globals) v))
+    (meet xs ys 2597 2615 2903 (one-tells xs ys (x .small) (y .small) allocatorIn 2597 18 (λ bs cs l m p q e. tells-numbers codec.allocatorWidths bs cs l m p q (ap codec.allocatorAs e)) (ap (λ (d : Driver). d .allocator) v))
+    (meet xs ys 2615 2647 2903 (table-tells xs ys (x .small) (y .small) number 2615 16 2 0 (omega arith) (tells-number 2) (ap (λ (d : Driver). d .paced) v))
+    (meet xs ys 2647 2807 2903 (table-tells xs ys (x .small) (y .small) requestIn 2647 32 5 noRequest (omega arith) (λ bs cs l m p q e. tells-numbers codec.requestWidths bs cs l m p q (ap codec.requestAs e)) (ap (λ (d : Driver). d .requests) v))
+    (meet xs ys 2807 2816 2903 (one-tells xs ys (x .small) (y .small) controlIn 2807 9 (λ bs cs l m p q e. tells-numbers codec.controlWidths bs cs l m p q (ap codec.controlAs e)) (ap (λ (d : Driver). d .control) v))
+    (meet xs ys 2816 2817 2903 (one-tells xs ys (x .small) (y .small) number 2816 1 (tells-number 1) (ap (λ (d : Driver). d .wakes .count) v))
+    (meet xs ys 2817 2881 2903 (table-tells xs ys (x .small) (y .small) number 2817 64 1 0 (omega arith) (tells-number 1) (ap (λ (d : Driver). d .wakes .codes) v))
+    (one-tells xs ys (x .small) (y .small) savedIn 2881 22 (λ bs cs l m p q e. tells-numbers codec.savedWidths bs cs l m p q (ap codec.savedAs e)) s)))))))))) in
     ext-getD 0 ys xs (y .long ∙ sym (x .long)) (λ i b. all i (omega arith) (omega (arith, y .long)))
 
 -- an endpoint's record, stored as it was loaded; the other records likewise, by their laws `…-back`

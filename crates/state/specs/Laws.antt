@@ -22,6 +22,7 @@ pub record Sized (d : Driver) : Type 0 where
   pub stamps : length (d .stamps) ≡ 256
   pub paced : length (d .paced) ≡ 16
   pub requests : length (d .requests) ≡ 32
+  pub codes : length (d .wakes .codes) ≡ 64
 
 pub view-sized : (xs : List ℕ) → Sized (view xs)
 unfolding view
@@ -31,6 +32,7 @@ view-sized xs = record {
   stamps = length-tab (λ k. number (gets xs (2048 + k * 2) 0 2)) 256;
   paced = length-tab (λ k. number (gets xs (2615 + k * 2) 0 2)) 16;
   requests = length-tab (λ k. requestIn (gets xs (2647 + k * 5) 0 5)) 32;
+  codes = length-tab (λ k. number (gets xs (2817 + k * 1) 0 1)) 64;
 }
 
 pub key-lt : (dir : Dir) (e : ℕ) → key dir e < 32
@@ -147,4 +149,4 @@ module _ (d : Driver) (e : ℕ) where
 -- all bytes 0: before the first start-up, and nothing is under way
 pub before-start : (xs : List ℕ) → ((i : ℕ) → getD xs i 0 ≡ 0) → (view xs .globals .stage ≡ 0) × (saved xs .tag ≡ 0)
 unfolding view saved
-before-start xs h = (omega (arith, h 2560), omega (arith, h 2821))
+before-start xs h = (omega (arith, h 2560), omega (arith, h 2881))
