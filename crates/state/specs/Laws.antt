@@ -22,7 +22,6 @@ pub record Sized (d : Driver) : Type 0 where
   pub stamps : length (d .stamps) ≡ 256
   pub paced : length (d .paced) ≡ 16
   pub requests : length (d .requests) ≡ 32
-  pub codes : length (d .wakes .codes) ≡ 64
 
 pub view-sized : (xs : List ℕ) → Sized (view xs)
 unfolding view
@@ -32,8 +31,12 @@ view-sized xs = record {
   stamps = length-tab (λ k. number (gets xs (2048 + k * 2) 0 2)) 256;
   paced = length-tab (λ k. number (gets xs (2615 + k * 2) 0 2)) 16;
   requests = length-tab (λ k. requestIn (gets xs (2647 + k * 5) 0 5)) 32;
-  codes = length-tab (λ k. number (gets xs (2817 + k * 1) 0 1)) 64;
 }
+
+-- room for 64 wake-ups
+pub view-codes : (xs : List ℕ) → length (view xs .wakes .codes) ≡ 64
+unfolding view
+view-codes xs = length-tab (λ k. number (gets xs (2817 + k * 1) 0 1)) 64
 
 pub key-lt : (dir : Dir) (e : ℕ) → key dir e < 32
 unfolding key

@@ -27,8 +27,7 @@ returns : tie.Need-returns
 returns c =
     let d = view (now (c .before .before .before .before .before .before .before .args .s)) in
     let n = c .before .before .before .before .before .woken-count in
-    let a = c .before .before .before .before .before .before .before .args .code in
-    (
+    let a = c .before .before .before .before .before .before .before .args .code in (
       c .store-count .ensures .0 ∙ ap (λ (x : Driver). withWakes x (withCount (x .wakes) (n .result + 1))) (c .before .before .store-code .ensures .0)
           ∙ ap (λ (k : ℕ). withWakes d (withCount (withCodes (d .wakes) (set (d .wakes .codes) k a)) (k + 1))) (n .ensures)
           ∙ ap (withWakes d) (sym (woken-room a (d .wakes) (omega (arith, sym (n .ensures), c .before .before .before .before .if1 .taken)))),
