@@ -6,7 +6,6 @@ use Rattle.regs.specs.declared.Reg.{Reg}
 use Rattle.regs.specs.declared.Reg.the-variants.{IntFg, IntSt, MisSt, RxLen, FrameNo, Ctrl, IntEn, DevAd, HostCtrl, EpConfig, EpType, EpBufMod, EpMaxLen, EpTLen, EpRxCtrl, EpTxCtrl}
 use Rattle.regs.specs.declared.Access.{Access}
 use Rattle.regs.specs.declared.Access.the-variants.{Read, Write, Receive, Transmit, Ep0Dma, Wait, Callback}
-use Rattle.state.specs.declared.Wakes.{Wakes}
 use Rattle.way.specs.declared.Step.{Step}
 use Rattle.way.specs.declared.Step.the-variants.{Refused, Asks, Ends, NotYet, Done, Setup, Shown}
 
@@ -48,7 +47,7 @@ ofKind k w =
     (cond (eqb k 2) (Asks (writeOf (byteAt w 8) (byteAt w 16) (w / 2 ^ 32)))
     (cond (eqb k 3) (Asks (Wait (byteAt w 8)))
     (cond (eqb k 4) (Asks Callback)
-    (cond (eqb k 5) (Ends (halfAt w 8) (record { outs = halfAt w 40; ins = halfAt w 24; bus = w / 2 ^ 56 }))
+    (cond (eqb k 5) (Ends (halfAt w 8) (byteAt w 24))
     (cond (eqb k 6) NotYet
     (cond (eqb k 7) (Done (halfAt w 8))
     (Shown (w / 2 ^ 32) (halfAt w 8) 0))))))))
@@ -61,7 +60,7 @@ stepOf w = ofKind (w % 2 ^ 4) w
 abbrev pub spoken : Step → Step
 spoken (Refused n) = Refused n
 spoken (Asks q) = Asks q
-spoken (Ends n w) = Ends n w
+spoken (Ends n k) = Ends n k
 spoken NotYet = NotYet
 spoken (Done n) = Done n
 spoken (Setup low high) = Done 8
@@ -77,13 +76,13 @@ AccessFits (Ep0Dma x) = x < 2 ^ 32
 AccessFits (Wait n) = n < 2 ^ 8
 AccessFits Callback = Unit
 
-abbrev pub EndFits : ℕ → Wakes → Type 0
-EndFits n w = (n < 2 ^ 16) × (w .ins < 2 ^ 16) × (w .outs < 2 ^ 16) × (w .bus < 2 ^ 8)
+abbrev pub EndFits : ℕ → ℕ → Type 0
+EndFits n k = (n < 2 ^ 16) × (k < 2 ^ 8)
 
 abbrev pub Fits : Step → Type 0
 Fits (Refused n) = n < 2 ^ 8
 Fits (Asks q) = AccessFits q
-Fits (Ends n w) = EndFits n w
+Fits (Ends n k) = EndFits n k
 Fits NotYet = Unit
 Fits (Done n) = n < 2 ^ 16
 Fits (Setup low high) = Unit {0}

@@ -4,7 +4,6 @@ use Prim.Native.Nat.{ℕ, _+_, _*_, _^_}
 use Rattle.regs.specs.declared.Access.{Access}
 use Rattle.regs.specs.declared.Access.the-variants.{Read, Write, Receive, Transmit, Ep0Dma, Wait, Callback}
 use Rattle.regs.specs.Registers.{numberOf}
-use Rattle.state.specs.declared.Wakes.{Wakes}
 use Rattle.way.specs.declared.Step.{Step}
 use Rattle.way.specs.declared.Step.the-variants.{Refused, Asks, Ends, NotYet, Done, Setup, Shown}
 use Rattle.answer_word.specs.Parts.{stepOf, spoken}
@@ -27,9 +26,9 @@ accessWord (Ep0Dma x) = writeWord 12 0 x
 accessWord (Wait microseconds) = 3 + microseconds * 2 ^ 8
 accessWord Callback = 4
 
--- kind 5: result 8-23; wake-ups: 24-39 IN 0-15, 40-55 OUT 0-15, 56 bus
-unfoldable pub endWord : ℕ → Wakes → ℕ
-endWord n w = 5 + n * 2 ^ 8 + w .ins * 2 ^ 24 + w .outs * 2 ^ 40 + w .bus * 2 ^ 56
+-- kind 5: result 8-23, how many wake-ups 24-31; their list is asked for by a call of its own
+unfoldable pub endWord : ℕ → ℕ → ℕ
+endWord n k = 5 + n * 2 ^ 8 + k * 2 ^ 24
 
 -- kind 7: length 8-23
 abbrev pub doneWord : ℕ → ℕ
@@ -43,7 +42,7 @@ shownWord at n = 8 + n * 2 ^ 8 + at * 2 ^ 32
 unfoldable pub wordOf : Step → ℕ
 wordOf (Refused n) = n * 2 ^ 8
 wordOf (Asks q) = accessWord q
-wordOf (Ends n w) = endWord n w
+wordOf (Ends n k) = endWord n k
 wordOf NotYet = 6
 wordOf (Done n) = doneWord n
 wordOf (Setup low high) = doneWord 8

@@ -7,7 +7,6 @@ use Rattle.regs.specs.declared.Reg.the-variants.{IntFg, IntSt, MisSt, RxLen, Fr
 use Rattle.regs.specs.Registers.{numberOf}
 use Rattle.regs.specs.declared.Access.{Access}
 use Rattle.regs.specs.declared.Access.the-variants.{Read, Write, Receive, Transmit, Ep0Dma, Wait, Callback}
-use Rattle.state.specs.declared.Wakes.{Wakes}
 use Rattle.way.specs.declared.Step.{Step}
 use Rattle.way.specs.declared.Step.the-variants.{Refused, Asks, Ends, NotYet, Done, Setup, Shown}
 use Rattle.answer_word.specs.Word.{readWord, writeWord, accessWord, endWord, doneWord, shownWord, wordOf, Says}
@@ -104,36 +103,17 @@ refused-word n h =
     let b : byteAt (n * 2 ^ 8) 8 ≡ n = omega arith in
     ap (λ k. ofKind k (n * 2 ^ 8)) k ∙ ap Refused b
 
--- of the end's word: what stands from bit 8, 24, 40 on
-module _ (n ins outs bus : ℕ) (hn : n < 2 ^ 16) (hi : ins < 2 ^ 16) (ho : outs < 2 ^ 16) where
-  abbrev ending : ℕ
-  ending = 5 + n * 2 ^ 8 + ins * 2 ^ 24 + outs * 2 ^ 40 + bus * 2 ^ 56
-
-  from-8 : ending / 2 ^ 8 ≡ n + (ins + (outs + bus * 2 ^ 16) * 2 ^ 16) * 2 ^ 16
-  from-8 = omega arith
-
-  from-24 : ending / 2 ^ 24 ≡ ins + (outs + bus * 2 ^ 16) * 2 ^ 16
-  from-24 = omega arith
-
-  from-40 : ending / 2 ^ 40 ≡ outs + bus * 2 ^ 16
-  from-40 = omega arith
-
-  from-56 : ending / 2 ^ 56 ≡ bus
-  from-56 = omega arith
-
 -- the lowest half word
 low-half : (n m : ℕ) → n < 2 ^ 16 → (n + m * 2 ^ 16) % 2 ^ 16 ≡ n
 low-half n m h = omega arith
 
-end-word : (n : ℕ) (w : Wakes) → n < 2 ^ 16 → w .ins < 2 ^ 16 → w .outs < 2 ^ 16 → stepOf (endWord n w) ≡ Ends n w
+end-word : (n k : ℕ) → n < 2 ^ 16 → k < 2 ^ 8 → stepOf (endWord n k) ≡ Ends n k
 unfolding stepOf endWord
-end-word n w hn hi ho =
-    let k : endWord n w % 2 ^ 4 ≡ 5 = omega arith in
-    let r : halfAt (endWord n w) 8 ≡ n = ap (λ m. m % 2 ^ 16) (from-8 n (w .ins) (w .outs) (w .bus) hn hi ho) ∙ low-half n _ hn in
-    let a : halfAt (endWord n w) 24 ≡ w .ins = ap (λ m. m % 2 ^ 16) (from-24 n (w .ins) (w .outs) (w .bus) hn hi ho) ∙ low-half (w .ins) _ hi in
-    let o : halfAt (endWord n w) 40 ≡ w .outs = ap (λ m. m % 2 ^ 16) (from-40 n (w .ins) (w .outs) (w .bus) hn hi ho) ∙ low-half (w .outs) _ ho in
-    let b : endWord n w / 2 ^ 56 ≡ w .bus = from-56 n (w .ins) (w .outs) (w .bus) hn hi ho in
-    ap (λ k. ofKind k (endWord n w)) k ∙ (λ i. Ends (r i) (record { outs = o i; ins = a i; bus = b i }))
+end-word n k hn hk =
+    let s : endWord n k % 2 ^ 4 ≡ 5 = omega arith in
+    let r : halfAt (endWord n k) 8 ≡ n = omega arith in
+    let c : byteAt (endWord n k) 24 ≡ k = omega arith in
+    ap (λ s. ofKind s (endWord n k)) s ∙ (λ i. Ends (r i) (c i))
 
 done-word : (n : ℕ) → n < 2 ^ 16 → stepOf (doneWord n) ≡ Done n
 unfolding stepOf
@@ -166,7 +146,7 @@ step-word : (step : Step) → Fits step → stepOf (wordOf step) ≡ spoken step
 unfolding wordOf stepOf
 step-word (Refused n) h = refused-word n h
 step-word (Asks q) h = access-word q h
-step-word (Ends n w) h = end-word n w (h .0) (h .1) (h .2)
+step-word (Ends n k) h = end-word n k (h .0) (h .1)
 step-word NotYet h = refl
 step-word (Done n) h = done-word n h
 step-word (Setup low high) h = done-word 8 (omega arith)

@@ -1,7 +1,6 @@
 // A call's answer as one word of 64 bits.
 use regs::Access;
 use regs::registers::number;
-use state::Wakes;
 use way::Step;
 ghost use mathlib.Core.Path.{_≡_};
 ghost use Rattle.answer_word.specs.Parts.{AccessFits, EndFits};
@@ -34,15 +33,11 @@ fn access_word(q: Access) -> u64
     }
 }
 
-fn end_word(n: u16, w: Wakes) -> u64
-    ensures { λ r. ⌜ r ≡ endWord n w ⌝ }
-    ensures { λ _. ⌜ EndFits n w ⌝ }
+fn end_word(n: u16, k: u8) -> u64
+    ensures { λ r. ⌜ r ≡ endWord n k ⌝ }
+    ensures { λ _. ⌜ EndFits n k ⌝ }
 {
-    5
-        + n as u64 * 0x100
-        + w.ins as u64 * 0x100_0000
-        + w.outs as u64 * 0x100_0000_0000
-        + w.bus as u64 * 0x100_0000_0000_0000
+    5 + n as u64 * 0x100 + k as u64 * 0x100_0000
 }
 
 fn done_word(n: u16) -> u64
@@ -65,7 +60,7 @@ pub fn word_of(step: Step) -> u64
     match step {
         Step::Refused(n) => n as u64 * 0x100,
         Step::Asks(q) => access_word(q),
-        Step::Ends(n, w) => end_word(n, w),
+        Step::Ends(n, k) => end_word(n, k),
         Step::NotYet => 6,
         Step::Done(n) => done_word(n),
         Step::Setup(_low, _high) => done_word(8),

@@ -14,7 +14,7 @@ ghost use Rattle.way.specs.Under.{machineOf, drive, answerOf, lentOr};
 
 // `setup` (control.rs 70-80).
 pub fn begin_setup(s: &mut [u8; STATE_LEN]) -> Step
-    ensures { λ r. ⌜ ((a b : List ℕ) → (answerOf r [], machineOf (now (s .exit)) b) ≡ drive (begin (other BeginSetup)) (machineOf (now (s .entry)) a) b) ⌝ }
+    ensures { λ r. ⌜ ((a b : List ℕ) → (answerOf r [] (view (now (s .exit))), machineOf (now (s .exit)) b) ≡ drive (begin (other BeginSetup)) (machineOf (now (s .entry)) a) b) ⌝ }
 {
     if is_idle(s) {
         let x = control::begin_setup(s);
@@ -25,7 +25,7 @@ pub fn begin_setup(s: &mut [u8; STATE_LEN]) -> Step
 
 // `data_out` (82-115), into a slice of n bytes.
 pub fn begin_data_out(s: &mut [u8; STATE_LEN], n: u32, first: bool) -> Step
-    ensures { λ r. ⌜ ((a b : List ℕ) → (answerOf r [], machineOf (now (s .exit)) b) ≡ drive (begin (other (BeginDataOut n first))) (machineOf (now (s .entry)) a) b) ⌝ }
+    ensures { λ r. ⌜ ((a b : List ℕ) → (answerOf r [] (view (now (s .exit))), machineOf (now (s .exit)) b) ≡ drive (begin (other (BeginDataOut n first))) (machineOf (now (s .entry)) a) b) ⌝ }
 {
     if is_idle(s) {
         let x = control::begin_data_out(s, n, first);
@@ -42,7 +42,7 @@ pub fn begin_data_in(
     first: bool,
     last: bool,
 ) -> Step
-    ensures { λ r. ⌜ ((a : List ℕ) → (answerOf r [], machineOf (now (s .exit)) (lentOr (view (now (s .entry))) (now (slots .entry)) (now (slots .exit)) a)) ≡ drive (begin (slotted (BeginDataIn (now (bytes .entry)) first last))) (machineOf (now (s .entry)) a) (now (slots .entry))) ⌝ }
+    ensures { λ r. ⌜ ((a : List ℕ) → (answerOf r [] (view (now (s .exit))), machineOf (now (s .exit)) (lentOr (view (now (s .entry))) (now (slots .entry)) (now (slots .exit)) a)) ≡ drive (begin (slotted (BeginDataIn (now (bytes .entry)) first last))) (machineOf (now (s .entry)) a) (now (slots .entry))) ⌝ }
 {
     if slots_fit(s, slots) {
         if is_idle(s) {
@@ -56,7 +56,7 @@ pub fn begin_data_in(
 
 // `accept` (26-46, 163-166).
 pub fn begin_accept(s: &mut [u8; STATE_LEN]) -> Step
-    ensures { λ r. ⌜ ((a b : List ℕ) → (answerOf r [], machineOf (now (s .exit)) b) ≡ drive (begin (other BeginAccept)) (machineOf (now (s .entry)) a) b) ⌝ }
+    ensures { λ r. ⌜ ((a b : List ℕ) → (answerOf r [] (view (now (s .exit))), machineOf (now (s .exit)) b) ≡ drive (begin (other BeginAccept)) (machineOf (now (s .entry)) a) b) ⌝ }
 {
     if is_idle(s) {
         let x = control::begin_accept(s);
@@ -67,7 +67,7 @@ pub fn begin_accept(s: &mut [u8; STATE_LEN]) -> Step
 
 // `accept_set_address` (179-186).
 pub fn begin_accept_set_address(s: &mut [u8; STATE_LEN], address: u32) -> Step
-    ensures { λ r. ⌜ ((a b : List ℕ) → (answerOf r [], machineOf (now (s .exit)) b) ≡ drive (begin (other (BeginAcceptSetAddress address))) (machineOf (now (s .entry)) a) b) ⌝ }
+    ensures { λ r. ⌜ ((a b : List ℕ) → (answerOf r [] (view (now (s .exit))), machineOf (now (s .exit)) b) ≡ drive (begin (other (BeginAcceptSetAddress address))) (machineOf (now (s .entry)) a) b) ⌝ }
 {
     if is_idle(s) {
         let x = control::begin_accept_set_address(s, address);
@@ -78,7 +78,7 @@ pub fn begin_accept_set_address(s: &mut [u8; STATE_LEN], address: u32) -> Step
 
 // `reject` (168-177).
 pub fn begin_reject(s: &mut [u8; STATE_LEN]) -> Step
-    ensures { λ r. ⌜ ((a b : List ℕ) → (answerOf r [], machineOf (now (s .exit)) b) ≡ drive (begin (other BeginReject)) (machineOf (now (s .entry)) a) b) ⌝ }
+    ensures { λ r. ⌜ ((a b : List ℕ) → (answerOf r [] (view (now (s .exit))), machineOf (now (s .exit)) b) ≡ drive (begin (other BeginReject)) (machineOf (now (s .entry)) a) b) ⌝ }
 {
     if is_idle(s) {
         let x = control::begin_reject(s);

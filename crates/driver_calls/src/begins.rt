@@ -2,7 +2,6 @@ use iso_in::advance;
 use rows::is_number;
 use rows::low;
 use state::STATE_LEN;
-use state::Wakes;
 use way::Step;
 use way::halts::halted;
 use way::halts::halted_advance;
@@ -11,13 +10,14 @@ use way::rows::stop;
 ghost use mathlib.Core.Path.{_≡_};
 ghost use mathlib.Core.List.{List, []};
 ghost use Prim.Native.Nat.{ℕ};
+ghost use Rattle.state.specs.State.{view};
 ghost use Rattle.script.specs.Machine.{begin};
 ghost use Rattle.script.specs.Calls.{other, interrupt, Microframe, SetPaced, Advance};
 ghost use Rattle.way.specs.Under.{machineOf, drive, answerOf};
 
 // The current microframe number (mod.rs 236-238).
 pub fn begin_microframe(s: &mut [u8; STATE_LEN]) -> Step
-    ensures { λ r. ⌜ ((a b : List ℕ) → (answerOf r [], machineOf (now (s .exit)) b) ≡ drive (begin (other Microframe)) (machineOf (now (s .entry)) a) b) ⌝ }
+    ensures { λ r. ⌜ ((a b : List ℕ) → (answerOf r [] (view (now (s .exit))), machineOf (now (s .exit)) b) ≡ drive (begin (other Microframe)) (machineOf (now (s .entry)) a) b) ⌝ }
 {
     let n = stop(s, 2);
     if n == 0 {
@@ -29,20 +29,13 @@ pub fn begin_microframe(s: &mut [u8; STATE_LEN]) -> Step
 
 // Whether advance moves the endpoint on (mod.rs 308-317).
 pub fn set_paced(s: &mut [u8; STATE_LEN], e: u32, on: bool) -> Step
-    ensures { λ r. ⌜ ((a b : List ℕ) → (answerOf r [], machineOf (now (s .exit)) b) ≡ drive (begin (other (SetPaced e on))) (machineOf (now (s .entry)) a) b) ⌝ }
+    ensures { λ r. ⌜ ((a b : List ℕ) → (answerOf r [] (view (now (s .exit))), machineOf (now (s .exit)) b) ≡ drive (begin (other (SetPaced e on))) (machineOf (now (s .entry)) a) b) ⌝ }
 {
     let n = stop(s, 2);
     if n == 0 {
         if is_number(e) {
             driver::set_paced(s, low(e), on);
-            return Step::Ends(
-                0,
-                Wakes {
-                    outs: 0,
-                    ins: 0,
-                    bus: 0,
-                },
-            );
+            return Step::Ends(0, 0);
         }
         return Step::Refused(5);
     }
@@ -51,7 +44,7 @@ pub fn set_paced(s: &mut [u8; STATE_LEN], e: u32, on: bool) -> Step
 
 // `iso_in_advance` (mod.rs 323-340).
 pub fn begin_advance(s: &mut [u8; STATE_LEN], e: u32) -> Step
-    ensures { λ r. ⌜ ((a b : List ℕ) → (answerOf r [], machineOf (now (s .exit)) b) ≡ drive (begin (other (Advance e))) (machineOf (now (s .entry)) a) b) ⌝ }
+    ensures { λ r. ⌜ ((a b : List ℕ) → (answerOf r [] (view (now (s .exit))), machineOf (now (s .exit)) b) ≡ drive (begin (other (Advance e))) (machineOf (now (s .entry)) a) b) ⌝ }
 {
     let n = stop(s, 2);
     if n == 0 {
@@ -67,7 +60,7 @@ pub fn begin_advance(s: &mut [u8; STATE_LEN], e: u32) -> Step
 
 // `on_interrupt` (mod.rs 634-852).
 pub fn begin_interrupt(s: &mut [u8; STATE_LEN]) -> Step
-    ensures { λ r. ⌜ ((a b : List ℕ) → (answerOf r [], machineOf (now (s .exit)) b) ≡ drive (begin interrupt) (machineOf (now (s .entry)) a) b) ⌝ }
+    ensures { λ r. ⌜ ((a b : List ℕ) → (answerOf r [] (view (now (s .exit))), machineOf (now (s .exit)) b) ≡ drive (begin interrupt) (machineOf (now (s .entry)) a) b) ⌝ }
 {
     let n = stop(s, 2);
     if n == 0 {

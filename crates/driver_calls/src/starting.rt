@@ -9,6 +9,7 @@ ghost use mathlib.Core.Bool.{cond};
 ghost use mathlib.Core.List.{List, []};
 ghost use Prim.Native.Nat.{ℕ};
 ghost use lib.Dec.{eqb};
+ghost use Rattle.state.specs.State.{view};
 ghost use Rattle.script.specs.Machine.{begin, start};
 ghost use Rattle.script.specs.Calls.{other, Allocate, Start, startRow};
 ghost use Rattle.script.specs.Statics.{flag};
@@ -23,7 +24,7 @@ pub fn allocate(
     maximum: u32,
     interval: u32,
 ) -> Step
-    ensures { λ r. ⌜ ((a b : List ℕ) → (answerOf r [], machineOf (now (s .exit)) b) ≡ drive (begin (other (Allocate dir kind address maximum interval))) (machineOf (now (s .entry)) a) b) ⌝ }
+    ensures { λ r. ⌜ ((a b : List ℕ) → (answerOf r [] (view (now (s .exit))), machineOf (now (s .exit)) b) ≡ drive (begin (other (Allocate dir kind address maximum interval))) (machineOf (now (s .entry)) a) b) ⌝ }
 {
     let n = stop(s, 1);
     if n == 0 {
@@ -43,7 +44,7 @@ pub fn allocate(
 
 // EP0's start (mod.rs 1144-1178).
 pub fn start(s: &mut [u8; STATE_LEN], maximum: u32) -> Step
-    ensures { λ r. ⌜ ((a b : List ℕ) → (answerOf r [], machineOf (now (s .exit)) b) ≡ drive (begin (other (Start maximum))) (machineOf (now (s .entry)) a) b) ⌝ }
+    ensures { λ r. ⌜ ((a b : List ℕ) → (answerOf r [] (view (now (s .exit))), machineOf (now (s .exit)) b) ≡ drive (begin (other (Start maximum))) (machineOf (now (s .entry)) a) b) ⌝ }
 {
     let n = stop(s, 1);
     if n == 0 {
@@ -78,7 +79,7 @@ pub fn start_up(
     count: u32,
     callback: bool,
 ) -> Step
-    ensures { λ r. ⌜ ((a : List ℕ) → (answerOf r [], machineOf (now (s .exit)) (cond (eqb (startRow (configOf size count callback) (now (slots .entry))) 0) (now (slots .entry)) a)) ≡ drive (start (configOf size count callback)) (machineOf (now (s .entry)) a) (now (slots .entry))) ⌝ }
+    ensures { λ r. ⌜ ((a : List ℕ) → (answerOf r [] (view (now (s .exit))), machineOf (now (s .exit)) (cond (eqb (startRow (configOf size count callback) (now (slots .entry))) 0) (now (slots .entry)) a)) ≡ drive (start (configOf size count callback)) (machineOf (now (s .entry)) a) (now (slots .entry))) ⌝ }
 {
     if alloc::buffer::fits(slots.len() as u64, size, count) {
         if alloc::buffer::good_buffer(size, count) {

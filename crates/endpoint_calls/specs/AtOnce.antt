@@ -29,8 +29,8 @@ module _ (before after : List ℕ) (b : Buf) (o : Out St Answer) (r : Called) wh
   still-idle e i = ap (λ (x : Saved). isIdle (decode x)) e ∙ i
 
   -- a poll of a read or write
-  pub polled-idle : (step : Step) (n : Polled) (out : List ℕ) → ((u : Under) (d : Driver) (x s : List ℕ) → isIdle u ≡ true → (answerOf step x, machineAt u d s) ≡ halts (endpoint.polledAs n x d s)) → saved after ≡ saved before → isIdle (decode (saved before)) ≡ true → endpoint.polledAs n out (view after) b ≡ o
-      → (answerOf step out, machineOf after b) ≡ unless-busy (isIdle (decode (saved before)))
+  pub polled-idle : (step : Step) (n : Polled) (out : List ℕ) → ((u : Under) (d : Driver) (x s : List ℕ) → isIdle u ≡ true → (answerOf step x d, machineAt u d s) ≡ halts (endpoint.polledAs n x d s)) → saved after ≡ saved before → isIdle (decode (saved before)) ≡ true → endpoint.polledAs n out (view after) b ≡ o
+      → (answerOf step out (view after), machineOf after b) ≡ unless-busy (isIdle (decode (saved before)))
   polled-idle step n out h e i q =
       h (decode (saved after)) (view after) out b (still-idle e i)
       ∙ (ap halts q ∙ ap unless-busy (sym i))
@@ -40,10 +40,10 @@ module _ (before after : List ℕ) (d : Driver) (c b : Buf) (o : Out St Answer) 
   abbrev unless-stopped : Bool → Called
   unless-stopped x = cond x (besides (decode (saved before)) d c o) r
 
-  pub told-beside : (step : Step) (p : Packet) → ((s : List ℕ) → answerOf step s ≡ ended (packets.answerOf p s)) → saved after ≡ saved before → mayPass (decode (saved before)) ≡ true → packets.answered p (view after) b ≡ o
-      → (answerOf step b, machineOf after b) ≡ unless-stopped (mayPass (decode (saved before)))
+  pub told-beside : (step : Step) (p : Packet) → ((s : List ℕ) (x : Driver) → answerOf step s x ≡ ended (packets.answerOf p s)) → saved after ≡ saved before → mayPass (decode (saved before)) ≡ true → packets.answered p (view after) b ≡ o
+      → (answerOf step b (view after), machineOf after b) ≡ unless-stopped (mayPass (decode (saved before)))
   told-beside step p h e i q =
-      ap (λ (x : Ans Answer). (x, machineOf after b)) (h b)
+      ap (λ (x : Ans Answer). (x, machineOf after b)) (h b (view after))
       ∙ (ap (λ (x : Saved). (ended (packets.answerOf p b), machineAt (decode x) (view after) b)) e
       ∙ (sym (besides-ends (decode (saved before)) d (view after) c b (packets.answerOf p b))
       ∙ (ap (besides (decode (saved before)) d c) q ∙ ap unless-stopped (sym i))))

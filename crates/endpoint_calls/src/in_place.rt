@@ -1,7 +1,6 @@
 // Packets in place: the calls without accesses, which pass while an interrupt is under way. Rows 4, 5 and 9 to 14 are `packets`'. Of an answer that shows a packet the bytes are the slots'.
 use packets::Packet;
 use state::STATE_LEN;
-use state::Wakes;
 use way::Step;
 use way::rows::slots_fit;
 use way::saved::may_pass;
@@ -17,26 +16,19 @@ ghost use Rattle.way.specs.Under.{machineOf, drive, answerOf, lentOr};
 ghost use Rattle.endpoint_calls.specs.Shown.{ShownAt};
 
 fn told(p: Packet) -> Step
-    ensures { λ r. ⌜ ((b : List ℕ) → answerOf r b ≡ ended (packets.answerOf p b)) ⌝ }
+    ensures { λ r. ⌜ ((b : List ℕ) (d : Driver) → answerOf r b d ≡ ended (packets.answerOf p b)) ⌝ }
     ensures { λ r. ⌜ ((d : Driver) (e : ℕ) → packets.ShownAt p d e → ShownAt r d e) ⌝ }
 {
     match p {
         Packet::Refused(n) => Step::Refused(n),
         Packet::Shown(at, n, stamp) => Step::Shown(at, n, stamp),
-        Packet::Ok => Step::Ends(
-            0,
-            Wakes {
-                outs: 0,
-                ins: 0,
-                bus: 0,
-            },
-        ),
+        Packet::Ok => Step::Ends(0, 0),
     }
 }
 
 // `iso_out_take` (mod.rs 253-271), its first part.
 pub fn open(s: &mut [u8; STATE_LEN], slots: &[u8], e: u32) -> Step
-    ensures { λ r. ⌜ ((a : List ℕ) → (answerOf r (now (slots .entry)), machineOf (now (s .exit)) (lentOr (view (now (s .entry))) (now (slots .entry)) (now (slots .entry)) a)) ≡ drive (begin (aside (Open e))) (machineOf (now (s .entry)) a) (now (slots .entry))) ⌝ }
+    ensures { λ r. ⌜ ((a : List ℕ) → (answerOf r (now (slots .entry)) (view (now (s .exit))), machineOf (now (s .exit)) (lentOr (view (now (s .entry))) (now (slots .entry)) (now (slots .entry)) a)) ≡ drive (begin (aside (Open e))) (machineOf (now (s .entry)) a) (now (slots .entry))) ⌝ }
     ensures { λ r. ⌜ ShownAt r (view (now (s .exit))) e ⌝ }
 {
     if slots_fit(s, slots) {
@@ -51,7 +43,7 @@ pub fn open(s: &mut [u8; STATE_LEN], slots: &[u8], e: u32) -> Step
 
 // And its last.
 pub fn close(s: &mut [u8; STATE_LEN], e: u32) -> Step
-    ensures { λ r. ⌜ ((a b : List ℕ) → (answerOf r b, machineOf (now (s .exit)) b) ≡ drive (begin (aside (Close e))) (machineOf (now (s .entry)) a) b) ⌝ }
+    ensures { λ r. ⌜ ((a b : List ℕ) → (answerOf r b (view (now (s .exit))), machineOf (now (s .exit)) b) ≡ drive (begin (aside (Close e))) (machineOf (now (s .entry)) a) b) ⌝ }
 {
     if may_pass(s) {
         let x = packets::close(s, e);
@@ -62,7 +54,7 @@ pub fn close(s: &mut [u8; STATE_LEN], e: u32) -> Step
 
 // `iso_in_prime` (342-395).
 pub fn queue(s: &mut [u8; STATE_LEN], slots: &mut [u8], e: u32, bytes: &[u8]) -> Step
-    ensures { λ r. ⌜ ((a : List ℕ) → (answerOf r (now (slots .exit)), machineOf (now (s .exit)) (lentOr (view (now (s .entry))) (now (slots .entry)) (now (slots .exit)) a)) ≡ drive (begin (aside (Queue e (now (bytes .entry))))) (machineOf (now (s .entry)) a) (now (slots .entry))) ⌝ }
+    ensures { λ r. ⌜ ((a : List ℕ) → (answerOf r (now (slots .exit)) (view (now (s .exit))), machineOf (now (s .exit)) (lentOr (view (now (s .entry))) (now (slots .entry)) (now (slots .exit)) a)) ≡ drive (begin (aside (Queue e (now (bytes .entry))))) (machineOf (now (s .entry)) a) (now (slots .entry))) ⌝ }
 {
     if slots_fit(s, slots) {
         if may_pass(s) {

@@ -5,16 +5,16 @@ use Prim.Native.Nat.{ℕ, _+_, _*_}
 use Rattle.regs.specs.declared.Dir.{Dir}
 use Rattle.regs.specs.declared.Dir.the-variants.{Out, In}
 use Rattle.state.specs.Driver.{Driver, epOn, withOn, pacedOn, withPacedOn, requestOn, withRequestOn, withGlobals, withControl, withWakes}
+use Rattle.state.specs.Wakes.{none-woken, listed, all-woken}
 use Rattle.marks.specs.Copies.{bytesAt}
 use Rattle.script.specs.Tree as tree
-use Rattle.script.specs.Cells.{Cell, Val, globals-cell, wakes-cell, control-cell, allocator-cell, ep-cell, request-cell, paced-cell}
-use Rattle.script.specs.Script.{Script, Ops, run, Test, changed, waiting, room, opened, Look, marked, next-len, next-stamp, setup-word, Fetch, oldest, received, received0, Act, complete, reset-ring, set-enabled, fill, fill0, open-oldest, close-oldest, take-oldest, enqueue, allocate, allocate0, Hand, arrive, send, place, place0}
+use Rattle.script.specs.Cells.{Cell, Val, globals-cell, control-cell, allocator-cell, ep-cell, request-cell, paced-cell}
+use Rattle.script.specs.Script.{Script, Ops, run, Test, changed, waiting, room, opened, Look, marked, next-len, next-stamp, setup-word, Fetch, oldest, received, received0, gathered, Act, complete, reset-ring, set-enabled, fill, fill0, open-oldest, close-oldest, take-oldest, enqueue, allocate, allocate0, no-wakes, waken, Hand, arrive, send, place, place0}
 use Rattle.ops.specs.Records.{plainOf, merged, mergedGlobals, enabledOn, allocatedOn, allocatedEp0}
 use Rattle.ops.specs.Rings.{St, changedOn, markedOn, waitingOn, roomOn, openedOn, nextLen, nextStamp, oldestOn, wordAt, completeOn, emptiedOn, openOn, closeOn, takeOn, enqueueOn, filledOn, filledEp0, arriveOn, sendOn, sendAddr, placeOn, rowOn}
 
 abbrev pub getOn : (c : Cell) → St → Val c
 getOn globals-cell s = s .0 .globals
-getOn wakes-cell s = s .0 .wakes
 getOn control-cell s = s .0 .control
 getOn allocator-cell s = s .0 .allocator
 getOn (ep-cell d e) s = plainOf (epOn (s .0) d e)
@@ -24,7 +24,6 @@ getOn (paced-cell e) s = pacedOn (s .0) e
 -- the allocator is changed by allocation alone
 abbrev pub putOn : (c : Cell) → Val c → St → St
 putOn globals-cell v s = (withGlobals (s .0) (mergedGlobals (s .0 .globals) v), s .1)
-putOn wakes-cell v s = (withWakes (s .0) v, s .1)
 putOn control-cell v s = (withControl (s .0) v, s .1)
 putOn allocator-cell v s = s
 putOn (ep-cell d e) v s = (withOn (s .0) d e (merged (epOn (s .0) d e) v), s .1)
@@ -47,6 +46,7 @@ abbrev pub fetchOf : Fetch → St → List ℕ
 fetchOf (oldest e) s = oldestOn (s .0) e (s .1)
 fetchOf (received e n) s = bytesAt (s .1) (epOn (s .0) Out e .base) n
 fetchOf (received0 n) s = bytesAt (s .1) (s .0 .globals .«ep0_buf») n
+fetchOf gathered s = listed (s .0 .wakes)
 
 abbrev pub actOn : Act → St → St
 actOn (complete e) s = (completeOn (s .0) e, s .1)
@@ -60,6 +60,8 @@ actOn (take-oldest e) s = (takeOn (s .0) e, s .1)
 actOn (enqueue e bytes) s = enqueueOn e bytes s
 actOn (allocate d kind address maximum interval) s = (allocatedOn (s .0) d kind address maximum interval, s .1)
 actOn (allocate0 maximum) s = (allocatedEp0 (s .0) maximum, s .1)
+actOn no-wakes s = (withWakes (s .0) none-woken, s .1)
+actOn (waken codes) s = (withWakes (s .0) (all-woken codes (s .0 .wakes)), s .1)
 
 abbrev pub handOn : Hand → St → ℕ × St
 handOn (arrive e n) s = arriveOn e n s

@@ -5,43 +5,53 @@ use regs::Dir;
 use regs::enables::out_enabled;
 use state::Globals;
 use state::STATE_LEN;
-use state::Wakes;
 ghost use mathlib.Core.Path.{_≡_};
 ghost use mathlib.Core.Bool.{true, false};
 ghost use Rattle.bits.specs.Bit.{isSet};
 ghost use Rattle.state.specs.Driver.{withWakes};
 ghost use Rattle.state.specs.State.{view, saved};
-ghost use Rattle.state.specs.Wakes.{woken};
+ghost use Rattle.state.specs.Wakes.{wakeCode, busCode, codesFrom, every-endpoint, woken, all-woken};
 ghost use Prim.Native.Nat.{_≤_, _%_};
 ghost use Rattle.alloc.specs.Alloc.{allocateOf, allocateEp0Of};
-ghost use Rattle.script.specs.Statics.{all-woken, isoOuts};
+ghost use Rattle.script.specs.Statics.{isoOuts};
 ghost use Rattle.ops.specs.Records.{isoOut, enabledOn, withSets, recordGiven, setsGiven, givenTo, allocatedOn, startedWith, allocatedEp0};
 ghost use Rattle.ops.specs.Rings.{placeOn, typeStep, configStep};
 
 pub fn wake(s: &mut [u8; STATE_LEN], dir: Dir, e: u8)
-    ensures { λ _. ⌜ view (now (s .exit)) ≡ withWakes (view (now (s .entry))) (woken dir e (view (now (s .entry)) .wakes)) ⌝ }
+    ensures { λ _. ⌜ view (now (s .exit)) ≡ withWakes (view (now (s .entry))) (woken (wakeCode dir e) (view (now (s .entry)) .wakes)) ⌝ }
     ensures { λ _. ⌜ saved (now (s .exit)) ≡ saved (now (s .entry)) ⌝ }
 {
-    match dir {
-        Dir::Out => state::wake_out(s, e),
-        Dir::In => state::wake_in(s, e),
+    let code = state::wake_code(dir, e);
+    state::wake(s, code);
+}
+
+pub fn wake_bus(s: &mut [u8; STATE_LEN])
+    ensures { λ _. ⌜ view (now (s .exit)) ≡ withWakes (view (now (s .entry))) (woken busCode (view (now (s .entry)) .wakes)) ⌝ }
+    ensures { λ _. ⌜ saved (now (s .exit)) ≡ saved (now (s .entry)) ⌝ }
+{
+    state::wake(s, 32);
+}
+
+// The sixteen codes from a.
+fn wake_sixteen(s: &mut [u8; STATE_LEN], a: u8)
+    requires { ⌜ a ≤ 16 ⌝ }
+    ensures { λ _. ⌜ view (now (s .exit)) ≡ withWakes (view (now (s .entry))) (all-woken (codesFrom a 16) (view (now (s .entry)) .wakes)) ⌝ }
+    ensures { λ _. ⌜ saved (now (s .exit)) ≡ saved (now (s .entry)) ⌝ }
+{
+    let mut k: u8 = 0;
+    while k < 16 {
+        state::wake(s, a + k);
+        k += 1;
     }
 }
 
 // OUT 0 to 15, then IN 0 to 15.
 pub fn wake_all(s: &mut [u8; STATE_LEN])
-    ensures { λ _. ⌜ view (now (s .exit)) ≡ withWakes (view (now (s .entry))) (all-woken (view (now (s .entry)) .wakes)) ⌝ }
+    ensures { λ _. ⌜ view (now (s .exit)) ≡ withWakes (view (now (s .entry))) (all-woken every-endpoint (view (now (s .entry)) .wakes)) ⌝ }
     ensures { λ _. ⌜ saved (now (s .exit)) ≡ saved (now (s .entry)) ⌝ }
 {
-    let w = state::load_wakes(s);
-    state::store_wakes(
-        s,
-        Wakes {
-            outs: 65535,
-            ins: 65535,
-            bus: w.bus,
-        },
-    );
+    wake_sixteen(s, 16);
+    wake_sixteen(s, 0);
 }
 
 // An isochronous OUT.

@@ -20,7 +20,7 @@ ghost use Rattle.way.specs.Under.{decode, machineOf, drive, goneOn, answerOf, l
 // Goes on at the driver's own point.
 fn proceed_driver(s: &mut [u8; STATE_LEN], v: u32) -> Step
     requires { ⌜ saved (now s) .tag ≡ 1 ⌝ }
-    ensures { λ r. ⌜ ((b : List ℕ) → (answerOf r [], machineOf (now (s .exit)) b) ≡ goneOn v (decode (saved (now (s .entry)))) (view (now (s .entry))) b) ⌝ }
+    ensures { λ r. ⌜ ((b : List ℕ) → (answerOf r [] (view (now (s .exit))), machineOf (now (s .exit)) b) ≡ goneOn v (decode (saved (now (s .entry)))) (view (now (s .entry))) b) ⌝ }
 {
     let p = driver::codec::decode(state::load_saved(s));
     if driver::fits_at(p, v) {
@@ -33,7 +33,7 @@ fn proceed_driver(s: &mut [u8; STATE_LEN], v: u32) -> Step
 // At the bus's.
 fn proceed_bus(s: &mut [u8; STATE_LEN], slots: &mut [u8], v: u32) -> Step
     requires { ⌜ saved (now s) .tag ≡ 2 ⌝ }
-    ensures { λ r. ⌜ (answerOf r [], machineOf (now (s .exit)) (now (slots .exit))) ≡ goneOn v (decode (saved (now (s .entry)))) (view (now (s .entry))) (now (slots .entry)) ⌝ }
+    ensures { λ r. ⌜ (answerOf r [] (view (now (s .exit))), machineOf (now (s .exit)) (now (slots .exit))) ≡ goneOn v (decode (saved (now (s .entry)))) (view (now (s .entry))) (now (slots .entry)) ⌝ }
 {
     let p = bus::decode(state::load_saved(s));
     if bus::fits_at(p, v) {
@@ -46,7 +46,7 @@ fn proceed_bus(s: &mut [u8; STATE_LEN], slots: &mut [u8], v: u32) -> Step
 // At the control pipe's.
 fn proceed_control(s: &mut [u8; STATE_LEN], v: u32) -> Step
     requires { ⌜ saved (now s) .tag ≡ 3 ⌝ }
-    ensures { λ r. ⌜ ((b : List ℕ) → (answerOf r [], machineOf (now (s .exit)) b) ≡ goneOn v (decode (saved (now (s .entry)))) (view (now (s .entry))) b) ⌝ }
+    ensures { λ r. ⌜ ((b : List ℕ) → (answerOf r [] (view (now (s .exit))), machineOf (now (s .exit)) b) ≡ goneOn v (decode (saved (now (s .entry)))) (view (now (s .entry))) b) ⌝ }
 {
     let p = control::decode(state::load_saved(s));
     if control::fits_at(p, v) {
@@ -59,7 +59,7 @@ fn proceed_control(s: &mut [u8; STATE_LEN], v: u32) -> Step
 // At a read's or write's.
 fn proceed_endpoint(s: &mut [u8; STATE_LEN], v: u32) -> Step
     requires { ⌜ saved (now s) .tag ≡ 4 ⌝ }
-    ensures { λ r. ⌜ ((b : List ℕ) → (answerOf r [], machineOf (now (s .exit)) b) ≡ goneOn v (decode (saved (now (s .entry)))) (view (now (s .entry))) b) ⌝ }
+    ensures { λ r. ⌜ ((b : List ℕ) → (answerOf r [] (view (now (s .exit))), machineOf (now (s .exit)) b) ≡ goneOn v (decode (saved (now (s .entry)))) (view (now (s .entry))) b) ⌝ }
 {
     let p = endpoint::decode(state::load_saved(s));
     if endpoint::fits_at(p, v) {
@@ -72,7 +72,7 @@ fn proceed_endpoint(s: &mut [u8; STATE_LEN], v: u32) -> Step
 // At a paced advance's.
 fn proceed_advance(s: &mut [u8; STATE_LEN], v: u32) -> Step
     requires { ⌜ saved (now s) .tag ≡ 5 ⌝ }
-    ensures { λ r. ⌜ ((b : List ℕ) → (answerOf r [], machineOf (now (s .exit)) b) ≡ goneOn v (decode (saved (now (s .entry)))) (view (now (s .entry))) b) ⌝ }
+    ensures { λ r. ⌜ ((b : List ℕ) → (answerOf r [] (view (now (s .exit))), machineOf (now (s .exit)) b) ≡ goneOn v (decode (saved (now (s .entry)))) (view (now (s .entry))) b) ⌝ }
 {
     let p = iso_in::codec::decode(state::load_saved(s));
     if advance::fits_at(p, v) {
@@ -85,7 +85,7 @@ fn proceed_advance(s: &mut [u8; STATE_LEN], v: u32) -> Step
 // At an interrupt's.
 fn proceed_interrupt(s: &mut [u8; STATE_LEN], slots: &mut [u8], v: u32) -> Step
     requires { ⌜ saved (now s) .tag ≡ 6 ⌝ }
-    ensures { λ r. ⌜ (answerOf r [], machineOf (now (s .exit)) (now (slots .exit))) ≡ goneOn v (decode (saved (now (s .entry)))) (view (now (s .entry))) (now (slots .entry)) ⌝ }
+    ensures { λ r. ⌜ (answerOf r [] (view (now (s .exit))), machineOf (now (s .exit)) (now (slots .exit))) ≡ goneOn v (decode (saved (now (s .entry)))) (view (now (s .entry))) (now (slots .entry)) ⌝ }
 {
     let p = handler_codec::decode(state::load_saved(s));
     if handler::fits_at(p, v) {
@@ -97,7 +97,7 @@ fn proceed_interrupt(s: &mut [u8; STATE_LEN], slots: &mut [u8], v: u32) -> Step
 
 // With the slots: as long as the driver's buffers.
 fn proceed_at(s: &mut [u8; STATE_LEN], slots: &mut [u8], v: u32) -> Step
-    ensures { λ r. ⌜ (answerOf r [], machineOf (now (s .exit)) (now (slots .exit))) ≡ goneOn v (decode (saved (now (s .entry)))) (view (now (s .entry))) (now (slots .entry)) ⌝ }
+    ensures { λ r. ⌜ (answerOf r [] (view (now (s .exit))), machineOf (now (s .exit)) (now (slots .exit))) ≡ goneOn v (decode (saved (now (s .entry)))) (view (now (s .entry))) (now (slots .entry)) ⌝ }
 {
     match tag(s) {
         1 => proceed_driver(s, v),
@@ -112,7 +112,7 @@ fn proceed_at(s: &mut [u8; STATE_LEN], slots: &mut [u8], v: u32) -> Step
 
 // Goes on with the operation under way, with the number brought.
 pub fn proceed(s: &mut [u8; STATE_LEN], slots: &mut [u8], v: u32) -> Step
-    ensures { λ r. ⌜ ((a : List ℕ) → (answerOf r [], machineOf (now (s .exit)) (lentOr (view (now (s .entry))) (now (slots .entry)) (now (slots .exit)) a)) ≡ drive (go v) (machineOf (now (s .entry)) a) (now (slots .entry))) ⌝ }
+    ensures { λ r. ⌜ ((a : List ℕ) → (answerOf r [] (view (now (s .exit))), machineOf (now (s .exit)) (lentOr (view (now (s .entry))) (now (slots .entry)) (now (slots .exit)) a)) ≡ drive (go v) (machineOf (now (s .entry)) a) (now (slots .entry))) ⌝ }
 {
     if slots_fit(s, slots) {
         return proceed_at(s, slots, v);

@@ -5,8 +5,7 @@ use Prim.Native.Nat.{ℕ, zero, suc}
 use Rattle.marks.specs.Copies.{over}
 use Rattle.script.specs.Tree as tree
 use Rattle.script.specs.Tree.{ends, asks}
-use Rattle.script.specs.Cells.{wakes-cell}
-use Rattle.script.specs.Script.{Script, ret, _>>=_, get}
+use Rattle.script.specs.Script.{Script, ret, _>>=_, fetch, gathered}
 use Rattle.script.specs.Answers.{Answer, Refused, End, NotYet, Done, Shown}
 use Rattle.ops.specs.Rings.{St}
 
@@ -14,7 +13,7 @@ use Rattle.ops.specs.Rings.{St}
 abbrev pub finished : Script false ℕ → Script false Answer
 finished p = do
   n ← p
-  w ← get wakes-cell
+  w ← fetch gathered
   ret (End n w)
 
 -- the slice's first n bytes, n of them whatever its length: those past its end read 256, which no byte is

@@ -40,14 +40,14 @@ of-reset Allowed (suc (suc zero)) x = tt
 of-reset Allowed (suc (suc (suc n))) x = tt
 
 of-enabled : (d : Dir) (e : ℕ) (on : Bool) → N (bus.setEnabled d e on)
-of-enabled Out e on = (λ _. tt, λ _. (((of-switch e on, tt), (tt, λ _. ((λ _. tt, λ _. tt), λ _. ((λ _. tt, tt), λ _. ((tt, tt), λ _. ((λ _. tt, λ _. (tt, λ _. (tt, tt))), λ _. (tt, λ _. (λ _. tt, λ _. (tt, tt))))))))), λ _. (λ _. tt, λ _. tt)))
-of-enabled In e on = (λ _. tt, λ _. ((tt, λ _. ((λ _. tt, λ _. tt), λ _. (tt, λ _. ((λ _. tt, tt), λ _. ((tt, tt), λ _. ((tt, tt), λ _. ((λ _. tt, λ _. (tt, λ _. (tt, tt))), λ _. (tt, λ _. (λ _. tt, λ _. (tt, tt)))))))))), λ _. (λ _. tt, λ _. tt)))
+of-enabled Out e on = (λ _. tt, λ _. (((of-switch e on, tt), (tt, λ _. ((λ _. tt, λ _. tt), λ _. ((λ _. tt, tt), λ _. ((tt, tt), λ _. ((λ _. tt, λ _. (tt, λ _. (tt, tt))), λ _. (tt, λ _. (λ _. tt, λ _. (tt, tt))))))))), λ _. tt))
+of-enabled In e on = (λ _. tt, λ _. ((tt, λ _. ((λ _. tt, λ _. tt), λ _. (tt, λ _. ((λ _. tt, tt), λ _. ((tt, tt), λ _. ((tt, tt), λ _. ((λ _. tt, λ _. (tt, λ _. (tt, tt))), λ _. (tt, λ _. (λ _. tt, λ _. (tt, tt)))))))))), λ _. tt))
 
 of-stalled : (d : Dir) (e : ℕ) (on : Bool) → N (bus.setStalled {i = false} d e on)
-of-stalled Out e true = (((tt, λ _. tt), λ _. (tt, tt)), λ _. (λ _. tt, λ _. tt))
-of-stalled In e true = ((tt, tt), λ _. (((tt, λ _. tt), λ _. (tt, tt)), λ _. (λ _. tt, λ _. tt)))
-of-stalled Out e false = (λ _. tt, λ _. (tt, λ _. ((tt, tt), λ _. (λ _. tt, λ _. tt))))
-of-stalled In e false = (λ _. tt, λ _. (tt, λ _. ((tt, tt), λ _. (((λ _. tt, λ _. tt), tt), λ _. (λ _. tt, λ _. tt)))))
+of-stalled Out e true = (((tt, λ _. tt), λ _. (tt, tt)), λ _. tt)
+of-stalled In e true = ((tt, tt), λ _. (((tt, λ _. tt), λ _. (tt, tt)), λ _. tt))
+of-stalled Out e false = (λ _. tt, λ _. (tt, λ _. ((tt, tt), λ _. tt)))
+of-stalled In e false = (λ _. tt, λ _. (tt, λ _. ((tt, tt), λ _. (((λ _. tt, λ _. tt), tt), λ _. tt))))
 
 of-poll-read : (e n : ℕ) → N (pollRead {i = false} e n)
 of-poll-read e n = (λ _. tt, λ _. ((λ _. tt, λ _. ((λ _. tt, λ _. (tt, ((λ _. tt, λ s. ((λ _. tt, λ _. ((λ _. tt, λ _. ((λ _. tt, λ _. (tt, λ _. (tt, λ _. tt))), tt)), (tt, λ _. tt))), (((λ _. tt, λ _. tt), λ _. ((tt, λ _. tt), (λ _. tt, λ _. (tt, λ _. tt)))), (λ _. tt, λ _. (tt, (tt, λ _. tt)))))), ((λ _. tt, λ _. tt), λ _. (tt, λ _. tt))))), tt)), tt))
@@ -91,7 +91,7 @@ of-nak-all Allowed zero e = tt
 of-nak-all Allowed (suc n) e = ((tt, tt), λ _. ((tt, tt), λ _. of-nak-all Allowed n (suc e)))
 
 of-bus-poll : Only (Writes Zero) bus.poll
-of-bus-poll = (λ _. tt, λ _. (((tt, λ _. tt), λ _. ((((refl, tt), λ _. ((tt, tt), λ _. ((tt, tt), λ _. (of-nak-all Zero 15 1, λ _. ((of-reset Zero, tt), λ _. (λ _. tt, λ _. tt)))))), λ _. ((λ _. tt, λ _. (tt, λ _. (tt, tt))), λ _. tt)), (((tt, λ _. tt), λ _. ((tt, tt), λ _. ((λ _. tt, λ _. (tt, λ _. (tt, tt))), λ _. tt))), tt))), (tt, λ _. tt)))
+of-bus-poll = (λ _. tt, λ _. (((tt, λ _. tt), λ _. ((((refl, tt), λ _. ((tt, tt), λ _. ((tt, tt), λ _. (of-nak-all Zero 15 1, λ _. ((of-reset Zero, tt), λ _. tt))))), λ _. ((λ _. tt, λ _. (tt, λ _. (tt, tt))), λ _. tt)), (((tt, λ _. tt), λ _. ((tt, tt), λ _. ((λ _. tt, λ _. (tt, λ _. (tt, tt))), λ _. tt))), tt))), (tt, λ _. tt)))
 
 -- the addresses that a call may write: 0 at a bus reset, and the accepted one once its status stage is complete (AddressLaws)
 abbrev pub OfOther : Other → ℕ → Type 0

@@ -63,7 +63,7 @@ module _ (Allowed : ℕ → Type 0) where
   of-settle i x = (λ _. tt, λ _. (λ _. tt, λ _. ((of-looks i 2001, λ _. ((tt, λ _. tt), λ _. ((tt, λ _. tt), λ _. tt))), ((of-looks i 2001, λ _. ((tt, λ _. tt), λ _. tt)), (of-retake i x, tt)))))
 
   of-complete : (i : Bool) (e : ℕ) → N (isoInComplete {i = i} e)
-  of-complete i e = (tt, λ _. ((λ _. tt, λ _. (((λ _. tt, tt), λ _. (λ _. tt, λ _. (tt, tt))), (tt, tt))), λ _. (λ _. tt, λ _. tt)))
+  of-complete i e = (tt, λ _. ((λ _. tt, λ _. (((λ _. tt, tt), λ _. (λ _. tt, λ _. (tt, tt))), (tt, tt))), λ _. tt))
 
   of-sof-one : (i : Bool) (frame e : ℕ) → N (sofOne {i = i} frame e)
   of-sof-one i frame e = (λ _. tt, λ _. (tt, ((tt, λ _. tt), λ _. (((λ _. tt, λ _. tt), λ _. of-complete i e), ((tt, λ _. tt), λ _. (tt, ((λ _. tt, λ _. tt), λ _. of-complete i e)))))))
@@ -84,13 +84,13 @@ module _ (Allowed : ℕ → Type 0) where
   of-check-walk : (i : Bool) (x : Transfer) (iso : Bool) (es : List ℕ) → N (checkWalk {i = i} x iso es)
   unfolding checkWalk
   of-check-walk i x iso [] = tt
-  of-check-walk i x iso (e ∷ es) = ((λ _. tt, λ _. ((((λ _. tt, tt), λ _. (λ _. tt, λ _. tt)), ((tt, λ _. tt), λ _. (tt, (λ _. tt, λ _. ((λ _. tt, tt), λ _. (λ _. tt, λ _. tt)))))), tt)), λ _. of-check-walk i x iso es)
+  of-check-walk i x iso (e ∷ es) = ((λ _. tt, λ _. ((((λ _. tt, tt), λ _. tt), ((tt, λ _. tt), λ _. (tt, (λ _. tt, λ _. ((λ _. tt, tt), λ _. tt))))), tt)), λ _. of-check-walk i x iso es)
 
   of-out : (i : Bool) (x : Transfer) (iso : Bool) → N (outArm {i = i} x iso)
-  of-out i x iso = (tt, (((((tt, λ _. tt), λ _. (tt, tt)), λ _. ((λ _. tt, λ _. tt), λ _. (λ _. tt, λ _. tt))), tt), (of-toggled i Out (endpoint (x .st)), λ _. (((λ _. tt, λ _. tt), λ _. (λ _. tt, λ _. tt)), tt))))
+  of-out i x iso = (tt, (((((tt, λ _. tt), λ _. (tt, tt)), λ _. ((λ _. tt, λ _. tt), λ _. tt)), tt), (of-toggled i Out (endpoint (x .st)), λ _. (((λ _. tt, λ _. tt), λ _. tt), tt))))
 
   of-in : (i : Bool) (x : Transfer) (iso : Bool) (frame : ℕ) → N (inArm {i = i} x iso frame)
-  of-in i x iso frame = ((λ _. tt, λ _. (tt, ((λ _. tt, λ _. (tt, λ _. tt)), λ _. (of-complete i (endpoint (x .st)), tt)))), ((((tt, λ _. tt), λ _. (tt, tt)), λ _. ((λ _. tt, λ _. tt), λ _. ((λ _. tt, λ _. tt), λ _. (λ _. tt, λ _. tt)))), (of-toggled i In (endpoint (x .st)), λ _. (((λ _. tt, λ _. tt), λ _. (λ _. tt, λ _. tt)), tt))))
+  of-in i x iso frame = ((λ _. tt, λ _. (tt, ((λ _. tt, λ _. (tt, λ _. tt)), λ _. (of-complete i (endpoint (x .st)), tt)))), ((((tt, λ _. tt), λ _. (tt, tt)), λ _. ((λ _. tt, λ _. tt), λ _. ((λ _. tt, λ _. tt), λ _. tt))), (of-toggled i In (endpoint (x .st)), λ _. (((λ _. tt, λ _. tt), λ _. tt), tt))))
 
   of-dispatch : (i : Bool) (t : Token) (x : Transfer) (iso : Bool) (frame : ℕ) → N (dispatch {i = i} t x iso frame)
   of-dispatch i tok.Sof x iso frame = (λ _. tt, λ _. (of-sof i frame, tt))
@@ -99,7 +99,7 @@ module _ (Allowed : ℕ → Type 0) where
   of-dispatch i tok.Setup x iso frame = tt
 
   of-moved : (i : Bool) (d : Dir) → N (movedOn {i = i} d)
-  of-moved i d = (λ _. tt, λ _. ((((tt, λ _. tt), λ _. (control d _, tt)), λ _. ((λ _. tt, λ _. tt), λ _. (λ _. tt, λ _. tt))), tt))
+  of-moved i d = (λ _. tt, λ _. ((((tt, λ _. tt), λ _. (control d _, tt)), λ _. ((λ _. tt, λ _. tt), λ _. tt)), tt))
 
   of-moved-on : (i : Bool) (t : Token) → N (ep0MovedOn {i = i} t)
   of-moved-on i tok.Out = of-moved i In
@@ -114,10 +114,10 @@ module _ (Allowed : ℕ → Type 0) where
   of-transfer i = ((tt, λ _. tt), λ m. ((tt, λ _. tt), λ st. ((tt, λ _. tt), λ n. ((of-nak i st, tt), λ _. ((tt, tt), λ _. (of-settle i (entered m st n), λ x. (λ _. tt, λ o. (λ _. tt, λ n. ((tt, λ _. tt), λ frame. (λ _. tt, λ g. of-served i (framed x (isoFor (token (x .st)) o n) (g .«sof_frame») frame) (isoFor (token (x .st)) o n) frame))))))))))
 
   of-setup : (i : Bool) → N (onSetup {i = i})
-  of-setup i = ((tt, tt), λ _. ((tt, tt), λ _. (λ _. tt, λ _. (λ _. tt, λ _. ((λ _. tt, λ _. tt), λ _. ((λ _. tt, λ _. tt), λ _. ((λ _. tt, λ _. tt), λ _. ((tt, tt), λ _. ((λ _. tt, λ _. tt), λ _. (λ _. tt, λ _. tt))))))))))
+  of-setup i = ((tt, tt), λ _. ((tt, tt), λ _. (λ _. tt, λ _. (λ _. tt, λ _. ((λ _. tt, λ _. tt), λ _. ((λ _. tt, λ _. tt), λ _. ((λ _. tt, λ _. tt), λ _. ((tt, tt), λ _. (tt, λ _. tt)))))))))
 
   pub of-interrupt : (i : Bool) → N (onInterrupt {i = i})
-  of-interrupt i = ((tt, λ _. tt), λ _. ((((λ _. tt, λ _. (tt, λ _. (tt, tt))), λ _. (λ _. tt, λ _. tt)), tt), λ _. ((((λ _. tt, λ _. (tt, λ _. (tt, tt))), λ _. (λ _. tt, λ _. tt)), tt), λ _. (((tt, tt), tt), λ _. (((tt, tt), tt), λ _. ((of-transfer i, tt), λ _. (of-setup i, tt)))))))
+  of-interrupt i = ((tt, λ _. tt), λ _. ((((λ _. tt, λ _. (tt, λ _. (tt, tt))), λ _. tt), tt), λ _. ((((λ _. tt, λ _. (tt, λ _. (tt, tt))), λ _. tt), tt), λ _. (((tt, tt), tt), λ _. (((tt, tt), tt), λ _. ((of-transfer i, tt), λ _. (of-setup i, tt)))))))
 
   pub of-stamped : (i : Bool) → N (stampedInterrupt {i = i})
   of-stamped i = (((tt, λ _. tt), λ _. (λ _. tt, λ _. tt)), λ _. of-interrupt i)

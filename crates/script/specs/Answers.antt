@@ -6,15 +6,13 @@ use lib.Dec.{eqb, leb, ltb}
 use Rattle.bits.specs.Bit.{isSet}
 use Rattle.regs.specs.declared.Dir.{Dir}
 use Rattle.regs.specs.declared.Dir.the-variants.{Out, In}
-use Rattle.state.specs.declared.Wakes.{Wakes}
 use Rattle.state.specs.declared.Allocator.{Allocator}
-use Rattle.script.specs.Cells.{globals-cell, wakes-cell, allocator-cell}
-use Rattle.script.specs.Script.{Script, ret, test, _>>=_, _>>_, get, put}
-use Rattle.state.specs.Wakes.{none-woken}
+use Rattle.script.specs.Cells.{globals-cell, allocator-cell}
+use Rattle.script.specs.Script.{Script, ret, test, _>>=_, _>>_, get, fetch, act, gathered, no-wakes}
 
 pub data Answer : Type 0 where
   Refused : ℕ → Answer  -- by the row of that number
-  End : ℕ → Wakes → Answer  -- the operation's result (0 where the Rust has none) and its wake-ups
+  End : ℕ → List ℕ → Answer  -- the operation's result (0 where the Rust has none) and its wake-ups, in their order
   NotYet : Answer  -- a poll
   Done : List ℕ → Answer  -- a poll, with the bytes that it brought
   Shown : List ℕ → ℕ → Answer  -- an open packet and its stamp, the microframe index of its admission
@@ -22,9 +20,9 @@ pub data Answer : Type 0 where
 -- an operation: its wake-ups are gathered from none and answered at its end
 abbrev pub operation : {i : Bool} → Script i ℕ → Script i Answer
 operation p = do
-  put wakes-cell none-woken
+  act no-wakes
   n ← p
-  w ← get wakes-cell
+  w ← fetch gathered
   ret (End n w)
 
 abbrev pub resultless : {i : Bool} → Script i Unit → Script i Answer
@@ -34,7 +32,7 @@ resultless p = operation (do
 
 -- a call without accesses that passes during an operation: it leaves the wake-ups alone
 abbrev pub ok : Answer
-ok = End 0 none-woken
+ok = End 0 []
 
 -- row 4: 1 after start-up, 2 after EP0's start
 abbrev pub staged : {i : Bool} → ℕ → Script i Answer → Script i Answer

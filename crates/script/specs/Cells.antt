@@ -4,7 +4,6 @@
 use Prim.Native.Nat.{ℕ}
 use Rattle.regs.specs.declared.Dir.{Dir}
 use Rattle.state.specs.declared.Globals.{Globals}
-use Rattle.state.specs.declared.Wakes.{Wakes}
 use Rattle.state.specs.declared.Allocator.{Allocator}
 use Rattle.state.specs.declared.Request.{Request}
 use Rattle.state.specs.declared.Control.{Control}
@@ -23,13 +22,12 @@ pub record Plain : Type 0 where
   pub «max_len» : ℕ
 
 pub data Cell : Type 0 where
-  globals-cell wakes-cell control-cell allocator-cell : Cell
+  globals-cell control-cell allocator-cell : Cell
   ep-cell request-cell : Dir → ℕ → Cell
   paced-cell : ℕ → Cell
 
 abbrev pub Val : Cell → Type 0
 Val globals-cell = Globals
-Val wakes-cell = Wakes
 Val control-cell = Control
 Val allocator-cell = Allocator
 Val (ep-cell d e) = Plain

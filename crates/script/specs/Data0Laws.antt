@@ -80,8 +80,8 @@ in-enabled : (e : ℕ) (iso on : Bool) → Only Initial (setEnabledIn {i = false
 in-enabled e iso on = (tt, λ _. ((λ _. tt, λ _. tt), λ _. (tt, λ _. ((λ _. tt, tt), λ _. ((tt, tt), λ _. ((word-data0 _ _, tt), λ _. kept-data0 In e iso on))))))
 
 pub enabled-data0 : (d : Dir) (e : ℕ) (on : Bool) → Only Initial (setEnabled d e on)
-enabled-data0 Out e on = (λ _. tt, λ s. (((switch-data0 e on, tt), out-enabled e on), λ _. (λ _. tt, λ _. tt)))
-enabled-data0 In e on = (λ _. tt, λ s. (in-enabled e (isOn (s .iso)) on, λ _. (λ _. tt, λ _. tt)))
+enabled-data0 Out e on = (λ _. tt, λ s. (((switch-data0 e on, tt), out-enabled e on), λ _. tt))
+enabled-data0 In e on = (λ _. tt, λ s. (in-enabled e (isOn (s .iso)) on, λ _. tt))
 
 -- bus reset
 nak-data0 : (i : Bool) (n e : ℕ) → Only Initial (nakAll {i = i} n e)
@@ -90,4 +90,4 @@ nak-data0 i zero e = tt
 nak-data0 i (suc n) e = ((word-data0 _ _, tt), λ _. ((word-data0 _ _, tt), λ _. nak-data0 i n (suc e)))
 
 pub bus-reset-data0 : Only Initial busReset
-bus-reset-data0 = ((tt, tt), λ _. ((word-data0 _ _, tt), λ _. ((word-data0 _ _, tt), λ _. (nak-data0 false 15 1, λ _. ((reset-data0, tt), λ _. (λ _. tt, λ _. tt))))))
+bus-reset-data0 = ((tt, tt), λ _. ((word-data0 _ _, tt), λ _. ((word-data0 _ _, tt), λ _. (nak-data0 false 15 1, λ _. ((reset-data0, tt), λ _. tt)))))

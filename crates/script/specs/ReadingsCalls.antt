@@ -8,7 +8,7 @@ use Rattle.alloc.specs.declared.Answer as alloc-answer
 use Rattle.alloc.specs.declared.Answer.the-variants as alloc
 use Rattle.alloc.specs.Alloc.{allocateOf, allocateEp0Of}
 use Rattle.state.specs.declared.Control.{Control}
-use Rattle.script.specs.Cells.{Plain, globals-cell, wakes-cell, control-cell, allocator-cell, ep-cell, request-cell, paced-cell}
+use Rattle.script.specs.Cells.{Plain, globals-cell, control-cell, allocator-cell, ep-cell, request-cell, paced-cell}
 use Rattle.script.specs.Script.{Script}
 use Rattle.script.specs.Statics.{isOn}
 use Rattle.script.specs.IsoIn.{isoInCompletions, isoInAdvance}
@@ -111,10 +111,10 @@ module _ {i : Bool} where
   kept-reads d e iso on = free (assign-write globals-cell) (λ _. free no-act (λ _. free (no-get globals-cell) (λ _. no-write)))
 
   stall-reads : (d : Dir) (e : ℕ) (on : Bool) → Reads≤ {i = i} (cond on 1 0) (bus.setStalled d e on)
-  stall-reads Out e true = once modifyReg-reads (λ _. assign wakes-cell)
-  stall-reads In e true = free no-write (λ _. once modifyReg-reads (λ _. assign wakes-cell))
-  stall-reads Out e false = free (no-get (ep-cell _ _)) (λ _. free (no-put (ep-cell _ _)) (λ _. free no-write (λ _. assign wakes-cell)))
-  stall-reads In e false = free (no-get (ep-cell _ _)) (λ _. free (no-put (ep-cell _ _)) (λ _. free no-write (λ _. free (when-reads (assign (ep-cell _ _))) (λ _. assign wakes-cell))))
+  stall-reads Out e true = once modifyReg-reads (λ _. no-act)
+  stall-reads In e true = free no-write (λ _. once modifyReg-reads (λ _. no-act))
+  stall-reads Out e false = free (no-get (ep-cell _ _)) (λ _. free (no-put (ep-cell _ _)) (λ _. free no-write (λ _. no-act)))
+  stall-reads In e false = free (no-get (ep-cell _ _)) (λ _. free (no-put (ep-cell _ _)) (λ _. free no-write (λ _. free (when-reads (assign (ep-cell _ _))) (λ _. no-act))))
 
   completions-reads : (n e : ℕ) → Reads≤ {i = i} 0 (isoInCompletions n e)
   unfolding isoInCompletions
@@ -129,7 +129,7 @@ module _ {i : Bool} where
 
 busReset-reads : Reads≤ 0 bus.busReset
 busReset-reads = free no-write (λ _. free no-write (λ _. free no-write (λ _. free (nakAll-reads 15 1) (λ _.
-    free (reads-row reads-ret) (λ _. assign wakes-cell)))))
+    free (reads-row reads-ret) (λ _. no-act)))))
 
 -- int_fg; where it shows a suspend, mis_st
 poll-reads : Reads≤ 2 bus.poll
@@ -142,10 +142,10 @@ poll-reads = free (no-get globals-cell) (λ _. either
 enabling-reads : (d : Dir) (e : ℕ) (on : Bool) → Reads≤ 0 (bus.setEnabled d e on)
 enabling-reads Out e on = free (no-get (ep-cell _ _)) (λ _. free (either (reads-row reads-ret)
     (free no-act (λ _. free (assign (ep-cell _ _)) (λ _. free no-hand (λ _. free no-write (λ _. kept-reads Out e false on))))))
-    (λ _. assign wakes-cell))
+    (λ _. no-act))
 enabling-reads In e on = free (no-get (ep-cell _ _)) (λ s. free
     (free no-act (λ _. free (assign (ep-cell _ _)) (λ _. free (no-put (paced-cell _)) (λ _. free no-hand (λ _. free no-write (λ _. free no-write (λ _. kept-reads In e (isOn (s .iso)) on)))))))
-    (λ _. assign wakes-cell))
+    (λ _. no-act))
 
 -- ---- control
 

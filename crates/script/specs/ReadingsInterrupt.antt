@@ -12,7 +12,7 @@ use Rattle.regs.specs.declared.Token.{Token}
 use Rattle.regs.specs.declared.Token.the-variants as tok
 use Rattle.regs.specs.Status.{endpoint, token}
 use Rattle.script.specs.declared.Transfer.{Transfer}
-use Rattle.script.specs.Cells.{globals-cell, wakes-cell, ep-cell}
+use Rattle.script.specs.Cells.{globals-cell, ep-cell}
 use Rattle.script.specs.Script.{Script}
 use Rattle.script.specs.IsoIn.{firstInFrame, isoInLoad, isoInComplete, unseen, sofOne, sofWalk, onSof, lateOne, lateWalk}
 use Rattle.script.specs.IsoOut.{arrives, checkOne, checkWalk, isoOutCheck}
@@ -20,7 +20,7 @@ use Rattle.script.specs.Handler.{looks, sieWait, nakNonIso, toggled, ret
 use Rattle.script.specs.Answers.{Answer, staged, resultless, operation}
 use Rattle.script.specs.Calls.{interruptCode}
 use Rattle.script.specs.Readings.{Reads≤}
-use Rattle.script.specs.ReadingsLaws.{reads-more, reads-ret, reads-bind, reads-test, reads-cond, reads-mask, free, once, then-free, either, one-read, no-write, no-get, no-put, no-is, no-look, no-act, no-hand, no-callback, when-reads, assign, assign-write, modifyReg-reads}
+use Rattle.script.specs.ReadingsLaws.{reads-more, reads-ret, reads-bind, reads-test, reads-cond, reads-mask, free, once, then-free, either, one-read, no-write, no-get, no-put, no-is, no-look, no-fetch, no-act, no-hand, no-callback, when-reads, assign, assign-write, modifyReg-reads}
 
 -- what an arm reads at most, EP0's and another's; and what any token's does
 abbrev armMost : Bool → ℕ
@@ -49,7 +49,7 @@ module _ {i : Bool} where
   isoInLoad-reads e = free no-is (λ _. either (free no-hand (λ _. free no-look (λ _. no-write))) no-write)
 
   pub isoInComplete-reads : {n : ℕ} (e : ℕ) → Reads≤ {i = i} n (isoInComplete e)
-  isoInComplete-reads e = free no-act (λ _. free (isoInLoad-reads e) (λ _. assign wakes-cell))
+  isoInComplete-reads e = free no-act (λ _. free (isoInLoad-reads e) (λ _. no-act))
 
   unseen-reads : {n : ℕ} (frame e : ℕ) → Reads≤ {i = i} n (unseen frame e)
   unseen-reads frame e = free (assign (ep-cell _ _)) (λ _. isoInComplete-reads e)
@@ -77,7 +77,7 @@ module _ {i : Bool} where
   lateWalk-reads frame = reads-mask (lateWalk frame) (lateOne frame) refl (λ e es. refl) (lateOne-reads frame)
 
   arrives-reads : {k : ℕ} (e n : ℕ) → Reads≤ {i = i} k (arrives e n)
-  arrives-reads e n = free no-hand (λ _. assign wakes-cell)
+  arrives-reads e n = free no-hand (λ _. no-act)
 
   -- int_st
   checkOne-reads : (x : Transfer) (iso : Bool) (e : ℕ) → Reads≤ {i = i} 1 (checkOne x iso e)
@@ -127,10 +127,10 @@ module _ {i : Bool} where
   -- ---- the arms: EP0's have no wait
 
   received-reads : {k : ℕ} (e n : ℕ) → Reads≤ {i = i} k (received e n)
-  received-reads e n = free (assign (ep-cell _ _)) (λ _. assign wakes-cell)
+  received-reads e n = free (assign (ep-cell _ _)) (λ _. no-act)
 
   sent-reads : {k : ℕ} (e : ℕ) → Reads≤ {i = i} k (sent e)
-  sent-reads e = free (assign (ep-cell _ _)) (λ _. assign wakes-cell)
+  sent-reads e = free (assign (ep-cell _ _)) (λ _. no-act)
 
   sofArm-reads : (frame : ℕ) → Reads≤ {i = i} 32 (sofArm frame)
   sofArm-reads frame = free (no-get globals-cell) (λ _. when-reads (onSof-reads frame))
@@ -155,7 +155,7 @@ module _ {i : Bool} where
   dispatch-reads tok.Setup x iso frame = reads-ret
 
   movedOn-reads : (d : Dir) → Reads≤ {i = i} 1 (movedOn d)
-  movedOn-reads d = free (no-get (ep-cell _ _)) (λ _. when-reads (once modifyReg-reads (λ _. free (assign (ep-cell _ _)) (λ _. assign wakes-cell))))
+  movedOn-reads d = free (no-get (ep-cell _ _)) (λ _. when-reads (once modifyReg-reads (λ _. free (assign (ep-cell _ _)) (λ _. no-act))))
 
   ep0MovedOn-reads : (t : Token) → Reads≤ {i = i} 1 (ep0MovedOn t)
   ep0MovedOn-reads tok.Out = movedOn-reads In
@@ -183,12 +183,12 @@ module _ {i : Bool} where
 
   onSetup-reads : {n : ℕ} → Reads≤ {i = i} n onSetup
   onSetup-reads = free no-write (λ _. free no-write (λ _. free no-look (λ _. free no-look (λ _. free (assign (ep-cell _ _)) (λ _.
-      free (assign (ep-cell _ _)) (λ _. free (assign globals-cell) (λ _. free no-write (λ _. free (assign wakes-cell) (λ _. assign wakes-cell)))))))))
+      free (assign (ep-cell _ _)) (λ _. free (assign globals-cell) (λ _. free no-write (λ _. free (no-act) (λ _. no-act)))))))))
 
   -- `on_interrupt`
   pub onInterrupt-reads : Reads≤ {i = i} 4060 onInterrupt
-  onInterrupt-reads = once one-read (λ _. free (when-reads (free (assign-write globals-cell) (λ _. assign wakes-cell))) (λ _.
-      free (when-reads (free (assign-write globals-cell) (λ _. assign wakes-cell))) (λ _. free (when-reads no-write) (λ _.
+  onInterrupt-reads = once one-read (λ _. free (when-reads (free (assign-write globals-cell) (λ _. no-act))) (λ _.
+      free (when-reads (free (assign-write globals-cell) (λ _. no-act))) (λ _. free (when-reads no-write) (λ _.
       free (when-reads no-write) (λ _. then-free (when-reads onTransfer-reads) (λ _. when-reads onSetup-reads))))))
 
   -- and the reading before it
@@ -196,7 +196,7 @@ module _ {i : Bool} where
   keepMicroframe-reads = once one-read (λ _. assign globals-cell)
 
   pub operation-reads : {n : ℕ} {p : Script i ℕ} → Reads≤ n p → Reads≤ n (operation p)
-  operation-reads x = free (no-put wakes-cell) (λ _. then-free x (λ _. free (no-get wakes-cell) (λ _. reads-ret)))
+  operation-reads x = free no-act (λ _. then-free x (λ _. free no-fetch (λ _. reads-ret)))
 
   pub resultless-reads : {n : ℕ} {p : Script i Unit} → Reads≤ n p → Reads≤ n (resultless p)
   resultless-reads x = operation-reads (then-free x (λ _. reads-ret))

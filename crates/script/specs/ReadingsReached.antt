@@ -10,11 +10,10 @@ use Rattle.regs.specs.Enables.{inEnabled, outEnabled}
 use Rattle.regs.specs.Status.{endpoint, tokenNumbered, token, isOut, isSof, isIn}
 use Rattle.state.specs.declared.Globals.{Globals}
 use Rattle.state.specs.declared.Allocator.{Allocator}
-use Rattle.script.specs.Cells.{Cell, Val, Plain, globals-cell, wakes-cell, control-cell, allocator-cell, ep-cell, request-cell, paced-cell}
+use Rattle.script.specs.Cells.{Cell, Val, Plain, globals-cell, control-cell, allocator-cell, ep-cell, request-cell, paced-cell}
 use Rattle.script.specs.Script.{Ops, run}
 use Rattle.frame.specs.Usb20.{frameNumber, microframe, indexOf, frameOf}
 use Rattle.frame.specs.Advance.{isNone, previous, inPrevious}
-use Rattle.state.specs.Wakes.{none-woken, woken}
 use Rattle.script.specs.Statics.{isOn, flag, isoInEvery, isoOuts}
 use Rattle.script.specs.IsoIn.{sofWalk, lateWalk, leaving}
 use Rattle.script.specs.IsoOut.{arriving, entry, checkWalk}
@@ -37,7 +36,6 @@ allocator = record { size = 64; count = 1; next = 0; «taken_out» = 0; «taken_
 
 abbrev cells : (c : Cell) → Bool → Val c
 cells globals-cell s = globals
-cells wakes-cell s = none-woken
 cells control-cell s = no-control
 cells allocator-cell s = allocator
 cells (ep-cell d e) s = plain s
@@ -67,5 +65,5 @@ abbrev longest : Continues Bool
 longest = (0, false) ∷ (2, false) ∷ (0, false) ∷ (1, false) ∷ (0, false) ∷ (0, false) ∷ (0, false) ∷ (0, true) ∷ zeros 4200
 
 pub interrupt-reached : readings (run standing interruptCode false) longest ≡ 4061
-unfolding readings looks sofWalk lateWalk checkWalk isSet bitsFrom inEnabled outEnabled isOn isoInEvery isoOuts woken withBit endpoint tokenNumbered token isOut isSof isIn toggle isData1 frameNumber microframe indexOf frameOf isNone previous inPrevious leaving arriving entry outNaks inNaks repeated sameOut waitsForIso waitsForBulk isoFor ownIn
+unfolding readings looks sofWalk lateWalk checkWalk isSet bitsFrom inEnabled outEnabled isOn isoInEvery isoOuts withBit endpoint tokenNumbered token isOut isSof isIn toggle isData1 frameNumber microframe indexOf frameOf isNone previous inPrevious leaving arriving entry outNaks inNaks repeated sameOut waitsForIso waitsForBulk isoFor ownIn
 interrupt-reached = refl

@@ -1,14 +1,14 @@
 -- The driver's record of the toggle after a configuration and a cleared halt: DATA0, as in the chip (USB 2.0, 9.1.1.5, 9.4.5)
 use mathlib.Core.Bool.{Bool, true, false, not, cond}
+use mathlib.Core.List.{List}
 use mathlib.Core.Path.{_≡_, refl, ap, sym, _∙_}
 use Prim.Native.Nat.{ℕ}
 use Rattle.regs.specs.declared.Dir.{Dir}
 use Rattle.regs.specs.declared.Dir.the-variants.{Out, In}
 use Rattle.state.specs.declared.Globals.{Globals}
-use Rattle.state.specs.declared.Wakes.{Wakes}
 use Rattle.script.specs.Tree as tree
-use Rattle.script.specs.Cells.{Plain, ep-cell, wakes-cell, globals-cell, paced-cell}
-use Rattle.script.specs.Script.{Ops, run, set-enabled, place}
+use Rattle.script.specs.Cells.{Plain, ep-cell, globals-cell, paced-cell}
+use Rattle.script.specs.Script.{Ops, run, set-enabled, waken, place}
 use Rattle.script.specs.Statics.{isOn}
 use Rattle.script.specs.Bus.{setStalled, setEnabledOut, setEnabledIn}
 use Rattle.script.specs.Every.{Chip, Every, at-end, at-ask, every-bind, every-cond}
@@ -21,7 +21,7 @@ togOf O d e s = O .get (ep-cell d e) s .tog
 -- the operations that these scripts have beside the record's own assignment leave its toggle
 pub record Lawful {S : Type 0} (O : Ops S) (d : Dir) (e : ℕ) : Type 0 where
   pub assigned : (v : Plain) (s : S) → togOf O d e (O .put (ep-cell d e) v s) ≡ v .tog
-  pub wakes : (v : Wakes) (s : S) → togOf O d e (O .put wakes-cell v s) ≡ togOf O d e s
+  pub wakes : (cs : List ℕ) (s : S) → togOf O d e (O .act (waken cs) s) ≡ togOf O d e s
   pub globals : (v : Globals) (s : S) → togOf O d e (O .put globals-cell v s) ≡ togOf O d e s
   pub paced : (v : ℕ) (s : S) → togOf O d e (O .put (paced-cell e) v s) ≡ togOf O d e s
   pub enabling : (on : Bool) (s : S) → togOf O d e (O .act (set-enabled d e on) s) ≡ togOf O d e s

@@ -9,13 +9,12 @@ use Rattle.regs.specs.declared.Reg.the-variants.{EpRxCtrl, EpType, EpConfig, Ep
 use Rattle.regs.specs.declared.Dir.{Dir}
 use Rattle.regs.specs.declared.Dir.the-variants.{Out, In}
 use Rattle.state.specs.declared.Globals.{Globals}
-use Rattle.state.specs.declared.Wakes.{Wakes}
 use Rattle.state.specs.declared.Allocator.{Allocator}
 use Rattle.state.specs.declared.Request.{Request}
 use Rattle.state.specs.declared.Control.{Control}
 use Rattle.script.specs.Tree as tree
 use Rattle.script.specs.Tree.{ends, asks, bindOut}
-use Rattle.script.specs.Cells.{Cell, Val, Plain, globals-cell, wakes-cell, control-cell, allocator-cell, ep-cell, request-cell, paced-cell}
+use Rattle.script.specs.Cells.{Cell, Val, Plain, globals-cell, control-cell, allocator-cell, ep-cell, request-cell, paced-cell}
 
 -- what is asked of a ring or of slots
 pub data Test : Type 0 where
@@ -36,6 +35,7 @@ pub data Fetch : Type 0 where
   oldest : ℕ → Fetch  -- OUT e: the oldest packet
   received : ℕ → ℕ → Fetch  -- OUT e, not isochronous: so many bytes of its slot
   received0 : ℕ → Fetch  -- so many bytes of EP0's slot
+  gathered : Fetch  -- the codes of the wake-ups since the operation's begin, in their order
 
 -- changes
 pub data Act : Type 0 where
@@ -50,6 +50,8 @@ pub data Act : Type 0 where
   enqueue : ℕ → List ℕ → Act  -- IN e: a packet into the next free slot
   allocate : Dir → ℕ → ℕ → ℕ → ℕ → Act  -- kind, address, maximum, interval
   allocate0 : ℕ → Act  -- EP0's buffer, its maximum
+  no-wakes : Act  -- an operation begins, with no wake-up
+  waken : List ℕ → Act  -- the tasks of these codes are woken, one after the other
 
 -- changes in the call that hands out the address they come to
 pub data Hand : Type 0 where

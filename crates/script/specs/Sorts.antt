@@ -8,8 +8,8 @@ use Rattle.regs.specs.declared.Dir.{Dir}
 use Rattle.regs.specs.declared.Dir.the-variants.{Out, In}
 use Rattle.script.specs.Tree as tree
 use Rattle.script.specs.Tree.{ends, asks}
-use Rattle.script.specs.Cells.{Cell, Val, globals-cell, wakes-cell, control-cell, allocator-cell, ep-cell, request-cell, paced-cell}
-use Rattle.script.specs.Script.{Ops, Act, complete, reset-ring, set-enabled, fill, fill0, open-oldest, close-oldest, take-oldest, enqueue, allocate, allocate0, Hand}
+use Rattle.script.specs.Cells.{Cell, Val, globals-cell, control-cell, allocator-cell, ep-cell, request-cell, paced-cell}
+use Rattle.script.specs.Script.{Ops, Act, complete, reset-ring, set-enabled, fill, fill0, open-oldest, close-oldest, take-oldest, enqueue, allocate, allocate0, no-wakes, waken, Hand}
 use Rattle.script.specs.Statics.{isOn}
 use Rattle.script.specs.Readings.{Continues}
 
@@ -24,7 +24,6 @@ Among f m = (e : ℕ) → e < 16 → isSet m e ≡ true → f e ≡ true
 -- what a cell says of the sorts: a record's flag is the endpoint's sort, the two sets have isochronous endpoints only
 abbrev pub Shows : Sorts → (c : Cell) → Val c → Type 0
 Shows iso globals-cell g = Among (iso Out) (g .«iso_out_eps») × Among (iso In) (g .«iso_in_every»)
-Shows iso wakes-cell w = Unit {0}
 Shows iso control-cell c = Unit {0}
 Shows iso allocator-cell a = Unit {0}
 Shows iso (ep-cell d e) p = isOn (p .iso) ≡ iso d e
@@ -43,6 +42,8 @@ allocates (take-oldest e) = false
 allocates (enqueue e bytes) = false
 allocates (allocate d kind address maximum interval) = true
 allocates (allocate0 maximum) = true
+allocates no-wakes = false
+allocates (waken codes) = false
 
 -- the states K have the sorts `iso`, EP0 is not isochronous, and no operation but an allocation leaves K
 pub record Sorted {S : Type 0} (O : Ops S) (iso : Sorts) (K : S → Type 0) : Type 0 where

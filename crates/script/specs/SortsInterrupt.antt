@@ -17,8 +17,8 @@ use Rattle.regs.specs.declared.Reg.the-variants.{FrameNo}
 use Rattle.regs.specs.Status.{endpoint, token, outToken, isOut, isIn}
 use Rattle.state.specs.declared.Globals.{Globals}
 use Rattle.script.specs.declared.Transfer.{Transfer}
-use Rattle.script.specs.Cells.{Plain, globals-cell, wakes-cell, ep-cell}
-use Rattle.script.specs.Script.{Script, Ops, run, bind, _>>=_, _>>_, read, get, complete, send, arrive, open-oldest, close-oldest, enqueue}
+use Rattle.script.specs.Cells.{Plain, globals-cell, ep-cell}
+use Rattle.script.specs.Script.{Script, Ops, run, bind, _>>=_, _>>_, read, get, complete, no-wakes, waken, send, arrive, open-oldest, close-oldest, enqueue}
 use Rattle.script.specs.Statics.{isOn, isoInEvery, isoOuts}
 use Rattle.script.specs.IsoIn.{firstInFrame, isoInLoad, isoInComplete, unseen, sofOne, sofWalk, onSof, lateOne, lateWalk}
 use Rattle.script.specs.IsoOut.{arrives, checkOne, checkWalk, isoOutCheck}
@@ -28,7 +28,7 @@ use Rattle.script.specs.Readings.{Continues, readings}
 use Rattle.script.specs.ToggledLaws.{apart}
 use Rattle.script.specs.Sorts.{Sorts, Shows, Sorted, Along}
 use Rattle.script.specs.SortsWalks.{Most, most-15, most-14, among-outs, among-ins}
-use Rattle.script.specs.SortsLaws.{Any, Staying, Reads, reads-along, reads-more, reads-ret, reads-bind, reads-walk, free, once, then-free, either, one-read, no-write, no-get, no-put, no-is, no-look, no-act, no-hand, no-callback, when-reads, assign, assign-write, modifyReg-reads}
+use Rattle.script.specs.SortsLaws.{Any, Staying, Reads, reads-along, reads-more, reads-ret, reads-bind, reads-walk, free, once, then-free, either, one-read, no-write, no-get, no-put, no-is, no-look, no-fetch, no-act, no-hand, no-callback, when-reads, assign, assign-write, modifyReg-reads}
 
 -- ---- what the tests of `settle` say
 
@@ -104,7 +104,7 @@ module _ {S : Type 0} {O : Ops S} {K : S → Type 0} {iso : Sorts} (M : Sorted O
   isoInLoad-reads e = free no-is (λ _ _. either (λ _. free (no-hand M (send e)) (λ _ _. free no-look (λ _ _. no-write))) (λ _. no-write))
 
   isoInComplete-reads : {n : ℕ} (e : ℕ) → Reads O K {i = i} n Any (isoInComplete e)
-  isoInComplete-reads e = free (no-act M (complete e) refl) (λ _ _. free (isoInLoad-reads e) (λ _ _. assign M wakes-cell))
+  isoInComplete-reads e = free (no-act M (complete e) refl) (λ _ _. free (isoInLoad-reads e) (λ _ _. no-act M (waken _) refl))
 
   unseen-reads : {n : ℕ} (frame e : ℕ) → Reads O K {i = i} n Any (unseen frame e)
   unseen-reads frame e = free (assign M (ep-cell _ _)) (λ _ _. isoInComplete-reads e)
@@ -133,7 +133,7 @@ module _ {S : Type 0} {O : Ops S} {K : S → Type 0} {iso : Sorts} (M : Sorted O
   lateWalk-reads frame m = reads-walk (lateWalk frame) (lateOne frame) refl (λ e es. refl) (lateOne-reads frame) 16 (setBits m) (walk-length m)
 
   arrives-reads : {k : ℕ} (e n : ℕ) → Reads O K {i = i} k Any (arrives e n)
-  arrives-reads e n = free (no-hand M (arrive e n)) (λ _ _. assign M wakes-cell)
+  arrives-reads e n = free (no-hand M (arrive e n)) (λ _ _. no-act M (waken _) refl)
 
   -- int_st
   checkOne-reads : (x : Transfer) (f : Bool) (e : ℕ) → Reads O K {i = i} 1 Any (checkOne x f e)
@@ -192,10 +192,10 @@ module _ {S : Type 0} {O : Ops S} {K : S → Type 0} {iso : Sorts} (M : Sorted O
   -- ---- the arms
 
   received-reads : {k : ℕ} (e n : ℕ) → Reads O K {i = i} k Any (received e n)
-  received-reads e n = free (assign M (ep-cell _ _)) (λ _ _. assign M wakes-cell)
+  received-reads e n = free (assign M (ep-cell _ _)) (λ _ _. no-act M (waken _) refl)
 
   sent-reads : {k : ℕ} (e : ℕ) → Reads O K {i = i} k Any (sent e)
-  sent-reads e = free (assign M (ep-cell _ _)) (λ _ _. assign M wakes-cell)
+  sent-reads e = free (assign M (ep-cell _ _)) (λ _ _. no-act M (waken _) refl)
 
   sofArm-reads : (frame : ℕ) → Reads O K {i = i} 2003 Any (sofArm frame)
   sofArm-reads frame = free (no-get M globals-cell) (λ _ _. when-reads (λ _. reads-more (onSof-reads 15 (every-in M) frame) (omega arith)))
@@ -224,7 +224,7 @@ module _ {S : Type 0} {O : Ops S} {K : S → Type 0} {iso : Sorts} (M : Sorted O
   dispatch-none t x f frame a b = rw (a, b) (either (λ _. reads-ret tt) (λ z. apart z))
 
   movedOn-reads : (d : Dir) → Reads O K {i = i} 1 Any (movedOn d)
-  movedOn-reads d = free (no-get M (ep-cell _ _)) (λ _ _. when-reads (λ _. once modifyReg-reads (λ _ _. free (assign M (ep-cell _ _)) (λ _ _. assign M wakes-cell))))
+  movedOn-reads d = free (no-get M (ep-cell _ _)) (λ _ _. when-reads (λ _. once modifyReg-reads (λ _ _. free (assign M (ep-cell _ _)) (λ _ _. no-act M (waken _) refl))))
 
   ep0MovedOn-reads : (t : Token) → Reads O K {i = i} 1 Any (ep0MovedOn t)
   ep0MovedOn-reads tok.Out = movedOn-reads In
@@ -295,12 +295,12 @@ module _ {S : Type 0} {O : Ops S} {K : S → Type 0} {iso : Sorts} (M : Sorted O
 
   onSetup-reads : {n : ℕ} → Reads O K {i = i} n Any onSetup
   onSetup-reads = free no-write (λ _ _. free no-write (λ _ _. free no-look (λ _ _. free no-look (λ _ _. free (assign M (ep-cell _ _)) (λ _ _.
-      free (assign M (ep-cell _ _)) (λ _ _. free (assign M globals-cell) (λ _ _. free no-write (λ _ _. free (assign M wakes-cell) (λ _ _. assign M wakes-cell)))))))))
+      free (assign M (ep-cell _ _)) (λ _ _. free (assign M globals-cell) (λ _ _. free no-write (λ _ _. free (no-act M (waken _) refl) (λ _ _. no-act M (waken _) refl)))))))))
 
   -- `on_interrupt`
   onInterrupt-reads : Reads O K {i = i} 4055 Any onInterrupt
-  onInterrupt-reads = once one-read (λ _ _. free (when-reads (λ _. free (assign-write M globals-cell) (λ _ _. assign M wakes-cell))) (λ _ _.
-      free (when-reads (λ _. free (assign-write M globals-cell) (λ _ _. assign M wakes-cell))) (λ _ _. free (when-reads (λ _. no-write)) (λ _ _.
+  onInterrupt-reads = once one-read (λ _ _. free (when-reads (λ _. free (assign-write M globals-cell) (λ _ _. no-act M (waken _) refl))) (λ _ _.
+      free (when-reads (λ _. free (assign-write M globals-cell) (λ _ _. no-act M (waken _) refl))) (λ _ _. free (when-reads (λ _. no-write)) (λ _ _.
       free (when-reads (λ _. no-write)) (λ _ _. then-free (when-reads (λ _. onTransfer-reads)) (λ _ _. when-reads (λ _. onSetup-reads)))))))
 
 module _ {S : Type 0} {O : Ops S} {K : S → Type 0} {iso : Sorts} (M : Sorted O iso K) where
@@ -309,7 +309,7 @@ module _ {S : Type 0} {O : Ops S} {K : S → Type 0} {iso : Sorts} (M : Sorted O
 
   interrupt-reads : Reads O K 4056 Any interruptCode
   interrupt-reads = free (no-get M globals-cell) (λ _ _. either
-      (λ _. free (no-put M wakes-cell) (λ _ _. then-free {P = Any} (then-free (once keepMicroframe-reads (λ _ _. onInterrupt-reads M)) (λ _ _. reads-ret tt)) (λ _ _. free (no-get M wakes-cell) (λ _ _. reads-ret tt))))
+      (λ _. free (no-act M no-wakes refl) (λ _ _. then-free {P = Any} (then-free (once keepMicroframe-reads (λ _ _. onInterrupt-reads M)) (λ _ _. reads-ret tt)) (λ _ _. free no-fetch (λ _ _. reads-ret tt))))
       (λ _. reads-ret tt))
 
   -- from a state of these sorts, on every path on which they stay between two accesses

@@ -11,11 +11,10 @@ use Rattle.regs.specs.ControlWord.{toggle, isData1}
 use Rattle.regs.specs.Enables.{inEnabled, outEnabled}
 use Rattle.regs.specs.Status.{endpoint, tokenNumbered, token, isOut, isSof, isIn}
 use Rattle.state.specs.declared.Globals.{Globals}
-use Rattle.script.specs.Cells.{Cell, Val, globals-cell, wakes-cell, control-cell, allocator-cell, ep-cell, request-cell, paced-cell}
+use Rattle.script.specs.Cells.{Cell, Val, globals-cell, control-cell, allocator-cell, ep-cell, request-cell, paced-cell}
 use Rattle.script.specs.Script.{Ops, run}
 use Rattle.frame.specs.Usb20.{frameNumber, microframe, indexOf, frameOf}
 use Rattle.frame.specs.Advance.{isNone, previous, inPrevious}
-use Rattle.state.specs.Wakes.{none-woken, woken}
 use Rattle.script.specs.Statics.{isOn, isoInEvery, isoOuts}
 use Rattle.script.specs.IsoIn.{sofWalk, lateWalk, leaving}
 use Rattle.script.specs.IsoOut.{arriving, entry, checkWalk}
@@ -42,7 +41,6 @@ globals = record { stage = 2; callback = 0; power = 1; «setup_ready» = 0; «se
 
 abbrev cells : (c : Cell) → Val c
 cells globals-cell = globals
-cells wakes-cell = none-woken
 cells control-cell = no-control
 cells allocator-cell = allocator
 cells (ep-cell d e) = plain (all-but d e)
@@ -80,7 +78,6 @@ flag-is false = refl
 
 shown : (c : Cell) → Shows all-but c (cells c)
 shown globals-cell = (outs-are, ins-are)
-shown wakes-cell = tt
 shown control-cell = tt
 shown allocator-cell = tt
 shown (ep-cell d e) = flag-is (all-but d e)
@@ -103,5 +100,5 @@ abbrev longest : Continues Unit
 longest = (0, tt) ∷ (2, tt) ∷ (0, tt) ∷ (1, tt) ∷ zeros 4200
 
 pub sorted-reached : readings (run standing interruptCode tt) longest ≡ 4056
-unfolding readings looks sofWalk lateWalk checkWalk isSet bitsFrom inEnabled outEnabled isOn isoInEvery isoOuts woken withBit endpoint tokenNumbered token isOut isSof isIn toggle isData1 frameNumber microframe indexOf frameOf isNone previous inPrevious leaving arriving entry outNaks inNaks repeated sameOut waitsForIso waitsForBulk isoFor ownIn
+unfolding readings looks sofWalk lateWalk checkWalk isSet bitsFrom inEnabled outEnabled isOn isoInEvery isoOuts withBit endpoint tokenNumbered token isOut isSof isIn toggle isData1 frameNumber microframe indexOf frameOf isNone previous inPrevious leaving arriving entry outNaks inNaks repeated sameOut waitsForIso waitsForBulk isoFor ownIn
 sorted-reached = refl

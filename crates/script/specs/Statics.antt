@@ -1,5 +1,6 @@
 -- The Rust's statics, as a script assigns them
 use mathlib.Core.Bool.{Bool, true, false, not, cond}
+use mathlib.Core.List.{[], _∷_}
 use Prim.Native.Nat.{ℕ, _+_, _-_, _*_, _/_, _%_}
 use lib.Dec.{eqb}
 use lib.Bits.{bitAnd}
@@ -10,11 +11,10 @@ use Rattle.regs.specs.declared.Dir.{Dir}
 use Rattle.regs.specs.declared.Dir.the-variants.{Out, In}
 use Rattle.regs.specs.Enables.{inEnabled, outEnabled}
 use Rattle.state.specs.declared.Globals.{Globals}
-use Rattle.state.specs.declared.Wakes.{Wakes}
-use Rattle.state.specs.Wakes.{woken, bus-woken}
+use Rattle.state.specs.Wakes.{wakeCode, busCode, every-endpoint}
 use Rattle.state.specs.Kept.{withIntEn, withEpType}
-use Rattle.script.specs.Cells.{Plain, globals-cell, wakes-cell, ep-cell, paced-cell}
-use Rattle.script.specs.Script.{Script, ret, done, test, _>>=_, _>>_, read, write, get, put, when}
+use Rattle.script.specs.Cells.{Plain, globals-cell, ep-cell, paced-cell}
+use Rattle.script.specs.Script.{Script, ret, done, test, _>>=_, _>>_, read, write, get, put, act, when, waken}
 use Rattle.frame.specs.Advance.{NO_FRAME}
 
 -- a flag in a byte
@@ -67,12 +67,6 @@ withSofFrame v g = record { stage = g .stage; callback = g .callback; power = g 
 abbrev pub withEntered : ℕ → Globals → Globals
 withEntered v g = record { stage = g .stage; callback = g .callback; power = g .power; «setup_ready» = g .«setup_ready»; «setup_low» = g .«setup_low»; «setup_high» = g .«setup_high»; «int_en» = g .«int_en»; «ep_config» = g .«ep_config»; «ep_type» = g .«ep_type»; «iso_out_eps» = g .«iso_out_eps»; «iso_in_every» = g .«iso_in_every»; «iso_in_paced» = g .«iso_in_paced»; «sof_frame» = g .«sof_frame»; «ep0_buf» = g .«ep0_buf»; «ep0_max» = g .«ep0_max»; entered = v }
 
--- ---- wake-ups
-
--- OUT 0 to 15, then IN 0 to 15
-unfoldable pub all-woken : Wakes → Wakes
-all-woken w = record { outs = 65535; ins = 65535; bus = w .bus }
-
 -- ---- assignments
 
 abbrev pub modify : {i : Bool} → (Globals → Globals) → Script i Unit
@@ -87,20 +81,15 @@ modifyEp d e f = do
 
 -- `s.waker.wake()`
 abbrev pub wake : {i : Bool} → Dir → ℕ → Script i Unit
-wake d e = do
-  w ← get wakes-cell
-  put wakes-cell (woken d e w)
+wake d e = act (waken (wakeCode d e ∷ []))
 
+-- of every endpoint (mod.rs 1218-1220)
 abbrev pub wakeAll : {i : Bool} → Script i Unit
-wakeAll = do
-  w ← get wakes-cell
-  put wakes-cell (all-woken w)
+wakeAll = act (waken every-endpoint)
 
 -- `BUS_WAKER.wake()`
 abbrev pub wakeBus : {i : Bool} → Script i Unit
-wakeBus = do
-  w ← get wakes-cell
-  put wakes-cell (bus-woken w)
+wakeBus = act (waken (busCode ∷ []))
 
 -- `modify` of a register: a reading, then a write
 abbrev pub modifyReg : {i : Bool} → Reg → ℕ → (ℕ → ℕ) → Script i Unit

@@ -9,12 +9,12 @@ use Rattle.regs.specs.declared.Dir.{Dir}
 use Rattle.state.specs.declared.EpState.{EpState}
 use Rattle.state.specs.declared.Allocator.{Allocator}
 use Rattle.state.specs.declared.Globals.{Globals}
-use Rattle.state.specs.declared.Wakes.{Wakes}
 use Rattle.state.specs.declared.Request.{Request}
 use Rattle.state.specs.declared.Control.{Control}
 use Rattle.state.specs.declared.Saved.{Saved}
 use Rattle.fields.specs.Bytes.{gets, puts, number, digits, numbers, bytes, Each}
-use Rattle.state.specs.Codec.{epWidths, epAs, epOf, allocatorWidths, allocatorAs, allocatorOf, globalsWidths, globalsAs, globalsOf, wakesWidths, wakesAs, wakesOf, requestWidths, requestAs, requestOf, controlWidths, controlAs, controlOf, savedWidths, savedAs, savedOf}
+use Rattle.state.specs.Codec.{epWidths, epAs, epOf, allocatorWidths, allocatorAs, allocatorOf, globalsWidths, globalsAs, globalsOf, requestWidths, requestAs, requestOf, controlWidths, controlAs, controlOf, savedWidths, savedAs, savedOf}
+use Rattle.state.specs.Wakes.{Wakes, withCount, withCodes}
 use Rattle.state.specs.Driver.{Driver, key, lenKey, stampKey, noEp, noRequest, withEps, withLens, withStamps, withPaced, withRequests, withGlobals, withAllocator, withControl, withWakes, epOn, withOn, lenOn, withLenOn, stampOn, withStampOn, pacedOn, withPacedOn, requestOn, withRequestOn}
 use Rattle.state.specs.State.{epIn, allocatorIn, globalsIn, wakesIn, requestIn, controlIn, savedIn, view, saved}
 use Rattle.fields.specs.Runs.{Same, puts-same, gets-same, gets-puts}
@@ -62,19 +62,26 @@ module _ (xs : List ℕ) (o : ℕ) (bs : List ℕ) where
   control-off : Off 2743 2752 → controlIn (gets ys 2743 0 9) ≡ controlIn (gets xs 2743 0 9)
   control-off h = one controlIn 2743 9 h
 
-  wakes-off : Off 2752 2757 → wakesIn (gets ys 2752 0 5) ≡ wakesIn (gets xs 2752 0 5)
-  wakes-off h = one wakesIn 2752 5 h
+  count-off : Off 2752 2753 → number (gets ys 2752 0 1) ≡ number (gets xs 2752 0 1)
+  count-off h = one number 2752 1 h
+
+  codes-off : Off 2753 2817 → table ys 2753 64 1 number ≡ table xs 2753 64 1 number
+  codes-off h = many number 2753 64 1 h
+
+  wakes-off : Off 2752 2817 → wakesIn ys ≡ wakesIn xs
+  wakes-off (inl h) = λ i. record { count = count-off (inl (omega (arith, h))) i; codes = codes-off (inl h) i }
+  wakes-off (inr h) = λ i. record { count = count-off (inr h) i; codes = codes-off (inr (omega (arith, h))) i }
 
   -- what is stored before the suspended operation leaves it
-  pub saved-off : o + length bs ≤ 2757 → saved ys ≡ saved xs
+  pub saved-off : o + length bs ≤ 2817 → saved ys ≡ saved xs
   unfolding saved
-  saved-off h = one savedIn 2757 22 (inr h)
+  saved-off h = one savedIn 2817 22 (inr h)
 
 -- a record on its own, read back
 back : {A : Type 0} (f : List ℕ → A) (xs : List ℕ) (o : ℕ) (bs : List ℕ) (r : A) → o + length bs ≤ length xs → f bs ≡ r → f (gets (puts xs o 0 bs) o 0 (length bs)) ≡ r
 back f xs o bs r h p = ap f (gets-puts xs o bs h) ∙ p
 
-module _ (xs : List ℕ) (sized : length xs ≡ 2779) where
+module _ (xs : List ℕ) (sized : length xs ≡ 2839) where
   pub view-eps : (k : ℕ) (r : EpState) → k < 32 → view (puts xs (0 + k * 30) 0 (bytes epWidths (epAs r))) ≡ withEps (view xs) (set (view xs .eps) k r)
   unfolding view
   view-eps k r l =
@@ -211,11 +218,11 @@ module _ (xs : List ℕ) (sized : length xs ≡ 2779) where
         wakes = wakes-off xs o bs (inr (omega arith)) i;
       }
 
-  pub view-wakes : (r : Wakes) → view (puts xs 2752 0 (bytes wakesWidths (wakesAs r))) ≡ withWakes (view xs) r
+  pub view-count : (v : ℕ) → view (puts xs 2752 0 (digits 1 v)) ≡ withWakes (view xs) (withCount (view xs .wakes) v)
   unfolding view
-  view-wakes r =
+  view-count v =
       let o : ℕ = 2752 in
-      let bs = bytes wakesWidths (wakesAs r) in
+      let bs = digits 1 v in
       λ i. record {
         eps = eps-off xs o bs (inl (omega arith)) i;
         lens = lens-off xs o bs (inl (omega arith)) i;
@@ -225,13 +232,30 @@ module _ (xs : List ℕ) (sized : length xs ≡ 2779) where
         paced = paced-off xs o bs (inl (omega arith)) i;
         requests = requests-off xs o bs (inl (omega arith)) i;
         control = control-off xs o bs (inl (omega arith)) i;
-        wakes = back wakesIn xs o bs r (omega arith) (ap wakesOf (numbers-bytes wakesWidths (wakesAs r) tt)) i;
+        wakes = record { count = back number xs o bs v (omega arith) (number-digits 0 v) i; codes = codes-off xs o bs (inr (omega arith)) i };
       }
 
-  pub view-saved : (r : Saved) → view (puts xs 2757 0 (bytes savedWidths (savedAs r))) ≡ view xs
+  pub view-codes : (k v : ℕ) → k < 64 → view (puts xs (2753 + k * 1) 0 (digits 1 v)) ≡ withWakes (view xs) (withCodes (view xs .wakes) (set (view xs .wakes .codes) k v))
+  unfolding view
+  view-codes k v l =
+      let o = 2753 + k * 1 in
+      let bs = digits 1 v in
+      λ i. record {
+        eps = eps-off xs o bs (inl (omega arith)) i;
+        lens = lens-off xs o bs (inl (omega arith)) i;
+        stamps = stamps-off xs o bs (inl (omega arith)) i;
+        globals = globals-off xs o bs (inl (omega arith)) i;
+        allocator = allocator-off xs o bs (inl (omega arith)) i;
+        paced = paced-off xs o bs (inl (omega arith)) i;
+        requests = requests-off xs o bs (inl (omega arith)) i;
+        control = control-off xs o bs (inl (omega arith)) i;
+        wakes = record { count = count-off xs o bs (inl (omega arith)) i; codes = table-set number 2753 64 1 xs k bs v l (omega arith) refl (number-digits 0 v) i };
+      }
+
+  pub view-saved : (r : Saved) → view (puts xs 2817 0 (bytes savedWidths (savedAs r))) ≡ view xs
   unfolding view
   view-saved r =
-      let o : ℕ = 2757 in
+      let o : ℕ = 2817 in
       let bs = bytes savedWidths (savedAs r) in
       λ i. record {
         eps = eps-off xs o bs (inl (omega arith)) i;
@@ -245,9 +269,9 @@ module _ (xs : List ℕ) (sized : length xs ≡ 2779) where
         wakes = wakes-off xs o bs (inl (omega arith)) i;
       }
 
-  pub saved-saved : (r : Saved) → saved (puts xs 2757 0 (bytes savedWidths (savedAs r))) ≡ r
+  pub saved-saved : (r : Saved) → saved (puts xs 2817 0 (bytes savedWidths (savedAs r))) ≡ r
   unfolding saved
-  saved-saved r = back savedIn xs 2757 (bytes savedWidths (savedAs r)) r (omega arith) (ap savedOf (numbers-bytes savedWidths (savedAs r) tt))
+  saved-saved r = back savedIn xs 2817 (bytes savedWidths (savedAs r)) r (omega arith) (ap savedOf (numbers-bytes savedWidths (savedAs r) tt))
 
   -- a record of a table, at the place of an endpoint
   pub view-ep : (dir : Dir) (e k : ℕ) (r : EpState) → k ≡ key dir e → k < 32 → view (puts xs (0 + k * 30) 0 (bytes epWidths (epAs r))) ≡ withOn (view xs) dir e r
@@ -287,6 +311,10 @@ module _ (xs : List ℕ) where
   pub paced-at : (e : ℕ) → number (gets xs (2551 + e % 16 * 2) 0 2) ≡ pacedOn (view xs) e
   unfolding view pacedOn
   paced-at e = table-at number 2551 16 2 xs (e % 16) 0 (omega arith)
+
+  pub code-at : (k : ℕ) → number (gets xs (2753 + k % 64 * 1) 0 1) ≡ getD (view xs .wakes .codes) (k % 64) 0
+  unfolding view
+  code-at k = table-at number 2753 64 1 xs (k % 64) 0 (omega arith)
 
   pub request-at : (dir : Dir) (e k : ℕ) (r : Request) → k ≡ key dir e → k < 32 → Each (requestAs r) (numbers requestWidths (gets xs (2583 + k * 5) 0 5)) → r ≡ requestOn (view xs) dir e
   unfolding view requestOn

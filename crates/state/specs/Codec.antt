@@ -6,7 +6,6 @@ use lib.ListN.{getD}
 use Rattle.state.specs.declared.EpState.{EpState}
 use Rattle.state.specs.declared.Allocator.{Allocator}
 use Rattle.state.specs.declared.Globals.{Globals}
-use Rattle.state.specs.declared.Wakes.{Wakes}
 use Rattle.state.specs.declared.Request.{Request}
 use Rattle.state.specs.declared.Control.{Control}
 use Rattle.state.specs.declared.Saved.{Saved}
@@ -90,19 +89,6 @@ globalsOf ns = record {
   «ep_config» = getD ns 13 0;
   «ep_type» = getD ns 14 0;
   «ep0_buf» = getD ns 15 0;
-}
-
-abbrev pub wakesWidths : List ℕ
-wakesWidths = 1 ∷ 2 ∷ 2 ∷ []
-
-abbrev pub wakesAs : Wakes → List ℕ
-wakesAs r = r .bus ∷ r .outs ∷ r .ins ∷ []
-
-abbrev pub wakesOf : List ℕ → Wakes
-wakesOf ns = record {
-  bus = getD ns 0 0;
-  outs = getD ns 1 0;
-  ins = getD ns 2 0;
 }
 
 abbrev pub requestWidths : List ℕ

@@ -7,9 +7,9 @@ use Rattle.regs.specs.declared.Dir.the-variants.{Out, In}
 use Rattle.state.specs.declared.EpState.{EpState}
 use Rattle.state.specs.declared.Allocator.{Allocator}
 use Rattle.state.specs.declared.Globals.{Globals}
-use Rattle.state.specs.declared.Wakes.{Wakes}
 use Rattle.state.specs.declared.Request.{Request}
 use Rattle.state.specs.declared.Control.{Control}
+use Rattle.state.specs.Wakes.{Wakes}
 
 -- `eps` and `requests`: OUT 0 to 15, then IN 0 to 15; `lens`: 16 for each of `eps`; `stamps`: 16 for each OUT endpoint, the microframe with
 -- each packet; `paced`: a last microframe for each endpoint

@@ -33,6 +33,11 @@ view-sized xs = record {
   requests = length-tab (λ k. requestIn (gets xs (2583 + k * 5) 0 5)) 32;
 }
 
+-- room for 64 wake-ups
+pub view-codes : (xs : List ℕ) → length (view xs .wakes .codes) ≡ 64
+unfolding view
+view-codes xs = length-tab (λ k. number (gets xs (2753 + k * 1) 0 1)) 64
+
 pub key-lt : (dir : Dir) (e : ℕ) → key dir e < 32
 unfolding key
 key-lt Out e = omega arith
@@ -147,4 +152,4 @@ module _ (d : Driver) (e : ℕ) where
 -- all bytes 0: before the first start-up, and nothing is under way
 pub before-start : (xs : List ℕ) → ((i : ℕ) → getD xs i 0 ≡ 0) → (view xs .globals .stage ≡ 0) × (saved xs .tag ≡ 0)
 unfolding view saved
-before-start xs h = (omega (arith, h 2496), omega (arith, h 2757))
+before-start xs h = (omega (arith, h 2496), omega (arith, h 2817))

@@ -1,8 +1,9 @@
 pub mod Codec
 pub mod Ep
+pub mod Wakes
+pub mod WakesLaws
 pub mod Driver
 pub mod State
-pub mod Wakes
 pub mod Kept
 pub mod Fresh
 pub mod Laws

@@ -4,13 +4,13 @@ use Prim.Native.Nat.{ℕ}
 use Rattle.state.specs.declared.EpState.{EpState}
 use Rattle.state.specs.declared.Allocator.{Allocator}
 use Rattle.state.specs.declared.Globals.{Globals}
-use Rattle.state.specs.declared.Wakes.{Wakes}
 use Rattle.state.specs.declared.Request.{Request}
 use Rattle.state.specs.declared.Control.{Control}
 use Rattle.state.specs.declared.Saved.{Saved}
 use Rattle.fields.specs.Bytes.{gets, number, numbers}
 use Rattle.fields.specs.Tables.{table}
 use Rattle.state.specs.Codec as codec
+use Rattle.state.specs.Wakes.{Wakes}
 use Rattle.state.specs.Driver.{Driver}
 
 abbrev pub epIn : List ℕ → EpState
@@ -23,7 +23,7 @@ abbrev pub globalsIn : List ℕ → Globals
 globalsIn bs = codec.globalsOf (numbers codec.globalsWidths bs)
 
 abbrev pub wakesIn : List ℕ → Wakes
-wakesIn bs = codec.wakesOf (numbers codec.wakesWidths bs)
+wakesIn xs = record { count = number (gets xs 2752 0 1); codes = table xs 2753 64 1 number }
 
 abbrev pub requestIn : List ℕ → Request
 requestIn bs = codec.requestOf (numbers codec.requestWidths bs)
@@ -44,9 +44,9 @@ view xs = record {
   paced = table xs 2551 16 2 number;
   requests = table xs 2583 32 5 requestIn;
   control = controlIn (gets xs 2743 0 9);
-  wakes = wakesIn (gets xs 2752 0 5);
+  wakes = wakesIn xs;
 }
 
 -- the suspended operation
 unfoldable pub saved : List ℕ → Saved
-saved xs = savedIn (gets xs 2757 0 22)
+saved xs = savedIn (gets xs 2817 0 22)

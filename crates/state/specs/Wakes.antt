@@ -1,17 +1,51 @@
--- The wake-ups gathered by an operation
-use mathlib.Core.Bool.{true}
-use Prim.Native.Nat.{ℕ, _%_}
-use Rattle.bits.specs.Bit.{withBit}
+-- The wake-ups gathered by the operation under way, in their order (request Nine)
+use mathlib.Core.Bool.{cond}
+use mathlib.Core.List.{List, [], _∷_, _++_}
+use Prim.Native.Nat.{ℕ, zero, suc, _+_, _%_}
+use lib.Dec.{ltb}
+use lib.ListN.{set, take, replicate}
 use Rattle.regs.specs.declared.Dir.{Dir}
 use Rattle.regs.specs.declared.Dir.the-variants.{Out, In}
-use Rattle.state.specs.declared.Wakes.{Wakes}
+
+-- how many, and room for 64: the codes of those woken, in order
+pub record Wakes : Type 0 where
+  pub count : ℕ
+  pub codes : List ℕ
+
+abbrev pub withCount : Wakes → ℕ → Wakes
+withCount w n = record { count = n; codes = w .codes }
+
+abbrev pub withCodes : Wakes → List ℕ → Wakes
+withCodes w cs = record { count = w .count; codes = cs }
+
+-- whose task: an endpoint's, 0 to 15 for IN and 16 to 31 for OUT, or the bus's
+unfoldable pub wakeCode : Dir → ℕ → ℕ
+wakeCode In e = e % 16
+wakeCode Out e = 16 + e % 16
+
+abbrev pub busCode : ℕ
+busCode = 32
+
+abbrev pub codesFrom : ℕ → ℕ → List ℕ
+codesFrom a zero = []
+codesFrom a (suc n) = a ∷ codesFrom (a + 1) n
+
+-- OUT 0 to 15, then IN 0 to 15 (mod.rs 1218)
+unfoldable pub every-endpoint : List ℕ
+every-endpoint = codesFrom 16 16 ++ codesFrom 0 16
 
 abbrev pub none-woken : Wakes
-none-woken = record { outs = 0; ins = 0; bus = 0 }
+none-woken = record { count = 0; codes = replicate 64 0 }
 
-unfoldable pub woken : Dir → ℕ → Wakes → Wakes
-woken Out e w = record { outs = withBit (w .outs) (e % 16) true; ins = w .ins; bus = w .bus }
-woken In e w = record { outs = w .outs; ins = withBit (w .ins) (e % 16) true; bus = w .bus }
+-- "as a list, in order, repeats included"
+unfoldable pub listed : Wakes → List ℕ
+listed w = take (w .count) (w .codes)
 
-unfoldable pub bus-woken : Wakes → Wakes
-bus-woken w = record { outs = w .outs; ins = w .ins; bus = 1 }
+-- one more, the last. With 64 there is room for none, which no operation comes to (`script`, WakeUpsLaws)
+unfoldable pub woken : ℕ → Wakes → Wakes
+woken c w = cond (ltb (w .count) 64) (withCount (withCodes w (set (w .codes) (w .count) c)) (w .count + 1)) w
+
+-- several, one after the other
+abbrev pub all-woken : List ℕ → Wakes → Wakes
+all-woken [] w = w
+all-woken (c ∷ cs) w = all-woken cs (woken c w)

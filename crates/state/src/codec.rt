@@ -6,7 +6,6 @@ use crate::Globals;
 use crate::Request;
 use crate::STATE_LEN;
 use crate::Saved;
-use crate::Wakes;
 use fields::get8;
 use fields::get8x5;
 use fields::get16;
@@ -20,10 +19,10 @@ use fields::put32;
 ghost use mathlib.Core.Path.{_≡_};
 ghost use Prim.Native.Nat.{_+_, _≤_};
 ghost use Rattle.fields.specs.Bytes.{gets, puts, numbers, bytes, Each};
-ghost use Rattle.state.specs.Codec.{epWidths, epAs, allocatorWidths, allocatorAs, globalsWidths, globalsAs, wakesWidths, wakesAs, requestWidths, requestAs, controlWidths, controlAs, savedWidths, savedAs};
+ghost use Rattle.state.specs.Codec.{epWidths, epAs, allocatorWidths, allocatorAs, globalsWidths, globalsAs, requestWidths, requestAs, controlWidths, controlAs, savedWidths, savedAs};
 
 pub fn read_ep(s: &[u8; STATE_LEN], o: usize) -> EpState
-    requires { ⌜ o + 30 ≤ 2779 ⌝ }
+    requires { ⌜ o + 30 ≤ 2839 ⌝ }
     ensures { λ r. ⌜ Each (epAs r) (numbers epWidths (gets (now (s .entry)) o 0 30)) ⌝ }
 {
     let a = get8x5(s, o, 0);
@@ -50,7 +49,7 @@ pub fn read_ep(s: &[u8; STATE_LEN], o: usize) -> EpState
 }
 
 pub fn write_ep(s: &mut [u8; STATE_LEN], o: usize, r: EpState)
-    requires { ⌜ o + 30 ≤ 2779 ⌝ }
+    requires { ⌜ o + 30 ≤ 2839 ⌝ }
     ensures { λ _. ⌜ now (s .exit) ≡ puts (now (s .entry)) o 0 (bytes epWidths (epAs r)) ⌝ }
 {
     put8x5(s, o, 0, r.ready, r.armed, r.iso, r.kind, r.slots);
@@ -65,7 +64,7 @@ pub fn write_ep(s: &mut [u8; STATE_LEN], o: usize, r: EpState)
 }
 
 pub fn read_allocator(s: &[u8; STATE_LEN], o: usize) -> Allocator
-    requires { ⌜ o + 18 ≤ 2779 ⌝ }
+    requires { ⌜ o + 18 ≤ 2839 ⌝ }
     ensures { λ r. ⌜ Each (allocatorAs r) (numbers allocatorWidths (gets (now (s .entry)) o 0 18)) ⌝ }
 {
     let a = get16x5(s, o, 0);
@@ -83,7 +82,7 @@ pub fn read_allocator(s: &[u8; STATE_LEN], o: usize) -> Allocator
 }
 
 pub fn write_allocator(s: &mut [u8; STATE_LEN], o: usize, r: Allocator)
-    requires { ⌜ o + 18 ≤ 2779 ⌝ }
+    requires { ⌜ o + 18 ≤ 2839 ⌝ }
     ensures { λ _. ⌜ now (s .exit) ≡ puts (now (s .entry)) o 0 (bytes allocatorWidths (allocatorAs r)) ⌝ }
 {
     put16x5(s, o, 0, r.size, r.count, r.next, r.taken_out, r.taken_in);
@@ -94,7 +93,7 @@ pub fn write_allocator(s: &mut [u8; STATE_LEN], o: usize, r: Allocator)
 }
 
 pub fn read_globals(s: &[u8; STATE_LEN], o: usize) -> Globals
-    requires { ⌜ o + 37 ≤ 2779 ⌝ }
+    requires { ⌜ o + 37 ≤ 2839 ⌝ }
     ensures { λ r. ⌜ Each (globalsAs r) (numbers globalsWidths (gets (now (s .entry)) o 0 37)) ⌝ }
 {
     let a = get8x5(s, o, 0);
@@ -120,7 +119,7 @@ pub fn read_globals(s: &[u8; STATE_LEN], o: usize) -> Globals
 }
 
 pub fn write_globals(s: &mut [u8; STATE_LEN], o: usize, r: Globals)
-    requires { ⌜ o + 37 ≤ 2779 ⌝ }
+    requires { ⌜ o + 37 ≤ 2839 ⌝ }
     ensures { λ _. ⌜ now (s .exit) ≡ puts (now (s .entry)) o 0 (bytes globalsWidths (globalsAs r)) ⌝ }
 {
     put8x5(
@@ -151,28 +150,8 @@ pub fn write_globals(s: &mut [u8; STATE_LEN], o: usize, r: Globals)
     put32(s, o, 33, r.ep0_buf);
 }
 
-pub fn read_wakes(s: &[u8; STATE_LEN], o: usize) -> Wakes
-    requires { ⌜ o + 5 ≤ 2779 ⌝ }
-    ensures { λ r. ⌜ Each (wakesAs r) (numbers wakesWidths (gets (now (s .entry)) o 0 5)) ⌝ }
-{
-    Wakes {
-        bus: get8(s, o, 0),
-        outs: get16(s, o, 1),
-        ins: get16(s, o, 3),
-    }
-}
-
-pub fn write_wakes(s: &mut [u8; STATE_LEN], o: usize, r: Wakes)
-    requires { ⌜ o + 5 ≤ 2779 ⌝ }
-    ensures { λ _. ⌜ now (s .exit) ≡ puts (now (s .entry)) o 0 (bytes wakesWidths (wakesAs r)) ⌝ }
-{
-    put8(s, o, 0, r.bus);
-    put16(s, o, 1, r.outs);
-    put16(s, o, 3, r.ins);
-}
-
 pub fn read_request(s: &[u8; STATE_LEN], o: usize) -> Request
-    requires { ⌜ o + 5 ≤ 2779 ⌝ }
+    requires { ⌜ o + 5 ≤ 2839 ⌝ }
     ensures { λ r. ⌜ Each (requestAs r) (numbers requestWidths (gets (now (s .entry)) o 0 5)) ⌝ }
 {
     Request {
@@ -182,7 +161,7 @@ pub fn read_request(s: &[u8; STATE_LEN], o: usize) -> Request
 }
 
 pub fn write_request(s: &mut [u8; STATE_LEN], o: usize, r: Request)
-    requires { ⌜ o + 5 ≤ 2779 ⌝ }
+    requires { ⌜ o + 5 ≤ 2839 ⌝ }
     ensures { λ _. ⌜ now (s .exit) ≡ puts (now (s .entry)) o 0 (bytes requestWidths (requestAs r)) ⌝ }
 {
     put8(s, o, 0, r.begun);
@@ -190,7 +169,7 @@ pub fn write_request(s: &mut [u8; STATE_LEN], o: usize, r: Request)
 }
 
 pub fn read_control(s: &[u8; STATE_LEN], o: usize) -> Control
-    requires { ⌜ o + 9 ≤ 2779 ⌝ }
+    requires { ⌜ o + 9 ≤ 2839 ⌝ }
     ensures { λ r. ⌜ Each (controlAs r) (numbers controlWidths (gets (now (s .entry)) o 0 9)) ⌝ }
 {
     let a = get8x5(s, o, 0);
@@ -205,7 +184,7 @@ pub fn read_control(s: &[u8; STATE_LEN], o: usize) -> Control
 }
 
 pub fn write_control(s: &mut [u8; STATE_LEN], o: usize, r: Control)
-    requires { ⌜ o + 9 ≤ 2779 ⌝ }
+    requires { ⌜ o + 9 ≤ 2839 ⌝ }
     ensures { λ _. ⌜ now (s .exit) ≡ puts (now (s .entry)) o 0 (bytes controlWidths (controlAs r)) ⌝ }
 {
     put8x5(s, o, 0, r.sort, r.last, r.wait, r.sets_address, r.address);
@@ -213,7 +192,7 @@ pub fn write_control(s: &mut [u8; STATE_LEN], o: usize, r: Control)
 }
 
 pub fn read_saved(s: &[u8; STATE_LEN], o: usize) -> Saved
-    requires { ⌜ o + 22 ≤ 2779 ⌝ }
+    requires { ⌜ o + 22 ≤ 2839 ⌝ }
     ensures { λ r. ⌜ Each (savedAs r) (numbers savedWidths (gets (now (s .entry)) o 0 22)) ⌝ }
 {
     let a = get8x5(s, o, 0);
@@ -238,7 +217,7 @@ pub fn read_saved(s: &[u8; STATE_LEN], o: usize) -> Saved
 }
 
 pub fn write_saved(s: &mut [u8; STATE_LEN], o: usize, r: Saved)
-    requires { ⌜ o + 22 ≤ 2779 ⌝ }
+    requires { ⌜ o + 22 ≤ 2839 ⌝ }
     ensures { λ _. ⌜ now (s .exit) ≡ puts (now (s .entry)) o 0 (bytes savedWidths (savedAs r)) ⌝ }
 {
     put8x5(s, o, 0, r.tag, r.sub, r.site, r.flag, r.busy);

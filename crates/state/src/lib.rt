@@ -6,14 +6,12 @@ use codec::read_ep;
 use codec::read_globals;
 use codec::read_request;
 use codec::read_saved;
-use codec::read_wakes;
 use codec::write_allocator;
 use codec::write_control;
 use codec::write_ep;
 use codec::write_globals;
 use codec::write_request;
 use codec::write_saved;
-use codec::write_wakes;
 use fields::get16;
 use fields::put16;
 use regs::Dir;
@@ -22,7 +20,7 @@ mod codec;
 mod kept;
 mod stamps;
 mod start_up;
-mod wake;
+mod wakes;
 
 pub use fields::STATE_LEN;
 pub use kept::set_ep_config;
@@ -33,13 +31,14 @@ pub use stamps::clear_stamps;
 pub use stamps::load_stamp;
 pub use stamps::store_stamp;
 pub use start_up::fresh;
-pub use wake::clear_wakes;
-pub use wake::wake_bus;
-pub use wake::wake_in;
-pub use wake::wake_out;
+pub use wakes::clear_wakes;
+pub use wakes::wake;
+pub use wakes::wake_code;
+pub use wakes::woken_at;
+pub use wakes::woken_count;
 ghost use mathlib.Core.Path.{_≡_};
 ghost use Prim.Native.Nat.{_<_};
-ghost use Rattle.state.specs.Driver.{key, lenKey, epOn, withOn, lenOn, withLenOn, pacedOn, withPacedOn, requestOn, withRequestOn, withGlobals, withAllocator, withControl, withWakes};
+ghost use Rattle.state.specs.Driver.{key, lenKey, epOn, withOn, lenOn, withLenOn, pacedOn, withPacedOn, requestOn, withRequestOn, withGlobals, withAllocator, withControl};
 ghost use Rattle.state.specs.Ep.{newEp, resetOf, countOf};
 ghost use Rattle.state.specs.State.{view, saved};
 
@@ -62,7 +61,9 @@ const CONTROL: usize = 2743;
 
 const WAKES: usize = 2752;
 
-const SAVED: usize = 2757;
+const CODES: usize = 2753;
+
+const SAVED: usize = 2817;
 
 // Per endpoint and direction, as in the Rust without the waker and the shortest length: flags are 0 or 1 in a byte; `lens` stands apart.
 pub struct EpState {
@@ -188,13 +189,6 @@ pub struct Globals {
     pub ep0_buf: u32,
     pub ep0_max: u16,
     pub entered: u16,
-}
-
-// The wake-ups gathered by the operation under way: a bit for each endpoint and direction, and the bus.
-pub struct Wakes {
-    pub outs: u16,
-    pub ins: u16,
-    pub bus: u8,
 }
 
 // A read or a write that was begun on an endpoint, with its begin's length.
@@ -359,20 +353,6 @@ pub fn store_control(s: &mut [u8; STATE_LEN], r: Control)
 {
     sized(s);
     write_control(s, CONTROL, r);
-}
-
-pub fn load_wakes(s: &[u8; STATE_LEN]) -> Wakes
-    ensures { λ r. ⌜ r ≡ view (now (s .entry)) .wakes ⌝ }
-{
-    read_wakes(s, WAKES)
-}
-
-pub fn store_wakes(s: &mut [u8; STATE_LEN], r: Wakes)
-    ensures { λ _. ⌜ view (now (s .exit)) ≡ withWakes (view (now (s .entry))) r ⌝ }
-    ensures { λ _. ⌜ saved (now (s .exit)) ≡ saved (now (s .entry)) ⌝ }
-{
-    sized(s);
-    write_wakes(s, WAKES, r);
 }
 
 // The suspended operation stands beside the view.

@@ -25,42 +25,42 @@ flagOf n = not (eqb n 0)
 -- a call that brings no slots: the state's bytes before and after; the slots may be any
 abbrev pub Answers : ℕ → Call Config Op → List ℕ → List ℕ → Type 0
 Answers r c before after =
-    Worded r (λ step. (a b : Buf) → (answerOf step [], machineOf after b) ≡ drive c (machineOf before a) b)
+    Worded r (λ step. (a b : Buf) → (answerOf step [] (view after), machineOf after b) ≡ drive c (machineOf before a) b)
 
 -- a call that brings the slots: their bytes before and after
 abbrev pub AnswersLent : ℕ → Call Config Op → List ℕ → List ℕ → Buf → Buf → Type 0
 AnswersLent r c before after slots slots′ =
     Worded r
-    (λ step. (a : Buf) → (answerOf step [], machineOf after (lentOr (view before) slots slots′ a)) ≡ drive c (machineOf before a) slots)
+    (λ step. (a : Buf) → (answerOf step [] (view after), machineOf after (lentOr (view before) slots slots′ a)) ≡ drive c (machineOf before a) slots)
 
 -- a poll that fills a slice: its bytes after the call are those that the answer brings, or they stay
 abbrev pub AnswersInto : ℕ → Call Config Op → List ℕ → List ℕ → List ℕ → List ℕ → Type 0
 AnswersInto r c before after out out′ =
-    Worded r (λ step. (a b : Buf) → (answerOf step out′, machineOf after b) ≡ drive c (machineOf before a) b)
+    Worded r (λ step. (a b : Buf) → (answerOf step out′ (view after), machineOf after b) ≡ drive c (machineOf before a) b)
     × ((a b : Buf) → out′ ≡ lentBy (drive c (machineOf before a) b .0) out)
 
 -- the same with the slots, which it reads
 abbrev pub AnswersOutOf : ℕ → Call Config Op → List ℕ → List ℕ → Buf → List ℕ → List ℕ → Type 0
 AnswersOutOf r c before after slots out out′ =
-    Worded r (λ step. (a : Buf) → (answerOf step out′, machineOf after (lentOr (view before) slots slots a)) ≡ drive c (machineOf before a) slots)
+    Worded r (λ step. (a : Buf) → (answerOf step out′ (view after), machineOf after (lentOr (view before) slots slots a)) ≡ drive c (machineOf before a) slots)
     × ((a : Buf) → out′ ≡ lentBy (drive c (machineOf before a) slots .0) out)
 
 -- packets in place: of one that is shown, the bytes are the slots'
 abbrev pub AnswersBeside : ℕ → Call Config Op → List ℕ → List ℕ → Type 0
 AnswersBeside r c before after =
-    Worded r (λ step. (a b : Buf) → (answerOf step b, machineOf after b) ≡ drive c (machineOf before a) b)
+    Worded r (λ step. (a b : Buf) → (answerOf step b (view after), machineOf after b) ≡ drive c (machineOf before a) b)
 
 -- the same with the slots: their bytes before and after
 abbrev pub AnswersShown : ℕ → Call Config Op → List ℕ → List ℕ → Buf → Buf → Type 0
 AnswersShown r c before after slots slots′ =
     Worded r
-    (λ step. (a : Buf) → (answerOf step slots′, machineOf after (lentOr (view before) slots slots′ a)) ≡ drive c (machineOf before a) slots)
+    (λ step. (a : Buf) → (answerOf step slots′ (view after), machineOf after (lentOr (view before) slots slots′ a)) ≡ drive c (machineOf before a) slots)
 
 -- open, with the slots, which stay: a packet that is shown is the endpoint's oldest; its stamp is in the caller's room, before and after the call
 abbrev pub AnswersOpen : ℕ → ℕ → List ℕ → List ℕ → Buf → ℕ → ℕ → Type 0
 AnswersOpen r e before after slots stamp stamp′ =
     Worded r
-    (λ step. ((a : Buf) → (answerOf step slots, machineOf after (lentOr (view before) slots slots a)) ≡ drive (begin (aside (Open e))) (machineOf before a) slots)
+    (λ step. ((a : Buf) → (answerOf step slots (view after), machineOf after (lentOr (view before) slots slots a)) ≡ drive (begin (aside (Open e))) (machineOf before a) slots)
     × ShownAt step (view after) e)
     × ((a : Buf) → stamp′ ≡ stampBy (drive (begin (aside (Open e))) (machineOf before a) slots .0) stamp)
 
@@ -68,4 +68,4 @@ AnswersOpen r e before after slots stamp stamp′ =
 abbrev pub AnswersStart : ℕ → Config → List ℕ → List ℕ → Buf → Type 0
 AnswersStart r c before after slots =
     Worded r
-    (λ step. (a : Buf) → (answerOf step [], machineOf after (cond (eqb (startRow c slots) 0) slots a)) ≡ drive (start c) (machineOf before a) slots)
+    (λ step. (a : Buf) → (answerOf step [] (view after), machineOf after (cond (eqb (startRow c slots) 0) slots a)) ≡ drive (start c) (machineOf before a) slots)

@@ -82,15 +82,15 @@ NoSlice (step.Done n) = ⊥
 NoSlice (step.Setup low high) = Unit {0}
 NoSlice (step.Shown at n stamp) = Unit {0}
 
-no-slice : (t : Step) → ByteFirst (answerOf t []) → NoSlice t
-no-slice (step.Refused n) h = tt
-no-slice (step.Asks q) h = tt
-no-slice (step.Ends n w) h = tt
-no-slice step.NotYet h = tt
-no-slice (step.Done zero) h = h
-no-slice (step.Done (suc n)) h = omega arith
-no-slice (step.Setup low high) h = tt
-no-slice (step.Shown at n stamp) h = tt
+no-slice : (t : Step) (x : Driver) → ByteFirst (answerOf t [] x) → NoSlice t
+no-slice (step.Refused n) x h = tt
+no-slice (step.Asks q) x h = tt
+no-slice (step.Ends n w) x h = tt
+no-slice step.NotYet x h = tt
+no-slice (step.Done zero) x h = h
+no-slice (step.Done (suc n)) x h = omega arith
+no-slice (step.Setup low high) x h = tt
+no-slice (step.Shown at n stamp) x h = tt
 
-pub setup-no-slice : (t : Step) (u : Under) (d : Driver) (a b : Buf) → answerOf t [] ≡ drive (begin (other PollSetup)) (machineAt u d a) b .0 → NoSlice t
-setup-no-slice t u d a b e = no-slice t (subst ByteFirst (sym e) (setup-first u d a b))
+pub setup-no-slice : (t : Step) (x : Driver) (u : Under) (d : Driver) (a b : Buf) → answerOf t [] x ≡ drive (begin (other PollSetup)) (machineAt u d a) b .0 → NoSlice t
+setup-no-slice t x u d a b e = no-slice t x (subst ByteFirst (sym e) (setup-first u d a b))

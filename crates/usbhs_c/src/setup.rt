@@ -3,6 +3,7 @@ use way::Step;
 ghost use mathlib.Core.Path.{_≡_};
 ghost use mathlib.Core.List.{[], _++_};
 ghost use Rattle.marks.specs.Copies.{over};
+ghost use Rattle.state.specs.Driver.{Driver};
 ghost use Rattle.script.specs.Control.{wordBytes};
 ghost use Rattle.way.specs.Under.{answerOf, lentBy};
 ghost use Rattle.usbhs_c.specs.Setup.{NoSlice};
@@ -38,8 +39,8 @@ fn fill(packet: &mut [u8; 8], low: u32, high: u32)
 // The word of setup's poll, with the packet's bytes; no other answer of it brings any.
 pub fn setup_word(packet: &mut [u8; 8], step: Step) -> u64
     requires { ⌜ NoSlice step ⌝ }
-    ensures { λ r. ⌜ Worded r (λ t. answerOf t (now (packet .exit)) ≡ answerOf step []) ⌝ }
-    ensures { λ _. ⌜ now (packet .exit) ≡ lentBy (answerOf step []) (now (packet .entry)) ⌝ }
+    ensures { λ r. ⌜ Worded r (λ t. (d : Driver) → answerOf t (now (packet .exit)) d ≡ answerOf step [] d) ⌝ }
+    ensures { λ _. ⌜ ((d : Driver) → now (packet .exit) ≡ lentBy (answerOf step [] d) (now (packet .entry))) ⌝ }
 {
     match step {
         Step::Setup(low, high) => {

@@ -2,12 +2,13 @@ use way::Step;
 ghost use mathlib.Core.Path.{_≡_};
 ghost use mathlib.Core.List.{List};
 ghost use Prim.Native.Nat.{ℕ};
+ghost use Rattle.state.specs.Driver.{Driver};
 ghost use Rattle.way.specs.Under.{answerOf};
 ghost use Rattle.usbhs_c.specs.Stamp.{stampBy};
 
 // The stamp of a packet that is shown; no other answer has one, and what the caller had stays.
 pub fn stamp_by(step: Step, old: u16) -> u16
-    ensures { λ r. ⌜ ((b : List ℕ) → r ≡ stampBy (answerOf step b) old) ⌝ }
+    ensures { λ r. ⌜ ((b : List ℕ) (d : Driver) → r ≡ stampBy (answerOf step b d) old) ⌝ }
 {
     match step {
         Step::Shown(_at, _n, stamp) => stamp,

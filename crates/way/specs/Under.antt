@@ -4,17 +4,15 @@ use mathlib.Core.List.{List, _++_}
 use mathlib.Core.Path.{_≡_, refl, ap}
 use Prim.Native.Nat.{ℕ, _*_}
 use lib.Dec.{eqb}
-use lib.ListN.{length}
+use lib.ListN.{length, take}
 use Rattle.marks.specs.Copies.{bytesAt}
 use Rattle.regs.specs.declared.Access.{Access}
 use Rattle.state.specs.declared.Saved.{Saved}
-use Rattle.state.specs.declared.Wakes.{Wakes}
 use Rattle.state.specs.Driver.{Driver}
 use Rattle.state.specs.State.{view, saved}
 use Rattle.state.specs.Fresh as fresh
 use Rattle.script.specs.Tree.{Out, ends, asks, bindOut}
-use Rattle.script.specs.Cells.{wakes-cell}
-use Rattle.script.specs.Script.{Script, ret, _>>=_, get, run}
+use Rattle.script.specs.Script.{Script, ret, _>>=_, fetch, gathered, run}
 use Rattle.script.specs.Statics.{flag}
 use Rattle.script.specs.Answers.{Answer, Refused, End, NotYet, Done, Shown}
 use Rattle.script.specs.Control.{wordBytes}
@@ -96,7 +94,7 @@ decode-encode (under.Interrupt p) = ap under.Interrupt (handlerCodec.decode-enco
 
 abbrev pub finish : ℕ → Script false Answer
 finish n = do
-  w ← get wakes-cell
+  w ← fetch gathered
   ret (End n w)
 
 abbrev pub wayOf : Under → Way Answer Driver
@@ -146,15 +144,16 @@ goneOn v u d b = continued calls driverOf (λ s. s) v (machineAt u d b) (wayOf u
 abbrev pub handedOut : Access → Under → Driver → Buf → Ans Answer × Machine Answer Driver
 handedOut q u d b = (handed q, machineAt u d b)
 
--- with the bytes that the call was lent: those of a poll's slice that it filled, or the slots in which a packet is shown
-abbrev pub answerOf : Step → List ℕ → Ans Answer
-answerOf (step.Refused n) out = ended (Refused n)
-answerOf (step.Asks q) out = handed q
-answerOf (step.Ends n w) out = ended (End n w)
-answerOf step.NotYet out = ended NotYet
-answerOf (step.Done n) out = ended (Done (front n out))
-answerOf (step.Setup low high) out = ended (Done (wordBytes low ++ wordBytes high))
-answerOf (step.Shown at n stamp) out = ended (Shown (bytesAt out at n) stamp)
+-- with the bytes that the call was lent: those of a poll's slice that it filled, or the slots in which a packet is shown; and with the state that it
+-- left, which has the wake-ups
+abbrev pub answerOf : Step → List ℕ → Driver → Ans Answer
+answerOf (step.Refused n) out d = ended (Refused n)
+answerOf (step.Asks q) out d = handed q
+answerOf (step.Ends n k) out d = ended (End n (take k (d .wakes .codes)))
+answerOf step.NotYet out d = ended NotYet
+answerOf (step.Done n) out d = ended (Done (front n out))
+answerOf (step.Setup low high) out d = ended (Done (wordBytes low ++ wordBytes high))
+answerOf (step.Shown at n stamp) out d = ended (Shown (bytesAt out at n) stamp)
 
 -- the slice after a poll that answers so
 abbrev pub lentBy : Ans Answer → List ℕ → List ℕ

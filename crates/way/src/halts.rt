@@ -25,7 +25,7 @@ ghost use Rattle.way.specs.Rows.{isIdle};
 
 // The operation is under way: it stands where it handed out the access, at a point that is saved with its tag.
 fn asks(s: &mut [u8; STATE_LEN], q: Access, p: Saved, tag: u8) -> Step
-    ensures { λ r. ⌜ ((u : Under) → encode u ≡ withTag tag p → (out b : List ℕ) → (answerOf r out, machineOf (now (s .exit)) b) ≡ handedOut q u (view (now (s .entry))) b) ⌝ }
+    ensures { λ r. ⌜ ((u : Under) → encode u ≡ withTag tag p → (out b : List ℕ) → (answerOf r out (view (now (s .exit))), machineOf (now (s .exit)) b) ≡ handedOut q u (view (now (s .entry))) b) ⌝ }
 {
     let mut c = p;
     c.tag = tag;
@@ -35,17 +35,17 @@ fn asks(s: &mut [u8; STATE_LEN], q: Access, p: Saved, tag: u8) -> Step
 
 // An operation has ended with its result: its wake-ups are answered.
 fn ended(s: &mut [u8; STATE_LEN], n: u16) -> Step
-    ensures { λ r. ⌜ ((b : List ℕ) → (answerOf r [], machineOf (now (s .exit)) b) ≡ halts (run conc (finish n) (view (now (s .entry)), b))) ⌝ }
+    ensures { λ r. ⌜ ((b : List ℕ) → (answerOf r [] (view (now (s .exit))), machineOf (now (s .exit)) b) ≡ halts (run conc (finish n) (view (now (s .entry)), b))) ⌝ }
 {
     state::store_saved(s, nothing());
-    let w = state::load_wakes(s);
-    Step::Ends(n, w)
+    let k = state::woken_count(s);
+    Step::Ends(n, k)
 }
 
 // It goes on, or has ended.
 pub fn halted(s: &mut [u8; STATE_LEN], n: driver::Next) -> Step
     requires { ⌜ driver.Linked n ⌝ }
-    ensures { λ r. ⌜ ((b : List ℕ) → (answerOf r [], machineOf (now (s .exit)) b) ≡ halts (bindOut (driver.meaning n (view (now (s .entry))) b) (λ k t. run conc (finish k) t))) ⌝ }
+    ensures { λ r. ⌜ ((b : List ℕ) → (answerOf r [] (view (now (s .exit))), machineOf (now (s .exit)) b) ≡ halts (bindOut (driver.meaning n (view (now (s .entry))) b) (λ k t. run conc (finish k) t))) ⌝ }
 {
     match n {
         driver::Next::Asks(q, p) => asks(s, q, driver::codec::encode(p), 1),
@@ -56,7 +56,7 @@ pub fn halted(s: &mut [u8; STATE_LEN], n: driver::Next) -> Step
 // The same of the bus's operations.
 pub fn halted_bus(s: &mut [u8; STATE_LEN], n: bus::Next) -> Step
     requires { ⌜ bus.Linked n ⌝ }
-    ensures { λ r. ⌜ ((b : List ℕ) → (answerOf r [], machineOf (now (s .exit)) b) ≡ halts (bindOut (bus.meaning n (view (now (s .entry))) b) (λ k t. run conc (finish k) t))) ⌝ }
+    ensures { λ r. ⌜ ((b : List ℕ) → (answerOf r [] (view (now (s .exit))), machineOf (now (s .exit)) b) ≡ halts (bindOut (bus.meaning n (view (now (s .entry))) b) (λ k t. run conc (finish k) t))) ⌝ }
 {
     match n {
         bus::Next::Asks(q, p) => asks(s, q, bus::encode(p), 2),
@@ -67,7 +67,7 @@ pub fn halted_bus(s: &mut [u8; STATE_LEN], n: bus::Next) -> Step
 // The same of the control pipe's.
 pub fn halted_control(s: &mut [u8; STATE_LEN], n: control::Next) -> Step
     requires { ⌜ control.Linked n ⌝ }
-    ensures { λ r. ⌜ ((b : List ℕ) → (answerOf r [], machineOf (now (s .exit)) b) ≡ halts (bindOut (control.meaning n (view (now (s .entry))) b) (λ k t. run conc (finish k) t))) ⌝ }
+    ensures { λ r. ⌜ ((b : List ℕ) → (answerOf r [] (view (now (s .exit))), machineOf (now (s .exit)) b) ≡ halts (bindOut (control.meaning n (view (now (s .entry))) b) (λ k t. run conc (finish k) t))) ⌝ }
 {
     match n {
         control::Next::Asks(q, p) => asks(s, q, control::encode(p), 3),
@@ -78,7 +78,7 @@ pub fn halted_control(s: &mut [u8; STATE_LEN], n: control::Next) -> Step
 // A begin of the control pipe's, with nothing under way.
 pub fn begun_control(s: &mut [u8; STATE_LEN], n: control::Begun) -> Step
     requires { ⌜ control.LinkedBegun n × (isIdle (decode (saved (now s))) ≡ true) ⌝ }
-    ensures { λ r. ⌜ ((b : List ℕ) → (answerOf r [], machineOf (now (s .exit)) b) ≡ halts (control.begunAs n (view (now (s .entry))) b)) ⌝ }
+    ensures { λ r. ⌜ ((b : List ℕ) → (answerOf r [] (view (now (s .exit))), machineOf (now (s .exit)) b) ≡ halts (control.begunAs n (view (now (s .entry))) b)) ⌝ }
 {
     match n {
         control::Begun::Refused(k) => Step::Refused(k),
@@ -90,7 +90,7 @@ pub fn begun_control(s: &mut [u8; STATE_LEN], n: control::Begun) -> Step
 // A poll of the control pipe's, with nothing under way.
 pub fn polled_control(s: &mut [u8; STATE_LEN], n: control::Polled) -> Step
     requires { ⌜ control.LinkedPolled n × (isIdle (decode (saved (now s))) ≡ true) ⌝ }
-    ensures { λ r. ⌜ ((out b : List ℕ) → (answerOf r out, machineOf (now (s .exit)) b) ≡ halts (control.polledAs n out (view (now (s .entry))) b)) ⌝ }
+    ensures { λ r. ⌜ ((out b : List ℕ) → (answerOf r out (view (now (s .exit))), machineOf (now (s .exit)) b) ≡ halts (control.polledAs n out (view (now (s .entry))) b)) ⌝ }
 {
     match n {
         control::Polled::Refused(k) => Step::Refused(k),
@@ -104,7 +104,7 @@ pub fn polled_control(s: &mut [u8; STATE_LEN], n: control::Polled) -> Step
 // The same of reads and writes.
 pub fn halted_endpoint(s: &mut [u8; STATE_LEN], n: endpoint::Next) -> Step
     requires { ⌜ endpoint.Linked n ⌝ }
-    ensures { λ r. ⌜ ((b : List ℕ) → (answerOf r [], machineOf (now (s .exit)) b) ≡ halts (bindOut (endpoint.meaning n (view (now (s .entry))) b) (λ k t. run conc (finish k) t))) ⌝ }
+    ensures { λ r. ⌜ ((b : List ℕ) → (answerOf r [] (view (now (s .exit))), machineOf (now (s .exit)) b) ≡ halts (bindOut (endpoint.meaning n (view (now (s .entry))) b) (λ k t. run conc (finish k) t))) ⌝ }
 {
     match n {
         endpoint::Next::Asks(q, p) => asks(s, q, endpoint::encode(p), 4),
@@ -115,7 +115,7 @@ pub fn halted_endpoint(s: &mut [u8; STATE_LEN], n: endpoint::Next) -> Step
 // Of a paced advance.
 pub fn halted_advance(s: &mut [u8; STATE_LEN], n: AdvanceNext) -> Step
     requires { ⌜ advance.Linked n ⌝ }
-    ensures { λ r. ⌜ ((b : List ℕ) → (answerOf r [], machineOf (now (s .exit)) b) ≡ halts (bindOut (advance.meaning n (view (now (s .entry))) b) (λ k t. run conc (finish k) t))) ⌝ }
+    ensures { λ r. ⌜ ((b : List ℕ) → (answerOf r [] (view (now (s .exit))), machineOf (now (s .exit)) b) ≡ halts (bindOut (advance.meaning n (view (now (s .entry))) b) (λ k t. run conc (finish k) t))) ⌝ }
 {
     match n {
         AdvanceNext::Asks(q, p) => asks(s, q, iso_in::codec::encode(p), 5),
@@ -126,7 +126,7 @@ pub fn halted_advance(s: &mut [u8; STATE_LEN], n: AdvanceNext) -> Step
 // Of an interrupt.
 pub fn halted_interrupt(s: &mut [u8; STATE_LEN], n: handler::Next) -> Step
     requires { ⌜ handler.Linked n ⌝ }
-    ensures { λ r. ⌜ ((b : List ℕ) → (answerOf r [], machineOf (now (s .exit)) b) ≡ haltsAs true (bindOut (handler.meaning n (view (now (s .entry))) b) (λ k t. run conc (finish k) t))) ⌝ }
+    ensures { λ r. ⌜ ((b : List ℕ) → (answerOf r [] (view (now (s .exit))), machineOf (now (s .exit)) b) ≡ haltsAs true (bindOut (handler.meaning n (view (now (s .entry))) b) (λ k t. run conc (finish k) t))) ⌝ }
 {
     match n {
         handler::Next::Asks(q, p) => asks(s, q, handler_codec::encode(p), 6),
@@ -137,7 +137,7 @@ pub fn halted_interrupt(s: &mut [u8; STATE_LEN], n: handler::Next) -> Step
 // A begin of a read or write, with nothing under way.
 pub fn begun_endpoint(s: &mut [u8; STATE_LEN], n: endpoint::Begun) -> Step
     requires { ⌜ endpoint.LinkedBegun n × (isIdle (decode (saved (now s))) ≡ true) ⌝ }
-    ensures { λ r. ⌜ ((b : List ℕ) → (answerOf r [], machineOf (now (s .exit)) b) ≡ halts (endpoint.begunAs n (view (now (s .entry))) b)) ⌝ }
+    ensures { λ r. ⌜ ((b : List ℕ) → (answerOf r [] (view (now (s .exit))), machineOf (now (s .exit)) b) ≡ halts (endpoint.begunAs n (view (now (s .entry))) b)) ⌝ }
 {
     match n {
         endpoint::Begun::Refused(k) => Step::Refused(k),
@@ -148,7 +148,7 @@ pub fn begun_endpoint(s: &mut [u8; STATE_LEN], n: endpoint::Begun) -> Step
 
 // A poll of one.
 pub fn polled_endpoint(n: endpoint::Polled) -> Step
-    ensures { λ r. ⌜ ((u : Under) (d : Driver) (out b : List ℕ) → isIdle u ≡ true → (answerOf r out, machineAt u d b) ≡ halts (endpoint.polledAs n out d b)) ⌝ }
+    ensures { λ r. ⌜ ((u : Under) (d : Driver) (out b : List ℕ) → isIdle u ≡ true → (answerOf r out d, machineAt u d b) ≡ halts (endpoint.polledAs n out d b)) ⌝ }
 {
     match n {
         endpoint::Polled::Refused(k) => Step::Refused(k),

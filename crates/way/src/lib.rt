@@ -4,7 +4,6 @@ pub mod halts; // halts.rt: how a call ends
 pub mod rows; // rows.rt: rows 1, 3 and 4
 
 use regs::Access;
-use state::Wakes;
 
 // What is under way: nothing, or an operation at the point where it handed out its last access.
 pub enum Under {
@@ -17,13 +16,13 @@ pub enum Under {
     Interrupt(handler::Point),
 }
 
-// What a call answers: the row that stopped it, the access that it hands out, the operation's result with its wake-ups; of a poll, that it is not
+// What a call answers: the row that stopped it, the access that it hands out, the operation's result and how many wake-ups the state has for it, in their order; of a poll, that it is not
 // done, so many bytes at the lent slice's front, a setup packet as two words, lowest byte first; of an open packet, its offset and length in the slots
 // and its stamp.
 pub enum Step {
     Refused(u8),
     Asks(Access),
-    Ends(u16, Wakes),
+    Ends(u16, u8),
     NotYet,
     Done(u16),
     Setup(u32, u32),

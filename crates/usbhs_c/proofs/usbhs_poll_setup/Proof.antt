@@ -18,11 +18,11 @@ poll-setup-requires c κs = search needs
 
 setup-word-requires : tie.Need-setup-word-requires
 setup-word-requires c κs =
-    setup-no-slice (c .poll-setup .result) (decode (saved (now (c .before .before .before .args .s)))) (view (now (c .before .before .before .args .s))) [] []
+    setup-no-slice (c .poll-setup .result) _ (decode (saved (now (c .before .before .before .args .s)))) (view (now (c .before .before .before .args .s))) [] []
     (ap (λ (x : Called). x .0) (c .poll-setup .ensures [] []))
 
 returns : tie.Need-returns
-returns c = ((c .setup-word .ensures .0 .0, c .setup-word .ensures .0 .1, λ a b. told-by (c .setup-word .ensures .0 .2) (c .before .poll-setup .ensures a b)), λ a b. c .setup-word .ensures .1 ∙ ap (λ (x : Called). lentBy (x .0) (now (c .before .before .before .before .args .packet))) (c .before .poll-setup .ensures a b))
+returns c = ((c .setup-word .ensures .0 .0, c .setup-word .ensures .0 .1, λ a b. told-by (c .setup-word .ensures .0 .2 _) (c .before .poll-setup .ensures a b)), λ a b. c .setup-word .ensures .1 _ ∙ ap (λ (x : Called). lentBy (x .0) (now (c .before .before .before .before .args .packet))) (c .before .poll-setup .ensures a b))
 
 pub usbhs-poll-setup-spec : {M : Type 1} → statement M
 usbhs-poll-setup-spec =

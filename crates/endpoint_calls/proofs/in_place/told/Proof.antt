@@ -17,13 +17,13 @@ enum-told : tie.Need-enum-told
 enum-told c = search needs
 
 returns : tie.Need-returns
-returns c = (λ b. simp (c .before .p .given .1), λ d e h. tt)
+returns c = (λ b x. simp (c .before .p .given .1), λ d e h. tt)
 
 returns-2 : tie.Need-returns-2
-returns-2 c = (λ b. simp (c .before .p2 .given .1), λ d e h. subst (λ (x : Packet). packets.ShownAt x d e) (c .before .p2 .given .1) h)
+returns-2 c = (λ b x. simp (c .before .p2 .given .1), λ d e h. subst (λ (x : Packet). packets.ShownAt x d e) (c .before .p2 .given .1) h)
 
 returns-3 : tie.Need-returns-3
-returns-3 c = (λ b. simp (c .enum-told .given .1), λ d e h. tt)
+returns-3 c = (λ b x. simp (c .enum-told .given .1), λ d e h. tt)
 
 pub told-spec : {M : Type 1} → statement M
 told-spec =

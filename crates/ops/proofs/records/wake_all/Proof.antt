@@ -1,21 +1,27 @@
-use Rattle.script.specs.Statics.{all-woken}
+use mathlib.Core.Path.{sym, ap, _∙_}
+use Rattle.state.specs.Driver.{Driver, withWakes}
+use Rattle.state.specs.State.{view}
+use Rattle.state.specs.Wakes.{codesFrom, every-endpoint, all-woken}
+use Rattle.state.specs.WakesLaws.{all-woken-append}
+use denote.Ref.{now}
 use borrow.Author.Needs.{needs}
 use Rattle.ops.proofs.records.wake_all.Statement.{statement}
 use Rattle.ops.proofs.records.wake_all.Tie as tie
-use Rattle.ops.proofs.records.wake_all.Reads as reads
-use Rattle.ops.proofs.records.wake_all.Lts as lts
-use Rattle.state.proofs.load_wakes.Reads as load-wakes-reads
-use Rattle.state.proofs.store_wakes.Reads as store-wakes-reads
 
-load-wakes-requires : tie.Need-load-wakes-requires
-load-wakes-requires c κs = search needs
+wake-sixteen-requires : tie.Need-wake-sixteen-requires
+wake-sixteen-requires c κs = search needs
 
-store-wakes-requires : tie.Need-store-wakes-requires
-store-wakes-requires c κs = search needs
+wake-sixteen-requires-2 : tie.Need-wake-sixteen-requires-2
+wake-sixteen-requires-2 c κs = search needs
 
 returns : tie.Need-returns
-unfolding all-woken
-returns c = (simp (c .store-wakes .ensures .0, c .before .before .load-wakes .ensures), c .store-wakes .ensures .1)
+unfolding every-endpoint
+returns c =
+    let d = view (now (c .before .before .before .before .args .s)) in (
+      c .wake-sixteen2 .ensures .0 ∙ ap (λ (x : Driver). withWakes x (all-woken (codesFrom 0 16) (x .wakes))) (c .before .before .wake-sixteen .ensures .0)
+          ∙ ap (withWakes d) (sym (all-woken-append (codesFrom 16 16) (codesFrom 0 16) (d .wakes))),
+      c .wake-sixteen2 .ensures .1 ∙ c .before .before .wake-sixteen .ensures .1,
+    )
 
 pub wake-all-spec : {M : Type 1} → statement M
-wake-all-spec = tie.close (tie.spec load-wakes-requires store-wakes-requires returns)
+wake-all-spec = tie.close (tie.spec wake-sixteen-requires wake-sixteen-requires-2 returns)

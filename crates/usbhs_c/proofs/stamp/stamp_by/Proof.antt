@@ -26,25 +26,25 @@ enum-known-step-6 : tie.Need-enum-known-step-6
 enum-known-step-6 c = search needs
 
 returns : tie.Need-returns
-returns c b = simp (c .before .step .given .1)
+returns c b d = simp (c .before .step .given .1)
 
 returns-2 : tie.Need-returns-2
-returns-2 c b = simp (c .before .step2 .given .1)
+returns-2 c b d = simp (c .before .step2 .given .1)
 
 returns-3 : tie.Need-returns-3
-returns-3 c b = simp (c .before .step3 .given .1)
+returns-3 c b d = simp (c .before .step3 .given .1)
 
 returns-4 : tie.Need-returns-4
-returns-4 c b = simp (c .before .step4 .given .1)
+returns-4 c b d = simp (c .before .step4 .given .1)
 
 returns-5 : tie.Need-returns-5
-returns-5 c b = simp (c .enum-told .given .1)
+returns-5 c b d = simp (c .enum-told .given .1)
 
 returns-6 : tie.Need-returns-6
-returns-6 c b = simp (c .before .step5 .given .1)
+returns-6 c b d = simp (c .before .step5 .given .1)
 
 returns-7 : tie.Need-returns-7
-returns-7 c b = simp (c .before .step6 .given .1)
+returns-7 c b d = simp (c .before .step6 .given .1)
 
 pub stamp-by-spec : {M : Type 1} → statement M
 stamp-by-spec =

@@ -1,10 +1,10 @@
+use Rattle.state.specs.Wakes.{listed}
 use Rattle.way.specs.Under.{decode}
 use borrow.Author.Needs.{needs}
 use Rattle.way.proofs.halts.ended.Statement.{statement}
 use Rattle.way.proofs.halts.ended.Tie as tie
 use Rattle.way.proofs.halts.ended.Reads as reads
 use Rattle.way.proofs.halts.ended.Lts as lts
-use Rattle.state.proofs.load_wakes.Reads as load-wakes-reads
 use Rattle.state.proofs.store_saved.Reads as store-saved-reads
 use Rattle.way.proofs.saved.nothing.Reads as nothing-reads
 
@@ -14,13 +14,13 @@ nothing-requires c κs = search needs
 store-saved-requires : tie.Need-store-saved-requires
 store-saved-requires c κs = search needs
 
-load-wakes-requires : tie.Need-load-wakes-requires
-load-wakes-requires c κs = search needs
+woken-count-requires : tie.Need-woken-count-requires
+woken-count-requires c κs = search needs
 
 returns : tie.Need-returns
-unfolding decode
-returns c b = simp (c .load-wakes .ensures, c .before .before .store-saved .ensures .0, c .before .before .store-saved .ensures .1, c .before .before .before .nothing .ensures)
+unfolding decode listed
+returns c b = simp (c .woken-count .ensures, c .before .before .store-saved .ensures .0, c .before .before .store-saved .ensures .1, c .before .before .before .nothing .ensures)
 
 pub ended-spec : {M : Type 1} → statement M
 ended-spec =
-    tie.close (tie.spec nothing-requires store-saved-requires load-wakes-requires returns)
+    tie.close (tie.spec nothing-requires store-saved-requires woken-count-requires returns)

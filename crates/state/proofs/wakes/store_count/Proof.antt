@@ -1,0 +1,25 @@
+use mathlib.Core.Path.{ap, _∙_}
+use denote.Ref.{now}
+use native.Mathlib.Omega.{arith}
+use Rattle.fields.specs.Bytes.{digits}
+use Rattle.state.specs.State.{view, saved}
+use Rattle.state.proofs.Views.{view-count, saved-off}
+use borrow.Author.Needs.{needs}
+use Rattle.state.proofs.wakes.store_count.Statement.{statement}
+use Rattle.state.proofs.wakes.store_count.Tie as tie
+
+sized-requires : tie.Need-sized-requires
+sized-requires c κs = search needs
+
+put8-requires : tie.Need-put8-requires
+put8-requires c κs = search needs
+
+returns : tie.Need-returns
+returns c =
+    let st = c .before .before .before .before .before in (
+      ap view (c .put8 .ensures) ∙ view-count (now (st .args .s)) (c .before .before .before .sized-arg2 .given .0) (st .args .n),
+      ap saved (c .put8 .ensures) ∙ saved-off (now (st .args .s)) 2752 (digits 1 (st .args .n)) (omega arith),
+    )
+
+pub store-count-spec : {M : Type 1} → statement M
+store-count-spec = tie.close (tie.spec sized-requires put8-requires returns)

@@ -1,0 +1,87 @@
+// The wake-ups gathered by the operation under way, in their order: how many, and a code for each (0 to 15 IN, 16 to 31 OUT, 32 the
+// bus). Each wake-up goes through `wake`.
+use crate::CODES;
+use crate::STATE_LEN;
+use crate::WAKES;
+use crate::sized;
+use fields::get8;
+use fields::put8;
+use regs::Dir;
+ghost use mathlib.Core.Path.{_≡_};
+ghost use Prim.Native.Nat.{_%_, _≤_};
+ghost use lib.ListN.{getD, set};
+ghost use Rattle.state.specs.Driver.{withWakes};
+ghost use Rattle.state.specs.State.{view, saved};
+ghost use Rattle.state.specs.Wakes.{wakeCode, none-woken, woken, withCount, withCodes};
+ghost use Rattle.state.specs.Fresh.{filled};
+
+pub fn wake_code(dir: Dir, e: u8) -> u8
+    ensures { λ r. ⌜ r ≡ wakeCode dir e ⌝ }
+{
+    match dir {
+        Dir::Out => 16 + e % 16,
+        Dir::In => e % 16,
+    }
+}
+
+// How many there are.
+pub fn woken_count(s: &[u8; STATE_LEN]) -> u8
+    ensures { λ r. ⌜ r ≡ view (now (s .entry)) .wakes .count ⌝ }
+{
+    get8(s, WAKES, 0)
+}
+
+// Whose is the one at place i, taken modulo 64.
+pub fn woken_at(s: &[u8; STATE_LEN], i: u8) -> u8
+    ensures { λ r. ⌜ r ≡ getD (view (now (s .entry)) .wakes .codes) (i % 64) 0 ⌝ }
+{
+    get8(s, CODES + (i % 64) as usize * 1, 0)
+}
+
+fn store_count(s: &mut [u8; STATE_LEN], n: u8)
+    ensures { λ _. ⌜ view (now (s .exit)) ≡ withWakes (view (now (s .entry))) (withCount (view (now (s .entry)) .wakes) n) ⌝ }
+    ensures { λ _. ⌜ saved (now (s .exit)) ≡ saved (now (s .entry)) ⌝ }
+{
+    sized(s);
+    put8(s, WAKES, 0, n);
+}
+
+fn store_code(s: &mut [u8; STATE_LEN], i: u8, code: u8)
+    requires { ⌜ i ≤ 63 ⌝ }
+    ensures { λ _. ⌜ view (now (s .exit)) ≡ withWakes (view (now (s .entry))) (withCodes (view (now (s .entry)) .wakes) (set (view (now (s .entry)) .wakes .codes) i code)) ⌝ }
+    ensures { λ _. ⌜ saved (now (s .exit)) ≡ saved (now (s .entry)) ⌝ }
+{
+    sized(s);
+    put8(s, CODES + i as usize * 1, 0, code);
+}
+
+// One more, the last.
+pub fn wake(s: &mut [u8; STATE_LEN], code: u8)
+    ensures { λ _. ⌜ view (now (s .exit)) ≡ withWakes (view (now (s .entry))) (woken code (view (now (s .entry)) .wakes)) ⌝ }
+    ensures { λ _. ⌜ saved (now (s .exit)) ≡ saved (now (s .entry)) ⌝ }
+{
+    let n = woken_count(s);
+    if n < 64 {
+        store_code(s, n, code);
+        store_count(s, n + 1);
+    }
+}
+
+fn clear_codes(s: &mut [u8; STATE_LEN])
+    ensures { λ _. ⌜ view (now (s .exit)) ≡ withWakes (view (now (s .entry))) (withCodes (view (now (s .entry)) .wakes) (filled (view (now (s .entry)) .wakes .codes) 0 64 0)) ⌝ }
+    ensures { λ _. ⌜ saved (now (s .exit)) ≡ saved (now (s .entry)) ⌝ }
+{
+    let mut k: u8 = 0;
+    while k < 64 {
+        store_code(s, k, 0);
+        k += 1;
+    }
+}
+
+pub fn clear_wakes(s: &mut [u8; STATE_LEN])
+    ensures { λ _. ⌜ view (now (s .exit)) ≡ withWakes (view (now (s .entry))) none-woken ⌝ }
+    ensures { λ _. ⌜ saved (now (s .exit)) ≡ saved (now (s .entry)) ⌝ }
+{
+    clear_codes(s);
+    store_count(s, 0);
+}
