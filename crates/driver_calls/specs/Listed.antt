@@ -43,9 +43,15 @@ module _ (es : List Endpoint) (d : Driver) (b : Buf) (n : ℕ) (refusal : n ≡ 
   pub all-refused : (u : Under) → isIdle u ≡ true → (n ≡ 0 → ⊥) → (ended (Refused n), machineAt u d b) ≡ allocatedAll es d b
   all-refused u i h = ends-idle u d b (Refused n) i ∙ sym (tried-as ∙ rw (ne-eqb n 0 h))
 
-  pub all-given : n ≡ 0
-      → halts (bindOut (go (announceAll es) (withWakes (eachOn d es) none-woken) b) (λ k t. run conc (finish k) t)) ≡ allocatedAll es d b
-  all-given h = sym (tried-as ∙ rw (eq-eqb n 0 h) (ap (λ (o : tree.Out St Unit). halts (bindOut o (λ _ t. run {i = false} conc (operation (announceAll es)) t))) (each-run es d b)))
+  given : n ≡ 0 → halts (bindOut (go (announceAll es) (withWakes (eachOn d es) none-woken) b) (λ k t. run conc (finish k) t)) ≡ allocatedAll es d b
+  given h = sym (tried-as ∙ rw (eq-eqb n 0 h) (ap (λ (o : tree.Out St Unit). halts (bindOut o (λ _ t. run {i = false} conc (operation (announceAll es)) t))) (each-run es d b)))
+
+  -- all are allocated, and no wake-up is gathered yet
+  pub all-given : (between after : Driver) (o : tree.Out St ℕ) → n ≡ 0 → o ≡ go (announceAll es) after b → after ≡ withWakes between none-woken → between ≡ eachOn d es
+      → halts (bindOut o (λ k t. run conc (finish k) t)) ≡ allocatedAll es d b
+  all-given between after o h announced cleared each =
+      ap (λ (x : tree.Out St ℕ). halts (bindOut x (λ k t. run conc (finish k) t))) (announced ∙ ap (λ (x : Driver). go (announceAll es) x b) (cleared ∙ ap (λ (x : Driver). withWakes x none-woken) each))
+      ∙ given h
 
 -- ---- the call
 
@@ -66,7 +72,7 @@ module _ (u : Under) (d : Driver) (a b : Buf) (bytes : List ℕ) where
 idle-of : (x : Bool) (k stage : ℕ) → eqb (stopOf x k stage) 0 ≡ true → x ≡ true
 unfolding stopOf
 idle-of true k stage h = refl
-idle-of false k stage h = sym h
+idle-of false k stage h = h
 
 pub passes-idle : (u : Under) (d : Driver) → Passes 1 u d → isIdle u ≡ true
 passes-idle u d h = idle-of (isIdle u) 1 (d .globals .stage) h

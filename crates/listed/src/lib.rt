@@ -60,5 +60,11 @@ pub fn announce_all(s: &[u8; STATE_LEN], list: Endpoints) -> Next
         return Next::Ends(0);
     }
     let e = list.entries[0];
-    first(s, (n - 1) as u8, n as u8, direction(e.address), e.address % 128)
+    first(
+        s,
+        (n - 1) as u8,
+        n as u8,
+        direction(e.address),
+        e.address % 128,
+    )
 }

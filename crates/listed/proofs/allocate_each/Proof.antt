@@ -50,10 +50,13 @@ loop-again c =
     let v = k .loop .inv in
     let l = k .before .before .args .t2 in (
       omega arith,
-      (v .1 .0, (
-        c .allocate-one .ensures .0 ∙ ap (λ (d : Driver). oneOn d (getD (l .entries) (k .loop .i) none)) (v .1 .1 .0) ∙ sym (each-more _ (l .entries) (k .loop .i)),
-        c .allocate-one .ensures .1 ∙ v .1 .1 .1,
-      )),
+      (
+        v .1 .0,
+        (
+          c .allocate-one .ensures .0 ∙ ap (λ (d : Driver). oneOn d (getD (l .entries) (k .loop .i) none)) (v .1 .1 .0) ∙ sym (each-more _ (l .entries) (k .loop .i)),
+          c .allocate-one .ensures .1 ∙ v .1 .1 .1,
+        ),
+      ),
     )
 
 returns : tie.Need-returns Inv-loop μ-loop
