@@ -1,5 +1,5 @@
 -- A descriptor's endpoints after the rows and the reading
-use mathlib.Core.Bool.{Bool, true, false}
+use mathlib.Core.Bool.{Bool, true, false, cond}
 use mathlib.Core.List.{List}
 use mathlib.Core.Path.{_≡_, refl, ap, sym, _∙_}
 use Prim.Native.Nat.{ℕ}
@@ -9,7 +9,10 @@ use Rattle.descriptor.specs.declared.Endpoint.{Endpoint}
 use Rattle.descriptor.specs.declared.Answer as reading-answer
 use Rattle.descriptor.specs.declared.Answer.the-variants as reading
 use Rattle.descriptor.specs.Reading.{readingOf, listOf}
+use Rattle.preview.specs.declared.Shown.{Shown}
 use Rattle.preview.specs.Trial.{trialOf}
+use Rattle.preview.specs.Preview.{refusedBy, previewOf}
+use Rattle.state.specs.declared.Allocator.{Allocator}
 use Rattle.state.specs.Driver.{Driver, withWakes}
 use Rattle.state.specs.Wakes.{none-woken}
 use Rattle.script.specs.Tree as tree
@@ -67,6 +70,13 @@ module _ (u : Under) (d : Driver) (a b : Buf) (bytes : List ℕ) where
 
   pub all-read : (es : List Endpoint) → Passes 1 u d → readingOf bytes .answer ≡ reading.Listed → es ≡ listOf bytes → allocatedAll es d b ≡ drive (begin (other (AllocateAll bytes))) (machineAt u d a) b
   all-read es h e l = back (reads h reading.Listed e) (ap (λ (x : List Endpoint). allocatedAll x d b) l)
+
+-- ---- the preview: row 3 or 4 (n, 0 where neither stops it), else the trial on the state's allocator
+
+abbrev pub previewed : ℕ → Allocator → List ℕ → Shown
+previewed n a bytes = cond (eqb n 0) (previewOf a bytes) (refusedBy n)
+
+-- ---- laws
 
 -- no row: nothing was under way
 idle-of : (x : Bool) (k stage : ℕ) → eqb (stopOf x k stage) 0 ≡ true → x ≡ true

@@ -1,6 +1,8 @@
 // Endpoints from a configuration descriptor (requests Three and Four).
 use descriptor::Answer;
 use descriptor::Endpoints;
+use preview::Said;
+use preview::Shown;
 use state::STATE_LEN;
 use way::Step;
 use way::halts::halted;
@@ -14,8 +16,9 @@ ghost use Rattle.state.specs.State.{view, saved};
 ghost use Rattle.script.specs.Machine.{begin};
 ghost use Rattle.script.specs.Calls.{other, AllocateAll};
 ghost use Rattle.way.specs.Under.{decode, machineOf, drive, answerOf};
-ghost use Rattle.way.specs.Rows.{isIdle};
-ghost use Rattle.driver_calls.specs.Listed.{allocatedAll};
+ghost use Rattle.preview.specs.Preview.{refusedBy};
+ghost use Rattle.way.specs.Rows.{isIdle, stopOf};
+ghost use Rattle.driver_calls.specs.Listed.{allocatedAll, previewed};
 
 // All or none, where nothing is under way: the refusal of the first that would be refused, or all allocated and the first announced.
 fn allocate_listed(s: &mut [u8; STATE_LEN], list: Endpoints) -> Step
@@ -51,4 +54,27 @@ pub fn allocate_all(s: &mut [u8; STATE_LEN], bytes: &[u8]) -> Step
         }
     }
     Step::Refused(n)
+}
+
+fn unshown(row: u8) -> Shown
+    ensures { λ r. ⌜ r ≡ refusedBy row ⌝ }
+{
+    Shown {
+        said: Said::Refused(row),
+        numbers: [0; 32],
+        count: 0,
+        buffers: 0,
+        refusal: 0,
+    }
+}
+
+// What allocating a descriptor's endpoints one by one would give, up to the first refusal: rows 3, 4, 17, 18 as above. The state is untouched.
+pub fn preview(s: &[u8; STATE_LEN], bytes: &[u8]) -> Shown
+    ensures { λ r. ⌜ r ≡ previewed (stopOf (isIdle (decode (saved (now (s .entry))))) 1 (view (now (s .entry)) .globals .stage)) (view (now (s .entry)) .allocator) (now (bytes .entry)) ⌝ }
+{
+    let n = stop(s, 1);
+    if n == 0 {
+        return preview::preview(state::load_allocator(s), bytes);
+    }
+    unshown(n)
 }
