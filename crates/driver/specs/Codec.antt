@@ -38,6 +38,26 @@ code n f kind ep value = record {
   value = value;
 }
 
+-- of a list's endpoints also how many are left and how many there are
+abbrev pub listCode : ℕ → ℕ → ℕ → ℕ → ℕ → ℕ → Saved
+listCode n f kind ep left total = record {
+  tag = 0;
+  sub = n;
+  site = 0;
+  flag = f;
+  busy = left;
+  late = total;
+  «len_ok» = 0;
+  st = kind;
+  now = 0;
+  ep = ep;
+  len = 0;
+  frame = 0;
+  eps = 0;
+  n = 0;
+  value = 0;
+}
+
 unfoldable pub encode : Point → Saved
 encode (point.Clear callback) = code 0 (flag callback) 0 0 0
 encode (point.Wait callback) = code 1 (flag callback) 0 0 0
@@ -54,6 +74,8 @@ encode point.Ep0Rx = code 11 0 0 0 0
 encode point.Ep0Tx = code 12 0 0 0 0
 encode point.Ep0Packet = code 13 0 0 0 0
 encode point.FrameNo = code 14 0 0 0 0
+encode (point.ListMaxLen d kind ep left total) = listCode 15 (dirAs d) kind ep left total
+encode (point.ListPlace d ep left total) = listCode 16 (dirAs d) 0 ep left total
 
 -- by the point's number; an unknown one is the first
 abbrev pub byNumber : ℕ → Saved → Point
@@ -72,7 +94,9 @@ byNumber n c =
     (cond (eqb n 12) point.Ep0Tx
     (cond (eqb n 13) point.Ep0Packet
     (cond (eqb n 14) point.FrameNo
-    (point.Clear (isOn (c .flag))))))))))))))))
+    (cond (eqb n 15) (point.ListMaxLen (dirOf (c .flag)) (c .st) (c .ep) (c .busy) (c .late))
+    (cond (eqb n 16) (point.ListPlace (dirOf (c .flag)) (c .ep) (c .busy) (c .late))
+    (point.Clear (isOn (c .flag))))))))))))))))))
 
 unfoldable pub decode : Saved → Point
 decode c = byNumber (c .sub) c
@@ -106,3 +130,5 @@ decode-encode point.Ep0Rx = refl
 decode-encode point.Ep0Tx = refl
 decode-encode point.Ep0Packet = refl
 decode-encode point.FrameNo = refl
+decode-encode (point.ListMaxLen d kind ep left total) = simp dir-back
+decode-encode (point.ListPlace d ep left total) = simp dir-back

@@ -17,6 +17,7 @@ use Rattle.script.specs.Tree.{ends, asks}
 use Rattle.script.specs.Script.{Script, ret, _>>=_, _>>_, write, wait, when, hand, place, run}
 use Rattle.script.specs.Statics.{modifyReg, modifyIntEn}
 use Rattle.script.specs.Driver as driver
+use Rattle.script.specs.AllocateAll.{announceAfter}
 use Rattle.script.specs.IsoIn as isoIn
 use Rattle.script.specs.Machine.{Awaits, nothing, reading, awaited}
 use Rattle.ops.specs.Rings.{St}
@@ -106,6 +107,10 @@ denote point.Ep0Rx v = numbered afterEp0Rx
 denote point.Ep0Tx v = numbered (write EpMaxLen 0 64)
 denote point.Ep0Packet v = ret {A = ℕ} 0
 denote point.FrameNo v = ret (indexOf v)
+denote (point.ListMaxLen d kind ep left total) v = do
+  afterMaxLen d kind ep
+  announceAfter left total d ep
+denote (point.ListPlace d ep left total) v = announceAfter left total d ep
 
 abbrev pub meaning : Next → Driver → List ℕ → tree.Out St ℕ
 meaning (next.Asks q p) d b = asks q (d, b) (λ v t. run conc (denote p v) t)
@@ -128,6 +133,8 @@ awaitsAt point.Ep0Rx = nothing
 awaitsAt point.Ep0Tx = nothing
 awaitsAt point.Ep0Packet = nothing
 awaitsAt point.FrameNo = reading (widthOf FrameNo)
+awaitsAt (point.ListMaxLen d kind ep left total) = nothing
+awaitsAt (point.ListPlace d ep left total) = nothing
 
 abbrev pub Linked : Next → Type 0
 Linked (next.Asks q p) = awaited q ≡ awaitsAt p
@@ -150,3 +157,5 @@ fitsAt point.Ep0Rx v = true
 fitsAt point.Ep0Tx v = true
 fitsAt point.Ep0Packet v = true
 fitsAt point.FrameNo v = fitsIn v (widthOf FrameNo)
+fitsAt (point.ListMaxLen d kind ep left total) v = true
+fitsAt (point.ListPlace d ep left total) v = true

@@ -5,7 +5,7 @@ use regs::Dir;
 use state::Saved;
 ghost use mathlib.Core.Path.{_≡_};
 ghost use Rattle.script.specs.Statics.{flag};
-ghost use Rattle.driver.specs.Codec.{dirAs, dirOf, code, encode, decode};
+ghost use Rattle.driver.specs.Codec.{dirAs, dirOf, code, listCode, encode, decode};
 
 fn flag(b: bool) -> u8
     ensures { λ r. ⌜ r ≡ flag b ⌝ }
@@ -50,6 +50,29 @@ fn code(n: u8, f: u8, kind: u8, ep: u8, value: u32) -> Saved
     }
 }
 
+// Of a list's endpoints also how many are left and how many there are.
+fn list_code(n: u8, f: u8, kind: u8, ep: u8, left: u8, total: u8) -> Saved
+    ensures { λ r. ⌜ r ≡ listCode n f kind ep left total ⌝ }
+{
+    Saved {
+        tag: 0,
+        sub: n,
+        site: 0,
+        flag: f,
+        busy: left,
+        late: total,
+        len_ok: 0,
+        st: kind,
+        now: 0,
+        ep,
+        len: 0,
+        frame: 0,
+        eps: 0,
+        n: 0,
+        value: 0,
+    }
+}
+
 pub fn encode(p: Point) -> Saved
     ensures { λ r. ⌜ r ≡ encode p ⌝ }
 {
@@ -69,6 +92,15 @@ pub fn encode(p: Point) -> Saved
         Point::Ep0Tx => code(12, 0, 0, 0, 0),
         Point::Ep0Packet => code(13, 0, 0, 0, 0),
         Point::FrameNo => code(14, 0, 0, 0, 0),
+        Point::ListMaxLen(dir, kind, ep, left, total) => list_code(
+            15,
+            dir_as(dir),
+            kind,
+            ep,
+            left,
+            total,
+        ),
+        Point::ListPlace(dir, ep, left, total) => list_code(16, dir_as(dir), 0, ep, left, total),
     }
 }
 
@@ -93,6 +125,8 @@ pub fn decode(c: Saved) -> Point
         12 => Point::Ep0Tx,
         13 => Point::Ep0Packet,
         14 => Point::FrameNo,
+        15 => Point::ListMaxLen(dir_of(c.flag), c.st, c.ep, c.busy, c.late),
+        16 => Point::ListPlace(dir_of(c.flag), c.ep, c.busy, c.late),
         _ => Point::Clear(on),
     }
 }

@@ -1,5 +1,6 @@
 // Start-up (mod.rs 886-951), new endpoints (endpoint.rs 18-36), EP0's start (mod.rs 1144-1178), the microframe and paced endpoints (mod.rs 236-238,
 // 308-317): their scripts, one access at a time.
+pub mod announce; // announce.rt: the endpoints of a list announced, one after the other
 pub mod codec; // codec.rt: a point as the saved record, and back
 
 use bits::mask_with;
@@ -52,6 +53,9 @@ pub enum Point {
     Ep0Packet,
     // the microframe
     FrameNo,
+    // a list's endpoints: direction, kind and number of the one that is announced; how many are left, how many there are
+    ListMaxLen(Dir, u8, u8, u8, u8),
+    ListPlace(Dir, u8, u8, u8),
 }
 
 // The next access and the point at which the operation stops, or its result, 0 where it has none.
@@ -182,6 +186,8 @@ pub fn fits_at(p: Point, v: u32) -> bool
         Point::Ep0Tx => true,
         Point::Ep0Packet => true,
         Point::FrameNo => fits(v, width(Reg::FrameNo)),
+        Point::ListMaxLen(_dir, _kind, _ep, _left, _total) => true,
+        Point::ListPlace(_dir, _ep, _left, _total) => true,
     }
 }
 
@@ -220,5 +226,14 @@ pub fn resume(s: &mut [u8; STATE_LEN], p: Point, v: u32) -> Next
         Point::Ep0Tx => Next::Asks(Access::Write(Reg::EpMaxLen, 0, 64), Point::Ep0Packet),
         Point::Ep0Packet => Next::Ends(0),
         Point::FrameNo => after_frame_no(v),
+        Point::ListMaxLen(dir, kind, ep, left, total) => announce::after_max_len(
+            s,
+            dir,
+            kind,
+            ep,
+            left,
+            total,
+        ),
+        Point::ListPlace(dir, ep, left, total) => announce::after(s, left, total, dir, ep),
     }
 }

@@ -1,20 +1,27 @@
 -- Which addresses each call writes to dev_ad: none but a bus reset's 0 and the one accepted. Proofs as in AddressWrites
 use mathlib.Core.Bool.{Bool, true, false}
-use mathlib.Core.List.{List}
+use mathlib.Core.List.{List, [], _∷_}
 use mathlib.Core.Path.{_≡_, refl}
-use Prim.Native.Nat.{ℕ, zero, suc}
+use Prim.Native.Nat.{ℕ, zero, suc, _%_}
+use lib.ListN.{length}
 use Rattle.regs.specs.declared.Dir.{Dir}
 use Rattle.regs.specs.declared.Dir.the-variants.{Out, In}
 use Rattle.alloc.specs.declared.Answer as alloc-answer
 use Rattle.alloc.specs.declared.Answer.the-variants as alloc
 use Rattle.alloc.specs.Alloc.{allocateOf, allocateEp0Of}
+use Rattle.descriptor.specs.declared.Endpoint.{Endpoint}
+use Rattle.descriptor.specs.declared.Answer as reading-answer
+use Rattle.descriptor.specs.declared.Answer.the-variants as reading
+use Rattle.descriptor.specs.Reading.{readingOf, listOf}
+use Rattle.preview.specs.Trial.{directionOf}
 use Rattle.script.specs.Script.{Script, switchAsk, resetAsk}
 use Rattle.script.specs.Bus as bus
 use Rattle.script.specs.Bus.{nakAll}
 use Rattle.script.specs.Endpoint.{beginRead, pollRead, beginWrite, pollWrite}
 use Rattle.script.specs.Control.{acks, beginDataOut, pollDataOut, beginDataIn, pollDataIn}
 use Rattle.script.specs.Driver.{allocated-as, started-as}
-use Rattle.script.specs.Calls.{Config, Op, interrupt, slotted, other, aside, Slotted, SetEnabled, PollRead, BeginWrite, PollWrite, PollDataOut, BeginDataIn, Other, Allocate, Start, BusPoll, BusEnable, BusDisable, Microframe, SetStalled, IsStalled, SetPaced, Advance, BeginRead, BeginSetup, PollSetup, PollDataIn, BeginAccept, PollAccept, BeginReject, BeginDataOut, BeginAcceptSetAddress, Aside, Open, Close, Queue, slottedCode, otherCode, asideCode, code, starting}
+use Rattle.script.specs.AllocateAll.{allocateEach, announce, beginsAt, announceAfter, announceAll, allocate-read}
+use Rattle.script.specs.Calls.{Config, Op, interrupt, slotted, other, aside, Slotted, SetEnabled, PollRead, BeginWrite, PollWrite, PollDataOut, BeginDataIn, Other, Allocate, AllocateAll, Start, BusPoll, BusEnable, BusDisable, Microframe, SetStalled, IsStalled, SetPaced, Advance, BeginRead, BeginSetup, PollSetup, PollDataIn, BeginAccept, PollAccept, BeginReject, BeginDataOut, BeginAcceptSetAddress, Aside, Open, Close, Queue, slottedCode, otherCode, asideCode, code, starting}
 use Rattle.script.specs.Every.{Only}
 use Rattle.script.specs.AddressWrites.{Writes, control, placed, of-stamped, of-advance}
 
@@ -81,6 +88,41 @@ of-place : (d : Dir) (kind maximum : ℕ) (a : alloc-answer.Answer) → N (alloc
 of-place d kind maximum (alloc.Refused n) = tt
 of-place d kind maximum (alloc.Given ep base slots) = (tt, λ _. (((tt, tt), λ _. (((placed None d ep, tt), tt), λ _. tt)), λ _. (λ _. tt, λ _. tt)))
 
+of-each : (es : List Endpoint) → N (allocateEach {i = false} es)
+unfolding allocateEach
+of-each [] = tt
+of-each (e ∷ es) = (tt, λ _. of-each es)
+
+of-announce : (d : Dir) (e : ℕ) → N (announce {i = false} d e)
+of-announce d e = (λ _. tt, λ _. ((tt, tt), λ _. (((placed None d e, tt), tt), λ _. tt)))
+
+of-begins-at : (d : Dir) (x left e : ℕ) → N (beginsAt {i = false} d x left e)
+unfolding beginsAt
+of-begins-at d x zero e = tt
+of-begins-at d x (suc left) e = (λ _. tt, λ _. (λ _. tt, λ _. (tt, of-begins-at d x left (suc e))))
+
+of-after : (left total : ℕ) (d : Dir) (e : ℕ) → N (announceAfter {i = false} left total d e)
+unfolding announceAfter
+of-after zero total d e = tt
+of-after (suc left) total d e = (
+  (λ _. tt, λ _. (λ _. tt, λ _. tt)),
+  λ x. (
+    of-begins-at Out x 15 1,
+    λ o. (
+      (of-begins-at In x 15 1, λ n. (of-announce In n, λ _. of-after left total In n)),
+      (of-announce Out o, λ _. of-after left total Out o),
+    ),
+  ),
+)
+
+of-announce-all : (es : List Endpoint) → N (announceAll {i = false} es)
+of-announce-all [] = tt
+of-announce-all (e ∷ es) = (of-announce (directionOf (e .address)) (e .address % 128), λ _. of-after (length es) (suc (length es)) (directionOf (e .address)) (e .address % 128))
+
+of-all : (bytes : List ℕ) (a : reading-answer.Answer) → N (allocate-read {i = false} bytes a)
+of-all bytes (reading.Refused n) = tt
+of-all bytes reading.Listed = (λ _. tt, λ _. ((of-each (listOf bytes), λ _. (tt, λ _. (of-announce-all (listOf bytes), λ _. (λ _. tt, λ _. tt)))), tt))
+
 of-started : (maximum : ℕ) (a : alloc-answer.Answer) → N (started-as {i = false} maximum a)
 of-started maximum (alloc.Refused n) = tt
 of-started maximum (alloc.Given ep base slots) = (tt, λ _. ((((λ _. tt, tt), λ _. ((tt, tt), λ _. ((tt, tt), λ _. ((tt, tt), λ _. (tt, tt))))), λ _. tt), λ _. (λ _. tt, λ _. tt)))
@@ -96,6 +138,7 @@ of-bus-poll = (λ _. tt, λ _. (((tt, λ _. tt), λ _. ((((refl, tt), λ _. ((tt
 -- the addresses that a call may write: 0 at a bus reset, and the accepted one once its status stage is complete (AddressLaws)
 abbrev pub OfOther : Other → ℕ → Type 0
 OfOther (Allocate d kind address maximum interval) v = ⊥
+OfOther (AllocateAll bytes) v = ⊥
 OfOther (Start maximum) v = ⊥
 OfOther BusPoll v = Zero v
 OfOther BusEnable v = ⊥
@@ -131,6 +174,7 @@ of-slotted (BeginDataIn bs first last) = of-begin-data-in bs first last
 
 of-other : (o : Other) → Only (Writes (OfOther o)) (otherCode o)
 of-other (Allocate d kind address maximum interval) = (λ _. tt, λ _. ((λ _. tt, λ a. (tt, λ _. of-place d kind maximum (allocateOf a kind address maximum d .answer))), tt))
+of-other (AllocateAll bytes) = (λ _. tt, λ _. (of-all bytes (readingOf bytes .answer), tt))
 of-other (Start maximum) = (λ _. tt, λ _. ((λ _. tt, λ a. (tt, λ _. of-started maximum (allocateEp0Of a maximum .answer))), tt))
 of-other BusPoll = (λ _. tt, λ _. ((tt, λ _. (of-bus-poll, λ _. (λ _. tt, λ _. tt))), tt))
 of-other BusEnable = (λ _. tt, λ _. ((tt, λ _. ((((tt, λ _. tt), λ _. (tt, tt)), λ _. tt), λ _. (λ _. tt, λ _. tt))), tt))

@@ -16,6 +16,7 @@ use Rattle.script.specs.Bus as bus
 use Rattle.script.specs.Endpoint.{beginRead, pollRead, beginWrite, pollWrite}
 use Rattle.script.specs.Control.{beginSetup, pollSetup, beginDataOut, pollDataOut, beginDataIn, pollDataIn, beginAccept, beginAcceptSetAddress, pollAccept, beginReject}
 use Rattle.script.specs.Driver.{startUp, allocEndpoint, start, openPacket, closePacket, queuePacket}
+use Rattle.script.specs.AllocateAll.{allocateAll}
 use Rattle.script.specs.Machine.{Buf, Calls}
 
 -- start-up: buffer size, count, whether there is a start-of-frame callback
@@ -35,6 +36,7 @@ pub data Slotted : Type 0 where
 -- those that do not
 pub data Other : Type 0 where
   Allocate : Dir → ℕ → ℕ → ℕ → ℕ → Other  -- kind, address, maximum, interval
+  AllocateAll : List ℕ → Other  -- the endpoints of a configuration descriptor
   Start : ℕ → Other
   BusPoll BusEnable BusDisable Microframe : Other
   SetStalled : Dir → ℕ → Bool → Other
@@ -89,6 +91,7 @@ slottedCode (BeginDataIn bs first last) = beginDataIn bs first last
 
 abbrev pub otherCode : Other → Script false Answer
 otherCode (Allocate d kind address maximum interval) = allocEndpoint d kind address maximum interval
+otherCode (AllocateAll bytes) = allocateAll bytes
 otherCode (Start maximum) = start maximum
 otherCode BusPoll = staged 2 (operation bus.poll)
 otherCode BusEnable = staged 2 (resultless bus.enable)

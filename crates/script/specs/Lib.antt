@@ -13,6 +13,7 @@ pub mod Bus
 pub mod Endpoint
 pub mod Control
 pub mod Driver
+pub mod AllocateAll
 pub mod Calls
 pub mod Readings
 pub mod ReadingsLaws

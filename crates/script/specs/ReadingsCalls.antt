@@ -1,6 +1,6 @@
 -- The readings of every call of document 01, as a table
 use mathlib.Core.Bool.{Bool, true, false, cond}
-use mathlib.Core.List.{List}
+use mathlib.Core.List.{List, [], _∷_}
 use Prim.Native.Nat.{ℕ, zero, suc}
 use Rattle.regs.specs.declared.Dir.{Dir}
 use Rattle.regs.specs.declared.Dir.the-variants.{Out, In}
@@ -8,6 +8,10 @@ use Rattle.alloc.specs.declared.Answer as alloc-answer
 use Rattle.alloc.specs.declared.Answer.the-variants as alloc
 use Rattle.alloc.specs.Alloc.{allocateOf, allocateEp0Of}
 use Rattle.state.specs.declared.Control.{Control}
+use Rattle.descriptor.specs.declared.Endpoint.{Endpoint}
+use Rattle.descriptor.specs.declared.Answer as reading-answer
+use Rattle.descriptor.specs.declared.Answer.the-variants as reading
+use Rattle.descriptor.specs.Reading.{readingOf, listOf}
 use Rattle.script.specs.Cells.{Plain, globals-cell, control-cell, allocator-cell, ep-cell, request-cell, paced-cell}
 use Rattle.script.specs.Script.{Script}
 use Rattle.script.specs.Statics.{isOn}
@@ -16,8 +20,9 @@ use Rattle.script.specs.Bus as bus
 use Rattle.script.specs.Endpoint.{enabled-else, ends-request, arm-read, polled, take-iso, take-ready, load-write, put-iso, sent-ready}
 use Rattle.script.specs.Control.{ends-control, unlessSetup, withinMaximum, requested, aborted-else, acks, take-out, beginDataIn, take-closing, take-in, statusIn}
 use Rattle.script.specs.Driver.{allocated-as, started-as}
+use Rattle.script.specs.AllocateAll.{allocateEach, announce, beginsAt, announceAfter, announceAll, allocate-read}
 use Rattle.script.specs.Answers.{Answer, named, unless}
-use Rattle.script.specs.Calls.{Slotted, SetEnabled, PollRead, BeginWrite, PollWrite, PollDataOut, BeginDataIn, Other, Allocate, Start, BusPoll, BusEnable, BusDisable, Microframe, SetStalled, IsStalled, SetPaced, Advance, BeginRead, BeginSetup, PollSetup, PollDataIn, BeginAccept, PollAccept, BeginReject, BeginDataOut, BeginAcceptSetAddress, Aside, Open, Close, Queue, Op, interrupt, slotted, other, aside, numbered, named-or-0, slottedCode, otherCode, asideCode, code, Config, starting}
+use Rattle.script.specs.Calls.{Slotted, SetEnabled, PollRead, BeginWrite, PollWrite, PollDataOut, BeginDataIn, Other, Allocate, AllocateAll, Start, BusPoll, BusEnable, BusDisable, Microframe, SetStalled, IsStalled, SetPaced, Advance, BeginRead, BeginSetup, PollSetup, PollDataIn, BeginAccept, PollAccept, BeginReject, BeginDataOut, BeginAcceptSetAddress, Aside, Open, Close, Queue, Op, interrupt, slotted, other, aside, numbered, named-or-0, slottedCode, otherCode, asideCode, code, Config, starting}
 use Rattle.script.specs.Readings.{Reads≤}
 use Rattle.script.specs.ReadingsLaws.{reads-ret, reads-wait, reads-row, free, once, either, one-read, no-write, no-get, no-put, no-is, no-fetch, no-look, no-act, no-hand, when-reads, assign, assign-write, modifyReg-reads}
 use Rattle.script.specs.ReadingsInterrupt.{isoInComplete-reads, operation-reads, resultless-reads, staged-reads, interrupt-reads}
@@ -34,6 +39,7 @@ slottedMost (BeginDataIn bs first last) = cond first 0 1
 
 abbrev pub otherMost : Other → ℕ
 otherMost (Allocate d kind address maximum interval) = 0
+otherMost (AllocateAll bytes) = 0
 otherMost (Start maximum) = 0
 otherMost BusPoll = 2
 otherMost BusEnable = 1
@@ -203,6 +209,34 @@ module _ {i : Bool} where
   allocated-reads d kind maximum (alloc.Refused n) = reads-ret
   allocated-reads d kind maximum (alloc.Given ep base slots) = operation-reads (free no-write (λ _. free (when-reads no-hand) (λ _. reads-ret)))
 
+  each-reads : (es : List Endpoint) → Reads≤ {i = i} 0 (allocateEach es)
+  unfolding allocateEach
+  each-reads [] = reads-ret
+  each-reads (e ∷ es) = free no-act (λ _. each-reads es)
+
+  announce-reads : (d : Dir) (e : ℕ) → Reads≤ {i = i} 0 (announce d e)
+  announce-reads d e = free (no-get (ep-cell _ _)) (λ _. free no-write (λ _. free (when-reads no-hand) (λ _. reads-ret)))
+
+  beginsAt-reads : (d : Dir) (x left e : ℕ) → Reads≤ {i = i} 0 (beginsAt d x left e)
+  unfolding beginsAt
+  beginsAt-reads d x zero e = reads-ret
+  beginsAt-reads d x (suc left) e = free (no-get allocator-cell) (λ _. free (no-get (ep-cell _ _)) (λ _. either reads-ret (beginsAt-reads d x left (suc e))))
+
+  after-reads : (left total : ℕ) (d : Dir) (e : ℕ) → Reads≤ {i = i} 0 (announceAfter left total d e)
+  unfolding announceAfter
+  after-reads zero total d e = reads-ret
+  after-reads (suc left) total d e = free (free (no-get allocator-cell) (λ _. free (no-get (ep-cell _ _)) (λ _. reads-ret))) (λ x. free (beginsAt-reads Out x 15 1) (λ o. either
+      (free (beginsAt-reads In x 15 1) (λ n. free (announce-reads In n) (λ _. after-reads left total In n)))
+      (free (announce-reads Out o) (λ _. after-reads left total Out o))))
+
+  announceAll-reads : (es : List Endpoint) → Reads≤ {i = i} 0 (announceAll es)
+  announceAll-reads [] = reads-ret
+  announceAll-reads (e ∷ es) = free (announce-reads _ _) (λ _. after-reads _ _ _ _)
+
+  all-reads : (bytes : List ℕ) (a : reading-answer.Answer) → Reads≤ {i = i} 0 (allocate-read bytes a)
+  all-reads bytes (reading.Refused n) = reads-ret
+  all-reads bytes reading.Listed = free (no-get allocator-cell) (λ _. either (free (each-reads (listOf bytes)) (λ _. operation-reads (announceAll-reads (listOf bytes)))) reads-ret)
+
   started-reads : (maximum : ℕ) (a : alloc-answer.Answer) → Reads≤ {i = i} 0 (started-as maximum a)
   started-reads maximum (alloc.Refused n) = reads-ret
   started-reads maximum (alloc.Given ep base slots) = resultless-reads (free no-hand (λ _. free no-write (λ _. free no-write (λ _. free no-write (λ _. no-write)))))
@@ -219,6 +253,7 @@ slotted-reads (BeginDataIn bs first last) = dataIn-reads bs first last
 
 other-reads : (o : Other) → Reads≤ (otherMost o) (otherCode o)
 other-reads (Allocate d kind address maximum interval) = staged-reads 1 (free (no-get allocator-cell) (λ a. free no-act (λ _. allocated-reads d kind maximum (allocateOf a kind address maximum d .answer))))
+other-reads (AllocateAll bytes) = staged-reads 1 (all-reads bytes (readingOf bytes .answer))
 other-reads (Start maximum) = staged-reads 1 (free (no-get allocator-cell) (λ a. free no-act (λ _. started-reads maximum (allocateEp0Of a maximum .answer))))
 other-reads BusPoll = staged-reads 2 (operation-reads poll-reads)
 other-reads BusEnable = staged-reads 2 (resultless-reads modifyReg-reads)

@@ -87,6 +87,8 @@ over-fits point.Ep0Rx v = refl
 over-fits point.Ep0Tx v = refl
 over-fits point.Ep0Packet v = refl
 over-fits point.FrameNo v = refl
+over-fits (point.ListMaxLen d kind ep left total) v = refl
+over-fits (point.ListPlace d ep left total) v = refl
 
 pub over-fits-bus : (p : busPoint.Point) (v : ℕ) → over calls (bus.awaitsAt p) v ≡ not (bus.fitsAt p v)
 unfolding bus.fitsAt

@@ -64,6 +64,12 @@ width-requires-2 c κs = search needs
 fits-requires-2 : tie.Need-fits-requires-2
 fits-requires-2 c κs = search needs
 
+enum-known-p-10 : tie.Need-enum-known-p-10
+enum-known-p-10 c = search needs
+
+enum-known-p-11 : tie.Need-enum-known-p-11
+enum-known-p-11 c = search needs
+
 returns : tie.Need-returns
 unfolding fitsAt
 returns c = simp (c .before .p .given .1)
@@ -124,6 +130,14 @@ returns-15 : tie.Need-returns-15
 unfolding fitsAt
 returns-15 c = simp (c .fits3 .ensures, c .before .width2 .ensures, c .before .before .enum-told6 .given .1)
 
+returns-16 : tie.Need-returns-16
+unfolding fitsAt
+returns-16 c = simp (c .before .p10 .given .1)
+
+returns-17 : tie.Need-returns-17
+unfolding fitsAt
+returns-17 c = simp (c .before .p11 .given .1)
+
 pub fits-at-spec : {M : Type 1} → statement M
 fits-at-spec =
     tie.close
@@ -147,6 +161,8 @@ fits-at-spec =
     enum-told-6
     width-requires-2
     fits-requires-2
+    enum-known-p-10
+    enum-known-p-11
     returns
     returns-2
     returns-3
@@ -161,4 +177,6 @@ fits-at-spec =
     returns-12
     returns-13
     returns-14
-    returns-15)
+    returns-15
+    returns-16
+    returns-17)

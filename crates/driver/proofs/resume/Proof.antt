@@ -55,8 +55,8 @@ after-max-len-requires c κs = search needs
 enum-known-p-8 : tie.Need-enum-known-p-8
 enum-known-p-8 c = search needs
 
-cast-t35 : tie.Need-cast-t35
-cast-t35 c = search needs
+cast-t44 : tie.Need-cast-t44
+cast-t44 c = search needs
 
 enum-known-p-9 : tie.Need-enum-known-p-9
 enum-known-p-9 c = search needs
@@ -85,6 +85,18 @@ enum-told-6 c = search needs
 after-frame-no-requires : tie.Need-after-frame-no-requires
 unfolding fitsAt
 after-frame-no-requires c κs = rw (c .enum-told6 .given .1) at (c .before .before .pre)
+
+enum-known-p-10 : tie.Need-enum-known-p-10
+enum-known-p-10 c = search needs
+
+after-max-len-requires-2 : tie.Need-after-max-len-requires-2
+after-max-len-requires-2 c κs = search needs
+
+enum-known-p-11 : tie.Need-enum-known-p-11
+enum-known-p-11 c = search needs
+
+after-requires : tie.Need-after-requires
+after-requires c κs = search needs
 
 returns : tie.Need-returns
 returns c = (λ b. simp (c .before .p .given .1), (refl, refl))
@@ -131,6 +143,12 @@ returns-14 c = (λ b. simp (c .enum-told5 .given .1), (refl, tt))
 returns-15 : tie.Need-returns-15
 returns-15 c = (λ b. simp (c .after-frame-no .ensures .0, c .before .enum-told6 .given .1), (refl, c .after-frame-no .ensures .1))
 
+returns-16 : tie.Need-returns-16
+returns-16 c = (λ b. simp (c .after-max-len2 .ensures .0, c .before .before .before .p10 .given .1), (c .after-max-len2 .ensures .1 .0, c .after-max-len2 .ensures .1 .1))
+
+returns-17 : tie.Need-returns-17
+returns-17 c = (λ b. simp (c .after .ensures .0, c .before .before .before .p11 .given .1), (refl, c .after .ensures .1))
+
 pub resume-spec : {M : Type 1} → statement M
 resume-spec =
     tie.close
@@ -149,7 +167,7 @@ resume-spec =
     enum-known-p-7
     after-max-len-requires
     enum-known-p-8
-    cast-t35
+    cast-t44
     enum-known-p-9
     enum-told-2
     ep0-word-requires
@@ -159,6 +177,10 @@ resume-spec =
     enum-told-5
     enum-told-6
     after-frame-no-requires
+    enum-known-p-10
+    after-max-len-requires-2
+    enum-known-p-11
+    after-requires
     returns
     returns-2
     returns-3
@@ -173,4 +195,6 @@ resume-spec =
     returns-12
     returns-13
     returns-14
-    returns-15)
+    returns-15
+    returns-16
+    returns-17)

@@ -14,6 +14,12 @@ is-on-requires c κs = search needs
 dir-of-requires : tie.Need-dir-of-requires
 dir-of-requires c κs = search needs
 
+dir-of-requires-2 : tie.Need-dir-of-requires-2
+dir-of-requires-2 c κs = search needs
+
+dir-of-requires-3 : tie.Need-dir-of-requires-3
+dir-of-requires-3 c κs = search needs
+
 returns : tie.Need-returns
 unfolding decode
 returns c = simp (c .match .keys1, c .before .is-on .ensures)
@@ -72,7 +78,15 @@ returns-14 c = simp (c .match .keys14)
 
 returns-15 : tie.Need-returns-15
 unfolding decode
-returns-15 c = simp (ne-eqb _ _ (c .match .rest .1), ne-eqb _ _ (c .match .rest .0 .1), ne-eqb _ _ (c .match .rest .0 .0 .1), ne-eqb _ _ (c .match .rest .0 .0 .0 .1), ne-eqb _ _ (c .match .rest .0 .0 .0 .0 .1), ne-eqb _ _ (c .match .rest .0 .0 .0 .0 .0 .1), ne-eqb _ _ (c .match .rest .0 .0 .0 .0 .0 .0 .1), ne-eqb _ _ (c .match .rest .0 .0 .0 .0 .0 .0 .0 .1), ne-eqb _ _ (c .match .rest .0 .0 .0 .0 .0 .0 .0 .0 .1), ne-eqb _ _ (c .match .rest .0 .0 .0 .0 .0 .0 .0 .0 .0 .1), ne-eqb _ _ (c .match .rest .0 .0 .0 .0 .0 .0 .0 .0 .0 .0 .1), ne-eqb _ _ (c .match .rest .0 .0 .0 .0 .0 .0 .0 .0 .0 .0 .0 .1), ne-eqb _ _ (c .match .rest .0 .0 .0 .0 .0 .0 .0 .0 .0 .0 .0 .0 .1), ne-eqb _ _ (c .match .rest .0 .0 .0 .0 .0 .0 .0 .0 .0 .0 .0 .0 .0 .1), c .before .is-on .ensures)
+returns-15 c = simp (c .dir-of2 .ensures, c .before .match .keys15)
+
+returns-16 : tie.Need-returns-16
+unfolding decode
+returns-16 c = simp (c .dir-of3 .ensures, c .before .match .keys16)
+
+returns-17 : tie.Need-returns-17
+unfolding decode
+returns-17 c = simp (ne-eqb _ _ (c .match .rest .1), ne-eqb _ _ (c .match .rest .0 .1), ne-eqb _ _ (c .match .rest .0 .0 .1), ne-eqb _ _ (c .match .rest .0 .0 .0 .1), ne-eqb _ _ (c .match .rest .0 .0 .0 .0 .1), ne-eqb _ _ (c .match .rest .0 .0 .0 .0 .0 .1), ne-eqb _ _ (c .match .rest .0 .0 .0 .0 .0 .0 .1), ne-eqb _ _ (c .match .rest .0 .0 .0 .0 .0 .0 .0 .1), ne-eqb _ _ (c .match .rest .0 .0 .0 .0 .0 .0 .0 .0 .1), ne-eqb _ _ (c .match .rest .0 .0 .0 .0 .0 .0 .0 .0 .0 .1), ne-eqb _ _ (c .match .rest .0 .0 .0 .0 .0 .0 .0 .0 .0 .0 .1), ne-eqb _ _ (c .match .rest .0 .0 .0 .0 .0 .0 .0 .0 .0 .0 .0 .1), ne-eqb _ _ (c .match .rest .0 .0 .0 .0 .0 .0 .0 .0 .0 .0 .0 .0 .1), ne-eqb _ _ (c .match .rest .0 .0 .0 .0 .0 .0 .0 .0 .0 .0 .0 .0 .0 .1), ne-eqb _ _ (c .match .rest .0 .0 .0 .0 .0 .0 .0 .0 .0 .0 .0 .0 .0 .0 .1), ne-eqb _ _ (c .match .rest .0 .0 .0 .0 .0 .0 .0 .0 .0 .0 .0 .0 .0 .0 .0 .1), c .before .is-on .ensures)
 
 pub decode-spec : {M : Type 1} → statement M
 decode-spec =
@@ -80,6 +94,8 @@ decode-spec =
     (tie.spec
     is-on-requires
     dir-of-requires
+    dir-of-requires-2
+    dir-of-requires-3
     returns
     returns-2
     returns-3
@@ -94,4 +110,6 @@ decode-spec =
     returns-12
     returns-13
     returns-14
-    returns-15)
+    returns-15
+    returns-16
+    returns-17)

@@ -7,6 +7,7 @@ use Rattle.driver.proofs.codec.encode.Lts as lts
 use Rattle.driver.proofs.codec.code.Reads as code-reads
 use Rattle.driver.proofs.codec.dir_as.Reads as dir-as-reads
 use Rattle.driver.proofs.codec.flag.Reads as flag-reads
+use Rattle.driver.proofs.codec.list_code.Reads as list-code-reads
 
 enum-known-p : tie.Need-enum-known-p
 enum-known-p c = search needs
@@ -119,6 +120,24 @@ enum-told-6 c = search needs
 code-requires-15 : tie.Need-code-requires-15
 code-requires-15 c κs = search needs
 
+enum-known-p-10 : tie.Need-enum-known-p-10
+enum-known-p-10 c = search needs
+
+dir-as-requires-2 : tie.Need-dir-as-requires-2
+dir-as-requires-2 c κs = search needs
+
+list-code-requires : tie.Need-list-code-requires
+list-code-requires c κs = search needs
+
+enum-known-p-11 : tie.Need-enum-known-p-11
+enum-known-p-11 c = search needs
+
+dir-as-requires-3 : tie.Need-dir-as-requires-3
+dir-as-requires-3 c κs = search needs
+
+list-code-requires-2 : tie.Need-list-code-requires-2
+list-code-requires-2 c κs = search needs
+
 returns : tie.Need-returns
 unfolding encode
 returns c = simp (← c .code .ensures, ← c .before .flag .ensures, c .before .before .before .p .given .1)
@@ -179,6 +198,14 @@ returns-15 : tie.Need-returns-15
 unfolding encode
 returns-15 c = simp (← c .code15 .ensures, c .before .enum-told6 .given .1)
 
+returns-16 : tie.Need-returns-16
+unfolding encode
+returns-16 c = simp (← c .list-code .ensures, ← c .before .dir-as2 .ensures, c .before .before .before .p10 .given .1)
+
+returns-17 : tie.Need-returns-17
+unfolding encode
+returns-17 c = simp (← c .list-code2 .ensures, ← c .before .dir-as3 .ensures, c .before .before .before .p11 .given .1)
+
 pub encode-spec : {M : Type 1} → statement M
 encode-spec =
     tie.close
@@ -220,6 +247,12 @@ encode-spec =
     code-requires-14
     enum-told-6
     code-requires-15
+    enum-known-p-10
+    dir-as-requires-2
+    list-code-requires
+    enum-known-p-11
+    dir-as-requires-3
+    list-code-requires-2
     returns
     returns-2
     returns-3
@@ -234,4 +267,6 @@ encode-spec =
     returns-12
     returns-13
     returns-14
-    returns-15)
+    returns-15
+    returns-16
+    returns-17)
