@@ -1,0 +1,4 @@
+pub mod Sharing
+pub mod Accepts
+pub mod Charging
+pub mod Enabling

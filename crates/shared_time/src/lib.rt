@@ -1,0 +1,115 @@
+// The calls that a driver's bus time goes through: start-up, an endpoint's enabling and continue, with the record that up to four drivers share
+// (crate `bus_time`). `driver` is the caller's number in the record, modulo 4. Each call is the driver's own, but for row 19.
+mod charges; // charges.rt: the record after a call
+
+use bus_time::TIME_LEN;
+use bus_time::entry;
+use bus_time::passes;
+use charges::charge_on;
+use charges::charged;
+use charges::gone_on;
+use charges::started;
+use regs::Dir;
+use rows::is_allocated;
+use state::STATE_LEN;
+use way::Step;
+use way::rows::slots_fit;
+use way::rows::stop;
+ghost use mathlib.Core.Path.{_≡_};
+ghost use mathlib.Core.Bool.{cond, true};
+ghost use mathlib.Core.List.{List, []};
+ghost use Prim.Native.Nat.{ℕ};
+ghost use lib.Dec.{eqb};
+ghost use Rattle.state.specs.State.{view, saved};
+ghost use Rattle.script.specs.Machine.{start, begin, go};
+ghost use Rattle.script.specs.Calls.{slotted, SetEnabled, startRow};
+ghost use Rattle.way.specs.Under.{decode, machineOf, answerOf, configOf, lentOr};
+ghost use Rattle.shared_time.specs.Sharing.{sharedCall};
+ghost use Rattle.shared_time.specs.Accepts.{accepts};
+
+// Start-up on any state: an accepted one gives back what the driver was charged.
+pub fn start_up(
+    s: &mut [u8; STATE_LEN],
+    slots: &[u8],
+    time: &mut [u16; TIME_LEN],
+    driver: u32,
+    size: u32,
+    count: u32,
+    callback: bool,
+) -> Step
+    ensures { λ r. ⌜ ((a : List ℕ) → ((answerOf r [], machineOf (now (s .exit)) (cond (eqb (startRow (configOf size count callback) (now (slots .entry))) 0) (now (slots .entry)) a)), now (time .exit)) ≡ sharedCall driver (start (configOf size count callback)) (machineOf (now (s .entry)) a) (now (time .entry)) (now (slots .entry))) ⌝ }
+{
+    let step = driver_calls::starting::start_up(s, slots, size, count, callback);
+    started(time, driver, step);
+    step
+}
+
+// Rows 1, 3, 4 and 5 turned round.
+fn is_accepted(s: &[u8; STATE_LEN], slots: &[u8], dir: Dir, e: u32) -> bool
+    ensures { λ r. ⌜ r ≡ accepts (view (now (s .entry))) (decode (saved (now (s .entry)))) (now (slots .entry)) dir e ⌝ }
+{
+    if slots_fit(s, slots) {
+        if stop(s, 2) == 0 {
+            return is_allocated(s, dir, e);
+        }
+        return false;
+    }
+    false
+}
+
+// Row 19 changes nothing; an enabling counts from its begin, once however often it is enabled.
+fn enable(
+    s: &mut [u8; STATE_LEN],
+    slots: &mut [u8],
+    time: &mut [u16; TIME_LEN],
+    driver: u32,
+    dir: Dir,
+    e: u32,
+) -> Step
+    ensures { λ r. ⌜ ((a : List ℕ) → ((answerOf r [], machineOf (now (s .exit)) (lentOr (view (now (s .entry))) (now (slots .entry)) (now (slots .exit)) a)), now (time .exit)) ≡ sharedCall driver (begin (slotted (SetEnabled dir e true))) (machineOf (now (s .entry)) a) (now (time .entry)) (now (slots .entry))) ⌝ }
+{
+    let at = entry(driver, dir, e);
+    let charge = charge_on(s, dir, e);
+    if passes(time, at, charge) {
+        if is_accepted(s, slots, dir, e) {
+            return Step::Refused(19);
+        }
+        return bus_calls::bus_begins::begin_set_enabled(s, slots, dir, e, true);
+    }
+    let step = bus_calls::bus_begins::begin_set_enabled(s, slots, dir, e, true);
+    charged(time, at, charge, step);
+    step
+}
+
+// The endpoint enabled or disabled.
+pub fn begin_set_enabled(
+    s: &mut [u8; STATE_LEN],
+    slots: &mut [u8],
+    time: &mut [u16; TIME_LEN],
+    driver: u32,
+    dir: Dir,
+    e: u32,
+    on: bool,
+) -> Step
+    ensures { λ r. ⌜ ((a : List ℕ) → ((answerOf r [], machineOf (now (s .exit)) (lentOr (view (now (s .entry))) (now (slots .entry)) (now (slots .exit)) a)), now (time .exit)) ≡ sharedCall driver (begin (slotted (SetEnabled dir e on))) (machineOf (now (s .entry)) a) (now (time .entry)) (now (slots .entry))) ⌝ }
+{
+    if on {
+        return enable(s, slots, time, driver, dir, e);
+    }
+    bus_calls::bus_begins::begin_set_enabled(s, slots, dir, e, false)
+}
+
+// Goes on with the operation under way: a write of ep_config gives back what it clears.
+pub fn proceed(
+    s: &mut [u8; STATE_LEN],
+    slots: &mut [u8],
+    time: &mut [u16; TIME_LEN],
+    driver: u32,
+    v: u32,
+) -> Step
+    ensures { λ r. ⌜ ((a : List ℕ) → ((answerOf r [], machineOf (now (s .exit)) (lentOr (view (now (s .entry))) (now (slots .entry)) (now (slots .exit)) a)), now (time .exit)) ≡ sharedCall driver (go v) (machineOf (now (s .entry)) a) (now (time .entry)) (now (slots .entry))) ⌝ }
+{
+    let step = proceeding::proceed(s, slots, v);
+    gone_on(time, driver, step);
+    step
+}
