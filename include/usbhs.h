@@ -11,7 +11,7 @@
  *   2 write          8-15 register, 16-23 endpoint, 32-63 value
  *   3 wait           8-15 microseconds
  *   4 callback       the start-of-frame callback
- *   5 end            8-23 result; wake-ups: 24-39 IN 0-15, 40-55 OUT 0-15, 56 bus
+ *   5 end            8-23 result, 24-31 how many tasks are to be woken: usbhs_woken lists them
  *   6 not yet        of a poll: wait for a wake-up, then poll again
  *   7 done           8-23 length: of a poll, so many bytes at the slice's front; the request is over
  *   8 shown          8-23 length, 32-63 offset into the slots: an open packet, whose stamp is at `stamp`
@@ -29,7 +29,7 @@
 extern "C" {
 #endif
 
-#define USBHS_STATE_LEN 2779
+#define USBHS_STATE_LEN 2839
 
 /* The kinds of answer. */
 enum usbhs_kind {
@@ -81,9 +81,7 @@ enum usbhs_register {
 #define USBHS_VALUE(word) ((uint32_t)((word) >> 32))              /* write */
 #define USBHS_MICROSECONDS(word) ((unsigned)((word) >> 8 & 0xFF)) /* wait */
 #define USBHS_RESULT(word) ((unsigned)((word) >> 8 & 0xFFFF))     /* end */
-#define USBHS_WAKES_IN(word) ((unsigned)((word) >> 24 & 0xFFFF))  /* end: bit e is IN e */
-#define USBHS_WAKES_OUT(word) ((unsigned)((word) >> 40 & 0xFFFF)) /* end: bit e is OUT e */
-#define USBHS_WAKES_BUS(word) ((unsigned)((word) >> 56 & 1))      /* end */
+#define USBHS_WAKES(word) ((unsigned)((word) >> 24 & 0xFF))       /* end: how many */
 #define USBHS_LENGTH(word) ((unsigned)((word) >> 8 & 0xFFFF))     /* done, shown */
 #define USBHS_OFFSET(word) ((uint32_t)((word) >> 32))             /* shown */
 
@@ -136,6 +134,13 @@ uint64_t usbhs_begin_reject(uint8_t state[USBHS_STATE_LEN]);
 uint64_t usbhs_open(uint8_t state[USBHS_STATE_LEN], const uint8_t *slots, size_t slots_length, uint32_t endpoint, uint16_t *stamp);
 uint64_t usbhs_close(uint8_t state[USBHS_STATE_LEN], uint32_t endpoint);
 uint64_t usbhs_queue(uint8_t state[USBHS_STATE_LEN], uint8_t *slots, size_t slots_length, uint32_t endpoint, const uint8_t *data, size_t data_length);
+
+/* The tasks to wake after the end of an operation, in the order in which they were woken, a task as often as it was: 0 to 15 is IN 0 to 15, 16 to 31
+ * OUT 0 to 15, USBHS_BUS the bus. To be asked after an end that has some and before the next call; fills the room's first bytes and answers how
+ * many, at most 64. A call that is over at once wakes none, also where it falls into an interrupt, whose list goes on. */
+#define USBHS_BUS 32u
+#define USBHS_MOST_WAKES 64
+uint32_t usbhs_woken(const uint8_t state[USBHS_STATE_LEN], uint8_t room[USBHS_MOST_WAKES]);
 
 /* The questions, at any time: packets queued on IN, packets of OUT turned away, whether the host enabled the endpoint (1 or 0). */
 uint32_t usbhs_pending(const uint8_t state[USBHS_STATE_LEN], uint32_t endpoint);

@@ -16,6 +16,7 @@ int main(void)
 {
     static uint8_t state[USBHS_STATE_LEN];
     static uint8_t slots[64];
+    static uint8_t room[USBHS_MOST_WAKES];
     uint16_t stamp = 7;
     uint64_t word;
 
@@ -36,14 +37,15 @@ int main(void)
     expect("pending", usbhs_pending(state, 1), 0);
     expect("overruns", usbhs_overruns(state, 1), 0);
     expect("enabled", usbhs_enabled(state, 1, USBHS_IN), 0);
+    room[0] = 9;
+    expect("woken", usbhs_woken(state, room), 0);
+    expect("woken: the room stays", room[0], 9);
 
-    /* the parts of a word: the end of an operation with result 0x1234, wake-ups of IN 2, OUT 15 and the bus; a write of ep_tx_ctrl(3) */
-    word = 5 + 0x1234ull * 256 + (1ull << (24 + 2)) + (1ull << (40 + 15)) + (1ull << 56);
+    /* the parts of a word: the end of an operation with result 0x1234 and 33 wake-ups; a write of ep_tx_ctrl(3) */
+    word = 5 + 0x1234ull * 256 + (33ull << 24);
     expect("end: kind", USBHS_KIND(word), USBHS_END);
     expect("end: result", USBHS_RESULT(word), 0x1234);
-    expect("end: IN", USBHS_WAKES_IN(word), 1u << 2);
-    expect("end: OUT", USBHS_WAKES_OUT(word), 1u << 15);
-    expect("end: bus", USBHS_WAKES_BUS(word), 1);
+    expect("end: wake-ups", USBHS_WAKES(word), 33);
     word = 2 + (18ull << 8) + (3ull << 16) + (0xFFFFFFFFull << 32);
     expect("write: register", USBHS_REGISTER(word), USBHS_EP_TX_CTRL);
     expect("write: endpoint", USBHS_ENDPOINT(word), 3);

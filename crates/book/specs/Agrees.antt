@@ -10,10 +10,11 @@ use Rattle.regs.specs.Enables as enables
 use Rattle.state.specs.declared.Globals.{Globals}
 use Rattle.state.specs.declared.Allocator.{Allocator}
 use Rattle.state.specs.declared.EpState.{EpState}
+use Rattle.state.specs.Wakes.{none-woken, listed, all-woken}
 use Rattle.state.specs.Driver.{Driver, epOn}
 use Rattle.ring.specs.Slot.{countOf}
 use Rattle.script.specs.Cells.{Plain}
-use Rattle.script.specs.Script.{Test, changed, waiting, room, opened, Look, marked, next-len, next-stamp, setup-word, Fetch, oldest, received, received0, Act, complete, reset-ring, set-enabled, fill, fill0, open-oldest, close-oldest, take-oldest, enqueue, allocate, allocate0, Hand, arrive, send, place, place0}
+use Rattle.script.specs.Script.{Test, changed, waiting, room, opened, Look, marked, next-len, next-stamp, setup-word, Fetch, oldest, received, received0, gathered, Act, complete, reset-ring, set-enabled, fill, fill0, open-oldest, close-oldest, take-oldest, enqueue, allocate, allocate0, no-wakes, waken, Hand, arrive, send, place, place0}
 use Rattle.script.specs.Statics.{isOn, flag}
 use Rattle.script.specs.Answers.{isNumber}
 use Rattle.script.specs.Alike.{Phase}
@@ -25,7 +26,7 @@ use Rattle.book.specs.Pages.{Pages}
 use Rattle.book.specs.Book.{book, questionB}
 use Rattle.book.specs.Rest.{Rest, Chip, Good}
 use Rattle.book.specs.Held.{IsAgrees, LookAgrees, FetchAgrees, ActAgrees, HandAgrees, held-length}
-use Rattle.book.specs.Cells.{gets, puts, unfed, good-bare}
+use Rattle.book.specs.Cells.{gets, puts, wakes-kept, unfed, good-bare}
 use Rattle.book.specs.Allocations.{allocates, starts, enables-kept}
 use Rattle.book.specs.Chips.{chip}
 use Rattle.book.specs.Outs.{is-changed, is-waiting-out, is-opened, look-marked, look-next-out, look-next-stamp, fetch-oldest, fetch-received, act-open, act-close, act-take, act-reset-out}
@@ -65,6 +66,7 @@ pub fetches : (q : Fetch) → FetchAgrees q
 fetches (oldest e) = fetch-oldest e
 fetches (received e n) = fetch-received e n
 fetches (received0 n) = fetch-received0 n
+fetches gathered = λ b d t r. ap listed (r .same .wakes)
 
 pub acts : (q : Act) → ActAgrees q
 acts (complete e) = act-complete e
@@ -79,6 +81,8 @@ acts (take-oldest e) = act-take e
 acts (enqueue e bytes) = act-enqueue e bytes
 acts (allocate dir kind address maximum interval) = λ b d t r. (refl, allocates r dir kind address maximum interval)
 acts (allocate0 maximum) = λ b d t r. (refl, starts r maximum)
+acts no-wakes = λ b d t r. (refl, wakes-kept r none-woken none-woken refl)
+acts (waken codes) = λ b d t r. (refl, wakes-kept r _ _ (ap (all-woken codes) (r .same .wakes)))
 
 pub hands : (q : Hand) → HandAgrees q
 hands (arrive e n) = hand-arrive e n

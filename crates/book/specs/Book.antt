@@ -14,7 +14,7 @@ use Rattle.regs.specs.Enables as enables
 use Rattle.state.specs.declared.Globals.{Globals}
 use Rattle.state.specs.Ep.{newEp}
 use Rattle.state.specs.Kept.{withEpConfig, withEpType}
-use Rattle.state.specs.Wakes.{none-woken}
+use Rattle.state.specs.Wakes.{none-woken, listed, all-woken}
 use Rattle.state.specs.Fresh.{freshGlobals, freshAllocator, noControl}
 use Rattle.state.specs.Driver.{noRequest}
 use Rattle.alloc.specs.declared.Answer.{Answer}
@@ -23,8 +23,8 @@ use Rattle.alloc.specs.Alloc.{allocateOf, allocateEp0Of, isIso}
 use Rattle.marks.specs.Marks.{isMarked, markedLen}
 use Rattle.marks.specs.Copies.{copied, bytesAt}
 use Rattle.frame.specs.Advance.{NO_FRAME}
-use Rattle.script.specs.Cells.{Plain, Cell, Val, globals-cell, wakes-cell, control-cell, allocator-cell, ep-cell, request-cell, paced-cell}
-use Rattle.script.specs.Script.{Ops, Test, changed, waiting, room, opened, Look, marked, next-len, next-stamp, setup-word, Fetch, oldest, received, received0, Act, complete, reset-ring, set-enabled, fill, fill0, open-oldest, close-oldest, take-oldest, enqueue, allocate, allocate0, Hand, arrive, send, place, place0, Row, switch, bus-reset}
+use Rattle.script.specs.Cells.{Plain, Cell, Val, globals-cell, control-cell, allocator-cell, ep-cell, request-cell, paced-cell}
+use Rattle.script.specs.Script.{Ops, Test, changed, waiting, room, opened, Look, marked, next-len, next-stamp, setup-word, Fetch, oldest, received, received0, gathered, Act, complete, reset-ring, set-enabled, fill, fill0, open-oldest, close-oldest, take-oldest, enqueue, allocate, allocate0, no-wakes, waken, Hand, arrive, send, place, place0, Row, switch, bus-reset}
 use Rattle.script.specs.Statics.{isOn, flag, isoOuts, renewed, withSetup}
 use Rattle.script.specs.Answers.{isNumber}
 use Rattle.script.specs.Calls.{Config}
@@ -124,7 +124,6 @@ globalsBy t f = withKept t (keptGlobals (t .kept) (f (t .kept .globals)))
 
 abbrev pub getB : (c : Cell) → Bk → Val c
 getB globals-cell s = s .0 .kept .globals
-getB wakes-cell s = s .0 .kept .wakes
 getB control-cell s = s .0 .kept .control
 getB allocator-cell s = s .0 .kept .allocator
 getB (ep-cell d e) s = s .0 .kept .plain d e
@@ -133,7 +132,6 @@ getB (paced-cell e) s = s .0 .kept .paced e
 
 abbrev pub putB : (c : Cell) → Val c → Bk → Bk
 putB globals-cell v s = (withKept (s .0) (keptGlobals (s .0 .kept) (mergedGlobals (s .0 .kept .globals) v)), s .1)
-putB wakes-cell v s = (withKept (s .0) (keptWakes (s .0 .kept) v), s .1)
 putB control-cell v s = (withKept (s .0) (keptControl (s .0 .kept) v), s .1)
 putB allocator-cell v s = s
 putB (ep-cell d e) v s = (withKept (s .0) (keptPlain (s .0 .kept) d e (mergedPlain (s .0 .kept .plain d e) v)), s .1)
@@ -166,6 +164,7 @@ abbrev pub fetchB : Fetch → Bk → List ℕ
 fetchB (oldest e) s = first (waitsOn (s .0) Out e)
 fetchB (received e n) s = bytesAt (s .1) (s .0 .kept .plain Out e .base) n
 fetchB (received0 n) s = bytesAt (s .1) (s .0 .kept .globals .«ep0_buf») n
+fetchB gathered s = listed (s .0 .kept .wakes)
 
 -- ---- changes
 
@@ -237,6 +236,8 @@ actB (take-oldest e) s = (takeB (s .0) e, s .1)
 actB (enqueue e bytes) s = enqueueB e bytes s
 actB (allocate d kind address maximum interval) s = (allocateB d kind address maximum interval (s .0), s .1)
 actB (allocate0 maximum) s = (allocateB0 maximum (s .0), s .1)
+actB no-wakes s = (withKept (s .0) (keptWakes (s .0 .kept) none-woken), s .1)
+actB (waken codes) s = (withKept (s .0) (keptWakes (s .0 .kept) (all-woken codes (s .0 .kept .wakes))), s .1)
 
 -- ---- changes with an access: the book is told the driver's addresses
 

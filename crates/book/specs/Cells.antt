@@ -20,18 +20,19 @@ use Rattle.state.specs.declared.EpState.{EpState}
 use Rattle.state.specs.declared.Globals.{Globals}
 use Rattle.state.specs.declared.Allocator.{Allocator}
 use Rattle.state.specs.Driver.{Driver, key, epOn, withOn, lenOn, stampOn, pacedOn, withPacedOn, requestOn, withRequestOn, withGlobals, withControl, withWakes}
+use Rattle.state.specs.Wakes.{Wakes}
 use Rattle.state.specs.Laws.{Sized, epOn-same, epOn-other, pacedOn-same, pacedOn-other, requestOn-same, requestOn-other, key-same, key-apart}
 use Rattle.alloc.specs.Alloc.{allocatedIn}
 use Rattle.ring.specs.Slot.{slotAddr, countOf}
 use Rattle.ring.specs.Waiting.{waiting, Placed, Ring, Sends, Shows, Alike, SamePlace}
 use Rattle.ring.specs.Laws.{place-placed, place-addr, alike-count, alike-waits, alike-ring}
 use Rattle.script.specs.Alike.{Phase, quiet, mid, Bare}
-use Rattle.script.specs.Cells.{Plain, Cell, Val, globals-cell, wakes-cell, control-cell, allocator-cell, ep-cell, request-cell, paced-cell}
+use Rattle.script.specs.Cells.{Plain, Cell, Val, globals-cell, control-cell, allocator-cell, ep-cell, request-cell, paced-cell}
 use Rattle.script.specs.Statics.{isOn, flag, isoOuts}
 use Rattle.script.specs.Machine.{Buf}
 use Rattle.ops.specs.Records.{plainOf, merged, mergedGlobals}
 use Rattle.ops.specs.Conc.{conc}
-use Rattle.book.specs.Pages.{bytesOf, OutPage, InPage, Kept, Pages, at, on}
+use Rattle.book.specs.Pages.{bytesOf, OutPage, InPage, Kept, Pages, at, on, withKept, keptWakes}
 use Rattle.book.specs.Book.{bookOps, feedB, mergedPlain}
 use Rattle.book.specs.Rest.{SameKept, Used, Unused, Shape, Held, OutFits, InFits, AtRest, Arming, Rest, Good, lensOf, slotStamps, endOf}
 use Rattle.book.specs.Stamps.{alike-stamps}
@@ -193,7 +194,6 @@ module _ {b : Buf} {d d′ : Driver} {t t′ : Pages} (r : Rest quiet b d t) (s 
 
 pub gets : (c : Cell) (b : Buf) (d : Driver) (t : Pages) → Rest quiet b d t → conc .get c (d, b) ≡ bookOps .get c (t, b)
 gets globals-cell b d t r = r .same .globals
-gets wakes-cell b d t r = r .same .wakes
 gets control-cell b d t r = r .same .control
 gets allocator-cell b d t r = r .same .allocator
 gets (ep-cell dir e) b d t r = r .same .plain dir e
@@ -320,18 +320,6 @@ puts globals-cell v b d t r = (
     plain = r .same .plain;
   }) refl refl,
 )
-puts wakes-cell v b d t r = (
-  refl,
-  still r (wakes-still d v (r .sized)) (record {
-    globals = r .same .globals;
-    wakes = refl;
-    control = r .same .control;
-    allocator = r .same .allocator;
-    paced = r .same .paced;
-    requests = r .same .requests;
-    plain = r .same .plain;
-  }) refl refl,
-)
 puts control-cell v b d t r = (
   refl,
   still r (control-still d v (r .sized)) (record {
@@ -382,6 +370,19 @@ puts (paced-cell e) v b d t r = (
     plain = r .same .plain;
   }) refl refl,
 )
+
+-- ---- wake-ups
+
+pub wakes-kept : {b : Buf} {d : Driver} {t : Pages} → Rest quiet b d t → (v w : Wakes) → v ≡ w → Rest quiet b (withWakes d v) (withKept t (keptWakes (t .kept) w))
+wakes-kept {d = d} r v w e = still r (wakes-still d v (r .sized)) (record {
+  globals = r .same .globals;
+  wakes = e;
+  control = r .same .control;
+  allocator = r .same .allocator;
+  paced = r .same .paced;
+  requests = r .same .requests;
+  plain = r .same .plain;
+}) refl refl
 
 -- ---- accesses without an address
 

@@ -38,7 +38,7 @@ use Rattle.book.specs.Keeping.{Throughout, at-end, at-ask, through-bind,
 -- ---- the interrupt's script, in whose proof stand a pair for each bind and test, a function for each number brought
 module _ (x : ℕ) where
   of-wake : (d : Dir) (e : ℕ) → Keeps x (wake {i = true} d e)
-  of-wake d e = (λ _ _. tt, λ _ _. (tt, tt))
+  of-wake d e = (refl, tt)
 
   of-looks : (n : ℕ) → Keeps x (looks {i = true} n)
   unfolding looks
@@ -130,7 +130,7 @@ module _ (x : ℕ) where
   of-setup = (tt, λ _ _. (tt, λ _ _. (λ _. tt, λ low _. (λ _. tt, λ high _. ((λ _ _. tt, λ _ _. (tt, tt)), λ _ _. ((λ _ _. tt, λ _ _. (tt, tt)), λ _ _. ((λ _ _. tt, λ g w. (got x g w, tt)), λ _ _. (tt, λ _ _. (of-wake Out 0, λ _ _. of-wake In 0)))))))))
 
   pub of-interrupt : Keeps x (onInterrupt {i = true})
-  of-interrupt = (λ _. tt, λ _ _. ((((λ _ _. tt, λ g w. ((got x g w, tt), λ _ _. tt)), λ _ _. (λ _ _. tt, λ _ _. (tt, tt))), tt), λ _ _. ((((λ _ _. tt, λ g w. ((got x g w, tt), λ _ _. tt)), λ _ _. (λ _ _. tt, λ _ _. (tt, tt))), tt), λ _ _. ((tt, tt), λ _ _. ((tt, tt), λ _ _. ((of-transfer, tt), λ _ _. (of-setup, tt)))))))
+  of-interrupt = (λ _. tt, λ _ _. ((((λ _ _. tt, λ g w. ((got x g w, tt), λ _ _. tt)), λ _ _. (refl, tt)), tt), λ _ _. ((((λ _ _. tt, λ g w. ((got x g w, tt), λ _ _. tt)), λ _ _. (refl, tt)), tt), λ _ _. ((tt, tt), λ _ _. ((tt, tt), λ _ _. ((of-transfer, tt), λ _ _. (of-setup, tt)))))))
 
 -- ---- the calls that pass between
 

@@ -15,8 +15,8 @@ use Rattle.ring.specs.Out.{hasRoomOut, cappedAt, armedAt}
 use Rattle.marks.specs.Copies.{copied}
 use Rattle.script.specs.Tree as tree
 use Rattle.script.specs.Tree.{ends, asks, bindOut}
-use Rattle.script.specs.Cells.{Cell, Val, globals-cell, wakes-cell, control-cell, allocator-cell, ep-cell, request-cell, paced-cell}
-use Rattle.script.specs.Script.{Script, ret, bind, test, read-then, write-then, wait-then, callback-then, get-then, put-then, is-then, look-then, fetch-then, act-then, hand-then, row-then, run, get, Act, complete, reset-ring, set-enabled, fill, fill0, open-oldest, close-oldest, take-oldest, enqueue, allocate, allocate0, Hand, arrive, send, place, place0}
+use Rattle.script.specs.Cells.{Cell, Val, globals-cell, control-cell, allocator-cell, ep-cell, request-cell, paced-cell}
+use Rattle.script.specs.Script.{Script, ret, bind, test, read-then, write-then, wait-then, callback-then, get-then, put-then, is-then, look-then, fetch-then, act-then, hand-then, row-then, run, get, Act, complete, reset-ring, set-enabled, fill, fill0, open-oldest, close-oldest, take-oldest, enqueue, allocate, allocate0, no-wakes, waken, Hand, arrive, send, place, place0}
 use Rattle.script.specs.Statics.{isOn, isoOuts}
 use Rattle.script.specs.Sorts.{allocates}
 use Rattle.ops.specs.Records.{isoOut, configured, enabledOn}
@@ -52,7 +52,6 @@ module _ {S : Type 0} {K : S → Type 0} where
 -- what a cell says of it
 abbrev pub Says : ℕ → (c : Cell) → Val c → Type 0
 Says x globals-cell g = g .entered ≡ x
-Says x wakes-cell v = Unit {0}
 Says x control-cell v = Unit {0}
 Says x allocator-cell v = Unit {0}
 Says x (ep-cell d e) v = Unit {0}
@@ -109,7 +108,6 @@ either f false d x y p q = q
 
 pub get-says : (x : ℕ) (c : Cell) (s : St) → At x s → Says x c (conc .get c s)
 get-says x globals-cell s k = k
-get-says x wakes-cell s k = tt
 get-says x control-cell s k = tt
 get-says x allocator-cell s k = tt
 get-says x (ep-cell d e) s k = tt
@@ -119,7 +117,6 @@ get-says x (paced-cell e) s k = tt
 pub put-at : (x : ℕ) (c : Cell) (v : Val c) (s : St) → Says x c v → At x s → At x (conc .put c v s)
 unfolding withOn withRequestOn withPacedOn
 put-at x globals-cell v s h k = h
-put-at x wakes-cell v s h k = k
 put-at x control-cell v s h k = k
 put-at x allocator-cell v s h k = k
 put-at x (ep-cell d e) v s h k = k
@@ -143,6 +140,8 @@ act-at (enqueue e bytes) h s = by (roomOn (s .0) e (length bytes))
     by false = refl
 act-at (allocate d kind address maximum interval) h s = absurd (true≢false h)
 act-at (allocate0 maximum) h s = absurd (true≢false h)
+act-at no-wakes h s = refl
+act-at (waken codes) h s = refl
 
 recorded-at : (d : Driver) (e len : ℕ) → recordedOn d e len .globals .entered ≡ d .globals .entered
 unfolding recordedOn withLenOn withStampOn

@@ -6,10 +6,10 @@ use lib.Dec.{eqb}
 use Rattle.regs.specs.declared.Dir.{Dir}
 use Rattle.regs.specs.declared.Dir.the-variants.{Out, In}
 use Rattle.state.specs.declared.Globals.{Globals}
-use Rattle.state.specs.declared.Wakes.{Wakes}
 use Rattle.state.specs.declared.Allocator.{Allocator}
 use Rattle.state.specs.declared.Request.{Request}
 use Rattle.state.specs.declared.Control.{Control}
+use Rattle.state.specs.Wakes.{Wakes}
 use Rattle.script.specs.Cells.{Plain}
 
 -- a packet that waits on an OUT endpoint: its bytes, and the microframe index of the interrupt that admitted it (request One)

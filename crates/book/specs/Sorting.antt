@@ -26,7 +26,7 @@ use Rattle.alloc.specs.Alloc.{isOut, takenIn, allocatedIn, isIso, allocated, al
 use Rattle.alloc.specs.Outcome.{sameDir, stays, Takes, Outcome, six, seven, eight, given, outcome}
 use Rattle.alloc.specs.Run.{endpoint, ep0, Step, kept, gave-ep0, step}
 use Rattle.alloc.specs.Sound.{Sound, sound-call}
-use Rattle.script.specs.Script.{Act, complete, reset-ring, set-enabled, fill, fill0, open-oldest, close-oldest, take-oldest, enqueue, allocate, allocate0}
+use Rattle.script.specs.Script.{Act, complete, reset-ring, set-enabled, fill, fill0, open-oldest, close-oldest, take-oldest, enqueue, allocate, allocate0, no-wakes, waken}
 use Rattle.script.specs.Statics.{isOn}
 use Rattle.script.specs.Alike.{Phase}
 use Rattle.script.specs.Answers.{Answer}
@@ -220,6 +220,8 @@ acts (enqueue e bytes) s k = steady-sorting (act-steady (enqueue e bytes) refl s
 acts (allocate dir kind address maximum interval) s k =
     let a = s .0 .allocator in
     allocated-sorting k dir kind address maximum interval (allocateOf a kind address maximum dir) (sound-call a (endpoint kind address maximum dir) (k .sound)) (outcome a kind address maximum dir)
+acts no-wakes s k = steady-sorting (act-steady no-wakes refl s) k
+acts (waken codes) s k = steady-sorting (act-steady (waken codes) refl s) k
 acts (allocate0 maximum) s k = let a = s .0 .allocator in ep0-sorting k maximum (allocateEp0Of a maximum) (sound-call a (ep0 maximum) (k .sound)) (step a (ep0 maximum))
 
 keeps : Invariant driverOf Sorting

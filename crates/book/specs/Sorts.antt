@@ -20,8 +20,8 @@ use Rattle.ring.specs.Slot.{slotAddr, joinedOf, passedOf, hasWaiting}
 use Rattle.ring.specs.Out.{hasRoomOut, cappedAt, turnedAwayOf, arrivedOf, armedAt, openedOf, closedOf}
 use Rattle.ring.specs.In.{completedOf, loadedOf, unloadedOf}
 use Rattle.marks.specs.Copies.{copied}
-use Rattle.script.specs.Cells.{Cell, Val, globals-cell, wakes-cell, control-cell, allocator-cell, ep-cell, request-cell, paced-cell}
-use Rattle.script.specs.Script.{Act, complete, reset-ring, set-enabled, fill, fill0, open-oldest, close-oldest, take-oldest, enqueue, allocate, allocate0, Hand, arrive, send, place, place0, Row, switch, bus-reset}
+use Rattle.script.specs.Cells.{Cell, Val, globals-cell, control-cell, allocator-cell, ep-cell, request-cell, paced-cell}
+use Rattle.script.specs.Script.{Act, complete, reset-ring, set-enabled, fill, fill0, open-oldest, close-oldest, take-oldest, enqueue, allocate, allocate0, no-wakes, waken, Hand, arrive, send, place, place0, Row, switch, bus-reset}
 use Rattle.script.specs.Statics.{isOn, isoOuts}
 use Rattle.script.specs.Sorts.{Sorts, Among, Shows, allocates, Sorted}
 use Rattle.ops.specs.Records.{isoOut, configured, enabledOn}
@@ -97,7 +97,6 @@ arrived-flag r = by (hasRoomOut r)
 pub put-steady : (c : Cell) (v : Val c) (s : St) → Steady (s .0) (conc .put c v s .0)
 unfolding withRequestOn withPacedOn
 put-steady globals-cell v s = others (s .0) _ refl refl refl refl
-put-steady wakes-cell v s = others (s .0) _ refl refl refl refl
 put-steady control-cell v s = others (s .0) _ refl refl refl refl
 put-steady allocator-cell v s = steady (s .0)
 put-steady (ep-cell d e) v s = record-steady (s .0) d e _ refl
@@ -125,6 +124,8 @@ act-steady (enqueue e bytes) h s = by (roomOn (s .0) e (length bytes))
     by false = steady (s .0)
 act-steady (allocate d kind address maximum interval) h s = absurd (true≢false h)
 act-steady (allocate0 maximum) h s = absurd (true≢false h)
+act-steady no-wakes h s = others (s .0) _ refl refl refl refl
+act-steady (waken codes) h s = others (s .0) _ refl refl refl refl
 
 armed-steady : (d : Driver) (e a : ℕ) → Steady d (withOn d Out e (armedAt (epOn d Out e) a))
 unfolding armedAt
@@ -210,7 +211,6 @@ has-steady p k = record { flags = λ dir e. ap isOn (p .flags dir e) ∙ k .flag
 
 has-shows : {iso : Sorts} (c : Cell) (s : St) → Has iso (s .0) → Shows iso c (conc .get c s)
 has-shows globals-cell s k = (k .outs, k .every)
-has-shows wakes-cell s k = tt
 has-shows control-cell s k = tt
 has-shows allocator-cell s k = tt
 has-shows (ep-cell d e) s k = k .flags d e

@@ -8,6 +8,7 @@ use Rattle.regs.specs.declared.Dir.{Dir}
 use Rattle.regs.specs.declared.Dir.the-variants.{Out, In}
 use Rattle.regs.specs.Registers.{ctrlOf, widthOf, fitsIn}
 use Rattle.regs.specs.ControlWord.{ack, stall, status}
+use Rattle.state.specs.Wakes.{listed}
 use Rattle.state.specs.Driver.{Driver}
 use Rattle.script.specs.Tree as tree
 use Rattle.script.specs.Tree.{ends, asks}
@@ -88,7 +89,7 @@ meaning (next.Ends n) d b = ends n (d, b)
 abbrev pub begunAs : Begun → Driver → List ℕ → tree.Out St Answer
 begunAs (begun.Refused n) d b = ends (Refused n) (d, b)
 begunAs (begun.Asks q p) d b = asks q (d, b) (λ v t. run conc (finished (denote p v)) t)
-begunAs (begun.Ends n) d b = ends (End n (d .wakes)) (d, b)
+begunAs (begun.Ends n) d b = ends (End n (listed (d .wakes))) (d, b)
 
 -- a poll's, with the slice it was lent: Done n brings the slice's first n bytes, Setup the packet as two words
 abbrev pub polledAs : Polled → List ℕ → Driver → List ℕ → tree.Out St Answer

@@ -33,7 +33,7 @@ fn reading(arrived: bool, left: u32) -> u32 {
 
 // Shows a call's answer, and the rest of its operation as it goes on.
 fn run(s: &mut [u8; STATE_LEN], slots: &mut [u8], first: Step, arrived: bool) {
-    show(first);
+    show(s, first);
     let mut step = first;
     let mut left = MOST;
     while left > 0 {
@@ -41,7 +41,7 @@ fn run(s: &mut [u8; STATE_LEN], slots: &mut [u8], first: Step, arrived: bool) {
         match step {
             Step::Asks(_q) => {
                 step = usbhs::proceeds::proceed(s, slots, reading(arrived, left));
-                show(step);
+                show(s, step);
             }
             _ => {
                 return;
@@ -72,7 +72,8 @@ fn before_start_up() {
     let mut s = [0u8; STATE_LEN];
     let mut slots = [0u8; 0];
     print(b"continue before start-up\n");
-    show(usbhs::proceeds::proceed(&mut s, &mut slots, READING));
+    let refused = usbhs::proceeds::proceed(&mut s, &mut slots, READING);
+    show(&s, refused);
     print(b"microframe before start-up\n");
     let first = usbhs::begins::begin_microframe(&mut s);
     run(&mut s, &mut slots, first, false);
@@ -130,11 +131,14 @@ fn served(s: &mut [u8; STATE_LEN], slots: &mut [u8]) {
 // The packet is read where it lies.
 fn read(s: &mut [u8; STATE_LEN], slots: &[u8]) {
     print(b"\nopen the oldest packet of OUT 1\n");
-    show(usbhs::in_place::open(s, slots, 1));
+    let oldest = usbhs::in_place::open(s, slots, 1);
+    show(s, oldest);
     print(b"\nclose it\n");
-    show(usbhs::in_place::close(s, 1));
+    let closed = usbhs::in_place::close(s, 1);
+    show(s, closed);
     print(b"\nopen the next\n");
-    show(usbhs::in_place::open(s, slots, 1));
+    let next = usbhs::in_place::open(s, slots, 1);
+    show(s, next);
 }
 
 fn main() {

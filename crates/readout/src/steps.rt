@@ -1,25 +1,45 @@
 // What a call answers, one line for each.
-use state::Wakes;
+use state::STATE_LEN;
+use state::woken_at;
 use usbhs::Step;
 use wording::accesses::access;
-use wording::text::endpoints;
 use wording::text::hex;
-use wording::text::item;
-use wording::text::none;
 use wording::text::number;
 use wording::text::print;
 
-fn wakes(w: Wakes) {
-    print(b", wakes ");
-    let a = endpoints(w.ins, b"IN ", false);
-    let b = endpoints(w.outs, b"OUT ", a);
-    none(item(w.bus as u32, 0, b"bus", b));
+// Whose task is woken.
+fn task(code: u8) {
+    if code < 16 {
+        print(b"IN ");
+        number(code as u32);
+    } else if code < 32 {
+        print(b"OUT ");
+        number(code as u32 - 16);
+    } else {
+        print(b"bus");
+    }
 }
 
-fn end(n: u16, w: Wakes) {
+// Those to wake, in their order.
+fn wakes(s: &[u8; STATE_LEN], k: u8) {
+    print(b", wakes ");
+    if k == 0 {
+        print(b"none");
+    }
+    let mut i: u8 = 0;
+    while i < k {
+        if i > 0 {
+            print(b", ");
+        }
+        task(woken_at(s, i));
+        i += 1;
+    }
+}
+
+fn end(s: &[u8; STATE_LEN], n: u16, k: u8) {
     print(b"end: result ");
     number(n as u32);
-    wakes(w);
+    wakes(s, k);
 }
 
 // The rows of "What stops a call": up to the allocation's, then those of packets and continue, then EP0's.
@@ -81,11 +101,11 @@ fn shown(at: u32, n: u16, stamp: u16) {
     number(stamp as u32);
 }
 
-pub fn show(step: Step) {
+pub fn show(s: &[u8; STATE_LEN], step: Step) {
     match step {
         Step::Refused(n) => refused(n),
         Step::Asks(q) => access(q),
-        Step::Ends(n, w) => end(n, w),
+        Step::Ends(n, k) => end(s, n, k),
         Step::NotYet => print(b"not yet"),
         Step::Done(n) => done(n),
         Step::Setup(low, high) => setup(low, high),

@@ -3,6 +3,7 @@
 pub mod inputs; // inputs.rt: directions and flags as numbers
 pub mod setup; // setup.rt: a setup packet's bytes
 pub mod stamp; // stamp.rt: the stamp of a packet that is shown
+pub mod woken; // woken.rt: the wake-ups of the last end
 
 use answer_word::word_of;
 use inputs::dir_of;
@@ -10,8 +11,11 @@ use inputs::flag_of;
 use setup::setup_word;
 use stamp::stamp_by;
 use state::STATE_LEN;
+use woken::list_into;
 ghost use mathlib.Core.Path.{_≡_};
+ghost use Rattle.marks.specs.Copies.{over};
 ghost use Rattle.state.specs.State.{view};
+ghost use Rattle.state.specs.Wakes.{listed};
 ghost use Rattle.script.specs.Statics.{flag};
 ghost use Rattle.script.specs.Machine.{begin, go, start};
 ghost use Rattle.script.specs.Calls.{other, slotted, aside, interrupt, Microframe, Allocate, Start, SetPaced, BusEnable, BusDisable, BusPoll, IsStalled, SetStalled, SetEnabled, BeginSetup, PollSetup, BeginDataOut, PollDataOut, BeginDataIn, PollDataIn, BeginAccept, BeginAcceptSetAddress, PollAccept, BeginReject, Advance, BeginRead, PollRead, BeginWrite, PollWrite, Close, Queue};
@@ -328,6 +332,15 @@ pub extern "C" fn usbhs_queue(
     ensures { λ r. ⌜ AnswersShown r (begin (aside (Queue endpoint (now (bytes .entry))))) (now (s .entry)) (now (s .exit)) (now (slots .entry)) (now (slots .exit)) ⌝ }
 {
     word_of(usbhs::in_place::queue(s, slots, endpoint, bytes))
+}
+
+// The wake-ups of the operation that ended last, in their order: their codes at the room's start, and how many.
+#[no_mangle]
+pub extern "C" fn usbhs_woken(s: &[u8; STATE_LEN], room: &mut [u8; 64]) -> u32
+    ensures { λ r. ⌜ r ≡ length (listed (view (now (s .entry)) .wakes)) ⌝ }
+    ensures { λ _. ⌜ now (room .exit) ≡ over (listed (view (now (s .entry)) .wakes)) (now (room .entry)) ⌝ }
+{
+    list_into(s, room) as u32
 }
 
 // The packets queued on the IN endpoint and not yet taken by the host.

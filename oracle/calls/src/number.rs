@@ -13,13 +13,7 @@ pub fn encode(a: &Answer) -> u64 {
         Answer::Write { reg, ep, value } => 2 | (reg as u64) << 8 | (ep as u64) << 16 | (value as u64) << 32,
         Answer::Wait(us) => 3 | (us as u64) << 8,
         Answer::Callback => 4,
-        Answer::End { result, ref wakes } => wakes.iter().fold(5 | (result as u64) << 8, |a, w| {
-            a | match *w {
-                Wake::In(e) => 1 << (24 + e),
-                Wake::Out(e) => 1 << (40 + e),
-                Wake::Bus => 1 << 56,
-            }
-        }),
+        Answer::End { result, ref wakes } => 5 | (result as u64) << 8 | (wakes.len() as u64) << 24,
         Answer::NotYet => 6,
         Answer::Done { length, .. } => 7 | (length as u64) << 8,
         Answer::Shown { offset, length } => 8 | (length as u64) << 8 | (offset as u64) << 32,
@@ -28,8 +22,8 @@ pub fn encode(a: &Answer) -> u64 {
     }
 }
 
-/// Not of a question's answer. Wake-ups: bus, then OUT, then IN, lowest first.
-pub fn decode(a: u64) -> Answer {
+/// Not of a question's answer. `woken`: an end's wake-ups, of which the number says how many.
+pub fn decode(a: u64, woken: impl FnOnce(usize) -> Vec<Wake>) -> Answer {
     let byte = |at: u32| (a >> at) as u8;
     let short = |at: u32| (a >> at & 0xFFFF) as u32;
     match a & 15 {
@@ -38,16 +32,29 @@ pub fn decode(a: u64) -> Answer {
         2 => Answer::Write { reg: byte(8), ep: byte(16), value: (a >> 32) as u32 },
         3 => Answer::Wait(byte(8) as u32),
         4 => Answer::Callback,
-        5 => {
-            let set = |at: u32| (0..16u8).filter(move |e| a >> (at + *e as u32) & 1 != 0);
-            let bus = (a >> 56 & 1 != 0).then_some(Wake::Bus);
-            let wakes = bus.into_iter().chain(set(40).map(Wake::Out)).chain(set(24).map(Wake::In)).collect();
-            Answer::End { result: short(8), wakes }
-        }
+        5 => Answer::End { result: short(8), wakes: woken(byte(24) as usize) },
         6 => Answer::NotYet,
         7 => Answer::Done { length: short(8), bytes: vec![] },
         8 => Answer::Shown { offset: (a >> 32) as u32, length: short(8) },
         k => panic!("an answer of kind {k}"),
+    }
+}
+
+fn wake_code(w: &Wake) -> u8 {
+    match *w {
+        Wake::In(e) => e,
+        Wake::Out(e) => 16 + e,
+        Wake::Bus => 32,
+    }
+}
+
+/// Whose task a wake-up's code is: 0 to 15 IN, 16 to 31 OUT, 32 the bus.
+pub fn wake(code: u8) -> Wake {
+    match code {
+        0..16 => Wake::In(code),
+        16..32 => Wake::Out(code - 16),
+        32 => Wake::Bus,
+        _ => panic!("a wake-up of code {code}"),
     }
 }
 
@@ -118,20 +125,21 @@ pub fn bytes(entries: &[Entry]) -> Vec<u8> {
         }
         i += times;
         let (code, numbers, data) = call(&e.call);
-        let received: &[u8] = match &e.answer {
-            Answer::Done { bytes, .. } => bytes,
-            _ => &[],
+        let received: Vec<u8> = match &e.answer {
+            Answer::Done { bytes, .. } => bytes.clone(),
+            Answer::End { wakes, .. } => wakes.iter().map(wake_code).collect(),
+            _ => vec![],
         };
         out.push(code);
         out.extend((times as u16).to_le_bytes());
         out.push(e.changed.len() as u8);
         numbers.iter().for_each(|n| out.extend(n.to_le_bytes()));
         out.extend(encode(&e.answer).to_le_bytes());
-        for part in [data, received] {
+        for part in [data, &received] {
             out.extend((part.len() as u32).to_le_bytes());
         }
         out.extend(data);
-        out.extend(received);
+        out.extend(&received);
         for (offset, bytes) in &e.changed {
             out.extend(offset.to_le_bytes());
             out.extend((bytes.len() as u32).to_le_bytes());

@@ -1,7 +1,7 @@
 //! Makes calls and keeps what they answer; replays lists; compares two drivers call by call.
 
 use crate::text::{self, Entry, Line, Printer};
-use crate::{Answer, Call, Driver, Wake};
+use crate::{Answer, Call, Driver};
 
 /// A driver with a copy of its buffer, to see what each call changes.
 pub struct Session<'a> {
@@ -68,19 +68,6 @@ pub fn changes(before: &mut [u8], now: &[u8]) -> Vec<(u32, Vec<u8>)> {
         i = end;
     }
     all
-}
-
-/// Wake-ups as a set, where only the set is answered.
-pub fn as_set(answer: &Answer) -> Answer {
-    match answer {
-        Answer::End { result, wakes } => {
-            let mut wakes: Vec<Wake> = wakes.clone();
-            wakes.sort();
-            wakes.dedup();
-            Answer::End { result: *result, wakes }
-        }
-        a => a.clone(),
-    }
 }
 
 /// Replays a list; answers it with the driver's answers, and the first line where they are not the list's.

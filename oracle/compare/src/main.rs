@@ -9,7 +9,7 @@ mod late;
 mod port;
 mod stamps;
 
-use oracle::replay::{as_set, Session};
+use oracle::replay::Session;
 use oracle::text::{print, Entry, Line};
 use oracle::{Answer, Call, Driver};
 
@@ -99,14 +99,14 @@ fn stored(e: &Entry) -> Vec<Entry> {
     e.changed.iter().map(store).collect()
 }
 
-/// The first entry that the driver answers otherwise, but for the order of wake-ups and for what the Rust has no counterpart of.
+/// The first entry that the driver answers otherwise, an end with its wake-ups in their order, but for what the Rust has no counterpart of.
 fn difference(driver: &mut dyn Driver, entries: &[Entry]) -> Option<(usize, Entry)> {
     let mut session = Session::new(driver);
     for (i, e) in entries.iter().enumerate() {
         let own = session.call(&e.call);
         if e.answer == Answer::Outside {
             assert!(matches!(own.answer, Answer::Refused(_)) && own.changed.is_empty(), "{own:?}");
-        } else if as_set(&own.answer) != as_set(&e.answer) || own.changed != e.changed {
+        } else if own.answer != e.answer || own.changed != e.changed {
             return Some((i, own));
         }
     }

@@ -1,7 +1,7 @@
 //! The port through its exported calls (include/usbhs.h).
 
-use oracle::number::decode as answer;
-use oracle::{Answer, Call, Dir, Driver};
+use oracle::number::{decode, wake};
+use oracle::{Answer, Call, Dir, Driver, Wake};
 
 use crate::stamps;
 
@@ -47,6 +47,7 @@ exported! {
     fn usbhs_open(state: State, slots: *mut u8, len: usize, ep: u32, stamp: *mut u16) -> u64;
     fn usbhs_close(state: State, ep: u32) -> u64;
     fn usbhs_queue(state: State, slots: *mut u8, len: usize, ep: u32, data: *const u8, data_len: usize) -> u64;
+    fn usbhs_woken(state: State, room: *mut u8) -> u32;
     fn usbhs_pending(state: State, ep: u32) -> u32;
     fn usbhs_overruns(state: State, ep: u32) -> u32;
     fn usbhs_enabled(state: State, ep: u32, dir: u32) -> u32;
@@ -88,12 +89,29 @@ fn dir(d: Dir) -> u32 {
     (d == Dir::In) as u32
 }
 
-/// A poll that fills `slice`.
+/// A poll that fills `slice`; it has no wake-ups.
 fn received(a: u64, slice: &[u8]) -> Answer {
-    match answer(a) {
+    match decode(a, none) {
         Answer::Done { length, .. } => Answer::Done { length, bytes: slice[..length as usize].to_vec() },
         a => a,
     }
+}
+
+fn none(count: usize) -> Vec<Wake> {
+    assert_eq!(count, 0);
+    vec![]
+}
+
+/// Of an end that has so many wake-ups, their list; the room past them stays.
+fn woken(state: State, count: usize) -> Vec<Wake> {
+    if count == 0 {
+        return vec![];
+    }
+    let mut room = [0xEE; 64];
+    // SAFETY: the state and 64 bytes are lent
+    assert_eq!(unsafe { usbhs_woken(state, room.as_mut_ptr()) } as usize, count);
+    assert!(room[count..].iter().all(|&b| b == 0xEE));
+    room[..count].iter().map(|&code| wake(code)).collect()
 }
 
 fn accepted(a: u64) -> bool {
@@ -123,7 +141,7 @@ impl Driver for Port {
         let s = self.state.as_mut_ptr();
         let (p, n) = (self.slots.as_mut_ptr(), self.slots.len());
         // SAFETY: the exported calls are total; every slice is given with its own length
-        answer(unsafe {
+        let a = unsafe {
             match *call {
                 Call::StartUp { size, count, callback } => usbhs_start_up(s, p, n, size, count, callback as u32),
                 Call::Continue(value) => usbhs_continue(s, p, n, value),
@@ -212,6 +230,7 @@ impl Driver for Port {
                 Call::Enabled { ep, dir: d } => return Answer::Number(usbhs_enabled(s, ep as u32, dir(d))),
                 Call::Store { .. } | Call::Fill(_) => unreachable!(),
             }
-        })
+        };
+        decode(a, |count| woken(self.state.as_mut_ptr(), count))
     }
 }

@@ -1,0 +1,5 @@
+pub mod Heard
+pub mod Still
+pub mod Twins
+pub mod Interrupt
+pub mod Calls
