@@ -1,3 +1,4 @@
 pub mod Stamp
 pub mod Calls
 pub mod Setup
+pub mod Preview
