@@ -3,3 +3,4 @@ pub mod Numbers
 pub mod NumbersLaws
 pub mod Card
 pub mod CardLaws
+pub mod Descriptor

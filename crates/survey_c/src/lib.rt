@@ -1,5 +1,5 @@
 // The calls that take no driver, for programs in other languages (include/usbhs_survey.h): the best set of channels, the arrivals between visits,
-// packets on the card. Any numbers are safe. Each call answers one word; where it is refused, nothing is written.
+// packets on the card, a configuration descriptor's endpoints. Any numbers are safe. Each call answers one word; where it is refused, nothing is written.
 mod words; // words.rt: an answer as one word
 mod writer; // writer.rt: a card's writer as four numbers
 
@@ -17,6 +17,8 @@ use writer::endpoint_of;
 use writer::numbers_of;
 use writer::result_of;
 use writer::writer_in;
+ghost use Rattle.descriptor.specs.Reading.{readingOf};
+ghost use Rattle.survey_c.specs.Descriptor.{rewrittenWord, rewrittenRoom};
 ghost use mathlib.Core.Path.{_≡_};
 ghost use lib.ListN.{length};
 ghost use Rattle.channels.specs.Answers.{answerOf, recordsAfter};
@@ -173,6 +175,26 @@ pub extern "C" fn usbhs_card_next(
             *endpoint = e as u32;
             *place = then.at;
             done(len)
+        }
+    }
+}
+
+// The endpoints of a configuration descriptor written out as one interface, alternate setting 0.
+#[no_mangle]
+pub extern "C" fn usbhs_write_descriptor(bytes: &[u8], room: &mut [u8]) -> u64
+    ensures { λ r. ⌜ r ≡ rewrittenWord (readingOf (now (bytes .entry)) .answer) (readingOf (now (bytes .entry)) .list) (now (room .entry)) ⌝ }
+    ensures { λ _. ⌜ now (room .exit) ≡ rewrittenRoom (readingOf (now (bytes .entry)) .answer) (readingOf (now (bytes .entry)) .list) (now (room .entry)) ⌝ }
+{
+    let r = descriptor::read(bytes);
+    let answer = r.answer;
+    match answer {
+        descriptor::Answer::Refused(row) => refused(row),
+        descriptor::Answer::Listed => {
+            let list = r.list;
+            match descriptor::write(list, room) {
+                descriptor::Written::Refused(row) => refused(row),
+                descriptor::Written::Bytes(n) => done(n as u16),
+            }
         }
     }
 }

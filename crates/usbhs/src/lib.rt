@@ -6,6 +6,7 @@ pub use bus_calls::bus_begins;
 pub use control_calls::control_begins;
 pub use control_calls::control_polls;
 pub use driver_calls::begins;
+pub use driver_calls::listed_calls;
 pub use driver_calls::starting;
 pub use endpoint_calls::in_place;
 pub use endpoint_calls::questions;

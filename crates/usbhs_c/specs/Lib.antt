@@ -2,3 +2,4 @@ pub mod Stamp
 pub mod Calls
 pub mod Setup
 pub mod Woken
+pub mod Preview

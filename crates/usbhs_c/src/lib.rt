@@ -1,6 +1,7 @@
 // The driver's calls for programs in other languages (include/usbhs.h): a direction is 0 for OUT, else IN, a flag 0 for no, else yes, and any
 // number is safe. Each call answers one word (crate `answer_word`), a question its number.
 pub mod inputs; // inputs.rt: directions and flags as numbers
+pub mod listed; // listed.rt: endpoints from a configuration descriptor
 pub mod setup; // setup.rt: a setup packet's bytes
 pub mod stamp; // stamp.rt: the stamp of a packet that is shown
 pub mod woken; // woken.rt: the wake-ups of the last end
