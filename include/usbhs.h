@@ -3,6 +3,9 @@
  *
  * A slice is a pointer and a length. Any number is safe. dir: 0 OUT, else IN. Flags: 0 no, else yes.
  *
+ * Bus time: an enabled isochronous endpoint is charged its maximum plus 38 byte-times of each microframe, an interrupt endpoint its maximum plus 55.
+ * An enabling with which the drivers' charges would pass 6,000 is refused with 19 and changes nothing.
+ *
  * Each call answers one word:
  *
  *   kind (bits 0-3)  other bits
@@ -30,6 +33,10 @@ extern "C" {
 #endif
 
 #define USBHS_STATE_LEN 2839
+
+/* The record of bus time that up to four drivers share: what each endpoint is charged. Zero at first; each of their calls that brings it gets it as
+ * the last one left it, and no two calls at once. `driver` is the caller's number in it, 0 to 3 (modulo 4). */
+#define USBHS_TIME_LEN 128
 
 /* The kinds of answer. */
 enum usbhs_kind {
@@ -87,12 +94,12 @@ enum usbhs_register {
 
 /* Start-up, endpoints, EP0's start. A buffer's size is 8, 16, 32, 64, 512 or 1024; EP0's maximum is 64 (any other is refused with 22), so EP0
  * starts on buffers of 64 bytes or more. A refused call changes nothing. */
-uint64_t usbhs_start_up(uint8_t state[USBHS_STATE_LEN], const uint8_t *slots, size_t slots_length, uint32_t size, uint32_t count, uint32_t callback);
+uint64_t usbhs_start_up(uint8_t state[USBHS_STATE_LEN], const uint8_t *slots, size_t slots_length, uint16_t time[USBHS_TIME_LEN], uint32_t driver, uint32_t size, uint32_t count, uint32_t callback);
 uint64_t usbhs_allocate(uint8_t state[USBHS_STATE_LEN], uint32_t kind, uint32_t address, uint32_t maximum, uint32_t interval, uint32_t dir);
 uint64_t usbhs_start(uint8_t state[USBHS_STATE_LEN], uint32_t maximum);
 
 /* Goes on with the operation under way. */
-uint64_t usbhs_continue(uint8_t state[USBHS_STATE_LEN], uint8_t *slots, size_t slots_length, uint32_t value);
+uint64_t usbhs_continue(uint8_t state[USBHS_STATE_LEN], uint8_t *slots, size_t slots_length, uint16_t time[USBHS_TIME_LEN], uint32_t driver, uint32_t value);
 
 /* The interrupt: on the chip's interrupt, or whenever it may be raised. While it is under way packets may be opened, closed and queued. */
 uint64_t usbhs_begin_interrupt(uint8_t state[USBHS_STATE_LEN]);
@@ -101,7 +108,7 @@ uint64_t usbhs_begin_interrupt(uint8_t state[USBHS_STATE_LEN]);
 uint64_t usbhs_begin_bus_poll(uint8_t state[USBHS_STATE_LEN]);
 uint64_t usbhs_begin_bus_enable(uint8_t state[USBHS_STATE_LEN]);
 uint64_t usbhs_begin_bus_disable(uint8_t state[USBHS_STATE_LEN]);
-uint64_t usbhs_begin_set_enabled(uint8_t state[USBHS_STATE_LEN], uint8_t *slots, size_t slots_length, uint32_t endpoint, uint32_t dir, uint32_t enabled);
+uint64_t usbhs_begin_set_enabled(uint8_t state[USBHS_STATE_LEN], uint8_t *slots, size_t slots_length, uint16_t time[USBHS_TIME_LEN], uint32_t driver, uint32_t endpoint, uint32_t dir, uint32_t enabled);
 uint64_t usbhs_begin_set_stalled(uint8_t state[USBHS_STATE_LEN], uint32_t endpoint, uint32_t dir, uint32_t stalled);
 uint64_t usbhs_begin_is_stalled(uint8_t state[USBHS_STATE_LEN], uint32_t endpoint, uint32_t dir);
 uint64_t usbhs_set_paced(uint8_t state[USBHS_STATE_LEN], uint32_t endpoint, uint32_t paced);
@@ -142,10 +149,11 @@ uint64_t usbhs_queue(uint8_t state[USBHS_STATE_LEN], uint8_t *slots, size_t slot
 #define USBHS_MOST_WAKES 64
 uint32_t usbhs_woken(const uint8_t state[USBHS_STATE_LEN], uint8_t room[USBHS_MOST_WAKES]);
 
-/* The questions, at any time: packets queued on IN, packets of OUT turned away, whether the host enabled the endpoint (1 or 0). */
+/* The questions, at any time: packets queued on IN, packets of OUT turned away, whether the host enabled the endpoint (1 or 0), the bus time in use. */
 uint32_t usbhs_pending(const uint8_t state[USBHS_STATE_LEN], uint32_t endpoint);
 uint32_t usbhs_overruns(const uint8_t state[USBHS_STATE_LEN], uint32_t endpoint);
 uint32_t usbhs_enabled(const uint8_t state[USBHS_STATE_LEN], uint32_t endpoint, uint32_t dir);
+uint32_t usbhs_time_in_use(const uint16_t time[USBHS_TIME_LEN]);
 
 #ifdef __cplusplus
 }

@@ -22,14 +22,14 @@ extern "C" {
 /* The best set of up to 16 optional channels: it fits the bus time that is left of 6,000 byte-times, and its maxima total the most.
  *
  * A channel is USBHS_CHANNEL_LEN bytes of the list, numbers lowest byte first: 0-1 its maximum, 2-3 its charge in byte-times, 4 its flag, which
- * becomes 1 if the channel is chosen and 0 if not. in_use: the byte-times in use. budget: how many sets may be looked at; 65,536 are always all.
+ * becomes 1 if the channel is chosen and 0 if not. time: the record of bus time that the drivers share. budget: how many sets may be looked at; 65,536 are always all.
  *
  * Ends with the set: bit i says whether channel i is in. *total: of its maxima. *figure: no fitting set has a greater total; if all sets were
  * looked at it is *total, else the total of all maxima. *looked: how many sets were looked at. Of equal sets the one with the smaller number.
  *
  * Row 20: more than 16 channels, a list of no whole channels, or a budget of 0. */
 #define USBHS_CHANNEL_LEN 5
-uint64_t usbhs_best_set(uint8_t *list, size_t list_length, uint32_t in_use, uint32_t budget, uint32_t *total, uint32_t *figure, uint32_t *looked);
+uint64_t usbhs_best_set(uint8_t *list, size_t list_length, const uint16_t time[USBHS_TIME_LEN], uint32_t budget, uint32_t *total, uint32_t *figure, uint32_t *looked);
 
 /* How many packets may arrive between two visits of a reader. In microframes: from a visit to the next it is at least a and at most b, from an
  * arrival to the next at least c and at most d. The arrival on the second visit's microframe counts, the one on the first's does not.

@@ -12,19 +12,82 @@ static void expect(const char *what, uint64_t got, uint64_t wanted)
     }
 }
 
+#define DRIVERS 4
+#define SLOTS_LENGTH (4u * 1024)
+
+static uint8_t states[DRIVERS][USBHS_STATE_LEN];
+static uint8_t buffers[DRIVERS][SLOTS_LENGTH];
+static uint16_t shared[USBHS_TIME_LEN];
+
+/* Goes on to the operation's end. */
+static void to_end(uint32_t driver, uint64_t word)
+{
+    while (USBHS_KIND(word) >= USBHS_READ && USBHS_KIND(word) <= USBHS_CALLBACK)
+        word = usbhs_continue(states[driver], buffers[driver], SLOTS_LENGTH, shared, driver, 0);
+    expect("operation: kind", USBHS_KIND(word), USBHS_END);
+}
+
+static uint64_t set_enabled(uint32_t driver, uint32_t endpoint, uint32_t enabled)
+{
+    return usbhs_begin_set_enabled(states[driver], buffers[driver], SLOTS_LENGTH, shared, driver, endpoint, USBHS_IN, enabled);
+}
+
+/* Four drivers, each with two interrupt INs of 1,024 bytes; the last one's second has 550. */
+static void bus_time(void)
+{
+    uint32_t i;
+    uint64_t word;
+
+    for (i = 0; i < DRIVERS; i++) {
+        to_end(i, usbhs_start_up(states[i], buffers[i], SLOTS_LENGTH, shared, i, 1024, 4, 0));
+        to_end(i, usbhs_allocate(states[i], 3, 0x81, 1024, 1, USBHS_IN));
+        to_end(i, usbhs_allocate(states[i], 3, 0x82, i == 3 ? 550 : 1024, 1, USBHS_IN));
+        to_end(i, usbhs_start(states[i], 64));
+    }
+    expect("bus time, uncharged", usbhs_time_in_use(shared), 0);
+    to_end(0, set_enabled(0, 1, 1));
+    to_end(0, set_enabled(0, 1, 1));
+    expect("bus time, one enabled twice", usbhs_time_in_use(shared), 1079);
+    to_end(0, set_enabled(0, 2, 1));
+    to_end(1, set_enabled(1, 1, 1));
+    to_end(1, set_enabled(1, 2, 1));
+    to_end(2, set_enabled(2, 1, 1));
+    expect("bus time, five enabled", usbhs_time_in_use(shared), 5395);
+    word = set_enabled(2, 2, 1);
+    expect("a sixth: kind", USBHS_KIND(word), USBHS_REFUSED);
+    expect("a sixth: row", USBHS_ROW(word), 19);
+    word = set_enabled(2, 3, 1);
+    expect("not allocated: row", USBHS_ROW(word), 5);
+    to_end(3, set_enabled(3, 2, 1));
+    expect("bus time, 6,000 exactly", usbhs_time_in_use(shared), 6000);
+
+    /* a disabling gives back with its last write, a start-up as it begins */
+    word = set_enabled(3, 2, 0);
+    expect("bus time, a disabling begun", usbhs_time_in_use(shared), 6000);
+    to_end(3, word);
+    expect("bus time, disabled", usbhs_time_in_use(shared), 5395);
+    word = usbhs_start_up(states[0], buffers[0], SLOTS_LENGTH, shared, 0, 1024, 3, 0);
+    expect("start-up, another count: row", USBHS_ROW(word), 1);
+    expect("bus time, a start-up refused", usbhs_time_in_use(shared), 5395);
+    word = usbhs_start_up(states[0], buffers[0], SLOTS_LENGTH, shared, 0, 1024, 4, 0);
+    expect("bus time, a start-up begun", usbhs_time_in_use(shared), 3237);
+    to_end(0, word);
+}
+
 int main(void)
 {
     static uint8_t state[USBHS_STATE_LEN];
     static uint8_t slots[64];
     static uint8_t room[USBHS_MOST_WAKES];
+    static uint16_t time[USBHS_TIME_LEN];
     uint16_t stamp = 7;
     uint64_t word;
 
     /* no buffers yet, so the slots' length is to be 0 (row 1), and nothing is under way (row 15) */
-    word = usbhs_continue(state, slots, 64, 0);
+    word = usbhs_continue(state, slots, 64, time, 0, 0);
     expect("continue, 64 slot bytes: kind", USBHS_KIND(word), USBHS_REFUSED);
     expect("continue, 64 slot bytes: row", USBHS_ROW(word), 1);
-    word = usbhs_continue(state, slots, 0, 0);
+    word = usbhs_continue(state, slots, 0, time, 0, 0);
     expect("continue: kind", USBHS_KIND(word), USBHS_REFUSED);
     expect("continue: row", USBHS_ROW(word), 15);
     word = usbhs_begin_microframe(state);
@@ -40,6 +103,7 @@ int main(void)
     room[0] = 9;
     expect("woken", usbhs_woken(state, room), 0);
     expect("woken: the room stays", room[0], 9);
+    bus_time();
 
     /* the parts of a word: the end of an operation with result 0x1234 and 33 wake-ups; a write of ep_tx_ctrl(3) */
     word = 5 + 0x1234ull * 256 + (33ull << 24);

@@ -36,13 +36,23 @@ static void flags(const char *what, const uint8_t *list, unsigned a, unsigned b,
     expect(what, list[14], c);
 }
 
+/* The record of bus time with so much in use. */
+static const uint16_t *charged(uint32_t in_use)
+{
+    static uint16_t time[USBHS_TIME_LEN];
+
+    time[0] = (uint16_t)(in_use / 2);
+    time[USBHS_TIME_LEN - 1] = (uint16_t)(in_use - in_use / 2);
+    return time;
+}
+
 static void chosen(const char *what, uint32_t in_use, uint32_t budget, unsigned set, unsigned total, unsigned figure, unsigned looked)
 {
     uint8_t list[sizeof three];
     uint32_t t = 7, f = 8, l = 9;
 
     memcpy(list, three, sizeof three);
-    ended(what, usbhs_best_set(list, sizeof list, in_use, budget, &t, &f, &l), set);
+    ended(what, usbhs_best_set(list, sizeof list, charged(in_use), budget, &t, &f, &l), set);
     expect(what, t, total);
     expect(what, f, figure);
     expect(what, l, looked);
@@ -61,21 +71,21 @@ static void channels(void)
     chosen("no time left", 7000, 9, 0, 0, 0, 8);
 
     memcpy(list, three, sizeof three);
-    refused("budget 0", usbhs_best_set(list, sizeof three, 0, 0, &t, &f, &l), 20);
-    refused("a part of a channel", usbhs_best_set(list, sizeof three - 1, 0, 8, &t, &f, &l), 20);
+    refused("budget 0", usbhs_best_set(list, sizeof three, charged(0), 0, &t, &f, &l), 20);
+    refused("a part of a channel", usbhs_best_set(list, sizeof three - 1, charged(0), 8, &t, &f, &l), 20);
     expect("refused: list", memcmp(list, three, sizeof three) != 0, 0);
     expect("refused: total", t, 7);
     expect("refused: figure", f, 8);
     expect("refused: looked", l, 9);
-    ended("no channel", usbhs_best_set(list, 0, 0, 1, &t, &f, &l), 0);
+    ended("no channel", usbhs_best_set(list, 0, charged(0), 1, &t, &f, &l), 0);
     expect("no channel: looked", l, 1);
 
     /* sixteen channels of charge 0, which fit where no time is left; seventeen are refused */
     memset(list, 0, sizeof list);
     for (i = 0; i < 17; i++)
         list[i * USBHS_CHANNEL_LEN] = 255;
-    refused("seventeen channels", usbhs_best_set(list, sizeof list, 0, 1, &t, &f, &l), 20);
-    ended("sixteen channels", usbhs_best_set(list, 16 * USBHS_CHANNEL_LEN, 6000, 0xFFFFFFFFu, &t, &f, &l), 0xFFFF);
+    refused("seventeen channels", usbhs_best_set(list, sizeof list, charged(0), 1, &t, &f, &l), 20);
+    ended("sixteen channels", usbhs_best_set(list, 16 * USBHS_CHANNEL_LEN, charged(6000), 0xFFFFFFFFu, &t, &f, &l), 0xFFFF);
     expect("sixteen channels: total", t, 16 * 255);
     expect("sixteen channels: looked", l, 65536);
 }

@@ -1,6 +1,7 @@
 // What the driver asks of the chip, in words.
 mod steps; // steps.rt: a line for an answer
 
+use bus_time::TIME_LEN;
 use regs::Dir;
 use state::STATE_LEN;
 use steps::show;
@@ -32,7 +33,13 @@ fn reading(arrived: bool, left: u32) -> u32 {
 }
 
 // Shows a call's answer, and the rest of its operation as it goes on.
-fn run(s: &mut [u8; STATE_LEN], slots: &mut [u8], first: Step, arrived: bool) {
+fn run(
+    s: &mut [u8; STATE_LEN],
+    slots: &mut [u8],
+    time: &mut [u16; TIME_LEN],
+    first: Step,
+    arrived: bool,
+) {
     show(s, first);
     let mut step = first;
     let mut left = MOST;
@@ -40,7 +47,7 @@ fn run(s: &mut [u8; STATE_LEN], slots: &mut [u8], first: Step, arrived: bool) {
         left -= 1;
         match step {
             Step::Asks(_q) => {
-                step = usbhs::proceeds::proceed(s, slots, reading(arrived, left));
+                step = usbhs::proceeds::proceed(s, slots, time, 0, reading(arrived, left));
                 show(s, step);
             }
             _ => {
@@ -71,61 +78,100 @@ fn questions(s: &[u8; STATE_LEN], e: u32) {
 fn before_start_up() {
     let mut s = [0u8; STATE_LEN];
     let mut slots = [0u8; 0];
+    let mut time = [0u16; TIME_LEN];
     print(b"continue before start-up\n");
-    let refused = usbhs::proceeds::proceed(&mut s, &mut slots, READING);
+    let refused = usbhs::proceeds::proceed(&mut s, &mut slots, &mut time, 0, READING);
     show(&s, refused);
     print(b"microframe before start-up\n");
     let first = usbhs::begins::begin_microframe(&mut s);
-    run(&mut s, &mut slots, first, false);
+    run(&mut s, &mut slots, &mut time, first, false);
     questions(&s, 1);
 }
 
 // Allocates an endpoint with a maximum of 64 bytes and shows what is handed out.
-fn endpoint(s: &mut [u8; STATE_LEN], slots: &mut [u8], title: &[u8], dir: Dir, kind: u8) {
+fn endpoint(
+    s: &mut [u8; STATE_LEN],
+    slots: &mut [u8],
+    time: &mut [u16; TIME_LEN],
+    title: &[u8],
+    dir: Dir,
+    kind: u8,
+) {
     print(title);
     let first = usbhs::starting::allocate(s, dir, kind, 256, 64, 1);
-    run(s, slots, first, false);
+    run(s, slots, time, first, false);
 }
 
-fn enable(s: &mut [u8; STATE_LEN], slots: &mut [u8], title: &[u8], dir: Dir, e: u32) {
+fn enable(
+    s: &mut [u8; STATE_LEN],
+    slots: &mut [u8],
+    time: &mut [u16; TIME_LEN],
+    title: &[u8],
+    dir: Dir,
+    e: u32,
+) {
     print(title);
-    let first = usbhs::bus_begins::begin_set_enabled(s, slots, dir, e, true);
-    run(s, slots, first, false);
+    let first = usbhs::bus_begins::begin_set_enabled(s, slots, time, 0, dir, e, true);
+    run(s, slots, time, first, false);
 }
 
 // A driver on 21 buffers of 64 bytes, with an isochronous OUT and IN.
-fn started(s: &mut [u8; STATE_LEN], slots: &mut [u8]) {
+fn started(s: &mut [u8; STATE_LEN], slots: &mut [u8], time: &mut [u16; TIME_LEN]) {
     print(b"\nstart-up, 21 buffers of 64 bytes\n");
-    let first = usbhs::starting::start_up(s, slots, 64, 21, false);
-    run(s, slots, first, false);
-    endpoint(s, slots, b"\nallocate an isochronous OUT\n", Dir::Out, 1);
-    endpoint(s, slots, b"\nallocate an isochronous IN\n", Dir::In, 1);
+    let first = usbhs::starting::start_up(s, slots, time, 0, 64, 21, false);
+    run(s, slots, time, first, false);
+    endpoint(
+        s,
+        slots,
+        time,
+        b"\nallocate an isochronous OUT\n",
+        Dir::Out,
+        1,
+    );
+    endpoint(
+        s,
+        slots,
+        time,
+        b"\nallocate an isochronous IN\n",
+        Dir::In,
+        1,
+    );
 }
 
 // A bulk pair and EP0.
-fn others(s: &mut [u8; STATE_LEN], slots: &mut [u8]) {
-    endpoint(s, slots, b"\nallocate a bulk OUT\n", Dir::Out, 2);
-    endpoint(s, slots, b"\nallocate a bulk IN\n", Dir::In, 2);
+fn others(s: &mut [u8; STATE_LEN], slots: &mut [u8], time: &mut [u16; TIME_LEN]) {
+    endpoint(s, slots, time, b"\nallocate a bulk OUT\n", Dir::Out, 2);
+    endpoint(s, slots, time, b"\nallocate a bulk IN\n", Dir::In, 2);
     print(b"\nstart EP0\n");
     let ep0 = usbhs::starting::start(s, 64);
-    run(s, slots, ep0, false);
+    run(s, slots, time, ep0, false);
 }
 
-fn enabled(s: &mut [u8; STATE_LEN], slots: &mut [u8]) {
+fn enabled(s: &mut [u8; STATE_LEN], slots: &mut [u8], time: &mut [u16; TIME_LEN]) {
     print(b"\npull the bus up\n");
     let up = usbhs::bus_begins::begin_bus_enable(s);
-    run(s, slots, up, false);
-    enable(s, slots, b"\nenable the isochronous OUT\n", Dir::Out, 1);
-    enable(s, slots, b"\nenable the isochronous IN\n", Dir::In, 1);
-    enable(s, slots, b"\nenable the bulk OUT\n", Dir::Out, 2);
-    enable(s, slots, b"\nenable the bulk IN\n", Dir::In, 2);
+    run(s, slots, time, up, false);
+    enable(
+        s,
+        slots,
+        time,
+        b"\nenable the isochronous OUT\n",
+        Dir::Out,
+        1,
+    );
+    enable(s, slots, time, b"\nenable the isochronous IN\n", Dir::In, 1);
+    enable(s, slots, time, b"\nenable the bulk OUT\n", Dir::Out, 2);
+    enable(s, slots, time, b"\nenable the bulk IN\n", Dir::In, 2);
+    print(b"\nbus time in use: ");
+    number(bus_time::in_use(time));
+    print(b" byte-times of 6,000\n");
 }
 
 // The interrupt of a packet that the chip has stored in the first slot of OUT 1.
-fn served(s: &mut [u8; STATE_LEN], slots: &mut [u8]) {
+fn served(s: &mut [u8; STATE_LEN], slots: &mut [u8], time: &mut [u16; TIME_LEN]) {
     print(b"\nan interrupt: 4 bytes on the isochronous OUT\n");
     let first = usbhs::begins::begin_interrupt(s);
-    run(s, slots, first, true);
+    run(s, slots, time, first, true);
 }
 
 // The packet is read where it lies.
@@ -145,13 +191,14 @@ fn main() {
     before_start_up();
     let mut s = [0u8; STATE_LEN];
     let mut slots = [0u8; 1344];
-    started(&mut s, &mut slots);
-    others(&mut s, &mut slots);
-    enabled(&mut s, &mut slots);
+    let mut time = [0u16; TIME_LEN];
+    started(&mut s, &mut slots, &mut time);
+    others(&mut s, &mut slots, &mut time);
+    enabled(&mut s, &mut slots, &mut time);
     slots[0] = 0x11;
     slots[1] = 0x22;
     slots[2] = 0x33;
     slots[3] = 0x44;
-    served(&mut s, &mut slots);
+    served(&mut s, &mut slots, &mut time);
     read(&mut s, &slots);
 }

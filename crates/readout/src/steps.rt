@@ -67,6 +67,7 @@ fn packet_row(n: u8) {
         14 => print(b"no packet is open"),
         15 => print(b"nothing is under way"),
         16 => print(b"the reading has bits above its width"),
+        19 => print(b"the bus time would pass 6,000 byte-times"),
         22 => print(b"the maximum of EP0 is 64"),
         _ => {}
     }

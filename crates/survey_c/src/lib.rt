@@ -3,6 +3,7 @@
 mod words; // words.rt: an answer as one word
 mod writer; // writer.rt: a card's writer as four numbers
 
+use bus_time::TIME_LEN;
 use card_reader::Next;
 use card_reader::Reader;
 use card_reader::Started;
@@ -21,6 +22,7 @@ ghost use Rattle.descriptor.specs.Reading.{readingOf};
 ghost use Rattle.survey_c.specs.Descriptor.{rewrittenWord, rewrittenRoom};
 ghost use mathlib.Core.Path.{_≡_};
 ghost use lib.ListN.{length};
+ghost use Rattle.bus_time.specs.Time.{inUse};
 ghost use Rattle.channels.specs.Answers.{answerOf, recordsAfter};
 ghost use Rattle.visits.specs.Bounds.{boundsOf};
 ghost use Rattle.crc.specs.Crc.{dataCrc};
@@ -30,24 +32,24 @@ ghost use Rattle.card_reader.specs.Calls.{startOf, nextOf, roomOf};
 ghost use Rattle.survey_c.specs.Numbers.{bestWord, totalBy, figureBy, lookedBy, boundsWord, leastBy, greatestBy};
 ghost use Rattle.survey_c.specs.Card.{writerIn, numbersOf, wroteWord, writerBy, finishedWord, startedWord, startBy, nextWord, endpointBy, placeBy};
 
-// The best set of the channels in the list: its count is the end's result; beside it the total of its maxima, a figure that no fitting set exceeds
+// The best set of the channels in the list, with the bus time that is in use: its count is the end's result; beside it the total of its maxima, a figure that no fitting set exceeds
 // and how many sets were looked at.
 #[no_mangle]
 pub extern "C" fn usbhs_best_set(
     list: &mut [u8],
-    in_use: u32,
+    time: &[u16; TIME_LEN],
     budget: u32,
     total: &mut u32,
     figure: &mut u32,
     looked: &mut u32,
 ) -> u64
-    ensures { λ r. ⌜ r ≡ bestWord (answerOf (now (list .entry)) in_use budget) ⌝ }
-    ensures { λ _. ⌜ now (list .exit) ≡ recordsAfter (now (list .entry)) in_use budget ⌝ }
-    ensures { λ _. ⌜ now (total .exit) ≡ totalBy (answerOf (now (list .entry)) in_use budget) (now (total .entry)) ⌝ }
-    ensures { λ _. ⌜ now (figure .exit) ≡ figureBy (answerOf (now (list .entry)) in_use budget) (now (figure .entry)) ⌝ }
-    ensures { λ _. ⌜ now (looked .exit) ≡ lookedBy (answerOf (now (list .entry)) in_use budget) (now (looked .entry)) ⌝ }
+    ensures { λ r. ⌜ r ≡ bestWord (answerOf (now (list .entry)) (inUse (now (time .entry))) budget) ⌝ }
+    ensures { λ _. ⌜ now (list .exit) ≡ recordsAfter (now (list .entry)) (inUse (now (time .entry))) budget ⌝ }
+    ensures { λ _. ⌜ now (total .exit) ≡ totalBy (answerOf (now (list .entry)) (inUse (now (time .entry))) budget) (now (total .entry)) ⌝ }
+    ensures { λ _. ⌜ now (figure .exit) ≡ figureBy (answerOf (now (list .entry)) (inUse (now (time .entry))) budget) (now (figure .entry)) ⌝ }
+    ensures { λ _. ⌜ now (looked .exit) ≡ lookedBy (answerOf (now (list .entry)) (inUse (now (time .entry))) budget) (now (looked .entry)) ⌝ }
 {
-    match channels::best_set(list, in_use, budget) {
+    match channels::best_set(list, bus_time::in_use(time), budget) {
         Answer::Refused(row) => refused(row),
         Answer::Best(choice) => {
             *total = choice.total;

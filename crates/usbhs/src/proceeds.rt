@@ -1,2 +1,2 @@
-// Continue is the machine's own.
-pub use proceeding::proceed;
+// Continue gives back the bus time of what its write of ep_config clears.
+pub use shared_time::proceed;

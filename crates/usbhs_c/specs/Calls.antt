@@ -11,6 +11,7 @@ use Rattle.script.specs.Calls.{Config, Op, aside, Open, startRow}
 use Rattle.script.specs.Machine.{Buf, Call, begin, start}
 use Rattle.way.specs.Under.{machineOf, drive, answerOf, lentOr, lentBy}
 use Rattle.endpoint_calls.specs.Shown.{ShownAt}
+use Rattle.shared_time.specs.Sharing.{sharedCall}
 use Rattle.answer_word.specs.Word.{Worded}
 use Rattle.usbhs_c.specs.Stamp.{stampBy}
 
@@ -64,8 +65,14 @@ AnswersOpen r e before after slots stamp stamp′ =
     × ShownAt step (view after) e)
     × ((a : Buf) → stamp′ ≡ stampBy (drive (begin (aside (Open e))) (machineOf before a) slots .0) stamp)
 
--- start-up: the slots that it is brought are the run's from then on, unless it is refused
-abbrev pub AnswersStart : ℕ → Config → List ℕ → List ℕ → Buf → Type 0
-AnswersStart r c before after slots =
+-- start-up by driver i: the slots that it is brought are the run's from then on, unless it is refused; the record of bus time before and after
+abbrev pub AnswersStart : ℕ → ℕ → Config → List ℕ → List ℕ → Buf → List ℕ → List ℕ → Type 0
+AnswersStart r i c before after slots time time′ =
     Worded r
-    (λ step. (a : Buf) → (answerOf step [] (view after), machineOf after (cond (eqb (startRow c slots) 0) slots a)) ≡ drive (start c) (machineOf before a) slots)
+    (λ step. (a : Buf) → ((answerOf step [] (view after), machineOf after (cond (eqb (startRow c slots) 0) slots a)), time′) ≡ sharedCall i (start c) (machineOf before a) time slots)
+
+-- a call that brings the slots and the record of bus time
+abbrev pub AnswersCharged : ℕ → ℕ → Call Config Op → List ℕ → List ℕ → Buf → Buf → List ℕ → List ℕ → Type 0
+AnswersCharged r i c before after slots slots′ time time′ =
+    Worded r
+    (λ step. (a : Buf) → ((answerOf step [] (view after), machineOf after (lentOr (view before) slots slots′ a)), time′) ≡ sharedCall i c (machineOf before a) time slots)

@@ -1,5 +1,6 @@
 // The driver's calls for programs in other languages (include/usbhs.h): a direction is 0 for OUT, else IN, a flag 0 for no, else yes, and any
-// number is safe. Each call answers one word (crate `answer_word`), a question its number.
+// number is safe. Each call answers one word (crate `answer_word`), a question its number. `time` is the record of bus time that up to four drivers
+// share, `driver` the caller's number in it, modulo 4.
 pub mod inputs; // inputs.rt: directions and flags as numbers
 pub mod listed; // listed.rt: endpoints from a configuration descriptor
 pub mod setup; // setup.rt: a setup packet's bytes
@@ -7,6 +8,7 @@ pub mod stamp; // stamp.rt: the stamp of a packet that is shown
 pub mod woken; // woken.rt: the wake-ups of the last end
 
 use answer_word::word_of;
+use bus_time::TIME_LEN;
 use inputs::dir_of;
 use inputs::flag_of;
 use setup::setup_word;
@@ -22,22 +24,25 @@ ghost use Rattle.script.specs.Machine.{begin, go, start};
 ghost use Rattle.script.specs.Calls.{other, slotted, aside, interrupt, Microframe, Allocate, Start, SetPaced, BusEnable, BusDisable, BusPoll, IsStalled, SetStalled, SetEnabled, BeginSetup, PollSetup, BeginDataOut, PollDataOut, BeginDataIn, PollDataIn, BeginAccept, BeginAcceptSetAddress, PollAccept, BeginReject, Advance, BeginRead, PollRead, BeginWrite, PollWrite, Close, Queue};
 ghost use Prim.Native.Nat.{_%_};
 ghost use lib.ListN.{length};
+ghost use Rattle.bus_time.specs.Time.{inUse};
 ghost use Rattle.way.specs.Under.{configOf};
 ghost use Rattle.way.specs.Questions.{pendingOn, overrunsOn, enabledAsked};
-ghost use Rattle.usbhs_c.specs.Calls.{Answers, AnswersLent, AnswersInto, AnswersOutOf, AnswersStart, AnswersBeside, AnswersShown, AnswersOpen, dirOf, flagOf};
+ghost use Rattle.usbhs_c.specs.Calls.{Answers, AnswersLent, AnswersInto, AnswersOutOf, AnswersStart, AnswersCharged, AnswersBeside, AnswersShown, AnswersOpen, dirOf, flagOf};
 
 // Start-up on any state, with the buffer's size and count and whether there is a start-of-frame callback.
 #[no_mangle]
 pub extern "C" fn usbhs_start_up(
     s: &mut [u8; STATE_LEN],
     slots: &[u8],
+    time: &mut [u16; TIME_LEN],
+    driver: u32,
     size: u32,
     count: u32,
     callback: u32,
 ) -> u64
-    ensures { λ r. ⌜ AnswersStart r (configOf size count (flagOf callback)) (now (s .entry)) (now (s .exit)) (now (slots .entry)) ⌝ }
+    ensures { λ r. ⌜ AnswersStart r driver (configOf size count (flagOf callback)) (now (s .entry)) (now (s .exit)) (now (slots .entry)) (now (time .entry)) (now (time .exit)) ⌝ }
 {
-    word_of(usbhs::starting::start_up(s, slots, size, count, flag_of(callback)))
+    word_of(usbhs::starting::start_up(s, slots, time, driver, size, count, flag_of(callback)))
 }
 
 // An endpoint; its kind counts modulo 4, and an address of 256 or more asks for none.
@@ -65,10 +70,16 @@ pub extern "C" fn usbhs_start(s: &mut [u8; STATE_LEN], maximum: u32) -> u64
 
 // Goes on with the operation under way, with the number brought.
 #[no_mangle]
-pub extern "C" fn usbhs_continue(s: &mut [u8; STATE_LEN], slots: &mut [u8], value: u32) -> u64
-    ensures { λ r. ⌜ AnswersLent r (go value) (now (s .entry)) (now (s .exit)) (now (slots .entry)) (now (slots .exit)) ⌝ }
+pub extern "C" fn usbhs_continue(
+    s: &mut [u8; STATE_LEN],
+    slots: &mut [u8],
+    time: &mut [u16; TIME_LEN],
+    driver: u32,
+    value: u32,
+) -> u64
+    ensures { λ r. ⌜ AnswersCharged r driver (go value) (now (s .entry)) (now (s .exit)) (now (slots .entry)) (now (slots .exit)) (now (time .entry)) (now (time .exit)) ⌝ }
 {
-    word_of(usbhs::proceeds::proceed(s, slots, value))
+    word_of(usbhs::proceeds::proceed(s, slots, time, driver, value))
 }
 
 // The current microframe number.
@@ -153,13 +164,23 @@ pub extern "C" fn usbhs_begin_set_stalled(
 pub extern "C" fn usbhs_begin_set_enabled(
     s: &mut [u8; STATE_LEN],
     slots: &mut [u8],
+    time: &mut [u16; TIME_LEN],
+    driver: u32,
     endpoint: u32,
     dir: u32,
     enabled: u32,
 ) -> u64
-    ensures { λ r. ⌜ AnswersLent r (begin (slotted (SetEnabled (dirOf dir) endpoint (flagOf enabled)))) (now (s .entry)) (now (s .exit)) (now (slots .entry)) (now (slots .exit)) ⌝ }
+    ensures { λ r. ⌜ AnswersCharged r driver (begin (slotted (SetEnabled (dirOf dir) endpoint (flagOf enabled)))) (now (s .entry)) (now (s .exit)) (now (slots .entry)) (now (slots .exit)) (now (time .entry)) (now (time .exit)) ⌝ }
 {
-    word_of(usbhs::bus_begins::begin_set_enabled(s, slots, dir_of(dir), endpoint, flag_of(enabled)))
+    word_of(usbhs::bus_begins::begin_set_enabled(
+        s,
+        slots,
+        time,
+        driver,
+        dir_of(dir),
+        endpoint,
+        flag_of(enabled),
+    ))
 }
 
 // A packet awaited from the host, into a slice of that length.
@@ -342,6 +363,14 @@ pub extern "C" fn usbhs_woken(s: &[u8; STATE_LEN], room: &mut [u8; 64]) -> u32
     ensures { λ _. ⌜ now (room .exit) ≡ over (listed (view (now (s .entry)) .wakes)) (now (room .entry)) ⌝ }
 {
     list_into(s, room) as u32
+}
+
+// The bus time in use, in byte-times of a microframe.
+#[no_mangle]
+pub extern "C" fn usbhs_time_in_use(time: &[u16; TIME_LEN]) -> u32
+    ensures { λ r. ⌜ r ≡ inUse (now (time .entry)) ⌝ }
+{
+    bus_time::in_use(time)
 }
 
 // The packets queued on the IN endpoint and not yet taken by the host.

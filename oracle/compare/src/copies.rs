@@ -6,17 +6,18 @@ use std::hint::black_box;
 use std::time::Instant;
 
 extern "C" {
-    fn usbhs_start_up(state: *mut u8, slots: *mut u8, len: usize, size: u32, count: u32, callback: u32) -> u64;
+    fn usbhs_start_up(state: *mut u8, slots: *mut u8, len: usize, time: *mut u16, driver: u32, size: u32, count: u32, callback: u32) -> u64;
     fn usbhs_allocate(state: *mut u8, kind: u32, address: u32, maximum: u32, interval: u32, dir: u32) -> u64;
     fn usbhs_start(state: *mut u8, maximum: u32) -> u64;
-    fn usbhs_continue(state: *mut u8, slots: *mut u8, len: usize, value: u32) -> u64;
-    fn usbhs_begin_set_enabled(state: *mut u8, slots: *mut u8, len: usize, ep: u32, dir: u32, on: u32) -> u64;
+    fn usbhs_continue(state: *mut u8, slots: *mut u8, len: usize, time: *mut u16, driver: u32, value: u32) -> u64;
+    fn usbhs_begin_set_enabled(state: *mut u8, slots: *mut u8, len: usize, time: *mut u16, driver: u32, ep: u32, dir: u32, on: u32) -> u64;
     fn usbhs_begin_write(state: *mut u8, slots: *mut u8, len: usize, ep: u32, data: *const u8, data_len: usize) -> u64;
     fn usbhs_queue(state: *mut u8, slots: *mut u8, len: usize, ep: u32, data: *const u8, data_len: usize) -> u64;
 }
 
 /// At least as long as the port's state.
 const STATE: usize = 4096;
+const TIME: usize = 128;
 const SIZE: u32 = 512;
 const COUNT: u32 = 4;
 const ROUNDS: usize = 400;
@@ -30,6 +31,8 @@ struct Port {
 impl Port {
     /// Isochronous IN 1 and bulk IN 2, enabled.
     fn new() -> Self {
+        let mut time = [0; TIME];
+        let t = time.as_mut_ptr();
         let mut port = Self { state: [0; STATE], slots: vec![0; (SIZE * COUNT) as usize] };
         let (s, p, n) = (port.state.as_mut_ptr(), port.slots.as_mut_ptr(), port.slots.len());
         // SAFETY: the exported calls are total; the state is longer than theirs, slices are given with their lengths
@@ -37,15 +40,15 @@ impl Port {
             let to_end = |mut a: u64| {
                 while a & 15 != 5 {
                     assert!(matches!(a & 15, 1..=3), "{a:#x}");
-                    a = usbhs_continue(s, p, n, 0);
+                    a = usbhs_continue(s, p, n, t, 0, 0);
                 }
             };
-            to_end(usbhs_start_up(s, p, n, SIZE, COUNT, 0));
+            to_end(usbhs_start_up(s, p, n, t, 0, SIZE, COUNT, 0));
             to_end(usbhs_allocate(s, 1, 0x81, 512, 1, 1));
             to_end(usbhs_allocate(s, 2, 0x82, 512, 1, 1));
             to_end(usbhs_start(s, 64));
-            to_end(usbhs_begin_set_enabled(s, p, n, 1, 1, 1));
-            to_end(usbhs_begin_set_enabled(s, p, n, 2, 1, 1));
+            to_end(usbhs_begin_set_enabled(s, p, n, t, 0, 1, 1, 1));
+            to_end(usbhs_begin_set_enabled(s, p, n, t, 0, 2, 1, 1));
         }
         port
     }

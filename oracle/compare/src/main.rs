@@ -8,6 +8,7 @@
 mod late;
 mod port;
 mod stamps;
+mod time;
 
 use oracle::replay::Session;
 use oracle::text::{print, Entry, Line};
@@ -63,12 +64,20 @@ fn within(call: Call, bits: u32) -> Call {
 }
 
 /// Of each run of a list, which an accepted start-up begins, the entries that are compared: those up to an allocation that was refused for want of
-/// buffers, of which the Rust keeps the number and the buffers that were left, and before a start of EP0 with another maximum than 64, which the
-/// port refuses. Of the run's rest, only what it left in the slots: the next run may begin with these.
+/// buffers, of which the Rust keeps the number and the buffers that were left, up to an enabling that the port turns down for want of bus time (19),
+/// and before a start of EP0 with another maximum than 64, which the port refuses. Of the run's rest, only what it left in the slots: the next run may
+/// begin with these.
 fn within_domain(entries: &[Entry]) -> Vec<Entry> {
     let mut within = true;
+    let mut time = time::Time::default();
     let mut all = vec![];
     for e in entries {
+        if within && time.turns_down(e) {
+            all.push(Entry { call: e.call.clone(), answer: Answer::Refused(19), changed: vec![] });
+            all.extend(stored(e));
+            within = false;
+            continue;
+        }
         let (starts_up, other, eight) = match (&e.call, &e.answer) {
             (Call::StartUp { .. }, Answer::Write { .. }) => (true, false, false),
             (Call::Start(maximum), answer) => (false, *maximum != 64 && *answer != Answer::Outside, false),
@@ -77,6 +86,7 @@ fn within_domain(entries: &[Entry]) -> Vec<Entry> {
         };
         within = starts_up || within && !other;
         if within {
+            time.feed(e);
             all.push(e.clone());
         } else {
             all.extend(stored(e));
@@ -130,6 +140,7 @@ struct Compared {
     stamps: usize,
     late: usize,
     otherwise: usize,
+    turned_down: usize,
 }
 
 impl Compared {
@@ -145,6 +156,13 @@ impl Compared {
                 differs(name, &entries[..=i], &format!("with the stamp {own}, not {stamp}"));
             }
         }
+        let times = time::expected(&entries);
+        assert_eq!(times.len(), port.times.len());
+        for (&(i, time), &own) in times.iter().zip(&port.times) {
+            if own != time {
+                differs(name, &entries[..=i], &format!("with the bus time {own} in use, not {time}"));
+            }
+        }
         self.lists += 1;
         self.entries += entries.len();
         // the others are the chip's stores, and calls that the Rust has no counterpart of: these must be refused and change no slot
@@ -152,6 +170,7 @@ impl Compared {
         self.stamps += stamps.iter().filter(|s| s.1 != stamps::NONE).count();
         self.late += lengths.late;
         self.otherwise += lengths.otherwise;
+        self.turned_down += entries.iter().filter(|e| e.answer == Answer::Refused(19)).count();
     }
 }
 
@@ -205,7 +224,7 @@ fn main() {
             compared.check(&mut port, &format!("seed {seed}"), &entries);
         }
     }
-    let Compared { lists, entries, answers, stamps, late, otherwise } = compared;
-    println!("{lists} runs, {entries} entries, {answers} answers and {stamps} stamps compared: no difference");
+    let Compared { lists, entries, answers, stamps, late, otherwise, turned_down } = compared;
+    println!("{lists} runs, {entries} entries, {answers} answers and {stamps} stamps compared, and the bus time after each call ({turned_down} enablings turned down): no difference");
     println!("{late} lengths told by the marks, {otherwise} of them not the Rust's");
 }

@@ -14,17 +14,18 @@ macro_rules! exported {
 }
 
 type State = *mut u8;
+type Time = *mut u16;
 
 exported! {
-    fn usbhs_start_up(state: State, slots: *mut u8, len: usize, size: u32, count: u32, callback: u32) -> u64;
+    fn usbhs_start_up(state: State, slots: *mut u8, len: usize, time: Time, driver: u32, size: u32, count: u32, callback: u32) -> u64;
     fn usbhs_allocate(state: State, kind: u32, address: u32, maximum: u32, interval: u32, dir: u32) -> u64;
     fn usbhs_start(state: State, maximum: u32) -> u64;
-    fn usbhs_continue(state: State, slots: *mut u8, len: usize, value: u32) -> u64;
+    fn usbhs_continue(state: State, slots: *mut u8, len: usize, time: Time, driver: u32, value: u32) -> u64;
     fn usbhs_begin_interrupt(state: State) -> u64;
     fn usbhs_begin_bus_poll(state: State) -> u64;
     fn usbhs_begin_bus_enable(state: State) -> u64;
     fn usbhs_begin_bus_disable(state: State) -> u64;
-    fn usbhs_begin_set_enabled(state: State, slots: *mut u8, len: usize, ep: u32, dir: u32, on: u32) -> u64;
+    fn usbhs_begin_set_enabled(state: State, slots: *mut u8, len: usize, time: Time, driver: u32, ep: u32, dir: u32, on: u32) -> u64;
     fn usbhs_begin_set_stalled(state: State, ep: u32, dir: u32, on: u32) -> u64;
     fn usbhs_begin_is_stalled(state: State, ep: u32, dir: u32) -> u64;
     fn usbhs_set_paced(state: State, ep: u32, on: u32) -> u64;
@@ -51,10 +52,15 @@ exported! {
     fn usbhs_pending(state: State, ep: u32) -> u32;
     fn usbhs_overruns(state: State, ep: u32) -> u32;
     fn usbhs_enabled(state: State, ep: u32, dir: u32) -> u32;
+    fn usbhs_time_in_use(time: Time) -> u32;
 }
 
 /// At least as long as the port's state.
 const STATE: usize = 65_536;
+
+/// The length of the record of bus time, and this driver's number in it.
+const TIME: usize = 128;
+const DRIVER: u32 = 2;
 
 pub struct Port {
     state: Vec<u8>,
@@ -68,6 +74,9 @@ pub struct Port {
     interrupts: u16,
     /// What each open left in the room for the stamp.
     pub stamps: Vec<u16>,
+    /// The record of bus time, and the time in use after each call.
+    time: [u16; TIME],
+    pub times: Vec<u32>,
 }
 
 impl Port {
@@ -81,6 +90,8 @@ impl Port {
             data_out: 0,
             interrupts: 0,
             stamps: vec![],
+            time: [0; TIME],
+            times: vec![],
         }
     }
 }
@@ -125,6 +136,8 @@ impl Driver for Port {
         self.geometry = (0, 0);
         self.interrupts = 0;
         self.stamps.clear();
+        self.time.fill(0);
+        self.times.clear();
     }
 
     fn slots(&mut self) -> &mut [u8] {
@@ -132,6 +145,15 @@ impl Driver for Port {
     }
 
     fn call(&mut self, call: &Call) -> Answer {
+        let answer = self.made(call);
+        // SAFETY: as in `made`
+        self.times.push(unsafe { usbhs_time_in_use(self.time.as_mut_ptr()) });
+        answer
+    }
+}
+
+impl Port {
+    fn made(&mut self, call: &Call) -> Answer {
         if let Call::StartUp { size, count, .. } = *call {
             if self.geometry != (size, count) {
                 self.geometry = (size, count);
@@ -140,11 +162,12 @@ impl Driver for Port {
         }
         let s = self.state.as_mut_ptr();
         let (p, n) = (self.slots.as_mut_ptr(), self.slots.len());
+        let t = self.time.as_mut_ptr();
         // SAFETY: the exported calls are total; every slice is given with its own length
         let a = unsafe {
             match *call {
-                Call::StartUp { size, count, callback } => usbhs_start_up(s, p, n, size, count, callback as u32),
-                Call::Continue(value) => usbhs_continue(s, p, n, value),
+                Call::StartUp { size, count, callback } => usbhs_start_up(s, p, n, t, DRIVER, size, count, callback as u32),
+                Call::Continue(value) => usbhs_continue(s, p, n, t, DRIVER, value),
                 Call::Allocate { kind, address, maximum, interval, dir: d } => {
                     let address = address.map_or(256, u32::from);
                     usbhs_allocate(s, kind as u32, address, maximum as u32, interval as u32, dir(d))
@@ -154,7 +177,7 @@ impl Driver for Port {
                     let a = usbhs_begin_interrupt(s);
                     if accepted(a) {
                         self.interrupts = self.interrupts.wrapping_add(1);
-                        usbhs_continue(s, p, n, stamps::frame(self.interrupts).into())
+                        usbhs_continue(s, p, n, t, DRIVER, stamps::frame(self.interrupts).into())
                     } else {
                         a
                     }
@@ -162,7 +185,7 @@ impl Driver for Port {
                 Call::BusPoll => usbhs_begin_bus_poll(s),
                 Call::BusEnable => usbhs_begin_bus_enable(s),
                 Call::BusDisable => usbhs_begin_bus_disable(s),
-                Call::SetEnabled { ep, dir: d, on } => usbhs_begin_set_enabled(s, p, n, ep as u32, dir(d), on as u32),
+                Call::SetEnabled { ep, dir: d, on } => usbhs_begin_set_enabled(s, p, n, t, DRIVER, ep as u32, dir(d), on as u32),
                 Call::SetStalled { ep, dir: d, on } => usbhs_begin_set_stalled(s, ep as u32, dir(d), on as u32),
                 Call::IsStalled { ep, dir: d } => usbhs_begin_is_stalled(s, ep as u32, dir(d)),
                 Call::SetPaced { ep, on } => usbhs_set_paced(s, ep as u32, on as u32),

@@ -12,17 +12,18 @@ use original::bench::Bare;
 use seam::{reg, Ask, Coroutine, Finish, Out};
 
 extern "C" {
-    fn usbhs_start_up(state: *mut u8, slots: *mut u8, len: usize, size: u32, count: u32, callback: u32) -> u64;
+    fn usbhs_start_up(state: *mut u8, slots: *mut u8, len: usize, time: *mut u16, driver: u32, size: u32, count: u32, callback: u32) -> u64;
     fn usbhs_allocate(state: *mut u8, kind: u32, address: u32, maximum: u32, interval: u32, dir: u32) -> u64;
     fn usbhs_start(state: *mut u8, maximum: u32) -> u64;
-    fn usbhs_continue(state: *mut u8, slots: *mut u8, len: usize, value: u32) -> u64;
+    fn usbhs_continue(state: *mut u8, slots: *mut u8, len: usize, time: *mut u16, driver: u32, value: u32) -> u64;
     fn usbhs_begin_bus_poll(state: *mut u8) -> u64;
     fn usbhs_begin_interrupt(state: *mut u8) -> u64;
-    fn usbhs_begin_set_enabled(state: *mut u8, slots: *mut u8, len: usize, ep: u32, dir: u32, on: u32) -> u64;
+    fn usbhs_begin_set_enabled(state: *mut u8, slots: *mut u8, len: usize, time: *mut u16, driver: u32, ep: u32, dir: u32, on: u32) -> u64;
     fn usbhs_begin_set_stalled(state: *mut u8, ep: u32, dir: u32, on: u32) -> u64;
 }
 
 const STATE: usize = 4096;
+const TIME: usize = 128;
 const SIZE: u32 = 64;
 const COUNT: u32 = 24;
 const ROUNDS: usize = 400;
@@ -72,22 +73,23 @@ fn dir(d: Dir) -> u32 {
 struct Port {
     state: Vec<u8>,
     slots: Vec<u8>,
+    time: [u16; TIME],
     registers: Registers,
 }
 
 impl Port {
     fn new() -> Self {
-        Self { state: vec![0; STATE], slots: vec![0; (SIZE * COUNT) as usize], registers: Registers::new() }
+        Self { state: vec![0; STATE], slots: vec![0; (SIZE * COUNT) as usize], time: [0; TIME], registers: Registers::new() }
     }
 
     #[inline]
     fn begin(&mut self, call: &Call) -> u64 {
         let s = self.state.as_mut_ptr();
-        let (p, n) = (self.slots.as_mut_ptr(), self.slots.len());
+        let (p, n, t) = (self.slots.as_mut_ptr(), self.slots.len(), self.time.as_mut_ptr());
         // SAFETY: the exported calls are total; the state is longer than theirs, the slice is given with its length
         unsafe {
             match *call {
-                Call::StartUp { size, count, callback } => usbhs_start_up(s, p, n, size, count, callback as u32),
+                Call::StartUp { size, count, callback } => usbhs_start_up(s, p, n, t, 0, size, count, callback as u32),
                 Call::Allocate { kind, address, maximum, interval, dir: d } => {
                     let address = address.map_or(256, u32::from);
                     usbhs_allocate(s, kind as u32, address, maximum as u32, interval as u32, dir(d))
@@ -95,7 +97,7 @@ impl Port {
                 Call::Start(maximum) => usbhs_start(s, maximum as u32),
                 Call::BusPoll => usbhs_begin_bus_poll(s),
                 Call::Interrupt => usbhs_begin_interrupt(s),
-                Call::SetEnabled { ep, dir: d, on } => usbhs_begin_set_enabled(s, p, n, ep as u32, dir(d), on as u32),
+                Call::SetEnabled { ep, dir: d, on } => usbhs_begin_set_enabled(s, p, n, t, 0, ep as u32, dir(d), on as u32),
                 Call::SetStalled { ep, dir: d, on } => usbhs_begin_set_stalled(s, ep as u32, dir(d), on as u32),
                 _ => unreachable!("{call:?} is not measured"),
             }
@@ -117,7 +119,7 @@ impl Port {
             };
             calls += 1;
             // SAFETY: as in `begin`
-            a = unsafe { usbhs_continue(self.state.as_mut_ptr(), self.slots.as_mut_ptr(), self.slots.len(), value) };
+            a = unsafe { usbhs_continue(self.state.as_mut_ptr(), self.slots.as_mut_ptr(), self.slots.len(), self.time.as_mut_ptr(), 0, value) };
         }
     }
 }

@@ -1,0 +1,5 @@
+pub mod Four
+pub mod History
+pub mod Limit
+pub mod Histories
+pub mod Runs
