@@ -23,7 +23,7 @@ ghost use Rattle.driver_calls.specs.Listed.{allocatedAll, previewed};
 // All or none, where nothing is under way: the refusal of the first that would be refused, or all allocated and the first announced.
 fn allocate_listed(s: &mut [u8; STATE_LEN], list: Endpoints) -> Step
     requires { ⌜ isIdle (decode (saved (now s))) ≡ true ⌝ }
-    ensures { λ r. ⌜ ((b : List ℕ) → (answerOf r [], machineOf (now (s .exit)) b) ≡ allocatedAll (stored list) (view (now (s .entry))) b) ⌝ }
+    ensures { λ r. ⌜ ((b : List ℕ) → (answerOf r [] (view (now (s .exit))), machineOf (now (s .exit)) b) ≡ allocatedAll (stored list) (view (now (s .entry))) b) ⌝ }
 {
     let t = preview::try_all(state::load_allocator(s), list);
     let row = t.refusal;
@@ -37,7 +37,7 @@ fn allocate_listed(s: &mut [u8; STATE_LEN], list: Endpoints) -> Step
 
 // A descriptor's endpoints allocated in its order, or none: rows 3, 4, 17, 18, then 6, 7 or 8 of the first that would be refused.
 pub fn allocate_all(s: &mut [u8; STATE_LEN], bytes: &[u8]) -> Step
-    ensures { λ r. ⌜ ((a b : List ℕ) → (answerOf r [], machineOf (now (s .exit)) b) ≡ drive (begin (other (AllocateAll (now (bytes .entry))))) (machineOf (now (s .entry)) a) b) ⌝ }
+    ensures { λ r. ⌜ ((a b : List ℕ) → (answerOf r [] (view (now (s .exit))), machineOf (now (s .exit)) b) ≡ drive (begin (other (AllocateAll (now (bytes .entry))))) (machineOf (now (s .entry)) a) b) ⌝ }
 {
     let n = stop(s, 1);
     if n == 0 {

@@ -33,7 +33,7 @@ pub fn charge_on(s: &[u8; STATE_LEN], dir: Dir, e: u32) -> u32
 pub fn charged(time: &mut [u16; TIME_LEN], at: usize, c: u32, step: Step)
     requires { ⌜ at < 128 ⌝ }
     requires { ⌜ c < 65536 ⌝ }
-    ensures { λ _. ⌜ now (time .exit) ≡ chargedAt (answerOf step []) at c (now (time .entry)) ⌝ }
+    ensures { λ _. ⌜ ((x : Driver) → now (time .exit) ≡ chargedAt (answerOf step [] x) at c (now (time .entry))) ⌝ }
 {
     match step {
         Step::Asks(_q) => charge(time, at, c),
@@ -48,7 +48,7 @@ pub fn charged(time: &mut [u16; TIME_LEN], at: usize, c: u32, step: Step)
 
 // A start-up: an accepted one gives all back.
 pub fn started(time: &mut [u16; TIME_LEN], driver: u32, step: Step)
-    ensures { λ _. ⌜ ((d : Driver) → now (time .exit) ≡ timeAfter driver starting (answerOf step []) d (now (time .entry))) ⌝ }
+    ensures { λ _. ⌜ ((x d : Driver) → now (time .exit) ≡ timeAfter driver starting (answerOf step [] x) d (now (time .entry))) ⌝ }
 {
     match step {
         Step::Asks(_q) => keep(time, driver, 0),
@@ -91,7 +91,7 @@ fn after_access(time: &mut [u16; TIME_LEN], driver: u32, q: Access)
 
 // A continue: the access that it hands out.
 pub fn gone_on(time: &mut [u16; TIME_LEN], driver: u32, step: Step)
-    ensures { λ _. ⌜ ((d : Driver) → now (time .exit) ≡ timeAfter driver going (answerOf step []) d (now (time .entry))) ⌝ }
+    ensures { λ _. ⌜ ((x d : Driver) → now (time .exit) ≡ timeAfter driver going (answerOf step [] x) d (now (time .entry))) ⌝ }
 {
     match step {
         Step::Asks(q) => after_access(time, driver, q),

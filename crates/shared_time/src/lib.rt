@@ -37,7 +37,7 @@ pub fn start_up(
     count: u32,
     callback: bool,
 ) -> Step
-    ensures { λ r. ⌜ ((a : List ℕ) → ((answerOf r [], machineOf (now (s .exit)) (cond (eqb (startRow (configOf size count callback) (now (slots .entry))) 0) (now (slots .entry)) a)), now (time .exit)) ≡ sharedCall driver (start (configOf size count callback)) (machineOf (now (s .entry)) a) (now (time .entry)) (now (slots .entry))) ⌝ }
+    ensures { λ r. ⌜ ((a : List ℕ) → ((answerOf r [] (view (now (s .exit))), machineOf (now (s .exit)) (cond (eqb (startRow (configOf size count callback) (now (slots .entry))) 0) (now (slots .entry)) a)), now (time .exit)) ≡ sharedCall driver (start (configOf size count callback)) (machineOf (now (s .entry)) a) (now (time .entry)) (now (slots .entry))) ⌝ }
 {
     let step = driver_calls::starting::start_up(s, slots, size, count, callback);
     started(time, driver, step);
@@ -66,7 +66,7 @@ fn enable(
     dir: Dir,
     e: u32,
 ) -> Step
-    ensures { λ r. ⌜ ((a : List ℕ) → ((answerOf r [], machineOf (now (s .exit)) (lentOr (view (now (s .entry))) (now (slots .entry)) (now (slots .exit)) a)), now (time .exit)) ≡ sharedCall driver (begin (slotted (SetEnabled dir e true))) (machineOf (now (s .entry)) a) (now (time .entry)) (now (slots .entry))) ⌝ }
+    ensures { λ r. ⌜ ((a : List ℕ) → ((answerOf r [] (view (now (s .exit))), machineOf (now (s .exit)) (lentOr (view (now (s .entry))) (now (slots .entry)) (now (slots .exit)) a)), now (time .exit)) ≡ sharedCall driver (begin (slotted (SetEnabled dir e true))) (machineOf (now (s .entry)) a) (now (time .entry)) (now (slots .entry))) ⌝ }
 {
     let at = entry(driver, dir, e);
     let charge = charge_on(s, dir, e);
@@ -91,7 +91,7 @@ pub fn begin_set_enabled(
     e: u32,
     on: bool,
 ) -> Step
-    ensures { λ r. ⌜ ((a : List ℕ) → ((answerOf r [], machineOf (now (s .exit)) (lentOr (view (now (s .entry))) (now (slots .entry)) (now (slots .exit)) a)), now (time .exit)) ≡ sharedCall driver (begin (slotted (SetEnabled dir e on))) (machineOf (now (s .entry)) a) (now (time .entry)) (now (slots .entry))) ⌝ }
+    ensures { λ r. ⌜ ((a : List ℕ) → ((answerOf r [] (view (now (s .exit))), machineOf (now (s .exit)) (lentOr (view (now (s .entry))) (now (slots .entry)) (now (slots .exit)) a)), now (time .exit)) ≡ sharedCall driver (begin (slotted (SetEnabled dir e on))) (machineOf (now (s .entry)) a) (now (time .entry)) (now (slots .entry))) ⌝ }
 {
     if on {
         return enable(s, slots, time, driver, dir, e);
@@ -107,7 +107,7 @@ pub fn proceed(
     driver: u32,
     v: u32,
 ) -> Step
-    ensures { λ r. ⌜ ((a : List ℕ) → ((answerOf r [], machineOf (now (s .exit)) (lentOr (view (now (s .entry))) (now (slots .entry)) (now (slots .exit)) a)), now (time .exit)) ≡ sharedCall driver (go v) (machineOf (now (s .entry)) a) (now (time .entry)) (now (slots .entry))) ⌝ }
+    ensures { λ r. ⌜ ((a : List ℕ) → ((answerOf r [] (view (now (s .exit))), machineOf (now (s .exit)) (lentOr (view (now (s .entry))) (now (slots .entry)) (now (slots .exit)) a)), now (time .exit)) ≡ sharedCall driver (go v) (machineOf (now (s .entry)) a) (now (time .entry)) (now (slots .entry))) ⌝ }
 {
     let step = proceeding::proceed(s, slots, v);
     gone_on(time, driver, step);

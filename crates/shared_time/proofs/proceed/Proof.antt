@@ -23,7 +23,7 @@ same-length c = search needs
 returns : tie.Need-returns
 returns c a =
     let x = c .before .before .before .before .before .before .before .before .args in
-    settles (x .driver) (go (x .v)) (machineOf (now (x .s)) a) (now (x .time)) (now (x .slots)) _ _ refl (c .before .before .before .before .proceed .ensures a) (c .gone-on .ensures _)
+    settles (x .driver) (go (x .v)) (machineOf (now (x .s)) a) (now (x .time)) (now (x .slots)) _ _ refl (c .before .before .before .before .proceed .ensures a) (c .gone-on .ensures _ _)
 
 pub proceed-spec : {M : Type 1} → statement M
 proceed-spec = tie.close (tie.spec proceed-requires gone-on-requires same-length returns)

@@ -30,25 +30,25 @@ enum-known-step-6 : tie.Need-enum-known-step-6
 enum-known-step-6 c = search needs
 
 returns : tie.Need-returns
-returns c = simp (c .before .before .before .step .given .1) (c .charge .ensures)
+returns c x = simp (c .before .before .before .step .given .1) (c .charge .ensures)
 
 returns-2 : tie.Need-returns-2
-returns-2 c = search needs
+returns-2 c x = simp (c .before .step2 .given .1)
 
 returns-3 : tie.Need-returns-3
-returns-3 c = simp (c .before .step3 .given .1)
+returns-3 c x = simp (c .before .step3 .given .1)
 
 returns-4 : tie.Need-returns-4
-returns-4 c = search needs
+returns-4 c x = simp (c .enum-told .given .1)
 
 returns-5 : tie.Need-returns-5
-returns-5 c = search needs
+returns-5 c x = simp (c .before .step4 .given .1)
 
 returns-6 : tie.Need-returns-6
-returns-6 c = search needs
+returns-6 c x = simp (c .before .step5 .given .1)
 
 returns-7 : tie.Need-returns-7
-returns-7 c = simp (c .before .step6 .given .1)
+returns-7 c x = simp (c .before .step6 .given .1)
 
 pub charged-spec : {M : Type 1} → statement M
 charged-spec =
