@@ -1,6 +1,6 @@
 -- Every call is within the room for 64, whatever is read: an operation wakes at most so often, and a call that is over at once wakes none
 use mathlib.Core.Bool.{Bool, true, false, cond}
-use mathlib.Core.List.{List}
+use mathlib.Core.List.{List, [], _∷_}
 use mathlib.Core.Path.{refl}
 use Prim.Native.Nat.{ℕ, zero, suc, _+_, _≤_}
 use native.Mathlib.Omega.{arith}
@@ -22,8 +22,14 @@ use Rattle.script.specs.IsoIn.{isoInCompletions, isoInAdvance}
 use Rattle.script.specs.Bus as bus
 use Rattle.script.specs.Endpoint.{enabled-else, ends-request, polled, take-iso, take-ready, put-iso, sent-ready, arm-read, load-write}
 use Rattle.script.specs.Control.{unlessSetup, withinMaximum, requested, ends-control, aborted-else, acks, take-closing, take-in, take-out, statusIn, beginDataIn}
+use Rattle.descriptor.specs.declared.Endpoint.{Endpoint}
+use Rattle.descriptor.specs.declared.Answer as reading-answer
+use Rattle.descriptor.specs.declared.Answer.the-variants as reading
+use Rattle.descriptor.specs.Reading.{readingOf, listOf}
+use Rattle.preview.specs.Trial.{directionOf}
 use Rattle.script.specs.Driver.{allocated-as, started-as}
-use Rattle.script.specs.Calls.{Config, Slotted, SetEnabled, PollRead, BeginWrite, PollWrite, PollDataOut, BeginDataIn, Other, Allocate, Start, BusPoll, BusEnable, BusDisable, Microframe, SetStalled, IsStalled, SetPaced, Advance, BeginRead, BeginSetup, PollSetup, PollDataIn, BeginAccept, PollAccept, BeginReject, BeginDataOut, BeginAcceptSetAddress, Aside, Open, Close, Queue, Op, interrupt, slotted, other, aside, numbered, named-or-0, slottedCode, otherCode, asideCode, code, starting}
+use Rattle.script.specs.AllocateAll.{allocateEach, announce, beginsAt, announceAfter, announceAll, allocate-read}
+use Rattle.script.specs.Calls.{Config, Slotted, SetEnabled, PollRead, BeginWrite, PollWrite, PollDataOut, BeginDataIn, Other, Allocate, AllocateAll, Start, BusPoll, BusEnable, BusDisable, Microframe, SetStalled, IsStalled, SetPaced, Advance, BeginRead, BeginSetup, PollSetup, PollDataIn, BeginAccept, PollAccept, BeginReject, BeginDataOut, BeginAcceptSetAddress, Aside, Open, Close, Queue, Op, interrupt, slotted, other, aside, numbered, named-or-0, slottedCode, otherCode, asideCode, code, starting}
 use Rattle.wake_ups.specs.Twins.{Wakes≤, wakes-more, wakes-ret, wakes-bind, wakes-waken, wakes-row, wakes-wait, free, once, then-free, either, no-read, no-write, no-get, no-put, no-is, no-look, no-fetch, no-act, one-wake, no-hand, when-wakes, assign, assign-write, modifyReg-wakes, Within, within-quiet, within-bind, within-test, within-ret, within-operation}
 use Rattle.wake_ups.specs.Interrupt.{isoInComplete-wakes, stamped-wakes}
 
@@ -202,6 +208,37 @@ module _ {i : Bool} where
   started-within maximum (alloc.Refused n) = within-ret
   started-within maximum (alloc.Given ep base slots) = resultless-within {n = 0} (omega arith) (free no-hand (λ _. free no-write (λ _. free no-write (λ _. free no-write (λ _. no-write)))))
 
+-- ---- a list's allocation
+
+module _ {i : Bool} where
+  each-wakes : (es : List Endpoint) → Wakes≤ {i = i} 0 (allocateEach es)
+  unfolding allocateEach
+  each-wakes [] = wakes-ret
+  each-wakes (e ∷ es) = free (no-act (allocate (directionOf (e .address)) (e .kind) (e .address) (e .maximum) (e .interval)) tt) (λ _. each-wakes es)
+
+  announce-wakes : (d : Dir) (e : ℕ) → Wakes≤ {i = i} 0 (announce d e)
+  announce-wakes d e = free (no-get (ep-cell _ _)) (λ _. free no-write (λ _. free (when-wakes no-hand) (λ _. wakes-ret)))
+
+  beginsAt-wakes : (d : Dir) (x left e : ℕ) → Wakes≤ {i = i} 0 (beginsAt d x left e)
+  unfolding beginsAt
+  beginsAt-wakes d x zero e = wakes-ret
+  beginsAt-wakes d x (suc left) e = free (no-get allocator-cell) (λ _. free (no-get (ep-cell _ _)) (λ _. either wakes-ret (beginsAt-wakes d x left (suc e))))
+
+  after-wakes : (left total : ℕ) (d : Dir) (e : ℕ) → Wakes≤ {i = i} 0 (announceAfter left total d e)
+  unfolding announceAfter
+  after-wakes zero total d e = wakes-ret
+  after-wakes (suc left) total d e = free (free (no-get allocator-cell) (λ _. free (no-get (ep-cell _ _)) (λ _. wakes-ret))) (λ x. free (beginsAt-wakes Out x 15 1) (λ o. either
+      (free (beginsAt-wakes In x 15 1) (λ n. free (announce-wakes In n) (λ _. after-wakes left total In n)))
+      (free (announce-wakes Out o) (λ _. after-wakes left total Out o))))
+
+  announceAll-wakes : (es : List Endpoint) → Wakes≤ {i = i} 0 (announceAll es)
+  announceAll-wakes [] = wakes-ret
+  announceAll-wakes (e ∷ es) = free (announce-wakes _ _) (λ _. after-wakes _ _ _ _)
+
+  all-within : (bytes : List ℕ) (a : reading-answer.Answer) → Within {i = i} (allocate-read bytes a)
+  all-within bytes (reading.Refused n) = within-ret
+  all-within bytes reading.Listed = within-bind (no-get allocator-cell) (λ _. within-test (within-bind (each-wakes (listOf bytes)) (λ _. within-operation {n = 0} (omega arith) (announceAll-wakes (listOf bytes)))) within-ret)
+
 -- ---- every call
 
 slotted-within : (o : Slotted) → Within (slottedCode o)
@@ -214,6 +251,7 @@ slotted-within (BeginDataIn bs first last) = dataIn-within bs first last
 
 other-within : (o : Other) → Within (otherCode o)
 other-within (Allocate d kind address maximum interval) = staged-within 1 (within-bind (no-get allocator-cell) (λ a. within-bind (no-act (allocate d kind address maximum interval) tt) (λ _. allocated-within d kind maximum (allocateOf a kind address maximum d .answer))))
+other-within (AllocateAll bytes) = staged-within 1 (all-within bytes (readingOf bytes .answer))
 other-within (Start maximum) = staged-within 1 (within-bind (no-get allocator-cell) (λ a. within-bind (no-act (allocate0 maximum) tt) (λ _. started-within maximum (allocateEp0Of a maximum .answer))))
 other-within BusPoll = staged-within 2 (within-operation (omega arith) poll-wakes)
 other-within BusEnable = staged-within 2 (resultless-within {n = 0} (omega arith) modifyReg-wakes)

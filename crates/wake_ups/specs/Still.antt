@@ -8,7 +8,7 @@ use Rattle.bits.specs.Bit.{isSet}
 use Rattle.regs.specs.declared.Dir.the-variants.{Out, In}
 use Rattle.state.specs.Driver.{Driver, epOn, withOn, withLenOn, withStampOn, withPacedOn, withRequestOn}
 use Rattle.state.specs.Ep.{resetOf}
-use Rattle.state.specs.Fresh.{fillLens, clearStamps, noStamps}
+use Rattle.state.specs.Fresh.{clearStamps, noStamps}
 use Rattle.alloc.specs.declared.Answer.{Answer}
 use Rattle.alloc.specs.declared.Answer.the-variants.{Refused, Given}
 use Rattle.alloc.specs.Alloc.{allocateOf, allocateEp0Of}
@@ -19,7 +19,7 @@ use Rattle.script.specs.Cells.{Cell, Val, globals-cell, control-cell, allocator
 use Rattle.script.specs.Script.{Act, complete, reset-ring, set-enabled, fill, fill0, open-oldest, close-oldest, take-oldest, enqueue, allocate, allocate0, no-wakes, waken, Hand, arrive, send, place, place0, Row, switch, bus-reset}
 use Rattle.script.specs.Statics.{isOn, isoOuts}
 use Rattle.ops.specs.Records.{isoOut, configured, enabledOn, recordGiven, setsGiven, givenTo, allocatedOn, startedWith, allocatedEp0}
-use Rattle.ops.specs.Rings.{St, completeOn, emptied, emptiedOn, openOn, closeOn, takeOn, roomOn, queuedOn, enqueueOn, recordedOn, admittedOn, arrivedAt, arriveOn, sendOn, placeOn, renewedOn, armSlotOn, slotStep, typeStep, configStep, switchStep, resetBelow, resetAll, resetStep}
+use Rattle.ops.specs.Rings.{St, completeOn, emptied, emptiedOn, openOn, closeOn, takeOn, roomOn, queuedOn, enqueueOn, recordedOn, admittedOn, arrivedAt, arriveOn, sendOn, placeOn, renewedOn, armAt, slotStep, typeStep, configStep, switchStep, resetBelow, resetAll, resetStep}
 use Rattle.ops.specs.Conc.{conc}
 
 abbrev pub Quiet : Driver → Driver → Type 0
@@ -107,7 +107,7 @@ hand-still place0 s = refl
 -- ---- rows
 
 renewed-still : (b : Bool) (d : Driver) (e : ℕ) → Quiet d (cond b (renewedOn d e) d)
-unfolding renewedOn fillLens clearStamps withOn
+unfolding renewedOn clearStamps withOn
 renewed-still true d e = refl
 renewed-still false d e = refl
 
@@ -115,7 +115,7 @@ slot-still : (e k : ℕ) (s : St) → Quiet (s .0) (slotStep e k s .1 .0)
 unfolding slotStep withOn
 slot-still e k s = by (isOn (epOn (s .0) Out e .iso)) (eqb k 15)
   where
-    by : (b c : Bool) → Quiet (s .0) (cond b (armSlotOn e k (cond c (renewedOn (s .0) e) (s .0), s .1)) (epOn (s .0) Out e .«armed_slot», s) .1 .0)
+    by : (b c : Bool) → Quiet (s .0) (cond b (armAt e k (cond c (renewedOn (s .0) e) (s .0), s .1)) (epOn (s .0) Out e .«armed_slot», s) .1 .0)
     by true c = renewed-still c (s .0) e
     by false c = refl
 
