@@ -3,3 +3,5 @@ pub mod Still
 pub mod Twins
 pub mod Interrupt
 pub mod Calls
+pub mod Machines
+pub mod Code

@@ -112,8 +112,10 @@ module _ {i : Bool} {A : Type 0} where
   wakes-ret {n = n} = record { on = λ t f r. end t f (grown-none (t .0 .1) n) }
 
   pub wakes-bind : {B : Type 0} (m n : ℕ) {p : Script i B} {f : B → Script i A} → Wakes≤ m p → ((b : B) → Wakes≤ n (f b)) → Wakes≤ (m + n) (bind p f)
-  wakes-bind m n x y = record { on = λ t f r. twin-bind _ _ (x .on t f (omega (arith, r))) (λ l g. grown-le (omega arith) g)
-      (λ a u h g. twin-more (y a .on u h (omega (arith, r, grown-length g))) (λ l k. grown-then g k)) }
+  wakes-bind m n x y = record {
+    on = λ t f r. twin-bind _ _ (x .on t f (omega (arith, r))) (λ l g. grown-le (omega arith) g)
+        (λ a u h g. twin-more (y a .on u h (omega (arith, r, grown-length g))) (λ l k. grown-then g k));
+  }
 
   pub either : {n : ℕ} {b : Bool} {p q : Script i A} → Wakes≤ n p → Wakes≤ n q → Wakes≤ n (test b p q)
   either {b = true} x y = record { on = λ t f r. x .on t f r }
@@ -138,8 +140,10 @@ module _ {i : Bool} {A : Type 0} where
   wakes-callback {n = n} x = record { on = λ t f r. ask t f (grown-none _ n) (λ v u g e. twin-more (x .on u g (omega (arith, r, ap length e))) (grown-from e)) }
 
   pub wakes-hand : {n : ℕ} {q : Hand} {p : Script i A} → Wakes≤ n p → Wakes≤ n (hand-then q p)
-  wakes-hand {n = n} {q = q} x = record { on = λ t f r. ask (onto t (conc .hand q (bare t) .1)) (fits-by (t .0) _ (hand-still q (bare t)) f) (grown-none _ n)
-      (λ v u g e. twin-more (x .on u g (omega (arith, r, ap length e))) (grown-from e)) }
+  wakes-hand {n = n} {q = q} x = record {
+    on = λ t f r. ask (onto t (conc .hand q (bare t) .1)) (fits-by (t .0) _ (hand-still q (bare t)) f) (grown-none _ n)
+        (λ v u g e. twin-more (x .on u g (omega (arith, r, ap length e))) (grown-from e));
+  }
 
   -- what the state alone is asked or told
   pub wakes-get : {n : ℕ} {c : Cell} {k : Val c → Script i A} → ((v : Val c) → Wakes≤ n (k v)) → Wakes≤ n (get-then c k)
@@ -164,23 +168,27 @@ module _ {i : Bool} {A : Type 0} where
       of (received0 m) t f r = x _ .on t f r
 
   pub wakes-act : {n : ℕ} (q : Act) {p : Script i A} → Other q → Wakes≤ n p → Wakes≤ n (act-then q p)
-  wakes-act q h x = record { on = λ t f r.
-      let e = recorded-other q h (t .0 .1) in
-      twin-more
-      (x .on ((conc .act q (bare t) .0, recorded q (t .0 .1)), conc .act q (bare t) .1)
-      (subst (λ (l : List ℕ). Fits (conc .act q (bare t) .0, l)) (sym e) (fits-by (t .0) _ (act-still q h (bare t)) f)) (omega (arith, r, ap length e)))
-      (grown-from e) }
+  wakes-act q h x = record {
+    on = λ t f r.
+        let e = recorded-other q h (t .0 .1) in
+        twin-more
+        (x .on ((conc .act q (bare t) .0, recorded q (t .0 .1)), conc .act q (bare t) .1)
+        (subst (λ (l : List ℕ). Fits (conc .act q (bare t) .0, l)) (sym e) (fits-by (t .0) _ (act-still q h (bare t)) f)) (omega (arith, r, ap length e)))
+        (grown-from e);
+  }
 
   -- these count
   pub wakes-waken : {n : ℕ} (cs : List ℕ) {p : Script i A} → Wakes≤ n p → Wakes≤ (length cs + n) (act-then (waken cs) p)
-  wakes-waken cs x = record { on = λ t f r.
-      let w = t .0 .0 .wakes in
-      let h : w .count + length cs ≤ 64 = omega (arith, r, listed-count w (f .room), ap length (f .list)) in
-      twin-more
-      (x .on ((withWakes (t .0 .0) (all-woken cs w), t .0 .1 ++ cs), t .1)
-      (record { room = all-room cs w (f .room) h; list = all-listed cs w (f .room) h ∙ ap (λ (l : List ℕ). l ++ cs) (f .list) })
-      (omega (arith, r, length-append (t .0 .1) cs)))
-      (λ l g. grown-then (record { more = cs; by = refl; few = omega arith }) g) }
+  wakes-waken cs x = record {
+    on = λ t f r.
+        let w = t .0 .0 .wakes in
+        let h : w .count + length cs ≤ 64 = omega (arith, r, listed-count w (f .room), ap length (f .list)) in
+        twin-more
+        (x .on ((withWakes (t .0 .0) (all-woken cs w), t .0 .1 ++ cs), t .1)
+        (record { room = all-room cs w (f .room) h; list = all-listed cs w (f .room) h ∙ ap (λ (l : List ℕ). l ++ cs) (f .list) })
+        (omega (arith, r, length-append (t .0 .1) cs)))
+        (λ l g. grown-then (record { more = cs; by = refl; few = omega arith }) g);
+  }
 
   -- bind and test with the numbers that are most frequent
   pub free : {B : Type 0} {n : ℕ} {p : Script i B} {f : B → Script i A} → Wakes≤ 0 p → ((b : B) → Wakes≤ n (f b)) → Wakes≤ n (bind p f)
@@ -299,8 +307,10 @@ module _ {i : Bool} where
   ended-wakes x = then-free x (λ _. free no-fetch (λ _. wakes-ret))
 
   pub within-operation : {n : ℕ} {p : Script i ℕ} → n ≤ 64 → Wakes≤ n p → Within (operation p)
-  within-operation {n = n} h x = record { on = λ t f.
-      twin-more
-      (ended-wakes x .on ((withWakes (t .0 .0) none-woken, []), t .1)
-      (record { room = none-room; list = none-listed }) (omega (arith, h)))
-      (λ _ _. tt) }
+  within-operation {n = n} h x = record {
+    on = λ t f.
+        twin-more
+        (ended-wakes x .on ((withWakes (t .0 .0) none-woken, []), t .1)
+        (record { room = none-room; list = none-listed }) (omega (arith, h)))
+        (λ _ _. tt);
+  }
