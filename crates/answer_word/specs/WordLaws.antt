@@ -111,8 +111,11 @@ end-word : (n k : ℕ) → n < 2 ^ 16 → k < 2 ^ 8 → stepOf (endWord n k) ≡
 unfolding stepOf endWord
 end-word n k hn hk =
     let s : endWord n k % 2 ^ 4 ≡ 5 = omega arith in
-    let r : halfAt (endWord n k) 8 ≡ n = omega arith in
-    let c : byteAt (endWord n k) 24 ≡ k = omega arith in
+    let m : endWord n k / 2 ^ 8 ≡ n + k * 2 ^ 16 = omega arith in
+    let r : halfAt (endWord n k) 8 ≡ n = ap (λ m. m % 2 ^ 16) m ∙ low-half n k hn in
+    let o : endWord n k / 2 ^ 24 ≡ k = omega arith in
+    let l : k % 2 ^ 8 ≡ k = omega arith in
+    let c : byteAt (endWord n k) 24 ≡ k = ap (λ m. m % 2 ^ 8) o ∙ l in
     ap (λ s. ofKind s (endWord n k)) s ∙ (λ i. Ends (r i) (c i))
 
 done-word : (n : ℕ) → n < 2 ^ 16 → stepOf (doneWord n) ≡ Done n

@@ -22,8 +22,8 @@ use Rattle.marks.specs.Copies.{copied}
 use Rattle.marks.specs.Slots.{armed-slot, only-copied}
 use Rattle.marks.specs.Stored.{StoredAlone}
 use Rattle.marks.specs.Only as marks
-use Rattle.script.specs.Cells.{Cell, Val, globals-cell, wakes-cell, control-cell, allocator-cell, ep-cell, request-cell, paced-cell}
-use Rattle.script.specs.Script.{Act, complete, reset-ring, set-enabled, fill, fill0, open-oldest, close-oldest, take-oldest, enqueue, allocate, allocate0, Hand, arrive, send, place, place0, Row, switch, bus-reset}
+use Rattle.script.specs.Cells.{Cell, Val, globals-cell, control-cell, allocator-cell, ep-cell, request-cell, paced-cell}
+use Rattle.script.specs.Script.{Act, complete, reset-ring, set-enabled, fill, fill0, open-oldest, close-oldest, take-oldest, enqueue, allocate, allocate0, no-wakes, waken, Hand, arrive, send, place, place0, Row, switch, bus-reset}
 use Rattle.script.specs.Alike.{Phase, quiet}
 use Rattle.script.specs.Statics.{isOn}
 use Rattle.script.specs.Machine.{Buf}
@@ -58,7 +58,6 @@ module _ {φ : Phase} {b : Buf} {d : Driver} {t : Pages} (R : Rest φ b d t) (e 
 
   pub put-leaves : (c : Cell) (v : Val c) → Untouched (conc .put c v (d, b) .1)
   put-leaves globals-cell v = λ k l h. refl
-  put-leaves wakes-cell v = λ k l h. refl
   put-leaves control-cell v = λ k l h. refl
   put-leaves allocator-cell v = λ k l h. refl
   put-leaves (ep-cell dir f) v = λ k l h. refl
@@ -107,6 +106,8 @@ module _ {φ : Phase} {b : Buf} {d : Driver} {t : Pages} (R : Rest φ b d t) (e 
   act-leaves (enqueue f bytes) = enqueued f bytes (roomOn d f (length bytes)) refl
   act-leaves (allocate dir kind address maximum interval) = λ k l h. refl
   act-leaves (allocate0 maximum) = λ k l h. refl
+  act-leaves no-wakes = λ k l h. refl
+  act-leaves (waken codes) = λ k l h. refl
 
   -- ---- rows that are not its own
 

@@ -46,10 +46,12 @@ module _ (i : ℕ) (dir : Dir) (e : ℕ) (u : Under) (d : Driver) (a b : Buf) (t
       let n : isHanded (y .0) ≡ false = ap (λ (z : Called). isHanded (z .0)) k ∙ (accepts-is dir e true u d a b ∙ h) in
       settles i (begin (slotted (SetEnabled dir e true))) (machineAt u d a) t b y t (rw n refl) k (unchanged i (enabling dir e) (y .0) d t n)
 
-  pub begun : (y : Called) (after : List ℕ) → passes t (entryOf i dir e) (chargeOn d dir e) ≡ false → y ≡ drive (begin (slotted (SetEnabled dir e true))) (machineAt u d a) b
-      → after ≡ chargedAt (y .0) (entryOf i dir e) (chargeOn d dir e) t → (y, after) ≡ sharedCall i (begin (slotted (SetEnabled dir e true))) (machineAt u d a) t b
-  begun y after p k h =
-      settles i (begin (slotted (SetEnabled dir e true))) (machineAt u d a) t b y after (rw p (and-false (isHanded (y .0)))) k (h ∙ charged-is i dir e (y .0) d t)
+  pub begun : (y : Called) (after : List ℕ) (k c : ℕ) → k ≡ entryOf i dir e → c ≡ chargeOn d dir e → passes t k c ≡ false
+      → y ≡ drive (begin (slotted (SetEnabled dir e true))) (machineAt u d a) b → after ≡ chargedAt (y .0) k c t → (y, after) ≡ sharedCall i (begin (slotted (SetEnabled dir e true))) (machineAt u d a) t b
+  begun y after k c ek ec p q h =
+      let z : passes t (entryOf i dir e) (chargeOn d dir e) ≡ false = sym (λ j. passes t (ek j) (ec j)) ∙ p in
+      settles i (begin (slotted (SetEnabled dir e true))) (machineAt u d a) t b y after (rw z (and-false (isHanded (y .0)))) q
+      (h ∙ ((λ j. chargedAt (y .0) (ek j) (ec j) t) ∙ charged-is i dir e (y .0) d t))
 
 apart-stays : (i : ℕ) (a : Ans Answer) (d : Driver) (t : List ℕ) → t ≡ timeAfter i apart a d t
 apart-stays i (ended a) d t = refl

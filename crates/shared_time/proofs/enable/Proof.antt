@@ -61,8 +61,11 @@ same-length-3 c = search needs
 
 returns-3 : tie.Need-returns-3
 returns-3 c a =
-    let x = c .before .before .before .before .before .before .before .before .before .before .before .before .before .before .args in
-    begun (x .driver) (x .dir) (x .e) (decode (saved (now (x .s)))) (view (now (x .s))) a (now (x .slots)) (now (x .time)) _ _ (rw (← c .before .before .before .before .before .before .before .before .before .before .before .before .entry .ensures .0, ← c .before .before .before .before .before .before .before .before .before .before .charge-on .ensures .0) (sym (c .before .before .before .before .before .before .before .before .passes .ensures) ∙ c .before .before .before .before .before .before .before .if1 .left)) (c .before .before .before .before .begin-set-enabled2 .ensures a) (c .charged .ensures _ ∙ simp (c .before .before .before .before .before .before .before .before .before .before .before .before .entry .ensures .0, c .before .before .before .before .before .before .before .before .before .before .charge-on .ensures .0))
+    let k = c .before .before .before .before .before .before .before .before .before .before in
+    let x = k .before .before .before .before .args in
+    begun (x .driver) (x .dir) (x .e) (decode (saved (now (x .s)))) (view (now (x .s))) a (now (x .slots)) (now (x .time)) _ _ _ _ (k .before .before .entry .ensures .0) (k .charge-on .ensures .0)
+    (sym (c .before .before .before .before .before .before .before .before .passes .ensures) ∙ c .before .before .before .before .before .before .before .if1 .left)
+    (c .before .before .before .before .begin-set-enabled2 .ensures a) (c .charged .ensures _)
 
 pub enable-spec : {M : Type 1} → statement M
 enable-spec =
