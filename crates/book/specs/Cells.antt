@@ -374,6 +374,7 @@ puts (paced-cell e) v b d t r = (
 -- ---- wake-ups
 
 pub wakes-kept : {b : Buf} {d : Driver} {t : Pages} → Rest quiet b d t → (v w : Wakes) → v ≡ w → Rest quiet b (withWakes d v) (withKept t (keptWakes (t .kept) w))
+unfolding pacedOn requestOn epOn
 wakes-kept {d = d} r v w e = still r (wakes-still d v (r .sized)) (record {
   globals = r .same .globals;
   wakes = e;

@@ -123,7 +123,7 @@ steps-by (go v) t f x b = either (machine.misfit calls driverOf (t .0 .0) b) (re
 steps-by (question q) t f x b = record { answer = refl; pair = paired (t .0, b) f x }
 
 pub steps : (c : Call Config Op) (m : Machine Answer Driver) (n : Machine Answer Heard) → Pair m n → (b : Buf) → Alike (drive c m b) (hear c n b)
-steps c m n p b = subst (λ (z : Machine Answer Driver). Alike (drive c z b) (hear c n b)) (λ i. record { way = m .way; st = p .driver (~ i); buf = p .buf (~ i) }) (steps-by c (n .st, n .buf) (p .fits) (p .ways) b)
+steps c m n p b = subst (λ (z : Machine Answer Driver). Alike (drive c z b) (hear c n b)) (λ i. record { way = m .way; st = sym (p .driver) i; buf = sym (p .buf) i }) (steps-by c (n .st, n .buf) (p .fits) (p .ways) b)
 
 -- ---- every list of calls
 
