@@ -74,6 +74,42 @@ static void bus_time(void)
     to_end(0, word);
 }
 
+/* Goes on to the operation's end; each reading is the same. */
+static uint64_t finish(uint8_t *state, uint8_t *slots, uint16_t *time, uint64_t word, uint32_t reading)
+{
+    while (USBHS_KIND(word) >= USBHS_READ && USBHS_KIND(word) <= USBHS_CALLBACK)
+        word = usbhs_continue(state, slots, 64, time, 0, reading);
+    expect("finish: kind", USBHS_KIND(word), USBHS_END);
+    return word;
+}
+
+/* The tasks that ends give, in their order. */
+static void wake_ups(uint8_t *state, uint8_t *slots, uint16_t *time)
+{
+    static uint8_t room[USBHS_MOST_WAKES];
+    uint64_t word;
+    unsigned i;
+
+    finish(state, slots, time, usbhs_start_up(state, slots, 64, time, 0, 64, 1, 0), 0);
+    word = finish(state, slots, time, usbhs_start(state, 64), 0);
+    expect("start: wake-ups", USBHS_WAKES(word), 0);
+    word = finish(state, slots, time, usbhs_begin_set_stalled(state, 0, USBHS_OUT, 1), 0);
+    expect("stall OUT 0: wake-ups", USBHS_WAKES(word), 1);
+    room[1] = 9;
+    expect("stall OUT 0: woken", usbhs_woken(state, room), 1);
+    expect("stall OUT 0: who", room[0], 16);
+    expect("stall OUT 0: the room's rest", room[1], 9);
+    word = finish(state, slots, time, usbhs_begin_bus_poll(state), 0);
+    expect("power: event", USBHS_RESULT(word), 1);
+    expect("power: wake-ups", USBHS_WAKES(word), 0);
+    word = finish(state, slots, time, usbhs_begin_bus_poll(state), 1);
+    expect("bus reset: event", USBHS_RESULT(word), 2);
+    expect("bus reset: wake-ups", USBHS_WAKES(word), 32);
+    expect("bus reset: woken", usbhs_woken(state, room), 32);
+    for (i = 0; i < 32; i++)
+        expect("bus reset: who", room[i], (i + 16) % 32);
+}
+
 int main(void)
 {
     static uint8_t state[USBHS_STATE_LEN];
@@ -114,6 +150,8 @@ int main(void)
     expect("write: register", USBHS_REGISTER(word), USBHS_EP_TX_CTRL);
     expect("write: endpoint", USBHS_ENDPOINT(word), 3);
     expect("write: value", USBHS_VALUE(word), 0xFFFFFFFFu);
+
+    wake_ups(state, slots, time);
 
     if (!failed)
         printf("link: passed\n");

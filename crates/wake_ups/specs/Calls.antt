@@ -1,23 +1,20 @@
 -- Every call is within the room for 64, whatever is read: an operation wakes at most so often, and a call that is over at once wakes none
-use mathlib.Core.Bool.{Bool, true, false, cond}
+use mathlib.Core.Bool.{Bool, true, false}
 use mathlib.Core.List.{List, [], _∷_}
-use mathlib.Core.Path.{refl}
-use Prim.Native.Nat.{ℕ, zero, suc, _+_, _≤_}
+use Prim.Native.Nat.{ℕ, zero, suc, _≤_}
 use native.Mathlib.Omega.{arith}
-use lib.ListN.{length}
 use Rattle.regs.specs.declared.Dir.{Dir}
 use Rattle.regs.specs.declared.Dir.the-variants.{Out, In}
 use Rattle.state.specs.Wakes.{every-endpoint}
 use Rattle.state.specs.declared.Control.{Control}
-use Rattle.frame.specs.Advance.{completions}
 use Rattle.frame.specs.Laws.{completions-le}
 use Rattle.alloc.specs.declared.Answer as alloc-answer
 use Rattle.alloc.specs.declared.Answer.the-variants as alloc
 use Rattle.alloc.specs.Alloc.{allocateOf, allocateEp0Of}
 use Rattle.script.specs.Cells.{Plain, globals-cell, control-cell, allocator-cell, ep-cell, request-cell, paced-cell}
-use Rattle.script.specs.Script.{Script, row, act, reset-ring, set-enabled, fill, fill0, open-oldest, close-oldest, take-oldest, enqueue, allocate, allocate0, waken}
+use Rattle.script.specs.Script.{Script, reset-ring, set-enabled, fill, fill0, open-oldest, close-oldest, take-oldest, enqueue, allocate, allocate0}
 use Rattle.script.specs.Statics.{isOn, wakeAll}
-use Rattle.script.specs.Answers.{Answer, operation, resultless, staged, named, unless}
+use Rattle.script.specs.Answers.{Answer, resultless, staged, named, unless}
 use Rattle.script.specs.IsoIn.{isoInCompletions, isoInAdvance}
 use Rattle.script.specs.Bus as bus
 use Rattle.script.specs.Endpoint.{enabled-else, ends-request, polled, take-iso, take-ready, put-iso, sent-ready, arm-read, load-write}
@@ -30,7 +27,7 @@ use Rattle.preview.specs.Trial.{directionOf}
 use Rattle.script.specs.Driver.{allocated-as, started-as}
 use Rattle.script.specs.AllocateAll.{allocateEach, announce, beginsAt, announceAfter, announceAll, allocate-read}
 use Rattle.script.specs.Calls.{Config, Slotted, SetEnabled, PollRead, BeginWrite, PollWrite, PollDataOut, BeginDataIn, Other, Allocate, AllocateAll, Start, BusPoll, BusEnable, BusDisable, Microframe, SetStalled, IsStalled, SetPaced, Advance, BeginRead, BeginSetup, PollSetup, PollDataIn, BeginAccept, PollAccept, BeginReject, BeginDataOut, BeginAcceptSetAddress, Aside, Open, Close, Queue, Op, interrupt, slotted, other, aside, numbered, named-or-0, slottedCode, otherCode, asideCode, code, starting}
-use Rattle.wake_ups.specs.Twins.{Wakes≤, wakes-more, wakes-ret, wakes-bind, wakes-waken, wakes-row, wakes-wait, free, once, then-free, either, no-read, no-write, no-get, no-put, no-is, no-look, no-fetch, no-act, one-wake, no-hand, when-wakes, assign, assign-write, modifyReg-wakes, Within, within-quiet, within-bind, within-test, within-ret, within-operation}
+use Rattle.wake_ups.specs.Twins.{Wakes≤, wakes-more, wakes-ret, wakes-waken, wakes-row, wakes-wait, free, once, then-free, either, no-read, no-write, no-get, no-put, no-is, no-look, no-fetch, no-act, one-wake, no-hand, when-wakes, assign, assign-write, modifyReg-wakes, Within, within-quiet, within-bind, within-test, within-ret, within-operation}
 use Rattle.wake_ups.specs.Interrupt.{isoInComplete-wakes, stamped-wakes}
 
 -- ---- the checks that stand before a call

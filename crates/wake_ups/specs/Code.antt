@@ -1,6 +1,6 @@
 -- The same of the Rattle code, whose calls are steps of the machine of calls that the lent bytes are (book/specs/Code.antt)
 use mathlib.Core.List.{List, [], _∷_}
-use mathlib.Core.Path.{_≡_, sym, ap, subst, _∙_}
+use mathlib.Core.Path.{_≡_, sym, subst}
 use Prim.Native.Nat.{ℕ, zero, suc, _≤_}
 use native.Mathlib.Omega.{arith}
 use lib.ListN.{length, take}

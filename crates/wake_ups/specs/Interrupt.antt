@@ -1,7 +1,7 @@
 -- An interrupt wakes at most 54 times: the bus twice, an isochronous IN for each start of frame and late entry, an OUT for each arrival, what the
 -- token completes, EP0's hidden stage, and EP0's two directions at a setup
 use mathlib.Core.Bool.{Bool, true, false, cond, not, _&&_}
-use mathlib.Core.Path.{_≡_, refl}
+use mathlib.Core.Path.{refl}
 use Prim.Native.Nat.{ℕ, zero, suc, _+_, _≤_}
 use native.Mathlib.Omega.{arith}
 use Rattle.bits.specs.Walk.{setBits}
@@ -9,13 +9,13 @@ use Rattle.regs.specs.declared.Dir.{Dir}
 use Rattle.regs.specs.declared.Dir.the-variants.{Out, In}
 use Rattle.regs.specs.declared.Token.{Token}
 use Rattle.regs.specs.declared.Token.the-variants as tok
-use Rattle.regs.specs.Status.{endpoint, token, isSof, sofToken}
+use Rattle.regs.specs.Status.{token, isSof, sofToken}
 use Rattle.script.specs.declared.Transfer.{Transfer}
 use Rattle.script.specs.Cells.{globals-cell, ep-cell}
-use Rattle.script.specs.Script.{Script, complete, when, test, done}
+use Rattle.script.specs.Script.{complete, when}
 use Rattle.script.specs.IsoIn.{firstInFrame, isoInLoad, isoInComplete, unseen, sofOne, sofWalk, onSof, lateOne, lateWalk}
 use Rattle.script.specs.IsoOut.{arrives, checkOne, checkWalk, isoOutCheck}
-use Rattle.script.specs.Handler.{looks, sieWait, nakNonIso, toggled, retake, settle, received, sent, sofArm, outArm, isoInArm, inArm, dispatch, movedOn, ep0MovedOn, isoFor, framed, served, onTransfer, onSetup, onInterrupt, keepMicroframe, stampedInterrupt}
+use Rattle.script.specs.Handler.{looks, nakNonIso, toggled, retake, settle, received, sent, sofArm, outArm, isoInArm, inArm, dispatch, movedOn, ep0MovedOn, isoFor, framed, served, onTransfer, onSetup, onInterrupt, stampedInterrupt}
 use Rattle.wake_ups.specs.Twins.{Wakes≤, wakes-more, wakes-ret, wakes-bind, wakes-cond, wakes-mask, free, once, then-free, either, no-read, no-write, no-get, no-put, no-is, no-look, no-act, one-wake, no-hand, no-callback, when-wakes, assign, assign-write, modifyReg-wakes}
 
 -- of a token, by whether it is a start of frame

@@ -1,23 +1,18 @@
 -- The driver and the driver beside the record answer every call alike (request Nine): the list that an end gives has every wake-up since the
 -- operation's begin, in order, and none is lost
-use mathlib.Core.Bool.{Bool, true, false, not, cond}
+use mathlib.Core.Bool.{Bool, true, false, cond}
 use mathlib.Core.List.{List, [], _∷_}
-use mathlib.Core.Path.{_≡_, refl, sym, ap, subst, _∙_}
+use mathlib.Core.Path.{_≡_, refl, sym, subst}
 use Prim.Native.Nat.{ℕ, zero, suc}
 use native.Mathlib.Omega.{arith}
-use lib.Dec.{eqb}
-use lib.ListN.{length}
-use Rattle.regs.specs.declared.Access.{Access}
 use Rattle.state.specs.Driver.{Driver}
 use Rattle.state.specs.Fresh.{freshDriver}
 use Rattle.state.specs.WakesLaws.{none-room, none-listed}
 use Rattle.script.specs.Tree as tree
-use Rattle.script.specs.Tree.{ends, asks}
 use Rattle.script.specs.Answers.{Answer}
-use Rattle.script.specs.Statics.{flag}
 use Rattle.script.specs.Calls.{Config, Op, interrupt, slotted, other, aside, calls, startRow}
 use Rattle.script.specs.Machine as machine
-use Rattle.script.specs.Machine.{Buf, Event, Call, start, begin, go, question, Question, Ans, told, Awaits, Way, idle, busy, Machine, over, halt, beside, begun, continued, started, call}
+use Rattle.script.specs.Machine.{Buf, Event, Call, start, begin, go, question, Ans, Awaits, Way, idle, busy, Machine, over, halt, beside, begun, continued, started, call}
 use Rattle.ops.specs.Rings.{St}
 use Rattle.way.specs.Under.{driverOf, drive}
 use Rattle.wake_ups.specs.Heard.{Heard, Hst, bare, heardOps}
@@ -123,7 +118,7 @@ steps-by (go v) t f x b = either (machine.misfit calls driverOf (t .0 .0) b) (re
 steps-by (question q) t f x b = record { answer = refl; pair = paired (t .0, b) f x }
 
 pub steps : (c : Call Config Op) (m : Machine Answer Driver) (n : Machine Answer Heard) → Pair m n → (b : Buf) → Alike (drive c m b) (hear c n b)
-steps c m n p b = subst (λ (z : Machine Answer Driver). Alike (drive c z b) (hear c n b)) (λ i. record { way = m .way; st = p .driver (~ i); buf = p .buf (~ i) }) (steps-by c (n .st, n .buf) (p .fits) (p .ways) b)
+steps c m n p b = subst (λ (z : Machine Answer Driver). Alike (drive c z b) (hear c n b)) (λ i. record { way = m .way; st = sym (p .driver) i; buf = sym (p .buf) i }) (steps-by c (n .st, n .buf) (p .fits) (p .ways) b)
 
 -- ---- every list of calls
 

@@ -1,13 +1,12 @@
 -- No operation but a begin and a wake-up changes the wake-ups
 use mathlib.Core.Bool.{Bool, true, false, cond}
-use mathlib.Core.Path.{_≡_, refl, _∙_}
+use mathlib.Core.Path.{_≡_, refl}
 use Prim.Native.Nat.{ℕ, zero, suc, _%_}
 use lib.Dec.{eqb}
 use lib.ListN.{length}
 use Rattle.bits.specs.Bit.{isSet}
 use Rattle.regs.specs.declared.Dir.the-variants.{Out, In}
 use Rattle.state.specs.Driver.{Driver, epOn, withOn, withLenOn, withStampOn, withPacedOn, withRequestOn}
-use Rattle.state.specs.Ep.{resetOf}
 use Rattle.state.specs.Fresh.{clearStamps, noStamps}
 use Rattle.alloc.specs.declared.Answer.{Answer}
 use Rattle.alloc.specs.declared.Answer.the-variants.{Refused, Given}

@@ -11,12 +11,12 @@ use Rattle.bits.specs.Walk.{setBits, walk-length}
 use Rattle.regs.specs.declared.Access.{Access}
 use Rattle.regs.specs.declared.Reg.{Reg}
 use Rattle.state.specs.Driver.{Driver, withWakes}
-use Rattle.state.specs.Wakes.{Wakes, none-woken, listed, all-woken}
+use Rattle.state.specs.Wakes.{none-woken, listed, all-woken}
 use Rattle.state.specs.WakesLaws.{Room, none-room, none-listed, all-room, all-listed, listed-count}
 use Rattle.script.specs.Tree as tree
 use Rattle.script.specs.Tree.{ends, asks, Prog, bindOut}
 use Rattle.script.specs.Cells.{Cell, Val}
-use Rattle.script.specs.Script.{Script, run, rows, Test, Look, Fetch, oldest, received, received0, gathered, Act, complete, reset-ring, set-enabled, fill, fill0, open-oldest, close-oldest, take-oldest, enqueue, allocate, allocate0, no-wakes, waken, Hand, handAsk, Row, lastOf, rowAsk, ret, bind, test, read-then, write-then, wait-then, callback-then, get-then, put-then, is-then, look-then, fetch-then, act-then, hand-then, row-then, _>>=_, _>>_, done, when, read, write, callback, get, put, is, look, fetch, act, hand}
+use Rattle.script.specs.Script.{Script, run, rows, Test, Look, Fetch, oldest, received, received0, gathered, Act, complete, reset-ring, set-enabled, fill, fill0, open-oldest, close-oldest, take-oldest, enqueue, allocate, allocate0, no-wakes, waken, Hand, Row, lastOf, ret, bind, test, read-then, write-then, wait-then, callback-then, get-then, put-then, is-then, look-then, fetch-then, act-then, hand-then, row-then, _>>=_, _>>_, done, when, read, write, callback, get, put, is, look, fetch, act, hand}
 use Rattle.script.specs.Statics.{modifyReg}
 use Rattle.script.specs.Answers.{Answer, End, operation}
 use Rattle.ops.specs.Rings.{St}
