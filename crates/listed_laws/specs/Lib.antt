@@ -1,2 +1,5 @@
+pub mod Hands
 pub mod Given
 pub mod Settled
+pub mod Walk
+pub mod Order
