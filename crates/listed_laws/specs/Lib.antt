@@ -3,3 +3,4 @@ pub mod Given
 pub mod Settled
 pub mod Walk
 pub mod Order
+pub mod Preview

@@ -6,7 +6,7 @@ use Prim.Native.Nat.{ℕ, suc, _+_, _*_, _%_, _≤_, _<_}
 use native.Mathlib.Omega.{arith}
 use lib.Dec.{eqb}
 use lib.ListN.{length, getD}
-use borrow.Author.Tests.{eq-eqb}
+use borrow.Author.Tests.{eq-eqb, ne-eqb}
 use Rattle.regs.specs.declared.Access.{Access}
 use Rattle.regs.specs.declared.Access.the-variants.{Write}
 use Rattle.regs.specs.declared.Reg.the-variants.{EpMaxLen}
@@ -67,7 +67,7 @@ owns-wakes : (d : Driver) (w : Wakes) (dir : Dir) (n kind maximum x : ℕ) → O
 unfolding epOn
 owns-wakes d w dir n kind maximum x o = record { low = o .low; high = o .high; allocated = o .allocated; has-kind = o .has-kind; has-maximum = o .has-maximum; base = o .base; armed = o .armed; only = o .only }
 
-settled-wakes : (d : Driver) (w : Wakes) → Settled d → Settled (withWakes d w)
+pub settled-wakes : (d : Driver) (w : Wakes) → Settled d → Settled (withWakes d w)
 unfolding epOn
 settled-wakes d w s = record { sized = record { eps = s .sized .eps; lens = s .sized .lens; stamps = s .sized .stamps; paced = s .sized .paced; requests = s .sized .requests }; sound = s .sound; some = s .some; below = s .below }
 
@@ -165,7 +165,7 @@ module _ (d : Driver) (b : List ℕ) (e : Endpoint) (n x slots : ℕ) (q : asked
       ∙ ap (λ (p : ℕ × Driver). Write EpMaxLen n (e .maximum) ∷ handsOut (tail (not (eqb (e .kind % 4) 0)) p)) place-is
       ∙ ap (λ (l : List Access). Write EpMaxLen n (e .maximum) ∷ l) (tail-hands (not (eqb (e .kind % 4) 0)))
 
-  one-ends : endsWith (run conc (allocation e) (d, b)) ≡ (End n none-woken, (withWakes (oneOn d e) none-woken, b))
+  pub one-ends : endsWith (run conc (allocation e) (d, b)) ≡ (End n none-woken, (withWakes (oneOn d e) none-woken, b))
   one-ends =
       ap endsWith runs
       ∙ ap (λ (p : ℕ × Driver). endsWith (tail (not (eqb (e .kind % 4) 0)) p)) place-is
@@ -252,3 +252,22 @@ in-order d b bytes s stage small listed given =
       hands = ap handsOut r ∙ finish-hands (go (announceAll es) D b) ∙ h .0 ∙ ap (λ (y : ℕ). handed y (d .allocator .next * d .allocator .size) es) (all-size es d s a) ∙ sym (z .hands);
       ends-so = ap endsWith r ∙ finish-ends (go (announceAll es) D b) ∙ ap (λ (y : ℕ × St). (End (y .0) (y .1 .0 .wakes), y .1)) (h .1) ∙ ap (λ (y : Driver). (End (length es) none-woken, (y, b))) (sym (z .state));
     }
+
+-- ---- refused
+
+-- by the refusal of the first endpoint that would be refused: nothing is handed out, nothing changes
+pub none-given : (d : Driver) (b bytes : List ℕ) (n : ℕ) → d .globals .stage ≡ 1 → readingOf bytes .answer ≡ reading.Listed
+    → trialOf (d .allocator) (listOf bytes) .refusal ≡ n → (n ≡ 0 → ⊥) → run conc (otherCode (AllocateAll bytes)) (d, b) ≡ ends (answers.Refused n) (d, b)
+none-given d b bytes n stage listed refused some =
+    let es = listOf bytes in
+    ap (λ (t : Bool). cond t (run {i = false} conc (allocate-read bytes (readingOf bytes .answer)) (d, b)) (ends (answers.Refused 4) (d, b))) (eq-eqb (d .globals .stage) 1 stage)
+    ∙ ap (λ (y : reading-answer.Answer). run {i = false} conc (allocate-read bytes y) (d, b)) listed
+    ∙ ap (λ (k : ℕ). cond (eqb k 0) (bindOut (go (script.allocateEach {i = false} es) d b) (λ _ u. run {i = false} conc (operation (announceAll es)) u)) (ends (answers.Refused k) (d, b))) refused
+    ∙ rw (ne-eqb n 0 some)
+
+-- by 17 or 18
+pub unread : (d : Driver) (b bytes : List ℕ) (n : ℕ) → d .globals .stage ≡ 1 → readingOf bytes .answer ≡ reading.Refused n
+    → run conc (otherCode (AllocateAll bytes)) (d, b) ≡ ends (answers.Refused n) (d, b)
+unread d b bytes n stage refused =
+    ap (λ (t : Bool). cond t (run {i = false} conc (allocate-read bytes (readingOf bytes .answer)) (d, b)) (ends (answers.Refused 4) (d, b))) (eq-eqb (d .globals .stage) 1 stage)
+    ∙ ap (λ (y : reading-answer.Answer). run {i = false} conc (allocate-read bytes y) (d, b)) refused
