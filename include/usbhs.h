@@ -98,6 +98,18 @@ uint64_t usbhs_start_up(uint8_t state[USBHS_STATE_LEN], const uint8_t *slots, si
 uint64_t usbhs_allocate(uint8_t state[USBHS_STATE_LEN], uint32_t kind, uint32_t address, uint32_t maximum, uint32_t interval, uint32_t dir);
 uint64_t usbhs_start(uint8_t state[USBHS_STATE_LEN], uint32_t maximum);
 
+/* All endpoints of a configuration descriptor (USB 2.0, 9.6) as one operation, or none: those of alternate setting 0, then the others, each address
+ * once. It hands out what usbhs_allocate of each hands out, one after the other, and ends with how many there are.
+ * Rows 3 and 4; 17: no configuration descriptor, or one of more than 4,096 bytes; 18: one address has two transfer types; then 6, 7 or 8 of the
+ * first endpoint that would be refused. */
+uint64_t usbhs_allocate_all(uint8_t state[USBHS_STATE_LEN], const uint8_t *bytes, size_t length);
+
+/* What usbhs_allocate of each would give, up to the first refusal; the state stays as it is. Ends with how many numbers are given: they stand at the
+ * front of `numbers`, zeros behind them. *buffers: how many these take. *refusal: 6, 7 or 8, or 0 where all are given.
+ * Rows 3, 4, 17 and 18 as above; nothing is written then. */
+#define USBHS_NUMBERS_LEN 32
+uint64_t usbhs_preview(const uint8_t state[USBHS_STATE_LEN], const uint8_t *bytes, size_t length, uint8_t numbers[USBHS_NUMBERS_LEN], uint32_t *buffers, uint32_t *refusal);
+
 /* Goes on with the operation under way. */
 uint64_t usbhs_continue(uint8_t state[USBHS_STATE_LEN], uint8_t *slots, size_t slots_length, uint16_t time[USBHS_TIME_LEN], uint32_t driver, uint32_t value);
 

@@ -1,4 +1,5 @@
-/* The survey's calls, which take no driver: the best set of channels, the arrivals between a reader's visits, packets on the card. The library
+/* The survey's calls, which take no driver: the best set of channels, the arrivals between a reader's visits, packets on the card, a configuration
+ * descriptor's endpoints. The library
  * (libsurvey_c.a) has no state of its own, and links with or without the driver's.
  *
  * A slice is a pointer and a length; the bytes of one call must not overlap. Any number is safe.
@@ -89,6 +90,11 @@ uint64_t usbhs_card_finish(const uint32_t writer[USBHS_WRITER_LEN], uint8_t *blo
  * Row 21: a stream of no whole blocks; a room shorter than the packet, which a longer one then gets. */
 uint64_t usbhs_card_start(const uint8_t *stream, size_t stream_length, size_t *place);
 uint64_t usbhs_card_next(const uint8_t *stream, size_t stream_length, size_t *place, uint32_t *endpoint, uint8_t *room, size_t room_length);
+
+/* The endpoints of a configuration descriptor written into the room as one interface, alternate setting 0: done with 18 bytes and 7 for each, of which
+ * there are at most 32. Read again they are the same endpoints.
+ * Row 17: no configuration descriptor, one of more than 4,096 bytes, or a room too short; row 18: one address has two transfer types. */
+uint64_t usbhs_write_descriptor(const uint8_t *bytes, size_t length, uint8_t *room, size_t room_length);
 
 #ifdef __cplusplus
 }

@@ -1,5 +1,6 @@
 /* Links the proved archive and calls it on a state before start-up. */
 #include <stdio.h>
+#include <string.h>
 #include "usbhs.h"
 
 static int failed;
@@ -110,6 +111,92 @@ static void wake_ups(uint8_t *state, uint8_t *slots, uint16_t *time)
         expect("bus reset: who", room[i], (i + 16) % 32);
 }
 
+/* IN 1 isochronous and OUT 2 bulk in setting 0; IN 1 again, smaller and more often, and OUT 3 interrupt in setting 1 */
+static const uint8_t board[] = {
+    9, 2, 55, 0, 1, 1, 0, 0x80, 50,
+    9, 4, 0, 0, 2, 0xFF, 0, 0, 0,
+    7, 5, 0x81, 1, 0x00, 0x02, 4,
+    7, 5, 0x02, 2, 0x00, 0x02, 0,
+    9, 4, 0, 1, 2, 0xFF, 0, 0, 0,
+    7, 5, 0x81, 1, 0x00, 0x01, 1,
+    7, 5, 0x03, 3, 0x08, 0x00, 1,
+};
+
+static void refused(const char *what, uint64_t word, unsigned row)
+{
+    expect(what, USBHS_KIND(word), USBHS_REFUSED);
+    expect(what, USBHS_ROW(word), row);
+}
+
+static void wrote(const char *what, uint64_t word, unsigned reg, unsigned endpoint, unsigned value)
+{
+    expect(what, USBHS_KIND(word), USBHS_WRITE);
+    expect(what, USBHS_REGISTER(word), reg);
+    expect(what, USBHS_ENDPOINT(word), endpoint);
+    expect(what, USBHS_VALUE(word), value);
+}
+
+static void previewed(const char *what, const uint8_t *state, unsigned count, unsigned buffers, unsigned refusal)
+{
+    uint8_t numbers[USBHS_NUMBERS_LEN];
+    uint32_t b = 77, r = 77;
+    unsigned i;
+    uint64_t word = usbhs_preview(state, board, sizeof board, numbers, &b, &r);
+
+    expect(what, USBHS_KIND(word), USBHS_END);
+    expect(what, USBHS_RESULT(word), count);
+    for (i = 0; i < USBHS_NUMBERS_LEN; i++)
+        expect(what, numbers[i], i < count ? i + 1 : 0);
+    expect(what, b, buffers);
+    expect(what, r, refusal);
+}
+
+/* A board's endpoints on `count` buffers of 512 bytes: the first takes two, the others one each. */
+static void listed(unsigned count)
+{
+    static uint8_t state[USBHS_STATE_LEN], before[USBHS_STATE_LEN], slots[4 * 512];
+    static uint16_t time[USBHS_TIME_LEN];
+    uint8_t clash[sizeof board];
+    uint8_t numbers[USBHS_NUMBERS_LEN] = {7};
+    uint32_t b = 77, r = 77;
+    uint64_t word;
+
+    memset(state, 0, sizeof state);
+    refused("before start-up", usbhs_allocate_all(state, board, sizeof board - 1), 4);
+    refused("preview before start-up", usbhs_preview(state, board, sizeof board - 1, numbers, &b, &r), 4);
+    word = usbhs_start_up(state, slots, count * 512, time, 0, 512, count, 0);
+    refused("during start-up", usbhs_allocate_all(state, board, sizeof board - 1), 3);
+    refused("preview during start-up", usbhs_preview(state, board, sizeof board, numbers, &b, &r), 3);
+    while (USBHS_KIND(word) != USBHS_END)
+        word = usbhs_continue(state, slots, count * 512, time, 0, 0);
+    memcpy(before, state, sizeof state);
+    memcpy(clash, board, sizeof board);
+    clash[44] = 2;
+    refused("two types", usbhs_allocate_all(state, clash, sizeof clash), 18);
+    clash[0] = 8;
+    refused("two types, and no descriptor", usbhs_allocate_all(state, clash, sizeof clash), 17);
+    refused("preview: no descriptor", usbhs_preview(state, clash, sizeof clash, numbers, &b, &r), 17);
+    expect("refused: rooms", numbers[0] == 7 && b == 77 && r == 77, 1);
+    if (count < 4) {
+        previewed("preview, a buffer too few", state, 2, 3, 8);
+        refused("a buffer too few", usbhs_allocate_all(state, board, sizeof board), 8);
+        expect("refused: state", memcmp(state, before, sizeof state) != 0, 0);
+        return;
+    }
+    previewed("preview", state, 3, 4, 0);
+    expect("preview: state", memcmp(state, before, sizeof state) != 0, 0);
+    wrote("IN 1: maximum", usbhs_allocate_all(state, board, sizeof board), USBHS_EP_MAX_LEN, 1, 512);
+    wrote("IN 1: buffer", usbhs_continue(state, slots, count * 512, time, 0, 0), USBHS_EP_TX_DMA, 1, 0);
+    wrote("OUT 2: maximum", usbhs_continue(state, slots, count * 512, time, 0, 0), USBHS_EP_MAX_LEN, 2, 512);
+    wrote("OUT 2: buffer", usbhs_continue(state, slots, count * 512, time, 0, 0), USBHS_EP_RX_DMA, 2, 1024);
+    wrote("OUT 3: maximum", usbhs_continue(state, slots, count * 512, time, 0, 0), USBHS_EP_MAX_LEN, 3, 8);
+    wrote("OUT 3: buffer", usbhs_continue(state, slots, count * 512, time, 0, 0), USBHS_EP_RX_DMA, 3, 1536);
+    word = usbhs_continue(state, slots, count * 512, time, 0, 0);
+    expect("listed: end", USBHS_KIND(word), USBHS_END);
+    expect("listed: how many", USBHS_RESULT(word), 3);
+    previewed("preview, all taken", state, 0, 0, 7);
+}
+
 int main(void)
 {
     static uint8_t state[USBHS_STATE_LEN];
@@ -152,6 +239,8 @@ int main(void)
     expect("write: value", USBHS_VALUE(word), 0xFFFFFFFFu);
 
     wake_ups(state, slots, time);
+    listed(4);
+    listed(3);
 
     if (!failed)
         printf("link: passed\n");

@@ -90,6 +90,45 @@ static void channels(void)
     expect("sixteen channels: looked", l, 65536);
 }
 
+/* ---- a descriptor: IN 1 isochronous and OUT 2 bulk in setting 0; IN 1 again, smaller and more often, and OUT 3 interrupt in setting 1 */
+
+static void descriptors(void)
+{
+    static const uint8_t board[] = {
+        9, 2, 55, 0, 1, 1, 0, 0x80, 50,
+        9, 4, 0, 0, 2, 0xFF, 0, 0, 0,
+        7, 5, 0x81, 1, 0x00, 0x02, 4,
+        7, 5, 0x02, 2, 0x00, 0x02, 0,
+        9, 4, 0, 1, 2, 0xFF, 0, 0, 0,
+        7, 5, 0x81, 1, 0x00, 0x01, 1,
+        7, 5, 0x03, 3, 0x08, 0x00, 1,
+    };
+    static const uint8_t list[39] = {
+        9, 2, 39, 0, 1, 0, 0, 0, 0,
+        9, 4, 0, 0, 3, 0, 0, 0, 0,
+        7, 5, 0x81, 1, 0x00, 0x02, 1,
+        7, 5, 0x02, 2, 0x00, 0x02, 0,
+        7, 5, 0x03, 3, 0x08, 0x00, 1,
+    };
+    uint8_t clash[sizeof board], room[64];
+    uint64_t word;
+
+    memset(room, 0xEE, sizeof room);
+    refused("a room of 38", usbhs_write_descriptor(board, sizeof board, room, 38), 17);
+    refused("a byte short", usbhs_write_descriptor(board, sizeof board - 1, room, sizeof room), 17);
+    memcpy(clash, board, sizeof board);
+    clash[44] = 2;
+    refused("two types", usbhs_write_descriptor(clash, sizeof clash, room, sizeof room), 18);
+    expect("refused: room", room[0], 0xEE);
+    word = usbhs_write_descriptor(board, sizeof board, room, sizeof room);
+    expect("written", USBHS_KIND(word), USBHS_DONE);
+    expect("written: length", USBHS_LENGTH(word), sizeof list);
+    expect("written: bytes", memcmp(room, list, sizeof list) != 0, 0);
+    expect("written: behind", room[sizeof list], 0xEE);
+    word = usbhs_write_descriptor(list, sizeof list, room, sizeof room);
+    expect("again: bytes", memcmp(room, list, sizeof list) != 0, 0);
+}
+
 /* ---- visits */
 
 static void between(const char *what, uint32_t a, uint32_t b, uint32_t c, uint32_t d, unsigned least, unsigned greatest)
@@ -227,6 +266,7 @@ static void read_back(void)
 int main(void)
 {
     channels();
+    descriptors();
     visits();
     expect("crc", usbhs_data_crc((const uint8_t *)"123456789", 9), 0xB4C8);
     expect("crc of none", usbhs_data_crc(stream, 0), 0);

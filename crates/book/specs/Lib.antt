@@ -33,3 +33,4 @@ pub mod Hands
 pub mod Admits
 pub mod Served
 pub mod CodeReadings
+pub mod Listed

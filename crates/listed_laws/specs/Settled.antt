@@ -87,7 +87,7 @@ module _ (d : Driver) (e : Endpoint) (n x slots : ℕ) (q : asked (d .allocator)
   g : Gives (d .allocator) (isIso (e .kind)) (directionOf (e .address)) n x slots (asked (d .allocator) e .after)
   g = gives (d .allocator) e n x slots q
 
-  same-size : oneOn d e .allocator .size ≡ d .allocator .size
+  pub same-size : oneOn d e .allocator .size ≡ d .allocator .size
   same-size = ap (λ (a : Allocator). a .size) (one-allocator d e n x slots q) ∙ g .number .same-size
 
   next-is : oneOn d e .allocator .next ≡ d .allocator .next + slots
@@ -110,7 +110,7 @@ module _ (d : Driver) (e : Endpoint) (n x slots : ℕ) (q : asked (d .allocator)
   base-here = ap (λ (r : EpState). r .base) here
 
   -- its buffers end where the next free one begins
-  more : x + slots * d .allocator .size ≡ oneOn d e .allocator .next * oneOn d e .allocator .size
+  pub more : x + slots * d .allocator .size ≡ oneOn d e .allocator .next * oneOn d e .allocator .size
   more = rw (same-size, next-is, g .starts) (sym (add-mul (d .allocator .next) slots (d .allocator .size)))
 
   some-room : 1 ≤ slots * d .allocator .size
