@@ -3,3 +3,4 @@ pub mod History
 pub mod Limit
 pub mod Histories
 pub mod Runs
+pub mod Code

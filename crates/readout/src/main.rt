@@ -162,6 +162,9 @@ fn enabled(s: &mut [u8; STATE_LEN], slots: &mut [u8], time: &mut [u16; TIME_LEN]
     enable(s, slots, time, b"\nenable the isochronous IN\n", Dir::In, 1);
     enable(s, slots, time, b"\nenable the bulk OUT\n", Dir::Out, 2);
     enable(s, slots, time, b"\nenable the bulk IN\n", Dir::In, 2);
+}
+
+fn time_in_use(time: &[u16; TIME_LEN]) {
     print(b"\nbus time in use: ");
     number(bus_time::in_use(time));
     print(b" byte-times of 6,000\n");
@@ -195,6 +198,7 @@ fn main() {
     started(&mut s, &mut slots, &mut time);
     others(&mut s, &mut slots, &mut time);
     enabled(&mut s, &mut slots, &mut time);
+    time_in_use(&time);
     slots[0] = 0x11;
     slots[1] = 0x22;
     slots[2] = 0x33;

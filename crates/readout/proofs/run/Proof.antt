@@ -6,13 +6,12 @@ use Rattle.readout.proofs.run.Tie as tie
 use Rattle.readout.proofs.run.Reads as reads
 use Rattle.readout.proofs.run.Lts as lts
 use Rattle.readout.proofs.steps.show.Reads as show-reads
-use Rattle.proceeding.proofs.proceed.Reads as proceed-reads
 
 abbrev Inv-loop : tie.InvT-loop
-Inv-loop s₀ slots₀ arrived step₀ left₀ s slots step left = length slots ≡ length slots₀
+Inv-loop s₀ slots₀ time₀ arrived step₀ left₀ s slots time step left = length slots ≡ length slots₀
 
 abbrev μ-loop : tie.MeasureT-loop
-μ-loop s₀ slots₀ arrived step₀ left₀ s slots step left = left
+μ-loop s₀ slots₀ time₀ arrived step₀ left₀ s slots time step left = left
 
 show-requires : tie.Need-show-requires Inv-loop μ-loop
 show-requires c κs = search needs

@@ -1,0 +1,86 @@
+-- The same of the Rattle code: what its calls make of four drivers' lent bytes and the lent record. The contract of each call says that it is one step of
+-- the machine of calls that the bytes are; that of start-up, enabling and continue, with the record (shared_time/specs/Sharing.antt)
+use mathlib.Core.Bool.{Bool, true, false, cond}
+use mathlib.Core.List.{List, [], _∷_}
+use mathlib.Core.Path.{_≡_, refl, ap, sym, _∙_}
+use Prim.Native.Nat.{ℕ, _%_, _≤_}
+use lib.Dec.{eqb}
+use Rattle.state.specs.Driver.{Driver}
+use Rattle.script.specs.Answers.{Answer}
+use Rattle.script.specs.Calls.{Config, Op}
+use Rattle.script.specs.Machine.{Buf, Event, Machine, Ans}
+use Rattle.way.specs.Under.{machineOf}
+use Rattle.way.specs.Goes.{Called}
+use Rattle.bus_time.specs.Time.{inUse, uncharged}
+use Rattle.four_drivers.specs.Four.{Four, Turn, called, changed, next, after}
+use Rattle.four_drivers.specs.History.{history, timeBy}
+use Rattle.four_drivers.specs.Limit.{limit}
+use Rattle.four_drivers.specs.Histories.{in-use-is}
+
+-- each driver's state and slot buffer by its number, and the record
+pub record Lent : Type 0 where
+  pub bytes : ℕ → List ℕ
+  pub slots : ℕ → Buf
+  pub time : List ℕ
+
+-- what they are
+abbrev pub fourOf : Lent → Four
+fourOf l = record { driver = λ i. machineOf (l .bytes i) (l .slots i); time = l .time }
+
+-- a call that was made: what it answered, the caller's bytes, its slot buffer and the record as the call left them
+pub record Made : Type 0 where
+  pub turn : Turn
+  pub answer : Ans Answer
+  pub bytes : List ℕ
+  pub slots : Buf
+  pub time : List ℕ
+
+-- its contract
+abbrev pub Did : Lent → Made → Type 0
+Did l m = ((m .answer, machineOf (m .bytes) (m .slots)), m .time) ≡ called (m .turn) (fourOf l)
+
+abbrev pub left : Lent → Made → Lent
+left l m = record {
+  bytes = λ j. cond (eqb j (m .turn .who % 4)) (m .bytes) (l .bytes j);
+  slots = λ j. cond (eqb j (m .turn .who % 4)) (m .slots) (l .slots j);
+  time = m .time;
+}
+
+-- calls one after the other, each as its contract says
+abbrev pub Run : Lent → List Made → Type 0
+Run l [] = Unit {0}
+Run l (m ∷ ms) = Did l m × Run (left l m) ms
+
+abbrev pub turns : List Made → List Turn
+turns [] = []
+turns (m ∷ ms) = m .turn ∷ turns ms
+
+abbrev pub last : Lent → List Made → Lent
+last l [] = l
+last l (m ∷ ms) = last (left l m) ms
+
+-- ---- laws
+
+step : (l : Lent) (m : Made) → Did l m → fourOf (left l m) ≡ next (m .turn) (fourOf l)
+step l m h = λ i. record { driver = λ j. drivers j i; time = ap (λ (x : Called × List ℕ). x .1) h i }
+  where
+    by : (b : Bool) (j : ℕ) → machineOf (cond b (m .bytes) (l .bytes j)) (cond b (m .slots) (l .slots j)) ≡ cond b (called (m .turn) (fourOf l) .0 .1) (machineOf (l .bytes j) (l .slots j))
+    by true j = ap (λ (x : Called × List ℕ). x .0 .1) h
+    by false j = refl
+
+    drivers : (j : ℕ) → fourOf (left l m) .driver j ≡ next (m .turn) (fourOf l) .driver j
+    drivers j = by (eqb j (m .turn .who % 4)) j
+
+made-after : (ms : List Made) (l : Lent) → Run l ms → fourOf (last l ms) ≡ after (turns ms) (fourOf l)
+made-after [] l r = refl
+made-after (m ∷ ms) l r = made-after ms (left l m) (r .1) ∙ ap (after (turns ms)) (step l m (r .0))
+
+module _ (ms : List Made) (l : Lent) (run : Run l ms) (none : l .time ≡ uncharged) where
+  time-after : last l ms .time ≡ after (turns ms) (fourOf l) .time
+  time-after = ap (λ (f : Four). f .time) (made-after ms l run)
+
+  pub code-limit : inUse (last l ms .time) ≤ 6000
+  code-limit = rw time-after (limit (turns ms) (fourOf l) none)
+
+  pub code-in-use : inUse (last l ms .time) ≡ timeBy (history (turns ms) (fourOf l))
+  code-in-use = ap inUse time-after ∙ in-use-is (turns ms) (fourOf l) none
