@@ -12,8 +12,7 @@ use Rattle.regs.specs.declared.Access.the-variants.{Write}
 use Rattle.regs.specs.declared.Reg.the-variants.{EpMaxLen}
 use Rattle.regs.specs.declared.Dir.{Dir}
 use Rattle.state.specs.declared.Allocator.{Allocator}
-use Rattle.state.specs.declared.Wakes.{Wakes}
-use Rattle.state.specs.Wakes.{none-woken}
+use Rattle.state.specs.Wakes.{Wakes, none-woken, listed}
 use Rattle.state.specs.Driver.{Driver, epOn, withOn, withWakes, withAllocator}
 use Rattle.alloc.specs.declared.Answer.{Answer}
 use Rattle.alloc.specs.declared.Answer.the-variants.{Refused, Given}
@@ -29,7 +28,6 @@ use Rattle.preview.specs.Trial.{directionOf, asked, trialOf}
 use Rattle.preview.specs.OneByOne.{Run, all, stopped, goes, one-by-one}
 use Rattle.script.specs.Tree as tree
 use Rattle.script.specs.Tree.{ends, asks, bindOut}
-use Rattle.script.specs.Cells.{wakes-cell}
 use Rattle.script.specs.Script.{Script, ret, _>>=_, get, run, dma}
 use Rattle.script.specs.Answers as answers
 use Rattle.script.specs.Answers.{End, operation}
@@ -126,7 +124,7 @@ module _ (d : Driver) (b : List ℕ) (e : Endpoint) (n x slots : ℕ) (q : asked
   after = withWakes (oneOn d e) none-woken
 
   abbrev lastly : ℕ → St → tree.Out St answers.Answer
-  lastly k u = ends (End k (u .0 .wakes)) u
+  lastly k u = ends (End k (listed (u .0 .wakes))) u
 
   abbrev buffer : Bool → ℕ × Driver → tree.Out St Unit
   buffer c p = cond c (asks (dma (directionOf (e .address)) n (p .0)) (p .1, b) (λ _ u. ends tt u)) (ends tt (withWakes (oneOn d e) none-woken, b))
@@ -155,7 +153,8 @@ module _ (d : Driver) (b : List ℕ) (e : Endpoint) (n x slots : ℕ) (q : asked
   tail-hands true = refl
   tail-hands false = refl
 
-  tail-ends : (c : Bool) → endsWith (tail c (pair x (withWakes (oneOn d e) none-woken))) ≡ (End n none-woken, (withWakes (oneOn d e) none-woken, b))
+  tail-ends : (c : Bool) → endsWith (tail c (pair x (withWakes (oneOn d e) none-woken))) ≡ (End n [], (withWakes (oneOn d e) none-woken, b))
+  unfolding listed
   tail-ends true = refl
   tail-ends false = refl
 
@@ -165,7 +164,7 @@ module _ (d : Driver) (b : List ℕ) (e : Endpoint) (n x slots : ℕ) (q : asked
       ∙ ap (λ (p : ℕ × Driver). Write EpMaxLen n (e .maximum) ∷ handsOut (tail (not (eqb (e .kind % 4) 0)) p)) place-is
       ∙ ap (λ (l : List Access). Write EpMaxLen n (e .maximum) ∷ l) (tail-hands (not (eqb (e .kind % 4) 0)))
 
-  pub one-ends : endsWith (run conc (allocation e) (d, b)) ≡ (End n none-woken, (withWakes (oneOn d e) none-woken, b))
+  pub one-ends : endsWith (run conc (allocation e) (d, b)) ≡ (End n [], (withWakes (oneOn d e) none-woken, b))
   one-ends =
       ap endsWith runs
       ∙ ap (λ (p : ℕ × Driver). endsWith (tail (not (eqb (e .kind % 4) 0)) p)) place-is
@@ -205,13 +204,13 @@ stepwise (e ∷ es) d b s stage (goes-on _ _ _ n x slots q r) g =
 -- ---- as one operation
 
 abbrev finishing : ℕ → St → tree.Out St answers.Answer
-finishing k u = ends (End k (u .0 .wakes)) u
+finishing k u = ends (End k (listed (u .0 .wakes))) u
 
 finish-hands : (o : tree.Out St ℕ) → handsOut (bindOut o finishing) ≡ handsOut o
 finish-hands (ends n s) = refl
 finish-hands (asks q s k) = ap (λ (l : List Access). q ∷ l) (finish-hands (k 0 s))
 
-finish-ends : (o : tree.Out St ℕ) → endsWith (bindOut o finishing) ≡ (End (endsWith o .0) (endsWith o .1 .0 .wakes), endsWith o .1)
+finish-ends : (o : tree.Out St ℕ) → endsWith (bindOut o finishing) ≡ (End (endsWith o .0) (listed (endsWith o .1 .0 .wakes)), endsWith o .1)
 finish-ends (ends n s) = refl
 finish-ends (asks q s k) = finish-ends (k 0 s)
 
@@ -230,13 +229,14 @@ all-hands (e ∷ es) d b x c =
 -- after the other; it ends with how many were given, and with the state that these leave
 pub record InOrder (d : Driver) (b bytes : List ℕ) : Type 0 where
   pub hands : handsOut (run conc (otherCode (AllocateAll bytes)) (d, b)) ≡ oneByOne (listOf bytes) (d, b) .0
-  pub ends-so : endsWith (run conc (otherCode (AllocateAll bytes)) (d, b)) ≡ (End (length (listOf bytes)) none-woken, (withWakes (oneByOne (listOf bytes) (d, b) .1 .0) none-woken, b))
+  pub ends-so : endsWith (run conc (otherCode (AllocateAll bytes)) (d, b)) ≡ (End (length (listOf bytes)) [], (withWakes (oneByOne (listOf bytes) (d, b) .1 .0) none-woken, b))
 
 pub in-order : (d : Driver) (b bytes : List ℕ) → Settled d → d .globals .stage ≡ 1 → ((j : ℕ) → getD bytes j 0 < 256) → readingOf bytes .answer ≡ reading.Listed
     → trialOf (d .allocator) (listOf bytes) .refusal ≡ 0 → InOrder d b bytes
-in-order d b bytes s stage small listed given =
+unfolding listed
+in-order d b bytes s stage small reads given =
     let es = listOf bytes in
-    let g = accepted bytes small listed .good in
+    let g = accepted bytes small reads .good in
     let o = one-by-one (d .allocator) es (few es g) in
     let a = accepts (o .run) (sym (ap (λ (t : Trial). t .refusal) (o .trial)) ∙ given) in
     let D = withWakes (eachOn d es) none-woken in
@@ -245,12 +245,12 @@ in-order d b bytes s stage small listed given =
     let z = stepwise es d b s stage a g in
     let r : run conc (otherCode (AllocateAll bytes)) (d, b) ≡ bindOut (go (announceAll es) D b) finishing =
     ap (λ (t : Bool). cond t (run {i = false} conc (allocate-read bytes (readingOf bytes .answer)) (d, b)) (ends (answers.Refused 4) (d, b))) (eq-eqb (d .globals .stage) 1 stage)
-    ∙ ap (λ (y : reading-answer.Answer). run {i = false} conc (allocate-read bytes y) (d, b)) listed
+    ∙ ap (λ (y : reading-answer.Answer). run {i = false} conc (allocate-read bytes y) (d, b)) reads
     ∙ ap (λ (t : Bool). cond t (bindOut (go (script.allocateEach {i = false} es) d b) (λ _ u. run {i = false} conc (operation (announceAll es)) u)) (ends (answers.Refused (trialOf (d .allocator) es .refusal)) (d, b))) (eq-eqb (trialOf (d .allocator) es .refusal) 0 given)
     ∙ ap (λ (y : tree.Out St Unit). bindOut y (λ _ u. run {i = false} conc (operation (announceAll es)) u)) (each-run es d b) in
     record {
       hands = ap handsOut r ∙ finish-hands (go (announceAll es) D b) ∙ h .0 ∙ ap (λ (y : ℕ). handed y (d .allocator .next * d .allocator .size) es) (all-size es d s a) ∙ sym (z .hands);
-      ends-so = ap endsWith r ∙ finish-ends (go (announceAll es) D b) ∙ ap (λ (y : ℕ × St). (End (y .0) (y .1 .0 .wakes), y .1)) (h .1) ∙ ap (λ (y : Driver). (End (length es) none-woken, (y, b))) (sym (z .state));
+      ends-so = ap endsWith r ∙ finish-ends (go (announceAll es) D b) ∙ ap (λ (y : ℕ × St). (End (y .0) (listed (y .1 .0 .wakes)), y .1)) (h .1) ∙ ap (λ (y : Driver). (End (length es) [], (y, b))) (sym (z .state));
     }
 
 -- ---- refused

@@ -43,7 +43,7 @@ use Rattle.listed_laws.specs.Order.{settled-wakes, one-ends}
 pub data Calls : St → List Endpoint → List ℕ → ℕ → Type 0 where
   all-given : (s : St) → Calls s [] [] 0
   refused : (s : St) (e : Endpoint) (es : List Endpoint) (n : ℕ) → run conc (allocation e) s ≡ ends (answers.Refused n) s → Calls s (e ∷ es) [] n
-  ended : (s t : St) (e : Endpoint) (es : List Endpoint) (k : ℕ) → endsWith (run conc (allocation e) s) ≡ (End k none-woken, t) → (ns : List ℕ) (n : ℕ) → Calls t es ns n → Calls s (e ∷ es) (k ∷ ns) n
+  ended : (s t : St) (e : Endpoint) (es : List Endpoint) (k : ℕ) → endsWith (run conc (allocation e) s) ≡ (End k [], t) → (ns : List ℕ) (n : ℕ) → Calls t es ns n → Calls s (e ∷ es) (k ∷ ns) n
 
 -- ---- a refused call changes nothing
 
