@@ -112,7 +112,9 @@ unfolding stepOf endWord
 end-word n k hn hk =
     let s : endWord n k % 2 ^ 4 ≡ 5 = omega arith in
     let r : halfAt (endWord n k) 8 ≡ n = omega arith in
-    let c : byteAt (endWord n k) 24 ≡ k = omega arith in
+    let d : endWord n k / 2 ^ 24 ≡ k = omega arith in
+    let m : k % 2 ^ 8 ≡ k = omega arith in
+    let c : byteAt (endWord n k) 24 ≡ k = ap (λ x. x % 2 ^ 8) d ∙ m in
     ap (λ s. ofKind s (endWord n k)) s ∙ (λ i. Ends (r i) (c i))
 
 done-word : (n : ℕ) → n < 2 ^ 16 → stepOf (doneWord n) ≡ Done n

@@ -12,9 +12,6 @@ mul-result c = search needs
 add-result : tie.Need-add-result
 add-result c = search needs
 
-cast-result : tie.Need-cast-result
-cast-result c = search needs
-
 mul-result-2 : tie.Need-mul-result-2
 mul-result-2 c = search needs
 
@@ -31,7 +28,6 @@ end-word-spec =
     (tie.spec
     mul-result
     add-result
-    cast-result
     mul-result-2
     add-result-2
     returns)
