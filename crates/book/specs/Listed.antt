@@ -1,19 +1,18 @@
 -- Request Three in a run: where driver and book agree at rest, as after every call of every list from an accepted start-up, a descriptor's endpoints
 -- allocated as one operation are allocated one by one
-use mathlib.Core.Bool.{Bool, true, false}
+use mathlib.Core.Bool.{Bool, true}
 use mathlib.Core.List.{List}
-use mathlib.Core.Path.{_≡_, refl, sym, ap, subst, _∙_}
-use Prim.Native.Nat.{ℕ, _+_, _*_, _%_, _≤_, _<_}
+use mathlib.Core.Path.{_≡_, ap, subst, _∙_}
+use Prim.Native.Nat.{ℕ, _*_, _%_, _≤_, _<_}
 use native.Mathlib.Omega.{arith}
 use native.Mathlib.Nat.{mul-le-mul-right}
 use lib.ListN.{getD}
 use Rattle.bits.specs.Bit.{isSet}
 use Rattle.regs.specs.declared.Dir.{Dir}
-use Rattle.regs.specs.declared.Dir.the-variants.{Out, In}
 use Rattle.state.specs.declared.EpState.{EpState}
 use Rattle.state.specs.declared.Allocator.{Allocator}
 use Rattle.state.specs.Driver.{Driver, epOn}
-use Rattle.alloc.specs.Alloc.{slotsOf, allocatedIn}
+use Rattle.alloc.specs.Alloc.{allocatedIn}
 use Rattle.alloc.specs.Buffer.{goodSize, each-size}
 use Rattle.descriptor.specs.declared.Answer.the-variants as reading
 use Rattle.descriptor.specs.Reading.{readingOf, listOf}
@@ -21,16 +20,10 @@ use Rattle.preview.specs.Trial.{trialOf}
 use Rattle.script.specs.Alike.{quiet}
 use Rattle.script.specs.Statics.{isOn}
 use Rattle.script.specs.Machine.{Buf}
-use Rattle.listed_laws.specs.Settled.{Settled}
+use Rattle.listed_laws.specs.Settled.{Settled, slots-some}
 use Rattle.listed_laws.specs.Order.{InOrder, in-order}
 use Rattle.book.specs.Pages.{Pages}
-use Rattle.book.specs.Rest.{Used, Shape, Rest, endOf}
-
-slots-some : (iso : Bool) (dir : Dir) → 1 ≤ slotsOf iso dir
-unfolding slotsOf
-slots-some false dir = omega arith
-slots-some true Out = omega arith
-slots-some true In = omega arith
+use Rattle.book.specs.Rest.{Used, Shape, Rest}
 
 size-some : (size : ℕ) → goodSize size ≡ true → 1 ≤ size
 size-some size h = each-size (λ (z : ℕ). 1 ≤ z) (omega arith) (omega arith) (omega arith) (omega arith) (omega arith) (omega arith) size h

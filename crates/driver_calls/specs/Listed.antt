@@ -16,7 +16,7 @@ use Rattle.state.specs.declared.Allocator.{Allocator}
 use Rattle.state.specs.Driver.{Driver, withWakes}
 use Rattle.state.specs.Wakes.{none-woken}
 use Rattle.script.specs.Tree as tree
-use Rattle.script.specs.Tree.{ends, bindOut}
+use Rattle.script.specs.Tree.{bindOut}
 use Rattle.script.specs.Script.{Script, run}
 use Rattle.script.specs.Answers.{Answer, Refused, operation}
 use Rattle.script.specs.AllocateAll.{allocate-tried, allocate-read}
@@ -26,7 +26,7 @@ use Rattle.ops.specs.Rings.{St}
 use Rattle.ops.specs.Conc.{conc, go}
 use Rattle.listed.specs.Each.{eachOn, each-run, announceAll}
 use Rattle.way.specs.declared.Under.{Under}
-use Rattle.way.specs.Under.{wayOf, machineAt, finish, drive, halts}
+use Rattle.way.specs.Under.{machineAt, finish, drive, halts}
 use Rattle.way.specs.Goes.{Called}
 use Rattle.way.specs.Rows.{isIdle, stopOf, back, other-call, passed, passed-idle, ends-idle}
 use Rattle.driver_calls.specs.Begins.{Passes}

@@ -1,5 +1,5 @@
 -- A list's endpoints on the driver's state: allocated, and the first of them announced
-use mathlib.Core.Bool.{Bool, true, false}
+use mathlib.Core.Bool.{false}
 use mathlib.Core.List.{List, [], _∷_, _++_}
 use mathlib.Core.Path.{_≡_, refl, ap, sym, _∙_}
 use Prim.Native.Nat.{ℕ, zero, suc, _+_, _-_, _%_}
@@ -9,7 +9,6 @@ use lib.ListN.{length, getD, length-append}
 use Rattle.descriptor.specs.declared.Endpoint.{Endpoint}
 use Rattle.descriptor.specs.Endpoints.{none}
 use Rattle.descriptor.specs.Writing.{upTo}
-use Rattle.descriptor.specs.WritingLaws.{length-upTo}
 use Rattle.preview.specs.Trial.{directionOf}
 use Rattle.state.specs.Driver.{Driver}
 use Rattle.script.specs.Tree.{ends}

@@ -13,11 +13,11 @@ use Rattle.regs.specs.declared.Dir.the-variants.{Out, In}
 use Rattle.state.specs.declared.EpState.{EpState}
 use Rattle.state.specs.declared.Allocator.{Allocator}
 use Rattle.state.specs.declared.Globals.{Globals}
-use Rattle.state.specs.Driver.{Driver, key, epOn, withOn, withGlobals, withAllocator}
+use Rattle.state.specs.Driver.{Driver, key, epOn, withOn, withAllocator}
 use Rattle.state.specs.Laws.{Sized, epOn-same, epOn-other}
 use Rattle.alloc.specs.declared.Found.the-variants.{Number, Nothing}
 use Rattle.alloc.specs.declared.Answer.{Answer}
-use Rattle.alloc.specs.declared.Answer.the-variants.{Refused, Given}
+use Rattle.alloc.specs.declared.Answer.the-variants.{Given}
 use Rattle.alloc.specs.declared.Allocation.{Allocation}
 use Rattle.alloc.specs.Alloc.{if, isIso, isFree, dirBit, askedOf, numberOf, allocated}
 use Rattle.alloc.specs.Outcome.{Gives, Outcome, six, seven, eight, given, outcome}

@@ -1,5 +1,5 @@
 -- What an operation hands out where nothing falls between its accesses; a list's endpoints allocated one by one
-use mathlib.Core.Bool.{Bool, true, false, cond, not}
+use mathlib.Core.Bool.{false, cond, not}
 use mathlib.Core.List.{List, [], _∷_, _++_}
 use Prim.Native.Nat.{ℕ, _%_}
 use lib.Dec.{eqb}

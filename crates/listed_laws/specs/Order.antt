@@ -2,7 +2,7 @@
 use mathlib.Core.Bool.{Bool, true, false, cond, not}
 use mathlib.Core.List.{List, [], _∷_, _++_}
 use mathlib.Core.Path.{_≡_, refl, ap, sym, subst, _∙_}
-use Prim.Native.Nat.{ℕ, suc, _+_, _*_, _%_, _≤_, _<_}
+use Prim.Native.Nat.{ℕ, suc, _+_, _*_, _%_, _<_}
 use native.Mathlib.Omega.{arith}
 use lib.Dec.{eqb}
 use lib.ListN.{length, getD}
@@ -28,7 +28,7 @@ use Rattle.preview.specs.Trial.{directionOf, asked, trialOf}
 use Rattle.preview.specs.OneByOne.{Run, all, stopped, goes, one-by-one}
 use Rattle.script.specs.Tree as tree
 use Rattle.script.specs.Tree.{ends, asks, bindOut}
-use Rattle.script.specs.Script.{Script, ret, _>>=_, get, run, dma}
+use Rattle.script.specs.Script.{_>>=_, run, dma}
 use Rattle.script.specs.Answers as answers
 use Rattle.script.specs.Answers.{End, operation}
 use Rattle.script.specs.Driver.{allocated-as}
@@ -120,9 +120,6 @@ chain (e ∷ es) d s (goes-on _ _ _ n x slots q r) g =
 -- ---- one endpoint by its own call
 
 module _ (d : Driver) (b : List ℕ) (e : Endpoint) (n x slots : ℕ) (q : asked (d .allocator) e .answer ≡ Given n x slots) (s : Settled d) (stage : d .globals .stage ≡ 1) where
-  after : Driver
-  after = withWakes (oneOn d e) none-woken
-
   abbrev lastly : ℕ → St → tree.Out St answers.Answer
   lastly k u = ends (End k (listed (u .0 .wakes))) u
 
@@ -131,9 +128,6 @@ module _ (d : Driver) (b : List ℕ) (e : Endpoint) (n x slots : ℕ) (q : asked
 
   abbrev tail : Bool → ℕ × Driver → tree.Out St answers.Answer
   tail c p = bindOut (bindOut (buffer c p) (λ _ u. ends n u)) lastly
-
-  abbrev begun : ℕ × Driver → tree.Out St answers.Answer
-  begun p = asks (Write EpMaxLen n (e .maximum)) (withWakes (oneOn d e) none-woken, b) (λ _ u. tail (not (eqb (e .kind % 4) 0)) p)
 
   abbrev as-answered : Answer → tree.Out St answers.Answer
   as-answered z = run {i = false} conc (allocated-as (directionOf (e .address)) (e .kind) (e .maximum) z) (oneOn d e, b)

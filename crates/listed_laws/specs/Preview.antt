@@ -1,30 +1,27 @@
 -- A preview is what the calls of its own give each endpoint, one after the other on a copy of the state, up to the first refusal (request Four)
-use mathlib.Core.Bool.{Bool, true, false, cond}
+use mathlib.Core.Bool.{Bool, false, cond}
 use mathlib.Core.List.{List, [], _∷_}
-use mathlib.Core.Path.{_≡_, refl, ap, sym, subst, _∙_}
+use mathlib.Core.Path.{_≡_, refl, ap, subst, _∙_}
 use Prim.Native.Nat.{ℕ, _<_}
-use lib.Dec.{eqb}
 use lib.ListN.{length, getD}
 use borrow.Author.Tests.{eq-eqb}
 use Rattle.state.specs.declared.Allocator.{Allocator}
 use Rattle.state.specs.Wakes.{none-woken}
 use Rattle.state.specs.Driver.{Driver, withWakes, withAllocator}
 use Rattle.alloc.specs.declared.Answer.{Answer}
-use Rattle.alloc.specs.declared.Answer.the-variants.{Refused, Given}
+use Rattle.alloc.specs.declared.Answer.the-variants.{Refused}
 use Rattle.alloc.specs.Alloc.{allocateOf}
 use Rattle.descriptor.specs.declared.Endpoint.{Endpoint}
 use Rattle.descriptor.specs.declared.Answer.the-variants as reading
 use Rattle.descriptor.specs.Reading.{readingOf, listOf}
-use Rattle.descriptor.specs.Lists.{Good, few}
+use Rattle.descriptor.specs.Lists.{few}
 use Rattle.descriptor.specs.ReadBack.{accepted}
 use Rattle.preview.specs.declared.Said.the-variants as said
-use Rattle.preview.specs.declared.Shown.{Shown}
 use Rattle.preview.specs.declared.Trial.{Trial}
-use Rattle.preview.specs.Trial.{directionOf, asked, trialOf}
+use Rattle.preview.specs.Trial.{directionOf, asked}
 use Rattle.preview.specs.Preview.{shown, shownOf, previewOf}
 use Rattle.preview.specs.Asked.{Fair, fair-asked}
 use Rattle.preview.specs.OneByOne.{Run, all, stopped, goes, padded, one-by-one}
-use Rattle.script.specs.Tree as tree
 use Rattle.script.specs.Tree.{ends}
 use Rattle.script.specs.Script.{run}
 use Rattle.script.specs.Answers as answers

@@ -75,7 +75,7 @@ apart-key a In In n m h l f t k = let e : m ≡ n = omega (arith, key-same In m 
 apart-key a Out In n m h l f t k = key-apart n m (sym k)
 apart-key a In Out n m h l f t k = key-apart m n k
 
-slots-some : (iso : Bool) (dir : Dir) → 1 ≤ slotsOf iso dir
+pub slots-some : (iso : Bool) (dir : Dir) → 1 ≤ slotsOf iso dir
 unfolding slotsOf
 slots-some false dir = omega arith
 slots-some true Out = omega arith

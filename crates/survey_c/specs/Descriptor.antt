@@ -1,15 +1,14 @@
 -- A descriptor's list written out: the word, and what the caller's room holds then
 use mathlib.Core.Bool.{Bool, true, false, cond}
 use mathlib.Core.List.{List}
-use mathlib.Core.Path.{_≡_, refl}
-use Prim.Native.Nat.{ℕ, _≤_, _*_, _+_, min}
+use mathlib.Core.Path.{_≡_}
+use Prim.Native.Nat.{ℕ, _≤_}
 use native.Mathlib.Omega.{arith}
 use Rattle.descriptor.specs.declared.Answer.{Answer}
 use Rattle.descriptor.specs.declared.Answer.the-variants as answer
 use Rattle.descriptor.specs.declared.Endpoints.{Endpoints}
 use Rattle.descriptor.specs.declared.Written.{Written}
 use Rattle.descriptor.specs.declared.Written.the-variants as written
-use Rattle.descriptor.specs.declared.Reading.{Reading}
 use Rattle.descriptor.specs.Writing.{writtenOf, roomAfter, isShort, totalFor, countOf}
 use Rattle.survey_c.specs.Words.{refusedWord, doneWord}
 

@@ -1,5 +1,5 @@
 use Rattle.listed.specs.Each.{oneOn}
-use mathlib.Core.Path.{_∙_, ap}
+use mathlib.Core.Path.{_∙_}
 use borrow.Author.Needs.{needs}
 use Rattle.listed.proofs.allocate_one.Statement.{statement}
 use Rattle.listed.proofs.allocate_one.Tie as tie

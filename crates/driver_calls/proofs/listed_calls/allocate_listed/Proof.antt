@@ -1,4 +1,4 @@
-use mathlib.Core.Path.{_≡_, _∙_, ap, sym}
+use mathlib.Core.Path.{_∙_, ap}
 use denote.Ref.{now}
 use Rattle.state.specs.State.{view, saved}
 use Rattle.state.specs.declared.Allocator.{Allocator}
