@@ -50,7 +50,7 @@ place-lt : (dir : Dir) (e : ℕ) → place dir e < 32
 place-lt Out e = omega arith
 place-lt In e = omega arith
 
-none-set : (n : ℕ) → isSet 0 n ≡ false
+pub none-set : (n : ℕ) → isSet 0 n ≡ false
 unfolding isSet
 none-set n = rw (zero-div (2 ^ n)) refl
 

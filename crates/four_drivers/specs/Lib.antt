@@ -4,3 +4,4 @@ pub mod Limit
 pub mod Histories
 pub mod Runs
 pub mod Code
+pub mod Returns

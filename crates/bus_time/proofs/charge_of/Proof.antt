@@ -7,25 +7,20 @@ use Rattle.bus_time.proofs.charge_of.Tie as tie
 use Rattle.bus_time.proofs.charge_of.Reads as reads
 use Rattle.bus_time.proofs.charge_of.Lts as lts
 
--- src/lib.rt:25:16
 add-result : tie.Need-add-result
 add-result c = search needs
 
--- src/lib.rt:25:9
 returns : tie.Need-returns
 unfolding chargeOf
 returns c = (simp (eq-eqb _ _ (c .if1 .taken)), omega arith)
 
--- src/lib.rt:28:16
 add-result-2 : tie.Need-add-result-2
 add-result-2 c = search needs
 
--- src/lib.rt:28:9
 returns-2 : tie.Need-returns-2
 unfolding chargeOf
 returns-2 c = (simp (ne-eqb _ _ (c .before .if1 .left), eq-eqb _ _ (c .if2 .taken)), omega arith)
 
--- src/lib.rt:20:1
 returns-3 : tie.Need-returns-3
 unfolding chargeOf
 returns-3 c = (simp (ne-eqb _ _ (c .before .if1 .left), ne-eqb _ _ (c .if2 .left)), omega arith)

@@ -7,56 +7,43 @@ use Rattle.bus_time.proofs.entry.Tie as tie
 use Rattle.bus_time.proofs.entry.Reads as reads
 use Rattle.bus_time.proofs.entry.Lts as lts
 
--- src/lib.rt:39:21
 enum-told : tie.Need-enum-told
 enum-told c = search needs
 
--- src/lib.rt:39:20
 cast-result : tie.Need-cast-result
 cast-result c = search needs
 
--- src/lib.rt:39:20
 mul-result : tie.Need-mul-result
 mul-result c = search needs
 
--- src/lib.rt:39:49
 cast-result-2 : tie.Need-cast-result-2
 cast-result-2 c = search needs
 
--- src/lib.rt:39:20
 add-result : tie.Need-add-result
 add-result c = search needs
 
--- src/lib.rt:40:22
 enum-told-2 : tie.Need-enum-told-2
 enum-told-2 c = search needs
 
--- src/lib.rt:40:21
 cast-result-3 : tie.Need-cast-result-3
 cast-result-3 c = search needs
 
--- src/lib.rt:40:21
 mul-result-2 : tie.Need-mul-result-2
 mul-result-2 c = search needs
 
--- src/lib.rt:40:56
 cast-result-4 : tie.Need-cast-result-4
 cast-result-4 c = search needs
 
--- src/lib.rt:40:51
 add-result-2 : tie.Need-add-result-2
 add-result-2 c = search needs
 
--- src/lib.rt:40:21
 add-result-3 : tie.Need-add-result-3
 add-result-3 c = search needs
 
--- src/lib.rt:34:1
 returns : tie.Need-returns
 unfolding entryOf
 returns c = (rw (c .enum-told .given .1) refl, omega arith)
 
--- src/lib.rt:34:1
 returns-2 : tie.Need-returns-2
 unfolding entryOf
 returns-2 c = (rw (c .enum-told2 .given .1) refl, omega arith)
