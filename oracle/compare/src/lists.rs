@@ -2,12 +2,12 @@
 //! board's endpoints one by one, in the order that the request says, up to the first refusal. The port must hand out all that the Rust hands out, or
 //! refuse as the Rust does and change nothing; its preview (request Four) must say the same before. Ends with 1 at the first difference.
 
-use oracle::number::decode;
+use oracle::number;
 use oracle::{Answer, Call, Dir, Driver, Kind, Rng};
 
 extern "C" {
-    fn usbhs_start_up(state: *mut u8, slots: *mut u8, len: usize, size: u32, count: u32, callback: u32) -> u64;
-    fn usbhs_continue(state: *mut u8, slots: *mut u8, len: usize, value: u32) -> u64;
+    fn usbhs_start_up(state: *mut u8, slots: *mut u8, len: usize, time: *mut u16, driver: u32, size: u32, count: u32, callback: u32) -> u64;
+    fn usbhs_continue(state: *mut u8, slots: *mut u8, len: usize, time: *mut u16, driver: u32, value: u32) -> u64;
     fn usbhs_allocate(state: *mut u8, kind: u32, address: u32, maximum: u32, interval: u32, dir: u32) -> u64;
     fn usbhs_allocate_all(state: *mut u8, bytes: *const u8, len: usize) -> u64;
     fn usbhs_preview(
@@ -124,25 +124,37 @@ fn to_end(mut answer: Answer, mut go_on: impl FnMut() -> Answer) -> (Vec<Answer>
     (accesses, answer)
 }
 
+/// The record of bus time, which allocations do not change.
+const TIME: usize = 128;
+
+/// An answer that is the end of an allocation wakes no task.
+fn decode(word: u64) -> Answer {
+    number::decode(word, |n| {
+        assert_eq!(n, 0);
+        vec![]
+    })
+}
+
 struct Port {
     state: Vec<u8>,
     slots: Vec<u8>,
+    time: [u16; TIME],
 }
 
 impl Port {
     fn start_up(size: u32, count: u32) -> Self {
-        let mut port = Self { state: vec![0; STATE], slots: vec![0; (size * count) as usize] };
-        let (p, n) = (port.slots.as_mut_ptr(), port.slots.len());
+        let mut port = Self { state: vec![0; STATE], slots: vec![0; (size * count) as usize], time: [0; TIME] };
+        let (p, n, t) = (port.slots.as_mut_ptr(), port.slots.len(), port.time.as_mut_ptr());
         // SAFETY: the exported calls are total; every slice is given with its own length
-        let begun = unsafe { usbhs_start_up(port.state.as_mut_ptr(), p, n, size, count, 0) };
+        let begun = unsafe { usbhs_start_up(port.state.as_mut_ptr(), p, n, t, 0, size, count, 0) };
         port.run(begun);
         port
     }
 
     fn run(&mut self, begun: u64) -> (Vec<Answer>, Answer) {
-        let (p, n) = (self.slots.as_mut_ptr(), self.slots.len());
+        let (p, n, t) = (self.slots.as_mut_ptr(), self.slots.len(), self.time.as_mut_ptr());
         // SAFETY: as above
-        to_end(decode(begun), || decode(unsafe { usbhs_continue(self.state.as_mut_ptr(), p, n, 0) }))
+        to_end(decode(begun), || decode(unsafe { usbhs_continue(self.state.as_mut_ptr(), p, n, t, 0, 0) }))
     }
 
     fn allocate_all(&mut self, bytes: &[u8]) -> (Vec<Answer>, Answer) {
