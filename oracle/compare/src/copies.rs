@@ -6,11 +6,29 @@ use std::hint::black_box;
 use std::time::Instant;
 
 extern "C" {
-    fn usbhs_start_up(state: *mut u8, slots: *mut u8, len: usize, time: *mut u16, driver: u32, size: u32, count: u32, callback: u32) -> u64;
+    fn usbhs_start_up(
+        state: *mut u8,
+        slots: *mut u8,
+        len: usize,
+        time: *mut u16,
+        driver: u32,
+        size: u32,
+        count: u32,
+        callback: u32,
+    ) -> u64;
     fn usbhs_allocate(state: *mut u8, kind: u32, address: u32, maximum: u32, interval: u32, dir: u32) -> u64;
     fn usbhs_start(state: *mut u8, maximum: u32) -> u64;
     fn usbhs_continue(state: *mut u8, slots: *mut u8, len: usize, time: *mut u16, driver: u32, value: u32) -> u64;
-    fn usbhs_begin_set_enabled(state: *mut u8, slots: *mut u8, len: usize, time: *mut u16, driver: u32, ep: u32, dir: u32, on: u32) -> u64;
+    fn usbhs_begin_set_enabled(
+        state: *mut u8,
+        slots: *mut u8,
+        len: usize,
+        time: *mut u16,
+        driver: u32,
+        ep: u32,
+        dir: u32,
+        on: u32,
+    ) -> u64;
     fn usbhs_begin_write(state: *mut u8, slots: *mut u8, len: usize, ep: u32, data: *const u8, data_len: usize) -> u64;
     fn usbhs_queue(state: *mut u8, slots: *mut u8, len: usize, ep: u32, data: *const u8, data_len: usize) -> u64;
 }

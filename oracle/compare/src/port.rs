@@ -166,7 +166,9 @@ impl Port {
         // SAFETY: the exported calls are total; every slice is given with its own length
         let a = unsafe {
             match *call {
-                Call::StartUp { size, count, callback } => usbhs_start_up(s, p, n, t, DRIVER, size, count, callback as u32),
+                Call::StartUp { size, count, callback } => {
+                    usbhs_start_up(s, p, n, t, DRIVER, size, count, callback as u32)
+                }
                 Call::Continue(value) => usbhs_continue(s, p, n, t, DRIVER, value),
                 Call::Allocate { kind, address, maximum, interval, dir: d } => {
                     let address = address.map_or(256, u32::from);
@@ -185,7 +187,9 @@ impl Port {
                 Call::BusPoll => usbhs_begin_bus_poll(s),
                 Call::BusEnable => usbhs_begin_bus_enable(s),
                 Call::BusDisable => usbhs_begin_bus_disable(s),
-                Call::SetEnabled { ep, dir: d, on } => usbhs_begin_set_enabled(s, p, n, t, DRIVER, ep as u32, dir(d), on as u32),
+                Call::SetEnabled { ep, dir: d, on } => {
+                    usbhs_begin_set_enabled(s, p, n, t, DRIVER, ep as u32, dir(d), on as u32)
+                }
                 Call::SetStalled { ep, dir: d, on } => usbhs_begin_set_stalled(s, ep as u32, dir(d), on as u32),
                 Call::IsStalled { ep, dir: d } => usbhs_begin_is_stalled(s, ep as u32, dir(d)),
                 Call::SetPaced { ep, on } => usbhs_set_paced(s, ep as u32, on as u32),

@@ -12,13 +12,31 @@ use original::bench::Bare;
 use seam::{reg, Ask, Coroutine, Finish, Out};
 
 extern "C" {
-    fn usbhs_start_up(state: *mut u8, slots: *mut u8, len: usize, time: *mut u16, driver: u32, size: u32, count: u32, callback: u32) -> u64;
+    fn usbhs_start_up(
+        state: *mut u8,
+        slots: *mut u8,
+        len: usize,
+        time: *mut u16,
+        driver: u32,
+        size: u32,
+        count: u32,
+        callback: u32,
+    ) -> u64;
     fn usbhs_allocate(state: *mut u8, kind: u32, address: u32, maximum: u32, interval: u32, dir: u32) -> u64;
     fn usbhs_start(state: *mut u8, maximum: u32) -> u64;
     fn usbhs_continue(state: *mut u8, slots: *mut u8, len: usize, time: *mut u16, driver: u32, value: u32) -> u64;
     fn usbhs_begin_bus_poll(state: *mut u8) -> u64;
     fn usbhs_begin_interrupt(state: *mut u8) -> u64;
-    fn usbhs_begin_set_enabled(state: *mut u8, slots: *mut u8, len: usize, time: *mut u16, driver: u32, ep: u32, dir: u32, on: u32) -> u64;
+    fn usbhs_begin_set_enabled(
+        state: *mut u8,
+        slots: *mut u8,
+        len: usize,
+        time: *mut u16,
+        driver: u32,
+        ep: u32,
+        dir: u32,
+        on: u32,
+    ) -> u64;
     fn usbhs_begin_set_stalled(state: *mut u8, ep: u32, dir: u32, on: u32) -> u64;
 }
 
@@ -79,7 +97,12 @@ struct Port {
 
 impl Port {
     fn new() -> Self {
-        Self { state: vec![0; STATE], slots: vec![0; (SIZE * COUNT) as usize], time: [0; TIME], registers: Registers::new() }
+        Self {
+            state: vec![0; STATE],
+            slots: vec![0; (SIZE * COUNT) as usize],
+            time: [0; TIME],
+            registers: Registers::new(),
+        }
     }
 
     #[inline]
@@ -97,7 +120,9 @@ impl Port {
                 Call::Start(maximum) => usbhs_start(s, maximum as u32),
                 Call::BusPoll => usbhs_begin_bus_poll(s),
                 Call::Interrupt => usbhs_begin_interrupt(s),
-                Call::SetEnabled { ep, dir: d, on } => usbhs_begin_set_enabled(s, p, n, t, 0, ep as u32, dir(d), on as u32),
+                Call::SetEnabled { ep, dir: d, on } => {
+                    usbhs_begin_set_enabled(s, p, n, t, 0, ep as u32, dir(d), on as u32)
+                }
                 Call::SetStalled { ep, dir: d, on } => usbhs_begin_set_stalled(s, ep as u32, dir(d), on as u32),
                 _ => unreachable!("{call:?} is not measured"),
             }
@@ -119,7 +144,16 @@ impl Port {
             };
             calls += 1;
             // SAFETY: as in `begin`
-            a = unsafe { usbhs_continue(self.state.as_mut_ptr(), self.slots.as_mut_ptr(), self.slots.len(), self.time.as_mut_ptr(), 0, value) };
+            a = unsafe {
+                usbhs_continue(
+                    self.state.as_mut_ptr(),
+                    self.slots.as_mut_ptr(),
+                    self.slots.len(),
+                    self.time.as_mut_ptr(),
+                    0,
+                    value,
+                )
+            };
         }
     }
 }
