@@ -193,7 +193,9 @@ impl Rule {
             self.rust[at..at + bytes.len()].copy_from_slice(bytes);
         }
         let armed = match e.answer {
-            Answer::Write { reg: EP_RX_DMA, ep, value } => self.receives(ep as usize, value).map(|maximum| (value as usize, maximum)),
+            Answer::Write { reg: EP_RX_DMA, ep, value } => {
+                self.receives(ep as usize, value).map(|maximum| (value as usize, maximum))
+            }
             _ => None,
         };
         let brought = std::mem::take(&mut self.brought);
@@ -242,7 +244,9 @@ impl Rule {
         for slots in [&mut self.rust, &mut self.slots] {
             match call {
                 Call::Store { offset, data } => slots[*offset as usize..][..data.len()].copy_from_slice(data),
-                Call::Fill(seed) => slots.iter_mut().enumerate().for_each(|(i, b)| *b = (*seed as usize + i * 37) as u8),
+                Call::Fill(seed) => {
+                    slots.iter_mut().enumerate().for_each(|(i, b)| *b = (*seed as usize + i * 37) as u8)
+                }
                 _ => unreachable!(),
             }
         }

@@ -6,7 +6,16 @@ use oracle::number;
 use oracle::{Answer, Call, Dir, Driver, Kind, Rng};
 
 extern "C" {
-    fn usbhs_start_up(state: *mut u8, slots: *mut u8, len: usize, time: *mut u16, driver: u32, size: u32, count: u32, callback: u32) -> u64;
+    fn usbhs_start_up(
+        state: *mut u8,
+        slots: *mut u8,
+        len: usize,
+        time: *mut u16,
+        driver: u32,
+        size: u32,
+        count: u32,
+        callback: u32,
+    ) -> u64;
     fn usbhs_continue(state: *mut u8, slots: *mut u8, len: usize, time: *mut u16, driver: u32, value: u32) -> u64;
     fn usbhs_allocate(state: *mut u8, kind: u32, address: u32, maximum: u32, interval: u32, dir: u32) -> u64;
     fn usbhs_allocate_all(state: *mut u8, bytes: *const u8, len: usize) -> u64;

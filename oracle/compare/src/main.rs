@@ -20,13 +20,34 @@ fn begun(entries: &[Entry]) -> Vec<Call> {
     let mut calls = vec![];
     for e in entries {
         match e.call {
-            Call::StartUp { .. } | Call::Allocate { .. } | Call::Start(_) | Call::BusPoll | Call::BusEnable | Call::BusDisable => kept = true,
-            Call::SetEnabled { .. } | Call::SetStalled { .. } | Call::IsStalled { .. } | Call::Microframe => kept = true,
-            Call::Setup | Call::DataOut { .. } | Call::DataIn { .. } | Call::Accept | Call::AcceptSetAddress(_) | Call::Reject => kept = true,
+            Call::StartUp { .. }
+            | Call::Allocate { .. }
+            | Call::Start(_)
+            | Call::BusPoll
+            | Call::BusEnable
+            | Call::BusDisable => kept = true,
+            Call::SetEnabled { .. } | Call::SetStalled { .. } | Call::IsStalled { .. } | Call::Microframe => {
+                kept = true
+            }
+            Call::Setup
+            | Call::DataOut { .. }
+            | Call::DataIn { .. }
+            | Call::Accept
+            | Call::AcceptSetAddress(_)
+            | Call::Reject => kept = true,
             Call::PollSetup | Call::PollDataOut | Call::PollDataIn | Call::PollAccept => kept = true,
-            Call::Advance(_) | Call::Read { .. } | Call::PollRead(_) | Call::Write { .. } | Call::PollWrite(_) => kept = true,
-            Call::SetPaced { .. } | Call::Open(_) | Call::Close(_) | Call::Queue { .. } | Call::Pending(_) | Call::Overruns(_) | Call::Enabled { .. }
-            | Call::Store { .. } | Call::Fill(_) => {
+            Call::Advance(_) | Call::Read { .. } | Call::PollRead(_) | Call::Write { .. } | Call::PollWrite(_) => {
+                kept = true
+            }
+            Call::SetPaced { .. }
+            | Call::Open(_)
+            | Call::Close(_)
+            | Call::Queue { .. }
+            | Call::Pending(_)
+            | Call::Overruns(_)
+            | Call::Enabled { .. }
+            | Call::Store { .. }
+            | Call::Fill(_) => {
                 calls.push(e.call.clone());
                 continue;
             }
