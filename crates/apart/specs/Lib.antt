@@ -1,0 +1,4 @@
+pub mod But
+pub mod Apart
+pub mod Likes
+pub mod Pairs
