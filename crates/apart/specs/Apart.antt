@@ -10,10 +10,9 @@ use Rattle.script.specs.Tree.{Out, ends, asks}
 use Rattle.script.specs.Script.{Script, run}
 use Rattle.script.specs.IsoOut.{arriving}
 use Rattle.script.specs.Alike.{Phase, quiet}
-use Rattle.script.specs.Sorts.{Sorts}
 use Rattle.ops.specs.Rings.{St}
 use Rattle.ops.specs.Conc.{conc}
-use Rattle.apart.specs.But.{Like}
+use Rattle.apart.specs.But.{Channel, Like}
 
 -- "with the status word and the other readings the same throughout each interrupt", but for "the lengths reported for its packets": where the
 -- status word `st` shows OUT for x
@@ -50,17 +49,17 @@ pub data Own (x : ℕ) : Access → Type 0 where
   status : Own x (Read IntSt 0)
   receives : (y : ℕ) → Own x (Receive x y)
 
-module _ (x : ℕ) (iso : Sorts) (st : ℕ) where
+module _ (c : Channel) (st : ℕ) where
   -- two outcomes: both end, or hand out the same access, in states that are the same but for x's data, and go on so whatever the same is read,
   -- whatever becomes of the states so long as they stay so; or one of them hands out an access of x's own and goes on so, the other staying,
   -- whatever is read then and whatever becomes of x's data
   pub data Apart {A B : Type 0} (Q : A → B → Type 0) : Out St A → Out St B → Type 0 where
-    end : {a : A} {b : B} {s t : St} → Q a b → Like x iso quiet s t → Apart Q (ends a s) (ends b t)
-    both : {q : Access} {s t : St} {k : ℕ → St → Out St A} {k′ : ℕ → St → Out St B} (φ : Phase) → Like x iso φ s t
-        → ((v v′ : ℕ) (s t : St) → Brings x st q v v′ → Like x iso φ s t → Apart Q (k v s) (k′ v′ t)) → Apart Q (asks q s k) (asks q t k′)
-    left : {q : Access} {s : St} {k : ℕ → St → Out St A} {u : Out St B} → Own x q → ((v : ℕ) (s′ : St) → Like x iso quiet s s′ → Apart Q (k v s′) u) → Apart Q (asks q s k) u
-    right : {q : Access} {t : St} {k : ℕ → St → Out St B} {o : Out St A} → Own x q → ((v : ℕ) (t′ : St) → Like x iso quiet t t′ → Apart Q o (k v t′)) → Apart Q o (asks q t k)
+    end : {a : A} {b : B} {s t : St} → Q a b → Like c quiet s t → Apart Q (ends a s) (ends b t)
+    both : {q : Access} {s t : St} {k : ℕ → St → Out St A} {k′ : ℕ → St → Out St B} (φ : Phase) → Like c φ s t
+        → ((v v′ : ℕ) (s t : St) → Brings (c .number) st q v v′ → Like c φ s t → Apart Q (k v s) (k′ v′ t)) → Apart Q (asks q s k) (asks q t k′)
+    left : {q : Access} {s : St} {k : ℕ → St → Out St A} {u : Out St B} → Own (c .number) q → ((v : ℕ) (s′ : St) → Like c quiet s s′ → Apart Q (k v s′) u) → Apart Q (asks q s k) u
+    right : {q : Access} {t : St} {k : ℕ → St → Out St B} {o : Out St A} → Own (c .number) q → ((v : ℕ) (t′ : St) → Like c quiet t t′ → Apart Q o (k v t′)) → Apart Q o (asks q t k)
 
   -- two scripts that run so from all such states
   pub record Pair {i : Bool} {A B : Type 0} (Q : A → B → Type 0) (p : Script i A) (p′ : Script i B) : Type 0 where
-    pub on : (s t : St) → Like x iso quiet s t → Apart Q (run conc p s) (run conc p′ t)
+    pub on : (s t : St) → Like c quiet s t → Apart Q (run conc p s) (run conc p′ t)

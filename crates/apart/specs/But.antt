@@ -1,7 +1,8 @@
 -- "One channel's data can't disturb another": what two states have in common beside the data of one OUT endpoint, x
+use mathlib.Core.Bool.{true, false}
 use mathlib.Core.Logic.{_≢_}
 use mathlib.Core.Path.{_≡_}
-use Prim.Native.Nat.{ℕ, _%_}
+use Prim.Native.Nat.{ℕ, _%_, _<_}
 use Rattle.bits.specs.Bit.{isSet}
 use Rattle.regs.specs.declared.Dir.{Dir}
 use Rattle.regs.specs.declared.Dir.the-variants.{Out, In}
@@ -36,16 +37,25 @@ pub record But (x : ℕ) (d d′ : Driver) : Type 0 where
   pub stamps : (e : ℕ) → key Out e ≢ key Out x → slotStamps d e ≡ slotStamps d′ e
   pub own : Inner (epOn d Out x) (epOn d′ Out x)
 
--- a state of a run under demand 3's premise, whose endpoints have these sorts
+-- a state of a run under demand 3's premise, after EP0's start, whose endpoints have these sorts
 pub record Lawful (iso : Sorts) (φ : Phase) (s : St) : Type 0 where
   pub pages : Pages
   pub rest : Rest φ (s .1) (s .0) pages
   pub has : Has iso (s .0)
+  pub stage : s .0 .globals .stage ≡ 2
 
--- two such states, with their slot buffers, that are the same but for x's data: "every other endpoint has the same queue, stamps, bytes,
+-- the channel: an isochronous OUT endpoint, 1 to 15, and the sorts of all endpoints in this run; EP0 is not isochronous
+pub record Channel : Type 0 where
+  pub number : ℕ
+  pub below : number < 16
+  pub iso : Sorts
+  pub receives : iso Out number ≡ true
+  pub ep0 : (dir : Dir) → iso dir 0 ≡ false
+
+-- two such states, with their slot buffers, that are the same but for its data: "every other endpoint has the same queue, stamps, bytes,
 -- overruns and wake-ups"
-pub record Like (x : ℕ) (iso : Sorts) (φ : Phase) (s t : St) : Type 0 where
-  pub left : Lawful iso φ s
-  pub right : Lawful iso φ t
-  pub but : But x (s .0) (t .0)
-  pub bytes : Only (epOn (s .0) Out x .base) (endOf (epOn (s .0) Out x)) (s .1) (t .1)
+pub record Like (c : Channel) (φ : Phase) (s t : St) : Type 0 where
+  pub left : Lawful (c .iso) φ s
+  pub right : Lawful (c .iso) φ t
+  pub but : But (c .number) (s .0) (t .0)
+  pub bytes : Only (epOn (s .0) Out (c .number) .base) (endOf (epOn (s .0) Out (c .number))) (s .1) (t .1)

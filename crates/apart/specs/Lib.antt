@@ -2,3 +2,9 @@ pub mod But
 pub mod Apart
 pub mod Likes
 pub mod Pairs
+pub mod Buts
+pub mod Values
+pub mod Bytes
+pub mod InRings
+pub mod Walks
+pub mod OutRings

@@ -20,7 +20,7 @@ use Rattle.ops.specs.Rings.{St}
 use Rattle.book.specs.Rest.{endOf}
 use Rattle.book.specs.Frame.{Changed, same-place, end-kept}
 use Rattle.book.specs.Outs.{Inner}
-use Rattle.apart.specs.But.{OtherWakes, But, Lawful, Like}
+use Rattle.apart.specs.But.{OtherWakes, But, Lawful, Channel, Like}
 
 -- ---- wake-ups
 
@@ -101,14 +101,14 @@ seat {x} {d} {d′} b c h o =
     let p = h .own .place in
     subst (λ hi. Only (epOn d′ Out x .base) hi b c) (sym (end-kept p)) (subst (λ lo. Only lo (endOf (epOn d Out x)) b c) (sym (p .base)) o)
 
-module _ {x : ℕ} {iso : Sorts} {φ : Phase} where
-  pub like-refl : {s : St} → Lawful iso φ s → Like x iso φ s s
-  like-refl {s} l = record { left = l; right = l; but = but-refl x (s .0); bytes = only-refl _ _ (s .1) }
+module _ {c : Channel} {φ : Phase} where
+  pub like-refl : {s : St} → Lawful (c .iso) φ s → Like c φ s s
+  like-refl {s} l = record { left = l; right = l; but = but-refl (c .number) (s .0); bytes = only-refl _ _ (s .1) }
 
-  pub like-sym : {s t : St} → Like x iso φ s t → Like x iso φ t s
+  pub like-sym : {s t : St} → Like c φ s t → Like c φ t s
   like-sym {s} {t} h = record { left = h .right; right = h .left; but = but-sym (h .but); bytes = seat (t .1) (s .1) (h .but) (only-sym (h .bytes)) }
 
-  pub like-trans : {s t u : St} → Like x iso φ s t → Like x iso φ t u → Like x iso φ s u
+  pub like-trans : {s t u : St} → Like c φ s t → Like c φ t u → Like c φ s u
   like-trans {s} {t} {u} h k = record {
     left = h .left;
     right = k .right;

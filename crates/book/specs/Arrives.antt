@@ -73,7 +73,7 @@ arrived-slot r len = arrived-keeps (λ s. s .«armed_slot») r len (λ s n. refl
 arrived-open : (r : EpState) (len : ℕ) → arrivedOf r len .«open» ≡ r .«open»
 arrived-open r len = arrived-keeps (λ s. s .«open») r len (λ s n. refl) (λ s n. refl) (λ s n. refl)
 
-arrived-inner : (r : EpState) (len : ℕ) → Inner r (arrivedOf r len)
+pub arrived-inner : (r : EpState) (len : ℕ) → Inner r (arrivedOf r len)
 arrived-inner r len = record { place = arrived-place r len; plain = arrived-plain r len }
 
 -- ---- the page
@@ -178,7 +178,7 @@ module _ {b b′ : Buf} {r : EpState} {ls ss : List ℕ} {p : OutPage} (f : OutF
         upto = slot-upto (f .held .placed) (r .head);
       }
 
-armed-plain : (r : EpState) (x : ℕ) → plainOf (armedAt r x) ≡ plainOf r
+pub armed-plain : (r : EpState) (x : ℕ) → plainOf (armedAt r x) ≡ plainOf r
 unfolding armedAt
 armed-plain r x = refl
 
@@ -210,7 +210,7 @@ arm-rest {b} {b′} {d} {t} R e d1 p c same f u long o =
 -- ---- a packet admitted, or turned away
 
 module _ (d : Driver) (s : Sized d) (e len : ℕ) where
-  abbrev head-slot : ℕ
+  abbrev pub head-slot : ℕ
   head-slot = slotOf (epOn d Out e) (epOn d Out e .head)
 
   abbrev lengthened : Driver
@@ -253,19 +253,19 @@ module _ (d : Driver) (s : Sized d) (e len : ℕ) where
     unfolding recordedOn arrivedLens
     recorded-stamps = recorded-stamps-by (hasRoomOut (epOn d Out e))
 
-  admitted-ep : epOn (admittedOn d e len) Out e ≡ arrivedOf (epOn d Out e) len
+  pub admitted-ep : epOn (admittedOn d e len) Out e ≡ arrivedOf (epOn d Out e) len
   unfolding admittedOn
   admitted-ep = epOn-same (recordedOn d e len) Out e (arrivedOf (epOn d Out e) len) (recorded-changed .sized)
 
-  admitted-lens : head-slot < 16 → lensOf (admittedOn d e len) Out e ≡ arrivedLens (epOn d Out e) (lensOf d Out e) len
+  pub admitted-lens : head-slot < 16 → lensOf (admittedOn d e len) Out e ≡ arrivedLens (epOn d Out e) (lensOf d Out e) len
   unfolding admittedOn
   admitted-lens i = lens-on (recordedOn d e len) Out e (arrivedOf (epOn d Out e) len) Out e ∙ recorded-lens i
 
-  admitted-stamps : head-slot < 16 → slotStamps (admittedOn d e len) e ≡ arrivedLens (epOn d Out e) (slotStamps d e) (d .globals .entered)
+  pub admitted-stamps : head-slot < 16 → slotStamps (admittedOn d e len) e ≡ arrivedLens (epOn d Out e) (slotStamps d e) (d .globals .entered)
   unfolding admittedOn
   admitted-stamps i = stamps-on (recordedOn d e len) Out e (arrivedOf (epOn d Out e) len) e ∙ recorded-stamps i
 
-  admitted-changed : Changed Out e d (admittedOn d e len)
+  pub admitted-changed : Changed Out e d (admittedOn d e len)
   unfolding admittedOn
   admitted-changed =
       let k = arrived-inner (epOn d Out e) len in
@@ -274,11 +274,11 @@ module _ (d : Driver) (s : Sized d) (e len : ℕ) where
       (ap (λ (q : Plain). q .iso) (k .plain) ∙ ap (λ (r : EpState). r .iso) (sym recorded-ep)))
 
 -- the driver after it, its slot not yet armed
-abbrev admits : Driver → ℕ → ℕ → Driver
+abbrev pub admits : Driver → ℕ → ℕ → Driver
 admits d e n = admittedOn d e (cappedAt (epOn d Out e) n)
 
 -- the head's address
-abbrev headAddr : EpState → ℕ
+abbrev pub headAddr : EpState → ℕ
 headAddr r = slotAddr r (r .head)
 
 -- the address told after the page changed
@@ -313,7 +313,7 @@ module _ {b : Buf} {d : Driver} {t : Pages} (R : Rest quiet b d t) (e : ℕ) whe
         (admitted-stamps d (R .sized) e len i ∙ ap (λ (g : Globals). arrivedLens (epOn d Out e) (slotStamps d e) (g .entered)) (R .same .globals))
         (arrived-fits f sixteen (stamps-length d e) len capped-small (packetB e n (t, b)) shown)
 
-    arrived-words : (stale : ℕ) → let r = epOn (admits d e n) Out e in
+    pub arrived-words : (stale : ℕ) → let r = epOn (admits d e n) Out e in
         marks.Only (headAddr r) (headAddr r + r .stride) b (armed b (headAddr r) (r .«min_len») (cappedAt r stale))
     arrived-words stale =
         let r = epOn (admits d e n) Out e in
