@@ -103,8 +103,9 @@ module _ (c : Channel) where
   unfolding sendAddr sendOn
   sends e s t l =
       let n = in-other (c .number) e in
-      let h = l .but .eps In e n in
-      (ap (λ (r : EpState). slotAddr r (r .tail)) h,
-      like-made l (lawful-hand c (send e) (l .left) (sends-stage (s .0) e)) (lawful-hand c (send e) (l .right) (sends-stage (t .0) e))
-      (but-cond _ _ (ap hasWaiting h) (but-on (l .but) (l .left .rest .sized) (l .right .rest .sized) In e _ _ (λ _. ap loadedOf h) (λ p. absurd (n p))) (l .but))
-      (cond-seat (c .number) (epOn (s .0) Out (c .number)) (hasWaiting (epOn (s .0) In e)) _ _ (on-seat (c .number) (s .0) In e _ n) (same-place (epOn (s .0) Out (c .number)))) (l .bytes))
+      let h = l .but .eps In e n in (
+        ap (λ (r : EpState). slotAddr r (r .tail)) h,
+        like-made l (lawful-hand c (send e) (l .left) (sends-stage (s .0) e)) (lawful-hand c (send e) (l .right) (sends-stage (t .0) e))
+            (but-cond _ _ (ap hasWaiting h) (but-on (l .but) (l .left .rest .sized) (l .right .rest .sized) In e _ _ (λ _. ap loadedOf h) (λ p. absurd (n p))) (l .but))
+            (cond-seat (c .number) (epOn (s .0) Out (c .number)) (hasWaiting (epOn (s .0) In e)) _ _ (on-seat (c .number) (s .0) In e _ n) (same-place (epOn (s .0) Out (c .number)))) (l .bytes),
+      )

@@ -4,7 +4,11 @@ pub mod Likes
 pub mod Pairs
 pub mod Buts
 pub mod Values
+pub mod Answers
 pub mod Bytes
 pub mod InRings
 pub mod Walks
 pub mod OutRings
+pub mod OwnSteps
+pub mod Interrupt
+pub mod Asides

@@ -69,29 +69,29 @@ module _ (c : Channel) (e : ℕ) (n : key Out e ≢ key Out (c .number)) (i : c 
 
 -- ---- the driver after an arrival on OUT e that is received: the record, the lengths, the stamps
 
-abbrev lenOf : Driver → ℕ → ℕ → ℕ
+abbrev pub lenOf : Driver → ℕ → ℕ → ℕ
 lenOf d e n = cappedAt (epOn d Out e) n
 
 -- the record before its slot is armed, and after
-abbrev before : EpState → ℕ → EpState
+abbrev pub before : EpState → ℕ → EpState
 before r n = arrivedOf r (cappedAt r n)
 
-abbrev arrivedEp : EpState → ℕ → EpState
+abbrev pub arrivedEp : EpState → ℕ → EpState
 arrivedEp r n = armedAt (before r n) (headAddr (before r n))
 
-abbrev after : Driver → ℕ → ℕ → Driver
+abbrev pub after : Driver → ℕ → ℕ → Driver
 after d e n = let r1 = epOn (admits d e n) Out e in withOn (admits d e n) Out e (armedAt r1 (headAddr r1))
 
 module _ {d : Driver} (z : Sized d) (e n : ℕ) where
-  given : Changed Out e d (admits d e n)
+  pub given : Changed Out e d (admits d e n)
   given = admitted-changed d z e (lenOf d e n)
 
-  after-changed : Changed Out e d (after d e n)
+  pub after-changed : Changed Out e d (after d e n)
   after-changed =
       let r1 = epOn (admits d e n) Out e in
       changed-trans z Out e given (changed-on (given .sized) Out e (armedAt r1 (headAddr r1)) (armed-alike r1 (headAddr r1) .place) (ap (λ (q : Plain). q .iso) (armed-plain r1 (headAddr r1))))
 
-  after-ep : epOn (after d e n) Out e ≡ arrivedEp (epOn d Out e) n
+  pub after-ep : epOn (after d e n) Out e ≡ arrivedEp (epOn d Out e) n
   after-ep =
       let r1 = epOn (admits d e n) Out e in
       epOn-same (admits d e n) Out e (armedAt r1 (headAddr r1)) (given .sized) ∙ ap (λ (r : EpState). armedAt r (headAddr r)) (admitted-ep d z e (lenOf d e n))
@@ -104,10 +104,10 @@ module _ {d : Driver} (z : Sized d) (e n : ℕ) where
     after-stamps = stamps-on (admits d e n) Out e _ e ∙ admitted-stamps d z e (lenOf d e n) i
 
 -- how its slot is marked
-abbrev staleIn : Driver → ℕ → ℕ → ℕ
+abbrev pub staleIn : Driver → ℕ → ℕ → ℕ
 staleIn d e n = staleOn (admits d e n) e (lenOf d e n) (hasRoomOut (epOn d Out e))
 
-abbrev marks : EpState → ℕ → Buf → Buf
+abbrev pub marks : EpState → ℕ → Buf → Buf
 marks r stale b = armed b (headAddr r) (r .«min_len») (cappedAt r stale)
 
 head-in : {b : Buf} {d : Driver} {p : Pages} (R : Rest quiet b d p) (e : ℕ) → receives d e ≡ true → slotOf (epOn d Out e) (epOn d Out e .head) < 16

@@ -4,7 +4,9 @@ use mathlib.Core.List.{List}
 use mathlib.Core.Path.{_≡_, refl, ap, subst, sym, _∙_}
 use Prim.Native.Nat.{ℕ}
 use Rattle.regs.specs.declared.Reg.{Reg}
-use Rattle.regs.specs.declared.Access.the-variants.{Read, Write}
+use Rattle.regs.specs.declared.Reg.the-variants.{IntFg, IntSt, MisSt, RxLen, FrameNo, Ctrl, IntEn, DevAd, HostCtrl, EpConfig, EpType, EpBufMod, EpMaxLen, EpTLen, EpRxCtrl, EpTxCtrl}
+use Rattle.regs.specs.declared.Access.{Access}
+use Rattle.regs.specs.declared.Access.the-variants.{Read, Write, Receive, Transmit, Ep0Dma, Wait, Callback}
 use Rattle.script.specs.Tree.{Out, ends, asks, bindOut}
 use Rattle.script.specs.Cells.{Cell, Val}
 use Rattle.script.specs.Script.{Script, run, ret, bind, test, _>>=_, _>>_, done, when, read, write, wait, callback, get, put, is, look, fetch, act, hand, Test, Look, Fetch, Act, Hand, handAsk}
@@ -12,13 +14,41 @@ use Rattle.script.specs.Alike.{Phase, quiet}
 use Rattle.ops.specs.Rings.{St}
 use Rattle.ops.specs.Conc.{conc, getOn, putOn, isOf, lookOf, fetchOf, actOn, handOn}
 use Rattle.apart.specs.But.{Channel, Like}
-use Rattle.apart.specs.Apart.{Reads, Apart, end, both, left, right, Pair}
+use Rattle.apart.specs.Likes.{like-sym}
+use Rattle.apart.specs.Apart.{Reads, Brings, Apart, end, both, left, right, Pair}
 
 abbrev pub Eq : {A : Type 0} → A → A → Type 0
 Eq a b = a ≡ b
 
 abbrev pub Any : {A B : Type 0} → A → B → Type 0
 Any a b = Unit {0}
+
+reads-sym : (x st : ℕ) (r : Reg) (v v′ : ℕ) → Reads x st r v v′ → Reads x st r v′ v
+reads-sym x st IntSt v v′ h = (h .1, h .0)
+reads-sym x st RxLen v v′ h = λ z. sym (h z)
+reads-sym x st IntFg v v′ h = sym h
+reads-sym x st MisSt v v′ h = sym h
+reads-sym x st FrameNo v v′ h = sym h
+reads-sym x st Ctrl v v′ h = sym h
+reads-sym x st IntEn v v′ h = sym h
+reads-sym x st DevAd v v′ h = sym h
+reads-sym x st HostCtrl v v′ h = sym h
+reads-sym x st EpConfig v v′ h = sym h
+reads-sym x st EpType v v′ h = sym h
+reads-sym x st EpBufMod v v′ h = sym h
+reads-sym x st EpMaxLen v v′ h = sym h
+reads-sym x st EpTLen v v′ h = sym h
+reads-sym x st EpRxCtrl v v′ h = sym h
+reads-sym x st EpTxCtrl v v′ h = sym h
+
+brings-sym : (x st : ℕ) (q : Access) (v v′ : ℕ) → Brings x st q v v′ → Brings x st q v′ v
+brings-sym x st (Read r e) v v′ h = reads-sym x st r v v′ h
+brings-sym x st (Write r e y) v v′ h = tt
+brings-sym x st (Receive e y) v v′ h = tt
+brings-sym x st (Transmit e y) v v′ h = tt
+brings-sym x st (Ep0Dma y) v v′ h = tt
+brings-sym x st (Wait n) v v′ h = tt
+brings-sym x st Callback v v′ h = tt
 
 module _ {ch : Channel} {st : ℕ} where
   -- ---- outcomes
@@ -29,6 +59,13 @@ module _ {ch : Channel} {st : ℕ} where
   apart-bind (both φ l k) h = both φ l (λ v v′ s t b r. apart-bind (k v v′ s t b r) h)
   apart-bind (left w k) h = left w (λ v s l. apart-bind (k v s l) h)
   apart-bind (right w k) h = right w (λ v t l. apart-bind (k v t l) h)
+
+  -- either run may be named first
+  pub apart-flip : {A B : Type 0} {Q : A → B → Type 0} {o : Out St A} {u : Out St B} → Apart ch st Q o u → Apart ch st (λ b a. Q a b) u o
+  apart-flip (end q l) = end q (like-sym l)
+  apart-flip (both {q = q} φ l k) = both φ (like-sym l) (λ v v′ s t b r. apart-flip (k v′ v t s (brings-sym (ch .number) st q v v′ b) (like-sym r)))
+  apart-flip (left w k) = right w (λ v s l. apart-flip (k v s l))
+  apart-flip (right w k) = left w (λ v t l. apart-flip (k v t l))
 
   -- ---- composed scripts
 
@@ -93,5 +130,7 @@ module _ {ch : Channel} {st : ℕ} where
     p-act q h = record { on = λ s t l. end tt (h s t l) }
 
     pub p-hand : (q : Hand) → ((s t : St) → Like ch quiet s t → (handOn q s .0 ≡ handOn q t .0) × Like ch quiet (handOn q s .1) (handOn q t .1)) → Pair ch st {i = i} Any (hand q) (hand q)
-    p-hand q h = record { on = λ s t l. subst (λ y. Apart ch st Any (asks (handAsk q (handOn q s .0)) (handOn q s .1) (λ _ t. ends tt t)) (asks (handAsk q y) (handOn q t .1) (λ _ t. ends tt t))) (h s t l .0)
-        (both quiet (h s t l .1) (λ v v′ s t b l. end tt l)) }
+    p-hand q h = record {
+      on = λ s t l. subst (λ y. Apart ch st Any (asks (handAsk q (handOn q s .0)) (handOn q s .1) (λ _ t. ends tt t)) (asks (handAsk q y) (handOn q t .1) (λ _ t. ends tt t))) (h s t l .0)
+          (both quiet (h s t l .1) (λ v v′ s t b l. end tt l));
+    }
