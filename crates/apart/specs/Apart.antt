@@ -9,7 +9,7 @@ use Rattle.regs.specs.declared.Reg.the-variants.{IntFg, IntSt, MisSt, RxLen, Fr
 use Rattle.script.specs.Tree.{Out, ends, asks}
 use Rattle.script.specs.Script.{Script, run}
 use Rattle.script.specs.IsoOut.{arriving}
-use Rattle.script.specs.Alike.{Phase, quiet}
+use Rattle.script.specs.Alike.{quiet}
 use Rattle.ops.specs.Rings.{St}
 use Rattle.ops.specs.Conc.{conc}
 use Rattle.apart.specs.But.{Channel, Like}
@@ -55,8 +55,8 @@ module _ (c : Channel) (st : ℕ) where
   -- whatever is read then and whatever becomes of x's data
   pub data Apart {A B : Type 0} (Q : A → B → Type 0) : Out St A → Out St B → Type 0 where
     end : {a : A} {b : B} {s t : St} → Q a b → Like c quiet s t → Apart Q (ends a s) (ends b t)
-    both : {q : Access} {s t : St} {k : ℕ → St → Out St A} {k′ : ℕ → St → Out St B} (φ : Phase) → Like c φ s t
-        → ((v v′ : ℕ) (s t : St) → Brings (c .number) st q v v′ → Like c φ s t → Apart Q (k v s) (k′ v′ t)) → Apart Q (asks q s k) (asks q t k′)
+    both : {q : Access} {s t : St} {k : ℕ → St → Out St A} {k′ : ℕ → St → Out St B} → Like c quiet s t
+        → ((v v′ : ℕ) (s t : St) → Brings (c .number) st q v v′ → Like c quiet s t → Apart Q (k v s) (k′ v′ t)) → Apart Q (asks q s k) (asks q t k′)
     left : {q : Access} {s : St} {k : ℕ → St → Out St A} {u : Out St B} → Own (c .number) q → ((v : ℕ) (s′ : St) → Like c quiet s s′ → Apart Q (k v s′) u) → Apart Q (asks q s k) u
     right : {q : Access} {t : St} {k : ℕ → St → Out St B} {o : Out St A} → Own (c .number) q → ((v : ℕ) (t′ : St) → Like c quiet t t′ → Apart Q o (k v t′)) → Apart Q o (asks q t k)
 

@@ -36,7 +36,7 @@ in-other x e z = key-apart x e (sym z)
 mod-mod : (i : ℕ) → i % 16 % 16 ≡ i % 16
 mod-mod i = omega arith
 
-len-mod : (d : Driver) (dir : Dir) (e i : ℕ) → lenOn d dir e i ≡ lenOn d dir e (i % 16)
+pub len-mod : (d : Driver) (dir : Dir) (e i : ℕ) → lenOn d dir e i ≡ lenOn d dir e (i % 16)
 unfolding lenOn lenKey
 len-mod d dir e i = ap (λ j. getD (d .lens) (key dir e * 16 + j) 0) (sym (mod-mod i))
 

@@ -12,3 +12,6 @@ pub mod OutRings
 pub mod OwnSteps
 pub mod Interrupt
 pub mod Asides
+pub mod Others
+pub mod Stores
+pub mod Runs

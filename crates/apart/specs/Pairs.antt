@@ -10,7 +10,7 @@ use Rattle.regs.specs.declared.Access.the-variants.{Read, Write, Receive, Trans
 use Rattle.script.specs.Tree.{Out, ends, asks, bindOut}
 use Rattle.script.specs.Cells.{Cell, Val}
 use Rattle.script.specs.Script.{Script, run, ret, bind, test, _>>=_, _>>_, done, when, read, write, wait, callback, get, put, is, look, fetch, act, hand, Test, Look, Fetch, Act, Hand, handAsk}
-use Rattle.script.specs.Alike.{Phase, quiet}
+use Rattle.script.specs.Alike.{quiet}
 use Rattle.ops.specs.Rings.{St}
 use Rattle.ops.specs.Conc.{conc, getOn, putOn, isOf, lookOf, fetchOf, actOn, handOn}
 use Rattle.apart.specs.But.{Channel, Like}
@@ -56,14 +56,14 @@ module _ {ch : Channel} {st : ℕ} where
   apart-bind : {A B C D : Type 0} {P : A → B → Type 0} {Q : C → D → Type 0} {o : Out St A} {u : Out St B} {f : A → St → Out St C} {g : B → St → Out St D}
       → Apart ch st P o u → ((a : A) (b : B) (s t : St) → P a b → Like ch quiet s t → Apart ch st Q (f a s) (g b t)) → Apart ch st Q (bindOut o f) (bindOut u g)
   apart-bind (end q l) h = h _ _ _ _ q l
-  apart-bind (both φ l k) h = both φ l (λ v v′ s t b r. apart-bind (k v v′ s t b r) h)
+  apart-bind (both l k) h = both l (λ v v′ s t b r. apart-bind (k v v′ s t b r) h)
   apart-bind (left w k) h = left w (λ v s l. apart-bind (k v s l) h)
   apart-bind (right w k) h = right w (λ v t l. apart-bind (k v t l) h)
 
   -- either run may be named first
   pub apart-flip : {A B : Type 0} {Q : A → B → Type 0} {o : Out St A} {u : Out St B} → Apart ch st Q o u → Apart ch st (λ b a. Q a b) u o
   apart-flip (end q l) = end q (like-sym l)
-  apart-flip (both {q = q} φ l k) = both φ (like-sym l) (λ v v′ s t b r. apart-flip (k v′ v t s (brings-sym (ch .number) st q v v′ b) (like-sym r)))
+  apart-flip (both {q = q} l k) = both (like-sym l) (λ v v′ s t b r. apart-flip (k v′ v t s (brings-sym (ch .number) st q v v′ b) (like-sym r)))
   apart-flip (left w k) = right w (λ v s l. apart-flip (k v s l))
   apart-flip (right w k) = left w (λ v t l. apart-flip (k v t l))
 
@@ -100,16 +100,16 @@ module _ {ch : Channel} {st : ℕ} where
     -- ---- single steps
 
     pub p-read : (r : Reg) (e : ℕ) → Pair ch st {i = i} (Reads (ch .number) st r) (read r e) (read r e)
-    p-read r e = record { on = λ s t l. both quiet l (λ v v′ s t b l. end b l) }
+    p-read r e = record { on = λ s t l. both l (λ v v′ s t b l. end b l) }
 
     pub p-write : (r : Reg) (e v : ℕ) → Pair ch st {i = i} Any (write r e v) (write r e v)
-    p-write r e v = record { on = λ s t l. both quiet l (λ v v′ s t b l. end tt l) }
+    p-write r e v = record { on = λ s t l. both l (λ v v′ s t b l. end tt l) }
 
     pub p-wait : (n : ℕ) → Pair ch st {i = i} Any (wait n) (wait n)
-    p-wait n = record { on = λ s t l. both quiet l (λ v v′ s t b l. end tt l) }
+    p-wait n = record { on = λ s t l. both l (λ v v′ s t b l. end tt l) }
 
     pub p-callback : Pair ch st {i = i} Any callback callback
-    p-callback = record { on = λ s t l. both quiet l (λ v v′ s t b l. end tt l) }
+    p-callback = record { on = λ s t l. both l (λ v v′ s t b l. end tt l) }
 
     pub p-get : (c : Cell) (P : Val c → Val c → Type 0) → ((s t : St) → Like ch quiet s t → P (getOn c s) (getOn c t)) → Pair ch st {i = i} P (get c) (get c)
     p-get c P h = record { on = λ s t l. end (h s t l) l }
@@ -132,5 +132,5 @@ module _ {ch : Channel} {st : ℕ} where
     pub p-hand : (q : Hand) → ((s t : St) → Like ch quiet s t → (handOn q s .0 ≡ handOn q t .0) × Like ch quiet (handOn q s .1) (handOn q t .1)) → Pair ch st {i = i} Any (hand q) (hand q)
     p-hand q h = record {
       on = λ s t l. subst (λ y. Apart ch st Any (asks (handAsk q (handOn q s .0)) (handOn q s .1) (λ _ t. ends tt t)) (asks (handAsk q y) (handOn q t .1) (λ _ t. ends tt t))) (h s t l .0)
-          (both quiet (h s t l .1) (λ v v′ s t b l. end tt l));
+          (both (h s t l .1) (λ v v′ s t b l. end tt l));
     }
