@@ -124,7 +124,7 @@ module _ (c : Channel) (e : ℕ) (n : key Out e ≢ key Out (c .number)) (s t : 
 -- ---- of an IN endpoint
 
 module _ (c : Channel) (e : ℕ) (bytes : List ℕ) (s t : St) (l : Like c quiet s t) where
-  room-in : (n : ℕ) → isOf (room e n) s ≡ isOf (room e n) t
+  pub room-in : (n : ℕ) → isOf (room e n) s ≡ isOf (room e n) t
   unfolding roomOn
   room-in n = ap (λ r. roomIn r n) (l .but .eps In e (in-other (c .number) e))
 
@@ -183,7 +183,7 @@ module _ (c : Channel) (e : ℕ) (bytes : List ℕ) (s t : St) (l : Like c quiet
   unfolding enqueueOn
   enqueued = subst (λ u. Kept (enqueueOn e bytes s) (cond u (queuedOn (t .0) e (length bytes), copied (t .1) (slotAddr (epOn (t .0) In e) (epOn (t .0) In e .head)) bytes) t)) (room-in (length bytes)) (queued-by (roomOn (s .0) e (length bytes)))
 
-  enqueues : Like c quiet (actOn (enqueue e bytes) s) (actOn (enqueue e bytes) t)
+  pub enqueues : Like c quiet (actOn (enqueue e bytes) s) (actOn (enqueue e bytes) t)
   enqueues = let k = enqueued in like-made l (lawful-act c (enqueue e bytes) refl (l .left) (k .stage)) (lawful-act c (enqueue e bytes) refl (l .right) (k .stage′)) (k .but) (k .seat) (k .lent)
 
 -- ---- the calls

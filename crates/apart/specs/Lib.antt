@@ -12,6 +12,8 @@ pub mod OutRings
 pub mod OwnSteps
 pub mod Interrupt
 pub mod Asides
+pub mod Kept
+pub mod Operations
 pub mod Others
 pub mod Stores
 pub mod Runs

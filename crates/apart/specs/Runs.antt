@@ -16,7 +16,7 @@ use Rattle.script.specs.Tree.{ends, asks}
 use Rattle.script.specs.Script.{Script, run}
 use Rattle.script.specs.Answers.{Answer}
 use Rattle.script.specs.Alike.{Phase, quiet}
-use Rattle.script.specs.Calls.{Config, Op, interrupt, aside, Aside, calls, asideCode, asideSlots}
+use Rattle.script.specs.Calls.{Op, aside, Aside, calls, irq, code, slots, asideCode, asideSlots}
 use Rattle.script.specs.Machine.{Buf, Call, begin, go, Ans, ended, handed, told, Awaits, awaited, Way, idle, busy, Machine, call, halt, over, misfit, stay, beside, lentTo, continued}
 use Rattle.ops.specs.Rings.{St}
 use Rattle.ops.specs.Conc.{conc}
@@ -24,9 +24,9 @@ use Rattle.way.specs.Under.{driverOf, drive}
 use Rattle.apart.specs.But.{Lawful, Channel, Like}
 use Rattle.apart.specs.Apart.{Brings, Own, Apart, end, both, left, right, Pair}
 use Rattle.apart.specs.Answers.{SameAnswer}
-use Rattle.apart.specs.Interrupt.{p-interrupt}
 use Rattle.apart.specs.Likes.{like-refl, like-sym, like-trans}
 use Rattle.apart.specs.Asides.{Others, p-aside, Finished, fin, finishes, Mine, own-finishes}
+use Rattle.apart.specs.Operations.{Covered, p-call}
 use Rattle.apart.specs.Stores.{Lent, OwnLent, lent-like, own-like}
 
 -- a machine: what is under way, and the driver's state with the slot buffer
@@ -85,9 +85,15 @@ module _ (c : Channel) (st : ℕ) where
 
   -- ---- the calls that the two runs have in common
 
-  -- an interrupt begins
-  pub interrupts : {s t : St} {b b′ : Buf} → Like c quiet s t → Lent c s t b b′ → After (drive (begin interrupt) (machineOf idle s) b) (drive (begin interrupt) (machineOf idle t) b′)
-  interrupts {s} {t} {b} {b′} l h = halts true (p-interrupt c st .on (s .0, b) (t .0, b′) (lent-like l h))
+  -- an operation begins, or a call ends at once
+  pub begun : (o : Op) → Covered (c .number) o → {s t : St} {b b′ : Buf} → Like c quiet s t → Lent c s t b b′ → After (drive (begin o) (machineOf idle s) b) (drive (begin o) (machineOf idle t) b′)
+  begun o n {s} {t} {b} {b′} l h =
+      let m = lent-like l h in
+      rw (fits (m .left), fits (m .right)) (by (slots o))
+    where
+      by : (u : Bool) → After (cond (cond u false false) (stay calls driverOf 1 (machineOf idle s)) (stops (irq o) (run conc (code o) (s .0, b)))) (cond (cond u false false) (stay calls driverOf 1 (machineOf idle t)) (stops (irq o) (run conc (code o) (t .0, b′))))
+      by true = halts (irq o) (p-call c st o n .on (s .0, b) (t .0, b′) (lent-like l h))
+      by false = halts (irq o) (p-call c st o n .on (s .0, b) (t .0, b′) (lent-like l h))
 
   -- an access that both handed out is continued, with readings within their widths
   pub continues : (i : Bool) (q : Access) {s t : St} {k k′ : ℕ → St → tree.Out St Answer} (v v′ : ℕ) {b b′ : Buf} → Like c quiet s t
@@ -98,17 +104,6 @@ module _ (c : Channel) (st : ℕ) where
       let m = lent-like l h in
       rw (fits (m .left), fits (m .right), w, w′) (halts i (f v v′ (s .0, b) (t .0, b′) r m))
 
-  -- open and close of another endpoint, and queue, between two operations
-  pub asides-idle : (o : Aside) → Others (c .number) o → {s t : St} {b b′ : Buf} → Like c quiet s t → Lent c s t b b′
-      → After (drive (begin (aside o)) (machineOf idle s) b) (drive (begin (aside o)) (machineOf idle t) b′)
-  asides-idle o n {s} {t} {b} {b′} l h =
-      let m = lent-like l h in
-      rw (fits (m .left), fits (m .right)) (by (asideSlots o))
-    where
-      by : (u : Bool) → After (cond (cond u false false) (stay calls driverOf 1 (machineOf idle s)) (stops false (run conc (asideCode o) (s .0, b)))) (cond (cond u false false) (stay calls driverOf 1 (machineOf idle t)) (stops false (run conc (asideCode o) (t .0, b′))))
-      by true = halts false (p-aside c st o n .on (s .0, b) (t .0, b′) (lent-like l h))
-      by false = halts false (p-aside c st o n .on (s .0, b) (t .0, b′) (lent-like l h))
-
   besides : {o u : tree.Out St Answer} (q : Access) (s t : St) {k k′ : ℕ → St → tree.Out St Answer} → quick o ≡ true → quick u ≡ true
       → ((v v′ : ℕ) (s t : St) → Brings (c .number) st q v v′ → Like c quiet s t → Apart c st (SameAnswer (c .number)) (k v s) (k′ v′ t))
       → Apart c st (SameAnswer (c .number)) o u
@@ -118,7 +113,7 @@ module _ (c : Channel) (st : ℕ) where
   besides q s t x y f (left w k) = absurd (true≢false (sym x))
   besides q s t x y f (right w k) = absurd (true≢false (sym y))
 
-  -- and between two accesses of an interrupt
+  -- open and close of another endpoint, and queue, between two accesses of an interrupt
   pub asides-during : (o : Aside) → Others (c .number) o → (q : Access) {s t : St} {k k′ : ℕ → St → tree.Out St Answer} {b b′ : Buf} → Like c quiet s t
       → ((v v′ : ℕ) (s t : St) → Brings (c .number) st q v v′ → Like c quiet s t → Apart c st (SameAnswer (c .number)) (k v s) (k′ v′ t)) → Lent c s t b b′
       → After (drive (begin (aside o)) (machineOf (busy true (awaited q) k) s) b) (drive (begin (aside o)) (machineOf (busy true (awaited q) k′) t) b′)
