@@ -11,13 +11,17 @@ use Rattle.script.specs.Script.{Script, ret, bind, get}
 use Rattle.script.specs.Answers.{Answer, End, operation, resultless, staged, named}
 use Rattle.apart.specs.But.{OtherWakes, Channel, Like}
 use Rattle.apart.specs.Apart.{Pair}
-use Rattle.apart.specs.Likes.{wakes-refl}
+use Rattle.apart.specs.Likes.{wakes-refl, wakes-sym}
 use Rattle.apart.specs.Pairs.{Eq, Any, p-ret, p-bind, p-same, p-then, p-test, p-get, p-put}
 use Rattle.apart.specs.Values.{p-wakes, p-globals, wakes-kept}
 
 pub data SameAnswer (x : ℕ) : Answer → Answer → Type 0 where
   same : (a : Answer) → SameAnswer x a a
   ended : (n : ℕ) {w w′ : Wakes} → OtherWakes x w w′ → SameAnswer x (End n w) (End n w′)
+
+pub answer-sym : {x : ℕ} {a b : Answer} → SameAnswer x a b → SameAnswer x b a
+answer-sym (same a) = same a
+answer-sym (ended n h) = ended n (wakes-sym h)
 
 module _ {c : Channel} {st : ℕ} {i : Bool} where
   pub p-operation : {p p′ : Script i ℕ} → Pair c st Eq p p′ → Pair c st (SameAnswer (c .number)) (operation p) (operation p′)

@@ -27,7 +27,7 @@ use Rattle.apart.specs.But.{OtherWakes, But, Lawful, Channel, Like}
 pub wakes-refl : (x : ℕ) (w : Wakes) → OtherWakes x w w
 wakes-refl x w = record { outs = λ e n. refl; ins = refl; bus = refl }
 
-wakes-sym : {x : ℕ} {w w′ : Wakes} → OtherWakes x w w′ → OtherWakes x w′ w
+pub wakes-sym : {x : ℕ} {w w′ : Wakes} → OtherWakes x w w′ → OtherWakes x w′ w
 wakes-sym h = record { outs = λ e n. sym (h .outs e n); ins = sym (h .ins); bus = sym (h .bus) }
 
 wakes-trans : {x : ℕ} {w w′ w″ : Wakes} → OtherWakes x w w′ → OtherWakes x w′ w″ → OtherWakes x w w″

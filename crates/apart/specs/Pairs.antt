@@ -41,7 +41,7 @@ reads-sym x st EpTLen v v′ h = sym h
 reads-sym x st EpRxCtrl v v′ h = sym h
 reads-sym x st EpTxCtrl v v′ h = sym h
 
-brings-sym : (x st : ℕ) (q : Access) (v v′ : ℕ) → Brings x st q v v′ → Brings x st q v′ v
+pub brings-sym : (x st : ℕ) (q : Access) (v v′ : ℕ) → Brings x st q v v′ → Brings x st q v′ v
 brings-sym x st (Read r e) v v′ h = reads-sym x st r v v′ h
 brings-sym x st (Write r e y) v v′ h = tt
 brings-sym x st (Receive e y) v v′ h = tt
@@ -59,6 +59,12 @@ module _ {ch : Channel} {st : ℕ} where
   apart-bind (both l k) h = both l (λ v v′ s t b r. apart-bind (k v v′ s t b r) h)
   apart-bind (left w k) h = left w (λ v s l. apart-bind (k v s l) h)
   apart-bind (right w k) h = right w (λ v t l. apart-bind (k v t l) h)
+
+  pub apart-more : {A B : Type 0} {P Q : A → B → Type 0} {o : Out St A} {u : Out St B} → ((a : A) (b : B) → P a b → Q a b) → Apart ch st P o u → Apart ch st Q o u
+  apart-more f (end q l) = end (f _ _ q) l
+  apart-more f (both l k) = both l (λ v v′ s t b r. apart-more f (k v v′ s t b r))
+  apart-more f (left w k) = left w (λ v s l. apart-more f (k v s l))
+  apart-more f (right w k) = right w (λ v t l. apart-more f (k v t l))
 
   -- either run may be named first
   pub apart-flip : {A B : Type 0} {Q : A → B → Type 0} {o : Out St A} {u : Out St B} → Apart ch st Q o u → Apart ch st (λ b a. Q a b) u o

@@ -23,7 +23,8 @@ use Rattle.ops.specs.Conc.{conc}
 use Rattle.way.specs.Under.{driverOf, drive}
 use Rattle.apart.specs.But.{Lawful, Channel, Like}
 use Rattle.apart.specs.Apart.{Brings, Own, Apart, end, both, left, right, Pair}
-use Rattle.apart.specs.Answers.{SameAnswer}
+use Rattle.apart.specs.Pairs.{apart-more, apart-flip, brings-sym}
+use Rattle.apart.specs.Answers.{SameAnswer, answer-sym}
 use Rattle.apart.specs.Likes.{like-refl, like-sym, like-trans}
 use Rattle.apart.specs.Asides.{Others, p-aside, Finished, fin, finishes, Mine, own-finishes}
 use Rattle.apart.specs.Operations.{Covered, p-call}
@@ -180,6 +181,16 @@ module _ (c : Channel) (st : ℕ) where
   pub moved-own : (i : Bool) (q : Access) {s : St} {k : ℕ → St → tree.Out St Answer} {u : tree.Out St Answer} {m : Machine Answer Driver} → Own (c .number) q
       → ((v : ℕ) (s′ : St) → Like c quiet s s′ → Apart c st (SameAnswer (c .number)) (k v s′) u) → Moved (busy i (awaited q) k) s m → Stands m (stops i u .1)
   moved-own i q w f (moved k) = left-own i q w (λ v s l. f v s (like-trans k l))
+
+  -- either run may be named first, so what is said of one holds of the other
+  flip-apart : {o u : tree.Out St Answer} → Apart c st (SameAnswer (c .number)) o u → Apart c st (SameAnswer (c .number)) u o
+  flip-apart h = apart-more (λ b a q. answer-sym q) (apart-flip h)
+
+  pub flips : {m n : Machine Answer Driver} → Stands m n → Stands n m
+  flips (rests l) = rests (like-sym l)
+  flips (common i q l f) = common i q (like-sym l) (λ v v′ s t b r. flip-apart (f v′ v t s (brings-sym (c .number) st q v v′ b) (like-sym r)))
+  flips (left-own i q w f) = right-own i q w (λ v s l. flip-apart (f v s l))
+  flips (right-own i q w f) = left-own i q w (λ v t l. flip-apart (f v t l))
 
   -- two runs that are one so far
   pub begins : {s : St} → Lawful (c .iso) quiet s → Stands (machineOf idle s) (machineOf idle s)
