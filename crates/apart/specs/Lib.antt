@@ -13,7 +13,10 @@ pub mod OwnSteps
 pub mod Interrupt
 pub mod Asides
 pub mod Kept
+pub mod Enabling
 pub mod Operations
 pub mod Others
 pub mod Stores
 pub mod Runs
+pub mod Start
+pub mod Lines

@@ -31,12 +31,14 @@ use Rattle.apart.specs.InRings.{in-other}
 use Rattle.apart.specs.Walks.{ctrl-steady, p-reads, p-modify-reg, p-complete}
 use Rattle.apart.specs.Interrupt.{p-interrupt}
 use Rattle.apart.specs.Asides.{Others, p-aside, room-in, enqueues}
+use Rattle.apart.specs.Enabling.{p-set-enabled}
 use Rattle.apart.specs.Kept.{p-put-control, p-control, p-put-paced, p-paced, p-put-request, p-request, p-fill, p-fill0}
 
--- those that are proved: not yet an endpoint enabled or disabled, the bus' poll (both have rows), a read's poll, a data_out's poll. Of the asides
+-- those that are proved: not yet an OUT endpoint enabled or disabled, the bus' poll (both have rows), a read's poll, a data_out's poll. Of the asides
 -- not the channel's own open and close
 abbrev pub CoveredSlots : Slotted → Type 0
-CoveredSlots (SetEnabled dir e onn) = ⊥
+CoveredSlots (SetEnabled Out e onn) = ⊥
+CoveredSlots (SetEnabled In e onn) = Unit {0}
 CoveredSlots (PollRead e n) = ⊥
 CoveredSlots (BeginWrite e bytes) = Unit {0}
 CoveredSlots (PollWrite e bytes) = Unit {0}
@@ -176,7 +178,8 @@ module _ {c : Channel} {st : ℕ} {i : Bool} where
 
 module _ (c : Channel) (st : ℕ) where
   p-slotted : (o : Slotted) → CoveredSlots o → Pair c st (SameAnswer (c .number)) (code (slotted o)) (code (slotted o))
-  p-slotted (SetEnabled dir e onn) n = absurd n
+  p-slotted (SetEnabled Out e onn) n = absurd n
+  p-slotted (SetEnabled In e onn) n = p-staged 2 (p-named In e (p-resultless (p-set-enabled c e onn)))
   p-slotted (PollRead e k) n = absurd n
   p-slotted (BeginWrite e bytes) n = p-staged 2 (p-named In e (p-enabled In e (p-ret (same _)) (p-plain c In e (λ s _. p-unless _ 10 (p-then (p-put-request c In e _) (p-resultless (p-test _ (λ _. p-ret tt) (λ _. p-load-write e bytes))))))))
   p-slotted (PollWrite e bytes) n = p-staged 2 (p-named In e (p-polled In e (length bytes) (in-other (c .number) e) (λ s. p-test _ (λ _. p-put-iso e bytes) (λ _. p-sent-ready e s))))
