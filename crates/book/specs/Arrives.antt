@@ -63,7 +63,7 @@ arrived-slot r = arrived-keeps (λ s. s .«armed_slot») r (λ s n. refl) (λ s 
 arrived-open : (r : EpState) → arrivedOf r .«open» ≡ r .«open»
 arrived-open r = arrived-keeps (λ s. s .«open») r (λ s n. refl) (λ s n. refl)
 
-arrived-inner : (r : EpState) → Inner r (arrivedOf r)
+pub arrived-inner : (r : EpState) → Inner r (arrivedOf r)
 arrived-inner r = record { place = arrived-place r; plain = arrived-plain r }
 
 -- ---- the page
@@ -168,7 +168,7 @@ module _ {b b′ : Buf} {r : EpState} {ls ss : List ℕ} {p : OutPage} (f : OutF
         upto = slot-upto (f .held .placed) (r .head);
       }
 
-armed-plain : (r : EpState) (x : ℕ) → plainOf (armedAt r x) ≡ plainOf r
+pub armed-plain : (r : EpState) (x : ℕ) → plainOf (armedAt r x) ≡ plainOf r
 unfolding armedAt
 armed-plain r x = refl
 
@@ -200,7 +200,7 @@ arm-rest {b} {b′} {d} {t} R e d1 p c same f u long o =
 -- ---- a packet admitted, or turned away
 
 module _ (d : Driver) (s : Sized d) (e len : ℕ) where
-  abbrev head-slot : ℕ
+  abbrev pub head-slot : ℕ
   head-slot = slotOf (epOn d Out e) (epOn d Out e .head)
 
   abbrev lengthened : Driver
@@ -243,15 +243,15 @@ module _ (d : Driver) (s : Sized d) (e len : ℕ) where
     unfolding recordedOn arrivedLens
     recorded-stamps = recorded-stamps-by (hasRoomOut (epOn d Out e))
 
-  admitted-ep : epOn (admittedOn d e len) Out e ≡ arrivedOf (epOn d Out e)
+  pub admitted-ep : epOn (admittedOn d e len) Out e ≡ arrivedOf (epOn d Out e)
   unfolding admittedOn
   admitted-ep = epOn-same (recordedOn d e len) Out e (arrivedOf (epOn d Out e)) (recorded-changed .sized)
 
-  admitted-lens : head-slot < 16 → lensOf (admittedOn d e len) Out e ≡ arrivedLens (epOn d Out e) (lensOf d Out e) len
+  pub admitted-lens : head-slot < 16 → lensOf (admittedOn d e len) Out e ≡ arrivedLens (epOn d Out e) (lensOf d Out e) len
   unfolding admittedOn
   admitted-lens i = lens-on (recordedOn d e len) Out e (arrivedOf (epOn d Out e)) Out e ∙ recorded-lens i
 
-  admitted-stamps : head-slot < 16 → slotStamps (admittedOn d e len) e ≡ arrivedLens (epOn d Out e) (slotStamps d e) (d .globals .entered)
+  pub admitted-stamps : head-slot < 16 → slotStamps (admittedOn d e len) e ≡ arrivedLens (epOn d Out e) (slotStamps d e) (d .globals .entered)
   unfolding admittedOn
   admitted-stamps i = stamps-on (recordedOn d e len) Out e (arrivedOf (epOn d Out e)) e ∙ recorded-stamps i
 
@@ -268,7 +268,7 @@ abbrev pub admits : Driver → ℕ → ℕ → Driver
 admits d e n = admittedOn d e (cappedAt (epOn d Out e) n)
 
 -- the head's address
-abbrev headAddr : EpState → ℕ
+abbrev pub headAddr : EpState → ℕ
 headAddr r = slotAddr r (r .head)
 
 -- the address told after the page changed
