@@ -12,7 +12,7 @@ use Rattle.script.specs.IsoOut.{arriving}
 use Rattle.script.specs.Alike.{quiet}
 use Rattle.ops.specs.Rings.{St}
 use Rattle.ops.specs.Conc.{conc}
-use Rattle.apart.specs.But.{Channel, Like}
+use Rattle.apart.specs.But.{Channel, Like, Touched}
 
 -- "with the status word and the other readings the same throughout each interrupt", but for "the lengths reported for its packets": where the
 -- status word `st` shows OUT for x
@@ -57,8 +57,8 @@ module _ (c : Channel) (st : ℕ) where
     end : {a : A} {b : B} {s t : St} → Q a b → Like c quiet s t → Apart Q (ends a s) (ends b t)
     both : {q : Access} {s t : St} {k : ℕ → St → Out St A} {k′ : ℕ → St → Out St B} → Like c quiet s t
         → ((v v′ : ℕ) (s t : St) → Brings (c .number) st q v v′ → Like c quiet s t → Apart Q (k v s) (k′ v′ t)) → Apart Q (asks q s k) (asks q t k′)
-    left : {q : Access} {s : St} {k : ℕ → St → Out St A} {u : Out St B} → Own (c .number) q → ((v : ℕ) (s′ : St) → Like c quiet s s′ → Apart Q (k v s′) u) → Apart Q (asks q s k) u
-    right : {q : Access} {t : St} {k : ℕ → St → Out St B} {o : Out St A} → Own (c .number) q → ((v : ℕ) (t′ : St) → Like c quiet t t′ → Apart Q o (k v t′)) → Apart Q o (asks q t k)
+    left : {q : Access} {s : St} {k : ℕ → St → Out St A} {u : Out St B} → Own (c .number) q → ((v : ℕ) (s′ : St) → Touched c quiet s s′ → Apart Q (k v s′) u) → Apart Q (asks q s k) u
+    right : {q : Access} {t : St} {k : ℕ → St → Out St B} {o : Out St A} → Own (c .number) q → ((v : ℕ) (t′ : St) → Touched c quiet t t′ → Apart Q o (k v t′)) → Apart Q o (asks q t k)
 
   -- two scripts that run so from all such states
   pub record Pair {i : Bool} {A B : Type 0} (Q : A → B → Type 0) (p : Script i A) (p′ : Script i B) : Type 0 where

@@ -35,9 +35,9 @@ use Rattle.book.specs.Rest.{endOf, lensOf, slotStamps}
 use Rattle.book.specs.Lens.{stamps-at, lens-at, lens-length, lens-set, lens-mod, ep-len}
 use Rattle.book.specs.Frame.{Changed, changed-on, changed-len, changed-trans, same-place}
 use Rattle.book.specs.Outs.{Inner}
-use Rattle.apart.specs.But.{But, Lawful, Channel, Like}
+use Rattle.apart.specs.But.{But, Beside, Lawful, Channel, Like, Touched}
 use Rattle.apart.specs.Apart.{Pair}
-use Rattle.apart.specs.Likes.{own-changed, but-refl, like-refl, like-trans}
+use Rattle.apart.specs.Likes.{own-changed, but-refl, touched-refl, touched-trans}
 use Rattle.apart.specs.Pairs.{Eq, Any, p-ret, p-bind, p-same, p-then, p-test, p-get, p-is, p-look, p-fetch, p-act}
 use Rattle.apart.specs.Buts.{but-on, but-cond, but-changed, changed-seat, like-made, lawful-act, others-same}
 use Rattle.apart.specs.Values.{p-globals, p-plain}
@@ -217,14 +217,14 @@ module _ (c : Channel) (s : St) (l : Lawful (c .iso) quiet s) where
   abbrev x : ℕ
   x = c .number
 
-  own-on : (r : EpState) → Inner (epOn (s .0) Out x) r → But x (s .0) (withOn (s .0) Out x r)
+  own-on : (r : EpState) → Inner (epOn (s .0) Out x) r → Beside x (s .0) (withOn (s .0) Out x r)
   own-on r k = own-changed (changed-on (l .rest .sized) Out x r (k .place) (ap (λ (q : Plain). q .iso) (k .plain))) (rw (epOn-same (s .0) Out x r (l .rest .sized)) k)
 
-  own-cond : (u : Bool) (r : EpState) → Inner (epOn (s .0) Out x) r → But x (s .0) (cond u (withOn (s .0) Out x r) (s .0))
+  own-cond : (u : Bool) (r : EpState) → Inner (epOn (s .0) Out x) r → Beside x (s .0) (cond u (withOn (s .0) Out x r) (s .0))
   own-cond true r k = own-on r k
   own-cond false r k = but-refl x (s .0)
 
-  pub own-opens : Like c quiet s (actOn (open-oldest x) s)
+  pub own-opens : Touched c quiet s (actOn (open-oldest x) s)
   unfolding openOn withOn openedOf
   own-opens = record {
     left = l;
@@ -233,7 +233,7 @@ module _ (c : Channel) (s : St) (l : Lawful (c .iso) quiet s) where
     bytes = only-refl _ _ (s .1);
   }
 
-  pub own-closes : Like c quiet s (actOn (close-oldest x) s)
+  pub own-closes : Touched c quiet s (actOn (close-oldest x) s)
   unfolding closeOn withOn closedOf Rattle.ring.specs.Slot.passedOf
   own-closes = record {
     left = l;
@@ -303,11 +303,11 @@ Mine x (Open e) = e ≡ x
 Mine x (Close e) = e ≡ x
 Mine x (Queue e bytes) = ⊥
 
-own-act : (c : Channel) (o : Aside) → Mine (c .number) o → (s t : St) → Like c quiet s t → Like c quiet s (actOn (actOf o) t)
-own-act c (Open e) m s t l = subst (λ k. Like c quiet s (actOn (open-oldest k) t)) (sym m) (like-trans l (own-opens c t (l .right)))
-own-act c (Close e) m s t l = subst (λ k. Like c quiet s (actOn (close-oldest k) t)) (sym m) (like-trans l (own-closes c t (l .right)))
+own-act : (c : Channel) (o : Aside) → Mine (c .number) o → (s t : St) → Touched c quiet s t → Touched c quiet s (actOn (actOf o) t)
+own-act c (Open e) m s t l = subst (λ k. Touched c quiet s (actOn (open-oldest k) t)) (sym m) (touched-trans l (own-opens c t (l .right)))
+own-act c (Close e) m s t l = subst (λ k. Touched c quiet s (actOn (close-oldest k) t)) (sym m) (touched-trans l (own-closes c t (l .right)))
 own-act c (Queue e bytes) m s t l = absurd m
 
 -- it leaves a state that is the same but for the channel's data
-pub own-finishes : (c : Channel) (o : Aside) → Mine (c .number) o → (s : St) → Lawful (c .iso) quiet s → Finished (Like c quiet s) (run conc (asideCode o) s)
-own-finishes c o m s l = finishes o (Like c quiet s) (own-act c o m s) s (like-refl l)
+pub own-finishes : (c : Channel) (o : Aside) → Mine (c .number) o → (s : St) → Lawful (c .iso) quiet s → Finished (Touched c quiet s) (run conc (asideCode o) s)
+own-finishes c o m s l = finishes o (Touched c quiet s) (own-act c o m s) s (touched-refl l)

@@ -11,7 +11,7 @@ use Rattle.regs.specs.declared.Dir.{Dir}
 use Rattle.regs.specs.declared.Dir.the-variants.{Out, In}
 use Rattle.state.specs.declared.EpState.{EpState}
 use Rattle.state.specs.declared.Globals.{Globals}
-use Rattle.state.specs.declared.Wakes.{Wakes}
+use Rattle.state.specs.Wakes.{Wakes}
 use Rattle.state.specs.Driver.{Driver, key, epOn, withOn, lenOn, stampOn, requestOn, withGlobals, withWakes}
 use Rattle.state.specs.Laws.{Sized, key-apart, epOn-same, epOn-other}
 use Rattle.marks.specs.Only.{Same, Only, only-apart}

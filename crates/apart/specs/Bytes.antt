@@ -9,11 +9,11 @@ use borrow.Author.Tests.{lt-ltb, le-ltb}
 use lib.Dec.{ltb}
 use lib.ListN.{length, getD, set, take, drop, length-set, length-drop, List·getD-eq-default, List·getD-append}
 use lib.Seq.{sets, getD-set-same, getD-set-other, getD-append-add, getD-drop}
-use Rattle.marks.specs.Marks.{mark, marked, markedRun, firstWord, words, arm, reach, armed}
+use Rattle.marks.specs.Marks.{mark, marked, markedRun, armedWords, arm, reach, armed}
 use Rattle.marks.specs.Copies.{copied, over}
 use Rattle.marks.specs.Only.{Only, only-set, only-sets, back-low, back-high, part-byte}
 use Rattle.marks.specs.Arms.{only-marked, only-run, only-arm}
-use Rattle.marks.specs.Slots.{only-armed, only-copied, over-low}
+use Rattle.marks.specs.Slots.{only-armed, only-copied, over-low, over-high}
 
 -- byte k of two buffers is the same
 abbrev pub At : ℕ → List ℕ → List ℕ → Type 0
@@ -44,9 +44,9 @@ unfolding markedRun
 run-like zero b c i k h = h
 run-like (suc n) b c i k h = run-like n (marked b i) (marked c i) (i + 1) k (marked-like b c i k h)
 
-arm-like : (from dirty : ℕ) (b c : List ℕ) (k : ℕ) → At k b c → At k (arm from dirty b) (arm from dirty c)
+arm-like : (maximum : ℕ) (b c : List ℕ) (k : ℕ) → At k b c → At k (arm maximum b) (arm maximum c)
 unfolding arm
-arm-like from dirty b c k h = run-like (words dirty - firstWord from) (marked b 0) (marked c 0) (firstWord from) k (marked-like b c 0 k h)
+arm-like maximum b c k h = run-like (armedWords maximum) b c 0 k h
 
 -- a part put back
 back-like : (b c p q : List ℕ) (at k : ℕ) → at ≤ length b → At k b c → (at ≤ k → getD q (k - at) 0 ≡ getD p (k - at) 0) → getD (take at c ++ q) k 0 ≡ getD (take at b ++ p) k 0
@@ -58,21 +58,16 @@ back-like b c p q at k l (long, e) h = elim (decLt k at) [
 part-at : (b c : List ℕ) (at k : ℕ) → at ≤ k → At k b c → At (k - at) (drop at b) (drop at c)
 part-at b c at k l (long, e) = (simp (length-drop) (ap (λ n. n - at) long), part-byte c at k l ∙ e ∙ sym (part-byte b at k l))
 
-pub armed-like : (b c : List ℕ) (at from dirty k : ℕ) → At k b c → At k (armed b at from dirty) (armed c at from dirty)
+pub armed-like : (b c : List ℕ) (at maximum k : ℕ) → At k b c → At k (armed b at maximum) (armed c at maximum)
 unfolding armed
-armed-like b c at from dirty k h = (only-armed c at from dirty .long ∙ h .0 ∙ sym (only-armed b at from dirty .long), byte)
+armed-like b c at maximum k h = (only-armed c at maximum .long ∙ h .0 ∙ sym (only-armed b at maximum .long), byte)
   where
-    byte : getD (armed c at from dirty) k 0 ≡ getD (armed b at from dirty) k 0
-    byte = elim (decLt (length b) (at + reach dirty)) [
-      | yes g ↦ rw (lt-ltb (length b) (at + reach dirty) g, lt-ltb (length c) (at + reach dirty) (omega (arith, h .0))) (h .1)
-      | no g ↦ rw (le-ltb (length b) (at + reach dirty) (omega arith), le-ltb (length c) (at + reach dirty) (omega (arith, h .0)))
-          (back-like b c (arm from dirty (drop at b)) (arm from dirty (drop at c)) at k (omega arith) h (λ l. arm-like from dirty (drop at b) (drop at c) (k - at) (part-at b c at k l h) .1))
+    byte : getD (armed c at maximum) k 0 ≡ getD (armed b at maximum) k 0
+    byte = elim (decLt (length b) (at + reach maximum)) [
+      | yes g ↦ rw (lt-ltb (length b) (at + reach maximum) g, lt-ltb (length c) (at + reach maximum) (omega (arith, h .0))) (h .1)
+      | no g ↦ rw (le-ltb (length b) (at + reach maximum) (omega arith), le-ltb (length c) (at + reach maximum) (omega (arith, h .0)))
+          (back-like b c (arm maximum (drop at b)) (arm maximum (drop at c)) at k (omega arith) h (λ l. arm-like maximum (drop at b) (drop at c) (k - at) (part-at b c at k l h) .1))
     ]
-
-over-high : (v p : List ℕ) (k : ℕ) → length v ≤ k → getD (over v p) k 0 ≡ getD p k 0
-over-high v p k h =
-    let e : length v + (k - length v) ≡ k = omega arith in
-    rw e at (getD-append-add v (drop (length v) p) (k - length v) 0 ∙ getD-drop (length v) p (k - length v) 0)
 
 over-like : (v b c : List ℕ) (k : ℕ) → At k b c → getD (over v c) k 0 ≡ getD (over v b) k 0
 over-like v b c k h = elim (decLt k (length v)) [

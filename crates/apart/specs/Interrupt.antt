@@ -17,11 +17,9 @@ use Rattle.regs.specs.declared.Token.{Token}
 use Rattle.regs.specs.declared.Token.the-variants as tok
 use Rattle.regs.specs.Status.{endpoint, token, outToken, isOut, isIn, togOk}
 use Rattle.state.specs.declared.Globals.{Globals}
-use Rattle.state.specs.declared.Wakes.{Wakes}
-use Rattle.state.specs.Wakes.{none-woken}
 use Rattle.state.specs.Driver.{key}
 use Rattle.script.specs.declared.Transfer.{Transfer}
-use Rattle.script.specs.Cells.{Plain, globals-cell, wakes-cell, ep-cell}
+use Rattle.script.specs.Cells.{Plain, globals-cell, ep-cell}
 use Rattle.script.specs.Script.{Script, bind, _>>=_, _>>_, put, changed, marked, arrive, setup-word}
 use Rattle.script.specs.Statics.{isOn, isoOuts}
 use Rattle.script.specs.IsoOut.{arriving, entry, arrives, checkOne, checkWalk, isoOutCheck}
@@ -29,12 +27,11 @@ use Rattle.script.specs.Handler.{entered, sameOut, lateTaken, waited, retaken, 
 use Rattle.script.specs.Calls.{interruptCode}
 use Rattle.script.specs.Sorts.{Shows, Among}
 use Rattle.script.specs.SortsWalks.{among-outs}
-use Rattle.apart.specs.But.{OtherWakes, Channel, Like}
+use Rattle.apart.specs.But.{Channel, Like}
 use Rattle.apart.specs.Apart.{Reads, Pair}
-use Rattle.apart.specs.Likes.{wakes-refl}
 use Rattle.apart.specs.Pairs.{Eq, Any, p-ret, p-bind, p-same, p-then, p-test, p-tests, p-when, p-read, p-write, p-is, p-look, p-hand, p-put}
 use Rattle.apart.specs.Answers.{SameAnswer, p-staged, p-resultless}
-use Rattle.apart.specs.Values.{p-modify, p-modify-ep, p-wake, p-wake-bus, p-wakes, p-globals, p-plain, wakes-kept}
+use Rattle.apart.specs.Values.{p-modify, p-modify-ep, p-wake, p-wake-bus, p-globals, p-plain}
 use Rattle.apart.specs.InRings.{setup-same}
 use Rattle.apart.specs.OutRings.{changed-same, marked-len-same, arrives-same}
 use Rattle.apart.specs.OwnSteps.{p-own-check}

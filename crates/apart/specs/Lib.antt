@@ -1,6 +1,7 @@
 pub mod But
 pub mod Apart
 pub mod Likes
+pub mod Wakes
 pub mod Pairs
 pub mod Buts
 pub mod Values

@@ -4,6 +4,7 @@ use mathlib.Core.Path.{_≡_}
 use Prim.Native.Nat.{ℕ}
 use Rattle.regs.specs.declared.Access.{Access}
 use Rattle.state.specs.Driver.{Driver}
+use Rattle.state.specs.WakesLaws.{Room}
 use Rattle.script.specs.Tree as tree
 use Rattle.script.specs.Answers.{Answer}
 use Rattle.script.specs.Alike.{quiet}
@@ -11,7 +12,7 @@ use Rattle.script.specs.Calls.{Op, Aside, aside, calls}
 use Rattle.script.specs.Machine.{Buf, begin, awaited, idle, busy, Machine, over}
 use Rattle.ops.specs.Rings.{St}
 use Rattle.way.specs.Under.{drive}
-use Rattle.apart.specs.But.{Lawful, Channel, Like}
+use Rattle.apart.specs.But.{Lawful, Channel, Like, Touched}
 use Rattle.apart.specs.Apart.{Brings, Own, Apart}
 use Rattle.apart.specs.Answers.{SameAnswer}
 use Rattle.apart.specs.Asides.{Others, Mine}
@@ -25,12 +26,12 @@ module _ (c : Channel) where
   Rest st q k k′ = (v v′ : ℕ) (s t : St) → Brings (c .number) st q v v′ → Like c quiet s t → Apart c st (SameAnswer (c .number)) (k v s) (k′ v′ t)
 
   abbrev OwnRest : ℕ → St → (ℕ → St → tree.Out St Answer) → tree.Out St Answer → Type 0
-  OwnRest st s k u = (v : ℕ) (s′ : St) → Like c quiet s s′ → Apart c st (SameAnswer (c .number)) (k v s′) u
+  OwnRest st s k u = (v : ℕ) (s′ : St) → Touched c quiet s s′ → Apart c st (SameAnswer (c .number)) (k v s′) u
 
   -- "alike but for the bytes stored in the slots of one isochronous OUT endpoint, the lengths reported for its packets, its opens and closes, and the
   -- continues its own accesses take": the runs so far, by where they stand
   pub data Lined : (st : ℕ) (m n : Machine Answer Driver) → Stands c st m n → Type 0 where
-    one : {st : ℕ} {s : St} (l : Lawful (c .iso) quiet s) → Lined st _ _ (begins c st l)
+    one : {st : ℕ} {s : St} (l : Lawful (c .iso) quiet s) (r : Room (s .0 .wakes)) → Lined st _ _ (begins c st l r)
     -- both get a call, nothing being under way; `st`: the status word of an interrupt
     call : {old : ℕ} {s t : St} {l : Like c quiet s t} → Lined old _ _ (rests l) → (st : ℕ) (o : Op) (n : Covered (c .number) o) {b b′ : Buf} (h : Lent c s t b b′) → Lined st _ _ (begun c st o n l h .stand)
     -- both continue an access that is not the channel's

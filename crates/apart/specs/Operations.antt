@@ -21,7 +21,7 @@ use Rattle.script.specs.IsoIn.{isoInCompletions, isoInAdvance, isoInSetPaced, m
 use Rattle.script.specs.Bus as bus
 use Rattle.script.specs.Endpoint.{enabled-else, ends-request, arm-read, polled, load-write, put-iso, sent-ready}
 use Rattle.script.specs.Control.{ends-control, unlessSetup, withinMaximum, requested, aborted-else, acks, closing-out, take-closing, take-in, statusIn}
-use Rattle.script.specs.Calls.{Slotted, SetEnabled, PollRead, BeginWrite, PollWrite, PollDataOut, BeginDataIn, Other, Allocate, Start, BusPoll, BusEnable, BusDisable, Microframe, SetStalled, IsStalled, SetPaced, Advance, BeginRead, BeginSetup, PollSetup, PollDataIn, BeginAccept, PollAccept, BeginReject, BeginDataOut, BeginAcceptSetAddress, Op, interrupt, slotted, other, aside, irq, code, numbered, named-or-0}
+use Rattle.script.specs.Calls.{Slotted, SetEnabled, PollRead, BeginWrite, PollWrite, PollDataOut, BeginDataIn, Other, Allocate, AllocateAll, Start, BusPoll, BusEnable, BusDisable, Microframe, SetStalled, IsStalled, SetPaced, Advance, BeginRead, BeginSetup, PollSetup, PollDataIn, BeginAccept, PollAccept, BeginReject, BeginDataOut, BeginAcceptSetAddress, Op, interrupt, slotted, other, aside, irq, code, numbered, named-or-0}
 use Rattle.apart.specs.But.{Channel, Like}
 use Rattle.apart.specs.Apart.{Pair}
 use Rattle.apart.specs.Pairs.{Eq, Any, p-ret, p-bind, p-same, p-then, p-test, p-when, p-write, p-get, p-is, p-act}
@@ -47,6 +47,7 @@ CoveredSlots (BeginDataIn bytes first last) = Unit {0}
 
 abbrev pub CoveredOther : Other → Type 0
 CoveredOther (Allocate dir kind address maximum interval) = Unit {0}
+CoveredOther (AllocateAll bytes) = Unit {0}
 CoveredOther (Start maximum) = Unit {0}
 CoveredOther BusPoll = ⊥
 CoveredOther BusEnable = Unit {0}
@@ -189,6 +190,7 @@ module _ (c : Channel) (st : ℕ) where
 
   p-other : (o : Other) → CoveredOther o → Pair c st (SameAnswer (c .number)) (code (other o)) (code (other o))
   p-other (Allocate dir kind address maximum interval) n = p-early
+  p-other (AllocateAll bytes) n = p-early
   p-other (Start maximum) n = p-early
   p-other BusPoll n = absurd n
   p-other BusEnable n = p-staged 2 (p-resultless (p-modify-reg Ctrl 0 _ (λ v v′ h. h)))

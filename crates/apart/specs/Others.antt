@@ -2,14 +2,14 @@
 use mathlib.Core.Bool.{Bool, true, false, cond}
 use mathlib.Core.Logic.{_≢_}
 use mathlib.Core.Path.{_≡_, refl, ap, sym, _∙_}
-use Prim.Native.Nat.{ℕ, _%_, _≤_, _<_}
+use Prim.Native.Nat.{ℕ, _≤_, _<_}
 use native.Mathlib.Omega.{arith}
 use lib.ListN.{getD}
-use Rattle.bits.specs.Bit.{isSet}
 use Rattle.regs.specs.declared.Dir.{Dir}
 use Rattle.regs.specs.declared.Dir.the-variants.{Out, In}
 use Rattle.state.specs.declared.EpState.{EpState}
 use Rattle.state.specs.Driver.{Driver, key, epOn}
+use Rattle.state.specs.Wakes.{listed}
 use Rattle.ring.specs.Waiting.{waiting}
 use Rattle.ring.specs.Laws.{waiting-outside}
 use Rattle.ring.specs.Slot.{countOf}
@@ -23,7 +23,7 @@ use Rattle.way.specs.Questions.{pendingOn, overrunsOf, overrunsOn, enabledAsked
 use Rattle.ops.specs.Rings.{St}
 use Rattle.book.specs.Rest.{endOf, lensOf, slotStamps}
 use Rattle.book.specs.Stamps.{stamped}
-use Rattle.apart.specs.But.{Channel, Like}
+use Rattle.apart.specs.But.{SameCodes, Channel, Like}
 use Rattle.apart.specs.Buts.{others-same}
 use Rattle.apart.specs.InRings.{in-other}
 
@@ -51,9 +51,9 @@ module _ {c : Channel} {s t : St} (l : Like c quiet s t) where
   pub same-overruns : (e : ℕ) → key Out e ≢ key Out (c .number) → epOn (s .0) Out e .overruns ≡ epOn (t .0) Out e .overruns
   same-overruns e n = ap (λ (r : EpState). r .overruns) (l .but .eps Out e n)
 
-  -- the wake-ups gathered so far: of an OUT endpoint, of all IN endpoints, of the bus
-  pub same-wakes : (e : ℕ) → e ≢ c .number % 16 → isSet (s .0 .wakes .outs) e ≡ isSet (t .0 .wakes .outs) e
-  same-wakes e n = l .but .wakes .outs e n
+  -- the wake-ups gathered so far, of all others and of the bus, in their order
+  pub same-wakes : SameCodes (c .number) (listed (s .0 .wakes)) (listed (t .0 .wakes))
+  same-wakes = l .but .wakes .same
 
   -- what the questions ask, but for the channel's overruns
   abbrev Asked : Question → Type 0

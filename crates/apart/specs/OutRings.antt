@@ -13,11 +13,11 @@ use Rattle.state.specs.declared.EpState.{EpState}
 use Rattle.state.specs.declared.Globals.{Globals}
 use Rattle.state.specs.Driver.{Driver, key, epOn, withOn, lenOn}
 use Rattle.state.specs.Laws.{Sized, key-same, key-apart, epOn-same}
-use Rattle.marks.specs.Marks.{isMarked, markedLen, words, armed}
+use Rattle.marks.specs.Marks.{isMarked, markedLen, armed}
 use Rattle.marks.specs.Only.{Same, Only, only-refl, only-wider}
 use Rattle.marks.specs.Slots.{marked-same, len-same}
 use Rattle.ring.specs.Slot.{slotOf, slotAddr}
-use Rattle.ring.specs.Out.{hasRoomOut, cappedAt, arrivedOf, arrivedLens, armSlot, armedAt}
+use Rattle.ring.specs.Out.{cappedAt, arrivedOf, arrivedLens, armedAt}
 use Rattle.ring.specs.Waiting.{SamePlace}
 use Rattle.ring.specs.Slots.{slot-in, slot-from, slot-upto}
 use Rattle.ring.specs.Laws.{place-addr}
@@ -28,7 +28,7 @@ use Rattle.script.specs.Alike.{Phase, quiet}
 use Rattle.script.specs.Statics.{isOn, isoOuts}
 use Rattle.script.specs.Machine.{Buf}
 use Rattle.ops.specs.Records.{plainOf}
-use Rattle.ops.specs.Rings.{St, changedOn, markedOn, admittedOn, staleOn, arrivedAt, arriveOn}
+use Rattle.ops.specs.Rings.{St, changedOn, markedOn, admittedOn, arrivedAt, arriveOn}
 use Rattle.ops.specs.Conc.{isOf, lookOf, handOn}
 use Rattle.book.specs.Pages.{Pages}
 use Rattle.book.specs.Rest.{endOf, Used, lensOf, slotStamps, Rest}
@@ -41,7 +41,6 @@ use Rattle.apart.specs.But.{But, Lawful, Channel, Like}
 use Rattle.apart.specs.Likes.{inner-trans, own-changed, but-refl}
 use Rattle.apart.specs.Buts.{but-changed, changed-seat, like-made, lawful-hand, others-same}
 use Rattle.apart.specs.Bytes.{At, armed-like, only-like}
-use Rattle.apart.specs.InRings.{len-any}
 
 -- ---- what is asked of another's armed slot
 
@@ -64,7 +63,7 @@ module _ (c : Channel) (e : ℕ) (n : key Out e ≢ key Out (c .number)) (i : c 
   unfolding markedOn
   marked-len-same =
       let r = epOn (s .0) Out e in
-      sym (len-same (s .1) (t .1) (r .«armed_slot») (l .bytes .long) (r .«max_len») (slot-same (words (r .«max_len») * 4) (omega (arith, size-words .1, l .left .rest .outs e .held .least))))
+      sym (len-same (s .1) (t .1) (r .«armed_slot») (l .bytes .long) (r .«max_len») (slot-same (r .«max_len») (l .left .rest .outs e .held .least)))
       ∙ ap (λ (r : EpState). markedLen (t .1) (r .«armed_slot») (r .«max_len»)) (l .but .eps Out e n)
 
 -- ---- the driver after an arrival on OUT e that is received: the record, the lengths, the stamps
@@ -72,12 +71,9 @@ module _ (c : Channel) (e : ℕ) (n : key Out e ≢ key Out (c .number)) (i : c 
 abbrev pub lenOf : Driver → ℕ → ℕ → ℕ
 lenOf d e n = cappedAt (epOn d Out e) n
 
--- the record before its slot is armed, and after
-abbrev pub before : EpState → ℕ → EpState
-before r n = arrivedOf r (cappedAt r n)
-
-abbrev pub arrivedEp : EpState → ℕ → EpState
-arrivedEp r n = armedAt (before r n) (headAddr (before r n))
+-- the record after it, its slot armed
+abbrev pub arrivedEp : EpState → EpState
+arrivedEp r = armedAt (arrivedOf r) (headAddr (arrivedOf r))
 
 abbrev pub after : Driver → ℕ → ℕ → Driver
 after d e n = let r1 = epOn (admits d e n) Out e in withOn (admits d e n) Out e (armedAt r1 (headAddr r1))
@@ -91,7 +87,7 @@ module _ {d : Driver} (z : Sized d) (e n : ℕ) where
       let r1 = epOn (admits d e n) Out e in
       changed-trans z Out e given (changed-on (given .sized) Out e (armedAt r1 (headAddr r1)) (armed-alike r1 (headAddr r1) .place) (ap (λ (q : Plain). q .iso) (armed-plain r1 (headAddr r1))))
 
-  pub after-ep : epOn (after d e n) Out e ≡ arrivedEp (epOn d Out e) n
+  pub after-ep : epOn (after d e n) Out e ≡ arrivedEp (epOn d Out e)
   after-ep =
       let r1 = epOn (admits d e n) Out e in
       epOn-same (admits d e n) Out e (armedAt r1 (headAddr r1)) (given .sized) ∙ ap (λ (r : EpState). armedAt r (headAddr r)) (admitted-ep d z e (lenOf d e n))
@@ -104,11 +100,8 @@ module _ {d : Driver} (z : Sized d) (e n : ℕ) where
     after-stamps = stamps-on (admits d e n) Out e _ e ∙ admitted-stamps d z e (lenOf d e n) i
 
 -- how its slot is marked
-abbrev pub staleIn : Driver → ℕ → ℕ → ℕ
-staleIn d e n = staleOn (admits d e n) e (lenOf d e n) (hasRoomOut (epOn d Out e))
-
-abbrev pub marks : EpState → ℕ → Buf → Buf
-marks r stale b = armed b (headAddr r) (r .«min_len») (cappedAt r stale)
+abbrev pub marks : EpState → Buf → Buf
+marks r b = armed b (headAddr r) (r .«max_len»)
 
 head-in : {b : Buf} {d : Driver} {p : Pages} (R : Rest quiet b d p) (e : ℕ) → receives d e ≡ true → slotOf (epOn d Out e) (epOn d Out e .head) < 16
 head-in {d = d} R e u = omega (arith, slot-in (R .outs e .held .placed) (epOn d Out e .head), receives-slots R e u)
@@ -126,7 +119,7 @@ module _ (c : Channel) (e n : ℕ) (o : key Out e ≢ key Out (c .number)) (s t 
   eps = l .but .eps Out e o
 
   same-before : epOn (admits d e n) Out e ≡ epOn (admits d′ e n) Out e
-  same-before = admitted-ep d (l .left .rest .sized) e (lenOf d e n) ∙ ap (λ (r : EpState). before r n) eps ∙ sym (admitted-ep d′ (l .right .rest .sized) e (lenOf d′ e n))
+  same-before = admitted-ep d (l .left .rest .sized) e (lenOf d e n) ∙ ap arrivedOf eps ∙ sym (admitted-ep d′ (l .right .rest .sized) e (lenOf d′ e n))
 
   module _ (u : receives d e ≡ true) (u′ : receives d′ e ≡ true) where
     same-lens : lensOf (after d e n) Out e ≡ lensOf (after d′ e n) Out e
@@ -146,7 +139,7 @@ module _ (c : Channel) (e n : ℕ) (o : key Out e ≢ key Out (c .number)) (s t 
 
     same-but : But (c .number) (after d e n) (after d′ e n)
     same-but = but-changed (l .but) Out e o (after-changed (l .left .rest .sized) e n) (after-changed (l .right .rest .sized) e n)
-        (after-ep (l .left .rest .sized) e n ∙ ap (λ (r : EpState). arrivedEp r n) eps ∙ sym (after-ep (l .right .rest .sized) e n))
+        (after-ep (l .left .rest .sized) e n ∙ ap arrivedEp eps ∙ sym (after-ep (l .right .rest .sized) e n))
         (λ a f p. by a f p)
         (λ f p. stamps-mod (after d e n) f e (key-same Out f e p) ∙ same-stamps ∙ sym (stamps-mod (after d′ e n) f e (key-same Out f e p)))
       where
@@ -154,21 +147,11 @@ module _ (c : Channel) (e n : ℕ) (o : key Out e ≢ key Out (c .number)) (s t 
         by Out f p = lens-mod (after d e n) Out f e (key-same Out f e p) ∙ same-lens ∙ sym (lens-mod (after d′ e n) Out f e (key-same Out f e p))
         by In f p = absurd (key-apart e f (sym p))
 
-    same-stale : staleIn d e n ≡ staleIn d′ e n
-    unfolding staleOn
-    same-stale =
-        let k = lens-on (admits d e n) Out e (armedAt (epOn (admits d e n) Out e) (headAddr (epOn (admits d e n) Out e))) Out e in
-        let k′ = lens-on (admits d′ e n) Out e (armedAt (epOn (admits d′ e n) Out e) (headAddr (epOn (admits d′ e n) Out e))) Out e in
-        ap (λ (r : EpState). cond (hasRoomOut r) (lenOn (admits d e n) Out e (armSlot (epOn (admits d e n) Out e))) (cappedAt r n)) eps
-        ∙ ap (λ (r : EpState). cond (hasRoomOut (epOn d′ Out e)) (lenOn (admits d e n) Out e (armSlot r)) (lenOf d′ e n)) same-before
-        ∙ ap (λ m. cond (hasRoomOut (epOn d′ Out e)) m (lenOf d′ e n)) (len-any (admits d e n) (admits d′ e n) Out e (armSlot (epOn (admits d′ e n) Out e)) (sym k ∙ same-lens ∙ k′))
-
-    same-marks : Only (epOn d Out (c .number) .base) (endOf (epOn d Out (c .number))) (marks (epOn (admits d e n) Out e) (staleIn d e n) (s .1)) (marks (epOn (admits d′ e n) Out e) (staleIn d′ e n) (t .1))
+    same-marks : Only (epOn d Out (c .number) .base) (endOf (epOn d Out (c .number))) (marks (epOn (admits d e n) Out e) (s .1)) (marks (epOn (admits d′ e n) Out e) (t .1))
     same-marks =
         let r = epOn (admits d e n) Out e in
-        subst (λ q. Only (epOn d Out (c .number) .base) (endOf (epOn d Out (c .number))) (marks r (staleIn d e n) (s .1)) (marks q (staleIn d′ e n) (t .1))) same-before
-        (subst (λ k. Only (epOn d Out (c .number) .base) (endOf (epOn d Out (c .number))) (marks r (staleIn d e n) (s .1)) (marks r k (t .1))) same-stale
-        (only-like (l .bytes) (λ k h. armed-like (s .1) (t .1) (headAddr r) (r .«min_len») (cappedAt r (staleIn d e n)) k h)))
+        subst (λ q. Only (epOn d Out (c .number) .base) (endOf (epOn d Out (c .number))) (marks r (s .1)) (marks q (t .1))) same-before
+        (only-like (l .bytes) (λ k h. armed-like (s .1) (t .1) (headAddr r) (r .«max_len») k h))
 
   -- both answers of `receives`
   pub record Both (x y : ℕ × St) : Type 0 where

@@ -11,6 +11,7 @@ use borrow.Author.Tests.{eq-eqb}
 use Rattle.regs.specs.declared.Access.{Access}
 use Rattle.regs.specs.declared.Dir.the-variants.{Out, In}
 use Rattle.state.specs.Driver.{Driver}
+use Rattle.state.specs.WakesLaws.{Room}
 use Rattle.script.specs.Tree as tree
 use Rattle.script.specs.Tree.{ends, asks}
 use Rattle.script.specs.Script.{Script, run}
@@ -21,11 +22,11 @@ use Rattle.script.specs.Machine.{Buf, Call, begin, go, Ans, ended, handed, told
 use Rattle.ops.specs.Rings.{St}
 use Rattle.ops.specs.Conc.{conc}
 use Rattle.way.specs.Under.{driverOf, drive}
-use Rattle.apart.specs.But.{Lawful, Channel, Like}
+use Rattle.apart.specs.But.{Lawful, Channel, Like, Touched}
 use Rattle.apart.specs.Apart.{Brings, Own, Apart, end, both, left, right, Pair}
 use Rattle.apart.specs.Pairs.{apart-more, apart-flip, brings-sym}
 use Rattle.apart.specs.Answers.{SameAnswer, answer-sym}
-use Rattle.apart.specs.Likes.{like-refl, like-sym, like-trans}
+use Rattle.apart.specs.Likes.{like-refl, like-sym, touched-trans, touch}
 use Rattle.apart.specs.Asides.{Others, p-aside, Finished, fin, finishes, Mine, own-finishes}
 use Rattle.apart.specs.Operations.{Covered, p-call}
 use Rattle.apart.specs.Stores.{Lent, OwnLent, lent-like, own-like}
@@ -57,9 +58,9 @@ module _ (c : Channel) (st : ℕ) where
         → ((v v′ : ℕ) (s t : St) → Brings (c .number) st q v v′ → Like c quiet s t → Apart c st (SameAnswer (c .number)) (k v s) (k′ v′ t))
         → Stands (machineOf (busy i (awaited q) k) s) (machineOf (busy i (awaited q) k′) t)
     left-own : (i : Bool) (q : Access) {s : St} {k : ℕ → St → tree.Out St Answer} {u : tree.Out St Answer} → Own (c .number) q
-        → ((v : ℕ) (s′ : St) → Like c quiet s s′ → Apart c st (SameAnswer (c .number)) (k v s′) u) → Stands (machineOf (busy i (awaited q) k) s) (stops i u .1)
+        → ((v : ℕ) (s′ : St) → Touched c quiet s s′ → Apart c st (SameAnswer (c .number)) (k v s′) u) → Stands (machineOf (busy i (awaited q) k) s) (stops i u .1)
     right-own : (i : Bool) (q : Access) {t : St} {k : ℕ → St → tree.Out St Answer} {o : tree.Out St Answer} → Own (c .number) q
-        → ((v : ℕ) (t′ : St) → Like c quiet t t′ → Apart c st (SameAnswer (c .number)) o (k v t′)) → Stands (stops i o .1) (machineOf (busy i (awaited q) k) t)
+        → ((v : ℕ) (t′ : St) → Touched c quiet t t′ → Apart c st (SameAnswer (c .number)) o (k v t′)) → Stands (stops i o .1) (machineOf (busy i (awaited q) k) t)
 
   -- what two calls answer: the same but for the channel's wake-ups, the same access, or one of them an access of the channel's own
   pub data Answered : Ans Answer → Ans Answer → Type 0 where
@@ -131,7 +132,7 @@ module _ (c : Channel) (st : ℕ) where
 
   -- an access of its own is continued in one run
   pub own-continues : (i : Bool) (q : Access) {s : St} {k : ℕ → St → tree.Out St Answer} {u : tree.Out St Answer} (v : ℕ) {b : Buf} → Lawful (c .iso) quiet s
-      → ((v : ℕ) (s′ : St) → Like c quiet s s′ → Apart c st (SameAnswer (c .number)) (k v s′) u) → over calls (awaited q) v ≡ false → OwnLent c s b
+      → ((v : ℕ) (s′ : St) → Touched c quiet s s′ → Apart c st (SameAnswer (c .number)) (k v s′) u) → over calls (awaited q) v ≡ false → OwnLent c s b
       → After (drive (go v) (machineOf (busy i (awaited q) k) s) b) (stops i u)
   own-continues i q {s} v {b} l f w h =
       let m = own-like l h in
@@ -139,24 +140,24 @@ module _ (c : Channel) (st : ℕ) where
 
   -- its open or close in one run, between two operations or two accesses of an interrupt: what is under way stays
   pub data Moved (w : Way Answer Driver) (s : St) : Machine Answer Driver → Type 0 where
-    moved : {s′ : St} → Like c quiet s s′ → Moved w s (machineOf w s′)
+    moved : {s′ : St} → Touched c quiet s s′ → Moved w s (machineOf w s′)
 
-  move-idle : {s : St} {o : tree.Out St Answer} → Finished (Like c quiet s) o → Moved idle s (stops false o .1)
+  move-idle : {s : St} {o : tree.Out St Answer} → Finished (Touched c quiet s) o → Moved idle s (stops false o .1)
   move-idle (fin a k) = moved k
 
-  move-beside : {s : St} (t : St) {w : Way Answer Driver} {o : tree.Out St Answer} → Finished (Like c quiet s) o → Moved w s (beside calls driverOf (machineOf w t) o .1)
+  move-beside : {s : St} (t : St) {w : Way Answer Driver} {o : tree.Out St Answer} → Finished (Touched c quiet s) o → Moved w s (beside calls driverOf (machineOf w t) o .1)
   move-beside t (fin a k) = moved k
 
-  widened : {s t : St} → Like c quiet s t → {u : tree.Out St Answer} → Finished (Like c quiet t) u → Finished (Like c quiet s) u
-  widened m (fin a k) = fin a (like-trans m k)
+  widened : {s t : St} → Touched c quiet s t → {u : tree.Out St Answer} → Finished (Touched c quiet t) u → Finished (Touched c quiet s) u
+  widened m (fin a k) = fin a (touched-trans m k)
 
-  own-ended : (o : Aside) → Mine (c .number) o → {s : St} {b : Buf} → Like c quiet s (s .0, b) → Finished (Like c quiet s) (run conc (asideCode o) (s .0, b))
+  own-ended : (o : Aside) → Mine (c .number) o → {s : St} {b : Buf} → Touched c quiet s (s .0, b) → Finished (Touched c quiet s) (run conc (asideCode o) (s .0, b))
   own-ended o n {s} {b} m = widened m (own-finishes c o n (s .0, b) (m .right))
 
   pub own-idle : (o : Aside) → Mine (c .number) o → {s : St} {b : Buf} → Lawful (c .iso) quiet s → OwnLent c s b → Moved idle s (drive (begin (aside o)) (machineOf idle s) b .1)
   own-idle o n {s} {b} l h = let m = own-like l h in rw (fits (m .right)) (by (asideSlots o) (own-ended o n m))
     where
-      by : (u : Bool) → Finished (Like c quiet s) (run conc (asideCode o) (s .0, b)) → Moved idle s (cond (cond u false false) (stay calls driverOf 1 (machineOf idle s)) (stops false (run conc (asideCode o) (s .0, b))) .1)
+      by : (u : Bool) → Finished (Touched c quiet s) (run conc (asideCode o) (s .0, b)) → Moved idle s (cond (cond u false false) (stay calls driverOf 1 (machineOf idle s)) (stops false (run conc (asideCode o) (s .0, b))) .1)
       by true f = move-idle f
       by false f = move-idle f
 
@@ -164,23 +165,23 @@ module _ (c : Channel) (st : ℕ) where
       → Moved (busy true a k) s (drive (begin (aside o)) (machineOf (busy true a k) s) b .1)
   own-during o n a {k} {s} {b} l h = let m = own-like l h in rw (fits (m .right)) (by (asideSlots o) (own-ended o n m))
     where
-      by : (u : Bool) → Finished (Like c quiet s) (run conc (asideCode o) (s .0, b))
+      by : (u : Bool) → Finished (Touched c quiet s) (run conc (asideCode o) (s .0, b))
           → Moved (busy true a k) s (cond (cond u false false) (stay calls driverOf 1 (machineOf (busy true a k) s)) (beside calls driverOf (machineOf (busy true a k) (s .0, b)) (run conc (asideCode o) (s .0, b))) .1)
       by true f = move-beside (s .0, b) f
       by false f = move-beside (s .0, b) f
 
   -- and so the two go on as they stood
   pub moved-rests : {s t : St} {m : Machine Answer Driver} → Like c quiet s t → Moved idle s m → Stands m (machineOf idle t)
-  moved-rests l (moved k) = rests (like-trans (like-sym k) l)
+  moved-rests l (moved k) = rests (touch k l)
 
   pub moved-common : (i : Bool) (q : Access) {s t : St} {k k′ : ℕ → St → tree.Out St Answer} {m : Machine Answer Driver} → Like c quiet s t
       → ((v v′ : ℕ) (s t : St) → Brings (c .number) st q v v′ → Like c quiet s t → Apart c st (SameAnswer (c .number)) (k v s) (k′ v′ t))
       → Moved (busy i (awaited q) k) s m → Stands m (machineOf (busy i (awaited q) k′) t)
-  moved-common i q l f (moved k) = common i q (like-trans (like-sym k) l) f
+  moved-common i q l f (moved k) = common i q (touch k l) f
 
   pub moved-own : (i : Bool) (q : Access) {s : St} {k : ℕ → St → tree.Out St Answer} {u : tree.Out St Answer} {m : Machine Answer Driver} → Own (c .number) q
-      → ((v : ℕ) (s′ : St) → Like c quiet s s′ → Apart c st (SameAnswer (c .number)) (k v s′) u) → Moved (busy i (awaited q) k) s m → Stands m (stops i u .1)
-  moved-own i q w f (moved k) = left-own i q w (λ v s l. f v s (like-trans k l))
+      → ((v : ℕ) (s′ : St) → Touched c quiet s s′ → Apart c st (SameAnswer (c .number)) (k v s′) u) → Moved (busy i (awaited q) k) s m → Stands m (stops i u .1)
+  moved-own i q w f (moved k) = left-own i q w (λ v s l. f v s (touched-trans k l))
 
   -- either run may be named first, so what is said of one holds of the other
   flip-apart : {o u : tree.Out St Answer} → Apart c st (SameAnswer (c .number)) o u → Apart c st (SameAnswer (c .number)) u o
@@ -193,5 +194,5 @@ module _ (c : Channel) (st : ℕ) where
   flips (right-own i q w f) = left-own i q w (λ v t l. flip-apart (f v t l))
 
   -- two runs that are one so far
-  pub begins : {s : St} → Lawful (c .iso) quiet s → Stands (machineOf idle s) (machineOf idle s)
-  begins l = rests (like-refl l)
+  pub begins : {s : St} → Lawful (c .iso) quiet s → Room (s .0 .wakes) → Stands (machineOf idle s) (machineOf idle s)
+  begins l r = rests (like-refl l r)

@@ -4,6 +4,7 @@ use mathlib.Core.Path.{_≡_}
 use Prim.Native.Nat.{ℕ, _<_}
 use Rattle.regs.specs.declared.Dir.the-variants.{Out, In}
 use Rattle.state.specs.Driver.{Driver}
+use Rattle.state.specs.WakesLaws.{Room}
 use Rattle.script.specs.Alike.{quiet}
 use Rattle.script.specs.Machine.{Buf, idle}
 use Rattle.book.specs.Pages.{Pages}
@@ -20,5 +21,6 @@ module _ {b : Buf} {d : Driver} {t : Pages} (R : Rest quiet b d t) (k : Sorting 
   pub lawful : d .globals .stage ≡ 2 → Lawful (sortsOf d) quiet (d, b)
   lawful h = record { pages = t; rest = R; has = k .has; stage = h }
 
-  pub one-so-far : (st : ℕ) → d .globals .stage ≡ 2 → Stands channelOf st (machineOf idle (d, b)) (machineOf idle (d, b))
-  one-so-far st h = begins channelOf st (lawful h)
+  -- of the room for 64 wake-ups no more is taken, as in every run (`wake_ups`: `Pair`)
+  pub one-so-far : (st : ℕ) → d .globals .stage ≡ 2 → Room (d .wakes) → Stands channelOf st (machineOf idle (d, b)) (machineOf idle (d, b))
+  one-so-far st h r = begins channelOf st (lawful h) r

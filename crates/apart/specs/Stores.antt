@@ -18,7 +18,7 @@ use Rattle.ops.specs.Rings.{St}
 use Rattle.book.specs.Pages.{Pages}
 use Rattle.book.specs.Rest.{endOf, Rest, Elsewhere, Chip}
 use Rattle.book.specs.Chips.{chip}
-use Rattle.apart.specs.But.{But, Lawful, Channel, Like}
+use Rattle.apart.specs.But.{But, Lawful, Channel, Like, Touched}
 use Rattle.apart.specs.Likes.{but-refl}
 
 -- demand 3's premise, by the driver: byte k lies outside of the armed slot of every OUT endpoint of this run, and outside of EP0's buffer
@@ -80,7 +80,7 @@ module _ {c : Channel} where
     };
   }
 
-  pub own-like : {s : St} {b : Buf} → Lawful (c .iso) quiet s → OwnLent c s b → Like c quiet s (s .0, b)
+  pub own-like : {s : St} {b : Buf} → Lawful (c .iso) quiet s → OwnLent c s b → Touched c quiet s (s .0, b)
   own-like {s} {b} l h = record {
     left = l;
     right = lawful-stored c l (h .stored);

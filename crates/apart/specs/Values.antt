@@ -1,68 +1,40 @@
 -- Kept values, read and assigned
 use mathlib.Core.Bool.{Bool, true, false, cond}
+use mathlib.Core.List.{List, [], _∷_}
 use mathlib.Core.Logic.{_≢_}
 use mathlib.Core.Path.{_≡_, refl, ap, subst, sym, _∙_}
-use Prim.Native.Nat.{ℕ, _%_}
+use Prim.Native.Nat.{ℕ}
 use native.Mathlib.Decide.{ℕ-discrete}
-use lib.Dec.{eqb}
-use borrow.Author.Tests.{ne-eqb}
-use Rattle.bits.specs.Bit.{isSet, withBit, pick, set-with}
 use Rattle.regs.specs.declared.Dir.{Dir}
 use Rattle.regs.specs.declared.Dir.the-variants.{Out, In}
 use Rattle.state.specs.declared.EpState.{EpState}
 use Rattle.state.specs.declared.Globals.{Globals}
-use Rattle.state.specs.declared.Wakes.{Wakes}
-use Rattle.state.specs.Wakes.{woken, bus-woken}
+use Rattle.state.specs.Wakes.{none-woken, wakeCode, busCode}
+use Rattle.state.specs.WakesLaws.{none-room}
 use Rattle.state.specs.Driver.{Driver, key, epOn, withOn}
 use Rattle.state.specs.Laws.{key-apart}
-use Rattle.script.specs.Cells.{Cell, Val, Plain, globals-cell, wakes-cell, ep-cell}
-use Rattle.script.specs.Script.{Script, bind, get, put}
+use Rattle.script.specs.Cells.{Cell, Val, Plain, globals-cell, ep-cell}
+use Rattle.script.specs.Script.{Script, bind, get, put, act, fetch, gathered, no-wakes, waken}
 use Rattle.script.specs.Statics.{modify, modifyEp, wake, wakeBus}
 use Rattle.script.specs.Alike.{Phase, quiet}
 use Rattle.script.specs.Sorts.{Sorts, Shows, Sorted}
 use Rattle.ops.specs.Records.{plainOf, merged, mergedGlobals}
 use Rattle.ops.specs.Rings.{St}
-use Rattle.ops.specs.Conc.{getOn, putOn}
+use Rattle.ops.specs.Conc.{getOn, putOn, actOn}
 use Rattle.book.specs.Book.{mergedPlain}
 use Rattle.book.specs.Lens.{key-ep}
 use Rattle.book.specs.Frame.{same-place, changed-on}
 use Rattle.book.specs.Outs.{Inner}
 use Rattle.book.specs.Sorts.{sorted}
-use Rattle.apart.specs.But.{OtherWakes, But, Lawful, Channel, Like}
-use Rattle.apart.specs.Apart.{Pair}
-use Rattle.apart.specs.Pairs.{Eq, Any, p-bind, p-same, p-then, p-get, p-put}
-use Rattle.apart.specs.Likes.{like-refl}
-use Rattle.apart.specs.Buts.{but-globals, but-wakes, but-on, changed-seat, like-made, lawful-put}
+use Rattle.apart.specs.But.{SameCodes, OtherWakes, Lawful, Channel, Like}
+use Rattle.apart.specs.Apart.{Pair, end}
+use Rattle.apart.specs.Pairs.{Eq, Any, p-bind, p-same, p-then, p-get, p-put, p-act}
+use Rattle.apart.specs.Likes.{wakes-refl}
+use Rattle.apart.specs.Wakes.{all-same, own-woken}
+use Rattle.apart.specs.Buts.{but-globals, but-wakes, but-on, changed-seat, like-made, lawful-put, lawful-act}
 
 merged-inner : {r r′ : EpState} (v : Plain) → Inner r r′ → Inner (merged r v) (merged r′ v)
 merged-inner v h = record { place = record { base = h .place .base; stride = h .place .stride; slots = h .place .slots }; plain = ap (λ p. mergedPlain p v) (h .plain) }
-
--- a wake-up of either run, or of both
-pick-same : (u v : Bool) (a b : Bool) → a ≡ b → pick u v a ≡ pick u v b
-pick-same true v a b h = refl
-pick-same false v a b h = h
-
-pub woken-same : {x : ℕ} {w w′ : Wakes} (dir : Dir) (e : ℕ) → OtherWakes x w w′ → OtherWakes x (woken dir e w) (woken dir e w′)
-unfolding woken
-woken-same {w = w} {w′ = w′} Out e h = record {
-  outs = λ j n. set-with (w .outs) (e % 16) true j ∙ pick-same (eqb (e % 16) j) true _ _ (h .outs j n) ∙ sym (set-with (w′ .outs) (e % 16) true j);
-  ins = h .ins;
-  bus = h .bus;
-}
-woken-same In e h = record { outs = h .outs; ins = ap (λ m. withBit m (e % 16) true) (h .ins); bus = h .bus }
-
-bus-same : {x : ℕ} {w w′ : Wakes} → OtherWakes x w w′ → OtherWakes x (bus-woken w) (bus-woken w′)
-unfolding bus-woken
-bus-same h = record { outs = h .outs; ins = h .ins; bus = refl }
-
--- a wake-up of x's
-pub own-woken : (x : ℕ) (w : Wakes) → OtherWakes x w (woken Out x w)
-unfolding woken
-own-woken x w = record {
-  outs = λ j n. sym (set-with (w .outs) (x % 16) true j ∙ ap (λ u. pick u true (isSet (w .outs) j)) (ne-eqb (x % 16) j (λ z. n (sym z))));
-  ins = refl;
-  bus = refl;
-}
 
 module _ (c : Channel) where
   -- ---- the globals
@@ -95,14 +67,21 @@ module _ (c : Channel) where
 
   -- ---- wake-ups
 
-  pub wakes-kept : (w w′ : Wakes) → OtherWakes (c .number) w w′ → (s t : St) → Like c quiet s t → Like c quiet (putOn wakes-cell w s) (putOn wakes-cell w′ t)
+  begins-none : (s t : St) → Like c quiet s t → Like c quiet (actOn no-wakes s) (actOn no-wakes t)
   unfolding epOn
-  wakes-kept w w′ h s t l = like-made l (lawful-put c wakes-cell w (l .left) refl) (lawful-put c wakes-cell w′ (l .right) refl)
-      (but-wakes (l .but) w w′ h) (same-place (epOn (s .0) Out (c .number))) (l .bytes)
+  begins-none s t l = like-made l (lawful-act c no-wakes refl (l .left) refl) (lawful-act c no-wakes refl (l .right) refl)
+      (but-wakes (l .but) none-woken none-woken (wakes-refl (c .number) none-woken none-room)) (same-place (epOn (s .0) Out (c .number))) (l .bytes)
 
-  -- the channel's own wake-up
-  pub own-wake : {s : St} → Lawful (c .iso) quiet s → Like c quiet s (putOn wakes-cell (woken Out (c .number) (s .0 .wakes)) s)
-  own-wake {s} l = wakes-kept (s .0 .wakes) (woken Out (c .number) (s .0 .wakes)) (own-woken (c .number) (s .0 .wakes)) s s (like-refl l)
+  wakens : (codes : List ℕ) (s t : St) → Like c quiet s t → Like c quiet (actOn (waken codes) s) (actOn (waken codes) t)
+  unfolding epOn
+  wakens codes s t l = like-made l (lawful-act c (waken codes) refl (l .left) refl) (lawful-act c (waken codes) refl (l .right) refl)
+      (but-wakes (l .but) _ _ (all-same codes (l .but .wakes))) (same-place (epOn (s .0) Out (c .number))) (l .bytes)
+
+  -- the channel's own wake-up, in one run
+  pub own-wake : {s t : St} → Like c quiet s t → Like c quiet (actOn (waken (wakeCode Out (c .number) ∷ [])) s) t
+  unfolding epOn
+  own-wake {s} {t} l = like-made l (lawful-act c (waken (wakeCode Out (c .number) ∷ [])) refl (l .left) refl) (l .right)
+      (but-wakes (l .but) _ (t .0 .wakes) (own-woken (l .but .wakes))) (same-place (epOn (s .0) Out (c .number))) (l .bytes)
 
   -- ---- in scripts
 
@@ -119,14 +98,17 @@ module _ (c : Channel) where
     pub p-modify-ep : (dir : Dir) (e : ℕ) (f : Plain → Plain) → Pair c st {i = i} Any (modifyEp dir e f) (modifyEp dir e f)
     p-modify-ep dir e f = p-same (p-get (ep-cell dir e) Eq (plain-same dir e)) (λ p. p-record dir e (f p))
 
-    pub p-wakes : Pair c st {i = i} (OtherWakes (c .number)) (get wakes-cell) (get wakes-cell)
-    p-wakes = p-get wakes-cell (OtherWakes (c .number)) (λ s t l. l .but .wakes)
+    pub p-begins : Pair c st {i = i} Any (act no-wakes) (act no-wakes)
+    p-begins = p-act no-wakes begins-none
+
+    pub p-gathered : Pair c st {i = i} (SameCodes (c .number)) (fetch gathered) (fetch gathered)
+    p-gathered = record { on = λ s t l. end (l .but .wakes .same) l }
 
     pub p-wake : (dir : Dir) (e : ℕ) → Pair c st {i = i} Any (wake dir e) (wake dir e)
-    p-wake dir e = p-bind p-wakes (λ w w′ h. p-put wakes-cell _ _ (wakes-kept _ _ (woken-same dir e h)))
+    p-wake dir e = p-act (waken (wakeCode dir e ∷ [])) (wakens (wakeCode dir e ∷ []))
 
     pub p-wake-bus : Pair c st {i = i} Any wakeBus wakeBus
-    p-wake-bus = p-bind p-wakes (λ w w′ h. p-put wakes-cell _ _ (wakes-kept _ _ (bus-same h)))
+    p-wake-bus = p-act (waken (busCode ∷ [])) (wakens (busCode ∷ []))
 
     module _ {A B : Type 0} {Q : A → B → Type 0} where
       -- read with what they say of the sorts, and then the same on both sides
