@@ -20,10 +20,14 @@ use Rattle.book.specs.Rest.{endOf, lensOf, slotStamps, Rest}
 use Rattle.book.specs.Outs.{Inner}
 use Rattle.book.specs.Sorts.{Has}
 
+-- a list without one code
+abbrev pub without : ℕ → List ℕ → List ℕ
+without o [] = []
+without o (a ∷ l) = cond (eqb a o) (without o l) (a ∷ without o l)
+
 -- a list of wake-ups without those of OUT x
 abbrev pub others : ℕ → List ℕ → List ℕ
-others x [] = []
-others x (a ∷ l) = cond (eqb a (wakeCode Out x)) (others x l) (a ∷ others x l)
+others x l = without (wakeCode Out x) l
 
 -- "the order of the others' wake-ups": the two lists without OUT x's are the same. A list of 64 has no room for more, to which no operation comes
 -- (`wake_ups`: an interrupt has at most 54)

@@ -11,19 +11,22 @@ use lib.ListN.{length}
 use Rattle.regs.specs.declared.Dir.the-variants.{Out, In}
 use Rattle.state.specs.Wakes.{Wakes, wakeCode, listed, woken, all-woken}
 use Rattle.state.specs.WakesLaws.{Room, woken-full, woken-count, woken-keeps, woken-listed, listed-count}
-use Rattle.apart.specs.But.{others, SameCodes, OtherWakes}
+use Rattle.apart.specs.But.{without, others, OtherWakes}
 
-others-append : (x : ℕ) (l m : List ℕ) → others x (l ++ m) ≡ others x l ++ others x m
-others-append x [] m = refl
-others-append x (a ∷ l) m = by (eqb a (wakeCode Out x)) (others-append x l m)
+without-append : (o : ℕ) (l m : List ℕ) → without o (l ++ m) ≡ without o l ++ without o m
+without-append o [] m = refl
+without-append o (a ∷ l) m = by (eqb a o) (without-append o l m)
   where
-    by : (u : Bool) → others x (l ++ m) ≡ others x l ++ others x m → cond u (others x (l ++ m)) (a ∷ others x (l ++ m)) ≡ cond u (others x l) (a ∷ others x l) ++ others x m
+    by : (u : Bool) → without o (l ++ m) ≡ without o l ++ without o m → cond u (without o (l ++ m)) (a ∷ without o (l ++ m)) ≡ cond u (without o l) (a ∷ without o l) ++ without o m
     by true h = h
     by false h = ap (λ k. a ∷ k) h
 
+without-it : (o : ℕ) → without o (o ∷ []) ≡ []
+without-it o = ap (λ u. cond u [] (o ∷ [])) (eq-eqb o o refl)
+
 -- x's own is left out
 own-out : (x : ℕ) → others x (wakeCode Out x ∷ []) ≡ []
-own-out x = ap (λ u. cond u [] (wakeCode Out x ∷ [])) (eq-eqb (wakeCode Out x) (wakeCode Out x) refl)
+own-out x = without-it (wakeCode Out x)
 
 module _ (a : ℕ) (w : Wakes) (r : Room w) where
   pub room-woken : Room (woken a w)
@@ -43,7 +46,7 @@ module _ (a : ℕ) (w : Wakes) (r : Room w) where
   list-before h = omega (arith, room-before h, listed-count w r)
 
   others-woken : (x : ℕ) → length (listed (woken a w)) < 64 → others x (listed (woken a w)) ≡ others x (listed w) ++ others x (a ∷ [])
-  others-woken x h = ap (λ l. others x l) (woken-listed a w r (room-before h)) ∙ others-append x (listed w) (a ∷ [])
+  others-woken x h = ap (λ l. others x l) (woken-listed a w r (room-before h)) ∙ without-append _ (listed w) (a ∷ [])
 
 module _ {x : ℕ} where
   woken-same : {w w′ : Wakes} (a : ℕ) → OtherWakes x w w′ → OtherWakes x (woken a w) (woken a w′)
