@@ -30,7 +30,7 @@ abbrev pub others : ℕ → List ℕ → List ℕ
 others x l = without (wakeCode Out x) l
 
 -- "the order of the others' wake-ups": the two lists without OUT x's are the same. A list of 64 has no room for more, to which no operation comes
--- (`wake_ups`: an interrupt has at most 54)
+-- (`wake_ups`: an interrupt wakes at most 54 times)
 abbrev pub SameCodes : ℕ → List ℕ → List ℕ → Type 0
 SameCodes x l l′ = length l < 64 → length l′ < 64 → others x l ≡ others x l′
 

@@ -21,3 +21,4 @@ pub mod Stores
 pub mod Runs
 pub mod Start
 pub mod Lines
+pub mod Time
