@@ -1,0 +1,161 @@
+-- Changes that leave two states the same but for x's data
+use mathlib.Core.Bool.{Bool, true, false, cond}
+use mathlib.Core.List.{List}
+use mathlib.Core.Logic.{_≢_, _⊎_, inl, inr, ⊎-elim}
+use mathlib.Core.Path.{_≡_, refl, ap, subst, sym, _∙_}
+use Prim.Native.Nat.{ℕ, _+_, _*_, _%_, _≤_, _<_}
+use native.Mathlib.Omega.{arith}
+use native.Mathlib.Decide.{ℕ-discrete}
+use lib.ListN.{length, getD, set}
+use Rattle.regs.specs.declared.Dir.{Dir}
+use Rattle.regs.specs.declared.Dir.the-variants.{Out, In}
+use Rattle.state.specs.declared.EpState.{EpState}
+use Rattle.state.specs.declared.Globals.{Globals}
+use Rattle.state.specs.Wakes.{Wakes}
+use Rattle.state.specs.Driver.{Driver, key, epOn, withOn, lenOn, stampOn, requestOn, withGlobals, withWakes}
+use Rattle.state.specs.Laws.{Sized, key-apart, epOn-same, epOn-other}
+use Rattle.marks.specs.Only.{Same, Only, only-apart}
+use Rattle.ring.specs.Waiting.{SamePlace}
+use Rattle.script.specs.Cells.{Cell, Val, Plain}
+use Rattle.script.specs.Script.{Act, Hand}
+use Rattle.script.specs.Alike.{Phase, quiet}
+use Rattle.script.specs.Sorts.{Sorts, Sorted, allocates}
+use Rattle.script.specs.Machine.{Buf}
+use Rattle.ops.specs.Records.{plainOf, merged}
+use Rattle.ops.specs.Rings.{St}
+use Rattle.ops.specs.Conc.{putOn, actOn, handOn}
+use Rattle.book.specs.Book.{mergedPlain}
+use Rattle.book.specs.Rest.{endOf, Apart, ep0Room, lensOf, slotStamps}
+use Rattle.book.specs.Lens.{key-ep, lens-on, stamps-on}
+use Rattle.book.specs.Frame.{Changed, same-place}
+use Rattle.book.specs.Outs.{Inner}
+use Rattle.book.specs.Agrees.{agree}
+use Rattle.book.specs.Sorts.{Has, sorted}
+use Rattle.apart.specs.But.{OtherWakes, But, Lawful, Channel, Like}
+use Rattle.apart.specs.Likes.{inner-refl}
+
+-- ---- drivers
+
+module _ {x : ℕ} {d d′ : Driver} (h : But x d d′) where
+  pub but-globals : (g g′ : Globals) → g ≡ g′ → But x (withGlobals d g) (withGlobals d′ g′)
+  unfolding epOn lenOn stampOn requestOn
+  but-globals g g′ e = record {
+    globals = e;
+    allocator = h .allocator;
+    control = h .control;
+    paced = h .paced;
+    wakes = h .wakes;
+    requests = h .requests;
+    eps = h .eps;
+    lens = h .lens;
+    stamps = h .stamps;
+    own = h .own;
+  }
+
+  pub but-wakes : (w w′ : Wakes) → OtherWakes x w w′ → But x (withWakes d w) (withWakes d′ w′)
+  unfolding epOn lenOn stampOn requestOn
+  but-wakes w w′ e = record {
+    globals = h .globals;
+    allocator = h .allocator;
+    control = h .control;
+    paced = h .paced;
+    wakes = e;
+    requests = h .requests;
+    eps = h .eps;
+    lens = h .lens;
+    stamps = h .stamps;
+    own = h .own;
+  }
+
+  -- one endpoint's record: the same one, or x's with what stays of it
+  module _ (z : Sized d) (z′ : Sized d′) (dir : Dir) (e : ℕ) (r r′ : EpState) where
+    pub but-on : (key dir e ≢ key Out x → r ≡ r′) → (key dir e ≡ key Out x → Inner r r′) → But x (withOn d dir e r) (withOn d′ dir e r′)
+    unfolding withOn requestOn
+    but-on f g = record {
+      globals = h .globals;
+      allocator = h .allocator;
+      control = h .control;
+      paced = h .paced;
+      wakes = h .wakes;
+      requests = h .requests;
+      eps = λ a c n. elim (ℕ-discrete (key a c) (key dir e)) [
+        | yes p ↦ key-ep (withOn d dir e r) a dir c e p ∙ epOn-same d dir e r z ∙ f (λ q. n (p ∙ q)) ∙ sym (epOn-same d′ dir e r′ z′) ∙ sym (key-ep (withOn d′ dir e r′) a dir c e p)
+        | no p ↦ epOn-other d dir e r a c p ∙ h .eps a c n ∙ sym (epOn-other d′ dir e r′ a c p)
+      ];
+      lens = λ a c n. lens-on d dir e r a c ∙ h .lens a c n ∙ sym (lens-on d′ dir e r′ a c);
+      stamps = λ c n. stamps-on d dir e r c ∙ h .stamps c n ∙ sym (stamps-on d′ dir e r′ c);
+      own = elim (ℕ-discrete (key Out x) (key dir e)) [
+        | yes p ↦ rw (key-ep (withOn d dir e r) Out dir x e p ∙ epOn-same d dir e r z, key-ep (withOn d′ dir e r′) Out dir x e p ∙ epOn-same d′ dir e r′ z′) (g (sym p))
+        | no p ↦ rw (epOn-other d dir e r Out x p, epOn-other d′ dir e r′ Out x p) (h .own)
+      ];
+    }
+
+  -- an endpoint but x
+  pub but-changed : {d1 d1′ : Driver} (dir : Dir) (e : ℕ) → key dir e ≢ key Out x → Changed dir e d d1 → Changed dir e d′ d1′
+      → epOn d1 dir e ≡ epOn d1′ dir e → ((a : Dir) (c : ℕ) → key a c ≡ key dir e → lensOf d1 a c ≡ lensOf d1′ a c) → ((c : ℕ) → key Out c ≡ key dir e → slotStamps d1 c ≡ slotStamps d1′ c) → But x d1 d1′
+  unfolding requestOn
+  but-changed {d1} {d1′} dir e n u v p l s = record {
+    globals = u .globals ∙ h .globals ∙ sym (v .globals);
+    allocator = u .allocator ∙ h .allocator ∙ sym (v .allocator);
+    control = u .control ∙ h .control ∙ sym (v .control);
+    paced = u .paced ∙ h .paced ∙ sym (v .paced);
+    wakes = rw (u .wakes, v .wakes) (h .wakes);
+    requests = λ a c m. rw (u .requests, v .requests) (h .requests a c m);
+    eps = λ a c m. elim (ℕ-discrete (key a c) (key dir e)) [
+      | yes q ↦ key-ep d1 a dir c e q ∙ p ∙ sym (key-ep d1′ a dir c e q)
+      | no q ↦ u .eps a c q ∙ h .eps a c m ∙ sym (v .eps a c q)
+    ];
+    lens = λ a c m. elim (ℕ-discrete (key a c) (key dir e)) [
+      | yes q ↦ l a c q
+      | no q ↦ u .lens a c q ∙ h .lens a c m ∙ sym (v .lens a c q)
+    ];
+    stamps = λ c m. elim (ℕ-discrete (key Out c) (key dir e)) [
+      | yes q ↦ s c q
+      | no q ↦ u .stamps c q ∙ h .stamps c m ∙ sym (v .stamps c q)
+    ];
+    own = rw (u .eps Out x (λ q. n (sym q)), v .eps Out x (λ q. n (sym q))) (h .own);
+  }
+
+pub but-cond : {x : ℕ} {a a′ b b′ : Driver} (u u′ : Bool) → u ≡ u′ → But x a a′ → But x b b′ → But x (cond u a b) (cond u′ a′ b′)
+but-cond {x} {a} {a′} {b} {b′} u u′ e p q = subst (λ v. But x (cond u a b) (cond v a′ b′)) e (by u)
+  where
+    by : (u : Bool) → But x (cond u a b) (cond u a′ b′)
+    by true = p
+    by false = q
+
+-- where x's slots lie stays
+pub changed-seat : (x : ℕ) {d d1 : Driver} {dir : Dir} {e : ℕ} → Changed dir e d d1 → SamePlace (epOn d Out x) (epOn d1 Out x)
+changed-seat x {d} {d1} {dir} {e} c = elim (ℕ-discrete (key Out x) (key dir e)) [
+  | yes p ↦ rw (key-ep d Out dir x e p, key-ep d1 Out dir x e p) (c .place)
+  | no p ↦ rw (c .eps Out x p) (same-place (epOn d Out x))
+]
+
+-- ---- states
+
+module _ {c : Channel} where
+  pub like-made : {φ ψ : Phase} {s t s1 t1 : St} → Like c φ s t → Lawful (c .iso) ψ s1 → Lawful (c .iso) ψ t1 → But (c .number) (s1 .0) (t1 .0)
+      → SamePlace (epOn (s .0) Out (c .number)) (epOn (s1 .0) Out (c .number))
+      → Only (epOn (s .0) Out (c .number) .base) (endOf (epOn (s .0) Out (c .number))) (s1 .1) (t1 .1) → Like c ψ s1 t1
+  like-made {s1 = s1} {t1 = t1} h l r b p o = record { left = l; right = r; but = b; bytes = rw (p .base, p .slots, p .stride) o }
+
+  -- bytes of another endpoint's slots are the same
+  pub others-same : {φ : Phase} {s t : St} → Like c φ s t → (dir : Dir) (e lo hi : ℕ) → key dir e ≢ key Out (c .number) → epOn (s .0) dir e .base ≤ lo → hi ≤ endOf (epOn (s .0) dir e) → Same lo hi (s .1) (t .1)
+  others-same {s = s} h dir e lo hi n p q =
+      only-apart lo hi (h .bytes) (⊎-elim (λ a. inr (omega arith)) (λ a. inl (omega arith)) (h .left .rest .apart Out dir (c .number) e (λ z. n (sym z))))
+
+  -- and EP0's
+  pub ep0-same : {φ : Phase} {s t : St} → Like c φ s t → (lo hi : ℕ) → s .0 .globals .«ep0_buf» ≤ lo → hi ≤ s .0 .globals .«ep0_buf» + s .0 .allocator .size → Same lo hi (s .1) (t .1)
+  ep0-same {s = s} h lo hi p q =
+      let room : ep0Room (s .0 .globals) (s .0 .allocator) ≡ s .0 .allocator .size = rw (h .left .stage) refl in
+      only-apart lo hi (h .bytes) (⊎-elim (λ a. inl (omega (arith, room))) (λ a. inr (omega (arith, room))) (h .left .rest .ep0-apart Out (c .number)))
+
+-- every operation leaves a lawful state
+module _ (c : Channel) where
+  pub lawful-put : (n : Cell) (v : Val n) {s : St} → Lawful (c .iso) quiet s → putOn n v s .0 .globals .stage ≡ s .0 .globals .stage → Lawful (c .iso) quiet (putOn n v s)
+  lawful-put n v {s} l g = record { pages = _; rest = agree .put n v (s .1) (s .0) (l .pages) (l .rest) .1; has = sorted (c .iso) (c .ep0) .put n v s (l .has); stage = g ∙ l .stage }
+
+  pub lawful-act : (q : Act) → allocates q ≡ false → {s : St} → Lawful (c .iso) quiet s → actOn q s .0 .globals .stage ≡ s .0 .globals .stage → Lawful (c .iso) quiet (actOn q s)
+  lawful-act q a {s} l g = record { pages = _; rest = agree .act q (s .1) (s .0) (l .pages) (l .rest) .1; has = sorted (c .iso) (c .ep0) .act q a s (l .has); stage = g ∙ l .stage }
+
+  pub lawful-hand : (q : Hand) {s : St} → Lawful (c .iso) quiet s → handOn q s .1 .0 .globals .stage ≡ s .0 .globals .stage → Lawful (c .iso) quiet (handOn q s .1)
+  lawful-hand q {s} l g = record { pages = _; rest = agree .hand q (s .1) (s .0) (l .pages) (l .rest) .0; has = sorted (c .iso) (c .ep0) .hand q s (l .has); stage = g ∙ l .stage }

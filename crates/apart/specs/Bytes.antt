@@ -1,0 +1,95 @@
+-- Arming and copying do the same to two buffers, byte by byte
+use mathlib.Core.Bool.{true, false, cond}
+use mathlib.Core.List.{List, [], _∷_, _++_}
+use mathlib.Core.Path.{_≡_, refl, ap, sym, _∙_}
+use Prim.Native.Nat.{ℕ, zero, suc, _+_, _-_, _*_, _≤_, _<_}
+use native.Mathlib.Omega.{arith}
+use native.Mathlib.Decide.{ℕ-discrete, decLt}
+use borrow.Author.Tests.{lt-ltb, le-ltb}
+use lib.Dec.{ltb}
+use lib.ListN.{length, getD, set, take, drop, length-set, length-drop, List·getD-eq-default, List·getD-append}
+use lib.Seq.{sets, getD-set-same, getD-set-other, getD-append-add, getD-drop}
+use Rattle.marks.specs.Marks.{mark, marked, markedRun, armedWords, arm, reach, armed}
+use Rattle.marks.specs.Copies.{copied, over}
+use Rattle.marks.specs.Only.{Only, only-set, only-sets, back-low, back-high, part-byte}
+use Rattle.marks.specs.Arms.{only-marked, only-run, only-arm}
+use Rattle.marks.specs.Slots.{only-armed, only-copied, over-low, over-high}
+
+-- byte k of two buffers is the same
+abbrev pub At : ℕ → List ℕ → List ℕ → Type 0
+At k b c = (length c ≡ length b) × (getD c k 0 ≡ getD b k 0)
+
+set-like : (b c : List ℕ) (i v k : ℕ) → At k b c → At k (set b i v) (set c i v)
+set-like b c i v k (long, e) = (length-set c i v ∙ long ∙ sym (length-set b i v), by)
+  where
+    by : getD (set c i v) k 0 ≡ getD (set b i v) k 0
+    by = elim (ℕ-discrete k i) [
+      | yes p ↦ rw p (elim (decLt i (length b)) [
+        | yes q ↦ getD-set-same c i v 0 (omega (arith, long)) ∙ sym (getD-set-same b i v 0 q)
+        | no q ↦ List·getD-eq-default (set c i v) 0 {n = i} (omega (arith, length-set c i v, long)) ∙ sym (List·getD-eq-default (set b i v) 0 {n = i} (omega (arith, length-set b i v)))
+      ])
+      | no p ↦ getD-set-other c i k v 0 p ∙ e ∙ sym (getD-set-other b i k v 0 p)
+    ]
+
+sets-like : (vs b c : List ℕ) (i k : ℕ) → At k b c → At k (sets b i vs) (sets c i vs)
+sets-like [] b c i k h = h
+sets-like (v ∷ vs) b c i k h = sets-like vs (set b i v) (set c i v) (suc i) k (set-like b c i v k h)
+
+marked-like : (b c : List ℕ) (i k : ℕ) → At k b c → At k (marked b i) (marked c i)
+unfolding marked
+marked-like b c i k h = sets-like mark b c (i * 4) k h
+
+run-like : (n : ℕ) (b c : List ℕ) (i k : ℕ) → At k b c → At k (markedRun b i n) (markedRun c i n)
+unfolding markedRun
+run-like zero b c i k h = h
+run-like (suc n) b c i k h = run-like n (marked b i) (marked c i) (i + 1) k (marked-like b c i k h)
+
+arm-like : (maximum : ℕ) (b c : List ℕ) (k : ℕ) → At k b c → At k (arm maximum b) (arm maximum c)
+unfolding arm
+arm-like maximum b c k h = run-like (armedWords maximum) b c 0 k h
+
+-- a part put back
+back-like : (b c p q : List ℕ) (at k : ℕ) → at ≤ length b → At k b c → (at ≤ k → getD q (k - at) 0 ≡ getD p (k - at) 0) → getD (take at c ++ q) k 0 ≡ getD (take at b ++ p) k 0
+back-like b c p q at k l (long, e) h = elim (decLt k at) [
+  | yes g ↦ back-low c q at k (omega (arith, long)) g ∙ e ∙ sym (back-low b p at k l g)
+  | no g ↦ back-high c q at k (omega (arith, long)) (omega arith) ∙ h (omega arith) ∙ sym (back-high b p at k l (omega arith))
+]
+
+part-at : (b c : List ℕ) (at k : ℕ) → at ≤ k → At k b c → At (k - at) (drop at b) (drop at c)
+part-at b c at k l (long, e) = (simp (length-drop) (ap (λ n. n - at) long), part-byte c at k l ∙ e ∙ sym (part-byte b at k l))
+
+pub armed-like : (b c : List ℕ) (at maximum k : ℕ) → At k b c → At k (armed b at maximum) (armed c at maximum)
+unfolding armed
+armed-like b c at maximum k h = (only-armed c at maximum .long ∙ h .0 ∙ sym (only-armed b at maximum .long), byte)
+  where
+    byte : getD (armed c at maximum) k 0 ≡ getD (armed b at maximum) k 0
+    byte = elim (decLt (length b) (at + reach maximum)) [
+      | yes g ↦ rw (lt-ltb (length b) (at + reach maximum) g, lt-ltb (length c) (at + reach maximum) (omega (arith, h .0))) (h .1)
+      | no g ↦ rw (le-ltb (length b) (at + reach maximum) (omega arith), le-ltb (length c) (at + reach maximum) (omega (arith, h .0)))
+          (back-like b c (arm maximum (drop at b)) (arm maximum (drop at c)) at k (omega arith) h (λ l. arm-like maximum (drop at b) (drop at c) (k - at) (part-at b c at k l h) .1))
+    ]
+
+over-like : (v b c : List ℕ) (k : ℕ) → At k b c → getD (over v c) k 0 ≡ getD (over v b) k 0
+over-like v b c k h = elim (decLt k (length v)) [
+  | yes g ↦ over-low v c k g ∙ sym (over-low v b k g)
+  | no g ↦ over-high v c k (omega arith) ∙ h .1 ∙ sym (over-high v b k (omega arith))
+]
+
+pub copied-like : (b c : List ℕ) (at : ℕ) (v : List ℕ) (k : ℕ) → At k b c → At k (copied b at v) (copied c at v)
+unfolding copied
+copied-like b c at v k h = (only-copied c at v .long ∙ h .0 ∙ sym (only-copied b at v .long), byte)
+  where
+    byte : getD (copied c at v) k 0 ≡ getD (copied b at v) k 0
+    byte = elim (decLt (length b) (at + length v)) [
+      | yes g ↦ rw (lt-ltb (length b) (at + length v) g, lt-ltb (length c) (at + length v) (omega (arith, h .0))) (h .1)
+      | no g ↦ rw (le-ltb (length b) (at + length v) (omega arith), le-ltb (length c) (at + length v) (omega (arith, h .0)))
+          (back-like b c (over v (drop at b)) (over v (drop at c)) at k (omega arith) h (λ l. over-like v (drop at b) (drop at c) (k - at) (part-at b c at k l h)))
+    ]
+
+-- so two buffers that are the same but for some bytes stay so
+pub only-like : {lo hi : ℕ} {b c b1 c1 : List ℕ} → Only lo hi b c → ((k : ℕ) → At k b c → At k b1 c1) → Only lo hi b1 c1
+only-like {lo} {hi} {b} {c} o f = record {
+  long = f hi (o .long, o .above hi (omega arith)) .0;
+  below = λ k l. f k (o .long, o .below k l) .1;
+  above = λ k l. f k (o .long, o .above k l) .1;
+}

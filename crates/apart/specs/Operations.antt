@@ -1,0 +1,220 @@
+-- The calls of document 01 that both runs get: each answers the same but for the channel's wake-ups and lines up
+use mathlib.Core.Bool.{Bool, true, false, not, cond}
+use mathlib.Core.List.{List}
+use mathlib.Core.Logic.{_≢_}
+use mathlib.Core.Path.{_≡_, refl, ap, subst, sym}
+use Prim.Native.Nat.{ℕ, zero, suc}
+use lib.Dec.{eqb}
+use lib.ListN.{length}
+use Rattle.regs.specs.declared.Reg.the-variants.{FrameNo, Ctrl, DevAd, EpTLen, EpRxCtrl, EpTxCtrl}
+use Rattle.regs.specs.declared.Dir.{Dir}
+use Rattle.regs.specs.declared.Dir.the-variants.{Out, In}
+use Rattle.regs.specs.Registers.{ctrlOf}
+use Rattle.state.specs.declared.Globals.{Globals}
+use Rattle.state.specs.declared.Control.{Control}
+use Rattle.script.specs.Cells.{Plain, globals-cell}
+use Rattle.state.specs.Driver.{key}
+use Rattle.script.specs.Script.{Script, ret, test, room, enqueue}
+use Rattle.script.specs.Statics.{modifyReg}
+use Rattle.script.specs.Answers.{Answer, Refused, unless, staged}
+use Rattle.script.specs.IsoIn.{isoInCompletions, isoInAdvance, isoInSetPaced, microframe}
+use Rattle.script.specs.Bus as bus
+use Rattle.script.specs.Endpoint.{enabled-else, ends-request, arm-read, polled, load-write, put-iso, sent-ready}
+use Rattle.script.specs.Control.{ends-control, unlessSetup, withinMaximum, requested, aborted-else, acks, closing-out, take-closing, take-in, statusIn}
+use Rattle.script.specs.Calls.{Slotted, SetEnabled, PollRead, BeginWrite, PollWrite, PollDataOut, BeginDataIn, Other, Allocate, AllocateAll, Start, BusPoll, BusEnable, BusDisable, Microframe, SetStalled, IsStalled, SetPaced, Advance, BeginRead, BeginSetup, PollSetup, PollDataIn, BeginAccept, PollAccept, BeginReject, BeginDataOut, BeginAcceptSetAddress, Op, interrupt, slotted, other, aside, irq, code, numbered, named-or-0}
+use Rattle.apart.specs.But.{Channel, Like}
+use Rattle.apart.specs.Apart.{Pair}
+use Rattle.apart.specs.Pairs.{Eq, Any, p-ret, p-bind, p-same, p-then, p-test, p-when, p-write, p-get, p-is, p-act}
+use Rattle.apart.specs.Values.{p-assign, p-record, p-modify-ep, p-wake, p-globals, p-plain}
+use Rattle.apart.specs.Answers.{SameAnswer, same, p-operation, p-resultless, p-staged, p-named}
+use Rattle.apart.specs.InRings.{in-other}
+use Rattle.apart.specs.Walks.{ctrl-steady, p-reads, p-modify-reg, p-complete}
+use Rattle.apart.specs.Interrupt.{p-interrupt}
+use Rattle.apart.specs.Asides.{Others, p-aside, room-in, enqueues}
+use Rattle.apart.specs.Enabling.{p-set-enabled}
+use Rattle.apart.specs.Kept.{p-put-control, p-control, p-put-paced, p-paced, p-put-request, p-request, p-fill, p-fill0}
+
+-- those that are proved: not yet an OUT endpoint enabled or disabled, the bus' poll (both have rows), a read's poll, a data_out's poll. Of the asides
+-- not the channel's own open and close
+abbrev pub CoveredSlots : Slotted → Type 0
+CoveredSlots (SetEnabled Out e onn) = ⊥
+CoveredSlots (SetEnabled In e onn) = Unit {0}
+CoveredSlots (PollRead e n) = ⊥
+CoveredSlots (BeginWrite e bytes) = Unit {0}
+CoveredSlots (PollWrite e bytes) = Unit {0}
+CoveredSlots (PollDataOut n) = ⊥
+CoveredSlots (BeginDataIn bytes first last) = Unit {0}
+
+abbrev pub CoveredOther : Other → Type 0
+CoveredOther (Allocate dir kind address maximum interval) = Unit {0}
+CoveredOther (AllocateAll bytes) = Unit {0}
+CoveredOther (Start maximum) = Unit {0}
+CoveredOther BusPoll = ⊥
+CoveredOther BusEnable = Unit {0}
+CoveredOther BusDisable = Unit {0}
+CoveredOther Microframe = Unit {0}
+CoveredOther (SetStalled dir e onn) = Unit {0}
+CoveredOther (IsStalled dir e) = Unit {0}
+CoveredOther (SetPaced e onn) = Unit {0}
+CoveredOther (Advance e) = Unit {0}
+CoveredOther (BeginRead e n) = Unit {0}
+CoveredOther BeginSetup = Unit {0}
+CoveredOther PollSetup = Unit {0}
+CoveredOther PollDataIn = Unit {0}
+CoveredOther BeginAccept = Unit {0}
+CoveredOther PollAccept = Unit {0}
+CoveredOther BeginReject = Unit {0}
+CoveredOther (BeginDataOut n first) = Unit {0}
+CoveredOther (BeginAcceptSetAddress a) = Unit {0}
+
+abbrev pub Covered : ℕ → Op → Type 0
+Covered x interrupt = Unit {0}
+Covered x (slotted o) = CoveredSlots o
+Covered x (other o) = CoveredOther o
+Covered x (aside o) = Others x o
+
+module _ {c : Channel} {st : ℕ} {i : Bool} where
+  -- ---- rows
+
+  p-unless : (b : Bool) (n : ℕ) {p p′ : Script i Answer} → Pair c st (SameAnswer (c .number)) p p′ → Pair c st (SameAnswer (c .number)) (unless b n p) (unless b n p′)
+  p-unless b n h = p-test b (λ _. p-ret (same _)) (λ _. h)
+
+  p-numbered : (e : ℕ) {p p′ : Script i Answer} → Pair c st (SameAnswer (c .number)) p p′ → Pair c st (SameAnswer (c .number)) (numbered e p) (numbered e p′)
+  p-numbered e h = p-test _ (λ _. h) (λ _. p-ret (same _))
+
+  p-named-or-0 : (dir : Dir) (e : ℕ) {p p′ : Script i Answer} → Pair c st (SameAnswer (c .number)) p p′ → Pair c st (SameAnswer (c .number)) (named-or-0 dir e p) (named-or-0 dir e p′)
+  p-named-or-0 dir e h = p-test _ (λ _. h) (λ _. p-named dir e h)
+
+  p-enabled : (dir : Dir) (e : ℕ) {q q′ p p′ : Script i Answer} → Pair c st (SameAnswer (c .number)) q q′ → Pair c st (SameAnswer (c .number)) p p′ → Pair c st (SameAnswer (c .number)) (enabled-else dir e q p) (enabled-else dir e q′ p′)
+  p-enabled dir e q p = p-globals c (λ g _. p-test _ (λ _. p) (λ _. q))
+
+  -- after EP0's start no allocation and no second start
+  pick-stage : {p : Script i Answer} (n : ℕ) → n ≡ 2 → Pair c st (SameAnswer (c .number)) (test (eqb n 1) p (ret (Refused 4))) (test (eqb n 1) p (ret (Refused 4)))
+  pick-stage {p} n h = subst (λ k. Pair c st (SameAnswer (c .number)) (test (eqb k 1) p (ret (Refused 4))) (test (eqb k 1) p (ret (Refused 4)))) (sym h) (record { on = λ s t l. p-ret {i = i} (same (Refused 4)) .on s t l })
+
+  p-early : {p : Script i Answer} → Pair c st (SameAnswer (c .number)) (staged 1 p) (staged 1 p)
+  p-early {p} = p-bind (p-get globals-cell (λ v v′. (v ≡ v′) × (v .stage ≡ 2)) (λ s t l. (l .but .globals, l .left .stage)))
+      (λ v v′ e. subst (λ (w : Globals). Pair c st (SameAnswer (c .number)) (test (eqb (v .stage) 1) p (ret (Refused 4))) (test (eqb (w .stage) 1) p (ret (Refused 4)))) (e .0) (pick-stage (v .stage) (e .1)))
+
+  -- ---- pacing
+
+  p-completions : (n e : ℕ) → Pair c st {i = i} Any (isoInCompletions n e) (isoInCompletions n e)
+  unfolding isoInCompletions
+  p-completions zero e = p-ret tt
+  p-completions (suc n) e = p-then (p-complete e) (p-completions n e)
+
+  p-advance : (e : ℕ) → Pair c st {i = i} Any (isoInAdvance e) (isoInAdvance e)
+  p-advance e = p-globals c (λ g _. p-when _ (λ _. p-test _
+      (λ _. p-reads FrameNo 0 (λ v v′ h. h) (λ frame. p-same (p-paced c e) (λ last. p-then (p-completions _ e) (p-put-paced c e _))))
+      (λ _. p-put-paced c e _)))
+
+  -- ---- stalls
+
+  p-stalled : (dir : Dir) (e : ℕ) (onn : Bool) → Pair c st {i = i} Any (bus.setStalled dir e onn) (bus.setStalled dir e onn)
+  p-stalled Out e true = p-then (p-modify-reg EpRxCtrl e _ (λ v v′ h. h)) (p-wake c Out e)
+  p-stalled In e true = p-then (p-write EpTLen e 0) (p-then (p-modify-reg EpTxCtrl e _ (λ v v′ h. h)) (p-wake c In e))
+  p-stalled Out e false = p-plain c Out e (λ s _. p-then (p-record c Out e _) (p-then (p-write EpRxCtrl e _) (p-wake c Out e)))
+  p-stalled In e false = p-plain c In e (λ s _. p-then (p-record c In e _) (p-then (p-write EpTxCtrl e _) (p-then (p-when _ (λ _. p-modify-ep c In e _)) (p-wake c In e))))
+
+  -- ---- reads and writes
+
+  p-ends-request : (dir : Dir) (e : ℕ) (a : Answer) → Pair c st {i = i} (SameAnswer (c .number)) (ends-request dir e a) (ends-request dir e a)
+  p-ends-request dir e a = p-then (p-put-request c dir e _) (p-ret (same a))
+
+  p-arm-read : (e : ℕ) (s : Plain) → Pair c st {i = i} Any (arm-read e s) (arm-read e s)
+  p-arm-read e s = p-test _ (λ _. p-ret tt) (λ _. p-test _ (λ _. p-ret tt) (λ _. p-then (p-modify-ep c Out e _) (p-modify-reg EpRxCtrl e _ (λ v v′ h. h))))
+
+  p-polled : (dir : Dir) (e n : ℕ) → (key dir e ≢ key Out (c .number)) → {p : Plain → Script i Answer} → ((s : Plain) → Pair c st (SameAnswer (c .number)) (p s) (p s)) → Pair c st (SameAnswer (c .number)) (polled dir e n p) (polled dir e n p)
+  p-polled dir e n k h = p-same (p-request c dir e k) (λ r. p-unless _ 15 (p-test _ (λ _. p-plain c dir e (λ s _. h s)) (λ _. p-then (p-modify-ep c dir e _) (p-ends-request dir e _))))
+
+  p-load-write : (e : ℕ) (bytes : List ℕ) → Pair c st {i = i} Any (load-write e bytes) (load-write e bytes)
+  p-load-write e bytes = p-then (p-fill c e bytes) (p-then (p-modify-ep c In e _) (p-then (p-write EpTLen e _) (p-modify-reg EpTxCtrl e _ (λ v v′ h. h))))
+
+  p-put-iso : (e : ℕ) (bytes : List ℕ) → Pair c st {i = i} (SameAnswer (c .number)) (put-iso e bytes) (put-iso e bytes)
+  p-put-iso e bytes = p-enabled In e (p-ends-request In e _) (p-same (p-is (room e (length bytes)) (λ s t l. room-in c e bytes s t l (length bytes))) (λ b. p-test b
+      (λ _. p-then (p-act (enqueue e bytes) (enqueues c e bytes)) (p-ends-request In e _))
+      (λ _. p-ret (same _))))
+
+  p-sent-ready : (e : ℕ) (s : Plain) → Pair c st {i = i} (SameAnswer (c .number)) (sent-ready e s) (sent-ready e s)
+  p-sent-ready e s = p-test _ (λ _. p-then (p-modify-ep c In e _) (p-ends-request In e _)) (λ _. p-enabled In e (p-ends-request In e _) (p-ret (same _)))
+
+  -- ---- the control pipe
+
+  p-ends-control : (a : Answer) → Pair c st {i = i} (SameAnswer (c .number)) (ends-control a) (ends-control a)
+  p-ends-control a = p-then (p-put-control c _) (p-ret (same a))
+
+  p-unless-setup : {p p′ : Script i Answer} → Pair c st (SameAnswer (c .number)) p p′ → Pair c st (SameAnswer (c .number)) (unlessSetup p) (unlessSetup p′)
+  p-unless-setup h = p-globals c (λ g _. p-unless _ 9 h)
+
+  p-within : (n : ℕ) {p p′ : Script i Answer} → Pair c st (SameAnswer (c .number)) p p′ → Pair c st (SameAnswer (c .number)) (withinMaximum n p) (withinMaximum n p′)
+  p-within n h = p-globals c (λ g _. p-unless _ 10 h)
+
+  p-requested : (sort : ℕ) {p : Control → Script i Answer} → ((v : Control) → Pair c st (SameAnswer (c .number)) (p v) (p v)) → Pair c st (SameAnswer (c .number)) (requested sort p) (requested sort p)
+  p-requested sort h = p-same (p-control c) (λ v. p-test _ (λ _. h v) (λ _. p-ret (same _)))
+
+  p-aborted : {p p′ : Script i Answer} → Pair c st (SameAnswer (c .number)) p p′ → Pair c st (SameAnswer (c .number)) (aborted-else p) (aborted-else p′)
+  p-aborted h = p-globals c (λ g _. p-test _ (λ _. p-ends-control _) (λ _. h))
+
+  p-acks : (dir : Dir) (first : Bool) → Pair c st {i = i} Any (acks dir first) (acks dir first)
+  p-acks dir true = p-write (ctrlOf dir) 0 _
+  p-acks dir false = p-modify-reg (ctrlOf dir) 0 _ (ctrl-steady c st dir)
+
+  p-closing-out : Pair c st {i = i} Any closing-out closing-out
+  p-closing-out = p-then (p-modify-ep c Out 0 _) (p-write EpRxCtrl 0 _)
+
+  p-take-closing : (now : Bool) (v : Control) → Pair c st {i = i} (SameAnswer (c .number)) (take-closing now v) (take-closing now v)
+  p-take-closing now v = p-plain c Out 0 (λ s _. p-test _
+      (λ _. p-then (p-modify-ep c Out 0 _) (p-then (p-when now (λ _. p-modify-ep c In 0 _)) (p-ends-control _)))
+      (λ _. p-aborted (p-then (p-when now (λ _. p-then (p-modify-ep c In 0 _) (p-put-control c _))) (p-ret (same _)))))
+
+  p-take-in : (v : Control) → Pair c st {i = i} (SameAnswer (c .number)) (take-in v) (take-in v)
+  p-take-in v = p-plain c In 0 (λ s _. p-test _
+      (λ _. p-test _ (λ _. p-take-closing true v) (λ _. p-then (p-modify-ep c In 0 _) (p-ends-control _)))
+      (λ _. p-aborted (p-ret (same _))))
+
+  p-status-in : Pair c st {i = i} Any statusIn statusIn
+  p-status-in = p-then (p-modify-ep c In 0 _) (p-then (p-write EpTLen 0 0) (p-modify-reg EpTxCtrl 0 _ (λ v v′ h. h)))
+
+-- ---- the calls
+
+module _ (c : Channel) (st : ℕ) where
+  p-slotted : (o : Slotted) → CoveredSlots o → Pair c st (SameAnswer (c .number)) (code (slotted o)) (code (slotted o))
+  p-slotted (SetEnabled Out e onn) n = absurd n
+  p-slotted (SetEnabled In e onn) n = p-staged 2 (p-named In e (p-resultless (p-set-enabled c e onn)))
+  p-slotted (PollRead e k) n = absurd n
+  p-slotted (BeginWrite e bytes) n = p-staged 2 (p-named In e (p-enabled In e (p-ret (same _)) (p-plain c In e (λ s _. p-unless _ 10 (p-then (p-put-request c In e _) (p-resultless (p-test _ (λ _. p-ret tt) (λ _. p-load-write e bytes))))))))
+  p-slotted (PollWrite e bytes) n = p-staged 2 (p-named In e (p-polled In e (length bytes) (in-other (c .number) e) (λ s. p-test _ (λ _. p-put-iso e bytes) (λ _. p-sent-ready e s))))
+  p-slotted (PollDataOut k) n = absurd n
+  p-slotted (BeginDataIn bytes first last) n = p-staged 2 (p-within _ (p-unless-setup (p-then (p-put-control c _) (p-resultless
+      (p-then (p-fill0 c bytes) (p-then (p-modify-ep c In 0 _) (p-then (p-when last (λ _. p-closing-out)) (p-then (p-modify-ep c In 0 _) (p-then (p-write EpTLen 0 _) (p-acks In first))))))))))
+
+  p-other : (o : Other) → CoveredOther o → Pair c st (SameAnswer (c .number)) (code (other o)) (code (other o))
+  p-other (Allocate dir kind address maximum interval) n = p-early
+  p-other (AllocateAll bytes) n = p-early
+  p-other (Start maximum) n = p-early
+  p-other BusPoll n = absurd n
+  p-other BusEnable n = p-staged 2 (p-resultless (p-modify-reg Ctrl 0 _ (λ v v′ h. h)))
+  p-other BusDisable n = p-staged 2 (p-resultless (p-ret tt))
+  p-other Microframe n = p-staged 2 (p-operation (p-reads FrameNo 0 (λ v v′ h. h) (λ v. p-ret refl)))
+  p-other (SetStalled dir e onn) n = p-staged 2 (p-named-or-0 dir e (p-resultless (p-stalled dir e onn)))
+  p-other (IsStalled dir e) n = p-staged 2 (p-named-or-0 dir e (p-operation (p-reads (ctrlOf dir) e (ctrl-steady c st dir) (λ v. p-ret refl))))
+  p-other (SetPaced e onn) n = p-staged 2 (p-numbered e (p-then (p-globals c (λ g _. p-then (p-assign c _) (p-put-paced c e _))) (p-ret (same _))))
+  p-other (Advance e) n = p-staged 2 (p-numbered e (p-resultless (p-advance e)))
+  p-other (BeginRead e k) n = p-staged 2 (p-named Out e (p-enabled Out e (p-ret (same _)) (p-plain c Out e (λ s _. p-unless _ 10 (p-then (p-put-request c Out e _) (p-resultless (p-arm-read e s)))))))
+  p-other BeginSetup n = p-staged 2 (p-then (p-put-control c _) (p-resultless (p-ret tt)))
+  p-other PollSetup n = p-staged 2 (p-requested _ (λ v. p-globals c (λ g _. p-test _ (λ _. p-then (p-assign c _) (p-ends-control _)) (λ _. p-ret (same _)))))
+  p-other PollDataIn n = p-staged 2 (p-requested _ (λ v. p-test _ (λ _. p-take-closing false v) (λ _. p-take-in v)))
+  p-other BeginAccept n = p-staged 2 (p-unless-setup (p-then (p-put-control c _) (p-resultless p-status-in)))
+  p-other PollAccept n = p-staged 2 (p-requested _ (λ v. p-plain c In 0 (λ s _. p-test _
+      (λ _. p-then (p-modify-ep c In 0 _) (p-then (p-put-control c _) (p-test _ (λ _. p-resultless (p-write DevAd 0 _)) (λ _. p-ret (same _)))))
+      (λ _. p-aborted (p-ret (same _))))))
+  p-other BeginReject n = p-staged 2 (p-then (p-put-control c _) (p-resultless
+      (p-then (p-modify-ep c Out 0 _) (p-then (p-modify-ep c In 0 _) (p-then (p-modify-reg EpTxCtrl 0 _ (λ v v′ h. h)) (p-modify-reg EpRxCtrl 0 _ (λ v v′ h. h)))))))
+  p-other (BeginDataOut k first) n = p-staged 2 (p-within _ (p-unless-setup (p-then (p-put-control c _) (p-resultless (p-then (p-modify-ep c Out 0 _) (p-acks Out first))))))
+  p-other (BeginAcceptSetAddress a) n = p-staged 2 (p-unless-setup (p-then (p-put-control c _) (p-resultless p-status-in)))
+
+  pub p-call : (o : Op) → Covered (c .number) o → Pair c st (SameAnswer (c .number)) (code o) (code o)
+  p-call interrupt n = p-interrupt c st
+  p-call (slotted o) n = p-slotted o n
+  p-call (other o) n = p-other o n
+  p-call (aside o) n = p-aside c st o n

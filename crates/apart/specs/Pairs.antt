@@ -1,0 +1,142 @@
+-- The rules of `Pair`: how two scripts that line up are composed
+use mathlib.Core.Bool.{Bool, true, false, cond}
+use mathlib.Core.List.{List}
+use mathlib.Core.Path.{_≡_, refl, ap, subst, sym, _∙_}
+use Prim.Native.Nat.{ℕ}
+use Rattle.regs.specs.declared.Reg.{Reg}
+use Rattle.regs.specs.declared.Reg.the-variants.{IntFg, IntSt, MisSt, RxLen, FrameNo, Ctrl, IntEn, DevAd, HostCtrl, EpConfig, EpType, EpBufMod, EpMaxLen, EpTLen, EpRxCtrl, EpTxCtrl}
+use Rattle.regs.specs.declared.Access.{Access}
+use Rattle.regs.specs.declared.Access.the-variants.{Read, Write, Receive, Transmit, Ep0Dma, Wait, Callback}
+use Rattle.script.specs.Tree.{Out, ends, asks, bindOut}
+use Rattle.script.specs.Cells.{Cell, Val}
+use Rattle.script.specs.Script.{Script, run, ret, bind, test, _>>=_, _>>_, done, when, read, write, wait, callback, get, put, is, look, fetch, act, hand, Test, Look, Fetch, Act, Hand, handAsk}
+use Rattle.script.specs.Alike.{quiet}
+use Rattle.ops.specs.Rings.{St}
+use Rattle.ops.specs.Conc.{conc, getOn, putOn, isOf, lookOf, fetchOf, actOn, handOn}
+use Rattle.apart.specs.But.{Channel, Like}
+use Rattle.apart.specs.Likes.{like-sym}
+use Rattle.apart.specs.Apart.{Reads, Brings, Apart, end, both, left, right, Pair}
+
+abbrev pub Eq : {A : Type 0} → A → A → Type 0
+Eq a b = a ≡ b
+
+abbrev pub Any : {A B : Type 0} → A → B → Type 0
+Any a b = Unit {0}
+
+reads-sym : (x st : ℕ) (r : Reg) (v v′ : ℕ) → Reads x st r v v′ → Reads x st r v′ v
+reads-sym x st IntSt v v′ h = (h .1, h .0)
+reads-sym x st RxLen v v′ h = λ z. sym (h z)
+reads-sym x st IntFg v v′ h = sym h
+reads-sym x st MisSt v v′ h = sym h
+reads-sym x st FrameNo v v′ h = sym h
+reads-sym x st Ctrl v v′ h = sym h
+reads-sym x st IntEn v v′ h = sym h
+reads-sym x st DevAd v v′ h = sym h
+reads-sym x st HostCtrl v v′ h = sym h
+reads-sym x st EpConfig v v′ h = sym h
+reads-sym x st EpType v v′ h = sym h
+reads-sym x st EpBufMod v v′ h = sym h
+reads-sym x st EpMaxLen v v′ h = sym h
+reads-sym x st EpTLen v v′ h = sym h
+reads-sym x st EpRxCtrl v v′ h = sym h
+reads-sym x st EpTxCtrl v v′ h = sym h
+
+pub brings-sym : (x st : ℕ) (q : Access) (v v′ : ℕ) → Brings x st q v v′ → Brings x st q v′ v
+brings-sym x st (Read r e) v v′ h = reads-sym x st r v v′ h
+brings-sym x st (Write r e y) v v′ h = tt
+brings-sym x st (Receive e y) v v′ h = tt
+brings-sym x st (Transmit e y) v v′ h = tt
+brings-sym x st (Ep0Dma y) v v′ h = tt
+brings-sym x st (Wait n) v v′ h = tt
+brings-sym x st Callback v v′ h = tt
+
+module _ {ch : Channel} {st : ℕ} where
+  -- ---- outcomes
+
+  apart-bind : {A B C D : Type 0} {P : A → B → Type 0} {Q : C → D → Type 0} {o : Out St A} {u : Out St B} {f : A → St → Out St C} {g : B → St → Out St D}
+      → Apart ch st P o u → ((a : A) (b : B) (s t : St) → P a b → Like ch quiet s t → Apart ch st Q (f a s) (g b t)) → Apart ch st Q (bindOut o f) (bindOut u g)
+  apart-bind (end q l) h = h _ _ _ _ q l
+  apart-bind (both l k) h = both l (λ v v′ s t b r. apart-bind (k v v′ s t b r) h)
+  apart-bind (left w k) h = left w (λ v s l. apart-bind (k v s l) h)
+  apart-bind (right w k) h = right w (λ v t l. apart-bind (k v t l) h)
+
+  pub apart-more : {A B : Type 0} {P Q : A → B → Type 0} {o : Out St A} {u : Out St B} → ((a : A) (b : B) → P a b → Q a b) → Apart ch st P o u → Apart ch st Q o u
+  apart-more f (end q l) = end (f _ _ q) l
+  apart-more f (both l k) = both l (λ v v′ s t b r. apart-more f (k v v′ s t b r))
+  apart-more f (left w k) = left w (λ v s l. apart-more f (k v s l))
+  apart-more f (right w k) = right w (λ v t l. apart-more f (k v t l))
+
+  -- either run may be named first
+  pub apart-flip : {A B : Type 0} {Q : A → B → Type 0} {o : Out St A} {u : Out St B} → Apart ch st Q o u → Apart ch st (λ b a. Q a b) u o
+  apart-flip (end q l) = end q (like-sym l)
+  apart-flip (both {q = q} l k) = both (like-sym l) (λ v v′ s t b r. apart-flip (k v′ v t s (brings-sym (ch .number) st q v v′ b) (like-sym r)))
+  apart-flip (left w k) = right w (λ v s l. apart-flip (k v s l))
+  apart-flip (right w k) = left w (λ v t l. apart-flip (k v t l))
+
+  -- ---- composed scripts
+
+  module _ {i : Bool} {A B : Type 0} {Q : A → B → Type 0} where
+    pub p-ret : {a : A} {b : B} → Q a b → Pair ch st {i = i} Q (ret a) (ret b)
+    p-ret q = record { on = λ s t r. end q r }
+
+    pub p-bind : {C D : Type 0} {P : C → D → Type 0} {p : Script i C} {p′ : Script i D} {f : C → Script i A} {g : D → Script i B}
+        → Pair ch st P p p′ → ((c : C) (d : D) → P c d → Pair ch st Q (f c) (g d)) → Pair ch st Q (bind p f) (bind p′ g)
+    p-bind h k = record { on = λ s t r. apart-bind (h .on s t r) (λ c d s t q r. k c d q .on s t r) }
+
+    -- the same value on both sides
+    pub p-same : {C : Type 0} {p p′ : Script i C} {f : C → Script i A} {g : C → Script i B}
+        → Pair ch st Eq p p′ → ((c : C) → Pair ch st Q (f c) (g c)) → Pair ch st Q (bind p f) (bind p′ g)
+    p-same {f = f} {g = g} h k = p-bind h (λ c d e. subst (λ z. Pair ch st Q (f c) (g z)) e (k c))
+
+    pub p-then : {C D : Type 0} {p : Script i C} {p′ : Script i D} {q : Script i A} {q′ : Script i B}
+        → Pair ch st Any p p′ → Pair ch st Q q q′ → Pair ch st Q (p >> q) (p′ >> q′)
+    p-then h k = p-bind h (λ _ _ _. k)
+
+    pub p-test : {p q : Script i A} {p′ q′ : Script i B} (b : Bool) → (b ≡ true → Pair ch st Q p p′) → (b ≡ false → Pair ch st Q q q′) → Pair ch st Q (test b p q) (test b p′ q′)
+    p-test true h k = record { on = λ s t r. h refl .on s t r }
+    p-test false h k = record { on = λ s t r. k refl .on s t r }
+
+    pub p-tests : {p q : Script i A} {p′ q′ : Script i B} {b c : Bool} → b ≡ c → (b ≡ true → Pair ch st Q p p′) → (b ≡ false → Pair ch st Q q q′) → Pair ch st Q (test b p q) (test c p′ q′)
+    p-tests {p = p} {q = q} {p′ = p′} {q′ = q′} {b = b} e h k = subst (λ z. Pair ch st Q (test b p q) (test z p′ q′)) e (p-test b h k)
+
+  module _ {i : Bool} where
+    pub p-when : {p p′ : Script i Unit} (b : Bool) → (b ≡ true → Pair ch st Any p p′) → Pair ch st Any (when b p) (when b p′)
+    p-when b h = p-test b h (λ _. p-ret tt)
+
+    -- ---- single steps
+
+    pub p-read : (r : Reg) (e : ℕ) → Pair ch st {i = i} (Reads (ch .number) st r) (read r e) (read r e)
+    p-read r e = record { on = λ s t l. both l (λ v v′ s t b l. end b l) }
+
+    pub p-write : (r : Reg) (e v : ℕ) → Pair ch st {i = i} Any (write r e v) (write r e v)
+    p-write r e v = record { on = λ s t l. both l (λ v v′ s t b l. end tt l) }
+
+    pub p-wait : (n : ℕ) → Pair ch st {i = i} Any (wait n) (wait n)
+    p-wait n = record { on = λ s t l. both l (λ v v′ s t b l. end tt l) }
+
+    pub p-callback : Pair ch st {i = i} Any callback callback
+    p-callback = record { on = λ s t l. both l (λ v v′ s t b l. end tt l) }
+
+    pub p-get : (c : Cell) (P : Val c → Val c → Type 0) → ((s t : St) → Like ch quiet s t → P (getOn c s) (getOn c t)) → Pair ch st {i = i} P (get c) (get c)
+    p-get c P h = record { on = λ s t l. end (h s t l) l }
+
+    pub p-put : (c : Cell) (v v′ : Val c) → ((s t : St) → Like ch quiet s t → Like ch quiet (putOn c v s) (putOn c v′ t)) → Pair ch st {i = i} Any (put c v) (put c v′)
+    p-put c v v′ h = record { on = λ s t l. end tt (h s t l) }
+
+    pub p-is : (q : Test) → ((s t : St) → Like ch quiet s t → isOf q s ≡ isOf q t) → Pair ch st {i = i} Eq (is q) (is q)
+    p-is q h = record { on = λ s t l. end (h s t l) l }
+
+    pub p-look : (q : Look) → ((s t : St) → Like ch quiet s t → lookOf q s ≡ lookOf q t) → Pair ch st {i = i} Eq (look q) (look q)
+    p-look q h = record { on = λ s t l. end (h s t l) l }
+
+    pub p-fetch : (q : Fetch) → ((s t : St) → Like ch quiet s t → fetchOf q s ≡ fetchOf q t) → Pair ch st {i = i} Eq (fetch q) (fetch q)
+    p-fetch q h = record { on = λ s t l. end (h s t l) l }
+
+    pub p-act : (q : Act) → ((s t : St) → Like ch quiet s t → Like ch quiet (actOn q s) (actOn q t)) → Pair ch st {i = i} Any (act q) (act q)
+    p-act q h = record { on = λ s t l. end tt (h s t l) }
+
+    pub p-hand : (q : Hand) → ((s t : St) → Like ch quiet s t → (handOn q s .0 ≡ handOn q t .0) × Like ch quiet (handOn q s .1) (handOn q t .1)) → Pair ch st {i = i} Any (hand q) (hand q)
+    p-hand q h = record {
+      on = λ s t l. subst (λ y. Apart ch st Any (asks (handAsk q (handOn q s .0)) (handOn q s .1) (λ _ t. ends tt t)) (asks (handAsk q y) (handOn q t .1) (λ _ t. ends tt t))) (h s t l .0)
+          (both (h s t l .1) (λ v v′ s t b l. end tt l));
+    }

@@ -1,0 +1,89 @@
+-- The slot buffer that a call is lent: the one that the last call left, but for the chip's stores
+use mathlib.Core.Bool.{Bool, true, false}
+use mathlib.Core.Logic.{_⊎_, inl, inr, ⊎-elim}
+use mathlib.Core.Path.{_≡_, refl, ap, subst, sym, _∙_}
+use Prim.Native.Nat.{ℕ, _+_, _*_, _%_, _≤_, _<_}
+use native.Mathlib.Omega.{arith}
+use lib.ListN.{length, getD}
+use Rattle.bits.specs.Bit.{isSet}
+use Rattle.regs.specs.declared.Dir.the-variants.{Out, In}
+use Rattle.state.specs.declared.Allocator.{Allocator}
+use Rattle.state.specs.declared.Globals.{Globals}
+use Rattle.state.specs.Driver.{Driver, epOn}
+use Rattle.alloc.specs.Alloc.{allocatedIn}
+use Rattle.marks.specs.Only.{Only}
+use Rattle.script.specs.Alike.{Phase, quiet}
+use Rattle.script.specs.Machine.{Buf}
+use Rattle.ops.specs.Rings.{St}
+use Rattle.book.specs.Pages.{Pages}
+use Rattle.book.specs.Rest.{endOf, Rest, Elsewhere, Chip}
+use Rattle.book.specs.Chips.{chip}
+use Rattle.apart.specs.But.{But, Lawful, Channel, Like, Touched}
+use Rattle.apart.specs.Likes.{but-refl}
+
+-- demand 3's premise, by the driver: byte k lies outside of the armed slot of every OUT endpoint of this run, and outside of EP0's buffer
+pub record Away (d : Driver) (k : ℕ) : Type 0 where
+  pub outs : (e : ℕ) → isSet (allocatedIn (d .allocator) Out) (e % 16) ≡ true → (k < epOn d Out e .«armed_slot») ⊎ (epOn d Out e .«armed_slot» + d .allocator .size ≤ k)
+  pub ep0 : (k < d .globals .«ep0_buf») ⊎ (d .globals .«ep0_buf» + d .allocator .size ≤ k)
+
+-- all such bytes stay
+pub record Stored (d : Driver) (b b′ : Buf) : Type 0 where
+  pub long : length b′ ≡ length b
+  pub others : (k : ℕ) → Away d k → getD b′ k 0 ≡ getD b k 0
+
+-- byte k lies outside of the channel's slots
+abbrev pub Outside : Channel → Driver → ℕ → Type 0
+Outside c d k = (k < epOn d Out (c .number) .base) ⊎ (endOf (epOn d Out (c .number)) ≤ k)
+
+-- the two runs are lent the same but for "the bytes stored in the slots of one isochronous OUT endpoint": a byte elsewhere that was the same is
+pub record Lent (c : Channel) (s t : St) (b b′ : Buf) : Type 0 where
+  pub left : Stored (s .0) (s .1) b
+  pub right : Stored (t .0) (t .1) b′
+  pub same : (k : ℕ) → Outside c (s .0) k → getD (t .1) k 0 ≡ getD (s .1) k 0 → getD b′ k 0 ≡ getD b k 0
+
+-- one of them alone: nothing but the channel's slots is stored in
+pub record OwnLent (c : Channel) (s : St) (b : Buf) : Type 0 where
+  pub stored : Stored (s .0) (s .1) b
+  pub own : (k : ℕ) → Outside c (s .0) k → getD b k 0 ≡ getD (s .1) k 0
+
+-- ---- these leave two states the same but for the channel's data
+
+by-book : {d : Driver} {b b′ : Buf} {p : Pages} → Rest quiet b d p → d .globals .stage ≡ 2 → Stored d b b′ → Chip p b b′
+by-book {d} {b} {b′} {p} R g h = record {
+  long = h .long;
+  others = λ k w. h .others k (record {
+    outs = λ e u.
+        let z : isSet (allocatedIn (p .kept .allocator) Out) (e % 16) ≡ true = sym (ap (λ (a : Allocator). isSet (allocatedIn a Out) (e % 16)) (R .same .allocator)) ∙ u in
+        let s : d .allocator .size ≡ p .kept .allocator .size = ap (λ (a : Allocator). a .size) (R .same .allocator) in
+        ⊎-elim (λ y. inl (omega (arith, R .outs e .slot))) (λ y. inr (omega (arith, R .outs e .slot, s))) (w .outs e z);
+    ep0 =
+        let z : p .kept .globals .stage ≡ 2 = sym (ap (λ (g : Globals). g .stage) (R .same .globals)) ∙ g in
+        let a : d .globals .«ep0_buf» ≡ p .kept .globals .«ep0_buf» = ap (λ (g : Globals). g .«ep0_buf») (R .same .globals) in
+        let s : d .allocator .size ≡ p .kept .allocator .size = ap (λ (a : Allocator). a .size) (R .same .allocator) in
+        ⊎-elim (λ y. inl (omega (arith, a))) (λ y. inr (omega (arith, a, s))) (w .ep0 z);
+  });
+}
+
+lawful-stored : (c : Channel) {s : St} {b : Buf} → Lawful (c .iso) quiet s → Stored (s .0) (s .1) b → Lawful (c .iso) quiet (s .0, b)
+lawful-stored c {s} {b} l h = record { pages = l .pages; rest = chip (s .1) b quiet (s .0) (l .pages) (l .rest) (by-book (l .rest) (l .stage) h); has = l .has; stage = l .stage }
+
+module _ {c : Channel} where
+  pub lent-like : {s t : St} {b b′ : Buf} → Like c quiet s t → Lent c s t b b′ → Like c quiet (s .0, b) (t .0, b′)
+  lent-like {s} {t} {b} {b′} l h = record {
+    left = lawful-stored c (l .left) (h .left);
+    right = lawful-stored c (l .right) (h .right);
+    but = l .but;
+    bytes = record {
+      long = h .right .long ∙ l .bytes .long ∙ sym (h .left .long);
+      below = λ k z. h .same k (inl z) (l .bytes .below k z);
+      above = λ k z. h .same k (inr z) (l .bytes .above k z);
+    };
+  }
+
+  pub own-like : {s : St} {b : Buf} → Lawful (c .iso) quiet s → OwnLent c s b → Touched c quiet s (s .0, b)
+  own-like {s} {b} l h = record {
+    left = l;
+    right = lawful-stored c l (h .stored);
+    but = but-refl (c .number) (s .0);
+    bytes = record { long = h .stored .long; below = λ k z. h .own k (inl z); above = λ k z. h .own k (inr z) };
+  }

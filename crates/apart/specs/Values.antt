@@ -1,0 +1,121 @@
+-- Kept values, read and assigned
+use mathlib.Core.Bool.{Bool, true, false, cond}
+use mathlib.Core.List.{List, [], _∷_}
+use mathlib.Core.Logic.{_≢_}
+use mathlib.Core.Path.{_≡_, refl, ap, subst, sym, _∙_}
+use Prim.Native.Nat.{ℕ}
+use native.Mathlib.Decide.{ℕ-discrete}
+use Rattle.regs.specs.declared.Dir.{Dir}
+use Rattle.regs.specs.declared.Dir.the-variants.{Out, In}
+use Rattle.state.specs.declared.EpState.{EpState}
+use Rattle.state.specs.declared.Globals.{Globals}
+use Rattle.state.specs.Wakes.{none-woken, wakeCode, busCode}
+use Rattle.state.specs.WakesLaws.{none-room}
+use Rattle.state.specs.Driver.{Driver, key, epOn, withOn}
+use Rattle.state.specs.Laws.{key-apart}
+use Rattle.script.specs.Cells.{Cell, Val, Plain, globals-cell, ep-cell}
+use Rattle.script.specs.Script.{Script, bind, get, put, act, fetch, gathered, no-wakes, waken}
+use Rattle.script.specs.Statics.{modify, modifyEp, wake, wakeBus}
+use Rattle.script.specs.Alike.{Phase, quiet}
+use Rattle.script.specs.Sorts.{Sorts, Shows, Sorted}
+use Rattle.ops.specs.Records.{plainOf, merged, mergedGlobals}
+use Rattle.ops.specs.Rings.{St}
+use Rattle.ops.specs.Conc.{getOn, putOn, actOn}
+use Rattle.book.specs.Book.{mergedPlain}
+use Rattle.book.specs.Lens.{key-ep}
+use Rattle.book.specs.Frame.{same-place, changed-on}
+use Rattle.book.specs.Outs.{Inner}
+use Rattle.book.specs.Sorts.{sorted}
+use Rattle.apart.specs.But.{SameCodes, OtherWakes, Lawful, Channel, Like}
+use Rattle.apart.specs.Apart.{Pair, end}
+use Rattle.apart.specs.Pairs.{Eq, Any, p-bind, p-same, p-then, p-get, p-put, p-act}
+use Rattle.apart.specs.Likes.{wakes-refl}
+use Rattle.apart.specs.Wakes.{all-same, own-woken}
+use Rattle.apart.specs.Buts.{but-globals, but-wakes, but-on, changed-seat, like-made, lawful-put, lawful-act}
+
+merged-inner : {r r′ : EpState} (v : Plain) → Inner r r′ → Inner (merged r v) (merged r′ v)
+merged-inner v h = record { place = record { base = h .place .base; stride = h .place .stride; slots = h .place .slots }; plain = ap (λ p. mergedPlain p v) (h .plain) }
+
+module _ (c : Channel) where
+  -- ---- the globals
+
+  pub globals-kept : (v : Globals) (s t : St) → Like c quiet s t → Like c quiet (putOn globals-cell v s) (putOn globals-cell v t)
+  unfolding epOn
+  globals-kept v s t l = like-made l (lawful-put c globals-cell v (l .left) refl) (lawful-put c globals-cell v (l .right) refl)
+      (but-globals (l .but) _ _ (ap (λ g. mergedGlobals g v) (l .but .globals))) (same-place (epOn (s .0) Out (c .number))) (l .bytes)
+
+  -- ---- a record
+
+  pub record-kept : (dir : Dir) (e : ℕ) (v : Plain) (s t : St) → Like c quiet s t → Like c quiet (putOn (ep-cell dir e) v s) (putOn (ep-cell dir e) v t)
+  unfolding withOn
+  record-kept dir e v s t l =
+      let z = l .left .rest .sized in
+      let z′ = l .right .rest .sized in
+      let r = epOn (s .0) dir e in
+      like-made l (lawful-put c (ep-cell dir e) v (l .left) refl) (lawful-put c (ep-cell dir e) v (l .right) refl)
+      (but-on (l .but) z z′ dir e (merged r v) (merged (epOn (t .0) dir e) v)
+      (λ n. ap (λ (r : EpState). merged r v) (l .but .eps dir e n))
+      (λ p. merged-inner {r = r} {r′ = epOn (t .0) dir e} v (rw (key-ep (s .0) dir Out e (c .number) p, key-ep (t .0) dir Out e (c .number) p) (l .but .own))))
+      (changed-seat (c .number) (changed-on z dir e (merged r v) (record { base = refl; stride = refl; slots = refl }) refl)) (l .bytes)
+
+  -- what scripts see of a record, the channel's too
+  pub plain-same : (dir : Dir) (e : ℕ) (s t : St) → Like c quiet s t → plainOf (epOn (s .0) dir e) ≡ plainOf (epOn (t .0) dir e)
+  plain-same dir e s t l = elim (ℕ-discrete (key dir e) (key Out (c .number))) [
+    | yes p ↦ ap plainOf (key-ep (s .0) dir Out e (c .number) p) ∙ sym (l .but .own .plain) ∙ ap plainOf (sym (key-ep (t .0) dir Out e (c .number) p))
+    | no n ↦ ap plainOf (l .but .eps dir e n)
+  ]
+
+  -- ---- wake-ups
+
+  begins-none : (s t : St) → Like c quiet s t → Like c quiet (actOn no-wakes s) (actOn no-wakes t)
+  unfolding epOn
+  begins-none s t l = like-made l (lawful-act c no-wakes refl (l .left) refl) (lawful-act c no-wakes refl (l .right) refl)
+      (but-wakes (l .but) none-woken none-woken (wakes-refl (c .number) none-woken none-room)) (same-place (epOn (s .0) Out (c .number))) (l .bytes)
+
+  wakens : (codes : List ℕ) (s t : St) → Like c quiet s t → Like c quiet (actOn (waken codes) s) (actOn (waken codes) t)
+  unfolding epOn
+  wakens codes s t l = like-made l (lawful-act c (waken codes) refl (l .left) refl) (lawful-act c (waken codes) refl (l .right) refl)
+      (but-wakes (l .but) _ _ (all-same codes (l .but .wakes))) (same-place (epOn (s .0) Out (c .number))) (l .bytes)
+
+  -- the channel's own wake-up, in one run
+  pub own-wake : {s t : St} → Like c quiet s t → Like c quiet (actOn (waken (wakeCode Out (c .number) ∷ [])) s) t
+  unfolding epOn
+  own-wake {s} {t} l = like-made l (lawful-act c (waken (wakeCode Out (c .number) ∷ [])) refl (l .left) refl) (l .right)
+      (but-wakes (l .but) _ (t .0 .wakes) (own-woken (l .but .wakes))) (same-place (epOn (s .0) Out (c .number))) (l .bytes)
+
+  -- ---- in scripts
+
+  module _ {st : ℕ} {i : Bool} where
+    pub p-assign : (v : Globals) → Pair c st {i = i} Any (put globals-cell v) (put globals-cell v)
+    p-assign v = p-put globals-cell v v (globals-kept v)
+
+    pub p-record : (dir : Dir) (e : ℕ) (v : Plain) → Pair c st {i = i} Any (put (ep-cell dir e) v) (put (ep-cell dir e) v)
+    p-record dir e v = p-put (ep-cell dir e) v v (record-kept dir e v)
+
+    pub p-modify : (f : Globals → Globals) → Pair c st {i = i} Any (modify f) (modify f)
+    p-modify f = p-same (p-get globals-cell Eq (λ s t l. l .but .globals)) (λ g. p-assign (f g))
+
+    pub p-modify-ep : (dir : Dir) (e : ℕ) (f : Plain → Plain) → Pair c st {i = i} Any (modifyEp dir e f) (modifyEp dir e f)
+    p-modify-ep dir e f = p-same (p-get (ep-cell dir e) Eq (plain-same dir e)) (λ p. p-record dir e (f p))
+
+    pub p-begins : Pair c st {i = i} Any (act no-wakes) (act no-wakes)
+    p-begins = p-act no-wakes begins-none
+
+    pub p-gathered : Pair c st {i = i} (SameCodes (c .number)) (fetch gathered) (fetch gathered)
+    p-gathered = record { on = λ s t l. end (l .but .wakes .same) l }
+
+    pub p-wake : (dir : Dir) (e : ℕ) → Pair c st {i = i} Any (wake dir e) (wake dir e)
+    p-wake dir e = p-act (waken (wakeCode dir e ∷ [])) (wakens (wakeCode dir e ∷ []))
+
+    pub p-wake-bus : Pair c st {i = i} Any wakeBus wakeBus
+    p-wake-bus = p-act (waken (busCode ∷ [])) (wakens (busCode ∷ []))
+
+    module _ {A B : Type 0} {Q : A → B → Type 0} where
+      -- read with what they say of the sorts, and then the same on both sides
+      pub p-globals : {f : Globals → Script i A} {g : Globals → Script i B} → ((v : Globals) → Shows (c .iso) globals-cell v → Pair c st Q (f v) (g v)) → Pair c st Q (bind (get globals-cell) f) (bind (get globals-cell) g)
+      p-globals {f} {g} h = p-bind (p-get globals-cell (λ v v′. (v ≡ v′) × Shows (c .iso) globals-cell v) (λ s t l. (l .but .globals, sorted (c .iso) (c .ep0) .shows globals-cell s (l .left .has))))
+          (λ v v′ e. subst (λ z. Pair c st Q (f v) (g z)) (e .0) (h v (e .1)))
+
+      pub p-plain : (dir : Dir) (e : ℕ) {f : Plain → Script i A} {g : Plain → Script i B} → ((v : Plain) → Shows (c .iso) (ep-cell dir e) v → Pair c st Q (f v) (g v)) → Pair c st Q (bind (get (ep-cell dir e)) f) (bind (get (ep-cell dir e)) g)
+      p-plain dir e {f} {g} h = p-bind (p-get (ep-cell dir e) (λ v v′. (v ≡ v′) × Shows (c .iso) (ep-cell dir e) v) (λ s t l. (plain-same dir e s t l, sorted (c .iso) (c .ep0) .shows (ep-cell dir e) s (l .left .has))))
+          (λ v v′ e. subst (λ z. Pair c st Q (f v) (g z)) (e .0) (h v (e .1)))

@@ -1,0 +1,118 @@
+-- The interrupt's parts that know nothing of the channel: isochronous IN, waits, toggles
+use mathlib.Core.Bool.{Bool, true, false, not, cond, _&&_, _||_}
+use mathlib.Core.List.{List, [], _∷_}
+use mathlib.Core.Path.{_≡_, refl, ap, subst, sym, _∙_}
+use Prim.Native.Nat.{ℕ, zero, suc}
+use Rattle.bits.specs.Walk.{setBits}
+use Rattle.regs.specs.declared.Reg.{Reg}
+use Rattle.regs.specs.declared.Reg.the-variants.{IntFg, IntSt, MisSt, RxLen, FrameNo, EpTLen, EpRxCtrl, EpTxCtrl, IntEn}
+use Rattle.regs.specs.declared.Dir.{Dir}
+use Rattle.regs.specs.declared.Dir.the-variants.{Out, In}
+use Rattle.regs.specs.Registers.{ctrlOf}
+use Rattle.state.specs.declared.Globals.{Globals}
+use Rattle.script.specs.Cells.{Plain, globals-cell, ep-cell}
+use Rattle.script.specs.Script.{Script, bind, read, write, get, put, complete, send, waiting, next-len}
+use Rattle.script.specs.Statics.{modifyReg, modifyIntEn}
+use Rattle.script.specs.IsoIn.{firstInFrame, isoInLoad, isoInComplete, unseen, sofOne, sofWalk, onSof, lateOne, lateWalk}
+use Rattle.script.specs.Handler.{looks, sieWait, nakNonIso, toggled, sent, sofArm, isoInArm, movedOn, ep0MovedOn}
+use Rattle.regs.specs.declared.Token.{Token}
+use Rattle.regs.specs.declared.Token.the-variants as tok
+use Rattle.apart.specs.But.{Channel, Like}
+use Rattle.apart.specs.Apart.{Reads, Pair}
+use Rattle.apart.specs.Pairs.{Eq, Any, p-ret, p-bind, p-same, p-then, p-test, p-when, p-read, p-write, p-callback, p-is, p-look, p-act, p-hand}
+use Rattle.apart.specs.Values.{p-assign, p-record, p-modify, p-modify-ep, p-wake, p-globals, p-plain}
+use Rattle.apart.specs.InRings.{waiting-in, next-in, completes, sends}
+
+-- a register whose readings are the same
+abbrev pub Steady : Channel → ℕ → Reg → Type 0
+Steady c st r = (v v′ : ℕ) → Reads (c .number) st r v v′ → v ≡ v′
+
+pub ctrl-steady : (c : Channel) (st : ℕ) (dir : Dir) → Steady c st (ctrlOf dir)
+ctrl-steady c st Out v v′ h = h
+ctrl-steady c st In v v′ h = h
+
+module _ {c : Channel} {st : ℕ} {i : Bool} where
+  pub p-reads : {A B : Type 0} {Q : A → B → Type 0} (r : Reg) (e : ℕ) → Steady c st r → {f : ℕ → Script i A} {g : ℕ → Script i B} → ((v : ℕ) → Pair c st Q (f v) (g v)) → Pair c st Q (bind (read r e) f) (bind (read r e) g)
+  p-reads {Q = Q} r e z {f} {g} h = p-bind (p-read r e) (λ v v′ b. subst (λ y. Pair c st Q (f v) (g y)) (z v v′ b) (h v))
+
+  -- the status word is the same throughout the interrupt
+  pub p-status : {A B : Type 0} {Q : A → B → Type 0} {f : ℕ → Script i A} {g : ℕ → Script i B} → Pair c st Q (f st) (g st) → Pair c st Q (bind (read IntSt 0) f) (bind (read IntSt 0) g)
+  p-status {Q = Q} {f} {g} h = p-bind (p-read IntSt 0) (λ v v′ b. subst (λ y. Pair c st Q (f v) (g y)) (sym (b .1)) (subst (λ y. Pair c st Q (f y) (g st)) (sym (b .0)) h))
+
+  pub p-modify-reg : (r : Reg) (e : ℕ) (f : ℕ → ℕ) → Steady c st r → Pair c st {i = i} Any (modifyReg r e f) (modifyReg r e f)
+  p-modify-reg r e f z = p-reads r e z (λ v. p-write r e (f v))
+
+  pub p-int-en : (f : ℕ → ℕ) → Pair c st {i = i} Any (modifyIntEn f) (modifyIntEn f)
+  p-int-en f = p-globals c (λ g _. p-then (p-assign c _) (p-write IntEn 0 _))
+
+  -- ---- isochronous IN
+
+  pub p-load : (e : ℕ) → Pair c st {i = i} Any (isoInLoad e) (isoInLoad e)
+  p-load e = p-same (p-is (waiting In e) (waiting-in c e)) (λ b. p-test b
+      (λ _. p-then (p-hand (send e) (sends c e)) (p-same (p-look (next-len In e) (next-in c e)) (λ n. p-write EpTLen e n)))
+      (λ _. p-write EpTLen e 0))
+
+  pub p-complete : (e : ℕ) → Pair c st {i = i} Any (isoInComplete e) (isoInComplete e)
+  p-complete e = p-then (p-act (complete e) (completes c e)) (p-then (p-load e) (p-wake c In e))
+
+  pub p-first : (e frame : ℕ) → Pair c st {i = i} Eq (firstInFrame e frame) (firstInFrame e frame)
+  p-first e frame = p-plain c In e (λ p _. p-then (p-record c In e _) (p-ret refl))
+
+  p-unseen : (frame e : ℕ) → Pair c st {i = i} Any (unseen frame e) (unseen frame e)
+  p-unseen frame e = p-then (p-modify-ep c In e _) (p-complete e)
+
+  p-sof-one : (frame e : ℕ) → Pair c st {i = i} Any (sofOne frame e) (sofOne frame e)
+  p-sof-one frame e = p-plain c In e (λ p _. p-test _ (λ _. p-ret tt) (λ _. p-reads MisSt 0 (λ v v′ h. h) (λ m. p-test _
+      (λ _. p-unseen frame e)
+      (λ _. p-status (p-test _ (λ _. p-ret tt) (λ _. p-unseen frame e))))))
+
+  p-sof-walk : (frame : ℕ) (es : List ℕ) → Pair c st {i = i} Any (sofWalk frame es) (sofWalk frame es)
+  unfolding sofWalk
+  p-sof-walk frame [] = p-ret tt
+  p-sof-walk frame (e ∷ es) = p-then (p-sof-one frame e) (p-sof-walk frame es)
+
+  pub p-sof : (frame : ℕ) → Pair c st {i = i} Any (onSof frame) (onSof frame)
+  p-sof frame = p-then (p-modify c _) (p-globals c (λ g _. p-then (p-sof-walk frame _) (p-globals c (λ g _. p-when _ (λ _. p-callback)))))
+
+  pub p-late-walk : (frame : ℕ) (es : List ℕ) → Pair c st {i = i} Any (lateWalk frame es) (lateWalk frame es)
+  unfolding lateWalk
+  p-late-walk frame [] = p-ret tt
+  p-late-walk frame (e ∷ es) = p-then (p-same (p-first e frame) (λ b. p-when b (λ _. p-complete e))) (p-late-walk frame es)
+
+  -- ---- waits, NAKs, toggles
+
+  p-looks : (n : ℕ) → Pair c st {i = i} Any (looks n) (looks n)
+  unfolding looks
+  p-looks zero = p-ret tt
+  p-looks (suc n) = p-reads MisSt 0 (λ v v′ h. h) (λ m. p-test _ (λ _. p-ret tt) (λ _. p-looks n))
+
+  pub p-sie-wait : Pair c st {i = i} Any sieWait sieWait
+  p-sie-wait = p-looks 2001
+
+  pub p-nak : (w : ℕ) → Pair c st {i = i} Any (nakNonIso w) (nakNonIso w)
+  p-nak w = p-plain c Out _ (λ o _. p-plain c In _ (λ n _. p-test _ (λ _. p-modify-reg EpRxCtrl _ _ (λ v v′ h. h)) (λ _. p-when _ (λ _. p-modify-reg EpTxCtrl _ _ (λ v v′ h. h)))))
+
+  pub p-toggled : (dir : Dir) (e : ℕ) → Pair c st {i = i} Eq (toggled dir e) (toggled dir e)
+  p-toggled dir e = p-then p-sie-wait (p-reads (ctrlOf dir) e (ctrl-steady c st dir) (λ w. p-plain c dir e (λ s _. p-test _
+      (λ _. p-then (p-when _ (λ _. p-modify-reg (ctrlOf dir) e _ (ctrl-steady c st dir))) (p-ret refl))
+      (λ _. p-then (p-modify-ep c dir e _) (p-ret refl)))))
+
+  -- ---- arms
+
+  pub p-sent : (e : ℕ) → Pair c st {i = i} Any (sent e) (sent e)
+  p-sent e = p-then (p-modify-ep c In e _) (p-wake c In e)
+
+  pub p-sof-arm : (frame : ℕ) → Pair c st {i = i} Any (sofArm frame) (sofArm frame)
+  p-sof-arm frame = p-globals c (λ g _. p-when _ (λ _. p-sof frame))
+
+  pub p-iso-in : (e frame : ℕ) → Pair c st {i = i} Any (isoInArm e frame) (isoInArm e frame)
+  p-iso-in e frame = p-globals c (λ g _. p-test _ (λ _. p-ret tt) (λ _. p-same (p-first e frame) (λ b. p-when b (λ _. p-complete e))))
+
+  p-moved : (dir : Dir) → Pair c st {i = i} Any (movedOn dir) (movedOn dir)
+  p-moved dir = p-plain c dir 0 (λ s _. p-when _ (λ _. p-then (p-modify-reg (ctrlOf dir) 0 _ (ctrl-steady c st dir)) (p-then (p-modify-ep c dir 0 _) (p-wake c dir 0))))
+
+  pub p-ep0-moved : (t : Token) → Pair c st {i = i} Any (ep0MovedOn t) (ep0MovedOn t)
+  p-ep0-moved tok.Out = p-moved In
+  p-ep0-moved tok.In = p-moved Out
+  p-ep0-moved tok.Sof = p-ret tt
+  p-ep0-moved tok.Setup = p-ret tt
