@@ -14,6 +14,8 @@ pub mod OwnSteps
 pub mod Interrupt
 pub mod Asides
 pub mod Kept
+pub mod Rows
+pub mod Reading
 pub mod Enabling
 pub mod Operations
 pub mod Others
