@@ -17,6 +17,7 @@ pub mod Kept
 pub mod Rows
 pub mod Reading
 pub mod Enabling
+pub mod EnablingOut
 pub mod Operations
 pub mod Others
 pub mod Stores

@@ -34,18 +34,19 @@ use Rattle.apart.specs.Asides.{Others, p-aside, room-in, enqueues}
 use Rattle.apart.specs.Rows.{p-unless, p-numbered, p-named-or-0, p-enabled, p-ends-request, p-polled}
 use Rattle.apart.specs.Reading.{p-poll-read}
 use Rattle.apart.specs.Enabling.{p-set-enabled}
+use Rattle.apart.specs.EnablingOut as enabling-out
 use Rattle.apart.specs.Kept.{p-put-control, p-control, p-put-paced, p-paced, p-put-request, p-fill, p-fill0}
 
--- those that are proved: not yet an OUT endpoint enabled or disabled, the bus' poll (both have rows), a poll of the channel's read, a data_out's poll.
+-- those that are proved: not yet an isochronous OUT endpoint enabled or disabled, the bus' poll (both have rows), a poll of the channel's read, a data_out's poll.
 -- Of the asides not the channel's own open and close
-abbrev pub CoveredSlots : ℕ → Slotted → Type 0
-CoveredSlots x (SetEnabled Out e onn) = ⊥
-CoveredSlots x (SetEnabled In e onn) = Unit {0}
-CoveredSlots x (PollRead e n) = key Out e ≢ key Out x
-CoveredSlots x (BeginWrite e bytes) = Unit {0}
-CoveredSlots x (PollWrite e bytes) = Unit {0}
-CoveredSlots x (PollDataOut n) = ⊥
-CoveredSlots x (BeginDataIn bytes first last) = Unit {0}
+abbrev pub CoveredSlots : Channel → Slotted → Type 0
+CoveredSlots c (SetEnabled Out e onn) = c .iso Out e ≡ false
+CoveredSlots c (SetEnabled In e onn) = Unit {0}
+CoveredSlots c (PollRead e n) = key Out e ≢ key Out (c .number)
+CoveredSlots c (BeginWrite e bytes) = Unit {0}
+CoveredSlots c (PollWrite e bytes) = Unit {0}
+CoveredSlots c (PollDataOut n) = ⊥
+CoveredSlots c (BeginDataIn bytes first last) = Unit {0}
 
 abbrev pub CoveredOther : Other → Type 0
 CoveredOther (Allocate dir kind address maximum interval) = Unit {0}
@@ -69,11 +70,11 @@ CoveredOther BeginReject = Unit {0}
 CoveredOther (BeginDataOut n first) = Unit {0}
 CoveredOther (BeginAcceptSetAddress a) = Unit {0}
 
-abbrev pub Covered : ℕ → Op → Type 0
-Covered x interrupt = Unit {0}
-Covered x (slotted o) = CoveredSlots x o
-Covered x (other o) = CoveredOther o
-Covered x (aside o) = Others x o
+abbrev pub Covered : Channel → Op → Type 0
+Covered c interrupt = Unit {0}
+Covered c (slotted o) = CoveredSlots c o
+Covered c (other o) = CoveredOther o
+Covered c (aside o) = Others (c .number) o
 
 module _ {c : Channel} {st : ℕ} {i : Bool} where
   -- after EP0's start no allocation and no second start
@@ -160,8 +161,8 @@ module _ {c : Channel} {st : ℕ} {i : Bool} where
 -- ---- the calls
 
 module _ (c : Channel) (st : ℕ) where
-  p-slotted : (o : Slotted) → CoveredSlots (c .number) o → Pair c st (SameAnswer (c .number)) (code (slotted o)) (code (slotted o))
-  p-slotted (SetEnabled Out e onn) n = absurd n
+  p-slotted : (o : Slotted) → CoveredSlots c o → Pair c st (SameAnswer (c .number)) (code (slotted o)) (code (slotted o))
+  p-slotted (SetEnabled Out e onn) n = p-staged 2 (p-named Out e (p-resultless (enabling-out.p-set-enabled c e n onn)))
   p-slotted (SetEnabled In e onn) n = p-staged 2 (p-named In e (p-resultless (p-set-enabled c e onn)))
   p-slotted (PollRead e k) n = p-staged 2 (p-named Out e (p-poll-read c e n k))
   p-slotted (BeginWrite e bytes) n = p-staged 2 (p-named In e (p-enabled In e (p-ret (same _)) (p-plain c In e (λ s _. p-unless _ 10 (p-then (p-put-request c In e _) (p-resultless (p-test _ (λ _. p-ret tt) (λ _. p-load-write e bytes))))))))
@@ -195,7 +196,7 @@ module _ (c : Channel) (st : ℕ) where
   p-other (BeginDataOut k first) n = p-staged 2 (p-within _ (p-unless-setup (p-then (p-put-control c _) (p-resultless (p-then (p-modify-ep c Out 0 _) (p-acks Out first))))))
   p-other (BeginAcceptSetAddress a) n = p-staged 2 (p-unless-setup (p-then (p-put-control c _) (p-resultless p-status-in)))
 
-  pub p-call : (o : Op) → Covered (c .number) o → Pair c st (SameAnswer (c .number)) (code o) (code o)
+  pub p-call : (o : Op) → Covered c o → Pair c st (SameAnswer (c .number)) (code o) (code o)
   p-call interrupt n = p-interrupt c st
   p-call (slotted o) n = p-slotted o n
   p-call (other o) n = p-other o n
