@@ -58,14 +58,14 @@ stamp-any : (d d′ : Driver) (e i : ℕ) → slotStamps d e ≡ slotStamps d′
 stamp-any d d′ e i h =
     stamp-mod d e i ∙ sym (stamps-at d e (i % 16) (omega arith)) ∙ ap (λ l. getD l (i % 16) 0) h ∙ stamps-at d′ e (i % 16) (omega arith) ∙ sym (stamp-mod d′ e i)
 
-bytes-same : (b c : List ℕ) (at n : ℕ) → length c ≡ length b → at + n ≤ length b → Same at (at + n) b c → bytesAt b at n ≡ bytesAt c at n
+pub bytes-same : (b c : List ℕ) (at n : ℕ) → length c ≡ length b → at + n ≤ length b → Same at (at + n) b c → bytesAt b at n ≡ bytesAt c at n
 bytes-same b c at n long fits s = sym (window-is b at n fits) ∙ sym (window-same b c at n s) ∙ window-is c at n (omega (arith, long))
 
 module _ (c : Channel) (e : ℕ) (n : key Out e ≢ key Out (c .number)) (s t : St) (l : Like c quiet s t) where
   abbrev h : epOn (s .0) Out e ≡ epOn (t .0) Out e
   h = l .but .eps Out e n
 
-  waiting-out : isOf (waiting Out e) s ≡ isOf (waiting Out e) t
+  pub waiting-out : isOf (waiting Out e) s ≡ isOf (waiting Out e) t
   unfolding waitingOn
   waiting-out = ap hasWaiting h
 
@@ -108,7 +108,7 @@ next-capped d dir e most g = by (hasWaiting (epOn d dir e))
     by false = omega arith
 
 module _ (c : Channel) (e : ℕ) (n : key Out e ≢ key Out (c .number)) (s t : St) (l : Like c quiet s t) where
-  oldest-out : fetchOf (oldest e) s ≡ fetchOf (oldest e) t
+  pub oldest-out : fetchOf (oldest e) s ≡ fetchOf (oldest e) t
   unfolding oldestOn oldestAt
   oldest-out =
       let r = epOn (s .0) Out e in

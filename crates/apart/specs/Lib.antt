@@ -14,7 +14,10 @@ pub mod OwnSteps
 pub mod Interrupt
 pub mod Asides
 pub mod Kept
+pub mod Rows
+pub mod Reading
 pub mod Enabling
+pub mod EnablingOut
 pub mod Operations
 pub mod Others
 pub mod Stores

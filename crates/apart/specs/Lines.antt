@@ -33,7 +33,7 @@ module _ (c : Channel) where
   pub data Lined : (st : ℕ) (m n : Machine Answer Driver) → Stands c st m n → Type 0 where
     one : {st : ℕ} {s : St} (l : Lawful (c .iso) quiet s) (r : Room (s .0 .wakes)) → Lined st _ _ (begins c st l r)
     -- both get a call, nothing being under way; `st`: the status word of an interrupt
-    call : {old : ℕ} {s t : St} {l : Like c quiet s t} → Lined old _ _ (rests l) → (st : ℕ) (o : Op) (n : Covered (c .number) o) {b b′ : Buf} (h : Lent c s t b b′) → Lined st _ _ (begun c st o n l h .stand)
+    call : {old : ℕ} {s t : St} {l : Like c quiet s t} → Lined old _ _ (rests l) → (st : ℕ) (o : Op) (n : Covered c o) {b b′ : Buf} (h : Lent c s t b b′) → Lined st _ _ (begun c st o n l h .stand)
     -- both continue an access that is not the channel's
     go-on : {st : ℕ} {i : Bool} {q : Access} {s t : St} {k k′ : ℕ → St → tree.Out St Answer} {l : Like c quiet s t} {f : Rest st q k k′} → Lined st _ _ (common i q {s = s} {t = t} {k = k} {k′ = k′} l f)
         → (v v′ : ℕ) (r : Brings (c .number) st q v v′) (w : over calls (awaited q) v ≡ false) (w′ : over calls (awaited q) v′ ≡ false) {b b′ : Buf} (h : Lent c s t b b′) → Lined st _ _ (continues c st i q v v′ l f r w w′ h .stand)

@@ -16,12 +16,12 @@ use Rattle.script.specs.Cells.{Plain, globals-cell}
 use Rattle.state.specs.Driver.{key}
 use Rattle.script.specs.Script.{Script, ret, test, room, enqueue}
 use Rattle.script.specs.Statics.{modifyReg}
-use Rattle.script.specs.Answers.{Answer, Refused, unless, staged}
+use Rattle.script.specs.Answers.{Answer, Refused, staged}
 use Rattle.script.specs.IsoIn.{isoInCompletions, isoInAdvance, isoInSetPaced, microframe}
 use Rattle.script.specs.Bus as bus
-use Rattle.script.specs.Endpoint.{enabled-else, ends-request, arm-read, polled, load-write, put-iso, sent-ready}
+use Rattle.script.specs.Endpoint.{arm-read, load-write, put-iso, sent-ready}
 use Rattle.script.specs.Control.{ends-control, unlessSetup, withinMaximum, requested, aborted-else, acks, closing-out, take-closing, take-in, statusIn}
-use Rattle.script.specs.Calls.{Slotted, SetEnabled, PollRead, BeginWrite, PollWrite, PollDataOut, BeginDataIn, Other, Allocate, AllocateAll, Start, BusPoll, BusEnable, BusDisable, Microframe, SetStalled, IsStalled, SetPaced, Advance, BeginRead, BeginSetup, PollSetup, PollDataIn, BeginAccept, PollAccept, BeginReject, BeginDataOut, BeginAcceptSetAddress, Op, interrupt, slotted, other, aside, irq, code, numbered, named-or-0}
+use Rattle.script.specs.Calls.{Slotted, SetEnabled, PollRead, BeginWrite, PollWrite, PollDataOut, BeginDataIn, Other, Allocate, AllocateAll, Start, BusPoll, BusEnable, BusDisable, Microframe, SetStalled, IsStalled, SetPaced, Advance, BeginRead, BeginSetup, PollSetup, PollDataIn, BeginAccept, PollAccept, BeginReject, BeginDataOut, BeginAcceptSetAddress, Op, interrupt, slotted, other, aside, irq, code}
 use Rattle.apart.specs.But.{Channel, Like}
 use Rattle.apart.specs.Apart.{Pair}
 use Rattle.apart.specs.Pairs.{Eq, Any, p-ret, p-bind, p-same, p-then, p-test, p-when, p-write, p-get, p-is, p-act}
@@ -31,19 +31,22 @@ use Rattle.apart.specs.InRings.{in-other}
 use Rattle.apart.specs.Walks.{ctrl-steady, p-reads, p-modify-reg, p-complete}
 use Rattle.apart.specs.Interrupt.{p-interrupt}
 use Rattle.apart.specs.Asides.{Others, p-aside, room-in, enqueues}
+use Rattle.apart.specs.Rows.{p-unless, p-numbered, p-named-or-0, p-enabled, p-ends-request, p-polled}
+use Rattle.apart.specs.Reading.{p-poll-read}
 use Rattle.apart.specs.Enabling.{p-set-enabled}
-use Rattle.apart.specs.Kept.{p-put-control, p-control, p-put-paced, p-paced, p-put-request, p-request, p-fill, p-fill0}
+use Rattle.apart.specs.EnablingOut as enabling-out
+use Rattle.apart.specs.Kept.{p-put-control, p-control, p-put-paced, p-paced, p-put-request, p-fill, p-fill0}
 
--- those that are proved: not yet an OUT endpoint enabled or disabled, the bus' poll (both have rows), a read's poll, a data_out's poll. Of the asides
--- not the channel's own open and close
-abbrev pub CoveredSlots : Slotted → Type 0
-CoveredSlots (SetEnabled Out e onn) = ⊥
-CoveredSlots (SetEnabled In e onn) = Unit {0}
-CoveredSlots (PollRead e n) = ⊥
-CoveredSlots (BeginWrite e bytes) = Unit {0}
-CoveredSlots (PollWrite e bytes) = Unit {0}
-CoveredSlots (PollDataOut n) = ⊥
-CoveredSlots (BeginDataIn bytes first last) = Unit {0}
+-- those that are proved: not yet an isochronous OUT endpoint enabled or disabled, the bus' poll (both have rows), a poll of the channel's read, a data_out's poll.
+-- Of the asides not the channel's own open and close
+abbrev pub CoveredSlots : Channel → Slotted → Type 0
+CoveredSlots c (SetEnabled Out e onn) = c .iso Out e ≡ false
+CoveredSlots c (SetEnabled In e onn) = Unit {0}
+CoveredSlots c (PollRead e n) = key Out e ≢ key Out (c .number)
+CoveredSlots c (BeginWrite e bytes) = Unit {0}
+CoveredSlots c (PollWrite e bytes) = Unit {0}
+CoveredSlots c (PollDataOut n) = ⊥
+CoveredSlots c (BeginDataIn bytes first last) = Unit {0}
 
 abbrev pub CoveredOther : Other → Type 0
 CoveredOther (Allocate dir kind address maximum interval) = Unit {0}
@@ -67,27 +70,13 @@ CoveredOther BeginReject = Unit {0}
 CoveredOther (BeginDataOut n first) = Unit {0}
 CoveredOther (BeginAcceptSetAddress a) = Unit {0}
 
-abbrev pub Covered : ℕ → Op → Type 0
-Covered x interrupt = Unit {0}
-Covered x (slotted o) = CoveredSlots o
-Covered x (other o) = CoveredOther o
-Covered x (aside o) = Others x o
+abbrev pub Covered : Channel → Op → Type 0
+Covered c interrupt = Unit {0}
+Covered c (slotted o) = CoveredSlots c o
+Covered c (other o) = CoveredOther o
+Covered c (aside o) = Others (c .number) o
 
 module _ {c : Channel} {st : ℕ} {i : Bool} where
-  -- ---- rows
-
-  p-unless : (b : Bool) (n : ℕ) {p p′ : Script i Answer} → Pair c st (SameAnswer (c .number)) p p′ → Pair c st (SameAnswer (c .number)) (unless b n p) (unless b n p′)
-  p-unless b n h = p-test b (λ _. p-ret (same _)) (λ _. h)
-
-  p-numbered : (e : ℕ) {p p′ : Script i Answer} → Pair c st (SameAnswer (c .number)) p p′ → Pair c st (SameAnswer (c .number)) (numbered e p) (numbered e p′)
-  p-numbered e h = p-test _ (λ _. h) (λ _. p-ret (same _))
-
-  p-named-or-0 : (dir : Dir) (e : ℕ) {p p′ : Script i Answer} → Pair c st (SameAnswer (c .number)) p p′ → Pair c st (SameAnswer (c .number)) (named-or-0 dir e p) (named-or-0 dir e p′)
-  p-named-or-0 dir e h = p-test _ (λ _. h) (λ _. p-named dir e h)
-
-  p-enabled : (dir : Dir) (e : ℕ) {q q′ p p′ : Script i Answer} → Pair c st (SameAnswer (c .number)) q q′ → Pair c st (SameAnswer (c .number)) p p′ → Pair c st (SameAnswer (c .number)) (enabled-else dir e q p) (enabled-else dir e q′ p′)
-  p-enabled dir e q p = p-globals c (λ g _. p-test _ (λ _. p) (λ _. q))
-
   -- after EP0's start no allocation and no second start
   pick-stage : {p : Script i Answer} (n : ℕ) → n ≡ 2 → Pair c st (SameAnswer (c .number)) (test (eqb n 1) p (ret (Refused 4))) (test (eqb n 1) p (ret (Refused 4)))
   pick-stage {p} n h = subst (λ k. Pair c st (SameAnswer (c .number)) (test (eqb k 1) p (ret (Refused 4))) (test (eqb k 1) p (ret (Refused 4)))) (sym h) (record { on = λ s t l. p-ret {i = i} (same (Refused 4)) .on s t l })
@@ -118,14 +107,8 @@ module _ {c : Channel} {st : ℕ} {i : Bool} where
 
   -- ---- reads and writes
 
-  p-ends-request : (dir : Dir) (e : ℕ) (a : Answer) → Pair c st {i = i} (SameAnswer (c .number)) (ends-request dir e a) (ends-request dir e a)
-  p-ends-request dir e a = p-then (p-put-request c dir e _) (p-ret (same a))
-
   p-arm-read : (e : ℕ) (s : Plain) → Pair c st {i = i} Any (arm-read e s) (arm-read e s)
   p-arm-read e s = p-test _ (λ _. p-ret tt) (λ _. p-test _ (λ _. p-ret tt) (λ _. p-then (p-modify-ep c Out e _) (p-modify-reg EpRxCtrl e _ (λ v v′ h. h))))
-
-  p-polled : (dir : Dir) (e n : ℕ) → (key dir e ≢ key Out (c .number)) → {p : Plain → Script i Answer} → ((s : Plain) → Pair c st (SameAnswer (c .number)) (p s) (p s)) → Pair c st (SameAnswer (c .number)) (polled dir e n p) (polled dir e n p)
-  p-polled dir e n k h = p-same (p-request c dir e k) (λ r. p-unless _ 15 (p-test _ (λ _. p-plain c dir e (λ s _. h s)) (λ _. p-then (p-modify-ep c dir e _) (p-ends-request dir e _))))
 
   p-load-write : (e : ℕ) (bytes : List ℕ) → Pair c st {i = i} Any (load-write e bytes) (load-write e bytes)
   p-load-write e bytes = p-then (p-fill c e bytes) (p-then (p-modify-ep c In e _) (p-then (p-write EpTLen e _) (p-modify-reg EpTxCtrl e _ (λ v v′ h. h))))
@@ -178,12 +161,12 @@ module _ {c : Channel} {st : ℕ} {i : Bool} where
 -- ---- the calls
 
 module _ (c : Channel) (st : ℕ) where
-  p-slotted : (o : Slotted) → CoveredSlots o → Pair c st (SameAnswer (c .number)) (code (slotted o)) (code (slotted o))
-  p-slotted (SetEnabled Out e onn) n = absurd n
+  p-slotted : (o : Slotted) → CoveredSlots c o → Pair c st (SameAnswer (c .number)) (code (slotted o)) (code (slotted o))
+  p-slotted (SetEnabled Out e onn) n = p-staged 2 (p-named Out e (p-resultless (enabling-out.p-set-enabled c e n onn)))
   p-slotted (SetEnabled In e onn) n = p-staged 2 (p-named In e (p-resultless (p-set-enabled c e onn)))
-  p-slotted (PollRead e k) n = absurd n
+  p-slotted (PollRead e k) n = p-staged 2 (p-named Out e (p-poll-read c e n k))
   p-slotted (BeginWrite e bytes) n = p-staged 2 (p-named In e (p-enabled In e (p-ret (same _)) (p-plain c In e (λ s _. p-unless _ 10 (p-then (p-put-request c In e _) (p-resultless (p-test _ (λ _. p-ret tt) (λ _. p-load-write e bytes))))))))
-  p-slotted (PollWrite e bytes) n = p-staged 2 (p-named In e (p-polled In e (length bytes) (in-other (c .number) e) (λ s. p-test _ (λ _. p-put-iso e bytes) (λ _. p-sent-ready e s))))
+  p-slotted (PollWrite e bytes) n = p-staged 2 (p-named In e (p-polled In e (length bytes) (in-other (c .number) e) (p-plain c In e (λ s _. p-test _ (λ _. p-put-iso e bytes) (λ _. p-sent-ready e s)))))
   p-slotted (PollDataOut k) n = absurd n
   p-slotted (BeginDataIn bytes first last) n = p-staged 2 (p-within _ (p-unless-setup (p-then (p-put-control c _) (p-resultless
       (p-then (p-fill0 c bytes) (p-then (p-modify-ep c In 0 _) (p-then (p-when last (λ _. p-closing-out)) (p-then (p-modify-ep c In 0 _) (p-then (p-write EpTLen 0 _) (p-acks In first))))))))))
@@ -213,7 +196,7 @@ module _ (c : Channel) (st : ℕ) where
   p-other (BeginDataOut k first) n = p-staged 2 (p-within _ (p-unless-setup (p-then (p-put-control c _) (p-resultless (p-then (p-modify-ep c Out 0 _) (p-acks Out first))))))
   p-other (BeginAcceptSetAddress a) n = p-staged 2 (p-unless-setup (p-then (p-put-control c _) (p-resultless p-status-in)))
 
-  pub p-call : (o : Op) → Covered (c .number) o → Pair c st (SameAnswer (c .number)) (code o) (code o)
+  pub p-call : (o : Op) → Covered c o → Pair c st (SameAnswer (c .number)) (code o) (code o)
   p-call interrupt n = p-interrupt c st
   p-call (slotted o) n = p-slotted o n
   p-call (other o) n = p-other o n

@@ -88,7 +88,7 @@ module _ (c : Channel) (st : ℕ) where
   -- ---- the calls that the two runs have in common
 
   -- an operation begins, or a call ends at once
-  pub begun : (o : Op) → Covered (c .number) o → {s t : St} {b b′ : Buf} → Like c quiet s t → Lent c s t b b′ → After (drive (begin o) (machineOf idle s) b) (drive (begin o) (machineOf idle t) b′)
+  pub begun : (o : Op) → Covered c o → {s t : St} {b b′ : Buf} → Like c quiet s t → Lent c s t b b′ → After (drive (begin o) (machineOf idle s) b) (drive (begin o) (machineOf idle t) b′)
   begun o n {s} {t} {b} {b′} l h =
       let m = lent-like l h in
       rw (fits (m .left), fits (m .right)) (by (slots o))
