@@ -1,0 +1,1 @@
+// The laws on toggles at the driver's own operations. It has no code.
