@@ -146,14 +146,18 @@ reset-below (suc n) d l z = more (resetBelow n d) (reset-below n d (omega arith)
       others = λ dir y h. pair-other x (w .sized) n dir y (λ q. omega arith) ∙ w .others dir y (omega arith);
     }
 
+-- every record, and so its sequence bit to DATA0 (USB 2.0, 9.1.1.5)
+pub reset-ep : (d : Driver) → Sized d → (dir : Dir) (x : ℕ) → epOn (resetAll d) dir x ≡ resetOf (epOn d dir x)
+unfolding resetAll noStamps epOn
+reset-ep d z dir x = reset-below 16 d (omega arith) z .these dir x (omega arith)
+
 -- all of them, and no setup packet
 module _ {b : Buf} {d : Driver} {t : Pages} (R : Rest (mid bus-reset 1) b d t) where
   all-below : Below 16 d (resetBelow 16 d)
   all-below = reset-below 16 d (omega arith) (R .sized)
 
   all-ep : (dir : Dir) (x : ℕ) → epOn (resetAll d) dir x ≡ resetOf (epOn d dir x)
-  unfolding resetAll noStamps epOn
-  all-ep dir x = all-below .these dir x (omega arith)
+  all-ep dir x = reset-ep d (R .sized) dir x
 
   all-lens : (dir : Dir) (x : ℕ) → lensOf (resetAll d) dir x ≡ lensOf d dir x
   unfolding resetAll noStamps lenOn

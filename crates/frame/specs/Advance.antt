@@ -1,5 +1,5 @@
 -- Steps from one microframe index to another, going round at 16,384, and what a paced advance completes. Assumes nothing.
-use mathlib.Core.Bool.{Bool, true, false, not}
+use mathlib.Core.Bool.{Bool, not, _&&_}
 use Prim.Native.Nat.{ℕ, _+_, _-_, _%_, min}
 use lib.Dec.{eqb}
 use Rattle.bits.specs.Bit.{pick}
@@ -24,10 +24,6 @@ previous i = (i + 16383) % 16384
 unfoldable pub completions : ℕ → ℕ → ℕ
 completions last now = pick (isNone last) 1 (min (distance (indexOf last) now) 3)
 
-abbrev pub andNot : Bool → Bool → Bool
-andNot true b = false
-andNot false b = b
-
 -- was the last completion in the microframe before this frame number's?
 unfoldable pub inPrevious : ℕ → ℕ → Bool
-inPrevious last frame = andNot (isNone last) (eqb (indexOf last) (previous (indexOf frame)))
+inPrevious last frame = not (isNone last) && eqb (indexOf last) (previous (indexOf frame))

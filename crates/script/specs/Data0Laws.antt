@@ -1,4 +1,5 @@
--- DATA0 after a configuration, a cleared halt and a bus reset (USB 2.0, 9.1.1.5, 9.4.5), in the chip and in the driver's record
+-- DATA0 after a configuration, a cleared halt and a bus reset (USB 2.0, 9.1.1.5, 9.4.5): every control word that their scripts write has it. That they write
+-- the endpoint's own is `toggles/specs/Data0.antt`, the driver's record RestartLaws.antt
 use mathlib.Core.Bool.{Bool, true, false, _||_}
 use mathlib.Core.Path.{_≡_, refl, ap, sym, _∙_}
 use Prim.Native.Nat.{ℕ, zero, suc, _+_, _*_, _/_, _%_}
