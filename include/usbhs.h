@@ -1,10 +1,9 @@
 /* The USBHS device driver's calls. The driver's state lies in USBHS_STATE_LEN bytes of the caller's, its packets in the caller's
  * slots; the library has no state of its own. Before the first start-up the state's bytes are to be zero.
  *
- * A slice is a pointer and a length. Any number is safe. dir: 0 OUT, else IN. Flags: 0 no, else yes.
- *
- * Bus time: an enabled isochronous endpoint is charged its maximum plus 38 byte-times of each microframe, an interrupt endpoint its maximum plus 55.
- * An enabling with which the drivers' charges would pass 6,000 is refused with 19 and changes nothing.
+ * A slice is a pointer and a length. Any number and any bytes are safe; pointers must be valid for their lengths, and what one call is lent
+ * (state, slots, time, slice, data, packet, rooms) must not overlap. dir: 0 OUT, else IN. Flags: 0 no, else yes. The chip wants the slots' start on a
+ * word boundary.
  *
  * Each call answers one word:
  *
@@ -20,7 +19,58 @@
  *   8 shown          8-23 length, 32-63 offset into the slots: an open packet, whose stamp is at `stamp`
  *
  * After kinds 1 to 4 the operation is under way: make the access, then call usbhs_continue, with the reading after a read and with any
- * number after the others. The registers' numbers are those of enum usbhs_register.
+ * number after the others, until the end. Meanwhile the questions answer, and a start-up drops the operation; during an interrupt
+ * (usbhs_begin_interrupt) packets may be opened, closed and queued; every other call is refused with 3. So the chip's interrupt is to be masked while
+ * another operation is continued.
+ *
+ * Refusals, in the order in which a call checks them (but 22 before 6; control stages check 10 before 9; 17, 18 and 19 as their calls say).
+ * A refused call changes nothing, except that 9 and 10 of a poll end its request, and that 10 also forgets a packet that was ready. After a continue
+ * that is refused with 1 or 16 its reading is still awaited; the access is not handed out again.
+ *
+ *    1  the slots' length is not count times size
+ *    2  start-up: a size that is not 8, 16, 32, 64, 512 or 1024; a count of 0; more than 65,536 bytes in all
+ *    3  an operation is under way
+ *    4  not at this stage: before start-up only start-up; after it allocations and EP0's start; after EP0's start all but these two
+ *    5  no such endpoint: 0 or above 15, or not allocated in this direction (stalls take 0; pacing and advance ask no more than 1 to 15)
+ *    6  the maximum is above the buffer size
+ *    7  allocation: an address of the other direction, of 0 or above 15, or taken; no number is free
+ *    8  the buffers run out
+ *    9  the endpoint is disabled; of control stages, a setup packet waits
+ *   10  a length: a read's slice below the endpoint's maximum; data above the maximum (of a queue, above the buffer size); a poll with another length
+ *       than its begin's; more was received than the slice or the maximum holds; data in was closed by an OUT that is not empty
+ *   11  open, queue: not isochronous
+ *   12  open: no packet waits
+ *   13  queue: two packets wait
+ *   14  close: no packet is open
+ *   15  continue: nothing is under way; a poll: no such request was begun
+ *   16  continue: the reading has bits above its width
+ *   17  a descriptor: not as it must be (usbhs_allocate_all)
+ *   18  a descriptor: one address has two transfer types
+ *   19  an enabling with which the bus time in use would pass 6,000 byte-times
+ *   22  EP0's maximum is not 64
+ *
+ * Readings and values are packed as follows, bit 0 lowest; this is the driver's own packing and not the chip's layout. ep_config, ep_type and int_en
+ * are kept by the driver and never read.
+ *
+ *   int_fg      0 bus reset, 1 transfer, 2 suspend, 3 host SOF, 4 FIFO overflow, 5 setup; a write clears the flag whose bit is 1
+ *   int_st      0-3 endpoint, 4-5 token (0 OUT, 1 SOF, 2 IN, 3 SETUP), 6 tog_ok
+ *   mis_st      0 sie_free, 1 suspend
+ *   rx_len      16 bits
+ *   frame_no    0-10 frame, 13-15 microframe
+ *   ctrl        0 clr_all, 1 reset_sie, 2 int_busy, 3 dma_en, 4 speed_type (1 high speed), 5 dev_pu_en
+ *   int_en      0 dev_nak, 1 fifo_ov, 2 setup_act, 3 suspend, 4 bus_rst, 5 transfer, 6 sof_act
+ *   dev_ad      7 bits
+ *   host_ctrl   0 phy_suspendm (the host part's control register)
+ *   ep_config   bit e: IN e is enabled; bit 16 + e: OUT e
+ *   ep_type     the same bits: isochronous
+ *   ep_rx_ctrl, ep_tx_ctrl
+ *               0-1 response (0 ACK, 1 NYET, of an isochronous endpoint its ISO response, 2 NAK, 3 STALL), 2-3 toggle (0 DATA0, 1 DATA1), 4 automatic;
+ *               a reading has 8 bits
+ *
+ * An access carries the endpoint's own number, 0 where the register has none.
+ *
+ * Bus time: an enabled isochronous endpoint is charged its maximum plus 38 byte-times of each microframe, an interrupt endpoint its maximum plus 55.
+ * An enabling with which the drivers' charges would pass 6,000 is refused with 19 and changes nothing.
  */
 #ifndef USBHS_H
 #define USBHS_H
@@ -92,8 +142,19 @@ enum usbhs_register {
 #define USBHS_LENGTH(word) ((unsigned)((word) >> 8 & 0xFFFF))     /* done, shown */
 #define USBHS_OFFSET(word) ((uint32_t)((word) >> 32))             /* shown */
 
+/* The transfer types of usbhs_allocate (modulo 4). */
+enum usbhs_transfer {
+    USBHS_CONTROL = 0,
+    USBHS_ISOCHRONOUS = 1,
+    USBHS_BULK = 2,
+    USBHS_INTERRUPT = 3
+};
+
 /* Start-up, endpoints, EP0's start. A buffer's size is 8, 16, 32, 64, 512 or 1024; EP0's maximum is 64 (any other is refused with 22), so EP0
- * starts on buffers of 64 bytes or more. A refused call changes nothing. */
+ * starts on buffers of 64 bytes or more. `callback`: there is a start-of-frame callback.
+ * usbhs_allocate takes an address as in an endpoint descriptor, bit 7 the direction, which must be `dir`, or USBHS_ANY_ADDRESS; its end's result is the
+ * endpoint's number. An isochronous OUT takes 16 buffers, an isochronous IN 2, any other endpoint 1. `interval`: an isochronous IN of 0 or 1 is served in
+ * every microframe, of more by its own tokens or by usbhs_begin_advance. */
 uint64_t usbhs_start_up(uint8_t state[USBHS_STATE_LEN], const uint8_t *slots, size_t slots_length, uint16_t time[USBHS_TIME_LEN], uint32_t driver, uint32_t size, uint32_t count, uint32_t callback);
 uint64_t usbhs_allocate(uint8_t state[USBHS_STATE_LEN], uint32_t kind, uint32_t address, uint32_t maximum, uint32_t interval, uint32_t dir);
 uint64_t usbhs_start(uint8_t state[USBHS_STATE_LEN], uint32_t maximum);
@@ -110,13 +171,21 @@ uint64_t usbhs_allocate_all(uint8_t state[USBHS_STATE_LEN], const uint8_t *bytes
 #define USBHS_NUMBERS_LEN 32
 uint64_t usbhs_preview(const uint8_t state[USBHS_STATE_LEN], const uint8_t *bytes, size_t length, uint8_t numbers[USBHS_NUMBERS_LEN], uint32_t *buffers, uint32_t *refusal);
 
-/* Goes on with the operation under way. */
+/* Goes on with the operation under way, `value` being the reading that was asked for. */
 uint64_t usbhs_continue(uint8_t state[USBHS_STATE_LEN], uint8_t *slots, size_t slots_length, uint16_t time[USBHS_TIME_LEN], uint32_t driver, uint32_t value);
 
 /* The interrupt: on the chip's interrupt, or whenever it may be raised. While it is under way packets may be opened, closed and queued. */
 uint64_t usbhs_begin_interrupt(uint8_t state[USBHS_STATE_LEN]);
 
-/* The operations. */
+/* The operations. Ends' results: of a bus poll the event, enum usbhs_event; of usbhs_begin_is_stalled 1 or 0; of usbhs_begin_microframe the microframe
+ * index, frame times 8 plus microframe; of all others 0. The first bus poll after EP0's start ends at once with USBHS_POWER. usbhs_set_paced is over at once. */
+enum usbhs_event {
+    USBHS_NO_EVENT = 0,
+    USBHS_POWER = 1,
+    USBHS_RESET = 2,
+    USBHS_SUSPEND = 3,
+    USBHS_RESUME = 4
+};
 uint64_t usbhs_begin_bus_poll(uint8_t state[USBHS_STATE_LEN]);
 uint64_t usbhs_begin_bus_enable(uint8_t state[USBHS_STATE_LEN]);
 uint64_t usbhs_begin_bus_disable(uint8_t state[USBHS_STATE_LEN]);
@@ -135,7 +204,8 @@ uint64_t usbhs_begin_write(uint8_t state[USBHS_STATE_LEN], uint8_t *slots, size_
 uint64_t usbhs_poll_write(uint8_t state[USBHS_STATE_LEN], uint8_t *slots, size_t slots_length, uint32_t endpoint, const uint8_t *data, size_t data_length);
 
 /* The control pipe: each stage is begun, then polled until it is done. A poll of data out brings a slice of the begin's length. A poll of setup fills
- * the packet (done, 8); a poll of an accepted address may hand out its write. */
+ * the packet (done, 8). A poll of an accepted address, once the status stage is through, hands out the write of dev_ad; the continue after it ends, and
+ * the request is over. A reject has no poll. `first`, `last`: the data stage's first and last packet. An address counts modulo 128. */
 uint64_t usbhs_begin_setup(uint8_t state[USBHS_STATE_LEN]);
 uint64_t usbhs_poll_setup(uint8_t state[USBHS_STATE_LEN], uint8_t packet[8]);
 uint64_t usbhs_begin_data_out(uint8_t state[USBHS_STATE_LEN], uint32_t length, uint32_t first);

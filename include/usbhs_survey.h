@@ -28,7 +28,7 @@ extern "C" {
  * Ends with the set: bit i says whether channel i is in. *total: of its maxima. *figure: no fitting set has a greater total; if all sets were
  * looked at it is *total, else the total of all maxima. *looked: how many sets were looked at. Of equal sets the one with the smaller number.
  *
- * Row 20: more than 16 channels, a list of no whole channels, or a budget of 0. */
+ * Row 20: more than 16 channels, a list that is not whole channels, or a budget of 0. */
 #define USBHS_CHANNEL_LEN 5
 uint64_t usbhs_best_set(uint8_t *list, size_t list_length, const uint16_t time[USBHS_TIME_LEN], uint32_t budget, uint32_t *total, uint32_t *figure, uint32_t *looked);
 
@@ -75,11 +75,11 @@ uint32_t usbhs_data_crc(const uint8_t *bytes, size_t length);
 
 void usbhs_card_new(uint32_t writer[USBHS_WRITER_LEN]);
 
-/* Row 21: a block of no 512 bytes, a packet of more than 1,024, endpoint 0 or above 15. */
+/* Row 21: a block that is not 512 bytes, a packet of more than 1,024, endpoint 0 or above 15. */
 uint64_t usbhs_card_write(uint32_t writer[USBHS_WRITER_LEN], uint8_t *block, size_t block_length, uint32_t endpoint, const uint8_t *data, size_t data_length);
 
 /* Fills the last block with zeros, after the last packet. Ends with USBHS_BLOCK_FULL, or with 0 where the last block is stored already.
- * Row 21: a block of no 512 bytes. */
+ * Row 21: a block that is not 512 bytes. */
 uint64_t usbhs_card_finish(const uint32_t writer[USBHS_WRITER_LEN], uint8_t *block, size_t block_length);
 
 /* The reader, over the whole stream. *place is where it goes on; usbhs_card_start sets it. A block whose check fails or whose number is not its place is
@@ -87,7 +87,7 @@ uint64_t usbhs_card_finish(const uint32_t writer[USBHS_WRITER_LEN], uint8_t *blo
  *
  * usbhs_card_start ends with 0. usbhs_card_next is done with the packet's length, its bytes at the room's front and its endpoint in *endpoint, or
  * ends where there is no more packet.
- * Row 21: a stream of no whole blocks; a room shorter than the packet, which a longer one then gets. */
+ * Row 21: a stream that is not whole blocks; a room shorter than the packet, which a longer one then gets. */
 uint64_t usbhs_card_start(const uint8_t *stream, size_t stream_length, size_t *place);
 uint64_t usbhs_card_next(const uint8_t *stream, size_t stream_length, size_t *place, uint32_t *endpoint, uint8_t *room, size_t room_length);
 

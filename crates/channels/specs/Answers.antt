@@ -13,7 +13,7 @@ use Rattle.channels.specs.Sets.{choiceOf}
 abbrev pub count : List ℕ → ℕ
 count s = length s / 5
 
--- row 20: a budget of 0, a list of no whole records, more than 16 channels
+-- row 20: a budget of 0, a list that is not whole records, more than 16 channels
 unfoldable pub isRefused : List ℕ → ℕ → Bool
 isRefused s budget = eqb budget 0 || not (eqb (length s % 5) 0) || ltb 16 (count s)
 

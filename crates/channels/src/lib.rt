@@ -83,7 +83,7 @@ fn choose(list: &[u8], n: usize, in_use: u32, budget: u32) -> Choice
 }
 
 // Chooses among the channels of the lent list, five bytes each: its maximum and its charge in byte-times, lowest byte first, and its flag, which
-// becomes 1 if the channel is in the chosen set and 0 if not. 20, and the list as it was: more than 16 channels, a list of no whole records, or a
+// becomes 1 if the channel is in the chosen set and 0 if not. 20, and the list as it was: more than 16 channels, a list that is not whole records, or a
 // budget of 0 sets.
 pub fn best_set(list: &mut [u8], in_use: u32, budget: u32) -> Answer
     ensures { λ r. ⌜ r ≡ answerOf (now (list .entry)) in_use budget ⌝ }
