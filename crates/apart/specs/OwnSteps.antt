@@ -89,22 +89,22 @@ look-of y iso e = test (entry y iso e) (arrives e (y .len)) (read IntSt 0 >>= re
 
 module _ {c : Channel} {st : ℕ} (i : Bool) {A B : Type 0} {Q : A → B → Type 0} where
   -- after it the state is still the same as the other run's, t, but for the channel's data
-  module _ (u : tree.Out St B) (f : Unit → St → tree.Out St A) {t : St} (k : (s : St) → Like c quiet s t → Apart c st Q (f tt s) u) where
-    left-arrives : (n : ℕ) {s : St} → Like c quiet s t → Apart c st Q (bindOut (run {i = i} conc (arrives (c .number) n) s) f) u
+  module _ (u : tree.Out St B) (f : Unit → St → tree.Out St A) {t : St} (k : (s : St) → Like c quiet s t → Apart c st i Q (f tt s) u) where
+    left-arrives : (n : ℕ) {s : St} → Like c quiet s t → Apart c st i Q (bindOut (run {i = i} conc (arrives (c .number) n) s) f) u
     left-arrives n {s} l = left (lined.receives _) (λ v s1 m. k _ (own-wake c (touch (touched-trans (own-arrives c n s (l .left)) m) l)))
 
-    left-rest : (b : Bool) (n : ℕ) {s : St} → Like c quiet s t → Apart c st Q (bindOut (run {i = i} conc (test b done (arrives (c .number) n)) s) f) u
+    left-rest : (b : Bool) (n : ℕ) {s : St} → Like c quiet s t → Apart c st i Q (bindOut (run {i = i} conc (test b done (arrives (c .number) n)) s) f) u
     left-rest true n l = k _ l
     left-rest false n l = left-arrives n l
 
-    left-look : (b : Bool) (y : Transfer) {s : St} → Like c quiet s t → Apart c st Q (bindOut (run {i = i} conc (test b (arrives (c .number) (y .len)) (read IntSt 0 >>= rest-of (c .number))) s) f) u
+    left-look : (b : Bool) (y : Transfer) {s : St} → Like c quiet s t → Apart c st i Q (bindOut (run {i = i} conc (test b (arrives (c .number) (y .len)) (read IntSt 0 >>= rest-of (c .number))) s) f) u
     left-look true y l = left-arrives (y .len) l
     left-look false y l = left status (λ v s1 m. left-rest (arriving v (c .number)) (lookOf (marked (c .number)) s1) (touch m l))
 
-    left-check : (y : Transfer) (iso : Bool) {s : St} → Like c quiet s t → Apart c st Q (bindOut (run {i = i} conc (checkOne y iso (c .number)) s) f) u
+    left-check : (y : Transfer) (iso : Bool) {s : St} → Like c quiet s t → Apart c st i Q (bindOut (run {i = i} conc (checkOne y iso (c .number)) s) f) u
     left-check y iso {s} l = by (isOf (changed (c .number)) s)
       where
-        by : (b : Bool) → Apart c st Q (bindOut (run {i = i} conc (when b (look-of y iso (c .number))) s) f) u
+        by : (b : Bool) → Apart c st i Q (bindOut (run {i = i} conc (when b (look-of y iso (c .number))) s) f) u
         by true = left-look (entry y iso (c .number)) y l
         by false = k s l
 

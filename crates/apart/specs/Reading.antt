@@ -86,29 +86,29 @@ module _ (c : Channel) (e : ℕ) (n : key Out e ≢ key Out (c .number)) where
   module _ (st : ℕ) (i : Bool) (k : ℕ) where
     -- the packet is taken, its record as it was but for `ready`
     tail : (v : Plain) (b : Bool) → tooLong k v ≡ b → (s t : St) → Like c quiet s t → epOn (s .0) Out e .«max_len» ≡ v .«max_len»
-        → Apart c st (SameAnswer (c .number)) (run {i = i} conc (test b (ends-request Out e (Refused 10)) (bind (fetch (received e (v .len))) (λ w. ends-request Out e (Done w)))) s)
+        → Apart c st i (SameAnswer (c .number)) (run {i = i} conc (test b (ends-request Out e (Refused 10)) (bind (fetch (received e (v .len))) (λ w. ends-request Out e (Done w)))) s)
         (run {i = i} conc (test b (ends-request Out e (Refused 10)) (bind (fetch (received e (v .len))) (λ w. ends-request Out e (Done w)))) t)
     tail v true z s t l m = p-ends-request {i = i} Out e (Refused 10) .on s t l
     tail v false z s t l m =
-        subst (λ w. Apart c st (SameAnswer (c .number)) (run {i = i} conc (ends-request Out e (Done (fetchOf (received e (v .len)) s))) s) (run {i = i} conc (ends-request Out e (Done w)) t))
+        subst (λ w. Apart c st i (SameAnswer (c .number)) (run {i = i} conc (ends-request Out e (Done (fetchOf (received e (v .len)) s))) s) (run {i = i} conc (ends-request Out e (Done w)) t))
         (received-same s t l (v .len) (omega (arith, m, within k v z))) (p-ends-request {i = i} Out e (Done _) .on s t l)
 
     ready : (v : Plain) (b : Bool) (s t : St) → Like c quiet s t → plainOf (epOn (s .0) Out e) ≡ v
-        → Apart c st (SameAnswer (c .number)) (run {i = i} conc (test b (readyOut e k v) (notReady e)) s) (run {i = i} conc (test b (readyOut e k v) (notReady e)) t)
+        → Apart c st i (SameAnswer (c .number)) (run {i = i} conc (test b (readyOut e k v) (notReady e)) s) (run {i = i} conc (test b (readyOut e k v) (notReady e)) t)
     ready v true s t l p =
         let r = epOn (s .0) Out e in
         let w = withReady 0 (plainOf r) in
-        subst (λ q. Apart c st (SameAnswer (c .number)) (run {i = i} conc (taken e k v) (putOn (ep-cell Out e) w s)) (run {i = i} conc (taken e k v) (putOn (ep-cell Out e) (withReady 0 q) t))) (plain-same c Out e s t l)
+        subst (λ q. Apart c st i (SameAnswer (c .number)) (run {i = i} conc (taken e k v) (putOn (ep-cell Out e) w s)) (run {i = i} conc (taken e k v) (putOn (ep-cell Out e) (withReady 0 q) t))) (plain-same c Out e s t l)
         (tail v (tooLong k v) refl _ _ (record-kept c Out e w s t l) (ap (λ (q : EpState). q .«max_len») (epOn-same (s .0) Out e (merged r w) (l .left .rest .sized)) ∙ ap (λ (q : Plain). q .«max_len») p))
     ready v false s t l p = p-enabled {i = i} Out e (p-ends-request Out e (Refused 9)) (p-ret (same NotYet)) .on s t l
 
     chosen : (v : Plain) (b : Bool) (s t : St) → Like c quiet s t → plainOf (epOn (s .0) Out e) ≡ v
-        → Apart c st (SameAnswer (c .number)) (run {i = i} conc (test b (take-iso e k) (take-ready e k v)) s) (run {i = i} conc (test b (take-iso e k) (take-ready e k v)) t)
+        → Apart c st i (SameAnswer (c .number)) (run {i = i} conc (test b (take-iso e k) (take-ready e k v)) s) (run {i = i} conc (test b (take-iso e k) (take-ready e k v)) t)
     chosen v true s t l p = p-take-iso {i = i} k .on s t l
     chosen v false s t l p = ready v (isOn (v .ready)) s t l p
 
   pub p-poll-read : {st : ℕ} {i : Bool} (k : ℕ) → Pair c st {i = i} (SameAnswer (c .number)) (polled Out e k (taking e k)) (polled Out e k (taking e k))
   p-poll-read {st} {i} k = p-polled Out e k n (record {
-    on = λ s t l. subst (λ q. Apart c st (SameAnswer (c .number)) (run {i = i} conc (taking e k (plainOf (epOn (s .0) Out e))) s) (run {i = i} conc (taking e k q) t)) (plain-same c Out e s t l)
+    on = λ s t l. subst (λ q. Apart c st i (SameAnswer (c .number)) (run {i = i} conc (taking e k (plainOf (epOn (s .0) Out e))) s) (run {i = i} conc (taking e k q) t)) (plain-same c Out e s t l)
         (chosen st i k (plainOf (epOn (s .0) Out e)) (isOn (epOn (s .0) Out e .iso)) s t l refl);
   })
