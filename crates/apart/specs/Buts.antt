@@ -3,7 +3,7 @@ use mathlib.Core.Bool.{Bool, true, false, cond}
 use mathlib.Core.List.{List}
 use mathlib.Core.Logic.{_≢_, _⊎_, inl, inr, ⊎-elim}
 use mathlib.Core.Path.{_≡_, refl, ap, subst, sym, _∙_}
-use Prim.Native.Nat.{ℕ, _+_, _*_, _%_, _≤_, _<_}
+use Prim.Native.Nat.{ℕ, zero, suc, _+_, _*_, _%_, _≤_, _<_}
 use native.Mathlib.Omega.{arith}
 use native.Mathlib.Decide.{ℕ-discrete}
 use lib.ListN.{length, getD, set}
@@ -17,12 +17,13 @@ use Rattle.state.specs.Laws.{Sized, key-apart, epOn-same, epOn-other}
 use Rattle.marks.specs.Only.{Same, Only, only-apart}
 use Rattle.ring.specs.Waiting.{SamePlace}
 use Rattle.script.specs.Cells.{Cell, Val, Plain}
-use Rattle.script.specs.Script.{Act, Hand}
-use Rattle.script.specs.Alike.{Phase, quiet}
+use Rattle.script.specs.Script.{Act, Hand, Row, lastOf}
+use Rattle.script.specs.Statics.{isOn}
+use Rattle.script.specs.Alike.{Phase, quiet, mid}
 use Rattle.script.specs.Sorts.{Sorts, Sorted, allocates}
 use Rattle.script.specs.Machine.{Buf}
 use Rattle.ops.specs.Records.{plainOf, merged}
-use Rattle.ops.specs.Rings.{St}
+use Rattle.ops.specs.Rings.{St, rowOn}
 use Rattle.ops.specs.Conc.{putOn, actOn, handOn}
 use Rattle.book.specs.Book.{mergedPlain}
 use Rattle.book.specs.Rest.{endOf, Apart, ep0Room, lensOf, slotStamps}
@@ -30,7 +31,8 @@ use Rattle.book.specs.Lens.{key-ep, lens-on, stamps-on}
 use Rattle.book.specs.Frame.{Changed, same-place}
 use Rattle.book.specs.Outs.{Inner}
 use Rattle.book.specs.Agrees.{agree}
-use Rattle.book.specs.Sorts.{Has, sorted}
+use Rattle.book.specs.Rows.{rows-first, rows-next, rows-finish}
+use Rattle.book.specs.Sorts.{Steady, Has, sorted, row-steady}
 use Rattle.apart.specs.But.{OtherWakes, But, Lawful, Channel, Like}
 use Rattle.apart.specs.Likes.{inner-refl}
 
@@ -116,6 +118,13 @@ module _ {x : ℕ} {d d′ : Driver} (h : But x d d′) where
     own = rw (u .eps Out x (λ q. n (sym q)), v .eps Out x (λ q. n (sym q))) (h .own);
   }
 
+-- what stays of any record, the channel's too
+pub inner-any : {x : ℕ} {d d′ : Driver} → But x d d′ → (dir : Dir) (e : ℕ) → Inner (epOn d dir e) (epOn d′ dir e)
+inner-any {x} {d} {d′} h dir e = elim (ℕ-discrete (key dir e) (key Out x)) [
+  | yes p ↦ rw (key-ep d dir Out e x p, key-ep d′ dir Out e x p) (h .own)
+  | no n ↦ subst (λ r. Inner (epOn d dir e) r) (h .eps dir e n) (inner-refl (epOn d dir e))
+]
+
 pub but-cond : {x : ℕ} {a a′ b b′ : Driver} (u u′ : Bool) → u ≡ u′ → But x a a′ → But x b b′ → But x (cond u a b) (cond u′ a′ b′)
 but-cond {x} {a} {a′} {b} {b′} u u′ e p q = subst (λ v. But x (cond u a b) (cond v a′ b′)) e (by u)
   where
@@ -159,3 +168,20 @@ module _ (c : Channel) where
 
   pub lawful-hand : (q : Hand) {s : St} → Lawful (c .iso) quiet s → handOn q s .1 .0 .globals .stage ≡ s .0 .globals .stage → Lawful (c .iso) quiet (handOn q s .1)
   lawful-hand q {s} l g = record { pages = _; rest = agree .hand q (s .1) (s .0) (l .pages) (l .rest) .0; has = sorted (c .iso) (c .ep0) .hand q s (l .has); stage = g ∙ l .stage }
+
+  -- a row: its first step, each other one, its end
+  has-by : {d d′ : Driver} → Steady d d′ → Has (c .iso) d → Has (c .iso) d′
+  has-by p k = record { flags = λ dir e. ap isOn (p .flags dir e) ∙ k .flags dir e; outs = rw (p .outs) (k .outs); every = rw (p .every) (k .every) }
+
+  module _ (g : Row) where
+    pub lawful-first : {s : St} → Lawful (c .iso) quiet s → rowOn g (lastOf g) s .1 .0 .globals .stage ≡ s .0 .globals .stage → Lawful (c .iso) (mid g (lastOf g)) (rowOn g (lastOf g) s .1)
+    lawful-first {s} l h = record { pages = _; rest = rows-first g (s .1) (s .0) (l .pages) (l .rest) .1; has = has-by (row-steady g (lastOf g) s) (l .has); stage = h ∙ l .stage }
+
+    pub lawful-next : (n : ℕ) {s : St} → Lawful (c .iso) (mid g (suc n)) s → rowOn g n s .1 .0 .globals .stage ≡ s .0 .globals .stage → Lawful (c .iso) (mid g n) (rowOn g n s .1)
+    lawful-next n {s} l h = record { pages = _; rest = rows-next g n (s .1) (s .0) (l .pages) (l .rest) .1; has = has-by (row-steady g n s) (l .has); stage = h ∙ l .stage }
+
+    lawful-over : {s : St} → Lawful (c .iso) (mid g zero) s → Lawful (c .iso) quiet s
+    lawful-over {s} l = record { pages = l .pages; rest = rows-finish g (s .1) (s .0) (l .pages) (l .rest); has = l .has; stage = l .stage }
+
+    pub row-over : (s t : St) → Like c (mid g zero) s t → Like c quiet s t
+    row-over s t l = record { left = lawful-over (l .left); right = lawful-over (l .right); but = l .but; bytes = l .bytes }

@@ -18,6 +18,7 @@ pub mod Rows
 pub mod Reading
 pub mod Enabling
 pub mod EnablingOut
+pub mod Polling
 pub mod Operations
 pub mod Others
 pub mod Stores

@@ -35,6 +35,7 @@ use Rattle.apart.specs.Rows.{p-unless, p-numbered, p-named-or-0, p-enabl
 use Rattle.apart.specs.Reading.{p-poll-read}
 use Rattle.apart.specs.Enabling.{p-set-enabled}
 use Rattle.apart.specs.EnablingOut as enabling-out
+use Rattle.apart.specs.Polling.{p-poll}
 use Rattle.apart.specs.Kept.{p-put-control, p-control, p-put-paced, p-paced, p-put-request, p-fill, p-fill0}
 
 -- those that are proved: not yet an isochronous OUT endpoint enabled or disabled, the bus' poll (both have rows), a poll of the channel's read, a data_out's poll.
@@ -52,7 +53,7 @@ abbrev pub CoveredOther : Other → Type 0
 CoveredOther (Allocate dir kind address maximum interval) = Unit {0}
 CoveredOther (AllocateAll bytes) = Unit {0}
 CoveredOther (Start maximum) = Unit {0}
-CoveredOther BusPoll = ⊥
+CoveredOther BusPoll = Unit {0}
 CoveredOther BusEnable = Unit {0}
 CoveredOther BusDisable = Unit {0}
 CoveredOther Microframe = Unit {0}
@@ -175,7 +176,7 @@ module _ (c : Channel) (st : ℕ) where
   p-other (Allocate dir kind address maximum interval) n = p-early
   p-other (AllocateAll bytes) n = p-early
   p-other (Start maximum) n = p-early
-  p-other BusPoll n = absurd n
+  p-other BusPoll n = p-staged 2 (p-operation (p-poll c))
   p-other BusEnable n = p-staged 2 (p-resultless (p-modify-reg Ctrl 0 _ (λ v v′ h. h)))
   p-other BusDisable n = p-staged 2 (p-resultless (p-ret tt))
   p-other Microframe n = p-staged 2 (p-operation (p-reads FrameNo 0 (λ v v′ h. h) (λ v. p-ret refl)))

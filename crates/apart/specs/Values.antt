@@ -9,13 +9,13 @@ use Rattle.regs.specs.declared.Dir.{Dir}
 use Rattle.regs.specs.declared.Dir.the-variants.{Out, In}
 use Rattle.state.specs.declared.EpState.{EpState}
 use Rattle.state.specs.declared.Globals.{Globals}
-use Rattle.state.specs.Wakes.{none-woken, wakeCode, busCode}
+use Rattle.state.specs.Wakes.{none-woken, wakeCode, busCode, every-endpoint}
 use Rattle.state.specs.WakesLaws.{none-room}
 use Rattle.state.specs.Driver.{Driver, key, epOn, withOn}
 use Rattle.state.specs.Laws.{key-apart}
 use Rattle.script.specs.Cells.{Cell, Val, Plain, globals-cell, ep-cell}
 use Rattle.script.specs.Script.{Script, bind, get, put, act, fetch, gathered, no-wakes, waken}
-use Rattle.script.specs.Statics.{modify, modifyEp, wake, wakeBus}
+use Rattle.script.specs.Statics.{modify, modifyEp, wake, wakeAll, wakeBus}
 use Rattle.script.specs.Alike.{Phase, quiet}
 use Rattle.script.specs.Sorts.{Sorts, Shows, Sorted}
 use Rattle.ops.specs.Records.{plainOf, merged, mergedGlobals}
@@ -106,6 +106,9 @@ module _ (c : Channel) where
 
     pub p-wake : (dir : Dir) (e : ℕ) → Pair c st {i = i} Any (wake dir e) (wake dir e)
     p-wake dir e = p-act (waken (wakeCode dir e ∷ [])) (wakens (wakeCode dir e ∷ []))
+
+    pub p-wake-all : Pair c st {i = i} Any wakeAll wakeAll
+    p-wake-all = p-act (waken every-endpoint) (wakens every-endpoint)
 
     pub p-wake-bus : Pair c st {i = i} Any wakeBus wakeBus
     p-wake-bus = p-act (waken (busCode ∷ [])) (wakens (busCode ∷ []))
