@@ -19,6 +19,7 @@ pub mod Reading
 pub mod Enabling
 pub mod EnablingOut
 pub mod Polling
+pub mod Switching
 pub mod Operations
 pub mod Others
 pub mod Stores

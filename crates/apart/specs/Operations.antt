@@ -35,14 +35,14 @@ use Rattle.apart.specs.Rows.{p-unless, p-numbered, p-named-or-0, p-enabl
 use Rattle.apart.specs.Reading.{p-poll-read}
 use Rattle.apart.specs.Enabling.{p-set-enabled}
 use Rattle.apart.specs.EnablingOut as enabling-out
+use Rattle.apart.specs.Switching as switching
 use Rattle.apart.specs.Polling.{p-poll}
 use Rattle.apart.specs.Kept.{p-put-control, p-control, p-put-paced, p-paced, p-put-request, p-fill, p-fill0}
 
 -- those that are proved: not yet an isochronous OUT endpoint enabled or disabled, the bus' poll (both have rows), a poll of the channel's read, a data_out's poll.
 -- Of the asides not the channel's own open and close
 abbrev pub CoveredSlots : Channel → Slotted → Type 0
-CoveredSlots c (SetEnabled Out e onn) = c .iso Out e ≡ false
-CoveredSlots c (SetEnabled In e onn) = Unit {0}
+CoveredSlots c (SetEnabled dir e onn) = Unit {0}
 CoveredSlots c (PollRead e n) = key Out e ≢ key Out (c .number)
 CoveredSlots c (BeginWrite e bytes) = Unit {0}
 CoveredSlots c (PollWrite e bytes) = Unit {0}
@@ -162,9 +162,16 @@ module _ {c : Channel} {st : ℕ} {i : Bool} where
 -- ---- the calls
 
 module _ (c : Channel) (st : ℕ) where
+  p-enabling : (dir : Dir) (e : ℕ) (onn : Bool) → Pair c st Any (bus.setEnabled dir e onn) (bus.setEnabled dir e onn)
+  p-enabling In e onn = p-set-enabled c e onn
+  p-enabling Out e onn = by (c .iso Out e) refl
+    where
+      by : (u : Bool) → c .iso Out e ≡ u → Pair c st Any (bus.setEnabled Out e onn) (bus.setEnabled Out e onn)
+      by true h = switching.p-set-enabled c e h onn
+      by false h = enabling-out.p-set-enabled c e h onn
+
   p-slotted : (o : Slotted) → CoveredSlots c o → Pair c st (SameAnswer (c .number)) (code (slotted o)) (code (slotted o))
-  p-slotted (SetEnabled Out e onn) n = p-staged 2 (p-named Out e (p-resultless (enabling-out.p-set-enabled c e n onn)))
-  p-slotted (SetEnabled In e onn) n = p-staged 2 (p-named In e (p-resultless (p-set-enabled c e onn)))
+  p-slotted (SetEnabled dir e onn) n = p-staged 2 (p-named dir e (p-resultless (p-enabling dir e onn)))
   p-slotted (PollRead e k) n = p-staged 2 (p-named Out e (p-poll-read c e n k))
   p-slotted (BeginWrite e bytes) n = p-staged 2 (p-named In e (p-enabled In e (p-ret (same _)) (p-plain c In e (λ s _. p-unless _ 10 (p-then (p-put-request c In e _) (p-resultless (p-test _ (λ _. p-ret tt) (λ _. p-load-write e bytes))))))))
   p-slotted (PollWrite e bytes) n = p-staged 2 (p-named In e (p-polled In e (length bytes) (in-other (c .number) e) (p-plain c In e (λ s _. p-test _ (λ _. p-put-iso e bytes) (λ _. p-sent-ready e s)))))
