@@ -37,13 +37,13 @@ use Rattle.book.specs.Frame.{Changed, changed-on, changed-len, changed-trans, s
 use Rattle.book.specs.Outs.{Inner}
 use Rattle.apart.specs.But.{But, Beside, Lawful, Channel, Like, Touched}
 use Rattle.apart.specs.Apart.{Pair}
-use Rattle.apart.specs.Likes.{own-changed, but-refl, touched-refl, touched-trans}
+use Rattle.apart.specs.Likes.{inner-stays, own-changed, but-refl, touched-refl, touched-trans}
 use Rattle.apart.specs.Pairs.{Eq, Any, p-ret, p-bind, p-same, p-then, p-test, p-get, p-is, p-look, p-fetch, p-act}
 use Rattle.apart.specs.Buts.{but-on, but-cond, but-changed, changed-seat, like-made, lawful-act, others-same}
-use Rattle.apart.specs.Values.{p-globals, p-plain}
+use Rattle.apart.specs.Values.{in-other, p-globals, p-plain, p-plain-in}
 use Rattle.apart.specs.Answers.{SameAnswer, same, p-staged, p-named}
 use Rattle.apart.specs.Bytes.{At, copied-like, only-like}
-use Rattle.apart.specs.InRings.{in-other, len-mod, next-same, on-seat, cond-seat, cond-stage}
+use Rattle.apart.specs.InRings.{len-mod, next-same, on-seat, cond-seat, cond-stage}
 
 -- ---- of another OUT endpoint
 
@@ -196,7 +196,7 @@ Others x (Queue e bytes) = Unit {0}
 
 module _ (c : Channel) (st : ℕ) where
   pub p-aside : (o : Aside) → Others (c .number) o → Pair c st (SameAnswer (c .number)) (asideCode o) (asideCode o)
-  p-aside (Open e) n = p-staged 2 (p-named Out e (p-plain c Out e (λ p _. p-test _ (λ _. p-ret (same _))
+  p-aside (Open e) n = p-staged 2 (p-named Out e (p-plain c Out e n (λ p _. p-test _ (λ _. p-ret (same _))
       (λ _. p-same (p-is (waiting Out e) (waiting-out c e n)) (λ b. p-test b
       (λ _. p-then (p-act (open-oldest e) (opens c e n)) (p-same (p-fetch (oldest e) (oldest-out c e n)) (λ w. p-same (p-look (next-stamp e) (stamp-out c e n)) (λ k. p-ret (same _)))))
       (λ _. p-ret (same _)))))))
@@ -205,7 +205,7 @@ module _ (c : Channel) (st : ℕ) where
       (λ _. p-ret (same _)))))
   p-aside (Queue e bytes) n = p-staged 2 (p-named In e (p-globals c (λ g _. p-test _
       (λ _. p-same (p-get allocator-cell Eq (λ s t l. l .but .allocator)) (λ a. p-test _ (λ _. p-ret (same _))
-      (λ _. p-plain c In e (λ p _. p-test _ (λ _. p-ret (same _))
+      (λ _. p-plain-in c e (λ p _. p-test _ (λ _. p-ret (same _))
       (λ _. p-same (p-is (room e (length bytes)) (λ s t l. room-in c e bytes s t l (length bytes))) (λ b. p-test b
       (λ _. p-then (p-act (enqueue e bytes) (enqueues c e bytes)) (p-ret (same _)))
       (λ _. p-ret (same _))))))))
@@ -218,7 +218,7 @@ module _ (c : Channel) (s : St) (l : Lawful (c .iso) quiet s) where
   x = c .number
 
   own-on : (r : EpState) → Inner (epOn (s .0) Out x) r → Beside x (s .0) (withOn (s .0) Out x r)
-  own-on r k = own-changed (changed-on (l .rest .sized) Out x r (k .place) (ap (λ (q : Plain). q .iso) (k .plain))) (rw (epOn-same (s .0) Out x r (l .rest .sized)) k)
+  own-on r k = own-changed (changed-on (l .rest .sized) Out x r (k .place) (ap (λ (q : Plain). q .iso) (k .plain))) (inner-stays (rw (epOn-same (s .0) Out x r (l .rest .sized)) k))
 
   own-cond : (u : Bool) (r : EpState) → Inner (epOn (s .0) Out x) r → Beside x (s .0) (cond u (withOn (s .0) Out x r) (s .0))
   own-cond true r k = own-on r k

@@ -8,16 +8,19 @@ use lib.Dec.{eqb}
 use lib.ListN.{length}
 use Rattle.regs.specs.declared.Dir.{Dir}
 use Rattle.regs.specs.declared.Dir.the-variants.{Out, In}
+use Rattle.state.specs.declared.EpState.{EpState}
 use Rattle.state.specs.Wakes.{Wakes, wakeCode, listed}
 use Rattle.state.specs.WakesLaws.{Room}
 use Rattle.state.specs.Driver.{Driver, key, epOn, requestOn}
 use Rattle.marks.specs.Only.{Only}
 use Rattle.script.specs.Alike.{Phase}
 use Rattle.script.specs.Sorts.{Sorts}
+use Rattle.script.specs.Statics.{withReady}
+use Rattle.ring.specs.Waiting.{SamePlace}
+use Rattle.ops.specs.Records.{plainOf}
 use Rattle.ops.specs.Rings.{St}
 use Rattle.book.specs.Pages.{Pages}
 use Rattle.book.specs.Rest.{endOf, lensOf, slotStamps, Rest}
-use Rattle.book.specs.Outs.{Inner}
 use Rattle.book.specs.Sorts.{Has}
 
 -- a list without one code
@@ -40,8 +43,13 @@ pub record OtherWakes (x : ℕ) (w w′ : Wakes) : Type 0 where
   pub room′ : Room w′
   pub same : SameCodes x (listed w) (listed w′)
 
+-- what stays of OUT x's record: where its slots lie and what scripts read (`Plain`), but for `ready`, which a poll of its read makes 0
+pub record Stays (r r′ : EpState) : Type 0 where
+  pub place : SamePlace r r′
+  pub plain : withReady 0 (plainOf r′) ≡ withReady 0 (plainOf r)
+
 -- two drivers are the same but for OUT x's queue, stamps, overruns, armed slot and open packet, its read's request, and the wake-ups, of which W
--- holds. Of its record stays what scripts read (`Plain`) and where its slots lie
+-- holds
 pub record ButBy (W : Wakes → Wakes → Type 0) (x : ℕ) (d d′ : Driver) : Type 0 where
   pub globals : d .globals ≡ d′ .globals
   pub allocator : d .allocator ≡ d′ .allocator
@@ -52,7 +60,7 @@ pub record ButBy (W : Wakes → Wakes → Type 0) (x : ℕ) (d d′ : Driver) : 
   pub eps : (dir : Dir) (e : ℕ) → key dir e ≢ key Out x → epOn d dir e ≡ epOn d′ dir e
   pub lens : (dir : Dir) (e : ℕ) → key dir e ≢ key Out x → lensOf d dir e ≡ lensOf d′ dir e
   pub stamps : (e : ℕ) → key Out e ≢ key Out x → slotStamps d e ≡ slotStamps d′ e
-  pub own : Inner (epOn d Out x) (epOn d′ Out x)
+  pub own : Stays (epOn d Out x) (epOn d′ Out x)
 
 -- of two runs: the others' wake-ups are the same
 abbrev pub But : ℕ → Driver → Driver → Type 0

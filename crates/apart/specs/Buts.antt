@@ -29,12 +29,11 @@ use Rattle.book.specs.Book.{mergedPlain}
 use Rattle.book.specs.Rest.{endOf, Apart, ep0Room, lensOf, slotStamps}
 use Rattle.book.specs.Lens.{key-ep, lens-on, stamps-on}
 use Rattle.book.specs.Frame.{Changed, same-place}
-use Rattle.book.specs.Outs.{Inner}
 use Rattle.book.specs.Agrees.{agree}
 use Rattle.book.specs.Rows.{rows-first, rows-next, rows-finish}
 use Rattle.book.specs.Sorts.{Steady, Has, sorted, row-steady}
-use Rattle.apart.specs.But.{OtherWakes, But, Lawful, Channel, Like}
-use Rattle.apart.specs.Likes.{inner-refl}
+use Rattle.apart.specs.But.{OtherWakes, Stays, But, Lawful, Channel, Like}
+use Rattle.apart.specs.Likes.{stays-refl}
 
 -- ---- drivers
 
@@ -71,7 +70,7 @@ module _ {x : ℕ} {d d′ : Driver} (h : But x d d′) where
 
   -- one endpoint's record: the same one, or x's with what stays of it
   module _ (z : Sized d) (z′ : Sized d′) (dir : Dir) (e : ℕ) (r r′ : EpState) where
-    pub but-on : (key dir e ≢ key Out x → r ≡ r′) → (key dir e ≡ key Out x → Inner r r′) → But x (withOn d dir e r) (withOn d′ dir e r′)
+    pub but-on : (key dir e ≢ key Out x → r ≡ r′) → (key dir e ≡ key Out x → Stays r r′) → But x (withOn d dir e r) (withOn d′ dir e r′)
     unfolding withOn requestOn
     but-on f g = record {
       globals = h .globals;
@@ -119,10 +118,10 @@ module _ {x : ℕ} {d d′ : Driver} (h : But x d d′) where
   }
 
 -- what stays of any record, the channel's too
-pub inner-any : {x : ℕ} {d d′ : Driver} → But x d d′ → (dir : Dir) (e : ℕ) → Inner (epOn d dir e) (epOn d′ dir e)
-inner-any {x} {d} {d′} h dir e = elim (ℕ-discrete (key dir e) (key Out x)) [
+pub stays-any : {x : ℕ} {d d′ : Driver} → But x d d′ → (dir : Dir) (e : ℕ) → Stays (epOn d dir e) (epOn d′ dir e)
+stays-any {x} {d} {d′} h dir e = elim (ℕ-discrete (key dir e) (key Out x)) [
   | yes p ↦ rw (key-ep d dir Out e x p, key-ep d′ dir Out e x p) (h .own)
-  | no n ↦ subst (λ r. Inner (epOn d dir e) r) (h .eps dir e n) (inner-refl (epOn d dir e))
+  | no n ↦ subst (λ r. Stays (epOn d dir e) r) (h .eps dir e n) (stays-refl (epOn d dir e))
 ]
 
 pub but-cond : {x : ℕ} {a a′ b b′ : Driver} (u u′ : Bool) → u ≡ u′ → But x a a′ → But x b b′ → But x (cond u a b) (cond u′ a′ b′)

@@ -21,8 +21,8 @@ use Rattle.apart.specs.But.{Channel, Like}
 use Rattle.apart.specs.Apart.{Pair}
 use Rattle.apart.specs.Pairs.{Any, p-then, p-write, p-act, p-hand}
 use Rattle.apart.specs.Buts.{but-globals, but-on, like-made, lawful-act, lawful-hand}
-use Rattle.apart.specs.Values.{p-assign, p-modify-ep, p-wake, p-globals, p-plain}
-use Rattle.apart.specs.InRings.{in-other, on-seat}
+use Rattle.apart.specs.Values.{p-assign, p-modify-ep, p-wake, in-other, p-globals, p-plain-in}
+use Rattle.apart.specs.InRings.{on-seat}
 use Rattle.apart.specs.Kept.{p-put-paced}
 
 module _ (c : Channel) (e : ℕ) where
@@ -54,8 +54,8 @@ module _ (c : Channel) (e : ℕ) where
     p-kept iso onn = p-then (p-ep-type _) (p-then (p-act (set-enabled In e onn) (configures onn)) (p-globals c (λ g _. p-write EpConfig 0 _)))
 
     p-enabled-in : (iso onn : Bool) → Pair c st {i = i} Any (bus.setEnabledIn e iso onn) (bus.setEnabledIn e iso onn)
-    p-enabled-in iso onn = p-then (p-act (reset-ring In e) resets) (p-then (p-modify-ep c In e _) (p-then (p-put-paced c e _)
+    p-enabled-in iso onn = p-then (p-act (reset-ring In e) resets) (p-then (p-modify-ep c In e _ (λ _. refl)) (p-then (p-put-paced c e _)
         (p-then (p-hand (place In e) places) (p-then (p-write EpTLen e 0) (p-then (p-write EpTxCtrl e _) (p-kept iso onn))))))
 
   pub p-set-enabled : {st : ℕ} (onn : Bool) → Pair c st Any (bus.setEnabled In e onn) (bus.setEnabled In e onn)
-  p-set-enabled onn = p-plain c In e (λ s _. p-then (p-enabled-in (isOn (s .iso)) onn) (p-wake c In e))
+  p-set-enabled onn = p-plain-in c e (λ s _. p-then (p-enabled-in (isOn (s .iso)) onn) (p-wake c In e))

@@ -26,7 +26,7 @@ use Rattle.apart.specs.But.{But, Lawful, Channel, Like}
 use Rattle.apart.specs.Apart.{Pair}
 use Rattle.apart.specs.Pairs.{Any, p-then, p-test, p-write, p-act, p-hand}
 use Rattle.apart.specs.Buts.{but-globals, but-on, but-cond, like-made, lawful-act, lawful-hand}
-use Rattle.apart.specs.Values.{p-assign, p-modify-ep, p-wake, p-globals, p-plain}
+use Rattle.apart.specs.Values.{p-assign, p-modify-ep, p-wake, p-globals, p-plain-any}
 use Rattle.apart.specs.InRings.{on-seat, cond-seat, cond-stage}
 
 module _ (c : Channel) (e : ℕ) (plain : c .iso Out e ≡ false) where
@@ -95,7 +95,7 @@ module _ (c : Channel) (e : ℕ) (plain : c .iso Out e ≡ false) where
     p-kept onn = p-then (p-globals c (λ g _. p-then (p-assign c _) (p-write EpType 0 _))) (p-then (p-act (set-enabled Out e onn) (configures onn)) (p-globals c (λ g _. p-write EpConfig 0 _)))
 
     p-enabled-out : (onn : Bool) → Pair c st {i = i} Any (bus.setEnabledOut e onn) (bus.setEnabledOut e onn)
-    p-enabled-out onn = p-then (p-act (reset-ring Out e) resets) (p-then (p-modify-ep c Out e _) (p-then (p-hand (place Out e) places) (p-then (p-write EpRxCtrl e _) (p-kept onn))))
+    p-enabled-out onn = p-then (p-act (reset-ring Out e) resets) (p-then (p-modify-ep c Out e _ (λ _. refl)) (p-then (p-hand (place Out e) places) (p-then (p-write EpRxCtrl e _) (p-kept onn))))
 
   pub p-set-enabled : {st : ℕ} (onn : Bool) → Pair c st Any (bus.setEnabled Out e onn) (bus.setEnabled Out e onn)
-  p-set-enabled onn = p-plain c Out e (λ s f. p-then (p-test _ (λ h. absurd (true≢false (sym h ∙ f ∙ plain))) (λ _. p-enabled-out onn)) (p-wake c Out e))
+  p-set-enabled onn = p-plain-any c Out e (λ s r _ _ f. p-then (p-test _ (λ h. absurd (true≢false (sym h ∙ f ∙ plain))) (λ _. p-enabled-out onn)) (p-wake c Out e))

@@ -26,12 +26,10 @@ use Rattle.book.specs.Rest.{lensOf}
 use Rattle.book.specs.Lens.{lens-at}
 use Rattle.book.specs.Frame.{same-place}
 use Rattle.apart.specs.But.{But, Lawful, Channel, Like}
+use Rattle.apart.specs.Values.{in-other}
 use Rattle.apart.specs.Buts.{but-on, but-cond, like-made, lawful-act, lawful-hand, ep0-same}
 
 -- ---- of any endpoint but x
-
-pub in-other : (x e : ℕ) → key In e ≢ key Out x
-in-other x e z = key-apart x e (sym z)
 
 mod-mod : (i : ℕ) → i % 16 % 16 ≡ i % 16
 mod-mod i = omega arith

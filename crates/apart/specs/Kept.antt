@@ -31,7 +31,7 @@ use Rattle.apart.specs.Apart.{Pair}
 use Rattle.apart.specs.Pairs.{Eq, Any, p-get, p-put, p-act}
 use Rattle.apart.specs.Buts.{like-made, lawful-put, lawful-act}
 use Rattle.apart.specs.Bytes.{copied-like, only-like}
-use Rattle.apart.specs.InRings.{in-other}
+use Rattle.apart.specs.Values.{in-other}
 
 -- ---- drivers
 

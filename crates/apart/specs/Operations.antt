@@ -1,8 +1,8 @@
 -- The calls of document 01 that both runs get: each answers the same but for the channel's wake-ups and lines up
-use mathlib.Core.Bool.{Bool, true, false, not, cond}
+use mathlib.Core.Bool.{Bool, true, false, not, cond, true≢false}
 use mathlib.Core.List.{List}
 use mathlib.Core.Logic.{_≢_}
-use mathlib.Core.Path.{_≡_, refl, ap, subst, sym}
+use mathlib.Core.Path.{_≡_, refl, ap, subst, sym, _∙_}
 use Prim.Native.Nat.{ℕ, zero, suc}
 use lib.Dec.{eqb}
 use lib.ListN.{length}
@@ -15,7 +15,7 @@ use Rattle.state.specs.declared.Control.{Control}
 use Rattle.script.specs.Cells.{Plain, globals-cell}
 use Rattle.state.specs.Driver.{key}
 use Rattle.script.specs.Script.{Script, ret, test, room, enqueue}
-use Rattle.script.specs.Statics.{modifyReg}
+use Rattle.script.specs.Statics.{isOn, withReady, withTog, modifyReg}
 use Rattle.script.specs.Answers.{Answer, Refused, staged}
 use Rattle.script.specs.IsoIn.{isoInCompletions, isoInAdvance, isoInSetPaced, microframe}
 use Rattle.script.specs.Bus as bus
@@ -24,10 +24,9 @@ use Rattle.script.specs.Control.{ends-control, unlessSetup, withinMaximum, requ
 use Rattle.script.specs.Calls.{Slotted, SetEnabled, PollRead, BeginWrite, PollWrite, PollDataOut, BeginDataIn, Other, Allocate, AllocateAll, Start, BusPoll, BusEnable, BusDisable, Microframe, SetStalled, IsStalled, SetPaced, Advance, BeginRead, BeginSetup, PollSetup, PollDataIn, BeginAccept, PollAccept, BeginReject, BeginDataOut, BeginAcceptSetAddress, Op, interrupt, slotted, other, aside, irq, code}
 use Rattle.apart.specs.But.{Channel, Like}
 use Rattle.apart.specs.Apart.{Pair}
-use Rattle.apart.specs.Pairs.{Eq, Any, p-ret, p-bind, p-same, p-then, p-test, p-when, p-write, p-get, p-is, p-act}
-use Rattle.apart.specs.Values.{p-assign, p-record, p-modify-ep, p-wake, p-globals, p-plain}
+use Rattle.apart.specs.Pairs.{Eq, Any, p-ret, p-bind, p-same, p-then, p-test, p-tests, p-when, p-write, p-get, p-is, p-act}
+use Rattle.apart.specs.Values.{p-assign, p-record, p-modify-ep, p-wake, p-globals, p-plain-in, p-plain-ep0, p-plain-any, in-other, p-records}
 use Rattle.apart.specs.Answers.{SameAnswer, same, p-operation, p-resultless, p-staged, p-named}
-use Rattle.apart.specs.InRings.{in-other}
 use Rattle.apart.specs.Walks.{ctrl-steady, p-reads, p-modify-reg, p-complete}
 use Rattle.apart.specs.Interrupt.{p-interrupt}
 use Rattle.apart.specs.Asides.{Others, p-aside, room-in, enqueues}
@@ -101,18 +100,19 @@ module _ {c : Channel} {st : ℕ} {i : Bool} where
   -- ---- stalls
 
   p-stalled : (dir : Dir) (e : ℕ) (onn : Bool) → Pair c st {i = i} Any (bus.setStalled dir e onn) (bus.setStalled dir e onn)
+  unfolding bus.restartedOut bus.restarted
   p-stalled Out e true = p-then (p-modify-reg EpRxCtrl e _ (λ v v′ h. h)) (p-wake c Out e)
   p-stalled In e true = p-then (p-write EpTLen e 0) (p-then (p-modify-reg EpTxCtrl e _ (λ v v′ h. h)) (p-wake c In e))
-  p-stalled Out e false = p-plain c Out e (λ s _. p-then (p-record c Out e _) (p-then (p-write EpRxCtrl e _) (p-wake c Out e)))
-  p-stalled In e false = p-plain c In e (λ s _. p-then (p-record c In e _) (p-then (p-write EpTxCtrl e _) (p-then (p-when _ (λ _. p-modify-ep c In e _)) (p-wake c In e))))
+  p-stalled Out e false = p-plain-any c Out e (λ s r n _ _. p-then (p-records c Out e _ _ refl (λ k. ap (λ z. withTog 0 (withReady z s)) (sym (n k)))) (p-then (p-write EpRxCtrl e _) (p-wake c Out e)))
+  p-stalled In e false = p-plain-in c e (λ s _. p-then (p-record c In e _) (p-then (p-write EpTxCtrl e _) (p-then (p-when _ (λ _. p-modify-ep c In e _ (λ _. refl))) (p-wake c In e))))
 
   -- ---- reads and writes
 
-  p-arm-read : (e : ℕ) (s : Plain) → Pair c st {i = i} Any (arm-read e s) (arm-read e s)
-  p-arm-read e s = p-test _ (λ _. p-ret tt) (λ _. p-test _ (λ _. p-ret tt) (λ _. p-then (p-modify-ep c Out e _) (p-modify-reg EpRxCtrl e _ (λ v v′ h. h))))
+  p-arm-read : (e : ℕ) (s : Plain) (r : ℕ) → (isOn (s .iso) ≡ false → r ≡ s .ready) → Pair c st {i = i} Any (arm-read e s) (arm-read e (withReady r s))
+  p-arm-read e s r n = p-test _ (λ _. p-ret tt) (λ u. p-tests (ap isOn (sym (n u))) (λ _. p-ret tt) (λ _. p-then (p-modify-ep c Out e _ (λ _. refl)) (p-modify-reg EpRxCtrl e _ (λ v v′ h. h))))
 
   p-load-write : (e : ℕ) (bytes : List ℕ) → Pair c st {i = i} Any (load-write e bytes) (load-write e bytes)
-  p-load-write e bytes = p-then (p-fill c e bytes) (p-then (p-modify-ep c In e _) (p-then (p-write EpTLen e _) (p-modify-reg EpTxCtrl e _ (λ v v′ h. h))))
+  p-load-write e bytes = p-then (p-fill c e bytes) (p-then (p-modify-ep c In e _ (λ _. refl)) (p-then (p-write EpTLen e _) (p-modify-reg EpTxCtrl e _ (λ v v′ h. h))))
 
   p-put-iso : (e : ℕ) (bytes : List ℕ) → Pair c st {i = i} (SameAnswer (c .number)) (put-iso e bytes) (put-iso e bytes)
   p-put-iso e bytes = p-enabled In e (p-ends-request In e _) (p-same (p-is (room e (length bytes)) (λ s t l. room-in c e bytes s t l (length bytes))) (λ b. p-test b
@@ -120,7 +120,7 @@ module _ {c : Channel} {st : ℕ} {i : Bool} where
       (λ _. p-ret (same _))))
 
   p-sent-ready : (e : ℕ) (s : Plain) → Pair c st {i = i} (SameAnswer (c .number)) (sent-ready e s) (sent-ready e s)
-  p-sent-ready e s = p-test _ (λ _. p-then (p-modify-ep c In e _) (p-ends-request In e _)) (λ _. p-enabled In e (p-ends-request In e _) (p-ret (same _)))
+  p-sent-ready e s = p-test _ (λ _. p-then (p-modify-ep c In e _ (λ _. refl)) (p-ends-request In e _)) (λ _. p-enabled In e (p-ends-request In e _) (p-ret (same _)))
 
   -- ---- the control pipe
 
@@ -144,20 +144,20 @@ module _ {c : Channel} {st : ℕ} {i : Bool} where
   p-acks dir false = p-modify-reg (ctrlOf dir) 0 _ (ctrl-steady c st dir)
 
   p-closing-out : Pair c st {i = i} Any closing-out closing-out
-  p-closing-out = p-then (p-modify-ep c Out 0 _) (p-write EpRxCtrl 0 _)
+  p-closing-out = p-then (p-modify-ep c Out 0 _ (λ _. refl)) (p-write EpRxCtrl 0 _)
 
   p-take-closing : (now : Bool) (v : Control) → Pair c st {i = i} (SameAnswer (c .number)) (take-closing now v) (take-closing now v)
-  p-take-closing now v = p-plain c Out 0 (λ s _. p-test _
-      (λ _. p-then (p-modify-ep c Out 0 _) (p-then (p-when now (λ _. p-modify-ep c In 0 _)) (p-ends-control _)))
-      (λ _. p-aborted (p-then (p-when now (λ _. p-then (p-modify-ep c In 0 _) (p-put-control c _))) (p-ret (same _)))))
+  p-take-closing now v = p-plain-ep0 c Out (λ s _. p-test _
+      (λ _. p-then (p-modify-ep c Out 0 _ (λ _. refl)) (p-then (p-when now (λ _. p-modify-ep c In 0 _ (λ _. refl))) (p-ends-control _)))
+      (λ _. p-aborted (p-then (p-when now (λ _. p-then (p-modify-ep c In 0 _ (λ _. refl)) (p-put-control c _))) (p-ret (same _)))))
 
   p-take-in : (v : Control) → Pair c st {i = i} (SameAnswer (c .number)) (take-in v) (take-in v)
-  p-take-in v = p-plain c In 0 (λ s _. p-test _
-      (λ _. p-test _ (λ _. p-take-closing true v) (λ _. p-then (p-modify-ep c In 0 _) (p-ends-control _)))
+  p-take-in v = p-plain-in c 0 (λ s _. p-test _
+      (λ _. p-test _ (λ _. p-take-closing true v) (λ _. p-then (p-modify-ep c In 0 _ (λ _. refl)) (p-ends-control _)))
       (λ _. p-aborted (p-ret (same _))))
 
   p-status-in : Pair c st {i = i} Any statusIn statusIn
-  p-status-in = p-then (p-modify-ep c In 0 _) (p-then (p-write EpTLen 0 0) (p-modify-reg EpTxCtrl 0 _ (λ v v′ h. h)))
+  p-status-in = p-then (p-modify-ep c In 0 _ (λ _. refl)) (p-then (p-write EpTLen 0 0) (p-modify-reg EpTxCtrl 0 _ (λ v v′ h. h)))
 
 -- ---- the calls
 
@@ -173,11 +173,11 @@ module _ (c : Channel) (st : ℕ) where
   p-slotted : (o : Slotted) → CoveredSlots c o → Pair c st (SameAnswer (c .number)) (code (slotted o)) (code (slotted o))
   p-slotted (SetEnabled dir e onn) n = p-staged 2 (p-named dir e (p-resultless (p-enabling dir e onn)))
   p-slotted (PollRead e k) n = p-staged 2 (p-named Out e (p-poll-read c e n k))
-  p-slotted (BeginWrite e bytes) n = p-staged 2 (p-named In e (p-enabled In e (p-ret (same _)) (p-plain c In e (λ s _. p-unless _ 10 (p-then (p-put-request c In e _) (p-resultless (p-test _ (λ _. p-ret tt) (λ _. p-load-write e bytes))))))))
-  p-slotted (PollWrite e bytes) n = p-staged 2 (p-named In e (p-polled In e (length bytes) (in-other (c .number) e) (p-plain c In e (λ s _. p-test _ (λ _. p-put-iso e bytes) (λ _. p-sent-ready e s)))))
+  p-slotted (BeginWrite e bytes) n = p-staged 2 (p-named In e (p-enabled In e (p-ret (same _)) (p-plain-in c e (λ s _. p-unless _ 10 (p-then (p-put-request c In e _) (p-resultless (p-test _ (λ _. p-ret tt) (λ _. p-load-write e bytes))))))))
+  p-slotted (PollWrite e bytes) n = p-staged 2 (p-named In e (p-polled In e (length bytes) (in-other (c .number) e) (p-plain-in c e (λ s _. p-test _ (λ _. p-put-iso e bytes) (λ _. p-sent-ready e s)))))
   p-slotted (PollDataOut k) n = absurd n
   p-slotted (BeginDataIn bytes first last) n = p-staged 2 (p-within _ (p-unless-setup (p-then (p-put-control c _) (p-resultless
-      (p-then (p-fill0 c bytes) (p-then (p-modify-ep c In 0 _) (p-then (p-when last (λ _. p-closing-out)) (p-then (p-modify-ep c In 0 _) (p-then (p-write EpTLen 0 _) (p-acks In first))))))))))
+      (p-then (p-fill0 c bytes) (p-then (p-modify-ep c In 0 _ (λ _. refl)) (p-then (p-when last (λ _. p-closing-out)) (p-then (p-modify-ep c In 0 _ (λ _. refl)) (p-then (p-write EpTLen 0 _) (p-acks In first))))))))))
 
   p-other : (o : Other) → CoveredOther o → Pair c st (SameAnswer (c .number)) (code (other o)) (code (other o))
   p-other (Allocate dir kind address maximum interval) n = p-early
@@ -191,17 +191,17 @@ module _ (c : Channel) (st : ℕ) where
   p-other (IsStalled dir e) n = p-staged 2 (p-named-or-0 dir e (p-operation (p-reads (ctrlOf dir) e (ctrl-steady c st dir) (λ v. p-ret refl))))
   p-other (SetPaced e onn) n = p-staged 2 (p-numbered e (p-then (p-globals c (λ g _. p-then (p-assign c _) (p-put-paced c e _))) (p-ret (same _))))
   p-other (Advance e) n = p-staged 2 (p-numbered e (p-resultless (p-advance e)))
-  p-other (BeginRead e k) n = p-staged 2 (p-named Out e (p-enabled Out e (p-ret (same _)) (p-plain c Out e (λ s _. p-unless _ 10 (p-then (p-put-request c Out e _) (p-resultless (p-arm-read e s)))))))
+  p-other (BeginRead e k) n = p-staged 2 (p-named Out e (p-enabled Out e (p-ret (same _)) (p-plain-any c Out e (λ s r n k _. p-unless _ 10 (p-then (p-put-request c Out e _) (p-resultless (p-arm-read e s r (λ u. n (λ z. true≢false (sym (k z) ∙ u))))))))))
   p-other BeginSetup n = p-staged 2 (p-then (p-put-control c _) (p-resultless (p-ret tt)))
   p-other PollSetup n = p-staged 2 (p-requested _ (λ v. p-globals c (λ g _. p-test _ (λ _. p-then (p-assign c _) (p-ends-control _)) (λ _. p-ret (same _)))))
   p-other PollDataIn n = p-staged 2 (p-requested _ (λ v. p-test _ (λ _. p-take-closing false v) (λ _. p-take-in v)))
   p-other BeginAccept n = p-staged 2 (p-unless-setup (p-then (p-put-control c _) (p-resultless p-status-in)))
-  p-other PollAccept n = p-staged 2 (p-requested _ (λ v. p-plain c In 0 (λ s _. p-test _
-      (λ _. p-then (p-modify-ep c In 0 _) (p-then (p-put-control c _) (p-test _ (λ _. p-resultless (p-write DevAd 0 _)) (λ _. p-ret (same _)))))
+  p-other PollAccept n = p-staged 2 (p-requested _ (λ v. p-plain-in c 0 (λ s _. p-test _
+      (λ _. p-then (p-modify-ep c In 0 _ (λ _. refl)) (p-then (p-put-control c _) (p-test _ (λ _. p-resultless (p-write DevAd 0 _)) (λ _. p-ret (same _)))))
       (λ _. p-aborted (p-ret (same _))))))
   p-other BeginReject n = p-staged 2 (p-then (p-put-control c _) (p-resultless
-      (p-then (p-modify-ep c Out 0 _) (p-then (p-modify-ep c In 0 _) (p-then (p-modify-reg EpTxCtrl 0 _ (λ v v′ h. h)) (p-modify-reg EpRxCtrl 0 _ (λ v v′ h. h)))))))
-  p-other (BeginDataOut k first) n = p-staged 2 (p-within _ (p-unless-setup (p-then (p-put-control c _) (p-resultless (p-then (p-modify-ep c Out 0 _) (p-acks Out first))))))
+      (p-then (p-modify-ep c Out 0 _ (λ _. refl)) (p-then (p-modify-ep c In 0 _ (λ _. refl)) (p-then (p-modify-reg EpTxCtrl 0 _ (λ v v′ h. h)) (p-modify-reg EpRxCtrl 0 _ (λ v v′ h. h)))))))
+  p-other (BeginDataOut k first) n = p-staged 2 (p-within _ (p-unless-setup (p-then (p-put-control c _) (p-resultless (p-then (p-modify-ep c Out 0 _ (λ _. refl)) (p-acks Out first))))))
   p-other (BeginAcceptSetAddress a) n = p-staged 2 (p-unless-setup (p-then (p-put-control c _) (p-resultless p-status-in)))
 
   pub p-call : (o : Op) → Covered c o → Pair c st (SameAnswer (c .number)) (code o) (code o)

@@ -25,7 +25,7 @@ use Rattle.book.specs.Rest.{endOf, lensOf, slotStamps}
 use Rattle.book.specs.Stamps.{stamped}
 use Rattle.apart.specs.But.{SameCodes, Channel, Like}
 use Rattle.apart.specs.Buts.{others-same}
-use Rattle.apart.specs.InRings.{in-other}
+use Rattle.apart.specs.Values.{in-other}
 
 module _ {c : Channel} {s t : St} (l : Like c quiet s t) where
   -- the packets that wait, tail to head, each with its bytes

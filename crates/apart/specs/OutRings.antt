@@ -38,7 +38,7 @@ use Rattle.book.specs.Held.{receives, iso-used, receives-slots, good-words}
 use Rattle.book.specs.Outs.{Inner}
 use Rattle.book.specs.Arrives.{admits, headAddr, arrived-inner, armed-plain, admitted-ep, admitted-lens, admitted-stamps, admitted-changed, arrived-words}
 use Rattle.apart.specs.But.{But, Lawful, Channel, Like}
-use Rattle.apart.specs.Likes.{inner-trans, own-changed, but-refl}
+use Rattle.apart.specs.Likes.{own-changed, but-refl}
 use Rattle.apart.specs.Buts.{but-changed, changed-seat, like-made, lawful-hand, others-same}
 use Rattle.apart.specs.Bytes.{At, armed-like, only-like}
 

@@ -11,7 +11,7 @@ use Rattle.state.specs.Driver.{Driver, epOn}
 use Rattle.marks.specs.Only.{Only, only-refl, only-wider}
 use Rattle.ring.specs.Slot.{slotAddr}
 use Rattle.ring.specs.Slots.{slot-from, slot-upto}
-use Rattle.ring.specs.Laws.{place-addr}
+use Rattle.ring.specs.Laws.{place-addr, place-trans}
 use Rattle.ring.specs.OutLaws.{armed-alike}
 use Rattle.script.specs.declared.Transfer.{Transfer}
 use Rattle.script.specs.Tree as tree
@@ -29,7 +29,7 @@ use Rattle.apart.specs.But.{Beside, Lawful, Channel, Like, Touched}
 use Rattle.apart.specs.Apart as lined
 use Rattle.apart.specs.Apart.{Apart, left, Pair, status}
 use Rattle.apart.specs.Pairs.{apart-flip}
-use Rattle.apart.specs.Likes.{inner-trans, own-changed, but-refl, like-sym, touched-trans, touch}
+use Rattle.apart.specs.Likes.{inner-stays, own-changed, but-refl, like-sym, touched-trans, touch}
 use Rattle.apart.specs.Buts.{lawful-hand}
 use Rattle.apart.specs.Values.{own-wake}
 use Rattle.apart.specs.OutRings.{lenOf, after, marks, given, after-changed, after-ep}
@@ -47,7 +47,7 @@ module _ (c : Channel) (n : ℕ) (s : St) (l : Lawful (c .iso) quiet s) where
   own-inner =
       let r = epOn d Out x in
       let k = arrived-inner r in
-      subst (λ q. Inner r q) (sym (after-ep (l .rest .sized) x n)) (inner-trans k (record { place = armed-alike _ _ .place; plain = armed-plain _ _ }))
+      subst (λ q. Inner r q) (sym (after-ep (l .rest .sized) x n)) (record { place = place-trans (k .place) (armed-alike _ _ .place); plain = armed-plain _ _ ∙ k .plain })
 
   own-marks : receives d x ≡ true → Only (epOn d Out x .base) (endOf (epOn d Out x)) (s .1) (marks (epOn (admits d x n) Out x) (s .1))
   own-marks u =
@@ -65,7 +65,7 @@ module _ (c : Channel) (n : ℕ) (s : St) (l : Lawful (c .iso) quiet s) where
 
   own-by : (v : Bool) → receives d x ≡ v → Own (cond v (arrivedAt x (lenOf d x n) s) (epOn d Out x .«armed_slot», s))
   own-by true u = record {
-    but = own-changed (after-changed (l .rest .sized) x n) own-inner;
+    but = own-changed (after-changed (l .rest .sized) x n) (inner-stays own-inner);
     bytes = own-marks u;
     stage = ap (λ (g : Globals). g .stage) (after-changed (l .rest .sized) x n .globals);
   }

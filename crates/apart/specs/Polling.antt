@@ -21,19 +21,18 @@ use Rattle.script.specs.Bus as bus
 use Rattle.script.specs.Alike.{quiet, mid}
 use Rattle.ops.specs.Rings.{St, resetBelow, resetAll}
 use Rattle.book.specs.Frame.{same-place, changed-on}
-use Rattle.book.specs.Outs.{Inner}
 use Rattle.book.specs.Resets.{reset-place}
-use Rattle.apart.specs.But.{But, Channel, Like}
+use Rattle.apart.specs.But.{Stays, But, Channel, Like}
 use Rattle.apart.specs.Apart.{Pair}
 use Rattle.apart.specs.Pairs.{Eq, Any, Steps, p-ret, p-then, p-test, p-write, p-row}
-use Rattle.apart.specs.Buts.{inner-any, but-globals, but-on, changed-seat, like-made, lawful-first, lawful-next, row-over}
+use Rattle.apart.specs.Buts.{stays-any, but-globals, but-on, changed-seat, like-made, lawful-first, lawful-next, row-over}
 use Rattle.apart.specs.Values.{p-assign, p-wake-all, p-globals}
 use Rattle.apart.specs.Walks.{p-reads, p-int-en}
 
 -- ---- records reset
 
-pub reset-inner : {r r′ : EpState} → Inner r r′ → Inner (resetOf r) (resetOf r′)
-reset-inner h = record { place = record { base = h .place .base; stride = h .place .stride; slots = h .place .slots }; plain = ap renewed (h .plain) }
+pub reset-stays : {r r′ : EpState} → Stays r r′ → Stays (resetOf r) (resetOf r′)
+reset-stays h = record { place = record { base = h .place .base; stride = h .place .stride; slots = h .place .slots }; plain = ap renewed (h .plain) }
 
 -- one endpoint's
 abbrev renewedAt : Dir → ℕ → Driver → Driver
@@ -46,7 +45,7 @@ renewed-seat : (x : ℕ) (dir : Dir) (e : ℕ) {d : Driver} → Sized d → Same
 renewed-seat x dir e {d} z = changed-seat x (changed-on z dir e (resetOf (epOn d dir e)) (reset-place (epOn d dir e)) refl)
 
 renewed-but : {x : ℕ} (dir : Dir) (e : ℕ) {d d′ : Driver} → Sized d → Sized d′ → But x d d′ → But x (renewedAt dir e d) (renewedAt dir e d′)
-renewed-but dir e z z′ h = but-on h z z′ dir e _ _ (λ n. ap resetOf (h .eps dir e n)) (λ _. reset-inner (inner-any h dir e))
+renewed-but dir e z z′ h = but-on h z z′ dir e _ _ (λ n. ap resetOf (h .eps dir e n)) (λ _. reset-stays (stays-any h dir e))
 
 -- those of the endpoints below n
 below-sized : (n : ℕ) {d : Driver} → Sized d → Sized (resetBelow n d)

@@ -29,7 +29,7 @@ use Rattle.apart.specs.But.{Channel, Like}
 use Rattle.apart.specs.Apart.{Apart, Pair}
 use Rattle.apart.specs.Pairs.{p-ret, p-same, p-then, p-test, p-is, p-fetch, p-act}
 use Rattle.apart.specs.Buts.{but-on, but-cond, like-made, lawful-act, others-same}
-use Rattle.apart.specs.Values.{plain-same, record-kept}
+use Rattle.apart.specs.Values.{plain-other, record-kept}
 use Rattle.apart.specs.Answers.{SameAnswer, same}
 use Rattle.apart.specs.InRings.{on-seat, cond-seat, cond-stage}
 use Rattle.apart.specs.Asides.{bytes-same, waiting-out, oldest-out}
@@ -98,8 +98,8 @@ module _ (c : Channel) (e : ℕ) (n : key Out e ≢ key Out (c .number)) where
     ready v true s t l p =
         let r = epOn (s .0) Out e in
         let w = withReady 0 (plainOf r) in
-        subst (λ q. Apart c st i (SameAnswer (c .number)) (run {i = i} conc (taken e k v) (putOn (ep-cell Out e) w s)) (run {i = i} conc (taken e k v) (putOn (ep-cell Out e) (withReady 0 q) t))) (plain-same c Out e s t l)
-        (tail v (tooLong k v) refl _ _ (record-kept c Out e w s t l) (ap (λ (q : EpState). q .«max_len») (epOn-same (s .0) Out e (merged r w) (l .left .rest .sized)) ∙ ap (λ (q : Plain). q .«max_len») p))
+        subst (λ q. Apart c st i (SameAnswer (c .number)) (run {i = i} conc (taken e k v) (putOn (ep-cell Out e) w s)) (run {i = i} conc (taken e k v) (putOn (ep-cell Out e) (withReady 0 q) t))) (plain-other c Out e n s t l)
+        (tail v (tooLong k v) refl _ _ (record-kept c Out e w w refl (λ _. refl) s t l) (ap (λ (q : EpState). q .«max_len») (epOn-same (s .0) Out e (merged r w) (l .left .rest .sized)) ∙ ap (λ (q : Plain). q .«max_len») p))
     ready v false s t l p = p-enabled {i = i} Out e (p-ends-request Out e (Refused 9)) (p-ret (same NotYet)) .on s t l
 
     chosen : (v : Plain) (b : Bool) (s t : St) → Like c quiet s t → plainOf (epOn (s .0) Out e) ≡ v
@@ -109,6 +109,6 @@ module _ (c : Channel) (e : ℕ) (n : key Out e ≢ key Out (c .number)) where
 
   pub p-poll-read : {st : ℕ} {i : Bool} (k : ℕ) → Pair c st {i = i} (SameAnswer (c .number)) (polled Out e k (taking e k)) (polled Out e k (taking e k))
   p-poll-read {st} {i} k = p-polled Out e k n (record {
-    on = λ s t l. subst (λ q. Apart c st i (SameAnswer (c .number)) (run {i = i} conc (taking e k (plainOf (epOn (s .0) Out e))) s) (run {i = i} conc (taking e k q) t)) (plain-same c Out e s t l)
+    on = λ s t l. subst (λ q. Apart c st i (SameAnswer (c .number)) (run {i = i} conc (taking e k (plainOf (epOn (s .0) Out e))) s) (run {i = i} conc (taking e k q) t)) (plain-other c Out e n s t l)
         (chosen st i k (plainOf (epOn (s .0) Out e)) (isOn (epOn (s .0) Out e .iso)) s t l refl);
   })

@@ -35,15 +35,14 @@ use Rattle.ops.specs.Stamps.{cleared-stamp}
 use Rattle.book.specs.Rest.{endOf, slotStamps}
 use Rattle.book.specs.Lens.{key-other, stamps-mod, stamps-clear-other}
 use Rattle.book.specs.Frame.{Changed, same-place, changed-on, changed-clear, changed-trans}
-use Rattle.book.specs.Outs.{Inner}
 use Rattle.book.specs.Resets.{reset-place}
-use Rattle.apart.specs.But.{But, Channel, Like}
+use Rattle.apart.specs.But.{Stays, But, Channel, Like}
 use Rattle.apart.specs.Apart.{Pair}
 use Rattle.apart.specs.Pairs.{Any, Steps, p-then, p-test, p-row}
-use Rattle.apart.specs.Buts.{inner-any, but-globals, but-on, changed-seat, like-made, lawful-first, lawful-next, row-over}
+use Rattle.apart.specs.Buts.{stays-any, but-globals, but-on, changed-seat, like-made, lawful-first, lawful-next, row-over}
 use Rattle.apart.specs.Bytes.{armed-like, only-like}
-use Rattle.apart.specs.Values.{p-wake, p-plain}
-use Rattle.apart.specs.Polling.{reset-inner}
+use Rattle.apart.specs.Values.{p-wake, p-plain-any}
+use Rattle.apart.specs.Polling.{reset-stays}
 
 -- ---- the record reset, its stamps cleared
 
@@ -73,7 +72,7 @@ module _ {x : ℕ} {d d′ : Driver} (z : Sized d) (z′ : Sized d′) (h : But 
 
   renewed-but : But x (renewedOn d e) (renewedOn d′ e)
   unfolding renewedOn
-  renewed-but = but-on clear-but (changed-clear z e .sized) (changed-clear z′ e .sized) Out e _ _ (λ n. ap resetOf (h .eps Out e n)) (λ _. reset-inner (inner-any h Out e))
+  renewed-but = but-on clear-but (changed-clear z e .sized) (changed-clear z′ e .sized) Out e _ _ (λ n. ap resetOf (h .eps Out e n)) (λ _. reset-stays (stays-any h Out e))
 
 renewed-changed : {d : Driver} → Sized d → (e : ℕ) → Changed Out e d (renewedOn d e)
 unfolding renewedOn clearStamps epOn
@@ -81,9 +80,9 @@ renewed-changed {d} z e = changed-trans z Out e (changed-clear z e) (changed-on 
 
 -- ---- a slot armed
 
-armed-inner : {r r′ : EpState} (a a′ : ℕ) → Inner r r′ → Inner (armedAt r a) (armedAt r′ a′)
+armed-stays : {r r′ : EpState} (a a′ : ℕ) → Stays r r′ → Stays (armedAt r a) (armedAt r′ a′)
 unfolding armedAt
-armed-inner a a′ h = record { place = record { base = h .place .base; stride = h .place .stride; slots = h .place .slots }; plain = h .plain }
+armed-stays a a′ h = record { place = record { base = h .place .base; stride = h .place .stride; slots = h .place .slots }; plain = h .plain }
 
 armed-changed : {d : Driver} → Sized d → (e a : ℕ) → Changed Out e d (withOn d Out e (armedAt (epOn d Out e) a))
 unfolding armedAt
@@ -105,12 +104,12 @@ module _ (c : Channel) (e : ℕ) where
     arms =
         let r = epOn d Out e in
         let r′ = epOn d′ Out e in
-        let i = inner-any h Out e in
+        let i = stays-any h Out e in
         let a : slotAddr r′ k ≡ slotAddr r k = place-addr (i .place) k in
         let m : r′ .«max_len» ≡ r .«max_len» = ap (λ (p : Plain). p .«max_len») (i .plain) in
         record {
           address = sym a;
-          but = but-on h z z′ Out e _ _ (λ n. ap (λ (r : EpState). armedAt r (slotAddr r k)) (h .eps Out e n)) (λ _. armed-inner (slotAddr r k) (slotAddr r′ k) i);
+          but = but-on h z z′ Out e _ _ (λ n. ap (λ (r : EpState). armedAt r (slotAddr r k)) (h .eps Out e n)) (λ _. armed-stays (slotAddr r k) (slotAddr r′ k) i);
           seat = changed-seat (c .number) (armed-changed z e (slotAddr r k));
           bytes = subst (λ n. Only lo hi (armed b (slotAddr r k) (r .«max_len»)) (armed b′ n (r′ .«max_len»))) (sym a)
               (subst (λ n. Only lo hi (armed b (slotAddr r k) (r .«max_len»)) (armed b′ (slotAddr r k) n)) (sym m) (only-like o (λ j g. armed-like b b′ (slotAddr r k) (r .«max_len») j g)));
@@ -150,7 +149,7 @@ module _ (c : Channel) (e : ℕ) where
     word-same : {φ : Phase} (s t : St) → Like c φ s t → (f : Globals → ℕ)
         → cond (isOn (epOn (s .0) Out e .iso)) (enables.withOn (f (s .0 .globals)) Out e onn) (f (s .0 .globals)) ≡ cond (isOn (epOn (t .0) Out e .iso)) (enables.withOn (f (t .0 .globals)) Out e onn) (f (t .0 .globals))
     word-same s t l f =
-        let p : epOn (s .0) Out e .iso ≡ epOn (t .0) Out e .iso = sym (ap (λ (p : Plain). p .iso) (inner-any (l .but) Out e .plain)) in
+        let p : epOn (s .0) Out e .iso ≡ epOn (t .0) Out e .iso = sym (ap (λ (p : Plain). p .iso) (stays-any (l .but) Out e .plain)) in
         λ i. cond (isOn (p i)) (enables.withOn (f (l .but .globals i)) Out e onn) (f (l .but .globals i))
 
     next : (n : ℕ) (s t : St) → Like c (mid (switch e onn) (suc n)) s t → Steps c (switch e onn) n s t
@@ -173,4 +172,4 @@ module _ (c : Channel) (e : ℕ) where
         (q .address, like-made l (lawful-next c (switch e onn) (suc (suc (suc k))) (l .left) (q .stage)) (lawful-next c (switch e onn) (suc (suc (suc k))) (l .right) (q .stage′)) (q .but) (q .seat) (q .bytes))
 
     pub p-set-enabled : {st : ℕ} → Pair c st Any (bus.setEnabled Out e onn) (bus.setEnabled Out e onn)
-    p-set-enabled = p-plain c Out e (λ s f. p-then (p-test _ (λ _. p-row (switch e onn) next (row-over c (switch e onn)) first) (λ h. absurd (true≢false (sym (f ∙ iso) ∙ h)))) (p-wake c Out e))
+    p-set-enabled = p-plain-any c Out e (λ s r _ _ f. p-then (p-test _ (λ _. p-row (switch e onn) next (row-over c (switch e onn)) first) (λ h. absurd (true≢false (sym (f ∙ iso) ∙ h)))) (p-wake c Out e))

@@ -17,14 +17,14 @@ use Rattle.bus_time.specs.Time.{chargeOf, entryOf, passes}
 use Rattle.shared_time.specs.Sharing.{Sort, enabling, starting, going, apart, chargeOn, isHanded, timeAfter, turnedDown}
 use Rattle.apart.specs.But.{Channel, Like}
 use Rattle.apart.specs.Apart.{Own, status, receives}
-use Rattle.apart.specs.Values.{plain-same}
+use Rattle.apart.specs.Values.{plain-any}
 
 -- of driver i
 module _ (i : ℕ) {c : Channel} {s t : St} (l : Like c quiet s t) where
   -- what an endpoint is charged, the channel too
   pub same-charge : (dir : Dir) (e : ℕ) → chargeOn (s .0) dir e ≡ chargeOn (t .0) dir e
   unfolding chargeOn
-  same-charge dir e = ap (λ (p : Plain). chargeOf (p .kind) (p .«max_len»)) (plain-same c dir e s t l)
+  same-charge dir e = ap (λ (p : Plain). chargeOf (p .kind) (p .«max_len»)) (plain-any c dir e s t l)
 
   -- the record after a call
   pub same-record : (x : Sort) (a : Ans Answer) (r : List ℕ) → timeAfter i x a (s .0) r ≡ timeAfter i x a (t .0) r
