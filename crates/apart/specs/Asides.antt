@@ -43,6 +43,7 @@ use Rattle.apart.specs.Buts.{but-on, but-cond, but-changed, changed-seat
 use Rattle.apart.specs.Values.{in-other, p-globals, p-plain, p-plain-in}
 use Rattle.apart.specs.Answers.{SameAnswer, same, p-staged, p-named}
 use Rattle.apart.specs.Bytes.{At, copied-like, only-like}
+use Rattle.apart.specs.Ending.{Finished, Brief, b-ret, b-bind, b-test, b-get, b-is, b-look, b-fetch, b-act}
 use Rattle.apart.specs.InRings.{len-mod, next-same, on-seat, cond-seat, cond-stage}
 
 -- ---- of another OUT endpoint
@@ -243,42 +244,6 @@ module _ (c : Channel) (s : St) (l : Lawful (c .iso) quiet s) where
   }
 
 -- ---- all of them end at once
-
--- in a state of which K holds
-pub data Finished {A : Type 0} (K : St → Type 0) : tree.Out St A → Type 0 where
-  fin : (a : A) {s : St} → K s → Finished K (tree.ends a s)
-
-record Brief {A : Type 0} (K : St → Type 0) (p : Script false A) : Type 0 where
-  on : (s : St) → K s → Finished K (run conc p s)
-
-fin-bind : {A B : Type 0} {K : St → Type 0} {o : tree.Out St A} {f : A → St → tree.Out St B} → Finished K o → ((a : A) (s : St) → K s → Finished K (f a s)) → Finished K (tree.bindOut o f)
-fin-bind (fin a k) h = h a _ k
-
-module _ {K : St → Type 0} where
-  b-ret : {A : Type 0} (a : A) → Brief K (ret a)
-  b-ret a = record { on = λ s k. fin a k }
-
-  b-bind : {A B : Type 0} {p : Script false A} {f : A → Script false B} → Brief K p → ((a : A) → Brief K (f a)) → Brief K (bind p f)
-  b-bind h g = record { on = λ s k. fin-bind (h .on s k) (λ a t q. g a .on t q) }
-
-  b-test : {A : Type 0} {p q : Script false A} (b : Bool) → Brief K p → Brief K q → Brief K (test b p q)
-  b-test true h g = record { on = λ s k. h .on s k }
-  b-test false h g = record { on = λ s k. g .on s k }
-
-  b-get : (c : Cell) → Brief K (get c)
-  b-get c = record { on = λ s k. fin _ k }
-
-  b-is : (q : Test) → Brief K (is q)
-  b-is q = record { on = λ s k. fin _ k }
-
-  b-look : (q : Look) → Brief K (look q)
-  b-look q = record { on = λ s k. fin _ k }
-
-  b-fetch : (q : Fetch) → Brief K (fetch q)
-  b-fetch q = record { on = λ s k. fin _ k }
-
-  b-act : (q : Act) → ((s : St) → K s → K (actOn q s)) → Brief K (act q)
-  b-act q h = record { on = λ s k. fin tt (h s k) }
 
 -- what an aside may do
 abbrev pub actOf : Aside → Act

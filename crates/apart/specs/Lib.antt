@@ -12,10 +12,12 @@ pub mod Walks
 pub mod OutRings
 pub mod OwnSteps
 pub mod Interrupt
+pub mod Ending
 pub mod Asides
 pub mod Kept
 pub mod Rows
 pub mod Reading
+pub mod OwnReading
 pub mod Enabling
 pub mod EnablingOut
 pub mod Polling

@@ -3,7 +3,8 @@ use mathlib.Core.Bool.{Bool, true, false}
 use mathlib.Core.Path.{_≡_}
 use Prim.Native.Nat.{ℕ}
 use Rattle.regs.specs.declared.Access.{Access}
-use Rattle.state.specs.Driver.{Driver}
+use Rattle.regs.specs.declared.Dir.the-variants.{Out}
+use Rattle.state.specs.Driver.{Driver, key}
 use Rattle.state.specs.WakesLaws.{Room}
 use Rattle.script.specs.Tree as tree
 use Rattle.script.specs.Answers.{Answer}
@@ -16,9 +17,9 @@ use Rattle.apart.specs.But.{Lawful, Channel, Like, Touched}
 use Rattle.apart.specs.Apart.{Brings, Own, Apart}
 use Rattle.apart.specs.Answers.{SameAnswer}
 use Rattle.apart.specs.Asides.{Others, Mine}
-use Rattle.apart.specs.Operations.{Covered}
+use Rattle.apart.specs.Operations.{Common}
 use Rattle.apart.specs.Stores.{Lent, OwnLent}
-use Rattle.apart.specs.Runs.{machineOf, Stands, rests, common, left-own, begins, begun, continues, asides-during, own-continues, own-idle, own-during, moved-rests, moved-common, moved-own, flips}
+use Rattle.apart.specs.Runs.{machineOf, Stands, rests, common, left-own, begins, begun, continues, asides-during, own-polled, own-continues, own-idle, own-during, moved-rests, moved-common, moved-own, flips}
 
 module _ (c : Channel) where
   -- what goes on after a common access, and after an access of the channel's own
@@ -33,7 +34,9 @@ module _ (c : Channel) where
   pub data Lined : (st : ℕ) (m n : Machine Answer Driver) → Stands c st m n → Type 0 where
     one : {st : ℕ} {s : St} (l : Lawful (c .iso) quiet s) (r : Room (s .0 .wakes)) → Lined st _ _ (begins c st l r)
     -- both get a call, nothing being under way; `st`: the status word of an interrupt
-    call : {old : ℕ} {s t : St} {l : Like c quiet s t} → Lined old _ _ (rests l) → (st : ℕ) (o : Op) (n : Covered c o) {b b′ : Buf} (h : Lent c s t b b′) → Lined st _ _ (begun c st o n l h .stand)
+    call : {old : ℕ} {s t : St} {l : Like c quiet s t} → Lined old _ _ (rests l) → (st : ℕ) (o : Op) (n : Common (c .number) o) {b b′ : Buf} (h : Lent c s t b b′) → Lined st _ _ (begun c st o n l h .stand)
+    -- both get a poll of the channel's read
+    polls : {st : ℕ} {s t : St} {l : Like c quiet s t} → Lined st _ _ (rests l) → (e n : ℕ) (p : key Out e ≡ key Out (c .number)) {b b′ : Buf} (h : Lent c s t b b′) → Lined st _ _ (own-polled c st e n p l h .stand)
     -- both continue an access that is not the channel's
     go-on : {st : ℕ} {i : Bool} {φ : Phase} {z : Fits i φ} {q : Access} {s t : St} {k k′ : ℕ → St → tree.Out St Answer} {l : Like c φ s t} {f : Rest st i φ q k k′} → Lined st _ _ (common i φ z q {s = s} {t = t} {k = k} {k′ = k′} l f)
         → (v v′ : ℕ) (r : Brings (c .number) st q v v′) (w : over calls (awaited q) v ≡ false) (w′ : over calls (awaited q) v′ ≡ false) {b b′ : Buf} (h : Lent c s t b b′) → Lined st _ _ (continues c st i q v v′ l f r w w′ h .stand)

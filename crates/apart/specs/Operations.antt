@@ -38,43 +38,20 @@ use Rattle.apart.specs.Switching as switching
 use Rattle.apart.specs.Polling.{p-poll}
 use Rattle.apart.specs.Kept.{p-put-control, p-control, p-put-paced, p-paced, p-put-request, p-fill, p-fill0}
 
--- those that are proved: not yet an isochronous OUT endpoint enabled or disabled, the bus' poll (both have rows), a poll of the channel's read, a data_out's poll.
--- Of the asides not the channel's own open and close
-abbrev pub CoveredSlots : Channel → Slotted → Type 0
-CoveredSlots c (SetEnabled dir e onn) = Unit {0}
-CoveredSlots c (PollRead e n) = key Out e ≢ key Out (c .number)
-CoveredSlots c (BeginWrite e bytes) = Unit {0}
-CoveredSlots c (PollWrite e bytes) = Unit {0}
-CoveredSlots c (PollDataOut n) = ⊥
-CoveredSlots c (BeginDataIn bytes first last) = Unit {0}
+-- all calls but those on the channel itself whose answers tell its data: a poll of its read, its open and its close
+abbrev pub CommonSlots : ℕ → Slotted → Type 0
+CommonSlots x (SetEnabled dir e onn) = Unit {0}
+CommonSlots x (PollRead e n) = key Out e ≢ key Out x
+CommonSlots x (BeginWrite e bytes) = Unit {0}
+CommonSlots x (PollWrite e bytes) = Unit {0}
+CommonSlots x (PollDataOut n) = ⊥
+CommonSlots x (BeginDataIn bytes first last) = Unit {0}
 
-abbrev pub CoveredOther : Other → Type 0
-CoveredOther (Allocate dir kind address maximum interval) = Unit {0}
-CoveredOther (AllocateAll bytes) = Unit {0}
-CoveredOther (Start maximum) = Unit {0}
-CoveredOther BusPoll = Unit {0}
-CoveredOther BusEnable = Unit {0}
-CoveredOther BusDisable = Unit {0}
-CoveredOther Microframe = Unit {0}
-CoveredOther (SetStalled dir e onn) = Unit {0}
-CoveredOther (IsStalled dir e) = Unit {0}
-CoveredOther (SetPaced e onn) = Unit {0}
-CoveredOther (Advance e) = Unit {0}
-CoveredOther (BeginRead e n) = Unit {0}
-CoveredOther BeginSetup = Unit {0}
-CoveredOther PollSetup = Unit {0}
-CoveredOther PollDataIn = Unit {0}
-CoveredOther BeginAccept = Unit {0}
-CoveredOther PollAccept = Unit {0}
-CoveredOther BeginReject = Unit {0}
-CoveredOther (BeginDataOut n first) = Unit {0}
-CoveredOther (BeginAcceptSetAddress a) = Unit {0}
-
-abbrev pub Covered : Channel → Op → Type 0
-Covered c interrupt = Unit {0}
-Covered c (slotted o) = CoveredSlots c o
-Covered c (other o) = CoveredOther o
-Covered c (aside o) = Others (c .number) o
+abbrev pub Common : ℕ → Op → Type 0
+Common x interrupt = Unit {0}
+Common x (slotted o) = CommonSlots x o
+Common x (other o) = Unit {0}
+Common x (aside o) = Others x o
 
 module _ {c : Channel} {st : ℕ} {i : Bool} where
   -- after EP0's start no allocation and no second start
@@ -170,7 +147,7 @@ module _ (c : Channel) (st : ℕ) where
       by true h = switching.p-set-enabled c e h onn
       by false h = enabling-out.p-set-enabled c e h onn
 
-  p-slotted : (o : Slotted) → CoveredSlots c o → Pair c st (SameAnswer (c .number)) (code (slotted o)) (code (slotted o))
+  p-slotted : (o : Slotted) → CommonSlots (c .number) o → Pair c st (SameAnswer (c .number)) (code (slotted o)) (code (slotted o))
   p-slotted (SetEnabled dir e onn) n = p-staged 2 (p-named dir e (p-resultless (p-enabling dir e onn)))
   p-slotted (PollRead e k) n = p-staged 2 (p-named Out e (p-poll-read c e n k))
   p-slotted (BeginWrite e bytes) n = p-staged 2 (p-named In e (p-enabled In e (p-ret (same _)) (p-plain-in c e (λ s _. p-unless _ 10 (p-then (p-put-request c In e _) (p-resultless (p-test _ (λ _. p-ret tt) (λ _. p-load-write e bytes))))))))
@@ -179,33 +156,33 @@ module _ (c : Channel) (st : ℕ) where
   p-slotted (BeginDataIn bytes first last) n = p-staged 2 (p-within _ (p-unless-setup (p-then (p-put-control c _) (p-resultless
       (p-then (p-fill0 c bytes) (p-then (p-modify-ep c In 0 _ (λ _. refl)) (p-then (p-when last (λ _. p-closing-out)) (p-then (p-modify-ep c In 0 _ (λ _. refl)) (p-then (p-write EpTLen 0 _) (p-acks In first))))))))))
 
-  p-other : (o : Other) → CoveredOther o → Pair c st (SameAnswer (c .number)) (code (other o)) (code (other o))
-  p-other (Allocate dir kind address maximum interval) n = p-early
-  p-other (AllocateAll bytes) n = p-early
-  p-other (Start maximum) n = p-early
-  p-other BusPoll n = p-staged 2 (p-operation (p-poll c))
-  p-other BusEnable n = p-staged 2 (p-resultless (p-modify-reg Ctrl 0 _ (λ v v′ h. h)))
-  p-other BusDisable n = p-staged 2 (p-resultless (p-ret tt))
-  p-other Microframe n = p-staged 2 (p-operation (p-reads FrameNo 0 (λ v v′ h. h) (λ v. p-ret refl)))
-  p-other (SetStalled dir e onn) n = p-staged 2 (p-named-or-0 dir e (p-resultless (p-stalled dir e onn)))
-  p-other (IsStalled dir e) n = p-staged 2 (p-named-or-0 dir e (p-operation (p-reads (ctrlOf dir) e (ctrl-steady c st dir) (λ v. p-ret refl))))
-  p-other (SetPaced e onn) n = p-staged 2 (p-numbered e (p-then (p-globals c (λ g _. p-then (p-assign c _) (p-put-paced c e _))) (p-ret (same _))))
-  p-other (Advance e) n = p-staged 2 (p-numbered e (p-resultless (p-advance e)))
-  p-other (BeginRead e k) n = p-staged 2 (p-named Out e (p-enabled Out e (p-ret (same _)) (p-plain-any c Out e (λ s r n k _. p-unless _ 10 (p-then (p-put-request c Out e _) (p-resultless (p-arm-read e s r (λ u. n (λ z. true≢false (sym (k z) ∙ u))))))))))
-  p-other BeginSetup n = p-staged 2 (p-then (p-put-control c _) (p-resultless (p-ret tt)))
-  p-other PollSetup n = p-staged 2 (p-requested _ (λ v. p-globals c (λ g _. p-test _ (λ _. p-then (p-assign c _) (p-ends-control _)) (λ _. p-ret (same _)))))
-  p-other PollDataIn n = p-staged 2 (p-requested _ (λ v. p-test _ (λ _. p-take-closing false v) (λ _. p-take-in v)))
-  p-other BeginAccept n = p-staged 2 (p-unless-setup (p-then (p-put-control c _) (p-resultless p-status-in)))
-  p-other PollAccept n = p-staged 2 (p-requested _ (λ v. p-plain-in c 0 (λ s _. p-test _
+  p-other : (o : Other) → Pair c st (SameAnswer (c .number)) (code (other o)) (code (other o))
+  p-other (Allocate dir kind address maximum interval) = p-early
+  p-other (AllocateAll bytes) = p-early
+  p-other (Start maximum) = p-early
+  p-other BusPoll = p-staged 2 (p-operation (p-poll c))
+  p-other BusEnable = p-staged 2 (p-resultless (p-modify-reg Ctrl 0 _ (λ v v′ h. h)))
+  p-other BusDisable = p-staged 2 (p-resultless (p-ret tt))
+  p-other Microframe = p-staged 2 (p-operation (p-reads FrameNo 0 (λ v v′ h. h) (λ v. p-ret refl)))
+  p-other (SetStalled dir e onn) = p-staged 2 (p-named-or-0 dir e (p-resultless (p-stalled dir e onn)))
+  p-other (IsStalled dir e) = p-staged 2 (p-named-or-0 dir e (p-operation (p-reads (ctrlOf dir) e (ctrl-steady c st dir) (λ v. p-ret refl))))
+  p-other (SetPaced e onn) = p-staged 2 (p-numbered e (p-then (p-globals c (λ g _. p-then (p-assign c _) (p-put-paced c e _))) (p-ret (same _))))
+  p-other (Advance e) = p-staged 2 (p-numbered e (p-resultless (p-advance e)))
+  p-other (BeginRead e k) = p-staged 2 (p-named Out e (p-enabled Out e (p-ret (same _)) (p-plain-any c Out e (λ s r n k _. p-unless _ 10 (p-then (p-put-request c Out e _) (p-resultless (p-arm-read e s r (λ u. n (λ z. true≢false (sym (k z) ∙ u))))))))))
+  p-other BeginSetup = p-staged 2 (p-then (p-put-control c _) (p-resultless (p-ret tt)))
+  p-other PollSetup = p-staged 2 (p-requested _ (λ v. p-globals c (λ g _. p-test _ (λ _. p-then (p-assign c _) (p-ends-control _)) (λ _. p-ret (same _)))))
+  p-other PollDataIn = p-staged 2 (p-requested _ (λ v. p-test _ (λ _. p-take-closing false v) (λ _. p-take-in v)))
+  p-other BeginAccept = p-staged 2 (p-unless-setup (p-then (p-put-control c _) (p-resultless p-status-in)))
+  p-other PollAccept = p-staged 2 (p-requested _ (λ v. p-plain-in c 0 (λ s _. p-test _
       (λ _. p-then (p-modify-ep c In 0 _ (λ _. refl)) (p-then (p-put-control c _) (p-test _ (λ _. p-resultless (p-write DevAd 0 _)) (λ _. p-ret (same _)))))
       (λ _. p-aborted (p-ret (same _))))))
-  p-other BeginReject n = p-staged 2 (p-then (p-put-control c _) (p-resultless
+  p-other BeginReject = p-staged 2 (p-then (p-put-control c _) (p-resultless
       (p-then (p-modify-ep c Out 0 _ (λ _. refl)) (p-then (p-modify-ep c In 0 _ (λ _. refl)) (p-then (p-modify-reg EpTxCtrl 0 _ (λ v v′ h. h)) (p-modify-reg EpRxCtrl 0 _ (λ v v′ h. h)))))))
-  p-other (BeginDataOut k first) n = p-staged 2 (p-within _ (p-unless-setup (p-then (p-put-control c _) (p-resultless (p-then (p-modify-ep c Out 0 _ (λ _. refl)) (p-acks Out first))))))
-  p-other (BeginAcceptSetAddress a) n = p-staged 2 (p-unless-setup (p-then (p-put-control c _) (p-resultless p-status-in)))
+  p-other (BeginDataOut k first) = p-staged 2 (p-within _ (p-unless-setup (p-then (p-put-control c _) (p-resultless (p-then (p-modify-ep c Out 0 _ (λ _. refl)) (p-acks Out first))))))
+  p-other (BeginAcceptSetAddress a) = p-staged 2 (p-unless-setup (p-then (p-put-control c _) (p-resultless p-status-in)))
 
-  pub p-call : (o : Op) → Covered c o → Pair c st (SameAnswer (c .number)) (code o) (code o)
+  pub p-call : (o : Op) → Common (c .number) o → Pair c st (SameAnswer (c .number)) (code o) (code o)
   p-call interrupt n = p-interrupt c st
   p-call (slotted o) n = p-slotted o n
-  p-call (other o) n = p-other o n
+  p-call (other o) n = p-other o
   p-call (aside o) n = p-aside c st o n

@@ -10,14 +10,14 @@ use lib.ListN.{length}
 use borrow.Author.Tests.{eq-eqb}
 use Rattle.regs.specs.declared.Access.{Access}
 use Rattle.regs.specs.declared.Dir.the-variants.{Out, In}
-use Rattle.state.specs.Driver.{Driver}
+use Rattle.state.specs.Driver.{Driver, key}
 use Rattle.state.specs.WakesLaws.{Room}
 use Rattle.script.specs.Tree as tree
 use Rattle.script.specs.Tree.{ends, asks}
 use Rattle.script.specs.Script.{Script, run}
 use Rattle.script.specs.Answers.{Answer}
 use Rattle.script.specs.Alike.{Phase, quiet, Fits}
-use Rattle.script.specs.Calls.{Op, aside, Aside, calls, irq, code, slots, asideCode, asideSlots}
+use Rattle.script.specs.Calls.{Op, slotted, aside, Aside, PollRead, calls, irq, code, slots, asideCode, asideSlots}
 use Rattle.script.specs.Machine.{Buf, Call, begin, go, Ans, ended, handed, told, Awaits, awaited, Way, idle, busy, Machine, call, halt, over, misfit, stay, beside, lentTo, continued}
 use Rattle.ops.specs.Rings.{St}
 use Rattle.ops.specs.Conc.{conc}
@@ -27,8 +27,10 @@ use Rattle.apart.specs.Apart.{Brings, Own, Apart, end, both, left, right
 use Rattle.apart.specs.Pairs.{apart-more, apart-flip, brings-sym}
 use Rattle.apart.specs.Answers.{SameAnswer, answer-sym}
 use Rattle.apart.specs.Likes.{like-refl, like-sym, touched-trans, touch}
-use Rattle.apart.specs.Asides.{Others, p-aside, Finished, fin, finishes, Mine, own-finishes}
-use Rattle.apart.specs.Operations.{Covered, p-call}
+use Rattle.apart.specs.Ending.{Finished, fin}
+use Rattle.apart.specs.Asides.{Others, p-aside, finishes, Mine, own-finishes}
+use Rattle.apart.specs.Operations.{Common, p-call}
+use Rattle.apart.specs.OwnReading.{own-polls}
 use Rattle.apart.specs.Stores.{Lent, OwnLent, lent-like, own-like}
 
 -- a machine: what is under way, and the driver's state with the slot buffer
@@ -88,7 +90,7 @@ module _ (c : Channel) (st : ℕ) where
   -- ---- the calls that the two runs have in common
 
   -- an operation begins, or a call ends at once
-  pub begun : (o : Op) → Covered c o → {s t : St} {b b′ : Buf} → Like c quiet s t → Lent c s t b b′ → After (drive (begin o) (machineOf idle s) b) (drive (begin o) (machineOf idle t) b′)
+  pub begun : (o : Op) → Common (c .number) o → {s t : St} {b b′ : Buf} → Like c quiet s t → Lent c s t b b′ → After (drive (begin o) (machineOf idle s) b) (drive (begin o) (machineOf idle t) b′)
   begun o n {s} {t} {b} {b′} l h =
       let m = lent-like l h in
       rw (fits (m .left), fits (m .right)) (by (slots o))
@@ -137,6 +139,23 @@ module _ (c : Channel) (st : ℕ) where
   own-continues i q {s} v {b} l f w h =
       let m = own-like l h in
       rw (fits (m .right), w) (halts i (f v (s .0, b) m))
+
+  -- a poll of its read, which both get: each ends at once, with what its own queue has
+  pub data BothEnd : Ans Answer → Ans Answer → Type 0 where
+    both-ended : (a b : Answer) → BothEnd (ended a) (ended b)
+
+  pub record Polled (x y : Ans Answer × Machine Answer Driver) : Type 0 where
+    pub answers : BothEnd (x .0) (y .0)
+    pub stand : Stands (x .1) (y .1)
+
+  polls-end : {s t : St} {o u : tree.Out St Answer} → Like c quiet s t → Finished (Touched c quiet s) o → Finished (Touched c quiet t) u → Polled (stops false o) (stops false u)
+  polls-end l (fin a k) (fin b m) = record { answers = both-ended a b; stand = rests (like-sym (touch m (like-sym (touch k l)))) }
+
+  pub own-polled : (e n : ℕ) → key Out e ≡ key Out (c .number) → {s t : St} {b b′ : Buf} → Like c quiet s t → Lent c s t b b′
+      → Polled (drive (begin (slotted (PollRead e n))) (machineOf idle s) b) (drive (begin (slotted (PollRead e n))) (machineOf idle t) b′)
+  own-polled e n p {s} {t} {b} {b′} l h =
+      let m = lent-like l h in
+      rw (fits (m .left), fits (m .right)) (polls-end m (own-polls c e p n (s .0, b) (m .left)) (own-polls c e p n (t .0, b′) (m .right)))
 
   -- its open or close in one run, between two operations or two accesses of an interrupt: what is under way stays
   pub data Moved (w : Way Answer Driver) (s : St) : Machine Answer Driver → Type 0 where
