@@ -83,16 +83,16 @@ module _ (c : Channel) (e : ℕ) (n : key Out e ≢ key Out (c .number)) (s t : 
   opens : Like c quiet (actOn (open-oldest e) s) (actOn (open-oldest e) t)
   unfolding openOn withOn
   opens = like-made l
-      (lawful-act c (open-oldest e) refl (l .left) (cond-stage _ (hasWaiting (epOn (s .0) Out e)) _ _ refl refl))
-      (lawful-act c (open-oldest e) refl (l .right) (cond-stage _ (hasWaiting (epOn (t .0) Out e)) _ _ refl refl))
+      (lawful-act c (open-oldest e) refl (l .left))
+      (lawful-act c (open-oldest e) refl (l .right))
       (but-cond _ _ (ap hasWaiting h) (but-on (l .but) (l .left .rest .sized) (l .right .rest .sized) Out e _ _ (λ _. ap openedOf h) (λ p. absurd (n p))) (l .but))
       (cond-seat (c .number) (epOn (s .0) Out (c .number)) (hasWaiting (epOn (s .0) Out e)) _ _ (on-seat (c .number) (s .0) Out e _ n) (same-place (epOn (s .0) Out (c .number)))) (l .bytes)
 
   closes : Like c quiet (actOn (close-oldest e) s) (actOn (close-oldest e) t)
   unfolding closeOn withOn
   closes = like-made l
-      (lawful-act c (close-oldest e) refl (l .left) (cond-stage _ (isOn (epOn (s .0) Out e .«open»)) _ _ refl refl))
-      (lawful-act c (close-oldest e) refl (l .right) (cond-stage _ (isOn (epOn (t .0) Out e .«open»)) _ _ refl refl))
+      (lawful-act c (close-oldest e) refl (l .left))
+      (lawful-act c (close-oldest e) refl (l .right))
       (but-cond _ _ (ap (λ (r : EpState). isOn (r .«open»)) h) (but-on (l .but) (l .left .rest .sized) (l .right .rest .sized) Out e _ _ (λ _. ap closedOf h) (λ p. absurd (n p))) (l .but))
       (cond-seat (c .number) (epOn (s .0) Out (c .number)) (isOn (epOn (s .0) Out e .«open»)) _ _ (on-seat (c .number) (s .0) Out e _ n) (same-place (epOn (s .0) Out (c .number)))) (l .bytes)
 
@@ -185,7 +185,7 @@ module _ (c : Channel) (e : ℕ) (bytes : List ℕ) (s t : St) (l : Like c quiet
   enqueued = subst (λ u. Kept (enqueueOn e bytes s) (cond u (queuedOn (t .0) e (length bytes), copied (t .1) (slotAddr (epOn (t .0) In e) (epOn (t .0) In e .head)) bytes) t)) (room-in (length bytes)) (queued-by (roomOn (s .0) e (length bytes)))
 
   pub enqueues : Like c quiet (actOn (enqueue e bytes) s) (actOn (enqueue e bytes) t)
-  enqueues = let k = enqueued in like-made l (lawful-act c (enqueue e bytes) refl (l .left) (k .stage)) (lawful-act c (enqueue e bytes) refl (l .right) (k .stage′)) (k .but) (k .seat) (k .lent)
+  enqueues = let k = enqueued in like-made l (lawful-act c (enqueue e bytes) refl (l .left)) (lawful-act c (enqueue e bytes) refl (l .right)) (k .but) (k .seat) (k .lent)
 
 -- ---- the calls
 
@@ -229,7 +229,7 @@ module _ (c : Channel) (s : St) (l : Lawful (c .iso) quiet s) where
   unfolding openOn withOn openedOf
   own-opens = record {
     left = l;
-    right = lawful-act c (open-oldest x) refl l (cond-stage _ (hasWaiting (epOn (s .0) Out x)) _ _ refl refl);
+    right = lawful-act c (open-oldest x) refl l;
     but = own-cond (hasWaiting (epOn (s .0) Out x)) _ (record { place = record { base = refl; stride = refl; slots = refl }; plain = refl });
     bytes = only-refl _ _ (s .1);
   }
@@ -238,7 +238,7 @@ module _ (c : Channel) (s : St) (l : Lawful (c .iso) quiet s) where
   unfolding closeOn withOn closedOf Rattle.ring.specs.Slot.passedOf
   own-closes = record {
     left = l;
-    right = lawful-act c (close-oldest x) refl l (cond-stage _ (isOn (epOn (s .0) Out x .«open»)) _ _ refl refl);
+    right = lawful-act c (close-oldest x) refl l;
     but = own-cond (isOn (epOn (s .0) Out x .«open»)) _ (record { place = record { base = refl; stride = refl; slots = refl }; plain = refl });
     bytes = only-refl _ _ (s .1);
   }

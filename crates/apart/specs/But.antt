@@ -3,7 +3,7 @@ use mathlib.Core.Bool.{true, false, cond}
 use mathlib.Core.List.{List, [], _∷_}
 use mathlib.Core.Logic.{_≢_}
 use mathlib.Core.Path.{_≡_}
-use Prim.Native.Nat.{ℕ, _<_}
+use Prim.Native.Nat.{ℕ, _≤_, _<_}
 use lib.Dec.{eqb}
 use lib.ListN.{length}
 use Rattle.regs.specs.declared.Dir.{Dir}
@@ -16,6 +16,7 @@ use Rattle.marks.specs.Only.{Only}
 use Rattle.script.specs.Alike.{Phase}
 use Rattle.script.specs.Sorts.{Sorts}
 use Rattle.script.specs.Statics.{withReady}
+use Rattle.script.specs.Control.{DATA-OUT}
 use Rattle.ring.specs.Waiting.{SamePlace}
 use Rattle.ops.specs.Records.{plainOf}
 use Rattle.ops.specs.Rings.{St}
@@ -70,12 +71,17 @@ But x d d′ = ButBy (OtherWakes x) x d d′
 abbrev pub Beside : ℕ → Driver → Driver → Type 0
 Beside x d d′ = ButBy (λ w w′. w ≡ w′) x d d′
 
+-- a data_out's length is at most EP0's maximum, as its begin asks (row 10); it holds after every list of calls (`Bounds`: `after-bounded`)
+abbrev pub Bounded : Driver → Type 0
+Bounded d = d .control .sort ≡ DATA-OUT → (d .globals .stage ≡ 2) × (d .control .length ≤ d .globals .«ep0_max»)
+
 -- a state of a run under demand 3's premise, after EP0's start, whose endpoints have these sorts
 pub record Lawful (iso : Sorts) (φ : Phase) (s : St) : Type 0 where
   pub pages : Pages
   pub rest : Rest φ (s .1) (s .0) pages
   pub has : Has iso (s .0)
   pub stage : s .0 .globals .stage ≡ 2
+  pub bounded : Bounded (s .0)
 
 -- the channel: an isochronous OUT endpoint, 1 to 15, and the sorts of all endpoints in this run; EP0 is not isochronous
 pub record Channel : Type 0 where

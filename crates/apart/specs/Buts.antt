@@ -16,7 +16,9 @@ use Rattle.state.specs.Driver.{Driver, key, epOn, withOn, lenOn, stampOn, reque
 use Rattle.state.specs.Laws.{Sized, key-apart, epOn-same, epOn-other}
 use Rattle.marks.specs.Only.{Same, Only, only-apart}
 use Rattle.ring.specs.Waiting.{SamePlace}
-use Rattle.script.specs.Cells.{Cell, Val, Plain}
+use Rattle.state.specs.declared.Control.{Control}
+use Rattle.script.specs.Cells.{Cell, Val, Plain, control-cell}
+use Rattle.script.specs.Control.{DATA-OUT}
 use Rattle.script.specs.Script.{Act, Hand, Row, lastOf}
 use Rattle.script.specs.Statics.{isOn}
 use Rattle.script.specs.Alike.{Phase, quiet, mid}
@@ -33,6 +35,7 @@ use Rattle.book.specs.Agrees.{agree}
 use Rattle.book.specs.Rows.{rows-first, rows-next, rows-finish}
 use Rattle.book.specs.Sorts.{Steady, Has, sorted, row-steady}
 use Rattle.apart.specs.But.{OtherWakes, Stays, But, Lawful, Channel, Like}
+use Rattle.apart.specs.Settled.{isControl, put-settled, no-start, act-settled, hand-settled, row-settled, settled-bounded}
 use Rattle.apart.specs.Likes.{stays-refl}
 
 -- ---- drivers
@@ -159,28 +162,68 @@ module _ {c : Channel} where
 
 -- every operation leaves a lawful state
 module _ (c : Channel) where
-  pub lawful-put : (n : Cell) (v : Val n) {s : St} → Lawful (c .iso) quiet s → putOn n v s .0 .globals .stage ≡ s .0 .globals .stage → Lawful (c .iso) quiet (putOn n v s)
-  lawful-put n v {s} l g = record { pages = _; rest = agree .put n v (s .1) (s .0) (l .pages) (l .rest) .1; has = sorted (c .iso) (c .ep0) .put n v s (l .has); stage = g ∙ l .stage }
+  pub lawful-put : (n : Cell) (v : Val n) {s : St} → Lawful (c .iso) quiet s → isControl n ≡ false → Lawful (c .iso) quiet (putOn n v s)
+  lawful-put n v {s} l h = let k = put-settled n h v s in record {
+    pages = _;
+    rest = agree .put n v (s .1) (s .0) (l .pages) (l .rest) .1;
+    has = sorted (c .iso) (c .ep0) .put n v s (l .has);
+    stage = k .stage ∙ l .stage;
+    bounded = settled-bounded k (l .bounded);
+  }
 
-  pub lawful-act : (q : Act) → allocates q ≡ false → {s : St} → Lawful (c .iso) quiet s → actOn q s .0 .globals .stage ≡ s .0 .globals .stage → Lawful (c .iso) quiet (actOn q s)
-  lawful-act q a {s} l g = record { pages = _; rest = agree .act q (s .1) (s .0) (l .pages) (l .rest) .1; has = sorted (c .iso) (c .ep0) .act q a s (l .has); stage = g ∙ l .stage }
+  -- the control request: of a data_out with a length within EP0's maximum
+  pub lawful-control : (v : Control) {s : St} → (v .sort ≡ DATA-OUT → v .length ≤ s .0 .globals .«ep0_max») → Lawful (c .iso) quiet s → Lawful (c .iso) quiet (putOn control-cell v s)
+  lawful-control v {s} h l = record {
+    pages = _;
+    rest = agree .put control-cell v (s .1) (s .0) (l .pages) (l .rest) .1;
+    has = sorted (c .iso) (c .ep0) .put control-cell v s (l .has);
+    stage = l .stage;
+    bounded = λ z. (l .stage, h z);
+  }
 
-  pub lawful-hand : (q : Hand) {s : St} → Lawful (c .iso) quiet s → handOn q s .1 .0 .globals .stage ≡ s .0 .globals .stage → Lawful (c .iso) quiet (handOn q s .1)
-  lawful-hand q {s} l g = record { pages = _; rest = agree .hand q (s .1) (s .0) (l .pages) (l .rest) .0; has = sorted (c .iso) (c .ep0) .hand q s (l .has); stage = g ∙ l .stage }
+  pub lawful-act : (q : Act) → allocates q ≡ false → {s : St} → Lawful (c .iso) quiet s → Lawful (c .iso) quiet (actOn q s)
+  lawful-act q a {s} l = let k = act-settled q (no-start q a) s in record {
+    pages = _;
+    rest = agree .act q (s .1) (s .0) (l .pages) (l .rest) .1;
+    has = sorted (c .iso) (c .ep0) .act q a s (l .has);
+    stage = k .stage ∙ l .stage;
+    bounded = settled-bounded k (l .bounded);
+  }
+
+  pub lawful-hand : (q : Hand) {s : St} → Lawful (c .iso) quiet s → Lawful (c .iso) quiet (handOn q s .1)
+  lawful-hand q {s} l = let k = hand-settled q s in record {
+    pages = _;
+    rest = agree .hand q (s .1) (s .0) (l .pages) (l .rest) .0;
+    has = sorted (c .iso) (c .ep0) .hand q s (l .has);
+    stage = k .stage ∙ l .stage;
+    bounded = settled-bounded k (l .bounded);
+  }
 
   -- a row: its first step, each other one, its end
   has-by : {d d′ : Driver} → Steady d d′ → Has (c .iso) d → Has (c .iso) d′
   has-by p k = record { flags = λ dir e. ap isOn (p .flags dir e) ∙ k .flags dir e; outs = rw (p .outs) (k .outs); every = rw (p .every) (k .every) }
 
   module _ (g : Row) where
-    pub lawful-first : {s : St} → Lawful (c .iso) quiet s → rowOn g (lastOf g) s .1 .0 .globals .stage ≡ s .0 .globals .stage → Lawful (c .iso) (mid g (lastOf g)) (rowOn g (lastOf g) s .1)
-    lawful-first {s} l h = record { pages = _; rest = rows-first g (s .1) (s .0) (l .pages) (l .rest) .1; has = has-by (row-steady g (lastOf g) s) (l .has); stage = h ∙ l .stage }
+    pub lawful-first : {s : St} → Lawful (c .iso) quiet s → Lawful (c .iso) (mid g (lastOf g)) (rowOn g (lastOf g) s .1)
+    lawful-first {s} l = let k = row-settled g (lastOf g) s in record {
+      pages = _;
+      rest = rows-first g (s .1) (s .0) (l .pages) (l .rest) .1;
+      has = has-by (row-steady g (lastOf g) s) (l .has);
+      stage = k .stage ∙ l .stage;
+      bounded = settled-bounded k (l .bounded);
+    }
 
-    pub lawful-next : (n : ℕ) {s : St} → Lawful (c .iso) (mid g (suc n)) s → rowOn g n s .1 .0 .globals .stage ≡ s .0 .globals .stage → Lawful (c .iso) (mid g n) (rowOn g n s .1)
-    lawful-next n {s} l h = record { pages = _; rest = rows-next g n (s .1) (s .0) (l .pages) (l .rest) .1; has = has-by (row-steady g n s) (l .has); stage = h ∙ l .stage }
+    pub lawful-next : (n : ℕ) {s : St} → Lawful (c .iso) (mid g (suc n)) s → Lawful (c .iso) (mid g n) (rowOn g n s .1)
+    lawful-next n {s} l = let k = row-settled g n s in record {
+      pages = _;
+      rest = rows-next g n (s .1) (s .0) (l .pages) (l .rest) .1;
+      has = has-by (row-steady g n s) (l .has);
+      stage = k .stage ∙ l .stage;
+      bounded = settled-bounded k (l .bounded);
+    }
 
     lawful-over : {s : St} → Lawful (c .iso) (mid g zero) s → Lawful (c .iso) quiet s
-    lawful-over {s} l = record { pages = l .pages; rest = rows-finish g (s .1) (s .0) (l .pages) (l .rest); has = l .has; stage = l .stage }
+    lawful-over {s} l = record { pages = l .pages; rest = rows-finish g (s .1) (s .0) (l .pages) (l .rest); has = l .has; stage = l .stage; bounded = l .bounded }
 
     pub row-over : (s t : St) → Like c (mid g zero) s t → Like c quiet s t
     row-over s t l = record { left = lawful-over (l .left); right = lawful-over (l .right); but = l .but; bytes = l .bytes }

@@ -30,20 +30,20 @@ module _ (c : Channel) (e : ℕ) where
   unfolding emptiedOn isoOut withOn
   resets s t l =
       let n = in-other (c .number) e in
-      like-made l (lawful-act c (reset-ring In e) refl (l .left) refl) (lawful-act c (reset-ring In e) refl (l .right) refl)
+      like-made l (lawful-act c (reset-ring In e) refl (l .left)) (lawful-act c (reset-ring In e) refl (l .right))
       (but-on (l .but) (l .left .rest .sized) (l .right .rest .sized) In e _ _ (λ _. ap emptied (l .but .eps In e n)) (λ p. absurd (n p)))
       (on-seat (c .number) (s .0) In e _ n) (l .bytes)
 
   configures : (onn : Bool) (s t : St) → Like c quiet s t → Like c quiet (actOn (set-enabled In e onn) s) (actOn (set-enabled In e onn) t)
   unfolding enabledOn isoOut configured epOn
-  configures onn s t l = like-made l (lawful-act c (set-enabled In e onn) refl (l .left) refl) (lawful-act c (set-enabled In e onn) refl (l .right) refl)
+  configures onn s t l = like-made l (lawful-act c (set-enabled In e onn) refl (l .left)) (lawful-act c (set-enabled In e onn) refl (l .right))
       (but-globals (l .but) _ _ (ap (λ (g : Globals). withEpConfig (enables.withOn (g .«ep_config») In e onn) g) (l .but .globals))) (same-place (epOn (s .0) Out (c .number))) (l .bytes)
 
   places : (s t : St) → Like c quiet s t → (handOn (place In e) s .0 ≡ handOn (place In e) t .0) × Like c quiet (handOn (place In e) s .1) (handOn (place In e) t .1)
   unfolding placeOn
   places s t l = (
     ap (λ (r : EpState). r .base) (l .but .eps In e (in-other (c .number) e)),
-    like-made l (lawful-hand c (place In e) (l .left) refl) (lawful-hand c (place In e) (l .right) refl) (l .but) (same-place (epOn (s .0) Out (c .number))) (l .bytes),
+    like-made l (lawful-hand c (place In e) (l .left)) (lawful-hand c (place In e) (l .right)) (l .but) (same-place (epOn (s .0) Out (c .number))) (l .bytes),
   )
 
   module _ {st : ℕ} {i : Bool} where

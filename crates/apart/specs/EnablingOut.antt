@@ -40,8 +40,8 @@ module _ (c : Channel) (e : ℕ) (plain : c .iso Out e ≡ false) where
       let n = other (l .left) in
       let h = l .but .eps Out e n in
       like-made l
-      (lawful-act c (reset-ring Out e) refl (l .left) (cond-stage _ (isOn (epOn (s .0) Out e .iso)) _ _ refl refl))
-      (lawful-act c (reset-ring Out e) refl (l .right) (cond-stage _ (isOn (epOn (t .0) Out e .iso)) _ _ refl refl))
+      (lawful-act c (reset-ring Out e) refl (l .left))
+      (lawful-act c (reset-ring Out e) refl (l .right))
       (but-cond _ _ (ap (λ (r : EpState). isOn (r .iso)) h) (l .but) (but-on (l .but) (l .left .rest .sized) (l .right .rest .sized) Out e _ _ (λ _. ap emptied h) (λ p. absurd (n p))))
       (cond-seat (c .number) (epOn (s .0) Out (c .number)) (isOn (epOn (s .0) Out e .iso)) _ _ (same-place (epOn (s .0) Out (c .number))) (on-seat (c .number) (s .0) Out e _ n)) (l .bytes)
 
@@ -54,8 +54,8 @@ module _ (c : Channel) (e : ℕ) (plain : c .iso Out e ≡ false) where
   configures onn s t l =
       let h = l .but .eps Out e (other (l .left)) in
       like-made l
-      (lawful-act c (set-enabled Out e onn) refl (l .left) (cond-stage _ (isOn (epOn (s .0) Out e .iso)) _ _ refl refl))
-      (lawful-act c (set-enabled Out e onn) refl (l .right) (cond-stage _ (isOn (epOn (t .0) Out e .iso)) _ _ refl refl))
+      (lawful-act c (set-enabled Out e onn) refl (l .left))
+      (lawful-act c (set-enabled Out e onn) refl (l .right))
       (but-cond _ _ (ap (λ (r : EpState). isOn (r .iso)) h) (l .but) (but-globals (l .but) _ _ (ap (λ (g : Globals). withEpConfig (enables.withOn (g .«ep_config») Out e onn) g) (l .but .globals))))
       (cond-seat (c .number) (epOn (s .0) Out (c .number)) (isOn (epOn (s .0) Out e .iso)) _ _ (same-place (epOn (s .0) Out (c .number))) (config-seat (s .0) _)) (l .bytes)
 
@@ -88,7 +88,7 @@ module _ (c : Channel) (e : ℕ) (plain : c .iso Out e ≡ false) where
       (ap (λ (g : Globals). isSet (isoOuts g) (e % 16)) (l .but .globals)) (placed-by (isSet (isoOuts (s .0 .globals)) (e % 16)) s t l)
 
   places : (s t : St) → Like c quiet s t → (handOn (place Out e) s .0 ≡ handOn (place Out e) t .0) × Like c quiet (handOn (place Out e) s .1) (handOn (place Out e) t .1)
-  places s t l = let b = placed s t l in (b .address, like-made l (lawful-hand c (place Out e) (l .left) (b .stage)) (lawful-hand c (place Out e) (l .right) (b .stage′)) (b .but) (b .seat) (l .bytes))
+  places s t l = let b = placed s t l in (b .address, like-made l (lawful-hand c (place Out e) (l .left)) (lawful-hand c (place Out e) (l .right)) (b .but) (b .seat) (l .bytes))
 
   module _ {st : ℕ} {i : Bool} where
     p-kept : (onn : Bool) → Pair c st {i = i} Any (bus.kept Out e false onn) (bus.kept Out e false onn)

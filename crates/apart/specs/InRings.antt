@@ -89,7 +89,7 @@ module _ (c : Channel) where
   unfolding completeOn withOn
   completes e s t l =
       let n = in-other (c .number) e in
-      like-made l (lawful-act c (complete e) refl (l .left) refl) (lawful-act c (complete e) refl (l .right) refl)
+      like-made l (lawful-act c (complete e) refl (l .left)) (lawful-act c (complete e) refl (l .right))
       (but-on (l .but) (l .left .rest .sized) (l .right .rest .sized) In e _ _ (λ _. ap (λ r. unloadedOf (completedOf r)) (l .but .eps In e n)) (λ p. absurd (n p)))
       (on-seat (c .number) (s .0) In e _ n) (l .bytes)
 
@@ -103,7 +103,7 @@ module _ (c : Channel) where
       let n = in-other (c .number) e in
       let h = l .but .eps In e n in (
         ap (λ (r : EpState). slotAddr r (r .tail)) h,
-        like-made l (lawful-hand c (send e) (l .left) (sends-stage (s .0) e)) (lawful-hand c (send e) (l .right) (sends-stage (t .0) e))
+        like-made l (lawful-hand c (send e) (l .left)) (lawful-hand c (send e) (l .right))
             (but-cond _ _ (ap hasWaiting h) (but-on (l .but) (l .left .rest .sized) (l .right .rest .sized) In e _ _ (λ _. ap loadedOf h) (λ p. absurd (n p))) (l .but))
             (cond-seat (c .number) (epOn (s .0) Out (c .number)) (hasWaiting (epOn (s .0) In e)) _ _ (on-seat (c .number) (s .0) In e _ n) (same-place (epOn (s .0) Out (c .number)))) (l .bytes),
       )

@@ -1,5 +1,6 @@
 pub mod But
 pub mod Apart
+pub mod Settled
 pub mod Likes
 pub mod Wakes
 pub mod Pairs
@@ -22,6 +23,7 @@ pub mod Enabling
 pub mod EnablingOut
 pub mod Polling
 pub mod Switching
+pub mod DataOut
 pub mod Operations
 pub mod Others
 pub mod Stores

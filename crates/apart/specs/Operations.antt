@@ -35,6 +35,7 @@ use Rattle.apart.specs.Reading.{p-poll-read}
 use Rattle.apart.specs.Enabling.{p-set-enabled}
 use Rattle.apart.specs.EnablingOut as enabling-out
 use Rattle.apart.specs.Switching as switching
+use Rattle.apart.specs.DataOut.{p-ends-control, p-unless-setup, p-within, p-requested, p-aborted, p-begin-data-out, p-poll-data-out}
 use Rattle.apart.specs.Polling.{p-poll}
 use Rattle.apart.specs.Kept.{p-put-control, p-control, p-put-paced, p-paced, p-put-request, p-fill, p-fill0}
 
@@ -44,7 +45,7 @@ CommonSlots x (SetEnabled dir e onn) = Unit {0}
 CommonSlots x (PollRead e n) = key Out e ≢ key Out x
 CommonSlots x (BeginWrite e bytes) = Unit {0}
 CommonSlots x (PollWrite e bytes) = Unit {0}
-CommonSlots x (PollDataOut n) = ⊥
+CommonSlots x (PollDataOut n) = Unit {0}
 CommonSlots x (BeginDataIn bytes first last) = Unit {0}
 
 abbrev pub Common : ℕ → Op → Type 0
@@ -101,21 +102,6 @@ module _ {c : Channel} {st : ℕ} {i : Bool} where
 
   -- ---- the control pipe
 
-  p-ends-control : (a : Answer) → Pair c st {i = i} (SameAnswer (c .number)) (ends-control a) (ends-control a)
-  p-ends-control a = p-then (p-put-control c _) (p-ret (same a))
-
-  p-unless-setup : {p p′ : Script i Answer} → Pair c st (SameAnswer (c .number)) p p′ → Pair c st (SameAnswer (c .number)) (unlessSetup p) (unlessSetup p′)
-  p-unless-setup h = p-globals c (λ g _. p-unless _ 9 h)
-
-  p-within : (n : ℕ) {p p′ : Script i Answer} → Pair c st (SameAnswer (c .number)) p p′ → Pair c st (SameAnswer (c .number)) (withinMaximum n p) (withinMaximum n p′)
-  p-within n h = p-globals c (λ g _. p-unless _ 10 h)
-
-  p-requested : (sort : ℕ) {p : Control → Script i Answer} → ((v : Control) → Pair c st (SameAnswer (c .number)) (p v) (p v)) → Pair c st (SameAnswer (c .number)) (requested sort p) (requested sort p)
-  p-requested sort h = p-same (p-control c) (λ v. p-test _ (λ _. h v) (λ _. p-ret (same _)))
-
-  p-aborted : {p p′ : Script i Answer} → Pair c st (SameAnswer (c .number)) p p′ → Pair c st (SameAnswer (c .number)) (aborted-else p) (aborted-else p′)
-  p-aborted h = p-globals c (λ g _. p-test _ (λ _. p-ends-control _) (λ _. h))
-
   p-acks : (dir : Dir) (first : Bool) → Pair c st {i = i} Any (acks dir first) (acks dir first)
   p-acks dir true = p-write (ctrlOf dir) 0 _
   p-acks dir false = p-modify-reg (ctrlOf dir) 0 _ (ctrl-steady c st dir)
@@ -126,7 +112,7 @@ module _ {c : Channel} {st : ℕ} {i : Bool} where
   p-take-closing : (now : Bool) (v : Control) → Pair c st {i = i} (SameAnswer (c .number)) (take-closing now v) (take-closing now v)
   p-take-closing now v = p-plain-ep0 c Out (λ s _. p-test _
       (λ _. p-then (p-modify-ep c Out 0 _ (λ _. refl)) (p-then (p-when now (λ _. p-modify-ep c In 0 _ (λ _. refl))) (p-ends-control _)))
-      (λ _. p-aborted (p-then (p-when now (λ _. p-then (p-modify-ep c In 0 _ (λ _. refl)) (p-put-control c _))) (p-ret (same _)))))
+      (λ _. p-aborted (p-then (p-when now (λ _. p-then (p-modify-ep c In 0 _ (λ _. refl)) (p-put-control c _ refl))) (p-ret (same _)))))
 
   p-take-in : (v : Control) → Pair c st {i = i} (SameAnswer (c .number)) (take-in v) (take-in v)
   p-take-in v = p-plain-in c 0 (λ s _. p-test _
@@ -152,8 +138,8 @@ module _ (c : Channel) (st : ℕ) where
   p-slotted (PollRead e k) n = p-staged 2 (p-named Out e (p-poll-read c e n k))
   p-slotted (BeginWrite e bytes) n = p-staged 2 (p-named In e (p-enabled In e (p-ret (same _)) (p-plain-in c e (λ s _. p-unless _ 10 (p-then (p-put-request c In e _) (p-resultless (p-test _ (λ _. p-ret tt) (λ _. p-load-write e bytes))))))))
   p-slotted (PollWrite e bytes) n = p-staged 2 (p-named In e (p-polled In e (length bytes) (in-other (c .number) e) (p-plain-in c e (λ s _. p-test _ (λ _. p-put-iso e bytes) (λ _. p-sent-ready e s)))))
-  p-slotted (PollDataOut k) n = absurd n
-  p-slotted (BeginDataIn bytes first last) n = p-staged 2 (p-within _ (p-unless-setup (p-then (p-put-control c _) (p-resultless
+  p-slotted (PollDataOut k) n = p-staged 2 (p-poll-data-out c k)
+  p-slotted (BeginDataIn bytes first last) n = p-staged 2 (p-within _ (p-unless-setup (p-then (p-put-control c _ refl) (p-resultless
       (p-then (p-fill0 c bytes) (p-then (p-modify-ep c In 0 _ (λ _. refl)) (p-then (p-when last (λ _. p-closing-out)) (p-then (p-modify-ep c In 0 _ (λ _. refl)) (p-then (p-write EpTLen 0 _) (p-acks In first))))))))))
 
   p-other : (o : Other) → Pair c st (SameAnswer (c .number)) (code (other o)) (code (other o))
@@ -169,17 +155,17 @@ module _ (c : Channel) (st : ℕ) where
   p-other (SetPaced e onn) = p-staged 2 (p-numbered e (p-then (p-globals c (λ g _. p-then (p-assign c _) (p-put-paced c e _))) (p-ret (same _))))
   p-other (Advance e) = p-staged 2 (p-numbered e (p-resultless (p-advance e)))
   p-other (BeginRead e k) = p-staged 2 (p-named Out e (p-enabled Out e (p-ret (same _)) (p-plain-any c Out e (λ s r n k _. p-unless _ 10 (p-then (p-put-request c Out e _) (p-resultless (p-arm-read e s r (λ u. n (λ z. true≢false (sym (k z) ∙ u))))))))))
-  p-other BeginSetup = p-staged 2 (p-then (p-put-control c _) (p-resultless (p-ret tt)))
+  p-other BeginSetup = p-staged 2 (p-then (p-put-control c _ refl) (p-resultless (p-ret tt)))
   p-other PollSetup = p-staged 2 (p-requested _ (λ v. p-globals c (λ g _. p-test _ (λ _. p-then (p-assign c _) (p-ends-control _)) (λ _. p-ret (same _)))))
   p-other PollDataIn = p-staged 2 (p-requested _ (λ v. p-test _ (λ _. p-take-closing false v) (λ _. p-take-in v)))
-  p-other BeginAccept = p-staged 2 (p-unless-setup (p-then (p-put-control c _) (p-resultless p-status-in)))
+  p-other BeginAccept = p-staged 2 (p-unless-setup (p-then (p-put-control c _ refl) (p-resultless p-status-in)))
   p-other PollAccept = p-staged 2 (p-requested _ (λ v. p-plain-in c 0 (λ s _. p-test _
-      (λ _. p-then (p-modify-ep c In 0 _ (λ _. refl)) (p-then (p-put-control c _) (p-test _ (λ _. p-resultless (p-write DevAd 0 _)) (λ _. p-ret (same _)))))
+      (λ _. p-then (p-modify-ep c In 0 _ (λ _. refl)) (p-then (p-put-control c _ refl) (p-test _ (λ _. p-resultless (p-write DevAd 0 _)) (λ _. p-ret (same _)))))
       (λ _. p-aborted (p-ret (same _))))))
-  p-other BeginReject = p-staged 2 (p-then (p-put-control c _) (p-resultless
+  p-other BeginReject = p-staged 2 (p-then (p-put-control c _ refl) (p-resultless
       (p-then (p-modify-ep c Out 0 _ (λ _. refl)) (p-then (p-modify-ep c In 0 _ (λ _. refl)) (p-then (p-modify-reg EpTxCtrl 0 _ (λ v v′ h. h)) (p-modify-reg EpRxCtrl 0 _ (λ v v′ h. h)))))))
-  p-other (BeginDataOut k first) = p-staged 2 (p-within _ (p-unless-setup (p-then (p-put-control c _) (p-resultless (p-then (p-modify-ep c Out 0 _ (λ _. refl)) (p-acks Out first))))))
-  p-other (BeginAcceptSetAddress a) = p-staged 2 (p-unless-setup (p-then (p-put-control c _) (p-resultless p-status-in)))
+  p-other (BeginDataOut k first) = p-staged 2 (p-begin-data-out c k (p-resultless (p-then (p-modify-ep c Out 0 _ (λ _. refl)) (p-acks Out first))))
+  p-other (BeginAcceptSetAddress a) = p-staged 2 (p-unless-setup (p-then (p-put-control c _ refl) (p-resultless p-status-in)))
 
   pub p-call : (o : Op) → Common (c .number) o → Pair c st (SameAnswer (c .number)) (code o) (code o)
   p-call interrupt n = p-interrupt c st

@@ -190,4 +190,4 @@ module _ (c : Channel) (e n : ℕ) (o : key Out e ≢ key Out (c .number)) (s t 
   pub arrives-same : (handOn (arrive e n) s .0 ≡ handOn (arrive e n) t .0) × Like c quiet (handOn (arrive e n) s .1) (handOn (arrive e n) t .1)
   arrives-same =
       let b = arrives-both in
-      (b .address, like-made l (lawful-hand c (arrive e n) (l .left) (b .stage)) (lawful-hand c (arrive e n) (l .right) (b .stage′)) (b .but) (b .seat) (b .bytes))
+      (b .address, like-made l (lawful-hand c (arrive e n) (l .left)) (lawful-hand c (arrive e n) (l .right)) (b .but) (b .seat) (b .bytes))

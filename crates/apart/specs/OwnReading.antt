@@ -69,7 +69,7 @@ module _ (c : Channel) (e : ℕ) (p : key Out e ≡ key Out (c .number)) where
     unfolding takeOn withOn closedOf passedOf
     takes = record {
       left = l;
-      right = lawful-act c (take-oldest e) refl l (cond-stage _ (hasWaiting (epOn (s .0) Out e)) _ _ refl refl);
+      right = lawful-act c (take-oldest e) refl l;
       but = own-cond (hasWaiting (epOn (s .0) Out e)) _ (record { place = record { base = refl; stride = refl; slots = refl }; plain = refl });
       bytes = only-refl _ _ (s .1);
     }

@@ -76,7 +76,7 @@ module _ (c : Channel) (n : ℕ) (s : St) (l : Lawful (c .iso) quiet s) where
   own-both = own-by (receives d x) refl
 
   pub own-arrives : Touched c quiet s (handOn (arrive x n) s .1)
-  own-arrives = record { left = l; right = lawful-hand c (arrive x n) l (own-both .stage); but = own-both .but; bytes = own-both .bytes }
+  own-arrives = record { left = l; right = lawful-hand c (arrive x n) l; but = own-both .but; bytes = own-both .bytes }
 
 -- ---- its check, in one of the runs
 

@@ -107,7 +107,7 @@ module _ (c : Channel) where
   unfolding epOn
   first s t l = (
     refl,
-    like-made l (lawful-first c bus-reset (l .left) refl) (lawful-first c bus-reset (l .right) refl)
+    like-made l (lawful-first c bus-reset (l .left)) (lawful-first c bus-reset (l .right))
         (but-globals (l .but) _ _ (ap (withEpConfig 0) (l .but .globals))) (same-place (epOn (s .0) Out (c .number))) (l .bytes),
   )
 
@@ -115,13 +115,13 @@ module _ (c : Channel) where
   unfolding epOn
   next zero s t l = (
     refl,
-    like-made l (lawful-next c bus-reset zero (l .left) (all-stage (s .0))) (lawful-next c bus-reset zero (l .right) (all-stage (t .0)))
+    like-made l (lawful-next c bus-reset zero (l .left)) (lawful-next c bus-reset zero (l .right))
         (all-but (l .left .rest .sized) (l .right .rest .sized) (l .but)) (all-seat (l .left .rest .sized)) (l .bytes),
   )
-  next (suc zero) s t l = (refl, like-made l (lawful-next c bus-reset 1 (l .left) refl) (lawful-next c bus-reset 1 (l .right) refl) (l .but) (same-place (epOn (s .0) Out (c .number))) (l .bytes))
+  next (suc zero) s t l = (refl, like-made l (lawful-next c bus-reset 1 (l .left)) (lawful-next c bus-reset 1 (l .right)) (l .but) (same-place (epOn (s .0) Out (c .number))) (l .bytes))
   next (suc (suc zero)) s t l = (
     refl,
-    like-made l (lawful-next c bus-reset 2 (l .left) refl) (lawful-next c bus-reset 2 (l .right) refl)
+    like-made l (lawful-next c bus-reset 2 (l .left)) (lawful-next c bus-reset 2 (l .right))
         (but-globals (l .but) _ _ (ap (withEpType 0) (l .but .globals))) (same-place (epOn (s .0) Out (c .number))) (l .bytes),
   )
   next (suc (suc (suc n))) s t l = absurd (omega (arith, l .left .rest .step))

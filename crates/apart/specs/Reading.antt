@@ -62,8 +62,8 @@ module _ (c : Channel) (e : ℕ) (n : key Out e ≢ key Out (c .number)) where
   takes s t l =
       let h = l .but .eps Out e n in
       like-made l
-      (lawful-act c (take-oldest e) refl (l .left) (cond-stage _ (hasWaiting (epOn (s .0) Out e)) _ _ refl refl))
-      (lawful-act c (take-oldest e) refl (l .right) (cond-stage _ (hasWaiting (epOn (t .0) Out e)) _ _ refl refl))
+      (lawful-act c (take-oldest e) refl (l .left))
+      (lawful-act c (take-oldest e) refl (l .right))
       (but-cond _ _ (ap hasWaiting h) (but-on (l .but) (l .left .rest .sized) (l .right .rest .sized) Out e _ _ (λ _. ap closedOf h) (λ p. absurd (n p))) (l .but))
       (cond-seat (c .number) (epOn (s .0) Out (c .number)) (hasWaiting (epOn (s .0) Out e)) _ _ (on-seat (c .number) (s .0) Out e _ n) (same-place (epOn (s .0) Out (c .number)))) (l .bytes)
 

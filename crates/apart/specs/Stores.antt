@@ -65,7 +65,7 @@ by-book {d = d} {p = p} R g h = record {
 }
 
 lawful-stored : (c : Channel) {φ : Phase} {s : St} {b : Buf} → Lawful (c .iso) φ s → Stored (s .0) (s .1) b → Lawful (c .iso) φ (s .0, b)
-lawful-stored c {φ} {s} {b} l h = record { pages = l .pages; rest = chip (s .1) b φ (s .0) (l .pages) (l .rest) (by-book (l .rest) (l .stage) h); has = l .has; stage = l .stage }
+lawful-stored c {φ} {s} {b} l h = record { pages = l .pages; rest = chip (s .1) b φ (s .0) (l .pages) (l .rest) (by-book (l .rest) (l .stage) h); has = l .has; stage = l .stage; bounded = l .bounded }
 
 module _ {c : Channel} {φ : Phase} where
   pub lent-like : {s t : St} {b b′ : Buf} → Like c φ s t → Lent c s t b b′ → Like c φ (s .0, b) (t .0, b′)

@@ -142,7 +142,7 @@ module _ (c : Channel) (e : ℕ) where
     first : (s t : St) → Like c quiet s t → Steps c (switch e onn) 18 s t
     first s t l =
         let q = slot-armed 15 s t l in
-        (q .address, like-made l (lawful-first c (switch e onn) (l .left) (q .stage)) (lawful-first c (switch e onn) (l .right) (q .stage′)) (q .but) (q .seat) (q .bytes))
+        (q .address, like-made l (lawful-first c (switch e onn) (l .left)) (lawful-first c (switch e onn) (l .right)) (q .but) (q .seat) (q .bytes))
 
     -- ---- the kind and the enable bit
 
@@ -157,19 +157,19 @@ module _ (c : Channel) (e : ℕ) where
     next zero s t l =
         let v = word-same s t l (λ g. g .«ep_config») in (
           v,
-          like-made l (lawful-next c (switch e onn) 0 (l .left) refl) (lawful-next c (switch e onn) 0 (l .right) refl)
+          like-made l (lawful-next c (switch e onn) 0 (l .left)) (lawful-next c (switch e onn) 0 (l .right))
               (but-globals (l .but) _ _ (λ i. withEpConfig (v i) (l .but .globals i))) (same-place (epOn (s .0) Out (c .number))) (l .bytes),
         )
     next (suc zero) s t l =
         let v = word-same s t l (λ g. g .«ep_type») in (
           v,
-          like-made l (lawful-next c (switch e onn) 1 (l .left) refl) (lawful-next c (switch e onn) 1 (l .right) refl)
+          like-made l (lawful-next c (switch e onn) 1 (l .left)) (lawful-next c (switch e onn) 1 (l .right))
               (but-globals (l .but) _ _ (λ i. withEpType (v i) (l .but .globals i))) (same-place (epOn (s .0) Out (c .number))) (l .bytes),
         )
-    next (suc (suc zero)) s t l = (refl, like-made l (lawful-next c (switch e onn) 2 (l .left) refl) (lawful-next c (switch e onn) 2 (l .right) refl) (l .but) (same-place (epOn (s .0) Out (c .number))) (l .bytes))
+    next (suc (suc zero)) s t l = (refl, like-made l (lawful-next c (switch e onn) 2 (l .left)) (lawful-next c (switch e onn) 2 (l .right)) (l .but) (same-place (epOn (s .0) Out (c .number))) (l .bytes))
     next (suc (suc (suc k))) s t l =
         let q = slot-armed k s t l in
-        (q .address, like-made l (lawful-next c (switch e onn) (suc (suc (suc k))) (l .left) (q .stage)) (lawful-next c (switch e onn) (suc (suc (suc k))) (l .right) (q .stage′)) (q .but) (q .seat) (q .bytes))
+        (q .address, like-made l (lawful-next c (switch e onn) (suc (suc (suc k))) (l .left)) (lawful-next c (switch e onn) (suc (suc (suc k))) (l .right)) (q .but) (q .seat) (q .bytes))
 
     pub p-set-enabled : {st : ℕ} → Pair c st Any (bus.setEnabled Out e onn) (bus.setEnabled Out e onn)
     p-set-enabled = p-plain-any c Out e (λ s r _ _ f. p-then (p-test _ (λ _. p-row (switch e onn) next (row-over c (switch e onn)) first) (λ h. absurd (true≢false (sym (f ∙ iso) ∙ h)))) (p-wake c Out e))

@@ -80,18 +80,18 @@ module _ (c : Channel) where
 
   begins-none : (s t : St) → Like c quiet s t → Like c quiet (actOn no-wakes s) (actOn no-wakes t)
   unfolding epOn
-  begins-none s t l = like-made l (lawful-act c no-wakes refl (l .left) refl) (lawful-act c no-wakes refl (l .right) refl)
+  begins-none s t l = like-made l (lawful-act c no-wakes refl (l .left)) (lawful-act c no-wakes refl (l .right))
       (but-wakes (l .but) none-woken none-woken (wakes-refl (c .number) none-woken none-room)) (same-place (epOn (s .0) Out (c .number))) (l .bytes)
 
   wakens : (codes : List ℕ) (s t : St) → Like c quiet s t → Like c quiet (actOn (waken codes) s) (actOn (waken codes) t)
   unfolding epOn
-  wakens codes s t l = like-made l (lawful-act c (waken codes) refl (l .left) refl) (lawful-act c (waken codes) refl (l .right) refl)
+  wakens codes s t l = like-made l (lawful-act c (waken codes) refl (l .left)) (lawful-act c (waken codes) refl (l .right))
       (but-wakes (l .but) _ _ (all-same codes (l .but .wakes))) (same-place (epOn (s .0) Out (c .number))) (l .bytes)
 
   -- the channel's own wake-up, in one run
   pub own-wake : {s t : St} → Like c quiet s t → Like c quiet (actOn (waken (wakeCode Out (c .number) ∷ [])) s) t
   unfolding epOn
-  own-wake {s} {t} l = like-made l (lawful-act c (waken (wakeCode Out (c .number) ∷ [])) refl (l .left) refl) (l .right)
+  own-wake {s} {t} l = like-made l (lawful-act c (waken (wakeCode Out (c .number) ∷ [])) refl (l .left)) (l .right)
       (but-wakes (l .but) _ (t .0 .wakes) (own-woken (l .but .wakes))) (same-place (epOn (s .0) Out (c .number))) (l .bytes)
 
   -- ---- in scripts
