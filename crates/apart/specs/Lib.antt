@@ -23,6 +23,8 @@ pub mod Enabling
 pub mod EnablingOut
 pub mod Polling
 pub mod Switching
+pub mod Bounding
+pub mod Bounds
 pub mod DataOut
 pub mod Operations
 pub mod Others
