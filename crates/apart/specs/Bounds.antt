@@ -9,7 +9,6 @@ use borrow.Author.Tests.{eqb-true, ltb-false}
 use Rattle.state.specs.declared.Control.{Control}
 use Rattle.state.specs.Fresh.{freshDriver}
 use Rattle.state.specs.Driver.{Driver}
-use Rattle.bits.specs.Walk.{setBits}
 use Rattle.regs.specs.declared.Dir.{Dir}
 use Rattle.regs.specs.declared.Dir.the-variants.{Out, In}
 use Rattle.regs.specs.declared.Token.{Token}
@@ -27,9 +26,9 @@ use Rattle.ops.specs.Conc.{conc, putOn, actOn}
 use Rattle.way.specs.Under.{driverOf, drive}
 use Rattle.book.specs.Always.{after}
 use Rattle.alloc.specs.Alloc.{allocateEp0Of}
-use Rattle.script.specs.IsoIn.{isoInLoad, isoInComplete, sofOne, sofWalk, lateOne, lateWalk, onSof, isoInCompletions, isoInAdvance}
-use Rattle.script.specs.IsoOut.{checkOne, checkWalk, isoOutCheck}
-use Rattle.script.specs.Handler.{looks, nakNonIso, toggled, settle, retake, outArm, inArm, dispatch, movedOn, ep0MovedOn, served, onTransfer, onSetup, onInterrupt, stampedInterrupt}
+use Rattle.script.specs.IsoIn.{isoInComplete, sofOne, sofWalk, lateWalk, onSof, isoInCompletions}
+use Rattle.script.specs.IsoOut.{checkWalk}
+use Rattle.script.specs.Handler.{looks, toggled, settle, dispatch, movedOn, ep0MovedOn, served, onTransfer, onSetup, stampedInterrupt}
 use Rattle.script.specs.Bus as bus
 use Rattle.script.specs.Control.{DATA-OUT, requestOf, unlessSetup, withinMaximum, acks, beginDataOut}
 use Rattle.alloc.specs.declared.Answer as alloc-answer

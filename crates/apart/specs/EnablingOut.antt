@@ -5,7 +5,7 @@ use mathlib.Core.Path.{_≡_, refl, ap, subst, sym, _∙_}
 use Prim.Native.Nat.{ℕ, _%_}
 use Rattle.bits.specs.Bit.{isSet}
 use Rattle.regs.specs.declared.Reg.the-variants.{EpType, EpConfig, EpRxCtrl}
-use Rattle.regs.specs.declared.Dir.the-variants.{Out, In}
+use Rattle.regs.specs.declared.Dir.the-variants.{Out}
 use Rattle.regs.specs.Enables as enables
 use Rattle.state.specs.declared.EpState.{EpState}
 use Rattle.state.specs.declared.Globals.{Globals}
@@ -13,8 +13,8 @@ use Rattle.state.specs.Kept.{withEpConfig}
 use Rattle.state.specs.Driver.{Driver, key, epOn, withOn, withGlobals}
 use Rattle.ring.specs.Out.{armedAt}
 use Rattle.ring.specs.Waiting.{SamePlace}
-use Rattle.script.specs.Script.{Script, reset-ring, set-enabled, place}
-use Rattle.script.specs.Statics.{isOn, isoOuts, modifyEpType}
+use Rattle.script.specs.Script.{reset-ring, set-enabled, place}
+use Rattle.script.specs.Statics.{isOn, isoOuts}
 use Rattle.script.specs.Bus as bus
 use Rattle.script.specs.Alike.{quiet}
 use Rattle.ops.specs.Records.{isoOut, configured, enabledOn}
@@ -27,7 +27,7 @@ use Rattle.apart.specs.Apart.{Pair}
 use Rattle.apart.specs.Pairs.{Any, p-then, p-test, p-write, p-act, p-hand}
 use Rattle.apart.specs.Buts.{but-globals, but-on, but-cond, like-made, lawful-act, lawful-hand}
 use Rattle.apart.specs.Values.{p-assign, p-modify-ep, p-wake, p-globals, p-plain-any}
-use Rattle.apart.specs.InRings.{on-seat, cond-seat, cond-stage}
+use Rattle.apart.specs.InRings.{on-seat, cond-seat}
 
 module _ (c : Channel) (e : ℕ) (plain : c .iso Out e ≡ false) where
   -- it is not the channel
@@ -63,14 +63,12 @@ module _ (c : Channel) (e : ℕ) (plain : c .iso Out e ≡ false) where
     address : x .0 ≡ y .0
     but : But (c .number) (x .1) (y .1)
     seat : SamePlace (epOn (s .0) Out (c .number)) (epOn (x .1) Out (c .number))
-    stage : x .1 .globals .stage ≡ s .0 .globals .stage
-    stage′ : y .1 .globals .stage ≡ t .0 .globals .stage
 
   placed-by : (u : Bool) (s t : St) → Like c quiet s t
       → Placed s t (cond {A = ℕ × Driver} u (epOn (s .0) Out e .«armed_slot», s .0) (epOn (s .0) Out e .base, withOn (s .0) Out e (armedAt (epOn (s .0) Out e) (epOn (s .0) Out e .base))))
       (cond {A = ℕ × Driver} u (epOn (t .0) Out e .«armed_slot», t .0) (epOn (t .0) Out e .base, withOn (t .0) Out e (armedAt (epOn (t .0) Out e) (epOn (t .0) Out e .base))))
   unfolding withOn
-  placed-by true s t l = record { address = ap (λ (r : EpState). r .«armed_slot») (l .but .eps Out e (other (l .left))); but = l .but; seat = same-place (epOn (s .0) Out (c .number)); stage = refl; stage′ = refl }
+  placed-by true s t l = record { address = ap (λ (r : EpState). r .«armed_slot») (l .but .eps Out e (other (l .left))); but = l .but; seat = same-place (epOn (s .0) Out (c .number)) }
   placed-by false s t l =
       let n = other (l .left) in
       let h = l .but .eps Out e n in
@@ -78,8 +76,6 @@ module _ (c : Channel) (e : ℕ) (plain : c .iso Out e ≡ false) where
         address = ap (λ (r : EpState). r .base) h;
         but = but-on (l .but) (l .left .rest .sized) (l .right .rest .sized) Out e _ _ (λ _. ap (λ (r : EpState). armedAt r (r .base)) h) (λ p. absurd (n p));
         seat = on-seat (c .number) (s .0) Out e _ n;
-        stage = refl;
-        stage′ = refl;
       }
 
   placed : (s t : St) → Like c quiet s t → Placed s t (placeOn Out e (s .0)) (placeOn Out e (t .0))

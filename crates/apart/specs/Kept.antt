@@ -19,7 +19,7 @@ use Rattle.state.specs.Laws.{Sized, requestOn-same, requestOn-other}
 use Rattle.marks.specs.Only.{Only}
 use Rattle.marks.specs.Copies.{copied}
 use Rattle.script.specs.Cells.{control-cell, request-cell, paced-cell}
-use Rattle.script.specs.Script.{Script, put, get, act, fill, fill0}
+use Rattle.script.specs.Script.{put, get, act, fill, fill0}
 use Rattle.script.specs.Statics.{isOn}
 use Rattle.script.specs.Control.{DATA-OUT}
 use Rattle.script.specs.Alike.{quiet}

@@ -1,5 +1,5 @@
 -- The calls of document 01 that both runs get: each answers the same but for the channel's wake-ups and lines up
-use mathlib.Core.Bool.{Bool, true, false, not, cond, true≢false}
+use mathlib.Core.Bool.{Bool, true, false, true≢false}
 use mathlib.Core.List.{List}
 use mathlib.Core.Logic.{_≢_}
 use mathlib.Core.Path.{_≡_, refl, ap, subst, sym, _∙_}
@@ -15,16 +15,16 @@ use Rattle.state.specs.declared.Control.{Control}
 use Rattle.script.specs.Cells.{Plain, globals-cell}
 use Rattle.state.specs.Driver.{key}
 use Rattle.script.specs.Script.{Script, ret, test, room, enqueue}
-use Rattle.script.specs.Statics.{isOn, withReady, withTog, modifyReg}
+use Rattle.script.specs.Statics.{isOn, withReady, withTog}
 use Rattle.script.specs.Answers.{Answer, Refused, staged}
-use Rattle.script.specs.IsoIn.{isoInCompletions, isoInAdvance, isoInSetPaced, microframe}
+use Rattle.script.specs.IsoIn.{isoInCompletions, isoInAdvance}
 use Rattle.script.specs.Bus as bus
 use Rattle.script.specs.Endpoint.{arm-read, load-write, put-iso, sent-ready}
-use Rattle.script.specs.Control.{ends-control, unlessSetup, withinMaximum, requested, aborted-else, acks, closing-out, take-closing, take-in, statusIn}
-use Rattle.script.specs.Calls.{Slotted, SetEnabled, PollRead, BeginWrite, PollWrite, PollDataOut, BeginDataIn, Other, Allocate, AllocateAll, Start, BusPoll, BusEnable, BusDisable, Microframe, SetStalled, IsStalled, SetPaced, Advance, BeginRead, BeginSetup, PollSetup, PollDataIn, BeginAccept, PollAccept, BeginReject, BeginDataOut, BeginAcceptSetAddress, Op, interrupt, slotted, other, aside, irq, code}
-use Rattle.apart.specs.But.{Channel, Like}
+use Rattle.script.specs.Control.{acks, closing-out, take-closing, take-in, statusIn}
+use Rattle.script.specs.Calls.{Slotted, SetEnabled, PollRead, BeginWrite, PollWrite, PollDataOut, BeginDataIn, Other, Allocate, AllocateAll, Start, BusPoll, BusEnable, BusDisable, Microframe, SetStalled, IsStalled, SetPaced, Advance, BeginRead, BeginSetup, PollSetup, PollDataIn, BeginAccept, PollAccept, BeginReject, BeginDataOut, BeginAcceptSetAddress, Op, interrupt, slotted, other, aside, code}
+use Rattle.apart.specs.But.{Channel}
 use Rattle.apart.specs.Apart.{Pair}
-use Rattle.apart.specs.Pairs.{Eq, Any, p-ret, p-bind, p-same, p-then, p-test, p-tests, p-when, p-write, p-get, p-is, p-act}
+use Rattle.apart.specs.Pairs.{Any, p-ret, p-bind, p-same, p-then, p-test, p-tests, p-when, p-write, p-get, p-is, p-act}
 use Rattle.apart.specs.Values.{p-assign, p-record, p-modify-ep, p-wake, p-globals, p-plain-in, p-plain-ep0, p-plain-any, in-other, p-records}
 use Rattle.apart.specs.Answers.{SameAnswer, same, p-operation, p-resultless, p-staged, p-named}
 use Rattle.apart.specs.Walks.{ctrl-steady, p-reads, p-modify-reg, p-complete}
@@ -37,7 +37,7 @@ use Rattle.apart.specs.EnablingOut as enabling-out
 use Rattle.apart.specs.Switching as switching
 use Rattle.apart.specs.DataOut.{p-ends-control, p-unless-setup, p-within, p-requested, p-aborted, p-begin-data-out, p-poll-data-out}
 use Rattle.apart.specs.Polling.{p-poll}
-use Rattle.apart.specs.Kept.{p-put-control, p-control, p-put-paced, p-paced, p-put-request, p-fill, p-fill0}
+use Rattle.apart.specs.Kept.{p-put-control, p-put-paced, p-paced, p-put-request, p-fill, p-fill0}
 
 -- all calls but those on the channel itself whose answers tell its data: a poll of its read, its open and its close
 abbrev pub CommonSlots : ℕ → Slotted → Type 0

@@ -1,22 +1,22 @@
 -- A poll of the channel's read ends at once and changes nothing but the channel's data
 use mathlib.Core.Bool.{Bool, true, false, cond}
-use mathlib.Core.Path.{_≡_, refl, ap, subst, sym, _∙_}
+use mathlib.Core.Path.{_≡_, refl, ap, sym, _∙_}
 use Prim.Native.Nat.{ℕ}
-use Rattle.regs.specs.declared.Dir.the-variants.{Out, In}
+use Rattle.regs.specs.declared.Dir.the-variants.{Out}
 use Rattle.state.specs.declared.EpState.{EpState}
 use Rattle.state.specs.declared.Request.{Request}
 use Rattle.state.specs.Driver.{Driver, key, epOn, withOn, lenOn, stampOn, withRequestOn}
-use Rattle.state.specs.Laws.{Sized, epOn-same, requestOn-other}
+use Rattle.state.specs.Laws.{epOn-same, requestOn-other}
 use Rattle.marks.specs.Only.{only-refl}
 use Rattle.ring.specs.Slot.{hasWaiting, passedOf}
 use Rattle.ring.specs.Out.{closedOf}
 use Rattle.script.specs.Cells.{Plain, globals-cell, allocator-cell, ep-cell, request-cell}
-use Rattle.script.specs.Script.{Script, run, waiting, oldest, received, take-oldest}
-use Rattle.script.specs.Statics.{isOn, withReady, modifyEp}
+use Rattle.script.specs.Script.{run, waiting, oldest, received, take-oldest}
+use Rattle.script.specs.Statics.{withReady, modifyEp}
 use Rattle.script.specs.Answers.{Answer}
 use Rattle.script.specs.Endpoint.{ends-request, take-iso, take-ready, pollRead}
 use Rattle.script.specs.Alike.{quiet}
-use Rattle.ops.specs.Records.{plainOf, merged}
+use Rattle.ops.specs.Records.{plainOf}
 use Rattle.ops.specs.Rings.{St, takeOn}
 use Rattle.ops.specs.Conc.{conc, putOn, actOn}
 use Rattle.book.specs.Lens.{key-ep}
@@ -25,7 +25,6 @@ use Rattle.apart.specs.But.{Stays, Beside, Lawful, Channel, Touched}
 use Rattle.apart.specs.Likes.{stays-refl, own-changed, but-refl, touched-refl, touched-trans}
 use Rattle.apart.specs.Buts.{lawful-put, lawful-act}
 use Rattle.apart.specs.Ending.{Finished, fin, Brief, b-ret, b-bind, b-test, b-get, b-is, b-fetch, b-act, b-put}
-use Rattle.apart.specs.InRings.{cond-stage}
 
 -- its number may be brought in any way (row 5 comes after)
 changed-key : {e x : ℕ} {d d′ : Driver} → key Out e ≡ key Out x → Changed Out e d d′ → Changed Out x d d′

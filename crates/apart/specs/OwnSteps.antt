@@ -1,12 +1,10 @@
 -- What is done for the channel changes nothing but its data: its arrivals, its check
 use mathlib.Core.Bool.{Bool, true, false, cond}
-use mathlib.Core.Path.{_≡_, refl, ap, subst, sym, _∙_}
-use Prim.Native.Nat.{ℕ, _+_, _≤_}
+use mathlib.Core.Path.{_≡_, refl, subst, sym, _∙_}
+use Prim.Native.Nat.{ℕ}
 use native.Mathlib.Omega.{arith}
 use Rattle.regs.specs.declared.Reg.the-variants.{IntSt}
-use Rattle.regs.specs.declared.Dir.the-variants.{Out, In}
-use Rattle.state.specs.declared.EpState.{EpState}
-use Rattle.state.specs.declared.Globals.{Globals}
+use Rattle.regs.specs.declared.Dir.the-variants.{Out}
 use Rattle.state.specs.Driver.{Driver, epOn}
 use Rattle.marks.specs.Only.{Only, only-refl, only-wider}
 use Rattle.ring.specs.Slot.{slotAddr}
@@ -16,9 +14,9 @@ use Rattle.ring.specs.OutLaws.{armed-alike}
 use Rattle.script.specs.declared.Transfer.{Transfer}
 use Rattle.script.specs.Tree as tree
 use Rattle.script.specs.Tree.{bindOut}
-use Rattle.script.specs.Script.{Script, run, bind, test, read, look, is, when, done, _>>_, _>>=_, arrive, changed, marked}
+use Rattle.script.specs.Script.{Script, run, test, read, look, when, done, _>>_, _>>=_, arrive, changed, marked}
 use Rattle.script.specs.IsoOut.{arriving, entry, arrives, checkOne}
-use Rattle.script.specs.Alike.{Phase, quiet}
+use Rattle.script.specs.Alike.{quiet}
 use Rattle.ops.specs.Rings.{St, arrivedAt, arriveOn}
 use Rattle.ops.specs.Conc.{conc, isOf, lookOf, handOn}
 use Rattle.book.specs.Rest.{endOf}
@@ -61,15 +59,13 @@ module _ (c : Channel) (n : ℕ) (s : St) (l : Lawful (c .iso) quiet s) where
   record Own (y : ℕ × St) : Type 0 where
     but : Beside x d (y .1 .0)
     bytes : Only (epOn d Out x .base) (endOf (epOn d Out x)) (s .1) (y .1 .1)
-    stage : y .1 .0 .globals .stage ≡ d .globals .stage
 
   own-by : (v : Bool) → receives d x ≡ v → Own (cond v (arrivedAt x (lenOf d x n) s) (epOn d Out x .«armed_slot», s))
   own-by true u = record {
     but = own-changed (after-changed (l .rest .sized) x n) (inner-stays own-inner);
     bytes = own-marks u;
-    stage = ap (λ (g : Globals). g .stage) (after-changed (l .rest .sized) x n .globals);
   }
-  own-by false u = record { but = but-refl x d; bytes = only-refl _ _ (s .1); stage = refl }
+  own-by false u = record { but = but-refl x d; bytes = only-refl _ _ (s .1) }
 
   own-both : Own (handOn (arrive x n) s)
   unfolding arriveOn

@@ -1,6 +1,6 @@
 -- The bus' poll (mod.rs 1229-1266): power, a reset of every endpoint's record, suspend and resume
-use mathlib.Core.Bool.{Bool, true, false}
-use mathlib.Core.Path.{_≡_, refl, ap, subst, sym, _∙_}
+use mathlib.Core.Bool.{false}
+use mathlib.Core.Path.{refl, ap}
 use Prim.Native.Nat.{ℕ, zero, suc}
 use native.Mathlib.Omega.{arith}
 use Rattle.regs.specs.declared.Reg.the-variants.{IntFg, MisSt, DevAd, EpRxCtrl, EpTxCtrl}
@@ -11,11 +11,11 @@ use Rattle.state.specs.declared.Globals.{Globals}
 use Rattle.state.specs.Ep.{resetOf}
 use Rattle.state.specs.Fresh.{noStamps}
 use Rattle.state.specs.Kept.{withEpConfig, withEpType}
-use Rattle.state.specs.Driver.{Driver, key, epOn, withOn, lenOn, stampOn, requestOn}
+use Rattle.state.specs.Driver.{Driver, epOn, withOn, lenOn, stampOn, requestOn}
 use Rattle.state.specs.Laws.{Sized}
 use Rattle.ring.specs.Waiting.{SamePlace}
 use Rattle.ring.specs.Laws.{place-trans}
-use Rattle.script.specs.Script.{Script, bus-reset}
+use Rattle.script.specs.Script.{bus-reset}
 use Rattle.script.specs.Statics.{renewed, withSetup}
 use Rattle.script.specs.Bus as bus
 use Rattle.script.specs.Alike.{quiet, mid}
@@ -66,11 +66,6 @@ below-but (suc n) z z′ h =
     let y′ = below-sized n z′ in
     renewed-but In n (renewed-sized Out n y) (renewed-sized Out n y′) (renewed-but Out n y y′ (below-but n z z′ h))
 
-below-globals : (n : ℕ) (d : Driver) → resetBelow n d .globals ≡ d .globals
-unfolding resetBelow withOn
-below-globals zero d = refl
-below-globals (suc n) d = below-globals n d
-
 -- no stamp stays
 none-but : {x : ℕ} {d d′ : Driver} → But x d d′ → But x (noStamps d) (noStamps d′)
 unfolding noStamps epOn lenOn stampOn requestOn
@@ -96,10 +91,6 @@ module _ (c : Channel) where
   all-seat : {d : Driver} → Sized d → SamePlace (epOn d Out (c .number)) (epOn (resetAll d) Out (c .number))
   unfolding resetAll noStamps epOn
   all-seat z = below-seat (c .number) 16 z
-
-  all-stage : (d : Driver) → resetAll d .globals .stage ≡ d .globals .stage
-  unfolding resetAll noStamps
-  all-stage d = ap (λ (g : Globals). g .stage) (below-globals 16 d)
 
   -- ---- the row of a reset
 

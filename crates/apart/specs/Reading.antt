@@ -1,13 +1,12 @@
 -- A poll of a read of another endpoint
-use mathlib.Core.Bool.{Bool, true, false, not, cond, _||_, true≢false}
-use mathlib.Core.List.{List}
+use mathlib.Core.Bool.{Bool, true, false, _||_, true≢false}
 use mathlib.Core.Logic.{_≢_}
-use mathlib.Core.Path.{_≡_, refl, ap, subst, sym, _∙_}
-use Prim.Native.Nat.{ℕ, _+_, _≤_}
+use mathlib.Core.Path.{_≡_, refl, ap, subst, _∙_}
+use Prim.Native.Nat.{ℕ, _≤_}
 use native.Mathlib.Omega.{arith}
 use lib.Dec.{ltb}
 use borrow.Author.Tests.{ltb-false}
-use Rattle.regs.specs.declared.Dir.the-variants.{Out, In}
+use Rattle.regs.specs.declared.Dir.the-variants.{Out}
 use Rattle.state.specs.declared.EpState.{EpState}
 use Rattle.state.specs.Driver.{key, epOn, withOn}
 use Rattle.state.specs.Laws.{epOn-same}
@@ -16,7 +15,7 @@ use Rattle.ring.specs.Slot.{hasWaiting}
 use Rattle.ring.specs.Out.{closedOf}
 use Rattle.ring.specs.Slots.{slot-from, slot-upto}
 use Rattle.script.specs.Cells.{Plain, ep-cell}
-use Rattle.script.specs.Script.{Script, run, ret, bind, test, get, fetch, _>>_, waiting, oldest, received, take-oldest}
+use Rattle.script.specs.Script.{Script, run, ret, bind, test, fetch, _>>_, waiting, oldest, received, take-oldest}
 use Rattle.script.specs.Statics.{isOn, withReady, modifyEp}
 use Rattle.script.specs.Answers.{Answer, Refused, NotYet, Done}
 use Rattle.script.specs.Endpoint.{enabled-else, ends-request, polled, take-iso, tooLong, take-ready}
@@ -31,7 +30,7 @@ use Rattle.apart.specs.Pairs.{p-ret, p-same, p-then, p-test, p-is, p-fet
 use Rattle.apart.specs.Buts.{but-on, but-cond, like-made, lawful-act, others-same}
 use Rattle.apart.specs.Values.{plain-other, record-kept}
 use Rattle.apart.specs.Answers.{SameAnswer, same}
-use Rattle.apart.specs.InRings.{on-seat, cond-seat, cond-stage}
+use Rattle.apart.specs.InRings.{on-seat, cond-seat}
 use Rattle.apart.specs.Asides.{bytes-same, waiting-out, oldest-out}
 use Rattle.apart.specs.Rows.{p-enabled, p-ends-request, p-polled}
 

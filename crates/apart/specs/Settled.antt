@@ -1,7 +1,7 @@
 -- What no operation changes but an assignment of the control request and EP0's start: that request, the stage, EP0's maximum
 use mathlib.Core.Bool.{Bool, true, false, cond, true≢false}
 use mathlib.Core.Path.{_≡_, refl, ap, sym, _∙_}
-use Prim.Native.Nat.{ℕ, zero, suc, _%_, _≤_}
+use Prim.Native.Nat.{ℕ, zero, suc, _%_}
 use lib.Dec.{eqb, ltb}
 use lib.ListN.{length}
 use Rattle.bits.specs.Bit.{isSet}
@@ -21,8 +21,7 @@ use Rattle.script.specs.Cells.{Cell, Val, globals-cell, control-cell, allocator
 use Rattle.script.specs.Script.{Act, complete, reset-ring, set-enabled, fill, fill0, open-oldest, close-oldest, take-oldest, enqueue, allocate, allocate0, no-wakes, waken, Hand, arrive, send, place, place0, Row, switch, bus-reset}
 use Rattle.script.specs.Statics.{isOn, isoOuts}
 use Rattle.script.specs.Sorts.{allocates}
-use Rattle.script.specs.Control.{DATA-OUT}
-use Rattle.ops.specs.Records.{isoOut, configured, enabledOn, withIsoSets, isoAdded, withSets, recordGiven, setsGiven, givenTo, allocatedOn}
+use Rattle.ops.specs.Records.{isoOut, configured, enabledOn, isoAdded, withSets, recordGiven, setsGiven, givenTo, allocatedOn}
 use Rattle.ops.specs.Rings.{St, completeOn, emptied, emptiedOn, openOn, closeOn, takeOn, roomOn, queuedOn, enqueueOn, recordedOn, admittedOn, arrivedAt, arriveOn, sendOn, placeOn, renewedOn, armAt, slotStep, typeStep, configStep, resetBelow, resetAll, rowOn}
 use Rattle.ops.specs.Conc.{putOn, actOn, handOn}
 use Rattle.apart.specs.But.{Bounded}

@@ -4,11 +4,10 @@ use mathlib.Core.Bool.{Bool, true, false, cond, true≢false}
 use mathlib.Core.Logic.{_≢_}
 use mathlib.Core.Path.{_≡_, refl, ap, subst, sym, _∙_}
 use Prim.Native.Nat.{ℕ, zero, suc, _%_}
-use native.Mathlib.Omega.{arith}
 use native.Mathlib.Decide.{ℕ-discrete}
 use lib.Dec.{eqb}
 use Rattle.fields.specs.Tables.{tab-ext}
-use Rattle.regs.specs.declared.Dir.the-variants.{Out, In}
+use Rattle.regs.specs.declared.Dir.the-variants.{Out}
 use Rattle.regs.specs.Enables as enables
 use Rattle.state.specs.declared.EpState.{EpState}
 use Rattle.state.specs.declared.Globals.{Globals}
@@ -25,7 +24,7 @@ use Rattle.ring.specs.Waiting.{SamePlace}
 use Rattle.ring.specs.Laws.{place-addr, place-trans}
 use Rattle.ring.specs.OutLaws.{armed-alike}
 use Rattle.script.specs.Cells.{Plain}
-use Rattle.script.specs.Script.{Script, switch}
+use Rattle.script.specs.Script.{switch}
 use Rattle.script.specs.Statics.{isOn}
 use Rattle.script.specs.Bus as bus
 use Rattle.script.specs.Alike.{Phase, quiet, mid}
@@ -90,16 +89,14 @@ armed-changed {d} z e a = changed-on z Out e (armedAt (epOn d Out e) a) (armed-a
 
 module _ (c : Channel) (e : ℕ) where
   -- the number that a step hands out, and what it leaves
-  record Armed (d d′ : Driver) (b b′ : Buf) (lo hi : ℕ) (x y : ℕ × St) : Type 0 where
+  record Armed (d : Driver) (lo hi : ℕ) (x y : ℕ × St) : Type 0 where
     address : x .0 ≡ y .0
     but : But (c .number) (x .1 .0) (y .1 .0)
     seat : SamePlace (epOn d Out (c .number)) (epOn (x .1 .0) Out (c .number))
     bytes : Only lo hi (x .1 .1) (y .1 .1)
-    stage : x .1 .0 .globals .stage ≡ d .globals .stage
-    stage′ : y .1 .0 .globals .stage ≡ d′ .globals .stage
 
   module _ {d d′ : Driver} (z : Sized d) (z′ : Sized d′) (h : But (c .number) d d′) {lo hi : ℕ} {b b′ : Buf} (o : Only lo hi b b′) (k : ℕ) where
-    arms : Armed d d′ b b′ lo hi (armAt e k (d, b)) (armAt e k (d′, b′))
+    arms : Armed d lo hi (armAt e k (d, b)) (armAt e k (d′, b′))
     unfolding withOn
     arms =
         let r = epOn d Out e in
@@ -113,13 +110,11 @@ module _ (c : Channel) (e : ℕ) where
           seat = changed-seat (c .number) (armed-changed z e (slotAddr r k));
           bytes = subst (λ n. Only lo hi (armed b (slotAddr r k) (r .«max_len»)) (armed b′ n (r′ .«max_len»))) (sym a)
               (subst (λ n. Only lo hi (armed b (slotAddr r k) (r .«max_len»)) (armed b′ (slotAddr r k) n)) (sym m) (only-like o (λ j g. armed-like b b′ (slotAddr r k) (r .«max_len») j g)));
-          stage = refl;
-          stage′ = refl;
         }
 
   -- from the reset record on
   module _ {d d′ : Driver} (z : Sized d) (z′ : Sized d′) (h : But (c .number) d d′) {lo hi : ℕ} {b b′ : Buf} (o : Only lo hi b b′) (k : ℕ) where
-    arms-by : (u : Bool) → Armed d d′ b b′ lo hi (armAt e k (cond u (renewedOn d e) d, b)) (armAt e k (cond u (renewedOn d′ e) d′, b′))
+    arms-by : (u : Bool) → Armed d lo hi (armAt e k (cond u (renewedOn d e) d, b)) (armAt e k (cond u (renewedOn d′ e) d′, b′))
     arms-by true =
         let y = renewed-changed z e in
         let y′ = renewed-changed z′ e in
@@ -129,13 +124,11 @@ module _ (c : Channel) (e : ℕ) where
           but = q .but;
           seat = place-trans (changed-seat (c .number) y) (q .seat);
           bytes = q .bytes;
-          stage = q .stage ∙ ap (λ (g : Globals). g .stage) (y .globals);
-          stage′ = q .stage′ ∙ ap (λ (g : Globals). g .stage) (y′ .globals);
         }
     arms-by false = arms z z′ h o k
 
   module _ (iso : c .iso Out e ≡ true) (onn : Bool) where
-    slot-armed : {φ : Phase} (k : ℕ) (s t : St) → Like c φ s t → Armed (s .0) (t .0) (s .1) (t .1) (epOn (s .0) Out (c .number) .base) (endOf (epOn (s .0) Out (c .number))) (slotStep e k s) (slotStep e k t)
+    slot-armed : {φ : Phase} (k : ℕ) (s t : St) → Like c φ s t → Armed (s .0) (epOn (s .0) Out (c .number) .base) (endOf (epOn (s .0) Out (c .number))) (slotStep e k s) (slotStep e k t)
     unfolding slotStep
     slot-armed k s t l = rw (l .left .has .flags Out e ∙ iso, l .right .has .flags Out e ∙ iso) (arms-by (l .left .rest .sized) (l .right .rest .sized) (l .but) (l .bytes) k (eqb k 15))
 

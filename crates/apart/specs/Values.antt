@@ -1,34 +1,33 @@
 -- Kept values, read and assigned
-use mathlib.Core.Bool.{Bool, true, false, cond, true≢false}
+use mathlib.Core.Bool.{Bool, true, true≢false}
 use mathlib.Core.List.{List, [], _∷_}
 use mathlib.Core.Logic.{_≢_}
 use mathlib.Core.Path.{_≡_, refl, ap, subst, sym, _∙_}
-use Prim.Native.Nat.{ℕ, _%_, _<_}
+use Prim.Native.Nat.{ℕ}
 use native.Mathlib.Omega.{arith}
-use native.Mathlib.Decide.{ℕ-discrete}
 use Rattle.regs.specs.declared.Dir.{Dir}
 use Rattle.regs.specs.declared.Dir.the-variants.{Out, In}
 use Rattle.state.specs.declared.EpState.{EpState}
 use Rattle.state.specs.declared.Globals.{Globals}
 use Rattle.state.specs.Wakes.{none-woken, wakeCode, busCode, every-endpoint}
 use Rattle.state.specs.WakesLaws.{none-room}
-use Rattle.state.specs.Driver.{Driver, key, epOn, withOn}
+use Rattle.state.specs.Driver.{key, epOn, withOn}
 use Rattle.state.specs.Laws.{key-apart}
-use Rattle.script.specs.Cells.{Cell, Val, Plain, globals-cell, ep-cell}
+use Rattle.script.specs.Cells.{Plain, globals-cell, ep-cell}
 use Rattle.script.specs.Script.{Script, run, bind, get, put, act, fetch, gathered, no-wakes, waken}
 use Rattle.script.specs.Statics.{isOn, withReady, modify, modifyEp, wake, wakeAll, wakeBus}
-use Rattle.script.specs.Alike.{Phase, quiet}
-use Rattle.script.specs.Sorts.{Sorts, Shows, Sorted}
+use Rattle.script.specs.Alike.{quiet}
+use Rattle.script.specs.Sorts.{Shows}
 use Rattle.ops.specs.Records.{plainOf, merged, mergedGlobals}
 use Rattle.ops.specs.Rings.{St}
-use Rattle.ops.specs.Conc.{conc, getOn, putOn, actOn}
+use Rattle.ops.specs.Conc.{conc, putOn, actOn}
 use Rattle.book.specs.Book.{mergedPlain}
 use Rattle.book.specs.Lens.{key-ep}
 use Rattle.book.specs.Frame.{same-place, changed-on}
 use Rattle.book.specs.Sorts.{sorted}
-use Rattle.apart.specs.But.{SameCodes, OtherWakes, Stays, Lawful, Channel, Like}
+use Rattle.apart.specs.But.{SameCodes, Stays, Channel, Like}
 use Rattle.apart.specs.Apart.{Apart, Pair, end}
-use Rattle.apart.specs.Pairs.{Eq, Any, p-bind, p-same, p-then, p-get, p-put, p-act}
+use Rattle.apart.specs.Pairs.{Eq, Any, p-bind, p-same, p-get, p-put, p-act}
 use Rattle.apart.specs.Likes.{wakes-refl}
 use Rattle.apart.specs.Wakes.{all-same, own-woken}
 use Rattle.apart.specs.Buts.{stays-any, but-globals, but-wakes, but-on, changed-seat, like-made, lawful-put, lawful-act}
