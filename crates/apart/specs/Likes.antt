@@ -16,7 +16,6 @@ use Rattle.ring.specs.Waiting.{SamePlace}
 use Rattle.script.specs.Alike.{Phase, quiet}
 use Rattle.script.specs.Cells.{Plain}
 use Rattle.script.specs.Sorts.{Sorts}
-use Rattle.script.specs.Statics.{withReady}
 use Rattle.script.specs.Machine.{Buf}
 use Rattle.ops.specs.Rings.{St}
 use Rattle.book.specs.Rest.{endOf}
@@ -48,7 +47,7 @@ stays-trans h k = record {
 
 -- its ring alone changed
 pub inner-stays : {r r′ : EpState} → Inner r r′ → Stays r r′
-inner-stays h = record { place = h .place; plain = ap (withReady 0) (h .plain) }
+inner-stays h = record { place = h .place; plain = rw (h .plain) refl }
 
 -- ---- drivers
 

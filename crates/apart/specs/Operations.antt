@@ -1,9 +1,10 @@
 -- The calls of document 01 that both runs get: each answers the same but for the channel's wake-ups and lines up
 use mathlib.Core.Bool.{Bool, true, false, true≢false}
 use mathlib.Core.List.{List}
-use mathlib.Core.Logic.{_≢_}
+use mathlib.Core.Logic.{_≢_, _⊎_, inl, inr}
 use mathlib.Core.Path.{_≡_, refl, ap, subst, sym, _∙_}
 use Prim.Native.Nat.{ℕ, zero, suc}
+use native.Mathlib.Decide.{ℕ-discrete}
 use lib.Dec.{eqb}
 use lib.ListN.{length}
 use Rattle.regs.specs.declared.Reg.the-variants.{FrameNo, Ctrl, DevAd, EpTLen, EpRxCtrl, EpTxCtrl}
@@ -21,7 +22,7 @@ use Rattle.script.specs.IsoIn.{isoInCompletions, isoInAdvance}
 use Rattle.script.specs.Bus as bus
 use Rattle.script.specs.Endpoint.{arm-read, load-write, put-iso, sent-ready}
 use Rattle.script.specs.Control.{acks, closing-out, take-closing, take-in, statusIn}
-use Rattle.script.specs.Calls.{Slotted, SetEnabled, PollRead, BeginWrite, PollWrite, PollDataOut, BeginDataIn, Other, Allocate, AllocateAll, Start, BusPoll, BusEnable, BusDisable, Microframe, SetStalled, IsStalled, SetPaced, Advance, BeginRead, BeginSetup, PollSetup, PollDataIn, BeginAccept, PollAccept, BeginReject, BeginDataOut, BeginAcceptSetAddress, Op, interrupt, slotted, other, aside, code}
+use Rattle.script.specs.Calls.{Slotted, SetEnabled, PollRead, BeginWrite, PollWrite, PollDataOut, BeginDataIn, Other, Allocate, AllocateAll, Start, BusPoll, BusEnable, BusDisable, Microframe, SetStalled, IsStalled, SetPaced, Advance, BeginRead, BeginSetup, PollSetup, PollDataIn, BeginAccept, PollAccept, BeginReject, BeginDataOut, BeginAcceptSetAddress, Aside, Open, Close, Queue, Op, interrupt, slotted, other, aside, code}
 use Rattle.apart.specs.But.{Channel}
 use Rattle.apart.specs.Apart.{Pair}
 use Rattle.apart.specs.Pairs.{Any, p-ret, p-bind, p-same, p-then, p-test, p-tests, p-when, p-write, p-get, p-is, p-act}
@@ -29,7 +30,7 @@ use Rattle.apart.specs.Values.{p-assign, p-record, p-modify-ep, p-wake, 
 use Rattle.apart.specs.Answers.{SameAnswer, same, p-operation, p-resultless, p-staged, p-named}
 use Rattle.apart.specs.Walks.{ctrl-steady, p-reads, p-modify-reg, p-complete}
 use Rattle.apart.specs.Interrupt.{p-interrupt}
-use Rattle.apart.specs.Asides.{Others, p-aside, room-in, enqueues}
+use Rattle.apart.specs.Asides.{Others, Mine, p-aside, room-in, enqueues}
 use Rattle.apart.specs.Rows.{p-unless, p-numbered, p-named-or-0, p-enabled, p-ends-request, p-polled}
 use Rattle.apart.specs.Reading.{p-poll-read}
 use Rattle.apart.specs.Enabling.{p-set-enabled}
@@ -53,6 +54,34 @@ Common x interrupt = Unit {0}
 Common x (slotted o) = CommonSlots x o
 Common x (other o) = Unit {0}
 Common x (aside o) = Others x o
+
+-- those three
+pub data OfChannel (x : ℕ) : Op → Type 0 where
+  polls : (e n : ℕ) → key Out e ≡ key Out x → OfChannel x (slotted (PollRead e n))
+  passes : (o : Aside) → Mine x o → OfChannel x (aside o)
+
+-- no call is left out
+pub each-call : (x : ℕ) (o : Op) → Common x o ⊎ OfChannel x o
+each-call x interrupt = inl tt
+each-call x (slotted (SetEnabled dir e onn)) = inl tt
+each-call x (slotted (PollRead e n)) = elim (ℕ-discrete (key Out e) (key Out x)) [
+  | yes p ↦ inr (polls e n p)
+  | no p ↦ inl p
+]
+each-call x (slotted (BeginWrite e bytes)) = inl tt
+each-call x (slotted (PollWrite e bytes)) = inl tt
+each-call x (slotted (PollDataOut n)) = inl tt
+each-call x (slotted (BeginDataIn bytes first last)) = inl tt
+each-call x (other o) = inl tt
+each-call x (aside (Open e)) = elim (ℕ-discrete (key Out e) (key Out x)) [
+  | yes p ↦ inr (passes (Open e) p)
+  | no p ↦ inl p
+]
+each-call x (aside (Close e)) = elim (ℕ-discrete (key Out e) (key Out x)) [
+  | yes p ↦ inr (passes (Close e) p)
+  | no p ↦ inl p
+]
+each-call x (aside (Queue e bytes)) = inl tt
 
 module _ {c : Channel} {st : ℕ} {i : Bool} where
   -- after EP0's start no allocation and no second start

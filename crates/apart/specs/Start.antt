@@ -18,6 +18,7 @@ module _ {b : Buf} {d : Driver} {t : Pages} (R : Rest quiet b d t) (k : Sorting 
   abbrev pub channelOf : Channel
   channelOf = record { number = x; below = small; iso = sortsOf d; receives = iso; ep0 = ep0-plain k }
 
+  -- `Bounded` holds after every list of calls too (`after-bounded`)
   pub lawful : d .globals .stage ≡ 2 → Lawful (sortsOf d) quiet (d, b)
   lawful h = record { pages = t; rest = R; has = k .has; stage = h; bounded = bound }
 
