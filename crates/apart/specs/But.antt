@@ -99,7 +99,8 @@ pub record Like (c : Channel) (φ : Phase) (s t : St) : Type 0 where
   pub but : But (c .number) (s .0) (t .0)
   pub bytes : Only (epOn (s .0) Out (c .number) .base) (endOf (epOn (s .0) Out (c .number))) (s .1) (t .1)
 
--- one state before and after what is done to its data alone, between two accesses or operations: stores in its slots, its opens and closes
+-- one state before and after what is done to its data alone, between two accesses or operations: stores in its slots, its opens and closes, polls of its
+-- read
 pub record Touched (c : Channel) (φ : Phase) (s t : St) : Type 0 where
   pub left : Lawful (c .iso) φ s
   pub right : Lawful (c .iso) φ t
