@@ -55,34 +55,6 @@ Common x (slotted o) = CommonSlots x o
 Common x (other o) = Unit {0}
 Common x (aside o) = Others x o
 
--- those three
-pub data OfChannel (x : ℕ) : Op → Type 0 where
-  polls : (e n : ℕ) → key Out e ≡ key Out x → OfChannel x (slotted (PollRead e n))
-  passes : (o : Aside) → Mine x o → OfChannel x (aside o)
-
--- no call is left out
-pub each-call : (x : ℕ) (o : Op) → Common x o ⊎ OfChannel x o
-each-call x interrupt = inl tt
-each-call x (slotted (SetEnabled dir e onn)) = inl tt
-each-call x (slotted (PollRead e n)) = elim (ℕ-discrete (key Out e) (key Out x)) [
-  | yes p ↦ inr (polls e n p)
-  | no p ↦ inl p
-]
-each-call x (slotted (BeginWrite e bytes)) = inl tt
-each-call x (slotted (PollWrite e bytes)) = inl tt
-each-call x (slotted (PollDataOut n)) = inl tt
-each-call x (slotted (BeginDataIn bytes first last)) = inl tt
-each-call x (other o) = inl tt
-each-call x (aside (Open e)) = elim (ℕ-discrete (key Out e) (key Out x)) [
-  | yes p ↦ inr (passes (Open e) p)
-  | no p ↦ inl p
-]
-each-call x (aside (Close e)) = elim (ℕ-discrete (key Out e) (key Out x)) [
-  | yes p ↦ inr (passes (Close e) p)
-  | no p ↦ inl p
-]
-each-call x (aside (Queue e bytes)) = inl tt
-
 module _ {c : Channel} {st : ℕ} {i : Bool} where
   -- after EP0's start no allocation and no second start
   pick-stage : {p : Script i Answer} (n : ℕ) → n ≡ 2 → Pair c st (SameAnswer (c .number)) (test (eqb n 1) p (ret (Refused 4))) (test (eqb n 1) p (ret (Refused 4)))
@@ -201,3 +173,31 @@ module _ (c : Channel) (st : ℕ) where
   p-call (slotted o) n = p-slotted o n
   p-call (other o) n = p-other o
   p-call (aside o) n = p-aside c st o n
+
+-- the three on the channel itself
+pub data OfChannel (x : ℕ) : Op → Type 0 where
+  polls : (e n : ℕ) → key Out e ≡ key Out x → OfChannel x (slotted (PollRead e n))
+  passes : (o : Aside) → Mine x o → OfChannel x (aside o)
+
+-- no call is left out
+pub each-call : (x : ℕ) (o : Op) → Common x o ⊎ OfChannel x o
+each-call x interrupt = inl tt
+each-call x (slotted (SetEnabled dir e onn)) = inl tt
+each-call x (slotted (PollRead e n)) = elim (ℕ-discrete (key Out e) (key Out x)) [
+  | yes p ↦ inr (polls e n p)
+  | no p ↦ inl p
+]
+each-call x (slotted (BeginWrite e bytes)) = inl tt
+each-call x (slotted (PollWrite e bytes)) = inl tt
+each-call x (slotted (PollDataOut n)) = inl tt
+each-call x (slotted (BeginDataIn bytes first last)) = inl tt
+each-call x (other o) = inl tt
+each-call x (aside (Open e)) = elim (ℕ-discrete (key Out e) (key Out x)) [
+  | yes p ↦ inr (passes (Open e) p)
+  | no p ↦ inl p
+]
+each-call x (aside (Close e)) = elim (ℕ-discrete (key Out e) (key Out x)) [
+  | yes p ↦ inr (passes (Close e) p)
+  | no p ↦ inl p
+]
+each-call x (aside (Queue e bytes)) = inl tt
