@@ -9,7 +9,7 @@ use Rattle.regs.specs.declared.Reg.the-variants.{IntFg, IntSt, MisSt, RxLen, Fr
 use Rattle.script.specs.Tree.{Out, ends, asks}
 use Rattle.script.specs.Script.{Script, run}
 use Rattle.script.specs.IsoOut.{arriving}
-use Rattle.script.specs.Alike.{quiet}
+use Rattle.script.specs.Alike.{Phase, quiet, Fits}
 use Rattle.ops.specs.Rings.{St}
 use Rattle.ops.specs.Conc.{conc}
 use Rattle.apart.specs.But.{Channel, Like, Touched}
@@ -52,14 +52,14 @@ pub data Own (x : ℕ) : Access → Type 0 where
 module _ (c : Channel) (st : ℕ) where
   -- two outcomes: both end, or hand out the same access, in states that are the same but for x's data, and go on so whatever the same is read,
   -- whatever becomes of the states so long as they stay so; or one of them hands out an access of x's own and goes on so, the other staying,
-  -- whatever is read then and whatever becomes of x's data
-  pub data Apart {A B : Type 0} (Q : A → B → Type 0) : Out St A → Out St B → Type 0 where
-    end : {a : A} {b : B} {s t : St} → Q a b → Like c quiet s t → Apart Q (ends a s) (ends b t)
-    both : {q : Access} {s t : St} {k : ℕ → St → Out St A} {k′ : ℕ → St → Out St B} → Like c quiet s t
-        → ((v v′ : ℕ) (s t : St) → Brings (c .number) st q v v′ → Like c quiet s t → Apart Q (k v s) (k′ v′ t)) → Apart Q (asks q s k) (asks q t k′)
-    left : {q : Access} {s : St} {k : ℕ → St → Out St A} {u : Out St B} → Own (c .number) q → ((v : ℕ) (s′ : St) → Touched c quiet s s′ → Apart Q (k v s′) u) → Apart Q (asks q s k) u
-    right : {q : Access} {t : St} {k : ℕ → St → Out St B} {o : Out St A} → Own (c .number) q → ((v : ℕ) (t′ : St) → Touched c quiet t t′ → Apart Q o (k v t′)) → Apart Q o (asks q t k)
+  -- whatever is read then and whatever becomes of x's data. An access may stand in a row of accesses (`Phase`), but in no interrupt's (`Fits`)
+  pub data Apart (i : Bool) {A B : Type 0} (Q : A → B → Type 0) : Out St A → Out St B → Type 0 where
+    end : {a : A} {b : B} {s t : St} → Q a b → Like c quiet s t → Apart i Q (ends a s) (ends b t)
+    both : {q : Access} {s t : St} {k : ℕ → St → Out St A} {k′ : ℕ → St → Out St B} (φ : Phase) → Fits i φ → Like c φ s t
+        → ((v v′ : ℕ) (s t : St) → Brings (c .number) st q v v′ → Like c φ s t → Apart i Q (k v s) (k′ v′ t)) → Apart i Q (asks q s k) (asks q t k′)
+    left : {q : Access} {s : St} {k : ℕ → St → Out St A} {u : Out St B} → Own (c .number) q → ((v : ℕ) (s′ : St) → Touched c quiet s s′ → Apart i Q (k v s′) u) → Apart i Q (asks q s k) u
+    right : {q : Access} {t : St} {k : ℕ → St → Out St B} {o : Out St A} → Own (c .number) q → ((v : ℕ) (t′ : St) → Touched c quiet t t′ → Apart i Q o (k v t′)) → Apart i Q o (asks q t k)
 
   -- two scripts that run so from all such states
   pub record Pair {i : Bool} {A B : Type 0} (Q : A → B → Type 0) (p : Script i A) (p′ : Script i B) : Type 0 where
-    pub on : (s t : St) → Like c quiet s t → Apart Q (run conc p s) (run conc p′ t)
+    pub on : (s t : St) → Like c quiet s t → Apart i Q (run conc p s) (run conc p′ t)

@@ -1,49 +1,44 @@
 -- The calls that pass during an interrupt: of other endpoints the same in both runs; the channel's own change nothing but its data
-use mathlib.Core.Bool.{Bool, true, false, not, cond, true≢false}
+use mathlib.Core.Bool.{Bool, true, false, cond}
 use mathlib.Core.List.{List}
 use mathlib.Core.Logic.{_≢_}
 use mathlib.Core.Path.{_≡_, refl, ap, subst, sym, _∙_}
 use Prim.Native.Nat.{ℕ, _+_, _*_, _%_, _≤_, _<_}
 use native.Mathlib.Omega.{arith}
-use lib.Dec.{eqb, ltb}
-use lib.ListN.{length, getD, set, take, drop}
+use lib.ListN.{length, getD, set}
 use Rattle.regs.specs.declared.Dir.{Dir}
 use Rattle.regs.specs.declared.Dir.the-variants.{Out, In}
-use Rattle.regs.specs.Enables as enables
 use Rattle.state.specs.declared.EpState.{EpState}
-use Rattle.state.specs.declared.Globals.{Globals}
-use Rattle.state.specs.declared.Allocator.{Allocator}
-use Rattle.state.specs.Driver.{Driver, key, epOn, withOn, lenOn, withLenOn, stampOn, stampKey}
-use Rattle.state.specs.Laws.{Sized, key-apart, key-same, epOn-same, epOn-other}
+use Rattle.state.specs.Driver.{Driver, key, noEp, withEps, epOn, withOn, lenOn, withLenOn, stampOn, stampKey}
+use Rattle.state.specs.Laws.{key-apart, key-same, epOn-same, epOn-other}
 use Rattle.marks.specs.Only.{Same, Only, only-refl}
 use Rattle.marks.specs.Copies.{copied, bytesAt}
-use Rattle.ring.specs.Slot.{slotOf, slotAddr, countOf, hasWaiting, joinedOf}
+use Rattle.ring.specs.Slot.{slotOf, slotAddr, hasWaiting, joinedOf}
 use Rattle.ring.specs.Out.{openedOf, closedOf}
-use Rattle.ring.specs.Waiting.{SamePlace, Ring, window}
+use Rattle.ring.specs.Waiting.{SamePlace, Ring}
 use Rattle.ring.specs.Slots.{slot-in, slot-from, slot-upto}
 use Rattle.ring.specs.Window.{window-is, window-same}
-use Rattle.script.specs.Cells.{Cell, Plain, globals-cell, allocator-cell, ep-cell}
-use Rattle.script.specs.Tree as tree
-use Rattle.script.specs.Script.{Script, run, ret, bind, test, get, is, look, fetch, act, Test, Look, Fetch, Act, waiting, room, opened, oldest, next-stamp, open-oldest, close-oldest, enqueue}
+use Rattle.script.specs.Cells.{Plain, globals-cell, allocator-cell, ep-cell}
+use Rattle.script.specs.Script.{run, Act, waiting, room, opened, oldest, next-stamp, open-oldest, close-oldest, enqueue}
 use Rattle.script.specs.Statics.{isOn}
-use Rattle.script.specs.Answers.{Answer, Refused, Shown, ok}
 use Rattle.script.specs.Calls.{Aside, Open, Close, Queue, asideCode}
-use Rattle.script.specs.Alike.{Phase, quiet}
+use Rattle.script.specs.Alike.{quiet}
 use Rattle.ops.specs.Rings.{St, waitingOn, roomOn, roomIn, openedOn, nextStamp, oldestAt, oldestOn, openOn, closeOn, queuedOn, enqueueOn, nextLen}
 use Rattle.ops.specs.Conc.{conc, isOf, lookOf, fetchOf, actOn}
 use Rattle.book.specs.Rest.{endOf, lensOf, slotStamps}
 use Rattle.book.specs.Lens.{stamps-at, lens-at, lens-length, lens-set, lens-mod, ep-len}
-use Rattle.book.specs.Frame.{Changed, changed-on, changed-len, changed-trans, same-place}
+use Rattle.book.specs.Frame.{changed-on, changed-len, same-place}
 use Rattle.book.specs.Outs.{Inner}
 use Rattle.apart.specs.But.{But, Beside, Lawful, Channel, Like, Touched}
 use Rattle.apart.specs.Apart.{Pair}
-use Rattle.apart.specs.Likes.{own-changed, but-refl, touched-refl, touched-trans}
-use Rattle.apart.specs.Pairs.{Eq, Any, p-ret, p-bind, p-same, p-then, p-test, p-get, p-is, p-look, p-fetch, p-act}
-use Rattle.apart.specs.Buts.{but-on, but-cond, but-changed, changed-seat, like-made, lawful-act, others-same}
-use Rattle.apart.specs.Values.{p-globals, p-plain}
+use Rattle.apart.specs.Likes.{inner-stays, own-changed, but-refl, touched-refl, touched-trans}
+use Rattle.apart.specs.Pairs.{Eq, p-ret, p-same, p-then, p-test, p-get, p-is, p-look, p-fetch, p-act}
+use Rattle.apart.specs.Buts.{but-on, but-cond, but-changed, like-made, lawful-act, others-same}
+use Rattle.apart.specs.Values.{in-other, p-globals, p-plain, p-plain-in}
 use Rattle.apart.specs.Answers.{SameAnswer, same, p-staged, p-named}
-use Rattle.apart.specs.Bytes.{At, copied-like, only-like}
-use Rattle.apart.specs.InRings.{in-other, len-mod, next-same, on-seat, cond-seat, cond-stage}
+use Rattle.apart.specs.Bytes.{copied-like, only-like}
+use Rattle.apart.specs.Ending.{Finished, Brief, b-ret, b-bind, b-test, b-get, b-is, b-look, b-fetch, b-act}
+use Rattle.apart.specs.InRings.{len-mod, next-same, on-seat, cond-seat}
 
 -- ---- of another OUT endpoint
 
@@ -82,16 +77,16 @@ module _ (c : Channel) (e : ℕ) (n : key Out e ≢ key Out (c .number)) (s t : 
   opens : Like c quiet (actOn (open-oldest e) s) (actOn (open-oldest e) t)
   unfolding openOn withOn
   opens = like-made l
-      (lawful-act c (open-oldest e) refl (l .left) (cond-stage _ (hasWaiting (epOn (s .0) Out e)) _ _ refl refl))
-      (lawful-act c (open-oldest e) refl (l .right) (cond-stage _ (hasWaiting (epOn (t .0) Out e)) _ _ refl refl))
+      (lawful-act c (open-oldest e) refl (l .left))
+      (lawful-act c (open-oldest e) refl (l .right))
       (but-cond _ _ (ap hasWaiting h) (but-on (l .but) (l .left .rest .sized) (l .right .rest .sized) Out e _ _ (λ _. ap openedOf h) (λ p. absurd (n p))) (l .but))
       (cond-seat (c .number) (epOn (s .0) Out (c .number)) (hasWaiting (epOn (s .0) Out e)) _ _ (on-seat (c .number) (s .0) Out e _ n) (same-place (epOn (s .0) Out (c .number)))) (l .bytes)
 
   closes : Like c quiet (actOn (close-oldest e) s) (actOn (close-oldest e) t)
   unfolding closeOn withOn
   closes = like-made l
-      (lawful-act c (close-oldest e) refl (l .left) (cond-stage _ (isOn (epOn (s .0) Out e .«open»)) _ _ refl refl))
-      (lawful-act c (close-oldest e) refl (l .right) (cond-stage _ (isOn (epOn (t .0) Out e .«open»)) _ _ refl refl))
+      (lawful-act c (close-oldest e) refl (l .left))
+      (lawful-act c (close-oldest e) refl (l .right))
       (but-cond _ _ (ap (λ (r : EpState). isOn (r .«open»)) h) (but-on (l .but) (l .left .rest .sized) (l .right .rest .sized) Out e _ _ (λ _. ap closedOf h) (λ p. absurd (n p))) (l .but))
       (cond-seat (c .number) (epOn (s .0) Out (c .number)) (isOn (epOn (s .0) Out e .«open»)) _ _ (on-seat (c .number) (s .0) Out e _ n) (same-place (epOn (s .0) Out (c .number)))) (l .bytes)
 
@@ -163,8 +158,6 @@ module _ (c : Channel) (e : ℕ) (bytes : List ℕ) (s t : St) (l : Like c quiet
     but : But (c .number) (a .0) (b .0)
     seat : SamePlace (epOn (s .0) Out (c .number)) (epOn (a .0) Out (c .number))
     lent : Only (epOn (s .0) Out (c .number) .base) (endOf (epOn (s .0) Out (c .number))) (a .1) (b .1)
-    stage : a .0 .globals .stage ≡ s .0 .globals .stage
-    stage′ : b .0 .globals .stage ≡ t .0 .globals .stage
 
   queued-by : (u : Bool) → Kept (cond u (queuedOn (s .0) e (length bytes), copied (s .1) (slotAddr r (r .head)) bytes) s)
       (cond u (queuedOn (t .0) e (length bytes), copied (t .1) (slotAddr (epOn (t .0) In e) (epOn (t .0) In e .head)) bytes) t)
@@ -174,17 +167,15 @@ module _ (c : Channel) (e : ℕ) (bytes : List ℕ) (s t : St) (l : Like c quiet
     seat = rw (epOn-other (withLenOn (s .0) In e (slotOf r (r .head)) (length bytes)) In e (joinedOf r) Out (c .number) (key-apart (c .number) e), ep-len (s .0) In e (slotOf r (r .head)) (length bytes) Out (c .number)) (same-place (epOn (s .0) Out (c .number)));
     lent = subst (λ (q : EpState). Only (epOn (s .0) Out (c .number) .base) (endOf (epOn (s .0) Out (c .number))) (copied (s .1) (slotAddr r (r .head)) bytes) (copied (t .1) (slotAddr q (q .head)) bytes)) same-r
         (only-like (l .bytes) (λ k a. copied-like (s .1) (t .1) (slotAddr r (r .head)) bytes k a));
-    stage = refl;
-    stage′ = refl;
   }
-  queued-by false = record { but = l .but; seat = same-place (epOn (s .0) Out (c .number)); lent = l .bytes; stage = refl; stage′ = refl }
+  queued-by false = record { but = l .but; seat = same-place (epOn (s .0) Out (c .number)); lent = l .bytes }
 
   enqueued : Kept (actOn (enqueue e bytes) s) (actOn (enqueue e bytes) t)
   unfolding enqueueOn
   enqueued = subst (λ u. Kept (enqueueOn e bytes s) (cond u (queuedOn (t .0) e (length bytes), copied (t .1) (slotAddr (epOn (t .0) In e) (epOn (t .0) In e .head)) bytes) t)) (room-in (length bytes)) (queued-by (roomOn (s .0) e (length bytes)))
 
   pub enqueues : Like c quiet (actOn (enqueue e bytes) s) (actOn (enqueue e bytes) t)
-  enqueues = let k = enqueued in like-made l (lawful-act c (enqueue e bytes) refl (l .left) (k .stage)) (lawful-act c (enqueue e bytes) refl (l .right) (k .stage′)) (k .but) (k .seat) (k .lent)
+  enqueues = let k = enqueued in like-made l (lawful-act c (enqueue e bytes) refl (l .left)) (lawful-act c (enqueue e bytes) refl (l .right)) (k .but) (k .seat) (k .lent)
 
 -- ---- the calls
 
@@ -196,7 +187,7 @@ Others x (Queue e bytes) = Unit {0}
 
 module _ (c : Channel) (st : ℕ) where
   pub p-aside : (o : Aside) → Others (c .number) o → Pair c st (SameAnswer (c .number)) (asideCode o) (asideCode o)
-  p-aside (Open e) n = p-staged 2 (p-named Out e (p-plain c Out e (λ p _. p-test _ (λ _. p-ret (same _))
+  p-aside (Open e) n = p-staged 2 (p-named Out e (p-plain c Out e n (λ p _. p-test _ (λ _. p-ret (same _))
       (λ _. p-same (p-is (waiting Out e) (waiting-out c e n)) (λ b. p-test b
       (λ _. p-then (p-act (open-oldest e) (opens c e n)) (p-same (p-fetch (oldest e) (oldest-out c e n)) (λ w. p-same (p-look (next-stamp e) (stamp-out c e n)) (λ k. p-ret (same _)))))
       (λ _. p-ret (same _)))))))
@@ -205,7 +196,7 @@ module _ (c : Channel) (st : ℕ) where
       (λ _. p-ret (same _)))))
   p-aside (Queue e bytes) n = p-staged 2 (p-named In e (p-globals c (λ g _. p-test _
       (λ _. p-same (p-get allocator-cell Eq (λ s t l. l .but .allocator)) (λ a. p-test _ (λ _. p-ret (same _))
-      (λ _. p-plain c In e (λ p _. p-test _ (λ _. p-ret (same _))
+      (λ _. p-plain-in c e (λ p _. p-test _ (λ _. p-ret (same _))
       (λ _. p-same (p-is (room e (length bytes)) (λ s t l. room-in c e bytes s t l (length bytes))) (λ b. p-test b
       (λ _. p-then (p-act (enqueue e bytes) (enqueues c e bytes)) (p-ret (same _)))
       (λ _. p-ret (same _))))))))
@@ -218,7 +209,7 @@ module _ (c : Channel) (s : St) (l : Lawful (c .iso) quiet s) where
   x = c .number
 
   own-on : (r : EpState) → Inner (epOn (s .0) Out x) r → Beside x (s .0) (withOn (s .0) Out x r)
-  own-on r k = own-changed (changed-on (l .rest .sized) Out x r (k .place) (ap (λ (q : Plain). q .iso) (k .plain))) (rw (epOn-same (s .0) Out x r (l .rest .sized)) k)
+  own-on r k = own-changed (changed-on (l .rest .sized) Out x r (k .place) (ap (λ (q : Plain). q .iso) (k .plain))) (inner-stays (rw (epOn-same (s .0) Out x r (l .rest .sized)) k))
 
   own-cond : (u : Bool) (r : EpState) → Inner (epOn (s .0) Out x) r → Beside x (s .0) (cond u (withOn (s .0) Out x r) (s .0))
   own-cond true r k = own-on r k
@@ -228,7 +219,7 @@ module _ (c : Channel) (s : St) (l : Lawful (c .iso) quiet s) where
   unfolding openOn withOn openedOf
   own-opens = record {
     left = l;
-    right = lawful-act c (open-oldest x) refl l (cond-stage _ (hasWaiting (epOn (s .0) Out x)) _ _ refl refl);
+    right = lawful-act c (open-oldest x) refl l;
     but = own-cond (hasWaiting (epOn (s .0) Out x)) _ (record { place = record { base = refl; stride = refl; slots = refl }; plain = refl });
     bytes = only-refl _ _ (s .1);
   }
@@ -237,48 +228,12 @@ module _ (c : Channel) (s : St) (l : Lawful (c .iso) quiet s) where
   unfolding closeOn withOn closedOf Rattle.ring.specs.Slot.passedOf
   own-closes = record {
     left = l;
-    right = lawful-act c (close-oldest x) refl l (cond-stage _ (isOn (epOn (s .0) Out x .«open»)) _ _ refl refl);
+    right = lawful-act c (close-oldest x) refl l;
     but = own-cond (isOn (epOn (s .0) Out x .«open»)) _ (record { place = record { base = refl; stride = refl; slots = refl }; plain = refl });
     bytes = only-refl _ _ (s .1);
   }
 
 -- ---- all of them end at once
-
--- in a state of which K holds
-pub data Finished {A : Type 0} (K : St → Type 0) : tree.Out St A → Type 0 where
-  fin : (a : A) {s : St} → K s → Finished K (tree.ends a s)
-
-record Brief {A : Type 0} (K : St → Type 0) (p : Script false A) : Type 0 where
-  on : (s : St) → K s → Finished K (run conc p s)
-
-fin-bind : {A B : Type 0} {K : St → Type 0} {o : tree.Out St A} {f : A → St → tree.Out St B} → Finished K o → ((a : A) (s : St) → K s → Finished K (f a s)) → Finished K (tree.bindOut o f)
-fin-bind (fin a k) h = h a _ k
-
-module _ {K : St → Type 0} where
-  b-ret : {A : Type 0} (a : A) → Brief K (ret a)
-  b-ret a = record { on = λ s k. fin a k }
-
-  b-bind : {A B : Type 0} {p : Script false A} {f : A → Script false B} → Brief K p → ((a : A) → Brief K (f a)) → Brief K (bind p f)
-  b-bind h g = record { on = λ s k. fin-bind (h .on s k) (λ a t q. g a .on t q) }
-
-  b-test : {A : Type 0} {p q : Script false A} (b : Bool) → Brief K p → Brief K q → Brief K (test b p q)
-  b-test true h g = record { on = λ s k. h .on s k }
-  b-test false h g = record { on = λ s k. g .on s k }
-
-  b-get : (c : Cell) → Brief K (get c)
-  b-get c = record { on = λ s k. fin _ k }
-
-  b-is : (q : Test) → Brief K (is q)
-  b-is q = record { on = λ s k. fin _ k }
-
-  b-look : (q : Look) → Brief K (look q)
-  b-look q = record { on = λ s k. fin _ k }
-
-  b-fetch : (q : Fetch) → Brief K (fetch q)
-  b-fetch q = record { on = λ s k. fin _ k }
-
-  b-act : (q : Act) → ((s : St) → K s → K (actOn q s)) → Brief K (act q)
-  b-act q h = record { on = λ s k. fin tt (h s k) }
 
 -- what an aside may do
 abbrev pub actOf : Aside → Act
@@ -299,13 +254,22 @@ finishes o K h s k = brief K o h .on s k
 
 -- the channel's open or close
 abbrev pub Mine : ℕ → Aside → Type 0
-Mine x (Open e) = e ≡ x
-Mine x (Close e) = e ≡ x
+Mine x (Open e) = key Out e ≡ key Out x
+Mine x (Close e) = key Out e ≡ key Out x
 Mine x (Queue e bytes) = ⊥
 
+-- by its number, in whatever way it is brought (row 5 comes after)
+open-key : (e x : ℕ) (d : Driver) → key Out e ≡ key Out x → openOn d e ≡ openOn d x
+unfolding openOn epOn withOn
+open-key e x d m = ap (λ k. cond (hasWaiting (getD (d .eps) k noEp)) (withEps d (set (d .eps) k (openedOf (getD (d .eps) k noEp)))) d) m
+
+close-key : (e x : ℕ) (d : Driver) → key Out e ≡ key Out x → closeOn d e ≡ closeOn d x
+unfolding closeOn epOn withOn
+close-key e x d m = ap (λ k. cond (isOn (getD (d .eps) k noEp .«open»)) (withEps d (set (d .eps) k (closedOf (getD (d .eps) k noEp)))) d) m
+
 own-act : (c : Channel) (o : Aside) → Mine (c .number) o → (s t : St) → Touched c quiet s t → Touched c quiet s (actOn (actOf o) t)
-own-act c (Open e) m s t l = subst (λ k. Touched c quiet s (actOn (open-oldest k) t)) (sym m) (touched-trans l (own-opens c t (l .right)))
-own-act c (Close e) m s t l = subst (λ k. Touched c quiet s (actOn (close-oldest k) t)) (sym m) (touched-trans l (own-closes c t (l .right)))
+own-act c (Open e) m s t l = subst (λ d. Touched c quiet s (d, t .1)) (sym (open-key e (c .number) (t .0) m)) (touched-trans l (own-opens c t (l .right)))
+own-act c (Close e) m s t l = subst (λ d. Touched c quiet s (d, t .1)) (sym (close-key e (c .number) (t .0) m)) (touched-trans l (own-closes c t (l .right)))
 own-act c (Queue e bytes) m s t l = absurd m
 
 -- it leaves a state that is the same but for the channel's data

@@ -3,21 +3,25 @@ use mathlib.Core.Bool.{true, false, cond}
 use mathlib.Core.List.{List, [], _∷_}
 use mathlib.Core.Logic.{_≢_}
 use mathlib.Core.Path.{_≡_}
-use Prim.Native.Nat.{ℕ, _<_}
+use Prim.Native.Nat.{ℕ, _≤_, _<_}
 use lib.Dec.{eqb}
 use lib.ListN.{length}
 use Rattle.regs.specs.declared.Dir.{Dir}
 use Rattle.regs.specs.declared.Dir.the-variants.{Out, In}
+use Rattle.state.specs.declared.EpState.{EpState}
 use Rattle.state.specs.Wakes.{Wakes, wakeCode, listed}
 use Rattle.state.specs.WakesLaws.{Room}
 use Rattle.state.specs.Driver.{Driver, key, epOn, requestOn}
 use Rattle.marks.specs.Only.{Only}
 use Rattle.script.specs.Alike.{Phase}
 use Rattle.script.specs.Sorts.{Sorts}
+use Rattle.script.specs.Statics.{withReady}
+use Rattle.script.specs.Control.{DATA-OUT}
+use Rattle.ring.specs.Waiting.{SamePlace}
+use Rattle.ops.specs.Records.{plainOf}
 use Rattle.ops.specs.Rings.{St}
 use Rattle.book.specs.Pages.{Pages}
 use Rattle.book.specs.Rest.{endOf, lensOf, slotStamps, Rest}
-use Rattle.book.specs.Outs.{Inner}
 use Rattle.book.specs.Sorts.{Has}
 
 -- a list without one code
@@ -40,8 +44,13 @@ pub record OtherWakes (x : ℕ) (w w′ : Wakes) : Type 0 where
   pub room′ : Room w′
   pub same : SameCodes x (listed w) (listed w′)
 
+-- what stays of OUT x's record: where its slots lie and what scripts read (`Plain`), but for `ready`, which a poll of its read makes 0
+pub record Stays (r r′ : EpState) : Type 0 where
+  pub place : SamePlace r r′
+  pub plain : withReady 0 (plainOf r′) ≡ withReady 0 (plainOf r)
+
 -- two drivers are the same but for OUT x's queue, stamps, overruns, armed slot and open packet, its read's request, and the wake-ups, of which W
--- holds. Of its record stays what scripts read (`Plain`) and where its slots lie
+-- holds
 pub record ButBy (W : Wakes → Wakes → Type 0) (x : ℕ) (d d′ : Driver) : Type 0 where
   pub globals : d .globals ≡ d′ .globals
   pub allocator : d .allocator ≡ d′ .allocator
@@ -52,7 +61,7 @@ pub record ButBy (W : Wakes → Wakes → Type 0) (x : ℕ) (d d′ : Driver) : 
   pub eps : (dir : Dir) (e : ℕ) → key dir e ≢ key Out x → epOn d dir e ≡ epOn d′ dir e
   pub lens : (dir : Dir) (e : ℕ) → key dir e ≢ key Out x → lensOf d dir e ≡ lensOf d′ dir e
   pub stamps : (e : ℕ) → key Out e ≢ key Out x → slotStamps d e ≡ slotStamps d′ e
-  pub own : Inner (epOn d Out x) (epOn d′ Out x)
+  pub own : Stays (epOn d Out x) (epOn d′ Out x)
 
 -- of two runs: the others' wake-ups are the same
 abbrev pub But : ℕ → Driver → Driver → Type 0
@@ -62,12 +71,17 @@ But x d d′ = ButBy (OtherWakes x) x d d′
 abbrev pub Beside : ℕ → Driver → Driver → Type 0
 Beside x d d′ = ButBy (λ w w′. w ≡ w′) x d d′
 
+-- a data_out's length is at most EP0's maximum, as its begin asks (row 10); it holds after every list of calls (`Bounds`: `after-bounded`)
+abbrev pub Bounded : Driver → Type 0
+Bounded d = d .control .sort ≡ DATA-OUT → (d .globals .stage ≡ 2) × (d .control .length ≤ d .globals .«ep0_max»)
+
 -- a state of a run under demand 3's premise, after EP0's start, whose endpoints have these sorts
 pub record Lawful (iso : Sorts) (φ : Phase) (s : St) : Type 0 where
   pub pages : Pages
   pub rest : Rest φ (s .1) (s .0) pages
   pub has : Has iso (s .0)
   pub stage : s .0 .globals .stage ≡ 2
+  pub bounded : Bounded (s .0)
 
 -- the channel: an isochronous OUT endpoint, 1 to 15, and the sorts of all endpoints in this run; EP0 is not isochronous
 pub record Channel : Type 0 where
@@ -85,7 +99,8 @@ pub record Like (c : Channel) (φ : Phase) (s t : St) : Type 0 where
   pub but : But (c .number) (s .0) (t .0)
   pub bytes : Only (epOn (s .0) Out (c .number) .base) (endOf (epOn (s .0) Out (c .number))) (s .1) (t .1)
 
--- one state before and after what is done to its data alone, between two accesses or operations: stores in its slots, its opens and closes
+-- one state before and after what is done to its data alone, between two accesses or operations: stores in its slots, its opens and closes, polls of its
+-- read
 pub record Touched (c : Channel) (φ : Phase) (s t : St) : Type 0 where
   pub left : Lawful (c .iso) φ s
   pub right : Lawful (c .iso) φ t

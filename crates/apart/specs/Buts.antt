@@ -3,7 +3,7 @@ use mathlib.Core.Bool.{Bool, true, false, cond}
 use mathlib.Core.List.{List}
 use mathlib.Core.Logic.{_≢_, _⊎_, inl, inr, ⊎-elim}
 use mathlib.Core.Path.{_≡_, refl, ap, subst, sym, _∙_}
-use Prim.Native.Nat.{ℕ, _+_, _*_, _%_, _≤_, _<_}
+use Prim.Native.Nat.{ℕ, zero, suc, _+_, _*_, _%_, _≤_, _<_}
 use native.Mathlib.Omega.{arith}
 use native.Mathlib.Decide.{ℕ-discrete}
 use lib.ListN.{length, getD, set}
@@ -16,23 +16,27 @@ use Rattle.state.specs.Driver.{Driver, key, epOn, withOn, lenOn, stampOn, reque
 use Rattle.state.specs.Laws.{Sized, key-apart, epOn-same, epOn-other}
 use Rattle.marks.specs.Only.{Same, Only, only-apart}
 use Rattle.ring.specs.Waiting.{SamePlace}
-use Rattle.script.specs.Cells.{Cell, Val, Plain}
-use Rattle.script.specs.Script.{Act, Hand}
-use Rattle.script.specs.Alike.{Phase, quiet}
+use Rattle.state.specs.declared.Control.{Control}
+use Rattle.script.specs.Cells.{Cell, Val, Plain, control-cell}
+use Rattle.script.specs.Control.{DATA-OUT}
+use Rattle.script.specs.Script.{Act, Hand, Row, lastOf}
+use Rattle.script.specs.Statics.{isOn}
+use Rattle.script.specs.Alike.{Phase, quiet, mid}
 use Rattle.script.specs.Sorts.{Sorts, Sorted, allocates}
 use Rattle.script.specs.Machine.{Buf}
 use Rattle.ops.specs.Records.{plainOf, merged}
-use Rattle.ops.specs.Rings.{St}
+use Rattle.ops.specs.Rings.{St, rowOn}
 use Rattle.ops.specs.Conc.{putOn, actOn, handOn}
 use Rattle.book.specs.Book.{mergedPlain}
 use Rattle.book.specs.Rest.{endOf, Apart, ep0Room, lensOf, slotStamps}
 use Rattle.book.specs.Lens.{key-ep, lens-on, stamps-on}
 use Rattle.book.specs.Frame.{Changed, same-place}
-use Rattle.book.specs.Outs.{Inner}
 use Rattle.book.specs.Agrees.{agree}
-use Rattle.book.specs.Sorts.{Has, sorted}
-use Rattle.apart.specs.But.{OtherWakes, But, Lawful, Channel, Like}
-use Rattle.apart.specs.Likes.{inner-refl}
+use Rattle.book.specs.Rows.{rows-first, rows-next, rows-finish}
+use Rattle.book.specs.Sorts.{Steady, Has, sorted, row-steady}
+use Rattle.apart.specs.But.{OtherWakes, Stays, But, Lawful, Channel, Like}
+use Rattle.apart.specs.Settled.{isControl, put-settled, no-start, act-settled, hand-settled, row-settled, settled-bounded}
+use Rattle.apart.specs.Likes.{stays-refl}
 
 -- ---- drivers
 
@@ -69,7 +73,7 @@ module _ {x : ℕ} {d d′ : Driver} (h : But x d d′) where
 
   -- one endpoint's record: the same one, or x's with what stays of it
   module _ (z : Sized d) (z′ : Sized d′) (dir : Dir) (e : ℕ) (r r′ : EpState) where
-    pub but-on : (key dir e ≢ key Out x → r ≡ r′) → (key dir e ≡ key Out x → Inner r r′) → But x (withOn d dir e r) (withOn d′ dir e r′)
+    pub but-on : (key dir e ≢ key Out x → r ≡ r′) → (key dir e ≡ key Out x → Stays r r′) → But x (withOn d dir e r) (withOn d′ dir e r′)
     unfolding withOn requestOn
     but-on f g = record {
       globals = h .globals;
@@ -116,6 +120,13 @@ module _ {x : ℕ} {d d′ : Driver} (h : But x d d′) where
     own = rw (u .eps Out x (λ q. n (sym q)), v .eps Out x (λ q. n (sym q))) (h .own);
   }
 
+-- what stays of any record, the channel's too
+pub stays-any : {x : ℕ} {d d′ : Driver} → But x d d′ → (dir : Dir) (e : ℕ) → Stays (epOn d dir e) (epOn d′ dir e)
+stays-any {x} {d} {d′} h dir e = elim (ℕ-discrete (key dir e) (key Out x)) [
+  | yes p ↦ rw (key-ep d dir Out e x p, key-ep d′ dir Out e x p) (h .own)
+  | no n ↦ subst (λ r. Stays (epOn d dir e) r) (h .eps dir e n) (stays-refl (epOn d dir e))
+]
+
 pub but-cond : {x : ℕ} {a a′ b b′ : Driver} (u u′ : Bool) → u ≡ u′ → But x a a′ → But x b b′ → But x (cond u a b) (cond u′ a′ b′)
 but-cond {x} {a} {a′} {b} {b′} u u′ e p q = subst (λ v. But x (cond u a b) (cond v a′ b′)) e (by u)
   where
@@ -151,11 +162,68 @@ module _ {c : Channel} where
 
 -- every operation leaves a lawful state
 module _ (c : Channel) where
-  pub lawful-put : (n : Cell) (v : Val n) {s : St} → Lawful (c .iso) quiet s → putOn n v s .0 .globals .stage ≡ s .0 .globals .stage → Lawful (c .iso) quiet (putOn n v s)
-  lawful-put n v {s} l g = record { pages = _; rest = agree .put n v (s .1) (s .0) (l .pages) (l .rest) .1; has = sorted (c .iso) (c .ep0) .put n v s (l .has); stage = g ∙ l .stage }
+  pub lawful-put : (n : Cell) (v : Val n) {s : St} → Lawful (c .iso) quiet s → isControl n ≡ false → Lawful (c .iso) quiet (putOn n v s)
+  lawful-put n v {s} l h = let k = put-settled n h v s in record {
+    pages = _;
+    rest = agree .put n v (s .1) (s .0) (l .pages) (l .rest) .1;
+    has = sorted (c .iso) (c .ep0) .put n v s (l .has);
+    stage = k .stage ∙ l .stage;
+    bounded = settled-bounded k (l .bounded);
+  }
 
-  pub lawful-act : (q : Act) → allocates q ≡ false → {s : St} → Lawful (c .iso) quiet s → actOn q s .0 .globals .stage ≡ s .0 .globals .stage → Lawful (c .iso) quiet (actOn q s)
-  lawful-act q a {s} l g = record { pages = _; rest = agree .act q (s .1) (s .0) (l .pages) (l .rest) .1; has = sorted (c .iso) (c .ep0) .act q a s (l .has); stage = g ∙ l .stage }
+  -- the control request: of a data_out with a length within EP0's maximum
+  pub lawful-control : (v : Control) {s : St} → (v .sort ≡ DATA-OUT → v .length ≤ s .0 .globals .«ep0_max») → Lawful (c .iso) quiet s → Lawful (c .iso) quiet (putOn control-cell v s)
+  lawful-control v {s} h l = record {
+    pages = _;
+    rest = agree .put control-cell v (s .1) (s .0) (l .pages) (l .rest) .1;
+    has = sorted (c .iso) (c .ep0) .put control-cell v s (l .has);
+    stage = l .stage;
+    bounded = λ z. (l .stage, h z);
+  }
 
-  pub lawful-hand : (q : Hand) {s : St} → Lawful (c .iso) quiet s → handOn q s .1 .0 .globals .stage ≡ s .0 .globals .stage → Lawful (c .iso) quiet (handOn q s .1)
-  lawful-hand q {s} l g = record { pages = _; rest = agree .hand q (s .1) (s .0) (l .pages) (l .rest) .0; has = sorted (c .iso) (c .ep0) .hand q s (l .has); stage = g ∙ l .stage }
+  pub lawful-act : (q : Act) → allocates q ≡ false → {s : St} → Lawful (c .iso) quiet s → Lawful (c .iso) quiet (actOn q s)
+  lawful-act q a {s} l = let k = act-settled q (no-start q a) s in record {
+    pages = _;
+    rest = agree .act q (s .1) (s .0) (l .pages) (l .rest) .1;
+    has = sorted (c .iso) (c .ep0) .act q a s (l .has);
+    stage = k .stage ∙ l .stage;
+    bounded = settled-bounded k (l .bounded);
+  }
+
+  pub lawful-hand : (q : Hand) {s : St} → Lawful (c .iso) quiet s → Lawful (c .iso) quiet (handOn q s .1)
+  lawful-hand q {s} l = let k = hand-settled q s in record {
+    pages = _;
+    rest = agree .hand q (s .1) (s .0) (l .pages) (l .rest) .0;
+    has = sorted (c .iso) (c .ep0) .hand q s (l .has);
+    stage = k .stage ∙ l .stage;
+    bounded = settled-bounded k (l .bounded);
+  }
+
+  -- a row: its first step, each other one, its end
+  has-by : {d d′ : Driver} → Steady d d′ → Has (c .iso) d → Has (c .iso) d′
+  has-by p k = record { flags = λ dir e. ap isOn (p .flags dir e) ∙ k .flags dir e; outs = rw (p .outs) (k .outs); every = rw (p .every) (k .every) }
+
+  module _ (g : Row) where
+    pub lawful-first : {s : St} → Lawful (c .iso) quiet s → Lawful (c .iso) (mid g (lastOf g)) (rowOn g (lastOf g) s .1)
+    lawful-first {s} l = let k = row-settled g (lastOf g) s in record {
+      pages = _;
+      rest = rows-first g (s .1) (s .0) (l .pages) (l .rest) .1;
+      has = has-by (row-steady g (lastOf g) s) (l .has);
+      stage = k .stage ∙ l .stage;
+      bounded = settled-bounded k (l .bounded);
+    }
+
+    pub lawful-next : (n : ℕ) {s : St} → Lawful (c .iso) (mid g (suc n)) s → Lawful (c .iso) (mid g n) (rowOn g n s .1)
+    lawful-next n {s} l = let k = row-settled g n s in record {
+      pages = _;
+      rest = rows-next g n (s .1) (s .0) (l .pages) (l .rest) .1;
+      has = has-by (row-steady g n s) (l .has);
+      stage = k .stage ∙ l .stage;
+      bounded = settled-bounded k (l .bounded);
+    }
+
+    lawful-over : {s : St} → Lawful (c .iso) (mid g zero) s → Lawful (c .iso) quiet s
+    lawful-over {s} l = record { pages = l .pages; rest = rows-finish g (s .1) (s .0) (l .pages) (l .rest); has = l .has; stage = l .stage; bounded = l .bounded }
+
+    pub row-over : (s t : St) → Like c (mid g zero) s t → Like c quiet s t
+    row-over s t l = record { left = lawful-over (l .left); right = lawful-over (l .right); but = l .but; bytes = l .bytes }

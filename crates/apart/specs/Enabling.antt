@@ -21,8 +21,8 @@ use Rattle.apart.specs.But.{Channel, Like}
 use Rattle.apart.specs.Apart.{Pair}
 use Rattle.apart.specs.Pairs.{Any, p-then, p-write, p-act, p-hand}
 use Rattle.apart.specs.Buts.{but-globals, but-on, like-made, lawful-act, lawful-hand}
-use Rattle.apart.specs.Values.{p-assign, p-modify-ep, p-wake, p-globals, p-plain}
-use Rattle.apart.specs.InRings.{in-other, on-seat}
+use Rattle.apart.specs.Values.{p-assign, p-modify-ep, p-wake, in-other, p-globals, p-plain-in}
+use Rattle.apart.specs.InRings.{on-seat}
 use Rattle.apart.specs.Kept.{p-put-paced}
 
 module _ (c : Channel) (e : ℕ) where
@@ -30,20 +30,20 @@ module _ (c : Channel) (e : ℕ) where
   unfolding emptiedOn isoOut withOn
   resets s t l =
       let n = in-other (c .number) e in
-      like-made l (lawful-act c (reset-ring In e) refl (l .left) refl) (lawful-act c (reset-ring In e) refl (l .right) refl)
+      like-made l (lawful-act c (reset-ring In e) refl (l .left)) (lawful-act c (reset-ring In e) refl (l .right))
       (but-on (l .but) (l .left .rest .sized) (l .right .rest .sized) In e _ _ (λ _. ap emptied (l .but .eps In e n)) (λ p. absurd (n p)))
       (on-seat (c .number) (s .0) In e _ n) (l .bytes)
 
   configures : (onn : Bool) (s t : St) → Like c quiet s t → Like c quiet (actOn (set-enabled In e onn) s) (actOn (set-enabled In e onn) t)
   unfolding enabledOn isoOut configured epOn
-  configures onn s t l = like-made l (lawful-act c (set-enabled In e onn) refl (l .left) refl) (lawful-act c (set-enabled In e onn) refl (l .right) refl)
+  configures onn s t l = like-made l (lawful-act c (set-enabled In e onn) refl (l .left)) (lawful-act c (set-enabled In e onn) refl (l .right))
       (but-globals (l .but) _ _ (ap (λ (g : Globals). withEpConfig (enables.withOn (g .«ep_config») In e onn) g) (l .but .globals))) (same-place (epOn (s .0) Out (c .number))) (l .bytes)
 
   places : (s t : St) → Like c quiet s t → (handOn (place In e) s .0 ≡ handOn (place In e) t .0) × Like c quiet (handOn (place In e) s .1) (handOn (place In e) t .1)
   unfolding placeOn
   places s t l = (
     ap (λ (r : EpState). r .base) (l .but .eps In e (in-other (c .number) e)),
-    like-made l (lawful-hand c (place In e) (l .left) refl) (lawful-hand c (place In e) (l .right) refl) (l .but) (same-place (epOn (s .0) Out (c .number))) (l .bytes),
+    like-made l (lawful-hand c (place In e) (l .left)) (lawful-hand c (place In e) (l .right)) (l .but) (same-place (epOn (s .0) Out (c .number))) (l .bytes),
   )
 
   module _ {st : ℕ} {i : Bool} where
@@ -54,8 +54,8 @@ module _ (c : Channel) (e : ℕ) where
     p-kept iso onn = p-then (p-ep-type _) (p-then (p-act (set-enabled In e onn) (configures onn)) (p-globals c (λ g _. p-write EpConfig 0 _)))
 
     p-enabled-in : (iso onn : Bool) → Pair c st {i = i} Any (bus.setEnabledIn e iso onn) (bus.setEnabledIn e iso onn)
-    p-enabled-in iso onn = p-then (p-act (reset-ring In e) resets) (p-then (p-modify-ep c In e _) (p-then (p-put-paced c e _)
+    p-enabled-in iso onn = p-then (p-act (reset-ring In e) resets) (p-then (p-modify-ep c In e _ (λ _. refl)) (p-then (p-put-paced c e _)
         (p-then (p-hand (place In e) places) (p-then (p-write EpTLen e 0) (p-then (p-write EpTxCtrl e _) (p-kept iso onn))))))
 
   pub p-set-enabled : {st : ℕ} (onn : Bool) → Pair c st Any (bus.setEnabled In e onn) (bus.setEnabled In e onn)
-  p-set-enabled onn = p-plain c In e (λ s _. p-then (p-enabled-in (isOn (s .iso)) onn) (p-wake c In e))
+  p-set-enabled onn = p-plain-in c e (λ s _. p-then (p-enabled-in (isOn (s .iso)) onn) (p-wake c In e))

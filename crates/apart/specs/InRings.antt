@@ -1,37 +1,34 @@
 -- IN rings: all their operations do the same in both runs
-use mathlib.Core.Bool.{Bool, true, false, not, cond}
+use mathlib.Core.Bool.{Bool, true, false, cond}
 use mathlib.Core.List.{List}
 use mathlib.Core.Logic.{_≢_}
-use mathlib.Core.Path.{_≡_, refl, ap, subst, sym, _∙_}
+use mathlib.Core.Path.{_≡_, refl, ap, sym, _∙_}
 use Prim.Native.Nat.{ℕ, _+_, _*_, _%_, _≤_, _<_}
 use native.Mathlib.Omega.{arith}
-use lib.Dec.{ltb}
 use lib.ListN.{length, getD}
 use Rattle.regs.specs.declared.Dir.{Dir}
 use Rattle.regs.specs.declared.Dir.the-variants.{Out, In}
 use Rattle.state.specs.declared.EpState.{EpState}
 use Rattle.state.specs.declared.Globals.{Globals}
 use Rattle.state.specs.Driver.{Driver, key, lenKey, epOn, withOn, lenOn}
-use Rattle.state.specs.Laws.{key-apart, epOn-other}
+use Rattle.state.specs.Laws.{epOn-other}
 use Rattle.alloc.specs.Buffer.{goodSize, each-size}
 use Rattle.marks.specs.Only.{Same}
 use Rattle.ring.specs.Slot.{slotOf, slotAddr, hasWaiting}
 use Rattle.ring.specs.In.{completedOf, loadedOf, unloadedOf}
 use Rattle.ring.specs.Waiting.{SamePlace}
 use Rattle.script.specs.Script.{waiting, next-len, setup-word, complete, send}
-use Rattle.script.specs.Alike.{Phase, quiet}
+use Rattle.script.specs.Alike.{quiet}
 use Rattle.ops.specs.Rings.{St, waitingOn, nextLen, wordAt, completeOn, sendOn, sendAddr}
 use Rattle.ops.specs.Conc.{isOf, lookOf, actOn, handOn}
 use Rattle.book.specs.Rest.{lensOf}
 use Rattle.book.specs.Lens.{lens-at}
 use Rattle.book.specs.Frame.{same-place}
-use Rattle.apart.specs.But.{But, Lawful, Channel, Like}
+use Rattle.apart.specs.But.{Channel, Like}
+use Rattle.apart.specs.Values.{in-other}
 use Rattle.apart.specs.Buts.{but-on, but-cond, like-made, lawful-act, lawful-hand, ep0-same}
 
 -- ---- of any endpoint but x
-
-pub in-other : (x e : ℕ) → key In e ≢ key Out x
-in-other x e z = key-apart x e (sym z)
 
 mod-mod : (i : ℕ) → i % 16 % 16 ≡ i % 16
 mod-mod i = omega arith
@@ -56,10 +53,6 @@ on-seat x d dir e r n = rw (epOn-other d dir e r Out x (λ z. n (sym z))) (same-
 pub cond-seat : (x : ℕ) (r : EpState) (u : Bool) (a b : Driver) → SamePlace r (epOn a Out x) → SamePlace r (epOn b Out x) → SamePlace r (epOn (cond u a b) Out x)
 cond-seat x r true a b p q = p
 cond-seat x r false a b p q = q
-
-pub cond-stage : (n : ℕ) (u : Bool) (a b : Driver) → a .globals .stage ≡ n → b .globals .stage ≡ n → cond u a b .globals .stage ≡ n
-cond-stage n true a b p q = p
-cond-stage n false a b p q = q
 
 -- ---- a word of EP0's buffer
 
@@ -91,13 +84,9 @@ module _ (c : Channel) where
   unfolding completeOn withOn
   completes e s t l =
       let n = in-other (c .number) e in
-      like-made l (lawful-act c (complete e) refl (l .left) refl) (lawful-act c (complete e) refl (l .right) refl)
+      like-made l (lawful-act c (complete e) refl (l .left)) (lawful-act c (complete e) refl (l .right))
       (but-on (l .but) (l .left .rest .sized) (l .right .rest .sized) In e _ _ (λ _. ap (λ r. unloadedOf (completedOf r)) (l .but .eps In e n)) (λ p. absurd (n p)))
       (on-seat (c .number) (s .0) In e _ n) (l .bytes)
-
-  sends-stage : (d : Driver) (e : ℕ) → sendOn d e .globals .stage ≡ d .globals .stage
-  unfolding sendOn withOn
-  sends-stage d e = cond-stage (d .globals .stage) (hasWaiting (epOn d In e)) _ _ refl refl
 
   pub sends : (e : ℕ) (s t : St) → Like c quiet s t → (handOn (send e) s .0 ≡ handOn (send e) t .0) × Like c quiet (handOn (send e) s .1) (handOn (send e) t .1)
   unfolding sendAddr sendOn
@@ -105,7 +94,7 @@ module _ (c : Channel) where
       let n = in-other (c .number) e in
       let h = l .but .eps In e n in (
         ap (λ (r : EpState). slotAddr r (r .tail)) h,
-        like-made l (lawful-hand c (send e) (l .left) (sends-stage (s .0) e)) (lawful-hand c (send e) (l .right) (sends-stage (t .0) e))
+        like-made l (lawful-hand c (send e) (l .left)) (lawful-hand c (send e) (l .right))
             (but-cond _ _ (ap hasWaiting h) (but-on (l .but) (l .left .rest .sized) (l .right .rest .sized) In e _ _ (λ _. ap loadedOf h) (λ p. absurd (n p))) (l .but))
             (cond-seat (c .number) (epOn (s .0) Out (c .number)) (hasWaiting (epOn (s .0) In e)) _ _ (on-seat (c .number) (s .0) In e _ n) (same-place (epOn (s .0) Out (c .number)))) (l .bytes),
       )

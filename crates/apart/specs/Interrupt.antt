@@ -20,8 +20,8 @@ use Rattle.state.specs.declared.Globals.{Globals}
 use Rattle.state.specs.Driver.{key}
 use Rattle.script.specs.declared.Transfer.{Transfer}
 use Rattle.script.specs.Cells.{Plain, globals-cell, ep-cell}
-use Rattle.script.specs.Script.{Script, bind, _>>=_, _>>_, put, changed, marked, arrive, setup-word}
-use Rattle.script.specs.Statics.{isOn, isoOuts}
+use Rattle.script.specs.Script.{Script, bind, _>>=_, _>>_, read, get, put, changed, marked, arrive, setup-word}
+use Rattle.script.specs.Statics.{isOn, isoOuts, withReady}
 use Rattle.script.specs.IsoOut.{arriving, entry, arrives, checkOne, checkWalk, isoOutCheck}
 use Rattle.script.specs.Handler.{entered, sameOut, lateTaken, waited, retaken, released, waitsForIso, waitsForBulk, retake, settle, isoFor, ownIn, received, outArm, inArm, dispatch, served, framed, onTransfer, onSetup, onInterrupt, keepMicroframe, stampedInterrupt}
 use Rattle.script.specs.Calls.{interruptCode}
@@ -31,7 +31,7 @@ use Rattle.apart.specs.But.{Channel, Like}
 use Rattle.apart.specs.Apart.{Reads, Pair}
 use Rattle.apart.specs.Pairs.{Eq, Any, p-ret, p-bind, p-same, p-then, p-test, p-tests, p-when, p-read, p-write, p-is, p-look, p-hand, p-put}
 use Rattle.apart.specs.Answers.{SameAnswer, p-staged, p-resultless}
-use Rattle.apart.specs.Values.{p-modify, p-modify-ep, p-wake, p-wake-bus, p-globals, p-plain}
+use Rattle.apart.specs.Values.{p-modify, p-modify-ep, p-wake, p-wake-bus, p-globals, p-plain-in, p-plain-any}
 use Rattle.apart.specs.InRings.{setup-same}
 use Rattle.apart.specs.OutRings.{changed-same, marked-len-same, arrives-same}
 use Rattle.apart.specs.OwnSteps.{p-own-check}
@@ -108,6 +108,18 @@ iso-sure c st o n s w =
     let z = arriving-out st (c .number) w in
     ap (λ t. isoFor t o n) (z .0) ∙ s ∙ ap (λ e. c .iso Out e) (z .1) ∙ c .receives
 
+-- what follows the reading of the two records
+abbrev after-plain : {i : Bool} → Transfer → Bool → Script i Unit
+after-plain x iso = read FrameNo 0 >>= λ frame. get globals-cell >>= λ g. served (framed x iso (g .«sof_frame») frame) iso frame
+
+-- whether it is isochronous is not told by `ready`
+iso-ready : (t : Token) (o n : Plain) (r : ℕ) → isoFor t (withReady r o) n ≡ isoFor t o n
+unfolding isoFor
+iso-ready tok.Out o n r = refl
+iso-ready tok.Sof o n r = refl
+iso-ready tok.In o n r = refl
+iso-ready tok.Setup o n r = refl
+
 module _ {c : Channel} {st : ℕ} {i : Bool} where
   -- ---- the check of arrivals
 
@@ -142,7 +154,7 @@ module _ {c : Channel} {st : ℕ} {i : Bool} where
   -- ---- the arms
 
   p-received : (e n : ℕ) → Pair c st {i = i} Any (received e n) (received e n)
-  p-received e n = p-then (p-modify-ep c Out e _) (p-wake c Out e)
+  p-received e n = p-then (p-modify-ep c Out e _ (λ _. refl)) (p-wake c Out e)
 
   p-out-arm : (y : Transfer) (iso : Bool) → Pair c st {i = i} Any (outArm y iso) (outArm y iso)
   p-out-arm y iso = p-test iso (λ _. p-ret tt) (λ _. p-test _
@@ -151,7 +163,7 @@ module _ {c : Channel} {st : ℕ} {i : Bool} where
 
   p-in-arm : (y : Transfer) (iso : Bool) (frame : ℕ) → Pair c st {i = i} Any (inArm y iso frame) (inArm y iso frame)
   p-in-arm y iso frame = p-test iso (λ _. p-iso-in _ frame) (λ _. p-test _
-      (λ _. p-then (p-modify-reg EpTxCtrl 0 _ (λ v v′ h. h)) (p-then (p-modify-ep c In 0 _) (p-sent 0)))
+      (λ _. p-then (p-modify-reg EpTxCtrl 0 _ (λ v v′ h. h)) (p-then (p-modify-ep c In 0 _ (λ _. refl)) (p-sent 0)))
       (λ _. p-same (p-toggled In _) (λ b. p-when b (λ _. p-sent _))))
 
   -- where the lengths may differ the endpoint is isochronous, and its length is not used here
@@ -196,7 +208,7 @@ module _ {c : Channel} {st : ℕ} {i : Bool} where
   p-settle : (busy late : Bool) (n n′ : ℕ) (o o′ : Bool) → Lengths (c .number) st n n′ o o′
       → Pair c st {i = i} (SameTransfer (c .number) st) (settle (transferOf busy st late n o)) (settle (transferOf busy st late n′ o′))
   unfolding sameOut waitsForIso waitsForBulk
-  p-settle busy late n n′ o o′ h = p-plain c Out _ (λ p _. p-plain c In _ (λ q _. p-test _
+  p-settle busy late n n′ o o′ h = p-plain-any c Out _ (λ p r _ _ _. p-plain-in c _ (λ q _. p-test _
       (λ _. p-then p-sie-wait (p-status (p-bind (p-read RxLen 0) (λ v v′ r. p-ret (record {
         status = refl;
         status′ = refl;
@@ -232,14 +244,15 @@ module _ {c : Channel} {st : ℕ} {i : Bool} where
       p-then (p-when _ (λ _. p-nak st))
       (p-then (p-write IntFg 0 _)
       (p-transfer (p-settle _ false n n′ true true (λ w. (h w, refl))) (λ busy late k k′ o o′ l.
-      p-plain c Out (endpoint st) (λ p s. p-plain c In (endpoint st) (λ q _.
-      p-reads FrameNo 0 (λ v v′ e. e) (λ frame. p-globals c (λ g _.
-      p-framed (ownIn (transferOf busy st late k o) (isoFor (token st) p q) (g .«sof_frame») frame) busy late k k′ o o′ l (isoFor (token st) p q) (iso-sure c st p q s) frame))))))))))
+      p-plain-any c Out (endpoint st) (λ p r _ _ s. p-plain-in c (endpoint st) (λ q _.
+      subst (λ u. Pair c st {i = i} Any (after-plain (transferOf busy st late k o) (isoFor (token st) p q)) (after-plain (transferOf busy st late k′ o′) u)) (sym (iso-ready (token st) p q r))
+      (p-reads FrameNo 0 (λ v v′ e. e) (λ frame. p-globals c (λ g _.
+      p-framed (ownIn (transferOf busy st late k o) (isoFor (token st) p q) (g .«sof_frame») frame) busy late k k′ o o′ l (isoFor (token st) p q) (iso-sure c st p q s) frame)))))))))))
 
   p-on-setup : Pair c st {i = i} Any onSetup onSetup
   p-on-setup = p-then (p-write EpRxCtrl 0 _) (p-then (p-write EpTxCtrl 0 _)
       (p-same (p-look (setup-word 0) (setup-same c 0 (omega arith))) (λ low. p-same (p-look (setup-word 1) (setup-same c 1 (omega arith))) (λ high.
-      p-then (p-modify-ep c Out 0 _) (p-then (p-modify-ep c In 0 _) (p-then (p-modify c _) (p-then (p-write IntFg 0 _) (p-then (p-wake c Out 0) (p-wake c In 0)))))))))
+      p-then (p-modify-ep c Out 0 _ (λ _. refl)) (p-then (p-modify-ep c In 0 _ (λ _. refl)) (p-then (p-modify c _) (p-then (p-write IntFg 0 _) (p-then (p-wake c Out 0) (p-wake c In 0)))))))))
 
   p-on-interrupt : Pair c st {i = i} Any onInterrupt onInterrupt
   p-on-interrupt = p-reads IntFg 0 (λ v v′ e. e) (λ flag.

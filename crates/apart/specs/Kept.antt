@@ -3,9 +3,10 @@ use mathlib.Core.Bool.{Bool, true, false, cond}
 use mathlib.Core.List.{List}
 use mathlib.Core.Logic.{_≢_}
 use mathlib.Core.Path.{_≡_, refl, ap, subst, sym, _∙_}
-use Prim.Native.Nat.{ℕ, _%_}
+use Prim.Native.Nat.{ℕ, _%_, _≤_}
 use native.Mathlib.Decide.{ℕ-discrete}
-use lib.Dec.{ltb}
+use lib.Dec.{eqb, ltb}
+use borrow.Author.Tests.{eqb-false}
 use lib.ListN.{length, getD, set}
 use Rattle.regs.specs.declared.Dir.{Dir}
 use Rattle.regs.specs.declared.Dir.the-variants.{Out, In}
@@ -18,8 +19,9 @@ use Rattle.state.specs.Laws.{Sized, requestOn-same, requestOn-other}
 use Rattle.marks.specs.Only.{Only}
 use Rattle.marks.specs.Copies.{copied}
 use Rattle.script.specs.Cells.{control-cell, request-cell, paced-cell}
-use Rattle.script.specs.Script.{Script, put, get, act, fill, fill0}
+use Rattle.script.specs.Script.{put, get, act, fill, fill0}
 use Rattle.script.specs.Statics.{isOn}
+use Rattle.script.specs.Control.{DATA-OUT}
 use Rattle.script.specs.Alike.{quiet}
 use Rattle.script.specs.Machine.{Buf}
 use Rattle.ops.specs.Rings.{St, filledOn, filledEp0}
@@ -29,9 +31,9 @@ use Rattle.book.specs.Frame.{same-place}
 use Rattle.apart.specs.But.{But, Channel, Like}
 use Rattle.apart.specs.Apart.{Pair}
 use Rattle.apart.specs.Pairs.{Eq, Any, p-get, p-put, p-act}
-use Rattle.apart.specs.Buts.{like-made, lawful-put, lawful-act}
+use Rattle.apart.specs.Buts.{like-made, lawful-put, lawful-control, lawful-act}
 use Rattle.apart.specs.Bytes.{copied-like, only-like}
-use Rattle.apart.specs.InRings.{in-other}
+use Rattle.apart.specs.Values.{in-other}
 
 -- ---- drivers
 
@@ -69,9 +71,10 @@ module _ {x : ℕ} {d d′ : Driver} (h : But x d d′) where
 -- ---- states
 
 module _ (c : Channel) where
-  control-kept : (v : Control) (s t : St) → Like c quiet s t → Like c quiet (putOn control-cell v s) (putOn control-cell v t)
+  pub control-kept : (v : Control) (s t : St) → (v .sort ≡ DATA-OUT → v .length ≤ s .0 .globals .«ep0_max») → Like c quiet s t → Like c quiet (putOn control-cell v s) (putOn control-cell v t)
   unfolding epOn
-  control-kept v s t l = like-made l (lawful-put c control-cell v (l .left) refl) (lawful-put c control-cell v (l .right) refl) (but-control (l .but) v) (same-place (epOn (s .0) Out (c .number))) (l .bytes)
+  control-kept v s t h l = like-made l (lawful-control c v h (l .left)) (lawful-control c v (λ z. subst (λ (g : Globals). v .length ≤ g .«ep0_max») (l .but .globals) (h z)) (l .right))
+      (but-control (l .but) v) (same-place (epOn (s .0) Out (c .number))) (l .bytes)
 
   paced-kept : (e v : ℕ) (s t : St) → Like c quiet s t → Like c quiet (putOn (paced-cell e) v s) (putOn (paced-cell e) v t)
   unfolding epOn withPacedOn
@@ -96,7 +99,7 @@ module _ (c : Channel) where
   unfolding filledOn
   fills e bytes s t l =
       let r = epOn (s .0) In e in
-      like-made l (lawful-act c (fill e bytes) refl (l .left) refl) (lawful-act c (fill e bytes) refl (l .right) refl) (l .but) (same-place (epOn (s .0) Out (c .number)))
+      like-made l (lawful-act c (fill e bytes) refl (l .left)) (lawful-act c (fill e bytes) refl (l .right)) (l .but) (same-place (epOn (s .0) Out (c .number)))
       (subst (λ (q : EpState). Only (epOn (s .0) Out (c .number) .base) (endOf (epOn (s .0) Out (c .number))) (filledOn (s .0) e bytes (s .1)) (cond (isOn (q .iso)) (t .1) (cond (ltb (q .«max_len») (length bytes)) (t .1) (copied (t .1) (q .base) bytes))))
       (l .but .eps In e (in-other (c .number) e)) (fill-by (isOn (r .iso)) (ltb (r .«max_len») (length bytes)) (r .base) bytes (l .bytes)))
 
@@ -105,15 +108,16 @@ module _ (c : Channel) where
   unfolding filledEp0
   fills0 bytes s t l =
       let g = s .0 .globals in
-      like-made l (lawful-act c (fill0 bytes) refl (l .left) refl) (lawful-act c (fill0 bytes) refl (l .right) refl) (l .but) (same-place (epOn (s .0) Out (c .number)))
+      like-made l (lawful-act c (fill0 bytes) refl (l .left)) (lawful-act c (fill0 bytes) refl (l .right)) (l .but) (same-place (epOn (s .0) Out (c .number)))
       (subst (λ (q : Globals). Only (epOn (s .0) Out (c .number) .base) (endOf (epOn (s .0) Out (c .number))) (filledEp0 (s .0) bytes (s .1)) (cond (ltb (q .«ep0_max») (length bytes)) (t .1) (copied (t .1) (q .«ep0_buf») bytes)))
       (l .but .globals) (fill-by false (ltb (g .«ep0_max») (length bytes)) (g .«ep0_buf») bytes (l .bytes)))
 
   -- ---- in scripts
 
   module _ {st : ℕ} {i : Bool} where
-    pub p-put-control : (v : Control) → Pair c st {i = i} Any (put control-cell v) (put control-cell v)
-    p-put-control v = p-put control-cell v v (control-kept v)
+    -- a request that is no data_out's
+    pub p-put-control : (v : Control) → eqb (v .sort) DATA-OUT ≡ false → Pair c st {i = i} Any (put control-cell v) (put control-cell v)
+    p-put-control v h = p-put control-cell v v (λ s t l. control-kept v s t (λ z. absurd (eqb-false (v .sort) DATA-OUT h z)) l)
 
     pub p-control : Pair c st {i = i} Eq (get control-cell) (get control-cell)
     p-control = p-get control-cell Eq (λ s t l. l .but .control)

@@ -1,5 +1,6 @@
 pub mod But
 pub mod Apart
+pub mod Settled
 pub mod Likes
 pub mod Wakes
 pub mod Pairs
@@ -12,12 +13,19 @@ pub mod Walks
 pub mod OutRings
 pub mod OwnSteps
 pub mod Interrupt
+pub mod Ending
 pub mod Asides
 pub mod Kept
 pub mod Rows
 pub mod Reading
+pub mod OwnReading
 pub mod Enabling
 pub mod EnablingOut
+pub mod Polling
+pub mod Switching
+pub mod Bounding
+pub mod Bounds
+pub mod DataOut
 pub mod Operations
 pub mod Others
 pub mod Stores

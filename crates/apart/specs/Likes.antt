@@ -21,7 +21,7 @@ use Rattle.ops.specs.Rings.{St}
 use Rattle.book.specs.Rest.{endOf}
 use Rattle.book.specs.Frame.{Changed, same-place, end-kept}
 use Rattle.book.specs.Outs.{Inner}
-use Rattle.apart.specs.But.{OtherWakes, ButBy, Beside, Lawful, Channel, Like, Touched}
+use Rattle.apart.specs.But.{OtherWakes, Stays, ButBy, Beside, Lawful, Channel, Like, Touched}
 
 -- ---- wake-ups
 
@@ -33,17 +33,21 @@ wakes-sym h = record { room = h .room′; room′ = h .room; same = λ p q. sym 
 
 -- ---- records
 
-pub inner-refl : (r : EpState) → Inner r r
-inner-refl r = record { place = same-place r; plain = refl }
+pub stays-refl : (r : EpState) → Stays r r
+stays-refl r = record { place = same-place r; plain = refl }
 
-inner-sym : {r r′ : EpState} → Inner r r′ → Inner r′ r
-inner-sym h = record { place = record { base = sym (h .place .base); stride = sym (h .place .stride); slots = sym (h .place .slots) }; plain = sym (h .plain) }
+stays-sym : {r r′ : EpState} → Stays r r′ → Stays r′ r
+stays-sym h = record { place = record { base = sym (h .place .base); stride = sym (h .place .stride); slots = sym (h .place .slots) }; plain = sym (h .plain) }
 
-pub inner-trans : {r r′ r″ : EpState} → Inner r r′ → Inner r′ r″ → Inner r r″
-inner-trans h k = record {
+stays-trans : {r r′ r″ : EpState} → Stays r r′ → Stays r′ r″ → Stays r r″
+stays-trans h k = record {
   place = record { base = k .place .base ∙ h .place .base; stride = k .place .stride ∙ h .place .stride; slots = k .place .slots ∙ h .place .slots };
   plain = k .plain ∙ h .plain;
 }
+
+-- its ring alone changed
+pub inner-stays : {r r′ : EpState} → Inner r r′ → Stays r r′
+inner-stays h = record { place = h .place; plain = rw (h .plain) refl }
 
 -- ---- drivers
 
@@ -58,7 +62,7 @@ but-refl x d = record {
   eps = λ dir e n. refl;
   lens = λ dir e n. refl;
   stamps = λ e n. refl;
-  own = inner-refl (epOn d Out x);
+  own = stays-refl (epOn d Out x);
 }
 
 module _ {W U : Wakes → Wakes → Type 0} {x : ℕ} where
@@ -73,7 +77,7 @@ module _ {W U : Wakes → Wakes → Type 0} {x : ℕ} where
     eps = λ dir e n. sym (h .eps dir e n);
     lens = λ dir e n. sym (h .lens dir e n);
     stamps = λ e n. sym (h .stamps e n);
-    own = inner-sym (h .own);
+    own = stays-sym (h .own);
   }
 
   but-trans : {Y : Wakes → Wakes → Type 0} {d d′ d″ : Driver} → ButBy W x d d′ → ButBy Y x d′ d″ → U (d .wakes) (d″ .wakes) → ButBy U x d d″
@@ -87,7 +91,7 @@ module _ {W U : Wakes → Wakes → Type 0} {x : ℕ} where
     eps = λ dir e n. h .eps dir e n ∙ k .eps dir e n;
     lens = λ dir e n. h .lens dir e n ∙ k .lens dir e n;
     stamps = λ e n. h .stamps e n ∙ k .stamps e n;
-    own = inner-trans (h .own) (k .own);
+    own = stays-trans (h .own) (k .own);
   }
 
 -- ---- states with their buffers
@@ -137,7 +141,7 @@ module _ {c : Channel} {φ : Phase} where
 
 -- ---- a change of x's own record, lengths and stamps alone
 
-pub own-changed : {x : ℕ} {d d′ : Driver} → Changed Out x d d′ → Inner (epOn d Out x) (epOn d′ Out x) → Beside x d d′
+pub own-changed : {x : ℕ} {d d′ : Driver} → Changed Out x d d′ → Stays (epOn d Out x) (epOn d′ Out x) → Beside x d d′
 unfolding requestOn
 own-changed {x} {d} {d′} c k = record {
   globals = sym (c .globals);

@@ -17,7 +17,7 @@ use Rattle.regs.specs.Enables as enables
 use Rattle.state.specs.declared.Globals.{Globals}
 use Rattle.script.specs.Answers.{isNumber}
 use Rattle.script.specs.Statics.{flag}
-use Rattle.script.specs.Alike.{quiet}
+use Rattle.script.specs.Alike.{Phase}
 use Rattle.script.specs.Machine.{Question, pending, overruns, enabled}
 use Rattle.way.specs.Questions.{pendingOn, overrunsOf, overrunsOn, enabledAsked, questionOf}
 use Rattle.ops.specs.Rings.{St}
@@ -25,9 +25,9 @@ use Rattle.book.specs.Rest.{endOf, lensOf, slotStamps}
 use Rattle.book.specs.Stamps.{stamped}
 use Rattle.apart.specs.But.{SameCodes, Channel, Like}
 use Rattle.apart.specs.Buts.{others-same}
-use Rattle.apart.specs.InRings.{in-other}
+use Rattle.apart.specs.Values.{in-other}
 
-module _ {c : Channel} {s t : St} (l : Like c quiet s t) where
+module _ {c : Channel} {φ : Phase} {s t : St} (l : Like c φ s t) where
   -- the packets that wait, tail to head, each with its bytes
   pub same-queue : (dir : Dir) (e : ℕ) → key dir e ≢ key Out (c .number) → waiting (s .1) (epOn (s .0) dir e) (lensOf (s .0) dir e) ≡ waiting (t .1) (epOn (t .0) dir e) (lensOf (t .0) dir e)
   same-queue Out e n =

@@ -1,46 +1,40 @@
 -- OUT rings: the others' arrivals are the same in both runs, and the channel's own change nothing but its data
-use mathlib.Core.Bool.{Bool, true, false, not, cond, true≢false}
-use mathlib.Core.List.{List}
+use mathlib.Core.Bool.{Bool, true, false, not, cond}
 use mathlib.Core.Logic.{_≢_}
 use mathlib.Core.Path.{_≡_, refl, ap, subst, sym, _∙_}
 use Prim.Native.Nat.{ℕ, _+_, _*_, _/_, _%_, _≤_, _<_}
 use native.Mathlib.Omega.{arith}
-use lib.ListN.{length, getD}
 use Rattle.bits.specs.Bit.{isSet}
 use Rattle.regs.specs.declared.Dir.{Dir}
 use Rattle.regs.specs.declared.Dir.the-variants.{Out, In}
 use Rattle.state.specs.declared.EpState.{EpState}
 use Rattle.state.specs.declared.Globals.{Globals}
-use Rattle.state.specs.Driver.{Driver, key, epOn, withOn, lenOn}
+use Rattle.state.specs.Driver.{Driver, key, epOn, withOn}
 use Rattle.state.specs.Laws.{Sized, key-same, key-apart, epOn-same}
 use Rattle.marks.specs.Marks.{isMarked, markedLen, armed}
-use Rattle.marks.specs.Only.{Same, Only, only-refl, only-wider}
+use Rattle.marks.specs.Only.{Same, Only}
 use Rattle.marks.specs.Slots.{marked-same, len-same}
-use Rattle.ring.specs.Slot.{slotOf, slotAddr}
+use Rattle.ring.specs.Slot.{slotOf}
 use Rattle.ring.specs.Out.{cappedAt, arrivedOf, arrivedLens, armedAt}
 use Rattle.ring.specs.Waiting.{SamePlace}
-use Rattle.ring.specs.Slots.{slot-in, slot-from, slot-upto}
-use Rattle.ring.specs.Laws.{place-addr}
+use Rattle.ring.specs.Slots.{slot-in}
 use Rattle.ring.specs.OutLaws.{armed-alike}
 use Rattle.script.specs.Cells.{Plain}
 use Rattle.script.specs.Script.{changed, marked, arrive}
-use Rattle.script.specs.Alike.{Phase, quiet}
-use Rattle.script.specs.Statics.{isOn, isoOuts}
+use Rattle.script.specs.Alike.{quiet}
+use Rattle.script.specs.Statics.{isoOuts}
 use Rattle.script.specs.Machine.{Buf}
-use Rattle.ops.specs.Records.{plainOf}
-use Rattle.ops.specs.Rings.{St, changedOn, markedOn, admittedOn, arrivedAt, arriveOn}
+use Rattle.ops.specs.Rings.{St, changedOn, markedOn, arrivedAt, arriveOn}
 use Rattle.ops.specs.Conc.{isOf, lookOf, handOn}
 use Rattle.book.specs.Pages.{Pages}
 use Rattle.book.specs.Rest.{endOf, Used, lensOf, slotStamps, Rest}
 use Rattle.book.specs.Lens.{lens-on, stamps-on, lens-mod, stamps-mod}
 use Rattle.book.specs.Frame.{Changed, changed-on, changed-trans, same-place}
 use Rattle.book.specs.Held.{receives, iso-used, receives-slots, good-words}
-use Rattle.book.specs.Outs.{Inner}
-use Rattle.book.specs.Arrives.{admits, headAddr, arrived-inner, armed-plain, admitted-ep, admitted-lens, admitted-stamps, admitted-changed, arrived-words}
-use Rattle.apart.specs.But.{But, Lawful, Channel, Like}
-use Rattle.apart.specs.Likes.{inner-trans, own-changed, but-refl}
+use Rattle.book.specs.Arrives.{admits, headAddr, armed-plain, admitted-ep, admitted-lens, admitted-stamps, admitted-changed}
+use Rattle.apart.specs.But.{But, Channel, Like}
 use Rattle.apart.specs.Buts.{but-changed, changed-seat, like-made, lawful-hand, others-same}
-use Rattle.apart.specs.Bytes.{At, armed-like, only-like}
+use Rattle.apart.specs.Bytes.{armed-like, only-like}
 
 -- ---- what is asked of another's armed slot
 
@@ -159,8 +153,6 @@ module _ (c : Channel) (e n : ℕ) (o : key Out e ≢ key Out (c .number)) (s t 
     pub but : But (c .number) (x .1 .0) (y .1 .0)
     pub seat : SamePlace (epOn d Out (c .number)) (epOn (x .1 .0) Out (c .number))
     pub bytes : Only (epOn d Out (c .number) .base) (endOf (epOn d Out (c .number))) (x .1 .1) (y .1 .1)
-    pub stage : x .1 .0 .globals .stage ≡ d .globals .stage
-    pub stage′ : y .1 .0 .globals .stage ≡ d′ .globals .stage
 
   arrives-by : (v : Bool) → receives d e ≡ v → receives d′ e ≡ v
       → Both (cond v (arrivedAt e (lenOf d e n) s) (epOn d Out e .«armed_slot», s)) (cond v (arrivedAt e (lenOf d′ e n) t) (epOn d′ Out e .«armed_slot», t))
@@ -169,16 +161,12 @@ module _ (c : Channel) (e n : ℕ) (o : key Out e ≢ key Out (c .number)) (s t 
     but = same-but u u′;
     seat = changed-seat (c .number) (after-changed (l .left .rest .sized) e n);
     bytes = same-marks u u′;
-    stage = ap (λ (g : Globals). g .stage) (after-changed (l .left .rest .sized) e n .globals);
-    stage′ = ap (λ (g : Globals). g .stage) (after-changed (l .right .rest .sized) e n .globals);
   }
   arrives-by false u u′ = record {
     address = ap (λ (r : EpState). r .«armed_slot») eps;
     but = l .but;
     seat = same-place (epOn d Out (c .number));
     bytes = l .bytes;
-    stage = refl;
-    stage′ = refl;
   }
 
   arrives-both : Both (handOn (arrive e n) s) (handOn (arrive e n) t)
@@ -190,4 +178,4 @@ module _ (c : Channel) (e n : ℕ) (o : key Out e ≢ key Out (c .number)) (s t 
   pub arrives-same : (handOn (arrive e n) s .0 ≡ handOn (arrive e n) t .0) × Like c quiet (handOn (arrive e n) s .1) (handOn (arrive e n) t .1)
   arrives-same =
       let b = arrives-both in
-      (b .address, like-made l (lawful-hand c (arrive e n) (l .left) (b .stage)) (lawful-hand c (arrive e n) (l .right) (b .stage′)) (b .but) (b .seat) (b .bytes))
+      (b .address, like-made l (lawful-hand c (arrive e n) (l .left)) (lawful-hand c (arrive e n) (l .right)) (b .but) (b .seat) (b .bytes))

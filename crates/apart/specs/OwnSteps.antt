@@ -1,24 +1,22 @@
 -- What is done for the channel changes nothing but its data: its arrivals, its check
 use mathlib.Core.Bool.{Bool, true, false, cond}
-use mathlib.Core.Path.{_≡_, refl, ap, subst, sym, _∙_}
-use Prim.Native.Nat.{ℕ, _+_, _≤_}
+use mathlib.Core.Path.{_≡_, refl, subst, sym, _∙_}
+use Prim.Native.Nat.{ℕ}
 use native.Mathlib.Omega.{arith}
 use Rattle.regs.specs.declared.Reg.the-variants.{IntSt}
-use Rattle.regs.specs.declared.Dir.the-variants.{Out, In}
-use Rattle.state.specs.declared.EpState.{EpState}
-use Rattle.state.specs.declared.Globals.{Globals}
+use Rattle.regs.specs.declared.Dir.the-variants.{Out}
 use Rattle.state.specs.Driver.{Driver, epOn}
 use Rattle.marks.specs.Only.{Only, only-refl, only-wider}
 use Rattle.ring.specs.Slot.{slotAddr}
 use Rattle.ring.specs.Slots.{slot-from, slot-upto}
-use Rattle.ring.specs.Laws.{place-addr}
+use Rattle.ring.specs.Laws.{place-addr, place-trans}
 use Rattle.ring.specs.OutLaws.{armed-alike}
 use Rattle.script.specs.declared.Transfer.{Transfer}
 use Rattle.script.specs.Tree as tree
 use Rattle.script.specs.Tree.{bindOut}
-use Rattle.script.specs.Script.{Script, run, bind, test, read, look, is, when, done, _>>_, _>>=_, arrive, changed, marked}
+use Rattle.script.specs.Script.{Script, run, test, read, look, when, done, _>>_, _>>=_, arrive, changed, marked}
 use Rattle.script.specs.IsoOut.{arriving, entry, arrives, checkOne}
-use Rattle.script.specs.Alike.{Phase, quiet}
+use Rattle.script.specs.Alike.{quiet}
 use Rattle.ops.specs.Rings.{St, arrivedAt, arriveOn}
 use Rattle.ops.specs.Conc.{conc, isOf, lookOf, handOn}
 use Rattle.book.specs.Rest.{endOf}
@@ -29,7 +27,7 @@ use Rattle.apart.specs.But.{Beside, Lawful, Channel, Like, Touched}
 use Rattle.apart.specs.Apart as lined
 use Rattle.apart.specs.Apart.{Apart, left, Pair, status}
 use Rattle.apart.specs.Pairs.{apart-flip}
-use Rattle.apart.specs.Likes.{inner-trans, own-changed, but-refl, like-sym, touched-trans, touch}
+use Rattle.apart.specs.Likes.{inner-stays, own-changed, but-refl, like-sym, touched-trans, touch}
 use Rattle.apart.specs.Buts.{lawful-hand}
 use Rattle.apart.specs.Values.{own-wake}
 use Rattle.apart.specs.OutRings.{lenOf, after, marks, given, after-changed, after-ep}
@@ -47,7 +45,7 @@ module _ (c : Channel) (n : ℕ) (s : St) (l : Lawful (c .iso) quiet s) where
   own-inner =
       let r = epOn d Out x in
       let k = arrived-inner r in
-      subst (λ q. Inner r q) (sym (after-ep (l .rest .sized) x n)) (inner-trans k (record { place = armed-alike _ _ .place; plain = armed-plain _ _ }))
+      subst (λ q. Inner r q) (sym (after-ep (l .rest .sized) x n)) (record { place = place-trans (k .place) (armed-alike _ _ .place); plain = armed-plain _ _ ∙ k .plain })
 
   own-marks : receives d x ≡ true → Only (epOn d Out x .base) (endOf (epOn d Out x)) (s .1) (marks (epOn (admits d x n) Out x) (s .1))
   own-marks u =
@@ -61,22 +59,20 @@ module _ (c : Channel) (n : ℕ) (s : St) (l : Lawful (c .iso) quiet s) where
   record Own (y : ℕ × St) : Type 0 where
     but : Beside x d (y .1 .0)
     bytes : Only (epOn d Out x .base) (endOf (epOn d Out x)) (s .1) (y .1 .1)
-    stage : y .1 .0 .globals .stage ≡ d .globals .stage
 
   own-by : (v : Bool) → receives d x ≡ v → Own (cond v (arrivedAt x (lenOf d x n) s) (epOn d Out x .«armed_slot», s))
   own-by true u = record {
-    but = own-changed (after-changed (l .rest .sized) x n) own-inner;
+    but = own-changed (after-changed (l .rest .sized) x n) (inner-stays own-inner);
     bytes = own-marks u;
-    stage = ap (λ (g : Globals). g .stage) (after-changed (l .rest .sized) x n .globals);
   }
-  own-by false u = record { but = but-refl x d; bytes = only-refl _ _ (s .1); stage = refl }
+  own-by false u = record { but = but-refl x d; bytes = only-refl _ _ (s .1) }
 
   own-both : Own (handOn (arrive x n) s)
   unfolding arriveOn
   own-both = own-by (receives d x) refl
 
   pub own-arrives : Touched c quiet s (handOn (arrive x n) s .1)
-  own-arrives = record { left = l; right = lawful-hand c (arrive x n) l (own-both .stage); but = own-both .but; bytes = own-both .bytes }
+  own-arrives = record { left = l; right = lawful-hand c (arrive x n) l; but = own-both .but; bytes = own-both .bytes }
 
 -- ---- its check, in one of the runs
 
@@ -89,22 +85,22 @@ look-of y iso e = test (entry y iso e) (arrives e (y .len)) (read IntSt 0 >>= re
 
 module _ {c : Channel} {st : ℕ} (i : Bool) {A B : Type 0} {Q : A → B → Type 0} where
   -- after it the state is still the same as the other run's, t, but for the channel's data
-  module _ (u : tree.Out St B) (f : Unit → St → tree.Out St A) {t : St} (k : (s : St) → Like c quiet s t → Apart c st Q (f tt s) u) where
-    left-arrives : (n : ℕ) {s : St} → Like c quiet s t → Apart c st Q (bindOut (run {i = i} conc (arrives (c .number) n) s) f) u
+  module _ (u : tree.Out St B) (f : Unit → St → tree.Out St A) {t : St} (k : (s : St) → Like c quiet s t → Apart c st i Q (f tt s) u) where
+    left-arrives : (n : ℕ) {s : St} → Like c quiet s t → Apart c st i Q (bindOut (run {i = i} conc (arrives (c .number) n) s) f) u
     left-arrives n {s} l = left (lined.receives _) (λ v s1 m. k _ (own-wake c (touch (touched-trans (own-arrives c n s (l .left)) m) l)))
 
-    left-rest : (b : Bool) (n : ℕ) {s : St} → Like c quiet s t → Apart c st Q (bindOut (run {i = i} conc (test b done (arrives (c .number) n)) s) f) u
+    left-rest : (b : Bool) (n : ℕ) {s : St} → Like c quiet s t → Apart c st i Q (bindOut (run {i = i} conc (test b done (arrives (c .number) n)) s) f) u
     left-rest true n l = k _ l
     left-rest false n l = left-arrives n l
 
-    left-look : (b : Bool) (y : Transfer) {s : St} → Like c quiet s t → Apart c st Q (bindOut (run {i = i} conc (test b (arrives (c .number) (y .len)) (read IntSt 0 >>= rest-of (c .number))) s) f) u
+    left-look : (b : Bool) (y : Transfer) {s : St} → Like c quiet s t → Apart c st i Q (bindOut (run {i = i} conc (test b (arrives (c .number) (y .len)) (read IntSt 0 >>= rest-of (c .number))) s) f) u
     left-look true y l = left-arrives (y .len) l
     left-look false y l = left status (λ v s1 m. left-rest (arriving v (c .number)) (lookOf (marked (c .number)) s1) (touch m l))
 
-    left-check : (y : Transfer) (iso : Bool) {s : St} → Like c quiet s t → Apart c st Q (bindOut (run {i = i} conc (checkOne y iso (c .number)) s) f) u
+    left-check : (y : Transfer) (iso : Bool) {s : St} → Like c quiet s t → Apart c st i Q (bindOut (run {i = i} conc (checkOne y iso (c .number)) s) f) u
     left-check y iso {s} l = by (isOf (changed (c .number)) s)
       where
-        by : (b : Bool) → Apart c st Q (bindOut (run {i = i} conc (when b (look-of y iso (c .number))) s) f) u
+        by : (b : Bool) → Apart c st i Q (bindOut (run {i = i} conc (when b (look-of y iso (c .number))) s) f) u
         by true = left-look (entry y iso (c .number)) y l
         by false = k s l
 

@@ -2,16 +2,16 @@
 use mathlib.Core.Bool.{Bool, true, false, cond}
 use mathlib.Core.List.{List}
 use mathlib.Core.Path.{_≡_, refl, ap, subst, sym, _∙_}
-use Prim.Native.Nat.{ℕ}
+use Prim.Native.Nat.{ℕ, zero, suc}
 use Rattle.regs.specs.declared.Reg.{Reg}
 use Rattle.regs.specs.declared.Reg.the-variants.{IntFg, IntSt, MisSt, RxLen, FrameNo, Ctrl, IntEn, DevAd, HostCtrl, EpConfig, EpType, EpBufMod, EpMaxLen, EpTLen, EpRxCtrl, EpTxCtrl}
 use Rattle.regs.specs.declared.Access.{Access}
 use Rattle.regs.specs.declared.Access.the-variants.{Read, Write, Receive, Transmit, Ep0Dma, Wait, Callback}
 use Rattle.script.specs.Tree.{Out, ends, asks, bindOut}
 use Rattle.script.specs.Cells.{Cell, Val}
-use Rattle.script.specs.Script.{Script, run, ret, bind, test, _>>=_, _>>_, done, when, read, write, wait, callback, get, put, is, look, fetch, act, hand, Test, Look, Fetch, Act, Hand, handAsk}
-use Rattle.script.specs.Alike.{quiet}
-use Rattle.ops.specs.Rings.{St}
+use Rattle.script.specs.Script.{Script, run, ret, bind, test, _>>=_, _>>_, done, when, read, write, wait, callback, get, put, is, look, fetch, act, hand, row, rows, Test, Look, Fetch, Act, Hand, handAsk, Row, lastOf, rowAsk}
+use Rattle.script.specs.Alike.{Phase, quiet, mid, Fits}
+use Rattle.ops.specs.Rings.{St, rowOn}
 use Rattle.ops.specs.Conc.{conc, getOn, putOn, isOf, lookOf, fetchOf, actOn, handOn}
 use Rattle.apart.specs.But.{Channel, Like}
 use Rattle.apart.specs.Likes.{like-sym}
@@ -50,26 +50,38 @@ brings-sym x st (Ep0Dma y) v v′ h = tt
 brings-sym x st (Wait n) v v′ h = tt
 brings-sym x st Callback v v′ h = tt
 
+-- every call has accesses in no row
+pub rests : (i : Bool) → Fits i quiet
+rests true = tt
+rests false = tt
+
+abbrev stop : St → Out St (Unit {0})
+stop s = ends tt s
+
+-- step n of a row in both runs: the same number is handed out, and the two states are the same but for x's data
+abbrev pub Steps : Channel → Row → ℕ → St → St → Type 0
+Steps c g n s t = (rowOn g n s .0 ≡ rowOn g n t .0) × Like c (mid g n) (rowOn g n s .1) (rowOn g n t .1)
+
 module _ {ch : Channel} {st : ℕ} where
   -- ---- outcomes
 
-  apart-bind : {A B C D : Type 0} {P : A → B → Type 0} {Q : C → D → Type 0} {o : Out St A} {u : Out St B} {f : A → St → Out St C} {g : B → St → Out St D}
-      → Apart ch st P o u → ((a : A) (b : B) (s t : St) → P a b → Like ch quiet s t → Apart ch st Q (f a s) (g b t)) → Apart ch st Q (bindOut o f) (bindOut u g)
+  apart-bind : {i : Bool} {A B C D : Type 0} {P : A → B → Type 0} {Q : C → D → Type 0} {o : Out St A} {u : Out St B} {f : A → St → Out St C} {g : B → St → Out St D}
+      → Apart ch st i P o u → ((a : A) (b : B) (s t : St) → P a b → Like ch quiet s t → Apart ch st i Q (f a s) (g b t)) → Apart ch st i Q (bindOut o f) (bindOut u g)
   apart-bind (end q l) h = h _ _ _ _ q l
-  apart-bind (both l k) h = both l (λ v v′ s t b r. apart-bind (k v v′ s t b r) h)
+  apart-bind (both φ f l k) h = both φ f l (λ v v′ s t b r. apart-bind (k v v′ s t b r) h)
   apart-bind (left w k) h = left w (λ v s l. apart-bind (k v s l) h)
   apart-bind (right w k) h = right w (λ v t l. apart-bind (k v t l) h)
 
-  pub apart-more : {A B : Type 0} {P Q : A → B → Type 0} {o : Out St A} {u : Out St B} → ((a : A) (b : B) → P a b → Q a b) → Apart ch st P o u → Apart ch st Q o u
+  pub apart-more : {i : Bool} {A B : Type 0} {P Q : A → B → Type 0} {o : Out St A} {u : Out St B} → ((a : A) (b : B) → P a b → Q a b) → Apart ch st i P o u → Apart ch st i Q o u
   apart-more f (end q l) = end (f _ _ q) l
-  apart-more f (both l k) = both l (λ v v′ s t b r. apart-more f (k v v′ s t b r))
+  apart-more f (both φ w l k) = both φ w l (λ v v′ s t b r. apart-more f (k v v′ s t b r))
   apart-more f (left w k) = left w (λ v s l. apart-more f (k v s l))
   apart-more f (right w k) = right w (λ v t l. apart-more f (k v t l))
 
   -- either run may be named first
-  pub apart-flip : {A B : Type 0} {Q : A → B → Type 0} {o : Out St A} {u : Out St B} → Apart ch st Q o u → Apart ch st (λ b a. Q a b) u o
+  pub apart-flip : {i : Bool} {A B : Type 0} {Q : A → B → Type 0} {o : Out St A} {u : Out St B} → Apart ch st i Q o u → Apart ch st i (λ b a. Q a b) u o
   apart-flip (end q l) = end q (like-sym l)
-  apart-flip (both {q = q} l k) = both (like-sym l) (λ v v′ s t b r. apart-flip (k v′ v t s (brings-sym (ch .number) st q v v′ b) (like-sym r)))
+  apart-flip (both {q = q} φ f l k) = both φ f (like-sym l) (λ v v′ s t b r. apart-flip (k v′ v t s (brings-sym (ch .number) st q v v′ b) (like-sym r)))
   apart-flip (left w k) = right w (λ v s l. apart-flip (k v s l))
   apart-flip (right w k) = left w (λ v t l. apart-flip (k v t l))
 
@@ -106,16 +118,16 @@ module _ {ch : Channel} {st : ℕ} where
     -- ---- single steps
 
     pub p-read : (r : Reg) (e : ℕ) → Pair ch st {i = i} (Reads (ch .number) st r) (read r e) (read r e)
-    p-read r e = record { on = λ s t l. both l (λ v v′ s t b l. end b l) }
+    p-read r e = record { on = λ s t l. both quiet (rests i) l (λ v v′ s t b l. end b l) }
 
     pub p-write : (r : Reg) (e v : ℕ) → Pair ch st {i = i} Any (write r e v) (write r e v)
-    p-write r e v = record { on = λ s t l. both l (λ v v′ s t b l. end tt l) }
+    p-write r e v = record { on = λ s t l. both quiet (rests i) l (λ v v′ s t b l. end tt l) }
 
     pub p-wait : (n : ℕ) → Pair ch st {i = i} Any (wait n) (wait n)
-    p-wait n = record { on = λ s t l. both l (λ v v′ s t b l. end tt l) }
+    p-wait n = record { on = λ s t l. both quiet (rests i) l (λ v v′ s t b l. end tt l) }
 
     pub p-callback : Pair ch st {i = i} Any callback callback
-    p-callback = record { on = λ s t l. both l (λ v v′ s t b l. end tt l) }
+    p-callback = record { on = λ s t l. both quiet (rests i) l (λ v v′ s t b l. end tt l) }
 
     pub p-get : (c : Cell) (P : Val c → Val c → Type 0) → ((s t : St) → Like ch quiet s t → P (getOn c s) (getOn c t)) → Pair ch st {i = i} P (get c) (get c)
     p-get c P h = record { on = λ s t l. end (h s t l) l }
@@ -137,6 +149,18 @@ module _ {ch : Channel} {st : ℕ} where
 
     pub p-hand : (q : Hand) → ((s t : St) → Like ch quiet s t → (handOn q s .0 ≡ handOn q t .0) × Like ch quiet (handOn q s .1) (handOn q t .1)) → Pair ch st {i = i} Any (hand q) (hand q)
     p-hand q h = record {
-      on = λ s t l. subst (λ y. Apart ch st Any (asks (handAsk q (handOn q s .0)) (handOn q s .1) (λ _ t. ends tt t)) (asks (handAsk q y) (handOn q t .1) (λ _ t. ends tt t))) (h s t l .0)
-          (both (h s t l .1) (λ v v′ s t b l. end tt l));
+      on = λ s t l. subst (λ y. Apart ch st i Any (asks (handAsk q (handOn q s .0)) (handOn q s .1) (λ _ t. ends tt t)) (asks (handAsk q y) (handOn q t .1) (λ _ t. ends tt t))) (h s t l .0)
+          (both quiet (rests i) (h s t l .1) (λ v v′ s t b l. end tt l));
     }
+
+  -- ---- a row of accesses
+
+  module _ (g : Row) (next : (n : ℕ) (s t : St) → Like ch (mid g (suc n)) s t → Steps ch g n s t) (over : (s t : St) → Like ch (mid g zero) s t → Like ch quiet s t) where
+    steps : (n : ℕ) (s t : St) → Steps ch g n s t → Apart ch st false Any (rows conc g n stop s) (rows conc g n stop t)
+    steps zero s t x = subst (λ y. Apart ch st false Any (rows conc g zero stop s) (asks (rowAsk g zero y) (rowOn g zero t .1) (λ _ t. stop t))) (x .0)
+        (both (mid g zero) tt (x .1) (λ v v′ s t b l. end tt (over s t l)))
+    steps (suc n) s t x = subst (λ y. Apart ch st false Any (rows conc g (suc n) stop s) (asks (rowAsk g (suc n) y) (rowOn g (suc n) t .1) (λ _ t. rows conc g n stop t))) (x .0)
+        (both (mid g (suc n)) tt (x .1) (λ v v′ s t b l. steps n s t (next n s t l)))
+
+    pub p-row : ((s t : St) → Like ch quiet s t → Steps ch g (lastOf g) s t) → Pair ch st Any (row g) (row g)
+    p-row first = record { on = λ s t l. steps (lastOf g) s t (first s t l) }

@@ -1,13 +1,12 @@
 -- A poll of a read of another endpoint
-use mathlib.Core.Bool.{Bool, true, false, not, cond, _||_, true≢false}
-use mathlib.Core.List.{List}
+use mathlib.Core.Bool.{Bool, true, false, _||_, true≢false}
 use mathlib.Core.Logic.{_≢_}
-use mathlib.Core.Path.{_≡_, refl, ap, subst, sym, _∙_}
-use Prim.Native.Nat.{ℕ, _+_, _≤_}
+use mathlib.Core.Path.{_≡_, refl, ap, subst, _∙_}
+use Prim.Native.Nat.{ℕ, _≤_}
 use native.Mathlib.Omega.{arith}
 use lib.Dec.{ltb}
 use borrow.Author.Tests.{ltb-false}
-use Rattle.regs.specs.declared.Dir.the-variants.{Out, In}
+use Rattle.regs.specs.declared.Dir.the-variants.{Out}
 use Rattle.state.specs.declared.EpState.{EpState}
 use Rattle.state.specs.Driver.{key, epOn, withOn}
 use Rattle.state.specs.Laws.{epOn-same}
@@ -16,7 +15,7 @@ use Rattle.ring.specs.Slot.{hasWaiting}
 use Rattle.ring.specs.Out.{closedOf}
 use Rattle.ring.specs.Slots.{slot-from, slot-upto}
 use Rattle.script.specs.Cells.{Plain, ep-cell}
-use Rattle.script.specs.Script.{Script, run, ret, bind, test, get, fetch, _>>_, waiting, oldest, received, take-oldest}
+use Rattle.script.specs.Script.{Script, run, ret, bind, test, fetch, _>>_, waiting, oldest, received, take-oldest}
 use Rattle.script.specs.Statics.{isOn, withReady, modifyEp}
 use Rattle.script.specs.Answers.{Answer, Refused, NotYet, Done}
 use Rattle.script.specs.Endpoint.{enabled-else, ends-request, polled, take-iso, tooLong, take-ready}
@@ -29,9 +28,9 @@ use Rattle.apart.specs.But.{Channel, Like}
 use Rattle.apart.specs.Apart.{Apart, Pair}
 use Rattle.apart.specs.Pairs.{p-ret, p-same, p-then, p-test, p-is, p-fetch, p-act}
 use Rattle.apart.specs.Buts.{but-on, but-cond, like-made, lawful-act, others-same}
-use Rattle.apart.specs.Values.{plain-same, record-kept}
+use Rattle.apart.specs.Values.{plain-other, record-kept}
 use Rattle.apart.specs.Answers.{SameAnswer, same}
-use Rattle.apart.specs.InRings.{on-seat, cond-seat, cond-stage}
+use Rattle.apart.specs.InRings.{on-seat, cond-seat}
 use Rattle.apart.specs.Asides.{bytes-same, waiting-out, oldest-out}
 use Rattle.apart.specs.Rows.{p-enabled, p-ends-request, p-polled}
 
@@ -62,8 +61,8 @@ module _ (c : Channel) (e : ℕ) (n : key Out e ≢ key Out (c .number)) where
   takes s t l =
       let h = l .but .eps Out e n in
       like-made l
-      (lawful-act c (take-oldest e) refl (l .left) (cond-stage _ (hasWaiting (epOn (s .0) Out e)) _ _ refl refl))
-      (lawful-act c (take-oldest e) refl (l .right) (cond-stage _ (hasWaiting (epOn (t .0) Out e)) _ _ refl refl))
+      (lawful-act c (take-oldest e) refl (l .left))
+      (lawful-act c (take-oldest e) refl (l .right))
       (but-cond _ _ (ap hasWaiting h) (but-on (l .but) (l .left .rest .sized) (l .right .rest .sized) Out e _ _ (λ _. ap closedOf h) (λ p. absurd (n p))) (l .but))
       (cond-seat (c .number) (epOn (s .0) Out (c .number)) (hasWaiting (epOn (s .0) Out e)) _ _ (on-seat (c .number) (s .0) Out e _ n) (same-place (epOn (s .0) Out (c .number)))) (l .bytes)
 
@@ -86,29 +85,29 @@ module _ (c : Channel) (e : ℕ) (n : key Out e ≢ key Out (c .number)) where
   module _ (st : ℕ) (i : Bool) (k : ℕ) where
     -- the packet is taken, its record as it was but for `ready`
     tail : (v : Plain) (b : Bool) → tooLong k v ≡ b → (s t : St) → Like c quiet s t → epOn (s .0) Out e .«max_len» ≡ v .«max_len»
-        → Apart c st (SameAnswer (c .number)) (run {i = i} conc (test b (ends-request Out e (Refused 10)) (bind (fetch (received e (v .len))) (λ w. ends-request Out e (Done w)))) s)
+        → Apart c st i (SameAnswer (c .number)) (run {i = i} conc (test b (ends-request Out e (Refused 10)) (bind (fetch (received e (v .len))) (λ w. ends-request Out e (Done w)))) s)
         (run {i = i} conc (test b (ends-request Out e (Refused 10)) (bind (fetch (received e (v .len))) (λ w. ends-request Out e (Done w)))) t)
     tail v true z s t l m = p-ends-request {i = i} Out e (Refused 10) .on s t l
     tail v false z s t l m =
-        subst (λ w. Apart c st (SameAnswer (c .number)) (run {i = i} conc (ends-request Out e (Done (fetchOf (received e (v .len)) s))) s) (run {i = i} conc (ends-request Out e (Done w)) t))
+        subst (λ w. Apart c st i (SameAnswer (c .number)) (run {i = i} conc (ends-request Out e (Done (fetchOf (received e (v .len)) s))) s) (run {i = i} conc (ends-request Out e (Done w)) t))
         (received-same s t l (v .len) (omega (arith, m, within k v z))) (p-ends-request {i = i} Out e (Done _) .on s t l)
 
     ready : (v : Plain) (b : Bool) (s t : St) → Like c quiet s t → plainOf (epOn (s .0) Out e) ≡ v
-        → Apart c st (SameAnswer (c .number)) (run {i = i} conc (test b (readyOut e k v) (notReady e)) s) (run {i = i} conc (test b (readyOut e k v) (notReady e)) t)
+        → Apart c st i (SameAnswer (c .number)) (run {i = i} conc (test b (readyOut e k v) (notReady e)) s) (run {i = i} conc (test b (readyOut e k v) (notReady e)) t)
     ready v true s t l p =
         let r = epOn (s .0) Out e in
         let w = withReady 0 (plainOf r) in
-        subst (λ q. Apart c st (SameAnswer (c .number)) (run {i = i} conc (taken e k v) (putOn (ep-cell Out e) w s)) (run {i = i} conc (taken e k v) (putOn (ep-cell Out e) (withReady 0 q) t))) (plain-same c Out e s t l)
-        (tail v (tooLong k v) refl _ _ (record-kept c Out e w s t l) (ap (λ (q : EpState). q .«max_len») (epOn-same (s .0) Out e (merged r w) (l .left .rest .sized)) ∙ ap (λ (q : Plain). q .«max_len») p))
+        subst (λ q. Apart c st i (SameAnswer (c .number)) (run {i = i} conc (taken e k v) (putOn (ep-cell Out e) w s)) (run {i = i} conc (taken e k v) (putOn (ep-cell Out e) (withReady 0 q) t))) (plain-other c Out e n s t l)
+        (tail v (tooLong k v) refl _ _ (record-kept c Out e w w refl (λ _. refl) s t l) (ap (λ (q : EpState). q .«max_len») (epOn-same (s .0) Out e (merged r w) (l .left .rest .sized)) ∙ ap (λ (q : Plain). q .«max_len») p))
     ready v false s t l p = p-enabled {i = i} Out e (p-ends-request Out e (Refused 9)) (p-ret (same NotYet)) .on s t l
 
     chosen : (v : Plain) (b : Bool) (s t : St) → Like c quiet s t → plainOf (epOn (s .0) Out e) ≡ v
-        → Apart c st (SameAnswer (c .number)) (run {i = i} conc (test b (take-iso e k) (take-ready e k v)) s) (run {i = i} conc (test b (take-iso e k) (take-ready e k v)) t)
+        → Apart c st i (SameAnswer (c .number)) (run {i = i} conc (test b (take-iso e k) (take-ready e k v)) s) (run {i = i} conc (test b (take-iso e k) (take-ready e k v)) t)
     chosen v true s t l p = p-take-iso {i = i} k .on s t l
     chosen v false s t l p = ready v (isOn (v .ready)) s t l p
 
   pub p-poll-read : {st : ℕ} {i : Bool} (k : ℕ) → Pair c st {i = i} (SameAnswer (c .number)) (polled Out e k (taking e k)) (polled Out e k (taking e k))
   p-poll-read {st} {i} k = p-polled Out e k n (record {
-    on = λ s t l. subst (λ q. Apart c st (SameAnswer (c .number)) (run {i = i} conc (taking e k (plainOf (epOn (s .0) Out e))) s) (run {i = i} conc (taking e k q) t)) (plain-same c Out e s t l)
+    on = λ s t l. subst (λ q. Apart c st i (SameAnswer (c .number)) (run {i = i} conc (taking e k (plainOf (epOn (s .0) Out e))) s) (run {i = i} conc (taking e k q) t)) (plain-other c Out e n s t l)
         (chosen st i k (plainOf (epOn (s .0) Out e)) (isOn (epOn (s .0) Out e .iso)) s t l refl);
   })

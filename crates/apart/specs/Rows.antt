@@ -1,7 +1,7 @@
 -- Rows that stop a call, and how a request ends
-use mathlib.Core.Bool.{Bool, true, false}
+use mathlib.Core.Bool.{Bool}
 use mathlib.Core.Logic.{_≢_}
-use mathlib.Core.Path.{_≡_}
+use mathlib.Core.Path.{refl}
 use Prim.Native.Nat.{ℕ}
 use Rattle.regs.specs.declared.Dir.{Dir}
 use Rattle.regs.specs.declared.Dir.the-variants.{Out}
@@ -9,6 +9,7 @@ use Rattle.state.specs.Driver.{key}
 use Rattle.script.specs.Cells.{Plain, ep-cell}
 use Rattle.script.specs.Script.{Script, bind, get}
 use Rattle.script.specs.Answers.{Answer, unless}
+use Rattle.script.specs.Statics.{withReady}
 use Rattle.script.specs.Endpoint.{enabled-else, ends-request, polled}
 use Rattle.script.specs.Calls.{numbered, named-or-0}
 use Rattle.apart.specs.But.{Channel}
@@ -35,4 +36,4 @@ module _ {c : Channel} {st : ℕ} {i : Bool} where
   p-ends-request dir e a = p-then (p-put-request c dir e _) (p-ret (same a))
 
   pub p-polled : (dir : Dir) (e n : ℕ) → key dir e ≢ key Out (c .number) → {p : Plain → Script i Answer} → Pair c st (SameAnswer (c .number)) (bind (get (ep-cell dir e)) p) (bind (get (ep-cell dir e)) p) → Pair c st (SameAnswer (c .number)) (polled dir e n p) (polled dir e n p)
-  p-polled dir e n k h = p-same (p-request c dir e k) (λ r. p-unless _ 15 (p-test _ (λ _. h) (λ _. p-then (p-modify-ep c dir e _) (p-ends-request dir e _))))
+  p-polled dir e n k h = p-same (p-request c dir e k) (λ r. p-unless _ 15 (p-test _ (λ _. h) (λ _. p-then (p-modify-ep c dir e (withReady 0) (λ _. refl)) (p-ends-request dir e _))))

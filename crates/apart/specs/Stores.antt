@@ -12,7 +12,7 @@ use Rattle.state.specs.declared.Globals.{Globals}
 use Rattle.state.specs.Driver.{Driver, epOn}
 use Rattle.alloc.specs.Alloc.{allocatedIn}
 use Rattle.marks.specs.Only.{Only}
-use Rattle.script.specs.Alike.{Phase, quiet}
+use Rattle.script.specs.Alike.{Phase}
 use Rattle.script.specs.Machine.{Buf}
 use Rattle.ops.specs.Rings.{St}
 use Rattle.book.specs.Pages.{Pages}
@@ -48,8 +48,8 @@ pub record OwnLent (c : Channel) (s : St) (b : Buf) : Type 0 where
 
 -- ---- these leave two states the same but for the channel's data
 
-by-book : {d : Driver} {b b′ : Buf} {p : Pages} → Rest quiet b d p → d .globals .stage ≡ 2 → Stored d b b′ → Chip p b b′
-by-book {d} {b} {b′} {p} R g h = record {
+by-book : {φ : Phase} {d : Driver} {b b′ : Buf} {p : Pages} → Rest φ b d p → d .globals .stage ≡ 2 → Stored d b b′ → Chip p b b′
+by-book {d = d} {p = p} R g h = record {
   long = h .long;
   others = λ k w. h .others k (record {
     outs = λ e u.
@@ -64,11 +64,11 @@ by-book {d} {b} {b′} {p} R g h = record {
   });
 }
 
-lawful-stored : (c : Channel) {s : St} {b : Buf} → Lawful (c .iso) quiet s → Stored (s .0) (s .1) b → Lawful (c .iso) quiet (s .0, b)
-lawful-stored c {s} {b} l h = record { pages = l .pages; rest = chip (s .1) b quiet (s .0) (l .pages) (l .rest) (by-book (l .rest) (l .stage) h); has = l .has; stage = l .stage }
+lawful-stored : (c : Channel) {φ : Phase} {s : St} {b : Buf} → Lawful (c .iso) φ s → Stored (s .0) (s .1) b → Lawful (c .iso) φ (s .0, b)
+lawful-stored c {φ} {s} {b} l h = record { pages = l .pages; rest = chip (s .1) b φ (s .0) (l .pages) (l .rest) (by-book (l .rest) (l .stage) h); has = l .has; stage = l .stage; bounded = l .bounded }
 
-module _ {c : Channel} where
-  pub lent-like : {s t : St} {b b′ : Buf} → Like c quiet s t → Lent c s t b b′ → Like c quiet (s .0, b) (t .0, b′)
+module _ {c : Channel} {φ : Phase} where
+  pub lent-like : {s t : St} {b b′ : Buf} → Like c φ s t → Lent c s t b b′ → Like c φ (s .0, b) (t .0, b′)
   lent-like {s} {t} {b} {b′} l h = record {
     left = lawful-stored c (l .left) (h .left);
     right = lawful-stored c (l .right) (h .right);
@@ -80,7 +80,7 @@ module _ {c : Channel} where
     };
   }
 
-  pub own-like : {s : St} {b : Buf} → Lawful (c .iso) quiet s → OwnLent c s b → Touched c quiet s (s .0, b)
+  pub own-like : {s : St} {b : Buf} → Lawful (c .iso) φ s → OwnLent c s b → Touched c φ s (s .0, b)
   own-like {s} {b} l h = record {
     left = l;
     right = lawful-stored c l (h .stored);

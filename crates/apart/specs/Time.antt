@@ -2,7 +2,7 @@
 -- down in both or in none, and an access of the channel's own leaves the record
 use mathlib.Core.Bool.{Bool, _&&_}
 use mathlib.Core.List.{List}
-use mathlib.Core.Path.{_≡_, refl, ap}
+use mathlib.Core.Path.{_≡_, refl, ap, sym}
 use Prim.Native.Nat.{ℕ}
 use lib.ListN.{set}
 use Rattle.regs.specs.declared.Access.{Access}
@@ -10,21 +10,21 @@ use Rattle.regs.specs.declared.Dir.{Dir}
 use Rattle.state.specs.Driver.{Driver}
 use Rattle.script.specs.Cells.{Plain}
 use Rattle.script.specs.Answers.{Answer}
-use Rattle.script.specs.Alike.{quiet}
+use Rattle.script.specs.Alike.{Phase}
 use Rattle.script.specs.Machine.{Ans, ended, handed, told}
 use Rattle.ops.specs.Rings.{St}
 use Rattle.bus_time.specs.Time.{chargeOf, entryOf, passes}
 use Rattle.shared_time.specs.Sharing.{Sort, enabling, starting, going, apart, chargeOn, isHanded, timeAfter, turnedDown}
 use Rattle.apart.specs.But.{Channel, Like}
 use Rattle.apart.specs.Apart.{Own, status, receives}
-use Rattle.apart.specs.Values.{plain-same}
+use Rattle.apart.specs.Buts.{stays-any}
 
 -- of driver i
-module _ (i : ℕ) {c : Channel} {s t : St} (l : Like c quiet s t) where
+module _ (i : ℕ) {c : Channel} {φ : Phase} {s t : St} (l : Like c φ s t) where
   -- what an endpoint is charged, the channel too
   pub same-charge : (dir : Dir) (e : ℕ) → chargeOn (s .0) dir e ≡ chargeOn (t .0) dir e
   unfolding chargeOn
-  same-charge dir e = ap (λ (p : Plain). chargeOf (p .kind) (p .«max_len»)) (plain-same c dir e s t l)
+  same-charge dir e = ap (λ (p : Plain). chargeOf (p .kind) (p .«max_len»)) (sym (stays-any (l .but) dir e .plain))
 
   -- the record after a call
   pub same-record : (x : Sort) (a : Ans Answer) (r : List ℕ) → timeAfter i x a (s .0) r ≡ timeAfter i x a (t .0) r

@@ -1,40 +1,48 @@
 -- Kept values, read and assigned
-use mathlib.Core.Bool.{Bool, true, false, cond}
+use mathlib.Core.Bool.{Bool, true, true≢false}
 use mathlib.Core.List.{List, [], _∷_}
 use mathlib.Core.Logic.{_≢_}
 use mathlib.Core.Path.{_≡_, refl, ap, subst, sym, _∙_}
 use Prim.Native.Nat.{ℕ}
-use native.Mathlib.Decide.{ℕ-discrete}
+use native.Mathlib.Omega.{arith}
 use Rattle.regs.specs.declared.Dir.{Dir}
 use Rattle.regs.specs.declared.Dir.the-variants.{Out, In}
 use Rattle.state.specs.declared.EpState.{EpState}
 use Rattle.state.specs.declared.Globals.{Globals}
-use Rattle.state.specs.Wakes.{none-woken, wakeCode, busCode}
+use Rattle.state.specs.Wakes.{none-woken, wakeCode, busCode, every-endpoint}
 use Rattle.state.specs.WakesLaws.{none-room}
-use Rattle.state.specs.Driver.{Driver, key, epOn, withOn}
+use Rattle.state.specs.Driver.{key, epOn, withOn}
 use Rattle.state.specs.Laws.{key-apart}
-use Rattle.script.specs.Cells.{Cell, Val, Plain, globals-cell, ep-cell}
-use Rattle.script.specs.Script.{Script, bind, get, put, act, fetch, gathered, no-wakes, waken}
-use Rattle.script.specs.Statics.{modify, modifyEp, wake, wakeBus}
-use Rattle.script.specs.Alike.{Phase, quiet}
-use Rattle.script.specs.Sorts.{Sorts, Shows, Sorted}
+use Rattle.script.specs.Cells.{Plain, globals-cell, ep-cell}
+use Rattle.script.specs.Script.{Script, run, bind, get, put, act, fetch, gathered, no-wakes, waken}
+use Rattle.script.specs.Statics.{isOn, withReady, modify, modifyEp, wake, wakeAll, wakeBus}
+use Rattle.script.specs.Alike.{quiet}
+use Rattle.script.specs.Sorts.{Shows}
 use Rattle.ops.specs.Records.{plainOf, merged, mergedGlobals}
 use Rattle.ops.specs.Rings.{St}
-use Rattle.ops.specs.Conc.{getOn, putOn, actOn}
+use Rattle.ops.specs.Conc.{conc, putOn, actOn}
 use Rattle.book.specs.Book.{mergedPlain}
 use Rattle.book.specs.Lens.{key-ep}
 use Rattle.book.specs.Frame.{same-place, changed-on}
-use Rattle.book.specs.Outs.{Inner}
 use Rattle.book.specs.Sorts.{sorted}
-use Rattle.apart.specs.But.{SameCodes, OtherWakes, Lawful, Channel, Like}
-use Rattle.apart.specs.Apart.{Pair, end}
-use Rattle.apart.specs.Pairs.{Eq, Any, p-bind, p-same, p-then, p-get, p-put, p-act}
+use Rattle.apart.specs.But.{SameCodes, Stays, Channel, Like}
+use Rattle.apart.specs.Apart.{Apart, Pair, end}
+use Rattle.apart.specs.Pairs.{Eq, Any, p-bind, p-same, p-get, p-put, p-act}
 use Rattle.apart.specs.Likes.{wakes-refl}
 use Rattle.apart.specs.Wakes.{all-same, own-woken}
-use Rattle.apart.specs.Buts.{but-globals, but-wakes, but-on, changed-seat, like-made, lawful-put, lawful-act}
+use Rattle.apart.specs.Buts.{stays-any, but-globals, but-wakes, but-on, changed-seat, like-made, lawful-put, lawful-act}
 
-merged-inner : {r r′ : EpState} (v : Plain) → Inner r r′ → Inner (merged r v) (merged r′ v)
-merged-inner v h = record { place = record { base = h .place .base; stride = h .place .stride; slots = h .place .slots }; plain = ap (λ p. mergedPlain p v) (h .plain) }
+merged-stays : {r r′ : EpState} (v v′ : Plain) → withReady 0 v′ ≡ withReady 0 v → Stays r r′ → Stays (merged r v) (merged r′ v′)
+merged-stays v v′ q h = record { place = record { base = h .place .base; stride = h .place .stride; slots = h .place .slots }; plain = λ i. mergedPlain (h .plain i) (q i) }
+
+-- EP0 is not the channel, nor is an IN endpoint
+pub in-other : (x e : ℕ) → key In e ≢ key Out x
+in-other x e z = key-apart x e (sym z)
+
+pub ep0-other : (c : Channel) (dir : Dir) → key dir 0 ≢ key Out (c .number)
+unfolding key
+ep0-other c Out z = true≢false (sym (c .receives) ∙ ap (c .iso Out) (let h : c .number ≡ 0 = omega (arith, z, c .below) in h) ∙ c .ep0 Out)
+ep0-other c In z = in-other (c .number) 0 z
 
 module _ (c : Channel) where
   -- ---- the globals
@@ -46,41 +54,43 @@ module _ (c : Channel) where
 
   -- ---- a record
 
-  pub record-kept : (dir : Dir) (e : ℕ) (v : Plain) (s t : St) → Like c quiet s t → Like c quiet (putOn (ep-cell dir e) v s) (putOn (ep-cell dir e) v t)
+  -- values that are the same, or of the channel the same but for `ready`
+  pub record-kept : (dir : Dir) (e : ℕ) (v v′ : Plain) → withReady 0 v′ ≡ withReady 0 v → (key dir e ≢ key Out (c .number) → v ≡ v′) → (s t : St) → Like c quiet s t → Like c quiet (putOn (ep-cell dir e) v s) (putOn (ep-cell dir e) v′ t)
   unfolding withOn
-  record-kept dir e v s t l =
+  record-kept dir e v v′ q f s t l =
       let z = l .left .rest .sized in
       let z′ = l .right .rest .sized in
       let r = epOn (s .0) dir e in
-      like-made l (lawful-put c (ep-cell dir e) v (l .left) refl) (lawful-put c (ep-cell dir e) v (l .right) refl)
-      (but-on (l .but) z z′ dir e (merged r v) (merged (epOn (t .0) dir e) v)
-      (λ n. ap (λ (r : EpState). merged r v) (l .but .eps dir e n))
-      (λ p. merged-inner {r = r} {r′ = epOn (t .0) dir e} v (rw (key-ep (s .0) dir Out e (c .number) p, key-ep (t .0) dir Out e (c .number) p) (l .but .own))))
+      like-made l (lawful-put c (ep-cell dir e) v (l .left) refl) (lawful-put c (ep-cell dir e) v′ (l .right) refl)
+      (but-on (l .but) z z′ dir e (merged r v) (merged (epOn (t .0) dir e) v′)
+      (λ n i. merged (l .but .eps dir e n i) (f n i))
+      (λ _. merged-stays v v′ q (stays-any (l .but) dir e)))
       (changed-seat (c .number) (changed-on z dir e (merged r v) (record { base = refl; stride = refl; slots = refl }) refl)) (l .bytes)
 
-  -- what scripts see of a record, the channel's too
-  pub plain-same : (dir : Dir) (e : ℕ) (s t : St) → Like c quiet s t → plainOf (epOn (s .0) dir e) ≡ plainOf (epOn (t .0) dir e)
-  plain-same dir e s t l = elim (ℕ-discrete (key dir e) (key Out (c .number))) [
-    | yes p ↦ ap plainOf (key-ep (s .0) dir Out e (c .number) p) ∙ sym (l .but .own .plain) ∙ ap plainOf (sym (key-ep (t .0) dir Out e (c .number) p))
-    | no n ↦ ap plainOf (l .but .eps dir e n)
-  ]
+  -- what scripts see of a record
+  pub plain-other : (dir : Dir) (e : ℕ) → key dir e ≢ key Out (c .number) → (s t : St) → Like c quiet s t → plainOf (epOn (s .0) dir e) ≡ plainOf (epOn (t .0) dir e)
+  plain-other dir e n s t l = ap plainOf (l .but .eps dir e n)
+
+  -- and of the channel's
+  pub plain-any : (dir : Dir) (e : ℕ) (s t : St) → Like c quiet s t → withReady 0 (plainOf (epOn (s .0) dir e)) ≡ withReady 0 (plainOf (epOn (t .0) dir e))
+  plain-any dir e s t l = sym (stays-any (l .but) dir e .plain)
 
   -- ---- wake-ups
 
   begins-none : (s t : St) → Like c quiet s t → Like c quiet (actOn no-wakes s) (actOn no-wakes t)
   unfolding epOn
-  begins-none s t l = like-made l (lawful-act c no-wakes refl (l .left) refl) (lawful-act c no-wakes refl (l .right) refl)
+  begins-none s t l = like-made l (lawful-act c no-wakes refl (l .left)) (lawful-act c no-wakes refl (l .right))
       (but-wakes (l .but) none-woken none-woken (wakes-refl (c .number) none-woken none-room)) (same-place (epOn (s .0) Out (c .number))) (l .bytes)
 
   wakens : (codes : List ℕ) (s t : St) → Like c quiet s t → Like c quiet (actOn (waken codes) s) (actOn (waken codes) t)
   unfolding epOn
-  wakens codes s t l = like-made l (lawful-act c (waken codes) refl (l .left) refl) (lawful-act c (waken codes) refl (l .right) refl)
+  wakens codes s t l = like-made l (lawful-act c (waken codes) refl (l .left)) (lawful-act c (waken codes) refl (l .right))
       (but-wakes (l .but) _ _ (all-same codes (l .but .wakes))) (same-place (epOn (s .0) Out (c .number))) (l .bytes)
 
   -- the channel's own wake-up, in one run
   pub own-wake : {s t : St} → Like c quiet s t → Like c quiet (actOn (waken (wakeCode Out (c .number) ∷ [])) s) t
   unfolding epOn
-  own-wake {s} {t} l = like-made l (lawful-act c (waken (wakeCode Out (c .number) ∷ [])) refl (l .left) refl) (l .right)
+  own-wake {s} {t} l = like-made l (lawful-act c (waken (wakeCode Out (c .number) ∷ [])) refl (l .left)) (l .right)
       (but-wakes (l .but) _ (t .0 .wakes) (own-woken (l .but .wakes))) (same-place (epOn (s .0) Out (c .number))) (l .bytes)
 
   -- ---- in scripts
@@ -89,14 +99,22 @@ module _ (c : Channel) where
     pub p-assign : (v : Globals) → Pair c st {i = i} Any (put globals-cell v) (put globals-cell v)
     p-assign v = p-put globals-cell v v (globals-kept v)
 
+    pub p-records : (dir : Dir) (e : ℕ) (v v′ : Plain) → withReady 0 v′ ≡ withReady 0 v → (key dir e ≢ key Out (c .number) → v ≡ v′) → Pair c st {i = i} Any (put (ep-cell dir e) v) (put (ep-cell dir e) v′)
+    p-records dir e v v′ q f = p-put (ep-cell dir e) v v′ (record-kept dir e v v′ q f)
+
     pub p-record : (dir : Dir) (e : ℕ) (v : Plain) → Pair c st {i = i} Any (put (ep-cell dir e) v) (put (ep-cell dir e) v)
-    p-record dir e v = p-put (ep-cell dir e) v v (record-kept dir e v)
+    p-record dir e v = p-records dir e v v refl (λ _. refl)
 
     pub p-modify : (f : Globals → Globals) → Pair c st {i = i} Any (modify f) (modify f)
     p-modify f = p-same (p-get globals-cell Eq (λ s t l. l .but .globals)) (λ g. p-assign (f g))
 
-    pub p-modify-ep : (dir : Dir) (e : ℕ) (f : Plain → Plain) → Pair c st {i = i} Any (modifyEp dir e f) (modifyEp dir e f)
-    p-modify-ep dir e f = p-same (p-get (ep-cell dir e) Eq (plain-same dir e)) (λ p. p-record dir e (f p))
+    -- a change that carries no more of `ready` into the other fields
+    pub p-modify-ep : (dir : Dir) (e : ℕ) (f : Plain → Plain) → ((p : Plain) → withReady 0 (f p) ≡ withReady 0 (f (withReady 0 p))) → Pair c st {i = i} Any (modifyEp dir e f) (modifyEp dir e f)
+    p-modify-ep dir e f k = record {
+      on = λ s t l. end tt (record-kept dir e _ _
+          (k _ ∙ ap (λ p. withReady 0 (f p)) (sym (plain-any dir e s t l)) ∙ sym (k _))
+          (λ n. ap f (plain-other dir e n s t l)) s t l);
+    }
 
     pub p-begins : Pair c st {i = i} Any (act no-wakes) (act no-wakes)
     p-begins = p-act no-wakes begins-none
@@ -107,6 +125,9 @@ module _ (c : Channel) where
     pub p-wake : (dir : Dir) (e : ℕ) → Pair c st {i = i} Any (wake dir e) (wake dir e)
     p-wake dir e = p-act (waken (wakeCode dir e ∷ [])) (wakens (wakeCode dir e ∷ []))
 
+    pub p-wake-all : Pair c st {i = i} Any wakeAll wakeAll
+    p-wake-all = p-act (waken every-endpoint) (wakens every-endpoint)
+
     pub p-wake-bus : Pair c st {i = i} Any wakeBus wakeBus
     p-wake-bus = p-act (waken (busCode ∷ [])) (wakens (busCode ∷ []))
 
@@ -116,6 +137,26 @@ module _ (c : Channel) where
       p-globals {f} {g} h = p-bind (p-get globals-cell (λ v v′. (v ≡ v′) × Shows (c .iso) globals-cell v) (λ s t l. (l .but .globals, sorted (c .iso) (c .ep0) .shows globals-cell s (l .left .has))))
           (λ v v′ e. subst (λ z. Pair c st Q (f v) (g z)) (e .0) (h v (e .1)))
 
-      pub p-plain : (dir : Dir) (e : ℕ) {f : Plain → Script i A} {g : Plain → Script i B} → ((v : Plain) → Shows (c .iso) (ep-cell dir e) v → Pair c st Q (f v) (g v)) → Pair c st Q (bind (get (ep-cell dir e)) f) (bind (get (ep-cell dir e)) g)
-      p-plain dir e {f} {g} h = p-bind (p-get (ep-cell dir e) (λ v v′. (v ≡ v′) × Shows (c .iso) (ep-cell dir e) v) (λ s t l. (plain-same dir e s t l, sorted (c .iso) (c .ep0) .shows (ep-cell dir e) s (l .left .has))))
+      -- of an endpoint but the channel
+      pub p-plain : (dir : Dir) (e : ℕ) → key dir e ≢ key Out (c .number) → {f : Plain → Script i A} {g : Plain → Script i B} → ((v : Plain) → Shows (c .iso) (ep-cell dir e) v → Pair c st Q (f v) (g v)) → Pair c st Q (bind (get (ep-cell dir e)) f) (bind (get (ep-cell dir e)) g)
+      p-plain dir e n {f} {g} h = p-bind (p-get (ep-cell dir e) (λ v v′. (v ≡ v′) × Shows (c .iso) (ep-cell dir e) v) (λ s t l. (plain-other dir e n s t l, sorted (c .iso) (c .ep0) .shows (ep-cell dir e) s (l .left .has))))
           (λ v v′ e. subst (λ z. Pair c st Q (f v) (g z)) (e .0) (h v (e .1)))
+
+      pub p-plain-in : (e : ℕ) {f : Plain → Script i A} {g : Plain → Script i B} → ((v : Plain) → Shows (c .iso) (ep-cell In e) v → Pair c st Q (f v) (g v)) → Pair c st Q (bind (get (ep-cell In e)) f) (bind (get (ep-cell In e)) g)
+      p-plain-in e h = p-plain In e (in-other (c .number) e) h
+
+      pub p-plain-ep0 : (dir : Dir) {f : Plain → Script i A} {g : Plain → Script i B} → ((v : Plain) → Shows (c .iso) (ep-cell dir 0) v → Pair c st Q (f v) (g v)) → Pair c st Q (bind (get (ep-cell dir 0)) f) (bind (get (ep-cell dir 0)) g)
+      p-plain-ep0 dir h = p-plain dir 0 (ep0-other c dir) h
+
+      -- of any: the channel's `ready` may be another, and it is isochronous
+      pub p-plain-any : (dir : Dir) (e : ℕ) {f : Plain → Script i A} {g : Plain → Script i B} → ((v : Plain) (r : ℕ) → (key dir e ≢ key Out (c .number) → r ≡ v .ready) → (key dir e ≡ key Out (c .number) → isOn (v .iso) ≡ true) → Shows (c .iso) (ep-cell dir e) v → Pair c st Q (f v) (g (withReady r v)))
+          → Pair c st Q (bind (get (ep-cell dir e)) f) (bind (get (ep-cell dir e)) g)
+      p-plain-any dir e {f} {g} h = record {
+        on = λ s t l.
+            let p = plainOf (epOn (s .0) dir e) in
+            let q = plainOf (epOn (t .0) dir e) in
+            subst (λ z. Apart c st i Q (run conc (f p) s) (run conc (g z) t)) (ap (withReady (q .ready)) (plain-any dir e s t l))
+            (h p (q .ready) (λ n. ap (λ (v : Plain). v .ready) (sym (plain-other dir e n s t l)))
+            (λ k. ap (λ (r : EpState). isOn (r .iso)) (key-ep (s .0) dir Out e (c .number) k) ∙ l .left .has .flags Out (c .number) ∙ c .receives)
+            (sorted (c .iso) (c .ep0) .shows (ep-cell dir e) s (l .left .has)) .on s t l);
+      }

@@ -14,13 +14,13 @@ use Rattle.script.specs.Cells.{Plain, globals-cell, ep-cell}
 use Rattle.script.specs.Script.{Script, bind, read, write, get, put, complete, send, waiting, next-len}
 use Rattle.script.specs.Statics.{modifyReg, modifyIntEn}
 use Rattle.script.specs.IsoIn.{firstInFrame, isoInLoad, isoInComplete, unseen, sofOne, sofWalk, onSof, lateOne, lateWalk}
-use Rattle.script.specs.Handler.{looks, sieWait, nakNonIso, toggled, sent, sofArm, isoInArm, movedOn, ep0MovedOn}
+use Rattle.script.specs.Handler.{looks, sieWait, outNaks, nakNonIso, repeated, toggled, sent, sofArm, isoInArm, movedOn, ep0MovedOn}
 use Rattle.regs.specs.declared.Token.{Token}
 use Rattle.regs.specs.declared.Token.the-variants as tok
 use Rattle.apart.specs.But.{Channel, Like}
 use Rattle.apart.specs.Apart.{Reads, Pair}
 use Rattle.apart.specs.Pairs.{Eq, Any, p-ret, p-bind, p-same, p-then, p-test, p-when, p-read, p-write, p-callback, p-is, p-look, p-act, p-hand}
-use Rattle.apart.specs.Values.{p-assign, p-record, p-modify, p-modify-ep, p-wake, p-globals, p-plain}
+use Rattle.apart.specs.Values.{p-assign, p-record, p-modify, p-modify-ep, p-wake, p-globals, p-plain-in, p-plain-ep0, p-plain-any}
 use Rattle.apart.specs.InRings.{waiting-in, next-in, completes, sends}
 
 -- a register whose readings are the same
@@ -56,13 +56,13 @@ module _ {c : Channel} {st : ℕ} {i : Bool} where
   p-complete e = p-then (p-act (complete e) (completes c e)) (p-then (p-load e) (p-wake c In e))
 
   pub p-first : (e frame : ℕ) → Pair c st {i = i} Eq (firstInFrame e frame) (firstInFrame e frame)
-  p-first e frame = p-plain c In e (λ p _. p-then (p-record c In e _) (p-ret refl))
+  p-first e frame = p-plain-in c e (λ p _. p-then (p-record c In e _) (p-ret refl))
 
   p-unseen : (frame e : ℕ) → Pair c st {i = i} Any (unseen frame e) (unseen frame e)
-  p-unseen frame e = p-then (p-modify-ep c In e _) (p-complete e)
+  p-unseen frame e = p-then (p-modify-ep c In e _ (λ _. refl)) (p-complete e)
 
   p-sof-one : (frame e : ℕ) → Pair c st {i = i} Any (sofOne frame e) (sofOne frame e)
-  p-sof-one frame e = p-plain c In e (λ p _. p-test _ (λ _. p-ret tt) (λ _. p-reads MisSt 0 (λ v v′ h. h) (λ m. p-test _
+  p-sof-one frame e = p-plain-in c e (λ p _. p-test _ (λ _. p-ret tt) (λ _. p-reads MisSt 0 (λ v v′ h. h) (λ m. p-test _
       (λ _. p-unseen frame e)
       (λ _. p-status (p-test _ (λ _. p-ret tt) (λ _. p-unseen frame e))))))
 
@@ -90,17 +90,19 @@ module _ {c : Channel} {st : ℕ} {i : Bool} where
   p-sie-wait = p-looks 2001
 
   pub p-nak : (w : ℕ) → Pair c st {i = i} Any (nakNonIso w) (nakNonIso w)
-  p-nak w = p-plain c Out _ (λ o _. p-plain c In _ (λ n _. p-test _ (λ _. p-modify-reg EpRxCtrl _ _ (λ v v′ h. h)) (λ _. p-when _ (λ _. p-modify-reg EpTxCtrl _ _ (λ v v′ h. h)))))
+  unfolding outNaks
+  p-nak w = p-plain-any c Out _ (λ o r _ _ _. p-plain-in c _ (λ n _. p-test _ (λ _. p-modify-reg EpRxCtrl _ _ (λ v v′ h. h)) (λ _. p-when _ (λ _. p-modify-reg EpTxCtrl _ _ (λ v v′ h. h)))))
 
   pub p-toggled : (dir : Dir) (e : ℕ) → Pair c st {i = i} Eq (toggled dir e) (toggled dir e)
-  p-toggled dir e = p-then p-sie-wait (p-reads (ctrlOf dir) e (ctrl-steady c st dir) (λ w. p-plain c dir e (λ s _. p-test _
+  unfolding repeated
+  p-toggled dir e = p-then p-sie-wait (p-reads (ctrlOf dir) e (ctrl-steady c st dir) (λ w. p-plain-any c dir e (λ s r _ _ _. p-test _
       (λ _. p-then (p-when _ (λ _. p-modify-reg (ctrlOf dir) e _ (ctrl-steady c st dir))) (p-ret refl))
-      (λ _. p-then (p-modify-ep c dir e _) (p-ret refl)))))
+      (λ _. p-then (p-modify-ep c dir e _ (λ _. refl)) (p-ret refl)))))
 
   -- ---- arms
 
   pub p-sent : (e : ℕ) → Pair c st {i = i} Any (sent e) (sent e)
-  p-sent e = p-then (p-modify-ep c In e _) (p-wake c In e)
+  p-sent e = p-then (p-modify-ep c In e _ (λ _. refl)) (p-wake c In e)
 
   pub p-sof-arm : (frame : ℕ) → Pair c st {i = i} Any (sofArm frame) (sofArm frame)
   p-sof-arm frame = p-globals c (λ g _. p-when _ (λ _. p-sof frame))
@@ -109,7 +111,7 @@ module _ {c : Channel} {st : ℕ} {i : Bool} where
   p-iso-in e frame = p-globals c (λ g _. p-test _ (λ _. p-ret tt) (λ _. p-same (p-first e frame) (λ b. p-when b (λ _. p-complete e))))
 
   p-moved : (dir : Dir) → Pair c st {i = i} Any (movedOn dir) (movedOn dir)
-  p-moved dir = p-plain c dir 0 (λ s _. p-when _ (λ _. p-then (p-modify-reg (ctrlOf dir) 0 _ (ctrl-steady c st dir)) (p-then (p-modify-ep c dir 0 _) (p-wake c dir 0))))
+  p-moved dir = p-plain-ep0 c dir (λ s _. p-when _ (λ _. p-then (p-modify-reg (ctrlOf dir) 0 _ (ctrl-steady c st dir)) (p-then (p-modify-ep c dir 0 _ (λ _. refl)) (p-wake c dir 0))))
 
   pub p-ep0-moved : (t : Token) → Pair c st {i = i} Any (ep0MovedOn t) (ep0MovedOn t)
   p-ep0-moved tok.Out = p-moved In
