@@ -5,3 +5,8 @@ pub mod Histories
 pub mod Runs
 pub mod Code
 pub mod Returns
+pub mod Stays
+pub mod Enabled
+pub mod Calm
+pub mod CalmInterrupt
+pub mod CalmCalls

@@ -1,0 +1,58 @@
+-- Scripts that write no ep_config, enable or disable nothing and, unless they may give, allocate nothing: what was given, the stage, the kept ep_config
+-- and the charges stay over their run
+use mathlib.Core.Bool.{Bool, true, false, not, cond}
+use mathlib.Core.Path.{_≡_, refl, ap, subst, sym, _∙_}
+use Prim.Native.Nat.{ℕ, zero, suc}
+use Rattle.regs.specs.declared.Access.{Access}
+use Rattle.regs.specs.declared.Access.the-variants.{Read, Write, Receive, Transmit, Ep0Dma, Wait, Callback}
+use Rattle.regs.specs.declared.Reg.the-variants.{EpConfig}
+use Rattle.bits.specs.Bit.{isSet}
+use Rattle.state.specs.Driver.{Driver}
+use Rattle.script.specs.Tree as tree
+use Rattle.script.specs.Tree.{ends, asks, bindOut}
+use Rattle.script.specs.Cells.{Cell, Val}
+use Rattle.script.specs.Script.{Script, ret, bind, test, read-then, write-then, wait-then, callback-then, get-then, put-then, is-then, look-then, fetch-then, act-then, hand-then, row-then, Act, Hand, arrive, send, place, place0, handAsk, dma, run}
+use Rattle.script.specs.Every.{sameReg}
+use Rattle.regs.specs.declared.Dir.{Dir}
+use Rattle.regs.specs.declared.Dir.the-variants.{Out, In}
+use Rattle.ops.specs.Rings.{St}
+use Rattle.ops.specs.Conc.{conc}
+use Rattle.four_drivers.specs.History.{cleared}
+use Rattle.four_drivers.specs.Stays.{configOf, Turns, Stays, then, still, stays, allowed, put-stays, act-stays, hand-stays, gives-config}
+
+-- ---- which scripts
+
+-- a type where a test holds, else none
+abbrev pub If : Bool → Type 0 → Type 0
+If true X = X
+If false X = ⊥
+
+-- is it a write of ep_config?
+abbrev pub writesConfig : Access → Bool
+writesConfig (Write r e w) = sameReg r EpConfig
+writesConfig (Read r e) = false
+writesConfig (Receive e x) = false
+writesConfig (Transmit e x) = false
+writesConfig (Ep0Dma x) = false
+writesConfig (Wait n) = false
+writesConfig Callback = false
+
+abbrev pub Quiet : Access → Type 0
+Quiet q = If (not (writesConfig q)) (Unit {0})
+
+abbrev pub Calm : {i : Bool} {A : Type 0} → Bool → Script i A → Type 0
+Calm giving (ret a) = Unit {0}
+Calm giving (bind p f) = Calm giving p × ((a : _) → Calm giving (f a))
+Calm giving (test b p q) = Calm giving p × Calm giving q
+Calm giving (read-then r e k) = Quiet (Read r e) × ((v : ℕ) → Calm giving (k v))
+Calm giving (write-then r e v p) = Quiet (Write r e v) × Calm giving p
+Calm giving (wait-then n p) = Quiet (Wait n) × Calm giving p
+Calm giving (callback-then p) = Quiet Callback × Calm giving p
+Calm giving (get-then c k) = (v : _) → Calm giving (k v)
+Calm giving (put-then c v p) = Calm giving p
+Calm giving (is-then q k) = (b : Bool) → Calm giving (k b)
+Calm giving (look-then q k) = (n : ℕ) → Calm giving (k n)
+Calm giving (fetch-then q k) = (l : _) → Calm giving (k l)
+Calm giving (act-then q p) = If (allowed giving q) (Calm giving p)
+Calm giving (hand-then q p) = ((x : ℕ) → Quiet (handAsk q x)) × Calm giving p
+Calm giving (row-then g p) = ⊥
