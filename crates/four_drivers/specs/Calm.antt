@@ -1,26 +1,12 @@
--- Scripts that write no ep_config, enable or disable nothing and, unless they may give, allocate nothing: what was given, the stage, the kept ep_config
--- and the charges stay over their run
-use mathlib.Core.Bool.{Bool, true, false, not, cond}
-use mathlib.Core.Path.{_≡_, refl, ap, subst, sym, _∙_}
-use Prim.Native.Nat.{ℕ, zero, suc}
+-- Calm scripts: they write no ep_config, enable or disable nothing and, unless they may give, allocate nothing
+use mathlib.Core.Bool.{Bool, true, false, not}
+use Prim.Native.Nat.{ℕ}
 use Rattle.regs.specs.declared.Access.{Access}
 use Rattle.regs.specs.declared.Access.the-variants.{Read, Write, Receive, Transmit, Ep0Dma, Wait, Callback}
 use Rattle.regs.specs.declared.Reg.the-variants.{EpConfig}
-use Rattle.bits.specs.Bit.{isSet}
-use Rattle.state.specs.Driver.{Driver}
-use Rattle.script.specs.Tree as tree
-use Rattle.script.specs.Tree.{ends, asks, bindOut}
-use Rattle.script.specs.Cells.{Cell, Val}
-use Rattle.script.specs.Script.{Script, ret, bind, test, read-then, write-then, wait-then, callback-then, get-then, put-then, is-then, look-then, fetch-then, act-then, hand-then, row-then, Act, Hand, arrive, send, place, place0, handAsk, dma, run}
+use Rattle.script.specs.Script.{Script, ret, bind, test, read-then, write-then, wait-then, callback-then, get-then, put-then, is-then, look-then, fetch-then, act-then, hand-then, row-then, handAsk}
 use Rattle.script.specs.Every.{sameReg}
-use Rattle.regs.specs.declared.Dir.{Dir}
-use Rattle.regs.specs.declared.Dir.the-variants.{Out, In}
-use Rattle.ops.specs.Rings.{St}
-use Rattle.ops.specs.Conc.{conc}
-use Rattle.four_drivers.specs.History.{cleared}
-use Rattle.four_drivers.specs.Stays.{configOf, Turns, Stays, then, still, stays, allowed, put-stays, act-stays, hand-stays, gives-config}
-
--- ---- which scripts
+use Rattle.four_drivers.specs.Stays.{allowed}
 
 -- a type where a test holds, else none
 abbrev pub If : Bool → Type 0 → Type 0

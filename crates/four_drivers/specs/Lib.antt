@@ -10,3 +10,6 @@ pub mod Enabled
 pub mod Calm
 pub mod CalmInterrupt
 pub mod CalmCalls
+pub mod Left
+pub mod Switching
+pub mod Polling
