@@ -13,3 +13,4 @@ pub mod CalmCalls
 pub mod Left
 pub mod Switching
 pub mod Polling
+pub mod Begins
