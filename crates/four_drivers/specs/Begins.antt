@@ -107,21 +107,21 @@ module _ (dir : Dir) (e : ℕ) where
   Goes u c d k = Due dir e u c d × ((v : ℕ) (t : St) → Stays d (t .0) → Left bit (Due dir e u) Rests c (k v t))
 
   -- a call of this sort, from a charge and a state with nothing under way
-  pub data Opens (x : Sort) (d : Driver) (c : ℕ) : tree.Out St Answer → Type 0 where
-    over : {a : Answer} {s : St} → Rests c (s .0) → Opens x d c (ends a s)
-    begun : {q : Access} {s : St} {k : ℕ → St → tree.Out St Answer} → Goes (begins bit x false) (byAccess bit x q d c) (s .0) k → Opens x d c (asks q s k)
+  pub data Opens (x : Sort) (d : Driver) (c : ℕ) (was : Bool) : tree.Out St Answer → Type 0 where
+    at-once : {a : Answer} {s : St} → Rests c (s .0) → Opens x d c was (ends a s)
+    under-way : {q : Access} {s : St} {k : ℕ → St → tree.Out St Answer} → Goes (begins bit x was) (byAccess bit x q d c) (s .0) k → Opens x d c was (asks q s k)
 
-  opens-calm : (d : Driver) (c : ℕ) {o : tree.Out St Answer} → Left bit (Due dir e false) Rests c o → First o → Opens apart d c o
-  opens-calm d c (at-end x) none = over x
-  opens-calm d c (at-ask {q = q} {s = s} {k = k} x y) (some z) =
-      begun (subst (λ g. Due dir e false g (s .0)) (quiet bit q c z) x, λ v t b. subst (λ g. Left bit (Due dir e false) Rests g (k v t)) (quiet bit q c z) (y v t b))
+  opens-calm : (d : Driver) (c : ℕ) (was : Bool) {o : tree.Out St Answer} → Left bit (Due dir e false) Rests c o → First o → Opens apart d c was o
+  opens-calm d c was (at-end x) none = at-once x
+  opens-calm d c was (at-ask {q = q} {s = s} {k = k} x y) (some z) =
+      under-way (subst (λ g. Due dir e false g (s .0)) (quiet bit q c z) x, λ v t b. subst (λ g. Left bit (Due dir e false) Rests g (k v t)) (quiet bit q c z) (y v t b))
 
-  opens-hands : (x : Sort) (d : Driver) (c g : ℕ) → ((q : Access) → byAccess bit x q d c ≡ g) → {o : tree.Out St Answer} → Left bit (Due dir e (begins bit x false)) Rests g o → Hands o → Opens x d c o
-  opens-hands x d c g h (at-ask {q = q} {s = s} {k = k} y z) (hands w) =
+  opens-hands : (x : Sort) (d : Driver) (c g : ℕ) (was : Bool) → ((q : Access) → byAccess bit x q d c ≡ g) → {o : tree.Out St Answer} → Left bit (Due dir e (begins bit x was)) Rests g o → Hands o → Opens x d c was o
+  opens-hands x d c g was h (at-ask {q = q} {s = s} {k = k} y z) (hands w) =
       let p = quiet bit q g w ∙ sym (h q) in
-      begun (subst (λ g. Due dir e (begins bit x false) g (s .0)) p y, λ v t b. subst (λ g. Left bit (Due dir e (begins bit x false)) Rests g (k v t)) p (z v t b))
+      under-way (subst (λ g. Due dir e (begins bit x was) g (s .0)) p y, λ v t b. subst (λ g. Left bit (Due dir e (begins bit x was)) Rests g (k v t)) p (z v t b))
 
-  opens-cond : {x : Sort} {d : Driver} {c : ℕ} (b : Bool) {o u : tree.Out St Answer} → (b ≡ true → Opens x d c o) → (b ≡ false → Opens x d c u) → Opens x d c (cond b o u)
+  opens-cond : {x : Sort} {d : Driver} {c : ℕ} {was : Bool} (b : Bool) {o u : tree.Out St Answer} → (b ≡ true → Opens x d c was o) → (b ≡ false → Opens x d c was u) → Opens x d c was (cond b o u)
   opens-cond true y z = y refl
   opens-cond false y z = z refl
 
@@ -163,36 +163,36 @@ module _ (dir : Dir) (e : ℕ) where
       let x = act-stays no-wakes refl s in
       left-bind (left-bind (switched dir e dir′ e′ on c (conc .act no-wakes s) (due-stays dir e (mine dir e dir′ e′ on) c x due) (x .stage ∙ second)) (λ g _ t y. at-end y)) (λ g _ t y. at-end (ended-rests g (t .0) y))
 
-  opens-turn : (dir′ : Dir) (e′ : ℕ) (on : Bool) (c : ℕ) (s : St) → Rests c (s .0) → Opens (opSort (slotted (SetEnabled dir′ e′ on))) (s .0) c (run conc (code (slotted (SetEnabled dir′ e′ on))) s)
-  opens-turn dir′ e′ true c s r = let x = enabling dir′ e′ in
+  opens-turn : (dir′ : Dir) (e′ : ℕ) (on : Bool) (c : ℕ) (was : Bool) (s : St) → Rests c (s .0) → Opens (opSort (slotted (SetEnabled dir′ e′ on))) (s .0) c was (run conc (code (slotted (SetEnabled dir′ e′ on))) s)
+  opens-turn dir′ e′ true c was s r = let x = enabling dir′ e′ in
       opens-cond (eqb (s .0 .globals .stage) 2)
       (λ h. opens-cond (isAllocated (s .0 .allocator) dir′ e′)
-      (λ _. opens-hands x (s .0) c (cond (eqb (place dir′ e′) bit) (chargeOn (s .0) dir′ e′) c) (λ q. refl) (turn-left dir′ e′ true _ s (begun-due dir′ e′ c (s .0) r) (eqb-true _ 2 h)) (turn-hands dir′ e′ true s))
-      (λ _. over r))
-      (λ _. over r)
-  opens-turn dir′ e′ false c s r =
+      (λ _. opens-hands x (s .0) c (cond (eqb (place dir′ e′) bit) (chargeOn (s .0) dir′ e′) c) was (λ q. refl) (turn-left dir′ e′ true _ s (begun-due dir′ e′ c (s .0) r) (eqb-true _ 2 h)) (turn-hands dir′ e′ true s))
+      (λ _. at-once r))
+      (λ _. at-once r)
+  opens-turn dir′ e′ false c was s r =
       opens-cond (eqb (s .0 .globals .stage) 2)
       (λ h. opens-cond (isAllocated (s .0 .allocator) dir′ e′)
-      (λ _. opens-hands apart (s .0) c c (λ q. refl) (turn-left dir′ e′ false c s (r .due) (eqb-true _ 2 h)) (turn-hands dir′ e′ false s))
-      (λ _. over r))
-      (λ _. over r)
+      (λ _. opens-hands apart (s .0) c c was (λ q. refl) (turn-left dir′ e′ false c s (r .due) (eqb-true _ 2 h)) (turn-hands dir′ e′ false s))
+      (λ _. at-once r))
+      (λ _. at-once r)
 
   -- ---- each call
 
-  pub opens : (o : Op) (s : St) (c : ℕ) → Rests c (s .0) → Opens (opSort o) (s .0) c (run conc (code o) s)
-  opens o s c r = by (manner o)
+  pub opens : (o : Op) (s : St) (c : ℕ) (was : Bool) → Rests c (s .0) → Opens (opSort o) (s .0) c was (run conc (code o) s)
+  opens o s c was r = by (manner o)
     where
-      early : (p : tree.Out St Answer) (b : Bool) → eqb (s .0 .globals .stage) 1 ≡ b → (eqb (s .0 .globals .stage) 1 ≡ false → p ≡ ends (Refused 4) s) → (s .0 .globals .stage ≡ 1 → Opens apart (s .0) c p) → Opens apart (s .0) c p
+      early : (p : tree.Out St Answer) (b : Bool) → eqb (s .0 .globals .stage) 1 ≡ b → (eqb (s .0 .globals .stage) 1 ≡ false → p ≡ ends (Refused 4) s) → (s .0 .globals .stage ≡ 1 → Opens apart (s .0) c was p) → Opens apart (s .0) c was p
       early p true h x y = y (eqb-true _ 1 h)
-      early p false h x y = subst (λ z. Opens apart (s .0) c z) (sym (x h)) (over r)
+      early p false h x y = subst (λ z. Opens apart (s .0) c was z) (sym (x h)) (at-once r)
 
-      by : {o : Op} → Manner o → Opens (opSort o) (s .0) c (run conc (code o) s)
-      by (calm o x y) = subst (λ z. Opens z (s .0) c (run conc (code o) s)) (sym x) (opens-calm (s .0) c (calm-rests c (code o) y s r) (calm-first false (code o) y s))
-      by (gives o x y) = early (run conc (otherCode o) s) _ refl (x s) (λ h. opens-calm (s .0) c (gives-rests c (otherCode o) y s r (r .early h)) (calm-first true (otherCode o) y s))
-      by (turns dir′ e′ on) = opens-turn dir′ e′ on c s r
-      by polls = opens-cond (eqb (s .0 .globals .stage) 2) (λ h. opens-calm (s .0) c (left-more (polled dir e c .on s (r .due, eqb-true _ 2 h)) ended-rests) (poll-first s)) (λ _. over r)
+      by : {o : Op} → Manner o → Opens (opSort o) (s .0) c was (run conc (code o) s)
+      by (calm o x y) = subst (λ z. Opens z (s .0) c was (run conc (code o) s)) (sym x) (opens-calm (s .0) c was (calm-rests c (code o) y s r) (calm-first false (code o) y s))
+      by (gives o x y) = early (run conc (otherCode o) s) _ refl (x s) (λ h. opens-calm (s .0) c was (gives-rests c (otherCode o) y s r (r .early h)) (calm-first true (otherCode o) y s))
+      by (turns dir′ e′ on) = opens-turn dir′ e′ on c was s r
+      by polls = opens-cond (eqb (s .0 .globals .stage) 2) (λ h. opens-calm (s .0) c was (left-more (polled dir e c .on s (r .due, eqb-true _ 2 h)) ended-rests) (poll-first s)) (λ _. at-once r)
 
   -- an accepted start-up, from whatever was before
-  pub opens-start : (x : Config) (b : Buf) (d : Driver) (c : ℕ) → Opens starting d c (run conc (the-calls.starting x) (driverOf .fresh x, b))
+  pub opens-start : (x : Config) (b : Buf) (d : Driver) (c : ℕ) (was : Bool) → Opens starting d c was (run conc (the-calls.starting x) (driverOf .fresh x, b))
   unfolding freshDriver
-  opens-start x b d c = opens-hands starting d c 0 (λ q. refl) (calm-rests 0 (the-calls.starting x) (start-up-calm x) (driverOf .fresh x, b) (none-rests (driverOf .fresh x) refl)) (start-hands x (driverOf .fresh x, b))
+  opens-start x b d c was = opens-hands starting d c 0 was (λ q. refl) (calm-rests 0 (the-calls.starting x) (start-up-calm x) (driverOf .fresh x, b) (none-rests (driverOf .fresh x) refl)) (start-hands x (driverOf .fresh x, b))

@@ -14,3 +14,5 @@ pub mod Left
 pub mod Switching
 pub mod Polling
 pub mod Begins
+pub mod Course
+pub mod Now
