@@ -65,6 +65,9 @@ turn-hands Out e on s = by (isOn (epOn (t .0) Out e .iso))
 start-hands : (c : Config) (s : St) → Hands (run conc (the-calls.starting c) s)
 start-hands c s = hands tt
 
+pub start-first : (c : Config) (s : St) → First (run conc (the-calls.starting c) s)
+start-first c s = first-of (start-hands c s)
+
 poll-first : (s : St) → First (run conc (operation bus.poll) s)
 poll-first s = first-bind (first-cond (isOn (s .0 .globals .power)) (some tt) none) (λ n t. none)
 

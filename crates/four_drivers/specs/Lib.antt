@@ -16,3 +16,4 @@ pub mod Polling
 pub mod Begins
 pub mod Course
 pub mod Now
+pub mod Continues
