@@ -3,7 +3,6 @@ pub mod History
 pub mod Limit
 pub mod Histories
 pub mod Runs
-pub mod Code
 pub mod Returns
 pub mod Stays
 pub mod Enabled
@@ -17,3 +16,4 @@ pub mod Begins
 pub mod Course
 pub mod Now
 pub mod Continues
+pub mod Code
