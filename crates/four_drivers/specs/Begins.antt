@@ -1,7 +1,7 @@
 -- What each call begins: an endpoint's charge and what is left then. No operation begins with a write of ep_config
-use mathlib.Core.Bool.{Bool, true, false, not, cond, _&&_, _||_}
+use mathlib.Core.Bool.{Bool, true, false, cond, _||_}
 use mathlib.Core.Path.{_≡_, refl, ap, subst, sym, _∙_}
-use Prim.Native.Nat.{ℕ, zero, suc, _+_, _%_}
+use Prim.Native.Nat.{ℕ}
 use native.Mathlib.Omega.{arith}
 use lib.Dec.{eqb}
 use borrow.Author.Tests.{eqb-true}
@@ -20,7 +20,7 @@ use Rattle.script.specs.Script.{Script, ret, run, row, switch, no-wakes}
 use Rattle.script.specs.Statics.{isOn, wake}
 use Rattle.script.specs.Answers.{Answer, Refused, operation, resultless, isAllocated}
 use Rattle.script.specs.Bus as bus
-use Rattle.script.specs.Calls.{Config, Op, interrupt, slotted, other, aside, SetEnabled, BusPoll, code, otherCode}
+use Rattle.script.specs.Calls.{Config, Op, slotted, SetEnabled, code, otherCode}
 use Rattle.script.specs.Calls as the-calls
 use Rattle.script.specs.Machine.{Buf}
 use Rattle.ops.specs.Rings.{St}
@@ -28,13 +28,13 @@ use Rattle.ops.specs.Conc.{conc}
 use Rattle.way.specs.Under.{driverOf, finish}
 use Rattle.book.specs.Cells.{epOn-by}
 use Rattle.bus_time.specs.Time.{chargeOf}
-use Rattle.shared_time.specs.Sharing.{Sort, enabling, starting, going, apart, opSort, chargeOn}
-use Rattle.four_drivers.specs.History.{cleared, byAccess}
+use Rattle.shared_time.specs.Sharing.{Sort, enabling, starting, apart, opSort, chargeOn}
+use Rattle.four_drivers.specs.History.{byAccess}
 use Rattle.four_drivers.specs.Histories.{none-set}
 use Rattle.four_drivers.specs.Enabled.{isEnabled, begins}
-use Rattle.four_drivers.specs.Stays.{configOf, Stays, still, stays, act-stays}
+use Rattle.four_drivers.specs.Stays.{configOf, Stays, act-stays}
 use Rattle.four_drivers.specs.Calm.{Quiet, Calm}
-use Rattle.four_drivers.specs.CalmCalls.{Early, Manner, calm, gives, turns, polls, manner, start-up-calm}
+use Rattle.four_drivers.specs.CalmCalls.{Manner, calm, gives, turns, polls, manner, start-up-calm}
 use Rattle.four_drivers.specs.Left.{Left, at-end, at-ask, left-bind, left-more, First, none, some, first-bind, first-cond, quiet, keeps, none-keeps, calm-run, calm-first}
 use Rattle.four_drivers.specs.Switching.{Due, due-stays, Ended, mine, switched}
 use Rattle.four_drivers.specs.Polling.{polled}

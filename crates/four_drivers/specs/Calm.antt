@@ -2,26 +2,15 @@
 use mathlib.Core.Bool.{Bool, true, false, not}
 use Prim.Native.Nat.{ℕ}
 use Rattle.regs.specs.declared.Access.{Access}
-use Rattle.regs.specs.declared.Access.the-variants.{Read, Write, Receive, Transmit, Ep0Dma, Wait, Callback}
-use Rattle.regs.specs.declared.Reg.the-variants.{EpConfig}
+use Rattle.regs.specs.declared.Access.the-variants.{Read, Write, Wait, Callback}
 use Rattle.script.specs.Script.{Script, ret, bind, test, read-then, write-then, wait-then, callback-then, get-then, put-then, is-then, look-then, fetch-then, act-then, hand-then, row-then, handAsk}
-use Rattle.script.specs.Every.{sameReg}
+use Rattle.four_drivers.specs.Enabled.{writesConfig}
 use Rattle.four_drivers.specs.Stays.{allowed}
 
 -- a type where a test holds, else none
 abbrev pub If : Bool → Type 0 → Type 0
 If true X = X
 If false X = ⊥
-
--- is it a write of ep_config?
-abbrev pub writesConfig : Access → Bool
-writesConfig (Write r e w) = sameReg r EpConfig
-writesConfig (Read r e) = false
-writesConfig (Receive e x) = false
-writesConfig (Transmit e x) = false
-writesConfig (Ep0Dma x) = false
-writesConfig (Wait n) = false
-writesConfig Callback = false
 
 abbrev pub Quiet : Access → Type 0
 Quiet q = If (not (writesConfig q)) (Unit {0})

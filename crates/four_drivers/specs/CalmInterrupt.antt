@@ -1,6 +1,6 @@
 -- The interrupt and an advance are calm. A proof has the shape of its script: a pair for each bind and test, a function for each number brought, `tt` at each
 -- access that is no write of ep_config
-use mathlib.Core.Bool.{Bool, true, false}
+use mathlib.Core.Bool.{Bool}
 use mathlib.Core.List.{List, [], _∷_}
 use Prim.Native.Nat.{ℕ, zero, suc}
 use Rattle.bits.specs.Walk.{setBits}

@@ -6,15 +6,13 @@ use mathlib.Core.Path.{_≡_, refl, ap, subst, sym, _∙_}
 use Prim.Native.Nat.{ℕ, _%_, _≤_, _<_}
 use lib.Dec.{eqb}
 use lib.ListN.{replicate}
-use Rattle.state.specs.Driver.{Driver}
 use Rattle.state.specs.State.{view, saved}
 use Rattle.script.specs.Answers.{Answer}
-use Rattle.script.specs.Calls.{Config, Op}
-use Rattle.script.specs.Machine.{Buf, Event, idle, Machine, Ans}
+use Rattle.script.specs.Machine.{Buf, idle, Ans}
 use Rattle.way.specs.Under.{decode, machineOf}
 use Rattle.way.specs.Goes.{Called}
 use Rattle.bus_time.specs.Time.{inUse, uncharged}
-use Rattle.four_drivers.specs.Four.{Four, Turn, called, changed, next, after}
+use Rattle.four_drivers.specs.Four.{Four, Turn, called, next, after}
 use Rattle.four_drivers.specs.History.{history, timeBy}
 use Rattle.four_drivers.specs.Limit.{limit}
 use Rattle.four_drivers.specs.Histories.{in-use-is}

@@ -2,27 +2,21 @@
 use mathlib.Core.Bool.{Bool, true, false, not, cond, true≢false}
 use mathlib.Core.Path.{_≡_, refl, sym, _∙_}
 use Prim.Native.Nat.{ℕ, zero, suc}
-use Rattle.regs.specs.declared.Access.{Access}
 use Rattle.state.specs.Driver.{Driver}
 use Rattle.script.specs.Tree as tree
 use Rattle.script.specs.Answers.{Answer}
 use Rattle.script.specs.Calls.{Config, Op, slots, passes, irq, code, startRow, calls}
-use Rattle.script.specs.Machine.{Buf, Call, start, begin, go, question, Way, idle, busy, Machine, Ans, ended, handed, told, lentTo, misfit, stay, halt, beside, begun, started}
+use Rattle.script.specs.Machine.{Buf, Call, start, begin, go, question, Way, idle, busy, Machine, lentTo, misfit, stay, halt, beside, begun, started}
 use Rattle.ops.specs.Rings.{St}
 use Rattle.ops.specs.Conc.{conc}
 use Rattle.script.specs.Script.{run}
 use Rattle.way.specs.Under.{driverOf, drive}
 use Rattle.way.specs.Goes.{Called}
 use Rattle.shared_time.specs.Sharing.{going, sortOf}
-use Rattle.four_drivers.specs.Calm.{If, writesConfig}
+use Rattle.four_drivers.specs.Enabled.{writesConfig, handsConfig}
+use Rattle.four_drivers.specs.Calm.{If}
 use Rattle.four_drivers.specs.Left.{First, none, some}
 use Rattle.four_drivers.specs.Begins.{code-first, start-first}
-
--- is a write of ep_config handed out?
-abbrev pub handsConfig : Ans Answer → Bool
-handsConfig (ended a) = false
-handsConfig (handed q) = writesConfig q
-handsConfig (told n) = false
 
 -- none is
 abbrev None : Called → Type 0

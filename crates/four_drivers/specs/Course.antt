@@ -5,29 +5,23 @@ use mathlib.Core.Path.{_≡_, refl, ap, subst, sym, _∙_}
 use Prim.Native.Nat.{ℕ, zero, suc, _+_, _*_, _%_, _<_}
 use native.Mathlib.Omega.{arith}
 use lib.Dec.{eqb}
-use lib.ListN.{getD, replicate}
+use lib.ListN.{getD}
 use borrow.Author.Tests.{eqb-true, eqb-false}
-use Rattle.regs.specs.declared.Access.{Access}
 use Rattle.regs.specs.declared.Dir.{Dir}
 use Rattle.regs.specs.declared.Dir.the-variants.{Out, In}
 use Rattle.regs.specs.Enables.{place}
 use Rattle.state.specs.Driver.{Driver}
 use Rattle.script.specs.Tree as tree
-use Rattle.script.specs.Tree.{ends, asks}
-use Rattle.script.specs.Script.{run}
 use Rattle.script.specs.Answers.{Answer, Refused}
-use Rattle.script.specs.Calls.{Config, Op, interrupt, slotted, other, aside, Aside, asideCode, slots, passes, code, irq, startRow, tooWide, calls}
-use Rattle.script.specs.Calls as the-calls
-use Rattle.script.specs.Machine.{Buf, Call, start, begin, go, question, Event, Way, idle, busy, Awaits, Machine, Ans, ended, handed, told, lentTo, misfit, stay, halt, beside, begun, continued, started, over}
+use Rattle.script.specs.Calls.{Config, Op, interrupt, slotted, other, aside, asideCode, slots, irq, startRow, calls}
+use Rattle.script.specs.Machine.{Buf, Call, start, begin, go, question, Way, idle, busy, Awaits, Machine, ended, lentTo, misfit, stay, halt, beside, begun, continued, started, over}
 use Rattle.ops.specs.Rings.{St}
-use Rattle.ops.specs.Conc.{conc}
 use Rattle.way.specs.Under.{driverOf, drive}
 use Rattle.way.specs.Goes.{Called}
-use Rattle.bus_time.specs.Time.{inUse, uncharged}
-use Rattle.shared_time.specs.Sharing.{Sort, enabling, starting, going, apart, opSort, sortOf, chargeOn, timeAfter, turnedDown, sharedCall}
+use Rattle.shared_time.specs.Sharing.{Sort, starting, going, apart, opSort, sortOf, chargeOn, timeAfter, turnedDown, sharedCall}
 use Rattle.four_drivers.specs.Four.{Four, Turn, called, next, after}
-use Rattle.four_drivers.specs.History.{Line, lineOf, history, cleared, byAccess, byAnswer, chargeAfter, sum}
-use Rattle.four_drivers.specs.Limit.{Within, always-within, uncharged-within}
+use Rattle.four_drivers.specs.History.{lineOf, history, byAnswer}
+use Rattle.four_drivers.specs.Limit.{Within, always-within}
 use Rattle.four_drivers.specs.Histories.{each-charge, zeros}
 use Rattle.four_drivers.specs.Enabled.{isEnabled, beginsBy, lastBegun, isBusy, FourAtFirst}
 use Rattle.four_drivers.specs.Stays.{Stays, still, stays}

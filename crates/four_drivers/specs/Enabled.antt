@@ -5,11 +5,15 @@ use mathlib.Core.List.{List, [], _∷_}
 use mathlib.Core.Path.{_≡_}
 use Prim.Native.Nat.{ℕ, _+_, _%_, _<_}
 use lib.Dec.{eqb}
+use Rattle.regs.specs.declared.Access.{Access}
+use Rattle.regs.specs.declared.Access.the-variants.{Read, Write, Receive, Transmit, Ep0Dma, Wait, Callback}
+use Rattle.regs.specs.declared.Reg.the-variants.{EpConfig}
 use Rattle.regs.specs.declared.Dir.{Dir}
 use Rattle.regs.specs.declared.Dir.the-variants.{Out, In}
 use Rattle.regs.specs.Enables as enables
 use Rattle.regs.specs.Enables.{place}
 use Rattle.state.specs.Driver.{Driver}
+use Rattle.script.specs.Every.{sameReg}
 use Rattle.script.specs.Answers.{Answer}
 use Rattle.script.specs.Machine.{Way, idle, busy, Machine, Ans, ended, handed, told}
 use Rattle.bus_time.specs.Time.{uncharged}
@@ -59,6 +63,24 @@ isEnabling i m ls dir e = isBusy (m .way) && lastBegun i (place dir e) ls false
 -- the charge of the endpoints now enabled or being enabled
 abbrev pub countedTime : (ℕ → Machine Answer Driver) → List Line → ℕ
 countedTime m ls = sumOf (λ i dir e. cond (isEnabled (m i .st) dir e || isEnabling i (m i) ls dir e) (chargeOn (m i .st) dir e) 0)
+
+-- ---- what gives time back
+
+-- is it a write of ep_config?
+abbrev pub writesConfig : Access → Bool
+writesConfig (Write r e w) = sameReg r EpConfig
+writesConfig (Read r e) = false
+writesConfig (Receive e x) = false
+writesConfig (Transmit e x) = false
+writesConfig (Ep0Dma x) = false
+writesConfig (Wait n) = false
+writesConfig Callback = false
+
+-- is a write of ep_config handed out?
+abbrev pub handsConfig : Ans Answer → Bool
+handsConfig (ended a) = false
+handsConfig (handed q) = writesConfig q
+handsConfig (told n) = false
 
 -- ---- at first
 

@@ -1,9 +1,9 @@
 -- The record is what the history says
-use mathlib.Core.Bool.{Bool, true, false, cond, _&&_}
+use mathlib.Core.Bool.{Bool, true, false, cond}
 use mathlib.Core.List.{List, [], _∷_}
 use mathlib.Core.Logic.{_⊎_, inl, inr, ⊎-elim}
 use mathlib.Core.Path.{_≡_, refl, ap, sym, _∙_}
-use Prim.Native.Nat.{ℕ, zero, suc, _+_, _*_, _/_, _%_, _^_, _≤_, _<_}
+use Prim.Native.Nat.{ℕ, zero, suc, _+_, _*_, _%_, _^_, _≤_, _<_}
 use native.Mathlib.Nat.{zero-div}
 use native.Mathlib.Omega.{arith}
 use lib.Dec.{eqb}
@@ -24,12 +24,12 @@ use Rattle.script.specs.Calls.{calls}
 use Rattle.script.specs.Machine.{Buf, Machine, Ans, ended, handed, told, lentTo}
 use Rattle.way.specs.Under.{driverOf, drive}
 use Rattle.way.specs.Goes.{Called}
-use Rattle.bus_time.specs.Time.{entryOf, total, inUse, passes, entryKept, kept, keepOf, uncharged}
+use Rattle.bus_time.specs.Time.{entryOf, total, inUse, entryKept, kept, keepOf, uncharged}
 use Rattle.bus_time.specs.TimeLaws.{total-none, kept-in, kept-out}
-use Rattle.shared_time.specs.Sharing.{Sort, enabling, starting, going, apart, sortOf, chargeOn, isHanded, written, timeAfter, turnedDown, settled}
+use Rattle.shared_time.specs.Sharing.{Sort, enabling, starting, going, apart, sortOf, chargeOn, written, timeAfter, turnedDown, settled}
 use Rattle.four_drivers.specs.Four.{Four, Turn, called, next, after}
-use Rattle.four_drivers.specs.History.{Line, lineOf, history, cleared, byAccess, byAnswer, chargeAfter, chargeBy, sum, timeBy}
-use Rattle.four_drivers.specs.Limit.{Within, entry-lt, always-within, uncharged-within}
+use Rattle.four_drivers.specs.History.{lineOf, history, cleared, byAccess, byAnswer, chargeAfter, chargeBy, sum, timeBy}
+use Rattle.four_drivers.specs.Limit.{Within, always-within, uncharged-within}
 
 -- the answer that was given tells the record after the call: one that was turned down handed nothing out
 told-by : (i : ℕ) (x : Sort) (m : Machine Answer Driver) (t : List ℕ) (b : Buf) (y : Called) → settled i x m t b y .1 ≡ timeAfter i x (settled i x m t b y .0 .0) (m .st) t

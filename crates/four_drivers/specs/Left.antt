@@ -1,7 +1,7 @@
 -- What is left of an operation: a charge's way through its accesses, whatever is read, and what it is at the end. Calm scripts leave it
 use mathlib.Core.Bool.{Bool, true, false, not, cond}
-use mathlib.Core.Path.{_≡_, refl, ap, subst, sym, _∙_}
-use Prim.Native.Nat.{ℕ, zero, suc}
+use mathlib.Core.Path.{_≡_, refl, subst, sym, _∙_}
+use Prim.Native.Nat.{ℕ}
 use Rattle.regs.specs.declared.Access.{Access}
 use Rattle.regs.specs.declared.Access.the-variants.{Read, Write, Receive, Transmit, Ep0Dma, Wait, Callback}
 use Rattle.regs.specs.declared.Reg.the-variants.{EpConfig}
@@ -10,13 +10,13 @@ use Rattle.state.specs.Driver.{Driver}
 use Rattle.script.specs.Tree as tree
 use Rattle.script.specs.Tree.{ends, asks, bindOut}
 use Rattle.script.specs.Cells.{Cell, Val}
-use Rattle.script.specs.Script.{Script, ret, bind, test, read-then, write-then, wait-then, callback-then, get-then, put-then, is-then, look-then, fetch-then, act-then, hand-then, row-then, Act, Hand, handAsk, run}
+use Rattle.script.specs.Script.{Script, ret, bind, test, read-then, write-then, wait-then, callback-then, get-then, put-then, is-then, look-then, fetch-then, act-then, hand-then, Act, Hand, handAsk, run}
 use Rattle.script.specs.Every.{sameReg}
 use Rattle.ops.specs.Rings.{St}
 use Rattle.ops.specs.Conc.{conc}
 use Rattle.four_drivers.specs.History.{cleared}
 use Rattle.four_drivers.specs.Stays.{configOf, Stays, allowed, put-stays, act-stays, hand-stays, gives-config}
-use Rattle.four_drivers.specs.Calm.{If, writesConfig, Quiet, Calm}
+use Rattle.four_drivers.specs.Calm.{If, Quiet, Calm}
 
 -- from a charge of the endpoint with this bit: X of the charge and the state at each access, P at each end. Between an access and the next call all stays but
 -- what open, close and queue change

@@ -1,8 +1,8 @@
 -- "The charge is always that of the endpoints now enabled, each counted once": after every list of calls of four drivers, from an uncharged record
 use mathlib.Core.Bool.{Bool, true, false, cond, _&&_, _||_}
-use mathlib.Core.List.{List, []}
+use mathlib.Core.List.{List}
 use mathlib.Core.Path.{_≡_, refl, ap, subst, sym, _∙_}
-use Prim.Native.Nat.{ℕ, zero, suc, _+_, _*_, _%_, _<_}
+use Prim.Native.Nat.{ℕ, zero, suc, _+_, _*_, _<_}
 use native.Mathlib.Nat.{mod-eq-of-lt}
 use native.Mathlib.Omega.{arith}
 use lib.ListN.{getD}
@@ -11,11 +11,11 @@ use Rattle.regs.specs.declared.Dir.the-variants.{Out, In}
 use Rattle.regs.specs.Enables.{place}
 use Rattle.state.specs.Driver.{Driver}
 use Rattle.script.specs.Answers.{Answer}
-use Rattle.script.specs.Machine.{Way, idle, Machine}
+use Rattle.script.specs.Machine.{Way, idle}
 use Rattle.bus_time.specs.Time.{inUse}
 use Rattle.shared_time.specs.Sharing.{chargeOn}
 use Rattle.four_drivers.specs.Four.{Four, Turn, after}
-use Rattle.four_drivers.specs.History.{Line, history, sum}
+use Rattle.four_drivers.specs.History.{history, sum}
 use Rattle.four_drivers.specs.Limit.{Within, uncharged-within}
 use Rattle.four_drivers.specs.Histories.{sum-as, by-drivers}
 use Rattle.four_drivers.specs.Enabled.{isEnabled, sumOf, enabledTime, lastBegun, isBusy, isEnabling, countedTime, FourAtFirst}

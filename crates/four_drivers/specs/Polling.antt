@@ -1,10 +1,9 @@
 -- An endpoint's charge over a poll of the bus: a reset gives it back with the write of ep_config
-use mathlib.Core.Bool.{Bool, true, false, cond, _||_}
-use mathlib.Core.Path.{_≡_, refl, ap, subst, sym, _∙_}
+use mathlib.Core.Bool.{Bool, false, cond, _||_}
+use mathlib.Core.Path.{_≡_, refl, ap, sym, _∙_}
 use Prim.Native.Nat.{ℕ, zero, suc}
 use Rattle.bits.specs.Bit.{isSet}
 use Rattle.regs.specs.declared.Dir.{Dir}
-use Rattle.regs.specs.Flags.{busRst, suspend}
 use Rattle.regs.specs.Enables as enables
 use Rattle.regs.specs.Enables.{place}
 use Rattle.state.specs.Driver.{Driver}
@@ -20,10 +19,10 @@ use Rattle.ops.specs.Rings.{St}
 use Rattle.ops.specs.Conc.{conc}
 use Rattle.shared_time.specs.Sharing.{chargeOn}
 use Rattle.four_drivers.specs.Histories.{none-set}
-use Rattle.four_drivers.specs.Stays.{configOf, Turns, Stays, still, then, stays, act-stays, reset-stays, reset-turns}
+use Rattle.four_drivers.specs.Stays.{Turns, still, act-stays, reset-stays, reset-turns}
 use Rattle.four_drivers.specs.Calm.{Calm}
-use Rattle.four_drivers.specs.Left.{Left, at-end, at-ask, left-bind, left-more, left-cond, Goes, Keeps, keeps, calm-run, calm-then}
-use Rattle.four_drivers.specs.Switching.{Due, due-stays, Ended, ended-stays, calm-ended}
+use Rattle.four_drivers.specs.Left.{Left, at-end, at-ask, left-bind, left-cond, Goes, keeps, calm-then}
+use Rattle.four_drivers.specs.Switching.{Due, Ended, ended-stays, calm-ended}
 
 pub naks-calm : (n e : ℕ) → Calm false (nakAll {i = false} n e)
 unfolding nakAll

@@ -1,41 +1,30 @@
 -- An endpoint's charge while one is enabled or disabled, and over a poll of the bus with its reset
-use mathlib.Core.Bool.{Bool, true, false, not, cond, _&&_, _||_}
+use mathlib.Core.Bool.{Bool, true, false, cond, _&&_, _||_}
 use mathlib.Core.List.{[], _∷_}
 use mathlib.Core.Path.{_≡_, refl, ap, subst, sym, _∙_}
 use Prim.Native.Nat.{ℕ, zero, suc}
-use native.Mathlib.Omega.{arith}
 use lib.Dec.{eqb}
-use Rattle.bits.specs.Bit.{isSet, withBit, pick, set-with}
-use Rattle.regs.specs.declared.Reg.the-variants.{IntFg, MisSt, DevAd, EpTLen, EpRxCtrl, EpTxCtrl}
+use Rattle.bits.specs.Bit.{isSet, pick, set-with}
 use Rattle.regs.specs.declared.Dir.{Dir}
 use Rattle.regs.specs.declared.Dir.the-variants.{Out, In}
-use Rattle.regs.specs.ControlWord.{ACK, NYET, NAK, DATA0, wordOf}
-use Rattle.regs.specs.Flags.{busRst, suspend, SUSPEND}
-use Rattle.regs.specs.MisStatus.{suspended}
-use Rattle.regs.specs.IntEn.{withBusRst, withSuspend}
 use Rattle.regs.specs.Enables as enables
 use Rattle.regs.specs.Enables.{place}
-use Rattle.frame.specs.Advance.{NO_FRAME}
 use Rattle.state.specs.Driver.{Driver, epOn}
 use Rattle.state.specs.Wakes.{wakeCode}
 use Rattle.script.specs.Tree as tree
 use Rattle.script.specs.Tree.{ends}
-use Rattle.script.specs.Cells.{paced-cell}
-use Rattle.script.specs.Script as script
-use Rattle.script.specs.Script.{Script, ret, bind, test, _>>=_, _>>_, run, rows, read, write, put, act, hand, reset-ring, set-enabled, waken, switch, bus-reset}
-use Rattle.script.specs.Statics.{isOn, flag, withArmed, renewed, modifyEp, modifyEpType, modifyIntEn, wake, wakeAll}
+use Rattle.script.specs.Script.{Script, bind, run, rows, waken, switch}
+use Rattle.script.specs.Statics.{isOn, wake}
 use Rattle.script.specs.Bus as bus
-use Rattle.script.specs.Bus.{nakAll}
 use Rattle.ops.specs.Records.{isoOut}
 use Rattle.ops.specs.Rings.{St, configStep}
 use Rattle.ops.specs.Conc.{conc}
 use Rattle.bus_time.specs.Time.{chargeOf}
 use Rattle.shared_time.specs.Sharing.{chargeOn}
-use Rattle.four_drivers.specs.Histories.{none-set}
 use Rattle.four_drivers.specs.Enabled.{isEnabled}
-use Rattle.four_drivers.specs.Stays.{configOf, Turns, Stays, still, then, stays, act-stays, switch-stays, reset-stays, reset-turns, turned, enabled-turns, row-turns}
+use Rattle.four_drivers.specs.Stays.{configOf, Turns, Stays, still, stays, act-stays, switch-stays, turned, enabled-turns, row-turns}
 use Rattle.four_drivers.specs.Calm.{Calm}
-use Rattle.four_drivers.specs.Left.{Left, at-end, at-ask, left-bind, left-more, left-cond, Goes, Keeps, keeps, calm-run, calm-then}
+use Rattle.four_drivers.specs.Left.{Left, at-end, at-ask, left-bind, left-more, Goes, Keeps, keeps, calm-run, calm-then}
 
 -- ---- what is due
 
