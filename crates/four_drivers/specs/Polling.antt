@@ -60,8 +60,10 @@ module _ (dir : Dir) (e : ℕ) where
     first x rest = calm-then (keeps (ended-stays dir e c)) bit c (Due dir e false) (λ d k. k .0) x rest
 
     of-reset : Polling bus.busReset
-    of-reset = first (tt, tt) (λ _. first (tt, tt) (λ _. first (tt, tt) (λ _. first (naks-calm 15 1) (λ _. record { on = λ s k.
-        left-bind {f = λ (_ : Unit {0}) (v : St). run conc (wakeAll {i = false}) v} (of-row c s (k .1)) (λ g _ t y. at-end (ended-stays dir e g _ _ (act-stays (waken every-endpoint) refl t) y)) }))))
+    of-reset = first (tt, tt) (λ _. first (tt, tt) (λ _. first (tt, tt) (λ _. first (naks-calm 15 1) (λ _. record {
+      on = λ s k.
+          left-bind {f = λ (_ : Unit {0}) (v : St). run conc (wakeAll {i = false}) v} (of-row c s (k .1)) (λ g _ t y. at-end (ended-stays dir e g _ _ (act-stays (waken every-endpoint) refl t) y));
+    }))))
 
     calm-on : {A : Type 0} {p : Script false A} → Calm false p → Polling p
     calm-on {p = p} x = record { on = λ s k. calm-ended dir e c p x s k }

@@ -108,10 +108,12 @@ module _ (dir : Dir) (e : ℕ) where
 
       -- the write of ep_config
       of-config : (iso : Bool) → isoOut d dir′ e′ ≡ false → Turning (bus.kept {i = false} dir′ e′ iso on)
-      of-config iso plain = first (λ _. tt, λ _. (tt, λ _. (tt, tt))) (λ _. record { on = λ t y.
-          let x = enabled-turns (t .0) dir′ e′ on (iso-stays dir′ e′ y ∙ plain) in
-          let z = turning c (t .0) _ x (shown (t .0) y) in
-          at-ask (z .0) (λ _ u w. at-end (due-stays dir e false _ w (z .1), w .stage ∙ (x .stage ∙ (y .stage ∙ second)))) })
+      of-config iso plain = first (λ _. tt, λ _. (tt, λ _. (tt, tt))) (λ _. record {
+        on = λ t y.
+            let x = enabled-turns (t .0) dir′ e′ on (iso-stays dir′ e′ y ∙ plain) in
+            let z = turning c (t .0) _ x (shown (t .0) y) in
+            at-ask (z .0) (λ _ u w. at-end (due-stays dir e false _ w (z .1), w .stage ∙ (x .stage ∙ (y .stage ∙ second))));
+      })
 
 module _ (dir : Dir) (e e′ : ℕ) (on : Bool) (c : ℕ) (d : Driver) (second : d .globals .stage ≡ 2) where
   module _ (due : Due dir e (mine dir e In e′ on) c d) where
