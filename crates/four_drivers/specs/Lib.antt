@@ -17,3 +17,4 @@ pub mod Course
 pub mod Now
 pub mod Continues
 pub mod Code
+pub mod Gave
