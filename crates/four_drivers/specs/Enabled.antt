@@ -5,6 +5,7 @@ use mathlib.Core.List.{List, [], _∷_}
 use mathlib.Core.Path.{_≡_}
 use Prim.Native.Nat.{ℕ, _+_, _%_, _<_}
 use lib.Dec.{eqb}
+use Rattle.bits.specs.Bit.{isSet}
 use Rattle.regs.specs.declared.Access.{Access}
 use Rattle.regs.specs.declared.Access.the-variants.{Read, Write, Receive, Transmit, Ep0Dma, Wait, Callback}
 use Rattle.regs.specs.declared.Reg.the-variants.{EpConfig}
@@ -13,6 +14,7 @@ use Rattle.regs.specs.declared.Dir.the-variants.{Out, In}
 use Rattle.regs.specs.Enables as enables
 use Rattle.regs.specs.Enables.{place}
 use Rattle.state.specs.Driver.{Driver}
+use Rattle.alloc.specs.Alloc.{takenIn}
 use Rattle.script.specs.Every.{sameReg}
 use Rattle.script.specs.Answers.{Answer}
 use Rattle.script.specs.Machine.{Way, idle, busy, Machine, Ans, ended, handed, told}
@@ -81,6 +83,28 @@ abbrev pub handsConfig : Ans Answer → Bool
 handsConfig (ended a) = false
 handsConfig (handed q) = writesConfig q
 handsConfig (told n) = false
+
+-- ---- how long an endpoint's kind and maximum stay: from when its number is taken in its direction to the driver's next accepted start-up
+
+abbrev pub isTaken : Driver → Dir → ℕ → Bool
+isTaken d dir e = isSet (takenIn (d .allocator) dir) (e % 16)
+
+-- an accepted start-up
+abbrev pub restarts : Sort → Ans Answer → Bool
+restarts starting (handed q) = true
+restarts starting (ended a) = false
+restarts starting (told n) = false
+restarts (enabling dir e) a = false
+restarts going a = false
+restarts apart a = false
+
+-- driver i's, in a line and somewhere in a history
+abbrev pub restartsAt : ℕ → Line → Bool
+restartsAt i l = eqb (l .who % 4) i && restarts (l .sort) (l .answer)
+
+abbrev pub restarted : ℕ → List Line → Bool
+restarted i [] = false
+restarted i (l ∷ ls) = restartsAt i l || restarted i ls
 
 -- ---- at first
 

@@ -12,24 +12,20 @@ use Rattle.regs.specs.declared.Dir.the-variants.{Out, In}
 use Rattle.state.specs.declared.Allocator.{Allocator}
 use Rattle.state.specs.Driver.{Driver, key, noEp, epOn, withOn, withAllocator}
 use Rattle.alloc.specs.declared.Allocation.{Allocation}
-use Rattle.alloc.specs.Alloc.{takenIn, isIso, allocateOf, allocateEp0Of, withNext}
+use Rattle.alloc.specs.Alloc.{takenIn, isIso, withNext}
 use Rattle.alloc.specs.Outcome as outcomes
 use Rattle.alloc.specs.Outcome.{sameDir, Takes, Outcome, six, seven, eight, given, outcome}
 use Rattle.alloc.specs.Run.{ep0, Step, kept, gave-ep0, step}
 use Rattle.script.specs.Tree as tree
 use Rattle.script.specs.Tree.{ends, asks, bindOut}
-use Rattle.script.specs.Cells.{Cell, Val}
-use Rattle.script.specs.Script.{Script, ret, bind, test, read-then, write-then, wait-then, callback-then, get-then, put-then, is-then, look-then, fetch-then, act-then, hand-then, row-then, run, rows, lastOf, Act, complete, reset-ring, set-enabled, fill, fill0, open-oldest, close-oldest, take-oldest, enqueue, allocate, allocate0, no-wakes, waken, Hand, Row, switch, bus-reset}
+use Rattle.script.specs.Script.{Script, ret, bind, test, read-then, write-then, wait-then, callback-then, get-then, put-then, is-then, look-then, fetch-then, act-then, hand-then, row-then, run, rows, lastOf, Act, complete, reset-ring, set-enabled, fill, fill0, open-oldest, close-oldest, take-oldest, enqueue, allocate, allocate0, no-wakes, waken, Row, switch, bus-reset}
 use Rattle.ops.specs.Records.{isoOut, configured, enabledOn, recordGiven, setsGiven, givenTo, allocatedOn, startedWith, allocatedEp0}
 use Rattle.ops.specs.Rings.{St, configStep}
 use Rattle.ops.specs.Conc.{conc}
 use Rattle.book.specs.Cells.{on-key}
 use Rattle.book.specs.Sorts.{Steady, put-steady, act-steady, hand-steady, row-steady}
+use Rattle.four_drivers.specs.Enabled.{isTaken}
 use Rattle.four_drivers.specs.Stays.{givenOf, Turns, put-stays, act-stays, hand-stays, switch-stays, reset-stays}
-
--- is the endpoint's number taken in its direction?
-abbrev pub isTaken : Driver → Dir → ℕ → Bool
-isTaken d dir e = isSet (takenIn (d .allocator) dir) (e % 16)
 
 pub record Gave (d d′ : Driver) : Type 0 where
   pub taken : (dir : Dir) (e : ℕ) → isTaken d dir e ≡ true → isTaken d′ dir e ≡ true

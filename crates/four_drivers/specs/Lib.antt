@@ -18,3 +18,4 @@ pub mod Now
 pub mod Continues
 pub mod Code
 pub mod Gave
+pub mod Allocated
