@@ -15,9 +15,9 @@ use Rattle.script.specs.Machine.{Way, idle}
 use Rattle.bus_time.specs.Time.{inUse}
 use Rattle.shared_time.specs.Sharing.{chargeOn}
 use Rattle.four_drivers.specs.Four.{Four, Turn, after}
-use Rattle.four_drivers.specs.History.{history, sum}
+use Rattle.four_drivers.specs.History.{history, sum, timeBy}
 use Rattle.four_drivers.specs.Limit.{Within, uncharged-within}
-use Rattle.four_drivers.specs.Histories.{sum-as, by-drivers}
+use Rattle.four_drivers.specs.Histories.{sum-as, by-drivers, in-use-is}
 use Rattle.four_drivers.specs.Enabled.{isEnabled, sumOf, enabledTime, lastBegun, isBusy, isEnabling, countedTime, FourAtFirst}
 use Rattle.four_drivers.specs.Course.{course-due, runs-all, at-first}
 
@@ -74,3 +74,7 @@ in-use-now xs f z = by-endpoints (after xs f .time) ∙ sums-as _ _ (λ i li dir
 -- with nothing under way: of those now enabled
 pub in-use-at-rest : (xs : List Turn) (f : Four) → FourAtFirst f → ((i : ℕ) → i < 4 → after xs f .driver i .way ≡ idle) → inUse (after xs f .time) ≡ enabledTime (λ i. after xs f .driver i .st)
 in-use-at-rest xs f z h = by-endpoints (after xs f .time) ∙ sums-as _ _ (λ i li dir e. charge-at-rest xs f z i li (h i li) dir e)
+
+-- so what the history works out is the charge of the endpoints now enabled or being enabled
+pub history-is-now : (xs : List Turn) (f : Four) → FourAtFirst f → timeBy (history xs f) ≡ countedTime (after xs f .driver) (history xs f)
+history-is-now xs f z = sym (in-use-is xs f (z .time)) ∙ in-use-now xs f z
