@@ -42,9 +42,9 @@ of-steady : {w : ℕ} {d d′ : Driver} → Steady d d′ → Turns w d d′ →
 of-steady p q = record { taken = λ dir e h. rw (p .allocator) h; given = λ dir e h. q .given dir e }
 
 -- the endpoints' records too
-of-records : (d d′ : Driver) → d′ .eps ≡ d .eps → ((dir : Dir) → takenIn (d′ .allocator) dir ≡ takenIn (d .allocator) dir) → Gave d d′
+of-records : (d d′ : Driver) → d′ .eps ≡ d .eps → ((dir : Dir) (e : ℕ) → isTaken d′ dir e ≡ isTaken d dir e) → Gave d d′
 unfolding epOn
-of-records d d′ p a = record { taken = λ dir e h. rw (a dir) h; given = λ dir e h. rw p refl }
+of-records d d′ p a = record { taken = λ dir e h. a dir e ∙ h; given = λ dir e h. rw p refl }
 
 -- ---- an allocation
 
@@ -82,9 +82,9 @@ unfolding startedWith withNext takenIn
 ep0-gave d maximum z (kept c n w full) = gave-same d
 ep0-gave d maximum z (gave-ep0 m x small l) = of-records d _ refl same
   where
-    same : (dir : Dir) → takenIn (withNext (d .allocator) (d .allocator .next + 1)) dir ≡ takenIn (d .allocator) dir
-    same Out = refl
-    same In = refl
+    same : (dir : Dir) (x : ℕ) → isTaken (withAllocator d (withNext (d .allocator) (d .allocator .next + 1))) dir x ≡ isTaken d dir x
+    same Out x = refl
+    same In x = refl
 
 -- ---- each operation
 
@@ -94,7 +94,7 @@ enabled-gave d dir e on = by (isoOut d dir e)
   where
     by : (b : Bool) → Gave d (cond b d (configured d dir e on))
     by true = gave-same d
-    by false = of-records d _ refl (λ _. refl)
+    by false = of-records d _ refl (λ _ _. refl)
 
 act-gave : (q : Act) (s : St) → Gave (s .0) (conc .act q s .0)
 unfolding allocatedOn allocatedEp0
@@ -109,17 +109,17 @@ act-gave (take-oldest e) s = of-steady (act-steady (take-oldest e) refl s) (act-
 act-gave (enqueue e bytes) s = of-steady (act-steady (enqueue e bytes) refl s) (act-stays (enqueue e bytes) refl s)
 act-gave (allocate d kind address maximum interval) s = allocated-gave (s .0) d kind address maximum interval _ (outcome (s .0 .allocator) kind address maximum d)
 act-gave (allocate0 maximum) s = ep0-gave (s .0) maximum _ (step (s .0 .allocator) (ep0 maximum))
-act-gave no-wakes s = of-records (s .0) _ refl (λ _. refl)
-act-gave (waken codes) s = of-records (s .0) _ refl (λ _. refl)
+act-gave no-wakes s = of-records (s .0) _ refl (λ _ _. refl)
+act-gave (waken codes) s = of-records (s .0) _ refl (λ _ _. refl)
 
 row-gave : (g : Row) (n : ℕ) (s : St) → Gave (s .0) (conc .row g n s .1 .0)
 unfolding configStep
-row-gave (switch e on) zero s = of-records (s .0) _ refl (λ _. refl)
+row-gave (switch e on) zero s = of-records (s .0) _ refl (λ _ _. refl)
 row-gave (switch e on) (suc n) s = of-steady (row-steady (switch e on) (suc n) s) (switch-stays e on n s)
 row-gave bus-reset zero s = of-steady (row-steady bus-reset 0 s) (reset-stays s .0)
 row-gave bus-reset (suc zero) s = gave-same (s .0)
-row-gave bus-reset (suc (suc zero)) s = of-records (s .0) _ refl (λ _. refl)
-row-gave bus-reset (suc (suc (suc k))) s = of-records (s .0) _ refl (λ _. refl)
+row-gave bus-reset (suc (suc zero)) s = of-records (s .0) _ refl (λ _ _. refl)
+row-gave bus-reset (suc (suc (suc k))) s = of-records (s .0) _ refl (λ _ _. refl)
 
 -- ---- every script
 

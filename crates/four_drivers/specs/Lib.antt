@@ -19,3 +19,4 @@ pub mod Continues
 pub mod Code
 pub mod Gave
 pub mod Allocated
+pub mod Gives
