@@ -105,14 +105,14 @@ module _ (dir : Dir) (e : ℕ) where
     early = λ _. h;
   }
 
-  -- it is charged, or its enabling is under way
-  abbrev pub Goes : Bool → ℕ → Driver → (ℕ → St → tree.Out St Answer) → Type 0
-  Goes u c d k = Due dir e u c d × ((v : ℕ) (t : St) → Stays d (t .0) → Left bit (Due dir e u) Rests c (k v t))
+  -- an operation is under way, with k left of it: what is due, and on every way through
+  abbrev pub Ongoing : Bool → ℕ → Driver → (ℕ → St → tree.Out St Answer) → Type 0
+  Ongoing u c d k = Due dir e u c d × ((v : ℕ) (t : St) → Stays d (t .0) → Left bit (Due dir e u) Rests c (k v t))
 
   -- a call of this sort, from a charge and a state with nothing under way
   pub data Opens (x : Sort) (d : Driver) (c : ℕ) (was : Bool) : tree.Out St Answer → Type 0 where
     at-once : {a : Answer} {s : St} → Rests c (s .0) → Opens x d c was (ends a s)
-    under-way : {q : Access} {s : St} {k : ℕ → St → tree.Out St Answer} → Goes (begins bit x was) (byAccess bit x q d c) (s .0) k → Opens x d c was (asks q s k)
+    under-way : {q : Access} {s : St} {k : ℕ → St → tree.Out St Answer} → Ongoing (begins bit x was) (byAccess bit x q d c) (s .0) k → Opens x d c was (asks q s k)
 
   opens-calm : (d : Driver) (c : ℕ) (was : Bool) {o : tree.Out St Answer} → Left bit (Due dir e false) Rests c o → First o → Opens apart d c was o
   opens-calm d c was (at-end x) none = at-once x

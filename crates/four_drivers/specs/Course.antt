@@ -28,7 +28,7 @@ use Rattle.four_drivers.specs.Stays.{Stays, still, stays}
 use Rattle.four_drivers.specs.CalmCalls.{of-aside}
 use Rattle.four_drivers.specs.Left.{Left, at-end, at-ask, keeps, calm-run}
 use Rattle.four_drivers.specs.Switching.{Due, due-stays}
-use Rattle.four_drivers.specs.Begins.{Rests, Goes, Opens, at-once, under-way, none-rests, opens, opens-start}
+use Rattle.four_drivers.specs.Begins.{Rests, Ongoing, Opens, at-once, under-way, none-rests, opens, opens-start}
 
 module _ (dir : Dir) (e : ℕ) where
   abbrev bit : ℕ
@@ -37,7 +37,7 @@ module _ (dir : Dir) (e : ℕ) where
   -- of what is under way
   abbrev pub Course : Way Answer Driver → Driver → ℕ → Bool → Type 0
   Course idle d c u = Rests dir e c d
-  Course (busy i q k) d c u = Goes dir e u c d k
+  Course (busy i q k) d c u = Ongoing dir e u c d k
 
   -- after a call of this sort, from the state d and the charge c
   abbrev After : Sort → Driver → ℕ → Bool → Called → Type 0
@@ -52,11 +52,11 @@ module _ (dir : Dir) (e : ℕ) where
   goes-on d c u i (at-ask x y) = (x, y)
 
   -- an open, a close or a queue between two accesses of an interrupt
-  goes-stays : (u : Bool) (c : ℕ) {d d′ : Driver} (k : ℕ → St → tree.Out St Answer) → Stays d d′ → Goes dir e u c d k → Goes dir e u c d′ k
+  goes-stays : (u : Bool) (c : ℕ) {d d′ : Driver} (k : ℕ → St → tree.Out St Answer) → Stays d d′ → Ongoing dir e u c d k → Ongoing dir e u c d′ k
   goes-stays u c k x g = (due-stays dir e u c x (g .0), λ v t b. g .1 v t (still x b))
 
   besides : (x : Sort) (i : Bool) (q : Awaits) (k : ℕ → St → tree.Out St Answer) (d : Driver) (b : Buf) (c : ℕ) (u : Bool) {o : tree.Out St Answer}
-      → Left bit (λ _ _. Unit {0}) (λ g d′. (g ≡ c) × Stays d d′) c o → Goes dir e u c d k → After x d c u (beside calls driverOf (record { way = busy i q k; st = d; buf = b }) o)
+      → Left bit (λ _ _. Unit {0}) (λ g d′. (g ≡ c) × Stays d d′) c o → Ongoing dir e u c d k → After x d c u (beside calls driverOf (record { way = busy i q k; st = d; buf = b }) o)
   besides x i q k d b c u (at-end y) g = goes-stays u c k (y .1) g
   besides x i q k d b c u (at-ask y z) g = g
 
@@ -66,7 +66,7 @@ module _ (dir : Dir) (e : ℕ) where
 
   -- one call
   module _ (d : Driver) (c : ℕ) (u : Bool) (b : Buf) where
-    refused : (o : Op) (i : Bool) (q : Awaits) (k : ℕ → St → tree.Out St Answer) (old : Buf) → Goes dir e u c d k → After (opSort o) d c u (begun calls driverOf (λ s. s) o (record { way = busy i q k; st = d; buf = old }) (busy i q k) b)
+    refused : (o : Op) (i : Bool) (q : Awaits) (k : ℕ → St → tree.Out St Answer) (old : Buf) → Ongoing dir e u c d k → After (opSort o) d c u (begun calls driverOf (λ s. s) o (record { way = busy i q k; st = d; buf = old }) (busy i q k) b)
     refused interrupt true q k old g = g
     refused interrupt false q k old g = g
     refused (slotted o) true q k old g = g

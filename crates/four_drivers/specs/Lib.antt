@@ -1,11 +1,11 @@
 pub mod Four
 pub mod History
+pub mod Enabled
 pub mod Limit
 pub mod Histories
 pub mod Runs
 pub mod Returns
 pub mod Stays
-pub mod Enabled
 pub mod Calm
 pub mod CalmInterrupt
 pub mod CalmCalls
@@ -16,7 +16,7 @@ pub mod Begins
 pub mod Course
 pub mod Now
 pub mod Continues
-pub mod Code
 pub mod Gave
 pub mod Allocated
 pub mod Gives
+pub mod Code

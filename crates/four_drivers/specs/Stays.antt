@@ -50,9 +50,6 @@ pub record Turns (w : ℕ) (d d′ : Driver) : Type 0 where
 abbrev pub Stays : Driver → Driver → Type 0
 Stays d d′ = Turns (configOf d) d d′
 
-pub then : {w v : ℕ} {d x y : Driver} → Turns w d x → Turns v x y → Turns v d y
-then p q = record { given = λ dir e. q .given dir e ∙ p .given dir e; stage = q .stage ∙ p .stage; config = q .config }
-
 pub still : {w : ℕ} {d x y : Driver} → Turns w d x → Stays x y → Turns w d y
 still p q = record { given = λ dir e. q .given dir e ∙ p .given dir e; stage = q .stage ∙ p .stage; config = q .config ∙ p .config }
 
