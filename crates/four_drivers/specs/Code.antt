@@ -2,20 +2,22 @@
 -- the machine of calls that the bytes are; that of start-up, enabling and continue, with the record (shared_time/specs/Sharing.antt)
 use mathlib.Core.Bool.{Bool, true, false, cond}
 use mathlib.Core.List.{List, [], _∷_}
-use mathlib.Core.Path.{_≡_, refl, ap, sym, _∙_}
-use Prim.Native.Nat.{ℕ, _%_, _≤_}
+use mathlib.Core.Path.{_≡_, refl, ap, subst, sym, _∙_}
+use Prim.Native.Nat.{ℕ, _%_, _≤_, _<_}
 use lib.Dec.{eqb}
-use Rattle.state.specs.Driver.{Driver}
+use lib.ListN.{replicate}
+use Rattle.state.specs.State.{view, saved}
 use Rattle.script.specs.Answers.{Answer}
-use Rattle.script.specs.Calls.{Config, Op}
-use Rattle.script.specs.Machine.{Buf, Event, Machine, Ans}
-use Rattle.way.specs.Under.{machineOf}
+use Rattle.script.specs.Machine.{Buf, idle, Ans}
+use Rattle.way.specs.Under.{decode, machineOf}
 use Rattle.way.specs.Goes.{Called}
 use Rattle.bus_time.specs.Time.{inUse, uncharged}
-use Rattle.four_drivers.specs.Four.{Four, Turn, called, changed, next, after}
+use Rattle.four_drivers.specs.Four.{Four, Turn, called, next, after}
 use Rattle.four_drivers.specs.History.{history, timeBy}
 use Rattle.four_drivers.specs.Limit.{limit}
 use Rattle.four_drivers.specs.Histories.{in-use-is}
+use Rattle.four_drivers.specs.Enabled.{enabledTime, countedTime, AtFirst, FourAtFirst}
+use Rattle.four_drivers.specs.Now.{in-use-now, in-use-at-rest}
 
 -- each driver's state and slot buffer by its number, and the record
 pub record Lent : Type 0 where
@@ -84,3 +86,22 @@ module _ (ms : List Made) (l : Lent) (run : Run l ms) (none : l .time ≡ unchar
 
   pub code-in-use : inUse (last l ms .time) ≡ timeBy (history (turns ms) (fourOf l))
   code-in-use = ap inUse time-after ∙ in-use-is (turns ms) (fourOf l) none
+
+-- ---- the endpoints now enabled
+
+-- a state of zero bytes, as it is lent before the first start-up
+pub zeros-at-first : (b : Buf) → AtFirst (machineOf (replicate 2839 0) b)
+unfolding view saved decode
+zeros-at-first b = record { idles = refl; none = refl }
+
+module _ (ms : List Made) (l : Lent) (run : Run l ms) (first : FourAtFirst (fourOf l)) where
+  made : fourOf (last l ms) ≡ after (turns ms) (fourOf l)
+  made = made-after ms l run
+
+  pub code-in-use-now : inUse (last l ms .time) ≡ countedTime (fourOf (last l ms) .driver) (history (turns ms) (fourOf l))
+  code-in-use-now = subst (λ (f : Four). inUse (f .time) ≡ countedTime (f .driver) (history (turns ms) (fourOf l))) (sym made) (in-use-now (turns ms) (fourOf l) first)
+
+  -- with nothing under way in the four states
+  pub code-in-use-at-rest : ((i : ℕ) → i < 4 → fourOf (last l ms) .driver i .way ≡ idle) → inUse (last l ms .time) ≡ enabledTime (λ i. view (last l ms .bytes i))
+  code-in-use-at-rest =
+      subst (λ (f : Four). ((i : ℕ) → i < 4 → f .driver i .way ≡ idle) → inUse (f .time) ≡ enabledTime (λ i. f .driver i .st)) (sym made) (in-use-at-rest (turns ms) (fourOf l) first)

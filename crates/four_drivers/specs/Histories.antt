@@ -1,9 +1,9 @@
 -- The record is what the history says
-use mathlib.Core.Bool.{Bool, true, false, cond, _&&_}
+use mathlib.Core.Bool.{Bool, true, false, cond}
 use mathlib.Core.List.{List, [], _∷_}
 use mathlib.Core.Logic.{_⊎_, inl, inr, ⊎-elim}
 use mathlib.Core.Path.{_≡_, refl, ap, sym, _∙_}
-use Prim.Native.Nat.{ℕ, zero, suc, _+_, _*_, _/_, _%_, _^_, _≤_, _<_}
+use Prim.Native.Nat.{ℕ, zero, suc, _+_, _*_, _%_, _^_, _≤_, _<_}
 use native.Mathlib.Nat.{zero-div}
 use native.Mathlib.Omega.{arith}
 use lib.Dec.{eqb}
@@ -24,12 +24,12 @@ use Rattle.script.specs.Calls.{calls}
 use Rattle.script.specs.Machine.{Buf, Machine, Ans, ended, handed, told, lentTo}
 use Rattle.way.specs.Under.{driverOf, drive}
 use Rattle.way.specs.Goes.{Called}
-use Rattle.bus_time.specs.Time.{entryOf, total, inUse, passes, entryKept, kept, keepOf, uncharged}
+use Rattle.bus_time.specs.Time.{entryOf, total, inUse, entryKept, kept, keepOf, uncharged}
 use Rattle.bus_time.specs.TimeLaws.{total-none, kept-in, kept-out}
-use Rattle.shared_time.specs.Sharing.{Sort, enabling, starting, going, apart, sortOf, chargeOn, isHanded, written, timeAfter, turnedDown, settled}
+use Rattle.shared_time.specs.Sharing.{Sort, enabling, starting, going, apart, sortOf, chargeOn, written, timeAfter, turnedDown, settled}
 use Rattle.four_drivers.specs.Four.{Four, Turn, called, next, after}
-use Rattle.four_drivers.specs.History.{Line, lineOf, history, cleared, byAccess, byAnswer, chargeAfter, chargeBy, sum, timeBy}
-use Rattle.four_drivers.specs.Limit.{Within, entry-lt, always-within, uncharged-within}
+use Rattle.four_drivers.specs.History.{lineOf, history, cleared, byAccess, byAnswer, chargeAfter, chargeBy, sum, timeBy}
+use Rattle.four_drivers.specs.Limit.{Within, always-within, uncharged-within}
 
 -- the answer that was given tells the record after the call: one that was turned down handed nothing out
 told-by : (i : ℕ) (x : Sort) (m : Machine Answer Driver) (t : List ℕ) (b : Buf) (y : Called) → settled i x m t b y .1 ≡ timeAfter i x (settled i x m t b y .0 .0) (m .st) t
@@ -134,7 +134,7 @@ each-charge (x ∷ xs) f k i bit li lb =
 
 -- ---- the time in use
 
-sum-as : (f g : ℕ → ℕ) (n : ℕ) → ((k : ℕ) → k < n → f k ≡ g k) → sum f n ≡ sum g n
+pub sum-as : (f g : ℕ → ℕ) (n : ℕ) → ((k : ℕ) → k < n → f k ≡ g k) → sum f n ≡ sum g n
 unfolding sum
 sum-as f g zero h = refl
 sum-as f g (suc n) h = omega (arith, h n (omega arith), sum-as f g n (λ k l. h k (omega arith)))
@@ -154,18 +154,19 @@ four-of : (g : ℕ → ℕ) → sum g 4 ≡ g 0 + g 1 + g 2 + g 3
 unfolding sum
 four-of g = omega arith
 
-by-drivers : (t : List ℕ) → inUse t ≡ sum (λ i. sum (λ bit. getD t (i * 32 + bit) 0) 32) 4
+pub by-drivers : (t : List ℕ) → inUse t ≡ sum (λ i. sum (λ bit. getD t (i * 32 + bit) 0) 32) 4
 unfolding inUse
 by-drivers t =
     omega (arith, four-of (λ i. sum (λ bit. getD t (i * 32 + bit) 0) 32), total-none t, total-from t 96 32, total-from t 64 32, total-from t 32 32, total-from t 0 32)
+
+-- an uncharged record
+pub zeros : (n k : ℕ) → _≡_ {A = ℕ} (getD (replicate n 0) k 0) 0
+zeros zero k = refl
+zeros (suc n) zero = refl
+zeros (suc n) (suc k) = zeros n k
 
 -- "worked out from the history of enables, disables, resets and start-ups": every list of calls, from an uncharged record and whatever the drivers were
 pub in-use-is : (xs : List Turn) (f : Four) → f .time ≡ uncharged → inUse (after xs f .time) ≡ timeBy (history xs f)
 in-use-is xs f h =
     by-drivers (after xs f .time)
     ∙ sum-as _ _ 4 (λ i li. sum-as _ _ 32 (λ bit lb. each-charge xs f (rw h uncharged-within) i bit li lb ∙ ap (chargeBy i bit (history xs f)) (ap (λ (t : List ℕ). getD t (i * 32 + bit) 0) h ∙ zeros 128 (i * 32 + bit))))
-  where
-    zeros : (n k : ℕ) → _≡_ {A = ℕ} (getD (replicate n 0) k 0) 0
-    zeros zero k = refl
-    zeros (suc n) zero = refl
-    zeros (suc n) (suc k) = zeros n k
