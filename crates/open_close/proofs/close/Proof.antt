@@ -3,12 +3,12 @@ use denote.Ref.{now}
 use Rattle.state.specs.State.{view}
 use Rattle.regs.specs.declared.Dir.the-variants.{Out}
 use Rattle.ops.specs.Conc.{go}
-use Rattle.packets.specs.Packets.{closing}
-use Rattle.packets.specs.Laws.{passed, refused, passed-number}
+use Rattle.open_close.specs.Packets.{closing}
+use Rattle.open_close.specs.Laws.{passed, refused, passed-number}
 use Prim.Native.Nat.{ℕ}
 use borrow.Author.Needs.{needs}
-use Rattle.packets.proofs.close.Statement.{statement}
-use Rattle.packets.proofs.close.Tie as tie
+use Rattle.open_close.proofs.close.Statement.{statement}
+use Rattle.open_close.proofs.close.Tie as tie
 
 refusal-requires : tie.Need-refusal-requires
 refusal-requires c κs = search needs

@@ -10,11 +10,11 @@ use Rattle.state.specs.declared.EpState.{EpState}
 use Rattle.state.specs.declared.Globals.{Globals}
 use Rattle.state.specs.State.{view}
 use Rattle.script.specs.Statics.{isOn}
-use Rattle.packets.specs.Laws.{queue-by, queue-ok}
+use Rattle.queue.specs.Laws.{queue-by, queue-ok}
 use borrow.Author.Tests.{lt-ltb, le-ltb}
 use borrow.Author.Needs.{needs}
-use Rattle.packets.proofs.queue_at.Statement.{statement}
-use Rattle.packets.proofs.queue_at.Tie as tie
+use Rattle.queue.proofs.queue_at.Statement.{statement}
+use Rattle.queue.proofs.queue_at.Tie as tie
 
 load-globals-requires : tie.Need-load-globals-requires
 load-globals-requires c κs = search needs

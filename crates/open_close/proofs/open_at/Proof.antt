@@ -3,10 +3,10 @@ use denote.Ref.{now}
 use Rattle.state.specs.declared.EpState.{EpState}
 use Rattle.script.specs.Statics.{isOn}
 use Rattle.state.specs.State.{view}
-use Rattle.packets.specs.Laws.{open-shown, open-none, open-other}
+use Rattle.open_close.specs.Laws.{open-shown, open-none, open-other}
 use borrow.Author.Needs.{needs}
-use Rattle.packets.proofs.open_at.Statement.{statement}
-use Rattle.packets.proofs.open_at.Tie as tie
+use Rattle.open_close.proofs.open_at.Statement.{statement}
+use Rattle.open_close.proofs.open_at.Tie as tie
 
 load-ep-requires : tie.Need-load-ep-requires
 load-ep-requires c κs = search needs

@@ -4,12 +4,12 @@ use Rattle.state.specs.State.{view}
 use Rattle.script.specs.Answers.{Answer}
 use Rattle.regs.specs.declared.Dir.the-variants.{Out}
 use Rattle.ops.specs.Conc.{go}
-use Rattle.packets.specs.Packets.{opening}
-use Rattle.packets.specs.Laws.{passed, refused, passed-number}
+use Rattle.open_close.specs.Packets.{opening}
+use Rattle.open_close.specs.Laws.{passed, refused, passed-number}
 use Prim.Native.Nat.{ℕ}
 use borrow.Author.Needs.{needs}
-use Rattle.packets.proofs.«open».Statement.{statement}
-use Rattle.packets.proofs.«open».Tie as tie
+use Rattle.open_close.proofs.«open».Statement.{statement}
+use Rattle.open_close.proofs.«open».Tie as tie
 
 refusal-requires : tie.Need-refusal-requires
 refusal-requires c κs = search needs

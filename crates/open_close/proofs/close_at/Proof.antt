@@ -1,10 +1,10 @@
 use mathlib.Core.Path.{refl, ap, sym, _∙_}
 use denote.Ref.{now}
 use Rattle.state.specs.State.{view}
-use Rattle.packets.specs.Laws.{close-open, close-none}
+use Rattle.open_close.specs.Laws.{close-open, close-none}
 use borrow.Author.Needs.{needs}
-use Rattle.packets.proofs.close_at.Statement.{statement}
-use Rattle.packets.proofs.close_at.Tie as tie
+use Rattle.open_close.proofs.close_at.Statement.{statement}
+use Rattle.open_close.proofs.close_at.Tie as tie
 
 opened-requires : tie.Need-opened-requires
 opened-requires c κs = search needs

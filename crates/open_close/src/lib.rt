@@ -1,31 +1,26 @@
-// Packets in place (mod.rs 253-271, 342-395): an isochronous OUT's oldest is opened and closed, an isochronous IN's is queued. No access is handed
-// out; rows 1 and 3 are the caller's. Every function is total: any number is safe.
+// An isochronous OUT's oldest packet opened and closed in place (mod.rs 253-271). No access is handed out; rows 1 and 3 are the caller's. Every function is
+// total: any number is safe.
 use ops::rings::close_oldest;
-use ops::rings::enqueue;
 use ops::rings::is_on;
 use ops::rings::next_len;
 use ops::rings::next_stamp;
 use ops::rings::oldest_at;
 use ops::rings::open_oldest;
 use ops::rings::opened;
-use ops::rings::room;
 use ops::rings::waiting;
 use regs::Dir;
-use regs::enables;
 use rows::low;
 use rows::refusal;
 use state::STATE_LEN;
-use state::load_allocator;
 use state::load_ep;
-use state::load_globals;
 ghost use mathlib.Core.Path.{_≡_};
 ghost use mathlib.Core.Bool.{false};
 ghost use mathlib.Core.List.{List};
 ghost use Prim.Native.Nat.{ℕ};
 ghost use Rattle.state.specs.State.{view, saved};
-ghost use Rattle.script.specs.Driver.{openPacket, closePacket, queuePacket};
+ghost use Rattle.script.specs.Driver.{openPacket, closePacket};
 ghost use Rattle.ops.specs.Conc.{go};
-ghost use Rattle.packets.specs.Packets.{answered, ShownAt, opening, closing, queueing};
+ghost use Rattle.open_close.specs.Packets.{answered, ShownAt, opening, closing};
 
 // The row that refuses the call; an open packet's offset into the slots, its length and its stamp; or nothing to tell.
 pub enum Packet {
@@ -87,42 +82,6 @@ pub fn close(s: &mut [u8; STATE_LEN], e: u32) -> Packet
     let row = refusal(s, Dir::Out, e);
     if row == 0 {
         return close_at(s, low(e));
-    }
-    Packet::Refused(row)
-}
-
-// The packet is copied into the head's slot, where there is room (mod.rs 366-395).
-fn queue_at(s: &mut [u8; STATE_LEN], buf: &mut [u8], e: u8, bytes: &[u8]) -> Packet
-    ensures { λ r. ⌜ answered r (view (now (s .exit))) (now (buf .exit)) ≡ go (queueing e (now (bytes .entry))) (view (now (s .entry))) (now (buf .entry)) ⌝ }
-    ensures { λ _. ⌜ saved (now (s .exit)) ≡ saved (now (s .entry)) ⌝ }
-{
-    let g = load_globals(s);
-    if enables::is_on(g.ep_config, Dir::In, e) {
-        let a = load_allocator(s);
-        if (a.size as usize) < bytes.len() {
-            return Packet::Refused(10);
-        }
-        let r = load_ep(s, Dir::In, e);
-        if is_on(r.iso) {
-            if room(s, e, bytes.len()) {
-                enqueue(s, buf, e, bytes);
-                return Packet::Ok;
-            }
-            return Packet::Refused(13);
-        }
-        return Packet::Refused(11);
-    }
-    Packet::Refused(9)
-}
-
-// `iso_in_prime`.
-pub fn queue(s: &mut [u8; STATE_LEN], buf: &mut [u8], e: u32, bytes: &[u8]) -> Packet
-    ensures { λ r. ⌜ answered r (view (now (s .exit))) (now (buf .exit)) ≡ go (queuePacket {i = false} e (now (bytes .entry))) (view (now (s .entry))) (now (buf .entry)) ⌝ }
-    ensures { λ _. ⌜ saved (now (s .exit)) ≡ saved (now (s .entry)) ⌝ }
-{
-    let row = refusal(s, Dir::In, e);
-    if row == 0 {
-        return queue_at(s, buf, low(e), bytes);
     }
     Packet::Refused(row)
 }

@@ -3,12 +3,12 @@ use denote.Ref.{now}
 use Rattle.state.specs.State.{view}
 use Rattle.regs.specs.declared.Dir.the-variants.{In}
 use Rattle.ops.specs.Conc.{go}
-use Rattle.packets.specs.Packets.{queueing}
-use Rattle.packets.specs.Laws.{passed, refused, passed-number}
+use Rattle.queue.specs.Queue.{queueing}
+use Rattle.open_close.specs.Laws.{passed, refused, passed-number}
 use Prim.Native.Nat.{ℕ}
 use borrow.Author.Needs.{needs}
-use Rattle.packets.proofs.queue.Statement.{statement}
-use Rattle.packets.proofs.queue.Tie as tie
+use Rattle.queue.proofs.queue.Statement.{statement}
+use Rattle.queue.proofs.queue.Tie as tie
 
 refusal-requires : tie.Need-refusal-requires
 refusal-requires c κs = search needs

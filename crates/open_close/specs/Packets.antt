@@ -1,23 +1,20 @@
--- What open, close and queue answer, and their scripts behind rows 4 and 5
+-- What open, close and queue answer, and the scripts of open and close behind rows 4 and 5
 use mathlib.Core.Path.{_≡_}
 use mathlib.Core.Bool.{false, not}
 use mathlib.Core.List.{List}
 use Prim.Native.Nat.{ℕ}
-use lib.Dec.{ltb}
-use lib.ListN.{length}
-use Rattle.regs.specs.declared.Dir.the-variants.{Out, In}
+use Rattle.regs.specs.declared.Dir.the-variants.{Out}
 use Rattle.state.specs.Driver.{Driver}
 use Rattle.marks.specs.Copies.{bytesAt}
 use Rattle.script.specs.Tree as tree
 use Rattle.script.specs.Tree.{ends}
-use Rattle.script.specs.Cells.{ep-cell, allocator-cell}
-use Rattle.script.specs.Script.{Script, ret, test, _>>=_, _>>_, get, is, look, fetch, act, waiting, room, opened, next-stamp, oldest, open-oldest, close-oldest, enqueue}
+use Rattle.script.specs.Cells.{ep-cell}
+use Rattle.script.specs.Script.{Script, ret, test, _>>=_, _>>_, get, is, look, fetch, act, waiting, opened, next-stamp, oldest, open-oldest, close-oldest}
 use Rattle.script.specs.Statics.{isOn}
 use Rattle.script.specs.Answers.{Answer, Refused, Shown, ok, unless}
-use Rattle.script.specs.Endpoint.{enabled-else}
 use Rattle.ops.specs.Rings.{St, oldestAt, nextLen, nextStamp}
-use Rattle.packets.specs.declared.Packet.{Packet}
-use Rattle.packets.specs.declared.Packet.the-variants as packet
+use Rattle.open_close.specs.declared.Packet.{Packet}
+use Rattle.open_close.specs.declared.Packet.the-variants as packet
 
 -- the bytes of a packet that is shown are the slots' at the offset
 abbrev pub answerOf : Packet → List ℕ → Answer
@@ -55,16 +52,3 @@ closing ep = do
         act (close-oldest ep)
         ret ok)
       (ret (Refused 14))
-
-abbrev pub queueing : ℕ → List ℕ → Script false Answer
-queueing ep bytes = enabled-else In ep (ret (Refused 9)) (do
-  a ← get allocator-cell
-  unless (ltb (a .size) (length bytes)) 10 (do
-    s ← get (ep-cell In ep)
-    unless (not (isOn (s .iso))) 11 (do
-      b ← is (room ep (length bytes))
-      test b
-          (do
-            act (enqueue ep bytes)
-            ret ok)
-          (ret (Refused 13)))))

@@ -1,26 +1,23 @@
--- Rows 4 and 5 before a script, and what each script comes to. Assumes nothing.
-use mathlib.Core.Path.{_≡_, refl, ap, sym, _∙_}
+-- Rows 4 and 5 before a script, and what the scripts of open and close come to. Assumes nothing.
+use mathlib.Core.Path.{_≡_, ap, sym, _∙_}
 use mathlib.Core.Logic.{_≢_}
-use mathlib.Core.Bool.{Bool, true, false, not, cond}
+use mathlib.Core.Bool.{Bool, true, false, cond}
 use mathlib.Core.List.{List}
 use Prim.Native.Nat.{ℕ}
-use lib.Dec.{eqb, ltb}
-use lib.ListN.{length}
+use lib.Dec.{eqb}
 use borrow.Author.Tests.{eq-eqb, ne-eqb}
 use Rattle.regs.specs.declared.Dir.{Dir}
-use Rattle.regs.specs.declared.Dir.the-variants.{Out, In}
-use Rattle.regs.specs.Enables as enables
+use Rattle.regs.specs.declared.Dir.the-variants.{Out}
 use Rattle.state.specs.Driver.{Driver, epOn}
-use Rattle.script.specs.Tree as tree
 use Rattle.script.specs.Tree.{ends}
 use Rattle.script.specs.Script.{Script}
 use Rattle.script.specs.Statics.{isOn}
-use Rattle.script.specs.Answers.{Answer, Refused, Shown, ok, staged, named, isNumber}
+use Rattle.script.specs.Answers.{Answer, Refused, Shown, staged, named, isNumber}
 use Rattle.rows.specs.Rows.{refusalOf, numbered, by-row}
-use Rattle.ops.specs.Rings.{St, waitingOn, openedOn, roomOn, oldestOn, oldestAt, nextLen, nextStamp, openOn, closeOn, enqueueOn}
+use Rattle.ops.specs.Rings.{waitingOn, openedOn, oldestOn, oldestAt, nextLen, nextStamp, openOn, closeOn}
 use Rattle.ops.specs.Conc.{go}
-use Rattle.packets.specs.declared.Packet.the-variants as packet
-use Rattle.packets.specs.Packets.{answered, opening, closing, queueing}
+use Rattle.open_close.specs.declared.Packet.the-variants as packet
+use Rattle.open_close.specs.Packets.{answered, opening, closing}
 
 rowed : (dir : Dir) (e : ℕ) (p : Script false Answer) (d : Driver) (b : List ℕ)
     → go (staged 2 (named dir e p)) d b ≡ cond (eqb (refusalOf d dir e) 0) (go p d b) (ends (Refused (refusalOf d dir e)) (d, b))
@@ -65,23 +62,3 @@ close-open e d x b some h = ap (λ (y : Driver). answered packet.Ok y b) h ∙ s
 
 pub close-none : (e : ℕ) (d : Driver) (b : List ℕ) → openedOn d e ≡ false → answered (packet.Refused 14) d b ≡ go (closing e) d b
 close-none e d b none = simp none
-
--- ---- queue
-
--- by the enable bit, the size, the kind and the room
-abbrev queued-as : ℕ → List ℕ → Driver → List ℕ → Bool → Bool → Bool → Bool → tree.Out St Answer
-queued-as e bytes d b on long iso free =
-    cond on
-    (cond long (ends (Refused 10) (d, b)) (cond (not iso) (ends (Refused 11) (d, b)) (cond free (ends ok (enqueueOn e bytes (d, b))) (ends (Refused 13) (d, b)))))
-    (ends (Refused 9) (d, b))
-
-pub queue-by : (e : ℕ) (bytes : List ℕ) (d : Driver) (b : List ℕ) (on long iso free : Bool) → enables.isOn (d .globals .«ep_config») In e ≡ on → ltb (d .allocator .size) (length bytes) ≡ long → isOn (epOn d In e .iso) ≡ iso → roomOn d e (length bytes) ≡ free
-    → queued-as e bytes d b on long iso free ≡ go (queueing e bytes) d b
-queue-by e bytes d b on long iso free h k m n = rw (← h, ← k, ← m, ← n) refl
-
-pub queue-ok : (e : ℕ) (bytes : List ℕ) (d x : Driver) (b y : List ℕ) → enables.isOn (d .globals .«ep_config») In e ≡ true → ltb (d .allocator .size) (length bytes) ≡ false → isOn (epOn d In e .iso) ≡ true → roomOn d e (length bytes) ≡ true → x ≡ enqueueOn e bytes (d, b) .0 → y ≡ enqueueOn e bytes (d, b) .1
-    → answered packet.Ok x y ≡ go (queueing e bytes) d b
-queue-ok e bytes d x b y h k m n p q =
-    ap (λ (z : Driver). answered packet.Ok z y) p
-    ∙ (ap (λ (z : List ℕ). answered packet.Ok (enqueueOn e bytes (d, b) .0) z) q
-    ∙ queue-by e bytes d b true false true true h k m n)
