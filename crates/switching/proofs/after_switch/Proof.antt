@@ -1,8 +1,8 @@
-use Rattle.enabling.specs.Laws.{switch-config, switch-end, switch-slot, switch-type, switch-word}
+use Rattle.switching.specs.Laws.{switch-config, switch-end, switch-slot, switch-type, switch-word}
 use mathlib.Core.Path.{refl}
 use borrow.Author.Needs.{needs}
-use Rattle.enabling.proofs.after_switch.Statement.{statement}
-use Rattle.enabling.proofs.after_switch.Tie as tie
+use Rattle.switching.proofs.after_switch.Statement.{statement}
+use Rattle.switching.proofs.after_switch.Tie as tie
 
 sub-slot-step : tie.Need-sub-slot-step
 sub-slot-step c = search needs
