@@ -1,3 +1,1 @@
 pub mod Points
-pub mod Announce
-pub mod Codec

@@ -1,19 +1,15 @@
 // Endpoints enabled and disabled (mod.rs 1268-1330) one access at a time. Every function is total: any number is safe.
-use arming::slot_step;
 use bus::Next;
 use bus::Point;
 use bus::flag_of;
-use ops::records::config_step;
 use ops::records::iso_out;
 use ops::records::place;
-use ops::records::type_step;
 use ops::rings::is_on;
 use regs::Access;
 use regs::Dir;
 use regs::Reg;
 use regs::control_word;
 use regs::enables;
-use stalls::after_woken;
 use state::EpState;
 use state::STATE_LEN;
 use state::load_ep;
@@ -21,6 +17,7 @@ use state::load_globals;
 use state::set_ep_type;
 use state::store_ep;
 use state::store_paced;
+use switching::after_switch;
 ghost use mathlib.Core.Path.{_≡_};
 ghost use mathlib.Core.Bool.{true, false, cond, not, _&&_};
 ghost use mathlib.Core.List.{List};
@@ -28,55 +25,11 @@ ghost use Prim.Native.Nat.{ℕ};
 ghost use Rattle.regs.specs.ControlWord.{ACK, NYET, NAK, DATA0, wordOf};
 ghost use Rattle.state.specs.Driver.{Driver};
 ghost use Rattle.state.specs.State.{view, saved};
-ghost use Rattle.script.specs.Tree.{asks};
 ghost use Rattle.script.specs.Bus as script;
 ghost use Rattle.ops.specs.Conc.{go};
 ghost use Rattle.ops.specs.Records.{isoOut};
-ghost use Rattle.bus.specs.Points.{resultless, renewedAs, enabledOut, afterType, afterWords, afterPlaced, switching, denote, meaning, Linked, fitsAt};
+ghost use Rattle.bus.specs.Points.{resultless, renewedAs, enabledOut, afterType, afterWords, afterPlaced, denote, meaning, Linked, fitsAt};
 ghost use Rattle.bus.specs.Stages.{ofEndpoint};
-
-// The word of the row: ISO responses, or NAK.
-fn switch_word(on: bool) -> u32
-    ensures { λ r. ⌜ r ≡ cond on 1 2 ⌝ }
-{
-    if on {
-        return 1;
-    }
-    2
-}
-
-// A write of the row, after which `left` of its accesses are left.
-fn row_write(reg: Reg, at: u8, word: u32, e: u8, on: bool, left: u8) -> Next
-    ensures { λ r. ⌜ ((d : Driver) (b : List ℕ) → meaning r d b ≡ asks (Access.Write reg at word) (d, b) (λ _ t. switching e on left t)) ⌝ }
-    ensures { λ r. ⌜ Linked r ⌝ }
-{
-    Next::Asks(Access::Write(reg, at, word), Point::Switch(e, on, left))
-}
-
-// An isochronous OUT (mod.rs 1285-1311): every slot armed from the last, its control word, ep_type, ep_config. `n` of these are left.
-fn after_switch(s: &mut [u8; STATE_LEN], buf: &mut [u8], e: u8, on: bool, n: u8) -> Next
-    ensures { λ r. ⌜ meaning r (view (now (s .exit))) (now (buf .exit)) ≡ switching e on n (view (now (s .entry)), now (buf .entry)) ⌝ }
-    ensures { λ _. ⌜ saved (now (s .exit)) ≡ saved (now (s .entry)) ⌝ }
-    ensures { λ r. ⌜ Linked r ⌝ }
-{
-    if 3 < n {
-        let at = slot_step(s, buf, e, n - 4);
-        return Next::Asks(Access::Receive(e, at), Point::Switch(e, on, n - 1));
-    }
-    if n == 3 {
-        let word = switch_word(on);
-        return row_write(Reg::EpRxCtrl, e, word, e, on, 2);
-    }
-    if n == 2 {
-        let word = type_step(s, e, on);
-        return row_write(Reg::EpType, 0, word, e, on, 1);
-    }
-    if n == 1 {
-        let word = config_step(s, e, on);
-        return row_write(Reg::EpConfig, 0, word, e, on, 0);
-    }
-    after_woken(s, Dir::Out, e)
-}
 
 // The record reset, and armed or not.
 fn renew(s: &mut [u8; STATE_LEN], dir: Dir, e: u8, armed: u8)

@@ -12,8 +12,8 @@ use Rattle.script.specs.Machine.{Buf, Ans, ended}
 use Rattle.ops.specs.Rings.{St}
 use Rattle.endpoint.specs.declared.Polled.{Polled}
 use Rattle.endpoint.specs.Points as endpoint
-use Rattle.packets.specs.declared.Packet.{Packet}
-use Rattle.packets.specs.Packets as packets
+use Rattle.open_close.specs.declared.Packet.{Packet}
+use Rattle.open_close.specs.Packets as packets
 use Rattle.way.specs.declared.Under.{Under}
 use Rattle.way.specs.declared.Step.{Step}
 use Rattle.way.specs.Under.{decode, machineAt, machineOf, halts, answerOf}

@@ -1,5 +1,5 @@
-// Packets in place: the calls without accesses, which pass while an interrupt is under way. Rows 4, 5 and 9 to 14 are `packets`'. Of an answer that shows a packet the bytes are the slots'.
-use packets::Packet;
+// Packets in place: the calls without accesses, which pass while an interrupt is under way. Rows 4, 5 and 9 to 14 are those of `open_close` and `queue`. Of an answer that shows a packet the bytes are the slots'.
+use open_close::Packet;
 use state::STATE_LEN;
 use way::Step;
 use way::rows::slots_fit;
@@ -11,7 +11,7 @@ ghost use Rattle.state.specs.Driver.{Driver};
 ghost use Rattle.state.specs.State.{view};
 ghost use Rattle.script.specs.Machine.{begin, ended};
 ghost use Rattle.script.specs.Calls.{aside, Open, Close, Queue};
-ghost use Rattle.packets.specs.Packets as packets;
+ghost use Rattle.open_close.specs.Packets as packets;
 ghost use Rattle.way.specs.Under.{machineOf, drive, answerOf, lentOr};
 ghost use Rattle.endpoint_calls.specs.Shown.{ShownAt};
 
@@ -33,7 +33,7 @@ pub fn open(s: &mut [u8; STATE_LEN], slots: &[u8], e: u32) -> Step
 {
     if slots_fit(s, slots) {
         if may_pass(s) {
-            let x = packets::open(s, slots, e);
+            let x = open_close::open(s, slots, e);
             return told(x);
         }
         return Step::Refused(3);
@@ -46,7 +46,7 @@ pub fn close(s: &mut [u8; STATE_LEN], e: u32) -> Step
     ensures { λ r. ⌜ ((a b : List ℕ) → (answerOf r b (view (now (s .exit))), machineOf (now (s .exit)) b) ≡ drive (begin (aside (Close e))) (machineOf (now (s .entry)) a) b) ⌝ }
 {
     if may_pass(s) {
-        let x = packets::close(s, e);
+        let x = open_close::close(s, e);
         return told(x);
     }
     Step::Refused(3)
@@ -58,7 +58,7 @@ pub fn queue(s: &mut [u8; STATE_LEN], slots: &mut [u8], e: u32, bytes: &[u8]) ->
 {
     if slots_fit(s, slots) {
         if may_pass(s) {
-            let x = packets::queue(s, slots, e, bytes);
+            let x = queue::queue(s, slots, e, bytes);
             return told(x);
         }
         return Step::Refused(3);

@@ -17,7 +17,7 @@ use Rattle.script.specs.AllocateAll as script
 use Rattle.script.specs.AllocateAll.{allocateEach}
 use Rattle.ops.specs.Records.{allocatedOn}
 use Rattle.ops.specs.Conc.{go}
-use Rattle.driver.specs.Announce.{announcing}
+use Rattle.driver_steps.specs.Announce.{announcing}
 
 -- ---- allocated, in the list's order
 

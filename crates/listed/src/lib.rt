@@ -2,7 +2,7 @@
 use descriptor::Endpoint;
 use descriptor::Endpoints;
 use driver::Next;
-use driver::announce::first;
+use driver_steps::announce::first;
 use regs::Dir;
 use state::STATE_LEN;
 ghost use mathlib.Core.Path.{_≡_};

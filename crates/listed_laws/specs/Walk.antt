@@ -29,7 +29,7 @@ use Rattle.script.specs.Answers.{isNumber, isAllocated}
 use Rattle.ring.specs.Out.{armedAt}
 use Rattle.ops.specs.Rings.{St, placeOn}
 use Rattle.ops.specs.Conc.{conc, go}
-use Rattle.driver.specs.Announce.{endOn, startsAt, foundAt, following, announcing, after-none, after-in, after-out}
+use Rattle.driver_steps.specs.Announce.{endOn, startsAt, foundAt, following, announcing, after-none, after-in, after-out}
 use Rattle.listed_laws.specs.Hands.{handsOut, endsWith, accesses}
 use Rattle.listed_laws.specs.Settled.{Owns}
 

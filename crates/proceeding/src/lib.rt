@@ -22,9 +22,9 @@ fn proceed_driver(s: &mut [u8; STATE_LEN], v: u32) -> Step
     requires { ⌜ saved (now s) .tag ≡ 1 ⌝ }
     ensures { λ r. ⌜ ((b : List ℕ) → (answerOf r [] (view (now (s .exit))), machineOf (now (s .exit)) b) ≡ goneOn v (decode (saved (now (s .entry)))) (view (now (s .entry))) b) ⌝ }
 {
-    let p = driver::codec::decode(state::load_saved(s));
-    if driver::fits_at(p, v) {
-        let n = driver::resume(s, p, v);
+    let p = driver_codec::decode(state::load_saved(s));
+    if driver_codec::fits_at(p, v) {
+        let n = driver_steps::resume(s, p, v);
         return halted(s, n);
     }
     Step::Refused(16)

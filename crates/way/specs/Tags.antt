@@ -7,7 +7,7 @@ use lib.Dec.{eqb, ltb, eqb·suc-zero}
 use borrow.Author.Tests.{ne-eqb, lt-ltb}
 use Rattle.state.specs.declared.Saved.{Saved}
 use Rattle.driver.specs.declared.Point as driverPoint
-use Rattle.driver.specs.Codec as driverCodec
+use Rattle.driver_codec.specs.Codec as driverCodec
 use Rattle.bus.specs.declared.Point as busPoint
 use Rattle.bus.specs.Codec as busCodec
 use Rattle.control.specs.declared.Point as controlPoint

@@ -22,7 +22,7 @@ use Rattle.script.specs.Machine.{Buf, Way, idle, busy, Machine, Ans, ended, han
 use Rattle.ops.specs.Rings.{St}
 use Rattle.ops.specs.Conc.{conc}
 use Rattle.driver.specs.Points as driver
-use Rattle.driver.specs.Codec as codec
+use Rattle.driver_codec.specs.Codec as codec
 use Rattle.bus.specs.Points as bus
 use Rattle.bus.specs.Codec as busCodec
 use Rattle.request.specs.Answers.{front, broughtBy, lentAfter}

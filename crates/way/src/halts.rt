@@ -48,7 +48,7 @@ pub fn halted(s: &mut [u8; STATE_LEN], n: driver::Next) -> Step
     ensures { λ r. ⌜ ((b : List ℕ) → (answerOf r [] (view (now (s .exit))), machineOf (now (s .exit)) b) ≡ halts (bindOut (driver.meaning n (view (now (s .entry))) b) (λ k t. run conc (finish k) t))) ⌝ }
 {
     match n {
-        driver::Next::Asks(q, p) => asks(s, q, driver::codec::encode(p), 1),
+        driver::Next::Asks(q, p) => asks(s, q, driver_codec::encode(p), 1),
         driver::Next::Ends(k) => ended(s, k),
     }
 }

@@ -11,7 +11,7 @@ use Rattle.listed.proofs.announce_all.Tie as tie
 use Rattle.listed.proofs.announce_all.Reads as reads
 use Rattle.listed.proofs.announce_all.Lts as lts
 use Rattle.descriptor.proofs.list.count.Reads as count-reads
-use Rattle.driver.proofs.announce.first.Reads as first-reads
+use Rattle.driver_steps.proofs.announce.first.Reads as first-reads
 use Rattle.listed.proofs.direction.Reads as direction-reads
 
 count-requires : tie.Need-count-requires

@@ -1,7 +1,7 @@
 use Rattle.proceeding.specs.Going.{going, staying}
 use Rattle.way.specs.Tags.{at-driver}
 use Rattle.way.specs.Fits.{gone-driver, stay-driver}
-use Rattle.driver.specs.Codec.{decode}
+use Rattle.driver_codec.specs.Codec.{decode}
 use Rattle.state.specs.State.{view, saved}
 use denote.Ref.{now}
 use mathlib.Core.Path.{_∙_, sym, ap}
@@ -10,9 +10,9 @@ use Rattle.proceeding.proofs.proceed_driver.Statement.{statement}
 use Rattle.proceeding.proofs.proceed_driver.Tie as tie
 use Rattle.proceeding.proofs.proceed_driver.Reads as reads
 use Rattle.proceeding.proofs.proceed_driver.Lts as lts
-use Rattle.driver.proofs.codec.decode.Reads as decode-reads
-use Rattle.driver.proofs.fits_at.Reads as fits-at-reads
-use Rattle.driver.proofs.resume.Reads as resume-reads
+use Rattle.driver_codec.proofs.decode.Reads as decode-reads
+use Rattle.driver_codec.proofs.fits_at.Reads as fits-at-reads
+use Rattle.driver_steps.proofs.resume.Reads as resume-reads
 use Rattle.state.proofs.load_saved.Reads as load-saved-reads
 use Rattle.way.proofs.halts.halted.Reads as halted-reads
 

@@ -10,7 +10,7 @@ use Rattle.endpoint_calls.proofs.in_place.close.Statement.{statement}
 use Rattle.endpoint_calls.proofs.in_place.close.Tie as tie
 use Rattle.endpoint_calls.proofs.in_place.close.Reads as reads
 use Rattle.endpoint_calls.proofs.in_place.close.Lts as lts
-use Rattle.packets.proofs.close.Reads as close-reads
+use Rattle.open_close.proofs.close.Reads as close-reads
 use Rattle.way.proofs.saved.may_pass.Reads as may-pass-reads
 use Rattle.endpoint_calls.proofs.in_place.told.Reads as told-reads
 

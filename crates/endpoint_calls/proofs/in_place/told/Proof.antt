@@ -1,6 +1,6 @@
 use mathlib.Core.Path.{_∙_, subst}
-use Rattle.packets.specs.declared.Packet.{Packet}
-use Rattle.packets.specs.Packets as packets
+use Rattle.open_close.specs.declared.Packet.{Packet}
+use Rattle.open_close.specs.Packets as packets
 use borrow.Author.Needs.{needs}
 use Rattle.endpoint_calls.proofs.in_place.told.Statement.{statement}
 use Rattle.endpoint_calls.proofs.in_place.told.Tie as tie

@@ -1,0 +1,134 @@
+-- A point as the saved record, and back. `tag`, which says whose point it is, is the caller's.
+use mathlib.Core.Path.{_≡_, refl}
+use mathlib.Core.Bool.{Bool, true, false, cond}
+use Prim.Native.Nat.{ℕ}
+use lib.Dec.{eqb}
+use Rattle.regs.specs.declared.Dir.{Dir}
+use Rattle.regs.specs.declared.Dir.the-variants.{Out, In}
+use Rattle.state.specs.declared.Saved.{Saved}
+use Rattle.script.specs.Statics.{isOn, flag}
+use Rattle.driver.specs.declared.Point.{Point}
+use Rattle.driver.specs.declared.Point.the-variants as point
+
+-- a direction in a byte
+abbrev pub dirAs : Dir → ℕ
+dirAs Out = 0
+dirAs In = 1
+
+abbrev pub dirOf : ℕ → Dir
+dirOf n = cond (eqb n 0) Out In
+
+-- the point's number; callback or direction, kind, endpoint, maximum
+abbrev pub code : ℕ → ℕ → ℕ → ℕ → ℕ → Saved
+code n f kind ep value = record {
+  tag = 0;
+  sub = n;
+  site = 0;
+  flag = f;
+  busy = 0;
+  late = 0;
+  «len_ok» = 0;
+  st = kind;
+  now = 0;
+  ep = ep;
+  len = 0;
+  frame = 0;
+  eps = 0;
+  n = 0;
+  value = value;
+}
+
+-- of a list's endpoints also how many are left and how many there are
+abbrev pub listCode : ℕ → ℕ → ℕ → ℕ → ℕ → ℕ → Saved
+listCode n f kind ep left total = record {
+  tag = 0;
+  sub = n;
+  site = 0;
+  flag = f;
+  busy = left;
+  late = total;
+  «len_ok» = 0;
+  st = kind;
+  now = 0;
+  ep = ep;
+  len = 0;
+  frame = 0;
+  eps = 0;
+  n = 0;
+  value = 0;
+}
+
+unfoldable pub encode : Point → Saved
+encode (point.Clear callback) = code 0 (flag callback) 0 0 0
+encode (point.Wait callback) = code 1 (flag callback) 0 0 0
+encode (point.Reset callback) = code 2 (flag callback) 0 0 0
+encode (point.ResetEnd callback) = code 3 (flag callback) 0 0 0
+encode (point.Host callback) = code 4 (flag callback) 0 0 0
+encode (point.Run callback) = code 5 (flag callback) 0 0 0
+encode point.IntEn = code 6 0 0 0 0
+encode (point.MaxLen d kind ep) = code 7 (dirAs d) kind ep 0
+encode (point.Place ep) = code 8 0 0 ep 0
+encode (point.Ep0Place maximum) = code 9 0 0 0 maximum
+encode point.Ep0MaxLen = code 10 0 0 0 0
+encode point.Ep0Rx = code 11 0 0 0 0
+encode point.Ep0Tx = code 12 0 0 0 0
+encode point.Ep0Packet = code 13 0 0 0 0
+encode point.FrameNo = code 14 0 0 0 0
+encode (point.ListMaxLen d kind ep left total) = listCode 15 (dirAs d) kind ep left total
+encode (point.ListPlace d ep left total) = listCode 16 (dirAs d) 0 ep left total
+
+-- by the point's number; an unknown one is the first
+abbrev pub byNumber : ℕ → Saved → Point
+byNumber n c =
+    cond (eqb n 1) (point.Wait (isOn (c .flag)))
+    (cond (eqb n 2) (point.Reset (isOn (c .flag)))
+    (cond (eqb n 3) (point.ResetEnd (isOn (c .flag)))
+    (cond (eqb n 4) (point.Host (isOn (c .flag)))
+    (cond (eqb n 5) (point.Run (isOn (c .flag)))
+    (cond (eqb n 6) point.IntEn
+    (cond (eqb n 7) (point.MaxLen (dirOf (c .flag)) (c .st) (c .ep))
+    (cond (eqb n 8) (point.Place (c .ep))
+    (cond (eqb n 9) (point.Ep0Place (c .value))
+    (cond (eqb n 10) point.Ep0MaxLen
+    (cond (eqb n 11) point.Ep0Rx
+    (cond (eqb n 12) point.Ep0Tx
+    (cond (eqb n 13) point.Ep0Packet
+    (cond (eqb n 14) point.FrameNo
+    (cond (eqb n 15) (point.ListMaxLen (dirOf (c .flag)) (c .st) (c .ep) (c .busy) (c .late))
+    (cond (eqb n 16) (point.ListPlace (dirOf (c .flag)) (c .ep) (c .busy) (c .late))
+    (point.Clear (isOn (c .flag))))))))))))))))))
+
+unfoldable pub decode : Saved → Point
+decode c = byNumber (c .sub) c
+
+-- ---- laws
+
+flag-back : (b : Bool) → isOn (flag b) ≡ b
+unfolding isOn
+flag-back true = refl
+flag-back false = refl
+
+dir-back : (d : Dir) → dirOf (dirAs d) ≡ d
+dir-back Out = refl
+dir-back In = refl
+
+-- what was saved is found again
+pub decode-encode : (p : Point) → decode (encode p) ≡ p
+unfolding encode decode
+decode-encode (point.Clear callback) = simp flag-back
+decode-encode (point.Wait callback) = simp flag-back
+decode-encode (point.Reset callback) = simp flag-back
+decode-encode (point.ResetEnd callback) = simp flag-back
+decode-encode (point.Host callback) = simp flag-back
+decode-encode (point.Run callback) = simp flag-back
+decode-encode point.IntEn = refl
+decode-encode (point.MaxLen d kind ep) = simp dir-back
+decode-encode (point.Place ep) = refl
+decode-encode (point.Ep0Place maximum) = refl
+decode-encode point.Ep0MaxLen = refl
+decode-encode point.Ep0Rx = refl
+decode-encode point.Ep0Tx = refl
+decode-encode point.Ep0Packet = refl
+decode-encode point.FrameNo = refl
+decode-encode (point.ListMaxLen d kind ep left total) = simp dir-back
+decode-encode (point.ListPlace d ep left total) = simp dir-back
