@@ -1,4 +1,4 @@
-use Rattle.proceeding.specs.Going.{going, staying}
+use Rattle.going_on.specs.Going.{going, staying}
 use Rattle.way.specs.Tags.{at-advance}
 use Rattle.way.specs.Fits.{gone-advance, stay-advance}
 use Rattle.iso_in.specs.Codec.{decode}
@@ -6,10 +6,10 @@ use Rattle.state.specs.State.{view, saved}
 use denote.Ref.{now}
 use mathlib.Core.Path.{_∙_, sym, ap}
 use borrow.Author.Needs.{needs}
-use Rattle.proceeding.proofs.proceed_advance.Statement.{statement}
-use Rattle.proceeding.proofs.proceed_advance.Tie as tie
-use Rattle.proceeding.proofs.proceed_advance.Reads as reads
-use Rattle.proceeding.proofs.proceed_advance.Lts as lts
+use Rattle.going_on.proofs.proceed_advance.Statement.{statement}
+use Rattle.going_on.proofs.proceed_advance.Tie as tie
+use Rattle.going_on.proofs.proceed_advance.Reads as reads
+use Rattle.going_on.proofs.proceed_advance.Lts as lts
 use Rattle.iso_in.proofs.advance.fits_at.Reads as fits-at-reads
 use Rattle.iso_in.proofs.advance.resume.Reads as resume-reads
 use Rattle.iso_in.proofs.codec.decode.Reads as decode-reads

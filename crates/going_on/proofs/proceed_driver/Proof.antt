@@ -1,4 +1,4 @@
-use Rattle.proceeding.specs.Going.{going, staying}
+use Rattle.going_on.specs.Going.{going, staying}
 use Rattle.way.specs.Tags.{at-driver}
 use Rattle.way.specs.Fits.{gone-driver, stay-driver}
 use Rattle.driver.specs.Codec.{decode}
@@ -6,10 +6,10 @@ use Rattle.state.specs.State.{view, saved}
 use denote.Ref.{now}
 use mathlib.Core.Path.{_∙_, sym, ap}
 use borrow.Author.Needs.{needs}
-use Rattle.proceeding.proofs.proceed_driver.Statement.{statement}
-use Rattle.proceeding.proofs.proceed_driver.Tie as tie
-use Rattle.proceeding.proofs.proceed_driver.Reads as reads
-use Rattle.proceeding.proofs.proceed_driver.Lts as lts
+use Rattle.going_on.proofs.proceed_driver.Statement.{statement}
+use Rattle.going_on.proofs.proceed_driver.Tie as tie
+use Rattle.going_on.proofs.proceed_driver.Reads as reads
+use Rattle.going_on.proofs.proceed_driver.Lts as lts
 use Rattle.driver.proofs.codec.decode.Reads as decode-reads
 use Rattle.driver.proofs.fits_at.Reads as fits-at-reads
 use Rattle.driver.proofs.resume.Reads as resume-reads

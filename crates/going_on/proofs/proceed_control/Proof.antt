@@ -1,4 +1,4 @@
-use Rattle.proceeding.specs.Going.{going, staying}
+use Rattle.going_on.specs.Going.{going, staying}
 use Rattle.way.specs.Tags.{at-control}
 use Rattle.way.specs.Fits.{gone-control, stay-control}
 use Rattle.control.specs.Codec.{decode}
@@ -6,10 +6,10 @@ use Rattle.state.specs.State.{view, saved}
 use denote.Ref.{now}
 use mathlib.Core.Path.{_∙_, sym, ap}
 use borrow.Author.Needs.{needs}
-use Rattle.proceeding.proofs.proceed_control.Statement.{statement}
-use Rattle.proceeding.proofs.proceed_control.Tie as tie
-use Rattle.proceeding.proofs.proceed_control.Reads as reads
-use Rattle.proceeding.proofs.proceed_control.Lts as lts
+use Rattle.going_on.proofs.proceed_control.Statement.{statement}
+use Rattle.going_on.proofs.proceed_control.Tie as tie
+use Rattle.going_on.proofs.proceed_control.Reads as reads
+use Rattle.going_on.proofs.proceed_control.Lts as lts
 use Rattle.control.proofs.decode.Reads as decode-reads
 use Rattle.control.proofs.fits_at.Reads as fits-at-reads
 use Rattle.control.proofs.resume.Reads as resume-reads

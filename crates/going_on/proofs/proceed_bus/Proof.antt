@@ -1,4 +1,4 @@
-use Rattle.proceeding.specs.Going.{going, staying}
+use Rattle.going_on.specs.Going.{going, staying}
 use Rattle.way.specs.Tags.{at-bus}
 use Rattle.way.specs.Fits.{gone-bus, stay-bus}
 use Rattle.bus.specs.Codec.{decode}
@@ -6,10 +6,10 @@ use Rattle.state.specs.State.{view, saved}
 use denote.Ref.{now}
 use mathlib.Core.Path.{_∙_, sym, ap}
 use borrow.Author.Needs.{needs}
-use Rattle.proceeding.proofs.proceed_bus.Statement.{statement}
-use Rattle.proceeding.proofs.proceed_bus.Tie as tie
-use Rattle.proceeding.proofs.proceed_bus.Reads as reads
-use Rattle.proceeding.proofs.proceed_bus.Lts as lts
+use Rattle.going_on.proofs.proceed_bus.Statement.{statement}
+use Rattle.going_on.proofs.proceed_bus.Tie as tie
+use Rattle.going_on.proofs.proceed_bus.Reads as reads
+use Rattle.going_on.proofs.proceed_bus.Lts as lts
 use Rattle.bus.proofs.decode.Reads as decode-reads
 use Rattle.bus.proofs.fits_at.Reads as fits-at-reads
 use Rattle.bus_events.proofs.resume.Reads as resume-reads

@@ -1,4 +1,4 @@
-use Rattle.proceeding.specs.Going.{going, staying}
+use Rattle.going_on.specs.Going.{going, staying}
 use Rattle.way.specs.Tags.{at-endpoint}
 use Rattle.way.specs.Fits.{gone-endpoint, stay-endpoint}
 use Rattle.endpoint.specs.Codec.{decode}
@@ -6,10 +6,10 @@ use Rattle.state.specs.State.{view, saved}
 use denote.Ref.{now}
 use mathlib.Core.Path.{_∙_, sym, ap}
 use borrow.Author.Needs.{needs}
-use Rattle.proceeding.proofs.proceed_endpoint.Statement.{statement}
-use Rattle.proceeding.proofs.proceed_endpoint.Tie as tie
-use Rattle.proceeding.proofs.proceed_endpoint.Reads as reads
-use Rattle.proceeding.proofs.proceed_endpoint.Lts as lts
+use Rattle.going_on.proofs.proceed_endpoint.Statement.{statement}
+use Rattle.going_on.proofs.proceed_endpoint.Tie as tie
+use Rattle.going_on.proofs.proceed_endpoint.Reads as reads
+use Rattle.going_on.proofs.proceed_endpoint.Lts as lts
 use Rattle.endpoint.proofs.decode.Reads as decode-reads
 use Rattle.endpoint.proofs.fits_at.Reads as fits-at-reads
 use Rattle.endpoint.proofs.resume.Reads as resume-reads
