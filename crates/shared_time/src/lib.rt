@@ -39,7 +39,7 @@ pub fn start_up(
 ) -> Step
     ensures { λ r. ⌜ ((a : List ℕ) → ((answerOf r [] (view (now (s .exit))), machineOf (now (s .exit)) (cond (eqb (startRow (configOf size count callback) (now (slots .entry))) 0) (now (slots .entry)) a)), now (time .exit)) ≡ sharedCall driver (start (configOf size count callback)) (machineOf (now (s .entry)) a) (now (time .entry)) (now (slots .entry))) ⌝ }
 {
-    let step = driver_calls::starting::start_up(s, slots, size, count, callback);
+    let step = starting_calls::start_up(s, slots, size, count, callback);
     started(time, driver, step);
     step
 }

@@ -1,5 +1,5 @@
 use Rattle.way.specs.Rows.{back, other-call}
-use Rattle.driver_calls.specs.Begins.{starting, start-begins, start-refused}
+use Rattle.starting_calls.specs.Begins.{starting, start-begins, start-refused}
 use Rattle.script.specs.Calls as calls
 use Rattle.way.specs.Under.{decode}
 use Rattle.state.specs.State.{view, saved}
@@ -7,10 +7,10 @@ use denote.Ref.{now}
 use mathlib.Core.Path.{_∙_, sym, refl}
 use borrow.Author.Tests.{eq-eqb, ne-eqb}
 use borrow.Author.Needs.{needs}
-use Rattle.driver_calls.proofs.starting.start.Statement.{statement}
-use Rattle.driver_calls.proofs.starting.start.Tie as tie
-use Rattle.driver_calls.proofs.starting.start.Reads as reads
-use Rattle.driver_calls.proofs.starting.start.Lts as lts
+use Rattle.starting_calls.proofs.start.Statement.{statement}
+use Rattle.starting_calls.proofs.start.Tie as tie
+use Rattle.starting_calls.proofs.start.Reads as reads
+use Rattle.starting_calls.proofs.start.Lts as lts
 use Rattle.driver.proofs.start_ep0.Reads as start-ep0-reads
 use Rattle.ops.proofs.records.allocate0.Reads as allocate0-reads
 use Rattle.state.proofs.clear_wakes.Reads as clear-wakes-reads

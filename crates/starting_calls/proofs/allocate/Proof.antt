@@ -1,5 +1,5 @@
 use Rattle.way.specs.Rows.{back, other-call}
-use Rattle.driver_calls.specs.Begins.{allocating, allocate-begins, allocate-refused}
+use Rattle.starting_calls.specs.Begins.{allocating, allocate-begins, allocate-refused}
 use Rattle.script.specs.Calls as calls
 use Rattle.way.specs.Under.{decode}
 use Rattle.state.specs.State.{view, saved}
@@ -7,10 +7,10 @@ use denote.Ref.{now}
 use mathlib.Core.Path.{_∙_, sym, refl}
 use borrow.Author.Tests.{eq-eqb, ne-eqb}
 use borrow.Author.Needs.{needs}
-use Rattle.driver_calls.proofs.starting.allocate.Statement.{statement}
-use Rattle.driver_calls.proofs.starting.allocate.Tie as tie
-use Rattle.driver_calls.proofs.starting.allocate.Reads as reads
-use Rattle.driver_calls.proofs.starting.allocate.Lts as lts
+use Rattle.starting_calls.proofs.allocate.Statement.{statement}
+use Rattle.starting_calls.proofs.allocate.Tie as tie
+use Rattle.starting_calls.proofs.allocate.Reads as reads
+use Rattle.starting_calls.proofs.allocate.Lts as lts
 use Rattle.driver.proofs.new_endpoint.Reads as new-endpoint-reads
 use Rattle.ops.proofs.records.allocate.Reads as allocate-reads
 use Rattle.state.proofs.clear_wakes.Reads as clear-wakes-reads

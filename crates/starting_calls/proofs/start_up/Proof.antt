@@ -1,17 +1,17 @@
 use Rattle.script.specs.Calls.{startRow}
-use Rattle.driver_calls.specs.Starts.{good-16}
+use Rattle.starting_calls.specs.Starts.{good-16}
 use mathlib.Core.Path.{_∙_, sym}
 use borrow.Author.Needs.{needs}
-use Rattle.driver_calls.proofs.starting.start_up.Statement.{statement}
-use Rattle.driver_calls.proofs.starting.start_up.Tie as tie
-use Rattle.driver_calls.proofs.starting.start_up.Reads as reads
-use Rattle.driver_calls.proofs.starting.start_up.Lts as lts
+use Rattle.starting_calls.proofs.start_up.Statement.{statement}
+use Rattle.starting_calls.proofs.start_up.Tie as tie
+use Rattle.starting_calls.proofs.start_up.Reads as reads
+use Rattle.starting_calls.proofs.start_up.Lts as lts
 use Rattle.alloc.proofs.buffer.fits.Reads as fits-reads
 use Rattle.alloc.proofs.buffer.good_buffer.Reads as good-buffer-reads
 use Rattle.driver.proofs.start_up.Reads as start-up-reads
 use Rattle.state.proofs.fresh.Reads as fresh-reads
 use Rattle.state.proofs.clear_wakes.Reads as clear-wakes-reads
-use Rattle.driver_calls.proofs.starting.flag_of.Reads as flag-of-reads
+use Rattle.starting_calls.proofs.flag_of.Reads as flag-of-reads
 use Rattle.way.proofs.halts.halted.Reads as halted-reads
 
 fits-requires : tie.Need-fits-requires

@@ -1,3 +1,4 @@
+// Start-up, allocation and EP0's start.
 use alloc::Answer;
 use regs::Dir;
 use state::STATE_LEN;
