@@ -1,15 +1,15 @@
 use denote.Ref.{now}
 use mathlib.Core.Path.{refl}
 use Rattle.way.specs.Under.{machineOf, configOf}
 use Rattle.shared_time.specs.Sharing.{settles}
 use Rattle.script.specs.Machine.{go}
 use borrow.Author.Needs.{needs}
-use Rattle.shared_time.proofs.proceed.Statement.{statement}
-use Rattle.shared_time.proofs.proceed.Tie as tie
-use Rattle.shared_time.proofs.proceed.Reads as reads
-use Rattle.shared_time.proofs.proceed.Lts as lts
+use Rattle.usbhs.proofs.proceeds.proceed.Statement.{statement}
+use Rattle.usbhs.proofs.proceeds.proceed.Tie as tie
+use Rattle.usbhs.proofs.proceeds.proceed.Reads as reads
+use Rattle.usbhs.proofs.proceeds.proceed.Lts as lts
 use Rattle.proceeding.proofs.proceed.Reads as proceed-reads
 use Rattle.shared_time.proofs.charges.gone_on.Reads as gone-on-reads
 
 proceed-requires : tie.Need-proceed-requires
 proceed-requires c κs = search needs
