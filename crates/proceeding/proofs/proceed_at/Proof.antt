@@ -6,11 +6,11 @@ use Rattle.proceeding.proofs.proceed_at.Statement.{statement}
 use Rattle.proceeding.proofs.proceed_at.Tie as tie
 use Rattle.proceeding.proofs.proceed_at.Reads as reads
 use Rattle.proceeding.proofs.proceed_at.Lts as lts
-use Rattle.proceeding.proofs.proceed_advance.Reads as proceed-advance-reads
-use Rattle.proceeding.proofs.proceed_bus.Reads as proceed-bus-reads
-use Rattle.proceeding.proofs.proceed_control.Reads as proceed-control-reads
-use Rattle.proceeding.proofs.proceed_driver.Reads as proceed-driver-reads
-use Rattle.proceeding.proofs.proceed_endpoint.Reads as proceed-endpoint-reads
+use Rattle.going_on.proofs.proceed_advance.Reads as proceed-advance-reads
+use Rattle.going_on.proofs.proceed_bus.Reads as proceed-bus-reads
+use Rattle.going_on.proofs.proceed_control.Reads as proceed-control-reads
+use Rattle.going_on.proofs.proceed_driver.Reads as proceed-driver-reads
+use Rattle.going_on.proofs.proceed_endpoint.Reads as proceed-endpoint-reads
 use Rattle.proceeding.proofs.proceed_interrupt.Reads as proceed-interrupt-reads
 use Rattle.way.proofs.saved.tag.Reads as tag-reads
 

@@ -1,4 +1,4 @@
-use Rattle.proceeding.specs.Going.{going, staying}
+use Rattle.going_on.specs.Going.{going, staying}
 use Rattle.way.specs.Tags.{at-interrupt}
 use Rattle.way.specs.Interrupt.{gone-interrupt, stay-interrupt}
 use Rattle.handler_codec.specs.Codec.{decode}

@@ -8,7 +8,7 @@ use Rattle.shared_time.proofs.start_up.Statement.{statement}
 use Rattle.shared_time.proofs.start_up.Tie as tie
 use Rattle.shared_time.proofs.start_up.Reads as reads
 use Rattle.shared_time.proofs.start_up.Lts as lts
-use Rattle.driver_calls.proofs.starting.start_up.Reads as start-up-reads
+use Rattle.starting_calls.proofs.start_up.Reads as start-up-reads
 use Rattle.shared_time.proofs.charges.started.Reads as started-reads
 
 start-up-requires : tie.Need-start-up-requires
