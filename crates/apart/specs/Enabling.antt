@@ -1,5 +1,5 @@
 -- An IN endpoint enabled or disabled
-use mathlib.Core.Bool.{Bool, true, false}
+use mathlib.Core.Bool.{Bool}
 use mathlib.Core.Path.{_≡_, refl, ap}
 use Prim.Native.Nat.{ℕ}
 use Rattle.regs.specs.declared.Reg.the-variants.{EpType, EpConfig, EpTLen, EpTxCtrl}
@@ -9,7 +9,7 @@ use Rattle.state.specs.declared.EpState.{EpState}
 use Rattle.state.specs.declared.Globals.{Globals}
 use Rattle.state.specs.Kept.{withEpConfig}
 use Rattle.state.specs.Driver.{epOn, withOn}
-use Rattle.script.specs.Script.{Script, reset-ring, set-enabled, place}
+use Rattle.script.specs.Script.{reset-ring, set-enabled, place}
 use Rattle.script.specs.Statics.{isOn, modifyEpType}
 use Rattle.script.specs.Bus as bus
 use Rattle.script.specs.Alike.{quiet}
@@ -55,7 +55,7 @@ module _ (c : Channel) (e : ℕ) where
 
     p-enabled-in : (iso onn : Bool) → Pair c st {i = i} Any (bus.setEnabledIn e iso onn) (bus.setEnabledIn e iso onn)
     p-enabled-in iso onn = p-then (p-act (reset-ring In e) resets) (p-then (p-modify-ep c In e _ (λ _. refl)) (p-then (p-put-paced c e _)
-        (p-then (p-hand (place In e) places) (p-then (p-write EpTLen e 0) (p-then (p-write EpTxCtrl e _) (p-kept iso onn))))))
+        (p-then (p-hand (place In e) (λ _. refl) places) (p-then (p-write EpTLen e 0) (p-then (p-write EpTxCtrl e _) (p-kept iso onn))))))
 
   pub p-set-enabled : {st : ℕ} (onn : Bool) → Pair c st Any (bus.setEnabled In e onn) (bus.setEnabled In e onn)
   p-set-enabled onn = p-plain-in c e (λ s _. p-then (p-enabled-in (isOn (s .iso)) onn) (p-wake c In e))

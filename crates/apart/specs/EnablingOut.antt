@@ -3,6 +3,8 @@ use mathlib.Core.Bool.{Bool, true, false, cond, true≢false}
 use mathlib.Core.Logic.{_≢_}
 use mathlib.Core.Path.{_≡_, refl, ap, subst, sym, _∙_}
 use Prim.Native.Nat.{ℕ, _%_}
+use lib.Dec.{eqb}
+use borrow.Author.Tests.{ne-eqb}
 use Rattle.bits.specs.Bit.{isSet}
 use Rattle.regs.specs.declared.Reg.the-variants.{EpType, EpConfig, EpRxCtrl}
 use Rattle.regs.specs.declared.Dir.the-variants.{Out}
@@ -33,6 +35,9 @@ module _ (c : Channel) (e : ℕ) (plain : c .iso Out e ≡ false) where
   -- it is not the channel
   other : {s : St} → Lawful (c .iso) quiet s → key Out e ≢ key Out (c .number)
   other {s} l p = true≢false (sym (c .receives) ∙ sym (l .has .flags Out (c .number)) ∙ ap (λ (r : EpState). isOn (r .iso)) (sym (key-ep (s .0) Out Out e (c .number) p)) ∙ l .has .flags Out e ∙ plain)
+
+  other-number : eqb e (c .number) ≡ false
+  other-number = ne-eqb e (c .number) (λ z. true≢false (sym (c .receives) ∙ ap (λ a. c .iso Out a) (sym z) ∙ plain))
 
   resets : (s t : St) → Like c quiet s t → Like c quiet (actOn (reset-ring Out e) s) (actOn (reset-ring Out e) t)
   unfolding emptiedOn isoOut withOn
@@ -91,7 +96,7 @@ module _ (c : Channel) (e : ℕ) (plain : c .iso Out e ≡ false) where
     p-kept onn = p-then (p-globals c (λ g _. p-then (p-assign c _) (p-write EpType 0 _))) (p-then (p-act (set-enabled Out e onn) (configures onn)) (p-globals c (λ g _. p-write EpConfig 0 _)))
 
     p-enabled-out : (onn : Bool) → Pair c st {i = i} Any (bus.setEnabledOut e onn) (bus.setEnabledOut e onn)
-    p-enabled-out onn = p-then (p-act (reset-ring Out e) resets) (p-then (p-modify-ep c Out e _ (λ _. refl)) (p-then (p-hand (place Out e) places) (p-then (p-write EpRxCtrl e _) (p-kept onn))))
+    p-enabled-out onn = p-then (p-act (reset-ring Out e) resets) (p-then (p-modify-ep c Out e _ (λ _. refl)) (p-then (p-hand (place Out e) (λ _. other-number) places) (p-then (p-write EpRxCtrl e _) (p-kept onn))))
 
   pub p-set-enabled : {st : ℕ} (onn : Bool) → Pair c st Any (bus.setEnabled Out e onn) (bus.setEnabled Out e onn)
   p-set-enabled onn = p-plain-any c Out e (λ s r _ _ f. p-then (p-test _ (λ h. absurd (true≢false (sym h ∙ f ∙ plain))) (λ _. p-enabled-out onn)) (p-wake c Out e))

@@ -1,4 +1,5 @@
 pub mod But
+pub mod Whose
 pub mod Apart
 pub mod Settled
 pub mod Likes
@@ -27,9 +28,13 @@ pub mod Bounding
 pub mod Bounds
 pub mod DataOut
 pub mod Operations
-pub mod Others
 pub mod Stores
+pub mod Spares
+pub mod Turns
+pub mod Others
+pub mod Standing
 pub mod Runs
+pub mod Alone
 pub mod Start
-pub mod Lines
+pub mod Undisturbed
 pub mod Time

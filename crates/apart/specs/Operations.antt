@@ -24,8 +24,8 @@ use Rattle.script.specs.Endpoint.{arm-read, load-write, put-iso, sent-ready}
 use Rattle.script.specs.Control.{acks, closing-out, take-closing, take-in, statusIn}
 use Rattle.script.specs.Calls.{Slotted, SetEnabled, PollRead, BeginWrite, PollWrite, PollDataOut, BeginDataIn, Other, Allocate, AllocateAll, Start, BusPoll, BusEnable, BusDisable, Microframe, SetStalled, IsStalled, SetPaced, Advance, BeginRead, BeginSetup, PollSetup, PollDataIn, BeginAccept, PollAccept, BeginReject, BeginDataOut, BeginAcceptSetAddress, Aside, Open, Close, Queue, Op, interrupt, slotted, other, aside, code}
 use Rattle.apart.specs.But.{Channel}
-use Rattle.apart.specs.Apart.{Pair}
-use Rattle.apart.specs.Pairs.{Any, p-ret, p-bind, p-same, p-then, p-test, p-tests, p-when, p-write, p-get, p-is, p-act}
+use Rattle.apart.specs.Apart.{PairBy, Pair}
+use Rattle.apart.specs.Pairs.{Any, p-later, p-ret, p-bind, p-same, p-then, p-test, p-tests, p-when, p-write, p-get, p-is, p-act}
 use Rattle.apart.specs.Values.{p-assign, p-record, p-modify-ep, p-wake, p-globals, p-plain-in, p-plain-ep0, p-plain-any, in-other, p-records}
 use Rattle.apart.specs.Answers.{SameAnswer, same, p-operation, p-resultless, p-staged, p-named}
 use Rattle.apart.specs.Walks.{ctrl-steady, p-reads, p-modify-reg, p-complete}
@@ -168,11 +168,11 @@ module _ (c : Channel) (st : ℕ) where
   p-other (BeginDataOut k first) = p-staged 2 (p-begin-data-out c k (p-resultless (p-then (p-modify-ep c Out 0 _ (λ _. refl)) (p-acks Out first))))
   p-other (BeginAcceptSetAddress a) = p-staged 2 (p-unless-setup (p-then (p-put-control c _ refl) (p-resultless p-status-in)))
 
-  pub p-call : (o : Op) → Common (c .number) o → Pair c st (SameAnswer (c .number)) (code o) (code o)
+  pub p-call : (o : Op) → Common (c .number) o → PairBy c st true (SameAnswer (c .number)) (code o) (code o)
   p-call interrupt n = p-interrupt c st
-  p-call (slotted o) n = p-slotted o n
-  p-call (other o) n = p-other o
-  p-call (aside o) n = p-aside c st o n
+  p-call (slotted o) n = p-later (p-slotted o n)
+  p-call (other o) n = p-later (p-other o)
+  p-call (aside o) n = p-later (p-aside c st o n)
 
 -- the three on the channel itself
 pub data OfChannel (x : ℕ) : Op → Type 0 where

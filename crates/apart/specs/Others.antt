@@ -1,7 +1,7 @@
 -- What two such states say of every other endpoint: "the same queue, stamps, bytes, overruns and wake-ups"
-use mathlib.Core.Bool.{Bool, true, false, cond}
+use mathlib.Core.Bool.{false, cond}
 use mathlib.Core.Logic.{_≢_}
-use mathlib.Core.Path.{_≡_, refl, ap, sym, _∙_}
+use mathlib.Core.Path.{_≡_, ap, sym, _∙_}
 use Prim.Native.Nat.{ℕ, _≤_, _<_}
 use native.Mathlib.Omega.{arith}
 use lib.ListN.{getD}
@@ -15,16 +15,18 @@ use Rattle.ring.specs.Laws.{waiting-outside}
 use Rattle.ring.specs.Slot.{countOf}
 use Rattle.regs.specs.Enables as enables
 use Rattle.state.specs.declared.Globals.{Globals}
-use Rattle.script.specs.Answers.{isNumber}
+use Rattle.script.specs.Answers.{Answer, isNumber}
 use Rattle.script.specs.Statics.{flag}
 use Rattle.script.specs.Alike.{Phase}
-use Rattle.script.specs.Machine.{Question, pending, overruns, enabled}
+use Rattle.script.specs.Machine.{Question, pending, overruns, enabled, Way}
+use Rattle.wake_ups.specs.Twins.{Short}
 use Rattle.way.specs.Questions.{pendingOn, overrunsOf, overrunsOn, enabledAsked, questionOf}
 use Rattle.ops.specs.Rings.{St}
 use Rattle.book.specs.Rest.{endOf, lensOf, slotStamps}
 use Rattle.book.specs.Stamps.{stamped}
 use Rattle.apart.specs.But.{SameCodes, Channel, Like}
 use Rattle.apart.specs.Buts.{others-same}
+use Rattle.apart.specs.Turns.{Asked, SameOthers}
 use Rattle.apart.specs.Values.{in-other}
 
 module _ {c : Channel} {φ : Phase} {s t : St} (l : Like c φ s t) where
@@ -55,14 +57,20 @@ module _ {c : Channel} {φ : Phase} {s t : St} (l : Like c φ s t) where
   pub same-wakes : SameCodes (c .number) (listed (s .0 .wakes)) (listed (t .0 .wakes))
   same-wakes = l .but .wakes .same
 
-  -- what the questions ask, but for the channel's overruns
-  abbrev Asked : Question → Type 0
-  Asked (pending e) = Unit {0}
-  Asked (overruns e) = key Out e ≢ key Out (c .number)
-  Asked (enabled dir e) = Unit {0}
-
-  pub same-answers : (q : Question) → Asked q → questionOf q (s .0) ≡ questionOf q (t .0)
+  pub same-answers : (q : Question) → Asked c q → questionOf q (s .0) ≡ questionOf q (t .0)
   unfolding pendingOn overrunsOn enabledAsked
   same-answers (pending e) n = ap (λ (r : EpState). cond (isNumber e) (countOf r) 0) (l .but .eps In e (in-other (c .number) e))
   same-answers (overruns e) n = ap (λ (r : EpState). cond (isNumber e) (overrunsOf r) 0) (l .but .eps Out e n)
   same-answers (enabled dir e) n = ap (λ (g : Globals). flag (cond (isNumber e) (enables.isOn (g .«ep_config») dir e) false)) (l .but .globals)
+
+-- the wake-ups without a premise where there is room for more, which there is in every run (`wake_ups`)
+pub same-others : {c : Channel} {φ : Phase} {s t : St} → Like c φ s t → Short (listed (s .0 .wakes)) → Short (listed (t .0 .wakes)) → {w w′ : Way Answer Driver}
+    → SameOthers c (record { way = w; st = s .0; buf = s .1 }) (record { way = w′; st = t .0; buf = t .1 })
+same-others l p q = record {
+  queue = same-queue l;
+  stamps = same-stamps l;
+  bytes = same-bytes l;
+  overrun = same-overruns l;
+  wakes = same-wakes l p q;
+  questions = same-answers l;
+}

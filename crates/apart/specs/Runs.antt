@@ -1,217 +1,272 @@
--- Two runs of the machine of calls: they stand alike but for the channel's data after every call that they have in common, after every continue of
--- an access made for the channel, and after its opens and closes
-use mathlib.Core.Bool.{Bool, true, false, not, cond, true≢false}
+-- Each turn leaves two runs standing so that they line up
+use mathlib.Core.Bool.{Bool, true, false, cond, _&&_, true≢false}
 use mathlib.Core.List.{List}
 use mathlib.Core.Path.{_≡_, refl, ap, subst, sym, _∙_}
-use Prim.Native.Nat.{ℕ, zero, suc, _*_}
-use native.Mathlib.Omega.{arith}
-use lib.Dec.{eqb}
-use lib.ListN.{length}
-use borrow.Author.Tests.{eq-eqb}
+use Prim.Native.Nat.{ℕ}
 use Rattle.regs.specs.declared.Access.{Access}
-use Rattle.regs.specs.declared.Dir.the-variants.{Out, In}
-use Rattle.state.specs.Driver.{Driver, key}
-use Rattle.state.specs.WakesLaws.{Room}
+use Rattle.state.specs.Driver.{Driver}
 use Rattle.script.specs.Tree as tree
 use Rattle.script.specs.Tree.{ends, asks}
-use Rattle.script.specs.Script.{Script, run}
-use Rattle.script.specs.Answers.{Answer}
-use Rattle.script.specs.Alike.{Phase, quiet, Fits}
-use Rattle.script.specs.Calls.{Op, slotted, aside, Aside, PollRead, calls, irq, code, slots, asideCode, asideSlots}
-use Rattle.script.specs.Machine.{Buf, Call, begin, go, Ans, ended, handed, told, Awaits, awaited, Way, idle, busy, Machine, call, halt, over, misfit, stay, beside, lentTo, continued}
+use Rattle.script.specs.Every.{at-end, at-ask}
+use Rattle.script.specs.Script.{run}
+use Rattle.script.specs.Answers.{Answer, Refused}
+use Rattle.script.specs.Alike.{Phase, quiet, mid}
+use Rattle.script.specs.Calls.{Op, interrupt, slotted, other, aside, Aside, calls, irq, code, slots, asideCode, asideSlots}
+use Rattle.script.specs.Machine.{Buf, Question, pending, begin, go, question, Ans, ended, handed, told, awaited, idle, busy, Machine, over, lentTo, beside}
 use Rattle.ops.specs.Rings.{St}
 use Rattle.ops.specs.Conc.{conc}
 use Rattle.way.specs.Under.{driverOf, drive}
-use Rattle.apart.specs.But.{Lawful, Channel, Like, Touched}
-use Rattle.apart.specs.Apart.{Brings, Own, Apart, end, both, left, right, Pair}
-use Rattle.apart.specs.Pairs.{apart-more, apart-flip, brings-sym}
-use Rattle.apart.specs.Answers.{SameAnswer, answer-sym}
-use Rattle.apart.specs.Likes.{like-refl, like-sym, touched-trans, touch}
+use Rattle.way.specs.Goes.{Called}
+use Rattle.shared_time.specs.Sharing.{Sort, enabling, starting, going, opSort, slottedSort, timeAfter, turnedDown}
+use Rattle.shared_time.specs.Sharing as sharing
+use Rattle.wake_ups.specs.Rooms.{Roomy, Rooms, rooms}
+use Rattle.apart.specs.But.{Lawful, Channel, Like}
+use Rattle.apart.specs.Apart.{ApartBy, Apart, end, both, left, right, owns}
+use Rattle.apart.specs.Answers.{SameAnswer}
 use Rattle.apart.specs.Ending.{Finished, fin}
-use Rattle.apart.specs.Asides.{Others, p-aside, finishes, Mine, own-finishes}
-use Rattle.apart.specs.Operations.{Common, p-call}
-use Rattle.apart.specs.OwnReading.{own-polls}
-use Rattle.apart.specs.Stores.{Lent, OwnLent, lent-like, own-like}
+use Rattle.apart.specs.Asides.{Others, p-aside, finishes}
+use Rattle.apart.specs.Operations.{p-call}
+use Rattle.apart.specs.Stores.{lent-like}
+use Rattle.apart.specs.Time.{same-record, same-turned-down}
+use Rattle.apart.specs.Others.{same-answers}
+use Rattle.apart.specs.Spares.{Sparing, interrupt-spares, spares-on}
+use Rattle.apart.specs.Turns.{Run, Two, begins, goes, asked, stores, runBy, turn, May, SameAns, same, alike}
+use Rattle.apart.specs.Standing.{machineOf, stops, runOf, fits, own-yes, past-no, same-ans, Told, times-on, Keeps, At, at, Both, lands}
 
--- a machine: what is under way, and the driver's state with the slot buffer
-abbrev pub machineOf : Way Answer Driver → St → Machine Answer Driver
-machineOf w s = record { way = w; st = s .0; buf = s .1 }
+-- ---- what the machine of calls does
 
--- a call that ends at once
-abbrev quick : tree.Out St Answer → Bool
-quick (ends a s) = true
-quick (asks q s k) = false
+no-row1 : (b : Bool) {X : Type 0} (x y : X) → cond (cond b false false) x y ≡ y
+no-row1 true x y = refl
+no-row1 false x y = refl
 
-quick-of : {K : St → Type 0} {o : tree.Out St Answer} → Finished K o → quick o ≡ true
-quick-of (fin a k) = refl
+module _ (c : Channel) {φ : Phase} (s : St) (b : Buf) (l : Lawful (c .iso) φ (s .0, b)) where
+  go-idle : (v : ℕ) → drive (go v) (machineOf idle s) b ≡ (ended (Refused 15), machineOf idle (s .0, b))
+  go-idle v = rw (fits c l) refl
 
-quick-aside : (o : Aside) (s : St) → quick (run conc (asideCode o) s) ≡ true
-quick-aside o s = quick-of (finishes o (λ _. Unit {0}) (λ _ _. tt) s tt)
+  pub go-busy : (i : Bool) (q : Access) (k : ℕ → St → tree.Out St Answer) (v : ℕ) → over calls (awaited q) v ≡ false → drive (go v) (machineOf (busy i (awaited q) k) s) b ≡ stops i (k v (s .0, b))
+  go-busy i q k v w = rw (fits c l, w) refl
 
-abbrev pub stops : Bool → tree.Out St Answer → Ans Answer × Machine Answer Driver
-stops i o = halt calls driverOf (λ s. s) i o
+  pub begin-idle : (o : Op) → drive (begin o) (machineOf idle s) b ≡ stops (irq o) (run conc (code o) (s .0, b))
+  begin-idle o = rw (fits c l) (no-row1 (slots o) _ _)
 
-module _ (c : Channel) (st : ℕ) where
-  -- where two machines stand: nothing is under way in either; both handed out the same access, not made for the channel; or one handed out an
-  -- access of the channel's own, and stands with the other once it was continued
-  pub data Stands : Machine Answer Driver → Machine Answer Driver → Type 0 where
-    rests : {s t : St} → Like c quiet s t → Stands (machineOf idle s) (machineOf idle t)
-    common : (i : Bool) (φ : Phase) → Fits i φ → (q : Access) {s t : St} {k k′ : ℕ → St → tree.Out St Answer} → Like c φ s t
-        → ((v v′ : ℕ) (s t : St) → Brings (c .number) st q v v′ → Like c φ s t → Apart c st i (SameAnswer (c .number)) (k v s) (k′ v′ t))
-        → Stands (machineOf (busy i (awaited q) k) s) (machineOf (busy i (awaited q) k′) t)
-    left-own : (i : Bool) (q : Access) {s : St} {k : ℕ → St → tree.Out St Answer} {u : tree.Out St Answer} → Own (c .number) q
-        → ((v : ℕ) (s′ : St) → Touched c quiet s s′ → Apart c st i (SameAnswer (c .number)) (k v s′) u) → Stands (machineOf (busy i (awaited q) k) s) (stops i u .1)
-    right-own : (i : Bool) (q : Access) {t : St} {k : ℕ → St → tree.Out St Answer} {o : tree.Out St Answer} → Own (c .number) q
-        → ((v : ℕ) (t′ : St) → Touched c quiet t t′ → Apart c st i (SameAnswer (c .number)) o (k v t′)) → Stands (stops i o .1) (machineOf (busy i (awaited q) k) t)
+  -- open, close and queue during an interrupt, and during another operation
+  pub aside-busy : (o : Aside) (i : Bool) → i ≡ true → (q : Access) (k : ℕ → St → tree.Out St Answer)
+      → drive (begin (aside o)) (machineOf (busy i (awaited q) k) s) b ≡ beside calls driverOf (machineOf (busy i (awaited q) k) (s .0, b)) (run conc (asideCode o) (s .0, b))
+  aside-busy o i e q k = rw (fits c l, e) (no-row1 (asideSlots o) _ _)
 
-  -- what two calls answer: the same but for the channel's wake-ups, the same access, or one of them an access of the channel's own
-  pub data Answered : Ans Answer → Ans Answer → Type 0 where
-    both-end : {a b : Answer} → SameAnswer (c .number) a b → Answered (ended a) (ended b)
-    both-hand : (q : Access) → Answered (handed q) (handed q)
-    left-hand : (q : Access) (b : Ans Answer) → Own (c .number) q → Answered (handed q) b
-    right-hand : (a : Ans Answer) (q : Access) → Own (c .number) q → Answered a (handed q)
+  pub aside-late : (o : Aside) (q : Access) (k : ℕ → St → tree.Out St Answer) → drive (begin (aside o)) (machineOf (busy false (awaited q) k) s) b ≡ (ended (Refused 3), machineOf (busy false (awaited q) k) (s .0, b))
+  aside-late o q k = rw (fits c l) (no-row1 (asideSlots o) _ _)
 
-  pub record After (x y : Ans Answer × Machine Answer Driver) : Type 0 where
-    pub answers : Answered (x .0) (y .0)
-    pub stand : Stands (x .1) (y .1)
+-- what is shown of the calls' outcomes is shown of the calls
+through : (G : Called → Called → Type 0) {y y′ z z′ : Called} → y ≡ z → y′ ≡ z′ → Rooms y → Rooms y′ → (Rooms z → Rooms z′ → G z z′) → G y y′
+through G {y′ = y′} {z = z} e e′ r r′ f = subst (λ p. G p y′) (sym e) (subst (λ p. G z p) (sym e′) (f (subst Rooms e r) (subst Rooms e′ r′)))
 
-  -- where two runs that line up stop
-  halts : (i : Bool) {o u : tree.Out St Answer} → Apart c st i (SameAnswer (c .number)) o u → After (stops i o) (stops i u)
-  halts i (end q l) = record { answers = both-end q; stand = rests l }
-  halts i (both {q = q} φ f l k) = record { answers = both-hand q; stand = common i φ f q l k }
-  halts i (left {q = q} w k) = record { answers = left-hand q _ w; stand = left-own i q w k }
-  halts i (right {q = q} w k) = record { answers = right-hand _ q w; stand = right-own i q w k }
+pub through-one : (G : Called → Type 0) {y z : Called} → y ≡ z → Rooms y → (Rooms z → G z) → G y
+through-one G e r f = subst G (sym e) (f (subst Rooms e r))
 
-  -- ---- row 1: the lent buffer is as long as the driver's
+-- ---- calls that end at once
 
-  fits : {φ : Phase} {s : St} → Lawful (c .iso) φ s → misfit calls driverOf (s .0) (s .1) ≡ false
-  fits {s = s} l = ap not (eq-eqb (length (s .1)) (s .0 .allocator .count * s .0 .allocator .size) (l .rest .long))
+-- in both
+record Ended (c : Channel) (o u : tree.Out St Answer) : Type 0 where
+  value : Answer
+  value′ : Answer
+  state : St
+  state′ : St
+  is : o ≡ ends value state
+  is′ : u ≡ ends value′ state′
+  same : SameAnswer (c .number) value value′
+  like : Like c quiet state state′
 
-  -- ---- the calls that the two runs have in common
+both-end : {c : Channel} {st : ℕ} {i : Bool} {o u : tree.Out St Answer} {K K′ : St → Type 0} → Finished K o → Finished K′ u → Apart c st i (SameAnswer (c .number)) o u → Ended c o u
+both-end (fin a k) (fin b k′) (end q l) = record { value = a; value′ = b; state = _; state′ = _; is = refl; is′ = refl; same = q; like = l }
 
-  -- an operation begins, or a call ends at once
-  pub begun : (o : Op) → Common (c .number) o → {s t : St} {b b′ : Buf} → Like c quiet s t → Lent c s t b b′ → After (drive (begin o) (machineOf idle s) b) (drive (begin o) (machineOf idle t) b′)
-  begun o n {s} {t} {b} {b′} l h =
-      let m = lent-like l h in
-      rw (fits (m .left), fits (m .right)) (by (slots o))
-    where
-      by : (u : Bool) → After (cond (cond u false false) (stay calls driverOf 1 (machineOf idle s)) (stops (irq o) (run conc (code o) (s .0, b)))) (cond (cond u false false) (stay calls driverOf 1 (machineOf idle t)) (stops (irq o) (run conc (code o) (t .0, b′))))
-      by true = halts (irq o) (p-call c st o n .on (s .0, b) (t .0, b′) (lent-like l h))
-      by false = halts (irq o) (p-call c st o n .on (s .0, b) (t .0, b′) (lent-like l h))
+ended-aside : (c : Channel) (st : ℕ) (o : Aside) → Others (c .number) o → {s t : St} → Like c quiet s t → Ended c (run conc (asideCode o) s) (run conc (asideCode o) t)
+ended-aside c st o n {s} {t} l = both-end (finishes o (λ _. Unit {0}) (λ _ _. tt) s tt) (finishes o (λ _. Unit {0}) (λ _ _. tt) t tt) (p-aside c st o n .on s t l)
 
-  -- an access that both handed out is continued, with readings within their widths
-  pub continues : (i : Bool) {φ : Phase} (q : Access) {s t : St} {k k′ : ℕ → St → tree.Out St Answer} (v v′ : ℕ) {b b′ : Buf} → Like c φ s t
-      → ((v v′ : ℕ) (s t : St) → Brings (c .number) st q v v′ → Like c φ s t → Apart c st i (SameAnswer (c .number)) (k v s) (k′ v′ t))
-      → Brings (c .number) st q v v′ → over calls (awaited q) v ≡ false → over calls (awaited q) v′ ≡ false → Lent c s t b b′
-      → After (drive (go v) (machineOf (busy i (awaited q) k) s) b) (drive (go v′) (machineOf (busy i (awaited q) k′) t) b′)
-  continues i q {s = s} {t = t} v v′ {b = b} {b′ = b′} l f r w w′ h =
-      let m = lent-like l h in
-      rw (fits (m .left), fits (m .right), w, w′) (halts i (f v v′ (s .0, b) (t .0, b′) r m))
+told-same : {x m n : ℕ} → m ≡ n → SameAns x (told m) (told n)
+told-same {x} {m} e = subst (λ k. SameAns x (told m) (told k)) e (same (told m))
 
-  besides : {o u : tree.Out St Answer} (q : Access) (s t : St) {k k′ : ℕ → St → tree.Out St Answer} → quick o ≡ true → quick u ≡ true
-      → ((v v′ : ℕ) (s t : St) → Brings (c .number) st q v v′ → Like c quiet s t → Apart c st true (SameAnswer (c .number)) (k v s) (k′ v′ t))
-      → Apart c st false (SameAnswer (c .number)) o u
-      → After (beside calls driverOf (machineOf (busy true (awaited q) k) s) o) (beside calls driverOf (machineOf (busy true (awaited q) k′) t) u)
-  besides q s t x y f (end r l) = record { answers = both-end r; stand = common true quiet tt q l f }
-  besides q s t x y f (both φ w l k) = absurd (true≢false (sym x))
-  besides q s t x y f (left w k) = absurd (true≢false (sym x))
-  besides q s t x y f (right w k) = absurd (true≢false (sym y))
+-- ---- what is kept in each run
 
-  -- open and close of another endpoint, and queue, between two accesses of an interrupt
-  pub asides-during : (o : Aside) → Others (c .number) o → (q : Access) {s t : St} {k k′ : ℕ → St → tree.Out St Answer} {b b′ : Buf} → Like c quiet s t
-      → ((v v′ : ℕ) (s t : St) → Brings (c .number) st q v v′ → Like c quiet s t → Apart c st true (SameAnswer (c .number)) (k v s) (k′ v′ t)) → Lent c s t b b′
-      → After (drive (begin (aside o)) (machineOf (busy true (awaited q) k) s) b) (drive (begin (aside o)) (machineOf (busy true (awaited q) k′) t) b′)
-  asides-during o n q {s} {t} {k} {k′} {b} {b′} l f h =
-      let m = lent-like l h in
-      rw (fits (m .left), fits (m .right)) (by (asideSlots o))
-    where
-      by : (u : Bool) → After (cond (cond u false false) (stay calls driverOf 1 (machineOf (busy true (awaited q) k) s)) (beside calls driverOf (machineOf (busy true (awaited q) k) (s .0, b)) (run conc (asideCode o) (s .0, b))))
-          (cond (cond u false false) (stay calls driverOf 1 (machineOf (busy true (awaited q) k′) t)) (beside calls driverOf (machineOf (busy true (awaited q) k′) (t .0, b′)) (run conc (asideCode o) (t .0, b′))))
-      by true = besides q (s .0, b) (t .0, b′) (quick-aside o _) (quick-aside o _) f (p-aside c st o n .on (s .0, b) (t .0, b′) (lent-like l h))
-      by false = besides q (s .0, b) (t .0, b′) (quick-aside o _) (quick-aside o _) f (p-aside c st o n .on (s .0, b) (t .0, b′) (lent-like l h))
+pub spares-put : {q : Access} {s : St} (t : St) {k : ℕ → St → tree.Out St Answer} → Sparing (asks q s k) → Sparing (asks q t k)
+spares-put t (at-ask ok k) = at-ask ok (λ v t b i. k v t b i)
 
-  -- ---- the channel's own
+irq-spares : (o : Op) → irq o ≡ true → (s : St) → Sparing (run conc (code o) s)
+irq-spares interrupt e s = interrupt-spares s
+irq-spares (slotted o) e s = absurd (true≢false (sym e))
+irq-spares (other o) e s = absurd (true≢false (sym e))
+irq-spares (aside o) e s = absurd (true≢false (sym e))
 
-  -- an access of its own is continued in one run
-  pub own-continues : (i : Bool) (q : Access) {s : St} {k : ℕ → St → tree.Out St Answer} {u : tree.Out St Answer} (v : ℕ) {b : Buf} → Lawful (c .iso) quiet s
-      → ((v : ℕ) (s′ : St) → Touched c quiet s s′ → Apart c st i (SameAnswer (c .number)) (k v s′) u) → over calls (awaited q) v ≡ false → OwnLent c s b
-      → After (drive (go v) (machineOf (busy i (awaited q) k) s) b) (stops i u)
-  own-continues i q {s} v {b} l f w h =
-      let m = own-like l h in
-      rw (fits (m .right), w) (halts i (f v (s .0, b) m))
+-- the same machine, lent another buffer
+pub lent-room : {m : Machine Answer Driver} → Roomy m → (b : Buf) → Roomy (lentTo calls driverOf m b)
+lent-room r b = rooms (question (pending 0)) r b .machine
 
-  -- a poll of its read, which both get: each ends at once, with what its own queue has
-  pub data BothEnd : Ans Answer → Ans Answer → Type 0 where
-    both-ended : (a b : Answer) → BothEnd (ended a) (ended b)
+-- ---- bus time as a call begins
 
-  pub record Polled (x y : Ans Answer × Machine Answer Driver) : Type 0 where
-    pub answers : BothEnd (x .0) (y .0)
-    pub stand : Stands (x .1) (y .1)
+apart-time : (n : ℕ) (a : Ans Answer) (d : Driver) (r : List ℕ) → timeAfter n sharing.apart a d r ≡ r
+apart-time n (ended a) d r = refl
+apart-time n (handed q) d r = refl
+apart-time n (told k) d r = refl
 
-  polls-end : {s t : St} {o u : tree.Out St Answer} → Like c quiet s t → Finished (Touched c quiet s) o → Finished (Touched c quiet t) u → Polled (stops false o) (stops false u)
-  polls-end l (fin a k) (fin b m) = record { answers = both-ended a b; stand = rests (like-sym (touch m (like-sym (touch k l)))) }
+ended-down : (n : ℕ) (x : Sort) (a : Answer) (d : Driver) (r : List ℕ) → turnedDown n x (ended a) d r ≡ false
+ended-down n (enabling dir e) a d r = refl
+ended-down n starting a d r = refl
+ended-down n going a d r = refl
+ended-down n sharing.apart a d r = refl
 
-  pub own-polled : (e n : ℕ) → key Out e ≡ key Out (c .number) → {s t : St} {b b′ : Buf} → Like c quiet s t → Lent c s t b b′
-      → Polled (drive (begin (slotted (PollRead e n))) (machineOf idle s) b) (drive (begin (slotted (PollRead e n))) (machineOf idle t) b′)
-  own-polled e n p {s} {t} {b} {b′} l h =
-      let m = lent-like l h in
-      rw (fits (m .left), fits (m .right)) (polls-end m (own-polls c e p n (s .0, b) (m .left)) (own-polls c e p n (t .0, b′) (m .right)))
+module _ (n : ℕ) {c : Channel} {st : ℕ} {s t : St} (lk : Like c quiet s t) {r r′ : List ℕ} (e : r ≡ r′) where
+  begin-times : (o : Op) {x y : tree.Out St Answer} → ApartBy c st (irq o) (SameAnswer (c .number)) true x y
+      → timeAfter n (opSort o) (stops (irq o) x .0) (s .0) r ≡ timeAfter n (opSort o) (stops (irq o) y .0) (t .0) r′
+  begin-times interrupt {x} {y} l = apart-time n (stops true x .0) (s .0) r ∙ e ∙ sym (apart-time n (stops true y .0) (t .0) r′)
+  begin-times (other o) {x} {y} l = apart-time n (stops false x .0) (s .0) r ∙ e ∙ sym (apart-time n (stops false y .0) (t .0) r′)
+  begin-times (aside o) {x} {y} l = apart-time n (stops false x .0) (s .0) r ∙ e ∙ sym (apart-time n (stops false y .0) (t .0) r′)
+  begin-times (slotted o) (end q l) = e
+  begin-times (slotted o) (both {q = q} φ z p p′ l k) = same-record n lk (slottedSort o) (handed q) r ∙ ap (λ u. timeAfter n (slottedSort o) (handed q) (t .0) u) e
+  begin-times (slotted o) (left w p z k) = absurd (true≢false (sym (w .0)))
+  begin-times (slotted o) (right w p z k) = absurd (true≢false (sym (w .0)))
+  begin-times (slotted o) (owns w w′ l k k′) = absurd (true≢false (sym (w .0)))
 
-  -- its open or close in one run, between two operations or two accesses of an interrupt: what is under way stays
-  pub data Moved (w : Way Answer Driver) (s : St) : Machine Answer Driver → Type 0 where
-    moved : {s′ : St} → Touched c quiet s s′ → Moved w s (machineOf w s′)
+  begin-downs : (o : Op) {x y : tree.Out St Answer} → ApartBy c st (irq o) (SameAnswer (c .number)) true x y
+      → turnedDown n (opSort o) (stops (irq o) x .0) (s .0) r ≡ turnedDown n (opSort o) (stops (irq o) y .0) (t .0) r′
+  begin-downs interrupt l = refl
+  begin-downs (other o) l = refl
+  begin-downs (aside o) l = refl
+  begin-downs (slotted o) (end {a = a} {b = b} q l) = ended-down n (slottedSort o) a (s .0) r ∙ sym (ended-down n (slottedSort o) b (t .0) r′)
+  begin-downs (slotted o) (both {q = q} φ z p p′ l k) = same-turned-down n lk (slottedSort o) (handed q) r ∙ ap (λ u. turnedDown n (slottedSort o) (handed q) (t .0) u) e
+  begin-downs (slotted o) (left w p z k) = absurd (true≢false (sym (w .0)))
+  begin-downs (slotted o) (right w p z k) = absurd (true≢false (sym (w .0)))
+  begin-downs (slotted o) (owns w w′ l k k′) = absurd (true≢false (sym (w .0)))
 
-  move-idle : {s : St} {o : tree.Out St Answer} → Finished (Touched c quiet s) o → Moved idle s (stops false o .1)
-  move-idle (fin a k) = moved k
+-- turned down in both or in none
+by-cond : (G : Called × List ℕ → Called × List ℕ → Type 0) (d d′ : Bool) → d ≡ d′ → (x x′ y y′ : Called × List ℕ) → G x x′ → G y y′ → G (cond d x y) (cond d′ x′ y′)
+by-cond G true d′ e x x′ y y′ g h = subst (λ z. G x (cond z x′ y′)) e g
+by-cond G false d′ e x x′ y y′ g h = subst (λ z. G y (cond z x′ y′)) e h
 
-  move-beside : {s : St} (t : St) {w : Way Answer Driver} {o : tree.Out St Answer} → Finished (Touched c quiet s) o → Moved w s (beside calls driverOf (machineOf w t) o .1)
-  move-beside t (fin a k) = moved k
+module _ (c : Channel) (share : Bool) (n : ℕ) where
+  abbrev two : (st : ℕ) (i : Bool) (o u : tree.Out St Answer) (q q′ : Access) (a a′ : Ans Answer) (t t′ : List ℕ) → Two
+  two st i o u q q′ a a′ t t′ = record { first = runOf i o q a t; second = runOf i u q′ a′ t′; status = st }
 
-  widened : {s t : St} → Touched c quiet s t → {u : tree.Out St Answer} → Finished (Touched c quiet t) u → Finished (Touched c quiet s) u
-  widened m (fin a k) = fin a (touched-trans m k)
+  -- ---- a continue of both
 
-  own-ended : (o : Aside) → Mine (c .number) o → {s : St} {b : Buf} → Touched c quiet s (s .0, b) → Finished (Touched c quiet s) (run conc (asideCode o) (s .0, b))
-  own-ended o n {s} {b} m = widened m (own-finishes c o n (s .0, b) (m .right))
+  pub goes-by : (st : ℕ) (i : Bool) {o u : tree.Out St Answer} (l : ApartBy c st i (SameAnswer (c .number)) true o u) (q q′ : Access) {a a′ : Ans Answer} {t t′ : List ℕ} → Keeps i o a → Keeps i u a′ → t ≡ t′
+      → (v v′ : ℕ) (b b′ : Buf) → May c (goes v v′ b b′) (two st i o u q q′ a a′ t t′) → Both c (turn share n (goes v v′ b b′) (two st i o u q q′ a a′ t t′))
+  goes-by st i (end {s = s} {t = t} x l) q q′ {t = r} {t′ = r′} k k′ e v v′ b b′ m =
+      let h = lent-like l (m .5) in
+      through (λ y y′. Both c (record { first = runBy q (y, timeAfter n going (y .0) (s .0) r); second = runBy q′ (y′, timeAfter n going (y′ .0) (t .0) r′); status = st }))
+      (go-idle c s b (h .left) v) (go-idle c t b′ (h .right) v′) (rooms (go v) (k .room) b) (rooms (go v′) (k′ .room) b′) (λ f f′. record {
+        stand = at st i (end x h) q q′ (same _) (record { spares = λ _. at-end tt; few = tt; room = f .machine }) (record { spares = λ _. at-end tt; few = tt; room = f′ .machine }) e;
+        answers = alike (same _);
+      })
+  goes-by st i (both {q = p} {s = s} {t = t} {k = g} {k′ = g′} φ z w w′ l f) q q′ {t = r} {t′ = r′} k k′ e v v′ b b′ m =
+      let h = lent-like l (m .5) in
+      let sp : (i ≡ true → Sparing (g v (s .0, b))) = λ y. spares-on (k .spares y) v (s .0, b) in
+      let sp′ : (i ≡ true → Sparing (g′ v′ (t .0, b′))) = λ y. spares-on (k′ .spares y) v′ (t .0, b′) in
+      through (λ y y′. Both c (record { first = runBy p (y, timeAfter n going (y .0) (s .0) r); second = runBy p (y′, timeAfter n going (y′ .0) (t .0) r′); status = st }))
+      (go-busy c s b (h .left) i p g v (m .3)) (go-busy c t b′ (h .right) i p g′ v′ (m .4)) (rooms (go v) (k .room) b) (rooms (go v′) (k′ .room) b′)
+      (λ x x′. lands st i (f v v′ (s .0, b) (t .0, b′) (m .2) h) p p sp sp′ x x′ (times-on n (f v v′ (s .0, b) (t .0, b′) (m .2) h) sp sp′ (s .0) (t .0) e))
+  goes-by st i (left {s = s} {k = g} w p z f) q q′ k k′ e v v′ b b′ m = absurd (true≢false (sym (own-yes (c .number) g s w) ∙ m .0))
+  goes-by st i (right {t = t} {k = g} w p z f) q q′ k k′ e v v′ b b′ m = absurd (true≢false (sym (own-yes (c .number) g t w) ∙ m .1))
+  goes-by st i (owns {s = s} {k = g} w w′ l f f′) q q′ k k′ e v v′ b b′ m = absurd (true≢false (sym (own-yes (c .number) g s w) ∙ m .0))
 
-  pub own-idle : (o : Aside) → Mine (c .number) o → {s : St} {b : Buf} → Lawful (c .iso) quiet s → OwnLent c s b → Moved idle s (drive (begin (aside o)) (machineOf idle s) b .1)
-  own-idle o n {s} {b} l h = let m = own-like l h in rw (fits (m .right)) (by (asideSlots o) (own-ended o n m))
-    where
-      by : (u : Bool) → Finished (Touched c quiet s) (run conc (asideCode o) (s .0, b)) → Moved idle s (cond (cond u false false) (stay calls driverOf 1 (machineOf idle s)) (stops false (run conc (asideCode o) (s .0, b))) .1)
-      by true f = move-idle f
-      by false f = move-idle f
+  -- ---- a call of both
 
-  pub own-during : (o : Aside) → Mine (c .number) o → (a : Awaits) {k : ℕ → St → tree.Out St Answer} {s : St} {b : Buf} → Lawful (c .iso) quiet s → OwnLent c s b
-      → Moved (busy true a k) s (drive (begin (aside o)) (machineOf (busy true a k) s) b .1)
-  own-during o n a {k} {s} {b} l h = let m = own-like l h in rw (fits (m .right)) (by (asideSlots o) (own-ended o n m))
-    where
-      by : (u : Bool) → Finished (Touched c quiet s) (run conc (asideCode o) (s .0, b))
-          → Moved (busy true a k) s (cond (cond u false false) (stay calls driverOf 1 (machineOf (busy true a k) s)) (beside calls driverOf (machineOf (busy true a k) (s .0, b)) (run conc (asideCode o) (s .0, b))) .1)
-      by true f = move-beside (s .0, b) f
-      by false f = move-beside (s .0, b) f
+  -- open, close or queue of another endpoint, where both stand at a common access or at one of the channel's own
+  module _ (st : ℕ) (i : Bool) (j : i ≡ true) (o : Aside) (x : Others (c .number) o) {s t : St} (p p′ : Access) (g g′ : ℕ → St → tree.Out St Answer) (b b′ : Buf)
+      (h : Like c quiet (s .0, b) (t .0, b′)) (a a′ : Ans Answer) (r r′ : List ℕ) (k : Keeps i (asks p s g) a) (k′ : Keeps i (asks p′ t g′) a′)
+      (G : Run → Run → Type 0)
+      (f : (d d′ : Answer) (u u′ : St) → SameAnswer (c .number) d d′ → Like c quiet u u′ → Rooms (ended d, machineOf (busy i (awaited p) g) u) → Rooms (ended d′, machineOf (busy i (awaited p′) g′) u′)
+      → G (runOf i (asks p u g) p (ended d) r) (runOf i (asks p′ u′ g′) p′ (ended d′) r′)) where
+    passes : G (runBy p (drive (begin (aside o)) (machineOf (busy i (awaited p) g) s) b, timeAfter n sharing.apart (drive (begin (aside o)) (machineOf (busy i (awaited p) g) s) b .0) (s .0) r))
+        (runBy p′ (drive (begin (aside o)) (machineOf (busy i (awaited p′) g′) t) b′, timeAfter n sharing.apart (drive (begin (aside o)) (machineOf (busy i (awaited p′) g′) t) b′ .0) (t .0) r′))
+    passes =
+        let z = ended-aside c st o x h in
+        through (λ y y′. G (runBy p (y, timeAfter n sharing.apart (y .0) (s .0) r)) (runBy p′ (y′, timeAfter n sharing.apart (y′ .0) (t .0) r′)))
+        (aside-busy c s b (h .left) o i j p g ∙ ap (λ u. beside calls driverOf (machineOf (busy i (awaited p) g) (s .0, b)) u) (z .is))
+        (aside-busy c t b′ (h .right) o i j p′ g′ ∙ ap (λ u. beside calls driverOf (machineOf (busy i (awaited p′) g′) (t .0, b′)) u) (z .is′))
+        (rooms (begin (aside o)) (k .room) b) (rooms (begin (aside o)) (k′ .room) b′)
+        (λ y y′. f (z .value) (z .value′) (z .state) (z .state′) (z .same) (z .like) y y′)
 
-  -- and so the two go on as they stood
-  pub moved-rests : {s t : St} {m : Machine Answer Driver} → Like c quiet s t → Moved idle s m → Stands m (machineOf idle t)
-  moved-rests l (moved k) = rests (touch k l)
+  abbrev Runs : ℕ → Access → Access → Called × List ℕ → Called × List ℕ → Type 0
+  Runs st q q′ y y′ = Both c (record { first = runBy q y; second = runBy q′ y′; status = st })
 
-  pub moved-common : (i : Bool) (w : Fits i quiet) (q : Access) {s t : St} {k k′ : ℕ → St → tree.Out St Answer} {m : Machine Answer Driver} → Like c quiet s t
-      → ((v v′ : ℕ) (s t : St) → Brings (c .number) st q v v′ → Like c quiet s t → Apart c st i (SameAnswer (c .number)) (k v s) (k′ v′ t))
-      → Moved (busy i (awaited q) k) s m → Stands m (machineOf (busy i (awaited q) k′) t)
-  moved-common i w q l f (moved k) = common i quiet w q (touch k l) f
+  pub begins-by : (st : ℕ) (i : Bool) {o u : tree.Out St Answer} (l : ApartBy c st i (SameAnswer (c .number)) true o u) (q q′ : Access) {a a′ : Ans Answer} {t t′ : List ℕ} → Keeps i o a → Keeps i u a′ → t ≡ t′
+      → (w : ℕ) (op : Op) (b b′ : Buf) → May c (begins w op b b′) (two st i o u q q′ a a′ t t′) → Both c (turn share n (begins w op b b′) (two st i o u q q′ a a′ t t′))
+  begins-by st i (end {s = s} {t = t} x l) q q′ {t = r} {t′ = r′} k k′ e w op b b′ m =
+      let h = lent-like l (m .3) in
+      let z = p-call c w op (m .1) .on (s .0, b) (t .0, b′) h in
+      through
+      (λ y y′. Runs w q q′ (cond (turnedDown n (opSort op) (y .0) (s .0) r && share) ((ended (Refused 19), lentTo calls driverOf (machineOf idle s) b), r) (y, timeAfter n (opSort op) (y .0) (s .0) r))
+      (cond (turnedDown n (opSort op) (y′ .0) (t .0) r′ && share) ((ended (Refused 19), lentTo calls driverOf (machineOf idle t) b′), r′) (y′, timeAfter n (opSort op) (y′ .0) (t .0) r′)))
+      (begin-idle c s b (h .left) op) (begin-idle c t b′ (h .right) op) (rooms (begin op) (k .room) b) (rooms (begin op) (k′ .room) b′)
+      (λ f f′. by-cond (Runs w q q′) _ _ (ap (λ d. d && share) (begin-downs n l e op z)) _ _ _ _
+      (record {
+        stand = at w i (end x h) q q′ (same _) (record { spares = λ _. at-end tt; few = tt; room = lent-room (k .room) b }) (record { spares = λ _. at-end tt; few = tt; room = lent-room (k′ .room) b′ }) e;
+        answers = alike (same _);
+      })
+      (lands w (irq op) z q q′ (λ j. irq-spares op j (s .0, b)) (λ j. irq-spares op j (t .0, b′)) f f′ (begin-times n l e op z)))
+  begins-by st true (both {q = p} {s = s} {t = t} {k = g} {k′ = g′} quiet z w w′ l f) q q′ {a = a} {a′ = a′} {t = r} {t′ = r′} k k′ e v (aside o) b b′ m =
+      passes st true refl o (m .1) p p g g′ b b′ (lent-like l (m .3)) a a′ r r′ k k′ (λ y y′. Both c (record { first = y; second = y′; status = st }))
+      (λ d d′ u u′ x h y y′. record {
+        stand = at st true (both quiet z w w′ h f) p p (same-ans x (y .answer) (y′ .answer)) (record { spares = λ j. spares-put u (k .spares j); few = y .answer; room = y .machine }) (record { spares = λ j. spares-put u′ (k′ .spares j); few = y′ .answer; room = y′ .machine }) e;
+        answers = alike (same-ans x (y .answer) (y′ .answer));
+      })
+  begins-by st true (both (mid y j) z w w′ l f) q q′ k k′ e v op b b′ m = absurd z
+  begins-by st false (both {q = p} {s = s} {t = t} {k = g} {k′ = g′} φ z w w′ l f) q q′ {t = r} {t′ = r′} k k′ e v (aside o) b b′ m =
+      let h = lent-like l (m .3) in
+      through (λ y y′. Both c (record { first = runBy p (y, timeAfter n sharing.apart (y .0) (s .0) r); second = runBy p (y′, timeAfter n sharing.apart (y′ .0) (t .0) r′); status = st }))
+      (aside-late c s b (h .left) o p g) (aside-late c t b′ (h .right) o p g′) (rooms (begin (aside o)) (k .room) b) (rooms (begin (aside o)) (k′ .room) b′)
+      (λ y y′. record {
+        stand = at st false (both φ z w w′ h f) p p (same _) (record { spares = λ j. absurd (true≢false (sym j)); few = tt; room = y .machine }) (record { spares = λ j. absurd (true≢false (sym j)); few = tt; room = y′ .machine }) e;
+        answers = alike (same _);
+      })
+  begins-by st i (owns {q = p} {q′ = p′} {s = s} {t = t} {k = g} {k′ = g′} w w′ l f f′) q q′ {a = a} {a′ = a′} {t = r} {t′ = r′} k k′ e v (aside o) b b′ m =
+      passes st i (w .0) o (m .1) p p′ g g′ b b′ (lent-like l (m .3)) a a′ r r′ k k′ (λ y y′. Both c (record { first = y; second = y′; status = st }))
+      (λ d d′ u u′ x h y y′. record {
+        stand = at st i (owns w w′ h f f′) p p′ tt (record { spares = λ j. spares-put u (k .spares j); few = y .answer; room = y .machine }) (record { spares = λ j. spares-put u′ (k′ .spares j); few = y′ .answer; room = y′ .machine }) e;
+        answers = alike (same-ans x (y .answer) (y′ .answer));
+      })
+  begins-by st i (left {s = s} {k = g} w p z f) q q′ {a′ = a′} {t′ = r′} k k′ e v op b b′ m = absurd (true≢false (sym (own-yes (c .number) g s w) ∙ m .0 ∙ past-no c i q′ a′ r′ p))
+  begins-by st i (right {t = t} {k = g} w p z f) q q′ {a = a} {t = r} k k′ e v op b b′ m = absurd (true≢false (sym (own-yes (c .number) g t w) ∙ sym (m .0) ∙ past-no c i q a r p))
+  begins-by st true (both quiet z w w′ l f) q q′ k k′ e v interrupt b b′ m = absurd (m .2)
+  begins-by st true (both quiet z w w′ l f) q q′ k k′ e v (slotted o) b b′ m = absurd (m .2)
+  begins-by st true (both quiet z w w′ l f) q q′ k k′ e v (other o) b b′ m = absurd (m .2)
+  begins-by st false (both φ z w w′ l f) q q′ k k′ e v interrupt b b′ m = absurd (m .2)
+  begins-by st false (both φ z w w′ l f) q q′ k k′ e v (slotted o) b b′ m = absurd (m .2)
+  begins-by st false (both φ z w w′ l f) q q′ k k′ e v (other o) b b′ m = absurd (m .2)
+  begins-by st i (owns w w′ l f f′) q q′ k k′ e v interrupt b b′ m = absurd (m .2)
+  begins-by st i (owns w w′ l f f′) q q′ k k′ e v (slotted o) b b′ m = absurd (m .2)
+  begins-by st i (owns w w′ l f f′) q q′ k k′ e v (other o) b b′ m = absurd (m .2)
 
-  pub moved-own : (i : Bool) (q : Access) {s : St} {k : ℕ → St → tree.Out St Answer} {u : tree.Out St Answer} {m : Machine Answer Driver} → Own (c .number) q
-      → ((v : ℕ) (s′ : St) → Touched c quiet s s′ → Apart c st i (SameAnswer (c .number)) (k v s′) u) → Moved (busy i (awaited q) k) s m → Stands m (stops i u .1)
-  moved-own i q w f (moved k) = left-own i q w (λ v s l. f v s (touched-trans k l))
+  -- ---- a question of both
 
-  -- either run may be named first, so what is said of one holds of the other
-  flip-apart : {i : Bool} {o u : tree.Out St Answer} → Apart c st i (SameAnswer (c .number)) o u → Apart c st i (SameAnswer (c .number)) u o
-  flip-apart h = apart-more (λ b a q. answer-sym q) (apart-flip h)
+  pub asked-by : (st : ℕ) (i : Bool) {o u : tree.Out St Answer} (l : ApartBy c st i (SameAnswer (c .number)) true o u) (q q′ : Access) {a a′ : Ans Answer} {t t′ : List ℕ} → Keeps i o a → Keeps i u a′ → t ≡ t′
+      → (w : Question) (b b′ : Buf) → May c (asked w b b′) (two st i o u q q′ a a′ t t′) → Both c (turn share n (asked w b b′) (two st i o u q q′ a a′ t t′))
+  asked-by st i (end x l) q q′ k k′ e w b b′ m = record {
+    stand = at st i (end x (lent-like l (m .2))) q q′ (told-same (same-answers l w (m .1))) (record { spares = λ _. at-end tt; few = tt; room = lent-room (k .room) b }) (record { spares = λ _. at-end tt; few = tt; room = lent-room (k′ .room) b′ }) e;
+    answers = alike (told-same (same-answers l w (m .1)));
+  }
+  asked-by st i (both {s = s} {t = t} φ z p p′ l f) q q′ k k′ e w b b′ m = record {
+    stand = at st i (both φ z p p′ (lent-like l (m .2)) f) q q′ (told-same (same-answers l w (m .1)))
+        (record { spares = λ j. spares-put (s .0, b) (k .spares j); few = tt; room = lent-room (k .room) b }) (record { spares = λ j. spares-put (t .0, b′) (k′ .spares j); few = tt; room = lent-room (k′ .room) b′ }) e;
+    answers = alike (told-same (same-answers l w (m .1)));
+  }
+  asked-by st i (owns {s = s} {t = t} v v′ l f f′) q q′ k k′ e w b b′ m = record {
+    stand = at st i (owns v v′ (lent-like l (m .2)) f f′) q q′ tt
+        (record { spares = λ j. spares-put (s .0, b) (k .spares j); few = tt; room = lent-room (k .room) b }) (record { spares = λ j. spares-put (t .0, b′) (k′ .spares j); few = tt; room = lent-room (k′ .room) b′ }) e;
+    answers = alike (told-same (same-answers l w (m .1)));
+  }
+  asked-by st i (left {s = s} {k = g} w p z f) q q′ {a′ = a′} {t′ = r′} k k′ e v b b′ m = absurd (true≢false (sym (own-yes (c .number) g s w) ∙ m .0 ∙ past-no c i q′ a′ r′ p))
+  asked-by st i (right {t = t} {k = g} w p z f) q q′ {a = a} {t = r} k k′ e v b b′ m = absurd (true≢false (sym (own-yes (c .number) g t w) ∙ sym (m .0) ∙ past-no c i q a r p))
 
-  pub flips : {m n : Machine Answer Driver} → Stands m n → Stands n m
-  flips (rests l) = rests (like-sym l)
-  flips (common i φ w q l f) = common i φ w q (like-sym l) (λ v v′ s t b r. flip-apart (f v′ v t s (brings-sym (c .number) st q v v′ b) (like-sym r)))
-  flips (left-own i q w f) = right-own i q w (λ v s l. flip-apart (f v s l))
-  flips (right-own i q w f) = left-own i q w (λ v t l. flip-apart (f v t l))
+  -- ---- stores in both
 
-  -- two runs that are one so far
-  pub begins : {s : St} → Lawful (c .iso) quiet s → Room (s .0 .wakes) → Stands (machineOf idle s) (machineOf idle s)
-  begins l r = rests (like-refl l r)
+  pub stores-by : (st : ℕ) (i : Bool) {o u : tree.Out St Answer} (l : ApartBy c st i (SameAnswer (c .number)) true o u) (q q′ : Access) {a a′ : Ans Answer} {t t′ : List ℕ} → Told l a a′ → Keeps i o a → Keeps i u a′ → t ≡ t′
+      → (b b′ : Buf) → May c (stores b b′) (two st i o u q q′ a a′ t t′) → At c (turn share n (stores b b′) (two st i o u q q′ a a′ t t′))
+  stores-by st i (end x l) q q′ h k k′ e b b′ m =
+      at st i (end x (lent-like l (m .1))) q q′ h (record { spares = λ _. at-end tt; few = k .few; room = lent-room (k .room) b }) (record { spares = λ _. at-end tt; few = k′ .few; room = lent-room (k′ .room) b′ }) e
+  stores-by st i (both {s = s} {t = t} φ z p p′ l f) q q′ h k k′ e b b′ m = at st i (both φ z p p′ (lent-like l (m .1)) f) q q′ h
+      (record { spares = λ j. spares-put (s .0, b) (k .spares j); few = k .few; room = lent-room (k .room) b }) (record { spares = λ j. spares-put (t .0, b′) (k′ .spares j); few = k′ .few; room = lent-room (k′ .room) b′ }) e
+  stores-by st i (owns {s = s} {t = t} v v′ l f f′) q q′ h k k′ e b b′ m = at st i (owns v v′ (lent-like l (m .1)) f f′) q q′ tt
+      (record { spares = λ j. spares-put (s .0, b) (k .spares j); few = k .few; room = lent-room (k .room) b }) (record { spares = λ j. spares-put (t .0, b′) (k′ .spares j); few = k′ .few; room = lent-room (k′ .room) b′ }) e
+  stores-by st i (left {s = s} {k = g} w p z f) q q′ {a′ = a′} {t′ = r′} h k k′ e b b′ m = absurd (true≢false (sym (own-yes (c .number) g s w) ∙ m .0 ∙ past-no c i q′ a′ r′ p))
+  stores-by st i (right {t = t} {k = g} w p z f) q q′ {a = a} {t = r} h k k′ e b b′ m = absurd (true≢false (sym (own-yes (c .number) g t w) ∙ sym (m .0) ∙ past-no c i q a r p))

@@ -46,6 +46,16 @@ pub record OwnLent (c : Channel) (s : St) (b : Buf) : Type 0 where
   pub stored : Stored (s .0) (s .1) b
   pub own : (k : ℕ) → Outside c (s .0) k → getD b k 0 ≡ getD (s .1) k 0
 
+-- lent as it was left, no call is shut out
+stored-none : (d : Driver) (b : Buf) → Stored d b b
+stored-none d b = record { long = refl; others = λ k w. refl }
+
+pub lent-back : (c : Channel) (s t : St) → Lent c s t (s .1) (t .1)
+lent-back c s t = record { left = stored-none (s .0) (s .1); right = stored-none (t .0) (t .1); same = λ k o e. e }
+
+pub own-lent-back : (c : Channel) (s : St) → OwnLent c s (s .1)
+own-lent-back c s = record { stored = stored-none (s .0) (s .1); own = λ k o. refl }
+
 -- ---- these leave two states the same but for the channel's data
 
 by-book : {φ : Phase} {d : Driver} {b b′ : Buf} {p : Pages} → Rest φ b d p → d .globals .stage ≡ 2 → Stored d b b′ → Chip p b b′

@@ -1,23 +1,25 @@
 -- The bus time that up to four drivers share (request Seven): a call that answers the same in both runs does the same to the record and is turned
--- down in both or in none, and an access of the channel's own leaves the record
-use mathlib.Core.Bool.{Bool, _&&_}
+-- down in both or in none
+use mathlib.Core.Bool.{Bool, true, false, cond, _&&_}
 use mathlib.Core.List.{List}
 use mathlib.Core.Path.{_≡_, refl, ap, sym}
 use Prim.Native.Nat.{ℕ}
 use lib.ListN.{set}
-use Rattle.regs.specs.declared.Access.{Access}
 use Rattle.regs.specs.declared.Dir.{Dir}
 use Rattle.state.specs.Driver.{Driver}
 use Rattle.script.specs.Cells.{Plain}
-use Rattle.script.specs.Answers.{Answer}
+use Rattle.script.specs.Answers.{Answer, Refused}
+use Rattle.script.specs.Calls.{Config, Op, calls}
 use Rattle.script.specs.Alike.{Phase}
-use Rattle.script.specs.Machine.{Ans, ended, handed, told}
+use Rattle.script.specs.Machine.{Buf, Call, Ans, ended, handed, told, Machine, lentTo}
 use Rattle.ops.specs.Rings.{St}
+use Rattle.way.specs.Under.{driverOf, drive}
+use Rattle.way.specs.Goes.{Called}
 use Rattle.bus_time.specs.Time.{chargeOf, entryOf, passes}
-use Rattle.shared_time.specs.Sharing.{Sort, enabling, starting, going, apart, chargeOn, isHanded, timeAfter, turnedDown}
+use Rattle.shared_time.specs.Sharing.{Sort, enabling, starting, going, apart, chargeOn, isHanded, sortOf, timeAfter, turnedDown, sharedCall}
 use Rattle.apart.specs.But.{Channel, Like}
-use Rattle.apart.specs.Apart.{Own, status, receives}
 use Rattle.apart.specs.Buts.{stays-any}
+use Rattle.apart.specs.Turns.{shared}
 
 -- of driver i
 module _ (i : ℕ) {c : Channel} {φ : Phase} {s t : St} (l : Like c φ s t) where
@@ -42,7 +44,21 @@ module _ (i : ℕ) {c : Channel} {φ : Phase} {s t : St} (l : Like c φ s t) whe
   same-turned-down going a r = refl
   same-turned-down apart a r = refl
 
--- a continue that hands out an access of the channel's own
-pub own-record : (i x : ℕ) {q : Access} → Own x q → (d : Driver) (r : List ℕ) → timeAfter i going (handed q) d r ≡ r
-own-record i x status d r = refl
-own-record i x (receives y) d r = refl
+-- ---- a run's calls
+
+and-true : (b : Bool) → (b && true) ≡ b
+and-true true = refl
+and-true false = refl
+
+and-false : (b : Bool) → (b && false) ≡ false
+and-false true = refl
+and-false false = refl
+
+module _ (n : ℕ) (d : Call Config Op) (m : Machine Answer Driver) (t : List ℕ) (b : Buf) where
+  -- of a driver that shares the bus time they are those of request Seven
+  pub as-shared : shared true n d m t b ≡ sharedCall n d m t b
+  as-shared = ap (λ x. cond {A = Called × List ℕ} x ((ended (Refused 19), lentTo calls driverOf m b), t) (drive d m b, timeAfter n (sortOf d) (drive d m b .0) (m .st) t)) (and-true (turnedDown n (sortOf d) (drive d m b .0) (m .st) t))
+
+  -- of one that does not, the driver's
+  pub as-driver : shared false n d m t b .0 ≡ drive d m b
+  as-driver = ap (λ x. cond {A = Called × List ℕ} x ((ended (Refused 19), lentTo calls driverOf m b), t) (drive d m b, timeAfter n (sortOf d) (drive d m b .0) (m .st) t) .0) (and-false (turnedDown n (sortOf d) (drive d m b .0) (m .st) t))

@@ -26,7 +26,7 @@ use Rattle.book.specs.Lens.{key-ep}
 use Rattle.book.specs.Frame.{same-place, changed-on}
 use Rattle.book.specs.Sorts.{sorted}
 use Rattle.apart.specs.But.{SameCodes, Stays, Channel, Like}
-use Rattle.apart.specs.Apart.{Apart, Pair, end}
+use Rattle.apart.specs.Apart.{ApartBy, end, PairBy, Pair}
 use Rattle.apart.specs.Pairs.{Eq, Any, p-bind, p-same, p-get, p-put, p-act}
 use Rattle.apart.specs.Likes.{wakes-refl}
 use Rattle.apart.specs.Wakes.{all-same, own-woken}
@@ -131,31 +131,31 @@ module _ (c : Channel) where
     pub p-wake-bus : Pair c st {i = i} Any wakeBus wakeBus
     p-wake-bus = p-act (waken (busCode ∷ [])) (wakens (busCode ∷ []))
 
-    module _ {A B : Type 0} {Q : A → B → Type 0} where
+    module _ {m : Bool} {A B : Type 0} {Q : A → B → Type 0} where
       -- read with what they say of the sorts, and then the same on both sides
-      pub p-globals : {f : Globals → Script i A} {g : Globals → Script i B} → ((v : Globals) → Shows (c .iso) globals-cell v → Pair c st Q (f v) (g v)) → Pair c st Q (bind (get globals-cell) f) (bind (get globals-cell) g)
+      pub p-globals : {f : Globals → Script i A} {g : Globals → Script i B} → ((v : Globals) → Shows (c .iso) globals-cell v → PairBy c st m Q (f v) (g v)) → PairBy c st m Q (bind (get globals-cell) f) (bind (get globals-cell) g)
       p-globals {f} {g} h = p-bind (p-get globals-cell (λ v v′. (v ≡ v′) × Shows (c .iso) globals-cell v) (λ s t l. (l .but .globals, sorted (c .iso) (c .ep0) .shows globals-cell s (l .left .has))))
-          (λ v v′ e. subst (λ z. Pair c st Q (f v) (g z)) (e .0) (h v (e .1)))
+          (λ v v′ e. subst (λ z. PairBy c st m Q (f v) (g z)) (e .0) (h v (e .1)))
 
       -- of an endpoint but the channel
-      pub p-plain : (dir : Dir) (e : ℕ) → key dir e ≢ key Out (c .number) → {f : Plain → Script i A} {g : Plain → Script i B} → ((v : Plain) → Shows (c .iso) (ep-cell dir e) v → Pair c st Q (f v) (g v)) → Pair c st Q (bind (get (ep-cell dir e)) f) (bind (get (ep-cell dir e)) g)
+      pub p-plain : (dir : Dir) (e : ℕ) → key dir e ≢ key Out (c .number) → {f : Plain → Script i A} {g : Plain → Script i B} → ((v : Plain) → Shows (c .iso) (ep-cell dir e) v → PairBy c st m Q (f v) (g v)) → PairBy c st m Q (bind (get (ep-cell dir e)) f) (bind (get (ep-cell dir e)) g)
       p-plain dir e n {f} {g} h = p-bind (p-get (ep-cell dir e) (λ v v′. (v ≡ v′) × Shows (c .iso) (ep-cell dir e) v) (λ s t l. (plain-other dir e n s t l, sorted (c .iso) (c .ep0) .shows (ep-cell dir e) s (l .left .has))))
-          (λ v v′ e. subst (λ z. Pair c st Q (f v) (g z)) (e .0) (h v (e .1)))
+          (λ v v′ e. subst (λ z. PairBy c st m Q (f v) (g z)) (e .0) (h v (e .1)))
 
-      pub p-plain-in : (e : ℕ) {f : Plain → Script i A} {g : Plain → Script i B} → ((v : Plain) → Shows (c .iso) (ep-cell In e) v → Pair c st Q (f v) (g v)) → Pair c st Q (bind (get (ep-cell In e)) f) (bind (get (ep-cell In e)) g)
+      pub p-plain-in : (e : ℕ) {f : Plain → Script i A} {g : Plain → Script i B} → ((v : Plain) → Shows (c .iso) (ep-cell In e) v → PairBy c st m Q (f v) (g v)) → PairBy c st m Q (bind (get (ep-cell In e)) f) (bind (get (ep-cell In e)) g)
       p-plain-in e h = p-plain In e (in-other (c .number) e) h
 
-      pub p-plain-ep0 : (dir : Dir) {f : Plain → Script i A} {g : Plain → Script i B} → ((v : Plain) → Shows (c .iso) (ep-cell dir 0) v → Pair c st Q (f v) (g v)) → Pair c st Q (bind (get (ep-cell dir 0)) f) (bind (get (ep-cell dir 0)) g)
+      pub p-plain-ep0 : (dir : Dir) {f : Plain → Script i A} {g : Plain → Script i B} → ((v : Plain) → Shows (c .iso) (ep-cell dir 0) v → PairBy c st m Q (f v) (g v)) → PairBy c st m Q (bind (get (ep-cell dir 0)) f) (bind (get (ep-cell dir 0)) g)
       p-plain-ep0 dir h = p-plain dir 0 (ep0-other c dir) h
 
       -- of any: the channel's `ready` may be another, and it is isochronous
-      pub p-plain-any : (dir : Dir) (e : ℕ) {f : Plain → Script i A} {g : Plain → Script i B} → ((v : Plain) (r : ℕ) → (key dir e ≢ key Out (c .number) → r ≡ v .ready) → (key dir e ≡ key Out (c .number) → isOn (v .iso) ≡ true) → Shows (c .iso) (ep-cell dir e) v → Pair c st Q (f v) (g (withReady r v)))
-          → Pair c st Q (bind (get (ep-cell dir e)) f) (bind (get (ep-cell dir e)) g)
+      pub p-plain-any : (dir : Dir) (e : ℕ) {f : Plain → Script i A} {g : Plain → Script i B} → ((v : Plain) (r : ℕ) → (key dir e ≢ key Out (c .number) → r ≡ v .ready) → (key dir e ≡ key Out (c .number) → isOn (v .iso) ≡ true) → Shows (c .iso) (ep-cell dir e) v → PairBy c st m Q (f v) (g (withReady r v)))
+          → PairBy c st m Q (bind (get (ep-cell dir e)) f) (bind (get (ep-cell dir e)) g)
       p-plain-any dir e {f} {g} h = record {
         on = λ s t l.
             let p = plainOf (epOn (s .0) dir e) in
             let q = plainOf (epOn (t .0) dir e) in
-            subst (λ z. Apart c st i Q (run conc (f p) s) (run conc (g z) t)) (ap (withReady (q .ready)) (plain-any dir e s t l))
+            subst (λ z. ApartBy c st i Q m (run conc (f p) s) (run conc (g z) t)) (ap (withReady (q .ready)) (plain-any dir e s t l))
             (h p (q .ready) (λ n. ap (λ (v : Plain). v .ready) (sym (plain-other dir e n s t l)))
             (λ k. ap (λ (r : EpState). isOn (r .iso)) (key-ep (s .0) dir Out e (c .number) k) ∙ l .left .has .flags Out (c .number) ∙ c .receives)
             (sorted (c .iso) (c .ep0) .shows (ep-cell dir e) s (l .left .has)) .on s t l);

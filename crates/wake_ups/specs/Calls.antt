@@ -1,7 +1,7 @@
 -- Every call is within the room for 64, whatever is read: an operation wakes at most so often, and a call that is over at once wakes none
 use mathlib.Core.Bool.{Bool, true, false}
 use mathlib.Core.List.{List, [], _∷_}
-use Prim.Native.Nat.{ℕ, zero, suc, _≤_}
+use Prim.Native.Nat.{ℕ, zero, suc, _<_}
 use native.Mathlib.Omega.{arith}
 use Rattle.regs.specs.declared.Dir.{Dir}
 use Rattle.regs.specs.declared.Dir.the-variants.{Out, In}
@@ -74,7 +74,7 @@ module _ {i : Bool} {p : Script i Answer} where
   enabled-within d e y x = within-bind (no-get globals-cell) (λ _. within-test x y)
 
 module _ {i : Bool} where
-  resultless-within : {n : ℕ} {p : Script i Unit} → n ≤ 64 → Wakes≤ n p → Within (resultless p)
+  resultless-within : {n : ℕ} {p : Script i Unit} → n < 64 → Wakes≤ n p → Within (resultless p)
   resultless-within h x = within-operation h (then-free x (λ _. wakes-ret))
 
 module _ {i : Bool} {n : ℕ} where

@@ -5,3 +5,5 @@ pub mod Interrupt
 pub mod Calls
 pub mod Machines
 pub mod Code
+pub mod Ends
+pub mod Rooms

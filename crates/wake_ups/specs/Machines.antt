@@ -2,9 +2,10 @@
 -- operation's begin, in order, and none is lost
 use mathlib.Core.Bool.{Bool, true, false, cond}
 use mathlib.Core.List.{List, [], _∷_}
-use mathlib.Core.Path.{_≡_, refl, sym, subst}
+use mathlib.Core.Path.{_≡_, refl, sym, ap, subst}
 use Prim.Native.Nat.{ℕ, zero, suc}
 use native.Mathlib.Omega.{arith}
+use lib.ListN.{length}
 use Rattle.state.specs.Driver.{Driver}
 use Rattle.state.specs.Fresh.{freshDriver}
 use Rattle.state.specs.WakesLaws.{none-room, none-listed}
@@ -16,7 +17,7 @@ use Rattle.script.specs.Machine.{Buf, Event, Call, start, begin, go, question, 
 use Rattle.ops.specs.Rings.{St}
 use Rattle.way.specs.Under.{driverOf, drive}
 use Rattle.wake_ups.specs.Heard.{Heard, Hst, bare, heardOps}
-use Rattle.wake_ups.specs.Twins.{Fits, fits-few, Twin, end, ask, twin-more, Any, grown-same}
+use Rattle.wake_ups.specs.Twins.{Fits, Twin, end, ask, twin-more, Short, grown-same}
 use Rattle.wake_ups.specs.Calls.{aside-wakes, call-within, start-up-within}
 
 -- the driver beside the record
@@ -42,7 +43,7 @@ hear c n b = call calls heard (λ s. s) c n b
 pub data Ways (l : List ℕ) : Way Answer Driver → Way Answer Heard → Type 0 where
   rests : Ways l idle idle
   works : {i : Bool} {q : Awaits} {k : ℕ → St → tree.Out St Answer} {k′ : ℕ → Hst → tree.Out Hst Answer}
-      → ((v : ℕ) (u : Hst) → Fits (u .0) → u .0 .1 ≡ l → Twin Any (k v (bare u)) (k′ v u)) → Ways l (busy i q k) (busy i q k′)
+      → ((v : ℕ) (u : Hst) → Fits (u .0) → u .0 .1 ≡ l → Twin Short (k v (bare u)) (k′ v u)) → Ways l (busy i q k) (busy i q k′)
 
 abbrev machineOf : Way Answer Driver → Hst → Machine Answer Driver
 machineOf w t = record { way = w; st = t .0 .0; buf = t .1 }
@@ -50,11 +51,12 @@ machineOf w t = record { way = w; st = t .0 .0; buf = t .1 }
 abbrev heardOf : Way Answer Heard → Hst → Machine Answer Heard
 heardOf w t = record { way = w; st = t .0; buf = t .1 }
 
--- the same driver and buffer; the driver lists what was recorded
+-- the same driver and buffer; the driver lists what was recorded, and has room for one more
 pub record Pair (m : Machine Answer Driver) (n : Machine Answer Heard) : Type 0 where
   pub driver : m .st ≡ n .st .0
   pub buf : m .buf ≡ n .buf
   pub fits : Fits (n .st)
+  pub short : Short (n .st .1)
   pub ways : Ways (n .st .1) (m .way) (n .way)
 
 -- the same answer, and then paired
@@ -62,63 +64,63 @@ pub record Alike (x : Told) (y : ToldHeard) : Type 0 where
   pub answer : x .0 ≡ y .0
   pub pair : Pair (x .1) (y .1)
 
-paired : {w : Way Answer Driver} {w′ : Way Answer Heard} (t : Hst) → Fits (t .0) → Ways (t .0 .1) w w′ → Pair (machineOf w t) (heardOf w′ t)
-paired t f x = record { driver = refl; buf = refl; fits = f; ways = x }
+paired : {w : Way Answer Driver} {w′ : Way Answer Heard} (t : Hst) → Fits (t .0) → Short (t .0 .1) → Ways (t .0 .1) w w′ → Pair (machineOf w t) (heardOf w′ t)
+paired t f z x = record { driver = refl; buf = refl; fits = f; short = z; ways = x }
 
 -- ---- each call
 
-halts : (i : Bool) {o : tree.Out St Answer} {u : tree.Out Hst Answer} → Twin Any o u → Alike (halt calls driverOf (λ s. s) i o) (halt calls heard (λ s. s) i u)
-halts i (end t f p) = record { answer = refl; pair = paired t f rests }
-halts i (ask t f p k) = record { answer = refl; pair = paired t f (works k) }
+halts : (i : Bool) {o : tree.Out St Answer} {u : tree.Out Hst Answer} → Twin Short o u → Alike (halt calls driverOf (λ s. s) i o) (halt calls heard (λ s. s) i u)
+halts i (end t f p) = record { answer = refl; pair = paired t f p rests }
+halts i (ask t f p k) = record { answer = refl; pair = paired t f p (works k) }
 
 either : (b : Bool) {x y : Told} {x′ y′ : ToldHeard} → Alike x x′ → Alike y y′ → Alike (cond b x y) (cond b x′ y′)
 either true p q = p
 either false p q = q
 
 -- a call that passes leaves the record
-passes : {w : Way Answer Driver} {w′ : Way Answer Heard} (t : Hst) → Fits (t .0) → Ways (t .0 .1) w w′ → {o : tree.Out St Answer} {u : tree.Out Hst Answer} → Twin (λ x. x ≡ t .0 .1) o u
+passes : {w : Way Answer Driver} {w′ : Way Answer Heard} (t : Hst) → Fits (t .0) → Short (t .0 .1) → Ways (t .0 .1) w w′ → {o : tree.Out St Answer} {u : tree.Out Hst Answer} → Twin (λ x. x ≡ t .0 .1) o u
     → Alike (beside calls driverOf (machineOf w t) o) (beside calls heard (heardOf w′ t) u)
-passes {w} {w′} t f x (end u g p) = record { answer = refl; pair = paired u g (subst (λ z. Ways z w w′) (sym p) x) }
-passes t f x (ask u g p k) = record { answer = refl; pair = paired t f x }
+passes {w} {w′} t f z x (end u g p) = record { answer = refl; pair = paired u g (omega (arith, z, ap length p)) (subst (λ z. Ways z w w′) (sym p) x) }
+passes t f z x (ask u g p k) = record { answer = refl; pair = paired t f z x }
 
 -- another call falls into an operation: row 3
-refused : (i : Bool) {w : Way Answer Driver} {w′ : Way Answer Heard} (t : Hst) → Fits (t .0) → Ways (t .0 .1) w w′ → (x : Told) (y : ToldHeard)
+refused : (i : Bool) {w : Way Answer Driver} {w′ : Way Answer Heard} (t : Hst) → Fits (t .0) → Short (t .0 .1) → Ways (t .0 .1) w w′ → (x : Told) (y : ToldHeard)
     → Alike (cond (cond i false false) x (machine.stay calls driverOf 3 (machineOf w t))) (cond (cond i false false) y (machine.stay calls heard 3 (heardOf w′ t)))
-refused true t f x _ _ = record { answer = refl; pair = paired t f x }
-refused false t f x _ _ = record { answer = refl; pair = paired t f x }
+refused true t f z x _ _ = record { answer = refl; pair = paired t f z x }
+refused false t f z x _ _ = record { answer = refl; pair = paired t f z x }
 
-begins : (o : Op) (t : Hst) → Fits (t .0) → {w : Way Answer Driver} {w′ : Way Answer Heard} → Ways (t .0 .1) w w′ → (b : Buf)
+begins : (o : Op) (t : Hst) → Fits (t .0) → Short (t .0 .1) → {w : Way Answer Driver} {w′ : Way Answer Heard} → Ways (t .0 .1) w w′ → (b : Buf)
     → Alike (begun calls driverOf (λ s. s) o (machineOf w t) w b) (begun calls heard (λ s. s) o (heardOf w′ t) w′ b)
-begins o t f rests b = halts (calls .irq o) (call-within o .on (t .0, b) f)
-begins interrupt t f (works {i = i} k) b = refused i (t .0, b) f (works k) _ _
-begins (slotted o) t f (works {i = i} k) b = refused i (t .0, b) f (works k) _ _
-begins (other o) t f (works {i = i} k) b = refused i (t .0, b) f (works k) _ _
-begins (aside o) t f (works {i = true} k) b = passes (t .0, b) f (works k) (twin-more (aside-wakes o .on (t .0, b) f (omega (arith, fits-few (t .0) f))) (λ l g. grown-same g))
-begins (aside o) t f (works {i = false} k) b = record { answer = refl; pair = paired (t .0, b) f (works k) }
+begins o t f z rests b = halts (calls .irq o) (call-within o .on (t .0, b) f z)
+begins interrupt t f z (works {i = i} k) b = refused i (t .0, b) f z (works k) _ _
+begins (slotted o) t f z (works {i = i} k) b = refused i (t .0, b) f z (works k) _ _
+begins (other o) t f z (works {i = i} k) b = refused i (t .0, b) f z (works k) _ _
+begins (aside o) t f z (works {i = true} k) b = passes (t .0, b) f z (works k) (twin-more (aside-wakes o .on (t .0, b) f (omega (arith, z))) (λ l g. grown-same g))
+begins (aside o) t f z (works {i = false} k) b = record { answer = refl; pair = paired (t .0, b) f z (works k) }
 
-continues : (v : ℕ) (t : Hst) → Fits (t .0) → {w : Way Answer Driver} {w′ : Way Answer Heard} → Ways (t .0 .1) w w′ → (b : Buf)
+continues : (v : ℕ) (t : Hst) → Fits (t .0) → Short (t .0 .1) → {w : Way Answer Driver} {w′ : Way Answer Heard} → Ways (t .0 .1) w w′ → (b : Buf)
     → Alike (continued calls driverOf (λ s. s) v (machineOf w t) w b) (continued calls heard (λ s. s) v (heardOf w′ t) w′ b)
-continues v t f rests b = record { answer = refl; pair = paired (t .0, b) f rests }
-continues v t f (works {i = i} {q = q} k) b = either (over calls q v) (record { answer = refl; pair = paired (t .0, b) f (works k) }) (halts i (k v (t .0, b) f refl))
+continues v t f z rests b = record { answer = refl; pair = paired (t .0, b) f z rests }
+continues v t f z (works {i = i} {q = q} k) b = either (over calls q v) (record { answer = refl; pair = paired (t .0, b) f z (works k) }) (halts i (k v (t .0, b) f refl))
 
 fresh-fits : (c : Config) → Fits (driverOf .fresh c, [])
 unfolding freshDriver
 fresh-fits c = record { room = none-room; list = none-listed }
 
-starts : (c : Config) (n : ℕ) (t : Hst) → Fits (t .0) → {w : Way Answer Driver} {w′ : Way Answer Heard} → Ways (t .0 .1) w w′ → (b : Buf)
+starts : (c : Config) (n : ℕ) (t : Hst) → Fits (t .0) → Short (t .0 .1) → {w : Way Answer Driver} {w′ : Way Answer Heard} → Ways (t .0 .1) w w′ → (b : Buf)
     → Alike (started calls driverOf (λ s. s) c n (machineOf w t) b) (started calls heard (λ s. s) c n (heardOf w′ t) b)
-starts c zero t f x b = halts false (start-up-within c .on ((driverOf .fresh c, []), b) (fresh-fits c))
-starts c (suc n) t f x b = record { answer = refl; pair = paired t f x }
+starts c zero t f z x b = halts false (start-up-within c .on ((driverOf .fresh c, []), b) (fresh-fits c) (omega arith))
+starts c (suc n) t f z x b = record { answer = refl; pair = paired t f z x }
 
 -- the same machine by its parts
-steps-by : (c : Call Config Op) (t : Hst) → Fits (t .0) → {w : Way Answer Driver} {w′ : Way Answer Heard} → Ways (t .0 .1) w w′ → (b : Buf) → Alike (drive c (machineOf w t) b) (hear c (heardOf w′ t) b)
-steps-by (start c) t f x b = starts c (startRow c b) t f x b
-steps-by (begin o) t f x b = either (cond (calls .slots o) (machine.misfit calls driverOf (t .0 .0) b) false) (record { answer = refl; pair = paired t f x }) (begins o t f x b)
-steps-by (go v) t f x b = either (machine.misfit calls driverOf (t .0 .0) b) (record { answer = refl; pair = paired t f x }) (continues v t f x b)
-steps-by (question q) t f x b = record { answer = refl; pair = paired (t .0, b) f x }
+steps-by : (c : Call Config Op) (t : Hst) → Fits (t .0) → Short (t .0 .1) → {w : Way Answer Driver} {w′ : Way Answer Heard} → Ways (t .0 .1) w w′ → (b : Buf) → Alike (drive c (machineOf w t) b) (hear c (heardOf w′ t) b)
+steps-by (start c) t f z x b = starts c (startRow c b) t f z x b
+steps-by (begin o) t f z x b = either (cond (calls .slots o) (machine.misfit calls driverOf (t .0 .0) b) false) (record { answer = refl; pair = paired t f z x }) (begins o t f z x b)
+steps-by (go v) t f z x b = either (machine.misfit calls driverOf (t .0 .0) b) (record { answer = refl; pair = paired t f z x }) (continues v t f z x b)
+steps-by (question q) t f z x b = record { answer = refl; pair = paired (t .0, b) f z x }
 
 pub steps : (c : Call Config Op) (m : Machine Answer Driver) (n : Machine Answer Heard) → Pair m n → (b : Buf) → Alike (drive c m b) (hear c n b)
-steps c m n p b = subst (λ (z : Machine Answer Driver). Alike (drive c z b) (hear c n b)) (λ i. record { way = m .way; st = sym (p .driver) i; buf = sym (p .buf) i }) (steps-by c (n .st, n .buf) (p .fits) (p .ways) b)
+steps c m n p b = subst (λ (z : Machine Answer Driver). Alike (drive c z b) (hear c n b)) (λ i. record { way = m .way; st = sym (p .driver) i; buf = sym (p .buf) i }) (steps-by c (n .st, n .buf) (p .fits) (p .short) (p .ways) b)
 
 -- ---- every list of calls
 
@@ -136,7 +138,7 @@ pub from-start : (c : Config) (b : Buf) → startRow c b ≡ zero → (m : Machi
 from-start c b row m n = by (startRow c b) row
   where
     by : (r : ℕ) → r ≡ zero → Alike (started calls driverOf (λ s. s) c r m b) (started calls heard (λ s. s) c r n b)
-    by zero e = halts false (start-up-within c .on ((driverOf .fresh c, []), b) (fresh-fits c))
+    by zero e = halts false (start-up-within c .on ((driverOf .fresh c, []), b) (fresh-fits c) (omega arith))
     by (suc r) e = absurd (omega (arith, e))
 
 pub all-wake-ups : (c : Config) (b : Buf) → startRow c b ≡ zero → (m : Machine Answer Driver) (n : Machine Answer Heard) (vs : List (Event Config Op)) → Same m n (record { call = start c; lent = b } ∷ vs)

@@ -3,7 +3,7 @@
 use mathlib.Core.Bool.{Bool, true, false, cond}
 use mathlib.Core.List.{List, [], _∷_, _++_, append-nil, append-assoc}
 use mathlib.Core.Path.{_≡_, refl, sym, ap, subst, _∙_}
-use Prim.Native.Nat.{ℕ, zero, suc, _+_, _*_, _≤_}
+use Prim.Native.Nat.{ℕ, zero, suc, _+_, _*_, _≤_, _<_}
 use native.Mathlib.Nat.{suc-mul}
 use native.Mathlib.Omega.{arith}
 use lib.ListN.{length, length-append}
@@ -272,26 +272,24 @@ module _ {i : Bool} (W : List ℕ → Script i Unit) (one : ℕ → Script i Uni
 
 -- ---- calls
 
-abbrev pub Any : List ℕ → Type 0
-Any l = Unit {0}
+-- the room for 64 is never full
+abbrev pub Short : List ℕ → Type 0
+Short l = length l < 64
 
 -- from any state that fits: an operation begins without wake-ups
 pub record Within {i : Bool} (p : Script i Answer) : Type 0 where
-  pub on : (t : Hst) → Fits (t .0) → Twin Any (run conc p (bare t)) (run heardOps p t)
-
-pub fits-few : (h : Heard) → Fits h → length (h .1) ≤ 64
-fits-few h f = omega (arith, listed-count (h .0 .wakes) (f .room), ap length (f .list), f .room .within)
+  pub on : (t : Hst) → Fits (t .0) → Short (t .0 .1) → Twin Short (run conc p (bare t)) (run heardOps p t)
 
 module _ {i : Bool} where
   pub within-quiet : {p : Script i Answer} → Wakes≤ 0 p → Within p
-  within-quiet x = record { on = λ t f. twin-more (x .on t f (omega (arith, fits-few (t .0) f))) (λ _ _. tt) }
+  within-quiet x = record { on = λ t f s. twin-more (x .on t f (omega (arith, s))) (λ l g. omega (arith, grown-length g, s)) }
 
   pub within-bind : {B : Type 0} {p : Script i B} {f : B → Script i Answer} → Wakes≤ 0 p → ((b : B) → Within (f b)) → Within (bind p f)
-  within-bind x y = record { on = λ t f. twin-bind _ _ (x .on t f (omega (arith, fits-few (t .0) f))) (λ _ _. tt) (λ a u h g. y a .on u h) }
+  within-bind x y = record { on = λ t f s. twin-bind _ _ (x .on t f (omega (arith, s))) (λ l g. omega (arith, grown-length g, s)) (λ a u h g. y a .on u h (omega (arith, grown-length g, s))) }
 
   pub within-test : {b : Bool} {p q : Script i Answer} → Within p → Within q → Within (test b p q)
-  within-test {b = true} x y = record { on = λ t f. x .on t f }
-  within-test {b = false} x y = record { on = λ t f. y .on t f }
+  within-test {b = true} x y = record { on = λ t f s. x .on t f s }
+  within-test {b = false} x y = record { on = λ t f s. y .on t f s }
 
   pub within-ret : {a : Answer} → Within {i = i} (ret a)
   within-ret = within-quiet wakes-ret
@@ -306,11 +304,11 @@ module _ {i : Bool} where
   ended-wakes : {n : ℕ} {p : Script i ℕ} → Wakes≤ n p → Wakes≤ n (ended p)
   ended-wakes x = then-free x (λ _. free no-fetch (λ _. wakes-ret))
 
-  pub within-operation : {n : ℕ} {p : Script i ℕ} → n ≤ 64 → Wakes≤ n p → Within (operation p)
+  pub within-operation : {n : ℕ} {p : Script i ℕ} → n < 64 → Wakes≤ n p → Within (operation p)
   within-operation {n = n} h x = record {
-    on = λ t f.
+    on = λ t f s.
         twin-more
         (ended-wakes x .on ((withWakes (t .0 .0) none-woken, []), t .1)
         (record { room = none-room; list = none-listed }) (omega (arith, h)))
-        (λ _ _. tt);
+        (λ l g. omega (arith, grown-length g, h));
   }
