@@ -14,7 +14,7 @@ ghost use Prim.Native.Nat.{ℕ};
 ghost use Rattle.state.specs.State.{view};
 ghost use Rattle.script.specs.Machine.{begin};
 ghost use Rattle.script.specs.Calls.{other, slotted, BusEnable, BusDisable, BusPoll, IsStalled, SetStalled, SetEnabled};
-ghost use Rattle.way.specs.Under.{machineOf, drive, answerOf, lentOr};
+ghost use Rattle.way.specs.Under.{machineOf, drive, answerOf, lentOr, AsLent};
 
 // `enable` (mod.rs 1225-1227).
 pub fn begin_bus_enable(s: &mut [u8; STATE_LEN]) -> Step
@@ -94,6 +94,7 @@ pub fn begin_set_enabled(
     on: bool,
 ) -> Step
     ensures { λ r. ⌜ ((a : List ℕ) → (answerOf r [] (view (now (s .exit))), machineOf (now (s .exit)) (lentOr (view (now (s .entry))) (now (slots .entry)) (now (slots .exit)) a)) ≡ drive (begin (slotted (SetEnabled dir e on))) (machineOf (now (s .entry)) a) (now (slots .entry))) ⌝ }
+    ensures { λ _. ⌜ AsLent (view (now (s .entry))) (now (slots .entry)) (now (slots .exit)) ⌝ }
 {
     if slots_fit(s, slots) {
         let n = stop(s, 2);

@@ -10,7 +10,7 @@ ghost use Prim.Native.Nat.{ℕ};
 ghost use Rattle.state.specs.State.{view};
 ghost use Rattle.script.specs.Machine.{begin};
 ghost use Rattle.script.specs.Calls.{other, slotted, BeginSetup, BeginDataOut, BeginDataIn, BeginAccept, BeginAcceptSetAddress, BeginReject};
-ghost use Rattle.way.specs.Under.{machineOf, drive, answerOf, lentOr};
+ghost use Rattle.way.specs.Under.{machineOf, drive, answerOf, lentOr, AsLent};
 
 // `setup` (control.rs 70-80).
 pub fn begin_setup(s: &mut [u8; STATE_LEN]) -> Step
@@ -43,6 +43,7 @@ pub fn begin_data_in(
     last: bool,
 ) -> Step
     ensures { λ r. ⌜ ((a : List ℕ) → (answerOf r [] (view (now (s .exit))), machineOf (now (s .exit)) (lentOr (view (now (s .entry))) (now (slots .entry)) (now (slots .exit)) a)) ≡ drive (begin (slotted (BeginDataIn (now (bytes .entry)) first last))) (machineOf (now (s .entry)) a) (now (slots .entry))) ⌝ }
+    ensures { λ _. ⌜ AsLent (view (now (s .entry))) (now (slots .entry)) (now (slots .exit)) ⌝ }
 {
     if slots_fit(s, slots) {
         if is_idle(s) {

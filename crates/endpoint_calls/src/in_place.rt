@@ -12,7 +12,7 @@ ghost use Rattle.state.specs.State.{view};
 ghost use Rattle.script.specs.Machine.{begin, ended};
 ghost use Rattle.script.specs.Calls.{aside, Open, Close, Queue};
 ghost use Rattle.packets.specs.Packets as packets;
-ghost use Rattle.way.specs.Under.{machineOf, drive, answerOf, lentOr};
+ghost use Rattle.way.specs.Under.{machineOf, drive, answerOf, lentOr, AsLent};
 ghost use Rattle.endpoint_calls.specs.Shown.{ShownAt};
 
 fn told(p: Packet) -> Step
@@ -55,6 +55,7 @@ pub fn close(s: &mut [u8; STATE_LEN], e: u32) -> Step
 // `iso_in_prime` (342-395).
 pub fn queue(s: &mut [u8; STATE_LEN], slots: &mut [u8], e: u32, bytes: &[u8]) -> Step
     ensures { λ r. ⌜ ((a : List ℕ) → (answerOf r (now (slots .exit)) (view (now (s .exit))), machineOf (now (s .exit)) (lentOr (view (now (s .entry))) (now (slots .entry)) (now (slots .exit)) a)) ≡ drive (begin (aside (Queue e (now (bytes .entry))))) (machineOf (now (s .entry)) a) (now (slots .entry))) ⌝ }
+    ensures { λ _. ⌜ AsLent (view (now (s .entry))) (now (slots .entry)) (now (slots .exit)) ⌝ }
 {
     if slots_fit(s, slots) {
         if may_pass(s) {

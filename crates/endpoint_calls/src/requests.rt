@@ -12,7 +12,7 @@ ghost use lib.ListN.{length};
 ghost use Rattle.state.specs.State.{view};
 ghost use Rattle.script.specs.Machine.{begin};
 ghost use Rattle.script.specs.Calls.{other, slotted, BeginRead, PollRead, BeginWrite, PollWrite};
-ghost use Rattle.way.specs.Under.{machineOf, drive, answerOf, lentOr, lentBy};
+ghost use Rattle.way.specs.Under.{machineOf, drive, answerOf, lentOr, AsLent, lentBy};
 
 // `read` (endpoint.rs 83-142), into a slice of n bytes.
 pub fn begin_read(s: &mut [u8; STATE_LEN], e: u32, n: u32) -> Step
@@ -43,6 +43,7 @@ pub fn poll_read(s: &mut [u8; STATE_LEN], slots: &[u8], e: u32, out: &mut [u8]) 
 // `write` (146-194).
 pub fn begin_write(s: &mut [u8; STATE_LEN], slots: &mut [u8], e: u32, bytes: &[u8]) -> Step
     ensures { λ r. ⌜ ((a : List ℕ) → (answerOf r [] (view (now (s .exit))), machineOf (now (s .exit)) (lentOr (view (now (s .entry))) (now (slots .entry)) (now (slots .exit)) a)) ≡ drive (begin (slotted (BeginWrite e (now (bytes .entry))))) (machineOf (now (s .entry)) a) (now (slots .entry))) ⌝ }
+    ensures { λ _. ⌜ AsLent (view (now (s .entry))) (now (slots .entry)) (now (slots .exit)) ⌝ }
 {
     if slots_fit(s, slots) {
         if is_idle(s) {
@@ -56,6 +57,7 @@ pub fn begin_write(s: &mut [u8; STATE_LEN], slots: &mut [u8], e: u32, bytes: &[u
 
 pub fn poll_write(s: &mut [u8; STATE_LEN], slots: &mut [u8], e: u32, bytes: &[u8]) -> Step
     ensures { λ r. ⌜ ((a : List ℕ) → (answerOf r [] (view (now (s .exit))), machineOf (now (s .exit)) (lentOr (view (now (s .entry))) (now (slots .entry)) (now (slots .exit)) a)) ≡ drive (begin (slotted (PollWrite e (now (bytes .entry))))) (machineOf (now (s .entry)) a) (now (slots .entry))) ⌝ }
+    ensures { λ _. ⌜ AsLent (view (now (s .entry))) (now (slots .entry)) (now (slots .exit)) ⌝ }
 {
     if slots_fit(s, slots) {
         if is_idle(s) {

@@ -15,7 +15,7 @@ ghost use mathlib.Core.List.{List, []};
 ghost use Prim.Native.Nat.{ℕ};
 ghost use Rattle.state.specs.State.{view, saved};
 ghost use Rattle.script.specs.Machine.{go};
-ghost use Rattle.way.specs.Under.{decode, machineOf, drive, goneOn, answerOf, lentOr};
+ghost use Rattle.way.specs.Under.{decode, machineOf, drive, goneOn, answerOf, lentOr, AsLent};
 
 // Goes on at the driver's own point.
 fn proceed_driver(s: &mut [u8; STATE_LEN], v: u32) -> Step
@@ -113,6 +113,7 @@ fn proceed_at(s: &mut [u8; STATE_LEN], slots: &mut [u8], v: u32) -> Step
 // Goes on with the operation under way, with the number brought.
 pub fn proceed(s: &mut [u8; STATE_LEN], slots: &mut [u8], v: u32) -> Step
     ensures { λ r. ⌜ ((a : List ℕ) → (answerOf r [] (view (now (s .exit))), machineOf (now (s .exit)) (lentOr (view (now (s .entry))) (now (slots .entry)) (now (slots .exit)) a)) ≡ drive (go v) (machineOf (now (s .entry)) a) (now (slots .entry))) ⌝ }
+    ensures { λ _. ⌜ AsLent (view (now (s .entry))) (now (slots .entry)) (now (slots .exit)) ⌝ }
 {
     if slots_fit(s, slots) {
         return proceed_at(s, slots, v);

@@ -23,7 +23,7 @@ ghost use lib.Dec.{eqb};
 ghost use Rattle.state.specs.State.{view, saved};
 ghost use Rattle.script.specs.Machine.{start, begin, go};
 ghost use Rattle.script.specs.Calls.{slotted, SetEnabled, startRow};
-ghost use Rattle.way.specs.Under.{decode, machineOf, answerOf, configOf, lentOr};
+ghost use Rattle.way.specs.Under.{decode, machineOf, answerOf, configOf, lentOr, AsLent};
 ghost use Rattle.shared_time.specs.Sharing.{sharedCall};
 ghost use Rattle.shared_time.specs.Accepts.{accepts};
 
@@ -67,6 +67,7 @@ fn enable(
     e: u32,
 ) -> Step
     ensures { λ r. ⌜ ((a : List ℕ) → ((answerOf r [] (view (now (s .exit))), machineOf (now (s .exit)) (lentOr (view (now (s .entry))) (now (slots .entry)) (now (slots .exit)) a)), now (time .exit)) ≡ sharedCall driver (begin (slotted (SetEnabled dir e true))) (machineOf (now (s .entry)) a) (now (time .entry)) (now (slots .entry))) ⌝ }
+    ensures { λ _. ⌜ AsLent (view (now (s .entry))) (now (slots .entry)) (now (slots .exit)) ⌝ }
 {
     let at = entry(driver, dir, e);
     let charge = charge_on(s, dir, e);
@@ -92,6 +93,7 @@ pub fn begin_set_enabled(
     on: bool,
 ) -> Step
     ensures { λ r. ⌜ ((a : List ℕ) → ((answerOf r [] (view (now (s .exit))), machineOf (now (s .exit)) (lentOr (view (now (s .entry))) (now (slots .entry)) (now (slots .exit)) a)), now (time .exit)) ≡ sharedCall driver (begin (slotted (SetEnabled dir e on))) (machineOf (now (s .entry)) a) (now (time .entry)) (now (slots .entry))) ⌝ }
+    ensures { λ _. ⌜ AsLent (view (now (s .entry))) (now (slots .entry)) (now (slots .exit)) ⌝ }
 {
     if on {
         return enable(s, slots, time, driver, dir, e);
@@ -108,6 +110,7 @@ pub fn proceed(
     v: u32,
 ) -> Step
     ensures { λ r. ⌜ ((a : List ℕ) → ((answerOf r [] (view (now (s .exit))), machineOf (now (s .exit)) (lentOr (view (now (s .entry))) (now (slots .entry)) (now (slots .exit)) a)), now (time .exit)) ≡ sharedCall driver (go v) (machineOf (now (s .entry)) a) (now (time .entry)) (now (slots .entry))) ⌝ }
+    ensures { λ _. ⌜ AsLent (view (now (s .entry))) (now (slots .entry)) (now (slots .exit)) ⌝ }
 {
     let step = proceeding::proceed(s, slots, v);
     gone_on(time, driver, step);

@@ -9,7 +9,7 @@ use Rattle.regs.specs.declared.Dir.the-variants.{Out, In}
 use Rattle.state.specs.State.{view}
 use Rattle.script.specs.Calls.{Config, Op, aside, Open, startRow}
 use Rattle.script.specs.Machine.{Buf, Call, begin, start}
-use Rattle.way.specs.Under.{machineOf, drive, answerOf, lentOr, lentBy}
+use Rattle.way.specs.Under.{machineOf, drive, answerOf, lentOr, AsLent, lentBy}
 use Rattle.endpoint_calls.specs.Shown.{ShownAt}
 use Rattle.shared_time.specs.Sharing.{sharedCall}
 use Rattle.answer_word.specs.Word.{Worded}
@@ -28,11 +28,12 @@ abbrev pub Answers : ℕ → Call Config Op → List ℕ → List ℕ → Type 0
 Answers r c before after =
     Worded r (λ step. (a b : Buf) → (answerOf step [] (view after), machineOf after b) ≡ drive c (machineOf before a) b)
 
--- a call that brings the slots: their bytes before and after
+-- a call that brings the slots: their bytes before and after; of a wrong length (row 1) they stay
 abbrev pub AnswersLent : ℕ → Call Config Op → List ℕ → List ℕ → Buf → Buf → Type 0
 AnswersLent r c before after slots slots′ =
     Worded r
-    (λ step. (a : Buf) → (answerOf step [] (view after), machineOf after (lentOr (view before) slots slots′ a)) ≡ drive c (machineOf before a) slots)
+    (λ step. ((a : Buf) → (answerOf step [] (view after), machineOf after (lentOr (view before) slots slots′ a)) ≡ drive c (machineOf before a) slots)
+    × AsLent (view before) slots slots′)
 
 -- a poll that fills a slice: its bytes after the call are those that the answer brings, or they stay
 abbrev pub AnswersInto : ℕ → Call Config Op → List ℕ → List ℕ → List ℕ → List ℕ → Type 0
@@ -55,7 +56,8 @@ AnswersBeside r c before after =
 abbrev pub AnswersShown : ℕ → Call Config Op → List ℕ → List ℕ → Buf → Buf → Type 0
 AnswersShown r c before after slots slots′ =
     Worded r
-    (λ step. (a : Buf) → (answerOf step slots′ (view after), machineOf after (lentOr (view before) slots slots′ a)) ≡ drive c (machineOf before a) slots)
+    (λ step. ((a : Buf) → (answerOf step slots′ (view after), machineOf after (lentOr (view before) slots slots′ a)) ≡ drive c (machineOf before a) slots)
+    × AsLent (view before) slots slots′)
 
 -- open, with the slots, which stay: a packet that is shown is the endpoint's oldest; its stamp is in the caller's room, before and after the call
 abbrev pub AnswersOpen : ℕ → ℕ → List ℕ → List ℕ → Buf → ℕ → ℕ → Type 0
@@ -75,4 +77,5 @@ AnswersStart r i c before after slots time time′ =
 abbrev pub AnswersCharged : ℕ → ℕ → Call Config Op → List ℕ → List ℕ → Buf → Buf → List ℕ → List ℕ → Type 0
 AnswersCharged r i c before after slots slots′ time time′ =
     Worded r
-    (λ step. (a : Buf) → ((answerOf step [] (view after), machineOf after (lentOr (view before) slots slots′ a)), time′) ≡ sharedCall i c (machineOf before a) time slots)
+    (λ step. ((a : Buf) → ((answerOf step [] (view after), machineOf after (lentOr (view before) slots slots′ a)), time′) ≡ sharedCall i c (machineOf before a) time slots)
+    × AsLent (view before) slots slots′)

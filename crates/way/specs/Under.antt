@@ -172,3 +172,7 @@ slotsFit d b = eqb (length b) (d .allocator .count * d .allocator .size)
 -- the slot buffer after a call that brought it: where its length was wrong, the run's own stays
 abbrev pub lentOr : Driver → Buf → Buf → Buf → Buf
 lentOr d b after old = cond (slotsFit d b) after old
+
+-- row 1: a slot buffer of a wrong length comes back as it was
+abbrev pub AsLent : Driver → Buf → Buf → Type 0
+AsLent d b after = slotsFit d b ≡ false → after ≡ b

@@ -1,0 +1,4 @@
+pub mod Left
+pub mod Outcomes
+pub mod Scripts
+pub mod Refusals
