@@ -20,7 +20,7 @@ ghost use Rattle.control.specs.Points as control;
 ghost use Rattle.endpoint.specs.Points as endpoint;
 ghost use Rattle.iso_in.specs.Advance as advance;
 ghost use Rattle.handler.specs.Points as handler;
-ghost use Rattle.way.specs.Under.{withTag, encode, decode, finish, machineAt, machineOf, haltsAs, halts, handedOut, answerOf};
+ghost use Rattle.way.specs.Under.{withTag, encode, decode, finish, machineAt, machineOf, haltsAs, halts, handedOut, answerOf, Kept};
 ghost use Rattle.way.specs.Rows.{isIdle};
 
 // The operation is under way: it stands where it handed out the access, at a point that is saved with its tag.
@@ -79,6 +79,7 @@ pub fn halted_control(s: &mut [u8; STATE_LEN], n: control::Next) -> Step
 pub fn begun_control(s: &mut [u8; STATE_LEN], n: control::Begun) -> Step
     requires { ⌜ control.LinkedBegun n × (isIdle (decode (saved (now s))) ≡ true) ⌝ }
     ensures { λ r. ⌜ ((b : List ℕ) → (answerOf r [] (view (now (s .exit))), machineOf (now (s .exit)) b) ≡ halts (control.begunAs n (view (now (s .entry))) b)) ⌝ }
+    ensures { λ r. ⌜ Kept r (now (s .entry)) (now (s .exit)) ⌝ }
 {
     match n {
         control::Begun::Refused(k) => Step::Refused(k),
@@ -91,6 +92,7 @@ pub fn begun_control(s: &mut [u8; STATE_LEN], n: control::Begun) -> Step
 pub fn polled_control(s: &mut [u8; STATE_LEN], n: control::Polled) -> Step
     requires { ⌜ control.LinkedPolled n × (isIdle (decode (saved (now s))) ≡ true) ⌝ }
     ensures { λ r. ⌜ ((out b : List ℕ) → (answerOf r out (view (now (s .exit))), machineOf (now (s .exit)) b) ≡ halts (control.polledAs n out (view (now (s .entry))) b)) ⌝ }
+    ensures { λ r. ⌜ Kept r (now (s .entry)) (now (s .exit)) ⌝ }
 {
     match n {
         control::Polled::Refused(k) => Step::Refused(k),
@@ -138,6 +140,7 @@ pub fn halted_interrupt(s: &mut [u8; STATE_LEN], n: handler::Next) -> Step
 pub fn begun_endpoint(s: &mut [u8; STATE_LEN], n: endpoint::Begun) -> Step
     requires { ⌜ endpoint.LinkedBegun n × (isIdle (decode (saved (now s))) ≡ true) ⌝ }
     ensures { λ r. ⌜ ((b : List ℕ) → (answerOf r [] (view (now (s .exit))), machineOf (now (s .exit)) b) ≡ halts (endpoint.begunAs n (view (now (s .entry))) b)) ⌝ }
+    ensures { λ r. ⌜ Kept r (now (s .entry)) (now (s .exit)) ⌝ }
 {
     match n {
         endpoint::Begun::Refused(k) => Step::Refused(k),
