@@ -4,6 +4,9 @@ use checking::after_checking;
 use checking::after_dispatch;
 use checking::after_moved_read;
 use checking::after_moved_wrote;
+use checking::setup::after_setup_released;
+use checking::setup::after_setup_rx;
+use checking::setup::after_setup_tx;
 use handler::Next;
 use handler::Point;
 use iso_in::complete;
@@ -22,9 +25,6 @@ use regs::control_word;
 use regs::registers::ctrl_of;
 use regs::status;
 use script::Transfer;
-use setup::after_setup_released;
-use setup::after_setup_rx;
-use setup::after_setup_tx;
 use state::STATE_LEN;
 use state::load_ep;
 use state::load_globals;
@@ -33,10 +33,6 @@ use transfer::toggled;
 use transfer::toggled::Toggled;
 use transfer::toggled::ToggledNext;
 use transfer::wait::byte;
-
-pub mod checking; // checking.rt: isochronous OUTs are looked at, EP0's hidden stage
-pub mod setup; // setup.rt: a new control transfer
-
 ghost use mathlib.Core.Path.{_≡_};
 ghost use mathlib.Core.Bool.{true, false};
 ghost use mathlib.Core.List.{List};

@@ -21,7 +21,7 @@ use Rattle.script.specs.Statics.{isOn, flag, withReady, withLen, withArmed, wit
 use Rattle.script.specs.Tree.{ends}
 use Rattle.script.specs.Script.{ret}
 use Rattle.script.specs.Answers.{Refused, NotYet, Done}
-use Rattle.script.specs.Control.{SETUP, ACCEPT, DATA-OUT, setupBytes, pollSetup, pollAccept, pollDataOut, aborted-else, take-out, take-closing, requestOf, dataInOf, addressOf, no-control, beginAccept, beginAcceptSetAddress, beginReject, beginDataOut, beginDataIn}
+use Rattle.script.specs.Control.{SETUP, ACCEPT, DATA-OUT, DATA-IN, setupBytes, pollSetup, pollAccept, pollDataIn, pollDataOut, aborted-else, take-out, take-closing, take-in, requestOf, dataInOf, addressOf, no-control, beginAccept, beginAcceptSetAddress, beginReject, beginDataOut, beginDataIn}
 use Rattle.ops.specs.Rings.{St, filledEp0}
 use Rattle.ops.specs.Conc.{go}
 use Rattle.request.specs.Records.{modifiedOn}
@@ -52,10 +52,13 @@ module _ (d d1 d2 d3 : Driver) (b : List ℕ) (h2 : d2 ≡ withWakes d1 none-wok
       → begunAs (begun.Asks (Write EpTLen 0 0) point.StatusLen) d3 b ≡ go {i = false} (beginAcceptSetAddress a) d b
   address-asks a h1 = rw (h3, h2, h1, s, u)
 
-pub reject-asks : (d d1 d2 d3 d4 : Driver) (b : List ℕ) → d1 ≡ withControl d no-control → d2 ≡ withWakes d1 none-woken → d3 ≡ modifiedOn Out 0 (withArmed 0) d2
+pub reject-asks : (d d1 d2 d3 d4 : Driver) → d1 ≡ withControl d no-control → d2 ≡ withWakes d1 none-woken → d3 ≡ modifiedOn Out 0 (withArmed 0) d2
     → d4 ≡ modifiedOn In 0 (withArmed 0) d3 → eqb (d .globals .stage) 2 ≡ true
-    → begunAs (begun.Asks (Read EpTxCtrl 0) point.StallIn) d4 b ≡ go {i = false} beginReject d b
-reject-asks d d1 d2 d3 d4 b h1 h2 h3 h4 s = rw (h4, h3, h2, h1, s)
+    → (b : List ℕ) → begunAs (begun.Asks (Read EpTxCtrl 0) point.StallIn) d4 b ≡ go {i = false} beginReject d b
+reject-asks d d1 d2 d3 d4 h1 h2 h3 h4 s b = rw (h4, h3, h2, h1, s)
+
+pub reject-refused : (d : Driver) → eqb (d .globals .stage) 2 ≡ false → (b : List ℕ) → begunAs (begun.Refused 4) d b ≡ go {i = false} beginReject d b
+reject-refused d s b = rw s
 
 -- ---- data_out
 
@@ -108,6 +111,27 @@ closing-now d d1 d2 d3 c x r b e h1 h2 h3 u k = k d3 b ∙ rw (h3, h2, h1, e, u)
 pub closing-waits : (d d1 d2 : Driver) (c : Control) (b : List ℕ) → d1 ≡ modifiedOn In 0 (withReady 0) d → d2 ≡ withControl d1 (dataInOf (c .length) (c .last) 2)
     → isOn (epOn d Out 0 .ready) ≡ false → isOn (d .globals .«setup_ready») ≡ false → polledAs polled.NotYet [] d2 b ≡ go {i = false} (take-closing true c) d b
 closing-waits d d1 d2 c b h1 h2 u g = rw (h2, h1, u, g)
+
+-- ---- the poll of data_in
+
+module _ (d : Driver) (c : Control) where
+  pub in-waits : isOn (epOn d In 0 .ready) ≡ false → (b : List ℕ) → go {i = false} (aborted-else (ret NotYet)) d b ≡ go {i = false} (take-in c) d b
+  in-waits u b = rw u
+
+  module _ (u : isOn (epOn d In 0 .ready) ≡ true) where
+    pub in-closes : isOn (c .last) ≡ true → (b : List ℕ) → go {i = false} (take-closing true c) d b ≡ go {i = false} (take-in c) d b
+    in-closes l b = rw (u, l)
+
+    pub in-done : (d1 d2 : Driver) → d1 ≡ modifiedOn In 0 (withReady 0) d → d2 ≡ withControl d1 no-control → isOn (c .last) ≡ false
+        → (b : List ℕ) → polledAs (polled.Done 0) [] d2 b ≡ go {i = false} (take-in c) d b
+    in-done d1 d2 h1 h2 l b = rw (h2, h1, u, l)
+
+  module _ (e : c ≡ d .control) (s : eqb (d .globals .stage) 2 ≡ true) (o : eqb (d .control .sort) DATA-IN ≡ true) where
+    pub in-second : eqb (d .control .wait) 2 ≡ true → (b : List ℕ) → go {i = false} (take-closing false c) d b ≡ go {i = false} pollDataIn d b
+    in-second w b = rw (s, o, w)
+
+    pub in-first : eqb (d .control .wait) 2 ≡ false → (b : List ℕ) → go {i = false} (take-in c) d b ≡ go {i = false} pollDataIn d b
+    in-first w b = rw (e, s, o, w)
 
 -- ---- the poll of data_out, with the slice it was lent
 

@@ -28,8 +28,7 @@ use Rattle.listed.specs.Each.{eachOn, each-run, announceAll}
 use Rattle.way.specs.declared.Under.{Under}
 use Rattle.way.specs.Under.{machineAt, finish, drive, halts}
 use Rattle.way.specs.Goes.{Called}
-use Rattle.way.specs.Rows.{isIdle, stopOf, back, other-call, passed, passed-idle, ends-idle}
-use Rattle.driver_calls.specs.Begins.{Passes}
+use Rattle.way.specs.Rows.{isIdle, stopOf, back, other-call, passed, passed-idle, ends-idle, Passes}
 
 -- ---- the list, where nothing is under way
 

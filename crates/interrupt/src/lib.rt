@@ -1,25 +1,24 @@
 // The interrupt (`on_interrupt`, mod.rs 634-852) goes on, one access at a time. Every function is total: any number is safe.
-use entering::after_frame_no;
 use entering::after_len;
 use entering::after_mis;
 use entering::after_naking;
 use entering::after_released;
 use entering::after_settling;
 use entering::after_st;
-use flags::after_bus_rst;
-use flags::after_fifo;
-use flags::after_flags;
-use flags::after_frame;
-use flags::after_host;
-use flags::after_suspend;
+use entering::flags::after_bus_rst;
+use entering::flags::after_fifo;
+use entering::flags::after_flags;
+use entering::flags::after_frame;
+use entering::flags::after_host;
+use entering::flags::after_suspend;
+use framing::after_frame_no;
 use handler::Next;
 use handler::Point;
 use serving::after_completions;
 use serving::after_on_sof;
 use state::STATE_LEN;
 
-mod entering; // entering.rt: the transfer is entered, released, settled
-mod flags; // flags.rt: the microframe, the flags but the setup's
+mod framing; // framing.rt: the frame is read
 mod serving; // serving.rt: the microframe's SOF and a late entry's completions
 
 ghost use mathlib.Core.Path.{_≡_};

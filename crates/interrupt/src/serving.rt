@@ -1,6 +1,6 @@
 // The microframe's SOF, then a late entry's completions (mod.rs 729-747).
-use arms::checking::after_dispatch;
 use arms::dispatch;
+use checking::after_dispatch;
 use handler::Next;
 use handler::Point;
 use iso_in::late;

@@ -1,12 +1,11 @@
 // Continue: the operation under way goes on at its point, with the number brought.
-use iso_in::advance;
+use going_on::proceed_advance;
+use going_on::proceed_bus;
+use going_on::proceed_control;
+use going_on::proceed_driver;
+use going_on::proceed_endpoint;
 use state::STATE_LEN;
 use way::Step;
-use way::halts::halted;
-use way::halts::halted_advance;
-use way::halts::halted_bus;
-use way::halts::halted_control;
-use way::halts::halted_endpoint;
 use way::halts::halted_interrupt;
 use way::rows::slots_fit;
 use way::saved::tag;
@@ -15,77 +14,13 @@ ghost use mathlib.Core.List.{List, []};
 ghost use Prim.Native.Nat.{ℕ};
 ghost use Rattle.state.specs.State.{view, saved};
 ghost use Rattle.script.specs.Machine.{go};
-ghost use Rattle.way.specs.Under.{decode, machineOf, drive, goneOn, answerOf, lentOr, AsLent};
+ghost use Rattle.way.specs.Under.{decode, machineOf, drive, goneOn, answerOf, lentOr, AsLent, Kept};
 
-// Goes on at the driver's own point.
-fn proceed_driver(s: &mut [u8; STATE_LEN], v: u32) -> Step
-    requires { ⌜ saved (now s) .tag ≡ 1 ⌝ }
-    ensures { λ r. ⌜ ((b : List ℕ) → (answerOf r [] (view (now (s .exit))), machineOf (now (s .exit)) b) ≡ goneOn v (decode (saved (now (s .entry)))) (view (now (s .entry))) b) ⌝ }
-{
-    let p = driver::codec::decode(state::load_saved(s));
-    if driver::fits_at(p, v) {
-        let n = driver::resume(s, p, v);
-        return halted(s, n);
-    }
-    Step::Refused(16)
-}
-
-// At the bus's.
-fn proceed_bus(s: &mut [u8; STATE_LEN], slots: &mut [u8], v: u32) -> Step
-    requires { ⌜ saved (now s) .tag ≡ 2 ⌝ }
-    ensures { λ r. ⌜ (answerOf r [] (view (now (s .exit))), machineOf (now (s .exit)) (now (slots .exit))) ≡ goneOn v (decode (saved (now (s .entry)))) (view (now (s .entry))) (now (slots .entry)) ⌝ }
-{
-    let p = bus::decode(state::load_saved(s));
-    if bus::fits_at(p, v) {
-        let n = bus_events::resume(s, slots, p, v);
-        return halted_bus(s, n);
-    }
-    Step::Refused(16)
-}
-
-// At the control pipe's.
-fn proceed_control(s: &mut [u8; STATE_LEN], v: u32) -> Step
-    requires { ⌜ saved (now s) .tag ≡ 3 ⌝ }
-    ensures { λ r. ⌜ ((b : List ℕ) → (answerOf r [] (view (now (s .exit))), machineOf (now (s .exit)) b) ≡ goneOn v (decode (saved (now (s .entry)))) (view (now (s .entry))) b) ⌝ }
-{
-    let p = control::decode(state::load_saved(s));
-    if control::fits_at(p, v) {
-        let n = control::resume(s, p, v);
-        return halted_control(s, n);
-    }
-    Step::Refused(16)
-}
-
-// At a read's or write's.
-fn proceed_endpoint(s: &mut [u8; STATE_LEN], v: u32) -> Step
-    requires { ⌜ saved (now s) .tag ≡ 4 ⌝ }
-    ensures { λ r. ⌜ ((b : List ℕ) → (answerOf r [] (view (now (s .exit))), machineOf (now (s .exit)) b) ≡ goneOn v (decode (saved (now (s .entry)))) (view (now (s .entry))) b) ⌝ }
-{
-    let p = endpoint::decode(state::load_saved(s));
-    if endpoint::fits_at(p, v) {
-        let n = endpoint::resume(p, v);
-        return halted_endpoint(s, n);
-    }
-    Step::Refused(16)
-}
-
-// At a paced advance's.
-fn proceed_advance(s: &mut [u8; STATE_LEN], v: u32) -> Step
-    requires { ⌜ saved (now s) .tag ≡ 5 ⌝ }
-    ensures { λ r. ⌜ ((b : List ℕ) → (answerOf r [] (view (now (s .exit))), machineOf (now (s .exit)) b) ≡ goneOn v (decode (saved (now (s .entry)))) (view (now (s .entry))) b) ⌝ }
-{
-    let p = iso_in::codec::decode(state::load_saved(s));
-    if advance::fits_at(p, v) {
-        let n = advance::resume(s, p, v);
-        return halted_advance(s, n);
-    }
-    Step::Refused(16)
-}
-
-// At an interrupt's.
+// Goes on at an interrupt's point.
 fn proceed_interrupt(s: &mut [u8; STATE_LEN], slots: &mut [u8], v: u32) -> Step
     requires { ⌜ saved (now s) .tag ≡ 6 ⌝ }
     ensures { λ r. ⌜ (answerOf r [] (view (now (s .exit))), machineOf (now (s .exit)) (now (slots .exit))) ≡ goneOn v (decode (saved (now (s .entry)))) (view (now (s .entry))) (now (slots .entry)) ⌝ }
+    ensures { λ r. ⌜ Kept r (now (s .entry)) (now (s .exit)) ⌝ }
 {
     let p = handler_codec::decode(state::load_saved(s));
     if handler::fits_at(p, v) {
@@ -98,6 +33,7 @@ fn proceed_interrupt(s: &mut [u8; STATE_LEN], slots: &mut [u8], v: u32) -> Step
 // With the slots: as long as the driver's buffers.
 fn proceed_at(s: &mut [u8; STATE_LEN], slots: &mut [u8], v: u32) -> Step
     ensures { λ r. ⌜ (answerOf r [] (view (now (s .exit))), machineOf (now (s .exit)) (now (slots .exit))) ≡ goneOn v (decode (saved (now (s .entry)))) (view (now (s .entry))) (now (slots .entry)) ⌝ }
+    ensures { λ r. ⌜ Kept r (now (s .entry)) (now (s .exit)) ⌝ }
 {
     match tag(s) {
         1 => proceed_driver(s, v),
@@ -114,6 +50,7 @@ fn proceed_at(s: &mut [u8; STATE_LEN], slots: &mut [u8], v: u32) -> Step
 pub fn proceed(s: &mut [u8; STATE_LEN], slots: &mut [u8], v: u32) -> Step
     ensures { λ r. ⌜ ((a : List ℕ) → (answerOf r [] (view (now (s .exit))), machineOf (now (s .exit)) (lentOr (view (now (s .entry))) (now (slots .entry)) (now (slots .exit)) a)) ≡ drive (go v) (machineOf (now (s .entry)) a) (now (slots .entry))) ⌝ }
     ensures { λ _. ⌜ AsLent (view (now (s .entry))) (now (slots .entry)) (now (slots .exit)) ⌝ }
+    ensures { λ r. ⌜ Kept r (now (s .entry)) (now (s .exit)) ⌝ }
 {
     if slots_fit(s, slots) {
         return proceed_at(s, slots, v);

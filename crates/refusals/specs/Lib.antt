@@ -2,3 +2,4 @@ pub mod Left
 pub mod Outcomes
 pub mod Scripts
 pub mod Refusals
+pub mod Bytes

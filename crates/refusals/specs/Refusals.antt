@@ -119,8 +119,8 @@ go-is v u d a b false = goes-on v u d a b
 
 start-is : (c : Config) (row : ℕ) (m : Machine Answer Driver) (b : Buf) → Is (λ n. m) (started calls driverOf (λ s. s) c row m b)
 start-is c zero m b = finishes (λ n. m) false (run {i = false} conc (do
-    new (c .callback)
-    ret {A = ℕ} 0) (conc .act no-wakes (fresh.freshDriver (c .size) (c .count) (flag (c .callback)), b)))
+  new (c .callback)
+  ret {A = ℕ} 0) (conc .act no-wakes (fresh.freshDriver (c .size) (c .count) (flag (c .callback)), b)))
 start-is c (suc n) m b = refl
 
 -- ---- every call

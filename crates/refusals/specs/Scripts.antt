@@ -108,15 +108,15 @@ other-leaves BeginSetup s = after refl (each (after refl begins) (refuses refl))
 other-leaves PollSetup s = after refl (each (after refl (each (after refl (each (after refl (after refl (answers tt))) (answers tt))) (refuses refl))) (refuses refl))
 other-leaves PollDataIn s = after refl (each (after refl (each (tests
     (λ w. after refl (each
-      (after refl (after refl (after refl (picks (eqb (epOn (s .0) Out 0 .len) 0) (answers tt) (refuses (ap cleared (sym w)))))))
-      (after refl (each (after refl (refuses refl)) (after refl (answers tt))))))
+    (after refl (after refl (after refl (picks (eqb (epOn (s .0) Out 0 .len) 0) (answers tt) (refuses (ap cleared (sym w)))))))
+    (after refl (each (after refl (refuses refl)) (after refl (answers tt))))))
     (λ w. after refl (each
-      (each
-        (after refl (each
-          (after refl (after refl (after refl (picks (eqb (epOn (s .0) Out 0 .len) 0) (answers tt) (refuses (ap cleared (sym w)))))))
-          (after refl (each (after refl (refuses refl)) (after refl (answers tt))))))
-        (after refl (after refl (answers tt))))
-      (after refl (each (after refl (refuses refl)) (answers tt))))))
+    (each
+    (after refl (each
+    (after refl (after refl (after refl (picks (eqb (epOn (s .0) Out 0 .len) 0) (answers tt) (refuses (ap cleared (sym w)))))))
+    (after refl (each (after refl (refuses refl)) (after refl (answers tt))))))
+    (after refl (after refl (answers tt))))
+    (after refl (each (after refl (refuses refl)) (answers tt))))))
     (refuses refl))) (refuses refl))
   where
     cleared : Bool → St

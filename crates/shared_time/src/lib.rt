@@ -1,13 +1,12 @@
-// The calls that a driver's bus time goes through: start-up, an endpoint's enabling and continue, with the record that up to four drivers share
-// (crate `bus_time`). `driver` is the caller's number in the record, modulo 4. Each call is the driver's own, but for row 19.
-mod charges; // charges.rt: the record after a call
+// The calls that a driver's bus time goes through: start-up and an endpoint's enabling, with the record that up to four drivers share
+// (crate `bus_time`); continue is in crate `usbhs`. `driver` is the caller's number in the record, modulo 4. Each call is the driver's own, but for row 19.
+pub mod charges; // charges.rt: the record after a call
 
 use bus_time::TIME_LEN;
 use bus_time::entry;
 use bus_time::passes;
 use charges::charge_on;
 use charges::charged;
-use charges::gone_on;
 use charges::started;
 use regs::Dir;
 use rows::is_allocated;
@@ -21,9 +20,9 @@ ghost use mathlib.Core.List.{List, []};
 ghost use Prim.Native.Nat.{ℕ};
 ghost use lib.Dec.{eqb};
 ghost use Rattle.state.specs.State.{view, saved};
-ghost use Rattle.script.specs.Machine.{start, begin, go};
+ghost use Rattle.script.specs.Machine.{start, begin};
 ghost use Rattle.script.specs.Calls.{slotted, SetEnabled, startRow};
-ghost use Rattle.way.specs.Under.{decode, machineOf, answerOf, configOf, lentOr, AsLent};
+ghost use Rattle.way.specs.Under.{decode, machineOf, answerOf, configOf, lentOr, AsLent, Kept};
 ghost use Rattle.shared_time.specs.Sharing.{sharedCall};
 ghost use Rattle.shared_time.specs.Accepts.{accepts};
 
@@ -38,8 +37,9 @@ pub fn start_up(
     callback: bool,
 ) -> Step
     ensures { λ r. ⌜ ((a : List ℕ) → ((answerOf r [] (view (now (s .exit))), machineOf (now (s .exit)) (cond (eqb (startRow (configOf size count callback) (now (slots .entry))) 0) (now (slots .entry)) a)), now (time .exit)) ≡ sharedCall driver (start (configOf size count callback)) (machineOf (now (s .entry)) a) (now (time .entry)) (now (slots .entry))) ⌝ }
+    ensures { λ r. ⌜ Kept r (now (s .entry)) (now (s .exit)) ⌝ }
 {
-    let step = driver_calls::starting::start_up(s, slots, size, count, callback);
+    let step = starting_calls::start_up(s, slots, size, count, callback);
     started(time, driver, step);
     step
 }
@@ -68,6 +68,7 @@ fn enable(
 ) -> Step
     ensures { λ r. ⌜ ((a : List ℕ) → ((answerOf r [] (view (now (s .exit))), machineOf (now (s .exit)) (lentOr (view (now (s .entry))) (now (slots .entry)) (now (slots .exit)) a)), now (time .exit)) ≡ sharedCall driver (begin (slotted (SetEnabled dir e true))) (machineOf (now (s .entry)) a) (now (time .entry)) (now (slots .entry))) ⌝ }
     ensures { λ _. ⌜ AsLent (view (now (s .entry))) (now (slots .entry)) (now (slots .exit)) ⌝ }
+    ensures { λ r. ⌜ Kept r (now (s .entry)) (now (s .exit)) ⌝ }
 {
     let at = entry(driver, dir, e);
     let charge = charge_on(s, dir, e);
@@ -94,25 +95,10 @@ pub fn begin_set_enabled(
 ) -> Step
     ensures { λ r. ⌜ ((a : List ℕ) → ((answerOf r [] (view (now (s .exit))), machineOf (now (s .exit)) (lentOr (view (now (s .entry))) (now (slots .entry)) (now (slots .exit)) a)), now (time .exit)) ≡ sharedCall driver (begin (slotted (SetEnabled dir e on))) (machineOf (now (s .entry)) a) (now (time .entry)) (now (slots .entry))) ⌝ }
     ensures { λ _. ⌜ AsLent (view (now (s .entry))) (now (slots .entry)) (now (slots .exit)) ⌝ }
+    ensures { λ r. ⌜ Kept r (now (s .entry)) (now (s .exit)) ⌝ }
 {
     if on {
         return enable(s, slots, time, driver, dir, e);
     }
     bus_calls::bus_begins::begin_set_enabled(s, slots, dir, e, false)
-}
-
-// Goes on with the operation under way: a write of ep_config gives back what it clears.
-pub fn proceed(
-    s: &mut [u8; STATE_LEN],
-    slots: &mut [u8],
-    time: &mut [u16; TIME_LEN],
-    driver: u32,
-    v: u32,
-) -> Step
-    ensures { λ r. ⌜ ((a : List ℕ) → ((answerOf r [] (view (now (s .exit))), machineOf (now (s .exit)) (lentOr (view (now (s .entry))) (now (slots .entry)) (now (slots .exit)) a)), now (time .exit)) ≡ sharedCall driver (go v) (machineOf (now (s .entry)) a) (now (time .entry)) (now (slots .entry))) ⌝ }
-    ensures { λ _. ⌜ AsLent (view (now (s .entry))) (now (slots .entry)) (now (slots .exit)) ⌝ }
-{
-    let step = proceeding::proceed(s, slots, v);
-    gone_on(time, driver, step);
-    step
 }

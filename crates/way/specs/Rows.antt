@@ -126,6 +126,14 @@ idle-of false k stage h = absurd (true≢false (sym h))
 pub passed-idle : (k : ℕ) (u : Under) (d : Driver) → eqb (stopOf (isIdle u) k (d .globals .stage)) 0 ≡ true → wayOf u ≡ idle
 passed-idle k u d h = idle-way u (idle-of (isIdle u) k (d .globals .stage) h)
 
+-- no row stops it
+abbrev pub Passes : ℕ → Under → Driver → Type 0
+Passes k u d = eqb (stopOf (isIdle u) k (d .globals .stage)) 0 ≡ true
+
+-- an answer of a call that ends at once: nothing was under way, nothing is
+pub answered-idle : (k : ℕ) (u : Under) (d after : Driver) (b : Buf) (a : Answer) → Passes k u d → (ended a, machineAt u after b) ≡ halts (ends a (after, b))
+answered-idle k u d after b a h = ap (λ (w : Way Answer Driver). (ended a, record { way = w; st = after; buf = b })) (passed-idle k u d h)
+
 -- by whether it is idle (x) and at the stage (y)
 staged-past : (i x y : Bool) (u : Under) (o : Out St Answer) (d : Driver) (b : Buf) → isIdle u ≡ x → cond x (haltsAs i (cond y o (ends (Refused 4) (d, b)))) (ended (Refused 3), machineAt u d b) ≡ cond (eqb (cond x (cond y 0 4) 3) 0) (haltsAs i o) (ended (Refused (cond x (cond y 0 4) 3)), machineAt u d b)
 staged-past i true true u o d b h = refl

@@ -35,7 +35,7 @@ same-length c = search needs
 returns : tie.Need-returns
 returns c =
     let x = c .before .before .before .before .before .before .before .before .before .before .before .args in
-    (λ a. turned (x .driver) (x .dir) (x .e) (decode (saved (now (x .s)))) (view (now (x .s))) a (now (x .slots)) (now (x .time)) (sym (c .before .is-accepted .ensures) ∙ c .if2 .taken) (rw (← c .before .before .before .before .before .before .before .before .before .entry .ensures .0, ← c .before .before .before .before .before .before .before .charge-on .ensures .0) (sym (c .before .before .before .before .before .passes .ensures) ∙ c .before .before .before .before .if1 .taken)), λ h. refl)
+    (λ a. turned (x .driver) (x .dir) (x .e) (decode (saved (now (x .s)))) (view (now (x .s))) a (now (x .slots)) (now (x .time)) (sym (c .before .is-accepted .ensures) ∙ c .if2 .taken) (rw (← c .before .before .before .before .before .before .before .before .before .entry .ensures .0, ← c .before .before .before .before .before .before .before .charge-on .ensures .0) (sym (c .before .before .before .before .before .passes .ensures) ∙ c .before .before .before .before .if1 .taken)), (λ h. refl, λ n q. refl))
 
 begin-set-enabled-requires : tie.Need-begin-set-enabled-requires
 begin-set-enabled-requires c κs = search needs
@@ -62,10 +62,12 @@ same-length-3 c = search needs
 returns-3 : tie.Need-returns-3
 returns-3 c =
     let k = c .before .before .before .before .before .before .before .before .before .before in
-    let x = k .before .before .before .before .args in
-    (λ a. begun (x .driver) (x .dir) (x .e) (decode (saved (now (x .s)))) (view (now (x .s))) a (now (x .slots)) (now (x .time)) _ _ _ _ (k .before .before .entry .ensures .0) (k .charge-on .ensures .0)
-    (sym (c .before .before .before .before .before .before .before .before .passes .ensures) ∙ c .before .before .before .before .before .before .before .if1 .left)
-    (c .before .before .before .before .begin-set-enabled2 .ensures .0 a) (c .charged .ensures _), c .before .before .before .before .begin-set-enabled2 .ensures .1)
+    let x = k .before .before .before .before .args in (
+      λ a. begun (x .driver) (x .dir) (x .e) (decode (saved (now (x .s)))) (view (now (x .s))) a (now (x .slots)) (now (x .time)) _ _ _ _ (k .before .before .entry .ensures .0) (k .charge-on .ensures .0)
+          (sym (c .before .before .before .before .before .before .before .before .passes .ensures) ∙ c .before .before .before .before .before .before .before .if1 .left)
+          (c .before .before .before .before .begin-set-enabled2 .ensures .0 a) (c .charged .ensures _),
+      c .before .before .before .before .begin-set-enabled2 .ensures .1,
+    )
 
 pub enable-spec : {M : Type 1} → statement M
 enable-spec =

@@ -8,7 +8,7 @@ use Rattle.shared_time.proofs.start_up.Statement.{statement}
 use Rattle.shared_time.proofs.start_up.Tie as tie
 use Rattle.shared_time.proofs.start_up.Reads as reads
 use Rattle.shared_time.proofs.start_up.Lts as lts
-use Rattle.driver_calls.proofs.starting.start_up.Reads as start-up-reads
+use Rattle.starting_calls.proofs.start_up.Reads as start-up-reads
 use Rattle.shared_time.proofs.charges.started.Reads as started-reads
 
 start-up-requires : tie.Need-start-up-requires
@@ -18,9 +18,9 @@ started-requires : tie.Need-started-requires
 started-requires c κs = search needs
 
 returns : tie.Need-returns
-returns c a =
+returns c =
     let x = c .before .before .before .before .before .args in
-    settles (x .driver) (start (configOf (x .size) (x .count) (x .callback))) (machineOf (now (x .s)) a) (now (x .time)) (now (x .slots)) _ _ refl (c .before .before .start-up .ensures a) (c .started .ensures _ _)
+    (λ a. settles (x .driver) (start (configOf (x .size) (x .count) (x .callback))) (machineOf (now (x .s)) a) (now (x .time)) (now (x .slots)) _ _ refl (c .before .before .start-up .ensures .0 a) (c .started .ensures _ _), c .before .before .start-up .ensures .1)
 
 pub start-up-spec : {M : Type 1} → statement M
 start-up-spec = tie.close (tie.spec start-up-requires started-requires returns)

@@ -1,3 +1,5 @@
+use Rattle.state.specs.State.{view}
+use denote.Ref.{now}
 use lib.Dec.{eqb, ltb}
 use Rattle.script.specs.Statics.{isOn}
 use Rattle.request.specs.Records.{on-driver}
@@ -41,7 +43,7 @@ unready-requires : tie.Need-unready-requires
 unready-requires c κs = search needs
 
 returns-3 : tie.Need-returns-3
-returns-3 c = (λ b. accept-asks _ _ _ _ b (c .before .before .clear-wakes .ensures .0) (c .unready .ensures .0) (on-driver (λ x. eqb (x .stage) 2) (c .before .before .before .before .before .before .before .before .before .before .load-globals .ensures) (c .before .before .before .before .before .before .before .before .before .is-started .ensures) (not-false (c .before .before .before .before .before .before .before .before .before .is-started .result) (c .before .before .before .before .before .before .before .before .if1 .left))) (on-driver (λ x. isOn (x .«setup_ready»)) (c .before .before .before .before .before .before .before .before .before .before .load-globals .ensures) (c .before .before .before .before .before .before .before .is-on .ensures) (c .before .before .before .before .before .before .if2 .left)) (c .before .before .before .before .set-request .ensures .0), (c .unready .ensures .1 ∙ c .before .before .clear-wakes .ensures .1 ∙ c .before .before .before .before .set-request .ensures .1, refl))
+returns-3 c = (λ b. accept-asks (view (now (c .before .before .before .before .before .before .before .before .before .before .before .before .args .s))) _ _ _ b (c .before .before .clear-wakes .ensures .0) (c .unready .ensures .0) (on-driver (λ x. eqb (x .stage) 2) (c .before .before .before .before .before .before .before .before .before .before .load-globals .ensures) (c .before .before .before .before .before .before .before .before .before .is-started .ensures) (not-false (c .before .before .before .before .before .before .before .before .before .is-started .result) (c .before .before .before .before .before .before .before .before .if1 .left))) (on-driver (λ x. isOn (x .«setup_ready»)) (c .before .before .before .before .before .before .before .before .before .before .load-globals .ensures) (c .before .before .before .before .before .before .before .is-on .ensures) (c .before .before .before .before .before .before .if2 .left)) (c .before .before .before .before .set-request .ensures .0), (c .unready .ensures .1 ∙ c .before .before .clear-wakes .ensures .1 ∙ c .before .before .before .before .set-request .ensures .1, refl))
 
 pub begin-accept-spec : {M : Type 1} → statement M
 begin-accept-spec =

@@ -1,3 +1,5 @@
+use Rattle.state.specs.State.{view}
+use denote.Ref.{now}
 use lib.ListN.{length}
 use mathlib.Core.Path.{refl, sym, _∙_}
 use borrow.Author.Tests.{ltb-false}
@@ -80,7 +82,7 @@ same-length : tie.Need-same-length
 same-length c = search needs
 
 returns-4 : tie.Need-returns-4
-returns-4 c = (in-last _ _ _ _ _ _ _ (c .before .before .before .before .before .before .before .before .before .before .before .before .before .before .before .before .before .before .before .before .before .before .before .before .before .before .before .args .bytes .now) _ (c .before .before .before .before .before .before .before .before .before .before .before .before .before .before .before .before .before .before .before .before .before .before .before .before .before .before .before .args .first) (c .before .before .before .before .before .before .before .before .before .before .before .before .before .before .before .before .length16 .ensures) (c .before .before .before .before .before .before .before .before .before .before .before .clear-wakes .ensures .0) (c .before .before .before .before .before .before .before .before .fill0 .ensures) (c .before .before .before .before .unready .ensures .0) (on-driver (λ x. eqb (x .stage) 2) (c .before .before .before .before .before .before .before .before .before .before .before .before .before .before .before .before .before .before .before .before .before .before .before .load-globals .ensures) (c .before .before .before .before .before .before .before .before .before .before .before .before .before .before .before .before .before .before .before .before .before .before .is-started .ensures) (not-false (c .before .before .before .before .before .before .before .before .before .before .before .before .before .before .before .before .before .before .before .before .before .before .is-started .result) (c .before .before .before .before .before .before .before .before .before .before .before .before .before .before .before .before .before .before .before .before .before .if1 .left))) (on-driver (λ x. ltb (x .«ep0_max») (length (c .before .before .before .before .before .before .before .before .before .before .before .before .before .before .before .before .before .before .before .before .before .before .before .before .before .before .before .args .bytes .now))) (c .before .before .before .before .before .before .before .before .before .before .before .before .before .before .before .before .before .before .before .before .before .before .before .load-globals .ensures) (c .before .before .before .before .before .before .before .before .before .before .before .before .before .before .before .before .before .before .before .before .is-above .ensures) (c .before .before .before .before .before .before .before .before .before .before .before .before .before .before .before .before .before .before .before .if2 .left)) (on-driver (λ x. isOn (x .«setup_ready»)) (c .before .before .before .before .before .before .before .before .before .before .before .before .before .before .before .before .before .before .before .before .before .before .before .load-globals .ensures) (c .before .before .before .before .before .before .before .before .before .before .before .before .before .before .before .before .before .before .is-on .ensures) (c .before .before .before .before .before .before .before .before .before .before .before .before .before .before .before .before .before .if3 .left)) (c .before .before .before .before .before .before .before .before .before .before .before .before .before .before .before .before .before .before .before .before .before .before .before .before .before .before .before .args .last) _ _ (c .before .before .before .if4 .taken) (c .word-of .ensures) (c .before .before .before .before .before .before .before .before .before .before .before .before .before .before .flag-as .ensures) (c .before .before .before .before .before .before .before .before .before .before .before .before .before .set-data-in .ensures .0) (c .before .close-out .ensures .0), (c .before .close-out .ensures .1 ∙ c .before .before .before .before .unready .ensures .1 ∙ c .before .before .before .before .before .before .before .before .before .before .before .clear-wakes .ensures .1 ∙ c .before .before .before .before .before .before .before .before .before .before .before .before .before .set-data-in .ensures .1, refl))
+returns-4 c = (in-last (view (now (c .before .before .before .before .before .before .before .before .before .before .before .before .before .before .before .before .before .before .before .before .before .before .before .before .before .before .before .args .s))) _ _ _ _ _ _ (c .before .before .before .before .before .before .before .before .before .before .before .before .before .before .before .before .before .before .before .before .before .before .before .before .before .before .before .args .bytes .now) _ (c .before .before .before .before .before .before .before .before .before .before .before .before .before .before .before .before .before .before .before .before .before .before .before .before .before .before .before .args .first) (c .before .before .before .before .before .before .before .before .before .before .before .before .before .before .before .before .length16 .ensures) (c .before .before .before .before .before .before .before .before .before .before .before .clear-wakes .ensures .0) (c .before .before .before .before .before .before .before .before .fill0 .ensures) (c .before .before .before .before .unready .ensures .0) (on-driver (λ x. eqb (x .stage) 2) (c .before .before .before .before .before .before .before .before .before .before .before .before .before .before .before .before .before .before .before .before .before .before .before .load-globals .ensures) (c .before .before .before .before .before .before .before .before .before .before .before .before .before .before .before .before .before .before .before .before .before .before .is-started .ensures) (not-false (c .before .before .before .before .before .before .before .before .before .before .before .before .before .before .before .before .before .before .before .before .before .before .is-started .result) (c .before .before .before .before .before .before .before .before .before .before .before .before .before .before .before .before .before .before .before .before .before .if1 .left))) (on-driver (λ x. ltb (x .«ep0_max») (length (c .before .before .before .before .before .before .before .before .before .before .before .before .before .before .before .before .before .before .before .before .before .before .before .before .before .before .before .args .bytes .now))) (c .before .before .before .before .before .before .before .before .before .before .before .before .before .before .before .before .before .before .before .before .before .before .before .load-globals .ensures) (c .before .before .before .before .before .before .before .before .before .before .before .before .before .before .before .before .before .before .before .before .is-above .ensures) (c .before .before .before .before .before .before .before .before .before .before .before .before .before .before .before .before .before .before .before .if2 .left)) (on-driver (λ x. isOn (x .«setup_ready»)) (c .before .before .before .before .before .before .before .before .before .before .before .before .before .before .before .before .before .before .before .before .before .before .before .load-globals .ensures) (c .before .before .before .before .before .before .before .before .before .before .before .before .before .before .before .before .before .before .is-on .ensures) (c .before .before .before .before .before .before .before .before .before .before .before .before .before .before .before .before .before .if3 .left)) (c .before .before .before .before .before .before .before .before .before .before .before .before .before .before .before .before .before .before .before .before .before .before .before .before .before .before .before .args .last) _ _ (c .before .before .before .if4 .taken) (c .word-of .ensures) (c .before .before .before .before .before .before .before .before .before .before .before .before .before .before .flag-as .ensures) (c .before .before .before .before .before .before .before .before .before .before .before .before .before .set-data-in .ensures .0) (c .before .close-out .ensures .0), (c .before .close-out .ensures .1 ∙ c .before .before .before .before .unready .ensures .1 ∙ c .before .before .before .before .before .before .before .before .before .before .before .clear-wakes .ensures .1 ∙ c .before .before .before .before .before .before .before .before .before .before .before .before .before .set-data-in .ensures .1, refl))
 
 set-armed-requires : tie.Need-set-armed-requires
 set-armed-requires c κs = search needs
@@ -92,7 +94,7 @@ same-length-2 : tie.Need-same-length-2
 same-length-2 c = search needs
 
 returns-5 : tie.Need-returns-5
-returns-5 c = (in-more _ _ _ _ _ _ _ (c .before .before .before .before .before .before .before .before .before .before .before .before .before .before .before .before .before .before .before .before .before .before .before .before .before .before .args .bytes .now) _ (c .before .before .before .before .before .before .before .before .before .before .before .before .before .before .before .before .before .before .before .before .before .before .before .before .before .before .args .first) (c .before .before .before .before .before .before .before .before .before .before .before .before .before .before .before .length16 .ensures) (c .before .before .before .before .before .before .before .before .before .before .clear-wakes .ensures .0) (c .before .before .before .before .before .before .before .fill0 .ensures) (c .before .before .before .unready .ensures .0) (on-driver (λ x. eqb (x .stage) 2) (c .before .before .before .before .before .before .before .before .before .before .before .before .before .before .before .before .before .before .before .before .before .before .load-globals .ensures) (c .before .before .before .before .before .before .before .before .before .before .before .before .before .before .before .before .before .before .before .before .before .is-started .ensures) (not-false (c .before .before .before .before .before .before .before .before .before .before .before .before .before .before .before .before .before .before .before .before .before .is-started .result) (c .before .before .before .before .before .before .before .before .before .before .before .before .before .before .before .before .before .before .before .before .if1 .left))) (on-driver (λ x. ltb (x .«ep0_max») (length (c .before .before .before .before .before .before .before .before .before .before .before .before .before .before .before .before .before .before .before .before .before .before .before .before .before .before .args .bytes .now))) (c .before .before .before .before .before .before .before .before .before .before .before .before .before .before .before .before .before .before .before .before .before .before .load-globals .ensures) (c .before .before .before .before .before .before .before .before .before .before .before .before .before .before .before .before .before .before .before .is-above .ensures) (c .before .before .before .before .before .before .before .before .before .before .before .before .before .before .before .before .before .before .if2 .left)) (on-driver (λ x. isOn (x .«setup_ready»)) (c .before .before .before .before .before .before .before .before .before .before .before .before .before .before .before .before .before .before .before .before .before .before .load-globals .ensures) (c .before .before .before .before .before .before .before .before .before .before .before .before .before .before .before .before .before .is-on .ensures) (c .before .before .before .before .before .before .before .before .before .before .before .before .before .before .before .before .if3 .left)) (c .before .before .before .before .before .before .before .before .before .before .before .before .before .before .before .before .before .before .before .before .before .before .before .before .before .before .args .last) _ (c .before .before .if4 .left) (c .before .before .before .before .before .before .before .before .before .before .before .before .before .flag-as .ensures) (c .before .before .before .before .before .before .before .before .before .before .before .before .set-data-in .ensures .0) (c .set-armed .ensures .0), (c .set-armed .ensures .1 ∙ c .before .before .before .unready .ensures .1 ∙ c .before .before .before .before .before .before .before .before .before .before .clear-wakes .ensures .1 ∙ c .before .before .before .before .before .before .before .before .before .before .before .before .set-data-in .ensures .1, refl))
+returns-5 c = (in-more (view (now (c .before .before .before .before .before .before .before .before .before .before .before .before .before .before .before .before .before .before .before .before .before .before .before .before .before .before .args .s))) _ _ _ _ _ _ (c .before .before .before .before .before .before .before .before .before .before .before .before .before .before .before .before .before .before .before .before .before .before .before .before .before .before .args .bytes .now) _ (c .before .before .before .before .before .before .before .before .before .before .before .before .before .before .before .before .before .before .before .before .before .before .before .before .before .before .args .first) (c .before .before .before .before .before .before .before .before .before .before .before .before .before .before .before .length16 .ensures) (c .before .before .before .before .before .before .before .before .before .before .clear-wakes .ensures .0) (c .before .before .before .before .before .before .before .fill0 .ensures) (c .before .before .before .unready .ensures .0) (on-driver (λ x. eqb (x .stage) 2) (c .before .before .before .before .before .before .before .before .before .before .before .before .before .before .before .before .before .before .before .before .before .before .load-globals .ensures) (c .before .before .before .before .before .before .before .before .before .before .before .before .before .before .before .before .before .before .before .before .before .is-started .ensures) (not-false (c .before .before .before .before .before .before .before .before .before .before .before .before .before .before .before .before .before .before .before .before .before .is-started .result) (c .before .before .before .before .before .before .before .before .before .before .before .before .before .before .before .before .before .before .before .before .if1 .left))) (on-driver (λ x. ltb (x .«ep0_max») (length (c .before .before .before .before .before .before .before .before .before .before .before .before .before .before .before .before .before .before .before .before .before .before .before .before .before .before .args .bytes .now))) (c .before .before .before .before .before .before .before .before .before .before .before .before .before .before .before .before .before .before .before .before .before .before .load-globals .ensures) (c .before .before .before .before .before .before .before .before .before .before .before .before .before .before .before .before .before .before .before .is-above .ensures) (c .before .before .before .before .before .before .before .before .before .before .before .before .before .before .before .before .before .before .if2 .left)) (on-driver (λ x. isOn (x .«setup_ready»)) (c .before .before .before .before .before .before .before .before .before .before .before .before .before .before .before .before .before .before .before .before .before .before .load-globals .ensures) (c .before .before .before .before .before .before .before .before .before .before .before .before .before .before .before .before .before .is-on .ensures) (c .before .before .before .before .before .before .before .before .before .before .before .before .before .before .before .before .if3 .left)) (c .before .before .before .before .before .before .before .before .before .before .before .before .before .before .before .before .before .before .before .before .before .before .before .before .before .before .args .last) _ (c .before .before .if4 .left) (c .before .before .before .before .before .before .before .before .before .before .before .before .before .flag-as .ensures) (c .before .before .before .before .before .before .before .before .before .before .before .before .set-data-in .ensures .0) (c .set-armed .ensures .0), (c .set-armed .ensures .1 ∙ c .before .before .before .unready .ensures .1 ∙ c .before .before .before .before .before .before .before .before .before .before .clear-wakes .ensures .1 ∙ c .before .before .before .before .before .before .before .before .before .before .before .before .set-data-in .ensures .1, refl))
 
 pub begin-data-in-spec : {M : Type 1} → statement M
 begin-data-in-spec =

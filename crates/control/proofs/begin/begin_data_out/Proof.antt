@@ -1,3 +1,5 @@
+use Rattle.state.specs.State.{view}
+use denote.Ref.{now}
 use mathlib.Core.Path.{refl, sym, _∙_}
 use borrow.Author.Tests.{ltb-false}
 use lib.Dec.{eqb, ltb}
@@ -60,10 +62,10 @@ cast-t18 : tie.Need-cast-t18
 cast-t18 c = search needs
 
 returns-4 : tie.Need-returns-4
-returns-4 c = (λ b. rw (c .before .if4 .taken, c .word-of .ensures) (out-first _ _ _ _ b _ (c .before .before .before .before .before .before .set-request .ensures .0) (c .before .before .before .before .clear-wakes .ensures .0) (c .before .before .arm-out .ensures .0 ∙ rw (c .before .before .before .before .before .before .before .before .length16 .ensures)) (on-driver (λ x. eqb (x .stage) 2) (c .before .before .before .before .before .before .before .before .before .before .before .before .before .before .before .load-globals .ensures) (c .before .before .before .before .before .before .before .before .before .before .before .before .before .before .is-started .ensures) (not-false (c .before .before .before .before .before .before .before .before .before .before .before .before .before .before .is-started .result) (c .before .before .before .before .before .before .before .before .before .before .before .before .before .if1 .left))) (on-driver (λ x. ltb (x .«ep0_max») (c .before .before .before .before .before .before .before .before .before .before .before .before .before .before .before .before .before .args .n)) (c .before .before .before .before .before .before .before .before .before .before .before .before .before .before .before .load-globals .ensures) (c .before .before .before .before .before .before .before .before .before .before .before .before .is-above .ensures) (c .before .before .before .before .before .before .before .before .before .before .before .if2 .left)) (on-driver (λ x. isOn (x .«setup_ready»)) (c .before .before .before .before .before .before .before .before .before .before .before .before .before .before .before .load-globals .ensures) (c .before .before .before .before .before .before .before .before .before .before .is-on .ensures) (c .before .before .before .before .before .before .before .before .before .if3 .left))), (c .before .before .arm-out .ensures .1 ∙ c .before .before .before .before .clear-wakes .ensures .1 ∙ c .before .before .before .before .before .before .set-request .ensures .1, refl))
+returns-4 c = (λ b. rw (c .before .if4 .taken, c .word-of .ensures) (out-first (view (now (c .before .before .before .before .before .before .before .before .before .before .before .before .before .before .before .before .before .args .s))) _ _ _ b _ (c .before .before .before .before .before .before .set-request .ensures .0) (c .before .before .before .before .clear-wakes .ensures .0) (c .before .before .arm-out .ensures .0 ∙ rw (c .before .before .before .before .before .before .before .before .length16 .ensures)) (on-driver (λ x. eqb (x .stage) 2) (c .before .before .before .before .before .before .before .before .before .before .before .before .before .before .before .load-globals .ensures) (c .before .before .before .before .before .before .before .before .before .before .before .before .before .before .is-started .ensures) (not-false (c .before .before .before .before .before .before .before .before .before .before .before .before .before .before .is-started .result) (c .before .before .before .before .before .before .before .before .before .before .before .before .before .if1 .left))) (on-driver (λ x. ltb (x .«ep0_max») (c .before .before .before .before .before .before .before .before .before .before .before .before .before .before .before .before .before .args .n)) (c .before .before .before .before .before .before .before .before .before .before .before .before .before .before .before .load-globals .ensures) (c .before .before .before .before .before .before .before .before .before .before .before .before .is-above .ensures) (c .before .before .before .before .before .before .before .before .before .before .before .if2 .left)) (on-driver (λ x. isOn (x .«setup_ready»)) (c .before .before .before .before .before .before .before .before .before .before .before .before .before .before .before .load-globals .ensures) (c .before .before .before .before .before .before .before .before .before .before .is-on .ensures) (c .before .before .before .before .before .before .before .before .before .if3 .left))), (c .before .before .arm-out .ensures .1 ∙ c .before .before .before .before .clear-wakes .ensures .1 ∙ c .before .before .before .before .before .before .set-request .ensures .1, refl))
 
 returns-5 : tie.Need-returns-5
-returns-5 c = (λ b. rw (c .if4 .left) (out-later _ _ _ _ b _ (c .before .before .before .before .before .set-request .ensures .0) (c .before .before .before .clear-wakes .ensures .0) (c .before .arm-out .ensures .0 ∙ rw (c .before .before .before .before .before .before .before .length16 .ensures)) (on-driver (λ x. eqb (x .stage) 2) (c .before .before .before .before .before .before .before .before .before .before .before .before .before .before .load-globals .ensures) (c .before .before .before .before .before .before .before .before .before .before .before .before .before .is-started .ensures) (not-false (c .before .before .before .before .before .before .before .before .before .before .before .before .before .is-started .result) (c .before .before .before .before .before .before .before .before .before .before .before .before .if1 .left))) (on-driver (λ x. ltb (x .«ep0_max») (c .before .before .before .before .before .before .before .before .before .before .before .before .before .before .before .before .args .n)) (c .before .before .before .before .before .before .before .before .before .before .before .before .before .before .load-globals .ensures) (c .before .before .before .before .before .before .before .before .before .before .before .is-above .ensures) (c .before .before .before .before .before .before .before .before .before .before .if2 .left)) (on-driver (λ x. isOn (x .«setup_ready»)) (c .before .before .before .before .before .before .before .before .before .before .before .before .before .before .load-globals .ensures) (c .before .before .before .before .before .before .before .before .before .is-on .ensures) (c .before .before .before .before .before .before .before .before .if3 .left))), (c .before .arm-out .ensures .1 ∙ c .before .before .before .clear-wakes .ensures .1 ∙ c .before .before .before .before .before .set-request .ensures .1, refl))
+returns-5 c = (λ b. rw (c .if4 .left) (out-later (view (now (c .before .before .before .before .before .before .before .before .before .before .before .before .before .before .before .before .args .s))) _ _ _ b _ (c .before .before .before .before .before .set-request .ensures .0) (c .before .before .before .clear-wakes .ensures .0) (c .before .arm-out .ensures .0 ∙ rw (c .before .before .before .before .before .before .before .length16 .ensures)) (on-driver (λ x. eqb (x .stage) 2) (c .before .before .before .before .before .before .before .before .before .before .before .before .before .before .load-globals .ensures) (c .before .before .before .before .before .before .before .before .before .before .before .before .before .is-started .ensures) (not-false (c .before .before .before .before .before .before .before .before .before .before .before .before .before .is-started .result) (c .before .before .before .before .before .before .before .before .before .before .before .before .if1 .left))) (on-driver (λ x. ltb (x .«ep0_max») (c .before .before .before .before .before .before .before .before .before .before .before .before .before .before .before .before .args .n)) (c .before .before .before .before .before .before .before .before .before .before .before .before .before .before .load-globals .ensures) (c .before .before .before .before .before .before .before .before .before .before .before .is-above .ensures) (c .before .before .before .before .before .before .before .before .before .before .if2 .left)) (on-driver (λ x. isOn (x .«setup_ready»)) (c .before .before .before .before .before .before .before .before .before .before .before .before .before .before .load-globals .ensures) (c .before .before .before .before .before .before .before .before .before .is-on .ensures) (c .before .before .before .before .before .before .before .before .if3 .left))), (c .before .arm-out .ensures .1 ∙ c .before .before .before .clear-wakes .ensures .1 ∙ c .before .before .before .before .before .set-request .ensures .1, refl))
 
 pub begin-data-out-spec : {M : Type 1} → statement M
 begin-data-out-spec =

@@ -1,3 +1,5 @@
+use Rattle.state.specs.State.{view}
+use denote.Ref.{now}
 use lib.Dec.{eqb, ltb}
 use Rattle.script.specs.Statics.{isOn}
 use Rattle.request.specs.Records.{on-driver}
@@ -54,7 +56,7 @@ is-on-requires-2 : tie.Need-is-on-requires-2
 is-on-requires-2 c κs = search needs
 
 returns-3 : tie.Need-returns-3
-returns-3 c = (λ b. accept-done _ _ _ _ b (c .before .before .before .before .before .before .before .before .before .before .before .before .load-control .ensures) (c .before .before .before .before .unready .ensures .0) (c .before .before .set-request .ensures .0) (on-driver (λ x. eqb (x .stage) 2) (c .before .before .before .before .before .before .before .before .before .before .before .before .before .before .before .before .load-globals .ensures) (c .before .before .before .before .before .before .before .before .before .before .before .before .before .before .before .is-started .ensures) (not-false (c .before .before .before .before .before .before .before .before .before .before .before .before .before .before .before .is-started .result) (c .before .before .before .before .before .before .before .before .before .before .before .before .before .before .if1 .left))) (on-driver (λ x. eqb (x .sort) 4) (c .before .before .before .before .before .before .before .before .before .before .before .before .load-control .ensures) (c .before .before .before .before .before .before .before .before .before .before .before .is-sort .ensures) (not-false (c .before .before .before .before .before .before .before .before .before .before .before .is-sort .result) (c .before .before .before .before .before .before .before .before .before .before .if2 .left))) (on-driver (λ x. isOn (x .ready)) (c .before .before .before .before .before .before .before .before .load-ep .ensures) (c .before .before .before .before .before .before .before .is-on .ensures) (c .before .before .before .before .before .before .if3 .taken)) (on-driver (λ x. isOn (x .«sets_address»)) (c .before .before .before .before .before .before .before .before .before .before .before .before .load-control .ensures) (c .before .is-on2 .ensures) (not-true (c .before .is-on2 .result) (c .if4 .taken))), (c .before .before .set-request .ensures .1 ∙ c .before .before .before .before .unready .ensures .1, tt))
+returns-3 c = (λ b. accept-done (view (now (c .before .before .before .before .before .before .before .before .before .before .before .before .before .before .before .before .before .before .args .s))) _ _ _ b (c .before .before .before .before .before .before .before .before .before .before .before .before .load-control .ensures) (c .before .before .before .before .unready .ensures .0) (c .before .before .set-request .ensures .0) (on-driver (λ x. eqb (x .stage) 2) (c .before .before .before .before .before .before .before .before .before .before .before .before .before .before .before .before .load-globals .ensures) (c .before .before .before .before .before .before .before .before .before .before .before .before .before .before .before .is-started .ensures) (not-false (c .before .before .before .before .before .before .before .before .before .before .before .before .before .before .before .is-started .result) (c .before .before .before .before .before .before .before .before .before .before .before .before .before .before .if1 .left))) (on-driver (λ x. eqb (x .sort) 4) (c .before .before .before .before .before .before .before .before .before .before .before .before .load-control .ensures) (c .before .before .before .before .before .before .before .before .before .before .before .is-sort .ensures) (not-false (c .before .before .before .before .before .before .before .before .before .before .before .is-sort .result) (c .before .before .before .before .before .before .before .before .before .before .if2 .left))) (on-driver (λ x. isOn (x .ready)) (c .before .before .before .before .before .before .before .before .load-ep .ensures) (c .before .before .before .before .before .before .before .is-on .ensures) (c .before .before .before .before .before .before .if3 .taken)) (on-driver (λ x. isOn (x .«sets_address»)) (c .before .before .before .before .before .before .before .before .before .before .before .before .load-control .ensures) (c .before .is-on2 .ensures) (not-true (c .before .is-on2 .result) (c .if4 .taken))), (c .before .before .set-request .ensures .1 ∙ c .before .before .before .before .unready .ensures .1, tt))
 
 clear-wakes-requires : tie.Need-clear-wakes-requires
 clear-wakes-requires c κs = search needs
@@ -63,7 +65,7 @@ cast-t21 : tie.Need-cast-t21
 cast-t21 c = search needs
 
 returns-4 : tie.Need-returns-4
-returns-4 c = (λ b. accept-address _ _ _ _ b (c .before .before .before .before .before .before .before .before .before .before .before .before .before .before .before .load-control .ensures) (c .before .before .before .before .before .before .before .unready .ensures .0) (c .before .before .before .before .before .set-request .ensures .0) (on-driver (λ x. eqb (x .stage) 2) (c .before .before .before .before .before .before .before .before .before .before .before .before .before .before .before .before .before .before .before .load-globals .ensures) (c .before .before .before .before .before .before .before .before .before .before .before .before .before .before .before .before .before .before .is-started .ensures) (not-false (c .before .before .before .before .before .before .before .before .before .before .before .before .before .before .before .before .before .before .is-started .result) (c .before .before .before .before .before .before .before .before .before .before .before .before .before .before .before .before .before .if1 .left))) (on-driver (λ x. eqb (x .sort) 4) (c .before .before .before .before .before .before .before .before .before .before .before .before .before .before .before .load-control .ensures) (c .before .before .before .before .before .before .before .before .before .before .before .before .before .before .is-sort .ensures) (not-false (c .before .before .before .before .before .before .before .before .before .before .before .before .before .before .is-sort .result) (c .before .before .before .before .before .before .before .before .before .before .before .before .before .if2 .left))) (on-driver (λ x. isOn (x .ready)) (c .before .before .before .before .before .before .before .before .before .before .before .load-ep .ensures) (c .before .before .before .before .before .before .before .before .before .before .is-on .ensures) (c .before .before .before .before .before .before .before .before .before .if3 .taken)) _ (c .before .clear-wakes .ensures .0) (on-driver (λ x. isOn (x .«sets_address»)) (c .before .before .before .before .before .before .before .before .before .before .before .before .before .before .before .load-control .ensures) (c .before .before .before .before .is-on2 .ensures) (not-false (c .before .before .before .before .is-on2 .result) (c .before .before .before .if4 .left))), (c .before .clear-wakes .ensures .1 ∙ c .before .before .before .before .before .set-request .ensures .1 ∙ c .before .before .before .before .before .before .before .unready .ensures .1, refl))
+returns-4 c = (λ b. accept-address (view (now (c .before .before .before .before .before .before .before .before .before .before .before .before .before .before .before .before .before .before .before .before .before .args .s))) _ _ _ b (c .before .before .before .before .before .before .before .before .before .before .before .before .before .before .before .load-control .ensures) (c .before .before .before .before .before .before .before .unready .ensures .0) (c .before .before .before .before .before .set-request .ensures .0) (on-driver (λ x. eqb (x .stage) 2) (c .before .before .before .before .before .before .before .before .before .before .before .before .before .before .before .before .before .before .before .load-globals .ensures) (c .before .before .before .before .before .before .before .before .before .before .before .before .before .before .before .before .before .before .is-started .ensures) (not-false (c .before .before .before .before .before .before .before .before .before .before .before .before .before .before .before .before .before .before .is-started .result) (c .before .before .before .before .before .before .before .before .before .before .before .before .before .before .before .before .before .if1 .left))) (on-driver (λ x. eqb (x .sort) 4) (c .before .before .before .before .before .before .before .before .before .before .before .before .before .before .before .load-control .ensures) (c .before .before .before .before .before .before .before .before .before .before .before .before .before .before .is-sort .ensures) (not-false (c .before .before .before .before .before .before .before .before .before .before .before .before .before .before .is-sort .result) (c .before .before .before .before .before .before .before .before .before .before .before .before .before .if2 .left))) (on-driver (λ x. isOn (x .ready)) (c .before .before .before .before .before .before .before .before .before .before .before .load-ep .ensures) (c .before .before .before .before .before .before .before .before .before .before .is-on .ensures) (c .before .before .before .before .before .before .before .before .before .if3 .taken)) _ (c .before .clear-wakes .ensures .0) (on-driver (λ x. isOn (x .«sets_address»)) (c .before .before .before .before .before .before .before .before .before .before .before .before .before .before .before .load-control .ensures) (c .before .before .before .before .is-on2 .ensures) (not-false (c .before .before .before .before .is-on2 .result) (c .before .before .before .if4 .left))), (c .before .clear-wakes .ensures .1 ∙ c .before .before .before .before .before .set-request .ensures .1 ∙ c .before .before .before .before .before .before .before .unready .ensures .1, refl))
 
 wait-on-requires : tie.Need-wait-on-requires
 wait-on-requires c κs = search needs

@@ -1,4 +1,9 @@
-use mathlib.Core.Path.{refl}
+use mathlib.Core.Path.{refl, _∙_}
+use lib.Dec.{eqb}
+use denote.Ref.{now}
+use Rattle.state.specs.State.{view}
+use Rattle.request.specs.Records.{on-driver}
+use Rattle.control.proofs.Laws.{in-second, in-first}
 use borrow.Author.Tests.{eq-eqb, le-ltb, lt-ltb, ne-eqb, not-false, not-true}
 use borrow.Author.Needs.{needs}
 use Rattle.control.proofs.poll.poll_data_in.Statement.{statement}
@@ -34,13 +39,13 @@ take-closing-requires : tie.Need-take-closing-requires
 take-closing-requires c κs = search needs
 
 returns-3 : tie.Need-returns-3
-returns-3 c = (λ b. simp (c .take-closing .ensures .0, eq-eqb _ _ (c .before .before .if3 .taken), not-false (c .before .before .before .before .before .is-sort .result) (c .before .before .before .before .if2 .left), ← c .before .before .before .before .before .is-sort .ensures, ← c .before .before .before .before .before .before .load-control .ensures, not-false (c .before .before .before .before .before .before .before .before .before .is-started .result) (c .before .before .before .before .before .before .before .before .if1 .left), ← c .before .before .before .before .before .before .before .before .before .is-started .ensures, ← c .before .before .before .before .before .before .before .before .before .before .load-globals .ensures), (c .take-closing .ensures .1 .0, c .take-closing .ensures .1 .1))
+returns-3 c = (λ b. c .take-closing .ensures .0 b ∙ in-second (view (now (c .before .before .before .before .before .before .before .before .before .before .before .before .args .s))) _ (c .before .before .before .before .before .before .load-control .ensures) (on-driver (λ x. eqb (x .stage) 2) (c .before .before .before .before .before .before .before .before .before .before .load-globals .ensures) (c .before .before .before .before .before .before .before .before .before .is-started .ensures) (not-false (c .before .before .before .before .before .before .before .before .before .is-started .result) (c .before .before .before .before .before .before .before .before .if1 .left))) (on-driver (λ x. eqb (x .sort) 3) (c .before .before .before .before .before .before .load-control .ensures) (c .before .before .before .before .before .is-sort .ensures) (not-false (c .before .before .before .before .before .is-sort .result) (c .before .before .before .before .if2 .left))) (on-driver (λ x. eqb (x .wait) 2) (c .before .before .before .before .before .before .load-control .ensures) refl (eq-eqb _ _ (c .before .before .if3 .taken))) b, (c .take-closing .ensures .1 .0, c .take-closing .ensures .1 .1))
 
 take-in-requires : tie.Need-take-in-requires
 take-in-requires c κs = search needs
 
 returns-4 : tie.Need-returns-4
-returns-4 c = (λ b. simp (c .take-in .ensures .0, ne-eqb _ _ (c .before .before .if3 .left), not-false (c .before .before .before .before .before .is-sort .result) (c .before .before .before .before .if2 .left), ← c .before .before .before .before .before .is-sort .ensures, ← c .before .before .before .before .before .before .load-control .ensures, not-false (c .before .before .before .before .before .before .before .before .before .is-started .result) (c .before .before .before .before .before .before .before .before .if1 .left), ← c .before .before .before .before .before .before .before .before .before .is-started .ensures, ← c .before .before .before .before .before .before .before .before .before .before .load-globals .ensures), (c .take-in .ensures .1 .0, c .take-in .ensures .1 .1))
+returns-4 c = (λ b. c .take-in .ensures .0 b ∙ in-first (view (now (c .before .before .before .before .before .before .before .before .before .before .before .before .args .s))) _ (c .before .before .before .before .before .before .load-control .ensures) (on-driver (λ x. eqb (x .stage) 2) (c .before .before .before .before .before .before .before .before .before .before .load-globals .ensures) (c .before .before .before .before .before .before .before .before .before .is-started .ensures) (not-false (c .before .before .before .before .before .before .before .before .before .is-started .result) (c .before .before .before .before .before .before .before .before .if1 .left))) (on-driver (λ x. eqb (x .sort) 3) (c .before .before .before .before .before .before .load-control .ensures) (c .before .before .before .before .before .is-sort .ensures) (not-false (c .before .before .before .before .before .is-sort .result) (c .before .before .before .before .if2 .left))) (on-driver (λ x. eqb (x .wait) 2) (c .before .before .before .before .before .before .load-control .ensures) refl (ne-eqb _ _ (c .before .before .if3 .left))) b, (c .take-in .ensures .1 .0, c .take-in .ensures .1 .1))
 
 pub poll-data-in-spec : {M : Type 1} → statement M
 poll-data-in-spec =

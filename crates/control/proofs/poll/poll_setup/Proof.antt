@@ -1,3 +1,5 @@
+use Rattle.state.specs.State.{view}
+use denote.Ref.{now}
 use lib.Dec.{eqb, ltb}
 use Rattle.script.specs.Statics.{isOn}
 use Rattle.request.specs.Records.{on-driver}
@@ -48,7 +50,7 @@ set-request-requires : tie.Need-set-request-requires
 set-request-requires c κs = search needs
 
 returns-3 : tie.Need-returns-3
-returns-3 c = (λ b. setup-done _ _ _ _ b (c .before .before .before .before .before .before .before .before .before .before .before .before .load-globals .ensures) (c .before .before .store-globals .ensures .0) (c .set-request .ensures .0) (on-driver (λ x. eqb (x .stage) 2) (c .before .before .before .before .before .before .before .before .before .before .before .before .load-globals .ensures) (c .before .before .before .before .before .before .before .before .before .before .before .is-started .ensures) (not-false (c .before .before .before .before .before .before .before .before .before .before .before .is-started .result) (c .before .before .before .before .before .before .before .before .before .before .if1 .left))) (on-driver (λ x. eqb (x .sort) 1) (c .before .before .before .before .before .before .before .before .load-control .ensures) (c .before .before .before .before .before .before .before .is-sort .ensures) (not-false (c .before .before .before .before .before .before .before .is-sort .result) (c .before .before .before .before .before .before .if2 .left))) (on-driver (λ x. isOn (x .«setup_ready»)) (c .before .before .before .before .before .before .before .before .before .before .before .before .load-globals .ensures) (c .before .before .before .before .before .is-on .ensures) (c .before .before .before .before .if3 .taken)), (c .set-request .ensures .1 ∙ c .before .before .store-globals .ensures .1, tt))
+returns-3 c = (λ b. setup-done (view (now (c .before .before .before .before .before .before .before .before .before .before .before .before .before .before .args .s))) _ _ _ b (c .before .before .before .before .before .before .before .before .before .before .before .before .load-globals .ensures) (c .before .before .store-globals .ensures .0) (c .set-request .ensures .0) (on-driver (λ x. eqb (x .stage) 2) (c .before .before .before .before .before .before .before .before .before .before .before .before .load-globals .ensures) (c .before .before .before .before .before .before .before .before .before .before .before .is-started .ensures) (not-false (c .before .before .before .before .before .before .before .before .before .before .before .is-started .result) (c .before .before .before .before .before .before .before .before .before .before .if1 .left))) (on-driver (λ x. eqb (x .sort) 1) (c .before .before .before .before .before .before .before .before .load-control .ensures) (c .before .before .before .before .before .before .before .is-sort .ensures) (not-false (c .before .before .before .before .before .before .before .is-sort .result) (c .before .before .before .before .before .before .if2 .left))) (on-driver (λ x. isOn (x .«setup_ready»)) (c .before .before .before .before .before .before .before .before .before .before .before .before .load-globals .ensures) (c .before .before .before .before .before .is-on .ensures) (c .before .before .before .before .if3 .taken)), (c .set-request .ensures .1 ∙ c .before .before .store-globals .ensures .1, tt))
 
 returns-4 : tie.Need-returns-4
 unfolding setupBytes

@@ -1,3 +1,5 @@
+use Rattle.state.specs.State.{view}
+use denote.Ref.{now}
 use Rattle.script.specs.Statics.{isOn}
 use Rattle.request.specs.Records.{on-driver}
 use Rattle.control.proofs.Laws.{closing-now, closing-waits}
@@ -34,7 +36,7 @@ closed-requires : tie.Need-closed-requires
 closed-requires c κs = search needs
 
 returns : tie.Need-returns
-returns c = (λ b. rw (c .before .before .before .before .before .if2 .taken) (closing-now _ _ _ _ (c .before .before .before .before .before .before .before .before .before .before .before .before .args .c) _ (c .closed .result) b (c .before .before .before .before .before .before .before .before .before .before .load-ep .ensures) (c .before .before .before .before .before .before .unready .ensures .0) (c .before .before .before .unready2 .ensures .0) (c .before .set-request .ensures .0) (on-driver (λ x. isOn (x .ready)) (c .before .before .before .before .before .before .before .before .before .before .load-ep .ensures) (c .before .before .before .before .before .before .before .before .before .is-on .ensures) (c .before .before .before .before .before .before .before .before .if1 .taken)) (c .closed .ensures .0)), (c .before .set-request .ensures .1 ∙ c .before .before .before .unready2 .ensures .1 ∙ c .before .before .before .before .before .before .unready .ensures .1, c .closed .ensures .1))
+returns c = (λ b. rw (c .before .before .before .before .before .if2 .taken) (closing-now (view (now (c .before .before .before .before .before .before .before .before .before .before .before .before .args .s))) _ _ _ (c .before .before .before .before .before .before .before .before .before .before .before .before .args .c) _ (c .closed .result) b (c .before .before .before .before .before .before .before .before .before .before .load-ep .ensures) (c .before .before .before .before .before .before .unready .ensures .0) (c .before .before .before .unready2 .ensures .0) (c .before .set-request .ensures .0) (on-driver (λ x. isOn (x .ready)) (c .before .before .before .before .before .before .before .before .before .before .load-ep .ensures) (c .before .before .before .before .before .before .before .before .before .is-on .ensures) (c .before .before .before .before .before .before .before .before .if1 .taken)) (c .closed .ensures .0)), (c .before .set-request .ensures .1 ∙ c .before .before .before .unready2 .ensures .1 ∙ c .before .before .before .before .before .before .unready .ensures .1, c .closed .ensures .1))
 
 set-request-requires-2 : tie.Need-set-request-requires-2
 set-request-requires-2 c κs = search needs
@@ -64,7 +66,7 @@ set-data-in-requires : tie.Need-set-data-in-requires
 set-data-in-requires c κs = search needs
 
 returns-4 : tie.Need-returns-4
-returns-4 c = (λ b. rw (c .before .before .before .before .if4 .taken) (closing-waits _ _ _ (c .before .before .before .before .before .before .before .before .before .before .before .before .before .args .c) b (c .before .before .unready3 .ensures .0) (c .set-data-in .ensures .0) (on-driver (λ x. isOn (x .ready)) (c .before .before .before .before .before .before .before .before .before .before .before .load-ep .ensures) (c .before .before .before .before .before .before .before .before .before .before .is-on .ensures) (c .before .before .before .before .before .before .before .before .before .if1 .left)) (on-driver (λ x. isOn (x .«setup_ready»)) (c .before .before .before .before .before .before .before .load-globals .ensures) (c .before .before .before .before .before .before .is-on2 .ensures) (c .before .before .before .before .before .if3 .left))), (c .set-data-in .ensures .1 ∙ c .before .before .unready3 .ensures .1, tt))
+returns-4 c = (λ b. rw (c .before .before .before .before .if4 .taken) (closing-waits (view (now (c .before .before .before .before .before .before .before .before .before .before .before .before .before .args .s))) _ _ (c .before .before .before .before .before .before .before .before .before .before .before .before .before .args .c) b (c .before .before .unready3 .ensures .0) (c .set-data-in .ensures .0) (on-driver (λ x. isOn (x .ready)) (c .before .before .before .before .before .before .before .before .before .before .before .load-ep .ensures) (c .before .before .before .before .before .before .before .before .before .before .is-on .ensures) (c .before .before .before .before .before .before .before .before .before .if1 .left)) (on-driver (λ x. isOn (x .«setup_ready»)) (c .before .before .before .before .before .before .before .load-globals .ensures) (c .before .before .before .before .before .before .is-on2 .ensures) (c .before .before .before .before .before .if3 .left))), (c .set-data-in .ensures .1 ∙ c .before .before .unready3 .ensures .1, tt))
 
 returns-5 : tie.Need-returns-5
 returns-5 c = (λ b. simp (c .if4 .left, c .before .if3 .left, ← c .before .before .is-on2 .ensures, ← c .before .before .before .load-globals .ensures, c .before .before .before .before .before .if1 .left, ← c .before .before .before .before .before .before .is-on .ensures, ← c .before .before .before .before .before .before .before .load-ep .ensures), (refl, tt))

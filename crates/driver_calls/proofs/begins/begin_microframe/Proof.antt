@@ -7,6 +7,8 @@ use Rattle.state.specs.State.{view, saved}
 use denote.Ref.{now}
 use mathlib.Core.Path.{_∙_, refl}
 use borrow.Author.Tests.{eq-eqb, ne-eqb}
+use mathlib.Core.List.{[]}
+use Rattle.way.specs.Keeps.{halted}
 use borrow.Author.Needs.{needs}
 use Rattle.driver_calls.proofs.begins.begin_microframe.Statement.{statement}
 use Rattle.driver_calls.proofs.begins.begin_microframe.Tie as tie
@@ -30,10 +32,10 @@ halted-requires : tie.Need-halted-requires
 halted-requires c κs = c .microframe .ensures .1
 
 returns : tie.Need-returns
-returns c a b = back (other-call calls.Microframe 2 (operation script.microframe) (decode (saved (now (c .before .before .before .before .before .before .before .before .args .s)))) (view (now (c .before .before .before .before .before .before .before .before .args .s))) a b refl) (c .halted .ensures b ∙ simp (c .before .microframe .ensures .0, c .before .before .before .clear-wakes .ensures .0, ← c .before .before .before .before .before .before .stop .ensures, eq-eqb _ _ (c .before .before .before .before .before .if1 .taken)))
+returns c = (λ a b. back (other-call calls.Microframe 2 (operation script.microframe) (decode (saved (now (c .before .before .before .before .before .before .before .before .args .s)))) (view (now (c .before .before .before .before .before .before .before .before .args .s))) a b refl) (c .halted .ensures b ∙ simp (c .before .microframe .ensures .0, c .before .before .before .clear-wakes .ensures .0, ← c .before .before .before .before .before .before .stop .ensures, eq-eqb _ _ (c .before .before .before .before .before .if1 .taken))), λ n q. absurd (halted _ _ _ _ _ _ _ q (c .halted .ensures [])))
 
 returns-2 : tie.Need-returns-2
-returns-2 c a b = back (other-call calls.Microframe 2 (operation script.microframe) (decode (saved (now (c .before .before .before .args .s)))) (view (now (c .before .before .before .args .s))) a b refl) (simp (← c .before .stop .ensures, ne-eqb _ _ (c .if1 .left)))
+returns-2 c = (λ a b. back (other-call calls.Microframe 2 (operation script.microframe) (decode (saved (now (c .before .before .before .args .s)))) (view (now (c .before .before .before .args .s))) a b refl) (simp (← c .before .stop .ensures, ne-eqb _ _ (c .if1 .left))), λ n q. refl)
 
 pub begin-microframe-spec : {M : Type 1} → statement M
 begin-microframe-spec =

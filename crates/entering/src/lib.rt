@@ -1,0 +1,184 @@
+// The transfer is entered, released, settled (mod.rs 656-722). Every function is total: any number is safe.
+use handler::Next;
+use handler::Point;
+use ops::rings::is_on;
+use regs::Access;
+use regs::Dir;
+use regs::Reg;
+use regs::Token;
+use regs::flags::TRANSFER;
+use regs::mis_status;
+use regs::status;
+use script::Transfer;
+use state::EpState;
+use state::STATE_LEN;
+use state::load_ep;
+use transfer::nak;
+use transfer::nak::Nak;
+use transfer::nak::NakNext;
+use transfer::settle;
+use transfer::settle::Settle;
+use transfer::settle::SettleNext;
+use transfer::wait::byte;
+use transfer::wait::short;
+
+pub mod flags; // flags.rt: the microframe, the flags but the setup's
+
+ghost use mathlib.Core.Path.{_≡_};
+ghost use mathlib.Core.Bool.{true, false};
+ghost use mathlib.Core.List.{List};
+ghost use Prim.Native.Nat.{ℕ};
+ghost use Rattle.regs.specs.Registers.{fitsIn};
+ghost use Rattle.regs.specs.Status.{token};
+ghost use Rattle.state.specs.Driver.{Driver};
+ghost use Rattle.state.specs.State.{view, saved};
+ghost use Rattle.script.specs.Tree.{bindOut};
+ghost use Rattle.script.specs.Script.{run};
+ghost use Rattle.script.specs.Handler as script;
+ghost use Rattle.transfer.specs.Nak as naks;
+ghost use Rattle.transfer.specs.Settle as settles;
+ghost use Rattle.ops.specs.Conc.{conc};
+ghost use Rattle.ops.specs.Records.{plainOf};
+ghost use Rattle.handler.specs.Tails.{finish, naksFirst, enteredAs, afterNak, afterRelease, afterSettle};
+ghost use Rattle.handler.specs.Points.{denote, meaning, Linked};
+
+// `iso` (mod.rs 718-722).
+fn iso_for(st: u8, o: EpState, n: EpState) -> bool
+    ensures { λ r. ⌜ r ≡ script.isoFor (token st) (plainOf o) (plainOf n) ⌝ }
+{
+    let t = status::token(st);
+    match t {
+        Token::Out => is_on(o.iso),
+        Token::Sof => true,
+        Token::In => is_on(n.iso),
+        Token::Setup => true,
+    }
+}
+
+fn after_settle(s: &[u8; STATE_LEN], setup: bool, x: Transfer) -> Next
+    ensures { λ r. ⌜ ((b : List ℕ) → meaning r (view (now (s .entry))) b ≡ finish setup (run conc (afterSettle x) (view (now (s .entry)), b))) ⌝ }
+    ensures { λ r. ⌜ Linked r ⌝ }
+{
+    let ep = status::endpoint(x.st);
+    let o = load_ep(s, Dir::Out, ep);
+    let n = load_ep(s, Dir::In, ep);
+    let iso = iso_for(x.st, o, n);
+    Next::Asks(Access::Read(Reg::FrameNo, 0), Point::FrameNo(setup, x, iso))
+}
+
+fn then_settle(s: &[u8; STATE_LEN], setup: bool, x: Transfer, n: SettleNext) -> Next
+    requires { ⌜ settles.Linked n ⌝ }
+    ensures { λ r. ⌜ ((b : List ℕ) → meaning r (view (now (s .entry))) b ≡ finish setup (bindOut (settles.meaning x n (view (now (s .entry))) b) (λ y u. run conc (afterSettle y) u))) ⌝ }
+    ensures { λ r. ⌜ Linked r ⌝ }
+{
+    match n {
+        SettleNext::Asks(q, p) => Next::Asks(q, Point::Settle(setup, x, p)),
+        SettleNext::Ends(y) => after_settle(s, setup, y),
+    }
+}
+
+pub fn after_settling(s: &[u8; STATE_LEN], setup: bool, x: Transfer, p: Settle, v: u32) -> Next
+    requires { ⌜ settles.fitsAt p v ≡ true ⌝ }
+    ensures { λ r. ⌜ ((b : List ℕ) → meaning r (view (now (s .entry))) b ≡ denote (Point.Settle setup x p) v (view (now (s .entry)), b)) ⌝ }
+    ensures { λ r. ⌜ Linked r ⌝ }
+{
+    let n = settle::resume(s, x, p, v);
+    then_settle(s, setup, x, n)
+}
+
+pub fn after_released(s: &[u8; STATE_LEN], setup: bool, x: Transfer) -> Next
+    ensures { λ r. ⌜ ((b : List ℕ) → meaning r (view (now (s .entry))) b ≡ finish setup (run conc (afterRelease x) (view (now (s .entry)), b))) ⌝ }
+    ensures { λ r. ⌜ Linked r ⌝ }
+{
+    let n = settle::begin(s, x);
+    then_settle(s, setup, x, n)
+}
+
+// Released early: int_st and rx_len are read (mod.rs 666-667).
+fn release(setup: bool, x: Transfer) -> Next
+    ensures { λ r. ⌜ ((d : Driver) (b : List ℕ) → meaning r d b ≡ finish setup (run conc (afterNak x) (d, b))) ⌝ }
+    ensures { λ r. ⌜ Linked r ⌝ }
+{
+    Next::Asks(
+        Access::Write(Reg::IntFg, 0, TRANSFER),
+        Point::Released(setup, x),
+    )
+}
+
+fn then_nak(setup: bool, x: Transfer, n: NakNext) -> Next
+    requires { ⌜ naks.Linked n ⌝ }
+    ensures { λ r. ⌜ ((d : Driver) (b : List ℕ) → meaning r d b ≡ finish setup (bindOut (naks.meaning (x .st) n d b) (λ _ u. run conc (afterNak x) u))) ⌝ }
+    ensures { λ r. ⌜ Linked r ⌝ }
+{
+    match n {
+        NakNext::Asks(q, p) => Next::Asks(q, Point::Nak(setup, x, p)),
+        NakNext::Ends => release(setup, x),
+    }
+}
+
+pub fn after_naking(setup: bool, x: Transfer, p: Nak, v: u32) -> Next
+    requires { ⌜ naks.fitsAt p v ≡ true ⌝ }
+    ensures { λ r. ⌜ ((d : Driver) (b : List ℕ) → meaning r d b ≡ denote (Point.Nak setup x p) v (d, b)) ⌝ }
+    ensures { λ r. ⌜ Linked r ⌝ }
+{
+    let n = nak::resume(x.st, p, v);
+    then_nak(setup, x, n)
+}
+
+// Is it NAKed before the release (mod.rs 663)?
+fn naks_first(busy: bool, st: u8) -> bool
+    ensures { λ r. ⌜ r ≡ naksFirst busy st ⌝ }
+{
+    if busy {
+        if status::is_sof(st) {
+            return false;
+        }
+        return status::endpoint(st) != 0;
+    }
+    true
+}
+
+fn entered(busy: bool, st: u8, len: u16) -> Transfer
+    ensures { λ r. ⌜ r ≡ enteredAs busy st len ⌝ }
+{
+    Transfer {
+        busy,
+        st,
+        len,
+        late: false,
+        len_ok: true,
+    }
+}
+
+pub fn after_len(s: &[u8; STATE_LEN], setup: bool, busy: bool, st: u8, v: u32) -> Next
+    requires { ⌜ fitsIn v 16 ≡ true ⌝ }
+    ensures { λ r. ⌜ ((b : List ℕ) → meaning r (view (now (s .entry))) b ≡ denote (Point.Len setup busy st) v (view (now (s .entry)), b)) ⌝ }
+    ensures { λ r. ⌜ Linked r ⌝ }
+{
+    let x = entered(busy, st, short(v));
+    if naks_first(busy, st) {
+        let n = nak::begin(s, st);
+        return then_nak(setup, x, n);
+    }
+    release(setup, x)
+}
+
+pub fn after_st(setup: bool, busy: bool, v: u32) -> Next
+    requires { ⌜ fitsIn v 8 ≡ true ⌝ }
+    ensures { λ r. ⌜ ((d : Driver) (b : List ℕ) → meaning r d b ≡ denote (Point.St setup busy) v (d, b)) ⌝ }
+    ensures { λ r. ⌜ Linked r ⌝ }
+{
+    Next::Asks(
+        Access::Read(Reg::RxLen, 0),
+        Point::Len(setup, busy, byte(v)),
+    )
+}
+
+pub fn after_mis(setup: bool, v: u32) -> Next
+    requires { ⌜ fitsIn v 8 ≡ true ⌝ }
+    ensures { λ r. ⌜ ((d : Driver) (b : List ℕ) → meaning r d b ≡ denote (Point.Mis setup) v (d, b)) ⌝ }
+    ensures { λ r. ⌜ Linked r ⌝ }
+{
+    let busy = !mis_status::sie_free(byte(v));
+    Next::Asks(Access::Read(Reg::IntSt, 0), Point::St(setup, busy))
+}

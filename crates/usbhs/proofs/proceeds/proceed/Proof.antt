@@ -1,0 +1,29 @@
+use denote.Ref.{now}
+use mathlib.Core.Path.{refl}
+use Rattle.way.specs.Under.{machineOf, configOf}
+use Rattle.shared_time.specs.Sharing.{settles}
+use Rattle.script.specs.Machine.{go}
+use borrow.Author.Needs.{needs}
+use Rattle.usbhs.proofs.proceeds.proceed.Statement.{statement}
+use Rattle.usbhs.proofs.proceeds.proceed.Tie as tie
+use Rattle.usbhs.proofs.proceeds.proceed.Reads as reads
+use Rattle.usbhs.proofs.proceeds.proceed.Lts as lts
+use Rattle.proceeding.proofs.proceed.Reads as proceed-reads
+use Rattle.shared_time.proofs.charges.gone_on.Reads as gone-on-reads
+
+proceed-requires : tie.Need-proceed-requires
+proceed-requires c κs = search needs
+
+gone-on-requires : tie.Need-gone-on-requires
+gone-on-requires c κs = search needs
+
+same-length : tie.Need-same-length
+same-length c = search needs
+
+returns : tie.Need-returns
+returns c =
+    let x = c .before .before .before .before .before .before .before .before .args in
+    (λ a. settles (x .driver) (go (x .v)) (machineOf (now (x .s)) a) (now (x .time)) (now (x .slots)) _ _ refl (c .before .before .before .before .proceed .ensures .0 a) (c .gone-on .ensures _ _), c .before .before .before .before .proceed .ensures .1)
+
+pub proceed-spec : {M : Type 1} → statement M
+proceed-spec = tie.close (tie.spec proceed-requires gone-on-requires same-length returns)
