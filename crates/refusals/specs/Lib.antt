@@ -3,3 +3,4 @@ pub mod Outcomes
 pub mod Scripts
 pub mod Refusals
 pub mod Bytes
+pub mod Shared

@@ -29,26 +29,26 @@ use Rattle.refusals.specs.Left.{Poll, pollOf, leftBy, left, buffersRow}
 use Rattle.refusals.specs.Outcomes.{OutLeaves}
 use Rattle.refusals.specs.Scripts.{code-leaves}
 
-abbrev Called : Type 0
+abbrev pub Called : Type 0
 Called = Ans Answer × Machine Answer Driver
 
-abbrev machineIn : Way Answer Driver → Driver → Buf → Machine Answer Driver
+abbrev pub machineIn : Way Answer Driver → Driver → Buf → Machine Answer Driver
 machineIn w d b = record { way = w; st = d; buf = b }
 
 -- f n is the machine after refusal n
-abbrev AnswerIs : (ℕ → Machine Answer Driver) → Answer → Machine Answer Driver → Type 0
+abbrev pub AnswerIs : (ℕ → Machine Answer Driver) → Answer → Machine Answer Driver → Type 0
 AnswerIs f (Refused n) m = m ≡ f n
 AnswerIs f (End n w) m = Unit {0}
 AnswerIs f NotYet m = Unit {0}
 AnswerIs f (Done bs) m = Unit {0}
 AnswerIs f (Shown bs k) m = Unit {0}
 
-abbrev AnsIs : (ℕ → Machine Answer Driver) → Ans Answer → Machine Answer Driver → Type 0
+abbrev pub AnsIs : (ℕ → Machine Answer Driver) → Ans Answer → Machine Answer Driver → Type 0
 AnsIs f (ended a) m = AnswerIs f a m
 AnsIs f (handed q) m = Unit {0}
 AnsIs f (told n) m = Unit {0}
 
-abbrev Is : (ℕ → Machine Answer Driver) → Called → Type 0
+abbrev pub Is : (ℕ → Machine Answer Driver) → Called → Type 0
 Is f x = AnsIs f (x .0) (x .1)
 
 chosen : (f : ℕ → Machine Answer Driver) (c : Bool) (x y : Called) → Is f x → Is f y → Is f (cond c x y)
@@ -125,7 +125,7 @@ start-is c (suc n) m b = refl
 
 -- ---- every call
 
-call-is : (c : Call Config Op) (u : Under) (d : Driver) (a b : Buf) → Is (λ n. machineAt u (left c n d) (cond (buffersRow c d b) a b)) (drive c (machineAt u d a) b)
+pub call-is : (c : Call Config Op) (u : Under) (d : Driver) (a b : Buf) → Is (λ n. machineAt u (left c n d) (cond (buffersRow c d b) a b)) (drive c (machineAt u d a) b)
 unfolding slotsFit
 call-is (start c) u d a b = start-is c (startRow c b) (machineAt u d a) b
 call-is (begin o) u d a b = begin-is o (wayOf u) d a b (buffersRow (begin o) d b)

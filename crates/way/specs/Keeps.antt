@@ -1,19 +1,14 @@
--- Answers that are no refusal, so that `Kept` says nothing of them
-use mathlib.Core.Bool.{Bool}
+-- Answers that are no refusal
 use mathlib.Core.List.{List}
 use mathlib.Core.Path.{_≡_, subst, sym, ap, _∙_}
 use Prim.Native.Nat.{ℕ}
 use Rattle.regs.specs.declared.Access.{Access}
 use Rattle.state.specs.Driver.{Driver}
-use Rattle.script.specs.Tree.{Out, ends, asks, bindOut}
-use Rattle.script.specs.Script.{run}
 use Rattle.script.specs.Answers.{Answer, Refused, End, NotYet, Done, Shown}
 use Rattle.script.specs.Machine.{Machine, Ans, ended, handed, told}
-use Rattle.ops.specs.Rings.{St}
-use Rattle.ops.specs.Conc.{conc}
 use Rattle.way.specs.declared.Step.{Step}
 use Rattle.way.specs.declared.Step.the-variants as step
-use Rattle.way.specs.Under.{answerOf, finish, haltsAs}
+use Rattle.way.specs.Under.{answerOf}
 use Rattle.way.specs.Goes.{Called}
 
 abbrev StepPasses : Step → Type 0
@@ -50,11 +45,3 @@ asked r n out d x y a q p = passes r n out d x (handed a, y) q p tt
 -- it has ended
 pub finished : (r : Step) (n : ℕ) (out : List ℕ) (d : Driver) (x y : Machine Answer Driver) (k : ℕ) (w : List ℕ) → r ≡ step.Refused n → _≡_ {A = Called} (answerOf r out d, x) (ended (End k w), y) → ⊥
 finished r n out d x y k w q p = passes r n out d x (ended (End k w), y) q p tt
-
-halt-passes : (i : Bool) (o : Out St ℕ) → Passes (haltsAs i (bindOut o (λ k t. run conc (finish k) t)) .0)
-halt-passes i (ends n t) = tt
-halt-passes i (asks q t k) = tt
-
--- one of both
-pub halted : (r : Step) (n : ℕ) (out : List ℕ) (d : Driver) (x : Machine Answer Driver) (i : Bool) (o : Out St ℕ) → r ≡ step.Refused n → _≡_ {A = Called} (answerOf r out d, x) (haltsAs i (bindOut o (λ k t. run conc (finish k) t))) → ⊥
-halted r n out d x i o q p = passes r n out d x (haltsAs i (bindOut o (λ k t. run conc (finish k) t))) q p (halt-passes i o)

@@ -180,3 +180,7 @@ AsLent d b after = slotsFit d b ≡ false → after ≡ b
 -- a refusal leaves what is saved of the operation under way, byte for byte
 abbrev pub Kept : Step → List ℕ → List ℕ → Type 0
 Kept r xs ys = (n : ℕ) → r ≡ step.Refused n → saved ys ≡ saved xs
+
+-- it is no refusal
+abbrev pub Unrefused : Step → Type 0
+Unrefused r = (n : ℕ) → r ≡ step.Refused n → ⊥

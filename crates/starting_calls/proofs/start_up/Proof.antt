@@ -1,8 +1,6 @@
 use Rattle.script.specs.Calls.{startRow}
 use Rattle.starting_calls.specs.Starts.{good-16}
 use mathlib.Core.Path.{_∙_, sym, refl}
-use mathlib.Core.List.{[]}
-use Rattle.way.specs.Keeps.{halted}
 use borrow.Author.Needs.{needs}
 use Rattle.starting_calls.proofs.start_up.Statement.{statement}
 use Rattle.starting_calls.proofs.start_up.Tie as tie
@@ -45,7 +43,7 @@ halted-requires c κs = c .start-up .ensures .1
 
 returns : tie.Need-returns
 unfolding startRow
-returns c = (λ a. simp (← c .before .before .before .before .before .before .before .before .before .good-buffer .ensures, c .before .before .before .before .before .before .before .before .if2 .taken, ← c .before .before .before .before .before .before .before .before .before .before .before .fits2 .ensures, c .before .before .before .before .before .before .before .before .before .before .if1 .taken) (c .halted .ensures _ ∙ simp (c .before .start-up .ensures .0, c .before .before .before .clear-wakes .ensures .0, c .before .before .before .before .before .fresh .ensures .0, c .before .before .before .before .before .before .flag-of .ensures)), λ n q. absurd (halted _ _ _ _ _ _ _ q (c .halted .ensures [])))
+returns c = (λ a. simp (← c .before .before .before .before .before .before .before .before .before .good-buffer .ensures, c .before .before .before .before .before .before .before .before .if2 .taken, ← c .before .before .before .before .before .before .before .before .before .before .before .fits2 .ensures, c .before .before .before .before .before .before .before .before .before .before .if1 .taken) (c .halted .ensures .0 _ ∙ simp (c .before .start-up .ensures .0, c .before .before .before .clear-wakes .ensures .0, c .before .before .before .before .before .fresh .ensures .0, c .before .before .before .before .before .before .flag-of .ensures)), λ n q. absurd (c .halted .ensures .1 n q))
 
 returns-2 : tie.Need-returns-2
 unfolding startRow

@@ -9,8 +9,6 @@ use Rattle.state.specs.State.{view, saved}
 use denote.Ref.{now}
 use mathlib.Core.Path.{_∙_, sym, refl}
 use borrow.Author.Tests.{eq-eqb, ne-eqb}
-use mathlib.Core.List.{[]}
-use Rattle.way.specs.Keeps.{halted}
 use borrow.Author.Needs.{needs}
 use Rattle.bus_calls.proofs.bus_begins.begin_set_stalled.Statement.{statement}
 use Rattle.bus_calls.proofs.bus_begins.begin_set_stalled.Tie as tie
@@ -42,7 +40,7 @@ halted-bus-requires : tie.Need-halted-bus-requires
 halted-bus-requires c κs = c .before .set-stalled .ensures .1 .1
 
 returns : tie.Need-returns
-returns c = (λ a b. back (stall-call (calls.SetStalled (c .before .before .before .before .before .before .before .before .before .before .before .before .before .args .dir) (c .before .before .before .before .before .before .before .before .before .before .before .before .before .args .e) (c .before .before .before .before .before .before .before .before .before .before .before .before .before .args .on)) (c .before .before .before .before .before .before .before .before .before .before .before .before .before .args .dir) (c .before .before .before .before .before .before .before .before .before .before .before .before .before .args .e) (resultless (script.setStalled (c .before .before .before .before .before .before .before .before .before .before .before .before .before .args .dir) (c .before .before .before .before .before .before .before .before .before .before .before .before .before .args .e) (c .before .before .before .before .before .before .before .before .before .before .before .before .before .args .on))) (decode (saved (now (c .before .before .before .before .before .before .before .before .before .before .before .before .before .args .s)))) (view (now (c .before .before .before .before .before .before .before .before .before .before .before .before .before .args .s))) a b refl) (c .halted-bus .ensures b ∙ simp (c .before .before .set-stalled .ensures .0, c .before .before .before .endpoint .ensures, c .before .before .before .before .before .clear-wakes .ensures .0, ← c .before .before .before .before .before .before .before .before .before .before .before .stop .ensures, eq-eqb _ _ (c .before .before .before .before .before .before .before .before .before .before .if1 .taken), ← c .before .before .before .before .before .before .before .before .is-stallable .ensures, c .before .before .before .before .before .before .before .if2 .taken)), λ n q. absurd (halted _ _ _ _ _ _ _ q (c .halted-bus .ensures [])))
+returns c = (λ a b. back (stall-call (calls.SetStalled (c .before .before .before .before .before .before .before .before .before .before .before .before .before .args .dir) (c .before .before .before .before .before .before .before .before .before .before .before .before .before .args .e) (c .before .before .before .before .before .before .before .before .before .before .before .before .before .args .on)) (c .before .before .before .before .before .before .before .before .before .before .before .before .before .args .dir) (c .before .before .before .before .before .before .before .before .before .before .before .before .before .args .e) (resultless (script.setStalled (c .before .before .before .before .before .before .before .before .before .before .before .before .before .args .dir) (c .before .before .before .before .before .before .before .before .before .before .before .before .before .args .e) (c .before .before .before .before .before .before .before .before .before .before .before .before .before .args .on))) (decode (saved (now (c .before .before .before .before .before .before .before .before .before .before .before .before .before .args .s)))) (view (now (c .before .before .before .before .before .before .before .before .before .before .before .before .before .args .s))) a b refl) (c .halted-bus .ensures .0 b ∙ simp (c .before .before .set-stalled .ensures .0, c .before .before .before .endpoint .ensures, c .before .before .before .before .before .clear-wakes .ensures .0, ← c .before .before .before .before .before .before .before .before .before .before .before .stop .ensures, eq-eqb _ _ (c .before .before .before .before .before .before .before .before .before .before .if1 .taken), ← c .before .before .before .before .before .before .before .before .is-stallable .ensures, c .before .before .before .before .before .before .before .if2 .taken)), λ n q. absurd (c .halted-bus .ensures .1 n q))
 
 returns-2 : tie.Need-returns-2
 returns-2 c = (λ a b. back (stall-call (calls.SetStalled (c .before .before .before .before .before .before .args .dir) (c .before .before .before .before .before .before .args .e) (c .before .before .before .before .before .before .args .on)) (c .before .before .before .before .before .before .args .dir) (c .before .before .before .before .before .before .args .e) (resultless (script.setStalled (c .before .before .before .before .before .before .args .dir) (c .before .before .before .before .before .before .args .e) (c .before .before .before .before .before .before .args .on))) (decode (saved (now (c .before .before .before .before .before .before .args .s)))) (view (now (c .before .before .before .before .before .before .args .s))) a b refl) (simp (← c .before .before .before .before .stop .ensures, eq-eqb _ _ (c .before .before .before .if1 .taken), ← c .before .is-stallable .ensures, c .if2 .left)), λ n q. refl)

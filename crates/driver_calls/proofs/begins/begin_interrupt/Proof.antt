@@ -4,8 +4,6 @@ use Rattle.state.specs.State.{view, saved}
 use denote.Ref.{now}
 use mathlib.Core.Path.{_∙_, refl}
 use borrow.Author.Tests.{eq-eqb, ne-eqb}
-use mathlib.Core.List.{[]}
-use Rattle.way.specs.Keeps.{halted}
 use borrow.Author.Needs.{needs}
 use Rattle.driver_calls.proofs.begins.begin_interrupt.Statement.{statement}
 use Rattle.driver_calls.proofs.begins.begin_interrupt.Tie as tie
@@ -29,7 +27,7 @@ halted-interrupt-requires : tie.Need-halted-interrupt-requires
 halted-interrupt-requires c κs = c .begin .ensures .1
 
 returns : tie.Need-returns
-returns c = (λ a b. back (interrupt-call (decode (saved (now (c .before .before .before .before .before .before .before .before .args .s)))) (view (now (c .before .before .before .before .before .before .before .before .args .s))) a b) (c .halted-interrupt .ensures b ∙ simp (c .before .begin .ensures .0, c .before .before .before .clear-wakes .ensures .0, ← c .before .before .before .before .before .before .stop .ensures, eq-eqb _ _ (c .before .before .before .before .before .if1 .taken))), λ n q. absurd (halted _ _ _ _ _ _ _ q (c .halted-interrupt .ensures [])))
+returns c = (λ a b. back (interrupt-call (decode (saved (now (c .before .before .before .before .before .before .before .before .args .s)))) (view (now (c .before .before .before .before .before .before .before .before .args .s))) a b) (c .halted-interrupt .ensures .0 b ∙ simp (c .before .begin .ensures .0, c .before .before .before .clear-wakes .ensures .0, ← c .before .before .before .before .before .before .stop .ensures, eq-eqb _ _ (c .before .before .before .before .before .if1 .taken))), λ n q. absurd (c .halted-interrupt .ensures .1 n q))
 
 returns-2 : tie.Need-returns-2
 returns-2 c = (λ a b. back (interrupt-call (decode (saved (now (c .before .before .before .args .s)))) (view (now (c .before .before .before .args .s))) a b) (simp (← c .before .stop .ensures, ne-eqb _ _ (c .if1 .left))), λ n q. refl)

@@ -7,8 +7,6 @@ use Rattle.preview.specs.declared.Trial.{Trial}
 use Rattle.preview.specs.Trial.{trialOf}
 use Rattle.way.specs.Under.{decode}
 use Rattle.driver_calls.specs.Listed.{all-given, all-refused}
-use mathlib.Core.List.{[]}
-use Rattle.way.specs.Keeps.{halted}
 use borrow.Author.Needs.{needs}
 use Rattle.driver_calls.proofs.listed_calls.allocate_listed.Statement.{statement}
 use Rattle.driver_calls.proofs.listed_calls.allocate_listed.Tie as tie
@@ -44,7 +42,7 @@ returns c =
     let k = c .before .before .before .before .before .before .before .before .before in
     let a = k .before .before .before .args in
     let t = ap (λ (x : Trial). x .refusal) (k .try-all .ensures ∙ ap (λ (x : Allocator). trialOf x (stored (a .list))) (k .before .load-allocator .ensures)) in
-    (λ b. c .halted .ensures b ∙ all-given (stored (a .list)) (view (now (a .s))) b _ t _ _ _ (c .before .before .before .before .before .before .before .before .if1 .taken) (c .before .announce-all .ensures .0 b) (c .before .before .before .before .clear-wakes .ensures .0) (c .before .before .before .before .before .before .allocate-each .ensures .0), λ n q. absurd (halted _ _ _ _ _ _ _ q (c .halted .ensures [])))
+    (λ b. c .halted .ensures .0 b ∙ all-given (stored (a .list)) (view (now (a .s))) b _ t _ _ _ (c .before .before .before .before .before .before .before .before .if1 .taken) (c .before .announce-all .ensures .0 b) (c .before .before .before .before .clear-wakes .ensures .0) (c .before .before .before .before .before .before .allocate-each .ensures .0), λ n q. absurd (c .halted .ensures .1 n q))
 
 returns-2 : tie.Need-returns-2
 returns-2 c =
