@@ -13,11 +13,12 @@ ghost use Prim.Native.Nat.{ℕ};
 ghost use Rattle.state.specs.State.{view};
 ghost use Rattle.script.specs.Machine.{begin};
 ghost use Rattle.script.specs.Calls.{other, interrupt, Microframe, SetPaced, Advance};
-ghost use Rattle.way.specs.Under.{machineOf, drive, answerOf};
+ghost use Rattle.way.specs.Under.{machineOf, drive, answerOf, Kept};
 
 // The current microframe number (mod.rs 236-238).
 pub fn begin_microframe(s: &mut [u8; STATE_LEN]) -> Step
     ensures { λ r. ⌜ ((a b : List ℕ) → (answerOf r [] (view (now (s .exit))), machineOf (now (s .exit)) b) ≡ drive (begin (other Microframe)) (machineOf (now (s .entry)) a) b) ⌝ }
+    ensures { λ r. ⌜ Kept r (now (s .entry)) (now (s .exit)) ⌝ }
 {
     let n = stop(s, 2);
     if n == 0 {
@@ -30,6 +31,7 @@ pub fn begin_microframe(s: &mut [u8; STATE_LEN]) -> Step
 // Whether advance moves the endpoint on (mod.rs 308-317).
 pub fn set_paced(s: &mut [u8; STATE_LEN], e: u32, on: bool) -> Step
     ensures { λ r. ⌜ ((a b : List ℕ) → (answerOf r [] (view (now (s .exit))), machineOf (now (s .exit)) b) ≡ drive (begin (other (SetPaced e on))) (machineOf (now (s .entry)) a) b) ⌝ }
+    ensures { λ r. ⌜ Kept r (now (s .entry)) (now (s .exit)) ⌝ }
 {
     let n = stop(s, 2);
     if n == 0 {
@@ -45,6 +47,7 @@ pub fn set_paced(s: &mut [u8; STATE_LEN], e: u32, on: bool) -> Step
 // `iso_in_advance` (mod.rs 323-340).
 pub fn begin_advance(s: &mut [u8; STATE_LEN], e: u32) -> Step
     ensures { λ r. ⌜ ((a b : List ℕ) → (answerOf r [] (view (now (s .exit))), machineOf (now (s .exit)) b) ≡ drive (begin (other (Advance e))) (machineOf (now (s .entry)) a) b) ⌝ }
+    ensures { λ r. ⌜ Kept r (now (s .entry)) (now (s .exit)) ⌝ }
 {
     let n = stop(s, 2);
     if n == 0 {
@@ -61,6 +64,7 @@ pub fn begin_advance(s: &mut [u8; STATE_LEN], e: u32) -> Step
 // `on_interrupt` (mod.rs 634-852).
 pub fn begin_interrupt(s: &mut [u8; STATE_LEN]) -> Step
     ensures { λ r. ⌜ ((a b : List ℕ) → (answerOf r [] (view (now (s .exit))), machineOf (now (s .exit)) b) ≡ drive (begin interrupt) (machineOf (now (s .entry)) a) b) ⌝ }
+    ensures { λ r. ⌜ Kept r (now (s .entry)) (now (s .exit)) ⌝ }
 {
     let n = stop(s, 2);
     if n == 0 {

@@ -22,7 +22,7 @@ ghost use lib.Dec.{eqb};
 ghost use Rattle.state.specs.State.{view, saved};
 ghost use Rattle.script.specs.Machine.{start, begin};
 ghost use Rattle.script.specs.Calls.{slotted, SetEnabled, startRow};
-ghost use Rattle.way.specs.Under.{decode, machineOf, answerOf, configOf, lentOr};
+ghost use Rattle.way.specs.Under.{decode, machineOf, answerOf, configOf, lentOr, AsLent, Kept};
 ghost use Rattle.shared_time.specs.Sharing.{sharedCall};
 ghost use Rattle.shared_time.specs.Accepts.{accepts};
 
@@ -37,6 +37,7 @@ pub fn start_up(
     callback: bool,
 ) -> Step
     ensures { λ r. ⌜ ((a : List ℕ) → ((answerOf r [] (view (now (s .exit))), machineOf (now (s .exit)) (cond (eqb (startRow (configOf size count callback) (now (slots .entry))) 0) (now (slots .entry)) a)), now (time .exit)) ≡ sharedCall driver (start (configOf size count callback)) (machineOf (now (s .entry)) a) (now (time .entry)) (now (slots .entry))) ⌝ }
+    ensures { λ r. ⌜ Kept r (now (s .entry)) (now (s .exit)) ⌝ }
 {
     let step = starting_calls::start_up(s, slots, size, count, callback);
     started(time, driver, step);
@@ -66,6 +67,8 @@ fn enable(
     e: u32,
 ) -> Step
     ensures { λ r. ⌜ ((a : List ℕ) → ((answerOf r [] (view (now (s .exit))), machineOf (now (s .exit)) (lentOr (view (now (s .entry))) (now (slots .entry)) (now (slots .exit)) a)), now (time .exit)) ≡ sharedCall driver (begin (slotted (SetEnabled dir e true))) (machineOf (now (s .entry)) a) (now (time .entry)) (now (slots .entry))) ⌝ }
+    ensures { λ _. ⌜ AsLent (view (now (s .entry))) (now (slots .entry)) (now (slots .exit)) ⌝ }
+    ensures { λ r. ⌜ Kept r (now (s .entry)) (now (s .exit)) ⌝ }
 {
     let at = entry(driver, dir, e);
     let charge = charge_on(s, dir, e);
@@ -91,6 +94,8 @@ pub fn begin_set_enabled(
     on: bool,
 ) -> Step
     ensures { λ r. ⌜ ((a : List ℕ) → ((answerOf r [] (view (now (s .exit))), machineOf (now (s .exit)) (lentOr (view (now (s .entry))) (now (slots .entry)) (now (slots .exit)) a)), now (time .exit)) ≡ sharedCall driver (begin (slotted (SetEnabled dir e on))) (machineOf (now (s .entry)) a) (now (time .entry)) (now (slots .entry))) ⌝ }
+    ensures { λ _. ⌜ AsLent (view (now (s .entry))) (now (slots .entry)) (now (slots .exit)) ⌝ }
+    ensures { λ r. ⌜ Kept r (now (s .entry)) (now (s .exit)) ⌝ }
 {
     if on {
         return enable(s, slots, time, driver, dir, e);

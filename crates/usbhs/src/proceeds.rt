@@ -7,7 +7,7 @@ ghost use mathlib.Core.List.{List, []};
 ghost use Prim.Native.Nat.{ℕ};
 ghost use Rattle.state.specs.State.{view};
 ghost use Rattle.script.specs.Machine.{go};
-ghost use Rattle.way.specs.Under.{machineOf, answerOf, lentOr};
+ghost use Rattle.way.specs.Under.{machineOf, answerOf, lentOr, AsLent, Kept};
 ghost use Rattle.shared_time.specs.Sharing.{sharedCall};
 
 // Goes on with the operation under way: a write of ep_config gives back what it clears.
@@ -19,6 +19,8 @@ pub fn proceed(
     v: u32,
 ) -> Step
     ensures { λ r. ⌜ ((a : List ℕ) → ((answerOf r [] (view (now (s .exit))), machineOf (now (s .exit)) (lentOr (view (now (s .entry))) (now (slots .entry)) (now (slots .exit)) a)), now (time .exit)) ≡ sharedCall driver (go v) (machineOf (now (s .entry)) a) (now (time .entry)) (now (slots .entry))) ⌝ }
+    ensures { λ _. ⌜ AsLent (view (now (s .entry))) (now (slots .entry)) (now (slots .exit)) ⌝ }
+    ensures { λ r. ⌜ Kept r (now (s .entry)) (now (s .exit)) ⌝ }
 {
     let step = proceeding::proceed(s, slots, v);
     gone_on(time, driver, step);

@@ -1,7 +1,7 @@
--- The slice after a poll that brings the slots
-use mathlib.Core.Bool.{Bool, true, false, cond}
+-- The slice after a poll that brings the slots; the slots after row 1
+use mathlib.Core.Bool.{Bool, true, false, cond, true≢false}
 use mathlib.Core.List.{List}
-use mathlib.Core.Path.{_≡_, refl, ap, _∙_}
+use mathlib.Core.Path.{_≡_, refl, ap, sym, _∙_}
 use Prim.Native.Nat.{ℕ}
 use Rattle.state.specs.Driver.{Driver}
 use Rattle.request.specs.Answers.{lentAfter}
@@ -11,7 +11,7 @@ use Rattle.script.specs.Calls.{Slotted, slotted, slottedCode}
 use Rattle.script.specs.Machine.{Buf, Machine, Ans, ended, begin}
 use Rattle.ops.specs.Conc.{conc}
 use Rattle.way.specs.declared.Under.{Under}
-use Rattle.way.specs.Under.{machineAt, drive, halts, slotsFit, lentBy, lent-halts}
+use Rattle.way.specs.Under.{machineAt, drive, halts, slotsFit, AsLent, lentBy, lent-halts}
 use Rattle.way.specs.Goes.{Called}
 use Rattle.way.specs.Rows.{isIdle, slotted-idle}
 
@@ -40,3 +40,7 @@ module _ (o : Slotted) (u : Under) (d : Driver) (a b : Buf) (out : List ℕ) whe
 -- what holds of any slice holds of that one
 pub at-out : {f g : List ℕ → Called} (after x : List ℕ) → after ≡ x → ((out : List ℕ) → f out ≡ g out) → f after ≡ g after
 at-out after x e h = h after
+
+-- a slot buffer that fits is none of row 1's
+pub as-lent : (d : Driver) (b after : Buf) → slotsFit d b ≡ true → AsLent d b after
+as-lent d b after f h = absurd (true≢false (sym f ∙ h))

@@ -6,3 +6,4 @@ pub mod Interrupt
 pub mod Rows
 pub mod Lent
 pub mod Tags
+pub mod Keeps

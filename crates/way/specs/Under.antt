@@ -172,3 +172,15 @@ slotsFit d b = eqb (length b) (d .allocator .count * d .allocator .size)
 -- the slot buffer after a call that brought it: where its length was wrong, the run's own stays
 abbrev pub lentOr : Driver → Buf → Buf → Buf → Buf
 lentOr d b after old = cond (slotsFit d b) after old
+
+-- row 1: a slot buffer of a wrong length comes back as it was
+abbrev pub AsLent : Driver → Buf → Buf → Type 0
+AsLent d b after = slotsFit d b ≡ false → after ≡ b
+
+-- a refusal leaves what is saved of the operation under way, byte for byte
+abbrev pub Kept : Step → List ℕ → List ℕ → Type 0
+Kept r xs ys = (n : ℕ) → r ≡ step.Refused n → saved ys ≡ saved xs
+
+-- it is no refusal
+abbrev pub Unrefused : Step → Type 0
+Unrefused r = (n : ℕ) → r ≡ step.Refused n → ⊥

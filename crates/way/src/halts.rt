@@ -20,7 +20,7 @@ ghost use Rattle.control.specs.Points as control;
 ghost use Rattle.endpoint.specs.Points as endpoint;
 ghost use Rattle.iso_in.specs.Advance as advance;
 ghost use Rattle.handler.specs.Points as handler;
-ghost use Rattle.way.specs.Under.{withTag, encode, decode, finish, machineAt, machineOf, haltsAs, halts, handedOut, answerOf};
+ghost use Rattle.way.specs.Under.{withTag, encode, decode, finish, machineAt, machineOf, haltsAs, halts, handedOut, answerOf, Kept, Unrefused};
 ghost use Rattle.way.specs.Rows.{isIdle};
 
 // The operation is under way: it stands where it handed out the access, at a point that is saved with its tag.
@@ -46,6 +46,7 @@ fn ended(s: &mut [u8; STATE_LEN], n: u16) -> Step
 pub fn halted(s: &mut [u8; STATE_LEN], n: driver::Next) -> Step
     requires { ⌜ driver.Linked n ⌝ }
     ensures { λ r. ⌜ ((b : List ℕ) → (answerOf r [] (view (now (s .exit))), machineOf (now (s .exit)) b) ≡ halts (bindOut (driver.meaning n (view (now (s .entry))) b) (λ k t. run conc (finish k) t))) ⌝ }
+    ensures { λ r. ⌜ Unrefused r ⌝ }
 {
     match n {
         driver::Next::Asks(q, p) => asks(s, q, driver_codec::encode(p), 1),
@@ -57,6 +58,7 @@ pub fn halted(s: &mut [u8; STATE_LEN], n: driver::Next) -> Step
 pub fn halted_bus(s: &mut [u8; STATE_LEN], n: bus::Next) -> Step
     requires { ⌜ bus.Linked n ⌝ }
     ensures { λ r. ⌜ ((b : List ℕ) → (answerOf r [] (view (now (s .exit))), machineOf (now (s .exit)) b) ≡ halts (bindOut (bus.meaning n (view (now (s .entry))) b) (λ k t. run conc (finish k) t))) ⌝ }
+    ensures { λ r. ⌜ Unrefused r ⌝ }
 {
     match n {
         bus::Next::Asks(q, p) => asks(s, q, bus::encode(p), 2),
@@ -68,6 +70,7 @@ pub fn halted_bus(s: &mut [u8; STATE_LEN], n: bus::Next) -> Step
 pub fn halted_control(s: &mut [u8; STATE_LEN], n: control::Next) -> Step
     requires { ⌜ control.Linked n ⌝ }
     ensures { λ r. ⌜ ((b : List ℕ) → (answerOf r [] (view (now (s .exit))), machineOf (now (s .exit)) b) ≡ halts (bindOut (control.meaning n (view (now (s .entry))) b) (λ k t. run conc (finish k) t))) ⌝ }
+    ensures { λ r. ⌜ Unrefused r ⌝ }
 {
     match n {
         control::Next::Asks(q, p) => asks(s, q, control::encode(p), 3),
@@ -79,6 +82,7 @@ pub fn halted_control(s: &mut [u8; STATE_LEN], n: control::Next) -> Step
 pub fn begun_control(s: &mut [u8; STATE_LEN], n: control::Begun) -> Step
     requires { ⌜ control.LinkedBegun n × (isIdle (decode (saved (now s))) ≡ true) ⌝ }
     ensures { λ r. ⌜ ((b : List ℕ) → (answerOf r [] (view (now (s .exit))), machineOf (now (s .exit)) b) ≡ halts (control.begunAs n (view (now (s .entry))) b)) ⌝ }
+    ensures { λ r. ⌜ Kept r (now (s .entry)) (now (s .exit)) ⌝ }
 {
     match n {
         control::Begun::Refused(k) => Step::Refused(k),
@@ -91,6 +95,7 @@ pub fn begun_control(s: &mut [u8; STATE_LEN], n: control::Begun) -> Step
 pub fn polled_control(s: &mut [u8; STATE_LEN], n: control::Polled) -> Step
     requires { ⌜ control.LinkedPolled n × (isIdle (decode (saved (now s))) ≡ true) ⌝ }
     ensures { λ r. ⌜ ((out b : List ℕ) → (answerOf r out (view (now (s .exit))), machineOf (now (s .exit)) b) ≡ halts (control.polledAs n out (view (now (s .entry))) b)) ⌝ }
+    ensures { λ r. ⌜ Kept r (now (s .entry)) (now (s .exit)) ⌝ }
 {
     match n {
         control::Polled::Refused(k) => Step::Refused(k),
@@ -105,6 +110,7 @@ pub fn polled_control(s: &mut [u8; STATE_LEN], n: control::Polled) -> Step
 pub fn halted_endpoint(s: &mut [u8; STATE_LEN], n: endpoint::Next) -> Step
     requires { ⌜ endpoint.Linked n ⌝ }
     ensures { λ r. ⌜ ((b : List ℕ) → (answerOf r [] (view (now (s .exit))), machineOf (now (s .exit)) b) ≡ halts (bindOut (endpoint.meaning n (view (now (s .entry))) b) (λ k t. run conc (finish k) t))) ⌝ }
+    ensures { λ r. ⌜ Unrefused r ⌝ }
 {
     match n {
         endpoint::Next::Asks(q, p) => asks(s, q, endpoint::encode(p), 4),
@@ -116,6 +122,7 @@ pub fn halted_endpoint(s: &mut [u8; STATE_LEN], n: endpoint::Next) -> Step
 pub fn halted_advance(s: &mut [u8; STATE_LEN], n: AdvanceNext) -> Step
     requires { ⌜ advance.Linked n ⌝ }
     ensures { λ r. ⌜ ((b : List ℕ) → (answerOf r [] (view (now (s .exit))), machineOf (now (s .exit)) b) ≡ halts (bindOut (advance.meaning n (view (now (s .entry))) b) (λ k t. run conc (finish k) t))) ⌝ }
+    ensures { λ r. ⌜ Unrefused r ⌝ }
 {
     match n {
         AdvanceNext::Asks(q, p) => asks(s, q, iso_in::codec::encode(p), 5),
@@ -127,6 +134,7 @@ pub fn halted_advance(s: &mut [u8; STATE_LEN], n: AdvanceNext) -> Step
 pub fn halted_interrupt(s: &mut [u8; STATE_LEN], n: handler::Next) -> Step
     requires { ⌜ handler.Linked n ⌝ }
     ensures { λ r. ⌜ ((b : List ℕ) → (answerOf r [] (view (now (s .exit))), machineOf (now (s .exit)) b) ≡ haltsAs true (bindOut (handler.meaning n (view (now (s .entry))) b) (λ k t. run conc (finish k) t))) ⌝ }
+    ensures { λ r. ⌜ Unrefused r ⌝ }
 {
     match n {
         handler::Next::Asks(q, p) => asks(s, q, handler_codec::encode(p), 6),
@@ -138,6 +146,7 @@ pub fn halted_interrupt(s: &mut [u8; STATE_LEN], n: handler::Next) -> Step
 pub fn begun_endpoint(s: &mut [u8; STATE_LEN], n: endpoint::Begun) -> Step
     requires { ⌜ endpoint.LinkedBegun n × (isIdle (decode (saved (now s))) ≡ true) ⌝ }
     ensures { λ r. ⌜ ((b : List ℕ) → (answerOf r [] (view (now (s .exit))), machineOf (now (s .exit)) b) ≡ halts (endpoint.begunAs n (view (now (s .entry))) b)) ⌝ }
+    ensures { λ r. ⌜ Kept r (now (s .entry)) (now (s .exit)) ⌝ }
 {
     match n {
         endpoint::Begun::Refused(k) => Step::Refused(k),

@@ -1,8 +1,10 @@
 use Rattle.way.specs.Rows.{back}
 use Rattle.way.specs.Goes.{proceeds}
 use Rattle.way.specs.Under.{decode}
+use Rattle.way.specs.Lent.{as-lent}
 use Rattle.state.specs.State.{view, saved}
 use denote.Ref.{now}
+use mathlib.Core.Path.{refl, sym, _∙_}
 use borrow.Author.Needs.{needs}
 use Rattle.proceeding.proofs.proceed.Statement.{statement}
 use Rattle.proceeding.proofs.proceed.Tie as tie
@@ -21,13 +23,13 @@ same-length : tie.Need-same-length
 same-length c = search needs
 
 returns : tie.Need-returns
-returns c a = back (proceeds (c .before .before .before .before .before .before .before .before .before .before .args .v) (decode (saved (now (c .before .before .before .before .before .before .before .before .before .before .args .s)))) (view (now (c .before .before .before .before .before .before .before .before .before .before .args .s))) a (now (c .before .before .before .before .before .before .before .before .before .before .args .slots))) (simp (← c .before .before .before .before .before .before .slots-fit .ensures, c .before .before .before .before .before .if1 .taken) (c .before .before .proceed-at .ensures))
+returns c = (λ a. back (proceeds (c .before .before .before .before .before .before .before .before .before .before .args .v) (decode (saved (now (c .before .before .before .before .before .before .before .before .before .before .args .s)))) (view (now (c .before .before .before .before .before .before .before .before .before .before .args .s))) a (now (c .before .before .before .before .before .before .before .before .before .before .args .slots))) (simp (← c .before .before .before .before .before .before .slots-fit .ensures, c .before .before .before .before .before .if1 .taken) (c .before .before .proceed-at .ensures .0)), (as-lent _ _ _ (sym (c .before .before .before .before .before .before .slots-fit .ensures) ∙ c .before .before .before .before .before .if1 .taken), c .before .before .proceed-at .ensures .1))
 
 same-length-2 : tie.Need-same-length-2
 same-length-2 c = search needs
 
 returns-2 : tie.Need-returns-2
-returns-2 c a = back (proceeds (c .before .before .before .before .before .args .v) (decode (saved (now (c .before .before .before .before .before .args .s)))) (view (now (c .before .before .before .before .before .args .s))) a (now (c .before .before .before .before .before .args .slots))) (simp (← c .before .slots-fit .ensures, c .if1 .left))
+returns-2 c = (λ a. back (proceeds (c .before .before .before .before .before .args .v) (decode (saved (now (c .before .before .before .before .before .args .s)))) (view (now (c .before .before .before .before .before .args .s))) a (now (c .before .before .before .before .before .args .slots))) (simp (← c .before .slots-fit .ensures, c .if1 .left)), (λ h. refl, λ n q. refl))
 
 pub proceed-spec : {M : Type 1} → statement M
 proceed-spec =

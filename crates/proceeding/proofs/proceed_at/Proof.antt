@@ -1,6 +1,7 @@
 use Rattle.way.specs.Tags.{at-none}
 use Rattle.state.specs.State.{saved}
 use denote.Ref.{now}
+use mathlib.Core.Path.{refl}
 use borrow.Author.Needs.{needs}
 use Rattle.proceeding.proofs.proceed_at.Statement.{statement}
 use Rattle.proceeding.proofs.proceed_at.Tie as tie
@@ -36,7 +37,7 @@ proceed-interrupt-requires : tie.Need-proceed-interrupt-requires
 proceed-interrupt-requires c κs = search needs
 
 returns : tie.Need-returns
-returns c = c .proceed-driver .ensures _
+returns c = (c .proceed-driver .ensures .0 _, c .proceed-driver .ensures .1)
 
 same-length : tie.Need-same-length
 same-length c = search needs
@@ -45,13 +46,13 @@ returns-2 : tie.Need-returns-2
 returns-2 c = search needs
 
 returns-3 : tie.Need-returns-3
-returns-3 c = c .proceed-control .ensures _
+returns-3 c = (c .proceed-control .ensures .0 _, c .proceed-control .ensures .1)
 
 returns-4 : tie.Need-returns-4
-returns-4 c = c .proceed-endpoint .ensures _
+returns-4 c = (c .proceed-endpoint .ensures .0 _, c .proceed-endpoint .ensures .1)
 
 returns-5 : tie.Need-returns-5
-returns-5 c = c .proceed-advance .ensures _
+returns-5 c = (c .proceed-advance .ensures .0 _, c .proceed-advance .ensures .1)
 
 same-length-2 : tie.Need-same-length-2
 same-length-2 c = search needs
@@ -60,7 +61,7 @@ returns-6 : tie.Need-returns-6
 returns-6 c = search needs
 
 returns-7 : tie.Need-returns-7
-returns-7 c = simp (at-none (saved (now (c .before .before .before .before .args .s))) _ (c .before .tag .ensures) (c .match .rest .0 .0 .0 .0 .0 .1) (c .match .rest .0 .0 .0 .0 .1) (c .match .rest .0 .0 .0 .1) (c .match .rest .0 .0 .1) (c .match .rest .0 .1) (c .match .rest .1))
+returns-7 c = (simp (at-none (saved (now (c .before .before .before .before .args .s))) _ (c .before .tag .ensures) (c .match .rest .0 .0 .0 .0 .0 .1) (c .match .rest .0 .0 .0 .0 .1) (c .match .rest .0 .0 .0 .1) (c .match .rest .0 .0 .1) (c .match .rest .0 .1) (c .match .rest .1)), λ n q. refl)
 
 pub proceed-at-spec : {M : Type 1} → statement M
 proceed-at-spec =

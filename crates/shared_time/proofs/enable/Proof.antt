@@ -1,5 +1,5 @@
 use denote.Ref.{now}
-use mathlib.Core.Path.{sym, _∙_}
+use mathlib.Core.Path.{refl, sym, _∙_}
 use native.Mathlib.Omega.{arith}
 use Rattle.state.specs.State.{view, saved}
 use Rattle.way.specs.Under.{decode}
@@ -33,9 +33,9 @@ same-length : tie.Need-same-length
 same-length c = search needs
 
 returns : tie.Need-returns
-returns c a =
+returns c =
     let x = c .before .before .before .before .before .before .before .before .before .before .before .args in
-    turned (x .driver) (x .dir) (x .e) (decode (saved (now (x .s)))) (view (now (x .s))) a (now (x .slots)) (now (x .time)) (sym (c .before .is-accepted .ensures) ∙ c .if2 .taken) (rw (← c .before .before .before .before .before .before .before .before .before .entry .ensures .0, ← c .before .before .before .before .before .before .before .charge-on .ensures .0) (sym (c .before .before .before .before .before .passes .ensures) ∙ c .before .before .before .before .if1 .taken))
+    (λ a. turned (x .driver) (x .dir) (x .e) (decode (saved (now (x .s)))) (view (now (x .s))) a (now (x .slots)) (now (x .time)) (sym (c .before .is-accepted .ensures) ∙ c .if2 .taken) (rw (← c .before .before .before .before .before .before .before .before .before .entry .ensures .0, ← c .before .before .before .before .before .before .before .charge-on .ensures .0) (sym (c .before .before .before .before .before .passes .ensures) ∙ c .before .before .before .before .if1 .taken)), (λ h. refl, λ n q. refl))
 
 begin-set-enabled-requires : tie.Need-begin-set-enabled-requires
 begin-set-enabled-requires c κs = search needs
@@ -44,9 +44,9 @@ same-length-2 : tie.Need-same-length-2
 same-length-2 c = search needs
 
 returns-2 : tie.Need-returns-2
-returns-2 c a =
+returns-2 c =
     let x = c .before .before .before .before .before .before .before .before .before .before .before .before .before .before .before .before .args in
-    stopped (x .driver) (x .dir) (x .e) (decode (saved (now (x .s)))) (view (now (x .s))) a (now (x .slots)) (now (x .time)) _ (sym (c .before .before .before .before .before .before .is-accepted .ensures) ∙ c .before .before .before .before .before .if2 .left) (c .before .before .begin-set-enabled .ensures a)
+    (λ a. stopped (x .driver) (x .dir) (x .e) (decode (saved (now (x .s)))) (view (now (x .s))) a (now (x .slots)) (now (x .time)) _ (sym (c .before .before .before .before .before .before .is-accepted .ensures) ∙ c .before .before .before .before .before .if2 .left) (c .before .before .begin-set-enabled .ensures .0 a), c .before .before .begin-set-enabled .ensures .1)
 
 begin-set-enabled-requires-2 : tie.Need-begin-set-enabled-requires-2
 begin-set-enabled-requires-2 c κs = search needs
@@ -60,12 +60,14 @@ same-length-3 : tie.Need-same-length-3
 same-length-3 c = search needs
 
 returns-3 : tie.Need-returns-3
-returns-3 c a =
+returns-3 c =
     let k = c .before .before .before .before .before .before .before .before .before .before in
-    let x = k .before .before .before .before .args in
-    begun (x .driver) (x .dir) (x .e) (decode (saved (now (x .s)))) (view (now (x .s))) a (now (x .slots)) (now (x .time)) _ _ _ _ (k .before .before .entry .ensures .0) (k .charge-on .ensures .0)
-    (sym (c .before .before .before .before .before .before .before .before .passes .ensures) ∙ c .before .before .before .before .before .before .before .if1 .left)
-    (c .before .before .before .before .begin-set-enabled2 .ensures a) (c .charged .ensures _)
+    let x = k .before .before .before .before .args in (
+      λ a. begun (x .driver) (x .dir) (x .e) (decode (saved (now (x .s)))) (view (now (x .s))) a (now (x .slots)) (now (x .time)) _ _ _ _ (k .before .before .entry .ensures .0) (k .charge-on .ensures .0)
+          (sym (c .before .before .before .before .before .before .before .before .passes .ensures) ∙ c .before .before .before .before .before .before .before .if1 .left)
+          (c .before .before .before .before .begin-set-enabled2 .ensures .0 a) (c .charged .ensures _),
+      c .before .before .before .before .begin-set-enabled2 .ensures .1,
+    )
 
 pub enable-spec : {M : Type 1} → statement M
 enable-spec =

@@ -1,6 +1,6 @@
 use Rattle.script.specs.Calls.{startRow}
 use Rattle.starting_calls.specs.Starts.{good-16}
-use mathlib.Core.Path.{_∙_, sym}
+use mathlib.Core.Path.{_∙_, sym, refl}
 use borrow.Author.Needs.{needs}
 use Rattle.starting_calls.proofs.start_up.Statement.{statement}
 use Rattle.starting_calls.proofs.start_up.Tie as tie
@@ -43,15 +43,15 @@ halted-requires c κs = c .start-up .ensures .1
 
 returns : tie.Need-returns
 unfolding startRow
-returns c a = simp (← c .before .before .before .before .before .before .before .before .before .good-buffer .ensures, c .before .before .before .before .before .before .before .before .if2 .taken, ← c .before .before .before .before .before .before .before .before .before .before .before .fits2 .ensures, c .before .before .before .before .before .before .before .before .before .before .if1 .taken) (c .halted .ensures _ ∙ simp (c .before .start-up .ensures .0, c .before .before .before .clear-wakes .ensures .0, c .before .before .before .before .before .fresh .ensures .0, c .before .before .before .before .before .before .flag-of .ensures))
+returns c = (λ a. simp (← c .before .before .before .before .before .before .before .before .before .good-buffer .ensures, c .before .before .before .before .before .before .before .before .if2 .taken, ← c .before .before .before .before .before .before .before .before .before .before .before .fits2 .ensures, c .before .before .before .before .before .before .before .before .before .before .if1 .taken) (c .halted .ensures .0 _ ∙ simp (c .before .start-up .ensures .0, c .before .before .before .clear-wakes .ensures .0, c .before .before .before .before .before .fresh .ensures .0, c .before .before .before .before .before .before .flag-of .ensures)), λ n q. absurd (c .halted .ensures .1 n q))
 
 returns-2 : tie.Need-returns-2
 unfolding startRow
-returns-2 c a = simp (← c .before .good-buffer .ensures, c .if2 .left, ← c .before .before .before .fits2 .ensures, c .before .before .if1 .taken)
+returns-2 c = (λ a. simp (← c .before .good-buffer .ensures, c .if2 .left, ← c .before .before .before .fits2 .ensures, c .before .before .if1 .taken), λ n q. refl)
 
 returns-3 : tie.Need-returns-3
 unfolding startRow
-returns-3 c a = simp (← c .before .fits2 .ensures, c .if1 .left)
+returns-3 c = (λ a. simp (← c .before .fits2 .ensures, c .if1 .left), λ n q. refl)
 
 pub start-up-spec : {M : Type 1} → statement M
 start-up-spec =

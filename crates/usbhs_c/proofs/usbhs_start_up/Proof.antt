@@ -17,7 +17,7 @@ word-of-requires : tie.Need-word-of-requires
 word-of-requires c κs = search needs
 
 returns : tie.Need-returns
-returns c = (_, c .word-of .ensures, λ a. simp (← c .before .before .flag-of .ensures) (c .before .start-up .ensures a))
+returns c = (_, c .word-of .ensures, (λ a. simp (← c .before .before .flag-of .ensures) (c .before .start-up .ensures .0 a), c .before .start-up .ensures .1))
 
 pub usbhs-start-up-spec : {M : Type 1} → statement M
 usbhs-start-up-spec =

@@ -33,10 +33,10 @@ enum-known-answer : tie.Need-enum-known-answer
 enum-known-answer c = search needs
 
 returns : tie.Need-returns
-returns c a b =
+returns c =
     let k = c .before .before .before in
     let x = k .before .before .before .before .before .args in
-    all-unread (decode (saved (now (x .s)))) (view (now (x .s))) a b (now (x .bytes)) _ (eq-eqb _ _ (sym (k .before .before .stop .ensures) ∙ k .before .if1 .taken)) (sym (ap (λ (r : Reading). r .answer) (k .read .ensures)) ∙ c .before .answer .given .1)
+    (λ a b. all-unread (decode (saved (now (x .s)))) (view (now (x .s))) a b (now (x .bytes)) _ (eq-eqb _ _ (sym (k .before .before .stop .ensures) ∙ k .before .if1 .taken)) (sym (ap (λ (r : Reading). r .answer) (k .read .ensures)) ∙ c .before .answer .given .1), λ n q. refl)
 
 enum-told : tie.Need-enum-told
 enum-told c = search needs
@@ -48,7 +48,7 @@ allocate-listed-requires c κs =
     passes-idle (decode (saved (now (x .s)))) (view (now (x .s))) (eq-eqb _ _ (sym (k .before .before .stop .ensures) ∙ k .before .if1 .taken))
 
 returns-2 : tie.Need-returns-2
-returns-2 c a b =
+returns-2 c =
     let k = c .before .before .before .before .before in
     let x = k .before .before .before .before .before .args in
     let s = now (x .bytes) in
@@ -58,12 +58,12 @@ returns-2 c a b =
     let l = accepted s y e in
     let w : stored (k .read .result .list) ≡ listOf s =
     ap (λ (z : Reading). stored (z .list)) r ∙ ap (λ (z : Endpoints). stored z) (l .list) ∙ stored-of (listOf s) (l .good) in
-    c .allocate-listed .ensures b ∙ all-read (decode (saved (now (x .s)))) (view (now (x .s))) a b s (stored (k .read .result .list)) (eq-eqb _ _ (sym (k .before .before .stop .ensures) ∙ k .before .if1 .taken)) e w
+    (λ a b. c .allocate-listed .ensures .0 b ∙ all-read (decode (saved (now (x .s)))) (view (now (x .s))) a b s (stored (k .read .result .list)) (eq-eqb _ _ (sym (k .before .before .stop .ensures) ∙ k .before .if1 .taken)) e w, c .allocate-listed .ensures .1)
 
 returns-3 : tie.Need-returns-3
-returns-3 c a b =
+returns-3 c =
     let x = c .before .before .before .before .args in
-    back (other-call (calls.AllocateAll (now (x .bytes))) 1 (reading-all (now (x .bytes))) (decode (saved (now (x .s)))) (view (now (x .s))) a b refl) (simp (← c .before .stop .ensures, ne-eqb _ _ (c .if1 .left)))
+    (λ a b. back (other-call (calls.AllocateAll (now (x .bytes))) 1 (reading-all (now (x .bytes))) (decode (saved (now (x .s)))) (view (now (x .s))) a b refl) (simp (← c .before .stop .ensures, ne-eqb _ _ (c .if1 .left))), λ n q. refl)
 
 pub allocate-all-spec : {M : Type 1} → statement M
 allocate-all-spec =

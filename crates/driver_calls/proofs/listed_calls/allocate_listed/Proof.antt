@@ -1,4 +1,4 @@
-use mathlib.Core.Path.{_∙_, ap}
+use mathlib.Core.Path.{_∙_, ap, refl}
 use denote.Ref.{now}
 use Rattle.state.specs.State.{view, saved}
 use Rattle.state.specs.declared.Allocator.{Allocator}
@@ -38,18 +38,18 @@ halted-requires : tie.Need-halted-requires
 halted-requires c κs = c .announce-all .ensures .1
 
 returns : tie.Need-returns
-returns c b =
+returns c =
     let k = c .before .before .before .before .before .before .before .before .before in
     let a = k .before .before .before .args in
     let t = ap (λ (x : Trial). x .refusal) (k .try-all .ensures ∙ ap (λ (x : Allocator). trialOf x (stored (a .list))) (k .before .load-allocator .ensures)) in
-    c .halted .ensures b ∙ all-given (stored (a .list)) (view (now (a .s))) b _ t _ _ _ (c .before .before .before .before .before .before .before .before .if1 .taken) (c .before .announce-all .ensures .0 b) (c .before .before .before .before .clear-wakes .ensures .0) (c .before .before .before .before .before .before .allocate-each .ensures .0)
+    (λ b. c .halted .ensures .0 b ∙ all-given (stored (a .list)) (view (now (a .s))) b _ t _ _ _ (c .before .before .before .before .before .before .before .before .if1 .taken) (c .before .announce-all .ensures .0 b) (c .before .before .before .before .clear-wakes .ensures .0) (c .before .before .before .before .before .before .allocate-each .ensures .0), λ n q. absurd (c .halted .ensures .1 n q))
 
 returns-2 : tie.Need-returns-2
-returns-2 c b =
+returns-2 c =
     let k = c .before in
     let a = k .before .before .before .args in
     let t = ap (λ (x : Trial). x .refusal) (k .try-all .ensures ∙ ap (λ (x : Allocator). trialOf x (stored (a .list))) (k .before .load-allocator .ensures)) in
-    all-refused (stored (a .list)) (view (now (a .s))) b _ t (decode (saved (now (a .s)))) (k .before .before .before .pre) (c .if1 .left)
+    (λ b. all-refused (stored (a .list)) (view (now (a .s))) b _ t (decode (saved (now (a .s)))) (k .before .before .before .pre) (c .if1 .left), λ n q. refl)
 
 pub allocate-listed-spec : {M : Type 1} → statement M
 allocate-listed-spec =

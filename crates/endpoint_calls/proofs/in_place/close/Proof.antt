@@ -4,7 +4,7 @@ use Rattle.script.specs.Calls as calls
 use Rattle.way.specs.Under.{decode}
 use Rattle.state.specs.State.{view, saved}
 use denote.Ref.{now}
-use mathlib.Core.Path.{_∙_, sym}
+use mathlib.Core.Path.{_∙_, sym, refl}
 use borrow.Author.Needs.{needs}
 use Rattle.endpoint_calls.proofs.in_place.close.Statement.{statement}
 use Rattle.endpoint_calls.proofs.in_place.close.Tie as tie
@@ -24,10 +24,10 @@ told-requires : tie.Need-told-requires
 told-requires c κs = search needs
 
 returns : tie.Need-returns
-returns c a b = back (aside-call (calls.Close (c .before .before .before .before .before .before .args .e)) (decode (saved (now (c .before .before .before .before .before .before .args .s)))) (view (now (c .before .before .before .before .before .before .args .s))) a b) (told-beside _ _ (view (now (c .before .before .before .before .before .before .args .s))) b _ _ _ (c .told .result) (c .before .close .result) (c .told .ensures .0) (c .before .close .ensures .1) (sym (c .before .before .before .before .may-pass .ensures) ∙ c .before .before .before .if1 .taken) (c .before .close .ensures .0 b))
+returns c = (λ a b. back (aside-call (calls.Close (c .before .before .before .before .before .before .args .e)) (decode (saved (now (c .before .before .before .before .before .before .args .s)))) (view (now (c .before .before .before .before .before .before .args .s))) a b) (told-beside _ _ (view (now (c .before .before .before .before .before .before .args .s))) b _ _ _ (c .told .result) (c .before .close .result) (c .told .ensures .0) (c .before .close .ensures .1) (sym (c .before .before .before .before .may-pass .ensures) ∙ c .before .before .before .if1 .taken) (c .before .close .ensures .0 b)), λ n q. c .before .close .ensures .1)
 
 returns-2 : tie.Need-returns-2
-returns-2 c a b = back (aside-call (calls.Close (c .before .before .before .args .e)) (decode (saved (now (c .before .before .before .args .s)))) (view (now (c .before .before .before .args .s))) a b) (simp (← c .before .may-pass .ensures, c .if1 .left))
+returns-2 c = (λ a b. back (aside-call (calls.Close (c .before .before .before .args .e)) (decode (saved (now (c .before .before .before .args .s)))) (view (now (c .before .before .before .args .s))) a b) (simp (← c .before .may-pass .ensures, c .if1 .left)), λ n q. refl)
 
 pub close-spec : {M : Type 1} → statement M
 close-spec =

@@ -21,9 +21,9 @@ same-length : tie.Need-same-length
 same-length c = search needs
 
 returns : tie.Need-returns
-returns c a =
+returns c =
     let x = c .before .before .before .before .before .before .before .before .args in
-    settles (x .driver) (go (x .v)) (machineOf (now (x .s)) a) (now (x .time)) (now (x .slots)) _ _ refl (c .before .before .before .before .proceed .ensures a) (c .gone-on .ensures _ _)
+    (λ a. settles (x .driver) (go (x .v)) (machineOf (now (x .s)) a) (now (x .time)) (now (x .slots)) _ _ refl (c .before .before .before .before .proceed .ensures .0 a) (c .gone-on .ensures _ _), c .before .before .before .before .proceed .ensures .1)
 
 pub proceed-spec : {M : Type 1} → statement M
 proceed-spec = tie.close (tie.spec proceed-requires gone-on-requires same-length returns)

@@ -1,0 +1,6 @@
+pub mod Left
+pub mod Outcomes
+pub mod Scripts
+pub mod Refusals
+pub mod Bytes
+pub mod Shared

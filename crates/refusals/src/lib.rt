@@ -1,0 +1,1 @@
+// A refusal changes nothing but what document 01 names. It has no code.
