@@ -10,7 +10,7 @@ use Rattle.script.specs.Tree as tree
 use Rattle.script.specs.Tree.{ends, asks}
 use Rattle.script.specs.Every.{at-end}
 use Rattle.script.specs.Answers.{Answer}
-use Rattle.script.specs.Alike.{Phase, quiet, mid, Fits}
+use Rattle.script.specs.Alike.{quiet, mid}
 use Rattle.script.specs.Calls.{Config, PollRead, Op, slotted, aside, Aside, calls}
 use Rattle.script.specs.Machine.{Buf, Call, start, begin, go, question, Ans, awaited, busy, beside}
 use Rattle.ops.specs.Rings.{St}
@@ -34,10 +34,6 @@ use Rattle.apart.specs.Standing.{machineOf, stops, runOf, own-no, past-n
 use Rattle.apart.specs.Runs.{go-busy, begin-idle, aside-busy, aside-late, through-one, spares-put}
 
 -- ---- where the one is touched they line up as before
-
-no-row : {i : Bool} {X : Type 0} (φ : Phase) → i ≡ true → Fits i φ → (φ ≡ quiet → X) → X
-no-row quiet e z f = f refl
-no-row (mid g n) e z f = absurd (subst (λ j. Fits j (mid g n)) e z)
 
 module _ {c : Channel} {st : ℕ} {i : Bool} where
   pub lawful-rests : {a : Answer} {s : St} {u : tree.Out St Answer} → ApartBy c st i (SameAnswer (c .number)) true (ends a s) u → Lawful (c .iso) quiet s

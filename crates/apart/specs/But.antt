@@ -33,8 +33,8 @@ without o (a ∷ l) = cond (eqb a o) (without o l) (a ∷ without o l)
 abbrev pub others : ℕ → List ℕ → List ℕ
 others x l = without (wakeCode Out x) l
 
--- "the order of the others' wake-ups": the two lists without OUT x's are the same. A list of 64 has no room for more, to which no operation comes
--- (`wake_ups`: an interrupt wakes at most 54 times)
+-- "the order of the others' wake-ups": the two lists without OUT x's are the same. A list of 64 has no room for more, to which none comes in a run
+-- (`wake_ups`: `rooms`)
 abbrev pub SameCodes : ℕ → List ℕ → List ℕ → Type 0
 SameCodes x l l′ = length l < 64 → length l′ < 64 → others x l ≡ others x l′
 

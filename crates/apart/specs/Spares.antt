@@ -131,9 +131,6 @@ Sparing o = All any (λ _ _. Unit {0}) Spares tt o
 pub interrupt-spares : (s : St) → Sparing (run conc interruptCode s)
 interrupt-spares s = only-run conc interruptCode (λ _. tt, λ _. ((tt, λ _. ((of-stamped true, λ _. tt), λ _. (λ _. tt, λ _. tt))), tt)) tt s
 
--- an access that is handed out, and what goes on after it
-pub spares-now : {q : Access} {s : St} {k : ℕ → St → tree.Out St Answer} → Sparing (asks q s k) → Spares q
-spares-now (at-ask ok k) = ok
-
+-- what goes on after an access
 pub spares-on : {q : Access} {s : St} {k : ℕ → St → tree.Out St Answer} → Sparing (asks q s k) → (v : ℕ) (t : St) → Sparing (k v t)
 spares-on (at-ask ok k) v t = k v t tt tt

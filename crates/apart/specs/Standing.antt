@@ -29,7 +29,7 @@ use Rattle.apart.specs.Answers as answer
 use Rattle.apart.specs.Answers.{SameAnswer, answer-sym}
 use Rattle.apart.specs.Spares.{Spares, Sparing}
 use Rattle.apart.specs.Others.{same-others}
-use Rattle.apart.specs.Turns.{Run, Two, accessOf, atOwn, SameAns, same, ended-same, SameOthers, Answers, alike, own-first, own-second}
+use Rattle.apart.specs.Turns.{Run, Two, accessOf, atOwn, SameAns, same, ended-same, SameStand, SameOthers, Answers, alike, own-first, own-second}
 
 -- ---- machines
 
@@ -200,6 +200,13 @@ module _ {c : Channel} where
   at-lined (at st i (left {s = s} {k = g} w p z f) q q′ h k k′ e) m n = absurd (true≢false (sym (own-yes (c .number) g s w) ∙ m))
   at-lined (at st i (right {t = t} {k = g} w p z f) q q′ h k k′ e) m n = absurd (true≢false (sym (own-yes (c .number) g t w) ∙ n))
   at-lined (at st i (owns {s = s} {k = g} w w′ l f f′) q q′ h k k′ e) m n = absurd (true≢false (sym (own-yes (c .number) g s w) ∙ m))
+
+  pub at-stands : {w : Two} → At c w → atOwn c (w .first) ≡ false → atOwn c (w .second) ≡ false → SameStand (w .first .machine .way) (w .second .machine .way) (w .first .access) (w .second .access)
+  at-stands (at st i (end x l) q q′ h k k′ e) m n = tt
+  at-stands (at st i (both φ z p p′ l f) q q′ h k k′ e) m n = refl
+  at-stands (at st i (left {s = s} {k = g} w p z f) q q′ h k k′ e) m n = absurd (true≢false (sym (own-yes (c .number) g s w) ∙ m))
+  at-stands (at st i (right {t = t} {k = g} w p z f) q q′ h k k′ e) m n = absurd (true≢false (sym (own-yes (c .number) g t w) ∙ n))
+  at-stands (at st i (owns {s = s} {k = g} w w′ l f f′) q q′ h k k′ e) m n = absurd (true≢false (sym (own-yes (c .number) g s w) ∙ m))
 
   pub at-alike : {w : Two} → At c w → atOwn c (w .first) ≡ atOwn c (w .second) → SameOthers c (w .first .machine) (w .second .machine)
   at-alike (at st i (end x l) q q′ h k k′ e) m = same-others l (short (k .room)) (short (k′ .room))

@@ -1,24 +1,23 @@
 -- The slot buffer that a call is lent: the one that the last call left, but for the chip's stores
-use mathlib.Core.Bool.{Bool, true, false}
+use mathlib.Core.Bool.{true}
 use mathlib.Core.Logic.{_⊎_, inl, inr, ⊎-elim}
-use mathlib.Core.Path.{_≡_, refl, ap, subst, sym, _∙_}
-use Prim.Native.Nat.{ℕ, _+_, _*_, _%_, _≤_, _<_}
+use mathlib.Core.Path.{_≡_, refl, ap, sym, _∙_}
+use Prim.Native.Nat.{ℕ, _+_, _%_, _≤_, _<_}
 use native.Mathlib.Omega.{arith}
 use lib.ListN.{length, getD}
 use Rattle.bits.specs.Bit.{isSet}
-use Rattle.regs.specs.declared.Dir.the-variants.{Out, In}
+use Rattle.regs.specs.declared.Dir.the-variants.{Out}
 use Rattle.state.specs.declared.Allocator.{Allocator}
 use Rattle.state.specs.declared.Globals.{Globals}
 use Rattle.state.specs.Driver.{Driver, epOn}
 use Rattle.alloc.specs.Alloc.{allocatedIn}
-use Rattle.marks.specs.Only.{Only}
 use Rattle.script.specs.Alike.{Phase}
 use Rattle.script.specs.Machine.{Buf}
 use Rattle.ops.specs.Rings.{St}
 use Rattle.book.specs.Pages.{Pages}
-use Rattle.book.specs.Rest.{endOf, Rest, Elsewhere, Chip}
+use Rattle.book.specs.Rest.{endOf, Rest, Chip}
 use Rattle.book.specs.Chips.{chip}
-use Rattle.apart.specs.But.{But, Lawful, Channel, Like, Touched}
+use Rattle.apart.specs.But.{Lawful, Channel, Like, Touched}
 use Rattle.apart.specs.Likes.{but-refl}
 
 -- demand 3's premise, by the driver: byte k lies outside of the armed slot of every OUT endpoint of this run, and outside of EP0's buffer

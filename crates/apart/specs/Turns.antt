@@ -183,6 +183,13 @@ pub data SameAns (x : ℕ) : Ans Answer → Ans Answer → Type 0 where
   same : (a : Ans Answer) → SameAns x a a
   ended-same : (k : ℕ) {l l′ : List ℕ} → others x l ≡ others x l′ → SameAns x (ended (End k l)) (ended (End k l′))
 
+-- nothing is under way in both, or the same access
+abbrev pub SameStand : Way Answer Driver → Way Answer Driver → Access → Access → Type 0
+SameStand idle idle q q′ = Unit {0}
+SameStand idle (busy i a k) q q′ = ⊥
+SameStand (busy i a k) idle q q′ = ⊥
+SameStand (busy i a k) (busy i′ a′ k′) q q′ = q ≡ q′
+
 module _ (c : Channel) where
   -- "every other endpoint has the same queue, stamps, bytes, overruns and wake-ups in both"
   pub record SameOthers (m m′ : Machine Answer Driver) : Type 0 where
@@ -214,7 +221,8 @@ module _ (c : Channel) where
   -- after a turn
   pub record After (t : Turn) (w : Two) : Type 0 where
     pub answers : Answered t w
-    -- where neither stands at an access of the channel's own, both stand at the same access or at the same end
+    -- where neither stands at an access of the channel's own, both stand at the same access or at rest, and were answered the same last
+    pub stands : atOwn c (w .first) ≡ false → atOwn c (w .second) ≡ false → SameStand (w .first .machine .way) (w .second .machine .way) (w .first .access) (w .second .access)
     pub lined : atOwn c (w .first) ≡ false → atOwn c (w .second) ≡ false → SameAns (c .number) (w .first .answer) (w .second .answer)
     -- there, and where both do
     pub alike : atOwn c (w .first) ≡ atOwn c (w .second) → SameOthers (w .first .machine) (w .second .machine)

@@ -13,7 +13,7 @@ use Rattle.book.specs.Agrees.{agree}
 use Rattle.book.specs.Sorting.{sortsOf}
 use Rattle.apart.specs.But.{Channel}
 use Rattle.apart.specs.Turns.{Run, Two, Early, Turn, begins, goes, asked, stores, others-time, first, second, turn, called, given, heeded, after, May, After, Allowed, Every}
-use Rattle.apart.specs.Standing.{At, at, at-lined, at-alike, at-time, at-swap}
+use Rattle.apart.specs.Standing.{At, at, at-stands, at-lined, at-alike, at-time, at-swap}
 use Rattle.apart.specs.Runs.{goes-by, begins-by, asked-by, stores-by}
 use Rattle.apart.specs.Alone.{alone-by}
 use Rattle.apart.specs.Start.{freshBook, anew, starts, one-so-far}
@@ -69,21 +69,21 @@ module _ (c : Channel) (share : Bool) (n : ℕ) where
   step : (t : Turn) {w : Two} → At c w → May c t w → Steps t (turn share n t w)
   step (begins v o b b′) (at st i l q q′ h k k′ e) m =
       let y = begins-by c share n st i l q q′ k k′ e v o b b′ m in
-      record { stand = y .stand; after-it = record { answers = y .answers; lined = at-lined (y .stand); alike = at-alike (y .stand); time = at-time (y .stand) } }
+      record { stand = y .stand; after-it = record { answers = y .answers; stands = at-stands (y .stand); lined = at-lined (y .stand); alike = at-alike (y .stand); time = at-time (y .stand) } }
   step (goes v v′ b b′) (at st i l q q′ h k k′ e) m =
       let y = goes-by c share n st i l q q′ k k′ e v v′ b b′ m in
-      record { stand = y .stand; after-it = record { answers = y .answers; lined = at-lined (y .stand); alike = at-alike (y .stand); time = at-time (y .stand) } }
+      record { stand = y .stand; after-it = record { answers = y .answers; stands = at-stands (y .stand); lined = at-lined (y .stand); alike = at-alike (y .stand); time = at-time (y .stand) } }
   step (asked v b b′) (at st i l q q′ h k k′ e) m =
       let y = asked-by c share n st i l q q′ k k′ e v b b′ m in
-      record { stand = y .stand; after-it = record { answers = y .answers; lined = at-lined (y .stand); alike = at-alike (y .stand); time = at-time (y .stand) } }
+      record { stand = y .stand; after-it = record { answers = y .answers; stands = at-stands (y .stand); lined = at-lined (y .stand); alike = at-alike (y .stand); time = at-time (y .stand) } }
   step (stores b b′) (at st i l q q′ h k k′ e) m =
       let y = stores-by c share n st i l q q′ h k k′ e b b′ m in
-      record { stand = y; after-it = record { answers = tt; lined = at-lined y; alike = at-alike y; time = at-time y } }
+      record { stand = y; after-it = record { answers = tt; stands = at-stands y; lined = at-lined y; alike = at-alike y; time = at-time y } }
   step (others-time f) (at st i l q q′ h k k′ e) m =
       let y = at st i l q q′ h k k′ (ap f e) in
-      record { stand = y; after-it = record { answers = tt; lined = at-lined y; alike = at-alike y; time = at-time y } }
-  step (first d) a m = let y = first-stands a d m in record { stand = y; after-it = record { answers = tt; lined = at-lined y; alike = at-alike y; time = at-time y } }
-  step (second d) a m = let y = at-swap (first-stands (at-swap a) d m) in record { stand = y; after-it = record { answers = tt; lined = at-lined y; alike = at-alike y; time = at-time y } }
+      record { stand = y; after-it = record { answers = tt; stands = at-stands y; lined = at-lined y; alike = at-alike y; time = at-time y } }
+  step (first d) a m = let y = first-stands a d m in record { stand = y; after-it = record { answers = tt; stands = at-stands y; lined = at-lined y; alike = at-alike y; time = at-time y } }
+  step (second d) a m = let y = at-swap (first-stands (at-swap a) d m) in record { stand = y; after-it = record { answers = tt; stands = at-stands y; lined = at-lined y; alike = at-alike y; time = at-time y } }
 
   -- every list of turns, from where they line up
   pub always : (ts : List Turn) {w : Two} → At c w → Allowed c share n ts w → Every c share n ts w
