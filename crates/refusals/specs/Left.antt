@@ -1,5 +1,5 @@
 -- Document 01, Refusals: "A refusal returns its number only and leaves state and bytes unchanged, with these exceptions. .. 9 or 10 from a poll ends the request that was
--- begun, and this 10 clears the ready flag." That 8 keeps a number and buffers is request Two's to change: it keeps nothing
+-- begun, and this 10 clears the ready flag." The exception of 8 is no more (request Two): it keeps no number and no buffer
 use mathlib.Core.Bool.{Bool, true, false, not, cond}
 use Prim.Native.Nat.{ℕ}
 use lib.Dec.{eqb}
@@ -67,7 +67,7 @@ requestEnded (request dir e) d = withRequestOn d dir e no-request
 abbrev pub unready : Dir → ℕ → Driver → Driver
 unready dir e d = withOn d dir e (merged (epOn d dir e) (withReady 0 (plainOf (epOn d dir e))))
 
--- the ready flag that the poll waits for; of data_in the closing OUT's, with the data packet's where no poll before took that
+-- the ready flag that the poll waits for; of data_in the closing OUT's, with the data packet's where no poll before took that. No 10 refuses a poll of accept
 abbrev pub flagCleared : Poll → Driver → Driver
 flagCleared none d = d
 flagCleared data-out d = unready Out 0 d
