@@ -16,7 +16,7 @@ use Rattle.ops.specs.Rings.{St}
 use Rattle.way.specs.Under.{driverOf, drive}
 use Rattle.way.specs.Goes.{Called}
 use Rattle.bus_time.specs.Time.{chargeOf, entryOf, passes}
-use Rattle.shared_time.specs.Sharing.{Sort, enabling, starting, going, apart, chargeOn, isHanded, sortOf, timeAfter, turnedDown, sharedCall}
+use Rattle.shared_time.specs.Sharing.{Sort, enabling, starting, going, apart, chargeOn, isHanded, sortOf, timeAfter, turnedDown, settled, sharedCall}
 use Rattle.apart.specs.But.{Channel, Like}
 use Rattle.apart.specs.Buts.{stays-any}
 use Rattle.apart.specs.Turns.{shared}
@@ -57,6 +57,7 @@ and-false false = refl
 module _ (n : ℕ) (d : Call Config Op) (m : Machine Answer Driver) (t : List ℕ) (b : Buf) where
   -- of a driver that shares the bus time they are those of request Seven
   pub as-shared : shared true n d m t b ≡ sharedCall n d m t b
+  unfolding settled
   as-shared = ap (λ x. cond {A = Called × List ℕ} x ((ended (Refused 19), lentTo calls driverOf m b), t) (drive d m b, timeAfter n (sortOf d) (drive d m b .0) (m .st) t)) (and-true (turnedDown n (sortOf d) (drive d m b .0) (m .st) t))
 
   -- of one that does not, the driver's

@@ -20,7 +20,7 @@ use Rattle.ops.specs.Rings.{St}
 use Rattle.ops.specs.Conc.{conc}
 use Rattle.way.specs.Under.{driverOf, drive}
 use Rattle.way.specs.Goes.{Called}
-use Rattle.shared_time.specs.Sharing.{Sort, starting, going, opSort, sortOf, timeAfter, turnedDown, sharedCall}
+use Rattle.shared_time.specs.Sharing.{Sort, starting, going, opSort, sortOf, timeAfter, turnedDown, settled, sharedCall}
 use Rattle.four_drivers.specs.Four.{Four, Turn, called, next, after}
 use Rattle.four_drivers.specs.History.{lineOf, history}
 use Rattle.four_drivers.specs.Enabled.{isTaken, restarts, restartsAt, restarted}
@@ -75,6 +75,7 @@ calls-at (go v) m b h =
 calls-at (question q) m b h = (h, λ _. gave-same (m .st))
 
 shared-at : (j : ℕ) (x : Call Config Op) (m : Machine Answer Driver) (t : List ℕ) (b : Buf) → Sane (m .way) → Went (sortOf x) (m .st) (sharedCall j x m t b .0)
+unfolding settled
 shared-at j x m t b h = by (turnedDown j (sortOf x) (drive x m b .0) (m .st) t)
   where
     outcome : Bool → Called × List ℕ

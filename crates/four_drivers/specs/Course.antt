@@ -18,7 +18,7 @@ use Rattle.script.specs.Machine.{Buf, Call, start, begin, go, question, Way, id
 use Rattle.ops.specs.Rings.{St}
 use Rattle.way.specs.Under.{driverOf, drive}
 use Rattle.way.specs.Goes.{Called}
-use Rattle.shared_time.specs.Sharing.{Sort, starting, going, apart, opSort, sortOf, chargeOn, timeAfter, turnedDown, sharedCall}
+use Rattle.shared_time.specs.Sharing.{Sort, starting, going, apart, opSort, sortOf, chargeOn, timeAfter, turnedDown, settled, sharedCall}
 use Rattle.four_drivers.specs.Four.{Four, Turn, called, next, after}
 use Rattle.four_drivers.specs.History.{lineOf, history, byAnswer}
 use Rattle.four_drivers.specs.Limit.{Within, always-within}
@@ -101,6 +101,7 @@ module _ (dir : Dir) (e : ℕ) where
     calls-at (question q) w old g = g
 
   shared-at : (j : ℕ) (x : Call Config Op) (m : Machine Answer Driver) (t : List ℕ) (b : Buf) (c : ℕ) (u : Bool) → Course (m .way) (m .st) c u → After (sortOf x) (m .st) c u (sharedCall j x m t b .0)
+  unfolding settled
   shared-at j x m t b c u g = by (turnedDown j (sortOf x) (drive x m b .0) (m .st) t)
     where
       outcome : Bool → Called × List ℕ

@@ -33,6 +33,7 @@ use Rattle.four_drivers.specs.Limit.{Within, always-within, uncharged-wi
 
 -- the answer that was given tells the record after the call: one that was turned down handed nothing out
 told-by : (i : ℕ) (x : Sort) (m : Machine Answer Driver) (t : List ℕ) (b : Buf) (y : Called) → settled i x m t b y .1 ≡ timeAfter i x (settled i x m t b y .0 .0) (m .st) t
+unfolding settled
 told-by i x m t b y = by (turnedDown i x (y .0) (m .st) t)
   where
     outcome : Bool → Called × List ℕ

@@ -55,6 +55,7 @@ written-within i (Wait n) k = k
 written-within i Callback k = k
 
 settled-within : (i : ℕ) (x : Sort) (m : Machine Answer Driver) (t : List ℕ) (b : Buf) (a : Ans Answer) (n : Machine Answer Driver) → Within t → Within (settled i x m t b (a, n) .1)
+unfolding settled
 settled-within i (enabling dir e) m t b (ended a) n k = k
 settled-within i (enabling dir e) m t b (told v) n k = k
 settled-within i (enabling dir e) m t b (handed q) n k = by (passes t (entryOf i dir e) (chargeOn (m .st) dir e)) refl

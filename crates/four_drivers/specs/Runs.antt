@@ -13,7 +13,7 @@ use Rattle.script.specs.Machine.{Buf, Call, question, pending, Event, Machine, 
 use Rattle.way.specs.Under.{driverOf, drive}
 use Rattle.way.specs.Goes.{Called}
 use Rattle.book.specs.Always as alone
-use Rattle.shared_time.specs.Sharing.{sortOf, timeAfter, turnedDown, sharedCall}
+use Rattle.shared_time.specs.Sharing.{sortOf, timeAfter, turnedDown, settled, sharedCall}
 use Rattle.four_drivers.specs.Four.{Four, Turn, changed, next, after}
 
 -- was it turned down?
@@ -31,6 +31,7 @@ own i (x ∷ xs) f = cond (eqb i (x .who % 4)) (passedOn x f ∷ own i xs (next 
 
 one-call : (i : ℕ) (c : Call Config Op) (m : Machine Answer Driver) (t : List ℕ) (b : Buf) → let z = turnedDown i (sortOf c) (drive c m b .0) (m .st) t in
     sharedCall i c m t b .0 .1 ≡ drive (cond z (question (pending 0)) c) m b .1
+unfolding settled
 one-call i c m t b = by (turnedDown i (sortOf c) (drive c m b .0) (m .st) t)
   where
     outcome : Bool → Called × List ℕ

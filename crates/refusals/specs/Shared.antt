@@ -66,6 +66,7 @@ turned i (question q) u d a b t h = absurd (true≢false (sym h))
 
 pub shared-refusal : (i : ℕ) (c : Call Config Op) (u : Under) (d : Driver) (a b : Buf) (t : List ℕ) (n : ℕ) → sharedCall i c (machineAt u d a) t b .0 .0 ≡ ended (Refused n)
     → (sharedCall i c (machineAt u d a) t b .0 .1 ≡ machineAt u (left c n d) (cond (buffersRow c d b) a b)) × (sharedCall i c (machineAt u d a) t b .1 ≡ t)
+unfolding settled
 shared-refusal i c u d a b t n q =
     let f : ℕ → Machine Answer Driver = λ k. machineAt u (left c k d) (cond (buffersRow c d b) a b) in
     let z : Called × List ℕ = sharedCall i c (machineAt u d a) t b in

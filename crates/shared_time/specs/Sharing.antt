@@ -82,7 +82,7 @@ turnedDown i starting a d t = false
 turnedDown i going a d t = false
 turnedDown i apart a d t = false
 
-abbrev pub settled : ℕ → Sort → Machine Answer Driver → List ℕ → Buf → Called → Called × List ℕ
+unfoldable pub settled : ℕ → Sort → Machine Answer Driver → List ℕ → Buf → Called → Called × List ℕ
 settled i x m t b y = cond (turnedDown i x (y .0) (m .st) t) ((ended (Refused 19), lentTo calls driverOf m b), t) (y, timeAfter i x (y .0) (m .st) t)
 
 -- a call of driver i: the driver's own (way/specs/Under.antt), unless it is turned down, which changes nothing
@@ -94,10 +94,12 @@ sharedCall i c m t b = settled i (sortOf c) m t b (drive c m b)
 -- not turned down: the driver's call, and the record after it
 pub settles : (i : ℕ) (c : Call Config Op) (m : Machine Answer Driver) (t : List ℕ) (b : Buf) (y : Called) (after : List ℕ)
     → turnedDown i (sortOf c) (y .0) (m .st) t ≡ false → y ≡ drive c m b → after ≡ timeAfter i (sortOf c) (y .0) (m .st) t → (y, after) ≡ sharedCall i c m t b
+unfolding settled
 settles i c m t b y after h e k = subst (λ z. (y, after) ≡ settled i (sortOf c) m t b z) e (rw h (ap (λ (u : List ℕ). (y, u)) k))
 
 -- turned down
 pub refuses : (i : ℕ) (dir : Dir) (e : ℕ) (m : Machine Answer Driver) (t : List ℕ) (b : Buf)
     → isHanded (drive (begin (slotted (SetEnabled dir e true))) m b .0) ≡ true → passes t (entryOf i dir e) (chargeOn (m .st) dir e) ≡ true
     → ((ended (Refused 19), lentTo calls driverOf m b), t) ≡ sharedCall i (begin (slotted (SetEnabled dir e true))) m t b
+unfolding settled
 refuses i dir e m t b h p = rw (h, p) refl
