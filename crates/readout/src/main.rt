@@ -1,10 +1,8 @@
 // What the driver asks of the chip, in words.
-mod steps; // steps.rt: a line for an answer
-
 use bus_time::TIME_LEN;
 use regs::Dir;
 use state::STATE_LEN;
-use steps::show;
+use telling::show;
 use usbhs::Step;
 use wording::text::number;
 use wording::text::print;

@@ -1,7 +1,7 @@
 use Prim.Native.Nat.{_≤_, _-_}
 use borrow.Author.Needs.{needs}
-use Rattle.readout.proofs.steps.wakes.Statement.{statement}
-use Rattle.readout.proofs.steps.wakes.Tie as tie
+use Rattle.telling.proofs.wakes.Statement.{statement}
+use Rattle.telling.proofs.wakes.Tie as tie
 
 abbrev Inv-loop : tie.InvT-loop
 Inv-loop s k i₀ t6 i = i ≤ k

@@ -1,7 +1,7 @@
-// What a call answers, one line for each.
+// What a call answers, one line for each, written to standard output.
 use state::STATE_LEN;
 use state::woken_at;
-use usbhs::Step;
+use way::Step;
 use wording::accesses::access;
 use wording::text::hex;
 use wording::text::number;
