@@ -1,0 +1,5 @@
+pub mod SharedBook
+pub mod SharedCode
+pub mod SharedAgrees
+pub mod SharedDemand3
+pub mod SharedAlone
