@@ -1,0 +1,43 @@
+-- From what a contract says to the step: one law for each form of contract
+use mathlib.Core.List.{List}
+use mathlib.Core.Path.{_≡_, refl, ap, subst, sym, _∙_}
+use Prim.Native.Nat.{ℕ}
+use Rattle.state.specs.State.{view}
+use Rattle.state.specs.Driver.{Driver}
+use Rattle.script.specs.Answers.{Answer}
+use Rattle.script.specs.Calls.{Config, Op}
+use Rattle.script.specs.Machine.{Buf, Call, question, Question, Machine, Ans, ended, handed, told}
+use Rattle.way.specs.declared.Step.{Step}
+use Rattle.way.specs.Questions.{questionOf}
+use Rattle.way.specs.Under.{machineOf, drive, lentOr}
+use Rattle.way.specs.Goes.{Called}
+use Rattle.shared_time.specs.Sharing.{Sort, apart, sortOf, timeAfter, settled, sharedCall}
+use Rattle.answer_word.specs.Word.{Worded}
+use Rattle.proof_contracts.specs.Steps.{IsStep, IsStepLent, IsQuestion}
+
+-- a call that has nothing to do with the bus time leaves the record, and is the driver's own
+pub leaves-record : (i : ℕ) (c : Call Config Op) (m : Machine Answer Driver) (time : List ℕ) (b : Buf) → sortOf c ≡ apart → sharedCall i c m time b ≡ (drive c m b, time)
+unfolding settled
+leaves-record i c m time b h = ap (λ (x : Sort). settled i x m time b (drive c m b)) h ∙ ap (λ (t : List ℕ). (drive c m b, t)) (by (drive c m b .0))
+  where
+    by : (a : Ans Answer) → timeAfter i apart a (m .st) time ≡ time
+    by (ended a) = refl
+    by (handed q) = refl
+    by (told n) = refl
+
+-- neither the slot buffer nor the record is brought
+pub unlent : {c : Call Config Op} {xs ys : List ℕ} {x : Buf → Ans Answer} → sortOf c ≡ apart → ((a b : Buf) → (x b, machineOf ys b) ≡ drive c (machineOf xs a) b) → IsStep c xs x ys
+unlent {c = c} {xs = xs} p h = record { did = λ i a b time. ap (λ (z : Called). (z, time)) (h a b) ∙ sym (leaves-record i c (machineOf xs a) time b p) }
+
+-- the slot buffer is brought
+pub lent : {c : Call Config Op} {xs ys : List ℕ} {x : Ans Answer} {b b′ : Buf} → sortOf c ≡ apart
+    → ((a : Buf) → (x, machineOf ys (lentOr (view xs) b b′ a)) ≡ drive c (machineOf xs a) b) → IsStepLent c xs x ys b b′
+lent {c = c} {xs = xs} {b = b} p h = record { did = λ i a time. ap (λ (z : Called). (z, time)) (h a) ∙ sym (leaves-record i c (machineOf xs a) time b p) }
+
+-- a question
+pub asked : {q : Question} {xs : List ℕ} {n : ℕ} → n ≡ questionOf q (view xs) → IsQuestion q xs n
+asked {q = q} {xs = xs} h = unlent refl (λ a b. ap (λ (k : ℕ). (told k, machineOf xs b)) h)
+
+-- what holds of the answer that a word says
+pub worded : (r : ℕ) {P Q : Step → Type 0} → Worded r P → ((step : Step) → P step → Q step) → Worded r Q
+worded r w f = (w .0, w .1, f (w .0) (w .2))
