@@ -6,3 +6,4 @@ pub mod SharedAlone
 pub mod Steps
 pub mod StepsLaws
 pub mod Calls
+pub mod Exported
