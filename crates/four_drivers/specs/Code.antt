@@ -17,7 +17,8 @@ use Rattle.four_drivers.specs.History.{history, timeBy}
 use Rattle.four_drivers.specs.Limit.{limit}
 use Rattle.four_drivers.specs.Histories.{in-use-is}
 use Rattle.four_drivers.specs.Enabled.{enabledTime, countedTime, AtFirst, FourAtFirst}
-use Rattle.four_drivers.specs.Now.{in-use-now, in-use-at-rest}
+use Rattle.four_drivers.specs.Charged.{chargedTime}
+use Rattle.four_drivers.specs.Now.{in-use-now, in-use-at-rest, in-use-charged}
 
 -- each driver's state and slot buffer by its number, and the record
 pub record Lent : Type 0 where
@@ -105,3 +106,7 @@ module _ (ms : List Made) (l : Lent) (run : Run l ms) (first : FourAtFirst (four
   pub code-in-use-at-rest : ((i : ℕ) → i < 4 → fourOf (last l ms) .driver i .way ≡ idle) → inUse (last l ms .time) ≡ enabledTime (λ i. view (last l ms .bytes i))
   code-in-use-at-rest =
       subst (λ (f : Four). ((i : ℕ) → i < 4 → f .driver i .way ≡ idle) → inUse (f .time) ≡ enabledTime (λ i. f .driver i .st)) (sym made) (in-use-at-rest (turns ms) (fourOf l) first)
+
+  -- by the calls alone
+  pub code-in-use-charged : inUse (last l ms .time) ≡ chargedTime (history (turns ms) (fourOf l))
+  code-in-use-charged = subst (λ (f : Four). inUse (f .time) ≡ chargedTime (history (turns ms) (fourOf l))) (sym made) (in-use-charged (turns ms) (fourOf l) first)

@@ -19,7 +19,7 @@ use Rattle.script.specs.Every.{sameReg}
 use Rattle.script.specs.Answers.{Answer}
 use Rattle.script.specs.Machine.{Way, idle, busy, Machine, Ans, ended, handed, told}
 use Rattle.bus_time.specs.Time.{uncharged}
-use Rattle.shared_time.specs.Sharing.{Sort, enabling, starting, going, apart, chargeOn}
+use Rattle.shared_time.specs.Sharing.{Sort, enabling, starting, going, apart, sortOf, chargeOn}
 use Rattle.four_drivers.specs.Four.{Four}
 use Rattle.four_drivers.specs.History.{Line, sum}
 
@@ -52,7 +52,7 @@ beginsBy bit x (told n) was = was
 
 abbrev pub lastBegun : ℕ → ℕ → List Line → Bool → Bool
 lastBegun i bit [] was = was
-lastBegun i bit (l ∷ ls) was = lastBegun i bit ls (cond (eqb (l .who % 4) i) (beginsBy bit (l .sort) (l .answer) was) was)
+lastBegun i bit (l ∷ ls) was = lastBegun i bit ls (cond (eqb (l .who % 4) i) (beginsBy bit (sortOf (l .call)) (l .answer) was) was)
 
 abbrev pub isBusy : {A S : Type 0} → Way A S → Bool
 isBusy idle = false
@@ -100,7 +100,7 @@ restarts apart a = false
 
 -- driver i's, in a line and somewhere in a history
 abbrev pub restartsAt : ℕ → Line → Bool
-restartsAt i l = eqb (l .who % 4) i && restarts (l .sort) (l .answer)
+restartsAt i l = eqb (l .who % 4) i && restarts (sortOf (l .call)) (l .answer)
 
 abbrev pub restarted : ℕ → List Line → Bool
 restarted i [] = false

@@ -12,19 +12,20 @@ use Rattle.regs.specs.Enables.{place}
 use Rattle.state.specs.Driver.{Driver}
 use Rattle.script.specs.Every.{sameReg}
 use Rattle.script.specs.Answers.{Answer}
-use Rattle.script.specs.Machine.{Ans, ended, handed, told}
+use Rattle.script.specs.Calls.{Config, Op}
+use Rattle.script.specs.Machine.{Call, Ans, ended, handed, told}
 use Rattle.shared_time.specs.Sharing.{Sort, enabling, starting, going, apart, sortOf, chargeOn}
 use Rattle.four_drivers.specs.Four.{Four, Turn, called, next}
 
--- a line of it: who called, what the call is to the bus time, what it answered, the driver's state before it
+-- a line of it: who called, the call, what it answered, the driver's state before it
 pub record Line : Type 0 where
   pub who : ℕ
-  pub sort : Sort
+  pub call : Call Config Op
   pub answer : Ans Answer
   pub state : Driver
 
 abbrev pub lineOf : Turn → Four → Line
-lineOf x f = record { who = x .who; sort = sortOf (x .event .call); answer = called x f .0 .0; state = f .driver (x .who % 4) .st }
+lineOf x f = record { who = x .who; call = x .event .call; answer = called x f .0 .0; state = f .driver (x .who % 4) .st }
 
 abbrev pub history : List Turn → Four → List Line
 history [] f = []
@@ -54,7 +55,7 @@ byAnswer bit x (handed q) d charge = byAccess bit x q d charge
 byAnswer bit x (told n) d charge = charge
 
 abbrev pub chargeAfter : ℕ → ℕ → Line → ℕ → ℕ
-chargeAfter i bit l charge = cond (eqb (l .who % 4) i) (byAnswer bit (l .sort) (l .answer) (l .state) charge) charge
+chargeAfter i bit l charge = cond (eqb (l .who % 4) i) (byAnswer bit (sortOf (l .call)) (l .answer) (l .state) charge) charge
 
 -- after a history, from a charge before it
 abbrev pub chargeBy : ℕ → ℕ → List Line → ℕ → ℕ

@@ -1,6 +1,7 @@
 pub mod Four
 pub mod History
 pub mod Enabled
+pub mod Charged
 pub mod Limit
 pub mod Histories
 pub mod Runs

@@ -17,16 +17,18 @@ use Rattle.shared_time.specs.Sharing.{chargeOn}
 use Rattle.four_drivers.specs.Four.{Four, Turn, after}
 use Rattle.four_drivers.specs.History.{history, sum, timeBy}
 use Rattle.four_drivers.specs.Limit.{Within, uncharged-within}
-use Rattle.four_drivers.specs.Histories.{sum-as, by-drivers, in-use-is}
+use Rattle.four_drivers.specs.Histories.{sum-as, by-drivers, zeros, in-use-is}
 use Rattle.four_drivers.specs.Enabled.{isEnabled, sumOf, enabledTime, lastBegun, isBusy, isEnabling, countedTime, FourAtFirst}
-use Rattle.four_drivers.specs.Course.{course-due, runs-all, at-first}
+use Rattle.four_drivers.specs.Charged.{neither, chargedFrom, charged, chargedTime}
+use Rattle.four_drivers.specs.Course.{course-due, runs-all, charged-all, at-first}
 
 -- the charge of an endpoint: its own where it is enabled now or being enabled, else none
 pub charge-now : (xs : List Turn) (f : Four) → FourAtFirst f → (i : ℕ) → i < 4 → (dir : Dir) (e : ℕ) → let m = after xs f .driver i in
     getD (after xs f .time) (i * 32 + place dir e) 0 ≡ cond (isEnabled (m .st) dir e || isEnabling i m (history xs f) dir e) (chargeOn (m .st) dir e) 0
 charge-now xs f z i li dir e =
     let m = after xs f .driver i in
-    course-due dir e i li (m .way) (m .st) _ (lastBegun i (place dir e) (history xs f) false) (runs-all dir e i li xs f false (subst Within (sym (z .time)) uncharged-within) (at-first dir e i li f z))
+    course-due dir e i li (m .way) (m .st) _ (lastBegun i (place dir e) (history xs f) false) _
+    (runs-all dir e i li xs f false neither (subst Within (sym (z .time)) uncharged-within) (at-first dir e i li f z))
 
 -- with nothing under way: of the endpoints now enabled, each by the kind and maximum that the state has now
 pub charge-at-rest : (xs : List Turn) (f : Four) → FourAtFirst f → (i : ℕ) → i < 4 → after xs f .driver i .way ≡ idle → (dir : Dir) (e : ℕ) → let d = after xs f .driver i .st in
@@ -78,3 +80,15 @@ in-use-at-rest xs f z h = by-endpoints (after xs f .time) ∙ sums-as _ _ (λ i 
 -- so what the history works out is the charge of the endpoints now enabled or being enabled
 pub history-is-now : (xs : List Turn) (f : Four) → FourAtFirst f → timeBy (history xs f) ≡ countedTime (after xs f .driver) (history xs f)
 history-is-now xs f z = sym (in-use-is xs f (z .time)) ∙ in-use-now xs f z
+
+-- ---- "worked out from the history of enables, disables, resets and start-ups"
+
+-- of each endpoint, after every list of calls of four drivers
+pub charge-is : (xs : List Turn) (f : Four) → FourAtFirst f → (i : ℕ) → i < 4 → (dir : Dir) (e : ℕ) → getD (after xs f .time) (i * 32 + place dir e) 0 ≡ charged i dir e (history xs f)
+charge-is xs f z i li dir e =
+    charged-all dir e i li xs f false neither (subst Within (sym (z .time)) uncharged-within) (at-first dir e i li f z)
+    ∙ ap (chargedFrom i dir e (history xs f) neither) (ap (λ (t : List ℕ). getD t (i * 32 + place dir e) 0) (z .time) ∙ zeros 128 (i * 32 + place dir e))
+
+-- the time in use
+pub in-use-charged : (xs : List Turn) (f : Four) → FourAtFirst f → inUse (after xs f .time) ≡ chargedTime (history xs f)
+in-use-charged xs f z = by-endpoints (after xs f .time) ∙ sums-as _ _ (λ i li dir e. charge-is xs f z i li dir e)

@@ -18,6 +18,7 @@ use Rattle.script.specs.Bus.{nakAll}
 use Rattle.ops.specs.Rings.{St}
 use Rattle.ops.specs.Conc.{conc}
 use Rattle.shared_time.specs.Sharing.{chargeOn}
+use Rattle.four_drivers.specs.Charged.{polls-bus, givenBack}
 use Rattle.four_drivers.specs.Histories.{none-set}
 use Rattle.four_drivers.specs.Stays.{Turns, still, act-stays, reset-stays, reset-turns}
 use Rattle.four_drivers.specs.Calm.{Calm}
@@ -33,8 +34,12 @@ module _ (dir : Dir) (e : ℕ) where
   abbrev bit : ℕ
   bit = place dir e
 
+  -- a write of ep_config gives back all
+  abbrev pub allBack : ℕ → ℕ
+  allBack c = givenBack dir e polls-bus c
+
   abbrev Runs : {A : Type 0} → ℕ → tree.Out St A → Type 0
-  Runs c o = Left bit (Due dir e false) (Ended dir e) c o
+  Runs c o = Left bit allBack (Due dir e false) (Ended dir e) c o
 
   -- none is enabled, none is charged
   none-due : (c : ℕ) {d d′ : Driver} → Turns 0 d d′ → Due dir e false (cond (isSet 0 bit) c 0) d′
@@ -46,18 +51,18 @@ module _ (dir : Dir) (e : ℕ) where
   of-row : (c : ℕ) (s : St) → s .0 .globals .stage ≡ 2 → Runs c (rows conc bus-reset 3 (λ t. ends (tt {0}) t) s)
   of-row c s second =
       let x = reset-turns s in
-      at-ask (none-due c x) (λ _ t p. let y = still (still x p) (reset-stays t .2) in
-      at-ask (none-due c y) (λ _ u q. let z = still (still y q) (reset-stays u .1) in
-      at-ask (none-due c z) (λ _ v r. let w = still (still z r) (reset-stays v .0) in
-      at-ask (none-due c w) (λ _ n m. let k = still w m in
+      at-ask (ap (λ (b : Bool). cond b c 0) (none-set bit)) (none-due c x) (λ _ t p. let y = still (still x p) (reset-stays t .2) in
+      at-ask refl (none-due c y) (λ _ u q. let z = still (still y q) (reset-stays u .1) in
+      at-ask refl (none-due c z) (λ _ v r. let w = still (still z r) (reset-stays v .0) in
+      at-ask refl (none-due c w) (λ _ n m. let k = still w m in
       at-end (none-due c k, k .stage ∙ second)))))
 
   module _ (c : ℕ) where
     abbrev Polling : {A : Type 0} → Script false A → Type 0
-    Polling p = Goes bit c (Ended dir e c) (Due dir e false) (Ended dir e) p
+    Polling p = Goes bit allBack c (Ended dir e c) (Due dir e false) (Ended dir e) p
 
     first : {A B : Type 0} {p : Script false A} {f : A → Script false B} → Calm false p → ((a : A) → Polling (f a)) → Polling (bind p f)
-    first x rest = calm-then (keeps (ended-stays dir e c)) bit c (Due dir e false) (λ d k. k .0) x rest
+    first x rest = calm-then (keeps (ended-stays dir e c)) bit allBack c (Due dir e false) (λ d k. k .0) x rest
 
     of-reset : Polling bus.busReset
     of-reset = first (tt, tt) (λ _. first (tt, tt) (λ _. first (tt, tt) (λ _. first (naks-calm 15 1) (λ _. record {
@@ -66,10 +71,10 @@ module _ (dir : Dir) (e : ℕ) where
     }))))
 
     calm-on : {A : Type 0} {p : Script false A} → Calm false p → Polling p
-    calm-on {p = p} x = record { on = λ s k. calm-ended dir e c p x s k }
+    calm-on {p = p} x = record { on = λ s k. calm-ended dir e allBack c p x s k }
 
     then-calm : {A B : Type 0} {p : Script false A} {f : A → Script false B} → Polling p → ((a : A) → Calm false (f a)) → Polling (bind p f)
-    then-calm {f = f} x z = record { on = λ s k. left-bind (x .on s k) (λ g a t y. calm-ended dir e g (f a) (z a) t y) }
+    then-calm {f = f} x z = record { on = λ s k. left-bind (x .on s k) (λ g a t y. calm-ended dir e allBack g (f a) (z a) t y) }
 
     either : {A : Type 0} {b : Bool} {p q : Script false A} → Polling p → Polling q → Polling (test b p q)
     either {b = b} x y = record { on = λ s k. left-cond b (λ _. x .on s k) (λ _. y .on s k) }
