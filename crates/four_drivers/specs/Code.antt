@@ -7,11 +7,14 @@ use Prim.Native.Nat.{ℕ, _%_, _≤_, _<_}
 use lib.Dec.{eqb}
 use lib.ListN.{replicate}
 use Rattle.state.specs.State.{view, saved}
+use Rattle.state.specs.Driver.{Driver}
 use Rattle.script.specs.Answers.{Answer}
-use Rattle.script.specs.Machine.{Buf, idle, Ans}
-use Rattle.way.specs.Under.{decode, machineOf}
+use Rattle.script.specs.Calls.{Config, Op}
+use Rattle.script.specs.Machine.{Buf, Call, Machine, idle, Ans, ended, handed, told}
+use Rattle.way.specs.Under.{decode, drive, machineOf}
 use Rattle.way.specs.Goes.{Called}
 use Rattle.bus_time.specs.Time.{inUse, uncharged}
+use Rattle.shared_time.specs.Sharing.{Sort, apart, sortOf, timeAfter, settled, sharedCall}
 use Rattle.four_drivers.specs.Four.{Four, Turn, called, next, after}
 use Rattle.four_drivers.specs.History.{history, timeBy}
 use Rattle.four_drivers.specs.Limit.{limit}
@@ -63,6 +66,23 @@ last l [] = l
 last l (m ∷ ms) = last (left l m) ms
 
 -- ---- laws
+
+-- the calls that do not bring the record (all but start-up, an enabling and continue) leave it, and so every charge: such a call, whose contract is the
+-- driver's own step, is a step with the record
+pub leaves-record : (i : ℕ) (c : Call Config Op) (m : Machine Answer Driver) (time : List ℕ) (b : Buf) → sortOf c ≡ apart → sharedCall i c m time b ≡ (drive c m b, time)
+unfolding settled
+leaves-record i c m time b h = ap (λ (x : Sort). settled i x m time b (drive c m b)) h ∙ ap (λ (t : List ℕ). (drive c m b, t)) (by (drive c m b .0))
+  where
+    by : (a : Ans Answer) → timeAfter i apart a (m .st) time ≡ time
+    by (ended a) = refl
+    by (handed q) = refl
+    by (told n) = refl
+
+pub did-without : (l : Lent) (x : Turn) (answer : Ans Answer) (bytes : List ℕ) (slots : Buf) → sortOf (x .event .call) ≡ apart
+    → (answer, machineOf bytes slots) ≡ drive (x .event .call) (fourOf l .driver (x .who % 4)) (x .event .lent)
+    → Did l (record { turn = x; answer = answer; bytes = bytes; slots = slots; time = l .time })
+did-without l x answer bytes slots h did =
+    ap (λ (z : Called). (z, l .time)) did ∙ sym (leaves-record (x .who) (x .event .call) (fourOf l .driver (x .who % 4)) (l .time) (x .event .lent) h)
 
 step : (l : Lent) (m : Made) → Did l m → fourOf (left l m) ≡ next (m .turn) (fourOf l)
 step l m h = λ i. record { driver = λ j. drivers j i; time = ap (λ (x : Called × List ℕ). x .1) h i }

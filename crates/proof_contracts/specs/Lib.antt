@@ -7,3 +7,4 @@ pub mod Steps
 pub mod StepsLaws
 pub mod Calls
 pub mod Exported
+pub mod FourDrivers

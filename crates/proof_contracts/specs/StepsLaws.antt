@@ -1,29 +1,19 @@
 -- From what a contract says to the step: one law for each form of contract
 use mathlib.Core.List.{List}
-use mathlib.Core.Path.{_≡_, refl, ap, subst, sym, _∙_}
+use mathlib.Core.Path.{_≡_, refl, ap, sym, _∙_}
 use Prim.Native.Nat.{ℕ}
 use Rattle.state.specs.State.{view}
-use Rattle.state.specs.Driver.{Driver}
 use Rattle.script.specs.Answers.{Answer}
 use Rattle.script.specs.Calls.{Config, Op}
-use Rattle.script.specs.Machine.{Buf, Call, question, Question, Machine, Ans, ended, handed, told}
+use Rattle.script.specs.Machine.{Buf, Call, question, Question, Ans, told}
 use Rattle.way.specs.declared.Step.{Step}
 use Rattle.way.specs.Questions.{questionOf}
 use Rattle.way.specs.Under.{machineOf, drive, lentOr}
 use Rattle.way.specs.Goes.{Called}
-use Rattle.shared_time.specs.Sharing.{Sort, apart, sortOf, timeAfter, settled, sharedCall}
+use Rattle.shared_time.specs.Sharing.{apart, sortOf}
 use Rattle.answer_word.specs.Word.{Worded}
+use Rattle.four_drivers.specs.Code.{leaves-record}
 use Rattle.proof_contracts.specs.Steps.{IsStep, IsStepLent, IsQuestion}
-
--- a call that has nothing to do with the bus time leaves the record, and is the driver's own
-pub leaves-record : (i : ℕ) (c : Call Config Op) (m : Machine Answer Driver) (time : List ℕ) (b : Buf) → sortOf c ≡ apart → sharedCall i c m time b ≡ (drive c m b, time)
-unfolding settled
-leaves-record i c m time b h = ap (λ (x : Sort). settled i x m time b (drive c m b)) h ∙ ap (λ (t : List ℕ). (drive c m b, t)) (by (drive c m b .0))
-  where
-    by : (a : Ans Answer) → timeAfter i apart a (m .st) time ≡ time
-    by (ended a) = refl
-    by (handed q) = refl
-    by (told n) = refl
 
 -- neither the slot buffer nor the record is brought
 pub unlent : {c : Call Config Op} {xs ys : List ℕ} {x : Buf → Ans Answer} → sortOf c ≡ apart → ((a b : Buf) → (x b, machineOf ys b) ≡ drive c (machineOf xs a) b) → IsStep c xs x ys
