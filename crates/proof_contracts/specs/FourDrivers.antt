@@ -14,7 +14,7 @@ use Rattle.four_drivers.specs.Charged.{chargedTime}
 use Rattle.four_drivers.specs.Code.{Lent, fourOf, Run, turns, last, code-in-use-charged}
 use Rattle.four_drivers.specs.Code as four
 use Rattle.usbhs_c.proofs.usbhs_time_in_use.Reads as time-in-use-contract
-use Rattle.proof_contracts.specs.SharedCode.{Made, Did}
+use Rattle.proof_contracts.specs.SharedPage.{Made, Did}
 
 -- a call of driver i, as one of the four
 abbrev pub asTurn : ℕ → Made → four.Made

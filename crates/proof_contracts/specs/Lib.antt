@@ -1,8 +1,9 @@
 pub mod SharedBook
-pub mod SharedCode
+pub mod SharedPage
 pub mod SharedAgrees
-pub mod SharedDemand3
+pub mod SharedRuns
 pub mod SharedAlone
+pub mod SharedDemand3
 pub mod Steps
 pub mod StepsLaws
 pub mod Calls

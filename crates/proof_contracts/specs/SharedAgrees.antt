@@ -15,7 +15,7 @@ use Rattle.script.specs.Cells.{Plain}
 use Rattle.script.specs.Answers.{Answer, Refused}
 use Rattle.script.specs.Calls.{Config, Op, calls, startRow}
 use Rattle.script.specs.Machine.{Buf, Call, start, begin, go, question, Way, idle, busy, Machine, Ans, ended, handed, told, fed, halt, begun, continued, started, call, misfit, stay, lentTo, over, blankA}
-use Rattle.script.specs.Agree.{After, Ways, Lent, unless, agrees, write-up}
+use Rattle.script.specs.Agree.{After, Ways, agrees}
 use Rattle.way.specs.Under.{driverOf, drive}
 use Rattle.way.specs.Goes.{Called}
 use Rattle.bus_time.specs.Time.{chargeOf, entryOf, passes}
@@ -25,8 +25,15 @@ use Rattle.book.specs.Book.{book}
 use Rattle.book.specs.Rest.{Rest, Chip}
 use Rattle.book.specs.Allocations.{fresh-kept}
 use Rattle.book.specs.Agrees.{agree}
-use Rattle.proof_contracts.specs.SharedBook.{chargeIn, wouldPass, ownStep, sharedStep, timeIn}
-use Rattle.proof_contracts.specs.SharedCode.{Agreed}
+use Rattle.book.specs.FrontPage.{written, LentAsLeft}
+use Rattle.book.specs.FrontPage as page
+use Rattle.book.specs.SlotsKept.{lent-is}
+use Rattle.proof_contracts.specs.SharedBook.{chargeIn, wouldPass, sharedStep, timeIn}
+
+-- driver and book agree after a call (book/specs/Rest.antt), and the record is what the book works out
+pub record Agreed (i : ℕ) (c : Call Config Op) (x : Called) (before after : List ℕ) (b : Buf) (n : Machine Answer Pages) : Type 0 where
+  pub both : After driverOf book agree calls x (sharedStep i (x .0) c n before b)
+  pub time : after ≡ timeIn i (sortOf c) (x .0) (n .st) before
 
 -- ---- what a book answers does not depend on what it is told
 
@@ -106,12 +113,12 @@ not-down i going a d time = refl
 not-down i apart a d time = refl
 
 down-fits : (i : ℕ) (x : Sort) (d : Driver) (m : Machine Answer Driver) (y : Called) (time : List ℕ) (u : Bool) {X : Type 0}
-    → turnedDown i x (cond u (stay calls driverOf 1 m) y .0) d time ≡ true → unless driverOf book agree calls u X → X
+    → turnedDown i x (cond u (stay calls driverOf 1 m) y .0) d time ≡ true → page.unless u X → X
 down-fits i x d m y time true h l = absurd (true≢false (sym h ∙ not-down i x (Refused 1) d time))
 down-fits i x d m y time false h l = l
 
 pub down-chip : (i : ℕ) (c : Call Config Op) (m : Machine Answer Driver) (n : Machine Answer Pages) (time : List ℕ) (b : Buf)
-    → turnedDown i (sortOf c) (drive c m b .0) (m .st) time ≡ true → Lent driverOf book agree calls c m n b → Chip (n .st) (m .buf) b
+    → turnedDown i (sortOf c) (drive c m b .0) (m .st) time ≡ true → LentAsLeft c m n b → Chip (n .st) (m .buf) b
 down-chip i (start c) m n time b h l = absurd (true≢false (sym h))
 down-chip i (begin o) m n time b h l =
     down-fits i (opSort o) (m .st) m (begun calls driverOf (λ s. s) o m (m .way) b) time (cond (calls .slots o) (misfit calls driverOf (m .st) b) false) h l
@@ -121,10 +128,10 @@ down-chip i (question q) m n time b h l = absurd (true≢false (sym h))
 -- ---- one call
 
 module _ (i : ℕ) (c : Call Config Op) (b : Buf) (time : List ℕ) {φ : Phase} (m : Machine Answer Driver) (n : Machine Answer Pages)
-    (w : Ways driverOf book agree calls φ (m .way) (n .way)) (r : Rest φ (m .buf) (m .st) (n .st)) (l : Lent driverOf book agree calls c m n b) where
+    (w : Ways driverOf book agree calls φ (m .way) (n .way)) (r : Rest φ (m .buf) (m .st) (n .st)) (l : LentAsLeft c m n b) where
   -- the driver's own call, without the record
-  own : After driverOf book agree calls (drive c m b) (ownStep (drive c m b .0) c n b)
-  own = agrees driverOf book agree calls fresh-kept c b m n w r l
+  own : After driverOf book agree calls (drive c m b) (written (drive c m b .0) c n b)
+  own = agrees driverOf book agree calls fresh-kept c b m n w r (lent-is c m n b l)
 
   abbrev pub isDown : Bool
   isDown = turnedDown i (sortOf c) (drive c m b .0) (m .st) time
@@ -133,13 +140,13 @@ module _ (i : ℕ) (c : Call Config Op) (b : Buf) (time : List ℕ) {φ : Phase}
   outcome u = cond u ((ended (Refused 19), lentTo calls driverOf m b), time) (drive c m b, timeAfter i (sortOf c) (drive c m b .0) (m .st) time)
 
   abbrev noted : Bool → Ans Answer → Ans Answer × Machine Answer Pages
-  noted u z = cond u (ended (Refused 19), lentTo calls (book .driver) n b) (ownStep z c n b)
+  noted u z = cond u (ended (Refused 19), lentTo calls (book .driver) n b) (written z c n b)
 
   -- the book stops just what the driver does, whatever it is told
-  pub down-same : (z : Ans Answer) → isDown ≡ wouldPass i (sortOf c) (ownStep z c n b .0) (n .st) time
+  pub down-same : (z : Ans Answer) → isDown ≡ wouldPass i (sortOf c) (written z c n b .0) (n .st) time
   down-same z =
-      pass-same r i (sortOf c) (drive c m b .0) (ownStep z c n b .0) time
-      (handed-same (drive c m b .0) (ownStep (drive c m b .0) c n b .0) (own .same)
+      pass-same r i (sortOf c) (drive c m b .0) (written z c n b .0) time
+      (handed-same (drive c m b .0) (written (drive c m b .0) c n b .0) (own .same)
       ∙ ap isHanded (answer-same (fed book (drive c m b .0)) (fed book z) c n b))
 
   by-outcome : (u : Bool) → isDown ≡ u → After driverOf book agree calls (outcome u .0) (noted u (outcome u .0 .0))

@@ -1,31 +1,53 @@
 -- A list of calls with the record of bus time is one of the driver alone, in which a call that row 19 stops is a question: so what is proved of the
--- code over every list of calls that are steps of the driver's machine (book/specs/Code.antt and the files that cite its Run) holds of it too
+-- code over every list of calls without the record (Calls in book/specs/FrontPage.antt) holds of it too
 use mathlib.Core.Bool.{Bool, true, false, cond}
 use mathlib.Core.List.{List, [], _∷_}
 use mathlib.Core.Path.{_≡_, refl, ap, subst, sym, _∙_}
 use Prim.Native.Nat.{ℕ, zero}
 use Rattle.state.specs.State.{view}
-use Rattle.state.specs.Driver.{Driver}
 use Rattle.script.specs.Alike.{Phase}
 use Rattle.script.specs.Answers.{Answer, Refused}
 use Rattle.script.specs.Calls.{Config, Op, calls, startRow}
 use Rattle.script.specs.Machine.{Buf, Event, Call, start, question, pending, Machine, Ans, ended, told, lentTo}
-use Rattle.script.specs.Agree.{Ways, Lent, write-up}
+use Rattle.script.specs.Agree.{Ways}
 use Rattle.way.specs.Questions.{questionOf}
 use Rattle.way.specs.Under.{driverOf, drive, machineOf}
 use Rattle.way.specs.Goes.{Called}
-use Rattle.shared_time.specs.Sharing.{sortOf, turnedDown, timeAfter, settled, sharedCall}
+use Rattle.shared_time.specs.Sharing.{sortOf, turnedDown, timeAfter, settled}
 use Rattle.book.specs.Pages.{Pages}
 use Rattle.book.specs.Book.{book}
 use Rattle.book.specs.Rest.{Rest}
 use Rattle.book.specs.Agrees.{agree}
-use Rattle.book.specs.Code as alone
-use Rattle.proof_contracts.specs.SharedBook.{wouldPass, ownStep, sharedStep}
-use Rattle.proof_contracts.specs.SharedCode.{Made, Did, noted, Run, CodeAgreed, isStopped, madeAlone, allAlone}
-use Rattle.proof_contracts.specs.SharedAgrees.{down-chip, down-same, shared-agrees}
-use Rattle.proof_contracts.specs.SharedDemand3.{code-shared-demand3}
+use Rattle.book.specs.FrontPage.{written, LentAsLeft}
+use Rattle.book.specs.FrontPage as page
+use Rattle.proof_contracts.specs.SharedPage.{Made, Did, noted, Calls}
+use Rattle.proof_contracts.specs.SharedAgrees.{down-chip, down-same}
+use Rattle.proof_contracts.specs.SharedRuns.{AgreedAll, agreed-all}
 
--- ---- one call, stopped by row 19 (u) or not
+-- row 19 stops it
+abbrev pub isStopped : ℕ → List ℕ → Buf → Made → Bool
+isStopped i xs a m = turnedDown i (sortOf (m .event .call)) (drive (m .event .call) (machineOf xs a) (m .event .lent) .0) (view xs) (m .before)
+
+-- the call as the driver alone gets it, and as it answers then
+abbrev pub callAlone : Bool → Call Config Op → Call Config Op
+callAlone stopped c = cond stopped (question (pending 0)) c
+
+abbrev pub answerAlone : Bool → List ℕ → Ans Answer → Ans Answer
+answerAlone stopped xs x = cond stopped (told (questionOf (pending 0) (view xs))) x
+
+abbrev pub madeAlone : ℕ → List ℕ → Buf → Made → page.Made
+madeAlone i xs a m = record {
+  event = record { call = callAlone (isStopped i xs a m) (m .event .call); lent = m .event .lent };
+  answer = answerAlone (isStopped i xs a m) xs (m .answer);
+  bytes = m .bytes;
+  slots = m .slots;
+}
+
+abbrev pub allAlone : ℕ → List ℕ → Buf → List Made → List page.Made
+allAlone i xs a [] = []
+allAlone i xs a (m ∷ ms) = madeAlone i xs a m ∷ allAlone i (m .bytes) (m .slots) ms
+
+-- ---- one call
 
 module _ (i : ℕ) (xs : List ℕ) (a : Buf) (m : Made) where
   abbrev c : Call Config Op
@@ -34,69 +56,83 @@ module _ (i : ℕ) (xs : List ℕ) (a : Buf) (m : Made) where
   abbrev b : Buf
   b = m .event .lent
 
-  abbrev asked : Ans Answer
-  asked = told (questionOf (pending 0) (view xs))
+  abbrev outcome : Bool → Called × List ℕ
+  outcome u = cond u ((ended (Refused 19), lentTo calls driverOf (machineOf xs a) b), m .before)
+      (drive c (machineOf xs a) b, timeAfter i (sortOf c) (drive c (machineOf xs a) b .0) (view xs) (m .before))
 
-  did-alone : Did i xs a m → alone.Did xs a (madeAlone i xs a m)
+  pub did-as : Did i xs a m → ((m .answer, machineOf (m .bytes) (m .slots)), m .time) ≡ outcome (isStopped i xs a m)
   unfolding settled
-  did-alone h = by (isStopped i xs a m) h
-    where
-      outcome : Bool → Called × List ℕ
-      outcome u = cond u ((ended (Refused 19), lentTo calls driverOf (machineOf xs a) b), m .before) (drive c (machineOf xs a) b, timeAfter i (sortOf c) (drive c (machineOf xs a) b .0) (view xs) (m .before))
+  did-as h = h
 
+  pub did-alone : Did i xs a m → page.Did xs a (madeAlone i xs a m)
+  did-alone h = by (isStopped i xs a m) (did-as h)
+    where
       by : (u : Bool) → ((m .answer, machineOf (m .bytes) (m .slots)), m .time) ≡ outcome u
-          → (cond u asked (m .answer), machineOf (m .bytes) (m .slots)) ≡ drive (cond u (question (pending 0)) c) (machineOf xs a) b
-      by true h = ap (λ (z : Called × List ℕ). (asked, z .0 .1)) h
+          → (answerAlone u xs (m .answer), machineOf (m .bytes) (m .slots)) ≡ drive (callAlone u c) (machineOf xs a) b
+      by true h = ap (λ (z : Called × List ℕ). (told (questionOf (pending 0) (view xs)), z .0 .1)) h
       by false h = ap (λ (z : Called × List ℕ). z .0) h
 
-  lent-alone : (n : Machine Answer Pages) → Lent driverOf book agree calls c (machineOf xs a) n b → Lent driverOf book agree calls (madeAlone i xs a m .event .call) (machineOf xs a) n b
+  lent-alone : (n : Machine Answer Pages) → LentAsLeft c (machineOf xs a) n b → LentAsLeft (callAlone (isStopped i xs a m) c) (machineOf xs a) n b
   lent-alone n l = by (isStopped i xs a m) refl
     where
-      by : (u : Bool) → isStopped i xs a m ≡ u → Lent driverOf book agree calls (cond u (question (pending 0)) c) (machineOf xs a) n b
+      by : (u : Bool) → isStopped i xs a m ≡ u → LentAsLeft (callAlone u c) (machineOf xs a) n b
       by true h = down-chip i c (machineOf xs a) n (m .before) b h l
       by false h = l
 
-  noted-alone : {φ : Phase} (n : Machine Answer Pages) → Ways driverOf book agree calls φ (machineOf xs a .way) (n .way) → Rest φ a (view xs) (n .st) → Lent driverOf book agree calls c (machineOf xs a) n b
-      → noted i m n ≡ alone.noted (madeAlone i xs a m) n .1
-  noted-alone n w r l = subst (λ (u : Bool). cond u stopped (ownStep (m .answer) c n b) .1 ≡ alone.noted (madeAlone i xs a m) n .1) (down-same i c b (m .before) (machineOf xs a) n w r l (m .answer)) (by (isStopped i xs a m))
+  noted-alone : {φ : Phase} (n : Machine Answer Pages) → Ways driverOf book agree calls φ (machineOf xs a .way) (n .way) → Rest φ a (view xs) (n .st) → LentAsLeft c (machineOf xs a) n b
+      → noted i m n .1 ≡ page.noted (madeAlone i xs a m) n .1
+  noted-alone n w r l =
+      subst (λ (u : Bool). cond u stopped (written (m .answer) c n b) .1 ≡ page.noted (madeAlone i xs a m) n .1)
+      (down-same i c b (m .before) (machineOf xs a) n w r l (m .answer)) (by (isStopped i xs a m))
     where
       stopped : Ans Answer × Machine Answer Pages
       stopped = (ended (Refused 19), lentTo calls (book .driver) n b)
 
-      by : (u : Bool) → cond u stopped (ownStep (m .answer) c n b) .1 ≡ write-up driverOf book agree calls (cond u asked (m .answer)) (cond u (question (pending 0)) c) n b .1
+      by : (u : Bool) → cond u stopped (written (m .answer) c n b) .1 ≡ written (answerAlone u xs (m .answer)) (callAlone u c) n b .1
       by true = refl
       by false = refl
 
 -- ---- every list of calls
 
-run-alone : (i : ℕ) (ms : List Made) {φ : Phase} (xs : List ℕ) (a : Buf) (n : Machine Answer Pages)
-    → Ways driverOf book agree calls φ (machineOf xs a .way) (n .way) → Rest φ a (view xs) (n .st) → Run i xs a n ms → CodeAgreed i n ms → alone.Run xs a n (allAlone i xs a ms)
-run-alone i [] xs a n w r h k = tt
-run-alone i (m ∷ ms) xs a n w r h k = (
+-- the book goes the same way
+abbrev pub NotedAll : ℕ → List ℕ → Buf → Machine Answer Pages → List Made → Type 0
+NotedAll i xs a n [] = Unit {0}
+NotedAll i xs a n (m ∷ ms) = (noted i m n .1 ≡ page.noted (madeAlone i xs a m) n .1) × NotedAll i (m .bytes) (m .slots) (noted i m n .1) ms
+
+noted-all : (i : ℕ) (ms : List Made) {φ : Phase} (xs : List ℕ) (a : Buf) (n : Machine Answer Pages)
+    → Ways driverOf book agree calls φ (machineOf xs a .way) (n .way) → Rest φ a (view xs) (n .st) → Calls i xs a n ms → AgreedAll i n ms → NotedAll i xs a n ms
+noted-all i [] xs a n w r h k = tt
+noted-all i (m ∷ ms) xs a n w r h k =
+    (noted-alone i xs a m n w r (h .1), noted-all i ms (m .bytes) (m .slots) (noted i m n .1) (k .0 .both .ways) (k .0 .both .rest) (h .2) (k .1))
+
+calls-alone : (i : ℕ) (ms : List Made) (xs : List ℕ) (a : Buf) (n : Machine Answer Pages) → Calls i xs a n ms → NotedAll i xs a n ms → page.Calls xs a n (allAlone i xs a ms)
+calls-alone i [] xs a n h k = tt
+calls-alone i (m ∷ ms) xs a n h k = (
   did-alone i xs a m (h .0),
-  (
-    lent-alone i xs a m n (h .1 .0),
-    subst (λ (z : Machine Answer Pages). alone.Run (m .bytes) (m .slots) z (allAlone i (m .bytes) (m .slots) ms)) (noted-alone i xs a m n w r (h .1 .0))
-        (run-alone i ms (m .bytes) (m .slots) (noted i m n) (k .0 .both .ways) (k .0 .both .rest) (h .1 .1) (k .1)),
-  ),
+  lent-alone i xs a m n (h .1),
+  subst (λ (z : Machine Answer Pages). page.Calls (m .bytes) (m .slots) z (allAlone i (m .bytes) (m .slots) ms)) (k .0)
+      (calls-alone i ms (m .bytes) (m .slots) (noted i m n .1) (h .2) (k .1)),
 )
 
--- from an accepted start-up on, which row 19 does not stop
-start-noted : (i : ℕ) (c : Config) (b : Buf) (xs : List ℕ) (a : Buf) (n : Machine Answer Pages) (m : Made) → m .event ≡ record { call = start c; lent = b }
-    → noted i m n ≡ alone.noted (madeAlone i xs a m) n .1
-start-noted i c b xs a n m e = subst (λ (v : Event Config Op). noted i (at v) n ≡ alone.noted (madeAlone i xs a (at v)) n .1) (sym e) refl
-  where
-    at : Event Config Op → Made
-    at v = record { event = v; before = m .before; answer = m .answer; bytes = m .bytes; slots = m .slots; time = m .time }
+-- a start-up is not stopped by row 19
+abbrev with-event : Made → Event Config Op → Made
+with-event m v = record { event = v; before = m .before; answer = m .answer; bytes = m .bytes; slots = m .slots; time = m .time }
 
-pub code-alone : (i : ℕ) (c : Config) (b : Buf) → startRow c b ≡ zero → (xs : List ℕ) (a : Buf) (n : Machine Answer Pages) (first : Made) → first .event ≡ record { call = start c; lent = b }
-    → (ms : List Made) → Run i xs a n (first ∷ ms) → alone.Run xs a n (allAlone i xs a (first ∷ ms))
-code-alone i c b row xs a n first is-start ms run =
-    let k = code-shared-demand3 i c b row xs a n first is-start ms run in (
-      did-alone i xs a first (run .0),
-      (
-        lent-alone i xs a first n (run .1 .0),
-        subst (λ (z : Machine Answer Pages). alone.Run (first .bytes) (first .slots) z (allAlone i (first .bytes) (first .slots) ms)) (start-noted i c b xs a n first is-start)
-            (run-alone i ms (first .bytes) (first .slots) (noted i first n) (k .0 .both .ways) (k .0 .both .rest) (run .1 .1) (k .1)),
-      ),
-    )
+start-noted : (i : ℕ) (c : Config) (b : Buf) (xs : List ℕ) (a : Buf) (n : Machine Answer Pages) (m : Made) → m .event ≡ record { call = start c; lent = b }
+    → noted i m n .1 ≡ page.noted (madeAlone i xs a m) n .1
+start-noted i c b xs a n m e = subst (λ (v : Event Config Op). noted i (with-event m v) n .1 ≡ page.noted (madeAlone i xs a (with-event m v)) n .1) (sym e) refl
+
+pub start-alone : (i : ℕ) (c : Config) (b : Buf) (xs : List ℕ) (a : Buf) (m : Made) → m .event ≡ record { call = start c; lent = b }
+    → madeAlone i xs a m .event ≡ record { call = start c; lent = b }
+start-alone i c b xs a m e = subst (λ (v : Event Config Op). madeAlone i xs a (with-event m v) .event ≡ record { call = start c; lent = b }) (sym e) refl
+
+-- from an accepted start-up on
+pub all-noted : (i : ℕ) (c : Config) (b : Buf) → startRow c b ≡ zero → (xs : List ℕ) (a : Buf) (n : Machine Answer Pages) (first : Made)
+    → first .event ≡ record { call = start c; lent = b } → (ms : List Made) → Calls i xs a n (first ∷ ms) → NotedAll i xs a n (first ∷ ms)
+all-noted i c b row xs a n first is-start ms run =
+    let k = agreed-all i c b row xs a n first is-start ms run in
+    (start-noted i c b xs a n first is-start, noted-all i ms (first .bytes) (first .slots) (noted i first n .1) (k .0 .both .ways) (k .0 .both .rest) (run .2) (k .1))
+
+pub code-alone : (i : ℕ) (c : Config) (b : Buf) → startRow c b ≡ zero → (xs : List ℕ) (a : Buf) (n : Machine Answer Pages) (first : Made)
+    → first .event ≡ record { call = start c; lent = b } → (ms : List Made) → Calls i xs a n (first ∷ ms) → page.Calls xs a n (allAlone i xs a (first ∷ ms))
+code-alone i c b row xs a n first is-start ms run = calls-alone i (first ∷ ms) xs a n run (all-noted i c b row xs a n first is-start ms run)

@@ -8,11 +8,13 @@ use Rattle.regs.specs.declared.Access.{Access}
 use Rattle.regs.specs.declared.Dir.{Dir}
 use Rattle.script.specs.Answers.{Answer, Refused}
 use Rattle.script.specs.Calls.{Config, Op, calls}
-use Rattle.script.specs.Machine.{Buf, Call, Machine, Ans, ended, handed, told, fed, call, lentTo}
+use Rattle.script.specs.Machine.{Buf, Call, Machine, Ans, ended, handed, told, lentTo}
 use Rattle.bus_time.specs.Time.{chargeOf, entryOf, passes, keepOf}
-use Rattle.shared_time.specs.Sharing.{Sort, enabling, starting, going, apart, sortOf, isHanded, written}
+use Rattle.shared_time.specs.Sharing.{Sort, enabling, starting, going, apart, sortOf, isHanded}
+use Rattle.shared_time.specs.Sharing as sharing
 use Rattle.book.specs.Pages.{Pages}
 use Rattle.book.specs.Book.{book}
+use Rattle.book.specs.FrontPage.{written}
 
 -- what an endpoint is charged, by the kept kind and maximum
 abbrev pub chargeIn : Pages → Dir → ℕ → ℕ
@@ -25,14 +27,10 @@ wouldPass i starting a t time = false
 wouldPass i going a t time = false
 wouldPass i apart a t time = false
 
--- the book's own step, told what the call answered
-abbrev pub ownStep : Ans Answer → Call Config Op → Machine Answer Pages → Buf → Ans Answer × Machine Answer Pages
-ownStep x c n b = call calls (book .driver) (fed book x) c n b
-
--- its step as driver i's: row 19 changes nothing
+-- the book's step as driver i's, told what the call answered: row 19 changes nothing
 abbrev pub sharedStep : ℕ → Ans Answer → Call Config Op → Machine Answer Pages → List ℕ → Buf → Ans Answer × Machine Answer Pages
 sharedStep i x c n time b =
-    let y = ownStep x c n b in
+    let y = written x c n b in
     cond (wouldPass i (sortOf c) (y .0) (n .st) time) (ended (Refused 19), lentTo calls (book .driver) n b) y
 
 -- ---- the record after a call that answered so: "an enable counts from its beginning; time comes back with the write of a disabling or bus reset that
@@ -41,7 +39,7 @@ sharedStep i x c n time b =
 abbrev pub timeHanded : ℕ → Sort → Access → Pages → List ℕ → List ℕ
 timeHanded i (enabling dir e) q t time = set time (entryOf i dir e) (chargeIn t dir e)
 timeHanded i starting q t time = keepOf i 0 time
-timeHanded i going q t time = written i q time
+timeHanded i going q t time = sharing.written i q time
 timeHanded i apart q t time = time
 
 abbrev pub timeIn : ℕ → Sort → Ans Answer → Pages → List ℕ → List ℕ

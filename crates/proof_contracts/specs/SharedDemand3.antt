@@ -1,86 +1,121 @@
--- Demand 3 with the record of bus time: for every list of calls from an accepted start-up, refused ones included, row 19 too, ending anywhere,
--- whatever the chip answers and whatever the other drivers do to the record, driver and book agree after each call
-use mathlib.Core.Bool.{Bool, true, false, cond}
+-- Demand 3 with the record of bus time, proved: SharedPage.antt has the statement
+use mathlib.Core.Bool.{Bool, true, false, cond, true≢false}
 use mathlib.Core.List.{List, [], _∷_}
-use mathlib.Core.Path.{_≡_, refl, ap, subst, sym, _∙_}
-use Prim.Native.Nat.{ℕ, zero}
+use mathlib.Core.Path.{_≡_, refl, ap, subst, sym}
+use Prim.Native.Nat.{ℕ}
+use native.Mathlib.Omega.{arith}
+use Rattle.regs.specs.declared.Dir.{Dir}
 use Rattle.state.specs.State.{view}
 use Rattle.state.specs.Driver.{Driver}
-use Rattle.script.specs.Alike.{Phase}
 use Rattle.script.specs.Answers.{Answer, Refused}
-use Rattle.script.specs.Calls.{Config, Op, calls, startRow}
-use Rattle.script.specs.Machine.{Buf, Event, Call, start, question, pending, Machine, Ans, ended, handed, told, fed, started}
-use Rattle.script.specs.Agree.{After, Ways, Lent, from-start}
+use Rattle.script.specs.Calls.{Config, Op, interrupt, slotted, other, aside, SetEnabled, PollRead, BeginWrite, PollWrite, PollDataOut, BeginDataIn, calls}
+use Rattle.script.specs.Machine.{Buf, Call, start, begin, go, question, pending, Machine, Ans, ended, told, lentTo}
+use Rattle.way.specs.Questions.{questionOf}
 use Rattle.way.specs.Under.{driverOf, drive, machineOf}
 use Rattle.way.specs.Goes.{Called}
-use Rattle.shared_time.specs.Sharing.{sortOf, turnedDown, timeAfter, settled, sharedCall}
+use Rattle.shared_time.specs.Sharing.{sortOf, turnedDown, timeAfter}
 use Rattle.book.specs.Pages.{Pages}
-use Rattle.book.specs.Book.{book}
-use Rattle.book.specs.Rest.{Rest}
-use Rattle.book.specs.Allocations.{fresh-kept}
-use Rattle.book.specs.Agrees.{agree}
-use Rattle.book.specs.Code as alone
-use Rattle.proof_contracts.specs.SharedBook.{ownStep, sharedStep, timeIn}
-use Rattle.proof_contracts.specs.SharedCode.{Agreed, Charged, stepBy, bookBy, Premise, AgreedAll, Made, Did, noted, Run, CodeAgreed, isStopped, madeAlone, allAlone}
-use Rattle.proof_contracts.specs.SharedAgrees.{shared-agrees}
+use Rattle.book.specs.FrontPage.{written, Compared, Sentences, same, AfterCall}
+use Rattle.book.specs.FrontPage as page
+use Rattle.book.specs.FrontPageProved.{demand-3}
+use Rattle.proof_contracts.specs.SharedPage.{Made, Did, Calls, noted, AfterEach, SharedDemand3}
+use Rattle.proof_contracts.specs.SharedRuns.{AgreedAll, agreed-all}
+use Rattle.proof_contracts.specs.SharedAlone.{isStopped, callAlone, answerAlone, madeAlone, allAlone, did-as, NotedAll, start-alone, all-noted, code-alone}
 
--- ---- the machine of calls
+-- ---- a call that row 19 stops: nothing changes, so what holds after a question holds after it
 
-shared-always : (i : ℕ) (es : List Charged) {φ : Phase} (m : Machine Answer Driver) (n : Machine Answer Pages)
-    → Ways driverOf book agree calls φ (m .way) (n .way) → Rest φ (m .buf) (m .st) (n .st) → Premise i es m n → AgreedAll i es m n
-shared-always i [] m n w r p = tt
-shared-always i (e ∷ es) m n w r p =
-    let k = shared-agrees i (e .event .call) (e .event .lent) (e .before) m n w r (p .0) in
-    (k, shared-always i es (stepBy i e m .0 .1) (bookBy i e m n) (k .both .ways) (k .both .rest) (p .1))
+module _ (dir : Dir) (e : ℕ) (lent b : Buf) (n : Machine Answer Pages) (d : Driver) where
+  stopped-compared : (k : ℕ) → Compared (question (pending 0)) (n .st) (told k) d b (n .st) → Compared (begin (slotted (SetEnabled dir e true))) (n .st) (ended (Refused 19)) d b (n .st)
+  stopped-compared k x = record {
+    ring = x .ring;
+    stamps = x .stamps;
+    open-shows = λ e stamp bytes p q. let z : _≡_ {A = ℕ} 0 1 = cc in absurd (omega arith);
+    poll-gives = λ e len bytes p q iso. let z : _≡_ {A = ℕ} 0 1 = cc in absurd (omega arith);
+    row-12 = λ e p q. let z : _≡_ {A = ℕ} 0 1 = cc in absurd (omega arith);
+    row-14 = λ e p q. let z : _≡_ {A = ℕ} 0 1 = cc in absurd (omega arith);
+    close-reads = λ e p q. let z : _≡_ {A = ℕ} 0 1 = cc in absurd (omega arith);
+    overruns-answers = λ e p. let z : _≡_ {A = ℕ} 0 1 = cc in absurd (omega arith);
+    row-13 = λ e bytes p q. let z : _≡_ {A = ℕ} 0 1 = cc in absurd (omega arith);
+    queue-joins = λ e bytes p q. let z : _≡_ {A = ℕ} 0 1 = cc in absurd (omega arith);
+    load-holds = λ e y q. let z : _≡_ {A = ℕ} 0 1 = cc in absurd (omega arith);
+  }
 
--- an accepted start-up of driver i, from whatever was before
-shared-start : (i : ℕ) (c : Config) (b : Buf) → startRow c b ≡ zero → (m : Machine Answer Driver) (n : Machine Answer Pages) (time : List ℕ)
-    → Agreed i (start c) (sharedCall i (start c) m time b .0) time (sharedCall i (start c) m time b .1) b n
-unfolding settled
-shared-start i c b row m n time = record { both = subst Both (sym row) (from-start driverOf book agree calls fresh-kept c b row [] m n tt .0); time = by-answer (drive (start c) m b .0) }
+  stopped-sentences : (k : ℕ) → Sentences (question (pending 0)) lent n (told k) d b (n .st) → Sentences (begin (slotted (SetEnabled dir e true))) lent n (ended (Refused 19)) d b (n .st)
+  stopped-sentences k x = record {
+    read-then-waiting = x .read-then-waiting;
+    read-then-stamps = x .read-then-stamps;
+    at-most-15 = x .at-most-15;
+    open-waits = x .open-waits;
+    decided = λ e y. let p = y .continues in let z : _≡_ {A = ℕ} 0 1 = cc in absurd (omega arith);
+    counted = λ e. same refl;
+    at-most-2 = x .at-most-2;
+    sent-in-order = x .sent-in-order;
+    unwritten = x .unwritten;
+    inside = tt;
+  }
+
+  stopped-after : (k : ℕ) → AfterCall (question (pending 0)) lent n (told k) d b (n .st) → AfterCall (begin (slotted (SetEnabled dir e true))) lent n (ended (Refused 19)) d b (n .st)
+  stopped-after k x = record { compared = stopped-compared k (x .compared); sentences = stopped-sentences k (x .sentences) }
+
+-- it is an enabling
+stopped-is : (i : ℕ) (c : Call Config Op) (x : Ans Answer) (s : Driver) (time : List ℕ) → turnedDown i (sortOf c) x s time ≡ true
+    → (lent b : Buf) (n : Machine Answer Pages) (d : Driver) (k : ℕ) → AfterCall (question (pending 0)) lent n (told k) d b (n .st) → AfterCall c lent n (ended (Refused 19)) d b (n .st)
+stopped-is i (start g) x s time h lent b n d k y = absurd (true≢false (sym h))
+stopped-is i (begin interrupt) x s time h lent b n d k y = absurd (true≢false (sym h))
+stopped-is i (begin (slotted (SetEnabled dir e true))) x s time h lent b n d k y = stopped-after dir e lent b n d k y
+stopped-is i (begin (slotted (SetEnabled dir e false))) x s time h lent b n d k y = absurd (true≢false (sym h))
+stopped-is i (begin (slotted (PollRead e m))) x s time h lent b n d k y = absurd (true≢false (sym h))
+stopped-is i (begin (slotted (BeginWrite e bs))) x s time h lent b n d k y = absurd (true≢false (sym h))
+stopped-is i (begin (slotted (PollWrite e bs))) x s time h lent b n d k y = absurd (true≢false (sym h))
+stopped-is i (begin (slotted (PollDataOut m))) x s time h lent b n d k y = absurd (true≢false (sym h))
+stopped-is i (begin (slotted (BeginDataIn bs first last))) x s time h lent b n d k y = absurd (true≢false (sym h))
+stopped-is i (begin (other o)) x s time h lent b n d k y = absurd (true≢false (sym h))
+stopped-is i (begin (aside o)) x s time h lent b n d k y = absurd (true≢false (sym h))
+stopped-is i (go v) x s time h lent b n d k y = absurd (true≢false (sym h))
+stopped-is i (question q) x s time h lent b n d k y = absurd (true≢false (sym h))
+
+-- ---- one call
+
+after-made : (i : ℕ) (xs : List ℕ) (a : Buf) (m : Made) (n : Machine Answer Pages) → Did i xs a m → noted i m n .1 ≡ page.noted (madeAlone i xs a m) n .1
+    → AfterCall (madeAlone i xs a m .event .call) (m .event .lent) n (madeAlone i xs a m .answer) (view (m .bytes)) (m .slots) (page.noted (madeAlone i xs a m) n .1 .st)
+    → AfterCall (m .event .call) (m .event .lent) n (m .answer) (view (m .bytes)) (m .slots) (noted i m n .1 .st)
+after-made i xs a m n did goes y =
+    subst (λ (z : Machine Answer Pages). AfterCall c l n (m .answer) (view (m .bytes)) (m .slots) (z .st)) (sym goes) (by (isStopped i xs a m) refl (did-as i xs a m did) y)
   where
-    Both : ℕ → Type 0
-    Both k = let x = started calls driverOf (λ s. s) c k m b in After driverOf book agree calls x (started calls (book .driver) (fed book (x .0)) c k n b)
+    c : Call Config Op
+    c = m .event .call
 
-    by-answer : (a : Ans Answer) → timeAfter i (sortOf (start c)) a (m .st) time ≡ timeIn i (sortOf (start c)) a (n .st) time
-    by-answer (ended a) = refl
-    by-answer (handed q) = refl
-    by-answer (told k) = refl
+    l : Buf
+    l = m .event .lent
 
--- every list of calls whose first is an accepted start-up
-pub shared-demand3 : (i : ℕ) (c : Config) (b : Buf) → startRow c b ≡ zero → (time : List ℕ) (es : List Charged) (m : Machine Answer Driver) (n : Machine Answer Pages)
-    → let first : Charged = record { event = record { call = start c; lent = b }; before = time } in
-    Premise i (first ∷ es) m n → AgreedAll i (first ∷ es) m n
-shared-demand3 i c b row time es m n p =
-    let k = shared-start i c b row m n time in
-    (k, shared-always i es _ _ (k .both .ways) (k .both .rest) (p .1))
+    outcome : Bool → Called × List ℕ
+    outcome u = cond u ((ended (Refused 19), lentTo calls driverOf (machineOf xs a) l), m .before)
+        (drive c (machineOf xs a) l, timeAfter i (sortOf c) (drive c (machineOf xs a) l .0) (view xs) (m .before))
 
--- ---- the code
+    then : Bool → Machine Answer Pages
+    then u = written (answerAlone u xs (m .answer)) (callAlone u c) n l .1
 
-of-made : (i : ℕ) (m : Made) (xs : List ℕ) (a : Buf) (n : Machine Answer Pages) → Did i xs a m
-    → let z = sharedCall i (m .event .call) (machineOf xs a) (m .before) (m .event .lent) in
-    Agreed i (m .event .call) (z .0) (m .before) (z .1) (m .event .lent) n
-    → Agreed i (m .event .call) (m .answer, machineOf (m .bytes) (m .slots)) (m .before) (m .time) (m .event .lent) n
-of-made i m xs a n did k = subst (λ (z : Called × List ℕ). Agreed i (m .event .call) (z .0) (m .before) (z .1) (m .event .lent) n) (sym did) k
+    by : (u : Bool) → isStopped i xs a m ≡ u → ((m .answer, machineOf (m .bytes) (m .slots)), m .time) ≡ outcome u
+        → AfterCall (callAlone u c) l n (answerAlone u xs (m .answer)) (view (m .bytes)) (m .slots) (then u .st)
+        → AfterCall c l n (m .answer) (view (m .bytes)) (m .slots) (then u .st)
+    by true h did y =
+        subst (λ (x : Ans Answer). AfterCall c l n x (view (m .bytes)) (m .slots) (n .st)) (sym (ap (λ (z : Called × List ℕ). z .0 .0) did))
+        (stopped-is i c (drive c (machineOf xs a) l .0) (view xs) (m .before) h l (m .slots) n (view (m .bytes)) (questionOf (pending 0) (view xs)) y)
+    by false h did y = y
 
-code-always : (i : ℕ) (ms : List Made) {φ : Phase} (xs : List ℕ) (a : Buf) (n : Machine Answer Pages)
-    → Ways driverOf book agree calls φ (machineOf xs a .way) (n .way) → Rest φ a (view xs) (n .st) → Run i xs a n ms → CodeAgreed i n ms
-code-always i [] xs a n w r h = tt
-code-always i (m ∷ ms) xs a n w r h =
-    let k = of-made i m xs a n (h .0) (shared-agrees i (m .event .call) (m .event .lent) (m .before) (machineOf xs a) n w r (h .1 .0)) in
-    (k, code-always i ms (m .bytes) (m .slots) (noted i m n) (k .both .ways) (k .both .rest) (h .1 .1))
+-- ---- every list of calls
 
-starts : (i : ℕ) (c : Config) (b : Buf) → startRow c b ≡ zero → (xs : List ℕ) (a : Buf) (n : Machine Answer Pages) (before : List ℕ) (v : Event Config Op) → v ≡ record { call = start c; lent = b }
-    → let z = sharedCall i (v .call) (machineOf xs a) before (v .lent) in Agreed i (v .call) (z .0) before (z .1) (v .lent) n
-starts i c b row xs a n before v e =
-    subst (λ (v : Event Config Op). let z = sharedCall i (v .call) (machineOf xs a) before (v .lent) in Agreed i (v .call) (z .0) before (z .1) (v .lent) n) (sym e)
-    (shared-start i c b row (machineOf xs a) n before)
+after-each : (i : ℕ) (ms : List Made) (xs : List ℕ) (a : Buf) (n : Machine Answer Pages) → Calls i xs a n ms → NotedAll i xs a n ms → AgreedAll i n ms
+    → page.AfterEach n (allAlone i xs a ms) → AfterEach i n ms
+after-each i [] xs a n run goes k y = tt
+after-each i (m ∷ ms) xs a n run goes k y = (
+  record { call = after-made i xs a m n (run .0) (goes .0) (y .0); answers = k .0 .both .same; time = k .0 .time },
+  after-each i ms (m .bytes) (m .slots) (noted i m n .1) (run .2) (goes .1) (k .1)
+      (subst (λ (z : Machine Answer Pages). page.AfterEach z (allAlone i (m .bytes) (m .slots) ms)) (sym (goes .0)) (y .1)),
+)
 
--- any bytes, a start-up that rows 1 and 2 do not stop, and then any calls, each of which its contract says is one of these steps
-module _ (i : ℕ) (c : Config) (b : Buf) (row : startRow c b ≡ zero) (xs : List ℕ) (a : Buf) (n : Machine Answer Pages) (first : Made) (is-start : first .event ≡ record { call = start c; lent = b })
-    (ms : List Made) (run : Run i xs a n (first ∷ ms)) where
-  agreed-first : Agreed i (first .event .call) (first .answer, machineOf (first .bytes) (first .slots)) (first .before) (first .time) (first .event .lent) n
-  agreed-first = of-made i first xs a n (run .0) (starts i c b row xs a n (first .before) (first .event) is-start)
-
-  pub code-shared-demand3 : CodeAgreed i n (first ∷ ms)
-  code-shared-demand3 = (agreed-first, code-always i ms (first .bytes) (first .slots) (noted i first n) (agreed-first .both .ways) (agreed-first .both .rest) (run .1 .1))
+pub shared-demand-3 : SharedDemand3
+shared-demand-3 i c b row xs a n first is-start ms run =
+    let alone = code-alone i c b row xs a n first is-start ms run in
+    after-each i (first ∷ ms) xs a n run (all-noted i c b row xs a n first is-start ms run) (agreed-all i c b row xs a n first is-start ms run)
+    (demand-3 c b row xs a n (madeAlone i xs a first) (start-alone i c b xs a first is-start) (allAlone i (first .bytes) (first .slots) ms) alone)

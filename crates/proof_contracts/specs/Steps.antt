@@ -1,4 +1,4 @@
--- A call is a step of demand 3 (`Did`, SharedCode.antt), for each way in which calls are lent their bytes: xs are the state's bytes before it, ys those
+-- A call is a step of demand 3 (`Did`, SharedPage.antt), for each way in which calls are lent their bytes: xs are the state's bytes before it, ys those
 -- after it, x is what it answered. It holds whatever slot buffer the run has (a), and for whichever of the four drivers (i). Definitions
 use mathlib.Core.Bool.{cond}
 use mathlib.Core.List.{List}
@@ -9,7 +9,7 @@ use Rattle.script.specs.Answers.{Answer}
 use Rattle.script.specs.Calls.{Config, Op, startRow}
 use Rattle.script.specs.Machine.{Buf, Call, start, question, Question, Ans, told}
 use Rattle.way.specs.Under.{lentOr}
-use Rattle.proof_contracts.specs.SharedCode.{Did}
+use Rattle.proof_contracts.specs.SharedPage.{Did}
 
 -- it brings neither the slot buffer nor the record: both stay as they stand then (b, time)
 pub record IsStep (c : Call Config Op) (xs : List ℕ) (x : Buf → Ans Answer) (ys : List ℕ) : Type 0 where
