@@ -32,7 +32,8 @@ use Rattle.shared_time.specs.Sharing.{Sort, enabling, starting, apart, opSort, 
 use Rattle.four_drivers.specs.History.{byAccess}
 use Rattle.four_drivers.specs.Histories.{none-set}
 use Rattle.four_drivers.specs.Enabled.{isEnabled, begins}
-use Rattle.four_drivers.specs.Charged.{Begun, enables, disables, polls-bus, neither, slottedBegun, opBegun, givenBack}
+use Rattle.four_drivers.specs.Charged.{Begun, enables, disables, polls-bus, neither, slottedBegun, opBegun}
+use Rattle.four_drivers.specs.Charged.{givenBack}
 use Rattle.four_drivers.specs.Stays.{configOf, Stays, act-stays}
 use Rattle.four_drivers.specs.Calm.{Quiet, Calm}
 use Rattle.four_drivers.specs.CalmCalls.{Manner, calm, gives, turns, polls, manner, start-up-calm}
@@ -108,39 +109,58 @@ module _ (dir : Dir) (e : ℕ) where
 
   -- an operation is under way, with k left of it: what is due, and on every way through; `last` was begun
   abbrev pub Ongoing : Bool → Begun → ℕ → Driver → (ℕ → St → tree.Out St Answer) → Type 0
-  Ongoing u last c d k = Due dir e u c d × ((v : ℕ) (t : St) → Stays d (t .0) → Left bit (givenBack dir e last) (Due dir e u) Rests c (k v t))
+  Ongoing u last c d k = Due dir e u c d
+      × ((v : ℕ) (t : St) → Stays d (t .0) → Left bit (givenBack dir e last) (Due dir e u) Rests c (k v t))
 
   -- a call of this sort, from a charge and a state with nothing under way
   pub data Opens (x : Sort) (last : Begun) (d : Driver) (c : ℕ) (was : Bool) : tree.Out St Answer → Type 0 where
     at-once : {a : Answer} {s : St} → Rests c (s .0) → Opens x last d c was (ends a s)
-    under-way : {q : Access} {s : St} {k : ℕ → St → tree.Out St Answer} → Ongoing (begins bit x was) last (byAccess bit x q d c) (s .0) k → Opens x last d c was (asks q s k)
+    under-way : {q : Access} {s : St} {k : ℕ → St → tree.Out St Answer}
+        → Ongoing (begins bit x was) last (byAccess bit x q d c) (s .0) k → Opens x last d c was (asks q s k)
 
-  opens-calm : (last : Begun) (d : Driver) (c : ℕ) (was : Bool) {o : tree.Out St Answer} → Left bit (givenBack dir e last) (Due dir e false) Rests c o → First o → Opens apart last d c was o
+  opens-calm : (last : Begun) (d : Driver) (c : ℕ) (was : Bool) {o : tree.Out St Answer}
+      → Left bit (givenBack dir e last) (Due dir e false) Rests c o → First o → Opens apart last d c was o
   opens-calm last d c was (at-end x) none = at-once x
   opens-calm last d c was (at-ask {q = q} {s = s} {k = k} w x y) (some z) =
-      under-way (subst (λ g. Due dir e false g (s .0)) (quiet bit q c z) x, λ v t b. subst (λ g. Left bit (givenBack dir e last) (Due dir e false) Rests g (k v t)) (quiet bit q c z) (y v t b))
+      under-way (
+        subst (λ g. Due dir e false g (s .0)) (quiet bit q c z) x,
+        λ v t b. subst
+            (λ g. Left bit (givenBack dir e last) (Due dir e false) Rests g (k v t)) (quiet bit q c z) (y v t b),
+      )
 
-  opens-hands : (x : Sort) (last : Begun) (d : Driver) (c g : ℕ) (was : Bool) → ((q : Access) → byAccess bit x q d c ≡ g) → {o : tree.Out St Answer} → Left bit (givenBack dir e last) (Due dir e (begins bit x was)) Rests g o → Hands o → Opens x last d c was o
+  opens-hands : (x : Sort) (last : Begun) (d : Driver) (c g : ℕ) (was : Bool)
+      → ((q : Access) → byAccess bit x q d c ≡ g) → {o : tree.Out St Answer}
+      → Left bit (givenBack dir e last) (Due dir e (begins bit x was)) Rests g o → Hands o → Opens x last d c was o
   opens-hands x last d c g was h (at-ask {q = q} {s = s} {k = k} v y z) (hands w) =
       let p = quiet bit q g w ∙ sym (h q) in
-      under-way (subst (λ g. Due dir e (begins bit x was) g (s .0)) p y, λ v t b. subst (λ g. Left bit (givenBack dir e last) (Due dir e (begins bit x was)) Rests g (k v t)) p (z v t b))
+      under-way (
+        subst (λ g. Due dir e (begins bit x was) g (s .0)) p y,
+        λ v t b. subst
+            (λ g. Left bit (givenBack dir e last) (Due dir e (begins bit x was)) Rests g (k v t)) p (z v t b),
+      )
 
-  opens-cond : {x : Sort} {last : Begun} {d : Driver} {c : ℕ} {was : Bool} (b : Bool) {o u : tree.Out St Answer} → (b ≡ true → Opens x last d c was o) → (b ≡ false → Opens x last d c was u) → Opens x last d c was (cond b o u)
+  opens-cond : {x : Sort} {last : Begun} {d : Driver} {c : ℕ} {was : Bool} (b : Bool) {o u : tree.Out St Answer}
+      → (b ≡ true → Opens x last d c was o) → (b ≡ false → Opens x last d c was u) → Opens x last d c was (cond b o u)
   opens-cond true y z = y refl
   opens-cond false y z = z refl
 
   -- calm scripts
-  calm-rests : {i : Bool} (back : ℕ → ℕ) (c : ℕ) (p : Script i Answer) → Calm false p → (s : St) → Rests c (s .0) → Left bit back (Due dir e false) Rests c (run conc p s)
-  calm-rests back c p x s r = left-more (calm-run (keeps (rests-stays c)) bit back c (Due dir e false) (λ d k. k .due) p x s r) (λ g d y. subst (λ z. Rests z d) (sym (y .0)) (y .1))
+  calm-rests : {i : Bool} (back : ℕ → ℕ) (c : ℕ) (p : Script i Answer) → Calm false p → (s : St) → Rests c (s .0)
+      → Left bit back (Due dir e false) Rests c (run conc p s)
+  calm-rests back c p x s r =
+      left-more (calm-run (keeps (rests-stays c)) bit back c (Due dir e false) (λ d k. k .due) p x s r)
+      (λ g d y. subst (λ z. Rests z d) (sym (y .0)) (y .1))
 
   -- allocations, before any endpoint is enabled
   uncharged : (c : ℕ) (d : Driver) → configOf d ≡ 0 → Rests c d → c ≡ 0
   uncharged c d h r = r .due ∙ sym (none-rests d h .due)
 
-  gives-rests : (back : ℕ → ℕ) (c : ℕ) (p : Script false Answer) → Calm true p → (s : St) → Rests c (s .0) → configOf (s .0) ≡ 0 → Left bit back (Due dir e false) Rests c (run conc p s)
+  gives-rests : (back : ℕ → ℕ) (c : ℕ) (p : Script false Answer) → Calm true p → (s : St) → Rests c (s .0)
+      → configOf (s .0) ≡ 0 → Left bit back (Due dir e false) Rests c (run conc p s)
   gives-rests back c p x s r h =
       let zero-is = uncharged c (s .0) h r in
-      left-more (calm-run none-keeps bit back c (Due dir e false) (λ d k. zero-is ∙ none-rests d k .due) p x s h) (λ g d y. subst (λ z. Rests z d) (sym (y .0 ∙ zero-is)) (none-rests d (y .1)))
+      left-more (calm-run none-keeps bit back c (Due dir e false) (λ d k. zero-is ∙ none-rests d k .due) p x s h)
+      (λ g d y. subst (λ z. Rests z d) (sym (y .0 ∙ zero-is)) (none-rests d (y .1)))
 
   -- an endpoint enabled or disabled
   same-charge : (d : Driver) (dir′ : Dir) (e′ : ℕ) → place dir′ e′ ≡ place dir e → chargeOn d dir′ e′ ≡ chargeOn d dir e
@@ -162,41 +182,59 @@ module _ (dir : Dir) (e : ℕ) where
       by false h b k = r .due
 
   turn-left : (dir′ : Dir) (e′ : ℕ) (on : Bool) (c : ℕ) (s : St) → Due dir e (mine dir e dir′ e′ on) c (s .0) → s .0 .globals .stage ≡ 2
-      → Left bit (turnsBack dir e dir′ e′ on) (Due dir e (mine dir e dir′ e′ on)) Rests c (run conc (resultless (bus.setEnabled dir′ e′ on)) s)
+      → Left bit (turnsBack dir e dir′ e′ on) (Due dir e (mine dir e dir′ e′ on)) Rests c
+      (run conc (resultless (bus.setEnabled dir′ e′ on)) s)
   turn-left dir′ e′ on c s due second =
       let x = act-stays no-wakes refl s in
       left-bind (left-bind (switched dir e dir′ e′ on c (conc .act no-wakes s) (due-stays dir e (mine dir e dir′ e′ on) c x due) (x .stage ∙ second)) (λ g _ t y. at-end y)) (λ g _ t y. at-end (ended-rests g (t .0) y))
 
-  opens-turn : (dir′ : Dir) (e′ : ℕ) (on : Bool) (c : ℕ) (was : Bool) (s : St) → Rests c (s .0) → Opens (opSort (slotted (SetEnabled dir′ e′ on))) (slottedBegun (SetEnabled dir′ e′ on)) (s .0) c was (run conc (code (slotted (SetEnabled dir′ e′ on))) s)
+  opens-turn : (dir′ : Dir) (e′ : ℕ) (on : Bool) (c : ℕ) (was : Bool) (s : St) → Rests c (s .0)
+      → Opens (opSort (slotted (SetEnabled dir′ e′ on))) (slottedBegun (SetEnabled dir′ e′ on)) (s .0) c was
+      (run conc (code (slotted (SetEnabled dir′ e′ on))) s)
   opens-turn dir′ e′ true c was s r = let x = enabling dir′ e′ in
       opens-cond (eqb (s .0 .globals .stage) 2)
       (λ h. opens-cond (isAllocated (s .0 .allocator) dir′ e′)
-      (λ _. opens-hands x (enables dir′ e′) (s .0) c (cond (eqb (place dir′ e′) bit) (chargeOn (s .0) dir′ e′) c) was (λ q. refl) (turn-left dir′ e′ true _ s (begun-due dir′ e′ c (s .0) r) (eqb-true _ 2 h)) (turn-hands dir′ e′ true s))
+      (λ _. opens-hands x (enables dir′ e′) (s .0) c (cond (eqb (place dir′ e′) bit) (chargeOn (s .0) dir′ e′) c) was
+      (λ q. refl) (turn-left dir′ e′ true _ s (begun-due dir′ e′ c (s .0) r) (eqb-true _ 2 h))
+      (turn-hands dir′ e′ true s))
       (λ _. at-once r))
       (λ _. at-once r)
   opens-turn dir′ e′ false c was s r =
       opens-cond (eqb (s .0 .globals .stage) 2)
       (λ h. opens-cond (isAllocated (s .0 .allocator) dir′ e′)
-      (λ _. opens-hands apart (disables dir′ e′) (s .0) c c was (λ q. refl) (turn-left dir′ e′ false c s (r .due) (eqb-true _ 2 h)) (turn-hands dir′ e′ false s))
+      (λ _. opens-hands apart (disables dir′ e′) (s .0) c c was (λ q. refl)
+      (turn-left dir′ e′ false c s (r .due) (eqb-true _ 2 h)) (turn-hands dir′ e′ false s))
       (λ _. at-once r))
       (λ _. at-once r)
 
   -- ---- each call
 
-  pub opens : (o : Op) (s : St) (c : ℕ) (was : Bool) → Rests c (s .0) → Opens (opSort o) (opBegun o) (s .0) c was (run conc (code o) s)
+  pub opens : (o : Op) (s : St) (c : ℕ) (was : Bool) → Rests c (s .0)
+      → Opens (opSort o) (opBegun o) (s .0) c was (run conc (code o) s)
   opens o s c was r = by (manner o)
     where
-      early : (last : Begun) (p : tree.Out St Answer) (b : Bool) → eqb (s .0 .globals .stage) 1 ≡ b → (eqb (s .0 .globals .stage) 1 ≡ false → p ≡ ends (Refused 4) s) → (s .0 .globals .stage ≡ 1 → Opens apart last (s .0) c was p) → Opens apart last (s .0) c was p
+      early : (last : Begun) (p : tree.Out St Answer) (b : Bool) → eqb (s .0 .globals .stage) 1 ≡ b
+          → (eqb (s .0 .globals .stage) 1 ≡ false → p ≡ ends (Refused 4) s)
+          → (s .0 .globals .stage ≡ 1 → Opens apart last (s .0) c was p) → Opens apart last (s .0) c was p
       early last p true h x y = y (eqb-true _ 1 h)
       early last p false h x y = subst (λ z. Opens apart last (s .0) c was z) (sym (x h)) (at-once r)
 
       by : {o : Op} → Manner o → Opens (opSort o) (opBegun o) (s .0) c was (run conc (code o) s)
-      by (calm o x y) = subst (λ z. Opens z (opBegun o) (s .0) c was (run conc (code o) s)) (sym x) (opens-calm (opBegun o) (s .0) c was (calm-rests (givenBack dir e (opBegun o)) c (code o) y s r) (calm-first false (code o) y s))
-      by (gives o x y) = early (opBegun (other o)) (run conc (otherCode o) s) _ refl (x s) (λ h. opens-calm (opBegun (other o)) (s .0) c was (gives-rests (givenBack dir e (opBegun (other o))) c (otherCode o) y s r (r .early h)) (calm-first true (otherCode o) y s))
+      by (calm o x y) = subst (λ z. Opens z (opBegun o) (s .0) c was (run conc (code o) s)) (sym x)
+          (opens-calm (opBegun o) (s .0) c was (calm-rests (givenBack dir e (opBegun o)) c (code o) y s r)
+          (calm-first false (code o) y s))
+      by (gives o x y) = early (opBegun (other o)) (run conc (otherCode o) s) _ refl (x s)
+          (λ h. opens-calm (opBegun (other o)) (s .0) c was (gives-rests (givenBack dir e (opBegun (other o))) c
+          (otherCode o) y s r (r .early h)) (calm-first true (otherCode o) y s))
       by (turns dir′ e′ on) = opens-turn dir′ e′ on c was s r
-      by polls = opens-cond (eqb (s .0 .globals .stage) 2) (λ h. opens-calm polls-bus (s .0) c was (left-more (polled dir e c .on s (r .due, eqb-true _ 2 h)) ended-rests) (poll-first s)) (λ _. at-once r)
+      by polls = opens-cond (eqb (s .0 .globals .stage) 2) (λ h. opens-calm polls-bus (s .0) c was
+          (left-more (polled dir e c .on s (r .due, eqb-true _ 2 h)) ended-rests) (poll-first s)) (λ _. at-once r)
 
   -- an accepted start-up, from whatever was before
-  pub opens-start : (x : Config) (b : Buf) (d : Driver) (c : ℕ) (was : Bool) → Opens starting neither d c was (run conc (the-calls.starting x) (driverOf .fresh x, b))
+  pub opens-start : (x : Config) (b : Buf) (d : Driver) (c : ℕ) (was : Bool)
+      → Opens starting neither d c was (run conc (the-calls.starting x) (driverOf .fresh x, b))
   unfolding freshDriver
-  opens-start x b d c was = opens-hands starting neither d c 0 was (λ q. refl) (calm-rests (givenBack dir e neither) 0 (the-calls.starting x) (start-up-calm x) (driverOf .fresh x, b) (none-rests (driverOf .fresh x) refl)) (start-hands x (driverOf .fresh x, b))
+  opens-start x b d c was =
+      opens-hands starting neither d c 0 was (λ q. refl) (calm-rests (givenBack dir e neither) 0
+      (the-calls.starting x) (start-up-calm x) (driverOf .fresh x, b) (none-rests (driverOf .fresh x) refl))
+      (start-hands x (driverOf .fresh x, b))

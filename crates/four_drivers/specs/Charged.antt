@@ -1,5 +1,7 @@
--- What an endpoint is charged, "worked out from the history of enables, disables, resets and start-ups" (document 02, request Seven): from the calls and
--- whether each was begun, and from which of their accesses write ep_config. No record and no word that was written is looked at. Definitions
+-- What an endpoint is charged, "worked out from the history of enables, disables, resets and start-ups" (document 02,
+-- request Seven): from the calls and
+-- whether each was begun, and from which of their accesses write ep_config. No record and no word that was written is
+-- looked at. Definitions
 use mathlib.Core.Bool.{Bool, true, false, cond}
 use mathlib.Core.List.{List, [], _∷_}
 use Prim.Native.Nat.{ℕ, _%_}
@@ -9,13 +11,18 @@ use Rattle.regs.specs.declared.Dir.{Dir}
 use Rattle.regs.specs.Enables.{place}
 use Rattle.state.specs.Driver.{Driver}
 use Rattle.script.specs.Answers.{Answer}
-use Rattle.script.specs.Calls.{Config, Op, interrupt, slotted, other, aside, Slotted, SetEnabled, PollRead, BeginWrite, PollWrite, PollDataOut, BeginDataIn, Other, Allocate, AllocateAll, Start, BusPoll, BusEnable, BusDisable, Microframe, SetStalled, IsStalled, SetPaced, Advance, BeginRead, BeginSetup, PollSetup, PollDataIn, BeginAccept, PollAccept, BeginReject, BeginDataOut, BeginAcceptSetAddress}
+use Rattle.script.specs.Calls.{Config, Op, interrupt, slotted, other, aside, Slotted, SetEnabled, PollRead}
+use Rattle.script.specs.Calls.{BeginWrite, PollWrite, PollDataOut, BeginDataIn, Other, Allocate, AllocateAll, Start}
+use Rattle.script.specs.Calls.{BusPoll, BusEnable, BusDisable, Microframe, SetStalled, IsStalled, SetPaced, Advance}
+use Rattle.script.specs.Calls.{BeginRead, BeginSetup, PollSetup, PollDataIn, BeginAccept, PollAccept, BeginReject}
+use Rattle.script.specs.Calls.{BeginDataOut, BeginAcceptSetAddress}
 use Rattle.script.specs.Machine.{Call, start, begin, go, question, Ans, ended, handed, told}
 use Rattle.shared_time.specs.Sharing.{chargeOn}
 use Rattle.four_drivers.specs.History.{Line}
 use Rattle.four_drivers.specs.Enabled.{writesConfig, sumOf}
 
--- what a driver began last: an endpoint's enabling or disabling, a poll of the bus, in which a bus reset falls, or something else
+-- what a driver began last: an endpoint's enabling or disabling, a poll of the bus, in which a bus reset falls, or
+-- something else
 pub data Begun : Type 0 where
   enables disables : Dir → ℕ → Begun
   polls-bus neither : Begun
@@ -79,7 +86,8 @@ counted dir e (disables dir′ e′) d charge = charge
 counted dir e polls-bus d charge = charge
 counted dir e neither d charge = charge
 
--- "time comes back with the write of a disabling or bus reset that clears its ep_config bit": the charge after a write of ep_config in what was begun last
+-- "time comes back with the write of a disabling or bus reset that clears its ep_config bit": the charge after a
+-- write of ep_config in what was begun last
 abbrev pub givenBack : Dir → ℕ → Begun → ℕ → ℕ
 givenBack dir e (enables dir′ e′) charge = charge
 givenBack dir e (disables dir′ e′) charge = cond (eqb (place dir′ e′) (place dir e)) 0 charge
@@ -104,12 +112,14 @@ abbrev pub lastAfter : ℕ → Line → Begun → Begun
 lastAfter i l last = cond (eqb (l .who % 4) i) (lastOf (l .call) (l .answer) last) last
 
 abbrev pub chargedAfter : ℕ → Dir → ℕ → Line → Begun → ℕ → ℕ
-chargedAfter i dir e l last charge = cond (eqb (l .who % 4) i) (chargedBy dir e (l .call) (l .answer) (l .state) last charge) charge
+chargedAfter i dir e l last charge =
+    cond (eqb (l .who % 4) i) (chargedBy dir e (l .call) (l .answer) (l .state) last charge) charge
 
 -- after a history
 abbrev pub chargedFrom : ℕ → Dir → ℕ → List Line → Begun → ℕ → ℕ
 chargedFrom i dir e [] last charge = charge
-chargedFrom i dir e (l ∷ ls) last charge = chargedFrom i dir e ls (lastAfter i l last) (chargedAfter i dir e l last charge)
+chargedFrom i dir e (l ∷ ls) last charge =
+    chargedFrom i dir e ls (lastAfter i l last) (chargedAfter i dir e l last charge)
 
 abbrev pub charged : ℕ → Dir → ℕ → List Line → ℕ
 charged i dir e ls = chargedFrom i dir e ls neither 0

@@ -67,22 +67,27 @@ last l (m ∷ ms) = last (left l m) ms
 
 -- ---- laws
 
--- the calls that do not bring the record (all but start-up, an enabling and continue) leave it, and so every charge: such a call, whose contract is the
+-- the calls that do not bring the record (all but start-up, an enabling and continue) leave it, and so every charge:
+-- such a call, whose contract is the
 -- driver's own step, is a step with the record
-pub leaves-record : (i : ℕ) (c : Call Config Op) (m : Machine Answer Driver) (time : List ℕ) (b : Buf) → sortOf c ≡ apart → sharedCall i c m time b ≡ (drive c m b, time)
+pub leaves-record : (i : ℕ) (c : Call Config Op) (m : Machine Answer Driver) (time : List ℕ) (b : Buf)
+    → sortOf c ≡ apart → sharedCall i c m time b ≡ (drive c m b, time)
 unfolding settled
-leaves-record i c m time b h = ap (λ (x : Sort). settled i x m time b (drive c m b)) h ∙ ap (λ (t : List ℕ). (drive c m b, t)) (by (drive c m b .0))
+leaves-record i c m time b h = ap (λ (x : Sort). settled i x m time b (drive c m b)) h
+    ∙ ap (λ (t : List ℕ). (drive c m b, t)) (by (drive c m b .0))
   where
     by : (a : Ans Answer) → timeAfter i apart a (m .st) time ≡ time
     by (ended a) = refl
     by (handed q) = refl
     by (told n) = refl
 
-pub did-without : (l : Lent) (x : Turn) (answer : Ans Answer) (bytes : List ℕ) (slots : Buf) → sortOf (x .event .call) ≡ apart
+pub did-without : (l : Lent) (x : Turn) (answer : Ans Answer) (bytes : List ℕ) (slots : Buf)
+    → sortOf (x .event .call) ≡ apart
     → (answer, machineOf bytes slots) ≡ drive (x .event .call) (fourOf l .driver (x .who % 4)) (x .event .lent)
     → Did l (record { turn = x; answer = answer; bytes = bytes; slots = slots; time = l .time })
 did-without l x answer bytes slots h did =
-    ap (λ (z : Called). (z, l .time)) did ∙ sym (leaves-record (x .who) (x .event .call) (fourOf l .driver (x .who % 4)) (l .time) (x .event .lent) h)
+    ap (λ (z : Called). (z, l .time)) did
+    ∙ sym (leaves-record (x .who) (x .event .call) (fourOf l .driver (x .who % 4)) (l .time) (x .event .lent) h)
 
 step : (l : Lent) (m : Made) → Did l m → fourOf (left l m) ≡ next (m .turn) (fourOf l)
 step l m h = λ i. record { driver = λ j. drivers j i; time = ap (λ (x : Called × List ℕ). x .1) h i }
@@ -129,4 +134,6 @@ module _ (ms : List Made) (l : Lent) (run : Run l ms) (first : FourAtFirst (four
 
   -- by the calls alone
   pub code-in-use-charged : inUse (last l ms .time) ≡ chargedTime (history (turns ms) (fourOf l))
-  code-in-use-charged = subst (λ (f : Four). inUse (f .time) ≡ chargedTime (history (turns ms) (fourOf l))) (sym made) (in-use-charged (turns ms) (fourOf l) first)
+  code-in-use-charged =
+      subst (λ (f : Four). inUse (f .time) ≡ chargedTime (history (turns ms) (fourOf l))) (sym made)
+      (in-use-charged (turns ms) (fourOf l) first)

@@ -52,7 +52,8 @@ beginsBy bit x (told n) was = was
 
 abbrev pub lastBegun : ℕ → ℕ → List Line → Bool → Bool
 lastBegun i bit [] was = was
-lastBegun i bit (l ∷ ls) was = lastBegun i bit ls (cond (eqb (l .who % 4) i) (beginsBy bit (sortOf (l .call)) (l .answer) was) was)
+lastBegun i bit (l ∷ ls) was =
+    lastBegun i bit ls (cond (eqb (l .who % 4) i) (beginsBy bit (sortOf (l .call)) (l .answer) was) was)
 
 abbrev pub isBusy : {A S : Type 0} → Way A S → Bool
 isBusy idle = false

@@ -25,7 +25,13 @@ pub record Line : Type 0 where
   pub state : Driver
 
 abbrev pub lineOf : Turn → Four → Line
-lineOf x f = record { who = x .who; call = x .event .call; answer = called x f .0 .0; state = f .driver (x .who % 4) .st }
+lineOf x f = record {
+  who = x .who;
+  call = x .event .call;
+  answer = called x f .0 .0;
+  state = f .driver (x .who % 4)
+      .st;
+}
 
 abbrev pub history : List Turn → Four → List Line
 history [] f = []
@@ -55,7 +61,8 @@ byAnswer bit x (handed q) d charge = byAccess bit x q d charge
 byAnswer bit x (told n) d charge = charge
 
 abbrev pub chargeAfter : ℕ → ℕ → Line → ℕ → ℕ
-chargeAfter i bit l charge = cond (eqb (l .who % 4) i) (byAnswer bit (sortOf (l .call)) (l .answer) (l .state) charge) charge
+chargeAfter i bit l charge =
+    cond (eqb (l .who % 4) i) (byAnswer bit (sortOf (l .call)) (l .answer) (l .state) charge) charge
 
 -- after a history, from a charge before it
 abbrev pub chargeBy : ℕ → ℕ → List Line → ℕ → ℕ

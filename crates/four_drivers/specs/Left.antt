@@ -19,27 +19,37 @@ use Rattle.four_drivers.specs.Enabled.{writesConfig}
 use Rattle.four_drivers.specs.Stays.{configOf, Stays, allowed, put-stays, act-stays, hand-stays, gives-config}
 use Rattle.four_drivers.specs.Calm.{If, Quiet, Calm}
 
--- from a charge of the endpoint with this bit: X of the charge and the state at each access, P at each end, and what a write of ep_config leaves of the charge is
+-- from a charge of the endpoint with this bit: X of the charge and the state at each access, P at each end, and what
+-- a write of ep_config leaves of the charge is
 -- what `back` says. Between an access and the next call all stays but what open, close and queue change
-pub data Left (bit : ℕ) (back : ℕ → ℕ) (X : ℕ → Driver → Type 0) {A : Type 0} (P : ℕ → Driver → Type 0) : ℕ → tree.Out St A → Type 0 where
+pub data Left (bit : ℕ) (back : ℕ → ℕ) (X : ℕ → Driver → Type 0) {A : Type 0} (P : ℕ → Driver → Type 0) : ℕ
+    → tree.Out St A → Type 0 where
   at-end : {c : ℕ} {a : A} {s : St} → P c (s .0) → Left bit back X P c (ends a s)
-  at-ask : {c : ℕ} {q : Access} {s : St} {k : ℕ → St → tree.Out St A} → cleared bit q c ≡ cond (writesConfig q) (back c) c → X (cleared bit q c) (s .0) → ((v : ℕ) (t : St) → Stays (s .0) (t .0) → Left bit back X P (cleared bit q c) (k v t)) → Left bit back X P c (asks q s k)
+  at-ask : {c : ℕ} {q : Access} {s : St} {k : ℕ → St → tree.Out St A}
+      → cleared bit q c ≡ cond (writesConfig q) (back c) c → X (cleared bit q c) (s .0)
+      → ((v : ℕ) (t : St) → Stays (s .0) (t .0) → Left bit back X P (cleared bit q c) (k v t))
+      → Left bit back X P c (asks q s k)
 
 module _ {bit : ℕ} {back : ℕ → ℕ} {X : ℕ → Driver → Type 0} where
-  pub left-bind : {A B : Type 0} {P Q : ℕ → Driver → Type 0} {c : ℕ} {o : tree.Out St A} {f : A → St → tree.Out St B} → Left bit back X P c o → ((g : ℕ) (a : A) (s : St) → P g (s .0) → Left bit back X Q g (f a s)) → Left bit back X Q c (bindOut o f)
+  pub left-bind : {A B : Type 0} {P Q : ℕ → Driver → Type 0} {c : ℕ} {o : tree.Out St A} {f : A → St → tree.Out St B}
+      → Left bit back X P c o → ((g : ℕ) (a : A) (s : St) → P g (s .0) → Left bit back X Q g (f a s))
+      → Left bit back X Q c (bindOut o f)
   left-bind (at-end x) k = k _ _ _ x
   left-bind (at-ask w x y) k = at-ask w x (λ v t b. left-bind (y v t b) k)
 
-  pub left-more : {A : Type 0} {P Q : ℕ → Driver → Type 0} {c : ℕ} {o : tree.Out St A} → Left bit back X P c o → ((g : ℕ) (d : Driver) → P g d → Q g d) → Left bit back X Q c o
+  pub left-more : {A : Type 0} {P Q : ℕ → Driver → Type 0} {c : ℕ} {o : tree.Out St A} → Left bit back X P c o
+      → ((g : ℕ) (d : Driver) → P g d → Q g d) → Left bit back X Q c o
   left-more (at-end x) f = at-end (f _ _ x)
   left-more (at-ask w x y) f = at-ask w x (λ v t b. left-more (y v t b) f)
 
-  pub left-cond : {A : Type 0} {P : ℕ → Driver → Type 0} {c : ℕ} (b : Bool) {o u : tree.Out St A} → (b ≡ true → Left bit back X P c o) → (b ≡ false → Left bit back X P c u) → Left bit back X P c (cond b o u)
+  pub left-cond : {A : Type 0} {P : ℕ → Driver → Type 0} {c : ℕ} (b : Bool) {o u : tree.Out St A}
+      → (b ≡ true → Left bit back X P c o) → (b ≡ false → Left bit back X P c u) → Left bit back X P c (cond b o u)
   left-cond true x y = x refl
   left-cond false x y = y refl
 
 -- a script's run from the states K
-pub record Goes (bit : ℕ) (back : ℕ → ℕ) (c : ℕ) (K : Driver → Type 0) (X P : ℕ → Driver → Type 0) {i : Bool} {A : Type 0} (p : Script i A) : Type 0 where
+pub record Goes (bit : ℕ) (back : ℕ → ℕ) (c : ℕ) (K : Driver → Type 0) (X P : ℕ → Driver → Type 0) {i : Bool}
+    {A : Type 0} (p : Script i A) : Type 0 where
   pub on : (s : St) → K (s .0) → Left bit back X P c (run conc p s)
 
 -- the first access is no write of ep_config
@@ -101,7 +111,8 @@ none-keeps = record {
   later = λ d d′ x k. x .config ∙ k;
 }
 
-module _ {giving : Bool} {K : Driver → Type 0} (M : Keeps giving K) (bit : ℕ) (back : ℕ → ℕ) (c : ℕ) (X : ℕ → Driver → Type 0) (shows : (d : Driver) → K d → X c d) where
+module _ {giving : Bool} {K : Driver → Type 0} (M : Keeps giving K) (bit : ℕ) (back : ℕ → ℕ) (c : ℕ)
+    (X : ℕ → Driver → Type 0) (shows : (d : Driver) → K d → X c d) where
   abbrev Same : ℕ → Driver → Type 0
   Same g d = (g ≡ c) × K d
 
@@ -110,12 +121,15 @@ module _ {giving : Bool} {K : Driver → Type 0} (M : Keeps giving K) (bit : ℕ
 
   ask : {A : Type 0} (q : Access) (s : St) {k : ℕ → St → tree.Out St A} → Quiet q → K (s .0) → ((v : ℕ) (t : St) → K (t .0) → Runs (k v t)) → Runs (asks q s k)
   ask q s {k = k} x y z =
-      at-ask (quiet bit q c x ∙ unwritten (writesConfig q) (back c) c x) (subst (λ g. X g (s .0)) (sym (quiet bit q c x)) (shows (s .0) y))
+      at-ask (quiet bit q c x ∙ unwritten (writesConfig q) (back c) c x)
+      (subst (λ g. X g (s .0)) (sym (quiet bit q c x)) (shows (s .0) y))
       (λ v t b. subst (λ g. Left bit back X Same g (k v t)) (sym (quiet bit q c x)) (z v t (M .later _ _ b y)))
 
   pub calm-run : {i : Bool} {A : Type 0} (p : Script i A) → Calm giving p → (s : St) → K (s .0) → Runs (run conc p s)
   calm-run (ret a) x s k = at-end (refl, k)
-  calm-run (bind p f) x s k = left-bind (calm-run p (x .0) s k) (λ g a t y. subst (λ h. Left bit back X Same h (run conc (f a) t)) (sym (y .0)) (calm-run (f a) (x .1 a) t (y .1)))
+  calm-run (bind p f) x s k =
+      left-bind (calm-run p (x .0) s k) (λ g a t y. subst (λ h. Left bit back X Same h (run conc (f a) t))
+      (sym (y .0)) (calm-run (f a) (x .1 a) t (y .1)))
   calm-run (test b p q) x s k = left-cond b (λ _. calm-run p (x .0) s k) (λ _. calm-run q (x .1) s k)
   calm-run (read-then r e f) x s k = ask (Read r e) s (x .0) k (λ v t y. calm-run (f v) (x .1 v) t y)
   calm-run (write-then r e v p) x s k = ask (Write r e v) s (x .0) k (λ _ t y. calm-run p (x .1) t y)
@@ -130,8 +144,13 @@ module _ {giving : Bool} {K : Driver → Type 0} (M : Keeps giving K) (bit : ℕ
   calm-run (hand-then q p) x s k = ask (handAsk q (conc .hand q s .0)) (conc .hand q s .1) (x .0 (conc .hand q s .0)) (M .hand q s k) (λ _ t y. calm-run p (x .1) t y)
 
   -- a calm part, and the rest
-  pub calm-then : {i : Bool} {A B : Type 0} {P : ℕ → Driver → Type 0} {p : Script i A} {f : A → Script i B} → Calm giving p → ((a : A) → Goes bit back c K X P (f a)) → Goes bit back c K X P (bind p f)
-  calm-then {P = P} {p = p} {f = f} x rest = record { on = λ s k. left-bind (calm-run p x s k) (λ g a t y. subst (λ h. Left bit back X P h (run conc (f a) t)) (sym (y .0)) (rest a .on t (y .1))) }
+  pub calm-then : {i : Bool} {A B : Type 0} {P : ℕ → Driver → Type 0} {p : Script i A} {f : A → Script i B}
+      → Calm giving p → ((a : A) → Goes bit back c K X P (f a)) → Goes bit back c K X P (bind p f)
+  calm-then {P = P} {p = p} {f = f} x rest =
+      record {
+        on = λ s k. left-bind (calm-run p x s k) (λ g a t y. subst
+            (λ h. Left bit back X P h (run conc (f a) t)) (sym (y .0)) (rest a .on t (y .1)));
+      }
 
 pub calm-first : (giving : Bool) {i : Bool} {A : Type 0} (p : Script i A) → Calm giving p → (s : St) → First (run conc p s)
 calm-first giving (ret a) x s = none

@@ -84,10 +84,12 @@ history-is-now xs f z = sym (in-use-is xs f (z .time)) ∙ in-use-now xs f z
 -- ---- "worked out from the history of enables, disables, resets and start-ups"
 
 -- of each endpoint, after every list of calls of four drivers
-pub charge-is : (xs : List Turn) (f : Four) → FourAtFirst f → (i : ℕ) → i < 4 → (dir : Dir) (e : ℕ) → getD (after xs f .time) (i * 32 + place dir e) 0 ≡ charged i dir e (history xs f)
+pub charge-is : (xs : List Turn) (f : Four) → FourAtFirst f → (i : ℕ) → i < 4 → (dir : Dir) (e : ℕ)
+    → getD (after xs f .time) (i * 32 + place dir e) 0 ≡ charged i dir e (history xs f)
 charge-is xs f z i li dir e =
     charged-all dir e i li xs f false neither (subst Within (sym (z .time)) uncharged-within) (at-first dir e i li f z)
-    ∙ ap (chargedFrom i dir e (history xs f) neither) (ap (λ (t : List ℕ). getD t (i * 32 + place dir e) 0) (z .time) ∙ zeros 128 (i * 32 + place dir e))
+    ∙ ap (chargedFrom i dir e (history xs f) neither) (ap (λ (t : List ℕ). getD t (i * 32 + place dir e) 0) (z .time)
+    ∙ zeros 128 (i * 32 + place dir e))
 
 -- the time in use
 pub in-use-charged : (xs : List Turn) (f : Four) → FourAtFirst f → inUse (after xs f .time) ≡ chargedTime (history xs f)

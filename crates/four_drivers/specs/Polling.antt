@@ -51,7 +51,8 @@ module _ (dir : Dir) (e : ℕ) where
   of-row : (c : ℕ) (s : St) → s .0 .globals .stage ≡ 2 → Runs c (rows conc bus-reset 3 (λ t. ends (tt {0}) t) s)
   of-row c s second =
       let x = reset-turns s in
-      at-ask (ap (λ (b : Bool). cond b c 0) (none-set bit)) (none-due c x) (λ _ t p. let y = still (still x p) (reset-stays t .2) in
+      at-ask (ap (λ (b : Bool). cond b c 0) (none-set bit)) (none-due c x)
+      (λ _ t p. let y = still (still x p) (reset-stays t .2) in
       at-ask refl (none-due c y) (λ _ u q. let z = still (still y q) (reset-stays u .1) in
       at-ask refl (none-due c z) (λ _ v r. let w = still (still z r) (reset-stays v .0) in
       at-ask refl (none-due c w) (λ _ n m. let k = still w m in
@@ -74,7 +75,8 @@ module _ (dir : Dir) (e : ℕ) where
     calm-on {p = p} x = record { on = λ s k. calm-ended dir e allBack c p x s k }
 
     then-calm : {A B : Type 0} {p : Script false A} {f : A → Script false B} → Polling p → ((a : A) → Calm false (f a)) → Polling (bind p f)
-    then-calm {f = f} x z = record { on = λ s k. left-bind (x .on s k) (λ g a t y. calm-ended dir e allBack g (f a) (z a) t y) }
+    then-calm {f = f} x z =
+        record { on = λ s k. left-bind (x .on s k) (λ g a t y. calm-ended dir e allBack g (f a) (z a) t y) }
 
     either : {A : Type 0} {b : Bool} {p q : Script false A} → Polling p → Polling q → Polling (test b p q)
     either {b = b} x y = record { on = λ s k. left-cond b (λ _. x .on s k) (λ _. y .on s k) }

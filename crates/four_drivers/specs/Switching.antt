@@ -60,7 +60,8 @@ by-bit false false true charge c h = (h, h)
 by-bit false false false charge c h = (refl, refl)
 
 -- what the write leaves of the charge: an enabling all, a disabling nothing of its own endpoint's
-back-bit : (own on b : Bool) (charge c : ℕ) → c ≡ cond (b || (on && own)) charge 0 → cond (pick own on b) c 0 ≡ cond on c (cond own 0 c)
+back-bit : (own on b : Bool) (charge c : ℕ) → c ≡ cond (b || (on && own)) charge 0
+    → cond (pick own on b) c 0 ≡ cond on c (cond own 0 c)
 back-bit true true b charge c h = refl
 back-bit true false b charge c h = refl
 back-bit false true true charge c h = refl
@@ -68,7 +69,9 @@ back-bit false true false charge c h = sym h
 back-bit false false true charge c h = refl
 back-bit false false false charge c h = sym h
 
-by-begun : (dir dir′ : Dir) (e e′ : ℕ) (on : Bool) (c : ℕ) → cond on c (cond (eqb (place dir′ e′) (place dir e)) 0 c) ≡ givenBack dir e (slottedBegun (SetEnabled dir′ e′ on)) c
+by-begun : (dir dir′ : Dir) (e e′ : ℕ) (on : Bool) (c : ℕ)
+    → cond on c (cond (eqb (place dir′ e′) (place dir e)) 0 c) ≡ givenBack dir e
+    (slottedBegun (SetEnabled dir′ e′ on)) c
 by-begun dir dir′ e e′ true c = refl
 by-begun dir dir′ e e′ false c = refl
 
@@ -84,8 +87,11 @@ module _ (dir : Dir) (e : ℕ) where
   ended-stays c d d′ x h = (due-stays dir e false c x (h .0), x .stage ∙ h .1)
 
   -- calm scripts then
-  pub calm-ended : {i : Bool} {A : Type 0} (back : ℕ → ℕ) (c : ℕ) (p : Script i A) → Calm false p → (s : St) → Ended c (s .0) → Left bit back (Due dir e false) Ended c (run conc p s)
-  calm-ended back c p x s h = left-more (calm-run (keeps (ended-stays c)) bit back c (Due dir e false) (λ d k. k .0) p x s h) (λ g d y. subst (λ z. Ended z d) (sym (y .0)) (y .1))
+  pub calm-ended : {i : Bool} {A : Type 0} (back : ℕ → ℕ) (c : ℕ) (p : Script i A) → Calm false p → (s : St)
+      → Ended c (s .0) → Left bit back (Due dir e false) Ended c (run conc p s)
+  calm-ended back c p x s h =
+      left-more (calm-run (keeps (ended-stays c)) bit back c (Due dir e false) (λ d k. k .0) p x s h)
+      (λ g d y. subst (λ z. Ended z d) (sym (y .0)) (y .1))
 
   -- ---- an endpoint is enabled or disabled
 
@@ -109,11 +115,14 @@ module _ (dir : Dir) (e : ℕ) where
         (subst (λ (n : ℕ). Both c (pick (eqb (place dir′ e′) bit) on (isSet (configOf d) bit)) n) (sym (charge-stays dir e x))
         (by-bit (eqb (place dir′ e′) bit) on (isSet (configOf d) bit) (chargeOn d dir e) c h))
 
-    turning-back : (c : ℕ) (d d′ : Driver) → Turns (turned d dir′ e′ on) d d′ → Due dir e mine c d → cond (isSet (configOf d′) bit) c 0 ≡ turnsBack c
+    turning-back : (c : ℕ) (d d′ : Driver) → Turns (turned d dir′ e′ on) d d′ → Due dir e mine c d
+        → cond (isSet (configOf d′) bit) c 0 ≡ turnsBack c
     unfolding enables.isOn
     turning-back c d d′ x h =
-        ap (λ (b : Bool). cond b c 0) (ap (λ (w : ℕ). isSet w bit) (x .config) ∙ set-with (configOf d) (place dir′ e′) on bit)
-        ∙ (back-bit (eqb (place dir′ e′) bit) on (isSet (configOf d) bit) (chargeOn d dir e) c h ∙ by-begun dir dir′ e e′ on c)
+        ap (λ (b : Bool). cond b c 0) (ap (λ (w : ℕ). isSet w bit) (x .config) ∙ set-with (configOf d) (place dir′ e′)
+        on bit)
+        ∙ (back-bit (eqb (place dir′ e′) bit) on (isSet (configOf d) bit) (chargeOn d dir e) c h ∙ by-begun dir dir′ e
+        e′ on c)
 
     module _ (c : ℕ) (d : Driver) (due : Due dir e mine c d) (second : d .globals .stage ≡ 2) where
       abbrev K : Driver → Type 0
@@ -137,7 +146,8 @@ module _ (dir : Dir) (e : ℕ) where
         on = λ t y.
             let x = enabled-turns (t .0) dir′ e′ on (iso-stays dir′ e′ y ∙ plain) in
             let z = turning c (t .0) _ x (shown (t .0) y) in
-            at-ask (turning-back c (t .0) _ x (shown (t .0) y)) (z .0) (λ _ u w. at-end (due-stays dir e false _ w (z .1), w .stage ∙ (x .stage ∙ (y .stage ∙ second))));
+            at-ask (turning-back c (t .0) _ x (shown (t .0) y)) (z .0)
+            (λ _ u w. at-end (due-stays dir e false _ w (z .1), w .stage ∙ (x .stage ∙ (y .stage ∙ second))));
       })
 
 module _ (dir : Dir) (e e′ : ℕ) (on : Bool) (c : ℕ) (d : Driver) (second : d .globals .stage ≡ 2) where
@@ -172,10 +182,16 @@ module _ (dir : Dir) (e e′ : ℕ) (on : Bool) (c : ℕ) (d : Driver) (second :
     of-row iso zero s k =
         let x = row-turns (s .0) e′ on (iso-stays Out e′ k ∙ iso) in
         let z = turning dir e Out e′ on c (s .0) _ x (shows (s .0) k) in
-        at-ask (turning-back dir e Out e′ on c (s .0) _ x (shows (s .0) k)) (z .0) (λ _ t w. at-end (due-stays dir e false _ w (z .1), w .stage ∙ (x .stage ∙ (k .stage ∙ second))))
-    of-row iso (suc zero) s k = let x = still k (switch-stays e′ on 0 s) in at-ask refl (shows _ x) (λ _ t w. of-row iso zero t (still x w))
-    of-row iso (suc (suc zero)) s k = let x = still k (switch-stays e′ on 1 s) in at-ask refl (shows _ x) (λ _ t w. of-row iso (suc zero) t (still x w))
-    of-row iso (suc (suc (suc n))) s k = let x = still k (switch-stays e′ on (suc (suc n)) s) in at-ask refl (shows _ x) (λ _ t w. of-row iso (suc (suc n)) t (still x w))
+        at-ask (turning-back dir e Out e′ on c (s .0) _ x (shows (s .0) k)) (z .0)
+        (λ _ t w. at-end (due-stays dir e false _ w (z .1), w .stage ∙ (x .stage ∙ (k .stage ∙ second))))
+    of-row iso (suc zero) s k =
+        let x = still k (switch-stays e′ on 0 s) in at-ask refl (shows _ x) (λ _ t w. of-row iso zero t (still x w))
+    of-row iso (suc (suc zero)) s k =
+        let x = still k (switch-stays e′ on 1 s) in at-ask refl (shows _ x)
+        (λ _ t w. of-row iso (suc zero) t (still x w))
+    of-row iso (suc (suc (suc n))) s k =
+        let x = still k (switch-stays e′ on (suc (suc n)) s) in at-ask refl (shows _ x)
+        (λ _ t w. of-row iso (suc (suc n)) t (still x w))
 
     of-out : (iso : Bool) → isOn (epOn d Out e′ .iso) ≡ iso → (s : St) → Stays d (s .0) → Runs (cond iso (rows conc (switch e′ on) 18 (λ t. ends (tt {0}) t) s) (run conc (bus.setEnabledOut {i = false} e′ on) s))
     unfolding isoOut
@@ -185,11 +201,13 @@ module _ (dir : Dir) (e e′ : ℕ) (on : Bool) (c : ℕ) (d : Driver) (second :
 -- ---- the operation
 
 module _ (dir : Dir) (e : ℕ) where
-  woken : {back : ℕ → ℕ} {X : ℕ → Driver → Type 0} {A : Type 0} (dir′ : Dir) (e′ : ℕ) {c : ℕ} {o : tree.Out St A} → Left (place dir e) back X (Ended dir e) c o
+  woken : {back : ℕ → ℕ} {X : ℕ → Driver → Type 0} {A : Type 0} (dir′ : Dir) (e′ : ℕ) {c : ℕ} {o : tree.Out St A}
+      → Left (place dir e) back X (Ended dir e) c o
       → Left (place dir e) back X (Ended dir e) c (tree.bindOut o (λ _ t. run conc (wake {i = false} dir′ e′) t))
   woken dir′ e′ x = left-bind x (λ g _ t y. at-end (ended-stays dir e g _ _ (act-stays (waken (wakeCode dir′ e′ ∷ [])) refl t) y))
 
   pub switched : (dir′ : Dir) (e′ : ℕ) (on : Bool) (c : ℕ) (s : St) → Due dir e (mine dir e dir′ e′ on) c (s .0) → s .0 .globals .stage ≡ 2
-      → Left (place dir e) (turnsBack dir e dir′ e′ on) (Due dir e (mine dir e dir′ e′ on)) (Ended dir e) c (run conc (bus.setEnabled dir′ e′ on) s)
+      → Left (place dir e) (turnsBack dir e dir′ e′ on) (Due dir e (mine dir e dir′ e′ on)) (Ended dir e) c
+      (run conc (bus.setEnabled dir′ e′ on) s)
   switched In e′ on c s due second = woken In e′ (of-in dir e e′ on c (s .0) second due (isOn (epOn (s .0) In e′ .iso)) .on s (stays (s .0)))
   switched Out e′ on c s due second = woken Out e′ (of-out dir e e′ on c (s .0) second due (isOn (epOn (s .0) Out e′ .iso)) refl s (stays (s .0)))

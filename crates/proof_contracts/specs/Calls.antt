@@ -1,5 +1,7 @@
--- Every public call of crate `usbhs`: what its generated contract gives a caller (`Learnt`) is a step of demand 3. The hypothesis of each lemma is the
--- contract itself, as the check of the function's crate states it, so nothing is compared by eye. Of the parameters' values before the call s is the
+-- Every public call of crate `usbhs`: what its generated contract gives a caller (`Learnt`) is a step of demand 3.
+-- The hypothesis of each lemma is the
+-- contract itself, as the check of the function's crate states it, so nothing is compared by eye. Of the parameters'
+-- values before the call s is the
 -- state, slots the slot buffer, time the record; z holds the parameters after the call, in their order; r is the answer
 use mathlib.Core.List.{[]}
 use mathlib.Core.Path.{_≡_, refl, ap, _∙_}
@@ -8,7 +10,11 @@ use denote.Ref.{now}
 use Rattle.state.specs.State.{view}
 use Rattle.script.specs.Statics.{flag}
 use Rattle.script.specs.Machine.{begin, go, pending, overruns, enabled}
-use Rattle.script.specs.Calls.{other, slotted, aside, interrupt, Microframe, Allocate, AllocateAll, Start, SetPaced, BusEnable, BusDisable, BusPoll, IsStalled, SetStalled, SetEnabled, BeginSetup, PollSetup, BeginDataOut, PollDataOut, BeginDataIn, PollDataIn, BeginAccept, BeginAcceptSetAddress, PollAccept, BeginReject, Advance, BeginRead, PollRead, BeginWrite, PollWrite, Open, Close, Queue}
+use Rattle.script.specs.Calls.{other, slotted, aside, interrupt, Microframe, Allocate, AllocateAll, Start, SetPaced}
+use Rattle.script.specs.Calls.{BusEnable, BusDisable, BusPoll, IsStalled, SetStalled, SetEnabled, BeginSetup}
+use Rattle.script.specs.Calls.{PollSetup, BeginDataOut, PollDataOut, BeginDataIn, PollDataIn, BeginAccept}
+use Rattle.script.specs.Calls.{BeginAcceptSetAddress, PollAccept, BeginReject, Advance, BeginRead, PollRead}
+use Rattle.script.specs.Calls.{BeginWrite, PollWrite, Open, Close, Queue}
 use Rattle.way.specs.Under.{configOf, answerOf}
 use Rattle.starting_calls.proofs.allocate.Reads as allocate-contract
 use Rattle.starting_calls.proofs.start.Reads as start-contract
@@ -50,8 +56,10 @@ use Rattle.proof_contracts.specs.StepsLaws.{unlent, lent, asked}
 
 -- ---- allocation and EP0's start (crate `starting_calls`)
 
-pub allocate-step : (κs s dir kind address maximum interval r z : _) → allocate-contract.Learnt κs (s, (dir, (kind, (address, (maximum, (interval, tt)))))) r z
-    → IsStep (begin (other (Allocate dir kind address maximum interval))) (now s) (λ b. answerOf r [] (view (now (z .0)))) (now (z .0))
+pub allocate-step : (κs s dir kind address maximum interval r z : _)
+    → allocate-contract.Learnt κs (s, (dir, (kind, (address, (maximum, (interval, tt)))))) r z
+    → IsStep (begin (other (Allocate dir kind address maximum interval))) (now s)
+    (λ b. answerOf r [] (view (now (z .0)))) (now (z .0))
 allocate-step κs s dir kind address maximum interval r z h = unlent refl (h .0)
 
 pub start-step : (κs s maximum r z : _) → start-contract.Learnt κs (s, (maximum, tt)) r z
@@ -98,7 +106,8 @@ pub begin-is-stalled-step : (κs s dir e r z : _) → begin-is-stalled-contract.
     → IsStep (begin (other (IsStalled dir e))) (now s) (λ b. answerOf r [] (view (now (z .0)))) (now (z .0))
 begin-is-stalled-step κs s dir e r z h = unlent refl (h .0)
 
-pub begin-set-stalled-step : (κs s dir e on r z : _) → begin-set-stalled-contract.Learnt κs (s, (dir, (e, (on, tt)))) r z
+pub begin-set-stalled-step : (κs s dir e on r z : _)
+    → begin-set-stalled-contract.Learnt κs (s, (dir, (e, (on, tt)))) r z
     → IsStep (begin (other (SetStalled dir e on))) (now s) (λ b. answerOf r [] (view (now (z .0)))) (now (z .0))
 begin-set-stalled-step κs s dir e on r z h = unlent refl (h .0)
 
@@ -112,16 +121,20 @@ pub begin-data-out-step : (κs s n first r z : _) → begin-data-out-contract.Le
     → IsStep (begin (other (BeginDataOut n first))) (now s) (λ b. answerOf r [] (view (now (z .0)))) (now (z .0))
 begin-data-out-step κs s n first r z h = unlent refl (h .0)
 
-pub begin-data-in-step : (κs s slots bytes first last r z : _) → begin-data-in-contract.Learnt κs (s, (slots, (bytes, (first, (last, tt))))) r z
-    → IsStepLent (begin (slotted (BeginDataIn (now bytes) first last))) (now s) (answerOf r [] (view (now (z .0)))) (now (z .0)) (now slots) (now (z .1 .0))
+pub begin-data-in-step : (κs s slots bytes first last r z : _)
+    → begin-data-in-contract.Learnt κs (s, (slots, (bytes, (first, (last, tt))))) r z
+    → IsStepLent (begin (slotted (BeginDataIn (now bytes) first last))) (now s) (answerOf r [] (view (now (z .0))))
+    (now (z .0)) (now slots) (now (z .1 .0))
 begin-data-in-step κs s slots bytes first last r z h = lent refl (h .0)
 
 pub begin-accept-step : (κs s r z : _) → begin-accept-contract.Learnt κs (s, tt) r z
     → IsStep (begin (other BeginAccept)) (now s) (λ b. answerOf r [] (view (now (z .0)))) (now (z .0))
 begin-accept-step κs s r z h = unlent refl (h .0)
 
-pub begin-accept-set-address-step : (κs s address r z : _) → begin-accept-set-address-contract.Learnt κs (s, (address, tt)) r z
-    → IsStep (begin (other (BeginAcceptSetAddress address))) (now s) (λ b. answerOf r [] (view (now (z .0)))) (now (z .0))
+pub begin-accept-set-address-step : (κs s address r z : _)
+    → begin-accept-set-address-contract.Learnt κs (s, (address, tt)) r z
+    → IsStep (begin (other (BeginAcceptSetAddress address))) (now s) (λ b. answerOf r [] (view (now (z .0))))
+    (now (z .0))
 begin-accept-set-address-step κs s address r z h = unlent refl (h .0)
 
 pub begin-reject-step : (κs s r z : _) → begin-reject-contract.Learnt κs (s, tt) r z
@@ -133,7 +146,8 @@ pub poll-setup-step : (κs s r z : _) → poll-setup-contract.Learnt κs (s, tt)
 poll-setup-step κs s r z h = unlent refl (h .0)
 
 pub poll-data-out-step : (κs s slots out r z : _) → poll-data-out-contract.Learnt κs (s, (slots, (out, tt))) r z
-    → IsStepLent (begin (slotted (PollDataOut (length (now out))))) (now s) (answerOf r (now (z .1 .1 .0)) (view (now (z .0)))) (now (z .0)) (now slots) (now slots)
+    → IsStepLent (begin (slotted (PollDataOut (length (now out))))) (now s)
+    (answerOf r (now (z .1 .1 .0)) (view (now (z .0)))) (now (z .0)) (now slots) (now slots)
 poll-data-out-step κs s slots out r z h = lent refl (h .0)
 
 pub poll-data-in-step : (κs s r z : _) → poll-data-in-contract.Learnt κs (s, tt) r z
@@ -151,19 +165,23 @@ pub begin-read-step : (κs s e n r z : _) → begin-read-contract.Learnt κs (s,
 begin-read-step κs s e n r z h = unlent refl (h .0)
 
 pub poll-read-step : (κs s slots e out r z : _) → poll-read-contract.Learnt κs (s, (slots, (e, (out, tt)))) r z
-    → IsStepLent (begin (slotted (PollRead e (length (now out))))) (now s) (answerOf r (now (z .1 .1 .1 .0)) (view (now (z .0)))) (now (z .0)) (now slots) (now slots)
+    → IsStepLent (begin (slotted (PollRead e (length (now out))))) (now s)
+    (answerOf r (now (z .1 .1 .1 .0)) (view (now (z .0)))) (now (z .0)) (now slots) (now slots)
 poll-read-step κs s slots e out r z h = lent refl (h .0)
 
 pub begin-write-step : (κs s slots e bytes r z : _) → begin-write-contract.Learnt κs (s, (slots, (e, (bytes, tt)))) r z
-    → IsStepLent (begin (slotted (BeginWrite e (now bytes)))) (now s) (answerOf r [] (view (now (z .0)))) (now (z .0)) (now slots) (now (z .1 .0))
+    → IsStepLent (begin (slotted (BeginWrite e (now bytes)))) (now s) (answerOf r [] (view (now (z .0)))) (now (z .0))
+    (now slots) (now (z .1 .0))
 begin-write-step κs s slots e bytes r z h = lent refl (h .0)
 
 pub poll-write-step : (κs s slots e bytes r z : _) → poll-write-contract.Learnt κs (s, (slots, (e, (bytes, tt)))) r z
-    → IsStepLent (begin (slotted (PollWrite e (now bytes)))) (now s) (answerOf r [] (view (now (z .0)))) (now (z .0)) (now slots) (now (z .1 .0))
+    → IsStepLent (begin (slotted (PollWrite e (now bytes)))) (now s) (answerOf r [] (view (now (z .0)))) (now (z .0))
+    (now slots) (now (z .1 .0))
 poll-write-step κs s slots e bytes r z h = lent refl (h .0)
 
 pub open-step : (κs s slots e r z : _) → open-contract.Learnt κs (s, (slots, (e, tt))) r z
-    → IsStepLent (begin (aside (Open e))) (now s) (answerOf r (now slots) (view (now (z .0)))) (now (z .0)) (now slots) (now slots)
+    → IsStepLent (begin (aside (Open e))) (now s) (answerOf r (now slots) (view (now (z .0)))) (now (z .0))
+    (now slots) (now slots)
 open-step κs s slots e r z h = lent refl (h .0)
 
 pub close-step : (κs s e r z : _) → close-contract.Learnt κs (s, (e, tt)) r z
@@ -171,7 +189,8 @@ pub close-step : (κs s e r z : _) → close-contract.Learnt κs (s, (e, tt)) r 
 close-step κs s e r z h = unlent refl (h .0)
 
 pub queue-step : (κs s slots e bytes r z : _) → queue-contract.Learnt κs (s, (slots, (e, (bytes, tt)))) r z
-    → IsStepLent (begin (aside (Queue e (now bytes)))) (now s) (answerOf r (now (z .1 .0)) (view (now (z .0)))) (now (z .0)) (now slots) (now (z .1 .0))
+    → IsStepLent (begin (aside (Queue e (now bytes)))) (now s) (answerOf r (now (z .1 .0)) (view (now (z .0))))
+    (now (z .0)) (now slots) (now (z .1 .0))
 queue-step κs s slots e bytes r z h = lent refl (h .0)
 
 pub pending-step : (κs s e r z : _) → pending-contract.Learnt κs (s, (e, tt)) r z
@@ -188,16 +207,22 @@ enabled-step κs s dir e r z h = asked (ap flag h)
 
 -- ---- start-up and enabling, with the record (`shared_time`)
 
-pub start-up-step : (κs s slots time driver size count callback r z : _) → start-up-contract.Learnt κs (s, (slots, (time, (driver, (size, (count, (callback, tt))))))) r z
-    → IsStepStart driver (configOf size count callback) (now s) (answerOf r [] (view (now (z .0)))) (now (z .0)) (now slots) (now time) (now (z .1 .1 .0))
+pub start-up-step : (κs s slots time driver size count callback r z : _)
+    → start-up-contract.Learnt κs (s, (slots, (time, (driver, (size, (count, (callback, tt))))))) r z
+    → IsStepStart driver (configOf size count callback) (now s) (answerOf r [] (view (now (z .0)))) (now (z .0))
+    (now slots) (now time) (now (z .1 .1 .0))
 start-up-step κs s slots time driver size count callback r z h = record { did = h .0 }
 
-pub begin-set-enabled-step : (κs s slots time driver dir e on r z : _) → begin-set-enabled-contract.Learnt κs (s, (slots, (time, (driver, (dir, (e, (on, tt))))))) r z
-    → IsStepCharged driver (begin (slotted (SetEnabled dir e on))) (now s) (answerOf r [] (view (now (z .0)))) (now (z .0)) (now slots) (now (z .1 .0)) (now time) (now (z .1 .1 .0))
+pub begin-set-enabled-step : (κs s slots time driver dir e on r z : _)
+    → begin-set-enabled-contract.Learnt κs (s, (slots, (time, (driver, (dir, (e, (on, tt))))))) r z
+    → IsStepCharged driver (begin (slotted (SetEnabled dir e on))) (now s) (answerOf r [] (view (now (z .0))))
+    (now (z .0)) (now slots) (now (z .1 .0)) (now time) (now (z .1 .1 .0))
 begin-set-enabled-step κs s slots time driver dir e on r z h = record { did = h .0 }
 
 -- ---- continue, with the record (`usbhs`)
 
-pub proceed-step : (κs s slots time driver v r z : _) → proceed-contract.Learnt κs (s, (slots, (time, (driver, (v, tt))))) r z
-    → IsStepCharged driver (go v) (now s) (answerOf r [] (view (now (z .0)))) (now (z .0)) (now slots) (now (z .1 .0)) (now time) (now (z .1 .1 .0))
+pub proceed-step : (κs s slots time driver v r z : _)
+    → proceed-contract.Learnt κs (s, (slots, (time, (driver, (v, tt))))) r z
+    → IsStepCharged driver (go v) (now s) (answerOf r [] (view (now (z .0)))) (now (z .0)) (now slots) (now (z .1 .0))
+    (now time) (now (z .1 .1 .0))
 proceed-step κs s slots time driver v r z h = record { did = h .0 }

@@ -1,4 +1,5 @@
--- The steps are those of the lists of calls of four drivers too (four_drivers/specs/Code.antt): so the record is what the history of the calls says, and the
+-- The steps are those of the lists of calls of four drivers too (four_drivers/specs/Code.antt): so the record is what
+-- the history of the calls says, and the
 -- question of the time in use answers that
 use mathlib.Core.List.{List}
 use mathlib.Core.Path.{_≡_, ap, subst, _∙_}
@@ -18,13 +19,24 @@ use Rattle.proof_contracts.specs.SharedPage.{Made, Did}
 
 -- a call of driver i, as one of the four
 abbrev pub asTurn : ℕ → Made → four.Made
-asTurn i m = record { turn = record { who = i; event = m .event }; answer = m .answer; bytes = m .bytes; slots = m .slots; time = m .time }
+asTurn i m = record {
+  turn = record { who = i; event = m .event };
+  answer = m .answer;
+  bytes = m .bytes;
+  slots = m
+      .slots;
+  time = m .time;
+}
 
 -- it gets its own bytes, and the record as the last call of the four left it
-pub did-of-four : (l : Lent) (i : ℕ) (m : Made) → m .before ≡ l .time → Did i (l .bytes (i % 4)) (l .slots (i % 4)) m → four.Did l (asTurn i m)
-did-of-four l i m h did = did ∙ ap (λ (t : List ℕ). sharedCall i (m .event .call) (machineOf (l .bytes (i % 4)) (l .slots (i % 4))) t (m .event .lent)) h
+pub did-of-four : (l : Lent) (i : ℕ) (m : Made) → m .before ≡ l .time → Did i (l .bytes (i % 4)) (l .slots (i % 4)) m
+    → four.Did l (asTurn i m)
+did-of-four l i m h did = did
+    ∙ ap (λ (t : List ℕ). sharedCall i (m .event .call) (machineOf (l .bytes (i % 4)) (l .slots (i % 4))) t
+    (m .event .lent)) h
 
 -- "a question answers the time in use, always": after every list of calls of four drivers, by the history alone
 pub time-in-use-is : (κs time r z : _) → time-in-use-contract.Learnt κs (time, tt) r z
-    → (ms : List four.Made) (l : Lent) → Run l ms → FourAtFirst (fourOf l) → now time ≡ last l ms .time → r ≡ chargedTime (history (turns ms) (fourOf l))
+    → (ms : List four.Made) (l : Lent) → Run l ms → FourAtFirst (fourOf l) → now time ≡ last l ms .time
+    → r ≡ chargedTime (history (turns ms) (fourOf l))
 time-in-use-is κs time r z h ms l run first e = h ∙ (ap inUse e ∙ code-in-use-charged ms l run first)

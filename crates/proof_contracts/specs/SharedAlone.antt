@@ -1,4 +1,5 @@
--- A list of calls with the record of bus time is one of the driver alone, in which a call that row 19 stops is a question: so what is proved of the
+-- A list of calls with the record of bus time is one of the driver alone, in which a call that row 19 stops is a
+-- question: so what is proved of the
 -- code over every list of calls without the record (Calls in book/specs/FrontPage.antt) holds of it too
 use mathlib.Core.Bool.{Bool, true, false, cond}
 use mathlib.Core.List.{List, [], _∷_}
@@ -26,7 +27,8 @@ use Rattle.proof_contracts.specs.SharedRuns.{AgreedAll, agreed-all}
 
 -- row 19 stops it
 abbrev pub isStopped : ℕ → List ℕ → Buf → Made → Bool
-isStopped i xs a m = turnedDown i (sortOf (m .event .call)) (drive (m .event .call) (machineOf xs a) (m .event .lent) .0) (view xs) (m .before)
+isStopped i xs a m = turnedDown i (sortOf (m .event .call)) (drive (m .event .call) (machineOf xs a) (m .event .lent)
+    .0) (view xs) (m .before)
 
 -- the call as the driver alone gets it, and as it answers then
 abbrev pub callAlone : Bool → Call Config Op → Call Config Op
@@ -72,14 +74,17 @@ module _ (i : ℕ) (xs : List ℕ) (a : Buf) (m : Made) where
       by true h = ap (λ (z : Called × List ℕ). (told (questionOf (pending 0) (view xs)), z .0 .1)) h
       by false h = ap (λ (z : Called × List ℕ). z .0) h
 
-  lent-alone : (n : Machine Answer Pages) → LentAsLeft c (machineOf xs a) n b → LentAsLeft (callAlone (isStopped i xs a m) c) (machineOf xs a) n b
+  lent-alone : (n : Machine Answer Pages) → LentAsLeft c (machineOf xs a) n b
+      → LentAsLeft (callAlone (isStopped i xs a m) c) (machineOf xs a) n b
   lent-alone n l = by (isStopped i xs a m) refl
     where
       by : (u : Bool) → isStopped i xs a m ≡ u → LentAsLeft (callAlone u c) (machineOf xs a) n b
       by true h = down-chip i c (machineOf xs a) n (m .before) b h l
       by false h = l
 
-  noted-alone : {φ : Phase} (n : Machine Answer Pages) → Ways driverOf book agree calls φ (machineOf xs a .way) (n .way) → Rest φ a (view xs) (n .st) → LentAsLeft c (machineOf xs a) n b
+  noted-alone : {φ : Phase} (n : Machine Answer Pages)
+      → Ways driverOf book agree calls φ (machineOf xs a .way) (n .way) → Rest φ a (view xs) (n .st)
+      → LentAsLeft c (machineOf xs a) n b
       → noted i m n .1 ≡ page.noted (madeAlone i xs a m) n .1
   noted-alone n w r l =
       subst (λ (u : Bool). cond u stopped (written (m .answer) c n b) .1 ≡ page.noted (madeAlone i xs a m) n .1)
@@ -88,7 +93,8 @@ module _ (i : ℕ) (xs : List ℕ) (a : Buf) (m : Made) where
       stopped : Ans Answer × Machine Answer Pages
       stopped = (ended (Refused 19), lentTo calls (book .driver) n b)
 
-      by : (u : Bool) → cond u stopped (written (m .answer) c n b) .1 ≡ written (answerAlone u xs (m .answer)) (callAlone u c) n b .1
+      by : (u : Bool) → cond u stopped (written (m .answer) c n b) .1 ≡ written (answerAlone u xs (m .answer))
+          (callAlone u c) n b .1
       by true = refl
       by false = refl
 
@@ -97,15 +103,21 @@ module _ (i : ℕ) (xs : List ℕ) (a : Buf) (m : Made) where
 -- the book goes the same way
 abbrev pub NotedAll : ℕ → List ℕ → Buf → Machine Answer Pages → List Made → Type 0
 NotedAll i xs a n [] = Unit {0}
-NotedAll i xs a n (m ∷ ms) = (noted i m n .1 ≡ page.noted (madeAlone i xs a m) n .1) × NotedAll i (m .bytes) (m .slots) (noted i m n .1) ms
+NotedAll i xs a n (m ∷ ms) = (noted i m n .1 ≡ page.noted (madeAlone i xs a m) n .1)
+    × NotedAll i (m .bytes) (m .slots) (noted i m n .1) ms
 
 noted-all : (i : ℕ) (ms : List Made) {φ : Phase} (xs : List ℕ) (a : Buf) (n : Machine Answer Pages)
-    → Ways driverOf book agree calls φ (machineOf xs a .way) (n .way) → Rest φ a (view xs) (n .st) → Calls i xs a n ms → AgreedAll i n ms → NotedAll i xs a n ms
+    → Ways driverOf book agree calls φ (machineOf xs a .way) (n .way) → Rest φ a (view xs) (n .st) → Calls i xs a n ms
+    → AgreedAll i n ms → NotedAll i xs a n ms
 noted-all i [] xs a n w r h k = tt
-noted-all i (m ∷ ms) xs a n w r h k =
-    (noted-alone i xs a m n w r (h .1), noted-all i ms (m .bytes) (m .slots) (noted i m n .1) (k .0 .both .ways) (k .0 .both .rest) (h .2) (k .1))
+noted-all i (m ∷ ms) xs a n w r h k = (
+  noted-alone i xs a m n w r (h .1),
+  noted-all i ms (m .bytes) (m .slots) (noted i m n .1) (k .0 .both .ways)
+      (k .0 .both .rest) (h .2) (k .1),
+)
 
-calls-alone : (i : ℕ) (ms : List Made) (xs : List ℕ) (a : Buf) (n : Machine Answer Pages) → Calls i xs a n ms → NotedAll i xs a n ms → page.Calls xs a n (allAlone i xs a ms)
+calls-alone : (i : ℕ) (ms : List Made) (xs : List ℕ) (a : Buf) (n : Machine Answer Pages) → Calls i xs a n ms
+    → NotedAll i xs a n ms → page.Calls xs a n (allAlone i xs a ms)
 calls-alone i [] xs a n h k = tt
 calls-alone i (m ∷ ms) xs a n h k = (
   did-alone i xs a m (h .0),
@@ -116,23 +128,44 @@ calls-alone i (m ∷ ms) xs a n h k = (
 
 -- a start-up is not stopped by row 19
 abbrev with-event : Made → Event Config Op → Made
-with-event m v = record { event = v; before = m .before; answer = m .answer; bytes = m .bytes; slots = m .slots; time = m .time }
+with-event m v = record {
+  event = v;
+  before = m .before;
+  answer = m .answer;
+  bytes = m .bytes;
+  slots = m .slots;
+  time = m .time;
+}
 
-start-noted : (i : ℕ) (c : Config) (b : Buf) (xs : List ℕ) (a : Buf) (n : Machine Answer Pages) (m : Made) → m .event ≡ record { call = start c; lent = b }
+start-noted : (i : ℕ) (c : Config) (b : Buf) (xs : List ℕ) (a : Buf) (n : Machine Answer Pages) (m : Made)
+    → m .event ≡ record { call = start c; lent = b }
     → noted i m n .1 ≡ page.noted (madeAlone i xs a m) n .1
-start-noted i c b xs a n m e = subst (λ (v : Event Config Op). noted i (with-event m v) n .1 ≡ page.noted (madeAlone i xs a (with-event m v)) n .1) (sym e) refl
+start-noted i c b xs a n m e =
+    subst (λ (v : Event Config Op). noted i (with-event m v) n .1 ≡ page.noted (madeAlone i xs a (with-event m v)) n
+    .1) (sym e) refl
 
-pub start-alone : (i : ℕ) (c : Config) (b : Buf) (xs : List ℕ) (a : Buf) (m : Made) → m .event ≡ record { call = start c; lent = b }
+pub start-alone : (i : ℕ) (c : Config) (b : Buf) (xs : List ℕ) (a : Buf) (m : Made)
+    → m .event ≡ record { call = start c; lent = b }
     → madeAlone i xs a m .event ≡ record { call = start c; lent = b }
-start-alone i c b xs a m e = subst (λ (v : Event Config Op). madeAlone i xs a (with-event m v) .event ≡ record { call = start c; lent = b }) (sym e) refl
+start-alone i c b xs a m e =
+    subst (λ (v : Event Config Op). madeAlone i xs a (with-event m v) .event ≡ record { call = start c; lent = b })
+    (sym e) refl
 
 -- from an accepted start-up on
-pub all-noted : (i : ℕ) (c : Config) (b : Buf) → startRow c b ≡ zero → (xs : List ℕ) (a : Buf) (n : Machine Answer Pages) (first : Made)
-    → first .event ≡ record { call = start c; lent = b } → (ms : List Made) → Calls i xs a n (first ∷ ms) → NotedAll i xs a n (first ∷ ms)
+pub all-noted : (i : ℕ) (c : Config) (b : Buf) → startRow c b ≡ zero
+    → (xs : List ℕ) (a : Buf) (n : Machine Answer Pages) (first : Made)
+    → first .event ≡ record { call = start c; lent = b } → (ms : List Made) → Calls i xs a n (first ∷ ms)
+    → NotedAll i xs a n (first ∷ ms)
 all-noted i c b row xs a n first is-start ms run =
-    let k = agreed-all i c b row xs a n first is-start ms run in
-    (start-noted i c b xs a n first is-start, noted-all i ms (first .bytes) (first .slots) (noted i first n .1) (k .0 .both .ways) (k .0 .both .rest) (run .2) (k .1))
+    let k = agreed-all i c b row xs a n first is-start ms run in (
+      start-noted i c b xs a n first is-start,
+      noted-all i ms (first .bytes) (first .slots) (noted i first n .1)
+          (k .0 .both .ways) (k .0 .both .rest) (run .2) (k .1),
+    )
 
-pub code-alone : (i : ℕ) (c : Config) (b : Buf) → startRow c b ≡ zero → (xs : List ℕ) (a : Buf) (n : Machine Answer Pages) (first : Made)
-    → first .event ≡ record { call = start c; lent = b } → (ms : List Made) → Calls i xs a n (first ∷ ms) → page.Calls xs a n (allAlone i xs a (first ∷ ms))
-code-alone i c b row xs a n first is-start ms run = calls-alone i (first ∷ ms) xs a n run (all-noted i c b row xs a n first is-start ms run)
+pub code-alone : (i : ℕ) (c : Config) (b : Buf) → startRow c b ≡ zero
+    → (xs : List ℕ) (a : Buf) (n : Machine Answer Pages) (first : Made)
+    → first .event ≡ record { call = start c; lent = b } → (ms : List Made) → Calls i xs a n (first ∷ ms)
+    → page.Calls xs a n (allAlone i xs a (first ∷ ms))
+code-alone i c b row xs a n first is-start ms run =
+    calls-alone i (first ∷ ms) xs a n run (all-noted i c b row xs a n first is-start ms run)

@@ -1,4 +1,5 @@
--- The book with the record of bus time that up to four drivers share (document 02, request Seven): it turns an enabling down, and works the record
+-- The book with the record of bus time that up to four drivers share (document 02, request Seven): it turns an
+-- enabling down, and works the record
 -- out, by its own kept values. Definitions
 use mathlib.Core.Bool.{Bool, false, cond, _&&_}
 use mathlib.Core.List.{List}
@@ -28,12 +29,14 @@ wouldPass i going a t time = false
 wouldPass i apart a t time = false
 
 -- the book's step as driver i's, told what the call answered: row 19 changes nothing
-abbrev pub sharedStep : ℕ → Ans Answer → Call Config Op → Machine Answer Pages → List ℕ → Buf → Ans Answer × Machine Answer Pages
+abbrev pub sharedStep : ℕ → Ans Answer → Call Config Op → Machine Answer Pages → List ℕ → Buf → Ans Answer
+    × Machine Answer Pages
 sharedStep i x c n time b =
     let y = written x c n b in
     cond (wouldPass i (sortOf c) (y .0) (n .st) time) (ended (Refused 19), lentTo calls (book .driver) n b) y
 
--- ---- the record after a call that answered so: "an enable counts from its beginning; time comes back with the write of a disabling or bus reset that
+-- ---- the record after a call that answered so: "an enable counts from its beginning; time comes back with the write
+-- of a disabling or bus reset that
 -- clears its ep_config bit, or as an accepted start-up begins"
 
 abbrev pub timeHanded : ℕ → Sort → Access → Pages → List ℕ → List ℕ

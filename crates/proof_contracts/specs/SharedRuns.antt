@@ -23,7 +23,8 @@ use Rattle.proof_contracts.specs.SharedAgrees.{Agreed, shared-agrees}
 
 -- of a call that was made
 abbrev pub AgreedOn : ℕ → Made → Machine Answer Pages → Type 0
-AgreedOn i m n = Agreed i (m .event .call) (m .answer, machineOf (m .bytes) (m .slots)) (m .before) (m .time) (m .event .lent) n
+AgreedOn i m n = Agreed i (m .event .call) (m .answer, machineOf (m .bytes) (m .slots)) (m .before) (m .time)
+    (m .event .lent) n
 
 abbrev pub AgreedAll : ℕ → Machine Answer Pages → List Made → Type 0
 AgreedAll i n [] = Unit {0}
@@ -32,18 +33,22 @@ AgreedAll i n (m ∷ ms) = AgreedOn i m n × AgreedAll i (noted i m n .1) ms
 of-made : (i : ℕ) (m : Made) (xs : List ℕ) (a : Buf) (n : Machine Answer Pages) → Did i xs a m
     → let z = sharedCall i (m .event .call) (machineOf xs a) (m .before) (m .event .lent) in
     Agreed i (m .event .call) (z .0) (m .before) (z .1) (m .event .lent) n → AgreedOn i m n
-of-made i m xs a n did k = subst (λ (z : Called × List ℕ). Agreed i (m .event .call) (z .0) (m .before) (z .1) (m .event .lent) n) (sym did) k
+of-made i m xs a n did k =
+    subst (λ (z : Called × List ℕ). Agreed i (m .event .call) (z .0) (m .before) (z .1) (m .event .lent) n) (sym did) k
 
 always : (i : ℕ) (ms : List Made) {φ : Phase} (xs : List ℕ) (a : Buf) (n : Machine Answer Pages)
-    → Ways driverOf book agree calls φ (machineOf xs a .way) (n .way) → Rest φ a (view xs) (n .st) → Calls i xs a n ms → AgreedAll i n ms
+    → Ways driverOf book agree calls φ (machineOf xs a .way) (n .way) → Rest φ a (view xs) (n .st) → Calls i xs a n ms
+    → AgreedAll i n ms
 always i [] xs a n w r h = tt
 always i (m ∷ ms) xs a n w r h =
-    let k = of-made i m xs a n (h .0) (shared-agrees i (m .event .call) (m .event .lent) (m .before) (machineOf xs a) n w r (h .1)) in
+    let k = of-made i m xs a n (h .0) (shared-agrees i (m .event .call) (m .event .lent) (m .before) (machineOf xs a)
+    n w r (h .1)) in
     (k, always i ms (m .bytes) (m .slots) (noted i m n .1) (k .both .ways) (k .both .rest) (h .2))
 
 -- ---- an accepted start-up of driver i, from whatever was before
 
-shared-start : (i : ℕ) (c : Config) (b : Buf) → startRow c b ≡ zero → (m : Machine Answer Driver) (n : Machine Answer Pages) (time : List ℕ)
+shared-start : (i : ℕ) (c : Config) (b : Buf) → startRow c b ≡ zero
+    → (m : Machine Answer Driver) (n : Machine Answer Pages) (time : List ℕ)
     → Agreed i (start c) (sharedCall i (start c) m time b .0) time (sharedCall i (start c) m time b .1) b n
 unfolding settled
 shared-start i c b row m n time = record {
@@ -52,23 +57,30 @@ shared-start i c b row m n time = record {
 }
   where
     Both : ℕ → Type 0
-    Both k = let x = started calls driverOf (λ s. s) c k m b in After driverOf book agree calls x (started calls (book .driver) (fed book (x .0)) c k n b)
+    Both k = let x = started calls driverOf (λ s. s) c k m b in After driverOf book agree calls x
+        (started calls (book .driver) (fed book (x .0)) c k n b)
 
-    by-answer : (a : Ans Answer) → timeAfter i (sortOf (start c)) a (m .st) time ≡ timeIn i (sortOf (start c)) a (n .st) time
+    by-answer : (a : Ans Answer)
+        → timeAfter i (sortOf (start c)) a (m .st) time ≡ timeIn i (sortOf (start c)) a (n .st) time
     by-answer (ended a) = refl
     by-answer (handed q) = refl
     by-answer (told k) = refl
 
-starts : (i : ℕ) (c : Config) (b : Buf) → startRow c b ≡ zero → (xs : List ℕ) (a : Buf) (n : Machine Answer Pages) (before : List ℕ) (v : Event Config Op)
+starts : (i : ℕ) (c : Config) (b : Buf) → startRow c b ≡ zero
+    → (xs : List ℕ) (a : Buf) (n : Machine Answer Pages) (before : List ℕ) (v : Event Config Op)
     → v ≡ record { call = start c; lent = b }
-    → let z = sharedCall i (v .call) (machineOf xs a) before (v .lent) in Agreed i (v .call) (z .0) before (z .1) (v .lent) n
+    → let z = sharedCall i (v .call) (machineOf xs a) before (v .lent) in Agreed i (v .call) (z .0) before (z .1)
+    (v .lent) n
 starts i c b row xs a n before v e = subst At (sym e) (shared-start i c b row (machineOf xs a) n before)
   where
     At : Event Config Op → Type 0
-    At v = let z = sharedCall i (v .call) (machineOf xs a) before (v .lent) in Agreed i (v .call) (z .0) before (z .1) (v .lent) n
+    At v = let z = sharedCall i (v .call) (machineOf xs a) before (v .lent) in Agreed i (v .call) (z .0) before (z .1)
+        (v .lent) n
 
-pub agreed-all : (i : ℕ) (c : Config) (b : Buf) → startRow c b ≡ zero → (xs : List ℕ) (a : Buf) (n : Machine Answer Pages) (first : Made)
-    → first .event ≡ record { call = start c; lent = b } → (ms : List Made) → Calls i xs a n (first ∷ ms) → AgreedAll i n (first ∷ ms)
+pub agreed-all : (i : ℕ) (c : Config) (b : Buf) → startRow c b ≡ zero
+    → (xs : List ℕ) (a : Buf) (n : Machine Answer Pages) (first : Made)
+    → first .event ≡ record { call = start c; lent = b } → (ms : List Made) → Calls i xs a n (first ∷ ms)
+    → AgreedAll i n (first ∷ ms)
 agreed-all i c b row xs a n first is-start ms run =
     let k = of-made i first xs a n (run .0) (starts i c b row xs a n (first .before) (first .event) is-start) in
     (k, always i ms (first .bytes) (first .slots) (noted i first n .1) (k .both .ways) (k .both .rest) (run .2))

@@ -1,5 +1,7 @@
--- A call is a step of demand 3 (`Did`, SharedPage.antt), for each way in which calls are lent their bytes: xs are the state's bytes before it, ys those
--- after it, x is what it answered. It holds whatever slot buffer the run has (a), and for whichever of the four drivers (i). Definitions
+-- A call is a step of demand 3 (`Did`, SharedPage.antt), for each way in which calls are lent their bytes: xs are the
+-- state's bytes before it, ys those
+-- after it, x is what it answered. It holds whatever slot buffer the run has (a), and for whichever of the four
+-- drivers (i). Definitions
 use mathlib.Core.Bool.{cond}
 use mathlib.Core.List.{List}
 use Prim.Native.Nat.{ℕ}
@@ -14,22 +16,56 @@ use Rattle.proof_contracts.specs.SharedPage.{Did}
 -- it brings neither the slot buffer nor the record: both stay as they stand then (b, time)
 pub record IsStep (c : Call Config Op) (xs : List ℕ) (x : Buf → Ans Answer) (ys : List ℕ) : Type 0 where
   pub did : (i : ℕ) (a b : Buf) (time : List ℕ)
-      → Did i xs a (record { event = record { call = c; lent = b }; before = time; answer = x b; bytes = ys; slots = b; time = time })
+      → Did i xs a (record {
+        event = record { call = c; lent = b };
+        before = time;
+        answer = x b;
+        bytes = ys;
+        slots =
+            b;
+        time = time;
+      })
 
--- it brings the slot buffer: b before it, b′ after it; where its length is wrong (row 1) the run's own stays. The record stays
+-- it brings the slot buffer: b before it, b′ after it; where its length is wrong (row 1) the run's own stays. The
+-- record stays
 pub record IsStepLent (c : Call Config Op) (xs : List ℕ) (x : Ans Answer) (ys : List ℕ) (b b′ : Buf) : Type 0 where
   pub did : (i : ℕ) (a : Buf) (time : List ℕ)
-      → Did i xs a (record { event = record { call = c; lent = b }; before = time; answer = x; bytes = ys; slots = lentOr (view xs) b b′ a; time = time })
+      → Did i xs a (record {
+        event = record { call = c; lent = b };
+        before = time;
+        answer = x;
+        bytes = ys;
+        slots =
+            lentOr (view xs) b b′ a;
+        time = time;
+      })
 
 -- it brings both, as driver i: the record before it and after it
-pub record IsStepCharged (i : ℕ) (c : Call Config Op) (xs : List ℕ) (x : Ans Answer) (ys : List ℕ) (b b′ : Buf) (time time′ : List ℕ) : Type 0 where
+pub record IsStepCharged (i : ℕ) (c : Call Config Op) (xs : List ℕ) (x : Ans Answer) (ys : List ℕ) (b b′ : Buf)
+    (time time′ : List ℕ) : Type 0 where
   pub did : (a : Buf)
-      → Did i xs a (record { event = record { call = c; lent = b }; before = time; answer = x; bytes = ys; slots = lentOr (view xs) b b′ a; time = time′ })
+      → Did i xs a (record {
+        event = record { call = c; lent = b };
+        before = time;
+        answer = x;
+        bytes = ys;
+        slots =
+            lentOr (view xs) b b′ a;
+        time = time′;
+      })
 
 -- a start-up by driver i: the slot buffer that it brings is the run's from then on, unless rows 1 and 2 stop it
-pub record IsStepStart (i : ℕ) (c : Config) (xs : List ℕ) (x : Ans Answer) (ys : List ℕ) (b : Buf) (time time′ : List ℕ) : Type 0 where
+pub record IsStepStart (i : ℕ) (c : Config) (xs : List ℕ) (x : Ans Answer) (ys : List ℕ) (b : Buf)
+    (time time′ : List ℕ) : Type 0 where
   pub did : (a : Buf)
-      → Did i xs a (record { event = record { call = start c; lent = b }; before = time; answer = x; bytes = ys; slots = cond (eqb (startRow c b) 0) b a; time = time′ })
+      → Did i xs a (record {
+        event = record { call = start c; lent = b };
+        before = time;
+        answer = x;
+        bytes = ys;
+        slots = cond (eqb (startRow c b) 0) b a;
+        time = time′;
+      })
 
 -- a question, answered with n: nothing changes
 abbrev pub IsQuestion : Question → List ℕ → ℕ → Type 0

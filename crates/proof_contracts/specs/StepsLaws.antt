@@ -16,13 +16,22 @@ use Rattle.four_drivers.specs.Code.{leaves-record}
 use Rattle.proof_contracts.specs.Steps.{IsStep, IsStepLent, IsQuestion}
 
 -- neither the slot buffer nor the record is brought
-pub unlent : {c : Call Config Op} {xs ys : List ℕ} {x : Buf → Ans Answer} → sortOf c ≡ apart → ((a b : Buf) → (x b, machineOf ys b) ≡ drive c (machineOf xs a) b) → IsStep c xs x ys
-unlent {c = c} {xs = xs} p h = record { did = λ i a b time. ap (λ (z : Called). (z, time)) (h a b) ∙ sym (leaves-record i c (machineOf xs a) time b p) }
+pub unlent : {c : Call Config Op} {xs ys : List ℕ} {x : Buf → Ans Answer} → sortOf c ≡ apart
+    → ((a b : Buf) → (x b, machineOf ys b) ≡ drive c (machineOf xs a) b) → IsStep c xs x ys
+unlent {c = c} {xs = xs} p h =
+    record {
+      did = λ i a b time. ap (λ (z : Called). (z, time)) (h a b) ∙ sym
+          (leaves-record i c (machineOf xs a) time b p);
+    }
 
 -- the slot buffer is brought
 pub lent : {c : Call Config Op} {xs ys : List ℕ} {x : Ans Answer} {b b′ : Buf} → sortOf c ≡ apart
     → ((a : Buf) → (x, machineOf ys (lentOr (view xs) b b′ a)) ≡ drive c (machineOf xs a) b) → IsStepLent c xs x ys b b′
-lent {c = c} {xs = xs} {b = b} p h = record { did = λ i a time. ap (λ (z : Called). (z, time)) (h a) ∙ sym (leaves-record i c (machineOf xs a) time b p) }
+lent {c = c} {xs = xs} {b = b} p h =
+    record {
+      did = λ i a time. ap (λ (z : Called). (z, time)) (h a) ∙ sym
+          (leaves-record i c (machineOf xs a) time b p);
+    }
 
 -- a question
 pub asked : {q : Question} {xs : List ℕ} {n : ℕ} → n ≡ questionOf q (view xs) → IsQuestion q xs n
