@@ -1,7 +1,6 @@
 -- What an endpoint is charged, "worked out from the history of enables, disables, resets and start-ups" (document 02,
--- request Seven): from the calls and
--- whether each was begun, and from which of their accesses write ep_config. No record and no word that was written is
--- looked at. Definitions
+-- request Seven): from the calls, whether each handed out an access, and which accesses write ep_config. No record is
+-- looked at, and no word that was written. Definitions
 use mathlib.Core.Bool.{Bool, true, false, cond}
 use mathlib.Core.List.{List, [], _∷_}
 use Prim.Native.Nat.{ℕ, _%_}
@@ -79,7 +78,8 @@ lastOf c (told n) last = last
 
 -- ---- the charge of endpoint e; numbers count modulo 16
 
--- "an enable counts from its beginning", its maximum plus 38 or 55
+-- "an enable counts from its beginning": its maximum plus 38 or 55, by the kind and maximum that its allocation gave it
+-- (`allocation-gives`, `given-stays`)
 abbrev pub counted : Dir → ℕ → Begun → Driver → ℕ → ℕ
 counted dir e (enables dir′ e′) d charge = cond (eqb (place dir′ e′) (place dir e)) (chargeOn d dir′ e′) charge
 counted dir e (disables dir′ e′) d charge = charge
