@@ -54,4 +54,5 @@ pub mod AccessesInterrupt
 pub mod Continues
 pub mod InterruptEnds
 pub mod CodeReadings
+pub mod CodeContinues
 pub mod Listed
