@@ -6,22 +6,25 @@ use mathlib.Core.List.{List, [], _∷_, _++_}
 use mathlib.Core.Logic.{_⊎_}
 use mathlib.Core.Path.{_≡_}
 use Prim.Native.Nat.{ℕ, zero, _+_, _%_, _^_, _≤_, _<_}
-use lib.ListN.{length}
+use lib.ListN.{length, getD}
 use Rattle.regs.specs.declared.Access.{Access}
 use Rattle.regs.specs.declared.Access.the-variants.{Read, Write, Receive, Transmit, Ep0Dma, Wait, Callback}
+use Rattle.regs.specs.declared.Dir.{Dir}
 use Rattle.regs.specs.declared.Dir.the-variants.{Out, In}
-use Rattle.state.specs.Driver.{Driver, epOn}
+use Rattle.state.specs.Driver.{Driver, epOn, lenOn, stampOn}
+use Rattle.alloc.specs.Alloc.{allocatedIn}
+use Rattle.bits.specs.Bit.{isSet}
+use Rattle.fields.specs.Tables.{tab}
 use Rattle.state.specs.State.{view}
 use Rattle.ring.specs.Waiting.{waiting, Same}
 use Rattle.marks.specs.Copies.{bytesAt}
 use Rattle.script.specs.Answers.{Answer, Refused, Done, Shown, ok, isNumber}
 use Rattle.script.specs.Calls.{Config, Op, slotted, aside, PollRead, Open, Close, Queue, calls, startRow}
 use Rattle.script.specs.Machine.{Buf, Call, start, begin, go, question, overruns, Event, Ans, ended, handed, told, Way, idle, busy, Machine, misfit, fed, call, started}
-use Rattle.way.specs.Under.{driverOf, drive, machineOf}
+use Rattle.way.specs.Under.{drive, machineOf}
 use Rattle.book.specs.Pages.{Packet, bytesOf, stampsOf, OutPage, InPage, Pages}
 use Rattle.book.specs.Book.{isoOf, receiving, book}
 use Rattle.book.specs.Stamps.{stamped}
-use Rattle.book.specs.Rest.{lensOf, slotStamps, Chip, Holds}
 
 -- ---- a list of calls
 
@@ -43,24 +46,43 @@ written a c n b = call calls (book .driver) (fed book a) c n b
 abbrev pub noted : Made → Machine Answer Pages → Ans Answer × Machine Answer Pages
 noted m n = written (m .answer) (m .event .call) n (m .event .lent)
 
--- "Each call gets … the slot buffer too, but for the chip's stores; a new run may bring another buffer, a call refused with 1 any other". Chip
--- (Rest.antt): all bytes stay but those of the slot of each OUT endpoint's last receive address and EP0's
+-- "A receive address counts from the call that hands it out": byte k lies outside of the slot of every OUT endpoint's last receive address in this
+-- run, and outside of EP0's buffer
+pub record Elsewhere (t : Pages) (k : ℕ) : Type 0 where
+  pub outs : (e : ℕ) → isSet (allocatedIn (t .kept .allocator) Out) (e % 16) ≡ true → (k < t .outs e .slot) ⊎ (t .outs e .slot + t .kept .allocator .size ≤ k)
+  pub ep0 : t .kept .globals .stage ≡ 2 → (k < t .kept .globals .«ep0_buf») ⊎ (t .kept .globals .«ep0_buf» + t .kept .allocator .size ≤ k)
+
+-- the chip's stores, from b to b′: all other bytes stay
+pub record Chip (t : Pages) (b b′ : Buf) : Type 0 where
+  pub long : length b′ ≡ length b
+  pub others : (k : ℕ) → Elsewhere t k → getD b′ k 0 ≡ getD b k 0
+
+-- "Each call gets … the slot buffer too, but for the chip's stores; a new run may bring another buffer, a call refused with 1 any other". Call c is lent
+-- b, where the last call left a
 abbrev pub unless : Bool → Type 0 → Type 0
 unless true X = Unit {0}
 unless false X = X
 
-abbrev pub LentAsLeft : Call Config Op → Machine Answer Driver → Machine Answer Pages → Buf → Type 0
-LentAsLeft (start c) m n b = Unit {0}
-LentAsLeft (begin o) m n b = unless (cond (calls .slots o) (misfit calls driverOf (m .st) b) false) (Chip (n .st) (m .buf) b)
-LentAsLeft (go v) m n b = unless (misfit calls driverOf (m .st) b) (Chip (n .st) (m .buf) b)
-LentAsLeft (question q) m n b = Chip (n .st) (m .buf) b
+abbrev pub LentAsLeft : Call Config Op → Machine Answer Pages → Buf → Buf → Type 0
+LentAsLeft (start c) n a b = Unit {0}
+LentAsLeft (begin o) n a b = unless (cond (calls .slots o) (misfit calls (book .driver) (n .st) b) false) (Chip (n .st) a b)
+LentAsLeft (go v) n a b = unless (misfit calls (book .driver) (n .st) b) (Chip (n .st) a b)
+LentAsLeft (question q) n a b = Chip (n .st) a b
 
 -- calls one after the other, from the state's bytes xs, the slot buffer a and the book n
 abbrev pub Calls : List ℕ → Buf → Machine Answer Pages → List Made → Type 0
 Calls xs a n [] = Unit {0}
-Calls xs a n (m ∷ ms) = Did xs a m × LentAsLeft (m .event .call) (machineOf xs a) n (m .event .lent) × Calls (m .bytes) (m .slots) (noted m n .1) ms
+Calls xs a n (m ∷ ms) = Did xs a m × LentAsLeft (m .event .call) n a (m .event .lent) × Calls (m .bytes) (m .slots) (noted m n .1) ms
 
 -- ---- what is compared
+
+-- the recorded lengths of its slots
+abbrev pub lensOf : Driver → Dir → ℕ → List ℕ
+lensOf d dir e = tab 16 (λ i. lenOn d dir e i)
+
+-- the stamps of the slots of OUT e
+abbrev pub slotStamps : Driver → ℕ → List ℕ
+slotStamps d e = tab 16 (λ i. stampOn d e i)
 
 -- of OUT e: the bytes of the ring's slots, tail to head, each up to its recorded length; their stamps
 abbrev pub ringBytes : Driver → Buf → ℕ → List (List ℕ)
@@ -74,6 +96,10 @@ pub record ReadsFirst (p p′ : OutPage) (q : Packet) : Type 0 where
   pub first : p .waiting ≡ q ∷ p′ .waiting
   pub read : p′ .read ≡ p .read ++ (q ∷ [])
   pub admitted : p′ .admitted ≡ p .admitted
+
+-- where the transmit address x is a load's: the slot there holds the bytes of the first waiting
+abbrev pub Holds : InPage → Buf → ℕ → Type 0
+Holds p b x = (bytes : List ℕ) (rest : List (List ℕ)) → p .load ≡ true → p .waiting ≡ bytes ∷ rest → bytesAt b x (length bytes) ≡ bytes
 
 -- document 01, "Compared after each call". A call c, the book before it, its answer, the driver's state and the slot buffer after it, the book after it
 pub record Compared (c : Call Config Op) (t : Pages) (a : Ans Answer) (d : Driver) (b : Buf) (t′ : Pages) : Type 0 where

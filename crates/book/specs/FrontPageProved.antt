@@ -189,10 +189,10 @@ record Agreeing (m : Machine Answer Driver) (n : Machine Answer Pages) : Type 0 
 before-of : {m : Machine Answer Driver} {n : Machine Answer Pages} → Agreeing m n → Before m n
 before-of k = record { phase = k .phase; rest = k .rest; room = k .room; fine = k .fine }
 
-one : (c : Call Config Op) (l : Buf) (m : Machine Answer Driver) (n : Machine Answer Pages) → Agreeing m n → LentAsLeft c m n l
+one : (c : Call Config Op) (l : Buf) (m : Machine Answer Driver) (n : Machine Answer Pages) → Agreeing m n → LentAsLeft c n (m .buf) l
     → let x = drive c m l in Holds-after c l m n × Agreeing (x .1) (written (x .0) c n l .1)
 one c l m n k p =
-    let a : Agrees c l m n = agrees driverOf book agree calls fresh-kept c l m n (k .ways) (k .rest) (lent-is c m n l p) in (
+    let a : Agrees c l m n = agrees driverOf book agree calls fresh-kept c l m n (k .ways) (k .rest) (lent-is m n (k .rest) l c p) in (
       later-call c l m n (before-of k) a,
       record { phase = a .phase; ways = a .ways; rest = a .rest; room = steps c m (k .room) l; fine = call-fine (drive c m l .0) c n (k .fine) l },
     )

@@ -1,6 +1,7 @@
 pub mod Pages
 pub mod Book
 pub mod Stamps
+pub mod FrontPage
 pub mod Rest
 pub mod Cells
 pub mod Given
@@ -23,7 +24,6 @@ pub mod Rows
 pub mod LedgerLaws
 pub mod Agrees
 pub mod Demand3
-pub mod FrontPage
 pub mod MachineRuns
 pub mod SlotsKept
 pub mod InterruptParts
@@ -54,4 +54,5 @@ pub mod AccessesInterrupt
 pub mod Continues
 pub mod InterruptEnds
 pub mod CodeReadings
+pub mod CodeContinues
 pub mod Listed

@@ -13,7 +13,7 @@ abbrev pub Premise : List (Event Config Op) → Machine Answer Driver → Machin
 Premise [] m n = Unit {0}
 Premise (e ∷ es) m n =
     let x = drive (e .call) m (e .lent) in
-    LentAsLeft (e .call) m n (e .lent) × Premise es (x .1) (written (x .0) (e .call) n (e .lent) .1)
+    LentAsLeft (e .call) n (m .buf) (e .lent) × Premise es (x .1) (written (x .0) (e .call) n (e .lent) .1)
 
 abbrev pub AfterEvents : List (Event Config Op) → Machine Answer Driver → Machine Answer Pages → Type 0
 AfterEvents [] m n = Unit {0}

@@ -1,10 +1,12 @@
 -- "No slot being sent is written" (demand 3), and no address that is handed out reaches outside the lent buffer (demand 1), after one call; the premise
 -- of FrontPage.antt is the one of Agree.antt
-use mathlib.Core.Bool.{Bool, true, false, cond, true≢false}
+use mathlib.Core.Bool.{Bool, true, false, not, cond, true≢false}
 use mathlib.Core.List.{List, [], _∷_}
 use mathlib.Core.Path.{_≡_, refl, ap, sym, _∙_}
 use Prim.Native.Nat.{ℕ, zero, _%_}
 use native.Mathlib.Omega.{arith}
+use lib.Dec.{eqb}
+use lib.ListN.{length}
 use Rattle.bits.specs.Bit.{isSet}
 use Rattle.regs.specs.declared.Access.{Access}
 use Rattle.regs.specs.declared.Access.the-variants.{Read, Write, Receive, Transmit, Ep0Dma, Wait, Callback}
@@ -96,13 +98,21 @@ module _ {x : Ans Answer × Machine Answer Driver} {y : Ans Answer × Machine An
   pub lies-inside : Inside (x .0) (x .1 .buf) (y .1 .st)
   lies-inside = inside-after (x .0) (x .1 .buf) (y .1 .st) (a .good)
 
--- the premise is demand3's
-lent-as : (g : Bool) (X : Type 0) → page.unless g X → unless driverOf book agree calls g X
-lent-as true X p = tt
-lent-as false X p = p
+-- the premise is demand3's: row 1 goes by the same length
+module _ {φ : Phase} (m : Machine Answer Driver) (n : Machine Answer Pages) (R : Rest φ (m .buf) (m .st) (n .st)) (b : Buf) where
+  lent-as : (f : Bool → Bool) → page.unless (f (misfit calls (book .driver) (n .st) b)) (Chip (n .st) (m .buf) b)
+      → unless driverOf book agree calls (f (misfit calls driverOf (m .st) b)) (Chip (n .st) (m .buf) b)
+  lent-as f p = by (f (misfit calls driverOf (m .st) b)) (rw (← same) at p)
+    where
+      same : misfit calls driverOf (m .st) b ≡ misfit calls (book .driver) (n .st) b
+      same = ap (λ (k : ℕ). not (eqb (length b) k)) (agree .size φ (m .buf) (m .st) (n .st) R)
 
-pub lent-is : (c : Call Config Op) (m : Machine Answer Driver) (n : Machine Answer Pages) (b : Buf) → LentAsLeft c m n b → Lent driverOf book agree calls c m n b
-lent-is (start c) m n b p = tt
-lent-is (begin o) m n b p = lent-as (cond (calls .slots o) (misfit calls driverOf (m .st) b) false) (Chip (n .st) (m .buf) b) p
-lent-is (go v) m n b p = lent-as (misfit calls driverOf (m .st) b) (Chip (n .st) (m .buf) b) p
-lent-is (question q) m n b p = p
+      by : (u : Bool) → page.unless u (Chip (n .st) (m .buf) b) → unless driverOf book agree calls u (Chip (n .st) (m .buf) b)
+      by true p = tt
+      by false p = p
+
+  pub lent-is : (c : Call Config Op) → LentAsLeft c n (m .buf) b → Lent driverOf book agree calls c m n b
+  lent-is (start c) p = tt
+  lent-is (begin o) p = lent-as (λ u. cond (calls .slots o) u false) p
+  lent-is (go v) p = lent-as (λ u. u) p
+  lent-is (question q) p = p
