@@ -63,15 +63,17 @@ Waits taken p x = (x .control .sort ≡ DATA-OUT) × (isOn (x .out .ready) ≡ p
 Waits (given last) p x = (x .control .sort ≡ DATA-IN) × (isOn (x .control .last) ≡ last) × Gives last p x
 Waits confirmed p x = (x .control .sort ≡ ACCEPT) × (isOn (x .inn .ready) ≡ p .inn .through)
 
-pub record Rel (rx tx : ℕ) (p : Pipe) (a : Awaited) (x : View) : Type 0 where
+pub record Rel (rx tx len : ℕ) (p : Pipe) (a : Awaited) (u : Bool) (x : View) : Type 0 where
   pub stage : x .stage ≡ 2
   pub out : Fits rx (p .out) (x .out)
   pub inn : Fits tx (p .inn) (x .inn)
   pub waits : Waits a p x
+  pub size : isReady (p .inn .answers) ≡ true → len ≡ p .size
+  pub setup : isOn (x .setup-ready) ≡ u
 
 -- the log says nothing, or the state fits it
 abbrev pub R : Log → View → Type 0
-R w x = (w .exempt ≡ true) ⊎ Rel (w .rx) (w .tx) (w .pipe) (w .awaits) x
+R w x = (w .exempt ≡ true) ⊎ Rel (w .rx) (w .tx) (w .len) (w .pipe) (w .awaits) (w .untaken) x
 
 -- ---- the law of a call
 

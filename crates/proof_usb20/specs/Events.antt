@@ -62,8 +62,8 @@ waits-out taken p x h w = (w .0, on)
 waits-out (given last) p x h w = (w .0, w .1, gives-out last p x (w .2))
 waits-out confirmed p x h w = w
 
-pub packet-out : {rx tx : ℕ} {p : Pipe} {a : Awaited} {x : View} → isReady (p .out .answers) ≡ true → Rel rx tx p a x → Rel (flip (nak rx)) tx (after (packet Out) p) a (setOut completed x)
-packet-out {rx = rx} {p = p} {a = a} {x = x} h r = record { stage = r .stage; out = went rx (p .out) (x .out) (r .out); inn = r .inn; waits = waits-out a p x h (r .waits) }
+pub packet-out : {rx tx l : ℕ} {p : Pipe} {a : Awaited} {u : Bool} {x : View} → isReady (p .out .answers) ≡ true → Rel rx tx l p a u x → Rel (flip (nak rx)) tx l (after (packet Out) p) a u (setOut completed x)
+packet-out {rx = rx} {p = p} {a = a} {x = x} h r = record { stage = r .stage; out = went rx (p .out) (x .out) (r .out); inn = r .inn; waits = waits-out a p x h (r .waits); size = r .size; setup = r .setup }
 
 -- ---- a packet IN
 
@@ -81,8 +81,8 @@ waits-in taken p x h w = w
 waits-in (given last) p x h w = (w .0, w .1, gives-in last p x (w .2))
 waits-in confirmed p x h w = (w .0, on)
 
-pub packet-in : {rx tx : ℕ} {p : Pipe} {a : Awaited} {x : View} → isReady (p .inn .answers) ≡ true → Rel rx tx p a x → Rel rx (flip (nak tx)) (after (packet In) p) a (setIn completed x)
-packet-in {tx = tx} {p = p} {a = a} {x = x} h r = record { stage = r .stage; out = r .out; inn = went tx (p .inn) (x .inn) (r .inn); waits = waits-in a p x h (r .waits) }
+pub packet-in : {rx tx l : ℕ} {p : Pipe} {a : Awaited} {u : Bool} {x : View} → isReady (p .inn .answers) ≡ true → Rel rx tx l p a u x → Rel rx (flip (nak tx)) l (after (packet In) p) a u (setIn completed x)
+packet-in {tx = tx} {p = p} {a = a} {x = x} h r = record { stage = r .stage; out = r .out; inn = went tx (p .inn) (x .inn) (r .inn); waits = waits-in a p x h (r .waits); size = λ z. differ z; setup = r .setup }
 
 -- ---- the token OUT: the last packet IN went through, if it was ready still
 
@@ -92,17 +92,17 @@ data-is-ready stalls h = h
 data-is-ready (acks data-stage) h = refl
 data-is-ready (acks status-stage) h = refl
 
-pub token-out : {rx tx : ℕ} {p : Pipe} {a : Awaited} {x : View} (m : Bool) → isOn (x .inn .armed) ≡ m → Rel rx tx p a x → Rel rx (cond m (nakflip tx) tx) (after (token Out) p) a (cond m (setIn completed x) x)
-token-out {rx = rx} {tx = tx} {p = p} {a = a} {x = x} m e r = by m (dataReady (p .inn .answers)) refl e
+pub token-out : {rx tx l : ℕ} {p : Pipe} {a : Awaited} {u : Bool} {x : View} (m : Bool) → isOn (x .inn .armed) ≡ m → Rel rx tx l p a u x → Rel rx (cond m (nakflip tx) tx) l (after (token Out) p) a u (cond m (setIn completed x) x)
+token-out {rx = rx} {tx = tx} {l = l} {p = p} {a = a} {u = u} {x = x} m e r = by m (dataReady (p .inn .answers)) refl e
   where
-    by : (m d : Bool) → dataReady (p .inn .answers) ≡ d → isOn (x .inn .armed) ≡ m → Rel rx (cond m (nakflip tx) tx) (with In (cond d (gone (p .inn)) (p .inn)) p) a (cond m (setIn completed x) x)
-    by true true h e = let q = packet-in (data-is-ready (p .inn .answers) h) r in record { stage = r .stage; out = r .out; inn = went-hidden tx (p .inn) (x .inn) (r .inn); waits = q .waits }
+    by : (m d : Bool) → dataReady (p .inn .answers) ≡ d → isOn (x .inn .armed) ≡ m → Rel rx (cond m (nakflip tx) tx) l (with In (cond d (gone (p .inn)) (p .inn)) p) a u (cond m (setIn completed x) x)
+    by true true h e = let q = packet-in (data-is-ready (p .inn .answers) h) r in record { stage = r .stage; out = r .out; inn = went-hidden tx (p .inn) (x .inn) (r .inn); waits = q .waits; size = λ z. differ z; setup = r .setup }
     by false false h e = r
     by true false h e = differ (sym h ∙ (sym (r .inn .armed) ∙ e))
     by false true h e = differ (sym e ∙ (r .inn .armed ∙ h))
 
 -- the token IN, where no packet OUT is ready
-pub no-packet-out : {rx tx : ℕ} {p : Pipe} {a : Awaited} {x : View} → Rel rx tx p a x → dataReady (p .out .answers) ≡ false → isOn (x .out .armed) ≡ false
+pub no-packet-out : {rx tx l : ℕ} {p : Pipe} {a : Awaited} {u : Bool} {x : View} → Rel rx tx l p a u x → dataReady (p .out .answers) ≡ false → isOn (x .out .armed) ≡ false
 no-packet-out r h = r .out .armed ∙ h
 
 -- ---- a setup packet
@@ -113,5 +113,5 @@ aborted = record { ready = 0; armed = 0 }
 fresh : (v : ℕ) → response v ≡ word.NAK → Fits v renewed aborted
 fresh v h = record { shows = h; toggles = λ b. differ b; armed = off }
 
-pub set-up-fits : (rx tx : ℕ) (p : Pipe) (x : View) → x .stage ≡ 2 → response rx ≡ word.NAK → response tx ≡ word.NAK → Rel rx tx (after setup p) nothing (setReady 1 (setIn aborted (setOut aborted x)))
-set-up-fits rx tx p x s h k = record { stage = s; out = fresh rx h; inn = fresh tx k; waits = set-up on off off refl refl }
+pub set-up-fits : (rx tx l : ℕ) (p : Pipe) (x : View) → x .stage ≡ 2 → response rx ≡ word.NAK → response tx ≡ word.NAK → Rel rx tx l (after setup p) nothing true (setReady 1 (setIn aborted (setOut aborted x)))
+set-up-fits rx tx l p x s h k = record { stage = s; out = fresh rx h; inn = fresh tx k; waits = set-up on off off refl refl; size = λ z. differ z; setup = on }

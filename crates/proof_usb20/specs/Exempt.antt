@@ -7,7 +7,7 @@ use lib.Dec.{eqb}
 use Rattle.regs.specs.declared.Access.{Access}
 use Rattle.regs.specs.declared.Access.the-variants.{Read, Write, Receive, Transmit, Ep0Dma, Wait, Callback}
 use Rattle.regs.specs.declared.Reg.{Reg}
-use Rattle.regs.specs.declared.Reg.the-variants.{IntFg, IntSt, MisSt, FrameNo, EpRxCtrl, EpTxCtrl}
+use Rattle.regs.specs.declared.Reg.the-variants.{IntFg, IntSt, MisSt, FrameNo, EpTLen, EpRxCtrl, EpTxCtrl}
 use Rattle.regs.specs.declared.Dir.the-variants.{Out, In}
 use Rattle.regs.specs.declared.Token as tokens
 use Rattle.regs.specs.declared.Token.the-variants as tok
@@ -23,7 +23,7 @@ use Rattle.script.specs.Every.{sameReg}
 use Rattle.ops.specs.Rings.{St}
 use Rattle.ops.specs.Conc.{conc}
 use Rattle.proof_usb20.specs.Pipe.{Event, packet, token}
-use Rattle.proof_usb20.specs.Log.{Phase, off, entered, flagged, again, timed, shows, Log, withRx, withTx, withPhase, withFlags, happens, ofToken, seen, reads, writes, saw, Brings, opens, endsOther, endsSlotted, ends, Poll, none, pollOut, pollIn, pollStatus, pollOf, settled, closes, FairPoll, Fair, AllowedTo, Allowed}
+use Rattle.proof_usb20.specs.Log.{Phase, off, entered, flagged, again, timed, shows, Log, withRx, withTx, withPhase, withFlags, happens, ofToken, seen, reads, writes, saw, Brings, opens, endsOther, endsSlotted, ends, Poll, none, pollSetup, pollOut, pollIn, pollStatus, pollOf, settled, done, closes, Unfinished, Completes, GivesSetup, FairPoll, Fair, AllowedTo, Allowed}
 use Rattle.proof_usb20.specs.Watch.{Watch, watch-any}
 use Rattle.proof_usb20.specs.Ep0.{View, view, R, Keeps, Ends, Law}
 
@@ -63,7 +63,7 @@ reads-exempt again r v w h = either (sameReg r IntSt) (it (h .is)) h
 
 saw-exempt : (w : Log) (q : Access) (v : ℕ) → Is w → Is (saw w q v)
 saw-exempt w (Read r e) v h = reads-exempt (w .phase) r v w h
-saw-exempt w (Write r e v) x h = either (sameReg r EpRxCtrl) (either (eqb e 0) (it (h .is)) h) (either (sameReg r EpTxCtrl) (either (eqb e 0) (it (h .is)) h) h)
+saw-exempt w (Write r e v) x h = either (sameReg r EpRxCtrl) (either (eqb e 0) (it (h .is)) h) (either (sameReg r EpTxCtrl) (either (eqb e 0) (it (h .is)) h) (either (sameReg r EpTLen) (either (eqb e 0) (it (h .is)) h) h))
 saw-exempt w (Receive e y) x h = h
 saw-exempt w (Transmit e y) x h = h
 saw-exempt w (Ep0Dma y) x h = h
@@ -73,35 +73,54 @@ saw-exempt w Callback x h = h
 pub saw-still : (w : Log) (q : Access) (v : ℕ) → w .exempt ≡ true → saw w q v .exempt ≡ true
 saw-still w q v h = saw-exempt w q v (it h) .is
 
+unfinished-exempt : (a : Answer) (w : Log) → w .exempt ≡ true → Unfinished a w
+unfinished-exempt (Refused n) w h = λ _ z. differ (sym z ∙ h)
+unfinished-exempt (End n ws) w h = tt
+unfinished-exempt NotYet w h = (λ z. differ (sym z ∙ h), λ z. differ (sym z ∙ h))
+unfinished-exempt (Done bytes) w h = tt
+unfinished-exempt (Shown bytes stamp) w h = tt
+
+completes-exempt : (a : Answer) (w : Log) → w .exempt ≡ true → Completes a w
+completes-exempt (Refused n) w h = tt
+completes-exempt (End n ws) w h = λ z. differ (sym z ∙ h)
+completes-exempt NotYet w h = tt
+completes-exempt (Done bytes) w h = λ z. differ (sym z ∙ h)
+completes-exempt (Shown bytes stamp) w h = tt
+
+gives-exempt : (a : Answer) (w : Log) → w .exempt ≡ true → GivesSetup a w
+gives-exempt (Refused n) w h = tt
+gives-exempt (End n ws) w h = tt
+gives-exempt NotYet w h = λ z. differ (sym z ∙ h)
+gives-exempt (Done bytes) w h = λ z. differ (sym z ∙ h)
+gives-exempt (Shown bytes stamp) w h = tt
+
 fair-exempt : (p : Poll) (a : Answer) (w : Log) → w .exempt ≡ true → FairPoll p a w
 fair-exempt none a w h = tt
-fair-exempt pollOut (Done bytes) w h = λ z. differ (sym z ∙ h)
-fair-exempt pollOut NotYet w h = λ z. differ (sym z ∙ h)
-fair-exempt pollOut (End n ws) w h = tt
-fair-exempt pollOut (Refused n) w h = tt
-fair-exempt pollOut (Shown bytes stamp) w h = tt
-fair-exempt pollIn (Done bytes) w h = λ z. differ (sym z ∙ h)
-fair-exempt pollIn NotYet w h = λ z. differ (sym z ∙ h)
-fair-exempt pollIn (End n ws) w h = tt
-fair-exempt pollIn (Refused n) w h = tt
-fair-exempt pollIn (Shown bytes stamp) w h = tt
-fair-exempt pollStatus (Done bytes) w h = λ z. differ (sym z ∙ h)
-fair-exempt pollStatus NotYet w h = λ z. differ (sym z ∙ h)
-fair-exempt pollStatus (End n ws) w h = λ z. differ (sym z ∙ h)
-fair-exempt pollStatus (Refused n) w h = tt
-fair-exempt pollStatus (Shown bytes stamp) w h = tt
+fair-exempt pollSetup a w h = gives-exempt a w h
+fair-exempt pollOut a w h = (unfinished-exempt a w h, completes-exempt a w h)
+fair-exempt pollIn a w h = (unfinished-exempt a w h, completes-exempt a w h)
+fair-exempt pollStatus a w h = (unfinished-exempt a w h, completes-exempt a w h)
 
 allowed-exempt : (p : Poll) (w : Log) → w .exempt ≡ true → AllowedTo p w
 allowed-exempt none w h = tt
+allowed-exempt pollSetup w h = tt
 allowed-exempt pollOut w h = tt
 allowed-exempt pollIn w h = tt
 allowed-exempt pollStatus w h = λ z. differ (sym z ∙ h)
 
 settled-exempt : (p : Poll) (w : Log) → w .exempt ≡ true → settled p w .exempt ≡ true
 settled-exempt none w h = h
+settled-exempt pollSetup w h = h
 settled-exempt pollOut w h = h
 settled-exempt pollIn w h = h
 settled-exempt pollStatus w h = h
+
+done-exempt : (p : Poll) (w : Log) → w .exempt ≡ true → done p w .exempt ≡ true
+done-exempt none w h = h
+done-exempt pollSetup w h = h
+done-exempt pollOut w h = h
+done-exempt pollIn w h = h
+done-exempt pollStatus w h = h
 
 ends-other : (o : Other) (n : ℕ) (w : Log) → w .exempt ≡ true → endsOther o n w .exempt ≡ true
 ends-other (Allocate d kind address maximum interval) n w h = h
@@ -149,7 +168,7 @@ closes-exempt : (o : Op) → Task o → (a : Answer) (w : Log) → w .exempt ≡
 closes-exempt o t (Refused n) w h = either (eqb n 9 || eqb n 10) (it (settled-exempt (pollOf o) w h)) (it h) .is
 closes-exempt o t (End n ws) w h = ends-exempt o t n w h
 closes-exempt o t NotYet w h = h
-closes-exempt o t (Done bytes) w h = settled-exempt (pollOf o) w h
+closes-exempt o t (Done bytes) w h = done-exempt (pollOf o) w h
 closes-exempt o t (Shown bytes stamp) w h = h
 
 opens-exempt : (o : Op) (w : Log) → w .exempt ≡ true → opens o w .exempt ≡ true

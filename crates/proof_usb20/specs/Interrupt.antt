@@ -43,7 +43,7 @@ use Rattle.proof_usb20.specs.Exempt.{differ}
 use Rattle.proof_usb20.specs.Views.{setOut, setIn}
 use Rattle.proof_usb20.specs.Same.{act-view}
 use Rattle.proof_usb20.specs.Stages.{outWith, inWith, out-view, in-view, out-whole, in-whole}
-use Rattle.proof_usb20.specs.Quiet.{Plainly, plainly, steadily, Stays, Any, Quiet, q-ret, q-bind, q-test, q-if}
+use Rattle.proof_usb20.specs.Quiet.{Plainly, plainly, steadily, Stays, Any, Quiet, q-ret, q-bind, q-test, q-if, q-every}
 use Rattle.proof_usb20.specs.Parts.{q-got, q-when, q-sof, q-late, q-check, q-sof-arm, q-dispatch}
 use Rattle.proof_usb20.specs.Events.{completed, packet-out, packet-in, token-out, no-packet-out}
 
@@ -55,7 +55,7 @@ pub r-out : (w : Log) (x : View) (m : Bool) → isOn (x .inn .armed) ≡ m → R
 r-out w x m h (inl e) = inl (rw e refl)
 r-out w x m h (inr r) = by (w .exempt) (isReady (w .pipe .out .answers)) refl
   where
-    by : (e b : Bool) → isReady (w .pipe .out .answers) ≡ b → ((e || not b) || false ≡ true) ⊎ Rel (flip (nak (w .rx))) (cond m (nakflip (w .tx)) (w .tx)) (pipe.after (pipe.token Out) (pipe.after (packet Out) (w .pipe))) (w .awaits) (cond m (setIn completed (setOut completed x)) (setOut completed x))
+    by : (e b : Bool) → isReady (w .pipe .out .answers) ≡ b → ((e || not b) || false ≡ true) ⊎ Rel (flip (nak (w .rx))) (cond m (nakflip (w .tx)) (w .tx)) (w .len) (pipe.after (pipe.token Out) (pipe.after (packet Out) (w .pipe))) (w .awaits) (w .untaken) (cond m (setIn completed (setOut completed x)) (setOut completed x))
     by e true q = inr (token-out m h (packet-out q r))
     by true false q = inl refl
     by false false q = inl refl
@@ -72,7 +72,7 @@ r-in w x m h (inl e) = inl (rw e refl)
 r-in w x m h (inr r) = by (w .exempt) (isReady (w .pipe .inn .answers)) refl (dataReady (w .pipe .out .answers)) refl m h
   where
     by : (e b : Bool) → isReady (w .pipe .inn .answers) ≡ b → (d : Bool) → dataReady (w .pipe .out .answers) ≡ d → (m : Bool) → isOn (x .out .armed) ≡ m
-        → ((e || not b) || not (not d) ≡ true) ⊎ Rel (cond m (nakflip (w .rx)) (w .rx)) (flip (nak (w .tx))) (pipe.after (packet In) (w .pipe)) (w .awaits) (cond m (setOut completed (setIn completed x)) (setIn completed x))
+        → ((e || not b) || not (not d) ≡ true) ⊎ Rel (cond m (nakflip (w .rx)) (w .rx)) (flip (nak (w .tx))) (w .len) (pipe.after (packet In) (w .pipe)) (w .awaits) (w .untaken) (cond m (setOut completed (setIn completed x)) (setIn completed x))
     by true b q d z m h = inl refl
     by false false q d z m h = inl refl
     by false true q true z m h = inl refl
@@ -84,7 +84,7 @@ r-token-in w x m h (inl e) = inl (rw e refl)
 r-token-in w x m h (inr r) = by (w .exempt) (dataReady (w .pipe .out .answers)) refl m h
   where
     by : (e d : Bool) → dataReady (w .pipe .out .answers) ≡ d → (m : Bool) → isOn (x .out .armed) ≡ m
-        → (e || not (not d) ≡ true) ⊎ Rel (cond m (nakflip (w .rx)) (w .rx)) (w .tx) (w .pipe) (w .awaits) (cond m (setOut completed x) x)
+        → (e || not (not d) ≡ true) ⊎ Rel (cond m (nakflip (w .rx)) (w .rx)) (w .tx) (w .len) (w .pipe) (w .awaits) (w .untaken) (cond m (setOut completed x) x)
     by true d z m h = inl refl
     by false true z m h = inl refl
     by false false z false h = inr r
@@ -198,7 +198,7 @@ servedAs tk x iso frame = do
 
 -- of another endpoint
 pub q-served : (tk : Token) (x : Transfer) (iso : Bool) (frame : ℕ) → eqb (endpoint (x .st)) 0 ≡ false → Quiet (servedAs tk x iso frame)
-q-served tk x iso frame h = q-bind (q-got globals-cell) (λ g. q-bind (q-when (q-sof frame)) (λ _. q-bind (q-when (q-bind (q-got globals-cell) (λ g. q-late frame (setBits (isoInEvery g))))) (λ _. q-bind (q-when (q-dispatch tk x iso frame h)) (λ _. q-bind (q-when (q-check x iso)) (λ _. q-if (eqb (endpoint (x .st)) 0) (λ z. differ (sym h ∙ z)) (λ _. q-ret))))))
+q-served tk x iso frame h = q-bind (q-got globals-cell) (λ g. q-bind (q-when (q-sof frame)) (λ _. q-bind (q-when (q-every (λ g m. q-late frame (setBits (isoInEvery g)) m))) (λ _. q-bind (q-when (q-dispatch tk x iso frame h)) (λ _. q-bind (q-when (q-check x iso)) (λ _. q-if (eqb (endpoint (x .st)) 0) (λ z. differ (sym h ∙ z)) (λ _. q-ret))))))
 
 -- what is known at its end
 abbrev pub Served : Bool → {A : Type 0} → Log → A → St → Type 0
@@ -213,7 +213,7 @@ module _ (x : Transfer) (frame : ℕ) (mine : eqb (endpoint (x .st)) 0 ≡ true)
   framing tk iso w′ v z′ own sign =
       then-quiet z k (q-got globals-cell) (λ g t e l.
       then-quiet z l (q-when (q-sof frame)) (λ _ t′ e′ l′.
-      then-quiet z l′ (q-when (q-bind (q-got globals-cell) (λ g. q-late frame (setBits (isoInEvery g))))) (λ _ t″ e″ l″.
+      then-quiet z l′ (q-when (q-every (λ g m. q-late frame (setBits (isoInEvery g)) m))) (λ _ t″ e″ l″.
       then (own t″ (e″ ∙ (e′ ∙ e)) l″) (λ y _ u m. back-to (m .0)
       (then-quiet z′ (m .2) (q-when (q-check x iso)) (λ _ u′ d n.
       if-so (eqb (endpoint (x .st)) 0) mine (sign u′ (d ∙ m .1) n)))))))

@@ -29,7 +29,8 @@ use Rattle.book.specs.Sorts.{put-steady}
 use Rattle.frame.specs.Usb20.{indexOf, frameOf}
 use Rattle.frame.specs.Advance.{previous}
 use Rattle.proof_usb20.specs.Watch.{at-end}
-use Rattle.proof_usb20.specs.Quiet.{Quiet, steadily, q-ret, q-bind, q-test, q-if, q-read, q-write, q-callback, q-get, q-is, q-look, q-act, q-hand, q-put, q-modify, Other, put-other, put-frame, put-kept, other-word}
+use Rattle.proof_usb20.specs.Quiet.{Quiet, steadily, q-ret, q-bind, q-test, q-if, q-read, q-write, q-callback, q-get, q-is, q-look, q-act, q-hand, q-put, q-modify, Other, put-other, put-frame, put-kept, other-word, other-length, q-every}
+use Rattle.proof_usb20.specs.Walks.{Each}
 
 -- ---- small ones
 
@@ -78,30 +79,30 @@ q-sent e o = q-bind (q-ep In e (withReady 1) o) (λ _. q-wake In e)
 
 -- ---- isochronous IN
 
-pub q-complete : {i : Bool} (e : ℕ) → Quiet (isoInComplete {i = i} e)
-q-complete e = q-bind (q-act refl q-ret) (λ _. q-bind (q-bind (q-is (λ _. q-ret)) (λ b. q-test (q-bind (q-hand q-ret) (λ _. q-bind (q-look (λ _. q-ret)) (λ _. q-write (λ _. refl) q-ret))) (q-write (λ _. refl) q-ret))) (λ _. q-wake In e))
+pub q-complete : {i : Bool} (e : ℕ) → eqb e 0 ≡ false → Quiet (isoInComplete {i = i} e)
+q-complete e h = q-bind (q-act refl q-ret) (λ _. q-bind (q-bind (q-is (λ _. q-ret)) (λ b. q-test (q-bind (q-hand q-ret) (λ _. q-bind (q-look (λ _. q-ret)) (λ n. q-write (other-length e n h) q-ret))) (q-write (other-length e 0 h) q-ret))) (λ _. q-wake In e))
 
 q-first : {i : Bool} (e frame : ℕ) → Quiet (firstInFrame {i = i} e frame)
 q-first e frame = record { goes = λ w s z k. at-end (refl, put-frame In e frame s, steadily (put-steady (ep-cell In e) (withLastFrame frame (conc .get (ep-cell In e) s)) s) k) }
 
-q-unseen : {i : Bool} (frame e : ℕ) → Quiet (unseen {i = i} frame e)
-q-unseen frame e = q-bind (q-modify (ep-cell In e) (withLastFrame (frameOf (previous (indexOf frame)))) (λ s. put-frame In e (frameOf (previous (indexOf frame))) s)) (λ _. q-complete e)
+q-unseen : {i : Bool} (frame e : ℕ) → eqb e 0 ≡ false → Quiet (unseen {i = i} frame e)
+q-unseen frame e h = q-bind (q-modify (ep-cell In e) (withLastFrame (frameOf (previous (indexOf frame)))) (λ s. put-frame In e (frameOf (previous (indexOf frame))) s)) (λ _. q-complete e h)
 
-q-sof-one : {i : Bool} (frame e : ℕ) → Quiet (sofOne {i = i} frame e)
-q-sof-one frame e = q-bind (q-got (ep-cell In e)) (λ s. q-test q-ret (q-bind (q-read (λ _. q-ret)) (λ m. q-test (q-unseen frame e) (q-bind (q-read (λ _. q-ret)) (λ st. q-test q-ret (q-unseen frame e))))))
+q-sof-one : {i : Bool} (frame e : ℕ) → eqb e 0 ≡ false → Quiet (sofOne {i = i} frame e)
+q-sof-one frame e h = q-bind (q-got (ep-cell In e)) (λ s. q-test q-ret (q-bind (q-read (λ _. q-ret)) (λ m. q-test (q-unseen frame e h) (q-bind (q-read (λ _. q-ret)) (λ st. q-test q-ret (q-unseen frame e h))))))
 
-q-sof-walk : {i : Bool} (frame : ℕ) (es : List ℕ) → Quiet (sofWalk {i = i} frame es)
+q-sof-walk : {i : Bool} (frame : ℕ) (es : List ℕ) → Each (λ e. eqb e 0 ≡ false) es → Quiet (sofWalk {i = i} frame es)
 unfolding sofWalk
-q-sof-walk frame [] = q-ret
-q-sof-walk frame (e ∷ es) = q-bind (q-sof-one frame e) (λ _. q-sof-walk frame es)
+q-sof-walk frame [] h = q-ret
+q-sof-walk frame (e ∷ es) h = q-bind (q-sof-one frame e (h .0)) (λ _. q-sof-walk frame es (h .1))
 
 pub q-sof : {i : Bool} (frame : ℕ) → Quiet (onSof {i = i} frame)
-q-sof frame = q-bind (q-globals (withSofFrame frame) (λ _. refl)) (λ _. q-bind (q-got globals-cell) (λ g. q-bind (q-sof-walk frame (setBits (isoInEvery g))) (λ _. q-bind (q-got globals-cell) (λ g. q-when (q-callback q-ret)))))
+q-sof frame = q-bind (q-globals (withSofFrame frame) (λ _. refl)) (λ _. q-every (λ g m. q-bind (q-sof-walk frame (setBits (isoInEvery g)) m) (λ _. q-bind (q-got globals-cell) (λ g. q-when (q-callback q-ret)))))
 
-pub q-late : {i : Bool} (frame : ℕ) (es : List ℕ) → Quiet (lateWalk {i = i} frame es)
+pub q-late : {i : Bool} (frame : ℕ) (es : List ℕ) → Each (λ e. eqb e 0 ≡ false) es → Quiet (lateWalk {i = i} frame es)
 unfolding lateWalk
-q-late frame [] = q-ret
-q-late frame (e ∷ es) = q-bind (q-bind (q-first e frame) (λ b. q-when (q-complete e))) (λ _. q-late frame es)
+q-late frame [] h = q-ret
+q-late frame (e ∷ es) h = q-bind (q-bind (q-first e frame) (λ b. q-when (q-complete e (h .0)))) (λ _. q-late frame es (h .1))
 
 -- ---- isochronous OUT
 
@@ -124,6 +125,6 @@ q-sof-arm frame = q-bind (q-got globals-cell) (λ g. q-when (q-sof frame))
 pub q-dispatch : {i : Bool} (t : Token) (x : Transfer) (iso : Bool) (frame : ℕ) → eqb (endpoint (x .st)) 0 ≡ false → Quiet (dispatch {i = i} t x iso frame)
 q-dispatch tok.Sof x iso frame h = q-sof-arm frame
 q-dispatch tok.Out x iso frame h = q-test q-ret (q-if (eqb (endpoint (x .st)) 0) (λ z. differ (sym h ∙ z)) (λ _. q-bind (q-toggled Out (endpoint (x .st)) h (not-0 (x .st) h)) (λ b. q-when (q-received (endpoint (x .st)) (x .len) (not-0 (x .st) h)))))
-q-dispatch tok.In x iso frame h = q-test (q-bind (q-got globals-cell) (λ g. q-test q-ret (q-bind (q-first (endpoint (x .st)) frame) (λ b. q-when (q-complete (endpoint (x .st)))))))
+q-dispatch tok.In x iso frame h = q-test (q-bind (q-got globals-cell) (λ g. q-test q-ret (q-bind (q-first (endpoint (x .st)) frame) (λ b. q-when (q-complete (endpoint (x .st)) h)))))
     (q-if (eqb (endpoint (x .st)) 0) (λ z. differ (sym h ∙ z)) (λ _. q-bind (q-toggled In (endpoint (x .st)) h (not-0 (x .st) h)) (λ b. q-when (q-sent (endpoint (x .st)) (not-0 (x .st) h)))))
 q-dispatch tok.Setup x iso frame h = q-ret

@@ -28,6 +28,7 @@ use Rattle.proof_usb20.specs.Log.{Log, withAwaits, withPhase, off, opens
 use Rattle.proof_usb20.specs.Watch.{Watch, at-end, at-ask, watch-cond}
 use Rattle.proof_usb20.specs.Ep0.{Rec, View, view, Fits, Rests, no-request, set-up, Gives, first-wait, second-wait, Waits, Rel, R, Keeps, Ends, Law}
 use Rattle.proof_usb20.specs.Exempt.{exempt-law, differ}
+use Rattle.proof_usb20.specs.Fitting as fitting
 use Rattle.proof_usb20.specs.Views.{rec, setOut, setIn, setControl, setReady, put-out, put-in, put-control, put-globals}
 use Rattle.proof_usb20.specs.Same.{act-view}
 use Rattle.proof_usb20.specs.Stages.{outWith, inWith, Whole, out-view, in-view, out-whole, in-whole, moved}
@@ -42,12 +43,13 @@ pub record Kin (x y : View) : Type 0 where
   pub out : y .out .armed ≡ x .out .armed
   pub inn : y .inn .armed ≡ x .inn .armed
   pub stage : y .stage ≡ x .stage
+  pub setup : y .setup-ready ≡ x .setup-ready
 
 refit : {v : ℕ} {h : Half} {r s : Rec} → s .armed ≡ r .armed → Fits v h r → Fits v h s
 refit e f = record { shows = f .shows; toggles = f .toggles; armed = ap isOn e ∙ f .armed }
 
-pub over-now : {ex : Bool} {rx tx : ℕ} {p : Pipe} {a : Awaited} {x y : View} → Rel rx tx p a x → Kin x y → y .control ≡ no-control → (ex ≡ true) ⊎ Rel rx tx p nothing y
-over-now r k c = inr (record { stage = k .stage ∙ r .stage; out = refit (k .out) (r .out); inn = refit (k .inn) (r .inn); waits = rested c })
+pub over-now : {ex : Bool} {rx tx l : ℕ} {p : Pipe} {a : Awaited} {u : Bool} {x y : View} → Rel rx tx l p a u x → Kin x y → y .control ≡ no-control → (ex ≡ true) ⊎ Rel rx tx l p nothing u y
+over-now r k c = inr (record { stage = k .stage ∙ r .stage; out = refit (k .out) (r .out); inn = refit (k .inn) (r .inn); waits = rested c; size = r .size; setup = ap isOn (k .setup) ∙ r .setup })
 
 -- ---- the states
 
@@ -61,16 +63,16 @@ kin-by : (x : View) {y z : View} → y ≡ z → Kin x z → Kin x y
 kin-by x e k = subst (Kin x) (sym e) k
 
 kin-none : (s : St) → Kin (view (s .0)) (view (none s .0))
-kin-none s = kin-by (view (s .0)) (none-view s) (record { out = refl; inn = refl; stage = refl })
+kin-none s = kin-by (view (s .0)) (none-view s) (record { out = refl; inn = refl; stage = refl; setup = refl })
 
 kin-out : (s : St) → Whole s → Kin (view (s .0)) (view (none (outWith (withReady 0) s) .0))
-kin-out s h = kin-by (view (s .0)) (none-view (outWith (withReady 0) s) ∙ ap (setControl no-control) (out-view (withReady 0) s h)) (record { out = refl; inn = refl; stage = refl })
+kin-out s h = kin-by (view (s .0)) (none-view (outWith (withReady 0) s) ∙ ap (setControl no-control) (out-view (withReady 0) s h)) (record { out = refl; inn = refl; stage = refl; setup = refl })
 
 kin-in : (s : St) → Whole s → Kin (view (s .0)) (view (none (inWith (withReady 0) s) .0))
-kin-in s h = kin-by (view (s .0)) (none-view (inWith (withReady 0) s) ∙ ap (setControl no-control) (in-view (withReady 0) s h)) (record { out = refl; inn = refl; stage = refl })
+kin-in s h = kin-by (view (s .0)) (none-view (inWith (withReady 0) s) ∙ ap (setControl no-control) (in-view (withReady 0) s h)) (record { out = refl; inn = refl; stage = refl; setup = refl })
 
 kin-both : (s : St) → Whole s → Kin (view (s .0)) (view (none (inWith (withReady 0) (outWith (withReady 0) s)) .0))
-kin-both s h = kin-by (view (s .0)) (none-view (inWith (withReady 0) (outWith (withReady 0) s)) ∙ ap (setControl no-control) (in-view (withReady 0) (outWith (withReady 0) s) (out-whole (withReady 0) s h) ∙ ap (λ (y : View). setIn (record { ready = 0; armed = y .inn .armed }) y) (out-view (withReady 0) s h))) (record { out = refl; inn = refl; stage = refl })
+kin-both s h = kin-by (view (s .0)) (none-view (inWith (withReady 0) (outWith (withReady 0) s)) ∙ ap (setControl no-control) (in-view (withReady 0) (outWith (withReady 0) s) (out-whole (withReady 0) s h) ∙ ap (λ (y : View). setIn (record { ready = 0; armed = y .inn .armed }) y) (out-view (withReady 0) s h))) (record { out = refl; inn = refl; stage = refl; setup = refl })
 
 done-none : (s : St) → view (none s .0) .control ≡ no-control
 done-none s = ap (λ (x : View). x .control) (none-view s)
@@ -81,7 +83,7 @@ pub law-poll-setup : Law (other PollSetup)
 law-poll-setup w s (inl e) z = exempt-law (other PollSetup) tt w s e
 law-poll-setup w s (inr r) z =
     watch-cond (eqb (s .0 .globals .stage) 2)
-    (λ _. watch-cond (eqb (s .0 .control .sort) SETUP) (λ q. watch-cond (isOn (s .0 .globals .«setup_ready»)) (λ _. at-end (taken-setup (w .awaits) r (eqb-true (s .0 .control .sort) SETUP q), tt)) (λ _. at-end (inr r, tt))) (λ _. at-end (inr r, tt)))
+    (λ _. watch-cond (eqb (s .0 .control .sort) SETUP) (λ q. watch-cond (isOn (s .0 .globals .«setup_ready»)) (λ o. at-end (taken-setup (w .awaits) r (eqb-true (s .0 .control .sort) SETUP q), λ _. sym (r .setup) ∙ o)) (λ o. at-end (inr r, λ _. sym (r .setup) ∙ o))) (λ _. at-end (inr r, tt)))
     (λ _. at-end (inr r, tt))
   where
     x : St
@@ -90,8 +92,8 @@ law-poll-setup w s (inr r) z =
     seen : view (none x .0) ≡ setControl no-control (setReady 0 (view (s .0)))
     seen = none-view x ∙ ap (setControl no-control) (put-globals (withSetup 0 (s .0 .globals .«setup_low») (s .0 .globals .«setup_high») (s .0 .globals)) s)
 
-    taken-setup : (a : Awaited) → Rel (w .rx) (w .tx) (w .pipe) a (view (s .0)) → s .0 .control .sort ≡ 1 → (w .exempt ≡ true) ⊎ Rel (w .rx) (w .tx) (w .pipe) a (view (none x .0))
-    taken-setup nothing r q = moved seen (inr (record { stage = r .stage; out = r .out; inn = r .inn; waits = rested refl }))
+    taken-setup : (a : Awaited) → Rel (w .rx) (w .tx) (w .len) (w .pipe) a (w .untaken) (view (s .0)) → s .0 .control .sort ≡ 1 → (w .exempt ≡ true) ⊎ Rel (w .rx) (w .tx) (w .len) (w .pipe) a false (view (none x .0))
+    taken-setup nothing r q = moved seen (inr (record { stage = r .stage; out = r .out; inn = r .inn; waits = rested refl; size = r .size; setup = fitting.off }))
     taken-setup taken r q = absurd (omega (arith, q, r .waits .0))
     taken-setup (given last) r q = absurd (omega (arith, q, r .waits .0))
     taken-setup confirmed r q = absurd (omega (arith, q, r .waits .0))
@@ -99,7 +101,7 @@ law-poll-setup w s (inr r) z =
 -- ---- data_out
 
 -- not ready: the wait goes on, or a setup packet has ended it
-ready-out : (a : Awaited) {rx tx : ℕ} {p : Pipe} {x : View} → Rel rx tx p a x → x .control .sort ≡ 2 → isOn (x .out .ready) ≡ true → over a p ≡ true
+ready-out : (a : Awaited) {rx tx l : ℕ} {p : Pipe} {u : Bool} {x : View} → Rel rx tx l p a u x → x .control .sort ≡ 2 → isOn (x .out .ready) ≡ true → over a p ≡ true
 ready-out nothing {p = p} {x = x} r q o = by (r .waits)
   where
     by : Rests p x → false ≡ true
@@ -109,7 +111,7 @@ ready-out taken r q o = sym (r .waits .1) ∙ o
 ready-out (given last) r q o = absurd (omega (arith, q, r .waits .0))
 ready-out confirmed r q o = absurd (omega (arith, q, r .waits .0))
 
-unready-out : (a : Awaited) {rx tx : ℕ} {p : Pipe} {x : View} → Rel rx tx p a x → x .control .sort ≡ 2 → isOn (x .out .ready) ≡ false → over a p ≡ false
+unready-out : (a : Awaited) {rx tx l : ℕ} {p : Pipe} {u : Bool} {x : View} → Rel rx tx l p a u x → x .control .sort ≡ 2 → isOn (x .out .ready) ≡ false → over a p ≡ false
 unready-out nothing r q o = refl
 unready-out taken r q o = sym (r .waits .1) ∙ o
 unready-out (given last) r q o = absurd (omega (arith, q, r .waits .0))
@@ -124,18 +126,18 @@ law-poll-data-out n w s (inr r) z =
     watch-cond (eqb (s .0 .control .length) n)
     (λ _. watch-cond (isOn (conc .get (ep-cell Out 0) s .ready))
     (λ o. watch-cond (ltb n (conc .get (ep-cell Out 0) s .len))
-    (λ _. at-end (over-now r (kin-out s (z .places)) (done-none (outWith (withReady 0) s)), tt))
-    (λ _. at-end (over-now r (kin-out s (z .places)) (done-none (outWith (withReady 0) s)), λ _. ready-out (w .awaits) r two o)))
+    (λ _. at-end (over-now r (kin-out s (z .places)) (done-none (outWith (withReady 0) s)), (λ h. differ h, tt)))
+    (λ _. at-end (over-now r (kin-out s (z .places)) (done-none (outWith (withReady 0) s)), (tt, λ _. ready-out (w .awaits) r two o))))
     (λ o. watch-cond (isOn (s .0 .globals .«setup_ready»))
-    (λ _. at-end (over-now r (kin-none s) (done-none s), tt))
-    (λ _. at-end (inr r, λ _. unready-out (w .awaits) r two o))))
-    (λ _. at-end (over-now r (kin-out s (z .places)) (done-none (outWith (withReady 0) s)), tt)))
-    (λ _. at-end (inr r, tt)))
-    (λ _. at-end (inr r, tt))
+    (λ g. at-end (over-now r (kin-none s) (done-none s), (λ _ _. sym (r .setup) ∙ g, tt)))
+    (λ g. at-end (inr r, ((λ _. unready-out (w .awaits) r two o, λ _. sym (r .setup) ∙ g), tt)))))
+    (λ _. at-end (over-now r (kin-out s (z .places)) (done-none (outWith (withReady 0) s)), (λ h. differ h, tt))))
+    (λ _. at-end (inr r, (λ h. differ h, tt))))
+    (λ _. at-end (inr r, (λ h. differ h, tt)))
 
 -- ---- accept
 
-ready-status : (a : Awaited) {rx tx : ℕ} {p : Pipe} {x : View} → Rel rx tx p a x → x .control .sort ≡ 4 → isOn (x .inn .ready) ≡ true → over a p ≡ true
+ready-status : (a : Awaited) {rx tx l : ℕ} {p : Pipe} {u : Bool} {x : View} → Rel rx tx l p a u x → x .control .sort ≡ 4 → isOn (x .inn .ready) ≡ true → over a p ≡ true
 ready-status nothing {p = p} {x = x} r q o = by (r .waits)
   where
     by : Rests p x → false ≡ true
@@ -145,7 +147,7 @@ ready-status taken r q o = absurd (omega (arith, q, r .waits .0))
 ready-status (given last) r q o = absurd (omega (arith, q, r .waits .0))
 ready-status confirmed r q o = sym (r .waits .1) ∙ o
 
-unready-status : (a : Awaited) {rx tx : ℕ} {p : Pipe} {x : View} → Rel rx tx p a x → x .control .sort ≡ 4 → isOn (x .inn .ready) ≡ false → over a p ≡ false
+unready-status : (a : Awaited) {rx tx l : ℕ} {p : Pipe} {u : Bool} {x : View} → Rel rx tx l p a u x → x .control .sort ≡ 4 → isOn (x .inn .ready) ≡ false → over a p ≡ false
 unready-status nothing r q o = refl
 unready-status taken r q o = absurd (omega (arith, q, r .waits .0))
 unready-status (given last) r q o = absurd (omega (arith, q, r .waits .0))
@@ -159,13 +161,14 @@ law-poll-accept w s (inr r) z =
     (λ q. let four = eqb-true (s .0 .control .sort) ACCEPT q in
     watch-cond (isOn (conc .get (ep-cell In 0) s .ready))
     (λ o. watch-cond (isOn (s .0 .control .«sets_address»))
-    (λ _. at-ask (λ _. ready-status (w .awaits) r four o) (λ v t b k. at-end (moved (k .0 ∙ act-view no-wakes refl (none (inWith (withReady 0) s))) (over-now r (kin-in s (z .places)) (done-none (inWith (withReady 0) s))), λ _. ready-status (w .awaits) r four o)))
-    (λ _. at-end (over-now r (kin-in s (z .places)) (done-none (inWith (withReady 0) s)), λ _. ready-status (w .awaits) r four o)))
+    (λ _. at-ask (λ _. ready-status (w .awaits) r four o) (λ v t b k.
+    at-end (moved (k .0 ∙ act-view no-wakes refl (none (inWith (withReady 0) s))) (over-now r (kin-in s (z .places)) (done-none (inWith (withReady 0) s))), (tt, λ _. ready-status (w .awaits) r four o))))
+    (λ _. at-end (over-now r (kin-in s (z .places)) (done-none (inWith (withReady 0) s)), (tt, λ _. ready-status (w .awaits) r four o))))
     (λ o. watch-cond (isOn (s .0 .globals .«setup_ready»))
-    (λ _. at-end (over-now r (kin-none s) (done-none s), tt))
-    (λ _. at-end (inr r, λ _. unready-status (w .awaits) r four o))))
-    (λ _. at-end (inr r, tt)))
-    (λ _. at-end (inr r, tt))
+    (λ g. at-end (over-now r (kin-none s) (done-none s), (λ _ _. sym (r .setup) ∙ g, tt)))
+    (λ g. at-end (inr r, ((λ _. unready-status (w .awaits) r four o, λ _. sym (r .setup) ∙ g), tt)))))
+    (λ _. at-end (inr r, (λ h. differ h, tt))))
+    (λ _. at-end (inr r, (λ h. differ h, tt)))
 
 -- ---- data_in
 
@@ -176,7 +179,7 @@ data Waiting (a : Awaited) (p : Pipe) (x : View) : Type 0 where
   packet-of : (last : Bool) → a ≡ given last → isOn (x .control .last) ≡ last → x .control .wait ≡ 1 → isOn (x .inn .ready) ≡ p .inn .through → (last ≡ true → isOn (x .out .ready) ≡ p .out .through) → Waiting a p x
   closing-of : a ≡ given true → isOn (x .control .last) ≡ true → x .control .wait ≡ 2 → p .inn .through ≡ true → isOn (x .out .ready) ≡ p .out .through → Waiting a p x
 
-waiting : (a : Awaited) {rx tx : ℕ} {p : Pipe} {x : View} → Rel rx tx p a x → x .control .sort ≡ 3 → Waiting a p x
+waiting : (a : Awaited) {rx tx l : ℕ} {p : Pipe} {u : Bool} {x : View} → Rel rx tx l p a u x → x .control .sort ≡ 3 → Waiting a p x
 waiting nothing {p = p} {x = x} r q = by (r .waits)
   where
     by : Rests p x → Waiting nothing p x
@@ -208,38 +211,38 @@ second-view s h = put-control (dataInOf (s .0 .control .length) (s .0 .control .
 abbrev Polled : Log → St → tree.Out St Answer → Type 0
 Polled w s o = Watch Keeps (Allowed (other PollDataIn)) (Ends (other PollDataIn)) (withPhase off w) o
 
-module _ (w : Log) (s : St) (r : Rel (w .rx) (w .tx) (w .pipe) (w .awaits) (view (s .0))) (z : Sorting (s .0)) where
+module _ (w : Log) (s : St) (r : Rel (w .rx) (w .tx) (w .len) (w .pipe) (w .awaits) (w .untaken) (view (s .0))) (z : Sorting (s .0)) where
   -- the closing OUT came, empty or with data
   closed : (k : St) → Kin (view (s .0)) (view (none k .0)) → over (w .awaits) (w .pipe) ≡ true → (e : Bool) → Polled w s (tree.ends (cond e (Done []) (Refused 10)) (none k))
-  closed k i o true = at-end {a = Done []} (over-now r i (done-none k), λ _. o)
-  closed k i o false = at-end {a = Refused 10} (over-now r i (done-none k), tt)
+  closed k i o true = at-end {a = Done []} (over-now r i (done-none k), (tt, λ _. o))
+  closed k i o false = at-end {a = Refused 10} (over-now r i (done-none k), (λ h. differ h, tt))
 
-  refused : Polled w s (tree.ends (Refused 9) (none s))
-  refused = at-end {a = Refused 9} (over-now r (kin-none s) (done-none s), tt)
+  refused : isOn (s .0 .globals .«setup_ready») ≡ true → Polled w s (tree.ends (Refused 9) (none s))
+  refused g = at-end {a = Refused 9} (over-now r (kin-none s) (done-none s), (λ _ _. sym (r .setup) ∙ g, tt))
 
   -- the data packet went through, the closing OUT is awaited
   goes-on : w .awaits ≡ given true → isOn (s .0 .control .last) ≡ true → w .pipe .inn .through ≡ true → isOn (view (s .0) .out .ready) ≡ w .pipe .out .through → R (withPhase off w) (view (second s .0))
-  goes-on a l i o = inr (subst (λ (x : Awaited). Rel (w .rx) (w .tx) (w .pipe) x (view (second s .0))) (sym a) (subst (Rel (w .rx) (w .tx) (w .pipe) (given true)) (sym (second-view s (z .places))) (record { stage = r .stage; out = r .out; inn = refit refl (r .inn); waits = (refl, l, second-wait refl refl i o) })))
+  goes-on a l i o = inr (subst (λ (x : Awaited). Rel (w .rx) (w .tx) (w .len) (w .pipe) x (w .untaken) (view (second s .0))) (sym a) (subst (Rel (w .rx) (w .tx) (w .len) (w .pipe) (given true) (w .untaken)) (sym (second-view s (z .places))) (record { stage = r .stage; out = r .out; inn = refit refl (r .inn); waits = (refl, l, second-wait refl refl i o); size = r .size; setup = r .setup })))
 
   polled-in : Waiting (w .awaits) (w .pipe) (view (s .0)) → Polled w s (run conc (code (other PollDataIn)) s)
   polled-in (aborted e f g) =
       watch-cond (eqb (s .0 .globals .stage) 2)
       (λ _. watch-cond (eqb (s .0 .control .sort) DATA-IN)
       (λ _. watch-cond (eqb (s .0 .control .wait) 2)
-      (λ _. watch-cond (isOn (conc .get (ep-cell Out 0) s .ready)) (λ b. differ (sym f ∙ b)) (λ _. watch-cond (isOn (s .0 .globals .«setup_ready»)) (λ _. refused) (λ b. differ (sym b ∙ e))))
-      (λ _. watch-cond (isOn (conc .get (ep-cell In 0) s .ready)) (λ b. differ (sym g ∙ b)) (λ _. watch-cond (isOn (s .0 .globals .«setup_ready»)) (λ _. refused) (λ b. differ (sym b ∙ e)))))
-      (λ _. at-end (inr r, tt)))
-      (λ _. at-end (inr r, tt))
+      (λ _. watch-cond (isOn (conc .get (ep-cell Out 0) s .ready)) (λ b. differ (sym f ∙ b)) (λ _. watch-cond (isOn (s .0 .globals .«setup_ready»)) (λ g. refused g) (λ b. differ (sym b ∙ e))))
+      (λ _. watch-cond (isOn (conc .get (ep-cell In 0) s .ready)) (λ b. differ (sym g ∙ b)) (λ _. watch-cond (isOn (s .0 .globals .«setup_ready»)) (λ g. refused g) (λ b. differ (sym b ∙ e)))))
+      (λ _. at-end (inr r, (λ h. differ h, tt))))
+      (λ _. at-end (inr r, (λ h. differ h, tt)))
   polled-in (closing-of a l n i o) =
       watch-cond (eqb (s .0 .globals .stage) 2)
       (λ _. watch-cond (eqb (s .0 .control .sort) DATA-IN)
       (λ _. watch-cond (eqb (s .0 .control .wait) 2)
       (λ _. watch-cond (isOn (conc .get (ep-cell Out 0) s .ready))
       (λ b. closed (outWith (withReady 0) s) (kin-out s (z .places)) (ap (λ (x : Awaited). over x (w .pipe)) a ∙ (over-last (w .pipe) i ∙ (sym o ∙ b))) (eqb (conc .get (ep-cell Out 0) s .len) 0))
-      (λ b. watch-cond (isOn (s .0 .globals .«setup_ready»)) (λ _. refused) (λ _. at-end {a = NotYet} (inr r, λ _. ap (λ (x : Awaited). over x (w .pipe)) a ∙ (over-last (w .pipe) i ∙ (sym o ∙ b))))))
+      (λ b. watch-cond (isOn (s .0 .globals .«setup_ready»)) (λ g. refused g) (λ g. at-end {a = NotYet} (inr r, ((λ _. ap (λ (x : Awaited). over x (w .pipe)) a ∙ (over-last (w .pipe) i ∙ (sym o ∙ b)), λ _. sym (r .setup) ∙ g), tt)))))
       (λ two. differ (sym two ∙ ap (λ (k : ℕ). eqb k 2) n)))
-      (λ _. at-end (inr r, tt)))
-      (λ _. at-end (inr r, tt))
+      (λ _. at-end (inr r, (λ h. differ h, tt))))
+      (λ _. at-end (inr r, (λ h. differ h, tt)))
   polled-in (packet-of last a l n i o) =
       watch-cond (eqb (s .0 .globals .stage) 2)
       (λ _. watch-cond (eqb (s .0 .control .sort) DATA-IN)
@@ -252,11 +255,11 @@ module _ (w : Log) (s : St) (r : Rel (w .rx) (w .tx) (w .pipe) (w .awaits) (view
       let sent : w .pipe .inn .through ≡ true = sym i ∙ b in
       watch-cond (isOn (conc .get (ep-cell Out 0) s .ready))
       (λ y. closed (inWith (withReady 0) (outWith (withReady 0) s)) (kin-both s (z .places)) (ap (λ (x : Awaited). over x (w .pipe)) gives ∙ (over-last (w .pipe) sent ∙ (sym (o it) ∙ y))) (eqb (conc .get (ep-cell Out 0) s .len) 0))
-      (λ y. watch-cond (isOn (s .0 .globals .«setup_ready»)) (λ _. refused) (λ _. at-end {a = NotYet} (goes-on gives x sent (o it), λ _. ap (λ (x : Awaited). over x (w .pipe)) gives ∙ (over-last (w .pipe) sent ∙ (sym (o it) ∙ y))))))
-      (λ x. at-end {a = Done []} (over-now r (kin-in s (z .places)) (done-none (inWith (withReady 0) s)), λ _. ap (λ (x : Awaited). over x (w .pipe)) (a ∙ ap given (sym l ∙ x)) ∙ (sym i ∙ b))))
-      (λ b. watch-cond (isOn (s .0 .globals .«setup_ready»)) (λ _. refused) (λ _. at-end {a = NotYet} (inr r, λ _. ap (λ (x : Awaited). over x (w .pipe)) a ∙ not-sent last (w .pipe) (sym i ∙ b))))))
-      (λ _. at-end (inr r, tt)))
-      (λ _. at-end (inr r, tt))
+      (λ y. watch-cond (isOn (s .0 .globals .«setup_ready»)) (λ g. refused g) (λ g. at-end {a = NotYet} (goes-on gives x sent (o it), ((λ _. ap (λ (x : Awaited). over x (w .pipe)) gives ∙ (over-last (w .pipe) sent ∙ (sym (o it) ∙ y)), λ _. sym (r .setup) ∙ g), tt)))))
+      (λ x. at-end {a = Done []} (over-now r (kin-in s (z .places)) (done-none (inWith (withReady 0) s)), (tt, λ _. ap (λ (x : Awaited). over x (w .pipe)) (a ∙ ap given (sym l ∙ x)) ∙ (sym i ∙ b)))))
+      (λ b. watch-cond (isOn (s .0 .globals .«setup_ready»)) (λ g. refused g) (λ g. at-end {a = NotYet} (inr r, ((λ _. ap (λ (x : Awaited). over x (w .pipe)) a ∙ not-sent last (w .pipe) (sym i ∙ b), λ _. sym (r .setup) ∙ g), tt))))))
+      (λ _. at-end (inr r, (λ h. differ h, tt))))
+      (λ _. at-end (inr r, (λ h. differ h, tt)))
 
 pub law-poll-data-in : Law (other PollDataIn)
 law-poll-data-in w s (inl e) z = exempt-law (other PollDataIn) tt w s e
@@ -264,4 +267,4 @@ law-poll-data-in w s (inr r) z = by (eqb (s .0 .control .sort) DATA-IN) refl
   where
     by : (t : Bool) → eqb (s .0 .control .sort) DATA-IN ≡ t → Watch Keeps (Allowed (other PollDataIn)) (Ends (other PollDataIn)) (withPhase off w) (run conc (code (other PollDataIn)) s)
     by true q = polled-in w s r z (waiting (w .awaits) r (eqb-true (s .0 .control .sort) DATA-IN q))
-    by false q = watch-cond (eqb (s .0 .globals .stage) 2) (λ _. watch-cond (eqb (s .0 .control .sort) DATA-IN) (λ y. differ (sym q ∙ y)) (λ _. at-end (inr r, tt))) (λ _. at-end (inr r, tt))
+    by false q = watch-cond (eqb (s .0 .globals .stage) 2) (λ _. watch-cond (eqb (s .0 .control .sort) DATA-IN) (λ y. differ (sym q ∙ y)) (λ _. at-end (inr r, (λ h. differ h, tt)))) (λ _. at-end (inr r, (λ h. differ h, tt)))

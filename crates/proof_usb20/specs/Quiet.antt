@@ -6,11 +6,12 @@ use Prim.Native.Nat.{ℕ, zero, suc, _%_}
 use native.Mathlib.Omega.{arith}
 use lib.Dec.{eqb}
 use lib.ListN.{length}
+use borrow.Author.Tests.{eqb-true}
 use Rattle.bits.specs.Walk.{setBits}
 use Rattle.regs.specs.declared.Access.{Access}
 use Rattle.regs.specs.declared.Access.the-variants.{Read, Write}
 use Rattle.regs.specs.declared.Reg.{Reg}
-use Rattle.regs.specs.declared.Reg.the-variants.{EpRxCtrl, EpTxCtrl}
+use Rattle.regs.specs.declared.Reg.the-variants.{EpTLen, EpRxCtrl, EpTxCtrl}
 use Rattle.regs.specs.declared.Dir.{Dir}
 use Rattle.regs.specs.declared.Dir.the-variants.{Out, In}
 use Rattle.regs.specs.Registers.{ctrlOf}
@@ -21,33 +22,42 @@ use Rattle.state.specs.Laws.{key-apart, key-same}
 use Rattle.script.specs.declared.Transfer.{Transfer}
 use Rattle.script.specs.Tree as tree
 use Rattle.script.specs.Cells.{Plain, Cell, Val, ep-cell, globals-cell, control-cell, request-cell, paced-cell}
-use Rattle.script.specs.Script.{Script, ret, bind, test, read-then, write-then, callback-then, get-then, put-then, is-then, look-then, fetch-then, act-then, hand-then, run, Test, Look, Fetch, Act, Hand, handAsk, arrive, send, place, place0, dma, complete, waken}
-use Rattle.script.specs.Sorts.{allocates}
+use Rattle.script.specs.Script.{Script, get, ret, bind, test, read-then, write-then, callback-then, get-then, put-then, is-then, look-then, fetch-then, act-then, hand-then, run, Test, Look, Fetch, Act, Hand, handAsk, arrive, send, place, place0, dma, complete, waken}
+use Rattle.script.specs.Sorts.{Among, allocates}
+use Rattle.script.specs.SortsWalks.{among-ins}
 use Rattle.script.specs.Statics.{isOn, withLastFrame, isoInEvery, isoOuts}
 use Rattle.ops.specs.Records.{merged, plainOf}
 use Rattle.ops.specs.Rings.{St}
 use Rattle.ops.specs.Conc.{conc}
 use Rattle.book.specs.Sorts.{Steady, put-steady, act-steady, hand-steady}
 use Rattle.book.specs.Sorting.{Sorting, ep0-plain}
+use Rattle.proof_usb20.specs.Exempt.{differ}
+use Rattle.proof_usb20.specs.Fitting.{negated}
+use Rattle.proof_usb20.specs.Walks.{Each, each-set}
 use Rattle.proof_usb20.specs.Log.{Log, off, reads, writes, saw}
 use Rattle.proof_usb20.specs.Watch.{Watch, at-end, at-ask, watch-bind, watch-more, watch-cond}
 use Rattle.proof_usb20.specs.Ep0.{View, view, recOf, Keeps}
 use Rattle.proof_usb20.specs.Same.{Same, same-view, record-same, act-view, hand-view}
 use Rattle.proof_usb20.specs.Views.{made, ep-other, put-globals}
 
--- what stays of a state beside EP0's view: the records' places, and EP0 is not isochronous
+-- what stays of a state beside EP0's view: the records' places, and EP0 is not isochronous, nor among the isochronous IN
 pub record Plain0 (d : Driver) : Type 0 where
   pub whole : length (d .eps) ≡ 32
   pub plain : (dir : Dir) → isOn (epOn d dir 0 .iso) ≡ false
+  pub every : Among (λ e. not (eqb e 0)) (d .globals .«iso_in_every»)
 
 abbrev pub Plainly : St → Type 0
 Plainly s = Plain0 (s .0)
 
 pub plainly : {d : Driver} → Sorting d → Plain0 d
-plainly z = record { whole = z .places; plain = λ dir. ep0-plain z dir }
+plainly {d = d} z = record { whole = z .places; plain = λ dir. ep0-plain z dir; every = λ e l h. by e (eqb e 0) refl (z .has .every e l h) }
+  where
+    by : (e : ℕ) (b : Bool) → eqb e 0 ≡ b → isOn (epOn d In e .iso) ≡ true → not b ≡ true
+    by e false q h = refl
+    by e true q h = differ (sym (ep0-plain z In) ∙ subst (λ (n : ℕ). isOn (epOn d In n .iso) ≡ true) (eqb-true e 0 q) h)
 
 pub steadily : {d d′ : Driver} → Steady d d′ → Plain0 d → Plain0 d′
-steadily p k = record { whole = p .places ∙ k .whole; plain = λ dir. ap isOn (p .flags dir 0) ∙ k .plain dir }
+steadily p k = record { whole = p .places ∙ k .whole; plain = λ dir. ap isOn (p .flags dir 0) ∙ k .plain dir; every = λ e l h. k .every e l (rw (p .every) at h) }
 
 abbrev pub Stays : Log → St → Log → St → Type 0
 Stays w s x t = (x ≡ w) × (view (t .0) ≡ view (s .0)) × Plainly t
@@ -89,6 +99,10 @@ q-callback x = record { goes = λ w s z k. asked w (λ _. refl) (λ _ t l. x .go
 
 pub q-get : {i : Bool} {A : Type 0} {c : Cell} {f : Val c → Script i A} → ((v : Val c) → Quiet (f v)) → Quiet (get-then c f)
 q-get {c = c} x = record { goes = λ w s z k. x (conc .get c s) .goes w s z k }
+
+-- the isochronous IN endpoints that an interrupt walks: not EP0
+pub q-every : {i : Bool} {A : Type 0} {f : Globals → Script i A} → ((g : Globals) → Each (λ e. eqb e 0 ≡ false) (setBits (isoInEvery g)) → Quiet (f g)) → Quiet (bind (get {i = i} globals-cell) f)
+q-every {f = f} x = record { goes = λ w s z k. x (s .0 .globals) (each-set (isoInEvery (s .0 .globals)) (λ e l h. negated (eqb e 0) (among-ins (λ e. not (eqb e 0)) (s .0 .globals) (k .every) e l h))) .goes w s z k }
 
 pub q-is : {i : Bool} {A : Type 0} {q : Test} {f : Bool → Script i A} → ((b : Bool) → Quiet (f b)) → Quiet (is-then q f)
 q-is {q = q} x = record { goes = λ w s z k. x (conc .is q s) .goes w s z k }
@@ -152,3 +166,7 @@ put-kept f h s = put-globals (f (s .0 .globals)) s ∙ ap (λ n. record { out = 
 pub other-word : (d : Dir) (e v : ℕ) → eqb e 0 ≡ false → (w : Log) → writes (ctrlOf d) e v w ≡ w
 other-word Out e v h w = rw h refl
 other-word In e v h w = rw h refl
+
+-- a length of another's
+pub other-length : (e v : ℕ) → eqb e 0 ≡ false → (w : Log) → writes EpTLen e v w ≡ w
+other-length e v h w = rw h refl

@@ -17,8 +17,9 @@ use Rattle.ops.specs.Conc.{conc}
 use Rattle.way.specs.Under.{driverOf, drive, haltsAs}
 use Rattle.book.specs.Always.{after}
 use Rattle.book.specs.Sorting.{Sorting, after-sorting}
-use Rattle.proof_usb20.specs.Log.{Log, before, saw, Brings, opens, closes, Armed, Poll, none, pollOut, pollIn, pollStatus, pollOf, FairPoll, Fair, Allowed}
+use Rattle.proof_usb20.specs.Log.{Log, before, saw, Brings, opens, closes, Armed, Poll, none, pollSetup, pollOut, pollIn, pollStatus, pollOf, FairPoll, Fair, Allowed}
 use Rattle.proof_usb20.specs.Watch.{Watch, at-end, at-ask}
+use Rattle.proof_usb20.specs.Exempt.{differ}
 use Rattle.proof_usb20.specs.Ep0.{View, view, Rel, R, Keeps, Ends, Law}
 
 -- ---- the log of a run
@@ -158,22 +159,20 @@ module _ (laws : (o : Op) → Law o) (aside-view : (o : Aside) (d : Driver) (b :
   J (busy i a k) d w starting = w .exempt ≡ true
 
   stands : (w : Log) (x : View) → R w x → Armed w
-  stands w x (inl e) h = absurd (apart (sym h ∙ e))
-    where
-      apart : false ≡ true → ⊥
-      apart z = let y : _≡_ {A = ℕ} 0 1 = cc in absurd (subst (λ (b : Bool). cond b ⊥ (Unit {0})) z tt)
-  stands w x (inr r) h = (r .out .shows, r .inn .shows)
+  stands w x (inl e) h = differ (sym h ∙ e)
+  stands w x (inr r) h = (r .out .shows, r .inn .shows, r .size)
 
   pub record Step (c : Call Config Op) (b : Buf) (y : Ans Answer × Machine Answer Driver) (x : Watched) : Type 0 where
     pub claim : Claim c (y .0) (serves (y .1 .way)) x
     pub standing : let z = noted c b (y .0) (serves (y .1 .way)) x in Standing (z .log) (z .under)
     pub next : let z = noted c b (y .0) (serves (y .1 .way)) x in J (y .1 .way) (y .1 .st) (z .log) (z .under)
 
-  fair-refused : (p : Poll) (n : ℕ) (w : Log) → FairPoll p (Refused n) w
-  fair-refused none n w = tt
-  fair-refused pollOut n w = tt
-  fair-refused pollIn n w = tt
-  fair-refused pollStatus n w = tt
+  fair-1 : (p : Poll) (w : Log) → FairPoll p (Refused 1) w
+  fair-1 none w = tt
+  fair-1 pollSetup w = tt
+  fair-1 pollOut w = (λ h. differ h, tt)
+  fair-1 pollIn w = (λ h. differ h, tt)
+  fair-1 pollStatus w = (λ h. differ h, tt)
 
   standing-of : (y : Way Answer Driver) (d : Driver) (w : Log) (u : Under) → J y d w u → Standing w u
   standing-of idle d w at-rest j = stands w (view d) j
@@ -250,7 +249,7 @@ module _ (laws : (o : Op) → Law o) (aside-view : (o : Aside) (d : Driver) (b :
   -- at rest, with row 1
   afresh : (o : Op) (b : Buf) (g : Bool) (d : Driver) (l : Buf) (w : Log) → R w (view d) → Sorting d
       → Step (begin o) b (cond g (stay calls driverOf 1 (record { way = idle; st = d; buf = l })) (begun calls driverOf (λ s. s) o (record { way = idle; st = d; buf = l }) idle b)) (watched w at-rest)
-  afresh o b true d l w r z = record { claim = fair-refused (pollOf o) 1 (opens o w); standing = stands (opens o w) (view d) (reopened o w (view d) r); next = reopened o w (view d) r }
+  afresh o b true d l w r z = record { claim = fair-1 (pollOf o) (opens o w); standing = stands (opens o w) (view d) (reopened o w (view d) r); next = reopened o w (view d) r }
     where
       reopened : (o : Op) (w : Log) (v : View) → R w v → R (opens o w) v
       reopened interrupt w v r = r

@@ -164,8 +164,8 @@ nak-word = refl
 abbrev cleared : Plain → Plain
 cleared p = withArmed 0 (withReady 0 p)
 
-ready-setup : (x : Log) → x .setup-seen ≡ true → {v y : View} → y ≡ v → Rel (x .rx) (x .tx) (pipe.after pipe.setup (x .pipe)) pipe.nothing v → R (cond (x .setup-seen) (set-up x) x) y
-ready-setup x e {v = v} {y = y} h r = subst (λ (b : Bool). R (cond b (set-up x) x) y) (sym e) (inr (subst (Rel (x .rx) (x .tx) (pipe.after pipe.setup (x .pipe)) pipe.nothing) (sym h) r))
+ready-setup : (x : Log) → x .setup-seen ≡ true → {v y : View} → y ≡ v → Rel (x .rx) (x .tx) (x .len) (pipe.after pipe.setup (x .pipe)) pipe.nothing true v → R (cond (x .setup-seen) (set-up x) x) y
+ready-setup x e {v = v} {y = y} h r = subst (λ (b : Bool). R (cond b (set-up x) x) y) (sym e) (inr (subst (Rel (x .rx) (x .tx) (x .len) (pipe.after pipe.setup (x .pipe)) pipe.nothing true) (sym h) r))
 
 sets-up : (w : Log) (s : St) → view (s .0) .stage ≡ 2 → w .setup-seen ≡ true → Watch Keeps Any (λ x _ t. R (cond (x .setup-seen) (set-up x) x) (view (t .0))) w (run conc (onSetup {i = true}) s)
 sets-up w s two e = at-ask tt (λ _ a _ i. at-ask tt (λ _ b _ j. at-ask tt (λ _ c _ l.
@@ -176,7 +176,7 @@ sets-up w s two e = at-ask tt (λ _ a _ i. at-ask tt (λ _ b _ j. at-ask tt (λ 
     let p = conc .put globals-cell g n in
     let seen-p : view (p .0) ≡ setReady 1 (setIn aborted (setOut aborted (view (s .0)))) = put-globals g n ∙ ap (setReady 1) (in-view cleared o (out-whole cleared b h) ∙ ap (setIn aborted) (out-view cleared b h ∙ ap (setOut aborted) (j .0 ∙ i .0))) in
     let c′ = conc .act (waken (wakeCode Out 0 ∷ [])) c in
-    at-end (ready-setup (withTx (wordOf word.NAK word.DATA0 false) (withRx (wordOf word.NAK word.DATA0 false) w)) e (act-view (waken (wakeCode In 0 ∷ [])) refl c′ ∙ (act-view (waken (wakeCode Out 0 ∷ [])) refl c ∙ (l .0 ∙ seen-p))) (set-up-fits _ _ (w .pipe) (view (s .0)) two nak-word nak-word)))))
+    at-end (ready-setup (withTx (wordOf word.NAK word.DATA0 false) (withRx (wordOf word.NAK word.DATA0 false) w)) e (act-view (waken (wakeCode In 0 ∷ [])) refl c′ ∙ (act-view (waken (wakeCode Out 0 ∷ [])) refl c ∙ (l .0 ∙ seen-p))) (set-up-fits _ _ _ (w .pipe) (view (s .0)) two nak-word nak-word)))))
 
 -- ---- the flags
 

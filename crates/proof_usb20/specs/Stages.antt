@@ -67,8 +67,8 @@ noted-view c s = act-view no-wakes refl (conc .put control-cell c s) ∙ put-con
 pub noted-whole : (c : Control) (s : St) → Whole s → Whole (noted c s)
 noted-whole c s h = act-steady no-wakes refl (conc .put control-cell c s) .places ∙ (put-steady control-cell c s .places ∙ h)
 
-pub moved : {ex : Bool} {rx tx : ℕ} {p : Pipe} {a : Awaited} {x y : View} → y ≡ x → (ex ≡ true) ⊎ Rel rx tx p a x → (ex ≡ true) ⊎ Rel rx tx p a y
-moved {ex = ex} {rx = rx} {tx = tx} {p = p} {a = a} e r = subst (λ z. (ex ≡ true) ⊎ Rel rx tx p a z) (sym e) r
+pub moved : {ex : Bool} {rx tx l : ℕ} {p : Pipe} {a : Awaited} {u : Bool} {x y : View} → y ≡ x → (ex ≡ true) ⊎ Rel rx tx l p a u x → (ex ≡ true) ⊎ Rel rx tx l p a u y
+moved {ex = ex} {rx = rx} {tx = tx} {l = l} {p = p} {a = a} {u = u} e r = subst (λ z. (ex ≡ true) ⊎ Rel rx tx l p a u z) (sym e) r
 
 -- ---- data_out
 
@@ -186,5 +186,5 @@ pub law-setup : Law (other BeginSetup)
 law-setup w s (inl e) z = exempt-law (other BeginSetup) tt w s e
 law-setup w s (inr r) z =
     watch-cond (eqb (s .0 .globals .stage) 2)
-    (λ _. at-end (moved (noted-view (requestOf SETUP 0) s) (inr (record { stage = r .stage; out = r .out; inn = r .inn; waits = no-request (λ q. absurd (omega (arith, q))) (λ q. absurd (omega (arith, q))) (λ q. absurd (omega (arith, q))) })), tt))
+    (λ _. at-end (moved (noted-view (requestOf SETUP 0) s) (inr (record { stage = r .stage; out = r .out; inn = r .inn; size = r .size; setup = r .setup; waits = no-request (λ q. absurd (omega (arith, q))) (λ q. absurd (omega (arith, q))) (λ q. absurd (omega (arith, q))) })), tt))
     (λ _. at-end (inr r, tt))

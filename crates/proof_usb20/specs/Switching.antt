@@ -26,7 +26,7 @@ use Rattle.proof_usb20.specs.Log.{Log, off, saw}
 use Rattle.proof_usb20.specs.Watch.{Watch, at-end}
 use Rattle.proof_usb20.specs.Ep0.{view, recOf, Keeps, Law}
 use Rattle.proof_usb20.specs.Views.{made, ep-other}
-use Rattle.proof_usb20.specs.Quiet.{Plainly, Plain0, steadily, Stays, Any, Quiet, asked, onward, apart, q-ret, q-bind, q-test, q-if, q-write, q-act, q-hand, q-put, q-modify, Other, put-kept, other-word}
+use Rattle.proof_usb20.specs.Quiet.{Plainly, Plain0, steadily, Stays, Any, Quiet, asked, onward, apart, q-ret, q-bind, q-test, q-if, q-write, q-act, q-hand, q-put, q-modify, Other, put-kept, other-word, other-length}
 use Rattle.proof_usb20.specs.Parts.{q-got, q-wake, q-ep}
 use Rattle.proof_usb20.specs.Tasks.{Numbered, quiet-law, q-staged, q-named, q-resultless, put-paced}
 
@@ -85,7 +85,7 @@ q-kept d e iso on = q-bind (q-types _) (λ _. q-bind (q-act refl q-ret) (λ _. q
 q-enabling : (d : Dir) (e : ℕ) (on : Bool) → Numbered e → Quiet (bus.setEnabled d e on)
 q-enabling Out e on m = q-bind (q-got (ep-cell Out e)) (λ s. q-bind (q-test (q-row e on m)
     (q-bind (q-act refl q-ret) (λ _. q-bind (q-ep Out e (λ p. withArmed (flag on) (renewed p)) (m .apart)) (λ _. q-bind (q-hand q-ret) (λ _. q-bind (q-write (other-word Out e _ (m .zero-not)) q-ret) (λ _. q-kept Out e false on)))))) (λ _. q-wake Out e))
-q-enabling In e on m = q-bind (q-got (ep-cell In e)) (λ s. q-bind (q-bind (q-act refl q-ret) (λ _. q-bind (q-ep In e renewed (m .apart)) (λ _. q-bind (q-put (put-paced e NO_FRAME) q-ret) (λ _. q-bind (q-hand q-ret) (λ _. q-bind (q-write (λ _. refl) q-ret) (λ _. q-bind (q-write (other-word In e _ (m .zero-not)) q-ret) (λ _. q-kept In e (isOn (s .iso)) on))))))) (λ _. q-wake In e))
+q-enabling In e on m = q-bind (q-got (ep-cell In e)) (λ s. q-bind (q-bind (q-act refl q-ret) (λ _. q-bind (q-ep In e renewed (m .apart)) (λ _. q-bind (q-put (put-paced e NO_FRAME) q-ret) (λ _. q-bind (q-hand q-ret) (λ _. q-bind (q-write (other-length e 0 (m .zero-not)) q-ret) (λ _. q-bind (q-write (other-word In e _ (m .zero-not)) q-ret) (λ _. q-kept In e (isOn (s .iso)) on))))))) (λ _. q-wake In e))
 
 pub law-set-enabled : (d : Dir) (e : ℕ) (on : Bool) → Law (slotted (SetEnabled d e on))
 law-set-enabled d e on = quiet-law (slotted (SetEnabled d e on)) tt refl (λ _ _. refl) (q-staged 2 (q-named d e (λ m. q-resultless (q-enabling d e on m))))

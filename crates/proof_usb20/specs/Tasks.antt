@@ -36,6 +36,7 @@ use Rattle.script.specs.Driver.{openPacket, closePacket, queuePacket}
 use Rattle.script.specs.Calls.{Op, interrupt, slotted, other, aside, Slotted, SetEnabled, PollRead, BeginWrite, PollWrite, Other, Allocate, AllocateAll, Start, BusPoll, BusEnable, BusDisable, Microframe, SetStalled, IsStalled, SetPaced, Advance, BeginRead, Aside, Open, Close, Queue, asideCode, code}
 use Rattle.ops.specs.Rings.{St}
 use Rattle.ops.specs.Conc.{conc}
+use Rattle.proof_usb20.specs.Log as log
 use Rattle.proof_usb20.specs.Log.{Log, before, off, exempted, withPhase, opens, ends, closes, Poll, none, pollOf, settled, FairPoll, Allowed, AllowedTo, Fair}
 use Rattle.proof_usb20.specs.Watch.{Watch, at-end, at-ask, watch-bind, watch-more, watch-cond, watch-any}
 use Rattle.proof_usb20.specs.Ep0.{View, view, R, Rel, Keeps, Ends, Law}
@@ -43,7 +44,7 @@ use Rattle.proof_usb20.specs.Exempt.{differ, Task, exempt-law}
 use Rattle.proof_usb20.specs.Same.{act-view}
 use Rattle.proof_usb20.specs.Fitting.{both}
 use Rattle.proof_usb20.specs.Quiet as quiet
-use Rattle.proof_usb20.specs.Quiet.{Plainly, plainly, steadily, Any, Quiet, Stays, q-ret, q-bind, q-test, q-if, q-read, q-write, q-get, q-is, q-look, q-fetch, q-act, q-hand, q-put, q-modify, put-other, put-kept, other-word}
+use Rattle.proof_usb20.specs.Quiet.{Plainly, plainly, steadily, Any, Quiet, Stays, q-ret, q-bind, q-test, q-if, q-read, q-write, q-get, q-is, q-look, q-fetch, q-act, q-hand, q-put, q-modify, put-other, put-kept, other-word, other-length}
 use Rattle.proof_usb20.specs.Parts.{q-got, q-wake, q-when, q-reg, q-ep, q-globals, q-complete}
 
 -- ---- a quiet call
@@ -60,7 +61,7 @@ closed : (o : Op) → pollOf o ≡ none → ((n : ℕ) (x : Log) → ends o n x 
 closed o p e (Refused n) x = ap (λ (q : Poll). cond (eqb n 9 || eqb n 10) (settled q x) x) p ∙ same-log (eqb n 9 || eqb n 10) x
 closed o p e (End n ws) x = e n x
 closed o p e NotYet x = refl
-closed o p e (Done bytes) x = ap (λ (q : Poll). settled q x) p
+closed o p e (Done bytes) x = ap (λ (q : Poll). log.done q x) p
 closed o p e (Shown bytes stamp) x = refl
 
 opened : (o : Op) → Task o → (w : Log) → opens o w ≡ withPhase off w
@@ -138,7 +139,7 @@ law-poll-read e n = quiet-law (slotted (PollRead e n)) tt refl (λ _ _. refl) (q
 
 pub law-begin-write : (e : ℕ) (bytes : List ℕ) → Law (slotted (BeginWrite e bytes))
 law-begin-write e bytes = quiet-law (slotted (BeginWrite e bytes)) tt refl (λ _ _. refl) (q-staged 2 (q-named In e (λ m. q-enabled In e q-ret (q-bind (q-got (ep-cell In e)) (λ s. q-unless _ 10
-    (q-bind (q-put (put-request In e (begun (length bytes))) q-ret) (λ _. q-resultless (q-test q-ret (q-bind (q-act refl q-ret) (λ _. q-bind (q-ep In e (λ s. withArmed 1 (withReady 0 s)) (m .apart)) (λ _. q-bind (q-write (λ _. refl) q-ret) (λ _. q-reg In e _ (m .zero-not)))))))))))))
+    (q-bind (q-put (put-request In e (begun (length bytes))) q-ret) (λ _. q-resultless (q-test q-ret (q-bind (q-act refl q-ret) (λ _. q-bind (q-ep In e (λ s. withArmed 1 (withReady 0 s)) (m .apart)) (λ _. q-bind (q-write (other-length e _ (m .zero-not)) q-ret) (λ _. q-reg In e _ (m .zero-not)))))))))))))
 
 pub law-poll-write : (e : ℕ) (bytes : List ℕ) → Law (slotted (PollWrite e bytes))
 law-poll-write e bytes = quiet-law (slotted (PollWrite e bytes)) tt refl (λ _ _. refl) (q-staged 2 (q-named In e (λ m. q-polled In e (length bytes) m (λ s. q-test
@@ -187,15 +188,15 @@ q-paced e on = record {
 pub law-set-paced : (e : ℕ) (on : Bool) → Law (other (SetPaced e on))
 law-set-paced e on = quiet-law (other (SetPaced e on)) tt refl (λ _ _. refl) (q-staged 2 (q-test (q-bind (q-paced e on) (λ _. q-ret)) q-ret))
 
-q-completions : {i : Bool} (n e : ℕ) → Quiet (isoInCompletions {i = i} n e)
+q-completions : {i : Bool} (n e : ℕ) → eqb e 0 ≡ false → Quiet (isoInCompletions {i = i} n e)
 unfolding isoInCompletions
-q-completions zero e = q-ret
-q-completions (suc n) e = q-bind (q-complete e) (λ _. q-completions n e)
+q-completions zero e h = q-ret
+q-completions (suc n) e h = q-bind (q-complete e h) (λ _. q-completions n e h)
 
 pub law-advance : (e : ℕ) → Law (other (Advance e))
-law-advance e = quiet-law (other (Advance e)) tt refl (λ _ _. refl) (q-staged 2 (q-test (q-resultless (q-bind (q-got globals-cell) (λ g. q-when (q-test
-    (q-bind (q-read (λ _. q-ret)) (λ frame. q-bind (q-got (paced-cell e)) (λ last. q-bind (q-completions (completions last (indexOf frame)) e) (λ _. q-put (put-paced e (frameOf (indexOf frame))) q-ret))))
-    (q-put (put-paced e NO_FRAME) q-ret))))) q-ret))
+law-advance e = quiet-law (other (Advance e)) tt refl (λ _ _. refl) (q-staged 2 (q-if (isNumber e) (λ h. q-resultless (q-bind (q-got globals-cell) (λ g. q-when (q-test
+    (q-bind (q-read (λ _. q-ret)) (λ frame. q-bind (q-got (paced-cell e)) (λ last. q-bind (q-completions (completions last (indexOf frame)) e (numbered e h .zero-not)) (λ _. q-put (put-paced e (frameOf (indexOf frame))) q-ret))))
+    (q-put (put-paced e NO_FRAME) q-ret))))) (λ _. q-ret)))
 
 -- ---- those that pass during an interrupt
 
@@ -220,7 +221,7 @@ any-end w o = watch-any (λ _. Unit {0}) (λ _ _. tt) (λ _ _ _ _. tt) (λ _ _ _
 
 q-stalled : {i : Bool} (d : Dir) (e : ℕ) (on : Bool) → Numbered e → Quiet (bus.setStalled {i = i} d e on)
 q-stalled Out e true m = q-bind (q-reg Out e _ (m .zero-not)) (λ _. q-wake Out e)
-q-stalled In e true m = q-bind (q-write (λ _. refl) q-ret) (λ _. q-bind (q-reg In e _ (m .zero-not)) (λ _. q-wake In e))
+q-stalled In e true m = q-bind (q-write (other-length e 0 (m .zero-not)) q-ret) (λ _. q-bind (q-reg In e _ (m .zero-not)) (λ _. q-wake In e))
 q-stalled Out e false m = q-bind (q-got (ep-cell Out e)) (λ s. q-bind (q-put (put-other Out e (m .apart) (withTog 0 s)) q-ret) (λ _. q-bind (q-write (other-word Out e _ (m .zero-not)) q-ret) (λ _. q-wake Out e)))
 q-stalled In e false m = q-bind (q-got (ep-cell In e)) (λ s. q-bind (q-put (put-other In e (m .apart) (withTog 0 s)) q-ret) (λ _. q-bind (q-write (other-word In e _ (m .zero-not)) q-ret) (λ _. q-bind (q-when (q-ep In e _ (m .apart))) (λ _. q-wake In e))))
 

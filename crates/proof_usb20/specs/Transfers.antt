@@ -13,22 +13,23 @@ abbrev pub stage : (Bool → Choice) → Dir → Pipe → ℕ → Pipe
 stage c d p zero = chosen (c true) (after setup p)
 stage c d p (suc k) = chosen (c false) (after (packet d) (stage c d p k))
 
-abbrev reads : Bool → Choice
-reads first = gives first false
+-- a control read's packets, of n bytes each
+abbrev reads : ℕ → Bool → Choice
+reads n first = gives n first false
 
-module _ (p : Pipe) where
+module _ (p : Pipe) (n : ℕ) where
   -- a control read: packet k has DATA1, DATA0, ..; the other direction answers NAK
-  pub read-pid : (k : ℕ) → stage reads In p k .inn .bit ≡ dataPid k
+  pub read-pid : (k : ℕ) → stage (reads n) In p k .inn .bit ≡ dataPid k
   read-pid zero = refl
   read-pid (suc k) = ap other (read-pid k)
 
-  pub read-ready : (k : ℕ) → (stage reads In p k .inn .answers ≡ acks data-stage) × (stage reads In p k .out .answers ≡ naks)
+  pub read-ready : (k : ℕ) → (stage (reads n) In p k .inn .answers ≡ acks data-stage) × (stage (reads n) In p k .out .answers ≡ naks)
   read-ready zero = (refl, refl)
   read-ready (suc k) = (refl, read-ready k .1)
 
   -- its last packet: the status stage OUT is ready with it, DATA1; the transfer is over after both
   abbrev last : ℕ → Pipe
-  last k = chosen (gives false true) (after (packet In) (stage reads In p k))
+  last k = chosen (gives n false true) (after (packet In) (stage (reads n) In p k))
 
   pub read-status : (k : ℕ) → (last k .out .answers ≡ acks status-stage) × (last k .out .bit ≡ statusPid) × (last k .inn .bit ≡ dataPid (suc k))
   read-status k = (refl, refl, ap other (read-pid k))
@@ -56,7 +57,7 @@ module _ (p : Pipe) where
   none-status = (refl, refl)
 
   -- all in order and possible: nothing of it is exempt
-  pub read-orderly : (k : ℕ) → (orderly (gives true false) (after setup p) ≡ true) × (possible (packet In) (stage reads In p k) ≡ true) × (orderly (gives false false) (after (packet In) (stage reads In p k)) ≡ true)
+  pub read-orderly : (k : ℕ) → (orderly (gives n true false) (after setup p) ≡ true) × (possible (packet In) (stage (reads n) In p k) ≡ true) × (orderly (gives n false false) (after (packet In) (stage (reads n) In p k)) ≡ true)
   read-orderly zero = (refl, refl, refl)
   read-orderly (suc k) = (refl, refl, refl)
 
