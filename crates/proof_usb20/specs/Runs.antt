@@ -8,6 +8,9 @@ use Rattle.regs.specs.declared.Access.{Access}
 use Rattle.state.specs.Driver.{Driver}
 use Rattle.script.specs.Tree as tree
 use Rattle.script.specs.Script.{run}
+use Rattle.script.specs.Every as ways
+use Rattle.script.specs.AddressWrites.{Writes}
+use Rattle.script.specs.AddressCalls.{Addresses, address-writes}
 use Rattle.script.specs.Answers.{Answer, Refused, End, NotYet, Done, Shown}
 use Rattle.script.specs.Calls.{Config, Op, interrupt, slotted, other, aside, Aside, asideCode, code, calls, startRow}
 use Rattle.script.specs.Machine as machine
@@ -83,9 +86,11 @@ noted (question q) b a still x = x
 
 -- ---- what is claimed of a call
 
+-- of an access: an address is written by an accept's poll alone, and that after the completion; by a bus reset, 0
+
 abbrev pub ClaimAt : Op → Ans Answer → Log → Type 0
 ClaimAt o (ended a) w = Fair o a w
-ClaimAt o (handed q) w = Allowed o w
+ClaimAt o (handed q) w = Allowed o w × Writes (Addresses o) q
 ClaimAt o (told n) w = Unit {0}
 
 abbrev pub ClaimGone : ℕ → Ans Answer → Bool → Log → Under → Type 0
@@ -145,9 +150,20 @@ All (e ∷ es) m x =
 
 -- ---- the proof, from the law of each call
 
+-- a chip that may bring anything
+abbrev anyChip : ways.Chip
+anyChip = record { Holds = Unit {0}; Brings = λ _ _ _. Unit {0}; after = λ _ _. tt }
+
 module _ (laws : (o : Op) → Law o) (aside-view : (o : Aside) (d : Driver) (b : Buf) (a : Answer) (t : St) → Sorting d → run conc (asideCode o) (d, b) ≡ tree.ends a t → view (t .0) ≡ view d) where
   abbrev Goes : Op → Access → Log → (ℕ → St → tree.Out St Answer) → Driver → Type 0
   Goes o q w k d = (v : ℕ) (t : St) → Brings w q v → (view (t .0) ≡ view d) × Sorting (t .0) → Watch Keeps (Allowed o) (Ends o) (saw w q v) (k v t)
+
+  -- each address that is left to be written is one that the call may write
+  abbrev Reach : Op → tree.Out St Answer → Type 0
+  Reach o out = ways.All anyChip (λ (s t : St). Unit {0}) (Writes (Addresses o)) tt out
+
+  reaches : (o : Op) (s : St) → Reach o (run conc (code o) s)
+  reaches o s = ways.only-run conc (code o) (address-writes o) tt s
 
   -- the state fits the log where nothing is under way; else what is left to run does
   abbrev J : Way Answer Driver → Driver → Log → Under → Type 0
@@ -155,7 +171,7 @@ module _ (laws : (o : Op) → Law o) (aside-view : (o : Aside) (d : Driver) (b :
   J idle d w (doing o q) = ⊥
   J idle d w starting = ⊥
   J (busy i a k) d w at-rest = ⊥
-  J (busy i a k) d w (doing o q) = Goes o q w k d
+  J (busy i a k) d w (doing o q) = Goes o q w k d × ((v : ℕ) (t : St) → Reach o (k v t))
   J (busy i a k) d w starting = w .exempt ≡ true
 
   stands : (w : Log) (x : View) → R w x → Armed w
@@ -180,13 +196,13 @@ module _ (laws : (o : Op) → Law o) (aside-view : (o : Aside) (d : Driver) (b :
   standing-of (busy i a k) d w starting j = tt
 
   -- an operation begins, or goes on: where it stops
-  begins : (o : Op) (i : Bool) (b : Buf) (w : Log) {out : tree.Out St Answer} → Watch Keeps (Allowed o) (Ends o) (opens o w) out → Step (begin o) b (haltsAs i out) (watched w at-rest)
-  begins o i b w (at-end {a = a} {s = s} p) = record { claim = p .1; standing = stands (closes o a (opens o w)) (view (s .0)) (p .0); next = p .0 }
-  begins o i b w (at-ask ok k) = record { claim = ok; standing = tt; next = λ v t r h. k v t r h }
+  begins : (o : Op) (i : Bool) (b : Buf) (w : Log) {out : tree.Out St Answer} → Watch Keeps (Allowed o) (Ends o) (opens o w) out → Reach o out → Step (begin o) b (haltsAs i out) (watched w at-rest)
+  begins o i b w (at-end {a = a} {s = s} p) m = record { claim = p .1; standing = stands (closes o a (opens o w)) (view (s .0)) (p .0); next = p .0 }
+  begins o i b w (at-ask ok k) (ways.at-ask a m) = record { claim = (ok, a); standing = tt; next = (λ v t r h. k v t r h, λ v t. m v t tt tt) }
 
-  goes : (o : Op) (i : Bool) (v : ℕ) (b : Buf) (w : Log) (q : Access) {out : tree.Out St Answer} → Watch Keeps (Allowed o) (Ends o) (saw w q v) out → Step (go v) b (haltsAs i out) (watched w (doing o q))
-  goes o i v b w q (at-end {a = a} {s = s} p) = record { claim = p .1; standing = stands (closes o a (saw w q v)) (view (s .0)) (p .0); next = p .0 }
-  goes o i v b w q (at-ask ok k) = record { claim = ok; standing = tt; next = λ v t r h. k v t r h }
+  goes : (o : Op) (i : Bool) (v : ℕ) (b : Buf) (w : Log) (q : Access) {out : tree.Out St Answer} → Watch Keeps (Allowed o) (Ends o) (saw w q v) out → Reach o out → Step (go v) b (haltsAs i out) (watched w (doing o q))
+  goes o i v b w q (at-end {a = a} {s = s} p) m = record { claim = p .1; standing = stands (closes o a (saw w q v)) (view (s .0)) (p .0); next = p .0 }
+  goes o i v b w q (at-ask ok k) (ways.at-ask a m) = record { claim = (ok, a); standing = tt; next = (λ v t r h. k v t r h, λ v t. m v t tt tt) }
 
   -- a start-up's own script
   starts : (i : Bool) (v : ℕ) (b : Buf) (w : Log) → w .exempt ≡ true → (out : tree.Out St Answer) → Step (go v) b (haltsAs i out) (watched w starting)
@@ -206,7 +222,7 @@ module _ (laws : (o : Op) → Law o) (aside-view : (o : Aside) (d : Driver) (b :
   still-goes o q w k d d′ e g v t r h = g v t r (h .0 ∙ e, h .1)
 
   still-J : (i : Bool) (a : Awaits) (k : ℕ → St → tree.Out St Answer) (d d′ : Driver) (w : Log) (u : Under) → view d′ ≡ view d → J (busy i a k) d w u → J (busy i a k) d′ w u
-  still-J i a k d d′ w (doing o q) e j = still-goes o q w k d d′ e j
+  still-J i a k d d′ w (doing o q) e j = (still-goes o q w k d d′ e (j .0), j .1)
   still-J i a k d d′ w starting e j = j
 
   unclaimed : (o : Op) (a : Ans Answer) (w : Log) (u : Under) (i : Bool) (y : Awaits) (k : ℕ → St → tree.Out St Answer) (d : Driver) → J (busy i y k) d w u → ClaimBegun o a w u
@@ -256,7 +272,7 @@ module _ (laws : (o : Op) → Law o) (aside-view : (o : Aside) (d : Driver) (b :
       reopened (slotted o) w v r = r
       reopened (other o) w v r = r
       reopened (aside o) w v r = r
-  afresh o b false d l w r z = begins o (calls .irq o) b w (laws o w (d, b) r z)
+  afresh o b false d l w r z = begins o (calls .irq o) b w (laws o w (d, b) r z) (reaches o (d, b))
 
   -- row 1 of a call in the midst of an operation
   row-1 : (o : Op) (b : Buf) (g : Bool) (i : Bool) (y : Awaits) (k : ℕ → St → tree.Out St Answer) (d : Driver) (l : Buf) (x : Watched) → Sorting d → J (busy i y k) d (x .log) (x .under)
@@ -277,7 +293,7 @@ module _ (laws : (o : Op) → Law o) (aside-view : (o : Aside) (d : Driver) (b :
 
   proceeds : (v : ℕ) (b : Buf) (i : Bool) (y : Awaits) (k : ℕ → St → tree.Out St Answer) (d : Driver) (w : Log) (u : Under) → J (busy i y k) d w u → Sorting d
       → ReadAt v (haltsAs i (k v (d, b)) .0) (serves (haltsAs i (k v (d, b)) .1 .way)) w u → Step (go v) b (haltsAs i (k v (d, b))) (watched w u)
-  proceeds v b i y k d w (doing o q) j z r = goes o i v b w q (j v (d, b) (brought v i w o q (k v (d, b)) r) (refl, z))
+  proceeds v b i y k d w (doing o q) j z r = goes o i v b w q (j .0 v (d, b) (brought v i w o q (k v (d, b)) r) (refl, z)) (j .1 v (d, b))
   proceeds v b i y k d w starting j z r = starts i v b w j (k v (d, b))
 
   row-16 : (v : ℕ) (b : Buf) (g : Bool) (i : Bool) (y : Awaits) (k : ℕ → St → tree.Out St Answer) (d : Driver) (w : Log) (u : Under) → J (busy i y k) d w u → Sorting d
