@@ -26,8 +26,8 @@ use Rattle.script.specs.Handler.{looks, nakNonIso, outNaks, inNaks, retake, ret
 use Rattle.ops.specs.Rings.{St}
 use Rattle.ops.specs.Conc.{conc}
 use Rattle.proof_usb20.specs.Log.{Log, Phase, off, shows, again, writes, saw, withRx, withTx, withPhase}
-use Rattle.proof_usb20.specs.Watch.{Watch, at-end, at-ask, watch-bind, watch-more, watch-cond}
-use Rattle.proof_usb20.specs.Ep0.{View, view, Keeps}
+use Rattle.proof_usb20.specs.Watch.{at-end, at-ask, watch-bind, watch-more, watch-cond}
+use Rattle.proof_usb20.specs.Ep0.{Watch, View, view, Keeps}
 use Rattle.proof_usb20.specs.Exempt.{differ}
 use Rattle.proof_usb20.specs.Fitting.{both, negated}
 use Rattle.proof_usb20.specs.Quiet.{Plainly, plainly, Any, other-word}

@@ -13,14 +13,15 @@ use Rattle.script.specs.Answers.{Answer}
 use Rattle.script.specs.Calls.{Op, code}
 use Rattle.script.specs.Control.{DATA-OUT, DATA-IN, ACCEPT}
 use Rattle.script.specs.Script.{run}
+use Rattle.script.specs.Tree as tree
 use Rattle.script.specs.Statics.{isOn}
 use Rattle.script.specs.TogglesLaws.{number}
 use Rattle.ops.specs.Rings.{St}
 use Rattle.ops.specs.Conc.{conc}
 use Rattle.book.specs.Sorting.{Sorting}
 use Rattle.proof_usb20.specs.Pipe.{Half, Pipe, Answers, dataReady, isReady, Awaited, nothing, taken, given, confirmed}
-use Rattle.proof_usb20.specs.Log.{Log, Shows, opens, closes, Fair, Allowed}
-use Rattle.proof_usb20.specs.Watch.{Watch}
+use Rattle.proof_usb20.specs.Log.{Log, Shows, saw, Brings, opens, closes, Fair, Allowed}
+use Rattle.proof_usb20.specs.Watch.{Along}
 
 pub record Rec : Type 0 where
   pub ready : ℕ
@@ -77,9 +78,13 @@ R w x = (w .exempt ≡ true) ⊎ Rel (w .rx) (w .tx) (w .len) (w .pipe) (w .awai
 
 -- ---- the law of a call
 
+-- every way through an outcome, as the log sees it
+abbrev pub Watch : (St → St → Type 0) → (Log → Type 0) → {A : Type 0} → (Log → A → St → Type 0) → Log → tree.Out St A → Type 0
+Watch K Ok P w o = Along saw Brings K Ok P w o
+
 -- between two accesses: calls that pass during an interrupt, and stores in the slots
 abbrev pub Keeps : St → St → Type 0
-Keeps s t = (view (t .0) ≡ view (s .0)) × Sorting (t .0)
+Keeps s t = (view (t .0) ≡ view (s .0)) × Sorting (t .0) × (t .0 .wakes ≡ s .0 .wakes)
 
 abbrev pub Ends : Op → Log → Answer → St → Type 0
 Ends o w a s = R (closes o a w) (view (s .0)) × Fair o a w

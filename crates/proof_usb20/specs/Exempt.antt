@@ -24,8 +24,8 @@ use Rattle.ops.specs.Rings.{St}
 use Rattle.ops.specs.Conc.{conc}
 use Rattle.proof_usb20.specs.Pipe.{Event, packet, token}
 use Rattle.proof_usb20.specs.Log.{Phase, off, entered, flagged, again, timed, shows, Log, withRx, withTx, withPhase, withFlags, happens, ofToken, seen, reads, writes, saw, Brings, opens, endsOther, endsSlotted, ends, Poll, none, pollSetup, pollOut, pollIn, pollStatus, pollOf, settled, done, closes, Unfinished, Completes, GivesSetup, FairPoll, Fair, AllowedTo, Allowed}
-use Rattle.proof_usb20.specs.Watch.{Watch, watch-any}
-use Rattle.proof_usb20.specs.Ep0.{View, view, R, Keeps, Ends, Law}
+use Rattle.proof_usb20.specs.Watch.{watch-any}
+use Rattle.proof_usb20.specs.Ep0.{Watch, View, view, R, Keeps, Ends, Law}
 
 pub differ : {A : Type 0} → false ≡ true → A
 differ h = absurd (subst (λ (b : Bool). cond b ⊥ (Unit {0})) h tt)

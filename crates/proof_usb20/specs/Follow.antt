@@ -46,7 +46,7 @@ module _ (D : Dir) (E : ℕ) where
 
   -- between two accesses: open, close and queue, and stores in the slots
   abbrev pub Keeps : St → St → Type 0
-  Keeps s t = (view (t .0) ≡ view (s .0)) × Sorting (t .0)
+  Keeps s t = (view (t .0) ≡ view (s .0)) × Sorting (t .0) × (t .0 .wakes ≡ s .0 .wakes)
 
   -- `P` at each end, of what the log is then
   pub data Follow {A : Type 0} (P : Track → A → St → Type 0) : Track → tree.Out St A → Type 0 where

@@ -37,8 +37,8 @@ use Rattle.book.specs.Sorts.{put-steady, act-steady}
 use Rattle.proof_usb20.specs.Pipe as pipe
 use Rattle.proof_usb20.specs.Pipe.{Pipe, isReady, dataReady, packet, Awaited}
 use Rattle.proof_usb20.specs.Log.{Log, off, shows, reads, writes, saw, withRx, withTx, withPhase, happens, ofToken}
-use Rattle.proof_usb20.specs.Watch.{Watch, at-end, at-ask, watch-bind, watch-more, watch-cond}
-use Rattle.proof_usb20.specs.Ep0.{Rec, View, view, Rel, R, Keeps}
+use Rattle.proof_usb20.specs.Watch.{at-end, at-ask, watch-bind, watch-more, watch-cond}
+use Rattle.proof_usb20.specs.Ep0.{Watch, Rec, View, view, Rel, R, Keeps}
 use Rattle.proof_usb20.specs.Exempt.{differ}
 use Rattle.proof_usb20.specs.Views.{setOut, setIn}
 use Rattle.proof_usb20.specs.Same.{act-view}

@@ -25,8 +25,8 @@ use Rattle.book.specs.Sorts.{Steady, put-steady}
 use Rattle.book.specs.Sorting.{Sorting}
 use Rattle.proof_usb20.specs.Pipe.{Half, Pipe, Awaited, nothing, taken, given, confirmed, over}
 use Rattle.proof_usb20.specs.Log.{Log, withAwaits, withPhase, off, opens, closes, Allowed, Fair, Complete}
-use Rattle.proof_usb20.specs.Watch.{Watch, at-end, at-ask, watch-cond}
-use Rattle.proof_usb20.specs.Ep0.{Rec, View, view, Fits, Rests, no-request, set-up, Gives, first-wait, second-wait, Waits, Rel, R, Keeps, Ends, Law}
+use Rattle.proof_usb20.specs.Watch.{at-end, at-ask, watch-cond}
+use Rattle.proof_usb20.specs.Ep0.{Watch, Rec, View, view, Fits, Rests, no-request, set-up, Gives, first-wait, second-wait, Waits, Rel, R, Keeps, Ends, Law}
 use Rattle.proof_usb20.specs.Exempt.{exempt-law, differ}
 use Rattle.proof_usb20.specs.Fitting as fitting
 use Rattle.proof_usb20.specs.Views.{rec, setOut, setIn, setControl, setReady, put-out, put-in, put-control, put-globals}

@@ -35,8 +35,8 @@ use Rattle.proof_usb20.specs.Exempt.{differ}
 use Rattle.proof_usb20.specs.Fitting.{negated}
 use Rattle.proof_usb20.specs.Walks.{Each, each-set}
 use Rattle.proof_usb20.specs.Log.{Log, off, reads, writes, saw}
-use Rattle.proof_usb20.specs.Watch.{Watch, at-end, at-ask, watch-bind, watch-more, watch-cond}
-use Rattle.proof_usb20.specs.Ep0.{View, view, recOf, Keeps}
+use Rattle.proof_usb20.specs.Watch.{at-end, at-ask, watch-bind, watch-more, watch-cond}
+use Rattle.proof_usb20.specs.Ep0.{Watch, View, view, recOf, Keeps}
 use Rattle.proof_usb20.specs.Same.{Same, same-view, record-same, act-view, hand-view}
 use Rattle.proof_usb20.specs.Views.{made, ep-other, put-globals}
 

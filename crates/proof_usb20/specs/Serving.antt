@@ -37,8 +37,8 @@ use Rattle.book.specs.Sorts.{put-steady, act-steady}
 use Rattle.proof_usb20.specs.Log.{Log, Phase, off, flagged, timed, shows, withRx, withTx, withPhase, withFlags, saw, seen, opens, closes, set-up}
 use Rattle.proof_usb20.specs.Pipe as pipe
 use Rattle.proof_usb20.specs.Log as log
-use Rattle.proof_usb20.specs.Watch.{Watch, at-end, at-ask, watch-bind, watch-more, watch-cond}
-use Rattle.proof_usb20.specs.Ep0.{View, view, Rel, R, Keeps, Ends, Law}
+use Rattle.proof_usb20.specs.Watch.{at-end, at-ask, watch-bind, watch-more, watch-cond}
+use Rattle.proof_usb20.specs.Ep0.{Watch, View, view, Rel, R, Keeps, Ends, Law}
 use Rattle.proof_usb20.specs.Exempt.{differ}
 use Rattle.proof_usb20.specs.Views.{setOut, setIn, setReady, put-globals}
 use Rattle.proof_usb20.specs.Same.{act-view}

@@ -26,8 +26,8 @@ use Rattle.book.specs.Sorts.{Steady, put-steady, act-steady}
 use Rattle.book.specs.Sorting.{Sorting}
 use Rattle.proof_usb20.specs.Pipe.{Pipe, Awaited, nothing, confirms}
 use Rattle.proof_usb20.specs.Log.{Log, withRx, withTx, withAwaits, withPhase, off, choose, opens, closes, Allowed}
-use Rattle.proof_usb20.specs.Watch.{Watch, at-end, at-ask, watch-cond}
-use Rattle.proof_usb20.specs.Ep0.{Rec, View, view, Rests, no-request, Rel, R, Keeps, Ends, Law}
+use Rattle.proof_usb20.specs.Watch.{at-end, at-ask, watch-cond}
+use Rattle.proof_usb20.specs.Ep0.{Watch, Rec, View, view, Rests, no-request, Rel, R, Keeps, Ends, Law}
 use Rattle.proof_usb20.specs.Exempt.{exempt-law}
 use Rattle.proof_usb20.specs.Views.{rec, setOut, setIn, setControl, put-out, put-in, put-control}
 use Rattle.proof_usb20.specs.Same.{act-view}

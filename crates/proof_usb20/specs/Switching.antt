@@ -23,8 +23,8 @@ use Rattle.ops.specs.Rings.{St, slotStep, armAt, renewedOn, typeStep, configSte
 use Rattle.ops.specs.Conc.{conc}
 use Rattle.book.specs.Sorts.{row-steady}
 use Rattle.proof_usb20.specs.Log.{Log, off, saw}
-use Rattle.proof_usb20.specs.Watch.{Watch, at-end}
-use Rattle.proof_usb20.specs.Ep0.{view, recOf, Keeps, Law}
+use Rattle.proof_usb20.specs.Watch.{at-end}
+use Rattle.proof_usb20.specs.Ep0.{Watch, view, recOf, Keeps, Law}
 use Rattle.proof_usb20.specs.Views.{made, ep-other}
 use Rattle.proof_usb20.specs.Quiet.{Plainly, Plain0, steadily, Stays, Any, Quiet, asked, onward, apart, q-ret, q-bind, q-test, q-if, q-write, q-act, q-hand, q-put, q-modify, Other, put-kept, other-word, other-length}
 use Rattle.proof_usb20.specs.Parts.{q-got, q-wake, q-ep}

@@ -38,8 +38,8 @@ use Rattle.ops.specs.Rings.{St}
 use Rattle.ops.specs.Conc.{conc}
 use Rattle.proof_usb20.specs.Log as log
 use Rattle.proof_usb20.specs.Log.{Log, before, off, exempted, withPhase, opens, ends, closes, Poll, none, pollOf, settled, FairPoll, Allowed, AllowedTo, Fair}
-use Rattle.proof_usb20.specs.Watch.{Watch, at-end, at-ask, watch-bind, watch-more, watch-cond, watch-any}
-use Rattle.proof_usb20.specs.Ep0.{View, view, R, Rel, Keeps, Ends, Law}
+use Rattle.proof_usb20.specs.Watch.{at-end, at-ask, watch-bind, watch-more, watch-cond, watch-any}
+use Rattle.proof_usb20.specs.Ep0.{Watch, View, view, R, Rel, Keeps, Ends, Law}
 use Rattle.proof_usb20.specs.Exempt.{differ, Task, exempt-law}
 use Rattle.proof_usb20.specs.Same.{act-view}
 use Rattle.proof_usb20.specs.Fitting.{both}
