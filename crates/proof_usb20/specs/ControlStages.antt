@@ -1,7 +1,7 @@
 -- Control stages equal USB 2.0's, over EVERY list of calls from an accepted start-up
 use mathlib.Core.Bool.{Bool, true, false}
 use mathlib.Core.Logic.{inl, inr}
-use mathlib.Core.List.{List}
+use mathlib.Core.List.{List, [], _∷_}
 use mathlib.Core.Path.{_≡_, refl, sym, _∙_}
 use Prim.Native.Nat.{ℕ, zero}
 use Rattle.state.specs.Driver.{Driver}
@@ -12,7 +12,7 @@ use Rattle.script.specs.AddressWrites.{Writes}
 use Rattle.script.specs.AddressCalls.{Addresses, address-writes}
 use Rattle.script.specs.Answers.{Answer, Refused}
 use Rattle.script.specs.Calls.{Config, calls, startRow, Op, interrupt, slotted, other, aside, Slotted, SetEnabled, PollRead, BeginWrite, PollWrite, PollDataOut, BeginDataIn, Other, Allocate, AllocateAll, Start, BusPoll, BusEnable, BusDisable, Microframe, SetStalled, IsStalled, SetPaced, Advance, BeginRead, BeginSetup, PollSetup, PollDataIn, BeginAccept, PollAccept, BeginReject, BeginDataOut, BeginAcceptSetAddress, Aside, asideCode, code}
-use Rattle.script.specs.Machine.{Buf, Event, Machine, started}
+use Rattle.script.specs.Machine.{Buf, Event, Machine, start, started}
 use Rattle.way.specs.Under.{driverOf}
 use Rattle.ops.specs.Rings.{St}
 use Rattle.ops.specs.Conc.{conc}
@@ -24,6 +24,9 @@ use Rattle.proof_usb20.specs.Watch.{at-end, at-ask, watch-more}
 use Rattle.proof_usb20.specs.Ep0.{View, view, R, Law}
 use Rattle.proof_usb20.specs.Runs.{Laws, Ups, from-start}
 use Rattle.proof_usb20.specs.Besides.{aside-wakes}
+use Rattle.book.specs.Code.{Made}
+use Rattle.book.specs.CodeReadings.{Steps}
+use Rattle.proof_usb20.specs.CodeRuns.{left, CodeReads, CodeMeaning, CodeAll, code-from-start}
 use Rattle.proof_usb20.specs.Stages.{law-data-out, law-data-in, law-accept, law-accept-address, law-reject, law-setup}
 use Rattle.proof_usb20.specs.Polls.{law-poll-setup, law-poll-data-out, law-poll-data-in, law-poll-accept}
 use Rattle.proof_usb20.specs.Serving.{law-interrupt}
@@ -111,3 +114,12 @@ pub control-stages : (c : Config) (b : Buf) → startRow c b ≡ zero → (es : 
     → let y = started calls driverOf (λ s. s) c zero m b in
     Reads control es (y .1) (startedBy control (y .0)) → All control es (y .1) (startedBy control (y .0))
 control-stages c b row es m r = from-start control laws c b row es m (λ _ _ _. tt) r
+
+-- of the Rattle code: any bytes, a start-up that rows 1 and 2 do not stop, and then any calls, each as its contract says
+pub code-control-stages : (c : Config) (b : Buf) → startRow c b ≡ zero → (xs : List ℕ) (a : Buf) (first : Made) → first .event ≡ record { call = start c; lent = b } → (ms : List Made)
+    → Steps xs a (first ∷ ms) → CodeReads control ms (startedBy control (first .answer)) → CodeAll control ms (startedBy control (first .answer))
+code-control-stages c b row xs a first e ms h r = code-from-start control laws c b row xs a first e ms h (meant ms (left first)) r
+  where
+    meant : (ms : List Made) (n : Machine Answer Driver) → CodeMeaning control n ms
+    meant [] n = tt
+    meant (m ∷ ms) n = (tt, meant ms (left m))

@@ -44,6 +44,9 @@ use Rattle.proof_usb20.specs.Runs.{Laws, Sees, Ups, Only, from-start}
 use Rattle.proof_usb20.specs.Follow as follow
 use Rattle.proof_usb20.specs.Follow.{seenOf, view, Follow}
 use Rattle.proof_usb20.specs.Besides.{aside-wakes}
+use Rattle.book.specs.Code.{Made}
+use Rattle.book.specs.CodeReadings.{Steps}
+use Rattle.proof_usb20.specs.CodeRuns.{left, CodeReads, CodeMeaning, CodeAll, code-from-start}
 use Rattle.proof_usb20.specs.Calm.{Off, Quiet, q-resultless, q-bind, q-ret, q-write, q-wait, q-reg, q-int-en}
 use Rattle.proof_usb20.specs.Reading.{law-begin-read, law-poll-read, law-poll-write, law-begin-write}
 use Rattle.proof_usb20.specs.Enabling.{law-set-enabled}
@@ -190,26 +193,30 @@ module _ (D : Dir) (E : ℕ) (z : (d : Dir) → Else D E d 0) where
   }
 
 -- nothing is asked of the chip
+read-at : (D : Dir) (E v : ℕ) (a : Ans Answer) (still : Bool) (w : Track) (u : Under) → ReadAt (toggles D E) v a still w u
+read-at D E v a still w at-rest = tt
+read-at D E v (ended a) true w (doing o q) = tt
+read-at D E v (ended a) false w (doing o q) = tt
+read-at D E v (handed p) still w (doing o q) = tt
+read-at D E v (told n) still w (doing o q) = tt
+read-at D E v (ended a) true w starting = tt
+read-at D E v (ended a) false w starting = tt
+read-at D E v (handed p) still w starting = tt
+read-at D E v (told n) still w starting = tt
+
+any-read : (D : Dir) (E : ℕ) (c : Call Config Op) (a : Ans Answer) (still : Bool) (x : Watched (toggles D E)) → Read (toggles D E) c a still x
+any-read D E (start c) a still x = tt
+any-read D E (begin o) a still x = tt
+any-read D E (go v) a still x = read-at D E v a still (x .log) (x .under)
+any-read D E (question q) a still x = tt
+
 reads-any : (D : Dir) (E : ℕ) (es : List (Event Config Op)) (m : Machine Answer Driver) (x : Watched (toggles D E)) → Reads (toggles D E) es m x
 reads-any D E [] m x = tt
-reads-any D E (e ∷ es) m x = (any-read (e .call) _ _, reads-any D E es _ _)
-  where
-    read-at : (v : ℕ) (a : Ans Answer) (still : Bool) (w : Track) (u : Under) → ReadAt (toggles D E) v a still w u
-    read-at v a still w at-rest = tt
-    read-at v (ended a) true w (doing o q) = tt
-    read-at v (ended a) false w (doing o q) = tt
-    read-at v (handed p) still w (doing o q) = tt
-    read-at v (told n) still w (doing o q) = tt
-    read-at v (ended a) true w starting = tt
-    read-at v (ended a) false w starting = tt
-    read-at v (handed p) still w starting = tt
-    read-at v (told n) still w starting = tt
+reads-any D E (e ∷ es) m x = (any-read D E (e .call) _ _ x, reads-any D E es _ _)
 
-    any-read : (c : Call Config Op) (a : Ans Answer) (still : Bool) → Read (toggles D E) c a still x
-    any-read (start c) a still = tt
-    any-read (begin o) a still = tt
-    any-read (go v) a still = read-at v a still (x .log) (x .under)
-    any-read (question q) a still = tt
+code-reads-any : (D : Dir) (E : ℕ) (ms : List Made) (x : Watched (toggles D E)) → CodeReads (toggles D E) ms x
+code-reads-any D E [] x = tt
+code-reads-any D E (m ∷ ms) x = (any-read D E (m .event .call) _ _ x, code-reads-any D E ms _)
 
 -- after each call: a poll of the endpoint is done exactly if a packet with another sequence bit was served since (or a cleared halt finished its write); an
 -- interrupt that ends with a token of the endpoint has read its control word; where nothing is under way, the record has the bit with the last new
@@ -218,6 +225,11 @@ pub data-toggles : (D : Dir) (E : ℕ) → (E % 16 ≡ 0 → ⊥) → (c : Confi
     → let y = started calls driverOf (λ s. s) c zero m b in
     Meaning (toggles D E) es (y .1) → All (toggles D E) es (y .1) (startedBy (toggles D E) (y .0))
 data-toggles D E h c b row es m p = from-start (toggles D E) (laws D E (not-ep0 D E h)) c b row es m p (reads-any D E es _ _)
+
+-- of the Rattle code: any bytes, a start-up that rows 1 and 2 do not stop, and then any calls, each as its contract says
+pub code-data-toggles : (D : Dir) (E : ℕ) → (E % 16 ≡ 0 → ⊥) → (c : Config) (b : Buf) → startRow c b ≡ zero → (xs : List ℕ) (a : Buf) (first : Made) → first .event ≡ record { call = start c; lent = b } → (ms : List Made)
+    → Steps xs a (first ∷ ms) → CodeMeaning (toggles D E) (left first) ms → CodeAll (toggles D E) ms (startedBy (toggles D E) (first .answer))
+code-data-toggles D E h c b row xs a first e ms s p = code-from-start (toggles D E) (laws D E (not-ep0 D E h)) c b row xs a first e ms s p (code-reads-any D E ms _)
 
 -- DECISIONS 94, of such an endpoint, where nothing is under way
 pub tog-is-bit : (w : Track) (x : Seen) → Fits w x → (x .tog ≡ 0) ⊎ (x .tog ≡ 1)
