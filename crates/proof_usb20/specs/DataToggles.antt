@@ -47,7 +47,7 @@ use Rattle.proof_usb20.specs.Besides.{aside-wakes}
 use Rattle.book.specs.Code.{Made}
 use Rattle.book.specs.CodeReadings.{Steps}
 use Rattle.proof_usb20.specs.CodeRuns.{left, CodeReads, CodeMeaning, CodeAll, code-from-start}
-use Rattle.proof_usb20.specs.Calm.{Off, Quiet, q-resultless, q-bind, q-ret, q-write, q-wait, q-reg, q-int-en}
+use Rattle.proof_usb20.specs.Calm.{Off, Quiet, loose, q-resultless, q-bind, q-ret, q-write, q-wait, q-reg, q-int-en}
 use Rattle.proof_usb20.specs.Reading.{law-begin-read, law-poll-read, law-poll-write, law-begin-write}
 use Rattle.proof_usb20.specs.Enabling.{law-set-enabled}
 use Rattle.proof_usb20.specs.Others.{law-bus-enable, law-bus-disable, law-microframe, law-is-stalled, law-set-paced, law-advance, law-aside, aside-view, law-setup, law-poll-setup, law-data-out, law-poll-data-out, law-data-in, law-poll-data-in, law-accept, law-accept-address, law-poll-accept, law-reject}
@@ -96,12 +96,6 @@ module _ (D : Dir) (E : ℕ) (z : (d : Dir) → Else D E d 0) where
   of-other (BeginDataOut n first) = law-data-out D E z n first
   of-other (BeginAcceptSetAddress a) = law-accept-address D E z a
 
-  law-of : (o : Op) → Law D E o
-  law-of interrupt = law-interrupt D E z
-  law-of (slotted o) = of-slotted o
-  law-of (other o) = of-other o
-  law-of (aside o) = law-aside D E o
-
   along : {A : Type 0} {P : Track → A → St → Type 0} {w : Track} {o : tree.Out St A} → Follow D E P w o → Sees (toggles D E) (λ _. Unit {0}) P w o
   along (follow.at-end p) = at-end p
   along (follow.at-ask k) = at-ask tt (λ v t _ h. along (k v t h))
@@ -110,11 +104,20 @@ module _ (D : Dir) (E : ℕ) (z : (d : Dir) → Else D E d 0) where
   ups (follow.at-end p) = at-end p
   ups (follow.at-ask k) = at-ask tt (λ v t _ h. ups (k v t h))
 
+  few : (o : Op) {w : Track} {out : tree.Out St Answer} → Follow D E (follow.Ends D E o) w out → Sees (toggles D E) (λ _. Unit {0}) (follow.EndsFew D E o) w out
+  few o x = watch-more (along x) (λ x a t p. (p .0, λ _. p .1))
+
+  law-of : (o : Op) (w : Track) (s : St) → Fits w (view D E (s .0)) → isOn (epOn (s .0) D E .iso) ≡ false → Sorting (s .0) → Sees (toggles D E) (λ _. Unit {0}) (follow.EndsFew D E o) (opens D E o w) (run conc (code o) s)
+  law-of interrupt w s r i k = along (law-interrupt D E z w s r i k)
+  law-of (slotted o) w s r i k = few (slotted o) (of-slotted o w s r i k)
+  law-of (other o) w s r i k = few (other o) (of-other o w s r i k)
+  law-of (aside o) w s r i k = few (aside o) (law-aside D E o w s r i k)
+
   any : (out : tree.Out St Answer) → Only (λ _. Unit {0}) out
   any (tree.ends a s) = ways.at-end tt
   any (tree.asks q s k) = ways.at-ask tt (λ v t _ _. any (k v t))
 
-  law-new : (c : Config) → Quiet D E (Off D E) (calls .starts c)
+  law-new : (c : Config) → Quiet D E false (Off D E) (calls .starts c)
   law-new c = q-resultless D E (q-bind D E (q-write D E (q-ret D E)) (λ _. q-bind D E (q-wait D E (q-ret D E)) (λ _. q-bind D E (q-reg D E Ctrl 0 _) (λ _. q-bind D E (q-write D E (q-ret D E)) (λ _. q-bind D E (q-write D E (q-ret D E)) (λ _. q-int-en D E _))))))
 
   -- start-up's own script
@@ -123,14 +126,14 @@ module _ (D : Dir) (E : ℕ) (z : (d : Dir) → Else D E d 0) where
   new-fits c = fresh-fits (key D E) (key-lt D E)
     where
       fresh-fits : (k : ℕ) → k < 32 → Fits before (seenOf (getD (replicate 32 newEp) k noEp) 1)
-      fresh-fits k l = subst (λ (r : EpState). Fits before (seenOf r 1)) (sym (getD-replicate 32 k newEp noEp l)) (record { tog = refl; ready = refl; len = refl; early = λ _. (refl, refl) })
+      fresh-fits k l = subst (λ (r : EpState). Fits before (seenOf r 1)) (sym (getD-replicate 32 k newEp noEp l)) (record { tog = refl; ready = refl; len = refl; armed = refl; early = λ _. (refl, refl, refl) })
 
   new-places : (c : Config) → length (driverOf .fresh c .eps) ≡ 32
   unfolding freshDriver
   new-places c = refl
 
   new : (c : Config) (b : Buf) → Follow D E (λ _ _ s. Fits before (view D E (s .0))) before (run conc (calls .starts c) (driverOf .fresh c, b))
-  new c b = follow.follow-more D E (law-new c .goes before (driverOf .fresh c, b) refl (new-places c)) (λ _ _ s m. subst (Fits before) (sym (m .1)) (new-fits c))
+  new c b = follow.follow-more D E (law-new c .goes before (driverOf .fresh c, b) (refl, λ _ _ _ _. refl) (loose D E (new-places c))) (λ _ _ s m. subst (Fits before) (sym (m .1)) (new-fits c))
 
   last : (b : Bool) (x y : Track) → cond (b && false) x y ≡ y
   last true x y = refl
@@ -138,9 +141,9 @@ module _ (D : Dir) (E : ℕ) (z : (d : Dir) → Else D E d 0) where
 
   unlent : (o : Op) (w : Track) (v : Seen) → Fits w v → Fits (log.closes D E o (Refused 1) (log.opens D E o w)) v
   unlent interrupt w v r = r
-  unlent (slotted (SetEnabled d e on)) w v r = rw (last (log.own D E d e) (log.renewed D E (log.withPhase log.off w)) (log.withPhase log.off w)) r
+  unlent (slotted (SetEnabled d e on)) w v r = rw (last (log.own D E d e) (log.renewed D E (log.armsAt D E d on) (log.withPhase log.off w)) (log.withPhase log.off w)) r
   unlent (slotted (PollRead e n)) w v r = rw (last (log.own D E Out e) (log.taken D E (log.withPhase log.off w)) (log.withPhase log.off w)) r
-  unlent (slotted (BeginWrite e bs)) w v r = rw (last (log.own D E In e) (log.taken D E (log.withPhase log.off w)) (log.withPhase log.off w)) r
+  unlent (slotted (BeginWrite e bs)) w v r = rw (last (log.own D E In e) (log.loaded D E (log.withPhase log.off w)) (log.withPhase log.off w)) r
   unlent (slotted (PollWrite e bs)) w v r = rw (last (log.own D E In e) (log.taken D E (log.withPhase log.off w)) (log.withPhase log.off w)) r
   unlent (slotted (PollDataOut n)) w v r = r
   unlent (slotted (BeginDataIn bs first final)) w v r = r
@@ -159,7 +162,7 @@ module _ (D : Dir) (E : ℕ) (z : (d : Dir) → Else D E d 0) where
       others (IsStalled d e) = r
       others (SetPaced e on) = r
       others (Advance e) = r
-      others (BeginRead e n) = r
+      others (BeginRead e n) = rw (last (log.own D E Out e) (log.awaits D E (log.withPhase log.off w)) (log.withPhase log.off w)) r
       others BeginSetup = r
       others PollSetup = r
       others PollDataIn = r
@@ -184,7 +187,7 @@ module _ (D : Dir) (E : ℕ) (z : (d : Dir) → Else D E d 0) where
   pub laws : Laws (toggles D E) Fits
   laws = record {
     stands = λ w x r. r;
-    call = λ o w s r i q. watch-more (along (law-of o w s r i q)) (λ x a t p. (p .0, λ _. p .1));
+    call = λ o w s r i q. law-of o w s r i q;
     asks = λ o s. any (run conc (code o) s);
     besides = λ o d b a t q h. (aside-view D E o d b a t q h, aside-wakes o d b a t h);
     new = λ c b. ups (new c b);

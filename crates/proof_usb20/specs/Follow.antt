@@ -1,6 +1,6 @@
 -- What the driver's state says of the endpoint, when that fits the log, and the law of a call
 use mathlib.Core.Bool.{Bool, true, false, cond}
-use mathlib.Core.Path.{_≡_, refl}
+use mathlib.Core.Path.{_≡_, refl, subst, sym}
 use Prim.Native.Nat.{ℕ}
 use lib.Dec.{eqb}
 use Rattle.regs.specs.declared.Access.{Access}
@@ -18,27 +18,31 @@ use Rattle.script.specs.Usb20Toggles.{Pid, initial}
 use Rattle.ops.specs.Rings.{St}
 use Rattle.ops.specs.Conc.{conc}
 use Rattle.book.specs.Sorting.{Sorting}
+use Rattle.script.specs.Machine.{ended}
+use Rattle.wake_ups.specs.Rooms.{Few}
 use Rattle.proof_usb20.specs.Sequence.{Track, saw, opens, closes, Fair}
 
 pub record Seen : Type 0 where
   pub ready : ℕ
   pub len : ℕ
+  pub armed : ℕ
   pub tog : ℕ
   pub iso : ℕ
   pub stage : ℕ
 
 abbrev pub seenOf : EpState → ℕ → Seen
-seenOf r n = record { ready = r .ready; len = r .len; tog = r .tog; iso = r .iso; stage = n }
+seenOf r n = record { ready = r .ready; len = r .len; armed = r .armed; tog = r .tog; iso = r .iso; stage = n }
 
 -- the record is as the log says; before EP0's start nothing has happened yet
-pub record FitsAs (b : Pid) (through : Bool) (n : ℕ) (x : Seen) : Type 0 where
+pub record FitsAs (b : Pid) (through : Bool) (n : ℕ) (a : Bool) (x : Seen) : Type 0 where
   pub tog : x .tog ≡ number b
   pub ready : isOn (x .ready) ≡ through
   pub len : x .len ≡ n
-  pub early : eqb (x .stage) 2 ≡ false → (b ≡ initial) × (through ≡ false)
+  pub armed : isOn (x .armed) ≡ a
+  pub early : eqb (x .stage) 2 ≡ false → (b ≡ initial) × (through ≡ false) × (a ≡ false)
 
 abbrev pub Fits : Track → Seen → Type 0
-Fits w x = FitsAs (w .bit) (w .through) (w .len) x
+Fits w x = FitsAs (w .bit) (w .through) (w .len) (w .armed) x
 
 module _ (D : Dir) (E : ℕ) where
   abbrev pub view : Driver → Seen
@@ -66,8 +70,16 @@ module _ (D : Dir) (E : ℕ) where
   follow-cond true x y = x refl
   follow-cond false x y = y refl
 
+  -- a log that is another's
+  pub follow-at : {A : Type 0} {P : Track → A → St → Type 0} {x y : Track} {o : tree.Out St A} → x ≡ y → Follow P y o → Follow P x o
+  follow-at {P = P} {o = o} h f = subst (λ (u : Track). Follow P u o) (sym h) f
+
   abbrev pub Ends : Op → Track → Answer → St → Type 0
   Ends o w a s = Fits (closes D E o a w) (view (s .0)) × Fair D E o a w
+
+  -- of an interrupt, whose wake-ups are fewer than the room for them
+  abbrev pub EndsFew : Op → Track → Answer → St → Type 0
+  EndsFew o w a s = Fits (closes D E o a w) (view (s .0)) × (Few (ended a) → Fair D E o a w)
 
   -- `iso`: the endpoint is not isochronous when the call begins
   abbrev pub Law : Op → Type 0

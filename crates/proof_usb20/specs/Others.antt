@@ -31,13 +31,14 @@ use Rattle.book.specs.Sorting.{Sorting}
 use Rattle.proof_usb20.specs.Sequence.{Track, before}
 use Rattle.proof_usb20.specs.Follow as follow
 use Rattle.proof_usb20.specs.Follow.{Seen, view, Follow, at-end, Law}
-use Rattle.proof_usb20.specs.Calm.{Off, Else, Quiet, only, off-idle, off-read, put-globals, put-control, put-paced, q-act, q-bind, q-completions, q-enabled, q-ep, q-fetch, q-got, q-is, q-look, q-operation, q-put, q-reg, q-resultless, q-ret, q-staged, q-test, q-when, q-write}
+use Rattle.proof_usb20.specs.Calm.{Off, Else, Quiet, loose, only, off-idle, off-read, put-globals, put-control, put-paced, q-act, q-bind, q-completions, q-enabled, q-ep, q-fetch, q-got, q-is, q-look, q-operation, q-put, q-reg, q-resultless, q-ret, q-staged, q-test, q-when, q-write}
+use Rattle.proof_usb20.specs.Exempt.{differ}
 use Rattle.proof_usb20.specs.Reading as reading
 use Rattle.proof_usb20.specs.Reading.{quiet-law}
 
 module _ (D : Dir) (E : ℕ) where
   abbrev Q : {i : Bool} {A : Type 0} → Script i A → Type 0
-  Q p = Quiet D E (Off D E) p
+  Q p = Quiet D E false (Off D E) p
 
   pub law-bus-enable : Law D E (other BusEnable)
   law-bus-enable = quiet-law D E (other BusEnable) refl (λ _ _. refl) (λ _ _. tt) ((q-staged D E) 2 ((q-resultless D E) ((q-bind D E) (off-read D E (λ _. (q-ret D E))) (λ v. (q-write D E) (q-ret D E)))))
@@ -56,7 +57,7 @@ module _ (D : Dir) (E : ℕ) where
 
   pub law-advance : (e : ℕ) → Law D E (other (Advance e))
   law-advance e = quiet-law D E (other (Advance e)) refl (λ _ _. refl) (λ _ _. tt) ((q-staged D E) 2 ((q-test D E) ((q-resultless D E) ((q-bind D E) ((q-got D E) globals-cell) (λ g. (q-when D E) ((q-test D E)
-      ((q-bind D E) (off-read D E (λ _. (q-ret D E))) (λ frame. (q-bind D E) ((q-got D E) (paced-cell e)) (λ last. (q-bind D E) (only D E (off-idle D E) ((q-completions D E) (completions last (indexOf frame)) e)) (λ _. (q-put D E) (put-paced D E e (frameOf (indexOf frame))) (q-ret D E)))))
+      ((q-bind D E) (off-read D E (λ _. (q-ret D E))) (λ frame. (q-bind D E) ((q-got D E) (paced-cell e)) (λ last. (q-bind D E) (only D E (off-idle D E) ((q-completions D E) (completions last (indexOf frame)) e (λ h. differ h))) (λ _. (q-put D E) (put-paced D E e (frameOf (indexOf frame))) (q-ret D E)))))
       ((q-put D E) (put-paced D E e NO_FRAME) (q-ret D E)))))) (q-ret D E)))
 
   -- ---- those that pass during an interrupt
@@ -73,7 +74,7 @@ module _ (D : Dir) (E : ℕ) where
   ended-view (at-end p) = p
 
   pub aside-view : (o : Aside) (d : Driver) (b : Buf) (a : Answer) (t : St) → Sorting d → run conc (asideCode o) (d, b) ≡ tree.ends a t → view D E (t .0) ≡ view D E d
-  aside-view o d b a t z h = ended-view (subst (Follow D E (λ _ _ t. view D E (t .0) ≡ view D E d) before) h (follow.follow-more D E (q-aside o .goes before (d, b) refl (z .places)) (λ _ _ _ m. m .1)))
+  aside-view o d b a t z h = ended-view (subst (Follow D E (λ _ _ t. view D E (t .0) ≡ view D E d) before) h (follow.follow-more D E (q-aside o .goes before (d, b) (refl, λ _ _ _ _. refl) (loose D E (z .places))) (λ _ _ _ m. m .1)))
 
   -- ---- EP0's
 

@@ -45,7 +45,7 @@ use Rattle.proof_usb20.specs.Sequence.{Track, off, withPhase, own}
 use Rattle.proof_usb20.specs.Follow as follow
 use Rattle.proof_usb20.specs.Follow.{Seen, FitsAs, Fits, view, Follow, at-end, at-ask, Ends, Law}
 use Rattle.proof_usb20.specs.Untouched.{act-view}
-use Rattle.proof_usb20.specs.Calm.{Whole, Off, Else, Quiet, put-other, put-globals, q-bind, q-ep, q-got, q-hand, q-operation, q-put, q-reg, q-resultless, q-ret, q-staged, q-test, q-wake, q-when, q-write}
+use Rattle.proof_usb20.specs.Calm.{Whole, Off, Else, Quiet, loose, put-other, put-globals, q-bind, q-ep, q-got, q-hand, q-operation, q-put, q-reg, q-resultless, q-ret, q-staged, q-test, q-wake, q-when, q-write}
 use Rattle.proof_usb20.specs.Reading as reading
 use Rattle.proof_usb20.specs.Reading.{quiet-law, Own, written, changed, fits-2, own-true, own-false, not-and, iso-own}
 use Rattle.proof_usb20.specs.Anew.{reset-fits, alloc-fits}
@@ -65,19 +65,19 @@ module _ (D : Dir) (E : ℕ) (w : Track) where
     where
       by : (a : alloc.Answer) (y : Driver) → Fits w (view D E y) → Fits w (view D E (startedWith maximum a y))
       by (variant.Refused n) y r = r
-      by (variant.Given e base slots) y r = record { tog = r .tog; ready = r .ready; len = r .len; early = λ h. differ (sym h) }
+      by (variant.Given e base slots) y r = record { tog = r .tog; ready = r .ready; len = r .len; armed = r .armed; early = λ h. differ (sym h) }
 
 module _ (D : Dir) (E : ℕ) where
   -- ---- halts
 
-  q-stalled : {i : Bool} (d : Dir) (e : ℕ) (on : Bool) → Else D E d e → Quiet D E (Off D E) (bus.setStalled {i = i} d e on)
+  q-stalled : {i : Bool} (d : Dir) (e : ℕ) (on : Bool) → Else D E d e → Quiet D E false (Off D E) (bus.setStalled {i = i} d e on)
   q-stalled Out e true m = (q-bind D E) ((q-reg D E) EpRxCtrl e _) (λ _. (q-wake D E) Out e)
   q-stalled In e true m = (q-bind D E) ((q-write D E) (q-ret D E)) (λ _. (q-bind D E) ((q-reg D E) EpTxCtrl e _) (λ _. (q-wake D E) In e))
   q-stalled Out e false m = (q-bind D E) ((q-got D E) (ep-cell Out e)) (λ s. (q-bind D E) ((q-put D E) (put-other D E Out e m (withTog 0 s)) (q-ret D E)) (λ _. (q-bind D E) ((q-write D E) (q-ret D E)) (λ _. (q-wake D E) Out e)))
   q-stalled In e false m = (q-bind D E) ((q-got D E) (ep-cell In e)) (λ s. (q-bind D E) ((q-put D E) (put-other D E In e m (withTog 0 s)) (q-ret D E)) (λ _. (q-bind D E) ((q-write D E) (q-ret D E)) (λ _. (q-bind D E) ((q-when D E) ((q-ep D E) In e _ m)) (λ _. (q-wake D E) In e))))
 
   -- a halt that is set changes no record
-  q-halted : {i : Bool} (d : Dir) (e : ℕ) → Quiet D E (Off D E) (bus.setStalled {i = i} d e true)
+  q-halted : {i : Bool} (d : Dir) (e : ℕ) → Quiet D E false (Off D E) (bus.setStalled {i = i} d e true)
   q-halted Out e = (q-bind D E) ((q-reg D E) EpRxCtrl e _) (λ _. (q-wake D E) Out e)
   q-halted In e = (q-bind D E) ((q-write D E) (q-ret D E)) (λ _. (q-bind D E) ((q-reg D E) EpTxCtrl e _) (λ _. (q-wake D E) In e))
 
@@ -95,23 +95,37 @@ module _ (D : Dir) (E : ℕ) where
       by In g = refl
       by Out g = absurd (key-apart E e (sym (subst (λ (d : Dir). key In e ≡ key d E) g o)))
 
+  stays-out : (e : ℕ) (b : Bool) → Own D E Out e → log.staysArmed D E D b ≡ b
+  stays-out e b o = by D refl
+    where
+      by : (d : Dir) → D ≡ d → log.staysArmed D E d b ≡ b
+      by Out g = refl
+      by In g = absurd (key-apart e E (subst (λ (d : Dir). key Out e ≡ key d E) g o))
+
+  ends-armed : (e : ℕ) (b : Bool) → Own D E In e → log.staysArmed D E D b ≡ false
+  ends-armed e b o = by D refl
+    where
+      by : (d : Dir) → D ≡ d → log.staysArmed D E d b ≡ false
+      by In g = refl
+      by Out g = absurd (key-apart E e (sym (subst (λ (d : Dir). key In e ≡ key d E) g o)))
+
   Clears : Track → {A : Type 0} → Track → A → St → Type 0
-  Clears w y _ t = (y ≡ withPhase off w) × FitsAs initial (log.finishes D E D (w .through)) (w .len) (view D E (t .0))
+  Clears w y _ t = (y ≡ withPhase off w) × FitsAs initial (log.finishes D E D (w .through)) (w .len) (log.staysArmed D E D (w .armed)) (view D E (t .0))
 
   clearing : (d : Dir) (e : ℕ) (w : Track) (s : St) → Own D E d e → Whole s → Fits w (view D E (s .0)) → eqb (s .0 .globals .stage) 2 ≡ true → isOn (epOn (s .0) D E .iso) ≡ false
       → Follow D E (Clears w) (withPhase off w) (run {i = false} conc (bus.setStalled d e false) s)
   unfolding Clears isOn
-  clearing Out e w s o k r two i = at-ask (λ _ u p. at-end (refl, subst (FitsAs initial (log.finishes D E D (w .through)) (w .len)) (sym (act-view D E (waken (wakeCode Out e ∷ [])) refl u ∙ (p .0 ∙ changed D E Out e (withTog 0) s o k))) (fits-2 D E two refl (r .ready ∙ sym (keeps-out e (w .through) o)) (r .len))))
+  clearing Out e w s o k r two i = at-ask (λ _ u p. at-end (refl, subst (FitsAs initial (log.finishes D E D (w .through)) (w .len) (log.staysArmed D E D (w .armed))) (sym (act-view D E (waken (wakeCode Out e ∷ [])) refl u ∙ (p .0 ∙ changed D E Out e (withTog 0) s o k))) (fits-2 D E two refl (r .ready ∙ sym (keeps-out e (w .through) o)) (r .len) (r .armed ∙ sym (stays-out e (w .armed) o)))))
   clearing In e w s o k r two i =
       let t = conc .put (ep-cell In e) (withTog 0 (conc .get (ep-cell In e) s)) s in
       let v = changed D E In e (withTog 0) s o k in
       at-ask (λ _ u p.
       let b = conc .put (ep-cell In e) (completed (conc .get (ep-cell In e) u)) u in
       let x : view D E (b .0) ≡ written D E (completed (plainOf (epOn (u .0) D E))) (view D E (u .0)) = changed D E In e completed u o (p .1 .places) in
-      let y : FitsAs initial (log.finishes D E D (w .through)) (w .len) (view D E (b .0)) = subst (FitsAs initial (log.finishes D E D (w .through)) (w .len)) (sym x)
-      (fits-2 D E (ap (λ (q : Seen). eqb (q .stage) 2) (p .0 ∙ v) ∙ two) (ap (λ (q : Seen). q .tog) (p .0 ∙ v)) (sym (ends-in e (w .through) o)) (ap (λ (q : Seen). q .len) (p .0 ∙ v) ∙ r .len)) in
+      let y : FitsAs initial (log.finishes D E D (w .through)) (w .len) (log.staysArmed D E D (w .armed)) (view D E (b .0)) = subst (FitsAs initial (log.finishes D E D (w .through)) (w .len) (log.staysArmed D E D (w .armed))) (sym x)
+      (fits-2 D E (ap (λ (q : Seen). eqb (q .stage) 2) (p .0 ∙ v) ∙ two) (ap (λ (q : Seen). q .tog) (p .0 ∙ v)) (sym (ends-in e (w .through) o)) (ap (λ (q : Seen). q .len) (p .0 ∙ v) ∙ r .len) (sym (ends-armed e (w .armed) o))) in
       follow.follow-bind D E {P = Clears w} {f = λ (_ : Unit {0}) (u : St). run {i = false} conc (wake In e) u} (follow.follow-cond D E (not (isOn (conc .get (ep-cell In e) s .iso))) (λ _. at-end (refl, y)) (λ q. iso-own D E In e s o i (turned (isOn (conc .get (ep-cell In e) s .iso)) q)))
-      (λ z _ a m. at-end {s = conc .act (waken (wakeCode In e ∷ [])) a} (m .0, subst (FitsAs initial (log.finishes D E D (w .through)) (w .len)) (sym (act-view D E (waken (wakeCode In e ∷ [])) refl a)) (m .1))))
+      (λ z _ a m. at-end {s = conc .act (waken (wakeCode In e ∷ [])) a} (m .0, subst (FitsAs initial (log.finishes D E D (w .through)) (w .len) (log.staysArmed D E D (w .armed))) (sym (act-view D E (waken (wakeCode In e ∷ [])) refl a)) (m .1))))
     where
       turned : (b : Bool) → not b ≡ false → b ≡ true
       turned true h = refl
@@ -147,14 +161,14 @@ module _ (D : Dir) (E : ℕ) where
 
   -- ---- a bus reset
 
-  q-naks : {i : Bool} (n e : ℕ) → Quiet D E (Off D E) (bus.nakAll {i = i} n e)
+  q-naks : {i : Bool} (n e : ℕ) → Quiet D E false (Off D E) (bus.nakAll {i = i} n e)
   unfolding bus.nakAll
   q-naks zero e = (q-ret D E)
   q-naks (suc n) e = (q-bind D E) ((q-write D E) (q-ret D E)) (λ _. (q-bind D E) ((q-write D E) (q-ret D E)) (λ _. q-naks n (suc e)))
 
   -- the result 2 with DATA0 and nothing to be taken, or another with all as it was
   data Polls (w : Track) (y : Track) (n : ℕ) (t : St) : Type 0 where
-    reset : n ≡ 2 → y ≡ withPhase off w → FitsAs initial false (w .len) (view D E (t .0)) → Polls w y n t
+    reset : n ≡ 2 → y ≡ withPhase off w → FitsAs initial false (w .len) false (view D E (t .0)) → Polls w y n t
     kept : eqb n 2 ≡ false → y ≡ withPhase off w → Fits w (view D E (t .0)) → Polls w y n t
 
   types : (s : St) → view D E (conc .row bus-reset 2 s .1 .0) ≡ view D E (s .0)
@@ -166,20 +180,20 @@ module _ (D : Dir) (E : ℕ) where
   configs s = refl
 
   abbrev Restarted : Track → {A : Type 0} → Track → A → St → Type 0
-  Restarted w y _ t = (y ≡ withPhase off w) × FitsAs initial false (w .len) (view D E (t .0)) × Whole t
+  Restarted w y _ t = (y ≡ withPhase off w) × FitsAs initial false (w .len) false (view D E (t .0)) × Whole t
 
   rests : (w : Track) (s : St) → Whole s → Fits w (view D E (s .0)) → eqb (s .0 .globals .stage) 2 ≡ true → Follow D E (Restarted w) (withPhase off w) (rows conc bus-reset 3 (λ t. tree.ends (tt {0}) t) s)
   rests w s k r two = at-ask (λ _ b p. at-ask (λ _ c q. at-ask (λ _ e f.
       let v : view D E (e .0) ≡ view D E (s .0) = f .0 ∙ (q .0 ∙ (types b ∙ (p .0 ∙ configs s))) in
       let g = reset-fits D E w (e .0) (f .1 .places) (subst (Fits w) (sym v) r) (ap (λ (x : Seen). eqb (x .stage) 2) v ∙ two) in
-      at-ask (λ _ h l. at-end (refl, subst (FitsAs initial false (w .len)) (sym (l .0)) g, l .1 .places)))))
+      at-ask (λ _ h l. at-end (refl, subst (FitsAs initial false (w .len) false) (sym (l .0)) g, l .1 .places)))))
 
   resets : (w : Track) (s : St) → Whole s → Fits w (view D E (s .0)) → eqb (s .0 .globals .stage) 2 ≡ true → Follow D E (Restarted w) (withPhase off w) (run conc bus.busReset s)
-  resets w s k r two = at-ask (λ _ a1 p1. at-ask (λ _ a2 p2. at-ask (λ _ a3 p3. follow.follow-bind D E (q-naks 15 1 .goes (withPhase off w) a3 refl (p3 .1 .places)) (λ y _ a m.
+  resets w s k r two = at-ask (λ _ a1 p1. at-ask (λ _ a2 p2. at-ask (λ _ a3 p3. follow.follow-bind D E (q-naks 15 1 .goes (withPhase off w) a3 (refl, λ _ _ _ _. refl) (loose D E (p3 .1 .places))) (λ y _ a m.
       let v : view D E (a .0) ≡ view D E (s .0) = m .1 ∙ (p3 .0 ∙ (p2 .0 ∙ p1 .0)) in
       subst (λ (u : Track). Follow D E (Restarted w) u (run conc (bind (row bus-reset) (λ _. wakeAll)) a)) (sym (m .0))
-      (follow.follow-bind D E {f = λ (_ : Unit {0}) (u : St). run {i = false} conc wakeAll u} (rests w a (m .2) (subst (Fits w) (sym v) r) (ap (λ (x : Seen). eqb (x .stage) 2) v ∙ two))
-      (λ y _ t x. at-end {s = conc .act (waken every-endpoint) t} (x .0, subst (FitsAs initial false (w .len)) (sym (act-view D E (waken every-endpoint) refl t)) (x .1), act-steady (waken every-endpoint) refl t .places ∙ x .2)))))))
+      (follow.follow-bind D E {f = λ (_ : Unit {0}) (u : St). run {i = false} conc wakeAll u} (rests w a (m .2 .whole) (subst (Fits w) (sym v) r) (ap (λ (x : Seen). eqb (x .stage) 2) v ∙ two))
+      (λ y _ t x. at-end {s = conc .act (waken every-endpoint) t} (x .0, subst (FitsAs initial false (w .len) false) (sym (act-view D E (waken every-endpoint) refl t)) (x .1), act-steady (waken every-endpoint) refl t .places ∙ x .2)))))))
 
   pub law-bus-poll : Law D E (other BusPoll)
   law-bus-poll w s r i z = follow.follow-cond D E (eqb (s .0 .globals .stage) 2)
@@ -192,7 +206,7 @@ module _ (D : Dir) (E : ℕ) where
       follow.follow-cond D E (busRst f)
       (λ _. follow.follow-bind D E (resets w a (p .1 .places) (subst (Fits w) (sym v) r) (ap (λ (x : Seen). eqb (x .stage) 2) v ∙ two)) (λ y _ t m.
       let g = withIntEn (withBusRst (t .0 .globals .«int_en») true) (t .0 .globals) in
-      at-ask (λ _ u q. at-end (reset refl (m .0) (subst (FitsAs initial false (w .len)) (sym (q .0 ∙ put-globals D E g t)) (m .1))))))
+      follow.follow-at D E (m .0) (at-ask (λ _ u q. at-end (reset refl refl (subst (FitsAs initial false (w .len) false) (sym (q .0 ∙ put-globals D E g t)) (m .1)))))))
       (λ _. follow.follow-cond D E (suspend f)
       (λ _. at-ask (λ m b q. at-ask (λ _ c l. at-ask (λ _ u n. at-end (kept (not-2 (suspended m)) refl (subst (Fits w) (sym (n .0 ∙ (put-globals D E (withIntEn (withSuspend (c .0 .globals .«int_en») true) (c .0 .globals)) c ∙ (l .0 ∙ (q .0 ∙ v))))) r))))))
       (λ _. at-end (kept refl refl (subst (Fits w) (sym v) r))))))
@@ -204,7 +218,7 @@ module _ (D : Dir) (E : ℕ) where
       not-2 true = refl
       not-2 false = refl
 
-      after : (n : ℕ) (y : Track) (t : St) → Polls w y n t → Fits (cond (eqb n 2) (log.renewed D E y) y) (view D E (t .0))
+      after : (n : ℕ) (y : Track) (t : St) → Polls w y n t → Fits (cond (eqb n 2) (log.renewed D E false y) y) (view D E (t .0))
       after n y t (reset h e f) = rw (h, e) f
       after n y t (kept h e f) = rw (h, e) f
 
@@ -221,12 +235,12 @@ module _ (D : Dir) (E : ℕ) where
       early : (n : ℕ) → eqb n 1 ≡ true → eqb n 2 ≡ false
       early n h = ne-eqb n 2 (λ q. absurd (omega (arith, q, eqb-true n 1 h)))
 
-      q-new : {i : Bool} (e : ℕ) → Quiet D E (Off D E) (newEndpoint {i = i} d kind maximum e)
+      q-new : {i : Bool} (e : ℕ) → Quiet D E false (Off D E) (newEndpoint {i = i} d kind maximum e)
       q-new e = (q-bind D E) ((q-write D E) (q-ret D E)) (λ _. (q-bind D E) ((q-when D E) ((q-hand D E) (q-ret D E))) (λ _. (q-ret D E)))
 
       by : (a : alloc.Answer) (t : St) → Fits w (view D E (t .0)) → Whole t → Follow D E (Ends D E (other (Allocate d kind address maximum interval))) (withPhase off w) (run {i = false} conc (allocated-as d kind maximum a) t)
       by (variant.Refused n) t f l = at-end (f, tt)
-      by (variant.Given e base slots) t f l = follow.follow-more D E ((q-operation D E) (q-new {i = false} e) .goes (withPhase off w) t refl l) (λ y a u m. (rw (m .0) (subst (Fits w) (sym (m .1)) f), tt))
+      by (variant.Given e base slots) t f l = follow.follow-more D E ((q-operation D E) (q-new {i = false} e) .goes (withPhase off w) t (refl, λ _ _ _ _. refl) (loose D E l)) (λ y a u m. (rw (m .0) (subst (Fits w) (sym (m .1)) f), tt))
 
   each : (es : List Endpoint) (w : Track) (s : St) → Whole s → Fits w (view D E (s .0)) → eqb (s .0 .globals .stage) 2 ≡ false → Follow D E (λ y _ t. (y ≡ withPhase off w) × Fits w (view D E (t .0)) × Whole t) (withPhase off w) (run {i = false} conc (allocateEach es) s)
   unfolding allocateEach
@@ -235,22 +249,22 @@ module _ (D : Dir) (E : ℕ) where
       let f = alloc-fits D E w s (directionOf (e .address)) (e .kind) (e .address) (e .maximum) (e .interval) l r two in
       each es w (conc .act (allocate (directionOf (e .address)) (e .kind) (e .address) (e .maximum) (e .interval)) s) (f .1) (f .0) (ap (λ n. eqb n 2) (f .2) ∙ two)
 
-  q-announce : {i : Bool} (d : Dir) (e : ℕ) → Quiet D E (Off D E) (announce {i = i} d e)
+  q-announce : {i : Bool} (d : Dir) (e : ℕ) → Quiet D E false (Off D E) (announce {i = i} d e)
   q-announce d e = (q-bind D E) ((q-got D E) (ep-cell d e)) (λ s. (q-bind D E) ((q-write D E) (q-ret D E)) (λ _. (q-bind D E) ((q-when D E) ((q-hand D E) (q-ret D E))) (λ _. (q-ret D E))))
 
-  q-begins-at : {i : Bool} (d : Dir) (x n e : ℕ) → Quiet D E (Off D E) (beginsAt {i = i} d x n e)
+  q-begins-at : {i : Bool} (d : Dir) (x n e : ℕ) → Quiet D E false (Off D E) (beginsAt {i = i} d x n e)
   unfolding beginsAt
   q-begins-at d x zero e = (q-ret D E)
   q-begins-at d x (suc n) e = (q-bind D E) ((q-got D E) allocator-cell) (λ a. (q-bind D E) ((q-got D E) (ep-cell d e)) (λ s. (q-test D E) (q-ret D E) (q-begins-at d x n (suc e))))
 
-  q-after : {i : Bool} (n total : ℕ) (d : Dir) (e : ℕ) → Quiet D E (Off D E) (announceAfter {i = i} n total d e)
+  q-after : {i : Bool} (n total : ℕ) (d : Dir) (e : ℕ) → Quiet D E false (Off D E) (announceAfter {i = i} n total d e)
   unfolding announceAfter
   q-after zero total d e = (q-ret D E)
   q-after (suc n) total d e = (q-bind D E) ((q-bind D E) ((q-got D E) allocator-cell) (λ a. (q-bind D E) ((q-got D E) (ep-cell d e)) (λ s. (q-ret D E)))) (λ x. (q-bind D E) (q-begins-at Out x 15 1) (λ o. (q-test D E)
       ((q-bind D E) (q-begins-at In x 15 1) (λ m. (q-bind D E) (q-announce In m) (λ _. q-after n total In m)))
       ((q-bind D E) (q-announce Out o) (λ _. q-after n total Out o))))
 
-  q-announces : {i : Bool} (es : List Endpoint) → Quiet D E (Off D E) (announceAll {i = i} es)
+  q-announces : {i : Bool} (es : List Endpoint) → Quiet D E false (Off D E) (announceAll {i = i} es)
   q-announces [] = (q-ret D E)
   q-announces (e ∷ es) = (q-bind D E) (q-announce (directionOf (e .address)) (e .address % 128)) (λ _. q-after (length es) (suc (length es)) (directionOf (e .address)) (e .address % 128))
 
@@ -266,7 +280,7 @@ module _ (D : Dir) (E : ℕ) where
       by (listed.Refused n) two = at-end (r, tt)
       by listed.Listed two = follow.follow-cond D E (eqb (trialOf (s .0 .allocator) (listOf bytes) .refusal) 0)
           (λ _. follow.follow-bind D E (each (listOf bytes) w s (z .places) r two) (λ y _ t m. subst (λ (u : Track). Follow D E (Ends D E (other (AllocateAll bytes))) u (run {i = false} conc (operation (announceAll (listOf bytes))) t)) (sym (m .0))
-          (follow.follow-more D E ((q-operation D E) (q-announces (listOf bytes)) .goes (withPhase off w) t refl (m .2)) (λ x a u n. (rw (n .0) (subst (Fits w) (sym (n .1)) (m .1)), tt)))))
+          (follow.follow-more D E ((q-operation D E) (q-announces (listOf bytes)) .goes (withPhase off w) t (refl, λ _ _ _ _. refl) (loose D E (m .2))) (λ x a u n. (rw (n .0) (subst (Fits w) (sym (n .1)) (m .1)), tt)))))
           (λ _. at-end (r, tt))
 
   pub law-start : (maximum : ℕ) → Law D E (other (Start maximum))
@@ -274,9 +288,9 @@ module _ (D : Dir) (E : ℕ) where
       (λ _. by (allocateEp0Of (s .0 .allocator) maximum .answer) (conc .act (allocate0 maximum) s) (started D E w maximum (s .0) r) (started-places maximum (s .0) (z .places)))
       (λ _. at-end (r, tt))
     where
-      q-start : {i : Bool} → Quiet D E (Off D E) (startEp0 {i = i} maximum)
+      q-start : {i : Bool} → Quiet D E false (Off D E) (startEp0 {i = i} maximum)
       q-start = (q-bind D E) ((q-hand D E) (q-ret D E)) (λ _. (q-bind D E) ((q-write D E) (q-ret D E)) (λ _. (q-bind D E) ((q-write D E) (q-ret D E)) (λ _. (q-bind D E) ((q-write D E) (q-ret D E)) (λ _. (q-write D E) (q-ret D E)))))
 
       by : (a : alloc.Answer) (t : St) → Fits w (view D E (t .0)) → Whole t → Follow D E (Ends D E (other (Start maximum))) (withPhase off w) (run {i = false} conc (started-as maximum a) t)
       by (variant.Refused n) t f l = at-end (f, tt)
-      by (variant.Given e base slots) t f l = follow.follow-more D E ((q-resultless D E) (q-start {i = false}) .goes (withPhase off w) t refl l) (λ y a u m. (rw (m .0) (subst (Fits w) (sym (m .1)) f), tt))
+      by (variant.Given e base slots) t f l = follow.follow-more D E ((q-resultless D E) (q-start {i = false}) .goes (withPhase off w) t (refl, λ _ _ _ _. refl) (loose D E l)) (λ y a u m. (rw (m .0) (subst (Fits w) (sym (m .1)) f), tt))

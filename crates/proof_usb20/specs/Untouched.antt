@@ -144,7 +144,7 @@ pub same-view : (D : Dir) (E : ℕ) {d d′ : Driver} → Same d d′ → view D
 same-view D E {d = d} {d′ = d′} p = with (epOn d D E) (epOn d′ D E) (p .flags D E) (p .stage)
   where
     with : (r q : EpState) → core q ≡ core r → {m n : ℕ} → m ≡ n → seenOf q m ≡ seenOf r n
-    with r q h {m = m} {n = n} e = rw e (ap (λ (x : Seen). record { ready = x .ready; len = x .len; tog = x .tog; iso = x .iso; stage = n }) h)
+    with r q h {m = m} {n = n} e = rw e (ap (λ (x : Seen). record { ready = x .ready; len = x .len; armed = x .armed; tog = x .tog; iso = x .iso; stage = n }) h)
 
 pub act-view : (D : Dir) (E : ℕ) (q : Act) → allocates q ≡ false → (s : St) → view D E (conc .act q s .0) ≡ view D E (s .0)
 act-view D E q h s = same-view D E (act-same q h s)
