@@ -35,7 +35,7 @@ use Rattle.ops.specs.Conc.{conc}
 abbrev pub Whole : St → Type 0
 Whole s = length (s .0 .eps) ≡ 32
 
-same-ep : (d : Driver) (dir : Dir) (e : ℕ) (r : EpState) → length (d .eps) ≡ 32 → epOn (withOn d dir e r) dir e ≡ r
+pub same-ep : (d : Driver) (dir : Dir) (e : ℕ) (r : EpState) → length (d .eps) ≡ 32 → epOn (withOn d dir e r) dir e ≡ r
 unfolding epOn withOn
 same-ep d dir e r h = getD-set-same (d .eps) (key dir e) r noEp (omega (arith, h, key-lt dir e))
 

@@ -1,0 +1,125 @@
+-- Control stages equal USB 2.0's, over EVERY list of calls from an accepted start-up
+use mathlib.Core.Bool.{Bool, true, false}
+use mathlib.Core.Logic.{inl, inr}
+use mathlib.Core.List.{List, [], _∷_}
+use mathlib.Core.Path.{_≡_, refl, sym, _∙_}
+use Prim.Native.Nat.{ℕ, zero}
+use Rattle.state.specs.Driver.{Driver}
+use Rattle.script.specs.Tree as tree
+use Rattle.script.specs.Script.{run}
+use Rattle.script.specs.Every as ways
+use Rattle.script.specs.AddressWrites.{Writes}
+use Rattle.script.specs.AddressCalls.{Addresses, address-writes}
+use Rattle.script.specs.Answers.{Answer, Refused}
+use Rattle.script.specs.Calls.{Config, calls, startRow, Op, interrupt, slotted, other, aside, Slotted, SetEnabled, PollRead, BeginWrite, PollWrite, PollDataOut, BeginDataIn, Other, Allocate, AllocateAll, Start, BusPoll, BusEnable, BusDisable, Microframe, SetStalled, IsStalled, SetPaced, Advance, BeginRead, BeginSetup, PollSetup, PollDataIn, BeginAccept, PollAccept, BeginReject, BeginDataOut, BeginAcceptSetAddress, Aside, asideCode, code}
+use Rattle.script.specs.Machine.{Buf, Event, Machine, start, started}
+use Rattle.way.specs.Under.{driverOf}
+use Rattle.ops.specs.Rings.{St}
+use Rattle.ops.specs.Conc.{conc}
+use Rattle.book.specs.Sorting.{Sorting}
+use Rattle.proof_usb20.specs.Log.{Log, before, opens, saw, closes, Brings, Armed, Fair, Allowed, Poll, none, pollSetup, pollOut, pollIn, pollStatus, pollOf, FairPoll}
+use Rattle.proof_usb20.specs.Observer.{Observer, startedBy, Reads, All}
+use Rattle.proof_usb20.specs.Exempt.{differ}
+use Rattle.proof_usb20.specs.Watch.{at-end, at-ask, watch-more}
+use Rattle.proof_usb20.specs.Ep0.{View, view, R, Law}
+use Rattle.proof_usb20.specs.Runs.{Laws, Ups, from-start}
+use Rattle.proof_usb20.specs.Besides.{aside-wakes}
+use Rattle.book.specs.Code.{Made}
+use Rattle.book.specs.CodeReadings.{Steps}
+use Rattle.proof_usb20.specs.CodeRuns.{left, CodeReads, CodeMeaning, CodeAll, code-from-start}
+use Rattle.proof_usb20.specs.Stages.{law-data-out, law-data-in, law-accept, law-accept-address, law-reject, law-setup}
+use Rattle.proof_usb20.specs.Polls.{law-poll-setup, law-poll-data-out, law-poll-data-in, law-poll-accept}
+use Rattle.proof_usb20.specs.Serving.{law-interrupt}
+use Rattle.proof_usb20.specs.Switching.{law-set-enabled}
+use Rattle.proof_usb20.specs.Tasks.{law-begin-read, law-poll-read, law-begin-write, law-poll-write, law-allocate, law-allocate-all, law-start, law-bus-enable, law-bus-disable, law-microframe, law-is-stalled, law-set-paced, law-advance, law-aside, law-set-stalled, law-bus-poll, aside-view}
+
+-- the observer of EP0: by its log EP0's words are as the pipe says, a poll is done exactly after the completion, and an address is written by an accept's poll alone, after
+-- its completion, or is 0 at a bus reset
+abbrev pub control : Observer
+control = record { Log = Log; before = before; opens = opens; saw = saw; closes = closes; Brings = Brings; Fair = Fair; Allowed = Allowed; Asks = λ o q. Writes (Addresses o) q; View = View; view = view; Stands = λ w x. Armed w; Meant = λ x. Unit {0} }
+
+of-slotted : (o : Slotted) → Law (slotted o)
+of-slotted (SetEnabled d e on) = law-set-enabled d e on
+of-slotted (PollRead e n) = law-poll-read e n
+of-slotted (BeginWrite e bs) = law-begin-write e bs
+of-slotted (PollWrite e bs) = law-poll-write e bs
+of-slotted (PollDataOut n) = law-poll-data-out n
+of-slotted (BeginDataIn bs first last) = law-data-in bs first last
+
+of-other : (o : Other) → Law (other o)
+of-other (Allocate d kind address maximum interval) = law-allocate d kind address maximum interval
+of-other (AllocateAll bytes) = law-allocate-all bytes
+of-other (Start maximum) = law-start maximum
+of-other BusPoll = law-bus-poll
+of-other BusEnable = law-bus-enable
+of-other BusDisable = law-bus-disable
+of-other Microframe = law-microframe
+of-other (SetStalled d e on) = law-set-stalled d e on
+of-other (IsStalled d e) = law-is-stalled d e
+of-other (SetPaced e on) = law-set-paced e on
+of-other (Advance e) = law-advance e
+of-other (BeginRead e n) = law-begin-read e n
+of-other BeginSetup = law-setup
+of-other PollSetup = law-poll-setup
+of-other PollDataIn = law-poll-data-in
+of-other BeginAccept = law-accept
+of-other PollAccept = law-poll-accept
+of-other BeginReject = law-reject
+of-other (BeginDataOut n first) = law-data-out n first
+of-other (BeginAcceptSetAddress a) = law-accept-address a
+
+law-of : (o : Op) → Law o
+law-of interrupt = law-interrupt
+law-of (slotted o) = of-slotted o
+law-of (other o) = of-other o
+law-of (aside o) = law-aside o
+
+stands : (w : Log) (x : View) → R w x → Armed w
+stands w x (inl e) h = differ (sym h ∙ e)
+stands w x (inr r) h = (r .out .shows, r .inn .shows, r .size)
+
+-- before the first setup packet
+new : (out : tree.Out St Answer) → Ups control (λ s. R before (view (s .0))) out
+new (tree.ends a s) = at-end (inl refl)
+new (tree.asks q s k) = at-ask tt (λ v t b h. new (k v t))
+
+unlent : (o : Op) (w : Log) (x : View) → R w x → R (closes o (Refused 1) (opens o w)) x
+unlent interrupt w x r = r
+unlent (slotted o) w x r = r
+unlent (other o) w x r = r
+unlent (aside o) w x r = r
+
+fair-1 : (p : Poll) (w : Log) → FairPoll p (Refused 1) w
+fair-1 none w = tt
+fair-1 pollSetup w = tt
+fair-1 pollOut w = (λ h. differ h, tt)
+fair-1 pollIn w = (λ h. differ h, tt)
+fair-1 pollStatus w = (λ h. differ h, tt)
+
+pub laws : Laws control R
+laws = record {
+  stands = stands;
+  call = λ o w s r _ z. watch-more (law-of o w s r z) (λ x a t p. (p .0, λ _. p .1));
+  asks = λ o s. ways.only-run conc (code o) (address-writes o) tt s;
+  besides = λ o d b a t z h. (aside-view o d b a t z h, aside-wakes o d b a t h);
+  new = λ c b. new (run conc (calls .starts c) (driverOf .fresh c, b));
+  unlent = unlent;
+  fair-1 = λ o w. fair-1 (pollOf o) w;
+}
+
+-- after each call: EP0's control words as last written say what USB 2.0's pipe says, a packet IN that is ready has its length, a poll is done exactly after the
+-- completion, "not yet" exactly before it, refused with 9 only after a setup packet, and the address is written after the status stage alone; but for the log's
+-- exemptions (Log.antt). `Reads`: EP0's control words read back as they were written
+pub control-stages : (c : Config) (b : Buf) → startRow c b ≡ zero → (es : List (Event Config Op)) (m : Machine Answer Driver)
+    → let y = started calls driverOf (λ s. s) c zero m b in
+    Reads control es (y .1) (startedBy control (y .0)) → All control es (y .1) (startedBy control (y .0))
+control-stages c b row es m r = from-start control laws c b row es m (λ _ _ _. tt) r
+
+-- of the Rattle code: any bytes, a start-up that rows 1 and 2 do not stop, and then any calls, each as its contract says
+pub code-control-stages : (c : Config) (b : Buf) → startRow c b ≡ zero → (xs : List ℕ) (a : Buf) (first : Made) → first .event ≡ record { call = start c; lent = b } → (ms : List Made)
+    → Steps xs a (first ∷ ms) → CodeReads control ms (startedBy control (first .answer)) → CodeAll control ms (startedBy control (first .answer))
+code-control-stages c b row xs a first e ms h r = code-from-start control laws c b row xs a first e ms h (meant ms (left first)) r
+  where
+    meant : (ms : List Made) (n : Machine Answer Driver) → CodeMeaning control n ms
+    meant [] n = tt
+    meant (m ∷ ms) n = (tt, meant ms (left m))

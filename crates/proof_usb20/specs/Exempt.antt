@@ -1,0 +1,182 @@
+-- Where the log is exempt it stays so until a setup packet, and then nothing is to be shown
+use mathlib.Core.Bool.{Bool, true, false, not, cond, _&&_, _||_}
+use mathlib.Core.Logic.{_⊎_, inl, inr}
+use mathlib.Core.Path.{_≡_, refl, ap, subst, sym, _∙_}
+use Prim.Native.Nat.{ℕ}
+use lib.Dec.{eqb}
+use Rattle.regs.specs.declared.Access.{Access}
+use Rattle.regs.specs.declared.Access.the-variants.{Read, Write, Receive, Transmit, Ep0Dma, Wait, Callback}
+use Rattle.regs.specs.declared.Reg.{Reg}
+use Rattle.regs.specs.declared.Reg.the-variants.{IntFg, IntSt, MisSt, FrameNo, EpTLen, EpRxCtrl, EpTxCtrl}
+use Rattle.regs.specs.declared.Dir.the-variants.{Out, In}
+use Rattle.regs.specs.declared.Token as tokens
+use Rattle.regs.specs.declared.Token.the-variants as tok
+use Rattle.regs.specs.Flags.{transfer, setupAct}
+use Rattle.regs.specs.Status as status
+use Rattle.regs.specs.Status.{endpoint, togOk}
+use Rattle.regs.specs.MisStatus.{sieFree}
+use Rattle.script.specs.Tree as tree
+use Rattle.script.specs.Script.{run}
+use Rattle.script.specs.Answers.{Answer, Refused, End, NotYet, Done, Shown}
+use Rattle.script.specs.Calls.{Op, interrupt, slotted, other, aside, Slotted, SetEnabled, PollRead, BeginWrite, PollWrite, PollDataOut, BeginDataIn, Other, Allocate, AllocateAll, Start, BusPoll, BusEnable, BusDisable, Microframe, SetStalled, IsStalled, SetPaced, Advance, BeginRead, BeginSetup, PollSetup, PollDataIn, BeginAccept, PollAccept, BeginReject, BeginDataOut, BeginAcceptSetAddress, code}
+use Rattle.script.specs.Every.{sameReg}
+use Rattle.ops.specs.Rings.{St}
+use Rattle.ops.specs.Conc.{conc}
+use Rattle.proof_usb20.specs.Pipe.{Event, packet, token}
+use Rattle.proof_usb20.specs.Log.{Phase, off, entered, flagged, again, timed, shows, Log, withRx, withTx, withPhase, withFlags, happens, ofToken, seen, reads, writes, saw, Brings, opens, endsOther, endsSlotted, ends, Poll, none, pollSetup, pollOut, pollIn, pollStatus, pollOf, settled, done, closes, Unfinished, Completes, GivesSetup, FairPoll, Fair, AllowedTo, Allowed}
+use Rattle.proof_usb20.specs.Watch.{watch-any}
+use Rattle.proof_usb20.specs.Ep0.{Watch, View, view, R, Keeps, Ends, Law}
+
+pub differ : {A : Type 0} → false ≡ true → A
+differ h = absurd (subst (λ (b : Bool). cond b ⊥ (Unit {0})) h tt)
+
+-- written so that it shows which log it is of
+record Is (w : Log) : Type 0 where
+  is : w .exempt ≡ true
+
+either : {b c : Log} (t : Bool) → Is b → Is c → Is (cond t b c)
+either true p q = p
+either false p q = q
+
+it : {w : Log} → w .exempt ≡ true → Is w
+it h = record { is = h }
+
+happened : (e : Event) (w : Log) → Is w → Is (happens e w)
+happened e w h = it (rw (h .is) refl)
+
+of-token : (t : tokens.Token) (busy ok : Bool) (w : Log) → Is w → Is (ofToken t busy ok w)
+of-token tok.Out busy ok w h = happened (token Out) (cond (not busy && ok) (happens (packet Out) w) w) (either (not busy && ok) (happened (packet Out) w h) h)
+of-token tok.In busy ok w h = happened (token In) (cond busy w (happens (packet In) w)) (either busy h (happened (packet In) w h))
+of-token tok.Sof busy ok w h = h
+of-token tok.Setup busy ok w h = h
+
+seen-exempt : (busy : Bool) (st : ℕ) (w : Log) → Is w → Is (seen busy st w)
+seen-exempt busy st w h = either (eqb (endpoint st) 0) (of-token (status.token st) busy (togOk st) w h) h
+
+reads-exempt : (p : Phase) (r : Reg) (v : ℕ) (w : Log) → Is w → Is (reads p r v w)
+reads-exempt off r v w h = h
+reads-exempt entered r v w h = either (sameReg r IntFg) (it (h .is)) h
+reads-exempt flagged r v w h = either (sameReg r MisSt) (it (h .is)) h
+reads-exempt (timed b) r v w h = either (sameReg r IntSt) (it (h .is)) h
+reads-exempt (shows b st) r v w h = either (sameReg r IntFg) (either (transfer v) h (it (h .is))) (either (sameReg r FrameNo) (seen-exempt b st (withPhase off w) (it (h .is))) h)
+reads-exempt again r v w h = either (sameReg r IntSt) (it (h .is)) h
+
+saw-exempt : (w : Log) (q : Access) (v : ℕ) → Is w → Is (saw w q v)
+saw-exempt w (Read r e) v h = reads-exempt (w .phase) r v w h
+saw-exempt w (Write r e v) x h = either (sameReg r EpRxCtrl) (either (eqb e 0) (it (h .is)) h) (either (sameReg r EpTxCtrl) (either (eqb e 0) (it (h .is)) h) (either (sameReg r EpTLen) (either (eqb e 0) (it (h .is)) h) h))
+saw-exempt w (Receive e y) x h = h
+saw-exempt w (Transmit e y) x h = h
+saw-exempt w (Ep0Dma y) x h = h
+saw-exempt w (Wait n) x h = h
+saw-exempt w Callback x h = h
+
+pub saw-still : (w : Log) (q : Access) (v : ℕ) → w .exempt ≡ true → saw w q v .exempt ≡ true
+saw-still w q v h = saw-exempt w q v (it h) .is
+
+unfinished-exempt : (a : Answer) (w : Log) → w .exempt ≡ true → Unfinished a w
+unfinished-exempt (Refused n) w h = λ _ z. differ (sym z ∙ h)
+unfinished-exempt (End n ws) w h = tt
+unfinished-exempt NotYet w h = (λ z. differ (sym z ∙ h), λ z. differ (sym z ∙ h))
+unfinished-exempt (Done bytes) w h = tt
+unfinished-exempt (Shown bytes stamp) w h = tt
+
+completes-exempt : (a : Answer) (w : Log) → w .exempt ≡ true → Completes a w
+completes-exempt (Refused n) w h = tt
+completes-exempt (End n ws) w h = λ z. differ (sym z ∙ h)
+completes-exempt NotYet w h = tt
+completes-exempt (Done bytes) w h = λ z. differ (sym z ∙ h)
+completes-exempt (Shown bytes stamp) w h = tt
+
+gives-exempt : (a : Answer) (w : Log) → w .exempt ≡ true → GivesSetup a w
+gives-exempt (Refused n) w h = tt
+gives-exempt (End n ws) w h = tt
+gives-exempt NotYet w h = λ z. differ (sym z ∙ h)
+gives-exempt (Done bytes) w h = λ z. differ (sym z ∙ h)
+gives-exempt (Shown bytes stamp) w h = tt
+
+fair-exempt : (p : Poll) (a : Answer) (w : Log) → w .exempt ≡ true → FairPoll p a w
+fair-exempt none a w h = tt
+fair-exempt pollSetup a w h = gives-exempt a w h
+fair-exempt pollOut a w h = (unfinished-exempt a w h, completes-exempt a w h)
+fair-exempt pollIn a w h = (unfinished-exempt a w h, completes-exempt a w h)
+fair-exempt pollStatus a w h = (unfinished-exempt a w h, completes-exempt a w h)
+
+allowed-exempt : (p : Poll) (w : Log) → w .exempt ≡ true → AllowedTo p w
+allowed-exempt none w h = tt
+allowed-exempt pollSetup w h = tt
+allowed-exempt pollOut w h = tt
+allowed-exempt pollIn w h = tt
+allowed-exempt pollStatus w h = λ z. differ (sym z ∙ h)
+
+settled-exempt : (p : Poll) (w : Log) → w .exempt ≡ true → settled p w .exempt ≡ true
+settled-exempt none w h = h
+settled-exempt pollSetup w h = h
+settled-exempt pollOut w h = h
+settled-exempt pollIn w h = h
+settled-exempt pollStatus w h = h
+
+done-exempt : (p : Poll) (w : Log) → w .exempt ≡ true → done p w .exempt ≡ true
+done-exempt none w h = h
+done-exempt pollSetup w h = h
+done-exempt pollOut w h = h
+done-exempt pollIn w h = h
+done-exempt pollStatus w h = h
+
+ends-other : (o : Other) (n : ℕ) (w : Log) → w .exempt ≡ true → endsOther o n w .exempt ≡ true
+ends-other (Allocate d kind address maximum interval) n w h = h
+ends-other (AllocateAll bytes) n w h = h
+ends-other (Start maximum) n w h = refl
+ends-other BusPoll n w h = either (eqb n 2) (it refl) (it h) .is
+ends-other BusEnable n w h = h
+ends-other BusDisable n w h = h
+ends-other Microframe n w h = h
+ends-other (SetStalled d e on) n w h = either (eqb e 0) (it refl) (it h) .is
+ends-other (IsStalled d e) n w h = h
+ends-other (SetPaced e on) n w h = h
+ends-other (Advance e) n w h = h
+ends-other (BeginRead e m) n w h = h
+ends-other BeginSetup n w h = h
+ends-other PollSetup n w h = h
+ends-other PollDataIn n w h = h
+ends-other BeginAccept n w h = rw h refl
+ends-other PollAccept n w h = h
+ends-other BeginReject n w h = rw h refl
+ends-other (BeginDataOut m first) n w h = rw h refl
+ends-other (BeginAcceptSetAddress a) n w h = rw h refl
+
+ends-slotted : (o : Slotted) (w : Log) → w .exempt ≡ true → endsSlotted o w .exempt ≡ true
+ends-slotted (SetEnabled d e on) w h = h
+ends-slotted (PollRead e n) w h = h
+ends-slotted (BeginWrite e bs) w h = h
+ends-slotted (PollWrite e bs) w h = h
+ends-slotted (PollDataOut n) w h = h
+ends-slotted (BeginDataIn bs first last) w h = rw h refl
+
+-- no interrupt
+abbrev pub Task : Op → Type 0
+Task interrupt = ⊥
+Task (slotted o) = Unit {0}
+Task (other o) = Unit {0}
+Task (aside o) = Unit {0}
+
+ends-exempt : (o : Op) → Task o → (n : ℕ) (w : Log) → w .exempt ≡ true → ends o n w .exempt ≡ true
+ends-exempt (slotted o) t n w h = ends-slotted o w h
+ends-exempt (other o) t n w h = ends-other o n w h
+ends-exempt (aside o) t n w h = h
+
+closes-exempt : (o : Op) → Task o → (a : Answer) (w : Log) → w .exempt ≡ true → closes o a w .exempt ≡ true
+closes-exempt o t (Refused n) w h = either (eqb n 9 || eqb n 10) (it (settled-exempt (pollOf o) w h)) (it h) .is
+closes-exempt o t (End n ws) w h = ends-exempt o t n w h
+closes-exempt o t NotYet w h = h
+closes-exempt o t (Done bytes) w h = done-exempt (pollOf o) w h
+closes-exempt o t (Shown bytes stamp) w h = h
+
+opens-exempt : (o : Op) (w : Log) → w .exempt ≡ true → opens o w .exempt ≡ true
+opens-exempt interrupt w h = h
+opens-exempt (slotted o) w h = h
+opens-exempt (other o) w h = h
+opens-exempt (aside o) w h = h
+
+-- a task's call, whatever it does
+pub exempt-law : (o : Op) → Task o → (w : Log) (s : St) → w .exempt ≡ true → Watch Keeps (Allowed o) (Ends o) (opens o w) (run conc (code o) s)
+exempt-law o t w s h = watch-any (λ x. x .exempt ≡ true) (λ x g. allowed-exempt (pollOf o) x g) (λ x q v g. saw-exempt x q v (it g) .is) (λ x a u g. (inl (closes-exempt o t a x g), fair-exempt (pollOf o) a x g)) (opens o w) (opens-exempt o w h) (run conc (code o) s)

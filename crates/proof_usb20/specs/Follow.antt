@@ -1,0 +1,86 @@
+-- What the driver's state says of the endpoint, when that fits the log, and the law of a call
+use mathlib.Core.Bool.{Bool, true, false, cond}
+use mathlib.Core.Path.{_≡_, refl, subst, sym}
+use Prim.Native.Nat.{ℕ}
+use lib.Dec.{eqb}
+use Rattle.regs.specs.declared.Access.{Access}
+use Rattle.regs.specs.declared.Dir.{Dir}
+use Rattle.state.specs.declared.EpState.{EpState}
+use Rattle.state.specs.Driver.{Driver, epOn}
+use Rattle.script.specs.Tree as tree
+use Rattle.script.specs.Tree.{ends, asks, bindOut}
+use Rattle.script.specs.Answers.{Answer}
+use Rattle.script.specs.Calls.{Op, code}
+use Rattle.script.specs.Script.{run}
+use Rattle.script.specs.Statics.{isOn}
+use Rattle.script.specs.TogglesLaws.{number}
+use Rattle.script.specs.Usb20Toggles.{Pid, initial}
+use Rattle.ops.specs.Rings.{St}
+use Rattle.ops.specs.Conc.{conc}
+use Rattle.book.specs.Sorting.{Sorting}
+use Rattle.script.specs.Machine.{ended}
+use Rattle.wake_ups.specs.Rooms.{Few}
+use Rattle.proof_usb20.specs.Sequence.{Track, saw, opens, closes, Fair}
+
+pub record Seen : Type 0 where
+  pub ready : ℕ
+  pub len : ℕ
+  pub armed : ℕ
+  pub tog : ℕ
+  pub iso : ℕ
+  pub stage : ℕ
+
+abbrev pub seenOf : EpState → ℕ → Seen
+seenOf r n = record { ready = r .ready; len = r .len; armed = r .armed; tog = r .tog; iso = r .iso; stage = n }
+
+-- the record is as the log says; before EP0's start nothing has happened yet
+pub record FitsAs (b : Pid) (through : Bool) (n : ℕ) (a : Bool) (x : Seen) : Type 0 where
+  pub tog : x .tog ≡ number b
+  pub ready : isOn (x .ready) ≡ through
+  pub len : x .len ≡ n
+  pub armed : isOn (x .armed) ≡ a
+  pub early : eqb (x .stage) 2 ≡ false → (b ≡ initial) × (through ≡ false) × (a ≡ false)
+
+abbrev pub Fits : Track → Seen → Type 0
+Fits w x = FitsAs (w .bit) (w .through) (w .len) (w .armed) x
+
+module _ (D : Dir) (E : ℕ) where
+  abbrev pub view : Driver → Seen
+  view d = seenOf (epOn d D E) (d .globals .stage)
+
+  -- between two accesses: open, close and queue, and stores in the slots
+  abbrev pub Keeps : St → St → Type 0
+  Keeps s t = (view (t .0) ≡ view (s .0)) × Sorting (t .0) × (t .0 .wakes ≡ s .0 .wakes)
+
+  -- `P` at each end, of what the log is then
+  pub data Follow {A : Type 0} (P : Track → A → St → Type 0) : Track → tree.Out St A → Type 0 where
+    at-end : {w : Track} {a : A} {s : St} → P w a s → Follow P w (ends a s)
+    at-ask : {w : Track} {q : Access} {s : St} {k : ℕ → St → tree.Out St A} → ((v : ℕ) (t : St) → Keeps s t → Follow P (saw D E w q v) (k v t)) → Follow P w (asks q s k)
+
+  pub follow-bind : {A B : Type 0} {P : Track → A → St → Type 0} {Q : Track → B → St → Type 0} {w : Track} {o : tree.Out St A} {f : A → St → tree.Out St B}
+      → Follow P w o → ((x : Track) (a : A) (s : St) → P x a s → Follow Q x (f a s)) → Follow Q w (bindOut o f)
+  follow-bind (at-end x) k = k _ _ _ x
+  follow-bind (at-ask x) k = at-ask (λ v t i. follow-bind (x v t i) k)
+
+  pub follow-more : {A : Type 0} {P Q : Track → A → St → Type 0} {w : Track} {o : tree.Out St A} → Follow P w o → ((x : Track) (a : A) (s : St) → P x a s → Q x a s) → Follow Q w o
+  follow-more (at-end x) f = at-end (f _ _ _ x)
+  follow-more (at-ask x) f = at-ask (λ v t i. follow-more (x v t i) f)
+
+  pub follow-cond : {A : Type 0} {P : Track → A → St → Type 0} {w : Track} (b : Bool) {o u : tree.Out St A} → (b ≡ true → Follow P w o) → (b ≡ false → Follow P w u) → Follow P w (cond b o u)
+  follow-cond true x y = x refl
+  follow-cond false x y = y refl
+
+  -- a log that is another's
+  pub follow-at : {A : Type 0} {P : Track → A → St → Type 0} {x y : Track} {o : tree.Out St A} → x ≡ y → Follow P y o → Follow P x o
+  follow-at {P = P} {o = o} h f = subst (λ (u : Track). Follow P u o) (sym h) f
+
+  abbrev pub Ends : Op → Track → Answer → St → Type 0
+  Ends o w a s = Fits (closes D E o a w) (view (s .0)) × Fair D E o a w
+
+  -- of an interrupt, whose wake-ups are fewer than the room for them
+  abbrev pub EndsFew : Op → Track → Answer → St → Type 0
+  EndsFew o w a s = Fits (closes D E o a w) (view (s .0)) × (Few (ended a) → Fair D E o a w)
+
+  -- `iso`: the endpoint is not isochronous when the call begins
+  abbrev pub Law : Op → Type 0
+  Law o = (w : Track) (s : St) → Fits w (view (s .0)) → isOn (epOn (s .0) D E .iso) ≡ false → Sorting (s .0) → Follow (Ends o) (opens D E o w) (run conc (code o) s)

@@ -1,0 +1,217 @@
+-- What the interrupt does once it has seen a token of the endpoint: its control word is read once, and the record follows the log
+use mathlib.Core.Bool.{Bool, true, false, not, cond, _&&_, _||_}
+use mathlib.Core.List.{List, [], _∷_}
+use mathlib.Core.Logic.{_⊎_, inl, inr}
+use mathlib.Core.Path.{_≡_, refl, ap, subst, sym, _∙_}
+use borrow.Author.Tests.{eq-eqb}
+use Prim.Native.Nat.{ℕ, zero, suc, _+_, _%_, _≤_}
+use native.Mathlib.Omega.{arith}
+use lib.Dec.{eqb}
+use Rattle.regs.specs.declared.Access.the-variants.{Read, Write}
+use Rattle.regs.specs.declared.Dir.{Dir}
+use Rattle.regs.specs.declared.Dir.the-variants.{Out, In}
+use Rattle.regs.specs.Registers.{ctrlOf}
+use Rattle.regs.specs.ControlWord.{toggle, ack, isData1}
+use Rattle.script.specs.ToggledLaws.{ack-keeps, ack-acks}
+use Rattle.regs.specs.Status.{endpoint}
+use Rattle.state.specs.Wakes.{wakeCode, listed, woken}
+use Rattle.state.specs.Driver.{Driver, key, epOn, withOn}
+use Rattle.script.specs.declared.Transfer.{Transfer}
+use Rattle.script.specs.Tree as tree
+use Rattle.script.specs.Cells.{Plain, ep-cell}
+use Rattle.script.specs.Script.{Script, run, when, waken}
+use Rattle.script.specs.Statics.{isOn, flag, withReady, withArmed, withTog, withLen, completed, modifyReg}
+use Rattle.script.specs.Every.{sameReg}
+use Rattle.script.specs.Handler.{repeated, toggled, received, sent, outArm, inArm}
+use Rattle.script.specs.TogglesLaws.{number}
+use Rattle.script.specs.Usb20Toggles.{Pid, DATA0, DATA1, same}
+use Rattle.ops.specs.Rings.{St}
+use Rattle.ops.specs.Conc.{conc}
+use Rattle.book.specs.Sorts.{act-steady}
+use Rattle.proof_usb20.specs.Exempt.{differ}
+use Rattle.proof_usb20.specs.Sequence.{Track, Phase, off, due, owes, withPhase, own, shown, lengthOf, judged, acksAs, howOften, reads, saw}
+use Rattle.proof_usb20.specs.Follow as follow
+use Rattle.proof_usb20.specs.Follow.{Seen, FitsAs, Fits, view, Follow, at-end, at-ask}
+use Rattle.proof_usb20.specs.Untouched.{act-view}
+use Rattle.proof_usb20.specs.Calm.{Idle, Kept, Hears, kept-by, hears-same, hears-then, heard, put-kept, put-hears, woken-room, woken-own, q-looks}
+use Rattle.proof_usb20.specs.Reading.{Own, own-true, got, changed, fits-2, whole-put}
+
+pub back : (D : Dir) (E : ℕ) {A : Type 0} {P : Track → A → St → Type 0} {x y : Track} {o : tree.Out St A} → x ≡ y → Follow D E P y o → Follow D E P x o
+back D E h f = follow.follow-at D E h f
+
+-- ---- the endpoint's toggle
+
+agree : (b : Pid) (v : ℕ) → eqb (number b) (flag (isData1 v)) ≡ same b (shown v)
+agree b v = by b (isData1 v)
+  where
+    by : (b : Pid) (c : Bool) → eqb (number b) (flag c) ≡ same b (cond c DATA1 DATA0)
+    by DATA0 true = refl
+    by DATA0 false = refl
+    by DATA1 true = refl
+    by DATA1 false = refl
+
+numbers : (v : ℕ) → flag (isData1 v) ≡ number (shown v)
+numbers v = by (isData1 v)
+  where
+    by : (c : Bool) → flag c ≡ number (cond c DATA1 DATA0)
+    by true = refl
+    by false = refl
+
+-- the endpoint's own word
+own-word : (D : Dir) {A : Type 0} (x y : A) (b : Bool) → b ≡ true → cond (sameReg (ctrlOf D) (ctrlOf D) && b) x y ≡ x
+own-word Out x y b h = rw h refl
+own-word In x y b h = rw h refl
+
+own-ack : (D : Dir) {A : Type 0} (x y : A) (b c : Bool) → b ≡ true → c ≡ true → cond ((sameReg (ctrlOf D) (ctrlOf D) && b) && c) x y ≡ x
+own-ack Out x y b c h g = rw (h, g) refl
+own-ack In x y b c h g = rw (h, g) refl
+
+acks : (v : ℕ) → acksAs v (ack v) ≡ true
+acks v = rw (ack-acks v, ack-keeps v) (eq-eqb (toggle v) (toggle v) refl)
+
+abbrev pub newly : Dir → ℕ → ℕ → Track → Track
+newly D v k w = record { bit = shown v; through = true; len = lengthOf D k (w .len); armed = false; new = true; phase = off }
+
+module _ (D : Dir) (E : ℕ) where
+  -- what `toggled` leaves: the same bit, or another and that recorded
+  pub data Told (s : St) (w : Track) (k : ℕ) (y : Track) (b : Bool) (t : St) : Type 0 where
+    repeat : b ≡ false → y ≡ withPhase off w → Fits w (view D E (t .0)) → Kept D E true t → eqb (t .0 .globals .stage) 2 ≡ true → Hears D E true s t → Told s w k y b t
+    new : (v : ℕ) → b ≡ true → y ≡ newly D v k w → epOn (t .0) D E .tog ≡ number (shown v) → epOn (t .0) D E .len ≡ w .len → isOn (epOn (t .0) D E .armed) ≡ false → Kept D E true t → eqb (t .0 .globals .stage) 2 ≡ true
+        → Hears D E true s t → Told s w k y b t
+
+  pub due-idle : (k : ℕ) (w : Track) → Idle D E (withPhase (due k) w)
+  due-idle k w r e v p q = by D refl
+    where
+      by : (d : Dir) → D ≡ d → reads D E (due k) r e v (withPhase (due k) w) ≡ withPhase (due k) w
+      by Out g = rw (g, p) refl
+      by In g = rw (g, q) refl
+
+  module _ (e k : ℕ) (w : Track) (o : own D E D e ≡ true) where
+    read-word : (v : ℕ) → saw D E (withPhase (due k) w) (Read (ctrlOf D) e) v ≡ judged D v k w
+    read-word v = own-word D (judged D v k w) (withPhase (due k) w) (own D E D e) o
+
+    read-again : (x v : ℕ) → saw D E (withPhase (owes x) w) (Read (ctrlOf D) e) v ≡ withPhase (owes v) w
+    read-again x v = own-word D (withPhase (owes v) w) (withPhase (owes x) w) (own D E D e) o
+
+    acked : (v n : ℕ) → saw D E (withPhase (owes v) w) (Write (ctrlOf D) e (ack v)) n ≡ withPhase off w
+    acked v n = own-ack D (withPhase off w) (withPhase (owes v) w) (own D E D e) (acksAs v (ack v)) o (acks v)
+
+    same-bit : (v : ℕ) (b : Bool) → w .armed ≡ b → same (w .bit) (shown v) ≡ true → judged D v k w ≡ withPhase (cond b (owes v) off) w
+    same-bit v b g h = rw (h, g) refl
+
+    other-bit : (v : ℕ) → same (w .bit) (shown v) ≡ false → judged D v k w ≡ newly D v k w
+    other-bit v h = rw h refl
+
+    -- a repeat: acknowledged again where a packet is waited for
+    again : (s t : St) (v : ℕ) (b : Bool) → isOn (conc .get (ep-cell D e) t .armed) ≡ b → view D E (t .0) ≡ view D E (s .0) → Kept D E true t → Hears D E true s t
+        → Follow D E (λ y _ u. (y ≡ withPhase off w) × (view D E (u .0) ≡ view D E (s .0)) × Kept D E true u × Hears D E true s u) (withPhase (cond b (owes v) off) w) (run {i = true} conc (when (isOn (conc .get (ep-cell D e) t .armed)) (modifyReg (ctrlOf D) e ack)) t)
+    again s t v true h z l f = follow.follow-cond D E (isOn (conc .get (ep-cell D e) t .armed))
+        (λ _. at-ask (λ n u p. back D E (read-again v n) (at-ask (λ x a q. back D E (acked n x) (
+        let ku : Kept D E true u = kept-by D E {s = t} {t = u} p l in
+        let ka : Kept D E true a = kept-by D E {s = u} {t = a} q ku in
+        let hu : Hears D E true t u = hears-same D E {s = t} {t = u} (p .2) in
+        let ha : Hears D E true u a = hears-same D E {s = u} {t = a} (q .2) in
+        at-end (refl, q .0 ∙ (p .0 ∙ z), ka, hears-then D E f (hears-then D E hu ha)))))))
+        (λ q. differ (sym q ∙ h))
+    again s t v false h z l f = follow.follow-cond D E (isOn (conc .get (ep-cell D e) t .armed)) (λ q. differ (sym h ∙ q)) (λ _. at-end (refl, z, l, f))
+
+    pub toggles-own : (s : St) → Kept D E true s → Fits w (view D E (s .0)) → eqb (s .0 .globals .stage) 2 ≡ true → Follow D E (Told s w k) (withPhase (due k) w) (run conc (toggled {i = true} D e) s)
+    unfolding repeated withOn isOn
+    toggles-own s l r two = follow.follow-bind D E ((q-looks D E) 2001 .goes (withPhase (due k) w) s (due-idle k w, λ _ _ _ _. refl) l) (λ y _ a m. back D E (m .0) (at-ask (λ v t p.
+        let z : view D E (t .0) ≡ view D E (s .0) = p .0 ∙ m .1 in
+        let q : Own D E D e = own-true D E D e o in
+        let kt : Kept D E true t = kept-by D E {s = a} {t = t} p (m .2) in
+        let at : Hears D E true a t = hears-same D E {s = a} {t = t} (p .2) in
+        let hs : Hears D E true s t = hears-then D E (m .3) at in
+        let g : repeated (conc .get (ep-cell D e) t) v ≡ same (w .bit) (shown v) = ap (λ (x : Plain). eqb (x .tog) (flag (isData1 v))) (got D E D e t q) ∙ (ap (λ (x : Seen). eqb (x .tog) (flag (isData1 v))) z ∙ (ap (λ n. eqb n (flag (isData1 v))) (r .tog) ∙ agree (w .bit) v)) in
+        let st2 : eqb (t .0 .globals .stage) 2 ≡ true = ap (λ (x : Seen). eqb (x .stage) 2) z ∙ two in
+        let ar : isOn (conc .get (ep-cell D e) t .armed) ≡ w .armed = ap (λ (x : Plain). isOn (x .armed)) (got D E D e t q) ∙ (ap (λ (x : Seen). isOn (x .armed)) z ∙ r .armed) in
+        back D E (read-word v) (follow.follow-cond D E (repeated (conc .get (ep-cell D e) t) v)
+        (λ h. back D E (same-bit v (w .armed) refl (sym g ∙ h)) (follow.follow-bind D E (again s t v (w .armed) ar z kt hs)
+        (λ y _ u x. at-end (repeat refl (x .0) (subst (Fits w) (sym (x .1)) r) (x .2) (ap (λ (x : Seen). eqb (x .stage) 2) (x .1) ∙ two) (x .3)))))
+        (λ h. back D E (other-bit v (sym g ∙ h))
+        (let f : Plain → Plain = λ p. withArmed 0 (withTog (flag (isData1 v)) p) in
+        let c = changed D E D e f t q (kt .whole) in
+        at-end (new v refl refl (ap (λ (x : Seen). x .tog) c ∙ numbers v) (ap (λ (x : Seen). x .len) (c) ∙ (ap (λ (x : Seen). x .len) z ∙ r .len)) (ap (λ (x : Seen). isOn (x .armed)) c) (put-kept D E (ep-cell D e) (f (conc .get (ep-cell D e) t)) t kt) st2
+        (hears-then D E hs (put-hears D E (ep-cell D e) (f (conc .get (ep-cell D e) t)) t)))))))))
+
+-- ---- the arms
+
+-- its task is woken once if a packet was new, else not; or the list is full
+abbrev pub Heard : (D : Dir) (E : ℕ) → Track → St → Type 0
+Heard D E y t = (64 ≤ t .0 .wakes .count) ⊎ (heard D E t ≡ flag (y .new))
+
+abbrev pub Done : (D : Dir) (E : ℕ) → {A : Type 0} → Track → A → St → Type 0
+Done D E y _ t = (y .phase ≡ off) × Fits y (view D E (t .0)) × Kept D E true t × (eqb (t .0 .globals .stage) 2 ≡ true) × Heard D E y t
+
+pub done-as : (D : Dir) (E : ℕ) (y z : Track) (t : St) → y ≡ z → z .phase ≡ off → Fits z (view D E (t .0)) → Kept D E true t → eqb (t .0 .globals .stage) 2 ≡ true → Heard D E z t → Done D E {A = Unit {0}} y tt t
+done-as D E y z t h p f l two n = (ap (λ (x : Track). x .phase) h ∙ p, subst (λ (x : Track). Fits x (view D E (t .0))) (sym h) f, l, two, subst (λ (x : Track). Heard D E x t) (sym h) n)
+
+-- it goes on without a wake-up of its task
+pub heard-on : (D : Dir) (E : ℕ) (y : Track) (s t : St) → Hears D E true s t → Heard D E y s → Heard D E y t
+heard-on D E y s t h (inl n) = inl (omega (arith, n, h .grows refl))
+heard-on D E y s t h (inr n) = inr (h .same refl ∙ n)
+
+code-own : (D : Dir) (E e : ℕ) → Own D E D e → eqb (wakeCode D e) (wakeCode D E) ≡ true
+unfolding wakeCode key
+code-own Out E e o = eq-eqb (16 + e % 16) (16 + E % 16) (omega (arith, o))
+code-own In E e o = eq-eqb (e % 16) (E % 16) (omega (arith, o))
+
+-- its task is woken
+module _ (D : Dir) (E e : ℕ) (o : Own D E D e) (u : St) (l : Kept D E true u) where
+  woken-kept : Kept D E true (conc .act (waken (wakeCode D e ∷ [])) u)
+  unfolding epOn
+  woken-kept = record {
+    whole = act-steady (waken (wakeCode D e ∷ [])) refl u .places ∙ l .whole;
+    sorts = λ h. record { flags = λ dir e. refl; outs = λ e n g. l .sorts h .outs e n g; every = λ e n g. l .sorts h .every e n g };
+    plain = λ h. l .plain h;
+    room = λ h. woken-room D E (wakeCode D e) (u .0 .wakes) (l .room h);
+  }
+
+  woken-heard : (y : Track) → y .new ≡ true → heard D E u ≡ 0 → Heard D E y (conc .act (waken (wakeCode D e ∷ [])) u)
+  woken-heard y n h = by (woken-own D E (wakeCode D e) (u .0 .wakes) (l .room refl) (code-own D E e o))
+    where
+      by : (64 ≤ woken (wakeCode D e) (u .0 .wakes) .count) ⊎ (howOften (wakeCode D E) (listed (woken (wakeCode D e) (u .0 .wakes))) ≡ heard D E u + 1) → Heard D E y (conc .act (waken (wakeCode D e ∷ [])) u)
+      by (inl f) = inl f
+      by (inr f) = inr (f ∙ (ap (λ k. k + 1) h ∙ sym (ap flag n)))
+
+module _ (E : ℕ) (x : Transfer) (k : ℕ) (w : Track) (s : St) (quiet : w .new ≡ false) (none : heard Out E s ≡ 0) where
+  pub arm-out : own Out E Out (endpoint (x .st)) ≡ true → eqb (endpoint (x .st)) 0 ≡ false → x .len ≡ k → Kept Out E true s → Fits w (view Out E (s .0)) → eqb (s .0 .globals .stage) 2 ≡ true
+      → Follow Out E (Done Out E) (withPhase (due k) w) (run conc (outArm {i = true} x false) s)
+  unfolding withOn isOn
+  arm-out o nz e l r two =
+      follow.follow-cond Out E (eqb (endpoint (x .st)) 0) (λ z. differ (sym nz ∙ z)) (λ _. follow.follow-bind Out E (toggles-own Out E (endpoint (x .st)) k w o s l r two) (λ y b t m. go y b t m))
+    where
+      go : (y : Track) (b : Bool) (t : St) → Told Out E s w k y b t → Follow Out E (Done Out E) y (run {i = true} conc (when b (received (endpoint (x .st)) (x .len))) t)
+      go y b t (repeat h p f l two m) = follow.follow-cond Out E b (λ z. differ (sym h ∙ z)) (λ _. at-end (done-as Out E y (withPhase off w) t p refl f l two (inr (m .same refl ∙ (none ∙ sym (ap flag quiet))))))
+      go y b t (new v h p g n a l two m) = follow.follow-cond Out E b
+          (λ _.
+          let q = own-true Out E Out (endpoint (x .st)) o in
+          let f : Plain → Plain = λ p. completed (withLen (x .len) p) in
+          let u = conc .put (ep-cell Out (endpoint (x .st))) (f (conc .get (ep-cell Out (endpoint (x .st))) t)) t in
+          let c = changed Out E Out (endpoint (x .st)) f t q (l .whole) in
+          let i = waken (wakeCode Out (endpoint (x .st)) ∷ []) in
+          let ku = put-kept Out E (ep-cell Out (endpoint (x .st))) (f (conc .get (ep-cell Out (endpoint (x .st))) t)) t l in
+          at-end (done-as Out E y (newly Out v k w) (conc .act i u) p refl (subst (Fits (newly Out v k w)) (sym (act-view Out E i refl u ∙ c)) (fits-2 Out E two g refl e refl)) (woken-kept Out E (endpoint (x .st)) q u ku) two
+          (woken-heard Out E (endpoint (x .st)) q u ku (newly Out v k w) refl (put-hears Out E {m = true} (ep-cell Out (endpoint (x .st))) (f (conc .get (ep-cell Out (endpoint (x .st))) t)) t .same refl ∙ (m .same refl ∙ none)))))
+          (λ z. differ (sym z ∙ h))
+
+module _ (E : ℕ) (x : Transfer) (frame k : ℕ) (w : Track) (s : St) (quiet : w .new ≡ false) (none : heard In E s ≡ 0) where
+  pub arm-in : own In E In (endpoint (x .st)) ≡ true → eqb (endpoint (x .st)) 0 ≡ false → x .len ≡ k → Kept In E true s → Fits w (view In E (s .0)) → eqb (s .0 .globals .stage) 2 ≡ true
+      → Follow In E (Done In E) (withPhase (due k) w) (run conc (inArm {i = true} x false frame) s)
+  unfolding withOn isOn
+  arm-in o nz e l r two =
+      follow.follow-cond In E (eqb (endpoint (x .st)) 0) (λ z. differ (sym nz ∙ z)) (λ _. follow.follow-bind In E (toggles-own In E (endpoint (x .st)) k w o s l r two) (λ y b t m. go y b t m))
+    where
+      go : (y : Track) (b : Bool) (t : St) → Told In E s w k y b t → Follow In E (Done In E) y (run {i = true} conc (when b (sent (endpoint (x .st)))) t)
+      go y b t (repeat h p f l two m) = follow.follow-cond In E b (λ z. differ (sym h ∙ z)) (λ _. at-end (done-as In E y (withPhase off w) t p refl f l two (inr (m .same refl ∙ (none ∙ sym (ap flag quiet))))))
+      go y b t (new v h p g n a l two m) = follow.follow-cond In E b
+          (λ _.
+          let q = own-true In E In (endpoint (x .st)) o in
+          let u = conc .put (ep-cell In (endpoint (x .st))) (withReady 1 (conc .get (ep-cell In (endpoint (x .st))) t)) t in
+          let c = changed In E In (endpoint (x .st)) (withReady 1) t q (l .whole) in
+          let i = waken (wakeCode In (endpoint (x .st)) ∷ []) in
+          let ku = put-kept In E (ep-cell In (endpoint (x .st))) (withReady 1 (conc .get (ep-cell In (endpoint (x .st))) t)) t l in
+          at-end (done-as In E y (newly In v k w) (conc .act i u) p refl (subst (Fits (newly In v k w)) (sym (act-view In E i refl u ∙ c)) (fits-2 In E two g refl n a)) (woken-kept In E (endpoint (x .st)) q u ku) two
+          (woken-heard In E (endpoint (x .st)) q u ku (newly In v k w) refl (put-hears In E {m = true} (ep-cell In (endpoint (x .st))) (withReady 1 (conc .get (ep-cell In (endpoint (x .st))) t)) t .same refl ∙ (m .same refl ∙ none)))))
+          (λ z. differ (sym z ∙ h))

@@ -1,0 +1,303 @@
+-- The pipe by what can be seen of the driver from outside: the calls and their answers, the accesses and the numbers brought for them. The function's
+-- choices are calls, the bus's events are what an interrupt's readings show of endpoint 0. It knows nothing of the driver's state.
+use mathlib.Core.Bool.{Bool, true, false, not, cond, _&&_, _||_}
+use mathlib.Core.List.{List}
+use mathlib.Core.Path.{_≡_}
+use Prim.Native.Nat.{ℕ}
+use lib.Dec.{eqb}
+use lib.ListN.{length}
+use Rattle.regs.specs.declared.Access.{Access}
+use Rattle.regs.specs.declared.Access.the-variants.{Read, Write, Receive, Transmit, Ep0Dma, Wait, Callback}
+use Rattle.regs.specs.declared.Reg.{Reg}
+use Rattle.regs.specs.declared.Reg.the-variants.{IntFg, IntSt, MisSt, FrameNo, EpTLen, EpRxCtrl, EpTxCtrl}
+use Rattle.regs.specs.declared.Dir.{Dir}
+use Rattle.regs.specs.declared.Dir.the-variants.{Out, In}
+use Rattle.regs.specs.declared.Token as tokens
+use Rattle.regs.specs.declared.Token.the-variants as tok
+use Rattle.regs.specs.ControlWord as word
+use Rattle.regs.specs.ControlWord.{response, toggle}
+use Rattle.regs.specs.Flags.{transfer, setupAct}
+use Rattle.regs.specs.Status as status
+use Rattle.regs.specs.Status.{endpoint, togOk}
+use Rattle.regs.specs.MisStatus.{sieFree}
+use Rattle.script.specs.Answers.{Answer, Refused, End, NotYet, Done, Shown}
+use Rattle.script.specs.Calls.{Op, interrupt, slotted, other, aside, Slotted, SetEnabled, PollRead, BeginWrite, PollWrite, PollDataOut, BeginDataIn, Other, Allocate, AllocateAll, Start, BusPoll, BusEnable, BusDisable, Microframe, SetStalled, IsStalled, SetPaced, Advance, BeginRead, BeginSetup, PollSetup, PollDataIn, BeginAccept, PollAccept, BeginReject, BeginDataOut, BeginAcceptSetAddress}
+use Rattle.script.specs.Every.{sameReg}
+use Rattle.script.specs.TogglesLaws.{number}
+use Rattle.proof_usb20.specs.Pipe.{Answers, naks, stalls, acks, Half, renewed, isReady, Pipe, Event, setup, packet, token, possible, after, Choice, takes, gives, confirms, rejects, chosen, orderly, Awaited, nothing, awaitedBy, over}
+
+-- how far an interrupt's readings are: none of them concerns endpoint 0, its flags are to come, they are read, the bus's state (`true`: busy), the status it shows,
+-- the flag found taken by the release so that the status is read again
+pub data Phase : Type 0 where
+  off entered flagged again : Phase
+  timed : Bool → Phase
+  shows : Bool → ℕ → Phase
+
+-- EP0's control words and its transmit length as they were last written; `untaken`: a setup packet came that no poll has given to the function yet; `exempt`:
+-- something has happened since the last setup packet of which USB 2.0 says nothing, or otherwise than the Rust (below)
+pub record Log : Type 0 where
+  pub rx : ℕ
+  pub tx : ℕ
+  pub len : ℕ
+  pub pipe : Pipe
+  pub awaits : Awaited
+  pub untaken : Bool
+  pub exempt : Bool
+  pub phase : Phase
+  pub setup-seen : Bool
+
+abbrev pub before : Log
+before = record { rx = 0; tx = 0; len = 0; pipe = record { out = renewed; inn = renewed; size = 0 }; awaits = nothing; untaken = false; exempt = true; phase = off; setup-seen = false }
+
+abbrev pub withRx : ℕ → Log → Log
+withRx v w = record { rx = v; tx = w .tx; len = w .len; pipe = w .pipe; awaits = w .awaits; untaken = w .untaken; exempt = w .exempt; phase = w .phase; setup-seen = w .setup-seen }
+
+abbrev pub withTx : ℕ → Log → Log
+withTx v w = record { rx = w .rx; tx = v; len = w .len; pipe = w .pipe; awaits = w .awaits; untaken = w .untaken; exempt = w .exempt; phase = w .phase; setup-seen = w .setup-seen }
+
+abbrev pub withLen : ℕ → Log → Log
+withLen n w = record { rx = w .rx; tx = w .tx; len = n; pipe = w .pipe; awaits = w .awaits; untaken = w .untaken; exempt = w .exempt; phase = w .phase; setup-seen = w .setup-seen }
+
+abbrev pub withPhase : Phase → Log → Log
+withPhase p w = record { rx = w .rx; tx = w .tx; len = w .len; pipe = w .pipe; awaits = w .awaits; untaken = w .untaken; exempt = w .exempt; phase = p; setup-seen = w .setup-seen }
+
+abbrev pub withFlags : Bool → Log → Log
+withFlags s w = record { rx = w .rx; tx = w .tx; len = w .len; pipe = w .pipe; awaits = w .awaits; untaken = w .untaken; exempt = w .exempt; phase = flagged; setup-seen = s }
+
+abbrev pub withAwaits : Awaited → Log → Log
+withAwaits a w = record { rx = w .rx; tx = w .tx; len = w .len; pipe = w .pipe; awaits = a; untaken = w .untaken; exempt = w .exempt; phase = w .phase; setup-seen = w .setup-seen }
+
+abbrev pub withTaken : Log → Log
+withTaken w = record { rx = w .rx; tx = w .tx; len = w .len; pipe = w .pipe; awaits = w .awaits; untaken = false; exempt = w .exempt; phase = w .phase; setup-seen = w .setup-seen }
+
+-- ---- the bus's events
+
+abbrev pub happens : Event → Log → Log
+happens e w = record { rx = w .rx; tx = w .tx; len = w .len; pipe = after e (w .pipe); awaits = w .awaits; untaken = w .untaken; exempt = w .exempt || not (possible e (w .pipe)); phase = w .phase; setup-seen = w .setup-seen }
+
+-- a setup packet ends what the function waits for, and all exemption
+abbrev pub set-up : Log → Log
+set-up w = record { rx = w .rx; tx = w .tx; len = w .len; pipe = after setup (w .pipe); awaits = nothing; untaken = true; exempt = false; phase = w .phase; setup-seen = w .setup-seen }
+
+-- what the status shows of endpoint 0: a transaction that is complete, if the bus was free; the token in any case
+abbrev pub ofToken : tokens.Token → Bool → Bool → Log → Log
+ofToken tok.Out busy ok w = happens (token Out) (cond (not busy && ok) (happens (packet Out) w) w)
+ofToken tok.In busy ok w = happens (token In) (cond busy w (happens (packet In) w))
+ofToken tok.Sof busy ok w = w
+ofToken tok.Setup busy ok w = w
+
+abbrev pub seen : Bool → ℕ → Log → Log
+seen busy st w = cond (eqb (endpoint st) 0) (ofToken (status.token st) busy (togOk st) w) w
+
+abbrev pub reads : Phase → Reg → ℕ → Log → Log
+reads off r v w = w
+reads entered r v w = cond (sameReg r IntFg) (withFlags (setupAct v) w) w
+reads flagged r v w = cond (sameReg r MisSt) (withPhase (timed (not (sieFree v))) w) w
+reads (timed b) r v w = cond (sameReg r IntSt) (withPhase (shows b v) w) w
+reads (shows b st) r v w = cond (sameReg r IntFg) (cond (transfer v) w (withPhase again w)) (cond (sameReg r FrameNo) (seen b st (withPhase off w)) w)
+reads again r v w = cond (sameReg r IntSt) (withPhase (shows false v) w) w
+
+abbrev pub writes : Reg → ℕ → ℕ → Log → Log
+writes r e v w = cond (sameReg r EpRxCtrl) (cond (eqb e 0) (withRx v w) w) (cond (sameReg r EpTxCtrl) (cond (eqb e 0) (withTx v w) w)
+    (cond (sameReg r EpTLen) (cond (eqb e 0) (withLen v w) w) w))
+
+-- an access, and the number brought for it
+abbrev pub saw : Log → Access → ℕ → Log
+saw w (Read r e) v = reads (w .phase) r v w
+saw w (Write r e v) x = writes r e v w
+saw w (Receive e y) x = w
+saw w (Transmit e y) x = w
+saw w (Ep0Dma y) x = w
+saw w (Wait n) x = w
+saw w Callback x = w
+
+-- the chip has no automatic toggle at EP0: its control words read back as they were written
+abbrev pub Brings : Log → Access → ℕ → Type 0
+Brings w (Read r e) v = (sameReg r EpRxCtrl && eqb e 0 ≡ true → v ≡ w .rx) × (sameReg r EpTxCtrl && eqb e 0 ≡ true → v ≡ w .tx)
+Brings w (Write r e v) x = Unit {0}
+Brings w (Receive e y) x = Unit {0}
+Brings w (Transmit e y) x = Unit {0}
+Brings w (Ep0Dma y) x = Unit {0}
+Brings w (Wait n) x = Unit {0}
+Brings w Callback x = Unit {0}
+
+-- ---- the function's choices
+
+abbrev pub choose : Choice → Log → Log
+choose c w = record { rx = w .rx; tx = w .tx; len = w .len; pipe = chosen c (w .pipe); awaits = awaitedBy c; untaken = w .untaken; exempt = w .exempt || not (orderly c (w .pipe)); phase = w .phase; setup-seen = w .setup-seen }
+
+abbrev pub exempted : Log → Log
+exempted w = record { rx = w .rx; tx = w .tx; len = w .len; pipe = w .pipe; awaits = w .awaits; untaken = w .untaken; exempt = true; phase = w .phase; setup-seen = w .setup-seen }
+
+-- an operation begins
+abbrev pub opens : Op → Log → Log
+opens interrupt w = record { rx = w .rx; tx = w .tx; len = w .len; pipe = w .pipe; awaits = w .awaits; untaken = w .untaken; exempt = w .exempt; phase = entered; setup-seen = false }
+opens (slotted o) w = withPhase off w
+opens (other o) w = withPhase off w
+opens (aside o) w = withPhase off w
+
+-- it ends with a result: a begin is the function's choice; a bus reset (result 2) and a halt of EP0 set or cleared by a call exempt
+abbrev pub endsOther : Other → ℕ → Log → Log
+endsOther (Allocate d kind address maximum interval) n w = w
+endsOther (AllocateAll bytes) n w = w
+endsOther (Start maximum) n w = exempted w
+endsOther BusPoll n w = cond (eqb n 2) (exempted w) w
+endsOther BusEnable n w = w
+endsOther BusDisable n w = w
+endsOther Microframe n w = w
+endsOther (SetStalled d e on) n w = cond (eqb e 0) (exempted w) w
+endsOther (IsStalled d e) n w = w
+endsOther (SetPaced e on) n w = w
+endsOther (Advance e) n w = w
+endsOther (BeginRead e m) n w = w
+endsOther BeginSetup n w = withAwaits nothing w
+endsOther PollSetup n w = w
+endsOther PollDataIn n w = w
+endsOther BeginAccept n w = choose confirms w
+endsOther PollAccept n w = withAwaits nothing w
+endsOther BeginReject n w = choose rejects w
+endsOther (BeginDataOut m first) n w = choose (takes first) w
+endsOther (BeginAcceptSetAddress a) n w = choose confirms w
+
+abbrev pub endsSlotted : Slotted → Log → Log
+endsSlotted (SetEnabled d e on) w = w
+endsSlotted (PollRead e n) w = w
+endsSlotted (BeginWrite e bs) w = w
+endsSlotted (PollWrite e bs) w = w
+endsSlotted (PollDataOut n) w = w
+endsSlotted (BeginDataIn bs first last) w = choose (gives (length bs) first last) w
+
+abbrev pub ends : Op → ℕ → Log → Log
+ends interrupt n w = cond (w .setup-seen) (set-up w) w
+ends (slotted o) n w = endsSlotted o w
+ends (other o) n w = endsOther o n w
+ends (aside o) n w = w
+
+-- a poll of EP0
+pub data Poll : Type 0 where
+  none pollSetup pollOut pollIn pollStatus : Poll
+
+abbrev pub pollSlotted : Slotted → Poll
+pollSlotted (SetEnabled d e on) = none
+pollSlotted (PollRead e n) = none
+pollSlotted (BeginWrite e bs) = none
+pollSlotted (PollWrite e bs) = none
+pollSlotted (PollDataOut n) = pollOut
+pollSlotted (BeginDataIn bs first last) = none
+
+abbrev pub pollOther : Other → Poll
+pollOther (Allocate d kind address maximum interval) = none
+pollOther (AllocateAll bytes) = none
+pollOther (Start maximum) = none
+pollOther BusPoll = none
+pollOther BusEnable = none
+pollOther BusDisable = none
+pollOther Microframe = none
+pollOther (SetStalled d e on) = none
+pollOther (IsStalled d e) = none
+pollOther (SetPaced e on) = none
+pollOther (Advance e) = none
+pollOther (BeginRead e n) = none
+pollOther BeginSetup = none
+pollOther PollSetup = pollSetup
+pollOther PollDataIn = pollIn
+pollOther BeginAccept = none
+pollOther PollAccept = pollStatus
+pollOther BeginReject = none
+pollOther (BeginDataOut n first) = none
+pollOther (BeginAcceptSetAddress a) = none
+
+abbrev pub pollOf : Op → Poll
+pollOf interrupt = none
+pollOf (slotted o) = pollSlotted o
+pollOf (other o) = pollOther o
+pollOf (aside o) = none
+
+-- what it was waiting for is over
+abbrev pub settled : Poll → Log → Log
+settled none w = w
+settled pollSetup w = w
+settled pollOut w = withAwaits nothing w
+settled pollIn w = withAwaits nothing w
+settled pollStatus w = withAwaits nothing w
+
+-- a poll is done: it has taken what it waited for
+abbrev pub done : Poll → Log → Log
+done none w = w
+done pollSetup w = withTaken w
+done pollOut w = withAwaits nothing w
+done pollIn w = withAwaits nothing w
+done pollStatus w = withAwaits nothing w
+
+-- a poll's refusals 9 and 10 end its request
+abbrev pub closes : Op → Answer → Log → Log
+closes o (Refused n) w = cond (eqb n 9 || eqb n 10) (settled (pollOf o) w) w
+closes o (End n ws) w = ends o n w
+closes o NotYet w = w
+closes o (Done bytes) w = done (pollOf o) w
+closes o (Shown bytes stamp) w = w
+
+-- ---- what is claimed
+
+-- of what a control word says: the pipe's answer, and its PID
+abbrev pub Shows : ℕ → Half → Answers → Type 0
+Shows v h naks = response v ≡ word.NAK
+Shows v h stalls = response v ≡ word.STALL
+Shows v h (acks s) = (response v ≡ word.ACK) × (toggle v ≡ number (h .bit))
+
+-- EP0 is armed as the pipe says; a packet IN that is ready has its length
+abbrev pub Armed : Log → Type 0
+Armed w = w .exempt ≡ false → Shows (w .rx) (w .pipe .out) (w .pipe .out .answers) × Shows (w .tx) (w .pipe .inn) (w .pipe .inn .answers)
+    × (isReady (w .pipe .inn .answers) ≡ true → w .len ≡ w .pipe .size)
+
+abbrev pub Complete : Bool → Log → Type 0
+Complete b w = w .exempt ≡ false → over (w .awaits) (w .pipe) ≡ b
+
+-- a setup packet came that the function has not taken, or none
+abbrev pub Untaken : Bool → Log → Type 0
+Untaken b w = w .exempt ≡ false → w .untaken ≡ b
+
+-- of a stage's poll that does not answer that it is done: not yet, so the stage is not over and no setup packet has ended it; or refused with 9, so one has
+abbrev pub Unfinished : Answer → Log → Type 0
+Unfinished (Refused n) w = eqb n 9 ≡ true → Untaken true w
+Unfinished (End n ws) w = Unit {0}
+Unfinished NotYet w = Complete false w × Untaken false w
+Unfinished (Done bytes) w = Unit {0}
+Unfinished (Shown bytes stamp) w = Unit {0}
+
+-- of one that does: the stage is over. An accept's poll that ends with a result has written the address
+abbrev pub Completes : Answer → Log → Type 0
+Completes (Refused n) w = Unit {0}
+Completes (End n ws) w = Complete true w
+Completes NotYet w = Unit {0}
+Completes (Done bytes) w = Complete true w
+Completes (Shown bytes stamp) w = Unit {0}
+
+-- a setup's poll gives a packet exactly if there is one
+abbrev pub GivesSetup : Answer → Log → Type 0
+GivesSetup (Refused n) w = Unit {0}
+GivesSetup (End n ws) w = Unit {0}
+GivesSetup NotYet w = Untaken false w
+GivesSetup (Done bytes) w = Untaken true w
+GivesSetup (Shown bytes stamp) w = Unit {0}
+
+abbrev pub FairPoll : Poll → Answer → Log → Type 0
+FairPoll none a w = Unit {0}
+FairPoll pollSetup a w = GivesSetup a w
+FairPoll pollOut a w = Unfinished a w × Completes a w
+FairPoll pollIn a w = Unfinished a w × Completes a w
+FairPoll pollStatus a w = Unfinished a w × Completes a w
+
+abbrev pub Fair : Op → Answer → Log → Type 0
+Fair o a w = FairPoll (pollOf o) a w
+
+-- and it hands out no access, of an accept's but the address (AddressLaws), before the completion
+abbrev pub AllowedTo : Poll → Log → Type 0
+AllowedTo none w = Unit {0}
+AllowedTo pollSetup w = Unit {0}
+AllowedTo pollOut w = Unit {0}
+AllowedTo pollIn w = Unit {0}
+AllowedTo pollStatus w = Complete true w
+
+abbrev pub Allowed : Op → Log → Type 0
+Allowed o w = AllowedTo (pollOf o) w

@@ -1,0 +1,158 @@
+-- An observer of the driver's calls. It is told each call and its answer, each access and the number brought for it, and nothing of the driver's state; from these it
+-- writes its log, and by its log it judges the next answer and the next access
+use mathlib.Core.Bool.{Bool, true, false, cond}
+use mathlib.Core.List.{List, [], _∷_, _++_}
+use mathlib.Core.Path.{_≡_}
+use Prim.Native.Nat.{ℕ, zero, suc}
+use Rattle.regs.specs.declared.Access.{Access}
+use Rattle.state.specs.Driver.{Driver}
+use Rattle.script.specs.Answers.{Answer}
+use Rattle.script.specs.Calls.{Config, Op, calls, startRow}
+use Rattle.script.specs.Machine.{Buf, Call, start, begin, go, question, Event, Ans, ended, handed, told, Way, idle, busy, Machine}
+use Rattle.way.specs.Under.{driverOf, drive}
+use Rattle.book.specs.Always.{after}
+
+pub record Observer : Type 1 where
+  pub Log : Type 0
+  pub before : Log  -- at start-up
+  pub opens : Op → Log → Log  -- an operation begins
+  pub saw : Log → Access → ℕ → Log  -- an access, and the number brought for it
+  pub closes : Op → Answer → Log → Log  -- a call ends
+  -- what is asked of the numbers brought
+  pub Brings : Log → Access → ℕ → Type 0
+  -- what is claimed of a call's answer, and of the accesses that it hands out
+  pub Fair : Op → Answer → Log → Type 0
+  pub Allowed : Op → Log → Type 0
+  pub Asks : Op → Access → Type 0
+  -- what the driver's state shows; what is claimed of it where nothing is under way; which states are spoken of
+  pub View : Type 0
+  pub view : Driver → View
+  pub Stands : Log → View → Type 0
+  pub Meant : View → Type 0
+
+-- what is under way
+pub data Under : Type 0 where
+  at-rest : Under
+  doing : Op → Access → Under  -- an operation, at an access
+  starting : Under
+
+abbrev pub serves : Way Answer Driver → Bool
+serves idle = false
+serves (busy i a k) = true
+
+module _ (O : Observer) where
+  pub record Watched : Type 0 where
+    pub log : O .Log
+    pub under : Under
+
+  abbrev pub watched : O .Log → Under → Watched
+  watched w u = record { log = w; under = u }
+
+  -- ---- the log of a run
+
+  abbrev pub startedBy : Ans Answer → Watched
+  startedBy (ended a) = watched (O .before) at-rest
+  startedBy (handed q) = watched (O .before) starting
+  startedBy (told n) = watched (O .before) at-rest
+
+  abbrev pub begunBy : Op → Ans Answer → O .Log → Watched
+  begunBy o (ended a) w = watched (O .closes o a (O .opens o w)) at-rest
+  begunBy o (handed q) w = watched (O .opens o w) (doing o q)
+  begunBy o (told n) w = watched w at-rest
+
+  abbrev pub goneBy : Op → Ans Answer → O .Log → Watched
+  goneBy o (ended a) w = watched (O .closes o a w) at-rest
+  goneBy o (handed q) w = watched w (doing o q)
+  goneBy o (told n) w = watched w at-rest
+
+  -- a refused continue leaves the operation where it is
+  abbrev pub wentOn : ℕ → Ans Answer → Bool → O .Log → Under → Watched
+  wentOn v a still w at-rest = watched w at-rest
+  wentOn v (ended a) true w (doing o q) = watched w (doing o q)
+  wentOn v (ended a) false w (doing o q) = goneBy o (ended a) (O .saw w q v)
+  wentOn v (handed p) still w (doing o q) = goneBy o (handed p) (O .saw w q v)
+  wentOn v (told n) still w (doing o q) = watched w (doing o q)
+  wentOn v a true w starting = watched w starting
+  wentOn v a false w starting = watched w at-rest
+
+  abbrev pub beginsBy : Op → Ans Answer → O .Log → Under → Watched
+  beginsBy o a w at-rest = begunBy o a w
+  beginsBy o a w (doing p q) = watched w (doing p q)
+  beginsBy o a w starting = watched w starting
+
+  abbrev pub startsBy : ℕ → Ans Answer → Watched → Watched
+  startsBy zero a x = startedBy a
+  startsBy (suc n) a x = x
+
+  -- a call, the slot buffer it brought (start-up's row 1), its answer, whether an operation is under way after it
+  abbrev pub noted : Call Config Op → Buf → Ans Answer → Bool → Watched → Watched
+  noted (start c) b a still x = startsBy (startRow c b) a x
+  noted (begin o) b a still x = beginsBy o a (x .log) (x .under)
+  noted (go v) b a still x = wentOn v a still (x .log) (x .under)
+  noted (question q) b a still x = x
+
+  -- ---- what is claimed of a call
+
+  abbrev pub ClaimAt : Op → Ans Answer → O .Log → Type 0
+  ClaimAt o (ended a) w = O .Fair o a w
+  ClaimAt o (handed q) w = O .Allowed o w × O .Asks o q
+  ClaimAt o (told n) w = Unit {0}
+
+  abbrev pub ClaimGone : ℕ → Ans Answer → Bool → O .Log → Under → Type 0
+  ClaimGone v a still w at-rest = Unit {0}
+  ClaimGone v (ended a) true w (doing o q) = Unit {0}
+  ClaimGone v (ended a) false w (doing o q) = ClaimAt o (ended a) (O .saw w q v)
+  ClaimGone v (handed p) still w (doing o q) = ClaimAt o (handed p) (O .saw w q v)
+  ClaimGone v (told n) still w (doing o q) = Unit {0}
+  ClaimGone v a still w starting = Unit {0}
+
+  abbrev pub ClaimBegun : Op → Ans Answer → O .Log → Under → Type 0
+  ClaimBegun o a w at-rest = ClaimAt o a (O .opens o w)
+  ClaimBegun o a w (doing p q) = Unit {0}
+  ClaimBegun o a w starting = Unit {0}
+
+  abbrev pub Claim : Call Config Op → Ans Answer → Bool → Watched → Type 0
+  Claim (start c) a still x = Unit {0}
+  Claim (begin o) a still x = ClaimBegun o a (x .log) (x .under)
+  Claim (go v) a still x = ClaimGone v a still (x .log) (x .under)
+  Claim (question q) a still x = Unit {0}
+
+  -- where nothing is under way
+  abbrev pub Standing : Driver → O .Log → Under → Type 0
+  Standing d w at-rest = O .Stands w (O .view d)
+  Standing d w (doing o q) = Unit {0}
+  Standing d w starting = Unit {0}
+
+  -- the chip's part: the number that a continue brings, if it is not refused
+  abbrev pub ReadAt : ℕ → Ans Answer → Bool → O .Log → Under → Type 0
+  ReadAt v a still w at-rest = Unit {0}
+  ReadAt v (ended a) true w (doing o q) = Unit {0}
+  ReadAt v (ended a) false w (doing o q) = O .Brings w q v
+  ReadAt v (handed p) still w (doing o q) = O .Brings w q v
+  ReadAt v (told n) still w (doing o q) = Unit {0}
+  ReadAt v a still w starting = Unit {0}
+
+  abbrev pub Read : Call Config Op → Ans Answer → Bool → Watched → Type 0
+  Read (start c) a still x = Unit {0}
+  Read (begin o) a still x = Unit {0}
+  Read (go v) a still x = ReadAt v a still (x .log) (x .under)
+  Read (question q) a still x = Unit {0}
+
+  -- ---- a list of calls
+
+  abbrev pub Reads : List (Event Config Op) → Machine Answer Driver → Watched → Type 0
+  Reads [] m x = Unit {0}
+  Reads (e ∷ es) m x =
+      let y = drive (e .call) m (e .lent) in
+      Read (e .call) (y .0) (serves (y .1 .way)) x × Reads es (y .1) (noted (e .call) (e .lent) (y .0) (serves (y .1 .way)) x)
+
+  abbrev pub All : List (Event Config Op) → Machine Answer Driver → Watched → Type 0
+  All [] m x = Unit {0}
+  All (e ∷ es) m x =
+      let y = drive (e .call) m (e .lent) in
+      let z = noted (e .call) (e .lent) (y .0) (serves (y .1 .way)) x in
+      Claim (e .call) (y .0) (serves (y .1 .way)) x × Standing (y .1 .st) (z .log) (z .under) × All es (y .1) z
+
+  -- after each of the calls the state is one that is spoken of
+  abbrev pub Meaning : List (Event Config Op) → Machine Answer Driver → Type 0
+  Meaning es m = (ds fs : List (Event Config Op)) → es ≡ ds ++ fs → O .Meant (O .view (after calls driverOf ds m .st))

@@ -1,0 +1,270 @@
+-- The laws of the control pipe's polls: a poll is done exactly after the completion, and writes the address after it alone
+use mathlib.Core.Bool.{Bool, true, false, not, cond, _&&_, _||_}
+use mathlib.Core.List.{List, []}
+use mathlib.Core.Logic.{_⊎_, inl, inr}
+use mathlib.Core.Path.{_≡_, refl, ap, subst, sym, _∙_}
+use Prim.Native.Nat.{ℕ, zero, suc, _%_}
+use native.Mathlib.Omega.{arith}
+use lib.Dec.{eqb, ltb}
+use lib.ListN.{length}
+use borrow.Author.Tests.{eqb-true}
+use Rattle.regs.specs.declared.Dir.{Dir}
+use Rattle.regs.specs.declared.Dir.the-variants.{Out, In}
+use Rattle.state.specs.declared.Control.{Control}
+use Rattle.state.specs.declared.Globals.{Globals}
+use Rattle.script.specs.Tree as tree
+use Rattle.script.specs.Cells.{Plain, ep-cell, control-cell, globals-cell}
+use Rattle.script.specs.Script.{run, no-wakes}
+use Rattle.script.specs.Statics.{isOn, flag, withReady, withSetup}
+use Rattle.script.specs.Answers.{Answer, Refused, End, NotYet, Done, Shown}
+use Rattle.script.specs.Control.{SETUP, DATA-OUT, DATA-IN, ACCEPT, requestOf, no-control, dataInOf, addressOf, setupBytes}
+use Rattle.script.specs.Calls.{Op, interrupt, slotted, other, aside, PollDataOut, PollSetup, PollDataIn, PollAccept, code}
+use Rattle.ops.specs.Rings.{St}
+use Rattle.ops.specs.Conc.{conc}
+use Rattle.book.specs.Sorts.{Steady, put-steady}
+use Rattle.book.specs.Sorting.{Sorting}
+use Rattle.proof_usb20.specs.Pipe.{Half, Pipe, Awaited, nothing, taken, given, confirmed, over}
+use Rattle.proof_usb20.specs.Log.{Log, withAwaits, withPhase, off, opens, closes, Allowed, Fair, Complete}
+use Rattle.proof_usb20.specs.Watch.{at-end, at-ask, watch-cond}
+use Rattle.proof_usb20.specs.Ep0.{Watch, Rec, View, view, Fits, Rests, no-request, set-up, Gives, first-wait, second-wait, Waits, Rel, R, Keeps, Ends, Law}
+use Rattle.proof_usb20.specs.Exempt.{exempt-law, differ}
+use Rattle.proof_usb20.specs.Fitting as fitting
+use Rattle.proof_usb20.specs.Views.{rec, setOut, setIn, setControl, setReady, put-out, put-in, put-control, put-globals}
+use Rattle.proof_usb20.specs.Same.{act-view}
+use Rattle.proof_usb20.specs.Stages.{outWith, inWith, Whole, out-view, in-view, out-whole, in-whole, moved}
+
+-- ---- a request that is over
+
+pub rested : {p : Pipe} {x : View} → x .control ≡ no-control → Rests p x
+rested e = no-request (λ q. absurd (omega (arith, q, ap (λ (c : Control). c .sort) e))) (λ q. absurd (omega (arith, q, ap (λ (c : Control). c .sort) e))) (λ q. absurd (omega (arith, q, ap (λ (c : Control). c .sort) e)))
+
+-- records whose `ready` alone changed
+pub record Kin (x y : View) : Type 0 where
+  pub out : y .out .armed ≡ x .out .armed
+  pub inn : y .inn .armed ≡ x .inn .armed
+  pub stage : y .stage ≡ x .stage
+  pub setup : y .setup-ready ≡ x .setup-ready
+
+refit : {v : ℕ} {h : Half} {r s : Rec} → s .armed ≡ r .armed → Fits v h r → Fits v h s
+refit e f = record { shows = f .shows; toggles = f .toggles; armed = ap isOn e ∙ f .armed }
+
+pub over-now : {ex : Bool} {rx tx l : ℕ} {p : Pipe} {a : Awaited} {u : Bool} {x y : View} → Rel rx tx l p a u x → Kin x y → y .control ≡ no-control → (ex ≡ true) ⊎ Rel rx tx l p nothing u y
+over-now r k c = inr (record { stage = k .stage ∙ r .stage; out = refit (k .out) (r .out); inn = refit (k .inn) (r .inn); waits = rested c; size = r .size; setup = ap isOn (k .setup) ∙ r .setup })
+
+-- ---- the states
+
+abbrev none : St → St
+none s = conc .put control-cell no-control s
+
+none-view : (s : St) → view (none s .0) ≡ setControl no-control (view (s .0))
+none-view s = put-control no-control s
+
+kin-by : (x : View) {y z : View} → y ≡ z → Kin x z → Kin x y
+kin-by x e k = subst (Kin x) (sym e) k
+
+kin-none : (s : St) → Kin (view (s .0)) (view (none s .0))
+kin-none s = kin-by (view (s .0)) (none-view s) (record { out = refl; inn = refl; stage = refl; setup = refl })
+
+kin-out : (s : St) → Whole s → Kin (view (s .0)) (view (none (outWith (withReady 0) s) .0))
+kin-out s h = kin-by (view (s .0)) (none-view (outWith (withReady 0) s) ∙ ap (setControl no-control) (out-view (withReady 0) s h)) (record { out = refl; inn = refl; stage = refl; setup = refl })
+
+kin-in : (s : St) → Whole s → Kin (view (s .0)) (view (none (inWith (withReady 0) s) .0))
+kin-in s h = kin-by (view (s .0)) (none-view (inWith (withReady 0) s) ∙ ap (setControl no-control) (in-view (withReady 0) s h)) (record { out = refl; inn = refl; stage = refl; setup = refl })
+
+kin-both : (s : St) → Whole s → Kin (view (s .0)) (view (none (inWith (withReady 0) (outWith (withReady 0) s)) .0))
+kin-both s h = kin-by (view (s .0)) (none-view (inWith (withReady 0) (outWith (withReady 0) s)) ∙ ap (setControl no-control) (in-view (withReady 0) (outWith (withReady 0) s) (out-whole (withReady 0) s h) ∙ ap (λ (y : View). setIn (record { ready = 0; armed = y .inn .armed }) y) (out-view (withReady 0) s h))) (record { out = refl; inn = refl; stage = refl; setup = refl })
+
+done-none : (s : St) → view (none s .0) .control ≡ no-control
+done-none s = ap (λ (x : View). x .control) (none-view s)
+
+-- ---- setup
+
+pub law-poll-setup : Law (other PollSetup)
+law-poll-setup w s (inl e) z = exempt-law (other PollSetup) tt w s e
+law-poll-setup w s (inr r) z =
+    watch-cond (eqb (s .0 .globals .stage) 2)
+    (λ _. watch-cond (eqb (s .0 .control .sort) SETUP) (λ q. watch-cond (isOn (s .0 .globals .«setup_ready»)) (λ o. at-end (taken-setup (w .awaits) r (eqb-true (s .0 .control .sort) SETUP q), λ _. sym (r .setup) ∙ o)) (λ o. at-end (inr r, λ _. sym (r .setup) ∙ o))) (λ _. at-end (inr r, tt)))
+    (λ _. at-end (inr r, tt))
+  where
+    x : St
+    x = conc .put globals-cell (withSetup 0 (s .0 .globals .«setup_low») (s .0 .globals .«setup_high») (s .0 .globals)) s
+
+    seen : view (none x .0) ≡ setControl no-control (setReady 0 (view (s .0)))
+    seen = none-view x ∙ ap (setControl no-control) (put-globals (withSetup 0 (s .0 .globals .«setup_low») (s .0 .globals .«setup_high») (s .0 .globals)) s)
+
+    taken-setup : (a : Awaited) → Rel (w .rx) (w .tx) (w .len) (w .pipe) a (w .untaken) (view (s .0)) → s .0 .control .sort ≡ 1 → (w .exempt ≡ true) ⊎ Rel (w .rx) (w .tx) (w .len) (w .pipe) a false (view (none x .0))
+    taken-setup nothing r q = moved seen (inr (record { stage = r .stage; out = r .out; inn = r .inn; waits = rested refl; size = r .size; setup = fitting.off }))
+    taken-setup taken r q = absurd (omega (arith, q, r .waits .0))
+    taken-setup (given last) r q = absurd (omega (arith, q, r .waits .0))
+    taken-setup confirmed r q = absurd (omega (arith, q, r .waits .0))
+
+-- ---- data_out
+
+-- not ready: the wait goes on, or a setup packet has ended it
+ready-out : (a : Awaited) {rx tx l : ℕ} {p : Pipe} {u : Bool} {x : View} → Rel rx tx l p a u x → x .control .sort ≡ 2 → isOn (x .out .ready) ≡ true → over a p ≡ true
+ready-out nothing {p = p} {x = x} r q o = by (r .waits)
+  where
+    by : Rests p x → false ≡ true
+    by (no-request a b c) = absurd (a q)
+    by (set-up e f g h i) = differ (sym f ∙ o)
+ready-out taken r q o = sym (r .waits .1) ∙ o
+ready-out (given last) r q o = absurd (omega (arith, q, r .waits .0))
+ready-out confirmed r q o = absurd (omega (arith, q, r .waits .0))
+
+unready-out : (a : Awaited) {rx tx l : ℕ} {p : Pipe} {u : Bool} {x : View} → Rel rx tx l p a u x → x .control .sort ≡ 2 → isOn (x .out .ready) ≡ false → over a p ≡ false
+unready-out nothing r q o = refl
+unready-out taken r q o = sym (r .waits .1) ∙ o
+unready-out (given last) r q o = absurd (omega (arith, q, r .waits .0))
+unready-out confirmed r q o = absurd (omega (arith, q, r .waits .0))
+
+pub law-poll-data-out : (n : ℕ) → Law (slotted (PollDataOut n))
+law-poll-data-out n w s (inl e) z = exempt-law (slotted (PollDataOut n)) tt w s e
+law-poll-data-out n w s (inr r) z =
+    watch-cond (eqb (s .0 .globals .stage) 2)
+    (λ _. watch-cond (eqb (s .0 .control .sort) DATA-OUT)
+    (λ q. let two = eqb-true (s .0 .control .sort) DATA-OUT q in
+    watch-cond (eqb (s .0 .control .length) n)
+    (λ _. watch-cond (isOn (conc .get (ep-cell Out 0) s .ready))
+    (λ o. watch-cond (ltb n (conc .get (ep-cell Out 0) s .len))
+    (λ _. at-end (over-now r (kin-out s (z .places)) (done-none (outWith (withReady 0) s)), (λ h. differ h, tt)))
+    (λ _. at-end (over-now r (kin-out s (z .places)) (done-none (outWith (withReady 0) s)), (tt, λ _. ready-out (w .awaits) r two o))))
+    (λ o. watch-cond (isOn (s .0 .globals .«setup_ready»))
+    (λ g. at-end (over-now r (kin-none s) (done-none s), (λ _ _. sym (r .setup) ∙ g, tt)))
+    (λ g. at-end (inr r, ((λ _. unready-out (w .awaits) r two o, λ _. sym (r .setup) ∙ g), tt)))))
+    (λ _. at-end (over-now r (kin-out s (z .places)) (done-none (outWith (withReady 0) s)), (λ h. differ h, tt))))
+    (λ _. at-end (inr r, (λ h. differ h, tt))))
+    (λ _. at-end (inr r, (λ h. differ h, tt)))
+
+-- ---- accept
+
+ready-status : (a : Awaited) {rx tx l : ℕ} {p : Pipe} {u : Bool} {x : View} → Rel rx tx l p a u x → x .control .sort ≡ 4 → isOn (x .inn .ready) ≡ true → over a p ≡ true
+ready-status nothing {p = p} {x = x} r q o = by (r .waits)
+  where
+    by : Rests p x → false ≡ true
+    by (no-request a b c) = absurd (c q)
+    by (set-up e f g h i) = differ (sym g ∙ o)
+ready-status taken r q o = absurd (omega (arith, q, r .waits .0))
+ready-status (given last) r q o = absurd (omega (arith, q, r .waits .0))
+ready-status confirmed r q o = sym (r .waits .1) ∙ o
+
+unready-status : (a : Awaited) {rx tx l : ℕ} {p : Pipe} {u : Bool} {x : View} → Rel rx tx l p a u x → x .control .sort ≡ 4 → isOn (x .inn .ready) ≡ false → over a p ≡ false
+unready-status nothing r q o = refl
+unready-status taken r q o = absurd (omega (arith, q, r .waits .0))
+unready-status (given last) r q o = absurd (omega (arith, q, r .waits .0))
+unready-status confirmed r q o = sym (r .waits .1) ∙ o
+
+pub law-poll-accept : Law (other PollAccept)
+law-poll-accept w s (inl e) z = exempt-law (other PollAccept) tt w s e
+law-poll-accept w s (inr r) z =
+    watch-cond (eqb (s .0 .globals .stage) 2)
+    (λ _. watch-cond (eqb (s .0 .control .sort) ACCEPT)
+    (λ q. let four = eqb-true (s .0 .control .sort) ACCEPT q in
+    watch-cond (isOn (conc .get (ep-cell In 0) s .ready))
+    (λ o. watch-cond (isOn (s .0 .control .«sets_address»))
+    (λ _. at-ask (λ _. ready-status (w .awaits) r four o) (λ v t b k.
+    at-end (moved (k .0 ∙ act-view no-wakes refl (none (inWith (withReady 0) s))) (over-now r (kin-in s (z .places)) (done-none (inWith (withReady 0) s))), (tt, λ _. ready-status (w .awaits) r four o))))
+    (λ _. at-end (over-now r (kin-in s (z .places)) (done-none (inWith (withReady 0) s)), (tt, λ _. ready-status (w .awaits) r four o))))
+    (λ o. watch-cond (isOn (s .0 .globals .«setup_ready»))
+    (λ g. at-end (over-now r (kin-none s) (done-none s), (λ _ _. sym (r .setup) ∙ g, tt)))
+    (λ g. at-end (inr r, ((λ _. unready-status (w .awaits) r four o, λ _. sym (r .setup) ∙ g), tt)))))
+    (λ _. at-end (inr r, (λ h. differ h, tt))))
+    (λ _. at-end (inr r, (λ h. differ h, tt)))
+
+-- ---- data_in
+
+-- the two waits of a data_in, as the request's record has them
+data Waiting (a : Awaited) (p : Pipe) (x : View) : Type 0 where
+  -- a setup packet has ended it
+  aborted : isOn (x .setup-ready) ≡ true → isOn (x .out .ready) ≡ false → isOn (x .inn .ready) ≡ false → Waiting a p x
+  packet-of : (last : Bool) → a ≡ given last → isOn (x .control .last) ≡ last → x .control .wait ≡ 1 → isOn (x .inn .ready) ≡ p .inn .through → (last ≡ true → isOn (x .out .ready) ≡ p .out .through) → Waiting a p x
+  closing-of : a ≡ given true → isOn (x .control .last) ≡ true → x .control .wait ≡ 2 → p .inn .through ≡ true → isOn (x .out .ready) ≡ p .out .through → Waiting a p x
+
+waiting : (a : Awaited) {rx tx l : ℕ} {p : Pipe} {u : Bool} {x : View} → Rel rx tx l p a u x → x .control .sort ≡ 3 → Waiting a p x
+waiting nothing {p = p} {x = x} r q = by (r .waits)
+  where
+    by : Rests p x → Waiting nothing p x
+    by (no-request a b c) = absurd (b q)
+    by (set-up e f g h i) = aborted e f g
+waiting taken r q = absurd (omega (arith, q, r .waits .0))
+waiting (given last) {p = p} {x = x} r q = by last (r .waits .1) (r .waits .2)
+  where
+    by : (last : Bool) → isOn (x .control .last) ≡ last → Gives last p x → Waiting (given last) p x
+    by last l (first-wait n i o) = packet-of last refl l n i o
+    by true l (second-wait n e i o) = closing-of refl l n i o
+    by false l (second-wait n e i o) = differ e
+waiting confirmed r q = absurd (omega (arith, q, r .waits .0))
+
+over-last : (p : Pipe) → p .inn .through ≡ true → over (given true) p ≡ p .out .through
+over-last p h = rw h refl
+
+not-sent : (last : Bool) (p : Pipe) → p .inn .through ≡ false → over (given last) p ≡ false
+not-sent true p h = rw h refl
+not-sent false p h = h
+
+-- the first wait is over: the data packet's completion is taken
+abbrev second : St → St
+second s = conc .put control-cell (dataInOf (s .0 .control .length) (s .0 .control .last) 2) (inWith (withReady 0) s)
+
+second-view : (s : St) → Whole s → view (second s .0) ≡ setControl (dataInOf (s .0 .control .length) (s .0 .control .last) 2) (setIn (record { ready = 0; armed = view (s .0) .inn .armed }) (view (s .0)))
+second-view s h = put-control (dataInOf (s .0 .control .length) (s .0 .control .last) 2) (inWith (withReady 0) s) ∙ ap (setControl (dataInOf (s .0 .control .length) (s .0 .control .last) 2)) (in-view (withReady 0) s h)
+
+abbrev Polled : Log → St → tree.Out St Answer → Type 0
+Polled w s o = Watch Keeps (Allowed (other PollDataIn)) (Ends (other PollDataIn)) (withPhase off w) o
+
+module _ (w : Log) (s : St) (r : Rel (w .rx) (w .tx) (w .len) (w .pipe) (w .awaits) (w .untaken) (view (s .0))) (z : Sorting (s .0)) where
+  -- the closing OUT came, empty or with data
+  closed : (k : St) → Kin (view (s .0)) (view (none k .0)) → over (w .awaits) (w .pipe) ≡ true → (e : Bool) → Polled w s (tree.ends (cond e (Done []) (Refused 10)) (none k))
+  closed k i o true = at-end {a = Done []} (over-now r i (done-none k), (tt, λ _. o))
+  closed k i o false = at-end {a = Refused 10} (over-now r i (done-none k), (λ h. differ h, tt))
+
+  refused : isOn (s .0 .globals .«setup_ready») ≡ true → Polled w s (tree.ends (Refused 9) (none s))
+  refused g = at-end {a = Refused 9} (over-now r (kin-none s) (done-none s), (λ _ _. sym (r .setup) ∙ g, tt))
+
+  -- the data packet went through, the closing OUT is awaited
+  goes-on : w .awaits ≡ given true → isOn (s .0 .control .last) ≡ true → w .pipe .inn .through ≡ true → isOn (view (s .0) .out .ready) ≡ w .pipe .out .through → R (withPhase off w) (view (second s .0))
+  goes-on a l i o = inr (subst (λ (x : Awaited). Rel (w .rx) (w .tx) (w .len) (w .pipe) x (w .untaken) (view (second s .0))) (sym a) (subst (Rel (w .rx) (w .tx) (w .len) (w .pipe) (given true) (w .untaken)) (sym (second-view s (z .places))) (record { stage = r .stage; out = r .out; inn = refit refl (r .inn); waits = (refl, l, second-wait refl refl i o); size = r .size; setup = r .setup })))
+
+  polled-in : Waiting (w .awaits) (w .pipe) (view (s .0)) → Polled w s (run conc (code (other PollDataIn)) s)
+  polled-in (aborted e f g) =
+      watch-cond (eqb (s .0 .globals .stage) 2)
+      (λ _. watch-cond (eqb (s .0 .control .sort) DATA-IN)
+      (λ _. watch-cond (eqb (s .0 .control .wait) 2)
+      (λ _. watch-cond (isOn (conc .get (ep-cell Out 0) s .ready)) (λ b. differ (sym f ∙ b)) (λ _. watch-cond (isOn (s .0 .globals .«setup_ready»)) (λ g. refused g) (λ b. differ (sym b ∙ e))))
+      (λ _. watch-cond (isOn (conc .get (ep-cell In 0) s .ready)) (λ b. differ (sym g ∙ b)) (λ _. watch-cond (isOn (s .0 .globals .«setup_ready»)) (λ g. refused g) (λ b. differ (sym b ∙ e)))))
+      (λ _. at-end (inr r, (λ h. differ h, tt))))
+      (λ _. at-end (inr r, (λ h. differ h, tt)))
+  polled-in (closing-of a l n i o) =
+      watch-cond (eqb (s .0 .globals .stage) 2)
+      (λ _. watch-cond (eqb (s .0 .control .sort) DATA-IN)
+      (λ _. watch-cond (eqb (s .0 .control .wait) 2)
+      (λ _. watch-cond (isOn (conc .get (ep-cell Out 0) s .ready))
+      (λ b. closed (outWith (withReady 0) s) (kin-out s (z .places)) (ap (λ (x : Awaited). over x (w .pipe)) a ∙ (over-last (w .pipe) i ∙ (sym o ∙ b))) (eqb (conc .get (ep-cell Out 0) s .len) 0))
+      (λ b. watch-cond (isOn (s .0 .globals .«setup_ready»)) (λ g. refused g) (λ g. at-end {a = NotYet} (inr r, ((λ _. ap (λ (x : Awaited). over x (w .pipe)) a ∙ (over-last (w .pipe) i ∙ (sym o ∙ b)), λ _. sym (r .setup) ∙ g), tt)))))
+      (λ two. differ (sym two ∙ ap (λ (k : ℕ). eqb k 2) n)))
+      (λ _. at-end (inr r, (λ h. differ h, tt))))
+      (λ _. at-end (inr r, (λ h. differ h, tt)))
+  polled-in (packet-of last a l n i o) =
+      watch-cond (eqb (s .0 .globals .stage) 2)
+      (λ _. watch-cond (eqb (s .0 .control .sort) DATA-IN)
+      (λ _. watch-cond (eqb (s .0 .control .wait) 2)
+      (λ two. absurd (omega (arith, n, eqb-true (s .0 .control .wait) 2 two)))
+      (λ _. watch-cond (isOn (conc .get (ep-cell In 0) s .ready))
+      (λ b. watch-cond (isOn (s .0 .control .last))
+      (λ x. let it : last ≡ true = sym l ∙ x in
+      let gives : w .awaits ≡ given true = a ∙ ap given it in
+      let sent : w .pipe .inn .through ≡ true = sym i ∙ b in
+      watch-cond (isOn (conc .get (ep-cell Out 0) s .ready))
+      (λ y. closed (inWith (withReady 0) (outWith (withReady 0) s)) (kin-both s (z .places)) (ap (λ (x : Awaited). over x (w .pipe)) gives ∙ (over-last (w .pipe) sent ∙ (sym (o it) ∙ y))) (eqb (conc .get (ep-cell Out 0) s .len) 0))
+      (λ y. watch-cond (isOn (s .0 .globals .«setup_ready»)) (λ g. refused g) (λ g. at-end {a = NotYet} (goes-on gives x sent (o it), ((λ _. ap (λ (x : Awaited). over x (w .pipe)) gives ∙ (over-last (w .pipe) sent ∙ (sym (o it) ∙ y)), λ _. sym (r .setup) ∙ g), tt)))))
+      (λ x. at-end {a = Done []} (over-now r (kin-in s (z .places)) (done-none (inWith (withReady 0) s)), (tt, λ _. ap (λ (x : Awaited). over x (w .pipe)) (a ∙ ap given (sym l ∙ x)) ∙ (sym i ∙ b)))))
+      (λ b. watch-cond (isOn (s .0 .globals .«setup_ready»)) (λ g. refused g) (λ g. at-end {a = NotYet} (inr r, ((λ _. ap (λ (x : Awaited). over x (w .pipe)) a ∙ not-sent last (w .pipe) (sym i ∙ b), λ _. sym (r .setup) ∙ g), tt))))))
+      (λ _. at-end (inr r, (λ h. differ h, tt))))
+      (λ _. at-end (inr r, (λ h. differ h, tt)))
+
+pub law-poll-data-in : Law (other PollDataIn)
+law-poll-data-in w s (inl e) z = exempt-law (other PollDataIn) tt w s e
+law-poll-data-in w s (inr r) z = by (eqb (s .0 .control .sort) DATA-IN) refl
+  where
+    by : (t : Bool) → eqb (s .0 .control .sort) DATA-IN ≡ t → Watch Keeps (Allowed (other PollDataIn)) (Ends (other PollDataIn)) (withPhase off w) (run conc (code (other PollDataIn)) s)
+    by true q = polled-in w s r z (waiting (w .awaits) r (eqb-true (s .0 .control .sort) DATA-IN q))
+    by false q = watch-cond (eqb (s .0 .globals .stage) 2) (λ _. watch-cond (eqb (s .0 .control .sort) DATA-IN) (λ y. differ (sym q ∙ y)) (λ _. at-end (inr r, (λ h. differ h, tt)))) (λ _. at-end (inr r, (λ h. differ h, tt)))

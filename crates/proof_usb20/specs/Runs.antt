@@ -1,0 +1,235 @@
+-- Over lists of calls: what an observer claims holds after each, from the law of each call
+use mathlib.Core.Bool.{Bool, true, false, not, cond}
+use mathlib.Core.List.{List, [], _∷_, _++_}
+use mathlib.Core.Path.{_≡_, refl, ap, subst, sym, _∙_}
+use Prim.Native.Nat.{ℕ, zero, suc}
+use Rattle.regs.specs.declared.Access.{Access}
+use Rattle.state.specs.Driver.{Driver}
+use Rattle.script.specs.Tree as tree
+use Rattle.script.specs.Script.{run}
+use Rattle.script.specs.Every as ways
+use Rattle.script.specs.Answers.{Answer, Refused}
+use Rattle.script.specs.Calls.{Config, Op, interrupt, slotted, other, aside, Aside, asideCode, code, calls, startRow}
+use Rattle.script.specs.Machine as machine
+use Rattle.script.specs.Machine.{Buf, Call, start, begin, go, question, Event, Ans, ended, handed, told, Awaits, Way, idle, busy, Machine, misfit, beside, begun, continued, started, stay}
+use Rattle.ops.specs.Rings.{St}
+use Rattle.ops.specs.Conc.{conc}
+use Rattle.way.specs.Under.{driverOf, drive, haltsAs}
+use Rattle.book.specs.Always.{after}
+use Rattle.book.specs.Sorting.{Sorting, after-sorting}
+use Rattle.wake_ups.specs.Rooms.{Few, Roomy, rooms, start-rooms}
+use Rattle.proof_usb20.specs.Watch.{Along, at-end, at-ask}
+use Rattle.proof_usb20.specs.Observer.{Observer, Under, at-rest, doing, starting, serves, Watched, watched, startedBy, beginsBy, noted, ClaimBegun, Claim, Standing, ReadAt, Read, Reads, All, Meaning}
+
+-- a chip that may bring anything
+abbrev pub anyChip : ways.Chip
+anyChip = record { Holds = Unit {0}; Brings = λ _ _ _. Unit {0}; after = λ _ _. tt }
+
+-- `Ok` of each access of an outcome
+abbrev pub Only : (Access → Type 0) → tree.Out St Answer → Type 0
+Only Ok out = ways.All anyChip (λ (s t : St). Unit {0}) Ok tt out
+
+module _ (O : Observer) where
+  -- between two accesses: calls that pass during an interrupt, and stores in the slots
+  abbrev pub Keeps : St → St → Type 0
+  Keeps s t = (O .view (t .0) ≡ O .view (s .0)) × Sorting (t .0) × (t .0 .wakes ≡ s .0 .wakes)
+
+  abbrev pub Sees : {A : Type 0} → (O .Log → Type 0) → (O .Log → A → St → Type 0) → O .Log → tree.Out St A → Type 0
+  Sees Ok P w out = Along (O .saw) (O .Brings) Keeps Ok P w out
+
+  -- `P` at each end, whatever is read
+  abbrev pub Ups : (St → Type 0) → tree.Out St Answer → Type 0
+  Ups P out = Along {L = Unit {0}} (λ _ _ _. tt) (λ _ _ _. Unit {0}) Keeps (λ _. Unit {0}) (λ _ _ s. P s) tt out
+
+  -- what each call keeps, and what follows from it
+  pub record Laws (R : O .Log → O .View → Type 0) : Type 0 where
+    pub stands : (w : O .Log) (x : O .View) → R w x → O .Stands w x
+    pub call : (o : Op) (w : O .Log) (s : St) → R w (O .view (s .0)) → O .Meant (O .view (s .0)) → Sorting (s .0)
+        → Sees (O .Allowed o) (λ x a t. R (O .closes o a x) (O .view (t .0)) × (Few (ended a) → O .Fair o a x)) (O .opens o w) (run conc (code o) s)
+    pub asks : (o : Op) (s : St) → Only (O .Asks o) (run conc (code o) s)
+    pub besides : (o : Aside) (d : Driver) (b : Buf) (a : Answer) (t : St) → Sorting d → run conc (asideCode o) (d, b) ≡ tree.ends a t → (O .view (t .0) ≡ O .view d) × (t .0 .wakes ≡ d .wakes)
+    pub new : (c : Config) (b : Buf) → Ups (λ s. R (O .before) (O .view (s .0))) (run conc (calls .starts c) (driverOf .fresh c, b))
+    -- row 1 leaves all as it was
+    pub unlent : (o : Op) (w : O .Log) (x : O .View) → R w x → R (O .closes o (Refused 1) (O .opens o w)) x
+    pub fair-1 : (o : Op) (w : O .Log) → O .Fair o (Refused 1) w
+
+  module _ {R : O .Log → O .View → Type 0} (L : Laws R) where
+    abbrev Ends : Op → O .Log → Answer → St → Type 0
+    Ends o x a t = R (O .closes o a x) (O .view (t .0)) × (Few (ended a) → O .Fair o a x)
+
+    abbrev Kept : Driver → St → Type 0
+    Kept d t = (O .view (t .0) ≡ O .view d) × Sorting (t .0) × (t .0 .wakes ≡ d .wakes)
+
+    abbrev Goes : Op → Access → O .Log → (ℕ → St → tree.Out St Answer) → Driver → Type 0
+    Goes o q w k d = (v : ℕ) (t : St) → O .Brings w q v → Kept d t → Sees (O .Allowed o) (Ends o) (O .saw w q v) (k v t)
+
+    abbrev Up : (ℕ → St → tree.Out St Answer) → Driver → Type 0
+    Up k d = (v : ℕ) (t : St) → Kept d t → Ups (λ s. R (O .before) (O .view (s .0))) (k v t)
+
+    -- the state fits the log where nothing is under way; else what is left to run does
+    abbrev J : Way Answer Driver → Driver → O .Log → Under → Type 0
+    J idle d w at-rest = R w (O .view d)
+    J idle d w (doing o q) = ⊥
+    J idle d w starting = ⊥
+    J (busy i a k) d w at-rest = ⊥
+    J (busy i a k) d w (doing o q) = Goes o q w k d × ((v : ℕ) (t : St) → Only (O .Asks o) (k v t))
+    J (busy i a k) d w starting = (w ≡ O .before) × Up k d
+
+    record Step (c : Call Config Op) (b : Buf) (y : Ans Answer × Machine Answer Driver) (x : Watched O) : Type 0 where
+      claim : Claim O c (y .0) (serves (y .1 .way)) x
+      standing : let z = noted O c b (y .0) (serves (y .1 .way)) x in Standing O (y .1 .st) (z .log) (z .under)
+      next : let z = noted O c b (y .0) (serves (y .1 .way)) x in J (y .1 .way) (y .1 .st) (z .log) (z .under)
+
+    -- of an answer that is not too long
+    abbrev Steps : Call Config Op → Buf → Ans Answer × Machine Answer Driver → Watched O → Type 0
+    Steps c b y x = Few (y .0) → Step c b y x
+
+    standing-of : (y : Way Answer Driver) (d : Driver) (w : O .Log) (u : Under) → J y d w u → Standing O d w u
+    standing-of idle d w at-rest j = L .stands w (O .view d) j
+    standing-of (busy i a k) d w (doing o q) j = tt
+    standing-of (busy i a k) d w starting j = tt
+
+    -- an operation begins, or goes on: where it stops
+    begins : (o : Op) (i : Bool) (b : Buf) (w : O .Log) {out : tree.Out St Answer} → Sees (O .Allowed o) (Ends o) (O .opens o w) out → Only (O .Asks o) out → Steps (begin o) b (haltsAs i out) (watched O w at-rest)
+    begins o i b w (at-end {a = a} {s = s} p) m few = record { claim = p .1 few; standing = L .stands _ (O .view (s .0)) (p .0); next = p .0 }
+    begins o i b w (at-ask ok k) (ways.at-ask a m) few = record { claim = (ok, a); standing = tt; next = (λ v t r h. k v t r h, λ v t. m v t tt tt) }
+
+    goes : (o : Op) (i : Bool) (v : ℕ) (b : Buf) (w : O .Log) (q : Access) {out : tree.Out St Answer} → Sees (O .Allowed o) (Ends o) (O .saw w q v) out → Only (O .Asks o) out
+        → Steps (go v) b (haltsAs i out) (watched O w (doing o q))
+    goes o i v b w q (at-end {a = a} {s = s} p) m few = record { claim = p .1 few; standing = L .stands _ (O .view (s .0)) (p .0); next = p .0 }
+    goes o i v b w q (at-ask ok k) (ways.at-ask a m) few = record { claim = (ok, a); standing = tt; next = (λ v t r h. k v t r h, λ v t. m v t tt tt) }
+
+    -- a start-up's own script
+    starts : (i : Bool) (v : ℕ) (b : Buf) (w : O .Log) → w ≡ O .before → {out : tree.Out St Answer} → Ups (λ s. R (O .before) (O .view (s .0))) out → Step (go v) b (haltsAs i out) (watched O w starting)
+    starts i v b w e (at-end {s = s} f) = let r = subst (λ (x : O .Log). R x (O .view (s .0))) (sym e) f in record { claim = tt; standing = L .stands w (O .view (s .0)) r; next = r }
+    starts i v b w e (at-ask _ k) = record { claim = tt; standing = tt; next = (e, λ v t h. k v t tt h) }
+
+    started-up : (c : Config) (b : Buf) (n : ℕ) → startRow c b ≡ n → (m : Machine Answer Driver) (x : Watched O) → J (m .way) (m .st) (x .log) (x .under) → Step (start c) b (started calls driverOf (λ s. s) c n m b) x
+    started-up c b zero h m x j = halted (L .new c b)
+      where
+        halted : {out : tree.Out St Answer} → Ups (λ s. R (O .before) (O .view (s .0))) out → Step (start c) b (haltsAs false out) x
+        halted (at-end {s = s} f) = record { claim = tt; standing = rw h (L .stands (O .before) (O .view (s .0)) f); next = rw h f }
+        halted (at-ask _ k) = record { claim = tt; standing = rw h tt; next = rw h (refl, λ v t h. k v t tt h) }
+    started-up c b (suc n) h m x j = record { claim = tt; standing = rw h (standing-of (m .way) (m .st) (x .log) (x .under) j); next = rw h j }
+
+    -- calls between two accesses of an operation: what is left to run fits still
+    still-J : (i : Bool) (a : Awaits) (k : ℕ → St → tree.Out St Answer) (d d′ : Driver) (w : O .Log) (u : Under) → (O .view d′ ≡ O .view d) × (d′ .wakes ≡ d .wakes) → J (busy i a k) d w u → J (busy i a k) d′ w u
+    still-J i a k d d′ w (doing o q) e j = (λ v t r h. j .0 v t r (h .0 ∙ e .0, h .1, h .2 ∙ e .1), j .1)
+    still-J i a k d d′ w starting e j = (j .0, λ v t h. j .1 v t (h .0 ∙ e .0, h .1, h .2 ∙ e .1))
+
+    unclaimed : (o : Op) (a : Ans Answer) (w : O .Log) (u : Under) (i : Bool) (y : Awaits) (k : ℕ → St → tree.Out St Answer) (d : Driver) → J (busy i y k) d w u → ClaimBegun O o a w u
+    unclaimed o a w (doing p q) i y k d j = tt
+    unclaimed o a w starting i y k d j = tt
+
+    -- the log stays where an operation is under way
+    same-begun : (o : Op) (a : Ans Answer) (w : O .Log) (u : Under) (i : Bool) (y : Awaits) (k : ℕ → St → tree.Out St Answer) (d : Driver) → J (busy i y k) d w u → beginsBy O o a w u ≡ watched O w u
+    same-begun o a w (doing p q) i y k d j = refl
+    same-begun o a w starting i y k d j = refl
+
+    module _ (o : Op) (b : Buf) (i : Bool) (y : Awaits) (k : ℕ → St → tree.Out St Answer) (x : Watched O) where
+      stepped : (a : Ans Answer) (d : Driver) (l : Buf) → J (busy i y k) d (x .log) (x .under) → Step (begin o) b (a, record { way = busy i y k; st = d; buf = l }) x
+      stepped a d l j = record {
+        claim = unclaimed o a (x .log) (x .under) i y k d j;
+        standing = rw (same-begun o a (x .log) (x .under) i y k d j) (standing-of (busy i y k) d (x .log) (x .under) j);
+        next = rw (same-begun o a (x .log) (x .under) i y k d j) j;
+      }
+
+      passing : (d : Driver) (l : Buf) (f : Aside) → Sorting d → J (busy i y k) d (x .log) (x .under) → (out : tree.Out St Answer) → run conc (asideCode f) (d, b) ≡ out
+          → Step (begin o) b (beside calls driverOf (record { way = busy i y k; st = d; buf = b }) out) x
+      passing d l f z j (tree.ends a t) h = stepped (ended a) (t .0) (t .1) (still-J i y k d (t .0) (x .log) (x .under) (L .besides f d b a t z h) j)
+      passing d l f z j (tree.asks q t g) h = stepped (ended (Refused 3)) d b j
+
+    during : (o : Op) (b : Buf) (i : Bool) (y : Awaits) (k : ℕ → St → tree.Out St Answer) (d : Driver) (l : Buf) (x : Watched O) → Sorting d → J (busy i y k) d (x .log) (x .under)
+        → Step (begin o) b (begun calls driverOf (λ s. s) o (record { way = busy i y k; st = d; buf = l }) (busy i y k) b) x
+    during interrupt b true y k d l x z j = stepped interrupt b true y k x (ended (Refused 3)) d b j
+    during interrupt b false y k d l x z j = stepped interrupt b false y k x (ended (Refused 3)) d b j
+    during (slotted o) b true y k d l x z j = stepped (slotted o) b true y k x (ended (Refused 3)) d b j
+    during (slotted o) b false y k d l x z j = stepped (slotted o) b false y k x (ended (Refused 3)) d b j
+    during (other o) b true y k d l x z j = stepped (other o) b true y k x (ended (Refused 3)) d b j
+    during (other o) b false y k d l x z j = stepped (other o) b false y k x (ended (Refused 3)) d b j
+    during (aside o) b true y k d l x z j = passing (aside o) b true y k x d l o z j (run conc (asideCode o) (d, b)) refl
+    during (aside o) b false y k d l x z j = stepped (aside o) b false y k x (ended (Refused 3)) d b j
+
+    -- at rest, with row 1
+    afresh : (o : Op) (b : Buf) (g : Bool) (d : Driver) (l : Buf) (w : O .Log) → R w (O .view d) → O .Meant (O .view d) → Sorting d
+        → Steps (begin o) b (cond g (stay calls driverOf 1 (record { way = idle; st = d; buf = l })) (begun calls driverOf (λ s. s) o (record { way = idle; st = d; buf = l }) idle b)) (watched O w at-rest)
+    afresh o b true d l w r p z few = let n = L .unlent o w (O .view d) r in record { claim = L .fair-1 o (O .opens o w); standing = L .stands _ (O .view d) n; next = n }
+    afresh o b false d l w r p z few = begins o (calls .irq o) b w (L .call o w (d, b) r p z) (L .asks o (d, b)) few
+
+    -- row 1 of a call in the midst of an operation
+    row-1 : (o : Op) (b : Buf) (g : Bool) (i : Bool) (y : Awaits) (k : ℕ → St → tree.Out St Answer) (d : Driver) (l : Buf) (x : Watched O) → Sorting d → J (busy i y k) d (x .log) (x .under)
+        → Step (begin o) b (cond g (stay calls driverOf 1 (record { way = busy i y k; st = d; buf = l })) (begun calls driverOf (λ s. s) o (record { way = busy i y k; st = d; buf = l }) (busy i y k) b)) x
+    row-1 o b true i y k d l x z j = stepped o b i y k x (ended (Refused 1)) d l j
+    row-1 o b false i y k d l x z j = during o b i y k d l x z j
+
+    -- a continue
+    stays : (v : ℕ) (b : Buf) (n : ℕ) (i : Bool) (y : Awaits) (k : ℕ → St → tree.Out St Answer) (d : Driver) (l : Buf) (w : O .Log) (u : Under) → J (busy i y k) d w u
+        → Step (go v) b (ended (Refused n), record { way = busy i y k; st = d; buf = l }) (watched O w u)
+    stays v b n i y k d l w (doing o q) j = record { claim = tt; standing = tt; next = j }
+    stays v b n i y k d l w starting j = record { claim = tt; standing = tt; next = j }
+
+    -- what the chip brought, of a continue that is not refused
+    brought : (v : ℕ) (i : Bool) (w : O .Log) (o : Op) (q : Access) (out : tree.Out St Answer) → ReadAt O v (haltsAs i out .0) (serves (haltsAs i out .1 .way)) w (doing o q) → O .Brings w q v
+    brought v i w o q (tree.ends a s) r = r
+    brought v i w o q (tree.asks p s k) r = r
+
+    proceeds : (v : ℕ) (b : Buf) (i : Bool) (y : Awaits) (k : ℕ → St → tree.Out St Answer) (d : Driver) (w : O .Log) (u : Under) → J (busy i y k) d w u → Sorting d
+        → ReadAt O v (haltsAs i (k v (d, b)) .0) (serves (haltsAs i (k v (d, b)) .1 .way)) w u → Steps (go v) b (haltsAs i (k v (d, b))) (watched O w u)
+    proceeds v b i y k d w (doing o q) j z r few = goes o i v b w q (j .0 v (d, b) (brought v i w o q (k v (d, b)) r) (refl, z, refl)) (j .1 v (d, b)) few
+    proceeds v b i y k d w starting j z r few = starts i v b w (j .0) (j .1 v (d, b) (refl, z, refl))
+
+    row-16 : (v : ℕ) (b : Buf) (g : Bool) (i : Bool) (y : Awaits) (k : ℕ → St → tree.Out St Answer) (d : Driver) (w : O .Log) (u : Under) → J (busy i y k) d w u → Sorting d
+        → let c = cond g (stay calls driverOf 16 (record { way = busy i y k; st = d; buf = b })) (haltsAs i (k v (d, b))) in
+        ReadAt O v (c .0) (serves (c .1 .way)) w u → Steps (go v) b c (watched O w u)
+    row-16 v b true i y k d w u j z r few = stays v b 16 i y k d b w u j
+    row-16 v b false i y k d w u j z r few = proceeds v b i y k d w u j z r few
+
+    continues : (v : ℕ) (b : Buf) (g : Bool) (y : Way Answer Driver) (d : Driver) (l : Buf) (w : O .Log) (u : Under) → J y d w u → Sorting d
+        → let c = cond g (stay calls driverOf 1 (record { way = y; st = d; buf = l })) (continued calls driverOf (λ s. s) v (record { way = y; st = d; buf = l }) y b) in
+        ReadAt O v (c .0) (serves (c .1 .way)) w u → Steps (go v) b c (watched O w u)
+    continues v b true idle d l w at-rest j z r few = record { claim = tt; standing = L .stands w (O .view d) j; next = j }
+    continues v b false idle d l w at-rest j z r few = record { claim = tt; standing = L .stands w (O .view d) j; next = j }
+    continues v b true (busy i y k) d l w u j z r few = stays v b 1 i y k d l w u j
+    continues v b false (busy i y k) d l w u j z r few = row-16 v b (machine.over calls y v) i y k d w u j z r few
+
+    -- one call
+    step : (c : Call Config Op) (b : Buf) (m : Machine Answer Driver) (x : Watched O) → J (m .way) (m .st) (x .log) (x .under) → Sorting (m .st) → O .Meant (O .view (m .st))
+        → Read O c (drive c m b .0) (serves (drive c m b .1 .way)) x → Steps c b (drive c m b) x
+    step (start c) b m x j z p r few = started-up c b (startRow c b) refl m x j
+    step (begin o) b m x j z p r few = by (m .way) (x .under) j few
+      where
+        g : Bool
+        g = cond (calls .slots o) (misfit calls driverOf (m .st) b) false
+
+        by : (y : Way Answer Driver) (u : Under) → J y (m .st) (x .log) u
+            → Steps (begin o) b (cond g (stay calls driverOf 1 (record { way = y; st = m .st; buf = m .buf })) (begun calls driverOf (λ s. s) o (record { way = y; st = m .st; buf = m .buf }) y b)) (watched O (x .log) u)
+        by idle at-rest i few = afresh o b g (m .st) (m .buf) (x .log) i p z few
+        by (busy h a k) u i few = row-1 o b g h a k (m .st) (m .buf) (watched O (x .log) u) z i
+    step (go v) b m x j z p r few = continues v b (misfit calls driverOf (m .st) b) (m .way) (m .st) (m .buf) (x .log) (x .under) j z r few
+    step (question q) b m x j z p r few = record { claim = tt; standing = standing-of (m .way) (m .st) (x .log) (x .under) j; next = j }
+
+    -- the endpoints keep their sorts after each call
+    abbrev Sorted : List (Event Config Op) → Machine Answer Driver → Type 0
+    Sorted es m = (ds fs : List (Event Config Op)) → es ≡ ds ++ fs → Sorting (after calls driverOf ds m .st)
+
+    each : (es : List (Event Config Op)) (m : Machine Answer Driver) (x : Watched O) → J (m .way) (m .st) (x .log) (x .under) → Sorted es m → Meaning O es m → Roomy m → Reads O es m x → All O es m x
+    each [] m x j z p k r = tt
+    each (e ∷ es) m x j z p k r =
+        let y = drive (e .call) m (e .lent) in
+        let f = rooms (e .call) k (e .lent) in
+        let a = step (e .call) (e .lent) m x j (z [] (e ∷ es) refl) (p [] (e ∷ es) refl) (r .0) (f .answer) in
+        (a .claim, a .standing, each es (y .1) (noted O (e .call) (e .lent) (y .0) (serves (y .1 .way)) x) (a .next) (λ ds fs h. z (e ∷ ds) fs (ap (e ∷_) h)) (λ ds fs h. p (e ∷ ds) fs (ap (e ∷_) h)) (f .machine) (r .1))
+
+    fresh : {out : tree.Out St Answer} → Ups (λ s. R (O .before) (O .view (s .0))) out → let y = haltsAs false out in J (y .1 .way) (y .1 .st) (startedBy O (y .0) .log) (startedBy O (y .0) .under)
+    fresh (at-end f) = f
+    fresh (at-ask _ k) = (refl, λ v t h. k v t tt h)
+
+    -- EVERY list of calls that follows an accepted start-up, from whatever was before
+    pub from-start : (c : Config) (b : Buf) → startRow c b ≡ zero → (es : List (Event Config Op)) (m : Machine Answer Driver)
+        → let y = started calls driverOf (λ s. s) c zero m b in
+        Meaning O es (y .1) → Reads O es (y .1) (startedBy O (y .0)) → All O es (y .1) (startedBy O (y .0))
+    from-start c b h es m p r =
+        let y = started calls driverOf (λ s. s) c zero m b in
+        each es (y .1) (startedBy O (y .0)) (fresh (L .new c b))
+        (λ ds fs e. subst (λ (n : ℕ). Sorting (after calls driverOf ds (started calls driverOf (λ s. s) c n m b .1) .st)) h (after-sorting c b h ds m)) p
+        (subst (λ (n : ℕ). Roomy (started calls driverOf (λ s. s) c n m b .1)) h (start-rooms c b h m .machine)) r

@@ -1,0 +1,263 @@
+-- The laws of the calls that are not EP0's
+use mathlib.Core.Bool.{Bool, true, false, not, cond, _&&_, _||_}
+use mathlib.Core.List.{List, [], _∷_}
+use mathlib.Core.Logic.{_⊎_, inl, inr}
+use mathlib.Core.Path.{_≡_, refl, ap, subst, sym, _∙_}
+use Prim.Native.Nat.{ℕ, zero, suc, _%_, _<_}
+use native.Mathlib.Omega.{arith}
+use lib.Dec.{eqb, ltb}
+use lib.ListN.{length}
+use borrow.Author.Tests.{eqb-true, ne-eqb, ltb-true}
+use Rattle.bits.specs.Bit.{isSet}
+use Rattle.regs.specs.declared.Dir.{Dir}
+use Rattle.regs.specs.declared.Dir.the-variants.{Out, In}
+use Rattle.state.specs.declared.Allocator.{Allocator}
+use Rattle.state.specs.declared.Globals.{Globals}
+use Rattle.state.specs.declared.Request.{Request}
+use Rattle.state.specs.Driver.{Driver, epOn, withRequestOn, withPacedOn}
+use Rattle.frame.specs.Usb20.{indexOf, frameOf}
+use Rattle.frame.specs.Advance.{NO_FRAME, completions}
+use Rattle.regs.specs.Flags.{busRst, suspend}
+use Rattle.regs.specs.IntEn.{withBusRst, withSuspend}
+use Rattle.state.specs.Kept.{withIntEn}
+use Rattle.script.specs.Tree as tree
+use Rattle.script.specs.Cells.{Plain, Cell, Val, ep-cell, globals-cell, allocator-cell, request-cell, paced-cell}
+use Rattle.script.specs.Script.{Script, ret, bind, test, run, when, no-wakes}
+use Rattle.bits.specs.Bit.{withBit}
+use Rattle.script.specs.Machine.{Buf}
+use Rattle.book.specs.Sorts.{put-steady, act-steady}
+use Rattle.book.specs.Sorting.{Sorting}
+use Rattle.script.specs.Statics.{isOn, withReady, withArmed, withPaced, withTog, withPower, modifyIntEn}
+use Rattle.script.specs.Answers.{Answer, Refused, End, NotYet, Done, Shown, operation, resultless, staged, named, unless, isNumber, isAllocated}
+use Rattle.script.specs.IsoIn.{isoInCompletions, isoInAdvance, isoInSetPaced, microframe}
+use Rattle.script.specs.Bus as bus
+use Rattle.script.specs.Endpoint.{beginRead, pollRead, beginWrite, pollWrite, enabled-else, ends-request, polled, take-iso, take-ready, put-iso, sent-ready, arm-read, load-write, no-request, begun}
+use Rattle.script.specs.Driver.{openPacket, closePacket, queuePacket}
+use Rattle.script.specs.Calls.{Op, interrupt, slotted, other, aside, Slotted, SetEnabled, PollRead, BeginWrite, PollWrite, Other, Allocate, AllocateAll, Start, BusPoll, BusEnable, BusDisable, Microframe, SetStalled, IsStalled, SetPaced, Advance, BeginRead, Aside, Open, Close, Queue, asideCode, code}
+use Rattle.ops.specs.Rings.{St}
+use Rattle.ops.specs.Conc.{conc}
+use Rattle.proof_usb20.specs.Log as log
+use Rattle.proof_usb20.specs.Log.{Log, before, off, exempted, withPhase, opens, ends, closes, Poll, none, pollOf, settled, FairPoll, Allowed, AllowedTo, Fair}
+use Rattle.proof_usb20.specs.Watch.{at-end, at-ask, watch-bind, watch-more, watch-cond, watch-any}
+use Rattle.proof_usb20.specs.Ep0.{Watch, View, view, R, Rel, Keeps, Ends, Law}
+use Rattle.proof_usb20.specs.Exempt.{differ, Task, exempt-law}
+use Rattle.proof_usb20.specs.Same.{act-view}
+use Rattle.proof_usb20.specs.Fitting.{both}
+use Rattle.proof_usb20.specs.Quiet as quiet
+use Rattle.proof_usb20.specs.Quiet.{Plainly, plainly, steadily, Any, Quiet, Stays, q-ret, q-bind, q-test, q-if, q-read, q-write, q-get, q-is, q-look, q-fetch, q-act, q-hand, q-put, q-modify, put-other, put-kept, other-word, other-length}
+use Rattle.proof_usb20.specs.Parts.{q-got, q-wake, q-when, q-reg, q-ep, q-globals, q-complete}
+
+-- ---- a quiet call
+
+allows : {A : Type 0} {P : Log → A → St → Type 0} {Ok : Log → Type 0} {w : Log} {o : tree.Out St A} → ((x : Log) → Ok x) → Watch Keeps Any P w o → Watch Keeps Ok P w o
+allows g (at-end x) = at-end x
+allows g (at-ask _ x) = at-ask (g _) (λ v t b k. allows g (x v t b k))
+
+same-log : (b : Bool) (w : Log) → cond b w w ≡ w
+same-log true w = refl
+same-log false w = refl
+
+closed : (o : Op) → pollOf o ≡ none → ((n : ℕ) (x : Log) → ends o n x ≡ x) → (a : Answer) (x : Log) → closes o a x ≡ x
+closed o p e (Refused n) x = ap (λ (q : Poll). cond (eqb n 9 || eqb n 10) (settled q x) x) p ∙ same-log (eqb n 9 || eqb n 10) x
+closed o p e (End n ws) x = e n x
+closed o p e NotYet x = refl
+closed o p e (Done bytes) x = ap (λ (q : Poll). log.done q x) p
+closed o p e (Shown bytes stamp) x = refl
+
+opened : (o : Op) → Task o → (w : Log) → opens o w ≡ withPhase off w
+opened (slotted o) t w = refl
+opened (other o) t w = refl
+opened (aside o) t w = refl
+
+pub quiet-law : (o : Op) → Task o → pollOf o ≡ none → ((n : ℕ) (x : Log) → ends o n x ≡ x) → Quiet (code o) → Law o
+quiet-law o t p e q w s r z = subst (λ (u : Log). Watch Keeps (Allowed o) (Ends o) u (run conc (code o) s)) (sym (opened o t w))
+    (allows (λ x. subst (λ (a : Poll). AllowedTo a x) (sym p) tt) (watch-more (q .goes (withPhase off w) s refl (plainly z))
+    (λ x a u m. (subst (λ (y : Log). R y (view (u .0))) (sym (closed o p e a x ∙ m .0)) (subst (R w) (sym (m .1)) r), subst (λ (y : Poll). FairPoll y a x) (sym p) tt))))
+
+-- ---- the rows
+
+pub q-staged : {i : Bool} (n : ℕ) {p : Script i Answer} → Quiet p → Quiet (staged n p)
+q-staged n x = q-bind (q-got globals-cell) (λ g. q-test x q-ret)
+
+q-operation : {i : Bool} {p : Script i ℕ} → Quiet p → Quiet (operation p)
+q-operation x = q-bind (q-act refl q-ret) (λ _. q-bind x (λ n. q-bind (q-fetch (λ _. q-ret)) (λ w. q-ret)))
+
+pub q-resultless : {i : Bool} {p : Script i Unit} → Quiet p → Quiet (resultless p)
+q-resultless x = q-operation (q-bind x (λ _. q-ret))
+
+-- an endpoint that is allocated has a number from 1 to 15
+pub record Numbered (e : ℕ) : Type 0 where
+  pub zero-not : eqb e 0 ≡ false
+  pub apart : quiet.Other e
+
+numbered : (e : ℕ) → isNumber e ≡ true → Numbered e
+unfolding isNumber
+numbered zero h = differ h
+numbered (suc n) h = record { zero-not = ne-eqb (suc n) 0 (λ q. absurd (omega (arith, q))); apart = λ q. absurd (below q) }
+  where
+    below : suc n % 16 ≡ 0 → ⊥
+    below q = absurd (omega (arith, q, ltb-true (suc n) 16 (both (ltb 0 (suc n)) (ltb (suc n) 16) h .1)))
+
+allocated-number : (a : Allocator) (d : Dir) (e : ℕ) → isAllocated a d e ≡ true → Numbered e
+unfolding isAllocated
+allocated-number a Out e h = numbered e (both (isNumber e) (isSet (a .«allocated_out») e) h .0)
+allocated-number a In e h = numbered e (both (isNumber e) (isSet (a .«allocated_in») e) h .0)
+
+pub q-named : {i : Bool} (d : Dir) (e : ℕ) {p : Script i Answer} → (Numbered e → Quiet p) → Quiet (named d e p)
+q-named d e x = q-bind (q-got allocator-cell) (λ a. q-if (isAllocated a d e) (λ h. x (allocated-number a d e h)) (λ _. q-ret))
+
+q-unless : {i : Bool} (b : Bool) (n : ℕ) {p : Script i Answer} → Quiet p → Quiet (unless b n p)
+q-unless b n x = q-test q-ret x
+
+put-request : (d : Dir) (e : ℕ) (v : Request) (s : St) → view (conc .put (request-cell d e) v s .0) ≡ view (s .0)
+unfolding withRequestOn epOn
+put-request d e v s = refl
+
+pub put-paced : (e v : ℕ) (s : St) → view (conc .put (paced-cell e) v s .0) ≡ view (s .0)
+unfolding withPacedOn epOn
+put-paced e v s = refl
+
+q-ends : {i : Bool} (d : Dir) (e : ℕ) (a : Answer) → Quiet (ends-request {i = i} d e a)
+q-ends d e a = q-bind (q-put (put-request d e no-request) q-ret) (λ _. q-ret)
+
+q-enabled : {i : Bool} (d : Dir) (e : ℕ) {p q : Script i Answer} → Quiet q → Quiet p → Quiet (enabled-else d e q p)
+q-enabled d e x y = q-bind (q-got globals-cell) (λ g. q-test y x)
+
+-- ---- reads and writes
+
+pub law-begin-read : (e n : ℕ) → Law (other (BeginRead e n))
+law-begin-read e n = quiet-law (other (BeginRead e n)) tt refl (λ _ _. refl) (q-staged 2 (q-named Out e (λ m. q-enabled Out e q-ret (q-bind (q-got (ep-cell Out e)) (λ s. q-unless _ 10
+    (q-bind (q-put (put-request Out e (begun n)) q-ret) (λ _. q-resultless (q-test q-ret (q-test q-ret (q-bind (q-ep Out e (withArmed 1) (m .apart)) (λ _. q-reg Out e _ (m .zero-not))))))))))))
+
+q-polled : {i : Bool} (d : Dir) (e n : ℕ) → Numbered e → {p : Plain → Script i Answer} → ((s : Plain) → Quiet (p s)) → Quiet (polled d e n p)
+q-polled d e n m x = q-bind (q-got (request-cell d e)) (λ r. q-unless _ 15 (q-test (q-bind (q-got (ep-cell d e)) (λ s. x s)) (q-bind (q-ep d e (withReady 0) (m .apart)) (λ _. q-ends d e (Refused 10)))))
+
+pub law-poll-read : (e n : ℕ) → Law (slotted (PollRead e n))
+law-poll-read e n = quiet-law (slotted (PollRead e n)) tt refl (λ _ _. refl) (q-staged 2 (q-named Out e (λ m. q-polled Out e n m (λ s. q-test
+    (q-enabled Out e (q-ends Out e (Refused 9)) (q-bind (q-is (λ _. q-ret)) (λ b. q-test (q-bind (q-fetch (λ _. q-ret)) (λ bytes. q-bind (q-act refl q-ret) (λ _. q-ends Out e _))) q-ret)))
+    (q-test (q-bind (q-ep Out e (withReady 0) (m .apart)) (λ _. q-test (q-ends Out e (Refused 10)) (q-bind (q-fetch (λ _. q-ret)) (λ bytes. q-ends Out e (Done bytes))))) (q-enabled Out e (q-ends Out e (Refused 9)) q-ret))))))
+
+pub law-begin-write : (e : ℕ) (bytes : List ℕ) → Law (slotted (BeginWrite e bytes))
+law-begin-write e bytes = quiet-law (slotted (BeginWrite e bytes)) tt refl (λ _ _. refl) (q-staged 2 (q-named In e (λ m. q-enabled In e q-ret (q-bind (q-got (ep-cell In e)) (λ s. q-unless _ 10
+    (q-bind (q-put (put-request In e (begun (length bytes))) q-ret) (λ _. q-resultless (q-test q-ret (q-bind (q-act refl q-ret) (λ _. q-bind (q-ep In e (λ s. withArmed 1 (withReady 0 s)) (m .apart)) (λ _. q-bind (q-write (other-length e _ (m .zero-not)) q-ret) (λ _. q-reg In e _ (m .zero-not)))))))))))))
+
+pub law-poll-write : (e : ℕ) (bytes : List ℕ) → Law (slotted (PollWrite e bytes))
+law-poll-write e bytes = quiet-law (slotted (PollWrite e bytes)) tt refl (λ _ _. refl) (q-staged 2 (q-named In e (λ m. q-polled In e (length bytes) m (λ s. q-test
+    (q-enabled In e (q-ends In e (Refused 9)) (q-bind (q-is (λ _. q-ret)) (λ b. q-test (q-bind (q-act refl q-ret) (λ _. q-ends In e (Done []))) q-ret)))
+    (q-test (q-bind (q-ep In e (withReady 0) (m .apart)) (λ _. q-ends In e (Done []))) (q-enabled In e (q-ends In e (Refused 9)) q-ret))))))
+
+-- ---- before EP0's start alone
+
+unstarted : {A : Type 0} (n : ℕ) → n ≡ 2 → eqb n 1 ≡ true → A
+unstarted n h q = absurd (omega (arith, h, eqb-true n 1 q))
+
+pub law-allocate : (d : Dir) (kind address maximum interval : ℕ) → Law (other (Allocate d kind address maximum interval))
+law-allocate d kind address maximum interval w s (inl e) z = exempt-law (other (Allocate d kind address maximum interval)) tt w s e
+law-allocate d kind address maximum interval w s (inr r) z = watch-cond (eqb (s .0 .globals .stage) 1) (λ q. unstarted (s .0 .globals .stage) (r .stage) q) (λ _. at-end (inr r, tt))
+
+pub law-allocate-all : (bytes : List ℕ) → Law (other (AllocateAll bytes))
+law-allocate-all bytes w s (inl e) z = exempt-law (other (AllocateAll bytes)) tt w s e
+law-allocate-all bytes w s (inr r) z = watch-cond (eqb (s .0 .globals .stage) 1) (λ q. unstarted (s .0 .globals .stage) (r .stage) q) (λ _. at-end (inr r, tt))
+
+pub law-start : (maximum : ℕ) → Law (other (Start maximum))
+law-start maximum w s (inl e) z = exempt-law (other (Start maximum)) tt w s e
+law-start maximum w s (inr r) z = watch-cond (eqb (s .0 .globals .stage) 1) (λ q. unstarted (s .0 .globals .stage) (r .stage) q) (λ _. at-end (inr r, tt))
+
+-- ---- the bus
+
+pub law-bus-enable : Law (other BusEnable)
+law-bus-enable = quiet-law (other BusEnable) tt refl (λ _ _. refl) (q-staged 2 (q-resultless (q-bind (q-read (λ _. q-ret)) (λ v. q-write (λ _. refl) q-ret))))
+
+pub law-bus-disable : Law (other BusDisable)
+law-bus-disable = quiet-law (other BusDisable) tt refl (λ _ _. refl) (q-staged 2 (q-resultless q-ret))
+
+pub law-microframe : Law (other Microframe)
+law-microframe = quiet-law (other Microframe) tt refl (λ _ _. refl) (q-staged 2 (q-operation (q-bind (q-read (λ _. q-ret)) (λ v. q-ret))))
+
+pub law-is-stalled : (d : Dir) (e : ℕ) → Law (other (IsStalled d e))
+law-is-stalled d e = quiet-law (other (IsStalled d e)) tt refl (λ _ _. refl) (q-staged 2 (q-test (q-operation (q-bind (q-read (λ _. q-ret)) (λ v. q-ret))) (q-named d e (λ _. q-operation (q-bind (q-read (λ _. q-ret)) (λ v. q-ret))))))
+
+q-paced : {i : Bool} (e : ℕ) (on : Bool) → Quiet (isoInSetPaced {i = i} e on)
+q-paced e on = record {
+  goes = λ w s z k.
+      let f : Globals → Globals = λ g. withPaced (withBit (g .«iso_in_paced») e on) g in
+      let t = conc .put globals-cell (f (conc .get globals-cell s)) s in
+      at-end (refl, put-paced e NO_FRAME t ∙ put-kept f (λ _. refl) s, steadily (put-steady (paced-cell e) NO_FRAME t) (steadily (put-steady globals-cell (f (conc .get globals-cell s)) s) k));
+}
+
+pub law-set-paced : (e : ℕ) (on : Bool) → Law (other (SetPaced e on))
+law-set-paced e on = quiet-law (other (SetPaced e on)) tt refl (λ _ _. refl) (q-staged 2 (q-test (q-bind (q-paced e on) (λ _. q-ret)) q-ret))
+
+q-completions : {i : Bool} (n e : ℕ) → eqb e 0 ≡ false → Quiet (isoInCompletions {i = i} n e)
+unfolding isoInCompletions
+q-completions zero e h = q-ret
+q-completions (suc n) e h = q-bind (q-complete e h) (λ _. q-completions n e h)
+
+pub law-advance : (e : ℕ) → Law (other (Advance e))
+law-advance e = quiet-law (other (Advance e)) tt refl (λ _ _. refl) (q-staged 2 (q-if (isNumber e) (λ h. q-resultless (q-bind (q-got globals-cell) (λ g. q-when (q-test
+    (q-bind (q-read (λ _. q-ret)) (λ frame. q-bind (q-got (paced-cell e)) (λ last. q-bind (q-completions (completions last (indexOf frame)) e (numbered e h .zero-not)) (λ _. q-put (put-paced e (frameOf (indexOf frame))) q-ret))))
+    (q-put (put-paced e NO_FRAME) q-ret))))) (λ _. q-ret)))
+
+-- ---- those that pass during an interrupt
+
+q-aside : (o : Aside) → Quiet (asideCode o)
+q-aside (Open e) = q-staged 2 (q-named Out e (λ _. q-bind (q-got (ep-cell Out e)) (λ s. q-unless _ 11 (q-bind (q-is (λ _. q-ret)) (λ b. q-test (q-bind (q-act refl q-ret) (λ _. q-bind (q-fetch (λ _. q-ret)) (λ bytes. q-bind (q-look (λ _. q-ret)) (λ stamp. q-ret)))) q-ret)))))
+q-aside (Close e) = q-staged 2 (q-named Out e (λ _. q-bind (q-is (λ _. q-ret)) (λ b. q-test (q-bind (q-act refl q-ret) (λ _. q-ret)) q-ret)))
+q-aside (Queue e bytes) = q-staged 2 (q-named In e (λ _. q-enabled In e q-ret (q-bind (q-got allocator-cell) (λ a. q-unless _ 10 (q-bind (q-got (ep-cell In e)) (λ s. q-unless _ 11 (q-bind (q-is (λ _. q-ret)) (λ b. q-test (q-bind (q-act refl q-ret) (λ _. q-ret)) q-ret))))))))
+
+pub law-aside : (o : Aside) → Law (aside o)
+law-aside o = quiet-law (aside o) tt refl (λ _ _. refl) (q-aside o)
+
+ended-view : {A : Type 0} {w : Log} {v : View} {a : A} {t : St} → Watch Keeps Any {A = A} (λ _ _ t. (view (t .0) ≡ v)) w (tree.ends a t) → view (t .0) ≡ v
+ended-view (at-end p) = p
+
+pub aside-view : (o : Aside) (d : Driver) (b : Buf) (a : Answer) (t : St) → Sorting d → run conc (asideCode o) (d, b) ≡ tree.ends a t → view (t .0) ≡ view d
+aside-view o d b a t z h = ended-view (subst (Watch Keeps Any (λ _ _ t. (view (t .0) ≡ view d)) before) h (watch-more (q-aside o .goes before (d, b) refl (plainly z)) (λ _ _ _ m. m .1)))
+
+-- ---- halts
+
+any-end : {A : Type 0} (w : Log) (o : tree.Out St A) → Watch Keeps Any (λ _ _ _. Unit {0}) w o
+any-end w o = watch-any (λ _. Unit {0}) (λ _ _. tt) (λ _ _ _ _. tt) (λ _ _ _ _. tt) w tt o
+
+q-stalled : {i : Bool} (d : Dir) (e : ℕ) (on : Bool) → Numbered e → Quiet (bus.setStalled {i = i} d e on)
+q-stalled Out e true m = q-bind (q-reg Out e _ (m .zero-not)) (λ _. q-wake Out e)
+q-stalled In e true m = q-bind (q-write (other-length e 0 (m .zero-not)) q-ret) (λ _. q-bind (q-reg In e _ (m .zero-not)) (λ _. q-wake In e))
+q-stalled Out e false m = q-bind (q-got (ep-cell Out e)) (λ s. q-bind (q-put (put-other Out e (m .apart) (withTog 0 s)) q-ret) (λ _. q-bind (q-write (other-word Out e _ (m .zero-not)) q-ret) (λ _. q-wake Out e)))
+q-stalled In e false m = q-bind (q-got (ep-cell In e)) (λ s. q-bind (q-put (put-other In e (m .apart) (withTog 0 s)) q-ret) (λ _. q-bind (q-write (other-word In e _ (m .zero-not)) q-ret) (λ _. q-bind (q-when (q-ep In e _ (m .apart))) (λ _. q-wake In e))))
+
+exempts : (e : ℕ) (x : Log) → eqb e 0 ≡ true → cond (eqb e 0) (exempted x) x .exempt ≡ true
+exempts e x h = rw h refl
+
+-- a halt of EP0's exempts; of another endpoint's it is quiet
+pub law-set-stalled : (d : Dir) (e : ℕ) (on : Bool) → Law (other (SetStalled d e on))
+law-set-stalled d e on w s r z = by (eqb e 0) refl
+  where
+    by : (b : Bool) → eqb e 0 ≡ b → Watch Keeps (Allowed (other (SetStalled d e on))) (Ends (other (SetStalled d e on))) (withPhase off w) (run conc (code (other (SetStalled d e on))) s)
+    by false h = quiet-part
+      where
+        quiet-part : Watch Keeps (Allowed (other (SetStalled d e on))) (Ends (other (SetStalled d e on))) (withPhase off w) (run conc (code (other (SetStalled d e on))) s)
+        quiet-part = quiet-law (other (SetStalled d e on)) tt refl (λ _ x. ap (λ (b : Bool). cond b (exempted x) x) h) (q-staged 2 (q-if (eqb e 0) (λ q. differ (sym h ∙ q)) (λ _. q-named d e (λ m. q-resultless (q-stalled d e on m))))) w s r z
+    by true h = watch-cond (eqb (s .0 .globals .stage) 2)
+        (λ _. watch-cond (eqb e 0) (λ _. watch-bind {P = λ _ _ _. Unit {0}} (any-end (withPhase off w) (run {i = false} conc (bind (bus.setStalled d e on) (λ _. ret 0)) _)) (λ x n t _. at-end (inl (exempts e x h), tt))) (λ q. differ (sym q ∙ h)))
+        (λ _. at-end (r, tt))
+
+-- a bus reset exempts; the rest of a poll is quiet
+pub law-bus-poll : Law (other BusPoll)
+law-bus-poll w s r z = watch-cond (eqb (s .0 .globals .stage) 2)
+    (λ _. watch-bind {P = λ x n t. (n ≡ 2) ⊎ Stays (withPhase off w) s x t} (watch-cond (isOn (s .0 .globals .power))
+    (λ _. at-ask tt (λ f a _ i. watch-cond (busRst f)
+    (λ _. watch-bind {P = λ _ _ _. Unit {0}} (any-end (withPhase off w) (run conc bus.busReset a)) (λ x _ t _. watch-bind {P = λ _ _ _. Unit {0}} (any-end x (run {i = false} conc (modifyIntEn (λ v. withBusRst v true)) t)) (λ y _ u _. at-end {s = u} (inl refl))))
+    (λ _. watch-cond (suspend f)
+    (λ _. at-ask tt (λ m b _ j. at-ask tt (λ _ c _ l. at-ask tt (λ _ u _ n. at-end (inr (refl, n .0 ∙ (put-kept (λ g. withIntEn (withSuspend (g .«int_en») true) g) (λ _. refl) c ∙ (l .0 ∙ (j .0 ∙ (i .0 ∙ act-view no-wakes refl s)))), plainly (n .1)))))))
+    (λ _. at-end (inr (refl, i .0 ∙ act-view no-wakes refl s, plainly (i .1)))))))
+    (λ _. at-end (inr (refl, put-kept (withPower 1) (λ _. refl) (conc .act no-wakes s) ∙ act-view no-wakes refl s, steadily (put-steady globals-cell (withPower 1 (s .0 .globals)) (conc .act no-wakes s)) (steadily (act-steady no-wakes refl s) (plainly z))))))
+    (λ x n t p. at-end (after n x t p, tt)))
+    (λ _. at-end (r, tt))
+  where
+    same : (b : Bool) (x : Log) (v : View) → R x v → R (cond b (exempted x) x) v
+    same true x v q = inl refl
+    same false x v q = q
+
+    after : (n : ℕ) (x : Log) (t : St) → (n ≡ 2) ⊎ Stays (withPhase off w) s x t → R (cond (eqb n 2) (exempted x) x) (view (t .0))
+    after n x t (inl h) = subst (λ (m : ℕ). R (cond (eqb m 2) (exempted x) x) (view (t .0))) (sym h) (inl refl)
+    after n x t (inr m) = same (eqb n 2) x (view (t .0)) (subst (λ (y : Log). R y (view (t .0))) (sym (m .0)) (subst (R w) (sym (m .1)) r))
