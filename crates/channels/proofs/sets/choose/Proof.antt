@@ -1,7 +1,7 @@
 use Rattle.channels.specs.Sets.{choiceOf}
 use borrow.Author.Needs.{needs}
-use Rattle.channels.proofs.choose.Statement.{statement}
-use Rattle.channels.proofs.choose.Tie as tie
+use Rattle.channels.proofs.sets.choose.Statement.{statement}
+use Rattle.channels.proofs.sets.choose.Tie as tie
 
 all-sets-requires : tie.Need-all-sets-requires
 all-sets-requires c κs = search needs
@@ -21,7 +21,13 @@ figure-requires c κs = search needs
 returns : tie.Need-returns
 unfolding choiceOf
 returns c =
-    simp (c .figure .ensures, c .before .best .ensures, c .before .before .room .ensures, c .before .before .before .lesser .ensures, c .before .before .before .before .all-sets .ensures)
+    simp (
+      c .figure .ensures,
+      c .before .before .best .ensures,
+      c .before .before .before .room .ensures,
+      c .before .before .before .before .lesser .ensures,
+      c .before .before .before .before .before .all-sets .ensures,
+    )
 
 pub choose-spec : {M : Type 1} → statement M
 choose-spec =

@@ -1,8 +1,8 @@
 use borrow.Author.Needs.{needs}
 use native.Mathlib.Omega.{arith}
 use Rattle.bits.specs.Pack.{one-shifted}
-use Rattle.channels.proofs.all_sets.Statement.{statement}
-use Rattle.channels.proofs.all_sets.Tie as tie
+use Rattle.channels.proofs.sets.all_sets.Statement.{statement}
+use Rattle.channels.proofs.sets.all_sets.Tie as tie
 
 cast-result : tie.Need-cast-result
 cast-result c = search needs

@@ -3,8 +3,8 @@ use Prim.Native.Nat.{_%_}
 use native.Mathlib.Omega.{arith}
 use Rattle.bits.specs.Bit.{isSet}
 use borrow.Author.Needs.{needs}
-use Rattle.channels.proofs.records.is_in.Statement.{statement}
-use Rattle.channels.proofs.records.is_in.Tie as tie
+use Rattle.channels.proofs.list.is_in.Statement.{statement}
+use Rattle.channels.proofs.list.is_in.Tie as tie
 
 cast-is-set : tie.Need-cast-is-set
 cast-is-set c = search needs
