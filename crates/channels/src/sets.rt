@@ -1,7 +1,7 @@
 // Totals over a set of channels, and the best set among the first so many.
+use crate::Choice;
 use crate::list;
 use crate::list::Lists;
-use crate::Choice;
 ghost use mathlib.Core.Path.{_≡_};
 ghost use Prim.Native.Nat.{_^_, _≤_, _<_, min};
 ghost use Rattle.channels.specs.Channels.{listed};

@@ -228,7 +228,7 @@ module _ {M : Type 1} (𝓤 : URA M) (H : Heap 𝓤) (A : Atoms 𝓤) (W : Given
   exits r v is zs e l =
       qed W (‵ (flft κ q) ∷ ‵ (finally T.the-row γ zs) ∷ ‵ nums ∷ []) ∵
       suffices ! _ (ends-at 𝓤 H A f.ended stayed (f.clauses 𝓤 H A at-mem run) W (((κ, tt), (q, tt), tt, x, at), tt) v r
-        (zs, (tt, (tt, tt))) (l, (tt, (tt, tt)))) $
+      (zs, (tt, (tt, tt))) (l, (tt, (tt, tt)))) $
       says ! e $ nothing ! $ move ! (1 ∷ 0 ∷ []) $ join ! $ frame ! $ fjoin ! $ frame ! $
       owned ! R.the-row (Is R.the-row) ((EL.makes R.the-type R′.the-plain) 𝓤 H A) r _ is $ done !
 
@@ -246,7 +246,8 @@ module _ {M : Type 1} (𝓤 : URA M) (H : Heap 𝓤) (A : Atoms 𝓤) (W : Given
   goes-asks : n < 2 ^ 64 → g < 2 ^ 32 → ent 𝓤 (sem 𝓤 H A ftrue) (Asks 𝓤 H A at-mem run .pre to-asks)
   goes-asks gn gg =
       qed W (‵ ftrue ∷ []) ∵ nothing ! $ owned ! u32 (Is u32) (uint-makes 𝓤 H A W w32) g _ (refl, gg) $ fjoin ! $
-      owned ! usize (Is usize) (uint-makes 𝓤 H A W w64) n _ (refl, gn) $ fjoin ! $ move ! (1 ∷ 0 ∷ []) $ join ! $ frame ! $ done !
+      owned ! usize (Is usize) (uint-makes 𝓤 H A W w64) n _ (refl, gn) $ fjoin ! $ move ! (1 ∷ 0 ∷ []) $ join ! $
+      frame ! $ done !
 
   said-asks : (r : Bool)
       → ent 𝓤 (ensured 𝓤 H A asks.ended (asks.clauses 𝓤 H A at-mem run) tt (n, (g, tt)) tt r) (fact 𝓤 (r ≡ isRefused n g))
@@ -271,7 +272,8 @@ module _ {M : Type 1} (𝓤 : URA M) (H : Heap 𝓤) (A : Atoms 𝓤) (W : Given
       → ent 𝓤 (sep 𝓤 (A .lft (ν ∷ []) fullShare) (sem 𝓤 H A (lent ν δ))) (Read 𝓤 H A at-mem run .pre (to-read ν δ))
   goes-read few ν δ =
       qed W (‵ (flft (ν ∷ []) fullShare) ∷ ‵ (lent ν δ) ∷ []) ∵
-      says ! few $ nothing ! $ move ! (1 ∷ 0 ∷ []) $ join ! $ frame ! $ nothing ! $ move ! (1 ∷ 0 ∷ []) $ fjoin ! $ done !
+      says ! few $ nothing ! $ move ! (1 ∷ 0 ∷ []) $ join ! $ frame ! $ nothing ! $ move ! (1 ∷ 0 ∷ []) $ fjoin ! $
+      done !
 
   said-read : (ν : ℕ) (δ : GName) (r : Lists)
       → ent 𝓤 (ensured 𝓤 H A read.ended (read.clauses 𝓤 H A at-mem run) (ν ∷ [], tt) (list δ ys, tt) tt r) (fact 𝓤 (r ≡ listsOf ys n))
@@ -307,7 +309,8 @@ module _ {M : Type 1} (𝓤 : URA M) (H : Heap 𝓤) (A : Atoms 𝓤) (W : Given
 
   goes-set : (a : Answer) (v : Val) → Is R.the-row a (v ∷ []) → ent 𝓤 (sem 𝓤 H A ftrue) (SetIn 𝓤 H A at-mem run .pre (to-set a v))
   goes-set a v is =
-      qed W (‵ ftrue ∷ []) ∵ nothing ! $ owned ! R.the-row (Is R.the-row) ((EL.makes R.the-type R′.the-plain) 𝓤 H A) a _ is $ fjoin ! $
+      qed W (‵ ftrue ∷ []) ∵ nothing ! $
+      owned ! R.the-row (Is R.the-row) ((EL.makes R.the-type R′.the-plain) 𝓤 H A) a _ is $ fjoin ! $
       move ! (1 ∷ 0 ∷ []) $ join ! $ frame ! $ done !
 
   said-set : (a : Answer) (w : ℕ)
@@ -320,7 +323,8 @@ module _ {M : Type 1} (𝓤 : URA M) (H : Heap 𝓤) (A : Atoms 𝓤) (W : Given
   goes-mark : n ≤ 16 → (w : ℕ) → w < 2 ^ 32 → ent 𝓤 (sep 𝓤 (A .lft κ q) (sem 𝓤 H A Own)) (Mark 𝓤 H A at-mem run .pre (to-mark w))
   goes-mark few w gw =
       qed W (‵ (flft κ q) ∷ ‵ Own ∷ []) ∵ says ! few $ nothing ! $ move ! (1 ∷ 0 ∷ []) $ join ! $ frame ! $
-      nothing ! $ owned ! u32 (Is u32) (uint-makes 𝓤 H A W w32) w _ (refl, gw) $ fjoin ! $ move ! (1 ∷ 0 ∷ []) $ fjoin ! $ done !
+      nothing ! $ owned ! u32 (Is u32) (uint-makes 𝓤 H A W w32) w _ (refl, gw) $ fjoin ! $ move ! (1 ∷ 0 ∷ []) $
+      fjoin ! $ done !
 
   -- ---- the walk
 
@@ -377,7 +381,8 @@ module _ {M : Type 1} (𝓤 : URA M) (H : Heap 𝓤) (A : Atoms 𝓤) (W : Given
           move ! (17 ∷ 18 ∷ []) $ free1 ! $ move ! (15 ∷ 16 ∷ []) $ free1 ! $ move ! (13 ∷ 14 ∷ []) $ free1 ! $
           move ! (11 ∷ 12 ∷ []) $ free1 ! $ move ! (9 ∷ 10 ∷ []) $ free1 ! $ move ! (7 ∷ 8 ∷ []) $ free1 ! $
           move ! (5 ∷ 6 ∷ []) $ free1 ! $ move ! (3 ∷ 4 ∷ []) $ free1 ! $ free0 ! $
-          move ! (1 ∷ []) $ use1 W (‵ (finally T.the-row γ ys)) (ends-as T.the-row κ κ q γ b o ys 𝓤 H A W (named 0) (named 0)) $
+          move ! (1 ∷ []) $
+          use1 W (‵ (finally T.the-row γ ys)) (ends-as T.the-row κ κ q γ b o ys 𝓤 H A W (named 0) (named 0)) $
           move ! (1 ∷ 0 ∷ []) $ by ! (exits r v is ys e refl)
 
       -- the list is marked
@@ -392,7 +397,7 @@ module _ {M : Type 1} (𝓤 : URA M) (H : Heap 𝓤) (A : Atoms 𝓤) (W : Given
           nothing ! $ use1 W (raw (SetIn 𝓤 H A at-mem run .pre (to-set r₃ v₃))) (goes-set r₃ v₃ is₃) $
           calls-at ! fm (SetIn 𝓤 H A at-mem run) known-set (to-set r₃ v₃) (and-then ! (load ! (from ! (stop !)) (look ! 20 refl)) (no-more !)) (λ v₄.
           use1 W (later (some (λ (w : ℕ). (‵ ftrue ⊛ ‵ (u32 .own w (v₄ ∷ [])))
-            ⊛ raw (ensured 𝓤 H A set-in.ended (set-in.clauses 𝓤 H A at-mem run) tt (r₃, tt) tt w)))) (id⊢ 𝓤 _) $
+          ⊛ raw (ensured 𝓤 H A set-in.ended (set-in.clauses 𝓤 H A at-mem run) tt (r₃, tt) tt w)))) (id⊢ 𝓤 _) $
           await ! tt $ pick ! (λ w. split ! $ move ! (1 ∷ []) $
           use1 W (raw (fact 𝓤 (w ≡ setIn r₃))) (said-set r₃ w) $ heard ! (w ≡ setIn r₃) (λ e₄. split ! $ drop ! $
           peeks ! u32 (Is u32) (shows 𝓤 H A u32) w (v₄ ∷ []) (λ is₄. drop ! $
@@ -402,13 +407,15 @@ module _ {M : Type 1} (𝓤 : URA M) (H : Heap 𝓤) (A : Atoms 𝓤) (W : Given
           calls-at ! fm (Mark 𝓤 H A at-mem run) known-mark (to-mark w)
           (and-then ! (load ! (from ! (stop !)) (look ! 4 refl)) (and-then ! (load ! (from ! (stop !)) (look ! 2 refl)) (no-more !))) (λ v₅.
           use1 W (later (some (λ (t : Unit {0}). ((‵ (flft κ q) ⊛ ‵ ftrue) ⊛ ‵ (unit .own t (v₅ ∷ [])))
-            ⊛ raw (ensured 𝓤 H A mark.ended (mark.clauses 𝓤 H A at-mem run) (κ, tt) (list γ ys, (w, tt)) tt t)))) (id⊢ 𝓤 _) $
+          ⊛ raw (ensured 𝓤 H A mark.ended (mark.clauses 𝓤 H A at-mem run) (κ, tt) (list γ ys, (w, tt)) tt t)))) (id⊢ 𝓤 _) $
           await ! tt $ pick ! (λ t. split ! $ move ! (1 ∷ []) $
           use1 W (some (λ (zs : List Channel × (Unit {0} × Unit {0})). ‵ (lasts mark.ended (κ, tt) (list γ ys, (w, tt)) zs)
-            ⊛ raw (fact 𝓤 (zs .0 ≡ flagged ys w n)))) (id⊢ 𝓤 _) $
-          pick ! (λ zs. split ! $ move ! (1 ∷ []) $ heard ! (zs .0 ≡ flagged ys w n) (λ e₅. fsplit ! $ fsplit ! $ move ! (1 ∷ []) $ feqL ! (λ l.
+          ⊛ raw (fact 𝓤 (zs .0 ≡ flagged ys w n)))) (id⊢ 𝓤 _) $
+          pick ! (λ zs. split ! $ move ! (1 ∷ []) $ heard ! (zs .0 ≡ flagged ys w n) (λ e₅. fsplit ! $ fsplit ! $
+          move ! (1 ∷ []) $ feqL ! (λ l.
           -- [the last list; …; the token and the result; the numbers; _13; …]
-          move ! (2 ∷ []) $ split ! $ move ! (1 ∷ []) $ peeks ! unit (Is unit) (shows 𝓤 H A unit) t (v₅ ∷ []) (λ is₅. drop ! $
+          move ! (2 ∷ []) $ split ! $ move ! (1 ∷ []) $
+          peeks ! unit (Is unit) (shows 𝓤 H A unit) t (v₅ ∷ []) (λ is₅. drop ! $
           land ! (from ! (stop !)) (init ! 10 refl (nothing-lawful 𝓤 H A W .typed t _ is₅ .0)) $
           assigns ! (of-opd ! (load ! (from ! (stop !)) (look ! 20 refl))) (from ! (stop !)) (init ! 30 refl (typed-answer r₃ v₃ is₃)) $
           returns ! (look ! 30 refl) $
@@ -429,12 +436,13 @@ module _ {M : Type 1} (𝓤 : URA M) (H : Heap 𝓤) (A : Atoms 𝓤) (W : Given
       chooses on few r₂ v₂ is₂ e₂ =
           assigns ! (of-opd ! (load ! (from ! (fld ! refl (stop !))) (look-in ! 27 (sub ! 1 refl (whole !))))) (from ! (stop !))
           (init ! 15 refl (tt, record { fits = gn .0 })) $
-          nothing ! $ use1 W (raw (Chooses 𝓤 H A at-mem run .pre (to-best r₂ v₂))) (goes-best r₂ v₂ is₂ (gn .0) gu gg few) $
+          nothing ! $
+          use1 W (raw (Chooses 𝓤 H A at-mem run .pre (to-best r₂ v₂))) (goes-best r₂ v₂ is₂ (gn .0) gu gg few) $
           calls-at ! fm (Chooses 𝓤 H A at-mem run) known-best (to-best r₂ v₂)
           (and-then ! (load ! (from ! (stop !)) (look ! 22 refl)) (and-then ! (load ! (from ! (stop !)) (look ! 16 refl))
           (and-then ! (load ! (from ! (stop !)) (look ! 26 refl)) (and-then ! (load ! (from ! (stop !)) (look ! 24 refl)) (no-more !))))) (λ v₃.
           use1 W (later (some (λ (r : Answer). (‵ ftrue ⊛ ‵ (R.the-row .own r (v₃ ∷ [])))
-            ⊛ raw (ensured 𝓤 H A best.ended (best.clauses 𝓤 H A at-mem run) tt (args r₂) tt r)))) (id⊢ 𝓤 _) $
+          ⊛ raw (ensured 𝓤 H A best.ended (best.clauses 𝓤 H A at-mem run) tt (args r₂) tt r)))) (id⊢ 𝓤 _) $
           await ! tt $ pick ! (λ r₃. split ! $ move ! (1 ∷ []) $
           use1 W (raw (fact 𝓤 (r₃ ≡ choice r₂))) (said-best r₂ r₃) $ heard ! (r₃ ≡ choice r₂) (λ e₃. split ! $ drop ! $
           peeks ! R.the-row (Is R.the-row) (shows 𝓤 H A R.the-row) r₃ (v₃ ∷ []) (λ is₃. drop ! $
@@ -451,17 +459,20 @@ module _ {M : Type 1} (𝓤 : URA M) (H : Heap 𝓤) (A : Atoms 𝓤) (W : Given
           (init ! 11 refl (tt, (tt, (record { fits = gn .0 }, tt)))) $
           lft-new ! tt (λ ν. move ! (2 ∷ 1 ∷ []) $
           use2 W (later (some (λ (δ : GName). ‵ (lent ν δ) ⊛ ‵ (Shown T.the-row κ (ν ∷ []) q γ b o ys))))
-          (lends-shared T.the-row κ (ν ∷ []) q γ b o ys 𝓤 H A W (named 0) (named 0)) $ await ! tt $ pick ! (λ δ. split ! $
+          (lends-shared T.the-row κ (ν ∷ []) q γ b o ys 𝓤 H A W (named 0) (named 0)) $ await ! tt $
+          pick ! (λ δ. split ! $
           move ! (2 ∷ 0 ∷ []) $ use2 W (raw (Read 𝓤 H A at-mem run .pre (to-read ν δ))) (goes-read few ν δ) $
           calls-at ! fm (Read 𝓤 H A at-mem run) known-read (to-read ν δ) (and-then ! (load ! (from ! (stop !)) (look ! 11 refl)) (no-more !)) (λ v₂.
           use1 W (later (some (λ (r : Lists). ((‵ (flft (ν ∷ []) fullShare) ⊛ ‵ ftrue) ⊛ ‵ (L.the-row .own r (v₂ ∷ [])))
-            ⊛ raw (ensured 𝓤 H A read.ended (read.clauses 𝓤 H A at-mem run) (ν ∷ [], tt) (list δ ys, tt) tt r)))) (id⊢ 𝓤 _) $
+          ⊛ raw (ensured 𝓤 H A read.ended (read.clauses 𝓤 H A at-mem run) (ν ∷ [], tt) (list δ ys, tt) tt r)))) (id⊢ 𝓤 _) $
           await ! tt $ pick ! (λ r₂. split ! $ move ! (1 ∷ []) $
-          use1 W (raw (fact 𝓤 (r₂ ≡ listsOf ys n))) (said-read ν δ r₂) $ heard ! (r₂ ≡ listsOf ys n) (λ e₂. split ! $ move ! (1 ∷ []) $
+          use1 W (raw (fact 𝓤 (r₂ ≡ listsOf ys n))) (said-read ν δ r₂) $ heard ! (r₂ ≡ listsOf ys n) (λ e₂. split ! $
+          move ! (1 ∷ []) $
           peeks ! L.the-row (Is L.the-row) (shows 𝓤 H A L.the-row) r₂ (v₂ ∷ []) (λ is₂. drop ! $
           land ! (from ! (stop !)) (init ! 21 refl (typed-lists r₂ v₂ is₂)) $
           split ! $ lft-end ! tt $ move ! (0 ∷ 2 ∷ []) $
-          use2 W (later (‵ Own ⊛ ‵ (flft κ q))) (comes-back T.the-row κ (ν ∷ []) q γ b o ys 𝓤 H A W (named 0) (named 0) gn) $ await ! tt $ split ! $
+          use2 W (later (‵ Own ⊛ ‵ (flft κ q))) (comes-back T.the-row κ (ν ∷ []) q γ b o ys 𝓤 H A W (named 0) (named 0) gn) $
+          await ! tt $ split ! $
           move ! (2 ∷ []) $ drop ! $ forget ! 11 refl $ forget ! 13 refl $ chooses on few r₂ v₂ is₂ e₂))))))
 
       -- row 20 is judged
@@ -471,20 +482,20 @@ module _ {M : Type 1} (𝓤 : URA M) (H : Heap 𝓤) (A : Atoms 𝓤) (W : Given
       judges =
           first ! $ branches ! (load ! (from ! (stop !)) (look ! 17 refl))
           (λ down.
-            nothing ! $ use1 W (raw (Refuses 𝓤 H A at-mem run .pre to-refuses)) goes-refuses $
-            calls-at ! fm (Refuses 𝓤 H A at-mem run) known-refuses to-refuses (no-more !) (λ v.
-            use1 W (later (some (λ (r : Answer). (‵ ftrue ⊛ ‵ (R.the-row .own r (v ∷ [])))
-              ⊛ raw (ensured 𝓤 H A refuses′.ended (refuses′.clauses 𝓤 H A at-mem run) tt tt tt r)))) (id⊢ 𝓤 _) $
-            await ! tt $ pick ! (λ r. split ! $ move ! (1 ∷ []) $
-            use1 W (raw (fact 𝓤 (r ≡ refusal))) (said-refuses r) $ heard ! (r ≡ refusal) (λ e. split ! $ drop ! $
-            peeks ! R.the-row (Is R.the-row) (shows 𝓤 H A R.the-row) r (v ∷ []) (λ is. drop ! $
-            land ! (from ! (stop !)) (init ! 29 refl (typed-answer r v is)) $
-            returns-within ! Post refl (look ! 29 refl) $
-            forget ! 17 refl $ forget ! 23 refl $ forget ! 25 refl $ forget ! 27 refl $ forget ! 29 refl $
-            turned r v is (e ∙ turned-down ys u g (holds _ down) .0, turned-down ys u g (holds _ down) .1))))))
+          nothing ! $ use1 W (raw (Refuses 𝓤 H A at-mem run .pre to-refuses)) goes-refuses $
+          calls-at ! fm (Refuses 𝓤 H A at-mem run) known-refuses to-refuses (no-more !) (λ v.
+          use1 W (later (some (λ (r : Answer). (‵ ftrue ⊛ ‵ (R.the-row .own r (v ∷ [])))
+          ⊛ raw (ensured 𝓤 H A refuses′.ended (refuses′.clauses 𝓤 H A at-mem run) tt tt tt r)))) (id⊢ 𝓤 _) $
+          await ! tt $ pick ! (λ r. split ! $ move ! (1 ∷ []) $
+          use1 W (raw (fact 𝓤 (r ≡ refusal))) (said-refuses r) $ heard ! (r ≡ refusal) (λ e. split ! $ drop ! $
+          peeks ! R.the-row (Is R.the-row) (shows 𝓤 H A R.the-row) r (v ∷ []) (λ is. drop ! $
+          land ! (from ! (stop !)) (init ! 29 refl (typed-answer r v is)) $
+          returns-within ! Post refl (look ! 29 refl) $
+          forget ! 17 refl $ forget ! 23 refl $ forget ! 25 refl $ forget ! 27 refl $ forget ! 29 refl $
+          turned r v is (e ∙ turned-down ys u g (holds _ down) .0, turned-down ys u g (holds _ down) .1))))))
           (λ on.
-            skips ! $ exec ! C Λ En pieces.t-4 (atRet En Post) $
-            forget ! 17 refl $ reads (fails _ on) (few-of n g (fails _ on)))
+          skips ! $ exec ! C Λ En pieces.t-4 (atRet En Post) $
+          forget ! 17 refl $ reads (fails _ on) (few-of n g (fails _ on)))
 
       starts : Sq W (‵ (flft κ q) ∷ ‵ Own ∷ ‵ nums ∷ Running (‵ (froom R′.mir l₅ 0)) (‵ (froom L′.mir l₄ 0)))
           (runs C Λ En (code.function .body) (atRet En Post))
@@ -495,9 +506,10 @@ module _ {M : Type 1} (𝓤 : URA M) (H : Heap 𝓤) (A : Atoms 𝓤) (W : Given
           calls-at ! fm (Asks 𝓤 H A at-mem run) known-asks to-asks
           (and-then ! (load ! (from ! (stop !)) (look ! 16 refl)) (and-then ! (load ! (from ! (stop !)) (look ! 24 refl)) (no-more !))) (λ v₁.
           use1 W (later (some (λ (r : Bool). (‵ ftrue ⊛ ‵ (Boolean .own r (v₁ ∷ [])))
-            ⊛ raw (ensured 𝓤 H A asks.ended (asks.clauses 𝓤 H A at-mem run) tt (n, (g, tt)) tt r)))) (id⊢ 𝓤 _) $
+          ⊛ raw (ensured 𝓤 H A asks.ended (asks.clauses 𝓤 H A at-mem run) tt (n, (g, tt)) tt r)))) (id⊢ 𝓤 _) $
           await ! tt $ pick ! (λ r₁. split ! $ move ! (1 ∷ []) $
-          use1 W (raw (fact 𝓤 (r₁ ≡ isRefused n g))) (said-asks r₁) $ heard ! (r₁ ≡ isRefused n g) (λ e₁. split ! $ drop ! $
+          use1 W (raw (fact 𝓤 (r₁ ≡ isRefused n g))) (said-asks r₁) $ heard ! (r₁ ≡ isRefused n g) (λ e₁. split ! $
+          drop ! $
           peeks ! Boolean (Is Boolean) (shows 𝓤 H A Boolean) r₁ (v₁ ∷ []) (λ is₁. drop ! $
           land ! (from ! (stop !)) (init ! 17 refl (bool-lawful 𝓤 H A W .typed r₁ _ is₁ .0)) $
           rewrite ! 17 (λ (z : Val). ‵ (fat fullShare tyBool l₆ 0 z)) (ap only is₁ ∙ ap vbool e₁) refl $
@@ -509,8 +521,10 @@ module _ {M : Type 1} (𝓤 : URA M) (H : Heap 𝓤) (A : Atoms 𝓤) (W : Given
         qed W ((‵ (flft κ q) ⊛ ‵ ftrue) ∷ ‵ (owns (MutSlice (named 0) κ T.the-row ∷ u32 ∷ u32 ∷ []) x at) ∷ []) ∵
         enter ! C Λ code.function (s ∷ vint w32 u ∷ vint w32 g ∷ []) _ $
         alloc1 ! (λ l₀. alloc1 ! (λ l₁. alloc1 ! (λ l₂. alloc1 ! (λ l₃. alloc1 ! (λ l₄. alloc1 ! (λ l₅. alloc1 ! (λ l₆.
-        alloc1 ! (λ l₇. alloc1 ! (λ l₈. alloc1 ! (λ l₉. alloc1 ! (λ m₀. alloc1 ! (λ m₁. alloc1 ! (λ m₂. alloc1 ! (λ m₃. alloc0 ! $ params1 ! $
-        pass1 ! (init ! 24 refl (tt, (tt, (record { fits = gn .0 }, tt)))) $ pass1 ! (init ! 22 refl (tt, record { fits = gu })) $
+        alloc1 ! (λ l₇. alloc1 ! (λ l₈. alloc1 ! (λ l₉. alloc1 ! (λ m₀. alloc1 ! (λ m₁. alloc1 ! (λ m₂. alloc1 ! (λ m₃. alloc0 ! $
+        params1 ! $
+        pass1 ! (init ! 24 refl (tt, (tt, (record { fits = gn .0 }, tt)))) $
+        pass1 ! (init ! 22 refl (tt, record { fits = gu })) $
         pass1 ! (init ! 20 refl (tt, record { fits = gg })) $ pass0 ! $
         move ! (29 ∷ []) $ fsplit ! $ move ! (30 ∷ []) $ split ! $ move ! (1 ∷ []) $ drop ! $
         -- [the token; the list; the numbers; _13; …]
@@ -531,9 +545,10 @@ module _ {M : Type 1} (𝓤 : URA M) (H : Heap 𝓤) (A : Atoms 𝓤) (W : Given
 
   f-meets : Meets 𝓤 H A f.signature (WpFn 𝓤 H (𝓣 .C) (𝓣 .Λ) code.function) (f.spec 𝓤 H A at-mem run)
   f-meets =
-      walk-meets 𝓤 H A f.ended stayed W
-      (goes-gave-slice 𝓤 H A W 1 0 tt (plain (λ _. T.the-row)),
-      (goes-none 𝓤 H A W 1 (λ _. u32) yes (λ κs x f. refl), (goes-none 𝓤 H A W 1 (λ _. u32) yes (λ κs x f. refl), tt)))
+      walk-meets 𝓤 H A f.ended stayed W (
+        goes-gave-slice 𝓤 H A W 1 0 tt (plain (λ _. T.the-row)),
+        (goes-none 𝓤 H A W 1 (λ _. u32) yes (λ κs x f. refl), (goes-none 𝓤 H A W 1 (λ _. u32) yes (λ κs x f. refl), tt)),
+      )
       (f.clauses 𝓤 H A at-mem run) (WpFn 𝓤 H (𝓣 .C) (𝓣 .Λ) code.function) (WpFn-mono 𝓤 H (W .laws) 𝓣 code.function) f-walks
 
 pub best-set-spec : {M : Type 1} → stated.statement M

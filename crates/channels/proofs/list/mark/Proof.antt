@@ -135,9 +135,12 @@ module _ {M : Type 1} (𝓤 : URA M) (H : Heap 𝓤) (A : Atoms 𝓤) (W : Given
   exits : Room T.the-row n → (l : List Channel) → l ≡ zs n → length l ≡ n → ent 𝓤 (⋆ 𝓤 H A (obs l ∷ bor l ∷ ‵ (flft κ q) ∷ sets ∷ [])) (Post vunit)
   exits gn l e s =
       qed W (obs l ∷ bor l ∷ ‵ (flft κ q) ∷ sets ∷ []) ∵
-      suffices ! _ (ends-at 𝓤 H A f.ended stayed (f.clauses 𝓤 H A at-mem run) W (((κ, tt), (q, tt), tt, x, at), tt) vunit tt (l, (tt, tt)) (s, (tt, tt))) $ says ! e $
+      suffices ! _ (ends-at 𝓤 H A f.ended stayed (f.clauses 𝓤 H A at-mem run) W (((κ, tt), (q, tt), tt, x, at), tt) vunit tt (l, (tt, tt)) (s, (tt, tt))) $
+      says ! e $
       nothing ! $ move ! (3 ∷ 0 ∷ []) $ join ! $
-      frame ! $ fjoin ! $ pureI ! (at-slice T.the-row (at-list l) (at .0)) (tt, (tt, tt)) (ap (λ (m : ℕ). sliceVal (b, o) m ∷ []) (sym s), subst (Room T.the-row) (sym s) gn) $ fjoin ! $ fjoin ! $ frame ! $
+      frame ! $ fjoin ! $
+      pureI ! (at-slice T.the-row (at-list l) (at .0)) (tt, (tt, tt)) (ap (λ (m : ℕ). sliceVal (b, o) m ∷ []) (sym s), subst (Room T.the-row) (sym s) gn) $
+      fjoin ! $ fjoin ! $ frame ! $
       feqI ! (List Val) (vunit ∷ []) (vunit ∷ []) refl $ done !
 
   -- ---- the call of `flag`
@@ -148,7 +151,8 @@ module _ {M : Type 1} (𝓤 : URA M) (H : Heap 𝓤) (A : Atoms 𝓤) (W : Given
   goes : (i : ℕ) → w < 2 ^ 32 → i < 2 ^ 64 → i < 16 → ent 𝓤 (sem 𝓤 H A ftrue) (Flag 𝓤 H A at-mem run .pre (to i))
   goes i gw gi small =
       qed W (‵ ftrue ∷ []) ∵ says ! small $ frame ! $
-      nothing ! $ owned ! usize (Is usize) (uint-makes 𝓤 H A W w64) i _ (refl, gi) $ fjoin ! $ owned ! u32 (Is u32) (uint-makes 𝓤 H A W w32) w _ (refl, gw) $ fjoin ! $ done !
+      nothing ! $ owned ! usize (Is usize) (uint-makes 𝓤 H A W w64) i _ (refl, gi) $ fjoin ! $
+      owned ! u32 (Is u32) (uint-makes 𝓤 H A W w32) w _ (refl, gw) $ fjoin ! $ done !
 
   said : (i : ℕ) (r : ℕ) → ent 𝓤 (ensured 𝓤 H A flag′.ended (flag′.clauses 𝓤 H A at-mem run) tt (w, (i, tt)) tt r) (fact 𝓤 (r ≡ flag w i))
   said i r = exE 𝓤 _ (λ ws. snd∗ 𝓤 (sem 𝓤 H A (lasts flag′.ended tt (w, (i, tt)) ws)) (fact 𝓤 (r ≡ flag w i)))
@@ -203,36 +207,47 @@ module _ {M : Type 1} (𝓤 : URA M) (H : Heap 𝓤) (A : Atoms 𝓤) (W : Given
         assigns ! (bin ! (load ! (from ! (stop !)) (look ! 12 refl)) (load ! (from ! (stop !)) (look ! 8 refl)) tt) (from ! (stop !)) (init ! 6 refl (tt, tt)) $
         first ! $ branches ! (load ! (from ! (stop !)) (look ! 6 refl))
         (λ less.
-          let in-list : i .0 < n = ltb→lt (i .0) n less in
-          let within : i .0 < length (zs (i .0)) = omega (arith, in-list, length-flagged ys w (i .0)) in
-          let scaled : i .0 * 6 < 2 ^ 64 = omega (arith, in-list, gn .1) in
-          skips ! $ exec ! C Λ En more (anyQ (Turned i)) $
-          nothing ! $ use1 W (raw (Flag 𝓤 H A at-mem run .pre (to (i .0)))) (goes (i .0) gw (fits i) (omega (arith, in-list, few))) $
-          calls-at ! (fmOf 𝓤 H (W .laws) 𝓣) (Flag 𝓤 H A at-mem run) known (to (i .0)) (and-then ! (load ! (from ! (stop !)) (look ! 15 refl)) (and-then ! (load ! (from ! (stop !)) (look ! 13 refl)) (no-more !))) (λ v.
-          use1 W (later (some (λ (r : ℕ). (‵ ftrue ⊛ ‵ (u8 .own r (v ∷ []))) ⊛ raw (ensured 𝓤 H A flag′.ended (flag′.clauses 𝓤 H A at-mem run) tt (w, (i .0, tt)) tt r)))) (id⊢ 𝓤 _) $ await ! tt $ pick ! (λ r.
-          split ! $ move ! (1 ∷ []) $ use1 W (raw (fact 𝓤 (r ≡ flag w (i .0)))) (said (i .0) r) $ heard ! (r ≡ flag w (i .0)) (λ e. split ! $ drop ! $
-          peeks ! u8 (Is u8) (shows 𝓤 H A u8) r (v ∷ []) (λ is.
-          let low : flag w (i .0) < 2 ^ 8 = subst (λ (z : ℕ). z < 2 ^ 8) e (is .1) in
-          drop ! $
-          land ! (from ! (stop !)) (init ! 10 refl (uint-lawful 𝓤 H A W w8 .typed r _ is .0)) $
-          rewrite ! 10 (λ (u : Val). ‵ (fat fullShare byte l₄ 0 u)) (ap only (is .0) ∙ ap (vint w8) e) refl $
-          assigns ! (bin ! (load ! (from ! (stop !)) (look ! 12 refl)) (lit ! tt) (record { fits = scaled })) (from ! (stop !)) (store ! 8 refl (tt, record { fits = scaled })) $
-          assigns ! (bin ! (load ! (from ! (fld ! refl (stop !))) (look-in ! 16 (sub ! 0 refl (whole !)))) (load ! (from ! (stop !)) (look ! 8 refl)) tt) (from ! (stop !)) (init ! 4 refl (tt, tt)) $
-          rewrite ! 4 (λ (p : ℕ). ‵ (fat fullShare tyPtr l₇ 0 (vptr b p))) (sym (place-is 6 o (i .0))) refl $
-          opens-slice ! tt T.the-row (zs (i .0)) b o $ elem-out ! T.the-row (Is T.the-row) (shows 𝓤 H A T.the-row) (LL.vals T.the-type T′.the-laws) (LL.tells T.the-type T′.the-laws) fullShare (zs (i .0)) (i .0) none b o within (λ was.
-          -- [cs[i]; what it owns; the others; the open borrow; obs; auth; set's; _7; …]
-          assigns ! (of-opd ! (load ! (from ! (stop !)) (look ! 13 refl))) (from ! (hop ! (look ! 7 refl) (fld ! refl (stop !)))) (store-in ! 0 (sub ! 2 refl (whole !)) (tt, record { fits = low })) $
-          move ! (1 ∷ []) $ drop ! $ owned ! T.the-row (Is T.the-row) ((LL.makes T.the-type T′.the-plain) 𝓤 H A) (h′ (i .0)) _ (made (i .0) low was) $ move ! (1 ∷ 0 ∷ []) $ elem-put ! T.the-row fullShare (zs (i .0)) (i .0) (h′ (i .0)) (mach (i .0) ∷ []) b o within $
-          closes-slice ! tt T.the-row (zs (i .0)) (set (zs (i .0)) (i .0) (h′ (i .0))) (length-set (zs (i .0)) (i .0) (h′ (i .0))) b o $
-          rewrite ! 0 obs (marked-next ys w (i .0)) refl $ rewrite ! 1 bor (marked-next ys w (i .0)) refl $
-          assigns-last ! (bin ! (load ! (from ! (stop !)) (look ! 12 refl)) (lit ! tt) (record { fits = fits (next less) })) (from ! (stop !)) (store ! 12 refl (tt, record { fits = fits (next less) })) $
-          forget ! 4 refl $ forget ! 6 refl $ forget ! 8 refl $ forget ! 10 refl $ again ! Nearer At i (next less) (add-one-dec n (i .0) in-list)))))))
+        let in-list : i .0 < n = ltb→lt (i .0) n less in
+        let within : i .0 < length (zs (i .0)) = omega (arith, in-list, length-flagged ys w (i .0)) in
+        let scaled : i .0 * 6 < 2 ^ 64 = omega (arith, in-list, gn .1) in
+        skips ! $ exec ! C Λ En more (anyQ (Turned i)) $
+        nothing ! $
+        use1 W (raw (Flag 𝓤 H A at-mem run .pre (to (i .0)))) (goes (i .0) gw (fits i) (omega (arith, in-list, few))) $
+        calls-at ! (fmOf 𝓤 H (W .laws) 𝓣) (Flag 𝓤 H A at-mem run) known (to (i .0)) (and-then ! (load ! (from ! (stop !)) (look ! 15 refl)) (and-then ! (load ! (from ! (stop !)) (look ! 13 refl)) (no-more !))) (λ v.
+        use1 W (later (some (λ (r : ℕ). (‵ ftrue ⊛ ‵ (u8 .own r (v ∷ []))) ⊛ raw (ensured 𝓤 H A flag′.ended (flag′.clauses 𝓤 H A at-mem run) tt (w, (i .0, tt)) tt r)))) (id⊢ 𝓤 _) $
+        await ! tt $ pick ! (λ r.
+        split ! $ move ! (1 ∷ []) $ use1 W (raw (fact 𝓤 (r ≡ flag w (i .0)))) (said (i .0) r) $
+        heard ! (r ≡ flag w (i .0)) (λ e. split ! $ drop ! $
+        peeks ! u8 (Is u8) (shows 𝓤 H A u8) r (v ∷ []) (λ is.
+        let low : flag w (i .0) < 2 ^ 8 = subst (λ (z : ℕ). z < 2 ^ 8) e (is .1) in
+        drop ! $
+        land ! (from ! (stop !)) (init ! 10 refl (uint-lawful 𝓤 H A W w8 .typed r _ is .0)) $
+        rewrite ! 10 (λ (u : Val). ‵ (fat fullShare byte l₄ 0 u)) (ap only (is .0) ∙ ap (vint w8) e) refl $
+        assigns ! (bin ! (load ! (from ! (stop !)) (look ! 12 refl)) (lit ! tt) (record { fits = scaled })) (from ! (stop !)) (store ! 8 refl (tt, record { fits = scaled })) $
+        assigns ! (bin ! (load ! (from ! (fld ! refl (stop !))) (look-in ! 16 (sub ! 0 refl (whole !)))) (load ! (from ! (stop !)) (look ! 8 refl)) tt) (from ! (stop !)) (init ! 4 refl (tt, tt)) $
+        rewrite ! 4 (λ (p : ℕ). ‵ (fat fullShare tyPtr l₇ 0 (vptr b p))) (sym (place-is 6 o (i .0))) refl $
+        opens-slice ! tt T.the-row (zs (i .0)) b o $
+        elem-out ! T.the-row (Is T.the-row) (shows 𝓤 H A T.the-row) (LL.vals T.the-type T′.the-laws) (LL.tells T.the-type T′.the-laws) fullShare (zs (i .0)) (i .0) none b o within (λ was.
+        -- [cs[i]; what it owns; the others; the open borrow; obs; auth; set's; _7; …]
+        assigns ! (of-opd ! (load ! (from ! (stop !)) (look ! 13 refl))) (from ! (hop ! (look ! 7 refl) (fld ! refl (stop !)))) (store-in ! 0 (sub ! 2 refl (whole !)) (tt, record { fits = low })) $
+        move ! (1 ∷ []) $ drop ! $
+        owned ! T.the-row (Is T.the-row) ((LL.makes T.the-type T′.the-plain) 𝓤 H A) (h′ (i .0)) _ (made (i .0) low was) $
+        move ! (1 ∷ 0 ∷ []) $
+        elem-put ! T.the-row fullShare (zs (i .0)) (i .0) (h′ (i .0)) (mach (i .0) ∷ []) b o within $
+        closes-slice ! tt T.the-row (zs (i .0)) (set (zs (i .0)) (i .0) (h′ (i .0))) (length-set (zs (i .0)) (i .0) (h′ (i .0))) b o $
+        rewrite ! 0 obs (marked-next ys w (i .0)) refl $ rewrite ! 1 bor (marked-next ys w (i .0)) refl $
+        assigns-last ! (bin ! (load ! (from ! (stop !)) (look ! 12 refl)) (lit ! tt) (record { fits = fits (next less) })) (from ! (stop !)) (store ! 12 refl (tt, record { fits = fits (next less) })) $
+        forget ! 4 refl $ forget ! 6 refl $ forget ! 8 refl $ forget ! 10 refl $
+        again ! Nearer At i (next less) (add-one-dec n (i .0) in-list)))))))
         (λ over. jumps ! $ exec ! C Λ En pieces.t-3 (atRet En Post) $
-          assigns ! (of-opd ! (unit-lit !)) (from ! (stop !)) (init ! 18 refl (tt, tt)) $
-          returns ! (look ! 18 refl) $ forget ! 6 refl $ forget ! 8 refl $ forget ! 12 refl $ forget ! 14 refl $ forget ! 16 refl $ forget ! 18 refl $
-          move ! (18 ∷ 19 ∷ []) $ free1 ! $ move ! (16 ∷ 17 ∷ []) $ free1 ! $ move ! (14 ∷ 15 ∷ []) $ free1 ! $ move ! (12 ∷ 13 ∷ []) $ free1 ! $
-          move ! (10 ∷ 11 ∷ []) $ free1 ! $ move ! (8 ∷ 9 ∷ []) $ free1 ! $ move ! (6 ∷ 7 ∷ []) $ free1 ! $ move ! (4 ∷ 5 ∷ []) $ free1 ! $ free0 ! $
-          by ! (exits gn (zs (i .0)) (ap zs (le-antisymm (i .1) (nltb→le (i .0) n over))) (length-flagged ys w (i .0))))
+        assigns ! (of-opd ! (unit-lit !)) (from ! (stop !)) (init ! 18 refl (tt, tt)) $
+        returns ! (look ! 18 refl) $ forget ! 6 refl $ forget ! 8 refl $ forget ! 12 refl $ forget ! 14 refl $
+        forget ! 16 refl $ forget ! 18 refl $
+        move ! (18 ∷ 19 ∷ []) $ free1 ! $ move ! (16 ∷ 17 ∷ []) $ free1 ! $ move ! (14 ∷ 15 ∷ []) $ free1 ! $
+        move ! (12 ∷ 13 ∷ []) $ free1 ! $
+        move ! (10 ∷ 11 ∷ []) $ free1 ! $ move ! (8 ∷ 9 ∷ []) $ free1 ! $ move ! (6 ∷ 7 ∷ []) $ free1 ! $
+        move ! (4 ∷ 5 ∷ []) $ free1 ! $ free0 ! $
+        by ! (exits gn (zs (i .0)) (ap zs (le-antisymm (i .1) (nltb→le (i .0) n over))) (length-flagged ys w (i .0))))
       where
         fits : (j : Upto) → j .0 < 2 ^ 64
         fits j = lt-of-le-of-lt (j .1) (gn .0)
@@ -244,13 +259,17 @@ module _ {M : Type 1} (𝓤 : URA M) (H : Heap 𝓤) (A : Atoms 𝓤) (W : Given
       → ent 𝓤 (onEntry 𝓤 H A f.signature (κ, tt) (q, tt) x at) (WpFn 𝓤 H (𝓣 .C) (𝓣 .Λ) code.function (sliceVal (b, o) n ∷ vint w32 w ∷ []) Post)
   walk 𝓣 known gn gw few =
       qed W ((‵ (flft κ q) ⊛ ‵ ftrue) ∷ ‵ (owns (MutSlice (named 0) κ T.the-row ∷ u32 ∷ []) x at) ∷ []) ∵ enter ! (𝓣 .C) (𝓣 .Λ) code.function (sliceVal (b, o) n ∷ vint w32 w ∷ []) _ $
-      alloc1 ! (λ l₀. alloc1 ! (λ l₁. alloc1 ! (λ l₂. alloc1 ! (λ l₃. alloc1 ! (λ l₄. alloc1 ! (λ l₅. alloc1 ! (λ l₆. alloc1 ! (λ l₇. alloc0 ! $ params1 ! $
-      pass1 ! (init ! 12 refl (tt, (tt, (record { fits = gn .0 }, tt)))) $ pass1 ! (init ! 10 refl (tt, record { fits = gw })) $ pass0 ! $
+      alloc1 ! (λ l₀. alloc1 ! (λ l₁. alloc1 ! (λ l₂. alloc1 ! (λ l₃. alloc1 ! (λ l₄. alloc1 ! (λ l₅. alloc1 ! (λ l₆. alloc1 ! (λ l₇. alloc0 ! $
+      params1 ! $
+      pass1 ! (init ! 12 refl (tt, (tt, (record { fits = gn .0 }, tt)))) $
+      pass1 ! (init ! 10 refl (tt, record { fits = gw })) $ pass0 ! $
       assigns ! (of-opd ! (lit ! tt)) (from ! (stop !)) (init ! 8 refl (tt, record { fits = lit< tt })) $
-      move ! (17 ∷ []) $ fsplit ! $ fsplit ! $ move ! (1 ∷ []) $ fsplit ! $ move ! (20 ∷ []) $ split ! $ move ! (2 ∷ 3 ∷ 0 ∷ []) $
+      move ! (17 ∷ []) $ fsplit ! $ fsplit ! $ move ! (1 ∷ []) $ fsplit ! $ move ! (20 ∷ []) $ split ! $
+      move ! (2 ∷ 3 ∷ 0 ∷ []) $
       rewrite ! 0 obs (marked-none ys w) refl $ rewrite ! 1 bor (marked-none ys w) refl $
       keep ! (0 ∷ 1 ∷ 2 ∷ 5 ∷ 6 ∷ 7 ∷ 8 ∷ 9 ∷ 10 ∷ 11 ∷ 12 ∷ 13 ∷ 14 ∷ 15 ∷ 16 ∷ 17 ∷ 18 ∷ 19 ∷ 20 ∷ 21 ∷ []) $
-      first ! $ blocks ! $ loops ! 𝓣 Nearer Nearer-wf (At 𝓣 known gn gw few l₀ l₁ l₂ l₃ l₄ l₅ l₆ l₇) (turns 𝓣 known gn gw few l₀ l₁ l₂ l₃ l₄ l₅ l₆ l₇) (0, zero-le)))))))))
+      first ! $ blocks ! $
+      loops ! 𝓣 Nearer Nearer-wf (At 𝓣 known gn gw few l₀ l₁ l₂ l₃ l₄ l₅ l₆ l₇) (turns 𝓣 known gn gw few l₀ l₁ l₂ l₃ l₄ l₅ l₆ l₇) (0, zero-le)))))))))
 
 module _ {M : Type 1} (𝓤 : URA M) (H : Heap 𝓤) (A : Atoms 𝓤) (W : Given 𝓤 H A) (at-mem : Memory → SProp 𝓤) (run : Routine → Fun 𝓤) where
   f-walks : (𝓣 : Tables 𝓤 H) → Triple 𝓤 (𝓣 .C #channels·list·flag) (Flag 𝓤 H A at-mem run) → Walks 𝓤 H A f.ended stayed (WpFn 𝓤 H (𝓣 .C) (𝓣 .Λ) code.function) (f.clauses 𝓤 H A at-mem run)

@@ -133,7 +133,8 @@ module _ {M : Type 1} (𝓤 : URA M) (H : Heap 𝓤) (A : Atoms 𝓤) (W : Given
   exits : (r : Lists) (v : Val) → r ≡ acc n → Is L.the-row r (v ∷ []) → ent 𝓤 (⋆ 𝓤 H A (‵ (flft κ q) ∷ own ∷ [])) (Post v)
   exits r v e is =
       qed W (‵ (flft κ q) ∷ own ∷ []) ∵
-      suffices ! _ (ends-at 𝓤 H A f.ended stayed (f.clauses 𝓤 H A at-mem run) W (((κ, tt), (q, tt), tt, x, at), tt) v r (tt, tt) (tt, tt)) $ says ! e $
+      suffices ! _ (ends-at 𝓤 H A f.ended stayed (f.clauses 𝓤 H A at-mem run) W (((κ, tt), (q, tt), tt, x, at), tt) v r (tt, tt) (tt, tt)) $
+      says ! e $
       nothing ! $ move ! (1 ∷ 0 ∷ []) $ join ! $ nothing ! $ move ! (2 ∷ 0 ∷ []) $ fjoin ! $ move ! (1 ∷ 0 ∷ []) $
       frame ! $ frame ! $ owned ! L.the-row (Is L.the-row) ((LL.makes L.the-type L′.the-plain) 𝓤 H A) r _ is $ done !
 
@@ -166,8 +167,10 @@ module _ {M : Type 1} (𝓤 : URA M) (H : Heap 𝓤) (A : Atoms 𝓤) (W : Given
   goes-put : (i : ℕ) (v : Val) → Is L.the-row (acc i) (v ∷ []) → i < 2 ^ 64 → h i .maximum < 2 ^ 16 → h i .charge < 2 ^ 16 → i < 16 → ent 𝓤 (sem 𝓤 H A ftrue) (Put 𝓤 H A at-mem run .pre (to-put i v))
   goes-put i v is gi gm gc small =
       qed W (‵ ftrue ∷ []) ∵ says ! small $ frame ! $
-      nothing ! $ owned ! u16 (Is u16) (uint-makes 𝓤 H A W w16) (h i .charge) _ (refl, gc) $ fjoin ! $ owned ! u16 (Is u16) (uint-makes 𝓤 H A W w16) (h i .maximum) _ (refl, gm) $ fjoin ! $
-      owned ! usize (Is usize) (uint-makes 𝓤 H A W w64) i _ (refl, gi) $ fjoin ! $ owned ! L.the-row (Is L.the-row) ((LL.makes L.the-type L′.the-plain) 𝓤 H A) (acc i) _ is $ fjoin ! $ done !
+      nothing ! $ owned ! u16 (Is u16) (uint-makes 𝓤 H A W w16) (h i .charge) _ (refl, gc) $ fjoin ! $
+      owned ! u16 (Is u16) (uint-makes 𝓤 H A W w16) (h i .maximum) _ (refl, gm) $ fjoin ! $
+      owned ! usize (Is usize) (uint-makes 𝓤 H A W w64) i _ (refl, gi) $ fjoin ! $
+      owned ! L.the-row (Is L.the-row) ((LL.makes L.the-type L′.the-plain) 𝓤 H A) (acc i) _ is $ fjoin ! $ done !
 
   said-put : (i : ℕ) (r : Lists) → ent 𝓤 (ensured 𝓤 H A put.ended (put.clauses 𝓤 H A at-mem run) tt (args i) tt r) (fact 𝓤 (r ≡ putAt (acc i) i (h i .maximum) (h i .charge)))
   said-put i r = exE 𝓤 _ (λ ws. snd∗ 𝓤 (sem 𝓤 H A (lasts put.ended tt (args i) ws)) (fact 𝓤 (r ≡ putAt (acc i) i (h i .maximum) (h i .charge))))
@@ -213,61 +216,74 @@ module _ {M : Type 1} (𝓤 : URA M) (H : Heap 𝓤) (A : Atoms 𝓤) (W : Given
         assigns ! (bin ! (load ! (from ! (stop !)) (look ! 14 refl)) (load ! (from ! (stop !)) (look ! 8 refl)) tt) (from ! (stop !)) (init ! 6 refl (tt, tt)) $
         first ! $ branches ! (load ! (from ! (stop !)) (look ! 6 refl))
         (λ less.
-          let in-list : u .i < n = ltb→lt (u .i) n less in
-          let scaled : u .i * 6 < 2 ^ 64 = omega (arith, in-list, gn .1) in
-          let fits : u .i < 2 ^ 64 = lt-of-le-of-lt (u .le) (gn .0) in
-          let fits′ : u .i + 1 < 2 ^ 64 = lt-of-le-of-lt (add-one-le in-list) (gn .0) in
-          skips ! $ exec ! C Λ En more (anyQ (Turned u)) $
-          assigns ! (bin ! (load ! (from ! (stop !)) (look ! 14 refl)) (lit ! tt) (record { fits = scaled })) (from ! (stop !)) (store ! 8 refl (tt, record { fits = scaled })) $
-          assigns ! (bin ! (load ! (from ! (fld ! refl (stop !))) (look-in ! 18 (sub ! 0 refl (whole !)))) (load ! (from ! (stop !)) (look ! 8 refl)) tt) (from ! (stop !)) (init ! 4 refl (tt, tt)) $
-          rewrite ! 4 (λ (p : ℕ). ‵ (fat fullShare tyPtr l₈ 0 (vptr b p))) (sym (place-is 6 o (u .i))) refl $
-          fsplit ! $ move ! (1 ∷ []) $ fsplit ! $ move ! (1 ∷ 3 ∷ []) $
-          looks-slice ! tt T.the-row (Is T.the-row) (shows 𝓤 H A T.the-row) (LL.vals T.the-type T′.the-laws) (LL.tells T.the-type T′.the-laws) (LL.copy T.the-type T′.the-copy 𝓤 H A W) ys b o (λ q′. elem-out ! T.the-row (Is T.the-row) (shows 𝓤 H A T.the-row) (LL.vals T.the-type T′.the-laws) (LL.tells T.the-type T′.the-laws) q′ ys (u .i) none b o in-list (λ was.
-          -- [cs[i]; what it owns; the others; what shuts; the fractured borrow; res; cs's fact; _9; …]
-          let g = LL.owed T.the-type T′.the-laws (h (u .i)) (LL.vals T.the-type T′.the-laws (h (u .i))) was in
-          let gm : h (u .i) .maximum < 2 ^ 16 = g .0 .1 in
-          let gc : h (u .i) .charge < 2 ^ 16 = g .1 .0 .1 in
-          assigns ! (of-opd ! (load ! (from ! (hop ! (look ! 9 refl) (fld ! refl (stop !)))) (look-in ! 0 (sub ! 0 refl (whole !))))) (from ! (stop !)) (init ! 17 refl (tt, record { fits = gm })) $
-          assigns ! (bin ! (load ! (from ! (stop !)) (look ! 19 refl)) (lit ! tt) (record { fits = scaled })) (from ! (stop !)) (store ! 13 refl (tt, record { fits = scaled })) $
-          assigns ! (bin ! (load ! (from ! (fld ! refl (stop !))) (look-in ! 23 (sub ! 0 refl (whole !)))) (load ! (from ! (stop !)) (look ! 13 refl)) tt) (from ! (stop !)) (init ! 7 refl (tt, tt)) $
-          rewrite ! 7 (λ (p : ℕ). ‵ (fat fullShare tyPtr l₉ 0 (vptr b p))) (sym (place-is 6 o (u .i))) refl $
-          assigns ! (of-opd ! (load ! (from ! (hop ! (look ! 7 refl) (fld ! refl (stop !)))) (look-in ! 0 (sub ! 1 refl (whole !))))) (from ! (stop !)) (init ! 15 refl (tt, record { fits = gc })) $
-          elem-back ! T.the-row q′ ys (u .i) none (LL.vals T.the-type T′.the-laws (h (u .i))) b o in-list $ shuts-slice ! tt T.the-row q′ ys b o $
-          move ! (2 ∷ 1 ∷ []) $ fjoin ! $ move ! (2 ∷ 0 ∷ []) $ fjoin ! $
-          nothing ! $ use1 W (raw (Put 𝓤 H A at-mem run .pre (to-put (u .i) (u .v)))) (goes-put (u .i) (u .v) (u .is) fits gm gc (omega (arith, in-list, few))) $
-          calls-at ! (fmOf 𝓤 H (W .laws) 𝓣) (Put 𝓤 H A at-mem run) known (to-put (u .i) (u .v))
-          (and-then ! (load ! (from ! (stop !)) (look ! 17 refl)) (and-then ! (load ! (from ! (stop !)) (look ! 15 refl)) (and-then ! (load ! (from ! (stop !)) (look ! 13 refl)) (and-then ! (load ! (from ! (stop !)) (look ! 11 refl)) (no-more !))))) (λ v.
-          use1 W (later (some (λ (r : Lists). (‵ ftrue ⊛ ‵ (L.the-row .own r (v ∷ []))) ⊛ raw (ensured 𝓤 H A put.ended (put.clauses 𝓤 H A at-mem run) tt (args (u .i)) tt r)))) (id⊢ 𝓤 _) $ await ! tt $ pick ! (λ r.
-          split ! $ move ! (1 ∷ []) $ use1 W (raw (fact 𝓤 (r ≡ putAt (acc (u .i)) (u .i) (h (u .i) .maximum) (h (u .i) .charge)))) (said-put (u .i) r) $ heard ! (r ≡ putAt (acc (u .i)) (u .i) (h (u .i) .maximum) (h (u .i) .charge)) (λ e. split ! $ drop ! $
-          peeks ! L.the-row (Is L.the-row) (shows 𝓤 H A L.the-row) r (v ∷ []) (λ is. drop ! $
-          land ! (from ! (stop !)) (store ! 16 refl (typed r v is)) $
-          assigns-last ! (bin ! (load ! (from ! (stop !)) (look ! 14 refl)) (lit ! tt) (record { fits = fits′ })) (from ! (stop !)) (store ! 14 refl (tt, record { fits = fits′ })) $
-          forget ! 2 refl $ forget ! 4 refl $ forget ! 6 refl $ forget ! 8 refl $ forget ! 10 refl $ forget ! 12 refl $
-          again ! Nearer At u (record { i = u .i + 1; le = add-one-le in-list; v = v; is = subst (λ (z : Lists). Is L.the-row z (v ∷ [])) (e ∙ read-next ys (u .i)) is }) (add-one-dec n (u .i) in-list))))))))
+        let in-list : u .i < n = ltb→lt (u .i) n less in
+        let scaled : u .i * 6 < 2 ^ 64 = omega (arith, in-list, gn .1) in
+        let fits : u .i < 2 ^ 64 = lt-of-le-of-lt (u .le) (gn .0) in
+        let fits′ : u .i + 1 < 2 ^ 64 = lt-of-le-of-lt (add-one-le in-list) (gn .0) in
+        skips ! $ exec ! C Λ En more (anyQ (Turned u)) $
+        assigns ! (bin ! (load ! (from ! (stop !)) (look ! 14 refl)) (lit ! tt) (record { fits = scaled })) (from ! (stop !)) (store ! 8 refl (tt, record { fits = scaled })) $
+        assigns ! (bin ! (load ! (from ! (fld ! refl (stop !))) (look-in ! 18 (sub ! 0 refl (whole !)))) (load ! (from ! (stop !)) (look ! 8 refl)) tt) (from ! (stop !)) (init ! 4 refl (tt, tt)) $
+        rewrite ! 4 (λ (p : ℕ). ‵ (fat fullShare tyPtr l₈ 0 (vptr b p))) (sym (place-is 6 o (u .i))) refl $
+        fsplit ! $ move ! (1 ∷ []) $ fsplit ! $ move ! (1 ∷ 3 ∷ []) $
+        looks-slice ! tt T.the-row (Is T.the-row) (shows 𝓤 H A T.the-row) (LL.vals T.the-type T′.the-laws) (LL.tells T.the-type T′.the-laws) (LL.copy T.the-type T′.the-copy 𝓤 H A W) ys b o (λ q′. elem-out ! T.the-row (Is T.the-row) (shows 𝓤 H A T.the-row) (LL.vals T.the-type T′.the-laws) (LL.tells T.the-type T′.the-laws) q′ ys (u .i) none b o in-list (λ was.
+        -- [cs[i]; what it owns; the others; what shuts; the fractured borrow; res; cs's fact; _9; …]
+        let g = LL.owed T.the-type T′.the-laws (h (u .i)) (LL.vals T.the-type T′.the-laws (h (u .i))) was in
+        let gm : h (u .i) .maximum < 2 ^ 16 = g .0 .1 in
+        let gc : h (u .i) .charge < 2 ^ 16 = g .1 .0 .1 in
+        assigns ! (of-opd ! (load ! (from ! (hop ! (look ! 9 refl) (fld ! refl (stop !)))) (look-in ! 0 (sub ! 0 refl (whole !))))) (from ! (stop !)) (init ! 17 refl (tt, record { fits = gm })) $
+        assigns ! (bin ! (load ! (from ! (stop !)) (look ! 19 refl)) (lit ! tt) (record { fits = scaled })) (from ! (stop !)) (store ! 13 refl (tt, record { fits = scaled })) $
+        assigns ! (bin ! (load ! (from ! (fld ! refl (stop !))) (look-in ! 23 (sub ! 0 refl (whole !)))) (load ! (from ! (stop !)) (look ! 13 refl)) tt) (from ! (stop !)) (init ! 7 refl (tt, tt)) $
+        rewrite ! 7 (λ (p : ℕ). ‵ (fat fullShare tyPtr l₉ 0 (vptr b p))) (sym (place-is 6 o (u .i))) refl $
+        assigns ! (of-opd ! (load ! (from ! (hop ! (look ! 7 refl) (fld ! refl (stop !)))) (look-in ! 0 (sub ! 1 refl (whole !))))) (from ! (stop !)) (init ! 15 refl (tt, record { fits = gc })) $
+        elem-back ! T.the-row q′ ys (u .i) none (LL.vals T.the-type T′.the-laws (h (u .i))) b o in-list $
+        shuts-slice ! tt T.the-row q′ ys b o $
+        move ! (2 ∷ 1 ∷ []) $ fjoin ! $ move ! (2 ∷ 0 ∷ []) $ fjoin ! $
+        nothing ! $
+        use1 W (raw (Put 𝓤 H A at-mem run .pre (to-put (u .i) (u .v)))) (goes-put (u .i) (u .v) (u .is) fits gm gc (omega (arith, in-list, few))) $
+        calls-at ! (fmOf 𝓤 H (W .laws) 𝓣) (Put 𝓤 H A at-mem run) known (to-put (u .i) (u .v))
+        (and-then ! (load ! (from ! (stop !)) (look ! 17 refl)) (and-then ! (load ! (from ! (stop !)) (look ! 15 refl)) (and-then ! (load ! (from ! (stop !)) (look ! 13 refl)) (and-then ! (load ! (from ! (stop !)) (look ! 11 refl)) (no-more !))))) (λ v.
+        use1 W (later (some (λ (r : Lists). (‵ ftrue ⊛ ‵ (L.the-row .own r (v ∷ []))) ⊛ raw (ensured 𝓤 H A put.ended (put.clauses 𝓤 H A at-mem run) tt (args (u .i)) tt r)))) (id⊢ 𝓤 _) $
+        await ! tt $ pick ! (λ r.
+        split ! $ move ! (1 ∷ []) $
+        use1 W (raw (fact 𝓤 (r ≡ putAt (acc (u .i)) (u .i) (h (u .i) .maximum) (h (u .i) .charge)))) (said-put (u .i) r) $
+        heard ! (r ≡ putAt (acc (u .i)) (u .i) (h (u .i) .maximum) (h (u .i) .charge)) (λ e. split ! $ drop ! $
+        peeks ! L.the-row (Is L.the-row) (shows 𝓤 H A L.the-row) r (v ∷ []) (λ is. drop ! $
+        land ! (from ! (stop !)) (store ! 16 refl (typed r v is)) $
+        assigns-last ! (bin ! (load ! (from ! (stop !)) (look ! 14 refl)) (lit ! tt) (record { fits = fits′ })) (from ! (stop !)) (store ! 14 refl (tt, record { fits = fits′ })) $
+        forget ! 2 refl $ forget ! 4 refl $ forget ! 6 refl $ forget ! 8 refl $ forget ! 10 refl $ forget ! 12 refl $
+        again ! Nearer At u (record { i = u .i + 1; le = add-one-le in-list; v = v; is = subst (λ (z : Lists). Is L.the-row z (v ∷ [])) (e ∙ read-next ys (u .i)) is }) (add-one-dec n (u .i) in-list))))))))
         (λ over. jumps ! $ exec ! C Λ En pieces.t-4 (atRet En Post) $
-          assigns ! (of-opd ! (load ! (from ! (stop !)) (look ! 16 refl))) (from ! (stop !)) (init ! 20 refl (typed (acc (u .i)) (u .v) (u .is))) $
-          returns ! (look ! 20 refl) $ forget ! 6 refl $ forget ! 8 refl $ forget ! 14 refl $ forget ! 16 refl $ forget ! 18 refl $ forget ! 20 refl $
-          move ! (20 ∷ 21 ∷ []) $ free1 ! $ move ! (18 ∷ 19 ∷ []) $ free1 ! $ move ! (16 ∷ 17 ∷ []) $ free1 ! $ move ! (14 ∷ 15 ∷ []) $ free1 ! $ move ! (12 ∷ 13 ∷ []) $ free1 ! $
-          move ! (10 ∷ 11 ∷ []) $ free1 ! $ move ! (8 ∷ 9 ∷ []) $ free1 ! $ move ! (6 ∷ 7 ∷ []) $ free1 ! $ move ! (4 ∷ 5 ∷ []) $ free1 ! $ move ! (2 ∷ 3 ∷ []) $ free1 ! $ free0 ! $
-          move ! (1 ∷ 0 ∷ []) $ by ! (exits (acc (u .i)) (u .v) (ap acc (le-antisymm (u .le) (nltb→le (u .i) n over))) (u .is)))
+        assigns ! (of-opd ! (load ! (from ! (stop !)) (look ! 16 refl))) (from ! (stop !)) (init ! 20 refl (typed (acc (u .i)) (u .v) (u .is))) $
+        returns ! (look ! 20 refl) $ forget ! 6 refl $ forget ! 8 refl $ forget ! 14 refl $ forget ! 16 refl $
+        forget ! 18 refl $ forget ! 20 refl $
+        move ! (20 ∷ 21 ∷ []) $ free1 ! $ move ! (18 ∷ 19 ∷ []) $ free1 ! $ move ! (16 ∷ 17 ∷ []) $ free1 ! $
+        move ! (14 ∷ 15 ∷ []) $ free1 ! $ move ! (12 ∷ 13 ∷ []) $ free1 ! $
+        move ! (10 ∷ 11 ∷ []) $ free1 ! $ move ! (8 ∷ 9 ∷ []) $ free1 ! $ move ! (6 ∷ 7 ∷ []) $ free1 ! $
+        move ! (4 ∷ 5 ∷ []) $ free1 ! $ move ! (2 ∷ 3 ∷ []) $ free1 ! $ free0 ! $
+        move ! (1 ∷ 0 ∷ []) $
+        by ! (exits (acc (u .i)) (u .v) (ap acc (le-antisymm (u .le) (nltb→le (u .i) n over))) (u .is)))
 
   walk : (𝓣 : Tables 𝓤 H) → Triple 𝓤 (𝓣 .C #channels·list·none) (Nil 𝓤 H A at-mem run) → Triple 𝓤 (𝓣 .C #channels·list·put) (Put 𝓤 H A at-mem run) → Room T.the-row n → n ≤ 16
       → ent 𝓤 (onEntry 𝓤 H A f.signature (κ, tt) (q, tt) x at) (WpFn 𝓤 H (𝓣 .C) (𝓣 .Λ) code.function (sliceVal (b, o) n ∷ []) Post)
   walk 𝓣 known-nil known gn few =
       qed W ((‵ (flft κ q) ⊛ ‵ ftrue) ∷ ‵ (owns (ShrSlice (named 0) κ T.the-row ∷ []) x at) ∷ []) ∵ enter ! (𝓣 .C) (𝓣 .Λ) code.function (sliceVal (b, o) n ∷ []) _ $
-      alloc1 ! (λ l₀. alloc1 ! (λ l₁. alloc1 ! (λ l₂. alloc1 ! (λ l₃. alloc1 ! (λ l₄. alloc1 ! (λ l₅. alloc1 ! (λ l₆. alloc1 ! (λ l₇. alloc1 ! (λ l₈. alloc1 ! (λ l₉. alloc0 ! $ params1 ! $
+      alloc1 ! (λ l₀. alloc1 ! (λ l₁. alloc1 ! (λ l₂. alloc1 ! (λ l₃. alloc1 ! (λ l₄. alloc1 ! (λ l₅. alloc1 ! (λ l₆. alloc1 ! (λ l₇. alloc1 ! (λ l₈. alloc1 ! (λ l₉. alloc0 ! $
+      params1 ! $
       pass1 ! (init ! 16 refl (tt, (tt, (record { fits = gn .0 }, tt)))) $ pass0 ! $
       nothing ! $ use1 W (raw (Nil 𝓤 H A at-mem run .pre to-nil)) goes-nil $
       calls-at ! (fmOf 𝓤 H (W .laws) 𝓣) (Nil 𝓤 H A at-mem run) known-nil to-nil (no-more !) (λ v.
-      use1 W (later (some (λ (r : Lists). (‵ ftrue ⊛ ‵ (L.the-row .own r (v ∷ []))) ⊛ raw (ensured 𝓤 H A nil.ended (nil.clauses 𝓤 H A at-mem run) tt tt tt r)))) (id⊢ 𝓤 _) $ await ! tt $ pick ! (λ r.
-      split ! $ move ! (1 ∷ []) $ use1 W (raw (fact 𝓤 (r ≡ zeros))) (said-nil r) $ heard ! (r ≡ zeros) (λ e. split ! $ drop ! $
+      use1 W (later (some (λ (r : Lists). (‵ ftrue ⊛ ‵ (L.the-row .own r (v ∷ []))) ⊛ raw (ensured 𝓤 H A nil.ended (nil.clauses 𝓤 H A at-mem run) tt tt tt r)))) (id⊢ 𝓤 _) $
+      await ! tt $ pick ! (λ r.
+      split ! $ move ! (1 ∷ []) $ use1 W (raw (fact 𝓤 (r ≡ zeros))) (said-nil r) $ heard ! (r ≡ zeros) (λ e. split ! $
+      drop ! $
       peeks ! L.the-row (Is L.the-row) (shows 𝓤 H A L.the-row) r (v ∷ []) (λ is. drop ! $
       land ! (from ! (stop !)) (init ! 14 refl (typed r v is)) $
       assigns ! (of-opd ! (lit ! tt)) (from ! (stop !)) (init ! 12 refl (tt, record { fits = lit< tt })) $
       move ! (21 ∷ []) $ fsplit ! $ move ! (22 ∷ []) $ split ! $
       -- [the token; true; what cs owns; true; _9; …]
       keep ! (2 ∷ 0 ∷ 4 ∷ 5 ∷ 6 ∷ 7 ∷ 8 ∷ 9 ∷ 10 ∷ 11 ∷ 12 ∷ 13 ∷ 14 ∷ 15 ∷ 16 ∷ 17 ∷ 18 ∷ 19 ∷ 20 ∷ 21 ∷ 22 ∷ 23 ∷ []) $
-      first ! $ blocks ! $ loops ! 𝓣 Nearer Nearer-wf (At 𝓣 known gn few l₀ l₁ l₂ l₃ l₄ l₅ l₆ l₇ l₈ l₉) (turns 𝓣 known gn few l₀ l₁ l₂ l₃ l₄ l₅ l₆ l₇ l₈ l₉) (record { i = 0; le = zero-le; v = v; is = subst (λ (z : Lists). Is L.the-row z (v ∷ [])) (e ∙ read-none ys) is })))))))))))))))
+      first ! $ blocks ! $
+      loops ! 𝓣 Nearer Nearer-wf (At 𝓣 known gn few l₀ l₁ l₂ l₃ l₄ l₅ l₆ l₇ l₈ l₉) (turns 𝓣 known gn few l₀ l₁ l₂ l₃ l₄ l₅ l₆ l₇ l₈ l₉) (record { i = 0; le = zero-le; v = v; is = subst (λ (z : Lists). Is L.the-row z (v ∷ [])) (e ∙ read-none ys) is })))))))))))))))
 
 module _ {M : Type 1} (𝓤 : URA M) (H : Heap 𝓤) (A : Atoms 𝓤) (W : Given 𝓤 H A) (at-mem : Memory → SProp 𝓤) (run : Routine → Fun 𝓤) where
   f-walks : (𝓣 : Tables 𝓤 H) → Triple 𝓤 (𝓣 .C #channels·list·none) (Nil 𝓤 H A at-mem run) → Triple 𝓤 (𝓣 .C #channels·list·put) (Put 𝓤 H A at-mem run) → Walks 𝓤 H A f.ended stayed (WpFn 𝓤 H (𝓣 .C) (𝓣 .Λ) code.function) (f.clauses 𝓤 H A at-mem run)
