@@ -20,27 +20,38 @@
 extern "C" {
 #endif
 
-/* The best set of up to 16 optional channels: it fits the bus time that is left of 6,000 byte-times, and its maxima total the most.
+/* The best set of up to 16 optional channels: it fits the bus time that is left of 6,000 byte-times, and its maxima total the most. Above 6,000 in
+ * use none is left: then only channels of charge 0 fit.
  *
- * A channel is USBHS_CHANNEL_LEN bytes of the list, numbers lowest byte first: 0-1 its maximum, 2-3 its charge in byte-times, 4 its flag, which
- * becomes 1 if the channel is chosen and 0 if not. time: the record of bus time that the drivers share. budget: how many sets may be looked at; 65,536 are always all.
+ * time: the record of bus time that the drivers share. budget: how many sets may be looked at; 65,536 are always all.
  *
  * Ends with the set: bit i says whether channel i is in. *total: of its maxima. *figure: no fitting set has a greater total; if all sets were
  * looked at it is *total, else the total of all maxima. *looked: how many sets were looked at. Of equal sets the one with the smaller number.
  *
- * Row 20: more than 16 channels, a list that is not whole channels, or a budget of 0. */
-#define USBHS_CHANNEL_LEN 5
-uint64_t usbhs_best_set(uint8_t *list, size_t list_length, const uint16_t time[USBHS_TIME_LEN], uint32_t budget, uint32_t *total, uint32_t *figure, uint32_t *looked);
+ * Row 20, before any look: more than 16 channels, or a budget of 0. */
+struct usbhs_channel {
+    uint16_t maximum;
+    uint16_t charge; /* in byte-times of a microframe */
+    uint8_t chosen;  /* becomes 1 if the channel is chosen, 0 if not; any byte before */
+};
+uint64_t usbhs_best_set(struct usbhs_channel *list, size_t channels, const uint16_t time[USBHS_TIME_LEN], uint32_t budget,
+                        uint32_t *total, uint32_t *figure, uint32_t *looked);
 
 /* How many packets may arrive between two visits of a reader. In microframes: from a visit to the next it is at least a and at most b, from an
  * arrival to the next at least c and at most d. The arrival on the second visit's microframe counts, the one on the first's does not.
  *
- * Ends with 0. *least: reached in a span of a by a first arrival d after the visit, then one every d. *greatest: reached in a span of b by a first
- * arrival 1 after the visit, then one every c. A ring of 16 slots, which holds 15 packets, has no overrun after the first visit, however the times
- * fall, exactly if *greatest is at most 15 and each visit empties it.
+ * Ends with 0. least and greatest have three numbers each: how many arrive, and times that reach it, the first arrival after the visit and the
+ * distance from each to the next: d and d in a span of a for the least, 1 and c in a span of b for the greatest. A ring of 16 slots, which holds
+ * 15 packets, has no overrun after the first visit, however the times fall, exactly if greatest[USBHS_ARRIVALS] is at most 15 and each visit
+ * empties it.
  *
- * Row 23: a distance of 0 or above 16,383, or a least above its greatest. */
-uint64_t usbhs_between_visits(uint32_t a, uint32_t b, uint32_t c, uint32_t d, uint32_t *least, uint32_t *greatest);
+ * Row 23: one of the four is 0 or above 16,383, a is above b, or c is above d. */
+#define USBHS_REACHED_LEN 3
+#define USBHS_ARRIVALS 0
+#define USBHS_FIRST 1
+#define USBHS_DISTANCE 2
+uint64_t usbhs_between_visits(uint32_t a, uint32_t b, uint32_t c, uint32_t d,
+                              uint32_t least[USBHS_REACHED_LEN], uint32_t greatest[USBHS_REACHED_LEN]);
 
 /* The data CRC of USB 2.0, 8.3.5, over these bytes, 16 bits, the first bit sent being bit 0: 0xB4C8 for "123456789". */
 uint32_t usbhs_data_crc(const uint8_t *bytes, size_t length);
@@ -93,7 +104,8 @@ uint64_t usbhs_card_next(const uint8_t *stream, size_t stream_length, size_t *pl
 
 /* The endpoints of a configuration descriptor written into the room as one interface, alternate setting 0: done with 18 bytes and 7 for each, of which
  * there are at most 32. Read again they are the same endpoints.
- * Row 17: no configuration descriptor, one of more than 4,096 bytes, or a room too short; row 18: one address has two transfer types. */
+ * Row 17, first: the bytes are no configuration descriptor (USBHS_ROW 17 of usbhs_allocate_all has the conditions in full), or the room is too short
+ * for the list, also where row 18 would be answered else. Row 18: one address has two transfer types. */
 uint64_t usbhs_write_descriptor(const uint8_t *bytes, size_t length, uint8_t *room, size_t room_length);
 
 #ifdef __cplusplus

@@ -27,13 +27,18 @@ static void ended(const char *what, uint64_t word, unsigned result)
 
 /* ---- channels: maxima 100, 100, 150, charges 3,000, 3,000, 5,000 */
 
-static const uint8_t three[3 * USBHS_CHANNEL_LEN] = {100, 0, 0xB8, 0x0B, 7, 100, 0, 0xB8, 0x0B, 8, 150, 0, 0x88, 0x13, 9};
+static const struct usbhs_channel three[3] = {{100, 3000, 7}, {100, 3000, 8}, {150, 5000, 9}};
 
-static void flags(const char *what, const uint8_t *list, unsigned a, unsigned b, unsigned c)
+/* each channel as it was but for its flag */
+static void marked(const char *what, const struct usbhs_channel *list, unsigned set)
 {
-    expect(what, list[4], a);
-    expect(what, list[9], b);
-    expect(what, list[14], c);
+    unsigned i;
+
+    for (i = 0; i < 3; i++) {
+        expect(what, list[i].maximum, three[i].maximum);
+        expect(what, list[i].charge, three[i].charge);
+        expect(what, list[i].chosen, set >> i & 1);
+    }
 }
 
 /* The record of bus time with so much in use. */
@@ -48,20 +53,20 @@ static const uint16_t *charged(uint32_t in_use)
 
 static void chosen(const char *what, uint32_t in_use, uint32_t budget, unsigned set, unsigned total, unsigned figure, unsigned looked)
 {
-    uint8_t list[sizeof three];
+    struct usbhs_channel list[3];
     uint32_t t = 7, f = 8, l = 9;
 
     memcpy(list, three, sizeof three);
-    ended(what, usbhs_best_set(list, sizeof list, charged(in_use), budget, &t, &f, &l), set);
+    ended(what, usbhs_best_set(list, 3, charged(in_use), budget, &t, &f, &l), set);
     expect(what, t, total);
     expect(what, f, figure);
     expect(what, l, looked);
-    flags(what, list, set & 1, set >> 1 & 1, set >> 2 & 1);
+    marked(what, list, set);
 }
 
 static void channels(void)
 {
-    uint8_t list[17 * USBHS_CHANNEL_LEN];
+    struct usbhs_channel list[17];
     uint32_t t = 7, f = 8, l = 9;
     int i;
 
@@ -71,8 +76,7 @@ static void channels(void)
     chosen("no time left", 7000, 9, 0, 0, 0, 8);
 
     memcpy(list, three, sizeof three);
-    refused("budget 0", usbhs_best_set(list, sizeof three, charged(0), 0, &t, &f, &l), 20);
-    refused("a part of a channel", usbhs_best_set(list, sizeof three - 1, charged(0), 8, &t, &f, &l), 20);
+    refused("budget 0", usbhs_best_set(list, 3, charged(0), 0, &t, &f, &l), 20);
     expect("refused: list", memcmp(list, three, sizeof three) != 0, 0);
     expect("refused: total", t, 7);
     expect("refused: figure", f, 8);
@@ -83,11 +87,14 @@ static void channels(void)
     /* sixteen channels of charge 0, which fit where no time is left; seventeen are refused */
     memset(list, 0, sizeof list);
     for (i = 0; i < 17; i++)
-        list[i * USBHS_CHANNEL_LEN] = 255;
-    refused("seventeen channels", usbhs_best_set(list, sizeof list, charged(0), 1, &t, &f, &l), 20);
-    ended("sixteen channels", usbhs_best_set(list, 16 * USBHS_CHANNEL_LEN, charged(6000), 0xFFFFFFFFu, &t, &f, &l), 0xFFFF);
-    expect("sixteen channels: total", t, 16 * 255);
+        list[i].maximum = 65535;
+    refused("seventeen channels", usbhs_best_set(list, 17, charged(0), 1, &t, &f, &l), 20);
+    expect("seventeen channels: flag", list[0].chosen, 0);
+    ended("sixteen channels", usbhs_best_set(list, 16, charged(6000), 0xFFFFFFFFu, &t, &f, &l), 0xFFFF);
+    expect("sixteen channels: total", t, 16 * 65535);
     expect("sixteen channels: looked", l, 65536);
+    expect("sixteen channels: flag", list[15].chosen, 1);
+    expect("sixteen channels: behind", list[16].chosen, 0);
 }
 
 /* ---- a descriptor: IN 1 isochronous and OUT 2 bulk in setting 0; IN 1 again, smaller and more often, and OUT 3 interrupt in setting 1 */
@@ -119,6 +126,8 @@ static void descriptors(void)
     memcpy(clash, board, sizeof board);
     clash[44] = 2;
     refused("two types", usbhs_write_descriptor(clash, sizeof clash, room, sizeof room), 18);
+    refused("two types in a room of 38", usbhs_write_descriptor(clash, sizeof clash, room, 38), 17);
+    refused("two types in a room of 39", usbhs_write_descriptor(clash, sizeof clash, room, 39), 18);
     expect("refused: room", room[0], 0xEE);
     word = usbhs_write_descriptor(board, sizeof board, room, sizeof room);
     expect("written", USBHS_KIND(word), USBHS_DONE);
@@ -133,26 +142,37 @@ static void descriptors(void)
 
 static void between(const char *what, uint32_t a, uint32_t b, uint32_t c, uint32_t d, unsigned least, unsigned greatest)
 {
-    uint32_t l = 7, g = 8;
+    uint32_t l[USBHS_REACHED_LEN], g[USBHS_REACHED_LEN], at, count;
 
-    ended(what, usbhs_between_visits(a, b, c, d, &l, &g), 0);
-    expect(what, l, least);
-    expect(what, g, greatest);
+    ended(what, usbhs_between_visits(a, b, c, d, l, g), 0);
+    expect(what, l[USBHS_ARRIVALS], least);
+    expect(what, l[USBHS_FIRST], d);
+    expect(what, l[USBHS_DISTANCE], d);
+    expect(what, g[USBHS_ARRIVALS], greatest);
+    expect(what, g[USBHS_FIRST], 1);
+    expect(what, g[USBHS_DISTANCE], c);
+    /* the times that come with it reach it */
+    for (count = 0, at = l[USBHS_FIRST]; at <= a; at += l[USBHS_DISTANCE])
+        count++;
+    expect(what, count, least);
+    for (count = 0, at = g[USBHS_FIRST]; at <= b; at += g[USBHS_DISTANCE])
+        count++;
+    expect(what, count, greatest);
 }
 
 static void visits(void)
 {
-    uint32_t l = 7, g = 8;
+    uint32_t l[USBHS_REACHED_LEN] = {7, 7, 7}, g[USBHS_REACHED_LEN] = {8, 8, 8};
 
     between("8 to 120, 8 to 9", 8, 120, 8, 9, 0, 15);
     between("9 to 121, 8 to 9", 9, 121, 8, 9, 1, 16);
     between("the widest", 1, 16383, 1, 16383, 0, 16383);
-    refused("a distance of 0", usbhs_between_visits(0, 8, 8, 8, &l, &g), 23);
-    refused("a distance of 16,384", usbhs_between_visits(8, 16384, 8, 8, &l, &g), 23);
-    refused("visits: a least above", usbhs_between_visits(9, 8, 8, 8, &l, &g), 23);
-    refused("arrivals: a least above", usbhs_between_visits(8, 8, 9, 8, &l, &g), 23);
-    expect("refused: least", l, 7);
-    expect("refused: greatest", g, 8);
+    refused("a distance of 0", usbhs_between_visits(0, 8, 8, 8, l, g), 23);
+    refused("a distance of 16,384", usbhs_between_visits(8, 16384, 8, 8, l, g), 23);
+    refused("visits: a least above", usbhs_between_visits(9, 8, 8, 8, l, g), 23);
+    refused("arrivals: a least above", usbhs_between_visits(8, 8, 9, 8, l, g), 23);
+    expect("refused: least", l[USBHS_ARRIVALS] + l[USBHS_FIRST] + l[USBHS_DISTANCE], 21);
+    expect("refused: greatest", g[USBHS_ARRIVALS] + g[USBHS_FIRST] + g[USBHS_DISTANCE], 24);
 }
 
 /* ---- the card: three packets, of 600, 0 and 1,024 bytes, in four blocks */

@@ -1,7 +1,7 @@
-pub mod Records
+pub mod Channels
 pub mod Sets
 pub mod Answers
-pub mod RecordsLaws
+pub mod ChannelsLaws
 pub mod SetsLaws
 pub mod BestLaws
 pub mod Promises

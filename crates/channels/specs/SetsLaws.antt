@@ -6,14 +6,13 @@ use native.Mathlib.Nat.{zero-div}
 use native.Mathlib.Numerals.{add-one}
 use native.Mathlib.Omega.{arith}
 use Rattle.bits.specs.Bit.{isSet, one-set, bit-not}
-use Rattle.channels.specs.Records.{part}
-use Rattle.channels.specs.Sets.{total, sum}
+use Rattle.channels.specs.Sets.{partOf, total, sum}
 
 pub total-none : (f : ℕ → ℕ) (w : ℕ) → total f w 0 ≡ 0
 unfolding total
 total-none f w = refl
 
-pub total-more : (f : ℕ → ℕ) (w i : ℕ) → total f w (i + 1) ≡ total f w i + part f w i
+pub total-more : (f : ℕ → ℕ) (w i : ℕ) → total f w (i + 1) ≡ total f w i + partOf (f i) w i
 unfolding total
 total-more f w i = rw add-one
 
@@ -29,7 +28,7 @@ total-all f (suc i) h = rw (all-in i (omega arith), total-all f i (omega arith))
 
 -- ---- bounds
 
-part-most : (f : ℕ → ℕ) (w i : ℕ) → part f w i ≤ f i
+part-most : (f : ℕ → ℕ) (w i : ℕ) → partOf (f i) w i ≤ f i
 part-most f w i = go (isSet w i)
   where
     go : (t : Bool) → cond t (f i) 0 ≤ f i

@@ -1,19 +1,26 @@
 // Request Ten: the set of optional channels that fits the bus time left and whose maxima total the most.
 ghost use mathlib.Core.Path.{_≡_};
-ghost use Prim.Native.Nat.{_*_, _^_, _≤_, min};
+ghost use Prim.Native.Nat.{_≤_};
 ghost use lib.ListN.{length};
-ghost use Rattle.channels.specs.Sets.{room, figure, choiceOf};
-ghost use Rattle.channels.specs.Answers.{answerOf, recordsAfter};
+ghost use Rattle.channels.specs.Sets.{choiceOf};
+ghost use Rattle.channels.specs.Channels.{listed};
+ghost use Rattle.channels.specs.declared.Answer.the-variants.{Best};
+ghost use Rattle.channels.specs.Answers.{isRefused, refusal, setIn, answerOf, listAfter};
 
-mod records; // records.rt: the lent list of records
+mod list; // list.rt: the lent list of channels, read and marked
 mod sets; // sets.rt: totals, and the best set among the first so many
 
-// The byte-times of a microframe that periodic transfers may use (USB 2.0, chapter 5).
-const PERIODIC: u32 = 6000;
-
-const RECORD_LEN: usize = 5;
+use list::Lists;
 
 const MOST_CHANNELS: usize = 16;
+
+// A channel: its maximum and its charge in byte-times; its flag, which says whether it was chosen: 1 or 0.
+#[repr(C)]
+pub struct Channel {
+    pub maximum: u16,
+    pub charge: u16,
+    pub chosen: u8,
+}
 
 // The chosen set as a count, whose bit i says whether channel i is in; the total of its maxima; a figure that no fitting set exceeds; how many
 // sets were looked at.
@@ -29,77 +36,49 @@ pub enum Answer {
     Best(Choice),
 }
 
-// What is left of the bus time.
-fn room(in_use: u32) -> u32
-    ensures { λ r. ⌜ r ≡ room in_use ⌝ }
-{
-    if in_use < PERIODIC {
-        PERIODIC - in_use
-    } else {
-        0
-    }
-}
-
-// How many sets n channels have.
-fn all_sets(n: usize) -> u32
-    requires { ⌜ n ≤ 16 ⌝ }
-    ensures { λ r. ⌜ r ≡ 2 ^ n ⌝ }
-{
-    1 << n
-}
-
-fn lesser(a: u32, b: u32) -> u32
-    ensures { λ r. ⌜ r ≡ min a b ⌝ }
-{
-    if a < b { a } else { b }
-}
-
-// The best total if all sets were looked at, else the total of all maxima.
-fn figure(list: &[u8], n: usize, budget: u32, best: u32) -> u32
-    requires { ⌜ n ≤ 16 ⌝ }
-    requires { ⌜ n * 5 ≤ length (now list) ⌝ }
-    ensures { λ r. ⌜ r ≡ figure (now (list .entry)) n budget best ⌝ }
-{
-    if all_sets(n) <= budget {
-        best
-    } else {
-        sets::all_maxima(list, n)
-    }
-}
-
-fn choose(list: &[u8], n: usize, in_use: u32, budget: u32) -> Choice
-    requires { ⌜ n ≤ 16 ⌝ }
-    requires { ⌜ n * 5 ≤ length (now list) ⌝ }
-    ensures { λ r. ⌜ r ≡ choiceOf (now (list .entry)) n in_use budget ⌝ }
-{
-    let looked = lesser(budget, all_sets(n));
-    let best = sets::best(list, n, room(in_use), looked);
-    Choice {
-        set: best.set,
-        total: best.total,
-        figure: figure(list, n, budget, best.total),
-        looked,
-    }
-}
-
-// Chooses among the channels of the lent list, five bytes each: its maximum and its charge in byte-times, lowest byte first, and its flag, which
-// becomes 1 if the channel is in the chosen set and 0 if not. 20, and the list as it was: more than 16 channels, a list that is not whole records, or a
-// budget of 0 sets.
-pub fn best_set(list: &mut [u8], in_use: u32, budget: u32) -> Answer
-    ensures { λ r. ⌜ r ≡ answerOf (now (list .entry)) in_use budget ⌝ }
-    ensures { λ _. ⌜ now (list .exit) ≡ recordsAfter (now (list .entry)) in_use budget ⌝ }
+// Row 20: a budget of 0, or more than 16 channels.
+fn is_refused(n: usize, budget: u32) -> bool
+    ensures { λ r. ⌜ r ≡ isRefused n budget ⌝ }
 {
     if budget == 0 {
-        return Answer::Refused(20);
+        return true;
     }
-    let n = list.len() / RECORD_LEN;
-    if list.len() % RECORD_LEN != 0 {
-        return Answer::Refused(20);
+    MOST_CHANNELS < n
+}
+
+fn refusal() -> Answer
+    ensures { λ r. ⌜ r ≡ refusal ⌝ }
+{
+    Answer::Refused(20)
+}
+
+fn best(lists: Lists, n: usize, in_use: u32, budget: u32) -> Answer
+    requires { ⌜ n ≤ 16 ⌝ }
+    ensures { λ r. ⌜ r ≡ Best (choiceOf (listed (lists .maxima)) (listed (lists .charges)) n in_use budget) ⌝ }
+{
+    Answer::Best(sets::choose(lists, n, in_use, budget))
+}
+
+// The set that is to be marked.
+fn set_in(answer: Answer) -> u32
+    ensures { λ r. ⌜ r ≡ setIn answer ⌝ }
+{
+    match answer {
+        Answer::Refused(_) => 0,
+        Answer::Best(choice) => choice.set,
     }
-    if MOST_CHANNELS < n {
-        return Answer::Refused(20);
+}
+
+// Chooses among the channels of the lent list, and marks it: a channel's flag becomes 1 if it is in the chosen set, and 0 if not. 20, and the list
+// as it was: more than 16 channels, or a budget of 0 sets.
+pub fn best_set(list: &mut [Channel], in_use: u32, budget: u32) -> Answer
+    ensures { λ r. ⌜ (r ≡ answerOf (now (list .entry)) in_use budget) × (now (list .exit) ≡ listAfter (now (list .entry)) in_use budget) ⌝ }
+{
+    if is_refused(list.len(), budget) {
+        return refusal();
     }
-    let choice = choose(list, n, in_use, budget);
-    records::set_flags(list, n, choice.set);
-    Answer::Best(choice)
+    let lists = list::read(list);
+    let answer = best(lists, list.len(), in_use, budget);
+    list::mark(list, set_in(answer));
+    answer
 }

@@ -2,11 +2,13 @@ pub mod Row
 pub mod Endpoints
 pub mod Reading
 pub mod Writing
+pub mod Rewriting
 pub mod Lists
 pub mod RowLaws
 pub mod Walk
 pub mod Types
 pub mod WritingLaws
+pub mod RewritingLaws
 pub mod ReadBack
 pub mod Table
 pub mod Merging

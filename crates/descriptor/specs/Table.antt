@@ -6,7 +6,10 @@ use Rattle.descriptor.specs.declared.Answer.the-variants.{Refused, Liste
 use Rattle.descriptor.specs.Row.{least, whole, isClear, allowed, entered, isRow, totalOf, isConfiguration, endpointOf, settingOf, isMeant, endpointsOf}
 use Rattle.descriptor.specs.Endpoints.{merged, noted, gathered}
 use Rattle.descriptor.specs.Reading.{listOf, clashes, twoTypes, readingOf}
-use Rattle.descriptor.specs.Writing.{endpoints, written}
+use Rattle.descriptor.specs.declared.Written.the-variants as written′
+use Rattle.descriptor.specs.Writing.{endpoints, written, writtenOf, roomAfter}
+use Rattle.descriptor.specs.Rewriting.{rewrittenOf, roomRewritten}
+use lib.ListN.{replicate}
 
 -- a configuration of so many bytes, an interface's alternate setting, an endpoint, a descriptor of a class
 abbrev conf : ℕ → List ℕ
@@ -53,3 +56,14 @@ pub errors :
     × (readingOf (conf 25 ++ face 0 ++ end 0x80 0 64 0 0) .answer ≡ Listed)
 unfolding least whole isClear allowed entered isRow totalOf isConfiguration endpointOf settingOf isMeant endpointsOf merged noted gathered clashes twoTypes readingOf
 errors = (refl, refl, refl, refl, refl, refl, refl, refl, refl, refl, refl)
+
+-- Two types, rewritten: 17 in a room too short for the one address, 18 in one that is long enough. Neither writes.
+abbrev clashing : List ℕ
+clashing = conf 32 ++ face 0 ++ end 0x81 2 64 0 0 ++ end 0x81 3 64 0 0
+
+pub rewritten :
+    (rewrittenOf clashing (replicate 24 7) ≡ written′.Refused 17)
+    × (rewrittenOf clashing (replicate 25 7) ≡ written′.Refused 18)
+    × (roomRewritten clashing (replicate 25 7) ≡ replicate 25 7)
+unfolding least whole isClear allowed entered isRow totalOf isConfiguration endpointOf settingOf isMeant endpointsOf merged noted gathered clashes twoTypes rewrittenOf roomRewritten
+rewritten = (refl, refl, refl)

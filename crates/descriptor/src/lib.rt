@@ -5,7 +5,9 @@ ghost use Rattle.descriptor.specs.Row.{isConfiguration};
 ghost use Rattle.descriptor.specs.Endpoints.{ofList};
 ghost use Rattle.descriptor.specs.Lists.{Tidy};
 ghost use Rattle.descriptor.specs.Reading.{listOf, refusedBy, readingOf};
-ghost use Rattle.descriptor.specs.Writing.{writtenOf, roomAfter};
+ghost use lib.Dec.{ltb};
+ghost use Rattle.descriptor.specs.Writing.{totalFor, countOf, writtenOf, roomAfter};
+ghost use Rattle.descriptor.specs.Rewriting.{rewrittenOf, roomRewritten};
 
 mod row; // row.rt: descriptors one after the other
 pub mod list; // list.rt: a list of endpoints
@@ -94,4 +96,35 @@ pub fn write(list: Endpoints, room: &mut [u8]) -> Written
     put::interface(room, n);
     put::endpoints(room, list, n);
     Written::Bytes(total)
+}
+
+// Is a room of this length too short for the list?
+fn is_short(list: Endpoints, length: usize) -> bool
+    ensures { λ r. ⌜ r ≡ ltb length (totalFor (countOf list)) ⌝ }
+{
+    let n = list::count(list);
+    length < 18 + n * 7
+}
+
+// Reads a configuration descriptor and writes its list as `write` does. 17 first, and the room as it was: the bytes are none, or the room is too
+// short for the list; then 18: one address has two transfer types.
+pub fn rewrite(bytes: &[u8], room: &mut [u8]) -> Written
+    ensures { λ r. ⌜ r ≡ rewrittenOf (now (bytes .entry)) (now (room .entry)) ⌝ }
+    ensures { λ _. ⌜ now (room .exit) ≡ roomRewritten (now (bytes .entry)) (now (room .entry)) ⌝ }
+{
+    if !row::is_configuration(bytes) {
+        return Written::Refused(17);
+    }
+    if is_short(gathered(bytes), room.len()) {
+        return Written::Refused(17);
+    }
+    let reading = read(bytes);
+    let answer = reading.answer;
+    match answer {
+        Answer::Refused(row) => Written::Refused(row),
+        Answer::Listed => {
+            let list = reading.list;
+            write(list, room)
+        }
+    }
 }

@@ -4,3 +4,4 @@ pub mod NumbersLaws
 pub mod Card
 pub mod CardLaws
 pub mod Descriptor
+pub mod DescriptorLaws

@@ -1,5 +1,6 @@
 // The calls that take no driver, for programs in other languages (include/usbhs_survey.h): the best set of channels, the arrivals between visits,
 // packets on the card, a configuration descriptor's endpoints. Any numbers are safe. Each call answers one word; where it is refused, nothing is written.
+mod rooms; // rooms.rt: an answer's numbers in the caller's rooms
 mod words; // words.rt: an answer as one word
 mod writer; // writer.rt: a card's writer as four numbers
 
@@ -9,7 +10,9 @@ use card_reader::Reader;
 use card_reader::Started;
 use card_writer::Finished;
 use card_writer::Wrote;
-use channels::Answer;
+use channels::Channel;
+use rooms::best_into;
+use rooms::reached;
 use visits::Bounds;
 use words::done;
 use words::ended;
@@ -18,57 +21,46 @@ use writer::endpoint_of;
 use writer::numbers_of;
 use writer::result_of;
 use writer::writer_in;
-ghost use Rattle.descriptor.specs.Reading.{readingOf};
-ghost use Rattle.survey_c.specs.Descriptor.{rewrittenWord, rewrittenRoom};
+ghost use Rattle.descriptor.specs.Rewriting.{rewrittenOf, roomRewritten};
+ghost use Rattle.survey_c.specs.Descriptor.{writtenWord};
 ghost use mathlib.Core.Path.{_≡_};
 ghost use lib.ListN.{length};
 ghost use Rattle.bus_time.specs.Time.{inUse};
-ghost use Rattle.channels.specs.Answers.{answerOf, recordsAfter};
 ghost use Rattle.visits.specs.Bounds.{boundsOf};
 ghost use Rattle.crc.specs.Crc.{dataCrc};
 ghost use Rattle.card.specs.Packet.{packetOf};
 ghost use Rattle.card_writer.specs.Writing.{newWriter, writeOf, writtenOf, finishOf, lastOf};
 ghost use Rattle.card_reader.specs.Calls.{startOf, nextOf, roomOf};
-ghost use Rattle.survey_c.specs.Numbers.{bestWord, totalBy, figureBy, lookedBy, boundsWord, leastBy, greatestBy};
+ghost use Rattle.survey_c.specs.Numbers.{BestSet, boundsWord, leastBy, greatestBy};
 ghost use Rattle.survey_c.specs.Card.{writerIn, numbersOf, wroteWord, writerBy, finishedWord, startedWord, startBy, nextWord, endpointBy, placeBy};
 
 // The best set of the channels in the list, with the bus time that is in use: its count is the end's result; beside it the total of its maxima, a figure that no fitting set exceeds
 // and how many sets were looked at.
 #[no_mangle]
 pub extern "C" fn usbhs_best_set(
-    list: &mut [u8],
+    list: &mut [Channel],
     time: &[u16; TIME_LEN],
     budget: u32,
     total: &mut u32,
     figure: &mut u32,
     looked: &mut u32,
 ) -> u64
-    ensures { λ r. ⌜ r ≡ bestWord (answerOf (now (list .entry)) (inUse (now (time .entry))) budget) ⌝ }
-    ensures { λ _. ⌜ now (list .exit) ≡ recordsAfter (now (list .entry)) (inUse (now (time .entry))) budget ⌝ }
-    ensures { λ _. ⌜ now (total .exit) ≡ totalBy (answerOf (now (list .entry)) (inUse (now (time .entry))) budget) (now (total .entry)) ⌝ }
-    ensures { λ _. ⌜ now (figure .exit) ≡ figureBy (answerOf (now (list .entry)) (inUse (now (time .entry))) budget) (now (figure .entry)) ⌝ }
-    ensures { λ _. ⌜ now (looked .exit) ≡ lookedBy (answerOf (now (list .entry)) (inUse (now (time .entry))) budget) (now (looked .entry)) ⌝ }
+    ensures { λ r. ⌜ BestSet (now (list .entry)) (inUse (now (time .entry))) budget (now (total .entry)) (now (figure .entry)) (now (looked .entry)) r (now (list .exit)) (now (total .exit)) (now (figure .exit)) (now (looked .exit)) ⌝ }
 {
-    match channels::best_set(list, bus_time::in_use(time), budget) {
-        Answer::Refused(row) => refused(row),
-        Answer::Best(choice) => {
-            *total = choice.total;
-            *figure = choice.figure;
-            *looked = choice.looked;
-            ended(choice.set)
-        }
-    }
+    let in_use = bus_time::in_use(time);
+    let answer = channels::best_set(list, in_use, budget);
+    best_into(answer, total, figure, looked)
 }
 
-// The least and the greatest number of arrivals between two visits.
+// The least and the greatest number of arrivals between two visits, each with a first arrival and a distance that reach it.
 #[no_mangle]
 pub extern "C" fn usbhs_between_visits(
     a: u32,
     b: u32,
     c: u32,
     d: u32,
-    least: &mut u32,
-    greatest: &mut u32,
+    least: &mut [u32; 3],
+    greatest: &mut [u32; 3],
 ) -> u64
     ensures { λ r. ⌜ r ≡ boundsWord (boundsOf a b c d) ⌝ }
     ensures { λ _. ⌜ now (least .exit) ≡ leastBy (boundsOf a b c d) (now (least .entry)) ⌝ }
@@ -77,8 +69,10 @@ pub extern "C" fn usbhs_between_visits(
     match visits::between_visits(a, b, c, d) {
         Bounds::Refused(row) => refused(row),
         Bounds::Between(l, g) => {
-            *least = l.arrivals;
-            *greatest = g.arrivals;
+            let few = reached(l);
+            let many = reached(g);
+            *least = few;
+            *greatest = many;
             ended(0)
         }
     }
@@ -184,19 +178,11 @@ pub extern "C" fn usbhs_card_next(
 // The endpoints of a configuration descriptor written out as one interface, alternate setting 0.
 #[no_mangle]
 pub extern "C" fn usbhs_write_descriptor(bytes: &[u8], room: &mut [u8]) -> u64
-    ensures { λ r. ⌜ r ≡ rewrittenWord (readingOf (now (bytes .entry)) .answer) (readingOf (now (bytes .entry)) .list) (now (room .entry)) ⌝ }
-    ensures { λ _. ⌜ now (room .exit) ≡ rewrittenRoom (readingOf (now (bytes .entry)) .answer) (readingOf (now (bytes .entry)) .list) (now (room .entry)) ⌝ }
+    ensures { λ r. ⌜ r ≡ writtenWord (rewrittenOf (now (bytes .entry)) (now (room .entry))) ⌝ }
+    ensures { λ _. ⌜ now (room .exit) ≡ roomRewritten (now (bytes .entry)) (now (room .entry)) ⌝ }
 {
-    let r = descriptor::read(bytes);
-    let answer = r.answer;
-    match answer {
-        descriptor::Answer::Refused(row) => refused(row),
-        descriptor::Answer::Listed => {
-            let list = r.list;
-            match descriptor::write(list, room) {
-                descriptor::Written::Refused(row) => refused(row),
-                descriptor::Written::Bytes(n) => done(n as u16),
-            }
-        }
+    match descriptor::rewrite(bytes, room) {
+        descriptor::Written::Refused(row) => refused(row),
+        descriptor::Written::Bytes(n) => done(n as u16),
     }
 }

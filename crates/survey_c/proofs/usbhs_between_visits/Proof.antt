@@ -15,6 +15,12 @@ refused-requires c κs = search needs
 enum-known-l : tie.Need-enum-known-l
 enum-known-l c = search needs
 
+reached-requires : tie.Need-reached-requires
+reached-requires c κs = search needs
+
+reached-requires-2 : tie.Need-reached-requires-2
+reached-requires-2 c κs = search needs
+
 ended-requires : tie.Need-ended-requires
 ended-requires c κs = search needs
 
@@ -25,8 +31,9 @@ returns c =
 
 returns-2 : tie.Need-returns-2
 returns-2 c =
-    let e = sym (c .before .before .before .before .between-visits .ensures) ∙ c .before .before .l .given .1 in
-    (rw e (c .ended .ensures), (rw e, rw e))
+    let k = c .before .before .before .before in
+    let e = sym (k .before .before .between-visits .ensures) ∙ k .l .given .1 in
+    (rw e (c .ended .ensures), (rw e (c .before .before .reached .ensures), rw e (c .before .reached2 .ensures)))
 
 pub usbhs-between-visits-spec : {M : Type 1} → statement M
 usbhs-between-visits-spec =
@@ -36,6 +43,8 @@ usbhs-between-visits-spec =
     enum-known-row
     refused-requires
     enum-known-l
+    reached-requires
+    reached-requires-2
     ended-requires
     returns
     returns-2)

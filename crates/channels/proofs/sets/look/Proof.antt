@@ -12,11 +12,25 @@ total-requires c κs = search needs
 
 returns : tie.Need-returns
 unfolding look
-returns c = simp (← c .before .before .before .before .fits2 .ensures, c .before .before .before .if1 .taken, ← c .before .before .total .ensures, lt-ltb _ _ (c .if2 .taken))
+returns c =
+    let k = c .before .before .before .before .before in
+    simp (
+      ← k .fits2 .ensures,
+      c .before .before .before .before .if1 .taken,
+      ← c .before .before .total .ensures,
+      lt-ltb _ _ (c .if2 .taken),
+    )
 
 returns-2 : tie.Need-returns-2
 unfolding look
-returns-2 c = simp (← c .before .before .before .before .fits2 .ensures, c .before .before .before .if1 .taken, ← c .before .before .total .ensures, le-ltb _ _ (c .if2 .left))
+returns-2 c =
+    let k = c .before .before .before .before .before in
+    simp (
+      ← k .fits2 .ensures,
+      c .before .before .before .before .if1 .taken,
+      ← c .before .before .total .ensures,
+      le-ltb _ _ (c .if2 .left),
+    )
 
 returns-3 : tie.Need-returns-3
 unfolding look
