@@ -9,7 +9,7 @@ use native.Mathlib.Decide.{ℕ-discrete, decLt}
 use native.Mathlib.Nat.{zero-div, mod-lt, le-trans, add-mul, mul-le-mul-right}
 use lib.Dec.{eqb, leb, ltb}
 use lib.ListN.{length, getD, getD-replicate, length-replicate, List·getD-eq-default}
-use borrow.Author.Tests.{eqb-true, ne-eqb}
+use borrow.Author.Tests.{eqb-false, eqb-true, ne-eqb}
 use Rattle.bits.specs.Bit.{isSet, both}
 use Rattle.regs.specs.declared.Dir.{Dir}
 use Rattle.regs.specs.declared.Dir.the-variants.{Out, In}
@@ -48,6 +48,7 @@ use Rattle.book.specs.Cells.{epOn-by}
 use Rattle.book.specs.Pages.{OutPage, Kept, Pages, withKept, keptAllocator}
 use Rattle.book.specs.Book.{freshPages, globalsBy, enableB, givenB, allocateB, startedB, allocateB0}
 use Rattle.book.specs.Rest.{Rest, Shape, Used, Unused, Held, OutFits, InFits, AtRest, SameKept, endOf, lensOf, slotStamps}
+use Rattle.book.specs.Frame.{none-stands}
 use Rattle.book.specs.Stamps.{none-stamps}
 use Rattle.book.specs.Given.{Further, further, gives, receives, receives-by, zero-addr}
 
@@ -113,6 +114,7 @@ started {b = b} {d = d} {t = t} r maximum z s (gave-ep0 m x small l) =
       apart = q .apart;
       ep0-below = omega (arith, room-up (d .allocator .next) (d .allocator .size));
       ep0-apart = λ dir e. inr (ends-below r dir e);
+      ep0-lies = omega (arith, room-up (d .allocator .next) (d .allocator .size), mul-le-mul-right (d .allocator .size) (s .room), r .long);
       ep0-least = small;
       isos = q .isos;
     }
@@ -174,6 +176,7 @@ configures {b = b} {d = d} {t = t} r dir e on h = record {
   apart = r .apart;
   ep0-below = r .ep0-below;
   ep0-apart = r .ep0-apart;
+  ep0-lies = r .ep0-lies;
   ep0-least = r .ep0-least;
   isos = r .isos;
 }
@@ -206,6 +209,18 @@ size-good size count h = by (goodSize size) refl h
     by : (x : Bool) → goodSize size ≡ x → if x (if (eqb count 0) false (leb (count * size) 65536)) false ≡ true → x ≡ true
     by true p h = refl
     by false p h = absurd (true≢false (sym h))
+
+count-some : (size count : ℕ) → goodBuffer size count ≡ true → 1 ≤ count
+unfolding goodBuffer
+count-some size count h = by (goodSize size) (eqb count 0) refl h
+  where
+    pos : (n : ℕ) → n ≢ 0 → 1 ≤ n
+    pos n h = elim (decLt 0 n) [ yes l ↦ omega arith | no l ↦ absurd (h (omega arith)) ]
+
+    by : (x z : Bool) → eqb count 0 ≡ z → if x (if z false (leb (count * size) 65536)) false ≡ true → 1 ≤ count
+    by true true q h = absurd (true≢false (sym h))
+    by true false q h = pos count (eqb-false count 0 q)
+    by false z q h = absurd (true≢false (sym h))
 
 module _ (c : Config) (b : Buf) (row : startRow c b ≡ 0) where
   abbrev D : Driver
@@ -297,6 +312,8 @@ module _ (c : Config) (b : Buf) (row : startRow c b ≡ 0) where
       slot = refl;
       from = omega arith;
       upto = omega arith;
+      ledger = refl;
+      short = tt;
     });
     ins = λ e. rw (record-new In e) (record {
       held = held-new 1 In e;
@@ -304,11 +321,15 @@ module _ (c : Config) (b : Buf) (row : startRow c b ≡ 0) where
       loaded = refl;
       sends = λ h. absurd (true≢false h);
       turn = refl;
+      ledger = refl;
+      reached = refl;
+      stands = none-stands refl;
     });
     arming = λ e. rw (record-new Out e) (rest-new _ _ refl);
     apart = λ dir dir′ e e′ h. rw (record-new dir e, record-new dir′ e′) (inl (omega arith));
     ep0-below = omega arith;
     ep0-apart = λ dir e. rw (record-new dir e) (inl (omega arith));
+    ep0-lies = omega (arith, rows .0, mul-le-mul-right (c .size) (count-some (c .size) (c .count) (rows .1)));
     ep0-least = omega arith;
     isos = λ e. no-bit (e % 16) ∙ sym (ap (λ (r : EpState). isOn (r .iso)) (record-new Out e) ∙ off);
   }

@@ -1,6 +1,6 @@
 -- A packet that arrives on an OUT endpoint, and its receive address handed out
 use mathlib.Core.Bool.{Bool, true, false, cond, true≢false}
-use mathlib.Core.List.{List, [], _∷_, _++_, map, map-append}
+use mathlib.Core.List.{List, [], _∷_, _++_, map, map-append, append-assoc}
 use mathlib.Core.Path.{_≡_, refl, ap, subst, sym, _∙_}
 use Prim.Native.Nat.{ℕ, _+_, _-_, _*_, _/_, _%_, _^_, _≤_, _<_, min}
 use native.Mathlib.Omega.{arith}
@@ -17,7 +17,7 @@ use Rattle.ring.specs.Fields.{withHead, withOverruns}
 use Rattle.ring.specs.Slot.{slotOf, slotAddr, joinedOf}
 use Rattle.ring.specs.Out.{hasRoomOut, cappedAt, turnedAwayOf, arrivedOf, arrivedLens, armedAt}
 use Rattle.ring.specs.Waiting.{window, waiting, join, Only, SamePlace, Placed}
-use Rattle.ring.specs.Window.{only-wider}
+use Rattle.ring.specs.Window.{only-wider, window-length}
 use Rattle.ring.specs.Slots.{slot-in, slot-from, slot-upto}
 use Rattle.ring.specs.Laws.{place-placed, place-addr, alike-count, alike-waits, alike-out, slot-shows, slot-region}
 use Rattle.ring.specs.OutLaws.{armed-alike, arrived-place, capped-is, turned-counts, waiting-armed, room-out, arrive-waits, arrive-ring, arrive-shows}
@@ -33,12 +33,13 @@ use Rattle.script.specs.Machine.{Buf}
 use Rattle.ops.specs.Records.{plainOf}
 use Rattle.ops.specs.Rings.{writtenOn, recordedOn, admittedOn, arrivedAt, arriveOn, placeOn}
 use Rattle.book.specs.Pages.{Packet, bytesOf, stampsOf, OutPage, Pages, withOut}
-use Rattle.book.specs.Book.{withWaiting, arrived, slotTold, receiving, packetB, feedB}
-use Rattle.book.specs.Rest.{lensOf, slotStamps, OutFits, Armed, Rest}
+use Rattle.book.specs.Book.{joined, turnedAway, arrived, slotTold, receiving, packetB, feedB}
+use Rattle.book.specs.Rest.{Short, lensOf, slotStamps, OutFits, Armed, Rest}
 use Rattle.book.specs.Lens.{lens-set, lens-on, ep-len, stamps-length, stamps-set, stamps-on, stamps-len, ep-stamp, lens-stamp}
 use Rattle.book.specs.Stamps.{stamped, alike-stamps, arrive-stamps}
 use Rattle.book.specs.Frame.{Changed, changed-not, changed-on, changed-len, changed-stamp, changed-trans, kept-same, end-kept, out-changed, out-moved, out-same, out-twice, only-bytes}
 use Rattle.book.specs.Held.{HandAgrees, receives, receives-used, receives-slots, good-words}
+use Rattle.book.specs.Lies.{received-lies}
 use Rattle.book.specs.Outs.{Inner, out-on, out-page}
 
 -- ---- the record
@@ -69,21 +70,39 @@ arrived-inner r = record { place = arrived-place r; plain = arrived-plain r }
 -- ---- the page
 
 module _ (p : OutPage) (q : Packet) where
-  page-keeps : {A : Type 0} (f : OutPage → A) → ((w : List Packet) (n : ℕ) → f (record { waiting = w; opened = p .opened; lost = n; slot = p .slot }) ≡ f p) → f (arrived p q) ≡ f p
+  page-keeps : {A : Type 0} (f : OutPage → A) → ((w a : List Packet) (n : ℕ) → f (record { waiting = w; opened = p .opened; lost = n; slot = p .slot; admitted = a; read = p .read }) ≡ f p) → f (arrived p q) ≡ f p
   page-keeps f h = go (ltb (length (p .waiting)) 15)
     where
-      go : (u : Bool) → f (cond u (withWaiting p (p .waiting ++ (q ∷ [])) (p .opened)) (record { waiting = p .waiting; opened = p .opened; lost = p .lost + 1; slot = p .slot })) ≡ f p
-      go true = h _ _
-      go false = h _ _
+      go : (u : Bool) → f (cond u (joined p q) (turnedAway p)) ≡ f p
+      go true = h _ _ _
+      go false = h _ _ _
 
   -- of each packet its bytes, or its stamp
   page-joined : {A : Type 0} (f : Packet → A) → map f (arrived p q .waiting) ≡ cond (ltb (length (p .waiting)) 15) (map f (p .waiting) ++ (f q ∷ [])) (map f (p .waiting))
   page-joined f = go (ltb (length (p .waiting)) 15)
     where
-      go : (u : Bool) → map f (cond u (withWaiting p (p .waiting ++ (q ∷ [])) (p .opened)) (record { waiting = p .waiting; opened = p .opened; lost = p .lost + 1; slot = p .slot }) .waiting)
+      go : (u : Bool) → map f (cond u (joined p q) (turnedAway p) .waiting)
           ≡ cond u (map f (p .waiting) ++ (f q ∷ [])) (map f (p .waiting))
       go true = map-append f (p .waiting) (q ∷ [])
       go false = refl
+
+  page-ledger : p .read ++ p .waiting ≡ p .admitted → arrived p q .read ++ arrived p q .waiting ≡ arrived p q .admitted
+  page-ledger h = go (ltb (length (p .waiting)) 15)
+    where
+      go : (u : Bool) → let z = cond u (joined p q) (turnedAway p) in z .read ++ z .waiting ≡ z .admitted
+      go true = sym (append-assoc (p .read) (p .waiting) (q ∷ [])) ∙ ap (λ (l : List Packet). l ++ (q ∷ [])) h
+      go false = h
+
+  page-short : (n : ℕ) → Short n (p .waiting) → length (q .bytes) ≤ n → Short n (arrived p q .waiting)
+  page-short n h l = go (ltb (length (p .waiting)) 15)
+    where
+      add : (w : List Packet) → Short n w → Short n (w ++ (q ∷ []))
+      add [] k = (l, tt)
+      add (x ∷ xs) k = (k .0, add xs (k .1))
+
+      go : (u : Bool) → Short n (cond u (joined p q) (turnedAway p) .waiting)
+      go true = add (p .waiting) h
+      go false = h
 
   page-waiting : bytesOf (arrived p q .waiting) ≡ join 15 (bytesOf (p .waiting)) (q .bytes)
   page-waiting = page-joined (λ (z : Packet). z .bytes)
@@ -99,7 +118,7 @@ module _ {b : Buf} {r : EpState} {ls ss : List ℕ} {p : OutPage} (f : OutFits b
 
   lost-by : (q : Packet) (u : Bool)
       → cond u (joinedOf r) (turnedAwayOf r) .overruns
-      ≡ cond u (withWaiting p (p .waiting ++ (q ∷ [])) (p .opened)) (record { waiting = p .waiting; opened = p .opened; lost = p .lost + 1; slot = p .slot }) .lost % 2 ^ 32
+      ≡ cond u (joined p q) (turnedAway p) .lost % 2 ^ 32
   unfolding joinedOf
   lost-by q true = f .lost
   lost-by q false = turned-counts r (p .lost) (f .lost)
@@ -123,10 +142,10 @@ module _ {b : Buf} {r : EpState} {ls ss : List ℕ} {p : OutPage} (f : OutFits b
         ∙ ap (λ (l : List ℕ). cond (ltb (length (p .waiting)) 15) (l ++ (q .stamp ∷ [])) l) (f .stamps)
         ∙ sym (page-joined p q (λ (z : Packet). z .stamp))
 
-    arrived-fits : OutFits b (arrivedOf r) (arrivedLens r ls len) (arrivedLens r ss (q .stamp)) (arrived p q)
-    arrived-fits =
+    arrived-fits : len ≤ r .«max_len» → OutFits b (arrivedOf r) (arrivedLens r ls len) (arrivedLens r ss (q .stamp)) (arrived p q)
+    arrived-fits most =
         let k = arrived-place r in
-        let s : arrived p q .slot ≡ p .slot = page-keeps p q (λ z. z .slot) (λ w n. refl) in
+        let s : arrived p q .slot ≡ p .slot = page-keeps p q (λ z. z .slot) (λ w a n. refl) in
         let m : arrivedOf r .«max_len» ≡ r .«max_len» = ap (λ (q : Plain). q .«max_len») (arrived-plain r) in
         record {
           held = record {
@@ -136,12 +155,14 @@ module _ {b : Buf} {r : EpState} {ls ss : List ℕ} {p : OutPage} (f : OutFits b
             waits = arrived-waits;
           };
           stamps = arrived-stamps;
-          opened = arrived-open r ∙ f .opened ∙ ap (λ u. flag u) (sym (page-keeps p q (λ z. z .opened) (λ w n. refl)));
+          opened = arrived-open r ∙ f .opened ∙ ap (λ u. flag u) (sym (page-keeps p q (λ z. z .opened) (λ w a n. refl)));
           shows = arrive-shows (f .held .placed) (f .held .ring) (f .shows);
           lost = arrived-lost q;
           slot = arrived-slot r ∙ f .slot ∙ sym s;
           from = omega (arith, s, k .base, f .from);
           upto = omega (arith, s, k .stride, end-kept k, f .upto);
+          ledger = page-ledger p q (f .ledger);
+          short = subst (λ (n : ℕ). Short n (arrived p q .waiting)) (sym m) (page-short p q (r .«max_len») (f .short) (omega (arith, most, ap length shown, window-length b (slotAddr r (r .head)) len)));
         }
 
 -- ---- the head's slot armed
@@ -166,6 +187,8 @@ module _ {b b′ : Buf} {r : EpState} {ls ss : List ℕ} {p : OutPage} (f : OutF
         slot = refl;
         from = slot-from (f .held .placed) (r .head);
         upto = slot-upto (f .held .placed) (r .head);
+        ledger = f .ledger;
+        short = f .short;
       }
 
 pub armed-plain : (r : EpState) (x : ℕ) → plainOf (armedAt r x) ≡ plainOf r
@@ -301,7 +324,7 @@ module _ {b : Buf} {d : Driver} {t : Pages} (R : Rest quiet b d t) (e : ℕ) whe
         let i : slotOf (epOn d Out e) (epOn d Out e .head) < 16 = omega (arith, slot-in (f .held .placed) (epOn d Out e .head), sixteen) in
         out-moved (admitted-ep d (R .sized) e len) (admitted-lens d (R .sized) e len i)
         (admitted-stamps d (R .sized) e len i ∙ ap (λ (g : Globals). arrivedLens (epOn d Out e) (slotStamps d e) (g .entered)) (R .same .globals))
-        (arrived-fits f sixteen (stamps-length d e) len capped-small (packetB e n (t, b)) shown)
+        (arrived-fits f sixteen (stamps-length d e) len capped-small (packetB e n (t, b)) shown (omega (arith, capped-is (epOn d Out e) n)))
 
     pub arrived-words : let r = epOn (admits d e n) Out e in
         marks.Only (headAddr r) (headAddr r + r .stride) b (armed b (headAddr r) (r .«max_len»))
@@ -337,7 +360,8 @@ unfolding arriveOn
 hand-arrive e n b d t R =
     let x = cond (receives d e) (arrivedAt e (cappedAt (epOn d Out e) n) (d, b)) (epOn d Out e .«armed_slot», (d, b)) in
     let p = arrived (t .outs e) (packetB e n (t, b)) in
-    (subst (λ v. Rest quiet (x .1 .1) (x .1 .0) (feedB (Receive e (x .0)) (cond v (withOut t e p) t))) (receiving-same R e) (arrive-by R e n (receives d e) refl), tt)
+    let z = subst (λ v. Rest quiet (x .1 .1) (x .1 .0) (feedB (Receive e (x .0)) (cond v (withOut t e p) t))) (receiving-same R e) (arrive-by R e n (receives d e) refl) in
+    (z, received-lies (cond (receiving t e) (withOut t e p) t) e (x .0) z)
 
 -- ---- an endpoint's buffer handed out
 
@@ -359,6 +383,8 @@ placed-fits {b} {r} {ls} {ss} f =
       slot = refl;
       from = omega arith;
       upto = omega (arith, f .from, f .upto);
+      ledger = f .ledger;
+      short = f .short;
     }
 
 module _ {b : Buf} {d : Driver} {t : Pages} (R : Rest quiet b d t) (e : ℕ) where
@@ -373,4 +399,4 @@ module _ {b : Buf} {d : Driver} {t : Pages} (R : Rest quiet b d t) (e : ℕ) whe
 
 pub hand-place-out : (e : ℕ) → HandAgrees (script.place Out e)
 unfolding placeOn
-hand-place-out e b d t R = (place-by R e (receives d e) refl, tt)
+hand-place-out e b d t R = let z = place-by R e (receives d e) refl in (z, received-lies t e _ z)

@@ -52,49 +52,73 @@ abbrev pub firstStamp : List Packet → ℕ
 firstStamp [] = 0
 firstStamp (p ∷ ps) = p .stamp
 
+-- the first, or none
+abbrev pub front : {A : Type 0} → List A → List A
+front [] = []
+front (x ∷ xs) = x ∷ []
+
 -- ---- pages
 
 abbrev pub withWaiting : OutPage → List Packet → Bool → OutPage
-withWaiting p w o = record { waiting = w; opened = o; lost = p .lost; slot = p .slot }
+withWaiting p w o = record { waiting = w; opened = o; lost = p .lost; slot = p .slot; admitted = p .admitted; read = p .read }
+
+abbrev pub withLedger : OutPage → List Packet → List Packet → OutPage
+withLedger p a r = record { waiting = p .waiting; opened = p .opened; lost = p .lost; slot = p .slot; admitted = a; read = r }
+
+-- admitted
+abbrev pub joined : OutPage → Packet → OutPage
+joined p q = withLedger (withWaiting p (p .waiting ++ (q ∷ [])) (p .opened)) (p .admitted ++ (q ∷ [])) (p .read)
+
+-- turned away
+abbrev pub turnedAway : OutPage → OutPage
+turnedAway p = record { waiting = p .waiting; opened = p .opened; lost = p .lost + 1; slot = p .slot; admitted = p .admitted; read = p .read }
 
 -- "it joins those waiting, last, …; with 15 waiting it is turned away and the endpoint's count rises"
 abbrev pub arrived : OutPage → Packet → OutPage
 arrived p q = cond (ltb (length (p .waiting)) 15)
-    (withWaiting p (p .waiting ++ (q ∷ [])) (p .opened))
-    (record { waiting = p .waiting; opened = p .opened; lost = p .lost + 1; slot = p .slot })
+    (joined p q)
+    (turnedAway p)
 
 -- "the first waiting is read"
 abbrev pub readOut : OutPage → OutPage
-readOut p = withWaiting p (tail (p .waiting)) false
+readOut p = withLedger (withWaiting p (tail (p .waiting)) false) (p .admitted) (p .read ++ front (p .waiting))
 
 abbrev pub openOut : OutPage → OutPage
 openOut p = withWaiting p (p .waiting) true
 
 -- "Reset: none wait on that endpoint"
 abbrev pub emptyOut : OutPage → OutPage
-emptyOut p = withWaiting p [] false
+emptyOut p = withLedger (withWaiting p [] false) [] []
 
 -- "the armed slot is that of the endpoint's last receive address"
 abbrev pub slotTold : OutPage → ℕ → OutPage
-slotTold p x = record { waiting = p .waiting; opened = p .opened; lost = p .lost; slot = x }
+slotTold p x = record { waiting = p .waiting; opened = p .opened; lost = p .lost; slot = x; admitted = p .admitted; read = p .read }
 
 abbrev pub emptyIn : InPage
-emptyIn = record { waiting = []; sending = false; load = false; turn = 0 }
+emptyIn = record { waiting = []; sending = false; load = false; turn = 0; queued = []; sent = []; passed = []; source = 0; shown = [] }
 
 -- "Load: what the Rust's tail passes waits no more"
 abbrev pub passedIn : InPage → InPage
-passedIn p = record { waiting = cond (p .sending) (tail (p .waiting)) (p .waiting); sending = false; load = false; turn = p .turn }
+passedIn p = record { waiting = cond (p .sending) (tail (p .waiting)) (p .waiting); sending = false; load = false; turn = p .turn; queued = p .queued; sent = p .sent; passed = p .passed ++ cond (p .sending) (front (p .waiting)) []; source = 0; shown = [] }
 
-abbrev pub loadedIn : InPage → InPage
-loadedIn p = cond (some (p .waiting)) (record { waiting = p .waiting; sending = true; load = true; turn = p .turn }) (record { waiting = p .waiting; sending = p .sending; load = false; turn = p .turn })
+-- the first is being sent: it reaches the chip, unless it was being sent already; b: the lent bytes as they stand then
+abbrev pub sentIn : InPage → Buf → InPage
+sentIn p b = record { waiting = p .waiting; sending = true; load = true; turn = p .turn; queued = p .queued; sent = p .sent ++ cond (p .sending) [] (front (p .waiting)); passed = p .passed; source = p .source; shown = cond (p .sending) (p .shown) b }
+
+-- a load's transmit address is that of the one being sent
+abbrev pub sourceTold : InPage → ℕ → InPage
+sourceTold p x = record { waiting = p .waiting; sending = p .sending; load = p .load; turn = p .turn; queued = p .queued; sent = p .sent; passed = p .passed; source = cond (p .load) x (p .source); shown = p .shown }
 
 -- an address that sends nothing
 abbrev pub placedIn : InPage → InPage
-placedIn p = record { waiting = p .waiting; sending = p .sending; load = false; turn = p .turn }
+placedIn p = record { waiting = p .waiting; sending = p .sending; load = false; turn = p .turn; queued = p .queued; sent = p .sent; passed = p .passed; source = p .source; shown = p .shown }
+
+abbrev pub loadedIn : InPage → Buf → InPage
+loadedIn p b = cond (some (p .waiting)) (sentIn p b) (placedIn p)
 
 -- "Queue: its bytes wait, last"
 abbrev pub queuedIn : InPage → List ℕ → InPage
-queuedIn p bytes = record { waiting = p .waiting ++ (bytes ∷ []); sending = p .sending; load = p .load; turn = (p .turn + 1) % 2 }
+queuedIn p bytes = record { waiting = p .waiting ++ (bytes ∷ []); sending = p .sending; load = p .load; turn = (p .turn + 1) % 2; queued = p .queued ++ (bytes ∷ []); sent = p .sent; passed = p .passed; source = p .source; shown = p .shown }
 
 -- ---- kept values
 
@@ -257,7 +281,7 @@ placeB t In e = withIn t e (placedIn (t .ins e))
 
 abbrev pub handB : Hand → Bk → ℕ × Bk
 handB (arrive e n) s = (0, (arriveB e n s, s .1))
-handB (send e) s = (0, (withIn (s .0) e (loadedIn (s .0 .ins e)), s .1))
+handB (send e) s = (0, (withIn (s .0) e (loadedIn (s .0 .ins e) (s .1)), s .1))
 handB (place d e) s = (0, (placeB (s .0) d e, s .1))
 handB place0 s = (0, s)
 
@@ -315,7 +339,7 @@ freshPages c = record {
     requests = λ d e. noRequest;
     plain = λ d e. plainOf newEp;
   };
-  outs = λ e. record { waiting = []; opened = false; lost = 0; slot = 0 };
+  outs = λ e. record { waiting = []; opened = false; lost = 0; slot = 0; admitted = []; read = [] };
   ins = λ e. emptyIn;
 }
 
@@ -329,7 +353,7 @@ abbrev pub feedB : Access → Pages → Pages
 feedB (Read r e) t = t
 feedB (Write r e v) t = t
 feedB (Receive e x) t = withOut t e (slotTold (t .outs e) x)
-feedB (Transmit e x) t = t
+feedB (Transmit e x) t = withIn t e (sourceTold (t .ins e) x)
 feedB (Ep0Dma x) t = t
 feedB (Wait n) t = t
 feedB Callback t = t

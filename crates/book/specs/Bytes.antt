@@ -27,6 +27,7 @@ use Rattle.book.specs.Pages.{Pages}
 use Rattle.book.specs.Rest.{endOf, Apart, Rest}
 use Rattle.book.specs.Lens.{key-ep}
 use Rattle.book.specs.Frame.{bytes-region, only-bytes}
+use Rattle.book.specs.Lies.{ep0-lies}
 use Rattle.book.specs.Held.{LookAgrees, FetchAgrees, ActAgrees, HandAgrees}
 
 -- a part of a region is apart from what the region is
@@ -88,4 +89,4 @@ pub fetch-received0 : (n : ℕ) → FetchAgrees (script.received0 n)
 fetch-received0 n b d t R = ap (λ (g : Globals). bytesAt b (g .«ep0_buf») n) (R .same .globals)
 
 pub hand-place0 : HandAgrees script.place0
-hand-place0 b d t R = (R, ap (λ (g : Globals). g .«ep0_buf») (R .same .globals))
+hand-place0 b d t R = (R, (ap (λ (g : Globals). g .«ep0_buf») (R .same .globals), ep0-lies R))

@@ -34,7 +34,8 @@ use Rattle.ops.specs.Records.{plainOf, merged, mergedGlobals}
 use Rattle.ops.specs.Conc.{conc}
 use Rattle.book.specs.Pages.{bytesOf, OutPage, InPage, Kept, Pages, at, on, withKept, keptWakes}
 use Rattle.book.specs.Book.{bookOps, feedB, mergedPlain}
-use Rattle.book.specs.Rest.{SameKept, Used, Unused, Shape, Held, OutFits, InFits, AtRest, Arming, Rest, Good, lensOf, slotStamps, endOf}
+use Rattle.book.specs.Rest.{Short, SameKept, Used, Unused, Shape, Held, OutFits, InFits, AtRest, Arming, Rest, Good, lensOf, slotStamps, endOf}
+use Rattle.book.specs.Frame.{alike-tail, stands-moved}
 use Rattle.book.specs.Stamps.{alike-stamps}
 
 -- ---- an endpoint's key decides its record
@@ -133,6 +134,8 @@ module _ {r r′ : EpState} (k : Kin r r′) where
     slot = k .slot ∙ f .slot;
     from = rw (k .alike .place .base) (f .from);
     upto = rw (k .alike .place .base, k .alike .place .slots, k .alike .place .stride) (f .upto);
+    ledger = f .ledger;
+    short = subst (λ (n : ℕ). Short n (p .waiting)) (sym (k .least)) (f .short);
   }
 
   pub kin-in : {b : Buf} {ls : List ℕ} {p : InPage} → InFits b r ls p → InFits b r′ ls p
@@ -142,6 +145,9 @@ module _ {r r′ : EpState} (k : Kin r r′) where
     loaded = k .loaded ∙ f .loaded;
     sends = λ e. rw (alike-count (k .alike)) (f .sends (rw (k .loaded) at e));
     turn = rw (k .alike .head) (f .turn);
+    ledger = f .ledger;
+    reached = f .reached;
+    stands = stands-moved (alike-tail (k .alike)) (k .alike .place .stride) (f .stands);
   }
 
   pub kin-rest : {on : Bool} {p : OutPage} → AtRest on r p → AtRest on r′ p
@@ -186,6 +192,7 @@ module _ {b : Buf} {d d′ : Driver} {t t′ : Pages} (r : Rest quiet b d t) (s 
     apart = λ dir dir′ e e′ h. rw (s .kin dir e .alike .place .base, s .kin dir e .alike .place .slots, s .kin dir e .alike .place .stride, s .kin dir′ e′ .alike .place .base, s .kin dir′ e′ .alike .place .slots, s .kin dir′ e′ .alike .place .stride) (r .apart dir dir′ e e′ h);
     ep0-below = rw (s .ep0-buf, s .stage, s .allocator) (r .ep0-below);
     ep0-apart = λ dir e. rw (s .ep0-buf, s .stage, s .allocator, s .kin dir e .alike .place .base, s .kin dir e .alike .place .slots, s .kin dir e .alike .place .stride) (r .ep0-apart dir e);
+    ep0-lies = rw (s .ep0-buf, s .allocator) (r .ep0-lies);
     ep0-least = rw (s .ep0-max, s .stage, s .allocator) (r .ep0-least);
     isos = λ e. rw (s .isos, s .kin Out e .iso) (r .isos e);
   }

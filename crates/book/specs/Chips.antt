@@ -27,7 +27,7 @@ use Rattle.script.specs.Machine.{Buf}
 use Rattle.book.specs.Pages.{OutPage, Pages}
 use Rattle.book.specs.Rest.{endOf, Used, Shape, Apart, ep0Room, lensOf, Armed, AtRest, InRow, Arming, Rest, Elsewhere, Chip}
 use Rattle.book.specs.Lens.{ep-mod}
-use Rattle.book.specs.Frame.{bytes-changed}
+use Rattle.book.specs.Frame.{TailsStay, bytes-changed}
 
 -- ---- the armed slot is the head's, or none wait
 
@@ -112,7 +112,7 @@ module _ {φ : Phase} {b : Buf} {d : Driver} {t : Pages} (R : Rest φ b d t) whe
 
 -- the chip's stores leave all that holds between calls, in every phase
 pub chip : (b b′ : Buf) (φ : Phase) (d : Driver) (t : Pages) → Rest φ b d t → Chip t b b′ → Rest φ b′ d t
-chip b b′ φ d t R c = bytes-changed R (c .long) kept
+chip b b′ φ d t R c = bytes-changed R (c .long) kept tails
   where
     kept : (dir : Dir) (x : ℕ) → waiting b′ (epOn d dir x) (lensOf d dir x) ≡ waiting b (epOn d dir x) (lensOf d dir x)
     kept Out x = let f = R .outs x .held in waiting-kept (f .placed) (f .ring) b b′ (λ j l k p q. c .others k (out-elsewhere R x j k l p q))
@@ -120,3 +120,6 @@ chip b b′ φ d t R c = bytes-changed R (c .long) kept
         c .others k (in-elsewhere R x k
         (omega (arith, slot-from (f .placed) (after (epOn d In x .tail) j)))
         (omega (arith, slot-upto (f .placed) (after (epOn d In x .tail) j)))))
+
+    tails : TailsStay d b b′
+    tails x w = let f = R .ins x .held in λ k p q. c .others k (in-elsewhere R x k (omega (arith, slot-from (f .placed) (epOn d In x .tail))) (omega (arith, slot-upto (f .placed) (epOn d In x .tail))))

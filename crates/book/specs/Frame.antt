@@ -1,9 +1,10 @@
 -- One endpoint's record, lengths, stamps, page and bytes changed: what holds between calls holds of all others still
-use mathlib.Core.Bool.{Bool, true, false, cond, _&&_}
+use mathlib.Core.Bool.{Bool, true, false, cond, _&&_, true≢false}
 use mathlib.Core.List.{List}
 use mathlib.Core.Logic.{_≢_, _⊎_, inl, inr}
 use mathlib.Core.Path.{_≡_, refl, ap, subst, sym, _∙_}
-use Prim.Native.Nat.{ℕ, zero, suc, _*_, _%_, _≤_}
+use Prim.Native.Nat.{ℕ, zero, suc, _+_, _*_, _%_, _≤_, _<_}
+use native.Mathlib.Omega.{arith}
 use native.Mathlib.Decide.{ℕ-discrete}
 use lib.Dec.{eqb}
 use borrow.Author.Tests.{eqb-true, eqb-false}
@@ -18,20 +19,21 @@ use Rattle.state.specs.Fresh.{clearStamps}
 use Rattle.state.specs.Driver.{Driver, key, lenKey, stampKey, noRequest, epOn, withOn, withLenOn, withStampOn, pacedOn, requestOn}
 use Rattle.state.specs.Laws.{Sized, key-apart, epOn-same, epOn-other}
 use Rattle.alloc.specs.Alloc.{allocatedIn, slotsOf}
-use Rattle.ring.specs.Slot.{countOf}
-use Rattle.ring.specs.Waiting.{waiting, Only, Placed, SamePlace}
-use Rattle.ring.specs.Laws.{waiting-foreign, waiting-none, place-trans}
+use Rattle.ring.specs.Slot.{slotAddr, countOf}
+use Rattle.ring.specs.Slots.{slot-from, slot-upto}
+use Rattle.ring.specs.Waiting.{waiting, Same, Only, Placed, SamePlace, Alike}
+use Rattle.ring.specs.Laws.{waiting-foreign, waiting-none, place-trans, place-addr}
 use Rattle.marks.specs.Only as marks
 use Rattle.script.specs.Cells.{Plain}
 use Rattle.script.specs.Script.{switch, bus-reset}
 use Rattle.script.specs.Alike.{Phase, quiet, mid}
-use Rattle.script.specs.Statics.{isOn, isoOuts}
+use Rattle.script.specs.Statics.{isOn, flag, isoOuts}
 use Rattle.script.specs.Machine.{Buf}
 use Rattle.ops.specs.Records.{plainOf}
 use Rattle.ops.specs.Stamps.{length-filled}
 use Rattle.book.specs.Pages.{OutPage, InPage, Kept, Pages, at, on, withKept, withOut, withIn, keptPlain}
 use Rattle.book.specs.Lens.{key-mod, key-other, ep-mod, lens-mod, key-ep, lens-on, ep-len, lens-set-other, stamps-mod, stamps-on, stamps-len, ep-stamp, lens-stamp, stamps-set-other, ep-clear, lens-clear, stamps-clear-other}
-use Rattle.book.specs.Rest.{SameKept, endOf, Shape, Apart, ep0Room, lensOf, slotStamps, Held, OutFits, InFits, InRow, Arming, Step, Rest}
+use Rattle.book.specs.Rest.{SameKept, endOf, Shape, Apart, ep0Room, lensOf, slotStamps, Held, OutFits, InFits, Stands, InRow, Arming, Step, Rest}
 
 -- ---- one endpoint's record, lengths and stamps changed, its buffers where they were
 
@@ -241,6 +243,25 @@ module _ {dir : Dir} {e : ℕ} {d d′ : Driver} (c : Changed dir e d d′) wher
         (λ n. ap plainOf (c .eps dir′ x n) ∙ s .plain dir′ x);
   }
 
+-- ---- the one being sent
+
+pub alike-tail : {r r′ : EpState} → Alike r r′ → slotAddr r′ (r′ .tail) ≡ slotAddr r (r .tail)
+alike-tail {r} {r′} k = place-addr (k .place) (r′ .tail) ∙ ap (slotAddr r) (k .tail)
+
+pub stands-moved : {b : Buf} {r r′ : EpState} {p : InPage} → slotAddr r′ (r′ .tail) ≡ slotAddr r (r .tail) → r′ .stride ≡ r .stride → Stands b r p → Stands b r′ p
+stands-moved a q s = record { slot = λ h. s .slot h ∙ sym a; bytes = λ h k l u. s .bytes h k l (omega (arith, q)) }
+
+-- where none is being sent
+pub none-stands : {b : Buf} {r : EpState} {p : InPage} → p .sending ≡ false → Stands b r p
+none-stands z = record { slot = λ h. absurd (true≢false (sym h ∙ z)); bytes = λ h. absurd (true≢false (sym h ∙ z)) }
+
+flag-some : (s : Bool) (l : ℕ) → l ≡ flag s → s ≡ true → eqb l 0 ≡ false
+flag-some true l h q = rw h refl
+flag-some false l h q = absurd (true≢false (sym q))
+
+pub sending-count : {b : Buf} {r : EpState} {ls : List ℕ} {p : InPage} → InFits b r ls p → p .sending ≡ true → 0 < countOf r
+sending-count {r = r} {p = p} f s = f .sends (flag-some (p .sending) (r .loaded) (f .loaded) s)
+
 -- ---- the buffer changed, away from those that wait
 
 module _ {b b′ : Buf} {r : EpState} {ls : List ℕ} (long : length b′ ≡ length b) (w : waiting b′ r ls ≡ waiting b r ls) where
@@ -248,10 +269,22 @@ module _ {b b′ : Buf} {r : EpState} {ls : List ℕ} (long : length b′ ≡ le
   held-bytes h = record { placed = subst (λ n. Placed n r) (sym long) (h .placed); ring = h .ring; least = h .least; waits = w ∙ h .waits }
 
   pub out-bytes : {ss : List ℕ} {p : OutPage} → OutFits b r ls ss p → OutFits b′ r ls ss p
-  out-bytes h = record { held = held-bytes (h .held); stamps = h .stamps; opened = h .opened; shows = h .shows; lost = h .lost; slot = h .slot; from = h .from; upto = h .upto }
+  out-bytes h = record { held = held-bytes (h .held); stamps = h .stamps; opened = h .opened; shows = h .shows; lost = h .lost; slot = h .slot; from = h .from; upto = h .upto; ledger = h .ledger; short = h .short }
 
-  pub in-bytes : {p : InPage} → InFits b r ls p → InFits b′ r ls p
-  in-bytes h = record { held = held-bytes (h .held); ringless = h .ringless; loaded = h .loaded; sends = h .sends; turn = h .turn }
+  pub in-bytes : {p : InPage} → (0 < countOf r → Same (slotAddr r (r .tail)) (slotAddr r (r .tail) + r .stride) b b′) → InFits b r ls p → InFits b′ r ls p
+  in-bytes s h = record {
+    held = held-bytes (h .held);
+    ringless = h .ringless;
+    loaded = h .loaded;
+    sends = h .sends;
+    turn = h .turn;
+    ledger = h .ledger;
+    reached = h .reached;
+    stands = record {
+      slot = h .stands .slot;
+      bytes = λ q k l u. s (sending-count h q) k (omega (arith, h .stands .slot q)) (omega (arith, h .stands .slot q)) ∙ h .stands .bytes q k l u;
+    };
+  }
 
 pub out-moved : {b : Buf} {r r′ : EpState} {ls ls′ ss ss′ : List ℕ} {p : OutPage} → r′ ≡ r → ls′ ≡ ls → ss′ ≡ ss → OutFits b r ls ss p → OutFits b r′ ls′ ss′ p
 out-moved {b} {r} {r′} {ls} {ls′} {ss} {ss′} {p} h k l f =
@@ -312,6 +345,7 @@ rebuilt {d = d} {d′ = d′} R k l p =
       apart = λ dir dir′ x y n. apart-kept (k .place dir x .base) (end-kept (k .place dir x)) (k .place dir′ y .base) (end-kept (k .place dir′ y)) (R .apart dir dir′ x y n);
       ep0-below = rw (room, k .ep0-buf, k .allocator) (R .ep0-below);
       ep0-apart = λ dir x. apart-kept (k .ep0-buf) (rw (room, k .ep0-buf) refl) (k .place dir x .base) (end-kept (k .place dir x)) (R .ep0-apart dir x);
+      ep0-lies = rw (k .ep0-buf, k .allocator, l) (R .ep0-lies);
       ep0-least = rw (room, k .ep0-max) (R .ep0-least);
       isos = λ x. ap (λ (n : ℕ). isSet n (x % 16)) (k .iso-outs) ∙ R .isos x ∙ ap isOn (sym (k .iso Out x));
     }
@@ -339,6 +373,11 @@ keeps-changed {dir} {e} {d} {d′} c = record {
     place-by : {r r′ s s′ : EpState} → r ≡ s → r′ ≡ s′ → SamePlace s s′ → SamePlace r r′
     place-by {r} {r′} {s} {s′} p q k = subst (λ z. SamePlace z r′) (sym p) (subst (λ z. SamePlace s z) (sym q) k)
 
+-- a slot of a ring, and bytes in a region apart from the ring's
+slot-foreign : {n lo hi : ℕ} {r : EpState} (i : ℕ) (b b′ : Buf) → Placed n r → Only lo hi b b′ → (endOf r ≤ lo) ⊎ (hi ≤ r .base) → Same (slotAddr r i) (slotAddr r i + r .stride) b b′
+slot-foreign i b b′ g o (inl a) = λ k l h. o k (inl (omega (arith, slot-upto g i)))
+slot-foreign i b b′ g o (inr a) = λ k l h. o k (inr (omega (arith, slot-from g i)))
+
 pub arming-mod : (φ : Phase) (x e : ℕ) (u : Bool) (r : EpState) (p : OutPage) → x % 16 ≡ e % 16 → Arming φ e u r p → Arming φ x u r p
 arming-mod quiet x e u r p h a = a
 arming-mod (mid (switch f onn) n) x e u r p h a = subst (λ k. InRow (eqb k (f % 16) && isOn (r .iso)) n u r p) (sym h) a
@@ -357,7 +396,7 @@ module _ {φ : Phase} {b b′ : Buf} {d d′ : Driver} {t : Pages} (R : Rest φ 
     other-in x n =
         let f = R .ins x in
         in-moved (c .eps In x n) (c .lens In x n)
-        (in-bytes long (waiting-foreign (f .held .placed) (f .held .ring) _ _ b b′ o (R .apart In dir x e n)) f)
+        (in-bytes long (waiting-foreign (f .held .placed) (f .held .ring) _ _ b b′ o (R .apart In dir x e n)) (λ _. slot-foreign (epOn d In x .tail) b b′ (f .held .placed) o (R .apart In dir x e n)) f)
 
   -- OUT e
   pub out-changed : {ψ : Phase} {k : Kept} (e : ℕ) (p : OutPage) → Changed Out e d d′ → SameKept d′ k → length b′ ≡ length b
@@ -395,20 +434,24 @@ module _ {φ : Phase} {b b′ : Buf} {d d′ : Driver} {t : Pages} (R : Rest φ 
 
 -- ---- no record changed, bytes of none that wait
 
+-- the tail's slot of every IN ring in which some wait is as it was, whole
+abbrev pub TailsStay : Driver → Buf → Buf → Type 0
+TailsStay d b b′ = (x : ℕ) → 0 < countOf (epOn d In x) → Same (slotAddr (epOn d In x) (epOn d In x .tail)) (slotAddr (epOn d In x) (epOn d In x .tail) + epOn d In x .stride) b b′
+
 module _ {φ : Phase} {b b′ : Buf} {d : Driver} {t : Pages} (R : Rest φ b d t) (long : length b′ ≡ length b) where
-  pub bytes-changed : ((dir : Dir) (x : ℕ) → waiting b′ (epOn d dir x) (lensOf d dir x) ≡ waiting b (epOn d dir x) (lensOf d dir x)) → Rest φ b′ d t
-  bytes-changed w = rebuilt R (keeps-changed (changed-not (R .sized) Out 0)) long (record {
+  pub bytes-changed : ((dir : Dir) (x : ℕ) → waiting b′ (epOn d dir x) (lensOf d dir x) ≡ waiting b (epOn d dir x) (lensOf d dir x)) → TailsStay d b b′ → Rest φ b′ d t
+  bytes-changed w s = rebuilt R (keeps-changed (changed-not (R .sized) Out 0)) long (record {
     step = R .step;
     same = R .same;
     outs = λ x. out-bytes long (w Out x) (R .outs x);
-    ins = λ x. in-bytes long (w In x) (R .ins x);
+    ins = λ x. in-bytes long (w In x) (s x) (R .ins x);
     arming = R .arming;
   })
 
   -- in a region apart from every ring in which some wait
   pub bytes-region : (lo hi : ℕ) → Only lo hi b b′
       → ((dir : Dir) (x : ℕ) → Apart lo hi (epOn d dir x .base) (endOf (epOn d dir x)) ⊎ (countOf (epOn d dir x) ≡ 0)) → Rest φ b′ d t
-  bytes-region lo hi o away = bytes-changed kept
+  bytes-region lo hi o away = bytes-changed kept tails
     where
       swap : {x y : ℕ} → Apart lo hi x y → (y ≤ lo) ⊎ (hi ≤ x)
       swap (inl h) = inr h
@@ -422,6 +465,12 @@ module _ {φ : Phase} {b b′ : Buf} {d : Driver} {t : Pages} (R : Rest φ b d t
       kept : (dir : Dir) (x : ℕ) → waiting b′ (epOn d dir x) (lensOf d dir x) ≡ waiting b (epOn d dir x) (lensOf d dir x)
       kept Out x = by (R .outs x .held) (away Out x)
       kept In x = by (R .ins x .held) (away In x)
+
+      tails : TailsStay d b b′
+      tails x w = elim (away In x) [
+        | inl a ↦ slot-foreign (epOn d In x .tail) b b′ (R .ins x .held .placed) o (swap a)
+        | inr z ↦ absurd (omega (arith, z))
+      ]
 
 -- a change of marks or of a copy
 pub only-bytes : {lo hi : ℕ} {b b′ : Buf} → marks.Only lo hi b b′ → Only lo hi b b′

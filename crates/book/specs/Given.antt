@@ -41,6 +41,7 @@ use Rattle.ops.specs.Conc.{conc}
 use Rattle.book.specs.Pages.{OutPage, InPage, Kept, Pages, at, on, withKept, withOut, withIn, keptGlobals, keptAllocator, keptPlain}
 use Rattle.book.specs.Book.{bookOps, shapedPlain, slotTold, emptyOut, emptyIn, pagesGiven, givenB, allocateB, startedB, allocateB0}
 use Rattle.book.specs.Rest.{SameKept, Used, Unused, Shape, Apart, Held, OutFits, InFits, AtRest, Rest, lensOf, slotStamps, endOf, ep0Room}
+use Rattle.book.specs.Frame.{none-stands}
 use Rattle.book.specs.Stamps.{none-stamps}
 use Rattle.book.specs.Cells.{Still, still, kin-refl, key-by, epOn-by, on-key, at-same, at-other, plain-put}
 
@@ -85,6 +86,7 @@ further {b = b} {d = d} {t = t} r a f = record {
   apart = r .apart;
   ep0-below = subst (λ (z : ℕ). d .globals .«ep0_buf» + cond (eqb (d .globals .stage) 2) z 0 ≤ a .next * a .size) (sym (f .size)) (below-further (d .allocator) a f _ (r .ep0-below));
   ep0-apart = λ dir e. rw (f .size) (r .ep0-apart dir e);
+  ep0-lies = rw (f .size) (r .ep0-lies);
   ep0-least = rw (f .size) (r .ep0-least);
   isos = r .isos;
 }
@@ -233,6 +235,8 @@ new-fits Out b r ls ss t kind maximum base size n e x q held some lost =
       slot = refl;
       from = omega arith;
       upto = omega (arith, mul-le-mul-right size some);
+      ledger = refl;
+      short = tt;
     })
 new-fits In b r ls ss t kind maximum base size n e x q held some lost =
     rw (at-same e x emptyIn (t .ins) q) (record {
@@ -241,6 +245,9 @@ new-fits In b r ls ss t kind maximum base size n e x q held some lost =
       loaded = refl;
       sends = λ h. absurd (true≢false h);
       turn = refl;
+      ledger = refl;
+      reached = refl;
+      stands = none-stands refl;
     })
 
 new-rest : (r : EpState) (kind maximum base size n : ℕ) (p : OutPage) (on : Bool) → base < 2 ^ 32 → p .slot ≡ base → AtRest on (allocated r kind maximum base size n) p
@@ -499,6 +506,7 @@ module _ {b : Buf} {d : Driver} {t : Pages} (r : Rest quiet b d t) (dir : Dir) (
     ep0-apart = λ dir′ x. subst (λ (y : Allocator). Apart (D .globals .«ep0_buf») (D .globals .«ep0_buf» + ep0Room (D .globals) y) (epOn D dir′ x .base) (endOf (epOn D dir′ x))) (sym allocator-after)
         (subst (λ (k : ℕ). Apart (D .globals .«ep0_buf») k (epOn D dir′ x .base) (endOf (epOn D dir′ x))) (sym ep0-end)
         (subst (λ (k : ℕ). Apart k (d .globals .«ep0_buf» + ep0Room (d .globals) (d .allocator)) (epOn D dir′ x .base) (endOf (epOn D dir′ x))) (sym (outs-as .ep0-buf)) (ep0-apart-after dir′ x)));
+    ep0-lies = subst (λ (y : Allocator). D .globals .«ep0_buf» + y .size ≤ length b) (sym allocator-after) (rw (outs-as .ep0-buf, g .number .same-size) (r .ep0-lies));
     ep0-least = subst (λ (y : Allocator). D .globals .«ep0_max» ≤ ep0Room (D .globals) y) (sym allocator-after)
         (rw (outs-as .ep0-max, outs-as .stage, g .number .same-size) (r .ep0-least));
     isos = on-key IsosAs dir e (isos-here dir refl) isos-there Out;

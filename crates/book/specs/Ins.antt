@@ -1,6 +1,7 @@
 -- IN rings: what is asked of them, and each of their operations
 use mathlib.Core.Bool.{Bool, true, false, not, cond, _&&_, true≢false}
-use mathlib.Core.List.{List, [], _∷_, _++_, tail}
+use mathlib.Core.List.{List, [], _∷_, _++_, tail, append-assoc, append-nil}
+use mathlib.Core.Logic.{_≢_}
 use mathlib.Core.Path.{_≡_, refl, ap, ap₂, subst, sym, _∙_}
 use Prim.Native.Nat.{ℕ, _+_, _*_, _%_, _≤_, _<_}
 use native.Mathlib.Omega.{arith}
@@ -8,6 +9,7 @@ use lib.Dec.{eqb, ltb}
 use borrow.Author.Tests.{ltb-true}
 use lib.ListN.{length, set}
 use Rattle.bits.specs.Bit.{isSet}
+use Rattle.regs.specs.declared.Access.the-variants.{Transmit}
 use Rattle.regs.specs.declared.Dir.{Dir}
 use Rattle.regs.specs.declared.Dir.the-variants.{In}
 use Rattle.state.specs.declared.EpState.{EpState}
@@ -15,12 +17,12 @@ use Rattle.state.specs.declared.Allocator.{Allocator}
 use Rattle.state.specs.Driver.{Driver, epOn, withOn, withLenOn}
 use Rattle.state.specs.Laws.{epOn-same}
 use Rattle.alloc.specs.Alloc.{allocatedIn, slotsOf}
-use Rattle.ring.specs.Slot.{slotOf, slotAddr, countOf, hasWaiting, joinedOf, passedOf}
+use Rattle.ring.specs.Slot.{after, slotOf, slotAddr, countOf, hasWaiting, joinedOf, passedOf}
 use Rattle.ring.specs.In.{hasRoomIn, completedOf, loadedOf, unloadedOf}
-use Rattle.ring.specs.Waiting.{waiting, Only, Placed, SamePlace, Alike}
-use Rattle.ring.specs.Window.{window-is}
-use Rattle.ring.specs.Slots.{slot-is, slot-in, slot-lies, slot-upto}
-use Rattle.ring.specs.Laws.{place-placed, place-trans, alike-count, alike-waits, alike-in, waiting-length, waiting-head, slot-region, join-place, join-count, join-waits, join-ring, reset-count, reset-waits, reset-ring, first-part}
+use Rattle.ring.specs.Waiting.{waiting, Same, Only, Placed, SamePlace, Alike}
+use Rattle.ring.specs.Window.{window-is, only-apart}
+use Rattle.ring.specs.Slots.{slot-is, slot-in, slot-lies, slot-upto, slots-apart}
+use Rattle.ring.specs.Laws.{place-placed, place-trans, place-addr, head-away, alike-count, alike-waits, alike-in, waiting-length, waiting-head, slot-region, join-place, join-count, join-waits, join-ring, reset-count, reset-waits, reset-ring, first-part}
 use Rattle.ring.specs.InLaws as ring-in
 use Rattle.marks.specs.Copies.{copied}
 use Rattle.marks.specs.Only as marks
@@ -34,10 +36,11 @@ use Rattle.ops.specs.Records.{plainOf, isoOut}
 use Rattle.ops.specs.Rings.{St, waitingOn, roomOn, roomIn, completeOn, emptied, emptiedOn, queuedOn, enqueueOn, sendOn, sendAddr, placeOn}
 use Rattle.ops.specs.RingLaws.{room-fits}
 use Rattle.book.specs.Pages.{InPage, Pages, withIn}
-use Rattle.book.specs.Book.{Bk, roomB, emptyIn, passedIn, placedIn, queuedIn}
-use Rattle.book.specs.Rest.{Used, Shape, lensOf, Held, InFits, Rest, Holds}
+use Rattle.book.specs.Book.{Bk, front, roomB, emptyIn, passedIn, sentIn, sourceTold, placedIn, queuedIn, feedB}
+use Rattle.book.specs.Rest.{Used, Shape, lensOf, Held, Stands, InFits, Rest, Holds, Good}
 use Rattle.book.specs.Lens.{lens-on, lens-set, ep-len}
-use Rattle.book.specs.Frame.{changed-not, changed-on, changed-len, changed-trans, in-same, kept-same, in-moved, in-changed, only-bytes}
+use Rattle.book.specs.Frame.{changed-not, changed-on, changed-len, changed-trans, in-same, in-twice, kept-same, in-moved, in-changed, only-bytes, alike-tail, none-stands, sending-count}
+use Rattle.book.specs.Lies as in-buffer
 use Rattle.book.specs.Held.{IsAgrees, LookAgrees, ActAgrees, HandAgrees, held-some, held-length, held-next, waits-count}
 
 -- ---- what is asked
@@ -139,6 +142,26 @@ passed-none true [] h = refl
 passed-none true (p ∷ ps) h = absurd (omega arith)
 passed-none false w h = h
 
+read-ledger : (r w : List (List ℕ)) → (r ++ front w) ++ tail w ≡ r ++ w
+read-ledger r [] = append-assoc r [] []
+read-ledger r (q ∷ qs) = append-assoc r (q ∷ []) qs
+
+passed-ledger : (s : Bool) (r w : List (List ℕ)) → (r ++ cond s (front w) []) ++ cond s (tail w) w ≡ r ++ w
+passed-ledger true r w = read-ledger r w
+passed-ledger false r w = append-assoc r [] w
+
+sent-front : (s : Bool) (r w : List (List ℕ)) → (r ++ cond s (front w) []) ++ cond s [] (front w) ≡ r ++ front w
+sent-front true r w = append-nil (r ++ front w)
+sent-front false r w = append-assoc r [] (front w)
+
+queued-front : (s : Bool) (w : List (List ℕ)) (bytes : List ℕ) → (s ≡ true → 0 < length w) → cond s (front w) [] ≡ cond s (front (w ++ (bytes ∷ []))) []
+queued-front true [] bytes h = absurd (omega (arith, h refl))
+queued-front true (q ∷ qs) bytes h = refl
+queued-front false w bytes h = refl
+
+sending-some : {b : Buf} {r : EpState} {ls : List ℕ} {p : InPage} → InFits b r ls p → p .sending ≡ true → 0 < length (p .waiting)
+sending-some {r = r} {p = p} f s = omega (arith, held-length (f .held), sending-count f s)
+
 complete-fits : {b : Buf} {r : EpState} {ls : List ℕ} {p : InPage} → InFits b r ls p → InFits b (unloadedOf (completedOf r)) ls (passedIn p)
 unfolding unloadedOf
 complete-fits {b} {r} {ls} {p} f =
@@ -165,6 +188,9 @@ complete-fits {b} {r} {ls} {p} f =
       loaded = refl;
       sends = ring-in.unloaded-sends (completedOf r);
       turn = ap (λ (n : ℕ). n % 2) (completed-head r) ∙ f .turn;
+      ledger = passed-ledger (p .sending) (p .passed) (p .waiting) ∙ f .ledger;
+      reached = f .reached ∙ sym (append-nil (p .passed ++ cond (p .sending) (front (p .waiting)) []));
+      stands = none-stands refl;
     }
 
 pub act-complete : (e : ℕ) → ActAgrees (script.complete e)
@@ -186,6 +212,9 @@ empty-fits {b} {r} {ls} f = record {
   loaded = refl;
   sends = λ h. absurd (true≢false h);
   turn = refl;
+  ledger = refl;
+  reached = refl;
+  stands = none-stands refl;
 }
 
 pub act-reset-in : (e : ℕ) → ActAgrees (script.reset-ring In e)
@@ -212,6 +241,15 @@ module _ {b : Buf} {r : EpState} {ls : List ℕ} {p : InPage} (f : InFits b r ls
       (window-is queued (slotAddr r (r .head)) (length bytes) (omega (arith, queued-in, only-copied b (slotAddr r (r .head)) bytes .long))
       ∙ copied-bytes b (slotAddr r (r .head)) bytes queued-in)
 
+  -- the head's slot is not the one being sent, the tail's
+  queued-away : 0 < countOf r → slotOf r (r .tail) ≢ slotOf r (r .head)
+  queued-away w q =
+      let z : after (r .tail) 0 ≡ r .tail = omega (arith, f .held .ring .tail8) in
+      head-away (f .held .placed) (f .held .ring) few 0 w (ap (slotOf r) z ∙ q)
+
+  queued-spares : 0 < countOf r → Same (slotAddr r (r .tail)) (slotAddr r (r .tail) + r .stride) b queued
+  queued-spares w = only-apart _ _ _ _ b queued queued-only (slots-apart (f .held .placed) (r .tail) (r .head) (queued-away w))
+
   queued-fits : isOn (r .iso) ≡ true → InFits queued (joinedOf r) (set ls (slotOf r (r .head)) (length bytes)) (queuedIn p bytes)
   unfolding joinedOf
   queued-fits i = record {
@@ -225,6 +263,12 @@ module _ {b : Buf} {r : EpState} {ls : List ℕ} {p : InPage} (f : InFits b r ls
     loaded = f .loaded;
     sends = λ h. omega (arith, join-count (f .held .placed) (f .held .ring) few);
     turn = omega (arith, f .turn);
+    ledger = sym (append-assoc (p .passed) (p .waiting) (bytes ∷ [])) ∙ ap (λ (l : List (List ℕ)). l ++ (bytes ∷ [])) (f .ledger);
+    reached = f .reached ∙ ap (λ (l : List (List ℕ)). p .passed ++ l) (queued-front (p .sending) (p .waiting) bytes (λ s. sending-some f s));
+    stands = record {
+      slot = λ s. f .stands .slot s ∙ sym (place-addr (join-place r) (r .tail));
+      bytes = λ s k l u. queued-spares (sending-count f s) k (omega (arith, f .stands .slot s)) (omega (arith, f .stands .slot s)) ∙ f .stands .bytes s k l u;
+    };
   }
 
 -- room: an isochronous endpoint, a free slot, bytes that fit it
@@ -299,12 +343,13 @@ act-enqueue e bytes b d t R = rw (← room-same R e (length bytes)) (enqueue-by 
 
 -- ---- a load
 
--- the first is being sent
-abbrev sentIn : InPage → InPage
-sentIn p = record { waiting = p .waiting; sending = true; load = true; turn = p .turn }
+-- the one being sent keeps its slot, where it was being sent already; else its slot is shown as it stands
+shown-by : {b : Buf} {r : EpState} {p : InPage} → Stands b r p → (s : Bool) → p .sending ≡ s → Same (slotAddr r (r .tail)) (slotAddr r (r .tail) + r .stride) (cond s (p .shown) b) b
+shown-by {b} {r} {p} f true h = λ k l u. f .bytes h k (omega (arith, f .slot h)) (omega (arith, f .slot h))
+shown-by f false h = λ k l u. refl
 
 load-fits : {b : Buf} {r : EpState} {ls : List ℕ} {p : InPage} → InFits b r ls p → 0 < countOf r
-    → InFits b (loadedOf r) ls (sentIn p)
+    → InFits b (loadedOf r) ls (sourceTold (sentIn p b) (slotAddr r (r .tail)))
 unfolding loadedOf
 load-fits {b} {r} {ls} {p} f w = record {
   held = alike-held (ring-in.loaded-alike r) refl (f .held);
@@ -312,6 +357,9 @@ load-fits {b} {r} {ls} {p} f w = record {
   loaded = refl;
   sends = ring-in.loaded-sends r w;
   turn = f .turn;
+  ledger = f .ledger;
+  reached = ap (λ (l : List (List ℕ)). l ++ cond (p .sending) [] (front (p .waiting))) (f .reached) ∙ sent-front (p .sending) (p .passed) (p .waiting);
+  stands = record { slot = λ _. sym (alike-tail (ring-in.loaded-alike r)); bytes = λ _. shown-by (f .stands) (p .sending) refl };
 }
 
 loaded-plain : (r : EpState) → plainOf (loadedOf r) ≡ plainOf r
@@ -320,28 +368,46 @@ loaded-plain r = refl
 
 -- an address that sends nothing
 place-fits : {b : Buf} {r : EpState} {ls : List ℕ} {p : InPage} → InFits b r ls p → InFits b r ls (placedIn p)
-place-fits f = record { held = f .held; ringless = f .ringless; loaded = f .loaded; sends = f .sends; turn = f .turn }
+place-fits f = record { held = f .held; ringless = f .ringless; loaded = f .loaded; sends = f .sends; turn = f .turn; ledger = f .ledger; reached = f .reached; stands = record { slot = f .stands .slot; bytes = f .stands .bytes } }
+
+-- the address told after the page changed
+told-in : (t : Pages) (e x : ℕ) (q : InPage) → feedB (Transmit e x) (withIn t e q) ≡ withIn t e (sourceTold q x)
+told-in t e x q = ap (λ z. withIn (withIn t e q) e (sourceTold z x)) (in-same t e q) ∙ in-twice t e (sourceTold q x) q
 
 pub hand-place-in : (e : ℕ) → HandAgrees (script.place In e)
 unfolding placeOn
-hand-place-in e b d t R = (page-changed R e (placedIn (t .ins e)) (place-fits (R .ins e)), subst (λ p. Holds p b (epOn d In e .base)) (sym (in-same t e (placedIn (t .ins e)))) (λ bytes rest h q. absurd (true≢false (sym h))))
+hand-place-in e b d t R =
+    let x = epOn d In e .base in
+    subst (λ u. Rest quiet b d u × Good (Transmit e x) b u) (sym (told-in t e x (placedIn (t .ins e)))) (
+      page-changed R e (placedIn (t .ins e)) (place-fits (R .ins e)),
+      (subst (λ p. Holds p b x) (sym (in-same t e (placedIn (t .ins e)))) (λ bytes rest h q. absurd (true≢false (sym h))), in-buffer.base-lies R In e),
+    )
 
 module _ {b : Buf} {d : Driver} {t : Pages} (R : Rest quiet b d t) (e : ℕ) where
   abbrev Loaded : Bool → Type 0
   Loaded u =
-      let t′ = withIn t e (cond u (sentIn (t .ins e)) (placedIn (t .ins e))) in
-      Rest quiet b (cond u (withOn d In e (loadedOf (epOn d In e))) d) t′ × Holds (t′ .ins e) b (slotAddr (epOn d In e) (epOn d In e .tail))
+      let x = slotAddr (epOn d In e) (epOn d In e .tail) in
+      let t′ = feedB (Transmit e x) (withIn t e (cond u (sentIn (t .ins e) b) (placedIn (t .ins e)))) in
+      Rest quiet b (cond u (withOn d In e (loadedOf (epOn d In e))) d) t′ × Good (Transmit e x) b t′
 
   send-by : (u : Bool) → hasWaiting (epOn d In e) ≡ u → Loaded u
-  send-by true h = (
-    record-changed R e (loadedOf (epOn d In e)) (sentIn (t .ins e)) (ring-in.loaded-alike (epOn d In e) .place) (loaded-plain (epOn d In e)) (load-fits (R .ins e) (waits-count (epOn d In e) h)),
-    subst (λ q. Holds q b (slotAddr (epOn d In e) (epOn d In e .tail))) (sym (in-same t e (sentIn (t .ins e))))
-        (λ bytes rest l q. first-part (R .ins e .held .placed) (R .ins e .held .ring) b bytes rest (R .ins e .held .waits ∙ q) (omega arith)),
-  )
-  send-by false h = (
-    page-changed R e (placedIn (t .ins e)) (place-fits (R .ins e)),
-    subst (λ q. Holds q b (slotAddr (epOn d In e) (epOn d In e .tail))) (sym (in-same t e (placedIn (t .ins e)))) (λ bytes rest l q. absurd (true≢false (sym l))),
-  )
+  send-by true h =
+      let x = slotAddr (epOn d In e) (epOn d In e .tail) in
+      let p = sentIn (t .ins e) b in
+      subst (λ u. Rest quiet b (withOn d In e (loadedOf (epOn d In e))) u × Good (Transmit e x) b u) (sym (told-in t e x p)) (
+        record-changed R e (loadedOf (epOn d In e)) (sourceTold p x) (ring-in.loaded-alike (epOn d In e) .place) (loaded-plain (epOn d In e)) (load-fits (R .ins e) (waits-count (epOn d In e) h)),
+        (
+          subst (λ q. Holds q b x) (sym (in-same t e (sourceTold p x)))
+              (λ bytes rest l q. first-part (R .ins e .held .placed) (R .ins e .held .ring) b bytes rest (R .ins e .held .waits ∙ q) (omega arith)),
+          in-buffer.slot-lies R In e (epOn d In e .tail),
+        ),
+      )
+  send-by false h =
+      let x = slotAddr (epOn d In e) (epOn d In e .tail) in
+      subst (λ u. Rest quiet b d u × Good (Transmit e x) b u) (sym (told-in t e x (placedIn (t .ins e)))) (
+        page-changed R e (placedIn (t .ins e)) (place-fits (R .ins e)),
+        (subst (λ q. Holds q b x) (sym (in-same t e (placedIn (t .ins e)))) (λ bytes rest l q. absurd (true≢false (sym l))), in-buffer.slot-lies R In e (epOn d In e .tail)),
+      )
 
 -- "the slot whose address a load hands out holds the bytes of the first then waiting"
 pub hand-send : (e : ℕ) → HandAgrees (script.send e)

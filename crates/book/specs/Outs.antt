@@ -1,6 +1,6 @@
 -- OUT endpoints: what is asked of them, and a packet opened, closed, taken, a ring emptied
 use mathlib.Core.Bool.{Bool, true, false, not, cond, true≢false}
-use mathlib.Core.List.{List, [], _∷_, map, tail}
+use mathlib.Core.List.{List, [], _∷_, _++_, map, tail, append-assoc}
 use mathlib.Core.Path.{_≡_, refl, ap, subst, sym, _∙_}
 use Prim.Native.Nat.{ℕ, _-_, _<_}
 use native.Mathlib.Omega.{arith}
@@ -25,8 +25,8 @@ use Rattle.script.specs.Machine.{Buf}
 use Rattle.ops.specs.Records.{plainOf, isoOut}
 use Rattle.ops.specs.Rings.{changedOn, markedOn, waitingOn, openedOn, oldestAt, oldestOn, emptied, emptiedOn, openOn, closeOn, takeOn}
 use Rattle.book.specs.Pages.{Packet, bytesOf, OutPage, Pages, withOut}
-use Rattle.book.specs.Book.{some, isoOf, openOut, readOut, emptyOut}
-use Rattle.book.specs.Rest.{lensOf, slotStamps, OutFits, AtRest, Rest}
+use Rattle.book.specs.Book.{some, front, isoOf, openOut, readOut, emptyOut}
+use Rattle.book.specs.Rest.{Short, lensOf, slotStamps, OutFits, AtRest, Rest}
 use Rattle.book.specs.Lens.{lens-on, stamps-on}
 use Rattle.book.specs.Stamps.{alike-stamps, none-stamps, close-stamps}
 use Rattle.book.specs.Frame.{changed-not, changed-on, kept-same, out-changed, out-moved}
@@ -122,6 +122,8 @@ module _ {b : Buf} {r : EpState} {ls ss : List ℕ} {p : OutPage} (f : OutFits b
         slot = f .slot;
         from = f .from;
         upto = f .upto;
+        ledger = f .ledger;
+        short = f .short;
       }
 
   open-rest : {u : Bool} → AtRest u r p → AtRest u (openedOf r) (openOut p)
@@ -156,6 +158,14 @@ map-tail : {A : Type 0} (f : Packet → A) (w : List Packet) → map f (tail w) 
 map-tail f [] = refl
 map-tail f (q ∷ qs) = refl
 
+read-ledger : {A : Type 0} (r w : List A) → (r ++ front w) ++ tail w ≡ r ++ w
+read-ledger r [] = append-assoc r [] []
+read-ledger r (q ∷ qs) = append-assoc r (q ∷ []) qs
+
+short-tail : (n : ℕ) (w : List Packet) → Short n w → Short n (tail w)
+short-tail n [] h = tt
+short-tail n (q ∷ qs) h = h .1
+
 close-inner : (r : EpState) → Inner r (closedOf r)
 unfolding closedOf passedOf
 close-inner r = record { place = record { base = refl; stride = refl; slots = refl }; plain = refl }
@@ -177,6 +187,8 @@ module _ {b : Buf} {r : EpState} {ls ss : List ℕ} {p : OutPage} (f : OutFits b
     slot = f .slot;
     from = f .from;
     upto = f .upto;
+    ledger = read-ledger (p .read) (p .waiting) ∙ f .ledger;
+    short = short-tail (r .«max_len») (p .waiting) (f .short);
   }
 
   close-rest : {u : Bool} → AtRest u r p → AtRest u (closedOf r) (readOut p)
@@ -237,6 +249,8 @@ empty-fits {b} {r} {ls} {ss} f = record {
   slot = f .slot;
   from = f .from;
   upto = f .upto;
+  ledger = refl;
+  short = tt;
 }
 
 empty-count : (r : EpState) → countOf (emptied r) ≡ 0

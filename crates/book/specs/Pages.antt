@@ -29,6 +29,9 @@ pub record OutPage : Type 0 where
   pub opened : Bool
   pub lost : ℕ
   pub slot : ℕ
+  -- of this stretch: those admitted, those read
+  pub admitted : List Packet
+  pub read : List Packet
 
 -- IN e: those waiting, first to last; whether the first is being sent; whether the transmit address told last is a load's, for what the book
 -- promises of it; which slot the next packet goes to
@@ -37,6 +40,13 @@ pub record InPage : Type 0 where
   pub sending : Bool
   pub load : Bool
   pub turn : ℕ
+  -- of this stretch: those queued, those that came to be sent, those that the tail passed
+  pub queued : List (List ℕ)
+  pub sent : List (List ℕ)
+  pub passed : List (List ℕ)
+  -- of the one being sent: the transmit address it was handed out with, and the lent bytes as they stood then
+  pub source : ℕ
+  pub shown : List ℕ
 
 -- the kept values
 pub record Kept : Type 0 where

@@ -34,7 +34,7 @@ use Rattle.book.specs.Book.{emptyOut, emptyIn, allReset}
 use Rattle.book.specs.Rest.{SameKept, lensOf, slotStamps, Held, OutFits, InFits, Rest}
 use Rattle.book.specs.Lens.{ep-mod, key-other}
 use Rattle.book.specs.Stamps.{none-stamps}
-use Rattle.book.specs.Frame.{Keeps, rebuilt, changed-on, out-moved, in-moved}
+use Rattle.book.specs.Frame.{Keeps, rebuilt, changed-on, out-moved, in-moved, none-stands}
 use Rattle.book.specs.Chips.{armed-or}
 use Rattle.book.specs.Steps.{RowStep, phase-changed, globals-changed, none-enabled}
 
@@ -63,6 +63,8 @@ reset-out {r = r} f ss′ = record {
   slot = f .slot;
   from = f .from;
   upto = f .upto;
+  ledger = refl;
+  short = tt;
 }
 
 reset-in : {b : Buf} {r : EpState} {ls : List ℕ} {p : InPage} → InFits b r ls p → InFits b (resetOf r) ls emptyIn
@@ -72,6 +74,9 @@ reset-in {r = r} f = record {
   loaded = refl;
   sends = λ q. absurd (true≢false q);
   turn = refl;
+  ledger = refl;
+  reached = refl;
+  stands = none-stands refl;
 }
 
 module _ (d : Driver) (z : Sized d) (dir : Dir) (e : ℕ) where

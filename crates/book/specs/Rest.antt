@@ -1,6 +1,6 @@
 -- What holds of the driver, the lent buffer and the book between two calls
 use mathlib.Core.Bool.{Bool, true, false, cond, _&&_}
-use mathlib.Core.List.{List, [], _∷_}
+use mathlib.Core.List.{List, [], _∷_, _++_}
 use mathlib.Core.Logic.{_≢_, _⊎_}
 use mathlib.Core.Path.{_≡_}
 use Prim.Native.Nat.{ℕ, zero, suc, _+_, _-_, _*_, _%_, _^_, _≤_, _<_}
@@ -21,14 +21,15 @@ use Rattle.alloc.specs.Alloc.{allocatedIn, slotsOf}
 use Rattle.alloc.specs.Buffer.{goodSize}
 use Rattle.alloc.specs.Sound.{Sound}
 use Rattle.ring.specs.Slot.{slotAddr, countOf}
-use Rattle.ring.specs.Waiting.{waiting, Placed, Ring, Sends, Shows}
+use Rattle.ring.specs.Waiting.{waiting, Same, Placed, Ring, Sends, Shows}
 use Rattle.marks.specs.Copies.{bytesAt}
 use Rattle.script.specs.Script.{Row, switch, bus-reset, lastOf}
 use Rattle.script.specs.Alike.{Phase, quiet, mid}
 use Rattle.script.specs.Statics.{isOn, flag, isoOuts}
 use Rattle.script.specs.Machine.{Buf}
 use Rattle.ops.specs.Records.{plainOf}
-use Rattle.book.specs.Pages.{bytesOf, stampsOf, OutPage, InPage, Kept, Pages}
+use Rattle.book.specs.Pages.{Packet, bytesOf, stampsOf, OutPage, InPage, Kept, Pages}
+use Rattle.book.specs.Book.{front}
 use Rattle.book.specs.Stamps.{stamped}
 
 -- ---- the kept values are the same
@@ -88,6 +89,11 @@ pub record Held (most : ℕ) (b : Buf) (r : EpState) (ls : List ℕ) (w : List (
   -- "the bytes of the OUT ring's slots, tail to head, each up to its recorded length, equal those waiting, in order"
   pub waits : waiting b r ls ≡ w
 
+-- no packet is longer than the maximum
+abbrev pub Short : ℕ → List Packet → Type 0
+Short n [] = Unit {0}
+Short n (q ∷ qs) = (length (q .bytes) ≤ n) × Short n qs
+
 pub record OutFits (b : Buf) (r : EpState) (ls ss : List ℕ) (p : OutPage) : Type 0 where
   pub held : Held (r .slots - 1) b r ls (bytesOf (p .waiting))
   -- and so their stamps: "a packet still waiting has the stamp of its admission"
@@ -99,6 +105,14 @@ pub record OutFits (b : Buf) (r : EpState) (ls ss : List ℕ) (p : OutPage) : Ty
   pub slot : r .«armed_slot» ≡ p .slot
   pub from : r .base ≤ p .slot
   pub upto : p .slot + r .stride ≤ endOf r
+  -- "the packets read in its stretch, then those queued, are exactly that stretch's admitted arrivals, in order"
+  pub ledger : p .read ++ p .waiting ≡ p .admitted
+  pub short : Short (r .«max_len») (p .waiting)
+
+-- "no slot being sent is written": the slot of the one being sent is the tail's, and all its bytes stand as they stood when its address was handed out
+pub record Stands (b : Buf) (r : EpState) (p : InPage) : Type 0 where
+  pub slot : p .sending ≡ true → p .source ≡ slotAddr r (r .tail)
+  pub bytes : p .sending ≡ true → Same (p .source) (p .source + r .stride) (p .shown) b
 
 pub record InFits (b : Buf) (r : EpState) (ls : List ℕ) (p : InPage) : Type 0 where
   pub held : Held (r .slots) b r ls (p .waiting)
@@ -106,6 +120,10 @@ pub record InFits (b : Buf) (r : EpState) (ls : List ℕ) (p : InPage) : Type 0 
   pub loaded : r .loaded ≡ flag (p .sending)
   pub sends : Sends r
   pub turn : r .head % 2 ≡ p .turn
+  -- of those queued in the stretch, in order, the tail passed the first and the others wait; each reached the chip at most once, and in order
+  pub ledger : p .passed ++ p .waiting ≡ p .queued
+  pub reached : p .sent ≡ p .passed ++ cond (p .sending) (front (p .waiting)) []
+  pub stands : Stands b r p
 
 -- ---- the armed slot is never one of those that wait
 
@@ -155,6 +173,8 @@ pub record Rest (φ : Phase) (b : Buf) (d : Driver) (t : Pages) : Type 0 where
   pub apart : (dir dir′ : Dir) (e e′ : ℕ) → key dir e ≢ key dir′ e′ → Apart (epOn d dir e .base) (endOf (epOn d dir e)) (epOn d dir′ e′ .base) (endOf (epOn d dir′ e′))
   pub ep0-below : d .globals .«ep0_buf» + ep0Room (d .globals) (d .allocator) ≤ d .allocator .next * d .allocator .size
   pub ep0-apart : (dir : Dir) (e : ℕ) → Apart (d .globals .«ep0_buf») (d .globals .«ep0_buf» + ep0Room (d .globals) (d .allocator)) (epOn d dir e .base) (endOf (epOn d dir e))
+  -- EP0's address lies in the lent buffer with a slot, before its start too
+  pub ep0-lies : d .globals .«ep0_buf» + d .allocator .size ≤ length b
   pub ep0-least : d .globals .«ep0_max» ≤ ep0Room (d .globals) (d .allocator)
   -- the set of isochronous OUT endpoints
   pub isos : (e : ℕ) → isSet (d .globals .«iso_out_eps») (e % 16) ≡ isOn (epOn d Out e .iso)
@@ -178,12 +198,16 @@ pub record Chip (t : Pages) (b b′ : Buf) : Type 0 where
 abbrev pub Holds : InPage → Buf → ℕ → Type 0
 Holds p b x = (bytes : List ℕ) (rest : List (List ℕ)) → p .load ≡ true → p .waiting ≡ bytes ∷ rest → bytesAt b x (length bytes) ≡ bytes
 
+-- the slot from address x on lies in the lent buffer, whole
+abbrev pub Lies : Buf → Pages → ℕ → Type 0
+Lies b t x = x + t .kept .allocator .size ≤ length b
+
 abbrev pub Good : Access → Buf → Pages → Type 0
 Good (Read r e) b t = Unit {0}
 Good (Write r e v) b t = Unit {0}
-Good (Receive e x) b t = Unit {0}
-Good (Transmit e x) b t = Holds (t .ins e) b x
+Good (Receive e x) b t = Lies b t x
+Good (Transmit e x) b t = Holds (t .ins e) b x × Lies b t x
 -- EP0's buffer is where the book has it
-Good (Ep0Dma x) b t = x ≡ t .kept .globals .«ep0_buf»
+Good (Ep0Dma x) b t = (x ≡ t .kept .globals .«ep0_buf») × Lies b t x
 Good (Wait n) b t = Unit {0}
 Good Callback b t = Unit {0}

@@ -43,6 +43,7 @@ use Rattle.book.specs.Lens.{ep-mod, lens-on, stamps-on, ep-clear, lens-c
 use Rattle.book.specs.Stamps.{alike-stamps}
 use Rattle.book.specs.Frame.{Changed, changed-not, changed-on, changed-clear, changed-trans, kept-same, kept-plain, out-same, out-twice, out-moved, end-kept, out-changed, only-bytes}
 use Rattle.book.specs.Held.{iso-used, Words, good-words}
+use Rattle.book.specs.Lies.{received-lies}
 use Rattle.book.specs.Steps.{RowStep, phase-changed, globals-changed, others-enabled}
 use Rattle.book.specs.Resets.{reset-place, reset-out}
 
@@ -170,6 +171,8 @@ module _ {b : Buf} {r : EpState} {ls ss : List ℕ} {p : OutPage} (f : OutFits b
         slot = refl;
         from = slot-from (f .held .placed) k;
         upto = slot-upto (f .held .placed) k;
+        ledger = f .ledger;
+        short = f .short;
       }
 
   -- slot 0 is the head's
@@ -251,6 +254,8 @@ module _ {φ : Phase} {b : Buf} {d : Driver} {t : Pages} (R : Rest φ b d t) (e 
         slot = refl;
         from = subst (λ y. r .base ≤ y) (sym (f .slot)) (f .from);
         upto = subst (λ y. y + r .stride ≤ endOf r) (sym (f .slot)) (f .upto);
+        ledger = f .ledger;
+        short = f .short;
       })
       step others
       (plain-in e onn n e u r (slotTold (t .outs e) (r .«armed_slot»)) i (record { armed = λ q. f .slot ∙ a .armed q; none = a .none }))
@@ -308,7 +313,8 @@ Slotted iso iso′ last e onn k b d t =
 pub slot-first : (e : ℕ) (onn : Bool) (b : Buf) (d : Driver) (t : Pages) → Rest quiet b d t → RowStep (switch e onn) 18 b d t
 unfolding slotStep
 slot-first e onn b d t R =
-    (refl, subst (λ w. Slotted (isOn (epOn d Out e .iso)) w true e onn 15 b d t) (ap isOn (iso-same R e)) (go (isOn (epOn d Out e .iso)) refl), tt)
+    let z = subst (λ w. Slotted (isOn (epOn d Out e .iso)) w true e onn 15 b d t) (ap isOn (iso-same R e)) (go (isOn (epOn d Out e .iso)) refl) in
+    (refl, z, received-lies (paged (isoOf t Out e) true e t) e _ z)
   where
     others : (x : ℕ) (u : Bool) → x % 16 ≢ e % 16 → Arming quiet x u (epOn d Out x) (t .outs x) → Arming (mid (switch e onn) 18) x u (epOn d Out x) (t .outs x)
     others x u n a = away-in e onn 18 x u (epOn d Out x) (t .outs x) n a
@@ -330,12 +336,10 @@ slot-first e onn b d t R =
 
 slot-next : (e : ℕ) (onn : Bool) (k : ℕ) (b : Buf) (d : Driver) (t : Pages) → Rest (mid (switch e onn) (suc (suc (suc (suc k))))) b d t → RowStep (switch e onn) (suc (suc (suc k))) b d t
 unfolding slotStep
-slot-next e onn k b d t R = (
-  refl,
-  subst (λ w. Slotted (isOn (epOn d Out e .iso)) w (eqb k 15) e onn k b d t) (ap isOn (iso-same R e))
-      (subst (λ w. Slotted (isOn (epOn d Out e .iso)) (isOn (epOn d Out e .iso)) w e onn k b d t) (sym (ne-eqb k 15 (λ q. omega (arith, R .step)))) (go (isOn (epOn d Out e .iso)) refl)),
-  tt,
-)
+slot-next e onn k b d t R =
+    let z = subst (λ w. Slotted (isOn (epOn d Out e .iso)) w (eqb k 15) e onn k b d t) (ap isOn (iso-same R e))
+    (subst (λ w. Slotted (isOn (epOn d Out e .iso)) (isOn (epOn d Out e .iso)) w e onn k b d t) (sym (ne-eqb k 15 (λ q. omega (arith, R .step)))) (go (isOn (epOn d Out e .iso)) refl)) in
+    (refl, z, received-lies (paged (isoOf t Out e) (eqb k 15) e t) e _ z)
   where
     others : (x : ℕ) (u : Bool) → x % 16 ≢ e % 16 → Arming (mid (switch e onn) (suc (suc (suc (suc k))))) x u (epOn d Out x) (t .outs x) → Arming (mid (switch e onn) (suc (suc (suc k)))) x u (epOn d Out x) (t .outs x)
     others x u n a = away-in e onn (suc (suc (suc k))) x u (epOn d Out x) (t .outs x) n (away-out e onn (suc (suc (suc (suc k)))) x u (epOn d Out x) (t .outs x) n a)
