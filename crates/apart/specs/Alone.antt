@@ -9,10 +9,10 @@ use Rattle.state.specs.Driver.{key}
 use Rattle.script.specs.Tree as tree
 use Rattle.script.specs.Tree.{ends, asks}
 use Rattle.script.specs.Every.{at-end}
-use Rattle.script.specs.Answers.{Answer}
+use Rattle.script.specs.Answers.{Answer, Refused}
 use Rattle.script.specs.Alike.{quiet, mid}
 use Rattle.script.specs.Calls.{Config, PollRead, Op, slotted, aside, Aside, calls}
-use Rattle.script.specs.Machine.{Buf, Call, start, begin, go, question, Ans, awaited, busy, beside}
+use Rattle.script.specs.Machine.{Buf, Call, start, begin, go, question, Ans, ended, awaited, busy, beside}
 use Rattle.ops.specs.Rings.{St}
 use Rattle.way.specs.Under.{driverOf, drive}
 use Rattle.shared_time.specs.Sharing as sharing
@@ -29,9 +29,9 @@ use Rattle.apart.specs.Operations.{OfChannel, polls, passes}
 use Rattle.apart.specs.OwnReading.{own-polls}
 use Rattle.apart.specs.Stores.{OwnLent, own-like}
 use Rattle.apart.specs.Spares.{spares-on}
-use Rattle.apart.specs.Turns.{Run, Two, runBy, ownBy, alone, Timely, Alone}
+use Rattle.apart.specs.Turns.{Run, Two, accessOf, runBy, ownBy, alone, stateOf, Timely, wide, atOwn, OwnCall, own-row1, own-lent, Alone}
 use Rattle.apart.specs.Standing.{machineOf, stops, runOf, own-no, past-no, Told, telling, telling-own, time-spared, Keeps, At, at}
-use Rattle.apart.specs.Runs.{go-busy, begin-idle, aside-busy, aside-late, through-one, spares-put}
+use Rattle.apart.specs.Runs.{go-busy, go-wide, go-unfit, begin-idle, begin-unfit, aside-busy, aside-late, through-one, spares-put, row-one}
 
 -- ---- where the one is touched they line up as before
 
@@ -84,21 +84,63 @@ module _ (c : Channel) (share : Bool) (n : ℕ) where
 
   -- ---- the continue of an access of the channel's own
 
-  alone-go : (st : ℕ) (i : Bool) {o u : tree.Out St Answer} (l : ApartBy c st i (SameAnswer (c .number)) true o u) (q q′ : Access) {a a′ : Ans Answer} {t t′ : List ℕ} → Told l a a′ → Keeps i o a → Keeps i u a′ → t ≡ t′
-      → (v : ℕ) (b : Buf) → Alone c (go v) b (runOf i o q a t) → At c (one st i (alone share n (go v) b (runOf i o q a t)) u q′ a′ t′)
-  alone-go st i (end x l) q q′ h k k′ e v b m = absurd (true≢false (sym (m .0)))
-  alone-go st i (both {s = s} {k = g} φ z w w′ l f) q q′ h k k′ e v b m = absurd (true≢false (sym (m .0) ∙ own-no (c .number) g s w))
-  alone-go st i (left {q = p} {s = s} {k = g} {u = u} w y z f) q q′ {a′ = a′} {t = r} {t′ = r′} h k k′ e v b m =
+  -- its reading is within its width
+  abbrev Within : ℕ → Buf → Run → Type 0
+  Within v b r = (atOwn c r ≡ true) × (wide (r .machine .way) v ≡ false) × OwnLent c (stateOf r) b
+
+  within-go : (st : ℕ) (i : Bool) {o u : tree.Out St Answer} (l : ApartBy c st i (SameAnswer (c .number)) true o u) (q q′ : Access) {a a′ : Ans Answer} {t t′ : List ℕ} → Told l a a′ → Keeps i o a → Keeps i u a′ → t ≡ t′
+      → (v : ℕ) (b : Buf) → Within v b (runOf i o q a t) → At c (one st i (alone share n (go v) b (runOf i o q a t)) u q′ a′ t′)
+  within-go st i (end x l) q q′ h k k′ e v b m = absurd (true≢false (sym (m .0)))
+  within-go st i (both {s = s} {k = g} φ z w w′ l f) q q′ h k k′ e v b m = absurd (true≢false (sym (m .0) ∙ own-no (c .number) g s w))
+  within-go st i (left {q = p} {s = s} {k = g} {u = u} w y z f) q q′ {a′ = a′} {t = r} {t′ = r′} h k k′ e v b m =
       let d = own-like z (m .2) in
       through-one (λ y. At c (one st i (runBy p (y, timeAfter n going (y .0) (s .0) r)) u q′ a′ r′)) (go-busy c s b (d .right) i p g v (m .1)) (rooms (go v) (k .room) b)
       (λ x. at st i (f v (s .0, b) d) p q′ (subst (λ z. Told (f v (s .0, b) d) (stops i (g v (s .0, b)) .0) z) (sym h) (telling (f v (s .0, b) d) (x .answer) (subst Few h (k′ .few))))
       (record { spares = λ j. spares-on (k .spares j) v (s .0, b); few = x .answer; room = x .machine }) k′ (time-spared n i (s .0) r (spares-on (k .spares (w .0)) v (s .0, b)) ∙ e))
-  alone-go st i (right w p z f) q q′ {a = a} {t = r} h k k′ e v b m = absurd (true≢false (sym (m .0) ∙ past-no c i q a r p))
-  alone-go st i (owns {q = p} {q′ = p′} {s = s} {t = t} {k = g} {k′ = g′} w w′ l f f′) q q′ {a′ = a′} {t = r} {t′ = r′} h k k′ e v b m =
+  within-go st i (right w p z f) q q′ {a = a} {t = r} h k k′ e v b m = absurd (true≢false (sym (m .0) ∙ past-no c i q a r p))
+  within-go st i (owns {q = p} {q′ = p′} {s = s} {t = t} {k = g} {k′ = g′} w w′ l f f′) q q′ {a′ = a′} {t = r} {t′ = r′} h k k′ e v b m =
       let d = own-like (l .left) (m .2) in
       through-one (λ y. At c (one st i (runBy p (y, timeAfter n going (y .0) (s .0) r)) (asks p′ t g′) q′ a′ r′)) (go-busy c s b (d .right) i p g v (m .1)) (rooms (go v) (k .room) b)
       (λ x. at st i (f v (s .0, b) t (touch d l)) p q′ (telling-own (f v (s .0, b) t (touch d l)) w′ a′)
       (record { spares = λ j. spares-on (k .spares j) v (s .0, b); few = x .answer; room = x .machine }) k′ (time-spared n i (s .0) r (spares-on (k .spares (w .0)) v (s .0, b)) ∙ e))
+
+  -- row 16: it stays awaited
+  wide-go : (st : ℕ) (i : Bool) {o u : tree.Out St Answer} (l : ApartBy c st i (SameAnswer (c .number)) true o u) (q q′ : Access) {a a′ : Ans Answer} {t t′ : List ℕ} → Told l a a′ → Keeps i o a → Keeps i u a′ → t ≡ t′
+      → (v : ℕ) (b : Buf) → atOwn c (runOf i o q a t) ≡ true → wide (stops i o .1 .way) v ≡ true → OwnLent c (stateOf (runOf i o q a t)) b → At c (one st i (alone share n (go v) b (runOf i o q a t)) u q′ a′ t′)
+  wide-go st i (end x l) q q′ h k k′ e v b m z d = absurd (true≢false (sym m))
+  wide-go st i (both {s = s} {k = g} φ y w w′ l f) q q′ h k k′ e v b m z d = absurd (true≢false (sym m ∙ own-no (c .number) g s w))
+  wide-go st i (right w p y f) q q′ {a = a} {t = r} h k k′ e v b m z d = absurd (true≢false (sym m ∙ past-no c i q a r p))
+  wide-go st i (left {q = p} {s = s} {k = g} {u = u} w y x f) q q′ {a′ = a′} {t = r} {t′ = r′} h k k′ e v b m z d =
+      let j = own-like x d in
+      through-one (λ y. At c (one st i (runBy p (y, timeAfter n going (y .0) (s .0) r)) u q′ a′ r′)) (go-wide c s b (j .right) i p g v z) (rooms (go v) (k .room) b)
+      (λ x. at st i (left w y (j .right) (λ v s u. f v s (touched-trans j u))) p q′ h (record { spares = λ y. spares-put (s .0, b) (k .spares y); few = tt; room = x .machine }) k′ e)
+  wide-go st i (owns {q = p} {q′ = p′} {s = s} {t = t} {k = g} {k′ = g′} w w′ l f f′) q q′ {a′ = a′} {t = r} {t′ = r′} h k k′ e v b m z d =
+      let j = own-like (l .left) d in
+      through-one (λ y. At c (one st i (runBy p (y, timeAfter n going (y .0) (s .0) r)) (asks p′ t g′) q′ a′ r′)) (go-wide c s b (j .right) i p g v z) (rooms (go v) (k .room) b)
+      (λ x. at st i (owns w w′ (touch j l) f f′) p q′ tt (record { spares = λ y. spares-put (s .0, b) (k .spares y); few = tt; room = x .machine }) k′ e)
+
+  -- row 1: it stays as it is
+  stay-go : (st : ℕ) (i : Bool) {o u : tree.Out St Answer} (l : ApartBy c st i (SameAnswer (c .number)) true o u) (q q′ : Access) {a a′ : Ans Answer} {t t′ : List ℕ} → Told l a a′ → Keeps i o a → Keeps i u a′ → t ≡ t′
+      → atOwn c (runOf i o q a t) ≡ true → At c (one st i (runOf i o q (ended (Refused 1)) t) u q′ a′ t′)
+  stay-go st i (end x l) q q′ h k k′ e m = absurd (true≢false (sym m))
+  stay-go st i (both {s = s} {k = g} φ y w w′ l f) q q′ h k k′ e m = absurd (true≢false (sym m ∙ own-no (c .number) g s w))
+  stay-go st i (right w p y f) q q′ {a = a} {t = r} h k k′ e m = absurd (true≢false (sym m ∙ past-no c i q a r p))
+  stay-go st i (left w y z f) q q′ h k k′ e m = at st i (left w y z f) q q′ h (record { spares = k .spares; few = tt; room = k .room }) k′ e
+  stay-go st i (owns w w′ l f f′) q q′ h k k′ e m = at st i (owns w w′ l f f′) q q′ tt (record { spares = k .spares; few = tt; room = k .room }) k′ e
+
+  alone-go : (st : ℕ) (i : Bool) {o u : tree.Out St Answer} (l : ApartBy c st i (SameAnswer (c .number)) true o u) (q q′ : Access) {a a′ : Ans Answer} {t t′ : List ℕ} → Told l a a′ → Keeps i o a → Keeps i u a′ → t ≡ t′
+      → (v : ℕ) (b : Buf) → Alone c (go v) b (runOf i o q a t) → At c (one st i (alone share n (go v) b (runOf i o q a t)) u q′ a′ t′)
+  alone-go st i {o} {u} l q q′ {a} {a′} {t} {t′} h k k′ e v b m = by (m .1)
+    where
+      within : (x : Bool) → wide (stops i o .1 .way) v ≡ x → OwnLent c (stateOf (runOf i o q a t)) b → At c (one st i (alone share n (go v) b (runOf i o q a t)) u q′ a′ t′)
+      within true z d = wide-go st i l q q′ h k k′ e v b (m .0) z d
+      within false z d = within-go st i l q q′ h k k′ e v b (m .0, z, d)
+
+      by : OwnCall c (go v) (runOf i o q a t) b → At c (one st i (alone share n (go v) b (runOf i o q a t)) u q′ a′ t′)
+      by (own-row1 z) =
+          subst (λ y. At c (one st i (runBy (accessOf (stops i o .0) q) y) u q′ a′ t′)) (sym (row-one share n (go v) (stops i o .1) t b (go-unfit (runOf i o q a t) v b z)))
+          (stay-go st i l q q′ h k k′ e (m .0))
+      by (own-lent d) = within (wide (stops i o .1 .way) v) refl d
 
   -- ---- its own calls
 
@@ -150,9 +192,19 @@ module _ (c : Channel) (share : Bool) (n : ℕ) where
   alone-own st i (ends y s) l q q′ h k k′ e (passes o p) b z m = alone-aside st i (ends y s) l q q′ h k k′ e o p b m
   alone-own st i (asks y s g) l q q′ h k k′ e (passes o p) b z m = alone-aside st i (asks y s g) l q q′ h k k′ e o p b m
 
+  alone-begin : (st : ℕ) (i : Bool) {x u : tree.Out St Answer} (l : ApartBy c st i (SameAnswer (c .number)) true x u) (q q′ : Access) {a a′ : Ans Answer} {t t′ : List ℕ} → Told l a a′ → Keeps i x a → Keeps i u a′ → t ≡ t′
+      → (o : Op) (b : Buf) → Alone c (begin o) b (runOf i x q a t) → At c (one st i (alone share n (begin o) b (runOf i x q a t)) u q′ a′ t′)
+  alone-begin st i {x} {u} l q q′ {a} {a′} {t} {t′} h k k′ e o b m = by (m .2)
+    where
+      by : OwnCall c (begin o) (runOf i x q a t) b → At c (one st i (alone share n (begin o) b (runOf i x q a t)) u q′ a′ t′)
+      by (own-row1 z) =
+          subst (λ y. At c (one st i (ownBy (accessOf (stops i x .0) q) a y) u q′ a′ t′)) (sym (row-one share n (begin o) (stops i x .1) t b (begin-unfit (runOf i x q a t) o b z)))
+          (at st i l q q′ h k k′ e)
+      by (own-lent d) = alone-own st i x l q q′ h k k′ e (m .0) b (m .1) d
+
   pub alone-by : (st : ℕ) (i : Bool) {x u : tree.Out St Answer} (l : ApartBy c st i (SameAnswer (c .number)) true x u) (q q′ : Access) {a a′ : Ans Answer} {t t′ : List ℕ} → Told l a a′ → Keeps i x a → Keeps i u a′ → t ≡ t′
       → (d : Call Config Op) (b : Buf) → Alone c d b (runOf i x q a t) → At c (one st i (alone share n d b (runOf i x q a t)) u q′ a′ t′)
   alone-by st i l q q′ h k k′ e (go v) b m = alone-go st i l q q′ h k k′ e v b m
-  alone-by st i {x = x} l q q′ h k k′ e (begin o) b m = alone-own st i x l q q′ h k k′ e (m .0) b (m .1) (m .2)
+  alone-by st i l q q′ h k k′ e (begin o) b m = alone-begin st i l q q′ h k k′ e o b m
   alone-by st i l q q′ h k k′ e (start d) b m = absurd m
   alone-by st i l q q′ h k k′ e (question d) b m = absurd m

@@ -38,3 +38,4 @@ pub mod Alone
 pub mod Start
 pub mod Undisturbed
 pub mod Time
+pub mod Code

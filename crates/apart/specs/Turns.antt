@@ -12,8 +12,8 @@ use Rattle.state.specs.Driver.{Driver, key, epOn}
 use Rattle.state.specs.Wakes.{listed}
 use Rattle.ring.specs.Waiting.{waiting}
 use Rattle.script.specs.Answers.{Answer, Refused, End}
-use Rattle.script.specs.Calls.{Config, Op, interrupt, slotted, other, aside, calls}
-use Rattle.script.specs.Machine.{Buf, Question, pending, overruns, enabled, Call, start, begin, go, question, Event, Ans, ended, handed, told, awaited, Way, idle, busy, Machine, over, lentTo}
+use Rattle.script.specs.Calls.{Config, Op, interrupt, slotted, other, aside, slots, calls}
+use Rattle.script.specs.Machine.{Buf, Question, pending, overruns, enabled, Call, start, begin, go, question, Event, Ans, ended, handed, told, Way, idle, busy, Machine, over, misfit, lentTo}
 use Rattle.ops.specs.Rings.{St}
 use Rattle.way.specs.Under.{driverOf, drive}
 use Rattle.way.specs.Goes.{Called}
@@ -79,6 +79,11 @@ storedIn b r = record { machine = lentTo calls driverOf (r .machine) b; access =
 abbrev pub sharing : (List ℕ → List ℕ) → Run → Run
 sharing f r = record { machine = r .machine; access = r .access; answer = r .answer; time = f (r .time) }
 
+-- the status word: that of the operation under way
+abbrev pub statusOf : Way Answer Driver → ℕ → ℕ → ℕ
+statusOf idle st old = st
+statusOf (busy i a k) st old = old
+
 -- of driver n; `share`: it shares the bus time with others, and is turned down where that has no room (row 19)
 module _ (share : Bool) (n : ℕ) where
   abbrev pub shared : Call Config Op → Machine Answer Driver → List ℕ → Buf → Called × List ℕ
@@ -98,11 +103,6 @@ module _ (share : Bool) (n : ℕ) where
   alone (begin o) b r = apart (begin o) b r
   alone (start c) b r = apart (start c) b r
   alone (question q) b r = apart (question q) b r
-
-  -- the status word: that of the operation under way
-  abbrev statusOf : Way Answer Driver → ℕ → ℕ → ℕ
-  statusOf idle st old = st
-  statusOf (busy i a k) st old = old
 
   abbrev pub turn : Turn → Two → Two
   turn (begins st o b b′) w = record { first = called (begin o) b (w .first); second = called (begin o) b′ (w .second); status = statusOf (w .first .machine .way) st (w .status) }
@@ -142,14 +142,22 @@ abbrev pub Timely : Way Answer Driver → Op → Type 0
 Timely idle o = Unit {0}
 Timely (busy i a k) o = Passes o
 
+-- row 1: a call that brings the slot buffer, of a wrong length
+abbrev pub unfit : Call Config Op → Run → Buf → Bool
+unfit (start k) r b = false
+unfit (begin o) r b = cond (slots o) (misfit calls driverOf (r .machine .st) b) false
+unfit (go v) r b = misfit calls driverOf (r .machine .st) b
+unfit (question q) r b = false
+
+-- row 16: a reading with bits above its width
+abbrev pub wide : Way Answer Driver → ℕ → Bool
+wide idle v = false
+wide (busy i a k) v = over calls a v
+
 module _ (c : Channel) where
   -- the run stands at an access made for the channel
   abbrev pub atOwn : Run → Bool
   atOwn r = own (c .number) (r .access) (r .machine)
-
-  -- a reading is within its width
-  abbrev Fits : Run → ℕ → Type 0
-  Fits r v = over calls (awaited (r .access)) v ≡ false
 
   -- what the questions ask, but for the channel's overruns
   abbrev pub Asked : Question → Type 0
@@ -157,19 +165,40 @@ module _ (c : Channel) where
   Asked (overruns e) = key Out e ≢ key Out (c .number)
   Asked (enabled dir e) = Unit {0}
 
-  -- alone: the continue of an access of the channel's own, its opens and closes, and its read's polls
+  -- a call of both: refused with 1, which any buffer of a wrong length is; or lent the slot buffers as `Lent` says
+  pub data BothCall (o : Op) (r r′ : Run) (b b′ : Buf) : Type 0 where
+    call-row1 : unfit (begin o) r b ≡ true → unfit (begin o) r′ b′ ≡ true → BothCall o r r′ b b′
+    call-lent : Lent c (stateOf r) (stateOf r′) b b′ → BothCall o r r′ b b′
+
+  -- after a reading its values; where nothing is under way any number (row 15)
+  abbrev pub BringsAt : Way Answer Driver → ℕ → Access → ℕ → ℕ → Type 0
+  BringsAt idle st q v v′ = Unit {0}
+  BringsAt (busy i a k) st q v v′ = Brings (c .number) st q v v′
+
+  -- a continue of both: refused with 1; refused with 16, both readings being too wide; or with readings as `Brings` says
+  pub data BothGo (st v v′ : ℕ) (r r′ : Run) (b b′ : Buf) : Type 0 where
+    go-row1 : unfit (go v) r b ≡ true → unfit (go v′) r′ b′ ≡ true → BothGo st v v′ r r′ b b′
+    go-row16 : wide (r .machine .way) v ≡ true → wide (r′ .machine .way) v′ ≡ true → Lent c (stateOf r) (stateOf r′) b b′ → BothGo st v v′ r r′ b b′
+    go-on : wide (r .machine .way) v ≡ false → wide (r′ .machine .way) v′ ≡ false → BringsAt (r .machine .way) st (r .access) v v′
+        → Lent c (stateOf r) (stateOf r′) b b′ → BothGo st v v′ r r′ b b′
+
+  -- a call of one alone: refused with 1, or lent its slot buffer as `OwnLent` says
+  pub data OwnCall (d : Call Config Op) (r : Run) (b : Buf) : Type 0 where
+    own-row1 : unfit d r b ≡ true → OwnCall d r b
+    own-lent : OwnLent c (stateOf r) b → OwnCall d r b
+
+  -- alone: the continues of an access of the channel's own, whatever they bring, refused ones too; its opens and closes; its read's polls
   abbrev pub Alone : Call Config Op → Buf → Run → Type 0
-  Alone (go v) b r = (atOwn r ≡ true) × Fits r v × OwnLent c (stateOf r) b
-  Alone (begin o) b r = OfChannel (c .number) o × Timely (r .machine .way) o × OwnLent c (stateOf r) b
+  Alone (go v) b r = (atOwn r ≡ true) × OwnCall (go v) r b
+  Alone (begin o) b r = OfChannel (c .number) o × Timely (r .machine .way) o × OwnCall (begin o) r b
   Alone (start k) b r = ⊥
   Alone (question q) b r = ⊥
 
   -- "They line up by the accesses not made for it, between which the others get the same calls and stores in the same order": a call or a
   -- store of both falls where both stand at an access of the channel's own or neither does, a continue of both where neither does
   abbrev pub May : Turn → Two → Type 0
-  May (begins st o b b′) w = (atOwn (w .first) ≡ atOwn (w .second)) × Common (c .number) o × Timely (w .first .machine .way) o × Lent c (stateOf (w .first)) (stateOf (w .second)) b b′
-  May (goes v v′ b b′) w =
-      (atOwn (w .first) ≡ false) × (atOwn (w .second) ≡ false) × Brings (c .number) (w .status) (w .first .access) v v′ × Fits (w .first) v × Fits (w .second) v′ × Lent c (stateOf (w .first)) (stateOf (w .second)) b b′
+  May (begins st o b b′) w = (atOwn (w .first) ≡ atOwn (w .second)) × Common (c .number) o × Timely (w .first .machine .way) o × BothCall o (w .first) (w .second) b b′
+  May (goes v v′ b b′) w = (atOwn (w .first) ≡ false) × (atOwn (w .second) ≡ false) × BothGo (w .status) v v′ (w .first) (w .second) b b′
   May (asked q b b′) w = (atOwn (w .first) ≡ atOwn (w .second)) × Asked q × Lent c (stateOf (w .first)) (stateOf (w .second)) b b′
   May (stores b b′) w = (atOwn (w .first) ≡ atOwn (w .second)) × Lent c (stateOf (w .first)) (stateOf (w .second)) b b′
   May (others-time f) w = Unit {0}

@@ -30,7 +30,7 @@ pub record Session : Type 0 where
 
 module _ (share : Bool) (n : ℕ) where
   -- after the start-up
-  abbrev started-up : Session → Run → Run
+  abbrev pub started-up : Session → Run → Run
   started-up s r = called share n (start (s .config)) (s .lent) r
 
   -- and the list that is one in both
@@ -59,14 +59,14 @@ module _ (share : Bool) (n : ℕ) where
 -- ---- one turn
 
 module _ (c : Channel) (share : Bool) (n : ℕ) where
-  record Steps (t : Turn) (w : Two) : Type 0 where
-    stand : At c w
-    after-it : After c t w
+  pub record Steps (t : Turn) (w : Two) : Type 0 where
+    pub stand : At c w
+    pub after-it : After c t w
 
   first-stands : {w : Two} → At c w → (d : Event Config Op) → May c (first d) w → At c (turn share n (first d) w)
   first-stands (at st i l q q′ h k k′ e) d m = alone-by c share n st i l q q′ h k k′ e (d .call) (d .lent) m
 
-  step : (t : Turn) {w : Two} → At c w → May c t w → Steps t (turn share n t w)
+  pub step : (t : Turn) {w : Two} → At c w → May c t w → Steps t (turn share n t w)
   step (begins v o b b′) (at st i l q q′ h k k′ e) m =
       let y = begins-by c share n st i l q q′ k k′ e v o b b′ m in
       record { stand = y .stand; after-it = record { answers = y .answers; stands = at-stands (y .stand); lined = at-lined (y .stand); alike = at-alike (y .stand); time = at-time (y .stand) } }
@@ -98,7 +98,7 @@ module _ (c : Channel) (share : Bool) (n : ℕ) where
 
 module _ (share : Bool) (n : ℕ) where
   -- a start-up on whatever was before in each run makes them one
-  opened-at : (s : Session) (w : Two) → w .first .time ≡ w .second .time → Opens share n s w → At (s .channel) (opened share n s w)
+  pub opened-at : (s : Session) (w : Two) → w .first .time ≡ w .second .time → Opens share n s w → At (s .channel) (opened share n s w)
   opened-at s w e o =
       subst (λ (z : Run). At (s .channel) (record { first = given share n (s .before) (started-up share n s (w .first)); second = given share n (s .before) z; status = 0 }))
       (starts share n (s .config) (s .lent) (o .accepted) (w .first) ∙ (ap (λ t. anew share n (s .config) (s .lent) (o .accepted) t) e ∙ sym (starts share n (s .config) (s .lent) (o .accepted) (w .second))))

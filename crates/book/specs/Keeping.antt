@@ -1,6 +1,6 @@
 -- A script that leaves `entered`, the microframe index with which the interrupt under way began (request One): each assignment of the globals has
 -- the one that was read. Then it is the same at every access and at the end, whatever is read
-use mathlib.Core.Bool.{Bool, true, false, cond, true≢false}
+use mathlib.Core.Bool.{Bool, true, false, not, cond, true≢false}
 use mathlib.Core.List.{List}
 use mathlib.Core.Path.{_≡_, refl, sym, ap, _∙_}
 use Prim.Native.Nat.{ℕ, _%_}
@@ -80,22 +80,43 @@ Gives x (row-then g p) b = Unit {0}
 pub got : (x : ℕ) (g : Globals) → Gives x (get {i = true} globals-cell) g → g .entered ≡ x
 got x g w = sym (ap (λ (h : Globals). h .entered) (w .2)) ∙ w .1
 
-abbrev pub Keeps : {i : Bool} {A : Type 0} → ℕ → Script i A → Type 0
-Keeps x (ret a) = Unit {0}
-Keeps x (bind p f) = Keeps x p × ((a : _) → Gives x p a → Keeps x (f a))
-Keeps x (test b p q) = Keeps x p × Keeps x q
-Keeps x (read-then r e k) = (v : ℕ) → Keeps x (k v)
-Keeps x (write-then r e v p) = Keeps x p
-Keeps x (wait-then n p) = Keeps x p
-Keeps x (callback-then p) = Keeps x p
-Keeps x (get-then c k) = (v : Val c) → Says x c v → Keeps x (k v)
-Keeps x (put-then c v p) = Says x c v × Keeps x p
-Keeps x (is-then q k) = (b : Bool) → Keeps x (k b)
-Keeps x (look-then q k) = (n : ℕ) → Keeps x (k n)
-Keeps x (fetch-then q k) = (l : List ℕ) → Keeps x (k l)
-Keeps x (act-then q p) = (allocates q ≡ false) × Keeps x p
-Keeps x (hand-then q p) = Keeps x p
-Keeps x (row-then g p) = ⊥
+-- the changes in an interrupt: no packet of an OUT endpoint is read, none is voided
+abbrev pub calm : Act → Bool
+calm (complete e) = true
+calm (reset-ring d e) = false
+calm (set-enabled d e on) = false
+calm (fill e bytes) = false
+calm (fill0 bytes) = false
+calm (open-oldest e) = false
+calm (close-oldest e) = false
+calm (take-oldest e) = false
+calm (enqueue e bytes) = false
+calm (allocate d kind address maximum interval) = false
+calm (allocate0 maximum) = false
+calm no-wakes = true
+calm (waken codes) = true
+
+-- those of the calls that pass
+abbrev pub passing : Act → Bool
+passing q = not (allocates q)
+
+-- its changes are of the kind `ok`
+abbrev pub Keeps : {i : Bool} {A : Type 0} → (Act → Bool) → ℕ → Script i A → Type 0
+Keeps ok x (ret a) = Unit {0}
+Keeps ok x (bind p f) = Keeps ok x p × ((a : _) → Gives x p a → Keeps ok x (f a))
+Keeps ok x (test b p q) = Keeps ok x p × Keeps ok x q
+Keeps ok x (read-then r e k) = (v : ℕ) → Keeps ok x (k v)
+Keeps ok x (write-then r e v p) = Keeps ok x p
+Keeps ok x (wait-then n p) = Keeps ok x p
+Keeps ok x (callback-then p) = Keeps ok x p
+Keeps ok x (get-then c k) = (v : Val c) → Says x c v → Keeps ok x (k v)
+Keeps ok x (put-then c v p) = Says x c v × Keeps ok x p
+Keeps ok x (is-then q k) = (b : Bool) → Keeps ok x (k b)
+Keeps ok x (look-then q k) = (n : ℕ) → Keeps ok x (k n)
+Keeps ok x (fetch-then q k) = (l : List ℕ) → Keeps ok x (k l)
+Keeps ok x (act-then q p) = (ok q ≡ true) × Keeps ok x p
+Keeps ok x (hand-then q p) = Keeps ok x p
+Keeps ok x (row-then g p) = ⊥
 
 -- ---- the driver's operations
 
@@ -165,7 +186,11 @@ hand-at place0 s = refl
 
 -- ---- its run
 
-pub keeps-run : {i : Bool} {A : Type 0} (x : ℕ) (p : Script i A) → Keeps x p → (s : St) → At x s → Throughout (At x) (Gives x p) (run conc p s)
+not-allocates : (b : Bool) → not b ≡ true → b ≡ false
+not-allocates true h = absurd (true≢false (sym h))
+not-allocates false h = refl
+
+pub keeps-run : {i : Bool} {A : Type 0} (x : ℕ) (p : Script i A) → Keeps passing x p → (s : St) → At x s → Throughout (At x) (Gives x p) (run conc p s)
 keeps-run x (ret a) h s k = at-end k refl
 keeps-run x (bind p f) h s k = through-bind (keeps-run x p (h .0) s k) (λ a t l g. through-more (keeps-run x (f a) (h .1 a g) t l) (λ b w. tt))
 keeps-run x (test b p q) h s k = through-cond b (through-more (keeps-run x p (h .0) s k) (λ a w. tt)) (through-more (keeps-run x q (h .1) s k) (λ a w. tt))
@@ -180,6 +205,6 @@ keeps-run x (put-then c v p) h s k = through-more (keeps-run x p (h .1) (conc .p
 keeps-run x (is-then q f) h s k = through-more (keeps-run x (f (conc .is q s)) (h (conc .is q s)) s k) (λ a w. tt)
 keeps-run x (look-then q f) h s k = through-more (keeps-run x (f (conc .look q s)) (h (conc .look q s)) s k) (λ a w. tt)
 keeps-run x (fetch-then q f) h s k = through-more (keeps-run x (f (conc .fetch q s)) (h (conc .fetch q s)) s k) (λ a w. tt)
-keeps-run x (act-then q p) h s k = through-more (keeps-run x p (h .1) (conc .act q s) (act-at q (h .0) s ∙ k)) (λ a w. tt)
+keeps-run x (act-then q p) h s k = through-more (keeps-run x p (h .1) (conc .act q s) (act-at q (not-allocates (allocates q) (h .0)) s ∙ k)) (λ a w. tt)
 keeps-run x (hand-then q p) h s k = at-ask (hand-at q s ∙ k) (λ _ t l. through-more (keeps-run x p h t l) (λ a w. tt))
 keeps-run x (row-then g p) h s k = absurd h

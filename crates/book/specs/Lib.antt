@@ -46,8 +46,8 @@ pub mod ReadRoomCalls
 pub mod Readings
 pub mod Keeping
 pub mod Entered
-pub mod Hands
-pub mod Admits
+pub mod Stamping
+pub mod StampingLaws
 pub mod Served
 pub mod Accesses
 pub mod AccessesInterrupt

@@ -1,0 +1,71 @@
+-- Request One over a list of calls: "Each queued OUT packet carries the microframe index of that reading in the interrupt that admitted it".
+-- Definitions; the theorem is in StampingLaws
+use mathlib.Core.Bool.{true, false}
+use mathlib.Core.List.{List, [], _∷_, _++_}
+use mathlib.Core.Path.{_≡_}
+use Prim.Native.Nat.{ℕ, suc}
+use lib.ListN.{length}
+use Rattle.regs.specs.declared.Dir.the-variants.{Out}
+use Rattle.frame.specs.Usb20.{indexOf}
+use Rattle.state.specs.Driver.{Driver, epOn}
+use Rattle.script.specs.Answers.{Answer}
+use Rattle.script.specs.Calls.{Config, Op}
+use Rattle.script.specs.Machine.{Call, start, begin, go, question, Event, Ans, ended, handed, told, Way, idle, busy, Machine}
+use Rattle.book.specs.Stamps.{stamped}
+use Rattle.book.specs.Rest.{slotStamps}
+use Rattle.book.specs.Slots.{made}
+
+-- the stamps of the packets that wait on OUT e, first to last
+abbrev pub stampsIn : Driver → ℕ → List ℕ
+stampsIn d e = stamped (epOn d Out e) (slotStamps d e)
+
+-- ---- "that reading": the number that the first continue of the operation under way brought
+
+pub data First : Type 0 where
+  not-yet : First
+  brought : ℕ → First
+
+abbrev pub firstOf : ℕ → First → First
+firstOf v not-yet = brought v
+firstOf v (brought w) = brought w
+
+-- after a call, by what it was answered: a begin or a start-up that is handed an access begins an operation; a continue that is handed one went on.
+-- A refusal and a call that ends at once leave it
+abbrev pub noticed : Call Config Op → Ans Answer → First → First
+noticed (start c) (handed q) f = not-yet
+noticed (start c) (ended a) f = f
+noticed (start c) (told n) f = f
+noticed (begin o) (handed q) f = not-yet
+noticed (begin o) (ended a) f = f
+noticed (begin o) (told n) f = f
+noticed (go v) (handed q) f = firstOf v f
+noticed (go v) (ended a) f = f
+noticed (go v) (told n) f = f
+noticed (question q) a f = f
+
+-- its microframe index; before it there is none
+abbrev pub Index : First → ℕ → Type 0
+Index not-yet x = ⊥
+Index (brought v) x = x ≡ indexOf v
+
+-- ---- where a continue of an interrupt leaves one packet more, its stamp is that index, and those of the others are as they were
+
+abbrev pub OneMore : First → Driver → Driver → Type 0
+OneMore f d d′ = (e : ℕ) → length (stampsIn d′ e) ≡ suc (length (stampsIn d e)) → (x : ℕ) × Index f x × (stampsIn d′ e ≡ stampsIn d e ++ (x ∷ []))
+
+-- of one call: what was under way, the reading as it is after the call, the driver's state before and after it
+abbrev pub Stamping : Call Config Op → Way Answer Driver → First → Driver → Driver → Type 0
+Stamping (start c) w f d d′ = Unit {0}
+Stamping (begin o) w f d d′ = Unit {0}
+Stamping (question q) w f d d′ = Unit {0}
+Stamping (go v) idle f d d′ = Unit {0}
+Stamping (go v) (busy false a k) f d d′ = Unit {0}
+Stamping (go v) (busy true a k) f d d′ = OneMore f d d′
+
+-- of each call of a list
+abbrev pub StampsEach : List (Event Config Op) → Machine Answer Driver → First → Type 0
+StampsEach [] m f = Unit {0}
+StampsEach (e ∷ es) m f =
+    let x = made (e .call) m (e .lent) in
+    let g = noticed (e .call) (x .0) f in
+    Stamping (e .call) (m .way) g (m .st) (x .1 .st) × StampsEach es (x .1) g
