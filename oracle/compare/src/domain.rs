@@ -50,4 +50,3 @@ fn stored(e: &Entry) -> Vec<Entry> {
     };
     e.changed.iter().map(store).collect()
 }
-

@@ -6,6 +6,7 @@ mod late;
 mod misplaced;
 mod port;
 pub mod runs;
+mod seen;
 mod stamps;
 pub mod table;
 mod time;
@@ -32,6 +33,7 @@ pub struct Compared {
     pub turned_down: usize,
     /// Calls that the Rust does not have, by the row that refused them.
     pub rows: misplaced::Rows,
+    pub seen: seen::Seen,
 }
 
 /// The run up to a difference, and what the port says there.
@@ -89,6 +91,8 @@ impl Compared {
             }
         }
         self.lists += 1;
+        self.seen.list();
+        entries.iter().for_each(|e| self.seen.feed(e));
         self.entries += entries.len();
         self.answers += entries.iter().filter(|e| e.answer != Answer::Stored).count();
         self.stamps += stamps.iter().filter(|s| s.1 != stamps::NONE).count();

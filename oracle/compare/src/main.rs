@@ -1,6 +1,7 @@
 //! compare [FILE..] [--runs N] [--long N] [--seed N] [--length N]: recorded lists, random runs and long ones of the Rust, made on the
 //! port too, call by call. Ends with 1 at the first difference.
-//! compare --arms ..: says also which arms of the Rust the runs reach; ends with 1 if one is left.
+//! compare --arms ..: counts also the arms of the Rust that the runs reach, and what rings and resets came by; ends with 1 if something
+//! is left.
 //! compare --wide ..: buffers of 1,024 bytes, against the Rust read with 1,024 among its sizes.
 //! compare --begun ..: each random run without the interrupt and its continues.
 
@@ -22,6 +23,29 @@ fn arms(runs: &runs::Runs) -> Result<(), String> {
     }
 }
 
+/// What the rings and the resets of these runs came by.
+fn came_by(compared: &Compared) -> Result<(), String> {
+    let s = &compared.seen;
+    println!(
+        "{} packets turned away, overruns told {} times; up to {} packets in a stretch of an OUT ring, {} of an IN ring; \
+         {} queues refused with two waiting; {} resets on waiting packets, {} on open ones; {} start-ups in the midst of \
+         {} calls",
+        s.turned_away,
+        s.overruns_told,
+        s.most_out,
+        s.most_in,
+        s.two_wait,
+        s.resets_waiting,
+        s.resets_open,
+        s.start_ups,
+        s.midst.len()
+    );
+    match s.missing().as_slice() {
+        [] => Ok(()),
+        missing => Err(format!("the runs never came by: {}; start-ups fell on {:?}\n", missing.join(", "), s.midst)),
+    }
+}
+
 fn main() -> ExitCode {
     let runs = runs::asked(std::env::args().skip(1));
     let mut port = Port::new();
@@ -31,12 +55,12 @@ fn main() -> ExitCode {
             if runs.wide { Box::new(wider::Rust::new()) } else { Box::new(original::Rust::new()) };
         runs.each(rust.as_mut(), |name, entries| compared.check(&mut port, name, entries))
     };
-    let done = done.and_then(|()| if runs.arms { arms(&runs) } else { Ok(()) });
+    let done = done.and_then(|()| if runs.arms { arms(&runs).and_then(|()| came_by(&compared)) } else { Ok(()) });
     if let Err(said) = done {
         print!("{said}");
         return ExitCode::from(1);
     }
-    let Compared { lists, entries, answers, stamps, late, otherwise, turned_down, rows } = compared;
+    let Compared { lists, entries, answers, stamps, late, otherwise, turned_down, rows, seen: _ } = compared;
     println!(
         "{lists} runs, {entries} entries, {answers} answers and {stamps} stamps compared, and the bus time after each \
          call ({turned_down} enablings turned down): no difference"

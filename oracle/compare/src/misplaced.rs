@@ -98,7 +98,10 @@ pub fn one(rng: &mut Rng, table: &Table, port: &mut Port, rows: &mut Rows) -> Re
     // "9 or 10 from a poll ends the request that was begun": no such request is begun any more
     let (kept, then) = if row == 10 { (true, 15) } else { (did.kept, row) };
     if did.answer != oracle::Answer::Refused(row) {
-        return Err(format!("{call:?} with {slots} bytes of slots, a slice of {poll}: {:?}, not row {row}", did.answer));
+        return Err(format!(
+            "{call:?} with {slots} bytes of slots, a slice of {poll}: {:?}, not row {row}",
+            did.answer
+        ));
     }
     if !kept {
         return Err(format!("{call:?}, refused by row {row}, changed something"));

@@ -1,8 +1,8 @@
-//! mutants [FILE..] [--runs N] [--long N]: whether the comparison would notice. In place of the Rust stands a changed copy: each change of
+//! mutants [--each] [FILE..] [--runs N] [--long N]: whether the comparison would notice. In place of the Rust stands a changed copy: each change of
 //! `mutations.txt`, and the Rust with an arm of `branches.txt` turned (where it is due, the other one is taken). The runs are those of
 //! `compare` with the same arguments; they stop at the first difference. Ends with 1 if a copy is not told from the Rust.
 //!
-//! Each copy runs in a process of its own: one that crashes or hangs is noticed too.
+//! --each: says also which run noticed each copy. Each copy runs in a process of its own: one that crashes or hangs is noticed too.
 
 use std::panic::{catch_unwind, AssertUnwindSafe};
 use std::process::{Command, ExitCode};
@@ -104,7 +104,11 @@ fn told(copy: &Copy, args: &[String]) -> Option<String> {
 }
 
 fn main() -> ExitCode {
-    let args: Vec<String> = std::env::args().skip(1).collect();
+    let mut args: Vec<String> = std::env::args().skip(1).collect();
+    let each = args.first().is_some_and(|a| a == "--each");
+    if each {
+        args.remove(0);
+    }
     let all = copies();
     if let Some(of) = args.first().filter(|a| ["--change", "--arm"].contains(&a.as_str())) {
         let number = args[1].parse().unwrap();
@@ -124,7 +128,7 @@ fn main() -> ExitCode {
     });
     let mut lines = lines.into_inner().unwrap();
     lines.sort();
-    for (_, name, said) in &lines {
+    for (_, name, said) in lines.iter().filter(|l| each || l.2.is_none()) {
         println!("{name}: {}", said.as_deref().unwrap_or("NOT NOTICED"));
     }
     // an arm that is not turned names a change, or is one of those without an effect

@@ -79,6 +79,12 @@ pub struct Port {
     pub times: Vec<u32>,
 }
 
+impl Default for Port {
+    fn default() -> Self {
+        Self::new()
+    }
+}
+
 impl Port {
     pub fn new() -> Self {
         Self {

@@ -20,20 +20,12 @@ pub struct Runs {
 }
 
 /// The calls of a long run.
-const LONG: u32 = 30_000;
+const LONG: u32 = 60_000;
 
 /// What of the arguments is asked for: FILE.. [--seed N] [--runs N] [--length N] [--long N] [--wide] [--begun] [--arms].
 pub fn asked(args: impl Iterator<Item = String>) -> Runs {
-    let mut runs = Runs {
-        files: vec![],
-        seed: 1,
-        short: u64::MAX,
-        length: 300,
-        long: 0,
-        wide: false,
-        begun: false,
-        arms: false,
-    };
+    let mut runs =
+        Runs { files: vec![], seed: 1, short: u64::MAX, length: 300, long: 0, wide: false, begun: false, arms: false };
     let mut args = args;
     while let Some(a) = args.next() {
         let mut number = || args.next().and_then(|n| n.parse().ok()).expect("a number");

@@ -139,9 +139,10 @@ impl Table {
 
     /// 3: "any but start-up and continue; an operation is under way; open, close and queue pass during an interrupt".
     fn busy_for(&self, call: &Call) -> bool {
-        match (call, &self.under_way) {
-            (_, None) | (Call::StartUp { .. } | Call::Continue(_), _) => false,
-            (Call::Open(_) | Call::Close(_) | Call::Queue { .. }, Some(Call::Interrupt)) => false,
+        let Some(under_way) = &self.under_way else { return false };
+        match call {
+            Call::StartUp { .. } | Call::Continue(_) => false,
+            Call::Open(_) | Call::Close(_) | Call::Queue { .. } => *under_way != Call::Interrupt,
             _ => true,
         }
     }

@@ -211,7 +211,8 @@ impl Run<'_> {
         self.plan = Plan { flags: self.rng.below(64), token: self.rng.below(4), ..Plan::default() };
         self.status = None;
         self.call(call);
-        for _ in 0..self.rng.below(8) {
+        let accesses = if self.rng.chance(40) { 0 } else { self.rng.below(8) };
+        for _ in 0..accesses {
             if !self.ended() {
                 let v = self.reading();
                 self.call(Call::Continue(v));
@@ -219,7 +220,7 @@ impl Run<'_> {
         }
     }
 
-    /// Any call that may hand out an access.
+    /// Any call that may hand out an access, and what it takes for that.
     fn any_operation(&mut self) -> Call {
         let (ep, dir) = self.some_endpoint().unwrap_or((0, Dir::Out));
         let on = self.rng.chance(50);
@@ -231,7 +232,11 @@ impl Run<'_> {
             2 | 3 => Call::SetEnabled { ep, dir, on },
             4 => Call::SetStalled { ep, dir, on },
             5 => Call::IsStalled { ep, dir },
-            6 => Call::Advance(ep),
+            6 => {
+                let ep = self.one_of(Dir::In, true).unwrap_or(1);
+                self.call(Call::SetPaced { ep, on: true });
+                Call::Advance(ep)
+            }
             7 => Call::Microframe,
             8 => Call::Read { ep, length: max as u32 },
             9 => Call::Write { ep, data },
@@ -240,7 +245,13 @@ impl Run<'_> {
             12 => Call::Accept,
             13 => Call::AcceptSetAddress(ep),
             14 => Call::Reject,
-            15 => Call::PollAccept,
+            15 => {
+                self.operate(Call::Setup);
+                self.call(Call::PollSetup);
+                self.operate(Call::AcceptSetAddress(ep));
+                self.token(IN, 0, 0);
+                Call::PollAccept
+            }
             _ => Call::Interrupt,
         }
     }
@@ -277,15 +288,9 @@ impl Run<'_> {
                 let ep = if self.rng.chance(90) { 0 } else { self.rng.below(16) };
                 self.token(SOF, ep, 0);
             }
+            260..=379 if self.shape.long => self.iso_in(),
             160..=379 => self.iso_out(),
-            380..=509 => {
-                if let Some(ep) = self.one_of(Dir::In, true) {
-                    if self.rng.chance(40) {
-                        self.next_frame();
-                    }
-                    self.token(IN, ep as u32, 0);
-                }
-            }
+            380..=509 => self.iso_in(),
             510..=579 => self.bulk_out(),
             580..=629 => {
                 if let Some(ep) = self.one_of(Dir::In, false) {
@@ -305,7 +310,7 @@ impl Run<'_> {
             710..=729 => self.any_store(),
             730..=799 => self.user(),
             800..=894 => self.request(),
-            895..=929 if self.shape.long && !self.rng.chance(4) => self.question(),
+            895..=929 if self.shape.long && !self.rng.chance(2) => self.question(),
             895..=909 => self.bus(),
             910..=929 => self.enabling(),
             930..=954 => self.stalling(),
