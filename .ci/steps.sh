@@ -73,9 +73,11 @@ passed() {
 
 # ---- steps of several commands
 
+# and what the comparison is built of, before there is a port to link
 oracle_tests() {
     cd oracle
     nice cargo test --offline --release
+    nice cargo build --offline --release -p wider -p traced -p mutants
 }
 
 # two crates at a time; one after the other, as both ask rt whether all is proved
@@ -86,15 +88,18 @@ edits_and_wrong_drivers() {
     tests/wrong-drivers/run
 }
 
-# archive CRATE: target/staticlib/libCRATE.a, made in a tree of its own, so that it may run beside others
-archive() {
-    local tree
+# archives CRATE..: target/staticlib/libCRATE.a, made in a tree of its own, so that it may run beside others
+archives() {
+    local tree crate
     # shellcheck source=tests/trees.sh
     . tests/trees.sh
     tree=$(mktemp -d)
     new_tree "$tree"
-    (cd "$tree" && rt staticlib "$1") | tail -n 2
     mkdir -p target/staticlib
-    mv "$tree/target/staticlib/lib$1.a" target/staticlib
+    for crate in "$@"; do
+        (cd "$tree" && rt staticlib "$crate") >"$tree/log" 2>&1 || { cat "$tree/log"; exit 1; }
+        tail -n 1 "$tree/log"
+        mv "$tree/target/staticlib/lib$crate.a" target/staticlib
+    done
     rm -rf "$tree"
 }
