@@ -27,7 +27,12 @@ users_of() {
     awk -v given="$*" '
         BEGIN { n = split(given, a, " "); for (i = 1; i <= n; i++) used[a[i]] = 1 }
         { sub(/#.*/, ""); i = index($0, ":") }
-        i { name = substr($0, 1, i - 1); gsub(/[ \t]/, "", name); names[++count] = name; deps[name] = substr($0, i + 1) }
+        i {
+            name = substr($0, 1, i - 1)
+            gsub(/[ \t]/, "", name)
+            names[++count] = name
+            deps[name] = substr($0, i + 1)
+        }
         END {
             do {
                 more = 0

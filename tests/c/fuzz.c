@@ -1,8 +1,9 @@
 /* fuzz [CALLS [NAME..]]: CALLS (a million) calls of every exported function, or of those named, on corrupted states.
  *
- * Each call is made twice, at different addresses: all that it is lent ends at an unmapped page, then begins behind one. The
- * two must answer the same and leave the same bytes; nothing outside may be touched (it would end the program); what is lent
- * to be read, and all that a refused call is lent, must stay as it was. Only a poll's refusals 9 and 10 may change the state.
+ * Each call is made twice, at different addresses: all that it is lent ends at an unmapped page, then begins behind
+ * one. The two must answer the same and leave the same bytes; nothing outside may be touched (it would end the
+ * program); what is lent to be read, and all that a refused call is lent, must stay as it was. Only a poll's refusals
+ * 9 and 10 may change the state.
  *
  * A state is one of a run's (start-up, allocations, all calls with random readings, stopped anywhere) with some bytes
  * changed, or what the last call left with some bytes changed, or random bytes throughout. */
@@ -149,7 +150,8 @@ static const struct function {
     ALONE(allocate),
     ALONE(start),
     {"usbhs_allocate_all", f_allocate_all, U(STATE) | U(DATA), U(DATA), 0, 0, DESCRIPTOR},
-    {"usbhs_preview", f_preview, U(STATE) | U(DATA) | U(FIRST) | U(SECOND) | U(THIRD), U(STATE) | U(DATA), 32, 0, DESCRIPTOR},
+    {"usbhs_preview", f_preview, U(STATE) | U(DATA) | U(FIRST) | U(SECOND) | U(THIRD), U(STATE) | U(DATA), 32, 0,
+     DESCRIPTOR},
     {"usbhs_continue", f_continue, SS | U(TIME), 0, 0, 0, PLAIN},
     ALONE(begin_interrupt),
     ALONE(begin_bus_poll),
@@ -228,14 +230,21 @@ static uint32_t reading(uint64_t word) {
 static uint32_t receive[16];
 
 static uint64_t live_continue(uint64_t word) {
-    if (USBHS_KIND(word) == USBHS_WRITE && USBHS_REGISTER(word) == USBHS_EP_RX_DMA) receive[USBHS_ENDPOINT(word) & 15] = USBHS_VALUE(word);
+    if (USBHS_KIND(word) == USBHS_WRITE && USBHS_REGISTER(word) == USBHS_EP_RX_DMA)
+        receive[USBHS_ENDPOINT(word) & 15] = USBHS_VALUE(word);
     return usbhs_continue(live.state, live.slots, live.length, live.time, 1, reading(word));
 }
 
-/* To its end: a reading that finds the SIE busy is followed by one that finds it free, soon enough. */
+/* The word is no end: a continue follows. */
+static int under_way(uint64_t word) { return USBHS_KIND(word) >= USBHS_READ && USBHS_KIND(word) <= USBHS_CALLBACK; }
+
+/* To its end. */
 static void live_all(uint64_t word) {
-    int i;
-    for (i = 0; i < 9000 && USBHS_KIND(word) >= USBHS_READ && USBHS_KIND(word) <= USBHS_CALLBACK; i++) word = live_continue(word);
+    while (under_way(word)) word = live_continue(word);
+}
+
+static uint64_t live_enable(uint32_t e, uint32_t dir, uint32_t on) {
+    return usbhs_begin_set_enabled(live.state, live.slots, live.length, live.time, 1, e, dir, on);
 }
 
 static void live_start_up(void) {
@@ -247,11 +256,12 @@ static void live_start_up(void) {
     any_bytes(live.slots, live.length);
     live_all(usbhs_start_up(live.state, live.slots, live.length, live.time, 1, size, count, below(2)));
     for (i = 0; i < 6; i++)
-        live_all(usbhs_allocate(live.state, i < 2 ? USBHS_ISOCHRONOUS : USBHS_BULK + below(2), 256, 1 + below(size), below(3), i < 2 ? i : below(2)));
+        live_all(usbhs_allocate(live.state, i < 2 ? USBHS_ISOCHRONOUS : USBHS_BULK + below(2), 256, 1 + below(size),
+                                below(3), i < 2 ? i : below(2)));
     if (chance(90)) live_all(usbhs_start(live.state, 64));
     for (i = 1; i < 5; i++) {
-        live_all(usbhs_begin_set_enabled(live.state, live.slots, live.length, live.time, 1, i, 0, 1));
-        live_all(usbhs_begin_set_enabled(live.state, live.slots, live.length, live.time, 1, i, 1, 1));
+        live_all(live_enable(i, 0, 1));
+        live_all(live_enable(i, 1, 1));
     }
 }
 
@@ -270,10 +280,12 @@ static void live_calls(int midst) {
         case 3: word = usbhs_begin_write(live.state, live.slots, live.length, e, data, WRITTEN); break;
         case 4: word = usbhs_queue(live.state, live.slots, live.length, e, data, below(32)); break;
         case 5: word = usbhs_open(live.state, live.slots, live.length, e, &stamp); break;
-        case 6: word = usbhs_begin_data_in(live.state, live.slots, live.length, data, below(65), below(2), below(2)); break;
+        case 6:
+            word = usbhs_begin_data_in(live.state, live.slots, live.length, data, below(65), below(2), below(2));
+            break;
         case 7: word = usbhs_begin_data_out(live.state, DATA_OUT, below(2)); break;
         case 8: word = chance(50) ? usbhs_begin_accept(live.state) : usbhs_begin_setup(live.state); break;
-        case 9: word = usbhs_begin_set_enabled(live.state, live.slots, live.length, live.time, 1, e, below(2), below(9) != 0); break;
+        case 9: word = live_enable(e, below(2), below(9) != 0); break;
         case 10: word = usbhs_set_paced(live.state, e, below(2)); break;
         case 11: word = usbhs_begin_advance(live.state, e); break;
         default:
@@ -281,7 +293,7 @@ static void live_calls(int midst) {
             word = usbhs_begin_interrupt(live.state);
         }
         if (i == 0 && midst) {
-            for (e = below(12); e && USBHS_KIND(word) >= USBHS_READ && USBHS_KIND(word) <= USBHS_CALLBACK; e--) word = live_continue(word);
+            for (e = below(12); e && under_way(word); e--) word = live_continue(word);
             return;
         }
         live_all(word);
@@ -306,7 +318,7 @@ static size_t due;
 static void corrupt(uint8_t *bytes, uint32_t length, uint32_t most) {
     uint32_t n = below(most + 1);
     while (n--) {
-        /* half of them in what follows the endpoints' records: registers, allocator, requests, wake-ups, the operation */
+        /* half of them behind the endpoints' records: registers, allocator, requests, wake-ups, the operation */
         uint32_t at = chance(50) ? below(length) : length * 7 / 8 + below(length / 8);
         bytes[at] = chance(50) ? (uint8_t)number() : (uint8_t)(bytes[at] ^ (1u << below(8)));
     }
@@ -316,7 +328,7 @@ static void corrupt(uint8_t *bytes, uint32_t length, uint32_t most) {
 static void any_state(int midst) {
     uint8_t *state = lent[STATE].as;
     const struct snapshot *of = &pool[below(POOL) / 2 * 2 + (unsigned)(chance(85) ? midst : !midst)];
-    if (evolved-- <= 0 || (midst && (USBHS_KIND(last) < USBHS_READ || USBHS_KIND(last) > USBHS_CALLBACK))) {
+    if (evolved-- <= 0 || (midst && !under_way(last))) {
         /* a continue goes on where the last one stopped */
         evolved = midst ? (int)below(24) : chance(10);
         if (chance(6)) any_bytes(state, USBHS_STATE_LEN);
@@ -436,7 +448,7 @@ static void fill(const struct function *f, uint32_t n[5]) {
     case PLAIN:
         if (f->call == f_start && chance(80)) n[0] = 64;
         if (f->call == f_allocate) n[0] = below(4), n[1] = chance(60) ? 256 : n[1], n[2] = below(80), n[4] = below(2);
-        if (f->call == f_continue) n[1] = chance(90) ? (uint32_t)number() & ((1u << (1 + below(16))) - 1) : (uint32_t)number();
+        if (f->call == f_continue) n[1] = (uint32_t)number() >> (chance(90) ? 16 + below(16) : 0);
     }
 }
 
@@ -492,6 +504,7 @@ int main(int count, char **words) {
         evolved = 0;
         all += calls;
     }
-    printf("fuzz: %lu calls, each made twice: no fault, no difference, no byte changed by a refusal that may not\n", all);
+    printf("fuzz: %lu calls, each made twice: no fault, no difference, no byte changed by a refusal that may not\n",
+           all);
     return 0;
 }

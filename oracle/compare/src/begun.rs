@@ -51,8 +51,9 @@ fn begun(entries: &[Entry]) -> Vec<Call> {
     calls
 }
 
-/// The bits that the next continue may bring, where the answer is of the operation under way: a continue may follow another access than it did
-/// in the whole run, and the Rust has no counterpart of a reading with bits above its register's width.
+/// The bits that the next continue may bring, where the answer is of the operation under way: a continue may follow
+/// another access than it did in the whole run, and the Rust has no counterpart of a reading with bits above its
+/// register's width.
 fn width(answer: &Answer) -> Option<u32> {
     match answer {
         Answer::Read { reg, .. } => Some(match reg {

@@ -5,10 +5,10 @@ use oracle::{Answer, Call};
 
 use crate::time;
 
-/// Of each run of a list, which an accepted start-up begins, the entries that are compared: those up to an allocation that was refused for want of
-/// buffers, of which the Rust keeps the number and the buffers that were left, up to an enabling that the port turns down for want of bus time (19),
-/// and before a start of EP0 with another maximum than 64, which the port refuses. Of the run's rest, only what it left in the slots: the next run may
-/// begin with these.
+/// Of each run of a list, which an accepted start-up begins, the entries that are compared: those up to an allocation
+/// that was refused for want of buffers, of which the Rust keeps the number and the buffers that were left, up to an
+/// enabling that the port turns down for want of bus time (19), and before a start of EP0 with another maximum than
+/// 64, which the port refuses. Of the run's rest, only what it left in the slots: the next run may begin with these.
 pub fn within_domain(entries: &[Entry]) -> Vec<Entry> {
     let mut within = true;
     let mut time = time::Time::default();

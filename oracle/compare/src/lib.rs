@@ -42,8 +42,9 @@ fn differs(name: &str, entries: &[Entry], own: &str) -> String {
 }
 
 impl Compared {
-    /// The first entry that the port answers otherwise, an end with its wake-ups in their order. Where the Rust has no such call, the
-    /// table of refusals says by which row the port refuses it; such calls are also made between those of the run.
+    /// The first entry that the port answers otherwise, an end with its wake-ups in their order. Where the Rust has
+    /// no such call, the table of refusals says by which row the port refuses it; such calls are also made between
+    /// those of the run.
     fn calls(&mut self, port: &mut Port, name: &str, entries: &[Entry]) -> Result<(), String> {
         let mut rng = Rng::new(entries.len() as u64);
         let mut table = Table::default();

@@ -1,7 +1,7 @@
-//! compare [FILE..] [--runs N] [--long N] [--seed N] [--length N]: recorded lists, random runs and long ones of the Rust, made on the
-//! port too, call by call. Ends with 1 at the first difference.
-//! compare --arms ..: counts also the arms of the Rust that the runs reach, and what rings and resets came by; ends with 1 if something
-//! is left.
+//! compare [FILE..] [--runs N] [--long N] [--seed N] [--length N]: recorded lists, random runs and long ones of the
+//! Rust, made on the port too, call by call. Ends with 1 at the first difference.
+//! compare --arms ..: counts also the arms of the Rust that the runs reach, and what rings and resets came by; ends
+//! with 1 if something is left.
 //! compare --wide ..: buffers of 1,024 bytes, against the Rust read with 1,024 among its sizes.
 //! compare --begun ..: each random run without the interrupt and its continues.
 
@@ -27,9 +27,9 @@ fn arms(runs: &runs::Runs) -> Result<(), String> {
 fn came_by(compared: &Compared) -> Result<(), String> {
     let s = &compared.seen;
     println!(
-        "{} packets turned away, overruns told {} times; up to {} packets in a stretch of an OUT ring, {} of an IN ring; \
-         {} queues refused with two waiting; {} resets on waiting packets, {} on open ones; {} start-ups in the midst of \
-         {} calls",
+        "{} packets turned away, overruns told {} times; up to {} packets in a stretch of an OUT ring, {} of an IN \
+         ring; {} queues refused with two waiting; {} resets on waiting packets, {} on open ones; {} start-ups in the \
+         midst of {} calls",
         s.turned_away,
         s.overruns_told,
         s.most_out,

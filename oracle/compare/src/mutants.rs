@@ -1,8 +1,10 @@
-//! mutants [--each] [FILE..] [--runs N] [--long N]: whether the comparison would notice. In place of the Rust stands a changed copy: each change of
-//! `mutations.txt`, and the Rust with an arm of `branches.txt` turned (where it is due, the other one is taken). The runs are those of
-//! `compare` with the same arguments; they stop at the first difference. Ends with 1 if a copy is not told from the Rust.
+//! mutants [--each] [FILE..] [--runs N] [--long N]: whether the comparison would notice. In place of the Rust stands
+//! a changed copy: each change of `mutations.txt`, and the Rust with an arm of `branches.txt` turned (where it is
+//! due, the other one is taken). The runs are those of `compare` with the same arguments; they stop at the first
+//! difference. Ends with 1 if a copy is not told from the Rust.
 //!
-//! --each: says also which run noticed each copy. Each copy runs in a process of its own: one that crashes or hangs is noticed too.
+//! --each: says also which run noticed each copy. Each copy runs in a process of its own: one that crashes or hangs
+//! is noticed too.
 
 use std::panic::{catch_unwind, AssertUnwindSafe};
 use std::process::{Command, ExitCode};
@@ -143,8 +145,8 @@ fn main() -> ExitCode {
     let dead = traced::ARMS.iter().filter(|a| note(a, "(no effect: ").is_some()).count();
     let turned = lines.iter().filter(|l| l.1.starts_with("turned: ")).count();
     println!(
-        "{} changes and {turned} arms turned: {missed} not noticed ({eight} of them, which request Eight replaced, are held \
-         against the sample; {by} arms stand for a change, {dead} have no effect)",
+        "{} changes and {turned} arms turned: {missed} not noticed ({eight} of them, which request Eight replaced, are \
+         held against the sample; {by} arms stand for a change, {dead} have no effect)",
         lines.len() - turned
     );
     ExitCode::from((missed + unknown.len() > 0) as u8)

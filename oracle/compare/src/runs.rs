@@ -22,7 +22,8 @@ pub struct Runs {
 /// The calls of a long run.
 const LONG: u32 = 60_000;
 
-/// What of the arguments is asked for: FILE.. [--seed N] [--runs N] [--length N] [--long N] [--wide] [--begun] [--arms].
+/// What of the arguments is asked for: FILE.. [--seed N] [--runs N] [--length N] [--long N] [--wide] [--begun]
+/// [--arms].
 pub fn asked(args: impl Iterator<Item = String>) -> Runs {
     let mut runs =
         Runs { files: vec![], seed: 1, short: u64::MAX, length: 300, long: 0, wide: false, begun: false, arms: false };
@@ -73,8 +74,8 @@ impl Runs {
         }
     }
 
-    /// Makes each run on the Rust and hands it on, with its name, up to the first error: the recorded ones, some short ones, the long
-    /// ones, the other short ones.
+    /// Makes each run on the Rust and hands it on, with its name, up to the first error: the recorded ones, some
+    /// short ones, the long ones, the other short ones.
     pub fn each(
         &self,
         rust: &mut dyn Driver,

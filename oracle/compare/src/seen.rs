@@ -1,5 +1,5 @@
-//! What the runs came by: rings that go round, overruns, resets on packets, start-ups in the midst of operations. Counted from
-//! the calls and answers alone.
+//! What the runs came by: rings that go round, overruns, resets on packets, start-ups in the midst of operations.
+//! Counted from the calls and answers alone.
 
 use std::collections::BTreeSet;
 
@@ -132,6 +132,7 @@ impl Seen {
     }
 }
 
-/// The calls that hand out an access before their end: start-up, allocation, EP0's start, the interrupt, the bus's poll and enable,
-/// enabling, stalls set and asked, advance, microframe, read, write, data_out, data_in, the two accepts, an accept's poll, reject.
+/// The calls that hand out an access before their end: start-up, allocation, EP0's start, the interrupt, the bus's
+/// poll and enable, enabling, stalls set and asked, advance, microframe, read, write, data_out, data_in, the two
+/// accepts, an accept's poll, reject.
 const MIDST: usize = 19;

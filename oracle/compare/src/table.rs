@@ -1,5 +1,6 @@
-//! Document 01's table of refusals, as far as the Rust has no such call: rows 1 to 6, 15 and 16, the 10 of a poll of another
-//! length, and row 22 of document 02. Written from the papers, over calls and answers alone; it knows nothing of the port.
+//! Document 01's table of refusals, as far as the Rust has no such call: rows 1 to 6, 15 and 16, the 10 of a poll of
+//! another length, and row 22 of document 02. Written from the papers, over calls and answers alone; it knows nothing
+//! of the port.
 
 use oracle::text::Entry;
 use oracle::{Answer, Call, Dir};
@@ -9,8 +10,8 @@ fn good_buffer(size: u32, count: u32) -> bool {
     [8, 16, 32, 64, 512, 1024].contains(&size) && count > 0 && u64::from(size) * u64::from(count) <= 65_536
 }
 
-/// The bits of a reading: "int_fg 0 to 5, int_st 0 to 6, mis_st 0 and 1; rx_len, frame_no: 16 bits; control word, 8 bits";
-/// ctrl has six fields.
+/// The bits of a reading: "int_fg 0 to 5, int_st 0 to 6, mis_st 0 and 1; rx_len, frame_no: 16 bits; control word, 8
+/// bits"; ctrl has six fields.
 fn width(register: u8) -> u32 {
     match register {
         0 | 5 => 6,
@@ -39,8 +40,8 @@ enum Control {
     Accept,
 }
 
-/// What a call is lent beside its numbers: the slot buffer's length, and the length of the slice or the data that a poll
-/// brings.
+/// What a call is lent beside its numbers: the slot buffer's length, and the length of the slice or the data that a
+/// poll brings.
 #[derive(Clone, Copy)]
 pub struct Lent {
     pub slots: usize,
@@ -147,8 +148,8 @@ impl Table {
         }
     }
 
-    /// 4: "allocation or EP0's start after EP0's start; before it, every call but these two, start-up and continue; before
-    /// the first start-up, these two as well".
+    /// 4: "allocation or EP0's start after EP0's start; before it, every call but these two, start-up and continue;
+    /// before the first start-up, these two as well".
     fn at_its_stage(&self, call: &Call) -> bool {
         match call {
             Call::StartUp { .. } | Call::Continue(_) => true,
@@ -157,8 +158,8 @@ impl Table {
         }
     }
 
-    /// 5: "0 or above 15, or not allocated, for read, open and close as OUT, for write and queue as IN (pacing: only the
-    /// first two; stall takes 0)".
+    /// 5: "0 or above 15, or not allocated, for read, open and close as OUT, for write and queue as IN (pacing: only
+    /// the first two; stall takes 0)".
     fn endpoint_of(&self, call: &Call) -> bool {
         let has = |ep: u8, dir: Dir| {
             let of = if dir == Dir::In { self.ins } else { self.outs };
