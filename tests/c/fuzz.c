@@ -1,12 +1,14 @@
-/* fuzz [CALLS [NAME..]]: CALLS (a million) calls of every exported function, or of those named, on corrupted states.
+/* fuzz [CALLS [NAME..]]: CALLS (a million) calls of every exported function, or of those named, on random state bytes,
+ * and as many on corrupted states.
  *
  * Each call is made twice, at different addresses: all that it is lent ends at an unmapped page, then begins behind
  * one. The two must answer the same and leave the same bytes; nothing outside may be touched (it would end the
  * program); what is lent to be read, and all that a refused call is lent, must stay as it was. Only a poll's refusals
  * 9 and 10 may change the state.
  *
- * A state is one of a run's (start-up, allocations, all calls with random readings, stopped anywhere) with some bytes
- * changed, or what the last call left with some bytes changed, or random bytes throughout. */
+ * Random state bytes are random throughout; for every second call a run's registers and allocator stand among them, so
+ * that rows 1 and 4 let it pass, and for every fourth its suspended operation, for a continue. A corrupted state is one of a run's (start-up, allocations, all calls with random
+ * readings, stopped anywhere), or what the last call left, with some bytes changed. */
 #define _DEFAULT_SOURCE
 #include <stdio.h>
 #include <stdlib.h>
@@ -324,15 +326,32 @@ static void corrupt(uint8_t *bytes, uint32_t length, uint32_t most) {
     }
 }
 
-/* The state, the slots and the bus time. */
-static void any_state(int midst) {
+/* Where the registers and the allocator begin, and the suspended operation. */
+#define REGISTERS 2496
+#define SAVED 2817
+
+/* Random bytes throughout. */
+static void wild_state(void) {
+    const struct snapshot *of = &pool[below(POOL)];
+    int known = chance(50);
+    any_bytes(lent[STATE].as, USBHS_STATE_LEN);
+    if (known) memcpy(lent[STATE].as + REGISTERS, of->state + REGISTERS, 64);
+    if (known && chance(50)) memcpy(lent[STATE].as + SAVED, of->state + SAVED, USBHS_STATE_LEN - SAVED);
+    any_bytes(lent[TIME].as, USBHS_TIME_LEN * 2);
+    lend(STATE, USBHS_STATE_LEN);
+    lend(TIME, USBHS_TIME_LEN * 2);
+    lend(SLOTS, known ? of->length : below(100));
+    if (known) memcpy(lent[SLOTS].as, of->slots, of->length);
+}
+
+/* A run's, or what the last call left, some bytes changed. */
+static void corrupted_state(int midst) {
     uint8_t *state = lent[STATE].as;
     const struct snapshot *of = &pool[below(POOL) / 2 * 2 + (unsigned)(chance(85) ? midst : !midst)];
     if (evolved-- <= 0 || (midst && !under_way(last))) {
         /* a continue goes on where the last one stopped */
         evolved = midst ? (int)below(24) : chance(10);
-        if (chance(6)) any_bytes(state, USBHS_STATE_LEN);
-        else if (chance(2)) memset(state, 0, USBHS_STATE_LEN);
+        if (chance(2)) memset(state, 0, USBHS_STATE_LEN);
         else memcpy(state, of->state, USBHS_STATE_LEN);
         lend(STATE, USBHS_STATE_LEN);
         due = of->length;
@@ -340,8 +359,6 @@ static void any_state(int midst) {
         if (chance(4)) any_bytes(lent[TIME].as, USBHS_TIME_LEN * 2);
         else memcpy(lent[TIME].as, of->time, USBHS_TIME_LEN * 2);
         lend(TIME, USBHS_TIME_LEN * 2);
-        /* random bytes with a run's geometry and registers: its rows 1 and 4 let calls pass */
-        if (chance(50)) memcpy(state + 2496, of->state + 2496, 64);
     }
     corrupt(state, USBHS_STATE_LEN, chance(20) ? 40 : 2);
     lend(SLOTS, chance(97) ? due : below(MOST));
@@ -411,12 +428,15 @@ static void any_stream(void) {
     lend(ROOM, chance(50) ? 1024 : below(200));
 }
 
-static void fill(const struct function *f, uint32_t n[5]) {
+static void fill(const struct function *f, int wild, uint32_t n[5]) {
     static const uint32_t sizes[] = {8, 16, 32, 64, 512, 1024, 64, 64};
     int i;
     n[0] = endpoint();
     for (i = 1; i < 5; i++) n[i] = chance(70) ? below(4) : chance(60) ? below(300) : (uint32_t)number();
-    if (f->uses & (SS | U(TIME))) any_state(f->call == f_continue);
+    if (f->uses & (SS | U(TIME))) {
+        if (wild) wild_state();
+        else corrupted_state(f->call == f_continue);
+    }
     if (f->first) any_bytes(lent[FIRST].as, f->first), lend(FIRST, f->first);
     any_bytes(lent[SECOND].as, 8);
     lend(SECOND, 4), lend(THIRD, 4);
@@ -456,11 +476,11 @@ static void fill(const struct function *f, uint32_t n[5]) {
 
 static unsigned long refusals, rows[256];
 
-static void once(const struct function *f) {
+static void once(const struct function *f, int wild) {
     uint32_t n[5];
     uint64_t word[2];
     int p, k, refused, ends;
-    fill(f, n);
+    fill(f, wild, n);
     for (k = 0; k < 2; k++) {
         for (p = 0; p < PIECES; p++)
             if (f->uses & U(p)) memcpy(lent[p].at[k], lent[p].as, L(p));
@@ -484,25 +504,26 @@ static void once(const struct function *f) {
 int main(int count, char **words) {
     unsigned long calls = count > 1 ? strtoul(words[1], NULL, 10) : 1000000, i, all = 0;
     size_t f;
-    int p, k, w, wanted;
+    int p, k, w, wanted, wild;
     for (p = 0; p < PIECES; p++)
         for (k = 0; k < 2; k++) lent[p].begin[k] = guarded();
     fill_pool();
     for (f = 0; f < FUNCTIONS; f++) {
         for (wanted = count < 3, w = 2; w < count; w++) wanted |= !strcmp(words[w], functions[f].name);
         if (!wanted) continue;
-        refusals = 0;
-        /* before the calls: if they end the program, it is seen in which */
-        printf("%-32s", functions[f].name);
-        fflush(stdout);
-        for (i = 0; i < calls; i++) once(&functions[f]);
-        printf("%9lu calls, %9lu refused, by rows", calls, refusals);
-        for (i = 0; i < 256; i++)
-            if (rows[i]) printf(" %lu: %lu", i, rows[i]);
-        printf("\n");
-        memset(rows, 0, sizeof rows);
-        evolved = 0;
-        all += calls;
+        for (wild = (functions[f].uses & U(STATE)) != 0; wild >= 0; wild--) {
+            refusals = evolved = 0;
+            memset(rows, 0, sizeof rows);
+            /* before the calls: if they end the program, it is seen in which */
+            printf("%s%s: ", functions[f].name, wild ? ", random bytes" : "");
+            fflush(stdout);
+            for (i = 0; i < calls; i++) once(&functions[f], wild);
+            printf("%lu calls, %lu refused", calls, refusals);
+            for (i = 0; i < 256; i++)
+                if (rows[i]) printf(", %lu by row %lu", rows[i], i);
+            printf("\n");
+            all += calls;
+        }
     }
     printf("fuzz: %lu calls, each made twice: no fault, no difference, no byte changed by a refusal that may not\n",
            all);
