@@ -7,8 +7,9 @@
  * 9 and 10 may change the state.
  *
  * Random state bytes are random throughout; for every second call a run's registers and allocator stand among them, so
- * that rows 1 and 4 let it pass, and for every fourth its suspended operation, for a continue. A corrupted state is one of a run's (start-up, allocations, all calls with random
- * readings, stopped anywhere), or what the last call left, with some bytes changed. */
+ * that rows 1 and 4 let it pass, and for every fourth its suspended operation, for a continue. A corrupted state is one
+ * of a run's (start-up, allocations, all calls with random readings, stopped anywhere), or what the last call left, with
+ * some bytes changed. */
 #define _DEFAULT_SOURCE
 #include <stdio.h>
 #include <stdlib.h>
