@@ -33,12 +33,27 @@ static uint64_t number(void) {
 static uint32_t below(uint32_t n) { return (uint32_t)(((number() >> 32) * n) >> 32); }
 static int chance(uint32_t percent) { return below(100) < percent; }
 
-static void any_bytes(uint8_t *to, size_t n) {
+static void few_bytes(uint8_t *to, size_t n) {
     for (; n >= 8; n -= 8, to += 8) {
         uint64_t x = number();
         memcpy(to, &x, 8);
     }
     while (n--) *to++ = (uint8_t)number();
+}
+
+/* Many bytes are a part of a noise that changes slowly. */
+#define NOISE 65536u
+static uint8_t noise[NOISE + 24576u];
+
+static void any_bytes(uint8_t *to, size_t n) {
+    uint32_t from = below(NOISE);
+    if (n < 64) {
+        few_bytes(to, n);
+        return;
+    }
+    if (!noise[0] && !noise[1] && !noise[2]) few_bytes(noise, sizeof noise);
+    few_bytes(noise + from, 32);
+    memcpy(to, noise + below(NOISE), n);
 }
 
 /* ---- what is lent */
@@ -251,8 +266,8 @@ static uint64_t live_enable(uint32_t e, uint32_t dir, uint32_t on) {
 }
 
 static void live_start_up(void) {
-    static const uint32_t sizes[] = {64, 64, 64, 64, 64, 64, 512, 1024};
-    uint32_t size = sizes[below(8)], count = size == 64 ? 24 + below(24) : 22 + below(2), i;
+    static const uint32_t sizes[] = {64, 64, 64, 64, 64, 64, 64, 64, 64, 64, 512, 1024};
+    uint32_t size = sizes[below(12)], count = size == 64 ? 24 + below(24) : 22 + below(2), i;
     live.length = size * count;
     memset(receive, 0, sizeof receive);
     memset(live.state, 0, sizeof live.state);
@@ -332,21 +347,21 @@ static void corrupt(uint8_t *bytes, uint32_t length, uint32_t most) {
 #define SAVED 2817
 
 /* Random bytes throughout. */
-static void wild_state(void) {
+static void wild_state(unsigned uses) {
     const struct snapshot *of = &pool[below(POOL)];
     int known = chance(50);
     any_bytes(lent[STATE].as, USBHS_STATE_LEN);
     if (known) memcpy(lent[STATE].as + REGISTERS, of->state + REGISTERS, 64);
     if (known && chance(50)) memcpy(lent[STATE].as + SAVED, of->state + SAVED, USBHS_STATE_LEN - SAVED);
-    any_bytes(lent[TIME].as, USBHS_TIME_LEN * 2);
+    if (uses & U(TIME)) any_bytes(lent[TIME].as, USBHS_TIME_LEN * 2);
     lend(STATE, USBHS_STATE_LEN);
     lend(TIME, USBHS_TIME_LEN * 2);
     lend(SLOTS, known ? of->length : below(100));
-    if (known) memcpy(lent[SLOTS].as, of->slots, of->length);
+    if (known && uses & U(SLOTS)) memcpy(lent[SLOTS].as, of->slots, of->length);
 }
 
 /* A run's, or what the last call left, some bytes changed. */
-static void corrupted_state(int midst) {
+static void corrupted_state(unsigned uses, int midst) {
     uint8_t *state = lent[STATE].as;
     const struct snapshot *of = &pool[below(POOL) / 2 * 2 + (unsigned)(chance(85) ? midst : !midst)];
     if (evolved-- <= 0 || (midst && !under_way(last))) {
@@ -356,7 +371,7 @@ static void corrupted_state(int midst) {
         else memcpy(state, of->state, USBHS_STATE_LEN);
         lend(STATE, USBHS_STATE_LEN);
         due = of->length;
-        memcpy(lent[SLOTS].as, of->slots, of->length);
+        if (uses & U(SLOTS)) memcpy(lent[SLOTS].as, of->slots, of->length);
         if (chance(4)) any_bytes(lent[TIME].as, USBHS_TIME_LEN * 2);
         else memcpy(lent[TIME].as, of->time, USBHS_TIME_LEN * 2);
         lend(TIME, USBHS_TIME_LEN * 2);
@@ -435,8 +450,8 @@ static void fill(const struct function *f, int wild, uint32_t n[5]) {
     n[0] = endpoint();
     for (i = 1; i < 5; i++) n[i] = chance(70) ? below(4) : chance(60) ? below(300) : (uint32_t)number();
     if (f->uses & (SS | U(TIME))) {
-        if (wild) wild_state();
-        else corrupted_state(f->call == f_continue);
+        if (wild) wild_state(f->uses);
+        else corrupted_state(f->uses, f->call == f_continue);
     }
     if (f->first) any_bytes(lent[FIRST].as, f->first), lend(FIRST, f->first);
     any_bytes(lent[SECOND].as, 8);
