@@ -5,13 +5,14 @@
 jobs=$(nproc 2>/dev/null || echo 2)
 if [ "${RT_JOBS:-$jobs}" -lt "$jobs" ]; then jobs=$RT_JOBS; fi
 
-# new_tree DIR: the crates with what is proved of them, which is shared: a library that is to be proved again there must
-# first be removed (forget)
+# new_tree DIR: the crates with what is proved of them. The libraries are links to this tree's: one that is to be proved
+# again must first be forgotten there (forget)
 new_tree() {
-    mkdir -p "$1/target"
+    local lib
+    mkdir -p "$1/target/rlib"
     cp -R crates crates.txt "$1"
     cp -R target/stamp "$1/target"
-    cp -Rl target/rlib "$1/target" 2>/dev/null || cp -R target/rlib "$1/target"
+    for lib in target/rlib/*; do ln -s "$PWD/$lib" "$1/$lib"; done
 }
 
 # deps_of CRATE: the crates of the repository that it uses
