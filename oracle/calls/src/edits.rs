@@ -99,3 +99,12 @@ pub fn arms(edits: &mut [Edit]) -> Vec<String> {
     }
     names
 }
+
+/// Numbers the changes: `MUT` becomes the question whether this one is made. Answers their names.
+pub fn mutants(edits: &mut [Edit]) -> Vec<String> {
+    for (n, e) in edits.iter_mut().enumerate() {
+        assert!(e.new.contains("MUT"), "line {}: {} has no MUT", e.line, e.title);
+        e.new = e.new.replace("MUT", &format!("seam::mutant({n})"));
+    }
+    edits.iter().map(|e| e.title.clone()).collect()
+}

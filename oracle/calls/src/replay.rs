@@ -4,14 +4,14 @@ use crate::text::{self, Entry, Line, Printer};
 use crate::{Answer, Call, Driver};
 
 /// A driver with a copy of its buffer, to see what each call changes.
-pub struct Session<'a> {
-    pub driver: &'a mut dyn Driver,
+pub struct Session<'a, D: Driver + ?Sized = dyn Driver + 'a> {
+    pub driver: &'a mut D,
     before: Vec<u8>,
 }
 
-impl<'a> Session<'a> {
+impl<'a, D: Driver + ?Sized> Session<'a, D> {
     /// From before the first start-up.
-    pub fn new(driver: &'a mut dyn Driver) -> Self {
+    pub fn new(driver: &'a mut D) -> Self {
         driver.fresh();
         Self { driver, before: vec![] }
     }

@@ -3,6 +3,9 @@
 //! Each is made over and over on a state of which just the bytes that the call changed are put back after it. What putting back takes alone stands
 //! beside it: nothing is subtracted, since the difference of two long times would be lost in their scatter.
 
+// links the port
+use compare as _;
+
 use std::hint::black_box;
 use std::time::Instant;
 

@@ -2,6 +2,9 @@
 //! board's endpoints one by one, in the order that the request says, up to the first refusal. The port must hand out all that the Rust hands out, or
 //! refuse as the Rust does and change nothing; its preview (request Four) must say the same before. Ends with 1 at the first difference.
 
+// links the port
+use compare as _;
+
 use oracle::number;
 use oracle::{Answer, Call, Dir, Driver, Kind, Rng};
 

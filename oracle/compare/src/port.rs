@@ -56,7 +56,7 @@ exported! {
 }
 
 /// At least as long as the port's state.
-const STATE: usize = 65_536;
+const STATE: usize = 4096;
 
 /// The length of the record of bus time, and this driver's number in it.
 const TIME: usize = 128;
@@ -77,6 +77,12 @@ pub struct Port {
     /// The record of bus time, and the time in use after each call.
     time: [u16; TIME],
     pub times: Vec<u32>,
+}
+
+impl Default for Port {
+    fn default() -> Self {
+        Self::new()
+    }
 }
 
 impl Port {
@@ -152,19 +158,45 @@ impl Driver for Port {
     }
 }
 
+/// The longest slot buffer that a call may be lent in place of its own, and what such a buffer is filled with.
+pub const ANY: usize = 70_000;
+const FILLED: u8 = 0xA7;
+
+/// What came of a misplaced call.
+pub struct Misplaced {
+    pub answer: Answer,
+    /// It left the state, the bus time and every lent byte as they were.
+    pub kept: bool,
+    /// What the same call answers next, if it is a poll that brings its begin's length.
+    pub then: Answer,
+}
+
 impl Port {
-    fn made(&mut self, call: &Call) -> Answer {
-        if let Call::StartUp { size, count, .. } = *call {
-            if self.geometry != (size, count) {
-                self.geometry = (size, count);
-                self.slots = vec![0; (size * count) as usize];
-            }
-        }
+    /// A call that is to be refused, with a slot buffer and, if it is a poll, a slice of these lengths. What it did is undone.
+    pub fn misplaced(&mut self, call: &Call, slots: usize, poll: usize, due: usize) -> Misplaced {
+        let (state, time, before) = (self.state.clone(), self.time, self.slots.clone());
+        let own = slots == self.slots.len();
+        let mut other = if own { vec![] } else { vec![FILLED; slots] };
+        let p = if own { self.slots.as_mut_ptr() } else { other.as_mut_ptr() };
+        let mut slice = vec![FILLED; poll];
+        let mut stamp = stamps::NONE;
+        let a = self.lent(call, p, slots, &mut slice, &mut stamp);
+        let kept = self.state == state
+            && self.time == time
+            && self.slots == before
+            && stamp == stamps::NONE
+            && other.iter().chain(&slice).all(|&b| b == FILLED);
+        let then = self.lent(call, p, slots, &mut vec![FILLED; due], &mut stamp);
+        (self.state, self.time, self.slots) = (state, time, before);
+        Misplaced { answer: decode(a, none), kept, then: decode(then, none) }
+    }
+
+    /// The call, with a slot buffer of `n` bytes at `p`, and to a poll `slice`, which is the data of a poll of a write.
+    fn lent(&mut self, call: &Call, p: *mut u8, n: usize, slice: &mut [u8], stamp: &mut u16) -> u64 {
         let s = self.state.as_mut_ptr();
-        let (p, n) = (self.slots.as_mut_ptr(), self.slots.len());
         let t = self.time.as_mut_ptr();
         // SAFETY: the exported calls are total; every slice is given with its own length
-        let a = unsafe {
+        unsafe {
             match *call {
                 Call::StartUp { size, count, callback } => {
                     usbhs_start_up(s, p, n, t, DRIVER, size, count, callback as u32)
@@ -175,15 +207,7 @@ impl Port {
                     usbhs_allocate(s, kind as u32, address, maximum as u32, interval as u32, dir(d))
                 }
                 Call::Start(maximum) => usbhs_start(s, maximum as u32),
-                Call::Interrupt => {
-                    let a = usbhs_begin_interrupt(s);
-                    if accepted(a) {
-                        self.interrupts = self.interrupts.wrapping_add(1);
-                        usbhs_continue(s, p, n, t, DRIVER, stamps::frame(self.interrupts).into())
-                    } else {
-                        a
-                    }
-                }
+                Call::Interrupt => usbhs_begin_interrupt(s),
                 Call::BusPoll => usbhs_begin_bus_poll(s),
                 Call::BusEnable => usbhs_begin_bus_enable(s),
                 Call::BusDisable => usbhs_begin_bus_disable(s),
@@ -195,47 +219,19 @@ impl Port {
                 Call::SetPaced { ep, on } => usbhs_set_paced(s, ep as u32, on as u32),
                 Call::Advance(ep) => usbhs_begin_advance(s, ep as u32),
                 Call::Microframe => usbhs_begin_microframe(s),
-                Call::Read { ep, length } => {
-                    let a = usbhs_begin_read(s, ep as u32, length);
-                    if accepted(a) {
-                        self.read[ep as usize & 15] = length as usize;
-                    }
-                    a
-                }
-                Call::PollRead(ep) => {
-                    let mut slice = vec![0; self.read[ep as usize & 15]];
-                    let a = usbhs_poll_read(s, p, n, ep as u32, slice.as_mut_ptr(), slice.len());
-                    return received(a, &slice);
-                }
-                Call::Write { ep, ref data } => {
-                    let a = usbhs_begin_write(s, p, n, ep as u32, data.as_ptr(), data.len());
-                    if accepted(a) {
-                        self.write[ep as usize & 15] = data.clone();
-                    }
-                    a
-                }
-                Call::PollWrite(ep) => {
-                    let data = &self.write[ep as usize & 15];
-                    usbhs_poll_write(s, p, n, ep as u32, data.as_ptr(), data.len())
-                }
+                Call::Read { ep, length } => usbhs_begin_read(s, ep as u32, length),
+                Call::PollRead(ep) => usbhs_poll_read(s, p, n, ep as u32, slice.as_mut_ptr(), slice.len()),
+                Call::Write { ep, ref data } => usbhs_begin_write(s, p, n, ep as u32, data.as_ptr(), data.len()),
+                Call::PollWrite(ep) => usbhs_poll_write(s, p, n, ep as u32, slice.as_ptr(), slice.len()),
                 Call::Setup => usbhs_begin_setup(s),
                 Call::PollSetup => {
-                    let mut packet = [0; 8];
+                    let mut packet = [FILLED; 8];
                     let a = usbhs_poll_setup(s, packet.as_mut_ptr());
-                    return received(a, &packet);
-                }
-                Call::DataOut { length, first } => {
-                    let a = usbhs_begin_data_out(s, length, first as u32);
-                    if accepted(a) {
-                        self.data_out = length as usize;
-                    }
+                    slice.iter_mut().zip(packet).for_each(|(to, b)| *to = b);
                     a
                 }
-                Call::PollDataOut => {
-                    let mut slice = vec![0; self.data_out];
-                    let a = usbhs_poll_data_out(s, p, n, slice.as_mut_ptr(), slice.len());
-                    return received(a, &slice);
-                }
+                Call::DataOut { length, first } => usbhs_begin_data_out(s, length, first as u32),
+                Call::PollDataOut => usbhs_poll_data_out(s, p, n, slice.as_mut_ptr(), slice.len()),
                 Call::DataIn { ref data, first, last } => {
                     usbhs_begin_data_in(s, p, n, data.as_ptr(), data.len(), first as u32, last as u32)
                 }
@@ -244,20 +240,59 @@ impl Port {
                 Call::AcceptSetAddress(address) => usbhs_begin_accept_set_address(s, address as u32),
                 Call::PollAccept => usbhs_poll_accept(s),
                 Call::Reject => usbhs_begin_reject(s),
-                Call::Open(ep) => {
-                    let mut stamp = stamps::NONE;
-                    let a = usbhs_open(s, p, n, ep as u32, &mut stamp);
-                    self.stamps.push(stamp);
-                    a
-                }
+                Call::Open(ep) => usbhs_open(s, p, n, ep as u32, stamp),
                 Call::Close(ep) => usbhs_close(s, ep as u32),
                 Call::Queue { ep, ref data } => usbhs_queue(s, p, n, ep as u32, data.as_ptr(), data.len()),
-                Call::Pending(ep) => return Answer::Number(usbhs_pending(s, ep as u32)),
-                Call::Overruns(ep) => return Answer::Number(usbhs_overruns(s, ep as u32)),
-                Call::Enabled { ep, dir: d } => return Answer::Number(usbhs_enabled(s, ep as u32, dir(d))),
+                Call::Pending(ep) => usbhs_pending(s, ep as u32).into(),
+                Call::Overruns(ep) => usbhs_overruns(s, ep as u32).into(),
+                Call::Enabled { ep, dir: d } => usbhs_enabled(s, ep as u32, dir(d)).into(),
                 Call::Store { .. } | Call::Fill(_) => unreachable!(),
             }
+        }
+    }
+
+    /// What the call's poll brings: its begin's length, of a write its data.
+    fn slice(&self, call: &Call) -> Vec<u8> {
+        match *call {
+            Call::PollRead(ep) => vec![0; self.read[ep as usize & 15]],
+            Call::PollWrite(ep) => self.write[ep as usize & 15].clone(),
+            Call::PollDataOut => vec![0; self.data_out],
+            Call::PollSetup => vec![0; 8],
+            _ => vec![],
+        }
+    }
+
+    fn made(&mut self, call: &Call) -> Answer {
+        // another size or count brings another buffer
+        let before = match *call {
+            Call::StartUp { size, count, .. } if self.geometry != (size, count) => {
+                let slots = std::mem::replace(&mut self.slots, vec![0; (size * count) as usize]);
+                Some((std::mem::replace(&mut self.geometry, (size, count)), slots))
+            }
+            _ => None,
         };
+        let (p, n) = (self.slots.as_mut_ptr(), self.slots.len());
+        let mut slice = self.slice(call);
+        let mut stamp = stamps::NONE;
+        let a = self.lent(call, p, n, &mut slice, &mut stamp);
+        if let (Some(before), false) = (before, accepted(a)) {
+            (self.geometry, self.slots) = before;
+        }
+        match *call {
+            Call::Interrupt if accepted(a) => {
+                self.interrupts = self.interrupts.wrapping_add(1);
+                let frame = stamps::frame(self.interrupts).into();
+                let a = self.lent(&Call::Continue(frame), p, n, &mut [], &mut stamp);
+                return decode(a, none);
+            }
+            Call::Read { ep, length } if accepted(a) => self.read[ep as usize & 15] = length as usize,
+            Call::Write { ep, ref data } if accepted(a) => self.write[ep as usize & 15] = data.clone(),
+            Call::DataOut { length, .. } if accepted(a) => self.data_out = length as usize,
+            Call::PollRead(_) | Call::PollSetup | Call::PollDataOut => return received(a, &slice),
+            Call::Open(_) => self.stamps.push(stamp),
+            Call::Pending(_) | Call::Overruns(_) | Call::Enabled { .. } => return Answer::Number(a as u32),
+            _ => {}
+        }
         decode(a, |count| woken(self.state.as_mut_ptr(), count))
     }
 }

@@ -4,6 +4,9 @@
 //! the resumption of its coroutine. Beside it the Rust in one go, where an access is a load or a store in the midst of its text.
 //! `steps OPERATION (port|stepped|whole) N` makes the operation N times and prints nothing: for counting instructions.
 
+// links the port
+use compare as _;
+
 use std::hint::black_box;
 use std::time::Instant;
 

@@ -41,8 +41,8 @@ impl Run<'_> {
             3 => self.read_rx_len(),
             4 => self.read_frame_no(),
             5 => self.rng.below(64),
-            17 => self.read_word(self.rx_ctrl[ep]),
-            _ => self.read_word(self.tx_ctrl[ep]),
+            17 => self.read_word(Dir::Out, ep),
+            _ => self.read_word(Dir::In, ep),
         }
     }
 
@@ -109,22 +109,18 @@ impl Run<'_> {
         }
     }
 
-    pub(super) fn read_word(&mut self, word: u32) -> u32 {
+    /// The control word of an endpoint; the chip may have flipped its toggle.
+    pub(super) fn read_word(&mut self, dir: Dir, ep: usize) -> u32 {
         if self.rng.chance(4) {
             return self.rng.below(256);
         }
-        if self.plan.moved && self.rng.chance(70) {
+        let moves = self.plan.moved && self.rng.chance(70);
+        let word = if dir == Dir::In { &mut self.tx_ctrl[ep] } else { &mut self.rx_ctrl[ep] };
+        if moves {
             self.plan.moved = false;
-            let flipped = word ^ 4;
-            for w in self.rx_ctrl.iter_mut().chain(&mut self.tx_ctrl) {
-                if *w == word {
-                    *w = flipped;
-                    break;
-                }
-            }
-            return flipped;
+            *word ^= 4;
         }
-        word
+        *word
     }
 
     pub(super) fn packet(&mut self, n: usize) -> Vec<u8> {

@@ -45,8 +45,10 @@ impl Run<'_> {
     }
 
     pub(super) fn question(&mut self) {
-        let ep = self.rng.below(17) as u8;
-        let dir = self.rng.pick(&[Dir::Out, Dir::In]);
+        let (mut ep, mut dir) = (self.rng.below(17) as u8, self.rng.pick(&[Dir::Out, Dir::In]));
+        if let (Some(one), true) = (self.some_endpoint(), self.rng.chance(80)) {
+            (ep, dir) = one;
+        }
         match self.rng.below(3) {
             0 => self.call(Call::Pending(ep)),
             1 => self.call(Call::Overruns(ep)),
@@ -112,13 +114,14 @@ impl Run<'_> {
 
     pub(super) fn bus(&mut self) {
         self.plan = Plan::default();
-        match self.rng.below(10) {
+        match self.rng.below(12) {
             0 => {
                 self.operate(Call::BusEnable);
             }
             1 => {
                 self.operate(Call::BusDisable);
             }
+            2..=4 => self.reset_on_packets(),
             _ => {
                 self.plan.flags = self.rng.pick(&[0, 2, 4, 4, 6, 32, 1, 5]);
                 let reset = self.plan.flags & 1 != 0;
@@ -127,18 +130,56 @@ impl Run<'_> {
                     self.status = None;
                 }
                 self.operate(Call::BusPoll);
-                if reset && self.rng.chance(85) {
+                if reset && (self.shape.long || self.rng.chance(85)) {
                     self.enable_most();
                 }
             }
         }
     }
 
+    /// A bus reset, or endpoints disabled, while packets wait and are open; then the questions and what the reset left.
+    fn reset_on_packets(&mut self) {
+        let (outs, ins) = (self.numbers(Dir::Out, true), self.numbers(Dir::In, true));
+        for &ep in &outs {
+            if self.rng.chance(70) {
+                self.call(Call::Open(ep));
+            }
+        }
+        for &ep in &ins {
+            for _ in 0..self.rng.below(4) {
+                let data = self.packet(5);
+                self.call(Call::Queue { ep, data });
+            }
+        }
+        if self.rng.chance(70) {
+            self.plan.flags = 1;
+            self.operate(Call::BusPoll);
+            self.operate(Call::BusPoll);
+        } else if let Some((ep, dir)) = self.some_endpoint() {
+            let on = self.rng.chance(40);
+            self.operate(Call::SetEnabled { ep, dir, on });
+        }
+        for &ep in &outs {
+            self.call(Call::Overruns(ep));
+            let calls = [Call::Close(ep), Call::Open(ep), Call::Close(ep)];
+            for call in calls {
+                if self.rng.chance(60) {
+                    self.call(call);
+                }
+            }
+        }
+        for &ep in &ins {
+            self.call(Call::Pending(ep));
+        }
+        self.poll_all();
+        self.enable_most();
+    }
+
     pub(super) fn enable_most(&mut self) {
         for ep in 1..16 {
             for dir in [Dir::Out, Dir::In] {
                 let of = if dir == Dir::In { &self.ins } else { &self.outs };
-                if of[ep].is_some() && self.rng.chance(90) {
+                if of[ep].is_some() && (self.shape.long || self.rng.chance(90)) {
                     self.operate(Call::SetEnabled { ep: ep as u8, dir, on: true });
                 }
             }
@@ -154,7 +195,7 @@ impl Run<'_> {
         let Some((ep, dir)) = self.some_endpoint() else { return };
         let on = self.rng.chance(50);
         self.operate(Call::SetEnabled { ep, dir, on });
-        if !on && self.rng.chance(70) {
+        if !on && (self.shape.long || self.rng.chance(70)) {
             self.poll_all();
             if self.rng.chance(50) {
                 self.request();
@@ -173,6 +214,10 @@ impl Run<'_> {
             1 => self.operate(Call::SetStalled { ep, dir, on: true }),
             _ => self.operate(Call::SetStalled { ep, dir, on: false }),
         };
+        // requests that wait on it
+        if self.rng.chance(30) {
+            self.poll_all();
+        }
     }
 
     pub(super) fn pacing(&mut self) {
@@ -187,6 +232,12 @@ impl Run<'_> {
             let on = self.rng.chance(70);
             self.paced = self.paced & !(1 << ep) | (on as u32) << ep;
             self.call(Call::SetPaced { ep, on });
+        }
+        // paced anew: what was advanced before does not count
+        if self.paced >> ep & 1 != 0 && self.rng.chance(15) {
+            self.operate(Call::Advance(ep));
+            (0..3).for_each(|_| self.next_frame());
+            self.call(Call::SetPaced { ep, on: true });
         }
         for _ in 0..self.rng.range(1, 3) {
             if self.rng.chance(60) {

@@ -65,6 +65,14 @@ impl Run<'_> {
         self.flood = false;
     }
 
+    pub(super) fn iso_in(&mut self) {
+        let Some(ep) = self.one_of(Dir::In, true) else { return };
+        if self.rng.chance(40) {
+            self.next_frame();
+        }
+        self.token(IN, ep as u32, 0);
+    }
+
     pub(super) fn bulk_out(&mut self) {
         let Some(ep) = self.one_of(Dir::Out, false) else { return };
         let n = self.rng.range(0, self.cap(ep as u32));

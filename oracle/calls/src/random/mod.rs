@@ -14,6 +14,9 @@ const SOF: u32 = 1;
 const IN: u32 = 2;
 const SETUP: u32 = 3;
 
+/// More than any operation hands out: an interrupt looks at the SIE at most 4,002 times.
+const MOST_ACCESSES: u32 = 5000;
+
 #[derive(Clone, Copy)]
 struct Endpoint {
     kind: Kind,
@@ -38,11 +41,7 @@ struct Run<'a> {
     rng: Rng,
     session: Session<'a>,
     entries: Vec<Entry>,
-    buffer: Option<(u32, u32)>,
-    /// The buffer size, where it alone is fixed.
-    sized: Option<u32>,
-    /// EP0's maximum, where it is fixed.
-    ep0: Option<u16>,
+    shape: Shape,
     size: u32,
     count: u32,
     callback: bool,
@@ -68,41 +67,43 @@ struct Run<'a> {
     flood: bool,
 }
 
+/// The shape of a run.
+#[derive(Clone, Copy)]
+pub struct Shape {
+    /// About so many calls.
+    pub length: u32,
+    /// The buffer size and count, or the size alone, where they are fixed.
+    pub buffer: Option<(u32, u32)>,
+    pub size: Option<u32>,
+    /// EP0's maximum, where it is fixed: mostly buffers of that size or more.
+    pub ep0: Option<u16>,
+    /// Few endpoints, enough buffers, few resets: rings go round and round.
+    pub long: bool,
+}
+
+impl Shape {
+    pub const fn of_length(length: u32) -> Self {
+        Self { length, buffer: None, size: None, ep0: None, long: false }
+    }
+}
+
 /// A run of about `length` calls.
 pub fn run(driver: &mut dyn Driver, seed: u64, length: u32) -> Vec<Entry> {
-    run_with(driver, seed, length, None, None, None)
-}
-
-/// The same with EP0's maximum 64, and so mostly buffers of 64 bytes or more.
-pub fn run_64(driver: &mut dyn Driver, seed: u64, length: u32) -> Vec<Entry> {
-    run_with(driver, seed, length, None, None, Some(64))
-}
-
-/// The same with buffers of 1,024 bytes.
-pub fn run_1024(driver: &mut dyn Driver, seed: u64, length: u32) -> Vec<Entry> {
-    run_with(driver, seed, length, None, Some(1024), Some(64))
+    run_of(driver, seed, Shape::of_length(length))
 }
 
 /// The same with this buffer size and count.
 pub fn run_in(driver: &mut dyn Driver, seed: u64, length: u32, buffer: Option<(u32, u32)>) -> Vec<Entry> {
-    run_with(driver, seed, length, buffer, None, None)
+    run_of(driver, seed, Shape { buffer, ..Shape::of_length(length) })
 }
 
-fn run_with(
-    driver: &mut dyn Driver,
-    seed: u64,
-    length: u32,
-    buffer: Option<(u32, u32)>,
-    sized: Option<u32>,
-    ep0: Option<u16>,
-) -> Vec<Entry> {
+pub fn run_of(driver: &mut dyn Driver, seed: u64, shape: Shape) -> Vec<Entry> {
+    let length = shape.length;
     let mut r = Run {
         rng: Rng::new(seed),
         session: Session::new(driver),
         entries: vec![],
-        buffer,
-        sized,
-        ep0,
+        shape,
         size: 0,
         count: 0,
         callback: false,
@@ -129,14 +130,9 @@ fn run_with(
         r.activity();
     }
     // a start-up in the midst of an operation
-    if r.rng.chance(10) {
-        r.call(Call::Interrupt);
-        for _ in 0..r.rng.below(6) {
-            if !r.ended() {
-                let v = r.reading();
-                r.call(Call::Continue(v));
-            }
-        }
+    if r.rng.chance(30) {
+        let call = r.any_operation();
+        r.partly(call);
         r.left = length as i32 / 4;
         r.start_up();
         while r.left > 0 {
@@ -182,7 +178,10 @@ impl Run<'_> {
         let interrupt = call == Call::Interrupt;
         self.status = None;
         self.call(call);
+        let mut accesses = 0;
         while !self.ended() {
+            accesses += 1;
+            assert!(accesses < MOST_ACCESSES, "an operation without an end");
             if self.answer == Answer::Callback && !self.flood && self.rng.chance(70) {
                 for _ in 0..self.rng.range(1, 3) {
                     self.user();
@@ -205,6 +204,56 @@ impl Run<'_> {
             self.call(Call::Continue(v));
         }
         self.answer.clone()
+    }
+
+    /// Begin an operation and continue it a little.
+    fn partly(&mut self, call: Call) {
+        self.plan = Plan { flags: self.rng.below(64), token: self.rng.below(4), ..Plan::default() };
+        self.status = None;
+        self.call(call);
+        let accesses = if self.rng.chance(40) { 0 } else { self.rng.below(8) };
+        for _ in 0..accesses {
+            if !self.ended() {
+                let v = self.reading();
+                self.call(Call::Continue(v));
+            }
+        }
+    }
+
+    /// Any call that may hand out an access, and what it takes for that.
+    fn any_operation(&mut self) -> Call {
+        let (ep, dir) = self.some_endpoint().unwrap_or((0, Dir::Out));
+        let on = self.rng.chance(50);
+        let max = if dir == Dir::In { self.ins[ep as usize] } else { self.outs[ep as usize] }.map_or(0, |e| e.max);
+        let data = self.rng.bytes(self.rng.clone().below(max as u32 + 1) as usize);
+        match self.rng.below(18) {
+            0 => Call::BusPoll,
+            1 => Call::BusEnable,
+            2 | 3 => Call::SetEnabled { ep, dir, on },
+            4 => Call::SetStalled { ep, dir, on },
+            5 => Call::IsStalled { ep, dir },
+            6 => {
+                let ep = self.one_of(Dir::In, true).unwrap_or(1);
+                self.call(Call::SetPaced { ep, on: true });
+                Call::Advance(ep)
+            }
+            7 => Call::Microframe,
+            8 => Call::Read { ep, length: max as u32 },
+            9 => Call::Write { ep, data },
+            10 => Call::DataOut { length: 8, first: on },
+            11 => Call::DataIn { data: vec![1, 2, 3], first: on, last: !on },
+            12 => Call::Accept,
+            13 => Call::AcceptSetAddress(ep),
+            14 => Call::Reject,
+            15 => {
+                self.operate(Call::Setup);
+                self.call(Call::PollSetup);
+                self.operate(Call::AcceptSetAddress(ep));
+                self.token(IN, 0, 0);
+                Call::PollAccept
+            }
+            _ => Call::Interrupt,
+        }
     }
 
     /// A number of the token's direction, mostly one that is allocated.
@@ -239,15 +288,9 @@ impl Run<'_> {
                 let ep = if self.rng.chance(90) { 0 } else { self.rng.below(16) };
                 self.token(SOF, ep, 0);
             }
+            260..=379 if self.shape.long => self.iso_in(),
             160..=379 => self.iso_out(),
-            380..=509 => {
-                if let Some(ep) = self.one_of(Dir::In, true) {
-                    if self.rng.chance(40) {
-                        self.next_frame();
-                    }
-                    self.token(IN, ep as u32, 0);
-                }
-            }
+            380..=509 => self.iso_in(),
             510..=579 => self.bulk_out(),
             580..=629 => {
                 if let Some(ep) = self.one_of(Dir::In, false) {
@@ -267,6 +310,7 @@ impl Run<'_> {
             710..=729 => self.any_store(),
             730..=799 => self.user(),
             800..=894 => self.request(),
+            895..=929 if self.shape.long && !self.rng.chance(2) => self.question(),
             895..=909 => self.bus(),
             910..=929 => self.enabling(),
             930..=954 => self.stalling(),
@@ -283,10 +327,11 @@ impl Run<'_> {
         self.config = 0;
         self.paced = 0;
         (self.reads, self.writes) = (0, 0);
-        self.index = self.rng.below(16384);
-        self.size = match (self.buffer, self.sized, self.ep0) {
+        self.index = if self.rng.chance(10) { self.rng.pick(&[0, 1, 16382, 16383]) } else { self.rng.below(16384) };
+        self.size = match (self.shape.buffer, self.shape.size, self.shape.ep0) {
             (Some(b), ..) => b.0,
             (_, Some(size), _) => size,
+            (.., Some(_)) if self.shape.long => self.rng.pick(&[64, 64, 64, 512]),
             (.., Some(_)) => self.rng.pick(&[64, 64, 64, 64, 64, 64, 512, 512, 512, 512, 512, 8, 16, 32]),
             _ => self.rng.pick(&[8, 8, 16, 32, 64, 64, 512]),
         };
@@ -294,15 +339,29 @@ impl Run<'_> {
         let need: u32 = wanted.iter().map(|w| buffers(w.0, w.3)).sum::<u32>() + 1;
         let most = 65_536 / self.size;
         self.count = match self.rng.below(20) {
+            _ if self.shape.long => need,
             0 => self.rng.range(1, need),
             1 => most,
             2 => self.rng.range(need.min(most), most),
             _ => need + self.rng.below(3),
         }
         .min(most);
-        self.count = self.buffer.map_or(self.count, |b| b.1);
+        self.count = self.shape.buffer.map_or(self.count, |b| b.1);
         self.callback = self.rng.chance(50);
-        self.operate(Call::StartUp { size: self.size, count: self.count, callback: self.callback });
+        let start_up = Call::StartUp { size: self.size, count: self.count, callback: self.callback };
+        // start-ups in the midst of start-ups, allocations and EP0's start
+        if self.rng.chance(4) {
+            self.partly(start_up.clone());
+        }
+        if self.rng.chance(6) {
+            self.operate(start_up.clone());
+            let (kind, address, maximum, dir, interval) = self.rng.pick(&wanted);
+            let allocate = Call::Allocate { kind, address, maximum, interval, dir };
+            let start = Call::Start(self.shape.ep0.unwrap_or(self.size.min(64) as u16));
+            let midst = if self.rng.chance(60) { allocate } else { start };
+            self.partly(midst);
+        }
+        self.operate(start_up);
         if self.rng.chance(50) {
             let seed = self.rng.next() as u8;
             self.call(Call::Fill(seed));
@@ -314,7 +373,7 @@ impl Run<'_> {
                 of[result as usize] = Some(Endpoint { kind, max: maximum });
             }
         }
-        self.ep0_max = match self.ep0 {
+        self.ep0_max = match self.shape.ep0 {
             Some(maximum) => maximum,
             None if self.rng.chance(60) => self.size.min(64) as u16,
             None => self.rng.range(0, self.size) as u16,
@@ -334,10 +393,21 @@ impl Run<'_> {
 
     /// The endpoints to allocate.
     fn wanted(&mut self) -> Vec<(Kind, Option<u8>, u16, Dir, u8)> {
-        let crowd = self.rng.chance(4);
-        let n = if crowd { 34 } else { self.rng.range(1, 9) };
+        let long = self.shape.long;
+        let crowd = !long && self.rng.chance(4);
+        let n = match (long, crowd) {
+            (true, _) => self.rng.range(2, 4),
+            (_, true) => 34,
+            _ => self.rng.range(1, 9),
+        };
         let mut all = vec![];
-        for _ in 0..n {
+        for i in 0..n {
+            // long runs have a ring of each direction
+            if let (true, 0 | 1) = (long, i) {
+                let dir = if i == 0 { Dir::Out } else { Dir::In };
+                all.push((Kind::Isochronous, None, self.size as u16, dir, self.rng.pick(&[1, 1, 2])));
+                continue;
+            }
             let dir = self.rng.pick(&[Dir::Out, Dir::In]);
             let kind = match self.rng.below(10) {
                 0..=4 => Kind::Isochronous,

@@ -84,6 +84,11 @@ struct Seam {
     regs: [[u32; 16]; reg::COUNT],
     written: [[u32; 16]; reg::COUNT],
     hits: [u64; 512],
+    /// The arm that is not taken where it is due, and the change that is made; none where beyond them all.
+    turned: usize,
+    mutant: usize,
+    /// Arms passed since the last access.
+    passed: u32,
 }
 
 static mut SEAM: Seam = Seam {
@@ -95,7 +100,15 @@ static mut SEAM: Seam = Seam {
     regs: [[0; 16]; reg::COUNT],
     written: [[0; 16]; reg::COUNT],
     hits: [0; 512],
+    turned: NONE,
+    mutant: NONE,
+    passed: 0,
 };
+
+const NONE: usize = usize::MAX;
+
+/// More arms than any operation passes between two accesses: it hangs.
+const HANGS: u32 = 1 << 20;
 
 /// The Rust under test has statics, and so has this crate: one thread at a time.
 fn seam() -> &'static mut Seam {
@@ -122,7 +135,9 @@ pub fn power_on() {
 
 #[inline]
 fn suspend(ask: Ask) -> u32 {
-    let c = seam().current;
+    let s = seam();
+    s.passed = 0;
+    let c = s.current;
     assert!(!c.is_null(), "{ask:?} outside an operation");
     // SAFETY: the running coroutine
     unsafe { (*c).suspend(ask) }
@@ -214,18 +229,36 @@ pub fn errors() -> u32 {
     seam().errors
 }
 
-/// An arm of the traced copy was reached.
+/// An arm of the traced copy was reached. Answers whether it is taken: one arm may be turned.
 #[inline]
 pub fn hit(arm: usize) -> bool {
-    seam().hits[arm] += 1;
-    true
+    let s = seam();
+    s.hits[arm] += 1;
+    s.passed += 1;
+    assert!(s.passed < HANGS, "no access any more");
+    arm != s.turned
 }
 
-/// Counts `arm` where `c` holds, else the arm after it.
+/// Counts `arm` where `c` holds, else the arm after it; answers `c`, or not `c` where this arm is turned.
 #[inline]
 pub fn branch(arm: usize, c: bool) -> bool {
-    hit(if c { arm } else { arm + 1 });
-    c
+    hit(if c { arm } else { arm + 1 }) == c
+}
+
+/// From here on this arm of the traced copy is turned: where it is due the other one is taken.
+pub fn turn(arm: usize) {
+    seam().turned = arm;
+}
+
+/// Is this change of the mutated copy made?
+#[inline]
+pub fn mutant(number: usize) -> bool {
+    seam().mutant == number
+}
+
+/// From here on this change of the mutated copy is made.
+pub fn mutate(number: usize) {
+    seam().mutant = number;
 }
 
 pub fn hits() -> [u64; 512] {

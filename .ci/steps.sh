@@ -1,0 +1,105 @@
+# What .ci/run is written with. To be sourced at the repository's root, under set -euo pipefail.
+
+exec </dev/null
+logs=$(mktemp -d)
+pids=() names=()
+# each step is a group of processes, which is ended with this one
+set -m
+ended() {
+    local pid
+    for pid in ${pids[@]+"${pids[@]}"}; do kill -- "-$pid" 2>/dev/null || true; done
+    rm -rf "$logs"
+}
+trap ended EXIT
+
+# timed NAME COMMAND..: what it says goes to its output, its times to NAME.time
+timed() {
+    local TIMEFORMAT='%0R s, %0U + %0S s of a processor' name=$1
+    shift
+    { time "$@" 2>&3; } 3>&1 2>"$logs/$name.time"
+}
+
+# waited NAME PID: waits for it and says how it ended
+waited() {
+    local status=0
+    wait "$2" || status=$?
+    if [ "$status" -eq 0 ]; then
+        echo "== $1: passed, $(tail -n 1 "$logs/$1.time")"
+    else
+        echo "== $1: FAILED with $status"
+        return 1
+    fi
+}
+
+# step NAME COMMAND..: prints what it says as it says it
+step() {
+    local name=$1
+    shift
+    echo "== $name: $*" | cut -c1-200
+    (timed "$name" "$@" 2>&1 | tee "$logs/$name.log") &
+    pids+=("$!")
+    waited "$name" "$!" || exit 1
+    unset 'pids[-1]'
+}
+
+# beside NAME COMMAND..: what it says is printed by join
+beside() {
+    local name=$1
+    shift
+    echo "== $name: $*, beside what follows" | cut -c1-200
+    (timed "$name" "$@") >"$logs/$name.log" 2>&1 &
+    pids+=("$!") names+=("$name")
+}
+
+# join: waits for what runs beside
+join() {
+    local i failed=0
+    for ((i = 0; i < ${#names[@]}; i++)); do
+        waited "${names[i]}" "${pids[i]}" >"$logs/end" || failed=1
+        echo "== ${names[i]} said:"
+        cat "$logs/${names[i]}.log" "$logs/end"
+    done
+    pids=() names=()
+    [ "$failed" -eq 0 ] || exit 1
+}
+
+# passed: rt ci's last line
+passed() {
+    local line
+    line=$(tail -n 1 "$logs/rt-ci.log")
+    [[ $line =~ ^[1-9][0-9]*\ passed,\ 0\ failed$ ]] || { echo "rt ci ended with: $line"; exit 1; }
+    echo "$line"
+}
+
+# ---- steps of several commands
+
+# and what the comparison is built of, before there is a port to link
+oracle_tests() {
+    cd oracle
+    nice cargo test --offline --release
+    nice cargo build --offline --release -p wider -p traced -p mutants
+}
+
+# two crates at a time; one after the other, as both ask rt whether all is proved
+edits_and_wrong_drivers() {
+    export RT_JOBS=2
+    # shellcheck disable=SC2046
+    tests/edits $(cat tests/named-edits)
+    tests/wrong-drivers/run
+}
+
+# archives CRATE..: target/staticlib/libCRATE.a, made in a tree of its own, so that it may run beside others
+archives() {
+    local tree crate
+    # shellcheck source=tests/trees.sh
+    . tests/trees.sh
+    tree=$(mktemp -d)
+    new_tree "$tree"
+    mkdir -p target/staticlib
+    for crate in "$@"; do
+        (cd "$tree" && rt staticlib "$crate") >"$tree/log" 2>&1 || { cat "$tree/log"; exit 1; }
+        tail -n 1 "$tree/log"
+        mv "$tree/target/staticlib/lib$crate.a" target/staticlib
+    done
+    rm -rf "$tree"
+}
