@@ -4,7 +4,9 @@
 //! that follow them.
 //! compare --wide [...]: random runs with buffers of 1,024 bytes, against the Rust read with 1,024 among its sizes.
 //! compare FILE...: the same with recorded lists.
+//! compare --chip FILE [...]: also writes the lists for a replay on the chip's instruction set (tests/chip), and prints what that must print.
 
+mod chip;
 mod late;
 mod port;
 mod stamps;
@@ -162,6 +164,8 @@ struct Compared {
     late: usize,
     otherwise: usize,
     turned_down: usize,
+    /// The lists for the chip, where they are asked for.
+    chip: Option<chip::Lists>,
 }
 
 impl Compared {
@@ -192,6 +196,9 @@ impl Compared {
         self.late += lengths.late;
         self.otherwise += lengths.otherwise;
         self.turned_down += entries.iter().filter(|e| e.answer == Answer::Refused(19)).count();
+        if let Some(lists) = &mut self.chip {
+            lists.add(port, &entries);
+        }
     }
 }
 
@@ -199,6 +206,7 @@ fn main() {
     let (mut seed, mut runs, mut length) = (1, 1000, 300);
     let (mut only_begun, mut wide) = (false, false);
     let mut files = vec![];
+    let mut chip = None;
     let mut args = std::env::args().skip(1);
     while let Some(a) = args.next() {
         let mut number = || args.next().and_then(|n| n.parse().ok()).expect("a number");
@@ -208,6 +216,7 @@ fn main() {
             "--length" => length = number() as u32,
             "--begun" => only_begun = true,
             "--wide" => wide = true,
+            "--chip" => chip = Some(args.next().expect("a file")),
             _ => files.push(a),
         }
     }
@@ -215,7 +224,7 @@ fn main() {
     let rust = rust.as_mut();
     let run = if wide { oracle::random::run_1024 } else { oracle::random::run_64 };
     let mut port = port::Port::new();
-    let mut compared = Compared::default();
+    let mut compared = Compared { chip: chip.is_some().then(chip::Lists::default), ..Compared::default() };
     for file in &files {
         let list = oracle::text::parse(&std::fs::read_to_string(file).unwrap()).unwrap();
         let mut session = Session::new(rust);
@@ -245,7 +254,12 @@ fn main() {
             compared.check(&mut port, &format!("seed {seed}"), &entries);
         }
     }
-    let Compared { lists, entries, answers, stamps, late, otherwise, turned_down } = compared;
+    if let (Some(file), Some(lists)) = (chip, &compared.chip) {
+        std::fs::write(file, lists.bytes()).unwrap();
+        print!("{}", lists.lines);
+        return;
+    }
+    let Compared { lists, entries, answers, stamps, late, otherwise, turned_down, .. } = compared;
     println!("{lists} runs, {entries} entries, {answers} answers and {stamps} stamps compared, and the bus time after each call ({turned_down} enablings turned down): no difference");
     println!("{late} lengths told by the marks, {otherwise} of them not the Rust's");
 }
