@@ -3,7 +3,7 @@
  * the bus time and the stamps after each call; `compare --lists` prints the same lines of the x86-64 library. */
 #include <string.h>
 #include "../../firmware/console.h"
-#include "../../firmware/emulator.h"
+#include "../../firmware/emulator/machine.h"
 #include "usbhs.h"
 
 /* Where the emulator loads the lists: their length in bytes, then they. */

@@ -1,6 +1,6 @@
 /* What the emulator's machine (qemu, virt) gives beside RAM. */
-#ifndef EMULATOR_H
-#define EMULATOR_H
+#ifndef MACHINE_H
+#define MACHINE_H
 
 #include <stdint.h>
 

@@ -1,6 +1,6 @@
 /* The emulator's machine: serial port, end, software interrupt. */
-#include "emulator.h"
-#include "console.h"
+#include "machine.h"
+#include "../console.h"
 
 #define SERIAL ((volatile uint8_t *)0x10000000)
 #define FINISHER ((volatile uint32_t *)0x00100000)
