@@ -6,7 +6,9 @@
 #ifndef LAYOUT_H
 #define LAYOUT_H
 
+#ifndef USBHS_BASE
 #define USBHS_BASE 0x40023400u
+#endif
 
 /* Offsets. */
 #define CONTROL 0x00u   /* 8 bits */

@@ -304,9 +304,14 @@ static void requests(void)
     PREPARE(usbhs_begin_interrupt, (state));
     OPERATE("poll-setup", usbhs_poll_setup, (state, data));
     OPERATE("begin-data-in-64", usbhs_begin_data_in, (state, slots, slots_length, data, 64, 1, 0));
+    OPERATE("poll-data-in-not-yet", usbhs_poll_data_in, (state));
+    shows(TRANSFER, IN | 0, 0);
+    PREPARE(usbhs_begin_interrupt, (state));
     OPERATE("poll-data-in", usbhs_poll_data_in, (state));
     OPERATE("begin-accept-address", usbhs_begin_accept_set_address, (state, 5));
-    OPERATE("poll-accept", usbhs_poll_accept, (state));
+    OPERATE("poll-accept-not-yet", usbhs_poll_accept, (state));
+    PREPARE(usbhs_begin_interrupt, (state));
+    OPERATE("poll-accept-address", usbhs_poll_accept, (state));
     OPERATE("reject", usbhs_begin_reject, (state));
 }
 
