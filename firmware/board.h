@@ -15,7 +15,8 @@ void board_start(void);
 
 void board_wait(unsigned microseconds);
 
-/* Until an interrupt is pending. Called with interrupts off, so that none is taken between the look for work and this. */
+/* Until an interrupt is pending. Called with interrupts off, so that none is taken between the look for work and
+ * this. */
 void board_sleep(void);
 
 /* Whether this mcause is the USBHS block's interrupt. */

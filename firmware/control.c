@@ -37,7 +37,8 @@ static void send(int first)
     int last = length == left && !(empty_last && length == EP0_MAXIMUM);
     uint64_t word;
 
-    USB_OPERATE(word, usbhs_begin_data_in(usb_state, usb_slots, sizeof usb_slots, data, length, (uint32_t)first, (uint32_t)last));
+    USB_OPERATE(word, usbhs_begin_data_in(usb_state, usb_slots, sizeof usb_slots, data, length, (uint32_t)first,
+                                          (uint32_t)last));
     data += length;
     left -= length;
     if (last)
@@ -45,7 +46,8 @@ static void send(int first)
     begun(word, DATA_IN);
 }
 
-/* An answer of `length` bytes, cut to what the host asked for; where it is shorter and whole packets, an empty one ends it. */
+/* An answer of `length` bytes, cut to what the host asked for; where it is shorter and whole packets, an empty one
+ * ends it. */
 static void answer(const uint8_t *bytes, unsigned length, unsigned asked)
 {
     data = bytes;
@@ -80,14 +82,19 @@ static void reject(void)
     control_restart();
 }
 
-/* Both streams on or off: the interface's alternate setting. */
-static void set_streams(unsigned on)
+static void set_enabled(unsigned endpoint, unsigned dir, unsigned on)
 {
     uint64_t word;
 
-    USB_OPERATE(word, usbhs_begin_set_enabled(usb_state, usb_slots, sizeof usb_slots, usb_time, 0, SAMPLES_OUT, USBHS_OUT, on));
-    USB_OPERATE(word, usbhs_begin_set_enabled(usb_state, usb_slots, sizeof usb_slots, usb_time, 0, STATUS_IN, USBHS_IN, on));
+    USB_OPERATE(word, usbhs_begin_set_enabled(usb_state, usb_slots, sizeof usb_slots, usb_time, 0, endpoint, dir, on));
     (void)word;
+}
+
+/* Both streams on or off: the interface's alternate setting. */
+static void set_streams(unsigned on)
+{
+    set_enabled(SAMPLES_OUT, USBHS_OUT, on);
+    set_enabled(STATUS_IN, USBHS_IN, on);
     print(on ? "control: streams on, bus time " : "control: streams off, bus time ");
     print_number(usbhs_time_in_use(usb_time));
     print("\n");

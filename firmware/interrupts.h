@@ -1,5 +1,5 @@
-/* The hart's interrupts off and on again: masking. What one call of the driver is lent no other call may touch, and while
- * an operation is continued the driver's interrupt is to wait (include/usbhs.h). */
+/* The hart's interrupts off and on again: masking. What one call of the driver is lent no other call may touch, and
+ * while an operation is continued the driver's interrupt is to wait (include/usbhs.h). */
 #ifndef INTERRUPTS_H
 #define INTERRUPTS_H
 

@@ -1,5 +1,5 @@
-/* The firmware: samples that the host streams go to the card. The driver's interrupt wakes tasks; the main loop runs them
- * in the order in which they were woken. */
+/* The firmware: samples that the host streams go to the card. The driver's interrupt wakes tasks; the main loop
+ * runs them in the order in which they were woken. */
 #include "board.h"
 #include "console.h"
 #include "control.h"
@@ -23,8 +23,8 @@ void trap(uint32_t cause)
         board_sleep();
 }
 
-/* Queues what was recorded and what was lost; the packet goes out in the next microframe. Where two wait (row 13) or the
- * host has not enabled the stream (row 9), it is left. */
+/* Queues what was recorded and what was lost; the packet goes out in the next microframe. Where two wait (row 13)
+ * or the host has not enabled the stream (row 9), it is left. */
 void usb_start_of_frame(void)
 {
     uint32_t numbers[2] = {recorder_packets(), usbhs_overruns(usb_state, SAMPLES_OUT)};
@@ -67,7 +67,8 @@ static void run(unsigned task)
     }
 }
 
-/* The next task, or sleep. Interrupts are off from the look to the sleep, which a pending interrupt ends all the same. */
+/* The next task, or sleep. Interrupts are off from the look to the sleep, which a pending interrupt ends all the
+ * same. */
 static void next(void)
 {
     uint32_t before = interrupts_off();

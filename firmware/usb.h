@@ -13,8 +13,8 @@ extern uint8_t usb_state[USBHS_STATE_LEN];
 extern uint8_t usb_slots[USB_BUFFERS * USB_BUFFER];
 extern uint16_t usb_time[USBHS_TIME_LEN];
 
-/* The access loop: makes each access that the driver hands out until the operation is over; wakes the tasks that its end
- * names. With interrupts off. */
+/* The access loop: makes each access that the driver hands out until the operation is over; wakes the tasks that
+ * its end names. With interrupts off. */
 uint64_t usb_to_end(uint64_t word);
 
 /* An operation, from its begin to its end, or a call that is over at once, the interrupt masked meanwhile. */

@@ -1,7 +1,7 @@
 /* A board with a CH32V30x. NOT TRIED ON SILICON, as layout.h says.
  *
- * Left to the board, as weak functions that do nothing: clocks (the system's and the USB PHY's PLL, for which the driver's
- * Rust has ch32-hal), a console, a card. */
+ * Left to the board, as weak functions that do nothing: clocks (the system's and the USB PHY's PLL, for which the
+ * driver's Rust has ch32-hal), a console, a card. */
 #include "../board.h"
 #include "../console.h"
 #include "layout.h"

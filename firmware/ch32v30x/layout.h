@@ -1,8 +1,9 @@
 /* The USBHS block of CH32V30x: where its registers lie and which bits they have.
  *
- * NOT TRIED ON SILICON. What is known: the names of registers and fields, and what they do, are those that the ported Rust
- * uses (docs/src/usbhs). What is not verified: every offset, bit and number below. They are written down from general
- * knowledge of the CH32V30x, not from its reference manual; hold them against that before flashing. */
+ * NOT TRIED ON SILICON. What is known: the names of registers and fields, and what they do, are those that the
+ * ported Rust uses (docs/src/usbhs). What is not verified: every offset, bit and number below. They are written
+ * down from general knowledge of the CH32V30x, not from its reference manual; hold them against that before
+ * flashing. */
 #ifndef LAYOUT_H
 #define LAYOUT_H
 

@@ -1,4 +1,5 @@
-/* The one file that touches the USBHS block's registers: an access as include/usbhs.h packs it, made in the chip's layout.
+/* The one file that touches the USBHS block's registers: an access as include/usbhs.h packs it, made in the chip's
+ * layout.
  *
  * NOT TRIED ON SILICON: layout.h says what is not verified. The emulator's back end is emulator/block.c. */
 #include "../board.h"

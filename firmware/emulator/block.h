@@ -1,5 +1,5 @@
-/* A model of the USBHS block, as the Rust's comments and document 01 describe it: the side of the bus. The firmware's side
- * are register_read and register_write (board.h). */
+/* A model of the USBHS block, as the Rust's comments and document 01 describe it: the side of the bus. The
+ * firmware's side are register_read and register_write (board.h). */
 #ifndef BLOCK_H
 #define BLOCK_H
 

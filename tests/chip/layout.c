@@ -1,5 +1,5 @@
-/* The chip's layout (firmware/ch32v30x) over plain memory: what is written is read back, and no two registers share a bit. Whether
- * the layout is the chip's own no test here can tell. */
+/* The chip's layout (firmware/ch32v30x) over plain memory: what is written is read back, and no two registers share
+ * a bit. Whether the layout is the chip's own no test here can tell. */
 #include <string.h>
 #include "../../firmware/console.h"
 #include "../../firmware/emulator/machine.h"
@@ -82,7 +82,8 @@ static void written(unsigned number, unsigned endpoint)
 int main(void)
 {
     for (unsigned number = 0; number <= USBHS_EP_TX_CTRL; number++) {
-        unsigned first = is_address(number) && number != USBHS_EP0_DMA ? 1 : 0, last = number >= USBHS_EP_MAX_LEN ? 15 : 0;
+        unsigned first = is_address(number) && number != USBHS_EP0_DMA ? 1 : 0;
+        unsigned last = number >= USBHS_EP_MAX_LEN ? 15 : 0;
 
         /* read only */
         if (number >= USBHS_INT_ST && number <= USBHS_FRAME_NO)
