@@ -1,6 +1,7 @@
-/* What the calls cost on RV32, in instructions retired (the emulator's -icount makes minstret exact) and bytes of stack.
+/* What the calls cost on RV32, in instructions retired (the emulator's -icount makes minstret exact) and bytes of
+ * stack.
  *
- *   op NAME CALLS INSTRUCTIONS WORST    an operation, begin to end: its calls, their instructions, those of the worst one
+ *   op NAME CALLS INSTRUCTIONS WORST    an operation, begin to end: its calls, their instructions, those of the worst
  *   stack CALL BYTES                    the deepest stack that was seen of an exported call, found by painting
  *
  * Registers are memory, and making an access is not counted. firmware/figures prints this as tables. */
