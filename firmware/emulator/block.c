@@ -1,6 +1,7 @@
 #include "block.h"
 #include "../board.h"
 #include "../usb.h"
+#include "host.h"
 #include "machine.h"
 
 /* Bits of the packing in include/usbhs.h. */
@@ -191,6 +192,7 @@ static uint32_t look(void)
 
 uint32_t register_read(unsigned number, unsigned endpoint)
 {
+    host_access();
     switch (number) {
     case USBHS_INT_FG: return flags;
     case USBHS_INT_ST: return status;
@@ -214,4 +216,5 @@ void register_write(unsigned number, unsigned endpoint, uint32_t value)
             flags = 0;
     }
     emulator_interrupt(block_interrupt_pending());
+    host_access();
 }

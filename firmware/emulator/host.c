@@ -207,37 +207,56 @@ struct step {
     unsigned times;
     /* how many of the host's steps the card takes for the first block that it is given meanwhile */
     unsigned card_busy;
+    /* a SOF after so many accesses of the firmware's, wherever they fall; 0: none */
+    unsigned sof_every;
 };
 
-#define ENUMERATION(n)                                                                       \
-    {CONTROL, "set address", {0x00, 5, n, 0, 0, 0, 0, 0}, 0, 0, 0},                          \
-    {CONTROL, "get the device descriptor", {0x80, 6, 0, 1, 0, 0, 18, 0}, 0, 0, 0},           \
-    {CONTROL, "get the configuration's first 9 bytes", {0x80, 6, 0, 2, 0, 0, 9, 0}, 0, 0, 0}, \
-    {CONTROL, "get the configuration descriptor", {0x80, 6, 0, 2, 0, 0, 255, 0}, 0, 0, 0},   \
-    {CONTROL, "set configuration 1", {0x00, 9, 1, 0, 0, 0, 0, 0}, 0, 0, 0},                  \
-    {CONTROL, "select alternate setting 1", {0x01, 11, 1, 0, 0, 0, 0, 0}, 0, 0, 0}
+#define SIMPLE(kind, words) {kind, words, {0}, 0, 0, 0, 0}
+#define REQUEST(words, sof_every, ...) {CONTROL, words, {__VA_ARGS__}, 0, 0, 0, sof_every}
+#define STREAM(words, one, times, card_busy) {MICROFRAMES, words, {0}, one, times, card_busy, 0}
+
+#define ENUMERATION(address)                                                               \
+    REQUEST("set address", 0, 0x00, 5, address, 0, 0, 0, 0, 0),                            \
+    REQUEST("get the device descriptor", 0, 0x80, 6, 0, 1, 0, 0, 18, 0),                   \
+    REQUEST("get the configuration's first 9 bytes", 0, 0x80, 6, 0, 2, 0, 0, 9, 0),        \
+    REQUEST("get the configuration descriptor", 0, 0x80, 6, 0, 2, 0, 0, 255, 0),           \
+    REQUEST("set configuration 1", 0, 0x00, 9, 1, 0, 0, 0, 0, 0),                          \
+    REQUEST("select alternate setting 1", 0, 0x01, 11, 1, 0, 0, 0, 0, 0)
 
 static const struct step script[] = {
-    {RESET, "bus reset", {0}, 0, 0, 0},
-    {CONTROL, "get the device descriptor", {0x80, 6, 0, 1, 0, 0, 64, 0}, 0, 0, 0},
-    {RESET, "bus reset", {0}, 0, 0, 0},
+    SIMPLE(RESET, "bus reset"),
+    REQUEST("get the device descriptor", 0, 0x80, 6, 0, 1, 0, 0, 64, 0),
+    SIMPLE(RESET, "bus reset"),
     ENUMERATION(5),
-    {CONTROL, "get a string that there is not", {0x80, 6, 1, 3, 9, 4, 255, 0}, 0, 0, 0},
-    {MICROFRAMES, "samples on time", {0}, on_time, 12, 0},
-    {MICROFRAMES, "samples seen late", {0}, late, 6, 0},
-    {MICROFRAMES, "samples on the bus at the SOF's interrupt", {0}, later, 6, 0},
-    {MICROFRAMES, "samples while the card is busy", {0}, on_time, 30, 60},
-    {SUSPEND, "suspend", {0}, 0, 0, 0},
-    {RESUME, "resume", {0}, 0, 0, 0},
-    {MICROFRAMES, "samples on time", {0}, on_time, 4, 0},
-    {RESET, "bus reset in the midst of the stream", {0}, 0, 0, 0},
-    {MICROFRAMES, "samples to nobody", {0}, on_time, 2, 0},
+    REQUEST("get a string that there is not", 0, 0x80, 6, 1, 3, 9, 4, 255, 0),
+    STREAM("samples on time", on_time, 12, 0),
+    STREAM("samples seen late", late, 6, 0),
+    STREAM("samples on the bus at the SOF's interrupt", later, 6, 0),
+    STREAM("samples while the card is busy", on_time, 30, 60),
+    REQUEST("get the configuration descriptor while SOFs come", 13, 0x80, 6, 0, 2, 0, 0, 255, 0),
+    REQUEST("select alternate setting 0 while SOFs come", 13, 0x01, 11, 0, 0, 0, 0, 0, 0),
+    REQUEST("select alternate setting 1 while SOFs come", 13, 0x01, 11, 1, 0, 0, 0, 0, 0),
+    SIMPLE(SUSPEND, "suspend"),
+    SIMPLE(RESUME, "resume"),
+    STREAM("samples on time", on_time, 4, 0),
+    SIMPLE(RESET, "bus reset in the midst of the stream"),
+    STREAM("samples to nobody", on_time, 2, 0),
     ENUMERATION(6),
-    {MICROFRAMES, "samples on time", {0}, on_time, 6, 0},
+    STREAM("samples on time", on_time, 6, 0),
 };
 #define STEPS (sizeof script / sizeof script[0])
 
-static unsigned at, part, done, was_busy;
+static unsigned at, part, done, was_busy, accesses, frames_between;
+
+void host_access(void)
+{
+    unsigned every = at < STEPS ? script[at].sof_every : 0;
+
+    if (every == 0 || ++accesses % every != 0)
+        return;
+    frames_between++;
+    start_of_frame();
+}
 
 unsigned host_card_busy(void)
 {
@@ -328,6 +347,8 @@ int host_check(const unsigned char *card, unsigned length, unsigned overruns)
     print_number(overruns);
     print(" overruns, ");
     print_number(unheard);
-    print(" sent to nobody\n");
+    print(" sent to nobody\nhost: ");
+    print_number(frames_between);
+    print(" SOFs between the firmware's accesses\n");
     return wrong != 0 || given + overruns + unheard != packets;
 }

@@ -5,6 +5,9 @@
 /* 0 at the script's end. */
 int host_step(void);
 
+/* The firmware has made an access: meanwhile time has passed on the bus. */
+void host_access(void);
+
 /* How many steps the card takes for the block that it is given now. */
 unsigned host_card_busy(void);
 
