@@ -100,6 +100,17 @@ static void set_streams(unsigned on)
     print("\n");
 }
 
+/* Configuration or alternate setting 0 or 1, of which the latter has the streams; there are no others. */
+static void select(unsigned value, unsigned streams)
+{
+    if (value > 1) {
+        reject();
+        return;
+    }
+    set_streams(streams);
+    accept();
+}
+
 /* bmRequestType and bRequest in one number. */
 #define REQUEST(type, request) ((type) << 8 | (request))
 #define GET_DESCRIPTOR REQUEST(0x80u, 6u)
@@ -126,12 +137,10 @@ static void serve(const uint8_t setup[8])
         accept_address(value);
         break;
     case SET_CONFIGURATION:
-        set_streams(0);
-        accept();
+        select(value, 0);
         break;
     case SET_INTERFACE:
-        set_streams(value);
-        accept();
+        select(value, value);
         break;
     default:
         reject();
