@@ -34,7 +34,7 @@ struct usbhs_channel {
     uint16_t charge; /* in byte-times of a microframe */
     uint8_t chosen;  /* becomes 1 if the channel is chosen, 0 if not; any byte before */
 };
-uint64_t usbhs_best_set(struct usbhs_channel *list, size_t channels, const uint16_t time[USBHS_TIME_LEN], uint32_t budget,
+uint64_t usbhs_best_set(struct usbhs_channel *list, usbhs_length channels, const uint16_t time[USBHS_TIME_LEN], uint32_t budget,
                         uint32_t *total, uint32_t *figure, uint32_t *looked);
 
 /* How many packets may arrive between two visits of a reader. In microframes: from a visit to the next it is at least a and at most b, from an
@@ -54,7 +54,7 @@ uint64_t usbhs_between_visits(uint32_t a, uint32_t b, uint32_t c, uint32_t d,
                               uint32_t least[USBHS_REACHED_LEN], uint32_t greatest[USBHS_REACHED_LEN]);
 
 /* The data CRC of USB 2.0, 8.3.5, over these bytes, 16 bits, the first bit sent being bit 0: 0xB4C8 for "123456789". */
-uint32_t usbhs_data_crc(const uint8_t *bytes, size_t length);
+uint32_t usbhs_data_crc(const uint8_t *bytes, usbhs_length length);
 
 /* Packets on the card: a stream of blocks of USBHS_BLOCK_LEN bytes.
  *
@@ -87,26 +87,31 @@ uint32_t usbhs_data_crc(const uint8_t *bytes, size_t length);
 void usbhs_card_new(uint32_t writer[USBHS_WRITER_LEN]);
 
 /* Row 21: a block that is not 512 bytes, a packet of more than 1,024, endpoint 0 or above 15. */
-uint64_t usbhs_card_write(uint32_t writer[USBHS_WRITER_LEN], uint8_t *block, size_t block_length, uint32_t endpoint, const uint8_t *data, size_t data_length);
+uint64_t usbhs_card_write(uint32_t writer[USBHS_WRITER_LEN], uint8_t *block, usbhs_length block_length, uint32_t endpoint, const uint8_t *data, usbhs_length data_length);
 
 /* Fills the last block with zeros, after the last packet. Ends with USBHS_BLOCK_FULL, or with 0 where the last block is stored already.
  * Row 21: a block that is not 512 bytes. */
-uint64_t usbhs_card_finish(const uint32_t writer[USBHS_WRITER_LEN], uint8_t *block, size_t block_length);
+uint64_t usbhs_card_finish(const uint32_t writer[USBHS_WRITER_LEN], uint8_t *block, usbhs_length block_length);
 
-/* The reader, over the whole stream. *place is where it goes on; usbhs_card_start sets it. A block whose check fails or whose number is not its place is
+/* The reader, over the whole stream. *place, a usbhs_length, is where it goes on; usbhs_card_start sets it. A block whose check fails or whose number is not its place is
  * dropped with the packet that it cuts; every packet that lies wholly in blocks as they were written is given, in order.
  *
  * usbhs_card_start ends with 0. usbhs_card_next is done with the packet's length, its bytes at the room's front and its endpoint in *endpoint, or
  * ends where there is no more packet.
  * Row 21: a stream that is not whole blocks; a room shorter than the packet, which a longer one then gets. */
-uint64_t usbhs_card_start(const uint8_t *stream, size_t stream_length, size_t *place);
-uint64_t usbhs_card_next(const uint8_t *stream, size_t stream_length, size_t *place, uint32_t *endpoint, uint8_t *room, size_t room_length);
+uint64_t usbhs_card_start(const uint8_t *stream, usbhs_length stream_length, usbhs_length *place);
+uint64_t usbhs_card_next(const uint8_t *stream, usbhs_length stream_length, usbhs_length *place, uint32_t *endpoint, uint8_t *room, usbhs_length room_length);
+
+/* The calls themselves, with a place that is no usbhs_length refused by the compiler. */
+#define usbhs_card_start(stream, stream_length, place) (usbhs_card_start)(stream, stream_length, USBHS_LENGTH_AT(place))
+#define usbhs_card_next(stream, stream_length, place, endpoint, room, room_length) \
+    (usbhs_card_next)(stream, stream_length, USBHS_LENGTH_AT(place), endpoint, room, room_length)
 
 /* The endpoints of a configuration descriptor written into the room as one interface, alternate setting 0: done with 18 bytes and 7 for each, of which
  * there are at most 32. Read again they are the same endpoints.
  * Row 17, first: the bytes are no configuration descriptor (USBHS_ROW 17 of usbhs_allocate_all has the conditions in full), or the room is too short
  * for the list, also where row 18 would be answered else. Row 18: one address has two transfer types. */
-uint64_t usbhs_write_descriptor(const uint8_t *bytes, size_t length, uint8_t *room, size_t room_length);
+uint64_t usbhs_write_descriptor(const uint8_t *bytes, usbhs_length length, uint8_t *room, usbhs_length room_length);
 
 #ifdef __cplusplus
 }

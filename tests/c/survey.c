@@ -183,7 +183,7 @@ static const unsigned lengths[PACKETS] = {600, 0, 1024};
 static const unsigned endpoints[PACKETS] = {1, 15, 2};
 static uint8_t data[PACKETS][1024];
 static uint8_t stream[8 * USBHS_BLOCK_LEN];
-static size_t stored;
+static usbhs_length stored;
 
 static void store(uint8_t *block)
 {
@@ -246,7 +246,7 @@ static void given(const char *what, unsigned first, unsigned last)
 {
     uint8_t room[1024];
     uint32_t endpoint = 99;
-    size_t place = 99;
+    usbhs_length place = 99;
     uint64_t word;
     unsigned i;
 
@@ -265,7 +265,7 @@ static void given(const char *what, unsigned first, unsigned last)
 
 static void read_back(void)
 {
-    size_t place = 99;
+    usbhs_length place = 99;
     uint32_t endpoint = 99;
     uint8_t room[1];
 

@@ -1,6 +1,7 @@
 //! The port against the Rust: the calls of a run of the Rust are made on the port too, and the answers compared.
 
 pub mod begun;
+pub mod chip;
 mod domain;
 mod late;
 mod misplaced;
@@ -34,6 +35,8 @@ pub struct Compared {
     /// Calls that the Rust does not have, by the row that refused them.
     pub rows: misplaced::Rows,
     pub seen: seen::Seen,
+    /// The runs for the chip, where they are asked for.
+    pub chip: Option<chip::Lists>,
 }
 
 /// The run up to a difference, and what the port says there.
@@ -100,6 +103,9 @@ impl Compared {
         self.late += lengths.late;
         self.otherwise += lengths.otherwise;
         self.turned_down += entries.iter().filter(|e| e.answer == Answer::Refused(19)).count();
+        if let Some(lists) = &mut self.chip {
+            lists.add(port, &entries);
+        }
         Ok(())
     }
 }

@@ -4,6 +4,8 @@
 //! with 1 if something is left.
 //! compare --wide ..: buffers of 1,024 bytes, against the Rust read with 1,024 among its sizes.
 //! compare --begun ..: each random run without the interrupt and its continues.
+//! compare --chip FILE ..: writes the runs for a replay on the chip's instruction set (tests/chip/run), and prints what
+//! that must print.
 
 use std::process::ExitCode;
 
@@ -49,7 +51,7 @@ fn came_by(compared: &Compared) -> Result<(), String> {
 fn main() -> ExitCode {
     let runs = runs::asked(std::env::args().skip(1));
     let mut port = Port::new();
-    let mut compared = Compared::default();
+    let mut compared = Compared { chip: runs.chip.is_some().then(Default::default), ..Default::default() };
     let done = {
         let mut rust: Box<dyn Driver> =
             if runs.wide { Box::new(wider::Rust::new()) } else { Box::new(original::Rust::new()) };
@@ -60,7 +62,12 @@ fn main() -> ExitCode {
         print!("{said}");
         return ExitCode::from(1);
     }
-    let Compared { lists, entries, answers, stamps, late, otherwise, turned_down, rows, seen: _ } = compared;
+    if let (Some(file), Some(lists)) = (&runs.chip, &compared.chip) {
+        std::fs::write(file, lists.bytes()).expect("the file for the chip");
+        print!("{}", lists.lines);
+        return ExitCode::SUCCESS;
+    }
+    let Compared { lists, entries, answers, stamps, late, otherwise, turned_down, rows, .. } = compared;
     println!(
         "{lists} runs, {entries} entries, {answers} answers and {stamps} stamps compared, and the bus time after each \
          call ({turned_down} enablings turned down): no difference"

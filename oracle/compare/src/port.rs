@@ -59,11 +59,11 @@ exported! {
 const STATE: usize = 4096;
 
 /// The length of the record of bus time, and this driver's number in it.
-const TIME: usize = 128;
+pub const TIME: usize = 128;
 const DRIVER: u32 = 2;
 
 pub struct Port {
-    state: Vec<u8>,
+    pub state: Vec<u8>,
     slots: Vec<u8>,
     geometry: (u32, u32),
     /// What each request's begin brought: its polls bring the same.
@@ -75,7 +75,7 @@ pub struct Port {
     /// What each open left in the room for the stamp.
     pub stamps: Vec<u16>,
     /// The record of bus time, and the time in use after each call.
-    time: [u16; TIME],
+    pub time: [u16; TIME],
     pub times: Vec<u32>,
 }
 
@@ -140,6 +140,9 @@ impl Driver for Port {
         self.state.fill(0);
         self.slots.clear();
         self.geometry = (0, 0);
+        self.read = [0; 16];
+        self.write = [const { vec![] }; 16];
+        self.data_out = 0;
         self.interrupts = 0;
         self.stamps.clear();
         self.time.fill(0);

@@ -17,16 +17,27 @@ pub struct Runs {
     pub wide: bool,
     pub begun: bool,
     pub arms: bool,
+    /// Where the runs are written for the chip.
+    pub chip: Option<String>,
 }
 
 /// The calls of a long run.
 const LONG: u32 = 60_000;
 
 /// What of the arguments is asked for: FILE.. [--seed N] [--runs N] [--length N] [--long N] [--wide] [--begun]
-/// [--arms].
+/// [--arms] [--chip FILE].
 pub fn asked(args: impl Iterator<Item = String>) -> Runs {
-    let mut runs =
-        Runs { files: vec![], seed: 1, short: u64::MAX, length: 300, long: 0, wide: false, begun: false, arms: false };
+    let mut runs = Runs {
+        files: vec![],
+        seed: 1,
+        short: u64::MAX,
+        length: 300,
+        long: 0,
+        wide: false,
+        begun: false,
+        arms: false,
+        chip: None,
+    };
     let mut args = args;
     while let Some(a) = args.next() {
         let mut number = || args.next().and_then(|n| n.parse().ok()).expect("a number");
@@ -38,6 +49,7 @@ pub fn asked(args: impl Iterator<Item = String>) -> Runs {
             "--wide" => runs.wide = true,
             "--begun" => runs.begun = true,
             "--arms" => runs.arms = true,
+            "--chip" => runs.chip = Some(args.next().expect("a file")),
             _ => runs.files.push(a),
         }
     }

@@ -1,0 +1,28 @@
+/* What the firmware asks of the board. Two back ends: ch32v30x/ and emulator/. */
+#ifndef BOARD_H
+#define BOARD_H
+
+#include <stdint.h>
+#include "usbhs_survey.h"
+
+/* One access to the USBHS block: `number` and `value` as include/usbhs.h has them, an address being an offset into the
+ * slots. */
+uint32_t register_read(unsigned number, unsigned endpoint);
+void register_write(unsigned number, unsigned endpoint, uint32_t value);
+
+/* Clocks, pins and the interrupt controller; the hart's interrupts are still off. */
+void board_start(void);
+
+void board_wait(unsigned microseconds);
+
+/* Until an interrupt is pending. Called with interrupts off, so that none is taken between the look for work and
+ * this. */
+void board_sleep(void);
+
+/* Whether this mcause is the USBHS block's interrupt. */
+int board_usb_interrupt(uint32_t cause);
+
+/* Stores a block that is full. May take long: interrupts are taken meanwhile. */
+void board_card_store(const uint8_t block[USBHS_BLOCK_LEN]);
+
+#endif

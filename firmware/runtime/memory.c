@@ -1,0 +1,51 @@
+/* memcpy and memset, which the archives for RV32 call, for those who link no C library; memcmp for programs of ours.
+ * Copies go by words where both sides allow it: most are of records and packets that lie on word boundaries. To be
+ * compiled with -fno-builtin, else the compiler may turn a loop into a call of the function that it stands in. */
+#include <stdint.h>
+#include <string.h>
+
+#define WORD sizeof(uint32_t)
+
+/* Words may alias any object here. */
+typedef uint32_t __attribute__((may_alias)) word;
+
+static int aligned(const void *a, const void *b)
+{
+    return (((uintptr_t)a | (uintptr_t)b) & (WORD - 1)) == 0;
+}
+
+void *memcpy(void *restrict to, const void *restrict from, size_t length)
+{
+    uint8_t *t = to;
+    const uint8_t *f = from;
+
+    if (aligned(t, f))
+        for (; length >= WORD; length -= WORD, t += WORD, f += WORD)
+            *(word *)t = *(const word *)f;
+    for (; length > 0; length--)
+        *t++ = *f++;
+    return to;
+}
+
+void *memset(void *to, int byte, size_t length)
+{
+    uint8_t *t = to;
+    uint32_t four = (uint8_t)byte * 0x01010101u;
+
+    if (aligned(t, t))
+        for (; length >= WORD; length -= WORD, t += WORD)
+            *(word *)t = four;
+    for (; length > 0; length--)
+        *t++ = (uint8_t)byte;
+    return to;
+}
+
+int memcmp(const void *a, const void *b, size_t length)
+{
+    const uint8_t *x = a, *y = b;
+
+    for (; length > 0; length--, x++, y++)
+        if (*x != *y)
+            return *x < *y ? -1 : 1;
+    return 0;
+}

@@ -1,0 +1,76 @@
+#include "usb.h"
+#include "board.h"
+#include "descriptors.h"
+#include "tasks.h"
+
+/* The chip wants the slots on a word boundary, and copies are faster with the state on one. */
+uint8_t usb_state[USBHS_STATE_LEN] __attribute__((aligned(4)));
+uint8_t usb_slots[USB_BUFFERS * USB_BUFFER] __attribute__((aligned(4)));
+uint16_t usb_time[USBHS_TIME_LEN];
+
+/* Makes what is handed out: the reading, 0 where there is none. */
+static uint32_t make(uint64_t word)
+{
+    switch (USBHS_KIND(word)) {
+    case USBHS_READ:
+        return register_read(USBHS_REGISTER(word), USBHS_ENDPOINT(word));
+    case USBHS_WRITE:
+        register_write(USBHS_REGISTER(word), USBHS_ENDPOINT(word), USBHS_VALUE(word));
+        return 0;
+    case USBHS_WAIT:
+        board_wait(USBHS_MICROSECONDS(word));
+        return 0;
+    default:
+        usb_start_of_frame();
+        return 0;
+    }
+}
+
+static void wake_tasks(uint64_t word)
+{
+    uint8_t woken[USBHS_MOST_WAKES];
+    unsigned n;
+
+    if (USBHS_KIND(word) != USBHS_END || USBHS_WAKES(word) == 0)
+        return;
+    n = usbhs_woken(usb_state, woken);
+    for (unsigned i = 0; i < n; i++)
+        task_wake(woken[i]);
+}
+
+uint64_t usb_to_end(uint64_t word)
+{
+    while (USBHS_KIND(word) >= USBHS_READ && USBHS_KIND(word) <= USBHS_CALLBACK)
+        word = usbhs_continue(usb_state, usb_slots, sizeof usb_slots, usb_time, 0, make(word));
+    wake_tasks(word);
+    return word;
+}
+
+void usb_interrupt(void)
+{
+    usb_to_end(usbhs_begin_interrupt(usb_state));
+}
+
+/* 0, or the row of a refusal. */
+static unsigned refusal(uint64_t word)
+{
+    return USBHS_KIND(word) == USBHS_REFUSED ? USBHS_ROW(word) : 0;
+}
+
+unsigned usb_start(void)
+{
+    uint64_t word;
+    unsigned row;
+
+    USB_OPERATE(word, usbhs_start_up(usb_state, usb_slots, sizeof usb_slots, usb_time, 0, USB_BUFFER, USB_BUFFERS, 1));
+    if ((row = refusal(word)) != 0)
+        return row;
+    USB_OPERATE(word, usbhs_allocate_all(usb_state, descriptor_configuration, DESCRIPTOR_CONFIGURATION_LEN));
+    if ((row = refusal(word)) != 0)
+        return row;
+    USB_OPERATE(word, usbhs_start(usb_state, 64));
+    if ((row = refusal(word)) != 0)
+        return row;
+    USB_OPERATE(word, usbhs_begin_bus_enable(usb_state));
+    return refusal(word);
+}
