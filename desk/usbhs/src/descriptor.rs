@@ -146,7 +146,7 @@ fn two_types(bytes: &[u8]) -> Option<u8> {
 /// A refused reading in words.
 pub fn why(row: u8, bytes: &[u8]) -> String {
     match (row, two_types(bytes)) {
-        (17, _) => format!("{}: {}", rows::refused(17), fault(bytes)),
+        (17, _) => format!("refused with 17: {}", fault(bytes)),
         (18, Some(address)) => format!("{}: {address:#04x}", rows::refused(18)),
         _ => rows::refused(row),
     }

@@ -12,7 +12,7 @@ usbhs: the readout's tool, over the proved calls of usbhs.h and usbhs_survey.h
   usbhs card list IMAGE                   a line for each packet
   usbhs card extract IMAGE                the packets' bytes
       --endpoint N                        of this endpoint alone (list, extract)
-      --csv, --samples                    a line for each packet, or for each 16-bit sample (extract)
+      --csv, --samples                    a line for each packet, or 16-bit sample (extract)
       --out FILE                          into this file (extract)
       --cut                               leaves out bytes behind the last whole block
       --quiet                             no progress on standard error
@@ -28,7 +28,8 @@ usbhs: the readout's tool, over the proved calls of usbhs.h and usbhs_survey.h
       --svg FILE, --all                   as a picture too; every event in words
 
 A FILE, IMAGE or LIST that is - is standard input. --json: for programs. --help: this text.
-A descriptor is bytes, or text with two hexadecimal digits a byte. A channel is a line: NAME MAXIMUM CHARGE.
+A descriptor is bytes, or text with two hexadecimal digits a byte. A channel is a line, NAME MAXIMUM
+CHARGE.
 Exit status: 0 well; 1 the answer is no (blocks were dropped, a board or fifteen slots do not do, a
 recorded answer is not the port's); 2 a bad command line or input.
 ";

@@ -41,6 +41,11 @@ pub fn run(mut args: Args, as_json: bool, out: &mut dyn Write) -> Done<bool> {
     Ok(timeline.differing == 0)
 }
 
+/// The picture of a list.
+pub fn drawn(list: &str, title: &str) -> Result<String, String> {
+    Ok(svg(&timeline(&drive::drive(list)?), title))
+}
+
 /// A line of a list may be long.
 fn shortened(words: &str) -> String {
     match words.char_indices().nth(160) {
