@@ -23,13 +23,13 @@ usbhs: the readout's tool, over the proved calls of usbhs.h and usbhs_survey.h
       --hex, --out FILE                   as hexadecimal digits; into this file
   usbhs channels FILE                     the best set of channels for the bus time left
       --in-use N, --budget B              byte-times in use, sets to look at: 0 and 65,536, if not said
-  usbhs visits A B C D                    arrivals, C to D microframes apart, between visits, A to B apart
+  usbhs visits A B C D                    arrivals C to D microframes apart, visits A to B apart
   usbhs replay LIST                       a recorded list of calls as a timeline
       --svg FILE, --all                   as a picture too; every event in words
 
 A FILE, IMAGE or LIST that is - is standard input. --json: for programs. --help: this text.
-A descriptor is bytes, or text with two hexadecimal digits a byte. A channel is a line, NAME MAXIMUM
-CHARGE.
+A descriptor is bytes, or text with two hexadecimal digits a byte.
+A channel is a line: NAME MAXIMUM CHARGE.
 Exit status: 0 well; 1 the answer is no (blocks were dropped, a board or fifteen slots do not do, a
 recorded answer is not the port's); 2 a bad command line or input.
 ";
