@@ -128,3 +128,45 @@ find-fits v (suc f) d at a n h = go (stepAt v d) refl (λ e. find-fits v f e at 
         let x : d ≡ at = cc in
         let y : m ≡ n = cc in
         omega (arith, gives-fits v d b m e)
+
+-- ---- a packet that is found lies in good blocks
+
+intact-clean : (v : View) (d x : ℕ) (s : Step) (a n : ℕ) → intact v d x s ≡ Gives a n → blockEnd x ≤ cleanUpTo v d x
+intact-clean v d x s a n i = elim (decLt (cleanUpTo v d x) (blockEnd x)) [
+  | yes c ↦ absurd (gives-nowhere a n _ (sym i ∙ intact-cut v d x s c))
+  | no c ↦ omega arith
+]
+
+begin-clean : (v : View) (d a n : ℕ) → beginAt v d ≡ Gives a n → blockEnd (d + 3 + n) ≤ cleanUpTo v d (d + 3 + n)
+begin-clean v d a n h = elim (ℕ-discrete (endpointAt v d) 0) [
+  | yes z ↦ absurd (ends-gives a n (sym (begin-filler v d z) ∙ h))
+  | no z ↦ elim (decLt (total v) (d + 3 + lengthAt v d)) [
+    | yes p ↦ absurd (ends-gives a n (intact-gives v d (total v) Ends a n (sym (begin-packet v d z ∙ packet-past v d (lengthAt v d) p) ∙ h)))
+    | no p ↦ (let i = sym (begin-packet v d z ∙ packet-in v d (lengthAt v d) (omega arith)) ∙ h in
+        let g = intact-gives v d (d + 3 + lengthAt v d) (Gives (endpointAt v d) (lengthAt v d)) a n i in
+        let e : lengthAt v d ≡ n = cc in
+        rw e at (intact-clean v d (d + 3 + lengthAt v d) (Gives (endpointAt v d) (lengthAt v d)) a n i))
+  ]
+]
+
+gives-clean : (v : View) (d a n : ℕ) → stepAt v d ≡ Gives a n → blockEnd (d + 3 + n) ≤ cleanUpTo v d (d + 3 + n)
+gives-clean v d a n h = elim (decLt (total v) (d + 3)) [
+  | yes s ↦ absurd (ends-gives a n (sym (step-short v d s) ∙ h))
+  | no s ↦ begin-clean v d a n (intact-gives v d (d + 3) (beginAt v d) a n (sym (step-begin v d (omega arith)) ∙ h))
+]
+
+pub find-clean : (v : View) (f d at a n : ℕ) → find v f d ≡ found.Packet at a n → blockEnd (at + 3 + n) ≤ cleanUpTo v at (at + 3 + n)
+unfolding find
+find-clean v zero d at a n h = absurd (nothing-packet at a n h)
+find-clean v (suc f) d at a n h = go (stepAt v d) refl (λ e. find-clean v f e at a n)
+  where
+    go : (s : Step) → stepAt v d ≡ s
+        → ((e : ℕ) → find v f e ≡ found.Packet at a n → blockEnd (at + 3 + n) ≤ cleanUpTo v at (at + 3 + n))
+        → blockEnd (at + 3 + n) ≤ cleanUpTo v at (at + 3 + n)
+    go Ends e i = absurd (nothing-packet at a n (sym (find-end v (suc f) d e) ∙ h))
+    go (Goes x) e i = i x (sym (find-go v f d x e) ∙ h)
+    go (Gives b m) e i =
+        let g : found.Packet d b m ≡ found.Packet at a n = sym (find-give v f d b m e) ∙ h in
+        let x : d ≡ at = cc in
+        let y : m ≡ n = cc in
+        rw (x, y) at (gives-clean v d b m e)

@@ -1,3 +1,6 @@
+pub mod Seen
 pub mod Calls
 pub mod Rooms
 pub mod Runs
+pub mod Batches
+pub mod BatchLaws
