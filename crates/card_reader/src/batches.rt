@@ -1,11 +1,17 @@
 // As many packets at once as a room holds. No block is checked twice but one that names a begin behind a bad one.
 use crate::Batch;
 use crate::Reader;
+use crate::blocks::byte_at;
+use crate::blocks::pair_at;
 use crate::reading::copy_data;
 use crate::reading::find_from;
 use card::Found;
 ghost use mathlib.Core.Path.{_≡_};
 ghost use lib.ListN.{length};
+ghost use Rattle.card.specs.Reading.{total, find};
+ghost use Rattle.card.specs.Streams.{view};
+ghost use Rattle.card_reader.specs.Seen.{Seen};
+ghost use Rattle.card_reader.specs.Inside.{IfFound};
 ghost use Rattle.card_reader.specs.Batches.{Takes, some, front, answerBy, batchOf, batchRoomOf};
 
 // Some packets: how many, how many bytes of the room they take, the place behind them, and whether the next one is too long for the rest.
@@ -14,6 +20,46 @@ pub struct Taken {
     pub used: usize,
     pub at: usize,
     pub short: bool,
+}
+
+// A packet at d that lies whole in a block which is known to be good: what most packets are.
+fn inside(stream: &[u8], d: usize, first: usize) -> Found
+    requires { ⌜ Seen (view (now stream)) d first ⌝ }
+    ensures { λ r. ⌜ IfFound (view (now (stream .entry))) d r ⌝ }
+{
+    let k = d / 504;
+    if first <= k {
+        return Found::Nothing;
+    }
+    let left = 504 - d % 504;
+    if left < 3 {
+        return Found::Nothing;
+    }
+    let i = 510 - left;
+    let endpoint = byte_at(stream, k * 512 + (i + 2));
+    if endpoint == 0 {
+        return Found::Nothing;
+    }
+    let len = pair_at(stream, k, i);
+    if left - 3 < len {
+        return Found::Nothing;
+    }
+    Found::Packet {
+        at: d,
+        endpoint: endpoint as u8,
+        len: len as u16,
+    }
+}
+
+// The next packet from d on; the blocks of d before block `first` are good.
+fn next_from(stream: &[u8], d: usize, first: usize) -> Found
+    requires { ⌜ Seen (view (now stream)) d first ⌝ }
+    ensures { λ r. ⌜ r ≡ find (view (now (stream .entry))) (total (view (now (stream .entry)))) d ⌝ }
+{
+    match inside(stream, d, first) {
+        Found::Packet { at, endpoint, len } => Found::Packet { at, endpoint, len },
+        Found::Nothing => find_from(stream, d, first),
+    }
 }
 
 fn take(stream: &[u8], place: usize, room: &mut [u8]) -> Taken
@@ -25,7 +71,7 @@ fn take(stream: &[u8], place: usize, room: &mut [u8]) -> Taken
     let mut d = place;
     let mut first = place / 504;
     loop {
-        match find_from(stream, d, first) {
+        match next_from(stream, d, first) {
             Found::Nothing => {
                 return Taken {
                     count,

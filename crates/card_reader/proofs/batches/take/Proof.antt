@@ -15,7 +15,7 @@ use Rattle.card_reader.proofs.batches.take.Tie as tie
 use Rattle.card_reader.proofs.batches.take.Reads as reads
 use Rattle.card_reader.proofs.batches.take.Lts as lts
 use Rattle.card_reader.proofs.reading.copy_data.Reads as copy-data-reads
-use Rattle.card_reader.proofs.reading.find_from.Reads as find-from-reads
+use Rattle.card_reader.proofs.batches.next_from.Reads as next-from-reads
 
 abbrev Inv-loop : tie.InvT-loop
 Inv-loop stream place room₀ count₀ used₀ d₀ first₀ room count used d first =
@@ -31,8 +31,8 @@ loop-holds c =
     begins (view (s .stream .now)) (s .room .now) (s .place)
 
 -- src/batches.rt:29:15
-find-from-requires : tie.Need-find-from-requires Inv-loop μ-loop
-find-from-requires c κs = c .loop .inv .seen
+next-from-requires : tie.Need-next-from-requires Inv-loop μ-loop
+next-from-requires c κs = c .loop .inv .seen
 
 -- src/batches.rt:31:17
 enum-told : tie.Need-enum-told Inv-loop μ-loop
@@ -48,7 +48,7 @@ returns c =
     let t = c .before .before .before .loop in
     let s = c .before .before .before .before .before .before .args in
     let v = view (s .stream .now) in
-    let found = sym (c .before .before .find-from .ensures) ∙ c .enum-told .given .1 in
+    let found = sym (c .before .before .next-from .ensures) ∙ c .enum-told .given .1 in
     let stops = some-end v (t .inv .fuel) (t .d) _ (t .inv .enough) found in
     ends v _ (s .room .now) (t .room) (t .count) (t .used) (t .d) (t .first) false (t .inv) stops
 
@@ -78,7 +78,7 @@ returns-2 c =
     let t = c .before .before .before .before .before .loop in
     let s = c .before .before .before .before .before .before .before .before .args in
     let v = view (s .stream .now) in
-    let found = sym (c .before .before .before .before .find-from .ensures) ∙ c .before .before .at .given .1 in
+    let found = sym (c .before .before .before .before .next-from .ensures) ∙ c .before .before .at .given .1 in
     let stops = some-short v (t .inv .fuel) (t .d) _ _ _ _ (t .inv .enough) found (omega arith) in
     ends v _ (s .room .now) (t .room) (t .count) (t .used) (t .d) (t .first) true (t .inv) stops
 
@@ -88,7 +88,7 @@ copy-data-requires c κs =
     let t = c .before .before .before .before .before .before .loop in
     let s = c .before .before .before .before .before .before .before .before .before .args in
     let v = view (s .stream .now) in
-    let found = sym (c .before .before .before .before .before .find-from .ensures) ∙ c .before .before .before .at .given .1 in
+    let found = sym (c .before .before .before .before .before .next-from .ensures) ∙ c .before .before .before .at .given .1 in
     let fits = find-fits v (total v) (t .d) _ _ _ found in
     (omega arith, omega arith)
 
@@ -106,7 +106,7 @@ add-d c =
     let t = c .before .before .before .before .before .before .before .before .before .loop in
     let s = c .before .before .before .before .before .before .before .before .before .before .before .before .args in
     let v = view (s .stream .now) in
-    let found = sym (c .before .before .before .before .before .before .before .before .find-from .ensures) ∙ c .before .before .before .before .before .before .at .given .1 in
+    let found = sym (c .before .before .before .before .before .before .before .before .next-from .ensures) ∙ c .before .before .before .before .before .before .at .given .1 in
     let fits = find-fits v (total v) (t .d) _ _ _ found in
     omega arith
 
@@ -116,7 +116,7 @@ add-first c =
     let t = c .before .before .before .before .before .before .before .before .before .loop in
     let s = c .before .before .before .before .before .before .before .before .before .before .before .before .args in
     let v = view (s .stream .now) in
-    let found = sym (c .before .before .before .before .before .before .before .before .find-from .ensures) ∙ c .before .before .before .before .before .before .at .given .1 in
+    let found = sym (c .before .before .before .before .before .before .before .before .next-from .ensures) ∙ c .before .before .before .before .before .before .at .given .1 in
     let fits = find-fits v (total v) (t .d) _ _ _ found in
     omega arith
 
@@ -130,7 +130,7 @@ loop-again c =
     let t = c .before .before .before .before .before .before .before .before .before .loop in
     let s = c .before .before .before .before .before .before .before .before .before .before .before .before .args in
     let v = view (s .stream .now) in
-    let found = sym (c .before .before .before .before .before .before .before .before .find-from .ensures) ∙ c .before .before .before .before .before .before .at .given .1 in
+    let found = sym (c .before .before .before .before .before .before .before .before .next-from .ensures) ∙ c .before .before .before .before .before .before .at .given .1 in
     let copied = c .before .before .copy-data .ensures in
     goes-on v _ (s .room .now) (t .room) _ (t .count) (t .used) (t .d) (t .first) _ _ _ (t .inv) found (omega arith) copied
 
@@ -141,7 +141,7 @@ take-spec =
     Inv-loop
     μ-loop
     loop-holds
-    find-from-requires
+    next-from-requires
     enum-told
     same-length
     returns
