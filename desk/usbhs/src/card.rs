@@ -3,7 +3,6 @@
 //! The image is gone through once, a stretch of blocks at a time: each block is checked, for the count of those that are good and why the others
 //! are not; then the reader gives the packets that begin in the stretch. Which packets are given is the reader's to say alone.
 
-use std::collections::BTreeMap;
 use std::io::Write;
 
 use crate::args::Args;
@@ -69,10 +68,15 @@ pub struct Summary {
     pub run_count: usize,
     last: Option<Run>,
     /// For each endpoint its packets and their bytes.
-    pub endpoints: BTreeMap<u32, (u64, u64)>,
+    endpoints: Vec<(u64, u64)>,
 }
 
 impl Summary {
+    /// The endpoints that have packets, with how many and how many bytes.
+    fn given(&self) -> impl Iterator<Item = (usize, (u64, u64))> + '_ {
+        self.endpoints.iter().copied().enumerate().filter(|(_, sums)| sums.0 != 0)
+    }
+
     pub fn dropped(&self) -> usize {
         self.failed + self.misplaced
     }
@@ -104,11 +108,14 @@ impl Summary {
 /// Goes through the image once; each packet goes to `give`.
 pub fn go_through(
     image: &mut Image,
+    places: bool,
     progress: &mut Progress,
     mut give: impl FnMut(&Packet) -> Done<()>,
 ) -> Done<Summary> {
-    let mut all = Summary::default();
-    let Ok(mut reader) = Reader::new(image.bytes()) else {
+    // an endpoint is a byte on the card
+    let mut all = Summary { endpoints: vec![(0, 0); 256], ..Summary::default() };
+    let reader = if places { Reader::with_places(image.bytes()) } else { Reader::new(image.bytes()) };
+    let Ok(mut reader) = reader else {
         let bytes = image.bytes().len();
         return bad(format!(
             "{} bytes are not whole blocks of 512: {} and {} more (21); --cut leaves these out",
@@ -123,10 +130,10 @@ pub fn go_through(
         let stream = image.bytes();
         let to = (from + STRETCH).min(stream.len());
         stream[from..to].chunks_exact(BLOCK).for_each(|b| all.look(b));
-        while !over && reader.block() * BLOCK < to {
+        while !over && (reader.has_more() || reader.block() * BLOCK < to) {
             match reader.next(stream) {
                 Some(packet) => {
-                    let sums = all.endpoints.entry(packet.endpoint).or_default();
+                    let sums = &mut all.endpoints[packet.endpoint as usize & 255];
                     *sums = (sums.0 + 1, sums.1 + packet.bytes.len() as u64);
                     give(&packet)?;
                 }
@@ -175,10 +182,10 @@ fn text(path: &str, all: &Summary) -> String {
     if all.run_count > all.runs.len() {
         t += &format!("  and {} more places\n", thousands((all.run_count - all.runs.len()) as u64));
     }
-    for (endpoint, (packets, bytes)) in &all.endpoints {
-        t += &format!("endpoint {endpoint}: {}, {}\n", count(*packets, "packet"), count(*bytes, "byte"));
+    for (endpoint, (packets, bytes)) in all.given() {
+        t += &format!("endpoint {endpoint}: {}, {}\n", count(packets, "packet"), count(bytes, "byte"));
     }
-    if all.endpoints.is_empty() {
+    if all.given().next().is_none() {
         t += "no packet\n";
     }
     t
@@ -197,8 +204,8 @@ fn json(all: &Summary) -> Json {
             ("number", number.into()),
         ])
     };
-    let endpoint = |(e, (packets, bytes)): (&u32, &(u64, u64))| {
-        Json::Object(vec![("endpoint", (*e).into()), ("packets", (*packets).into()), ("bytes", (*bytes).into())])
+    let endpoint = |(e, (packets, bytes)): (usize, (u64, u64))| {
+        Json::Object(vec![("endpoint", e.into()), ("packets", packets.into()), ("bytes", bytes.into())])
     };
     Json::Object(vec![
         ("blocks", all.blocks.into()),
@@ -207,7 +214,7 @@ fn json(all: &Summary) -> Json {
         ("dropped_by_number", all.misplaced.into()),
         ("dropped", all.runs.iter().map(run).collect::<Vec<_>>().into()),
         ("dropped_places", all.run_count.into()),
-        ("endpoints", all.endpoints.iter().map(endpoint).collect::<Vec<_>>().into()),
+        ("endpoints", all.given().map(endpoint).collect::<Vec<_>>().into()),
     ])
 }
 
@@ -234,6 +241,11 @@ impl Form {
             Form::Csv => "packet,block,offset,endpoint,length,bytes\n",
             Form::Samples => "packet,endpoint,sample,value\n",
         }
+    }
+
+    /// Does it tell where packets begin?
+    fn places(&self) -> bool {
+        !matches!(self, Form::Raw | Form::Samples)
     }
 
     fn foot(&self) -> &'static str {
@@ -300,7 +312,7 @@ pub fn run(mut args: Args, as_json: bool, out: &mut dyn Write) -> Done<bool> {
         other => other,
     };
     let Some(form) = form else {
-        let all = go_through(&mut image, &mut progress, |_| Ok(())).map_err(named)?;
+        let all = go_through(&mut image, false, &mut progress, |_| Ok(())).map_err(named)?;
         drop(progress);
         let answer = if as_json { format!("{}\n", json(&all)) } else { text(&path, &all) };
         written(out.write_all(answer.as_bytes()))?;
@@ -313,7 +325,7 @@ pub fn run(mut args: Args, as_json: bool, out: &mut dyn Write) -> Done<bool> {
     };
     written(out.write_all(form.head().as_bytes()))?;
     let mut n = 0;
-    let all = go_through(&mut image, &mut progress, |p| {
+    let all = go_through(&mut image, form.places(), &mut progress, |p| {
         if only.is_none_or(|e| e == p.endpoint) {
             written(form.packet(out, n, p))?;
             n += 1;

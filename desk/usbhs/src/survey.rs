@@ -24,6 +24,15 @@ extern "C" {
         room: *mut u8,
         room_len: usize,
     ) -> u64;
+    fn usbhs_card_read(
+        stream: *const u8,
+        len: usize,
+        place: *mut usize,
+        room: *mut u8,
+        room_len: usize,
+        count: *mut usize,
+        used: *mut usize,
+    ) -> u64;
     fn usbhs_write_descriptor(bytes: *const u8, len: usize, room: *mut u8, room_len: usize) -> u64;
     fn usbhs_start_up(
         state: *mut u8,
@@ -206,15 +215,29 @@ impl Writer {
 /// A packet as the reader gives it.
 pub struct Packet<'a> {
     pub endpoint: u32,
-    /// Where it begins, counted in packet data: block times 504 plus its place there.
+    /// Where it begins, counted in packet data: block times 504 plus its place there. 0 where places are not asked for.
     pub begin: usize,
     pub bytes: &'a [u8],
 }
 
-/// Reads a stream's packets. This is the only place that asks the archive for packets.
+/// What a batch's packets have in front of their bytes: two of length, one of the endpoint.
+const HEAD: usize = 3;
+/// Room for some packets, and for the longest: a length has 16 bits.
+const ROOM: usize = 1 << 18;
+
+/// Reads a stream's packets, as many at a time as its room holds. This is the only place that asks the archive for packets.
 pub struct Reader {
     place: usize,
     room: Vec<u8>,
+    /// The packets that are read and not yet given stand here in the room, one behind the other.
+    from: usize,
+    to: usize,
+    /// Where the first of them begins.
+    begin: usize,
+    /// Are packets' places asked for?
+    places: bool,
+    /// So many packets are read one at a time.
+    singly: usize,
 }
 
 impl Reader {
@@ -222,17 +245,75 @@ impl Reader {
         let mut place = 0;
         // SAFETY: a slice with its own length
         answered(unsafe { usbhs_card_start(stream.as_ptr(), stream.len(), &mut place) })?;
-        // a length has 16 bits
-        Ok(Self { place, room: vec![0; 65_535] })
+        Ok(Self { place, room: vec![0; ROOM], from: 0, to: 0, begin: place, places: false, singly: 0 })
     }
 
-    /// The block that it goes on in.
+    /// A reader that tells where each packet begins.
+    pub fn with_places(stream: &[u8]) -> Result<Self, u8> {
+        Ok(Self { places: true, ..Self::new(stream)? })
+    }
+
+    /// The same by usbhs_card_next alone.
+    pub fn one_by_one(stream: &[u8]) -> Result<Self, u8> {
+        Ok(Self { singly: usize::MAX, ..Self::with_places(stream)? })
+    }
+
+    /// The block from which on nothing is read yet.
     pub fn block(&self) -> usize {
         self.place / DATA
     }
 
+    /// Packets are read that are not yet given.
+    pub fn has_more(&self) -> bool {
+        self.from < self.to
+    }
+
     /// The next packet, from the same stream.
     pub fn next(&mut self, stream: &[u8]) -> Option<Packet<'_>> {
+        if !self.has_more() && !self.fill(stream) {
+            return None;
+        }
+        let head = &self.room[self.from..self.from + HEAD];
+        let (length, endpoint) = (u16::from_le_bytes([head[0], head[1]]) as usize, head[2].into());
+        let at = self.from + HEAD;
+        let begin = self.begin;
+        self.from = at + length;
+        self.begin += HEAD + length;
+        Some(Packet { endpoint, begin, bytes: &self.room[at..at + length] })
+    }
+
+    /// Reads as many packets as the room holds.
+    fn fill(&mut self, stream: &[u8]) -> bool {
+        if self.singly != 0 {
+            return self.one(stream);
+        }
+        let before = self.place;
+        let (mut count, mut used) = (0, 0);
+        // the room holds every packet, and the stream is whole blocks: nothing is refused
+        // SAFETY: slices with their own lengths
+        let more = answered(unsafe {
+            usbhs_card_read(
+                stream.as_ptr(),
+                stream.len(),
+                &mut self.place,
+                self.room.as_mut_ptr(),
+                self.room.len(),
+                &mut count,
+                &mut used,
+            )
+        }) == Ok(1);
+        (self.from, self.to, self.begin) = (0, used, before);
+        if more && self.places && before + used != self.place {
+            // a dropped block stands among them: one at a time, they tell where they begin
+            (self.place, self.singly) = (before, count);
+            return self.one(stream);
+        }
+        more
+    }
+
+    /// Reads one packet.
+    fn one(&mut self, stream: &[u8]) -> bool {
+        self.singly -= 1;
         let mut endpoint = 0;
         // SAFETY: slices with their own lengths
         let word = unsafe {
@@ -241,14 +322,15 @@ impl Reader {
                 stream.len(),
                 &mut self.place,
                 &mut endpoint,
-                self.room.as_mut_ptr(),
-                self.room.len(),
+                self.room[HEAD..].as_mut_ptr(),
+                self.room.len() - HEAD,
             )
         };
-        // the room holds every packet, and the stream is whole blocks: nothing is refused
-        (word & 15 == 7).then(|| {
-            let length = (word >> 8 & 0xFFFF) as usize;
-            Packet { endpoint, begin: self.place - length - 3, bytes: &self.room[..length] }
-        })
+        let length = (word >> 8 & 0xFFFF) as usize;
+        self.room[..2].copy_from_slice(&(length as u16).to_le_bytes());
+        self.room[2] = endpoint as u8;
+        (self.from, self.to) = (0, HEAD + length);
+        self.begin = self.place.saturating_sub(HEAD + length);
+        word & 15 == 7
     }
 }

@@ -57,10 +57,16 @@ fn count(card: &[u8]) -> usize {
     std::iter::from_fn(|| reader.next(card).map(|_| ())).count()
 }
 
+/// Each packet's place, endpoint and bytes, read one at a time.
+fn one_by_one(card: &[u8]) -> Vec<(usize, u32, Vec<u8>)> {
+    let mut reader = Reader::one_by_one(card).unwrap();
+    std::iter::from_fn(|| reader.next(card).map(|p| (p.begin, p.endpoint, p.bytes.to_vec()))).collect()
+}
+
 #[test]
 fn any_damage() {
     let mut numbers = Numbers(7);
-    for round in 0..60 {
+    for round in 0..200 {
         let all = packets(numbers.below(120), &mut numbers);
         let mut card = stream(borrowed(&all));
         for _ in 0..numbers.below(5) {
@@ -78,6 +84,10 @@ fn any_damage() {
         }
         let ran = usbhs(&["card", "list", "--quiet", "-"], &card);
         assert_eq!(ran.text().lines().count(), 1 + count(&card), "round {round}");
+        // many at a time or one at a time: the same packets at the same places
+        let mut reader = Reader::with_places(&card).unwrap();
+        let many = std::iter::from_fn(|| reader.next(&card).map(|p| (p.begin, p.endpoint, p.bytes.to_vec())));
+        assert!(many.eq(one_by_one(&card)), "round {round}");
         let dropped = card.chunks(BLOCK).enumerate().filter(|(i, b)| usbhs::card::block(b, *i).is_err()).count();
         assert_eq!(ran.status, i32::from(dropped != 0), "round {round}");
     }
