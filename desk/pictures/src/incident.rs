@@ -1,4 +1,5 @@
-//! A recorded list of calls through the unchanged Rust and through the port: what each shows, on the card and back, and where the two differ.
+//! A recorded list of calls through the unchanged Rust and through the port: what each shows, on the card and back,
+//! and where the two differ.
 
 use oracle::replay::Session;
 use oracle::text::{parse, print, Entry, Line};
@@ -8,7 +9,8 @@ use usbhs::survey::{Reader, Writer};
 /// The endpoint whose packets are exported.
 pub const ENDPOINT: u8 = 1;
 
-/// One side's run: every entry, the packets that were opened, the card that they were written to, and what was read back from it.
+/// One side's run: every entry, the packets that were opened, the card that they were written to, and what was read
+/// back from it.
 pub struct Side {
     pub entries: Vec<Entry>,
     pub card: Vec<u8>,

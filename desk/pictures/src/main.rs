@@ -1,5 +1,5 @@
-//! incident LIST [FOLDER]: the same host traffic through the unchanged Rust and through the port, both exports through the card, the flat-topped
-//! samples counted. Into the folder: both cards and the picture.
+//! incident LIST [FOLDER]: the same host traffic through the unchanged Rust and through the port, both exports
+//! through the card, the flat-topped samples counted. Into the folder: both cards and the picture.
 
 use std::path::Path;
 use std::process::ExitCode;

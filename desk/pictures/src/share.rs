@@ -1,4 +1,5 @@
-//! share DATA SVG: the share of a microframe that each operation takes, from a table of figures (docs/pictures/share.txt).
+//! share DATA SVG: the share of a microframe that each operation takes, from a table of figures
+//! (docs/pictures/share.txt).
 
 use std::process::ExitCode;
 
@@ -17,7 +18,8 @@ const RULE: &str = "#d5dbe2";
 const PORT: &str = "#1f5fa8";
 const RUST: &str = "#b08968";
 
-/// The file: `microframe NS`, then lines `NAME | CALLS | PORT NS A CALL | RUST NS A CALL`; `#` begins a comment. `title` and `note` are words.
+/// The file: `microframe NS`, then lines `NAME | CALLS | PORT NS A CALL | RUST NS A CALL`; `#` begins a comment.
+/// `title` and `note` are words.
 struct Data {
     title: String,
     note: String,

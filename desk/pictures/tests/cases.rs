@@ -12,7 +12,8 @@ enum Entry {
     InTime,
     /// Behind the host's poll of endpoint 2: its IN is the token that the status shows, and the length is gone.
     Late,
-    /// While the packet was on the bus; when that is free, the status shows the poll of endpoint 2, and the length is gone.
+    /// While the packet was on the bus; when that is free, the status shows the poll of endpoint 2, and the length
+    /// is gone.
     Busy,
 }
 

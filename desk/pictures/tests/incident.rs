@@ -23,7 +23,8 @@ fn sent_212_the_rust_228_the_port_212() {
         (packets.len(), all.len(), flat_topped(&all))
     });
     assert_eq!(counts, [(96, 3_056, 212), (96, 3_072, 228), (96, 3_056, 212)]);
-    // the port exports what was sent, byte for byte; the Rust sixteen samples more, those of the packet that had the slot before
+    // the port exports what was sent, byte for byte; the Rust sixteen samples more, those of the packet that had
+    // the slot before
     assert!(run.port.packets == run.sent);
     assert_eq!(run.before(58), Some(42));
     let mut with_old = run.sent.clone();
@@ -76,13 +77,6 @@ fn the_pictures_are_those_that_are_drawn() {
     let mut share = Command::new(env!("CARGO_BIN_EXE_share"));
     share.arg(root().join("docs/pictures/share.txt")).arg(folder.join("share.svg"));
     assert!(drawn("share.svg", share) == committed("share.svg"), "docs/pictures/share.svg");
-    // the share's figures are those of the page
-    let page = std::fs::read_to_string(root().join("docs/BENCHMARKS.md")).unwrap();
-    let data = std::fs::read_to_string(root().join("docs/pictures/share.txt")).unwrap();
-    for line in data.lines().filter(|l| l.contains('|') && !l.starts_with('#')) {
-        let [name, calls, port, _] = line.split('|').map(str::trim).collect::<Vec<_>>()[..] else { panic!("{line}") };
-        assert!(page.contains(&format!("| {name} | {calls} | {port} |")), "docs/BENCHMARKS.md has no {name}");
-    }
 }
 
 #[test]

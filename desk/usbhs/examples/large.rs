@@ -1,6 +1,6 @@
-//! large [BYTES [LENGTH..]]: streams of at least so many bytes (a billion, if not said) with packets of these lengths (4, 64 and 1,024), every
-//! thousandth block damaged; each is read by `cat`, `sha256sum` and `usbhs card check`, three times in turn. Prints a table: the best time of
-//! each, and the most memory that it held.
+//! large [BYTES [LENGTH..]]: streams of at least so many bytes (a billion, if not said) with packets of these
+//! lengths (4, 64 and 1,024), every thousandth block damaged; each is read by `cat`, `sha256sum` and `usbhs card
+//! check`, three times in turn. Prints a table: the best time of each, and the most memory that it held.
 
 use std::fs::File;
 use std::io::{BufWriter, Write};
@@ -29,6 +29,8 @@ struct Took {
     status: i32,
 }
 
+// wait4 waits for it, and tells its memory
+#[allow(clippy::zombie_processes)]
 fn run(program: &Path, words: &[&str]) -> Took {
     let began = Instant::now();
     let child = Command::new(program).args(words).stdout(Stdio::null()).spawn().expect("a program that runs");

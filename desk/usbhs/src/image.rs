@@ -1,5 +1,6 @@
-//! An input as one slice of bytes. A file is mapped, not loaded: its pages come as they are read, and those that are done with are given back, so that
-//! the memory in use does not grow with the file. What comes through a pipe goes into a temporary file first.
+//! An input as one slice of bytes. A file is mapped, not loaded: its pages come as they are read, and those that
+//! are done with are given back, so that the memory in use does not grow with the file. What comes through a pipe
+//! goes into a temporary file first.
 
 use std::ffi::c_void;
 use std::fs::{File, OpenOptions};
@@ -119,7 +120,8 @@ impl Image {
         self.seen -= self.seen % block;
     }
 
-    /// What stands before this place is done with: its memory is given back. The bytes stay readable, by reading them again.
+    /// What stands before this place is done with: its memory is given back. The bytes stay readable, by reading
+    /// them again.
     pub fn done_with(&mut self, before: usize) {
         let to = before.min(self.len) / PIECE * PIECE;
         if to > self.given_back {

@@ -1,4 +1,5 @@
-//! usbhs: packets on the card, configuration descriptors, channels, visits and recorded lists of calls, over the proved archives.
+//! usbhs: packets on the card, configuration descriptors, channels, visits and recorded lists of calls, over the
+//! proved archives.
 
 use std::process::ExitCode;
 

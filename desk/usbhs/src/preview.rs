@@ -1,4 +1,5 @@
-//! `usbhs descriptor preview FILE --size S --count N`: what allocating a descriptor's endpoints on a board would give, buffer by buffer.
+//! `usbhs descriptor preview FILE --size S --count N`: what allocating a descriptor's endpoints on a board would
+//! give, buffer by buffer.
 
 use std::io::Write;
 

@@ -1,4 +1,5 @@
-//! The frame reading with which the port's next interrupt begins. Recorded lists do not have it (oracle/README.md, "One"): the replay brings it.
+//! The frame reading with which the port's next interrupt begins. Recorded lists do not have it (oracle/README.md,
+//! "One"): the replay brings it.
 
 use std::cell::Cell;
 

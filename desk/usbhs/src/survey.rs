@@ -225,7 +225,8 @@ const HEAD: usize = 3;
 /// Room for some packets, and for the longest: a length has 16 bits.
 const ROOM: usize = 1 << 18;
 
-/// Reads a stream's packets, as many at a time as its room holds. This is the only place that asks the archive for packets.
+/// Reads a stream's packets, as many at a time as its room holds. This is the only place that asks the archive for
+/// packets.
 pub struct Reader {
     place: usize,
     room: Vec<u8>,

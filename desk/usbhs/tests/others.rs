@@ -135,6 +135,34 @@ fn replay() {
 }
 
 #[test]
+fn replay_takes_any_list() {
+    // lists with words changed, lines left out or said twice: a timeline or an error, and no end otherwise
+    let mut numbers = Numbers(11);
+    let runs = samples().join("../../oracle/runs");
+    let (mut drawn, mut bad) = (0, 0);
+    for file in std::fs::read_dir(runs).unwrap() {
+        let list = std::fs::read_to_string(file.unwrap().path()).unwrap();
+        for _ in 0..20 {
+            let mut lines: Vec<String> = list.lines().map(Into::into).collect();
+            for _ in 0..1 + numbers.below(4) {
+                let at = numbers.below(lines.len());
+                match numbers.below(4) {
+                    0 => drop(lines.remove(at)),
+                    1 => lines.insert(at, lines[numbers.below(lines.len())].clone()),
+                    2 => lines[at] = lines[at].replacen(['1', '2', '4'], ["15", "0", "255"][numbers.below(3)], 1),
+                    _ => lines[at] = lines[at].replacen("out", "in", 1),
+                }
+            }
+            match usbhs::replay::drawn(&lines.join("\n"), "any") {
+                Ok(svg) => drawn += usize::from(svg.ends_with("</svg>\n")),
+                Err(_) => bad += 1,
+            }
+        }
+    }
+    assert!(drawn > 100 && drawn + bad == 21 * 20, "{drawn} drawn, {bad} bad");
+}
+
+#[test]
 fn the_command_line() {
     refused(&[], b"", "a command is missing");
     refused(&["wash"], b"", "wash is no command");

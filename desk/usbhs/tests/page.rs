@@ -1,5 +1,5 @@
-//! The examples of docs/TOOL.md: each command is run in desk/samples, and what it writes is what the page says. With UPDATE_PAGE=1 the page is
-//! written anew instead.
+//! The examples of docs/TOOL.md: each command is run in desk/samples, and what it writes is what the page says.
+//! With UPDATE_PAGE=1 the page is written anew instead.
 
 use std::path::Path;
 use std::process::Command;

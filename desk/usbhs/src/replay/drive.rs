@@ -154,8 +154,9 @@ fn frames(steps: &[Step]) -> Vec<u16> {
     all
 }
 
-/// Makes the calls of a list on the port. The reading with which its interrupts begin is not in the list: the first time they bring 0, and then what
-/// the interrupt itself read in its midst, as the two fall into one microframe; nothing but stamps depends on it.
+/// Makes the calls of a list on the port. The reading with which its interrupts begin is not in the list: the first
+/// time they bring 0, and then what the interrupt itself read in its midst, as the two fall into one microframe;
+/// nothing but stamps depends on it.
 pub fn drive(list: &str) -> Result<Vec<Step>, String> {
     let lines = parse(list)?;
     let first = made(&lines, &[])?;

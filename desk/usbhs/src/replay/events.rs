@@ -231,7 +231,8 @@ impl Builder {
         }
     }
 
-    /// Overruns and packets that are gone, as the questions tell them; those are sent only by an interrupt or an advance.
+    /// Overruns and packets that are gone, as the questions tell them; those are sent only by an interrupt or an
+    /// advance.
     fn questions(&mut self, step: &Step, sends: bool) {
         for e in 1..16u8 {
             let i = e as usize;
