@@ -55,6 +55,16 @@ fn the_list_is_what_the_rust_answers() {
 }
 
 #[test]
+fn the_readme_and_the_sample_card_say_the_same() {
+    let run = run(&list()).unwrap();
+    let readme = std::fs::read_to_string(root().join("README.md")).unwrap();
+    for line in run.told().lines().filter(|l| !l.is_empty()) {
+        assert!(readme.contains(&format!("    {line}\n")), "README.md: {line}");
+    }
+    assert!(std::fs::read(root().join("desk/samples/survey.card")).unwrap() == run.port.card, "survey.card");
+}
+
+#[test]
 fn a_list_that_is_not_the_rusts_is_turned_down() {
     let other = list().replacen("shown 0x280 64", "shown 0x280 60", 1);
     assert!(run(&other).is_err_and(|e| e.contains("the list is not what the Rust answers")));

@@ -82,10 +82,8 @@ impl Summary {
         self.failed + self.misplaced
     }
 
-    fn look(&mut self, bytes: &[u8]) {
-        let place = self.blocks;
-        self.blocks += 1;
-        let Err(why) = block(bytes, place) else { return };
+    /// The block at this place is dropped.
+    fn drop_block(&mut self, place: usize, why: Dropped) {
         match why {
             Dropped::Check => self.failed += 1,
             Dropped::Number(_) => self.misplaced += 1,
@@ -104,6 +102,12 @@ impl Summary {
             self.runs.extend(self.last);
         }
     }
+}
+
+/// The dropped blocks of a stretch that begins at this place.
+fn dropped(stretch: &[u8], first: usize) -> Vec<(usize, Dropped)> {
+    let places = (first..).zip(stretch.chunks_exact(BLOCK));
+    places.filter_map(|(place, bytes)| block(bytes, place).err().map(|why| (place, why))).collect()
 }
 
 /// Goes through the image once; each packet goes to `give`.
@@ -130,17 +134,23 @@ pub fn go_through(
     while from < image.bytes().len() {
         let stream = image.bytes();
         let to = (from + STRETCH).min(stream.len());
-        stream[from..to].chunks_exact(BLOCK).for_each(|b| all.look(b));
-        while !over && (reader.has_more() || reader.block() * BLOCK < to) {
-            match reader.next(stream) {
-                Some(packet) => {
-                    let sums = &mut all.endpoints[packet.endpoint as usize & 255];
-                    *sums = (sums.0 + 1, sums.1 + packet.bytes.len() as u64);
-                    give(&packet)?;
+        // the blocks are checked beside the reading
+        let dropped = std::thread::scope(|scope| {
+            let checked = scope.spawn(|| dropped(&stream[from..to], from / BLOCK));
+            while !over && (reader.has_more() || reader.block() * BLOCK < to) {
+                match reader.next(stream) {
+                    Some(packet) => {
+                        let sums = &mut all.endpoints[packet.endpoint as usize & 255];
+                        *sums = (sums.0 + 1, sums.1 + packet.bytes.len() as u64);
+                        give(&packet)?;
+                    }
+                    None => over = true,
                 }
-                None => over = true,
             }
-        }
+            Ok(checked.join().expect("blocks are checked"))
+        })?;
+        all.blocks = to / BLOCK;
+        dropped.into_iter().for_each(|(place, why)| all.drop_block(place, why));
         image.done_with(to.min(reader.block() * BLOCK));
         from = to;
         progress.at(from as u64);
