@@ -1,7 +1,7 @@
 //! `usbhs card check|list|extract IMAGE`: packets on the card.
 //!
 //! The image is gone through once, a stretch of blocks at a time: each block is checked, for the count of those
-//! that are good and why the others are not; then the reader gives the packets that begin in the stretch. Which
+//! that are good and why the others are not, while the reader gives the packets that begin in the stretch. Which
 //! packets are given is the reader's to say alone.
 
 use std::io::Write;

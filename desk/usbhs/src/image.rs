@@ -84,6 +84,9 @@ impl Image {
     pub fn open(path: &str) -> Done<Self> {
         let mut file = open(path)?;
         let outcome = (|| {
+            if file.metadata()?.is_dir() {
+                return Err(ErrorKind::IsADirectory.into());
+            }
             // a file or a card itself has a length; a pipe has none
             let len = match file.seek(SeekFrom::End(0)) {
                 Err(e) if e.kind() == ErrorKind::NotSeekable => {

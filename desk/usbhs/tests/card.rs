@@ -113,7 +113,7 @@ fn empty() {
 #[test]
 fn no_image() {
     refused(&["card", "check", "no-such-file"], b"", "no-such-file: No such file or directory");
-    refused(&["card", "check", "."], b"", ".: ");
+    refused(&["card", "check", "."], b"", ".: is a directory");
     refused(&["card", "check", "-"], &[0; 700], "700 bytes are not whole blocks of 512");
     refused(&["card", "check"], b"", "IMAGE is missing");
     refused(&["card", "mend", "survey.card"], b"", "card mend: check, list or extract");
