@@ -107,6 +107,13 @@ uint64_t usbhs_card_next(const uint8_t *stream, usbhs_length stream_length, usbh
 #define usbhs_card_next(stream, stream_length, place, endpoint, room, room_length) \
     (usbhs_card_next)(stream, stream_length, USBHS_LENGTH_AT(place), endpoint, room, room_length)
 
+/* Many packets at once: as many as the room holds, what as many calls of usbhs_card_next give, one behind the other as they stand on the card: two bytes of
+ * length, lowest first, one of the endpoint, the packet's bytes. It checks each block once where usbhs_card_next checks it again for every packet.
+ *
+ * Ends with 1: *count packets in the first *used bytes of the room, and *place behind them; or with 0, both 0, where there is no more packet.
+ * Row 21: as usbhs_card_next; the room needs three bytes beside the packet's. */
+uint64_t usbhs_card_read(const uint8_t *stream, size_t stream_length, size_t *place, uint8_t *room, size_t room_length, size_t *count, size_t *used);
+
 /* The endpoints of a configuration descriptor written into the room as one interface, alternate setting 0: done with 18 bytes and 7 for each, of which
  * there are at most 32. Read again they are the same endpoints.
  * Row 17, first: the bytes are no configuration descriptor (USBHS_ROW 17 of usbhs_allocate_all has the conditions in full), or the room is too short

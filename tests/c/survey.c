@@ -263,6 +263,34 @@ static void given(const char *what, unsigned first, unsigned last)
     ended(what, usbhs_card_next(stream, stored, &place, &endpoint, room, sizeof room), 0);
 }
 
+/* The same packets at once, and again with a room for each alone. */
+static void given_at_once(const char *what, int first, int last)
+{
+    uint8_t room[4096];
+    size_t place = 0, count = 99, used = 99, at = 0;
+    int i;
+
+    ended(what, usbhs_card_start(stream, stored, &place), 0);
+    ended(what, usbhs_card_read(stream, stored, &place, room, sizeof room, &count, &used), 1);
+    expect(what, count, (uint64_t)(last - first + 1));
+    for (i = first; i <= last; i++) {
+        expect(what, room[at] + room[at + 1] * 256u, lengths[i]);
+        expect(what, room[at + 2], endpoints[i]);
+        expect(what, memcmp(room + at + 3, data[i], lengths[i]) != 0, 0);
+        at += 3 + lengths[i];
+    }
+    expect(what, used, at);
+    ended(what, usbhs_card_read(stream, stored, &place, room, sizeof room, &count, &used), 0);
+    expect(what, count + used, 0);
+    ended(what, usbhs_card_start(stream, stored, &place), 0);
+    for (i = first; i <= last; i++) {
+        refused(what, usbhs_card_read(stream, stored, &place, room, 2 + lengths[i], &count, &used), 21);
+        ended(what, usbhs_card_read(stream, stored, &place, room, 3 + lengths[i], &count, &used), 1);
+        expect(what, count, 1);
+        expect(what, used, 3 + lengths[i]);
+    }
+}
+
 static void read_back(void)
 {
     usbhs_length place = 99;
@@ -274,13 +302,17 @@ static void read_back(void)
     expect("refused: place", place, 99);
     expect("refused: endpoint", endpoint, 99);
     given("all", 0, 2);
+    given_at_once("all, at once", 0, 2);
     stream[2 * USBHS_BLOCK_LEN + 100] ^= 1; /* the third block: it cuts the last packet */
     given("third block bad", 0, 1);
+    given_at_once("third block bad, at once", 0, 1);
     stream[2 * USBHS_BLOCK_LEN + 100] ^= 1;
     stream[100] ^= 1; /* the first block: it cuts the first packet */
     given("first block bad", 1, 2);
+    given_at_once("first block bad, at once", 1, 2);
     stream[100] ^= 1;
     given("all again", 0, 2);
+    given_at_once("all again, at once", 0, 2);
 }
 
 int main(void)

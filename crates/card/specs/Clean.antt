@@ -1,9 +1,9 @@
 -- Laws on blocks that are good.
-use mathlib.Core.Path.{_≡_, refl}
-use mathlib.Core.Bool.{Bool, true, false, cond, and-false}
-use Prim.Native.Nat.{ℕ, zero, suc, _+_, _≤_, _<_}
+use mathlib.Core.Path.{_≡_, refl, sym, _∙_}
+use mathlib.Core.Bool.{Bool, true, false, cond, and-false, false≢true}
+use Prim.Native.Nat.{ℕ, zero, suc, _+_, _-_, _≤_, _<_}
 use native.Mathlib.Omega.{arith}
-use native.Mathlib.Decide.{ℕ-discrete}
+use native.Mathlib.Decide.{ℕ-discrete, decLt}
 use Rattle.card.specs.Reading.{View, cleanTo}
 use Rattle.card.specs.Kept.{allGood}
 
@@ -65,6 +65,16 @@ clean-join v (suc a) b k h = go (v .good k) refl h (clean-join v a b (k + 1))
         let y : k + suc a ≡ k + 1 + a = omega arith in
         rw (x, y, e) (i (omega arith))
     go false e l i = absurd (omega arith)
+
+-- of blocks that are all good, the last ones
+pub clean-part : (v : View) (a b e : ℕ) → a ≤ b → b ≤ e → e ≤ cleanTo v a (e - a) → e ≤ cleanTo v b (e - b)
+clean-part v a b e l h c = elim (decLt (cleanTo v b (e - b)) e) [
+  | yes bad ↦ (let x = cleanTo v b (e - b) in
+      let no = clean-bad v (e - b) b (omega arith) in
+      let yes = clean-good v (e - a) a x (omega (arith, clean-low v (e - b) b)) (omega arith) in
+      absurd (false≢true (sym no ∙ yes)))
+  | no good ↦ omega arith
+]
 
 pub all-false : (v : View) (n k j : ℕ) → k ≤ j → j < k + n → v .good j ≡ false → allGood v k n ≡ false
 unfolding allGood

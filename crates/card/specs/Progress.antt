@@ -114,17 +114,77 @@ find-goes v (suc f) d x t l e h = (f, omega (arith, goes-further v d x h .1), sy
 pub nothing-packet : (at a n : ℕ) → found.Nothing ≡ found.Packet at a n → ⊥
 nothing-packet at a n h = let z : _≡_ {A = ℕ} 0 1 = cc in omega arith
 
--- a packet that is found lies in the stream
-pub find-fits : (v : View) (f d at a n : ℕ) → find v f d ≡ found.Packet at a n → at + 3 + n ≤ total v
+-- ---- a packet that is found lies in good blocks
+
+intact-clean : (v : View) (d x : ℕ) (s : Step) (a n : ℕ) → intact v d x s ≡ Gives a n → blockEnd x ≤ cleanUpTo v d x
+intact-clean v d x s a n i = elim (decLt (cleanUpTo v d x) (blockEnd x)) [
+  | yes c ↦ absurd (gives-nowhere a n _ (sym i ∙ intact-cut v d x s c))
+  | no c ↦ omega arith
+]
+
+begin-clean : (v : View) (d a n : ℕ) → beginAt v d ≡ Gives a n → blockEnd (d + 3 + n) ≤ cleanUpTo v d (d + 3 + n)
+begin-clean v d a n h = elim (ℕ-discrete (endpointAt v d) 0) [
+  | yes z ↦ absurd (ends-gives a n (sym (begin-filler v d z) ∙ h))
+  | no z ↦ elim (decLt (total v) (d + 3 + lengthAt v d)) [
+    | yes p ↦ absurd (ends-gives a n (intact-gives v d (total v) Ends a n (sym (begin-packet v d z ∙ packet-past v d (lengthAt v d) p) ∙ h)))
+    | no p ↦ (let i = sym (begin-packet v d z ∙ packet-in v d (lengthAt v d) (omega arith)) ∙ h in
+        let g = intact-gives v d (d + 3 + lengthAt v d) (Gives (endpointAt v d) (lengthAt v d)) a n i in
+        let e : lengthAt v d ≡ n = cc in
+        rw e at (intact-clean v d (d + 3 + lengthAt v d) (Gives (endpointAt v d) (lengthAt v d)) a n i))
+  ]
+]
+
+gives-clean : (v : View) (d a n : ℕ) → stepAt v d ≡ Gives a n → blockEnd (d + 3 + n) ≤ cleanUpTo v d (d + 3 + n)
+gives-clean v d a n h = elim (decLt (total v) (d + 3)) [
+  | yes s ↦ absurd (ends-gives a n (sym (step-short v d s) ∙ h))
+  | no s ↦ begin-clean v d a n (intact-gives v d (d + 3) (beginAt v d) a n (sym (step-begin v d (omega arith)) ∙ h))
+]
+
+-- ---- a packet that is found is the one whose header stands there
+
+begin-header : (v : View) (d a n : ℕ) → beginAt v d ≡ Gives a n → (endpointAt v d ≡ a) × (lengthAt v d ≡ n)
+begin-header v d a n h = elim (ℕ-discrete (endpointAt v d) 0) [
+  | yes z ↦ absurd (ends-gives a n (sym (begin-filler v d z) ∙ h))
+  | no z ↦ elim (decLt (total v) (d + 3 + lengthAt v d)) [
+    | yes p ↦ absurd (ends-gives a n (intact-gives v d (total v) Ends a n (sym (begin-packet v d z ∙ packet-past v d (lengthAt v d) p) ∙ h)))
+    | no p ↦ (let g : Gives (endpointAt v d) (lengthAt v d) ≡ Gives a n =
+        intact-gives v d (d + 3 + lengthAt v d) (Gives (endpointAt v d) (lengthAt v d)) a n
+        (sym (begin-packet v d z ∙ packet-in v d (lengthAt v d) (omega arith)) ∙ h) in
+        let x : endpointAt v d ≡ a = cc in
+        let y : lengthAt v d ≡ n = cc in
+        (x, y))
+  ]
+]
+
+gives-header : (v : View) (d a n : ℕ) → stepAt v d ≡ Gives a n → (endpointAt v d ≡ a) × (lengthAt v d ≡ n)
+gives-header v d a n h = elim (decLt (total v) (d + 3)) [
+  | yes s ↦ absurd (ends-gives a n (sym (step-short v d s) ∙ h))
+  | no s ↦ begin-header v d a n (intact-gives v d (d + 3) (beginAt v d) a n (sym (step-begin v d (omega arith)) ∙ h))
+]
+
+-- what holds of each packet that a step gives holds of the one that is found
+find-of : (P : ℕ → ℕ → ℕ → Type 0) (v : View) → ((d a n : ℕ) → stepAt v d ≡ Gives a n → P d a n)
+    → (f d at a n : ℕ) → find v f d ≡ found.Packet at a n → P at a n
 unfolding find
-find-fits v zero d at a n h = absurd (nothing-packet at a n h)
-find-fits v (suc f) d at a n h = go (stepAt v d) refl (λ e. find-fits v f e at a n)
+find-of P v p zero d at a n h = absurd (nothing-packet at a n h)
+find-of P v p (suc f) d at a n h = go (stepAt v d) refl (λ e. find-of P v p f e at a n)
   where
-    go : (s : Step) → stepAt v d ≡ s → ((e : ℕ) → find v f e ≡ found.Packet at a n → at + 3 + n ≤ total v) → at + 3 + n ≤ total v
+    go : (s : Step) → stepAt v d ≡ s → ((e : ℕ) → find v f e ≡ found.Packet at a n → P at a n) → P at a n
     go Ends e i = absurd (nothing-packet at a n (sym (find-end v (suc f) d e) ∙ h))
     go (Goes x) e i = i x (sym (find-go v f d x e) ∙ h)
     go (Gives b m) e i =
         let g : found.Packet d b m ≡ found.Packet at a n = sym (find-give v f d b m e) ∙ h in
         let x : d ≡ at = cc in
-        let y : m ≡ n = cc in
-        omega (arith, gives-fits v d b m e)
+        let y : b ≡ a = cc in
+        let z : m ≡ n = cc in
+        rw (x, y, z) at (p d b m e)
+
+-- a packet that is found lies in the stream, and in good blocks
+pub find-fits : (v : View) (f d at a n : ℕ) → find v f d ≡ found.Packet at a n → at + 3 + n ≤ total v
+find-fits v f d at a n h = find-of (λ d a n. d + 3 + n ≤ total v) v (gives-fits v) f d at a n h
+
+pub find-clean : (v : View) (f d at a n : ℕ) → find v f d ≡ found.Packet at a n → blockEnd (at + 3 + n) ≤ cleanUpTo v at (at + 3 + n)
+find-clean v f d at a n h = find-of (λ d a n. blockEnd (d + 3 + n) ≤ cleanUpTo v d (d + 3 + n)) v (gives-clean v) f d at a n h
+
+pub find-header : (v : View) (f d at a n : ℕ) → find v f d ≡ found.Packet at a n → (endpointAt v at ≡ a) × (lengthAt v at ≡ n)
+find-header v f d at a n h = find-of (λ d a n. (endpointAt v d ≡ a) × (lengthAt v d ≡ n)) v (gives-header v) f d at a n h

@@ -9,7 +9,7 @@ use lib.ListN.{length}
 use mathlib.Core.List.{List}
 use Rattle.card.specs.Streams.{placed, checked, goodBlock}
 use Rattle.card.specs.Reading.{View, blockEnd, cleanTo, cleanUpTo, seek, begins}
-use Rattle.card.specs.Clean.{clean-join}
+use Rattle.card_reader.specs.Seen.{clean-behind}
 
 pub clean-more : (v : View) (k end : ℕ) → k < end → v .good k ≡ true → cleanTo v k (end - k) ≡ cleanTo v (k + 1) (end - (k + 1))
 unfolding cleanTo
@@ -38,10 +38,7 @@ seek-stop v k end h = let e : end - k ≡ 0 = omega arith in rw e
 -- the blocks behind those of a header that are good
 pub clean-rest : (v : View) (d e : ℕ) → d + 3 ≤ e → blockEnd (d + 3) ≤ cleanUpTo v d (d + 3)
     → cleanTo v (blockEnd (d + 3)) (blockEnd e - blockEnd (d + 3)) ≡ cleanUpTo v d e
-clean-rest v d e h c =
-    let x : d / 504 + (blockEnd (d + 3) - d / 504) ≡ blockEnd (d + 3) = omega arith in
-    let y : (blockEnd (d + 3) - d / 504) + (blockEnd e - blockEnd (d + 3)) ≡ blockEnd e - d / 504 = omega arith in
-    sym (rw (y, x) at (clean-join v (blockEnd (d + 3) - d / 504) (blockEnd e - blockEnd (d + 3)) (d / 504) (omega arith)))
+clean-rest v d e h c = clean-behind v (d / 504) (blockEnd (d + 3)) (blockEnd e) (omega arith) (omega arith) c
 
 -- ---- good blocks
 

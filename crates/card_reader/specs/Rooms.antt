@@ -1,38 +1,84 @@
 -- Packet data copied into a room.
-use mathlib.Core.Path.{_≡_, refl, sym, ap, _∙_}
-use mathlib.Core.List.{List, [], _∷_, _++_}
-use Prim.Native.Nat.{ℕ, zero, suc, _+_, _%_, _≤_, _<_}
-use native.Mathlib.Numerals.{add-one}
+use mathlib.Core.Path.{_≡_, refl, sym, ap, ap₂, _∙_}
+use mathlib.Core.List.{List, [], _∷_, _++_, append-assoc}
+use Prim.Native.Nat.{ℕ, zero, suc, _+_, _-_, _*_, _/_, _%_, _≤_, _<_}
+use native.Mathlib.Nat.{zero-add}
 use native.Mathlib.Omega.{arith}
-use lib.ListN.{length, drop, set, getD}
-use lib.Seq.{drop-cons, set-at, append-snoc}
+use lib.ListN.{length, take, drop, getD}
+use lib.Seq.{drop-cons, take-all, take-add, take-paste, drop-drop, drop-paste, paste}
 use borrow.Author.Tests.{lt-ltb, le-ltb, eq-eqb, ne-eqb}
 use Rattle.card.specs.declared.Found.{Found}
 use Rattle.card.specs.declared.Found.the-variants as found
 use Rattle.card_reader.specs.declared.Next.{Next}
 use Rattle.card_reader.specs.declared.Next.the-variants as next
 use Rattle.card_reader.specs.Calls.{found-from, given, put, nextOf, roomOf}
-use Rattle.card.specs.Reading.{View, bytesFrom}
-use Rattle.card.specs.Streams.{view}
+use Rattle.card.specs.Reading.{View, total, bytesFrom}
+use Rattle.card.specs.Streams.{view, dataByte}
 
 pub length-bytes : (v : View) (n d : ℕ) → length (bytesFrom v d n) ≡ n
 unfolding bytesFrom
 length-bytes v zero d = refl
 length-bytes v (suc n) d = ap suc (length-bytes v n (d + 1))
 
-bytes-snoc : (v : View) (n d : ℕ) → bytesFrom v d (suc n) ≡ bytesFrom v d n ++ (v .byte (d + n) ∷ [])
+bytes-first : (v : View) (k m d : ℕ) → take k (bytesFrom v d (k + m)) ≡ bytesFrom v d k
 unfolding bytesFrom
-bytes-snoc v zero d = let e : d + 0 ≡ d = omega arith in rw e
-bytes-snoc v (suc n) d =
-    let e : d + suc n ≡ d + 1 + n = omega arith in
-    rw e (ap (λ (l : List ℕ). v .byte d ∷ l) (bytes-snoc v n (d + 1)))
+bytes-first v zero m d = refl
+bytes-first v (suc k) m d =
+    let e : suc k + m ≡ suc (k + m) = omega arith in
+    rw e (ap (λ (l : List ℕ). v .byte d ∷ l) (bytes-first v k m (d + 1)))
 
-pub room-more : (v : View) (d : ℕ) (r : List ℕ) (i : ℕ) → i < length r
-    → set (bytesFrom v d i ++ drop i r) i (v .byte (d + i)) ≡ bytesFrom v d (i + 1) ++ drop (i + 1) r
-room-more v d r i h =
-    rw (add-one i, drop-cons r i 0, bytes-snoc v i d)
-    (set-at (bytesFrom v d i) (getD r i 0) (drop (suc i) r) (v .byte (d + i)) i (length-bytes v i d)
-    ∙ sym (append-snoc (bytesFrom v d i) (v .byte (d + i)) (drop (suc i) r)))
+-- some of more places: k from the i-th on
+pub bytes-part : (v : View) (i k m d : ℕ) → take k (drop i (bytesFrom v d (i + (k + m)))) ≡ bytesFrom v (d + i) k
+unfolding bytesFrom
+bytes-part v zero k m d =
+    let e : 0 + (k + m) ≡ k + m = omega arith in
+    let f : d + 0 ≡ d = omega arith in
+    rw (e, f) (bytes-first v k m d)
+bytes-part v (suc i) k m d =
+    let e : suc i + (k + m) ≡ suc (i + (k + m)) = omega arith in
+    let f : d + suc i ≡ d + 1 + i = omega arith in
+    rw (e, f) (bytes-part v i k m (d + 1))
+
+-- places of one block lie together
+pub run-bytes : (s : List ℕ) (k d : ℕ) → d % 504 + k ≤ 504 → d + k ≤ total (view s)
+    → take k (drop (d / 504 * 512 + (6 + d % 504)) s) ≡ bytesFrom (view s) d k
+unfolding bytesFrom dataByte
+run-bytes s zero d h l = refl
+run-bytes s (suc zero) d h l = rw (drop-cons s (d / 504 * 512 + (6 + d % 504)) 0 (omega arith))
+run-bytes s (suc (suc k)) d h l =
+    let p = d / 504 * 512 + (6 + d % 504) in
+    let e : suc p ≡ (d + 1) / 504 * 512 + (6 + (d + 1) % 504) = omega arith in
+    ap (λ (l : List ℕ). take (suc (suc k)) l) (drop-cons s p 0 (omega arith))
+    ∙ ap (λ (j : ℕ). getD s p 0 ∷ take (suc k) (drop j s)) e
+    ∙ ap (λ (l : List ℕ). getD s p 0 ∷ l) (run-bytes s (suc k) (d + 1) (omega arith) (omega arith))
+
+-- ---- copies
+
+pub paste-run : (r s x : List ℕ) (at i k : ℕ) → at + (i + k) ≤ length r → i + k ≤ length s → take k x ≡ take k (drop i s)
+    → paste (paste r at s i) (at + i) x k ≡ paste r at s (i + k)
+paste-run r s x at i k hr hs e =
+    let head = take-paste r at s i (omega arith) (omega arith) in
+    let far : at + i + k ≡ at + (i + k) = omega arith in
+    let tail : drop (at + i + k) (paste r at s i) ≡ drop (at + (i + k)) r =
+    sym (drop-drop k (at + i) (paste r at s i))
+    ∙ ap (λ (l : List ℕ). drop k l) (drop-paste r at s i (omega arith) (omega arith))
+    ∙ drop-drop k (at + i) r
+    ∙ ap (λ (j : ℕ). drop j r) far in
+    let middle : take at r ++ take i s ++ take k x ≡ take at r ++ take (i + k) s =
+    ap (λ (l : List ℕ). take at r ++ take i s ++ l) e
+    ∙ append-assoc (take at r) (take i s) (take k (drop i s))
+    ∙ ap (λ (l : List ℕ). take at r ++ l) (sym (take-add i k s)) in
+    ap₂ (λ (a b : List ℕ). a ++ b) (ap (λ (l : List ℕ). l ++ take k x) head ∙ middle) tail
+
+-- the run of places from d + i on, of n from d on
+pub paste-places : (s r : List ℕ) (d at i k n : ℕ) → at + n ≤ length r → i + k ≤ n → d + n ≤ total (view s) → (d + i) % 504 + k ≤ 504
+    → paste (paste r at (bytesFrom (view s) d n) i) (at + i) (drop ((d + i) / 504 * 512 + (6 + (d + i) % 504)) s) k
+    ≡ paste r at (bytesFrom (view s) d n) (i + k)
+paste-places s r d at i k n hr hk hd h =
+    let v = view s in
+    let e : i + (k + (n - (i + k))) ≡ n = omega arith in
+    let part : take k (drop i (bytesFrom v d n)) ≡ bytesFrom v (d + i) k = rw e at (bytes-part v i k (n - (i + k)) d) in
+    paste-run r (bytesFrom v d n) _ at i k (omega arith) (omega (arith, length-bytes v n d)) (run-bytes s k (d + i) h (omega arith) ∙ sym part)
 
 -- ---- a packet that was found, given into a room
 
@@ -52,6 +98,12 @@ pub put-fits : (v : View) (at a n : ℕ) (room r : List ℕ) → n ≤ length ro
     → r ≡ put v (found.Packet at a n) room
 unfolding put
 put-fits v at a n room r h e = rw (le-ltb (length room) n h) e
+
+-- places copied to the room's front
+pub paste-front : (v : View) (d n : ℕ) (room : List ℕ) → paste room 0 (bytesFrom v d n) n ≡ bytesFrom v d n ++ drop n room
+paste-front v d n room =
+    let all : take n (bytesFrom v d n) ≡ bytesFrom v d n = take-all n _ (omega (arith, length-bytes v n d)) in
+    ap₂ (λ (l : List ℕ) (k : ℕ). l ++ drop k room) all (zero-add n)
 
 -- ---- the answer to a call
 

@@ -5,7 +5,7 @@ ghost use lib.ListN.{length, getD};
 ghost use Rattle.card.specs.Streams.{pairAt, placed, checked, goodBlock, dataByte};
 
 // A byte of the stream as a number.
-fn byte_at(stream: &[u8], i: usize) -> usize
+pub fn byte_at(stream: &[u8], i: usize) -> usize
     requires { ⌜ i < length (now stream) ⌝ }
     ensures { λ r. ⌜ r ≡ getD (now (stream .entry)) i 0 ⌝ }
     ensures { λ r. ⌜ r < 256 ⌝ }

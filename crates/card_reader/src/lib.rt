@@ -1,6 +1,7 @@
 // Packets on the card: the reader of a whole stream. No call takes the driver, and any number is safe in a reader.
 mod blocks; // blocks.rt: what stands in a block of a stream
 pub mod reading; // reading.rt: the packets of a stream
+pub mod batches; // batches.rt: as many packets at once as a room holds
 
 // A reader: the place, counted over the packet data of all blocks, at which it goes on.
 pub struct Reader {
@@ -16,6 +17,17 @@ pub enum Next {
     Packet {
         endpoint: u8,
         len: u16,
+        then: Reader,
+    },
+    End,
+    Refused(u8),
+}
+
+// Some packets one behind the other: how many, how many bytes, and the reader behind them.
+pub enum Batch {
+    Packets {
+        count: usize,
+        used: usize,
         then: Reader,
     },
     End,

@@ -8,11 +8,12 @@ use crate::blocks::pair_at;
 use card::Found;
 use card::Step;
 ghost use mathlib.Core.Path.{_≡_};
-ghost use Prim.Native.Nat.{_+_, _-_, _/_, _<_, _≤_};
-ghost use mathlib.Core.List.{_++_};
+ghost use Prim.Native.Nat.{_+_, _-_, _/_, _%_, _<_, _≤_};
 ghost use lib.ListN.{length, drop};
+ghost use lib.Seq.{paste};
 ghost use Rattle.card.specs.Reading.{total, begins, blockEnd, cleanTo, cleanUpTo, seekFrom, intact, packetAt, beginAt, stepAt, bytesFrom, find};
 ghost use Rattle.card_reader.specs.Calls.{startOf, given, put, nextOf, roomOf};
+ghost use Rattle.card_reader.specs.Seen.{Seen};
 ghost use Rattle.card.specs.declared.Found.the-variants as Found;
 ghost use Rattle.card.specs.Streams.{view};
 
@@ -102,8 +103,9 @@ fn begin_at(stream: &[u8], d: usize) -> Step
     packet_at(stream, d, low + high * 256)
 }
 
-// What is found at the packet begin d.
-fn step(stream: &[u8], d: usize) -> Step
+// What is found at the packet begin d. Its blocks before block `first` are good: they need no second look.
+fn step(stream: &[u8], d: usize, first: usize) -> Step
+    requires { ⌜ Seen (view (now stream)) d first ⌝ }
     ensures { λ r. ⌜ r ≡ stepAt (view (now (stream .entry))) d ⌝ }
 {
     let all = stream.len() / 512 * 504;
@@ -114,25 +116,28 @@ fn step(stream: &[u8], d: usize) -> Step
         return Step::Ends;
     }
     let end = (d + 3 + 503) / 504;
-    let clean = clean_to(stream, d / 504, end);
+    let clean = clean_to(stream, first, end);
     if clean < end {
         return Step::Goes(seek(stream, clean + 1));
     }
     begin_at(stream, d)
 }
 
-// The next packet from d on.
-fn find_from(stream: &[u8], d: usize) -> Found
+// The next packet from d on; the blocks of d before block `first` are good.
+pub fn find_from(stream: &[u8], d: usize, first: usize) -> Found
+    requires { ⌜ Seen (view (now stream)) d first ⌝ }
     ensures { λ r. ⌜ r ≡ find (view (now (stream .entry))) (total (view (now (stream .entry)))) d ⌝ }
 {
     let mut at = d;
+    let mut from = first;
     loop {
-        match step(stream, at) {
+        match step(stream, at, from) {
             Step::Ends => {
                 return Found::Nothing;
             }
             Step::Goes(e) => {
                 at = e;
+                from = e / 504;
             }
             Step::Gives { endpoint, len } => {
                 return Found::Packet { at, endpoint, len };
@@ -141,15 +146,41 @@ fn find_from(stream: &[u8], d: usize) -> Found
     }
 }
 
-// Copies n bytes of packet data from place d on to the front of the room.
-fn copy_data(stream: &[u8], d: usize, room: &mut [u8], n: usize)
-    requires { ⌜ (n ≤ length (now room)) × (d + n ≤ total (view (now stream))) ⌝ }
-    ensures { λ r. ⌜ now (room .exit) ≡ bytesFrom (view (now (stream .entry))) d n ++ drop n (now (room .entry)) ⌝ }
+// Copies n bytes that lie together.
+fn copy_run(stream: &[u8], from: usize, room: &mut [u8], at: usize, n: usize)
+    requires { ⌜ (from + n ≤ length (now stream)) × (at + n ≤ length (now room)) ⌝ }
+    ensures { λ _. ⌜ now (room .exit) ≡ paste (now (room .entry)) at (drop from (now (stream .entry))) n ⌝ }
 {
     let mut i = 0;
     while i < n {
-        room[i] = data_byte(stream, d + i);
+        room[at + i] = stream[from + i];
         i += 1;
+    }
+}
+
+// How many of n places from d on lie in the block of d.
+fn run_of(d: usize, n: usize) -> usize
+    ensures { λ r. ⌜ (r ≤ n) × (d % 504 + r ≤ 504) ⌝ }
+    ensures { λ r. ⌜ (0 < n → 0 < r) ⌝ }
+{
+    let left = 504 - d % 504;
+    if left < n {
+        return left;
+    }
+    n
+}
+
+// Copies n bytes of packet data from place d on into the room, block by block.
+pub fn copy_data(stream: &[u8], d: usize, room: &mut [u8], at: usize, n: usize)
+    requires { ⌜ (at + n ≤ length (now room)) × (d + n ≤ total (view (now stream))) ⌝ }
+    ensures { λ _. ⌜ now (room .exit) ≡ paste (now (room .entry)) at (bytesFrom (view (now (stream .entry))) d n) n ⌝ }
+{
+    let mut i = 0;
+    while i < n {
+        let e = d + i;
+        let run = run_of(e, n - i);
+        copy_run(stream, e / 504 * 512 + (6 + e % 504), room, at + i, run);
+        i += run;
     }
 }
 
@@ -163,7 +194,7 @@ fn give(stream: &[u8], at: usize, endpoint: u8, len: u16, room: &mut [u8]) -> Ne
     if room.len() < n {
         return Next::Refused(21);
     }
-    copy_data(stream, at + 3, room, n);
+    copy_data(stream, at + 3, room, 0, n);
     Next::Packet {
         endpoint,
         len,
@@ -191,7 +222,8 @@ pub fn next_packet(reader: Reader, stream: &[u8], room: &mut [u8]) -> Next
     if stream.len() % 512 != 0 {
         return Next::Refused(21);
     }
-    match find_from(stream, reader.at) {
+    let at = reader.at;
+    match find_from(stream, at, at / 504) {
         Found::Nothing => Next::End,
         Found::Packet { at, endpoint, len } => give(stream, at, endpoint, len, room),
     }

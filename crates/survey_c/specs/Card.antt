@@ -13,6 +13,8 @@ use Rattle.card_reader.specs.declared.Started.{Started}
 use Rattle.card_reader.specs.declared.Started.the-variants as started
 use Rattle.card_reader.specs.declared.Next.{Next}
 use Rattle.card_reader.specs.declared.Next.the-variants as next
+use Rattle.card_reader.specs.declared.Batch.{Batch}
+use Rattle.card_reader.specs.declared.Batch.the-variants as batch
 use Rattle.survey_c.specs.Words.{refusedWord, endWord, doneWord}
 
 -- ---- the writer
@@ -67,3 +69,24 @@ abbrev pub placeBy : Next → ℕ → ℕ
 placeBy (next.Packet endpoint len then) old = then .at
 placeBy next.End old = old
 placeBy (next.Refused row) old = old
+
+-- many packets end with 1, the stream with 0
+abbrev pub batchWord : Batch → ℕ
+batchWord (batch.Packets count used then) = endWord 1
+batchWord batch.End = endWord 0
+batchWord (batch.Refused row) = refusedWord row
+
+abbrev pub countBy : Batch → ℕ → ℕ
+countBy (batch.Packets count used then) old = count
+countBy batch.End old = 0
+countBy (batch.Refused row) old = old
+
+abbrev pub usedBy : Batch → ℕ → ℕ
+usedBy (batch.Packets count used then) old = used
+usedBy batch.End old = 0
+usedBy (batch.Refused row) old = old
+
+abbrev pub batchPlaceBy : Batch → ℕ → ℕ
+batchPlaceBy (batch.Packets count used then) old = then .at
+batchPlaceBy batch.End old = old
+batchPlaceBy (batch.Refused row) old = old

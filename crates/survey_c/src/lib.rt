@@ -5,6 +5,7 @@ mod words; // words.rt: an answer as one word
 mod writer; // writer.rt: a card's writer as four numbers
 
 use bus_time::TIME_LEN;
+use card_reader::Batch;
 use card_reader::Next;
 use card_reader::Reader;
 use card_reader::Started;
@@ -32,6 +33,8 @@ ghost use Rattle.card.specs.Packet.{packetOf};
 ghost use Rattle.card_writer.specs.Writing.{newWriter, writeOf, writtenOf, finishOf, lastOf};
 ghost use Rattle.card_reader.specs.Calls.{startOf, nextOf, roomOf};
 ghost use Rattle.survey_c.specs.Numbers.{BestSet, boundsWord, leastBy, greatestBy};
+ghost use Rattle.card_reader.specs.Batches.{batchOf, batchRoomOf};
+ghost use Rattle.survey_c.specs.Card.{batchWord, batchPlaceBy, countBy, usedBy};
 ghost use Rattle.survey_c.specs.Card.{writerIn, numbersOf, wroteWord, writerBy, finishedWord, startedWord, startBy, nextWord, endpointBy, placeBy};
 
 // The best set of the channels in the list, with the bus time that is in use: its count is the end's result; beside it the total of its maxima, a figure that no fitting set exceeds
@@ -171,6 +174,42 @@ pub extern "C" fn usbhs_card_next(
             *endpoint = e as u32;
             *place = then.at;
             done(len)
+        }
+    }
+}
+
+// As many packets from the place on as the room holds, one behind the other as they stand on the card: what as many calls of usbhs_card_next give.
+#[no_mangle]
+pub extern "C" fn usbhs_card_read(
+    stream: &[u8],
+    place: &mut usize,
+    room: &mut [u8],
+    count: &mut usize,
+    used: &mut usize,
+) -> u64
+    ensures { λ r. ⌜ r ≡ batchWord (batchOf (now (stream .entry)) (now (place .entry)) (length (now (room .entry)))) ⌝ }
+    ensures { λ _. ⌜ now (place .exit) ≡ batchPlaceBy (batchOf (now (stream .entry)) (now (place .entry)) (length (now (room .entry)))) (now (place .entry)) ⌝ }
+    ensures { λ _. ⌜ now (count .exit) ≡ countBy (batchOf (now (stream .entry)) (now (place .entry)) (length (now (room .entry)))) (now (count .entry)) ⌝ }
+    ensures { λ _. ⌜ now (used .exit) ≡ usedBy (batchOf (now (stream .entry)) (now (place .entry)) (length (now (room .entry)))) (now (used .entry)) ⌝ }
+    ensures { λ _. ⌜ now (room .exit) ≡ batchRoomOf (now (stream .entry)) (now (place .entry)) (now (room .entry)) ⌝ }
+{
+    let reader = Reader { at: *place };
+    match card_reader::batches::next_packets(reader, stream, room) {
+        Batch::Refused(row) => refused(row),
+        Batch::End => {
+            *count = 0;
+            *used = 0;
+            ended(0)
+        }
+        Batch::Packets {
+            count: n,
+            used: bytes,
+            then,
+        } => {
+            *count = n;
+            *used = bytes;
+            *place = then.at;
+            ended(1)
         }
     }
 }

@@ -5,21 +5,23 @@ use borrow.Author.Needs.{needs}
 use Rattle.card.specs.Reading.{total, find}
 use Rattle.card.specs.Progress.{find-ends, find-gives, find-goes, goes-further}
 use Rattle.card.specs.Streams.{view}
+use Rattle.card_reader.specs.Seen.{Seen, seen-none}
 use Rattle.card_reader.proofs.reading.find_from.Statement.{statement}
 use Rattle.card_reader.proofs.reading.find_from.Tie as tie
 
 abbrev Inv-loop : tie.InvT-loop
-Inv-loop stream d at₀ at =
-    (f : ℕ) × (total (view stream) ≤ at + f) × (find (view stream) f at ≡ find (view stream) (total (view stream)) d)
+Inv-loop stream d first at₀ from₀ at from =
+    ((f : ℕ) × (total (view stream) ≤ at + f) × (find (view stream) f at ≡ find (view stream) (total (view stream)) d))
+    × Seen (view stream) at from
 
 abbrev μ-loop : tie.MeasureT-loop
-μ-loop stream d at₀ at = total (view stream) - at
+μ-loop stream d first at₀ from₀ at from = total (view stream) - at
 
 loop-holds : tie.Need-loop-holds Inv-loop μ-loop
-loop-holds c = (total (view (c .before .args .stream .now)), omega arith, refl)
+loop-holds c = ((total (view (c .before .args .stream .now)), omega arith, refl), c .before .pre)
 
 step-requires : tie.Need-step-requires Inv-loop μ-loop
-step-requires c κs = search needs
+step-requires c κs = c .loop .inv .1
 
 enum-told : tie.Need-enum-told Inv-loop μ-loop
 enum-told c = search needs
@@ -28,7 +30,7 @@ returns : tie.Need-returns Inv-loop μ-loop
 returns c =
     let s = c .before .before .before .before .before .args in
     let v = c .before .before .before .loop in
-    find-ends (view (s .stream .now)) (v .inv .0) (v .at) _ (v .inv .2) (sym (c .before .before .step .ensures) ∙ c .enum-told .given .1)
+    find-ends (view (s .stream .now)) (v .inv .0 .0) (v .at) _ (v .inv .0 .2) (sym (c .before .before .step .ensures) ∙ c .enum-told .given .1)
 
 enum-known-e : tie.Need-enum-known-e Inv-loop μ-loop
 enum-known-e c = search needs
@@ -44,7 +46,8 @@ loop-again : tie.Need-loop-again Inv-loop μ-loop
 loop-again c =
     let s = c .before .before .before .before .before .before .args in
     let v = c .before .before .before .before .loop in
-    find-goes (view (s .stream .now)) (v .inv .0) (v .at) _ _ (v .inv .1) (v .inv .2) (sym (c .before .before .before .step .ensures) ∙ c .before .e .given .1)
+    let goes = sym (c .before .before .before .step .ensures) ∙ c .before .e .given .1 in
+    (find-goes (view (s .stream .now)) (v .inv .0 .0) (v .at) _ _ (v .inv .0 .1) (v .inv .0 .2) goes, seen-none (view (s .stream .now)) _)
 
 enum-known-endpoint : tie.Need-enum-known-endpoint Inv-loop μ-loop
 enum-known-endpoint c = search needs
@@ -53,7 +56,7 @@ returns-2 : tie.Need-returns-2 Inv-loop μ-loop
 returns-2 c =
     let s = c .before .before .before .before .before .before .args in
     let v = c .before .before .before .before .loop in
-    find-gives (view (s .stream .now)) (v .inv .0) (v .at) _ _ _ (v .inv .1) (v .inv .2) (sym (c .before .before .before .step .ensures) ∙ c .before .endpoint .given .1)
+    find-gives (view (s .stream .now)) (v .inv .0 .0) (v .at) _ _ _ (v .inv .0 .1) (v .inv .0 .2) (sym (c .before .before .before .step .ensures) ∙ c .before .endpoint .given .1)
 
 pub find-from-spec : {M : Type 1} → statement M
 find-from-spec =

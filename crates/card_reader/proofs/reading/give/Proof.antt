@@ -1,7 +1,9 @@
+use Prim.Native.Nat.{_+_}
+use mathlib.Core.Path.{_∙_}
 use native.Mathlib.Omega.{arith}
 use lib.ListN.{length}
 use Rattle.card.specs.Streams.{view}
-use Rattle.card_reader.specs.Rooms.{given-short, given-fits, put-short, put-fits}
+use Rattle.card_reader.specs.Rooms.{given-short, given-fits, put-short, put-fits, paste-front}
 use borrow.Author.Needs.{needs}
 use Rattle.card_reader.proofs.reading.give.Statement.{statement}
 use Rattle.card_reader.proofs.reading.give.Tie as tie
@@ -32,7 +34,7 @@ returns-2 : tie.Need-returns-2
 returns-2 c =
     let s = c .before .before .before .before .before .before .before .args in (
       given-fits (s .at) (s .endpoint) (s .len) (length (s .room .now)) (omega arith),
-      put-fits (view (s .stream .now)) (s .at) (s .endpoint) (s .len) (s .room .now) _ (omega arith) (c .before .before .copy-data .ensures),
+      put-fits (view (s .stream .now)) (s .at) (s .endpoint) (s .len) (s .room .now) _ (omega arith) (c .before .before .copy-data .ensures ∙ paste-front (view (s .stream .now)) (s .at + 3) (s .len) (s .room .now)),
     )
 
 pub give-spec : {M : Type 1} → statement M

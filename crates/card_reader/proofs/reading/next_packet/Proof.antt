@@ -6,6 +6,7 @@ use Rattle.card.specs.Progress.{find-fits}
 use Rattle.card.specs.Streams.{view}
 use Rattle.card_reader.specs.Rooms.{next-torn, room-torn, next-found, room-found}
 use borrow.Author.Needs.{needs}
+use Rattle.card_reader.specs.Seen.{seen-none}
 use Rattle.card_reader.proofs.reading.next_packet.Statement.{statement}
 use Rattle.card_reader.proofs.reading.next_packet.Tie as tie
 
@@ -17,7 +18,7 @@ returns c =
     )
 
 find-from-requires : tie.Need-find-from-requires
-find-from-requires c κs = search needs
+find-from-requires c κs = seen-none _ _
 
 enum-told : tie.Need-enum-told
 enum-told c = search needs

@@ -6,6 +6,7 @@ use Rattle.card.specs.Reading.{seekFrom, beginAt}
 use Rattle.card.specs.Steps.{intact-good, intact-cut, step-short, step-begin}
 use Rattle.card.specs.Streams.{view}
 use borrow.Author.Needs.{needs}
+use Rattle.card_reader.specs.Seen.{seen-clean}
 use Rattle.card_reader.proofs.reading.step.Statement.{statement}
 use Rattle.card_reader.proofs.reading.step.Tie as tie
 
@@ -41,20 +42,26 @@ returns-3 : tie.Need-returns-3
 returns-3 c =
     let s = c .before .before .before .before .before .before .args in
     let v = view (s .stream .now) in
-    ap Goes (c .seek .ensures ∙ ap (λ (k : ℕ). seekFrom (view (s .stream .now)) (k + 1)) (c .before .before .clean-to .ensures))
-    ∙ sym (step-begin v (s .d) (omega arith)
-    ∙ intact-cut v (s .d) (s .d + 3) (beginAt v (s .d)) (omega (arith, c .before .before .clean-to .ensures)))
+    let seen = c .before .before .before .before .before .before .pre in
+    let looked = c .before .before .clean-to .ensures ∙ seen-clean v (s .d) (s .first) seen in
+    ap Goes (c .seek .ensures ∙ ap (λ (k : ℕ). seekFrom (view (s .stream .now)) (k + 1)) looked)
+    ∙ sym (step-begin v (s .d) (omega arith) ∙ intact-cut v (s .d) (s .d + 3) (beginAt v (s .d)) (omega (arith, looked)))
 
 begin-at-requires : tie.Need-begin-at-requires
-begin-at-requires c κs = search needs
+begin-at-requires c κs =
+    let s = c .before .before .before .before .before .args in
+    let seen = c .before .before .before .before .before .pre in
+    let looked = c .before .clean-to .ensures ∙ seen-clean (view (s .stream .now)) (s .d) (s .first) seen in
+    (omega arith, omega (arith, looked))
 
 returns-4 : tie.Need-returns-4
 returns-4 c =
     let s = c .before .before .before .before .before .before .args in
     let v = view (s .stream .now) in
+    let seen = c .before .before .before .before .before .before .pre in
+    let looked = c .before .before .clean-to .ensures ∙ seen-clean v (s .d) (s .first) seen in
     c .begin-at .ensures
-    ∙ sym (step-begin v (s .d) (omega arith)
-    ∙ intact-good v (s .d) (s .d + 3) (beginAt v (s .d)) (omega (arith, c .before .before .clean-to .ensures)))
+    ∙ sym (step-begin v (s .d) (omega arith) ∙ intact-good v (s .d) (s .d + 3) (beginAt v (s .d)) (omega (arith, looked)))
 
 pub step-spec : {M : Type 1} → statement M
 step-spec =

@@ -1,0 +1,108 @@
+//! large [BYTES [LENGTH..]]: streams of at least so many bytes (a billion, if not said) with packets of these
+//! lengths (4, 64 and 1,024), every thousandth block damaged; each is read by `cat`, `sha256sum` and `usbhs card
+//! check`, three times in turn. Prints a table: the best time of each, and the most memory that it held.
+
+use std::fs::File;
+use std::io::{BufWriter, Write};
+use std::path::{Path, PathBuf};
+use std::process::{Command, Stdio};
+use std::time::Instant;
+
+use usbhs::output::thousands;
+use usbhs::survey::{Writer, BLOCK};
+
+/// The front of the system's rusage, and room for the rest.
+#[repr(C)]
+struct Usage {
+    times: [i64; 4],
+    most: i64,
+    rest: [i64; 32],
+}
+
+extern "C" {
+    fn wait4(pid: i32, status: *mut i32, options: i32, usage: *mut Usage) -> i32;
+}
+
+struct Took {
+    seconds: f64,
+    kilobytes: i64,
+    status: i32,
+}
+
+// wait4 waits for it, and tells its memory
+#[allow(clippy::zombie_processes)]
+fn run(program: &Path, words: &[&str]) -> Took {
+    let began = Instant::now();
+    let child = Command::new(program).args(words).stdout(Stdio::null()).spawn().expect("a program that runs");
+    let (mut status, mut usage) = (0, Usage { times: [0; 4], most: 0, rest: [0; 32] });
+    // SAFETY: the child's own number, and room for both answers
+    unsafe { wait4(child.id() as i32, &mut status, 0, &mut usage) };
+    Took { seconds: began.elapsed().as_secs_f64(), kilobytes: usage.most, status: status >> 8 & 0xFF }
+}
+
+/// How many packets and blocks were written.
+fn make(path: &Path, bytes: usize, length: usize) -> (usize, usize) {
+    let mut file = BufWriter::with_capacity(1 << 20, File::create(path).expect("a file"));
+    let (mut writer, mut packets, mut blocks) = (Writer::default(), 0, 0);
+    let mut packet = vec![0u8; length];
+    let mut store = |block: &[u8; BLOCK], blocks: &mut usize| {
+        let mut block = *block;
+        if *blocks % 1_000 == 999 {
+            block[100] ^= 0x40;
+        }
+        *blocks += 1;
+        file.write_all(&block).expect("room on the disk");
+    };
+    while blocks * BLOCK < bytes {
+        packet[packets % length] = packet[packets % length].wrapping_mul(5).wrapping_add(packets as u8 | 1);
+        writer.write(1 + packets as u32 % 15, &packet, |b| store(b, &mut blocks)).expect("a packet");
+        packets += 1;
+    }
+    writer.finish(|b| store(b, &mut blocks)).expect("the last block");
+    (packets, blocks)
+}
+
+fn main() {
+    let numbers: Vec<usize> = std::env::args().skip(1).map(|w| w.parse().expect("a number")).collect();
+    let bytes = numbers.first().copied().unwrap_or(1_000_000_000);
+    let lengths = if numbers.len() > 1 { &numbers[1..] } else { &[4, 64, 1_024] };
+    let path = std::env::temp_dir().join(format!("usbhs-large-{}.card", std::process::id()));
+    let image = path.to_str().expect("a plain path");
+    // beside this program's folder, examples
+    let tool = std::env::current_exe().unwrap().parent().unwrap().parent().unwrap().join("usbhs");
+    println!("| packets of | stream | `cat` | `sha256sum` | `usbhs card check` | MB/s | memory of `cat`, `sha256sum`, `usbhs` |");
+    println!("|---|---|---|---|---|---|---|");
+    for &length in lengths {
+        let (packets, blocks) = make(&path, bytes, length);
+        let commands: [(PathBuf, Vec<&str>); 3] = [
+            ("cat".into(), vec![image]),
+            ("sha256sum".into(), vec![image]),
+            (tool.clone(), vec!["card", "check", "--quiet", image]),
+        ];
+        let mut best = [f64::MAX; 3];
+        let mut most = [0; 3];
+        for _ in 0..3 {
+            for (i, (program, words)) in commands.iter().enumerate() {
+                let took = run(program, words);
+                // damaged blocks are told by status 1
+                assert_eq!(took.status, if i == 2 { 1 } else { 0 });
+                best[i] = best[i].min(took.seconds);
+                most[i] = most[i].max(took.kilobytes);
+            }
+        }
+        let size = blocks * BLOCK;
+        println!(
+            "| {length} bytes | {} MB, {} packets | {:.2} s | {:.2} s | {:.2} s | {:.0} | {:.1}, {:.1}, {:.1} MB |",
+            thousands(size as u64 / 1_000_000),
+            thousands(packets as u64),
+            best[0],
+            best[1],
+            best[2],
+            size as f64 / 1e6 / best[2],
+            most[0] as f64 / 1e3,
+            most[1] as f64 / 1e3,
+            most[2] as f64 / 1e3
+        );
+        std::fs::remove_file(&path).expect("the file is removed");
+    }
+}

@@ -1,0 +1,38 @@
+//! For the people at the desk: what `usbhs` does, over the proved archives (include/usbhs.h, include/usbhs_survey.h).
+
+pub mod args;
+pub mod card;
+pub mod channels;
+pub mod descriptor;
+pub mod image;
+pub mod json;
+pub mod output;
+#[allow(clippy::new_without_default)]
+#[path = "../../../oracle/compare/src/port.rs"]
+pub mod port;
+pub mod preview;
+pub mod progress;
+pub mod replay;
+pub mod rows;
+mod stamps;
+pub mod survey;
+pub mod svg;
+pub mod visits;
+
+/// Why a command ends without its answer: what is wrong, in words.
+#[derive(Debug)]
+pub enum Failure {
+    /// The command line is not one of `--help`'s.
+    Usage(String),
+    /// A file cannot be read, or is not what it must be; a call was refused.
+    Input(String),
+    /// Whoever reads the output went away: nothing to say.
+    Closed,
+}
+
+pub type Done<T> = Result<T, Failure>;
+
+/// What is wrong with an input.
+pub fn bad<T>(words: impl Into<String>) -> Done<T> {
+    Err(Failure::Input(words.into()))
+}

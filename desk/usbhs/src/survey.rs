@@ -1,0 +1,337 @@
+//! The calls of include/usbhs_survey.h, and the preview of include/usbhs.h, on slices.
+
+extern "C" {
+    fn usbhs_best_set(
+        list: *mut u8,
+        len: usize,
+        time: *const u16,
+        budget: u32,
+        total: *mut u32,
+        figure: *mut u32,
+        looked: *mut u32,
+    ) -> u64;
+    fn usbhs_between_visits(a: u32, b: u32, c: u32, d: u32, least: *mut u32, greatest: *mut u32) -> u64;
+    fn usbhs_data_crc(bytes: *const u8, len: usize) -> u32;
+    fn usbhs_card_new(writer: *mut u32);
+    fn usbhs_card_write(writer: *mut u32, block: *mut u8, len: usize, ep: u32, data: *const u8, size: usize) -> u64;
+    fn usbhs_card_finish(writer: *const u32, block: *mut u8, len: usize) -> u64;
+    fn usbhs_card_start(stream: *const u8, len: usize, place: *mut usize) -> u64;
+    fn usbhs_card_next(
+        stream: *const u8,
+        len: usize,
+        place: *mut usize,
+        ep: *mut u32,
+        room: *mut u8,
+        room_len: usize,
+    ) -> u64;
+    fn usbhs_card_read(
+        stream: *const u8,
+        len: usize,
+        place: *mut usize,
+        room: *mut u8,
+        room_len: usize,
+        count: *mut usize,
+        used: *mut usize,
+    ) -> u64;
+    fn usbhs_write_descriptor(bytes: *const u8, len: usize, room: *mut u8, room_len: usize) -> u64;
+    fn usbhs_start_up(
+        state: *mut u8,
+        slots: *mut u8,
+        len: usize,
+        time: *mut u16,
+        driver: u32,
+        size: u32,
+        count: u32,
+        callback: u32,
+    ) -> u64;
+    fn usbhs_continue(state: *mut u8, slots: *mut u8, len: usize, time: *mut u16, driver: u32, value: u32) -> u64;
+    fn usbhs_preview(
+        state: *const u8,
+        bytes: *const u8,
+        len: usize,
+        numbers: *mut u8,
+        buffers: *mut u32,
+        refusal: *mut u32,
+    ) -> u64;
+}
+
+pub const BLOCK: usize = 512;
+/// A block's bytes of packet data.
+pub const DATA: usize = 504;
+pub const TIME: usize = 128;
+const STATE: usize = 2839;
+const NUMBERS: usize = 32;
+
+/// An answer's kind, and the row of a refusal.
+fn answered(word: u64) -> Result<u64, u8> {
+    if word & 15 == 0 {
+        Err((word >> 8) as u8)
+    } else {
+        Ok(word >> 8 & 0xFFFF)
+    }
+}
+
+/// A set of channels: bit i says whether channel i is in.
+pub struct Best {
+    pub set: u32,
+    pub total: u32,
+    pub figure: u32,
+    pub looked: u32,
+}
+
+/// The best set of channels, each a maximum and a charge, with so much bus time in use.
+pub fn best_set(channels: &[(u16, u16)], in_use: u32, budget: u32) -> Result<Best, u8> {
+    let mut list: Vec<u8> = channels
+        .iter()
+        .flat_map(|(maximum, charge)| [maximum.to_le_bytes(), charge.to_le_bytes()].concat().into_iter().chain([0]))
+        .collect();
+    // the record's numbers have 16 bits: what is in use stands in as many as are needed
+    let mut time = [0u16; TIME];
+    let mut left = in_use;
+    for t in &mut time {
+        *t = left.min(u16::MAX as u32) as u16;
+        left -= *t as u32;
+    }
+    let mut best = Best { set: 0, total: 0, figure: 0, looked: 0 };
+    // SAFETY: every slice is given with its own length
+    let word = unsafe {
+        usbhs_best_set(
+            list.as_mut_ptr(),
+            list.len(),
+            time.as_ptr(),
+            budget,
+            &mut best.total,
+            &mut best.figure,
+            &mut best.looked,
+        )
+    };
+    best.set = answered(word)? as u32;
+    Ok(best)
+}
+
+/// The least and the greatest number of arrivals between two visits.
+pub fn between_visits(a: u32, b: u32, c: u32, d: u32) -> Result<(u32, u32), u8> {
+    let (mut least, mut greatest) = (0, 0);
+    // SAFETY: two numbers are lent
+    answered(unsafe { usbhs_between_visits(a, b, c, d, &mut least, &mut greatest) })?;
+    Ok((least, greatest))
+}
+
+pub fn data_crc(bytes: &[u8]) -> u16 {
+    // SAFETY: a slice with its own length
+    unsafe { usbhs_data_crc(bytes.as_ptr(), bytes.len()) as u16 }
+}
+
+/// The endpoints of a configuration descriptor written out as one interface.
+pub fn write_descriptor(bytes: &[u8]) -> Result<Vec<u8>, u8> {
+    let mut room = vec![0; 18 + 7 * 32];
+    // SAFETY: slices with their own lengths
+    let length =
+        answered(unsafe { usbhs_write_descriptor(bytes.as_ptr(), bytes.len(), room.as_mut_ptr(), room.len()) })?;
+    room.truncate(length as usize);
+    Ok(room)
+}
+
+/// What a preview answers: the numbers given, how many buffers they take, the first refusal.
+pub struct Previewed {
+    pub numbers: Vec<u8>,
+    pub buffers: u32,
+    pub refusal: Option<u8>,
+}
+
+/// The preview of a descriptor on a board that has just started up.
+pub fn preview(bytes: &[u8], size: u32, count: u32) -> Result<Previewed, u8> {
+    let (mut state, mut time, mut slots) = ([0u8; STATE], [0u16; TIME], vec![0u8; size as usize * count as usize]);
+    let (mut numbers, mut buffers, mut refusal) = ([0u8; NUMBERS], 0, 0);
+    // SAFETY: every slice is given with its own length
+    unsafe {
+        let (s, p, n, t) = (state.as_mut_ptr(), slots.as_mut_ptr(), slots.len(), time.as_mut_ptr());
+        let mut word = usbhs_start_up(s, p, n, t, 0, size, count, 0);
+        answered(word)?;
+        while word & 15 != 5 {
+            word = usbhs_continue(s, p, n, t, 0, 0);
+            answered(word)?;
+        }
+        let given =
+            answered(usbhs_preview(s, bytes.as_ptr(), bytes.len(), numbers.as_mut_ptr(), &mut buffers, &mut refusal))?;
+        let refusal = if refusal == 0 { None } else { Some(refusal as u8) };
+        Ok(Previewed { numbers: numbers[..given as usize].to_vec(), buffers, refusal })
+    }
+}
+
+const FULL: u64 = 1;
+const WRITTEN: u64 = 2;
+
+/// Writes packets as a stream of blocks.
+pub struct Writer {
+    state: [u32; 4],
+    block: [u8; BLOCK],
+}
+
+impl Default for Writer {
+    fn default() -> Self {
+        let mut writer = Self { state: [0; 4], block: [0; BLOCK] };
+        // SAFETY: four numbers are lent
+        unsafe { usbhs_card_new(writer.state.as_mut_ptr()) };
+        writer
+    }
+}
+
+impl Writer {
+    /// One packet more; each block that is full goes to `store`.
+    pub fn write(&mut self, endpoint: u32, packet: &[u8], mut store: impl FnMut(&[u8; BLOCK])) -> Result<(), u8> {
+        loop {
+            // SAFETY: slices with their own lengths
+            let result = answered(unsafe {
+                usbhs_card_write(
+                    self.state.as_mut_ptr(),
+                    self.block.as_mut_ptr(),
+                    BLOCK,
+                    endpoint,
+                    packet.as_ptr(),
+                    packet.len(),
+                )
+            })?;
+            if result & FULL != 0 {
+                store(&self.block);
+            }
+            if result & WRITTEN != 0 {
+                return Ok(());
+            }
+        }
+    }
+
+    /// The last block, where there is one.
+    pub fn finish(mut self, store: impl FnOnce(&[u8; BLOCK])) -> Result<(), u8> {
+        // SAFETY: as above
+        let result = answered(unsafe { usbhs_card_finish(self.state.as_ptr(), self.block.as_mut_ptr(), BLOCK) })?;
+        if result & FULL != 0 {
+            store(&self.block);
+        }
+        Ok(())
+    }
+}
+
+/// A packet as the reader gives it.
+pub struct Packet<'a> {
+    pub endpoint: u32,
+    /// Where it begins, counted in packet data: block times 504 plus its place there. 0 where places are not asked for.
+    pub begin: usize,
+    pub bytes: &'a [u8],
+}
+
+/// What a batch's packets have in front of their bytes: two of length, one of the endpoint.
+const HEAD: usize = 3;
+/// Room for some packets, and for the longest: a length has 16 bits.
+const ROOM: usize = 1 << 18;
+
+/// Reads a stream's packets, as many at a time as its room holds. This is the only place that asks the archive for
+/// packets.
+pub struct Reader {
+    place: usize,
+    room: Vec<u8>,
+    /// The packets that are read and not yet given stand here in the room, one behind the other.
+    from: usize,
+    to: usize,
+    /// Where the first of them begins.
+    begin: usize,
+    /// Are packets' places asked for?
+    places: bool,
+    /// So many packets are read one at a time.
+    singly: usize,
+}
+
+impl Reader {
+    pub fn new(stream: &[u8]) -> Result<Self, u8> {
+        let mut place = 0;
+        // SAFETY: a slice with its own length
+        answered(unsafe { usbhs_card_start(stream.as_ptr(), stream.len(), &mut place) })?;
+        Ok(Self { place, room: vec![0; ROOM], from: 0, to: 0, begin: place, places: false, singly: 0 })
+    }
+
+    /// A reader that tells where each packet begins.
+    pub fn with_places(stream: &[u8]) -> Result<Self, u8> {
+        Ok(Self { places: true, ..Self::new(stream)? })
+    }
+
+    /// The same by usbhs_card_next alone.
+    pub fn one_by_one(stream: &[u8]) -> Result<Self, u8> {
+        Ok(Self { singly: usize::MAX, ..Self::with_places(stream)? })
+    }
+
+    /// The block from which on nothing is read yet.
+    pub fn block(&self) -> usize {
+        self.place / DATA
+    }
+
+    /// Packets are read that are not yet given.
+    pub fn has_more(&self) -> bool {
+        self.from < self.to
+    }
+
+    /// The next packet, from the same stream.
+    pub fn next(&mut self, stream: &[u8]) -> Option<Packet<'_>> {
+        if !self.has_more() && !self.fill(stream) {
+            return None;
+        }
+        let head = &self.room[self.from..self.from + HEAD];
+        let (length, endpoint) = (u16::from_le_bytes([head[0], head[1]]) as usize, head[2].into());
+        let at = self.from + HEAD;
+        let begin = self.begin;
+        self.from = at + length;
+        self.begin += HEAD + length;
+        Some(Packet { endpoint, begin, bytes: &self.room[at..at + length] })
+    }
+
+    /// Reads as many packets as the room holds.
+    fn fill(&mut self, stream: &[u8]) -> bool {
+        if self.singly != 0 {
+            return self.one(stream);
+        }
+        let before = self.place;
+        let (mut count, mut used) = (0, 0);
+        // the room holds every packet, and the stream is whole blocks: nothing is refused
+        // SAFETY: slices with their own lengths
+        let more = answered(unsafe {
+            usbhs_card_read(
+                stream.as_ptr(),
+                stream.len(),
+                &mut self.place,
+                self.room.as_mut_ptr(),
+                self.room.len(),
+                &mut count,
+                &mut used,
+            )
+        }) == Ok(1);
+        (self.from, self.to, self.begin) = (0, used, before);
+        if more && self.places && before + used != self.place {
+            // a dropped block stands among them: one at a time, they tell where they begin
+            (self.place, self.singly) = (before, count);
+            return self.one(stream);
+        }
+        more
+    }
+
+    /// Reads one packet.
+    fn one(&mut self, stream: &[u8]) -> bool {
+        self.singly -= 1;
+        let mut endpoint = 0;
+        // SAFETY: slices with their own lengths
+        let word = unsafe {
+            usbhs_card_next(
+                stream.as_ptr(),
+                stream.len(),
+                &mut self.place,
+                &mut endpoint,
+                self.room[HEAD..].as_mut_ptr(),
+                self.room.len() - HEAD,
+            )
+        };
+        let length = (word >> 8 & 0xFFFF) as usize;
+        self.room[..2].copy_from_slice(&(length as u16).to_le_bytes());
+        self.room[2] = endpoint as u8;
+        (self.from, self.to) = (0, HEAD + length);
+        self.begin = self.place.saturating_sub(HEAD + length);
+        word & 15 == 7
+    }
+}

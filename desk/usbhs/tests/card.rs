@@ -1,0 +1,135 @@
+//! `usbhs card` over good, damaged and empty images.
+
+mod common;
+
+use common::{refused, stream, usbhs, Numbers};
+use usbhs::survey::{Reader, BLOCK};
+
+fn packets(n: usize, numbers: &mut Numbers) -> Vec<(u32, Vec<u8>)> {
+    (0..n).map(|_| (1 + numbers.below(15) as u32, numbers.below(200))).map(|(e, l)| (e, vec![e as u8; l])).collect()
+}
+
+fn borrowed(all: &[(u32, Vec<u8>)]) -> impl Iterator<Item = (u32, &[u8])> {
+    all.iter().map(|(e, p)| (*e, p.as_slice()))
+}
+
+#[test]
+fn what_is_written_comes_back() {
+    let all = packets(2_000, &mut Numbers(1));
+    let card = stream(borrowed(&all));
+    let ran = usbhs(&["card", "check", "-"], &card);
+    assert_eq!((ran.status, ran.err.as_str()), (0, ""));
+    let blocks = card.len() / BLOCK;
+    assert!(ran.text().starts_with(&format!("standard input: {blocks} blocks, {blocks} good, 0 dropped\n")));
+    let raw = usbhs(&["card", "extract", "-"], &card);
+    assert_eq!((raw.status, raw.out), (0, all.iter().flat_map(|p| p.1.clone()).collect()));
+    let one = usbhs(&["card", "extract", "--endpoint", "3", "-"], &card);
+    assert_eq!(one.out, all.iter().filter(|p| p.0 == 3).flat_map(|p| p.1.clone()).collect::<Vec<u8>>());
+    let list = usbhs(&["card", "list", "-"], &card);
+    assert_eq!(list.text().lines().count(), all.len() + 1);
+    let csv = usbhs(&["card", "extract", "--csv", "-"], &card);
+    let row = csv.text().lines().nth(8).unwrap();
+    let hex: String = all[7].1.iter().map(|b| format!("{b:02x}")).collect();
+    assert!(row.starts_with("7,") && row.ends_with(&format!(",{},{},{hex}", all[7].0, all[7].1.len())), "{row}");
+}
+
+#[test]
+fn an_image_of_some_stretches() {
+    // more than two stretches of 4 MiB, with blocks damaged on both sides of their ends
+    let packet = vec![0x5A; 1_000];
+    let mut card = stream((0..10_000).map(|_| (4, packet.as_slice())));
+    assert!(card.len() > 9 << 20);
+    for block in [8_190, 8_191, 8_192, 8_193, 16_383, 16_384] {
+        card[block * BLOCK + 77] ^= 1;
+    }
+    let given = count(&card);
+    let ran = usbhs(&["card", "check", "-"], &card);
+    assert_eq!(ran.status, 1);
+    assert!(ran.text().contains("6 dropped (6 by the check, 0 by the number)"), "{}", ran.text());
+    assert!(ran.text().contains("blocks 8190 to 8193: their checks fail"), "{}", ran.text());
+    let given = usbhs::output::thousands(given as u64);
+    assert!(ran.text().contains(&format!("endpoint 4: {given} packets")), "{}", ran.text());
+}
+
+/// The packets that the reader gives of the whole stream.
+fn count(card: &[u8]) -> usize {
+    let mut reader = Reader::new(card).unwrap();
+    std::iter::from_fn(|| reader.next(card).map(|_| ())).count()
+}
+
+/// Each packet's place, endpoint and bytes, read one at a time.
+fn one_by_one(card: &[u8]) -> Vec<(usize, u32, Vec<u8>)> {
+    let mut reader = Reader::one_by_one(card).unwrap();
+    std::iter::from_fn(|| reader.next(card).map(|p| (p.begin, p.endpoint, p.bytes.to_vec()))).collect()
+}
+
+#[test]
+fn any_damage() {
+    let mut numbers = Numbers(7);
+    for round in 0..200 {
+        let all = packets(numbers.below(120), &mut numbers);
+        let mut card = stream(borrowed(&all));
+        for _ in 0..numbers.below(5) {
+            let blocks = card.len() / BLOCK;
+            if blocks == 0 {
+                break;
+            }
+            let (a, b) = (numbers.below(blocks) * BLOCK, numbers.below(blocks) * BLOCK);
+            match numbers.below(4) {
+                0 => card[a + numbers.below(BLOCK)] ^= 1 << numbers.below(8),
+                1 => card.copy_within(b..b + BLOCK, a),
+                2 => card[a..a + BLOCK].fill(0),
+                _ => card.truncate(a),
+            }
+        }
+        let ran = usbhs(&["card", "list", "--quiet", "-"], &card);
+        assert_eq!(ran.text().lines().count(), 1 + count(&card), "round {round}");
+        // many at a time or one at a time: the same packets at the same places
+        let mut reader = Reader::with_places(&card).unwrap();
+        let many = std::iter::from_fn(|| reader.next(&card).map(|p| (p.begin, p.endpoint, p.bytes.to_vec())));
+        assert!(many.eq(one_by_one(&card)), "round {round}");
+        let dropped = card.chunks(BLOCK).enumerate().filter(|(i, b)| usbhs::card::block(b, *i).is_err()).count();
+        assert_eq!(ran.status, i32::from(dropped != 0), "round {round}");
+    }
+}
+
+#[test]
+fn misplaced_blocks_are_told_together() {
+    let packet = [7u8; 400];
+    let mut card = stream((0..40).map(|_| (1, packet.as_slice())));
+    card.copy_within(2 * BLOCK..6 * BLOCK, 20 * BLOCK);
+    let ran = usbhs(&["card", "check", "-"], &card);
+    assert!(ran.text().contains("  blocks 20 to 23: their numbers are 2 on\n"), "{}", ran.text());
+}
+
+#[test]
+fn empty() {
+    let ran = usbhs(&["card", "check", "-"], b"");
+    assert_eq!((ran.status, ran.text()), (0, "standard input: 0 blocks, 0 good, 0 dropped\nno packet\n"));
+    let ran = usbhs(&["card", "list", "--json", "/dev/null"], b"");
+    assert_eq!((ran.status, ran.text()), (0, "[]\n"));
+}
+
+#[test]
+fn no_image() {
+    refused(&["card", "check", "no-such-file"], b"", "no-such-file: No such file or directory");
+    refused(&["card", "check", "."], b"", ".: is a directory");
+    refused(&["card", "check", "-"], &[0; 700], "700 bytes are not whole blocks of 512");
+    refused(&["card", "check"], b"", "IMAGE is missing");
+    refused(&["card", "mend", "survey.card"], b"", "card mend: check, list or extract");
+    refused(&["card", "check", "survey.card", "--csv"], b"", "--csv is no option here");
+    refused(&["card", "extract", "survey.card", "--out", "no/such/folder"], b"", "no/such/folder: ");
+    let cut = usbhs(&["card", "check", "--cut", "-"], &[0; 700]);
+    assert_eq!(cut.status, 1);
+    assert!(cut.text().contains("1 block, 0 good, 1 dropped"), "{}", cut.text());
+}
+
+#[test]
+fn output_that_nobody_reads() {
+    let ran = std::process::Command::new("sh")
+        .args(["-c", "\"$0\" card list survey.card | head -1", env!("CARGO_BIN_EXE_usbhs")])
+        .current_dir(common::samples())
+        .output()
+        .unwrap();
+    assert!(ran.status.success() && ran.stderr.is_empty());
+}
