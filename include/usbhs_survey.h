@@ -112,7 +112,10 @@ uint64_t usbhs_card_next(const uint8_t *stream, usbhs_length stream_length, usbh
  *
  * Ends with 1: *count packets in the first *used bytes of the room, and *place behind them; or with 0, both 0, where there is no more packet.
  * Row 21: as usbhs_card_next; the room needs three bytes beside the packet's. */
-uint64_t usbhs_card_read(const uint8_t *stream, size_t stream_length, size_t *place, uint8_t *room, size_t room_length, size_t *count, size_t *used);
+uint64_t usbhs_card_read(const uint8_t *stream, usbhs_length stream_length, usbhs_length *place,
+                         uint8_t *room, usbhs_length room_length, usbhs_length *count, usbhs_length *used);
+#define usbhs_card_read(stream, stream_length, place, room, room_length, count, used) \
+    (usbhs_card_read)(stream, stream_length, USBHS_LENGTH_AT(place), room, room_length, USBHS_LENGTH_AT(count), USBHS_LENGTH_AT(used))
 
 /* The endpoints of a configuration descriptor written into the room as one interface, alternate setting 0: done with 18 bytes and 7 for each, of which
  * there are at most 32. Read again they are the same endpoints.

@@ -56,6 +56,7 @@ static void lend(int piece, size_t length) {
 #define SL P(SLOTS), L(SLOTS)
 #define T ((uint16_t *)(void *)P(TIME))
 #define W32(piece) ((uint32_t *)(void *)P(piece))
+#define LENGTH(piece) ((usbhs_length *)(void *)P(piece))
 
 /* ---- the exported functions: numbers in n, at place k */
 
@@ -103,14 +104,16 @@ F(pending, usbhs_pending(S, n[0]) * 16ull + 5)
 F(overruns, usbhs_overruns(S, n[0]) * 16ull + 5)
 F(enabled, usbhs_enabled(S, n[0], n[1]) * 16ull + 5)
 F(time_in_use, usbhs_time_in_use(T) * 16ull + 5)
-F(best_set, usbhs_best_set(P(DATA), L(DATA), T, n[1], W32(FIRST), W32(SECOND), W32(THIRD)))
+F(best_set, usbhs_best_set((struct usbhs_channel *)(void *)P(DATA), L(DATA) / sizeof(struct usbhs_channel), T, n[1],
+                           W32(FIRST), W32(SECOND), W32(THIRD)))
 F(between_visits, usbhs_between_visits(n[0], n[1], n[2], n[3], W32(FIRST), W32(SECOND)))
 F(data_crc, usbhs_data_crc(P(DATA), L(DATA)) * 16ull + 5)
 F(card_new, (usbhs_card_new(W32(FIRST)), 5u))
 F(card_write, usbhs_card_write(W32(FIRST), P(ROOM), L(ROOM), n[0], P(DATA), L(DATA)))
 F(card_finish, usbhs_card_finish(W32(FIRST), P(ROOM), L(ROOM)))
-F(card_start, usbhs_card_start(P(DATA), L(DATA), (size_t *)(void *)P(FIRST)))
-F(card_next, usbhs_card_next(P(DATA), L(DATA), (size_t *)(void *)P(FIRST), W32(SECOND), P(ROOM), L(ROOM)))
+F(card_start, usbhs_card_start(P(DATA), L(DATA), LENGTH(FIRST)))
+F(card_next, usbhs_card_next(P(DATA), L(DATA), LENGTH(FIRST), W32(SECOND), P(ROOM), L(ROOM)))
+F(card_read, usbhs_card_read(P(DATA), L(DATA), LENGTH(FIRST), P(ROOM), L(ROOM), LENGTH(SECOND), LENGTH(THIRD)))
 F(write_descriptor, usbhs_write_descriptor(P(DATA), L(DATA), P(ROOM), L(ROOM)))
 
 /* What a call's data are. */
@@ -166,13 +169,14 @@ static const struct function {
     {"usbhs_enabled", f_enabled, U(STATE), U(STATE), 0, 0, PLAIN},
     {"usbhs_time_in_use", f_time_in_use, U(TIME), U(TIME), 0, 0, PLAIN},
     {"usbhs_best_set", f_best_set, U(DATA) | U(TIME) | U(FIRST) | U(SECOND) | U(THIRD), U(TIME), 4, 0, CHANNELS},
-    {"usbhs_between_visits", f_between_visits, U(FIRST) | U(SECOND), 0, 4, 0, VISITS},
+    {"usbhs_between_visits", f_between_visits, U(FIRST) | U(SECOND), 0, 12, 0, VISITS},
     {"usbhs_data_crc", f_data_crc, U(DATA), U(DATA), 0, 0, PLAIN},
     {"usbhs_card_new", f_card_new, U(FIRST), 0, 16, 0, PLAIN},
     {"usbhs_card_write", f_card_write, U(FIRST) | U(ROOM) | U(DATA), U(DATA), 16, 0, CARD},
     {"usbhs_card_finish", f_card_finish, U(FIRST) | U(ROOM), U(FIRST), 16, 0, CARD},
     {"usbhs_card_start", f_card_start, U(DATA) | U(FIRST), U(DATA), 8, 0, STREAM},
     {"usbhs_card_next", f_card_next, U(DATA) | U(FIRST) | U(SECOND) | U(ROOM), U(DATA), 8, 0, STREAM},
+    {"usbhs_card_read", f_card_read, U(DATA) | U(FIRST) | U(SECOND) | U(THIRD) | U(ROOM), U(DATA), 8, 0, STREAM},
     {"usbhs_write_descriptor", f_write_descriptor, U(DATA) | U(ROOM), U(DATA), 0, 0, DESCRIPTOR},
 };
 #define FUNCTIONS (sizeof functions / sizeof *functions)
@@ -304,8 +308,9 @@ static void fill(const struct function *f, int wild, uint32_t n[5]) {
         else corrupted_state(f->uses, f->call == f_continue);
     }
     if (f->first) any_bytes(lent[FIRST].as, f->first), lend(FIRST, f->first);
-    any_bytes(lent[SECOND].as, 8);
-    lend(SECOND, 4), lend(THIRD, 4);
+    any_bytes(lent[SECOND].as, 12);
+    lend(SECOND, f->call == f_between_visits ? 12 : f->call == f_card_read ? 8 : 4);
+    lend(THIRD, f->call == f_card_read ? 8 : 4);
     lend(SLICE, chance(85) ? (f->call == f_poll_read ? READ : DATA_OUT) : below(100));
     lend(DATA, f->call == f_poll_write && chance(85) ? WRITTEN : chance(80) ? below(65) : below(1100));
     if (f->uses & U(DATA)) any_bytes(lent[DATA].as, L(DATA));
@@ -317,7 +322,7 @@ static void fill(const struct function *f, int wild, uint32_t n[5]) {
         break;
     case DESCRIPTOR: any_descriptor(); break;
     case CHANNELS:
-        lend(DATA, chance(90) ? USBHS_CHANNEL_LEN * below(9) : below(100));
+        lend(DATA, sizeof(struct usbhs_channel) * (chance(90) ? below(9) : below(18)));
         n[1] = chance(95) ? below(40) : 256;
         break;
     case CARD:

@@ -146,20 +146,22 @@ static void try_board(void)
 
 static void try_channels(void)
 {
-    uint8_t list[17 * USBHS_CHANNEL_LEN];
-    uint32_t total = 1, figure = 2, looked = 3, at, length = below(12) * USBHS_CHANNEL_LEN;
+    struct usbhs_channel list[17];
+    uint32_t total = 1, figure = 2, looked = 3, at, channels = chance(5) ? below(18) : below(12);
 
-    if (chance(5))
-        length = below(sizeof list + 1);
-    for (uint32_t i = 0; i < sizeof list; i++)
-        list[i] = (uint8_t)below(i % 5 == 3 ? 20 : 256);
+    memset(list, 0, sizeof list);
+    for (uint32_t i = 0; i < 17; i++) {
+        list[i].maximum = (uint16_t)below(0x10000);
+        list[i].charge = (uint16_t)below(5000);
+        list[i].chosen = (uint8_t)below(256);
+    }
     at = below(USBHS_TIME_LEN);
     bus_time[at] = (uint16_t)below(1000);
-    mix_word(usbhs_best_set(list, length, bus_time, below(3000), &total, &figure, &looked));
+    mix_word(usbhs_best_set(list, channels, bus_time, below(3000), &total, &figure, &looked));
     mix(total);
     mix(figure);
     mix(looked);
-    mix_bytes(list, sizeof list);
+    mix_bytes((const uint8_t *)list, sizeof list);
 }
 
 static uint32_t distance(void)
@@ -169,11 +171,12 @@ static uint32_t distance(void)
 
 static void try_visits(void)
 {
-    uint32_t least = 1, greatest = 2, a = distance(), b = a + distance(), c = distance(), d = c + distance();
+    uint32_t least[USBHS_REACHED_LEN] = {1}, greatest[USBHS_REACHED_LEN] = {2};
+    uint32_t a = distance(), b = a + distance(), c = distance(), d = c + distance();
 
-    mix_word(usbhs_between_visits(a, b, c, d, &least, &greatest));
-    mix(least);
-    mix(greatest);
+    mix_word(usbhs_between_visits(a, b, c, d, least, greatest));
+    mix_bytes((const uint8_t *)least, sizeof least);
+    mix_bytes((const uint8_t *)greatest, sizeof greatest);
 }
 
 /* ---- the card */

@@ -326,9 +326,10 @@ static void requests(void)
 
 static void survey(void)
 {
-    static uint8_t block[USBHS_BLOCK_LEN], data[64], channels[16 * USBHS_CHANNEL_LEN], card[2 * USBHS_BLOCK_LEN];
-    uint32_t writer[USBHS_WRITER_LEN], a, b, c;
-    usbhs_length place;
+    static uint8_t block[USBHS_BLOCK_LEN], data[64], room[USBHS_BLOCK_LEN], card[2 * USBHS_BLOCK_LEN];
+    static struct usbhs_channel channels[16];
+    uint32_t writer[USBHS_WRITER_LEN], a, b, c, least[USBHS_REACHED_LEN], greatest[USBHS_REACHED_LEN];
+    usbhs_length place, count, used;
 
     usbhs_card_new(writer);
     OPERATE("card-write-64", usbhs_card_write, (writer, block, sizeof block, 1, data, sizeof data));
@@ -340,9 +341,12 @@ static void survey(void)
     OPERATE("card-finish", usbhs_card_finish, (writer, block, sizeof block));
     OPERATE("card-start", usbhs_card_start, (card, USBHS_BLOCK_LEN, &place));
     OPERATE("card-next-64", usbhs_card_next, (card, USBHS_BLOCK_LEN, &place, &a, data, sizeof data));
+    PREPARE(usbhs_card_start, (card, USBHS_BLOCK_LEN, &place));
+    OPERATE("card-read-block", usbhs_card_read, (card, USBHS_BLOCK_LEN, &place, room, sizeof room, &count, &used));
+    OPERATE("crc-block", usbhs_data_crc, (card, 510));
     memset(channels, 1, sizeof channels);
-    OPERATE("best-set-256", usbhs_best_set, (channels, sizeof channels, bus_time, 256, &a, &b, &c));
-    OPERATE("between-visits", usbhs_between_visits, (3, 40, 2, 5, &a, &b));
+    OPERATE("best-set-256", usbhs_best_set, (channels, 16, bus_time, 256, &a, &b, &c));
+    OPERATE("between-visits", usbhs_between_visits, (3, 40, 2, 5, least, greatest));
 }
 
 int main(void)

@@ -1,8 +1,16 @@
 //! The calls of include/usbhs_survey.h, and the preview of include/usbhs.h, on slices.
 
+/// A channel as include/usbhs_survey.h has it.
+#[repr(C)]
+struct Channel {
+    maximum: u16,
+    charge: u16,
+    chosen: u8,
+}
+
 extern "C" {
     fn usbhs_best_set(
-        list: *mut u8,
+        list: *mut Channel,
         len: usize,
         time: *const u16,
         budget: u32,
@@ -81,10 +89,8 @@ pub struct Best {
 
 /// The best set of channels, each a maximum and a charge, with so much bus time in use.
 pub fn best_set(channels: &[(u16, u16)], in_use: u32, budget: u32) -> Result<Best, u8> {
-    let mut list: Vec<u8> = channels
-        .iter()
-        .flat_map(|(maximum, charge)| [maximum.to_le_bytes(), charge.to_le_bytes()].concat().into_iter().chain([0]))
-        .collect();
+    let mut list: Vec<Channel> =
+        channels.iter().map(|&(maximum, charge)| Channel { maximum, charge, chosen: 0 }).collect();
     // the record's numbers have 16 bits: what is in use stands in as many as are needed
     let mut time = [0u16; TIME];
     let mut left = in_use;
@@ -109,11 +115,20 @@ pub fn best_set(channels: &[(u16, u16)], in_use: u32, budget: u32) -> Result<Bes
     Ok(best)
 }
 
+/// A number of arrivals between two visits, and times that reach it: the first after the visit, and the distance from
+/// each to the next.
+pub struct Reached {
+    pub arrivals: u32,
+    pub first: u32,
+    pub distance: u32,
+}
+
 /// The least and the greatest number of arrivals between two visits.
-pub fn between_visits(a: u32, b: u32, c: u32, d: u32) -> Result<(u32, u32), u8> {
-    let (mut least, mut greatest) = (0, 0);
-    // SAFETY: two numbers are lent
-    answered(unsafe { usbhs_between_visits(a, b, c, d, &mut least, &mut greatest) })?;
+pub fn between_visits(a: u32, b: u32, c: u32, d: u32) -> Result<(Reached, Reached), u8> {
+    let (mut least, mut greatest) = ([0; 3], [0; 3]);
+    // SAFETY: two rooms of three numbers are lent
+    answered(unsafe { usbhs_between_visits(a, b, c, d, least.as_mut_ptr(), greatest.as_mut_ptr()) })?;
+    let [least, greatest] = [least, greatest].map(|[arrivals, first, distance]| Reached { arrivals, first, distance });
     Ok((least, greatest))
 }
 

@@ -18,19 +18,19 @@ pub fn run(mut args: Args, json: bool, out: &mut dyn Write) -> Done<bool> {
         Ok(bounds) => bounds,
         Err(row) => return bad(rows::refused(row)),
     };
-    let does = greatest <= SLOTS;
+    let does = greatest.arrivals <= SLOTS;
     if json {
-        let witness = |arrivals: u32, span: u32, first: u32, then: u32| {
+        let witness = |reached: &survey::Reached, span: u32| {
             Json::Object(vec![
-                ("arrivals", arrivals.into()),
+                ("arrivals", reached.arrivals.into()),
                 ("span", span.into()),
-                ("first", first.into()),
-                ("then_every", then.into()),
+                ("first", reached.first.into()),
+                ("then_every", reached.distance.into()),
             ])
         };
         let all = Json::Object(vec![
-            ("least", witness(least, a, d, d)),
-            ("greatest", witness(greatest, b, 1, c)),
+            ("least", witness(&least, a)),
+            ("greatest", witness(&greatest, b)),
             ("slots", SLOTS.into()),
             ("enough", does.into()),
         ]);
@@ -46,20 +46,25 @@ pub fn run(mut args: Args, json: bool, out: &mut dyn Write) -> Done<bool> {
     };
     let text = format!(
         "visits {}, arrivals {}
-least:    {} between two visits: the first {d} after the visit, then one every {d}, in a span of {a}
-greatest: {} between two visits: the first 1 after the visit, then one every {c}, in a span of {b}
+least:    {} between two visits: the first {} after the visit, then one every {}, in a span of {a}
+greatest: {} between two visits: the first {} after the visit, then one every {}, in a span of {b}
 {}
 ",
         range(a, b),
         range(c, d),
-        count(least.into(), "arrival"),
-        count(greatest.into(), "arrival"),
+        count(least.arrivals.into(), "arrival"),
+        least.first,
+        least.distance,
+        count(greatest.arrivals.into(), "arrival"),
+        greatest.first,
+        greatest.distance,
         if does {
             "fifteen slots do: a ring emptied at each visit has no overrun after the first visit".to_string()
         } else {
             format!(
-                "fifteen slots do not: {greatest} packets may come, so {} may be turned away",
-                thousands((greatest - SLOTS).into())
+                "fifteen slots do not: {} packets may come, so {} may be turned away",
+                greatest.arrivals,
+                thousands((greatest.arrivals - SLOTS).into())
             )
         }
     );
