@@ -16,7 +16,7 @@ use Rattle.script.specs.Answers.{Answer, Refused}
 use Rattle.script.specs.Calls.{Config, Op, calls, startRow}
 use Rattle.script.specs.Machine.{Buf, Call, start, begin, go, question, Way, idle, busy, Machine, Ans, ended, handed}
 use Rattle.script.specs.Machine.{told, fed, halt, begun, continued, started, call, misfit, stay, lentTo, over, blankA}
-use Rattle.script.specs.Agree.{After, Ways, agrees}
+use Rattle.script.specs.Agree.{After, Ways, Lent, unless, agrees}
 use Rattle.way.specs.Under.{driverOf, drive}
 use Rattle.way.specs.Goes.{Called}
 use Rattle.bus_time.specs.Time.{chargeOf, entryOf, passes}
@@ -28,7 +28,6 @@ use Rattle.book.specs.Rest.{Rest, Chip}
 use Rattle.book.specs.Allocations.{fresh-kept}
 use Rattle.book.specs.Agrees.{agree}
 use Rattle.book.specs.FrontPage.{written, LentAsLeft}
-use Rattle.book.specs.FrontPage as page
 use Rattle.book.specs.SlotsKept.{lent-is}
 use Rattle.proof_contracts.specs.SharedBook.{chargeIn, wouldPass, sharedStep, timeIn}
 
@@ -127,13 +126,14 @@ not-down i apart a d time = refl
 
 down-fits : (i : ℕ) (x : Sort) (d : Driver) (m : Machine Answer Driver) (y : Called) (time : List ℕ) (u : Bool)
     {X : Type 0}
-    → turnedDown i x (cond u (stay calls driverOf 1 m) y .0) d time ≡ true → page.unless u X → X
+    → turnedDown i x (cond u (stay calls driverOf 1 m) y .0) d time ≡ true → unless driverOf book agree calls u X → X
 down-fits i x d m y time true h l = absurd (true≢false (sym h ∙ not-down i x (Refused 1) d time))
 down-fits i x d m y time false h l = l
 
 pub down-chip : (i : ℕ) (c : Call Config Op) (m : Machine Answer Driver) (n : Machine Answer Pages) (time : List ℕ)
     (b : Buf)
-    → turnedDown i (sortOf c) (drive c m b .0) (m .st) time ≡ true → LentAsLeft c m n b → Chip (n .st) (m .buf) b
+    → turnedDown i (sortOf c) (drive c m b .0) (m .st) time ≡ true → Lent driverOf book agree calls c m n b
+    → Chip (n .st) (m .buf) b
 down-chip i (start c) m n time b h l = absurd (true≢false (sym h))
 down-chip i (begin o) m n time b h l =
     down-fits i (opSort o) (m .st) m (begun calls driverOf (λ s. s) o m (m .way) b) time
@@ -146,10 +146,10 @@ down-chip i (question q) m n time b h l = absurd (true≢false (sym h))
 module _ (i : ℕ) (c : Call Config Op) (b : Buf) (time : List ℕ) {φ : Phase} (m : Machine Answer Driver)
     (n : Machine Answer Pages)
     (w : Ways driverOf book agree calls φ (m .way) (n .way)) (r : Rest φ (m .buf) (m .st) (n .st))
-    (l : LentAsLeft c m n b) where
+    (l : LentAsLeft c n (m .buf) b) where
   -- the driver's own call, without the record
   own : After driverOf book agree calls (drive c m b) (written (drive c m b .0) c n b)
-  own = agrees driverOf book agree calls fresh-kept c b m n w r (lent-is c m n b l)
+  own = agrees driverOf book agree calls fresh-kept c b m n w r (lent-is m n r b c l)
 
   abbrev pub isDown : Bool
   isDown = turnedDown i (sortOf c) (drive c m b .0) (m .st) time
@@ -173,8 +173,7 @@ module _ (i : ℕ) (c : Call Config Op) (b : Buf) (time : List ℕ) {φ : Phase}
     same = refl;
     phase = φ;
     ways = w;
-    rest = agree .chip (m .buf) b φ (m .st) (n .st) r
-        (down-chip i c m n time b h l);
+    rest = agree .chip (m .buf) b φ (m .st) (n .st) r (down-chip i c m n time b h (lent-is m n r b c l));
     good = tt;
   }
   by-outcome false h = own

@@ -21,6 +21,7 @@ use Rattle.book.specs.Rest.{Rest}
 use Rattle.book.specs.Agrees.{agree}
 use Rattle.book.specs.FrontPage.{written, LentAsLeft}
 use Rattle.book.specs.FrontPage as page
+use Rattle.book.specs.SlotsKept.{lent-is}
 use Rattle.proof_contracts.specs.SharedPage.{Made, Did, noted, Calls}
 use Rattle.proof_contracts.specs.SharedAgrees.{down-chip, down-same}
 use Rattle.proof_contracts.specs.SharedRuns.{AgreedAll, agreed-all}
@@ -74,17 +75,17 @@ module _ (i : ℕ) (xs : List ℕ) (a : Buf) (m : Made) where
       by true h = ap (λ (z : Called × List ℕ). (told (questionOf (pending 0) (view xs)), z .0 .1)) h
       by false h = ap (λ (z : Called × List ℕ). z .0) h
 
-  lent-alone : (n : Machine Answer Pages) → LentAsLeft c (machineOf xs a) n b
-      → LentAsLeft (callAlone (isStopped i xs a m) c) (machineOf xs a) n b
-  lent-alone n l = by (isStopped i xs a m) refl
+  lent-alone : {φ : Phase} (n : Machine Answer Pages) → Rest φ a (view xs) (n .st) → LentAsLeft c n a b
+      → LentAsLeft (callAlone (isStopped i xs a m) c) n a b
+  lent-alone n r l = by (isStopped i xs a m) refl
     where
-      by : (u : Bool) → isStopped i xs a m ≡ u → LentAsLeft (callAlone u c) (machineOf xs a) n b
-      by true h = down-chip i c (machineOf xs a) n (m .before) b h l
+      by : (u : Bool) → isStopped i xs a m ≡ u → LentAsLeft (callAlone u c) n a b
+      by true h = down-chip i c (machineOf xs a) n (m .before) b h (lent-is (machineOf xs a) n r b c l)
       by false h = l
 
   noted-alone : {φ : Phase} (n : Machine Answer Pages)
       → Ways driverOf book agree calls φ (machineOf xs a .way) (n .way) → Rest φ a (view xs) (n .st)
-      → LentAsLeft c (machineOf xs a) n b
+      → LentAsLeft c n a b
       → noted i m n .1 ≡ page.noted (madeAlone i xs a m) n .1
   noted-alone n w r l =
       subst (λ (u : Bool). cond u stopped (written (m .answer) c n b) .1 ≡ page.noted (madeAlone i xs a m) n .1)
@@ -100,11 +101,11 @@ module _ (i : ℕ) (xs : List ℕ) (a : Buf) (m : Made) where
 
 -- ---- every list of calls
 
--- the book goes the same way
+-- the book goes the same way, and is lent the same
 abbrev pub NotedAll : ℕ → List ℕ → Buf → Machine Answer Pages → List Made → Type 0
 NotedAll i xs a n [] = Unit {0}
 NotedAll i xs a n (m ∷ ms) = (noted i m n .1 ≡ page.noted (madeAlone i xs a m) n .1)
-    × NotedAll i (m .bytes) (m .slots) (noted i m n .1) ms
+    × LentAsLeft (madeAlone i xs a m .event .call) n a (m .event .lent) × NotedAll i (m .bytes) (m .slots) (noted i m n .1) ms
 
 noted-all : (i : ℕ) (ms : List Made) {φ : Phase} (xs : List ℕ) (a : Buf) (n : Machine Answer Pages)
     → Ways driverOf book agree calls φ (machineOf xs a .way) (n .way) → Rest φ a (view xs) (n .st) → Calls i xs a n ms
@@ -112,6 +113,7 @@ noted-all : (i : ℕ) (ms : List Made) {φ : Phase} (xs : List ℕ) (a : Buf) (n
 noted-all i [] xs a n w r h k = tt
 noted-all i (m ∷ ms) xs a n w r h k = (
   noted-alone i xs a m n w r (h .1),
+  lent-alone i xs a m n r (h .1),
   noted-all i ms (m .bytes) (m .slots) (noted i m n .1) (k .0 .both .ways)
       (k .0 .both .rest) (h .2) (k .1),
 )
@@ -121,9 +123,9 @@ calls-alone : (i : ℕ) (ms : List Made) (xs : List ℕ) (a : Buf) (n : Machine 
 calls-alone i [] xs a n h k = tt
 calls-alone i (m ∷ ms) xs a n h k = (
   did-alone i xs a m (h .0),
-  lent-alone i xs a m n (h .1),
+  k .1,
   subst (λ (z : Machine Answer Pages). page.Calls (m .bytes) (m .slots) z (allAlone i (m .bytes) (m .slots) ms)) (k .0)
-      (calls-alone i ms (m .bytes) (m .slots) (noted i m n .1) (h .2) (k .1)),
+      (calls-alone i ms (m .bytes) (m .slots) (noted i m n .1) (h .2) (k .2)),
 )
 
 -- a start-up is not stopped by row 19
@@ -144,6 +146,11 @@ start-noted i c b xs a n m e =
     subst (λ (v : Event Config Op). noted i (with-event m v) n .1 ≡ page.noted (madeAlone i xs a (with-event m v)) n
     .1) (sym e) refl
 
+start-lent : (i : ℕ) (c : Config) (b : Buf) (xs : List ℕ) (a : Buf) (n : Machine Answer Pages) (m : Made)
+    → m .event ≡ record { call = start c; lent = b } → LentAsLeft (madeAlone i xs a m .event .call) n a (m .event .lent)
+start-lent i c b xs a n m e =
+    subst (λ (v : Event Config Op). LentAsLeft (madeAlone i xs a (with-event m v) .event .call) n a (v .lent)) (sym e) tt
+
 pub start-alone : (i : ℕ) (c : Config) (b : Buf) (xs : List ℕ) (a : Buf) (m : Made)
     → m .event ≡ record { call = start c; lent = b }
     → madeAlone i xs a m .event ≡ record { call = start c; lent = b }
@@ -159,6 +166,7 @@ pub all-noted : (i : ℕ) (c : Config) (b : Buf) → startRow c b ≡ zero
 all-noted i c b row xs a n first is-start ms run =
     let k = agreed-all i c b row xs a n first is-start ms run in (
       start-noted i c b xs a n first is-start,
+      start-lent i c b xs a n first is-start,
       noted-all i ms (first .bytes) (first .slots) (noted i first n .1)
           (k .0 .both .ways) (k .0 .both .rest) (run .2) (k .1),
     )

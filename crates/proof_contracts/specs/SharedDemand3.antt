@@ -127,7 +127,7 @@ after-each : (i : ℕ) (ms : List Made) (xs : List ℕ) (a : Buf) (n : Machine A
 after-each i [] xs a n run goes k y = tt
 after-each i (m ∷ ms) xs a n run goes k y = (
   record { call = after-made i xs a m n (run .0) (goes .0) (y .0); answers = k .0 .both .same; time = k .0 .time },
-  after-each i ms (m .bytes) (m .slots) (noted i m n .1) (run .2) (goes .1) (k .1)
+  after-each i ms (m .bytes) (m .slots) (noted i m n .1) (run .2) (goes .2) (k .1)
       (subst (λ (z : Machine Answer Pages). page.AfterEach z (allAlone i (m .bytes) (m .slots) ms)) (sym (goes .0))
       (y .1)),
 )

@@ -40,7 +40,7 @@ noted i m n = sharedStep i (m .answer) (m .event .call) n (m .before) (m .event 
 abbrev pub Calls : ℕ → List ℕ → Buf → Machine Answer Pages → List Made → Type 0
 Calls i xs a n [] = Unit {0}
 Calls i xs a n (m ∷ ms) =
-    Did i xs a m × LentAsLeft (m .event .call) (machineOf xs a) n (m .event .lent)
+    Did i xs a m × LentAsLeft (m .event .call) n a (m .event .lent)
     × Calls i (m .bytes) (m .slots) (noted i m n .1) ms
 
 pub record AfterShared (i : ℕ) (m : Made) (n : Machine Answer Pages) : Type 0 where

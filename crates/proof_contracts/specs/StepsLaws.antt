@@ -3,15 +3,17 @@ use mathlib.Core.List.{List}
 use mathlib.Core.Path.{_≡_, refl, ap, sym, _∙_}
 use Prim.Native.Nat.{ℕ}
 use Rattle.state.specs.State.{view}
+use Rattle.state.specs.Driver.{Driver}
 use Rattle.script.specs.Answers.{Answer}
 use Rattle.script.specs.Calls.{Config, Op}
 use Rattle.script.specs.Machine.{Buf, Call, question, Question, Ans, told}
 use Rattle.way.specs.declared.Step.{Step}
 use Rattle.way.specs.Questions.{questionOf}
-use Rattle.way.specs.Under.{machineOf, drive, lentOr}
+use Rattle.way.specs.Under.{machineOf, drive, answerOf, lentOr}
 use Rattle.way.specs.Goes.{Called}
 use Rattle.shared_time.specs.Sharing.{apart, sortOf}
-use Rattle.answer_word.specs.Word.{Worded}
+use Rattle.answer_word.specs.Parts.{stepOf, spoken}
+use Rattle.answer_word.specs.Word.{Says, Worded}
 use Rattle.four_drivers.specs.Code.{leaves-record}
 use Rattle.proof_contracts.specs.Steps.{IsStep, IsStepLent, IsQuestion}
 
@@ -40,3 +42,10 @@ asked {q = q} {xs = xs} h = unlent refl (λ a b. ap (λ (k : ℕ). (told k, mach
 -- what holds of the answer that a word says
 pub worded : (r : ℕ) {P Q : Step → Type 0} → Worded r P → ((step : Step) → P step → Q step) → Worded r Q
 worded r w f = (w .0, w .1, f (w .0) (w .2))
+
+-- the answer as the caller reads it back from the word, with the bytes and the state that the call left: every answer but
+-- a setup packet and a packet that is shown, whose bytes and stamp are in the caller's room (`spoken`)
+pub read-back : (r : ℕ) (step : Step) (out : List ℕ) (d : Driver) → Says r step → spoken step ≡ step
+    → answerOf step out d ≡ answerOf (stepOf r) out d
+unfolding Says
+read-back r step out d says same = ap (λ (s : Step). answerOf s out d) (sym (says .1 ∙ same))
