@@ -55,23 +55,27 @@ module _ (D : Dir) (E : ℕ) where
   -- `P` at each end, of what the log is then
   pub data Follow {A : Type 0} (P : Track → A → St → Type 0) : Track → tree.Out St A → Type 0 where
     at-end : {w : Track} {a : A} {s : St} → P w a s → Follow P w (ends a s)
-    at-ask : {w : Track} {q : Access} {s : St} {k : ℕ → St → tree.Out St A} → ((v : ℕ) (t : St) → Keeps s t → Follow P (saw D E w q v) (k v t)) → Follow P w (asks q s k)
+    at-ask : {w : Track} {q : Access} {s : St} {k : ℕ → St → tree.Out St A}
+        → ((v : ℕ) (t : St) → Keeps s t → Follow P (saw D E w q v) (k v t)) → Follow P w (asks q s k)
 
   pub follow-bind : {A B : Type 0} {P : Track → A → St → Type 0} {Q : Track → B → St → Type 0} {w : Track} {o : tree.Out St A} {f : A → St → tree.Out St B}
       → Follow P w o → ((x : Track) (a : A) (s : St) → P x a s → Follow Q x (f a s)) → Follow Q w (bindOut o f)
   follow-bind (at-end x) k = k _ _ _ x
   follow-bind (at-ask x) k = at-ask (λ v t i. follow-bind (x v t i) k)
 
-  pub follow-more : {A : Type 0} {P Q : Track → A → St → Type 0} {w : Track} {o : tree.Out St A} → Follow P w o → ((x : Track) (a : A) (s : St) → P x a s → Q x a s) → Follow Q w o
+  pub follow-more : {A : Type 0} {P Q : Track → A → St → Type 0} {w : Track} {o : tree.Out St A} → Follow P w o
+      → ((x : Track) (a : A) (s : St) → P x a s → Q x a s) → Follow Q w o
   follow-more (at-end x) f = at-end (f _ _ _ x)
   follow-more (at-ask x) f = at-ask (λ v t i. follow-more (x v t i) f)
 
-  pub follow-cond : {A : Type 0} {P : Track → A → St → Type 0} {w : Track} (b : Bool) {o u : tree.Out St A} → (b ≡ true → Follow P w o) → (b ≡ false → Follow P w u) → Follow P w (cond b o u)
+  pub follow-cond : {A : Type 0} {P : Track → A → St → Type 0} {w : Track} (b : Bool) {o u : tree.Out St A}
+      → (b ≡ true → Follow P w o) → (b ≡ false → Follow P w u) → Follow P w (cond b o u)
   follow-cond true x y = x refl
   follow-cond false x y = y refl
 
   -- a log that is another's
-  pub follow-at : {A : Type 0} {P : Track → A → St → Type 0} {x y : Track} {o : tree.Out St A} → x ≡ y → Follow P y o → Follow P x o
+  pub follow-at : {A : Type 0} {P : Track → A → St → Type 0} {x y : Track} {o : tree.Out St A} → x ≡ y → Follow P y o
+      → Follow P x o
   follow-at {P = P} {o = o} h f = subst (λ (u : Track). Follow P u o) (sym h) f
 
   abbrev pub Ends : Op → Track → Answer → St → Type 0

@@ -26,8 +26,8 @@ use Rattle.descriptor.specs.declared.Answer.the-variants as listed
 use Rattle.descriptor.specs.Reading.{readingOf, listOf}
 use Rattle.preview.specs.Trial.{directionOf, trialOf}
 use Rattle.script.specs.Tree as tree
-use Rattle.script.specs.Cells.{Plain, ep-cell, globals-cell, allocator-cell}
-use Rattle.script.specs.Script.{Script, bind, run, row, rows, bus-reset, no-wakes, waken, allocate, allocate0}
+use Rattle.script.specs.Cells.{ep-cell, allocator-cell}
+use Rattle.script.specs.Script.{bind, run, row, rows, bus-reset, no-wakes, waken, allocate, allocate0}
 use Rattle.script.specs.Statics.{isOn, withTog, completed, wake, wakeAll, withPower}
 use Rattle.script.specs.Answers.{Answer, isAllocated, operation, resultless}
 use Rattle.script.specs.Bus as bus
@@ -70,7 +70,8 @@ module _ (D : Dir) (E : ℕ) (w : Track) where
 module _ (D : Dir) (E : ℕ) where
   -- ---- halts
 
-  q-stalled : {i : Bool} (d : Dir) (e : ℕ) (on : Bool) → Else D E d e → Quiet D E false (Off D E) (bus.setStalled {i = i} d e on)
+  q-stalled : {i : Bool} (d : Dir) (e : ℕ) (on : Bool) → Else D E d e
+      → Quiet D E false (Off D E) (bus.setStalled {i = i} d e on)
   q-stalled Out e true m = (q-bind D E) ((q-reg D E) EpRxCtrl e _) (λ _. (q-wake D E) Out e)
   q-stalled In e true m = (q-bind D E) ((q-write D E) (q-ret D E)) (λ _. (q-bind D E) ((q-reg D E) EpTxCtrl e _) (λ _. (q-wake D E) In e))
   q-stalled Out e false m = (q-bind D E) ((q-got D E) (ep-cell Out e)) (λ s. (q-bind D E) ((q-put D E) (put-other D E Out e m (withTog 0 s)) (q-ret D E)) (λ _. (q-bind D E) ((q-write D E) (q-ret D E)) (λ _. (q-wake D E) Out e)))
@@ -112,7 +113,8 @@ module _ (D : Dir) (E : ℕ) where
   Clears : Track → {A : Type 0} → Track → A → St → Type 0
   Clears w y _ t = (y ≡ withPhase off w) × FitsAs initial (log.finishes D E D (w .through)) (w .len) (log.staysArmed D E D (w .armed)) (view D E (t .0))
 
-  clearing : (d : Dir) (e : ℕ) (w : Track) (s : St) → Own D E d e → Whole s → Fits w (view D E (s .0)) → eqb (s .0 .globals .stage) 2 ≡ true → isOn (epOn (s .0) D E .iso) ≡ false
+  clearing : (d : Dir) (e : ℕ) (w : Track) (s : St) → Own D E d e → Whole s → Fits w (view D E (s .0))
+      → eqb (s .0 .globals .stage) 2 ≡ true → isOn (epOn (s .0) D E .iso) ≡ false
       → Follow D E (Clears w) (withPhase off w) (run {i = false} conc (bus.setStalled d e false) s)
   unfolding Clears isOn
   clearing Out e w s o k r two i = at-ask (λ _ u p. at-end (refl, subst (FitsAs initial (log.finishes D E D (w .through)) (w .len) (log.staysArmed D E D (w .armed))) (sym (act-view D E (waken (wakeCode Out e ∷ [])) refl u ∙ (p .0 ∙ changed D E Out e (withTog 0) s o k))) (fits-2 D E two refl (r .ready ∙ sym (keeps-out e (w .through) o)) (r .len) (r .armed ∙ sym (stays-out e (w .armed) o)))))
@@ -147,12 +149,14 @@ module _ (D : Dir) (E : ℕ) where
       nothing : Fits (cond (own D E d e && false) (log.cleared D E (withPhase off w)) (withPhase off w)) (view D E (s .0))
       nothing = rw (last (own D E d e)) r
 
-      by : (b : Bool) → own D E d e ≡ b → Follow D E (Ends D E (other (SetStalled d e false))) (withPhase off w) (run conc (code (other (SetStalled d e false))) s)
+      by : (b : Bool) → own D E d e ≡ b
+          → Follow D E (Ends D E (other (SetStalled d e false))) (withPhase off w) (run conc (code (other (SetStalled d e false))) s)
       by false h = quiet-law D E (other (SetStalled d e false)) refl (λ a x. not-and D E (own D E d e) (log.ended D E a) (log.cleared D E x) x h) (λ _ _. tt)
           (let q = q-stalled d e false (own-false D E d e h) in (q-staged D E) 2 ((q-test D E) ((q-resultless D E) q) (reading.q-named D E d e ((q-resultless D E) q)))) w s r i z
       by true h = follow.follow-cond D E (eqb (s .0 .globals .stage) 2) (λ two. follow.follow-cond D E (eqb e 0) (λ _. goes two) (λ _. follow.follow-cond D E (isAllocated (s .0 .allocator) d e) (λ _. goes two) (λ _. at-end (nothing, tt)))) (λ _. at-end (nothing, tt))
         where
-          goes : eqb (s .0 .globals .stage) 2 ≡ true → Follow D E (Ends D E (other (SetStalled d e false))) (withPhase off w) (run {i = false} conc (resultless (bus.setStalled d e false)) s)
+          goes : eqb (s .0 .globals .stage) 2 ≡ true
+              → Follow D E (Ends D E (other (SetStalled d e false))) (withPhase off w) (run {i = false} conc (resultless (bus.setStalled d e false)) s)
           goes two =
               let a = conc .act no-wakes s in
               let v = act-view D E no-wakes refl s in
@@ -182,13 +186,15 @@ module _ (D : Dir) (E : ℕ) where
   abbrev Restarted : Track → {A : Type 0} → Track → A → St → Type 0
   Restarted w y _ t = (y ≡ withPhase off w) × FitsAs initial false (w .len) false (view D E (t .0)) × Whole t
 
-  rests : (w : Track) (s : St) → Whole s → Fits w (view D E (s .0)) → eqb (s .0 .globals .stage) 2 ≡ true → Follow D E (Restarted w) (withPhase off w) (rows conc bus-reset 3 (λ t. tree.ends (tt {0}) t) s)
+  rests : (w : Track) (s : St) → Whole s → Fits w (view D E (s .0)) → eqb (s .0 .globals .stage) 2 ≡ true
+      → Follow D E (Restarted w) (withPhase off w) (rows conc bus-reset 3 (λ t. tree.ends (tt {0}) t) s)
   rests w s k r two = at-ask (λ _ b p. at-ask (λ _ c q. at-ask (λ _ e f.
       let v : view D E (e .0) ≡ view D E (s .0) = f .0 ∙ (q .0 ∙ (types b ∙ (p .0 ∙ configs s))) in
       let g = reset-fits D E w (e .0) (f .1 .places) (subst (Fits w) (sym v) r) (ap (λ (x : Seen). eqb (x .stage) 2) v ∙ two) in
       at-ask (λ _ h l. at-end (refl, subst (FitsAs initial false (w .len) false) (sym (l .0)) g, l .1 .places)))))
 
-  resets : (w : Track) (s : St) → Whole s → Fits w (view D E (s .0)) → eqb (s .0 .globals .stage) 2 ≡ true → Follow D E (Restarted w) (withPhase off w) (run conc bus.busReset s)
+  resets : (w : Track) (s : St) → Whole s → Fits w (view D E (s .0)) → eqb (s .0 .globals .stage) 2 ≡ true
+      → Follow D E (Restarted w) (withPhase off w) (run conc bus.busReset s)
   resets w s k r two = at-ask (λ _ a1 p1. at-ask (λ _ a2 p2. at-ask (λ _ a3 p3. follow.follow-bind D E (q-naks 15 1 .goes (withPhase off w) a3 (refl, λ _ _ _ _. refl) (loose D E (p3 .1 .places))) (λ y _ a m.
       let v : view D E (a .0) ≡ view D E (s .0) = m .1 ∙ (p3 .0 ∙ (p2 .0 ∙ p1 .0)) in
       subst (λ (u : Track). Follow D E (Restarted w) u (run conc (bind (row bus-reset) (λ _. wakeAll)) a)) (sym (m .0))
@@ -218,13 +224,15 @@ module _ (D : Dir) (E : ℕ) where
       not-2 true = refl
       not-2 false = refl
 
-      after : (n : ℕ) (y : Track) (t : St) → Polls w y n t → Fits (cond (eqb n 2) (log.renewed D E false y) y) (view D E (t .0))
+      after : (n : ℕ) (y : Track) (t : St) → Polls w y n t
+          → Fits (cond (eqb n 2) (log.renewed D E false y) y) (view D E (t .0))
       after n y t (reset h e f) = rw (h, e) f
       after n y t (kept h e f) = rw (h, e) f
 
   -- ---- before EP0's start
 
-  pub law-allocate : (d : Dir) (kind address maximum interval : ℕ) → Law D E (other (Allocate d kind address maximum interval))
+  pub law-allocate : (d : Dir) (kind address maximum interval : ℕ)
+      → Law D E (other (Allocate d kind address maximum interval))
   law-allocate d kind address maximum interval w s r i z = follow.follow-cond D E (eqb (s .0 .globals .stage) 1)
       (λ one.
       let t = conc .act (allocate d kind address maximum interval) s in
@@ -238,11 +246,14 @@ module _ (D : Dir) (E : ℕ) where
       q-new : {i : Bool} (e : ℕ) → Quiet D E false (Off D E) (newEndpoint {i = i} d kind maximum e)
       q-new e = (q-bind D E) ((q-write D E) (q-ret D E)) (λ _. (q-bind D E) ((q-when D E) ((q-hand D E) (q-ret D E))) (λ _. (q-ret D E)))
 
-      by : (a : alloc.Answer) (t : St) → Fits w (view D E (t .0)) → Whole t → Follow D E (Ends D E (other (Allocate d kind address maximum interval))) (withPhase off w) (run {i = false} conc (allocated-as d kind maximum a) t)
+      by : (a : alloc.Answer) (t : St) → Fits w (view D E (t .0)) → Whole t
+          → Follow D E (Ends D E (other (Allocate d kind address maximum interval))) (withPhase off w) (run {i = false} conc (allocated-as d kind maximum a) t)
       by (variant.Refused n) t f l = at-end (f, tt)
       by (variant.Given e base slots) t f l = follow.follow-more D E ((q-operation D E) (q-new {i = false} e) .goes (withPhase off w) t (refl, λ _ _ _ _. refl) (loose D E l)) (λ y a u m. (rw (m .0) (subst (Fits w) (sym (m .1)) f), tt))
 
-  each : (es : List Endpoint) (w : Track) (s : St) → Whole s → Fits w (view D E (s .0)) → eqb (s .0 .globals .stage) 2 ≡ false → Follow D E (λ y _ t. (y ≡ withPhase off w) × Fits w (view D E (t .0)) × Whole t) (withPhase off w) (run {i = false} conc (allocateEach es) s)
+  each : (es : List Endpoint) (w : Track) (s : St) → Whole s → Fits w (view D E (s .0))
+      → eqb (s .0 .globals .stage) 2 ≡ false
+      → Follow D E (λ y _ t. (y ≡ withPhase off w) × Fits w (view D E (t .0)) × Whole t) (withPhase off w) (run {i = false} conc (allocateEach es) s)
   unfolding allocateEach
   each [] w s l r two = at-end (refl, r, l)
   each (e ∷ es) w s l r two =
@@ -276,7 +287,8 @@ module _ (D : Dir) (E : ℕ) where
       early : (n : ℕ) → eqb n 1 ≡ true → eqb n 2 ≡ false
       early n h = ne-eqb n 2 (λ q. absurd (omega (arith, q, eqb-true n 1 h)))
 
-      by : (a : listing.Answer) → eqb (s .0 .globals .stage) 2 ≡ false → Follow D E (Ends D E (other (AllocateAll bytes))) (withPhase off w) (run {i = false} conc (allocate-read bytes a) s)
+      by : (a : listing.Answer) → eqb (s .0 .globals .stage) 2 ≡ false
+          → Follow D E (Ends D E (other (AllocateAll bytes))) (withPhase off w) (run {i = false} conc (allocate-read bytes a) s)
       by (listed.Refused n) two = at-end (r, tt)
       by listed.Listed two = follow.follow-cond D E (eqb (trialOf (s .0 .allocator) (listOf bytes) .refusal) 0)
           (λ _. follow.follow-bind D E (each (listOf bytes) w s (z .places) r two) (λ y _ t m. subst (λ (u : Track). Follow D E (Ends D E (other (AllocateAll bytes))) u (run {i = false} conc (operation (announceAll (listOf bytes))) t)) (sym (m .0))
@@ -291,6 +303,7 @@ module _ (D : Dir) (E : ℕ) where
       q-start : {i : Bool} → Quiet D E false (Off D E) (startEp0 {i = i} maximum)
       q-start = (q-bind D E) ((q-hand D E) (q-ret D E)) (λ _. (q-bind D E) ((q-write D E) (q-ret D E)) (λ _. (q-bind D E) ((q-write D E) (q-ret D E)) (λ _. (q-bind D E) ((q-write D E) (q-ret D E)) (λ _. (q-write D E) (q-ret D E)))))
 
-      by : (a : alloc.Answer) (t : St) → Fits w (view D E (t .0)) → Whole t → Follow D E (Ends D E (other (Start maximum))) (withPhase off w) (run {i = false} conc (started-as maximum a) t)
+      by : (a : alloc.Answer) (t : St) → Fits w (view D E (t .0)) → Whole t
+          → Follow D E (Ends D E (other (Start maximum))) (withPhase off w) (run {i = false} conc (started-as maximum a) t)
       by (variant.Refused n) t f l = at-end (f, tt)
       by (variant.Given e base slots) t f l = follow.follow-more D E ((q-resultless D E) (q-start {i = false}) .goes (withPhase off w) t (refl, λ _ _ _ _. refl) (loose D E l)) (λ y a u m. (rw (m .0) (subst (Fits w) (sym (m .1)) f), tt))
