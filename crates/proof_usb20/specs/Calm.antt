@@ -38,7 +38,8 @@ use Rattle.book.specs.Sorting.{sortsOf}
 use Rattle.proof_usb20.specs.Walks.{Each, each-set}
 use Rattle.proof_usb20.specs.Sequence.{off, Track, howOften, reads, writes, saw}
 use Rattle.proof_usb20.specs.Follow as follow
-use Rattle.proof_usb20.specs.Follow.{Seen, seenOf, view, Keeps, Follow, at-end, at-ask}
+use Rattle.proof_usb20.specs.Follow.{Seen, seenOf, view, Keeps, Follow}
+use Rattle.proof_usb20.specs.Watch.{at-end, at-ask}
 use Rattle.proof_usb20.specs.Untouched.{same-view, record-same, act-view, hand-view}
 use Rattle.bits.specs.Walk.{setBits}
 use Rattle.script.specs.Script.{when, get, act, no-wakes}
@@ -149,7 +150,7 @@ module _ (D : Dir) (E : ℕ) where
       → ((v : ℕ) → saw D E w q v ≡ w)
       → ((v : ℕ) (t : St) → Kept m t → Follow D E {A = A} (λ x _ u. Stays m w t x u) w (f v t))
       → Follow D E {A = A} (λ x _ u. Stays m w s x u) w (tree.asks q s f)
-  asked {m = m} {s = s} {f = f} w l e g = at-ask (λ v t k. subst (λ (u : Track). Follow D E (λ x _ t. Stays m w s x t) u (f v t)) (sym (e v)) (follow.follow-more D E (g v t (kept-by k l)) (λ _ _ _ n. (n .0, n .1 ∙ k .0, n .2, hears-then (hears-same (k .2)) (n .3)))))
+  asked {m = m} {s = s} {f = f} w l e g = at-ask tt (λ v t _ k. subst (λ (u : Track). Follow D E (λ x _ t. Stays m w s x t) u (f v t)) (sym (e v)) (follow.follow-more D E (g v t (kept-by k l)) (λ _ _ _ n. (n .0, n .1 ∙ k .0, n .2, hears-then (hears-same (k .2)) (n .3)))))
 
   -- a state that shows the same
   pub onward : {m : Bool} {A : Type 0} {o : tree.Out St A} (w : Track) (s t : St) → view D E (t .0) ≡ view D E (s .0)

@@ -12,7 +12,7 @@ use Rattle.script.specs.Cells.{ep-cell, globals-cell}
 use Rattle.script.specs.Statics.{withLastFrame, withArmed}
 use Rattle.ops.specs.Conc.{conc}
 use Rattle.proof_usb20.specs.Walks.{Each}
-use Rattle.proof_usb20.specs.Follow.{at-end}
+use Rattle.proof_usb20.specs.Watch.{at-end}
 use Rattle.bits.specs.Walk.{setBits}
 use Rattle.regs.specs.declared.Token.{Token}
 use Rattle.regs.specs.declared.Token.the-variants as tok

@@ -96,22 +96,17 @@ module _ (D : Dir) (E : ℕ) (z : (d : Dir) → Else D E d 0) where
   of-other (BeginDataOut n first) = law-data-out D E z n first
   of-other (BeginAcceptSetAddress a) = law-accept-address D E z a
 
-  along : {A : Type 0} {P : Track → A → St → Type 0} {w : Track} {o : tree.Out St A} → Follow D E P w o
-      → Sees (toggles D E) (λ _. Unit {0}) P w o
-  along (follow.at-end p) = at-end p
-  along (follow.at-ask k) = at-ask tt (λ v t _ h. along (k v t h))
-
   ups : {P : St → Type 0} {w : Track} {o : tree.Out St Answer} → Follow D E (λ _ _ s. P s) w o → Ups (toggles D E) P o
-  ups (follow.at-end p) = at-end p
-  ups (follow.at-ask k) = at-ask tt (λ v t _ h. ups (k v t h))
+  ups (at-end p) = at-end p
+  ups (at-ask _ k) = at-ask tt (λ v t _ h. ups (k v t tt h))
 
   few : (o : Op) {w : Track} {out : tree.Out St Answer} → Follow D E (follow.Ends D E o) w out
       → Sees (toggles D E) (λ _. Unit {0}) (follow.EndsFew D E o) w out
-  few o x = watch-more (along x) (λ x a t p. (p .0, λ _. p .1))
+  few o x = watch-more x (λ x a t p. (p .0, λ _. p .1))
 
   law-of : (o : Op) (w : Track) (s : St) → Fits w (view D E (s .0)) → isOn (epOn (s .0) D E .iso) ≡ false
       → Sorting (s .0) → Sees (toggles D E) (λ _. Unit {0}) (follow.EndsFew D E o) (opens D E o w) (run conc (code o) s)
-  law-of interrupt w s r i k = along (law-interrupt D E z w s r i k)
+  law-of interrupt w s r i k = law-interrupt D E z w s r i k
   law-of (slotted o) w s r i k = few (slotted o) (of-slotted o w s r i k)
   law-of (other o) w s r i k = few (other o) (of-other o w s r i k)
   law-of (aside o) w s r i k = few (aside o) (law-aside D E o w s r i k)

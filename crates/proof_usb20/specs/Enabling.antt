@@ -28,7 +28,8 @@ use Rattle.book.specs.Sorts.{act-steady, row-steady}
 use Rattle.proof_usb20.specs.Sequence as log
 use Rattle.proof_usb20.specs.Sequence.{Track, off, withPhase, own, saw, armsAt}
 use Rattle.proof_usb20.specs.Follow as follow
-use Rattle.proof_usb20.specs.Follow.{Seen, FitsAs, Fits, view, Follow, at-end, Ends, Law}
+use Rattle.proof_usb20.specs.Follow.{Seen, FitsAs, Fits, view, Follow, Ends, Law}
+use Rattle.proof_usb20.specs.Watch.{at-end}
 use Rattle.proof_usb20.specs.Untouched.{act-view}
 use Rattle.proof_usb20.specs.Calm.{Whole, Off, Else, Hush, Kept, Stays, Quiet, loose, loosely, asked, onward, with-other, put-globals, put-paced, q-act, q-bind, q-ep, q-got, q-hand, q-put, q-resultless, q-ret, q-staged, q-test, q-wake, q-write}
 use Rattle.proof_usb20.specs.Reading as reading

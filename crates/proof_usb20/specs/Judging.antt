@@ -32,7 +32,8 @@ use Rattle.book.specs.Sorts.{act-steady}
 use Rattle.proof_usb20.specs.Exempt.{differ}
 use Rattle.proof_usb20.specs.Sequence.{Track, off, due, owes, withPhase, own, shown, lengthOf, judged, acksAs, howOften, reads, saw}
 use Rattle.proof_usb20.specs.Follow as follow
-use Rattle.proof_usb20.specs.Follow.{Seen, Fits, view, Follow, at-end, at-ask}
+use Rattle.proof_usb20.specs.Follow.{Seen, Fits, view, Follow}
+use Rattle.proof_usb20.specs.Watch.{at-end, at-ask}
 use Rattle.proof_usb20.specs.Untouched.{act-view}
 use Rattle.proof_usb20.specs.Calm.{Idle, Kept, Hears, kept-by, hears-same, hears-then, heard, put-kept, put-hears, woken-room, woken-own, q-looks}
 use Rattle.proof_usb20.specs.Reading.{Own, own-true, got, changed, fits-2}
@@ -114,7 +115,7 @@ module _ (D : Dir) (E : ℕ) where
         → view D E (t .0) ≡ view D E (s .0) → Kept D E true t → Hears D E true s t
         → Follow D E (λ y _ u. (y ≡ withPhase off w) × (view D E (u .0) ≡ view D E (s .0)) × Kept D E true u × Hears D E true s u) (withPhase (cond b (owes v) off) w) (run {i = true} conc (when (isOn (conc .get (ep-cell D e) t .armed)) (modifyReg (ctrlOf D) e ack)) t)
     again s t v true h z l f = follow.follow-cond D E (isOn (conc .get (ep-cell D e) t .armed))
-        (λ _. at-ask (λ n u p. back D E (read-again v n) (at-ask (λ x a q. back D E (acked n x) (
+        (λ _. at-ask tt (λ n u _ p. back D E (read-again v n) (at-ask tt (λ x a _ q. back D E (acked n x) (
         let ku : Kept D E true u = kept-by D E {s = t} {t = u} p l in
         let ka : Kept D E true a = kept-by D E {s = u} {t = a} q ku in
         let hu : Hears D E true t u = hears-same D E {s = t} {t = u} (p .2) in
@@ -126,7 +127,7 @@ module _ (D : Dir) (E : ℕ) where
     pub toggles-own : (s : St) → Kept D E true s → Fits w (view D E (s .0)) → eqb (s .0 .globals .stage) 2 ≡ true
         → Follow D E (Told s w k) (withPhase (due k) w) (run conc (toggled {i = true} D e) s)
     unfolding repeated withOn isOn
-    toggles-own s l r two = follow.follow-bind D E ((q-looks D E) 2001 .goes (withPhase (due k) w) s (due-idle k w, λ _ _ _ _. refl) l) (λ y _ a m. back D E (m .0) (at-ask (λ v t p.
+    toggles-own s l r two = follow.follow-bind D E ((q-looks D E) 2001 .goes (withPhase (due k) w) s (due-idle k w, λ _ _ _ _. refl) l) (λ y _ a m. back D E (m .0) (at-ask tt (λ v t _ p.
         let z : view D E (t .0) ≡ view D E (s .0) = p .0 ∙ m .1 in
         let q : Own D E D e = own-true D E D e o in
         let kt : Kept D E true t = kept-by D E {s = a} {t = t} p (m .2) in

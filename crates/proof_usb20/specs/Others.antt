@@ -26,7 +26,8 @@ use Rattle.ops.specs.Conc.{conc}
 use Rattle.book.specs.Sorting.{Sorting}
 use Rattle.proof_usb20.specs.Sequence.{Track, before}
 use Rattle.proof_usb20.specs.Follow as follow
-use Rattle.proof_usb20.specs.Follow.{Seen, view, Follow, at-end, Law}
+use Rattle.proof_usb20.specs.Follow.{Seen, view, Follow, Law}
+use Rattle.proof_usb20.specs.Watch.{at-end}
 use Rattle.proof_usb20.specs.Calm.{Off, Else, Quiet, loose, only, off-idle, off-read, put-globals, put-control, put-paced, q-act, q-bind, q-enabled, q-ep, q-fetch, q-got, q-is, q-look, q-operation, q-put, q-reg, q-resultless, q-ret, q-staged, q-test, q-when, q-write}
 use Rattle.proof_usb20.specs.CalmParts.{q-completions}
 use Rattle.proof_usb20.specs.Exempt.{differ}

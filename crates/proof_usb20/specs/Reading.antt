@@ -31,7 +31,8 @@ use Rattle.proof_usb20.specs.Exempt.{differ}
 use Rattle.proof_usb20.specs.Sequence as log
 use Rattle.proof_usb20.specs.Sequence.{Track, off, withPhase, own, opens, closes, takes, taken, awaits, loaded, Fair}
 use Rattle.proof_usb20.specs.Follow as follow
-use Rattle.proof_usb20.specs.Follow.{Seen, seenOf, FitsAs, Fits, view, Follow, at-end, at-ask, Ends, Law}
+use Rattle.proof_usb20.specs.Follow.{Seen, seenOf, FitsAs, Fits, view, Follow, Ends, Law}
+use Rattle.proof_usb20.specs.Watch.{at-end, at-ask}
 use Rattle.proof_usb20.specs.Untouched.{act-view}
 use Rattle.proof_usb20.specs.Calm.{Whole, Off, Else, Quiet, loose, put-request, q-act, q-bind, q-enabled, q-ends, q-ep, q-fetch, q-got, q-is, q-put, q-reg, q-resultless, q-ret, q-staged, q-test, q-write}
 
@@ -173,7 +174,7 @@ module _ (D : Dir) (E : ℕ) where
           (λ q. let g = there (w .through) refl (ready-own Out e w s o r q) in at-end (refl, subst (FitsAs (w .bit) (w .through) (w .len) (cond (w .through) (w .armed) true)) (sym v) (fits-2 two (r .tog) (r .ready) (r .len) (r .armed ∙ sym g))))
           (λ q. let g = not-there (ready-own Out e w s o r q) in
           let t = conc .put (ep-cell Out e) (withArmed 1 (conc .get (ep-cell Out e) s2)) s2 in
-          at-ask (λ _ a p. at-ask (λ _ c m. at-end (
+          at-ask tt (λ _ a _ p. at-ask tt (λ _ c _ m. at-end (
             refl,
             subst (FitsAs (w .bit) (w .through) (w .len) (cond (w .through) (w .armed) true)) (sym (m .0 ∙ (p .0 ∙ changed Out e (withArmed 1) s2 o k)))
                 (let f = subst (Fits w) (sym v) r in fits-2 (ap (λ (q : Seen). eqb (q .stage) 2) v ∙ two) (f .tog) (f .ready) (f .len) (sym g)),
@@ -249,7 +250,7 @@ module _ (D : Dir) (E : ℕ) where
           follow.follow-cond D E (eqb (s .0 .globals .stage) 2) (λ two. follow.follow-cond D E (isAllocated (s .0 .allocator) In e) (λ _. follow.follow-cond D E (enables.isOn (s .0 .globals .«ep_config») In e)
           (λ _. follow.follow-cond D E (ltb (conc .get (ep-cell In e) s .«max_len») (length bytes)) (λ _. at-end (nothing 10, tt))
           (λ _. follow.follow-bind D E {P = λ y _ a. (y ≡ withPhase off w) × (view D E (a .0) ≡ view D E (t .0))} (follow.follow-bind D E {P = λ y _ a. (y ≡ withPhase off w) × (view D E (a .0) ≡ view D E (t .0))} (follow.follow-cond D E (isOn (conc .get (ep-cell In e) s .iso)) (λ q. iso-own In e s o i q)
-          (λ _. at-ask (λ _ a p. at-ask (λ _ b q. at-ask (λ _ c m. at-end (refl, m .0 ∙ (q .0 ∙ p .0))))))) (λ y _ a m. at-end m))
+          (λ _. at-ask tt (λ _ a _ p. at-ask tt (λ _ b _ q. at-ask tt (λ _ c _ m. at-end (refl, m .0 ∙ (q .0 ∙ p .0))))))) (λ y _ a m. at-end m))
           (λ y n a m. at-end (
             rw (m .0) (rw h (subst (FitsAs (w .bit) false (w .len) true) (sym (m .1 ∙ changed In e (λ p. withArmed 1 (withReady 0 p)) u o k))
                 (let f = subst (Fits w) (sym v) r in fits-2 (ap (λ (q : Seen). eqb (q .stage) 2) v ∙ two) (f .tog) refl (f .len) refl))),

@@ -43,7 +43,8 @@ use Rattle.proof_usb20.specs.Exempt.{differ}
 use Rattle.proof_usb20.specs.Sequence as log
 use Rattle.proof_usb20.specs.Sequence.{Track, off, withPhase, own}
 use Rattle.proof_usb20.specs.Follow as follow
-use Rattle.proof_usb20.specs.Follow.{Seen, FitsAs, Fits, view, Follow, at-end, at-ask, Ends, Law}
+use Rattle.proof_usb20.specs.Follow.{Seen, FitsAs, Fits, view, Follow, Ends, Law}
+use Rattle.proof_usb20.specs.Watch.{at-end, at-ask}
 use Rattle.proof_usb20.specs.Untouched.{act-view}
 use Rattle.proof_usb20.specs.Calm.{Whole, Off, Else, Quiet, loose, put-other, put-globals, q-bind, q-ep, q-got, q-hand, q-operation, q-put, q-reg, q-resultless, q-ret, q-staged, q-test, q-wake, q-when, q-write}
 use Rattle.proof_usb20.specs.Reading as reading
@@ -117,11 +118,11 @@ module _ (D : Dir) (E : ℕ) where
       → eqb (s .0 .globals .stage) 2 ≡ true → isOn (epOn (s .0) D E .iso) ≡ false
       → Follow D E (Clears w) (withPhase off w) (run {i = false} conc (bus.setStalled d e false) s)
   unfolding Clears isOn
-  clearing Out e w s o k r two i = at-ask (λ _ u p. at-end (refl, subst (FitsAs initial (log.finishes D E D (w .through)) (w .len) (log.staysArmed D E D (w .armed))) (sym (act-view D E (waken (wakeCode Out e ∷ [])) refl u ∙ (p .0 ∙ changed D E Out e (withTog 0) s o k))) (fits-2 D E two refl (r .ready ∙ sym (keeps-out e (w .through) o)) (r .len) (r .armed ∙ sym (stays-out e (w .armed) o)))))
+  clearing Out e w s o k r two i = at-ask tt (λ _ u _ p. at-end (refl, subst (FitsAs initial (log.finishes D E D (w .through)) (w .len) (log.staysArmed D E D (w .armed))) (sym (act-view D E (waken (wakeCode Out e ∷ [])) refl u ∙ (p .0 ∙ changed D E Out e (withTog 0) s o k))) (fits-2 D E two refl (r .ready ∙ sym (keeps-out e (w .through) o)) (r .len) (r .armed ∙ sym (stays-out e (w .armed) o)))))
   clearing In e w s o k r two i =
       let t = conc .put (ep-cell In e) (withTog 0 (conc .get (ep-cell In e) s)) s in
       let v = changed D E In e (withTog 0) s o k in
-      at-ask (λ _ u p.
+      at-ask tt (λ _ u _ p.
       let b = conc .put (ep-cell In e) (completed (conc .get (ep-cell In e) u)) u in
       let x : view D E (b .0) ≡ written D E (completed (plainOf (epOn (u .0) D E))) (view D E (u .0)) = changed D E In e completed u o (p .1 .places) in
       let y : FitsAs initial (log.finishes D E D (w .through)) (w .len) (log.staysArmed D E D (w .armed)) (view D E (b .0)) = subst (FitsAs initial (log.finishes D E D (w .through)) (w .len) (log.staysArmed D E D (w .armed))) (sym x)
@@ -188,14 +189,14 @@ module _ (D : Dir) (E : ℕ) where
 
   rests : (w : Track) (s : St) → Whole s → Fits w (view D E (s .0)) → eqb (s .0 .globals .stage) 2 ≡ true
       → Follow D E (Restarted w) (withPhase off w) (rows conc bus-reset 3 (λ t. tree.ends (tt {0}) t) s)
-  rests w s k r two = at-ask (λ _ b p. at-ask (λ _ c q. at-ask (λ _ e f.
+  rests w s k r two = at-ask tt (λ _ b _ p. at-ask tt (λ _ c _ q. at-ask tt (λ _ e _ f.
       let v : view D E (e .0) ≡ view D E (s .0) = f .0 ∙ (q .0 ∙ (types b ∙ (p .0 ∙ configs s))) in
       let g = reset-fits D E w (e .0) (f .1 .places) (subst (Fits w) (sym v) r) (ap (λ (x : Seen). eqb (x .stage) 2) v ∙ two) in
-      at-ask (λ _ h l. at-end (refl, subst (FitsAs initial false (w .len) false) (sym (l .0)) g, l .1 .places)))))
+      at-ask tt (λ _ h _ l. at-end (refl, subst (FitsAs initial false (w .len) false) (sym (l .0)) g, l .1 .places)))))
 
   resets : (w : Track) (s : St) → Whole s → Fits w (view D E (s .0)) → eqb (s .0 .globals .stage) 2 ≡ true
       → Follow D E (Restarted w) (withPhase off w) (run conc bus.busReset s)
-  resets w s k r two = at-ask (λ _ a1 p1. at-ask (λ _ a2 p2. at-ask (λ _ a3 p3. follow.follow-bind D E (q-naks 15 1 .goes (withPhase off w) a3 (refl, λ _ _ _ _. refl) (loose D E (p3 .1 .places))) (λ y _ a m.
+  resets w s k r two = at-ask tt (λ _ a1 _ p1. at-ask tt (λ _ a2 _ p2. at-ask tt (λ _ a3 _ p3. follow.follow-bind D E (q-naks 15 1 .goes (withPhase off w) a3 (refl, λ _ _ _ _. refl) (loose D E (p3 .1 .places))) (λ y _ a m.
       let v : view D E (a .0) ≡ view D E (s .0) = m .1 ∙ (p3 .0 ∙ (p2 .0 ∙ p1 .0)) in
       subst (λ (u : Track). Follow D E (Restarted w) u (run conc (bind (row bus-reset) (λ _. wakeAll)) a)) (sym (m .0))
       (follow.follow-bind D E {f = λ (_ : Unit {0}) (u : St). run {i = false} conc wakeAll u} (rests w a (m .2 .whole) (subst (Fits w) (sym v) r) (ap (λ (x : Seen). eqb (x .stage) 2) v ∙ two))
@@ -207,14 +208,14 @@ module _ (D : Dir) (E : ℕ) where
       let a0 = conc .act no-wakes s in
       let v0 = act-view D E no-wakes refl s in
       follow.follow-bind D E {P = Polls w} (follow.follow-cond D E (isOn (s .0 .globals .power))
-      (λ _. at-ask (λ f a p.
+      (λ _. at-ask tt (λ f a _ p.
       let v : view D E (a .0) ≡ view D E (s .0) = p .0 ∙ v0 in
       follow.follow-cond D E (busRst f)
       (λ _. follow.follow-bind D E (resets w a (p .1 .places) (subst (Fits w) (sym v) r) (ap (λ (x : Seen). eqb (x .stage) 2) v ∙ two)) (λ y _ t m.
       let g = withIntEn (withBusRst (t .0 .globals .«int_en») true) (t .0 .globals) in
-      follow.follow-at D E (m .0) (at-ask (λ _ u q. at-end (reset refl refl (subst (FitsAs initial false (w .len) false) (sym (q .0 ∙ put-globals D E g t)) (m .1)))))))
+      follow.follow-at D E (m .0) (at-ask tt (λ _ u _ q. at-end (reset refl refl (subst (FitsAs initial false (w .len) false) (sym (q .0 ∙ put-globals D E g t)) (m .1)))))))
       (λ _. follow.follow-cond D E (suspend f)
-      (λ _. at-ask (λ m b q. at-ask (λ _ c l. at-ask (λ _ u n. at-end (kept (not-2 (suspended m)) refl (subst (Fits w) (sym (n .0 ∙ (put-globals D E (withIntEn (withSuspend (c .0 .globals .«int_en») true) (c .0 .globals)) c ∙ (l .0 ∙ (q .0 ∙ v))))) r))))))
+      (λ _. at-ask tt (λ m b _ q. at-ask tt (λ _ c _ l. at-ask tt (λ _ u _ n. at-end (kept (not-2 (suspended m)) refl (subst (Fits w) (sym (n .0 ∙ (put-globals D E (withIntEn (withSuspend (c .0 .globals .«int_en») true) (c .0 .globals)) c ∙ (l .0 ∙ (q .0 ∙ v))))) r))))))
       (λ _. at-end (kept refl refl (subst (Fits w) (sym v) r))))))
       (λ _. at-end (kept refl refl (subst (Fits w) (sym (put-globals D E (withPower 1 (s .0 .globals)) a0 ∙ v0)) r))))
       (λ y n t p. at-end (after n y t p, tt)))

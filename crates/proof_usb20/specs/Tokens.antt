@@ -42,7 +42,8 @@ use Rattle.proof_usb20.specs.Fitting.{both}
 use Rattle.proof_usb20.specs.Sequence as log
 use Rattle.proof_usb20.specs.Sequence.{Track, off, flagged, shows, due, withPhase, own, mine, tokenFor, howOften, saw}
 use Rattle.proof_usb20.specs.Follow as follow
-use Rattle.proof_usb20.specs.Follow.{Seen, Fits, view, Follow, at-end, at-ask, EndsFew}
+use Rattle.proof_usb20.specs.Follow.{Seen, Fits, view, Follow, EndsFew}
+use Rattle.proof_usb20.specs.Watch.{at-end, at-ask}
 use Rattle.proof_usb20.specs.Untouched.{act-view}
 use Rattle.proof_usb20.specs.Calm.{Idle, Off, Hush, Else, Kept, Stays, Quiet, kept-by, hears-same, heard, put-kept, put-hears, only, off-idle, off-hush, put-globals, q-bind, q-ins, q-wake-bus, q-got, q-int-en, q-ret, q-when, q-write}
 use Rattle.proof_usb20.specs.CalmParts.{q-check, q-dispatch, q-ep0-moved, q-late, q-setup, q-sof}
@@ -198,14 +199,14 @@ module _ (D : Dir) (E : ℕ) (z : (d : Dir) → Else D E d 0) where
 
       by : (b : Bool) → mine D E (x .st) ≡ b
           → Follow D E (Done D E) (withPhase (shows (x .st) (m .len)) w) (run conc (frames x) t)
-      by true h = at-ask (λ frame u p. back D E (due-now (x .st) (m .len) w true h frame)
+      by true h = at-ask tt (λ frame u _ p. back D E (due-now (x .st) (m .len) w true h frame)
           (let q = m .its h in
           let g : view D E (u .0) ≡ v = p .0 ∙ m .view in
           let iso = not-iso D E t i-here z (x .st) h in
           subst (λ (c : Bool). Follow D E (Done D E) (withPhase (due (m .len)) w) (run conc (served {i = true} (framed x c (u .0 .globals .«sof_frame») frame) c frame) u)) (sym iso)
           (subst (λ (y : Transfer). Follow D E (Done D E) (withPhase (due (m .len)) w) (run conc (served {i = true} y false frame) u)) (sym (not-framed x false (u .0 .globals .«sof_frame») frame (q .1)))
           (ours w x (m .len) frame u quiet (heard-here u p) (its-token D E t i-here z (x .st) h) (both (tokenFor D (token (x .st))) (own D E D (endpoint (x .st))) h .1) (not-zero D E t i-here z (x .st) h) (sym (q .0)) (q .1) (kept-by D E {s = t} {t = u} p (m .kept)) (subst (Fits w) (sym g) r) (ap (λ (a : Seen). eqb (a .stage) 2) g ∙ two)))))
-      by false h = at-ask (λ frame u p. back D E (due-now (x .st) (m .len) w false h frame)
+      by false h = at-ask tt (λ frame u _ p. back D E (due-now (x .st) (m .len) w false h frame)
           (let g : view D E (u .0) ≡ v = p .0 ∙ m .view in
           let iso = isoFor (token (x .st)) (conc .get (ep-cell Out (endpoint (x .st))) t) (conc .get (ep-cell In (endpoint (x .st))) t) in
           let y = framed x iso (u .0 .globals .«sof_frame») frame in
@@ -226,13 +227,13 @@ module _ (D : Dir) (E : ℕ) (z : (d : Dir) → Else D E d 0) where
   transfers : (w : Track) (s : St) → w .new ≡ false → heard D E s ≡ 0 → Kept D E true s → Fits w (view D E (s .0))
       → isOn (epOn (s .0) D E .iso) ≡ false → eqb (s .0 .globals .stage) 2 ≡ true
       → Follow D E (Done D E) (withPhase flagged w) (run conc (onTransfer {i = true}) s)
-  transfers w s quiet none ks r i two = at-ask (λ m a p. at-ask (λ st b q. at-ask (λ n c f.
+  transfers w s quiet none ks r i two = at-ask tt (λ m a _ p. at-ask tt (λ st b _ q. at-ask tt (λ n c _ f.
       let v : view D E (c .0) ≡ view D E (s .0) = f .0 ∙ (q .0 ∙ p .0) in
       let kc = kept-by D E {s = b} {t = c} f (kept-by D E {s = a} {t = b} q (kept-by D E {s = s} {t = a} p ks)) in
       let wc : c .0 .wakes ≡ s .0 .wakes = f .2 ∙ (q .2 ∙ p .2) in
       back D E (ap (λ k. withPhase (shows st k) w) (zero-len n))
       (follow.follow-bind D E {P = λ x _ e. Stays D E true (withPhase (shows st n) w) c x e} (follow.follow-cond D E (not (not (sieFree m)) || (not (isSof st) && not (eqb (endpoint st) 0))) (λ _. q-nak D E {i = true} st .goes (withPhase (shows st n) w) c (deaf D E st n w, λ _ _ _ _. refl) kc) (λ _. at-end (refl, refl, kc, hears-same D E {s = c} {t = c} refl))) (λ x _ e g. back D E (g .0)
-      (at-ask (λ _ u h.
+      (at-ask tt (λ _ u _ h.
       let k : view D E (u .0) ≡ view D E (s .0) = h .0 ∙ (g .1 ∙ v) in
       let ku = kept-by D E {s = e} {t = u} h (g .2) in
       let nu : heard D E u ≡ 0 = hears-same D E {m = true} {s = e} {t = u} (h .2) .same refl ∙ (g .3 .same refl ∙ (hears-same D E {m = true} {s = s} {t = c} wc .same refl ∙ none)) in
@@ -268,7 +269,7 @@ module _ (D : Dir) (E : ℕ) (z : (d : Dir) → Else D E d 0) where
   on-interrupt : (w : Track) (s : St) → w .new ≡ false → heard D E s ≡ 0 → Kept D E true s → Fits w (view D E (s .0))
       → isOn (epOn (s .0) D E .iso) ≡ false → eqb (s .0 .globals .stage) 2 ≡ true
       → Follow D E (Done D E) (withPhase log.entered w) (run conc (onInterrupt {i = true}) s)
-  on-interrupt w s quiet none ks r i two = at-ask (λ f a p. by f a p (transfer f) refl)
+  on-interrupt w s quiet none ks r i two = at-ask tt (λ f a _ p. by f a p (transfer f) refl)
     where
       by : (f : ℕ) (a : St) → follow.Keeps D E s a → (b : Bool) → transfer f ≡ b
           → Follow D E (Done D E) (saw D E (withPhase log.entered w) (Read IntFg 0) f) (run conc (bind (when {i = true} (busRst f) (bind (modifyIntEn (λ w. withBusRst w false)) (λ _. wakeBus))) (λ _. bind (when (suspend f) (bind (modifyIntEn (λ w. withSuspend w false)) (λ _. wakeBus))) (λ _. bind (when (fifoOv f) (write IntFg 0 FIFO_OV)) (λ _. bind (when (hstSof f) (write IntFg 0 HST_SOF)) (λ _. bind (when (transfer f) onTransfer) (λ _. when (setupAct f) onSetup)))))) a)
@@ -314,7 +315,7 @@ module _ (D : Dir) (E : ℕ) (z : (d : Dir) → Else D E d 0) where
   pub law-interrupt : (w : Track) (s : St) → Fits w (view D E (s .0)) → isOn (epOn (s .0) D E .iso) ≡ false
       → Sorting (s .0) → Follow D E (EndsFew D E interrupt) (log.opens D E interrupt w) (run conc (code interrupt) s)
   law-interrupt w s r i k = follow.follow-cond D E (eqb (s .0 .globals .stage) 2)
-      (λ two. follow.follow-bind D E {P = Done D E} (follow.follow-bind D E {P = Done D E} (at-ask (λ frame a p.
+      (λ two. follow.follow-bind D E {P = Done D E} (follow.follow-bind D E {P = Done D E} (at-ask tt (λ frame a _ p.
       let s0 = conc .act no-wakes s in
       let g = withEntered (indexOf frame) (conc .get globals-cell a) in
       let v : view D E (conc .put globals-cell g a .0) ≡ view D E (s .0) = put-globals D E g a ∙ (p .0 ∙ act-view D E no-wakes refl s) in
