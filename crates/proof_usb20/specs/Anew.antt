@@ -1,13 +1,11 @@
 -- Records that are written anew: by a bus reset, by an allocation
-use mathlib.Core.Bool.{Bool, true, false, not, cond, _&&_}
-use mathlib.Core.List.{List, [], _∷_}
-use mathlib.Core.Path.{_≡_, refl, ap, subst, sym, _∙_}
+use mathlib.Core.Bool.{Bool, true, false, cond}
+use mathlib.Core.Path.{_≡_, refl, ap, sym, _∙_}
 use Prim.Native.Nat.{ℕ, zero, suc, _%_, _<_}
 use native.Mathlib.Omega.{arith}
-use native.Mathlib.Decide.{ℕ-discrete, decLt}
+use native.Mathlib.Decide.{ℕ-discrete}
 use lib.Dec.{eqb, ltb}
 use lib.ListN.{length, length-set}
-use borrow.Author.Tests.{eqb-true, eq-eqb}
 use Rattle.regs.specs.declared.Dir.{Dir}
 use Rattle.regs.specs.declared.Dir.the-variants.{Out, In}
 use Rattle.state.specs.declared.EpState.{EpState}
@@ -48,7 +46,8 @@ module _ (D : Dir) (E : ℕ) where
 
   -- a record with no completion and DATA0
   module _ (x : Driver) (d : Dir) (e : ℕ) (r : EpState) (l : length (x .eps) ≡ 32) (n : r .len ≡ epOn x d e .len) (t : r .tog ≡ 0) (y : isOn (r .ready) ≡ false) (g : isOn (r .armed) ≡ false) where
-    here : Own D E d e → (epOn (withOn x d e r) D E .tog ≡ 0) × (isOn (epOn (withOn x d e r) D E .ready) ≡ false) × (isOn (epOn (withOn x d e r) D E .armed) ≡ false)
+    here : Own D E d e
+        → (epOn (withOn x d e r) D E .tog ≡ 0) × (isOn (epOn (withOn x d e r) D E .ready) ≡ false) × (isOn (epOn (withOn x d e r) D E .armed) ≡ false)
     here o = (ap (λ (q : EpState). q .tog) (own-with D E x d e r o l) ∙ t, ap (λ (q : EpState). isOn (q .ready)) (own-with D E x d e r o l) ∙ y, ap (λ (q : EpState). isOn (q .armed)) (own-with D E x d e r o l) ∙ g)
 
     one : Like x (withOn x d e r)
@@ -88,7 +87,8 @@ module _ (D : Dir) (E : ℕ) where
   unfolding withSets
   sets-stage d kind interval e g = by (isIso kind) d
     where
-      often : (c : Bool) → cond c (withIsoSets (g .«iso_out_eps») (withBit (g .«iso_in_every») (e % 16) true) g) g .stage ≡ g .stage
+      often : (c : Bool)
+          → cond c (withIsoSets (g .«iso_out_eps») (withBit (g .«iso_in_every») (e % 16) true) g) g .stage ≡ g .stage
       often true = refl
       often false = refl
 
@@ -97,7 +97,8 @@ module _ (D : Dir) (E : ℕ) where
       by true Out = refl
       by true In = often (ltb interval 2)
 
-  given : (w : Track) (d : Dir) (kind maximum interval e base slots : ℕ) (x : Driver) → length (x .eps) ≡ 32 → Fits w (view D E x) → eqb (x .globals .stage) 2 ≡ false
+  given : (w : Track) (d : Dir) (kind maximum interval e base slots : ℕ) (x : Driver) → length (x .eps) ≡ 32
+      → Fits w (view D E x) → eqb (x .globals .stage) 2 ≡ false
       → let y = setsGiven d kind interval e (recordGiven d kind maximum e base slots x) in Fits w (view D E y) × (length (y .eps) ≡ 32) × (y .globals .stage ≡ x .globals .stage)
   unfolding setsGiven recordGiven allocated isOn epOn withOn
   given w d kind maximum interval e base slots x l r two =
@@ -122,14 +123,17 @@ module _ (D : Dir) (E : ℕ) where
   own-key Out n g k = rw g (omega (arith, k))
   own-key In n g k = rw g (omega (arith, k))
 
-  next : (n : ℕ) (x a : Driver) → length (x .eps) ≡ 32 → Like x a → (E % 16 < n → Reset a) → (d : Dir) → D ≡ d → Dec (E % 16 ≡ n)
+  next : (n : ℕ) (x a : Driver) → length (x .eps) ≡ 32 → Like x a → (E % 16 < n → Reset a) → (d : Dir) → D ≡ d
+      → Dec (E % 16 ≡ n)
       → let c = cleared (cleared a Out n) In n in Like x c × (E % 16 < suc n → Reset c)
   next n x a l h r d g k =
       let p = clears a Out n (h .places ∙ l) in
       let q = clears (cleared a Out n) In n (p .places ∙ (h .places ∙ l)) in
       (like-then h (like-then p q), at d g k p q)
     where
-      at : (d : Dir) → D ≡ d → Dec (E % 16 ≡ n) → Like a (cleared a Out n) → Like (cleared a Out n) (cleared (cleared a Out n) In n) → E % 16 < suc n → Reset (cleared (cleared a Out n) In n)
+      at : (d : Dir) → D ≡ d → Dec (E % 16 ≡ n) → Like a (cleared a Out n)
+          → Like (cleared a Out n) (cleared (cleared a Out n) In n) → E % 16 < suc n
+          → Reset (cleared (cleared a Out n) In n)
       at d g (no k) p q m = let z = r (omega (arith, m, k)) in (q .tog (p .tog (z .0)), q .ready (p .ready (z .1)), q .armed (p .armed (z .2)))
       at Out g (yes k) p q m = let z = clears-here a Out n (h .places ∙ l) (own-key Out n g k) in (q .tog (z .0), q .ready (z .1), q .armed (z .2))
       at In g (yes k) p q m = clears-here (cleared a Out n) In n (p .places ∙ (h .places ∙ l)) (own-key In n g k)
@@ -139,20 +143,23 @@ module _ (D : Dir) (E : ℕ) where
   below zero x l = (like x, λ h. absurd (omega (arith, h)))
   below (suc n) x l = let h = below n x l in next n x (resetBelow n x) l (h .0) (h .1) D refl (ℕ-discrete (E % 16) n)
 
-  pub reset-fits : (w : Track) (x : Driver) → length (x .eps) ≡ 32 → Fits w (view D E x) → eqb (x .globals .stage) 2 ≡ true → FitsAs initial false (w .len) false (view D E (resetAll x))
+  pub reset-fits : (w : Track) (x : Driver) → length (x .eps) ≡ 32 → Fits w (view D E x)
+      → eqb (x .globals .stage) 2 ≡ true → FitsAs initial false (w .len) false (view D E (resetAll x))
   unfolding resetAll noStamps epOn
   reset-fits w x l r two = let h = below 16 x l in let z = h .1 (omega arith) in fits-2 D E (ap (λ (g : Globals). eqb (g .stage) 2) (below-globals 16 x) ∙ two) (z .0) (z .1) (h .0 .len ∙ r .len) (z .2)
 
   -- ---- an allocation, before EP0's start
 
-  pub alloc-fits : (w : Track) (s : St) (d : Dir) (kind address maximum interval : ℕ) → Whole s → Fits w (view D E (s .0)) → eqb (s .0 .globals .stage) 2 ≡ false
+  pub alloc-fits : (w : Track) (s : St) (d : Dir) (kind address maximum interval : ℕ) → Whole s
+      → Fits w (view D E (s .0)) → eqb (s .0 .globals .stage) 2 ≡ false
       → let t = conc .act (allocate d kind address maximum interval) s in Fits w (view D E (t .0)) × Whole t × (t .0 .globals .stage ≡ s .0 .globals .stage)
   unfolding allocatedOn givenTo setsGiven epOn
   alloc-fits w s d kind address maximum interval l r two =
       let z = allocateOf (s .0 .allocator) kind address maximum d in
       by (z .answer) (withAllocator (s .0) (z .after)) l r two
     where
-      by : (a : alloc.Answer) (x : Driver) → length (x .eps) ≡ 32 → Fits w (view D E x) → eqb (x .globals .stage) 2 ≡ false
+      by : (a : alloc.Answer) (x : Driver) → length (x .eps) ≡ 32 → Fits w (view D E x)
+          → eqb (x .globals .stage) 2 ≡ false
           → let y = givenTo d kind maximum interval a x in Fits w (view D E y) × (length (y .eps) ≡ 32) × (y .globals .stage ≡ x .globals .stage)
       by (variant.Refused n) x l r two = (r, l, refl)
       by (variant.Given e base slots) x l r two = given w d kind maximum interval e base slots x l r two

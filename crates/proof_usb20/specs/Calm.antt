@@ -1,5 +1,5 @@
--- Scripts that leave the endpoint's record and the log alone
-use mathlib.Core.Bool.{Bool, true, false, not, cond, _&&_}
+-- Scripts that leave the endpoint's record and the log alone, and how they are put together
+use mathlib.Core.Bool.{Bool, true, false, cond}
 use mathlib.Core.List.{List, [], _∷_, _++_}
 use mathlib.Core.Logic.{_⊎_, inl, inr}
 use mathlib.Core.Path.{_≡_, refl, ap, subst, sym, _∙_}
@@ -15,7 +15,6 @@ use Rattle.regs.specs.declared.Reg.{Reg}
 use Rattle.regs.specs.declared.Reg.the-variants.{EpRxCtrl, EpTxCtrl}
 use Rattle.regs.specs.declared.Dir.{Dir}
 use Rattle.regs.specs.declared.Dir.the-variants.{Out, In}
-use Rattle.regs.specs.Registers.{ctrlOf}
 use Rattle.state.specs.declared.Globals.{Globals}
 use Rattle.state.specs.declared.Request.{Request}
 use Rattle.state.specs.declared.Control.{Control}
@@ -24,41 +23,29 @@ use Rattle.state.specs.Wakes.{Wakes, wakeCode, busCode, listed, woken, all-woke
 use Rattle.state.specs.WakesLaws.{Room, woken-keeps, woken-full, woken-count, woken-listed}
 use Rattle.wake_ups.specs.Still.{put-still, act-still, hand-still}
 use Rattle.state.specs.Driver.{Driver, key, noEp, epOn, withOn, withRequestOn, withPacedOn}
-use Rattle.state.specs.Laws.{key-apart, key-same}
 use Rattle.script.specs.Tree as tree
 use Rattle.script.specs.Cells.{Plain, Cell, Val, ep-cell, globals-cell, control-cell, request-cell, paced-cell}
 use Rattle.script.specs.Script.{Script, ret, bind, test, read-then, write-then, wait-then, callback-then, get-then, put-then, is-then, look-then, fetch-then, act-then, hand-then, run, Test, Look, Fetch, Act, complete, reset-ring, set-enabled, fill, fill0, open-oldest, close-oldest, take-oldest, enqueue, allocate, allocate0, waken, Hand, handAsk, arrive, send, place, place0}
 use Rattle.script.specs.Sorts.{allocates}
 use Rattle.script.specs.SortsWalks.{among-ins, among-outs}
 use Rattle.script.specs.Every.{sameReg}
-use Rattle.script.specs.Statics.{isOn, withLastFrame, withArmed}
-use Rattle.ops.specs.Records.{merged, plainOf}
+use Rattle.script.specs.Statics.{isOn, withLastFrame}
+use Rattle.ops.specs.Records.{merged}
 use Rattle.ops.specs.Rings.{St}
 use Rattle.ops.specs.Conc.{conc}
 use Rattle.book.specs.Sorts.{Steady, Has, put-steady, act-steady, hand-steady}
-use Rattle.book.specs.Sorting.{Sorting, sortsOf}
+use Rattle.book.specs.Sorting.{sortsOf}
 use Rattle.proof_usb20.specs.Walks.{Each, each-set}
-use Rattle.proof_usb20.specs.Sequence.{Phase, off, entered, flagged, shows, again, due, Track, howOften, reads, writes, saw}
+use Rattle.proof_usb20.specs.Sequence.{off, Track, howOften, reads, writes, saw}
 use Rattle.proof_usb20.specs.Follow as follow
-use Rattle.proof_usb20.specs.Follow.{Seen, seenOf, view, Keeps, Follow, at-end, at-ask}
-use Rattle.proof_usb20.specs.Untouched.{core, same-view, record-same, act-view, hand-view}
+use Rattle.proof_usb20.specs.Follow.{Seen, seenOf, view, Keeps, Follow}
+use Rattle.proof_usb20.specs.Watch.{at-end, at-ask}
+use Rattle.proof_usb20.specs.Untouched.{same-view, record-same, act-view, hand-view}
 use Rattle.bits.specs.Walk.{setBits}
-use Rattle.bits.specs.Bit.{withBit}
-use Rattle.regs.specs.declared.Token.{Token}
-use Rattle.regs.specs.declared.Token.the-variants as tok
-use Rattle.regs.specs.ControlWord.{isData1}
-use Rattle.regs.specs.Status.{endpoint, token}
-use Rattle.frame.specs.Usb20.{indexOf, frameOf}
-use Rattle.frame.specs.Advance.{NO_FRAME, previous, completions}
-use Rattle.script.specs.declared.Transfer.{Transfer}
-use Rattle.script.specs.Script as script
-use Rattle.script.specs.Script.{when, get, act, no-wakes, _>>=_, _>>_}
-use Rattle.script.specs.Statics as statics
-use Rattle.script.specs.Statics.{wake, wakeBus, completed, withLen, withReady, withTog, withSofFrame, withSetup, flag, isoInEvery, isoOuts, modify, modifyEp, modifyReg, modifyIntEn}
-use Rattle.script.specs.Answers.{Answer, Refused, Done, staged, operation, resultless, named, unless}
-use Rattle.script.specs.IsoIn.{firstInFrame, isoInComplete, unseen, sofOne, sofWalk, onSof, lateWalk, isoInCompletions, isoInSetPaced}
-use Rattle.script.specs.IsoOut.{arrives, checkWalk, isoOutCheck}
-use Rattle.script.specs.Handler.{looks, toggled, received, sent, sofArm, dispatch, movedOn, ep0MovedOn, onSetup, isoInArm}
+use Rattle.script.specs.Script.{when, get, act, no-wakes}
+use Rattle.script.specs.Statics.{wake, wakeBus, isoInEvery, isoOuts, modify, modifyEp, modifyReg, modifyIntEn}
+use Rattle.script.specs.Answers.{Answer, staged, operation, resultless}
+use Rattle.script.specs.Handler.{looks}
 use Rattle.script.specs.Endpoint.{enabled-else, ends-request, no-request}
 use Rattle.proof_usb20.specs.Exempt.{differ}
 use Rattle.proof_usb20.specs.Views.{ep-other}
@@ -149,19 +136,26 @@ module _ (D : Dir) (E : ℕ) where
   Stays m w s x t = (x ≡ w) × (view D E (t .0) ≡ view D E (s .0)) × Kept m t × Hears m s t
 
   pub record Quiet (m : Bool) (P : Track → Type 0) {i : Bool} {A : Type 0} (p : Script i A) : Type 0 where
-    pub goes : (w : Track) (s : St) → P w × Hush w → Kept m s → Follow D E {A = A} (λ x _ t. Stays m w s x t) w (run conc p s)
+    pub goes : (w : Track) (s : St) → P w × Hush w → Kept m s
+        → Follow D E {A = A} (λ x _ t. Stays m w s x t) w (run conc p s)
 
-  pub only : {m : Bool} {P Q : Track → Type 0} {i : Bool} {A : Type 0} {p : Script i A} → ((w : Track) → P w → Q w) → Quiet m Q p → Quiet m P p
+  pub only : {m : Bool} {P Q : Track → Type 0} {i : Bool} {A : Type 0} {p : Script i A} → ((w : Track) → P w → Q w)
+      → Quiet m Q p → Quiet m P p
   only f x = record { goes = λ w s z k. x .goes w s (f w (z .0), z .1) k }
 
   -- ---- how they are put together
 
   -- an access that leaves the log, the state as it was
-  pub asked : {m : Bool} {A : Type 0} {q : Access} {s : St} {f : ℕ → St → tree.Out St A} (w : Track) → Kept m s → ((v : ℕ) → saw D E w q v ≡ w) → ((v : ℕ) (t : St) → Kept m t → Follow D E {A = A} (λ x _ u. Stays m w t x u) w (f v t)) → Follow D E {A = A} (λ x _ u. Stays m w s x u) w (tree.asks q s f)
-  asked {m = m} {s = s} {f = f} w l e g = at-ask (λ v t k. subst (λ (u : Track). Follow D E (λ x _ t. Stays m w s x t) u (f v t)) (sym (e v)) (follow.follow-more D E (g v t (kept-by k l)) (λ _ _ _ n. (n .0, n .1 ∙ k .0, n .2, hears-then (hears-same (k .2)) (n .3)))))
+  pub asked : {m : Bool} {A : Type 0} {q : Access} {s : St} {f : ℕ → St → tree.Out St A} (w : Track) → Kept m s
+      → ((v : ℕ) → saw D E w q v ≡ w)
+      → ((v : ℕ) (t : St) → Kept m t → Follow D E {A = A} (λ x _ u. Stays m w t x u) w (f v t))
+      → Follow D E {A = A} (λ x _ u. Stays m w s x u) w (tree.asks q s f)
+  asked {m = m} {s = s} {f = f} w l e g = at-ask tt (λ v t _ k. subst (λ (u : Track). Follow D E (λ x _ t. Stays m w s x t) u (f v t)) (sym (e v)) (follow.follow-more D E (g v t (kept-by k l)) (λ _ _ _ n. (n .0, n .1 ∙ k .0, n .2, hears-then (hears-same (k .2)) (n .3)))))
 
   -- a state that shows the same
-  pub onward : {m : Bool} {A : Type 0} {o : tree.Out St A} (w : Track) (s t : St) → view D E (t .0) ≡ view D E (s .0) → Hears m s t → Follow D E {A = A} (λ x _ u. Stays m w t x u) w o → Follow D E {A = A} (λ x _ u. Stays m w s x u) w o
+  pub onward : {m : Bool} {A : Type 0} {o : tree.Out St A} (w : Track) (s t : St) → view D E (t .0) ≡ view D E (s .0)
+      → Hears m s t → Follow D E {A = A} (λ x _ u. Stays m w t x u) w o
+      → Follow D E {A = A} (λ x _ u. Stays m w s x u) w o
   onward w s t e h x = follow.follow-more D E x (λ _ _ _ n. (n .0, n .1 ∙ e, n .2, hears-then h (n .3)))
 
   hand-silent : (q : Hand) (x : ℕ) (w : Track) (v : ℕ) → saw D E w (handAsk q x) v ≡ w
@@ -177,7 +171,8 @@ module _ (D : Dir) (E : ℕ) where
   abbrev pub Others : List ℕ → Type 0
   Others codes = Each (λ c. eqb c (wakeCode D E) ≡ false) codes
 
-  often-last : (l : List ℕ) (c : ℕ) → howOften (wakeCode D E) (l ++ (c ∷ [])) ≡ howOften (wakeCode D E) l + cond (eqb c (wakeCode D E)) 1 0
+  often-last : (l : List ℕ) (c : ℕ)
+      → howOften (wakeCode D E) (l ++ (c ∷ [])) ≡ howOften (wakeCode D E) l + cond (eqb c (wakeCode D E)) 1 0
   often-last [] c = omega arith
   often-last (x ∷ l) c = omega (arith, often-last l c)
 
@@ -196,7 +191,8 @@ module _ (D : Dir) (E : ℕ) where
       by (yes h) = omega (arith, woken-count c w h)
       by (no h) = omega (arith, ap (λ (v : Wakes). v .count) (woken-full c w (omega (arith, h))))
 
-  woken-other : (c : ℕ) (w : Wakes) → Room w → eqb c (wakeCode D E) ≡ false → howOften (wakeCode D E) (listed (woken c w)) ≡ howOften (wakeCode D E) (listed w)
+  woken-other : (c : ℕ) (w : Wakes) → Room w → eqb c (wakeCode D E) ≡ false
+      → howOften (wakeCode D E) (listed (woken c w)) ≡ howOften (wakeCode D E) (listed w)
   woken-other c w r h = by (decLt (w .count) 64)
     where
       by : Dec (w .count < 64) → howOften (wakeCode D E) (listed (woken c w)) ≡ howOften (wakeCode D E) (listed w)
@@ -204,14 +200,17 @@ module _ (D : Dir) (E : ℕ) where
       by (no l) = ap (λ (v : Wakes). howOften (wakeCode D E) (listed v)) (woken-full c w (omega (arith, l)))
 
   -- its own code, once more; or the list is full
-  pub woken-own : (c : ℕ) (w : Wakes) → Room w → eqb c (wakeCode D E) ≡ true → (64 ≤ woken c w .count) ⊎ (howOften (wakeCode D E) (listed (woken c w)) ≡ howOften (wakeCode D E) (listed w) + 1)
+  pub woken-own : (c : ℕ) (w : Wakes) → Room w → eqb c (wakeCode D E) ≡ true
+      → (64 ≤ woken c w .count) ⊎ (howOften (wakeCode D E) (listed (woken c w)) ≡ howOften (wakeCode D E) (listed w) + 1)
   woken-own c w r h = by (decLt (w .count) 64)
     where
-      by : Dec (w .count < 64) → (64 ≤ woken c w .count) ⊎ (howOften (wakeCode D E) (listed (woken c w)) ≡ howOften (wakeCode D E) (listed w) + 1)
+      by : Dec (w .count < 64)
+          → (64 ≤ woken c w .count) ⊎ (howOften (wakeCode D E) (listed (woken c w)) ≡ howOften (wakeCode D E) (listed w) + 1)
       by (yes l) = inr (ap (howOften (wakeCode D E)) (woken-listed c w r l) ∙ (often-last (listed w) c ∙ ap (λ (b : Bool). howOften (wakeCode D E) (listed w) + cond b 1 0) h))
       by (no l) = inl (omega (arith, l, ap (λ (v : Wakes). v .count) (woken-full c w (omega (arith, l)))))
 
-  all-others : (cs : List ℕ) (w : Wakes) → Room w → Others cs → Room (all-woken cs w) × (howOften (wakeCode D E) (listed (all-woken cs w)) ≡ howOften (wakeCode D E) (listed w)) × (w .count ≤ all-woken cs w .count)
+  all-others : (cs : List ℕ) (w : Wakes) → Room w → Others cs
+      → Room (all-woken cs w) × (howOften (wakeCode D E) (listed (all-woken cs w)) ≡ howOften (wakeCode D E) (listed w)) × (w .count ≤ all-woken cs w .count)
   all-others [] w r o = (r, refl, omega arith)
   all-others (c ∷ cs) w r o =
       let n = all-others cs (woken c w) (woken-room c w r) (o .1) in
@@ -233,7 +232,8 @@ module _ (D : Dir) (E : ℕ) where
   Silent m (allocate d kind address maximum interval) = Unit {0}
   Silent m (allocate0 maximum) = Unit {0}
 
-  pub act-kept : {m : Bool} (q : Act) → allocates q ≡ false → Silent m q → (s : St) → Kept m s → Kept m (conc .act q s) × Hears m s (conc .act q s)
+  pub act-kept : {m : Bool} (q : Act) → allocates q ≡ false → Silent m q → (s : St) → Kept m s
+      → Kept m (conc .act q s) × Hears m s (conc .act q s)
   unfolding epOn
   act-kept no-wakes h o s k = (record { whole = act-steady no-wakes refl s .places ∙ k .whole; sorts = λ q. differ (sym o ∙ q); plain = λ q. differ (sym o ∙ q); room = λ q. differ (sym o ∙ q) }, record { same = λ q. differ (sym o ∙ q); grows = λ q. differ (sym o ∙ q) })
   act-kept (waken codes) h o s k =
@@ -264,7 +264,8 @@ module _ (D : Dir) (E : ℕ) where
   pub put-hears : {m : Bool} (c : Cell) (v : Val c) (s : St) → Hears m s (conc .put c v s)
   put-hears c v s = hears-same (put-still c v s)
 
-  iso-apart : (s : St) (d : Dir) (e : ℕ) → isOn (epOn (s .0) D E .iso) ≡ false → isOn (epOn (s .0) d e .iso) ≡ true → Else d e
+  iso-apart : (s : St) (d : Dir) (e : ℕ) → isOn (epOn (s .0) D E .iso) ≡ false → isOn (epOn (s .0) d e .iso) ≡ true
+      → Else d e
   unfolding epOn
   iso-apart s d e p h q = differ (sym p ∙ subst (λ (n : ℕ). isOn (getD (s .0 .eps) n noEp .iso) ≡ true) (sym q) h)
 
@@ -272,19 +273,25 @@ module _ (D : Dir) (E : ℕ) where
     pub q-ret : {i : Bool} {A : Type 0} {a : A} → Quiet m P (ret {i = i} a)
     q-ret = record { goes = λ w s z k. at-end (refl, refl, k, hears-same refl) }
 
-    pub q-bind : {i : Bool} {A B : Type 0} {p : Script i A} {f : A → Script i B} → Quiet m P p → ((a : A) → Quiet m P (f a)) → Quiet m P (bind p f)
+    pub q-bind : {i : Bool} {A B : Type 0} {p : Script i A} {f : A → Script i B} → Quiet m P p
+        → ((a : A) → Quiet m P (f a)) → Quiet m P (bind p f)
     q-bind {f = f} x y = record { goes = λ w s z k. follow.follow-bind D E (x .goes w s z k) (λ v a t l. subst (λ (u : Track). Follow D E (λ x _ t. Stays m w s x t) u (run conc (f a) t)) (sym (l .0)) (follow.follow-more D E (y a .goes w t z (l .2)) (λ _ _ _ n. (n .0, n .1 ∙ l .1, n .2, hears-then (l .3) (n .3))))) }
 
-    pub q-test : {i : Bool} {A : Type 0} {b : Bool} {p q : Script i A} → Quiet m P p → Quiet m P q → Quiet m P (test b p q)
+    pub q-test : {i : Bool} {A : Type 0} {b : Bool} {p q : Script i A} → Quiet m P p → Quiet m P q
+        → Quiet m P (test b p q)
     q-test {b = b} x y = record { goes = λ w s z k. follow.follow-cond D E b (λ _. x .goes w s z k) (λ _. y .goes w s z k) }
 
-    pub q-if : {i : Bool} {A : Type 0} (b : Bool) {p q : Script i A} → (b ≡ true → Quiet m P p) → (b ≡ false → Quiet m P q) → Quiet m P (test b p q)
+    pub q-if : {i : Bool} {A : Type 0} (b : Bool) {p q : Script i A} → (b ≡ true → Quiet m P p)
+        → (b ≡ false → Quiet m P q) → Quiet m P (test b p q)
     q-if b x y = record { goes = λ w s z k. follow.follow-cond D E b (λ h. x h .goes w s z k) (λ h. y h .goes w s z k) }
 
-    pub q-read : {i : Bool} {A : Type 0} {r : Reg} {e : ℕ} {f : ℕ → Script i A} → ((w : Track) → P w → (v : ℕ) → saw D E w (Read r e) v ≡ w) → ((v : ℕ) → Quiet m P (f v)) → Quiet m P (read-then r e f)
+    pub q-read : {i : Bool} {A : Type 0} {r : Reg} {e : ℕ} {f : ℕ → Script i A}
+        → ((w : Track) → P w → (v : ℕ) → saw D E w (Read r e) v ≡ w) → ((v : ℕ) → Quiet m P (f v))
+        → Quiet m P (read-then r e f)
     q-read g x = record { goes = λ w s z k. asked w k (g w (z .0)) (λ v t l. x v .goes w t z l) }
 
-    pub q-write : {i : Bool} {A : Type 0} {r : Reg} {e v : ℕ} {p : Script i A} → Quiet m P p → Quiet m P (write-then r e v p)
+    pub q-write : {i : Bool} {A : Type 0} {r : Reg} {e v : ℕ} {p : Script i A} → Quiet m P p
+        → Quiet m P (write-then r e v p)
     q-write {r = r} {e = e} {v = v} x = record { goes = λ w s z k. asked w k (λ n. z .1 r e v n) (λ _ t l. x .goes w t z l) }
 
     pub q-wait : {i : Bool} {A : Type 0} {n : ℕ} {p : Script i A} → Quiet m P p → Quiet m P (wait-then n p)
@@ -293,42 +300,55 @@ module _ (D : Dir) (E : ℕ) where
     pub q-callback : {i : Bool} {A : Type 0} {p : Script i A} → Quiet m P p → Quiet m P (callback-then p)
     q-callback x = record { goes = λ w s z k. asked w k (λ _. refl) (λ _ t l. x .goes w t z l) }
 
-    pub q-get : {i : Bool} {A : Type 0} {c : Cell} {f : Val c → Script i A} → ((v : Val c) → Quiet m P (f v)) → Quiet m P (get-then c f)
+    pub q-get : {i : Bool} {A : Type 0} {c : Cell} {f : Val c → Script i A} → ((v : Val c) → Quiet m P (f v))
+        → Quiet m P (get-then c f)
     q-get {c = c} x = record { goes = λ w s z k. x (conc .get c s) .goes w s z k }
 
     -- the isochronous endpoints that an interrupt walks: others
-    pub q-ins : {i : Bool} {A : Type 0} {f : Globals → Script i A} → ((g : Globals) → Each (λ e. m ≡ true → Else In e) (setBits (isoInEvery g)) → Quiet m P (f g)) → Quiet m P (bind (get {i = i} globals-cell) f)
+    pub q-ins : {i : Bool} {A : Type 0} {f : Globals → Script i A}
+        → ((g : Globals) → Each (λ e. m ≡ true → Else In e) (setBits (isoInEvery g)) → Quiet m P (f g))
+        → Quiet m P (bind (get {i = i} globals-cell) f)
     q-ins x = record { goes = λ w s z k. x (s .0 .globals) (each-set (isoInEvery (s .0 .globals)) (λ e l h t q. iso-apart s In e (k .plain t) (among-ins (sortsOf (s .0) In) (s .0 .globals) (k .sorts t .every) e l h) q)) .goes w s z k }
 
-    pub q-outs : {i : Bool} {A : Type 0} {f : Globals → Script i A} → ((g : Globals) → Each (λ e. m ≡ true → Else Out e) (setBits (isoOuts g)) → Quiet m P (f g)) → Quiet m P (bind (get {i = i} globals-cell) f)
+    pub q-outs : {i : Bool} {A : Type 0} {f : Globals → Script i A}
+        → ((g : Globals) → Each (λ e. m ≡ true → Else Out e) (setBits (isoOuts g)) → Quiet m P (f g))
+        → Quiet m P (bind (get {i = i} globals-cell) f)
     q-outs x = record { goes = λ w s z k. x (s .0 .globals) (each-set (isoOuts (s .0 .globals)) (λ e l h t q. iso-apart s Out e (k .plain t) (among-outs (sortsOf (s .0) Out) (s .0 .globals) (k .sorts t .outs) e l h) q)) .goes w s z k }
 
-    pub q-is : {i : Bool} {A : Type 0} {q : Test} {f : Bool → Script i A} → ((b : Bool) → Quiet m P (f b)) → Quiet m P (is-then q f)
+    pub q-is : {i : Bool} {A : Type 0} {q : Test} {f : Bool → Script i A} → ((b : Bool) → Quiet m P (f b))
+        → Quiet m P (is-then q f)
     q-is {q = q} x = record { goes = λ w s z k. x (conc .is q s) .goes w s z k }
 
-    pub q-look : {i : Bool} {A : Type 0} {q : Look} {f : ℕ → Script i A} → ((n : ℕ) → Quiet m P (f n)) → Quiet m P (look-then q f)
+    pub q-look : {i : Bool} {A : Type 0} {q : Look} {f : ℕ → Script i A} → ((n : ℕ) → Quiet m P (f n))
+        → Quiet m P (look-then q f)
     q-look {q = q} x = record { goes = λ w s z k. x (conc .look q s) .goes w s z k }
 
-    pub q-fetch : {i : Bool} {A : Type 0} {q : Fetch} {f : List ℕ → Script i A} → ((l : List ℕ) → Quiet m P (f l)) → Quiet m P (fetch-then q f)
+    pub q-fetch : {i : Bool} {A : Type 0} {q : Fetch} {f : List ℕ → Script i A} → ((l : List ℕ) → Quiet m P (f l))
+        → Quiet m P (fetch-then q f)
     q-fetch {q = q} x = record { goes = λ w s z k. x (conc .fetch q s) .goes w s z k }
 
-    pub q-act-as : {i : Bool} {A : Type 0} {q : Act} {p : Script i A} → allocates q ≡ false → Silent m q → Quiet m P p → Quiet m P (act-then q p)
+    pub q-act-as : {i : Bool} {A : Type 0} {q : Act} {p : Script i A} → allocates q ≡ false → Silent m q → Quiet m P p
+        → Quiet m P (act-then q p)
     q-act-as {q = q} h o x = record { goes = λ w s z k. let n = act-kept q h o s k in onward w s (conc .act q s) (act-view D E q h s) (n .1) (x .goes w (conc .act q s) z (n .0)) }
 
     pub q-hand : {i : Bool} {A : Type 0} {q : Hand} {p : Script i A} → Quiet m P p → Quiet m P (hand-then q p)
     q-hand {q = q} x = record { goes = λ w s z k. onward w s (conc .hand q s .1) (hand-view D E q s) (hears-same (hand-still q s)) (asked w (kept-steady (hand-steady q s) (hand-still q s) k) (hand-silent q (conc .hand q s .0) w) (λ _ t l. x .goes w t z l)) }
 
     -- an assignment that shows the same
-    pub q-put : {i : Bool} {A : Type 0} {c : Cell} {v : Val c} {p : Script i A} → ((s : St) → view D E (conc .put c v s .0) ≡ view D E (s .0)) → Quiet m P p → Quiet m P (put-then c v p)
+    pub q-put : {i : Bool} {A : Type 0} {c : Cell} {v : Val c} {p : Script i A}
+        → ((s : St) → view D E (conc .put c v s .0) ≡ view D E (s .0)) → Quiet m P p → Quiet m P (put-then c v p)
     q-put {c = c} {v = v} e x = record { goes = λ w s z k. onward w s (conc .put c v s) (e s) (put-hears c v s) (x .goes w (conc .put c v s) z (put-kept c v s k)) }
 
     -- a record that is read and changed
-    pub q-modify : {i : Bool} (c : Cell) (f : Val c → Val c) → ((s : St) → view D E (conc .put c (f (conc .get c s)) s .0) ≡ view D E (s .0)) → Quiet m P (bind {i = i} (get-then c ret) (λ p. put-then c (f p) (ret (tt {0}))))
+    pub q-modify : {i : Bool} (c : Cell) (f : Val c → Val c)
+        → ((s : St) → view D E (conc .put c (f (conc .get c s)) s .0) ≡ view D E (s .0))
+        → Quiet m P (bind {i = i} (get-then c ret) (λ p. put-then c (f p) (ret (tt {0}))))
     q-modify c f e = record { goes = λ w s z k. at-end (refl, e s, put-kept c (f (conc .get c s)) s k, put-hears c (f (conc .get c s)) s) }
 
   -- of a call that is no interrupt
   module _ {P : Track → Type 0} where
-    pub q-act : {i : Bool} {A : Type 0} {q : Act} {p : Script i A} → allocates q ≡ false → Quiet false P p → Quiet false P (act-then q p)
+    pub q-act : {i : Bool} {A : Type 0} {q : Act} {p : Script i A} → allocates q ≡ false → Quiet false P p
+        → Quiet false P (act-then q p)
     q-act {q = q} h x = q-act-as h (any q) x
       where
         any : (q : Act) → Silent false q
@@ -353,11 +373,13 @@ module _ (D : Dir) (E : ℕ) where
   unfolding withOn
   with-other x d e r o = ap (λ q. seenOf q (x .globals .stage)) (ep-other x d e r D E o)
 
-  pub put-other : (d : Dir) (e : ℕ) → Else d e → (v : Plain) (s : St) → view D E (conc .put (ep-cell d e) v s .0) ≡ view D E (s .0)
+  pub put-other : (d : Dir) (e : ℕ) → Else d e → (v : Plain) (s : St)
+      → view D E (conc .put (ep-cell d e) v s .0) ≡ view D E (s .0)
   put-other d e o v s = with-other (s .0) d e (merged (epOn (s .0) d e) v) o
 
   -- `last_frame` of any
-  pub put-frame : (d : Dir) (e frame : ℕ) (s : St) → view D E (conc .put (ep-cell d e) (withLastFrame frame (conc .get (ep-cell d e) s)) s .0) ≡ view D E (s .0)
+  pub put-frame : (d : Dir) (e frame : ℕ) (s : St)
+      → view D E (conc .put (ep-cell d e) (withLastFrame frame (conc .get (ep-cell d e) s)) s .0) ≡ view D E (s .0)
   put-frame d e frame s = same-view D E (record-same (s .0) d e (merged (epOn (s .0) d e) (withLastFrame frame (conc .get (ep-cell d e) s))) refl)
 
   pub put-globals : (g : Globals) (s : St) → view D E (conc .put globals-cell g s .0) ≡ view D E (s .0)
@@ -368,7 +390,8 @@ module _ (D : Dir) (E : ℕ) where
   unfolding epOn
   put-control c s = refl
 
-  pub put-request : (d : Dir) (e : ℕ) (v : Request) (s : St) → view D E (conc .put (request-cell d e) v s .0) ≡ view D E (s .0)
+  pub put-request : (d : Dir) (e : ℕ) (v : Request) (s : St)
+      → view D E (conc .put (request-cell d e) v s .0) ≡ view D E (s .0)
   unfolding withRequestOn epOn
   put-request d e v s = refl
 
@@ -421,7 +444,8 @@ module _ (D : Dir) (E : ℕ) where
     pub q-staged : {i : Bool} (n : ℕ) {p : Script i Answer} → Quiet m P p → Quiet m P (staged n p)
     q-staged n x = q-bind (q-got globals-cell) (λ g. q-test x q-ret)
 
-    pub q-enabled : {i : Bool} (d : Dir) (e : ℕ) {p q : Script i Answer} → Quiet m P q → Quiet m P p → Quiet m P (enabled-else d e q p)
+    pub q-enabled : {i : Bool} (d : Dir) (e : ℕ) {p q : Script i Answer} → Quiet m P q → Quiet m P p
+        → Quiet m P (enabled-else d e q p)
     q-enabled d e x y = q-bind (q-got globals-cell) (λ g. q-test y x)
 
     pub q-ends : {i : Bool} (d : Dir) (e : ℕ) (a : Answer) → Quiet m P (ends-request {i = i} d e a)
@@ -441,10 +465,13 @@ module _ (D : Dir) (E : ℕ) where
     q-resultless x = q-operation (q-bind x (λ _. q-ret))
 
   -- a reading of no control word
-  abbrev idle-read : {m : Bool} {i : Bool} {A : Type 0} {r : Reg} {e : ℕ} {f : ℕ → Script i A} → sameReg r EpRxCtrl ≡ false → sameReg r EpTxCtrl ≡ false → ((v : ℕ) → Quiet m Idle (f v)) → Quiet m Idle (read-then r e f)
+  abbrev pub idle-read : {m : Bool} {i : Bool} {A : Type 0} {r : Reg} {e : ℕ} {f : ℕ → Script i A}
+      → sameReg r EpRxCtrl ≡ false → sameReg r EpTxCtrl ≡ false → ((v : ℕ) → Quiet m Idle (f v))
+      → Quiet m Idle (read-then r e f)
   idle-read {r = r} {e = e} h k x = q-read (λ w z v. z r e v h k) x
 
-  pub off-read : {m : Bool} {i : Bool} {A : Type 0} {r : Reg} {e : ℕ} {f : ℕ → Script i A} → ((v : ℕ) → Quiet m Off (f v)) → Quiet m Off (read-then r e f)
+  pub off-read : {m : Bool} {i : Bool} {A : Type 0} {r : Reg} {e : ℕ} {f : ℕ → Script i A}
+      → ((v : ℕ) → Quiet m Off (f v)) → Quiet m Off (read-then r e f)
   off-read {r = r} {e = e} x = q-read (λ w z v. off-all w z r e v) x
 
   pub q-reg : {m : Bool} {i : Bool} (r : Reg) (e : ℕ) (f : ℕ → ℕ) → Quiet m Off (modifyReg {i = i} r e f)
@@ -454,94 +481,3 @@ module _ (D : Dir) (E : ℕ) where
   unfolding looks
   q-looks zero = q-ret
   q-looks (suc n) = q-bind (idle-read refl refl (λ _. q-ret)) (λ _. q-test q-ret (q-looks n))
-
-  -- ---- isochronous IN
-
-  pub q-complete : {m : Bool} {i : Bool} (e : ℕ) → (m ≡ true → Else In e) → Quiet m Idle (isoInComplete {i = i} e)
-  q-complete e o = q-bind (q-act-as refl tt q-ret) (λ _. q-bind (q-bind (q-is (λ _. q-ret)) (λ b. q-test (q-bind (q-hand q-ret) (λ _. q-bind (q-look (λ _. q-ret)) (λ _. q-write q-ret))) (q-write q-ret))) (λ _. q-wakes In e o))
-
-  q-first : {m : Bool} {i : Bool} (e frame : ℕ) → Quiet m Idle (firstInFrame {i = i} e frame)
-  q-first e frame = record { goes = λ w s z k. at-end (refl, put-frame In e frame s, put-kept (ep-cell In e) (withLastFrame frame (conc .get (ep-cell In e) s)) s k, put-hears (ep-cell In e) (withLastFrame frame (conc .get (ep-cell In e) s)) s) }
-
-  q-unseen : {m : Bool} {i : Bool} (frame e : ℕ) → (m ≡ true → Else In e) → Quiet m Idle (unseen {i = i} frame e)
-  q-unseen frame e o = q-bind (q-modify (ep-cell In e) (withLastFrame (frameOf (previous (indexOf frame)))) (λ s. put-frame In e (frameOf (previous (indexOf frame))) s)) (λ _. q-complete e o)
-
-  q-sof-one : {m : Bool} {i : Bool} (frame e : ℕ) → (m ≡ true → Else In e) → Quiet m Idle (sofOne {i = i} frame e)
-  q-sof-one frame e o = q-bind (q-got (ep-cell In e)) (λ s. q-test q-ret (q-bind (idle-read refl refl (λ _. q-ret)) (λ m. q-test (q-unseen frame e o) (q-bind (idle-read refl refl (λ _. q-ret)) (λ st. q-test q-ret (q-unseen frame e o))))))
-
-  q-sof-walk : {m : Bool} {i : Bool} (frame : ℕ) (es : List ℕ) → Each (λ e. m ≡ true → Else In e) es → Quiet m Idle (sofWalk {i = i} frame es)
-  unfolding sofWalk
-  q-sof-walk frame [] o = q-ret
-  q-sof-walk frame (e ∷ es) o = q-bind (q-sof-one frame e (o .0)) (λ _. q-sof-walk frame es (o .1))
-
-  pub q-sof : {m : Bool} {i : Bool} (frame : ℕ) → Quiet m Idle (onSof {i = i} frame)
-  q-sof frame = q-bind (q-globals (withSofFrame frame)) (λ _. q-ins (λ g o. q-bind (q-sof-walk frame (setBits (isoInEvery g)) o) (λ _. q-bind (q-got globals-cell) (λ g. q-when (q-callback q-ret)))))
-
-  pub q-late : {m : Bool} {i : Bool} (frame : ℕ) (es : List ℕ) → Each (λ e. m ≡ true → Else In e) es → Quiet m Idle (lateWalk {i = i} frame es)
-  unfolding lateWalk
-  q-late frame [] o = q-ret
-  q-late frame (e ∷ es) o = q-bind (q-bind (q-first e frame) (λ b. q-when (q-complete e (o .0)))) (λ _. q-late frame es (o .1))
-
-  pub q-iso-in : {m : Bool} {i : Bool} (e frame : ℕ) → (m ≡ true → Else In e) → Quiet m Idle (isoInArm {i = i} e frame)
-  q-iso-in e frame o = q-bind (q-got globals-cell) (λ g. q-test q-ret (q-bind (q-first e frame) (λ b. q-when (q-complete e o))))
-
-  pub q-completions : {m : Bool} {i : Bool} (n e : ℕ) → (m ≡ true → Else In e) → Quiet m Idle (isoInCompletions {i = i} n e)
-  unfolding isoInCompletions
-  q-completions zero e o = q-ret
-  q-completions (suc n) e o = q-bind (q-complete e o) (λ _. q-completions n e o)
-
-  -- ---- isochronous OUT
-
-  q-arrives : {m : Bool} {i : Bool} (e n : ℕ) → (m ≡ true → Else Out e) → Quiet m Idle (arrives {i = i} e n)
-  q-arrives e n o = q-bind (q-hand q-ret) (λ _. q-wakes Out e o)
-
-  q-walk : {m : Bool} {i : Bool} (x : Transfer) (iso : Bool) (es : List ℕ) → Each (λ e. m ≡ true → Else Out e) es → Quiet m Idle (checkWalk {i = i} x iso es)
-  unfolding checkWalk
-  q-walk x iso [] o = q-ret
-  q-walk x iso (e ∷ es) o = q-bind (q-bind (q-is (λ _. q-ret)) (λ b. q-when (q-test (q-arrives e (x .len) (o .0)) (q-bind (idle-read refl refl (λ _. q-ret)) (λ st. q-test q-ret (q-bind (q-look (λ _. q-ret)) (λ n. q-arrives e n (o .0)))))))) (λ _. q-walk x iso es (o .1))
-
-  pub q-check : {m : Bool} {i : Bool} (x : Transfer) (iso : Bool) → Quiet m Idle (isoOutCheck {i = i} x iso)
-  q-check x iso = q-outs (λ g o. q-walk x iso (setBits (isoOuts g)) o)
-
-  pub q-sof-arm : {m : Bool} {i : Bool} (frame : ℕ) → Quiet m Idle (sofArm {i = i} frame)
-  q-sof-arm frame = q-bind (q-got globals-cell) (λ g. q-when (q-sof frame))
-
-  -- ---- another endpoint's toggle
-
-  pub q-toggled : {m : Bool} {i : Bool} (d : Dir) (e : ℕ) → Else d e → Quiet m Off (toggled {i = i} d e)
-  q-toggled d e o = q-bind (only off-idle (q-looks 2001)) (λ _. q-bind (off-read (λ _. q-ret)) (λ word. q-bind (q-got (ep-cell d e)) (λ s. q-test
-      (q-bind (q-when (q-reg (ctrlOf d) e _)) (λ _. q-ret))
-      (q-bind (q-ep d e (λ s. withArmed 0 (withTog (flag (isData1 word)) s)) o) (λ _. q-ret)))))
-
-  pub q-received : {m : Bool} {i : Bool} (e n : ℕ) → Else Out e → Quiet m Off (received {i = i} e n)
-  q-received e n o = q-bind (q-ep Out e (λ s. completed (withLen n s)) o) (λ _. q-wakes Out e (λ _. o))
-
-  pub q-sent : {m : Bool} {i : Bool} (e : ℕ) → Else In e → Quiet m Off (sent {i = i} e)
-  q-sent e o = q-bind (q-ep In e (withReady 1) o) (λ _. q-wakes In e (λ _. o))
-
-  -- ---- EP0's
-
-  module _ (o : (d : Dir) → Else d 0) where
-    q-moved : {m : Bool} {i : Bool} (d : Dir) → Quiet m Off (movedOn {i = i} d)
-    q-moved d = q-bind (q-got (ep-cell d 0)) (λ s. q-when (q-bind (q-reg (ctrlOf d) 0 _) (λ _. q-bind (q-ep d 0 completed (o d)) (λ _. q-wakes d 0 (λ _. o d)))))
-
-    pub q-ep0-moved : {m : Bool} {i : Bool} (t : Token) → Quiet m Off (ep0MovedOn {i = i} t)
-    q-ep0-moved tok.Out = q-moved In
-    q-ep0-moved tok.In = q-moved Out
-    q-ep0-moved tok.Sof = q-ret
-    q-ep0-moved tok.Setup = q-ret
-
-    pub q-setup : {m : Bool} {i : Bool} → Quiet m Off (onSetup {i = i})
-    q-setup = q-bind (q-write q-ret) (λ _. q-bind (q-write q-ret) (λ _. q-bind (q-look (λ _. q-ret)) (λ low. q-bind (q-look (λ _. q-ret)) (λ high.
-        q-bind (q-ep Out 0 _ (o Out)) (λ _. q-bind (q-ep In 0 _ (o In)) (λ _. q-bind (q-globals (withSetup 1 low high)) (λ _. q-bind (q-write q-ret) (λ _. q-bind (q-wakes Out 0 (λ _. o Out)) (λ _. q-wakes In 0 (λ _. o In))))))))))
-
-    -- what a token completes that is not the endpoint's
-    pub q-dispatch : {m : Bool} {i : Bool} (t : Token) (x : Transfer) (iso : Bool) (frame : ℕ) → (t ≡ tok.Out → Else Out (endpoint (x .st))) → (t ≡ tok.In → Else In (endpoint (x .st))) → Quiet m Off (dispatch {i = i} t x iso frame)
-    q-dispatch tok.Sof x iso frame h k = only off-idle (q-sof-arm frame)
-    q-dispatch tok.Out x iso frame h k = q-if iso (λ _. q-ret) (λ z. q-if (eqb (endpoint (x .st)) 0)
-        (λ q. q-when (q-bind (q-reg EpRxCtrl 0 _) (λ _. q-received 0 (x .len) (o Out))))
-        (λ _. q-bind (q-toggled Out (endpoint (x .st)) (h refl)) (λ b. q-when (q-received (endpoint (x .st)) (x .len) (h refl)))))
-    q-dispatch tok.In x iso frame h k = q-if iso (λ _. only off-idle (q-iso-in (endpoint (x .st)) frame (λ _. k refl))) (λ z. q-if (eqb (endpoint (x .st)) 0)
-        (λ q. q-bind (q-reg EpTxCtrl 0 _) (λ _. q-bind (q-ep In 0 (withArmed 0) (o In)) (λ _. q-sent 0 (o In))))
-        (λ _. q-bind (q-toggled In (endpoint (x .st)) (k refl)) (λ b. q-when (q-sent (endpoint (x .st)) (k refl)))))
-    q-dispatch tok.Setup x iso frame h k = q-ret

@@ -1,8 +1,8 @@
--- The same of the Rattle code: what its calls make of the lent bytes. The contract of each call says that it is one step of the machine of calls that the bytes are
--- (way/specs/Under.antt), so what is claimed of lists of calls is claimed of calls that were made
-use mathlib.Core.Bool.{Bool}
+-- The same of the Rattle code: what its calls make of the lent bytes. The contract of each call says that it is one
+-- step of the machine of calls that the bytes are (way/specs/Under.antt), so what is claimed of lists of calls is
+-- claimed of calls that were made
 use mathlib.Core.List.{List, [], _∷_, _++_}
-use mathlib.Core.Path.{_≡_, refl, ap, subst, sym, _∙_}
+use mathlib.Core.Path.{_≡_, ap, subst, sym, _∙_}
 use Prim.Native.Nat.{ℕ, zero}
 use Rattle.state.specs.Driver.{Driver}
 use Rattle.script.specs.Answers.{Answer}
@@ -10,7 +10,7 @@ use Rattle.script.specs.Calls.{Config, Op, calls, startRow}
 use Rattle.script.specs.Machine.{Buf, Event, Machine, Ans, start, started}
 use Rattle.way.specs.Under.{driverOf, drive, machineOf}
 use Rattle.book.specs.Always.{after}
-use Rattle.book.specs.Code.{Made, Did}
+use Rattle.book.specs.Code.{Made}
 use Rattle.book.specs.CodeReadings.{Steps}
 use Rattle.proof_usb20.specs.Observer.{Observer, serves, Watched, startedBy, noted, Claim, Standing, Read, Reads, All, Meaning}
 use Rattle.proof_usb20.specs.Runs.{Laws, from-start}
@@ -24,7 +24,8 @@ events [] = []
 events (m ∷ ms) = m .event ∷ events ms
 
 module _ (O : Observer) where
-  -- the observer's log after a call that was made: told the call, its answer, and whether an operation is under way after it
+  -- the observer's log after a call that was made: told the call, its answer, and whether an operation is under way
+  -- after it
   abbrev pub told : Made → Watched O → Watched O
   told m x = noted O (m .event .call) (m .event .lent) (m .answer) (serves (left m .way)) x
 
@@ -48,13 +49,16 @@ module _ (O : Observer) where
   abbrev Answered : Type 0
   Answered = Ans Answer × Machine Answer Driver
 
-  to-reads : (ms : List Made) (xs : List ℕ) (a : Buf) (x : Watched O) → Steps xs a ms → CodeReads ms x → Reads O (events ms) (machineOf xs a) x
+  to-reads : (ms : List Made) (xs : List ℕ) (a : Buf) (x : Watched O) → Steps xs a ms → CodeReads ms x
+      → Reads O (events ms) (machineOf xs a) x
   to-reads [] xs a x h r = tt
   to-reads (m ∷ ms) xs a x h r =
       subst (λ (z : Answered). Read O (m .event .call) (z .0) (serves (z .1 .way)) x × Reads O (events ms) (z .1) (noted O (m .event .call) (m .event .lent) (z .0) (serves (z .1 .way)) x)) (h .0)
       (r .0, to-reads ms (m .bytes) (m .slots) (told m x) (h .1) (r .1))
 
-  to-meaning : (ms : List Made) (xs : List ℕ) (a : Buf) → Steps xs a ms → CodeMeaning (machineOf xs a) ms → (ds fs : List (Event Config Op)) → events ms ≡ ds ++ fs → O .Meant (O .view (after calls driverOf ds (machineOf xs a) .st))
+  to-meaning : (ms : List Made) (xs : List ℕ) (a : Buf) → Steps xs a ms → CodeMeaning (machineOf xs a) ms
+      → (ds fs : List (Event Config Op)) → events ms ≡ ds ++ fs
+      → O .Meant (O .view (after calls driverOf ds (machineOf xs a) .st))
   to-meaning [] xs a h p [] fs e = p
   to-meaning [] xs a h p (d ∷ ds) fs e = absurd (none e)
     where
@@ -83,7 +87,8 @@ module _ (O : Observer) where
           rest [] = []
           rest (x ∷ l) = l
 
-  to-code : (ms : List Made) (xs : List ℕ) (a : Buf) (x : Watched O) → Steps xs a ms → All O (events ms) (machineOf xs a) x → CodeAll ms x
+  to-code : (ms : List Made) (xs : List ℕ) (a : Buf) (x : Watched O) → Steps xs a ms
+      → All O (events ms) (machineOf xs a) x → CodeAll ms x
   to-code [] xs a x h r = tt
   to-code (m ∷ ms) xs a x h r =
       let p : Claim O (m .event .call) (m .answer) (serves (left m .way)) x × Standing O (left m .st) (told m x .log) (told m x .under) × All O (events ms) (left m) (told m x)
@@ -91,8 +96,10 @@ module _ (O : Observer) where
       (p .0, p .1, to-code ms (m .bytes) (m .slots) (told m x) (h .1) (p .2))
 
   -- any bytes, a start-up that rows 1 and 2 do not stop, and then any calls whose contracts say what they are steps of
-  pub code-from-start : {R : O .Log → O .View → Type 0} → Laws O R → (c : Config) (b : Buf) → startRow c b ≡ zero → (xs : List ℕ) (a : Buf) (first : Made) → first .event ≡ record { call = start c; lent = b } → (ms : List Made)
-      → Steps xs a (first ∷ ms) → CodeMeaning (left first) ms → CodeReads ms (startedBy O (first .answer)) → CodeAll ms (startedBy O (first .answer))
+  pub code-from-start : {R : O .Log → O .View → Type 0} → Laws O R → (c : Config) (b : Buf) → startRow c b ≡ zero
+      → (xs : List ℕ) (a : Buf) (first : Made) → first .event ≡ record { call = start c; lent = b } → (ms : List Made)
+      → Steps xs a (first ∷ ms) → CodeMeaning (left first) ms → CodeReads ms (startedBy O (first .answer))
+      → CodeAll ms (startedBy O (first .answer))
   code-from-start L c b row xs a first e ms h p r =
       let q : (first .answer, left first) ≡ started calls driverOf (λ s. s) c zero (machineOf xs a) b
       = subst (λ (v : Event Config Op). (first .answer, left first) ≡ drive (v .call) (machineOf xs a) (v .lent)) e (h .0) ∙ ap (λ n. started calls driverOf (λ s. s) c n (machineOf xs a) b) row in

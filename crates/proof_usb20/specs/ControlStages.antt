@@ -1,5 +1,4 @@
 -- Control stages equal USB 2.0's, over EVERY list of calls from an accepted start-up
-use mathlib.Core.Bool.{Bool, true, false}
 use mathlib.Core.Logic.{inl, inr}
 use mathlib.Core.List.{List, [], _∷_}
 use mathlib.Core.Path.{_≡_, refl, sym, _∙_}
@@ -11,12 +10,11 @@ use Rattle.script.specs.Every as ways
 use Rattle.script.specs.AddressWrites.{Writes}
 use Rattle.script.specs.AddressCalls.{Addresses, address-writes}
 use Rattle.script.specs.Answers.{Answer, Refused}
-use Rattle.script.specs.Calls.{Config, calls, startRow, Op, interrupt, slotted, other, aside, Slotted, SetEnabled, PollRead, BeginWrite, PollWrite, PollDataOut, BeginDataIn, Other, Allocate, AllocateAll, Start, BusPoll, BusEnable, BusDisable, Microframe, SetStalled, IsStalled, SetPaced, Advance, BeginRead, BeginSetup, PollSetup, PollDataIn, BeginAccept, PollAccept, BeginReject, BeginDataOut, BeginAcceptSetAddress, Aside, asideCode, code}
+use Rattle.script.specs.Calls.{Config, calls, startRow, Op, interrupt, slotted, other, aside, Slotted, SetEnabled, PollRead, BeginWrite, PollWrite, PollDataOut, BeginDataIn, Other, Allocate, AllocateAll, Start, BusPoll, BusEnable, BusDisable, Microframe, SetStalled, IsStalled, SetPaced, Advance, BeginRead, BeginSetup, PollSetup, PollDataIn, BeginAccept, PollAccept, BeginReject, BeginDataOut, BeginAcceptSetAddress, code}
 use Rattle.script.specs.Machine.{Buf, Event, Machine, start, started}
 use Rattle.way.specs.Under.{driverOf}
 use Rattle.ops.specs.Rings.{St}
 use Rattle.ops.specs.Conc.{conc}
-use Rattle.book.specs.Sorting.{Sorting}
 use Rattle.proof_usb20.specs.Log.{Log, before, opens, saw, closes, Brings, Armed, Fair, Allowed, Poll, none, pollSetup, pollOut, pollIn, pollStatus, pollOf, FairPoll}
 use Rattle.proof_usb20.specs.Observer.{Observer, startedBy, Reads, All}
 use Rattle.proof_usb20.specs.Exempt.{differ}
@@ -33,8 +31,8 @@ use Rattle.proof_usb20.specs.Serving.{law-interrupt}
 use Rattle.proof_usb20.specs.Switching.{law-set-enabled}
 use Rattle.proof_usb20.specs.Tasks.{law-begin-read, law-poll-read, law-begin-write, law-poll-write, law-allocate, law-allocate-all, law-start, law-bus-enable, law-bus-disable, law-microframe, law-is-stalled, law-set-paced, law-advance, law-aside, law-set-stalled, law-bus-poll, aside-view}
 
--- the observer of EP0: by its log EP0's words are as the pipe says, a poll is done exactly after the completion, and an address is written by an accept's poll alone, after
--- its completion, or is 0 at a bus reset
+-- the observer of EP0: by its log EP0's words are as the pipe says, a poll is done exactly after the completion, and an
+-- address is written by an accept's poll alone, after its completion, or is 0 at a bus reset
 abbrev pub control : Observer
 control = record { Log = Log; before = before; opens = opens; saw = saw; closes = closes; Brings = Brings; Fair = Fair; Allowed = Allowed; Asks = λ o q. Writes (Addresses o) q; View = View; view = view; Stands = λ w x. Armed w; Meant = λ x. Unit {0} }
 
@@ -107,17 +105,22 @@ laws = record {
   fair-1 = λ o w. fair-1 (pollOf o) w;
 }
 
--- after each call: EP0's control words as last written say what USB 2.0's pipe says, a packet IN that is ready has its length, a poll is done exactly after the
--- completion, "not yet" exactly before it, refused with 9 only after a setup packet, and the address is written after the status stage alone; but for the log's
--- exemptions (Log.antt). `Reads`: EP0's control words read back as they were written
-pub control-stages : (c : Config) (b : Buf) → startRow c b ≡ zero → (es : List (Event Config Op)) (m : Machine Answer Driver)
+-- after each call: EP0's control words as last written say what USB 2.0's pipe says, a packet IN that is ready has its
+-- length, a poll is done exactly after the completion, "not yet" exactly before it, refused with 9 only after a setup
+-- packet, and the address is written after the status stage alone; but for the log's exemptions (Log.antt). `Reads`:
+-- EP0's control words read back as they were written
+pub control-stages : (c : Config) (b : Buf) → startRow c b ≡ zero
+    → (es : List (Event Config Op)) (m : Machine Answer Driver)
     → let y = started calls driverOf (λ s. s) c zero m b in
     Reads control es (y .1) (startedBy control (y .0)) → All control es (y .1) (startedBy control (y .0))
 control-stages c b row es m r = from-start control laws c b row es m (λ _ _ _. tt) r
 
--- of the Rattle code: any bytes, a start-up that rows 1 and 2 do not stop, and then any calls, each as its contract says
-pub code-control-stages : (c : Config) (b : Buf) → startRow c b ≡ zero → (xs : List ℕ) (a : Buf) (first : Made) → first .event ≡ record { call = start c; lent = b } → (ms : List Made)
-    → Steps xs a (first ∷ ms) → CodeReads control ms (startedBy control (first .answer)) → CodeAll control ms (startedBy control (first .answer))
+-- of the Rattle code: any bytes, a start-up that rows 1 and 2 do not stop, and then any calls, each as its contract
+-- says
+pub code-control-stages : (c : Config) (b : Buf) → startRow c b ≡ zero → (xs : List ℕ) (a : Buf) (first : Made)
+    → first .event ≡ record { call = start c; lent = b } → (ms : List Made)
+    → Steps xs a (first ∷ ms) → CodeReads control ms (startedBy control (first .answer))
+    → CodeAll control ms (startedBy control (first .answer))
 code-control-stages c b row xs a first e ms h r = code-from-start control laws c b row xs a first e ms h (meant ms (left first)) r
   where
     meant : (ms : List Made) (n : Machine Answer Driver) → CodeMeaning control n ms

@@ -1,9 +1,9 @@
--- Data toggles equal USB 2.0's (8.6), over EVERY list of calls from an accepted start-up, of every endpoint that is neither 0 nor isochronous
-use mathlib.Core.List.{List, [], _∷_, _++_}
+-- Data toggles equal USB 2.0's (8.6), over EVERY list of calls from an accepted start-up, of every endpoint that is
+-- neither 0 nor isochronous
+use mathlib.Core.List.{List, [], _∷_}
 use mathlib.Core.Logic.{_⊎_, inl, inr}
-use mathlib.Core.Path.{_≡_, refl, subst, sym, _∙_}
+use mathlib.Core.Path.{_≡_, refl, subst, sym}
 use Prim.Native.Nat.{ℕ, zero, _%_}
-use native.Mathlib.Omega.{arith}
 use Rattle.regs.specs.declared.Dir.{Dir}
 use Rattle.regs.specs.declared.Dir.the-variants.{Out, In}
 use Rattle.state.specs.Driver.{Driver, key}
@@ -19,7 +19,7 @@ use Rattle.proof_usb20.specs.Follow.{Seen, Fits, Law}
 use Rattle.proof_usb20.specs.Calm.{Else}
 use mathlib.Core.Bool.{Bool, true, false, cond, _&&_}
 use lib.ListN.{length, getD, replicate, getD-replicate}
-use Prim.Native.Nat.{suc, _<_}
+use Prim.Native.Nat.{_<_}
 use Rattle.regs.specs.declared.Reg.the-variants.{Ctrl}
 use Rattle.state.specs.declared.EpState.{EpState}
 use Rattle.state.specs.Ep.{newEp}
@@ -31,7 +31,7 @@ use Rattle.script.specs.Script.{run}
 use Rattle.script.specs.Every as ways
 use Rattle.script.specs.Statics.{isOn}
 use Rattle.script.specs.Answers.{Refused}
-use Rattle.script.specs.Calls.{code, Aside}
+use Rattle.script.specs.Calls.{code}
 use Rattle.script.specs.Machine.{Call, start, begin, go, question, Ans, ended, handed, told}
 use Rattle.ops.specs.Rings.{St}
 use Rattle.ops.specs.Conc.{conc}
@@ -54,8 +54,8 @@ use Rattle.proof_usb20.specs.Others.{law-bus-enable, law-bus-disable, la
 use Rattle.proof_usb20.specs.Restarting.{law-set-stalled, law-bus-poll, law-allocate, law-allocate-all, law-start}
 use Rattle.proof_usb20.specs.Tokens.{law-interrupt}
 
--- the observer of an endpoint's data toggle: by its log a poll is done exactly if a completion is there, an interrupt has looked, and the record has the bit with the last new
--- packet, whether a completion is there, its length
+-- the observer of an endpoint's data toggle: by its log a poll is done exactly if a completion is there, an interrupt
+-- has looked, and the record has the bit with the last new packet, whether a completion is there, its length
 abbrev pub toggles : Dir → ℕ → Observer
 toggles D E = record { Log = Track; before = before; opens = opens D E; saw = saw D E; closes = closes D E; Brings = λ _ _ _. Unit {0}; Fair = Fair D E; Allowed = λ _ _. Unit {0}; Asks = λ _ _. Unit {0}; View = Seen; view = view D E; Stands = Fits; Meant = λ x. isOn (x .iso) ≡ false }
 
@@ -96,19 +96,17 @@ module _ (D : Dir) (E : ℕ) (z : (d : Dir) → Else D E d 0) where
   of-other (BeginDataOut n first) = law-data-out D E z n first
   of-other (BeginAcceptSetAddress a) = law-accept-address D E z a
 
-  along : {A : Type 0} {P : Track → A → St → Type 0} {w : Track} {o : tree.Out St A} → Follow D E P w o → Sees (toggles D E) (λ _. Unit {0}) P w o
-  along (follow.at-end p) = at-end p
-  along (follow.at-ask k) = at-ask tt (λ v t _ h. along (k v t h))
-
   ups : {P : St → Type 0} {w : Track} {o : tree.Out St Answer} → Follow D E (λ _ _ s. P s) w o → Ups (toggles D E) P o
-  ups (follow.at-end p) = at-end p
-  ups (follow.at-ask k) = at-ask tt (λ v t _ h. ups (k v t h))
+  ups (at-end p) = at-end p
+  ups (at-ask _ k) = at-ask tt (λ v t _ h. ups (k v t tt h))
 
-  few : (o : Op) {w : Track} {out : tree.Out St Answer} → Follow D E (follow.Ends D E o) w out → Sees (toggles D E) (λ _. Unit {0}) (follow.EndsFew D E o) w out
-  few o x = watch-more (along x) (λ x a t p. (p .0, λ _. p .1))
+  few : (o : Op) {w : Track} {out : tree.Out St Answer} → Follow D E (follow.Ends D E o) w out
+      → Sees (toggles D E) (λ _. Unit {0}) (follow.EndsFew D E o) w out
+  few o x = watch-more x (λ x a t p. (p .0, λ _. p .1))
 
-  law-of : (o : Op) (w : Track) (s : St) → Fits w (view D E (s .0)) → isOn (epOn (s .0) D E .iso) ≡ false → Sorting (s .0) → Sees (toggles D E) (λ _. Unit {0}) (follow.EndsFew D E o) (opens D E o w) (run conc (code o) s)
-  law-of interrupt w s r i k = along (law-interrupt D E z w s r i k)
+  law-of : (o : Op) (w : Track) (s : St) → Fits w (view D E (s .0)) → isOn (epOn (s .0) D E .iso) ≡ false
+      → Sorting (s .0) → Sees (toggles D E) (λ _. Unit {0}) (follow.EndsFew D E o) (opens D E o w) (run conc (code o) s)
+  law-of interrupt w s r i k = law-interrupt D E z w s r i k
   law-of (slotted o) w s r i k = few (slotted o) (of-slotted o w s r i k)
   law-of (other o) w s r i k = few (other o) (of-other o w s r i k)
   law-of (aside o) w s r i k = few (aside o) (law-aside D E o w s r i k)
@@ -132,7 +130,8 @@ module _ (D : Dir) (E : ℕ) (z : (d : Dir) → Else D E d 0) where
   unfolding freshDriver
   new-places c = refl
 
-  new : (c : Config) (b : Buf) → Follow D E (λ _ _ s. Fits before (view D E (s .0))) before (run conc (calls .starts c) (driverOf .fresh c, b))
+  new : (c : Config) (b : Buf)
+      → Follow D E (λ _ _ s. Fits before (view D E (s .0))) before (run conc (calls .starts c) (driverOf .fresh c, b))
   new c b = follow.follow-more D E (law-new c .goes before (driverOf .fresh c, b) (refl, λ _ _ _ _. refl) (loose D E (new-places c))) (λ _ _ s m. subst (Fits before) (sym (m .1)) (new-fits c))
 
   last : (b : Bool) (x y : Track) → cond (b && false) x y ≡ y
@@ -196,7 +195,8 @@ module _ (D : Dir) (E : ℕ) (z : (d : Dir) → Else D E d 0) where
   }
 
 -- nothing is asked of the chip
-read-at : (D : Dir) (E v : ℕ) (a : Ans Answer) (still : Bool) (w : Track) (u : Under) → ReadAt (toggles D E) v a still w u
+read-at : (D : Dir) (E v : ℕ) (a : Ans Answer) (still : Bool) (w : Track) (u : Under)
+    → ReadAt (toggles D E) v a still w u
 read-at D E v a still w at-rest = tt
 read-at D E v (ended a) true w (doing o q) = tt
 read-at D E v (ended a) false w (doing o q) = tt
@@ -207,13 +207,15 @@ read-at D E v (ended a) false w starting = tt
 read-at D E v (handed p) still w starting = tt
 read-at D E v (told n) still w starting = tt
 
-any-read : (D : Dir) (E : ℕ) (c : Call Config Op) (a : Ans Answer) (still : Bool) (x : Watched (toggles D E)) → Read (toggles D E) c a still x
+any-read : (D : Dir) (E : ℕ) (c : Call Config Op) (a : Ans Answer) (still : Bool) (x : Watched (toggles D E))
+    → Read (toggles D E) c a still x
 any-read D E (start c) a still x = tt
 any-read D E (begin o) a still x = tt
 any-read D E (go v) a still x = read-at D E v a still (x .log) (x .under)
 any-read D E (question q) a still x = tt
 
-reads-any : (D : Dir) (E : ℕ) (es : List (Event Config Op)) (m : Machine Answer Driver) (x : Watched (toggles D E)) → Reads (toggles D E) es m x
+reads-any : (D : Dir) (E : ℕ) (es : List (Event Config Op)) (m : Machine Answer Driver) (x : Watched (toggles D E))
+    → Reads (toggles D E) es m x
 reads-any D E [] m x = tt
 reads-any D E (e ∷ es) m x = (any-read D E (e .call) _ _ x, reads-any D E es _ _)
 
@@ -221,17 +223,22 @@ code-reads-any : (D : Dir) (E : ℕ) (ms : List Made) (x : Watched (toggles D E)
 code-reads-any D E [] x = tt
 code-reads-any D E (m ∷ ms) x = (any-read D E (m .event .call) _ _ x, code-reads-any D E ms _)
 
--- after each call: a poll of the endpoint is done exactly if a packet with another sequence bit was served since (or a cleared halt finished its write); an
--- interrupt that ends with a token of the endpoint has read its control word; where nothing is under way, the record has the bit with the last new
--- packet, or DATA0 since it was enabled, its halt cleared, the bus reset; whether a completion is there; its length. Whatever the chip answers
-pub data-toggles : (D : Dir) (E : ℕ) → (E % 16 ≡ 0 → ⊥) → (c : Config) (b : Buf) → startRow c b ≡ zero → (es : List (Event Config Op)) (m : Machine Answer Driver)
+-- after each call: a poll of the endpoint is done exactly if a packet with another sequence bit was served since (or a
+-- cleared halt finished its write); an interrupt that ends with a token of the endpoint has read its control word;
+-- where nothing is under way, the record has the bit with the last new packet, or DATA0 since it was enabled, its halt
+-- cleared, the bus reset; whether a completion is there; its length. Whatever the chip answers
+pub data-toggles : (D : Dir) (E : ℕ) → (E % 16 ≡ 0 → ⊥) → (c : Config) (b : Buf) → startRow c b ≡ zero
+    → (es : List (Event Config Op)) (m : Machine Answer Driver)
     → let y = started calls driverOf (λ s. s) c zero m b in
     Meaning (toggles D E) es (y .1) → All (toggles D E) es (y .1) (startedBy (toggles D E) (y .0))
 data-toggles D E h c b row es m p = from-start (toggles D E) (laws D E (not-ep0 D E h)) c b row es m p (reads-any D E es _ _)
 
--- of the Rattle code: any bytes, a start-up that rows 1 and 2 do not stop, and then any calls, each as its contract says
-pub code-data-toggles : (D : Dir) (E : ℕ) → (E % 16 ≡ 0 → ⊥) → (c : Config) (b : Buf) → startRow c b ≡ zero → (xs : List ℕ) (a : Buf) (first : Made) → first .event ≡ record { call = start c; lent = b } → (ms : List Made)
-    → Steps xs a (first ∷ ms) → CodeMeaning (toggles D E) (left first) ms → CodeAll (toggles D E) ms (startedBy (toggles D E) (first .answer))
+-- of the Rattle code: any bytes, a start-up that rows 1 and 2 do not stop, and then any calls, each as its contract
+-- says
+pub code-data-toggles : (D : Dir) (E : ℕ) → (E % 16 ≡ 0 → ⊥) → (c : Config) (b : Buf) → startRow c b ≡ zero
+    → (xs : List ℕ) (a : Buf) (first : Made) → first .event ≡ record { call = start c; lent = b } → (ms : List Made)
+    → Steps xs a (first ∷ ms) → CodeMeaning (toggles D E) (left first) ms
+    → CodeAll (toggles D E) ms (startedBy (toggles D E) (first .answer))
 code-data-toggles D E h c b row xs a first e ms s p = code-from-start (toggles D E) (laws D E (not-ep0 D E h)) c b row xs a first e ms s p (code-reads-any D E ms _)
 
 -- DECISIONS 94, of such an endpoint, where nothing is under way

@@ -1,12 +1,12 @@
 -- The law of enabling and disabling: DATA0 of the endpoint's own, nothing of the others'
 use mathlib.Core.Bool.{Bool, true, false, not, cond, _&&_}
-use mathlib.Core.List.{List, [], _∷_}
+use mathlib.Core.List.{[], _∷_}
 use mathlib.Core.Path.{_≡_, refl, ap, subst, sym, _∙_}
 use Prim.Native.Nat.{ℕ, zero, suc}
 use lib.Dec.{eqb}
 use Rattle.regs.specs.declared.Dir.{Dir}
 use Rattle.regs.specs.declared.Dir.the-variants.{Out, In}
-use Rattle.state.specs.Driver.{Driver, epOn}
+use Rattle.state.specs.Driver.{epOn}
 use Rattle.state.specs.Fresh.{clearStamps}
 use Rattle.state.specs.Kept.{withEpType}
 use Rattle.state.specs.Wakes.{wakeCode}
@@ -15,7 +15,7 @@ use Rattle.script.specs.Tree as tree
 use Rattle.script.specs.Cells.{Plain, ep-cell, globals-cell, paced-cell}
 use Rattle.regs.specs.declared.Reg.the-variants.{EpRxCtrl, EpTxCtrl, EpTLen}
 use Rattle.regs.specs.ControlWord.{ACK, NAK, NYET, DATA0, wordOf}
-use Rattle.script.specs.Script.{Script, run, _>>=_, _>>_, put, hand, write, place, row, rows, switch, switchAsk, no-wakes, waken, reset-ring}
+use Rattle.script.specs.Script.{Script, run, put, hand, write, place, row, rows, switch, switchAsk, no-wakes, waken, reset-ring, _>>=_, _>>_}
 use Rattle.script.specs.Statics as statics
 use Rattle.script.specs.Statics.{isOn, wake, withArmed, flag, modifyEpType}
 use Rattle.script.specs.Answers.{isAllocated}
@@ -28,7 +28,8 @@ use Rattle.book.specs.Sorts.{act-steady, row-steady}
 use Rattle.proof_usb20.specs.Sequence as log
 use Rattle.proof_usb20.specs.Sequence.{Track, off, withPhase, own, saw, armsAt}
 use Rattle.proof_usb20.specs.Follow as follow
-use Rattle.proof_usb20.specs.Follow.{Seen, FitsAs, Fits, view, Follow, at-end, at-ask, Ends, Law}
+use Rattle.proof_usb20.specs.Follow.{Seen, FitsAs, Fits, view, Follow, Ends, Law}
+use Rattle.proof_usb20.specs.Watch.{at-end}
 use Rattle.proof_usb20.specs.Untouched.{act-view}
 use Rattle.proof_usb20.specs.Calm.{Whole, Off, Else, Hush, Kept, Stays, Quiet, loose, loosely, asked, onward, with-other, put-globals, put-paced, q-act, q-bind, q-ep, q-got, q-hand, q-put, q-resultless, q-ret, q-staged, q-test, q-wake, q-write}
 use Rattle.proof_usb20.specs.Reading as reading
@@ -47,12 +48,14 @@ module _ (D : Dir) (E : ℕ) where
   unfolding slotStep renewedOn clearStamps epOn
   slot-view e k o s = by (isOn (epOn (s .0) Out e .iso)) (eqb k 15)
     where
-      by : (b c : Bool) → view D E (cond b (armAt e k (cond c (renewedOn (s .0) e) (s .0), s .1)) (epOn (s .0) Out e .«armed_slot», s) .1 .0) ≡ view D E (s .0)
+      by : (b c : Bool)
+          → view D E (cond b (armAt e k (cond c (renewedOn (s .0) e) (s .0), s .1)) (epOn (s .0) Out e .«armed_slot», s) .1 .0) ≡ view D E (s .0)
       by true true = with-other D E (renewedOn (s .0) e) Out e _ o ∙ with-other D E (clearStamps (s .0) e) Out e _ o
       by true false = with-other D E (s .0) Out e _ o
       by false c = refl
 
-  switch-view : (e : ℕ) (on : Bool) (n : ℕ) → Else D E Out e → (s : St) → view D E (conc .row (switch e on) n s .1 .0) ≡ view D E (s .0)
+  switch-view : (e : ℕ) (on : Bool) (n : ℕ) → Else D E Out e → (s : St)
+      → view D E (conc .row (switch e on) n s .1 .0) ≡ view D E (s .0)
   unfolding configStep typeStep epOn
   switch-view e on zero o s = refl
   switch-view e on (suc zero) o s = refl
@@ -65,7 +68,8 @@ module _ (D : Dir) (E : ℕ) where
   silent e on (suc (suc zero)) x w v h = h _ _ _ v
   silent e on (suc (suc (suc n))) x w v h = refl
 
-  in-row : (e : ℕ) (on : Bool) → Else D E Out e → (n : ℕ) (w : Track) (s : St) → Hush D E w → Kept D E false s → Follow D E (λ x _ t. Stays D E false w s x t) w (rows conc (switch e on) n (λ t. tree.ends (tt {0}) t) s)
+  in-row : (e : ℕ) (on : Bool) → Else D E Out e → (n : ℕ) (w : Track) (s : St) → Hush D E w → Kept D E false s
+      → Follow D E (λ x _ t. Stays D E false w s x t) w (rows conc (switch e on) n (λ t. tree.ends (tt {0}) t) s)
   in-row e on m zero w s h k = onward D E w s (conc .row (switch e on) zero s .1) (switch-view e on zero m s) (loosely D E) (asked D E w (loose D E (row-steady (switch e on) zero s .places ∙ k .whole)) (λ v. silent e on zero (conc .row (switch e on) zero s .0) w v h) (λ _ t l. at-end (refl, refl, l, loosely D E)))
   in-row e on m (suc n) w s h k = onward D E w s (conc .row (switch e on) (suc n) s .1) (switch-view e on (suc n) m s) (loosely D E) (asked D E w (loose D E (row-steady (switch e on) (suc n) s .places ∙ k .whole)) (λ v. silent e on (suc n) (conc .row (switch e on) (suc n) s .0) w v h) (λ _ t l. in-row e on m n w t h l))
 
@@ -102,8 +106,11 @@ module _ (D : Dir) (E : ℕ) where
   Renews : Bool → Track → {A : Type 0} → Track → A → St → Type 0
   Renews a w y _ t = (y ≡ withPhase off w) × FitsAs initial false (w .len) a (view D E (t .0))
 
-  abbrev renews-by : (d : Dir) (e : ℕ) (f : Plain → Plain) (g : Bool) (w : Track) (s : St) → Own D E d e → Whole s → Fits w (view D E (s .0)) → eqb (s .0 .globals .stage) 2 ≡ true
-      → ((p : Plain) → f p .tog ≡ 0) → ((p : Plain) → f p .ready ≡ 0) → ((p : Plain) → f p .len ≡ p .len) → ((p : Plain) → isOn (f p .armed) ≡ g) → FitsAs initial false (w .len) g (view D E (conc .put (ep-cell d e) (f (conc .get (ep-cell d e) s)) s .0))
+  abbrev renews-by : (d : Dir) (e : ℕ) (f : Plain → Plain) (g : Bool) (w : Track) (s : St) → Own D E d e → Whole s
+      → Fits w (view D E (s .0)) → eqb (s .0 .globals .stage) 2 ≡ true
+      → ((p : Plain) → f p .tog ≡ 0) → ((p : Plain) → f p .ready ≡ 0) → ((p : Plain) → f p .len ≡ p .len)
+      → ((p : Plain) → isOn (f p .armed) ≡ g)
+      → FitsAs initial false (w .len) g (view D E (conc .put (ep-cell d e) (f (conc .get (ep-cell d e) s)) s .0))
   unfolding isOn
   renews-by d e f g w s o k r two a b c m = subst (FitsAs initial false (w .len) g) (sym (changed D E d e f s o k)) (fits-2 D E two (a _) (ap isOn (b _)) (c _ ∙ r .len) (m _))
 
@@ -112,7 +119,8 @@ module _ (D : Dir) (E : ℕ) where
   flagged true = refl
   flagged false = refl
 
-  enabling : (d : Dir) (e : ℕ) (on : Bool) (w : Track) (s : St) → Own D E d e → Whole s → Fits w (view D E (s .0)) → eqb (s .0 .globals .stage) 2 ≡ true → isOn (epOn (s .0) D E .iso) ≡ false
+  enabling : (d : Dir) (e : ℕ) (on : Bool) (w : Track) (s : St) → Own D E d e → Whole s → Fits w (view D E (s .0))
+      → eqb (s .0 .globals .stage) 2 ≡ true → isOn (epOn (s .0) D E .iso) ≡ false
       → Follow D E (Renews (armsAt D E d on) w) (withPhase off w) (run conc (bus.setEnabled d e on) s)
   unfolding Renews isOn
   enabling Out e on w s o k r two i =
@@ -146,7 +154,8 @@ module _ (D : Dir) (E : ℕ) where
       nothing : Fits (cond (own D E d e && false) (log.renewed D E (armsAt D E d on) (withPhase off w)) (withPhase off w)) (view D E (s .0))
       nothing = rw (last (own D E d e)) r
 
-      by : (b : Bool) → own D E d e ≡ b → Follow D E (Ends D E (slotted (SetEnabled d e on))) (withPhase off w) (run conc (code (slotted (SetEnabled d e on))) s)
+      by : (b : Bool) → own D E d e ≡ b
+          → Follow D E (Ends D E (slotted (SetEnabled d e on))) (withPhase off w) (run conc (code (slotted (SetEnabled d e on))) s)
       by false h = quiet-law D E (slotted (SetEnabled d e on)) refl (λ a x. not-and D E (own D E d e) (log.ended D E a) (log.renewed D E (armsAt D E d on) x) x h) (λ _ _. tt) ((q-staged D E) 2 (reading.q-named D E d e ((q-resultless D E) (q-enabling d e on (own-false D E d e h))))) w s r i z
       by true h = follow.follow-cond D E (eqb (s .0 .globals .stage) 2) (λ two. follow.follow-cond D E (isAllocated (s .0 .allocator) d e)
           (λ _.

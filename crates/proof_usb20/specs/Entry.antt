@@ -1,41 +1,37 @@
 -- The interrupt as a whole: its flags, the transfer that it shows, the setup packet
 use mathlib.Core.Bool.{Bool, true, false, not, cond, _&&_, _||_}
-use mathlib.Core.List.{List, [], _∷_}
-use mathlib.Core.Logic.{_⊎_, inl, inr}
-use mathlib.Core.Path.{_≡_, refl, ap, subst, sym, _∙_}
-use Prim.Native.Nat.{ℕ, zero, suc, _%_}
-use native.Mathlib.Omega.{arith}
+use mathlib.Core.Path.{_≡_, refl, ap, sym, _∙_}
+use Prim.Native.Nat.{ℕ, zero, suc}
 use lib.Dec.{eqb}
 use borrow.Author.Tests.{eqb-true}
-use Rattle.regs.specs.declared.Access.{Access}
-use Rattle.regs.specs.declared.Access.the-variants.{Read, Write}
-use Rattle.regs.specs.declared.Reg.the-variants.{IntFg, IntSt, MisSt, RxLen, FrameNo, EpRxCtrl, EpTxCtrl}
-use Rattle.regs.specs.declared.Dir.{Dir}
+use Rattle.regs.specs.declared.Access.the-variants.{Read}
+use Rattle.regs.specs.declared.Reg.the-variants.{IntFg, IntSt, EpRxCtrl, EpTxCtrl}
 use Rattle.regs.specs.declared.Dir.the-variants.{Out, In}
 use Rattle.regs.specs.declared.Token.{Token}
 use Rattle.regs.specs.declared.Token.the-variants as tok
 use Rattle.regs.specs.ControlWord.{nak}
 use Rattle.regs.specs.Flags.{transfer}
 use Rattle.regs.specs.MisStatus.{sieFree}
-use Rattle.regs.specs.Status.{endpoint, token, outToken, inToken, isOut, isIn, isSof, togOk}
+use Rattle.regs.specs.Status.{endpoint, token, outToken, inToken, isOut, isIn, togOk}
 use Rattle.script.specs.declared.Transfer.{Transfer}
-use Rattle.script.specs.Cells.{Plain, ep-cell, globals-cell}
-use Rattle.script.specs.Script.{Script, bind, ret, run}
+use Rattle.script.specs.Cells.{Plain, ep-cell}
+use Rattle.script.specs.Script.{bind, ret, run}
 use Rattle.script.specs.Statics.{isOn}
-use Rattle.script.specs.Handler.{looks, nakNonIso, outNaks, inNaks, retake, retaken, settle, waitsForIso, waitsForBulk, lateTaken, waited, isoFor, ownIn, framed, released}
+use Rattle.script.specs.Handler.{looks, nakNonIso, outNaks, inNaks, retake, retaken, settle, waitsForIso, waitsForBulk}
 use Rattle.ops.specs.Rings.{St}
 use Rattle.ops.specs.Conc.{conc}
-use Rattle.proof_usb20.specs.Log.{Log, Phase, off, shows, again, writes, saw, withRx, withTx, withPhase}
+use Rattle.proof_usb20.specs.Log.{Log, shows, again, writes, saw, withRx, withTx, withPhase}
 use Rattle.proof_usb20.specs.Watch.{at-end, at-ask, watch-bind, watch-more, watch-cond}
 use Rattle.proof_usb20.specs.Ep0.{Watch, View, view, Keeps}
 use Rattle.proof_usb20.specs.Exempt.{differ}
 use Rattle.proof_usb20.specs.Fitting.{both, negated}
 use Rattle.proof_usb20.specs.Quiet.{Plainly, plainly, Any, other-word}
-use Rattle.proof_usb20.specs.Interrupt.{Runs, made, then, back, back-to, Exactly, naked}
+use Rattle.proof_usb20.specs.Interrupt.{back, Exactly, naked}
 
 -- ---- NAK before the release
 
-out-naks : (st : ℕ) (o : Plain) (t : Token) → token st ≡ t → eqb (endpoint st) 0 ≡ true → outNaks st o ≡ (outToken t && togOk st)
+out-naks : (st : ℕ) (o : Plain) (t : Token) → token st ≡ t → eqb (endpoint st) 0 ≡ true
+    → outNaks st o ≡ (outToken t && togOk st)
 unfolding outNaks isOut
 out-naks st o t e h = rw (e, h) refl
 
@@ -57,7 +53,8 @@ module _ (w : Log) (b : Bool) (shown : ℕ) (s : St) (k : Plainly s) where
   abbrev L : Log → Log
   L y = withPhase (shows b shown) y
 
-  pub nak-other : (st : ℕ) → eqb (endpoint st) 0 ≡ false → Watch Keeps Any (Exactly (L w) (view (s .0))) (L w) (run conc (nakNonIso {i = true} st) s)
+  pub nak-other : (st : ℕ) → eqb (endpoint st) 0 ≡ false
+      → Watch Keeps Any (Exactly (L w) (view (s .0))) (L w) (run conc (nakNonIso {i = true} st) s)
   nak-other st h =
       watch-cond (outNaks st (conc .get (ep-cell Out (endpoint st)) s))
       (λ _. at-ask tt (λ v t _ i. at-ask tt (λ _ u _ j. at-end (other-word Out (endpoint st) (nak v) h (L w), j .0 ∙ i .0, plainly (j .1)))))
@@ -69,7 +66,8 @@ module _ (w : Log) (b : Bool) (shown : ℕ) (s : St) (k : Plainly s) where
   not-iso st h = ap (λ (e : ℕ). isOn (conc .get (ep-cell In e) s .iso)) (eqb-true (endpoint st) 0 h) ∙ k .plain In
 
   -- EP0's
-  pub nak-own : (st : ℕ) → eqb (endpoint st) 0 ≡ true → (t : Token) → token st ≡ t → (ok : Bool) → togOk st ≡ ok → Watch Keeps Any (Exactly (L (naked t false ok w)) (view (s .0))) (L w) (run conc (nakNonIso {i = true} st) s)
+  pub nak-own : (st : ℕ) → eqb (endpoint st) 0 ≡ true → (t : Token) → token st ≡ t → (ok : Bool) → togOk st ≡ ok
+      → Watch Keeps Any (Exactly (L (naked t false ok w)) (view (s .0))) (L w) (run conc (nakNonIso {i = true} st) s)
   nak-own st h tok.Out e true o =
       watch-cond (outNaks st (conc .get (ep-cell Out (endpoint st)) s))
       (λ _. at-ask {q = Read EpRxCtrl (endpoint st)} tt (λ v t c i. at-ask tt (λ _ u _ j. at-end (own-rx (endpoint st) (nak v) h (L w) ∙ ap (λ n. L (withRx (nak n) w)) (c .0 h), j .0 ∙ i .0, plainly (j .1)))))
@@ -86,14 +84,16 @@ module _ (w : Log) (b : Bool) (shown : ℕ) (s : St) (k : Plainly s) where
       (λ q. differ (sym q ∙ in-naks st (conc .get (ep-cell In (endpoint st)) s) tok.In e (not-iso st h))))
   nak-own st h tok.Sof e ok o = neither tok.Sof e refl refl
     where
-      neither : (t : Token) → token st ≡ t → outToken t ≡ false → inToken t ≡ false → Watch Keeps Any (Exactly (L w) (view (s .0))) (L w) (run conc (nakNonIso {i = true} st) s)
+      neither : (t : Token) → token st ≡ t → outToken t ≡ false → inToken t ≡ false
+          → Watch Keeps Any (Exactly (L w) (view (s .0))) (L w) (run conc (nakNonIso {i = true} st) s)
       neither t e a c =
           watch-cond (outNaks st (conc .get (ep-cell Out (endpoint st)) s))
           (λ q. differ (sym (out-naks st (conc .get (ep-cell Out (endpoint st)) s) t e h ∙ ap (λ (z : Bool). z && togOk st) a) ∙ q))
           (λ _. watch-cond (inNaks st (conc .get (ep-cell In (endpoint st)) s)) (λ q. differ (sym (in-naks st (conc .get (ep-cell In (endpoint st)) s) t e (not-iso st h) ∙ c) ∙ q)) (λ _. at-end (refl, refl, k)))
   nak-own st h tok.Setup e ok o = neither tok.Setup e refl refl
     where
-      neither : (t : Token) → token st ≡ t → outToken t ≡ false → inToken t ≡ false → Watch Keeps Any (Exactly (L w) (view (s .0))) (L w) (run conc (nakNonIso {i = true} st) s)
+      neither : (t : Token) → token st ≡ t → outToken t ≡ false → inToken t ≡ false
+          → Watch Keeps Any (Exactly (L w) (view (s .0))) (L w) (run conc (nakNonIso {i = true} st) s)
       neither t e a c =
           watch-cond (outNaks st (conc .get (ep-cell Out (endpoint st)) s))
           (λ q. differ (sym (out-naks st (conc .get (ep-cell Out (endpoint st)) s) t e h ∙ ap (λ (z : Bool). z && togOk st) a) ∙ q))
@@ -103,8 +103,11 @@ module _ (w : Log) (b : Bool) (shown : ℕ) (s : St) (k : Plainly s) where
 
 -- what is shown then: another endpoint's, or EP0's, whose word is on NAK where a transaction is complete
 pub data Settled (w : Log) (v : View) (l : Log) (x : Transfer) (t : St) : Type 0 where
-  others : eqb (endpoint (x .st)) 0 ≡ false → (b : Bool) → l ≡ withPhase (shows b (x .st)) w → view (t .0) ≡ v → Plainly t → Settled w v l x t
-  mine : eqb (endpoint (x .st)) 0 ≡ true → l ≡ withPhase (shows (x .busy) (x .st)) (naked (token (x .st)) (x .busy) (togOk (x .st)) w) → view (t .0) ≡ v → Plainly t → Settled w v l x t
+  others : eqb (endpoint (x .st)) 0 ≡ false → (b : Bool) → l ≡ withPhase (shows b (x .st)) w → view (t .0) ≡ v
+      → Plainly t → Settled w v l x t
+  mine : eqb (endpoint (x .st)) 0 ≡ true
+      → l ≡ withPhase (shows (x .busy) (x .st)) (naked (token (x .st)) (x .busy) (togOk (x .st)) w) → view (t .0) ≡ v
+      → Plainly t → Settled w v l x t
 
 pub naked-busy : (t : Token) (ok : Bool) (w : Log) → naked t true ok w ≡ w
 naked-busy tok.Out ok w = refl
@@ -112,36 +115,43 @@ naked-busy tok.In ok w = refl
 naked-busy tok.Sof ok w = refl
 naked-busy tok.Setup ok w = refl
 
-looked : (w : Log) (b : Bool) (st n : ℕ) (s : St) → Plainly s → Watch Keeps Any (Exactly (withPhase (shows b st) w) (view (s .0))) (withPhase (shows b st) w) (run conc (looks {i = true} n) s)
+looked : (w : Log) (b : Bool) (st n : ℕ) (s : St) → Plainly s
+    → Watch Keeps Any (Exactly (withPhase (shows b st) w) (view (s .0))) (withPhase (shows b st) w) (run conc (looks {i = true} n) s)
 unfolding looks
 looked w b st zero s k = at-end (refl, refl, k)
 looked w b st (suc n) s k = at-ask tt (λ v t _ i. watch-cond (sieFree v) (λ _. at-end (refl, i .0, plainly (i .1))) (λ _. watch-more (looked w b st n t (plainly (i .1))) (λ _ _ _ m. (m .0, m .1 ∙ i .0, m .2))))
 
 -- it is busy still, as it was
-stays : (w : Log) (s t : St) (x : Transfer) → x .busy ≡ true → view (t .0) ≡ view (s .0) → Plainly t → Settled w (view (s .0)) (withPhase (shows true (x .st)) w) x t
+stays : (w : Log) (s t : St) (x : Transfer) → x .busy ≡ true → view (t .0) ≡ view (s .0) → Plainly t
+    → Settled w (view (s .0)) (withPhase (shows true (x .st)) w) x t
 stays w s t x b e k = by (eqb (endpoint (x .st)) 0) refl
   where
     by : (z : Bool) → eqb (endpoint (x .st)) 0 ≡ z → Settled w (view (s .0)) (withPhase (shows true (x .st)) w) x t
     by true h = mine h (rw (b, naked-busy (token (x .st)) (togOk (x .st)) w) refl) e k
     by false h = others h true refl e k
 
-flag-kept : (st f : ℕ) (w : Log) → transfer f ≡ true → saw (withPhase (shows true st) w) (Read IntFg 0) f ≡ withPhase (shows true st) w
+flag-kept : (st f : ℕ) (w : Log) → transfer f ≡ true
+    → saw (withPhase (shows true st) w) (Read IntFg 0) f ≡ withPhase (shows true st) w
 flag-kept st f w q = rw q refl
 
-flag-taken : (st f : ℕ) (w : Log) → transfer f ≡ false → saw (withPhase (shows true st) w) (Read IntFg 0) f ≡ withPhase again w
+flag-taken : (st f : ℕ) (w : Log) → transfer f ≡ false
+    → saw (withPhase (shows true st) w) (Read IntFg 0) f ≡ withPhase again w
 flag-taken st f w q = rw q refl
 
-retakes : (w : Log) (s : St) (x : Transfer) → x .busy ≡ true → Plainly s → Watch Keeps Any (λ l y t. Settled w (view (s .0)) l y t) (withPhase (shows true (x .st)) w) (run conc (retake {i = true} x) s)
+retakes : (w : Log) (s : St) (x : Transfer) → x .busy ≡ true → Plainly s
+    → Watch Keeps Any (λ l y t. Settled w (view (s .0)) l y t) (withPhase (shows true (x .st)) w) (run conc (retake {i = true} x) s)
 retakes w s x b k = at-ask tt (λ m t _ i. watch-cond (sieFree m)
     (λ _. at-ask {q = Read IntFg 0} tt (λ f u _ j. watch-cond (transfer f)
     (λ q. back (flag-kept (x .st) f w q) (at-end (stays w s u x b (j .0 ∙ i .0) (plainly (j .1)))))
     (λ q. back (flag-taken (x .st) f w q) (at-ask {w = withPhase again w} {q = Read IntSt 0} tt (λ st o _ l. named st o (l .0 ∙ (j .0 ∙ i .0)) (plainly (l .1)))))))
     (λ _. at-end (stays w s t x b (i .0) (plainly (i .1)))))
   where
-    named : (st : ℕ) (o : St) → view (o .0) ≡ view (s .0) → Plainly o → Watch Keeps Any (λ l y t. Settled w (view (s .0)) l y t) (withPhase (shows false st) w) (run {i = true} conc (bind (nakNonIso st) (λ _. ret (retaken x st))) o)
+    named : (st : ℕ) (o : St) → view (o .0) ≡ view (s .0) → Plainly o
+        → Watch Keeps Any (λ l y t. Settled w (view (s .0)) l y t) (withPhase (shows false st) w) (run {i = true} conc (bind (nakNonIso st) (λ _. ret (retaken x st))) o)
     named st o e n = by (eqb (endpoint st) 0) refl
       where
-        by : (z : Bool) → eqb (endpoint st) 0 ≡ z → Watch Keeps Any (λ l y t. Settled w (view (s .0)) l y t) (withPhase (shows false st) w) (run {i = true} conc (bind (nakNonIso st) (λ _. ret (retaken x st))) o)
+        by : (z : Bool) → eqb (endpoint st) 0 ≡ z
+            → Watch Keeps Any (λ l y t. Settled w (view (s .0)) l y t) (withPhase (shows false st) w) (run {i = true} conc (bind (nakNonIso st) (λ _. ret (retaken x st))) o)
         by true h = watch-bind (nak-own w false st o n st h (token st) refl (togOk st) refl) (λ y _ u m. at-end (mine h (m .0) (m .1 ∙ e) (m .2)))
         by false h = watch-bind (nak-other w false st o n st h) (λ y _ u m. at-end (others h false (m .0) (m .1 ∙ e) (m .2)))
 
@@ -151,7 +161,8 @@ iso-waits : (x : Transfer) (o : Plain) → waitsForIso x o ≡ true → (x .busy
 unfolding waitsForIso
 iso-waits x o h = let a = both (x .busy) (isOut (x .st) && isOn (o .iso)) h in (a .0, both (isOut (x .st)) (isOn (o .iso)) (a .1) .1)
 
-bulk-waits : (x : Transfer) (n : Plain) → waitsForBulk x n ≡ true → (x .busy ≡ true) × (eqb (endpoint (x .st)) 0 ≡ false)
+bulk-waits : (x : Transfer) (n : Plain) → waitsForBulk x n ≡ true
+    → (x .busy ≡ true) × (eqb (endpoint (x .st)) 0 ≡ false)
 unfolding waitsForBulk
 bulk-waits x n h = let a = both (x .busy) (not (eqb (endpoint (x .st)) 0) && (isOut (x .st) || (isIn (x .st) && not (isOn (n .iso))))) h in (a .0, negated (eqb (endpoint (x .st)) 0) (both (not (eqb (endpoint (x .st)) 0)) (isOut (x .st) || (isIn (x .st) && not (isOn (n .iso)))) (a .1) .0))
 
@@ -159,7 +170,8 @@ bulk-waits x n h = let a = both (x .busy) (not (eqb (endpoint (x .st)) 0) && (is
 abbrev pub entry : Log → Transfer → Log
 entry w x = withPhase (shows (x .busy) (x .st)) (cond (eqb (endpoint (x .st)) 0) (naked (token (x .st)) (x .busy) (togOk (x .st)) w) w)
 
-pub settles : (w : Log) (s : St) (x : Transfer) → Plainly s → Watch Keeps Any (λ l y t. Settled w (view (s .0)) l y t) (entry w x) (run conc (settle {i = true} x) s)
+pub settles : (w : Log) (s : St) (x : Transfer) → Plainly s
+    → Watch Keeps Any (λ l y t. Settled w (view (s .0)) l y t) (entry w x) (run conc (settle {i = true} x) s)
 settles w s x k = by (eqb (endpoint (x .st)) 0) refl (x .busy) refl
   where
     O : Plain
@@ -171,7 +183,8 @@ settles w s x k = by (eqb (endpoint (x .st)) 0) refl (x .busy) refl
     plain-out : eqb (endpoint (x .st)) 0 ≡ true → isOn (O .iso) ≡ false
     plain-out h = ap (λ (e : ℕ). isOn (conc .get (ep-cell Out e) s .iso)) (eqb-true (endpoint (x .st)) 0 h) ∙ k .plain Out
 
-    by : (m : Bool) → eqb (endpoint (x .st)) 0 ≡ m → (b : Bool) → x .busy ≡ b → Watch Keeps Any (λ l y t. Settled w (view (s .0)) l y t) (entry w x) (run conc (settle {i = true} x) s)
+    by : (m : Bool) → eqb (endpoint (x .st)) 0 ≡ m → (b : Bool) → x .busy ≡ b
+        → Watch Keeps Any (λ l y t. Settled w (view (s .0)) l y t) (entry w x) (run conc (settle {i = true} x) s)
     -- EP0, complete
     by true h false b =
         watch-cond (waitsForIso x O) (λ q. differ (sym b ∙ iso-waits x O q .0)) (λ _. watch-cond (waitsForBulk x N) (λ q. differ (sym b ∙ bulk-waits x N q .0))

@@ -1,9 +1,8 @@
 -- What the driver's state says of endpoint 0, and when that fits the log
-use mathlib.Core.Bool.{Bool, true, false, not, cond}
-use mathlib.Core.Logic.{_⊎_, inl, inr}
-use mathlib.Core.Path.{_≡_, refl, ap, sym, _∙_}
+use mathlib.Core.Bool.{Bool, true, false}
+use mathlib.Core.Logic.{_⊎_}
+use mathlib.Core.Path.{_≡_}
 use Prim.Native.Nat.{ℕ}
-use Rattle.regs.specs.declared.Dir.{Dir}
 use Rattle.regs.specs.declared.Dir.the-variants.{Out, In}
 use Rattle.regs.specs.ControlWord.{toggle}
 use Rattle.state.specs.declared.Control.{Control}
@@ -19,7 +18,7 @@ use Rattle.script.specs.TogglesLaws.{number}
 use Rattle.ops.specs.Rings.{St}
 use Rattle.ops.specs.Conc.{conc}
 use Rattle.book.specs.Sorting.{Sorting}
-use Rattle.proof_usb20.specs.Pipe.{Half, Pipe, Answers, dataReady, isReady, Awaited, nothing, taken, given, confirmed}
+use Rattle.proof_usb20.specs.Pipe.{Half, Pipe, dataReady, isReady, Awaited, nothing, taken, given, confirmed}
 use Rattle.proof_usb20.specs.Log.{Log, Shows, saw, Brings, opens, closes, Fair, Allowed}
 use Rattle.proof_usb20.specs.Watch.{Along}
 
@@ -50,13 +49,17 @@ pub record Fits (v : ℕ) (h : Half) (r : Rec) : Type 0 where
 
 -- no stage is under way that a poll could end
 pub data Rests (p : Pipe) (x : View) : Type 0 where
-  no-request : (x .control .sort ≡ DATA-OUT → ⊥) → (x .control .sort ≡ DATA-IN → ⊥) → (x .control .sort ≡ ACCEPT → ⊥) → Rests p x
-  set-up : isOn (x .setup-ready) ≡ true → isOn (x .out .ready) ≡ false → isOn (x .inn .ready) ≡ false → isReady (p .out .answers) ≡ false → isReady (p .inn .answers) ≡ false → Rests p x
+  no-request : (x .control .sort ≡ DATA-OUT → ⊥) → (x .control .sort ≡ DATA-IN → ⊥) → (x .control .sort ≡ ACCEPT → ⊥)
+      → Rests p x
+  set-up : isOn (x .setup-ready) ≡ true → isOn (x .out .ready) ≡ false → isOn (x .inn .ready) ≡ false
+      → isReady (p .out .answers) ≡ false → isReady (p .inn .answers) ≡ false → Rests p x
 
 -- a data_in's wait for its packet, and for the closing OUT
 pub data Gives (last : Bool) (p : Pipe) (x : View) : Type 0 where
-  first-wait : x .control .wait ≡ 1 → isOn (x .inn .ready) ≡ p .inn .through → (last ≡ true → isOn (x .out .ready) ≡ p .out .through) → Gives last p x
-  second-wait : x .control .wait ≡ 2 → last ≡ true → p .inn .through ≡ true → isOn (x .out .ready) ≡ p .out .through → Gives last p x
+  first-wait : x .control .wait ≡ 1 → isOn (x .inn .ready) ≡ p .inn .through
+      → (last ≡ true → isOn (x .out .ready) ≡ p .out .through) → Gives last p x
+  second-wait : x .control .wait ≡ 2 → last ≡ true → p .inn .through ≡ true → isOn (x .out .ready) ≡ p .out .through
+      → Gives last p x
 
 abbrev pub Waits : Awaited → Pipe → View → Type 0
 Waits nothing p x = Rests p x
@@ -79,7 +82,8 @@ R w x = (w .exempt ≡ true) ⊎ Rel (w .rx) (w .tx) (w .len) (w .pipe) (w .awai
 -- ---- the law of a call
 
 -- every way through an outcome, as the log sees it
-abbrev pub Watch : (St → St → Type 0) → (Log → Type 0) → {A : Type 0} → (Log → A → St → Type 0) → Log → tree.Out St A → Type 0
+abbrev pub Watch : (St → St → Type 0) → (Log → Type 0) → {A : Type 0} → (Log → A → St → Type 0) → Log → tree.Out St A
+    → Type 0
 Watch K Ok P w o = Along saw Brings K Ok P w o
 
 -- between two accesses: calls that pass during an interrupt, and stores in the slots

@@ -1,25 +1,18 @@
 -- Log and state fit after each event of the bus: of the words, the pipe and the records alone
-use mathlib.Core.Bool.{Bool, true, false, not, cond, _&&_, _||_}
-use mathlib.Core.Logic.{_⊎_, inl, inr}
-use mathlib.Core.Path.{_≡_, refl, ap, subst, sym, _∙_}
-use Prim.Native.Nat.{ℕ, zero, suc, _+_, _-_, _*_, _/_, _%_}
+use mathlib.Core.Bool.{Bool, true, false, cond}
+use mathlib.Core.Path.{_≡_, refl, sym, _∙_}
+use Prim.Native.Nat.{ℕ, _-_}
 use native.Mathlib.Omega.{arith}
-use lib.Dec.{eqb}
-use Rattle.bits.specs.Bit.{pick}
-use Rattle.regs.specs.declared.Dir.{Dir}
 use Rattle.regs.specs.declared.Dir.the-variants.{Out, In}
 use Rattle.regs.specs.ControlWord as word
-use Rattle.regs.specs.ControlWord.{response, toggle, withResponse, withToggle, wordOf, nak, flip, nakflip}
+use Rattle.regs.specs.ControlWord.{response, toggle, withToggle, nak, flip, nakflip}
 use Rattle.script.specs.Statics.{isOn}
-use Rattle.script.specs.TogglesLaws.{number}
 use Rattle.script.specs.ControlLaws.{nak-keeps, flips}
-use Rattle.script.specs.Usb20Toggles.{Pid, other}
-use Rattle.proof_usb20.specs.Pipe.{Stage, data-stage, status-stage, Answers, naks, stalls, acks, Half, gone, renewed, isReady, dataReady, Pipe, with, Event, setup, packet, token, possible, after, Awaited, nothing, taken, given, confirmed}
-use Rattle.proof_usb20.specs.Log.{Log, happens, Shows}
-use Rattle.proof_usb20.specs.Ep0.{Rec, View, Fits, Rests, no-request, set-up, Gives, first-wait, second-wait, Waits, Rel, R}
-use Rattle.proof_usb20.specs.Views.{setOut, setIn, setControl, setReady}
+use Rattle.proof_usb20.specs.Pipe.{data-stage, status-stage, Answers, naks, stalls, acks, Half, gone, renewed, isReady, dataReady, Pipe, with, setup, packet, token, after, Awaited, nothing, taken, given, confirmed}
+use Rattle.proof_usb20.specs.Ep0.{Rec, View, Fits, Rests, no-request, set-up, Gives, first-wait, second-wait, Waits, Rel}
+use Rattle.proof_usb20.specs.Views.{setOut, setIn, setReady}
 use Rattle.proof_usb20.specs.Exempt.{differ}
-use Rattle.proof_usb20.specs.Fitting.{on, off, nak-naks, negated}
+use Rattle.proof_usb20.specs.Fitting.{on, off, nak-naks}
 
 abbrev pub completed : Rec
 completed = record { ready = 1; armed = 0 }
@@ -48,26 +41,31 @@ ready-data (acks status-stage) h = refl
 
 -- ---- a packet OUT
 
-rests-out : (p : Pipe) (x : View) → isReady (p .out .answers) ≡ true → Rests p x → Rests (after (packet Out) p) (setOut completed x)
+rests-out : (p : Pipe) (x : View) → isReady (p .out .answers) ≡ true → Rests p x
+    → Rests (after (packet Out) p) (setOut completed x)
 rests-out p x h (no-request a b c) = no-request a b c
 rests-out p x h (set-up e f g i j) = differ (sym i ∙ h)
 
-gives-out : (last : Bool) (p : Pipe) (x : View) → Gives last p x → Gives last (after (packet Out) p) (setOut completed x)
+gives-out : (last : Bool) (p : Pipe) (x : View) → Gives last p x
+    → Gives last (after (packet Out) p) (setOut completed x)
 gives-out last p x (first-wait n i o) = first-wait n i (λ _. on)
 gives-out last p x (second-wait n l i o) = second-wait n l i on
 
-waits-out : (a : Awaited) (p : Pipe) (x : View) → isReady (p .out .answers) ≡ true → Waits a p x → Waits a (after (packet Out) p) (setOut completed x)
+waits-out : (a : Awaited) (p : Pipe) (x : View) → isReady (p .out .answers) ≡ true → Waits a p x
+    → Waits a (after (packet Out) p) (setOut completed x)
 waits-out nothing p x h w = rests-out p x h w
 waits-out taken p x h w = (w .0, on)
 waits-out (given last) p x h w = (w .0, w .1, gives-out last p x (w .2))
 waits-out confirmed p x h w = w
 
-pub packet-out : {rx tx l : ℕ} {p : Pipe} {a : Awaited} {u : Bool} {x : View} → isReady (p .out .answers) ≡ true → Rel rx tx l p a u x → Rel (flip (nak rx)) tx l (after (packet Out) p) a u (setOut completed x)
+pub packet-out : {rx tx l : ℕ} {p : Pipe} {a : Awaited} {u : Bool} {x : View} → isReady (p .out .answers) ≡ true
+    → Rel rx tx l p a u x → Rel (flip (nak rx)) tx l (after (packet Out) p) a u (setOut completed x)
 packet-out {rx = rx} {p = p} {a = a} {x = x} h r = record { stage = r .stage; out = went rx (p .out) (x .out) (r .out); inn = r .inn; waits = waits-out a p x h (r .waits); size = r .size; setup = r .setup }
 
 -- ---- a packet IN
 
-rests-in : (p : Pipe) (x : View) → isReady (p .inn .answers) ≡ true → Rests p x → Rests (after (packet In) p) (setIn completed x)
+rests-in : (p : Pipe) (x : View) → isReady (p .inn .answers) ≡ true → Rests p x
+    → Rests (after (packet In) p) (setIn completed x)
 rests-in p x h (no-request a b c) = no-request a b c
 rests-in p x h (set-up e f g i j) = differ (sym j ∙ h)
 
@@ -75,13 +73,15 @@ gives-in : (last : Bool) (p : Pipe) (x : View) → Gives last p x → Gives last
 gives-in last p x (first-wait n i o) = first-wait n on o
 gives-in last p x (second-wait n l i o) = second-wait n l refl o
 
-waits-in : (a : Awaited) (p : Pipe) (x : View) → isReady (p .inn .answers) ≡ true → Waits a p x → Waits a (after (packet In) p) (setIn completed x)
+waits-in : (a : Awaited) (p : Pipe) (x : View) → isReady (p .inn .answers) ≡ true → Waits a p x
+    → Waits a (after (packet In) p) (setIn completed x)
 waits-in nothing p x h w = rests-in p x h w
 waits-in taken p x h w = w
 waits-in (given last) p x h w = (w .0, w .1, gives-in last p x (w .2))
 waits-in confirmed p x h w = (w .0, on)
 
-pub packet-in : {rx tx l : ℕ} {p : Pipe} {a : Awaited} {u : Bool} {x : View} → isReady (p .inn .answers) ≡ true → Rel rx tx l p a u x → Rel rx (flip (nak tx)) l (after (packet In) p) a u (setIn completed x)
+pub packet-in : {rx tx l : ℕ} {p : Pipe} {a : Awaited} {u : Bool} {x : View} → isReady (p .inn .answers) ≡ true
+    → Rel rx tx l p a u x → Rel rx (flip (nak tx)) l (after (packet In) p) a u (setIn completed x)
 packet-in {tx = tx} {p = p} {a = a} {x = x} h r = record { stage = r .stage; out = r .out; inn = went tx (p .inn) (x .inn) (r .inn); waits = waits-in a p x h (r .waits); size = λ z. differ z; setup = r .setup }
 
 -- ---- the token OUT: the last packet IN went through, if it was ready still
@@ -92,17 +92,20 @@ data-is-ready stalls h = h
 data-is-ready (acks data-stage) h = refl
 data-is-ready (acks status-stage) h = refl
 
-pub token-out : {rx tx l : ℕ} {p : Pipe} {a : Awaited} {u : Bool} {x : View} (m : Bool) → isOn (x .inn .armed) ≡ m → Rel rx tx l p a u x → Rel rx (cond m (nakflip tx) tx) l (after (token Out) p) a u (cond m (setIn completed x) x)
+pub token-out : {rx tx l : ℕ} {p : Pipe} {a : Awaited} {u : Bool} {x : View} (m : Bool) → isOn (x .inn .armed) ≡ m
+    → Rel rx tx l p a u x → Rel rx (cond m (nakflip tx) tx) l (after (token Out) p) a u (cond m (setIn completed x) x)
 token-out {rx = rx} {tx = tx} {l = l} {p = p} {a = a} {u = u} {x = x} m e r = by m (dataReady (p .inn .answers)) refl e
   where
-    by : (m d : Bool) → dataReady (p .inn .answers) ≡ d → isOn (x .inn .armed) ≡ m → Rel rx (cond m (nakflip tx) tx) l (with In (cond d (gone (p .inn)) (p .inn)) p) a u (cond m (setIn completed x) x)
+    by : (m d : Bool) → dataReady (p .inn .answers) ≡ d → isOn (x .inn .armed) ≡ m
+        → Rel rx (cond m (nakflip tx) tx) l (with In (cond d (gone (p .inn)) (p .inn)) p) a u (cond m (setIn completed x) x)
     by true true h e = let q = packet-in (data-is-ready (p .inn .answers) h) r in record { stage = r .stage; out = r .out; inn = went-hidden tx (p .inn) (x .inn) (r .inn); waits = q .waits; size = λ z. differ z; setup = r .setup }
     by false false h e = r
     by true false h e = differ (sym h ∙ (sym (r .inn .armed) ∙ e))
     by false true h e = differ (sym e ∙ (r .inn .armed ∙ h))
 
 -- the token IN, where no packet OUT is ready
-pub no-packet-out : {rx tx l : ℕ} {p : Pipe} {a : Awaited} {u : Bool} {x : View} → Rel rx tx l p a u x → dataReady (p .out .answers) ≡ false → isOn (x .out .armed) ≡ false
+pub no-packet-out : {rx tx l : ℕ} {p : Pipe} {a : Awaited} {u : Bool} {x : View} → Rel rx tx l p a u x
+    → dataReady (p .out .answers) ≡ false → isOn (x .out .armed) ≡ false
 no-packet-out r h = r .out .armed ∙ h
 
 -- ---- a setup packet
@@ -113,5 +116,6 @@ aborted = record { ready = 0; armed = 0 }
 fresh : (v : ℕ) → response v ≡ word.NAK → Fits v renewed aborted
 fresh v h = record { shows = h; toggles = λ b. differ b; armed = off }
 
-pub set-up-fits : (rx tx l : ℕ) (p : Pipe) (x : View) → x .stage ≡ 2 → response rx ≡ word.NAK → response tx ≡ word.NAK → Rel rx tx l (after setup p) nothing true (setReady 1 (setIn aborted (setOut aborted x)))
+pub set-up-fits : (rx tx l : ℕ) (p : Pipe) (x : View) → x .stage ≡ 2 → response rx ≡ word.NAK → response tx ≡ word.NAK
+    → Rel rx tx l (after setup p) nothing true (setReady 1 (setIn aborted (setOut aborted x)))
 set-up-fits rx tx l p x s h k = record { stage = s; out = fresh rx h; inn = fresh tx k; waits = set-up on off off refl refl; size = λ z. differ z; setup = on }

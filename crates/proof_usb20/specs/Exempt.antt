@@ -1,7 +1,7 @@
 -- Where the log is exempt it stays so until a setup packet, and then nothing is to be shown
 use mathlib.Core.Bool.{Bool, true, false, not, cond, _&&_, _||_}
-use mathlib.Core.Logic.{_⊎_, inl, inr}
-use mathlib.Core.Path.{_≡_, refl, ap, subst, sym, _∙_}
+use mathlib.Core.Logic.{inl}
+use mathlib.Core.Path.{_≡_, refl, subst, sym, _∙_}
 use Prim.Native.Nat.{ℕ}
 use lib.Dec.{eqb}
 use Rattle.regs.specs.declared.Access.{Access}
@@ -11,11 +11,9 @@ use Rattle.regs.specs.declared.Reg.the-variants.{IntFg, IntSt, MisSt, FrameNo, 
 use Rattle.regs.specs.declared.Dir.the-variants.{Out, In}
 use Rattle.regs.specs.declared.Token as tokens
 use Rattle.regs.specs.declared.Token.the-variants as tok
-use Rattle.regs.specs.Flags.{transfer, setupAct}
+use Rattle.regs.specs.Flags.{transfer}
 use Rattle.regs.specs.Status as status
 use Rattle.regs.specs.Status.{endpoint, togOk}
-use Rattle.regs.specs.MisStatus.{sieFree}
-use Rattle.script.specs.Tree as tree
 use Rattle.script.specs.Script.{run}
 use Rattle.script.specs.Answers.{Answer, Refused, End, NotYet, Done, Shown}
 use Rattle.script.specs.Calls.{Op, interrupt, slotted, other, aside, Slotted, SetEnabled, PollRead, BeginWrite, PollWrite, PollDataOut, BeginDataIn, Other, Allocate, AllocateAll, Start, BusPoll, BusEnable, BusDisable, Microframe, SetStalled, IsStalled, SetPaced, Advance, BeginRead, BeginSetup, PollSetup, PollDataIn, BeginAccept, PollAccept, BeginReject, BeginDataOut, BeginAcceptSetAddress, code}
@@ -23,9 +21,9 @@ use Rattle.script.specs.Every.{sameReg}
 use Rattle.ops.specs.Rings.{St}
 use Rattle.ops.specs.Conc.{conc}
 use Rattle.proof_usb20.specs.Pipe.{Event, packet, token}
-use Rattle.proof_usb20.specs.Log.{Phase, off, entered, flagged, again, timed, shows, Log, withRx, withTx, withPhase, withFlags, happens, ofToken, seen, reads, writes, saw, Brings, opens, endsOther, endsSlotted, ends, Poll, none, pollSetup, pollOut, pollIn, pollStatus, pollOf, settled, done, closes, Unfinished, Completes, GivesSetup, FairPoll, Fair, AllowedTo, Allowed}
+use Rattle.proof_usb20.specs.Log.{Phase, off, entered, flagged, again, timed, shows, Log, withPhase, happens, ofToken, seen, reads, saw, opens, endsOther, endsSlotted, ends, Poll, none, pollSetup, pollOut, pollIn, pollStatus, pollOf, settled, done, closes, Unfinished, Completes, GivesSetup, FairPoll, AllowedTo, Allowed}
 use Rattle.proof_usb20.specs.Watch.{watch-any}
-use Rattle.proof_usb20.specs.Ep0.{Watch, View, view, R, Keeps, Ends, Law}
+use Rattle.proof_usb20.specs.Ep0.{Watch, Keeps, Ends}
 
 pub differ : {A : Type 0} → false ≡ true → A
 differ h = absurd (subst (λ (b : Bool). cond b ⊥ (Unit {0})) h tt)
@@ -178,5 +176,6 @@ opens-exempt (other o) w h = h
 opens-exempt (aside o) w h = h
 
 -- a task's call, whatever it does
-pub exempt-law : (o : Op) → Task o → (w : Log) (s : St) → w .exempt ≡ true → Watch Keeps (Allowed o) (Ends o) (opens o w) (run conc (code o) s)
+pub exempt-law : (o : Op) → Task o → (w : Log) (s : St) → w .exempt ≡ true
+    → Watch Keeps (Allowed o) (Ends o) (opens o w) (run conc (code o) s)
 exempt-law o t w s h = watch-any (λ x. x .exempt ≡ true) (λ x g. allowed-exempt (pollOf o) x g) (λ x q v g. saw-exempt x q v (it g) .is) (λ x a u g. (inl (closes-exempt o t a x g), fair-exempt (pollOf o) a x g)) (opens o w) (opens-exempt o w h) (run conc (code o) s)

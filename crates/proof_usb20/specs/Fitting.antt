@@ -1,23 +1,21 @@
 -- Log and state fit after each choice of the function and each poll: of the words, the pipe and the records alone
 use mathlib.Core.Bool.{Bool, true, false, not, cond, _&&_, _||_}
 use mathlib.Core.Logic.{_⊎_, inl, inr}
-use mathlib.Core.Path.{_≡_, refl, ap, subst, sym, _∙_}
-use Prim.Native.Nat.{ℕ, zero, suc, _+_, _-_, _*_, _/_, _%_}
+use mathlib.Core.Path.{_≡_, refl, _∙_}
+use Prim.Native.Nat.{ℕ, _-_}
 use native.Mathlib.Omega.{arith}
-use lib.Dec.{eqb}
 use Rattle.regs.specs.ControlWord as word
-use Rattle.regs.specs.ControlWord.{response, toggle, withResponse, withToggle, wordOf, ack, nak, stall, flip, nakflip, status}
+use Rattle.regs.specs.ControlWord.{response, toggle, withResponse, withToggle, wordOf, nak, stall, status}
 use Rattle.state.specs.declared.Control.{Control}
 use Rattle.script.specs.Statics.{isOn, flag}
-use Rattle.script.specs.Control.{SETUP, DATA-OUT, DATA-IN, ACCEPT, requestOf, no-control, dataInOf, addressOf}
-use Rattle.script.specs.TogglesLaws.{number}
+use Rattle.script.specs.Control.{DATA-OUT, ACCEPT, requestOf, no-control, dataInOf}
 use Rattle.script.specs.ToggledLaws.{ack-keeps, ack-acks}
-use Rattle.script.specs.ControlLaws.{toggle-with, nak-keeps, flips}
-use Rattle.script.specs.Usb20Toggles.{Pid, DATA0, DATA1, other}
-use Rattle.proof_usb20.specs.Pipe.{Stage, data-stage, status-stage, Answers, naks, stalls, acks, Half, pidOf, readied, gone, halted, isReady, dataReady, Pipe, Choice, takes, gives, confirms, rejects, chosen, orderly, Awaited, nothing, taken, given, confirmed, over}
-use Rattle.proof_usb20.specs.Log.{Log, withRx, withTx, withLen, withAwaits, choose, Shows}
-use Rattle.proof_usb20.specs.Ep0.{Rec, View, Fits, Rests, no-request, set-up, Gives, first-wait, second-wait, Waits, Rel, R}
-use Rattle.proof_usb20.specs.Views.{setOut, setIn, setControl, setReady}
+use Rattle.script.specs.ControlLaws.{toggle-with}
+use Rattle.script.specs.Usb20Toggles.{DATA1}
+use Rattle.proof_usb20.specs.Pipe.{Stage, data-stage, status-stage, acks, Half, readied, halted, dataReady, Choice, takes, gives, confirms, rejects, chosen, orderly}
+use Rattle.proof_usb20.specs.Log.{Log, withRx, withTx, withLen, choose}
+use Rattle.proof_usb20.specs.Ep0.{Rec, View, Fits, no-request, first-wait, Rel, R}
+use Rattle.proof_usb20.specs.Views.{setOut, setIn, setControl}
 use Rattle.proof_usb20.specs.Exempt.{differ}
 
 -- ---- words
@@ -70,10 +68,13 @@ negated false h = refl
 negated true h = differ h
 
 -- exempt, or a choice in order
-chooses : (c : Choice) (w : Log) (x : View) → (orderly c (w .pipe) ≡ true → Rel (w .rx) (w .tx) (w .len) (chosen c (w .pipe)) (choose c w .awaits) (w .untaken) x) → R (choose c w) x
+chooses : (c : Choice) (w : Log) (x : View)
+    → (orderly c (w .pipe) ≡ true → Rel (w .rx) (w .tx) (w .len) (chosen c (w .pipe)) (choose c w .awaits) (w .untaken) x)
+    → R (choose c w) x
 chooses c w x f = by (w .exempt) (orderly c (w .pipe)) refl
   where
-    by : (e o : Bool) → orderly c (w .pipe) ≡ o → (e || not o ≡ true) ⊎ Rel (w .rx) (w .tx) (w .len) (chosen c (w .pipe)) (choose c w .awaits) (w .untaken) x
+    by : (e o : Bool) → orderly c (w .pipe) ≡ o
+        → (e || not o ≡ true) ⊎ Rel (w .rx) (w .tx) (w .len) (chosen c (w .pipe)) (choose c w .awaits) (w .untaken) x
     by true o h = inl refl
     by false false h = inl refl
     by false true h = inr (f h)
@@ -81,12 +82,15 @@ chooses c w x f = by (w .exempt) (orderly c (w .pipe)) refl
 -- ---- choices
 
 -- a half that is made ready
-made-ready : (s : Stage) (first : Bool) (v old : ℕ) (h : Half) (r r′ : Rec) → Fits old h r → response v ≡ word.ACK → toggle v ≡ cond first 1 (toggle old) → first || h .begun ≡ true
+made-ready : (s : Stage) (first : Bool) (v old : ℕ) (h : Half) (r r′ : Rec) → Fits old h r → response v ≡ word.ACK
+    → toggle v ≡ cond first 1 (toggle old) → first || h .begun ≡ true
     → isOn (r′ .armed) ≡ dataReady (acks s) → Fits v (readied s first h) r′
 made-ready s true v old h r r′ f a t o m = record { shows = (a, t); toggles = λ _. t; armed = m }
 made-ready s false v old h r r′ f a t o m = record { shows = (a, t ∙ f .toggles o); toggles = λ _. t ∙ f .toggles o; armed = m }
 
-pub fits-takes : (first : Bool) (w : Log) (x : View) (v n : ℕ) → Rel (w .rx) (w .tx) (w .len) (w .pipe) (w .awaits) (w .untaken) x → response v ≡ word.ACK → toggle v ≡ cond first 1 (toggle (w .rx))
+pub fits-takes : (first : Bool) (w : Log) (x : View) (v n : ℕ)
+    → Rel (w .rx) (w .tx) (w .len) (w .pipe) (w .awaits) (w .untaken) x → response v ≡ word.ACK
+    → toggle v ≡ cond first 1 (toggle (w .rx))
     → R (choose (takes first) (withRx v w)) (setOut (record { ready = 0; armed = 1 }) (setControl (requestOf DATA-OUT n) x))
 fits-takes first w x v n r a t = chooses (takes first) (withRx v w) _ (λ o. record {
   stage = r .stage;
@@ -102,7 +106,9 @@ last-flag true = on
 last-flag false = off
 
 -- the last packet: the status stage OUT is made ready with it
-pub fits-gives-last : (first : Bool) (w : Log) (x : View) (u v n : ℕ) → Rel (w .rx) (w .tx) (w .len) (w .pipe) (w .awaits) (w .untaken) x → response u ≡ word.ACK → toggle u ≡ 1 → response v ≡ word.ACK → toggle v ≡ cond first 1 (toggle (w .tx))
+pub fits-gives-last : (first : Bool) (w : Log) (x : View) (u v n : ℕ)
+    → Rel (w .rx) (w .tx) (w .len) (w .pipe) (w .awaits) (w .untaken) x → response u ≡ word.ACK → toggle u ≡ 1
+    → response v ≡ word.ACK → toggle v ≡ cond first 1 (toggle (w .tx))
     → R (choose (gives n first true) (withTx v (withLen n (withRx u w)))) (setIn (record { ready = 0; armed = 1 }) (setOut (record { ready = 0; armed = x .out .armed }) (setControl (dataInOf n 1 1) x)))
 fits-gives-last first w x u v n r b i a t = chooses (gives n first true) (withTx v (withLen n (withRx u w))) _ (λ o.
     let z = both (first || w .pipe .inn .begun) (not (true && dataReady (w .pipe .out .answers))) o in
@@ -115,7 +121,9 @@ fits-gives-last first w x u v n r b i a t = chooses (gives n first true) (withTx
       setup = r .setup;
     })
 
-pub fits-gives : (first : Bool) (w : Log) (x : View) (v n : ℕ) → Rel (w .rx) (w .tx) (w .len) (w .pipe) (w .awaits) (w .untaken) x → response v ≡ word.ACK → toggle v ≡ cond first 1 (toggle (w .tx))
+pub fits-gives : (first : Bool) (w : Log) (x : View) (v n : ℕ)
+    → Rel (w .rx) (w .tx) (w .len) (w .pipe) (w .awaits) (w .untaken) x → response v ≡ word.ACK
+    → toggle v ≡ cond first 1 (toggle (w .tx))
     → R (choose (gives n first false) (withTx v (withLen n w))) (setIn (record { ready = 0; armed = 1 }) (setControl (dataInOf n 0 1) x))
 fits-gives first w x v n r a t = chooses (gives n first false) (withTx v (withLen n w)) _ (λ o.
     let z = both (first || w .pipe .inn .begun) (not (false && dataReady (w .pipe .out .answers))) o in
@@ -128,7 +136,8 @@ fits-gives first w x v n r a t = chooses (gives n first false) (withTx v (withLe
       setup = r .setup;
     })
 
-pub fits-confirms : (w : Log) (x : View) (v : ℕ) (c : Control) → c .sort ≡ ACCEPT → Rel (w .rx) (w .tx) (w .len) (w .pipe) (w .awaits) (w .untaken) x → response v ≡ word.ACK → toggle v ≡ 1
+pub fits-confirms : (w : Log) (x : View) (v : ℕ) (c : Control) → c .sort ≡ ACCEPT
+    → Rel (w .rx) (w .tx) (w .len) (w .pipe) (w .awaits) (w .untaken) x → response v ≡ word.ACK → toggle v ≡ 1
     → R (choose confirms (withTx v (withLen 0 w))) (setIn (record { ready = 0; armed = x .inn .armed }) (setControl c x))
 fits-confirms w x v c s r a t = chooses confirms (withTx v (withLen 0 w)) _ (λ o. record {
   stage = r .stage;
@@ -139,10 +148,12 @@ fits-confirms w x v c s r a t = chooses confirms (withTx v (withLen 0 w)) _ (λ 
   setup = r .setup;
 })
 
-halts : (v old : ℕ) (h : Half) (r : Rec) → Fits old h r → response v ≡ word.STALL → toggle v ≡ toggle old → Fits v (halted h) (record { ready = r .ready; armed = 0 })
+halts : (v old : ℕ) (h : Half) (r : Rec) → Fits old h r → response v ≡ word.STALL → toggle v ≡ toggle old
+    → Fits v (halted h) (record { ready = r .ready; armed = 0 })
 halts v old h r f s t = record { shows = s; toggles = λ b. t ∙ f .toggles b; armed = off }
 
-pub fits-rejects : (w : Log) (x : View) (u v : ℕ) → Rel (w .rx) (w .tx) (w .len) (w .pipe) (w .awaits) (w .untaken) x → response u ≡ word.STALL → toggle u ≡ toggle (w .rx) → response v ≡ word.STALL → toggle v ≡ toggle (w .tx)
+pub fits-rejects : (w : Log) (x : View) (u v : ℕ) → Rel (w .rx) (w .tx) (w .len) (w .pipe) (w .awaits) (w .untaken) x
+    → response u ≡ word.STALL → toggle u ≡ toggle (w .rx) → response v ≡ word.STALL → toggle v ≡ toggle (w .tx)
     → R (choose rejects (withRx u (withTx v w))) (setIn (record { ready = x .inn .ready; armed = 0 }) (setOut (record { ready = x .out .ready; armed = 0 }) (setControl no-control x)))
 fits-rejects w x u v r a b c d = chooses rejects (withRx u (withTx v w)) _ (λ o. record {
   stage = r .stage;

@@ -8,7 +8,7 @@ use Rattle.regs.specs.declared.Dir.{Dir}
 use Rattle.state.specs.declared.EpState.{EpState}
 use Rattle.state.specs.Driver.{Driver, epOn}
 use Rattle.script.specs.Tree as tree
-use Rattle.script.specs.Tree.{ends, asks, bindOut}
+use Rattle.script.specs.Tree.{bindOut}
 use Rattle.script.specs.Answers.{Answer}
 use Rattle.script.specs.Calls.{Op, code}
 use Rattle.script.specs.Script.{run}
@@ -20,6 +20,7 @@ use Rattle.ops.specs.Conc.{conc}
 use Rattle.book.specs.Sorting.{Sorting}
 use Rattle.script.specs.Machine.{ended}
 use Rattle.wake_ups.specs.Rooms.{Few}
+use Rattle.proof_usb20.specs.Watch.{Along, watch-bind, watch-more, watch-cond}
 use Rattle.proof_usb20.specs.Sequence.{Track, saw, opens, closes, Fair}
 
 pub record Seen : Type 0 where
@@ -52,26 +53,26 @@ module _ (D : Dir) (E : ℕ) where
   abbrev pub Keeps : St → St → Type 0
   Keeps s t = (view (t .0) ≡ view (s .0)) × Sorting (t .0) × (t .0 .wakes ≡ s .0 .wakes)
 
-  -- `P` at each end, of what the log is then
-  pub data Follow {A : Type 0} (P : Track → A → St → Type 0) : Track → tree.Out St A → Type 0 where
-    at-end : {w : Track} {a : A} {s : St} → P w a s → Follow P w (ends a s)
-    at-ask : {w : Track} {q : Access} {s : St} {k : ℕ → St → tree.Out St A} → ((v : ℕ) (t : St) → Keeps s t → Follow P (saw D E w q v) (k v t)) → Follow P w (asks q s k)
+  -- `P` at each end, of what the log is then: nothing is asked of the chip, and any access is allowed
+  abbrev pub Follow : {A : Type 0} → (Track → A → St → Type 0) → Track → tree.Out St A → Type 0
+  Follow P w o = Along (saw D E) (λ _ _ _. Unit {0}) Keeps (λ _. Unit {0}) P w o
 
-  pub follow-bind : {A B : Type 0} {P : Track → A → St → Type 0} {Q : Track → B → St → Type 0} {w : Track} {o : tree.Out St A} {f : A → St → tree.Out St B}
+  pub follow-bind : {A B : Type 0} {P : Track → A → St → Type 0} {Q : Track → B → St → Type 0} {w : Track}
+      {o : tree.Out St A} {f : A → St → tree.Out St B}
       → Follow P w o → ((x : Track) (a : A) (s : St) → P x a s → Follow Q x (f a s)) → Follow Q w (bindOut o f)
-  follow-bind (at-end x) k = k _ _ _ x
-  follow-bind (at-ask x) k = at-ask (λ v t i. follow-bind (x v t i) k)
+  follow-bind x k = watch-bind x k
 
-  pub follow-more : {A : Type 0} {P Q : Track → A → St → Type 0} {w : Track} {o : tree.Out St A} → Follow P w o → ((x : Track) (a : A) (s : St) → P x a s → Q x a s) → Follow Q w o
-  follow-more (at-end x) f = at-end (f _ _ _ x)
-  follow-more (at-ask x) f = at-ask (λ v t i. follow-more (x v t i) f)
+  pub follow-more : {A : Type 0} {P Q : Track → A → St → Type 0} {w : Track} {o : tree.Out St A}
+      → Follow P w o → ((x : Track) (a : A) (s : St) → P x a s → Q x a s) → Follow Q w o
+  follow-more x f = watch-more x f
 
-  pub follow-cond : {A : Type 0} {P : Track → A → St → Type 0} {w : Track} (b : Bool) {o u : tree.Out St A} → (b ≡ true → Follow P w o) → (b ≡ false → Follow P w u) → Follow P w (cond b o u)
-  follow-cond true x y = x refl
-  follow-cond false x y = y refl
+  pub follow-cond : {A : Type 0} {P : Track → A → St → Type 0} {w : Track} (b : Bool) {o u : tree.Out St A}
+      → (b ≡ true → Follow P w o) → (b ≡ false → Follow P w u) → Follow P w (cond b o u)
+  follow-cond b x y = watch-cond b x y
 
   -- a log that is another's
-  pub follow-at : {A : Type 0} {P : Track → A → St → Type 0} {x y : Track} {o : tree.Out St A} → x ≡ y → Follow P y o → Follow P x o
+  pub follow-at : {A : Type 0} {P : Track → A → St → Type 0} {x y : Track} {o : tree.Out St A} → x ≡ y → Follow P y o
+      → Follow P x o
   follow-at {P = P} {o = o} h f = subst (λ (u : Track). Follow P u o) (sym h) f
 
   abbrev pub Ends : Op → Track → Answer → St → Type 0

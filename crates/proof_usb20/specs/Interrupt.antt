@@ -1,49 +1,42 @@
 -- The interrupt's law: what its readings show of EP0 is done to EP0's words and records, and nothing else is
 use mathlib.Core.Bool.{Bool, true, false, not, cond, _&&_, _||_}
-use mathlib.Core.List.{List, [], _∷_}
+use mathlib.Core.List.{[], _∷_}
 use mathlib.Core.Logic.{_⊎_, inl, inr}
 use mathlib.Core.Path.{_≡_, refl, ap, subst, sym, _∙_}
-use Prim.Native.Nat.{ℕ, zero, suc, _%_}
-use native.Mathlib.Omega.{arith}
+use Prim.Native.Nat.{ℕ}
 use lib.Dec.{eqb}
-use lib.ListN.{length}
-use borrow.Author.Tests.{eqb-true, eq-eqb}
 use Rattle.bits.specs.Walk.{setBits}
-use Rattle.regs.specs.declared.Access.{Access}
-use Rattle.regs.specs.declared.Access.the-variants.{Read, Write}
+use Rattle.regs.specs.declared.Access.the-variants.{Read}
 use Rattle.regs.specs.declared.Reg.{Reg}
-use Rattle.regs.specs.declared.Reg.the-variants.{IntFg, IntSt, MisSt, RxLen, FrameNo, EpRxCtrl, EpTxCtrl}
-use Rattle.regs.specs.declared.Dir.{Dir}
+use Rattle.regs.specs.declared.Reg.the-variants.{EpRxCtrl, EpTxCtrl}
 use Rattle.regs.specs.declared.Dir.the-variants.{Out, In}
 use Rattle.regs.specs.declared.Token.{Token}
 use Rattle.regs.specs.declared.Token.the-variants as tok
-use Rattle.regs.specs.Registers.{ctrlOf}
-use Rattle.regs.specs.ControlWord.{response, toggle, nak, flip, nakflip}
-use Rattle.regs.specs.Status.{endpoint, token, isOut, isIn, isSof, togOk}
+use Rattle.regs.specs.ControlWord.{nak, flip, nakflip}
+use Rattle.regs.specs.Status.{endpoint, token, isSof, togOk}
 use Rattle.script.specs.declared.Transfer.{Transfer}
 use Rattle.script.specs.Tree as tree
-use Rattle.script.specs.Tree.{bindOut}
 use Rattle.script.specs.Cells.{Plain, ep-cell, globals-cell}
-use Rattle.script.specs.Script.{Script, ret, bind, done, test, _>>=_, _>>_, get, when, run, waken}
+use Rattle.script.specs.Script.{Script, bind, test, get, when, run, waken, _>>=_, _>>_}
 use Rattle.script.specs.Statics.{isOn, wake, withReady, withArmed, withLen, modifyEp, modifyReg, isoInEvery}
 use Rattle.script.specs.Statics as statics
 use Rattle.script.specs.IsoIn.{onSof, lateWalk}
 use Rattle.script.specs.IsoOut.{isoOutCheck}
-use Rattle.script.specs.Handler.{nakNonIso, outNaks, inNaks, outArm, inArm, received, sent, dispatch, movedOn, ep0MovedOn, served}
+use Rattle.script.specs.Handler.{sent, dispatch, movedOn, ep0MovedOn}
 use Rattle.state.specs.Wakes.{wakeCode}
 use Rattle.ops.specs.Rings.{St}
 use Rattle.ops.specs.Conc.{conc}
 use Rattle.book.specs.Sorts.{put-steady, act-steady}
 use Rattle.proof_usb20.specs.Pipe as pipe
-use Rattle.proof_usb20.specs.Pipe.{Pipe, isReady, dataReady, packet, Awaited}
-use Rattle.proof_usb20.specs.Log.{Log, off, shows, reads, writes, saw, withRx, withTx, withPhase, happens, ofToken}
+use Rattle.proof_usb20.specs.Pipe.{isReady, dataReady, packet}
+use Rattle.proof_usb20.specs.Log.{Log, off, reads, withRx, withTx, withPhase, happens, ofToken}
 use Rattle.proof_usb20.specs.Watch.{at-end, at-ask, watch-bind, watch-more, watch-cond}
 use Rattle.proof_usb20.specs.Ep0.{Watch, Rec, View, view, Rel, R, Keeps}
 use Rattle.proof_usb20.specs.Exempt.{differ}
 use Rattle.proof_usb20.specs.Views.{setOut, setIn}
 use Rattle.proof_usb20.specs.Same.{act-view}
-use Rattle.proof_usb20.specs.Stages.{outWith, inWith, out-view, in-view, out-whole, in-whole}
-use Rattle.proof_usb20.specs.Quiet.{Plainly, plainly, steadily, Stays, Any, Quiet, q-ret, q-bind, q-test, q-if, q-every}
+use Rattle.proof_usb20.specs.Stages.{outWith, inWith, out-view, in-view, in-whole}
+use Rattle.proof_usb20.specs.Quiet.{Plainly, plainly, steadily, Any, Quiet, q-ret, q-bind, q-if, q-every}
 use Rattle.proof_usb20.specs.Parts.{q-got, q-when, q-sof, q-late, q-check, q-sof-arm, q-dispatch}
 use Rattle.proof_usb20.specs.Events.{completed, packet-out, packet-in, token-out, no-packet-out}
 
@@ -55,13 +48,15 @@ pub r-out : (w : Log) (x : View) (m : Bool) → isOn (x .inn .armed) ≡ m → R
 r-out w x m h (inl e) = inl (rw e refl)
 r-out w x m h (inr r) = by (w .exempt) (isReady (w .pipe .out .answers)) refl
   where
-    by : (e b : Bool) → isReady (w .pipe .out .answers) ≡ b → ((e || not b) || false ≡ true) ⊎ Rel (flip (nak (w .rx))) (cond m (nakflip (w .tx)) (w .tx)) (w .len) (pipe.after (pipe.token Out) (pipe.after (packet Out) (w .pipe))) (w .awaits) (w .untaken) (cond m (setIn completed (setOut completed x)) (setOut completed x))
+    by : (e b : Bool) → isReady (w .pipe .out .answers) ≡ b
+        → ((e || not b) || false ≡ true) ⊎ Rel (flip (nak (w .rx))) (cond m (nakflip (w .tx)) (w .tx)) (w .len) (pipe.after (pipe.token Out) (pipe.after (packet Out) (w .pipe))) (w .awaits) (w .untaken) (cond m (setIn completed (setOut completed x)) (setOut completed x))
     by e true q = inr (token-out m h (packet-out q r))
     by true false q = inl refl
     by false false q = inl refl
 
 -- the token OUT alone
-pub r-token-out : (w : Log) (x : View) (m : Bool) → isOn (x .inn .armed) ≡ m → R w x → R (withTx (cond m (nakflip (w .tx)) (w .tx)) (happens (pipe.token Out) w)) (cond m (setIn completed x) x)
+pub r-token-out : (w : Log) (x : View) (m : Bool) → isOn (x .inn .armed) ≡ m → R w x
+    → R (withTx (cond m (nakflip (w .tx)) (w .tx)) (happens (pipe.token Out) w)) (cond m (setIn completed x) x)
 r-token-out w x m h (inl e) = inl (rw e refl)
 r-token-out w x m h (inr r) = inr (token-out m h r)
 
@@ -71,7 +66,8 @@ pub r-in : (w : Log) (x : View) (m : Bool) → isOn (x .out .armed) ≡ m → R 
 r-in w x m h (inl e) = inl (rw e refl)
 r-in w x m h (inr r) = by (w .exempt) (isReady (w .pipe .inn .answers)) refl (dataReady (w .pipe .out .answers)) refl m h
   where
-    by : (e b : Bool) → isReady (w .pipe .inn .answers) ≡ b → (d : Bool) → dataReady (w .pipe .out .answers) ≡ d → (m : Bool) → isOn (x .out .armed) ≡ m
+    by : (e b : Bool) → isReady (w .pipe .inn .answers) ≡ b → (d : Bool) → dataReady (w .pipe .out .answers) ≡ d
+        → (m : Bool) → isOn (x .out .armed) ≡ m
         → ((e || not b) || not (not d) ≡ true) ⊎ Rel (cond m (nakflip (w .rx)) (w .rx)) (flip (nak (w .tx))) (w .len) (pipe.after (packet In) (w .pipe)) (w .awaits) (w .untaken) (cond m (setOut completed (setIn completed x)) (setIn completed x))
     by true b q d z m h = inl refl
     by false false q d z m h = inl refl
@@ -79,7 +75,8 @@ r-in w x m h (inr r) = by (w .exempt) (isReady (w .pipe .inn .answers)) refl (da
     by false true q false z false h = inr (packet-in q r)
     by false true q false z true h = differ (sym (no-packet-out r z) ∙ h)
 
-pub r-token-in : (w : Log) (x : View) (m : Bool) → isOn (x .out .armed) ≡ m → R w x → R (withRx (cond m (nakflip (w .rx)) (w .rx)) (happens (pipe.token In) w)) (cond m (setOut completed x) x)
+pub r-token-in : (w : Log) (x : View) (m : Bool) → isOn (x .out .armed) ≡ m → R w x
+    → R (withRx (cond m (nakflip (w .rx)) (w .rx)) (happens (pipe.token In) w)) (cond m (setOut completed x) x)
 r-token-in w x m h (inl e) = inl (rw e refl)
 r-token-in w x m h (inr r) = by (w .exempt) (dataReady (w .pipe .out .answers)) refl m h
   where
@@ -93,25 +90,30 @@ r-token-in w x m h (inr r) = by (w .exempt) (dataReady (w .pipe .out .answers)) 
 -- ---- scripts
 
 -- a log that is another's
-pub back : {A : Type 0} {P : Log → A → St → Type 0} {u w : Log} {o : tree.Out St A} → u ≡ w → Watch Keeps Any P w o → Watch Keeps Any P u o
+pub back : {A : Type 0} {P : Log → A → St → Type 0} {u w : Log} {o : tree.Out St A} → u ≡ w → Watch Keeps Any P w o
+    → Watch Keeps Any P u o
 back {P = P} {o = o} e x = subst (λ (y : Log). Watch Keeps Any P y o) (sym e) x
 
 -- a script's run, so that the script shows
 pub record Runs {i : Bool} {A : Type 0} (P : Log → A → St → Type 0) (p : Script i A) (w : Log) (s : St) : Type 0 where
   pub ok : Watch Keeps Any P w (run conc p s)
 
-pub then-quiet : {i : Bool} {A B : Type 0} {p : Script i A} {f : A → Script i B} {P : Log → B → St → Type 0} {w : Log} {s : St} → w .phase ≡ off → Plainly s → Quiet p
+pub then-quiet : {i : Bool} {A B : Type 0} {p : Script i A} {f : A → Script i B} {P : Log → B → St → Type 0} {w : Log} {s : St}
+    → w .phase ≡ off → Plainly s → Quiet p
     → ((a : A) (t : St) → view (t .0) ≡ view (s .0) → Plainly t → Runs P (f a) w t) → Runs P (bind p f) w s
 then-quiet {w = w} {s = s} z k q g = record { ok = watch-bind (q .goes w s z k) (λ x a t l. back (l .0) (g a t (l .1) (l .2) .ok)) }
 
-pub then : {i : Bool} {A B : Type 0} {p : Script i A} {f : A → Script i B} {Q : Log → A → St → Type 0} {P : Log → B → St → Type 0} {w : Log} {s : St} → Runs Q p w s
+pub then : {i : Bool} {A B : Type 0} {p : Script i A} {f : A → Script i B} {Q : Log → A → St → Type 0} {P : Log → B → St → Type 0} {w : Log} {s : St}
+    → Runs Q p w s
     → ((x : Log) (a : A) (t : St) → Q x a t → Runs P (f a) x t) → Runs P (bind p f) w s
 then q g = record { ok = watch-bind (q .ok) (λ x a t l. g x a t l .ok) }
 
-pub back-to : {i : Bool} {A : Type 0} {P : Log → A → St → Type 0} {p : Script i A} {u w : Log} {s : St} → u ≡ w → Runs P p w s → Runs P p u s
+pub back-to : {i : Bool} {A : Type 0} {P : Log → A → St → Type 0} {p : Script i A} {u w : Log} {s : St} → u ≡ w
+    → Runs P p w s → Runs P p u s
 back-to e x = record { ok = back e (x .ok) }
 
-pub if-so : {i : Bool} {A : Type 0} {P : Log → A → St → Type 0} (b : Bool) {p q : Script i A} {w : Log} {s : St} → b ≡ true → Runs P p w s → Runs P (test b p q) w s
+pub if-so : {i : Bool} {A : Type 0} {P : Log → A → St → Type 0} (b : Bool) {p q : Script i A} {w : Log} {s : St}
+    → b ≡ true → Runs P p w s → Runs P (test b p q) w s
 if-so b h x = record { ok = watch-cond b (λ _. x .ok) (λ q. differ (sym q ∙ h)) }
 
 -- exactly this log, this view
@@ -122,7 +124,8 @@ read-off : (w : Log) (r : Reg) (v : ℕ) → w .phase ≡ off → reads (w .phas
 read-off w r v z = ap (λ p. reads p r v w) z
 
 -- EP0's word of a direction is read, changed and written; then its record completed
-flipped-out : (f : ℕ → ℕ) (g : Plain → Plain) (w : Log) (s : St) → ((p : Plain) → (g p .ready ≡ 1) × (g p .armed ≡ 0)) → w .phase ≡ off
+flipped-out : (f : ℕ → ℕ) (g : Plain → Plain) (w : Log) (s : St) → ((p : Plain) → (g p .ready ≡ 1) × (g p .armed ≡ 0))
+    → w .phase ≡ off
     → Watch Keeps Any (Exactly (withRx (f (w .rx)) w) (setOut completed (view (s .0)))) w (run conc (do
       modifyReg {i = true} EpRxCtrl 0 f
       modifyEp Out 0 g
@@ -136,10 +139,12 @@ flipped-out f g w s c z = at-ask {q = Read EpRxCtrl 0} tt (λ v t b k. back (rea
       steadily (act-steady (waken (wakeCode Out 0 ∷ [])) refl o) (steadily (put-steady (ep-cell Out 0) (g (conc .get (ep-cell Out 0) u)) u) (plainly (l .1))),
     ))))
   where
-    made : (p : Plain) → (p .ready ≡ 1) × (p .armed ≡ 0) → _≡_ {A = Rec} (record { ready = p .ready; armed = p .armed }) completed
+    made : (p : Plain) → (p .ready ≡ 1) × (p .armed ≡ 0)
+        → _≡_ {A = Rec} (record { ready = p .ready; armed = p .armed }) completed
     made p q = rw (q .0, q .1) refl
 
-flipped-in : (f : ℕ → ℕ) (g : Plain → Plain) (w : Log) (s : St) → ((p : Plain) → (g p .ready ≡ 1) × (g p .armed ≡ 0)) → w .phase ≡ off
+flipped-in : (f : ℕ → ℕ) (g : Plain → Plain) (w : Log) (s : St) → ((p : Plain) → (g p .ready ≡ 1) × (g p .armed ≡ 0))
+    → w .phase ≡ off
     → Watch Keeps Any (Exactly (withTx (f (w .tx)) w) (setIn completed (view (s .0)))) w (run conc (do
       modifyReg {i = true} EpTxCtrl 0 f
       modifyEp In 0 g
@@ -153,7 +158,8 @@ flipped-in f g w s c z = at-ask {q = Read EpTxCtrl 0} tt (λ v t b k. back (read
       steadily (act-steady (waken (wakeCode In 0 ∷ [])) refl o) (steadily (put-steady (ep-cell In 0) (g (conc .get (ep-cell In 0) u)) u) (plainly (l .1))),
     ))))
   where
-    made : (p : Plain) → (p .ready ≡ 1) × (p .armed ≡ 0) → _≡_ {A = Rec} (record { ready = p .ready; armed = p .armed }) completed
+    made : (p : Plain) → (p .ready ≡ 1) × (p .armed ≡ 0)
+        → _≡_ {A = Rec} (record { ready = p .ready; armed = p .armed }) completed
     made p q = rw (q .0, q .1) refl
 
 -- a packet IN
@@ -197,7 +203,8 @@ servedAs tk x iso frame = do
   when (eqb (endpoint (x .st)) 0) (ep0MovedOn tk)
 
 -- of another endpoint
-pub q-served : (tk : Token) (x : Transfer) (iso : Bool) (frame : ℕ) → eqb (endpoint (x .st)) 0 ≡ false → Quiet (servedAs tk x iso frame)
+pub q-served : (tk : Token) (x : Transfer) (iso : Bool) (frame : ℕ) → eqb (endpoint (x .st)) 0 ≡ false
+    → Quiet (servedAs tk x iso frame)
 q-served tk x iso frame h = q-bind (q-got globals-cell) (λ g. q-bind (q-when (q-sof frame)) (λ _. q-bind (q-when (q-every (λ g m. q-late frame (setBits (isoInEvery g)) m))) (λ _. q-bind (q-when (q-dispatch tk x iso frame h)) (λ _. q-bind (q-when (q-check x iso)) (λ _. q-if (eqb (endpoint (x .st)) 0) (λ z. differ (sym h ∙ z)) (λ _. q-ret))))))
 
 -- what is known at its end
@@ -218,10 +225,12 @@ module _ (x : Transfer) (frame : ℕ) (mine : eqb (endpoint (x .st)) 0 ≡ true)
       (then-quiet z′ (m .2) (q-when (q-check x iso)) (λ _ u′ d n.
       if-so (eqb (endpoint (x .st)) 0) mine (sign u′ (d ∙ m .1) n)))))))
 
-pub made : {i : Bool} {A : Type 0} {P : Log → A → St → Type 0} {p : Script i A} {w : Log} {s : St} → Watch Keeps Any P w (run conc p s) → Runs P p w s
+pub made : {i : Bool} {A : Type 0} {P : Log → A → St → Type 0} {p : Script i A} {w : Log} {s : St}
+    → Watch Keeps Any P w (run conc p s) → Runs P p w s
 made x = record { ok = x }
 
-conclude : {su : Bool} (y w : Log) (u : St) (v : View) → y ≡ w → view (u .0) ≡ v → R w v → v .stage ≡ 2 → w .setup-seen ≡ su → Served su y (tt {0}) u
+conclude : {su : Bool} (y w : Log) (u : St) (v : View) → y ≡ w → view (u .0) ≡ v → R w v → v .stage ≡ 2
+    → w .setup-seen ≡ su → Served su y (tt {0}) u
 conclude {su = su} y w u v e h r t f = (subst (λ (q : Log). R q (view (u .0))) (sym e) (subst (R w) (sym h) r), ap (λ (q : View). q .stage) h ∙ t, ap (λ (q : Log). q .setup-seen) e ∙ f)
 
 same-stage : (m : Bool) (x y : View) → x .stage ≡ 2 → y .stage ≡ 2 → cond m x y .stage ≡ 2
@@ -247,7 +256,8 @@ module _ (x : Transfer) (frame : ℕ) (mine : eqb (endpoint (x .st)) 0 ≡ true)
   abbrev armedOut : Bool
   armedOut = isOn (view (s .0) .out .armed)
 
-  out-taken : x .busy ≡ false → togOk (x .st) ≡ true → Watch Keeps Any (Served su) (ofToken tok.Out false true (withPhase off (withRx (nak (w .rx)) w))) (run conc (servedAs tok.Out x false frame) s)
+  out-taken : x .busy ≡ false → togOk (x .st) ≡ true
+      → Watch Keeps Any (Served su) (ofToken tok.Out false true (withPhase off (withRx (nak (w .rx)) w))) (run conc (servedAs tok.Out x false frame) s)
   out-taken b ok =
       let u = ofToken tok.Out false true (withPhase off (withRx (nak (w .rx)) w)) in
       let v = withRx (flip (u .rx)) u in
@@ -256,7 +266,8 @@ module _ (x : Transfer) (frame : ℕ) (mine : eqb (endpoint (x .st)) 0 ≡ true)
       (λ t e l. made (watch-more (moved-in v t refl l armedIn (ap (λ (y : View). isOn (y .inn .armed)) e)) (λ y _ o m. conclude y _ o _ (m .0) (m .1 ∙ ap (λ (q : View). cond armedIn (setIn completed q) q) e) (r-out w (view (s .0)) armedIn refl r) (same-stage armedIn _ _ two two) seen-su)))) .ok
 
   -- the token OUT alone: a repeat, or a transaction that is not complete
-  out-token : (busy ok : Bool) → not busy && ok ≡ false → x .busy ≡ busy → togOk (x .st) ≡ ok → Watch Keeps Any (Served su) (happens (pipe.token Out) (withPhase off w)) (run conc (servedAs tok.Out x false frame) s)
+  out-token : (busy ok : Bool) → not busy && ok ≡ false → x .busy ≡ busy → togOk (x .st) ≡ ok
+      → Watch Keeps Any (Served su) (happens (pipe.token Out) (withPhase off w)) (run conc (servedAs tok.Out x false frame) s)
   out-token busy ok none b o =
       let u = happens (pipe.token Out) (withPhase off w) in
       (framing x frame mine u refl s k tok.Out false u (view (s .0)) refl
@@ -266,7 +277,8 @@ module _ (x : Transfer) (frame : ℕ) (mine : eqb (endpoint (x .st)) 0 ≡ true)
       both : busy ≡ x .busy → ok ≡ togOk (x .st) → not (x .busy) ≡ true → togOk (x .st) ≡ true → not busy && ok ≡ true
       both p q f g = rw (p, q, f, g) refl
 
-  in-sent : x .busy ≡ false → Watch Keeps Any (Served su) (ofToken tok.In false true (withPhase off (withTx (nak (w .tx)) w))) (run conc (servedAs tok.In x false frame) s)
+  in-sent : x .busy ≡ false
+      → Watch Keeps Any (Served su) (ofToken tok.In false true (withPhase off (withTx (nak (w .tx)) w))) (run conc (servedAs tok.In x false frame) s)
   in-sent b =
       let u = ofToken tok.In false true (withPhase off (withTx (nak (w .tx)) w)) in
       let v = withTx (flip (u .tx)) u in
@@ -274,20 +286,24 @@ module _ (x : Transfer) (frame : ℕ) (mine : eqb (endpoint (x .st)) 0 ≡ true)
       (λ t e l. made (watch-cond (not (x .busy)) (λ _. watch-cond (eqb (endpoint (x .st)) 0) (λ _. watch-more (sent-in u t refl) (λ _ _ _ m. (m .0, m .1 ∙ ap (setIn completed) e, m .2))) (λ q. differ (sym q ∙ mine))) (λ q. differ (sym q ∙ ap not b))))
       (λ t e l. made (watch-more (moved-out v t refl l armedOut (ap (λ (y : View). isOn (y .out .armed)) e)) (λ y _ o m. conclude y _ o _ (m .0) (m .1 ∙ ap (λ (q : View). cond armedOut (setOut completed q) q) e) (r-in w (view (s .0)) armedOut refl r) (same-stage armedOut _ _ two two) seen-su)))) .ok
 
-  in-token : x .busy ≡ true → Watch Keeps Any (Served su) (happens (pipe.token In) (withPhase off w)) (run conc (servedAs tok.In x false frame) s)
+  in-token : x .busy ≡ true
+      → Watch Keeps Any (Served su) (happens (pipe.token In) (withPhase off w)) (run conc (servedAs tok.In x false frame) s)
   in-token b =
       let u = happens (pipe.token In) (withPhase off w) in
       (framing x frame mine u refl s k tok.In false u (view (s .0)) refl
       (λ t e l. made (watch-cond (not (x .busy)) (λ f. differ (ap not (sym b) ∙ f)) (λ _. at-end (refl, e, l))))
       (λ t e l. made (watch-more (moved-out u t refl l armedOut (ap (λ (y : View). isOn (y .out .armed)) e)) (λ y _ o m. conclude y _ o _ (m .0) (m .1 ∙ ap (λ (q : View). cond armedOut (setOut completed q) q) e) (r-token-in w (view (s .0)) armedOut refl r) (same-stage armedOut _ _ two two) seen-su)))) .ok
 
-  plain-token : (tk : Token) (iso : Bool) → Quiet {i = true} (dispatch tk x iso frame) → Quiet {i = true} (ep0MovedOn tk) → Watch Keeps Any (Served su) (withPhase off w) (run conc (servedAs tk x iso frame) s)
+  plain-token : (tk : Token) (iso : Bool) → Quiet {i = true} (dispatch tk x iso frame)
+      → Quiet {i = true} (ep0MovedOn tk)
+      → Watch Keeps Any (Served su) (withPhase off w) (run conc (servedAs tk x iso frame) s)
   plain-token tk iso q p =
       (framing x frame mine (withPhase off w) refl s k tk iso (withPhase off w) (view (s .0)) refl
       (λ t e l. made (watch-more (q-when {b = not (x .busy)} q .goes (withPhase off w) t refl l) (λ _ _ _ m. (m .0, m .1 ∙ e, m .2))))
       (λ t e l. made (watch-more (p .goes (withPhase off w) t refl l) (λ y _ o m. conclude y (withPhase off w) o (view (s .0)) (m .0) (m .1 ∙ e) r two seen-su)))) .ok
 
-  pub served-ep0 : (tk : Token) (iso busy ok : Bool) → x .busy ≡ busy → togOk (x .st) ≡ ok → NotIso tk iso → Watch Keeps Any (Served su) (ofToken tk busy ok (withPhase off (naked tk busy ok w))) (run conc (servedAs tk x iso frame) s)
+  pub served-ep0 : (tk : Token) (iso busy ok : Bool) → x .busy ≡ busy → togOk (x .st) ≡ ok → NotIso tk iso
+      → Watch Keeps Any (Served su) (ofToken tk busy ok (withPhase off (naked tk busy ok w))) (run conc (servedAs tk x iso frame) s)
   served-ep0 tok.Out false false true b o i = out-taken b o
   served-ep0 tok.Out false false false b o i = out-token false false refl b o
   served-ep0 tok.Out false true ok b o i = out-token true ok refl b o

@@ -1,10 +1,11 @@
--- What the interrupt does once it has seen a token of the endpoint: its control word is read once, and the record follows the log
-use mathlib.Core.Bool.{Bool, true, false, not, cond, _&&_, _||_}
-use mathlib.Core.List.{List, [], _∷_}
+-- What the interrupt does once it has seen a token of the endpoint: its control word is read once, and the record
+-- follows the log
+use mathlib.Core.Bool.{Bool, true, false, cond, _&&_}
+use mathlib.Core.List.{[], _∷_}
 use mathlib.Core.Logic.{_⊎_, inl, inr}
 use mathlib.Core.Path.{_≡_, refl, ap, subst, sym, _∙_}
 use borrow.Author.Tests.{eq-eqb}
-use Prim.Native.Nat.{ℕ, zero, suc, _+_, _%_, _≤_}
+use Prim.Native.Nat.{ℕ, _+_, _%_, _≤_}
 use native.Mathlib.Omega.{arith}
 use lib.Dec.{eqb}
 use Rattle.regs.specs.declared.Access.the-variants.{Read, Write}
@@ -15,11 +16,11 @@ use Rattle.regs.specs.ControlWord.{toggle, ack, isData1}
 use Rattle.script.specs.ToggledLaws.{ack-keeps, ack-acks}
 use Rattle.regs.specs.Status.{endpoint}
 use Rattle.state.specs.Wakes.{wakeCode, listed, woken}
-use Rattle.state.specs.Driver.{Driver, key, epOn, withOn}
+use Rattle.state.specs.Driver.{key, epOn, withOn}
 use Rattle.script.specs.declared.Transfer.{Transfer}
 use Rattle.script.specs.Tree as tree
 use Rattle.script.specs.Cells.{Plain, ep-cell}
-use Rattle.script.specs.Script.{Script, run, when, waken}
+use Rattle.script.specs.Script.{run, when, waken}
 use Rattle.script.specs.Statics.{isOn, flag, withReady, withArmed, withTog, withLen, completed, modifyReg}
 use Rattle.script.specs.Every.{sameReg}
 use Rattle.script.specs.Handler.{repeated, toggled, received, sent, outArm, inArm}
@@ -29,14 +30,16 @@ use Rattle.ops.specs.Rings.{St}
 use Rattle.ops.specs.Conc.{conc}
 use Rattle.book.specs.Sorts.{act-steady}
 use Rattle.proof_usb20.specs.Exempt.{differ}
-use Rattle.proof_usb20.specs.Sequence.{Track, Phase, off, due, owes, withPhase, own, shown, lengthOf, judged, acksAs, howOften, reads, saw}
+use Rattle.proof_usb20.specs.Sequence.{Track, off, due, owes, withPhase, own, shown, lengthOf, judged, acksAs, howOften, reads, saw}
 use Rattle.proof_usb20.specs.Follow as follow
-use Rattle.proof_usb20.specs.Follow.{Seen, FitsAs, Fits, view, Follow, at-end, at-ask}
+use Rattle.proof_usb20.specs.Follow.{Seen, Fits, view, Follow}
+use Rattle.proof_usb20.specs.Watch.{at-end, at-ask}
 use Rattle.proof_usb20.specs.Untouched.{act-view}
 use Rattle.proof_usb20.specs.Calm.{Idle, Kept, Hears, kept-by, hears-same, hears-then, heard, put-kept, put-hears, woken-room, woken-own, q-looks}
-use Rattle.proof_usb20.specs.Reading.{Own, own-true, got, changed, fits-2, whole-put}
+use Rattle.proof_usb20.specs.Reading.{Own, own-true, got, changed, fits-2}
 
-pub back : (D : Dir) (E : ℕ) {A : Type 0} {P : Track → A → St → Type 0} {x y : Track} {o : tree.Out St A} → x ≡ y → Follow D E P y o → Follow D E P x o
+pub back : (D : Dir) (E : ℕ) {A : Type 0} {P : Track → A → St → Type 0} {x y : Track} {o : tree.Out St A} → x ≡ y
+    → Follow D E P y o → Follow D E P x o
 back D E h f = follow.follow-at D E h f
 
 -- ---- the endpoint's toggle
@@ -62,7 +65,8 @@ own-word : (D : Dir) {A : Type 0} (x y : A) (b : Bool) → b ≡ true → cond (
 own-word Out x y b h = rw h refl
 own-word In x y b h = rw h refl
 
-own-ack : (D : Dir) {A : Type 0} (x y : A) (b c : Bool) → b ≡ true → c ≡ true → cond ((sameReg (ctrlOf D) (ctrlOf D) && b) && c) x y ≡ x
+own-ack : (D : Dir) {A : Type 0} (x y : A) (b c : Bool) → b ≡ true → c ≡ true
+    → cond ((sameReg (ctrlOf D) (ctrlOf D) && b) && c) x y ≡ x
 own-ack Out x y b c h g = rw (h, g) refl
 own-ack In x y b c h g = rw (h, g) refl
 
@@ -75,8 +79,11 @@ newly D v k w = record { bit = shown v; through = true; len = lengthOf D k (w .l
 module _ (D : Dir) (E : ℕ) where
   -- what `toggled` leaves: the same bit, or another and that recorded
   pub data Told (s : St) (w : Track) (k : ℕ) (y : Track) (b : Bool) (t : St) : Type 0 where
-    repeat : b ≡ false → y ≡ withPhase off w → Fits w (view D E (t .0)) → Kept D E true t → eqb (t .0 .globals .stage) 2 ≡ true → Hears D E true s t → Told s w k y b t
-    new : (v : ℕ) → b ≡ true → y ≡ newly D v k w → epOn (t .0) D E .tog ≡ number (shown v) → epOn (t .0) D E .len ≡ w .len → isOn (epOn (t .0) D E .armed) ≡ false → Kept D E true t → eqb (t .0 .globals .stage) 2 ≡ true
+    repeat : b ≡ false → y ≡ withPhase off w → Fits w (view D E (t .0)) → Kept D E true t
+        → eqb (t .0 .globals .stage) 2 ≡ true → Hears D E true s t → Told s w k y b t
+    new : (v : ℕ) → b ≡ true → y ≡ newly D v k w → epOn (t .0) D E .tog ≡ number (shown v)
+        → epOn (t .0) D E .len ≡ w .len → isOn (epOn (t .0) D E .armed) ≡ false → Kept D E true t
+        → eqb (t .0 .globals .stage) 2 ≡ true
         → Hears D E true s t → Told s w k y b t
 
   pub due-idle : (k : ℕ) (w : Track) → Idle D E (withPhase (due k) w)
@@ -96,17 +103,19 @@ module _ (D : Dir) (E : ℕ) where
     acked : (v n : ℕ) → saw D E (withPhase (owes v) w) (Write (ctrlOf D) e (ack v)) n ≡ withPhase off w
     acked v n = own-ack D (withPhase off w) (withPhase (owes v) w) (own D E D e) (acksAs v (ack v)) o (acks v)
 
-    same-bit : (v : ℕ) (b : Bool) → w .armed ≡ b → same (w .bit) (shown v) ≡ true → judged D v k w ≡ withPhase (cond b (owes v) off) w
+    same-bit : (v : ℕ) (b : Bool) → w .armed ≡ b → same (w .bit) (shown v) ≡ true
+        → judged D v k w ≡ withPhase (cond b (owes v) off) w
     same-bit v b g h = rw (h, g) refl
 
     other-bit : (v : ℕ) → same (w .bit) (shown v) ≡ false → judged D v k w ≡ newly D v k w
     other-bit v h = rw h refl
 
     -- a repeat: acknowledged again where a packet is waited for
-    again : (s t : St) (v : ℕ) (b : Bool) → isOn (conc .get (ep-cell D e) t .armed) ≡ b → view D E (t .0) ≡ view D E (s .0) → Kept D E true t → Hears D E true s t
+    again : (s t : St) (v : ℕ) (b : Bool) → isOn (conc .get (ep-cell D e) t .armed) ≡ b
+        → view D E (t .0) ≡ view D E (s .0) → Kept D E true t → Hears D E true s t
         → Follow D E (λ y _ u. (y ≡ withPhase off w) × (view D E (u .0) ≡ view D E (s .0)) × Kept D E true u × Hears D E true s u) (withPhase (cond b (owes v) off) w) (run {i = true} conc (when (isOn (conc .get (ep-cell D e) t .armed)) (modifyReg (ctrlOf D) e ack)) t)
     again s t v true h z l f = follow.follow-cond D E (isOn (conc .get (ep-cell D e) t .armed))
-        (λ _. at-ask (λ n u p. back D E (read-again v n) (at-ask (λ x a q. back D E (acked n x) (
+        (λ _. at-ask tt (λ n u _ p. back D E (read-again v n) (at-ask tt (λ x a _ q. back D E (acked n x) (
         let ku : Kept D E true u = kept-by D E {s = t} {t = u} p l in
         let ka : Kept D E true a = kept-by D E {s = u} {t = a} q ku in
         let hu : Hears D E true t u = hears-same D E {s = t} {t = u} (p .2) in
@@ -115,9 +124,10 @@ module _ (D : Dir) (E : ℕ) where
         (λ q. differ (sym q ∙ h))
     again s t v false h z l f = follow.follow-cond D E (isOn (conc .get (ep-cell D e) t .armed)) (λ q. differ (sym h ∙ q)) (λ _. at-end (refl, z, l, f))
 
-    pub toggles-own : (s : St) → Kept D E true s → Fits w (view D E (s .0)) → eqb (s .0 .globals .stage) 2 ≡ true → Follow D E (Told s w k) (withPhase (due k) w) (run conc (toggled {i = true} D e) s)
+    pub toggles-own : (s : St) → Kept D E true s → Fits w (view D E (s .0)) → eqb (s .0 .globals .stage) 2 ≡ true
+        → Follow D E (Told s w k) (withPhase (due k) w) (run conc (toggled {i = true} D e) s)
     unfolding repeated withOn isOn
-    toggles-own s l r two = follow.follow-bind D E ((q-looks D E) 2001 .goes (withPhase (due k) w) s (due-idle k w, λ _ _ _ _. refl) l) (λ y _ a m. back D E (m .0) (at-ask (λ v t p.
+    toggles-own s l r two = follow.follow-bind D E ((q-looks D E) 2001 .goes (withPhase (due k) w) s (due-idle k w, λ _ _ _ _. refl) l) (λ y _ a m. back D E (m .0) (at-ask tt (λ v t _ p.
         let z : view D E (t .0) ≡ view D E (s .0) = p .0 ∙ m .1 in
         let q : Own D E D e = own-true D E D e o in
         let kt : Kept D E true t = kept-by D E {s = a} {t = t} p (m .2) in
@@ -144,7 +154,8 @@ Heard D E y t = (64 ≤ t .0 .wakes .count) ⊎ (heard D E t ≡ flag (y .new))
 abbrev pub Done : (D : Dir) (E : ℕ) → {A : Type 0} → Track → A → St → Type 0
 Done D E y _ t = (y .phase ≡ off) × Fits y (view D E (t .0)) × Kept D E true t × (eqb (t .0 .globals .stage) 2 ≡ true) × Heard D E y t
 
-pub done-as : (D : Dir) (E : ℕ) (y z : Track) (t : St) → y ≡ z → z .phase ≡ off → Fits z (view D E (t .0)) → Kept D E true t → eqb (t .0 .globals .stage) 2 ≡ true → Heard D E z t → Done D E {A = Unit {0}} y tt t
+pub done-as : (D : Dir) (E : ℕ) (y z : Track) (t : St) → y ≡ z → z .phase ≡ off → Fits z (view D E (t .0))
+    → Kept D E true t → eqb (t .0 .globals .stage) 2 ≡ true → Heard D E z t → Done D E {A = Unit {0}} y tt t
 done-as D E y z t h p f l two n = (ap (λ (x : Track). x .phase) h ∙ p, subst (λ (x : Track). Fits x (view D E (t .0))) (sym h) f, l, two, subst (λ (x : Track). Heard D E x t) (sym h) n)
 
 -- it goes on without a wake-up of its task
@@ -171,18 +182,21 @@ module _ (D : Dir) (E e : ℕ) (o : Own D E D e) (u : St) (l : Kept D E true u) 
   woken-heard : (y : Track) → y .new ≡ true → heard D E u ≡ 0 → Heard D E y (conc .act (waken (wakeCode D e ∷ [])) u)
   woken-heard y n h = by (woken-own D E (wakeCode D e) (u .0 .wakes) (l .room refl) (code-own D E e o))
     where
-      by : (64 ≤ woken (wakeCode D e) (u .0 .wakes) .count) ⊎ (howOften (wakeCode D E) (listed (woken (wakeCode D e) (u .0 .wakes))) ≡ heard D E u + 1) → Heard D E y (conc .act (waken (wakeCode D e ∷ [])) u)
+      by : (64 ≤ woken (wakeCode D e) (u .0 .wakes) .count) ⊎ (howOften (wakeCode D E) (listed (woken (wakeCode D e) (u .0 .wakes))) ≡ heard D E u + 1)
+          → Heard D E y (conc .act (waken (wakeCode D e ∷ [])) u)
       by (inl f) = inl f
       by (inr f) = inr (f ∙ (ap (λ k. k + 1) h ∙ sym (ap flag n)))
 
 module _ (E : ℕ) (x : Transfer) (k : ℕ) (w : Track) (s : St) (quiet : w .new ≡ false) (none : heard Out E s ≡ 0) where
-  pub arm-out : own Out E Out (endpoint (x .st)) ≡ true → eqb (endpoint (x .st)) 0 ≡ false → x .len ≡ k → Kept Out E true s → Fits w (view Out E (s .0)) → eqb (s .0 .globals .stage) 2 ≡ true
+  pub arm-out : own Out E Out (endpoint (x .st)) ≡ true → eqb (endpoint (x .st)) 0 ≡ false → x .len ≡ k
+      → Kept Out E true s → Fits w (view Out E (s .0)) → eqb (s .0 .globals .stage) 2 ≡ true
       → Follow Out E (Done Out E) (withPhase (due k) w) (run conc (outArm {i = true} x false) s)
   unfolding withOn isOn
   arm-out o nz e l r two =
       follow.follow-cond Out E (eqb (endpoint (x .st)) 0) (λ z. differ (sym nz ∙ z)) (λ _. follow.follow-bind Out E (toggles-own Out E (endpoint (x .st)) k w o s l r two) (λ y b t m. go y b t m))
     where
-      go : (y : Track) (b : Bool) (t : St) → Told Out E s w k y b t → Follow Out E (Done Out E) y (run {i = true} conc (when b (received (endpoint (x .st)) (x .len))) t)
+      go : (y : Track) (b : Bool) (t : St) → Told Out E s w k y b t
+          → Follow Out E (Done Out E) y (run {i = true} conc (when b (received (endpoint (x .st)) (x .len))) t)
       go y b t (repeat h p f l two m) = follow.follow-cond Out E b (λ z. differ (sym h ∙ z)) (λ _. at-end (done-as Out E y (withPhase off w) t p refl f l two (inr (m .same refl ∙ (none ∙ sym (ap flag quiet))))))
       go y b t (new v h p g n a l two m) = follow.follow-cond Out E b
           (λ _.
@@ -197,13 +211,15 @@ module _ (E : ℕ) (x : Transfer) (k : ℕ) (w : Track) (s : St) (quiet : w .new
           (λ z. differ (sym z ∙ h))
 
 module _ (E : ℕ) (x : Transfer) (frame k : ℕ) (w : Track) (s : St) (quiet : w .new ≡ false) (none : heard In E s ≡ 0) where
-  pub arm-in : own In E In (endpoint (x .st)) ≡ true → eqb (endpoint (x .st)) 0 ≡ false → x .len ≡ k → Kept In E true s → Fits w (view In E (s .0)) → eqb (s .0 .globals .stage) 2 ≡ true
+  pub arm-in : own In E In (endpoint (x .st)) ≡ true → eqb (endpoint (x .st)) 0 ≡ false → x .len ≡ k → Kept In E true s
+      → Fits w (view In E (s .0)) → eqb (s .0 .globals .stage) 2 ≡ true
       → Follow In E (Done In E) (withPhase (due k) w) (run conc (inArm {i = true} x false frame) s)
   unfolding withOn isOn
   arm-in o nz e l r two =
       follow.follow-cond In E (eqb (endpoint (x .st)) 0) (λ z. differ (sym nz ∙ z)) (λ _. follow.follow-bind In E (toggles-own In E (endpoint (x .st)) k w o s l r two) (λ y b t m. go y b t m))
     where
-      go : (y : Track) (b : Bool) (t : St) → Told In E s w k y b t → Follow In E (Done In E) y (run {i = true} conc (when b (sent (endpoint (x .st)))) t)
+      go : (y : Track) (b : Bool) (t : St) → Told In E s w k y b t
+          → Follow In E (Done In E) y (run {i = true} conc (when b (sent (endpoint (x .st)))) t)
       go y b t (repeat h p f l two m) = follow.follow-cond In E b (λ z. differ (sym h ∙ z)) (λ _. at-end (done-as In E y (withPhase off w) t p refl f l two (inr (m .same refl ∙ (none ∙ sym (ap flag quiet))))))
       go y b t (new v h p g n a l two m) = follow.follow-cond In E b
           (λ _.

@@ -1,7 +1,7 @@
--- The pipe by what can be seen of the driver from outside: the calls and their answers, the accesses and the numbers brought for them. The function's
--- choices are calls, the bus's events are what an interrupt's readings show of endpoint 0. It knows nothing of the driver's state.
+-- The pipe by what can be seen of the driver from outside: the calls and their answers, the accesses and the numbers
+-- brought for them. The function's choices are calls, the bus's events are what an interrupt's readings show of
+-- endpoint 0. It knows nothing of the driver's state.
 use mathlib.Core.Bool.{Bool, true, false, not, cond, _&&_, _||_}
-use mathlib.Core.List.{List}
 use mathlib.Core.Path.{_≡_}
 use Prim.Native.Nat.{ℕ}
 use lib.Dec.{eqb}
@@ -10,7 +10,6 @@ use Rattle.regs.specs.declared.Access.{Access}
 use Rattle.regs.specs.declared.Access.the-variants.{Read, Write, Receive, Transmit, Ep0Dma, Wait, Callback}
 use Rattle.regs.specs.declared.Reg.{Reg}
 use Rattle.regs.specs.declared.Reg.the-variants.{IntFg, IntSt, MisSt, FrameNo, EpTLen, EpRxCtrl, EpTxCtrl}
-use Rattle.regs.specs.declared.Dir.{Dir}
 use Rattle.regs.specs.declared.Dir.the-variants.{Out, In}
 use Rattle.regs.specs.declared.Token as tokens
 use Rattle.regs.specs.declared.Token.the-variants as tok
@@ -26,15 +25,16 @@ use Rattle.script.specs.Every.{sameReg}
 use Rattle.script.specs.TogglesLaws.{number}
 use Rattle.proof_usb20.specs.Pipe.{Answers, naks, stalls, acks, Half, renewed, isReady, Pipe, Event, setup, packet, token, possible, after, Choice, takes, gives, confirms, rejects, chosen, orderly, Awaited, nothing, awaitedBy, over}
 
--- how far an interrupt's readings are: none of them concerns endpoint 0, its flags are to come, they are read, the bus's state (`true`: busy), the status it shows,
--- the flag found taken by the release so that the status is read again
+-- how far an interrupt's readings are: none of them concerns endpoint 0, its flags are to come, they are read, the
+-- bus's state (`true`: busy), the status it shows, the flag found taken by the release so that the status is read again
 pub data Phase : Type 0 where
   off entered flagged again : Phase
   timed : Bool → Phase
   shows : Bool → ℕ → Phase
 
--- EP0's control words and its transmit length as they were last written; `untaken`: a setup packet came that no poll has given to the function yet; `exempt`:
--- something has happened since the last setup packet of which USB 2.0 says nothing, or otherwise than the Rust (below)
+-- EP0's control words and its transmit length as they were last written; `untaken`: a setup packet came that no poll
+-- has given to the function yet; `exempt`: something has happened since the last setup packet of which USB 2.0 says
+-- nothing, or otherwise than the Rust (below)
 pub record Log : Type 0 where
   pub rx : ℕ
   pub tx : ℕ
@@ -136,7 +136,8 @@ opens (slotted o) w = withPhase off w
 opens (other o) w = withPhase off w
 opens (aside o) w = withPhase off w
 
--- it ends with a result: a begin is the function's choice; a bus reset (result 2) and a halt of EP0 set or cleared by a call exempt
+-- it ends with a result: a begin is the function's choice; a bus reset (result 2) and a halt of EP0 set or cleared by a
+-- call exempt
 abbrev pub endsOther : Other → ℕ → Log → Log
 endsOther (Allocate d kind address maximum interval) n w = w
 endsOther (AllocateAll bytes) n w = w
@@ -257,7 +258,8 @@ Complete b w = w .exempt ≡ false → over (w .awaits) (w .pipe) ≡ b
 abbrev pub Untaken : Bool → Log → Type 0
 Untaken b w = w .exempt ≡ false → w .untaken ≡ b
 
--- of a stage's poll that does not answer that it is done: not yet, so the stage is not over and no setup packet has ended it; or refused with 9, so one has
+-- of a stage's poll that does not answer that it is done: not yet, so the stage is not over and no setup packet has
+-- ended it; or refused with 9, so one has
 abbrev pub Unfinished : Answer → Log → Type 0
 Unfinished (Refused n) w = eqb n 9 ≡ true → Untaken true w
 Unfinished (End n ws) w = Unit {0}
@@ -291,7 +293,7 @@ FairPoll pollStatus a w = Unfinished a w × Completes a w
 abbrev pub Fair : Op → Answer → Log → Type 0
 Fair o a w = FairPoll (pollOf o) a w
 
--- and it hands out no access, of an accept's but the address (AddressLaws), before the completion
+-- and an accept's hands out no access before the completion: the address changes after the status stage (9.4.6)
 abbrev pub AllowedTo : Poll → Log → Type 0
 AllowedTo none w = Unit {0}
 AllowedTo pollSetup w = Unit {0}

@@ -1,6 +1,7 @@
--- An observer of the driver's calls. It is told each call and its answer, each access and the number brought for it, and nothing of the driver's state; from these it
--- writes its log, and by its log it judges the next answer and the next access
-use mathlib.Core.Bool.{Bool, true, false, cond}
+-- An observer of the driver's calls. It is told each call and its answer, each access and the number brought for it,
+-- and nothing of the driver's state; from these it writes its log, and by its log it judges the next answer and the
+-- next access
+use mathlib.Core.Bool.{Bool, true, false}
 use mathlib.Core.List.{List, [], _∷_, _++_}
 use mathlib.Core.Path.{_≡_}
 use Prim.Native.Nat.{ℕ, zero, suc}

@@ -1,13 +1,9 @@
 -- The laws of the calls that are not of a plain endpoint: they leave its record and the log
-use mathlib.Core.Bool.{Bool, true, false, not, cond, _&&_}
-use mathlib.Core.List.{List, [], _∷_}
-use mathlib.Core.Path.{_≡_, refl, ap, subst, sym, _∙_}
-use Prim.Native.Nat.{ℕ, zero, suc, _%_, _<_}
-use native.Mathlib.Omega.{arith}
-use native.Mathlib.Decide.{ℕ-discrete, decLt}
-use lib.Dec.{eqb, ltb}
-use lib.ListN.{length, length-set}
-use borrow.Author.Tests.{eqb-true, eq-eqb}
+use mathlib.Core.Bool.{Bool, true, false}
+use mathlib.Core.List.{List, []}
+use mathlib.Core.Path.{_≡_, refl, subst}
+use Prim.Native.Nat.{ℕ, _%_}
+use lib.ListN.{length}
 use Rattle.regs.specs.declared.Dir.{Dir}
 use Rattle.regs.specs.declared.Dir.the-variants.{Out, In}
 use Rattle.bits.specs.Bit.{withBit}
@@ -19,19 +15,21 @@ use Rattle.frame.specs.Usb20.{indexOf, frameOf}
 use Rattle.frame.specs.Advance.{NO_FRAME, completions}
 use Rattle.script.specs.Tree as tree
 use Rattle.script.specs.Machine.{Buf}
-use Rattle.script.specs.Cells.{Plain, ep-cell, globals-cell, allocator-cell, control-cell, paced-cell}
+use Rattle.script.specs.Cells.{ep-cell, globals-cell, allocator-cell, control-cell, paced-cell}
 use Rattle.script.specs.Script.{Script, bind, run, put}
-use Rattle.script.specs.Statics.{isOn, flag, withPaced, withSetup}
+use Rattle.script.specs.Statics.{flag, withPaced, withSetup}
 use Rattle.script.specs.Answers.{Answer, Refused, Done, resultless}
 use Rattle.script.specs.Control.{SETUP, DATA-OUT, DATA-IN, ACCEPT, requestOf, no-control, dataInOf, addressOf, ends-control, unlessSetup, withinMaximum, requested, aborted-else, acks, take-closing, statusIn}
-use Rattle.script.specs.Calls.{Op, slotted, other, aside, PollDataOut, BeginDataIn, Other, BusEnable, BusDisable, Microframe, IsStalled, SetPaced, Advance, BeginSetup, PollSetup, PollDataIn, BeginAccept, PollAccept, BeginReject, BeginDataOut, BeginAcceptSetAddress, Aside, Open, Close, Queue, asideCode}
+use Rattle.script.specs.Calls.{slotted, other, aside, PollDataOut, BeginDataIn, BusEnable, BusDisable, Microframe, IsStalled, SetPaced, Advance, BeginSetup, PollSetup, PollDataIn, BeginAccept, PollAccept, BeginReject, BeginDataOut, BeginAcceptSetAddress, Aside, Open, Close, Queue, asideCode}
 use Rattle.ops.specs.Rings.{St}
 use Rattle.ops.specs.Conc.{conc}
 use Rattle.book.specs.Sorting.{Sorting}
 use Rattle.proof_usb20.specs.Sequence.{Track, before}
 use Rattle.proof_usb20.specs.Follow as follow
-use Rattle.proof_usb20.specs.Follow.{Seen, view, Follow, at-end, Law}
-use Rattle.proof_usb20.specs.Calm.{Off, Else, Quiet, loose, only, off-idle, off-read, put-globals, put-control, put-paced, q-act, q-bind, q-completions, q-enabled, q-ep, q-fetch, q-got, q-is, q-look, q-operation, q-put, q-reg, q-resultless, q-ret, q-staged, q-test, q-when, q-write}
+use Rattle.proof_usb20.specs.Follow.{Seen, view, Follow, Law}
+use Rattle.proof_usb20.specs.Watch.{at-end}
+use Rattle.proof_usb20.specs.Calm.{Off, Else, Quiet, loose, only, off-idle, off-read, put-globals, put-control, put-paced, q-act, q-bind, q-enabled, q-ep, q-fetch, q-got, q-is, q-look, q-operation, q-put, q-reg, q-resultless, q-ret, q-staged, q-test, q-when, q-write}
+use Rattle.proof_usb20.specs.CalmParts.{q-completions}
 use Rattle.proof_usb20.specs.Exempt.{differ}
 use Rattle.proof_usb20.specs.Reading as reading
 use Rattle.proof_usb20.specs.Reading.{quiet-law}
@@ -70,10 +68,12 @@ module _ (D : Dir) (E : ℕ) where
   pub law-aside : (o : Aside) → Law D E (aside o)
   law-aside o = quiet-law D E (aside o) refl (λ _ _. refl) (λ _ _. tt) (q-aside o)
 
-  ended-view : {A : Type 0} {w : Track} {v : Seen} {a : A} {t : St} → Follow D E {A = A} (λ _ _ t. view D E (t .0) ≡ v) w (tree.ends a t) → view D E (t .0) ≡ v
+  ended-view : {A : Type 0} {w : Track} {v : Seen} {a : A} {t : St}
+      → Follow D E {A = A} (λ _ _ t. view D E (t .0) ≡ v) w (tree.ends a t) → view D E (t .0) ≡ v
   ended-view (at-end p) = p
 
-  pub aside-view : (o : Aside) (d : Driver) (b : Buf) (a : Answer) (t : St) → Sorting d → run conc (asideCode o) (d, b) ≡ tree.ends a t → view D E (t .0) ≡ view D E d
+  pub aside-view : (o : Aside) (d : Driver) (b : Buf) (a : Answer) (t : St) → Sorting d
+      → run conc (asideCode o) (d, b) ≡ tree.ends a t → view D E (t .0) ≡ view D E d
   aside-view o d b a t z h = ended-view (subst (Follow D E (λ _ _ t. view D E (t .0) ≡ view D E d) before) h (follow.follow-more D E (q-aside o .goes before (d, b) (refl, λ _ _ _ _. refl) (loose D E (z .places))) (λ _ _ _ m. m .1)))
 
   -- ---- EP0's

@@ -1,16 +1,13 @@
--- Bulk and interrupt endpoints (USB 2.0, 8.6): what the interrupt does once it has seen a token of such an endpoint. A packet is completed, with its
--- length and a wake-up, exactly if the sequence bit in the chip's control word is not the recorded one; else nothing is completed, and a waiting
--- read or write is acknowledged again
-use mathlib.Core.Bool.{Bool, true, false, not, cond}
+-- Bulk and interrupt endpoints (USB 2.0, 8.6): what the interrupt does once it has seen a token of such an endpoint. A
+-- packet is completed, with its length and a wake-up, exactly if the sequence bit in the chip's control word is not the
+-- recorded one; else nothing is completed, and a waiting read or write is acknowledged again
+use mathlib.Core.Bool.{Bool, true, false, not}
 use mathlib.Core.List.{List, [], _∷_}
-use mathlib.Core.Path.{_≡_, refl, ap, subst, sym, _∙_}
+use mathlib.Core.Path.{_≡_, refl, ap, sym, _∙_}
 use Prim.Native.Nat.{ℕ, zero, suc, _≤_}
-use native.Mathlib.Omega.{arith}
 use lib.Dec.{eqb}
-use lib.ListN.{length}
 use Rattle.regs.specs.declared.Access.{Access}
-use Rattle.regs.specs.declared.Access.the-variants.{Read, Write}
-use Rattle.regs.specs.declared.Reg.the-variants.{MisSt}
+use Rattle.regs.specs.declared.Access.the-variants.{Write}
 use Rattle.regs.specs.declared.Dir.{Dir}
 use Rattle.regs.specs.declared.Dir.the-variants.{Out, In}
 use Rattle.regs.specs.Registers.{ctrlOf}
@@ -18,18 +15,17 @@ use Rattle.regs.specs.ControlWord.{toggle, ack, isData1}
 use Rattle.regs.specs.MisStatus.{sieFree}
 use Rattle.regs.specs.Status.{endpoint}
 use Rattle.state.specs.Wakes.{Wakes, wakeCode, all-woken}
-use Rattle.state.specs.Driver.{Driver, epOn, withOn}
+use Rattle.state.specs.Driver.{epOn, withOn}
 use Rattle.script.specs.declared.Transfer.{Transfer}
 use Rattle.script.specs.Tree as tree
 use Rattle.script.specs.Cells.{Plain, ep-cell}
-use Rattle.script.specs.Script.{Script, ret, test, when, get, _>>=_, _>>_, run, waken}
+use Rattle.script.specs.Script.{Script, ret, test, when, get, run, waken, _>>=_, _>>_}
 use Rattle.script.specs.Statics.{isOn, flag, withArmed, withTog, withLen, withReady, completed, modifyEp, modifyReg}
 use Rattle.script.specs.Handler.{looks, repeated, toggled, received, sent, outArm, inArm}
 use Rattle.script.specs.Every.{Every, at-end, at-ask, every-bind, every-cond}
-use Rattle.script.specs.Usb20Toggles as usb
 use Rattle.script.specs.Usb20Toggles.{Pid, DATA0, DATA1, Transaction, bitAfterAll, passed}
 use Rattle.script.specs.TogglesLaws.{number, shown, repeated-not-passed}
-use Rattle.script.specs.ToggledLaws.{toggling, KeepsRecord, Answered, AcksAgain, ack-keeps, ack-acks}
+use Rattle.script.specs.ToggledLaws.{toggling, KeepsRecord, Answered, ack-keeps, ack-acks}
 use Rattle.ops.specs.Records.{plainOf, merged}
 use Rattle.ops.specs.Rings.{St}
 use Rattle.ops.specs.Conc.{conc}
@@ -63,7 +59,8 @@ module _ (d : Dir) (e : ℕ) (r : Plain) (k : Wakes) (p : Pid) where
   looked i zero s h = at-end (refl, h)
   looked i (suc n) s h = at-ask tt (λ v t _ q. every-cond (sieFree v) (λ _. at-end (refl, (q .0 ∙ h .0, q .1))) (λ _. looked i n t (q .0 ∙ h .0, q .1)))
 
-  put-get : (v : Plain) (s : St) → Whole s → plainOf (merged (epOn (s .0) d e) v) ≡ v → conc .get (ep-cell d e) (conc .put (ep-cell d e) v s) ≡ v
+  put-get : (v : Plain) (s : St) → Whole s → plainOf (merged (epOn (s .0) d e) v) ≡ v
+      → conc .get (ep-cell d e) (conc .put (ep-cell d e) v s) ≡ v
   put-get v s h q = ap plainOf (same-ep (s .0) d e (merged (epOn (s .0) d e) v) h) ∙ q
 
   -- what `toggled` leaves
@@ -83,7 +80,8 @@ module _ (d : Dir) (e : ℕ) (r : Plain) (k : Wakes) (p : Pid) where
           modifyEp d e (λ s. withArmed 0 (withTog (flag (isData1 word)) s))
           ret true)
 
-  judged : (i new : Bool) (ws : List Access) → ws ≡ [] → (u : St) (word : ℕ) → Same u → toggle word ≡ number p → repeated r word ≡ not new → Runs (Judged new) ws (run conc (verdict {i = i} word) u)
+  judged : (i new : Bool) (ws : List Access) → ws ≡ [] → (u : St) (word : ℕ) → Same u → toggle word ≡ number p
+      → repeated r word ≡ not new → Runs (Judged new) ws (run conc (verdict {i = i} word) u)
   unfolding withOn
   judged i true ws n u word h b y = every-cond (repeated (conc .get (ep-cell d e) u) word)
       (λ x. differ (sym y ∙ (ap (λ (q : Plain). repeated q word) (sym (h .0)) ∙ x)))
@@ -98,14 +96,17 @@ module _ (d : Dir) (e : ℕ) (r : Plain) (k : Wakes) (p : Pid) where
       (λ g _ t x. at-end (refl, x .0, x .1, x .2)))
       (λ x. differ (sym x ∙ (ap (λ (q : Plain). repeated q word) (h .0) ∙ y)))
 
-  pub told : (i new : Bool) (s : St) → Same s → ((word : ℕ) → toggle word ≡ number p → repeated r word ≡ not new) → Runs (Judged new) [] (run conc (toggled {i = i} d e) s)
+  pub told : (i new : Bool) (s : St) → Same s → ((word : ℕ) → toggle word ≡ number p → repeated r word ≡ not new)
+      → Runs (Judged new) [] (run conc (toggled {i = i} d e) s)
   told i new s h y = every-bind (looked i 2001 s h) (λ g _ t x. at-ask tt (λ word u c q. judged i new g (x .0) u word (q .0 ∙ x .1 .0, q .1) (c refl) (y word (c refl))))
 
-wake-leaves : (d : Dir) (e : ℕ) (cs : List ℕ) (s : St) → conc .get (ep-cell d e) (conc .act (waken cs) s) ≡ conc .get (ep-cell d e) s
+wake-leaves : (d : Dir) (e : ℕ) (cs : List ℕ) (s : St)
+    → conc .get (ep-cell d e) (conc .act (waken cs) s) ≡ conc .get (ep-cell d e) s
 unfolding epOn
 wake-leaves d e cs s = refl
 
-judges : (r : Plain) (p : Pid) (new : Bool) → eqb (r .tog) (number p) ≡ not new → (word : ℕ) → toggle word ≡ number p → repeated r word ≡ not new
+judges : (r : Plain) (p : Pid) (new : Bool) → eqb (r .tog) (number p) ≡ not new → (word : ℕ) → toggle word ≡ number p
+    → repeated r word ≡ not new
 unfolding repeated
 judges r p new h word b = ap (eqb (r .tog)) (shown p word b) ∙ h
 
@@ -119,7 +120,8 @@ out-packet x s p new o h y =
     let e = endpoint (x .st) in let r = conc .get (ep-cell Out e) s in let k = s .0 .wakes in
     every-cond (eqb e 0) (λ z. differ (sym o ∙ z)) (λ _. every-bind (told Out e r k p true new s (refl, (h, refl)) (judges r p new y)) (λ ws b t j. go new ws b t j))
   where
-    go : (new : Bool) (ws : List Access) (b : Bool) (t : St) → Judged Out (endpoint (x .st)) (conc .get (ep-cell Out (endpoint (x .st))) s) (s .0 .wakes) p new ws b t
+    go : (new : Bool) (ws : List Access) (b : Bool) (t : St)
+        → Judged Out (endpoint (x .st)) (conc .get (ep-cell Out (endpoint (x .st))) s) (s .0 .wakes) p new ws b t
         → Every (toggling Out (endpoint (x .st)) p) (Stay Out (endpoint (x .st)) (s .0 .wakes)) (λ _. Unit {0}) (λ ws _ t. Passed Out (endpoint (x .st)) (conc .get (ep-cell Out (endpoint (x .st))) s) (s .0 .wakes) p (x .len) new ws t) ws (run {i = true} conc (when b (received (endpoint (x .st)) (x .len))) t)
     go true ws b t j = every-cond b
         (λ _.
@@ -138,7 +140,8 @@ in-packet x s frame p new o h y =
     let e = endpoint (x .st) in let r = conc .get (ep-cell In e) s in let k = s .0 .wakes in
     every-cond (eqb e 0) (λ z. differ (sym o ∙ z)) (λ _. every-bind (told In e r k p true new s (refl, (h, refl)) (judges r p new y)) (λ ws b t j. go new ws b t j))
   where
-    go : (new : Bool) (ws : List Access) (b : Bool) (t : St) → Judged In (endpoint (x .st)) (conc .get (ep-cell In (endpoint (x .st))) s) (s .0 .wakes) p new ws b t
+    go : (new : Bool) (ws : List Access) (b : Bool) (t : St)
+        → Judged In (endpoint (x .st)) (conc .get (ep-cell In (endpoint (x .st))) s) (s .0 .wakes) p new ws b t
         → Every (toggling In (endpoint (x .st)) p) (Stay In (endpoint (x .st)) (s .0 .wakes)) (λ _. Unit {0}) (λ ws _ t. Passed In (endpoint (x .st)) (conc .get (ep-cell In (endpoint (x .st))) s) (s .0 .wakes) p (x .len) new ws t) ws (run {i = true} conc (when b (sent (endpoint (x .st)))) t)
     go true ws b t j = every-cond b
         (λ _.
@@ -147,8 +150,10 @@ in-packet x s frame p new o h y =
         (λ z. differ (sym z ∙ j .0))
     go false ws b t j = every-cond b (λ z. differ (sym (j .0) ∙ z)) (λ _. at-end (j .1, j .3, j .2))
 
--- the record has the bit b as it was, `ts` are the transactions since, of which at most one passed: the chip's bit is another exactly if one did
-pub new-if-passed : {d : Dir} (r : Plain) (b : Pid) (ts : List (Transaction d)) → r .tog ≡ number b → passed b ts ≤ 1 → eqb (r .tog) (number (bitAfterAll b ts)) ≡ not (eqb (passed b ts) 1)
+-- the record has the bit b as it was, `ts` are the transactions since, of which at most one passed: the chip's bit is
+-- another exactly if one did
+pub new-if-passed : {d : Dir} (r : Plain) (b : Pid) (ts : List (Transaction d)) → r .tog ≡ number b → passed b ts ≤ 1
+    → eqb (r .tog) (number (bitAfterAll b ts)) ≡ not (eqb (passed b ts) 1)
 unfolding repeated isData1 toggle
 new-if-passed r b ts h m = by (bitAfterAll b ts) refl
   where

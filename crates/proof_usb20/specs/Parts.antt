@@ -1,12 +1,11 @@
 -- The interrupt's parts that are not EP0's
-use mathlib.Core.Bool.{Bool, true, false, not, cond, _&&_, _||_}
+use mathlib.Core.Bool.{Bool, false, cond}
 use mathlib.Core.List.{List, [], _∷_}
-use mathlib.Core.Path.{_≡_, refl, ap, subst, sym, _∙_}
+use mathlib.Core.Path.{_≡_, refl, subst, sym, _∙_}
 use Prim.Native.Nat.{ℕ, zero, suc, _%_}
 use native.Mathlib.Omega.{arith}
 use lib.Dec.{eqb}
-use borrow.Author.Tests.{eqb-true, eq-eqb, ne-eqb}
-use Rattle.bits.specs.Bit.{isSet}
+use borrow.Author.Tests.{eq-eqb}
 use Rattle.bits.specs.Walk.{setBits}
 use Rattle.regs.specs.declared.Dir.{Dir}
 use Rattle.regs.specs.declared.Dir.the-variants.{Out, In}
@@ -14,22 +13,22 @@ use Rattle.regs.specs.declared.Token.{Token}
 use Rattle.regs.specs.declared.Token.the-variants as tok
 use Rattle.regs.specs.Registers.{ctrlOf}
 use Rattle.regs.specs.ControlWord.{isData1}
-use Rattle.regs.specs.Status.{endpoint, token}
+use Rattle.regs.specs.Status.{endpoint}
 use Rattle.state.specs.declared.Globals.{Globals}
 use Rattle.script.specs.declared.Transfer.{Transfer}
-use Rattle.script.specs.Cells.{Plain, Cell, Val, ep-cell, globals-cell}
-use Rattle.script.specs.Script.{Script, ret, done, when, is, look, get, act, hand, wait, Test, Look, waiting, next-len, changed, marked, complete, send, arrive}
-use Rattle.script.specs.Statics.{isOn, wake, completed, withLen, withReady, withTog, withArmed, withSofFrame, withLastFrame, flag, isoInEvery, isoOuts, modify, modifyEp, modifyReg}
-use Rattle.script.specs.IsoIn.{firstInFrame, isoInLoad, isoInComplete, leaving, unseen, sofOne, sofWalk, onSof, lateOne, lateWalk, isoInCompletions, isoInAdvance}
-use Rattle.script.specs.IsoOut.{arriving, entry, arrives, checkOne, checkWalk, isoOutCheck}
-use Rattle.script.specs.Handler.{looks, toggled, received, sent, sofArm, outArm, isoInArm, inArm, dispatch, nakNonIso}
+use Rattle.script.specs.Cells.{Plain, Cell, ep-cell, globals-cell}
+use Rattle.script.specs.Script.{Script, when, get}
+use Rattle.script.specs.Statics.{wake, completed, withLen, withReady, withTog, withArmed, withSofFrame, withLastFrame, flag, isoInEvery, isoOuts, modify, modifyEp, modifyReg}
+use Rattle.script.specs.IsoIn.{firstInFrame, isoInComplete, unseen, sofOne, sofWalk, onSof, lateWalk}
+use Rattle.script.specs.IsoOut.{arrives, checkWalk, isoOutCheck}
+use Rattle.script.specs.Handler.{looks, toggled, received, sent, sofArm, dispatch}
 use Rattle.ops.specs.Conc.{conc}
 use Rattle.proof_usb20.specs.Exempt.{differ}
 use Rattle.book.specs.Sorts.{put-steady}
 use Rattle.frame.specs.Usb20.{indexOf, frameOf}
 use Rattle.frame.specs.Advance.{previous}
 use Rattle.proof_usb20.specs.Watch.{at-end}
-use Rattle.proof_usb20.specs.Quiet.{Quiet, steadily, q-ret, q-bind, q-test, q-if, q-read, q-write, q-callback, q-get, q-is, q-look, q-act, q-hand, q-put, q-modify, Other, put-other, put-frame, put-kept, other-word, other-length, q-every}
+use Rattle.proof_usb20.specs.Quiet.{Quiet, steadily, q-ret, q-bind, q-test, q-if, q-read, q-write, q-callback, q-get, q-is, q-look, q-act, q-hand, q-modify, Other, put-other, put-frame, put-kept, other-word, other-length, q-every}
 use Rattle.proof_usb20.specs.Walks.{Each}
 
 -- ---- small ones
@@ -54,7 +53,8 @@ q-reg d e f h = q-bind (q-read (λ _. q-ret)) (λ v. q-write (other-word d e (f 
 pub q-ep : {i : Bool} (d : Dir) (e : ℕ) (f : Plain → Plain) → Other e → Quiet (modifyEp {i = i} d e f)
 q-ep d e f o = q-modify (ep-cell d e) f (λ s. put-other d e o (f (conc .get (ep-cell d e) s)) s)
 
-pub q-globals : {i : Bool} (f : Globals → Globals) → ((g : Globals) → f g .«setup_ready» ≡ g .«setup_ready») → Quiet (modify {i = i} f)
+pub q-globals : {i : Bool} (f : Globals → Globals) → ((g : Globals) → f g .«setup_ready» ≡ g .«setup_ready»)
+    → Quiet (modify {i = i} f)
 q-globals f h = q-modify globals-cell f (λ s. put-kept f h s)
 
 -- ---- the waits
@@ -122,7 +122,8 @@ q-check x iso = q-bind (q-got globals-cell) (λ g. q-walk x iso (setBits (isoOut
 pub q-sof-arm : {i : Bool} (frame : ℕ) → Quiet (sofArm {i = i} frame)
 q-sof-arm frame = q-bind (q-got globals-cell) (λ g. q-when (q-sof frame))
 
-pub q-dispatch : {i : Bool} (t : Token) (x : Transfer) (iso : Bool) (frame : ℕ) → eqb (endpoint (x .st)) 0 ≡ false → Quiet (dispatch {i = i} t x iso frame)
+pub q-dispatch : {i : Bool} (t : Token) (x : Transfer) (iso : Bool) (frame : ℕ) → eqb (endpoint (x .st)) 0 ≡ false
+    → Quiet (dispatch {i = i} t x iso frame)
 q-dispatch tok.Sof x iso frame h = q-sof-arm frame
 q-dispatch tok.Out x iso frame h = q-test q-ret (q-if (eqb (endpoint (x .st)) 0) (λ z. differ (sym h ∙ z)) (λ _. q-bind (q-toggled Out (endpoint (x .st)) h (not-0 (x .st) h)) (λ b. q-when (q-received (endpoint (x .st)) (x .len) (not-0 (x .st) h)))))
 q-dispatch tok.In x iso frame h = q-test (q-bind (q-got globals-cell) (λ g. q-test q-ret (q-bind (q-first (endpoint (x .st)) frame) (λ b. q-when (q-complete (endpoint (x .st)) h)))))

@@ -1,37 +1,35 @@
--- The laws of the control pipe's polls: a poll is done exactly after the completion, and writes the address after it alone
-use mathlib.Core.Bool.{Bool, true, false, not, cond, _&&_, _||_}
-use mathlib.Core.List.{List, []}
+-- The laws of the control pipe's polls: a poll is done exactly after the completion, and writes the address after it
+-- alone
+use mathlib.Core.Bool.{Bool, true, false, cond}
+use mathlib.Core.List.{[]}
 use mathlib.Core.Logic.{_⊎_, inl, inr}
 use mathlib.Core.Path.{_≡_, refl, ap, subst, sym, _∙_}
-use Prim.Native.Nat.{ℕ, zero, suc, _%_}
+use Prim.Native.Nat.{ℕ}
 use native.Mathlib.Omega.{arith}
 use lib.Dec.{eqb, ltb}
 use lib.ListN.{length}
 use borrow.Author.Tests.{eqb-true}
-use Rattle.regs.specs.declared.Dir.{Dir}
 use Rattle.regs.specs.declared.Dir.the-variants.{Out, In}
 use Rattle.state.specs.declared.Control.{Control}
-use Rattle.state.specs.declared.Globals.{Globals}
 use Rattle.script.specs.Tree as tree
-use Rattle.script.specs.Cells.{Plain, ep-cell, control-cell, globals-cell}
+use Rattle.script.specs.Cells.{ep-cell, control-cell, globals-cell}
 use Rattle.script.specs.Script.{run, no-wakes}
-use Rattle.script.specs.Statics.{isOn, flag, withReady, withSetup}
-use Rattle.script.specs.Answers.{Answer, Refused, End, NotYet, Done, Shown}
-use Rattle.script.specs.Control.{SETUP, DATA-OUT, DATA-IN, ACCEPT, requestOf, no-control, dataInOf, addressOf, setupBytes}
-use Rattle.script.specs.Calls.{Op, interrupt, slotted, other, aside, PollDataOut, PollSetup, PollDataIn, PollAccept, code}
+use Rattle.script.specs.Statics.{isOn, withReady, withSetup}
+use Rattle.script.specs.Answers.{Answer, Refused, NotYet, Done}
+use Rattle.script.specs.Control.{SETUP, DATA-OUT, DATA-IN, ACCEPT, no-control, dataInOf}
+use Rattle.script.specs.Calls.{slotted, other, PollDataOut, PollSetup, PollDataIn, PollAccept, code}
 use Rattle.ops.specs.Rings.{St}
 use Rattle.ops.specs.Conc.{conc}
-use Rattle.book.specs.Sorts.{Steady, put-steady}
 use Rattle.book.specs.Sorting.{Sorting}
 use Rattle.proof_usb20.specs.Pipe.{Half, Pipe, Awaited, nothing, taken, given, confirmed, over}
-use Rattle.proof_usb20.specs.Log.{Log, withAwaits, withPhase, off, opens, closes, Allowed, Fair, Complete}
+use Rattle.proof_usb20.specs.Log.{Log, withPhase, off, Allowed}
 use Rattle.proof_usb20.specs.Watch.{at-end, at-ask, watch-cond}
-use Rattle.proof_usb20.specs.Ep0.{Watch, Rec, View, view, Fits, Rests, no-request, set-up, Gives, first-wait, second-wait, Waits, Rel, R, Keeps, Ends, Law}
+use Rattle.proof_usb20.specs.Ep0.{Watch, Rec, View, view, Fits, Rests, no-request, set-up, Gives, first-wait, second-wait, Rel, R, Keeps, Ends, Law}
 use Rattle.proof_usb20.specs.Exempt.{exempt-law, differ}
 use Rattle.proof_usb20.specs.Fitting as fitting
-use Rattle.proof_usb20.specs.Views.{rec, setOut, setIn, setControl, setReady, put-out, put-in, put-control, put-globals}
+use Rattle.proof_usb20.specs.Views.{setIn, setControl, setReady, put-control, put-globals}
 use Rattle.proof_usb20.specs.Same.{act-view}
-use Rattle.proof_usb20.specs.Stages.{outWith, inWith, Whole, out-view, in-view, out-whole, in-whole, moved}
+use Rattle.proof_usb20.specs.Stages.{outWith, inWith, Whole, out-view, in-view, out-whole, moved}
 
 -- ---- a request that is over
 
@@ -48,7 +46,8 @@ pub record Kin (x y : View) : Type 0 where
 refit : {v : ℕ} {h : Half} {r s : Rec} → s .armed ≡ r .armed → Fits v h r → Fits v h s
 refit e f = record { shows = f .shows; toggles = f .toggles; armed = ap isOn e ∙ f .armed }
 
-pub over-now : {ex : Bool} {rx tx l : ℕ} {p : Pipe} {a : Awaited} {u : Bool} {x y : View} → Rel rx tx l p a u x → Kin x y → y .control ≡ no-control → (ex ≡ true) ⊎ Rel rx tx l p nothing u y
+pub over-now : {ex : Bool} {rx tx l : ℕ} {p : Pipe} {a : Awaited} {u : Bool} {x y : View} → Rel rx tx l p a u x
+    → Kin x y → y .control ≡ no-control → (ex ≡ true) ⊎ Rel rx tx l p nothing u y
 over-now r k c = inr (record { stage = k .stage ∙ r .stage; out = refit (k .out) (r .out); inn = refit (k .inn) (r .inn); waits = rested c; size = r .size; setup = ap isOn (k .setup) ∙ r .setup })
 
 -- ---- the states
@@ -92,7 +91,9 @@ law-poll-setup w s (inr r) z =
     seen : view (none x .0) ≡ setControl no-control (setReady 0 (view (s .0)))
     seen = none-view x ∙ ap (setControl no-control) (put-globals (withSetup 0 (s .0 .globals .«setup_low») (s .0 .globals .«setup_high») (s .0 .globals)) s)
 
-    taken-setup : (a : Awaited) → Rel (w .rx) (w .tx) (w .len) (w .pipe) a (w .untaken) (view (s .0)) → s .0 .control .sort ≡ 1 → (w .exempt ≡ true) ⊎ Rel (w .rx) (w .tx) (w .len) (w .pipe) a false (view (none x .0))
+    taken-setup : (a : Awaited) → Rel (w .rx) (w .tx) (w .len) (w .pipe) a (w .untaken) (view (s .0))
+        → s .0 .control .sort ≡ 1
+        → (w .exempt ≡ true) ⊎ Rel (w .rx) (w .tx) (w .len) (w .pipe) a false (view (none x .0))
     taken-setup nothing r q = moved seen (inr (record { stage = r .stage; out = r .out; inn = r .inn; waits = rested refl; size = r .size; setup = fitting.off }))
     taken-setup taken r q = absurd (omega (arith, q, r .waits .0))
     taken-setup (given last) r q = absurd (omega (arith, q, r .waits .0))
@@ -101,7 +102,8 @@ law-poll-setup w s (inr r) z =
 -- ---- data_out
 
 -- not ready: the wait goes on, or a setup packet has ended it
-ready-out : (a : Awaited) {rx tx l : ℕ} {p : Pipe} {u : Bool} {x : View} → Rel rx tx l p a u x → x .control .sort ≡ 2 → isOn (x .out .ready) ≡ true → over a p ≡ true
+ready-out : (a : Awaited) {rx tx l : ℕ} {p : Pipe} {u : Bool} {x : View} → Rel rx tx l p a u x → x .control .sort ≡ 2
+    → isOn (x .out .ready) ≡ true → over a p ≡ true
 ready-out nothing {p = p} {x = x} r q o = by (r .waits)
   where
     by : Rests p x → false ≡ true
@@ -111,7 +113,8 @@ ready-out taken r q o = sym (r .waits .1) ∙ o
 ready-out (given last) r q o = absurd (omega (arith, q, r .waits .0))
 ready-out confirmed r q o = absurd (omega (arith, q, r .waits .0))
 
-unready-out : (a : Awaited) {rx tx l : ℕ} {p : Pipe} {u : Bool} {x : View} → Rel rx tx l p a u x → x .control .sort ≡ 2 → isOn (x .out .ready) ≡ false → over a p ≡ false
+unready-out : (a : Awaited) {rx tx l : ℕ} {p : Pipe} {u : Bool} {x : View} → Rel rx tx l p a u x → x .control .sort ≡ 2
+    → isOn (x .out .ready) ≡ false → over a p ≡ false
 unready-out nothing r q o = refl
 unready-out taken r q o = sym (r .waits .1) ∙ o
 unready-out (given last) r q o = absurd (omega (arith, q, r .waits .0))
@@ -137,7 +140,8 @@ law-poll-data-out n w s (inr r) z =
 
 -- ---- accept
 
-ready-status : (a : Awaited) {rx tx l : ℕ} {p : Pipe} {u : Bool} {x : View} → Rel rx tx l p a u x → x .control .sort ≡ 4 → isOn (x .inn .ready) ≡ true → over a p ≡ true
+ready-status : (a : Awaited) {rx tx l : ℕ} {p : Pipe} {u : Bool} {x : View} → Rel rx tx l p a u x → x .control .sort ≡ 4
+    → isOn (x .inn .ready) ≡ true → over a p ≡ true
 ready-status nothing {p = p} {x = x} r q o = by (r .waits)
   where
     by : Rests p x → false ≡ true
@@ -147,7 +151,8 @@ ready-status taken r q o = absurd (omega (arith, q, r .waits .0))
 ready-status (given last) r q o = absurd (omega (arith, q, r .waits .0))
 ready-status confirmed r q o = sym (r .waits .1) ∙ o
 
-unready-status : (a : Awaited) {rx tx l : ℕ} {p : Pipe} {u : Bool} {x : View} → Rel rx tx l p a u x → x .control .sort ≡ 4 → isOn (x .inn .ready) ≡ false → over a p ≡ false
+unready-status : (a : Awaited) {rx tx l : ℕ} {p : Pipe} {u : Bool} {x : View} → Rel rx tx l p a u x
+    → x .control .sort ≡ 4 → isOn (x .inn .ready) ≡ false → over a p ≡ false
 unready-status nothing r q o = refl
 unready-status taken r q o = absurd (omega (arith, q, r .waits .0))
 unready-status (given last) r q o = absurd (omega (arith, q, r .waits .0))
@@ -176,10 +181,13 @@ law-poll-accept w s (inr r) z =
 data Waiting (a : Awaited) (p : Pipe) (x : View) : Type 0 where
   -- a setup packet has ended it
   aborted : isOn (x .setup-ready) ≡ true → isOn (x .out .ready) ≡ false → isOn (x .inn .ready) ≡ false → Waiting a p x
-  packet-of : (last : Bool) → a ≡ given last → isOn (x .control .last) ≡ last → x .control .wait ≡ 1 → isOn (x .inn .ready) ≡ p .inn .through → (last ≡ true → isOn (x .out .ready) ≡ p .out .through) → Waiting a p x
-  closing-of : a ≡ given true → isOn (x .control .last) ≡ true → x .control .wait ≡ 2 → p .inn .through ≡ true → isOn (x .out .ready) ≡ p .out .through → Waiting a p x
+  packet-of : (last : Bool) → a ≡ given last → isOn (x .control .last) ≡ last → x .control .wait ≡ 1
+      → isOn (x .inn .ready) ≡ p .inn .through → (last ≡ true → isOn (x .out .ready) ≡ p .out .through) → Waiting a p x
+  closing-of : a ≡ given true → isOn (x .control .last) ≡ true → x .control .wait ≡ 2 → p .inn .through ≡ true
+      → isOn (x .out .ready) ≡ p .out .through → Waiting a p x
 
-waiting : (a : Awaited) {rx tx l : ℕ} {p : Pipe} {u : Bool} {x : View} → Rel rx tx l p a u x → x .control .sort ≡ 3 → Waiting a p x
+waiting : (a : Awaited) {rx tx l : ℕ} {p : Pipe} {u : Bool} {x : View} → Rel rx tx l p a u x → x .control .sort ≡ 3
+    → Waiting a p x
 waiting nothing {p = p} {x = x} r q = by (r .waits)
   where
     by : Rests p x → Waiting nothing p x
@@ -205,7 +213,8 @@ not-sent false p h = h
 abbrev second : St → St
 second s = conc .put control-cell (dataInOf (s .0 .control .length) (s .0 .control .last) 2) (inWith (withReady 0) s)
 
-second-view : (s : St) → Whole s → view (second s .0) ≡ setControl (dataInOf (s .0 .control .length) (s .0 .control .last) 2) (setIn (record { ready = 0; armed = view (s .0) .inn .armed }) (view (s .0)))
+second-view : (s : St) → Whole s
+    → view (second s .0) ≡ setControl (dataInOf (s .0 .control .length) (s .0 .control .last) 2) (setIn (record { ready = 0; armed = view (s .0) .inn .armed }) (view (s .0)))
 second-view s h = put-control (dataInOf (s .0 .control .length) (s .0 .control .last) 2) (inWith (withReady 0) s) ∙ ap (setControl (dataInOf (s .0 .control .length) (s .0 .control .last) 2)) (in-view (withReady 0) s h)
 
 abbrev Polled : Log → St → tree.Out St Answer → Type 0
@@ -213,7 +222,8 @@ Polled w s o = Watch Keeps (Allowed (other PollDataIn)) (Ends (other PollDataIn)
 
 module _ (w : Log) (s : St) (r : Rel (w .rx) (w .tx) (w .len) (w .pipe) (w .awaits) (w .untaken) (view (s .0))) (z : Sorting (s .0)) where
   -- the closing OUT came, empty or with data
-  closed : (k : St) → Kin (view (s .0)) (view (none k .0)) → over (w .awaits) (w .pipe) ≡ true → (e : Bool) → Polled w s (tree.ends (cond e (Done []) (Refused 10)) (none k))
+  closed : (k : St) → Kin (view (s .0)) (view (none k .0)) → over (w .awaits) (w .pipe) ≡ true → (e : Bool)
+      → Polled w s (tree.ends (cond e (Done []) (Refused 10)) (none k))
   closed k i o true = at-end {a = Done []} (over-now r i (done-none k), (tt, λ _. o))
   closed k i o false = at-end {a = Refused 10} (over-now r i (done-none k), (λ h. differ h, tt))
 
@@ -221,7 +231,8 @@ module _ (w : Log) (s : St) (r : Rel (w .rx) (w .tx) (w .len) (w .pipe) (w .awai
   refused g = at-end {a = Refused 9} (over-now r (kin-none s) (done-none s), (λ _ _. sym (r .setup) ∙ g, tt))
 
   -- the data packet went through, the closing OUT is awaited
-  goes-on : w .awaits ≡ given true → isOn (s .0 .control .last) ≡ true → w .pipe .inn .through ≡ true → isOn (view (s .0) .out .ready) ≡ w .pipe .out .through → R (withPhase off w) (view (second s .0))
+  goes-on : w .awaits ≡ given true → isOn (s .0 .control .last) ≡ true → w .pipe .inn .through ≡ true
+      → isOn (view (s .0) .out .ready) ≡ w .pipe .out .through → R (withPhase off w) (view (second s .0))
   goes-on a l i o = inr (subst (λ (x : Awaited). Rel (w .rx) (w .tx) (w .len) (w .pipe) x (w .untaken) (view (second s .0))) (sym a) (subst (Rel (w .rx) (w .tx) (w .len) (w .pipe) (given true) (w .untaken)) (sym (second-view s (z .places))) (record { stage = r .stage; out = r .out; inn = refit refl (r .inn); waits = (refl, l, second-wait refl refl i o); size = r .size; setup = r .setup })))
 
   polled-in : Waiting (w .awaits) (w .pipe) (view (s .0)) → Polled w s (run conc (code (other PollDataIn)) s)
@@ -265,6 +276,7 @@ pub law-poll-data-in : Law (other PollDataIn)
 law-poll-data-in w s (inl e) z = exempt-law (other PollDataIn) tt w s e
 law-poll-data-in w s (inr r) z = by (eqb (s .0 .control .sort) DATA-IN) refl
   where
-    by : (t : Bool) → eqb (s .0 .control .sort) DATA-IN ≡ t → Watch Keeps (Allowed (other PollDataIn)) (Ends (other PollDataIn)) (withPhase off w) (run conc (code (other PollDataIn)) s)
+    by : (t : Bool) → eqb (s .0 .control .sort) DATA-IN ≡ t
+        → Watch Keeps (Allowed (other PollDataIn)) (Ends (other PollDataIn)) (withPhase off w) (run conc (code (other PollDataIn)) s)
     by true q = polled-in w s r z (waiting (w .awaits) r (eqb-true (s .0 .control .sort) DATA-IN q))
     by false q = watch-cond (eqb (s .0 .globals .stage) 2) (λ _. watch-cond (eqb (s .0 .control .sort) DATA-IN) (λ y. differ (sym q ∙ y)) (λ _. at-end (inr r, (λ h. differ h, tt)))) (λ _. at-end (inr r, (λ h. differ h, tt)))

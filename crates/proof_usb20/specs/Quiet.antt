@@ -1,46 +1,43 @@
 -- Scripts that leave EP0 alone: its control words, its records, the setup packet and the control pipe's request
-use mathlib.Core.Bool.{Bool, true, false, not, cond, _&&_, _||_}
-use mathlib.Core.List.{List, [], _∷_}
+use mathlib.Core.Bool.{Bool, true, false, not}
+use mathlib.Core.List.{List}
 use mathlib.Core.Path.{_≡_, refl, ap, subst, sym, _∙_}
-use Prim.Native.Nat.{ℕ, zero, suc, _%_}
-use native.Mathlib.Omega.{arith}
+use Prim.Native.Nat.{ℕ, _%_}
 use lib.Dec.{eqb}
 use lib.ListN.{length}
 use borrow.Author.Tests.{eqb-true}
 use Rattle.bits.specs.Walk.{setBits}
 use Rattle.regs.specs.declared.Access.{Access}
-use Rattle.regs.specs.declared.Access.the-variants.{Read, Write}
 use Rattle.regs.specs.declared.Reg.{Reg}
-use Rattle.regs.specs.declared.Reg.the-variants.{EpTLen, EpRxCtrl, EpTxCtrl}
+use Rattle.regs.specs.declared.Reg.the-variants.{EpTLen}
 use Rattle.regs.specs.declared.Dir.{Dir}
 use Rattle.regs.specs.declared.Dir.the-variants.{Out, In}
 use Rattle.regs.specs.Registers.{ctrlOf}
-use Rattle.regs.specs.Status.{endpoint}
 use Rattle.state.specs.declared.Globals.{Globals}
-use Rattle.state.specs.Driver.{Driver, key, epOn, withOn, withRequestOn, withPacedOn}
+use Rattle.state.specs.Driver.{Driver, key, epOn, withOn}
 use Rattle.state.specs.Laws.{key-apart, key-same}
-use Rattle.script.specs.declared.Transfer.{Transfer}
 use Rattle.script.specs.Tree as tree
-use Rattle.script.specs.Cells.{Plain, Cell, Val, ep-cell, globals-cell, control-cell, request-cell, paced-cell}
-use Rattle.script.specs.Script.{Script, get, ret, bind, test, read-then, write-then, callback-then, get-then, put-then, is-then, look-then, fetch-then, act-then, hand-then, run, Test, Look, Fetch, Act, Hand, handAsk, arrive, send, place, place0, dma, complete, waken}
+use Rattle.script.specs.Cells.{Plain, Cell, Val, ep-cell, globals-cell}
+use Rattle.script.specs.Script.{Script, get, ret, bind, test, read-then, write-then, callback-then, get-then, put-then, is-then, look-then, fetch-then, act-then, hand-then, run, Test, Look, Fetch, Act, Hand, handAsk, arrive, send, place, place0}
 use Rattle.script.specs.Sorts.{Among, allocates}
 use Rattle.script.specs.SortsWalks.{among-ins}
-use Rattle.script.specs.Statics.{isOn, withLastFrame, isoInEvery, isoOuts}
-use Rattle.ops.specs.Records.{merged, plainOf}
+use Rattle.script.specs.Statics.{isOn, withLastFrame, isoInEvery}
+use Rattle.ops.specs.Records.{merged}
 use Rattle.ops.specs.Rings.{St}
 use Rattle.ops.specs.Conc.{conc}
-use Rattle.book.specs.Sorts.{Steady, put-steady, act-steady, hand-steady}
+use Rattle.book.specs.Sorts.{Steady, put-steady, act-steady}
 use Rattle.book.specs.Sorting.{Sorting, ep0-plain}
 use Rattle.proof_usb20.specs.Exempt.{differ}
 use Rattle.proof_usb20.specs.Fitting.{negated}
 use Rattle.proof_usb20.specs.Walks.{Each, each-set}
 use Rattle.proof_usb20.specs.Log.{Log, off, reads, writes, saw}
 use Rattle.proof_usb20.specs.Watch.{at-end, at-ask, watch-bind, watch-more, watch-cond}
-use Rattle.proof_usb20.specs.Ep0.{Watch, View, view, recOf, Keeps}
-use Rattle.proof_usb20.specs.Same.{Same, same-view, record-same, act-view, hand-view}
+use Rattle.proof_usb20.specs.Ep0.{Watch, view, recOf, Keeps}
+use Rattle.proof_usb20.specs.Same.{same-view, record-same, act-view, hand-view}
 use Rattle.proof_usb20.specs.Views.{made, ep-other, put-globals}
 
--- what stays of a state beside EP0's view: the records' places, and EP0 is not isochronous, nor among the isochronous IN
+-- what stays of a state beside EP0's view: the records' places, and EP0 is not isochronous, nor among the isochronous
+-- IN
 pub record Plain0 (d : Driver) : Type 0 where
   pub whole : length (d .eps) ≡ 32
   pub plain : (dir : Dir) → isOn (epOn d dir 0 .iso) ≡ false
@@ -66,42 +63,52 @@ abbrev pub Any : Log → Type 0
 Any x = Unit {0}
 
 pub record Quiet {i : Bool} {A : Type 0} (p : Script i A) : Type 0 where
-  pub goes : (w : Log) (s : St) → w .phase ≡ off → Plainly s → Watch Keeps Any {A = A} (λ x _ t. Stays w s x t) w (run conc p s)
+  pub goes : (w : Log) (s : St) → w .phase ≡ off → Plainly s
+      → Watch Keeps Any {A = A} (λ x _ t. Stays w s x t) w (run conc p s)
 
 -- ---- how they are put together
 
 pub q-ret : {i : Bool} {A : Type 0} {a : A} → Quiet (ret {i = i} a)
 q-ret = record { goes = λ w s z k. at-end (refl, refl, k) }
 
-pub q-bind : {i : Bool} {A B : Type 0} {p : Script i A} {f : A → Script i B} → Quiet p → ((a : A) → Quiet (f a)) → Quiet (bind p f)
+pub q-bind : {i : Bool} {A B : Type 0} {p : Script i A} {f : A → Script i B} → Quiet p → ((a : A) → Quiet (f a))
+    → Quiet (bind p f)
 q-bind {f = f} x y = record { goes = λ w s z k. watch-bind (x .goes w s z k) (λ v a t l. subst (λ (u : Log). Watch Keeps Any (λ x _ t. Stays w s x t) u (run conc (f a) t)) (sym (l .0)) (watch-more (y a .goes w t z (l .2)) (λ _ _ _ m. (m .0, m .1 ∙ l .1, m .2)))) }
 
 pub q-test : {i : Bool} {A : Type 0} {b : Bool} {p q : Script i A} → Quiet p → Quiet q → Quiet (test b p q)
 q-test {b = b} x y = record { goes = λ w s z k. watch-cond b (λ _. x .goes w s z k) (λ _. y .goes w s z k) }
 
 -- with the test's answer
-pub q-if : {i : Bool} {A : Type 0} (b : Bool) {p q : Script i A} → (b ≡ true → Quiet p) → (b ≡ false → Quiet q) → Quiet (test b p q)
+pub q-if : {i : Bool} {A : Type 0} (b : Bool) {p q : Script i A} → (b ≡ true → Quiet p) → (b ≡ false → Quiet q)
+    → Quiet (test b p q)
 q-if b x y = record { goes = λ w s z k. watch-cond b (λ h. x h .goes w s z k) (λ h. y h .goes w s z k) }
 
 -- an access that leaves the log, the state as it was
-pub asked : {A : Type 0} {q : Access} {s : St} {f : ℕ → St → tree.Out St A} (w : Log) → ((v : ℕ) → saw w q v ≡ w) → ((v : ℕ) (t : St) → Plainly t → Watch Keeps Any {A = A} (λ x _ u. Stays w t x u) w (f v t)) → Watch Keeps Any {A = A} (λ x _ u. Stays w s x u) w (tree.asks q s f)
+pub asked : {A : Type 0} {q : Access} {s : St} {f : ℕ → St → tree.Out St A} (w : Log) → ((v : ℕ) → saw w q v ≡ w)
+    → ((v : ℕ) (t : St) → Plainly t → Watch Keeps Any {A = A} (λ x _ u. Stays w t x u) w (f v t))
+    → Watch Keeps Any {A = A} (λ x _ u. Stays w s x u) w (tree.asks q s f)
 asked {s = s} {f = f} w e g = at-ask tt (λ v t b k. subst (λ (u : Log). Watch Keeps Any (λ x _ t. Stays w s x t) u (f v t)) (sym (e v)) (watch-more (g v t (plainly (k .1))) (λ _ _ _ m. (m .0, m .1 ∙ k .0, m .2))))
 
-pub q-read : {i : Bool} {A : Type 0} {r : Reg} {e : ℕ} {f : ℕ → Script i A} → ((v : ℕ) → Quiet (f v)) → Quiet (read-then r e f)
+pub q-read : {i : Bool} {A : Type 0} {r : Reg} {e : ℕ} {f : ℕ → Script i A} → ((v : ℕ) → Quiet (f v))
+    → Quiet (read-then r e f)
 q-read {r = r} x = record { goes = λ w s z k. asked w (λ v. ap (λ p. reads p r v w) z) (λ v t l. x v .goes w t z l) }
 
 -- a write, of no control word of EP0's
-pub q-write : {i : Bool} {A : Type 0} {r : Reg} {e v : ℕ} {p : Script i A} → ((w : Log) → writes r e v w ≡ w) → Quiet p → Quiet (write-then r e v p)
+pub q-write : {i : Bool} {A : Type 0} {r : Reg} {e v : ℕ} {p : Script i A} → ((w : Log) → writes r e v w ≡ w) → Quiet p
+    → Quiet (write-then r e v p)
 q-write h x = record { goes = λ w s z k. asked w (λ _. h w) (λ _ t l. x .goes w t z l) }
 
 pub q-callback : {i : Bool} {A : Type 0} {p : Script i A} → Quiet p → Quiet (callback-then p)
 q-callback x = record { goes = λ w s z k. asked w (λ _. refl) (λ _ t l. x .goes w t z l) }
 
-pub q-get : {i : Bool} {A : Type 0} {c : Cell} {f : Val c → Script i A} → ((v : Val c) → Quiet (f v)) → Quiet (get-then c f)
+pub q-get : {i : Bool} {A : Type 0} {c : Cell} {f : Val c → Script i A} → ((v : Val c) → Quiet (f v))
+    → Quiet (get-then c f)
 q-get {c = c} x = record { goes = λ w s z k. x (conc .get c s) .goes w s z k }
 
 -- the isochronous IN endpoints that an interrupt walks: not EP0
-pub q-every : {i : Bool} {A : Type 0} {f : Globals → Script i A} → ((g : Globals) → Each (λ e. eqb e 0 ≡ false) (setBits (isoInEvery g)) → Quiet (f g)) → Quiet (bind (get {i = i} globals-cell) f)
+pub q-every : {i : Bool} {A : Type 0} {f : Globals → Script i A}
+    → ((g : Globals) → Each (λ e. eqb e 0 ≡ false) (setBits (isoInEvery g)) → Quiet (f g))
+    → Quiet (bind (get {i = i} globals-cell) f)
 q-every {f = f} x = record { goes = λ w s z k. x (s .0 .globals) (each-set (isoInEvery (s .0 .globals)) (λ e l h. negated (eqb e 0) (among-ins (λ e. not (eqb e 0)) (s .0 .globals) (k .every) e l h))) .goes w s z k }
 
 pub q-is : {i : Bool} {A : Type 0} {q : Test} {f : Bool → Script i A} → ((b : Bool) → Quiet (f b)) → Quiet (is-then q f)
@@ -110,11 +117,13 @@ q-is {q = q} x = record { goes = λ w s z k. x (conc .is q s) .goes w s z k }
 pub q-look : {i : Bool} {A : Type 0} {q : Look} {f : ℕ → Script i A} → ((n : ℕ) → Quiet (f n)) → Quiet (look-then q f)
 q-look {q = q} x = record { goes = λ w s z k. x (conc .look q s) .goes w s z k }
 
-pub q-fetch : {i : Bool} {A : Type 0} {q : Fetch} {f : List ℕ → Script i A} → ((l : List ℕ) → Quiet (f l)) → Quiet (fetch-then q f)
+pub q-fetch : {i : Bool} {A : Type 0} {q : Fetch} {f : List ℕ → Script i A} → ((l : List ℕ) → Quiet (f l))
+    → Quiet (fetch-then q f)
 q-fetch {q = q} x = record { goes = λ w s z k. x (conc .fetch q s) .goes w s z k }
 
 -- a state that shows the same
-pub onward : {A : Type 0} {o : tree.Out St A} (w : Log) (s t : St) → view (t .0) ≡ view (s .0) → Watch Keeps Any {A = A} (λ x _ u. Stays w t x u) w o → Watch Keeps Any {A = A} (λ x _ u. Stays w s x u) w o
+pub onward : {A : Type 0} {o : tree.Out St A} (w : Log) (s t : St) → view (t .0) ≡ view (s .0)
+    → Watch Keeps Any {A = A} (λ x _ u. Stays w t x u) w o → Watch Keeps Any {A = A} (λ x _ u. Stays w s x u) w o
 onward w s t e x = watch-more x (λ _ _ _ m. (m .0, m .1 ∙ e, m .2))
 
 pub q-act : {i : Bool} {A : Type 0} {q : Act} {p : Script i A} → allocates q ≡ false → Quiet p → Quiet (act-then q p)
@@ -131,11 +140,14 @@ pub q-hand : {i : Bool} {A : Type 0} {q : Hand} {p : Script i A} → Quiet p →
 q-hand {q = q} x = record { goes = λ w s z k. onward w s (conc .hand q s .1) (hand-view q s) (asked w (hand-silent q (conc .hand q s .0) w) (λ _ t l. x .goes w t z l)) }
 
 -- an assignment that shows the same
-pub q-put : {i : Bool} {A : Type 0} {c : Cell} {v : Val c} {p : Script i A} → ((s : St) → view (conc .put c v s .0) ≡ view (s .0)) → Quiet p → Quiet (put-then c v p)
+pub q-put : {i : Bool} {A : Type 0} {c : Cell} {v : Val c} {p : Script i A}
+    → ((s : St) → view (conc .put c v s .0) ≡ view (s .0)) → Quiet p → Quiet (put-then c v p)
 q-put {c = c} {v = v} e x = record { goes = λ w s z k. onward w s (conc .put c v s) (e s) (x .goes w (conc .put c v s) z (steadily (put-steady c v s) k)) }
 
 -- a record that is read and changed
-pub q-modify : {i : Bool} (c : Cell) (f : Val c → Val c) → ((s : St) → view (conc .put c (f (conc .get c s)) s .0) ≡ view (s .0)) → Quiet (bind {i = i} (get-then c ret) (λ p. put-then c (f p) (ret (tt {0}))))
+pub q-modify : {i : Bool} (c : Cell) (f : Val c → Val c)
+    → ((s : St) → view (conc .put c (f (conc .get c s)) s .0) ≡ view (s .0))
+    → Quiet (bind {i = i} (get-then c ret) (λ p. put-then c (f p) (ret (tt {0}))))
 q-modify c f e = record { goes = λ w s z k. onward w s (conc .put c (f (conc .get c s)) s) (e s) (at-end (refl, refl, steadily (put-steady c (f (conc .get c s)) s) k)) }
 
 -- ---- assignments
@@ -155,11 +167,13 @@ unfolding withOn
 put-other d e o v s = made _ _ (ap recOf (ep-other (s .0) d e (merged (epOn (s .0) d e) v) Out 0 (apart d Out e o))) (ap recOf (ep-other (s .0) d e (merged (epOn (s .0) d e) v) In 0 (apart d In e o))) refl refl refl
 
 -- `last_frame` of any
-pub put-frame : (d : Dir) (e frame : ℕ) (s : St) → view (conc .put (ep-cell d e) (withLastFrame frame (conc .get (ep-cell d e) s)) s .0) ≡ view (s .0)
+pub put-frame : (d : Dir) (e frame : ℕ) (s : St)
+    → view (conc .put (ep-cell d e) (withLastFrame frame (conc .get (ep-cell d e) s)) s .0) ≡ view (s .0)
 put-frame d e frame s = same-view (record-same (s .0) d e (merged (epOn (s .0) d e) (withLastFrame frame (conc .get (ep-cell d e) s))) refl)
 
 -- the globals but for the setup packet
-pub put-kept : (f : Globals → Globals) → ((g : Globals) → f g .«setup_ready» ≡ g .«setup_ready») → (s : St) → view (conc .put globals-cell (f (conc .get globals-cell s)) s .0) ≡ view (s .0)
+pub put-kept : (f : Globals → Globals) → ((g : Globals) → f g .«setup_ready» ≡ g .«setup_ready») → (s : St)
+    → view (conc .put globals-cell (f (conc .get globals-cell s)) s .0) ≡ view (s .0)
 put-kept f h s = put-globals (f (s .0 .globals)) s ∙ ap (λ n. record { out = view (s .0) .out; inn = view (s .0) .inn; control = view (s .0) .control; setup-ready = n; stage = view (s .0) .stage }) (h (s .0 .globals))
 
 -- a control word of another endpoint's

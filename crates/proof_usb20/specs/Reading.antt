@@ -1,8 +1,8 @@
 -- The laws of reads and writes: the endpoint's own, and the others'
 use mathlib.Core.Bool.{Bool, true, false, not, cond, _&&_}
-use mathlib.Core.List.{List, [], _∷_}
+use mathlib.Core.List.{List, []}
 use mathlib.Core.Path.{_≡_, refl, ap, subst, sym, _∙_}
-use Prim.Native.Nat.{ℕ, zero, suc, _%_}
+use Prim.Native.Nat.{ℕ}
 use native.Mathlib.Omega.{arith}
 use lib.Dec.{eqb, ltb}
 use lib.ListN.{length, getD, set}
@@ -15,10 +15,10 @@ use Rattle.regs.specs.Enables as enables
 use Rattle.state.specs.declared.EpState.{EpState}
 use Rattle.state.specs.Driver.{Driver, key, noEp, epOn, withOn}
 use Rattle.state.specs.Laws.{key-lt}
-use Rattle.script.specs.Cells.{Plain, Cell, Val, ep-cell, globals-cell, allocator-cell, request-cell}
+use Rattle.script.specs.Cells.{Plain, Cell, Val, ep-cell, allocator-cell, request-cell}
 use Rattle.script.specs.Script.{Script, run, no-wakes, fill}
 use Rattle.script.specs.Statics.{isOn, withReady, withArmed}
-use Rattle.script.specs.Answers.{Answer, Refused, End, NotYet, Done, Shown, named, isAllocated}
+use Rattle.script.specs.Answers.{Answer, Refused, NotYet, Done, named, isAllocated}
 use Rattle.script.specs.Endpoint.{polled, tooLong, no-request, begun}
 use Rattle.script.specs.Calls.{Op, slotted, other, PollRead, BeginWrite, PollWrite, BeginRead, code}
 use Rattle.script.specs.TogglesLaws.{number}
@@ -31,14 +31,16 @@ use Rattle.proof_usb20.specs.Exempt.{differ}
 use Rattle.proof_usb20.specs.Sequence as log
 use Rattle.proof_usb20.specs.Sequence.{Track, off, withPhase, own, opens, closes, takes, taken, awaits, loaded, Fair}
 use Rattle.proof_usb20.specs.Follow as follow
-use Rattle.proof_usb20.specs.Follow.{Seen, seenOf, FitsAs, Fits, view, Follow, at-end, at-ask, Ends, Law}
+use Rattle.proof_usb20.specs.Follow.{Seen, seenOf, FitsAs, Fits, view, Follow, Ends, Law}
+use Rattle.proof_usb20.specs.Watch.{at-end, at-ask}
 use Rattle.proof_usb20.specs.Untouched.{act-view}
-use Rattle.proof_usb20.specs.Calm.{Whole, Off, Else, Quiet, loose, put-request, q-act, q-bind, q-enabled, q-ends, q-ep, q-fetch, q-got, q-is, q-modify, q-put, q-reg, q-resultless, q-ret, q-staged, q-test, q-write}
+use Rattle.proof_usb20.specs.Calm.{Whole, Off, Else, Quiet, loose, put-request, q-act, q-bind, q-enabled, q-ends, q-ep, q-fetch, q-got, q-is, q-put, q-reg, q-resultless, q-ret, q-staged, q-test, q-write}
 
 module _ (D : Dir) (E : ℕ) where
   -- ---- a call that tells the log nothing
 
-  pub quiet-law : (o : Op) → (opens D E o ≡ withPhase off) → ((a : Answer) (x : Track) → closes D E o a x ≡ x) → ((a : Answer) (x : Track) → Fair D E o a x) → Quiet D E false (Off D E) (code o) → Law D E o
+  pub quiet-law : (o : Op) → (opens D E o ≡ withPhase off) → ((a : Answer) (x : Track) → closes D E o a x ≡ x)
+      → ((a : Answer) (x : Track) → Fair D E o a x) → Quiet D E false (Off D E) (code o) → Law D E o
   quiet-law o p c f q w s r i z = subst (λ (u : Track). Follow D E (Ends D E o) u (run conc (code o) s)) (sym (ap (λ (g : Track → Track). g w) p))
       (follow.follow-more D E (q .goes (withPhase off w) s (refl, λ _ _ _ _. refl) (loose D E (z .places))) (λ x a u m. (subst (λ (y : Track). Fits y (view D E (u .0))) (sym (c a x ∙ m .0)) (subst (Fits w) (sym (m .1)) r), f a x)))
 
@@ -51,14 +53,16 @@ module _ (D : Dir) (E : ℕ) where
   unfolding epOn
   own-ep x d e h = ap (λ k. getD (x .eps) k noEp) h
 
-  pub own-with : (x : Driver) (d : Dir) (e : ℕ) (r : EpState) → Own d e → length (x .eps) ≡ 32 → epOn (withOn x d e r) D E ≡ r
+  pub own-with : (x : Driver) (d : Dir) (e : ℕ) (r : EpState) → Own d e → length (x .eps) ≡ 32
+      → epOn (withOn x d e r) D E ≡ r
   unfolding epOn withOn
   own-with x d e r h l = ap (λ k. getD (set (x .eps) (key d e) r) k noEp) (sym h) ∙ getD-set-same (x .eps) (key d e) r noEp (omega (arith, l, key-lt d e))
 
   abbrev pub written : Plain → Seen → Seen
   written v x = record { ready = v .ready; len = v .len; armed = v .armed; tog = v .tog; iso = x .iso; stage = x .stage }
 
-  pub put-own : (d : Dir) (e : ℕ) (v : Plain) (s : St) → Own d e → Whole s → view D E (conc .put (ep-cell d e) v s .0) ≡ written v (view D E (s .0))
+  pub put-own : (d : Dir) (e : ℕ) (v : Plain) (s : St) → Own d e → Whole s
+      → view D E (conc .put (ep-cell d e) v s .0) ≡ written v (view D E (s .0))
   unfolding withOn
   put-own d e v s h l = ap (λ q. seenOf q (s .0 .globals .stage)) (own-with (s .0) d e (merged (epOn (s .0) d e) v) h l) ∙ ap (λ (q : EpState). seenOf (merged q v) (s .0 .globals .stage)) (own-ep (s .0) d e h)
 
@@ -69,11 +73,13 @@ module _ (D : Dir) (E : ℕ) where
   whole-put c v s h = put-steady c v s .places ∙ h
 
   -- after EP0's start
-  pub fits-2 : {b : Pid} {t : Bool} {n : ℕ} {a : Bool} {x : Seen} → eqb (x .stage) 2 ≡ true → x .tog ≡ number b → isOn (x .ready) ≡ t → x .len ≡ n → isOn (x .armed) ≡ a → FitsAs b t n a x
+  pub fits-2 : {b : Pid} {t : Bool} {n : ℕ} {a : Bool} {x : Seen} → eqb (x .stage) 2 ≡ true → x .tog ≡ number b
+      → isOn (x .ready) ≡ t → x .len ≡ n → isOn (x .armed) ≡ a → FitsAs b t n a x
   fits-2 h p q r g = record { tog = p; ready = q; len = r; armed = g; early = λ k. differ (sym k ∙ h) }
 
   -- a change of its record
-  pub changed : (d : Dir) (e : ℕ) (f : Plain → Plain) (s : St) → Own d e → Whole s → view D E (conc .put (ep-cell d e) (f (conc .get (ep-cell d e) s)) s .0) ≡ written (f (plainOf (epOn (s .0) D E))) (view D E (s .0))
+  pub changed : (d : Dir) (e : ℕ) (f : Plain → Plain) (s : St) → Own d e → Whole s
+      → view D E (conc .put (ep-cell d e) (f (conc .get (ep-cell d e) s)) s .0) ≡ written (f (plainOf (epOn (s .0) D E))) (view D E (s .0))
   changed d e f s h l = put-own d e (f (conc .get (ep-cell d e) s)) s h l ∙ ap (λ (p : Plain). written (f p) (view D E (s .0))) (got d e s h)
 
   -- `own` by its answer
@@ -88,10 +94,12 @@ module _ (D : Dir) (E : ℕ) where
 
   -- ---- rows that a call meets
 
-  pub q-named : {P : Track → Type 0} {i : Bool} (d : Dir) (e : ℕ) {p : Script i Answer} → Quiet D E false P p → Quiet D E false P (named d e p)
+  pub q-named : {P : Track → Type 0} {i : Bool} (d : Dir) (e : ℕ) {p : Script i Answer} → Quiet D E false P p
+      → Quiet D E false P (named d e p)
   q-named d e x = (q-bind D E) ((q-got D E) allocator-cell) (λ a. (q-test D E) x (q-ret D E))
 
-  q-polled : {i : Bool} (d : Dir) (e n : ℕ) → Else D E d e → {p : Plain → Script i Answer} → ((s : Plain) → Quiet D E false (Off D E) (p s)) → Quiet D E false (Off D E) (polled d e n p)
+  q-polled : {i : Bool} (d : Dir) (e n : ℕ) → Else D E d e → {p : Plain → Script i Answer}
+      → ((s : Plain) → Quiet D E false (Off D E) (p s)) → Quiet D E false (Off D E) (polled d e n p)
   q-polled d e n m x = (q-bind D E) ((q-got D E) (request-cell d e)) (λ r. (q-test D E) (q-ret D E) ((q-test D E) ((q-bind D E) ((q-got D E) (ep-cell d e)) (λ s. x s)) ((q-bind D E) ((q-ep D E) d e (withReady 0) m) (λ _. (q-ends D E) d e (Refused 10)))))
 
   -- ---- reads and writes
@@ -106,25 +114,31 @@ module _ (D : Dir) (E : ℕ) where
       ((q-test D E) ((q-bind D E) ((q-ep D E) Out e (withReady 0) (own-false Out e h)) (λ _. (q-test D E) ((q-ends D E) Out e (Refused 10)) ((q-bind D E) ((q-fetch D E) (λ _. (q-ret D E))) (λ bytes. (q-ends D E) Out e (Done bytes))))) ((q-enabled D E) Out e ((q-ends D E) Out e (Refused 9)) (q-ret D E)))))))
 
   -- what a poll leaves that takes the completion
-  took : (d : Dir) (e : ℕ) (w : Track) (s : St) → Own d e → Fits w (view D E (s .0)) → eqb (s .0 .globals .stage) 2 ≡ true → Whole s
+  took : (d : Dir) (e : ℕ) (w : Track) (s : St) → Own d e → Fits w (view D E (s .0))
+      → eqb (s .0 .globals .stage) 2 ≡ true → Whole s
       → FitsAs (w .bit) false (w .len) (w .armed) (view D E (conc .put (request-cell d e) no-request (conc .put (ep-cell d e) (withReady 0 (conc .get (ep-cell d e) s)) s) .0))
   unfolding isOn
   took d e w s h r q l = subst (FitsAs (w .bit) false (w .len) (w .armed)) (sym (put-request D E d e no-request (conc .put (ep-cell d e) (withReady 0 (conc .get (ep-cell d e) s)) s) ∙ changed d e (withReady 0) s h l)) (fits-2 q (r .tog) refl (r .len) (r .armed))
 
-  ready-own : (d : Dir) (e : ℕ) (w : Track) (s : St) {b : Bool} → Own d e → Fits w (view D E (s .0)) → isOn (conc .get (ep-cell d e) s .ready) ≡ b → w .through ≡ b
+  ready-own : (d : Dir) (e : ℕ) (w : Track) (s : St) {b : Bool} → Own d e → Fits w (view D E (s .0))
+      → isOn (conc .get (ep-cell d e) s .ready) ≡ b → w .through ≡ b
   ready-own d e w s h r q = sym (r .ready) ∙ (sym (ap (λ (p : Plain). isOn (p .ready)) (got d e s h)) ∙ q)
 
-  pub iso-own : (d : Dir) (e : ℕ) (s : St) {A : Type 0} → Own d e → isOn (epOn (s .0) D E .iso) ≡ false → isOn (conc .get (ep-cell d e) s .iso) ≡ true → A
+  pub iso-own : (d : Dir) (e : ℕ) (s : St) {A : Type 0} → Own d e → isOn (epOn (s .0) D E .iso) ≡ false
+      → isOn (conc .get (ep-cell d e) s .iso) ≡ true → A
   iso-own d e s h i q = differ (sym i ∙ (sym (ap (λ (p : Plain). isOn (p .iso)) (got d e s h)) ∙ q))
 
-  stay : (d : Dir) (e : ℕ) (a : Answer) (w : Track) (x : Seen) → takes D E a ≡ false → Fits w x → Fits (cond (own D E d e && takes D E a) (taken D E (withPhase off w)) (withPhase off w)) x
+  stay : (d : Dir) (e : ℕ) (a : Answer) (w : Track) (x : Seen) → takes D E a ≡ false → Fits w x
+      → Fits (cond (own D E d e && takes D E a) (taken D E (withPhase off w)) (withPhase off w)) x
   stay d e a w x h r = rw (h, last (own D E d e)) r
     where
       last : (b : Bool) → b && false ≡ false
       last true = refl
       last false = refl
 
-  gone : (d : Dir) (e : ℕ) (a : Answer) (w : Track) (x : Seen) → own D E d e ≡ true → takes D E a ≡ true → FitsAs (w .bit) false (w .len) (w .armed) x → Fits (cond (own D E d e && takes D E a) (taken D E (withPhase off w)) (withPhase off w)) x
+  gone : (d : Dir) (e : ℕ) (a : Answer) (w : Track) (x : Seen) → own D E d e ≡ true → takes D E a ≡ true
+      → FitsAs (w .bit) false (w .len) (w .armed) x
+      → Fits (cond (own D E d e && takes D E a) (taken D E (withPhase off w)) (withPhase off w)) x
   gone d e a w x h k r = rw (h, k) r
 
   pub law-begin-read : (e n : ℕ) → Law D E (other (BeginRead e n))
@@ -144,7 +158,8 @@ module _ (D : Dir) (E : ℕ) where
       not-there : w .through ≡ false → cond (w .through) (w .armed) true ≡ true
       not-there h = rw h refl
 
-      by : (b : Bool) → own D E Out e ≡ b → Follow D E (Ends D E (other (BeginRead e n))) (withPhase off w) (run conc (code (other (BeginRead e n))) s)
+      by : (b : Bool) → own D E Out e ≡ b
+          → Follow D E (Ends D E (other (BeginRead e n))) (withPhase off w) (run conc (code (other (BeginRead e n))) s)
       by false h = off-begin-read e n h w s r i z
       by true h =
           let o = own-true Out e h in
@@ -159,7 +174,7 @@ module _ (D : Dir) (E : ℕ) where
           (λ q. let g = there (w .through) refl (ready-own Out e w s o r q) in at-end (refl, subst (FitsAs (w .bit) (w .through) (w .len) (cond (w .through) (w .armed) true)) (sym v) (fits-2 two (r .tog) (r .ready) (r .len) (r .armed ∙ sym g))))
           (λ q. let g = not-there (ready-own Out e w s o r q) in
           let t = conc .put (ep-cell Out e) (withArmed 1 (conc .get (ep-cell Out e) s2)) s2 in
-          at-ask (λ _ a p. at-ask (λ _ c m. at-end (
+          at-ask tt (λ _ a _ p. at-ask tt (λ _ c _ m. at-end (
             refl,
             subst (FitsAs (w .bit) (w .through) (w .len) (cond (w .through) (w .armed) true)) (sym (m .0 ∙ (p .0 ∙ changed Out e (withArmed 1) s2 o k)))
                 (let f = subst (Fits w) (sym v) r in fits-2 (ap (λ (q : Seen). eqb (q .stage) 2) v ∙ two) (f .tog) (f .ready) (f .len) (sym g)),
@@ -170,7 +185,8 @@ module _ (D : Dir) (E : ℕ) where
   pub law-poll-read : (e n : ℕ) → Law D E (slotted (PollRead e n))
   law-poll-read e n w s r i z = by (own D E Out e) refl
     where
-      by : (b : Bool) → own D E Out e ≡ b → Follow D E (Ends D E (slotted (PollRead e n))) (withPhase off w) (run conc (code (slotted (PollRead e n))) s)
+      by : (b : Bool) → own D E Out e ≡ b
+          → Follow D E (Ends D E (slotted (PollRead e n))) (withPhase off w) (run conc (code (slotted (PollRead e n))) s)
       by false h = off-poll-read e n h w s r i z
       by true h =
           let o = own-true Out e h in
@@ -191,7 +207,8 @@ module _ (D : Dir) (E : ℕ) where
   pub law-poll-write : (e : ℕ) (bytes : List ℕ) → Law D E (slotted (PollWrite e bytes))
   law-poll-write e bytes w s r i z = by (own D E In e) refl
     where
-      by : (b : Bool) → own D E In e ≡ b → Follow D E (Ends D E (slotted (PollWrite e bytes))) (withPhase off w) (run conc (code (slotted (PollWrite e bytes))) s)
+      by : (b : Bool) → own D E In e ≡ b
+          → Follow D E (Ends D E (slotted (PollWrite e bytes))) (withPhase off w) (run conc (code (slotted (PollWrite e bytes))) s)
       by false h = off-poll-write e bytes h w s r i z
       by true h =
           let o = own-true In e h in
@@ -215,10 +232,12 @@ module _ (D : Dir) (E : ℕ) where
       last true = refl
       last false = refl
 
-      nothing : (n : ℕ) → Fits (cond (own D E In e && false) (loaded D E (withPhase off w)) (withPhase off w)) (view D E (s .0))
+      nothing : (n : ℕ)
+          → Fits (cond (own D E In e && false) (loaded D E (withPhase off w)) (withPhase off w)) (view D E (s .0))
       nothing n = rw (last (own D E In e)) r
 
-      by : (b : Bool) → own D E In e ≡ b → Follow D E (Ends D E (slotted (BeginWrite e bytes))) (withPhase off w) (run conc (code (slotted (BeginWrite e bytes))) s)
+      by : (b : Bool) → own D E In e ≡ b
+          → Follow D E (Ends D E (slotted (BeginWrite e bytes))) (withPhase off w) (run conc (code (slotted (BeginWrite e bytes))) s)
       by false h = off-begin-write e bytes h w s r i z
       by true h =
           let o = own-true In e h in
@@ -231,7 +250,7 @@ module _ (D : Dir) (E : ℕ) where
           follow.follow-cond D E (eqb (s .0 .globals .stage) 2) (λ two. follow.follow-cond D E (isAllocated (s .0 .allocator) In e) (λ _. follow.follow-cond D E (enables.isOn (s .0 .globals .«ep_config») In e)
           (λ _. follow.follow-cond D E (ltb (conc .get (ep-cell In e) s .«max_len») (length bytes)) (λ _. at-end (nothing 10, tt))
           (λ _. follow.follow-bind D E {P = λ y _ a. (y ≡ withPhase off w) × (view D E (a .0) ≡ view D E (t .0))} (follow.follow-bind D E {P = λ y _ a. (y ≡ withPhase off w) × (view D E (a .0) ≡ view D E (t .0))} (follow.follow-cond D E (isOn (conc .get (ep-cell In e) s .iso)) (λ q. iso-own In e s o i q)
-          (λ _. at-ask (λ _ a p. at-ask (λ _ b q. at-ask (λ _ c m. at-end (refl, m .0 ∙ (q .0 ∙ p .0))))))) (λ y _ a m. at-end m))
+          (λ _. at-ask tt (λ _ a _ p. at-ask tt (λ _ b _ q. at-ask tt (λ _ c _ m. at-end (refl, m .0 ∙ (q .0 ∙ p .0))))))) (λ y _ a m. at-end m))
           (λ y n a m. at-end (
             rw (m .0) (rw h (subst (FitsAs (w .bit) false (w .len) true) (sym (m .1 ∙ changed In e (λ p. withArmed 1 (withReady 0 p)) u o k))
                 (let f = subst (Fits w) (sym v) r in fits-2 (ap (λ (q : Seen). eqb (q .stage) 2) v ∙ two) (f .tog) refl (f .len) refl))),

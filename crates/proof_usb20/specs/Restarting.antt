@@ -26,8 +26,8 @@ use Rattle.descriptor.specs.declared.Answer.the-variants as listed
 use Rattle.descriptor.specs.Reading.{readingOf, listOf}
 use Rattle.preview.specs.Trial.{directionOf, trialOf}
 use Rattle.script.specs.Tree as tree
-use Rattle.script.specs.Cells.{Plain, ep-cell, globals-cell, allocator-cell}
-use Rattle.script.specs.Script.{Script, bind, run, row, rows, bus-reset, no-wakes, waken, allocate, allocate0}
+use Rattle.script.specs.Cells.{ep-cell, allocator-cell}
+use Rattle.script.specs.Script.{bind, run, row, rows, bus-reset, no-wakes, waken, allocate, allocate0}
 use Rattle.script.specs.Statics.{isOn, withTog, completed, wake, wakeAll, withPower}
 use Rattle.script.specs.Answers.{Answer, isAllocated, operation, resultless}
 use Rattle.script.specs.Bus as bus
@@ -43,7 +43,8 @@ use Rattle.proof_usb20.specs.Exempt.{differ}
 use Rattle.proof_usb20.specs.Sequence as log
 use Rattle.proof_usb20.specs.Sequence.{Track, off, withPhase, own}
 use Rattle.proof_usb20.specs.Follow as follow
-use Rattle.proof_usb20.specs.Follow.{Seen, FitsAs, Fits, view, Follow, at-end, at-ask, Ends, Law}
+use Rattle.proof_usb20.specs.Follow.{Seen, FitsAs, Fits, view, Follow, Ends, Law}
+use Rattle.proof_usb20.specs.Watch.{at-end, at-ask}
 use Rattle.proof_usb20.specs.Untouched.{act-view}
 use Rattle.proof_usb20.specs.Calm.{Whole, Off, Else, Quiet, loose, put-other, put-globals, q-bind, q-ep, q-got, q-hand, q-operation, q-put, q-reg, q-resultless, q-ret, q-staged, q-test, q-wake, q-when, q-write}
 use Rattle.proof_usb20.specs.Reading as reading
@@ -70,7 +71,8 @@ module _ (D : Dir) (E : ℕ) (w : Track) where
 module _ (D : Dir) (E : ℕ) where
   -- ---- halts
 
-  q-stalled : {i : Bool} (d : Dir) (e : ℕ) (on : Bool) → Else D E d e → Quiet D E false (Off D E) (bus.setStalled {i = i} d e on)
+  q-stalled : {i : Bool} (d : Dir) (e : ℕ) (on : Bool) → Else D E d e
+      → Quiet D E false (Off D E) (bus.setStalled {i = i} d e on)
   q-stalled Out e true m = (q-bind D E) ((q-reg D E) EpRxCtrl e _) (λ _. (q-wake D E) Out e)
   q-stalled In e true m = (q-bind D E) ((q-write D E) (q-ret D E)) (λ _. (q-bind D E) ((q-reg D E) EpTxCtrl e _) (λ _. (q-wake D E) In e))
   q-stalled Out e false m = (q-bind D E) ((q-got D E) (ep-cell Out e)) (λ s. (q-bind D E) ((q-put D E) (put-other D E Out e m (withTog 0 s)) (q-ret D E)) (λ _. (q-bind D E) ((q-write D E) (q-ret D E)) (λ _. (q-wake D E) Out e)))
@@ -112,14 +114,15 @@ module _ (D : Dir) (E : ℕ) where
   Clears : Track → {A : Type 0} → Track → A → St → Type 0
   Clears w y _ t = (y ≡ withPhase off w) × FitsAs initial (log.finishes D E D (w .through)) (w .len) (log.staysArmed D E D (w .armed)) (view D E (t .0))
 
-  clearing : (d : Dir) (e : ℕ) (w : Track) (s : St) → Own D E d e → Whole s → Fits w (view D E (s .0)) → eqb (s .0 .globals .stage) 2 ≡ true → isOn (epOn (s .0) D E .iso) ≡ false
+  clearing : (d : Dir) (e : ℕ) (w : Track) (s : St) → Own D E d e → Whole s → Fits w (view D E (s .0))
+      → eqb (s .0 .globals .stage) 2 ≡ true → isOn (epOn (s .0) D E .iso) ≡ false
       → Follow D E (Clears w) (withPhase off w) (run {i = false} conc (bus.setStalled d e false) s)
   unfolding Clears isOn
-  clearing Out e w s o k r two i = at-ask (λ _ u p. at-end (refl, subst (FitsAs initial (log.finishes D E D (w .through)) (w .len) (log.staysArmed D E D (w .armed))) (sym (act-view D E (waken (wakeCode Out e ∷ [])) refl u ∙ (p .0 ∙ changed D E Out e (withTog 0) s o k))) (fits-2 D E two refl (r .ready ∙ sym (keeps-out e (w .through) o)) (r .len) (r .armed ∙ sym (stays-out e (w .armed) o)))))
+  clearing Out e w s o k r two i = at-ask tt (λ _ u _ p. at-end (refl, subst (FitsAs initial (log.finishes D E D (w .through)) (w .len) (log.staysArmed D E D (w .armed))) (sym (act-view D E (waken (wakeCode Out e ∷ [])) refl u ∙ (p .0 ∙ changed D E Out e (withTog 0) s o k))) (fits-2 D E two refl (r .ready ∙ sym (keeps-out e (w .through) o)) (r .len) (r .armed ∙ sym (stays-out e (w .armed) o)))))
   clearing In e w s o k r two i =
       let t = conc .put (ep-cell In e) (withTog 0 (conc .get (ep-cell In e) s)) s in
       let v = changed D E In e (withTog 0) s o k in
-      at-ask (λ _ u p.
+      at-ask tt (λ _ u _ p.
       let b = conc .put (ep-cell In e) (completed (conc .get (ep-cell In e) u)) u in
       let x : view D E (b .0) ≡ written D E (completed (plainOf (epOn (u .0) D E))) (view D E (u .0)) = changed D E In e completed u o (p .1 .places) in
       let y : FitsAs initial (log.finishes D E D (w .through)) (w .len) (log.staysArmed D E D (w .armed)) (view D E (b .0)) = subst (FitsAs initial (log.finishes D E D (w .through)) (w .len) (log.staysArmed D E D (w .armed))) (sym x)
@@ -147,12 +150,14 @@ module _ (D : Dir) (E : ℕ) where
       nothing : Fits (cond (own D E d e && false) (log.cleared D E (withPhase off w)) (withPhase off w)) (view D E (s .0))
       nothing = rw (last (own D E d e)) r
 
-      by : (b : Bool) → own D E d e ≡ b → Follow D E (Ends D E (other (SetStalled d e false))) (withPhase off w) (run conc (code (other (SetStalled d e false))) s)
+      by : (b : Bool) → own D E d e ≡ b
+          → Follow D E (Ends D E (other (SetStalled d e false))) (withPhase off w) (run conc (code (other (SetStalled d e false))) s)
       by false h = quiet-law D E (other (SetStalled d e false)) refl (λ a x. not-and D E (own D E d e) (log.ended D E a) (log.cleared D E x) x h) (λ _ _. tt)
           (let q = q-stalled d e false (own-false D E d e h) in (q-staged D E) 2 ((q-test D E) ((q-resultless D E) q) (reading.q-named D E d e ((q-resultless D E) q)))) w s r i z
       by true h = follow.follow-cond D E (eqb (s .0 .globals .stage) 2) (λ two. follow.follow-cond D E (eqb e 0) (λ _. goes two) (λ _. follow.follow-cond D E (isAllocated (s .0 .allocator) d e) (λ _. goes two) (λ _. at-end (nothing, tt)))) (λ _. at-end (nothing, tt))
         where
-          goes : eqb (s .0 .globals .stage) 2 ≡ true → Follow D E (Ends D E (other (SetStalled d e false))) (withPhase off w) (run {i = false} conc (resultless (bus.setStalled d e false)) s)
+          goes : eqb (s .0 .globals .stage) 2 ≡ true
+              → Follow D E (Ends D E (other (SetStalled d e false))) (withPhase off w) (run {i = false} conc (resultless (bus.setStalled d e false)) s)
           goes two =
               let a = conc .act no-wakes s in
               let v = act-view D E no-wakes refl s in
@@ -182,14 +187,16 @@ module _ (D : Dir) (E : ℕ) where
   abbrev Restarted : Track → {A : Type 0} → Track → A → St → Type 0
   Restarted w y _ t = (y ≡ withPhase off w) × FitsAs initial false (w .len) false (view D E (t .0)) × Whole t
 
-  rests : (w : Track) (s : St) → Whole s → Fits w (view D E (s .0)) → eqb (s .0 .globals .stage) 2 ≡ true → Follow D E (Restarted w) (withPhase off w) (rows conc bus-reset 3 (λ t. tree.ends (tt {0}) t) s)
-  rests w s k r two = at-ask (λ _ b p. at-ask (λ _ c q. at-ask (λ _ e f.
+  rests : (w : Track) (s : St) → Whole s → Fits w (view D E (s .0)) → eqb (s .0 .globals .stage) 2 ≡ true
+      → Follow D E (Restarted w) (withPhase off w) (rows conc bus-reset 3 (λ t. tree.ends (tt {0}) t) s)
+  rests w s k r two = at-ask tt (λ _ b _ p. at-ask tt (λ _ c _ q. at-ask tt (λ _ e _ f.
       let v : view D E (e .0) ≡ view D E (s .0) = f .0 ∙ (q .0 ∙ (types b ∙ (p .0 ∙ configs s))) in
       let g = reset-fits D E w (e .0) (f .1 .places) (subst (Fits w) (sym v) r) (ap (λ (x : Seen). eqb (x .stage) 2) v ∙ two) in
-      at-ask (λ _ h l. at-end (refl, subst (FitsAs initial false (w .len) false) (sym (l .0)) g, l .1 .places)))))
+      at-ask tt (λ _ h _ l. at-end (refl, subst (FitsAs initial false (w .len) false) (sym (l .0)) g, l .1 .places)))))
 
-  resets : (w : Track) (s : St) → Whole s → Fits w (view D E (s .0)) → eqb (s .0 .globals .stage) 2 ≡ true → Follow D E (Restarted w) (withPhase off w) (run conc bus.busReset s)
-  resets w s k r two = at-ask (λ _ a1 p1. at-ask (λ _ a2 p2. at-ask (λ _ a3 p3. follow.follow-bind D E (q-naks 15 1 .goes (withPhase off w) a3 (refl, λ _ _ _ _. refl) (loose D E (p3 .1 .places))) (λ y _ a m.
+  resets : (w : Track) (s : St) → Whole s → Fits w (view D E (s .0)) → eqb (s .0 .globals .stage) 2 ≡ true
+      → Follow D E (Restarted w) (withPhase off w) (run conc bus.busReset s)
+  resets w s k r two = at-ask tt (λ _ a1 _ p1. at-ask tt (λ _ a2 _ p2. at-ask tt (λ _ a3 _ p3. follow.follow-bind D E (q-naks 15 1 .goes (withPhase off w) a3 (refl, λ _ _ _ _. refl) (loose D E (p3 .1 .places))) (λ y _ a m.
       let v : view D E (a .0) ≡ view D E (s .0) = m .1 ∙ (p3 .0 ∙ (p2 .0 ∙ p1 .0)) in
       subst (λ (u : Track). Follow D E (Restarted w) u (run conc (bind (row bus-reset) (λ _. wakeAll)) a)) (sym (m .0))
       (follow.follow-bind D E {f = λ (_ : Unit {0}) (u : St). run {i = false} conc wakeAll u} (rests w a (m .2 .whole) (subst (Fits w) (sym v) r) (ap (λ (x : Seen). eqb (x .stage) 2) v ∙ two))
@@ -201,14 +208,14 @@ module _ (D : Dir) (E : ℕ) where
       let a0 = conc .act no-wakes s in
       let v0 = act-view D E no-wakes refl s in
       follow.follow-bind D E {P = Polls w} (follow.follow-cond D E (isOn (s .0 .globals .power))
-      (λ _. at-ask (λ f a p.
+      (λ _. at-ask tt (λ f a _ p.
       let v : view D E (a .0) ≡ view D E (s .0) = p .0 ∙ v0 in
       follow.follow-cond D E (busRst f)
       (λ _. follow.follow-bind D E (resets w a (p .1 .places) (subst (Fits w) (sym v) r) (ap (λ (x : Seen). eqb (x .stage) 2) v ∙ two)) (λ y _ t m.
       let g = withIntEn (withBusRst (t .0 .globals .«int_en») true) (t .0 .globals) in
-      follow.follow-at D E (m .0) (at-ask (λ _ u q. at-end (reset refl refl (subst (FitsAs initial false (w .len) false) (sym (q .0 ∙ put-globals D E g t)) (m .1)))))))
+      follow.follow-at D E (m .0) (at-ask tt (λ _ u _ q. at-end (reset refl refl (subst (FitsAs initial false (w .len) false) (sym (q .0 ∙ put-globals D E g t)) (m .1)))))))
       (λ _. follow.follow-cond D E (suspend f)
-      (λ _. at-ask (λ m b q. at-ask (λ _ c l. at-ask (λ _ u n. at-end (kept (not-2 (suspended m)) refl (subst (Fits w) (sym (n .0 ∙ (put-globals D E (withIntEn (withSuspend (c .0 .globals .«int_en») true) (c .0 .globals)) c ∙ (l .0 ∙ (q .0 ∙ v))))) r))))))
+      (λ _. at-ask tt (λ m b _ q. at-ask tt (λ _ c _ l. at-ask tt (λ _ u _ n. at-end (kept (not-2 (suspended m)) refl (subst (Fits w) (sym (n .0 ∙ (put-globals D E (withIntEn (withSuspend (c .0 .globals .«int_en») true) (c .0 .globals)) c ∙ (l .0 ∙ (q .0 ∙ v))))) r))))))
       (λ _. at-end (kept refl refl (subst (Fits w) (sym v) r))))))
       (λ _. at-end (kept refl refl (subst (Fits w) (sym (put-globals D E (withPower 1 (s .0 .globals)) a0 ∙ v0)) r))))
       (λ y n t p. at-end (after n y t p, tt)))
@@ -218,13 +225,15 @@ module _ (D : Dir) (E : ℕ) where
       not-2 true = refl
       not-2 false = refl
 
-      after : (n : ℕ) (y : Track) (t : St) → Polls w y n t → Fits (cond (eqb n 2) (log.renewed D E false y) y) (view D E (t .0))
+      after : (n : ℕ) (y : Track) (t : St) → Polls w y n t
+          → Fits (cond (eqb n 2) (log.renewed D E false y) y) (view D E (t .0))
       after n y t (reset h e f) = rw (h, e) f
       after n y t (kept h e f) = rw (h, e) f
 
   -- ---- before EP0's start
 
-  pub law-allocate : (d : Dir) (kind address maximum interval : ℕ) → Law D E (other (Allocate d kind address maximum interval))
+  pub law-allocate : (d : Dir) (kind address maximum interval : ℕ)
+      → Law D E (other (Allocate d kind address maximum interval))
   law-allocate d kind address maximum interval w s r i z = follow.follow-cond D E (eqb (s .0 .globals .stage) 1)
       (λ one.
       let t = conc .act (allocate d kind address maximum interval) s in
@@ -238,11 +247,14 @@ module _ (D : Dir) (E : ℕ) where
       q-new : {i : Bool} (e : ℕ) → Quiet D E false (Off D E) (newEndpoint {i = i} d kind maximum e)
       q-new e = (q-bind D E) ((q-write D E) (q-ret D E)) (λ _. (q-bind D E) ((q-when D E) ((q-hand D E) (q-ret D E))) (λ _. (q-ret D E)))
 
-      by : (a : alloc.Answer) (t : St) → Fits w (view D E (t .0)) → Whole t → Follow D E (Ends D E (other (Allocate d kind address maximum interval))) (withPhase off w) (run {i = false} conc (allocated-as d kind maximum a) t)
+      by : (a : alloc.Answer) (t : St) → Fits w (view D E (t .0)) → Whole t
+          → Follow D E (Ends D E (other (Allocate d kind address maximum interval))) (withPhase off w) (run {i = false} conc (allocated-as d kind maximum a) t)
       by (variant.Refused n) t f l = at-end (f, tt)
       by (variant.Given e base slots) t f l = follow.follow-more D E ((q-operation D E) (q-new {i = false} e) .goes (withPhase off w) t (refl, λ _ _ _ _. refl) (loose D E l)) (λ y a u m. (rw (m .0) (subst (Fits w) (sym (m .1)) f), tt))
 
-  each : (es : List Endpoint) (w : Track) (s : St) → Whole s → Fits w (view D E (s .0)) → eqb (s .0 .globals .stage) 2 ≡ false → Follow D E (λ y _ t. (y ≡ withPhase off w) × Fits w (view D E (t .0)) × Whole t) (withPhase off w) (run {i = false} conc (allocateEach es) s)
+  each : (es : List Endpoint) (w : Track) (s : St) → Whole s → Fits w (view D E (s .0))
+      → eqb (s .0 .globals .stage) 2 ≡ false
+      → Follow D E (λ y _ t. (y ≡ withPhase off w) × Fits w (view D E (t .0)) × Whole t) (withPhase off w) (run {i = false} conc (allocateEach es) s)
   unfolding allocateEach
   each [] w s l r two = at-end (refl, r, l)
   each (e ∷ es) w s l r two =
@@ -276,7 +288,8 @@ module _ (D : Dir) (E : ℕ) where
       early : (n : ℕ) → eqb n 1 ≡ true → eqb n 2 ≡ false
       early n h = ne-eqb n 2 (λ q. absurd (omega (arith, q, eqb-true n 1 h)))
 
-      by : (a : listing.Answer) → eqb (s .0 .globals .stage) 2 ≡ false → Follow D E (Ends D E (other (AllocateAll bytes))) (withPhase off w) (run {i = false} conc (allocate-read bytes a) s)
+      by : (a : listing.Answer) → eqb (s .0 .globals .stage) 2 ≡ false
+          → Follow D E (Ends D E (other (AllocateAll bytes))) (withPhase off w) (run {i = false} conc (allocate-read bytes a) s)
       by (listed.Refused n) two = at-end (r, tt)
       by listed.Listed two = follow.follow-cond D E (eqb (trialOf (s .0 .allocator) (listOf bytes) .refusal) 0)
           (λ _. follow.follow-bind D E (each (listOf bytes) w s (z .places) r two) (λ y _ t m. subst (λ (u : Track). Follow D E (Ends D E (other (AllocateAll bytes))) u (run {i = false} conc (operation (announceAll (listOf bytes))) t)) (sym (m .0))
@@ -291,6 +304,7 @@ module _ (D : Dir) (E : ℕ) where
       q-start : {i : Bool} → Quiet D E false (Off D E) (startEp0 {i = i} maximum)
       q-start = (q-bind D E) ((q-hand D E) (q-ret D E)) (λ _. (q-bind D E) ((q-write D E) (q-ret D E)) (λ _. (q-bind D E) ((q-write D E) (q-ret D E)) (λ _. (q-bind D E) ((q-write D E) (q-ret D E)) (λ _. (q-write D E) (q-ret D E)))))
 
-      by : (a : alloc.Answer) (t : St) → Fits w (view D E (t .0)) → Whole t → Follow D E (Ends D E (other (Start maximum))) (withPhase off w) (run {i = false} conc (started-as maximum a) t)
+      by : (a : alloc.Answer) (t : St) → Fits w (view D E (t .0)) → Whole t
+          → Follow D E (Ends D E (other (Start maximum))) (withPhase off w) (run {i = false} conc (started-as maximum a) t)
       by (variant.Refused n) t f l = at-end (f, tt)
       by (variant.Given e base slots) t f l = follow.follow-more D E ((q-resultless D E) (q-start {i = false}) .goes (withPhase off w) t (refl, λ _ _ _ _. refl) (loose D E l)) (λ y a u m. (rw (m .0) (subst (Fits w) (sym (m .1)) f), tt))

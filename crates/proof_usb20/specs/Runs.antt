@@ -1,5 +1,5 @@
 -- Over lists of calls: what an observer claims holds after each, from the law of each call
-use mathlib.Core.Bool.{Bool, true, false, not, cond}
+use mathlib.Core.Bool.{Bool, true, false, cond}
 use mathlib.Core.List.{List, [], _∷_, _++_}
 use mathlib.Core.Path.{_≡_, refl, ap, subst, sym, _∙_}
 use Prim.Native.Nat.{ℕ, zero, suc}
@@ -11,7 +11,7 @@ use Rattle.script.specs.Every as ways
 use Rattle.script.specs.Answers.{Answer, Refused}
 use Rattle.script.specs.Calls.{Config, Op, interrupt, slotted, other, aside, Aside, asideCode, code, calls, startRow}
 use Rattle.script.specs.Machine as machine
-use Rattle.script.specs.Machine.{Buf, Call, start, begin, go, question, Event, Ans, ended, handed, told, Awaits, Way, idle, busy, Machine, misfit, beside, begun, continued, started, stay}
+use Rattle.script.specs.Machine.{Buf, Call, start, begin, go, question, Event, Ans, ended, Awaits, Way, idle, busy, Machine, misfit, beside, begun, continued, started, stay}
 use Rattle.ops.specs.Rings.{St}
 use Rattle.ops.specs.Conc.{conc}
 use Rattle.way.specs.Under.{driverOf, drive, haltsAs}
@@ -47,8 +47,10 @@ module _ (O : Observer) where
     pub call : (o : Op) (w : O .Log) (s : St) → R w (O .view (s .0)) → O .Meant (O .view (s .0)) → Sorting (s .0)
         → Sees (O .Allowed o) (λ x a t. R (O .closes o a x) (O .view (t .0)) × (Few (ended a) → O .Fair o a x)) (O .opens o w) (run conc (code o) s)
     pub asks : (o : Op) (s : St) → Only (O .Asks o) (run conc (code o) s)
-    pub besides : (o : Aside) (d : Driver) (b : Buf) (a : Answer) (t : St) → Sorting d → run conc (asideCode o) (d, b) ≡ tree.ends a t → (O .view (t .0) ≡ O .view d) × (t .0 .wakes ≡ d .wakes)
-    pub new : (c : Config) (b : Buf) → Ups (λ s. R (O .before) (O .view (s .0))) (run conc (calls .starts c) (driverOf .fresh c, b))
+    pub besides : (o : Aside) (d : Driver) (b : Buf) (a : Answer) (t : St) → Sorting d
+        → run conc (asideCode o) (d, b) ≡ tree.ends a t → (O .view (t .0) ≡ O .view d) × (t .0 .wakes ≡ d .wakes)
+    pub new : (c : Config) (b : Buf)
+        → Ups (λ s. R (O .before) (O .view (s .0))) (run conc (calls .starts c) (driverOf .fresh c, b))
     -- row 1 leaves all as it was
     pub unlent : (o : Op) (w : O .Log) (x : O .View) → R w x → R (O .closes o (Refused 1) (O .opens o w)) x
     pub fair-1 : (o : Op) (w : O .Log) → O .Fair o (Refused 1) w
@@ -90,56 +92,68 @@ module _ (O : Observer) where
     standing-of (busy i a k) d w starting j = tt
 
     -- an operation begins, or goes on: where it stops
-    begins : (o : Op) (i : Bool) (b : Buf) (w : O .Log) {out : tree.Out St Answer} → Sees (O .Allowed o) (Ends o) (O .opens o w) out → Only (O .Asks o) out → Steps (begin o) b (haltsAs i out) (watched O w at-rest)
+    begins : (o : Op) (i : Bool) (b : Buf) (w : O .Log) {out : tree.Out St Answer}
+        → Sees (O .Allowed o) (Ends o) (O .opens o w) out → Only (O .Asks o) out
+        → Steps (begin o) b (haltsAs i out) (watched O w at-rest)
     begins o i b w (at-end {a = a} {s = s} p) m few = record { claim = p .1 few; standing = L .stands _ (O .view (s .0)) (p .0); next = p .0 }
     begins o i b w (at-ask ok k) (ways.at-ask a m) few = record { claim = (ok, a); standing = tt; next = (λ v t r h. k v t r h, λ v t. m v t tt tt) }
 
-    goes : (o : Op) (i : Bool) (v : ℕ) (b : Buf) (w : O .Log) (q : Access) {out : tree.Out St Answer} → Sees (O .Allowed o) (Ends o) (O .saw w q v) out → Only (O .Asks o) out
+    goes : (o : Op) (i : Bool) (v : ℕ) (b : Buf) (w : O .Log) (q : Access) {out : tree.Out St Answer}
+        → Sees (O .Allowed o) (Ends o) (O .saw w q v) out → Only (O .Asks o) out
         → Steps (go v) b (haltsAs i out) (watched O w (doing o q))
     goes o i v b w q (at-end {a = a} {s = s} p) m few = record { claim = p .1 few; standing = L .stands _ (O .view (s .0)) (p .0); next = p .0 }
     goes o i v b w q (at-ask ok k) (ways.at-ask a m) few = record { claim = (ok, a); standing = tt; next = (λ v t r h. k v t r h, λ v t. m v t tt tt) }
 
     -- a start-up's own script
-    starts : (i : Bool) (v : ℕ) (b : Buf) (w : O .Log) → w ≡ O .before → {out : tree.Out St Answer} → Ups (λ s. R (O .before) (O .view (s .0))) out → Step (go v) b (haltsAs i out) (watched O w starting)
+    starts : (i : Bool) (v : ℕ) (b : Buf) (w : O .Log) → w ≡ O .before → {out : tree.Out St Answer}
+        → Ups (λ s. R (O .before) (O .view (s .0))) out → Step (go v) b (haltsAs i out) (watched O w starting)
     starts i v b w e (at-end {s = s} f) = let r = subst (λ (x : O .Log). R x (O .view (s .0))) (sym e) f in record { claim = tt; standing = L .stands w (O .view (s .0)) r; next = r }
     starts i v b w e (at-ask _ k) = record { claim = tt; standing = tt; next = (e, λ v t h. k v t tt h) }
 
-    started-up : (c : Config) (b : Buf) (n : ℕ) → startRow c b ≡ n → (m : Machine Answer Driver) (x : Watched O) → J (m .way) (m .st) (x .log) (x .under) → Step (start c) b (started calls driverOf (λ s. s) c n m b) x
+    started-up : (c : Config) (b : Buf) (n : ℕ) → startRow c b ≡ n → (m : Machine Answer Driver) (x : Watched O)
+        → J (m .way) (m .st) (x .log) (x .under) → Step (start c) b (started calls driverOf (λ s. s) c n m b) x
     started-up c b zero h m x j = halted (L .new c b)
       where
-        halted : {out : tree.Out St Answer} → Ups (λ s. R (O .before) (O .view (s .0))) out → Step (start c) b (haltsAs false out) x
+        halted : {out : tree.Out St Answer} → Ups (λ s. R (O .before) (O .view (s .0))) out
+            → Step (start c) b (haltsAs false out) x
         halted (at-end {s = s} f) = record { claim = tt; standing = rw h (L .stands (O .before) (O .view (s .0)) f); next = rw h f }
         halted (at-ask _ k) = record { claim = tt; standing = rw h tt; next = rw h (refl, λ v t h. k v t tt h) }
     started-up c b (suc n) h m x j = record { claim = tt; standing = rw h (standing-of (m .way) (m .st) (x .log) (x .under) j); next = rw h j }
 
     -- calls between two accesses of an operation: what is left to run fits still
-    still-J : (i : Bool) (a : Awaits) (k : ℕ → St → tree.Out St Answer) (d d′ : Driver) (w : O .Log) (u : Under) → (O .view d′ ≡ O .view d) × (d′ .wakes ≡ d .wakes) → J (busy i a k) d w u → J (busy i a k) d′ w u
+    still-J : (i : Bool) (a : Awaits) (k : ℕ → St → tree.Out St Answer) (d d′ : Driver) (w : O .Log) (u : Under)
+        → (O .view d′ ≡ O .view d) × (d′ .wakes ≡ d .wakes) → J (busy i a k) d w u → J (busy i a k) d′ w u
     still-J i a k d d′ w (doing o q) e j = (λ v t r h. j .0 v t r (h .0 ∙ e .0, h .1, h .2 ∙ e .1), j .1)
     still-J i a k d d′ w starting e j = (j .0, λ v t h. j .1 v t (h .0 ∙ e .0, h .1, h .2 ∙ e .1))
 
-    unclaimed : (o : Op) (a : Ans Answer) (w : O .Log) (u : Under) (i : Bool) (y : Awaits) (k : ℕ → St → tree.Out St Answer) (d : Driver) → J (busy i y k) d w u → ClaimBegun O o a w u
+    unclaimed : (o : Op) (a : Ans Answer) (w : O .Log) (u : Under) (i : Bool) (y : Awaits) (k : ℕ → St → tree.Out St Answer) (d : Driver)
+        → J (busy i y k) d w u → ClaimBegun O o a w u
     unclaimed o a w (doing p q) i y k d j = tt
     unclaimed o a w starting i y k d j = tt
 
     -- the log stays where an operation is under way
-    same-begun : (o : Op) (a : Ans Answer) (w : O .Log) (u : Under) (i : Bool) (y : Awaits) (k : ℕ → St → tree.Out St Answer) (d : Driver) → J (busy i y k) d w u → beginsBy O o a w u ≡ watched O w u
+    same-begun : (o : Op) (a : Ans Answer) (w : O .Log) (u : Under) (i : Bool) (y : Awaits) (k : ℕ → St → tree.Out St Answer) (d : Driver)
+        → J (busy i y k) d w u → beginsBy O o a w u ≡ watched O w u
     same-begun o a w (doing p q) i y k d j = refl
     same-begun o a w starting i y k d j = refl
 
     module _ (o : Op) (b : Buf) (i : Bool) (y : Awaits) (k : ℕ → St → tree.Out St Answer) (x : Watched O) where
-      stepped : (a : Ans Answer) (d : Driver) (l : Buf) → J (busy i y k) d (x .log) (x .under) → Step (begin o) b (a, record { way = busy i y k; st = d; buf = l }) x
+      stepped : (a : Ans Answer) (d : Driver) (l : Buf) → J (busy i y k) d (x .log) (x .under)
+          → Step (begin o) b (a, record { way = busy i y k; st = d; buf = l }) x
       stepped a d l j = record {
         claim = unclaimed o a (x .log) (x .under) i y k d j;
         standing = rw (same-begun o a (x .log) (x .under) i y k d j) (standing-of (busy i y k) d (x .log) (x .under) j);
         next = rw (same-begun o a (x .log) (x .under) i y k d j) j;
       }
 
-      passing : (d : Driver) (l : Buf) (f : Aside) → Sorting d → J (busy i y k) d (x .log) (x .under) → (out : tree.Out St Answer) → run conc (asideCode f) (d, b) ≡ out
+      passing : (d : Driver) (l : Buf) (f : Aside) → Sorting d → J (busy i y k) d (x .log) (x .under)
+          → (out : tree.Out St Answer) → run conc (asideCode f) (d, b) ≡ out
           → Step (begin o) b (beside calls driverOf (record { way = busy i y k; st = d; buf = b }) out) x
       passing d l f z j (tree.ends a t) h = stepped (ended a) (t .0) (t .1) (still-J i y k d (t .0) (x .log) (x .under) (L .besides f d b a t z h) j)
       passing d l f z j (tree.asks q t g) h = stepped (ended (Refused 3)) d b j
 
-    during : (o : Op) (b : Buf) (i : Bool) (y : Awaits) (k : ℕ → St → tree.Out St Answer) (d : Driver) (l : Buf) (x : Watched O) → Sorting d → J (busy i y k) d (x .log) (x .under)
+    during : (o : Op) (b : Buf) (i : Bool) (y : Awaits) (k : ℕ → St → tree.Out St Answer) (d : Driver) (l : Buf) (x : Watched O)
+        → Sorting d → J (busy i y k) d (x .log) (x .under)
         → Step (begin o) b (begun calls driverOf (λ s. s) o (record { way = busy i y k; st = d; buf = l }) (busy i y k) b) x
     during interrupt b true y k d l x z j = stepped interrupt b true y k x (ended (Refused 3)) d b j
     during interrupt b false y k d l x z j = stepped interrupt b false y k x (ended (Refused 3)) d b j
@@ -151,40 +165,48 @@ module _ (O : Observer) where
     during (aside o) b false y k d l x z j = stepped (aside o) b false y k x (ended (Refused 3)) d b j
 
     -- at rest, with row 1
-    afresh : (o : Op) (b : Buf) (g : Bool) (d : Driver) (l : Buf) (w : O .Log) → R w (O .view d) → O .Meant (O .view d) → Sorting d
+    afresh : (o : Op) (b : Buf) (g : Bool) (d : Driver) (l : Buf) (w : O .Log) → R w (O .view d) → O .Meant (O .view d)
+        → Sorting d
         → Steps (begin o) b (cond g (stay calls driverOf 1 (record { way = idle; st = d; buf = l })) (begun calls driverOf (λ s. s) o (record { way = idle; st = d; buf = l }) idle b)) (watched O w at-rest)
     afresh o b true d l w r p z few = let n = L .unlent o w (O .view d) r in record { claim = L .fair-1 o (O .opens o w); standing = L .stands _ (O .view d) n; next = n }
     afresh o b false d l w r p z few = begins o (calls .irq o) b w (L .call o w (d, b) r p z) (L .asks o (d, b)) few
 
     -- row 1 of a call in the midst of an operation
-    row-1 : (o : Op) (b : Buf) (g : Bool) (i : Bool) (y : Awaits) (k : ℕ → St → tree.Out St Answer) (d : Driver) (l : Buf) (x : Watched O) → Sorting d → J (busy i y k) d (x .log) (x .under)
+    row-1 : (o : Op) (b : Buf) (g : Bool) (i : Bool) (y : Awaits) (k : ℕ → St → tree.Out St Answer) (d : Driver) (l : Buf) (x : Watched O)
+        → Sorting d → J (busy i y k) d (x .log) (x .under)
         → Step (begin o) b (cond g (stay calls driverOf 1 (record { way = busy i y k; st = d; buf = l })) (begun calls driverOf (λ s. s) o (record { way = busy i y k; st = d; buf = l }) (busy i y k) b)) x
     row-1 o b true i y k d l x z j = stepped o b i y k x (ended (Refused 1)) d l j
     row-1 o b false i y k d l x z j = during o b i y k d l x z j
 
     -- a continue
-    stays : (v : ℕ) (b : Buf) (n : ℕ) (i : Bool) (y : Awaits) (k : ℕ → St → tree.Out St Answer) (d : Driver) (l : Buf) (w : O .Log) (u : Under) → J (busy i y k) d w u
+    stays : (v : ℕ) (b : Buf) (n : ℕ) (i : Bool) (y : Awaits) (k : ℕ → St → tree.Out St Answer) (d : Driver) (l : Buf) (w : O .Log) (u : Under)
+        → J (busy i y k) d w u
         → Step (go v) b (ended (Refused n), record { way = busy i y k; st = d; buf = l }) (watched O w u)
     stays v b n i y k d l w (doing o q) j = record { claim = tt; standing = tt; next = j }
     stays v b n i y k d l w starting j = record { claim = tt; standing = tt; next = j }
 
     -- what the chip brought, of a continue that is not refused
-    brought : (v : ℕ) (i : Bool) (w : O .Log) (o : Op) (q : Access) (out : tree.Out St Answer) → ReadAt O v (haltsAs i out .0) (serves (haltsAs i out .1 .way)) w (doing o q) → O .Brings w q v
+    brought : (v : ℕ) (i : Bool) (w : O .Log) (o : Op) (q : Access) (out : tree.Out St Answer)
+        → ReadAt O v (haltsAs i out .0) (serves (haltsAs i out .1 .way)) w (doing o q) → O .Brings w q v
     brought v i w o q (tree.ends a s) r = r
     brought v i w o q (tree.asks p s k) r = r
 
-    proceeds : (v : ℕ) (b : Buf) (i : Bool) (y : Awaits) (k : ℕ → St → tree.Out St Answer) (d : Driver) (w : O .Log) (u : Under) → J (busy i y k) d w u → Sorting d
-        → ReadAt O v (haltsAs i (k v (d, b)) .0) (serves (haltsAs i (k v (d, b)) .1 .way)) w u → Steps (go v) b (haltsAs i (k v (d, b))) (watched O w u)
+    proceeds : (v : ℕ) (b : Buf) (i : Bool) (y : Awaits) (k : ℕ → St → tree.Out St Answer) (d : Driver) (w : O .Log) (u : Under)
+        → J (busy i y k) d w u → Sorting d
+        → ReadAt O v (haltsAs i (k v (d, b)) .0) (serves (haltsAs i (k v (d, b)) .1 .way)) w u
+        → Steps (go v) b (haltsAs i (k v (d, b))) (watched O w u)
     proceeds v b i y k d w (doing o q) j z r few = goes o i v b w q (j .0 v (d, b) (brought v i w o q (k v (d, b)) r) (refl, z, refl)) (j .1 v (d, b)) few
     proceeds v b i y k d w starting j z r few = starts i v b w (j .0) (j .1 v (d, b) (refl, z, refl))
 
-    row-16 : (v : ℕ) (b : Buf) (g : Bool) (i : Bool) (y : Awaits) (k : ℕ → St → tree.Out St Answer) (d : Driver) (w : O .Log) (u : Under) → J (busy i y k) d w u → Sorting d
+    row-16 : (v : ℕ) (b : Buf) (g : Bool) (i : Bool) (y : Awaits) (k : ℕ → St → tree.Out St Answer) (d : Driver) (w : O .Log) (u : Under)
+        → J (busy i y k) d w u → Sorting d
         → let c = cond g (stay calls driverOf 16 (record { way = busy i y k; st = d; buf = b })) (haltsAs i (k v (d, b))) in
         ReadAt O v (c .0) (serves (c .1 .way)) w u → Steps (go v) b c (watched O w u)
     row-16 v b true i y k d w u j z r few = stays v b 16 i y k d b w u j
     row-16 v b false i y k d w u j z r few = proceeds v b i y k d w u j z r few
 
-    continues : (v : ℕ) (b : Buf) (g : Bool) (y : Way Answer Driver) (d : Driver) (l : Buf) (w : O .Log) (u : Under) → J y d w u → Sorting d
+    continues : (v : ℕ) (b : Buf) (g : Bool) (y : Way Answer Driver) (d : Driver) (l : Buf) (w : O .Log) (u : Under)
+        → J y d w u → Sorting d
         → let c = cond g (stay calls driverOf 1 (record { way = y; st = d; buf = l })) (continued calls driverOf (λ s. s) v (record { way = y; st = d; buf = l }) y b) in
         ReadAt O v (c .0) (serves (c .1 .way)) w u → Steps (go v) b c (watched O w u)
     continues v b true idle d l w at-rest j z r few = record { claim = tt; standing = L .stands w (O .view d) j; next = j }
@@ -193,7 +215,8 @@ module _ (O : Observer) where
     continues v b false (busy i y k) d l w u j z r few = row-16 v b (machine.over calls y v) i y k d w u j z r few
 
     -- one call
-    step : (c : Call Config Op) (b : Buf) (m : Machine Answer Driver) (x : Watched O) → J (m .way) (m .st) (x .log) (x .under) → Sorting (m .st) → O .Meant (O .view (m .st))
+    step : (c : Call Config Op) (b : Buf) (m : Machine Answer Driver) (x : Watched O)
+        → J (m .way) (m .st) (x .log) (x .under) → Sorting (m .st) → O .Meant (O .view (m .st))
         → Read O c (drive c m b .0) (serves (drive c m b .1 .way)) x → Steps c b (drive c m b) x
     step (start c) b m x j z p r few = started-up c b (startRow c b) refl m x j
     step (begin o) b m x j z p r few = by (m .way) (x .under) j few
@@ -212,7 +235,9 @@ module _ (O : Observer) where
     abbrev Sorted : List (Event Config Op) → Machine Answer Driver → Type 0
     Sorted es m = (ds fs : List (Event Config Op)) → es ≡ ds ++ fs → Sorting (after calls driverOf ds m .st)
 
-    each : (es : List (Event Config Op)) (m : Machine Answer Driver) (x : Watched O) → J (m .way) (m .st) (x .log) (x .under) → Sorted es m → Meaning O es m → Roomy m → Reads O es m x → All O es m x
+    each : (es : List (Event Config Op)) (m : Machine Answer Driver) (x : Watched O)
+        → J (m .way) (m .st) (x .log) (x .under) → Sorted es m → Meaning O es m → Roomy m → Reads O es m x
+        → All O es m x
     each [] m x j z p k r = tt
     each (e ∷ es) m x j z p k r =
         let y = drive (e .call) m (e .lent) in
@@ -220,12 +245,14 @@ module _ (O : Observer) where
         let a = step (e .call) (e .lent) m x j (z [] (e ∷ es) refl) (p [] (e ∷ es) refl) (r .0) (f .answer) in
         (a .claim, a .standing, each es (y .1) (noted O (e .call) (e .lent) (y .0) (serves (y .1 .way)) x) (a .next) (λ ds fs h. z (e ∷ ds) fs (ap (e ∷_) h)) (λ ds fs h. p (e ∷ ds) fs (ap (e ∷_) h)) (f .machine) (r .1))
 
-    fresh : {out : tree.Out St Answer} → Ups (λ s. R (O .before) (O .view (s .0))) out → let y = haltsAs false out in J (y .1 .way) (y .1 .st) (startedBy O (y .0) .log) (startedBy O (y .0) .under)
+    fresh : {out : tree.Out St Answer} → Ups (λ s. R (O .before) (O .view (s .0))) out
+        → let y = haltsAs false out in J (y .1 .way) (y .1 .st) (startedBy O (y .0) .log) (startedBy O (y .0) .under)
     fresh (at-end f) = f
     fresh (at-ask _ k) = (refl, λ v t h. k v t tt h)
 
     -- EVERY list of calls that follows an accepted start-up, from whatever was before
-    pub from-start : (c : Config) (b : Buf) → startRow c b ≡ zero → (es : List (Event Config Op)) (m : Machine Answer Driver)
+    pub from-start : (c : Config) (b : Buf) → startRow c b ≡ zero
+        → (es : List (Event Config Op)) (m : Machine Answer Driver)
         → let y = started calls driverOf (λ s. s) c zero m b in
         Meaning O es (y .1) → Reads O es (y .1) (startedBy O (y .0)) → All O es (y .1) (startedBy O (y .0))
     from-start c b h es m p r =

@@ -2,31 +2,28 @@
 use mathlib.Core.Bool.{Bool, true, false, cond, true≢false}
 use mathlib.Core.List.{List}
 use mathlib.Core.Path.{_≡_, refl, ap, sym, _∙_}
-use Prim.Native.Nat.{ℕ, zero, suc, _%_}
+use Prim.Native.Nat.{ℕ, _%_}
 use native.Mathlib.Omega.{arith}
 use native.Mathlib.Decide.{ℕ-discrete, decLt}
-use lib.Dec.{eqb, ltb}
+use lib.Dec.{eqb}
 use lib.ListN.{length, getD, set, length-set, List·getD-eq-default}
 use lib.Seq.{getD-set-same, getD-set-other}
 use Rattle.bits.specs.Bit.{isSet}
 use Rattle.regs.specs.declared.Dir.{Dir}
 use Rattle.regs.specs.declared.Dir.the-variants.{Out, In}
 use Rattle.state.specs.declared.EpState.{EpState}
-use Rattle.state.specs.Ep.{resetOf}
-use Rattle.state.specs.Fresh.{clearStamps, noStamps}
-use Rattle.state.specs.Driver.{Driver, key, noEp, epOn, withOn, withLenOn, withStampOn, withPacedOn, withRequestOn}
+use Rattle.state.specs.Driver.{Driver, key, noEp, epOn, withOn, withLenOn, withStampOn}
 use Rattle.ring.specs.Slot.{slotAddr, joinedOf, passedOf, hasWaiting}
 use Rattle.ring.specs.Out.{hasRoomOut, cappedAt, turnedAwayOf, arrivedOf, armedAt, openedOf, closedOf}
 use Rattle.ring.specs.In.{completedOf, loadedOf, unloadedOf}
 use Rattle.marks.specs.Copies.{copied}
-use Rattle.script.specs.Cells.{Cell, Val, globals-cell, control-cell, allocator-cell, ep-cell, request-cell, paced-cell}
-use Rattle.script.specs.Script.{Act, complete, reset-ring, set-enabled, fill, fill0, open-oldest, close-oldest, take-oldest, enqueue, allocate, allocate0, no-wakes, waken, Hand, arrive, send, place, place0, Row, switch, bus-reset}
+use Rattle.script.specs.Script.{Act, complete, reset-ring, set-enabled, fill, fill0, open-oldest, close-oldest, take-oldest, enqueue, allocate, allocate0, no-wakes, waken, Hand, arrive, send, place, place0}
 use Rattle.script.specs.Statics.{isOn, isoOuts}
 use Rattle.script.specs.Sorts.{allocates}
 use Rattle.ops.specs.Records.{isoOut, configured, enabledOn}
-use Rattle.ops.specs.Rings.{St, completeOn, emptied, emptiedOn, openOn, closeOn, takeOn, roomOn, queuedOn, enqueueOn, recordedOn, admittedOn, arrivedAt, arriveOn, sendOn, placeOn, renewedOn, armAt, slotStep, typeStep, configStep, switchStep, resetBelow, resetAll, resetStep}
+use Rattle.ops.specs.Rings.{St, completeOn, emptied, emptiedOn, openOn, closeOn, takeOn, roomOn, queuedOn, enqueueOn, recordedOn, admittedOn, arrivedAt, arriveOn, sendOn, placeOn}
 use Rattle.ops.specs.Conc.{conc}
-use Rattle.proof_usb20.specs.Ep0.{Rec, View, recOf, view}
+use Rattle.proof_usb20.specs.Ep0.{recOf, view}
 
 -- ---- what leaves it
 
@@ -50,7 +47,8 @@ either true p q = p
 either false p q = q
 
 -- a change of other records than the endpoints'
-pub others : (d d′ : Driver) → d′ .eps ≡ d .eps → d′ .control ≡ d .control → d′ .globals .«setup_ready» ≡ d .globals .«setup_ready» → d′ .globals .stage ≡ d .globals .stage → Same d d′
+pub others : (d d′ : Driver) → d′ .eps ≡ d .eps → d′ .control ≡ d .control
+    → d′ .globals .«setup_ready» ≡ d .globals .«setup_ready» → d′ .globals .stage ≡ d .globals .stage → Same d d′
 unfolding epOn
 others d d′ p c g t = record { flags = λ dir e. rw p refl; control = c; setup = g; stage = t }
 
@@ -58,7 +56,8 @@ same : (d : Driver) → Same d d
 same d = others d d refl refl refl refl
 
 -- the record at one place of a list, and at the others
-flag-set : (l : List EpState) (k j : ℕ) (r : EpState) → recOf r ≡ recOf (getD l k noEp) → recOf (getD (set l k r) j noEp) ≡ recOf (getD l j noEp)
+flag-set : (l : List EpState) (k j : ℕ) (r : EpState) → recOf r ≡ recOf (getD l k noEp)
+    → recOf (getD (set l k r) j noEp) ≡ recOf (getD l j noEp)
 flag-set l k j r h = elim (ℕ-discrete j k) [
   | yes p ↦ rw p (elim (decLt k (length l)) [
     | yes q ↦ ap recOf (getD-set-same l k r noEp q) ∙ h
@@ -68,7 +67,8 @@ flag-set l k j r h = elim (ℕ-discrete j k) [
 ]
 
 -- a change of one endpoint's record that keeps its flag
-pub record-same : (d : Driver) (dir : Dir) (e : ℕ) (r : EpState) → recOf r ≡ recOf (epOn d dir e) → Same d (withOn d dir e r)
+pub record-same : (d : Driver) (dir : Dir) (e : ℕ) (r : EpState) → recOf r ≡ recOf (epOn d dir e)
+    → Same d (withOn d dir e r)
 unfolding epOn withOn
 record-same d dir e r h = record { flags = λ dir′ x. flag-set (d .eps) (key dir e) (key dir′ x) r h; control = refl; setup = refl; stage = refl }
 
@@ -108,7 +108,8 @@ act-same (close-oldest e) h s = either (isOn (epOn (s .0) Out e .«open»)) (rec
 act-same (take-oldest e) h s = either (hasWaiting (epOn (s .0) Out e)) (record-same (s .0) Out e _ refl) (same (s .0))
 act-same (enqueue e bytes) h s = by (roomOn (s .0) e (length bytes))
   where
-    by : (b : Bool) → Same (s .0) (cond b (queuedOn (s .0) e (length bytes), copied (s .1) (slotAddr (epOn (s .0) In e) (epOn (s .0) In e .head)) bytes) s .0)
+    by : (b : Bool)
+        → Same (s .0) (cond b (queuedOn (s .0) e (length bytes), copied (s .1) (slotAddr (epOn (s .0) In e) (epOn (s .0) In e .head)) bytes) s .0)
     by true = queued-same (s .0) e (length bytes)
     by false = same (s .0)
 act-same (allocate d kind address maximum interval) h s = absurd (true≢false h)
@@ -132,13 +133,15 @@ pub hand-same : (q : Hand) (s : St) → Same (s .0) (conc .hand q s .1 .0)
 unfolding arriveOn sendOn loadedOf placeOn
 hand-same (arrive e n) s = by (isSet (isoOuts (s .0 .globals)) (e % 16))
   where
-    by : (b : Bool) → Same (s .0) (cond b (arrivedAt e (cappedAt (epOn (s .0) Out e) n) s) (epOn (s .0) Out e .«armed_slot», s) .1 .0)
+    by : (b : Bool)
+        → Same (s .0) (cond b (arrivedAt e (cappedAt (epOn (s .0) Out e) n) s) (epOn (s .0) Out e .«armed_slot», s) .1 .0)
     by true = let len = cappedAt (epOn (s .0) Out e) n in then (admitted-same (s .0) e len) (armed-same (admittedOn (s .0) e len) e _)
     by false = same (s .0)
 hand-same (send e) s = either (hasWaiting (epOn (s .0) In e)) (record-same (s .0) In e _ refl) (same (s .0))
 hand-same (place Out e) s = by (isSet (isoOuts (s .0 .globals)) (e % 16))
   where
-    by : (b : Bool) → Same (s .0) (cond {A = ℕ × Driver} b (epOn (s .0) Out e .«armed_slot», s .0) (epOn (s .0) Out e .base, withOn (s .0) Out e (armedAt (epOn (s .0) Out e) (epOn (s .0) Out e .base))) .1)
+    by : (b : Bool)
+        → Same (s .0) (cond {A = ℕ × Driver} b (epOn (s .0) Out e .«armed_slot», s .0) (epOn (s .0) Out e .base, withOn (s .0) Out e (armedAt (epOn (s .0) Out e) (epOn (s .0) Out e .base))) .1)
     by true = same (s .0)
     by false = armed-same (s .0) e (epOn (s .0) Out e .base)
 hand-same (place In e) s = same (s .0)

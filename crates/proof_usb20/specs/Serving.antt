@@ -1,23 +1,19 @@
 -- The interrupt's law
 use mathlib.Core.Bool.{Bool, true, false, not, cond, _&&_, _||_}
-use mathlib.Core.List.{List, [], _∷_}
-use mathlib.Core.Logic.{_⊎_, inl, inr}
+use mathlib.Core.List.{[], _∷_}
+use mathlib.Core.Logic.{inr}
 use mathlib.Core.Path.{_≡_, refl, ap, subst, sym, _∙_}
-use Prim.Native.Nat.{ℕ, zero, suc, _%_}
-use native.Mathlib.Omega.{arith}
+use Prim.Native.Nat.{ℕ}
 use lib.Dec.{eqb}
 use borrow.Author.Tests.{eqb-true}
-use Rattle.regs.specs.declared.Access.{Access}
-use Rattle.regs.specs.declared.Access.the-variants.{Read, Write}
-use Rattle.regs.specs.declared.Reg.the-variants.{IntFg, IntSt, MisSt, RxLen, FrameNo, EpRxCtrl, EpTxCtrl}
-use Rattle.regs.specs.declared.Dir.{Dir}
+use Rattle.regs.specs.declared.Access.the-variants.{Read}
+use Rattle.regs.specs.declared.Reg.the-variants.{FrameNo}
 use Rattle.regs.specs.declared.Dir.the-variants.{Out, In}
 use Rattle.regs.specs.declared.Token.{Token}
 use Rattle.regs.specs.declared.Token.the-variants as tok
 use Rattle.regs.specs.ControlWord as word
 use Rattle.regs.specs.ControlWord.{response, wordOf}
 use Rattle.regs.specs.Flags.{busRst, transfer, suspend, hstSof, fifoOv, setupAct}
-use Rattle.regs.specs.MisStatus.{sieFree}
 use Rattle.regs.specs.Status.{endpoint, token, inToken, isIn, isSof, togOk}
 use Rattle.regs.specs.IntEn.{withBusRst, withSuspend}
 use Rattle.state.specs.declared.Globals.{Globals}
@@ -26,37 +22,39 @@ use Rattle.state.specs.Kept.{withIntEn}
 use Rattle.frame.specs.Usb20.{indexOf}
 use Rattle.script.specs.declared.Transfer.{Transfer}
 use Rattle.script.specs.Cells.{Plain, ep-cell, globals-cell}
-use Rattle.script.specs.Script.{Script, bind, ret, read, get, when, run, _>>=_, _>>_, waken, no-wakes, setup-word}
+use Rattle.script.specs.Script.{Script, read, get, when, run, waken, no-wakes, setup-word, _>>=_, _>>_}
 use Rattle.script.specs.Statics.{isOn, withReady, withArmed, withSetup, withEntered, modifyIntEn, wakeBus}
-use Rattle.script.specs.Answers.{Answer}
-use Rattle.script.specs.Calls.{interrupt, code}
-use Rattle.script.specs.Handler.{entered, nakNonIso, settle, isoFor, ownIn, framed, released, served, onTransfer, onSetup, onInterrupt}
+use Rattle.script.specs.Calls.{interrupt}
+use Rattle.script.specs.Handler.{entered, nakNonIso, isoFor, ownIn, framed, released, served, onTransfer, onSetup, onInterrupt}
 use Rattle.ops.specs.Rings.{St}
 use Rattle.ops.specs.Conc.{conc}
-use Rattle.book.specs.Sorts.{put-steady, act-steady}
-use Rattle.proof_usb20.specs.Log.{Log, Phase, off, flagged, timed, shows, withRx, withTx, withPhase, withFlags, saw, seen, opens, closes, set-up}
+use Rattle.book.specs.Sorts.{act-steady}
+use Rattle.proof_usb20.specs.Log.{Log, off, flagged, shows, withRx, withTx, withPhase, withFlags, seen, opens, set-up}
 use Rattle.proof_usb20.specs.Pipe as pipe
 use Rattle.proof_usb20.specs.Log as log
 use Rattle.proof_usb20.specs.Watch.{at-end, at-ask, watch-bind, watch-more, watch-cond}
-use Rattle.proof_usb20.specs.Ep0.{Watch, View, view, Rel, R, Keeps, Ends, Law}
+use Rattle.proof_usb20.specs.Ep0.{Watch, View, view, Rel, R, Keeps, Law}
 use Rattle.proof_usb20.specs.Exempt.{differ}
 use Rattle.proof_usb20.specs.Views.{setOut, setIn, setReady, put-globals}
 use Rattle.proof_usb20.specs.Same.{act-view}
-use Rattle.proof_usb20.specs.Stages.{outWith, inWith, out-view, in-view, out-whole, in-whole, moved}
-use Rattle.proof_usb20.specs.Quiet.{Plainly, Plain0, plainly, steadily, Any, put-kept}
+use Rattle.proof_usb20.specs.Stages.{outWith, inWith, out-view, in-view, out-whole}
+use Rattle.proof_usb20.specs.Quiet.{Plainly, plainly, steadily, Any, put-kept}
 use Rattle.proof_usb20.specs.Events.{aborted, set-up-fits}
 use Rattle.proof_usb20.specs.Interrupt.{back, Exactly, Served, naked, NotIso, servedAs, q-served, served-ep0}
 use Rattle.proof_usb20.specs.Entry.{Settled, others, mine, entry, settles, nak-other, nak-own, naked-busy}
 
 -- ---- the NAK before the release
 
-entry-free : (w : Log) (x : Transfer) → eqb (endpoint (x .st)) 0 ≡ true → x .busy ≡ false → withPhase (shows (x .busy) (x .st)) (naked (token (x .st)) false (togOk (x .st)) w) ≡ entry w x
+entry-free : (w : Log) (x : Transfer) → eqb (endpoint (x .st)) 0 ≡ true → x .busy ≡ false
+    → withPhase (shows (x .busy) (x .st)) (naked (token (x .st)) false (togOk (x .st)) w) ≡ entry w x
 entry-free w x h b = rw (h, b) refl
 
-entry-busy : (w : Log) (x : Transfer) → eqb (endpoint (x .st)) 0 ≡ true → x .busy ≡ true → withPhase (shows (x .busy) (x .st)) w ≡ entry w x
+entry-busy : (w : Log) (x : Transfer) → eqb (endpoint (x .st)) 0 ≡ true → x .busy ≡ true
+    → withPhase (shows (x .busy) (x .st)) w ≡ entry w x
 entry-busy w x h b = rw (h, b, naked-busy (token (x .st)) (togOk (x .st)) w) refl
 
-entry-other : (w : Log) (x : Transfer) → eqb (endpoint (x .st)) 0 ≡ false → withPhase (shows (x .busy) (x .st)) w ≡ entry w x
+entry-other : (w : Log) (x : Transfer) → eqb (endpoint (x .st)) 0 ≡ false
+    → withPhase (shows (x .busy) (x .st)) w ≡ entry w x
 entry-other w x h = rw h refl
 
 naks-first : (w : Log) (s : St) (x : Transfer) → Plainly s
@@ -76,7 +74,8 @@ naks-first w s x k = by (eqb (endpoint (x .st)) 0) refl (x .busy) refl
     shut : x .busy ≡ true → eqb (endpoint (x .st)) 0 ≡ true → C ≡ false
     shut b h = rw (b, h) (last (not (isSof (x .st))))
 
-    by : (m : Bool) → eqb (endpoint (x .st)) 0 ≡ m → (b : Bool) → x .busy ≡ b → Watch Keeps Any (Exactly (entry w x) (view (s .0))) (withPhase (shows (x .busy) (x .st)) w) (run {i = true} conc (when C (nakNonIso (x .st))) s)
+    by : (m : Bool) → eqb (endpoint (x .st)) 0 ≡ m → (b : Bool) → x .busy ≡ b
+        → Watch Keeps Any (Exactly (entry w x) (view (s .0))) (withPhase (shows (x .busy) (x .st)) w) (run {i = true} conc (when C (nakNonIso (x .st))) s)
     by true h false b = watch-cond C (λ _. watch-more (nak-own w (x .busy) (x .st) s k (x .st) h (token (x .st)) refl (togOk (x .st)) refl) (λ y _ t m. (m .0 ∙ entry-free w x h b, m .1, m .2))) (λ q. differ (sym q ∙ free b))
     by true h true b = watch-cond C (λ q. differ (sym (shut b h) ∙ q)) (λ _. at-end (entry-busy w x h b, refl, k))
     by false h c b = watch-cond C (λ _. watch-more (nak-other w (x .busy) (x .st) s k (x .st) h) (λ y _ t m. (m .0 ∙ entry-other w x h, m .1, m .2))) (λ _. at-end (entry-other w x h, refl, k))
@@ -90,7 +89,8 @@ not-iso-for tok.In o n a b = b
 not-iso-for tok.Sof o n a b = tt
 not-iso-for tok.Setup o n a b = tt
 
-not-own : (x : Transfer) (t : Token) (iso : Bool) (sof frame : ℕ) → token (x .st) ≡ t → NotIso t iso → ownIn x iso sof frame ≡ false
+not-own : (x : Transfer) (t : Token) (iso : Bool) (sof frame : ℕ) → token (x .st) ≡ t → NotIso t iso
+    → ownIn x iso sof frame ≡ false
 unfolding ownIn isIn
 not-own x t iso sof frame e i = by t e i
   where
@@ -103,7 +103,8 @@ not-own x t iso sof frame e i = by t e i
     last true = refl
     last false = refl
 
-    by : (t : Token) → token (x .st) ≡ t → NotIso t iso → x .busy && (iso && (inToken (token (x .st)) && eqb sof frame)) ≡ false
+    by : (t : Token) → token (x .st) ≡ t → NotIso t iso
+        → x .busy && (iso && (inToken (token (x .st)) && eqb sof frame)) ≡ false
     by tok.In e i = rw i (last (x .busy))
     by tok.Out e i = rw e (nothing (x .busy) iso)
     by tok.Sof e i = rw e (nothing (x .busy) iso)
@@ -125,14 +126,16 @@ rest x = do
   g ← get globals-cell
   served (framed x iso (g .«sof_frame») frame) iso frame
 
-serves : (w : Log) (v : View) (x : Transfer) (l : Log) (t : St) {su : Bool} → R w v → v .stage ≡ 2 → w .setup-seen ≡ su → Settled w v l x t → Watch Keeps Any (Served su) l (run conc (rest x) t)
+serves : (w : Log) (v : View) (x : Transfer) (l : Log) (t : St) {su : Bool} → R w v → v .stage ≡ 2 → w .setup-seen ≡ su
+    → Settled w v l x t → Watch Keeps Any (Served su) l (run conc (rest x) t)
 serves w v x l t {su = su} r two e (others h b m q k) = back m (at-ask {q = Read FrameNo 0} tt (λ frame u _ i.
     let iso = isoFor (token (x .st)) (conc .get (ep-cell Out (endpoint (x .st))) t) (conc .get (ep-cell In (endpoint (x .st))) t) in
     let y = framed x iso (u .0 .globals .«sof_frame») frame in
     back (elsewhere b (x .st) w h) (watch-more (q-served (token (y .st)) y iso frame (ap (λ (n : ℕ). eqb (endpoint n) 0) (framed-st x iso (u .0 .globals .«sof_frame») frame) ∙ h) .goes (withPhase off w) u refl (plainly (i .1)))
     (λ z _ o j. (subst (λ (z : Log). R z (view (o .0))) (sym (j .0)) (subst (R w) (sym (j .1 ∙ (i .0 ∙ q))) r), ap (λ (a : View). a .stage) (j .1 ∙ (i .0 ∙ q)) ∙ two, ap (λ (z : Log). z .setup-seen) (j .0) ∙ e)))))
   where
-    elsewhere : (b : Bool) (st : ℕ) (w : Log) → eqb (endpoint st) 0 ≡ false → seen b st (withPhase off w) ≡ withPhase off w
+    elsewhere : (b : Bool) (st : ℕ) (w : Log) → eqb (endpoint st) 0 ≡ false
+        → seen b st (withPhase off w) ≡ withPhase off w
     elsewhere b st w h = rw h refl
 serves w v x l t {su = su} r two e (mine h m q k) = back m (at-ask {q = Read FrameNo 0} tt (λ frame u _ i.
     let o = conc .get (ep-cell Out (endpoint (x .st))) t in
@@ -144,12 +147,14 @@ serves w v x l t {su = su} r two e (mine h m q k) = back m (at-ask {q = Read Fra
     back (here (x .busy) (x .st) (naked (token (x .st)) (x .busy) (togOk (x .st)) w) h) (subst (λ (y : Transfer). Watch Keeps Any (Served su) (log.ofToken (token (x .st)) (x .busy) (togOk (x .st)) (withPhase off (naked (token (x .st)) (x .busy) (togOk (x .st)) w))) (run conc (servedAs (token (y .st)) y iso frame) u)) (sym same)
     (served-ep0 x frame h w u (plainly (i .1)) (subst (R w) (sym (i .0 ∙ q)) r) (ap (λ (a : View). a .stage) (i .0 ∙ q) ∙ two) e (token (x .st)) iso (x .busy) (togOk (x .st)) refl refl not-iso))))
   where
-    here : (b : Bool) (st : ℕ) (w : Log) → eqb (endpoint st) 0 ≡ true → seen b st (withPhase off w) ≡ log.ofToken (token st) b (togOk st) (withPhase off w)
+    here : (b : Bool) (st : ℕ) (w : Log) → eqb (endpoint st) 0 ≡ true
+        → seen b st (withPhase off w) ≡ log.ofToken (token st) b (togOk st) (withPhase off w)
     here b st w h = rw h refl
 
 -- ---- the transfer
 
-transfers : (w : Log) (s : St) {su : Bool} → R w (view (s .0)) → view (s .0) .stage ≡ 2 → w .setup-seen ≡ su → Watch Keeps Any (Served su) (withPhase flagged w) (run conc (onTransfer {i = true}) s)
+transfers : (w : Log) (s : St) {su : Bool} → R w (view (s .0)) → view (s .0) .stage ≡ 2 → w .setup-seen ≡ su
+    → Watch Keeps Any (Served su) (withPhase flagged w) (run conc (onTransfer {i = true}) s)
 transfers w s r two e = at-ask tt (λ m a _ i. at-ask tt (λ st b _ j. at-ask tt (λ n c _ l.
     let v = l .0 ∙ (j .0 ∙ i .0) in
     watch-bind (naks-first w c (entered m st n) (plainly (l .1))) (λ y _ o q. back (q .0) (at-ask tt (λ _ u _ p.
@@ -164,10 +169,13 @@ nak-word = refl
 abbrev cleared : Plain → Plain
 cleared p = withArmed 0 (withReady 0 p)
 
-ready-setup : (x : Log) → x .setup-seen ≡ true → {v y : View} → y ≡ v → Rel (x .rx) (x .tx) (x .len) (pipe.after pipe.setup (x .pipe)) pipe.nothing true v → R (cond (x .setup-seen) (set-up x) x) y
+ready-setup : (x : Log) → x .setup-seen ≡ true → {v y : View} → y ≡ v
+    → Rel (x .rx) (x .tx) (x .len) (pipe.after pipe.setup (x .pipe)) pipe.nothing true v
+    → R (cond (x .setup-seen) (set-up x) x) y
 ready-setup x e {v = v} {y = y} h r = subst (λ (b : Bool). R (cond b (set-up x) x) y) (sym e) (inr (subst (Rel (x .rx) (x .tx) (x .len) (pipe.after pipe.setup (x .pipe)) pipe.nothing true) (sym h) r))
 
-sets-up : (w : Log) (s : St) → view (s .0) .stage ≡ 2 → w .setup-seen ≡ true → Watch Keeps Any (λ x _ t. R (cond (x .setup-seen) (set-up x) x) (view (t .0))) w (run conc (onSetup {i = true}) s)
+sets-up : (w : Log) (s : St) → view (s .0) .stage ≡ 2 → w .setup-seen ≡ true
+    → Watch Keeps Any (λ x _ t. R (cond (x .setup-seen) (set-up x) x) (view (t .0))) w (run conc (onSetup {i = true}) s)
 sets-up w s two e = at-ask tt (λ _ a _ i. at-ask tt (λ _ b _ j. at-ask tt (λ _ c _ l.
     let h = j .1 .places in
     let o = outWith cleared b in
@@ -180,9 +188,10 @@ sets-up w s two e = at-ask tt (λ _ a _ i. at-ask tt (λ _ b _ j. at-ask tt (λ 
 
 -- ---- the flags
 
-masks : (f : ℕ → ℕ) (w : Log) (s : St) → Plainly s → Watch Keeps Any (Exactly w (view (s .0))) w (run {i = true} conc (do
-  modifyIntEn f
-  wakeBus) s)
+masks : (f : ℕ → ℕ) (w : Log) (s : St) → Plainly s
+    → Watch Keeps Any (Exactly w (view (s .0))) w (run {i = true} conc (do
+      modifyIntEn f
+      wakeBus) s)
 masks f w s k =
     let h : Globals → Globals = λ g. withIntEn (f (g .«int_en»)) g in
     at-ask tt (λ _ t _ i. at-end (refl, act-view (waken (busCode ∷ [])) refl t ∙ (i .0 ∙ put-kept h (λ _. refl) s), steadily (act-steady (waken (busCode ∷ [])) refl t) (plainly (i .1))))
@@ -194,7 +203,8 @@ Over y a t = R (cond (y .setup-seen) (set-up y) y) (view (t .0))
 none : (x : Log) (v : View) → x .setup-seen ≡ false → R x v → R (cond (x .setup-seen) (set-up x) x) v
 none x v h r = rw h r
 
-on-interrupt : (w : Log) (s : St) → R w (view (s .0)) → view (s .0) .stage ≡ 2 → Watch Keeps Any Over (opens interrupt w) (run conc (onInterrupt {i = true}) s)
+on-interrupt : (w : Log) (s : St) → R w (view (s .0)) → view (s .0) .stage ≡ 2
+    → Watch Keeps Any Over (opens interrupt w) (run conc (onInterrupt {i = true}) s)
 on-interrupt w s r two = at-ask tt (λ f b _ j.
     let u = withFlags (setupAct f) (opens interrupt w) in
     watch-bind {P = Exactly u (view (s .0))} (watch-cond (busRst f) (λ _. watch-more (masks (λ w. withBusRst w false) u b (plainly (j .1))) (λ _ _ _ m. (m .0, m .1 ∙ j .0, m .2))) (λ _. at-end (refl, j .0, plainly (j .1)))) (λ x _ c m. back (m .0) (

@@ -1,13 +1,12 @@
 -- The interrupt until it has read the frame: what the status shows then
 use mathlib.Core.Bool.{Bool, true, false, not, cond, _&&_, _||_}
-use mathlib.Core.List.{List, [], _∷_}
 use mathlib.Core.Path.{_≡_, refl, ap, subst, sym, _∙_}
-use Prim.Native.Nat.{ℕ, zero, suc, _%_}
+use Prim.Native.Nat.{ℕ, zero, suc}
 use lib.Dec.{eqb}
 use borrow.Author.Tests.{eqb-true}
 use Rattle.regs.specs.declared.Access.the-variants.{Read}
 use Rattle.regs.specs.declared.Reg.{Reg}
-use Rattle.regs.specs.declared.Reg.the-variants.{IntFg, IntSt, MisSt, RxLen, FrameNo, EpRxCtrl, EpTxCtrl}
+use Rattle.regs.specs.declared.Reg.the-variants.{IntFg, RxLen, FrameNo}
 use Rattle.regs.specs.declared.Dir.{Dir}
 use Rattle.regs.specs.declared.Dir.the-variants.{Out, In}
 use Rattle.regs.specs.declared.Token.{Token}
@@ -15,7 +14,7 @@ use Rattle.regs.specs.declared.Token.the-variants as tok
 use Rattle.regs.specs.Flags.{transfer}
 use Rattle.regs.specs.MisStatus.{sieFree}
 use Rattle.regs.specs.Status.{endpoint, token, outToken, inToken, isOut, isIn}
-use Rattle.state.specs.Driver.{Driver, key, epOn}
+use Rattle.state.specs.Driver.{key, epOn}
 use Rattle.script.specs.declared.Transfer.{Transfer}
 use Rattle.script.specs.Cells.{Plain, ep-cell}
 use Rattle.script.specs.Script.{Script, read-then, run}
@@ -28,7 +27,8 @@ use Rattle.proof_usb20.specs.Exempt.{differ}
 use Rattle.proof_usb20.specs.Fitting.{both}
 use Rattle.proof_usb20.specs.Sequence.{Track, shows, again, withPhase, own, mine, tokenFor, saw}
 use Rattle.proof_usb20.specs.Follow as follow
-use Rattle.proof_usb20.specs.Follow.{Seen, view, Follow, at-end, at-ask}
+use Rattle.proof_usb20.specs.Follow.{Seen, view, Follow}
+use Rattle.proof_usb20.specs.Watch.{at-end, at-ask}
 use Rattle.proof_usb20.specs.Calm.{Else, Kept, Hears, kept-by, hears-same, hears-then, Quiet, q-bind, q-got, q-read, q-ret, q-test, q-when, q-write}
 use Rattle.proof_usb20.specs.Reading.{Own, own-true, got}
 use Rattle.proof_usb20.specs.Judging.{back}
@@ -41,7 +41,9 @@ module _ (D : Dir) (E : ℕ) where
   pub deaf : (st n : ℕ) (w : Track) → Deaf (withPhase (shows st n) w)
   deaf st n w r e v p q f = rw (p, q, f) refl
 
-  deaf-read : {i : Bool} {A : Type 0} {r : Reg} {e : ℕ} {f : ℕ → Script i A} → sameReg r RxLen ≡ false → sameReg r IntFg ≡ false → sameReg r FrameNo ≡ false → ((v : ℕ) → Quiet D E true Deaf (f v)) → Quiet D E true Deaf (read-then r e f)
+  deaf-read : {i : Bool} {A : Type 0} {r : Reg} {e : ℕ} {f : ℕ → Script i A} → sameReg r RxLen ≡ false
+      → sameReg r IntFg ≡ false → sameReg r FrameNo ≡ false → ((v : ℕ) → Quiet D E true Deaf (f v))
+      → Quiet D E true Deaf (read-then r e f)
   deaf-read {r = r} {e = e} p q g x = (q-read D E) (λ w z v. z r e v p q g) x
 
   pub q-nak : {i : Bool} (st : ℕ) → Quiet D E true Deaf (nakNonIso {i = i} st)
@@ -128,7 +130,8 @@ module _ (D : Dir) (E : ℕ) where
         last true = refl
         last false = refl
 
-        by : (d : Dir) → D ≡ d → (t : Token) → tokenFor d t ≡ true → x .busy && (outToken t || (inToken t && not (isOn (N .iso)))) ≡ x .busy
+        by : (d : Dir) → D ≡ d → (t : Token) → tokenFor d t ≡ true
+            → x .busy && (outToken t || (inToken t && not (isOn (N .iso)))) ≡ x .busy
         by Out g tok.Out h = last (x .busy)
         by In g tok.In h = rw (plain In g) (last (x .busy))
         by Out g tok.In h = differ h
@@ -140,10 +143,13 @@ module _ (D : Dir) (E : ℕ) where
 
   module _ (z : (d : Dir) → Else D E d 0) where
     -- an answer of a wait that a token of the endpoint would not give
-    not-mine : {A : Type 0} (s : St) → isOn (epOn (s .0) D E .iso) ≡ false → (x : Transfer) → waitsForBulk x (conc .get (ep-cell In (endpoint (x .st))) s) ≡ false → x .busy ≡ true → mine D E (x .st) ≡ true → A
+    not-mine : {A : Type 0} (s : St) → isOn (epOn (s .0) D E .iso) ≡ false → (x : Transfer)
+        → waitsForBulk x (conc .get (ep-cell In (endpoint (x .st))) s) ≡ false → x .busy ≡ true
+        → mine D E (x .st) ≡ true → A
     not-mine s i x q b h = differ (sym q ∙ (bulk-wait s i z (x .st) h x refl ∙ b))
 
-    not-mine-iso : {A : Type 0} (s : St) → isOn (epOn (s .0) D E .iso) ≡ false → (x : Transfer) → waitsForIso x (conc .get (ep-cell Out (endpoint (x .st))) s) ≡ true → mine D E (x .st) ≡ true → A
+    not-mine-iso : {A : Type 0} (s : St) → isOn (epOn (s .0) D E .iso) ≡ false → (x : Transfer)
+        → waitsForIso x (conc .get (ep-cell Out (endpoint (x .st))) s) ≡ true → mine D E (x .st) ≡ true → A
     not-mine-iso s i x q h = differ (sym (no-iso-wait s i z (x .st) h x refl) ∙ q)
 
     -- after one access more
@@ -153,28 +159,31 @@ module _ (D : Dir) (E : ℕ) where
     abbrev same : (s : St) → Hears D E true s s
     same s = hears-same D E {s = s} {t = s} refl
 
-    pub settles : (w : Track) (s : St) (x : Transfer) → isOn (epOn (s .0) D E .iso) ≡ false → Kept D E true s → Follow D E (λ l y t. Settled s w (view D E (s .0)) l y t) (withPhase (shows (x .st) (x .len)) w) (run conc (settle {i = true} x) s)
+    pub settles : (w : Track) (s : St) (x : Transfer) → isOn (epOn (s .0) D E .iso) ≡ false → Kept D E true s
+        → Follow D E (λ l y t. Settled s w (view D E (s .0)) l y t) (withPhase (shows (x .st) (x .len)) w) (run conc (settle {i = true} x) s)
     settles w s x i k = follow.follow-cond D E (waitsForIso x (conc .get (ep-cell Out (endpoint (x .st))) s))
-        (λ q. follow.follow-bind D E (q-waits 2001 .goes (withPhase (shows (x .st) (x .len)) w) s (deaf (x .st) (x .len) w, λ _ _ _ _. refl) k) (λ y _ a m. back D E (m .0) (at-ask (λ now b p. at-ask (λ n c r.
+        (λ q. follow.follow-bind D E (q-waits 2001 .goes (withPhase (shows (x .st) (x .len)) w) s (deaf (x .st) (x .len) w, λ _ _ _ _. refl) k) (λ y _ a m. back D E (m .0) (at-ask tt (λ now b _ p. at-ask tt (λ n c _ r.
         at-end (record { len = cond (eqb n 0) (x .len) n; log = refl; its = λ h. not-mine-iso s i x q h; view = r .0 ∙ (p .0 ∙ m .1); kept = kept-by D E {s = b} {t = c} r (kept-by D E {s = a} {t = b} p (m .2)); hears = after s b c (after s a b (m .3) p) r }))))))
         (λ _. follow.follow-cond D E (waitsForBulk x (conc .get (ep-cell In (endpoint (x .st))) s))
-        (λ _. follow.follow-bind D E (q-waits 2001 .goes (withPhase (shows (x .st) (x .len)) w) s (deaf (x .st) (x .len) w, λ _ _ _ _. refl) k) (λ y _ a m. back D E (m .0) (at-ask (λ n c r.
+        (λ _. follow.follow-bind D E (q-waits 2001 .goes (withPhase (shows (x .st) (x .len)) w) s (deaf (x .st) (x .len) w, λ _ _ _ _. refl) k) (λ y _ a m. back D E (m .0) (at-ask tt (λ n c _ r.
         at-end (record { len = cond (eqb n 0) (x .len) n; log = refl; its = λ _. (refl, refl); view = r .0 ∙ m .1; kept = kept-by D E {s = a} {t = c} r (m .2); hears = after s a c (m .3) r })))))
         (λ q. follow.follow-cond D E (x .busy)
-        (λ b. at-ask (λ m a p. follow.follow-cond D E (sieFree m)
-        (λ _. at-ask (λ f c r.
+        (λ b. at-ask tt (λ m a _ p. follow.follow-cond D E (sieFree m)
+        (λ _. at-ask tt (λ f c _ r.
         let ka = kept-by D E {s = s} {t = a} p k in
         let kc = kept-by D E {s = a} {t = c} r ka in
         let hc = after s a c (after s s a (same s) p) r in
         follow.follow-cond D E (transfer f)
         (λ t. back D E (kept f w t) (at-end (record { len = x .len; log = refl; its = λ h. not-mine s i x q b h; view = r .0 ∙ p .0; kept = kc; hears = hc })))
-        (λ t. back D E (taken f w t) (at-ask (λ st e g. follow.follow-bind D E (q-nak {i = true} st .goes (withPhase (shows st (x .len)) w) e (deaf st (x .len) w, λ _ _ _ _. refl) (kept-by D E {s = c} {t = e} g kc)) (λ y _ u n.
+        (λ t. back D E (taken f w t) (at-ask tt (λ st e _ g. follow.follow-bind D E (q-nak {i = true} st .goes (withPhase (shows st (x .len)) w) e (deaf st (x .len) w, λ _ _ _ _. refl) (kept-by D E {s = c} {t = e} g kc)) (λ y _ u n.
         at-end (record { len = x .len; log = n .0; its = λ _. (refl, refl); view = n .1 ∙ (g .0 ∙ (r .0 ∙ p .0)); kept = n .2; hears = hears-then D E (after s c e hc g) (n .3) })))))))
         (λ _. at-end (record { len = x .len; log = refl; its = λ h. not-mine s i x q b h; view = p .0; kept = kept-by D E {s = s} {t = a} p k; hears = after s s a (same s) p }))))
         (λ b. at-end (record { len = x .len; log = refl; its = λ _. (refl, b); view = refl; kept = k; hears = same s }))))
       where
-        kept : (f : ℕ) (w : Track) → transfer f ≡ true → saw D E (withPhase (shows (x .st) (x .len)) w) (Read IntFg 0) f ≡ withPhase (shows (x .st) (x .len)) w
+        kept : (f : ℕ) (w : Track) → transfer f ≡ true
+            → saw D E (withPhase (shows (x .st) (x .len)) w) (Read IntFg 0) f ≡ withPhase (shows (x .st) (x .len)) w
         kept f w t = rw t refl
 
-        taken : (f : ℕ) (w : Track) → transfer f ≡ false → saw D E (withPhase (shows (x .st) (x .len)) w) (Read IntFg 0) f ≡ withPhase (again (x .len)) w
+        taken : (f : ℕ) (w : Track) → transfer f ≡ false
+            → saw D E (withPhase (shows (x .st) (x .len)) w) (Read IntFg 0) f ≡ withPhase (again (x .len)) w
         taken f w t = rw t refl

@@ -1,33 +1,28 @@
 -- The laws of the control pipe's begins: each leaves EP0 armed as the pipe says, or is refused and leaves all as it was
-use mathlib.Core.Bool.{Bool, true, false, not, cond, _&&_, _||_}
+use mathlib.Core.Bool.{Bool, true, false}
 use mathlib.Core.List.{List}
 use mathlib.Core.Logic.{_⊎_, inl, inr}
 use mathlib.Core.Path.{_≡_, refl, ap, subst, sym, _∙_}
-use Prim.Native.Nat.{ℕ, zero, suc, _%_}
+use Prim.Native.Nat.{ℕ, _%_}
 use native.Mathlib.Omega.{arith}
 use lib.Dec.{eqb, ltb}
 use lib.ListN.{length}
-use Rattle.regs.specs.declared.Dir.{Dir}
 use Rattle.regs.specs.declared.Dir.the-variants.{Out, In}
-use Rattle.regs.specs.ControlWord as word
-use Rattle.regs.specs.ControlWord.{response, toggle, wordOf, ack, stall, status}
+use Rattle.regs.specs.ControlWord.{toggle, ack, stall, status}
 use Rattle.state.specs.declared.Control.{Control}
-use Rattle.script.specs.Tree as tree
-use Rattle.script.specs.Cells.{Plain, ep-cell, control-cell, globals-cell}
-use Rattle.script.specs.Script.{run, no-wakes, fill0}
-use Rattle.script.specs.Statics.{isOn, flag, withReady, withArmed, withLen}
-use Rattle.script.specs.Answers.{Answer}
-use Rattle.script.specs.Control.{SETUP, DATA-OUT, DATA-IN, ACCEPT, requestOf, no-control, dataInOf, addressOf}
-use Rattle.script.specs.Calls.{Op, interrupt, slotted, other, aside, BeginDataIn, BeginSetup, BeginAccept, BeginReject, BeginDataOut, BeginAcceptSetAddress, code}
+use Rattle.script.specs.Cells.{Plain, ep-cell, control-cell}
+use Rattle.script.specs.Script.{no-wakes, fill0}
+use Rattle.script.specs.Statics.{isOn, withReady, withArmed, withLen}
+use Rattle.script.specs.Control.{SETUP, DATA-OUT, ACCEPT, requestOf, no-control, dataInOf, addressOf}
+use Rattle.script.specs.Calls.{slotted, other, BeginDataIn, BeginSetup, BeginAccept, BeginReject, BeginDataOut, BeginAcceptSetAddress}
 use Rattle.script.specs.ToggledLaws.{ack-keeps, ack-acks}
 use Rattle.ops.specs.Rings.{St}
 use Rattle.ops.specs.Conc.{conc}
-use Rattle.book.specs.Sorts.{Steady, put-steady, act-steady}
-use Rattle.book.specs.Sorting.{Sorting}
-use Rattle.proof_usb20.specs.Pipe.{Pipe, Awaited, nothing, confirms}
-use Rattle.proof_usb20.specs.Log.{Log, withRx, withTx, withAwaits, withPhase, off, choose, opens, closes, Allowed}
+use Rattle.book.specs.Sorts.{put-steady, act-steady}
+use Rattle.proof_usb20.specs.Pipe.{Pipe, Awaited}
+use Rattle.proof_usb20.specs.Log.{withPhase, off}
 use Rattle.proof_usb20.specs.Watch.{at-end, at-ask, watch-cond}
-use Rattle.proof_usb20.specs.Ep0.{Watch, Rec, View, view, Rests, no-request, Rel, R, Keeps, Ends, Law}
+use Rattle.proof_usb20.specs.Ep0.{View, view, no-request, Rel, Law}
 use Rattle.proof_usb20.specs.Exempt.{exempt-law}
 use Rattle.proof_usb20.specs.Views.{rec, setOut, setIn, setControl, put-out, put-in, put-control}
 use Rattle.proof_usb20.specs.Same.{act-view}
@@ -45,10 +40,12 @@ inWith f s = conc .put (ep-cell In 0) (f (conc .get (ep-cell In 0) s)) s
 abbrev pub Whole : St → Type 0
 Whole s = length (s .0 .eps) ≡ 32
 
-pub out-view : (f : Plain → Plain) (s : St) → Whole s → view (outWith f s .0) ≡ setOut (rec (f (conc .get (ep-cell Out 0) s))) (view (s .0))
+pub out-view : (f : Plain → Plain) (s : St) → Whole s
+    → view (outWith f s .0) ≡ setOut (rec (f (conc .get (ep-cell Out 0) s))) (view (s .0))
 out-view f s h = put-out (f (conc .get (ep-cell Out 0) s)) s h
 
-pub in-view : (f : Plain → Plain) (s : St) → Whole s → view (inWith f s .0) ≡ setIn (rec (f (conc .get (ep-cell In 0) s))) (view (s .0))
+pub in-view : (f : Plain → Plain) (s : St) → Whole s
+    → view (inWith f s .0) ≡ setIn (rec (f (conc .get (ep-cell In 0) s))) (view (s .0))
 in-view f s h = put-in (f (conc .get (ep-cell In 0) s)) s h
 
 pub out-whole : (f : Plain → Plain) (s : St) → Whole s → Whole (outWith f s)
@@ -67,13 +64,15 @@ noted-view c s = act-view no-wakes refl (conc .put control-cell c s) ∙ put-con
 pub noted-whole : (c : Control) (s : St) → Whole s → Whole (noted c s)
 noted-whole c s h = act-steady no-wakes refl (conc .put control-cell c s) .places ∙ (put-steady control-cell c s .places ∙ h)
 
-pub moved : {ex : Bool} {rx tx l : ℕ} {p : Pipe} {a : Awaited} {u : Bool} {x y : View} → y ≡ x → (ex ≡ true) ⊎ Rel rx tx l p a u x → (ex ≡ true) ⊎ Rel rx tx l p a u y
+pub moved : {ex : Bool} {rx tx l : ℕ} {p : Pipe} {a : Awaited} {u : Bool} {x y : View} → y ≡ x
+    → (ex ≡ true) ⊎ Rel rx tx l p a u x → (ex ≡ true) ⊎ Rel rx tx l p a u y
 moved {ex = ex} {rx = rx} {tx = tx} {l = l} {p = p} {a = a} {u = u} e r = subst (λ z. (ex ≡ true) ⊎ Rel rx tx l p a u z) (sym e) r
 
 -- ---- data_out
 
 -- the state before its access
-armed-out : (n : ℕ) (s : St) → Whole s → view (outWith (λ p. withArmed 1 (withLen n (withReady 0 p))) (noted (requestOf DATA-OUT n) s) .0) ≡ setOut (record { ready = 0; armed = 1 }) (setControl (requestOf DATA-OUT n) (view (s .0)))
+armed-out : (n : ℕ) (s : St) → Whole s
+    → view (outWith (λ p. withArmed 1 (withLen n (withReady 0 p))) (noted (requestOf DATA-OUT n) s) .0) ≡ setOut (record { ready = 0; armed = 1 }) (setControl (requestOf DATA-OUT n) (view (s .0)))
 armed-out n s h = out-view (λ p. withArmed 1 (withLen n (withReady 0 p))) (noted (requestOf DATA-OUT n) s) (noted-whole (requestOf DATA-OUT n) s h) ∙ ap (setOut (record { ready = 0; armed = 1 })) (noted-view (requestOf DATA-OUT n) s)
 
 pub law-data-out : (n : ℕ) (first : Bool) → Law (other (BeginDataOut n first))
@@ -104,7 +103,8 @@ closing n bytes s h =
     ∙ ap (λ (y : View). setOut (record { ready = 0; armed = y .out .armed }) y) (in-view (withReady 0) x hx ∙ ap (λ (y : View). setIn (record { ready = 0; armed = y .inn .armed }) y) vx)
 
 -- armed after it
-armed-in : (t : St) (y : View) → Whole t → view (t .0) ≡ y → view (inWith (withArmed 1) t .0) ≡ setIn (record { ready = y .inn .ready; armed = 1 }) y
+armed-in : (t : St) (y : View) → Whole t → view (t .0) ≡ y
+    → view (inWith (withArmed 1) t .0) ≡ setIn (record { ready = y .inn .ready; armed = 1 }) y
 armed-in t y h e = in-view (withArmed 1) t h ∙ ap (λ (y : View). setIn (record { ready = y .inn .ready; armed = 1 }) y) e
 
 -- another one
@@ -144,7 +144,8 @@ law-data-in bytes false false w s (inr r) z =
 
 -- ---- accept
 
-cleared : (c : Control) (s : St) → Whole s → view (inWith (withReady 0) (noted c s) .0) ≡ setIn (record { ready = 0; armed = view (s .0) .inn .armed }) (setControl c (view (s .0)))
+cleared : (c : Control) (s : St) → Whole s
+    → view (inWith (withReady 0) (noted c s) .0) ≡ setIn (record { ready = 0; armed = view (s .0) .inn .armed }) (setControl c (view (s .0)))
 cleared c s h = in-view (withReady 0) (noted c s) (noted-whole c s h) ∙ ap (λ (y : View). setIn (record { ready = 0; armed = y .inn .armed }) y) (noted-view c s)
 
 pub law-accept : Law (other BeginAccept)

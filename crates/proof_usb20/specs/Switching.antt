@@ -1,8 +1,7 @@
 -- An endpoint is enabled or disabled: not EP0
-use mathlib.Core.Bool.{Bool, true, false, not, cond, _&&_, _||_}
-use mathlib.Core.List.{List, [], _∷_}
-use mathlib.Core.Path.{_≡_, refl, ap, subst, sym, _∙_}
-use Prim.Native.Nat.{ℕ, zero, suc, _%_}
+use mathlib.Core.Bool.{Bool, true, false, cond}
+use mathlib.Core.Path.{_≡_, refl, ap, _∙_}
+use Prim.Native.Nat.{ℕ, zero, suc}
 use lib.Dec.{eqb}
 use Rattle.regs.specs.declared.Dir.{Dir}
 use Rattle.regs.specs.declared.Dir.the-variants.{Out, In}
@@ -10,23 +9,21 @@ use Rattle.state.specs.declared.EpState.{EpState}
 use Rattle.state.specs.Driver.{Driver, epOn, withOn}
 use Rattle.state.specs.declared.Globals.{Globals}
 use Rattle.state.specs.Fresh.{clearStamps}
-use Rattle.state.specs.Kept.{withEpType, withEpConfig}
+use Rattle.state.specs.Kept.{withEpType}
 use Rattle.frame.specs.Advance.{NO_FRAME}
 use Rattle.script.specs.Tree as tree
-use Rattle.script.specs.Cells.{Plain, ep-cell, globals-cell, paced-cell}
-use Rattle.script.specs.Script.{Script, run, row, rows, switch, switchAsk, rowAsk}
+use Rattle.script.specs.Cells.{ep-cell, globals-cell}
+use Rattle.script.specs.Script.{row, rows, switch, switchAsk}
 use Rattle.script.specs.Statics.{isOn, renewed, withArmed, flag, modifyEpType}
 use Rattle.script.specs.Bus as bus
 use Rattle.script.specs.Calls.{slotted, SetEnabled}
-use Rattle.regs.specs.Enables as enables
 use Rattle.ops.specs.Rings.{St, slotStep, armAt, renewedOn, typeStep, configStep}
 use Rattle.ops.specs.Conc.{conc}
-use Rattle.book.specs.Sorts.{row-steady}
-use Rattle.proof_usb20.specs.Log.{Log, off, saw}
+use Rattle.proof_usb20.specs.Log.{Log, saw}
 use Rattle.proof_usb20.specs.Watch.{at-end}
 use Rattle.proof_usb20.specs.Ep0.{Watch, view, recOf, Keeps, Law}
 use Rattle.proof_usb20.specs.Views.{made, ep-other}
-use Rattle.proof_usb20.specs.Quiet.{Plainly, Plain0, steadily, Stays, Any, Quiet, asked, onward, apart, q-ret, q-bind, q-test, q-if, q-write, q-act, q-hand, q-put, q-modify, Other, put-kept, other-word, other-length}
+use Rattle.proof_usb20.specs.Quiet.{Plainly, Stays, Any, Quiet, asked, onward, apart, q-ret, q-bind, q-test, q-write, q-act, q-hand, q-put, Other, put-kept, other-word, other-length}
 use Rattle.proof_usb20.specs.Parts.{q-got, q-wake, q-ep}
 use Rattle.proof_usb20.specs.Tasks.{Numbered, quiet-law, q-staged, q-named, q-resultless, put-paced}
 
@@ -47,7 +44,8 @@ slot-view : (e k : ℕ) → Other e → (s : St) → view (slotStep e k s .1 .0)
 unfolding slotStep
 slot-view e k o s = by (isOn (epOn (s .0) Out e .iso)) (eqb k 15)
   where
-    by : (b c : Bool) → view (cond b (armAt e k (cond c (renewedOn (s .0) e) (s .0), s .1)) (epOn (s .0) Out e .«armed_slot», s) .1 .0) ≡ view (s .0)
+    by : (b c : Bool)
+        → view (cond b (armAt e k (cond c (renewedOn (s .0) e) (s .0), s .1)) (epOn (s .0) Out e .«armed_slot», s) .1 .0) ≡ view (s .0)
     by true true = with-other (renewedOn (s .0) e) e _ o ∙ renewed-view (s .0) e o
     by true false = with-other (s .0) e _ o
     by false c = refl
@@ -65,7 +63,8 @@ silent e on (suc zero) x h w v = refl
 silent e on (suc (suc zero)) x h w v = other-word Out e (cond on 1 2) h w
 silent e on (suc (suc (suc n))) x h w v = refl
 
-in-row : (e : ℕ) (on : Bool) → Numbered e → (n : ℕ) (w : Log) (s : St) → Plainly s → Watch Keeps Any (λ x _ t. Stays w s x t) w (rows conc (switch e on) n (λ t. tree.ends (tt {0}) t) s)
+in-row : (e : ℕ) (on : Bool) → Numbered e → (n : ℕ) (w : Log) (s : St) → Plainly s
+    → Watch Keeps Any (λ x _ t. Stays w s x t) w (rows conc (switch e on) n (λ t. tree.ends (tt {0}) t) s)
 in-row e on m zero w s k = onward w s (conc .row (switch e on) zero s .1) (switch-view e on zero (m .apart) s) (asked w (silent e on zero (conc .row (switch e on) zero s .0) (m .zero-not) w) (λ _ t l. at-end (refl, refl, l)))
 in-row e on m (suc n) w s k = onward w s (conc .row (switch e on) (suc n) s .1) (switch-view e on (suc n) (m .apart) s) (asked w (silent e on (suc n) (conc .row (switch e on) (suc n) s .0) (m .zero-not) w) (λ _ t l. in-row e on m n w t l))
 

@@ -1,9 +1,9 @@
 -- The laws of the calls that are not EP0's
-use mathlib.Core.Bool.{Bool, true, false, not, cond, _&&_, _||_}
-use mathlib.Core.List.{List, [], _∷_}
+use mathlib.Core.Bool.{Bool, true, false, cond, _||_}
+use mathlib.Core.List.{List, []}
 use mathlib.Core.Logic.{_⊎_, inl, inr}
 use mathlib.Core.Path.{_≡_, refl, ap, subst, sym, _∙_}
-use Prim.Native.Nat.{ℕ, zero, suc, _%_, _<_}
+use Prim.Native.Nat.{ℕ, zero, suc, _%_}
 use native.Mathlib.Omega.{arith}
 use lib.Dec.{eqb, ltb}
 use lib.ListN.{length}
@@ -21,35 +21,35 @@ use Rattle.regs.specs.Flags.{busRst, suspend}
 use Rattle.regs.specs.IntEn.{withBusRst, withSuspend}
 use Rattle.state.specs.Kept.{withIntEn}
 use Rattle.script.specs.Tree as tree
-use Rattle.script.specs.Cells.{Plain, Cell, Val, ep-cell, globals-cell, allocator-cell, request-cell, paced-cell}
-use Rattle.script.specs.Script.{Script, ret, bind, test, run, when, no-wakes}
+use Rattle.script.specs.Cells.{Plain, ep-cell, globals-cell, allocator-cell, request-cell, paced-cell}
+use Rattle.script.specs.Script.{Script, ret, bind, run, no-wakes}
 use Rattle.bits.specs.Bit.{withBit}
 use Rattle.script.specs.Machine.{Buf}
 use Rattle.book.specs.Sorts.{put-steady, act-steady}
 use Rattle.book.specs.Sorting.{Sorting}
 use Rattle.script.specs.Statics.{isOn, withReady, withArmed, withPaced, withTog, withPower, modifyIntEn}
 use Rattle.script.specs.Answers.{Answer, Refused, End, NotYet, Done, Shown, operation, resultless, staged, named, unless, isNumber, isAllocated}
-use Rattle.script.specs.IsoIn.{isoInCompletions, isoInAdvance, isoInSetPaced, microframe}
+use Rattle.script.specs.IsoIn.{isoInCompletions, isoInSetPaced}
 use Rattle.script.specs.Bus as bus
-use Rattle.script.specs.Endpoint.{beginRead, pollRead, beginWrite, pollWrite, enabled-else, ends-request, polled, take-iso, take-ready, put-iso, sent-ready, arm-read, load-write, no-request, begun}
-use Rattle.script.specs.Driver.{openPacket, closePacket, queuePacket}
-use Rattle.script.specs.Calls.{Op, interrupt, slotted, other, aside, Slotted, SetEnabled, PollRead, BeginWrite, PollWrite, Other, Allocate, AllocateAll, Start, BusPoll, BusEnable, BusDisable, Microframe, SetStalled, IsStalled, SetPaced, Advance, BeginRead, Aside, Open, Close, Queue, asideCode, code}
+use Rattle.script.specs.Endpoint.{enabled-else, ends-request, polled, no-request, begun}
+use Rattle.script.specs.Calls.{Op, slotted, other, aside, PollRead, BeginWrite, PollWrite, Other, Allocate, AllocateAll, Start, BusPoll, BusEnable, BusDisable, Microframe, SetStalled, IsStalled, SetPaced, Advance, BeginRead, Aside, Open, Close, Queue, asideCode, code}
 use Rattle.ops.specs.Rings.{St}
 use Rattle.ops.specs.Conc.{conc}
 use Rattle.proof_usb20.specs.Log as log
-use Rattle.proof_usb20.specs.Log.{Log, before, off, exempted, withPhase, opens, ends, closes, Poll, none, pollOf, settled, FairPoll, Allowed, AllowedTo, Fair}
+use Rattle.proof_usb20.specs.Log.{Log, before, off, exempted, withPhase, opens, ends, closes, Poll, none, pollOf, settled, FairPoll, Allowed, AllowedTo}
 use Rattle.proof_usb20.specs.Watch.{at-end, at-ask, watch-bind, watch-more, watch-cond, watch-any}
-use Rattle.proof_usb20.specs.Ep0.{Watch, View, view, R, Rel, Keeps, Ends, Law}
+use Rattle.proof_usb20.specs.Ep0.{Watch, View, view, R, Keeps, Ends, Law}
 use Rattle.proof_usb20.specs.Exempt.{differ, Task, exempt-law}
 use Rattle.proof_usb20.specs.Same.{act-view}
 use Rattle.proof_usb20.specs.Fitting.{both}
 use Rattle.proof_usb20.specs.Quiet as quiet
-use Rattle.proof_usb20.specs.Quiet.{Plainly, plainly, steadily, Any, Quiet, Stays, q-ret, q-bind, q-test, q-if, q-read, q-write, q-get, q-is, q-look, q-fetch, q-act, q-hand, q-put, q-modify, put-other, put-kept, other-word, other-length}
-use Rattle.proof_usb20.specs.Parts.{q-got, q-wake, q-when, q-reg, q-ep, q-globals, q-complete}
+use Rattle.proof_usb20.specs.Quiet.{plainly, steadily, Any, Quiet, Stays, q-ret, q-bind, q-test, q-if, q-read, q-write, q-is, q-look, q-fetch, q-act, q-put, put-other, put-kept, other-word, other-length}
+use Rattle.proof_usb20.specs.Parts.{q-got, q-wake, q-when, q-reg, q-ep, q-complete}
 
 -- ---- a quiet call
 
-allows : {A : Type 0} {P : Log → A → St → Type 0} {Ok : Log → Type 0} {w : Log} {o : tree.Out St A} → ((x : Log) → Ok x) → Watch Keeps Any P w o → Watch Keeps Ok P w o
+allows : {A : Type 0} {P : Log → A → St → Type 0} {Ok : Log → Type 0} {w : Log} {o : tree.Out St A} → ((x : Log) → Ok x)
+    → Watch Keeps Any P w o → Watch Keeps Ok P w o
 allows g (at-end x) = at-end x
 allows g (at-ask _ x) = at-ask (g _) (λ v t b k. allows g (x v t b k))
 
@@ -129,7 +129,8 @@ pub law-begin-read : (e n : ℕ) → Law (other (BeginRead e n))
 law-begin-read e n = quiet-law (other (BeginRead e n)) tt refl (λ _ _. refl) (q-staged 2 (q-named Out e (λ m. q-enabled Out e q-ret (q-bind (q-got (ep-cell Out e)) (λ s. q-unless _ 10
     (q-bind (q-put (put-request Out e (begun n)) q-ret) (λ _. q-resultless (q-test q-ret (q-test q-ret (q-bind (q-ep Out e (withArmed 1) (m .apart)) (λ _. q-reg Out e _ (m .zero-not))))))))))))
 
-q-polled : {i : Bool} (d : Dir) (e n : ℕ) → Numbered e → {p : Plain → Script i Answer} → ((s : Plain) → Quiet (p s)) → Quiet (polled d e n p)
+q-polled : {i : Bool} (d : Dir) (e n : ℕ) → Numbered e → {p : Plain → Script i Answer} → ((s : Plain) → Quiet (p s))
+    → Quiet (polled d e n p)
 q-polled d e n m x = q-bind (q-got (request-cell d e)) (λ r. q-unless _ 15 (q-test (q-bind (q-got (ep-cell d e)) (λ s. x s)) (q-bind (q-ep d e (withReady 0) (m .apart)) (λ _. q-ends d e (Refused 10)))))
 
 pub law-poll-read : (e n : ℕ) → Law (slotted (PollRead e n))
@@ -151,7 +152,8 @@ law-poll-write e bytes = quiet-law (slotted (PollWrite e bytes)) tt refl (λ _ _
 unstarted : {A : Type 0} (n : ℕ) → n ≡ 2 → eqb n 1 ≡ true → A
 unstarted n h q = absurd (omega (arith, h, eqb-true n 1 q))
 
-pub law-allocate : (d : Dir) (kind address maximum interval : ℕ) → Law (other (Allocate d kind address maximum interval))
+pub law-allocate : (d : Dir) (kind address maximum interval : ℕ)
+    → Law (other (Allocate d kind address maximum interval))
 law-allocate d kind address maximum interval w s (inl e) z = exempt-law (other (Allocate d kind address maximum interval)) tt w s e
 law-allocate d kind address maximum interval w s (inr r) z = watch-cond (eqb (s .0 .globals .stage) 1) (λ q. unstarted (s .0 .globals .stage) (r .stage) q) (λ _. at-end (inr r, tt))
 
@@ -208,10 +210,12 @@ q-aside (Queue e bytes) = q-staged 2 (q-named In e (λ _. q-enabled In e q-ret (
 pub law-aside : (o : Aside) → Law (aside o)
 law-aside o = quiet-law (aside o) tt refl (λ _ _. refl) (q-aside o)
 
-ended-view : {A : Type 0} {w : Log} {v : View} {a : A} {t : St} → Watch Keeps Any {A = A} (λ _ _ t. (view (t .0) ≡ v)) w (tree.ends a t) → view (t .0) ≡ v
+ended-view : {A : Type 0} {w : Log} {v : View} {a : A} {t : St}
+    → Watch Keeps Any {A = A} (λ _ _ t. (view (t .0) ≡ v)) w (tree.ends a t) → view (t .0) ≡ v
 ended-view (at-end p) = p
 
-pub aside-view : (o : Aside) (d : Driver) (b : Buf) (a : Answer) (t : St) → Sorting d → run conc (asideCode o) (d, b) ≡ tree.ends a t → view (t .0) ≡ view d
+pub aside-view : (o : Aside) (d : Driver) (b : Buf) (a : Answer) (t : St) → Sorting d
+    → run conc (asideCode o) (d, b) ≡ tree.ends a t → view (t .0) ≡ view d
 aside-view o d b a t z h = ended-view (subst (Watch Keeps Any (λ _ _ t. (view (t .0) ≡ view d)) before) h (watch-more (q-aside o .goes before (d, b) refl (plainly z)) (λ _ _ _ m. m .1)))
 
 -- ---- halts
@@ -232,7 +236,8 @@ exempts e x h = rw h refl
 pub law-set-stalled : (d : Dir) (e : ℕ) (on : Bool) → Law (other (SetStalled d e on))
 law-set-stalled d e on w s r z = by (eqb e 0) refl
   where
-    by : (b : Bool) → eqb e 0 ≡ b → Watch Keeps (Allowed (other (SetStalled d e on))) (Ends (other (SetStalled d e on))) (withPhase off w) (run conc (code (other (SetStalled d e on))) s)
+    by : (b : Bool) → eqb e 0 ≡ b
+        → Watch Keeps (Allowed (other (SetStalled d e on))) (Ends (other (SetStalled d e on))) (withPhase off w) (run conc (code (other (SetStalled d e on))) s)
     by false h = quiet-part
       where
         quiet-part : Watch Keeps (Allowed (other (SetStalled d e on))) (Ends (other (SetStalled d e on))) (withPhase off w) (run conc (code (other (SetStalled d e on))) s)
@@ -258,6 +263,7 @@ law-bus-poll w s r z = watch-cond (eqb (s .0 .globals .stage) 2)
     same true x v q = inl refl
     same false x v q = q
 
-    after : (n : ℕ) (x : Log) (t : St) → (n ≡ 2) ⊎ Stays (withPhase off w) s x t → R (cond (eqb n 2) (exempted x) x) (view (t .0))
+    after : (n : ℕ) (x : Log) (t : St) → (n ≡ 2) ⊎ Stays (withPhase off w) s x t
+        → R (cond (eqb n 2) (exempted x) x) (view (t .0))
     after n x t (inl h) = subst (λ (m : ℕ). R (cond (eqb m 2) (exempted x) x) (view (t .0))) (sym h) (inl refl)
     after n x t (inr m) = same (eqb n 2) x (view (t .0)) (subst (λ (y : Log). R y (view (t .0))) (sym (m .0)) (subst (R w) (sym (m .1)) r))

@@ -1,10 +1,10 @@
--- The interrupt's law: with the transfer flag it reads the status and the frame, and with a token of the endpoint its control word, once
+-- The interrupt's law: with the transfer flag it reads the status and the frame, and with a token of the endpoint its
+-- control word, once
 use mathlib.Core.Bool.{Bool, true, false, not, cond, _&&_, _||_}
-use mathlib.Core.List.{List, [], _∷_}
 use mathlib.Core.Logic.{inl, inr}
 use mathlib.Core.Path.{_≡_, refl, ap, subst, sym, _∙_}
 use native.Mathlib.Omega.{arith}
-use Prim.Native.Nat.{ℕ, zero, suc, _%_}
+use Prim.Native.Nat.{ℕ}
 use lib.Dec.{eqb}
 use borrow.Author.Tests.{eqb-true, eq-eqb}
 use Rattle.bits.specs.Walk.{setBits}
@@ -18,12 +18,12 @@ use Rattle.regs.specs.Flags.{busRst, transfer, suspend, hstSof, fifoOv, setupAc
 use Rattle.regs.specs.IntEn.{withBusRst, withSuspend}
 use Rattle.regs.specs.MisStatus.{sieFree}
 use Rattle.regs.specs.Status.{endpoint, token, isSof, isIn, sofToken}
-use Rattle.state.specs.Driver.{Driver, key, epOn}
+use Rattle.state.specs.Driver.{key, epOn}
 use Rattle.state.specs.Laws.{key-apart}
 use Rattle.frame.specs.Usb20.{indexOf}
 use Rattle.script.specs.declared.Transfer.{Transfer}
-use Rattle.script.specs.Cells.{Plain, ep-cell, globals-cell}
-use Rattle.script.specs.Script.{Script, bind, run, when, get, read, write, _>>=_, _>>_, no-wakes}
+use Rattle.script.specs.Cells.{ep-cell, globals-cell}
+use Rattle.script.specs.Script.{Script, bind, run, when, get, read, write, no-wakes, _>>=_, _>>_}
 use Rattle.script.specs.Statics.{isOn, flag, isoInEvery, withEntered, modifyIntEn, wakeBus}
 use Rattle.script.specs.IsoIn.{onSof, lateWalk}
 use Rattle.script.specs.IsoOut.{isoOutCheck}
@@ -42,9 +42,11 @@ use Rattle.proof_usb20.specs.Fitting.{both}
 use Rattle.proof_usb20.specs.Sequence as log
 use Rattle.proof_usb20.specs.Sequence.{Track, off, flagged, shows, due, withPhase, own, mine, tokenFor, howOften, saw}
 use Rattle.proof_usb20.specs.Follow as follow
-use Rattle.proof_usb20.specs.Follow.{Seen, Fits, view, Follow, at-end, at-ask, EndsFew}
+use Rattle.proof_usb20.specs.Follow.{Seen, Fits, view, Follow, EndsFew}
+use Rattle.proof_usb20.specs.Watch.{at-end, at-ask}
 use Rattle.proof_usb20.specs.Untouched.{act-view}
-use Rattle.proof_usb20.specs.Calm.{Idle, Off, Hush, Else, Kept, Stays, Quiet, kept-by, hears-same, heard, put-kept, put-hears, only, off-idle, off-hush, put-globals, q-bind, q-ins, q-wake-bus, q-check, q-dispatch, q-ep0-moved, q-got, q-int-en, q-late, q-ret, q-setup, q-sof, q-when, q-write}
+use Rattle.proof_usb20.specs.Calm.{Idle, Off, Hush, Else, Kept, Stays, Quiet, kept-by, hears-same, heard, put-kept, put-hears, only, off-idle, off-hush, put-globals, q-bind, q-ins, q-wake-bus, q-got, q-int-en, q-ret, q-when, q-write}
+use Rattle.proof_usb20.specs.CalmParts.{q-check, q-dispatch, q-ep0-moved, q-late, q-setup, q-sof}
 use Rattle.proof_usb20.specs.Judging.{back, Heard, heard-on, Done, arm-out, arm-in, due-idle}
 use Rattle.proof_usb20.specs.Settling.{Settled, deaf, settles, its-token, not-zero, not-iso, q-nak}
 
@@ -58,14 +60,16 @@ arms : (D : Dir) (E : ℕ) → Arms D E
 unfolding Arms
 arms Out E x frame k w s n j t o z l h r two = by (token (x .st)) t
   where
-    by : (t : Token) → tokenFor Out t ≡ true → Follow Out E (Done Out E) (withPhase (due k) w) (run conc (dispatch {i = true} t x false frame) s)
+    by : (t : Token) → tokenFor Out t ≡ true
+        → Follow Out E (Done Out E) (withPhase (due k) w) (run conc (dispatch {i = true} t x false frame) s)
     by tok.Out t = arm-out E x k w s n j o z l h r two
     by tok.In t = differ t
     by tok.Sof t = differ t
     by tok.Setup t = differ t
 arms In E x frame k w s n j t o z l h r two = by (token (x .st)) t
   where
-    by : (t : Token) → tokenFor In t ≡ true → Follow In E (Done In E) (withPhase (due k) w) (run conc (dispatch {i = true} t x false frame) s)
+    by : (t : Token) → tokenFor In t ≡ true
+        → Follow In E (Done In E) (withPhase (due k) w) (run conc (dispatch {i = true} t x false frame) s)
     by tok.In t = arm-in E x frame k w s n j o z l h r two
     by tok.Out t = differ t
     by tok.Sof t = differ t
@@ -83,7 +87,8 @@ not-sof In tok.Setup h = differ h
 
 module _ (D : Dir) (E : ℕ) (z : (d : Dir) → Else D E d 0) where
   -- a part that leaves the endpoint, and its task asleep
-  went : (x y : Track) (e u : St) → Done D E {A = Unit {0}} x tt e → Stays D E true x e y u → Done D E {A = Unit {0}} y tt u
+  went : (x y : Track) (e u : St) → Done D E {A = Unit {0}} x tt e → Stays D E true x e y u
+      → Done D E {A = Unit {0}} y tt u
   went x y e u f g = (
     ap (λ (q : Track). q .phase) (g .0) ∙ f .0,
     subst (λ (q : Track). Fits q (view D E (u .0))) (sym (g .0)) (subst (Fits x) (sym (g .1)) (f .1)),
@@ -118,7 +123,9 @@ module _ (D : Dir) (E : ℕ) (z : (d : Dir) → Else D E d 0) where
   q-lates x frame = (q-when D E) ((q-ins D E) (λ g o. (q-late D E) frame (setBits (isoInEvery g)) o))
 
   -- ours
-  ours : (w : Track) (y : Transfer) (k frame : ℕ) (s : St) → w .new ≡ false → heard D E s ≡ 0 → tokenFor D (token (y .st)) ≡ true → own D E D (endpoint (y .st)) ≡ true → eqb (endpoint (y .st)) 0 ≡ false → y .len ≡ k → y .busy ≡ false → Kept D E true s → Fits w (view D E (s .0)) → eqb (s .0 .globals .stage) 2 ≡ true
+  ours : (w : Track) (y : Transfer) (k frame : ℕ) (s : St) → w .new ≡ false → heard D E s ≡ 0
+      → tokenFor D (token (y .st)) ≡ true → own D E D (endpoint (y .st)) ≡ true → eqb (endpoint (y .st)) 0 ≡ false
+      → y .len ≡ k → y .busy ≡ false → Kept D E true s → Fits w (view D E (s .0)) → eqb (s .0 .globals .stage) 2 ≡ true
       → Follow D E (Done D E) (withPhase (due k) w) (run conc (served {i = true} y false frame) s)
   unfolding Arms
   ours w y k frame s q j t o nz l b h r two =
@@ -130,7 +137,9 @@ module _ (D : Dir) (E : ℕ) (z : (d : Dir) → Else D E d 0) where
       follow.follow-more D E (q-rest y false frame .goes x e (f .0, off-hush D E x (f .0)) (f .2)) (λ x′ _ u g. went x x′ e u f g))))))
 
   -- another's
-  q-served : (y : Transfer) (iso : Bool) (frame : ℕ) → (token (y .st) ≡ tok.Out → Else D E Out (endpoint (y .st))) → (token (y .st) ≡ tok.In → Else D E In (endpoint (y .st))) → Quiet D E true (Off D E) (served {i = true} y iso frame)
+  q-served : (y : Transfer) (iso : Bool) (frame : ℕ) → (token (y .st) ≡ tok.Out → Else D E Out (endpoint (y .st)))
+      → (token (y .st) ≡ tok.In → Else D E In (endpoint (y .st)))
+      → Quiet D E true (Off D E) (served {i = true} y iso frame)
   q-served y iso frame p q = (q-bind D E) ((q-got D E) globals-cell) (λ g. (q-bind D E) ((q-when D E) (only D E (off-idle D E) ((q-sof D E) frame))) (λ _. (q-bind D E) (only D E (off-idle D E) (q-lates y frame)) (λ _. (q-bind D E) ((q-when D E) ((q-dispatch D E) z (token (y .st)) y iso frame p q)) (λ _. q-rest y iso frame))))
 
   others : (st : ℕ) → mine D E st ≡ false → (d : Dir) → tokenFor d (token st) ≡ true → Else D E d (endpoint st)
@@ -173,10 +182,13 @@ module _ (D : Dir) (E : ℕ) (z : (d : Dir) → Else D E d 0) where
     g ← get globals-cell
     served (framed x iso (g .«sof_frame») frame) iso frame
 
-  due-now : (st n : ℕ) (w : Track) (b : Bool) → mine D E st ≡ b → (v : ℕ) → saw D E (withPhase (shows st n) w) (Read FrameNo 0) v ≡ withPhase (cond b (due n) off) w
+  due-now : (st n : ℕ) (w : Track) (b : Bool) → mine D E st ≡ b → (v : ℕ)
+      → saw D E (withPhase (shows st n) w) (Read FrameNo 0) v ≡ withPhase (cond b (due n) off) w
   due-now st n w b h v = rw h refl
 
-  framing : (w : Track) (v : Seen) (x : Transfer) (l : Track) (s t : St) → w .new ≡ false → heard D E s ≡ 0 → Fits w v → isOn (v .iso) ≡ false → eqb (v .stage) 2 ≡ true → Settled D E s w v l x t → Follow D E (Done D E) l (run conc (frames x) t)
+  framing : (w : Track) (v : Seen) (x : Transfer) (l : Track) (s t : St) → w .new ≡ false → heard D E s ≡ 0 → Fits w v
+      → isOn (v .iso) ≡ false → eqb (v .stage) 2 ≡ true → Settled D E s w v l x t
+      → Follow D E (Done D E) l (run conc (frames x) t)
   framing w v x l s t quiet none r i two m = back D E (m .log) (by (mine D E (x .st)) refl)
     where
       i-here : isOn (epOn (t .0) D E .iso) ≡ false
@@ -185,15 +197,16 @@ module _ (D : Dir) (E : ℕ) (z : (d : Dir) → Else D E d 0) where
       heard-here : (u : St) → follow.Keeps D E t u → heard D E u ≡ 0
       heard-here u p = hears-same D E {m = true} {s = t} {t = u} (p .2) .same refl ∙ (m .hears .same refl ∙ none)
 
-      by : (b : Bool) → mine D E (x .st) ≡ b → Follow D E (Done D E) (withPhase (shows (x .st) (m .len)) w) (run conc (frames x) t)
-      by true h = at-ask (λ frame u p. back D E (due-now (x .st) (m .len) w true h frame)
+      by : (b : Bool) → mine D E (x .st) ≡ b
+          → Follow D E (Done D E) (withPhase (shows (x .st) (m .len)) w) (run conc (frames x) t)
+      by true h = at-ask tt (λ frame u _ p. back D E (due-now (x .st) (m .len) w true h frame)
           (let q = m .its h in
           let g : view D E (u .0) ≡ v = p .0 ∙ m .view in
           let iso = not-iso D E t i-here z (x .st) h in
           subst (λ (c : Bool). Follow D E (Done D E) (withPhase (due (m .len)) w) (run conc (served {i = true} (framed x c (u .0 .globals .«sof_frame») frame) c frame) u)) (sym iso)
           (subst (λ (y : Transfer). Follow D E (Done D E) (withPhase (due (m .len)) w) (run conc (served {i = true} y false frame) u)) (sym (not-framed x false (u .0 .globals .«sof_frame») frame (q .1)))
           (ours w x (m .len) frame u quiet (heard-here u p) (its-token D E t i-here z (x .st) h) (both (tokenFor D (token (x .st))) (own D E D (endpoint (x .st))) h .1) (not-zero D E t i-here z (x .st) h) (sym (q .0)) (q .1) (kept-by D E {s = t} {t = u} p (m .kept)) (subst (Fits w) (sym g) r) (ap (λ (a : Seen). eqb (a .stage) 2) g ∙ two)))))
-      by false h = at-ask (λ frame u p. back D E (due-now (x .st) (m .len) w false h frame)
+      by false h = at-ask tt (λ frame u _ p. back D E (due-now (x .st) (m .len) w false h frame)
           (let g : view D E (u .0) ≡ v = p .0 ∙ m .view in
           let iso = isoFor (token (x .st)) (conc .get (ep-cell Out (endpoint (x .st))) t) (conc .get (ep-cell In (endpoint (x .st))) t) in
           let y = framed x iso (u .0 .globals .«sof_frame») frame in
@@ -211,14 +224,16 @@ module _ (D : Dir) (E : ℕ) (z : (d : Dir) → Else D E d 0) where
       by true h = sym (eqb-true n 0 h)
       by false h = refl
 
-  transfers : (w : Track) (s : St) → w .new ≡ false → heard D E s ≡ 0 → Kept D E true s → Fits w (view D E (s .0)) → isOn (epOn (s .0) D E .iso) ≡ false → eqb (s .0 .globals .stage) 2 ≡ true → Follow D E (Done D E) (withPhase flagged w) (run conc (onTransfer {i = true}) s)
-  transfers w s quiet none ks r i two = at-ask (λ m a p. at-ask (λ st b q. at-ask (λ n c f.
+  transfers : (w : Track) (s : St) → w .new ≡ false → heard D E s ≡ 0 → Kept D E true s → Fits w (view D E (s .0))
+      → isOn (epOn (s .0) D E .iso) ≡ false → eqb (s .0 .globals .stage) 2 ≡ true
+      → Follow D E (Done D E) (withPhase flagged w) (run conc (onTransfer {i = true}) s)
+  transfers w s quiet none ks r i two = at-ask tt (λ m a _ p. at-ask tt (λ st b _ q. at-ask tt (λ n c _ f.
       let v : view D E (c .0) ≡ view D E (s .0) = f .0 ∙ (q .0 ∙ p .0) in
       let kc = kept-by D E {s = b} {t = c} f (kept-by D E {s = a} {t = b} q (kept-by D E {s = s} {t = a} p ks)) in
       let wc : c .0 .wakes ≡ s .0 .wakes = f .2 ∙ (q .2 ∙ p .2) in
       back D E (ap (λ k. withPhase (shows st k) w) (zero-len n))
       (follow.follow-bind D E {P = λ x _ e. Stays D E true (withPhase (shows st n) w) c x e} (follow.follow-cond D E (not (not (sieFree m)) || (not (isSof st) && not (eqb (endpoint st) 0))) (λ _. q-nak D E {i = true} st .goes (withPhase (shows st n) w) c (deaf D E st n w, λ _ _ _ _. refl) kc) (λ _. at-end (refl, refl, kc, hears-same D E {s = c} {t = c} refl))) (λ x _ e g. back D E (g .0)
-      (at-ask (λ _ u h.
+      (at-ask tt (λ _ u _ h.
       let k : view D E (u .0) ≡ view D E (s .0) = h .0 ∙ (g .1 ∙ v) in
       let ku = kept-by D E {s = e} {t = u} h (g .2) in
       let nu : heard D E u ≡ 0 = hears-same D E {m = true} {s = e} {t = u} (h .2) .same refl ∙ (g .3 .same refl ∙ (hears-same D E {m = true} {s = s} {t = c} wc .same refl ∙ none)) in
@@ -247,13 +262,17 @@ module _ (D : Dir) (E : ℕ) (z : (d : Dir) → Else D E d 0) where
   flags-hush w true r e v x = refl
   flags-hush w false r e v x = refl
 
-  on-flag : (w : Track) (f : ℕ) (b : Bool) → transfer f ≡ b → saw D E (withPhase log.entered w) (Read IntFg 0) f ≡ withPhase (cond b flagged off) w
+  on-flag : (w : Track) (f : ℕ) (b : Bool) → transfer f ≡ b
+      → saw D E (withPhase log.entered w) (Read IntFg 0) f ≡ withPhase (cond b flagged off) w
   on-flag w f b h = rw h refl
 
-  on-interrupt : (w : Track) (s : St) → w .new ≡ false → heard D E s ≡ 0 → Kept D E true s → Fits w (view D E (s .0)) → isOn (epOn (s .0) D E .iso) ≡ false → eqb (s .0 .globals .stage) 2 ≡ true → Follow D E (Done D E) (withPhase log.entered w) (run conc (onInterrupt {i = true}) s)
-  on-interrupt w s quiet none ks r i two = at-ask (λ f a p. by f a p (transfer f) refl)
+  on-interrupt : (w : Track) (s : St) → w .new ≡ false → heard D E s ≡ 0 → Kept D E true s → Fits w (view D E (s .0))
+      → isOn (epOn (s .0) D E .iso) ≡ false → eqb (s .0 .globals .stage) 2 ≡ true
+      → Follow D E (Done D E) (withPhase log.entered w) (run conc (onInterrupt {i = true}) s)
+  on-interrupt w s quiet none ks r i two = at-ask tt (λ f a _ p. by f a p (transfer f) refl)
     where
-      by : (f : ℕ) (a : St) → follow.Keeps D E s a → (b : Bool) → transfer f ≡ b → Follow D E (Done D E) (saw D E (withPhase log.entered w) (Read IntFg 0) f) (run conc (bind (when {i = true} (busRst f) (bind (modifyIntEn (λ w. withBusRst w false)) (λ _. wakeBus))) (λ _. bind (when (suspend f) (bind (modifyIntEn (λ w. withSuspend w false)) (λ _. wakeBus))) (λ _. bind (when (fifoOv f) (write IntFg 0 FIFO_OV)) (λ _. bind (when (hstSof f) (write IntFg 0 HST_SOF)) (λ _. bind (when (transfer f) onTransfer) (λ _. when (setupAct f) onSetup)))))) a)
+      by : (f : ℕ) (a : St) → follow.Keeps D E s a → (b : Bool) → transfer f ≡ b
+          → Follow D E (Done D E) (saw D E (withPhase log.entered w) (Read IntFg 0) f) (run conc (bind (when {i = true} (busRst f) (bind (modifyIntEn (λ w. withBusRst w false)) (λ _. wakeBus))) (λ _. bind (when (suspend f) (bind (modifyIntEn (λ w. withSuspend w false)) (λ _. wakeBus))) (λ _. bind (when (fifoOv f) (write IntFg 0 FIFO_OV)) (λ _. bind (when (hstSof f) (write IntFg 0 HST_SOF)) (λ _. bind (when (transfer f) onTransfer) (λ _. when (setupAct f) onSetup)))))) a)
       by f a p b h = back D E (on-flag w f b h)
           (let L = withPhase (cond b flagged off) w in
           let hush = flags-hush w b in
@@ -270,7 +289,9 @@ module _ (D : Dir) (E : ℕ) (z : (d : Dir) → Else D E d 0) where
           (λ _. follow.follow-more D E ((q-setup D E) z {i = true} .goes x c (n .0, off-hush D E x (n .0)) (n .2)) (λ y _ u g. went x y c u n g))
           (λ _. at-end n)))))))))))
         where
-          moves : (f : ℕ) (c : St) → heard D E c ≡ 0 → Kept D E true c → (b : Bool) → transfer f ≡ b → Fits w (view D E (c .0)) → isOn (epOn (c .0) D E .iso) ≡ false → eqb (c .0 .globals .stage) 2 ≡ true → Follow D E (Done D E) (withPhase (cond b flagged off) w) (run {i = true} conc (when (transfer f) onTransfer) c)
+          moves : (f : ℕ) (c : St) → heard D E c ≡ 0 → Kept D E true c → (b : Bool) → transfer f ≡ b
+              → Fits w (view D E (c .0)) → isOn (epOn (c .0) D E .iso) ≡ false → eqb (c .0 .globals .stage) 2 ≡ true
+              → Follow D E (Done D E) (withPhase (cond b flagged off) w) (run {i = true} conc (when (transfer f) onTransfer) c)
           moves f c nc k true h r i two = follow.follow-cond D E (transfer f) (λ _. transfers w c quiet nc k r i two) (λ q. differ (sym q ∙ h))
           moves f c nc k false h r i two = follow.follow-cond D E (transfer f) (λ q. differ (sym h ∙ q)) (λ _. at-end (refl, r, k, two, inr (nc ∙ sym (ap flag quiet))))
 
@@ -283,16 +304,18 @@ module _ (D : Dir) (E : ℕ) (z : (d : Dir) → Else D E d 0) where
   heard-none s = ap (howOften (wakeCode D E)) none-listed
 
   -- fewer wake-ups than there is room for, so the list is not full
-  ends-few : (y : Track) (t : St) → Kept D E true t → Heard D E y t → Few (ended (End 0 (listed (t .0 .wakes)))) → howOften (wakeCode D E) (listed (t .0 .wakes)) ≡ flag (y .new)
+  ends-few : (y : Track) (t : St) → Kept D E true t → Heard D E y t → Few (ended (End 0 (listed (t .0 .wakes))))
+      → howOften (wakeCode D E) (listed (t .0 .wakes)) ≡ flag (y .new)
   ends-few y t k (inl n) f = absurd (omega (arith, n, f, listed-count (t .0 .wakes) (k .room refl)))
   ends-few y t k (inr n) f = n
 
   abbrev begun : Track → Track
   begun w = record { bit = w .bit; through = w .through; len = w .len; armed = w .armed; new = false; phase = off }
 
-  pub law-interrupt : (w : Track) (s : St) → Fits w (view D E (s .0)) → isOn (epOn (s .0) D E .iso) ≡ false → Sorting (s .0) → Follow D E (EndsFew D E interrupt) (log.opens D E interrupt w) (run conc (code interrupt) s)
+  pub law-interrupt : (w : Track) (s : St) → Fits w (view D E (s .0)) → isOn (epOn (s .0) D E .iso) ≡ false
+      → Sorting (s .0) → Follow D E (EndsFew D E interrupt) (log.opens D E interrupt w) (run conc (code interrupt) s)
   law-interrupt w s r i k = follow.follow-cond D E (eqb (s .0 .globals .stage) 2)
-      (λ two. follow.follow-bind D E {P = Done D E} (follow.follow-bind D E {P = Done D E} (at-ask (λ frame a p.
+      (λ two. follow.follow-bind D E {P = Done D E} (follow.follow-bind D E {P = Done D E} (at-ask tt (λ frame a _ p.
       let s0 = conc .act no-wakes s in
       let g = withEntered (indexOf frame) (conc .get globals-cell a) in
       let v : view D E (conc .put globals-cell g a .0) ≡ view D E (s .0) = put-globals D E g a ∙ (p .0 ∙ act-view D E no-wakes refl s) in

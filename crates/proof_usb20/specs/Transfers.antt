@@ -1,12 +1,13 @@
--- The pipe's definitions checked against 8.5.3 itself: a control read, a control write and a transfer without data, packet by packet, each in order and possible
-use mathlib.Core.Bool.{Bool, true, false, cond, _&&_}
-use mathlib.Core.Path.{_≡_, refl, ap, _∙_}
+-- The pipe's definitions checked against 8.5.3 itself: a control read, a control write and a transfer without data,
+-- packet by packet, each in order and possible
+use mathlib.Core.Bool.{Bool, true, false}
+use mathlib.Core.Path.{_≡_, refl, ap}
 use Prim.Native.Nat.{ℕ, zero, suc}
 use Rattle.regs.specs.declared.Dir.{Dir}
 use Rattle.regs.specs.declared.Dir.the-variants.{Out, In}
-use Rattle.script.specs.Usb20Toggles.{Pid, other}
+use Rattle.script.specs.Usb20Toggles.{other}
 use Rattle.script.specs.Usb20Control.{dataPid, statusPid}
-use Rattle.proof_usb20.specs.Pipe.{data-stage, status-stage, naks, stalls, acks, half, Pipe, Event, setup, packet, token, possible, after, Choice, takes, gives, confirms, rejects, chosen, orderly, taken, given, confirmed, over}
+use Rattle.proof_usb20.specs.Pipe.{data-stage, status-stage, naks, stalls, acks, half, Pipe, setup, packet, token, possible, after, Choice, takes, gives, confirms, rejects, chosen, orderly, given, confirmed, over}
 
 -- packet k of a data stage is ready, the k before it went through
 abbrev pub stage : (Bool → Choice) → Dir → Pipe → ℕ → Pipe
@@ -23,7 +24,8 @@ module _ (p : Pipe) (n : ℕ) where
   read-pid zero = refl
   read-pid (suc k) = ap other (read-pid k)
 
-  pub read-ready : (k : ℕ) → (stage (reads n) In p k .inn .answers ≡ acks data-stage) × (stage (reads n) In p k .out .answers ≡ naks)
+  pub read-ready : (k : ℕ)
+      → (stage (reads n) In p k .inn .answers ≡ acks data-stage) × (stage (reads n) In p k .out .answers ≡ naks)
   read-ready zero = (refl, refl)
   read-ready (suc k) = (refl, read-ready k .1)
 
@@ -31,10 +33,12 @@ module _ (p : Pipe) (n : ℕ) where
   abbrev last : ℕ → Pipe
   last k = chosen (gives n false true) (after (packet In) (stage (reads n) In p k))
 
-  pub read-status : (k : ℕ) → (last k .out .answers ≡ acks status-stage) × (last k .out .bit ≡ statusPid) × (last k .inn .bit ≡ dataPid (suc k))
+  pub read-status : (k : ℕ)
+      → (last k .out .answers ≡ acks status-stage) × (last k .out .bit ≡ statusPid) × (last k .inn .bit ≡ dataPid (suc k))
   read-status k = (refl, refl, ap other (read-pid k))
 
-  pub read-over : (k : ℕ) → (over (given true) (after (packet In) (last k)) ≡ false) × (over (given true) (after (packet Out) (after (packet In) (last k))) ≡ true)
+  pub read-over : (k : ℕ)
+      → (over (given true) (after (packet In) (last k)) ≡ false) × (over (given true) (after (packet Out) (after (packet In) (last k))) ≡ true)
   read-over k = (refl, refl)
 
   -- where the last ACK was lost, the status stage's token says that the data went through (8.5.3.3)
@@ -49,7 +53,8 @@ module _ (p : Pipe) (n : ℕ) where
   abbrev accepted : ℕ → Pipe
   accepted k = chosen confirms (after (packet Out) (stage takes Out p k))
 
-  pub write-status : (k : ℕ) → (accepted k .inn .answers ≡ acks status-stage) × (accepted k .inn .bit ≡ statusPid) × (over confirmed (accepted k) ≡ false) × (over confirmed (after (packet In) (accepted k)) ≡ true)
+  pub write-status : (k : ℕ)
+      → (accepted k .inn .answers ≡ acks status-stage) × (accepted k .inn .bit ≡ statusPid) × (over confirmed (accepted k) ≡ false) × (over confirmed (after (packet In) (accepted k)) ≡ true)
   write-status k = (refl, refl, refl, refl)
 
   -- none
@@ -57,11 +62,13 @@ module _ (p : Pipe) (n : ℕ) where
   none-status = (refl, refl)
 
   -- all in order and possible: nothing of it is exempt
-  pub read-orderly : (k : ℕ) → (orderly (gives n true false) (after setup p) ≡ true) × (possible (packet In) (stage (reads n) In p k) ≡ true) × (orderly (gives n false false) (after (packet In) (stage (reads n) In p k)) ≡ true)
+  pub read-orderly : (k : ℕ)
+      → (orderly (gives n true false) (after setup p) ≡ true) × (possible (packet In) (stage (reads n) In p k) ≡ true) × (orderly (gives n false false) (after (packet In) (stage (reads n) In p k)) ≡ true)
   read-orderly zero = (refl, refl, refl)
   read-orderly (suc k) = (refl, refl, refl)
 
-  pub write-orderly : (k : ℕ) → (orderly (takes true) (after setup p) ≡ true) × (possible (packet Out) (stage takes Out p k) ≡ true) × (orderly (takes false) (after (packet Out) (stage takes Out p k)) ≡ true)
+  pub write-orderly : (k : ℕ)
+      → (orderly (takes true) (after setup p) ≡ true) × (possible (packet Out) (stage takes Out p k) ≡ true) × (orderly (takes false) (after (packet Out) (stage takes Out p k)) ≡ true)
   write-orderly zero = (refl, refl, refl)
   write-orderly (suc k) = (refl, refl, refl)
 
@@ -69,3 +76,13 @@ module _ (p : Pipe) (n : ℕ) where
   pub setup-naks : (d : Dir) → half d (after setup p) .answers ≡ naks
   setup-naks Out = refl
   setup-naks In = refl
+
+  -- a function that can't serve the request halts both directions, whatever it was at; the next setup packet ends the
+  -- halt (8.5.3.4)
+  pub reject-stalls : (d : Dir) → half d (chosen rejects p) .answers ≡ stalls
+  reject-stalls Out = refl
+  reject-stalls In = refl
+
+  pub setup-ends-halt : (d : Dir) → half d (after setup (chosen rejects p)) .answers ≡ naks
+  setup-ends-halt Out = refl
+  setup-ends-halt In = refl

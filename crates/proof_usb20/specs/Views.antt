@@ -1,11 +1,9 @@
 -- What the driver's operations do to what its state says of endpoint 0
-use mathlib.Core.Bool.{Bool, true, false, not, cond, true≢false}
-use mathlib.Core.List.{List}
 use mathlib.Core.Logic.{_≢_}
-use mathlib.Core.Path.{_≡_, refl, ap, subst, sym, _∙_}
-use Prim.Native.Nat.{ℕ, zero, suc, _+_, _%_, _<_}
+use mathlib.Core.Path.{_≡_, refl, ap, sym}
+use Prim.Native.Nat.{ℕ}
 use native.Mathlib.Omega.{arith}
-use lib.ListN.{length, getD, set, length-set}
+use lib.ListN.{length, length-set}
 use lib.Seq.{getD-set-same, getD-set-other}
 use Rattle.regs.specs.declared.Dir.{Dir}
 use Rattle.regs.specs.declared.Dir.the-variants.{Out, In}
@@ -15,7 +13,7 @@ use Rattle.state.specs.declared.Control.{Control}
 use Rattle.state.specs.Driver.{Driver, key, noEp, epOn, withOn}
 use Rattle.state.specs.Laws.{key-lt, key-apart}
 use Rattle.script.specs.Cells.{Plain, ep-cell, globals-cell, control-cell}
-use Rattle.ops.specs.Records.{merged, plainOf}
+use Rattle.ops.specs.Records.{merged}
 use Rattle.ops.specs.Rings.{St}
 use Rattle.ops.specs.Conc.{conc}
 use Rattle.proof_usb20.specs.Ep0.{Rec, View, recOf, view}
@@ -39,19 +37,23 @@ ep-same : (d : Driver) (dir : Dir) (e : ℕ) (r : EpState) → length (d .eps) �
 unfolding epOn withOn
 ep-same d dir e r h = getD-set-same (d .eps) (key dir e) r noEp (omega (arith, h, key-lt dir e))
 
-pub ep-other : (d : Driver) (dir : Dir) (e : ℕ) (r : EpState) (dir′ : Dir) (e′ : ℕ) → key dir′ e′ ≢ key dir e → epOn (withOn d dir e r) dir′ e′ ≡ epOn d dir′ e′
+pub ep-other : (d : Driver) (dir : Dir) (e : ℕ) (r : EpState) (dir′ : Dir) (e′ : ℕ) → key dir′ e′ ≢ key dir e
+    → epOn (withOn d dir e r) dir′ e′ ≡ epOn d dir′ e′
 unfolding epOn withOn
 ep-other d dir e r dir′ e′ h = getD-set-other (d .eps) (key dir e) (key dir′ e′) r noEp h
 
-pub made : (d : Driver) (x : View) → recOf (epOn d Out 0) ≡ x .out → recOf (epOn d In 0) ≡ x .inn → d .control ≡ x .control → d .globals .«setup_ready» ≡ x .setup-ready → d .globals .stage ≡ x .stage → view d ≡ x
+pub made : (d : Driver) (x : View) → recOf (epOn d Out 0) ≡ x .out → recOf (epOn d In 0) ≡ x .inn
+    → d .control ≡ x .control → d .globals .«setup_ready» ≡ x .setup-ready → d .globals .stage ≡ x .stage → view d ≡ x
 made d x p q c g t = rw (p, q, c, g, t) refl
 
 -- EP0's own records
-pub put-out : (v : Plain) (s : St) → length (s .0 .eps) ≡ 32 → view (conc .put (ep-cell Out 0) v s .0) ≡ setOut (rec v) (view (s .0))
+pub put-out : (v : Plain) (s : St) → length (s .0 .eps) ≡ 32
+    → view (conc .put (ep-cell Out 0) v s .0) ≡ setOut (rec v) (view (s .0))
 unfolding withOn
 put-out v s h = made _ _ (ap recOf (ep-same (s .0) Out 0 (merged (epOn (s .0) Out 0) v) h)) (ap recOf (ep-other (s .0) Out 0 (merged (epOn (s .0) Out 0) v) In 0 (λ z. key-apart 0 0 (sym z)))) refl refl refl
 
-pub put-in : (v : Plain) (s : St) → length (s .0 .eps) ≡ 32 → view (conc .put (ep-cell In 0) v s .0) ≡ setIn (rec v) (view (s .0))
+pub put-in : (v : Plain) (s : St) → length (s .0 .eps) ≡ 32
+    → view (conc .put (ep-cell In 0) v s .0) ≡ setIn (rec v) (view (s .0))
 unfolding withOn
 put-in v s h = made _ _ (ap recOf (ep-other (s .0) In 0 (merged (epOn (s .0) In 0) v) Out 0 (λ z. key-apart 0 0 z))) (ap recOf (ep-same (s .0) In 0 (merged (epOn (s .0) In 0) v) h)) refl refl refl
 
@@ -59,11 +61,13 @@ pub put-control : (c : Control) (s : St) → view (conc .put control-cell c s .0
 unfolding epOn
 put-control c s = refl
 
-pub put-globals : (g : Globals) (s : St) → view (conc .put globals-cell g s .0) ≡ setReady (g .«setup_ready») (view (s .0))
+pub put-globals : (g : Globals) (s : St)
+    → view (conc .put globals-cell g s .0) ≡ setReady (g .«setup_ready») (view (s .0))
 unfolding epOn
 put-globals g s = refl
 
 -- the records keep their places
-pub places-out : (dir : Dir) (e : ℕ) (v : Plain) (s : St) → length (conc .put (ep-cell dir e) v s .0 .eps) ≡ length (s .0 .eps)
+pub places-out : (dir : Dir) (e : ℕ) (v : Plain) (s : St)
+    → length (conc .put (ep-cell dir e) v s .0 .eps) ≡ length (s .0 .eps)
 unfolding withOn
 places-out dir e v s = length-set (s .0 .eps) (key dir e) _
