@@ -4,7 +4,8 @@
 //! that follow them.
 //! compare --wide [...]: random runs with buffers of 1,024 bytes, against the Rust read with 1,024 among its sizes.
 //! compare FILE...: the same with recorded lists.
-//! compare --chip FILE [...]: also writes the lists for a replay on the chip's instruction set (tests/chip), and prints what that must print.
+//! compare --chip FILE [...]: also writes the lists for a replay on the chip's instruction set (tests/chip), and prints
+//! what that must print.
 
 mod chip;
 mod late;
