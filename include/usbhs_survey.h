@@ -77,8 +77,8 @@ uint32_t usbhs_data_crc(const uint8_t *bytes, usbhs_length length);
 void usbhs_card_new(uint32_t writer[USBHS_WRITER_LEN]);
 
 /* Row 21: a block that is not 512 bytes, a packet of more than 1,024, endpoint 0 or above 15. */
-uint64_t usbhs_card_write(uint32_t writer[USBHS_WRITER_LEN], uint8_t *block, usbhs_length block_length, uint32_t
-    endpoint, const uint8_t *data, usbhs_length data_length);
+uint64_t usbhs_card_write(uint32_t writer[USBHS_WRITER_LEN], uint8_t *block, usbhs_length block_length,
+    uint32_t endpoint, const uint8_t *data, usbhs_length data_length);
 
 /* Fills the last block with zeros, after the last packet. Ends with USBHS_BLOCK_FULL, or with 0 where the last block is stored already.
  * Row 21: a block that is not 512 bytes. */
