@@ -162,8 +162,10 @@ enum usbhs_transfer {
  * usbhs_allocate takes an address as in an endpoint descriptor, bit 7 the direction, which must be `dir`, or USBHS_ANY_ADDRESS; its end's result is the
  * endpoint's number. An isochronous OUT takes 16 buffers, an isochronous IN 2, any other endpoint 1. `interval`: an isochronous IN of 0 or 1 is served in
  * every microframe, of more by its own tokens or by usbhs_begin_advance. */
-uint64_t usbhs_start_up(uint8_t state[USBHS_STATE_LEN], const uint8_t *slots, usbhs_length slots_length, uint16_t time[USBHS_TIME_LEN], uint32_t driver, uint32_t size, uint32_t count, uint32_t callback);
-uint64_t usbhs_allocate(uint8_t state[USBHS_STATE_LEN], uint32_t kind, uint32_t address, uint32_t maximum, uint32_t interval, uint32_t dir);
+uint64_t usbhs_start_up(uint8_t state[USBHS_STATE_LEN], const uint8_t *slots, usbhs_length slots_length,
+    uint16_t time[USBHS_TIME_LEN], uint32_t driver, uint32_t size, uint32_t count, uint32_t callback);
+uint64_t usbhs_allocate(uint8_t state[USBHS_STATE_LEN], uint32_t kind, uint32_t address, uint32_t maximum,
+    uint32_t interval, uint32_t dir);
 uint64_t usbhs_start(uint8_t state[USBHS_STATE_LEN], uint32_t maximum);
 
 /* All endpoints of a configuration descriptor (USB 2.0, 9.6) as one operation, or none: those of alternate setting 0, then the others, each address
@@ -176,10 +178,12 @@ uint64_t usbhs_allocate_all(uint8_t state[USBHS_STATE_LEN], const uint8_t *bytes
  * front of `numbers`, zeros behind them. *buffers: how many these take. *refusal: 6, 7 or 8, or 0 where all are given.
  * Rows 3, 4, 17 and 18 as above; nothing is written then. */
 #define USBHS_NUMBERS_LEN 32
-uint64_t usbhs_preview(const uint8_t state[USBHS_STATE_LEN], const uint8_t *bytes, usbhs_length length, uint8_t numbers[USBHS_NUMBERS_LEN], uint32_t *buffers, uint32_t *refusal);
+uint64_t usbhs_preview(const uint8_t state[USBHS_STATE_LEN], const uint8_t *bytes, usbhs_length length,
+    uint8_t numbers[USBHS_NUMBERS_LEN], uint32_t *buffers, uint32_t *refusal);
 
 /* Goes on with the operation under way, `value` being the reading that was asked for. */
-uint64_t usbhs_continue(uint8_t state[USBHS_STATE_LEN], uint8_t *slots, usbhs_length slots_length, uint16_t time[USBHS_TIME_LEN], uint32_t driver, uint32_t value);
+uint64_t usbhs_continue(uint8_t state[USBHS_STATE_LEN], uint8_t *slots, usbhs_length slots_length,
+    uint16_t time[USBHS_TIME_LEN], uint32_t driver, uint32_t value);
 
 /* The interrupt: on the chip's interrupt, or whenever it may be raised. While it is under way packets may be opened, closed and queued. */
 uint64_t usbhs_begin_interrupt(uint8_t state[USBHS_STATE_LEN]);
@@ -196,7 +200,8 @@ enum usbhs_event {
 uint64_t usbhs_begin_bus_poll(uint8_t state[USBHS_STATE_LEN]);
 uint64_t usbhs_begin_bus_enable(uint8_t state[USBHS_STATE_LEN]);
 uint64_t usbhs_begin_bus_disable(uint8_t state[USBHS_STATE_LEN]);
-uint64_t usbhs_begin_set_enabled(uint8_t state[USBHS_STATE_LEN], uint8_t *slots, usbhs_length slots_length, uint16_t time[USBHS_TIME_LEN], uint32_t driver, uint32_t endpoint, uint32_t dir, uint32_t enabled);
+uint64_t usbhs_begin_set_enabled(uint8_t state[USBHS_STATE_LEN], uint8_t *slots, usbhs_length slots_length,
+    uint16_t time[USBHS_TIME_LEN], uint32_t driver, uint32_t endpoint, uint32_t dir, uint32_t enabled);
 uint64_t usbhs_begin_set_stalled(uint8_t state[USBHS_STATE_LEN], uint32_t endpoint, uint32_t dir, uint32_t stalled);
 uint64_t usbhs_begin_is_stalled(uint8_t state[USBHS_STATE_LEN], uint32_t endpoint, uint32_t dir);
 uint64_t usbhs_set_paced(uint8_t state[USBHS_STATE_LEN], uint32_t endpoint, uint32_t paced);
@@ -206,9 +211,12 @@ uint64_t usbhs_begin_microframe(uint8_t state[USBHS_STATE_LEN]);
 /* Reads and writes: each is begun, then polled until it is done. A poll of a read brings a slice of the begin's length, a poll of a write its packet
  * again. */
 uint64_t usbhs_begin_read(uint8_t state[USBHS_STATE_LEN], uint32_t endpoint, uint32_t length);
-uint64_t usbhs_poll_read(uint8_t state[USBHS_STATE_LEN], const uint8_t *slots, usbhs_length slots_length, uint32_t endpoint, uint8_t *slice, usbhs_length slice_length);
-uint64_t usbhs_begin_write(uint8_t state[USBHS_STATE_LEN], uint8_t *slots, usbhs_length slots_length, uint32_t endpoint, const uint8_t *data, usbhs_length data_length);
-uint64_t usbhs_poll_write(uint8_t state[USBHS_STATE_LEN], uint8_t *slots, usbhs_length slots_length, uint32_t endpoint, const uint8_t *data, usbhs_length data_length);
+uint64_t usbhs_poll_read(uint8_t state[USBHS_STATE_LEN], const uint8_t *slots, usbhs_length slots_length,
+    uint32_t endpoint, uint8_t *slice, usbhs_length slice_length);
+uint64_t usbhs_begin_write(uint8_t state[USBHS_STATE_LEN], uint8_t *slots, usbhs_length slots_length,
+    uint32_t endpoint, const uint8_t *data, usbhs_length data_length);
+uint64_t usbhs_poll_write(uint8_t state[USBHS_STATE_LEN], uint8_t *slots, usbhs_length slots_length,
+    uint32_t endpoint, const uint8_t *data, usbhs_length data_length);
 
 /* The control pipe: each stage is begun, then polled until it is done. A poll of data out brings a slice of the begin's length. A poll of setup fills
  * the packet (done, 8). A poll of an accepted address, once the status stage is through, hands out the write of dev_ad; the continue after it ends, and
@@ -216,8 +224,10 @@ uint64_t usbhs_poll_write(uint8_t state[USBHS_STATE_LEN], uint8_t *slots, usbhs_
 uint64_t usbhs_begin_setup(uint8_t state[USBHS_STATE_LEN]);
 uint64_t usbhs_poll_setup(uint8_t state[USBHS_STATE_LEN], uint8_t packet[8]);
 uint64_t usbhs_begin_data_out(uint8_t state[USBHS_STATE_LEN], uint32_t length, uint32_t first);
-uint64_t usbhs_poll_data_out(uint8_t state[USBHS_STATE_LEN], const uint8_t *slots, usbhs_length slots_length, uint8_t *slice, usbhs_length slice_length);
-uint64_t usbhs_begin_data_in(uint8_t state[USBHS_STATE_LEN], uint8_t *slots, usbhs_length slots_length, const uint8_t *data, usbhs_length data_length, uint32_t first, uint32_t last);
+uint64_t usbhs_poll_data_out(uint8_t state[USBHS_STATE_LEN], const uint8_t *slots, usbhs_length slots_length,
+    uint8_t *slice, usbhs_length slice_length);
+uint64_t usbhs_begin_data_in(uint8_t state[USBHS_STATE_LEN], uint8_t *slots, usbhs_length slots_length,
+    const uint8_t *data, usbhs_length data_length, uint32_t first, uint32_t last);
 uint64_t usbhs_poll_data_in(uint8_t state[USBHS_STATE_LEN]);
 uint64_t usbhs_begin_accept(uint8_t state[USBHS_STATE_LEN]);
 uint64_t usbhs_begin_accept_set_address(uint8_t state[USBHS_STATE_LEN], uint32_t address);
@@ -227,9 +237,11 @@ uint64_t usbhs_begin_reject(uint8_t state[USBHS_STATE_LEN]);
 /* Packets in place, each call over at once: an isochronous OUT's oldest is opened (shown) and closed, an isochronous IN's is queued.
  * The stamp of an open packet is the microframe index of the frame reading with which the interrupt that admitted it began; where none is shown,
  * *stamp stays. */
-uint64_t usbhs_open(uint8_t state[USBHS_STATE_LEN], const uint8_t *slots, usbhs_length slots_length, uint32_t endpoint, uint16_t *stamp);
+uint64_t usbhs_open(uint8_t state[USBHS_STATE_LEN], const uint8_t *slots, usbhs_length slots_length,
+    uint32_t endpoint, uint16_t *stamp);
 uint64_t usbhs_close(uint8_t state[USBHS_STATE_LEN], uint32_t endpoint);
-uint64_t usbhs_queue(uint8_t state[USBHS_STATE_LEN], uint8_t *slots, usbhs_length slots_length, uint32_t endpoint, const uint8_t *data, usbhs_length data_length);
+uint64_t usbhs_queue(uint8_t state[USBHS_STATE_LEN], uint8_t *slots, usbhs_length slots_length, uint32_t endpoint,
+    const uint8_t *data, usbhs_length data_length);
 
 /* The tasks to wake after the end of an operation, in the order in which they were woken, a task as often as it was: 0 to 15 is IN 0 to 15, 16 to 31
  * OUT 0 to 15, USBHS_BUS the bus. To be asked after an end that has some and before the next call; fills the room's first bytes and answers how

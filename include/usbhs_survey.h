@@ -87,7 +87,8 @@ uint32_t usbhs_data_crc(const uint8_t *bytes, usbhs_length length);
 void usbhs_card_new(uint32_t writer[USBHS_WRITER_LEN]);
 
 /* Row 21: a block that is not 512 bytes, a packet of more than 1,024, endpoint 0 or above 15. */
-uint64_t usbhs_card_write(uint32_t writer[USBHS_WRITER_LEN], uint8_t *block, usbhs_length block_length, uint32_t endpoint, const uint8_t *data, usbhs_length data_length);
+uint64_t usbhs_card_write(uint32_t writer[USBHS_WRITER_LEN], uint8_t *block, usbhs_length block_length,
+    uint32_t endpoint, const uint8_t *data, usbhs_length data_length);
 
 /* Fills the last block with zeros, after the last packet. Ends with USBHS_BLOCK_FULL, or with 0 where the last block is stored already.
  * Row 21: a block that is not 512 bytes. */
@@ -100,10 +101,12 @@ uint64_t usbhs_card_finish(const uint32_t writer[USBHS_WRITER_LEN], uint8_t *blo
  * ends where there is no more packet.
  * Row 21: a stream that is not whole blocks; a room shorter than the packet, which a longer one then gets. */
 uint64_t usbhs_card_start(const uint8_t *stream, usbhs_length stream_length, usbhs_length *place);
-uint64_t usbhs_card_next(const uint8_t *stream, usbhs_length stream_length, usbhs_length *place, uint32_t *endpoint, uint8_t *room, usbhs_length room_length);
+uint64_t usbhs_card_next(const uint8_t *stream, usbhs_length stream_length, usbhs_length *place, uint32_t *endpoint,
+    uint8_t *room, usbhs_length room_length);
 
 /* The calls themselves, with a place that is no usbhs_length refused by the compiler. */
-#define usbhs_card_start(stream, stream_length, place) (usbhs_card_start)(stream, stream_length, USBHS_LENGTH_AT(place))
+#define usbhs_card_start(stream, stream_length, place) \
+    (usbhs_card_start)(stream, stream_length, USBHS_LENGTH_AT(place))
 #define usbhs_card_next(stream, stream_length, place, endpoint, room, room_length) \
     (usbhs_card_next)(stream, stream_length, USBHS_LENGTH_AT(place), endpoint, room, room_length)
 

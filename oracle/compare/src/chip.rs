@@ -1,5 +1,6 @@
-//! Lists for the replay on the chip's instruction set (tests/chip/replay.c): what was compared, as bytes (FORMAT.md), with the x86-64
-//! library's own answers also where the Rust has none, and for each list a line with a digest of the lent bytes after each call.
+//! Lists for the replay on the chip's instruction set (tests/chip/replay.c): what was compared, as bytes (FORMAT.md),
+//! with the x86-64 library's own answers also where the Rust has none, and for each list a line with a digest of the
+//! lent bytes after each call.
 
 use std::fmt::Write;
 
