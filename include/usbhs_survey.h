@@ -2,7 +2,8 @@
  * descriptor's endpoints. The library
  * (libsurvey_c.a) has no state of its own, and links with or without the driver's.
  *
- * A slice is a pointer and a length; the bytes of one call must not overlap. Any number is safe.
+ * A slice is a pointer and a length, of the list of channels how many they are; what one call is lent must not overlap. Any numbers and bytes are safe:
+ * a call touches nothing outside of what it is lent, does not trap and returns.
  *
  * Each call answers one word, as those of usbhs.h do:
  *
@@ -74,6 +75,7 @@ uint32_t usbhs_data_crc(const uint8_t *bytes, usbhs_length length);
  *             if (USBHS_RESULT(word) & USBHS_BLOCK_FULL) store the block;
  *         } while (!(USBHS_RESULT(word) & USBHS_PACKET_WRITTEN));
  *     word = usbhs_card_finish(writer, block, USBHS_BLOCK_LEN);
+ *     if (USBHS_KIND(word) == USBHS_REFUSED) ...
  *     if (USBHS_RESULT(word) & USBHS_BLOCK_FULL) store the block;
  *
  * Between the calls the block stays as it is until it is stored; what the next one holds before its first call does not matter. */
@@ -122,8 +124,8 @@ uint64_t usbhs_card_read(const uint8_t *stream, usbhs_length stream_length, usbh
 
 /* The endpoints of a configuration descriptor written into the room as one interface, alternate setting 0: done with 18 bytes and 7 for each, of which
  * there are at most 32. Read again they are the same endpoints.
- * Row 17, first: the bytes are no configuration descriptor (USBHS_ROW 17 of usbhs_allocate_all has the conditions in full), or the room is too short
- * for the list, also where row 18 would be answered else. Row 18: one address has two transfer types. */
+ * Row 17, first: the bytes are no configuration descriptor (usbhs.h has the conditions in full), or the room is too short for the list, also where
+ * two types clash. Row 18: one address has two transfer types. */
 uint64_t usbhs_write_descriptor(const uint8_t *bytes, usbhs_length length, uint8_t *room, usbhs_length room_length);
 
 #ifdef __cplusplus
