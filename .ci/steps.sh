@@ -86,20 +86,16 @@ edits_and_wrong_drivers() {
     # shellcheck disable=SC2046
     tests/edits $(cat tests/named-edits)
     tests/wrong-drivers/run
+    tests/wrong-scripts/run
 }
 
-# archives CRATE..: target/staticlib/libCRATE.a, made in a tree of its own, so that it may run beside others
+# target/staticlib/libCRATE.a and those for the chip, made in a tree of its own, so that it may run beside others
 archives() {
-    local tree crate
+    local tree
     # shellcheck source=tests/trees.sh
     . tests/trees.sh
     tree=$(mktemp -d)
     new_tree "$tree"
-    mkdir -p target/staticlib
-    for crate in "$@"; do
-        (cd "$tree" && rt staticlib "$crate") >"$tree/log" 2>&1 || { cat "$tree/log"; exit 1; }
-        tail -n 1 "$tree/log"
-        mv "$tree/target/staticlib/lib$crate.a" target/staticlib
-    done
+    TREE=$tree firmware/build
     rm -rf "$tree"
 }
