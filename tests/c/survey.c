@@ -267,7 +267,7 @@ static void given(const char *what, unsigned first, unsigned last)
 static void given_at_once(const char *what, int first, int last)
 {
     uint8_t room[4096];
-    size_t place = 0, count = 99, used = 99, at = 0;
+    usbhs_length place = 0, count = 99, used = 99, at = 0;
     int i;
 
     ended(what, usbhs_card_start(stream, stored, &place), 0);
