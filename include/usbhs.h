@@ -1,9 +1,12 @@
 /* The USBHS device driver's calls. The driver's state lies in USBHS_STATE_LEN bytes of the caller's, its packets in the caller's
  * slots; the library has no state of its own. Before the first start-up the state's bytes are to be zero.
  *
- * A slice is a pointer and a length. Any number and any bytes are safe; pointers must be valid for their lengths, and what one call is lent
- * (state, slots, time, slice, data, packet, rooms) must not overlap. dir: 0 OUT, else IN. Flags: 0 no, else yes. The chip wants the slots' start on a
- * word boundary.
+ * A slice is a pointer and a length. Pointers must be valid for their lengths, and what one call is lent (state, slots, time, slice, data, packet,
+ * rooms) must not overlap. Any number and any bytes are then safe: a call touches nothing outside of what it is lent, does not trap and returns,
+ * also on a state or a record of time that no call made. That is a promise on the calls. The accesses that they hand out of such bytes, with the
+ * addresses and lengths in them, are as good as the bytes: only of a state that a start-up made and these calls alone have changed do the addresses
+ * lie inside of the slots, each with its whole buffer. dir: 0 OUT, else IN. Flags: 0 no, else yes. The chip wants the slots' start on a word
+ * boundary.
  *
  * Each call answers one word:
  *
@@ -13,7 +16,7 @@
  *   2 write          8-15 register, 16-23 endpoint, 32-63 value
  *   3 wait           8-15 microseconds
  *   4 callback       the start-of-frame callback
- *   5 end            8-23 result, 24-31 how many tasks are to be woken: usbhs_woken lists them
+ *   5 end            8-23 result, 24-31 how many tasks are to be woken, at most 64: usbhs_woken lists them, as many
  *   6 not yet        of a poll: wait for a wake-up, then poll again
  *   7 done           8-23 length: of a poll, so many bytes at the slice's front; the request is over
  *   8 shown          8-23 length, 32-63 offset into the slots: an open packet, whose stamp is at `stamp`
@@ -27,15 +30,16 @@
  * A refused call changes nothing, except that 9 and 10 of a poll end its request, and that 10 also forgets a packet that was ready. After a continue
  * that is refused with 1 or 16 its reading is still awaited; the access is not handed out again.
  *
- *    1  the slots' length is not count times size
+ *    1  a call with the slots: their length is not count times size, those of the last accepted start-up (0 before the first)
  *    2  start-up: a size that is not 8, 16, 32, 64, 512 or 1024; a count of 0; more than 65,536 bytes in all
- *    3  an operation is under way
+ *    3  any call but start-up, continue and the questions: an operation is under way; open, close and queue pass during an interrupt
  *    4  not at this stage: before start-up only start-up; after it allocations and EP0's start; after EP0's start all but these two
- *    5  no such endpoint: 0 or above 15, or not allocated in this direction (stalls take 0; pacing and advance ask no more than 1 to 15)
- *    6  the maximum is above the buffer size
- *    7  allocation: an address of the other direction, of 0 or above 15, or taken; no number is free
- *    8  the buffers run out
- *    9  the endpoint is disabled; of control stages, a setup packet waits
+ *    5  no such endpoint: 0 or above 15, or not allocated in the direction, which is OUT for read, open and close, IN for write and queue (stalls and
+ *       usbhs_begin_is_stalled take 0; pacing and advance ask no more than 1 to 15; allocation is not refused so)
+ *    6  allocation, EP0's start: the maximum is above the buffer size
+ *    7  allocation: an address whose bit 7 is not the direction, whose number is 0 or above 15, or taken; no number is free
+ *    8  allocation, EP0's start: the buffers run out; nothing is taken then
+ *    9  read, write, queue: the endpoint is disabled; of control stages but setup and reject, a setup packet waits
  *   10  a length: a read's slice below the endpoint's maximum; data above the maximum (of a queue, above the buffer size); a poll with another length
  *       than its begin's; more was received than the slice or the maximum holds; data in was closed by an OUT that is not empty
  *   11  open, queue: not isochronous
@@ -44,10 +48,12 @@
  *   14  close: no packet is open
  *   15  continue: nothing is under way; a poll: no such request was begun
  *   16  continue: the reading has bits above its width
- *   17  a descriptor: not as it must be (usbhs_allocate_all)
- *   18  a descriptor: one address has two transfer types
- *   19  an enabling with which the bus time in use would pass 6,000 byte-times
- *   22  EP0's maximum is not 64
+ *   17  a descriptor: its bytes do not begin with a configuration descriptor, are not as many as its wTotalLength, or are more than 4,096; a length byte
+ *       is below 2, below its kind's (configuration 9, interface 9, endpoint 7) or runs past the total; a second configuration descriptor; an
+ *       endpoint before every interface, or with address bits 4 to 6 set; of usbhs_write_descriptor also a room too short for the list
+ *   18  a descriptor: one address has two transfer types; after 17, before any allocation
+ *   19  an enabling, after 5: with it the bus time in use would pass 6,000 byte-times
+ *   22  EP0's start, before 6: the maximum is not 64
  *
  * Readings and values are packed as follows, bit 0 lowest; this is the driver's own packing and not the chip's layout. ep_config, ep_type and int_en
  * are kept by the driver and never read.

@@ -106,7 +106,7 @@ fn renew(s: &mut [u8; STATE_LEN], e: u8)
 {
     let r = load_ep(s, Dir::Out, e);
     clear_stamps(s, e);
-    store_ep(s, Dir::Out, e, r.reset());
+    store_ep(s, Dir::Out, e, state::by_loan(r));
 }
 
 // Before the first of the slots, the last.
@@ -141,7 +141,7 @@ fn reset_one(s: &mut [u8; STATE_LEN], dir: Dir, e: u8)
     ensures { λ _. ⌜ saved (now (s .exit)) ≡ saved (now (s .entry)) ⌝ }
 {
     let r = load_ep(s, dir, e);
-    store_ep(s, dir, e, r.reset());
+    store_ep(s, dir, e, state::by_loan(r));
 }
 
 // Every record reset.

@@ -14,7 +14,7 @@ pub fn pending(s: &[u8; STATE_LEN], e: u32) -> u32
 {
     if is_number(e) {
         let r = state::load_ep(s, Dir::In, low(e));
-        return ring::count(r) as u32;
+        return r.count() as u32;
     }
     0
 }

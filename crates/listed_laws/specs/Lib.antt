@@ -3,4 +3,7 @@ pub mod Given
 pub mod Settled
 pub mod Walk
 pub mod Order
+pub mod Brought
+pub mod BroughtLaws
 pub mod Preview
+pub mod Row

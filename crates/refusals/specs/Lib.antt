@@ -2,5 +2,6 @@ pub mod Left
 pub mod Outcomes
 pub mod Scripts
 pub mod Refusals
+pub mod Ends
 pub mod Bytes
 pub mod Shared

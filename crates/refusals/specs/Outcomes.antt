@@ -1,7 +1,11 @@
--- What a refusal leaves, of a call that is left to its script: a rule for each form that the scripts have
+-- What a refusal leaves, and which wake-ups an end gives, of a call that is left to its script: a rule for each form that the scripts have
 use mathlib.Core.Bool.{Bool, true, false, cond}
 use mathlib.Core.Path.{_≡_, refl, subst, sym}
+use mathlib.Core.Logic.{_⊎_, inl, inr}
+use mathlib.Core.List.{List, []}
 use Prim.Native.Nat.{ℕ}
+use Rattle.state.specs.Driver.{Driver}
+use Rattle.state.specs.Wakes.{listed}
 use Rattle.script.specs.Tree.{Out, ends, asks, bindOut}
 use Rattle.script.specs.Script.{Script, ret, bind, test, run, no-wakes, gathered}
 use Rattle.script.specs.Answers.{Answer, Refused, End, NotYet, Done, Shown, operation}
@@ -9,9 +13,13 @@ use Rattle.ops.specs.Rings.{St}
 use Rattle.ops.specs.Conc.{conc}
 use Rattle.refusals.specs.Left.{Poll, leftBy}
 
+-- the wake-ups of an end are those that the state has, or none where the call is over at once
+abbrev pub Listed : List ℕ → Driver → Type 0
+Listed w d = (w ≡ []) ⊎ (w ≡ listed (d .wakes))
+
 abbrev pub AnswerLeaves : Poll → St → Answer → St → Type 0
 AnswerLeaves x s (Refused n) t = t ≡ (leftBy x n (s .0), s .1)
-AnswerLeaves x s (End n w) t = Unit {0}
+AnswerLeaves x s (End n w) t = Listed w (t .0)
 AnswerLeaves x s NotYet t = Unit {0}
 AnswerLeaves x s (Done bs) t = Unit {0}
 AnswerLeaves x s (Shown bs k) t = Unit {0}
@@ -63,5 +71,5 @@ module _ {x : Poll} {s t : St} {i : Bool} where
   begins {p} = record { leaves = ended (run conc p (conc .act no-wakes t)) }
     where
       ended : (o : Out St ℕ) → OutLeaves x s (bindOut o (λ n u. ends (End n (conc .fetch gathered u)) u))
-      ended (ends n u) = tt
+      ended (ends n u) = inr refl
       ended (asks q u k) = tt

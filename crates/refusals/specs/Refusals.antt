@@ -1,6 +1,7 @@
 -- A refusal changes nothing but what document 01 names: of every call on the machine that lent bytes are, and of the code, each of whose calls is a step of it
 use mathlib.Core.Bool.{Bool, true, false, cond}
 use mathlib.Core.List.{List}
+use mathlib.Core.Logic.{inr}
 use mathlib.Core.Path.{_≡_, refl, ap, subst, sym, _∙_}
 use Prim.Native.Nat.{ℕ, zero, suc}
 use Rattle.state.specs.Driver.{Driver}
@@ -26,7 +27,7 @@ use Rattle.way.specs.declared.Under.the-variants as under
 use Rattle.way.specs.Under.{decode, finish, wayOf, machineAt, machineOf, driverOf, drive, haltsAs, slotsFit}
 use Rattle.book.specs.Code.{Made, Did}
 use Rattle.refusals.specs.Left.{Poll, pollOf, leftBy, left, buffersRow}
-use Rattle.refusals.specs.Outcomes.{OutLeaves}
+use Rattle.refusals.specs.Outcomes.{Listed, OutLeaves}
 use Rattle.refusals.specs.Scripts.{code-leaves}
 
 abbrev pub Called : Type 0
@@ -35,10 +36,10 @@ Called = Ans Answer × Machine Answer Driver
 abbrev pub machineIn : Way Answer Driver → Driver → Buf → Machine Answer Driver
 machineIn w d b = record { way = w; st = d; buf = b }
 
--- f n is the machine after refusal n
+-- f n is the machine after refusal n; an end gives the wake-ups of the state that is left
 abbrev pub AnswerIs : (ℕ → Machine Answer Driver) → Answer → Machine Answer Driver → Type 0
 AnswerIs f (Refused n) m = m ≡ f n
-AnswerIs f (End n w) m = Unit {0}
+AnswerIs f (End n w) m = Listed w (m .st)
 AnswerIs f NotYet m = Unit {0}
 AnswerIs f (Done bs) m = Unit {0}
 AnswerIs f (Shown bs k) m = Unit {0}
@@ -59,7 +60,7 @@ chosen f false x y h g = g
 
 halt-is : (i : Bool) (x : Poll) (d : Driver) (b : Buf) (o : Out St Answer) → OutLeaves x (d, b) o → Is (λ n. machineIn idle (leftBy x n d) b) (haltsAs i o)
 halt-is i x d b (ends (Refused n) t) h = ap (λ (u : St). machineIn idle (u .0) (u .1)) h
-halt-is i x d b (ends (End n w) t) h = tt
+halt-is i x d b (ends (End n w) t) h = h
 halt-is i x d b (ends NotYet t) h = tt
 halt-is i x d b (ends (Done bs) t) h = tt
 halt-is i x d b (ends (Shown bs k) t) h = tt
@@ -67,7 +68,7 @@ halt-is i x d b (asks q t k) h = tt
 
 beside-is : (w : Way Answer Driver) (x : Poll) (d : Driver) (b : Buf) (o : Out St Answer) → OutLeaves x (d, b) o → Is (λ n. machineIn w (leftBy x n d) b) (beside calls driverOf (machineIn w d b) o)
 beside-is w x d b (ends (Refused n) t) h = ap (λ (u : St). machineIn w (u .0) (u .1)) h
-beside-is w x d b (ends (End n v) t) h = tt
+beside-is w x d b (ends (End n v) t) h = h
 beside-is w x d b (ends NotYet t) h = tt
 beside-is w x d b (ends (Done bs) t) h = tt
 beside-is w x d b (ends (Shown bs k) t) h = tt
@@ -90,7 +91,7 @@ begin-is o w d a b false = begun-is o w d a b
 
 -- an operation under way ends with no refusal
 finishes : (f : ℕ → Machine Answer Driver) (i : Bool) (o : Out St ℕ) → Is f (haltsAs i (bindOut o (λ n t. run conc (finish n) t)))
-finishes f i (ends n t) = tt
+finishes f i (ends n t) = inr refl
 finishes f i (asks q t k) = tt
 
 busy-is : (v : ℕ) (i : Bool) (q : Awaits) (r : ℕ → St → Out St ℕ) (d : Driver) (a b : Buf)

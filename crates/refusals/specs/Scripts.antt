@@ -2,6 +2,7 @@
 use mathlib.Core.Bool.{Bool, true, false, cond}
 use mathlib.Core.List.{List}
 use mathlib.Core.Path.{_≡_, refl, ap, sym, _∙_}
+use mathlib.Core.Logic.{inl}
 use Prim.Native.Nat.{ℕ}
 use lib.Dec.{eqb}
 use Rattle.regs.specs.declared.Dir.{Dir}
@@ -101,7 +102,7 @@ other-leaves BusDisable s = after refl (each begins (refuses refl))
 other-leaves Microframe s = after refl (each begins (refuses refl))
 other-leaves (SetStalled d e on) s = after refl (each (each begins (after refl (each begins (refuses refl)))) (refuses refl))
 other-leaves (IsStalled d e) s = after refl (each (each begins (after refl (each begins (refuses refl)))) (refuses refl))
-other-leaves (SetPaced e on) s = after refl (each (each (whatever (λ _ _. answers tt)) (refuses refl)) (refuses refl))
+other-leaves (SetPaced e on) s = after refl (each (each (whatever (λ _ _. answers (inl refl))) (refuses refl)) (refuses refl))
 other-leaves (Advance e) s = after refl (each (each begins (refuses refl)) (refuses refl))
 other-leaves (BeginRead e n) s = after refl (each (after refl (each (after refl (each (after refl (each (refuses refl) (after refl begins))) (refuses refl))) (refuses refl))) (refuses refl))
 other-leaves BeginSetup s = after refl (each (after refl begins) (refuses refl))
@@ -133,9 +134,9 @@ other-leaves (BeginAcceptSetAddress a) s = after refl (each (after refl (each (r
 pub aside-leaves : (o : Aside) (s : St) → Leaves none s s (asideCode o)
 aside-leaves (Open e) s = after refl (each (after refl (each (after refl (each (refuses refl)
     (after refl (each (after refl (after refl (after refl (answers tt)))) (refuses refl))))) (refuses refl))) (refuses refl))
-aside-leaves (Close e) s = after refl (each (after refl (each (after refl (each (after refl (answers tt)) (refuses refl))) (refuses refl))) (refuses refl))
+aside-leaves (Close e) s = after refl (each (after refl (each (after refl (each (after refl (answers (inl refl))) (refuses refl))) (refuses refl))) (refuses refl))
 aside-leaves (Queue e bs) s = after refl (each (after refl (each (after refl (each (after refl (each (refuses refl)
-    (after refl (each (refuses refl) (after refl (each (after refl (answers tt)) (refuses refl))))))) (refuses refl))) (refuses refl))) (refuses refl))
+    (after refl (each (refuses refl) (after refl (each (after refl (answers (inl refl))) (refuses refl))))))) (refuses refl))) (refuses refl))) (refuses refl))
 
 pub code-leaves : (o : Op) (s : St) → Leaves (pollOf o) s s (code o)
 code-leaves interrupt s = after refl (each begins (refuses refl))

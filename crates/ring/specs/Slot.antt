@@ -3,6 +3,7 @@ use mathlib.Core.Bool.{Bool, cond}
 use Prim.Native.Nat.{ℕ, _+_, _-_, _*_, _%_, _^_}
 use lib.Dec.{ltb, eqb}
 use Rattle.state.specs.declared.EpState.{EpState}
+use Rattle.state.specs.Ep as ep
 use Rattle.ring.specs.Fields.{withHead, withTail}
 
 -- the `j`th value of a counter after `i`: "Head and tail are 8-bit and run free"
@@ -19,7 +20,7 @@ slotAddr s i = (s .base + slotOf s i * s .stride) % 2 ^ 32
 
 -- "the queued count is head minus tail modulo 256"
 unfoldable pub countOf : EpState → ℕ
-countOf s = (s .head + 2 ^ 8 - s .tail) % 2 ^ 8
+countOf s = ep.countOf s
 
 unfoldable pub hasWaiting : EpState → Bool
 hasWaiting s = ltb 0 (countOf s)

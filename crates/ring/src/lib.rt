@@ -3,7 +3,7 @@
 use state::EpState;
 ghost use mathlib.Core.Path.{_≡_};
 ghost use Prim.Native.Nat.{_+_, _-_, _*_, _%_, _^_, _≤_, _<_};
-ghost use Rattle.ring.specs.Slot.{slotOf, slotAddr, countOf, hasWaiting, joinedOf};
+ghost use Rattle.ring.specs.Slot.{slotOf, slotAddr, hasWaiting, joinedOf};
 ghost use Rattle.ring.specs.Out.{hasRoomOut, cappedAt, turnedAwayOf, arrivedOf, armedAt, openedOf, closedOf};
 ghost use Rattle.ring.specs.In.{hasRoomIn, completedOf, loadedOf, unloadedOf, nextLoad};
 
@@ -26,17 +26,10 @@ pub fn slot_addr(s: EpState, i: u8) -> u32
     std::num::wrapping_add_u32(s.base, offset)
 }
 
-// How many packets wait (mod.rs 175).
-pub fn count(s: EpState) -> u8
-    ensures { λ r. ⌜ r ≡ countOf s ⌝ }
-{
-    std::num::wrapping_sub_u8(s.head, s.tail)
-}
-
 pub fn has_waiting(s: EpState) -> bool
     ensures { λ r. ⌜ r ≡ hasWaiting s ⌝ }
 {
-    0 < count(s)
+    0 < s.count()
 }
 
 // The packet in the head's slot joins those that wait: an admission (mod.rs 501), a queue (mod.rs 393).
@@ -55,7 +48,7 @@ pub fn has_room_out(s: EpState) -> bool
     if n == 0 {
         return false;
     }
-    count(s) < n - 1
+    s.count() < n - 1
 }
 
 // A received length, capped at the maximum.
@@ -111,7 +104,7 @@ pub fn closed(mut s: EpState) -> EpState
 pub fn has_room_in(s: EpState) -> bool
     ensures { λ r. ⌜ r ≡ hasRoomIn s ⌝ }
 {
-    count(s) < s.slots
+    s.count() < s.slots
 }
 
 // The tail passes the packet that was loaded (mod.rs 406).

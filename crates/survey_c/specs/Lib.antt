@@ -3,5 +3,7 @@ pub mod Numbers
 pub mod NumbersLaws
 pub mod Card
 pub mod CardLaws
+pub mod CardRuns
+pub mod CardRunsLaws
 pub mod Descriptor
 pub mod DescriptorLaws

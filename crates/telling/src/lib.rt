@@ -1,4 +1,6 @@
 // What a call answers, one line for each, written to standard output.
+// No function here has an `ensures`: what is written has no place in a contract. Proved is that none traps or runs on, for any argument; what is
+// written is compared with a file (`crates/readout/stdout`). Where one answers a bool, it only says which words come next.
 use state::STATE_LEN;
 use state::woken_at;
 use way::Step;

@@ -33,10 +33,3 @@ again (suc n) (c ∷ cs) = ap (λ (x : List ℕ). c ∷ x) (again n cs)
 
 pub written-all : (k n : ℕ) (cs room : List ℕ) → k ≡ length (take n cs) → written k cs room ≡ over (take n cs) room
 written-all k n cs room e = ap (λ (j : ℕ). written j cs room) e ∙ ap (λ (x : List ℕ). x ++ drop (length (take n cs)) room) (again n cs)
-
--- no more than there is room for
-pub length-most : (n : ℕ) (cs : List ℕ) → length cs ≤ n → length (take n cs) ≡ length cs
-length-most zero [] h = refl
-length-most zero (c ∷ cs) h = absurd (omega (arith, h))
-length-most (suc n) [] h = refl
-length-most (suc n) (c ∷ cs) h = ap suc (length-most n cs (omega (arith, h)))

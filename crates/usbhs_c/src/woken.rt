@@ -1,26 +1,13 @@
 use state::STATE_LEN;
 use state::woken_at;
-use state::woken_count;
+use way::woken::how_many;
 ghost use mathlib.Core.Path.{_≡_};
-ghost use Prim.Native.Nat.{_≤_};
 ghost use lib.ListN.{length};
 ghost use Rattle.marks.specs.Copies.{over};
 ghost use Rattle.state.specs.State.{view};
 ghost use Rattle.state.specs.Wakes.{listed};
 
 fn sized(_b: &[u8]) {}
-
-// How many wake-ups the list has.
-fn how_many(s: &[u8; STATE_LEN]) -> u8
-    ensures { λ r. ⌜ r ≡ length (listed (view (now (s .entry)) .wakes)) ⌝ }
-    ensures { λ r. ⌜ r ≤ 64 ⌝ }
-{
-    let n = woken_count(s);
-    if n <= 64 {
-        return n;
-    }
-    64
-}
 
 // The list into the caller's room, from its start on; answers how many there are.
 pub fn list_into(s: &[u8; STATE_LEN], room: &mut [u8; 64]) -> u8

@@ -41,26 +41,5 @@ code-wake-ups c b row xs a n first e ms h =
     (subst (λ (v : Event Config Op). Alike (drive (v .call) (machineOf xs a) (v .lent)) (hear (v .call) n (v .lent))) (sym e) (from-start c b row (machineOf xs a) n)) in
     (s .answer, code-always ms (first .bytes) (first .slots) _ (s .pair) (h .1))
 
--- "at most 64 long", of what any call answers
-abbrev pub Few : Ans Answer → Type 0
-Few (ended (End n l)) = length l ≤ 64
-Few (ended (Refused n)) = Unit {0}
-Few (ended NotYet) = Unit {0}
-Few (ended (Done bytes)) = Unit {0}
-Few (ended (Shown bytes stamp)) = Unit {0}
-Few (handed q) = Unit {0}
-Few (told n) = Unit {0}
-
-take-few : (k : ℕ) (l : List ℕ) → length (take k l) ≤ length l
-take-few zero l = omega arith
-take-few (suc k) [] = omega arith
-take-few (suc k) (x ∷ l) = omega (arith, take-few k l)
-
-pub few : (s : Step) (out xs : List ℕ) → Few (answerOf s out (view xs))
-few (step.Refused n) out xs = tt
-few (step.Asks q) out xs = tt
-few (step.Ends n k) out xs = omega (arith, take-few k (view xs .wakes .codes), view-codes xs)
-few step.NotYet out xs = tt
-few (step.Done n) out xs = tt
-few (step.Setup low high) out xs = tt
-few (step.Shown at n stamp) out xs = tt
+-- "at most 64 long": the count that an end answers is the length of the list of the driver beside the record, and where that is the list of the state
+-- that was left, at most 64, whatever bytes it has: `count-is`, `count-few` (way/specs/Counted.antt)

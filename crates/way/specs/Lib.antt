@@ -1,5 +1,6 @@
 pub mod Questions
 pub mod Under
+pub mod Counted
 pub mod Goes
 pub mod Fits
 pub mod Interrupt

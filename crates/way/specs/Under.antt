@@ -4,7 +4,7 @@ use mathlib.Core.List.{List, _++_}
 use mathlib.Core.Path.{_≡_, refl, ap}
 use Prim.Native.Nat.{ℕ, _*_}
 use lib.Dec.{eqb}
-use lib.ListN.{length, take}
+use lib.ListN.{length}
 use Rattle.marks.specs.Copies.{bytesAt}
 use Rattle.regs.specs.declared.Access.{Access}
 use Rattle.state.specs.declared.Saved.{Saved}
@@ -145,11 +145,11 @@ abbrev pub handedOut : Access → Under → Driver → Buf → Ans Answer × Mac
 handedOut q u d b = (handed q, machineAt u d b)
 
 -- with the bytes that the call was lent: those of a poll's slice that it filled, or the slots in which a packet is shown; and with the state that it
--- left, which has the wake-ups
+-- left, which has the wake-ups: k of them, from the front of the state's room for 64
 abbrev pub answerOf : Step → List ℕ → Driver → Ans Answer
 answerOf (step.Refused n) out d = ended (Refused n)
 answerOf (step.Asks q) out d = handed q
-answerOf (step.Ends n k) out d = ended (End n (take k (d .wakes .codes)))
+answerOf (step.Ends n k) out d = ended (End n (front k (d .wakes .codes)))
 answerOf step.NotYet out d = ended NotYet
 answerOf (step.Done n) out d = ended (Done (front n out))
 answerOf (step.Setup low high) out d = ended (Done (wordBytes low ++ wordBytes high))

@@ -1,6 +1,7 @@
 use crate::Step;
 use crate::Under;
 use crate::saved::nothing;
+use crate::woken::how_many;
 use iso_in::advance::AdvanceNext;
 use regs::Access;
 use state::STATE_LEN;
@@ -38,7 +39,7 @@ fn ended(s: &mut [u8; STATE_LEN], n: u16) -> Step
     ensures { λ r. ⌜ ((b : List ℕ) → (answerOf r [] (view (now (s .exit))), machineOf (now (s .exit)) b) ≡ halts (run conc (finish n) (view (now (s .entry)), b))) ⌝ }
 {
     state::store_saved(s, nothing());
-    let k = state::woken_count(s);
+    let k = how_many(s);
     Step::Ends(n, k)
 }
 

@@ -10,15 +10,15 @@ load-ep-requires c κs = search needs
 clear-stamps-requires : tie.Need-clear-stamps-requires
 clear-stamps-requires c κs = search needs
 
-reset-requires : tie.Need-reset-requires
-reset-requires c κs = search needs
+by-loan-requires : tie.Need-by-loan-requires
+by-loan-requires c κs = search needs
 
 store-ep-requires : tie.Need-store-ep-requires
 store-ep-requires c κs = search needs
 
 returns : tie.Need-returns
 unfolding renewedOn
-returns c = (simp (c .store-ep .ensures .0, c .before .reset .ensures, c .before .before .before .clear-stamps .ensures .0, c .before .before .before .before .before .load-ep .ensures), c .store-ep .ensures .1 ∙ c .before .before .before .clear-stamps .ensures .1)
+returns c = (simp (c .store-ep .ensures .0, c .before .by-loan .ensures, c .before .before .before .clear-stamps .ensures .0, c .before .before .before .before .before .load-ep .ensures), c .store-ep .ensures .1 ∙ c .before .before .before .clear-stamps .ensures .1)
 
 pub renew-spec : {M : Type 1} → statement M
-renew-spec = tie.close (tie.spec load-ep-requires clear-stamps-requires reset-requires store-ep-requires returns)
+renew-spec = tie.close (tie.spec load-ep-requires clear-stamps-requires by-loan-requires store-ep-requires returns)

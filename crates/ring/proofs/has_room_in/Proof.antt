@@ -1,13 +1,14 @@
 use borrow.Author.Needs.{needs}
 use Rattle.ring.proofs.has_room_in.Statement.{statement}
 use Rattle.ring.proofs.has_room_in.Tie as tie
+use Rattle.ring.specs.Slot.{countOf}
 use Rattle.ring.specs.In.{hasRoomIn}
 
 count-requires : tie.Need-count-requires
 count-requires c κs = search needs
 
 returns : tie.Need-returns
-unfolding hasRoomIn
+unfolding countOf hasRoomIn
 returns c = simp (← c .before .count .ensures)
 
 pub has-room-in-spec : {M : Type 1} → statement M

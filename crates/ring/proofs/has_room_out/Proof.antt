@@ -19,7 +19,7 @@ sub-result : tie.Need-sub-result
 sub-result c = search needs
 
 returns-2 : tie.Need-returns-2
-unfolding hasRoomOut
+unfolding countOf hasRoomOut
 returns-2 c = simp (← c .count .ensures)
 
 pub has-room-out-spec : {M : Type 1} → statement M

@@ -1,10 +1,10 @@
+use Rattle.ring.specs.Slot.{countOf}
 use Rattle.way.specs.Questions.{pendingOn}
 use borrow.Author.Needs.{needs}
 use Rattle.endpoint_calls.proofs.questions.pending.Statement.{statement}
 use Rattle.endpoint_calls.proofs.questions.pending.Tie as tie
 use Rattle.endpoint_calls.proofs.questions.pending.Reads as reads
 use Rattle.endpoint_calls.proofs.questions.pending.Lts as lts
-use Rattle.ring.proofs.count.Reads as count-reads
 use Rattle.state.proofs.load_ep.Reads as load-ep-reads
 use Rattle.rows.proofs.is_number.Reads as is-number-reads
 use Rattle.rows.proofs.low.Reads as low-reads
@@ -25,7 +25,7 @@ cast-result : tie.Need-cast-result
 cast-result c = search needs
 
 returns : tie.Need-returns
-unfolding pendingOn
+unfolding countOf pendingOn
 returns c = simp (c .count .ensures, c .before .load-ep .ensures, c .before .before .low .ensures, ← c .before .before .before .before .is-number .ensures, c .before .before .before .if1 .taken)
 
 returns-2 : tie.Need-returns-2

@@ -1,5 +1,6 @@
 use Rattle.state.specs.Wakes.{listed}
 use Rattle.way.specs.Under.{decode}
+use Rattle.way.specs.Counted.{front-take}
 use borrow.Author.Needs.{needs}
 use Rattle.way.proofs.halts.ended.Statement.{statement}
 use Rattle.way.proofs.halts.ended.Tie as tie
@@ -14,13 +15,13 @@ nothing-requires c κs = search needs
 store-saved-requires : tie.Need-store-saved-requires
 store-saved-requires c κs = search needs
 
-woken-count-requires : tie.Need-woken-count-requires
-woken-count-requires c κs = search needs
+how-many-requires : tie.Need-how-many-requires
+how-many-requires c κs = search needs
 
 returns : tie.Need-returns
 unfolding decode listed
-returns c b = simp (c .woken-count .ensures, c .before .before .store-saved .ensures .0, c .before .before .store-saved .ensures .1, c .before .before .before .nothing .ensures)
+returns c b = simp (c .how-many .ensures .0, front-take, c .before .before .store-saved .ensures .0, c .before .before .store-saved .ensures .1, c .before .before .before .nothing .ensures)
 
 pub ended-spec : {M : Type 1} → statement M
 ended-spec =
-    tie.close (tie.spec nothing-requires store-saved-requires woken-count-requires returns)
+    tie.close (tie.spec nothing-requires store-saved-requires how-many-requires returns)
