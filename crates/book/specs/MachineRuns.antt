@@ -1,5 +1,5 @@
--- Lists of calls of the machine that the state's bytes are, for FrontPage.antt's definitions: what each is lent, and what holds after each. `machine-demand-3`
--- (FrontPageProved.antt) is the theorem; a run of such a list is in Witness.antt
+-- FrontPage.antt's definitions for lists of calls of the machine that the state's bytes are: what each is lent, and what holds after each. The
+-- theorem is `machine-demand-3` (FrontPageProved.antt)
 use mathlib.Core.List.{List, [], _∷_}
 use Rattle.state.specs.Driver.{Driver}
 use Rattle.script.specs.Answers.{Answer}

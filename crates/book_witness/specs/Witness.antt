@@ -1,0 +1,177 @@
+-- Runs in which things happen, computed by the check: arrivals and a reset; packets queued, one being sent, an arrival late by the marks; 15 waiting, one
+-- turned away, the first opened and read. Each meets the premise of demand 3 (`meets`), and so what FrontPage.antt says holds after each of its calls (`holds`)
+use mathlib.Core.Bool.{Bool, true, false}
+use mathlib.Core.List.{List, [], _∷_}
+use mathlib.Core.Path.{_≡_, refl}
+use Prim.Native.Nat.{ℕ, zero, suc}
+use lib.ListN.{length}
+use Rattle.regs.specs.declared.Dir.the-variants.{Out, In}
+use Rattle.state.specs.Driver.{Driver}
+use Rattle.script.specs.Statics.{flag}
+use Rattle.script.specs.Answers.{Answer}
+use Rattle.script.specs.Calls.{Config, Op, interrupt, slotted, other, aside, SetEnabled, Allocate, Start, Open, Close, Queue, startRow}
+use Rattle.script.specs.Machine.{Buf, Call, start, begin, go, question, overruns, Event, idle, Machine}
+use Rattle.way.specs.Under.{driverOf, drive}
+use Rattle.book.specs.Pages.{Pages}
+use Rattle.book.specs.Book.{freshPages}
+use Rattle.book.specs.FrontPage.{written}
+use Rattle.book.specs.MachineRuns.{Premise, AfterEvents}
+use Rattle.book.specs.FrontPageProved.{machine-demand-3}
+use Rattle.book_witness.specs.Inputs.{Input, eventOf, eventsOf, lawful}
+use Rattle.alloc.specs.Alloc as alloc-alloc
+use Rattle.alloc.specs.Buffer as alloc-buffer
+use Rattle.bits.specs.Bit as bits-bit
+use Rattle.bits.specs.Walk as bits-walk
+use Rattle.frame.specs.Advance as frame-advance
+use Rattle.frame.specs.Usb20 as frame-usb20
+use Rattle.marks.specs.Copies as marks-copies
+use Rattle.marks.specs.Marks as marks-marks
+use Rattle.ops.specs.Records as ops-records
+use Rattle.ops.specs.Rings as ops-rings
+use Rattle.regs.specs.ControlWord as regs-controlword
+use Rattle.regs.specs.Enables as regs-enables
+use Rattle.regs.specs.Registers as regs-registers
+use Rattle.regs.specs.Status as regs-status
+use Rattle.ring.specs.In as ring-in
+use Rattle.ring.specs.Out as ring-out
+use Rattle.ring.specs.Slot as ring-slot
+use Rattle.script.specs.Answers as script-answers
+use Rattle.script.specs.Bus as script-bus
+use Rattle.script.specs.Calls as script-calls
+use Rattle.script.specs.Endpoint as script-endpoint
+use Rattle.script.specs.Handler as script-handler
+use Rattle.script.specs.IsoIn as script-isoin
+use Rattle.script.specs.IsoOut as script-isoout
+use Rattle.script.specs.Statics as script-statics
+use Rattle.state.specs.Driver as state-driver
+use Rattle.state.specs.Fresh as state-fresh
+use Rattle.state.specs.Wakes as state-wakes
+use Rattle.way.specs.Questions as way-questions
+
+-- ---- what is done
+
+abbrev does : Call Config Op → Input
+does c = record { stored = []; call = c; tell = false }
+
+abbrev brings : ℕ → Input
+brings v = does (go v)
+
+abbrev stores : List ℕ → Call Config Op → Input
+stores bytes c = record { stored = bytes; call = c; tell = false }
+
+-- a question, after which the book is told
+abbrev asks : Input
+asks = record { stored = []; call = question (overruns 1); tell = true }
+
+-- n continues that bring 0; those after the operation's end are refused by row 15
+abbrev continues : ℕ → List Input → List Input
+continues zero is = is
+continues (suc n) is = brings 0 ∷ continues n is
+
+-- size 64, which EP0 needs; 16 slots for OUT 1, 2 for IN 2, one for EP0
+abbrev config : Config
+config = record { size = 64; count = 19; callback = false }
+
+-- start-up; OUT 1 and IN 2 (address 0x82), isochronous, of at most 8 bytes; EP0; both enabled
+abbrev setting : List Input → List Input
+setting is =
+    continues 8 (does (begin (other (Allocate Out 1 1 8 1))) ∷ continues 3 (does (begin (other (Allocate In 1 130 8 4))) ∷ continues 3
+    (does (begin (other (Start 64))) ∷ continues 6 (does (begin (slotted (SetEnabled Out 1 true))) ∷ continues 20 (does (begin (slotted (SetEnabled In 2 true))) ∷ continues 7 is)))))
+
+-- an interrupt with a packet in OUT 1's slot: frame 8; a transfer; the SIE free; status OUT 1, tog_ok; its length; frame 8
+abbrev arrival : List Input → List Input
+arrival is = stores (1 ∷ 2 ∷ 3 ∷ 4 ∷ []) (begin interrupt) ∷ brings 8 ∷ brings 2 ∷ brings 1 ∷ brings 65 ∷ brings 4 ∷ brings 0 ∷ brings 8 ∷ brings 0 ∷ is
+
+abbrev arrivals : ℕ → List Input → List Input
+arrivals zero is = is
+arrivals (suc n) is = arrival (arrivals n is)
+
+-- one for IN 2, which loads its next packet, while a packet of 5 bytes is in OUT 1's slot: its length is by the marks
+abbrev late : List Input → List Input
+late is =
+    stores (1 ∷ 2 ∷ 3 ∷ 4 ∷ 5 ∷ []) (begin interrupt) ∷ brings 8 ∷ brings 2 ∷ brings 1 ∷ brings 34 ∷ brings 0 ∷ brings 0 ∷ brings 8 ∷ brings 0 ∷ brings 0 ∷ brings 34 ∷ brings 0 ∷ is
+
+-- two arrivals, and OUT 1 enabled once more, which is a reset
+abbrev pub arrivals-reset : List Input
+arrivals-reset = setting (arrivals 2 (asks ∷ does (begin (slotted (SetEnabled Out 1 true))) ∷ continues 20 (asks ∷ [])))
+
+-- 15 arrivals, one more, the first opened and closed
+abbrev pub arrivals-read : List Input
+arrivals-read = setting (arrivals 15 (asks ∷ arrivals 1 (asks ∷ does (begin (aside (Open 1))) ∷ asks ∷ does (begin (aside (Close 1))) ∷ asks ∷ [])))
+
+-- three packets queued, of which row 13 refuses the last; a load, and a late arrival
+abbrev pub queued-late : List Input
+queued-late = setting (
+    does (begin (aside (Queue 2 (7 ∷ 7 ∷ [])))) ∷ does (begin (aside (Queue 2 (8 ∷ [])))) ∷ does (begin (aside (Queue 2 (9 ∷ [])))) ∷ asks ∷ late (asks ∷ []))
+
+-- ---- what the book is told after the questions
+
+-- of OUT 1: waiting, admitted, read, turned away, open; of IN 2: waiting, handed to the chip, being sent
+abbrev pub told : Pages → List ℕ
+told t =
+    let p = t .outs 1 in
+    let q = t .ins 2 in
+    length (p .waiting) ∷ length (p .admitted) ∷ length (p .read) ∷ p .lost ∷ flag (p .opened) ∷ length (q .waiting) ∷ length (q .sent) ∷ flag (q .sending) ∷ []
+
+abbrev noting : Bool → List ℕ → List (List ℕ) → List (List ℕ)
+noting true x xs = x ∷ xs
+noting false x xs = xs
+
+abbrev pub tellings : List Input → Machine Answer Driver → Machine Answer Pages → List (List ℕ)
+tellings [] m n = []
+tellings (i ∷ is) m n =
+    let e = eventOf i m n in
+    let x = drive (e .call) m (e .lent) in
+    let y = written (x .0) (e .call) n (e .lent) in
+    noting (i .tell) (told (y .1 .st)) (tellings is (x .1) (y .1))
+
+-- ---- before it
+
+abbrev zeros : ℕ → List ℕ
+zeros zero = []
+zeros (suc n) = 0 ∷ zeros n
+
+abbrev pub buffer : Buf
+buffer = zeros 1216
+
+abbrev pub driver : Machine Answer Driver
+driver = record { way = idle; st = driverOf .fresh config; buf = [] }
+
+abbrev pub pages : Machine Answer Pages
+pages = record { way = idle; st = freshPages config; buf = [] }
+
+abbrev pub first : Event Config Op
+first = record { call = start config; lent = buffer }
+
+abbrev pub startedDriver : Machine Answer Driver
+startedDriver = drive (start config) driver buffer .1
+
+abbrev pub startedPages : Machine Answer Pages
+startedPages = written (drive (start config) driver buffer .0) (start config) pages buffer .1
+
+accepted : startRow config buffer ≡ zero
+unfolding alloc-alloc.allocateEp0Of alloc-alloc.withNext alloc-alloc.isIso alloc-alloc.allocateOf alloc-alloc.numberOf alloc-alloc.lowestOf alloc-alloc.isFree alloc-alloc.numsOf alloc-alloc.takenIn alloc-alloc.askedOf alloc-alloc.numberedOf alloc-alloc.bufferedOf alloc-alloc.slotsOf alloc-alloc.taken alloc-alloc.addTo alloc-alloc.isOut alloc-alloc.withAllocated alloc-alloc.allocatedIn alloc-alloc.allocated alloc-buffer.goodBuffer alloc-buffer.goodSize alloc-buffer.fits bits-bit.isSet bits-bit.withBit bits-walk.bitsFrom frame-advance.completions frame-advance.distance frame-advance.isNone frame-advance.previous frame-advance.inPrevious frame-usb20.indexOf frame-usb20.microframe frame-usb20.frameNumber frame-usb20.frameOf marks-copies.copied marks-marks.markedLen marks-marks.found marks-marks.isMarked marks-marks.isMark marks-marks.armed marks-marks.arm marks-marks.markedRun marks-marks.marked ops-records.withSets ops-records.allocatedEp0 ops-records.startedWith ops-records.allocatedOn ops-records.givenTo ops-records.recordGiven ops-records.setsGiven ops-records.enabledOn ops-records.configured ops-records.isoOut ops-rings.wordAt ops-rings.resetAll ops-rings.resetBelow ops-rings.slotStep ops-rings.renewedOn ops-rings.typeStep ops-rings.configStep ops-rings.placeOn ops-rings.sendOn ops-rings.sendAddr ops-rings.arriveOn ops-rings.admittedOn ops-rings.recordedOn ops-rings.enqueueOn ops-rings.queuedOn ops-rings.roomOn ops-rings.roomIn ops-rings.takeOn ops-rings.closeOn ops-rings.openOn ops-rings.filledEp0 ops-rings.filledOn ops-rings.emptiedOn ops-rings.emptied ops-rings.completeOn ops-rings.oldestOn ops-rings.nextLen ops-rings.oldestAt ops-rings.nextStamp ops-rings.markedOn ops-rings.openedOn ops-rings.waitingOn ops-rings.changedOn regs-controlword.status regs-controlword.withToggle regs-controlword.toggle regs-controlword.ack regs-controlword.withResponse regs-controlword.response regs-controlword.wordOf regs-controlword.stall regs-controlword.isStalled regs-controlword.nakflip regs-controlword.nak regs-controlword.flip regs-controlword.isData1 regs-enables.isOn regs-enables.withOn regs-enables.outEnabled regs-enables.inEnabled regs-registers.fitsIn regs-status.isIn regs-status.token regs-status.tokenNumbered regs-status.endpoint regs-status.isOut regs-status.isSof ring-in.loadedOf ring-in.hasRoomIn ring-in.completedOf ring-in.unloadedOf ring-out.armedAt ring-out.cappedAt ring-out.arrivedOf ring-out.turnedAwayOf ring-out.hasRoomOut ring-out.closedOf ring-out.openedOf ring-slot.slotAddr ring-slot.slotOf ring-slot.countOf ring-slot.hasWaiting ring-slot.joinedOf ring-slot.passedOf script-answers.isNumber script-answers.isAllocated script-bus.restartedIn script-bus.restarted script-bus.restartedOut script-bus.nakAll script-calls.startRow script-endpoint.tooLong script-handler.ownIn script-handler.repeated script-handler.looks script-handler.isoFor script-handler.inNaks script-handler.outNaks script-handler.waitsForBulk script-handler.sameOut script-handler.waitsForIso script-isoin.isoInCompletions script-isoin.sofWalk script-isoin.leaving script-isoin.lateWalk script-isoout.checkWalk script-isoout.arriving script-isoout.entry script-statics.isOn script-statics.isoOuts script-statics.isoInEvery state-driver.stampOn state-driver.stampKey state-driver.epOn state-driver.key state-driver.lenOn state-driver.lenKey state-driver.requestOn state-driver.pacedOn state-driver.withOn state-driver.withLenOn state-driver.withStampOn state-driver.withPacedOn state-driver.withRequestOn state-fresh.freshDriver state-fresh.noStamps state-fresh.clearStamps state-fresh.filled state-wakes.woken state-wakes.listed state-wakes.wakeCode state-wakes.every-endpoint way-questions.enabledAsked way-questions.overrunsOn way-questions.overrunsOf way-questions.pendingOn
+accepted = refl
+
+-- whatever is done then
+pub meets : (is : List Input) → Premise (first ∷ eventsOf is startedDriver startedPages) driver pages
+meets is = (tt, lawful is startedDriver startedPages)
+
+pub holds : (is : List Input) → AfterEvents (first ∷ eventsOf is startedDriver startedPages) driver pages
+holds is = machine-demand-3 config buffer accepted (eventsOf is startedDriver startedPages) driver pages (meets is)
+
+-- two arrivals; a reset
+pub reset-happens : tellings arrivals-reset startedDriver startedPages ≡ (2 ∷ 2 ∷ 0 ∷ 0 ∷ 0 ∷ 0 ∷ 0 ∷ 0 ∷ []) ∷ (0 ∷ 0 ∷ 0 ∷ 0 ∷ 0 ∷ 0 ∷ 0 ∷ 0 ∷ []) ∷ []
+unfolding alloc-alloc.allocateEp0Of alloc-alloc.withNext alloc-alloc.isIso alloc-alloc.allocateOf alloc-alloc.numberOf alloc-alloc.lowestOf alloc-alloc.isFree alloc-alloc.numsOf alloc-alloc.takenIn alloc-alloc.askedOf alloc-alloc.numberedOf alloc-alloc.bufferedOf alloc-alloc.slotsOf alloc-alloc.taken alloc-alloc.addTo alloc-alloc.isOut alloc-alloc.withAllocated alloc-alloc.allocatedIn alloc-alloc.allocated alloc-buffer.goodBuffer alloc-buffer.goodSize alloc-buffer.fits bits-bit.isSet bits-bit.withBit bits-walk.bitsFrom frame-advance.completions frame-advance.distance frame-advance.isNone frame-advance.previous frame-advance.inPrevious frame-usb20.indexOf frame-usb20.microframe frame-usb20.frameNumber frame-usb20.frameOf marks-copies.copied marks-marks.markedLen marks-marks.found marks-marks.isMarked marks-marks.isMark marks-marks.armed marks-marks.arm marks-marks.markedRun marks-marks.marked ops-records.withSets ops-records.allocatedEp0 ops-records.startedWith ops-records.allocatedOn ops-records.givenTo ops-records.recordGiven ops-records.setsGiven ops-records.enabledOn ops-records.configured ops-records.isoOut ops-rings.wordAt ops-rings.resetAll ops-rings.resetBelow ops-rings.slotStep ops-rings.renewedOn ops-rings.typeStep ops-rings.configStep ops-rings.placeOn ops-rings.sendOn ops-rings.sendAddr ops-rings.arriveOn ops-rings.admittedOn ops-rings.recordedOn ops-rings.enqueueOn ops-rings.queuedOn ops-rings.roomOn ops-rings.roomIn ops-rings.takeOn ops-rings.closeOn ops-rings.openOn ops-rings.filledEp0 ops-rings.filledOn ops-rings.emptiedOn ops-rings.emptied ops-rings.completeOn ops-rings.oldestOn ops-rings.nextLen ops-rings.oldestAt ops-rings.nextStamp ops-rings.markedOn ops-rings.openedOn ops-rings.waitingOn ops-rings.changedOn regs-controlword.status regs-controlword.withToggle regs-controlword.toggle regs-controlword.ack regs-controlword.withResponse regs-controlword.response regs-controlword.wordOf regs-controlword.stall regs-controlword.isStalled regs-controlword.nakflip regs-controlword.nak regs-controlword.flip regs-controlword.isData1 regs-enables.isOn regs-enables.withOn regs-enables.outEnabled regs-enables.inEnabled regs-registers.fitsIn regs-status.isIn regs-status.token regs-status.tokenNumbered regs-status.endpoint regs-status.isOut regs-status.isSof ring-in.loadedOf ring-in.hasRoomIn ring-in.completedOf ring-in.unloadedOf ring-out.armedAt ring-out.cappedAt ring-out.arrivedOf ring-out.turnedAwayOf ring-out.hasRoomOut ring-out.closedOf ring-out.openedOf ring-slot.slotAddr ring-slot.slotOf ring-slot.countOf ring-slot.hasWaiting ring-slot.joinedOf ring-slot.passedOf script-answers.isNumber script-answers.isAllocated script-bus.restartedIn script-bus.restarted script-bus.restartedOut script-bus.nakAll script-calls.startRow script-endpoint.tooLong script-handler.ownIn script-handler.repeated script-handler.looks script-handler.isoFor script-handler.inNaks script-handler.outNaks script-handler.waitsForBulk script-handler.sameOut script-handler.waitsForIso script-isoin.isoInCompletions script-isoin.sofWalk script-isoin.leaving script-isoin.lateWalk script-isoout.checkWalk script-isoout.arriving script-isoout.entry script-statics.isOn script-statics.isoOuts script-statics.isoInEvery state-driver.stampOn state-driver.stampKey state-driver.epOn state-driver.key state-driver.lenOn state-driver.lenKey state-driver.requestOn state-driver.pacedOn state-driver.withOn state-driver.withLenOn state-driver.withStampOn state-driver.withPacedOn state-driver.withRequestOn state-fresh.freshDriver state-fresh.noStamps state-fresh.clearStamps state-fresh.filled state-wakes.woken state-wakes.listed state-wakes.wakeCode state-wakes.every-endpoint way-questions.enabledAsked way-questions.overrunsOn way-questions.overrunsOf way-questions.pendingOn
+reset-happens = refl
+
+-- two wait on IN 2; one of them is being sent, and a late packet waits on OUT 1
+pub late-happens : tellings queued-late startedDriver startedPages ≡ (0 ∷ 0 ∷ 0 ∷ 0 ∷ 0 ∷ 2 ∷ 0 ∷ 0 ∷ []) ∷ (1 ∷ 1 ∷ 0 ∷ 0 ∷ 0 ∷ 2 ∷ 1 ∷ 1 ∷ []) ∷ []
+unfolding alloc-alloc.allocateEp0Of alloc-alloc.withNext alloc-alloc.isIso alloc-alloc.allocateOf alloc-alloc.numberOf alloc-alloc.lowestOf alloc-alloc.isFree alloc-alloc.numsOf alloc-alloc.takenIn alloc-alloc.askedOf alloc-alloc.numberedOf alloc-alloc.bufferedOf alloc-alloc.slotsOf alloc-alloc.taken alloc-alloc.addTo alloc-alloc.isOut alloc-alloc.withAllocated alloc-alloc.allocatedIn alloc-alloc.allocated alloc-buffer.goodBuffer alloc-buffer.goodSize alloc-buffer.fits bits-bit.isSet bits-bit.withBit bits-walk.bitsFrom frame-advance.completions frame-advance.distance frame-advance.isNone frame-advance.previous frame-advance.inPrevious frame-usb20.indexOf frame-usb20.microframe frame-usb20.frameNumber frame-usb20.frameOf marks-copies.copied marks-marks.markedLen marks-marks.found marks-marks.isMarked marks-marks.isMark marks-marks.armed marks-marks.arm marks-marks.markedRun marks-marks.marked ops-records.withSets ops-records.allocatedEp0 ops-records.startedWith ops-records.allocatedOn ops-records.givenTo ops-records.recordGiven ops-records.setsGiven ops-records.enabledOn ops-records.configured ops-records.isoOut ops-rings.wordAt ops-rings.resetAll ops-rings.resetBelow ops-rings.slotStep ops-rings.renewedOn ops-rings.typeStep ops-rings.configStep ops-rings.placeOn ops-rings.sendOn ops-rings.sendAddr ops-rings.arriveOn ops-rings.admittedOn ops-rings.recordedOn ops-rings.enqueueOn ops-rings.queuedOn ops-rings.roomOn ops-rings.roomIn ops-rings.takeOn ops-rings.closeOn ops-rings.openOn ops-rings.filledEp0 ops-rings.filledOn ops-rings.emptiedOn ops-rings.emptied ops-rings.completeOn ops-rings.oldestOn ops-rings.nextLen ops-rings.oldestAt ops-rings.nextStamp ops-rings.markedOn ops-rings.openedOn ops-rings.waitingOn ops-rings.changedOn regs-controlword.status regs-controlword.withToggle regs-controlword.toggle regs-controlword.ack regs-controlword.withResponse regs-controlword.response regs-controlword.wordOf regs-controlword.stall regs-controlword.isStalled regs-controlword.nakflip regs-controlword.nak regs-controlword.flip regs-controlword.isData1 regs-enables.isOn regs-enables.withOn regs-enables.outEnabled regs-enables.inEnabled regs-registers.fitsIn regs-status.isIn regs-status.token regs-status.tokenNumbered regs-status.endpoint regs-status.isOut regs-status.isSof ring-in.loadedOf ring-in.hasRoomIn ring-in.completedOf ring-in.unloadedOf ring-out.armedAt ring-out.cappedAt ring-out.arrivedOf ring-out.turnedAwayOf ring-out.hasRoomOut ring-out.closedOf ring-out.openedOf ring-slot.slotAddr ring-slot.slotOf ring-slot.countOf ring-slot.hasWaiting ring-slot.joinedOf ring-slot.passedOf script-answers.isNumber script-answers.isAllocated script-bus.restartedIn script-bus.restarted script-bus.restartedOut script-bus.nakAll script-calls.startRow script-endpoint.tooLong script-handler.ownIn script-handler.repeated script-handler.looks script-handler.isoFor script-handler.inNaks script-handler.outNaks script-handler.waitsForBulk script-handler.sameOut script-handler.waitsForIso script-isoin.isoInCompletions script-isoin.sofWalk script-isoin.leaving script-isoin.lateWalk script-isoout.checkWalk script-isoout.arriving script-isoout.entry script-statics.isOn script-statics.isoOuts script-statics.isoInEvery state-driver.stampOn state-driver.stampKey state-driver.epOn state-driver.key state-driver.lenOn state-driver.lenKey state-driver.requestOn state-driver.pacedOn state-driver.withOn state-driver.withLenOn state-driver.withStampOn state-driver.withPacedOn state-driver.withRequestOn state-fresh.freshDriver state-fresh.noStamps state-fresh.clearStamps state-fresh.filled state-wakes.woken state-wakes.listed state-wakes.wakeCode state-wakes.every-endpoint way-questions.enabledAsked way-questions.overrunsOn way-questions.overrunsOf way-questions.pendingOn
+late-happens = refl
+
+-- 15 wait; one is turned away; the first is open; it is read
+pub overrun-happens : tellings arrivals-read startedDriver startedPages ≡
+    (15 ∷ 15 ∷ 0 ∷ 0 ∷ 0 ∷ 0 ∷ 0 ∷ 0 ∷ []) ∷ (15 ∷ 15 ∷ 0 ∷ 1 ∷ 0 ∷ 0 ∷ 0 ∷ 0 ∷ []) ∷ (15 ∷ 15 ∷ 0 ∷ 1 ∷ 1 ∷ 0 ∷ 0 ∷ 0 ∷ []) ∷ (14 ∷ 15 ∷ 1 ∷ 1 ∷ 0 ∷ 0 ∷ 0 ∷ 0 ∷ []) ∷ []
+unfolding alloc-alloc.allocateEp0Of alloc-alloc.withNext alloc-alloc.isIso alloc-alloc.allocateOf alloc-alloc.numberOf alloc-alloc.lowestOf alloc-alloc.isFree alloc-alloc.numsOf alloc-alloc.takenIn alloc-alloc.askedOf alloc-alloc.numberedOf alloc-alloc.bufferedOf alloc-alloc.slotsOf alloc-alloc.taken alloc-alloc.addTo alloc-alloc.isOut alloc-alloc.withAllocated alloc-alloc.allocatedIn alloc-alloc.allocated alloc-buffer.goodBuffer alloc-buffer.goodSize alloc-buffer.fits bits-bit.isSet bits-bit.withBit bits-walk.bitsFrom frame-advance.completions frame-advance.distance frame-advance.isNone frame-advance.previous frame-advance.inPrevious frame-usb20.indexOf frame-usb20.microframe frame-usb20.frameNumber frame-usb20.frameOf marks-copies.copied marks-marks.markedLen marks-marks.found marks-marks.isMarked marks-marks.isMark marks-marks.armed marks-marks.arm marks-marks.markedRun marks-marks.marked ops-records.withSets ops-records.allocatedEp0 ops-records.startedWith ops-records.allocatedOn ops-records.givenTo ops-records.recordGiven ops-records.setsGiven ops-records.enabledOn ops-records.configured ops-records.isoOut ops-rings.wordAt ops-rings.resetAll ops-rings.resetBelow ops-rings.slotStep ops-rings.renewedOn ops-rings.typeStep ops-rings.configStep ops-rings.placeOn ops-rings.sendOn ops-rings.sendAddr ops-rings.arriveOn ops-rings.admittedOn ops-rings.recordedOn ops-rings.enqueueOn ops-rings.queuedOn ops-rings.roomOn ops-rings.roomIn ops-rings.takeOn ops-rings.closeOn ops-rings.openOn ops-rings.filledEp0 ops-rings.filledOn ops-rings.emptiedOn ops-rings.emptied ops-rings.completeOn ops-rings.oldestOn ops-rings.nextLen ops-rings.oldestAt ops-rings.nextStamp ops-rings.markedOn ops-rings.openedOn ops-rings.waitingOn ops-rings.changedOn regs-controlword.status regs-controlword.withToggle regs-controlword.toggle regs-controlword.ack regs-controlword.withResponse regs-controlword.response regs-controlword.wordOf regs-controlword.stall regs-controlword.isStalled regs-controlword.nakflip regs-controlword.nak regs-controlword.flip regs-controlword.isData1 regs-enables.isOn regs-enables.withOn regs-enables.outEnabled regs-enables.inEnabled regs-registers.fitsIn regs-status.isIn regs-status.token regs-status.tokenNumbered regs-status.endpoint regs-status.isOut regs-status.isSof ring-in.loadedOf ring-in.hasRoomIn ring-in.completedOf ring-in.unloadedOf ring-out.armedAt ring-out.cappedAt ring-out.arrivedOf ring-out.turnedAwayOf ring-out.hasRoomOut ring-out.closedOf ring-out.openedOf ring-slot.slotAddr ring-slot.slotOf ring-slot.countOf ring-slot.hasWaiting ring-slot.joinedOf ring-slot.passedOf script-answers.isNumber script-answers.isAllocated script-bus.restartedIn script-bus.restarted script-bus.restartedOut script-bus.nakAll script-calls.startRow script-endpoint.tooLong script-handler.ownIn script-handler.repeated script-handler.looks script-handler.isoFor script-handler.inNaks script-handler.outNaks script-handler.waitsForBulk script-handler.sameOut script-handler.waitsForIso script-isoin.isoInCompletions script-isoin.sofWalk script-isoin.leaving script-isoin.lateWalk script-isoout.checkWalk script-isoout.arriving script-isoout.entry script-statics.isOn script-statics.isoOuts script-statics.isoInEvery state-driver.stampOn state-driver.stampKey state-driver.epOn state-driver.key state-driver.lenOn state-driver.lenKey state-driver.requestOn state-driver.pacedOn state-driver.withOn state-driver.withLenOn state-driver.withStampOn state-driver.withPacedOn state-driver.withRequestOn state-fresh.freshDriver state-fresh.noStamps state-fresh.clearStamps state-fresh.filled state-wakes.woken state-wakes.listed state-wakes.wakeCode state-wakes.every-endpoint way-questions.enabledAsked way-questions.overrunsOn way-questions.overrunsOf way-questions.pendingOn
+overrun-happens = refl
