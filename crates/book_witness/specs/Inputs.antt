@@ -65,10 +65,12 @@ chip-stores t b (x ∷ xs) = by (mayStore t (x ∷ xs)) refl
     by : (u : Bool) → mayStore t (x ∷ xs) ≡ u → Chip t b (cond u (copied b (t .outs 1 .slot) (x ∷ xs)) b)
     by true m =
         let o = only-copied b (t .outs 1 .slot) (x ∷ xs) in
-        let l = leb-true (length (x ∷ xs)) (t .kept .allocator .size) (right (isSet (allocatedIn (t .kept .allocator) Out) (1 % 16)) (leb (length (x ∷ xs)) (t .kept .allocator .size)) m) in
+        let a = isSet (allocatedIn (t .kept .allocator) Out) (1 % 16) in
+        let f = leb (length (x ∷ xs)) (t .kept .allocator .size) in
+        let l = leb-true (length (x ∷ xs)) (t .kept .allocator .size) (right a f m) in
         record {
           long = o .long;
-          others = λ k h. elim (h .outs 1 (left (isSet (allocatedIn (t .kept .allocator) Out) (1 % 16)) (leb (length (x ∷ xs)) (t .kept .allocator .size)) m)) [
+          others = λ k h. elim (h .outs 1 (left a f m)) [
             | inl p ↦ o .below k p
             | inr p ↦ o .above k (omega (arith, p, l))
           ];

@@ -75,8 +75,11 @@ config = record { size = 64; count = 19; callback = false }
 -- start-up; OUT 1 and IN 2 (address 0x82), isochronous, of at most 8 bytes; EP0; both enabled
 abbrev setting : List Input → List Input
 setting is =
-    continues 8 (does (begin (other (Allocate Out 1 1 8 1))) ∷ continues 3 (does (begin (other (Allocate In 1 130 8 4))) ∷ continues 3
-    (does (begin (other (Start 64))) ∷ continues 6 (does (begin (slotted (SetEnabled Out 1 true))) ∷ continues 20 (does (begin (slotted (SetEnabled In 2 true))) ∷ continues 7 is)))))
+    continues 8 (does (begin (other (Allocate Out 1 1 8 1))) ∷
+    continues 3 (does (begin (other (Allocate In 1 130 8 4))) ∷
+    continues 3 (does (begin (other (Start 64))) ∷
+    continues 6 (does (begin (slotted (SetEnabled Out 1 true))) ∷
+    continues 20 (does (begin (slotted (SetEnabled In 2 true))) ∷ continues 7 is)))))
 
 -- an interrupt with a packet in OUT 1's slot: frame 8; a transfer; the SIE free; status OUT 1, tog_ok; its length; frame 8
 abbrev arrival : List Input → List Input
@@ -87,9 +90,10 @@ arrivals zero is = is
 arrivals (suc n) is = arrival (arrivals n is)
 
 -- one for IN 2, which loads its next packet, while a packet of 5 bytes is in OUT 1's slot: its length is by the marks
-abbrev late : List Input → List Input
-late is =
-    stores (1 ∷ 2 ∷ 3 ∷ 4 ∷ 5 ∷ []) (begin interrupt) ∷ brings 8 ∷ brings 2 ∷ brings 1 ∷ brings 34 ∷ brings 0 ∷ brings 0 ∷ brings 8 ∷ brings 0 ∷ brings 0 ∷ brings 34 ∷ brings 0 ∷ is
+abbrev lateArrival : List Input → List Input
+lateArrival is =
+    stores (1 ∷ 2 ∷ 3 ∷ 4 ∷ 5 ∷ []) (begin interrupt) ∷ brings 8 ∷ brings 2 ∷ brings 1 ∷ brings 34 ∷ brings 0 ∷ brings 0 ∷ brings 8 ∷
+    brings 0 ∷ brings 0 ∷ brings 34 ∷ brings 0 ∷ is
 
 -- two arrivals, and OUT 1 enabled once more, which is a reset
 abbrev pub arrivals-reset : List Input
@@ -102,7 +106,8 @@ arrivals-read = setting (arrivals 15 (asks ∷ arrivals 1 (asks ∷ does (begin 
 -- three packets queued, of which row 13 refuses the last; a load, and a late arrival
 abbrev pub queued-late : List Input
 queued-late = setting (
-    does (begin (aside (Queue 2 (7 ∷ 7 ∷ [])))) ∷ does (begin (aside (Queue 2 (8 ∷ [])))) ∷ does (begin (aside (Queue 2 (9 ∷ [])))) ∷ asks ∷ late (asks ∷ []))
+    does (begin (aside (Queue 2 (7 ∷ 7 ∷ [])))) ∷ does (begin (aside (Queue 2 (8 ∷ [])))) ∷
+    does (begin (aside (Queue 2 (9 ∷ [])))) ∷ asks ∷ lateArrival (asks ∷ []))
 
 -- ---- what the book is told after the questions
 
@@ -150,7 +155,7 @@ abbrev pub startedPages : Machine Answer Pages
 startedPages = written (drive (start config) driver buffer .0) (start config) pages buffer .1
 
 accepted : startRow config buffer ≡ zero
-unfolding alloc-alloc.allocateEp0Of alloc-alloc.withNext alloc-alloc.isIso alloc-alloc.allocateOf alloc-alloc.numberOf alloc-alloc.lowestOf alloc-alloc.isFree alloc-alloc.numsOf alloc-alloc.takenIn alloc-alloc.askedOf alloc-alloc.numberedOf alloc-alloc.bufferedOf alloc-alloc.slotsOf alloc-alloc.taken alloc-alloc.addTo alloc-alloc.isOut alloc-alloc.withAllocated alloc-alloc.allocatedIn alloc-alloc.allocated alloc-buffer.goodBuffer alloc-buffer.goodSize alloc-buffer.fits bits-bit.isSet bits-bit.withBit bits-walk.bitsFrom frame-advance.completions frame-advance.distance frame-advance.isNone frame-advance.previous frame-advance.inPrevious frame-usb20.indexOf frame-usb20.microframe frame-usb20.frameNumber frame-usb20.frameOf marks-copies.copied marks-marks.markedLen marks-marks.found marks-marks.isMarked marks-marks.isMark marks-marks.armed marks-marks.arm marks-marks.markedRun marks-marks.marked ops-records.withSets ops-records.allocatedEp0 ops-records.startedWith ops-records.allocatedOn ops-records.givenTo ops-records.recordGiven ops-records.setsGiven ops-records.enabledOn ops-records.configured ops-records.isoOut ops-rings.wordAt ops-rings.resetAll ops-rings.resetBelow ops-rings.slotStep ops-rings.renewedOn ops-rings.typeStep ops-rings.configStep ops-rings.placeOn ops-rings.sendOn ops-rings.sendAddr ops-rings.arriveOn ops-rings.admittedOn ops-rings.recordedOn ops-rings.enqueueOn ops-rings.queuedOn ops-rings.roomOn ops-rings.roomIn ops-rings.takeOn ops-rings.closeOn ops-rings.openOn ops-rings.filledEp0 ops-rings.filledOn ops-rings.emptiedOn ops-rings.emptied ops-rings.completeOn ops-rings.oldestOn ops-rings.nextLen ops-rings.oldestAt ops-rings.nextStamp ops-rings.markedOn ops-rings.openedOn ops-rings.waitingOn ops-rings.changedOn regs-controlword.status regs-controlword.withToggle regs-controlword.toggle regs-controlword.ack regs-controlword.withResponse regs-controlword.response regs-controlword.wordOf regs-controlword.stall regs-controlword.isStalled regs-controlword.nakflip regs-controlword.nak regs-controlword.flip regs-controlword.isData1 regs-enables.isOn regs-enables.withOn regs-enables.outEnabled regs-enables.inEnabled regs-registers.fitsIn regs-status.isIn regs-status.token regs-status.tokenNumbered regs-status.endpoint regs-status.isOut regs-status.isSof ring-in.loadedOf ring-in.hasRoomIn ring-in.completedOf ring-in.unloadedOf ring-out.armedAt ring-out.cappedAt ring-out.arrivedOf ring-out.turnedAwayOf ring-out.hasRoomOut ring-out.closedOf ring-out.openedOf ring-slot.slotAddr ring-slot.slotOf ring-slot.countOf ring-slot.hasWaiting ring-slot.joinedOf ring-slot.passedOf script-answers.isNumber script-answers.isAllocated script-bus.restartedIn script-bus.restarted script-bus.restartedOut script-bus.nakAll script-calls.startRow script-endpoint.tooLong script-handler.ownIn script-handler.repeated script-handler.looks script-handler.isoFor script-handler.inNaks script-handler.outNaks script-handler.waitsForBulk script-handler.sameOut script-handler.waitsForIso script-isoin.isoInCompletions script-isoin.sofWalk script-isoin.leaving script-isoin.lateWalk script-isoout.checkWalk script-isoout.arriving script-isoout.entry script-statics.isOn script-statics.isoOuts script-statics.isoInEvery state-driver.stampOn state-driver.stampKey state-driver.epOn state-driver.key state-driver.lenOn state-driver.lenKey state-driver.requestOn state-driver.pacedOn state-driver.withOn state-driver.withLenOn state-driver.withStampOn state-driver.withPacedOn state-driver.withRequestOn state-fresh.freshDriver state-fresh.noStamps state-fresh.clearStamps state-fresh.filled state-wakes.woken state-wakes.listed state-wakes.wakeCode state-wakes.every-endpoint way-questions.enabledAsked way-questions.overrunsOn way-questions.overrunsOf way-questions.pendingOn
+unfolding script-calls.startRow alloc-buffer.fits alloc-buffer.goodBuffer alloc-buffer.goodSize
 accepted = refl
 
 -- whatever is done then
@@ -160,18 +165,64 @@ meets is = (tt, lawful is startedDriver startedPages)
 pub holds : (is : List Input) → AfterEvents (first ∷ eventsOf is startedDriver startedPages) driver pages
 holds is = machine-demand-3 config buffer accepted (eventsOf is startedDriver startedPages) driver pages (meets is)
 
--- two arrivals; a reset
-pub reset-happens : tellings arrivals-reset startedDriver startedPages ≡ (2 ∷ 2 ∷ 0 ∷ 0 ∷ 0 ∷ 0 ∷ 0 ∷ 0 ∷ []) ∷ (0 ∷ 0 ∷ 0 ∷ 0 ∷ 0 ∷ 0 ∷ 0 ∷ 0 ∷ []) ∷ []
-unfolding alloc-alloc.allocateEp0Of alloc-alloc.withNext alloc-alloc.isIso alloc-alloc.allocateOf alloc-alloc.numberOf alloc-alloc.lowestOf alloc-alloc.isFree alloc-alloc.numsOf alloc-alloc.takenIn alloc-alloc.askedOf alloc-alloc.numberedOf alloc-alloc.bufferedOf alloc-alloc.slotsOf alloc-alloc.taken alloc-alloc.addTo alloc-alloc.isOut alloc-alloc.withAllocated alloc-alloc.allocatedIn alloc-alloc.allocated alloc-buffer.goodBuffer alloc-buffer.goodSize alloc-buffer.fits bits-bit.isSet bits-bit.withBit bits-walk.bitsFrom frame-advance.completions frame-advance.distance frame-advance.isNone frame-advance.previous frame-advance.inPrevious frame-usb20.indexOf frame-usb20.microframe frame-usb20.frameNumber frame-usb20.frameOf marks-copies.copied marks-marks.markedLen marks-marks.found marks-marks.isMarked marks-marks.isMark marks-marks.armed marks-marks.arm marks-marks.markedRun marks-marks.marked ops-records.withSets ops-records.allocatedEp0 ops-records.startedWith ops-records.allocatedOn ops-records.givenTo ops-records.recordGiven ops-records.setsGiven ops-records.enabledOn ops-records.configured ops-records.isoOut ops-rings.wordAt ops-rings.resetAll ops-rings.resetBelow ops-rings.slotStep ops-rings.renewedOn ops-rings.typeStep ops-rings.configStep ops-rings.placeOn ops-rings.sendOn ops-rings.sendAddr ops-rings.arriveOn ops-rings.admittedOn ops-rings.recordedOn ops-rings.enqueueOn ops-rings.queuedOn ops-rings.roomOn ops-rings.roomIn ops-rings.takeOn ops-rings.closeOn ops-rings.openOn ops-rings.filledEp0 ops-rings.filledOn ops-rings.emptiedOn ops-rings.emptied ops-rings.completeOn ops-rings.oldestOn ops-rings.nextLen ops-rings.oldestAt ops-rings.nextStamp ops-rings.markedOn ops-rings.openedOn ops-rings.waitingOn ops-rings.changedOn regs-controlword.status regs-controlword.withToggle regs-controlword.toggle regs-controlword.ack regs-controlword.withResponse regs-controlword.response regs-controlword.wordOf regs-controlword.stall regs-controlword.isStalled regs-controlword.nakflip regs-controlword.nak regs-controlword.flip regs-controlword.isData1 regs-enables.isOn regs-enables.withOn regs-enables.outEnabled regs-enables.inEnabled regs-registers.fitsIn regs-status.isIn regs-status.token regs-status.tokenNumbered regs-status.endpoint regs-status.isOut regs-status.isSof ring-in.loadedOf ring-in.hasRoomIn ring-in.completedOf ring-in.unloadedOf ring-out.armedAt ring-out.cappedAt ring-out.arrivedOf ring-out.turnedAwayOf ring-out.hasRoomOut ring-out.closedOf ring-out.openedOf ring-slot.slotAddr ring-slot.slotOf ring-slot.countOf ring-slot.hasWaiting ring-slot.joinedOf ring-slot.passedOf script-answers.isNumber script-answers.isAllocated script-bus.restartedIn script-bus.restarted script-bus.restartedOut script-bus.nakAll script-calls.startRow script-endpoint.tooLong script-handler.ownIn script-handler.repeated script-handler.looks script-handler.isoFor script-handler.inNaks script-handler.outNaks script-handler.waitsForBulk script-handler.sameOut script-handler.waitsForIso script-isoin.isoInCompletions script-isoin.sofWalk script-isoin.leaving script-isoin.lateWalk script-isoout.checkWalk script-isoout.arriving script-isoout.entry script-statics.isOn script-statics.isoOuts script-statics.isoInEvery state-driver.stampOn state-driver.stampKey state-driver.epOn state-driver.key state-driver.lenOn state-driver.lenKey state-driver.requestOn state-driver.pacedOn state-driver.withOn state-driver.withLenOn state-driver.withStampOn state-driver.withPacedOn state-driver.withRequestOn state-fresh.freshDriver state-fresh.noStamps state-fresh.clearStamps state-fresh.filled state-wakes.woken state-wakes.listed state-wakes.wakeCode state-wakes.every-endpoint way-questions.enabledAsked way-questions.overrunsOn way-questions.overrunsOf way-questions.pendingOn
-reset-happens = refl
+-- ---- what happens
 
+pub data Run : Type 0 where
+  reset late overrun : Run
+
+abbrev pub inputsOf : Run → List Input
+inputsOf reset = arrivals-reset
+inputsOf late = queued-late
+inputsOf overrun = arrivals-read
+
+abbrev pub tellingsOf : Run → List (List ℕ)
+-- two arrivals; none wait
+tellingsOf reset = (2 ∷ 2 ∷ 0 ∷ 0 ∷ 0 ∷ 0 ∷ 0 ∷ 0 ∷ []) ∷ (0 ∷ 0 ∷ 0 ∷ 0 ∷ 0 ∷ 0 ∷ 0 ∷ 0 ∷ []) ∷ []
 -- two wait on IN 2; one of them is being sent, and a late packet waits on OUT 1
-pub late-happens : tellings queued-late startedDriver startedPages ≡ (0 ∷ 0 ∷ 0 ∷ 0 ∷ 0 ∷ 2 ∷ 0 ∷ 0 ∷ []) ∷ (1 ∷ 1 ∷ 0 ∷ 0 ∷ 0 ∷ 2 ∷ 1 ∷ 1 ∷ []) ∷ []
-unfolding alloc-alloc.allocateEp0Of alloc-alloc.withNext alloc-alloc.isIso alloc-alloc.allocateOf alloc-alloc.numberOf alloc-alloc.lowestOf alloc-alloc.isFree alloc-alloc.numsOf alloc-alloc.takenIn alloc-alloc.askedOf alloc-alloc.numberedOf alloc-alloc.bufferedOf alloc-alloc.slotsOf alloc-alloc.taken alloc-alloc.addTo alloc-alloc.isOut alloc-alloc.withAllocated alloc-alloc.allocatedIn alloc-alloc.allocated alloc-buffer.goodBuffer alloc-buffer.goodSize alloc-buffer.fits bits-bit.isSet bits-bit.withBit bits-walk.bitsFrom frame-advance.completions frame-advance.distance frame-advance.isNone frame-advance.previous frame-advance.inPrevious frame-usb20.indexOf frame-usb20.microframe frame-usb20.frameNumber frame-usb20.frameOf marks-copies.copied marks-marks.markedLen marks-marks.found marks-marks.isMarked marks-marks.isMark marks-marks.armed marks-marks.arm marks-marks.markedRun marks-marks.marked ops-records.withSets ops-records.allocatedEp0 ops-records.startedWith ops-records.allocatedOn ops-records.givenTo ops-records.recordGiven ops-records.setsGiven ops-records.enabledOn ops-records.configured ops-records.isoOut ops-rings.wordAt ops-rings.resetAll ops-rings.resetBelow ops-rings.slotStep ops-rings.renewedOn ops-rings.typeStep ops-rings.configStep ops-rings.placeOn ops-rings.sendOn ops-rings.sendAddr ops-rings.arriveOn ops-rings.admittedOn ops-rings.recordedOn ops-rings.enqueueOn ops-rings.queuedOn ops-rings.roomOn ops-rings.roomIn ops-rings.takeOn ops-rings.closeOn ops-rings.openOn ops-rings.filledEp0 ops-rings.filledOn ops-rings.emptiedOn ops-rings.emptied ops-rings.completeOn ops-rings.oldestOn ops-rings.nextLen ops-rings.oldestAt ops-rings.nextStamp ops-rings.markedOn ops-rings.openedOn ops-rings.waitingOn ops-rings.changedOn regs-controlword.status regs-controlword.withToggle regs-controlword.toggle regs-controlword.ack regs-controlword.withResponse regs-controlword.response regs-controlword.wordOf regs-controlword.stall regs-controlword.isStalled regs-controlword.nakflip regs-controlword.nak regs-controlword.flip regs-controlword.isData1 regs-enables.isOn regs-enables.withOn regs-enables.outEnabled regs-enables.inEnabled regs-registers.fitsIn regs-status.isIn regs-status.token regs-status.tokenNumbered regs-status.endpoint regs-status.isOut regs-status.isSof ring-in.loadedOf ring-in.hasRoomIn ring-in.completedOf ring-in.unloadedOf ring-out.armedAt ring-out.cappedAt ring-out.arrivedOf ring-out.turnedAwayOf ring-out.hasRoomOut ring-out.closedOf ring-out.openedOf ring-slot.slotAddr ring-slot.slotOf ring-slot.countOf ring-slot.hasWaiting ring-slot.joinedOf ring-slot.passedOf script-answers.isNumber script-answers.isAllocated script-bus.restartedIn script-bus.restarted script-bus.restartedOut script-bus.nakAll script-calls.startRow script-endpoint.tooLong script-handler.ownIn script-handler.repeated script-handler.looks script-handler.isoFor script-handler.inNaks script-handler.outNaks script-handler.waitsForBulk script-handler.sameOut script-handler.waitsForIso script-isoin.isoInCompletions script-isoin.sofWalk script-isoin.leaving script-isoin.lateWalk script-isoout.checkWalk script-isoout.arriving script-isoout.entry script-statics.isOn script-statics.isoOuts script-statics.isoInEvery state-driver.stampOn state-driver.stampKey state-driver.epOn state-driver.key state-driver.lenOn state-driver.lenKey state-driver.requestOn state-driver.pacedOn state-driver.withOn state-driver.withLenOn state-driver.withStampOn state-driver.withPacedOn state-driver.withRequestOn state-fresh.freshDriver state-fresh.noStamps state-fresh.clearStamps state-fresh.filled state-wakes.woken state-wakes.listed state-wakes.wakeCode state-wakes.every-endpoint way-questions.enabledAsked way-questions.overrunsOn way-questions.overrunsOf way-questions.pendingOn
-late-happens = refl
-
+tellingsOf late = (0 ∷ 0 ∷ 0 ∷ 0 ∷ 0 ∷ 2 ∷ 0 ∷ 0 ∷ []) ∷ (1 ∷ 1 ∷ 0 ∷ 0 ∷ 0 ∷ 2 ∷ 1 ∷ 1 ∷ []) ∷ []
 -- 15 wait; one is turned away; the first is open; it is read
-pub overrun-happens : tellings arrivals-read startedDriver startedPages ≡
-    (15 ∷ 15 ∷ 0 ∷ 0 ∷ 0 ∷ 0 ∷ 0 ∷ 0 ∷ []) ∷ (15 ∷ 15 ∷ 0 ∷ 1 ∷ 0 ∷ 0 ∷ 0 ∷ 0 ∷ []) ∷ (15 ∷ 15 ∷ 0 ∷ 1 ∷ 1 ∷ 0 ∷ 0 ∷ 0 ∷ []) ∷ (14 ∷ 15 ∷ 1 ∷ 1 ∷ 0 ∷ 0 ∷ 0 ∷ 0 ∷ []) ∷ []
-unfolding alloc-alloc.allocateEp0Of alloc-alloc.withNext alloc-alloc.isIso alloc-alloc.allocateOf alloc-alloc.numberOf alloc-alloc.lowestOf alloc-alloc.isFree alloc-alloc.numsOf alloc-alloc.takenIn alloc-alloc.askedOf alloc-alloc.numberedOf alloc-alloc.bufferedOf alloc-alloc.slotsOf alloc-alloc.taken alloc-alloc.addTo alloc-alloc.isOut alloc-alloc.withAllocated alloc-alloc.allocatedIn alloc-alloc.allocated alloc-buffer.goodBuffer alloc-buffer.goodSize alloc-buffer.fits bits-bit.isSet bits-bit.withBit bits-walk.bitsFrom frame-advance.completions frame-advance.distance frame-advance.isNone frame-advance.previous frame-advance.inPrevious frame-usb20.indexOf frame-usb20.microframe frame-usb20.frameNumber frame-usb20.frameOf marks-copies.copied marks-marks.markedLen marks-marks.found marks-marks.isMarked marks-marks.isMark marks-marks.armed marks-marks.arm marks-marks.markedRun marks-marks.marked ops-records.withSets ops-records.allocatedEp0 ops-records.startedWith ops-records.allocatedOn ops-records.givenTo ops-records.recordGiven ops-records.setsGiven ops-records.enabledOn ops-records.configured ops-records.isoOut ops-rings.wordAt ops-rings.resetAll ops-rings.resetBelow ops-rings.slotStep ops-rings.renewedOn ops-rings.typeStep ops-rings.configStep ops-rings.placeOn ops-rings.sendOn ops-rings.sendAddr ops-rings.arriveOn ops-rings.admittedOn ops-rings.recordedOn ops-rings.enqueueOn ops-rings.queuedOn ops-rings.roomOn ops-rings.roomIn ops-rings.takeOn ops-rings.closeOn ops-rings.openOn ops-rings.filledEp0 ops-rings.filledOn ops-rings.emptiedOn ops-rings.emptied ops-rings.completeOn ops-rings.oldestOn ops-rings.nextLen ops-rings.oldestAt ops-rings.nextStamp ops-rings.markedOn ops-rings.openedOn ops-rings.waitingOn ops-rings.changedOn regs-controlword.status regs-controlword.withToggle regs-controlword.toggle regs-controlword.ack regs-controlword.withResponse regs-controlword.response regs-controlword.wordOf regs-controlword.stall regs-controlword.isStalled regs-controlword.nakflip regs-controlword.nak regs-controlword.flip regs-controlword.isData1 regs-enables.isOn regs-enables.withOn regs-enables.outEnabled regs-enables.inEnabled regs-registers.fitsIn regs-status.isIn regs-status.token regs-status.tokenNumbered regs-status.endpoint regs-status.isOut regs-status.isSof ring-in.loadedOf ring-in.hasRoomIn ring-in.completedOf ring-in.unloadedOf ring-out.armedAt ring-out.cappedAt ring-out.arrivedOf ring-out.turnedAwayOf ring-out.hasRoomOut ring-out.closedOf ring-out.openedOf ring-slot.slotAddr ring-slot.slotOf ring-slot.countOf ring-slot.hasWaiting ring-slot.joinedOf ring-slot.passedOf script-answers.isNumber script-answers.isAllocated script-bus.restartedIn script-bus.restarted script-bus.restartedOut script-bus.nakAll script-calls.startRow script-endpoint.tooLong script-handler.ownIn script-handler.repeated script-handler.looks script-handler.isoFor script-handler.inNaks script-handler.outNaks script-handler.waitsForBulk script-handler.sameOut script-handler.waitsForIso script-isoin.isoInCompletions script-isoin.sofWalk script-isoin.leaving script-isoin.lateWalk script-isoout.checkWalk script-isoout.arriving script-isoout.entry script-statics.isOn script-statics.isoOuts script-statics.isoInEvery state-driver.stampOn state-driver.stampKey state-driver.epOn state-driver.key state-driver.lenOn state-driver.lenKey state-driver.requestOn state-driver.pacedOn state-driver.withOn state-driver.withLenOn state-driver.withStampOn state-driver.withPacedOn state-driver.withRequestOn state-fresh.freshDriver state-fresh.noStamps state-fresh.clearStamps state-fresh.filled state-wakes.woken state-wakes.listed state-wakes.wakeCode state-wakes.every-endpoint way-questions.enabledAsked way-questions.overrunsOn way-questions.overrunsOf way-questions.pendingOn
-overrun-happens = refl
+tellingsOf overrun =
+    (15 ∷ 15 ∷ 0 ∷ 0 ∷ 0 ∷ 0 ∷ 0 ∷ 0 ∷ []) ∷ (15 ∷ 15 ∷ 0 ∷ 1 ∷ 0 ∷ 0 ∷ 0 ∷ 0 ∷ []) ∷ (15 ∷ 15 ∷ 0 ∷ 1 ∷ 1 ∷ 0 ∷ 0 ∷ 0 ∷ [])
+    ∷ (14 ∷ 15 ∷ 1 ∷ 1 ∷ 0 ∷ 0 ∷ 0 ∷ 0 ∷ []) ∷ []
+
+pub happens : (r : Run) → tellings (inputsOf r) startedDriver startedPages ≡ tellingsOf r
+unfolding alloc-alloc.allocateEp0Of alloc-alloc.withNext alloc-alloc.isIso alloc-alloc.allocateOf
+    alloc-alloc.numberOf alloc-alloc.lowestOf alloc-alloc.isFree alloc-alloc.numsOf alloc-alloc.takenIn
+    alloc-alloc.askedOf alloc-alloc.numberedOf alloc-alloc.bufferedOf alloc-alloc.slotsOf alloc-alloc.taken
+    alloc-alloc.addTo alloc-alloc.isOut alloc-alloc.withAllocated alloc-alloc.allocatedIn alloc-alloc.allocated
+    alloc-buffer.goodBuffer alloc-buffer.goodSize alloc-buffer.fits bits-bit.isSet bits-bit.withBit
+    bits-walk.bitsFrom frame-advance.completions frame-advance.distance frame-advance.isNone frame-advance.previous
+    frame-advance.inPrevious frame-usb20.indexOf frame-usb20.microframe frame-usb20.frameNumber frame-usb20.frameOf
+    marks-copies.copied marks-marks.markedLen marks-marks.found marks-marks.isMarked marks-marks.isMark
+    marks-marks.armed marks-marks.arm marks-marks.markedRun marks-marks.marked ops-records.withSets
+    ops-records.allocatedEp0 ops-records.startedWith ops-records.allocatedOn ops-records.givenTo
+    ops-records.recordGiven ops-records.setsGiven ops-records.enabledOn ops-records.configured ops-records.isoOut
+    ops-rings.wordAt ops-rings.resetAll ops-rings.resetBelow ops-rings.slotStep ops-rings.renewedOn
+    ops-rings.typeStep ops-rings.configStep ops-rings.placeOn ops-rings.sendOn ops-rings.sendAddr ops-rings.arriveOn
+    ops-rings.admittedOn ops-rings.recordedOn ops-rings.enqueueOn ops-rings.queuedOn ops-rings.roomOn
+    ops-rings.roomIn ops-rings.takeOn ops-rings.closeOn ops-rings.openOn ops-rings.filledEp0 ops-rings.filledOn
+    ops-rings.emptiedOn ops-rings.emptied ops-rings.completeOn ops-rings.oldestOn ops-rings.nextLen
+    ops-rings.oldestAt ops-rings.nextStamp ops-rings.markedOn ops-rings.openedOn ops-rings.waitingOn
+    ops-rings.changedOn regs-controlword.status regs-controlword.withToggle regs-controlword.toggle
+    regs-controlword.ack regs-controlword.withResponse regs-controlword.response regs-controlword.wordOf
+    regs-controlword.stall regs-controlword.isStalled regs-controlword.nakflip regs-controlword.nak
+    regs-controlword.flip regs-controlword.isData1 regs-enables.isOn regs-enables.withOn regs-enables.outEnabled
+    regs-enables.inEnabled regs-registers.fitsIn regs-status.isIn regs-status.token regs-status.tokenNumbered
+    regs-status.endpoint regs-status.isOut regs-status.isSof ring-in.loadedOf ring-in.hasRoomIn ring-in.completedOf
+    ring-in.unloadedOf ring-out.armedAt ring-out.cappedAt ring-out.arrivedOf ring-out.turnedAwayOf
+    ring-out.hasRoomOut ring-out.closedOf ring-out.openedOf ring-slot.slotAddr ring-slot.slotOf ring-slot.countOf
+    ring-slot.hasWaiting ring-slot.joinedOf ring-slot.passedOf script-answers.isNumber script-answers.isAllocated
+    script-bus.restartedIn script-bus.restarted script-bus.restartedOut script-bus.nakAll script-calls.startRow
+    script-endpoint.tooLong script-handler.ownIn script-handler.repeated script-handler.looks script-handler.isoFor
+    script-handler.inNaks script-handler.outNaks script-handler.waitsForBulk script-handler.sameOut
+    script-handler.waitsForIso script-isoin.isoInCompletions script-isoin.sofWalk script-isoin.leaving
+    script-isoin.lateWalk script-isoout.checkWalk script-isoout.arriving script-isoout.entry script-statics.isOn
+    script-statics.isoOuts script-statics.isoInEvery state-driver.stampOn state-driver.stampKey state-driver.epOn
+    state-driver.key state-driver.lenOn state-driver.lenKey state-driver.requestOn state-driver.pacedOn
+    state-driver.withOn state-driver.withLenOn state-driver.withStampOn state-driver.withPacedOn
+    state-driver.withRequestOn state-fresh.freshDriver state-fresh.noStamps state-fresh.clearStamps
+    state-fresh.filled state-wakes.woken state-wakes.listed state-wakes.wakeCode state-wakes.every-endpoint
+    way-questions.enabledAsked way-questions.overrunsOn way-questions.overrunsOf way-questions.pendingOn
+happens reset = refl
+happens late = refl
+happens overrun = refl
