@@ -19,6 +19,9 @@ pub mod Steps
 pub mod Resets
 pub mod Switches
 pub mod Untouched
+pub mod Watched
+pub mod WatchedLaws
+pub mod WatchedRuns
 pub mod Rows
 pub mod Ledger
 pub mod Agrees

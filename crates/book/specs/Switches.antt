@@ -270,7 +270,7 @@ module _ {φ : Phase} {b : Buf} {d : Driver} {t : Pages} (R : Rest φ b d t) (e 
   cleared-ep : epOn (clearStamps d e) Out e ≡ epOn d Out e
   cleared-ep = ep-clear d e Out e
 
-  fresh-changed : Changed Out e d (renewedOn d e)
+  pub fresh-changed : Changed Out e d (renewedOn d e)
   unfolding renewedOn
   fresh-changed =
       changed-trans (R .sized) Out e cleared-changed
