@@ -15,21 +15,7 @@ use Rattle.book.specs.Book.{book}
 use Rattle.book.specs.Rest.{Rest}
 use Rattle.book.specs.Allocations.{fresh-kept}
 use Rattle.book.specs.Agrees.{agree}
-
--- a call that was made: what it answered, the state's bytes and the slot buffer as it left them
-pub record Made : Type 0 where
-  pub event : Event Config Op
-  pub answer : Ans Answer
-  pub bytes : List ℕ
-  pub slots : Buf
-
--- its contract
-abbrev pub Did : List ℕ → Buf → Made → Type 0
-Did xs a m = (m .answer, machineOf (m .bytes) (m .slots)) ≡ drive (m .event .call) (machineOf xs a) (m .event .lent)
-
--- the book's step, told the call's answer
-abbrev pub noted : Made → Machine Answer Pages → Ans Answer × Machine Answer Pages
-noted m n = write-up driverOf book agree calls (m .answer) (m .event .call) n (m .event .lent)
+pub use Rattle.book.specs.FrontPage.{Made, Did, noted}
 
 -- calls one after the other, each as its contract says, and each lent the slot buffer as the last one left it but for the chip's stores
 abbrev pub Run : List ℕ → Buf → Machine Answer Pages → List Made → Type 0

@@ -31,7 +31,7 @@ abbrev pub readBy : List Made → ℕ
 readBy [] = 0
 readBy (m ∷ ms) = andThen (m .answer, machineOf (m .bytes) (m .slots)) (readBy ms)
 
-abbrev events : List Made → List (Event Config Op)
+abbrev pub events : List Made → List (Event Config Op)
 events [] = []
 events (m ∷ ms) = m .event ∷ events ms
 

@@ -1,4 +1,4 @@
--- The continues that an interrupt takes, in a list of calls: definitions. The theorem is in InterruptEnds
+-- The continues that an interrupt takes, in a list of calls: definitions. The theorems are in InterruptEnds and CodeContinues
 use mathlib.Core.Bool.{Bool, true, false, cond}
 use mathlib.Core.List.{List, [], _∷_}
 use Prim.Native.Nat.{ℕ, _+_}
@@ -6,7 +6,8 @@ use Rattle.state.specs.Driver.{Driver}
 use Rattle.script.specs.Answers.{Answer}
 use Rattle.script.specs.Calls.{Config, Op, calls}
 use Rattle.script.specs.Machine.{Buf, Call, start, begin, go, question, Event, Way, idle, busy, Machine, over, misfit}
-use Rattle.way.specs.Under.{driverOf, drive}
+use Rattle.way.specs.Under.{driverOf, drive, machineOf}
+use Rattle.book.specs.FrontPage.{Made}
 use Rattle.book.specs.Served.{serving}
 
 -- a continue goes on with what is under way, where neither row 1, 15 nor 16 stops it
@@ -24,3 +25,8 @@ continues (question q) m b = 0
 unfoldable pub interruptContinues : List (Event Config Op) → Machine Answer Driver → ℕ
 interruptContinues [] m = 0
 interruptContinues (e ∷ es) m = cond (serving (m .way)) (continues (e .call) m (e .lent) + interruptContinues es (drive (e .call) m (e .lent) .1)) 0
+
+-- the same of calls that were made, from the state's bytes xs and the slot buffer a on
+unfoldable pub madeContinues : List ℕ → Buf → List Made → ℕ
+madeContinues xs a [] = 0
+madeContinues xs a (m ∷ ms) = cond (serving (machineOf xs a .way)) (continues (m .event .call) (machineOf xs a) (m .event .lent) + madeContinues (m .bytes) (m .slots) ms) 0

@@ -1,9 +1,9 @@
--- A read's poll that is done gives the first waiting packet whole, over every list of calls from an accepted start-up on: its begin was brought a
--- length of at least the endpoint's maximum, and no packet that waits is longer
+-- A read's poll that is done gives the first waiting packet whole: its begin was brought a length of at least the endpoint's maximum, and no packet
+-- that waits is longer
 use mathlib.Core.Bool.{Bool, true, false, not, cond, true≢false}
-use mathlib.Core.List.{List, [], _∷_, tail}
+use mathlib.Core.List.{List, [], _∷_}
 use mathlib.Core.Path.{_≡_, refl, ap, subst, sym, _∙_}
-use Prim.Native.Nat.{ℕ, zero, _≤_}
+use Prim.Native.Nat.{ℕ, _≤_}
 use native.Mathlib.Omega.{arith}
 use lib.Dec.{eqb}
 use borrow.Author.Tests.{eqb-true}
@@ -22,23 +22,19 @@ use Rattle.script.specs.Script.{Script, run, ret, bind, test, get, put, is, act
 use Rattle.script.specs.Statics.{isOn, withReady, modifyEp}
 use Rattle.script.specs.Answers.{Answer, Refused, End, NotYet, Done, Shown, named, unless, isAllocated}
 use Rattle.script.specs.Endpoint.{ends-request, enabled-else, take-iso, take-ready, polled, pollRead}
-use Rattle.script.specs.Calls.{Config, Op, slotted, PollRead, calls, startRow}
-use Rattle.script.specs.Machine.{Buf, Call, begin, Event, Ans, ended, handed, told, blankA, Way, idle, busy, Machine, misfit, stay, fed, halt, started}
+use Rattle.script.specs.Calls.{Config, Op, slotted, PollRead, calls}
+use Rattle.script.specs.Machine.{Buf, Call, begin, Ans, ended, handed, told, blankA, Way, idle, busy, Machine, misfit, stay, fed, halt}
 use Rattle.script.specs.Machine as machine
-use Rattle.script.specs.Agree.{After, All}
-use Rattle.way.specs.Under.{driverOf}
+use Rattle.script.specs.Agree.{After}
+use Rattle.way.specs.Under.{driverOf, drive}
 use Rattle.book.specs.Pages.{Packet, bytesOf, OutPage, Pages, withOut}
 use Rattle.book.specs.Book.{Bk, some, first, isoOf, readOut, takeB, bookOps, book}
 use Rattle.book.specs.Rest.{Short, Rest}
 use Rattle.book.specs.Frame.{out-same}
-use Rattle.book.specs.Allocations.{fresh-kept}
 use Rattle.book.specs.Agrees.{agree}
-use Rattle.book.specs.Demand3.{demand3}
 use Rattle.book.specs.ReadRoom.{ReadRoom}
-use Rattle.book.specs.ReadRoomCalls.{Kept, steps, start-kept}
-use Rattle.book.specs.Slots.{Premise, made, written}
-use Rattle.book.specs.SlotsKept.{lawful}
-use Rattle.book.specs.Polls.{GivesWhole, OfEach}
+use Rattle.book.specs.FrontPage.{ReadsFirst, written}
+use Rattle.book.specs.Asides.{reads-first}
 
 -- ---- answers told apart
 
@@ -70,7 +66,7 @@ kindOf (handed q) = false
 kindOf (told n) = false
 
 -- an answer that ends is the same but for no address
-ended-same : (z : Ans Answer) (a : Answer) → ended a ≡ blankA z → z ≡ ended a
+pub ended-same : (z : Ans Answer) (a : Answer) → ended a ≡ blankA z → z ≡ ended a
 ended-same (ended b) a h = ap (λ (x : Answer). ended x) (sym (ap answered h))
 ended-same (handed q) a h = absurd (true≢false (ap kindOf h))
 ended-same (told n) a h = absurd (true≢false (ap kindOf h))
@@ -83,7 +79,7 @@ module _ (t : Pages) (b : Buf) (e n : ℕ) (iso : isOn (t .kept .plain Out e .is
     room : t .kept .requests Out e .length ≡ n
     one : some (bytesOf (t .outs e .waiting)) ≡ true
     given : bytes ≡ take n (first (bytesOf (t .outs e .waiting)))
-    left : t′ .outs e .waiting ≡ tail (t .outs e .waiting)
+    page : t′ .outs e ≡ readOut (t .outs e)
 
   abbrev Gives : tree.Out Bk Answer → Type 0
   Gives (ends a s) = (bytes : List ℕ) → a ≡ Done bytes → Facts bytes (s .0)
@@ -92,9 +88,9 @@ module _ (t : Pages) (b : Buf) (e n : ℕ) (iso : isOn (t .kept .plain Out e .is
   refused : (a : Answer) (s : Bk) → isDone a ≡ false → Gives (ends a s)
   refused a s h bytes q = not-done a bytes h q
 
-  left-by : (u : Bool) → u ≡ true → cond u (withOut t e (readOut (t .outs e))) t .outs e .waiting ≡ tail (t .outs e .waiting)
-  left-by true h = ap (λ (p : OutPage). p .waiting) (out-same t e (readOut (t .outs e)))
-  left-by false h = absurd (true≢false (sym h))
+  page-by : (u : Bool) → u ≡ true → cond u (withOut t e (readOut (t .outs e))) t .outs e ≡ readOut (t .outs e)
+  page-by true h = out-same t e (readOut (t .outs e))
+  page-by false h = absurd (true≢false (sym h))
 
   module _ (r : isOn (t .kept .requests Out e .begun) ≡ true) (l : t .kept .requests Out e .length ≡ n) where
     waiting-by : (u : Bool) → some (bytesOf (t .outs e .waiting)) ≡ u
@@ -104,7 +100,7 @@ module _ (t : Pages) (b : Buf) (e n : ℕ) (iso : isOn (t .kept .plain Out e .is
       room = l;
       one = h;
       given = sym (ap doneBytes q);
-      left = left-by (some (bytesOf (t .outs e .waiting))) h;
+      page = page-by (some (bytesOf (t .outs e .waiting))) h;
     }
     waiting-by false h = refused NotYet (t, b) refl
 
@@ -164,40 +160,29 @@ module _ {φ : Phase} {b : Buf} {d : Driver} {t : Pages} (R : Rest φ b d t) (k 
   same-request = R .same .requests Out e
 
   whole : {b′ : Buf} {iso : isOn (t .kept .plain Out e .iso) ≡ true} {bytes : List ℕ} {t′ : Pages} → Facts t b′ e n iso bytes t′
-      → (q : Packet) × (t .outs e .waiting ≡ q ∷ t′ .outs e .waiting) × (bytes ≡ q .bytes)
+      → (q : Packet) × (bytes ≡ q .bytes) × ReadsFirst (t .outs e) (t′ .outs e) q
   whole {bytes = bytes} {t′ = t′} f = by (t .outs e .waiting) refl (R .outs e .short)
     where
       m : epOn d Out e .«max_len» ≤ n
       m = omega (arith, k .reads e (ap (λ (r : Request). isOn (r .begun)) same-request ∙ f .begun) .1, ap (λ (r : Request). r .length) same-request, f .room)
 
-      by : (w : List Packet) → t .outs e .waiting ≡ w → Short (epOn d Out e .«max_len») w → (q : Packet) × (t .outs e .waiting ≡ q ∷ t′ .outs e .waiting) × (bytes ≡ q .bytes)
+      by : (w : List Packet) → t .outs e .waiting ≡ w → Short (epOn d Out e .«max_len») w → (q : Packet) × (bytes ≡ q .bytes) × ReadsFirst (t .outs e) (t′ .outs e) q
       by [] h s = absurd (true≢false (sym (f .one) ∙ ap (λ (w : List Packet). some (bytesOf w)) h))
       by (q ∷ qs) h s = (
         q,
-        h ∙ ap (λ (w : List Packet). q ∷ w) (sym (f .left ∙ ap (λ (w : List Packet). tail w) h)),
         f .given ∙ ap (λ (w : List Packet). take n (first (bytesOf w))) h ∙ take-all n (q .bytes) (omega (arith, s .0, m)),
+        reads-first h (f .page),
       )
 
+-- a call's answer that is a read's poll done
 pub one-call : {φ : Phase} (c : Call Config Op) (l : Buf) (m : Machine Answer Driver) (n : Machine Answer Pages) → Rest φ (m .buf) (m .st) (n .st) → ReadRoom (m .st)
-    → let x = made c m l in let y = written (x .0) c n l in After driverOf book agree calls x y → GivesWhole c (n .st) (x .0) (y .1 .st)
+    → let x = drive c m l in let y = written (x .0) c n l in After driverOf book agree calls x y → (e len : ℕ) (bytes : List ℕ)
+    → c ≡ begin (slotted (PollRead e len)) → x .0 ≡ ended (Done bytes) → isoOf (n .st) Out e ≡ true
+    → (q : Packet) × (bytes ≡ q .bytes) × ReadsFirst (n .st .outs e) (y .1 .st .outs e) q
 one-call c l m n R k a e len bytes p q iso =
-    let x = made c m l in
+    let x = drive c m l in
     let s : written (x .0) c n l .0 ≡ ended (Done bytes) = ended-same (written (x .0) c n l .0) (Done bytes) (sym (ap blankA q) ∙ a .same) in
     let z : (bytes : List ℕ) → written (x .0) (begin (slotted (PollRead e len))) n l .0 ≡ ended (Done bytes) → Facts (n .st) l e len iso bytes (written (x .0) (begin (slotted (PollRead e len))) n l .1 .st)
     = call-answers (n .st) l e len iso (fed book (x .0)) n refl (misfit calls (book .driver) (n .st) l) in
-    subst (λ (c : Call Config Op). (r : Packet) × (n .st .outs e .waiting ≡ r ∷ written (x .0) c n l .1 .st .outs e .waiting) × (bytes ≡ r .bytes)) (sym p)
+    subst (λ (c : Call Config Op). (r : Packet) × (bytes ≡ r .bytes) × ReadsFirst (n .st .outs e) (written (x .0) c n l .1 .st .outs e) r) (sym p)
     (whole R k e len (z bytes (subst (λ (c : Call Config Op). written (x .0) c n l .0 ≡ ended (Done bytes)) p s)))
-
-each : (es : List (Event Config Op)) {φ : Phase} (m : Machine Answer Driver) (n : Machine Answer Pages) → Kept m → Rest φ (m .buf) (m .st) (n .st) → All driverOf book agree calls fresh-kept es m n → OfEach GivesWhole es m n
-each [] m n k R a = tt
-each (e ∷ es) m n k R a = (one-call (e .call) (e .lent) m n R (k .room) (a .0), each es _ _ (steps (e .call) m k (e .lent)) (a .0 .rest) (a .1))
-
--- the first call is a start-up that rows 1 and 2 do not stop, on whatever was before; every later call is lent the slot buffer as the last one
--- left it, but for the chip's stores
-pub polls-whole : (c : Config) (b : Buf) → startRow c b ≡ zero → (es : List (Event Config Op)) (m : Machine Answer Driver) (n : Machine Answer Pages)
-    → let x = started calls driverOf (λ s. s) c zero m b in
-    let y = started calls (book .driver) (fed book (x .0)) c zero n b in
-    Premise es (x .1) (y .1) → OfEach GivesWhole es (x .1) (y .1)
-polls-whole c b row es m n p =
-    let z = demand3 c b row es m n (lawful es _ _ p) in
-    each es _ _ (start-kept c m b row) (z .0 .rest) (z .1)

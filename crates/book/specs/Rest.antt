@@ -31,6 +31,7 @@ use Rattle.ops.specs.Records.{plainOf}
 use Rattle.book.specs.Pages.{Packet, bytesOf, stampsOf, OutPage, InPage, Kept, Pages}
 use Rattle.book.specs.Book.{front}
 use Rattle.book.specs.Stamps.{stamped}
+pub use Rattle.book.specs.FrontPage.{lensOf, slotStamps, Elsewhere, Chip, Holds}
 
 -- ---- the kept values are the same
 
@@ -73,14 +74,6 @@ abbrev pub ep0Room : Globals → Allocator → ℕ
 ep0Room g a = cond (eqb (g .stage) 2) (a .size) 0
 
 -- ---- a ring, in the buffer, and those that wait by the book
-
--- the recorded lengths of its slots
-abbrev pub lensOf : Driver → Dir → ℕ → List ℕ
-lensOf d dir e = tab 16 (λ i. lenOn d dir e i)
-
--- the stamps of the slots of OUT e
-abbrev pub slotStamps : Driver → ℕ → List ℕ
-slotStamps d e = tab 16 (λ i. stampOn d e i)
 
 pub record Held (most : ℕ) (b : Buf) (r : EpState) (ls : List ℕ) (w : List (List ℕ)) : Type 0 where
   pub placed : Placed (length b) r
@@ -179,24 +172,7 @@ pub record Rest (φ : Phase) (b : Buf) (d : Driver) (t : Pages) : Type 0 where
   -- the set of isochronous OUT endpoints
   pub isos : (e : ℕ) → isSet (d .globals .«iso_out_eps») (e % 16) ≡ isOn (epOn d Out e .iso)
 
--- ---- the chip's stores
-
--- "A receive address counts from the call that hands it out": byte k lies outside of the slot of every endpoint's last receive address in this run,
--- and outside of EP0's buffer
-pub record Elsewhere (t : Pages) (k : ℕ) : Type 0 where
-  pub outs : (e : ℕ) → isSet (allocatedIn (t .kept .allocator) Out) (e % 16) ≡ true → (k < t .outs e .slot) ⊎ (t .outs e .slot + t .kept .allocator .size ≤ k)
-  pub ep0 : t .kept .globals .stage ≡ 2 → (k < t .kept .globals .«ep0_buf») ⊎ (t .kept .globals .«ep0_buf» + t .kept .allocator .size ≤ k)
-
--- all other bytes stay
-pub record Chip (t : Pages) (b b′ : Buf) : Type 0 where
-  pub long : length b′ ≡ length b
-  pub others : (k : ℕ) → Elsewhere t k → getD b′ k 0 ≡ getD b k 0
-
 -- ---- what the book promises of an access
-
--- "the slot whose address a load hands out holds the bytes of the first then waiting"
-abbrev pub Holds : InPage → Buf → ℕ → Type 0
-Holds p b x = (bytes : List ℕ) (rest : List (List ℕ)) → p .load ≡ true → p .waiting ≡ bytes ∷ rest → bytesAt b x (length bytes) ≡ bytes
 
 -- the slot from address x on lies in the lent buffer, whole
 abbrev pub Lies : Buf → Pages → ℕ → Type 0

@@ -1,10 +1,12 @@
--- "No slot being sent is written" (demand 3), and no address that is handed out reaches outside the lent buffer (demand 1): over every list of calls
--- from an accepted start-up on
-use mathlib.Core.Bool.{Bool, true, false, cond, true≢false}
+-- "No slot being sent is written" (demand 3), and no address that is handed out reaches outside the lent buffer (demand 1), after one call; the premise
+-- of FrontPage.antt is the one of Agree.antt
+use mathlib.Core.Bool.{Bool, true, false, not, cond, true≢false}
 use mathlib.Core.List.{List, [], _∷_}
 use mathlib.Core.Path.{_≡_, refl, ap, sym, _∙_}
 use Prim.Native.Nat.{ℕ, zero, _%_}
 use native.Mathlib.Omega.{arith}
+use lib.Dec.{eqb}
+use lib.ListN.{length}
 use Rattle.bits.specs.Bit.{isSet}
 use Rattle.regs.specs.declared.Access.{Access}
 use Rattle.regs.specs.declared.Access.the-variants.{Read, Write, Receive, Transmit, Ep0Dma, Wait, Callback}
@@ -16,20 +18,18 @@ use Rattle.ring.specs.Slot.{countOf}
 use Rattle.script.specs.Alike.{Phase}
 use Rattle.script.specs.Statics.{isOn}
 use Rattle.script.specs.Answers.{Answer}
-use Rattle.script.specs.Calls.{Config, Op, calls, startRow}
-use Rattle.script.specs.Machine.{Buf, Call, start, begin, go, question, misfit, Event, Machine, Ans, ended, handed, told, fed, started}
-use Rattle.script.specs.Agree.{After, All, GoodA, Lawful, Lent, unless}
+use Rattle.script.specs.Calls.{Config, Op, calls}
+use Rattle.script.specs.Machine.{Buf, Call, start, begin, go, question, misfit, Machine, Ans, ended, handed, told}
+use Rattle.script.specs.Agree.{After, GoodA, Lent, unless}
 use Rattle.way.specs.Under.{driverOf}
 use Rattle.book.specs.Pages.{InPage, Pages}
 use Rattle.book.specs.Book.{some, emptyIn, passedIn, sentIn, sourceTold, placedIn, loadedIn, queuedIn, book}
 use Rattle.book.specs.Rest.{Shape, Used, Rest, Good, Chip}
 use Rattle.book.specs.Frame.{sending-count}
 use Rattle.book.specs.Chips.{chip}
-use Rattle.book.specs.Allocations.{fresh-kept}
 use Rattle.book.specs.Agrees.{agree}
-use Rattle.book.specs.Demand3.{demand3}
-use Rattle.book.specs.Slots.{slotSize, Unwritten, LiesIn, Inside, Slots, LentAsLeft, Premise, AfterEach}
-use Rattle.book.specs.Slots as slots
+use Rattle.book.specs.FrontPage.{slotSize, Unwritten, LiesIn, Inside, LentAsLeft}
+use Rattle.book.specs.FrontPage as page
 
 module _ {φ : Phase} {b : Buf} {d : Driver} {t : Pages} (R : Rest φ b d t) where
   -- an endpoint on which some wait is isochronous, and so allocated: its slots are of the buffers' size
@@ -91,37 +91,28 @@ inside-after (handed q) b t g = inside-of q b t g
 inside-after (told n) b t g = tt
 
 -- after one call
-pub slots-after : {x : Ans Answer × Machine Answer Driver} {y : Ans Answer × Machine Answer Pages} → After driverOf book agree calls x y → Slots (x .0) (x .1 .buf) (y .1 .st)
-slots-after {x} {y} a = record {
-  sent = λ b′ c. unwritten (chip (x .1 .buf) b′ (a .phase) (x .1 .st) (y .1 .st) (a .rest) c);
-  inside = inside-after (x .0) (x .1 .buf) (y .1 .st) (a .good);
-}
+module _ {x : Ans Answer × Machine Answer Driver} {y : Ans Answer × Machine Answer Pages} (a : After driverOf book agree calls x y) where
+  pub kept-unwritten : (b′ : Buf) → Chip (y .1 .st) (x .1 .buf) b′ → Unwritten (y .1 .st) b′
+  kept-unwritten b′ c = unwritten (chip (x .1 .buf) b′ (a .phase) (x .1 .st) (y .1 .st) (a .rest) c)
 
-each : (es : List (Event Config Op)) (m : Machine Answer Driver) (n : Machine Answer Pages) → All driverOf book agree calls fresh-kept es m n → AfterEach Slots es m n
-each [] m n a = tt
-each (e ∷ es) m n a = (slots-after (a .0), each es _ _ (a .1))
+  pub lies-inside : Inside (x .0) (x .1 .buf) (y .1 .st)
+  lies-inside = inside-after (x .0) (x .1 .buf) (y .1 .st) (a .good)
 
--- the premise is demand3's
-lent-as : (g : Bool) (X : Type 0) → slots.unless g X → unless driverOf book agree calls g X
-lent-as true X p = tt
-lent-as false X p = p
+-- the premise is demand3's: row 1 goes by the same length
+module _ {φ : Phase} (m : Machine Answer Driver) (n : Machine Answer Pages) (R : Rest φ (m .buf) (m .st) (n .st)) (b : Buf) where
+  lent-as : (f : Bool → Bool) → page.unless (f (misfit calls (book .driver) (n .st) b)) (Chip (n .st) (m .buf) b)
+      → unless driverOf book agree calls (f (misfit calls driverOf (m .st) b)) (Chip (n .st) (m .buf) b)
+  lent-as f p = by (f (misfit calls driverOf (m .st) b)) (rw (← same) at p)
+    where
+      same : misfit calls driverOf (m .st) b ≡ misfit calls (book .driver) (n .st) b
+      same = ap (λ (k : ℕ). not (eqb (length b) k)) (agree .size φ (m .buf) (m .st) (n .st) R)
 
-lent-is : (c : Call Config Op) (m : Machine Answer Driver) (n : Machine Answer Pages) (b : Buf) → LentAsLeft c m n b → Lent driverOf book agree calls c m n b
-lent-is (start c) m n b p = tt
-lent-is (begin o) m n b p = lent-as (cond (calls .slots o) (misfit calls driverOf (m .st) b) false) (Chip (n .st) (m .buf) b) p
-lent-is (go v) m n b p = lent-as (misfit calls driverOf (m .st) b) (Chip (n .st) (m .buf) b) p
-lent-is (question q) m n b p = p
+      by : (u : Bool) → page.unless u (Chip (n .st) (m .buf) b) → unless driverOf book agree calls u (Chip (n .st) (m .buf) b)
+      by true p = tt
+      by false p = p
 
-pub lawful : (es : List (Event Config Op)) (m : Machine Answer Driver) (n : Machine Answer Pages) → Premise es m n → Lawful driverOf book agree calls fresh-kept es m n
-lawful [] m n p = tt
-lawful (e ∷ es) m n p = (lent-is (e .call) m n (e .lent) (p .0), lawful es _ _ (p .1))
-
--- the first call is a start-up that rows 1 and 2 do not stop, on whatever was before; every later call is lent the slot buffer as the last one
--- left it, but for the chip's stores
-pub slots-kept : (c : Config) (b : Buf) → startRow c b ≡ zero → (es : List (Event Config Op)) (m : Machine Answer Driver) (n : Machine Answer Pages)
-    → let x = started calls driverOf (λ s. s) c zero m b in
-    let y = started calls (book .driver) (fed book (x .0)) c zero n b in
-    Premise es (x .1) (y .1) → Slots (x .0) (x .1 .buf) (y .1 .st) × AfterEach Slots es (x .1) (y .1)
-slots-kept c b row es m n p =
-    let z = demand3 c b row es m n (lawful es _ _ p) in
-    (slots-after (z .0), each es _ _ (z .1))
+  pub lent-is : (c : Call Config Op) → LentAsLeft c n (m .buf) b → Lent driverOf book agree calls c m n b
+  lent-is (start c) p = tt
+  lent-is (begin o) p = lent-as (λ u. cond (calls .slots o) u false) p
+  lent-is (go v) p = lent-as (λ u. u) p
+  lent-is (question q) p = p

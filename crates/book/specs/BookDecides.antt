@@ -1,0 +1,112 @@
+-- In an interrupt the book's OUT pages change at one access alone: a receive address, where an arrival is decided
+use mathlib.Core.Bool.{Bool, true, false, cond, true≢false}
+use mathlib.Core.List.{List, [], _∷_}
+use mathlib.Core.Path.{_≡_, refl, ap, subst, sym, _∙_}
+use Prim.Native.Nat.{ℕ, _%_, min}
+use Rattle.bits.specs.Bit.{isSet}
+use Rattle.regs.specs.declared.Access.{Access}
+use Rattle.regs.specs.declared.Access.the-variants.{Read, Write, Receive, Transmit, Ep0Dma, Wait, Callback}
+use Rattle.regs.specs.declared.Dir.the-variants.{Out}
+use Rattle.marks.specs.Copies.{bytesAt}
+use Rattle.script.specs.Tree as tree
+use Rattle.script.specs.Cells.{Cell, Val, globals-cell, control-cell, allocator-cell, ep-cell, request-cell, paced-cell}
+use Rattle.script.specs.Script.{Script, run, arrive}
+use Rattle.script.specs.Statics.{isoOuts}
+use Rattle.book.specs.Pages.{Packet, OutPage, Pages, withOut}
+use Rattle.book.specs.Book.{Bk, putB, receiving, arrived, packetB, handB, bookOps}
+use Rattle.book.specs.Frame.{out-same}
+use Rattle.book.specs.BookTracks.{Tracks, end, ask, earlier, tracks-bind}
+use Rattle.book.specs.InterruptParts.{Parts, p-ret, p-bind, p-test, p-read, p-write, p-wait, p-callback, p-get, p-put, p-is, p-look, p-fetch, p-complete, p-no-wakes, p-waken, p-arrive, p-send}
+
+abbrev pub Any : Pages → Type 0
+Any t = Unit {0}
+
+-- the OUT pages, the enabled isochronous OUT endpoints and the lent bytes stay
+pub record Idle (s t : Bk) : Type 0 where
+  pub outs : (e : ℕ) → t .0 .outs e ≡ s .0 .outs e
+  pub sets : isoOuts (t .0 .kept .globals) ≡ isoOuts (s .0 .kept .globals)
+  pub bytes : t .1 ≡ s .1
+
+-- at a receive address: the endpoint's page with a packet that has arrived, with its slot's bytes
+abbrev pub Arrives : Bk → Access → Bk → Type 0
+Arrives s q t = (e x : ℕ) → q ≡ Receive e x → receiving (s .0) e ≡ true
+    → (n : ℕ) × (k : Packet) × (k .bytes ≡ bytesAt (s .1) (s .0 .outs e .slot) n) × (t .0 .outs e ≡ arrived (s .0 .outs e) k)
+
+idle-then : (s t u : Bk) → Idle s t → Idle t u → Idle s u
+idle-then s t u h k = record { outs = λ e. k .outs e ∙ h .outs e; sets = k .sets ∙ h .sets; bytes = k .bytes ∙ h .bytes }
+
+arrives-then : (s t u : Bk) (q : Access) → Idle s t → Arrives t q u → Arrives s q u
+arrives-then s t u q h k e x a r =
+    let z = k e x a (ap (λ (n : ℕ). isSet n (e % 16)) (h .sets) ∙ r) in (
+      z .0,
+      z .1,
+      z .2 ∙ ap (λ (b : List ℕ). bytesAt b (t .0 .outs e .slot) (z .0)) (h .bytes) ∙ ap (λ (p : OutPage). bytesAt (s .1) (p .slot) (z .0)) (h .outs e),
+      z .3 ∙ ap (λ (p : OutPage). arrived p (z .1)) (h .outs e),
+    )
+
+idle : {s : Bk} → Idle s s
+idle = record { outs = λ e. refl; sets = refl; bytes = refl }
+
+abbrev isReceive : Access → Bool
+isReceive (Read r e) = false
+isReceive (Write r e v) = false
+isReceive (Receive e x) = true
+isReceive (Transmit e x) = false
+isReceive (Ep0Dma x) = false
+isReceive (Wait n) = false
+isReceive Callback = false
+
+abbrev numberIn : Access → ℕ
+numberIn (Read r e) = 0
+numberIn (Write r e v) = 0
+numberIn (Receive e x) = e
+numberIn (Transmit e x) = 0
+numberIn (Ep0Dma x) = 0
+numberIn (Wait n) = 0
+numberIn Callback = 0
+
+no-receive : {X : Type 0} {q : Access} {e x : ℕ} → isReceive q ≡ false → q ≡ Receive e x → X
+no-receive h a = absurd (true≢false (sym (ap isReceive a) ∙ h))
+
+puts : (c : Cell) (v : Val c) (s : Bk) → Idle s (putB c v s)
+unfolding isoOuts
+puts globals-cell v s = record { outs = λ e. refl; sets = refl; bytes = refl }
+puts control-cell v s = record { outs = λ e. refl; sets = refl; bytes = refl }
+puts allocator-cell v s = idle
+puts (ep-cell d e) v s = record { outs = λ e. refl; sets = refl; bytes = refl }
+puts (request-cell d e) v s = record { outs = λ e. refl; sets = refl; bytes = refl }
+puts (paced-cell e) v s = record { outs = λ e. refl; sets = refl; bytes = refl }
+
+arrives : (f n : ℕ) (s : Bk) → Arrives s (Receive f 0) (handB (arrive f n) s .1)
+arrives f n s e x a r = subst (λ (e : ℕ). receiving (s .0) e ≡ true → (m : ℕ) × (k : Packet) × (k .bytes ≡ bytesAt (s .1) (s .0 .outs e .slot) m) × (handB (arrive f n) s .1 .0 .outs e ≡ arrived (s .0 .outs e) k))
+    (ap numberIn a) (λ r. (min n (s .0 .kept .plain Out f .«max_len»), packetB f n s, refl, by (receiving (s .0) f) r)) r
+  where
+    by : (u : Bool) → u ≡ true → cond u (withOut (s .0) f (arrived (s .0 .outs f) (packetB f n s))) (s .0) .outs f ≡ arrived (s .0 .outs f) (packetB f n s)
+    by true h = out-same (s .0) f (arrived (s .0 .outs f) (packetB f n s))
+    by false h = absurd (true≢false (sym h))
+
+abbrev pub Watched : {A : Type 0} → Bk → tree.Out Bk A → Type 0
+Watched s o = Tracks Any Idle Arrives s o
+
+after : {A : Type 0} {s t : Bk} {o : tree.Out Bk A} → Idle s t → Watched t o → Watched s o
+after h w = earlier Any Idle Arrives idle-then arrives-then h w
+
+pub watch : {A : Type 0} {p : Script true A} → Parts A p → (s : Bk) → Watched s (run bookOps p s)
+watch p-ret s = end tt idle
+watch (p-bind h g) s = tracks-bind Any Idle Arrives idle-then arrives-then (watch h s) (λ a t _. watch (g a) t)
+watch (p-test {b = true} h g) s = watch h s
+watch (p-test {b = false} h g) s = watch g s
+watch (p-read h) s = ask tt (λ e x a r. no-receive refl a) (λ v t _. watch (h v) t)
+watch (p-write h) s = ask tt (λ e x a r. no-receive refl a) (λ v t _. watch h t)
+watch (p-wait h) s = ask tt (λ e x a r. no-receive refl a) (λ v t _. watch h t)
+watch (p-callback h) s = ask tt (λ e x a r. no-receive refl a) (λ v t _. watch h t)
+watch (p-get h) s = watch (h _) s
+watch (p-put {c = c} {v = v} e h) s = after (puts c v s) (watch h _)
+watch (p-is h) s = watch (h _) s
+watch (p-look h) s = watch (h _) s
+watch (p-fetch h) s = watch (h _) s
+watch (p-complete h) s = after (record { outs = λ e. refl; sets = refl; bytes = refl }) (watch h _)
+watch (p-no-wakes h) s = after (record { outs = λ e. refl; sets = refl; bytes = refl }) (watch h _)
+watch (p-waken h) s = after (record { outs = λ e. refl; sets = refl; bytes = refl }) (watch h _)
+watch (p-arrive {e = e} {n = n} h) s = ask tt (arrives e n s) (λ v t _. watch h t)
+watch (p-send h) s = ask tt (λ e x a r. no-receive refl a) (λ v t _. watch h t)

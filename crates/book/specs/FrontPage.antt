@@ -1,0 +1,223 @@
+-- Demand 3, to be read alone: what a list of calls is, what each call is lent, what document 01 compares after each call, and demand 3's own
+-- sentences. Definitions only. `demand-3` (FrontPageProved.antt) says that `AfterCall` holds after every call of every list that an accepted start-up
+-- begins. The calls are in script/specs/Calls.antt, the book in Book.antt over Pages.antt: what waits, was admitted, read, queued, sent
+use mathlib.Core.Bool.{Bool, true, false, cond}
+use mathlib.Core.List.{List, [], _∷_, _++_}
+use mathlib.Core.Logic.{_⊎_}
+use mathlib.Core.Path.{_≡_}
+use Prim.Native.Nat.{ℕ, zero, _+_, _%_, _^_, _≤_, _<_}
+use lib.ListN.{length, getD}
+use Rattle.regs.specs.declared.Access.{Access}
+use Rattle.regs.specs.declared.Access.the-variants.{Read, Write, Receive, Transmit, Ep0Dma, Wait, Callback}
+use Rattle.regs.specs.declared.Dir.{Dir}
+use Rattle.regs.specs.declared.Dir.the-variants.{Out, In}
+use Rattle.state.specs.Driver.{Driver, epOn, lenOn, stampOn}
+use Rattle.alloc.specs.Alloc.{allocatedIn}
+use Rattle.bits.specs.Bit.{isSet}
+use Rattle.fields.specs.Tables.{tab}
+use Rattle.state.specs.State.{view}
+use Rattle.ring.specs.Waiting.{waiting, Same}
+use Rattle.marks.specs.Copies.{bytesAt}
+use Rattle.script.specs.Answers.{Answer, Refused, Done, Shown, ok, isNumber}
+use Rattle.script.specs.Calls.{Config, Op, slotted, aside, PollRead, Open, Close, Queue, calls, startRow}
+use Rattle.script.specs.Machine.{Buf, Call, start, begin, go, question, overruns, Event, Ans, ended, handed, told, Way, idle, busy, Machine, misfit, fed, call, started}
+use Rattle.way.specs.Under.{drive, machineOf}
+use Rattle.book.specs.Pages.{Packet, bytesOf, stampsOf, OutPage, InPage, Pages}
+use Rattle.book.specs.Book.{isoOf, receiving, book}
+use Rattle.book.specs.Stamps.{stamped}
+
+-- ---- a list of calls
+
+-- a call that was made: the call and the slot buffer it was lent; its answer; the state's bytes and the slot buffer as it left them
+pub record Made : Type 0 where
+  pub event : Event Config Op
+  pub answer : Ans Answer
+  pub bytes : List ℕ
+  pub slots : Buf
+
+-- its contract, where the state's bytes were xs and the slot buffer a: it is one step of the machine of calls that the bytes are
+abbrev pub Did : List ℕ → Buf → Made → Type 0
+Did xs a m = (m .answer, machineOf (m .bytes) (m .slots)) ≡ drive (m .event .call) (machineOf xs a) (m .event .lent)
+
+-- the book's step: "fed the calls alone, with the readings and lent bytes they bring and the accesses they hand out"
+abbrev pub written : Ans Answer → Call Config Op → Machine Answer Pages → Buf → Ans Answer × Machine Answer Pages
+written a c n b = call calls (book .driver) (fed book a) c n b
+
+abbrev pub noted : Made → Machine Answer Pages → Ans Answer × Machine Answer Pages
+noted m n = written (m .answer) (m .event .call) n (m .event .lent)
+
+-- "A receive address counts from the call that hands it out": byte k lies outside of the slot of every OUT endpoint's last receive address in this
+-- run, and outside of EP0's buffer
+pub record Elsewhere (t : Pages) (k : ℕ) : Type 0 where
+  pub outs : (e : ℕ) → isSet (allocatedIn (t .kept .allocator) Out) (e % 16) ≡ true → (k < t .outs e .slot) ⊎ (t .outs e .slot + t .kept .allocator .size ≤ k)
+  pub ep0 : t .kept .globals .stage ≡ 2 → (k < t .kept .globals .«ep0_buf») ⊎ (t .kept .globals .«ep0_buf» + t .kept .allocator .size ≤ k)
+
+-- the chip's stores, from b to b′: all other bytes stay
+pub record Chip (t : Pages) (b b′ : Buf) : Type 0 where
+  pub long : length b′ ≡ length b
+  pub others : (k : ℕ) → Elsewhere t k → getD b′ k 0 ≡ getD b k 0
+
+-- "Each call gets … the slot buffer too, but for the chip's stores; a new run may bring another buffer, a call refused with 1 any other". Call c is lent
+-- b, where the last call left a
+abbrev pub unless : Bool → Type 0 → Type 0
+unless true X = Unit {0}
+unless false X = X
+
+abbrev pub LentAsLeft : Call Config Op → Machine Answer Pages → Buf → Buf → Type 0
+LentAsLeft (start c) n a b = Unit {0}
+LentAsLeft (begin o) n a b = unless (cond (calls .slots o) (misfit calls (book .driver) (n .st) b) false) (Chip (n .st) a b)
+LentAsLeft (go v) n a b = unless (misfit calls (book .driver) (n .st) b) (Chip (n .st) a b)
+LentAsLeft (question q) n a b = Chip (n .st) a b
+
+-- calls one after the other, from the state's bytes xs, the slot buffer a and the book n
+abbrev pub Calls : List ℕ → Buf → Machine Answer Pages → List Made → Type 0
+Calls xs a n [] = Unit {0}
+Calls xs a n (m ∷ ms) = Did xs a m × LentAsLeft (m .event .call) n a (m .event .lent) × Calls (m .bytes) (m .slots) (noted m n .1) ms
+
+-- ---- what is compared
+
+-- the recorded lengths of its slots
+abbrev pub lensOf : Driver → Dir → ℕ → List ℕ
+lensOf d dir e = tab 16 (λ i. lenOn d dir e i)
+
+-- the stamps of the slots of OUT e
+abbrev pub slotStamps : Driver → ℕ → List ℕ
+slotStamps d e = tab 16 (λ i. stampOn d e i)
+
+-- of OUT e: the bytes of the ring's slots, tail to head, each up to its recorded length; their stamps
+abbrev pub ringBytes : Driver → Buf → ℕ → List (List ℕ)
+ringBytes d b e = waiting b (epOn d Out e) (lensOf d Out e)
+
+abbrev pub ringStamps : Driver → ℕ → List ℕ
+ringStamps d e = stamped (epOn d Out e) (slotStamps d e)
+
+-- the first of those waiting is q, and the others wait after the call; q is read, and it alone
+pub record ReadsFirst (p p′ : OutPage) (q : Packet) : Type 0 where
+  pub first : p .waiting ≡ q ∷ p′ .waiting
+  pub read : p′ .read ≡ p .read ++ (q ∷ [])
+  pub admitted : p′ .admitted ≡ p .admitted
+
+-- where the transmit address x is a load's: the slot there holds the bytes of the first waiting
+abbrev pub Holds : InPage → Buf → ℕ → Type 0
+Holds p b x = (bytes : List ℕ) (rest : List (List ℕ)) → p .load ≡ true → p .waiting ≡ bytes ∷ rest → bytesAt b x (length bytes) ≡ bytes
+
+-- document 01, "Compared after each call". A call c, the book before it, its answer, the driver's state and the slot buffer after it, the book after it
+pub record Compared (c : Call Config Op) (t : Pages) (a : Ans Answer) (d : Driver) (b : Buf) (t′ : Pages) : Type 0 where
+  -- "the bytes of the OUT ring's slots, tail to head, each up to its recorded length, equal those waiting, in order", with their stamps
+  pub ring : (e : ℕ) → ringBytes d b e ≡ bytesOf (t′ .outs e .waiting)
+  pub stamps : (e : ℕ) → ringStamps d e ≡ stampsOf (t′ .outs e .waiting)
+  -- "open shows … the first", which is open then
+  pub open-shows : (e stamp : ℕ) (bytes : List ℕ) → c ≡ begin (aside (Open e)) → a ≡ ended (Shown bytes stamp)
+      → (q : Packet) × (rest : List Packet) × (t .outs e .waiting ≡ q ∷ rest) × (bytes ≡ q .bytes) × (stamp ≡ q .stamp) × (t′ .outs e .opened ≡ true)
+  -- "… and a read's poll gives the first", whole; it is read
+  pub poll-gives : (e n : ℕ) (bytes : List ℕ) → c ≡ begin (slotted (PollRead e n)) → a ≡ ended (Done bytes) → isoOf t Out e ≡ true
+      → (q : Packet) × (bytes ≡ q .bytes) × ReadsFirst (t .outs e) (t′ .outs e) q
+  -- "rows 12 and 14 go by the book": none waits; none is open. A close that is not refused reads the first
+  pub row-12 : (e : ℕ) → c ≡ begin (aside (Open e)) → a ≡ ended (Refused 12) → t .outs e .waiting ≡ []
+  pub row-14 : (e : ℕ) → c ≡ begin (aside (Close e)) → a ≡ ended (Refused 14) → t .outs e .opened ≡ false
+  pub close-reads : (e : ℕ) → c ≡ begin (aside (Close e)) → a ≡ ended ok → (t .outs e .opened ≡ true) × (q : Packet) × ReadsFirst (t .outs e) (t′ .outs e) q
+  -- "overruns answers the count modulo 2^32", 0 where the Rust does
+  pub overruns-answers : (e : ℕ) → c ≡ question (overruns e) → a ≡ told (cond (isNumber e) (cond (isoOf t Out e) (t .outs e .lost % 2 ^ 32) 0) 0)
+  -- "row 13 goes by the book": 2 wait. A queue that is not refused finds fewer, and its bytes wait, last
+  pub row-13 : (e : ℕ) (bytes : List ℕ) → c ≡ begin (aside (Queue e bytes)) → a ≡ ended (Refused 13) → length (t .ins e .waiting) ≡ 2
+  pub queue-joins : (e : ℕ) (bytes : List ℕ) → c ≡ begin (aside (Queue e bytes)) → a ≡ ended ok
+      → (length (t .ins e .waiting) < 2) × (t′ .ins e .waiting ≡ t .ins e .waiting ++ (bytes ∷ [])) × (t′ .ins e .queued ≡ t .ins e .queued ++ (bytes ∷ []))
+  -- "the slot whose address a load hands out holds the bytes of the first then waiting"
+  pub load-holds : (e x : ℕ) → a ≡ handed (Transmit e x) → Holds (t′ .ins e) b x
+
+-- ---- demand 3's own sentences
+
+-- "An arrival is decided in the call that hands out the receive address": one that goes on with an interrupt, of an enabled isochronous OUT
+abbrev pub inInterrupt : Way Answer Pages → Bool
+inInterrupt idle = false
+inInterrupt (busy i a k) = i
+
+pub record Decides (c : Call Config Op) (n : Machine Answer Pages) (a : Ans Answer) (e : ℕ) : Type 0 where
+  pub brought : ℕ
+  pub address : ℕ
+  pub continues : c ≡ go brought
+  pub interrupt : inInterrupt (n .way) ≡ true
+  pub enabled : receiving (n .st) e ≡ true
+  pub hands : a ≡ handed (Receive e address)
+
+-- "it joins those waiting, last, with its slot's bytes in that call up to its length; with 15 waiting it is turned away and the endpoint's count
+-- rises": the one or the other, by whether 15 wait
+pub data Decided (lent : Buf) (p p′ : OutPage) : Type 0 where
+  admitted : (q : Packet) → length (p .waiting) < 15 → q .bytes ≡ bytesAt lent (p .slot) (length (q .bytes)) → p′ .waiting ≡ p .waiting ++ (q ∷ [])
+      → p′ .admitted ≡ p .admitted ++ (q ∷ []) → p′ .read ≡ p .read → p′ .lost ≡ p .lost → Decided lent p p′
+  turned-away : length (p .waiting) ≡ 15 → p′ .waiting ≡ p .waiting → p′ .admitted ≡ p .admitted → p′ .read ≡ p .read → p′ .lost ≡ p .lost + 1
+      → Decided lent p p′
+
+-- the count of those turned away rises in no other call, and an accepted start-up alone takes it back, to 0
+pub data Counted (c : Call Config Op) (lent : Buf) (a : Ans Answer) (e : ℕ) (p p′ : OutPage) : Type 0 where
+  same : p′ .lost ≡ p .lost → Counted c lent a e p p′
+  one-more : (f x : ℕ) → f % 16 ≡ e % 16 → a ≡ handed (Receive f x) → length (p′ .waiting) ≡ 15 → p′ .lost ≡ p .lost + 1 → Counted c lent a e p p′
+  none : (g : Config) → c ≡ start g → startRow g lent ≡ zero → p′ .lost ≡ 0 → Counted c lent a e p p′
+
+-- the length of a slot
+abbrev pub slotSize : Pages → ℕ
+slotSize t = t .kept .allocator .size
+
+-- the first of those waiting on IN e is being sent: from the call that hands out its slot's transmit address on, up to the one in which the tail
+-- passes it, its endpoint is reset or given by an allocation, or a start-up is accepted (Book: sentIn; passedIn, emptyIn, freshPages)
+abbrev pub BeingSent : Pages → ℕ → Type 0
+BeingSent t e = t .ins e .sending ≡ true
+
+-- all bytes of the slot at that address are in b as they stood when it was handed out
+abbrev pub Unwritten : Pages → Buf → Type 0
+Unwritten t b = (e : ℕ) → BeingSent t e → Same (t .ins e .source) (t .ins e .source + slotSize t) (t .ins e .shown) b
+
+-- an address that is handed out has a slot's length of lent bytes from it on
+abbrev pub LiesIn : Access → Buf → Pages → Type 0
+LiesIn (Read r e) b t = Unit {0}
+LiesIn (Write r e v) b t = Unit {0}
+LiesIn (Receive e x) b t = x + slotSize t ≤ length b
+LiesIn (Transmit e x) b t = x + slotSize t ≤ length b
+LiesIn (Ep0Dma x) b t = x + slotSize t ≤ length b
+LiesIn (Wait n) b t = Unit {0}
+LiesIn Callback b t = Unit {0}
+
+abbrev pub Inside : Ans Answer → Buf → Pages → Type 0
+Inside (ended a) b t = Unit {0}
+Inside (handed q) b t = LiesIn q b t
+Inside (told n) b t = Unit {0}
+
+-- a call c, lent a slot buffer; the book before it; its answer, the driver's state, the slot buffer and the book after it
+pub record Sentences (c : Call Config Op) (lent : Buf) (n : Machine Answer Pages) (a : Ans Answer) (d : Driver) (b : Buf) (t′ : Pages) : Type 0 where
+  -- "the packets read in its stretch, then those queued, are exactly that stretch's admitted arrivals, in order": bytes and stamps as at admission
+  pub read-then-waiting : (e : ℕ) → bytesOf (t′ .outs e .read) ++ ringBytes d b e ≡ bytesOf (t′ .outs e .admitted)
+  pub read-then-stamps : (e : ℕ) → stampsOf (t′ .outs e .read) ++ ringStamps d e ≡ stampsOf (t′ .outs e .admitted)
+  -- "At most 15 wait"
+  pub at-most-15 : (e : ℕ) → length (ringBytes d b e) ≤ 15
+  -- an open packet is the first of them
+  pub open-waits : (e : ℕ) → t′ .outs e .opened ≡ true → 0 < length (ringBytes d b e)
+  -- "an arrival is turned away exactly when 15 do"
+  pub decided : (e : ℕ) → Decides c n a e → Decided lent (n .st .outs e) (t′ .outs e)
+  -- "overruns": the count of Compared is that of the arrivals turned away since the start-up
+  pub counted : (e : ℕ) → Counted c lent a e (n .st .outs e) (t′ .outs e)
+  -- IN: "at most 2 wait"
+  pub at-most-2 : (e : ℕ) → length (t′ .ins e .waiting) ≤ 2
+  -- "each reaches the chip at most once and in order": those handed to the chip are a beginning of those queued
+  pub sent-in-order : (e : ℕ) → (later : List (List ℕ)) × (t′ .ins e .sent ++ later ≡ t′ .ins e .queued)
+  -- "no slot being sent is written", whatever the chip stores, where it may, before the next call
+  pub unwritten : (b′ : Buf) → Chip t′ b b′ → Unwritten t′ b′
+  -- demand 1: no address that is handed out reaches outside the lent buffer
+  pub inside : Inside a b t′
+
+pub record AfterCall (c : Call Config Op) (lent : Buf) (n : Machine Answer Pages) (a : Ans Answer) (d : Driver) (b : Buf) (t′ : Pages) : Type 0 where
+  pub compared : Compared c (n .st) a d b t′
+  pub sentences : Sentences c lent n a d b t′
+
+-- ---- the statement
+
+-- of each call of a list that was made, with the book before it
+abbrev pub AfterEach : Machine Answer Pages → List Made → Type 0
+AfterEach n [] = Unit {0}
+AfterEach n (m ∷ ms) =
+    AfterCall (m .event .call) (m .event .lent) n (m .answer) (view (m .bytes)) (m .slots) (noted m n .1 .st) × AfterEach (noted m n .1) ms
+
+-- the state's bytes xs, the slot buffer a and the book n may be any. The first call is a start-up that rows 1 and 2 do not stop, and any calls
+-- follow: refused ones and start-ups too, ending anywhere, whatever the chip answers
+abbrev pub Demand3 : Type 0
+Demand3 = (c : Config) (b : Buf) → startRow c b ≡ zero → (xs : List ℕ) (a : Buf) (n : Machine Answer Pages) (first : Made)
+    → first .event ≡ record { call = start c; lent = b } → (ms : List Made) → Calls xs a n (first ∷ ms) → AfterEach n (first ∷ ms)
