@@ -194,8 +194,11 @@ module _ (c : Channel) where
   Alone (start k) b r = ⊥
   Alone (question q) b r = ⊥
 
-  -- "They line up by the accesses not made for it, between which the others get the same calls and stores in the same order": a call or a
-  -- store of both falls where both stand at an access of the channel's own or neither does, a continue of both where neither does
+  -- What is allowed. "They line up by the accesses not made for it, between which the others get the same calls and stores in the same order":
+  -- a call, a question or a store of both where both stand at an access of the channel's own or neither does; a continue of both where neither does, with
+  -- the same readings but for the channel's lengths. Both may be refused with 1 or 16. One alone: continues of an access of the channel's own, refused ones
+  -- too; the channel's opens, closes and read's polls; stores in the channel's slots. Not allowed: a call of the others where one stands at an access of
+  -- the channel's own and the other does not; a start-up (it begins a new session)
   abbrev pub May : Turn → Two → Type 0
   May (begins st o b b′) w = (atOwn (w .first) ≡ atOwn (w .second)) × Common (c .number) o × Timely (w .first .machine .way) o × BothCall o (w .first) (w .second) b b′
   May (goes v v′ b b′) w = (atOwn (w .first) ≡ false) × (atOwn (w .second) ≡ false) × BothGo (w .status) v v′ (w .first) (w .second) b b′

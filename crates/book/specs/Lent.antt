@@ -28,7 +28,7 @@ granted : (g : Bool) {X : Type 0} → X → unless driverOf book agree calls g X
 granted true x = tt
 granted false x = x
 
-lent : (c : Call Config Op) (m : Machine Answer Driver) (n : Machine Answer Pages) → Lent driverOf book agree calls c m n (m .buf)
+pub lent : (c : Call Config Op) (m : Machine Answer Driver) (n : Machine Answer Pages) → Lent driverOf book agree calls c m n (m .buf)
 lent (start c) m n = tt
 lent (begin o) m n = granted (cond (calls .slots o) (misfit calls driverOf (m .st) (m .buf)) false) (no-store (n .st) (m .buf))
 lent (go v) m n = granted (misfit calls driverOf (m .st) (m .buf)) (no-store (n .st) (m .buf))

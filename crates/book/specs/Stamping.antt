@@ -5,19 +5,14 @@ use mathlib.Core.List.{List, [], _∷_, _++_}
 use mathlib.Core.Path.{_≡_}
 use Prim.Native.Nat.{ℕ, suc}
 use lib.ListN.{length}
-use Rattle.regs.specs.declared.Dir.the-variants.{Out}
 use Rattle.frame.specs.Usb20.{indexOf}
-use Rattle.state.specs.Driver.{Driver, epOn}
+use Rattle.state.specs.Driver.{Driver}
+use Rattle.state.specs.State.{view}
 use Rattle.script.specs.Answers.{Answer}
 use Rattle.script.specs.Calls.{Config, Op}
-use Rattle.script.specs.Machine.{Call, start, begin, go, question, Event, Ans, ended, handed, told, Way, idle, busy, Machine}
-use Rattle.book.specs.Stamps.{stamped}
-use Rattle.book.specs.Rest.{slotStamps}
-use Rattle.book.specs.Slots.{made}
-
--- the stamps of the packets that wait on OUT e, first to last
-abbrev pub stampsIn : Driver → ℕ → List ℕ
-stampsIn d e = stamped (epOn d Out e) (slotStamps d e)
+use Rattle.script.specs.Machine.{Buf, Call, start, begin, go, question, Event, Ans, ended, handed, told, Way, idle, busy, Machine}
+use Rattle.way.specs.Under.{drive, machineOf}
+use Rattle.book.specs.FrontPage.{Made, ringStamps}
 
 -- ---- "that reading": the number that the first continue of the operation under way brought
 
@@ -51,7 +46,7 @@ Index (brought v) x = x ≡ indexOf v
 -- ---- where a continue of an interrupt leaves one packet more, its stamp is that index, and those of the others are as they were
 
 abbrev pub OneMore : First → Driver → Driver → Type 0
-OneMore f d d′ = (e : ℕ) → length (stampsIn d′ e) ≡ suc (length (stampsIn d e)) → (x : ℕ) × Index f x × (stampsIn d′ e ≡ stampsIn d e ++ (x ∷ []))
+OneMore f d d′ = (e : ℕ) → length (ringStamps d′ e) ≡ suc (length (ringStamps d e)) → (x : ℕ) × Index f x × (ringStamps d′ e ≡ ringStamps d e ++ (x ∷ []))
 
 -- of one call: what was under way, the reading as it is after the call, the driver's state before and after it
 abbrev pub Stamping : Call Config Op → Way Answer Driver → First → Driver → Driver → Type 0
@@ -66,6 +61,13 @@ Stamping (go v) (busy true a k) f d d′ = OneMore f d d′
 abbrev pub StampsEach : List (Event Config Op) → Machine Answer Driver → First → Type 0
 StampsEach [] m f = Unit {0}
 StampsEach (e ∷ es) m f =
-    let x = made (e .call) m (e .lent) in
+    let x = drive (e .call) m (e .lent) in
     let g = noticed (e .call) (x .0) f in
     Stamping (e .call) (m .way) g (m .st) (x .1 .st) × StampsEach es (x .1) g
+
+-- of each call made by the code: the state's bytes and the slot buffer before it, and what the first continue brought
+abbrev pub StampsMade : List ℕ → Buf → First → List Made → Type 0
+StampsMade xs a f [] = Unit {0}
+StampsMade xs a f (m ∷ ms) =
+    let g = noticed (m .event .call) (m .answer) f in
+    Stamping (m .event .call) (machineOf xs a .way) g (view xs) (view (m .bytes)) × StampsMade (m .bytes) (m .slots) g ms

@@ -25,23 +25,23 @@ use Rattle.script.specs.Answers.{Answer, Refused, resultless}
 use Rattle.script.specs.Calls.{Config, Op, interrupt, slotted, other, aside, Aside, asideCode, code, irq, calls, startRow, starting, interruptCode}
 use Rattle.script.specs.Handler.{onInterrupt, stampedInterrupt}
 use Rattle.script.specs.Machine.{Buf, Call, start, begin, go, question, Event, Ans, ended, handed, told, Awaits, awaited, Way, idle, busy, Machine, fed, blankA, over, misfit, stay, lentTo, beside, halt, begun, continued, started}
-use Rattle.script.specs.Agree.{Ways, both-idle, both-busy, After, Lawful, agrees, from-start}
+use Rattle.script.specs.Agree.{Ways, both-idle, both-busy, After, agrees, from-start}
 use Rattle.ops.specs.Rings.{St}
 use Rattle.ops.specs.Conc.{conc}
 use Rattle.state.specs.State.{view}
-use Rattle.way.specs.Under.{driverOf, machineOf}
+use Rattle.way.specs.Under.{driverOf, drive, machineOf}
 use Rattle.book.specs.Pages.{Packet, stampsOf, OutPage, Pages, withOut}
 use Rattle.book.specs.Stamps.{stamped}
 use Rattle.book.specs.Book.{Bk, joined, turnedAway, arrived, packetB, slotTold, getB, putB, actB, handB, arriveB, receiving, feedB, bookOps, book}
 use Rattle.book.specs.Rest.{Rest}
 use Rattle.book.specs.Allocations.{fresh-kept}
 use Rattle.book.specs.Agrees.{agree}
-use Rattle.book.specs.Code.{Made, Did, Run, code-demand3}
-use Rattle.book.specs.Slots.{made, written, Premise}
-use Rattle.book.specs.SlotsKept.{lawful}
+use Rattle.book.specs.FrontPage.{Made, Did, written, Calls, ringStamps}
+use Rattle.book.specs.MachineRuns.{Premise}
+use Rattle.book.specs.SlotsKept.{lent-is}
 use Rattle.book.specs.Keeping.{Throughout, at-end, at-ask, Says, Gives, Keeps, calm, At, keeps-run}
 use Rattle.book.specs.Entered.{of-interrupt, of-aside}
-use Rattle.book.specs.Stamping.{stampsIn, First, not-yet, brought, firstOf, noticed, Index, OneMore, Stamping, StampsEach}
+use Rattle.book.specs.Stamping.{First, not-yet, brought, firstOf, noticed, Index, OneMore, Stamping, StampsEach, StampsMade}
 
 -- ---- the book, from a call's beginning to its next access or its end
 
@@ -260,7 +260,7 @@ fed-entered (handed Callback) t = refl
 
 -- ---- the driver's stamps are the book's
 
-stamps-mod : (d : Driver) (e f : ℕ) → e % 16 ≡ f % 16 → stampsIn d e ≡ stampsIn d f
+stamps-mod : (d : Driver) (e f : ℕ) → e % 16 ≡ f % 16 → ringStamps d e ≡ ringStamps d f
 unfolding epOn key stampOn stampKey
 stamps-mod d e f h = ap (λ j. stamped (getD (d .eps) j noEp) (tab 16 (λ i. getD (d .stamps) (j * 16 + i % 16) 0))) h
 
@@ -274,12 +274,12 @@ kept-of R h c = record { entered = sym (ap (λ (g : Globals). g .entered) (R .sa
 one-more : {φ ψ : Phase} {b c : Buf} {d d′ : Driver} {t t′ : Pages} (w : ℕ) → Rest φ b d t → Rest ψ c d′ t′ → Joins (indexOf w) t t′ → OneMore (brought w) d d′
 one-more {d = d} {d′ = d′} {t = t} {t′ = t′} w R R′ j e h =
     ⊎-elim
-    (λ p. absurd (let z : length (stampsIn d′ e) ≡ length (stampsIn d e) = ap length (R′ .outs e .stamps ∙ p ∙ sym (R .outs e .stamps)) in omega (arith, z, h)))
+    (λ p. absurd (let z : length (ringStamps d′ e) ≡ length (ringStamps d e) = ap length (R′ .outs e .stamps ∙ p ∙ sym (R .outs e .stamps)) in omega (arith, z, h)))
     (λ p. (indexOf w, refl, R′ .outs e .stamps ∙ p ∙ ap (λ (l : List ℕ). l ++ (indexOf w ∷ [])) (sym (R .outs e .stamps))))
     (j e)
 
 none-more : {φ ψ : Phase} {b c : Buf} {d d′ : Driver} {t t′ : Pages} (f : First) → Rest φ b d t → Rest ψ c d′ t′ → Stays t t′ → OneMore f d d′
-none-more {d = d} {d′ = d′} f R R′ s e h = absurd (let z : length (stampsIn d′ e) ≡ length (stampsIn d e) = ap length (R′ .outs e .stamps ∙ s e ∙ sym (R .outs e .stamps)) in omega (arith, z, h))
+none-more {d = d} {d′ = d′} f R R′ s e h = absurd (let z : length (ringStamps d′ e) ≡ length (ringStamps d e) = ap length (R′ .outs e .stamps ∙ s e ∙ sym (R .outs e .stamps)) in omega (arith, z, h))
 
 -- ---- one call
 
@@ -320,7 +320,7 @@ module _ (a : Awaits) (k : ℕ → St → tree.Out St Answer) (d : Driver) (c b 
   abbrev serving : Machine Answer Driver
   serving = record { way = busy true a k; st = d; buf = c }
 
-  begin-entered : (o : Op) → made (begin o) serving b .1 .st .globals .entered ≡ d .globals .entered
+  begin-entered : (o : Op) → drive (begin o) serving b .1 .st .globals .entered ≡ d .globals .entered
   begin-entered o = by (cond (calls .slots o) (misfit calls driverOf d b) false) o
     where
       by : (g : Bool) (o : Op) → cond g (stay calls driverOf 1 serving) (begun calls driverOf (λ s. s) o serving (busy true a k) b) .1 .st .globals .entered ≡ d .globals .entered
@@ -443,31 +443,31 @@ record Step (c : Call Config Op) (w : Way Answer Driver) (d : Driver) (f : First
 
 -- told by the book's answer
 step : (c : Call Config Op) (b : Buf) {φ : Phase} (w : Way Answer Driver) (d : Driver) (a : Buf) (w′ : Way Answer Pages) (t : Pages) (a′ : Buf) (f : First) → Ways driverOf book agree calls φ w w′ → Rest φ a d t → Serves f w′ d
-    → let x = made c (record { way = w; st = d; buf = a }) b in
+    → let x = drive c (record { way = w; st = d; buf = a }) b in
     let y = written (x .0) c (record { way = w′; st = t; buf = a′ }) b in
     After driverOf book agree calls x y → Step c w d (noticed c (y .0) f) x y
 step (start c) b w d a w′ t a′ f v R h k =
-    record { serves = start-serves (made (start c) (record { way = w; st = d; buf = a }) b .0) f t d c b (record { way = w; st = d; buf = a }) (record { way = w′; st = t; buf = a′ }) h (startRow c b); stamps = tt }
+    record { serves = start-serves (drive (start c) (record { way = w; st = d; buf = a }) b .0) f t d c b (record { way = w; st = d; buf = a }) (record { way = w′; st = t; buf = a′ }) h (startRow c b); stamps = tt }
 step (begin o) b idle d a idle t a′ f both-idle R h k =
-    let x = made (begin o) (record { way = idle; st = d; buf = a }) b in
+    let x = drive (begin o) (record { way = idle; st = d; buf = a }) b in
     record { serves = begin-idle (x .0) f t (x .1 .st) o a′ b; stamps = tt }
 step (begin o) b (busy false q j) d a (busy false q′ j′) t a′ f (both-busy i z p g) R h k =
-    let x = made (begin o) (record { way = busy false q j; st = d; buf = a }) b in
+    let x = drive (begin o) (record { way = busy false q j; st = d; buf = a }) b in
     let y = written (x .0) (begin o) (record { way = busy false q j′; st = t; buf = a′ }) b in
     record { serves = begin-late (x .0) f t (x .1 .st) o q j′ a′ b (noticed (begin o) (y .0) f); stamps = tt }
 step (begin o) b (busy true q j) d a (busy true q′ j′) t a′ f (both-busy i z p g) R h k =
-    let x = made (begin o) (record { way = busy true q j; st = d; buf = a }) b in
+    let x = drive (begin o) (record { way = busy true q j; st = d; buf = a }) b in
     record { serves = begin-serves (x .0) f q j′ t a′ b (x .1 .st) (serves-on f (busy true q j′) d (x .1 .st) (begin-entered q j d a b o) h) o; stamps = tt }
 step (go v) b idle d a idle t a′ f both-idle R h k =
-    let x = made (go v) (record { way = idle; st = d; buf = a }) b in
+    let x = drive (go v) (record { way = idle; st = d; buf = a }) b in
     let y = written (x .0) (go v) (record { way = idle; st = t; buf = a′ }) b in
     record { serves = go-idle (x .0) f t (x .1 .st) v a′ b (noticed (go v) (y .0) f); stamps = tt }
 step (go v) b (busy false q j) d a (busy false q′ j′) t a′ f (both-busy i z p g) R h k =
-    let x = made (go v) (record { way = busy false q j; st = d; buf = a }) b in
+    let x = drive (go v) (record { way = busy false q j; st = d; buf = a }) b in
     let y = written (x .0) (go v) (record { way = busy false q j′; st = t; buf = a′ }) b in
     record { serves = go-plain (x .0) f t (x .1 .st) v q j′ a′ b (noticed (go v) (y .0) f); stamps = tt }
 step (go v) b (busy true q j) d a (busy true q′ j′) t a′ f (both-busy i z p g) R h k =
-    let x = made (go v) (record { way = busy true q j; st = d; buf = a }) b in
+    let x = drive (go v) (record { way = busy true q j; st = d; buf = a }) b in
     let u = go-serves R b (x .0) v f q j′ h a′ (k .rest) in
     record { serves = u .serves; stamps = u .more }
 step (question q) b w d a w′ t a′ f v R h k = record { serves = h; stamps = tt }
@@ -475,20 +475,20 @@ step (question q) b w d a w′ t a′ f v R h k = record { serves = h; stamps = 
 -- ---- every list of calls
 
 one : (c : Call Config Op) (b : Buf) {φ : Phase} (m : Machine Answer Driver) (n : Machine Answer Pages) (f : First) → Ways driverOf book agree calls φ (m .way) (n .way) → Rest φ (m .buf) (m .st) (n .st) → Serves f (n .way) (m .st)
-    → let x = made c m b in
+    → let x = drive c m b in
     let y = written (x .0) c n b in
     After driverOf book agree calls x y → Step c (m .way) (m .st) (noticed c (x .0) f) x y
 one c b m n f w R h k =
-    let x = made c m b in
+    let x = drive c m b in
     let y = written (x .0) c n b in
     subst (λ g. Step c (m .way) (m .st) g x y) (noticed-blank c (y .0) f ∙ ap (λ z. noticed c z f) (sym (k .same)) ∙ sym (noticed-blank c (x .0) f))
     (step c b (m .way) (m .st) (m .buf) (n .way) (n .st) (n .buf) f w R h k)
 
 each : (es : List (Event Config Op)) {φ : Phase} (m : Machine Answer Driver) (n : Machine Answer Pages) (f : First) → Ways driverOf book agree calls φ (m .way) (n .way) → Rest φ (m .buf) (m .st) (n .st) → Serves f (n .way) (m .st)
-    → Lawful driverOf book agree calls fresh-kept es m n → StampsEach es m f
+    → Premise es m n → StampsEach es m f
 each [] m n f w R h l = tt
 each (e ∷ es) m n f w R h l =
-    let a = agrees driverOf book agree calls fresh-kept (e .call) (e .lent) m n w R (l .0) in
+    let a = agrees driverOf book agree calls fresh-kept (e .call) (e .lent) m n w R (lent-is m n R (e .lent) (e .call) (l .0)) in
     let z = one (e .call) (e .lent) m n f w R h a in
     (z .stamps, each es _ _ _ (a .ways) (a .rest) (z .serves) (l .1))
 
@@ -500,32 +500,29 @@ pub stamps-each : (c : Config) (b : Buf) → startRow c b ≡ zero → (es : Lis
     Premise es (x .1) (y .1) → StampsEach es (x .1) not-yet
 stamps-each c b row es m n p =
     let a = from-start driverOf book agree calls fresh-kept c b row [] m n tt .0 in
-    each es _ _ not-yet (a .ways) (a .rest) tt (lawful es _ _ p)
+    each es _ _ not-yet (a .ways) (a .rest) tt p
 
 -- ---- of the code
 
--- of each call made: the state's bytes and the slot buffer before it, and what the first continue brought
-abbrev pub StampsMade : List ℕ → Buf → First → List Made → Type 0
-StampsMade xs a f [] = Unit {0}
-StampsMade xs a f (m ∷ ms) =
-    let g = noticed (m .event .call) (m .answer) f in
-    Stamping (m .event .call) (machineOf xs a .way) g (view xs) (view (m .bytes)) × StampsMade (m .bytes) (m .slots) g ms
-
 made-each : (ms : List Made) {φ : Phase} (xs : List ℕ) (a : Buf) (n : Machine Answer Pages) (f : First) → Ways driverOf book agree calls φ (machineOf xs a .way) (n .way) → Rest φ a (view xs) (n .st) → Serves f (n .way) (view xs)
-    → Run xs a n ms → StampsMade xs a f ms
+    → Calls xs a n ms → StampsMade xs a f ms
 made-each [] xs a n f w R h r = tt
 made-each (m ∷ ms) xs a n f w R h r =
     let c = m .event .call in
     let b = m .event .lent in
-    let k = agrees driverOf book agree calls fresh-kept c b (machineOf xs a) n w R (r .1 .0) in
+    let k = agrees driverOf book agree calls fresh-kept c b (machineOf xs a) n w R (lent-is (machineOf xs a) n R b c (r .1)) in
     let z = subst (λ (x : Ans Answer × Machine Answer Driver). After driverOf book agree calls x (written (x .0) c n b) × Step c (machineOf xs a .way) (view xs) (noticed c (x .0) f) x (written (x .0) c n b)) (sym (r .0))
     (k, one c b (machineOf xs a) n f w R h k) in
-    (z .1 .stamps, made-each ms (m .bytes) (m .slots) _ _ (z .0 .ways) (z .0 .rest) (z .1 .serves) (r .1 .1))
+    (z .1 .stamps, made-each ms (m .bytes) (m .slots) _ _ (z .0 .ways) (z .0 .rest) (z .1 .serves) (r .2))
 
 -- any bytes, a start-up that rows 1 and 2 do not stop, and then any calls whose contracts say what they are steps of
 pub code-stamps : (c : Config) (b : Buf) → startRow c b ≡ zero → (xs : List ℕ) (a : Buf) (n : Machine Answer Pages) (first : Made) → first .event ≡ record { call = start c; lent = b } → Did xs a first → (ms : List Made)
     → let y = started calls (book .driver) (fed book (first .answer)) c zero n b in
-    Run (first .bytes) (first .slots) (y .1) ms → StampsMade (first .bytes) (first .slots) not-yet ms
+    Calls (first .bytes) (first .slots) (y .1) ms → StampsMade (first .bytes) (first .slots) not-yet ms
 code-stamps c b row xs a n first e did ms r =
-    let k = code-demand3 c b row xs a n first e did ms r .0 in
+    let q : (first .answer, machineOf (first .bytes) (first .slots)) ≡ started calls driverOf (λ s. s) c zero (machineOf xs a) b
+    = subst (λ (v : Event Config Op). (first .answer, machineOf (first .bytes) (first .slots)) ≡ drive (v .call) (machineOf xs a) (v .lent)) e did
+    ∙ ap (λ n. started calls driverOf (λ s. s) c n (machineOf xs a) b) row in
+    let k : After driverOf book agree calls (first .answer, machineOf (first .bytes) (first .slots)) (started calls (book .driver) (fed book (first .answer)) c zero n b)
+    = subst (λ z. After driverOf book agree calls z (started calls (book .driver) (fed book (z .0)) c zero n b)) (sym q) (from-start driverOf book agree calls fresh-kept c b row [] (machineOf xs a) n tt .0) in
     made-each ms (first .bytes) (first .slots) _ not-yet (k .ways) (k .rest) tt r

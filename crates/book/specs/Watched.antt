@@ -9,6 +9,7 @@ use lib.Dec.{eqb}
 use lib.ListN.{length, getD}
 use Rattle.regs.specs.declared.Dir.the-variants.{Out, In}
 use Rattle.state.specs.Driver.{Driver, epOn}
+use Rattle.state.specs.State.{view}
 use Rattle.marks.specs.Marks.{markedLen}
 use Rattle.marks.specs.Copies.{bytesAt}
 use Rattle.marks.specs.Finds.{LastDiffers}
@@ -17,11 +18,10 @@ use Rattle.script.specs.Script.{Act, complete, reset-ring, set-enabled, fill, f
 use Rattle.script.specs.Calls.{Config, Op, calls}
 use Rattle.script.specs.Machine as machine
 use Rattle.script.specs.Machine.{Buf, Call, start, begin, go, question, Event, Ans, Machine, misfit, fed, call}
-use Rattle.way.specs.Under.{driverOf}
+use Rattle.way.specs.Under.{driverOf, drive, machineOf}
 use Rattle.book.specs.Pages.{Pages}
 use Rattle.book.specs.Book.{Bk, receiving, isoOf, getB, putB, isB, lookB, fetchB, actB, handB, rowB, freshPages, questionB, feedB, book}
-use Rattle.book.specs.Rest.{Chip}
-use Rattle.book.specs.Slots.{made, unless}
+use Rattle.book.specs.FrontPage.{Made, Did, Chip, unless}
 
 -- ---- how often a slot of OUT e was armed
 
@@ -144,12 +144,24 @@ LentBy e n packet (question q) m y b = Stored e n packet (y .st) (m .buf) b
 abbrev pub AllLent : ℕ → ℕ → List ℕ → List (Event Config Op) → Machine Answer Driver → Machine Answer Seen → Type 0
 AllLent e n packet [] m y = Unit {0}
 AllLent e n packet (v ∷ vs) m y =
-    let x = made (v .call) m (v .lent) in
+    let x = drive (v .call) m (v .lent) in
     LentBy e n packet (v .call) m y (v .lent) × AllLent e n packet vs (x .1) (noted e (x .0) (v .call) y (v .lent) .1)
 
 abbrev pub TrueLengths : ℕ → ℕ → List ℕ → List (Event Config Op) → Machine Answer Driver → Machine Answer Seen → Type 0
 TrueLengths e n packet [] m y = Unit {0}
 TrueLengths e n packet (v ∷ vs) m y =
-    let x = made (v .call) m (v .lent) in
+    let x = drive (v .call) m (v .lent) in
     let z = noted e (x .0) (v .call) y (v .lent) in
     TrueLength e n packet (x .1 .st) (x .1 .buf) (z .1 .st) × TrueLengths e n packet vs (x .1) (z .1)
+
+-- calls of the code one after the other, each as its contract says and lent so
+abbrev pub RunLent : ℕ → ℕ → List ℕ → List ℕ → Buf → Machine Answer Seen → List Made → Type 0
+RunLent e n packet xs a y [] = Unit {0}
+RunLent e n packet xs a y (m ∷ ms) = Did xs a m × LentBy e n packet (m .event .call) (machineOf xs a) y (m .event .lent)
+    × RunLent e n packet (m .bytes) (m .slots) (noted e (m .answer) (m .event .call) y (m .event .lent) .1) ms
+
+abbrev pub TrueLengthsMade : ℕ → ℕ → List ℕ → Machine Answer Seen → List Made → Type 0
+TrueLengthsMade e n packet y [] = Unit {0}
+TrueLengthsMade e n packet y (m ∷ ms) =
+    let z = noted e (m .answer) (m .event .call) y (m .event .lent) .1 in
+    TrueLength e n packet (view (m .bytes)) (m .slots) (z .st) × TrueLengthsMade e n packet z ms

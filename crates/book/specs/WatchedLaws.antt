@@ -144,8 +144,7 @@ module _ (e : ℕ) (packet : List ℕ) where
       let x : slotAt e t ≡ r .«armed_slot» = sym (R .outs e .slot) in
       let m : most e t ≡ r .«max_len» = ap (λ (p : Plain). p .«max_len») (sym (R .same .plain Out e)) in
       let fits : r .«armed_slot» + r .«max_len» ≤ length b = omega (arith, R .outs e .held .least, R .outs e .slot, R .outs e .upto, R .outs e .held .placed .inside) in
-      let byte : (k : ℕ) → k < length packet → getD (drop (r .«armed_slot») b) k 0 ≡ getD packet k 0 = λ k h. getD-drop (r .«armed_slot») b k 0 ∙ ap (λ y. getD b (y + k) 0) (sym x) ∙ whole k h in
-      (
+      let byte : (k : ℕ) → k < length packet → getD (drop (r .«armed_slot») b) k 0 ≡ getD packet k 0 = λ k h. getD-drop (r .«armed_slot») b k 0 ∙ ap (λ y. getD b (y + k) 0) (sym x) ∙ whole k h in (
         len-is b (r .«armed_slot») (length packet) (r .«max_len») fits small (λ k h g. last k h (sym (byte k (omega (arith, h))) ∙ g))
             (λ k l h. getD-drop (r .«armed_slot») b k 0 ∙ ap (λ y. getD b (y + k) 0) (sym x) ∙ ⊎-elim (λ q. q) (λ q. absurd (omega (arith, q .0))) (c k (omega (arith, m)))),
         ext-getD 0 (bytesAt b (r .«armed_slot») (length packet)) packet

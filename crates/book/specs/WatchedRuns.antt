@@ -37,19 +37,18 @@ use Rattle.book.specs.Arrives.{admits, admitted-changed}
 use Rattle.book.specs.Switches.{fresh-changed}
 use Rattle.book.specs.Untouched.{put-leaves, act-leaves, hand-leaves, row-leaves}
 use Rattle.book.specs.Agrees.{agree}
-use Rattle.book.specs.Code.{Made, Did}
-use Rattle.book.specs.Slots.{made}
-use Rattle.book.specs.Slots as slots
-use Rattle.book.specs.Watched.{Watch, Seen, armsBy, watchHand, watchRow, watchAct, watched, Stored, TrueLength, noted, LentBy, AllLent, TrueLengths}
+use Rattle.book.specs.FrontPage.{Made, Did}
+use Rattle.book.specs.FrontPage as page
+use Rattle.book.specs.Watched.{Watch, Seen, armsBy, watchHand, watchRow, watchAct, watched, Stored, TrueLength, noted, LentBy, AllLent, TrueLengths, RunLent, TrueLengthsMade}
 use Rattle.book.specs.WatchedLaws.{Clean, clean-stored, Stays, clean-moved, put-stays, act-stays, clean-armed, true-length}
 
-numberOf : Hand → ℕ
+abbrev numberOf : Hand → ℕ
 numberOf (arrive f n) = f
 numberOf (send f) = 0
 numberOf (place d f) = 0
 numberOf place0 = 0
 
-rowOf : Row → ℕ
+abbrev rowOf : Row → ℕ
 rowOf (switch f onn) = f
 rowOf bus-reset = 0
 
@@ -139,15 +138,18 @@ module _ (e n : ℕ) (packet : List ℕ) where
       where
         by : (z : Bool) → eqb (e % 16) (f % 16) ≡ z → Claim (cond z (armsBy false w) w) (feedB (Receive f x) t) b
         by true g a m = absurd (true≢false (sym a))
-        by false g a m = clean-moved e packet R _ b (away t f g false (t .outs f) x) (λ k l h. refl) (c a m)
+        by false g a m = clean-moved e packet R (feedB (Receive f x) t) b (away t f g false (t .outs f) x) (λ k l h. refl) (c a m)
+
+    abbrev handed : Hand → Pages
+    handed q = feedB (handAsk q (conc .hand q (d, b) .0)) (handB q (t, b) .1 .0)
 
     hand-claims : (q : Hand) → let x = conc .hand q (d, b) in let u = feedB (handAsk q (x .0)) (handB q (t, b) .1 .0) in
         Rest quiet (x .1 .1) (x .1 .0) u → Claim (watchHand e q t w) u (x .1 .1)
     hand-claims (arrive f k) R′ = arrive-claims f k R′
-    hand-claims (send f) R′ = λ a m. clean-moved e packet R _ b (record { slot = refl; size = refl }) (λ k l h. refl) (c a m)
-    hand-claims (place Out f) R′ = place-claims f _
-    hand-claims (place In f) R′ = λ a m. clean-moved e packet R _ b (record { slot = refl; size = refl }) (λ k l h. refl) (c a m)
-    hand-claims place0 R′ = λ a m. clean-moved e packet R _ b (record { slot = refl; size = refl }) (λ k l h. refl) (c a m)
+    hand-claims (send f) R′ = λ a m. clean-moved e packet R (handed (send f)) b (record { slot = refl; size = refl }) (λ k l h. refl) (c a m)
+    hand-claims (place Out f) R′ = place-claims f (conc .hand (place Out f) (d, b) .0)
+    hand-claims (place In f) R′ = λ a m. clean-moved e packet R (handed (place In f)) b (record { slot = refl; size = refl }) (λ k l h. refl) (c a m)
+    hand-claims place0 R′ = λ a m. clean-moved e packet R (handed place0) b (record { slot = refl; size = refl }) (λ k l h. refl) (c a m)
 
   -- ---- a row's step
 
@@ -181,11 +183,14 @@ module _ (e n : ℕ) (packet : List ℕ) where
         by false g = λ a m. clean-moved e packet R u (x .1 .1) (away-renewed t f g (isoOf t Out f && eqb k 15) (x .0))
             (row-leaves R e (switch f onn) (suc (suc (suc k))) (λ f′ on′ p. subst (λ y. y % 16 ≢ e % 16) (ap rowOf p) (λ z. eqb-false (e % 16) (f % 16) g (sym z)))) (c a m)
 
+    abbrev stepped : Row → ℕ → Pages
+    stepped g k = feedB (rowAsk g k (conc .row g k (d, b) .0)) (rowB g k (t, b) .1 .0)
+
     row-claims : {ψ : Phase} (g : Row) (k : ℕ) → let x = conc .row g k (d, b) in let u = feedB (rowAsk g k (x .0)) (rowB g k (t, b) .1 .0) in
         Rest ψ (x .1 .1) (x .1 .0) u → Claim (watchRow e g k t w) u (x .1 .1)
-    row-claims (switch f onn) zero R′ = λ a m. clean-moved e packet R _ b (record { slot = refl; size = refl }) (λ k l h. refl) (c a m)
-    row-claims (switch f onn) (suc zero) R′ = λ a m. clean-moved e packet R _ b (record { slot = refl; size = refl }) (λ k l h. refl) (c a m)
-    row-claims (switch f onn) (suc (suc zero)) R′ = λ a m. clean-moved e packet R _ b (record { slot = refl; size = refl }) (λ k l h. refl) (c a m)
+    row-claims (switch f onn) zero R′ = λ a m. clean-moved e packet R (stepped (switch f onn) zero) b (record { slot = refl; size = refl }) (λ k l h. refl) (c a m)
+    row-claims (switch f onn) (suc zero) R′ = λ a m. clean-moved e packet R (stepped (switch f onn) (suc zero)) b (record { slot = refl; size = refl }) (λ k l h. refl) (c a m)
+    row-claims (switch f onn) (suc (suc zero)) R′ = λ a m. clean-moved e packet R (stepped (switch f onn) (suc (suc zero))) b (record { slot = refl; size = refl }) (λ k l h. refl) (c a m)
     row-claims (switch f onn) (suc (suc (suc k))) R′ = slot-claims f onn k R′
     row-claims bus-reset k R′ = λ a m. absurd (true≢false (sym a))
 
@@ -231,7 +236,7 @@ module _ (e n : ℕ) (packet : List ℕ) where
   each [] m y a = tt
   each (v ∷ vs) m y a = (found (a .0), each vs _ _ (a .1))
 
-  lent-as : (g : Bool) (X : Type 0) → slots.unless g X → unless driverOf (watched e) agreed calls g X
+  lent-as : (g : Bool) (X : Type 0) → page.unless g X → unless driverOf (watched e) agreed calls g X
   lent-as true X p = tt
   lent-as false X p = p
 
@@ -255,18 +260,7 @@ module _ (e n : ℕ) (packet : List ℕ) where
 
   -- ---- of the code
 
-  -- calls one after the other, each as its contract says and lent as above
-  abbrev pub RunLent : List ℕ → Buf → Machine Answer Seen → List Made → Type 0
-  RunLent xs a y [] = Unit {0}
-  RunLent xs a y (m ∷ ms) = Did xs a m × LentBy e n packet (m .event .call) (machineOf xs a) y (m .event .lent) × RunLent (m .bytes) (m .slots) (noted e (m .answer) (m .event .call) y (m .event .lent) .1) ms
-
-  abbrev pub TrueLengthsMade : Machine Answer Seen → List Made → Type 0
-  TrueLengthsMade y [] = Unit {0}
-  TrueLengthsMade y (m ∷ ms) =
-      let z = noted e (m .answer) (m .event .call) y (m .event .lent) .1 in
-      TrueLength e n packet (view (m .bytes)) (m .slots) (z .st) × TrueLengthsMade z ms
-
-  made-each : (ms : List Made) {φ : Phase} (xs : List ℕ) (a : Buf) (y : Machine Answer Seen) → Ways driverOf (watched e) agreed calls φ (machineOf xs a .way) (y .way) → Claims φ a (view xs) (y .st) → RunLent xs a y ms → TrueLengthsMade y ms
+  made-each : (ms : List Made) {φ : Phase} (xs : List ℕ) (a : Buf) (y : Machine Answer Seen) → Ways driverOf (watched e) agreed calls φ (machineOf xs a .way) (y .way) → Claims φ a (view xs) (y .st) → RunLent e n packet xs a y ms → TrueLengthsMade e n packet y ms
   made-each [] xs a y w r h = tt
   made-each (m ∷ ms) xs a y w r h =
       let k : After driverOf (watched e) agreed calls (m .answer, machineOf (m .bytes) (m .slots)) (noted e (m .answer) (m .event .call) y (m .event .lent))
@@ -277,7 +271,7 @@ module _ (e n : ℕ) (packet : List ℕ) where
   -- any bytes, a start-up that rows 1 and 2 do not stop, and then any calls whose contracts say what they are steps of
   pub code-true-lengths : (c : Config) (b : Buf) → startRow c b ≡ zero → (xs : List ℕ) (a : Buf) (y : Machine Answer Seen) (first : Made) → first .event ≡ record { call = start c; lent = b } → Did xs a first → (ms : List Made)
       → let z = started calls (watched e .driver) (fed (watched e) (first .answer)) c zero y b in
-      RunLent (first .bytes) (first .slots) (z .1) ms → TrueLengthsMade (z .1) ms
+      RunLent e n packet (first .bytes) (first .slots) (z .1) ms → TrueLengthsMade e n packet (z .1) ms
   code-true-lengths c b row xs a y first v did ms h =
       let q : (first .answer, machineOf (first .bytes) (first .slots)) ≡ started calls driverOf (λ s. s) c zero (machineOf xs a) b
       = subst (λ (v : Event Config Op). (first .answer, machineOf (first .bytes) (first .slots)) ≡ drive (v .call) (machineOf xs a) (v .lent)) v did
