@@ -57,7 +57,8 @@ twoOf w = record { first = runOf (w .first); second = runOf (w .second); status 
 -- charged, which no call reads)
 abbrev pub Did : Bool → ℕ → Call Config Op → Buf → Held → Left → Type 0
 Did true n d b h l = ((l .answer, machineOf (l .bytes) (l .slots)), l .time) ≡ sharedCall n d (machineOf (h .bytes) (h .slots)) (h .time) b
-Did false n d b h l = ((l .answer, machineOf (l .bytes) (l .slots)) ≡ drive d (machineOf (h .bytes) (h .slots)) b) × (l .time ≡ shared false n d (machineOf (h .bytes) (h .slots)) (h .time) b .1)
+Did false n d b h l = ((l .answer, machineOf (l .bytes) (l .slots)) ≡ drive d (machineOf (h .bytes) (h .slots)) b)
+    × (l .time ≡ shared false n d (machineOf (h .bytes) (h .slots)) (h .time) b .1)
 
 -- a run after a call whose answer is compared, and after one whose answer is not
 abbrev pub heard : Left → Held → Held
@@ -86,7 +87,8 @@ pub record Step : Type 0 where
   pub second : Left
 
 abbrev nextBy : Turn → Left → Left → Pair → Pair
-nextBy (begins st o b b′) l l′ w = record { first = heard l (w .first); second = heard l′ (w .second); status = statusOf (runOf (w .first) .machine .way) st (w .status) }
+nextBy (begins st o b b′) l l′ w =
+    record { first = heard l (w .first); second = heard l′ (w .second); status = statusOf (runOf (w .first) .machine .way) st (w .status) }
 nextBy (goes v v′ b b′) l l′ w = record { first = heard l (w .first); second = heard l′ (w .second); status = w .status }
 nextBy (asked q b b′) l l′ w = record { first = heard l (w .first); second = heard l′ (w .second); status = w .status }
 nextBy (stores b b′) l l′ w = record { first = storedTo b (w .first); second = storedTo b′ (w .second); status = w .status }
@@ -157,7 +159,8 @@ module _ (share : Bool) (n : ℕ) where
   abbrev pub DidEarly : List EarlyMade → Pair → Type 0
   DidEarly [] w = Unit {0}
   DidEarly (got e l l′ ∷ ms) w =
-      Did share n (e .call) (e .lent) (w .first) l × Did share n (e .call) (e .lent) (w .second) l′ × DidEarly ms (record { first = heard l (w .first); second = heard l′ (w .second); status = w .status })
+      Did share n (e .call) (e .lent) (w .first) l × Did share n (e .call) (e .lent) (w .second) l′
+      × DidEarly ms (record { first = heard l (w .first); second = heard l′ (w .second); status = w .status })
   DidEarly (shared-by f ∷ ms) w = DidEarly ms (record { first = timed f (w .first); second = timed f (w .second); status = w .status })
 
   abbrev pub DidSteps : Channel → List Step → Pair → Type 0
@@ -197,7 +200,8 @@ call-of : (share : Bool) (n : ℕ) (d : Call Config Op) (b : Buf) (h : Held) (l 
     → ((l .answer, machineOf (l .bytes) (l .slots)), l .time) ≡ shared share n d (machineOf (h .bytes) (h .slots)) (h .time) b
 call-of true n d b h l e = e ∙ sym (as-shared n d (machineOf (h .bytes) (h .slots)) (h .time) b)
 call-of false n d b h l e =
-    let p : (l .answer, machineOf (l .bytes) (l .slots)) ≡ shared false n d (machineOf (h .bytes) (h .slots)) (h .time) b .0 = e .0 ∙ sym (as-driver n d (machineOf (h .bytes) (h .slots)) (h .time) b) in
+    let p : (l .answer, machineOf (l .bytes) (l .slots)) ≡ shared false n d (machineOf (h .bytes) (h .slots)) (h .time) b .0 =
+    e .0 ∙ sym (as-driver n d (machineOf (h .bytes) (h .slots)) (h .time) b) in
     λ i. (p i, e .1 i)
 
 module _ (share : Bool) (n : ℕ) where
@@ -210,7 +214,8 @@ module _ (share : Bool) (n : ℕ) where
   own-is (start k) b h l e = ap (ownBy (h .access) (h .answer)) (call-of share n (start k) b h l e)
   own-is (question q) b h l e = ap (ownBy (h .access) (h .answer)) (call-of share n (question q) b h l e)
 
-  pair-is : {r r′ z z′ : Run} → r ≡ z → r′ ≡ z′ → (st : ℕ) → _≡_ {A = Two} (record { first = r; second = r′; status = st }) (record { first = z; second = z′; status = st })
+  pair-is : {r r′ z z′ : Run} → r ≡ z → r′ ≡ z′ → (st : ℕ)
+      → _≡_ {A = Two} (record { first = r; second = r′; status = st }) (record { first = z; second = z′; status = st })
   pair-is p p′ st = λ i. record { first = p i; second = p′ i; status = st }
 
   next-by : (t : Turn) (l l′ : Left) (w : Pair) → DidBy share n t l l′ w → twoOf (nextBy t l l′ w) ≡ turn share n t (twoOf w)
@@ -223,10 +228,16 @@ module _ (share : Bool) (n : ℕ) where
   next-by (second e) l l′ w d = pair-is refl (own-is (e .call) (e .lent) (w .second) l′ d) _
 
   early-is : (ms : List EarlyMade) (w : Pair) → DidEarly share n ms w
-      → twoOf (afterEarly ms w) ≡ record { first = given share n (early ms) (runOf (w .first)); second = given share n (early ms) (runOf (w .second)); status = w .status }
+      → twoOf (afterEarly ms w) ≡ record {
+        first = given share n (early ms) (runOf (w .first));
+        second =
+            given share n (early ms) (runOf (w .second));
+        status = w .status;
+      }
   early-is [] w e = refl
   early-is (got d l l′ ∷ ms) w e =
-      early-is ms _ (e .2) ∙ pair-is (ap (given share n (early ms)) (heard-is (d .call) (d .lent) (w .first) l (e .0))) (ap (given share n (early ms)) (heard-is (d .call) (d .lent) (w .second) l′ (e .1))) _
+      early-is ms _ (e .2) ∙ pair-is (ap (given share n (early ms)) (heard-is (d .call) (d .lent) (w .first) l (e .0)))
+      (ap (given share n (early ms)) (heard-is (d .call) (d .lent) (w .second) l′ (e .1))) _
   early-is (shared-by f ∷ ms) w e = early-is ms _ e
 
   -- ---- the theorem
@@ -245,14 +256,16 @@ module _ (share : Bool) (n : ℕ) where
 
     opened-is : opened share n (sessionOf m) (twoOf w) ≡ twoOf (openedBy m w)
     opened-is =
-        pair-is (ap (given share n (early (m .before))) (sym up-is)) (ap (given share n (early (m .before))) (sym (heard-is (start (m .config)) (m .lent) (w .second) (m .up′) (o .up′)))) 0
+        pair-is (ap (given share n (early (m .before))) (sym up-is))
+        (ap (given share n (early (m .before))) (sym (heard-is (start (m .config)) (m .lent) (w .second) (m .up′) (o .up′)))) 0
         ∙ sym (early-is (m .before) (startedBy m w) (o .early))
 
     -- but for the turns
     opens : Opens share n (record { config = m .config; lent = m .lent; before = early (m .before); channel = m .channel; turns = [] }) (twoOf w)
     opens = record {
       accepted = o .accepted;
-      lawful = subst (λ (r : Run). Lawful driverOf book agree calls fresh-kept (heeded share n (early (m .before)) r) (r .machine) (freshBook (m .config) (m .lent) (r .answer))) up-is (o .lawful);
+      lawful = subst (λ (r : Run). Lawful driverOf book agree calls fresh-kept (heeded share n (early (m .before)) r) (r .machine)
+          (freshBook (m .config) (m .lent) (r .answer))) up-is (o .lawful);
       rests = subst (λ (z : Two). z .first .machine .way ≡ idle) (sym opened-is) (o .rests);
       stage = subst (λ (z : Two). z .first .machine .st .globals .stage ≡ 2) (sym opened-is) (o .stage);
       sorts = subst (λ (z : Two). m .channel .iso ≡ sortsOf (z .first .machine .st)) (sym opened-is) (o .sorts);

@@ -50,6 +50,7 @@ pub mod Readings
 pub mod Keeping
 pub mod Entered
 pub mod Stamping
+pub mod StampingScripts
 pub mod StampingLaws
 pub mod Served
 pub mod Accesses

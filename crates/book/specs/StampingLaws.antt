@@ -1,212 +1,46 @@
 -- Request One over every list of calls: where a continue of an interrupt leaves one packet more, its stamp is the microframe index of the number that
 -- this interrupt's first continue brought (`Stamping`). By the book: an interrupt keeps that index, and an arrival joins those waiting with it
-use mathlib.Core.Bool.{Bool, true, false, cond, true≢false}
-use mathlib.Core.List.{List, [], _∷_, _++_, map-append}
+use mathlib.Core.Bool.{Bool, true, false, cond}
+use mathlib.Core.List.{List, [], _∷_, _++_}
 use mathlib.Core.Logic.{_⊎_, inl, inr, ⊎-elim}
 use mathlib.Core.Path.{_≡_, refl, ap, subst, sym, _∙_}
 use Prim.Native.Nat.{ℕ, zero, suc, _+_, _*_, _%_}
 use native.Mathlib.Omega.{arith}
 use borrow.Author.Tests.{eqb-true}
-use lib.Dec.{eqb, ltb}
+use lib.Dec.{eqb}
 use lib.ListN.{length, getD}
 use Rattle.fields.specs.Tables.{tab}
-use Rattle.regs.specs.declared.Access.{Access}
 use Rattle.regs.specs.declared.Access.the-variants.{Read, Write, Receive, Transmit, Ep0Dma, Wait, Callback}
-use Rattle.regs.specs.declared.Dir.the-variants.{Out, In}
+use Rattle.regs.specs.declared.Dir.the-variants.{Out}
 use Rattle.frame.specs.Usb20.{indexOf}
 use Rattle.state.specs.declared.Globals.{Globals}
 use Rattle.state.specs.Driver.{Driver, key, stampKey, noEp, epOn, stampOn}
 use Rattle.script.specs.Tree as tree
-use Rattle.script.specs.Tree.{ends, asks, bindOut}
-use Rattle.script.specs.Cells.{Cell, Val, globals-cell, control-cell, allocator-cell, ep-cell, request-cell, paced-cell}
-use Rattle.script.specs.Script.{Script, ret, bind, test, read-then, write-then, wait-then, callback-then, get-then, put-then, is-then, look-then, fetch-then, act-then, hand-then, row-then, run, Act, complete, reset-ring, set-enabled, fill, fill0, open-oldest, close-oldest, take-oldest, enqueue, allocate, allocate0, no-wakes, waken, Hand, arrive, send, place, place0}
+use Rattle.script.specs.Tree.{ends, asks}
+use Rattle.script.specs.Script.{run}
 use Rattle.script.specs.Alike.{Phase}
 use Rattle.script.specs.Answers.{Answer, Refused, resultless}
-use Rattle.script.specs.Calls.{Config, Op, interrupt, slotted, other, aside, Aside, asideCode, code, irq, calls, startRow, starting, interruptCode}
+use Rattle.script.specs.Calls.{Config, Op, interrupt, slotted, other, aside, Aside, asideCode, code, calls, startRow, interruptCode}
 use Rattle.script.specs.Handler.{onInterrupt, stampedInterrupt}
-use Rattle.script.specs.Machine.{Buf, Call, start, begin, go, question, Event, Ans, ended, handed, told, Awaits, awaited, Way, idle, busy, Machine, fed, blankA, over, misfit, stay, lentTo, beside, halt, begun, continued, started}
+use Rattle.script.specs.Machine.{Buf, Call, start, begin, go, question, Event, Ans, ended, handed, told, Awaits, awaited, Way, idle, busy, Machine, fed, blankA, over, misfit, stay, lentTo, beside, halt, begun, started}
 use Rattle.script.specs.Agree.{Ways, both-idle, both-busy, After, agrees, from-start}
 use Rattle.ops.specs.Rings.{St}
 use Rattle.ops.specs.Conc.{conc}
 use Rattle.state.specs.State.{view}
 use Rattle.way.specs.Under.{driverOf, drive, machineOf}
-use Rattle.book.specs.Pages.{Packet, stampsOf, OutPage, Pages, withOut}
+use Rattle.book.specs.Pages.{stampsOf, Pages}
 use Rattle.book.specs.Stamps.{stamped}
-use Rattle.book.specs.Book.{Bk, joined, turnedAway, arrived, packetB, slotTold, getB, putB, actB, handB, arriveB, receiving, feedB, bookOps, book}
+use Rattle.book.specs.Book.{Bk, joined, slotTold, bookOps, book}
 use Rattle.book.specs.Rest.{Rest}
 use Rattle.book.specs.Allocations.{fresh-kept}
 use Rattle.book.specs.Agrees.{agree}
 use Rattle.book.specs.FrontPage.{Made, Did, written, Calls, ringStamps}
 use Rattle.book.specs.MachineRuns.{Premise}
 use Rattle.book.specs.SlotsKept.{lent-is}
-use Rattle.book.specs.Keeping.{Throughout, at-end, at-ask, Says, Gives, Keeps, calm, At, keeps-run}
+use Rattle.book.specs.Keeping.{Throughout, at-end, at-ask, At, keeps-run}
 use Rattle.book.specs.Entered.{of-interrupt, of-aside}
-use Rattle.book.specs.Stamping.{First, not-yet, brought, firstOf, noticed, Index, OneMore, Stamping, StampsEach, StampsMade}
-
--- ---- the book, from a call's beginning to its next access or its end
-
-abbrev stampsB : Pages → ℕ → List ℕ
-stampsB t e = stampsOf (t .outs e .waiting)
-
--- numbers count modulo 16
-abbrev Even : Pages → Type 0
-Even t = (e f : ℕ) → e % 16 ≡ f % 16 → stampsB t e ≡ stampsB t f
-
-record Kept (x : ℕ) (s : Bk) : Type 0 where
-  entered : s .0 .kept .globals .entered ≡ x
-  even : Even (s .0)
-
-abbrev Stays : Pages → Pages → Type 0
-Stays t u = (e : ℕ) → stampsB u e ≡ stampsB t e
-
-abbrev Joins : ℕ → Pages → Pages → Type 0
-Joins x t u = (e : ℕ) → (stampsB u e ≡ stampsB t e) ⊎ (stampsB u e ≡ stampsB t e ++ (x ∷ []))
-
--- from s on: at an access one packet of each endpoint at most has joined, with stamp x; at the end none has
-data Grows (x : ℕ) {A : Type 0} (P : A → Type 0) : Bk → tree.Out Bk A → Type 0 where
-  ends-so : {s : Bk} {a : A} {t : Bk} → Stays (s .0) (t .0) → Kept x t → P a → Grows x P s (ends a t)
-  asks-so : {s : Bk} {q : Access} {t : Bk} {k : ℕ → Bk → tree.Out Bk A} → Joins x (s .0) (t .0) → t .0 .kept .globals .entered ≡ x → ((v : ℕ) (u : Bk) → Kept x u → Grows x P u (k v u)) → Grows x P s (asks q t k)
-
-joins-from : (x : ℕ) (s t u : Pages) → Stays s t → Joins x t u → Joins x s u
-joins-from x s t u h j e = ⊎-elim (λ p. inl (p ∙ h e)) (λ p. inr (p ∙ ap (λ (l : List ℕ). l ++ (x ∷ [])) (h e))) (j e)
-
-module _ {x : ℕ} where
-  grows-more : {A : Type 0} {P Q : A → Type 0} {s : Bk} {o : tree.Out Bk A} → Grows x P s o → ((a : A) → P a → Q a) → Grows x Q s o
-  grows-more (ends-so h k p) f = ends-so h k (f _ p)
-  grows-more (asks-so h k g) f = asks-so h k (λ v u l. grows-more (g v u l) f)
-
-  grows-from : {A : Type 0} {P : A → Type 0} {s t : Bk} {o : tree.Out Bk A} → Stays (s .0) (t .0) → Grows x P t o → Grows x P s o
-  grows-from h (ends-so g k p) = ends-so (λ e. g e ∙ h e) k p
-  grows-from {s = s} {t = t} h (asks-so {t = u} g k f) = asks-so (joins-from x (s .0) (t .0) (u .0) h g) k f
-
-  grows-bind : {A B : Type 0} {P : A → Type 0} {Q : B → Type 0} {s : Bk} {o : tree.Out Bk A} {f : A → Bk → tree.Out Bk B}
-      → Grows x P s o → ((a : A) (t : Bk) → Kept x t → P a → Grows x Q t (f a t)) → Grows x Q s (bindOut o f)
-  grows-bind (ends-so h k p) f = grows-from h (f _ _ k p)
-  grows-bind (asks-so h k g) f = asks-so h k (λ v u l. grows-bind (g v u l) f)
-
-  grows-cond : {A : Type 0} {P : A → Type 0} {s : Bk} (b : Bool) {o u : tree.Out Bk A} → Grows x P s o → Grows x P s u → Grows x P s (cond b o u)
-  grows-cond true g h = g
-  grows-cond false g h = h
-
--- ---- the book's operations
-
-get-says : (x : ℕ) (c : Cell) (s : Bk) → Kept x s → Says x c (getB c s)
-get-says x globals-cell s k = k .entered
-get-says x control-cell s k = tt
-get-says x allocator-cell s k = tt
-get-says x (ep-cell d e) s k = tt
-get-says x (request-cell d e) s k = tt
-get-says x (paced-cell e) s k = tt
-
-put-stays : (c : Cell) (v : Val c) (s : Bk) → Stays (s .0) (putB c v s .0)
-put-stays globals-cell v s e = refl
-put-stays control-cell v s e = refl
-put-stays allocator-cell v s e = refl
-put-stays (ep-cell d f) v s e = refl
-put-stays (request-cell d f) v s e = refl
-put-stays (paced-cell f) v s e = refl
-
-put-kept : (x : ℕ) (c : Cell) (v : Val c) (s : Bk) → Says x c v → Even (s .0) → (globals-kept : s .0 .kept .globals .entered ≡ x) → Kept x (putB c v s)
-put-kept x globals-cell v s h z k = record { entered = h; even = z }
-put-kept x control-cell v s h z k = record { entered = k; even = z }
-put-kept x allocator-cell v s h z k = record { entered = k; even = z }
-put-kept x (ep-cell d e) v s h z k = record { entered = k; even = z }
-put-kept x (request-cell d e) v s h z k = record { entered = k; even = z }
-put-kept x (paced-cell e) v s h z k = record { entered = k; even = z }
-
-act-stays : (q : Act) → calm q ≡ true → (s : Bk) → Stays (s .0) (actB q s .0)
-act-stays (complete f) h s e = refl
-act-stays (reset-ring d f) h s e = absurd (true≢false (sym h))
-act-stays (set-enabled d f on) h s e = absurd (true≢false (sym h))
-act-stays (fill f bytes) h s e = absurd (true≢false (sym h))
-act-stays (fill0 bytes) h s e = absurd (true≢false (sym h))
-act-stays (open-oldest f) h s e = absurd (true≢false (sym h))
-act-stays (close-oldest f) h s e = absurd (true≢false (sym h))
-act-stays (take-oldest f) h s e = absurd (true≢false (sym h))
-act-stays (enqueue f bytes) h s e = absurd (true≢false (sym h))
-act-stays (allocate d kind address maximum interval) h s e = absurd (true≢false (sym h))
-act-stays (allocate0 maximum) h s e = absurd (true≢false (sym h))
-act-stays no-wakes h s e = refl
-act-stays (waken codes) h s e = refl
-
-act-kept : (x : ℕ) (q : Act) → calm q ≡ true → (s : Bk) → Kept x s → Kept x (actB q s)
-act-kept x (complete f) h s k = record { entered = k .entered; even = k .even }
-act-kept x (reset-ring d f) h s k = absurd (true≢false (sym h))
-act-kept x (set-enabled d f on) h s k = absurd (true≢false (sym h))
-act-kept x (fill f bytes) h s k = absurd (true≢false (sym h))
-act-kept x (fill0 bytes) h s k = absurd (true≢false (sym h))
-act-kept x (open-oldest f) h s k = absurd (true≢false (sym h))
-act-kept x (close-oldest f) h s k = absurd (true≢false (sym h))
-act-kept x (take-oldest f) h s k = absurd (true≢false (sym h))
-act-kept x (enqueue f bytes) h s k = absurd (true≢false (sym h))
-act-kept x (allocate d kind address maximum interval) h s k = absurd (true≢false (sym h))
-act-kept x (allocate0 maximum) h s k = absurd (true≢false (sym h))
-act-kept x no-wakes h s k = record { entered = k .entered; even = k .even }
-act-kept x (waken codes) h s k = record { entered = k .entered; even = k .even }
-
-abbrev Either : ℕ → Pages → ℕ → List ℕ → Type 0
-Either x t f l = (l ≡ stampsB t f) ⊎ (l ≡ stampsB t f ++ (x ∷ []))
-
--- an arrival joins with the index that is kept, or is turned away
-arrive-joins : (x e n : ℕ) (s : Bk) → Kept x s → Joins x (s .0) (arriveB e n s)
-arrive-joins x e n s k f = by (receiving (s .0) e)
-  where
-    p : OutPage
-    p = s .0 .outs e
-
-    q : Packet
-    q = packetB e n s
-
-    rooms : (z : Bool) → f % 16 ≡ e % 16 → Either x (s .0) f (stampsOf (cond z (joined p q) (turnedAway p) .waiting))
-    rooms true h = inr (map-append (λ (r : Packet). r .stamp) (p .waiting) (q ∷ []) ∙ ap (λ (y : ℕ). stampsOf (p .waiting) ++ (y ∷ [])) (k .entered) ∙ ap (λ (l : List ℕ). l ++ (x ∷ [])) (k .even e f (sym h)))
-    rooms false h = inl (k .even e f (sym h))
-
-    here : (z : Bool) → eqb (f % 16) (e % 16) ≡ z → Either x (s .0) f (stampsOf (cond z (arrived p q) (s .0 .outs f) .waiting))
-    here true h = rooms (ltb (length (p .waiting)) 15) (eqb-true (f % 16) (e % 16) h)
-    here false h = inl refl
-
-    by : (z : Bool) → Either x (s .0) f (stampsB (cond z (withOut (s .0) e (arrived p q)) (s .0)) f)
-    by true = here (eqb (f % 16) (e % 16)) refl
-    by false = inl refl
-
-hand-joins : (x : ℕ) (q : Hand) (s : Bk) → Kept x s → Joins x (s .0) (handB q s .1 .0)
-hand-joins x (arrive e n) s k = arrive-joins x e n s k
-hand-joins x (send e) s k = λ f. inl refl
-hand-joins x (place Out e) s k = λ f. inl refl
-hand-joins x (place In e) s k = λ f. inl refl
-hand-joins x place0 s k = λ f. inl refl
-
-hand-entered : (q : Hand) (s : Bk) → handB q s .1 .0 .kept .globals .entered ≡ s .0 .kept .globals .entered
-hand-entered (arrive e n) s = by (receiving (s .0) e)
-  where
-    by : (z : Bool) → cond z (withOut (s .0) e (arrived (s .0 .outs e) (packetB e n s))) (s .0) .kept .globals .entered ≡ s .0 .kept .globals .entered
-    by true = refl
-    by false = refl
-hand-entered (send e) s = refl
-hand-entered (place Out e) s = refl
-hand-entered (place In e) s = refl
-hand-entered place0 s = refl
-
--- ---- an interrupt's script
-
-grows-run : {i : Bool} {A : Type 0} (x : ℕ) (p : Script i A) → Keeps calm x p → (s : Bk) → Kept x s → Grows x (Gives x p) s (run bookOps p s)
-grows-run x (ret a) h s k = ends-so (λ e. refl) k refl
-grows-run x (bind p f) h s k = grows-bind (grows-run x p (h .0) s k) (λ a t l g. grows-more (grows-run x (f a) (h .1 a g) t l) (λ b w. tt))
-grows-run x (test b p q) h s k = grows-cond b (grows-more (grows-run x p (h .0) s k) (λ a w. tt)) (grows-more (grows-run x q (h .1) s k) (λ a w. tt))
-grows-run x (read-then r e f) h s k = asks-so (λ e. inl refl) (k .entered) (λ v t l. grows-more (grows-run x (f v) (h v) t l) (λ a w. tt))
-grows-run x (write-then r e v p) h s k = asks-so (λ e. inl refl) (k .entered) (λ _ t l. grows-more (grows-run x p h t l) (λ a w. tt))
-grows-run x (wait-then n p) h s k = asks-so (λ e. inl refl) (k .entered) (λ _ t l. grows-more (grows-run x p h t l) (λ a w. tt))
-grows-run x (callback-then p) h s k = asks-so (λ e. inl refl) (k .entered) (λ _ t l. grows-more (grows-run x p h t l) (λ a w. tt))
-grows-run x (get-then c f) h s k =
-    let g = get-says x c s k in
-    grows-more (grows-run x (f (getB c s)) (h (getB c s) g) s k) (λ a w. (getB c s, g, w))
-grows-run x (put-then c v p) h s k = grows-more (grows-from (put-stays c v s) (grows-run x p (h .1) (putB c v s) (put-kept x c v s (h .0) (k .even) (k .entered)))) (λ a w. tt)
-grows-run x (is-then q f) h s k = grows-more (grows-run x (f (bookOps .is q s)) (h (bookOps .is q s)) s k) (λ a w. tt)
-grows-run x (look-then q f) h s k = grows-more (grows-run x (f (bookOps .look q s)) (h (bookOps .look q s)) s k) (λ a w. tt)
-grows-run x (fetch-then q f) h s k = grows-more (grows-run x (f (bookOps .fetch q s)) (h (bookOps .fetch q s)) s k) (λ a w. tt)
-grows-run x (act-then q p) h s k = grows-more (grows-from (act-stays q (h .0) s) (grows-run x p (h .1) (actB q s) (act-kept x q (h .0) s k))) (λ a w. tt)
-grows-run x (hand-then q p) h s k = asks-so (hand-joins x q s k) (hand-entered q s ∙ k .entered) (λ _ t l. grows-more (grows-run x p h t l) (λ a w. tt))
-grows-run x (row-then g p) h s k = absurd h
+use Rattle.book.specs.Stamping.{First, not-yet, brought, firstOf, noticed, OneMore, Stamping, StampsEach, StampsMade}
+use Rattle.book.specs.StampingScripts.{stampsB, Even, Kept, Stays, Joins, Either, Grows, ends-so, asks-so, grows-from, grows-bind, grows-run}
 
 abbrev Any : Answer → Type 0
 Any a = Unit {0}
@@ -226,7 +60,9 @@ begins-so : (a : Ans Answer) (f : First) (s : Bk) (d : Driver) → Begins a f d 
 begins-so a f s d = by (eqb (s .0 .kept .globals .stage) 2)
   where
     by : (z : Bool) → Begins a f d (cond z (run bookOps (resultless {i = true} stampedInterrupt) s) (ends (Refused 4) s))
-    by true = λ v u z. grows-bind (grows-bind {Q = λ (n : ℕ). Unit {0}} (grows-from (λ e. refl) (grows-run (indexOf v) onInterrupt (of-interrupt (indexOf v)) _ (record { entered = refl; even = z }))) (λ a t k p. ends-so (λ e. refl) k tt))
+    by true = λ v u z. grows-bind (grows-bind {Q = λ (n : ℕ). Unit {0}}
+        (grows-from (λ e. refl) (grows-run (indexOf v) onInterrupt (of-interrupt (indexOf v)) _ (record { entered = refl; even = z })))
+        (λ a t k p. ends-so (λ e. refl) k tt))
         (λ n t k p. ends-so (λ e. refl) k tt)
     by false = tt
 
@@ -274,12 +110,15 @@ kept-of R h c = record { entered = sym (ap (λ (g : Globals). g .entered) (R .sa
 one-more : {φ ψ : Phase} {b c : Buf} {d d′ : Driver} {t t′ : Pages} (w : ℕ) → Rest φ b d t → Rest ψ c d′ t′ → Joins (indexOf w) t t′ → OneMore (brought w) d d′
 one-more {d = d} {d′ = d′} {t = t} {t′ = t′} w R R′ j e h =
     ⊎-elim
-    (λ p. absurd (let z : length (ringStamps d′ e) ≡ length (ringStamps d e) = ap length (R′ .outs e .stamps ∙ p ∙ sym (R .outs e .stamps)) in omega (arith, z, h)))
+    (λ p. absurd (let z : length (ringStamps d′ e) ≡ length (ringStamps d e) = ap length (R′ .outs e .stamps ∙ p ∙ sym (R .outs e .stamps)) in
+    omega (arith, z, h)))
     (λ p. (indexOf w, refl, R′ .outs e .stamps ∙ p ∙ ap (λ (l : List ℕ). l ++ (indexOf w ∷ [])) (sym (R .outs e .stamps))))
     (j e)
 
 none-more : {φ ψ : Phase} {b c : Buf} {d d′ : Driver} {t t′ : Pages} (f : First) → Rest φ b d t → Rest ψ c d′ t′ → Stays t t′ → OneMore f d d′
-none-more {d = d} {d′ = d′} f R R′ s e h = absurd (let z : length (ringStamps d′ e) ≡ length (ringStamps d e) = ap length (R′ .outs e .stamps ∙ s e ∙ sym (R .outs e .stamps)) in omega (arith, z, h))
+none-more {d = d} {d′ = d′} f R R′ s e h =
+    absurd (let z : length (ringStamps d′ e) ≡ length (ringStamps d e) = ap length (R′ .outs e .stamps ∙ s e ∙ sym (R .outs e .stamps)) in
+    omega (arith, z, h))
 
 -- ---- one call
 
@@ -308,10 +147,12 @@ serves-on not-yet (busy true a k) d d′ e h = h
 serves-on (brought v) (busy true a k) d d′ e h = (e ∙ h .0, h .1)
 
 -- open, close and queue during an interrupt leave the driver's index
-aside-entered : (o : Aside) (w : Way Answer Driver) (d : Driver) (b : Buf) → beside calls driverOf (record { way = w; st = d; buf = b }) (run conc (asideCode o) (d, b)) .1 .st .globals .entered ≡ d .globals .entered
+aside-entered : (o : Aside) (w : Way Answer Driver) (d : Driver) (b : Buf)
+    → beside calls driverOf (record { way = w; st = d; buf = b }) (run conc (asideCode o) (d, b)) .1 .st .globals .entered ≡ d .globals .entered
 aside-entered o w d b = by (keeps-run (d .globals .entered) (asideCode o) (of-aside (d .globals .entered) o) (d, b) refl)
   where
-    by : {P : Answer → Type 0} {z : tree.Out St Answer} → Throughout (At (d .globals .entered)) P z → beside calls driverOf (record { way = w; st = d; buf = b }) z .1 .st .globals .entered ≡ d .globals .entered
+    by : {P : Answer → Type 0} {z : tree.Out St Answer} → Throughout (At (d .globals .entered)) P z
+        → beside calls driverOf (record { way = w; st = d; buf = b }) z .1 .st .globals .entered ≡ d .globals .entered
     by (at-end k p) = k
     by (at-ask k g) = refl
 
@@ -323,7 +164,8 @@ module _ (a : Awaits) (k : ℕ → St → tree.Out St Answer) (d : Driver) (c b 
   begin-entered : (o : Op) → drive (begin o) serving b .1 .st .globals .entered ≡ d .globals .entered
   begin-entered o = by (cond (calls .slots o) (misfit calls driverOf d b) false) o
     where
-      by : (g : Bool) (o : Op) → cond g (stay calls driverOf 1 serving) (begun calls driverOf (λ s. s) o serving (busy true a k) b) .1 .st .globals .entered ≡ d .globals .entered
+      by : (g : Bool) (o : Op) → cond g (stay calls driverOf 1 serving)
+          (begun calls driverOf (λ s. s) o serving (busy true a k) b) .1 .st .globals .entered ≡ d .globals .entered
       by true o = refl
       by false interrupt = refl
       by false (slotted o) = refl
@@ -338,7 +180,9 @@ module _ (x : Ans Answer) (f : First) (a : Awaits) (k : ℕ → Bk → tree.Out 
   begin-serves o = by (cond (calls .slots o) (misfit calls (book .driver) t b) false) (calls .aside o) (run bookOps (code o) (t, b))
     where
       by : (g g′ : Bool) (z : tree.Out Bk Answer)
-          → let y = cond g (stay calls (book .driver) 1 servingB) (cond (cond true g′ false) (beside calls (book .driver) (lentTo calls (book .driver) servingB b) z) (stay calls (book .driver) 3 (lentTo calls (book .driver) servingB b))) in
+          → let y = cond g (stay calls (book .driver) 1 servingB)
+          (cond (cond true g′ false) (beside calls (book .driver) (lentTo calls (book .driver) servingB b) z)
+          (stay calls (book .driver) 3 (lentTo calls (book .driver) servingB b))) in
           Serves (noticed (begin o) (y .0) f) (y .1 .way) d
       by true g′ z = h
       by false false z = h
@@ -370,7 +214,8 @@ module _ {φ ψ : Phase} {c c′ : Buf} {d d′ : Driver} {t : Pages} (R : Rest 
       by (brought w) e h = went w (ap (firstOf n) (sym e)) (h .1 n (t, b) (kept-of R (h .0) b)) R′
 
   -- refused
-  stayed : (w : Way Answer Pages) (z : Buf) (r : ℕ) → Serves f w d → Rest ψ c′ d′ t → Went f n t d d′ (stay calls (book .driver) r (record { way = w; st = t; buf = z }))
+  stayed : (w : Way Answer Pages) (z : Buf) (r : ℕ) → Serves f w d → Rest ψ c′ d′ t
+      → Went f n t d d′ (stay calls (book .driver) r (record { way = w; st = t; buf = z }))
   stayed w z r h R′ = record {
     serves = serves-on f w d d′ (ap (λ (g : Globals). g .entered) (R′ .same .globals ∙ sym (R .same .globals))) h;
     more = none-more f R R′ (λ e. refl);
@@ -383,25 +228,32 @@ module _ {φ ψ : Phase} {c c′ : Buf} {d d′ : Driver} {t : Pages} (R : Rest 
       m : Machine Answer Pages
       m = record { way = busy true a k; st = t; buf = z }
 
-      by : (g g′ : Bool) → let y = cond g (stay calls (book .driver) 1 m) (cond g′ (stay calls (book .driver) 16 (lentTo calls (book .driver) m b)) (halt calls (book .driver) (fed book x) true (k n (t, b)))) in
+      by : (g g′ : Bool) → let y = cond g (stay calls (book .driver) 1 m)
+          (cond g′ (stay calls (book .driver) 16 (lentTo calls (book .driver) m b)) (halt calls (book .driver) (fed book x) true (k n (t, b)))) in
           Rest ψ c′ d′ (y .1 .st) → Went f n t d d′ y
       by true g′ R′ = stayed (busy true a k) z 1 h R′
       by false true R′ = stayed (busy true a k) b 16 h R′
       by false false R′ = goes-on a k h R′
 
 -- with nothing under way, and in an operation that is no interrupt
-idle-plain : (x : Ans Answer) (f : First) (m : Machine Answer Pages) (d : Driver) → m .way ≡ idle → (g : Bool) (o : tree.Out Bk Answer) → Serves f (cond g (stay calls (book .driver) 1 m) (halt calls (book .driver) (fed book x) false o) .1 .way) d
+idle-plain : (x : Ans Answer) (f : First) (m : Machine Answer Pages) (d : Driver) → m .way ≡ idle → (g : Bool) (o : tree.Out Bk Answer)
+    → Serves f (cond g (stay calls (book .driver) 1 m) (halt calls (book .driver) (fed book x) false o) .1 .way) d
 idle-plain x f m d e true o = subst (λ w. Serves f w d) (sym e) tt
 idle-plain x f m d e false o = plainly x f o d
 
 module _ (x : Ans Answer) (f : First) (t : Pages) (d : Driver) where
-  begin-idle : (o : Op) (c b : Buf) → let y = written x (begin o) (record { way = idle; st = t; buf = c }) b in Serves (noticed (begin o) (y .0) f) (y .1 .way) d
+  begin-idle : (o : Op) (c b : Buf) → let y = written x (begin o) (record { way = idle; st = t; buf = c }) b in
+      Serves (noticed (begin o) (y .0) f) (y .1 .way) d
   begin-idle interrupt c b = begins-so x f (t, b) d
-  begin-idle (slotted o) c b = idle-plain x _ (record { way = idle; st = t; buf = c }) d refl (cond (calls .slots (slotted o)) (misfit calls (book .driver) t b) false) (run bookOps (code (slotted o)) (t, b))
-  begin-idle (other o) c b = idle-plain x _ (record { way = idle; st = t; buf = c }) d refl (cond (calls .slots (other o)) (misfit calls (book .driver) t b) false) (run bookOps (code (other o)) (t, b))
-  begin-idle (aside o) c b = idle-plain x _ (record { way = idle; st = t; buf = c }) d refl (cond (calls .slots (aside o)) (misfit calls (book .driver) t b) false) (run bookOps (code (aside o)) (t, b))
+  begin-idle (slotted o) c b = idle-plain x _ (record { way = idle; st = t; buf = c }) d refl
+      (cond (calls .slots (slotted o)) (misfit calls (book .driver) t b) false) (run bookOps (code (slotted o)) (t, b))
+  begin-idle (other o) c b = idle-plain x _ (record { way = idle; st = t; buf = c }) d refl
+      (cond (calls .slots (other o)) (misfit calls (book .driver) t b) false) (run bookOps (code (other o)) (t, b))
+  begin-idle (aside o) c b = idle-plain x _ (record { way = idle; st = t; buf = c }) d refl
+      (cond (calls .slots (aside o)) (misfit calls (book .driver) t b) false) (run bookOps (code (aside o)) (t, b))
 
-  begin-late : (o : Op) (a : Awaits) (k : ℕ → Bk → tree.Out Bk Answer) (c b : Buf) (g : First) → Serves g (written x (begin o) (record { way = busy false a k; st = t; buf = c }) b .1 .way) d
+  begin-late : (o : Op) (a : Awaits) (k : ℕ → Bk → tree.Out Bk Answer) (c b : Buf) (g : First)
+      → Serves g (written x (begin o) (record { way = busy false a k; st = t; buf = c }) b .1 .way) d
   begin-late o a k c b g = by (cond (calls .slots o) (misfit calls (book .driver) t b) false)
     where
       m : Machine Answer Pages
@@ -421,33 +273,43 @@ module _ (x : Ans Answer) (f : First) (t : Pages) (d : Driver) where
       by true = tt
       by false = tt
 
-  go-plain : (v : ℕ) (a : Awaits) (k : ℕ → Bk → tree.Out Bk Answer) (c b : Buf) (g : First) → Serves g (written x (go v) (record { way = busy false a k; st = t; buf = c }) b .1 .way) d
+  go-plain : (v : ℕ) (a : Awaits) (k : ℕ → Bk → tree.Out Bk Answer) (c b : Buf) (g : First)
+      → Serves g (written x (go v) (record { way = busy false a k; st = t; buf = c }) b .1 .way) d
   go-plain v a k c b g = by (misfit calls (book .driver) t b) (over calls a v)
     where
       m : Machine Answer Pages
       m = record { way = busy false a k; st = t; buf = c }
 
-      by : (z z′ : Bool) → Serves g (cond z (stay calls (book .driver) 1 m) (cond z′ (stay calls (book .driver) 16 (lentTo calls (book .driver) m b)) (halt calls (book .driver) (fed book x) false (k v (t, b)))) .1 .way) d
+      by : (z z′ : Bool) → Serves g (cond z (stay calls (book .driver) 1 m)
+          (cond z′ (stay calls (book .driver) 16 (lentTo calls (book .driver) m b))
+          (halt calls (book .driver) (fed book x) false (k v (t, b)))) .1 .way) d
       by true z′ = tt
       by false true = tt
       by false false = plainly x g (k v (t, b)) d
 
   start-serves : (c : Config) (b : Buf) (m : Machine Answer Driver) (n : Machine Answer Pages) → Serves f (n .way) (m .st) → (r : ℕ)
-      → let y = started calls (book .driver) (fed book x) c r n b in Serves (noticed (start c) (y .0) f) (y .1 .way) (started calls driverOf (λ s. s) c r m b .1 .st)
+      → let y = started calls (book .driver) (fed book x) c r n b in
+      Serves (noticed (start c) (y .0) f) (y .1 .way) (started calls driverOf (λ s. s) c r m b .1 .st)
   start-serves c b m n h zero = tt
   start-serves c b m n h (suc r) = h
 
-record Step (c : Call Config Op) (w : Way Answer Driver) (d : Driver) (f : First) (x : Ans Answer × Machine Answer Driver) (y : Ans Answer × Machine Answer Pages) : Type 0 where
+record Step (c : Call Config Op) (w : Way Answer Driver) (d : Driver) (f : First) (x : Ans Answer × Machine Answer Driver)
+    (y : Ans Answer × Machine Answer Pages) : Type 0 where
   serves : Serves f (y .1 .way) (x .1 .st)
   stamps : Stamping c w f d (x .1 .st)
 
 -- told by the book's answer
-step : (c : Call Config Op) (b : Buf) {φ : Phase} (w : Way Answer Driver) (d : Driver) (a : Buf) (w′ : Way Answer Pages) (t : Pages) (a′ : Buf) (f : First) → Ways driverOf book agree calls φ w w′ → Rest φ a d t → Serves f w′ d
+step : (c : Call Config Op) (b : Buf) {φ : Phase} (w : Way Answer Driver) (d : Driver) (a : Buf) (w′ : Way Answer Pages) (t : Pages) (a′ : Buf)
+    (f : First) → Ways driverOf book agree calls φ w w′ → Rest φ a d t → Serves f w′ d
     → let x = drive c (record { way = w; st = d; buf = a }) b in
     let y = written (x .0) c (record { way = w′; st = t; buf = a′ }) b in
     After driverOf book agree calls x y → Step c w d (noticed c (y .0) f) x y
 step (start c) b w d a w′ t a′ f v R h k =
-    record { serves = start-serves (drive (start c) (record { way = w; st = d; buf = a }) b .0) f t d c b (record { way = w; st = d; buf = a }) (record { way = w′; st = t; buf = a′ }) h (startRow c b); stamps = tt }
+    record {
+      serves = start-serves (drive (start c) (record { way = w; st = d; buf = a }) b .0) f t d c b (record { way = w; st = d; buf = a })
+          (record { way = w′; st = t; buf = a′ }) h (startRow c b);
+      stamps = tt;
+    }
 step (begin o) b idle d a idle t a′ f both-idle R h k =
     let x = drive (begin o) (record { way = idle; st = d; buf = a }) b in
     record { serves = begin-idle (x .0) f t (x .1 .st) o a′ b; stamps = tt }
@@ -474,7 +336,8 @@ step (question q) b w d a w′ t a′ f v R h k = record { serves = h; stamps = 
 
 -- ---- every list of calls
 
-one : (c : Call Config Op) (b : Buf) {φ : Phase} (m : Machine Answer Driver) (n : Machine Answer Pages) (f : First) → Ways driverOf book agree calls φ (m .way) (n .way) → Rest φ (m .buf) (m .st) (n .st) → Serves f (n .way) (m .st)
+one : (c : Call Config Op) (b : Buf) {φ : Phase} (m : Machine Answer Driver) (n : Machine Answer Pages) (f : First)
+    → Ways driverOf book agree calls φ (m .way) (n .way) → Rest φ (m .buf) (m .st) (n .st) → Serves f (n .way) (m .st)
     → let x = drive c m b in
     let y = written (x .0) c n b in
     After driverOf book agree calls x y → Step c (m .way) (m .st) (noticed c (x .0) f) x y
@@ -484,7 +347,8 @@ one c b m n f w R h k =
     subst (λ g. Step c (m .way) (m .st) g x y) (noticed-blank c (y .0) f ∙ ap (λ z. noticed c z f) (sym (k .same)) ∙ sym (noticed-blank c (x .0) f))
     (step c b (m .way) (m .st) (m .buf) (n .way) (n .st) (n .buf) f w R h k)
 
-each : (es : List (Event Config Op)) {φ : Phase} (m : Machine Answer Driver) (n : Machine Answer Pages) (f : First) → Ways driverOf book agree calls φ (m .way) (n .way) → Rest φ (m .buf) (m .st) (n .st) → Serves f (n .way) (m .st)
+each : (es : List (Event Config Op)) {φ : Phase} (m : Machine Answer Driver) (n : Machine Answer Pages) (f : First)
+    → Ways driverOf book agree calls φ (m .way) (n .way) → Rest φ (m .buf) (m .st) (n .st) → Serves f (n .way) (m .st)
     → Premise es m n → StampsEach es m f
 each [] m n f w R h l = tt
 each (e ∷ es) m n f w R h l =
@@ -504,25 +368,30 @@ stamps-each c b row es m n p =
 
 -- ---- of the code
 
-made-each : (ms : List Made) {φ : Phase} (xs : List ℕ) (a : Buf) (n : Machine Answer Pages) (f : First) → Ways driverOf book agree calls φ (machineOf xs a .way) (n .way) → Rest φ a (view xs) (n .st) → Serves f (n .way) (view xs)
+made-each : (ms : List Made) {φ : Phase} (xs : List ℕ) (a : Buf) (n : Machine Answer Pages) (f : First)
+    → Ways driverOf book agree calls φ (machineOf xs a .way) (n .way) → Rest φ a (view xs) (n .st) → Serves f (n .way) (view xs)
     → Calls xs a n ms → StampsMade xs a f ms
 made-each [] xs a n f w R h r = tt
 made-each (m ∷ ms) xs a n f w R h r =
     let c = m .event .call in
     let b = m .event .lent in
     let k = agrees driverOf book agree calls fresh-kept c b (machineOf xs a) n w R (lent-is (machineOf xs a) n R b c (r .1)) in
-    let z = subst (λ (x : Ans Answer × Machine Answer Driver). After driverOf book agree calls x (written (x .0) c n b) × Step c (machineOf xs a .way) (view xs) (noticed c (x .0) f) x (written (x .0) c n b)) (sym (r .0))
+    let z = subst (λ (x : Ans Answer × Machine Answer Driver). After driverOf book agree calls x (written (x .0) c n b)
+    × Step c (machineOf xs a .way) (view xs) (noticed c (x .0) f) x (written (x .0) c n b)) (sym (r .0))
     (k, one c b (machineOf xs a) n f w R h k) in
     (z .1 .stamps, made-each ms (m .bytes) (m .slots) _ _ (z .0 .ways) (z .0 .rest) (z .1 .serves) (r .2))
 
 -- any bytes, a start-up that rows 1 and 2 do not stop, and then any calls whose contracts say what they are steps of
-pub code-stamps : (c : Config) (b : Buf) → startRow c b ≡ zero → (xs : List ℕ) (a : Buf) (n : Machine Answer Pages) (first : Made) → first .event ≡ record { call = start c; lent = b } → Did xs a first → (ms : List Made)
+pub code-stamps : (c : Config) (b : Buf) → startRow c b ≡ zero → (xs : List ℕ) (a : Buf) (n : Machine Answer Pages) (first : Made)
+    → first .event ≡ record { call = start c; lent = b } → Did xs a first → (ms : List Made)
     → let y = started calls (book .driver) (fed book (first .answer)) c zero n b in
     Calls (first .bytes) (first .slots) (y .1) ms → StampsMade (first .bytes) (first .slots) not-yet ms
 code-stamps c b row xs a n first e did ms r =
     let q : (first .answer, machineOf (first .bytes) (first .slots)) ≡ started calls driverOf (λ s. s) c zero (machineOf xs a) b
     = subst (λ (v : Event Config Op). (first .answer, machineOf (first .bytes) (first .slots)) ≡ drive (v .call) (machineOf xs a) (v .lent)) e did
     ∙ ap (λ n. started calls driverOf (λ s. s) c n (machineOf xs a) b) row in
-    let k : After driverOf book agree calls (first .answer, machineOf (first .bytes) (first .slots)) (started calls (book .driver) (fed book (first .answer)) c zero n b)
-    = subst (λ z. After driverOf book agree calls z (started calls (book .driver) (fed book (z .0)) c zero n b)) (sym q) (from-start driverOf book agree calls fresh-kept c b row [] (machineOf xs a) n tt .0) in
+    let k : After driverOf book agree calls (first .answer, machineOf (first .bytes) (first .slots))
+    (started calls (book .driver) (fed book (first .answer)) c zero n b)
+    = subst (λ z. After driverOf book agree calls z (started calls (book .driver) (fed book (z .0)) c zero n b)) (sym q)
+    (from-start driverOf book agree calls fresh-kept c b row [] (machineOf xs a) n tt .0) in
     made-each ms (first .bytes) (first .slots) _ not-yet (k .ways) (k .rest) tt r

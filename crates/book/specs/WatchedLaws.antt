@@ -54,7 +54,8 @@ module _ (e : ℕ) (packet : List ℕ) where
     slot-mod f h = sym (R .outs f .slot) ∙ ap (λ (r : EpState). r .«armed_slot») (sym (ep-mod d Out e f h)) ∙ R .outs e .slot
 
     most-mod : (f : ℕ) → e % 16 ≡ f % 16 → t .kept .plain Out f .«max_len» ≡ most e t
-    most-mod f h = ap (λ (p : Plain). p .«max_len») (sym (R .same .plain Out f)) ∙ ap (λ (r : EpState). r .«max_len») (sym (ep-mod d Out e f h)) ∙ ap (λ (p : Plain). p .«max_len») (R .same .plain Out e)
+    most-mod f h = ap (λ (p : Plain). p .«max_len») (sym (R .same .plain Out f)) ∙ ap (λ (r : EpState). r .«max_len») (sym (ep-mod d Out e f h))
+        ∙ ap (λ (p : Plain). p .«max_len») (R .same .plain Out e)
 
     -- a page that keeps its slot
     out-stays : (f : ℕ) (p : OutPage) → p .slot ≡ t .outs f .slot → at f p (t .outs) e .slot ≡ slotAt e t
@@ -124,30 +125,38 @@ module _ (e : ℕ) (packet : List ℕ) where
     act-stays (waken codes) w h = record { slot = refl; size = refl }
 
     -- a slot that was armed in this step
-    pub clean-armed : (f : ℕ) → e % 16 ≡ f % 16 → isOn (epOn d Out f .iso) ≡ true → (a : Buf) → b ≡ armed a (epOn d Out f .«armed_slot») (epOn d Out f .«max_len») → Clean t b
+    pub clean-armed : (f : ℕ) → e % 16 ≡ f % 16 → isOn (epOn d Out f .iso) ≡ true → (a : Buf)
+        → b ≡ armed a (epOn d Out f .«armed_slot») (epOn d Out f .«max_len») → Clean t b
     clean-armed f h i a s k l =
         let r = epOn d Out f in
         let x : slotAt e t ≡ r .«armed_slot» = sym (slot-mod f h) ∙ sym (R .outs f .slot) in
         let m : most e t ≡ r .«max_len» = sym (most-mod f h) ∙ ap (λ (p : Plain). p .«max_len») (sym (R .same .plain Out f)) in
         let w : Words (r .stride) = slot-words R f i in
         let n : length b ≡ length a = ap length s ∙ only-armed a (r .«armed_slot») (r .«max_len») .long in
-        let z : r .«armed_slot» + reach (r .«max_len») ≤ length a = omega (arith, w .0, w .1, R .outs f .held .least, R .outs f .slot, R .outs f .upto, R .outs f .held .placed .inside, n) in
-        inl (ap (λ y. getD b (y + k) 0) x ∙ ap (λ (c : Buf). getD c (r .«armed_slot» + k) 0) s ∙ sym (getD-drop (r .«armed_slot») (armed a (r .«armed_slot») (r .«max_len»)) k 0)
+        let z : r .«armed_slot» + reach (r .«max_len») ≤ length a =
+        omega (arith, w .0, w .1, R .outs f .held .least, R .outs f .slot, R .outs f .upto, R .outs f .held .placed .inside, n) in
+        inl (ap (λ y. getD b (y + k) 0) x ∙ ap (λ (c : Buf). getD c (r .«armed_slot» + k) 0) s
+        ∙ sym (getD-drop (r .«armed_slot») (armed a (r .«armed_slot») (r .«max_len»)) k 0)
         ∙ armed-empties a (r .«armed_slot») (r .«max_len») z k (omega (arith, m)))
 
   -- ---- what it says
 
-  pub true-length : {φ : Phase} {b : Buf} {d : Driver} {t : Pages} → Rest φ b d t → Clean t b → length packet ≤ epOn d Out e .«max_len» → Whole e packet t b → LastDiffers (length packet) packet
+  pub true-length : {φ : Phase} {b : Buf} {d : Driver} {t : Pages} → Rest φ b d t → Clean t b → length packet ≤ epOn d Out e .«max_len»
+      → Whole e packet t b → LastDiffers (length packet) packet
       → (markedLen b (epOn d Out e .«armed_slot») (epOn d Out e .«max_len») ≡ length packet) × (bytesAt b (epOn d Out e .«armed_slot») (length packet) ≡ packet)
   true-length {b = b} {d = d} {t = t} R c small whole last =
       let r = epOn d Out e in
       let x : slotAt e t ≡ r .«armed_slot» = sym (R .outs e .slot) in
       let m : most e t ≡ r .«max_len» = ap (λ (p : Plain). p .«max_len») (sym (R .same .plain Out e)) in
-      let fits : r .«armed_slot» + r .«max_len» ≤ length b = omega (arith, R .outs e .held .least, R .outs e .slot, R .outs e .upto, R .outs e .held .placed .inside) in
-      let byte : (k : ℕ) → k < length packet → getD (drop (r .«armed_slot») b) k 0 ≡ getD packet k 0 = λ k h. getD-drop (r .«armed_slot») b k 0 ∙ ap (λ y. getD b (y + k) 0) (sym x) ∙ whole k h in (
+      let fits : r .«armed_slot» + r .«max_len» ≤ length b =
+      omega (arith, R .outs e .held .least, R .outs e .slot, R .outs e .upto, R .outs e .held .placed .inside) in
+      let byte : (k : ℕ) → k < length packet → getD (drop (r .«armed_slot») b) k 0 ≡ getD packet k 0 =
+      λ k h. getD-drop (r .«armed_slot») b k 0 ∙ ap (λ y. getD b (y + k) 0) (sym x) ∙ whole k h in (
         len-is b (r .«armed_slot») (length packet) (r .«max_len») fits small (λ k h g. last k h (sym (byte k (omega (arith, h))) ∙ g))
-            (λ k l h. getD-drop (r .«armed_slot») b k 0 ∙ ap (λ y. getD b (y + k) 0) (sym x) ∙ ⊎-elim (λ q. q) (λ q. absurd (omega (arith, q .0))) (c k (omega (arith, m)))),
+            (λ k l h. getD-drop (r .«armed_slot») b k 0 ∙ ap (λ y. getD b (y + k) 0) (sym x)
+            ∙ ⊎-elim (λ q. q) (λ q. absurd (omega (arith, q .0))) (c k (omega (arith, m)))),
         ext-getD 0 (bytesAt b (r .«armed_slot») (length packet)) packet
             (omega (arith, length-take (length packet) (drop (r .«armed_slot») b), length-drop (r .«armed_slot») b))
-            (λ k l. let h : k < length packet = omega (arith, length-take (length packet) (drop (r .«armed_slot») b)) in getD-take (length packet) (drop (r .«armed_slot») b) k 0 h ∙ byte k h),
+            (λ k l. let h : k < length packet = omega (arith, length-take (length packet) (drop (r .«armed_slot») b)) in
+            getD-take (length packet) (drop (r .«armed_slot») b) k 0 h ∙ byte k h),
       )

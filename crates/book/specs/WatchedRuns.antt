@@ -58,7 +58,8 @@ module _ (e n : ℕ) (packet : List ℕ) where
   Claim w t b = w .armed ≡ true → w .armings ≡ n → Clean e packet t b
 
   -- another endpoint's page and address
-  away : (t : Pages) (f : ℕ) → eqb (e % 16) (f % 16) ≡ false → (v : Bool) (p : OutPage) (x : ℕ) → Stays e packet t (feedB (Receive f x) (cond v (withOut t f p) t))
+  away : (t : Pages) (f : ℕ) → eqb (e % 16) (f % 16) ≡ false → (v : Bool) (p : OutPage) (x : ℕ)
+      → Stays e packet t (feedB (Receive f x) (cond v (withOut t f p) t))
   away t f g true p x = record { slot = ap (λ z. cond z (slotTold (withOut t f p .outs f) x) (cond z p (t .outs e)) .slot) g; size = refl }
   away t f g false p x = record { slot = ap (λ z. cond z (slotTold (t .outs f) x) (t .outs e) .slot) g; size = refl }
 
@@ -78,7 +79,8 @@ module _ (e n : ℕ) (packet : List ℕ) where
   same-globals true t u h = h
   same-globals false t u h = refl
 
-  iso-same : {φ ψ : Phase} {b b′ : Buf} {d d′ : Driver} {t t′ : Pages} → Rest φ b d t → Rest ψ b′ d′ t′ → t′ .kept .globals ≡ t .kept .globals → (f : ℕ) → isOn (epOn d′ Out f .iso) ≡ isOn (epOn d Out f .iso)
+  iso-same : {φ ψ : Phase} {b b′ : Buf} {d d′ : Driver} {t t′ : Pages} → Rest φ b d t → Rest ψ b′ d′ t′ → t′ .kept .globals ≡ t .kept .globals
+      → (f : ℕ) → isOn (epOn d′ Out f .iso) ≡ isOn (epOn d Out f .iso)
   iso-same R R′ h f = sym (R′ .isos f) ∙ ap (λ (g : Globals). isSet (g .«iso_out_eps») (f % 16)) (R′ .same .globals ∙ h ∙ sym (R .same .globals)) ∙ R .isos f
 
   act-watch : (q : Act) (w : Watch) → watchAct q w .armed ≡ true → watchAct q w ≡ w
@@ -96,10 +98,12 @@ module _ (e n : ℕ) (packet : List ℕ) where
   act-watch no-wakes w h = refl
   act-watch (waken codes) w h = refl
 
-  act-claims : (q : Act) (b : Buf) (d : Driver) (t : Pages) (w : Watch) → Rest quiet b d t → Claim w t b → Claim (watchAct q w) (actB q (t, b) .0) (conc .act q (d, b) .1)
+  act-claims : (q : Act) (b : Buf) (d : Driver) (t : Pages) (w : Watch) → Rest quiet b d t → Claim w t b
+      → Claim (watchAct q w) (actB q (t, b) .0) (conc .act q (d, b) .1)
   act-claims q b d t w R c a m =
       let h = act-watch q w a in
-      clean-moved e packet R (actB q (t, b) .0) (conc .act q (d, b) .1) (act-stays e packet R q w a) (act-leaves R e q) (c (ap (λ (v : Watch). v .armed) (sym h) ∙ a) (ap (λ (v : Watch). v .armings) (sym h) ∙ m))
+      clean-moved e packet R (actB q (t, b) .0) (conc .act q (d, b) .1) (act-stays e packet R q w a) (act-leaves R e q)
+      (c (ap (λ (v : Watch). v .armed) (sym h) ∙ a) (ap (λ (v : Watch). v .armings) (sym h) ∙ m))
 
   -- ---- an address
 
@@ -125,7 +129,8 @@ module _ (e n : ℕ) (packet : List ℕ) where
 
         own : (v : Bool) → receiving t f ≡ v → e % 16 ≡ f % 16 → Claim (armsBy v w) u (x .1 .1)
         own true v h a m = clean-armed e packet R′ f h
-            (iso-same R R′ (same-globals (receiving t f) t (withOut t f (arrived (t .outs f) (packetB f k (t, b)))) refl) f ∙ receives-iso R f (ap (λ (g : Globals). isSet (isoOuts g) (f % 16)) (R .same .globals) ∙ v)) b (arms v)
+            (iso-same R R′ (same-globals (receiving t f) t (withOut t f (arrived (t .outs f) (packetB f k (t, b)))) refl) f
+            ∙ receives-iso R f (ap (λ (g : Globals). isSet (isoOuts g) (f % 16)) (R .same .globals) ∙ v)) b (arms v)
         own false v h a m = absurd (true≢false (sym a))
 
         by : (z : Bool) → eqb (e % 16) (f % 16) ≡ z → Claim (cond z (armsBy (receiving t f) w) w) u (x .1 .1)
@@ -154,7 +159,8 @@ module _ (e n : ℕ) (packet : List ℕ) where
   -- ---- a row's step
 
   module _ {φ : Phase} (b : Buf) (d : Driver) (t : Pages) (w : Watch) (R : Rest φ b d t) (c : Claim w t b) where
-    slot-claims : {ψ : Phase} (f : ℕ) (onn : Bool) (k : ℕ) → let x = slotStep f k (d, b) in let u = feedB (Receive f (x .0)) (rowB (switch f onn) (suc (suc (suc k))) (t, b) .1 .0) in
+    slot-claims : {ψ : Phase} (f : ℕ) (onn : Bool) (k : ℕ) → let x = slotStep f k (d, b) in let u =
+        feedB (Receive f (x .0)) (rowB (switch f onn) (suc (suc (suc k))) (t, b) .1 .0) in
         Rest ψ (x .1 .1) (x .1 .0) u → Claim (watchRow e (switch f onn) (suc (suc (suc k))) t w) u (x .1 .1)
     slot-claims f onn k R′ = by (eqb (e % 16) (f % 16)) refl
       where
@@ -181,16 +187,20 @@ module _ (e n : ℕ) (packet : List ℕ) where
         by : (z : Bool) → eqb (e % 16) (f % 16) ≡ z → Claim (cond z (armsBy (isoOf t Out f) w) w) u (x .1 .1)
         by true g = own (isoOf t Out f) refl (eqb-true (e % 16) (f % 16) g)
         by false g = λ a m. clean-moved e packet R u (x .1 .1) (away-renewed t f g (isoOf t Out f && eqb k 15) (x .0))
-            (row-leaves R e (switch f onn) (suc (suc (suc k))) (λ f′ on′ p. subst (λ y. y % 16 ≢ e % 16) (ap rowOf p) (λ z. eqb-false (e % 16) (f % 16) g (sym z)))) (c a m)
+            (row-leaves R e (switch f onn) (suc (suc (suc k)))
+            (λ f′ on′ p. subst (λ y. y % 16 ≢ e % 16) (ap rowOf p) (λ z. eqb-false (e % 16) (f % 16) g (sym z)))) (c a m)
 
     abbrev stepped : Row → ℕ → Pages
     stepped g k = feedB (rowAsk g k (conc .row g k (d, b) .0)) (rowB g k (t, b) .1 .0)
 
     row-claims : {ψ : Phase} (g : Row) (k : ℕ) → let x = conc .row g k (d, b) in let u = feedB (rowAsk g k (x .0)) (rowB g k (t, b) .1 .0) in
         Rest ψ (x .1 .1) (x .1 .0) u → Claim (watchRow e g k t w) u (x .1 .1)
-    row-claims (switch f onn) zero R′ = λ a m. clean-moved e packet R (stepped (switch f onn) zero) b (record { slot = refl; size = refl }) (λ k l h. refl) (c a m)
-    row-claims (switch f onn) (suc zero) R′ = λ a m. clean-moved e packet R (stepped (switch f onn) (suc zero)) b (record { slot = refl; size = refl }) (λ k l h. refl) (c a m)
-    row-claims (switch f onn) (suc (suc zero)) R′ = λ a m. clean-moved e packet R (stepped (switch f onn) (suc (suc zero))) b (record { slot = refl; size = refl }) (λ k l h. refl) (c a m)
+    row-claims (switch f onn) zero R′ =
+        λ a m. clean-moved e packet R (stepped (switch f onn) zero) b (record { slot = refl; size = refl }) (λ k l h. refl) (c a m)
+    row-claims (switch f onn) (suc zero) R′ =
+        λ a m. clean-moved e packet R (stepped (switch f onn) (suc zero)) b (record { slot = refl; size = refl }) (λ k l h. refl) (c a m)
+    row-claims (switch f onn) (suc (suc zero)) R′ =
+        λ a m. clean-moved e packet R (stepped (switch f onn) (suc (suc zero))) b (record { slot = refl; size = refl }) (λ k l h. refl) (c a m)
     row-claims (switch f onn) (suc (suc (suc k))) R′ = slot-claims f onn k R′
     row-claims bus-reset k R′ = λ a m. absurd (true≢false (sym a))
 
@@ -210,14 +220,21 @@ module _ (e n : ℕ) (packet : List ℕ) where
     unfed = λ q h s. ap (λ (p : Pages). record { pages = p; watch = s .watch }) (agree .unfed q h (s .pages));
     good-bare = λ q h b s. agree .good-bare q h b (s .pages);
     get = λ c b d s r. agree .get c b d (s .pages) (r .0);
-    put = λ c v b d s r. let z = agree .put c v b d (s .pages) (r .0) in
-        (z .0, (z .1, λ a m. clean-moved e packet (r .0) (putB c v (s .pages, b) .0) (conc .put c v (d, b) .1) (put-stays e packet (r .0) c v) (put-leaves (r .0) e c v) (r .1 a m)));
+    put = λ c v b d s r. let z = agree .put c v b d (s .pages) (r .0) in (
+      z .0,
+      (
+        z .1,
+        λ a m. clean-moved e packet (r .0) (putB c v (s .pages, b) .0) (conc .put c v (d, b) .1) (put-stays e packet (r .0) c v)
+            (put-leaves (r .0) e c v) (r .1 a m),
+      ),
+    );
     is = λ q b d s r. agree .is q b d (s .pages) (r .0);
     look = λ q b d s r. agree .look q b d (s .pages) (r .0);
     fetch = λ q b d s r. agree .fetch q b d (s .pages) (r .0);
     act = λ q b d s r. let z = agree .act q b d (s .pages) (r .0) in (z .0, (z .1, act-claims q b d (s .pages) (s .watch) (r .0) (r .1)));
     hand = λ q b d s r. let z = agree .hand q b d (s .pages) (r .0) in ((z .0, hand-claims b d (s .pages) (s .watch) (r .0) (r .1) q (z .0)), z .1);
-    first = λ g b d s r. let z = agree .first g b d (s .pages) (r .0) in (z .0, (z .1, row-claims b d (s .pages) (s .watch) (r .0) (r .1) g (lastOf g) (z .1)), z .2);
+    first = λ g b d s r. let z = agree .first g b d (s .pages) (r .0) in
+        (z .0, (z .1, row-claims b d (s .pages) (s .watch) (r .0) (r .1) g (lastOf g) (z .1)), z .2);
     next = λ g k b d s r. let z = agree .next g k b d (s .pages) (r .0) in (z .0, (z .1, row-claims b d (s .pages) (s .watch) (r .0) (r .1) g k (z .1)), z .2);
     finish = λ g b d s r. (agree .finish g b d (s .pages) (r .0), r .1);
   }
@@ -227,12 +244,14 @@ module _ (e n : ℕ) (packet : List ℕ) where
 
   -- ---- every list of calls
 
-  found : {x : Ans Answer × Machine Answer Driver} {y : Ans Answer × Machine Answer Seen} → After driverOf (watched e) agreed calls x y → TrueLength e n packet (x .1 .st) (x .1 .buf) (y .1 .st)
+  found : {x : Ans Answer × Machine Answer Driver} {y : Ans Answer × Machine Answer Seen} → After driverOf (watched e) agreed calls x y
+      → TrueLength e n packet (x .1 .st) (x .1 .buf) (y .1 .st)
   found {x} {y} k b′ s a m small whole last =
       true-length e packet (chip (x .1 .buf) b′ (k .phase) (x .1 .st) (y .1 .st .pages) (k .rest .0) (s .chip))
       (clean-stored e packet (y .1 .st .pages) (x .1 .buf) b′ (k .rest .1 a m) (s .alone a m)) small whole last
 
-  each : (vs : List (Event Config Op)) (m : Machine Answer Driver) (y : Machine Answer Seen) → All driverOf (watched e) agreed calls fresh-claims vs m y → TrueLengths e n packet vs m y
+  each : (vs : List (Event Config Op)) (m : Machine Answer Driver) (y : Machine Answer Seen)
+      → All driverOf (watched e) agreed calls fresh-claims vs m y → TrueLengths e n packet vs m y
   each [] m y a = tt
   each (v ∷ vs) m y a = (found (a .0), each vs _ _ (a .1))
 
@@ -240,13 +259,15 @@ module _ (e n : ℕ) (packet : List ℕ) where
   lent-as true X p = tt
   lent-as false X p = p
 
-  lent-is : (c : Call Config Op) (m : Machine Answer Driver) (y : Machine Answer Seen) (b : Buf) → LentBy e n packet c m y b → Lent driverOf (watched e) agreed calls c m y b
+  lent-is : (c : Call Config Op) (m : Machine Answer Driver) (y : Machine Answer Seen) (b : Buf) → LentBy e n packet c m y b
+      → Lent driverOf (watched e) agreed calls c m y b
   lent-is (start c) m y b p = tt
   lent-is (begin o) m y b p = lent-as (cond (calls .slots o) (misfit calls driverOf (m .st) b) false) (Stored e n packet (y .st) (m .buf) b) p
   lent-is (go v) m y b p = lent-as (misfit calls driverOf (m .st) b) (Stored e n packet (y .st) (m .buf) b) p
   lent-is (question q) m y b p = p
 
-  lawful : (vs : List (Event Config Op)) (m : Machine Answer Driver) (y : Machine Answer Seen) → AllLent e n packet vs m y → Lawful driverOf (watched e) agreed calls fresh-claims vs m y
+  lawful : (vs : List (Event Config Op)) (m : Machine Answer Driver) (y : Machine Answer Seen) → AllLent e n packet vs m y
+      → Lawful driverOf (watched e) agreed calls fresh-claims vs m y
   lawful [] m y p = tt
   lawful (v ∷ vs) m y p = (lent-is (v .call) m y (v .lent) (p .0), lawful vs _ _ (p .1))
 
@@ -260,23 +281,30 @@ module _ (e n : ℕ) (packet : List ℕ) where
 
   -- ---- of the code
 
-  made-each : (ms : List Made) {φ : Phase} (xs : List ℕ) (a : Buf) (y : Machine Answer Seen) → Ways driverOf (watched e) agreed calls φ (machineOf xs a .way) (y .way) → Claims φ a (view xs) (y .st) → RunLent e n packet xs a y ms → TrueLengthsMade e n packet y ms
+  made-each : (ms : List Made) {φ : Phase} (xs : List ℕ) (a : Buf) (y : Machine Answer Seen)
+      → Ways driverOf (watched e) agreed calls φ (machineOf xs a .way) (y .way) → Claims φ a (view xs) (y .st) → RunLent e n packet xs a y ms
+      → TrueLengthsMade e n packet y ms
   made-each [] xs a y w r h = tt
   made-each (m ∷ ms) xs a y w r h =
       let k : After driverOf (watched e) agreed calls (m .answer, machineOf (m .bytes) (m .slots)) (noted e (m .answer) (m .event .call) y (m .event .lent))
-      = subst (λ (z : Ans Answer × Machine Answer Driver). After driverOf (watched e) agreed calls z (noted e (z .0) (m .event .call) y (m .event .lent))) (sym (h .0))
-      (agrees driverOf (watched e) agreed calls fresh-claims (m .event .call) (m .event .lent) (machineOf xs a) y w r (lent-is (m .event .call) (machineOf xs a) y (m .event .lent) (h .1))) in
+      = subst (λ (z : Ans Answer × Machine Answer Driver). After driverOf (watched e) agreed calls z
+      (noted e (z .0) (m .event .call) y (m .event .lent))) (sym (h .0))
+      (agrees driverOf (watched e) agreed calls fresh-claims (m .event .call) (m .event .lent) (machineOf xs a) y w r
+      (lent-is (m .event .call) (machineOf xs a) y (m .event .lent) (h .1))) in
       (found k, made-each ms (m .bytes) (m .slots) _ (k .ways) (k .rest) (h .2))
 
   -- any bytes, a start-up that rows 1 and 2 do not stop, and then any calls whose contracts say what they are steps of
-  pub code-true-lengths : (c : Config) (b : Buf) → startRow c b ≡ zero → (xs : List ℕ) (a : Buf) (y : Machine Answer Seen) (first : Made) → first .event ≡ record { call = start c; lent = b } → Did xs a first → (ms : List Made)
+  pub code-true-lengths : (c : Config) (b : Buf) → startRow c b ≡ zero → (xs : List ℕ) (a : Buf) (y : Machine Answer Seen) (first : Made)
+      → first .event ≡ record { call = start c; lent = b } → Did xs a first → (ms : List Made)
       → let z = started calls (watched e .driver) (fed (watched e) (first .answer)) c zero y b in
       RunLent e n packet (first .bytes) (first .slots) (z .1) ms → TrueLengthsMade e n packet (z .1) ms
   code-true-lengths c b row xs a y first v did ms h =
       let q : (first .answer, machineOf (first .bytes) (first .slots)) ≡ started calls driverOf (λ s. s) c zero (machineOf xs a) b
       = subst (λ (v : Event Config Op). (first .answer, machineOf (first .bytes) (first .slots)) ≡ drive (v .call) (machineOf xs a) (v .lent)) v did
       ∙ ap (λ k. started calls driverOf (λ s. s) c k (machineOf xs a) b) row in
-      let k : After driverOf (watched e) agreed calls (first .answer, machineOf (first .bytes) (first .slots)) (started calls (watched e .driver) (fed (watched e) (first .answer)) c zero y b)
-      = subst (λ (z : Ans Answer × Machine Answer Driver). After driverOf (watched e) agreed calls z (started calls (watched e .driver) (fed (watched e) (z .0)) c zero y b)) (sym q)
+      let k : After driverOf (watched e) agreed calls (first .answer, machineOf (first .bytes) (first .slots))
+      (started calls (watched e .driver) (fed (watched e) (first .answer)) c zero y b)
+      = subst (λ (z : Ans Answer × Machine Answer Driver). After driverOf (watched e) agreed calls z
+      (started calls (watched e .driver) (fed (watched e) (z .0)) c zero y b)) (sym q)
       (from-start driverOf (watched e) agreed calls fresh-claims c b row [] (machineOf xs a) y tt .0) in
       made-each ms (first .bytes) (first .slots) _ (k .ways) (k .rest) h
