@@ -1,6 +1,7 @@
 -- The remainder without a table: what 32 zero bits make of a word is three runs of its bits, moved and added, and 0xC001 if its bits are odd in number.
 -- For the generator is (x + 1)(x^15 + x + 1). Nothing here need be believed: FoldLaws has it from the definition.
-use Prim.Native.Nat.{ℕ, _*_, _/_, _%_, _^_}
+use mathlib.Core.Path.{_≡_}
+use Prim.Native.Nat.{ℕ, _*_, _/_, _%_, _^_, _<_}
 use lib.Bits.{bitXor}
 
 abbrev high : ℕ → ℕ
@@ -36,3 +37,8 @@ odd x = onto 1 (onto 2 (onto 4 (onto 8 (onto 16 x)))) % 2
 -- the remainder that a sum and the words so far stand for
 unfoldable pub remainderOf : ℕ → ℕ → ℕ
 remainderOf z words = bitXor (settled z) (odd words * 0xC001)
+
+-- a sum of folded words: 17 bits, even in number
+pub record Even (z : ℕ) : Type 0 where
+  pub short : z < 2 ^ 17
+  pub even : odd z ≡ 0

@@ -4,9 +4,9 @@ ghost use mathlib.Core.Path.{_≡_};
 ghost use Rattle.crc.specs.Crc.{dataCrc};
 ghost use Rattle.crc.specs.Register.{turned, turns, over};
 ghost use Rattle.crc.specs.Bytewise.{wordOf};
-ghost use Rattle.crc.specs.Fold.{folded, odd, remainderOf};
+ghost use Rattle.crc.specs.Fold.{folded, odd, remainderOf, Even};
 ghost use lib.ListN.{length, drop};
-ghost use Prim.Native.Nat.{_*_, _/_, _<_};
+ghost use Prim.Native.Nat.{_+_, _*_, _/_, _<_};
 
 // One data bit, the lowest of x.
 fn turn(remainder: u16, x: u8) -> u16
@@ -71,21 +71,48 @@ fn settle(sum: u32, words: u32) -> u16
     ((low ^ parity(words) * 0xC001) % 0x1_0000) as u16
 }
 
-// What the whole words of these bytes make of the remainder, from the seed on.
+// A sum of folded words, and the words' own exclusive or.
+struct Sums {
+    sum: u32,
+    words: u32,
+}
+
+// The word at i.
+fn with_word(s: Sums, bytes: &[u8], i: usize) -> Sums
+    requires { ⌜ (i + 3 < length (now bytes)) × Even (s .sum) ⌝ }
+    ensures { λ r. ⌜ Even (r .sum) ⌝ }
+    ensures { λ r. ⌜ over (remainderOf (r .sum) (r .words)) (drop (i + 4) (now (bytes .entry))) ≡ over (remainderOf (s .sum) (s .words)) (drop i (now (bytes .entry))) ⌝ }
+{
+    let next = word(bytes[i], bytes[i + 1], bytes[i + 2], bytes[i + 3]);
+    Sums {
+        sum: fold(s.sum ^ next),
+        words: s.words ^ next,
+    }
+}
+
+// What the whole words of these bytes make of the remainder, from the seed on; four words at a turn while there are as many.
 fn whole_words(bytes: &[u8]) -> u16
     ensures { λ r. ⌜ over r (drop (length (now (bytes .entry)) / 4 * 4) (now (bytes .entry))) ≡ over 65535 (now (bytes .entry)) ⌝ }
 {
+    let fours = bytes.len() / 16 * 16;
     let end = bytes.len() / 4 * 4;
-    let mut sum = 0xFFFF;
-    let mut words = 0;
+    let mut s = Sums {
+        sum: 0xFFFF,
+        words: 0,
+    };
     let mut i = 0;
+    while i < fours {
+        s = with_word(s, bytes, i);
+        s = with_word(s, bytes, i + 4);
+        s = with_word(s, bytes, i + 8);
+        s = with_word(s, bytes, i + 12);
+        i += 16;
+    }
     while i < end {
-        let next = word(bytes[i], bytes[i + 1], bytes[i + 2], bytes[i + 3]);
-        sum = fold(sum ^ next);
-        words ^= next;
+        s = with_word(s, bytes, i);
         i += 4;
     }
-    settle(sum, words)
+    settle(s.sum, s.words)
 }
 
 // The CRC of these bytes, the first bit sent being bit 0.

@@ -1,113 +1,137 @@
-use mathlib.Core.Path.{_≡_, refl, sym, ap, _∙_}
-use Prim.Native.Nat.{ℕ, _+_, _-_, _*_, _/_, _%_, _^_, _≤_, _<_}
+use mathlib.Core.Path.{_≡_, refl, ap, _∙_}
+use Prim.Native.Nat.{ℕ, _+_, _-_, _*_, _/_, _%_, _≤_}
 use native.Mathlib.Omega.{arith}
 use borrow.Author.Needs.{needs}
-use lib.Bits.{bitXor, xor-lt}
 use lib.ListN.{length, drop}
 use Rattle.crc.specs.Register.{over}
-use Rattle.crc.specs.Fold.{odd, settled, remainderOf}
-use Rattle.crc.specs.FoldLaws.{fold-lt, fold-even}
-use Rattle.crc.proofs.Laws.{word-more}
+use Rattle.crc.specs.Fold.{Even, odd, settled, remainderOf}
 use Rattle.crc.proofs.whole_words.Statement.{statement}
 use Rattle.crc.proofs.whole_words.Tie as tie
 use Rattle.crc.proofs.whole_words.Reads as reads
 use Rattle.crc.proofs.whole_words.Lts as lts
-use Rattle.crc.proofs.fold.Reads as fold-reads
 use Rattle.crc.proofs.settle.Reads as settle-reads
-use Rattle.crc.proofs.word.Reads as word-reads
+use Rattle.crc.proofs.with_word.Reads as with-word-reads
 
-seed-even : odd 0xFFFF ≡ 0
+seed-even : Even 0xFFFF
 unfolding odd
-seed-even = refl
+seed-even = record { short = omega arith; even = refl }
 
 seed-is : remainderOf 0xFFFF 0 ≡ 0xFFFF
 unfolding remainderOf settled odd
 seed-is = refl
 
 abbrev Inv-loop : tie.InvT-loop
-Inv-loop bytes end sum₀ words₀ i₀ sum words i =
-    (end ≡ length bytes / 4 * 4) × (i % 4 ≡ 0) × (i ≤ end) × (sum < 2 ^ 17) × (odd sum ≡ 0)
-    × (over (remainderOf sum words) (drop i bytes) ≡ over 65535 bytes)
+Inv-loop bytes fours end s₀ i₀ s i =
+    (fours ≡ length bytes / 16 * 16) × (i % 16 ≡ 0) × (i ≤ fours) × Even (s .sum)
+    × (over (remainderOf (s .sum) (s .words)) (drop i bytes) ≡ over 65535 bytes)
 
 abbrev μ-loop : tie.MeasureT-loop
-μ-loop bytes end sum₀ words₀ i₀ sum words i = end - i
+μ-loop bytes fours end s₀ i₀ s i = fours - i
 
--- src/lib.rt:77:15
-mul-end : tie.Need-mul-end Inv-loop μ-loop
+abbrev Inv-loop2 : tie.InvT-loop2
+Inv-loop2 bytes fours end s₀ i₀ s i =
+    (end ≡ length bytes / 4 * 4) × (i % 4 ≡ 0) × (i ≤ end) × Even (s .sum)
+    × (over (remainderOf (s .sum) (s .words)) (drop i bytes) ≡ over 65535 bytes)
+
+abbrev μ-loop2 : tie.MeasureT-loop2
+μ-loop2 bytes fours end s₀ i₀ s i = end - i
+
+-- src/lib.rt:97:17
+mul-fours : tie.Need-mul-fours Inv-loop μ-loop Inv-loop2 μ-loop2
+mul-fours c = omega arith
+
+-- src/lib.rt:98:15
+mul-end : tie.Need-mul-end Inv-loop μ-loop Inv-loop2 μ-loop2
 mul-end c = omega arith
 
--- src/lib.rt:81:5
-loop-holds : tie.Need-loop-holds Inv-loop μ-loop
-loop-holds c = (refl, omega arith, omega arith, omega arith, seed-even, ap (λ (r : ℕ). over r (c .before .args .bytes .now)) seed-is)
+-- src/lib.rt:104:5
+loop-holds : tie.Need-loop-holds Inv-loop μ-loop Inv-loop2 μ-loop2
+loop-holds c = (refl, omega arith, omega arith, seed-even, ap (λ (r : ℕ). over r (c .before .args .bytes .now)) seed-is)
 
--- src/lib.rt:82:25
-shared-slice-read-word : tie.Need-shared-slice-read-word Inv-loop μ-loop
-shared-slice-read-word c = omega arith
+-- src/lib.rt:105:9
+with-word-requires : tie.Need-with-word-requires Inv-loop μ-loop Inv-loop2 μ-loop2
+with-word-requires c κs = (omega arith, c .before .loop .inv .3)
 
--- src/lib.rt:82:41
-add-word : tie.Need-add-word Inv-loop μ-loop
-add-word c = omega arith
+-- src/lib.rt:106:33
+add-with-word : tie.Need-add-with-word Inv-loop μ-loop Inv-loop2 μ-loop2
+add-with-word c = omega arith
 
--- src/lib.rt:82:35
-shared-slice-read-word-2 : tie.Need-shared-slice-read-word-2 Inv-loop μ-loop
-shared-slice-read-word-2 c = omega arith
+-- src/lib.rt:106:9
+with-word-requires-2 : tie.Need-with-word-requires-2 Inv-loop μ-loop Inv-loop2 μ-loop2
+with-word-requires-2 c κs = (omega arith, c .with-word .ensures .0)
 
--- src/lib.rt:82:55
-add-word-2 : tie.Need-add-word-2 Inv-loop μ-loop
-add-word-2 c = omega arith
+-- src/lib.rt:107:33
+add-with-word-2 : tie.Need-add-with-word-2 Inv-loop μ-loop Inv-loop2 μ-loop2
+add-with-word-2 c = omega arith
 
--- src/lib.rt:82:49
-shared-slice-read-word-3 : tie.Need-shared-slice-read-word-3 Inv-loop μ-loop
-shared-slice-read-word-3 c = omega arith
+-- src/lib.rt:107:9
+with-word-requires-3 : tie.Need-with-word-requires-3 Inv-loop μ-loop Inv-loop2 μ-loop2
+with-word-requires-3 c κs = (omega arith, c .with-word2 .ensures .0)
 
--- src/lib.rt:82:69
-add-word-3 : tie.Need-add-word-3 Inv-loop μ-loop
-add-word-3 c = omega arith
+-- src/lib.rt:108:33
+add-with-word-3 : tie.Need-add-with-word-3 Inv-loop μ-loop Inv-loop2 μ-loop2
+add-with-word-3 c = omega arith
 
--- src/lib.rt:82:63
-shared-slice-read-word-4 : tie.Need-shared-slice-read-word-4 Inv-loop μ-loop
-shared-slice-read-word-4 c = omega arith
+-- src/lib.rt:108:9
+with-word-requires-4 : tie.Need-with-word-requires-4 Inv-loop μ-loop Inv-loop2 μ-loop2
+with-word-requires-4 c κs = (omega arith, c .with-word3 .ensures .0)
 
--- src/lib.rt:82:13
-word-requires : tie.Need-word-requires Inv-loop μ-loop
-word-requires c κs = search needs
-
--- src/lib.rt:83:9
-fold-requires : tie.Need-fold-requires Inv-loop μ-loop
-fold-requires c κs = search needs
-
--- src/lib.rt:85:9
-add-i : tie.Need-add-i Inv-loop μ-loop
+-- src/lib.rt:109:9
+add-i : tie.Need-add-i Inv-loop μ-loop Inv-loop2 μ-loop2
 add-i c = omega arith
 
--- src/lib.rt:81:5
-loop-less : tie.Need-loop-less Inv-loop μ-loop
+-- src/lib.rt:104:5
+loop-less : tie.Need-loop-less Inv-loop μ-loop Inv-loop2 μ-loop2
 loop-less c = omega arith
 
--- src/lib.rt:81:5
-loop-again : tie.Need-loop-again Inv-loop μ-loop
+-- src/lib.rt:104:5
+loop-again : tie.Need-loop-again Inv-loop μ-loop Inv-loop2 μ-loop2
 loop-again c =
-    let v = c .before .before .before .before .before .before .before .loop in
-    let s = c .before .before .before .before .before .before .before .before .before .args in
-    let word = c .before .word in
-    let x = bitXor (v .sum) (word .result) in
-    let x-lt : x < 2 ^ 32 = xor-lt 32 (v .sum) (word .result) (omega arith) (omega arith) in
-    let more =
-    word-more (s .bytes .now) (v .i) (v .sum) (v .words) (word .result) (omega arith) (word .ensures .0) (word .ensures .1) (v .inv .3)
-    (v .inv .4) (omega arith) in
-    rw (c .fold .ensures) (refl, omega arith, omega arith, fold-lt x x-lt, fold-even x x-lt, more ∙ v .inv .5)
+    let v = c .before .before .before .before .before .loop in
+    let two : v .i + 4 + 4 ≡ v .i + 8 = omega arith in
+    let three : v .i + 8 + 4 ≡ v .i + 12 = omega arith in
+    let four : v .i + 12 + 4 ≡ v .i + 16 = omega arith in
+    let first = c .before .before .before .with-word .ensures .1 in
+    let second = rw two at (c .before .before .with-word2 .ensures .1) in
+    let third = rw three at (c .before .with-word3 .ensures .1) in
+    let fourth = rw four at (c .with-word4 .ensures .1) in
+    (refl, omega arith, omega arith, c .with-word4 .ensures .0, fourth ∙ third ∙ second ∙ first ∙ v .inv .4)
 
--- src/lib.rt:87:5
-settle-requires : tie.Need-settle-requires Inv-loop μ-loop
+-- src/lib.rt:111:5
+loop2-holds : tie.Need-loop2-holds Inv-loop μ-loop Inv-loop2 μ-loop2
+loop2-holds c =
+    let v = c .before .loop in
+    (refl, omega arith, omega arith, v .inv .3, v .inv .4)
+
+-- src/lib.rt:112:9
+with-word-requires-5 : tie.Need-with-word-requires-5 Inv-loop μ-loop Inv-loop2 μ-loop2
+with-word-requires-5 c κs = (omega arith, c .before .loop2 .inv .3)
+
+-- src/lib.rt:113:9
+add-i-2 : tie.Need-add-i-2 Inv-loop μ-loop Inv-loop2 μ-loop2
+add-i-2 c = omega arith
+
+-- src/lib.rt:111:5
+loop2-less : tie.Need-loop2-less Inv-loop μ-loop Inv-loop2 μ-loop2
+loop2-less c = omega arith
+
+-- src/lib.rt:111:5
+loop2-again : tie.Need-loop2-again Inv-loop μ-loop Inv-loop2 μ-loop2
+loop2-again c =
+    let v = c .before .before .loop2 in
+    (refl, omega arith, omega arith, c .with-word5 .ensures .0, c .with-word5 .ensures .1 ∙ v .inv .4)
+
+-- src/lib.rt:115:5
+settle-requires : tie.Need-settle-requires Inv-loop μ-loop Inv-loop2 μ-loop2
 settle-requires c κs = search needs
 
--- src/lib.rt:74:1
-returns : tie.Need-returns Inv-loop μ-loop
+-- src/lib.rt:94:1
+returns : tie.Need-returns Inv-loop μ-loop Inv-loop2 μ-loop2
 returns c =
-    let v = c .before .before .loop in
-    let s = c .before .before .before .before .args in
+    let v = c .before .before .loop2 in
+    let s = c .before .before .before .before .before .before .args in
     let e : length (s .bytes .now) / 4 * 4 ≡ v .i = omega arith in
-    rw (c .settle .ensures, e) (v .inv .5)
+    rw (c .settle .ensures, e) (v .inv .4)
 
 pub whole-words-spec : {M : Type 1} → statement M
 whole-words-spec =
@@ -115,19 +139,25 @@ whole-words-spec =
     (tie.spec
     Inv-loop
     μ-loop
+    Inv-loop2
+    μ-loop2
+    mul-fours
     mul-end
     loop-holds
-    shared-slice-read-word
-    add-word
-    shared-slice-read-word-2
-    add-word-2
-    shared-slice-read-word-3
-    add-word-3
-    shared-slice-read-word-4
-    word-requires
-    fold-requires
+    with-word-requires
+    add-with-word
+    with-word-requires-2
+    add-with-word-2
+    with-word-requires-3
+    add-with-word-3
+    with-word-requires-4
     add-i
     loop-less
     loop-again
+    loop2-holds
+    with-word-requires-5
+    add-i-2
+    loop2-less
+    loop2-again
     settle-requires
     returns)
