@@ -108,7 +108,7 @@ module _ (t : Pages) (e : ℕ) where
   pub record Opened (z : Answer) (t′ : Pages) : Type 0 where
     pub none : z ≡ Refused 12 → t .outs e .waiting ≡ []
     pub shows : (stamp : ℕ) (bytes : List ℕ) → z ≡ Shown bytes stamp
-        → (q : Packet) × (rest : List Packet) × (t .outs e .waiting ≡ q ∷ rest) × (bytes ≡ q .bytes) × (stamp ≡ q .stamp) × (t′ .outs e .opened ≡ true)
+        → (q : Packet) × (rest : List Packet) × (t .outs e .waiting ≡ q ∷ rest) × (bytes ≡ q .bytes) × (stamp ≡ q .stamp) × (t′ .outs e .opened ≡ true) × (t′ .outs e .waiting ≡ t .outs e .waiting) × (t′ .outs e .admitted ≡ t .outs e .admitted) × (t′ .outs e .read ≡ t .outs e .read)
 
   not-opened : (k : ℕ) (t′ : Pages) → (k ≡ 12 → ⊥) → Opened (Refused k) t′
   not-opened k t′ h = record { none = λ q. absurd (h (ap row q)); shows = λ stamp bytes q. absurd (true≢false (ap isRefused q)) }
@@ -129,6 +129,9 @@ module _ (t : Pages) (e : ℕ) where
       sym (ap shown z) ∙ ap (λ (p : OutPage). first (bytesOf (p .waiting))) (out-same t e (openOut (t .outs e))) ∙ ap (λ (w : List Packet). first (bytesOf w)) h,
       sym (ap stampShown z) ∙ ap (λ (p : OutPage). firstStamp (p .waiting)) (out-same t e (openOut (t .outs e))) ∙ ap firstStamp h,
       ap (λ (p : OutPage). p .opened) (out-same t e (openOut (t .outs e))),
+      ap (λ (p : OutPage). p .waiting) (out-same t e (openOut (t .outs e))),
+      ap (λ (p : OutPage). p .admitted) (out-same t e (openOut (t .outs e))),
+      ap (λ (p : OutPage). p .read) (out-same t e (openOut (t .outs e))),
     );
   }
   opens (q ∷ w) h false g k = absurd (true≢false (sym k))
@@ -160,6 +163,7 @@ reads-first {p} {p′} {q} {w} h k = record {
   first = h ∙ ap (λ (w : List Packet). q ∷ w) (sym (ap (λ (p : OutPage). p .waiting) k ∙ ap (λ (w : List Packet). tail w) h));
   read = ap (λ (p : OutPage). p .read) k ∙ ap (λ (w : List Packet). p .read ++ front w) h;
   admitted = ap (λ (p : OutPage). p .admitted) k;
+  closed = ap (λ (p : OutPage). p .opened) k;
 }
 
 module _ (t : Pages) (e : ℕ) (some-open : t .outs e .opened ≡ true → (q : Packet) × (w : List Packet) × (t .outs e .waiting ≡ q ∷ w)) where

@@ -6,7 +6,7 @@ use mathlib.Core.Path.{_≡_, refl, ap, ap₂, subst, sym, _∙_}
 use Prim.Native.Nat.{ℕ, zero, suc, _+_, _%_, _≤_, _<_}
 use native.Mathlib.Omega.{arith}
 use lib.Dec.{eqb, ltb}
-use borrow.Author.Tests.{ltb-true, ltb-false}
+use borrow.Author.Tests.{ltb-true, ltb-false, eq-eqb}
 use lib.ListN.{length, take, drop}
 use Rattle.regs.specs.declared.Access.{Access}
 use Rattle.regs.specs.declared.Access.the-variants.{Read, Write, Receive, Transmit, Ep0Dma, Wait, Callback}
@@ -17,10 +17,10 @@ use Rattle.script.specs.Script.{run}
 use Rattle.script.specs.Answers.{Answer, Refused}
 use Rattle.script.specs.Calls.{Config, Op, interrupt, slotted, other, aside, calls, code, starting, startRow}
 use Rattle.script.specs.Machine.{Buf, Call, start, begin, go, question, Ans, ended, handed, told, blank, blankA, Way, idle, busy, Machine, over, misfit, stay, lentTo, beside, halt, begun, continued, started, call, fed}
-use Rattle.book.specs.Pages.{Packet, OutPage, Pages, withOut}
-use Rattle.book.specs.Book.{Bk, receiving, slotTold, arrived, joined, turnedAway, feedB, freshPages, bookOps, book}
+use Rattle.book.specs.Pages.{Packet, OutPage, InPage, Pages, withOut}
+use Rattle.book.specs.Book.{Bk, receiving, slotTold, sourceTold, arrived, joined, turnedAway, feedB, freshPages, bookOps, book}
 use Rattle.book.specs.Frame.{at-elim, out-same}
-use Rattle.book.specs.FrontPage.{written, inInterrupt, Decides, Decided, admitted, turned-away, Counted, same, one-more, none}
+use Rattle.book.specs.FrontPage.{written, inInterrupt, Decides, Decided, admitted, turned-away, Counted, same, one-more, none, addressed}
 use Rattle.book.specs.BookTracks.{Tracks, end, ask}
 use Rattle.book.specs.InterruptParts.{of-interrupt}
 use Rattle.book.specs.BookCounts.{Periodic, Uncounted, Counts, Turned, Followed, follow}
@@ -164,6 +164,21 @@ module _ (a : Ans Answer) where
   pub start-lost : (c : Config) (n : Machine Answer Pages) (b : Buf) (e : ℕ) → started calls (book .driver) (fed book a) c zero n b .1 .st .outs e .lost ≡ 0
   start-lost c n b e = fed-page (λ p. p .lost) (λ p x. refl) a _ (fresh-periodic c) e
 
+  fed-ins : (b : Ans Answer) (t : Pages) → ((x : ℕ) → t .ins x .waiting ≡ []) → (e : ℕ) → fed book b t .ins e .waiting ≡ []
+  fed-ins (ended z) t h e = h e
+  fed-ins (handed (Transmit f x)) t h e = at-elim (λ (p : InPage). p .waiting ≡ []) f e (sourceTold (t .ins f) x) (t .ins) (λ _. h f) (λ _. h e)
+  fed-ins (handed (Read r f)) t h e = h e
+  fed-ins (handed (Write r f v)) t h e = h e
+  fed-ins (handed (Receive f x)) t h e = h e
+  fed-ins (handed (Ep0Dma x)) t h e = h e
+  fed-ins (handed (Wait k)) t h e = h e
+  fed-ins (handed Callback) t h e = h e
+  fed-ins (told k) t h e = h e
+
+  pub start-anew : (c : Config) (n : Machine Answer Pages) (b : Buf) (e : ℕ) → let t = started calls (book .driver) (fed book a) c zero n b .1 .st in
+      (t .outs e .lost ≡ 0) × (t .outs e .waiting ≡ []) × (t .ins e .waiting ≡ [])
+  start-anew c n b e = (start-lost c n b e, fed-page (λ p. p .waiting) (λ p x. refl) a _ (fresh-periodic c) e, fed-ins a _ (λ _. refl) e)
+
   pub call-fine : (c : Call Config Op) (n : Machine Answer Pages) → Fine n → (b : Buf) → Fine (written a c n b .1)
   call-fine (start c) n h b = started-fine c (startRow c b) n b h
   call-fine (begin o) n h b = either-fine (cond (calls .slots o) (misfit calls (book .driver) (n .st) b) false) _ _ h (begun-fine o n h (n .way) b)
@@ -283,7 +298,7 @@ module _ (a : Ans Answer) (e x v : ℕ) (n : Machine Answer Pages) (h : Fine n) 
   outcome : (o : tree.Out Bk Answer) → Followed (n .st, b) o → Watched (n .st, b) o → Says (halt calls (book .driver) (fed book a) true o)
   outcome (ends z t) f w k = no-end z k
   outcome (asks q t g) (ask j m f) (ask j′ m′ f′) k =
-      let z = m′ e x (ap accessOf k) on in
+      let z = m′ .0 e x (ap accessOf k) on in
       decided-by b (n .st .outs e) (fed book a (t .0) .outs e) (z .1) (z .0) l (z .2)
       (fed-page (λ p. p .waiting) (λ p x. refl) a (t .0) j e ∙ ap (λ (p : OutPage). p .waiting) (z .3))
       (fed-page (λ p. p .admitted) (λ p x. refl) a (t .0) j e ∙ ap (λ (p : OutPage). p .admitted) (z .3))
@@ -313,3 +328,55 @@ pub decided : (c : Call Config Op) (a : Ans Answer) (e : ℕ) (n : Machine Answe
 decided c a e n h b s l d = subst (λ (c : Call Config Op). blankA a ≡ blankA (written a c n b .0) → Decided b (n .st .outs e) (written a c n b .1 .st .outs e)) (sym (d .continues))
     (λ s. let z = same-receive (written a (go (d .brought)) n b .0) a e (d .address) (sym s) (d .hands) in
     fits-by a e (z .0) (d .brought) n h b l (d .enabled) (misfit calls (book .driver) (n .st) b) (d .interrupt) (z .1)) s
+
+-- ---- no arrival
+
+module _ (a : Ans Answer) (e v : ℕ) (n : Machine Answer Pages) (h : Fine n) (b : Buf) (away : addressed a e ≡ false) where
+  fed-away : (z : Ans Answer) → addressed z e ≡ false → (t : Pages) → fed book z t .outs e ≡ t .outs e
+  fed-away (ended z) g t = refl
+  fed-away (handed (Read r f)) g t = refl
+  fed-away (handed (Write r f w)) g t = refl
+  fed-away (handed (Receive f x)) g t = at-elim (λ (p : OutPage). p ≡ t .outs e) f e (slotTold (t .outs f) x) (t .outs)
+      (λ k. absurd (true≢false (sym (ap (λ (m : ℕ). eqb (f % 16) m) k ∙ eq-eqb (f % 16) (f % 16) refl) ∙ g))) (λ _. refl)
+  fed-away (handed (Transmit f x)) g t = refl
+  fed-away (handed (Ep0Dma x)) g t = refl
+  fed-away (handed (Wait k)) g t = refl
+  fed-away (handed Callback) g t = refl
+  fed-away (told k) g t = refl
+
+  abbrev Stays : Ans Answer × Machine Answer Pages → Type 0
+  Stays y = addressed (y .0) e ≡ false → y .1 .st .outs e ≡ n .st .outs e
+
+  stays-at : (o : tree.Out Bk Answer) → Watched (n .st, b) o → Stays (halt calls (book .driver) (fed book a) true o)
+  stays-at (ends z t) (end j q) k = q .outs e
+  stays-at (asks q t g) (ask j m f) k = fed-away a away (t .0) ∙ m .1 e k
+
+  stays-wide : (u : Bool) (y : Ans Answer × Machine Answer Pages) → Stays y → Stays (cond u (stay calls (book .driver) 16 (lentTo calls (book .driver) n b)) y)
+  stays-wide true y s k = refl
+  stays-wide false y s k = s k
+
+  stays-way : (w : Way Answer Pages) → WayFine w → inInterrupt w ≡ true → Stays (continued calls (book .driver) (fed book a) v n w b)
+  stays-way idle g i k = absurd (true≢false (sym i))
+  stays-way (busy true q f) g i k = stays-wide (over calls q v) _ (stays-at (f v (n .st, b)) (g v (n .st, b) (h .pages) .1)) k
+  stays-way (busy false q f) g i k = absurd (true≢false (sym i))
+
+  stays-fits : (u : Bool) → inInterrupt (n .way) ≡ true → Stays (cond u (stay calls (book .driver) 1 n) (continued calls (book .driver) (fed book a) v n (n .way) b))
+  stays-fits true i k = refl
+  stays-fits false i k = stays-way (n .way) (h .way) i k
+
+addressed-blank : (z : Ans Answer) (e : ℕ) → addressed (blankA z) e ≡ addressed z e
+addressed-blank (ended z) e = refl
+addressed-blank (handed (Read r f)) e = refl
+addressed-blank (handed (Write r f w)) e = refl
+addressed-blank (handed (Receive f x)) e = refl
+addressed-blank (handed (Transmit f x)) e = refl
+addressed-blank (handed (Ep0Dma x)) e = refl
+addressed-blank (handed (Wait k)) e = refl
+addressed-blank (handed Callback) e = refl
+addressed-blank (told k) e = refl
+
+pub unmoved : (c : Call Config Op) (a : Ans Answer) (e v : ℕ) (n : Machine Answer Pages) → Fine n → (b : Buf) → blankA a ≡ blankA (written a c n b .0)
+    → c ≡ go v → inInterrupt (n .way) ≡ true → addressed a e ≡ false → written a c n b .1 .st .outs e ≡ n .st .outs e
+unmoved c a e v n h b s p i g = subst (λ (c : Call Config Op). blankA a ≡ blankA (written a c n b .0) → written a c n b .1 .st .outs e ≡ n .st .outs e) (sym p)
+    (λ s. stays-fits a e v n h b g (misfit calls (book .driver) (n .st) b) i
+    (sym (addressed-blank (written a (go v) n b .0) e) ∙ ap (λ (z : Ans Answer). addressed z e) (sym s) ∙ addressed-blank a e ∙ g)) s

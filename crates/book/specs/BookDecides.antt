@@ -14,7 +14,10 @@ use Rattle.script.specs.Script.{Script, run, arrive}
 use Rattle.script.specs.Statics.{isoOuts}
 use Rattle.book.specs.Pages.{Packet, OutPage, Pages, withOut}
 use Rattle.book.specs.Book.{Bk, putB, receiving, arrived, packetB, handB, bookOps}
-use Rattle.book.specs.Frame.{out-same}
+use Rattle.book.specs.Frame.{out-same, at-elim}
+use Rattle.book.specs.FrontPage.{givesTo}
+use borrow.Author.Tests.{eq-eqb}
+use lib.Dec.{eqb}
 use Rattle.book.specs.BookTracks.{Tracks, end, ask, earlier, tracks-bind}
 use Rattle.book.specs.InterruptParts.{Parts, p-ret, p-bind, p-test, p-read, p-write, p-wait, p-callback, p-get, p-put, p-is, p-look, p-fetch, p-complete, p-no-wakes, p-waken, p-arrive, p-send}
 
@@ -32,6 +35,13 @@ abbrev pub Arrives : Bk → Access → Bk → Type 0
 Arrives s q t = (e x : ℕ) → q ≡ Receive e x → receiving (s .0) e ≡ true
     → (n : ℕ) × (k : Packet) × (k .bytes ≡ bytesAt (s .1) (s .0 .outs e .slot) n) × (t .0 .outs e ≡ arrived (s .0 .outs e) k)
 
+-- where the access is not a receive address of OUT e, its page stays
+abbrev pub Leaves : Bk → Access → Bk → Type 0
+Leaves s q t = (e : ℕ) → givesTo q e ≡ false → t .0 .outs e ≡ s .0 .outs e
+
+abbrev pub Moves : Bk → Access → Bk → Type 0
+Moves s q t = Arrives s q t × Leaves s q t
+
 idle-then : (s t u : Bk) → Idle s t → Idle t u → Idle s u
 idle-then s t u h k = record { outs = λ e. k .outs e ∙ h .outs e; sets = k .sets ∙ h .sets; bytes = k .bytes ∙ h .bytes }
 
@@ -43,6 +53,9 @@ arrives-then s t u q h k e x a r =
       z .2 ∙ ap (λ (b : List ℕ). bytesAt b (t .0 .outs e .slot) (z .0)) (h .bytes) ∙ ap (λ (p : OutPage). bytesAt (s .1) (p .slot) (z .0)) (h .outs e),
       z .3 ∙ ap (λ (p : OutPage). arrived p (z .1)) (h .outs e),
     )
+
+moves-then : (s t u : Bk) (q : Access) → Idle s t → Moves t q u → Moves s q u
+moves-then s t u q h k = (arrives-then s t u q h (k .0), λ e g. k .1 e g ∙ h .outs e)
 
 idle : {s : Bk} → Idle s s
 idle = record { outs = λ e. refl; sets = refl; bytes = refl }
@@ -85,21 +98,31 @@ arrives f n s e x a r = subst (λ (e : ℕ). receiving (s .0) e ≡ true → (m 
     by true h = out-same (s .0) f (arrived (s .0 .outs f) (packetB f n s))
     by false h = absurd (true≢false (sym h))
 
+leaves : (f n : ℕ) (s : Bk) → Leaves s (Receive f 0) (handB (arrive f n) s .1)
+leaves f n s e g = by (receiving (s .0) f)
+  where
+    page : OutPage
+    page = arrived (s .0 .outs f) (packetB f n s)
+
+    by : (u : Bool) → cond u (withOut (s .0) f page) (s .0) .outs e ≡ s .0 .outs e
+    by true = at-elim (λ (p : OutPage). p ≡ s .0 .outs e) f e page (s .0 .outs) (λ h. absurd (true≢false (sym (ap (λ (k : ℕ). eqb (f % 16) k) h ∙ eq-eqb (f % 16) (f % 16) refl) ∙ g))) (λ _. refl)
+    by false = refl
+
 abbrev pub Watched : {A : Type 0} → Bk → tree.Out Bk A → Type 0
-Watched s o = Tracks Any Idle Arrives s o
+Watched s o = Tracks Any Idle Moves s o
 
 after : {A : Type 0} {s t : Bk} {o : tree.Out Bk A} → Idle s t → Watched t o → Watched s o
-after h w = earlier Any Idle Arrives idle-then arrives-then h w
+after h w = earlier Any Idle Moves idle-then moves-then h w
 
 pub watch : {A : Type 0} {p : Script true A} → Parts A p → (s : Bk) → Watched s (run bookOps p s)
 watch p-ret s = end tt idle
-watch (p-bind h g) s = tracks-bind Any Idle Arrives idle-then arrives-then (watch h s) (λ a t _. watch (g a) t)
+watch (p-bind h g) s = tracks-bind Any Idle Moves idle-then moves-then (watch h s) (λ a t _. watch (g a) t)
 watch (p-test {b = true} h g) s = watch h s
 watch (p-test {b = false} h g) s = watch g s
-watch (p-read h) s = ask tt (λ e x a r. no-receive refl a) (λ v t _. watch (h v) t)
-watch (p-write h) s = ask tt (λ e x a r. no-receive refl a) (λ v t _. watch h t)
-watch (p-wait h) s = ask tt (λ e x a r. no-receive refl a) (λ v t _. watch h t)
-watch (p-callback h) s = ask tt (λ e x a r. no-receive refl a) (λ v t _. watch h t)
+watch (p-read h) s = ask tt ((λ e x a r. no-receive refl a), λ e g. refl) (λ v t _. watch (h v) t)
+watch (p-write h) s = ask tt ((λ e x a r. no-receive refl a), λ e g. refl) (λ v t _. watch h t)
+watch (p-wait h) s = ask tt ((λ e x a r. no-receive refl a), λ e g. refl) (λ v t _. watch h t)
+watch (p-callback h) s = ask tt ((λ e x a r. no-receive refl a), λ e g. refl) (λ v t _. watch h t)
 watch (p-get h) s = watch (h _) s
 watch (p-put {c = c} {v = v} e h) s = after (puts c v s) (watch h _)
 watch (p-is h) s = watch (h _) s
@@ -108,5 +131,5 @@ watch (p-fetch h) s = watch (h _) s
 watch (p-complete h) s = after (record { outs = λ e. refl; sets = refl; bytes = refl }) (watch h _)
 watch (p-no-wakes h) s = after (record { outs = λ e. refl; sets = refl; bytes = refl }) (watch h _)
 watch (p-waken h) s = after (record { outs = λ e. refl; sets = refl; bytes = refl }) (watch h _)
-watch (p-arrive {e = e} {n = n} h) s = ask tt (arrives e n s) (λ v t _. watch h t)
-watch (p-send h) s = ask tt (λ e x a r. no-receive refl a) (λ v t _. watch h t)
+watch (p-arrive {e = e} {n = n} h) s = ask tt (arrives e n s, leaves e n s) (λ v t _. watch h t)
+watch (p-send h) s = ask tt ((λ e x a r. no-receive refl a), λ e g. refl) (λ v t _. watch h t)

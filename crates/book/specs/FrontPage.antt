@@ -7,6 +7,7 @@ use mathlib.Core.Logic.{_⊎_}
 use mathlib.Core.Path.{_≡_}
 use Prim.Native.Nat.{ℕ, zero, _+_, _%_, _^_, _≤_, _<_}
 use lib.ListN.{length, getD}
+use lib.Dec.{eqb}
 use Rattle.regs.specs.declared.Access.{Access}
 use Rattle.regs.specs.declared.Access.the-variants.{Read, Write, Receive, Transmit, Ep0Dma, Wait, Callback}
 use Rattle.regs.specs.declared.Dir.{Dir}
@@ -23,7 +24,7 @@ use Rattle.script.specs.Calls.{Config, Op, slotted, aside, PollRead, Open, Clos
 use Rattle.script.specs.Machine.{Buf, Call, start, begin, go, question, overruns, Event, Ans, ended, handed, told, Way, idle, busy, Machine, misfit, fed, call, started}
 use Rattle.way.specs.Under.{drive, machineOf}
 use Rattle.book.specs.Pages.{Packet, bytesOf, stampsOf, OutPage, InPage, Pages}
-use Rattle.book.specs.Book.{isoOf, receiving, book}
+use Rattle.book.specs.Book.{isoOf, receiving, front, book}
 use Rattle.book.specs.Stamps.{stamped}
 
 -- ---- a list of calls
@@ -96,6 +97,7 @@ pub record ReadsFirst (p p′ : OutPage) (q : Packet) : Type 0 where
   pub first : p .waiting ≡ q ∷ p′ .waiting
   pub read : p′ .read ≡ p .read ++ (q ∷ [])
   pub admitted : p′ .admitted ≡ p .admitted
+  pub closed : p′ .opened ≡ false
 
 -- where the transmit address x is a load's: the slot there holds the bytes of the first waiting
 abbrev pub Holds : InPage → Buf → ℕ → Type 0
@@ -108,7 +110,7 @@ pub record Compared (c : Call Config Op) (t : Pages) (a : Ans Answer) (d : Drive
   pub stamps : (e : ℕ) → ringStamps d e ≡ stampsOf (t′ .outs e .waiting)
   -- "open shows … the first", which is open then
   pub open-shows : (e stamp : ℕ) (bytes : List ℕ) → c ≡ begin (aside (Open e)) → a ≡ ended (Shown bytes stamp)
-      → (q : Packet) × (rest : List Packet) × (t .outs e .waiting ≡ q ∷ rest) × (bytes ≡ q .bytes) × (stamp ≡ q .stamp) × (t′ .outs e .opened ≡ true)
+      → (q : Packet) × (rest : List Packet) × (t .outs e .waiting ≡ q ∷ rest) × (bytes ≡ q .bytes) × (stamp ≡ q .stamp) × (t′ .outs e .opened ≡ true) × (t′ .outs e .waiting ≡ t .outs e .waiting) × (t′ .outs e .admitted ≡ t .outs e .admitted) × (t′ .outs e .read ≡ t .outs e .read)
   -- "… and a read's poll gives the first", whole; it is read
   pub poll-gives : (e n : ℕ) (bytes : List ℕ) → c ≡ begin (slotted (PollRead e n)) → a ≡ ended (Done bytes) → isoOf t Out e ≡ true
       → (q : Packet) × (bytes ≡ q .bytes) × ReadsFirst (t .outs e) (t′ .outs e) q
@@ -154,6 +156,21 @@ pub data Counted (c : Call Config Op) (lent : Buf) (a : Ans Answer) (e : ℕ) (p
   one-more : (f x : ℕ) → f % 16 ≡ e % 16 → a ≡ handed (Receive f x) → length (p′ .waiting) ≡ 15 → p′ .lost ≡ p .lost + 1 → Counted c lent a e p p′
   none : (g : Config) → c ≡ start g → startRow g lent ≡ zero → p′ .lost ≡ 0 → Counted c lent a e p p′
 
+-- an answer that hands out a receive address of OUT e
+abbrev pub givesTo : Access → ℕ → Bool
+givesTo (Read r f) e = false
+givesTo (Write r f v) e = false
+givesTo (Receive f x) e = eqb (f % 16) (e % 16)
+givesTo (Transmit f x) e = false
+givesTo (Ep0Dma x) e = false
+givesTo (Wait n) e = false
+givesTo Callback e = false
+
+abbrev pub addressed : Ans Answer → ℕ → Bool
+addressed (ended z) e = false
+addressed (handed q) e = givesTo q e
+addressed (told k) e = false
+
 -- the length of a slot
 abbrev pub slotSize : Pages → ℕ
 slotSize t = t .kept .allocator .size
@@ -193,12 +210,19 @@ pub record Sentences (c : Call Config Op) (lent : Buf) (n : Machine Answer Pages
   pub open-waits : (e : ℕ) → t′ .outs e .opened ≡ true → 0 < length (ringBytes d b e)
   -- "an arrival is turned away exactly when 15 do"
   pub decided : (e : ℕ) → Decides c n a e → Decided lent (n .st .outs e) (t′ .outs e)
+  -- "All else, refusals too: no change": an interrupt changes the page of an OUT at its receive address alone
+  pub unmoved : (e v : ℕ) → c ≡ go v → inInterrupt (n .way) ≡ true → addressed a e ≡ false → t′ .outs e ≡ n .st .outs e
   -- "overruns": the count of Compared is that of the arrivals turned away since the start-up
   pub counted : (e : ℕ) → Counted c lent a e (n .st .outs e) (t′ .outs e)
+  -- "Start-up: none wait, counts 0"
+  pub starts-anew : (g : Config) → c ≡ start g → startRow g lent ≡ zero → (e : ℕ)
+      → (t′ .outs e .lost ≡ 0) × (t′ .outs e .waiting ≡ []) × (t′ .ins e .waiting ≡ [])
   -- IN: "at most 2 wait"
   pub at-most-2 : (e : ℕ) → length (t′ .ins e .waiting) ≤ 2
   -- "each reaches the chip at most once and in order": those handed to the chip are a beginning of those queued
   pub sent-in-order : (e : ℕ) → (later : List (List ℕ)) × (t′ .ins e .sent ++ later ≡ t′ .ins e .queued)
+  pub passed-then-waiting : (e : ℕ) → t′ .ins e .passed ++ t′ .ins e .waiting ≡ t′ .ins e .queued
+  pub sent-is : (e : ℕ) → t′ .ins e .sent ≡ t′ .ins e .passed ++ cond (t′ .ins e .sending) (front (t′ .ins e .waiting)) []
   -- "no slot being sent is written", whatever the chip stores, where it may, before the next call
   pub unwritten : (b′ : Buf) → Chip t′ b b′ → Unwritten t′ b′
   -- demand 1: no address that is handed out reaches outside the lent buffer

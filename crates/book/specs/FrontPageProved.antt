@@ -35,7 +35,7 @@ use Rattle.book.specs.MachineRuns.{Premise, AfterEvents}
 use Rattle.book.specs.SlotsKept.{kept-unwritten, lies-inside, lent-is}
 use Rattle.book.specs.Asides.{Opened, opened-by, Closed, closed-by, Queued, queued-by}
 use Rattle.book.specs.PollsWhole.{ended-same, one-call}
-use Rattle.book.specs.BookCalls.{Fine, start-fine, start-lost, call-fine}
+use Rattle.book.specs.BookCalls.{Fine, start-fine, start-lost, start-anew, call-fine}
 use Rattle.book.specs.BookCalls as steps-of
 
 -- ---- from the relation of driver and book
@@ -155,9 +155,14 @@ module _ (c : Call Config Op) (l : Buf) (m : Machine Answer Driver) (n : Machine
     at-most-15 = λ e. omega (arith, ring-length (a .rest) e, ledger.at-most-15 (a .rest) e);
     open-waits = open-there (a .rest);
     decided = λ e d. let h = ap isStart (d .continues) in steps-of.decided c (x .0) e n (before h .fine) l (a .same) (most-15 h e) d;
+    unmoved = λ e v p i g. let k = before (ap isStart p) in steps-of.unmoved c (x .0) e v n (k .fine) l (a .same) p i g;
     counted = counted;
     at-most-2 = ledger.at-most-2 (a .rest);
     sent-in-order = ledger.once-in-order (a .rest);
+    passed-then-waiting = λ e. a .rest .ins e .ledger;
+    sent-is = λ e. a .rest .ins e .reached;
+    starts-anew = λ g p row e. subst (λ (c : Call Config Op). let t = written (x .0) c n l .1 .st in (t .outs e .lost ≡ 0) × (t .outs e .waiting ≡ []) × (t .ins e .waiting ≡ [])) (sym p)
+        (subst (λ (r : ℕ). let t = started calls (book .driver) (fed book (x .0)) g r n l .1 .st in (t .outs e .lost ≡ 0) × (t .outs e .waiting ≡ []) × (t .ins e .waiting ≡ [])) (sym row) (start-anew (x .0) g n l e));
     unwritten = kept-unwritten a;
     inside = lies-inside a;
   }

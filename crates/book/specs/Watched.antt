@@ -58,7 +58,7 @@ watchRow e bus-reset n t w = armsBy false w
 
 abbrev pub watchAct : Act → Watch → Watch
 watchAct (complete f) w = w
-watchAct (reset-ring d f) w = armsBy false w
+watchAct (reset-ring d f) w = w
 watchAct (set-enabled d f onn) w = w
 watchAct (fill f bytes) w = w
 watchAct (fill0 bytes) w = w

@@ -111,7 +111,8 @@ module _ (e : ℕ) (packet : List ℕ) where
 
     pub act-stays : (q : Act) (w : Watch) → watchAct q w .armed ≡ true → Stays t (actB q (t, b) .0)
     act-stays (complete f) w h = record { slot = refl; size = refl }
-    act-stays (reset-ring dir f) w h = absurd (true≢false (sym h))
+    act-stays (reset-ring Out f) w h = enables (isoOf t Out f) _ (out-stays f _ refl) refl
+    act-stays (reset-ring In f) w h = record { slot = refl; size = refl }
     act-stays (set-enabled dir f on) w h = enables (isoOut t dir f) _ refl refl
     act-stays (fill f bytes) w h = record { slot = refl; size = refl }
     act-stays (fill0 bytes) w h = record { slot = refl; size = refl }

@@ -85,7 +85,7 @@ module _ (e n : ℕ) (packet : List ℕ) where
 
   act-watch : (q : Act) (w : Watch) → watchAct q w .armed ≡ true → watchAct q w ≡ w
   act-watch (complete f) w h = refl
-  act-watch (reset-ring d f) w h = absurd (true≢false (sym h))
+  act-watch (reset-ring d f) w h = refl
   act-watch (set-enabled d f onn) w h = refl
   act-watch (fill f bytes) w h = refl
   act-watch (fill0 bytes) w h = refl

@@ -51,9 +51,13 @@ module _ (dir : Dir) (e : ℕ) (lent b : Buf) (n : Machine Answer Pages) (d : Dr
     at-most-15 = x .at-most-15;
     open-waits = x .open-waits;
     decided = λ e y. let p = y .continues in let z : _≡_ {A = ℕ} 0 1 = cc in absurd (omega arith);
+    unmoved = λ e v p i g. let z : _≡_ {A = ℕ} 0 1 = cc in absurd (omega arith);
     counted = λ e. same refl;
+    starts-anew = λ g p row e. let z : _≡_ {A = ℕ} 0 1 = cc in absurd (omega arith);
     at-most-2 = x .at-most-2;
     sent-in-order = x .sent-in-order;
+    passed-then-waiting = x .passed-then-waiting;
+    sent-is = x .sent-is;
     unwritten = x .unwritten;
     inside = tt;
   }

@@ -15,7 +15,7 @@ use Rattle.script.specs.Machine.{Buf, Event, Machine, start, started}
 use Rattle.way.specs.Under.{driverOf}
 use Rattle.ops.specs.Rings.{St}
 use Rattle.ops.specs.Conc.{conc}
-use Rattle.proof_usb20.specs.Log.{Log, before, opens, saw, closes, Brings, Armed, Fair, Allowed, Poll, none, pollSetup, pollOut, pollIn, pollStatus, pollOf, FairPoll}
+use Rattle.proof_usb20.specs.Log.{Log, before, opens, saw, closes, Brings, Armed, Fair, Allowed, Poll, none, begins, pollSetup, pollOut, pollIn, pollStatus, pollOf, FairPoll}
 use Rattle.proof_usb20.specs.Observer.{Observer, startedBy, Reads, All}
 use Rattle.proof_usb20.specs.Exempt.{differ}
 use Rattle.proof_usb20.specs.Watch.{at-end, at-ask, watch-more}
@@ -89,10 +89,11 @@ unlent (aside o) w x r = r
 
 fair-1 : (p : Poll) (w : Log) → FairPoll p (Refused 1) w
 fair-1 none w = tt
+fair-1 begins w = λ h. differ h
 fair-1 pollSetup w = tt
-fair-1 pollOut w = (λ h. differ h, tt)
-fair-1 pollIn w = (λ h. differ h, tt)
-fair-1 pollStatus w = (λ h. differ h, tt)
+fair-1 pollOut w = ((λ h. differ h, λ h. differ h), tt)
+fair-1 pollIn w = ((λ h. differ h, λ h. differ h), tt)
+fair-1 pollStatus w = ((λ h. differ h, λ h. differ h), tt)
 
 pub laws : Laws control R
 laws = record {

@@ -21,7 +21,7 @@ use Rattle.script.specs.Every.{sameReg}
 use Rattle.ops.specs.Rings.{St}
 use Rattle.ops.specs.Conc.{conc}
 use Rattle.proof_usb20.specs.Pipe.{Event, packet, token}
-use Rattle.proof_usb20.specs.Log.{Phase, off, entered, flagged, again, timed, shows, Log, withPhase, happens, ofToken, seen, reads, saw, opens, endsOther, endsSlotted, ends, Poll, none, pollSetup, pollOut, pollIn, pollStatus, pollOf, settled, done, closes, Unfinished, Completes, GivesSetup, FairPoll, AllowedTo, Allowed}
+use Rattle.proof_usb20.specs.Log.{Phase, off, entered, flagged, again, timed, shows, Log, withPhase, happens, ofToken, seen, reads, saw, opens, endsOther, endsSlotted, ends, Poll, none, pollSetup, pollOut, pollIn, pollStatus, pollOf, settled, done, closes, Unfinished, Begins, begins, Completes, GivesSetup, FairPoll, AllowedTo, Allowed}
 use Rattle.proof_usb20.specs.Watch.{watch-any}
 use Rattle.proof_usb20.specs.Ep0.{Watch, Keeps, Ends}
 
@@ -71,19 +71,19 @@ saw-exempt w Callback x h = h
 pub saw-still : (w : Log) (q : Access) (v : ℕ) → w .exempt ≡ true → saw w q v .exempt ≡ true
 saw-still w q v h = saw-exempt w q v (it h) .is
 
-unfinished-exempt : (a : Answer) (w : Log) → w .exempt ≡ true → Unfinished a w
-unfinished-exempt (Refused n) w h = λ _ z. differ (sym z ∙ h)
-unfinished-exempt (End n ws) w h = tt
-unfinished-exempt NotYet w h = (λ z. differ (sym z ∙ h), λ z. differ (sym z ∙ h))
-unfinished-exempt (Done bytes) w h = tt
-unfinished-exempt (Shown bytes stamp) w h = tt
+unfinished-exempt : (q : Poll) (a : Answer) (w : Log) → w .exempt ≡ true → Unfinished q a w
+unfinished-exempt q (Refused n) w h = (λ _ z. differ (sym z ∙ h), λ _ z. differ (sym z ∙ h))
+unfinished-exempt q (End n ws) w h = tt
+unfinished-exempt q NotYet w h = (λ z. differ (sym z ∙ h), λ z. differ (sym z ∙ h))
+unfinished-exempt q (Done bytes) w h = tt
+unfinished-exempt q (Shown bytes stamp) w h = tt
 
-completes-exempt : (a : Answer) (w : Log) → w .exempt ≡ true → Completes a w
-completes-exempt (Refused n) w h = tt
-completes-exempt (End n ws) w h = λ z. differ (sym z ∙ h)
-completes-exempt NotYet w h = tt
-completes-exempt (Done bytes) w h = λ z. differ (sym z ∙ h)
-completes-exempt (Shown bytes stamp) w h = tt
+completes-exempt : (q : Poll) (a : Answer) (w : Log) → w .exempt ≡ true → Completes q a w
+completes-exempt q (Refused n) w h = tt
+completes-exempt q (End n ws) w h = λ z. differ (sym z ∙ h)
+completes-exempt q NotYet w h = tt
+completes-exempt q (Done bytes) w h = λ z. differ (sym z ∙ h)
+completes-exempt q (Shown bytes stamp) w h = tt
 
 gives-exempt : (a : Answer) (w : Log) → w .exempt ≡ true → GivesSetup a w
 gives-exempt (Refused n) w h = tt
@@ -92,15 +92,24 @@ gives-exempt NotYet w h = λ z. differ (sym z ∙ h)
 gives-exempt (Done bytes) w h = λ z. differ (sym z ∙ h)
 gives-exempt (Shown bytes stamp) w h = tt
 
+begins-exempt : (a : Answer) (w : Log) → w .exempt ≡ true → Begins a w
+begins-exempt (Refused n) w h = λ _ z. differ (sym z ∙ h)
+begins-exempt (End n ws) w h = tt
+begins-exempt NotYet w h = tt
+begins-exempt (Done bytes) w h = tt
+begins-exempt (Shown bytes stamp) w h = tt
+
 fair-exempt : (p : Poll) (a : Answer) (w : Log) → w .exempt ≡ true → FairPoll p a w
 fair-exempt none a w h = tt
+fair-exempt begins a w h = begins-exempt a w h
 fair-exempt pollSetup a w h = gives-exempt a w h
-fair-exempt pollOut a w h = (unfinished-exempt a w h, completes-exempt a w h)
-fair-exempt pollIn a w h = (unfinished-exempt a w h, completes-exempt a w h)
-fair-exempt pollStatus a w h = (unfinished-exempt a w h, completes-exempt a w h)
+fair-exempt pollOut a w h = (unfinished-exempt pollOut a w h, completes-exempt pollOut a w h)
+fair-exempt pollIn a w h = (unfinished-exempt pollIn a w h, completes-exempt pollIn a w h)
+fair-exempt pollStatus a w h = (unfinished-exempt pollStatus a w h, completes-exempt pollStatus a w h)
 
 allowed-exempt : (p : Poll) (w : Log) → w .exempt ≡ true → AllowedTo p w
 allowed-exempt none w h = tt
+allowed-exempt begins w h = tt
 allowed-exempt pollSetup w h = tt
 allowed-exempt pollOut w h = tt
 allowed-exempt pollIn w h = tt
@@ -108,6 +117,7 @@ allowed-exempt pollStatus w h = λ z. differ (sym z ∙ h)
 
 settled-exempt : (p : Poll) (w : Log) → w .exempt ≡ true → settled p w .exempt ≡ true
 settled-exempt none w h = h
+settled-exempt begins w h = h
 settled-exempt pollSetup w h = h
 settled-exempt pollOut w h = h
 settled-exempt pollIn w h = h
@@ -115,6 +125,7 @@ settled-exempt pollStatus w h = h
 
 done-exempt : (p : Poll) (w : Log) → w .exempt ≡ true → done p w .exempt ≡ true
 done-exempt none w h = h
+done-exempt begins w h = h
 done-exempt pollSetup w h = h
 done-exempt pollOut w h = h
 done-exempt pollIn w h = h

@@ -23,7 +23,7 @@ use Rattle.script.specs.Answers.{Answer, Refused, End, NotYet, Done, Shown}
 use Rattle.script.specs.Calls.{Op, interrupt, slotted, other, aside, Slotted, SetEnabled, PollRead, BeginWrite, PollWrite, PollDataOut, BeginDataIn, Other, Allocate, AllocateAll, Start, BusPoll, BusEnable, BusDisable, Microframe, SetStalled, IsStalled, SetPaced, Advance, BeginRead, BeginSetup, PollSetup, PollDataIn, BeginAccept, PollAccept, BeginReject, BeginDataOut, BeginAcceptSetAddress}
 use Rattle.script.specs.Every.{sameReg}
 use Rattle.script.specs.TogglesLaws.{number}
-use Rattle.proof_usb20.specs.Pipe.{Answers, naks, stalls, acks, Half, renewed, isReady, Pipe, Event, setup, packet, token, possible, after, Choice, takes, gives, confirms, rejects, chosen, orderly, Awaited, nothing, awaitedBy, over}
+use Rattle.proof_usb20.specs.Pipe.{Answers, naks, stalls, acks, Half, renewed, isReady, Pipe, Event, setup, packet, token, possible, after, Choice, takes, gives, confirms, rejects, chosen, orderly, Awaited, nothing, awaitedBy, over, taken, given, confirmed}
 
 -- how far an interrupt's readings are: none of them concerns endpoint 0, its flags are to come, they are read, the
 -- bus's state (`true`: busy), the status it shows, the flag found taken by the release so that the status is read again
@@ -176,7 +176,7 @@ ends (aside o) n w = w
 
 -- a poll of EP0
 pub data Poll : Type 0 where
-  none pollSetup pollOut pollIn pollStatus : Poll
+  none begins pollSetup pollOut pollIn pollStatus : Poll
 
 abbrev pub pollSlotted : Slotted → Poll
 pollSlotted (SetEnabled d e on) = none
@@ -184,7 +184,7 @@ pollSlotted (PollRead e n) = none
 pollSlotted (BeginWrite e bs) = none
 pollSlotted (PollWrite e bs) = none
 pollSlotted (PollDataOut n) = pollOut
-pollSlotted (BeginDataIn bs first last) = none
+pollSlotted (BeginDataIn bs first last) = begins
 
 abbrev pub pollOther : Other → Poll
 pollOther (Allocate d kind address maximum interval) = none
@@ -202,11 +202,11 @@ pollOther (BeginRead e n) = none
 pollOther BeginSetup = none
 pollOther PollSetup = pollSetup
 pollOther PollDataIn = pollIn
-pollOther BeginAccept = none
+pollOther BeginAccept = begins
 pollOther PollAccept = pollStatus
 pollOther BeginReject = none
-pollOther (BeginDataOut n first) = none
-pollOther (BeginAcceptSetAddress a) = none
+pollOther (BeginDataOut n first) = begins
+pollOther (BeginAcceptSetAddress a) = begins
 
 abbrev pub pollOf : Op → Poll
 pollOf interrupt = none
@@ -217,6 +217,7 @@ pollOf (aside o) = none
 -- what it was waiting for is over
 abbrev pub settled : Poll → Log → Log
 settled none w = w
+settled begins w = w
 settled pollSetup w = w
 settled pollOut w = withAwaits nothing w
 settled pollIn w = withAwaits nothing w
@@ -225,6 +226,7 @@ settled pollStatus w = withAwaits nothing w
 -- a poll is done: it has taken what it waited for
 abbrev pub done : Poll → Log → Log
 done none w = w
+done begins w = w
 done pollSetup w = withTaken w
 done pollOut w = withAwaits nothing w
 done pollIn w = withAwaits nothing w
@@ -251,8 +253,26 @@ abbrev pub Armed : Log → Type 0
 Armed w = w .exempt ≡ false → Shows (w .rx) (w .pipe .out) (w .pipe .out .answers) × Shows (w .tx) (w .pipe .inn) (w .pipe .inn .answers)
     × (isReady (w .pipe .inn .answers) ≡ true → w .len ≡ w .pipe .size)
 
-abbrev pub Complete : Bool → Log → Type 0
-Complete b w = w .exempt ≡ false → over (w .awaits) (w .pipe) ≡ b
+-- the poll asks after what is waited for
+abbrev pub asksAfter : Poll → Awaited → Bool
+asksAfter none a = false
+asksAfter begins a = false
+asksAfter pollSetup a = false
+asksAfter pollOut nothing = false
+asksAfter pollOut taken = true
+asksAfter pollOut (given last) = false
+asksAfter pollOut confirmed = false
+asksAfter pollIn nothing = false
+asksAfter pollIn taken = false
+asksAfter pollIn (given last) = true
+asksAfter pollIn confirmed = false
+asksAfter pollStatus nothing = false
+asksAfter pollStatus taken = false
+asksAfter pollStatus (given last) = false
+asksAfter pollStatus confirmed = true
+
+abbrev pub Complete : Poll → Bool → Log → Type 0
+Complete q b w = w .exempt ≡ false → asksAfter q (w .awaits) && over (w .awaits) (w .pipe) ≡ b
 
 -- a setup packet came that the function has not taken, or none
 abbrev pub Untaken : Bool → Log → Type 0
@@ -260,20 +280,20 @@ Untaken b w = w .exempt ≡ false → w .untaken ≡ b
 
 -- of a stage's poll that does not answer that it is done: not yet, so the stage is not over and no setup packet has
 -- ended it; or refused with 9, so one has
-abbrev pub Unfinished : Answer → Log → Type 0
-Unfinished (Refused n) w = eqb n 9 ≡ true → Untaken true w
-Unfinished (End n ws) w = Unit {0}
-Unfinished NotYet w = Complete false w × Untaken false w
-Unfinished (Done bytes) w = Unit {0}
-Unfinished (Shown bytes stamp) w = Unit {0}
+abbrev pub Unfinished : Poll → Answer → Log → Type 0
+Unfinished q (Refused n) w = (eqb n 9 ≡ true → Untaken true w) × (eqb n 15 ≡ true → w .exempt ≡ false → asksAfter q (w .awaits) ≡ false)
+Unfinished q (End n ws) w = Unit {0}
+Unfinished q NotYet w = Complete q false w × Untaken false w
+Unfinished q (Done bytes) w = Unit {0}
+Unfinished q (Shown bytes stamp) w = Unit {0}
 
 -- of one that does: the stage is over. An accept's poll that ends with a result has written the address
-abbrev pub Completes : Answer → Log → Type 0
-Completes (Refused n) w = Unit {0}
-Completes (End n ws) w = Complete true w
-Completes NotYet w = Unit {0}
-Completes (Done bytes) w = Complete true w
-Completes (Shown bytes stamp) w = Unit {0}
+abbrev pub Completes : Poll → Answer → Log → Type 0
+Completes q (Refused n) w = Unit {0}
+Completes q (End n ws) w = Complete q true w
+Completes q NotYet w = Unit {0}
+Completes q (Done bytes) w = Complete q true w
+Completes q (Shown bytes stamp) w = Unit {0}
 
 -- a setup's poll gives a packet exactly if there is one
 abbrev pub GivesSetup : Answer → Log → Type 0
@@ -283,12 +303,21 @@ GivesSetup NotYet w = Untaken false w
 GivesSetup (Done bytes) w = Untaken true w
 GivesSetup (Shown bytes stamp) w = Unit {0}
 
+-- a stage's begin is refused with 9 only after a setup packet
+abbrev pub Begins : Answer → Log → Type 0
+Begins (Refused n) w = eqb n 9 ≡ true → Untaken true w
+Begins (End n ws) w = Unit {0}
+Begins NotYet w = Unit {0}
+Begins (Done bytes) w = Unit {0}
+Begins (Shown bytes stamp) w = Unit {0}
+
 abbrev pub FairPoll : Poll → Answer → Log → Type 0
 FairPoll none a w = Unit {0}
+FairPoll begins a w = Begins a w
 FairPoll pollSetup a w = GivesSetup a w
-FairPoll pollOut a w = Unfinished a w × Completes a w
-FairPoll pollIn a w = Unfinished a w × Completes a w
-FairPoll pollStatus a w = Unfinished a w × Completes a w
+FairPoll pollOut a w = Unfinished pollOut a w × Completes pollOut a w
+FairPoll pollIn a w = Unfinished pollIn a w × Completes pollIn a w
+FairPoll pollStatus a w = Unfinished pollStatus a w × Completes pollStatus a w
 
 abbrev pub Fair : Op → Answer → Log → Type 0
 Fair o a w = FairPoll (pollOf o) a w
@@ -296,10 +325,11 @@ Fair o a w = FairPoll (pollOf o) a w
 -- and an accept's hands out no access before the completion: the address changes after the status stage (9.4.6)
 abbrev pub AllowedTo : Poll → Log → Type 0
 AllowedTo none w = Unit {0}
+AllowedTo begins w = Unit {0}
 AllowedTo pollSetup w = Unit {0}
 AllowedTo pollOut w = Unit {0}
 AllowedTo pollIn w = Unit {0}
-AllowedTo pollStatus w = Complete true w
+AllowedTo pollStatus w = Complete pollStatus true w
 
 abbrev pub Allowed : Op → Log → Type 0
 Allowed o w = AllowedTo (pollOf o) w

@@ -1,6 +1,6 @@
 -- The laws of the control pipe's polls: a poll is done exactly after the completion, and writes the address after it
 -- alone
-use mathlib.Core.Bool.{Bool, true, false, cond}
+use mathlib.Core.Bool.{Bool, true, false, cond, _&&_}
 use mathlib.Core.List.{[]}
 use mathlib.Core.Logic.{_⊎_, inl, inr}
 use mathlib.Core.Path.{_≡_, refl, ap, subst, sym, _∙_}
@@ -22,7 +22,7 @@ use Rattle.ops.specs.Rings.{St}
 use Rattle.ops.specs.Conc.{conc}
 use Rattle.book.specs.Sorting.{Sorting}
 use Rattle.proof_usb20.specs.Pipe.{Half, Pipe, Awaited, nothing, taken, given, confirmed, over}
-use Rattle.proof_usb20.specs.Log.{Log, withPhase, off, Allowed}
+use Rattle.proof_usb20.specs.Log.{Log, withPhase, off, Allowed, asksAfter, pollOut, pollIn, pollStatus}
 use Rattle.proof_usb20.specs.Watch.{at-end, at-ask, watch-cond}
 use Rattle.proof_usb20.specs.Ep0.{Watch, Rec, View, view, Fits, Rests, no-request, set-up, Gives, first-wait, second-wait, Rel, R, Keeps, Ends, Law}
 use Rattle.proof_usb20.specs.Exempt.{exempt-law, differ}
@@ -99,11 +99,33 @@ law-poll-setup w s (inr r) z =
     taken-setup (given last) r q = absurd (omega (arith, q, r .waits .0))
     taken-setup confirmed r q = absurd (omega (arith, q, r .waits .0))
 
+-- another request, or none
+other-out : (a : Awaited) {rx tx l : ℕ} {p : Pipe} {u : Bool} {x : View} → Rel rx tx l p a u x → eqb (x .control .sort) 2 ≡ false
+    → asksAfter pollOut a ≡ false
+other-out nothing r h = refl
+other-out taken r h = differ (sym h ∙ ap (λ (n : ℕ). eqb n 2) (r .waits .0))
+other-out (given last) r h = refl
+other-out confirmed r h = refl
+
+other-in : (a : Awaited) {rx tx l : ℕ} {p : Pipe} {u : Bool} {x : View} → Rel rx tx l p a u x → eqb (x .control .sort) 3 ≡ false
+    → asksAfter pollIn a ≡ false
+other-in nothing r h = refl
+other-in taken r h = refl
+other-in (given last) r h = differ (sym h ∙ ap (λ (n : ℕ). eqb n 3) (r .waits .0))
+other-in confirmed r h = refl
+
+other-status : (a : Awaited) {rx tx l : ℕ} {p : Pipe} {u : Bool} {x : View} → Rel rx tx l p a u x → eqb (x .control .sort) 4 ≡ false
+    → asksAfter pollStatus a ≡ false
+other-status nothing r h = refl
+other-status taken r h = refl
+other-status (given last) r h = refl
+other-status confirmed r h = differ (sym h ∙ ap (λ (n : ℕ). eqb n 4) (r .waits .0))
+
 -- ---- data_out
 
 -- not ready: the wait goes on, or a setup packet has ended it
 ready-out : (a : Awaited) {rx tx l : ℕ} {p : Pipe} {u : Bool} {x : View} → Rel rx tx l p a u x → x .control .sort ≡ 2
-    → isOn (x .out .ready) ≡ true → over a p ≡ true
+    → isOn (x .out .ready) ≡ true → asksAfter pollOut a && over a p ≡ true
 ready-out nothing {p = p} {x = x} r q o = by (r .waits)
   where
     by : Rests p x → false ≡ true
@@ -114,7 +136,7 @@ ready-out (given last) r q o = absurd (omega (arith, q, r .waits .0))
 ready-out confirmed r q o = absurd (omega (arith, q, r .waits .0))
 
 unready-out : (a : Awaited) {rx tx l : ℕ} {p : Pipe} {u : Bool} {x : View} → Rel rx tx l p a u x → x .control .sort ≡ 2
-    → isOn (x .out .ready) ≡ false → over a p ≡ false
+    → isOn (x .out .ready) ≡ false → asksAfter pollOut a && over a p ≡ false
 unready-out nothing r q o = refl
 unready-out taken r q o = sym (r .waits .1) ∙ o
 unready-out (given last) r q o = absurd (omega (arith, q, r .waits .0))
@@ -129,19 +151,19 @@ law-poll-data-out n w s (inr r) z =
     watch-cond (eqb (s .0 .control .length) n)
     (λ _. watch-cond (isOn (conc .get (ep-cell Out 0) s .ready))
     (λ o. watch-cond (ltb n (conc .get (ep-cell Out 0) s .len))
-    (λ _. at-end (over-now r (kin-out s (z .places)) (done-none (outWith (withReady 0) s)), (λ h. differ h, tt)))
+    (λ _. at-end (over-now r (kin-out s (z .places)) (done-none (outWith (withReady 0) s)), ((λ h. differ h, λ h. differ h), tt)))
     (λ _. at-end (over-now r (kin-out s (z .places)) (done-none (outWith (withReady 0) s)), (tt, λ _. ready-out (w .awaits) r two o))))
     (λ o. watch-cond (isOn (s .0 .globals .«setup_ready»))
-    (λ g. at-end (over-now r (kin-none s) (done-none s), (λ _ _. sym (r .setup) ∙ g, tt)))
+    (λ g. at-end (over-now r (kin-none s) (done-none s), ((λ _ _. sym (r .setup) ∙ g, λ h. differ h), tt)))
     (λ g. at-end (inr r, ((λ _. unready-out (w .awaits) r two o, λ _. sym (r .setup) ∙ g), tt)))))
-    (λ _. at-end (over-now r (kin-out s (z .places)) (done-none (outWith (withReady 0) s)), (λ h. differ h, tt))))
-    (λ _. at-end (inr r, (λ h. differ h, tt))))
-    (λ _. at-end (inr r, (λ h. differ h, tt)))
+    (λ _. at-end (over-now r (kin-out s (z .places)) (done-none (outWith (withReady 0) s)), ((λ h. differ h, λ h. differ h), tt))))
+    (λ k. at-end (inr r, ((λ h. differ h, λ _ _. other-out (w .awaits) r k), tt))))
+    (λ _. at-end (inr r, ((λ h. differ h, λ h. differ h), tt)))
 
 -- ---- accept
 
 ready-status : (a : Awaited) {rx tx l : ℕ} {p : Pipe} {u : Bool} {x : View} → Rel rx tx l p a u x → x .control .sort ≡ 4
-    → isOn (x .inn .ready) ≡ true → over a p ≡ true
+    → isOn (x .inn .ready) ≡ true → asksAfter pollStatus a && over a p ≡ true
 ready-status nothing {p = p} {x = x} r q o = by (r .waits)
   where
     by : Rests p x → false ≡ true
@@ -152,7 +174,7 @@ ready-status (given last) r q o = absurd (omega (arith, q, r .waits .0))
 ready-status confirmed r q o = sym (r .waits .1) ∙ o
 
 unready-status : (a : Awaited) {rx tx l : ℕ} {p : Pipe} {u : Bool} {x : View} → Rel rx tx l p a u x
-    → x .control .sort ≡ 4 → isOn (x .inn .ready) ≡ false → over a p ≡ false
+    → x .control .sort ≡ 4 → isOn (x .inn .ready) ≡ false → asksAfter pollStatus a && over a p ≡ false
 unready-status nothing r q o = refl
 unready-status taken r q o = absurd (omega (arith, q, r .waits .0))
 unready-status (given last) r q o = absurd (omega (arith, q, r .waits .0))
@@ -170,10 +192,10 @@ law-poll-accept w s (inr r) z =
     at-end (moved (k .0 ∙ act-view no-wakes refl (none (inWith (withReady 0) s))) (over-now r (kin-in s (z .places)) (done-none (inWith (withReady 0) s))), (tt, λ _. ready-status (w .awaits) r four o))))
     (λ _. at-end (over-now r (kin-in s (z .places)) (done-none (inWith (withReady 0) s)), (tt, λ _. ready-status (w .awaits) r four o))))
     (λ o. watch-cond (isOn (s .0 .globals .«setup_ready»))
-    (λ g. at-end (over-now r (kin-none s) (done-none s), (λ _ _. sym (r .setup) ∙ g, tt)))
+    (λ g. at-end (over-now r (kin-none s) (done-none s), ((λ _ _. sym (r .setup) ∙ g, λ h. differ h), tt)))
     (λ g. at-end (inr r, ((λ _. unready-status (w .awaits) r four o, λ _. sym (r .setup) ∙ g), tt)))))
-    (λ _. at-end (inr r, (λ h. differ h, tt))))
-    (λ _. at-end (inr r, (λ h. differ h, tt)))
+    (λ k. at-end (inr r, ((λ h. differ h, λ _ _. other-status (w .awaits) r k), tt))))
+    (λ _. at-end (inr r, ((λ h. differ h, λ h. differ h), tt)))
 
 -- ---- data_in
 
@@ -222,13 +244,13 @@ Polled w s o = Watch Keeps (Allowed (other PollDataIn)) (Ends (other PollDataIn)
 
 module _ (w : Log) (s : St) (r : Rel (w .rx) (w .tx) (w .len) (w .pipe) (w .awaits) (w .untaken) (view (s .0))) (z : Sorting (s .0)) where
   -- the closing OUT came, empty or with data
-  closed : (k : St) → Kin (view (s .0)) (view (none k .0)) → over (w .awaits) (w .pipe) ≡ true → (e : Bool)
+  closed : (k : St) → Kin (view (s .0)) (view (none k .0)) → asksAfter pollIn (w .awaits) && over (w .awaits) (w .pipe) ≡ true → (e : Bool)
       → Polled w s (tree.ends (cond e (Done []) (Refused 10)) (none k))
   closed k i o true = at-end {a = Done []} (over-now r i (done-none k), (tt, λ _. o))
-  closed k i o false = at-end {a = Refused 10} (over-now r i (done-none k), (λ h. differ h, tt))
+  closed k i o false = at-end {a = Refused 10} (over-now r i (done-none k), ((λ h. differ h, λ h. differ h), tt))
 
   refused : isOn (s .0 .globals .«setup_ready») ≡ true → Polled w s (tree.ends (Refused 9) (none s))
-  refused g = at-end {a = Refused 9} (over-now r (kin-none s) (done-none s), (λ _ _. sym (r .setup) ∙ g, tt))
+  refused g = at-end {a = Refused 9} (over-now r (kin-none s) (done-none s), ((λ _ _. sym (r .setup) ∙ g, λ h. differ h), tt))
 
   -- the data packet went through, the closing OUT is awaited
   goes-on : w .awaits ≡ given true → isOn (s .0 .control .last) ≡ true → w .pipe .inn .through ≡ true
@@ -242,18 +264,18 @@ module _ (w : Log) (s : St) (r : Rel (w .rx) (w .tx) (w .len) (w .pipe) (w .awai
       (λ _. watch-cond (eqb (s .0 .control .wait) 2)
       (λ _. watch-cond (isOn (conc .get (ep-cell Out 0) s .ready)) (λ b. differ (sym f ∙ b)) (λ _. watch-cond (isOn (s .0 .globals .«setup_ready»)) (λ g. refused g) (λ b. differ (sym b ∙ e))))
       (λ _. watch-cond (isOn (conc .get (ep-cell In 0) s .ready)) (λ b. differ (sym g ∙ b)) (λ _. watch-cond (isOn (s .0 .globals .«setup_ready»)) (λ g. refused g) (λ b. differ (sym b ∙ e)))))
-      (λ _. at-end (inr r, (λ h. differ h, tt))))
-      (λ _. at-end (inr r, (λ h. differ h, tt)))
+      (λ k. at-end (inr r, ((λ h. differ h, λ _ _. other-in (w .awaits) r k), tt))))
+      (λ _. at-end (inr r, ((λ h. differ h, λ h. differ h), tt)))
   polled-in (closing-of a l n i o) =
       watch-cond (eqb (s .0 .globals .stage) 2)
       (λ _. watch-cond (eqb (s .0 .control .sort) DATA-IN)
       (λ _. watch-cond (eqb (s .0 .control .wait) 2)
       (λ _. watch-cond (isOn (conc .get (ep-cell Out 0) s .ready))
-      (λ b. closed (outWith (withReady 0) s) (kin-out s (z .places)) (ap (λ (x : Awaited). over x (w .pipe)) a ∙ (over-last (w .pipe) i ∙ (sym o ∙ b))) (eqb (conc .get (ep-cell Out 0) s .len) 0))
-      (λ b. watch-cond (isOn (s .0 .globals .«setup_ready»)) (λ g. refused g) (λ g. at-end {a = NotYet} (inr r, ((λ _. ap (λ (x : Awaited). over x (w .pipe)) a ∙ (over-last (w .pipe) i ∙ (sym o ∙ b)), λ _. sym (r .setup) ∙ g), tt)))))
+      (λ b. closed (outWith (withReady 0) s) (kin-out s (z .places)) (ap (λ (x : Awaited). asksAfter pollIn x && over x (w .pipe)) a ∙ (over-last (w .pipe) i ∙ (sym o ∙ b))) (eqb (conc .get (ep-cell Out 0) s .len) 0))
+      (λ b. watch-cond (isOn (s .0 .globals .«setup_ready»)) (λ g. refused g) (λ g. at-end {a = NotYet} (inr r, ((λ _. ap (λ (x : Awaited). asksAfter pollIn x && over x (w .pipe)) a ∙ (over-last (w .pipe) i ∙ (sym o ∙ b)), λ _. sym (r .setup) ∙ g), tt)))))
       (λ two. differ (sym two ∙ ap (λ (k : ℕ). eqb k 2) n)))
-      (λ _. at-end (inr r, (λ h. differ h, tt))))
-      (λ _. at-end (inr r, (λ h. differ h, tt)))
+      (λ k. at-end (inr r, ((λ h. differ h, λ _ _. other-in (w .awaits) r k), tt))))
+      (λ _. at-end (inr r, ((λ h. differ h, λ h. differ h), tt)))
   polled-in (packet-of last a l n i o) =
       watch-cond (eqb (s .0 .globals .stage) 2)
       (λ _. watch-cond (eqb (s .0 .control .sort) DATA-IN)
@@ -265,12 +287,12 @@ module _ (w : Log) (s : St) (r : Rel (w .rx) (w .tx) (w .len) (w .pipe) (w .awai
       let gives : w .awaits ≡ given true = a ∙ ap given it in
       let sent : w .pipe .inn .through ≡ true = sym i ∙ b in
       watch-cond (isOn (conc .get (ep-cell Out 0) s .ready))
-      (λ y. closed (inWith (withReady 0) (outWith (withReady 0) s)) (kin-both s (z .places)) (ap (λ (x : Awaited). over x (w .pipe)) gives ∙ (over-last (w .pipe) sent ∙ (sym (o it) ∙ y))) (eqb (conc .get (ep-cell Out 0) s .len) 0))
-      (λ y. watch-cond (isOn (s .0 .globals .«setup_ready»)) (λ g. refused g) (λ g. at-end {a = NotYet} (goes-on gives x sent (o it), ((λ _. ap (λ (x : Awaited). over x (w .pipe)) gives ∙ (over-last (w .pipe) sent ∙ (sym (o it) ∙ y)), λ _. sym (r .setup) ∙ g), tt)))))
-      (λ x. at-end {a = Done []} (over-now r (kin-in s (z .places)) (done-none (inWith (withReady 0) s)), (tt, λ _. ap (λ (x : Awaited). over x (w .pipe)) (a ∙ ap given (sym l ∙ x)) ∙ (sym i ∙ b)))))
-      (λ b. watch-cond (isOn (s .0 .globals .«setup_ready»)) (λ g. refused g) (λ g. at-end {a = NotYet} (inr r, ((λ _. ap (λ (x : Awaited). over x (w .pipe)) a ∙ not-sent last (w .pipe) (sym i ∙ b), λ _. sym (r .setup) ∙ g), tt))))))
-      (λ _. at-end (inr r, (λ h. differ h, tt))))
-      (λ _. at-end (inr r, (λ h. differ h, tt)))
+      (λ y. closed (inWith (withReady 0) (outWith (withReady 0) s)) (kin-both s (z .places)) (ap (λ (x : Awaited). asksAfter pollIn x && over x (w .pipe)) gives ∙ (over-last (w .pipe) sent ∙ (sym (o it) ∙ y))) (eqb (conc .get (ep-cell Out 0) s .len) 0))
+      (λ y. watch-cond (isOn (s .0 .globals .«setup_ready»)) (λ g. refused g) (λ g. at-end {a = NotYet} (goes-on gives x sent (o it), ((λ _. ap (λ (x : Awaited). asksAfter pollIn x && over x (w .pipe)) gives ∙ (over-last (w .pipe) sent ∙ (sym (o it) ∙ y)), λ _. sym (r .setup) ∙ g), tt)))))
+      (λ x. at-end {a = Done []} (over-now r (kin-in s (z .places)) (done-none (inWith (withReady 0) s)), (tt, λ _. ap (λ (x : Awaited). asksAfter pollIn x && over x (w .pipe)) (a ∙ ap given (sym l ∙ x)) ∙ (sym i ∙ b)))))
+      (λ b. watch-cond (isOn (s .0 .globals .«setup_ready»)) (λ g. refused g) (λ g. at-end {a = NotYet} (inr r, ((λ _. ap (λ (x : Awaited). asksAfter pollIn x && over x (w .pipe)) a ∙ not-sent last (w .pipe) (sym i ∙ b), λ _. sym (r .setup) ∙ g), tt))))))
+      (λ k. at-end (inr r, ((λ h. differ h, λ _ _. other-in (w .awaits) r k), tt))))
+      (λ _. at-end (inr r, ((λ h. differ h, λ h. differ h), tt)))
 
 pub law-poll-data-in : Law (other PollDataIn)
 law-poll-data-in w s (inl e) z = exempt-law (other PollDataIn) tt w s e
@@ -279,4 +301,4 @@ law-poll-data-in w s (inr r) z = by (eqb (s .0 .control .sort) DATA-IN) refl
     by : (t : Bool) → eqb (s .0 .control .sort) DATA-IN ≡ t
         → Watch Keeps (Allowed (other PollDataIn)) (Ends (other PollDataIn)) (withPhase off w) (run conc (code (other PollDataIn)) s)
     by true q = polled-in w s r z (waiting (w .awaits) r (eqb-true (s .0 .control .sort) DATA-IN q))
-    by false q = watch-cond (eqb (s .0 .globals .stage) 2) (λ _. watch-cond (eqb (s .0 .control .sort) DATA-IN) (λ y. differ (sym q ∙ y)) (λ _. at-end (inr r, (λ h. differ h, tt)))) (λ _. at-end (inr r, (λ h. differ h, tt)))
+    by false q = watch-cond (eqb (s .0 .globals .stage) 2) (λ _. watch-cond (eqb (s .0 .control .sort) DATA-IN) (λ y. differ (sym q ∙ y)) (λ k. at-end (inr r, ((λ h. differ h, λ _ _. other-in (w .awaits) r k), tt)))) (λ _. at-end (inr r, ((λ h. differ h, λ h. differ h), tt)))

@@ -23,7 +23,7 @@ use Rattle.proof_usb20.specs.Pipe.{Pipe, Awaited}
 use Rattle.proof_usb20.specs.Log.{withPhase, off}
 use Rattle.proof_usb20.specs.Watch.{at-end, at-ask, watch-cond}
 use Rattle.proof_usb20.specs.Ep0.{View, view, no-request, Rel, Law}
-use Rattle.proof_usb20.specs.Exempt.{exempt-law}
+use Rattle.proof_usb20.specs.Exempt.{differ, exempt-law}
 use Rattle.proof_usb20.specs.Views.{rec, setOut, setIn, setControl, put-out, put-in, put-control}
 use Rattle.proof_usb20.specs.Same.{act-view}
 use Rattle.proof_usb20.specs.Fitting.{acked-ack, acked-one, stall-stalls, stall-keeps, status-acks, status-one, fits-takes, fits-gives, fits-gives-last, fits-confirms, fits-rejects}
@@ -79,14 +79,14 @@ pub law-data-out : (n : ℕ) (first : Bool) → Law (other (BeginDataOut n first
 law-data-out n first w s (inl e) z = exempt-law (other (BeginDataOut n first)) tt w s e
 law-data-out n true w s (inr r) z =
     watch-cond (eqb (s .0 .globals .stage) 2)
-    (λ _. watch-cond (ltb (s .0 .globals .«ep0_max») n) (λ _. at-end (inr r, tt)) (λ _. watch-cond (isOn (s .0 .globals .«setup_ready»)) (λ _. at-end (inr r, tt))
+    (λ _. watch-cond (ltb (s .0 .globals .«ep0_max») n) (λ _. at-end (inr r, λ h. differ h)) (λ _. watch-cond (isOn (s .0 .globals .«setup_ready»)) (λ g. at-end (inr r, λ _ _. sym (r .setup) ∙ g))
     (λ _. at-ask tt (λ v t b k. at-end (moved (k .0 ∙ armed-out n s (z .places)) (fits-takes true (withPhase off w) (view (s .0)) _ n r acked-ack acked-one), tt)))))
-    (λ _. at-end (inr r, tt))
+    (λ _. at-end (inr r, λ h. differ h))
 law-data-out n false w s (inr r) z =
     watch-cond (eqb (s .0 .globals .stage) 2)
-    (λ _. watch-cond (ltb (s .0 .globals .«ep0_max») n) (λ _. at-end (inr r, tt)) (λ _. watch-cond (isOn (s .0 .globals .«setup_ready»)) (λ _. at-end (inr r, tt))
+    (λ _. watch-cond (ltb (s .0 .globals .«ep0_max») n) (λ _. at-end (inr r, λ h. differ h)) (λ _. watch-cond (isOn (s .0 .globals .«setup_ready»)) (λ g. at-end (inr r, λ _ _. sym (r .setup) ∙ g))
     (λ _. at-ask tt (λ v t b k. at-ask tt (λ _ u _ l. at-end (moved (l .0 ∙ (k .0 ∙ armed-out n s (z .places))) (fits-takes false (withPhase off w) (view (s .0)) (ack v) n r (ack-acks v) (ack-keeps v ∙ ap toggle (b .0 refl))), tt))))))
-    (λ _. at-end (inr r, tt))
+    (λ _. at-end (inr r, λ h. differ h))
 
 -- ---- data_in
 
@@ -123,24 +123,24 @@ pub law-data-in : (bytes : List ℕ) (first last : Bool) → Law (slotted (Begin
 law-data-in bytes first last w s (inl e) z = exempt-law (slotted (BeginDataIn bytes first last)) tt w s e
 law-data-in bytes true true w s (inr r) z =
     watch-cond (eqb (s .0 .globals .stage) 2)
-    (λ _. watch-cond (ltb (s .0 .globals .«ep0_max») (length bytes)) (λ _. at-end (inr r, tt)) (λ _. watch-cond (isOn (s .0 .globals .«setup_ready»)) (λ _. at-end (inr r, tt))
+    (λ _. watch-cond (ltb (s .0 .globals .«ep0_max») (length bytes)) (λ _. at-end (inr r, λ h. differ h)) (λ _. watch-cond (isOn (s .0 .globals .«setup_ready»)) (λ g. at-end (inr r, λ _ _. sym (r .setup) ∙ g))
     (λ _. at-ask tt (λ _ t _ k. at-ask tt (λ _ t′ _ k′. at-ask tt (λ _ u _ l. at-end (moved (l .0 ∙ (k′ .0 ∙ armed-in t _ (k .1 .places) (k .0 ∙ closing (length bytes) bytes s (z .places)))) (fits-gives-last true (withPhase off w) (view (s .0)) _ _ (length bytes) r acked-ack acked-one acked-ack acked-one), tt)))))))
-    (λ _. at-end (inr r, tt))
+    (λ _. at-end (inr r, λ h. differ h))
 law-data-in bytes false true w s (inr r) z =
     watch-cond (eqb (s .0 .globals .stage) 2)
-    (λ _. watch-cond (ltb (s .0 .globals .«ep0_max») (length bytes)) (λ _. at-end (inr r, tt)) (λ _. watch-cond (isOn (s .0 .globals .«setup_ready»)) (λ _. at-end (inr r, tt))
+    (λ _. watch-cond (ltb (s .0 .globals .«ep0_max») (length bytes)) (λ _. at-end (inr r, λ h. differ h)) (λ _. watch-cond (isOn (s .0 .globals .«setup_ready»)) (λ g. at-end (inr r, λ _ _. sym (r .setup) ∙ g))
     (λ _. at-ask tt (λ _ t _ k. at-ask tt (λ _ t′ _ k′. at-ask tt (λ v t″ b k″. at-ask tt (λ _ u _ l. at-end (moved (l .0 ∙ (k″ .0 ∙ (k′ .0 ∙ armed-in t _ (k .1 .places) (k .0 ∙ closing (length bytes) bytes s (z .places))))) (fits-gives-last false (withPhase off w) (view (s .0)) _ (ack v) (length bytes) r acked-ack acked-one (ack-acks v) (ack-keeps v ∙ ap toggle (b .1 refl))), tt))))))))
-    (λ _. at-end (inr r, tt))
+    (λ _. at-end (inr r, λ h. differ h))
 law-data-in bytes true false w s (inr r) z =
     watch-cond (eqb (s .0 .globals .stage) 2)
-    (λ _. watch-cond (ltb (s .0 .globals .«ep0_max») (length bytes)) (λ _. at-end (inr r, tt)) (λ _. watch-cond (isOn (s .0 .globals .«setup_ready»)) (λ _. at-end (inr r, tt))
+    (λ _. watch-cond (ltb (s .0 .globals .«ep0_max») (length bytes)) (λ _. at-end (inr r, λ h. differ h)) (λ _. watch-cond (isOn (s .0 .globals .«setup_ready»)) (λ g. at-end (inr r, λ _ _. sym (r .setup) ∙ g))
     (λ _. at-ask tt (λ _ t _ k. at-ask tt (λ _ u _ l. at-end (moved (l .0 ∙ (k .0 ∙ opening (length bytes) bytes s (z .places))) (fits-gives true (withPhase off w) (view (s .0)) _ (length bytes) r acked-ack acked-one), tt))))))
-    (λ _. at-end (inr r, tt))
+    (λ _. at-end (inr r, λ h. differ h))
 law-data-in bytes false false w s (inr r) z =
     watch-cond (eqb (s .0 .globals .stage) 2)
-    (λ _. watch-cond (ltb (s .0 .globals .«ep0_max») (length bytes)) (λ _. at-end (inr r, tt)) (λ _. watch-cond (isOn (s .0 .globals .«setup_ready»)) (λ _. at-end (inr r, tt))
+    (λ _. watch-cond (ltb (s .0 .globals .«ep0_max») (length bytes)) (λ _. at-end (inr r, λ h. differ h)) (λ _. watch-cond (isOn (s .0 .globals .«setup_ready»)) (λ g. at-end (inr r, λ _ _. sym (r .setup) ∙ g))
     (λ _. at-ask tt (λ _ t _ k. at-ask tt (λ v t′ b k′. at-ask tt (λ _ u _ l. at-end (moved (l .0 ∙ (k′ .0 ∙ (k .0 ∙ opening (length bytes) bytes s (z .places)))) (fits-gives false (withPhase off w) (view (s .0)) (ack v) (length bytes) r (ack-acks v) (ack-keeps v ∙ ap toggle (b .1 refl))), tt)))))))
-    (λ _. at-end (inr r, tt))
+    (λ _. at-end (inr r, λ h. differ h))
 
 -- ---- accept
 
@@ -152,17 +152,17 @@ pub law-accept : Law (other BeginAccept)
 law-accept w s (inl e) z = exempt-law (other BeginAccept) tt w s e
 law-accept w s (inr r) z =
     watch-cond (eqb (s .0 .globals .stage) 2)
-    (λ _. watch-cond (isOn (s .0 .globals .«setup_ready»)) (λ _. at-end (inr r, tt))
+    (λ _. watch-cond (isOn (s .0 .globals .«setup_ready»)) (λ g. at-end (inr r, λ _ _. sym (r .setup) ∙ g))
     (λ _. at-ask tt (λ _ t _ k. at-ask tt (λ v t′ b k′. at-ask tt (λ _ u _ l. at-end (moved (l .0 ∙ (k′ .0 ∙ (k .0 ∙ cleared (requestOf ACCEPT 0) s (z .places)))) (fits-confirms (withPhase off w) (view (s .0)) (status v) (requestOf ACCEPT 0) refl r (status-acks v) (status-one v)), tt))))))
-    (λ _. at-end (inr r, tt))
+    (λ _. at-end (inr r, λ h. differ h))
 
 pub law-accept-address : (a : ℕ) → Law (other (BeginAcceptSetAddress a))
 law-accept-address a w s (inl e) z = exempt-law (other (BeginAcceptSetAddress a)) tt w s e
 law-accept-address a w s (inr r) z =
     watch-cond (eqb (s .0 .globals .stage) 2)
-    (λ _. watch-cond (isOn (s .0 .globals .«setup_ready»)) (λ _. at-end (inr r, tt))
+    (λ _. watch-cond (isOn (s .0 .globals .«setup_ready»)) (λ g. at-end (inr r, λ _ _. sym (r .setup) ∙ g))
     (λ _. at-ask tt (λ _ t _ k. at-ask tt (λ v t′ b k′. at-ask tt (λ _ u _ l. at-end (moved (l .0 ∙ (k′ .0 ∙ (k .0 ∙ cleared (addressOf (a % 256)) s (z .places)))) (fits-confirms (withPhase off w) (view (s .0)) (status v) (addressOf (a % 256)) refl r (status-acks v) (status-one v)), tt))))))
-    (λ _. at-end (inr r, tt))
+    (λ _. at-end (inr r, λ h. differ h))
 
 -- ---- reject
 
