@@ -47,13 +47,15 @@ else-bits p k = record { bits = λ dir e. rw p (k .bits dir e) }
 -- one record assigned: past the end of the list the record is 0
 record-bits : {d : Driver} (dir : Dir) (e : ℕ) (r : EpState) → IsBit (r .tog) → TogBits d → TogBits (withOn d dir e r)
 unfolding epOn withOn
-record-bits {d} dir e r h k = record { bits = λ dir′ x. elim (ℕ-discrete (key dir′ x) (key dir e)) [
-  | yes p ↦ rw p (elim (decLt (key dir e) (length (d .eps))) [
-    | yes q ↦ rw (getD-set-same (d .eps) (key dir e) r noEp q) h
-    | no q ↦ rw (List·getD-eq-default (set (d .eps) (key dir e) r) noEp {n = key dir e} (omega (arith, length-set (d .eps) (key dir e) r))) (inl refl)
-  ])
-  | no p ↦ rw (getD-set-other (d .eps) (key dir e) (key dir′ x) r noEp p) (k .bits dir′ x)
-] }
+record-bits {d} dir e r h k = record {
+  bits = λ dir′ x. elim (ℕ-discrete (key dir′ x) (key dir e)) [
+    | yes p ↦ rw p (elim (decLt (key dir e) (length (d .eps))) [
+      | yes q ↦ rw (getD-set-same (d .eps) (key dir e) r noEp q) h
+      | no q ↦ rw (List·getD-eq-default (set (d .eps) (key dir e) r) noEp {n = key dir e} (omega (arith, length-set (d .eps) (key dir e) r))) (inl refl)
+    ])
+    | no p ↦ rw (getD-set-other (d .eps) (key dir e) (key dir′ x) r noEp p) (k .bits dir′ x)
+  ];
+}
 
 either : {x y : Driver} (b : Bool) → TogBits x → TogBits y → TogBits (cond b x y)
 either true p q = p
