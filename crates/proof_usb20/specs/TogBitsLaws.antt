@@ -2,23 +2,22 @@
 -- got, 0, or the chip's bit
 use mathlib.Core.Bool.{Bool, true, false, cond, true≢false}
 use mathlib.Core.List.{List}
-use mathlib.Core.Logic.{_⊎_, inl, inr}
+use mathlib.Core.Logic.{inl, inr}
 use mathlib.Core.Path.{_≡_, refl, ap, subst, sym}
 use Prim.Native.Nat.{ℕ, zero, suc}
 use native.Mathlib.Omega.{arith}
 use native.Mathlib.Decide.{ℕ-discrete, decLt}
 use lib.Dec.{eqb}
-use lib.ListN.{length, getD, set, length-set, List·getD-eq-default}
+use lib.ListN.{length, set, length-set, List·getD-eq-default}
 use lib.Seq.{getD-set-same, getD-set-other}
 use Rattle.regs.specs.declared.Access.{Access}
 use Rattle.regs.specs.declared.Reg.{Reg}
 use Rattle.regs.specs.declared.Dir.{Dir}
 use Rattle.regs.specs.declared.Dir.the-variants.{Out, In}
 use Rattle.state.specs.declared.EpState.{EpState}
-use Rattle.state.specs.declared.Allocator.{Allocator}
 use Rattle.state.specs.Ep.{resetOf}
 use Rattle.state.specs.Fresh.{clearStamps, noStamps}
-use Rattle.state.specs.Driver.{Driver, key, noEp, epOn, withOn, withPacedOn, withRequestOn, withAllocator}
+use Rattle.state.specs.Driver.{Driver, key, noEp, epOn, withOn, withPacedOn, withRequestOn}
 use Rattle.ring.specs.Out.{armedAt}
 use Rattle.alloc.specs.Alloc.{allocateOf, allocateEp0Of, allocated}
 use Rattle.alloc.specs.declared.Answer as alloc-answer
@@ -29,10 +28,10 @@ use Rattle.script.specs.Cells.{Plain, Cell, Val, globals-cell, control-cell, al
 use Rattle.script.specs.Script.{Script, run, rows, ret, bind, test, read-then, write-then, wait-then, callback-then, get-then, put-then, is-then, look-then, fetch-then, act-then, hand-then, row-then, Test, Look, Fetch, Act, complete, reset-ring, set-enabled, fill, fill0, open-oldest, close-oldest, take-oldest, enqueue, allocate, allocate0, no-wakes, waken, Hand, Row, switch, bus-reset, lastOf}
 use Rattle.script.specs.Statics.{isOn, flag}
 use Rattle.ops.specs.Records.{merged, recordGiven, setsGiven, givenTo, allocatedOn, startedWith, allocatedEp0}
-use Rattle.ops.specs.Rings.{St, renewedOn, armAt, slotStep, typeStep, configStep, switchStep, resetBelow, resetAll, resetStep}
+use Rattle.ops.specs.Rings.{St, renewedOn, armAt, slotStep, typeStep, configStep, resetBelow, resetAll}
 use Rattle.ops.specs.Conc.{conc}
 use Rattle.proof_usb20.specs.Follow.{Seen}
-use Rattle.proof_usb20.specs.Untouched.{Same, act-same, hand-same, others}
+use Rattle.proof_usb20.specs.Untouched.{Same, act-same, hand-same}
 use Rattle.proof_usb20.specs.TogBits.{IsBit, TogBits}
 
 -- ---- states

@@ -3,7 +3,7 @@ use mathlib.Core.Bool.{Bool, true, false, cond}
 use mathlib.Core.List.{List, [], _∷_}
 use mathlib.Core.Path.{_≡_, subst, sym}
 use Prim.Native.Nat.{ℕ, zero, suc}
-use lib.ListN.{getD, replicate, getD-replicate}
+use lib.ListN.{getD-replicate}
 use Rattle.state.specs.Ep.{newEp}
 use Rattle.state.specs.Fresh.{freshDriver}
 use Rattle.state.specs.Driver.{Driver, key, noEp, epOn}
