@@ -1,0 +1,237 @@
+-- Every operation keeps the recorded toggles 0 or 1, if what is assigned is; so does every script that assigns what it
+-- got, 0, or the chip's bit
+use mathlib.Core.Bool.{Bool, true, false, cond, true≢false}
+use mathlib.Core.List.{List}
+use mathlib.Core.Logic.{inl, inr}
+use mathlib.Core.Path.{_≡_, refl, ap, subst, sym}
+use Prim.Native.Nat.{ℕ, zero, suc}
+use native.Mathlib.Omega.{arith}
+use native.Mathlib.Decide.{ℕ-discrete, decLt}
+use lib.Dec.{eqb}
+use lib.ListN.{length, set, length-set, List·getD-eq-default}
+use lib.Seq.{getD-set-same, getD-set-other}
+use Rattle.regs.specs.declared.Access.{Access}
+use Rattle.regs.specs.declared.Reg.{Reg}
+use Rattle.regs.specs.declared.Dir.{Dir}
+use Rattle.regs.specs.declared.Dir.the-variants.{Out, In}
+use Rattle.state.specs.declared.EpState.{EpState}
+use Rattle.state.specs.Ep.{resetOf}
+use Rattle.state.specs.Fresh.{clearStamps, noStamps}
+use Rattle.state.specs.Driver.{Driver, key, noEp, epOn, withOn, withPacedOn, withRequestOn}
+use Rattle.ring.specs.Out.{armedAt}
+use Rattle.alloc.specs.Alloc.{allocateOf, allocateEp0Of, allocated}
+use Rattle.alloc.specs.declared.Answer as alloc-answer
+use Rattle.alloc.specs.declared.Answer.the-variants as alloc
+use Rattle.script.specs.Tree as tree
+use Rattle.script.specs.Tree.{ends, asks, bindOut}
+use Rattle.script.specs.Cells.{Plain, Cell, Val, globals-cell, control-cell, allocator-cell, ep-cell, request-cell, paced-cell}
+use Rattle.script.specs.Script.{Script, run, rows, ret, bind, test, read-then, write-then, wait-then, callback-then, get-then, put-then, is-then, look-then, fetch-then, act-then, hand-then, row-then, Test, Look, Fetch, Act, complete, reset-ring, set-enabled, fill, fill0, open-oldest, close-oldest, take-oldest, enqueue, allocate, allocate0, no-wakes, waken, Hand, Row, switch, bus-reset, lastOf}
+use Rattle.script.specs.Statics.{isOn, flag}
+use Rattle.ops.specs.Records.{merged, recordGiven, setsGiven, givenTo, allocatedOn, startedWith, allocatedEp0}
+use Rattle.ops.specs.Rings.{St, renewedOn, armAt, slotStep, typeStep, configStep, resetBelow, resetAll}
+use Rattle.ops.specs.Conc.{conc}
+use Rattle.proof_usb20.specs.Follow.{Seen}
+use Rattle.proof_usb20.specs.Untouched.{Same, act-same, hand-same}
+use Rattle.proof_usb20.specs.TogBits.{IsBit, TogBits}
+
+-- ---- states
+
+same-bits : {d d′ : Driver} → Same d d′ → TogBits d → TogBits d′
+same-bits p k = record { bits = λ dir e. subst IsBit (sym (ap (λ (x : Seen). x .tog) (p .flags dir e))) (k .bits dir e) }
+
+else-bits : {d d′ : Driver} → d′ .eps ≡ d .eps → TogBits d → TogBits d′
+unfolding epOn
+else-bits p k = record { bits = λ dir e. rw p (k .bits dir e) }
+
+-- one record assigned: past the end of the list the record is 0
+record-bits : {d : Driver} (dir : Dir) (e : ℕ) (r : EpState) → IsBit (r .tog) → TogBits d → TogBits (withOn d dir e r)
+unfolding epOn withOn
+record-bits {d} dir e r h k = record {
+  bits = λ dir′ x. elim (ℕ-discrete (key dir′ x) (key dir e)) [
+    | yes p ↦ rw p (elim (decLt (key dir e) (length (d .eps))) [
+      | yes q ↦ rw (getD-set-same (d .eps) (key dir e) r noEp q) h
+      | no q ↦ rw (List·getD-eq-default (set (d .eps) (key dir e) r) noEp {n = key dir e} (omega (arith, length-set (d .eps) (key dir e) r))) (inl refl)
+    ])
+    | no p ↦ rw (getD-set-other (d .eps) (key dir e) (key dir′ x) r noEp p) (k .bits dir′ x)
+  ];
+}
+
+either : {x y : Driver} (b : Bool) → TogBits x → TogBits y → TogBits (cond b x y)
+either true p q = p
+either false p q = q
+
+-- ---- each operation
+
+abbrev isEp : Cell → Bool
+isEp globals-cell = false
+isEp control-cell = false
+isEp allocator-cell = false
+isEp (ep-cell d e) = true
+isEp (request-cell d e) = false
+isEp (paced-cell e) = false
+
+put-bits : (c : Cell) → isEp c ≡ false → (v : Val c) (s : St) → TogBits (s .0) → TogBits (conc .put c v s .0)
+unfolding withPacedOn withRequestOn
+put-bits globals-cell h v s k = else-bits refl k
+put-bits control-cell h v s k = else-bits refl k
+put-bits allocator-cell h v s k = k
+put-bits (ep-cell d e) h v s k = absurd (true≢false h)
+put-bits (request-cell d e) h v s k = else-bits refl k
+put-bits (paced-cell e) h v s k = else-bits refl k
+
+given-bits : {d : Driver} (dir : Dir) (kind maximum interval : ℕ) (a : alloc-answer.Answer) → TogBits d
+    → TogBits (givenTo dir kind maximum interval a d)
+unfolding givenTo setsGiven recordGiven allocated
+given-bits dir kind maximum interval (alloc.Refused n) k = k
+given-bits {d} dir kind maximum interval (alloc.Given e base slots) k = else-bits refl (record-bits dir e _ (inl refl) k)
+
+started-bits : {d : Driver} (maximum : ℕ) (a : alloc-answer.Answer) → TogBits d → TogBits (startedWith maximum a d)
+unfolding startedWith
+started-bits maximum (alloc.Refused n) k = k
+started-bits maximum (alloc.Given e base slots) k = else-bits refl k
+
+act-bits : (q : Act) (s : St) → TogBits (s .0) → TogBits (conc .act q s .0)
+unfolding allocatedOn allocatedEp0
+act-bits (complete e) s k = same-bits (act-same (complete e) refl s) k
+act-bits (reset-ring dir e) s k = same-bits (act-same (reset-ring dir e) refl s) k
+act-bits (set-enabled dir e on) s k = same-bits (act-same (set-enabled dir e on) refl s) k
+act-bits (fill e bytes) s k = k
+act-bits (fill0 bytes) s k = k
+act-bits (open-oldest e) s k = same-bits (act-same (open-oldest e) refl s) k
+act-bits (close-oldest e) s k = same-bits (act-same (close-oldest e) refl s) k
+act-bits (take-oldest e) s k = same-bits (act-same (take-oldest e) refl s) k
+act-bits (enqueue e bytes) s k = same-bits (act-same (enqueue e bytes) refl s) k
+act-bits (allocate dir kind address maximum interval) s k =
+    given-bits dir kind maximum interval (allocateOf (s .0 .allocator) kind address maximum dir .answer) (else-bits refl k)
+act-bits (allocate0 maximum) s k = started-bits maximum (allocateEp0Of (s .0 .allocator) maximum .answer) (else-bits refl k)
+act-bits no-wakes s k = else-bits refl k
+act-bits (waken codes) s k = else-bits refl k
+
+-- ---- rows
+
+armed-bits : (d : Driver) (e a : ℕ) → TogBits d → TogBits (withOn d Out e (armedAt (epOn d Out e) a))
+unfolding armedAt
+armed-bits d e a k = record-bits Out e _ (k .bits Out e) k
+
+renewed-bits : (d : Driver) (e : ℕ) → TogBits d → TogBits (renewedOn d e)
+unfolding renewedOn clearStamps
+renewed-bits d e k = record-bits Out e _ (inl refl) (else-bits refl k)
+
+slot-bits : (e k : ℕ) (s : St) → TogBits (s .0) → TogBits (slotStep e k s .1 .0)
+unfolding slotStep
+slot-bits e k s h = by (isOn (epOn (s .0) Out e .iso)) (eqb k 15)
+  where
+    by : (b c : Bool)
+        → TogBits (cond b (armAt e k (cond c (renewedOn (s .0) e) (s .0), s .1)) (epOn (s .0) Out e .«armed_slot», s) .1 .0)
+    by true c = armed-bits (cond c (renewedOn (s .0) e) (s .0)) e _ (either c (renewed-bits (s .0) e h) h)
+    by false c = h
+
+below-bits : (n : ℕ) (d : Driver) → TogBits d → TogBits (resetBelow n d)
+unfolding resetBelow
+below-bits zero d k = k
+below-bits (suc n) d k =
+    let x = resetBelow n d in
+    let y = withOn x Out n (resetOf (epOn x Out n)) in
+    record-bits In n (resetOf (epOn y In n)) (inl refl) (record-bits Out n (resetOf (epOn x Out n)) (inl refl) (below-bits n d k))
+
+row-bits : (g : Row) (n : ℕ) (s : St) → TogBits (s .0) → TogBits (conc .row g n s .1 .0)
+unfolding configStep typeStep resetAll noStamps
+row-bits (switch e on) zero s k = else-bits refl k
+row-bits (switch e on) (suc zero) s k = else-bits refl k
+row-bits (switch e on) (suc (suc zero)) s k = k
+row-bits (switch e on) (suc (suc (suc n))) s k = slot-bits e n s k
+row-bits bus-reset zero s k = else-bits refl (below-bits 16 (s .0) k)
+row-bits bus-reset (suc zero) s k = k
+row-bits bus-reset (suc (suc zero)) s k = else-bits refl k
+row-bits bus-reset (suc (suc (suc n))) s k = else-bits refl k
+
+-- ---- scripts
+
+-- at each access and at each end, whatever is read and whatever such state the next call finds
+pub data Holds {A : Type 0} : tree.Out St A → Type 0 where
+  end : {a : A} {s : St} → TogBits (s .0) → Holds (ends a s)
+  ask : {q : Access} {s : St} {k : ℕ → St → tree.Out St A} → TogBits (s .0)
+      → ((v : ℕ) (t : St) → TogBits (t .0) → Holds (k v t)) → Holds (asks q s k)
+
+pub record Keeps {i : Bool} {A : Type 0} (p : Script i A) : Type 0 where
+  pub on : (s : St) → TogBits (s .0) → Holds (run conc p s)
+
+holds-bind : {A B : Type 0} {o : tree.Out St A} {f : A → St → tree.Out St B} → Holds o
+    → ((a : A) (s : St) → TogBits (s .0) → Holds (f a s)) → Holds (bindOut o f)
+holds-bind (end b) h = h _ _ b
+holds-bind (ask b k) h = ask b (λ v t c. holds-bind (k v t c) h)
+
+holds-rows : {A : Type 0} (g : Row) (n : ℕ) {k : St → tree.Out St A} → ((t : St) → TogBits (t .0) → Holds (k t))
+    → (s : St) → TogBits (s .0) → Holds (rows conc g n k s)
+holds-rows g zero h s b = ask (row-bits g zero s b) (λ v t c. h t c)
+holds-rows g (suc n) h s b = ask (row-bits g (suc n) s b) (λ v t c. holds-rows g n h t c)
+
+-- the chip's bit, and DATA0
+pub bit-read : (b : Bool) → IsBit (flag b)
+bit-read true = inr refl
+bit-read false = inl refl
+
+pub bit-0 : IsBit 0
+bit-0 = inl refl
+
+module _ {i : Bool} {A : Type 0} where
+  pub k-ret : {a : A} → Keeps {i = i} (ret a)
+  k-ret = record { on = λ s b. end b }
+
+  pub k-bind : {B : Type 0} {p : Script i B} {f : B → Script i A} → Keeps p → ((b : B) → Keeps (f b)) → Keeps (bind p f)
+  k-bind h g = record { on = λ s b. holds-bind (h .on s b) (λ a t c. g a .on t c) }
+
+  pub k-test : {b : Bool} {p q : Script i A} → Keeps p → Keeps q → Keeps (test b p q)
+  k-test {b} {p} {q} h g = by b
+    where
+      by : (b : Bool) → Keeps (test b p q)
+      by true = record { on = λ s c. h .on s c }
+      by false = record { on = λ s c. g .on s c }
+
+  pub k-read : {r : Reg} {e : ℕ} {k : ℕ → Script i A} → ((v : ℕ) → Keeps (k v)) → Keeps (read-then r e k)
+  k-read h = record { on = λ s b. ask b (λ v t c. h v .on t c) }
+
+  pub k-write : {r : Reg} {e v : ℕ} {p : Script i A} → Keeps p → Keeps (write-then r e v p)
+  k-write h = record { on = λ s b. ask b (λ v t c. h .on t c) }
+
+  pub k-wait : {n : ℕ} {p : Script i A} → Keeps p → Keeps (wait-then n p)
+  k-wait h = record { on = λ s b. ask b (λ v t c. h .on t c) }
+
+  pub k-callback : {p : Script i A} → Keeps p → Keeps (callback-then p)
+  k-callback h = record { on = λ s b. ask b (λ v t c. h .on t c) }
+
+  -- a record's toggle is 0 or 1 where it is got
+  pub k-got : {d : Dir} {e : ℕ} {f : Plain → Script i A} → ((p : Plain) → IsBit (p .tog) → Keeps (f p))
+      → Keeps (bind (get-then (ep-cell d e) ret) f)
+  k-got {d} {e} h = record { on = λ s b. h _ (b .bits d e) .on s b }
+
+  pub k-get : {c : Cell} {k : Val c → Script i A} → ((v : Val c) → Keeps (k v)) → Keeps (get-then c k)
+  k-get h = record { on = λ s b. h _ .on s b }
+
+  pub k-put : {c : Cell} {v : Val c} {p : Script i A} → isEp c ≡ false → Keeps p → Keeps (put-then c v p)
+  k-put {c} {v} e h = record { on = λ s b. h .on _ (put-bits c e v s b) }
+
+  pub k-assigned : {d : Dir} {e : ℕ} {v : Plain} {p : Script i A} → IsBit (v .tog) → Keeps p
+      → Keeps (put-then (ep-cell d e) v p)
+  k-assigned {d} {e} {v} t h = record { on = λ s b. h .on _ (record-bits d e (merged (epOn (s .0) d e) v) t b) }
+
+  pub k-is : {q : Test} {k : Bool → Script i A} → ((b : Bool) → Keeps (k b)) → Keeps (is-then q k)
+  k-is h = record { on = λ s b. h _ .on s b }
+
+  pub k-look : {q : Look} {k : ℕ → Script i A} → ((n : ℕ) → Keeps (k n)) → Keeps (look-then q k)
+  k-look h = record { on = λ s b. h _ .on s b }
+
+  pub k-fetch : {q : Fetch} {k : List ℕ → Script i A} → ((l : List ℕ) → Keeps (k l)) → Keeps (fetch-then q k)
+  k-fetch h = record { on = λ s b. h _ .on s b }
+
+  pub k-act : {q : Act} {p : Script i A} → Keeps p → Keeps (act-then q p)
+  k-act {q} h = record { on = λ s b. h .on _ (act-bits q s b) }
+
+  pub k-hand : {q : Hand} {p : Script i A} → Keeps p → Keeps (hand-then q p)
+  k-hand {q} h = record { on = λ s b. ask (same-bits (hand-same q s) b) (λ v t c. h .on t c) }
+
+pub k-row : {A : Type 0} {g : Row} {p : Script false A} → Keeps p → Keeps (row-then g p)
+k-row {g = g} h = record { on = λ s b. holds-rows g (lastOf g) (λ t c. h .on t c) s b }
+
+-- rules by which a script is taken apart
+pub ruleset keeping = (k-ret, k-got, k-bind, k-test, k-read, k-write, k-wait, k-callback, k-get, k-put, k-assigned, k-is, k-look, k-fetch, k-act, k-hand, k-row, bit-read, bit-0)
