@@ -92,7 +92,10 @@ impl Chip {
             Some(Host::Out0(_)) => self.answers(reg::EP_RX_CTRL, 0),
             Some(Host::Bulk(_)) => self.enabled(1) && self.answers(reg::EP_RX_CTRL, 1) && self.seen[0][1] & 0x10 != 0,
             Some(Host::Iso(ep, _)) => self.enabled(*ep) && self.waiting[*ep] < 15,
-            Some(Host::Sof) => self.enabled(2) && self.enabled(3) && seam::written(reg::EP_CONFIG, 0) >> 4 & 1 != 0,
+            Some(Host::Sof) => {
+                let on = |r, bit: u32| seam::written(r, 0) >> bit & 1 != 0;
+                self.enabled(2) && self.enabled(3) && on(reg::EP_CONFIG, 4) && on(reg::INT_EN, 6)
+            }
             Some(Host::Address(a)) => seam::written(reg::DEV_AD, 0) == *a,
             Some(Host::Setup(_) | Host::Reset) => true,
         }

@@ -1,4 +1,4 @@
-//! The drop-in (`dropin/usbhs`) over the oracle's shims, driven by the same files that drive the unchanged Rust.
+//! The drop-in (`rust/ch32_hal/usbhs`) over the oracle's shims, driven by the same files that drive the unchanged Rust.
 
 #[macro_use]
 mod macros;
@@ -17,6 +17,7 @@ pub mod usb;
 pub mod usbhs;
 
 pub(crate) use hal::*;
+pub mod compared;
 pub mod live;
 pub mod new;
 pub use rust::Rust as DropIn;
