@@ -254,7 +254,7 @@ pub fn run(seed: u64) -> Result<(usize, usize), String> {
             in_timer: false,
             waiting: [0; 16],
             midst: 0,
-            every: seed % 5 == 0,
+            every: seed.is_multiple_of(5),
         });
     }
     critical_section::at_exit(Some(exit));

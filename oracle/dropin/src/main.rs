@@ -25,11 +25,12 @@ fn live(seed: u64, runs: u64) -> Result<(), String> {
 }
 
 fn time(packets: u32) {
-    let each: [(&str, fn(u32) -> f64); 2] =
-        [("the drop-in", dropin::live::nanoseconds), ("the Rust", rust_live::live::nanoseconds)];
-    for (name, nanoseconds) in each {
-        println!("an isochronous packet of 64 bytes, interrupt and take: {name} {:.0} ns", nanoseconds(packets));
-    }
+    println!("an isochronous packet of 64 bytes, interrupt and take:");
+    println!(
+        "the drop-in {:.0} ns, the Rust {:.0} ns",
+        dropin::live::nanoseconds(packets),
+        rust_live::live::nanoseconds(packets)
+    );
 }
 
 fn compared(asked: Runs) -> Result<(), String> {

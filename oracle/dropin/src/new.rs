@@ -154,7 +154,8 @@ fn sof(microframe: u16) {
 /// Pacing that comes before EP0's start, or from the callback, is put off and then made: starts of frame alone complete
 /// no packet. Without pacing they do.
 fn put_off() {
-    let pace: [(&str, fn(), fn()); 3] = [
+    type Pace = (&'static str, fn(), fn());
+    let pace: [Pace; 3] = [
         ("before", || usbhs::iso_in_set_paced(2, true), || ()),
         ("from the callback", || usbhs::set_sof_callback(|| usbhs::iso_in_set_paced(2, true)), || sof(7)),
         ("never", || (), || ()),

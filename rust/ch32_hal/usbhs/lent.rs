@@ -1,7 +1,8 @@
-//! What the port is lent, in a static: the layer's only module with `unsafe` of its own.
+//! What the port is lent, in a static, and the registers' names: the layer's module with `unsafe`.
 
 use core::cell::UnsafeCell;
 
+use crate::pac::usbhs::{Usb, Usbd, Usbh};
 use usbhs_port::{Answer, BusTime, Lend, Packet, Port, State};
 
 /// This driver's number in the record of bus time.
@@ -106,4 +107,16 @@ pub(super) fn on_packet<R>(packet: Packet, f: impl FnOnce(&[u8]) -> R) -> R {
     // SAFETY: inside the lent buffers; until it is closed no call writes to an open packet's slot, and the chip was not
     // handed it (both proved)
     f(unsafe { core::slice::from_raw_parts(slots.add(begin), n) })
+}
+
+/// The block's registers by their names in device mode.
+pub(super) fn device(block: Usb) -> Usbd {
+    // SAFETY: the same registers
+    unsafe { Usbd::from_ptr(block.as_ptr()) }
+}
+
+/// The block's registers by their names in host mode.
+pub(super) fn host(block: Usb) -> Usbh {
+    // SAFETY: the same registers
+    unsafe { Usbh::from_ptr(block.as_ptr()) }
 }

@@ -390,17 +390,11 @@ foreach_peripheral!(
             }
 
             fn dregs() -> crate::pac::usbhs::Usbd {
-                // SAFETY: the same block's registers, by their names in device mode
-                unsafe {
-                    crate::pac::usbhs::Usbd::from_ptr(crate::pac::$inst.as_ptr())
-                }
+                lent::device(crate::pac::$inst)
             }
 
             fn hregs() -> crate::pac::usbhs::Usbh {
-                // SAFETY: the same block's registers, by their names in host mode
-                unsafe {
-                    crate::pac::usbhs::Usbh::from_ptr(crate::pac::$inst.as_ptr())
-                }
+                lent::host(crate::pac::$inst)
             }
         }
 

@@ -51,6 +51,11 @@ zeroed!(State, [0; STATE_LEN]);
 zeroed!(BusTime, [0; TIME_LEN]);
 
 impl BusTime {
+    #[cfg(feature = "survey")]
+    pub(crate) fn as_ptr(&self) -> *const u16 {
+        self.0.as_ptr()
+    }
+
     /// The byte-times of each microframe that are in use, by all drivers of this record.
     #[must_use]
     pub fn in_use(&self) -> u32 {
@@ -336,7 +341,7 @@ type Bytes = *const u8;
 type Time = *mut u16;
 type U = u32;
 
-// as in usbhs.h; tests/dropin/run compares names and parameters
+// as in usbhs.h; tests/header.rs compares
 extern "C" {
     fn usbhs_start_up(s: S, slots: Bytes, n: Length, t: Time, driver: U, size: U, count: U, callback: U) -> u64;
     fn usbhs_allocate(s: S, kind: U, address: U, maximum: U, interval: U, dir: U) -> u64;

@@ -27,6 +27,7 @@ mod hal;
 #[allow(dead_code, private_interfaces, clippy::all)]
 #[path = "../../../../docs/src/usb/mod.rs"]
 pub mod usb;
+#[deny(clippy::undocumented_unsafe_blocks)]
 #[path = "../../../../rust/ch32_hal/usbhs/mod.rs"]
 pub mod usbhs;
 
