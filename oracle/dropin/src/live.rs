@@ -3,11 +3,11 @@
 //! Rust.
 //!
 //! Tasks: the bus; the control pipe; reads of a bulk OUT (1) and of an isochronous OUT (2). The packets of another
-//! isochronous OUT (3) are taken in place, by the start-of-frame callback or by a timer whose interrupt falls also into
-//! the USB interrupt. The callback, which in some runs is set only after EP0's start, in some after the bus reset, queues
-//! or fills on an isochronous IN (4), which in every other run is paced: paced before EP0's start, and advanced from the
-//! callback. In every fifth run host and timer come wherever they can. What each task gets must be what the host sent,
-//! in order, and none may wait for ever.
+//! isochronous OUT (3) are taken in place, by the start-of-frame callback or by a timer whose interrupt falls also
+//! into the USB interrupt. The callback, which in some runs is set only after EP0's start, in some after the bus reset,
+//! queues or fills on an isochronous IN (4), which in every other run is paced: paced before EP0's start, and advanced
+//! from the callback. In every fifth run host and timer come wherever they can. What each task gets must be what the
+//! host sent, in order, and none may wait for ever.
 
 #[path = "host.rs"]
 mod host;

@@ -1,8 +1,8 @@
 //! One access: the port's register and packed word, made by the PAC's accessors.
 //!
-//! The Rust changes fields in place with `modify`. The port reads a register and writes it back in the next access; here
-//! such a write changes, in the value that was read, the fields in which the two words differ, so that bits that the
-//! port has no name for stay as `modify` leaves them.
+//! The Rust changes fields in place with `modify`. The port reads a register and writes it back in the next access;
+//! here such a write changes, in the value that was read, the fields in which the two words differ, so that bits that
+//! the port has no name for stay as `modify` leaves them.
 
 use core::marker::PhantomData;
 

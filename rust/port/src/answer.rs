@@ -288,3 +288,34 @@ impl Event {
         }
     }
 }
+
+#[cfg(test)]
+mod tests {
+    use super::*;
+
+    #[test]
+    fn numbers() {
+        for row in 1..=u8::MAX {
+            assert_eq!(Refusal::of(row).row(), row);
+            assert_eq!(Answer::of(u64::from(row) << 8), Answer::Refused(Refusal::of(row)));
+        }
+        for (n, &register) in REGISTERS.iter().enumerate() {
+            assert_eq!(register as usize, n);
+            let word = 2 | (n as u64) << 8 | 7 << 16 | 0xABCD_1234 << 32;
+            assert_eq!(Answer::of(word), Answer::Write { register, endpoint: 7, value: 0xABCD_1234 });
+        }
+        for n in 0..=32 {
+            assert_eq!(Task::of(n).number(), n.into());
+        }
+    }
+
+    /// Words that the port never answers are refusals.
+    #[test]
+    fn others() {
+        for word in [9, 15, 1 | 19 << 8, 2 | 255 << 8] {
+            assert!(matches!(Answer::of(word), Answer::Refused(_)));
+        }
+        assert_eq!(Answer::of(5 | 3 << 8 | 2 << 24), Answer::End { result: 3, wakes: 2 });
+        assert_eq!(Answer::of(8 | 12 << 8 | 640 << 32), Answer::Shown { offset: 640, length: 12 });
+    }
+}

@@ -40,8 +40,8 @@
 //! ```
 //!
 //! Any argument is safe: what cannot be is refused, and a refused call changes nothing (`usbhs.h` names the
-//! exceptions). While an operation of a task is under way, keep the chip's interrupt masked; during an interrupt's operation packets
-//! may be opened, closed and queued.
+//! exceptions). While an operation of a task is under way, keep the chip's interrupt masked; during an interrupt's
+//! operation packets may be opened, closed and queued.
 #![no_std]
 #![deny(unsafe_code)]
 
