@@ -8,6 +8,7 @@ pub mod random;
 pub mod replay;
 mod rng;
 pub mod text;
+pub mod wrong;
 
 pub use call::{Answer, Call, Dir, Kind, Wake, REGISTERS};
 pub use rng::Rng;

@@ -2,8 +2,8 @@
 
 pub mod begun;
 pub mod chip;
-mod domain;
-mod late;
+pub mod domain;
+pub mod late;
 mod misplaced;
 mod port;
 pub mod runs;

@@ -1,0 +1,122 @@
+//! What the port is lent, in a static, and the registers' names: the layer's module with `unsafe`.
+
+use core::cell::UnsafeCell;
+
+use crate::pac::usbhs::{Usb, Usbd, Usbh};
+use usbhs_port::{Answer, BusTime, Lend, Packet, Port, State};
+
+/// This driver's number in the record of bus time.
+const DRIVER: u32 = 0;
+
+/// What the free functions do with a driver's registers.
+#[derive(Clone, Copy)]
+pub(super) enum Free {
+    /// The microframe index, as an operation.
+    Microframe,
+    /// The same by reading the register itself.
+    Frame,
+    Advance(u8),
+    /// SOF interrupts are let through.
+    Sof,
+}
+
+pub(super) struct Lent {
+    pub(super) state: State,
+    pub(super) time: BusTime,
+    slots: *mut u8,
+    length: usize,
+    /// One buffer's.
+    pub(super) size: usize,
+    /// The start-of-frame callback.
+    pub(super) callback: Option<fn()>,
+    /// `free::<T>` of the driver's peripheral.
+    pub(super) free: Option<fn(Free) -> Answer>,
+}
+
+impl Lent {
+    pub(super) const NEW: Self = Self {
+        state: State::new(),
+        time: BusTime::new(),
+        slots: core::ptr::null_mut(),
+        length: 0,
+        size: 0,
+        callback: None,
+        free: None,
+    };
+
+    /// Buffers that the driver may use from now on.
+    pub(super) fn lend_slots(&mut self, slots: *mut u8, length: usize, size: usize) {
+        (self.slots, self.length, self.size) = (slots, length, size);
+    }
+
+    pub(super) fn slots(&self) -> (*mut u8, usize) {
+        (self.slots, self.length)
+    }
+
+    pub(super) fn port(&mut self) -> Port<'_> {
+        let slots: &mut [u8] = if self.slots.is_null() {
+            &mut []
+        } else {
+            // SAFETY: the buffers that `Driver::new` took for the driver's life; nobody else has a reference while a
+            // call is made, and the chip's own accesses are outside of the language
+            unsafe { core::slice::from_raw_parts_mut(self.slots, self.length) }
+        };
+        Port::lent(&mut self.state, slots, &mut self.time, DRIVER)
+    }
+}
+
+struct Shared(UnsafeCell<Lent>);
+
+// SAFETY: touched within critical sections only
+unsafe impl Sync for Shared {}
+
+static LENT: Shared = Shared(UnsafeCell::new(Lent::NEW));
+
+/// `f` in a critical section; `f` does not come back here.
+pub(super) fn with<R>(f: impl FnOnce(&mut Lent) -> R) -> R {
+    // SAFETY: masked, and no `f` of this layer calls `with`: the only reference
+    critical_section::with(|_| f(unsafe { &mut *LENT.0.get() }))
+}
+
+/// One call of the port.
+pub(super) fn call<R>(f: impl FnOnce(&mut Port<'_>) -> R) -> R {
+    with(|lent| f(&mut lent.port()))
+}
+
+/// The port, masked for each call.
+pub(super) struct Masked;
+
+impl Lend for Masked {
+    fn lend<R>(&mut self, f: impl FnOnce(&mut Port<'_>) -> R) -> R {
+        call(f)
+    }
+}
+
+/// The slots' address, as the chip is told it.
+pub(super) fn base() -> u32 {
+    with(|lent| lent.slots as usize as u32)
+}
+
+/// `f` on an open packet, unmasked.
+pub(super) fn on_packet<R>(packet: Packet, f: impl FnOnce(&[u8]) -> R) -> R {
+    let (slots, length) = with(|lent| lent.slots());
+    let (begin, n) = (packet.offset as usize, usize::from(packet.length));
+    if slots.is_null() || begin + n > length {
+        return f(&[]);
+    }
+    // SAFETY: inside the lent buffers; until it is closed no call writes to an open packet's slot, and the chip was not
+    // handed it (both proved)
+    f(unsafe { core::slice::from_raw_parts(slots.add(begin), n) })
+}
+
+/// The block's registers by their names in device mode.
+pub(super) fn device(block: Usb) -> Usbd {
+    // SAFETY: the same registers
+    unsafe { Usbd::from_ptr(block.as_ptr()) }
+}
+
+/// The block's registers by their names in host mode.
+pub(super) fn host(block: Usb) -> Usbh {
+    // SAFETY: the same registers
+    unsafe { Usbh::from_ptr(block.as_ptr()) }
+}

@@ -1,0 +1,267 @@
+//! One access: the port's register and packed word, made by the PAC's accessors.
+//!
+//! The Rust changes fields in place with `modify`. The port reads a register and writes it back in the next access;
+//! here such a write changes, in the value that was read, the fields in which the two words differ, so that bits that
+//! the port has no name for stay as `modify` leaves them.
+
+use core::marker::PhantomData;
+
+use ch32_metapac::usbhs::regs::{Ctrl, EpBufMod, EpConfig, EpRxCtrl, EpTxCtrl, EpType};
+use ch32_metapac::usbhs::vals::{EndpointType as EpKind, EpRxResponse, EpTog, EpTxResponse, SpeedType, UsbToken};
+
+use usbhs_port::{Access, Register, Task};
+
+use super::{lent, Instance, WAKERS};
+
+/// The access before this one of the operation, where it was a reading that a write may follow: the register, its word
+/// as the port has it.
+#[derive(Clone, Copy)]
+enum Before {
+    Other,
+    Ctrl(Ctrl, u32),
+    Rx(u8, EpRxCtrl, u32),
+    Tx(u8, EpTxCtrl, u32),
+}
+
+fn bits<const N: usize>(of: [bool; N]) -> u32 {
+    of.iter().rev().fold(0, |word, &bit| word << 1 | bit as u32)
+}
+
+fn tog(t: EpTog) -> u32 {
+    match t {
+        EpTog::DATA0 => 0,
+        EpTog::DATA1 => 1,
+        EpTog::DATA2 => 2,
+        EpTog::MDATA => 3,
+    }
+}
+
+fn to_tog(word: u32) -> EpTog {
+    match word >> 2 & 3 {
+        0 => EpTog::DATA0,
+        1 => EpTog::DATA1,
+        2 => EpTog::DATA2,
+        _ => EpTog::MDATA,
+    }
+}
+
+fn rx_word(v: EpRxCtrl) -> u32 {
+    let response = match v.mask_uep_r_res() {
+        EpRxResponse::ACK => 0,
+        EpRxResponse::NYET => 1,
+        EpRxResponse::NAK => 2,
+        EpRxResponse::STALL => 3,
+    };
+    response | tog(v.mask_uep_r_tog()) << 2 | (v.r_tog_auto() as u32) << 4
+}
+
+fn tx_word(v: EpTxCtrl) -> u32 {
+    let response = match v.mask_uep_t_res() {
+        EpTxResponse::ACK => 0,
+        EpTxResponse::_RESERVED_1 => 1,
+        EpTxResponse::NAK => 2,
+        EpTxResponse::STALL => 3,
+    };
+    response | tog(v.mask_uep_t_tog()) << 2 | (v.t_tog_auto() as u32) << 4
+}
+
+/// Sets the fields of `changed`.
+fn set_rx(v: &mut EpRxCtrl, word: u32, changed: u32) {
+    if changed & 3 != 0 {
+        v.set_mask_uep_r_res(match word & 3 {
+            0 => EpRxResponse::ACK,
+            1 => EpRxResponse::NYET,
+            2 => EpRxResponse::NAK,
+            _ => EpRxResponse::STALL,
+        });
+    }
+    if changed & 0xC != 0 {
+        v.set_mask_uep_r_tog(to_tog(word));
+    }
+    if changed & 0x10 != 0 {
+        v.set_r_tog_auto(word & 0x10 != 0);
+    }
+}
+
+fn set_tx(v: &mut EpTxCtrl, word: u32, changed: u32) {
+    if changed & 3 != 0 {
+        v.set_mask_uep_t_res(match word & 3 {
+            0 => EpTxResponse::ACK,
+            1 => EpTxResponse::_RESERVED_1,
+            2 => EpTxResponse::NAK,
+            _ => EpTxResponse::STALL,
+        });
+    }
+    if changed & 0xC != 0 {
+        v.set_mask_uep_t_tog(to_tog(word));
+    }
+    if changed & 0x10 != 0 {
+        v.set_t_tog_auto(word & 0x10 != 0);
+    }
+}
+
+fn set_ctrl(v: &mut Ctrl, word: u32, changed: u32) {
+    let on = |bit: u32| word >> bit & 1 != 0;
+    let set = |bit: u32| changed >> bit & 1 != 0;
+    if set(0) {
+        v.set_clr_all(on(0));
+    }
+    if set(1) {
+        v.set_reset_sie(on(1));
+    }
+    if set(2) {
+        v.set_int_busy(on(2));
+    }
+    if set(3) {
+        v.set_dma_en(on(3));
+    }
+    if set(4) {
+        v.set_speed_type(if on(4) { SpeedType::HIGHSPEED } else { SpeedType::FULLSPEED });
+    }
+    if set(5) {
+        v.set_dev_pu_en(on(5));
+    }
+}
+
+/// The chip, for one operation.
+pub(super) struct Chip<T: Instance> {
+    before: Before,
+    _phantom: PhantomData<T>,
+}
+
+impl<T: Instance> Chip<T> {
+    pub(super) fn new() -> Self {
+        Self { before: Before::Other, _phantom: PhantomData }
+    }
+}
+
+impl<T: Instance> Access for Chip<T> {
+    fn wait(&mut self, microseconds: u8) {
+        crate::internal::delay::block_for_us(microseconds.into());
+    }
+
+    fn callback(&mut self) {
+        if let Some(f) = lent::with(|l| l.callback) {
+            f();
+        }
+    }
+
+    fn wake(&mut self, task: Task) {
+        WAKERS[task.number()].wake();
+    }
+
+    fn read(&mut self, register: Register, ep: u8) -> u32 {
+        let (r, d) = (T::regs(), T::dregs());
+        self.before = Before::Other;
+        match register {
+            Register::IntFg => {
+                let f = r.int_fg().read();
+                bits([f.bus_rst(), f.transfer(), f.suspend(), f.hst_sof(), f.fifo_ov(), f.setup_act()])
+            }
+            Register::IntSt => {
+                let st = r.int_st().read();
+                let token = match st.token() {
+                    UsbToken::OUT => 0,
+                    UsbToken::SOF => 1,
+                    UsbToken::IN => 2,
+                    UsbToken::SETUP => 3,
+                };
+                st.endp() as u32 & 15 | token << 4 | (st.tog_ok() as u32) << 6
+            }
+            Register::MisSt => {
+                let m = r.mis_st().read();
+                bits([m.sie_free(), m.suspend()])
+            }
+            Register::RxLen => r.rx_len().read() as u32,
+            Register::FrameNo => d.frame_no().read().frame_no() as u32,
+            Register::Ctrl => {
+                let v = r.ctrl().read();
+                // the speed stays as it is: the port writes back what it read
+                let word = bits([v.clr_all(), v.reset_sie(), v.int_busy(), v.dma_en(), false, v.dev_pu_en()]);
+                self.before = Before::Ctrl(v, word);
+                word
+            }
+            Register::EpRxCtrl => {
+                let v = d.ep_rx_ctrl(ep as usize).read();
+                self.before = Before::Rx(ep, v, rx_word(v));
+                rx_word(v)
+            }
+            Register::EpTxCtrl => {
+                let v = d.ep_tx_ctrl(ep as usize).read();
+                self.before = Before::Tx(ep, v, tx_word(v));
+                tx_word(v)
+            }
+            // the port reads no other
+            _ => 0,
+        }
+    }
+
+    fn write(&mut self, register: Register, ep: u8, word: u32) {
+        let (r, d, h) = (T::regs(), T::dregs(), T::hregs());
+        let last = core::mem::replace(&mut self.before, Before::Other);
+        let on = |bit: u32| word >> bit & 1 != 0;
+        let n = ep as usize;
+        match register {
+            Register::IntFg => r.int_fg().write(|w| {
+                w.set_bus_rst(on(0));
+                w.set_transfer(on(1));
+                w.set_suspend(on(2));
+                w.set_hst_sof(on(3));
+                w.set_fifo_ov(on(4));
+                w.set_setup_act(on(5));
+            }),
+            Register::Ctrl => match last {
+                Before::Ctrl(mut v, read) => {
+                    set_ctrl(&mut v, word, word ^ read);
+                    r.ctrl().write_value(v);
+                }
+                _ => r.ctrl().write(|w| set_ctrl(w, word, !0)),
+            },
+            Register::IntEn => r.int_en().write(|w| {
+                w.set_dev_nak(on(0));
+                w.set_fifo_ov(on(1));
+                w.set_setup_act(on(2));
+                w.set_suspend(on(3));
+                w.set_bus_rst(on(4));
+                w.set_transfer(on(5));
+                // the port is told that there is a callback, as there may be one later
+                w.set_sof_act(on(6) && lent::with(|l| l.callback.is_some()));
+            }),
+            Register::DevAd => r.dev_ad().write(|w| w.set_addr(word as u8)),
+            Register::HostCtrl => h.ctrl().write(|w| w.set_phy_suspendm(on(0))),
+            // bit e: IN e; bit 16 + e: OUT e, as the Rust takes it too
+            Register::EpConfig => d.ep_config().write_value(EpConfig(word as _)),
+            Register::EpType => {
+                let mut v = EpType::default();
+                let kind = |bit: usize| if word >> bit & 1 != 0 { EpKind::ISO } else { EpKind::NISO };
+                for e in 1..16 {
+                    v.set_t_type(e - 1, kind(e));
+                    v.set_r_type(e - 1, kind(16 + e));
+                }
+                d.ep_type().write_value(v);
+            }
+            Register::EpBufMod => d.ep_buf_mod().write_value(EpBufMod::default()),
+            Register::Ep0Dma => d.ep0_dma().write_value(lent::base().wrapping_add(word)),
+            Register::EpMaxLen => d.ep_max_len(n).write(|w| w.set_len(word as u16)),
+            Register::EpTLen => d.ep_t_len(n).write(|w| w.set_len(word as u16)),
+            Register::EpRxDma => d.ep_rx_dma(n - 1).write_value(lent::base().wrapping_add(word)),
+            Register::EpTxDma => d.ep_tx_dma(n - 1).write_value(lent::base().wrapping_add(word)),
+            Register::EpRxCtrl => match last {
+                Before::Rx(e, mut v, read) if e == ep => {
+                    set_rx(&mut v, word, word ^ read);
+                    d.ep_rx_ctrl(n).write_value(v);
+                }
+                _ => d.ep_rx_ctrl(n).write(|w| set_rx(w, word, !0)),
+            },
+            Register::EpTxCtrl => match last {
+                Before::Tx(e, mut v, read) if e == ep => {
+                    set_tx(&mut v, word, word ^ read);
+                    d.ep_tx_ctrl(n).write_value(v);
+                }
+                _ => d.ep_tx_ctrl(n).write(|w| set_tx(w, word, !0)),
+            },
+            // the port writes no other
+            _ => {}
+        }
+    }
+}
