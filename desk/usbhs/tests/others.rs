@@ -139,8 +139,9 @@ fn replay_takes_any_list() {
     // lists with words changed, lines left out or said twice: a timeline or an error, and no end otherwise
     let mut numbers = Numbers(11);
     let runs = samples().join("../../oracle/runs");
-    let (mut drawn, mut bad) = (0, 0);
+    let (mut lists, mut drawn, mut bad) = (0, 0, 0);
     for file in std::fs::read_dir(runs).unwrap() {
+        lists += 1;
         let list = std::fs::read_to_string(file.unwrap().path()).unwrap();
         for _ in 0..20 {
             let mut lines: Vec<String> = list.lines().map(Into::into).collect();
@@ -159,7 +160,7 @@ fn replay_takes_any_list() {
             }
         }
     }
-    assert!(drawn > 100 && drawn + bad == 21 * 20, "{drawn} drawn, {bad} bad");
+    assert!(drawn > 100 && drawn + bad == lists * 20, "{lists} lists, {drawn} drawn, {bad} bad");
 }
 
 #[test]
