@@ -111,7 +111,8 @@ module _ {i : Bool} where
   k-stalled Out e false = search keeping depth 20
   k-stalled In e false = search keeping depth 30
 
-  k-allocated : (dir : Dir) (kind maximum : ℕ) (a : alloc-answer.Answer) → Keeps (allocated-as {i = i} dir kind maximum a)
+  k-allocated : (dir : Dir) (kind maximum : ℕ) (a : alloc-answer.Answer)
+      → Keeps (allocated-as {i = i} dir kind maximum a)
   k-allocated dir kind maximum (alloc.Refused n) = search keeping
   k-allocated dir kind maximum (alloc.Given e base slots) = search keeping depth 20
 
@@ -123,7 +124,8 @@ module _ {i : Bool} where
   k-begins-at : (dir : Dir) (x left e : ℕ) → Keeps (beginsAt {i = i} dir x left e)
   unfolding beginsAt
   k-begins-at dir x zero e = search keeping
-  k-begins-at dir x (suc left) e = k-bind (search keeping) (λ a. k-bind (search keeping) (λ s. k-test (search keeping) (k-begins-at dir x left (suc e))))
+  k-begins-at dir x (suc left) e = k-bind (search keeping) (λ a. k-bind (search keeping) (λ s.
+      k-test (search keeping) (k-begins-at dir x left (suc e))))
 
   k-announce : (dir : Dir) (e : ℕ) → Keeps (announce {i = i} dir e)
   k-announce dir e = search keeping depth 20
@@ -131,7 +133,8 @@ module _ {i : Bool} where
   k-announce-after : (left total : ℕ) (dir : Dir) (e : ℕ) → Keeps (announceAfter {i = i} left total dir e)
   unfolding announceAfter
   k-announce-after zero total dir e = search keeping
-  k-announce-after (suc left) total dir e = k-bind (search keeping depth 10) (λ x. k-bind (k-begins-at Out x 15 1) (λ o. k-test
+  k-announce-after (suc left) total dir e = k-bind (search keeping depth 10) (λ x. k-bind (k-begins-at Out x 15 1) (λ o.
+      k-test
       (k-bind (k-begins-at In x 15 1) (λ n. k-bind (k-announce In n) (λ _. k-announce-after left total In n)))
       (k-bind (k-announce Out o) (λ _. k-announce-after left total Out o))))
 

@@ -4,11 +4,11 @@ use mathlib.Core.Bool.{Bool, true, false, cond, true≢false}
 use mathlib.Core.List.{List}
 use mathlib.Core.Logic.{inl, inr}
 use mathlib.Core.Path.{_≡_, refl, ap, subst, sym}
-use Prim.Native.Nat.{ℕ, zero, suc}
+use Prim.Native.Nat.{ℕ, zero, suc, _<_}
 use native.Mathlib.Omega.{arith}
 use native.Mathlib.Decide.{ℕ-discrete, decLt}
 use lib.Dec.{eqb}
-use lib.ListN.{length, set, length-set, List·getD-eq-default}
+use lib.ListN.{length, getD, set, length-set, List·getD-eq-default}
 use lib.Seq.{getD-set-same, getD-set-other}
 use Rattle.regs.specs.declared.Access.{Access}
 use Rattle.regs.specs.declared.Reg.{Reg}
@@ -37,11 +37,16 @@ use Rattle.proof_usb20.specs.TogBits.{IsBit, TogBits}
 -- ---- states
 
 same-bits : {d d′ : Driver} → Same d d′ → TogBits d → TogBits d′
-same-bits p k = record { bits = λ dir e. subst IsBit (sym (ap (λ (x : Seen). x .tog) (p .flags dir e))) (k .bits dir e) }
+same-bits p k = record {
+  bits = λ dir e. subst IsBit (sym (ap (λ (x : Seen). x .tog) (p .flags dir e))) (k .bits dir e);
+}
 
 else-bits : {d d′ : Driver} → d′ .eps ≡ d .eps → TogBits d → TogBits d′
 unfolding epOn
 else-bits p k = record { bits = λ dir e. rw p (k .bits dir e) }
+
+past-end : (l : List EpState) (k : ℕ) (r : EpState) → (k < length l → ⊥) → getD (set l k r) k noEp ≡ noEp
+past-end l k r q = List·getD-eq-default (set l k r) noEp {n = k} (omega (arith, length-set l k r))
 
 -- one record assigned: past the end of the list the record is 0
 record-bits : {d : Driver} (dir : Dir) (e : ℕ) (r : EpState) → IsBit (r .tog) → TogBits d → TogBits (withOn d dir e r)
@@ -50,7 +55,7 @@ record-bits {d} dir e r h k = record {
   bits = λ dir′ x. elim (ℕ-discrete (key dir′ x) (key dir e)) [
     | yes p ↦ rw p (elim (decLt (key dir e) (length (d .eps))) [
       | yes q ↦ rw (getD-set-same (d .eps) (key dir e) r noEp q) h
-      | no q ↦ rw (List·getD-eq-default (set (d .eps) (key dir e) r) noEp {n = key dir e} (omega (arith, length-set (d .eps) (key dir e) r))) (inl refl)
+      | no q ↦ rw (past-end (d .eps) (key dir e) r q) (inl refl)
     ])
     | no p ↦ rw (getD-set-other (d .eps) (key dir e) (key dir′ x) r noEp p) (k .bits dir′ x)
   ];
@@ -83,7 +88,7 @@ given-bits : {d : Driver} (dir : Dir) (kind maximum interval : ℕ) (a : alloc-a
     → TogBits (givenTo dir kind maximum interval a d)
 unfolding givenTo setsGiven recordGiven allocated
 given-bits dir kind maximum interval (alloc.Refused n) k = k
-given-bits {d} dir kind maximum interval (alloc.Given e base slots) k = else-bits refl (record-bits dir e _ (inl refl) k)
+given-bits dir kind maximum interval (alloc.Given e base slots) k = else-bits refl (record-bits dir e _ (inl refl) k)
 
 started-bits : {d : Driver} (maximum : ℕ) (a : alloc-answer.Answer) → TogBits d → TogBits (startedWith maximum a d)
 unfolding startedWith
@@ -102,8 +107,11 @@ act-bits (close-oldest e) s k = same-bits (act-same (close-oldest e) refl s) k
 act-bits (take-oldest e) s k = same-bits (act-same (take-oldest e) refl s) k
 act-bits (enqueue e bytes) s k = same-bits (act-same (enqueue e bytes) refl s) k
 act-bits (allocate dir kind address maximum interval) s k =
-    given-bits dir kind maximum interval (allocateOf (s .0 .allocator) kind address maximum dir .answer) (else-bits refl k)
-act-bits (allocate0 maximum) s k = started-bits maximum (allocateEp0Of (s .0 .allocator) maximum .answer) (else-bits refl k)
+    let z = allocateOf (s .0 .allocator) kind address maximum dir in
+    given-bits dir kind maximum interval (z .answer) (else-bits refl k)
+act-bits (allocate0 maximum) s k =
+    let z = allocateEp0Of (s .0 .allocator) maximum in
+    started-bits maximum (z .answer) (else-bits refl k)
 act-bits no-wakes s k = else-bits refl k
 act-bits (waken codes) s k = else-bits refl k
 
@@ -121,9 +129,12 @@ slot-bits : (e k : ℕ) (s : St) → TogBits (s .0) → TogBits (slotStep e k s 
 unfolding slotStep
 slot-bits e k s h = by (isOn (epOn (s .0) Out e .iso)) (eqb k 15)
   where
+    fresh : Bool → Driver
+    fresh c = cond c (renewedOn (s .0) e) (s .0)
+
     by : (b c : Bool)
-        → TogBits (cond b (armAt e k (cond c (renewedOn (s .0) e) (s .0), s .1)) (epOn (s .0) Out e .«armed_slot», s) .1 .0)
-    by true c = armed-bits (cond c (renewedOn (s .0) e) (s .0)) e _ (either c (renewed-bits (s .0) e h) h)
+        → TogBits (cond b (armAt e k (fresh c, s .1)) (epOn (s .0) Out e .«armed_slot», s) .1 .0)
+    by true c = armed-bits (fresh c) e _ (either c (renewed-bits (s .0) e h) h)
     by false c = h
 
 below-bits : (n : ℕ) (d : Driver) → TogBits d → TogBits (resetBelow n d)
@@ -132,7 +143,8 @@ below-bits zero d k = k
 below-bits (suc n) d k =
     let x = resetBelow n d in
     let y = withOn x Out n (resetOf (epOn x Out n)) in
-    record-bits In n (resetOf (epOn y In n)) (inl refl) (record-bits Out n (resetOf (epOn x Out n)) (inl refl) (below-bits n d k))
+    let z : TogBits y = record-bits Out n (resetOf (epOn x Out n)) (inl refl) (below-bits n d k) in
+    record-bits In n (resetOf (epOn y In n)) (inl refl) z
 
 row-bits : (g : Row) (n : ℕ) (s : St) → TogBits (s .0) → TogBits (conc .row g n s .1 .0)
 unfolding configStep typeStep resetAll noStamps
@@ -233,5 +245,9 @@ module _ {i : Bool} {A : Type 0} where
 pub k-row : {A : Type 0} {g : Row} {p : Script false A} → Keeps p → Keeps (row-then g p)
 k-row {g = g} h = record { on = λ s b. holds-rows g (lastOf g) (λ t c. h .on t c) s b }
 
--- rules by which a script is taken apart
-pub ruleset keeping = (k-ret, k-got, k-bind, k-test, k-read, k-write, k-wait, k-callback, k-get, k-put, k-assigned, k-is, k-look, k-fetch, k-act, k-hand, k-row, bit-read, bit-0)
+-- rules by which a script is taken apart: what it got and assigns, and the rest
+pub ruleset assigning = (k-got, k-get, k-put, k-assigned, bit-read, bit-0)
+
+pub ruleset going = (k-read, k-write, k-wait, k-callback, k-is, k-look, k-fetch, k-act, k-hand, k-row)
+
+pub ruleset keeping = (k-ret, assigning, k-bind, k-test, going)

@@ -16,7 +16,7 @@ use Rattle.script.specs.Machine.{Buf, Call, Event, start, begin, go, question, 
 use Rattle.ops.specs.Rings.{St}
 use Rattle.way.specs.Under.{driverOf, drive, machineOf}
 use Rattle.book.specs.Always.{after}
-use Rattle.book.specs.Code.{Made}
+use Rattle.book.specs.Code.{Made, Did}
 use Rattle.book.specs.CodeReadings.{Steps, bytesAfter, slotsAfter}
 use Rattle.proof_usb20.specs.TogBits.{TogBits}
 use Rattle.proof_usb20.specs.TogBitsLaws.{Holds, end, ask, bit-0}
@@ -50,12 +50,14 @@ either false x y p q = q
 begun-kept : (o : Op) (m : Machine Answer Driver) → Kept m → (w : Way Answer Driver) (b : Buf)
     → Kept (begun calls driverOf (λ s. s) o m w b .1)
 begun-kept o m k idle b = halted (calls .irq o) (k-call o .on (m .st, b) (k .togs))
-begun-kept o m k (busy i q f) b = either (cond i (calls .aside o) false) _ _ (besided (lent-kept b k) (k-call o .on (m .st, b) (k .togs))) (lent-kept b k)
+begun-kept o m k (busy i q f) b = either (cond i (calls .aside o) false) _ _
+    (besided (lent-kept b k) (k-call o .on (m .st, b) (k .togs))) (lent-kept b k)
 
 continued-kept : (v : ℕ) (m : Machine Answer Driver) → Kept m → (w : Way Answer Driver) → WayKeeps w → (b : Buf)
     → Kept (continued calls driverOf (λ s. s) v m w b .1)
 continued-kept v m k idle h b = lent-kept b k
-continued-kept v m k (busy i q f) h b = either (over calls q v) _ _ (lent-kept b k) (halted i (h v (m .st, b) (k .togs)))
+continued-kept v m k (busy i q f) h b = either (over calls q v) _ _ (lent-kept b k)
+    (halted i (h v (m .st, b) (k .togs)))
 
 fresh-bits : (c : Config) → TogBits (driverOf .fresh c)
 unfolding freshDriver epOn
@@ -72,7 +74,8 @@ started-kept c (suc n) m k b = k
 
 steps : (c : Call Config Op) (m : Machine Answer Driver) → Kept m → (b : Buf) → Kept (drive c m b .1)
 steps (start c) m k b = started-kept c (startRow c b) m k b
-steps (begin o) m k b = either (cond (calls .slots o) (misfit calls driverOf (m .st) b) false) _ _ k (begun-kept o m k (m .way) b)
+steps (begin o) m k b = either (cond (calls .slots o) (misfit calls driverOf (m .st) b) false) _ _ k
+    (begun-kept o m k (m .way) b)
 steps (go v) m k b = either (misfit calls driverOf (m .st) b) _ _ k (continued-kept v m k (m .way) (k .way) b)
 steps (question q) m k b = lent-kept b k
 
@@ -89,11 +92,16 @@ pub tog-bits : (c : Config) (b : Buf) → startRow c b ≡ zero → (es : List (
     → TogBits (after calls driverOf (record { call = start c; lent = b } ∷ es) m .st)
 tog-bits c b row es m = always es _ (accepted c m b row) .togs
 
+-- a call as its contract says
+made : (xs : List ℕ) (a : Buf) (m : Made) → Did xs a m
+    → Kept (drive (m .event .call) (machineOf xs a) (m .event .lent) .1) → Kept (machineOf (m .bytes) (m .slots))
+made xs a m h k = subst (λ (z : Ans Answer × Machine Answer Driver). Kept (z .1)) (sym h) k
+
 code-always : (ms : List Made) (xs : List ℕ) (a : Buf) → Kept (machineOf xs a) → Steps xs a ms
     → Kept (machineOf (bytesAfter xs ms) (slotsAfter a ms))
 code-always [] xs a k h = k
 code-always (m ∷ ms) xs a k h = code-always ms (m .bytes) (m .slots)
-    (subst (λ (z : Ans Answer × Machine Answer Driver). Kept (z .1)) (sym (h .0)) (steps (m .event .call) (machineOf xs a) k (m .event .lent))) (h .1)
+    (made xs a m (h .0) (steps (m .event .call) (machineOf xs a) k (m .event .lent))) (h .1)
 
 -- of the Rattle code: any bytes, a start-up that rows 1 and 2 do not stop, and then any calls, each as its contract
 -- says; `view` reads the records back from the lent bytes
@@ -101,5 +109,5 @@ pub code-tog-bits : (c : Config) (b : Buf) → startRow c b ≡ zero → (xs : L
     → first .event ≡ record { call = start c; lent = b } → (ms : List Made) → Steps xs a (first ∷ ms)
     → TogBits (view (bytesAfter xs (first ∷ ms)))
 code-tog-bits c b row xs a first e ms h = code-always ms (first .bytes) (first .slots)
-    (subst (λ (z : Ans Answer × Machine Answer Driver). Kept (z .1)) (sym (h .0))
-    (subst (λ (v : Event Config Op). Kept (drive (v .call) (machineOf xs a) (v .lent) .1)) (sym e) (accepted c (machineOf xs a) b row))) (h .1) .togs
+    (made xs a first (h .0) (subst (λ (v : Event Config Op). Kept (drive (v .call) (machineOf xs a) (v .lent) .1)) (sym e)
+    (accepted c (machineOf xs a) b row))) (h .1) .togs
