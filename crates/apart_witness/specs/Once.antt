@@ -3,9 +3,9 @@
 use mathlib.Core.Bool.{Bool, true, false, cond, _&&_, true≢false}
 use mathlib.Core.List.{List, [], _∷_}
 use mathlib.Core.Path.{_≡_, refl, ap, subst, sym, _∙_}
-use Prim.Native.Nat.{ℕ}
+use Prim.Native.Nat.{ℕ, zero, suc}
 use native.Mathlib.Omega.{arith}
-use lib.ListN.{getD, drop}
+use lib.ListN.{getD, take, drop}
 use Rattle.regs.specs.declared.Dir.{Dir}
 use Rattle.regs.specs.declared.Dir.the-variants.{Out, In}
 use Rattle.state.specs.Driver.{Driver}
@@ -188,9 +188,12 @@ module _ (x : ℕ) where
         allowed c e ms (turn false 0 (turnOf x m w) w) (ap (tested ms) (turn-is m w) ∙ ap (drop 1) h),
       )
 
-  last-is : (ms : List Move) (w : Two) → after false 0 (turnsOf ms w) w ≡ quickLast ms w
-  last-is [] w = refl
-  last-is (m ∷ ms) w = last-is ms (turn false 0 (turnOf x m w) w) ∙ ap (quickLast ms) (turn-is m w)
+  -- after the first n moves
+  last-is : (n : ℕ) (ms : List Move) (w : Two) → after false 0 (take n (turnsOf ms w)) w ≡ quickLast (take n ms) w
+  last-is zero ms w = refl
+  last-is (suc n) [] w = refl
+  last-is (suc n) (m ∷ ms) w =
+      last-is n ms (turn false 0 (turnOf x m w) w) ∙ ap (quickLast (take n ms)) (turn-is m w)
 
 -- ---- a session of channel OUT 1, from any run
 
@@ -264,5 +267,6 @@ module _ (k : Config) (b : Buf) (cs : List (Call Config Op)) (ms : List Move) (r
       allowed = allowed 1 channel refl ms (parting set-up) (ap (drop 6) met);
     }
 
-    pub after-is : after false 0 (session .turns) (parting set-up) ≡ quickLast 1 ms (parting quickSetUp)
-    after-is = last-is 1 ms (parting set-up) ∙ ap (λ r. quickLast 1 ms (parting r)) set-up-is
+    pub after-is : (n : ℕ)
+        → after false 0 (take n (session .turns)) (parting set-up) ≡ quickLast 1 (take n ms) (parting quickSetUp)
+    after-is n = last-is 1 n ms (parting set-up) ∙ ap (λ r. quickLast 1 (take n ms) (parting r)) set-up-is

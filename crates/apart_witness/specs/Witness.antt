@@ -7,11 +7,13 @@
 -- - the first opens the channel's packet and closes it, the second does not;
 -- - an interrupt for OUT 2, with 7 8 in its slot, in both; in the first run 6 6 6 is in OUT 1's slot, which is late:
 --   this run has two accesses of the channel's own and the channel's wake-up, and the second has neither.
--- In the end another packet waits on OUT 1 in each; on OUT 2 the same two wait, and its wake-up is the same (`happens`)
+-- In the end another packet waits on OUT 1 in each; on OUT 2 the same two wait, and its wake-up is the same. What waits
+-- and who is woken up is computed at three moments (`happens`)
 use mathlib.Core.Bool.{true, false}
 use mathlib.Core.List.{List, [], _∷_}
 use mathlib.Core.Path.{_≡_, refl, ap, _∙_}
 use Prim.Native.Nat.{ℕ, zero, suc}
+use lib.ListN.{length, take}
 use Rattle.regs.specs.declared.Access.the-variants.{Wait}
 use Rattle.regs.specs.declared.Dir.the-variants.{Out}
 use Rattle.state.specs.Driver.{epOn}
@@ -113,20 +115,6 @@ seenOf r = record { channel = waitingOn 1 r; other = waitingOn 2 r; wakes = wake
 abbrev pub bothSeen : Two → Seen × Seen
 bothSeen w = (seenOf (w .first), seenOf (w .second))
 
-abbrev pub first-seen : Seen
-first-seen = record {
-  channel = (6 ∷ 6 ∷ 6 ∷ []) ∷ [];
-  other = (5 ∷ 5 ∷ []) ∷ (7 ∷ 8 ∷ []) ∷ [];
-  wakes = 17 ∷ 18 ∷ [];
-}
-
-abbrev pub second-seen : Seen
-second-seen = record {
-  channel = (9 ∷ 8 ∷ 7 ∷ []) ∷ [];
-  other = (5 ∷ 5 ∷ []) ∷ (7 ∷ 8 ∷ []) ∷ [];
-  wakes = 18 ∷ [];
-}
-
 -- ---- the two meet the premise
 
 pub passes : Passes config buffer setting moves blank
@@ -143,12 +131,43 @@ premise = (opens config buffer setting moves blank passes, tt)
 pub holds : Undisturbed false 0 (pair ∷ []) (parting blank)
 holds = undisturbed false 0 (pair ∷ []) (parting blank) refl premise
 
--- ---- what is seen in the end
+-- ---- what happens
 
-computed : (let w = quickLast 1 moves (parting (quickSetUp config buffer setting moves blank)) in bothSeen w)
-    ≡ (first-seen, second-seen)
+-- after the first interrupt; after the channel's packet was closed; in the end
+pub data Moment : Type 0 where
+  admitted closed last : Moment
+
+abbrev pub turnsBy : Moment → ℕ
+turnsBy admitted = 14
+turnsBy closed = 16
+turnsBy last = 29
+
+-- both runs then
+abbrev pub seenBy : Moment → Seen × Seen
+seenBy admitted = (
+  record { channel = (1 ∷ 2 ∷ 3 ∷ 4 ∷ []) ∷ []; other = (5 ∷ 5 ∷ []) ∷ []; wakes = 17 ∷ 18 ∷ [] },
+  record { channel = (9 ∷ 8 ∷ 7 ∷ []) ∷ []; other = (5 ∷ 5 ∷ []) ∷ []; wakes = 17 ∷ 18 ∷ [] },
+)
+seenBy closed = (
+  record { channel = []; other = (5 ∷ 5 ∷ []) ∷ []; wakes = 17 ∷ 18 ∷ [] },
+  record { channel = (9 ∷ 8 ∷ 7 ∷ []) ∷ []; other = (5 ∷ 5 ∷ []) ∷ []; wakes = 17 ∷ 18 ∷ [] },
+)
+seenBy last = (
+  record { channel = (6 ∷ 6 ∷ 6 ∷ []) ∷ []; other = (5 ∷ 5 ∷ []) ∷ (7 ∷ 8 ∷ []) ∷ []; wakes = 17 ∷ 18 ∷ [] },
+  record { channel = (9 ∷ 8 ∷ 7 ∷ []) ∷ []; other = (5 ∷ 5 ∷ []) ∷ (7 ∷ 8 ∷ []) ∷ []; wakes = 18 ∷ [] },
+)
+
+all-turns : length moves ≡ turnsBy last
+all-turns = refl
+
+computed : (p : Moment)
+    → (let w = quickLast 1 (take (turnsBy p) moves) (parting (quickSetUp config buffer setting moves blank)) in
+    bothSeen w) ≡ seenBy p
 unfolding computing
-computed = refl
+computed admitted = refl
+computed closed = refl
+computed last = refl
 
-pub happens : bothSeen (after false 0 (pair .turns) (opened false 0 pair (parting blank))) ≡ (first-seen, second-seen)
-happens = ap bothSeen (after-is config buffer setting moves blank passes) ∙ computed
+pub happens : (p : Moment)
+    → bothSeen (after false 0 (take (turnsBy p) (pair .turns)) (opened false 0 pair (parting blank))) ≡ seenBy p
+happens p = ap bothSeen (after-is config buffer setting moves blank passes (turnsBy p)) ∙ computed p
