@@ -50,11 +50,11 @@ eventsOf (i ∷ is) m n =
 
 -- ---- the premise
 
-left : (x y : Bool) → (x && y) ≡ true → x ≡ true
+pub left : (x y : Bool) → (x && y) ≡ true → x ≡ true
 left true y h = refl
 left false y h = absurd (true≢false (sym h))
 
-right : (x y : Bool) → (x && y) ≡ true → y ≡ true
+pub right : (x y : Bool) → (x && y) ≡ true → y ≡ true
 right true y h = h
 right false y h = absurd (true≢false (sym h))
 
