@@ -70,7 +70,7 @@ pub struct Best {
 
 /// The best of the sets of up to 16 channels that fit the bus time that is left, looking at no more than `budget`.
 ///
-/// ```no_run
+/// ```
 /// use usbhs_port::survey::{best_set, Channel};
 /// let mut list = [Channel { maximum: 512, charge: 550, chosen: 0 }; 3];
 /// let best = best_set(&mut list, &usbhs_port::BusTime::new(), 65_536).unwrap();
@@ -99,7 +99,7 @@ pub struct Reached {
 /// The least and the greatest number of packets between two visits of a reader, in microframes: from a visit to the
 /// next it is `visits.0` to `visits.1`, from an arrival to the next `arrivals.0` to `arrivals.1`.
 ///
-/// ```no_run
+/// ```
 /// let (least, greatest) = usbhs_port::survey::between_visits((8, 10), (1, 2)).unwrap();
 /// assert_eq!((least.arrivals, greatest.arrivals), (4, 10));
 /// ```
