@@ -34,6 +34,7 @@ pub mod BookTracks
 pub mod BookCounts
 pub mod BookDecides
 pub mod BookCalls
+pub mod Enabling
 pub mod Asides
 pub mod PollsWhole
 pub mod Lent

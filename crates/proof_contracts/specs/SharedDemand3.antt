@@ -54,10 +54,12 @@ module _ (dir : Dir) (e : ℕ) (lent b : Buf) (n : Machine Answer Pages) (d : Dr
     unmoved = λ e v p i g. let z : _≡_ {A = ℕ} 0 1 = cc in absurd (omega arith);
     counted = λ e. same refl;
     starts-anew = λ g p row e. let z : _≡_ {A = ℕ} 0 1 = cc in absurd (omega arith);
+    enabling-resets = λ dir e on q p g. let z : _≡_ {A = ℕ} 0 1 = cc in absurd (omega arith);
     at-most-2 = x .at-most-2;
     sent-in-order = x .sent-in-order;
     passed-then-waiting = x .passed-then-waiting;
     sent-is = x .sent-is;
+    load-sends = λ e y v p i g w. let z : _≡_ {A = ℕ} 0 1 = cc in absurd (omega arith);
     unwritten = x .unwritten;
     inside = tt;
   }
