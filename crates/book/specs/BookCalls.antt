@@ -24,13 +24,14 @@ use Rattle.book.specs.FrontPage.{written, inInterrupt, Decides, Decided,
 use Rattle.book.specs.BookTracks.{Tracks, end, ask}
 use Rattle.book.specs.InterruptParts.{of-interrupt}
 use Rattle.book.specs.BookCounts.{Periodic, Uncounted, Counts, Turned, Followed, follow}
+use Rattle.book.specs.Releases.{Clears, clears, of-slotted, of-other, of-aside, of-starting}
 use Rattle.book.specs.BookDecides.{Idle, Arrives, sendsTo, Watched, watch}
 
 -- ---- what is under way
 
 abbrev Watches : Bool → Bk → tree.Out Bk Answer → Type 0
 Watches true s o = Watched s o
-Watches false s o = Unit {0}
+Watches false s o = Clears s o
 
 abbrev pub WayFine : Way Answer Pages → Type 0
 WayFine idle = Unit {0}
@@ -86,7 +87,7 @@ module _ (a : Ans Answer) where
 
   later : (i : Bool) (s t : Bk) (q : Access) (k : ℕ → Bk → tree.Out Bk Answer) → Watches i s (asks q t k) → (v : ℕ) (u : Bk) → Watches i u (k v u)
   later true s t q k (ask j m h) v u = h v u tt
-  later false s t q k w v u = tt
+  later false s t q k (ask j m h) v u = h v u tt
 
   halted-fine : (i : Bool) (s : Bk) (o : tree.Out Bk Answer) → Followed s o → Watches i s o → Fine (halts i o .1)
   halted-fine i s (ends z t) (end j q) w = record { pages = j; way = tt }
@@ -104,9 +105,9 @@ module _ (a : Ans Answer) where
 
   watched : (o : Op) (s : Bk) → Watches (calls .irq o) s (run bookOps (calls .code o) s)
   watched interrupt s = watch of-interrupt s
-  watched (slotted o) s = tt
-  watched (other o) s = tt
-  watched (aside o) s = tt
+  watched (slotted o) s = clears (of-slotted o) s
+  watched (other o) s = clears (of-other o) s
+  watched (aside o) s = clears (of-aside o) s
 
   lent-fine : {n : Machine Answer Pages} (b : Buf) → Fine n → Fine (lentTo calls (book .driver) n b)
   lent-fine b h = record { pages = h .pages; way = h .way }
@@ -155,7 +156,7 @@ module _ (a : Ans Answer) where
   fresh-periodic c x y h = refl
 
   pub start-fine : (c : Config) (n : Machine Answer Pages) (b : Buf) → Fine (started calls (book .driver) (fed book a) c zero n b .1)
-  start-fine c n b = halted-fine false (freshPages c, b) (run bookOps (starting c) (freshPages c, b)) (follow (starting c) (freshPages c, b) (fresh-periodic c)) tt
+  start-fine c n b = halted-fine false (freshPages c, b) (run bookOps (starting c) (freshPages c, b)) (follow (starting c) (freshPages c, b) (fresh-periodic c)) (clears (of-starting c) (freshPages c, b))
 
   started-fine : (c : Config) (r : ℕ) (n : Machine Answer Pages) (b : Buf) → Fine n → Fine (started calls (book .driver) (fed book a) c r n b .1)
   started-fine c zero n b h = start-fine c n b

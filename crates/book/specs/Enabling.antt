@@ -56,7 +56,7 @@ asks-test Q false x y f g = g refl
 
 -- ---- the pages at that access, before its address is told
 
-abbrev Empty : Dir → ℕ → Pages → Pages → Type 0
+abbrev pub Empty : Dir → ℕ → Pages → Pages → Type 0
 Empty Out e t t′ = EmptiedOut (t .outs e) (t′ .outs e)
 Empty In e t t′ = (x : ℕ) → x % 16 ≡ e % 16 → EmptiedIn (t′ .ins x)
 

@@ -10,6 +10,7 @@ use lib.ListN.{length, getD}
 use lib.Dec.{eqb}
 use Rattle.regs.specs.declared.Access.{Access}
 use Rattle.regs.specs.declared.Access.the-variants.{Read, Write, Receive, Transmit, Ep0Dma, Wait, Callback}
+use Rattle.regs.specs.declared.Reg.the-variants.{IntFg}
 use Rattle.regs.specs.declared.Dir.{Dir}
 use Rattle.regs.specs.declared.Dir.the-variants.{Out, In}
 use Rattle.state.specs.Driver.{Driver, epOn, lenOn, stampOn}
@@ -238,6 +239,8 @@ pub record Sentences (c : Call Config Op) (lent : Buf) (n : Machine Answer Pages
       → (t′ .outs e .lost ≡ 0) × (t′ .outs e .waiting ≡ []) × (t′ .ins e .waiting ≡ [])
   -- "Reset: none wait on that endpoint": an endpoint that is enabled or disabled, in the call that hands out the first access
   pub enabling-resets : (dir : Dir) (e : ℕ) (on : Bool) (q : Access) → c ≡ begin (slotted (SetEnabled dir e on)) → a ≡ handed q → Emptied dir e (n .st) t′
+  -- every endpoint, in the call in which a bus reset releases its flag
+  pub bus-reset-empties : (v : ℕ) → c ≡ go v → inInterrupt (n .way) ≡ false → a ≡ handed (Write IntFg 0 1) → (dir : Dir) (e : ℕ) → Emptied dir e (n .st) t′
   -- IN: "at most 2 wait"
   pub at-most-2 : (e : ℕ) → length (t′ .ins e .waiting) ≤ 2
   -- "each reaches the chip at most once and in order": those handed to the chip are a beginning of those queued

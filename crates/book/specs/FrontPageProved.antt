@@ -38,6 +38,7 @@ use Rattle.book.specs.PollsWhole.{ended-same, one-call}
 use Rattle.book.specs.BookCalls.{Fine, start-fine, start-lost, start-anew, call-fine}
 use Rattle.book.specs.BookCalls as steps-of
 use Rattle.book.specs.Enabling.{enabling-resets}
+use Rattle.book.specs.BusResets.{bus-reset-empties}
 
 -- ---- from the relation of driver and book
 
@@ -165,6 +166,7 @@ module _ (c : Call Config Op) (l : Buf) (m : Machine Answer Driver) (n : Machine
     starts-anew = λ g p row e. subst (λ (c : Call Config Op). let t = written (x .0) c n l .1 .st in (t .outs e .lost ≡ 0) × (t .outs e .waiting ≡ []) × (t .ins e .waiting ≡ [])) (sym p)
         (subst (λ (r : ℕ). let t = started calls (book .driver) (fed book (x .0)) g r n l .1 .st in (t .outs e .lost ≡ 0) × (t .outs e .waiting ≡ []) × (t .ins e .waiting ≡ [])) (sym row) (start-anew (x .0) g n l e));
     enabling-resets = λ dir e on q p g. let k = before (ap isStart p) in enabling-resets c (x .0) dir e on q n (k .fine) l (a .same) p g;
+    bus-reset-empties = λ v p i g. let k = before (ap isStart p) in bus-reset-empties c (x .0) v n (k .fine) l (a .same) p i g;
     load-sends = λ e z v p i g w. let k = before (ap isStart p) in steps-of.load-sends c (x .0) e z v n (k .fine) l (a .same) p i g w;
     unwritten = kept-unwritten a;
     inside = lies-inside a;

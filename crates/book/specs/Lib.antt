@@ -33,8 +33,10 @@ pub mod InterruptParts
 pub mod BookTracks
 pub mod BookCounts
 pub mod BookDecides
+pub mod Releases
 pub mod BookCalls
 pub mod Enabling
+pub mod BusResets
 pub mod Asides
 pub mod PollsWhole
 pub mod Lent

@@ -55,6 +55,7 @@ module _ (dir : Dir) (e : ℕ) (lent b : Buf) (n : Machine Answer Pages) (d : Dr
     counted = λ e. same refl;
     starts-anew = λ g p row e. let z : _≡_ {A = ℕ} 0 1 = cc in absurd (omega arith);
     enabling-resets = λ dir e on q p g. let z : _≡_ {A = ℕ} 0 1 = cc in absurd (omega arith);
+    bus-reset-empties = λ v p i g dir e. let z : _≡_ {A = ℕ} 0 1 = cc in absurd (omega arith);
     at-most-2 = x .at-most-2;
     sent-in-order = x .sent-in-order;
     passed-then-waiting = x .passed-then-waiting;
