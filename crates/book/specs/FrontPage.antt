@@ -21,8 +21,8 @@ use Rattle.state.specs.State.{view}
 use Rattle.ring.specs.Waiting.{waiting, Same}
 use Rattle.marks.specs.Copies.{bytesAt}
 use Rattle.script.specs.Answers.{Answer, Refused, Done, Shown, ok, isNumber}
-use Rattle.script.specs.Calls.{Config, Op, slotted, aside, SetEnabled, PollRead, Open, Close, Queue, calls, startRow}
-use Rattle.script.specs.Machine.{Buf, Call, start, begin, go, question, overruns, Event, Ans, ended, handed, told, Way, idle, busy, Machine, misfit, fed, call, started}
+use Rattle.script.specs.Calls.{Config, Op, slotted, aside, SetEnabled, PollRead, Aside, Open, Close, Queue, calls, startRow}
+use Rattle.script.specs.Machine.{Buf, Call, start, begin, go, question, overruns, Event, Ans, ended, handed, told, Way, idle, busy, Machine, over, misfit, fed, call, started}
 use Rattle.way.specs.Under.{drive, machineOf}
 use Rattle.book.specs.Pages.{Packet, bytesOf, stampsOf, OutPage, InPage, Pages}
 use Rattle.book.specs.Book.{isoOf, receiving, front, book}
@@ -191,6 +191,21 @@ addressed (ended z) e = false
 addressed (handed q) e = givesTo q e
 addressed (told k) e = false
 
+-- a call that rows 1, 2, 3, 15 or 16 stop, or a question
+abbrev pub keepsOut : Way Answer Pages → Op → Bool
+keepsOut idle o = false
+keepsOut (busy i w k) o = cond (cond i (calls .aside o) false) false true
+
+abbrev pub notGoing : Way Answer Pages → ℕ → Bool
+notGoing idle v = true
+notGoing (busy i w k) v = over calls w v
+
+abbrev pub stopped : Call Config Op → Machine Answer Pages → Buf → Bool
+stopped (start g) n b = cond (eqb (startRow g b) zero) false true
+stopped (begin o) n b = cond (cond (calls .slots o) (misfit calls (book .driver) (n .st) b) false) true (keepsOut (n .way) o)
+stopped (go v) n b = cond (misfit calls (book .driver) (n .st) b) true (notGoing (n .way) v)
+stopped (question q) n b = true
+
 -- the length of a slot
 abbrev pub slotSize : Pages → ℕ
 slotSize t = t .kept .allocator .size
@@ -232,6 +247,9 @@ pub record Sentences (c : Call Config Op) (lent : Buf) (n : Machine Answer Pages
   pub decided : (e : ℕ) → Decides c n a e → Decided lent (n .st .outs e) (t′ .outs e)
   -- "All else, refusals too: no change": an interrupt changes the page of an OUT at its receive address alone
   pub unmoved : (e v : ℕ) → c ≡ go v → inInterrupt (n .way) ≡ true → addressed a e ≡ false → t′ .outs e ≡ n .st .outs e
+  -- a question and a call that rows 1, 2, 3, 15 or 16 stop leave the book; so does an open, close or queue that any row refuses
+  pub stopped-leaves : stopped c n lent ≡ true → t′ ≡ n .st
+  pub refused-leaves : (o : Aside) (r : ℕ) → c ≡ begin (aside o) → a ≡ ended (Refused r) → t′ ≡ n .st
   -- "overruns": the count of Compared is that of the arrivals turned away since the start-up
   pub counted : (e : ℕ) → Counted c lent a e (n .st .outs e) (t′ .outs e)
   -- "Start-up: none wait, counts 0"

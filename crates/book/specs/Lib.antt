@@ -35,6 +35,7 @@ pub mod BookCounts
 pub mod BookDecides
 pub mod Releases
 pub mod BookCalls
+pub mod Stops
 pub mod Enabling
 pub mod BusResets
 pub mod Asides
