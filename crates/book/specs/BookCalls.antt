@@ -25,6 +25,7 @@ use Rattle.book.specs.BookTracks.{Tracks, end, ask}
 use Rattle.book.specs.InterruptParts.{of-interrupt}
 use Rattle.book.specs.BookCounts.{Periodic, Uncounted, Counts, Turned, Followed, follow}
 use Rattle.book.specs.Releases.{Clears, clears, of-slotted, of-other, of-aside, of-starting}
+use Rattle.book.specs.Refusing.{isRefused, Tells, t-ask, call-tells, start-tells}
 use Rattle.book.specs.BookDecides.{Idle, Arrives, sendsTo, Watched, watch}
 
 -- ---- what is under way
@@ -35,7 +36,7 @@ Watches false s o = Clears s o
 
 abbrev pub WayFine : Way Answer Pages → Type 0
 WayFine idle = Unit {0}
-WayFine (busy i q k) = (v : ℕ) (s : Bk) → Periodic (s .0) → Followed s (k v s) × Watches i s (k v s)
+WayFine (busy i q k) = (v : ℕ) (s : Bk) → Periodic (s .0) → Followed s (k v s) × Watches i s (k v s) × Tells isRefused s (k v s)
 
 pub record Fine (n : Machine Answer Pages) : Type 0 where
   pub pages : Periodic (n .st)
@@ -89,9 +90,9 @@ module _ (a : Ans Answer) where
   later true s t q k (ask j m h) v u = h v u tt
   later false s t q k (ask j m h) v u = h v u tt
 
-  halted-fine : (i : Bool) (s : Bk) (o : tree.Out Bk Answer) → Followed s o → Watches i s o → Fine (halts i o .1)
-  halted-fine i s (ends z t) (end j q) w = record { pages = j; way = tt }
-  halted-fine i s (asks q t k) (ask j m g) w = record { pages = fed-periodic a (t .0) j; way = λ v u l. (g v u l, later i s t q k w v u) }
+  halted-fine : (i : Bool) (s r : Bk) (o : tree.Out Bk Answer) → Followed s o → Watches i s o → Tells isRefused r o → Fine (halts i o .1)
+  halted-fine i s r (ends z t) (end j q) w x = record { pages = j; way = tt }
+  halted-fine i s r (asks q t k) (ask j m g) w (t-ask x) = record { pages = fed-periodic a (t .0) j; way = λ v u l. (g v u l, later i s t q k w v u, x v u) }
 
   halted-steps : (e : ℕ) (i : Bool) (s : Bk) (o : tree.Out Bk Answer) → Followed s o → Steps e (s .0) (halts i o .0) (halts i o .1 .st)
   halted-steps e i s (ends z t) (end j q) = stays (q e)
@@ -131,7 +132,7 @@ module _ (a : Ans Answer) where
   either-steps e t false x y p q = q
 
   begun-fine : (o : Op) (n : Machine Answer Pages) → Fine n → (w : Way Answer Pages) (b : Buf) → Fine (begun calls (book .driver) (fed book a) o n w b .1)
-  begun-fine o n h idle b = halted-fine (calls .irq o) (n .st, b) (run bookOps (calls .code o) (n .st, b)) (follow (calls .code o) (n .st, b) (h .pages)) (watched o (n .st, b))
+  begun-fine o n h idle b = halted-fine (calls .irq o) (n .st, b) (n .st, b) (run bookOps (calls .code o) (n .st, b)) (follow (calls .code o) (n .st, b) (h .pages)) (watched o (n .st, b)) (call-tells o (n .st, b))
   begun-fine o n h (busy i q k) b = either-fine (cond i (calls .aside o) false) _ _
       (beside-fine (lent-fine b h) (run bookOps (calls .code o) (n .st, b)) (follow (calls .code o) (n .st, b) (h .pages))) (lent-fine b h)
 
@@ -144,7 +145,7 @@ module _ (a : Ans Answer) where
   continued-fine : (v : ℕ) (n : Machine Answer Pages) → Fine n → (w : Way Answer Pages) → WayFine w → (b : Buf) → Fine (continued calls (book .driver) (fed book a) v n w b .1)
   continued-fine v n h idle g b = lent-fine b h
   continued-fine v n h (busy i q k) g b = either-fine (over calls q v) _ _ (lent-fine b h)
-      (halted-fine i (n .st, b) (k v (n .st, b)) (g v (n .st, b) (h .pages) .0) (g v (n .st, b) (h .pages) .1))
+      (halted-fine i (n .st, b) (n .st, b) (k v (n .st, b)) (g v (n .st, b) (h .pages) .0) (g v (n .st, b) (h .pages) .1) (g v (n .st, b) (h .pages) .2))
 
   continued-steps : (e v : ℕ) (n : Machine Answer Pages) → Fine n → (w : Way Answer Pages) → WayFine w → (b : Buf)
       → let y = continued calls (book .driver) (fed book a) v n w b in Steps e (n .st) (y .0) (y .1 .st)
@@ -156,7 +157,8 @@ module _ (a : Ans Answer) where
   fresh-periodic c x y h = refl
 
   pub start-fine : (c : Config) (n : Machine Answer Pages) (b : Buf) → Fine (started calls (book .driver) (fed book a) c zero n b .1)
-  start-fine c n b = halted-fine false (freshPages c, b) (run bookOps (starting c) (freshPages c, b)) (follow (starting c) (freshPages c, b) (fresh-periodic c)) (clears (of-starting c) (freshPages c, b))
+  start-fine c n b = halted-fine false (freshPages c, b) (freshPages c, b) (run bookOps (starting c) (freshPages c, b)) (follow (starting c) (freshPages c, b) (fresh-periodic c)) (clears (of-starting c) (freshPages c, b))
+      (start-tells c (freshPages c, b) (freshPages c, b))
 
   started-fine : (c : Config) (r : ℕ) (n : Machine Answer Pages) (b : Buf) → Fine n → Fine (started calls (book .driver) (fed book a) c r n b .1)
   started-fine c zero n b h = start-fine c n b

@@ -38,6 +38,7 @@ use Rattle.book.specs.PollsWhole.{ended-same, one-call}
 use Rattle.book.specs.BookCalls.{Fine, start-fine, start-lost, start-anew, call-fine}
 use Rattle.book.specs.BookCalls as steps-of
 use Rattle.book.specs.Stops.{stopped-leaves}
+use Rattle.book.specs.RefusedCalls.{isStart, refusal-leaves}
 use Rattle.book.specs.Enabling.{enabling-resets}
 use Rattle.book.specs.BusResets.{bus-reset-empties}
 
@@ -74,12 +75,6 @@ record Before (m : Machine Answer Driver) (n : Machine Answer Pages) : Type 0 wh
   rest : Rest phase (m .buf) (m .st) (n .st)
   room : Kept m
   fine : Fine n
-
-abbrev isStart : Call Config Op → Bool
-isStart (start c) = true
-isStart (begin o) = false
-isStart (go v) = false
-isStart (question q) = false
 
 abbrev isTold : Ans Answer → Bool
 isTold (ended a) = false
@@ -164,6 +159,7 @@ module _ (c : Call Config Op) (l : Buf) (m : Machine Answer Driver) (n : Machine
     open-waits = open-there (a .rest);
     decided = λ e d. let h = ap isStart (d .continues) in steps-of.decided c (x .0) e n (before h .fine) l (a .same) (most-15 h e) d;
     unmoved = λ e v p i g. let k = before (ap isStart p) in steps-of.unmoved c (x .0) e v n (k .fine) l (a .same) p i g;
+    refusal-leaves = λ r g e. let z = refusal-leaves c (x .0) n (λ h. before h .fine) l (a .same) r g in (z .outs e, z .ins e);
     stopped-leaves = stopped-leaves (x .0) n l c;
     refused-leaves = refused-leaves;
     counted = counted;

@@ -34,8 +34,10 @@ pub mod BookTracks
 pub mod BookCounts
 pub mod BookDecides
 pub mod Releases
+pub mod Refusing
 pub mod BookCalls
 pub mod Stops
+pub mod RefusedCalls
 pub mod Enabling
 pub mod BusResets
 pub mod Asides
