@@ -106,12 +106,13 @@ module _ (Q : Answer → Pages → Type 0) (a : Ans Answer) (o : Aside) (n : Mac
 
 module _ (t : Pages) (e : ℕ) where
   pub record Opened (z : Answer) (t′ : Pages) : Type 0 where
+    pub leaves : (r : ℕ) → z ≡ Refused r → t′ ≡ t
     pub none : z ≡ Refused 12 → t .outs e .waiting ≡ []
     pub shows : (stamp : ℕ) (bytes : List ℕ) → z ≡ Shown bytes stamp
         → (q : Packet) × (rest : List Packet) × (t .outs e .waiting ≡ q ∷ rest) × (bytes ≡ q .bytes) × (stamp ≡ q .stamp) × (t′ .outs e .opened ≡ true) × (t′ .outs e .waiting ≡ t .outs e .waiting) × (t′ .outs e .admitted ≡ t .outs e .admitted) × (t′ .outs e .read ≡ t .outs e .read)
 
-  not-opened : (k : ℕ) (t′ : Pages) → (k ≡ 12 → ⊥) → Opened (Refused k) t′
-  not-opened k t′ h = record { none = λ q. absurd (h (ap row q)); shows = λ stamp bytes q. absurd (true≢false (ap isRefused q)) }
+  not-opened : (k : ℕ) → (k ≡ 12 → ⊥) → Opened (Refused k) t
+  not-opened k h = record { leaves = λ r q. refl; none = λ q. absurd (h (ap row q)); shows = λ stamp bytes q. absurd (true≢false (ap isRefused q)) }
 
   none-waits : (w : List Packet) → some (bytesOf w) ≡ false → w ≡ []
   none-waits [] h = refl
@@ -121,6 +122,7 @@ module _ (t : Pages) (e : ℕ) where
       → let t′ = cond u (withOut t e (openOut (t .outs e))) t in Opened (Shown (first (waitsOn t′ Out e)) (firstStamp (t′ .outs e .waiting))) t′
   opens [] h u g k = let z : false ≡ true = sym (ap (λ (w : List Packet). some (bytesOf w)) h) ∙ g ∙ k in absurd (true≢false (sym z))
   opens (q ∷ w) h true g k = record {
+    leaves = λ r z. absurd (true≢false (sym (ap isRefused z)));
     none = λ z. absurd (true≢false (sym (ap isRefused z)));
     shows = λ stamp bytes z. (
       q,
@@ -137,23 +139,23 @@ module _ (t : Pages) (e : ℕ) where
   opens (q ∷ w) h false g k = absurd (true≢false (sym k))
 
   row-12 : some (bytesOf (t .outs e .waiting)) ≡ false → Opened (Refused 12) t
-  row-12 h = record { none = λ _. none-waits (t .outs e .waiting) h; shows = λ stamp bytes q. absurd (true≢false (ap isRefused q)) }
+  row-12 h = record { leaves = λ r z. refl; none = λ _. none-waits (t .outs e .waiting) h; shows = λ stamp bytes q. absurd (true≢false (ap isRefused q)) }
 
   open-ends : (b : Buf) → Ends Opened (run bookOps (openPacket {i = false} e) (t, b))
   open-ends b =
       by-test Opened (eqb (t .kept .globals .stage) 2) _ _
       (λ _. by-test Opened (isAllocated (t .kept .allocator) Out e) _ _
       (λ _. by-test Opened (not (isOn (t .kept .plain Out e .iso))) _ _
-      (λ _. not-opened 11 t (λ z. omega (arith, z)))
+      (λ _. not-opened 11 (λ z. omega (arith, z)))
       (λ _. by-test Opened (some (bytesOf (t .outs e .waiting))) _ _
       (λ h. opens (t .outs e .waiting) refl (some (bytesOf (t .outs e .waiting))) refl h)
       (λ h. row-12 h)))
-      (λ _. not-opened 5 t (λ z. omega (arith, z))))
-      (λ _. not-opened 4 t (λ z. omega (arith, z)))
+      (λ _. not-opened 5 (λ z. omega (arith, z))))
+      (λ _. not-opened 4 (λ z. omega (arith, z)))
 
 pub opened-by : (a : Ans Answer) (e : ℕ) (n : Machine Answer Pages) (b : Buf) (z : Answer) → written a (begin (aside (Open e))) n b .0 ≡ ended z
     → Opened (n .st) e z (written a (begin (aside (Open e))) n b .1 .st)
-opened-by a e n b = says (Opened (n .st) e) a (Open e) n b (not-opened (n .st) e 1 (n .st) (λ z. omega (arith, z))) (not-opened (n .st) e 3 (n .st) (λ z. omega (arith, z))) (open-ends (n .st) e b)
+opened-by a e n b = says (Opened (n .st) e) a (Open e) n b (not-opened (n .st) e 1 (λ z. omega (arith, z))) (not-opened (n .st) e 3 (λ z. omega (arith, z))) (open-ends (n .st) e b)
 
 -- ---- close
 
@@ -168,21 +170,23 @@ reads-first {p} {p′} {q} {w} h k = record {
 
 module _ (t : Pages) (e : ℕ) (some-open : t .outs e .opened ≡ true → (q : Packet) × (w : List Packet) × (t .outs e .waiting ≡ q ∷ w)) where
   pub record Closed (z : Answer) (t′ : Pages) : Type 0 where
+    pub leaves : (r : ℕ) → z ≡ Refused r → t′ ≡ t
     pub none : z ≡ Refused 14 → t .outs e .opened ≡ false
     pub reads : z ≡ ok → (t .outs e .opened ≡ true) × (q : Packet) × ReadsFirst (t .outs e) (t′ .outs e) q
 
-  not-closed : (k : ℕ) (t′ : Pages) → (k ≡ 14 → ⊥) → Closed (Refused k) t′
-  not-closed k t′ h = record { none = λ q. absurd (h (ap row q)); reads = λ q. absurd (true≢false (ap isRefused q)) }
+  not-closed : (k : ℕ) → (k ≡ 14 → ⊥) → Closed (Refused k) t
+  not-closed k h = record { leaves = λ r q. refl; none = λ q. absurd (h (ap row q)); reads = λ q. absurd (true≢false (ap isRefused q)) }
 
   closes : (u : Bool) → t .outs e .opened ≡ u → u ≡ true → Closed ok (cond u (withOut t e (readOut (t .outs e))) t)
   closes true h k = record {
+    leaves = λ r z. absurd (true≢false (sym (ap isRefused z)));
     none = λ z. absurd (true≢false (sym (ap isRefused z)));
     reads = λ _. (h, some-open h .0, reads-first (some-open h .2) (out-same t e (readOut (t .outs e))));
   }
   closes false h k = absurd (true≢false (sym k))
 
   row-14 : t .outs e .opened ≡ false → Closed (Refused 14) t
-  row-14 h = record { none = λ _. h; reads = λ q. absurd (true≢false (ap isRefused q)) }
+  row-14 h = record { leaves = λ r z. refl; none = λ _. h; reads = λ q. absurd (true≢false (ap isRefused q)) }
 
   close-ends : (b : Buf) → Ends Closed (run bookOps (closePacket {i = false} e) (t, b))
   close-ends b =
@@ -191,22 +195,23 @@ module _ (t : Pages) (e : ℕ) (some-open : t .outs e .opened ≡ true → (q : 
       (λ _. by-test Closed (t .outs e .opened) _ _
       (λ h. closes (t .outs e .opened) refl h)
       (λ h. row-14 h))
-      (λ _. not-closed 5 t (λ z. omega (arith, z))))
-      (λ _. not-closed 4 t (λ z. omega (arith, z)))
+      (λ _. not-closed 5 (λ z. omega (arith, z))))
+      (λ _. not-closed 4 (λ z. omega (arith, z)))
 
 pub closed-by : (a : Ans Answer) (e : ℕ) (n : Machine Answer Pages) (b : Buf) (o : n .st .outs e .opened ≡ true → (q : Packet) × (w : List Packet) × (n .st .outs e .waiting ≡ q ∷ w)) (z : Answer)
     → written a (begin (aside (Close e))) n b .0 ≡ ended z → Closed (n .st) e o z (written a (begin (aside (Close e))) n b .1 .st)
-closed-by a e n b o = says (Closed (n .st) e o) a (Close e) n b (not-closed (n .st) e o 1 (n .st) (λ z. omega (arith, z))) (not-closed (n .st) e o 3 (n .st) (λ z. omega (arith, z))) (close-ends (n .st) e o b)
+closed-by a e n b o = says (Closed (n .st) e o) a (Close e) n b (not-closed (n .st) e o 1 (λ z. omega (arith, z))) (not-closed (n .st) e o 3 (λ z. omega (arith, z))) (close-ends (n .st) e o b)
 
 -- ---- queue
 
 module _ (t : Pages) (e : ℕ) (bytes : List ℕ) (most : length (t .ins e .waiting) ≤ 2) where
   pub record Queued (z : Answer) (t′ : Pages) : Type 0 where
+    pub leaves : (r : ℕ) → z ≡ Refused r → t′ ≡ t
     pub full : z ≡ Refused 13 → length (t .ins e .waiting) ≡ 2
     pub joins : z ≡ ok → (length (t .ins e .waiting) < 2) × (t′ .ins e .waiting ≡ t .ins e .waiting ++ (bytes ∷ [])) × (t′ .ins e .queued ≡ t .ins e .queued ++ (bytes ∷ []))
 
-  not-queued : (k : ℕ) (t′ : Pages) → (k ≡ 13 → ⊥) → Queued (Refused k) t′
-  not-queued k t′ h = record { full = λ q. absurd (h (ap row q)); joins = λ q. absurd (true≢false (ap isRefused q)) }
+  not-queued : (k : ℕ) → (k ≡ 13 → ⊥) → Queued (Refused k) t
+  not-queued k h = record { leaves = λ r q. refl; full = λ q. absurd (h (ap row q)); joins = λ q. absurd (true≢false (ap isRefused q)) }
 
   room-by : (x y z : Bool) → x ≡ true → z ≡ false → (x && (y && not z)) ≡ false → y ≡ false
   room-by true true false h k l = absurd (true≢false l)
@@ -226,6 +231,7 @@ module _ (t : Pages) (e : ℕ) (bytes : List ℕ) (most : length (t .ins e .wait
   joined : (u : Bool) → roomB t e (length bytes) ≡ u → u ≡ true → (b : Buf)
       → Queued ok (cond {A = Bk} u (withIn t e (queuedIn (t .ins e) bytes), copied b (t .kept .plain In e .base + t .ins e .turn * t .kept .allocator .size) bytes) (t, b) .0)
   joined true h k b = record {
+    leaves = λ r z. absurd (true≢false (sym (ap isRefused z)));
     full = λ z. absurd (true≢false (sym (ap isRefused z)));
     joins = λ _. (
       ltb-true (length (t .ins e .waiting)) 2 (left (isoOf t In e) (ltb (length (t .ins e .waiting)) 2) (not (ltb (t .kept .allocator .size) (length bytes))) h),
@@ -237,6 +243,7 @@ module _ (t : Pages) (e : ℕ) (bytes : List ℕ) (most : length (t .ins e .wait
 
   row-13 : ltb (t .kept .allocator .size) (length bytes) ≡ false → not (isOn (t .kept .plain In e .iso)) ≡ false → roomB t e (length bytes) ≡ false → Queued (Refused 13) t
   row-13 short iso h = record {
+    leaves = λ r z. refl;
     full = λ _.
         let f = ltb-false (length (t .ins e .waiting)) 2 (room-by (isoOf t In e) (ltb (length (t .ins e .waiting)) 2) (ltb (t .kept .allocator .size) (length bytes)) (not-false (isoOf t In e) iso) short h) in
         omega (arith, f, most);
@@ -249,16 +256,16 @@ module _ (t : Pages) (e : ℕ) (bytes : List ℕ) (most : length (t .ins e .wait
       (λ _. by-test Queued (isAllocated (t .kept .allocator) In e) _ _
       (λ _. by-test Queued (enables.isOn (t .kept .globals .«ep_config») In e) _ _
       (λ _. by-test Queued (ltb (t .kept .allocator .size) (length bytes)) _ _
-      (λ _. not-queued 10 t (λ z. omega (arith, z)))
+      (λ _. not-queued 10 (λ z. omega (arith, z)))
       (λ short. by-test Queued (not (isOn (t .kept .plain In e .iso))) _ _
-      (λ _. not-queued 11 t (λ z. omega (arith, z)))
+      (λ _. not-queued 11 (λ z. omega (arith, z)))
       (λ iso. by-test Queued (roomB t e (length bytes)) _ _
       (λ h. joined (roomB t e (length bytes)) refl h b)
       (λ h. row-13 short iso h))))
-      (λ _. not-queued 9 t (λ z. omega (arith, z))))
-      (λ _. not-queued 5 t (λ z. omega (arith, z))))
-      (λ _. not-queued 4 t (λ z. omega (arith, z)))
+      (λ _. not-queued 9 (λ z. omega (arith, z))))
+      (λ _. not-queued 5 (λ z. omega (arith, z))))
+      (λ _. not-queued 4 (λ z. omega (arith, z)))
 
 pub queued-by : (a : Ans Answer) (e : ℕ) (bytes : List ℕ) (n : Machine Answer Pages) (b : Buf) (m : length (n .st .ins e .waiting) ≤ 2) (z : Answer)
     → written a (begin (aside (Queue e bytes))) n b .0 ≡ ended z → Queued (n .st) e bytes m z (written a (begin (aside (Queue e bytes))) n b .1 .st)
-queued-by a e bytes n b m = says (Queued (n .st) e bytes m) a (Queue e bytes) n b (not-queued (n .st) e bytes m 1 (n .st) (λ z. omega (arith, z))) (not-queued (n .st) e bytes m 3 (n .st) (λ z. omega (arith, z))) (queue-ends (n .st) e bytes m b)
+queued-by a e bytes n b m = says (Queued (n .st) e bytes m) a (Queue e bytes) n b (not-queued (n .st) e bytes m 1 (λ z. omega (arith, z))) (not-queued (n .st) e bytes m 3 (λ z. omega (arith, z))) (queue-ends (n .st) e bytes m b)

@@ -19,22 +19,24 @@ use Rattle.script.specs.Calls.{Config, Op, interrupt, slotted, other, aside, ca
 use Rattle.script.specs.Machine.{Buf, Call, start, begin, go, question, Ans, ended, handed, told, blank, blankA, Way, idle, busy, Machine, over, misfit, stay, lentTo, beside, halt, begun, continued, started, call, fed}
 use Rattle.book.specs.Pages.{Packet, OutPage, InPage, Pages, withOut}
 use Rattle.book.specs.Book.{Bk, receiving, slotTold, sourceTold, arrived, joined, turnedAway, feedB, freshPages, bookOps, book}
-use Rattle.book.specs.Frame.{at-elim, out-same}
+use Rattle.book.specs.Frame.{at-elim, out-same, in-same}
 use Rattle.book.specs.FrontPage.{written, inInterrupt, Decides, Decided, admitted, turned-away, Counted, same, one-more, none, addressed}
 use Rattle.book.specs.BookTracks.{Tracks, end, ask}
 use Rattle.book.specs.InterruptParts.{of-interrupt}
 use Rattle.book.specs.BookCounts.{Periodic, Uncounted, Counts, Turned, Followed, follow}
-use Rattle.book.specs.BookDecides.{Idle, Arrives, Watched, watch}
+use Rattle.book.specs.Releases.{Clears, clears, of-slotted, of-other, of-aside, of-starting}
+use Rattle.book.specs.Refusing.{isRefused, Tells, t-ask, call-tells, start-tells}
+use Rattle.book.specs.BookDecides.{Idle, Arrives, sendsTo, Watched, watch}
 
 -- ---- what is under way
 
 abbrev Watches : Bool → Bk → tree.Out Bk Answer → Type 0
 Watches true s o = Watched s o
-Watches false s o = Unit {0}
+Watches false s o = Clears s o
 
 abbrev pub WayFine : Way Answer Pages → Type 0
 WayFine idle = Unit {0}
-WayFine (busy i q k) = (v : ℕ) (s : Bk) → Periodic (s .0) → Followed s (k v s) × Watches i s (k v s)
+WayFine (busy i q k) = (v : ℕ) (s : Bk) → Periodic (s .0) → Followed s (k v s) × Watches i s (k v s) × Tells isRefused s (k v s)
 
 pub record Fine (n : Machine Answer Pages) : Type 0 where
   pub pages : Periodic (n .st)
@@ -66,7 +68,7 @@ fed-periodic (ended z) t i = i
 fed-periodic (handed q) t i = feed-periodic q t i
 fed-periodic (told n) t i = i
 
-fed-page : {A : Type 0} (f : OutPage → A) → ((p : OutPage) (a : ℕ) → f (slotTold p a) ≡ f p) → (a : Ans Answer) (t : Pages) → Periodic t → (x : ℕ) → f (fed book a t .outs x) ≡ f (t .outs x)
+pub fed-page : {A : Type 0} (f : OutPage → A) → ((p : OutPage) (a : ℕ) → f (slotTold p a) ≡ f p) → (a : Ans Answer) (t : Pages) → Periodic t → (x : ℕ) → f (fed book a t .outs x) ≡ f (t .outs x)
 fed-page f g (ended z) t i x = refl
 fed-page f g (handed q) t i x = feed-page f g q t i x
 fed-page f g (told n) t i x = refl
@@ -86,11 +88,11 @@ module _ (a : Ans Answer) where
 
   later : (i : Bool) (s t : Bk) (q : Access) (k : ℕ → Bk → tree.Out Bk Answer) → Watches i s (asks q t k) → (v : ℕ) (u : Bk) → Watches i u (k v u)
   later true s t q k (ask j m h) v u = h v u tt
-  later false s t q k w v u = tt
+  later false s t q k (ask j m h) v u = h v u tt
 
-  halted-fine : (i : Bool) (s : Bk) (o : tree.Out Bk Answer) → Followed s o → Watches i s o → Fine (halts i o .1)
-  halted-fine i s (ends z t) (end j q) w = record { pages = j; way = tt }
-  halted-fine i s (asks q t k) (ask j m g) w = record { pages = fed-periodic a (t .0) j; way = λ v u l. (g v u l, later i s t q k w v u) }
+  halted-fine : (i : Bool) (s r : Bk) (o : tree.Out Bk Answer) → Followed s o → Watches i s o → Tells isRefused r o → Fine (halts i o .1)
+  halted-fine i s r (ends z t) (end j q) w x = record { pages = j; way = tt }
+  halted-fine i s r (asks q t k) (ask j m g) w (t-ask x) = record { pages = fed-periodic a (t .0) j; way = λ v u l. (g v u l, later i s t q k w v u, x v u) }
 
   halted-steps : (e : ℕ) (i : Bool) (s : Bk) (o : tree.Out Bk Answer) → Followed s o → Steps e (s .0) (halts i o .0) (halts i o .1 .st)
   halted-steps e i s (ends z t) (end j q) = stays (q e)
@@ -104,9 +106,9 @@ module _ (a : Ans Answer) where
 
   watched : (o : Op) (s : Bk) → Watches (calls .irq o) s (run bookOps (calls .code o) s)
   watched interrupt s = watch of-interrupt s
-  watched (slotted o) s = tt
-  watched (other o) s = tt
-  watched (aside o) s = tt
+  watched (slotted o) s = clears (of-slotted o) s
+  watched (other o) s = clears (of-other o) s
+  watched (aside o) s = clears (of-aside o) s
 
   lent-fine : {n : Machine Answer Pages} (b : Buf) → Fine n → Fine (lentTo calls (book .driver) n b)
   lent-fine b h = record { pages = h .pages; way = h .way }
@@ -130,7 +132,7 @@ module _ (a : Ans Answer) where
   either-steps e t false x y p q = q
 
   begun-fine : (o : Op) (n : Machine Answer Pages) → Fine n → (w : Way Answer Pages) (b : Buf) → Fine (begun calls (book .driver) (fed book a) o n w b .1)
-  begun-fine o n h idle b = halted-fine (calls .irq o) (n .st, b) (run bookOps (calls .code o) (n .st, b)) (follow (calls .code o) (n .st, b) (h .pages)) (watched o (n .st, b))
+  begun-fine o n h idle b = halted-fine (calls .irq o) (n .st, b) (n .st, b) (run bookOps (calls .code o) (n .st, b)) (follow (calls .code o) (n .st, b) (h .pages)) (watched o (n .st, b)) (call-tells o (n .st, b))
   begun-fine o n h (busy i q k) b = either-fine (cond i (calls .aside o) false) _ _
       (beside-fine (lent-fine b h) (run bookOps (calls .code o) (n .st, b)) (follow (calls .code o) (n .st, b) (h .pages))) (lent-fine b h)
 
@@ -143,7 +145,7 @@ module _ (a : Ans Answer) where
   continued-fine : (v : ℕ) (n : Machine Answer Pages) → Fine n → (w : Way Answer Pages) → WayFine w → (b : Buf) → Fine (continued calls (book .driver) (fed book a) v n w b .1)
   continued-fine v n h idle g b = lent-fine b h
   continued-fine v n h (busy i q k) g b = either-fine (over calls q v) _ _ (lent-fine b h)
-      (halted-fine i (n .st, b) (k v (n .st, b)) (g v (n .st, b) (h .pages) .0) (g v (n .st, b) (h .pages) .1))
+      (halted-fine i (n .st, b) (n .st, b) (k v (n .st, b)) (g v (n .st, b) (h .pages) .0) (g v (n .st, b) (h .pages) .1) (g v (n .st, b) (h .pages) .2))
 
   continued-steps : (e v : ℕ) (n : Machine Answer Pages) → Fine n → (w : Way Answer Pages) → WayFine w → (b : Buf)
       → let y = continued calls (book .driver) (fed book a) v n w b in Steps e (n .st) (y .0) (y .1 .st)
@@ -155,7 +157,8 @@ module _ (a : Ans Answer) where
   fresh-periodic c x y h = refl
 
   pub start-fine : (c : Config) (n : Machine Answer Pages) (b : Buf) → Fine (started calls (book .driver) (fed book a) c zero n b .1)
-  start-fine c n b = halted-fine false (freshPages c, b) (run bookOps (starting c) (freshPages c, b)) (follow (starting c) (freshPages c, b) (fresh-periodic c)) tt
+  start-fine c n b = halted-fine false (freshPages c, b) (freshPages c, b) (run bookOps (starting c) (freshPages c, b)) (follow (starting c) (freshPages c, b) (fresh-periodic c)) (clears (of-starting c) (freshPages c, b))
+      (start-tells c (freshPages c, b) (freshPages c, b))
 
   started-fine : (c : Config) (r : ℕ) (n : Machine Answer Pages) (b : Buf) → Fine n → Fine (started calls (book .driver) (fed book a) c r n b .1)
   started-fine c zero n b h = start-fine c n b
@@ -298,7 +301,7 @@ module _ (a : Ans Answer) (e x v : ℕ) (n : Machine Answer Pages) (h : Fine n) 
   outcome : (o : tree.Out Bk Answer) → Followed (n .st, b) o → Watched (n .st, b) o → Says (halt calls (book .driver) (fed book a) true o)
   outcome (ends z t) f w k = no-end z k
   outcome (asks q t g) (ask j m f) (ask j′ m′ f′) k =
-      let z = m′ .0 e x (ap accessOf k) on in
+      let z = m′ .arrives e x (ap accessOf k) on in
       decided-by b (n .st .outs e) (fed book a (t .0) .outs e) (z .1) (z .0) l (z .2)
       (fed-page (λ p. p .waiting) (λ p x. refl) a (t .0) j e ∙ ap (λ (p : OutPage). p .waiting) (z .3))
       (fed-page (λ p. p .admitted) (λ p x. refl) a (t .0) j e ∙ ap (λ (p : OutPage). p .admitted) (z .3))
@@ -349,7 +352,7 @@ module _ (a : Ans Answer) (e v : ℕ) (n : Machine Answer Pages) (h : Fine n) (b
 
   stays-at : (o : tree.Out Bk Answer) → Watched (n .st, b) o → Stays (halt calls (book .driver) (fed book a) true o)
   stays-at (ends z t) (end j q) k = q .outs e
-  stays-at (asks q t g) (ask j m f) k = fed-away a away (t .0) ∙ m .1 e k
+  stays-at (asks q t g) (ask j m f) k = fed-away a away (t .0) ∙ m .leaves e k
 
   stays-wide : (u : Bool) (y : Ans Answer × Machine Answer Pages) → Stays y → Stays (cond u (stay calls (book .driver) 16 (lentTo calls (book .driver) n b)) y)
   stays-wide true y s k = refl
@@ -380,3 +383,54 @@ pub unmoved : (c : Call Config Op) (a : Ans Answer) (e v : ℕ) (n : Machine Ans
 unmoved c a e v n h b s p i g = subst (λ (c : Call Config Op). blankA a ≡ blankA (written a c n b .0) → written a c n b .1 .st .outs e ≡ n .st .outs e) (sym p)
     (λ s. stays-fits a e v n h b g (misfit calls (book .driver) (n .st) b) i
     (sym (addressed-blank (written a (go v) n b .0) e) ∙ ap (λ (z : Ans Answer). addressed z e) (sym s) ∙ addressed-blank a e ∙ g)) s
+
+-- ---- a load
+
+abbrev sending : Ans Answer → ℕ → Bool
+sending (ended z) e = false
+sending (handed q) e = sendsTo q e
+sending (told k) e = false
+
+sending-blank : (z : Ans Answer) (e : ℕ) → sending (blankA z) e ≡ sending z e
+sending-blank (ended z) e = refl
+sending-blank (handed (Read r f)) e = refl
+sending-blank (handed (Write r f w)) e = refl
+sending-blank (handed (Receive f x)) e = refl
+sending-blank (handed (Transmit f x)) e = refl
+sending-blank (handed (Ep0Dma x)) e = refl
+sending-blank (handed (Wait k)) e = refl
+sending-blank (handed Callback) e = refl
+sending-blank (told k) e = refl
+
+abbrev Loaded : ℕ → InPage → Type 0
+Loaded x p = 0 < length (p .waiting) → (p .sending ≡ true) × (p .source ≡ x) × (p .load ≡ true)
+
+module _ (e x v : ℕ) (n : Machine Answer Pages) (h : Fine n) (b : Buf) where
+  abbrev Sends : Ans Answer × Machine Answer Pages → Type 0
+  Sends y = sending (y .0) e ≡ true → Loaded x (y .1 .st .ins e)
+
+  told-source : (p : InPage) → (0 < length (p .waiting) → (p .sending ≡ true) × (p .load ≡ true)) → Loaded x (sourceTold p x)
+  told-source p g l = let z = g l in (z .0, ap (λ (u : Bool). cond u x (p .source)) (z .1), z .1)
+
+  sends-at : (o : tree.Out Bk Answer) → Watched (n .st, b) o → Sends (halt calls (book .driver) (fed {A = Answer} book (handed (Transmit e x))) true o)
+  sends-at (ends z t) w k = absurd (true≢false (sym k))
+  sends-at (asks q t g) (ask j m f) k = subst (Loaded x) (sym (in-same (t .0) e (sourceTold (t .0 .ins e) x))) (told-source (t .0 .ins e) (m .loads e k))
+
+  sends-wide : (u : Bool) (y : Ans Answer × Machine Answer Pages) → Sends y → Sends (cond u (stay calls (book .driver) 16 (lentTo calls (book .driver) n b)) y)
+  sends-wide true y s k = absurd (true≢false (sym k))
+  sends-wide false y s k = s k
+
+  sends-way : (w : Way Answer Pages) → WayFine w → inInterrupt w ≡ true → Sends (continued calls (book .driver) (fed {A = Answer} book (handed (Transmit e x))) v n w b)
+  sends-way idle g i k = absurd (true≢false (sym i))
+  sends-way (busy true q f) g i k = sends-wide (over calls q v) _ (sends-at (f v (n .st, b)) (g v (n .st, b) (h .pages) .1)) k
+  sends-way (busy false q f) g i k = absurd (true≢false (sym i))
+
+  sends-fits : (u : Bool) → inInterrupt (n .way) ≡ true → Sends (cond u (stay calls (book .driver) 1 n) (continued calls (book .driver) (fed {A = Answer} book (handed (Transmit e x))) v n (n .way) b))
+  sends-fits true i k = absurd (true≢false (sym k))
+  sends-fits false i k = sends-way (n .way) (h .way) i k
+
+pub load-sends : (c : Call Config Op) (a : Ans Answer) (e x v : ℕ) (n : Machine Answer Pages) → Fine n → (b : Buf) → blankA a ≡ blankA (written a c n b .0)
+    → c ≡ go v → inInterrupt (n .way) ≡ true → a ≡ handed (Transmit e x) → Loaded x (written a c n b .1 .st .ins e)
+load-sends c a e x v n h b s p i g = subst (λ (z : Call Config Op × Ans Answer). let y = written (z .1) (z .0) n b in blankA (z .1) ≡ blankA (y .0) → Loaded x (y .1 .st .ins e)) (sym (ap₂ (λ (c : Call Config Op) (a : Ans Answer). (c, a)) p g))
+    (λ s. sends-fits e x v n h b (misfit calls (book .driver) (n .st) b) i
+    (sym (sending-blank (written (handed (Transmit e x)) (go v) n b .0) e) ∙ ap (λ (z : Ans Answer). sending z e) (sym s) ∙ eq-eqb (e % 16) (e % 16) refl)) s

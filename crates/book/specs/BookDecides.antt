@@ -2,7 +2,9 @@
 use mathlib.Core.Bool.{Bool, true, false, cond, true≢false}
 use mathlib.Core.List.{List, [], _∷_}
 use mathlib.Core.Path.{_≡_, refl, ap, subst, sym, _∙_}
-use Prim.Native.Nat.{ℕ, _%_, min}
+use Prim.Native.Nat.{ℕ, _%_, _<_, min}
+use native.Mathlib.Omega.{arith}
+use lib.ListN.{length}
 use Rattle.bits.specs.Bit.{isSet}
 use Rattle.regs.specs.declared.Access.{Access}
 use Rattle.regs.specs.declared.Access.the-variants.{Read, Write, Receive, Transmit, Ep0Dma, Wait, Callback}
@@ -10,10 +12,10 @@ use Rattle.regs.specs.declared.Dir.the-variants.{Out}
 use Rattle.marks.specs.Copies.{bytesAt}
 use Rattle.script.specs.Tree as tree
 use Rattle.script.specs.Cells.{Cell, Val, globals-cell, control-cell, allocator-cell, ep-cell, request-cell, paced-cell}
-use Rattle.script.specs.Script.{Script, run, arrive}
+use Rattle.script.specs.Script.{Script, run, arrive, send}
 use Rattle.script.specs.Statics.{isoOuts}
-use Rattle.book.specs.Pages.{Packet, OutPage, Pages, withOut}
-use Rattle.book.specs.Book.{Bk, putB, receiving, arrived, packetB, handB, bookOps}
+use Rattle.book.specs.Pages.{Packet, OutPage, InPage, Pages, withOut}
+use Rattle.book.specs.Book.{Bk, putB, some, receiving, arrived, packetB, loadedIn, sentIn, placedIn, handB, bookOps}
 use Rattle.book.specs.Frame.{out-same, at-elim}
 use Rattle.book.specs.FrontPage.{givesTo}
 use borrow.Author.Tests.{eq-eqb}
@@ -39,8 +41,24 @@ Arrives s q t = (e x : ℕ) → q ≡ Receive e x → receiving (s .0) e ≡ tru
 abbrev pub Leaves : Bk → Access → Bk → Type 0
 Leaves s q t = (e : ℕ) → givesTo q e ≡ false → t .0 .outs e ≡ s .0 .outs e
 
-abbrev pub Moves : Bk → Access → Bk → Type 0
-Moves s q t = Arrives s q t × Leaves s q t
+-- a transmit address of IN e
+abbrev pub sendsTo : Access → ℕ → Bool
+sendsTo (Read r f) e = false
+sendsTo (Write r f v) e = false
+sendsTo (Receive f x) e = false
+sendsTo (Transmit f x) e = eqb (e % 16) (f % 16)
+sendsTo (Ep0Dma x) e = false
+sendsTo (Wait n) e = false
+sendsTo Callback e = false
+
+-- at a transmit address: the first waiting, if there is one, is being sent
+abbrev pub Loads : Access → Bk → Type 0
+Loads q t = (e : ℕ) → sendsTo q e ≡ true → 0 < length (t .0 .ins e .waiting) → (t .0 .ins e .sending ≡ true) × (t .0 .ins e .load ≡ true)
+
+pub record Moves (s : Bk) (q : Access) (t : Bk) : Type 0 where
+  pub arrives : Arrives s q t
+  pub leaves : Leaves s q t
+  pub loads : Loads q t
 
 idle-then : (s t u : Bk) → Idle s t → Idle t u → Idle s u
 idle-then s t u h k = record { outs = λ e. k .outs e ∙ h .outs e; sets = k .sets ∙ h .sets; bytes = k .bytes ∙ h .bytes }
@@ -55,7 +73,7 @@ arrives-then s t u q h k e x a r =
     )
 
 moves-then : (s t u : Bk) (q : Access) → Idle s t → Moves t q u → Moves s q u
-moves-then s t u q h k = (arrives-then s t u q h (k .0), λ e g. k .1 e g ∙ h .outs e)
+moves-then s t u q h k = record { arrives = arrives-then s t u q h (k .arrives); leaves = λ e g. k .leaves e g ∙ h .outs e; loads = k .loads }
 
 idle : {s : Bk} → Idle s s
 idle = record { outs = λ e. refl; sets = refl; bytes = refl }
@@ -108,6 +126,22 @@ leaves f n s e g = by (receiving (s .0) f)
     by true = at-elim (λ (p : OutPage). p ≡ s .0 .outs e) f e page (s .0 .outs) (λ h. absurd (true≢false (sym (ap (λ (k : ℕ). eqb (f % 16) k) h ∙ eq-eqb (f % 16) (f % 16) refl) ∙ g))) (λ _. refl)
     by false = refl
 
+-- an access that is no address
+unmoved : {s : Bk} {q : Access} → isReceive q ≡ false → ((e : ℕ) → sendsTo q e ≡ false) → Moves s q s
+unmoved h g = record { arrives = λ e x a r. no-receive h a; leaves = λ e g. refl; loads = λ e k. absurd (true≢false (sym k ∙ g e)) }
+
+sends : (f : ℕ) (s : Bk) → Loads (Transmit f 0) (handB (send f) s .1)
+sends f s e = at-page (eqb (e % 16) (f % 16))
+  where
+    loaded : (w : List (List ℕ)) → let p = cond (some w) (sentIn (s .0 .ins f) (s .1)) (placedIn (s .0 .ins f)) in
+        s .0 .ins f .waiting ≡ w → 0 < length (p .waiting) → (p .sending ≡ true) × (p .load ≡ true)
+    loaded [] h l = absurd (omega (arith, l, ap (λ (w : List (List ℕ)). length w) h))
+    loaded (b ∷ w) h l = (refl, refl)
+
+    at-page : (u : Bool) → u ≡ true → let p = cond u (loadedIn (s .0 .ins f) (s .1)) (s .0 .ins e) in 0 < length (p .waiting) → (p .sending ≡ true) × (p .load ≡ true)
+    at-page true h = loaded (s .0 .ins f .waiting) refl
+    at-page false h = absurd (true≢false (sym h))
+
 abbrev pub Watched : {A : Type 0} → Bk → tree.Out Bk A → Type 0
 Watched s o = Tracks Any Idle Moves s o
 
@@ -119,10 +153,10 @@ watch p-ret s = end tt idle
 watch (p-bind h g) s = tracks-bind Any Idle Moves idle-then moves-then (watch h s) (λ a t _. watch (g a) t)
 watch (p-test {b = true} h g) s = watch h s
 watch (p-test {b = false} h g) s = watch g s
-watch (p-read h) s = ask tt ((λ e x a r. no-receive refl a), λ e g. refl) (λ v t _. watch (h v) t)
-watch (p-write h) s = ask tt ((λ e x a r. no-receive refl a), λ e g. refl) (λ v t _. watch h t)
-watch (p-wait h) s = ask tt ((λ e x a r. no-receive refl a), λ e g. refl) (λ v t _. watch h t)
-watch (p-callback h) s = ask tt ((λ e x a r. no-receive refl a), λ e g. refl) (λ v t _. watch h t)
+watch (p-read h) s = ask tt (unmoved refl (λ e. refl)) (λ v t _. watch (h v) t)
+watch (p-write h) s = ask tt (unmoved refl (λ e. refl)) (λ v t _. watch h t)
+watch (p-wait h) s = ask tt (unmoved refl (λ e. refl)) (λ v t _. watch h t)
+watch (p-callback h) s = ask tt (unmoved refl (λ e. refl)) (λ v t _. watch h t)
 watch (p-get h) s = watch (h _) s
 watch (p-put {c = c} {v = v} e h) s = after (puts c v s) (watch h _)
 watch (p-is h) s = watch (h _) s
@@ -131,5 +165,5 @@ watch (p-fetch h) s = watch (h _) s
 watch (p-complete h) s = after (record { outs = λ e. refl; sets = refl; bytes = refl }) (watch h _)
 watch (p-no-wakes h) s = after (record { outs = λ e. refl; sets = refl; bytes = refl }) (watch h _)
 watch (p-waken h) s = after (record { outs = λ e. refl; sets = refl; bytes = refl }) (watch h _)
-watch (p-arrive {e = e} {n = n} h) s = ask tt (arrives e n s, leaves e n s) (λ v t _. watch h t)
-watch (p-send h) s = ask tt ((λ e x a r. no-receive refl a), λ e g. refl) (λ v t _. watch h t)
+watch (p-arrive {e = e} {n = n} h) s = ask tt (record { arrives = arrives e n s; leaves = leaves e n s; loads = λ e k. absurd (true≢false (sym k)) }) (λ v t _. watch h t)
+watch (p-send {e = e} h) s = ask tt (record { arrives = λ e x a r. no-receive refl a; leaves = λ e g. refl; loads = sends e s }) (λ v t _. watch h t)

@@ -10,6 +10,7 @@ use lib.ListN.{length, getD}
 use lib.Dec.{eqb}
 use Rattle.regs.specs.declared.Access.{Access}
 use Rattle.regs.specs.declared.Access.the-variants.{Read, Write, Receive, Transmit, Ep0Dma, Wait, Callback}
+use Rattle.regs.specs.declared.Reg.the-variants.{IntFg}
 use Rattle.regs.specs.declared.Dir.{Dir}
 use Rattle.regs.specs.declared.Dir.the-variants.{Out, In}
 use Rattle.state.specs.Driver.{Driver, epOn, lenOn, stampOn}
@@ -20,8 +21,8 @@ use Rattle.state.specs.State.{view}
 use Rattle.ring.specs.Waiting.{waiting, Same}
 use Rattle.marks.specs.Copies.{bytesAt}
 use Rattle.script.specs.Answers.{Answer, Refused, Done, Shown, ok, isNumber}
-use Rattle.script.specs.Calls.{Config, Op, slotted, aside, PollRead, Open, Close, Queue, calls, startRow}
-use Rattle.script.specs.Machine.{Buf, Call, start, begin, go, question, overruns, Event, Ans, ended, handed, told, Way, idle, busy, Machine, misfit, fed, call, started}
+use Rattle.script.specs.Calls.{Config, Op, slotted, aside, SetEnabled, PollRead, Aside, Open, Close, Queue, calls, startRow}
+use Rattle.script.specs.Machine.{Buf, Call, start, begin, go, question, overruns, Event, Ans, ended, handed, told, Way, idle, busy, Machine, over, misfit, fed, call, started}
 use Rattle.way.specs.Under.{drive, machineOf}
 use Rattle.book.specs.Pages.{Packet, bytesOf, stampsOf, OutPage, InPage, Pages}
 use Rattle.book.specs.Book.{isoOf, receiving, front, book}
@@ -156,6 +157,25 @@ pub data Counted (c : Call Config Op) (lent : Buf) (a : Ans Answer) (e : ℕ) (p
   one-more : (f x : ℕ) → f % 16 ≡ e % 16 → a ≡ handed (Receive f x) → length (p′ .waiting) ≡ 15 → p′ .lost ≡ p .lost + 1 → Counted c lent a e p p′
   none : (g : Config) → c ≡ start g → startRow g lent ≡ zero → p′ .lost ≡ 0 → Counted c lent a e p p′
 
+-- "Reset: none wait on that endpoint", and its stretch begins anew; the count of those turned away stays
+pub record EmptiedOut (p p′ : OutPage) : Type 0 where
+  pub waiting : p′ .waiting ≡ []
+  pub opened : p′ .opened ≡ false
+  pub admitted : p′ .admitted ≡ []
+  pub read : p′ .read ≡ []
+  pub lost : p′ .lost ≡ p .lost
+
+pub record EmptiedIn (p′ : InPage) : Type 0 where
+  pub waiting : p′ .waiting ≡ []
+  pub sending : p′ .sending ≡ false
+  pub queued : p′ .queued ≡ []
+  pub sent : p′ .sent ≡ []
+  pub passed : p′ .passed ≡ []
+
+abbrev pub Emptied : Dir → ℕ → Pages → Pages → Type 0
+Emptied Out e t t′ = EmptiedOut (t .outs e) (t′ .outs e)
+Emptied In e t t′ = EmptiedIn (t′ .ins e)
+
 -- an answer that hands out a receive address of OUT e
 abbrev pub givesTo : Access → ℕ → Bool
 givesTo (Read r f) e = false
@@ -170,6 +190,21 @@ abbrev pub addressed : Ans Answer → ℕ → Bool
 addressed (ended z) e = false
 addressed (handed q) e = givesTo q e
 addressed (told k) e = false
+
+-- a call that rows 1, 2, 3, 15 or 16 stop, or a question
+abbrev pub keepsOut : Way Answer Pages → Op → Bool
+keepsOut idle o = false
+keepsOut (busy i w k) o = cond (cond i (calls .aside o) false) false true
+
+abbrev pub notGoing : Way Answer Pages → ℕ → Bool
+notGoing idle v = true
+notGoing (busy i w k) v = over calls w v
+
+abbrev pub stopped : Call Config Op → Machine Answer Pages → Buf → Bool
+stopped (start g) n b = cond (eqb (startRow g b) zero) false true
+stopped (begin o) n b = cond (cond (calls .slots o) (misfit calls (book .driver) (n .st) b) false) true (keepsOut (n .way) o)
+stopped (go v) n b = cond (misfit calls (book .driver) (n .st) b) true (notGoing (n .way) v)
+stopped (question q) n b = true
 
 -- the length of a slot
 abbrev pub slotSize : Pages → ℕ
@@ -212,17 +247,29 @@ pub record Sentences (c : Call Config Op) (lent : Buf) (n : Machine Answer Pages
   pub decided : (e : ℕ) → Decides c n a e → Decided lent (n .st .outs e) (t′ .outs e)
   -- "All else, refusals too: no change": an interrupt changes the page of an OUT at its receive address alone
   pub unmoved : (e v : ℕ) → c ≡ go v → inInterrupt (n .way) ≡ true → addressed a e ≡ false → t′ .outs e ≡ n .st .outs e
+  -- a call that any row refuses leaves the pages of all endpoints
+  pub refusal-leaves : (r : ℕ) → a ≡ ended (Refused r) → (e : ℕ) → (t′ .outs e ≡ n .st .outs e) × (t′ .ins e ≡ n .st .ins e)
+  -- a question and a call that rows 1, 2, 3, 15 or 16 stop leave the book; so does an open, close or queue that any row refuses
+  pub stopped-leaves : stopped c n lent ≡ true → t′ ≡ n .st
+  pub refused-leaves : (o : Aside) (r : ℕ) → c ≡ begin (aside o) → a ≡ ended (Refused r) → t′ ≡ n .st
   -- "overruns": the count of Compared is that of the arrivals turned away since the start-up
   pub counted : (e : ℕ) → Counted c lent a e (n .st .outs e) (t′ .outs e)
   -- "Start-up: none wait, counts 0"
   pub starts-anew : (g : Config) → c ≡ start g → startRow g lent ≡ zero → (e : ℕ)
       → (t′ .outs e .lost ≡ 0) × (t′ .outs e .waiting ≡ []) × (t′ .ins e .waiting ≡ [])
+  -- "Reset: none wait on that endpoint": an endpoint that is enabled or disabled, in the call that hands out the first access
+  pub enabling-resets : (dir : Dir) (e : ℕ) (on : Bool) (q : Access) → c ≡ begin (slotted (SetEnabled dir e on)) → a ≡ handed q → Emptied dir e (n .st) t′
+  -- every endpoint, in the call in which a bus reset releases its flag
+  pub bus-reset-empties : (v : ℕ) → c ≡ go v → inInterrupt (n .way) ≡ false → a ≡ handed (Write IntFg 0 1) → (dir : Dir) (e : ℕ) → Emptied dir e (n .st) t′
   -- IN: "at most 2 wait"
   pub at-most-2 : (e : ℕ) → length (t′ .ins e .waiting) ≤ 2
   -- "each reaches the chip at most once and in order": those handed to the chip are a beginning of those queued
   pub sent-in-order : (e : ℕ) → (later : List (List ℕ)) × (t′ .ins e .sent ++ later ≡ t′ .ins e .queued)
   pub passed-then-waiting : (e : ℕ) → t′ .ins e .passed ++ t′ .ins e .waiting ≡ t′ .ins e .queued
   pub sent-is : (e : ℕ) → t′ .ins e .sent ≡ t′ .ins e .passed ++ cond (t′ .ins e .sending) (front (t′ .ins e .waiting)) []
+  -- where an interrupt hands out a transmit address and one waits then, that one is being sent, from that address
+  pub load-sends : (e x v : ℕ) → c ≡ go v → inInterrupt (n .way) ≡ true → a ≡ handed (Transmit e x) → 0 < length (t′ .ins e .waiting)
+      → BeingSent t′ e × (t′ .ins e .source ≡ x) × (t′ .ins e .load ≡ true)
   -- "no slot being sent is written", whatever the chip stores, where it may, before the next call
   pub unwritten : (b′ : Buf) → Chip t′ b b′ → Unwritten t′ b′
   -- demand 1: no address that is handed out reaches outside the lent buffer

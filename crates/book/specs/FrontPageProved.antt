@@ -17,7 +17,7 @@ use Rattle.ring.specs.Laws.{waiting-length}
 use Rattle.script.specs.Alike.{Phase}
 use Rattle.script.specs.Statics.{flag}
 use Rattle.script.specs.Answers.{Answer, Refused, Shown, ok}
-use Rattle.script.specs.Calls.{Config, Op, aside, Open, Close, Queue, calls, startRow}
+use Rattle.script.specs.Calls.{Config, Op, aside, Aside, Open, Close, Queue, calls, startRow}
 use Rattle.script.specs.Machine.{Buf, Call, start, begin, go, question, overruns, Event, Ans, ended, handed, told, blankA, Machine, fed, started}
 use Rattle.script.specs.Agree.{After, Ways, GoodA, agrees, from-start}
 use Rattle.way.specs.Under.{driverOf, drive, machineOf}
@@ -37,6 +37,10 @@ use Rattle.book.specs.Asides.{Opened, opened-by, Closed, closed-by, Queu
 use Rattle.book.specs.PollsWhole.{ended-same, one-call}
 use Rattle.book.specs.BookCalls.{Fine, start-fine, start-lost, start-anew, call-fine}
 use Rattle.book.specs.BookCalls as steps-of
+use Rattle.book.specs.Stops.{stopped-leaves}
+use Rattle.book.specs.RefusedCalls.{isStart, refusal-leaves}
+use Rattle.book.specs.Enabling.{enabling-resets}
+use Rattle.book.specs.BusResets.{bus-reset-empties}
 
 -- ---- from the relation of driver and book
 
@@ -71,12 +75,6 @@ record Before (m : Machine Answer Driver) (n : Machine Answer Pages) : Type 0 wh
   rest : Rest phase (m .buf) (m .st) (n .st)
   room : Kept m
   fine : Fine n
-
-abbrev isStart : Call Config Op → Bool
-isStart (start c) = true
-isStart (begin o) = false
-isStart (go v) = false
-isStart (question q) = false
 
 abbrev isTold : Ans Answer → Bool
 isTold (ended a) = false
@@ -148,6 +146,11 @@ module _ (c : Call Config Op) (l : Buf) (m : Machine Answer Driver) (n : Machine
     load-holds = λ e z q. subst (λ (w : Ans Answer). GoodA driverOf book agree calls w (x .1 .buf) (y .1 .st)) q (a .good) .0;
   }
 
+  refused-leaves : (o : Aside) (r : ℕ) → c ≡ begin (aside o) → x .0 ≡ ended (Refused r) → y .1 .st ≡ n .st
+  refused-leaves (Open e) r p q = of-open e (Refused r) p q .leaves r refl
+  refused-leaves (Close e) r p q = of-close e p (Refused r) q .leaves r refl
+  refused-leaves (Queue e bytes) r p q = of-queue e bytes p (Refused r) q .leaves r refl
+
   sentences : ((e : ℕ) → Counted c l (x .0) e (n .st .outs e) (y .1 .st .outs e)) → Sentences c l n (x .0) (x .1 .st) (x .1 .buf) (y .1 .st)
   sentences counted = record {
     read-then-waiting = ledger.read-then-queued (a .rest);
@@ -156,6 +159,9 @@ module _ (c : Call Config Op) (l : Buf) (m : Machine Answer Driver) (n : Machine
     open-waits = open-there (a .rest);
     decided = λ e d. let h = ap isStart (d .continues) in steps-of.decided c (x .0) e n (before h .fine) l (a .same) (most-15 h e) d;
     unmoved = λ e v p i g. let k = before (ap isStart p) in steps-of.unmoved c (x .0) e v n (k .fine) l (a .same) p i g;
+    refusal-leaves = λ r g e. let z = refusal-leaves c (x .0) n (λ h. before h .fine) l (a .same) r g in (z .outs e, z .ins e);
+    stopped-leaves = stopped-leaves (x .0) n l c;
+    refused-leaves = refused-leaves;
     counted = counted;
     at-most-2 = ledger.at-most-2 (a .rest);
     sent-in-order = ledger.once-in-order (a .rest);
@@ -163,6 +169,9 @@ module _ (c : Call Config Op) (l : Buf) (m : Machine Answer Driver) (n : Machine
     sent-is = λ e. a .rest .ins e .reached;
     starts-anew = λ g p row e. subst (λ (c : Call Config Op). let t = written (x .0) c n l .1 .st in (t .outs e .lost ≡ 0) × (t .outs e .waiting ≡ []) × (t .ins e .waiting ≡ [])) (sym p)
         (subst (λ (r : ℕ). let t = started calls (book .driver) (fed book (x .0)) g r n l .1 .st in (t .outs e .lost ≡ 0) × (t .outs e .waiting ≡ []) × (t .ins e .waiting ≡ [])) (sym row) (start-anew (x .0) g n l e));
+    enabling-resets = λ dir e on q p g. let k = before (ap isStart p) in enabling-resets c (x .0) dir e on q n (k .fine) l (a .same) p g;
+    bus-reset-empties = λ v p i g. let k = before (ap isStart p) in bus-reset-empties c (x .0) v n (k .fine) l (a .same) p i g;
+    load-sends = λ e z v p i g w. let k = before (ap isStart p) in steps-of.load-sends c (x .0) e z v n (k .fine) l (a .same) p i g w;
     unwritten = kept-unwritten a;
     inside = lies-inside a;
   }

@@ -33,7 +33,13 @@ pub mod InterruptParts
 pub mod BookTracks
 pub mod BookCounts
 pub mod BookDecides
+pub mod Releases
+pub mod Refusing
 pub mod BookCalls
+pub mod Stops
+pub mod RefusedCalls
+pub mod Enabling
+pub mod BusResets
 pub mod Asides
 pub mod PollsWhole
 pub mod Lent

@@ -52,12 +52,18 @@ module _ (dir : Dir) (e : ℕ) (lent b : Buf) (n : Machine Answer Pages) (d : Dr
     open-waits = x .open-waits;
     decided = λ e y. let p = y .continues in let z : _≡_ {A = ℕ} 0 1 = cc in absurd (omega arith);
     unmoved = λ e v p i g. let z : _≡_ {A = ℕ} 0 1 = cc in absurd (omega arith);
+    refusal-leaves = λ r q e. (refl, refl);
+    stopped-leaves = λ h. refl;
+    refused-leaves = λ o r p q. refl;
     counted = λ e. same refl;
     starts-anew = λ g p row e. let z : _≡_ {A = ℕ} 0 1 = cc in absurd (omega arith);
+    enabling-resets = λ dir e on q p g. let z : _≡_ {A = ℕ} 0 1 = cc in absurd (omega arith);
+    bus-reset-empties = λ v p i g dir e. let z : _≡_ {A = ℕ} 0 1 = cc in absurd (omega arith);
     at-most-2 = x .at-most-2;
     sent-in-order = x .sent-in-order;
     passed-then-waiting = x .passed-then-waiting;
     sent-is = x .sent-is;
+    load-sends = λ e y v p i g w. let z : _≡_ {A = ℕ} 0 1 = cc in absurd (omega arith);
     unwritten = x .unwritten;
     inside = tt;
   }
