@@ -93,7 +93,7 @@ fair-1 begins w = λ h. differ h
 fair-1 pollSetup w = tt
 fair-1 pollOut w = ((λ h. differ h, λ h. differ h), tt)
 fair-1 pollIn w = ((λ h. differ h, λ h. differ h), tt)
-fair-1 pollStatus w = ((λ h. differ h, λ h. differ h), tt)
+fair-1 pollStatus w = ((λ h. differ h, λ h. differ h), tt, tt)
 
 pub laws : Laws control R
 laws = record {

@@ -57,7 +57,7 @@ use Rattle.proof_usb20.specs.Tokens.{law-interrupt}
 -- the observer of an endpoint's data toggle: by its log a poll is done exactly if a completion is there, an interrupt
 -- has looked, and the record has the bit with the last new packet, whether a completion is there, its length
 abbrev pub toggles : Dir → ℕ → Observer
-toggles D E = record { Log = Track; before = before; opens = opens D E; saw = saw D E; closes = closes D E; Brings = λ _ _ _. Unit {0}; Fair = Fair D E; Allowed = λ _ _. Unit {0}; Asks = λ _ _. Unit {0}; View = Seen; view = view D E; Stands = Fits; Meant = λ x. isOn (x .iso) ≡ false }
+toggles D E = record { Log = Track; before = before; opens = opens D E; saw = saw D E; closes = closes D E; Brings = λ _ _ _. Unit {0}; Fair = Fair D E; Allowed = λ _ _ _. Unit {0}; Asks = λ _ _. Unit {0}; View = Seen; view = view D E; Stands = Fits; Meant = λ x. isOn (x .iso) ≡ false }
 
 not-ep0 : (D : Dir) (E : ℕ) → (E % 16 ≡ 0 → ⊥) → (d : Dir) → Else D E d 0
 not-ep0 Out E h Out q = h (key-same Out E 0 q)
@@ -101,11 +101,11 @@ module _ (D : Dir) (E : ℕ) (z : (d : Dir) → Else D E d 0) where
   ups (at-ask _ k) = at-ask tt (λ v t _ h. ups (k v t tt h))
 
   few : (o : Op) {w : Track} {out : tree.Out St Answer} → Follow D E (follow.Ends D E o) w out
-      → Sees (toggles D E) (λ _. Unit {0}) (follow.EndsFew D E o) w out
+      → Sees (toggles D E) (λ _ _. Unit {0}) (follow.EndsFew D E o) w out
   few o x = watch-more x (λ x a t p. (p .0, λ _. p .1))
 
   law-of : (o : Op) (w : Track) (s : St) → Fits w (view D E (s .0)) → isOn (epOn (s .0) D E .iso) ≡ false
-      → Sorting (s .0) → Sees (toggles D E) (λ _. Unit {0}) (follow.EndsFew D E o) (opens D E o w) (run conc (code o) s)
+      → Sorting (s .0) → Sees (toggles D E) (λ _ _. Unit {0}) (follow.EndsFew D E o) (opens D E o w) (run conc (code o) s)
   law-of interrupt w s r i k = law-interrupt D E z w s r i k
   law-of (slotted o) w s r i k = few (slotted o) (of-slotted o w s r i k)
   law-of (other o) w s r i k = few (other o) (of-other o w s r i k)

@@ -56,7 +56,7 @@ waits-out : (a : Awaited) (p : Pipe) (x : View) → isReady (p .out .answers) �
 waits-out nothing p x h w = rests-out p x h w
 waits-out taken p x h w = (w .0, on)
 waits-out (given last) p x h w = (w .0, w .1, gives-out last p x (w .2))
-waits-out confirmed p x h w = w
+waits-out (confirmed s) p x h w = w
 
 pub packet-out : {rx tx l : ℕ} {p : Pipe} {a : Awaited} {u : Bool} {x : View} → isReady (p .out .answers) ≡ true
     → Rel rx tx l p a u x → Rel (flip (nak rx)) tx l (after (packet Out) p) a u (setOut completed x)
@@ -78,7 +78,7 @@ waits-in : (a : Awaited) (p : Pipe) (x : View) → isReady (p .inn .answers) ≡
 waits-in nothing p x h w = rests-in p x h w
 waits-in taken p x h w = w
 waits-in (given last) p x h w = (w .0, w .1, gives-in last p x (w .2))
-waits-in confirmed p x h w = (w .0, on)
+waits-in (confirmed s) p x h w = (w .0, on, w .2)
 
 pub packet-in : {rx tx l : ℕ} {p : Pipe} {a : Awaited} {u : Bool} {x : View} → isReady (p .inn .answers) ≡ true
     → Rel rx tx l p a u x → Rel rx (flip (nak tx)) l (after (packet In) p) a u (setIn completed x)

@@ -6,7 +6,7 @@ use mathlib.Core.List.{List, [], _∷_}
 use mathlib.Core.Path.{_≡_, refl}
 use Prim.Native.Nat.{ℕ}
 use Rattle.regs.specs.declared.Dir.the-variants.{Out, In}
-use Rattle.proof_usb20.specs.Pipe.{dataReady, Event, packet, token, Choice, takes, gives, confirms, rejects, over}
+use Rattle.proof_usb20.specs.Pipe.{dataReady, Event, packet, token, Setting, keeps, Choice, takes, gives, confirms, rejects, over}
 use Rattle.proof_usb20.specs.Log.{Log, happens, set-up, choose}
 
 -- the bus moves, or the function does
@@ -41,11 +41,12 @@ controlRead first (m ∷ ms) n lost = says (gives m first false) ∷ sends (cont
 
 -- a control write of so many packets and one more
 abbrev pub controlWrite : Bool → List ℕ → List Move
-controlWrite first [] = says (takes first) ∷ takesOne (says confirms ∷ sends [])
+controlWrite first [] = says (takes first) ∷ takesOne (says (confirms keeps) ∷ sends [])
 controlWrite first (m ∷ ms) = says (takes first) ∷ takesOne (controlWrite false ms)
 
-abbrev pub noData : List Move
-noData = says confirms ∷ sends []
+-- `s`: of a Set Address, or of another request
+abbrev pub noData : Setting → List Move
+noData s = says (confirms s) ∷ sends []
 
 -- not exempt, and over
 abbrev pub Ordinary : Log → Type 0
@@ -70,8 +71,8 @@ ordinary-read w ms n lost = reads-on true lost ms n (set-up w) refl refl refl
 pub ordinary-write : (w : Log) (ms : List ℕ) → Ordinary (play (controlWrite true ms) (set-up w))
 ordinary-write w ms = writes-on true ms (set-up w) refl refl refl
 
-pub ordinary-no-data : (w : Log) → Ordinary (play noData (set-up w))
-ordinary-no-data w = (refl, refl)
+pub ordinary-no-data : (w : Log) (s : Setting) → Ordinary (play (noData s) (set-up w))
+ordinary-no-data w s = (refl, refl)
 
 pub ordinary-reject : (w : Log) → play (says rejects ∷ []) (set-up w) .exempt ≡ false
 ordinary-reject w = refl
