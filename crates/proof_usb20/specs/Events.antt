@@ -103,10 +103,18 @@ token-out {rx = rx} {tx = tx} {l = l} {p = p} {a = a} {u = u} {x = x} m e r = by
     by true false h e = differ (sym h ∙ (sym (r .inn .armed) ∙ e))
     by false true h e = differ (sym e ∙ (r .inn .armed ∙ h))
 
--- the token IN, where no packet OUT is ready
-pub no-packet-out : {rx tx l : ℕ} {p : Pipe} {a : Awaited} {u : Bool} {x : View} → Rel rx tx l p a u x
-    → dataReady (p .out .answers) ≡ false → isOn (x .out .armed) ≡ false
-no-packet-out r h = r .out .armed ∙ h
+-- ---- the token IN: the last packet OUT went through, if it was ready still
+
+pub token-in : {rx tx l : ℕ} {p : Pipe} {a : Awaited} {u : Bool} {x : View} (m : Bool) → isOn (x .out .armed) ≡ m
+    → Rel rx tx l p a u x → Rel (cond m (nakflip rx) rx) tx l (after (token In) p) a u (cond m (setOut completed x) x)
+token-in {rx = rx} {tx = tx} {l = l} {p = p} {a = a} {u = u} {x = x} m e r = by m (dataReady (p .out .answers)) refl e
+  where
+    by : (m d : Bool) → dataReady (p .out .answers) ≡ d → isOn (x .out .armed) ≡ m
+        → Rel (cond m (nakflip rx) rx) tx l (with Out (cond d (gone (p .out)) (p .out)) p) a u (cond m (setOut completed x) x)
+    by true true h e = let q = packet-out (data-is-ready (p .out .answers) h) r in record { stage = r .stage; out = went-hidden rx (p .out) (x .out) (r .out); inn = r .inn; waits = q .waits; size = r .size; setup = r .setup }
+    by false false h e = r
+    by true false h e = differ (sym h ∙ (sym (r .out .armed) ∙ e))
+    by false true h e = differ (sym e ∙ (r .out .armed ∙ h))
 
 -- ---- a setup packet
 
