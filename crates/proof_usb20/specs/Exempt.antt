@@ -96,7 +96,7 @@ gives-exempt : (a : Answer) (w : Log) → w .exempt ≡ true → GivesSetup a w
 gives-exempt (Refused n) w h = tt
 gives-exempt (End n ws) w h = tt
 gives-exempt NotYet w h = λ z. differ (sym z ∙ h)
-gives-exempt (Done bytes) w h = λ z. differ (sym z ∙ h)
+gives-exempt (Done bytes) w h = (λ z. differ (sym z ∙ h), λ z. differ (sym z ∙ h))
 gives-exempt (Shown bytes stamp) w h = tt
 
 begins-exempt : (a : Answer) (w : Log) → w .exempt ≡ true → Begins a w

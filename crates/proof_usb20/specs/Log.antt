@@ -311,12 +311,12 @@ Wrote NotYet w = Unit {0}
 Wrote (Done bytes) w = w .exempt ≡ false → w .awaits ≡ confirmed (w .wrote)
 Wrote (Shown bytes stamp) w = Unit {0}
 
--- a setup's poll gives a packet exactly if there is one
+-- a setup's poll gives a packet exactly if there is one, and that has eight bytes (8.5.3)
 abbrev pub GivesSetup : Answer → Log → Type 0
 GivesSetup (Refused n) w = Unit {0}
 GivesSetup (End n ws) w = Unit {0}
 GivesSetup NotYet w = Untaken false w
-GivesSetup (Done bytes) w = Untaken true w
+GivesSetup (Done bytes) w = Untaken true w × (w .exempt ≡ false → length bytes ≡ 8)
 GivesSetup (Shown bytes stamp) w = Unit {0}
 
 -- a stage's begin is refused with 9 only after a setup packet

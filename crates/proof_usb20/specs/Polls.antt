@@ -11,12 +11,13 @@ use lib.ListN.{length}
 use borrow.Author.Tests.{eqb-true}
 use Rattle.regs.specs.declared.Dir.the-variants.{Out, In}
 use Rattle.state.specs.declared.Control.{Control}
+use Rattle.state.specs.declared.Globals.{Globals}
 use Rattle.script.specs.Tree as tree
 use Rattle.script.specs.Cells.{ep-cell, control-cell, globals-cell}
 use Rattle.script.specs.Script.{run, no-wakes}
 use Rattle.script.specs.Statics.{isOn, withReady, withSetup}
 use Rattle.script.specs.Answers.{Answer, Refused, NotYet, Done}
-use Rattle.script.specs.Control.{SETUP, DATA-OUT, DATA-IN, ACCEPT, no-control, dataInOf}
+use Rattle.script.specs.Control.{SETUP, DATA-OUT, DATA-IN, ACCEPT, no-control, dataInOf, setupBytes}
 use Rattle.script.specs.Calls.{slotted, other, PollDataOut, PollSetup, PollDataIn, PollAccept, code}
 use Rattle.ops.specs.Rings.{St}
 use Rattle.ops.specs.Conc.{conc}
@@ -78,11 +79,15 @@ done-none s = ap (λ (x : View). x .control) (none-view s)
 
 -- ---- setup
 
+eight : (g : Globals) → length (setupBytes g) ≡ 8
+unfolding setupBytes
+eight g = refl
+
 pub law-poll-setup : Law (other PollSetup)
 law-poll-setup w s (inl e) z = exempt-law (other PollSetup) tt w s e
 law-poll-setup w s (inr r) z =
     watch-cond (eqb (s .0 .globals .stage) 2)
-    (λ _. watch-cond (eqb (s .0 .control .sort) SETUP) (λ q. watch-cond (isOn (s .0 .globals .«setup_ready»)) (λ o. at-end (taken-setup (w .awaits) r (eqb-true (s .0 .control .sort) SETUP q), λ _. sym (r .setup) ∙ o)) (λ o. at-end (inr r, λ _. sym (r .setup) ∙ o))) (λ _. at-end (inr r, tt)))
+    (λ _. watch-cond (eqb (s .0 .control .sort) SETUP) (λ q. watch-cond (isOn (s .0 .globals .«setup_ready»)) (λ o. at-end (taken-setup (w .awaits) r (eqb-true (s .0 .control .sort) SETUP q), (λ _. sym (r .setup) ∙ o, λ _. eight (s .0 .globals)))) (λ o. at-end (inr r, λ _. sym (r .setup) ∙ o))) (λ _. at-end (inr r, tt)))
     (λ _. at-end (inr r, tt))
   where
     x : St
