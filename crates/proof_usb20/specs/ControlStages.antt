@@ -222,10 +222,10 @@ zeros (suc n) = 0 ∷ zeros n
 abbrev config : Config
 config = record { size = 64; count = 1; callback = false }
 
--- start-up, and EP0's start
+-- start-up, and EP0's start; eight bytes in EP0's slot
 abbrev pub up : Play
 up =
-    let y = drive (start config) (record { way = idle; st = driverOf .fresh config; buf = [] }) (zeros 64) in
+    let y = drive (start config) (record { way = idle; st = driverOf .fresh config; buf = [] }) (1 ∷ 2 ∷ 3 ∷ 4 ∷ 5 ∷ 6 ∷ 7 ∷ 8 ∷ zeros 56) in
     let p : Play = record { machine = y .1; seen = startedBy control (y .0); answer = y .0 } in
     done (does (other (Start 64))) (on 16 (does (other (Start 64))) (p .seen .under) p)
 
@@ -234,11 +234,12 @@ abbrev setting : List Does → List Does
 setting xs = serving 32 1 0 ∷ does (other BeginSetup) ∷ does (other PollSetup) ∷ xs
 
 pub data Transfer : Type 0 where
-  control-read control-write hidden-write set-address : Transfer
+  setup-alone control-read control-write hidden-write set-address : Transfer
 
 -- the status is of IN 0, or of OUT 0 with tog_ok; of the hidden packet OUT no interrupt tells, but
 -- the status stage's token IN while the bus is busy
 abbrev pub steps : Transfer → List Does
+steps setup-alone = setting []
 steps control-read = setting (does (slotted (BeginDataIn (1 ∷ 2 ∷ []) true true)) ∷ serving 2 1 32 ∷ does (other PollDataIn) ∷ serving 2 1 64 ∷ does (other PollDataIn) ∷ [])
 steps control-write = setting (does (other (BeginDataOut 64 true)) ∷ serving 2 1 64 ∷ does (slotted (PollDataOut 64)) ∷ does (other BeginAccept) ∷ serving 2 1 32 ∷ does (other PollAccept) ∷ [])
 steps hidden-write = setting (does (other (BeginDataOut 64 true)) ∷ serving 2 0 32 ∷ does (slotted (PollDataOut 64)) ∷ does (other BeginAccept) ∷ serving 2 1 32 ∷ does (other PollAccept) ∷ [])
@@ -249,12 +250,13 @@ none-of [] = []
 none-of (x ∷ xs) = false ∷ none-of xs
 
 abbrev pub answerOf : Transfer → Ans Answer
+answerOf setup-alone = ended (Done (1 ∷ 2 ∷ 3 ∷ 4 ∷ 5 ∷ 6 ∷ 7 ∷ 8 ∷ []))
 answerOf control-read = ended (Done [])
 answerOf control-write = ended (Done [])
 answerOf hidden-write = ended (Done [])
 answerOf set-address = ended (End 0 [])
 
--- never exempt, and its last poll is done
+-- never exempt, and its last poll is done; a setup's gives the bytes of EP0's slot
 pub ordinary-run : (t : Transfer) → (exempts (steps t) up ≡ none-of (steps t)) × (last (steps t) up ≡ answerOf t)
 unfolding alloc-alloc.allocateEp0Of alloc-alloc.withNext alloc-alloc.taken alloc-alloc.slotsOf
     alloc-buffer.goodBuffer alloc-buffer.goodSize alloc-buffer.fits bits-bit.isSet bits-bit.withBit
@@ -270,6 +272,7 @@ unfolding alloc-alloc.allocateEp0Of alloc-alloc.withNext alloc-alloc.taken alloc
     script-isoin.lateWalk script-isoout.checkWalk script-statics.isOn script-statics.isoOuts
     script-statics.isoInEvery state-driver.epOn state-driver.key state-driver.withOn state-fresh.freshDriver
     state-fresh.noStamps state-fresh.filled state-wakes.woken state-wakes.listed state-wakes.wakeCode
+ordinary-run setup-alone = (refl, refl)
 ordinary-run control-read = (refl, refl)
 ordinary-run control-write = (refl, refl)
 ordinary-run hidden-write = (refl, refl)
