@@ -30,6 +30,39 @@ use Rattle.proof_usb20.specs.Polls.{law-poll-setup, law-poll-data-out, l
 use Rattle.proof_usb20.specs.Serving.{law-interrupt}
 use Rattle.proof_usb20.specs.Switching.{law-set-enabled}
 use Rattle.proof_usb20.specs.Tasks.{law-begin-read, law-poll-read, law-begin-write, law-poll-write, law-allocate, law-allocate-all, law-start, law-bus-enable, law-bus-disable, law-microframe, law-is-stalled, law-set-paced, law-advance, law-aside, law-set-stalled, law-bus-poll, aside-view}
+use mathlib.Core.Bool.{Bool, true, false, cond}
+use Rattle.regs.specs.declared.Access.{Access}
+use Rattle.regs.specs.declared.Access.the-variants.{Read, Write, Receive, Transmit, Ep0Dma, Wait, Callback}
+use Rattle.regs.specs.declared.Reg.the-variants.{IntFg, IntSt, MisSt, FrameNo, EpRxCtrl, EpTxCtrl}
+use Rattle.script.specs.Every.{sameReg}
+use Rattle.script.specs.Answers.{End, Done}
+use Rattle.script.specs.Machine.{Call, begin, go, Ans, ended, idle}
+use Rattle.way.specs.Under.{drive}
+use Prim.Native.Nat.{suc}
+use Rattle.proof_usb20.specs.Observer.{Watched, watched, Under, at-rest, doing, starting, serves, noted}
+use Rattle.alloc.specs.Alloc as alloc-alloc
+use Rattle.alloc.specs.Buffer as alloc-buffer
+use Rattle.bits.specs.Bit as bits-bit
+use Rattle.bits.specs.Walk as bits-walk
+use Rattle.frame.specs.Usb20 as frame-usb20
+use Rattle.marks.specs.Copies as marks-copies
+use Rattle.ops.specs.Records as ops-records
+use Rattle.ops.specs.Rings as ops-rings
+use Rattle.regs.specs.ControlWord as regs-controlword
+use Rattle.regs.specs.Enables as regs-enables
+use Rattle.regs.specs.Registers as regs-registers
+use Rattle.regs.specs.Status as regs-status
+use Rattle.script.specs.Answers as script-answers
+use Rattle.script.specs.Calls as script-calls
+use Rattle.script.specs.Control as script-control
+use Rattle.script.specs.Handler as script-handler
+use Rattle.script.specs.IsoIn as script-isoin
+use Rattle.script.specs.IsoOut as script-isoout
+use Rattle.script.specs.Statics as script-statics
+use Rattle.state.specs.Driver as state-driver
+use Rattle.state.specs.Fresh as state-fresh
+use Rattle.state.specs.Wakes as state-wakes
+use Rattle.ring.specs.Slot as ring-slot
 
 -- the observer of EP0: by its log EP0's words are as the pipe says, a poll is done exactly after the completion, and an
 -- address is written by an accept's poll alone, after its completion, or is 0 at a bus reset
@@ -93,7 +126,7 @@ fair-1 begins w = λ h. differ h
 fair-1 pollSetup w = tt
 fair-1 pollOut w = ((λ h. differ h, λ h. differ h), tt)
 fair-1 pollIn w = ((λ h. differ h, λ h. differ h), tt)
-fair-1 pollStatus w = ((λ h. differ h, λ h. differ h), tt)
+fair-1 pollStatus w = ((λ h. differ h, λ h. differ h), tt, tt)
 
 pub laws : Laws control R
 laws = record {
@@ -127,3 +160,120 @@ code-control-stages c b row xs a first e ms h r = code-from-start control laws c
     meant : (ms : List Made) (n : Machine Answer Driver) → CodeMeaning control n ms
     meant [] n = tt
     meant (m ∷ ms) n = (tt, meant ms (left m))
+
+-- ---- nothing of an ordinary transfer is exempt: calls with readings, computed by the check
+
+-- an operation; what is read if it is an interrupt: the flags, whether the bus is free, the status
+pub record Does : Type 0 where
+  pub op : Op
+  pub flags : ℕ
+  pub free : ℕ
+  pub status : ℕ
+
+abbrev does : Op → Does
+does o = record { op = o; flags = 0; free = 1; status = 0 }
+
+abbrev serving : ℕ → ℕ → ℕ → Does
+serving f b s = record { op = interrupt; flags = f; free = b; status = s }
+
+-- EP0's control words read back as they were written, the frame is 8
+abbrev reading : Does → Log → Access → ℕ
+reading x w (Read r e) = cond (sameReg r EpRxCtrl) (w .rx) (cond (sameReg r EpTxCtrl) (w .tx) (cond (sameReg r IntFg) (x .flags) (cond (sameReg r MisSt) (x .free) (cond (sameReg r IntSt) (x .status) (cond (sameReg r FrameNo) 8 0)))))
+reading x w (Write r e v) = 0
+reading x w (Receive e y) = 0
+reading x w (Transmit e y) = 0
+reading x w (Ep0Dma y) = 0
+reading x w (Wait n) = 0
+reading x w Callback = 0
+
+pub record Play : Type 0 where
+  pub machine : Machine Answer Driver
+  pub seen : Watched control
+  pub answer : Ans Answer
+
+abbrev called : Call Config Op → Play → Play
+called c p =
+    let y = drive c (p .machine) (p .machine .buf) in
+    record { machine = y .1; seen = noted control c (p .machine .buf) (y .0) (serves (y .1 .way)) (p .seen); answer = y .0 }
+
+-- so many continues at most
+abbrev on : ℕ → Does → Under → Play → Play
+on zero x u p = p
+on (suc n) x at-rest p = p
+on (suc n) x (doing o q) p = let r = called (go (reading x (p .seen .log) q)) p in on n x (r .seen .under) r
+on (suc n) x starting p = let r = called (go 0) p in on n x (r .seen .under) r
+
+abbrev done : Does → Play → Play
+done x p = let r = called (begin (x .op)) p in on 16 x (r .seen .under) r
+
+-- whether the log is exempt after each of the operations, and the last answer
+abbrev pub exempts : List Does → Play → List Bool
+exempts [] p = []
+exempts (x ∷ xs) p = let r = done x p in r .seen .log .exempt ∷ exempts xs r
+
+abbrev pub last : List Does → Play → Ans Answer
+last [] p = p .answer
+last (x ∷ xs) p = last xs (done x p)
+
+abbrev zeros : ℕ → List ℕ
+zeros zero = []
+zeros (suc n) = 0 ∷ zeros n
+
+abbrev config : Config
+config = record { size = 64; count = 1; callback = false }
+
+-- start-up, and EP0's start; eight bytes in EP0's slot
+abbrev pub up : Play
+up =
+    let y = drive (start config) (record { way = idle; st = driverOf .fresh config; buf = [] }) (1 ∷ 2 ∷ 3 ∷ 4 ∷ 5 ∷ 6 ∷ 7 ∷ 8 ∷ zeros 56) in
+    let p : Play = record { machine = y .1; seen = startedBy control (y .0); answer = y .0 } in
+    done (does (other (Start 64))) (on 16 (does (other (Start 64))) (p .seen .under) p)
+
+-- a setup packet, and its poll
+abbrev setting : List Does → List Does
+setting xs = serving 32 1 0 ∷ does (other BeginSetup) ∷ does (other PollSetup) ∷ xs
+
+pub data Transfer : Type 0 where
+  setup-alone control-read control-write hidden-write set-address : Transfer
+
+-- the status is of IN 0, or of OUT 0 with tog_ok; of the hidden packet OUT no interrupt tells, but
+-- the status stage's token IN while the bus is busy
+abbrev pub steps : Transfer → List Does
+steps setup-alone = setting []
+steps control-read = setting (does (slotted (BeginDataIn (1 ∷ 2 ∷ []) true true)) ∷ serving 2 1 32 ∷ does (other PollDataIn) ∷ serving 2 1 64 ∷ does (other PollDataIn) ∷ [])
+steps control-write = setting (does (other (BeginDataOut 64 true)) ∷ serving 2 1 64 ∷ does (slotted (PollDataOut 64)) ∷ does (other BeginAccept) ∷ serving 2 1 32 ∷ does (other PollAccept) ∷ [])
+steps hidden-write = setting (does (other (BeginDataOut 64 true)) ∷ serving 2 0 32 ∷ does (slotted (PollDataOut 64)) ∷ does (other BeginAccept) ∷ serving 2 1 32 ∷ does (other PollAccept) ∷ [])
+steps set-address = setting (does (other (BeginAcceptSetAddress 5)) ∷ serving 2 1 32 ∷ does (other PollAccept) ∷ [])
+
+abbrev pub none-of : List Does → List Bool
+none-of [] = []
+none-of (x ∷ xs) = false ∷ none-of xs
+
+abbrev pub answerOf : Transfer → Ans Answer
+answerOf setup-alone = ended (Done (1 ∷ 2 ∷ 3 ∷ 4 ∷ 5 ∷ 6 ∷ 7 ∷ 8 ∷ []))
+answerOf control-read = ended (Done [])
+answerOf control-write = ended (Done [])
+answerOf hidden-write = ended (Done [])
+answerOf set-address = ended (End 0 [])
+
+-- never exempt, and its last poll is done; a setup's gives the bytes of EP0's slot
+pub ordinary-run : (t : Transfer) → (exempts (steps t) up ≡ none-of (steps t)) × (last (steps t) up ≡ answerOf t)
+unfolding alloc-alloc.allocateEp0Of alloc-alloc.withNext alloc-alloc.taken alloc-alloc.slotsOf
+    alloc-buffer.goodBuffer alloc-buffer.goodSize alloc-buffer.fits bits-bit.isSet bits-bit.withBit
+    bits-walk.bitsFrom frame-usb20.indexOf frame-usb20.microframe frame-usb20.frameNumber frame-usb20.frameOf
+    marks-copies.copied ops-records.allocatedEp0 ops-records.startedWith ops-rings.wordAt ops-rings.filledEp0
+    ops-rings.placeOn regs-controlword.status regs-controlword.withToggle regs-controlword.toggle
+    regs-controlword.ack regs-controlword.withResponse regs-controlword.response regs-controlword.wordOf
+    regs-controlword.nakflip regs-controlword.nak regs-controlword.flip regs-enables.isOn regs-enables.inEnabled regs-enables.outEnabled
+    regs-registers.fitsIn regs-status.isIn regs-status.token regs-status.tokenNumbered
+    regs-status.endpoint regs-status.isOut regs-status.isSof script-calls.startRow script-control.setupBytes
+    script-handler.ownIn script-handler.looks script-handler.isoFor script-handler.inNaks script-handler.outNaks
+    script-handler.waitsForBulk script-handler.sameOut script-handler.waitsForIso script-isoin.sofWalk
+    script-isoin.lateWalk script-isoout.checkWalk script-statics.isOn script-statics.isoOuts
+    script-statics.isoInEvery state-driver.epOn state-driver.key state-driver.withOn state-fresh.freshDriver
+    state-fresh.noStamps state-fresh.filled state-wakes.woken state-wakes.listed state-wakes.wakeCode
+ordinary-run setup-alone = (refl, refl)
+ordinary-run control-read = (refl, refl)
+ordinary-run control-write = (refl, refl)
+ordinary-run hidden-write = (refl, refl)
+ordinary-run set-address = (refl, refl)

@@ -37,9 +37,10 @@ use Rattle.ops.specs.Rings.{St}
 use Rattle.ops.specs.Conc.{conc}
 use Rattle.book.specs.Sorting.{Sorting}
 use Rattle.proof_usb20.specs.Sequence as log
-use Rattle.proof_usb20.specs.Sequence.{before, opens, saw, closes, Fair}
+use Rattle.proof_usb20.specs.Sequence.{before, opens, saw, closes, Fair, own, Writing, unwritten-yet, wrote, Leaves}
 use Rattle.proof_usb20.specs.Observer.{Observer, Under, at-rest, doing, starting, Watched, startedBy, ReadAt, Read, Reads, All, Meaning}
-use Rattle.proof_usb20.specs.Watch.{at-end, at-ask, watch-more}
+use Rattle.proof_usb20.specs.Watch.{Along, at-end, at-ask, watch-more}
+use Rattle.regs.specs.declared.Access.{Access}
 use Rattle.proof_usb20.specs.Runs.{Laws, Sees, Ups, Only, from-start}
 use Rattle.proof_usb20.specs.Follow as follow
 use Rattle.proof_usb20.specs.Follow.{seenOf, view, Follow}
@@ -49,7 +50,7 @@ use Rattle.book.specs.CodeReadings.{Steps}
 use Rattle.proof_usb20.specs.CodeRuns.{left, CodeReads, CodeMeaning, CodeAll, code-from-start}
 use Rattle.proof_usb20.specs.Calm.{Off, Quiet, loose, q-resultless, q-bind, q-ret, q-write, q-wait, q-reg, q-int-en}
 use Rattle.proof_usb20.specs.Reading.{law-begin-read, law-poll-read, law-poll-write, law-begin-write}
-use Rattle.proof_usb20.specs.Enabling.{law-set-enabled}
+use Rattle.proof_usb20.specs.Enabling.{law-set-enabled, WordLaw, leaves-any, leaves-enabled, leaves-stalled, leaves-read, leaves-write, leaves-poll, among-all, never}
 use Rattle.proof_usb20.specs.Others.{law-bus-enable, law-bus-disable, law-microframe, law-is-stalled, law-set-paced, law-advance, law-aside, aside-view, law-setup, law-poll-setup, law-data-out, law-poll-data-out, law-data-in, law-poll-data-in, law-accept, law-accept-address, law-poll-accept, law-reject}
 use Rattle.proof_usb20.specs.Restarting.{law-set-stalled, law-bus-poll, law-allocate, law-allocate-all, law-start}
 use Rattle.proof_usb20.specs.Tokens.{law-interrupt}
@@ -57,7 +58,7 @@ use Rattle.proof_usb20.specs.Tokens.{law-interrupt}
 -- the observer of an endpoint's data toggle: by its log a poll is done exactly if a completion is there, an interrupt
 -- has looked, and the record has the bit with the last new packet, whether a completion is there, its length
 abbrev pub toggles : Dir → ℕ → Observer
-toggles D E = record { Log = Track; before = before; opens = opens D E; saw = saw D E; closes = closes D E; Brings = λ _ _ _. Unit {0}; Fair = Fair D E; Allowed = λ _ _. Unit {0}; Asks = λ _ _. Unit {0}; View = Seen; view = view D E; Stands = Fits; Meant = λ x. isOn (x .iso) ≡ false }
+toggles D E = record { Log = Track; before = before; opens = opens D E; saw = saw D E; closes = closes D E; Brings = λ _ _ _. Unit {0}; Fair = Fair D E; Allowed = λ _ _ _. Unit {0}; Asks = λ _ _. Unit {0}; View = Seen; view = view D E; Stands = Fits; Meant = λ x. isOn (x .iso) ≡ false }
 
 not-ep0 : (D : Dir) (E : ℕ) → (E % 16 ≡ 0 → ⊥) → (d : Dir) → Else D E d 0
 not-ep0 Out E h Out q = h (key-same Out E 0 q)
@@ -101,11 +102,11 @@ module _ (D : Dir) (E : ℕ) (z : (d : Dir) → Else D E d 0) where
   ups (at-ask _ k) = at-ask tt (λ v t _ h. ups (k v t tt h))
 
   few : (o : Op) {w : Track} {out : tree.Out St Answer} → Follow D E (follow.Ends D E o) w out
-      → Sees (toggles D E) (λ _. Unit {0}) (follow.EndsFew D E o) w out
+      → Sees (toggles D E) (λ _ _. Unit {0}) (follow.EndsFew D E o) w out
   few o x = watch-more x (λ x a t p. (p .0, λ _. p .1))
 
   law-of : (o : Op) (w : Track) (s : St) → Fits w (view D E (s .0)) → isOn (epOn (s .0) D E .iso) ≡ false
-      → Sorting (s .0) → Sees (toggles D E) (λ _. Unit {0}) (follow.EndsFew D E o) (opens D E o w) (run conc (code o) s)
+      → Sorting (s .0) → Sees (toggles D E) (λ _ _. Unit {0}) (follow.EndsFew D E o) (opens D E o w) (run conc (code o) s)
   law-of interrupt w s r i k = law-interrupt D E z w s r i k
   law-of (slotted o) w s r i k = few (slotted o) (of-slotted o w s r i k)
   law-of (other o) w s r i k = few (other o) (of-other o w s r i k)
@@ -195,33 +196,31 @@ module _ (D : Dir) (E : ℕ) (z : (d : Dir) → Else D E d 0) where
   }
 
 -- nothing is asked of the chip
-read-at : (D : Dir) (E v : ℕ) (a : Ans Answer) (still : Bool) (w : Track) (u : Under)
-    → ReadAt (toggles D E) v a still w u
-read-at D E v a still w at-rest = tt
-read-at D E v (ended a) true w (doing o q) = tt
-read-at D E v (ended a) false w (doing o q) = tt
-read-at D E v (handed p) still w (doing o q) = tt
-read-at D E v (told n) still w (doing o q) = tt
-read-at D E v (ended a) true w starting = tt
-read-at D E v (ended a) false w starting = tt
-read-at D E v (handed p) still w starting = tt
-read-at D E v (told n) still w starting = tt
+module _ (O : Observer) (brings : (w : O .Log) (q : Access) (v : ℕ) → O .Brings w q v) where
+  read-at : (v : ℕ) (a : Ans Answer) (still : Bool) (w : O .Log) (u : Under) → ReadAt O v a still w u
+  read-at v a still w at-rest = tt
+  read-at v (ended a) true w (doing o q) = tt
+  read-at v (ended a) false w (doing o q) = brings w q v
+  read-at v (handed p) still w (doing o q) = brings w q v
+  read-at v (told n) still w (doing o q) = tt
+  read-at v (ended a) true w starting = tt
+  read-at v (ended a) false w starting = tt
+  read-at v (handed p) still w starting = tt
+  read-at v (told n) still w starting = tt
 
-any-read : (D : Dir) (E : ℕ) (c : Call Config Op) (a : Ans Answer) (still : Bool) (x : Watched (toggles D E))
-    → Read (toggles D E) c a still x
-any-read D E (start c) a still x = tt
-any-read D E (begin o) a still x = tt
-any-read D E (go v) a still x = read-at D E v a still (x .log) (x .under)
-any-read D E (question q) a still x = tt
+  any-read : (c : Call Config Op) (a : Ans Answer) (still : Bool) (x : Watched O) → Read O c a still x
+  any-read (start c) a still x = tt
+  any-read (begin o) a still x = tt
+  any-read (go v) a still x = read-at v a still (x .log) (x .under)
+  any-read (question q) a still x = tt
 
-reads-any : (D : Dir) (E : ℕ) (es : List (Event Config Op)) (m : Machine Answer Driver) (x : Watched (toggles D E))
-    → Reads (toggles D E) es m x
-reads-any D E [] m x = tt
-reads-any D E (e ∷ es) m x = (any-read D E (e .call) _ _ x, reads-any D E es _ _)
+  reads-any : (es : List (Event Config Op)) (m : Machine Answer Driver) (x : Watched O) → Reads O es m x
+  reads-any [] m x = tt
+  reads-any (e ∷ es) m x = (any-read (e .call) _ _ x, reads-any es _ _)
 
-code-reads-any : (D : Dir) (E : ℕ) (ms : List Made) (x : Watched (toggles D E)) → CodeReads (toggles D E) ms x
-code-reads-any D E [] x = tt
-code-reads-any D E (m ∷ ms) x = (any-read D E (m .event .call) _ _ x, code-reads-any D E ms _)
+  code-reads-any : (ms : List Made) (x : Watched O) → CodeReads O ms x
+  code-reads-any [] x = tt
+  code-reads-any (m ∷ ms) x = (any-read (m .event .call) _ _ x, code-reads-any ms _)
 
 -- after each call: a poll of the endpoint is done exactly if a packet with another sequence bit was served since (or a
 -- cleared halt finished its write); an interrupt that ends with a token of the endpoint has read its control word;
@@ -231,7 +230,7 @@ pub data-toggles : (D : Dir) (E : ℕ) → (E % 16 ≡ 0 → ⊥) → (c : Confi
     → (es : List (Event Config Op)) (m : Machine Answer Driver)
     → let y = started calls driverOf (λ s. s) c zero m b in
     Meaning (toggles D E) es (y .1) → All (toggles D E) es (y .1) (startedBy (toggles D E) (y .0))
-data-toggles D E h c b row es m p = from-start (toggles D E) (laws D E (not-ep0 D E h)) c b row es m p (reads-any D E es _ _)
+data-toggles D E h c b row es m p = from-start (toggles D E) (laws D E (not-ep0 D E h)) c b row es m p (reads-any (toggles D E) (λ _ _ _. tt) es _ _)
 
 -- of the Rattle code: any bytes, a start-up that rows 1 and 2 do not stop, and then any calls, each as its contract
 -- says
@@ -239,7 +238,7 @@ pub code-data-toggles : (D : Dir) (E : ℕ) → (E % 16 ≡ 0 → ⊥) → (c : 
     → (xs : List ℕ) (a : Buf) (first : Made) → first .event ≡ record { call = start c; lent = b } → (ms : List Made)
     → Steps xs a (first ∷ ms) → CodeMeaning (toggles D E) (left first) ms
     → CodeAll (toggles D E) ms (startedBy (toggles D E) (first .answer))
-code-data-toggles D E h c b row xs a first e ms s p = code-from-start (toggles D E) (laws D E (not-ep0 D E h)) c b row xs a first e ms s p (code-reads-any D E ms _)
+code-data-toggles D E h c b row xs a first e ms s p = code-from-start (toggles D E) (laws D E (not-ep0 D E h)) c b row xs a first e ms s p (code-reads-any (toggles D E) (λ _ _ _. tt) ms _)
 
 -- DECISIONS 94, of such an endpoint, where nothing is under way
 pub tog-is-bit : (w : Track) (x : Seen) → Fits w x → (x .tog ≡ 0) ⊎ (x .tog ≡ 1)
@@ -248,3 +247,105 @@ tog-is-bit w x r = by (w .bit) (r .tog)
     by : (b : Pid) → x .tog ≡ number b → (x .tog ≡ 0) ⊎ (x .tog ≡ 1)
     by DATA0 h = inl h
     by DATA1 h = inr h
+
+-- ---- the control word that a call leaves
+
+-- the observer of an endpoint's control word: by its log the word that a call has written last
+abbrev pub words : Dir → ℕ → Observer
+words D E = record { Log = Track × Writing; before = (before, unwritten-yet before); opens = λ o x. (opens D E o (x .0), unwritten-yet (x .0)); saw = λ x q v. (saw D E (x .0) q v, wrote D E (x .1) q v); closes = λ o a x. (closes D E o a (x .0), x .1); Brings = λ _ _ _. Unit {0}; Fair = λ o a x. Leaves D E o a (x .1); Allowed = λ _ _ _. Unit {0}; Asks = λ _ _. Unit {0}; View = Seen; view = view D E; Stands = λ _ _. Unit {0}; Meant = λ x. isOn (x .iso) ≡ false }
+
+module _ (D : Dir) (E : ℕ) (h : E % 16 ≡ 0 → ⊥) where
+  word-law : (o : Op) → WordLaw D E o
+  word-law interrupt = leaves-any D E interrupt (λ _ _. tt)
+  word-law (slotted (SetEnabled d e on)) = leaves-enabled D E d e on
+  word-law (slotted (PollRead e n)) = leaves-any D E (slotted (PollRead e n)) (λ _ _. tt)
+  word-law (slotted (BeginWrite e bs)) = leaves-write D E e bs
+  word-law (slotted (PollWrite e bs)) = leaves-any D E (slotted (PollWrite e bs)) (λ _ _. tt)
+  word-law (slotted (PollDataOut n)) = leaves-any D E (slotted (PollDataOut n)) (λ _ _. tt)
+  word-law (slotted (BeginDataIn bs first last)) = leaves-any D E (slotted (BeginDataIn bs first last)) (λ _ _. tt)
+  word-law (other (Allocate d kind address maximum interval)) = leaves-any D E (other (Allocate d kind address maximum interval)) (λ _ _. tt)
+  word-law (other (AllocateAll bytes)) = leaves-any D E (other (AllocateAll bytes)) (λ _ _. tt)
+  word-law (other (Start maximum)) = leaves-any D E (other (Start maximum)) (λ _ _. tt)
+  word-law (other BusPoll) = leaves-poll D E (among-all D E h)
+  word-law (other BusEnable) = leaves-any D E (other BusEnable) (λ _ _. tt)
+  word-law (other BusDisable) = leaves-any D E (other BusDisable) (λ _ _. tt)
+  word-law (other Microframe) = leaves-any D E (other Microframe) (λ _ _. tt)
+  word-law (other (SetStalled d e on)) = leaves-stalled D E d e on
+  word-law (other (IsStalled d e)) = leaves-any D E (other (IsStalled d e)) (λ _ _. tt)
+  word-law (other (SetPaced e on)) = leaves-any D E (other (SetPaced e on)) (λ _ _. tt)
+  word-law (other (Advance e)) = leaves-any D E (other (Advance e)) (λ _ _. tt)
+  word-law (other (BeginRead e n)) = leaves-read D E e n
+  word-law (other BeginSetup) = leaves-any D E (other BeginSetup) (λ _ _. tt)
+  word-law (other PollSetup) = leaves-any D E (other PollSetup) (λ _ _. tt)
+  word-law (other PollDataIn) = leaves-any D E (other PollDataIn) (λ _ _. tt)
+  word-law (other BeginAccept) = leaves-any D E (other BeginAccept) (λ _ _. tt)
+  word-law (other PollAccept) = leaves-any D E (other PollAccept) (λ _ _. tt)
+  word-law (other BeginReject) = leaves-any D E (other BeginReject) (λ _ _. tt)
+  word-law (other (BeginDataOut n first)) = leaves-any D E (other (BeginDataOut n first)) (λ _ _. tt)
+  word-law (other (BeginAcceptSetAddress a)) = leaves-any D E (other (BeginAcceptSetAddress a)) (λ _ _. tt)
+  word-law (aside o) = leaves-any D E (aside o) (λ _ _. tt)
+
+  -- two logs of one outcome
+  together : {A : Type 0} {P : Track → A → St → Type 0} {Q : Writing → A → St → Type 0} {w : Track} {u : Writing} {o : tree.Out St A}
+      → Sees (toggles D E) (λ _ _. Unit {0}) P w o
+      → Along (wrote D E) (λ _ _ _. Unit {0}) (follow.Keeps D E) (λ _ _. Unit {0}) Q u o
+      → Sees (words D E) (λ _ _. Unit {0}) (λ x a t. P (x .0) a t × Q (x .1) a t) (w, u) o
+  together (at-end p) (at-end q) = at-end (p, q)
+  together (at-ask _ f) (at-ask _ g) = at-ask tt (λ v t b k. together (f v t tt k) (g v t tt k))
+
+  refused-leaves : (o : Op) (u : Writing) → Leaves D E o (Refused 1) u
+  refused-leaves interrupt u = tt
+  refused-leaves (slotted (SetEnabled d e on)) u = λ k. never (own D E d e) k
+  refused-leaves (slotted (PollRead e n)) u = tt
+  refused-leaves (slotted (BeginWrite e bs)) u = λ k. never (own D E In e) k
+  refused-leaves (slotted (PollWrite e bs)) u = tt
+  refused-leaves (slotted (PollDataOut n)) u = tt
+  refused-leaves (slotted (BeginDataIn bs first last)) u = tt
+  refused-leaves (other o) u = of-others o
+    where
+      of-others : (o : Other) → Leaves D E (other o) (Refused 1) u
+      of-others (Allocate d kind address maximum interval) = tt
+      of-others (AllocateAll bytes) = tt
+      of-others (Start maximum) = tt
+      of-others BusPoll = λ k. never true k
+      of-others BusEnable = tt
+      of-others BusDisable = tt
+      of-others Microframe = tt
+      of-others (SetStalled d e true) = λ k. never (own D E d e) k
+      of-others (SetStalled d e false) = λ k. never (own D E d e) k
+      of-others (IsStalled d e) = tt
+      of-others (SetPaced e on) = tt
+      of-others (Advance e) = tt
+      of-others (BeginRead e n) = λ k. never (own D E Out e) k
+      of-others BeginSetup = tt
+      of-others PollSetup = tt
+      of-others PollDataIn = tt
+      of-others BeginAccept = tt
+      of-others PollAccept = tt
+      of-others BeginReject = tt
+      of-others (BeginDataOut n first) = tt
+      of-others (BeginAcceptSetAddress a) = tt
+  refused-leaves (aside o) u = tt
+
+  word-laws : Laws (words D E) (λ x v. Fits (x .0) v)
+  word-laws =
+      let L = laws D E (not-ep0 D E h) in
+      record {
+        stands = λ _ _ _. tt;
+        call = λ o x s r i q. watch-more (together (L .call o (x .0) s r i q) (word-law o (x .0) s r i)) (λ y a t p. (p .0 .0, λ _. p .1));
+        asks = L .asks;
+        besides = L .besides;
+        new = L .new;
+        unlent = λ o x v r. L .unlent o (x .0) v r;
+        fair-1 = λ o x. refused-leaves o (x .1);
+      }
+
+-- DATA0 in the chip's control word (9.1.1.5, 9.4.5), of every endpoint that is neither 0 nor isochronous, over EVERY
+-- list of calls: a set_enabled, a cleared halt and a bus reset leave it with DATA0, on ACK where an OUT waits for a
+-- packet, else on NAK; a begin_read that finds no packet there, and a begin_write, leave it on ACK. Whatever the chip
+-- answers
+pub code-control-words : (D : Dir) (E : ℕ) → (E % 16 ≡ 0 → ⊥) → (c : Config) (b : Buf) → startRow c b ≡ zero
+    → (xs : List ℕ) (a : Buf) (first : Made) → first .event ≡ record { call = start c; lent = b } → (ms : List Made)
+    → Steps xs a (first ∷ ms) → CodeMeaning (words D E) (left first) ms
+    → CodeAll (words D E) ms (startedBy (words D E) (first .answer))
+code-control-words D E h c b row xs a first e ms s p = code-from-start (words D E) (word-laws D E h) c b row xs a first e ms s p (code-reads-any (words D E) (λ _ _ _. tt) ms _)

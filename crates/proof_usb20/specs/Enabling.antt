@@ -1,12 +1,20 @@
 -- The law of enabling and disabling: DATA0 of the endpoint's own, nothing of the others'
 use mathlib.Core.Bool.{Bool, true, false, not, cond, _&&_}
-use mathlib.Core.List.{[], _∷_}
+use mathlib.Core.List.{List, [], _∷_}
 use mathlib.Core.Path.{_≡_, refl, ap, subst, sym, _∙_}
-use Prim.Native.Nat.{ℕ, zero, suc}
-use lib.Dec.{eqb}
+use Prim.Native.Nat.{ℕ, zero, suc, _+_, _%_, _≤_, _<_}
+use native.Mathlib.Omega.{arith}
+use borrow.Author.Tests.{eqb-true, eq-eqb}
+use lib.Dec.{eqb, ltb}
+use lib.ListN.{length}
+use mathlib.Core.Logic.{_⊎_, inl, inr}
+use Rattle.regs.specs.Enables as enables
+use Rattle.regs.specs.Flags.{busRst, suspend}
+use Rattle.regs.specs.MisStatus.{suspended}
+use Rattle.script.specs.ToggledLaws.{ack-acks}
 use Rattle.regs.specs.declared.Dir.{Dir}
 use Rattle.regs.specs.declared.Dir.the-variants.{Out, In}
-use Rattle.state.specs.Driver.{epOn}
+use Rattle.state.specs.Driver.{epOn, key}
 use Rattle.state.specs.Fresh.{clearStamps}
 use Rattle.state.specs.Kept.{withEpType}
 use Rattle.state.specs.Wakes.{wakeCode}
@@ -14,22 +22,24 @@ use Rattle.frame.specs.Advance.{NO_FRAME}
 use Rattle.script.specs.Tree as tree
 use Rattle.script.specs.Cells.{Plain, ep-cell, globals-cell, paced-cell}
 use Rattle.regs.specs.declared.Reg.the-variants.{EpRxCtrl, EpTxCtrl, EpTLen}
-use Rattle.regs.specs.ControlWord.{ACK, NAK, NYET, DATA0, wordOf}
+use Rattle.regs.specs.ControlWord.{ACK, NAK, NYET, DATA0, wordOf, response, toggle, ack}
 use Rattle.script.specs.Script.{Script, run, put, hand, write, place, row, rows, switch, switchAsk, no-wakes, waken, reset-ring, _>>=_, _>>_}
 use Rattle.script.specs.Statics as statics
-use Rattle.script.specs.Statics.{isOn, wake, withArmed, flag, modifyEpType}
-use Rattle.script.specs.Answers.{isAllocated}
+use Rattle.script.specs.Statics.{isOn, wake, wakeAll, withArmed, flag, modifyEpType}
 use Rattle.script.specs.Bus as bus
-use Rattle.script.specs.Calls.{slotted, SetEnabled, code}
+use Rattle.script.specs.Calls.{Op, slotted, other, SetEnabled, SetStalled, BeginRead, BeginWrite, BusPoll, code}
 use Rattle.script.specs.Usb20Toggles.{initial}
 use Rattle.ops.specs.Rings.{St, slotStep, armAt, renewedOn, typeStep, configStep}
 use Rattle.ops.specs.Conc.{conc}
 use Rattle.book.specs.Sorts.{act-steady, row-steady}
 use Rattle.proof_usb20.specs.Sequence as log
-use Rattle.proof_usb20.specs.Sequence.{Track, off, withPhase, own, saw, armsAt}
+use Rattle.proof_usb20.specs.Sequence.{Track, off, withPhase, own, saw, armsAt, Writing, written, withWord, unwritten-yet, Restarts, Acks, wrote, Leaves}
 use Rattle.proof_usb20.specs.Follow as follow
 use Rattle.proof_usb20.specs.Follow.{Seen, FitsAs, Fits, view, Follow, Ends, Law}
-use Rattle.proof_usb20.specs.Watch.{at-end}
+use Rattle.proof_usb20.specs.Watch.{Along, at-end, at-ask, watch-bind, watch-cond, watch-any}
+use Rattle.proof_usb20.specs.Exempt.{differ}
+use Rattle.script.specs.TogglesLaws.{number}
+use Rattle.script.specs.Answers.{Answer, isAllocated, resultless}
 use Rattle.proof_usb20.specs.Untouched.{act-view}
 use Rattle.proof_usb20.specs.Calm.{Whole, Off, Else, Hush, Kept, Stays, Quiet, loose, loosely, asked, onward, with-other, put-globals, put-paced, q-act, q-bind, q-ep, q-got, q-hand, q-put, q-resultless, q-ret, q-staged, q-test, q-wake, q-write}
 use Rattle.proof_usb20.specs.Reading as reading
@@ -164,3 +174,211 @@ module _ (D : Dir) (E : ℕ) where
           follow.follow-bind D E {P = Renews (armsAt D E d on) w} (follow.follow-bind D E {P = Renews (armsAt D E d on) w} (enabling d e on w a (own-true D E d e h) (act-steady no-wakes refl s .places ∙ z .places) (subst (Fits w) (sym v) r) two (ap (λ (q : Seen). isOn (q .iso)) v ∙ i)) (λ y _ t m. at-end m))
           (λ y _ t m. at-end (rw (m .0) (rw h (m .1)), tt)))
           (λ _. at-end (nothing, tt))) (λ _. at-end (nothing, tt))
+
+-- ---- the control word that a call leaves
+
+word-of : (on auto : Bool)
+    → (response (wordOf (cond on ACK NAK) DATA0 auto) ≡ cond on ACK NAK) × (toggle (wordOf (cond on ACK NAK) DATA0 auto) ≡ number initial)
+unfolding response toggle wordOf
+word-of true true = (refl, refl)
+word-of true false = (refl, refl)
+word-of false true = (refl, refl)
+word-of false false = (refl, refl)
+
+-- of an endpoint that is not isochronous
+word-not-iso : (iso c on auto : Bool) → iso ≡ false → {b : Bool} → on ≡ b
+    → Restarts b (written (wordOf (cond iso NYET (cond on ACK NAK)) DATA0 auto)) × Restarts false (written (wordOf (cond (iso && c) NYET NAK) DATA0 auto))
+word-not-iso true c on auto h k = differ (sym h)
+word-not-iso false c on auto h k = (subst (λ (b : Bool). Restarts b (written (wordOf (cond on ACK NAK) DATA0 auto))) k (word-of on auto), word-of false auto)
+
+pub never : {A : Type 0} (b : Bool) → b && false ≡ true → A
+never true h = differ h
+never false h = differ h
+
+not-own : {A : Type 0} (b c : Bool) → b ≡ false → b && c ≡ true → A
+not-own true c h k = differ (sym h)
+not-own false c h k = differ k
+
+module _ (D : Dir) (E : ℕ) where
+  abbrev pub Marks : {A : Type 0} → (Writing → A → St → Type 0) → Writing → tree.Out St A → Type 0
+  Marks P u o = Along (wrote D E) (λ _ _ _. Unit {0}) (follow.Keeps D E) (λ _ _. Unit {0}) P u o
+
+  abbrev pub WordLaw : Op → Type 0
+  WordLaw o = (w : Track) (s : St) → Fits w (view D E (s .0)) → isOn (epOn (s .0) D E .iso) ≡ false → Marks (λ u a _. Leaves D E o a u) (unwritten-yet w) (run conc (code o) s)
+
+  -- a call of which nothing is claimed
+  pub leaves-any : (o : Op) → ((a : Answer) (u : Writing) → Leaves D E o a u) → WordLaw o
+  leaves-any o f w s r i = watch-any (λ _. Unit {0}) (λ _ _ _. tt) (λ _ _ _ _. tt) (λ x a _ _. f a x) (unwritten-yet w) tt (run conc (code o) s)
+
+  abbrev Word0 : Bool → {A : Type 0} → Writing → A → St → Type 0
+  Word0 b u _ _ = Restarts b (u .word)
+
+  -- its own word, once written
+  own-word : (b c : Bool) (v : ℕ) (u : Writing) → c ≡ true → Restarts b (written v) → Restarts b (cond c (withWord v u) u .word)
+  own-word b true v u h r = r
+  own-word b false v u h r = differ h
+
+  enabled-word : (d : Dir) (e : ℕ) (on : Bool) (u : Writing) (s : St) → own D E d e ≡ true
+      → isOn (epOn (s .0) D E .iso) ≡ false → Marks (Word0 (armsAt D E d on)) u (run conc (bus.setEnabled d e on) s)
+  enabled-word Out e on u s h i = watch-bind {P = Word0 on} (watch-cond (isOn (conc .get (ep-cell Out e) s .iso)) (λ q. iso-own D E Out e s (own-true D E Out e h) i q)
+      (λ _. at-ask tt (λ _ _ _ _. at-ask tt (λ _ _ _ _. at-ask tt (λ _ _ _ _. at-ask tt (λ _ _ _ _. at-end (own-word on (own D E Out e) _ u h (word-of on true))))))))
+      (λ _ _ _ m. at-end m)
+  enabled-word In e on u s h i =
+      let j : isOn (conc .get (ep-cell In e) s .iso) ≡ false = ap (λ (p : Plain). isOn (p .iso)) (reading.got D E In e s (own-true D E In e h)) ∙ i in
+      watch-bind {P = Word0 false} {f = λ (_ : Unit {0}) (t : St). run {i = false} conc (wake In e) t}
+      (at-ask tt (λ _ _ _ _. at-ask tt (λ _ _ _ _. at-ask tt (λ _ _ _ _. at-ask tt (λ _ _ _ _. at-ask tt (λ _ _ _ _. at-end (own-word false (own D E In e) _ u h (word-not-iso (isOn (conc .get (ep-cell In e) s .iso)) on on _ j refl .1))))))))
+      (λ _ _ _ m. at-end m)
+
+  pub leaves-enabled : (d : Dir) (e : ℕ) (on : Bool) → WordLaw (slotted (SetEnabled d e on))
+  leaves-enabled d e on w s r i = by (own D E d e) refl
+    where
+      by : (b : Bool) → own D E d e ≡ b
+          → Marks (λ u a _. Leaves D E (slotted (SetEnabled d e on)) a u) (unwritten-yet w) (run conc (code (slotted (SetEnabled d e on))) s)
+      by false h = leaves-any (slotted (SetEnabled d e on)) (λ a u k. not-own (own D E d e) (log.ended D E a) h k) w s r i
+      by true h = watch-cond (eqb (s .0 .globals .stage) 2) (λ _. watch-cond (isAllocated (s .0 .allocator) d e)
+          (λ _.
+          let v = act-view D E no-wakes refl s in
+          watch-bind {P = Word0 (armsAt D E d on)} (watch-bind {P = Word0 (armsAt D E d on)} (enabled-word d e on (unwritten-yet w) (conc .act no-wakes s) h (ap (λ (q : Seen). isOn (q .iso)) v ∙ i)) (λ _ _ _ m. at-end m)) (λ _ _ _ m. at-end (λ _. m)))
+          (λ _. at-end (λ k. never (own D E d e) k))) (λ _. at-end (λ k. never (own D E d e) k))
+
+  -- ---- a cleared halt
+
+  cleared-word : (d : Dir) (e : ℕ) (u : Writing) (s : St) → own D E d e ≡ true → isOn (epOn (s .0) D E .iso) ≡ false
+      → isOn (epOn (s .0) D E .armed) ≡ u .waited
+      → Marks (λ x _ _. Restarts (armsAt D E d (x .waited)) (x .word)) u (run {i = false} conc (bus.setStalled d e false) s)
+  unfolding bus.restartedOut bus.restartedIn bus.restarted
+  cleared-word Out e u s h i k =
+      let g = reading.got D E Out e s (own-true D E Out e h) in
+      at-ask tt (λ _ _ _ _. at-end (kept-word (own D E Out e) _ u h (word-not-iso (isOn (conc .get (ep-cell Out e) s .iso)) true (isOn (conc .get (ep-cell Out e) s .armed)) _ (ap (λ (p : Plain). isOn (p .iso)) g ∙ i) (ap (λ (p : Plain). isOn (p .armed)) g ∙ k) .0)))
+    where
+      kept-word : (c : Bool) (v : ℕ) (u : Writing) → c ≡ true → Restarts (u .waited) (written v)
+          → Restarts (cond c (withWord v u) u .waited) (cond c (withWord v u) u .word)
+      kept-word true v u h r = r
+      kept-word false v u h r = differ h
+  cleared-word In e u s h i k =
+      let g = reading.got D E In e s (own-true D E In e h) in
+      let m = own-word false (own D E In e) _ u h (word-not-iso (isOn (conc .get (ep-cell In e) s .iso)) true false _ (ap (λ (p : Plain). isOn (p .iso)) g ∙ i) refl .0) in
+      at-ask tt (λ _ _ _ _. watch-bind {P = Word0 false} {f = λ (_ : Unit {0}) (t : St). run {i = false} conc (wake In e) t} (watch-cond (not (isOn (conc .get (ep-cell In e) s .iso))) (λ _. at-end m) (λ _. at-end m)) (λ _ _ _ n. at-end n))
+
+  pub leaves-stalled : (d : Dir) (e : ℕ) (on : Bool) → WordLaw (other (SetStalled d e on))
+  leaves-stalled d e true w s r i = leaves-any (other (SetStalled d e true)) (λ a u k. never (own D E d e) k) w s r i
+  leaves-stalled d e false w s r i = by (own D E d e) refl
+    where
+      by : (b : Bool) → own D E d e ≡ b
+          → Marks (λ u a _. Leaves D E (other (SetStalled d e false)) a u) (unwritten-yet w) (run conc (code (other (SetStalled d e false))) s)
+      by false h = leaves-any (other (SetStalled d e false)) (λ a u k. not-own (own D E d e) (log.ended D E a) h k) w s r i
+      by true h = watch-cond (eqb (s .0 .globals .stage) 2) (λ _. watch-cond (eqb e 0) (λ _. goes) (λ _. watch-cond (isAllocated (s .0 .allocator) d e) (λ _. goes) (λ _. at-end (λ k. never (own D E d e) k)))) (λ _. at-end (λ k. never (own D E d e) k))
+        where
+          goes : Marks (λ u a _. Leaves D E (other (SetStalled d e false)) a u) (unwritten-yet w) (run {i = false} conc (resultless (bus.setStalled d e false)) s)
+          goes =
+              let v = act-view D E no-wakes refl s in
+              watch-bind {P = λ x _ _. Restarts (armsAt D E d (x .waited)) (x .word)} (watch-bind {P = λ x _ _. Restarts (armsAt D E d (x .waited)) (x .word)} (cleared-word d e (unwritten-yet w) (conc .act no-wakes s) h (ap (λ (q : Seen). isOn (q .iso)) v ∙ i) (ap (λ (q : Seen). isOn (q .armed)) v ∙ r .armed)) (λ _ _ _ m. at-end m)) (λ _ _ _ m. at-end (λ _. m))
+
+  -- ---- reads and writes
+
+  acked : (c : Bool) (v : ℕ) (u : Writing) → c ≡ true → Acks (cond c (withWord (ack v) u) u .word)
+  acked true v u h = ack-acks v
+  acked false v u h = differ h
+
+  pub leaves-read : (e n : ℕ) → WordLaw (other (BeginRead e n))
+  leaves-read e n w s r i = by (own D E Out e) refl
+    where
+      by : (b : Bool) → own D E Out e ≡ b
+          → Marks (λ u a _. Leaves D E (other (BeginRead e n)) a u) (unwritten-yet w) (run conc (code (other (BeginRead e n))) s)
+      by false h = leaves-any (other (BeginRead e n)) (λ a u k. not-own (own D E Out e) (log.ended D E a) h k) w s r i
+      by true h =
+          let o = own-true D E Out e h in
+          watch-cond (eqb (s .0 .globals .stage) 2) (λ _. watch-cond (isAllocated (s .0 .allocator) Out e) (λ _. watch-cond (enables.isOn (s .0 .globals .«ep_config») Out e)
+          (λ _. watch-cond (ltb n (conc .get (ep-cell Out e) s .«max_len»)) (λ _. at-end (λ k. never (own D E Out e) k))
+          (λ _. watch-bind {P = λ x _ _. (x .there ≡ false → Acks (x .word))} (watch-bind {P = λ x _ _. (x .there ≡ false → Acks (x .word))} (watch-cond (isOn (conc .get (ep-cell Out e) s .iso)) (λ q. iso-own D E Out e s o i q)
+          (λ _. watch-cond (isOn (conc .get (ep-cell Out e) s .ready))
+          (λ q. at-end (λ f. differ (sym f ∙ (sym (r .ready) ∙ (sym (ap (λ (p : Plain). isOn (p .ready)) (reading.got D E Out e s o)) ∙ q)))))
+          (λ _. at-ask tt (λ v _ _ _. at-ask tt (λ _ _ _ _. at-end (λ _. acked (own D E Out e) v (unwritten-yet w) h)))))) (λ _ _ _ m. at-end m))
+          (λ _ _ _ m. at-end (λ _. m))))
+          (λ _. at-end (λ k. never (own D E Out e) k))) (λ _. at-end (λ k. never (own D E Out e) k))) (λ _. at-end (λ k. never (own D E Out e) k))
+
+  pub leaves-write : (e : ℕ) (bytes : List ℕ) → WordLaw (slotted (BeginWrite e bytes))
+  leaves-write e bytes w s r i = by (own D E In e) refl
+    where
+      by : (b : Bool) → own D E In e ≡ b
+          → Marks (λ u a _. Leaves D E (slotted (BeginWrite e bytes)) a u) (unwritten-yet w) (run conc (code (slotted (BeginWrite e bytes))) s)
+      by false h = leaves-any (slotted (BeginWrite e bytes)) (λ a u k. not-own (own D E In e) (log.ended D E a) h k) w s r i
+      by true h =
+          watch-cond (eqb (s .0 .globals .stage) 2) (λ _. watch-cond (isAllocated (s .0 .allocator) In e) (λ _. watch-cond (enables.isOn (s .0 .globals .«ep_config») In e)
+          (λ _. watch-cond (ltb (conc .get (ep-cell In e) s .«max_len») (length bytes)) (λ _. at-end (λ k. never (own D E In e) k))
+          (λ _. watch-bind {P = λ x _ _. Acks (x .word)} (watch-bind {P = λ x _ _. Acks (x .word)} (watch-cond (isOn (conc .get (ep-cell In e) s .iso)) (λ q. iso-own D E In e s (own-true D E In e h) i q)
+          (λ _. at-ask tt (λ _ _ _ _. at-ask tt (λ v _ _ _. at-ask tt (λ _ _ _ _. at-end (acked (own D E In e) v (unwritten-yet w) h)))))) (λ _ _ _ m. at-end m))
+          (λ _ _ _ m. at-end (λ _. m))))
+          (λ _. at-end (λ k. never (own D E In e) k))) (λ _. at-end (λ k. never (own D E In e) k))) (λ _. at-end (λ k. never (own D E In e) k))
+
+  -- ---- a bus reset
+
+  -- the endpoint is one of the n from e on
+  abbrev pub Among : ℕ → ℕ → Type 0
+  Among zero e = ⊥
+  Among (suc n) e = (own D E D e ≡ true) ⊎ Among n (suc e)
+
+  side : (d : Dir) (e : ℕ) → own D E d e ≡ true → (own D E In e ≡ true) ⊎ (own D E Out e ≡ true)
+  side Out e h = inr h
+  side In e h = inl h
+
+  naked : (a b : Bool) (v : ℕ) (u : Writing) → Restarts false (written v) → Restarts false (u .word) ⊎ ((a ≡ true) ⊎ (b ≡ true))
+      → Restarts false (cond b (withWord v (cond a (withWord v u) u)) (cond a (withWord v u) u) .word)
+  naked a true v u r h = r
+  naked true false v u r h = r
+  naked false false v u r (inl m) = m
+  naked false false v u r (inr (inl m)) = differ m
+  naked false false v u r (inr (inr m)) = differ m
+
+  naks : (n e : ℕ) (u : Writing) (s : St) → Restarts false (u .word) ⊎ Among n e
+      → Marks (Word0 false) u (run {i = false} conc (bus.nakAll n e) s)
+  unfolding bus.nakAll
+  naks zero e u s (inl r) = at-end r
+  naks zero e u s (inr m) = absurd m
+  naks (suc n) e u s m = at-ask tt (λ _ _ _ _. at-ask tt (λ _ t _ _. naks n (suc e) _ t (next m)))
+    where
+      nak : ℕ
+      nak = wordOf NAK DATA0 false
+
+      next : Restarts false (u .word) ⊎ ((own D E D e ≡ true) ⊎ Among n (suc e))
+          → Restarts false (cond (own D E Out e) (withWord nak (cond (own D E In e) (withWord nak u) u)) (cond (own D E In e) (withWord nak u) u) .word) ⊎ Among n (suc e)
+      next (inl r) = inl (naked (own D E In e) (own D E Out e) nak u (word-of false false) (inl r))
+      next (inr (inl k)) = inl (naked (own D E In e) (own D E Out e) nak u (word-of false false) (inr (side D e k)))
+      next (inr (inr k)) = inr k
+
+  same-key : (d : Dir) → key d (E % 16) ≡ key d E
+  unfolding key
+  same-key Out = omega arith
+  same-key In = omega arith
+
+  here-or-on : (n e : ℕ) (t : Bool) → eqb e (E % 16) ≡ t → ((e ≡ E % 16 → ⊥) → Among n (suc e)) → Among (suc n) e
+  here-or-on n e true q f = inl (eq-eqb (key D e) (key D E) (ap (key D) (eqb-true e (E % 16) q) ∙ same-key D))
+  here-or-on n e false q f = inr (f (λ r. differ (sym q ∙ eq-eqb e (E % 16) r)))
+
+  within : (n e : ℕ) → e ≤ E % 16 → E % 16 < e + n → Among n e
+  within zero e a b = absurd (omega (arith, a, b))
+  within (suc n) e a b = here-or-on n e (eqb e (E % 16)) refl (λ o. within n (suc e) (omega (arith, a, o)) (omega (arith, b)))
+
+  -- as its number is from 1 to 15
+  pub among-all : (E % 16 ≡ 0 → ⊥) → Among 15 1
+  among-all h = within 15 1 (omega (arith, h)) (omega arith)
+
+  reset-word : (u : Writing) (s : St) → Among 15 1 → Marks (Word0 false) u (run conc bus.busReset s)
+  reset-word u s m = at-ask tt (λ _ _ _ _. at-ask tt (λ _ _ _ _. at-ask tt (λ _ a _ _. watch-bind {P = Word0 false} (naks 15 1 _ a (inr m)) (λ _ _ b r.
+      watch-bind {P = Word0 false} {f = λ (_ : Unit {0}) (t : St). run {i = false} conc wakeAll t} (at-ask tt (λ _ _ _ _. at-ask tt (λ _ _ _ _. at-ask tt (λ _ _ _ _. at-ask tt (λ _ _ _ _. at-end r))))) (λ _ _ _ q. at-end q)))))
+
+  pub leaves-poll : Among 15 1 → WordLaw (other BusPoll)
+  leaves-poll m w s r i = watch-cond (eqb (s .0 .globals .stage) 2)
+      (λ _. watch-bind {P = λ u n _. (eqb n 2 ≡ true → Restarts false (u .word))} (watch-cond (isOn (s .0 .globals .power))
+      (λ _. at-ask tt (λ f a _ _. watch-cond (busRst f)
+      (λ _. watch-bind {P = Word0 false} (reset-word _ a m) (λ _ _ _ q. at-ask tt (λ _ _ _ _. at-end (λ _. q))))
+      (λ _. watch-cond (suspend f)
+      (λ _. at-ask tt (λ g _ _ _. at-ask tt (λ _ _ _ _. at-ask tt (λ _ _ _ _. at-end (λ k. not-2 (suspended g) k)))))
+      (λ _. at-end (λ k. differ k)))))
+      (λ _. at-end (λ k. differ k)))
+      (λ _ _ _ q. at-end q))
+      (λ _. at-end (λ k. differ k))
+    where
+      not-2 : {A : Type 0} (b : Bool) → eqb (cond b 3 4) 2 ≡ true → A
+      not-2 true k = differ k
+      not-2 false k = differ k

@@ -2,7 +2,8 @@
 use mathlib.Core.Bool.{Bool, true, false}
 use mathlib.Core.Logic.{_⊎_}
 use mathlib.Core.Path.{_≡_}
-use Prim.Native.Nat.{ℕ}
+use Prim.Native.Nat.{ℕ, _%_}
+use Rattle.regs.specs.declared.Access.{Access}
 use Rattle.regs.specs.declared.Dir.the-variants.{Out, In}
 use Rattle.regs.specs.ControlWord.{toggle}
 use Rattle.state.specs.declared.Control.{Control}
@@ -18,7 +19,7 @@ use Rattle.script.specs.TogglesLaws.{number}
 use Rattle.ops.specs.Rings.{St}
 use Rattle.ops.specs.Conc.{conc}
 use Rattle.book.specs.Sorting.{Sorting}
-use Rattle.proof_usb20.specs.Pipe.{Half, Pipe, dataReady, isReady, Awaited, nothing, taken, given, confirmed}
+use Rattle.proof_usb20.specs.Pipe.{Half, Pipe, dataReady, isReady, Awaited, nothing, taken, given, confirmed, Setting, keeps, sets}
 use Rattle.proof_usb20.specs.Log.{Log, Shows, saw, Brings, opens, closes, Fair, Allowed}
 use Rattle.proof_usb20.specs.Watch.{Along}
 
@@ -61,11 +62,16 @@ pub data Gives (last : Bool) (p : Pipe) (x : View) : Type 0 where
   second-wait : x .control .wait ≡ 2 → last ≡ true → p .inn .through ≡ true → isOn (x .out .ready) ≡ p .out .through
       → Gives last p x
 
+-- an accept's address
+abbrev pub Confirms : Setting → Control → Type 0
+Confirms keeps c = isOn (c .«sets_address») ≡ false
+Confirms (sets a) c = (isOn (c .«sets_address») ≡ true) × (c .address % 128 ≡ a)
+
 abbrev pub Waits : Awaited → Pipe → View → Type 0
 Waits nothing p x = Rests p x
 Waits taken p x = (x .control .sort ≡ DATA-OUT) × (isOn (x .out .ready) ≡ p .out .through)
 Waits (given last) p x = (x .control .sort ≡ DATA-IN) × (isOn (x .control .last) ≡ last) × Gives last p x
-Waits confirmed p x = (x .control .sort ≡ ACCEPT) × (isOn (x .inn .ready) ≡ p .inn .through)
+Waits (confirmed s) p x = (x .control .sort ≡ ACCEPT) × (isOn (x .inn .ready) ≡ p .inn .through) × Confirms s (x .control)
 
 pub record Rel (rx tx len : ℕ) (p : Pipe) (a : Awaited) (u : Bool) (x : View) : Type 0 where
   pub stage : x .stage ≡ 2
@@ -82,7 +88,7 @@ R w x = (w .exempt ≡ true) ⊎ Rel (w .rx) (w .tx) (w .len) (w .pipe) (w .awai
 -- ---- the law of a call
 
 -- every way through an outcome, as the log sees it
-abbrev pub Watch : (St → St → Type 0) → (Log → Type 0) → {A : Type 0} → (Log → A → St → Type 0) → Log → tree.Out St A
+abbrev pub Watch : (St → St → Type 0) → (Log → Access → Type 0) → {A : Type 0} → (Log → A → St → Type 0) → Log → tree.Out St A
     → Type 0
 Watch K Ok P w o = Along saw Brings K Ok P w o
 

@@ -56,7 +56,7 @@ waits-out : (a : Awaited) (p : Pipe) (x : View) → isReady (p .out .answers) �
 waits-out nothing p x h w = rests-out p x h w
 waits-out taken p x h w = (w .0, on)
 waits-out (given last) p x h w = (w .0, w .1, gives-out last p x (w .2))
-waits-out confirmed p x h w = w
+waits-out (confirmed s) p x h w = w
 
 pub packet-out : {rx tx l : ℕ} {p : Pipe} {a : Awaited} {u : Bool} {x : View} → isReady (p .out .answers) ≡ true
     → Rel rx tx l p a u x → Rel (flip (nak rx)) tx l (after (packet Out) p) a u (setOut completed x)
@@ -78,7 +78,7 @@ waits-in : (a : Awaited) (p : Pipe) (x : View) → isReady (p .inn .answers) ≡
 waits-in nothing p x h w = rests-in p x h w
 waits-in taken p x h w = w
 waits-in (given last) p x h w = (w .0, w .1, gives-in last p x (w .2))
-waits-in confirmed p x h w = (w .0, on)
+waits-in (confirmed s) p x h w = (w .0, on, w .2)
 
 pub packet-in : {rx tx l : ℕ} {p : Pipe} {a : Awaited} {u : Bool} {x : View} → isReady (p .inn .answers) ≡ true
     → Rel rx tx l p a u x → Rel rx (flip (nak tx)) l (after (packet In) p) a u (setIn completed x)
@@ -103,10 +103,18 @@ token-out {rx = rx} {tx = tx} {l = l} {p = p} {a = a} {u = u} {x = x} m e r = by
     by true false h e = differ (sym h ∙ (sym (r .inn .armed) ∙ e))
     by false true h e = differ (sym e ∙ (r .inn .armed ∙ h))
 
--- the token IN, where no packet OUT is ready
-pub no-packet-out : {rx tx l : ℕ} {p : Pipe} {a : Awaited} {u : Bool} {x : View} → Rel rx tx l p a u x
-    → dataReady (p .out .answers) ≡ false → isOn (x .out .armed) ≡ false
-no-packet-out r h = r .out .armed ∙ h
+-- ---- the token IN: the last packet OUT went through, if it was ready still
+
+pub token-in : {rx tx l : ℕ} {p : Pipe} {a : Awaited} {u : Bool} {x : View} (m : Bool) → isOn (x .out .armed) ≡ m
+    → Rel rx tx l p a u x → Rel (cond m (nakflip rx) rx) tx l (after (token In) p) a u (cond m (setOut completed x) x)
+token-in {rx = rx} {tx = tx} {l = l} {p = p} {a = a} {u = u} {x = x} m e r = by m (dataReady (p .out .answers)) refl e
+  where
+    by : (m d : Bool) → dataReady (p .out .answers) ≡ d → isOn (x .out .armed) ≡ m
+        → Rel (cond m (nakflip rx) rx) tx l (with Out (cond d (gone (p .out)) (p .out)) p) a u (cond m (setOut completed x) x)
+    by true true h e = let q = packet-out (data-is-ready (p .out .answers) h) r in record { stage = r .stage; out = went-hidden rx (p .out) (x .out) (r .out); inn = r .inn; waits = q .waits; size = r .size; setup = r .setup }
+    by false false h e = r
+    by true false h e = differ (sym h ∙ (sym (r .out .armed) ∙ e))
+    by false true h e = differ (sym e ∙ (r .out .armed ∙ h))
 
 -- ---- a setup packet
 

@@ -7,7 +7,7 @@ use lib.Dec.{eqb}
 use Rattle.regs.specs.declared.Access.{Access}
 use Rattle.regs.specs.declared.Access.the-variants.{Read, Write, Receive, Transmit, Ep0Dma, Wait, Callback}
 use Rattle.regs.specs.declared.Reg.{Reg}
-use Rattle.regs.specs.declared.Reg.the-variants.{IntFg, IntSt, MisSt, FrameNo, EpTLen, EpRxCtrl, EpTxCtrl}
+use Rattle.regs.specs.declared.Reg.the-variants.{DevAd, IntFg, IntSt, MisSt, FrameNo, EpTLen, EpRxCtrl, EpTxCtrl}
 use Rattle.regs.specs.declared.Dir.the-variants.{Out, In}
 use Rattle.regs.specs.declared.Token as tokens
 use Rattle.regs.specs.declared.Token.the-variants as tok
@@ -21,7 +21,7 @@ use Rattle.script.specs.Every.{sameReg}
 use Rattle.ops.specs.Rings.{St}
 use Rattle.ops.specs.Conc.{conc}
 use Rattle.proof_usb20.specs.Pipe.{Event, packet, token}
-use Rattle.proof_usb20.specs.Log.{Phase, off, entered, flagged, again, timed, shows, Log, withPhase, happens, ofToken, seen, reads, saw, opens, endsOther, endsSlotted, ends, Poll, none, pollSetup, pollOut, pollIn, pollStatus, pollOf, settled, done, closes, Unfinished, Begins, begins, Completes, GivesSetup, FairPoll, AllowedTo, Allowed}
+use Rattle.proof_usb20.specs.Log.{Phase, off, entered, flagged, again, timed, shows, Log, withPhase, happens, ofToken, seen, reads, saw, opens, endsOther, endsSlotted, ends, Poll, none, pollSetup, pollOut, pollIn, pollStatus, pollOf, settled, done, closes, Unfinished, Begins, begins, Completes, Wrote, GivesSetup, FairPoll, AllowedTo, Allowed}
 use Rattle.proof_usb20.specs.Watch.{watch-any}
 use Rattle.proof_usb20.specs.Ep0.{Watch, Keeps, Ends}
 
@@ -61,7 +61,7 @@ reads-exempt again r v w h = either (sameReg r IntSt) (it (h .is)) h
 
 saw-exempt : (w : Log) (q : Access) (v : ℕ) → Is w → Is (saw w q v)
 saw-exempt w (Read r e) v h = reads-exempt (w .phase) r v w h
-saw-exempt w (Write r e v) x h = either (sameReg r EpRxCtrl) (either (eqb e 0) (it (h .is)) h) (either (sameReg r EpTxCtrl) (either (eqb e 0) (it (h .is)) h) (either (sameReg r EpTLen) (either (eqb e 0) (it (h .is)) h) h))
+saw-exempt w (Write r e v) x h = either (sameReg r EpRxCtrl) (either (eqb e 0) (it (h .is)) h) (either (sameReg r EpTxCtrl) (either (eqb e 0) (it (h .is)) h) (either (sameReg r EpTLen) (either (eqb e 0) (it (h .is)) h) (either (sameReg r DevAd) (it (h .is)) h)))
 saw-exempt w (Receive e y) x h = h
 saw-exempt w (Transmit e y) x h = h
 saw-exempt w (Ep0Dma y) x h = h
@@ -85,11 +85,18 @@ completes-exempt q NotYet w h = tt
 completes-exempt q (Done bytes) w h = λ z. differ (sym z ∙ h)
 completes-exempt q (Shown bytes stamp) w h = tt
 
+wrote-exempt : (a : Answer) (w : Log) → w .exempt ≡ true → Wrote a w
+wrote-exempt (Refused n) w h = tt
+wrote-exempt (End n ws) w h = λ z. differ (sym z ∙ h)
+wrote-exempt NotYet w h = tt
+wrote-exempt (Done bytes) w h = λ z. differ (sym z ∙ h)
+wrote-exempt (Shown bytes stamp) w h = tt
+
 gives-exempt : (a : Answer) (w : Log) → w .exempt ≡ true → GivesSetup a w
 gives-exempt (Refused n) w h = tt
 gives-exempt (End n ws) w h = tt
 gives-exempt NotYet w h = λ z. differ (sym z ∙ h)
-gives-exempt (Done bytes) w h = λ z. differ (sym z ∙ h)
+gives-exempt (Done bytes) w h = (λ z. differ (sym z ∙ h), λ z. differ (sym z ∙ h))
 gives-exempt (Shown bytes stamp) w h = tt
 
 begins-exempt : (a : Answer) (w : Log) → w .exempt ≡ true → Begins a w
@@ -105,15 +112,15 @@ fair-exempt begins a w h = begins-exempt a w h
 fair-exempt pollSetup a w h = gives-exempt a w h
 fair-exempt pollOut a w h = (unfinished-exempt pollOut a w h, completes-exempt pollOut a w h)
 fair-exempt pollIn a w h = (unfinished-exempt pollIn a w h, completes-exempt pollIn a w h)
-fair-exempt pollStatus a w h = (unfinished-exempt pollStatus a w h, completes-exempt pollStatus a w h)
+fair-exempt pollStatus a w h = (unfinished-exempt pollStatus a w h, completes-exempt pollStatus a w h, wrote-exempt a w h)
 
-allowed-exempt : (p : Poll) (w : Log) → w .exempt ≡ true → AllowedTo p w
-allowed-exempt none w h = tt
-allowed-exempt begins w h = tt
-allowed-exempt pollSetup w h = tt
-allowed-exempt pollOut w h = tt
-allowed-exempt pollIn w h = tt
-allowed-exempt pollStatus w h = λ z. differ (sym z ∙ h)
+allowed-exempt : (p : Poll) (w : Log) (q : Access) → w .exempt ≡ true → AllowedTo p w q
+allowed-exempt none w q h = tt
+allowed-exempt begins w q h = tt
+allowed-exempt pollSetup w q h = tt
+allowed-exempt pollOut w q h = tt
+allowed-exempt pollIn w q h = tt
+allowed-exempt pollStatus w q h = (λ z. differ (sym z ∙ h), λ z. differ (sym z ∙ h))
 
 settled-exempt : (p : Poll) (w : Log) → w .exempt ≡ true → settled p w .exempt ≡ true
 settled-exempt none w h = h
@@ -189,4 +196,4 @@ opens-exempt (aside o) w h = h
 -- a task's call, whatever it does
 pub exempt-law : (o : Op) → Task o → (w : Log) (s : St) → w .exempt ≡ true
     → Watch Keeps (Allowed o) (Ends o) (opens o w) (run conc (code o) s)
-exempt-law o t w s h = watch-any (λ x. x .exempt ≡ true) (λ x g. allowed-exempt (pollOf o) x g) (λ x q v g. saw-exempt x q v (it g) .is) (λ x a u g. (inl (closes-exempt o t a x g), fair-exempt (pollOf o) a x g)) (opens o w) (opens-exempt o w h) (run conc (code o) s)
+exempt-law o t w s h = watch-any (λ x. x .exempt ≡ true) (λ x q g. allowed-exempt (pollOf o) x q g) (λ x q v g. saw-exempt x q v (it g) .is) (λ x a u g. (inl (closes-exempt o t a x g), fair-exempt (pollOf o) a x g)) (opens o w) (opens-exempt o w h) (run conc (code o) s)

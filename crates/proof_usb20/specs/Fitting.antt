@@ -12,9 +12,9 @@ use Rattle.script.specs.Control.{DATA-OUT, ACCEPT, requestOf, no-control, dataI
 use Rattle.script.specs.ToggledLaws.{ack-keeps, ack-acks}
 use Rattle.script.specs.ControlLaws.{toggle-with}
 use Rattle.script.specs.Usb20Toggles.{DATA1}
-use Rattle.proof_usb20.specs.Pipe.{Stage, data-stage, status-stage, acks, Half, readied, halted, dataReady, Choice, takes, gives, confirms, rejects, chosen, orderly}
+use Rattle.proof_usb20.specs.Pipe.{Stage, data-stage, status-stage, acks, Half, readied, halted, dataReady, Setting, Choice, takes, gives, confirms, rejects, chosen, orderly}
 use Rattle.proof_usb20.specs.Log.{Log, withRx, withTx, withLen, choose}
-use Rattle.proof_usb20.specs.Ep0.{Rec, View, Fits, no-request, first-wait, Rel, R}
+use Rattle.proof_usb20.specs.Ep0.{Rec, View, Fits, no-request, first-wait, Confirms, Rel, R}
 use Rattle.proof_usb20.specs.Views.{setOut, setIn, setControl}
 use Rattle.proof_usb20.specs.Exempt.{differ}
 
@@ -136,14 +136,14 @@ fits-gives first w x v n r a t = chooses (gives n first false) (withTx v (withLe
       setup = r .setup;
     })
 
-pub fits-confirms : (w : Log) (x : View) (v : ℕ) (c : Control) → c .sort ≡ ACCEPT
+pub fits-confirms : (k : Setting) (w : Log) (x : View) (v : ℕ) (c : Control) → c .sort ≡ ACCEPT → Confirms k c
     → Rel (w .rx) (w .tx) (w .len) (w .pipe) (w .awaits) (w .untaken) x → response v ≡ word.ACK → toggle v ≡ 1
-    → R (choose confirms (withTx v (withLen 0 w))) (setIn (record { ready = 0; armed = x .inn .armed }) (setControl c x))
-fits-confirms w x v c s r a t = chooses confirms (withTx v (withLen 0 w)) _ (λ o. record {
+    → R (choose (confirms k) (withTx v (withLen 0 w))) (setIn (record { ready = 0; armed = x .inn .armed }) (setControl c x))
+fits-confirms k w x v c s m r a t = chooses (confirms k) (withTx v (withLen 0 w)) _ (λ o. record {
   stage = r .stage;
   out = r .out;
   inn = made-ready status-stage true v (w .tx) (w .pipe .inn) (x .inn) _ (r .inn) a t refl (r .inn .armed ∙ negated (dataReady (w .pipe .inn .answers)) o);
-  waits = (s, off);
+  waits = (s, off, m);
   size = λ _. refl;
   setup = r .setup;
 })

@@ -55,7 +55,7 @@ module _ (D : Dir) (E : ℕ) where
 
   -- `P` at each end, of what the log is then: nothing is asked of the chip, and any access is allowed
   abbrev pub Follow : {A : Type 0} → (Track → A → St → Type 0) → Track → tree.Out St A → Type 0
-  Follow P w o = Along (saw D E) (λ _ _ _. Unit {0}) Keeps (λ _. Unit {0}) P w o
+  Follow P w o = Along (saw D E) (λ _ _ _. Unit {0}) Keeps (λ _ _. Unit {0}) P w o
 
   pub follow-bind : {A B : Type 0} {P : Track → A → St → Type 0} {Q : Track → B → St → Type 0} {w : Track}
       {o : tree.Out St A} {f : A → St → tree.Out St B}

@@ -38,7 +38,7 @@ use Rattle.proof_usb20.specs.Same.{act-view}
 use Rattle.proof_usb20.specs.Stages.{outWith, inWith, out-view, in-view, in-whole}
 use Rattle.proof_usb20.specs.Quiet.{Plainly, plainly, steadily, Any, Quiet, q-ret, q-bind, q-if, q-every}
 use Rattle.proof_usb20.specs.Parts.{q-got, q-when, q-sof, q-late, q-check, q-sof-arm, q-dispatch}
-use Rattle.proof_usb20.specs.Events.{completed, packet-out, packet-in, token-out, no-packet-out}
+use Rattle.proof_usb20.specs.Events.{completed, packet-out, packet-in, token-out, token-in}
 
 -- ---- the events, of a log that may be exempt
 
@@ -64,28 +64,19 @@ r-token-out w x m h (inr r) = inr (token-out m h r)
 pub r-in : (w : Log) (x : View) (m : Bool) → isOn (x .out .armed) ≡ m → R w x
     → R (withRx (cond m (nakflip (w .rx)) (w .rx)) (withTx (flip (nak (w .tx))) (happens (pipe.token In) (happens (packet In) w)))) (cond m (setOut completed (setIn completed x)) (setIn completed x))
 r-in w x m h (inl e) = inl (rw e refl)
-r-in w x m h (inr r) = by (w .exempt) (isReady (w .pipe .inn .answers)) refl (dataReady (w .pipe .out .answers)) refl m h
+r-in w x m h (inr r) = by (w .exempt) (isReady (w .pipe .inn .answers)) refl
   where
-    by : (e b : Bool) → isReady (w .pipe .inn .answers) ≡ b → (d : Bool) → dataReady (w .pipe .out .answers) ≡ d
-        → (m : Bool) → isOn (x .out .armed) ≡ m
-        → ((e || not b) || not (not d) ≡ true) ⊎ Rel (cond m (nakflip (w .rx)) (w .rx)) (flip (nak (w .tx))) (w .len) (pipe.after (packet In) (w .pipe)) (w .awaits) (w .untaken) (cond m (setOut completed (setIn completed x)) (setIn completed x))
-    by true b q d z m h = inl refl
-    by false false q d z m h = inl refl
-    by false true q true z m h = inl refl
-    by false true q false z false h = inr (packet-in q r)
-    by false true q false z true h = differ (sym (no-packet-out r z) ∙ h)
+    by : (e b : Bool) → isReady (w .pipe .inn .answers) ≡ b
+        → ((e || not b) || false ≡ true) ⊎ Rel (cond m (nakflip (w .rx)) (w .rx)) (flip (nak (w .tx))) (w .len) (pipe.after (pipe.token In) (pipe.after (packet In) (w .pipe))) (w .awaits) (w .untaken) (cond m (setOut completed (setIn completed x)) (setIn completed x))
+    by e true q = inr (token-in m h (packet-in q r))
+    by true false q = inl refl
+    by false false q = inl refl
 
+-- the token IN alone
 pub r-token-in : (w : Log) (x : View) (m : Bool) → isOn (x .out .armed) ≡ m → R w x
     → R (withRx (cond m (nakflip (w .rx)) (w .rx)) (happens (pipe.token In) w)) (cond m (setOut completed x) x)
 r-token-in w x m h (inl e) = inl (rw e refl)
-r-token-in w x m h (inr r) = by (w .exempt) (dataReady (w .pipe .out .answers)) refl m h
-  where
-    by : (e d : Bool) → dataReady (w .pipe .out .answers) ≡ d → (m : Bool) → isOn (x .out .armed) ≡ m
-        → (e || not (not d) ≡ true) ⊎ Rel (cond m (nakflip (w .rx)) (w .rx)) (w .tx) (w .len) (w .pipe) (w .awaits) (w .untaken) (cond m (setOut completed x) x)
-    by true d z m h = inl refl
-    by false true z m h = inl refl
-    by false false z false h = inr r
-    by false false z true h = differ (sym (no-packet-out r z) ∙ h)
+r-token-in w x m h (inr r) = inr (token-in m h r)
 
 -- ---- scripts
 

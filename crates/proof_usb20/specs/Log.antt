@@ -3,13 +3,13 @@
 -- endpoint 0. It knows nothing of the driver's state.
 use mathlib.Core.Bool.{Bool, true, false, not, cond, _&&_, _||_}
 use mathlib.Core.Path.{_≡_}
-use Prim.Native.Nat.{ℕ}
+use Prim.Native.Nat.{ℕ, _%_}
 use lib.Dec.{eqb}
 use lib.ListN.{length}
 use Rattle.regs.specs.declared.Access.{Access}
 use Rattle.regs.specs.declared.Access.the-variants.{Read, Write, Receive, Transmit, Ep0Dma, Wait, Callback}
 use Rattle.regs.specs.declared.Reg.{Reg}
-use Rattle.regs.specs.declared.Reg.the-variants.{IntFg, IntSt, MisSt, FrameNo, EpTLen, EpRxCtrl, EpTxCtrl}
+use Rattle.regs.specs.declared.Reg.the-variants.{DevAd, IntFg, IntSt, MisSt, FrameNo, EpTLen, EpRxCtrl, EpTxCtrl}
 use Rattle.regs.specs.declared.Dir.the-variants.{Out, In}
 use Rattle.regs.specs.declared.Token as tokens
 use Rattle.regs.specs.declared.Token.the-variants as tok
@@ -22,8 +22,9 @@ use Rattle.regs.specs.MisStatus.{sieFree}
 use Rattle.script.specs.Answers.{Answer, Refused, End, NotYet, Done, Shown}
 use Rattle.script.specs.Calls.{Op, interrupt, slotted, other, aside, Slotted, SetEnabled, PollRead, BeginWrite, PollWrite, PollDataOut, BeginDataIn, Other, Allocate, AllocateAll, Start, BusPoll, BusEnable, BusDisable, Microframe, SetStalled, IsStalled, SetPaced, Advance, BeginRead, BeginSetup, PollSetup, PollDataIn, BeginAccept, PollAccept, BeginReject, BeginDataOut, BeginAcceptSetAddress}
 use Rattle.script.specs.Every.{sameReg}
+use Rattle.script.specs.AddressWrites.{Writes}
 use Rattle.script.specs.TogglesLaws.{number}
-use Rattle.proof_usb20.specs.Pipe.{Answers, naks, stalls, acks, Half, renewed, isReady, Pipe, Event, setup, packet, token, possible, after, Choice, takes, gives, confirms, rejects, chosen, orderly, Awaited, nothing, awaitedBy, over, taken, given, confirmed}
+use Rattle.proof_usb20.specs.Pipe.{Answers, naks, stalls, acks, Half, renewed, isReady, Pipe, Event, setup, packet, token, possible, after, Choice, takes, gives, confirms, rejects, chosen, orderly, Awaited, nothing, awaitedBy, over, taken, given, confirmed, Setting, keeps, sets}
 
 -- how far an interrupt's readings are: none of them concerns endpoint 0, its flags are to come, they are read, the
 -- bus's state (`true`: busy), the status it shows, the flag found taken by the release so that the status is read again
@@ -45,39 +46,43 @@ pub record Log : Type 0 where
   pub exempt : Bool
   pub phase : Phase
   pub setup-seen : Bool
+  pub wrote : Setting  -- the address that the call under way wrote to dev_ad, or none
 
 abbrev pub before : Log
-before = record { rx = 0; tx = 0; len = 0; pipe = record { out = renewed; inn = renewed; size = 0 }; awaits = nothing; untaken = false; exempt = true; phase = off; setup-seen = false }
+before = record { rx = 0; tx = 0; len = 0; pipe = record { out = renewed; inn = renewed; size = 0 }; awaits = nothing; untaken = false; exempt = true; phase = off; setup-seen = false; wrote = keeps }
 
 abbrev pub withRx : ℕ → Log → Log
-withRx v w = record { rx = v; tx = w .tx; len = w .len; pipe = w .pipe; awaits = w .awaits; untaken = w .untaken; exempt = w .exempt; phase = w .phase; setup-seen = w .setup-seen }
+withRx v w = record { rx = v; tx = w .tx; len = w .len; pipe = w .pipe; awaits = w .awaits; untaken = w .untaken; exempt = w .exempt; phase = w .phase; setup-seen = w .setup-seen; wrote = w .wrote }
 
 abbrev pub withTx : ℕ → Log → Log
-withTx v w = record { rx = w .rx; tx = v; len = w .len; pipe = w .pipe; awaits = w .awaits; untaken = w .untaken; exempt = w .exempt; phase = w .phase; setup-seen = w .setup-seen }
+withTx v w = record { rx = w .rx; tx = v; len = w .len; pipe = w .pipe; awaits = w .awaits; untaken = w .untaken; exempt = w .exempt; phase = w .phase; setup-seen = w .setup-seen; wrote = w .wrote }
 
 abbrev pub withLen : ℕ → Log → Log
-withLen n w = record { rx = w .rx; tx = w .tx; len = n; pipe = w .pipe; awaits = w .awaits; untaken = w .untaken; exempt = w .exempt; phase = w .phase; setup-seen = w .setup-seen }
+withLen n w = record { rx = w .rx; tx = w .tx; len = n; pipe = w .pipe; awaits = w .awaits; untaken = w .untaken; exempt = w .exempt; phase = w .phase; setup-seen = w .setup-seen; wrote = w .wrote }
 
 abbrev pub withPhase : Phase → Log → Log
-withPhase p w = record { rx = w .rx; tx = w .tx; len = w .len; pipe = w .pipe; awaits = w .awaits; untaken = w .untaken; exempt = w .exempt; phase = p; setup-seen = w .setup-seen }
+withPhase p w = record { rx = w .rx; tx = w .tx; len = w .len; pipe = w .pipe; awaits = w .awaits; untaken = w .untaken; exempt = w .exempt; phase = p; setup-seen = w .setup-seen; wrote = w .wrote }
 
 abbrev pub withFlags : Bool → Log → Log
-withFlags s w = record { rx = w .rx; tx = w .tx; len = w .len; pipe = w .pipe; awaits = w .awaits; untaken = w .untaken; exempt = w .exempt; phase = flagged; setup-seen = s }
+withFlags s w = record { rx = w .rx; tx = w .tx; len = w .len; pipe = w .pipe; awaits = w .awaits; untaken = w .untaken; exempt = w .exempt; phase = flagged; setup-seen = s; wrote = w .wrote }
 
 abbrev pub withAwaits : Awaited → Log → Log
-withAwaits a w = record { rx = w .rx; tx = w .tx; len = w .len; pipe = w .pipe; awaits = a; untaken = w .untaken; exempt = w .exempt; phase = w .phase; setup-seen = w .setup-seen }
+withAwaits a w = record { rx = w .rx; tx = w .tx; len = w .len; pipe = w .pipe; awaits = a; untaken = w .untaken; exempt = w .exempt; phase = w .phase; setup-seen = w .setup-seen; wrote = w .wrote }
 
 abbrev pub withTaken : Log → Log
-withTaken w = record { rx = w .rx; tx = w .tx; len = w .len; pipe = w .pipe; awaits = w .awaits; untaken = false; exempt = w .exempt; phase = w .phase; setup-seen = w .setup-seen }
+withTaken w = record { rx = w .rx; tx = w .tx; len = w .len; pipe = w .pipe; awaits = w .awaits; untaken = false; exempt = w .exempt; phase = w .phase; setup-seen = w .setup-seen; wrote = w .wrote }
+
+abbrev pub withWrote : Setting → Log → Log
+withWrote s w = record { rx = w .rx; tx = w .tx; len = w .len; pipe = w .pipe; awaits = w .awaits; untaken = w .untaken; exempt = w .exempt; phase = w .phase; setup-seen = w .setup-seen; wrote = s }
 
 -- ---- the bus's events
 
 abbrev pub happens : Event → Log → Log
-happens e w = record { rx = w .rx; tx = w .tx; len = w .len; pipe = after e (w .pipe); awaits = w .awaits; untaken = w .untaken; exempt = w .exempt || not (possible e (w .pipe)); phase = w .phase; setup-seen = w .setup-seen }
+happens e w = record { rx = w .rx; tx = w .tx; len = w .len; pipe = after e (w .pipe); awaits = w .awaits; untaken = w .untaken; exempt = w .exempt || not (possible e (w .pipe)); phase = w .phase; setup-seen = w .setup-seen; wrote = w .wrote }
 
 -- a setup packet ends what the function waits for, and all exemption
 abbrev pub set-up : Log → Log
-set-up w = record { rx = w .rx; tx = w .tx; len = w .len; pipe = after setup (w .pipe); awaits = nothing; untaken = true; exempt = false; phase = w .phase; setup-seen = w .setup-seen }
+set-up w = record { rx = w .rx; tx = w .tx; len = w .len; pipe = after setup (w .pipe); awaits = nothing; untaken = true; exempt = false; phase = w .phase; setup-seen = w .setup-seen; wrote = w .wrote }
 
 -- what the status shows of endpoint 0: a transaction that is complete, if the bus was free; the token in any case
 abbrev pub ofToken : tokens.Token → Bool → Bool → Log → Log
@@ -99,7 +104,7 @@ reads again r v w = cond (sameReg r IntSt) (withPhase (shows false v) w) w
 
 abbrev pub writes : Reg → ℕ → ℕ → Log → Log
 writes r e v w = cond (sameReg r EpRxCtrl) (cond (eqb e 0) (withRx v w) w) (cond (sameReg r EpTxCtrl) (cond (eqb e 0) (withTx v w) w)
-    (cond (sameReg r EpTLen) (cond (eqb e 0) (withLen v w) w) w))
+    (cond (sameReg r EpTLen) (cond (eqb e 0) (withLen v w) w) (cond (sameReg r DevAd) (withWrote (sets v) w) w)))
 
 -- an access, and the number brought for it
 abbrev pub saw : Log → Access → ℕ → Log
@@ -124,17 +129,20 @@ Brings w Callback x = Unit {0}
 -- ---- the function's choices
 
 abbrev pub choose : Choice → Log → Log
-choose c w = record { rx = w .rx; tx = w .tx; len = w .len; pipe = chosen c (w .pipe); awaits = awaitedBy c; untaken = w .untaken; exempt = w .exempt || not (orderly c (w .pipe)); phase = w .phase; setup-seen = w .setup-seen }
+choose c w = record { rx = w .rx; tx = w .tx; len = w .len; pipe = chosen c (w .pipe); awaits = awaitedBy c; untaken = w .untaken; exempt = w .exempt || not (orderly c (w .pipe)); phase = w .phase; setup-seen = w .setup-seen; wrote = w .wrote }
 
 abbrev pub exempted : Log → Log
-exempted w = record { rx = w .rx; tx = w .tx; len = w .len; pipe = w .pipe; awaits = w .awaits; untaken = w .untaken; exempt = true; phase = w .phase; setup-seen = w .setup-seen }
+exempted w = record { rx = w .rx; tx = w .tx; len = w .len; pipe = w .pipe; awaits = w .awaits; untaken = w .untaken; exempt = true; phase = w .phase; setup-seen = w .setup-seen; wrote = w .wrote }
 
--- an operation begins
+-- an operation begins: it has written no address
+abbrev pub afresh : Log → Log
+afresh w = withPhase off (withWrote keeps w)
+
 abbrev pub opens : Op → Log → Log
-opens interrupt w = record { rx = w .rx; tx = w .tx; len = w .len; pipe = w .pipe; awaits = w .awaits; untaken = w .untaken; exempt = w .exempt; phase = entered; setup-seen = false }
-opens (slotted o) w = withPhase off w
-opens (other o) w = withPhase off w
-opens (aside o) w = withPhase off w
+opens interrupt w = record { rx = w .rx; tx = w .tx; len = w .len; pipe = w .pipe; awaits = w .awaits; untaken = w .untaken; exempt = w .exempt; phase = entered; setup-seen = false; wrote = keeps }
+opens (slotted o) w = afresh w
+opens (other o) w = afresh w
+opens (aside o) w = afresh w
 
 -- it ends with a result: a begin is the function's choice; a bus reset (result 2) and a halt of EP0 set or cleared by a
 -- call exempt
@@ -154,11 +162,11 @@ endsOther (BeginRead e m) n w = w
 endsOther BeginSetup n w = withAwaits nothing w
 endsOther PollSetup n w = w
 endsOther PollDataIn n w = w
-endsOther BeginAccept n w = choose confirms w
+endsOther BeginAccept n w = choose (confirms keeps) w
 endsOther PollAccept n w = withAwaits nothing w
 endsOther BeginReject n w = choose rejects w
 endsOther (BeginDataOut m first) n w = choose (takes first) w
-endsOther (BeginAcceptSetAddress a) n w = choose confirms w
+endsOther (BeginAcceptSetAddress a) n w = choose (confirms (sets (a % 128))) w
 
 abbrev pub endsSlotted : Slotted → Log → Log
 endsSlotted (SetEnabled d e on) w = w
@@ -261,15 +269,15 @@ asksAfter pollSetup a = false
 asksAfter pollOut nothing = false
 asksAfter pollOut taken = true
 asksAfter pollOut (given last) = false
-asksAfter pollOut confirmed = false
+asksAfter pollOut (confirmed s) = false
 asksAfter pollIn nothing = false
 asksAfter pollIn taken = false
 asksAfter pollIn (given last) = true
-asksAfter pollIn confirmed = false
+asksAfter pollIn (confirmed s) = false
 asksAfter pollStatus nothing = false
 asksAfter pollStatus taken = false
 asksAfter pollStatus (given last) = false
-asksAfter pollStatus confirmed = true
+asksAfter pollStatus (confirmed s) = true
 
 abbrev pub Complete : Poll → Bool → Log → Type 0
 Complete q b w = w .exempt ≡ false → asksAfter q (w .awaits) && over (w .awaits) (w .pipe) ≡ b
@@ -295,12 +303,20 @@ Completes q NotYet w = Unit {0}
 Completes q (Done bytes) w = Complete q true w
 Completes q (Shown bytes stamp) w = Unit {0}
 
--- a setup's poll gives a packet exactly if there is one
+-- of an accept's poll that is done: it has written the address of the Set Address that was accepted, or none (9.4.6)
+abbrev pub Wrote : Answer → Log → Type 0
+Wrote (Refused n) w = Unit {0}
+Wrote (End n ws) w = w .exempt ≡ false → w .awaits ≡ confirmed (w .wrote)
+Wrote NotYet w = Unit {0}
+Wrote (Done bytes) w = w .exempt ≡ false → w .awaits ≡ confirmed (w .wrote)
+Wrote (Shown bytes stamp) w = Unit {0}
+
+-- a setup's poll gives a packet exactly if there is one, and that has eight bytes (8.5.3)
 abbrev pub GivesSetup : Answer → Log → Type 0
 GivesSetup (Refused n) w = Unit {0}
 GivesSetup (End n ws) w = Unit {0}
 GivesSetup NotYet w = Untaken false w
-GivesSetup (Done bytes) w = Untaken true w
+GivesSetup (Done bytes) w = Untaken true w × (w .exempt ≡ false → length bytes ≡ 8)
 GivesSetup (Shown bytes stamp) w = Unit {0}
 
 -- a stage's begin is refused with 9 only after a setup packet
@@ -317,19 +333,28 @@ FairPoll begins a w = Begins a w
 FairPoll pollSetup a w = GivesSetup a w
 FairPoll pollOut a w = Unfinished pollOut a w × Completes pollOut a w
 FairPoll pollIn a w = Unfinished pollIn a w × Completes pollIn a w
-FairPoll pollStatus a w = Unfinished pollStatus a w × Completes pollStatus a w
+FairPoll pollStatus a w = Unfinished pollStatus a w × Completes pollStatus a w × Wrote a w
 
 abbrev pub Fair : Op → Answer → Log → Type 0
 Fair o a w = FairPoll (pollOf o) a w
 
--- and an accept's hands out no access before the completion: the address changes after the status stage (9.4.6)
-abbrev pub AllowedTo : Poll → Log → Type 0
-AllowedTo none w = Unit {0}
-AllowedTo begins w = Unit {0}
-AllowedTo pollSetup w = Unit {0}
-AllowedTo pollOut w = Unit {0}
-AllowedTo pollIn w = Unit {0}
-AllowedTo pollStatus w = Complete pollStatus true w
+-- the address of the Set Address that was accepted
+abbrev pub Accepted : Awaited → ℕ → Type 0
+Accepted nothing v = ⊥
+Accepted taken v = ⊥
+Accepted (given last) v = ⊥
+Accepted (confirmed keeps) v = ⊥
+Accepted (confirmed (sets a)) v = v ≡ a
 
-abbrev pub Allowed : Op → Log → Type 0
-Allowed o w = AllowedTo (pollOf o) w
+-- and an accept's hands out no access before the completion, and no write of dev_ad but of the accepted address: the
+-- address changes after the status stage (9.4.6)
+abbrev pub AllowedTo : Poll → Log → Access → Type 0
+AllowedTo none w q = Unit {0}
+AllowedTo begins w q = Unit {0}
+AllowedTo pollSetup w q = Unit {0}
+AllowedTo pollOut w q = Unit {0}
+AllowedTo pollIn w q = Unit {0}
+AllowedTo pollStatus w q = Complete pollStatus true w × (w .exempt ≡ false → Writes (Accepted (w .awaits)) q)
+
+abbrev pub Allowed : Op → Log → Access → Type 0
+Allowed o w q = AllowedTo (pollOf o) w q

@@ -23,7 +23,7 @@ pub record Observer : Type 1 where
   pub Brings : Log → Access → ℕ → Type 0
   -- what is claimed of a call's answer, and of the accesses that it hands out
   pub Fair : Op → Answer → Log → Type 0
-  pub Allowed : Op → Log → Type 0
+  pub Allowed : Op → Log → Access → Type 0
   pub Asks : Op → Access → Type 0
   -- what the driver's state shows; what is claimed of it where nothing is under way; which states are spoken of
   pub View : Type 0
@@ -96,7 +96,7 @@ module _ (O : Observer) where
 
   abbrev pub ClaimAt : Op → Ans Answer → O .Log → Type 0
   ClaimAt o (ended a) w = O .Fair o a w
-  ClaimAt o (handed q) w = O .Allowed o w × O .Asks o q
+  ClaimAt o (handed q) w = O .Allowed o w q × O .Asks o q
   ClaimAt o (told n) w = Unit {0}
 
   abbrev pub ClaimGone : ℕ → Ans Answer → Bool → O .Log → Under → Type 0

@@ -4,25 +4,26 @@ use mathlib.Core.Bool.{Bool, true, false, cond, _&&_}
 use mathlib.Core.List.{[]}
 use mathlib.Core.Logic.{_⊎_, inl, inr}
 use mathlib.Core.Path.{_≡_, refl, ap, subst, sym, _∙_}
-use Prim.Native.Nat.{ℕ}
+use Prim.Native.Nat.{ℕ, _%_}
 use native.Mathlib.Omega.{arith}
 use lib.Dec.{eqb, ltb}
 use lib.ListN.{length}
 use borrow.Author.Tests.{eqb-true}
 use Rattle.regs.specs.declared.Dir.the-variants.{Out, In}
 use Rattle.state.specs.declared.Control.{Control}
+use Rattle.state.specs.declared.Globals.{Globals}
 use Rattle.script.specs.Tree as tree
 use Rattle.script.specs.Cells.{ep-cell, control-cell, globals-cell}
 use Rattle.script.specs.Script.{run, no-wakes}
 use Rattle.script.specs.Statics.{isOn, withReady, withSetup}
 use Rattle.script.specs.Answers.{Answer, Refused, NotYet, Done}
-use Rattle.script.specs.Control.{SETUP, DATA-OUT, DATA-IN, ACCEPT, no-control, dataInOf}
+use Rattle.script.specs.Control.{SETUP, DATA-OUT, DATA-IN, ACCEPT, no-control, dataInOf, setupBytes}
 use Rattle.script.specs.Calls.{slotted, other, PollDataOut, PollSetup, PollDataIn, PollAccept, code}
 use Rattle.ops.specs.Rings.{St}
 use Rattle.ops.specs.Conc.{conc}
 use Rattle.book.specs.Sorting.{Sorting}
-use Rattle.proof_usb20.specs.Pipe.{Half, Pipe, Awaited, nothing, taken, given, confirmed, over}
-use Rattle.proof_usb20.specs.Log.{Log, withPhase, off, Allowed, asksAfter, pollOut, pollIn, pollStatus}
+use Rattle.proof_usb20.specs.Pipe.{Half, Pipe, Awaited, nothing, taken, given, confirmed, over, keeps, sets}
+use Rattle.proof_usb20.specs.Log.{Log, afresh, Accepted, Allowed, asksAfter, pollOut, pollIn, pollStatus}
 use Rattle.proof_usb20.specs.Watch.{at-end, at-ask, watch-cond}
 use Rattle.proof_usb20.specs.Ep0.{Watch, Rec, View, view, Fits, Rests, no-request, set-up, Gives, first-wait, second-wait, Rel, R, Keeps, Ends, Law}
 use Rattle.proof_usb20.specs.Exempt.{exempt-law, differ}
@@ -78,11 +79,15 @@ done-none s = ap (λ (x : View). x .control) (none-view s)
 
 -- ---- setup
 
+eight : (g : Globals) → length (setupBytes g) ≡ 8
+unfolding setupBytes
+eight g = refl
+
 pub law-poll-setup : Law (other PollSetup)
 law-poll-setup w s (inl e) z = exempt-law (other PollSetup) tt w s e
 law-poll-setup w s (inr r) z =
     watch-cond (eqb (s .0 .globals .stage) 2)
-    (λ _. watch-cond (eqb (s .0 .control .sort) SETUP) (λ q. watch-cond (isOn (s .0 .globals .«setup_ready»)) (λ o. at-end (taken-setup (w .awaits) r (eqb-true (s .0 .control .sort) SETUP q), λ _. sym (r .setup) ∙ o)) (λ o. at-end (inr r, λ _. sym (r .setup) ∙ o))) (λ _. at-end (inr r, tt)))
+    (λ _. watch-cond (eqb (s .0 .control .sort) SETUP) (λ q. watch-cond (isOn (s .0 .globals .«setup_ready»)) (λ o. at-end (taken-setup (w .awaits) r (eqb-true (s .0 .control .sort) SETUP q), (λ _. sym (r .setup) ∙ o, λ _. eight (s .0 .globals)))) (λ o. at-end (inr r, λ _. sym (r .setup) ∙ o))) (λ _. at-end (inr r, tt)))
     (λ _. at-end (inr r, tt))
   where
     x : St
@@ -97,7 +102,7 @@ law-poll-setup w s (inr r) z =
     taken-setup nothing r q = moved seen (inr (record { stage = r .stage; out = r .out; inn = r .inn; waits = rested refl; size = r .size; setup = fitting.off }))
     taken-setup taken r q = absurd (omega (arith, q, r .waits .0))
     taken-setup (given last) r q = absurd (omega (arith, q, r .waits .0))
-    taken-setup confirmed r q = absurd (omega (arith, q, r .waits .0))
+    taken-setup (confirmed s) r q = absurd (omega (arith, q, r .waits .0))
 
 -- another request, or none
 other-out : (a : Awaited) {rx tx l : ℕ} {p : Pipe} {u : Bool} {x : View} → Rel rx tx l p a u x → eqb (x .control .sort) 2 ≡ false
@@ -105,21 +110,21 @@ other-out : (a : Awaited) {rx tx l : ℕ} {p : Pipe} {u : Bool} {x : View} → R
 other-out nothing r h = refl
 other-out taken r h = differ (sym h ∙ ap (λ (n : ℕ). eqb n 2) (r .waits .0))
 other-out (given last) r h = refl
-other-out confirmed r h = refl
+other-out (confirmed s) r h = refl
 
 other-in : (a : Awaited) {rx tx l : ℕ} {p : Pipe} {u : Bool} {x : View} → Rel rx tx l p a u x → eqb (x .control .sort) 3 ≡ false
     → asksAfter pollIn a ≡ false
 other-in nothing r h = refl
 other-in taken r h = refl
 other-in (given last) r h = differ (sym h ∙ ap (λ (n : ℕ). eqb n 3) (r .waits .0))
-other-in confirmed r h = refl
+other-in (confirmed s) r h = refl
 
 other-status : (a : Awaited) {rx tx l : ℕ} {p : Pipe} {u : Bool} {x : View} → Rel rx tx l p a u x → eqb (x .control .sort) 4 ≡ false
     → asksAfter pollStatus a ≡ false
 other-status nothing r h = refl
 other-status taken r h = refl
 other-status (given last) r h = refl
-other-status confirmed r h = differ (sym h ∙ ap (λ (n : ℕ). eqb n 4) (r .waits .0))
+other-status (confirmed s) r h = differ (sym h ∙ ap (λ (n : ℕ). eqb n 4) (r .waits .0))
 
 -- ---- data_out
 
@@ -133,14 +138,14 @@ ready-out nothing {p = p} {x = x} r q o = by (r .waits)
     by (set-up e f g h i) = differ (sym f ∙ o)
 ready-out taken r q o = sym (r .waits .1) ∙ o
 ready-out (given last) r q o = absurd (omega (arith, q, r .waits .0))
-ready-out confirmed r q o = absurd (omega (arith, q, r .waits .0))
+ready-out (confirmed s) r q o = absurd (omega (arith, q, r .waits .0))
 
 unready-out : (a : Awaited) {rx tx l : ℕ} {p : Pipe} {u : Bool} {x : View} → Rel rx tx l p a u x → x .control .sort ≡ 2
     → isOn (x .out .ready) ≡ false → asksAfter pollOut a && over a p ≡ false
 unready-out nothing r q o = refl
 unready-out taken r q o = sym (r .waits .1) ∙ o
 unready-out (given last) r q o = absurd (omega (arith, q, r .waits .0))
-unready-out confirmed r q o = absurd (omega (arith, q, r .waits .0))
+unready-out (confirmed s) r q o = absurd (omega (arith, q, r .waits .0))
 
 pub law-poll-data-out : (n : ℕ) → Law (slotted (PollDataOut n))
 law-poll-data-out n w s (inl e) z = exempt-law (slotted (PollDataOut n)) tt w s e
@@ -171,14 +176,32 @@ ready-status nothing {p = p} {x = x} r q o = by (r .waits)
     by (set-up e f g h i) = differ (sym g ∙ o)
 ready-status taken r q o = absurd (omega (arith, q, r .waits .0))
 ready-status (given last) r q o = absurd (omega (arith, q, r .waits .0))
-ready-status confirmed r q o = sym (r .waits .1) ∙ o
+ready-status (confirmed s) r q o = sym (r .waits .1) ∙ o
 
 unready-status : (a : Awaited) {rx tx l : ℕ} {p : Pipe} {u : Bool} {x : View} → Rel rx tx l p a u x
     → x .control .sort ≡ 4 → isOn (x .inn .ready) ≡ false → asksAfter pollStatus a && over a p ≡ false
 unready-status nothing r q o = refl
 unready-status taken r q o = absurd (omega (arith, q, r .waits .0))
 unready-status (given last) r q o = absurd (omega (arith, q, r .waits .0))
-unready-status confirmed r q o = sym (r .waits .1) ∙ o
+unready-status (confirmed s) r q o = sym (r .waits .1) ∙ o
+
+-- the address that is written is the accepted one, if one is
+address-written : (a : Awaited) {rx tx l : ℕ} {p : Pipe} {u : Bool} {x : View} → Rel rx tx l p a u x → x .control .sort ≡ 4
+    → isOn (x .inn .ready) ≡ true → isOn (x .control .«sets_address») ≡ true
+    → Accepted a (x .control .address % 128) × (a ≡ confirmed (sets (x .control .address % 128)))
+address-written nothing r q o h = differ (ready-status nothing r q o)
+address-written taken r q o h = absurd (omega (arith, q, r .waits .0))
+address-written (given last) r q o h = absurd (omega (arith, q, r .waits .0))
+address-written (confirmed keeps) r q o h = differ (sym (r .waits .2) ∙ h)
+address-written (confirmed (sets a)) r q o h = (r .waits .2 .1, ap (λ (n : ℕ). confirmed (sets n)) (sym (r .waits .2 .1)))
+
+none-written : (a : Awaited) {rx tx l : ℕ} {p : Pipe} {u : Bool} {x : View} → Rel rx tx l p a u x → x .control .sort ≡ 4
+    → isOn (x .inn .ready) ≡ true → isOn (x .control .«sets_address») ≡ false → a ≡ confirmed keeps
+none-written nothing r q o h = differ (ready-status nothing r q o)
+none-written taken r q o h = absurd (omega (arith, q, r .waits .0))
+none-written (given last) r q o h = absurd (omega (arith, q, r .waits .0))
+none-written (confirmed keeps) r q o h = refl
+none-written (confirmed (sets a)) r q o h = differ (sym h ∙ r .waits .2 .0)
 
 pub law-poll-accept : Law (other PollAccept)
 law-poll-accept w s (inl e) z = exempt-law (other PollAccept) tt w s e
@@ -188,14 +211,14 @@ law-poll-accept w s (inr r) z =
     (λ q. let four = eqb-true (s .0 .control .sort) ACCEPT q in
     watch-cond (isOn (conc .get (ep-cell In 0) s .ready))
     (λ o. watch-cond (isOn (s .0 .control .«sets_address»))
-    (λ _. at-ask (λ _. ready-status (w .awaits) r four o) (λ v t b k.
-    at-end (moved (k .0 ∙ act-view no-wakes refl (none (inWith (withReady 0) s))) (over-now r (kin-in s (z .places)) (done-none (inWith (withReady 0) s))), (tt, λ _. ready-status (w .awaits) r four o))))
-    (λ _. at-end (over-now r (kin-in s (z .places)) (done-none (inWith (withReady 0) s)), (tt, λ _. ready-status (w .awaits) r four o))))
+    (λ h. at-ask (λ _. ready-status (w .awaits) r four o, λ _. address-written (w .awaits) r four o h .0) (λ v t b k.
+    at-end (moved (k .0 ∙ act-view no-wakes refl (none (inWith (withReady 0) s))) (over-now r (kin-in s (z .places)) (done-none (inWith (withReady 0) s))), (tt, λ _. ready-status (w .awaits) r four o, λ _. address-written (w .awaits) r four o h .1))))
+    (λ h. at-end (over-now r (kin-in s (z .places)) (done-none (inWith (withReady 0) s)), (tt, λ _. ready-status (w .awaits) r four o, λ _. none-written (w .awaits) r four o h))))
     (λ o. watch-cond (isOn (s .0 .globals .«setup_ready»))
-    (λ g. at-end (over-now r (kin-none s) (done-none s), ((λ _ _. sym (r .setup) ∙ g, λ h. differ h), tt)))
-    (λ g. at-end (inr r, ((λ _. unready-status (w .awaits) r four o, λ _. sym (r .setup) ∙ g), tt)))))
-    (λ k. at-end (inr r, ((λ h. differ h, λ _ _. other-status (w .awaits) r k), tt))))
-    (λ _. at-end (inr r, ((λ h. differ h, λ h. differ h), tt)))
+    (λ g. at-end (over-now r (kin-none s) (done-none s), ((λ _ _. sym (r .setup) ∙ g, λ h. differ h), tt, tt)))
+    (λ g. at-end (inr r, ((λ _. unready-status (w .awaits) r four o, λ _. sym (r .setup) ∙ g), tt, tt)))))
+    (λ k. at-end (inr r, ((λ h. differ h, λ _ _. other-status (w .awaits) r k), tt, tt))))
+    (λ _. at-end (inr r, ((λ h. differ h, λ h. differ h), tt, tt)))
 
 -- ---- data_in
 
@@ -222,7 +245,7 @@ waiting (given last) {p = p} {x = x} r q = by last (r .waits .1) (r .waits .2)
     by last l (first-wait n i o) = packet-of last refl l n i o
     by true l (second-wait n e i o) = closing-of refl l n i o
     by false l (second-wait n e i o) = differ e
-waiting confirmed r q = absurd (omega (arith, q, r .waits .0))
+waiting (confirmed s) r q = absurd (omega (arith, q, r .waits .0))
 
 over-last : (p : Pipe) → p .inn .through ≡ true → over (given true) p ≡ p .out .through
 over-last p h = rw h refl
@@ -240,7 +263,7 @@ second-view : (s : St) → Whole s
 second-view s h = put-control (dataInOf (s .0 .control .length) (s .0 .control .last) 2) (inWith (withReady 0) s) ∙ ap (setControl (dataInOf (s .0 .control .length) (s .0 .control .last) 2)) (in-view (withReady 0) s h)
 
 abbrev Polled : Log → St → tree.Out St Answer → Type 0
-Polled w s o = Watch Keeps (Allowed (other PollDataIn)) (Ends (other PollDataIn)) (withPhase off w) o
+Polled w s o = Watch Keeps (Allowed (other PollDataIn)) (Ends (other PollDataIn)) (afresh w) o
 
 module _ (w : Log) (s : St) (r : Rel (w .rx) (w .tx) (w .len) (w .pipe) (w .awaits) (w .untaken) (view (s .0))) (z : Sorting (s .0)) where
   -- the closing OUT came, empty or with data
@@ -254,7 +277,7 @@ module _ (w : Log) (s : St) (r : Rel (w .rx) (w .tx) (w .len) (w .pipe) (w .awai
 
   -- the data packet went through, the closing OUT is awaited
   goes-on : w .awaits ≡ given true → isOn (s .0 .control .last) ≡ true → w .pipe .inn .through ≡ true
-      → isOn (view (s .0) .out .ready) ≡ w .pipe .out .through → R (withPhase off w) (view (second s .0))
+      → isOn (view (s .0) .out .ready) ≡ w .pipe .out .through → R (afresh w) (view (second s .0))
   goes-on a l i o = inr (subst (λ (x : Awaited). Rel (w .rx) (w .tx) (w .len) (w .pipe) x (w .untaken) (view (second s .0))) (sym a) (subst (Rel (w .rx) (w .tx) (w .len) (w .pipe) (given true) (w .untaken)) (sym (second-view s (z .places))) (record { stage = r .stage; out = r .out; inn = refit refl (r .inn); waits = (refl, l, second-wait refl refl i o); size = r .size; setup = r .setup })))
 
   polled-in : Waiting (w .awaits) (w .pipe) (view (s .0)) → Polled w s (run conc (code (other PollDataIn)) s)
@@ -299,6 +322,6 @@ law-poll-data-in w s (inl e) z = exempt-law (other PollDataIn) tt w s e
 law-poll-data-in w s (inr r) z = by (eqb (s .0 .control .sort) DATA-IN) refl
   where
     by : (t : Bool) → eqb (s .0 .control .sort) DATA-IN ≡ t
-        → Watch Keeps (Allowed (other PollDataIn)) (Ends (other PollDataIn)) (withPhase off w) (run conc (code (other PollDataIn)) s)
+        → Watch Keeps (Allowed (other PollDataIn)) (Ends (other PollDataIn)) (afresh w) (run conc (code (other PollDataIn)) s)
     by true q = polled-in w s r z (waiting (w .awaits) r (eqb-true (s .0 .control .sort) DATA-IN q))
     by false q = watch-cond (eqb (s .0 .globals .stage) 2) (λ _. watch-cond (eqb (s .0 .control .sort) DATA-IN) (λ y. differ (sym q ∙ y)) (λ k. at-end (inr r, ((λ h. differ h, λ _ _. other-in (w .awaits) r k), tt)))) (λ _. at-end (inr r, ((λ h. differ h, λ h. differ h), tt)))

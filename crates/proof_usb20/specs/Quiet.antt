@@ -59,8 +59,8 @@ steadily p k = record { whole = p .places ∙ k .whole; plain = λ dir. ap isOn 
 abbrev pub Stays : Log → St → Log → St → Type 0
 Stays w s x t = (x ≡ w) × (view (t .0) ≡ view (s .0)) × Plainly t
 
-abbrev pub Any : Log → Type 0
-Any x = Unit {0}
+abbrev pub Any : Log → Access → Type 0
+Any x q = Unit {0}
 
 pub record Quiet {i : Bool} {A : Type 0} (p : Script i A) : Type 0 where
   pub goes : (w : Log) (s : St) → w .phase ≡ off → Plainly s

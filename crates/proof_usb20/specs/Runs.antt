@@ -34,12 +34,12 @@ module _ (O : Observer) where
   abbrev pub Keeps : St → St → Type 0
   Keeps s t = (O .view (t .0) ≡ O .view (s .0)) × Sorting (t .0) × (t .0 .wakes ≡ s .0 .wakes)
 
-  abbrev pub Sees : {A : Type 0} → (O .Log → Type 0) → (O .Log → A → St → Type 0) → O .Log → tree.Out St A → Type 0
+  abbrev pub Sees : {A : Type 0} → (O .Log → Access → Type 0) → (O .Log → A → St → Type 0) → O .Log → tree.Out St A → Type 0
   Sees Ok P w out = Along (O .saw) (O .Brings) Keeps Ok P w out
 
   -- `P` at each end, whatever is read
   abbrev pub Ups : (St → Type 0) → tree.Out St Answer → Type 0
-  Ups P out = Along {L = Unit {0}} (λ _ _ _. tt) (λ _ _ _. Unit {0}) Keeps (λ _. Unit {0}) (λ _ _ s. P s) tt out
+  Ups P out = Along {L = Unit {0}} (λ _ _ _. tt) (λ _ _ _. Unit {0}) Keeps (λ _ _. Unit {0}) (λ _ _ s. P s) tt out
 
   -- what each call keeps, and what follows from it
   pub record Laws (R : O .Log → O .View → Type 0) : Type 0 where

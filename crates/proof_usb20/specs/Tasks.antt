@@ -35,8 +35,9 @@ use Rattle.script.specs.Endpoint.{enabled-else, ends-request, polled, no-reques
 use Rattle.script.specs.Calls.{Op, slotted, other, aside, PollRead, BeginWrite, PollWrite, Other, Allocate, AllocateAll, Start, BusPoll, BusEnable, BusDisable, Microframe, SetStalled, IsStalled, SetPaced, Advance, BeginRead, Aside, Open, Close, Queue, asideCode, code}
 use Rattle.ops.specs.Rings.{St}
 use Rattle.ops.specs.Conc.{conc}
+use Rattle.regs.specs.declared.Access.{Access}
 use Rattle.proof_usb20.specs.Log as log
-use Rattle.proof_usb20.specs.Log.{Log, before, off, exempted, withPhase, opens, ends, closes, Poll, none, pollOf, settled, FairPoll, Allowed, AllowedTo}
+use Rattle.proof_usb20.specs.Log.{Log, before, exempted, afresh, opens, ends, closes, Poll, none, pollOf, settled, FairPoll, Allowed, AllowedTo}
 use Rattle.proof_usb20.specs.Watch.{at-end, at-ask, watch-bind, watch-more, watch-cond, watch-any}
 use Rattle.proof_usb20.specs.Ep0.{Watch, View, view, R, Keeps, Ends, Law}
 use Rattle.proof_usb20.specs.Exempt.{differ, Task, exempt-law}
@@ -48,10 +49,10 @@ use Rattle.proof_usb20.specs.Parts.{q-got, q-wake, q-when, q-reg, q-ep, 
 
 -- ---- a quiet call
 
-allows : {A : Type 0} {P : Log → A → St → Type 0} {Ok : Log → Type 0} {w : Log} {o : tree.Out St A} → ((x : Log) → Ok x)
+allows : {A : Type 0} {P : Log → A → St → Type 0} {Ok : Log → Access → Type 0} {w : Log} {o : tree.Out St A} → ((x : Log) (q : Access) → Ok x q)
     → Watch Keeps Any P w o → Watch Keeps Ok P w o
 allows g (at-end x) = at-end x
-allows g (at-ask _ x) = at-ask (g _) (λ v t b k. allows g (x v t b k))
+allows g (at-ask _ x) = at-ask (g _ _) (λ v t b k. allows g (x v t b k))
 
 same-log : (b : Bool) (w : Log) → cond b w w ≡ w
 same-log true w = refl
@@ -64,14 +65,14 @@ closed o p e NotYet x = refl
 closed o p e (Done bytes) x = ap (λ (q : Poll). log.done q x) p
 closed o p e (Shown bytes stamp) x = refl
 
-opened : (o : Op) → Task o → (w : Log) → opens o w ≡ withPhase off w
+opened : (o : Op) → Task o → (w : Log) → opens o w ≡ afresh w
 opened (slotted o) t w = refl
 opened (other o) t w = refl
 opened (aside o) t w = refl
 
 pub quiet-law : (o : Op) → Task o → pollOf o ≡ none → ((n : ℕ) (x : Log) → ends o n x ≡ x) → Quiet (code o) → Law o
 quiet-law o t p e q w s r z = subst (λ (u : Log). Watch Keeps (Allowed o) (Ends o) u (run conc (code o) s)) (sym (opened o t w))
-    (allows (λ x. subst (λ (a : Poll). AllowedTo a x) (sym p) tt) (watch-more (q .goes (withPhase off w) s refl (plainly z))
+    (allows (λ x q. subst (λ (a : Poll). AllowedTo a x q) (sym p) tt) (watch-more (q .goes (afresh w) s refl (plainly z))
     (λ x a u m. (subst (λ (y : Log). R y (view (u .0))) (sym (closed o p e a x ∙ m .0)) (subst (R w) (sym (m .1)) r), subst (λ (y : Poll). FairPoll y a x) (sym p) tt))))
 
 -- ---- the rows
@@ -221,7 +222,7 @@ aside-view o d b a t z h = ended-view (subst (Watch Keeps Any (λ _ _ t. (view (
 -- ---- halts
 
 any-end : {A : Type 0} (w : Log) (o : tree.Out St A) → Watch Keeps Any (λ _ _ _. Unit {0}) w o
-any-end w o = watch-any (λ _. Unit {0}) (λ _ _. tt) (λ _ _ _ _. tt) (λ _ _ _ _. tt) w tt o
+any-end w o = watch-any (λ _. Unit {0}) (λ _ _ _. tt) (λ _ _ _ _. tt) (λ _ _ _ _. tt) w tt o
 
 q-stalled : {i : Bool} (d : Dir) (e : ℕ) (on : Bool) → Numbered e → Quiet (bus.setStalled {i = i} d e on)
 q-stalled Out e true m = q-bind (q-reg Out e _ (m .zero-not)) (λ _. q-wake Out e)
@@ -237,21 +238,21 @@ pub law-set-stalled : (d : Dir) (e : ℕ) (on : Bool) → Law (other (SetStalled
 law-set-stalled d e on w s r z = by (eqb e 0) refl
   where
     by : (b : Bool) → eqb e 0 ≡ b
-        → Watch Keeps (Allowed (other (SetStalled d e on))) (Ends (other (SetStalled d e on))) (withPhase off w) (run conc (code (other (SetStalled d e on))) s)
+        → Watch Keeps (Allowed (other (SetStalled d e on))) (Ends (other (SetStalled d e on))) (afresh w) (run conc (code (other (SetStalled d e on))) s)
     by false h = quiet-part
       where
-        quiet-part : Watch Keeps (Allowed (other (SetStalled d e on))) (Ends (other (SetStalled d e on))) (withPhase off w) (run conc (code (other (SetStalled d e on))) s)
+        quiet-part : Watch Keeps (Allowed (other (SetStalled d e on))) (Ends (other (SetStalled d e on))) (afresh w) (run conc (code (other (SetStalled d e on))) s)
         quiet-part = quiet-law (other (SetStalled d e on)) tt refl (λ _ x. ap (λ (b : Bool). cond b (exempted x) x) h) (q-staged 2 (q-if (eqb e 0) (λ q. differ (sym h ∙ q)) (λ _. q-named d e (λ m. q-resultless (q-stalled d e on m))))) w s r z
     by true h = watch-cond (eqb (s .0 .globals .stage) 2)
-        (λ _. watch-cond (eqb e 0) (λ _. watch-bind {P = λ _ _ _. Unit {0}} (any-end (withPhase off w) (run {i = false} conc (bind (bus.setStalled d e on) (λ _. ret 0)) _)) (λ x n t _. at-end (inl (exempts e x h), tt))) (λ q. differ (sym q ∙ h)))
+        (λ _. watch-cond (eqb e 0) (λ _. watch-bind {P = λ _ _ _. Unit {0}} (any-end (afresh w) (run {i = false} conc (bind (bus.setStalled d e on) (λ _. ret 0)) _)) (λ x n t _. at-end (inl (exempts e x h), tt))) (λ q. differ (sym q ∙ h)))
         (λ _. at-end (r, tt))
 
 -- a bus reset exempts; the rest of a poll is quiet
 pub law-bus-poll : Law (other BusPoll)
 law-bus-poll w s r z = watch-cond (eqb (s .0 .globals .stage) 2)
-    (λ _. watch-bind {P = λ x n t. (n ≡ 2) ⊎ Stays (withPhase off w) s x t} (watch-cond (isOn (s .0 .globals .power))
+    (λ _. watch-bind {P = λ x n t. (n ≡ 2) ⊎ Stays (afresh w) s x t} (watch-cond (isOn (s .0 .globals .power))
     (λ _. at-ask tt (λ f a _ i. watch-cond (busRst f)
-    (λ _. watch-bind {P = λ _ _ _. Unit {0}} (any-end (withPhase off w) (run conc bus.busReset a)) (λ x _ t _. watch-bind {P = λ _ _ _. Unit {0}} (any-end x (run {i = false} conc (modifyIntEn (λ v. withBusRst v true)) t)) (λ y _ u _. at-end {s = u} (inl refl))))
+    (λ _. watch-bind {P = λ _ _ _. Unit {0}} (any-end (afresh w) (run conc bus.busReset a)) (λ x _ t _. watch-bind {P = λ _ _ _. Unit {0}} (any-end x (run {i = false} conc (modifyIntEn (λ v. withBusRst v true)) t)) (λ y _ u _. at-end {s = u} (inl refl))))
     (λ _. watch-cond (suspend f)
     (λ _. at-ask tt (λ m b _ j. at-ask tt (λ _ c _ l. at-ask tt (λ _ u _ n. at-end (inr (refl, n .0 ∙ (put-kept (λ g. withIntEn (withSuspend (g .«int_en») true) g) (λ _. refl) c ∙ (l .0 ∙ (j .0 ∙ (i .0 ∙ act-view no-wakes refl s)))), plainly (n .1)))))))
     (λ _. at-end (inr (refl, i .0 ∙ act-view no-wakes refl s, plainly (i .1)))))))
@@ -263,7 +264,7 @@ law-bus-poll w s r z = watch-cond (eqb (s .0 .globals .stage) 2)
     same true x v q = inl refl
     same false x v q = q
 
-    after : (n : ℕ) (x : Log) (t : St) → (n ≡ 2) ⊎ Stays (withPhase off w) s x t
+    after : (n : ℕ) (x : Log) (t : St) → (n ≡ 2) ⊎ Stays (afresh w) s x t
         → R (cond (eqb n 2) (exempted x) x) (view (t .0))
     after n x t (inl h) = subst (λ (m : ℕ). R (cond (eqb m 2) (exempted x) x) (view (t .0))) (sym h) (inl refl)
     after n x t (inr m) = same (eqb n 2) x (view (t .0)) (subst (λ (y : Log). R y (view (t .0))) (sym (m .0)) (subst (R w) (sym (m .1)) r))

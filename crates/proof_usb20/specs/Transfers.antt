@@ -7,7 +7,7 @@ use Rattle.regs.specs.declared.Dir.{Dir}
 use Rattle.regs.specs.declared.Dir.the-variants.{Out, In}
 use Rattle.script.specs.Usb20Toggles.{other}
 use Rattle.script.specs.Usb20Control.{dataPid, statusPid}
-use Rattle.proof_usb20.specs.Pipe.{data-stage, status-stage, naks, stalls, acks, half, Pipe, setup, packet, token, possible, after, Choice, takes, gives, confirms, rejects, chosen, orderly, given, confirmed, over}
+use Rattle.proof_usb20.specs.Pipe.{data-stage, status-stage, naks, stalls, acks, half, Pipe, Setting, setup, packet, token, possible, after, Choice, takes, gives, confirms, rejects, chosen, orderly, given, confirmed, over}
 
 -- packet k of a data stage is ready, the k before it went through
 abbrev pub stage : (Bool → Choice) → Dir → Pipe → ℕ → Pipe
@@ -50,16 +50,17 @@ module _ (p : Pipe) (n : ℕ) where
   write-pid zero = refl
   write-pid (suc k) = ap other (write-pid k)
 
-  abbrev accepted : ℕ → Pipe
-  accepted k = chosen confirms (after (packet Out) (stage takes Out p k))
+  abbrev accepted : Setting → ℕ → Pipe
+  accepted s k = chosen (confirms s) (after (packet Out) (stage takes Out p k))
 
-  pub write-status : (k : ℕ)
-      → (accepted k .inn .answers ≡ acks status-stage) × (accepted k .inn .bit ≡ statusPid) × (over confirmed (accepted k) ≡ false) × (over confirmed (after (packet In) (accepted k)) ≡ true)
-  write-status k = (refl, refl, refl, refl)
+  pub write-status : (s : Setting) (k : ℕ)
+      → (accepted s k .inn .answers ≡ acks status-stage) × (accepted s k .inn .bit ≡ statusPid) × (over (confirmed s) (accepted s k) ≡ false) × (over (confirmed s) (after (packet In) (accepted s k)) ≡ true)
+  write-status s k = (refl, refl, refl, refl)
 
   -- none
-  pub none-status : (chosen confirms (after setup p) .inn .answers ≡ acks status-stage) × (chosen confirms (after setup p) .inn .bit ≡ statusPid)
-  none-status = (refl, refl)
+  pub none-status : (s : Setting)
+      → (chosen (confirms s) (after setup p) .inn .answers ≡ acks status-stage) × (chosen (confirms s) (after setup p) .inn .bit ≡ statusPid)
+  none-status s = (refl, refl)
 
   -- all in order and possible: nothing of it is exempt
   pub read-orderly : (k : ℕ)

@@ -9,13 +9,13 @@ use Rattle.script.specs.Tree.{ends, asks, bindOut}
 
 -- `Ok` of each access that is handed out, `P` at each end. `Keeps`: what becomes of the state between an access and the
 -- next call
-pub data Along {L : Type 0} (saw : L → Access → ℕ → L) (Brings : L → Access → ℕ → Type 0) {S : Type 0} (Keeps : S → S → Type 0) (Ok : L → Type 0) {A : Type 0} (P : L → A → S → Type 0) : L → tree.Out S A → Type 0 where
+pub data Along {L : Type 0} (saw : L → Access → ℕ → L) (Brings : L → Access → ℕ → Type 0) {S : Type 0} (Keeps : S → S → Type 0) (Ok : L → Access → Type 0) {A : Type 0} (P : L → A → S → Type 0) : L → tree.Out S A → Type 0 where
   at-end : {w : L} {a : A} {s : S} → P w a s → Along saw Brings Keeps Ok P w (ends a s)
-  at-ask : {w : L} {q : Access} {s : S} {k : ℕ → S → tree.Out S A} → Ok w
+  at-ask : {w : L} {q : Access} {s : S} {k : ℕ → S → tree.Out S A} → Ok w q
       → ((v : ℕ) (t : S) → Brings w q v → Keeps s t → Along saw Brings Keeps Ok P (saw w q v) (k v t))
       → Along saw Brings Keeps Ok P w (asks q s k)
 
-module _ {L : Type 0} {saw : L → Access → ℕ → L} {Brings : L → Access → ℕ → Type 0} {S : Type 0} {Keeps : S → S → Type 0} {Ok : L → Type 0} where
+module _ {L : Type 0} {saw : L → Access → ℕ → L} {Brings : L → Access → ℕ → Type 0} {S : Type 0} {Keeps : S → S → Type 0} {Ok : L → Access → Type 0} where
   pub watch-bind : {A B : Type 0} {P : L → A → S → Type 0} {Q : L → B → S → Type 0} {w : L} {o : tree.Out S A} {f : A → S → tree.Out S B}
       → Along saw Brings Keeps Ok P w o → ((x : L) (a : A) (s : S) → P x a s → Along saw Brings Keeps Ok Q x (f a s))
       → Along saw Brings Keeps Ok Q w (bindOut o f)
@@ -34,8 +34,8 @@ module _ {L : Type 0} {saw : L → Access → ℕ → L} {Brings : L → Access 
   watch-cond false x y = y refl
 
   -- where nothing is asked that could fail
-  pub watch-any : {A : Type 0} {P : L → A → S → Type 0} (G : L → Type 0) → ((x : L) → G x → Ok x)
+  pub watch-any : {A : Type 0} {P : L → A → S → Type 0} (G : L → Type 0) → ((x : L) (q : Access) → G x → Ok x q)
       → ((x : L) (q : Access) (v : ℕ) → G x → G (saw x q v)) → ((x : L) (a : A) (s : S) → G x → P x a s)
       → (w : L) → G w → (o : tree.Out S A) → Along saw Brings Keeps Ok P w o
   watch-any G ok go p w g (ends a s) = at-end (p w a s g)
-  watch-any G ok go p w g (asks q s k) = at-ask (ok w g) (λ v t b i. watch-any G ok go p (saw w q v) (go w q v g) (k v t))
+  watch-any G ok go p w g (asks q s k) = at-ask (ok w q g) (λ v t b i. watch-any G ok go p (saw w q v) (go w q v g) (k v t))
