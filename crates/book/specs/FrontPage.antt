@@ -241,6 +241,9 @@ pub record Sentences (c : Call Config Op) (lent : Buf) (n : Machine Answer Pages
   pub read-then-stamps : (e : ℕ) → stampsOf (t′ .outs e .read) ++ ringStamps d e ≡ stampsOf (t′ .outs e .admitted)
   -- "At most 15 wait"
   pub at-most-15 : (e : ℕ) → length (ringBytes d b e) ≤ 15
+  -- a length is capped at the endpoint's maximum
+  pub capped : (e : ℕ) (earlier later : List Packet) (q : Packet) → t′ .outs e .waiting ≡ earlier ++ (q ∷ later)
+      → length (q .bytes) ≤ t′ .kept .plain Out e .«max_len»
   -- an open packet is the first of them
   pub open-waits : (e : ℕ) → t′ .outs e .opened ≡ true → 0 < length (ringBytes d b e)
   -- "an arrival is turned away exactly when 15 do"

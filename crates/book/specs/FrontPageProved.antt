@@ -16,6 +16,7 @@ use Rattle.ring.specs.Slot.{countOf}
 use Rattle.ring.specs.Laws.{waiting-length}
 use Rattle.script.specs.Alike.{Phase}
 use Rattle.script.specs.Statics.{flag}
+use Rattle.script.specs.Cells.{Plain}
 use Rattle.script.specs.Answers.{Answer, Refused, Shown, ok}
 use Rattle.script.specs.Calls.{Config, Op, aside, Aside, Open, Close, Queue, calls, startRow}
 use Rattle.script.specs.Machine.{Buf, Call, start, begin, go, question, overruns, Event, Ans, ended, handed, told, blankA, Machine, fed, started}
@@ -23,7 +24,7 @@ use Rattle.script.specs.Agree.{After, Ways, GoodA, agrees, from-start}
 use Rattle.way.specs.Under.{driverOf, drive, machineOf}
 use Rattle.book.specs.Pages.{Packet, bytesOf, stampsOf, OutPage, Pages}
 use Rattle.book.specs.Book.{book}
-use Rattle.book.specs.Rest.{Rest, Holds, lensOf}
+use Rattle.book.specs.Rest.{Rest, Short, Holds, lensOf}
 use Rattle.book.specs.Held.{held-length}
 use Rattle.book.specs.Allocations.{fresh-kept}
 use Rattle.book.specs.Agrees.{agree}
@@ -66,6 +67,15 @@ module _ {φ : Phase} {b : Buf} {d : Driver} {t : Pages} (R : Rest φ b d t) (e 
 
   open-there : t .outs e .opened ≡ true → 0 < length (ringBytes d b e)
   open-there h = omega (arith, open-counts h, waiting-length b (epOn d Out e) (lensOf d Out e))
+
+  short-each : (m : ℕ) (earlier later : List Packet) (q : Packet) → Short m (earlier ++ (q ∷ later)) → length (q .bytes) ≤ m
+  short-each m [] later q h = h .0
+  short-each m (p ∷ earlier) later q h = short-each m earlier later q (h .1)
+
+  within : (earlier later : List Packet) (q : Packet) → t .outs e .waiting ≡ earlier ++ (q ∷ later) → length (q .bytes) ≤ t .kept .plain Out e .«max_len»
+  within earlier later q k =
+      let s = subst (λ (m : ℕ). Short m (t .outs e .waiting)) (ap (λ (p : Plain). p .«max_len») (R .same .plain Out e)) (R .outs e .short) in
+      short-each (t .kept .plain Out e .«max_len») earlier later q (subst (λ (w : List Packet). Short (t .kept .plain Out e .«max_len») w) k s)
 
 -- ---- one call
 
@@ -156,6 +166,7 @@ module _ (c : Call Config Op) (l : Buf) (m : Machine Answer Driver) (n : Machine
     read-then-waiting = ledger.read-then-queued (a .rest);
     read-then-stamps = stamps-read (a .rest);
     at-most-15 = λ e. omega (arith, ring-length (a .rest) e, ledger.at-most-15 (a .rest) e);
+    capped = λ e. within (a .rest) e;
     open-waits = open-there (a .rest);
     decided = λ e d. let h = ap isStart (d .continues) in steps-of.decided c (x .0) e n (before h .fine) l (a .same) (most-15 h e) d;
     unmoved = λ e v p i g. let k = before (ap isStart p) in steps-of.unmoved c (x .0) e v n (k .fine) l (a .same) p i g;

@@ -49,6 +49,7 @@ module _ (dir : Dir) (e : ℕ) (lent b : Buf) (n : Machine Answer Pages) (d : Dr
     read-then-waiting = x .read-then-waiting;
     read-then-stamps = x .read-then-stamps;
     at-most-15 = x .at-most-15;
+    capped = x .capped;
     open-waits = x .open-waits;
     decided = λ e y. let p = y .continues in let z : _≡_ {A = ℕ} 0 1 = cc in absurd (omega arith);
     unmoved = λ e v p i g. let z : _≡_ {A = ℕ} 0 1 = cc in absurd (omega arith);
