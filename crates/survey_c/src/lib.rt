@@ -204,11 +204,11 @@ pub extern "C" fn usbhs_card_read(
         Batch::Packets {
             count: n,
             used: bytes,
-            then,
+            then: behind,
         } => {
             *count = n;
             *used = bytes;
-            *place = then.at;
+            *place = behind.at;
             ended(1)
         }
     }
