@@ -51,15 +51,16 @@ beside() {
     pids+=("$!") names+=("$name")
 }
 
-# join: waits for what runs beside
+# join [NAME..]: waits for what runs beside, all or those named
 join() {
     local i failed=0
-    for ((i = 0; i < ${#names[@]}; i++)); do
+    for i in "${!names[@]}"; do
+        case " $* " in *" ${names[i]} "* | '  ') ;; *) continue ;; esac
         waited "${names[i]}" "${pids[i]}" >"$logs/end" || failed=1
         echo "== ${names[i]} said:"
         cat "$logs/${names[i]}.log" "$logs/end"
+        unset 'pids[i]' 'names[i]'
     done
-    pids=() names=()
     [ "$failed" -eq 0 ] || exit 1
 }
 
@@ -80,12 +81,15 @@ oracle_tests() {
     nice cargo build --offline --release -p wider -p traced -p mutants
 }
 
-# two crates at a time; one after the other, as both ask rt whether all is proved
-edits_and_wrong_drivers() {
-    export RT_JOBS=2
+# two crates at a time
+named_edits() {
     # shellcheck disable=SC2046
-    tests/edits $(cat tests/named-edits)
-    tests/wrong-drivers/run
+    AS_PROVED=1 RT_JOBS=2 nice tests/edits $(cat tests/named-edits)
+}
+
+# one after the other, as both ask rt whether all is proved
+wrong_drivers_and_scripts() {
+    RT_JOBS=2 tests/wrong-drivers/run
     tests/wrong-scripts/run
 }
 
