@@ -215,6 +215,13 @@ slotSize t = t .kept .allocator .size
 abbrev pub BeingSent : Pages → ℕ → Type 0
 BeingSent t e = t .ins e .sending ≡ true
 
+-- what one call makes of the packet being sent on IN e: it is being sent still, from the same slot, and what was shown of it stands; or the tail has
+-- passed it; or its endpoint was reset or given by an allocation, or a start-up was accepted
+pub data Sends (e : ℕ) (t t′ : Pages) : Type 0 where
+  still : BeingSent t′ e → t′ .ins e .source ≡ t .ins e .source → t′ .ins e .shown ≡ t .ins e .shown → slotSize t′ ≡ slotSize t → Sends e t t′
+  passed-by : (bytes : List ℕ) → t′ .ins e .passed ≡ t .ins e .passed ++ (bytes ∷ []) → Sends e t t′
+  emptied : EmptiedIn (t′ .ins e) → Sends e t t′
+
 -- all bytes of the slot at that address are in b as they stood when it was handed out
 abbrev pub Unwritten : Pages → Buf → Type 0
 Unwritten t b = (e : ℕ) → BeingSent t e → Same (t .ins e .source) (t .ins e .source + slotSize t) (t .ins e .shown) b
@@ -273,6 +280,9 @@ pub record Sentences (c : Call Config Op) (lent : Buf) (n : Machine Answer Pages
   -- where an interrupt hands out a transmit address and one waits then, that one is being sent, from that address
   pub load-sends : (e x v : ℕ) → c ≡ go v → inInterrupt (n .way) ≡ true → a ≡ handed (Transmit e x) → 0 < length (t′ .ins e .waiting)
       → BeingSent t′ e × (t′ .ins e .source ≡ x) × (t′ .ins e .load ≡ true)
+  -- "until the tail passes it, a reset or a start-up": nothing else ends a sending. A transmit address that is a load's is that of the slot being sent
+  pub sending-ends : (e : ℕ) → BeingSent (n .st) e → Sends e (n .st) t′
+  pub load-tells : (e x : ℕ) → a ≡ handed (Transmit e x) → t′ .ins e .load ≡ true → BeingSent t′ e × (t′ .ins e .source ≡ x)
   -- "no slot being sent is written", whatever the chip stores, where it may, before the next call
   pub unwritten : (b′ : Buf) → Chip t′ b b′ → Unwritten t′ b′
   -- demand 1: no address that is handed out reaches outside the lent buffer
@@ -295,3 +305,32 @@ AfterEach n (m ∷ ms) =
 abbrev pub Demand3 : Type 0
 Demand3 = (c : Config) (b : Buf) → startRow c b ≡ zero → (xs : List ℕ) (a : Buf) (n : Machine Answer Pages) (first : Made)
     → first .event ≡ record { call = start c; lent = b } → (ms : List Made) → Calls xs a n (first ∷ ms) → AfterEach n (first ∷ ms)
+
+-- ---- no slot being sent is written, between two moments
+
+-- the slot buffer and the book after calls
+abbrev pub slotsAfter : Buf → List Made → Buf
+slotsAfter b [] = b
+slotsAfter b (m ∷ ms) = slotsAfter (m .slots) ms
+
+abbrev pub bookAfter : Machine Answer Pages → List Made → Machine Answer Pages
+bookAfter n [] = n
+bookAfter n (m ∷ ms) = bookAfter (noted m n .1) ms
+
+-- calls in which the tail does not pass the packet that is being sent on IN e, and no reset, allocation or start-up empties its page
+abbrev pub NotEnded : ℕ → Machine Answer Pages → List Made → Type 0
+NotEnded e n [] = Unit {0}
+NotEnded e n (m ∷ ms) =
+    let p = noted m n .1 .st .ins e in
+    (p .passed ≡ n .st .ins e .passed) × (EmptiedIn p → ⊥) × NotEnded e (noted m n .1) ms
+
+-- "from the call that hands out its address until the tail passes it, a reset or a start-up, all of its `size` bytes stay". A list of calls cut in three:
+-- those before; the one that hands out the address x of the slot of a packet on IN e; and further ones that do not end its sending. All bytes of
+-- the slot are in the buffer as the last call left it, and after what the chip then stores where it may, as the one that handed out x left them
+abbrev pub SlotsStay : Type 0
+SlotsStay = (c : Config) (b : Buf) → startRow c b ≡ zero → (xs : List ℕ) (a : Buf) (n : Machine Answer Pages) (first : Made)
+    → first .event ≡ record { call = start c; lent = b } → (before : List Made) (hands : Made) (further : List Made)
+    → Calls xs a n (first ∷ (before ++ (hands ∷ further)))
+    → let n′ = noted hands (bookAfter n (first ∷ before)) .1 in (e x : ℕ) → hands .answer ≡ handed (Transmit e x) → n′ .st .ins e .load ≡ true
+    → NotEnded e n′ further → (b′ : Buf) → Chip (bookAfter n′ further .st) (slotsAfter (hands .slots) further) b′
+    → Same x (x + slotSize (n′ .st)) (hands .slots) b′

@@ -30,7 +30,7 @@ use Rattle.book.specs.Allocations.{fresh-kept}
 use Rattle.book.specs.Agrees.{agree}
 use Rattle.book.specs.LedgerLaws as ledger
 use Rattle.book.specs.ReadRoomCalls.{Kept, steps, start-kept}
-use Rattle.book.specs.FrontPage.{Made, Did, noted, written, LentAsLeft, ringBytes, ringStamps, Compared, Sentences, AfterCall, Counted, none, AfterEach, Demand3}
+use Rattle.book.specs.FrontPage.{Made, Did, noted, written, LentAsLeft, ringBytes, ringStamps, EmptiedIn, BeingSent, Sends, emptied, Compared, Sentences, AfterCall, Counted, none, AfterEach, Demand3}
 use Rattle.book.specs.FrontPage as page
 use Rattle.book.specs.MachineRuns.{Premise, AfterEvents}
 use Rattle.book.specs.SlotsKept.{kept-unwritten, lies-inside, lent-is}
@@ -42,6 +42,7 @@ use Rattle.book.specs.Stops.{stopped-leaves}
 use Rattle.book.specs.RefusedCalls.{isStart, refusal-leaves}
 use Rattle.book.specs.Enabling.{enabling-resets}
 use Rattle.book.specs.BusResets.{bus-reset-empties}
+use Rattle.book.specs.SendingCalls.{Sending, SendingAfter, after-call, start-after, start-emptied, sends-of, told-source}
 
 -- ---- from the relation of driver and book
 
@@ -85,6 +86,7 @@ record Before (m : Machine Answer Driver) (n : Machine Answer Pages) : Type 0 wh
   rest : Rest phase (m .buf) (m .st) (n .st)
   room : Kept m
   fine : Fine n
+  sending : Sending n
 
 abbrev isTold : Ans Answer → Bool
 isTold (ended a) = false
@@ -161,8 +163,9 @@ module _ (c : Call Config Op) (l : Buf) (m : Machine Answer Driver) (n : Machine
   refused-leaves (Close e) r p q = of-close e p (Refused r) q .leaves r refl
   refused-leaves (Queue e bytes) r p q = of-queue e bytes p (Refused r) q .leaves r refl
 
-  sentences : ((e : ℕ) → Counted c l (x .0) e (n .st .outs e) (y .1 .st .outs e)) → Sentences c l n (x .0) (x .1 .st) (x .1 .buf) (y .1 .st)
-  sentences counted = record {
+  sentences : ((e : ℕ) → Counted c l (x .0) e (n .st .outs e) (y .1 .st .outs e)) → SendingAfter (x .0) (n .st) y → ((e : ℕ) → BeingSent (n .st) e → Sends e (n .st) (y .1 .st))
+      → Sentences c l n (x .0) (x .1 .st) (x .1 .buf) (y .1 .st)
+  sentences counted sent ends = record {
     read-then-waiting = ledger.read-then-queued (a .rest);
     read-then-stamps = stamps-read (a .rest);
     at-most-15 = λ e. omega (arith, ring-length (a .rest) e, ledger.at-most-15 (a .rest) e);
@@ -183,22 +186,36 @@ module _ (c : Call Config Op) (l : Buf) (m : Machine Answer Driver) (n : Machine
     enabling-resets = λ dir e on q p g. let k = before (ap isStart p) in enabling-resets c (x .0) dir e on q n (k .fine) l (a .same) p g;
     bus-reset-empties = λ v p i g. let k = before (ap isStart p) in bus-reset-empties c (x .0) v n (k .fine) l (a .same) p i g;
     load-sends = λ e z v p i g w. let k = before (ap isStart p) in steps-of.load-sends c (x .0) e z v n (k .fine) l (a .same) p i g w;
+    sending-ends = ends;
+    load-tells = told-source sent (a .same);
     unwritten = kept-unwritten a;
     inside = lies-inside a;
   }
 
 -- a first start-up, on whatever was before
+start-sent : (c : Config) (l : Buf) → startRow c l ≡ zero → (m : Machine Answer Driver) (n : Machine Answer Pages)
+    → SendingAfter (drive (start c) m l .0) (n .st) (written (drive (start c) m l .0) (start c) n l)
+start-sent c l row m n = subst (λ (r : ℕ). SendingAfter (drive (start c) m l .0) (n .st) (started calls (book .driver) (fed book (drive (start c) m l .0)) c r n l)) (sym row)
+    (start-after (drive (start c) m l .0) c n l)
+
 first-start : (c : Config) (l : Buf) → startRow c l ≡ zero → (m : Machine Answer Driver) (n : Machine Answer Pages) → Agrees (start c) l m n → Holds-after (start c) l m n
 first-start c l row m n a = record {
   compared = compared (start c) l m n a (λ h. absurd (true≢false h));
   sentences = sentences (start c) l m n a (λ h. absurd (true≢false h))
-      (λ e. none c refl row (ap (λ (r : ℕ). started calls (book .driver) (fed book (drive (start c) m l .0)) c r n l .1 .st .outs e .lost) row ∙ start-lost (drive (start c) m l .0) c n l e));
+      (λ e. none c refl row (ap (λ (r : ℕ). started calls (book .driver) (fed book (drive (start c) m l .0)) c r n l .1 .st .outs e .lost) row ∙ start-lost (drive (start c) m l .0) c n l e))
+      (start-sent c l row m n)
+      (λ e _. emptied (subst (λ (r : ℕ). EmptiedIn (started calls (book .driver) (fed book (drive (start c) m l .0)) c r n l .1 .st .ins e)) (sym row) (start-emptied (drive (start c) m l .0) c n l e)));
 }
+
+sent-after : (c : Call Config Op) (l : Buf) (m : Machine Answer Driver) (n : Machine Answer Pages) → Before m n
+    → SendingAfter (drive c m l .0) (n .st) (written (drive c m l .0) c n l)
+sent-after c l m n k = after-call (drive c m l .0) c n (k .sending) l
 
 later-call : (c : Call Config Op) (l : Buf) (m : Machine Answer Driver) (n : Machine Answer Pages) → Before m n → Agrees c l m n → Holds-after c l m n
 later-call c l m n k a = record {
   compared = compared c l m n a (λ _. k);
-  sentences = sentences c l m n a (λ _. k) (λ e. steps-of.counted (drive c m l .0) e n (k .fine) l c (a .same) (ledger.at-most-15 (a .rest) e));
+  sentences = sentences c l m n a (λ _. k) (λ e. steps-of.counted (drive c m l .0) e n (k .fine) l c (a .same) (ledger.at-most-15 (a .rest) e))
+      (sent-after c l m n k) (λ e s. sends-of (k .rest) (a .rest) e s (sent-after c l m n k .fates e s));
 }
 
 -- ---- lists
@@ -210,16 +227,17 @@ record Agreeing (m : Machine Answer Driver) (n : Machine Answer Pages) : Type 0 
   rest : Rest phase (m .buf) (m .st) (n .st)
   room : Kept m
   fine : Fine n
+  sending : Sending n
 
 before-of : {m : Machine Answer Driver} {n : Machine Answer Pages} → Agreeing m n → Before m n
-before-of k = record { phase = k .phase; rest = k .rest; room = k .room; fine = k .fine }
+before-of k = record { phase = k .phase; rest = k .rest; room = k .room; fine = k .fine; sending = k .sending }
 
 one : (c : Call Config Op) (l : Buf) (m : Machine Answer Driver) (n : Machine Answer Pages) → Agreeing m n → LentAsLeft c n (m .buf) l
     → let x = drive c m l in Holds-after c l m n × Agreeing (x .1) (written (x .0) c n l .1)
 one c l m n k p =
     let a : Agrees c l m n = agrees driverOf book agree calls fresh-kept c l m n (k .ways) (k .rest) (lent-is m n (k .rest) l c p) in (
       later-call c l m n (before-of k) a,
-      record { phase = a .phase; ways = a .ways; rest = a .rest; room = steps c m (k .room) l; fine = call-fine (drive c m l .0) c n (k .fine) l },
+      record { phase = a .phase; ways = a .ways; rest = a .rest; room = steps c m (k .room) l; fine = call-fine (drive c m l .0) c n (k .fine) l; sending = sent-after c l m n (before-of k) .machine },
     )
 
 -- an accepted start-up
@@ -240,6 +258,7 @@ module _ (c : Config) (b : Buf) (row : startRow c b ≡ zero) (m : Machine Answe
           rest = a .rest;
           room = subst (λ (z : Ans Answer × Machine Answer Driver). Kept (z .1)) (sym start-is) (start-kept c m b row);
           fine = subst (λ (r : ℕ). Fine (started calls (book .driver) (fed book (drive (start c) m b .0)) c r n b .1)) (sym row) (start-fine (drive (start c) m b .0) c n b);
+          sending = start-sent c b row m n .machine;
         },
       )
 

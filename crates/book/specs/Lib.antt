@@ -41,10 +41,13 @@ pub mod RefusedCalls
 pub mod Enabling
 pub mod BusResets
 pub mod Asides
+pub mod SendingSteps
+pub mod SendingCalls
 pub mod PollsWhole
 pub mod Lent
 pub mod Code
 pub mod FrontPageProved
+pub mod SlotsStay
 pub mod Sorts
 pub mod Always
 pub mod Sorting

@@ -1,6 +1,6 @@
 -- The scripts of all calls but the interrupt: `Write IntFg 0 1`, the release of the bus reset's flag, is handed out in a bus reset's row alone,
 -- with none waiting on any endpoint in the book
-use mathlib.Core.Bool.{Bool, true, false, cond, _&&_, true≢false}
+use mathlib.Core.Bool.{Bool, true, false, cond, not, _&&_, true≢false}
 use mathlib.Core.List.{List, [], _∷_}
 use mathlib.Core.Path.{_≡_, refl, sym, _∙_}
 use Prim.Native.Nat.{ℕ, zero, suc, _%_}
@@ -21,12 +21,13 @@ use Rattle.script.specs.Tree as tree
 use Rattle.script.specs.Tree.{ends, asks}
 use Rattle.script.specs.Cells.{Cell, Val}
 use Rattle.script.specs.Every.{sameReg}
-use Rattle.script.specs.Script.{Script, run, rows, ret, bind, test, read-then, write-then, wait-then, callback-then, get-then, put-then, is-then, look-then, fetch-then, act-then, hand-then, row-then, Test, Look, Fetch, Act, Hand, handAsk, arrive, send, place, place0, Row, switch, bus-reset, lastOf, rowAsk}
+use Rattle.script.specs.Script.{Script, run, rows, ret, bind, test, read-then, write-then, wait-then, callback-then, get-then, put-then, is-then, look-then, fetch-then, act-then, hand-then, row-then, Test, Look, Fetch, Act, complete, reset-ring, set-enabled, fill, fill0, open-oldest, close-oldest, take-oldest, enqueue, allocate, allocate0, no-wakes, waken, Hand, handAsk, arrive, send, place, place0, Row, switch, bus-reset, lastOf, rowAsk}
 use Rattle.script.specs.IsoIn.{isoInComplete, isoInCompletions}
 use Rattle.script.specs.Bus as bus
 use Rattle.script.specs.Control.{acks}
 use Rattle.script.specs.Driver.{allocated-as, started-as}
 use Rattle.script.specs.AllocateAll.{allocateEach, announce, beginsAt, announceAfter, announceAll, allocate-read}
+use Rattle.script.specs.Answers.{Answer}
 use Rattle.script.specs.Calls.{Config, Slotted, SetEnabled, PollRead, BeginWrite, PollWrite, PollDataOut, BeginDataIn, Other, Allocate, AllocateAll, Start, BusPoll, BusEnable, BusDisable, Microframe, SetStalled, IsStalled, SetPaced, Advance, BeginRead, BeginSetup, PollSetup, PollDataIn, BeginAccept, PollAccept, BeginReject, BeginDataOut, BeginAcceptSetAddress, Aside, Open, Close, Queue, slottedCode, otherCode, asideCode, starting}
 use Rattle.book.specs.Pages.{OutPage, InPage, Pages}
 use Rattle.book.specs.Book.{Bk, rowB, handB, bookOps}
@@ -44,25 +45,41 @@ releases (Ep0Dma x) = false
 releases (Wait n) = false
 releases Callback = false
 
-pub data InRows : (A : Type 0) → Script false A → Type 1 where
-  r-ret : {A : Type 0} {a : A} → InRows A (ret a)
-  r-bind : {A B : Type 0} {p : Script false B} {f : B → Script false A} → InRows B p → ((b : B) → InRows A (f b)) → InRows A (bind p f)
-  r-test : {A : Type 0} {b : Bool} {p q : Script false A} → InRows A p → InRows A q → InRows A (test b p q)
-  r-read : {A : Type 0} {r : Reg} {e : ℕ} {k : ℕ → Script false A} → ((v : ℕ) → InRows A (k v)) → InRows A (read-then r e k)
-  r-write : {A : Type 0} {r : Reg} {e v : ℕ} {p : Script false A} → releases (Write r e v) ≡ false → InRows A p → InRows A (write-then r e v p)
-  r-wait : {A : Type 0} {n : ℕ} {p : Script false A} → InRows A p → InRows A (wait-then n p)
-  r-callback : {A : Type 0} {p : Script false A} → InRows A p → InRows A (callback-then p)
-  r-get : {A : Type 0} {c : Cell} {k : Val c → Script false A} → ((v : Val c) → InRows A (k v)) → InRows A (get-then c k)
-  r-put : {A : Type 0} {c : Cell} {v : Val c} {p : Script false A} → InRows A p → InRows A (put-then c v p)
-  r-is : {A : Type 0} {q : Test} {k : Bool → Script false A} → ((b : Bool) → InRows A (k b)) → InRows A (is-then q k)
-  r-look : {A : Type 0} {q : Look} {k : ℕ → Script false A} → ((n : ℕ) → InRows A (k n)) → InRows A (look-then q k)
-  r-fetch : {A : Type 0} {q : Fetch} {k : List ℕ → Script false A} → ((l : List ℕ) → InRows A (k l)) → InRows A (fetch-then q k)
-  r-act : {A : Type 0} {q : Act} {p : Script false A} → InRows A p → InRows A (act-then q p)
-  r-hand : {A : Type 0} {q : Hand} {p : Script false A} → InRows A p → InRows A (hand-then q p)
-  r-row : {A : Type 0} {g : Row} {p : Script false A} → InRows A p → InRows A (row-then g p)
+-- u: a change of a script that may queue packets; else of one in which the tail may pass packets and endpoints may be emptied
+abbrev pub suits : Bool → Act → Bool
+suits u (complete e) = not u
+suits u (reset-ring d e) = not u
+suits u (set-enabled d e on) = true
+suits u (fill e bytes) = true
+suits u (fill0 bytes) = true
+suits u (open-oldest e) = true
+suits u (close-oldest e) = true
+suits u (take-oldest e) = true
+suits u (enqueue e bytes) = u
+suits u (allocate d kind address maximum interval) = not u
+suits u (allocate0 maximum) = true
+suits u no-wakes = true
+suits u (waken codes) = true
+
+pub data InRows (u : Bool) : (A : Type 0) → Script false A → Type 1 where
+  r-ret : {A : Type 0} {a : A} → InRows u A (ret a)
+  r-bind : {A B : Type 0} {p : Script false B} {f : B → Script false A} → InRows u B p → ((b : B) → InRows u A (f b)) → InRows u A (bind p f)
+  r-test : {A : Type 0} {b : Bool} {p q : Script false A} → InRows u A p → InRows u A q → InRows u A (test b p q)
+  r-read : {A : Type 0} {r : Reg} {e : ℕ} {k : ℕ → Script false A} → ((v : ℕ) → InRows u A (k v)) → InRows u A (read-then r e k)
+  r-write : {A : Type 0} {r : Reg} {e v : ℕ} {p : Script false A} → releases (Write r e v) ≡ false → InRows u A p → InRows u A (write-then r e v p)
+  r-wait : {A : Type 0} {n : ℕ} {p : Script false A} → InRows u A p → InRows u A (wait-then n p)
+  r-callback : {A : Type 0} {p : Script false A} → InRows u A p → InRows u A (callback-then p)
+  r-get : {A : Type 0} {c : Cell} {k : Val c → Script false A} → ((v : Val c) → InRows u A (k v)) → InRows u A (get-then c k)
+  r-put : {A : Type 0} {c : Cell} {v : Val c} {p : Script false A} → InRows u A p → InRows u A (put-then c v p)
+  r-is : {A : Type 0} {q : Test} {k : Bool → Script false A} → ((b : Bool) → InRows u A (k b)) → InRows u A (is-then q k)
+  r-look : {A : Type 0} {q : Look} {k : ℕ → Script false A} → ((n : ℕ) → InRows u A (k n)) → InRows u A (look-then q k)
+  r-fetch : {A : Type 0} {q : Fetch} {k : List ℕ → Script false A} → ((l : List ℕ) → InRows u A (k l)) → InRows u A (fetch-then q k)
+  r-act : {A : Type 0} {q : Act} {p : Script false A} → suits u q ≡ true → InRows u A p → InRows u A (act-then q p)
+  r-hand : {A : Type 0} {q : Hand} {p : Script false A} → not u ≡ true → InRows u A p → InRows u A (hand-then q p)
+  r-row : {A : Type 0} {g : Row} {p : Script false A} → not u ≡ true → InRows u A p → InRows u A (row-then g p)
 
 abbrev pub Rows : {A : Type 0} → Script false A → Type 1
-Rows {A} p = InRows A p
+Rows {A} p = InRows false A p
 
 ruleset inRows = (r-ret, r-bind, r-test, r-read, r-write, r-wait, r-callback, r-get, r-put, r-is, r-look, r-fetch, r-act, r-hand, r-row)
 
@@ -116,7 +133,7 @@ clear-rows g (suc n) h s = ask tt (row-cleared g (suc n) s) (λ v t _. clear-row
 from : {A : Type 0} {s t : Bk} {o : tree.Out Bk A} → Clears t o → Clears s o
 from w = earlier Any Whatever Cleared (λ s t u _ _. tt) (λ s t u q _ m. m) tt w
 
-pub clears : {A : Type 0} {p : Script false A} → InRows A p → (s : Bk) → Clears s (run bookOps p s)
+pub clears : {u : Bool} {A : Type 0} {p : Script false A} → InRows u A p → (s : Bk) → Clears s (run bookOps p s)
 clears r-ret s = end tt tt
 clears (r-bind h g) s = tracks-bind Any Whatever Cleared (λ s t u _ _. tt) (λ s t u q _ m. m) (clears h s) (λ a t _. clears (g a) t)
 clears (r-test {b = true} h g) s = clears h s
@@ -130,9 +147,9 @@ clears (r-put h) s = from (clears h _)
 clears (r-is h) s = clears (h _) s
 clears (r-look h) s = clears (h _) s
 clears (r-fetch h) s = clears (h _) s
-clears (r-act h) s = from (clears h _)
-clears (r-hand {q = q} h) s = ask tt (λ k. not-released (handed-quiet q (handB q s .0)) k) (λ v t _. clears h t)
-clears (r-row {g = g} h) s = clear-rows g (lastOf g) (λ t. clears h t) s
+clears (r-act m h) s = from (clears h _)
+clears (r-hand {q = q} m h) s = ask tt (λ k. not-released (handed-quiet q (handB q s .0)) k) (λ v t _. clears h t)
+clears (r-row {g = g} m h) s = clear-rows g (lastOf g) (λ t. clears h t) s
 
 -- ---- the calls
 
@@ -168,7 +185,7 @@ of-allocated dir kind maximum (alloc.Given e base slots) = search inRows depth 2
 of-each : (es : List Endpoint) → Rows (allocateEach {i = false} es)
 unfolding allocateEach
 of-each [] = search inRows
-of-each (e ∷ es) = r-bind (r-act r-ret) (λ _. of-each es)
+of-each (e ∷ es) = r-bind (r-act refl r-ret) (λ _. of-each es)
 
 of-begins-at : (dir : Dir) (x left e : ℕ) → Rows (beginsAt {i = false} dir x left e)
 unfolding beginsAt
@@ -197,7 +214,16 @@ of-enabling : (dir : Dir) (e : ℕ) (onn : Bool) → Rows (bus.setEnabled dir e 
 of-enabling Out e onn = search inRows depth 40
 of-enabling In e onn = search inRows depth 40
 
-pub of-slotted : (o : Slotted) → Rows (slottedCode o)
+-- a write's poll queues a packet
+abbrev pub mayQueue : Slotted → Bool
+mayQueue (SetEnabled dir e onn) = false
+mayQueue (PollRead e n) = false
+mayQueue (BeginWrite e bytes) = false
+mayQueue (PollWrite e bytes) = true
+mayQueue (PollDataOut n) = false
+mayQueue (BeginDataIn bytes first last) = false
+
+pub of-slotted : (o : Slotted) → InRows (mayQueue o) Answer (slottedCode o)
 of-slotted (SetEnabled dir e onn) = search (of-enabling, inRows) depth 20
 of-slotted (PollRead e n) = search inRows depth 40
 of-slotted (BeginWrite e bytes) = search inRows depth 40
@@ -206,7 +232,7 @@ of-slotted (PollDataOut n) = search inRows depth 40
 of-slotted (BeginDataIn bytes first true) = search (of-acks, inRows) depth 60
 of-slotted (BeginDataIn bytes first false) = search (of-acks, inRows) depth 60
 
-pub of-aside : (o : Aside) → Rows (asideCode o)
+pub of-aside : (o : Aside) → InRows true Answer (asideCode o)
 of-aside (Open e) = search inRows depth 40
 of-aside (Close e) = search inRows depth 40
 of-aside (Queue e bytes) = search inRows depth 40

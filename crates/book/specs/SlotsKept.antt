@@ -1,7 +1,6 @@
 -- "No slot being sent is written" (demand 3), and no address that is handed out reaches outside the lent buffer (demand 1), after one call; the premise
 -- of FrontPage.antt is the one of Agree.antt
 use mathlib.Core.Bool.{Bool, true, false, not, cond, true≢false}
-use mathlib.Core.List.{List, [], _∷_}
 use mathlib.Core.Path.{_≡_, refl, ap, sym, _∙_}
 use Prim.Native.Nat.{ℕ, zero, _%_}
 use native.Mathlib.Omega.{arith}
@@ -22,8 +21,8 @@ use Rattle.script.specs.Calls.{Config, Op, calls}
 use Rattle.script.specs.Machine.{Buf, Call, start, begin, go, question, misfit, Machine, Ans, ended, handed, told}
 use Rattle.script.specs.Agree.{After, GoodA, Lent, unless}
 use Rattle.way.specs.Under.{driverOf}
-use Rattle.book.specs.Pages.{InPage, Pages}
-use Rattle.book.specs.Book.{some, emptyIn, passedIn, sentIn, sourceTold, placedIn, loadedIn, queuedIn, book}
+use Rattle.book.specs.Pages.{Pages}
+use Rattle.book.specs.Book.{book}
 use Rattle.book.specs.Rest.{Shape, Used, Rest, Good, Chip}
 use Rattle.book.specs.Frame.{sending-count}
 use Rattle.book.specs.Chips.{chip}
@@ -33,48 +32,26 @@ use Rattle.book.specs.FrontPage as page
 
 module _ {φ : Phase} {b : Buf} {d : Driver} {t : Pages} (R : Rest φ b d t) where
   -- an endpoint on which some wait is isochronous, and so allocated: its slots are of the buffers' size
-  sent-size : (e : ℕ) → t .ins e .sending ≡ true → epOn d In e .stride ≡ slotSize t
+  pub sent-used : (e : ℕ) → t .ins e .sending ≡ true → (isOn (epOn d In e .iso) ≡ true) × Used (d .allocator) In (epOn d In e)
   unfolding isOn
-  sent-size e s = by (isSet (allocatedIn (d .allocator) In) (e % 16)) (R .shape In e)
+  sent-used e s = (iso, by (isSet (allocatedIn (d .allocator) In) (e % 16)) (R .shape In e))
     where
       is-iso : (u : Bool) → isOn (epOn d In e .iso) ≡ u → u ≡ true
       is-iso true h = refl
       is-iso false h = absurd (omega (arith, R .ins e .ringless h, sending-count (R .ins e) s))
 
-      by : (u : Bool) → Shape u (d .allocator) In (epOn d In e) → epOn d In e .stride ≡ slotSize t
-      by true k = k .stride ∙ ap (λ (a : Allocator). a .size) (R .same .allocator)
-      by false k = absurd (true≢false (sym (is-iso (isOn (epOn d In e .iso)) refl) ∙ ap isOn (k .iso)))
+      iso : isOn (epOn d In e .iso) ≡ true
+      iso = is-iso (isOn (epOn d In e .iso)) refl
+
+      by : (u : Bool) → Shape u (d .allocator) In (epOn d In e) → Used (d .allocator) In (epOn d In e)
+      by true k = k
+      by false k = absurd (true≢false (sym iso ∙ ap isOn (k .iso)))
+
+  pub sent-size : (e : ℕ) → t .ins e .sending ≡ true → epOn d In e .stride ≡ slotSize t
+  sent-size e s = sent-used e s .1 .stride ∙ ap (λ (a : Allocator). a .size) (R .same .allocator)
 
   pub unwritten : Unwritten t b
   unwritten e s k l h = R .ins e .stands .bytes s k l (omega (arith, sent-size e s))
-
--- ---- what ends a sending, of the book's page: the tail's passing (passedIn) and a reset, an allocation or a start-up (emptyIn), and nothing else. A
--- packet queued, a load of the same packet, an address that sends nothing and an address told leave it, and the bytes as they were shown
-
-abbrev pub Still : InPage → InPage → Type 0
-Still p p′ = p .sending ≡ true → (p′ .sending ≡ true) × (p′ .shown ≡ p .shown)
-
-pub still-queued : (p : InPage) (bytes : List ℕ) → Still p (queuedIn p bytes)
-still-queued p bytes h = (h, refl)
-
-pub still-loaded : (p : InPage) (b : Buf) → Still p (loadedIn p b)
-still-loaded p b = by (some (p .waiting))
-  where
-    by : (u : Bool) → Still p (cond u (sentIn p b) (placedIn p))
-    by true h = (refl, ap (λ u. cond u (p .shown) b) h)
-    by false h = (h, refl)
-
-pub still-placed : (p : InPage) → Still p (placedIn p)
-still-placed p h = (h, refl)
-
-pub still-told : (p : InPage) (x : ℕ) → Still p (sourceTold p x)
-still-told p x h = (h, refl)
-
-pub ended-passed : (p : InPage) → passedIn p .sending ≡ false
-ended-passed p = refl
-
-pub ended-empty : emptyIn .sending ≡ false
-ended-empty = refl
 
 inside-of : (q : Access) (b : Buf) (t : Pages) → Good q b t → LiesIn q b t
 inside-of (Read r e) b t g = tt
