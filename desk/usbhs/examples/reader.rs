@@ -85,7 +85,9 @@ fn seconds(work: impl FnOnce() -> usize, answer: usize) -> f64 {
 }
 
 fn table(bytes: usize, lengths: &[usize]) {
-    println!("| packets of | packets | the CRC alone, MB/s | `usbhs_card_read`, MB/s | ratio | `usbhs_card_next`, MB/s |");
+    println!(
+        "| packets of | packets | the CRC alone, MB/s | `usbhs_card_read`, MB/s | ratio | `usbhs_card_next`, MB/s |"
+    );
     println!("|---|---|---|---|---|---|");
     for &length in lengths {
         let (card, packets) = stream(bytes, length);
