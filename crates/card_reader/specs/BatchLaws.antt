@@ -12,6 +12,7 @@ use Rattle.card.specs.Reading.{View, total, bytesFrom, find, blockEnd}
 use Rattle.card.specs.Clean.{clean-part}
 use Rattle.card.specs.Progress.{find-clean}
 use Rattle.card_reader.specs.Seen.{Seen}
+use Rattle.card_reader.specs.Inside.{Standing}
 use Rattle.card_reader.specs.Batches.{Some, none, before, someFrom, some, front, Takes, answerBy, batchOf, batchRoomOf}
 use Rattle.card_reader.specs.declared.batches.Taken.{Taken}
 use Rattle.card_reader.specs.declared.Batch.the-variants as answer
@@ -50,6 +51,61 @@ some-more v (suc f) d room at a n count bytes all l h s e =
     first : behind count bytes (before (bytesFrom v at (3 + n)) (someFrom v f (at + (3 + n)) (room - (3 + n))))
         ≡ behind count bytes (someFrom v (suc f) d room)
     first = sym (rw (h, someFrom, le-ltb room (3 + n) s))
+
+-- places one behind the other
+bytes-join : (v : View) (n m d : ℕ) → bytesFrom v d n ++ bytesFrom v (d + n) m ≡ bytesFrom v d (n + m)
+unfolding bytesFrom
+bytes-join v zero m d =
+    let e : d + 0 ≡ d = omega arith in
+    let f : 0 + m ≡ m = omega arith in
+    rw (e, f)
+bytes-join v (suc n) m d =
+    let e : d + suc n ≡ d + 1 + n = omega arith in
+    let f : suc n + m ≡ suc (n + m) = omega arith in
+    rw (e, f) (ap (λ (l : List ℕ). v .byte d ∷ l) (bytes-join v n m (d + 1)))
+
+-- packets that stand one behind the other: none, and one more
+some-none : (v : View) (f d room count : ℕ) (bytes : List ℕ) (all : Some) → behind count bytes (someFrom v f d room) ≡ all
+    → behind (count + 0) (bytes ++ bytesFrom v d 0) (someFrom v f (d + 0) (room - 0)) ≡ all
+unfolding bytesFrom
+some-none v f d room count bytes all e =
+    let here : d + 0 ≡ d = omega arith in
+    let same : room - 0 ≡ room = omega arith in
+    let none-more : count + 0 ≡ count = omega arith in
+    rw (here, same, none-more, append-nil bytes) e
+
+some-next : (v : View) (f d room at a n k m count : ℕ) (bytes : List ℕ) (all : Some) → room < f → find v (total v) at ≡ found.Packet at a n
+    → at ≡ d + k → m ≡ k + (3 + n) → 3 + n ≤ room → behind count (bytes ++ bytesFrom v d k) (someFrom v f at room) ≡ all
+    → (g : ℕ) × (room - (3 + n) < g) × (behind (count + 1) (bytes ++ bytesFrom v d m) (someFrom v g (d + m) (room - (3 + n))) ≡ all)
+some-next v f d room at a n k m count bytes all l h e i r b =
+    let next = some-more v f at room at a n count (bytes ++ bytesFrom v d k) all l h r b in
+    let place : at + (3 + n) ≡ d + m = omega arith in
+    let join : (bytes ++ bytesFrom v d k) ++ bytesFrom v at (3 + n) ≡ bytes ++ bytesFrom v d m =
+    append-assoc bytes (bytesFrom v d k) (bytesFrom v at (3 + n))
+    ∙ ap (λ (x : List ℕ). bytes ++ x)
+    (ap (λ (x : ℕ). bytesFrom v d k ++ bytesFrom v x (3 + n)) e ∙ bytes-join v k (3 + n) d ∙ ap (λ (x : ℕ). bytesFrom v d x) (sym i)) in
+    let moved : behind (count + 1) (bytes ++ bytesFrom v d m) (someFrom v (next .0) (d + m) (room - (3 + n)))
+    ≡ behind (count + 1) ((bytes ++ bytesFrom v d k) ++ bytesFrom v at (3 + n)) (someFrom v (next .0) (at + (3 + n)) (room - (3 + n))) =
+    ap₂ (λ (x : List ℕ) (y : ℕ). behind (count + 1) x (someFrom v (next .0) y (room - (3 + n)))) (sym join) (sym place) in
+    (next .0, next .1, moved ∙ next .2)
+
+pub some-standing : (v : View) (c f d n room count : ℕ) (bytes : List ℕ) (all : Some) → room < f → Standing v d c n → n ≤ room
+    → behind count bytes (someFrom v f d room) ≡ all
+    → (g : ℕ) × (room - n < g) × (behind (count + c) (bytes ++ bytesFrom v d n) (someFrom v g (d + n) (room - n)) ≡ all)
+unfolding Standing
+some-standing v zero f d n room count bytes all l s r e = rw s (f, omega arith, some-none v f d room count bytes all e)
+some-standing v (suc c) f d n room count bytes all l (m, s, last) r e =
+    one-more (last .endpoint) (last .len) (last .next) (last .ends) (λ h. some-standing v c f d m room count bytes all l s h e)
+  where
+    one-more : (a len : ℕ) → find v (total v) (d + m) ≡ found.Packet (d + m) a len → n ≡ m + (3 + len)
+        → (m ≤ room → (g : ℕ) × (room - m < g) × (behind (count + c) (bytes ++ bytesFrom v d m) (someFrom v g (d + m) (room - m)) ≡ all))
+        → (g : ℕ) × (room - n < g) × (behind (count + suc c) (bytes ++ bytesFrom v d n) (someFrom v g (d + n) (room - n)) ≡ all)
+    one-more a len h ends before =
+        let i = before (omega arith) in
+        let next = some-next v (i .0) d (room - m) (d + m) a len m n (count + c) bytes all (i .1) h refl ends (omega arith) (i .2) in
+        let counts : count + c + 1 ≡ count + suc c = omega arith in
+        let left : room - m - (3 + len) ≡ room - n = omega arith in
+        (next .0, omega (arith, next .1), rw (counts, left) at (next .2))
 
 -- ---- the room
 

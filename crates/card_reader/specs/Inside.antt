@@ -1,34 +1,72 @@
--- A packet that lies whole in one good block.
+-- Packets that lie whole in one good block, one behind the other.
 use mathlib.Core.Path.{_≡_, refl, sym, ap, _∙_}
 use mathlib.Core.Bool.{Bool, true, false, false≢true}
 use mathlib.Core.List.{List}
 use Prim.Native.Nat.{ℕ, zero, suc, _+_, _-_, _*_, _/_, _%_, _≤_, _<_}
 use native.Mathlib.Omega.{arith}
 use native.Mathlib.Decide.{decLt}
-use lib.ListN.{length, getD}
+use native.Mathlib.Numerals.{add-one}
+use lib.ListN.{length, take, drop, getD}
+use lib.Seq.{take-all, paste}
 use Rattle.card.specs.declared.Found.{Found}
 use Rattle.card.specs.declared.Found.the-variants as found
 use Rattle.card.specs.declared.Step.the-variants.{Gives}
-use Rattle.card.specs.Reading.{View, total, blockEnd, cleanTo, cleanUpTo, lengthAt, endpointAt, packetAt, beginAt, stepAt, find}
+use Rattle.card.specs.Reading.{View, total, blockEnd, cleanTo, cleanUpTo, lengthAt, endpointAt, packetAt, beginAt, stepAt, bytesFrom, find}
 use Rattle.card.specs.Streams.{view, pairAt, goodBlock, dataByte}
 use Rattle.card.specs.Places.{good-inside}
 use Rattle.card.specs.Steps.{intact-good, packet-in, begin-packet, step-begin}
 use Rattle.card.specs.Clean.{clean-good}
-use Rattle.card.specs.Progress.{find-give}
+use Rattle.card.specs.Progress.{find-give, find-fits}
+use Rattle.card_reader.specs.Rooms.{length-bytes, run-bytes}
 use Rattle.card_reader.specs.Seen.{Seen}
 
--- where a packet is answered, it is the one that is found from d on
-unfoldable pub IfFound : View → ℕ → Found → Type 0
-IfFound v d (found.Packet at a n) = find v (total v) d ≡ found.Packet at a n
-IfFound v d found.Nothing = Unit {0}
+-- one packet more, found where it begins: m bytes behind place d; it ends n bytes behind d
+pub record OneMore (v : View) (d m n : ℕ) : Type 0 where
+  pub endpoint : ℕ
+  pub len : ℕ
+  pub next : find v (total v) (d + m) ≡ found.Packet (d + m) endpoint len
+  pub ends : n ≡ m + (3 + len)
 
-pub if-nothing : (v : View) (d : ℕ) → IfFound v d found.Nothing
-unfolding IfFound
-if-nothing v d = tt
+-- so many packets, which as many calls of next find, one behind the other in the n bytes from place d on
+unfoldable pub Standing : View → ℕ → ℕ → ℕ → Type 0
+Standing v d zero n = n ≡ 0
+Standing v d (suc count) n = (m : ℕ) × Standing v d count m × OneMore v d m n
 
-pub if-packet : (v : View) (d at a n : ℕ) → IfFound v d (found.Packet at a n) → found.Packet at a n ≡ find v (total v) d
-unfolding IfFound
-if-packet v d at a n h = sym h
+-- those lie in the block of d, and fit into so much room
+pub record Walked (v : View) (d room count n : ℕ) : Type 0 where
+  pub standing : Standing v d count n
+  pub fits : n ≤ room
+  pub inside : d % 504 + n ≤ 504
+
+-- those fit into so much room, and at the place behind them no block before `first` needs a look
+pub record Near (v : View) (d first room count n : ℕ) : Type 0 where
+  pub standing : Standing v d count n
+  pub fits : n ≤ room
+  pub seen : Seen v (d + n) first
+
+-- ---- laws
+
+pub standing-none : (v : View) (d : ℕ) → Standing v d 0 0
+unfolding Standing
+standing-none v d = refl
+
+pub standing-more : (v : View) (d count m a len : ℕ) → Standing v d count m → find v (total v) (d + m) ≡ found.Packet (d + m) a len
+    → Standing v d (count + 1) (m + (3 + len))
+unfolding Standing
+standing-more v d count m a len s h = rw (add-one count) (m, s, record { endpoint = a; len = len; next = h; ends = refl })
+
+pub standing-count : (v : View) (d count n : ℕ) → Standing v d count n → count ≤ n
+unfolding Standing
+standing-count v d zero n s = omega arith
+standing-count v d (suc count) n s = omega (arith, standing-count v d count (s .0) (s .1), s .2 .ends)
+
+-- packets lie in the stream
+pub standing-lies : (v : View) (d count n : ℕ) → Standing v d count n → 0 < n → d + n ≤ total v
+unfolding Standing
+standing-lies v d zero n s l = absurd (omega arith)
+standing-lies v d (suc count) n s l =
+    let last = s .2 in
+    omega (arith, last .ends, find-fits v (total v) (d + s .0) (d + s .0) (last .endpoint) (last .len) (last .next))
 
 -- the block of d has been seen
 pub seen-good : (v : View) (d first : ℕ) → Seen v d first → d / 504 < first → v .good (d / 504) ≡ true
@@ -47,9 +85,8 @@ one-clean v d x g l e =
     let one : blockEnd x - d / 504 ≡ 1 = omega arith in
     rw (one, g) (omega arith)
 
-pub inside-found : (v : View) (d a n : ℕ) → v .good (d / 504) ≡ true → d / 504 < v .blocks → d % 504 + 3 + n ≤ 504
-    → endpointAt v d ≡ a → (a ≡ 0 → ⊥) → lengthAt v d ≡ n → IfFound v d (found.Packet d a n)
-unfolding IfFound
+inside-found : (v : View) (d a n : ℕ) → v .good (d / 504) ≡ true → d / 504 < v .blocks → d % 504 + 3 + n ≤ 504
+    → endpointAt v d ≡ a → (a ≡ 0 → ⊥) → lengthAt v d ≡ n → find v (total v) d ≡ found.Packet d a n
 inside-found v d a n g b l e nz m =
     let header = intact-good v d (d + 3) (beginAt v d) (one-clean v d (d + 3) g (omega arith) (omega arith)) in
     let begin = begin-packet v d (λ z. nz (sym e ∙ z)) in
@@ -60,14 +97,58 @@ inside-found v d a n g b l e nz m =
     let some-places : total v ≡ suc (total v - 1) = omega arith in
     rw some-places (find-give v (total v - 1) d a n gives)
 
--- the header at place d of a stream, which ends in the block of d
-pub header-bytes : (s : List ℕ) (d : ℕ) → d % 504 + 3 ≤ 504
-    → (getD s (d / 504 * 512 + (510 - (504 - d % 504) + 2)) 0 ≡ endpointAt (view s) d) × (pairAt s (d / 504) (510 - (504 - d % 504)) ≡ lengthAt (view s) d)
+-- the header m bytes behind place d of a stream, which ends in the block of d
+header-bytes : (s : List ℕ) (d m : ℕ) → d % 504 + m + 3 ≤ 504
+    → (getD s (d / 504 * 512 + (6 + d % 504 + m + 2)) 0 ≡ endpointAt (view s) (d + m))
+    × (pairAt s (d / 504) (6 + d % 504 + m) ≡ lengthAt (view s) (d + m))
 unfolding dataByte
-header-bytes s d h =
-    let i : 510 - (504 - d % 504) ≡ 6 + d % 504 = omega arith in
-    let k1 : (d + 1) / 504 ≡ d / 504 = omega arith in
-    let k2 : (d + 2) / 504 ≡ d / 504 = omega arith in
-    let i1 : 6 + (d + 1) % 504 ≡ 6 + d % 504 + 1 = omega arith in
-    let i2 : 6 + (d + 2) % 504 ≡ 6 + d % 504 + 2 = omega arith in
-    (rw (i, k2, i2), rw (i, k1, i1))
+header-bytes s d m h =
+    let k0 : (d + m) / 504 ≡ d / 504 = omega arith in
+    let k1 : (d + m + 1) / 504 ≡ d / 504 = omega arith in
+    let k2 : (d + m + 2) / 504 ≡ d / 504 = omega arith in
+    let i0 : 6 + (d + m) % 504 ≡ 6 + d % 504 + m = omega arith in
+    let i1 : 6 + (d + m + 1) % 504 ≡ 6 + d % 504 + m + 1 = omega arith in
+    let i2 : 6 + (d + m + 2) % 504 ≡ 6 + d % 504 + m + 2 = omega arith in
+    (rw (k2, i2), rw (k0, i0, k1, i1))
+
+-- a header in a good block, of a packet that ends in it
+pub walk-more : (s : List ℕ) (d count m a n : ℕ) → goodBlock s (d / 504) ≡ true → d % 504 + m + (3 + n) ≤ 504 → Standing (view s) d count m
+    → a ≡ getD s (d / 504 * 512 + (6 + d % 504 + m + 2)) 0 → (a ≡ 0 → ⊥) → n ≡ pairAt s (d / 504) (6 + d % 504 + m)
+    → Standing (view s) d (count + 1) (m + (3 + n))
+walk-more s d count m a n g l st e nz p =
+    let header = header-bytes s d m (omega arith) in
+    let k : (d + m) / 504 ≡ d / 504 = omega arith in
+    let good : goodBlock s ((d + m) / 504) ≡ true = rw k g in
+    let lies = good-lies s (d / 504) g in
+    let next = inside-found (view s) (d + m) a n good (omega arith) (omega arith) (sym (e ∙ header .0)) nz (sym (p ∙ header .1)) in
+    standing-more (view s) d count m a n st next
+
+-- what was looked at serves at the place behind
+seen-near : (v : View) (d first n : ℕ) → Seen v d first → first ≡ d / 504 + 1 → d % 504 + n ≤ 504 → Seen v (d + n) first
+unfolding cleanTo
+seen-near v d first n s e l = elim (decLt (d % 504 + n) 504) [
+  | yes h ↦ (let k : (d + n) / 504 ≡ d / 504 = omega arith in
+      record { low = omega arith; high = omega arith; good = rw k (s .good) })
+  | no h ↦ (let k : (d + n) / 504 ≡ first = omega arith in
+      let z : first - first ≡ 0 = omega arith in
+      record { low = omega arith; high = omega arith; good = rw (k, z) (omega arith) })
+]
+
+pub near-none : (v : View) (d first room : ℕ) → Seen v d first → Near v d first room 0 0
+near-none v d first room s =
+    let e : d + 0 ≡ d = omega arith in
+    record { standing = standing-none v d; fits = omega arith; seen = rw e s }
+
+pub near-walked : (v : View) (d first room count n : ℕ) → Seen v d first → first ≡ d / 504 + 1 → Walked v d room count n
+    → Near v d first room count n
+near-walked v d first room count n s e w =
+    record { standing = w .standing; fits = w .fits; seen = seen-near v d first n s e (w .inside) }
+
+-- the bytes of a good block, copied together
+pub near-bytes : (s room : List ℕ) (d used n : ℕ) → goodBlock s (d / 504) ≡ true → d % 504 + n ≤ 504
+    → paste room used (drop (d / 504 * 512 + (6 + d % 504)) s) n ≡ paste room used (bytesFrom (view s) d n) n
+near-bytes s room d used n g l =
+    let lies = good-lies s (d / 504) g in
+    let run = run-bytes s n d l (omega arith) in
+    let all = take-all n (bytesFrom (view s) d n) (omega (arith, length-bytes (view s) n d)) in
+    rw (run, all)

@@ -4,14 +4,18 @@ use crate::Reader;
 use crate::blocks::byte_at;
 use crate::blocks::pair_at;
 use crate::reading::copy_data;
+use crate::reading::copy_run;
 use crate::reading::find_from;
 use card::Found;
 ghost use mathlib.Core.Path.{_≡_};
+ghost use mathlib.Core.Bool.{true};
+ghost use Prim.Native.Nat.{_-_, _/_, _≤_};
 ghost use lib.ListN.{length};
-ghost use Rattle.card.specs.Reading.{total, find};
-ghost use Rattle.card.specs.Streams.{view};
+ghost use lib.Seq.{paste};
+ghost use Rattle.card.specs.Reading.{bytesFrom};
+ghost use Rattle.card.specs.Streams.{goodBlock, view};
 ghost use Rattle.card_reader.specs.Seen.{Seen};
-ghost use Rattle.card_reader.specs.Inside.{IfFound};
+ghost use Rattle.card_reader.specs.Inside.{Walked, Near};
 ghost use Rattle.card_reader.specs.Batches.{Takes, some, front, answerBy, batchOf, batchRoomOf};
 
 // Some packets: how many, how many bytes of the room they take, the place behind them, and whether the next one is too long for the rest.
@@ -22,44 +26,64 @@ pub struct Taken {
     pub short: bool,
 }
 
-// A packet at d that lies whole in a block which is known to be good: what most packets are.
-fn inside(stream: &[u8], d: usize, first: usize) -> Found
-    requires { ⌜ Seen (view (now stream)) d first ⌝ }
-    ensures { λ r. ⌜ IfFound (view (now (stream .entry))) d r ⌝ }
-{
-    let k = d / 504;
-    if first <= k {
-        return Found::Nothing;
-    }
-    let left = 504 - d % 504;
-    if left < 3 {
-        return Found::Nothing;
-    }
-    let i = 510 - left;
-    let endpoint = byte_at(stream, k * 512 + (i + 2));
-    if endpoint == 0 {
-        return Found::Nothing;
-    }
-    let len = pair_at(stream, k, i);
-    if left - 3 < len {
-        return Found::Nothing;
-    }
-    Found::Packet {
-        at: d,
-        endpoint: endpoint as u8,
-        len: len as u16,
-    }
+// Packets of one block that stand one behind the other: how many, and how many bytes they take.
+pub struct Stretch {
+    pub count: usize,
+    pub bytes: usize,
 }
 
-// The next packet from d on; the blocks of d before block `first` are good.
-fn next_from(stream: &[u8], d: usize, first: usize) -> Found
-    requires { ⌜ Seen (view (now stream)) d first ⌝ }
-    ensures { λ r. ⌜ r ≡ find (view (now (stream .entry))) (total (view (now (stream .entry)))) d ⌝ }
+fn least(a: usize, b: usize) -> usize
+    ensures { λ r. ⌜ (r ≤ a) × (r ≤ b) ⌝ }
 {
-    match inside(stream, d, first) {
-        Found::Packet { at, endpoint, len } => Found::Packet { at, endpoint, len },
-        Found::Nothing => find_from(stream, d, first),
+    if a < b {
+        return a;
     }
+    b
+}
+
+// The packets from d on that lie whole in the block of d, a good one, and in so many bytes: what most packets are. Only their headers are looked at.
+fn walk(stream: &[u8], d: usize, room: usize) -> Stretch
+    requires { ⌜ goodBlock (now stream) (d / 504) ≡ true ⌝ }
+    ensures { λ r. ⌜ Walked (view (now (stream .entry))) d room (r .count) (r .bytes) ⌝ }
+{
+    let k = d / 504;
+    let from = 6 + d % 504;
+    let most = least(510 - from, room);
+    let mut count = 0;
+    let mut bytes = 0;
+    while bytes + 3 <= most {
+        let i = from + bytes;
+        if byte_at(stream, k * 512 + (i + 2)) == 0 {
+            return Stretch { count, bytes };
+        }
+        let n = 3 + pair_at(stream, k, i);
+        if most - bytes < n {
+            return Stretch { count, bytes };
+        }
+        count += 1;
+        bytes += n;
+    }
+    Stretch { count, bytes }
+}
+
+// The same, if the block of d has been looked at, and copied into the room by one copy.
+fn take_near(stream: &[u8], d: usize, first: usize, room: &mut [u8], used: usize) -> Stretch
+    requires { ⌜ Seen (view (now stream)) d first × (used ≤ length (now room)) ⌝ }
+    ensures { λ r. ⌜ Near (view (now (stream .entry))) d first (length (now (room .entry)) - used) (r .count) (r .bytes) ⌝ }
+    ensures { λ r. ⌜ now (room .exit) ≡ paste (now (room .entry)) used (bytesFrom (view (now (stream .entry))) d (r .bytes)) (r .bytes) ⌝ }
+{
+    if first != d / 504 + 1 {
+        return Stretch { count: 0, bytes: 0 };
+    }
+    let near = walk(stream, d, room.len() - used);
+    copy_run(
+        stream,
+        d / 504 * 512 + (6 + d % 504),
+        room,
+        used,
+        near.bytes,
+    );
+    near
 }
 
 fn take(stream: &[u8], place: usize, room: &mut [u8]) -> Taken
@@ -71,7 +95,11 @@ fn take(stream: &[u8], place: usize, room: &mut [u8]) -> Taken
     let mut d = place;
     let mut first = place / 504;
     loop {
-        match next_from(stream, d, first) {
+        let near = take_near(stream, d, first, room, used);
+        count += near.count;
+        used += near.bytes;
+        d += near.bytes;
+        match find_from(stream, d, first) {
             Found::Nothing => {
                 return Taken {
                     count,

@@ -147,7 +147,7 @@ pub fn find_from(stream: &[u8], d: usize, first: usize) -> Found
 }
 
 // Copies n bytes that lie together.
-fn copy_run(stream: &[u8], from: usize, room: &mut [u8], at: usize, n: usize)
+pub fn copy_run(stream: &[u8], from: usize, room: &mut [u8], at: usize, n: usize)
     requires { ⌜ (from + n ≤ length (now stream)) × (at + n ≤ length (now room)) ⌝ }
     ensures { λ _. ⌜ now (room .exit) ≡ paste (now (room .entry)) at (drop from (now (stream .entry))) n ⌝ }
 {

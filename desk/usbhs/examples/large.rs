@@ -1,9 +1,11 @@
-//! large [BYTES [LENGTH..]]: streams of at least so many bytes (a billion, if not said) with packets of these
+//! large [cold] [BYTES [LENGTH..]]: streams of at least so many bytes (a billion, if not said) with packets of these
 //! lengths (4, 64 and 1,024), every thousandth block damaged; each is read by `cat`, `sha256sum` and `usbhs card
-//! check`, three times in turn. Prints a table: the best time of each, and the most memory that it held.
+//! check`, three times in turn. Prints a table: the best time of each, and the most memory that it held. `cold`: the
+//! stream is put out of the page cache before each reading, so that it comes from the disk.
 
 use std::fs::File;
 use std::io::{BufWriter, Write};
+use std::os::fd::AsRawFd;
 use std::path::{Path, PathBuf};
 use std::process::{Command, Stdio};
 use std::time::Instant;
@@ -21,6 +23,17 @@ struct Usage {
 
 extern "C" {
     fn wait4(pid: i32, status: *mut i32, options: i32, usage: *mut Usage) -> i32;
+    fn posix_fadvise(fd: i32, offset: i64, len: i64, advice: i32) -> i32;
+}
+
+const POSIX_FADV_DONTNEED: i32 = 4;
+
+/// Puts a file out of the page cache.
+fn forget(path: &Path) {
+    let file = File::open(path).expect("the file");
+    file.sync_all().expect("the file is on the disk");
+    // SAFETY: an open file
+    assert_eq!(unsafe { posix_fadvise(file.as_raw_fd(), 0, 0, POSIX_FADV_DONTNEED) }, 0);
 }
 
 struct Took {
@@ -63,7 +76,10 @@ fn make(path: &Path, bytes: usize, length: usize) -> (usize, usize) {
 }
 
 fn main() {
-    let numbers: Vec<usize> = std::env::args().skip(1).map(|w| w.parse().expect("a number")).collect();
+    let mut words: Vec<String> = std::env::args().skip(1).collect();
+    let cold = words.first().is_some_and(|w| w == "cold");
+    words.drain(..cold as usize);
+    let numbers: Vec<usize> = words.iter().map(|w| w.parse().expect("a number")).collect();
     let bytes = numbers.first().copied().unwrap_or(1_000_000_000);
     let lengths = if numbers.len() > 1 { &numbers[1..] } else { &[4, 64, 1_024] };
     let path = std::env::temp_dir().join(format!("usbhs-large-{}.card", std::process::id()));
@@ -83,6 +99,9 @@ fn main() {
         let mut most = [0; 3];
         for _ in 0..3 {
             for (i, (program, words)) in commands.iter().enumerate() {
+                if cold {
+                    forget(&path);
+                }
                 let took = run(program, words);
                 // damaged blocks are told by status 1
                 assert_eq!(took.status, if i == 2 { 1 } else { 0 });

@@ -6,6 +6,8 @@ use std::ffi::c_void;
 use std::fs::{File, OpenOptions};
 use std::io::{copy, stdin, ErrorKind, Read, Seek, SeekFrom, Write};
 use std::os::fd::{AsFd, AsRawFd};
+use std::ptr::null_mut;
+use std::sync::atomic::{AtomicPtr, Ordering};
 
 use crate::output::words;
 use crate::{bad, Done, Failure};
@@ -14,6 +16,68 @@ extern "C" {
     fn mmap(at: *mut c_void, len: usize, prot: i32, flags: i32, fd: i32, offset: i64) -> *mut c_void;
     fn munmap(at: *mut c_void, len: usize) -> i32;
     fn madvise(at: *mut c_void, len: usize, advice: i32) -> i32;
+    fn sigaction(signal: i32, action: *const Action, old: *mut Action) -> i32;
+    fn write(fd: i32, bytes: *const u8, len: usize) -> isize;
+    fn _exit(status: i32) -> !;
+}
+
+/// The C library's struct sigaction, and the front of its siginfo_t, on 64-bit Linux.
+#[repr(C)]
+struct Action {
+    handler: usize,
+    mask: [u64; 16],
+    flags: i32,
+    restorer: usize,
+}
+
+#[repr(C)]
+struct Info {
+    numbers: [i32; 4],
+    at: usize,
+}
+
+const SIGBUS: i32 = 7;
+const SA_SIGINFO: i32 = 4;
+const SIG_DFL: usize = 0;
+
+/// Which mapping is read, and what to say of it before the byte's number.
+struct Mapped {
+    at: usize,
+    len: usize,
+    front: String,
+}
+
+static MAPPED: AtomicPtr<Mapped> = AtomicPtr::new(null_mut());
+
+fn act(handler: usize) {
+    let action = Action { handler, mask: [0; 16], flags: SA_SIGINFO, restorer: 0 };
+    // SAFETY: a whole action
+    unsafe { sigaction(SIGBUS, &action, null_mut()) };
+}
+
+/// A mapped byte cannot be had: the file was cut short meanwhile, or its device fails. The system tells this by a
+/// signal; the tool says at which byte, and ends as it does for every input that cannot be read. Here nothing may be
+/// allocated.
+extern "C" fn lost(_signal: i32, info: *const Info, _context: *const c_void) {
+    // SAFETY: the system lends the info; what MAPPED points to is never freed
+    let (at, mapped) = unsafe { ((*info).at, MAPPED.load(Ordering::Acquire).as_ref()) };
+    let Some(mapped) = mapped.filter(|m| (m.at..m.at + m.len).contains(&at)) else {
+        // not ours: the byte is asked for again, and the signal ends the tool
+        return act(SIG_DFL);
+    };
+    let (mut digits, mut from, mut n) = ([0; 20], 20, at - mapped.at);
+    while from == 20 || n != 0 {
+        from -= 1;
+        digits[from] = b'0' + (n % 10) as u8;
+        n /= 10;
+    }
+    let end = ": it was cut short meanwhile, or its device fails\n";
+    for part in [mapped.front.as_bytes(), &digits[from..], end.as_bytes()] {
+        // SAFETY: a slice with its own length
+        unsafe { write(2, part.as_ptr(), part.len()) };
+    }
+    // SAFETY: ends the tool
+    unsafe { _exit(2) }
 }
 
 const PROT_READ: i32 = 1;
@@ -96,15 +160,18 @@ impl Image {
                 len => len?,
             } as usize;
             if len == 0 {
-                return Ok(Image { at: std::ptr::null_mut(), len, seen: len, given_back: 0 });
+                return Ok(Image { at: null_mut(), len, seen: len, given_back: 0 });
             }
             // SAFETY: a new mapping of an open file, for reading only
-            let at = unsafe { mmap(std::ptr::null_mut(), len, PROT_READ, MAP_PRIVATE, file.as_raw_fd(), 0) };
+            let at = unsafe { mmap(null_mut(), len, PROT_READ, MAP_PRIVATE, file.as_raw_fd(), 0) };
             if at as isize == -1 {
                 return Err(std::io::Error::last_os_error());
             }
             // SAFETY: the mapping's own bounds
             unsafe { madvise(at, len, MADV_SEQUENTIAL) };
+            let front = format!("usbhs: {}: cannot be read at byte ", name(path));
+            MAPPED.store(Box::leak(Box::new(Mapped { at: at as usize, len, front })), Ordering::Release);
+            act(lost as *const () as usize);
             Ok(Image { at, len, seen: len, given_back: 0 })
         })();
         outcome.map_err(|e| Failure::Input(format!("{}: {}", name(path), words(&e))))

@@ -298,6 +298,12 @@ impl Reader {
         Some(Packet { endpoint, begin, bytes: &self.room[at..at + length] })
     }
 
+    /// The next packets as they stand on the card, one behind the other with their headers: as many as the room
+    /// holds.
+    pub fn batch(&mut self, stream: &[u8]) -> Option<&[u8]> {
+        self.fill(stream).then(|| &self.room[self.from..self.to])
+    }
+
     /// Reads as many packets as the room holds.
     fn fill(&mut self, stream: &[u8]) -> bool {
         if self.singly != 0 {

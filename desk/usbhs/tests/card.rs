@@ -2,6 +2,10 @@
 
 mod common;
 
+use std::fs::File;
+use std::io::Read;
+use std::process::{Command, Stdio};
+
 use common::{refused, stream, usbhs, Numbers};
 use usbhs::survey::{Reader, BLOCK};
 
@@ -125,8 +129,30 @@ fn no_image() {
 }
 
 #[test]
+fn cut_short_meanwhile() {
+    // the tool has begun, and waits for its output to be read, when the image is cut behind its first blocks
+    let packet = [7u8; 1_000];
+    let path = std::env::temp_dir().join(format!("usbhs-cut-{}.card", std::process::id()));
+    std::fs::write(&path, stream((0..12_000).map(|_| (1, packet.as_slice())))).unwrap();
+    let mut child = Command::new(env!("CARGO_BIN_EXE_usbhs"))
+        .args(["card", "extract", path.to_str().unwrap()])
+        .stdout(Stdio::piped())
+        .stderr(Stdio::piped())
+        .spawn()
+        .unwrap();
+    child.stdout.as_mut().unwrap().read_exact(&mut [0]).unwrap();
+    File::options().write(true).open(&path).unwrap().set_len(8 * BLOCK as u64).unwrap();
+    let ran = child.wait_with_output().unwrap();
+    std::fs::remove_file(&path).unwrap();
+    assert_eq!(ran.status.code(), Some(2));
+    let says = String::from_utf8(ran.stderr).unwrap();
+    assert!(says.starts_with(&format!("usbhs: {}: cannot be read at byte ", path.display())), "{says}");
+    assert!(says.ends_with(": it was cut short meanwhile, or its device fails\n"), "{says}");
+}
+
+#[test]
 fn output_that_nobody_reads() {
-    let ran = std::process::Command::new("sh")
+    let ran = Command::new("sh")
         .args(["-c", "\"$0\" card list survey.card | head -1", env!("CARGO_BIN_EXE_usbhs")])
         .current_dir(common::samples())
         .output()
