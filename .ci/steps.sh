@@ -83,8 +83,7 @@ oracle_tests() {
 # two crates at a time; one after the other, as both ask rt whether all is proved
 edits_and_wrong_drivers() {
     export RT_JOBS=2
-    # shellcheck disable=SC2046
-    tests/edits $(cat tests/named-edits)
+    tests/edits --every-test
     tests/wrong-drivers/run
     tests/wrong-scripts/run
 }
