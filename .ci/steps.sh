@@ -82,10 +82,7 @@ oracle_tests() {
 }
 
 # two crates at a time
-named_edits() {
-    # shellcheck disable=SC2046
-    AS_PROVED=1 RT_JOBS=2 nice tests/edits $(cat tests/named-edits)
-}
+named_edits() { AS_PROVED=1 RT_JOBS=2 nice tests/edits --every-test; }
 
 # one after the other, as both ask rt whether all is proved
 wrong_drivers_and_scripts() {

@@ -1,4 +1,5 @@
-/* Links the proved archive and calls it on a state before start-up. */
+/* The driver's exported calls from C, on the proved archive: a state before start-up; bus time that four drivers share;
+   the parts of an answer's word; the tasks that an end wakes; a board's endpoints allocated as one operation. */
 #include <stdio.h>
 #include <string.h>
 #include "usbhs.h"

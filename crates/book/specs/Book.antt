@@ -118,7 +118,17 @@ loadedIn p b = cond (some (p .waiting)) (sentIn p b) (placedIn p)
 
 -- "Queue: its bytes wait, last"
 abbrev pub queuedIn : InPage → List ℕ → InPage
-queuedIn p bytes = record { waiting = p .waiting ++ (bytes ∷ []); sending = p .sending; load = p .load; turn = (p .turn + 1) % 2; queued = p .queued ++ (bytes ∷ []); sent = p .sent; passed = p .passed; source = p .source; shown = p .shown }
+queuedIn p bytes = record {
+  waiting = p .waiting ++ (bytes ∷ []);
+  sending = p .sending;
+  load = p .load;
+  turn = (p .turn + 1) % 2;
+  queued = p .queued ++ (bytes ∷ []);
+  sent = p .sent;  -- not before its address is handed out
+  passed = p .passed;
+  source = p .source;
+  shown = p .shown;
+}
 
 -- ---- kept values
 

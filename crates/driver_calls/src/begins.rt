@@ -6,7 +6,7 @@ use way::Step;
 use way::halts::halted;
 use way::halts::halted_advance;
 use way::halts::halted_interrupt;
-use way::rows::stop;
+use way::stops::stop;
 ghost use mathlib.Core.Path.{_≡_};
 ghost use mathlib.Core.List.{List, []};
 ghost use Prim.Native.Nat.{ℕ};

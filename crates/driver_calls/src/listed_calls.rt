@@ -6,7 +6,7 @@ use preview::Shown;
 use state::STATE_LEN;
 use way::Step;
 use way::halts::halted;
-use way::rows::stop;
+use way::stops::stop;
 ghost use mathlib.Core.Path.{_≡_};
 ghost use mathlib.Core.Bool.{true};
 ghost use mathlib.Core.List.{List, []};

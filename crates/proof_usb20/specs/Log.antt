@@ -82,7 +82,18 @@ happens e w = record { rx = w .rx; tx = w .tx; len = w .len; pipe = after e (w .
 
 -- a setup packet ends what the function waits for, and all exemption
 abbrev pub set-up : Log → Log
-set-up w = record { rx = w .rx; tx = w .tx; len = w .len; pipe = after setup (w .pipe); awaits = nothing; untaken = true; exempt = false; phase = w .phase; setup-seen = w .setup-seen; wrote = w .wrote }
+set-up w = record {
+  rx = w .rx;
+  tx = w .tx;
+  len = w .len;
+  pipe = after setup (w .pipe);
+  awaits = nothing;  -- what was waited for is over
+  untaken = true;
+  exempt = false;
+  phase = w .phase;
+  setup-seen = w .setup-seen;
+  wrote = w .wrote;
+}
 
 -- what the status shows of endpoint 0: a transaction that is complete, if the bus was free; the token in any case
 abbrev pub ofToken : tokens.Token → Bool → Bool → Log → Log

@@ -4,7 +4,7 @@ use regs::Dir;
 use state::STATE_LEN;
 use way::Step;
 use way::halts::halted;
-use way::rows::stop;
+use way::stops::stop;
 ghost use mathlib.Core.Path.{_≡_};
 ghost use mathlib.Core.Bool.{cond};
 ghost use mathlib.Core.List.{List, []};

@@ -2,7 +2,7 @@
 pub mod saved; // saved.rt: what is under way
 pub mod woken; // woken.rt: how many wake-ups an end gives
 pub mod halts; // halts.rt: how a call ends
-pub mod rows; // rows.rt: rows 1, 3 and 4
+pub mod stops; // stops.rt: what stops a call: rows 1, 3 and 4
 
 use regs::Access;
 

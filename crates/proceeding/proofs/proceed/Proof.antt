@@ -11,7 +11,7 @@ use Rattle.proceeding.proofs.proceed.Tie as tie
 use Rattle.proceeding.proofs.proceed.Reads as reads
 use Rattle.proceeding.proofs.proceed.Lts as lts
 use Rattle.proceeding.proofs.proceed_at.Reads as proceed-at-reads
-use Rattle.way.proofs.rows.slots_fit.Reads as slots-fit-reads
+use Rattle.way.proofs.stops.slots_fit.Reads as slots-fit-reads
 
 slots-fit-requires : tie.Need-slots-fit-requires
 slots-fit-requires c κs = search needs

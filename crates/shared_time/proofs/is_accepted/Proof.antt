@@ -6,8 +6,8 @@ use Rattle.shared_time.proofs.is_accepted.Tie as tie
 use Rattle.shared_time.proofs.is_accepted.Reads as reads
 use Rattle.shared_time.proofs.is_accepted.Lts as lts
 use Rattle.rows.proofs.is_allocated.Reads as is-allocated-reads
-use Rattle.way.proofs.rows.slots_fit.Reads as slots-fit-reads
-use Rattle.way.proofs.rows.stop.Reads as stop-reads
+use Rattle.way.proofs.stops.slots_fit.Reads as slots-fit-reads
+use Rattle.way.proofs.stops.stop.Reads as stop-reads
 
 slots-fit-requires : tie.Need-slots-fit-requires
 slots-fit-requires c κs = search needs

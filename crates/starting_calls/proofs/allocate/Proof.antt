@@ -15,7 +15,7 @@ use Rattle.driver.proofs.new_endpoint.Reads as new-endpoint-reads
 use Rattle.ops.proofs.records.allocate.Reads as allocate-reads
 use Rattle.state.proofs.clear_wakes.Reads as clear-wakes-reads
 use Rattle.way.proofs.halts.halted.Reads as halted-reads
-use Rattle.way.proofs.rows.stop.Reads as stop-reads
+use Rattle.way.proofs.stops.stop.Reads as stop-reads
 
 stop-requires : tie.Need-stop-requires
 stop-requires c κs = search needs

@@ -16,10 +16,10 @@ use Rattle.bus_calls.proofs.bus_begins.begin_set_enabled.Reads as reads
 use Rattle.bus_calls.proofs.bus_begins.begin_set_enabled.Lts as lts
 use Rattle.enabling.proofs.set_enabled.Reads as set-enabled-reads
 use Rattle.state.proofs.clear_wakes.Reads as clear-wakes-reads
-use Rattle.way.proofs.rows.slots_fit.Reads as slots-fit-reads
+use Rattle.way.proofs.stops.slots_fit.Reads as slots-fit-reads
 use Rattle.rows.proofs.low.Reads as low-reads
 use Rattle.rows.proofs.is_allocated.Reads as is-allocated-reads
-use Rattle.way.proofs.rows.stop.Reads as stop-reads
+use Rattle.way.proofs.stops.stop.Reads as stop-reads
 use Rattle.way.proofs.halts.halted_bus.Reads as halted-bus-reads
 
 slots-fit-requires : tie.Need-slots-fit-requires

@@ -13,7 +13,7 @@ use Rattle.control_calls.proofs.control_begins.begin_data_in.Reads as r
 use Rattle.control_calls.proofs.control_begins.begin_data_in.Lts as lts
 use Rattle.control.proofs.begin_data_in.Reads as begin-data-in-reads
 use Rattle.way.proofs.halts.begun_control.Reads as begun-control-reads
-use Rattle.way.proofs.rows.slots_fit.Reads as slots-fit-reads
+use Rattle.way.proofs.stops.slots_fit.Reads as slots-fit-reads
 use Rattle.way.proofs.saved.is_idle.Reads as is-idle-reads
 
 slots-fit-requires : tie.Need-slots-fit-requires

@@ -14,7 +14,7 @@ use Rattle.control_calls.proofs.control_polls.poll_data_out.Reads as re
 use Rattle.control_calls.proofs.control_polls.poll_data_out.Lts as lts
 use Rattle.control.proofs.poll_data_out.Reads as poll-data-out-reads
 use Rattle.way.proofs.halts.polled_control.Reads as polled-control-reads
-use Rattle.way.proofs.rows.slots_fit.Reads as slots-fit-reads
+use Rattle.way.proofs.stops.slots_fit.Reads as slots-fit-reads
 use Rattle.way.proofs.saved.is_idle.Reads as is-idle-reads
 
 slots-fit-requires : tie.Need-slots-fit-requires

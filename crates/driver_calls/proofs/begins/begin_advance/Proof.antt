@@ -17,7 +17,7 @@ use Rattle.state.proofs.clear_wakes.Reads as clear-wakes-reads
 use Rattle.rows.proofs.is_number.Reads as is-number-reads
 use Rattle.rows.proofs.low.Reads as low-reads
 use Rattle.way.proofs.halts.halted_advance.Reads as halted-advance-reads
-use Rattle.way.proofs.rows.stop.Reads as stop-reads
+use Rattle.way.proofs.stops.stop.Reads as stop-reads
 
 stop-requires : tie.Need-stop-requires
 stop-requires c κs = search needs

@@ -12,7 +12,7 @@ use Rattle.driver_calls.proofs.begins.begin_interrupt.Lts as lts
 use Rattle.handler.proofs.begin.Reads as begin-reads
 use Rattle.state.proofs.clear_wakes.Reads as clear-wakes-reads
 use Rattle.way.proofs.halts.halted_interrupt.Reads as halted-interrupt-reads
-use Rattle.way.proofs.rows.stop.Reads as stop-reads
+use Rattle.way.proofs.stops.stop.Reads as stop-reads
 
 stop-requires : tie.Need-stop-requires
 stop-requires c κs = search needs

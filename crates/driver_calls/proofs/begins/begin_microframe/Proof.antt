@@ -15,7 +15,7 @@ use Rattle.driver_calls.proofs.begins.begin_microframe.Lts as lts
 use Rattle.driver.proofs.microframe.Reads as microframe-reads
 use Rattle.state.proofs.clear_wakes.Reads as clear-wakes-reads
 use Rattle.way.proofs.halts.halted.Reads as halted-reads
-use Rattle.way.proofs.rows.stop.Reads as stop-reads
+use Rattle.way.proofs.stops.stop.Reads as stop-reads
 
 stop-requires : tie.Need-stop-requires
 stop-requires c κs = search needs

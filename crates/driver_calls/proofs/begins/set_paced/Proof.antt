@@ -15,7 +15,7 @@ use Rattle.driver_calls.proofs.begins.set_paced.Lts as lts
 use Rattle.driver.proofs.set_paced.Reads as set-paced-reads
 use Rattle.rows.proofs.is_number.Reads as is-number-reads
 use Rattle.rows.proofs.low.Reads as low-reads
-use Rattle.way.proofs.rows.stop.Reads as stop-reads
+use Rattle.way.proofs.stops.stop.Reads as stop-reads
 
 stop-requires : tie.Need-stop-requires
 stop-requires c κs = search needs

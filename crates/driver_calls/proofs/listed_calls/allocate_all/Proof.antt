@@ -21,7 +21,7 @@ use Rattle.driver_calls.proofs.listed_calls.allocate_all.Reads as reads
 use Rattle.driver_calls.proofs.listed_calls.allocate_all.Lts as lts
 use Rattle.descriptor.proofs.read.Reads as read-reads
 use Rattle.driver_calls.proofs.listed_calls.allocate_listed.Reads as allocate-listed-reads
-use Rattle.way.proofs.rows.stop.Reads as stop-reads
+use Rattle.way.proofs.stops.stop.Reads as stop-reads
 
 stop-requires : tie.Need-stop-requires
 stop-requires c κs = search needs

@@ -8,7 +8,7 @@ use Rattle.driver_calls.proofs.listed_calls.preview.Lts as lts
 use Rattle.driver_calls.proofs.listed_calls.unshown.Reads as unshown-reads
 use Rattle.preview.proofs.preview.Reads as preview-reads
 use Rattle.state.proofs.load_allocator.Reads as load-allocator-reads
-use Rattle.way.proofs.rows.stop.Reads as stop-reads
+use Rattle.way.proofs.stops.stop.Reads as stop-reads
 
 stop-requires : tie.Need-stop-requires
 stop-requires c κs = search needs

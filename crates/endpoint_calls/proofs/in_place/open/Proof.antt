@@ -11,7 +11,7 @@ use Rattle.endpoint_calls.proofs.in_place.open.Tie as tie
 use Rattle.endpoint_calls.proofs.in_place.open.Reads as reads
 use Rattle.endpoint_calls.proofs.in_place.open.Lts as lts
 use Rattle.open_close.proofs.open.Reads as open-reads
-use Rattle.way.proofs.rows.slots_fit.Reads as slots-fit-reads
+use Rattle.way.proofs.stops.slots_fit.Reads as slots-fit-reads
 use Rattle.way.proofs.saved.may_pass.Reads as may-pass-reads
 use Rattle.endpoint_calls.proofs.in_place.told.Reads as told-reads
 

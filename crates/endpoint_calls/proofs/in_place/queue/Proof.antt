@@ -12,7 +12,7 @@ use Rattle.endpoint_calls.proofs.in_place.queue.Tie as tie
 use Rattle.endpoint_calls.proofs.in_place.queue.Reads as reads
 use Rattle.endpoint_calls.proofs.in_place.queue.Lts as lts
 use Rattle.queue.proofs.queue.Reads as queue-reads
-use Rattle.way.proofs.rows.slots_fit.Reads as slots-fit-reads
+use Rattle.way.proofs.stops.slots_fit.Reads as slots-fit-reads
 use Rattle.way.proofs.saved.may_pass.Reads as may-pass-reads
 use Rattle.endpoint_calls.proofs.in_place.told.Reads as told-reads
 

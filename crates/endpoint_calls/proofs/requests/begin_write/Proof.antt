@@ -13,7 +13,7 @@ use Rattle.endpoint_calls.proofs.requests.begin_write.Reads as reads
 use Rattle.endpoint_calls.proofs.requests.begin_write.Lts as lts
 use Rattle.endpoint.proofs.begin_write.Reads as begin-write-reads
 use Rattle.way.proofs.halts.begun_endpoint.Reads as begun-endpoint-reads
-use Rattle.way.proofs.rows.slots_fit.Reads as slots-fit-reads
+use Rattle.way.proofs.stops.slots_fit.Reads as slots-fit-reads
 use Rattle.way.proofs.saved.is_idle.Reads as is-idle-reads
 
 slots-fit-requires : tie.Need-slots-fit-requires
