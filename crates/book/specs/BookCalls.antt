@@ -244,7 +244,7 @@ blank-receives (handed Callback) = (refl, refl)
 blank-receives (told n) = (refl, refl)
 
 -- an answer that is the same but for its address
-same-receive : (a y : Ans Answer) (f x : ℕ) → blankA a ≡ blankA y → y ≡ handed (Receive f x) → (z : ℕ) × (a ≡ handed (Receive f z))
+pub same-receive : (a y : Ans Answer) (f x : ℕ) → blankA a ≡ blankA y → y ≡ handed (Receive f x) → (z : ℕ) × (a ≡ handed (Receive f z))
 same-receive a y f x h k =
     let r : receives a ≡ true = sym (blank-receives a .0) ∙ ap receives h ∙ blank-receives y .0 ∙ ap receives k in
     let m : number a ≡ f = sym (blank-receives a .1) ∙ ap number h ∙ blank-receives y .1 ∙ ap number k in
@@ -367,7 +367,7 @@ module _ (a : Ans Answer) (e v : ℕ) (n : Machine Answer Pages) (h : Fine n) (b
   stays-fits true i k = refl
   stays-fits false i k = stays-way (n .way) (h .way) i k
 
-addressed-blank : (z : Ans Answer) (e : ℕ) → addressed (blankA z) e ≡ addressed z e
+pub addressed-blank : (z : Ans Answer) (e : ℕ) → addressed (blankA z) e ≡ addressed z e
 addressed-blank (ended z) e = refl
 addressed-blank (handed (Read r f)) e = refl
 addressed-blank (handed (Write r f w)) e = refl
@@ -386,12 +386,12 @@ unmoved c a e v n h b s p i g = subst (λ (c : Call Config Op). blankA a ≡ bla
 
 -- ---- a load
 
-abbrev sending : Ans Answer → ℕ → Bool
+abbrev pub sending : Ans Answer → ℕ → Bool
 sending (ended z) e = false
 sending (handed q) e = sendsTo q e
 sending (told k) e = false
 
-sending-blank : (z : Ans Answer) (e : ℕ) → sending (blankA z) e ≡ sending z e
+pub sending-blank : (z : Ans Answer) (e : ℕ) → sending (blankA z) e ≡ sending z e
 sending-blank (ended z) e = refl
 sending-blank (handed (Read r f)) e = refl
 sending-blank (handed (Write r f w)) e = refl

@@ -60,7 +60,7 @@ pub record Moves (s : Bk) (q : Access) (t : Bk) : Type 0 where
   pub leaves : Leaves s q t
   pub loads : Loads q t
 
-idle-then : (s t u : Bk) → Idle s t → Idle t u → Idle s u
+pub idle-then : (s t u : Bk) → Idle s t → Idle t u → Idle s u
 idle-then s t u h k = record { outs = λ e. k .outs e ∙ h .outs e; sets = k .sets ∙ h .sets; bytes = k .bytes ∙ h .bytes }
 
 arrives-then : (s t u : Bk) (q : Access) → Idle s t → Arrives t q u → Arrives s q u
@@ -75,10 +75,10 @@ arrives-then s t u q h k e x a r =
 moves-then : (s t u : Bk) (q : Access) → Idle s t → Moves t q u → Moves s q u
 moves-then s t u q h k = record { arrives = arrives-then s t u q h (k .arrives); leaves = λ e g. k .leaves e g ∙ h .outs e; loads = k .loads }
 
-idle : {s : Bk} → Idle s s
+pub idle : {s : Bk} → Idle s s
 idle = record { outs = λ e. refl; sets = refl; bytes = refl }
 
-abbrev isReceive : Access → Bool
+abbrev pub isReceive : Access → Bool
 isReceive (Read r e) = false
 isReceive (Write r e v) = false
 isReceive (Receive e x) = true
@@ -87,7 +87,7 @@ isReceive (Ep0Dma x) = false
 isReceive (Wait n) = false
 isReceive Callback = false
 
-abbrev numberIn : Access → ℕ
+abbrev pub numberIn : Access → ℕ
 numberIn (Read r e) = 0
 numberIn (Write r e v) = 0
 numberIn (Receive e x) = e
@@ -96,10 +96,10 @@ numberIn (Ep0Dma x) = 0
 numberIn (Wait n) = 0
 numberIn Callback = 0
 
-no-receive : {X : Type 0} {q : Access} {e x : ℕ} → isReceive q ≡ false → q ≡ Receive e x → X
+pub no-receive : {X : Type 0} {q : Access} {e x : ℕ} → isReceive q ≡ false → q ≡ Receive e x → X
 no-receive h a = absurd (true≢false (sym (ap isReceive a) ∙ h))
 
-puts : (c : Cell) (v : Val c) (s : Bk) → Idle s (putB c v s)
+pub puts : (c : Cell) (v : Val c) (s : Bk) → Idle s (putB c v s)
 unfolding isoOuts
 puts globals-cell v s = record { outs = λ e. refl; sets = refl; bytes = refl }
 puts control-cell v s = record { outs = λ e. refl; sets = refl; bytes = refl }

@@ -19,15 +19,11 @@ use Rattle.book.specs.FrontPage.{written, inInterrupt, Emptied}
 use Rattle.book.specs.BookTracks.{end, ask}
 use Rattle.book.specs.BookCounts.{Followed, Counts, Turned}
 use Rattle.book.specs.BookCalls.{Fine, WayFine}
-use Rattle.book.specs.Releases.{releases, Clear, Clears}
+use Rattle.book.specs.Others.{releases, releasing}
+use Rattle.book.specs.Releases.{Clear, Clears}
 use Rattle.book.specs.Enabling.{Empty, told-empty}
 
-abbrev releasing : Ans Answer → Bool
-releasing (ended z) = false
-releasing (handed q) = releases q
-releasing (told k) = false
-
-releasing-blank : (z : Ans Answer) → releasing (blankA z) ≡ releasing z
+pub releasing-blank : (z : Ans Answer) → releasing (blankA z) ≡ releasing z
 releasing-blank (ended z) = refl
 releasing-blank (handed (Read r f)) = refl
 releasing-blank (handed (Write r f w)) = refl

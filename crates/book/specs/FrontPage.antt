@@ -27,6 +27,8 @@ use Rattle.way.specs.Under.{drive, machineOf}
 use Rattle.book.specs.Pages.{Packet, bytesOf, stampsOf, OutPage, InPage, Pages}
 use Rattle.book.specs.Book.{isoOf, receiving, front, book}
 use Rattle.book.specs.Stamps.{stamped}
+use Rattle.book.specs.Lengths.{Known, learnt, lengthAt}
+use Rattle.book.specs.Others.{releasing, Names, underWay, callNames, Away, SamePage}
 
 -- ---- a list of calls
 
@@ -292,6 +294,17 @@ pub record AfterCall (c : Call Config Op) (lent : Buf) (n : Machine Answer Pages
   pub compared : Compared c (n .st) a d b t′
   pub sentences : Sentences c lent n a d b t′
 
+-- "Length: the one of this interrupt, else by the marks": of an arrival that joins those waiting in call m, by what the operation under way was
+-- brought, this call's number too (Lengths.antt)
+abbrev pub LengthIs : Made → Machine Answer Pages → Known → Type 0
+LengthIs m n k = (e : ℕ) → Decides (m .event .call) n (m .answer) e → (q : Packet) → noted m n .1 .st .outs e .waiting ≡ n .st .outs e .waiting ++ (q ∷ [])
+    → length (q .bytes) ≡ lengthAt (k .readings) (m .event .lent) (n .st) e
+
+-- "All else, refusals too: no change": call m leaves the pages of every endpoint that it does not name; k: what the operation under way names. The
+-- release of a bus reset's flag empties all (`bus-reset-empties`)
+abbrev pub OthersStay : Made → Machine Answer Pages → Names → Type 0
+OthersStay m n k = releasing (m .answer) ≡ false → (d : Dir) (e : ℕ) → Away (callNames (m .event .call) k) d e → SamePage d e (n .st) (noted m n .1 .st)
+
 -- ---- the statement
 
 -- of each call of a list that was made, with the book before it
@@ -300,11 +313,21 @@ AfterEach n [] = Unit {0}
 AfterEach n (m ∷ ms) =
     AfterCall (m .event .call) (m .event .lent) n (m .answer) (view (m .bytes)) (m .slots) (noted m n .1 .st) × AfterEach (noted m n .1) ms
 
+-- and the lengths, with what was brought before it
+abbrev pub LengthsEach : Machine Answer Pages → Known → List Made → Type 0
+LengthsEach n k [] = Unit {0}
+LengthsEach n k (m ∷ ms) = let l = learnt (m .event .call) (m .answer) k in LengthIs m n l × LengthsEach (noted m n .1) l ms
+
+abbrev pub OthersEach : Machine Answer Pages → Names → List Made → Type 0
+OthersEach n k [] = Unit {0}
+OthersEach n k (m ∷ ms) = OthersStay m n k × OthersEach (noted m n .1) (underWay (m .event .call) (m .answer) k) ms
+
 -- the state's bytes xs, the slot buffer a and the book n may be any. The first call is a start-up that rows 1 and 2 do not stop, and any calls
--- follow: refused ones and start-ups too, ending anywhere, whatever the chip answers
+-- follow: refused ones and start-ups too, ending anywhere, whatever the chip answers. Nor does it matter what was under way before
 abbrev pub Demand3 : Type 0
 Demand3 = (c : Config) (b : Buf) → startRow c b ≡ zero → (xs : List ℕ) (a : Buf) (n : Machine Answer Pages) (first : Made)
-    → first .event ≡ record { call = start c; lent = b } → (ms : List Made) → Calls xs a n (first ∷ ms) → AfterEach n (first ∷ ms)
+    → first .event ≡ record { call = start c; lent = b } → (ms : List Made) → Calls xs a n (first ∷ ms)
+    → AfterEach n (first ∷ ms) × ((k : Known) → LengthsEach n k (first ∷ ms)) × ((k : Names) → OthersEach n k (first ∷ ms))
 
 -- ---- no slot being sent is written, between two moments
 

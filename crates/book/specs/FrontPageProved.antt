@@ -9,6 +9,7 @@ use lib.Dec.{eqb}
 use lib.ListN.{length, length-map}
 use Rattle.regs.specs.declared.Access.{Access}
 use Rattle.regs.specs.declared.Access.the-variants.{Transmit}
+use Rattle.regs.specs.declared.Dir.{Dir}
 use Rattle.regs.specs.declared.Dir.the-variants.{Out}
 use Rattle.state.specs.State.{view}
 use Rattle.state.specs.Driver.{Driver, epOn}
@@ -30,7 +31,7 @@ use Rattle.book.specs.Allocations.{fresh-kept}
 use Rattle.book.specs.Agrees.{agree}
 use Rattle.book.specs.LedgerLaws as ledger
 use Rattle.book.specs.ReadRoomCalls.{Kept, steps, start-kept}
-use Rattle.book.specs.FrontPage.{Made, Did, noted, written, LentAsLeft, ringBytes, ringStamps, EmptiedIn, BeingSent, Sends, emptied, Compared, Sentences, AfterCall, Counted, none, AfterEach, Demand3}
+use Rattle.book.specs.FrontPage.{Made, Did, noted, written, LentAsLeft, ringBytes, ringStamps, EmptiedIn, BeingSent, Sends, emptied, Compared, Sentences, AfterCall, Counted, none, AfterEach, LengthsEach, OthersEach, Demand3}
 use Rattle.book.specs.FrontPage as page
 use Rattle.book.specs.MachineRuns.{Premise, AfterEvents}
 use Rattle.book.specs.SlotsKept.{kept-unwritten, lies-inside, lent-is}
@@ -43,6 +44,10 @@ use Rattle.book.specs.RefusedCalls.{isStart, refusal-leaves}
 use Rattle.book.specs.Enabling.{enabling-resets}
 use Rattle.book.specs.BusResets.{bus-reset-empties}
 use Rattle.book.specs.SendingCalls.{Sending, SendingAfter, after-call, start-after, start-emptied, sends-of, told-source}
+use Rattle.book.specs.Lengths.{Known, learnt}
+use Rattle.book.specs.LengthCalls.{WayTold, regular, told-on, start-told, length-is}
+use Rattle.book.specs.Others.{releasing, Names, underWay, callNames, Away, SamePage}
+use Rattle.book.specs.OthersCalls.{WaySpared, call-goes, start-spared, under-same}
 
 -- ---- from the relation of driver and book
 
@@ -288,8 +293,61 @@ code (m ∷ ms) xs a n k p =
     let z = said xs a n m (p .0) (one (m .event .call) (m .event .lent) (machineOf xs a) n k (p .1)) in
     (z .0, code ms (m .bytes) (m .slots) _ (z .1) (p .2))
 
+-- the book's answer is the driver's, but for an address
+same-answer : (xs : List ℕ) (a : Buf) (n : Machine Answer Pages) (m : Made) → Agreeing (machineOf xs a) n → Did xs a m
+    → LentAsLeft (m .event .call) n a (m .event .lent) → blankA (m .answer) ≡ blankA (noted m n .0)
+same-answer xs a n m k did p =
+    let c = m .event .call in
+    let l = m .event .lent in
+    subst (λ (x : Ans Answer × Machine Answer Driver). blankA (x .0) ≡ blankA (written (x .0) c n l .0)) (sym did)
+    (agrees driverOf book agree calls fresh-kept c l (machineOf xs a) n (k .ways) (k .rest) (lent-is (machineOf xs a) n (k .rest) l c p) .same)
+
+-- the lengths of those that arrive, by what was brought
+lengths : (ms : List Made) (xs : List ℕ) (a : Buf) (n : Machine Answer Pages) (f : Known) → Agreeing (machineOf xs a) n → WayTold f (n .way) (n .st)
+    → page.Calls xs a n ms → LengthsEach n f ms
+lengths [] xs a n f k w p = tt
+lengths (m ∷ ms) xs a n f k w p =
+    let c = m .event .call in
+    let l = m .event .lent in
+    let same = same-answer xs a n m k (p .0) (p .1) in
+    let z = said xs a n m (p .0) (one c l (machineOf xs a) n k (p .1)) in (
+      λ e d q h. length-is c (m .answer) e n (k .rest) (k .fine) f w l same d q h,
+      lengths ms (m .bytes) (m .slots) _ _ (z .1) (told-on (m .answer) c f n l same (regular (k .rest)) w) (p .2),
+    )
+
+-- the pages of the endpoints not named
+others : (ms : List Made) (xs : List ℕ) (a : Buf) (n : Machine Answer Pages) (f : Names) → Agreeing (machineOf xs a) n → WaySpared f (n .way)
+    → page.Calls xs a n ms → OthersEach n f ms
+others [] xs a n f k w p = tt
+others (m ∷ ms) xs a n f k w p =
+    let c = m .event .call in
+    let l = m .event .lent in
+    let same = same-answer xs a n m k (p .0) (p .1) in
+    let z = said xs a n m (p .0) (one c l (machineOf xs a) n k (p .1)) in
+    let y = call-goes (m .answer) c f n l w in (
+      λ r d e h. y .pages same r d e h,
+      others ms (m .bytes) (m .slots) _ _ (z .1)
+          (subst (λ (g : Names). WaySpared g (noted m n .1 .way)) (under-same c (m .answer) (noted m n .0) f same) (y .way)) (p .2),
+    )
+
 pub demand-3 : Demand3
 demand-3 c b row xs a n first is ms p =
     let z = said xs a n first (p .0) (subst (λ (v : Event Config Op). let x = drive (v .call) (machineOf xs a) (v .lent) in
-    Holds-after (v .call) (v .lent) (machineOf xs a) n × Agreeing (x .1) (written (x .0) (v .call) n (v .lent) .1)) (sym is) (begins c b row (machineOf xs a) n)) in
-    (z .0, code ms (first .bytes) (first .slots) _ (z .1) (p .2))
+    Holds-after (v .call) (v .lent) (machineOf xs a) n × Agreeing (x .1) (written (x .0) (v .call) n (v .lent) .1)) (sym is) (begins c b row (machineOf xs a) n)) in (
+      (z .0, code ms (first .bytes) (first .slots) _ (z .1) (p .2)),
+      λ k.
+          let f = learnt (first .event .call) (first .answer) k in
+          let w = subst (λ (v : Event Config Op). let y = written (first .answer) (v .call) n (v .lent) in WayTold f (y .1 .way) (y .1 .st)) (sym is)
+          (start-told (first .answer) c f n b row) in (
+            λ e d. absurd (true≢false (sym (ap (λ (v : Event Config Op). isStart (v .call)) is) ∙ ap isStart (d .continues))),
+            lengths ms (first .bytes) (first .slots) _ f (z .1) w (p .2),
+          ),
+      λ k.
+          let f = underWay (first .event .call) (first .answer) k in
+          let w = subst (λ (v : Event Config Op). WaySpared f (written (first .answer) (v .call) n (v .lent) .1 .way)) (sym is) (start-spared
+          (first .answer) c f n b row) in (
+            subst (λ (v : Event Config Op). releasing (first .answer) ≡ false → (d : Dir) (e : ℕ) → Away (callNames (v .call) k) d e
+                → SamePage d e (n .st) (noted first n .1 .st)) (sym is) (λ r d e h. absurd h),
+            others ms (first .bytes) (first .slots) _ f (z .1) w (p .2),
+          ),
+    )

@@ -1,6 +1,8 @@
 pub mod Pages
 pub mod Book
 pub mod Stamps
+pub mod Lengths
+pub mod Others
 pub mod FrontPage
 pub mod Rest
 pub mod Cells
@@ -33,9 +35,15 @@ pub mod InterruptParts
 pub mod BookTracks
 pub mod BookCounts
 pub mod BookDecides
+pub mod QuietParts
+pub mod LengthScripts
+pub mod LengthInterrupt
 pub mod Releases
 pub mod Refusing
 pub mod BookCalls
+pub mod LengthCalls
+pub mod OthersStay
+pub mod OthersCalls
 pub mod Stops
 pub mod RefusedCalls
 pub mod Enabling

@@ -71,7 +71,7 @@ pub data Never : (i : Bool) → Script i Answer → Type 1 where
   n-test : {i : Bool} {b : Bool} {p q : Script i Answer} → Never i p → Never i q → Never i (test b p q)
 
 -- a change that leaves the pages
-abbrev leavesPages : Act → Bool
+abbrev pub leavesPages : Act → Bool
 leavesPages (complete e) = false
 leavesPages (reset-ring d e) = false
 leavesPages (set-enabled d e on) = true
@@ -110,7 +110,7 @@ ruleset fairly = (f-never, f-ret, f-bind, f-test, n-ret, n-bind, n-test, c-ret, 
 
 -- ---- their runs
 
-put-same : (c : Cell) (v : Val c) (s : Bk) → Same (s .0) (putB c v s .0)
+pub put-same : (c : Cell) (v : Val c) (s : Bk) → Same (s .0) (putB c v s .0)
 put-same globals-cell v s = record { outs = λ e. refl; ins = λ e. refl }
 put-same control-cell v s = record { outs = λ e. refl; ins = λ e. refl }
 put-same allocator-cell v s = same
@@ -126,7 +126,7 @@ started-same : (maximum : ℕ) (a : alloc-answer.Answer) {t : Pages} (x : Pages)
 started-same maximum (alloc.Refused n) x h = h
 started-same maximum (alloc.Given e base slots) x h = record { outs = h .outs; ins = h .ins }
 
-act-same : (q : Act) → leavesPages q ≡ true → (s : Bk) → Same (s .0) (actB q s .0)
+pub act-same : (q : Act) → leavesPages q ≡ true → (s : Bk) → Same (s .0) (actB q s .0)
 act-same (complete e) h s = absurd (true≢false (sym h))
 act-same (reset-ring d e) h s = absurd (true≢false (sym h))
 act-same (set-enabled d e on) h s = either (isoOut (s .0) d e) same (record { outs = λ e. refl; ins = λ e. refl })

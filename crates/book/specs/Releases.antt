@@ -1,15 +1,13 @@
 -- The scripts of all calls but the interrupt: `Write IntFg 0 1`, the release of the bus reset's flag, is handed out in a bus reset's row alone,
 -- with none waiting on any endpoint in the book
-use mathlib.Core.Bool.{Bool, true, false, cond, not, _&&_, true≢false}
+use mathlib.Core.Bool.{Bool, true, false, cond, not, true≢false}
 use mathlib.Core.List.{List, [], _∷_}
 use mathlib.Core.Path.{_≡_, refl, sym, _∙_}
 use Prim.Native.Nat.{ℕ, zero, suc, _%_}
-use lib.Dec.{eqb}
 use lib.ListN.{length}
 use Rattle.regs.specs.declared.Access.{Access}
 use Rattle.regs.specs.declared.Access.the-variants.{Read, Write, Receive, Transmit, Ep0Dma, Wait, Callback}
 use Rattle.regs.specs.declared.Reg.{Reg}
-use Rattle.regs.specs.declared.Reg.the-variants.{IntFg}
 use Rattle.regs.specs.declared.Dir.{Dir}
 use Rattle.regs.specs.declared.Dir.the-variants.{Out, In}
 use Rattle.alloc.specs.declared.Answer as alloc-answer
@@ -20,7 +18,6 @@ use Rattle.descriptor.specs.declared.Answer.the-variants as reading
 use Rattle.script.specs.Tree as tree
 use Rattle.script.specs.Tree.{ends, asks}
 use Rattle.script.specs.Cells.{Cell, Val}
-use Rattle.script.specs.Every.{sameReg}
 use Rattle.script.specs.Script.{Script, run, rows, ret, bind, test, read-then, write-then, wait-then, callback-then, get-then, put-then, is-then, look-then, fetch-then, act-then, hand-then, row-then, Test, Look, Fetch, Act, complete, reset-ring, set-enabled, fill, fill0, open-oldest, close-oldest, take-oldest, enqueue, allocate, allocate0, no-wakes, waken, Hand, handAsk, arrive, send, place, place0, Row, switch, bus-reset, lastOf, rowAsk}
 use Rattle.script.specs.IsoIn.{isoInComplete, isoInCompletions}
 use Rattle.script.specs.Bus as bus
@@ -33,17 +30,9 @@ use Rattle.book.specs.Pages.{OutPage, InPage, Pages}
 use Rattle.book.specs.Book.{Bk, rowB, handB, bookOps}
 use Rattle.book.specs.BookTracks.{Tracks, end, ask, earlier, tracks-bind}
 use Rattle.book.specs.BookDecides.{Any}
+pub use Rattle.book.specs.Others.{releases}
 
 -- ---- a script that releases it in a row alone
-
-abbrev pub releases : Access → Bool
-releases (Read r e) = false
-releases (Write r e v) = sameReg r IntFg && eqb v 1
-releases (Receive e x) = false
-releases (Transmit e x) = false
-releases (Ep0Dma x) = false
-releases (Wait n) = false
-releases Callback = false
 
 -- u: a change of a script that may queue packets; else of one in which the tail may pass packets and endpoints may be emptied
 abbrev pub suits : Bool → Act → Bool

@@ -149,4 +149,4 @@ shared-demand-3 i c b row xs a n first is-start ms run =
     after-each i (first ∷ ms) xs a n run (all-noted i c b row xs a n first is-start ms run)
     (agreed-all i c b row xs a n first is-start ms run)
     (demand-3 c b row xs a n (madeAlone i xs a first) (start-alone i c b xs a first is-start)
-    (allAlone i (first .bytes) (first .slots) ms) alone)
+    (allAlone i (first .bytes) (first .slots) ms) alone .0)
