@@ -45,7 +45,7 @@ module _ (e : ℕ) where
 
 pub slots-stay : SlotsStay
 slots-stay c b row xs a n first is before hands further run e x answer load not-ended b′ chip =
-    let all = from (first ∷ before) (hands ∷ further) n (demand-3 c b row xs a n first is (before ++ (hands ∷ further)) run) in
+    let all = from (first ∷ before) (hands ∷ further) n (demand-3 c b row xs a n first is (before ++ (hands ∷ further)) run .0) in
     let sent = all .0 .sentences in
     let t = noted hands (bookAfter n (first ∷ before)) .1 .st in
     let at = sent .load-tells e x answer load in
