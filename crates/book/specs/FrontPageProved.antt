@@ -31,7 +31,8 @@ use Rattle.book.specs.Allocations.{fresh-kept}
 use Rattle.book.specs.Agrees.{agree}
 use Rattle.book.specs.LedgerLaws as ledger
 use Rattle.book.specs.ReadRoomCalls.{Kept, steps, start-kept}
-use Rattle.book.specs.FrontPage.{Made, Did, noted, written, LentAsLeft, ringBytes, ringStamps, EmptiedIn, BeingSent, Sends, emptied, Compared, Sentences, AfterCall, Counted, none, AfterEach, LengthsEach, OthersEach, Demand3}
+use Rattle.book.specs.FrontPage.{Made, Did, noted, written, LentAsLeft, ringBytes, ringStamps, EmptiedIn, BeingSent, Sends, emptied, Compared}
+use Rattle.book.specs.FrontPage.{Sentences, AfterCall, Counted, none, AfterEach, LengthsEach, OthersEach, Demand3}
 use Rattle.book.specs.FrontPage as page
 use Rattle.book.specs.MachineRuns.{Premise, AfterEvents}
 use Rattle.book.specs.SlotsKept.{kept-unwritten, lies-inside, lent-is}
@@ -168,7 +169,8 @@ module _ (c : Call Config Op) (l : Buf) (m : Machine Answer Driver) (n : Machine
   refused-leaves (Close e) r p q = of-close e p (Refused r) q .leaves r refl
   refused-leaves (Queue e bytes) r p q = of-queue e bytes p (Refused r) q .leaves r refl
 
-  sentences : ((e : ℕ) → Counted c l (x .0) e (n .st .outs e) (y .1 .st .outs e)) → SendingAfter (x .0) (n .st) y → ((e : ℕ) → BeingSent (n .st) e → Sends e (n .st) (y .1 .st))
+  sentences : ((e : ℕ) → Counted c l (x .0) e (n .st .outs e) (y .1 .st .outs e)) → SendingAfter (x .0) (n .st) y
+      → ((e : ℕ) → BeingSent (n .st) e → Sends e (n .st) (y .1 .st))
       → Sentences c l n (x .0) (x .1 .st) (x .1 .buf) (y .1 .st)
   sentences counted sent ends = record {
     read-then-waiting = ledger.read-then-queued (a .rest);
@@ -200,8 +202,15 @@ module _ (c : Call Config Op) (l : Buf) (m : Machine Answer Driver) (n : Machine
 -- a first start-up, on whatever was before
 start-sent : (c : Config) (l : Buf) → startRow c l ≡ zero → (m : Machine Answer Driver) (n : Machine Answer Pages)
     → SendingAfter (drive (start c) m l .0) (n .st) (written (drive (start c) m l .0) (start c) n l)
-start-sent c l row m n = subst (λ (r : ℕ). SendingAfter (drive (start c) m l .0) (n .st) (started calls (book .driver) (fed book (drive (start c) m l .0)) c r n l)) (sym row)
-    (start-after (drive (start c) m l .0) c n l)
+start-sent c l row m n =
+    let a = drive (start c) m l .0 in
+    subst (λ (r : ℕ). SendingAfter a (n .st) (started calls (book .driver) (fed book a) c r n l)) (sym row) (start-after a c n l)
+
+start-emptied-by : (c : Config) (l : Buf) → startRow c l ≡ zero → (m : Machine Answer Driver) (n : Machine Answer Pages) (e : ℕ)
+    → EmptiedIn (written (drive (start c) m l .0) (start c) n l .1 .st .ins e)
+start-emptied-by c l row m n e =
+    let a = drive (start c) m l .0 in
+    subst (λ (r : ℕ). EmptiedIn (started calls (book .driver) (fed book a) c r n l .1 .st .ins e)) (sym row) (start-emptied a c n l e)
 
 first-start : (c : Config) (l : Buf) → startRow c l ≡ zero → (m : Machine Answer Driver) (n : Machine Answer Pages) → Agrees (start c) l m n → Holds-after (start c) l m n
 first-start c l row m n a = record {
@@ -209,7 +218,7 @@ first-start c l row m n a = record {
   sentences = sentences (start c) l m n a (λ h. absurd (true≢false h))
       (λ e. none c refl row (ap (λ (r : ℕ). started calls (book .driver) (fed book (drive (start c) m l .0)) c r n l .1 .st .outs e .lost) row ∙ start-lost (drive (start c) m l .0) c n l e))
       (start-sent c l row m n)
-      (λ e _. emptied (subst (λ (r : ℕ). EmptiedIn (started calls (book .driver) (fed book (drive (start c) m l .0)) c r n l .1 .st .ins e)) (sym row) (start-emptied (drive (start c) m l .0) c n l e)));
+      (λ e _. emptied (start-emptied-by c l row m n e));
 }
 
 sent-after : (c : Call Config Op) (l : Buf) (m : Machine Answer Driver) (n : Machine Answer Pages) → Before m n
@@ -242,7 +251,14 @@ one : (c : Call Config Op) (l : Buf) (m : Machine Answer Driver) (n : Machine An
 one c l m n k p =
     let a : Agrees c l m n = agrees driverOf book agree calls fresh-kept c l m n (k .ways) (k .rest) (lent-is m n (k .rest) l c p) in (
       later-call c l m n (before-of k) a,
-      record { phase = a .phase; ways = a .ways; rest = a .rest; room = steps c m (k .room) l; fine = call-fine (drive c m l .0) c n (k .fine) l; sending = sent-after c l m n (before-of k) .machine },
+      record {
+        phase = a .phase;
+        ways = a .ways;
+        rest = a .rest;
+        room = steps c m (k .room) l;
+        fine = call-fine (drive c m l .0) c n (k .fine) l;
+        sending = sent-after c l m n (before-of k) .machine;
+      },
     )
 
 -- an accepted start-up

@@ -162,6 +162,10 @@ read-ledger : {A : Type 0} (r w : List A) → (r ++ front w) ++ tail w ≡ r ++ 
 read-ledger r [] = append-assoc r [] []
 read-ledger r (q ∷ qs) = append-assoc r (q ∷ []) qs
 
+-- the front page's clause of that name, of a page whose first is read
+read-then-waiting : (p : OutPage) → p .read ++ p .waiting ≡ p .admitted → readOut p .read ++ readOut p .waiting ≡ readOut p .admitted
+read-then-waiting p h = read-ledger (p .read) (p .waiting) ∙ h
+
 short-tail : (n : ℕ) (w : List Packet) → Short n w → Short n (tail w)
 short-tail n [] h = tt
 short-tail n (q ∷ qs) h = h .1
@@ -187,7 +191,7 @@ module _ {b : Buf} {r : EpState} {ls ss : List ℕ} {p : OutPage} (f : OutFits b
     slot = f .slot;
     from = f .from;
     upto = f .upto;
-    ledger = read-ledger (p .read) (p .waiting) ∙ f .ledger;
+    ledger = read-then-waiting p (f .ledger);
     short = short-tail (r .«max_len») (p .waiting) (f .short);
   }
 

@@ -18,7 +18,9 @@ use Rattle.descriptor.specs.declared.Answer.the-variants as reading
 use Rattle.script.specs.Tree as tree
 use Rattle.script.specs.Tree.{ends, asks}
 use Rattle.script.specs.Cells.{Cell, Val}
-use Rattle.script.specs.Script.{Script, run, rows, ret, bind, test, read-then, write-then, wait-then, callback-then, get-then, put-then, is-then, look-then, fetch-then, act-then, hand-then, row-then, Test, Look, Fetch, Act, complete, reset-ring, set-enabled, fill, fill0, open-oldest, close-oldest, take-oldest, enqueue, allocate, allocate0, no-wakes, waken, Hand, handAsk, arrive, send, place, place0, Row, switch, bus-reset, lastOf, rowAsk}
+use Rattle.script.specs.Script.{Script, run, rows, ret, bind, test, read-then, write-then, wait-then, callback-then, get-then, put-then, is-then, look-then, fetch-then, act-then, hand-then, row-then, Test, Look, Fetch, Act, Hand, handAsk, arrive, send, place, place0, Row, switch, bus-reset, lastOf, rowAsk}
+use Rattle.script.specs.Script.{complete, reset-ring, set-enabled, fill, fill0, open-oldest, close-oldest, take-oldest}
+use Rattle.script.specs.Script.{enqueue, allocate, allocate0, no-wakes, waken}
 use Rattle.script.specs.IsoIn.{isoInComplete, isoInCompletions}
 use Rattle.script.specs.Bus as bus
 use Rattle.script.specs.Control.{acks}

@@ -25,9 +25,12 @@ use Rattle.script.specs.Alike as phases
 use Rattle.script.specs.Statics.{isOn}
 use Rattle.script.specs.Answers.{Answer}
 use Rattle.script.specs.Calls.{Config, Op, interrupt, slotted, other, aside, calls, starting, startRow}
-use Rattle.script.specs.Machine.{Buf, Call, start, begin, go, question, Ans, ended, handed, told, blankA, Way, idle, busy, Machine, over, misfit, stay, lentTo, beside, halt, begun, continued, started, fed}
+use Rattle.script.specs.Machine.{Buf, Call, start, begin, go, question, Ans, ended, handed, told, blankA, Way, idle}
+use Rattle.script.specs.Machine.{busy, Machine, over, misfit, stay, lentTo, beside, halt, begun, continued, started}
+use Rattle.script.specs.Machine.{fed}
 use Rattle.book.specs.Pages.{InPage, Kept, Pages, withIn}
-use Rattle.book.specs.Book.{Bk, some, front, roomB, waitsOn, queuedIn, sourceTold, feedB, freshPages, bookOps, book}
+use Rattle.book.specs.Book.{Bk, some, front, roomB, waitsOn, queuedIn, sourceTold, feedB, freshPages, bookOps}
+use Rattle.book.specs.Book.{book}
 use Rattle.book.specs.Frame.{at-elim, in-same, sending-count}
 use Rattle.book.specs.Held.{held-length}
 use Rattle.book.specs.Rest.{Shape, Rest}
@@ -35,7 +38,9 @@ use Rattle.book.specs.FrontPage.{written, EmptiedIn, slotSize, BeingSent
 use Rattle.book.specs.BookTracks.{end, ask}
 use Rattle.book.specs.InterruptParts.{of-interrupt}
 use Rattle.book.specs.Releases.{mayQueue, of-slotted, of-other, of-aside, of-starting}
-use Rattle.book.specs.SendingSteps.{Orderly, Alike, alike-refl, alike-empty, told-alike, Going, keeps, empties, Follows, spot, Goes, Within, Asked, orderly-with, never, none-left, Followed, follow, follow-parts}
+use Rattle.book.specs.SendingSteps.{Orderly, Alike, alike-refl, alike-empty, told-alike, Going, keeps, empties}
+use Rattle.book.specs.SendingSteps.{Follows, spot, Goes, Within, Asked, orderly-with, never, none-left}
+use Rattle.book.specs.SendingSteps.{Followed, follow, follow-parts}
 use Rattle.book.specs.SendingSteps as steps
 use Rattle.book.specs.SlotsKept.{sent-used, sent-size}
 
@@ -170,7 +175,8 @@ module _ (a : Ans Answer) where
   either true x y h k = h
   either false x y h k = k
 
-  besides : (u : Bool) (n : Machine Answer Pages) → Sending n → (s : Bk) → s .0 ≡ n .st → (o : tree.Out Bk Answer) → Followed u s o → SendingAfter a (n .st) (beside calls (book .driver) n o)
+  besides : (u : Bool) (n : Machine Answer Pages) → Sending n → (s : Bk) → s .0 ≡ n .st → (o : tree.Out Bk Answer) → Followed u s o
+      → SendingAfter a (n .st) (beside calls (book .driver) n o)
   besides u n h s p (ends z t) (end j q) = record {
     machine = record { pages = j; way = h .way };
     fates = subst (λ (r : Pages). Fates r (t .0)) p (of-within u q);
@@ -236,7 +242,9 @@ handed-blank (told n) = refl
 -- an address that is a load's: the slot being sent lies there
 pub told-source : {a : Ans Answer} {t : Pages} {y : Ans Answer × Machine Answer Pages} → SendingAfter a t y → blankA a ≡ blankA (y .0)
     → (e x : ℕ) → a ≡ handed (Transmit e x) → y .1 .st .ins e .load ≡ true → BeingSent (y .1 .st) e × (y .1 .st .ins e .source ≡ x)
-told-source {y = y} z s e x h l = (z .machine .pages .loads e l, z .source e x h (sym (handed-blank (y .0)) ∙ ap isHanded (sym s) ∙ ap (λ a. isHanded (blankA a)) h) l)
+told-source {y = y} z s e x h l =
+    let g : isHanded (y .0) ≡ true = sym (handed-blank (y .0)) ∙ ap isHanded (sym s) ∙ ap (λ (a : Ans Answer). isHanded (blankA a)) h in
+    (z .machine .pages .loads e l, z .source e x h g l)
 
 -- ---- with the driver
 
@@ -268,7 +276,12 @@ module _ {φ : phases.Phase} {b : Buf} {d : Driver} {t : Pages} (R : Rest φ b d
   one-waits [] h = absurd (omega (arith, sending-count (R .ins e) s, held-length (R .ins e .held), ap (λ (w : List (List ℕ)). length w) h))
   one-waits (p ∷ w) h = (p, refl)
 
-pub sends-of : {φ ψ : phases.Phase} {b c : Buf} {d d′ : Driver} {t t′ : Pages} → Rest φ b d t → Rest ψ c d′ t′ → (e : ℕ) → BeingSent t e → Fate e t t′ → Sends e t t′
-sends-of R R′ e s (goes g) = still (g .sending) (source-spot R′ e (g .sending) ∙ ap (λ (n : ℕ). n % 2 ^ 32) (g .place) ∙ sym (source-spot R e s)) (g .shown) (g .size)
-sends-of {t = t} R R′ e s (passes p) = let z = one-waits R e s (t .ins e .waiting) refl in passed-by (z .0) (p ∙ ap (λ (w : List (List ℕ)). t .ins e .passed ++ w) (z .1))
+pub sends-of : {φ ψ : phases.Phase} {b c : Buf} {d d′ : Driver} {t t′ : Pages} → Rest φ b d t → Rest ψ c d′ t′
+    → (e : ℕ) → BeingSent t e → Fate e t t′ → Sends e t t′
+sends-of R R′ e s (goes g) =
+    let same-slot = source-spot R′ e (g .sending) ∙ ap (λ (n : ℕ). n % 2 ^ 32) (g .place) ∙ sym (source-spot R e s) in
+    still (g .sending) same-slot (g .shown) (g .size)
+sends-of {t = t} R R′ e s (passes p) =
+    let z = one-waits R e s (t .ins e .waiting) refl in
+    passed-by (z .0) (p ∙ ap (λ (w : List (List ℕ)). t .ins e .passed ++ w) (z .1))
 sends-of R R′ e s (anew x) = emptied x

@@ -20,16 +20,24 @@ use Rattle.alloc.specs.Alloc.{if, refused, allocateOf, allocateEp0Of, withNext}
 use Rattle.alloc.specs.Outcome.{Outcome, six, seven, eight, given, outcome}
 use Rattle.marks.specs.Copies.{copied}
 use Rattle.script.specs.Tree as tree
-use Rattle.script.specs.Cells.{Plain, Cell, Val, globals-cell, control-cell, allocator-cell, ep-cell, request-cell, paced-cell}
-use Rattle.script.specs.Script.{Script, run, rows, Act, complete, reset-ring, set-enabled, fill, fill0, open-oldest, close-oldest, take-oldest, enqueue, allocate, allocate0, no-wakes, waken, Hand, arrive, send, place, place0, Row, switch, bus-reset, lastOf}
+use Rattle.script.specs.Cells.{Plain, Cell, Val, globals-cell, control-cell, allocator-cell, ep-cell, request-cell}
+use Rattle.script.specs.Cells.{paced-cell}
+use Rattle.script.specs.Script.{Script, run, rows, Act, complete, reset-ring, set-enabled, fill, fill0, open-oldest}
+use Rattle.script.specs.Script.{close-oldest, take-oldest, enqueue, allocate, allocate0, no-wakes, waken, Hand}
+use Rattle.script.specs.Script.{arrive, send, place, place0, Row, switch, bus-reset, lastOf}
 use Rattle.script.specs.Machine.{Buf}
 use Rattle.book.specs.Pages.{InPage, Pages, withIn, withKept, keptAllocator, keptPlain}
-use Rattle.book.specs.Book.{Bk, some, front, mergedPlain, shapedPlain, emptyIn, passedIn, sentIn, sourceTold, placedIn, loadedIn, queuedIn, roomB, putB, actB, handB, rowB, isoOf, isoOut, receiving, waitsOn, givenB, startedB, switchB, busResetB, bookOps}
+use Rattle.book.specs.Book.{Bk, some, front, mergedPlain, shapedPlain, emptyIn, passedIn, sentIn, sourceTold}
+use Rattle.book.specs.Book.{placedIn, loadedIn, queuedIn, roomB, putB, actB, handB, rowB, isoOf, isoOut}
+use Rattle.book.specs.Book.{receiving, waitsOn, givenB, startedB, switchB, busResetB, bookOps}
 use Rattle.book.specs.Frame.{at-elim}
 use Rattle.book.specs.FrontPage.{EmptiedIn, slotSize}
 use Rattle.book.specs.BookTracks.{Tracks, end, ask, earlier, tracks-bind}
-use Rattle.book.specs.InterruptParts.{Parts, p-ret, p-bind, p-test, p-read, p-write, p-wait, p-callback, p-get, p-put, p-is, p-look, p-fetch, p-complete, p-no-wakes, p-waken, p-arrive, p-send}
-use Rattle.book.specs.Releases.{suits, InRows, r-ret, r-bind, r-test, r-read, r-write, r-wait, r-callback, r-get, r-put, r-is, r-look, r-fetch, r-act, r-hand, r-row}
+use Rattle.book.specs.InterruptParts.{Parts, p-ret, p-bind, p-test, p-read, p-write, p-wait, p-callback, p-get}
+use Rattle.book.specs.InterruptParts.{p-put, p-is, p-look, p-fetch, p-complete, p-no-wakes, p-waken, p-arrive}
+use Rattle.book.specs.InterruptParts.{p-send}
+use Rattle.book.specs.Releases.{suits, InRows, r-ret, r-bind, r-test, r-read, r-write, r-wait, r-callback}
+use Rattle.book.specs.Releases.{r-get, r-put, r-is, r-look, r-fetch, r-act, r-hand, r-row}
 
 -- numbers count modulo 16; an address that is a load's is that of a packet being sent
 pub record Orderly (t : Pages) : Type 0 where
@@ -193,9 +201,14 @@ pub record Follows (P : InPage → Type 0) (t t′ : Pages) : Type 0 where
   pub pages : (e : ℕ) → Turns P (t .ins e) (t′ .ins e)
 
 pub follows-then : {P : InPage → Type 0} {s t u : Pages} → Follows Unsent s t → Follows P t u → Follows P s u
-follows-then {P} {s} {t} {u} h k = record { size = k .size ∙ h .size; base = λ e. base-then e (h .base e) (k .base e); pages = λ e. turns-then (h .pages e) (k .pages e) }
+follows-then {P} {s} {t} {u} h k = record {
+  size = k .size ∙ h .size;
+  base = λ e. base-then e (h .base e) (k .base e);
+  pages = λ e. turns-then (h .pages e) (k .pages e);
+}
   where
-    base-then : (e : ℕ) → (t .kept .plain In e .base ≡ s .kept .plain In e .base) ⊎ EmptiedIn (t .ins e) → (u .kept .plain In e .base ≡ t .kept .plain In e .base) ⊎ EmptiedIn (u .ins e)
+    base-then : (e : ℕ) → (t .kept .plain In e .base ≡ s .kept .plain In e .base) ⊎ EmptiedIn (t .ins e)
+        → (u .kept .plain In e .base ≡ t .kept .plain In e .base) ⊎ EmptiedIn (u .ins e)
         → (u .kept .plain In e .base ≡ s .kept .plain In e .base) ⊎ EmptiedIn (u .ins e)
     base-then e (inl x) (inl y) = inl (y ∙ x)
     base-then e (inr x) (inl y) = inr (k .pages e .empty x)
@@ -206,7 +219,10 @@ record Done (P : InPage → Type 0) (t t′ : Pages) : Type 0 where
   follows : Follows P t t′
 
 done-weaker : {t t′ : Pages} → Done Unsent t t′ → Done Either t t′
-done-weaker h = record { orderly = h .orderly; follows = record { size = h .follows .size; base = h .follows .base; pages = λ e. weaker (h .follows .pages e) } }
+done-weaker h = record {
+  orderly = h .orderly;
+  follows = record { size = h .follows .size; base = h .follows .base; pages = λ e. weaker (h .follows .pages e) };
+}
 
 -- no page of an IN changed
 record Calm (t t′ : Pages) : Type 0 where
@@ -242,14 +258,15 @@ orderly-with t f p l i = record {
   loads = λ e. at-elim (λ (q : InPage). q .load ≡ true → q .sending ≡ true) f e p (t .ins) (λ _. l) (λ _. i .loads e);
 }
 
-with-page : {P : InPage → Type 0} → ((p : InPage) → Turns P p p) → (t : Pages) (f : ℕ) (p : InPage) → (p .load ≡ true → p .sending ≡ true) → Turns P (t .ins f) p → Orderly t
-    → Done P t (withIn t f p)
+with-page : {P : InPage → Type 0} → ((p : InPage) → Turns P p p) → (t : Pages) (f : ℕ) (p : InPage)
+    → (p .load ≡ true → p .sending ≡ true) → Turns P (t .ins f) p → Orderly t → Done P t (withIn t f p)
 with-page {P} r t f p l h i = record {
   orderly = orderly-with t f p l i;
   follows = record {
     size = refl;
     base = λ e. inl refl;
-    pages = λ e. at-elim (λ (q : InPage). Turns P (t .ins e) q) f e p (t .ins) (λ m. subst (λ (q : InPage). Turns P q p) (i .periodic f e (sym m)) h) (λ _. r (t .ins e));
+    pages = λ e. at-elim (λ (q : InPage). Turns P (t .ins e) q) f e p (t .ins)
+        (λ m. subst (λ (q : InPage). Turns P q p) (i .periodic f e (sym m)) h) (λ _. r (t .ins e));
   };
 }
 
@@ -280,11 +297,14 @@ given-size z (seven h n) = refl
 given-size z (eight e h n l) = refl
 given-size z (given e base n b h k g) = g .number .same-size
 
+abbrev ep0Given : Allocator → Allocation
+ep0Given a = record { answer = alloc.Given 0 (a .next * a .size) 1; after = withNext a (a .next + 1) }
+
 started-size : (a : Allocator) (maximum : ℕ) → allocateEp0Of a maximum .after .size ≡ a .size
 unfolding allocateEp0Of withNext
 started-size a maximum = by (eqb maximum 64) (ltb (a .size) maximum) (leb (a .count) (a .next))
   where
-    by : (x y z : Bool) → if x (if y (refused 6 a) (if z (refused 8 a) (record { answer = alloc.Given 0 (a .next * a .size) 1; after = withNext a (a .next + 1) }))) (refused 22 a) .after .size ≡ a .size
+    by : (x y z : Bool) → if x (if y (refused 6 a) (if z (refused 8 a) (ep0Given a))) (refused 22 a) .after .size ≡ a .size
     by false y z = refl
     by true true z = refl
     by true false true = refl
@@ -314,8 +334,12 @@ module _ (t : Pages) (f : ℕ) (v : Plain) (i : Orderly t) where
 
       by-number : (x y : ℕ) → x % 16 ≡ y % 16 → (u : Bool) → eqb (x % 16) (f % 16) ≡ u
           → cond (eqb (x % 16) (f % 16)) v (k x) .base ≡ cond (eqb (y % 16) (f % 16)) v (k y) .base
-      by-number x y m true h = ap (λ (u : Bool). cond u v (k x) .base) h ∙ sym (ap (λ (u : Bool). cond u v (k y) .base) (ap (λ (n : ℕ). eqb n (f % 16)) (sym m) ∙ h))
-      by-number x y m false h = ap (λ (u : Bool). cond u v (k x) .base) h ∙ i .bases x y m ∙ sym (ap (λ (u : Bool). cond u v (k y) .base) (ap (λ (n : ℕ). eqb n (f % 16)) (sym m) ∙ h))
+      by-number x y m true h =
+          let g : eqb (y % 16) (f % 16) ≡ true = ap (λ (n : ℕ). eqb n (f % 16)) (sym m) ∙ h in
+          ap (λ (u : Bool). cond u v (k x) .base) h ∙ sym (ap (λ (u : Bool). cond u v (k y) .base) g)
+      by-number x y m false h =
+          let g : eqb (y % 16) (f % 16) ≡ false = ap (λ (n : ℕ). eqb n (f % 16)) (sym m) ∙ h in
+          ap (λ (u : Bool). cond u v (k x) .base) h ∙ i .bases x y m ∙ sym (ap (λ (u : Bool). cond u v (k y) .base) g)
 
       by-page : (e : ℕ) (u : Bool) → (cond u v (k e) .base ≡ k e .base) ⊎ EmptiedIn (cond u emptyIn (t .ins e))
       by-page e true = inr none-left
@@ -364,7 +388,12 @@ stays-then h k e s =
     record { sending = y .sending; shown = y .shown ∙ x .shown; place = y .place ∙ x .place; size = y .size ∙ x .size }
 
 calm-stays : {t t′ : Pages} → Calm t t′ → Stays t t′
-calm-stays c e s = record { sending = ap (λ (p : InPage). p .sending) (c .ins e) ∙ s; shown = ap (λ (p : InPage). p .shown) (c .ins e); place = rw (c .ins e, c .base e, c .size) refl; size = c .size }
+calm-stays c e s = record {
+  sending = ap (λ (p : InPage). p .sending) (c .ins e) ∙ s;
+  shown = ap (λ (p : InPage). p .shown) (c .ins e);
+  place = rw (c .ins e, c .base e, c .size) refl;
+  size = c .size;
+}
 
 -- a packet that is queued
 module _ (t : Pages) (i : Orderly t) (f : ℕ) (bytes : List ℕ) where
@@ -377,7 +406,7 @@ module _ (t : Pages) (i : Orderly t) (f : ℕ) (bytes : List ℕ) where
   queued-stays : Stays t (withIn t f (queuedIn (t .ins f) bytes))
   queued-stays e s =
       let z = at-elim (λ (p : InPage). InPlace (t .ins e) p) f e (queuedIn (t .ins f) bytes) (t .ins)
-          (λ m. subst (λ (p : InPage). InPlace p (queuedIn (t .ins f) bytes)) (i .periodic f e (sym m)) (queued-page (t .ins f))) (λ _ s. (s, refl, refl)) s in
+      (λ m. subst (λ (p : InPage). InPlace p (queuedIn (t .ins f) bytes)) (i .periodic f e (sym m)) (queued-page (t .ins f))) (λ _ s. (s, refl, refl)) s in
       record { sending = z .0; shown = z .1; place = ap (λ (n : ℕ). t .kept .plain In e .base + n * slotSize t) (z .2); size = refl }
 
 -- in a script that may queue packets all of it stays; in another one it goes as above
@@ -400,7 +429,8 @@ calm-step false i c = record { orderly = calm-orderly i c; within = calm-done i 
 done-step : {t t′ : Pages} → Done Unsent t t′ → Step false t t′
 done-step h = record { orderly = h .orderly; within = h .follows }
 
-room-step : (t : Pages) → Orderly t → (f : ℕ) (bytes : List ℕ) (v : Bool) (b b′ : Buf) → Step true t (cond {A = Bk} v (withIn t f (queuedIn (t .ins f) bytes), b′) (t, b) .0)
+room-step : (t : Pages) → Orderly t → (f : ℕ) (bytes : List ℕ) (v : Bool) (b b′ : Buf)
+    → Step true t (cond {A = Bk} v (withIn t f (queuedIn (t .ins f) bytes), b′) (t, b) .0)
 room-step t i f bytes true b b′ = record { orderly = orderly-with t f (queuedIn (t .ins f) bytes) (i .loads f) i; within = queued-stays t i f bytes }
 room-step t i f bytes false b b′ = calm-step true i calm
 
@@ -416,12 +446,15 @@ acts u (fill0 bytes) h s i = calm-step u i calm
 acts u (open-oldest f) h s i = calm-step u i (calm-or (some (waitsOn (s .0) Out f)) (record { ins = λ e. refl; base = λ e. refl; size = refl }) calm)
 acts u (close-oldest f) h s i = calm-step u i (calm-or (s .0 .outs f .opened) (record { ins = λ e. refl; base = λ e. refl; size = refl }) calm)
 acts u (take-oldest f) h s i = calm-step u i (calm-or (some (waitsOn (s .0) Out f)) (record { ins = λ e. refl; base = λ e. refl; size = refl }) calm)
-acts true (enqueue f bytes) h s i = room-step (s .0) i f bytes (roomB (s .0) f (length bytes)) (s .1) (copied (s .1) (s .0 .kept .plain In f .base + s .0 .ins f .turn * s .0 .kept .allocator .size) bytes)
+acts true (enqueue f bytes) h s i =
+    let to = s .0 .kept .plain In f .base + s .0 .ins f .turn * s .0 .kept .allocator .size in
+    room-step (s .0) i f bytes (roomB (s .0) f (length bytes)) (s .1) (copied (s .1) to bytes)
 acts false (enqueue f bytes) h s i = never h
 acts true (allocate d kind address maximum interval) h s i = never h
 acts false (allocate d kind address maximum interval) h s i =
     let z = allocateOf (s .0 .kept .allocator) kind address maximum d in
-    done-step (resized (given-size z (outcome (s .0 .kept .allocator) kind address maximum d)) (given-done d kind maximum interval (z .answer) _ (onto (z .after) i)))
+    done-step (resized (given-size z (outcome (s .0 .kept .allocator) kind address maximum d))
+    (given-done d kind maximum interval (z .answer) _ (onto (z .after) i)))
 acts u (allocate0 maximum) h s i =
     let z = allocateEp0Of (s .0 .kept .allocator) maximum in
     calm-step u i (begun-calm maximum (z .answer) (s .0) _ (record { ins = λ e. refl; base = λ e. refl; size = started-size (s .0 .kept .allocator) maximum }))
@@ -437,7 +470,9 @@ loaded-sends p b = by (some (p .waiting))
 
 hands : (q : Hand) (s : Bk) → Orderly (s .0) → Done Either (s .0) (handB q s .1 .0)
 hands (arrive f n) s i = done-weaker (calm-done i (calm-or (receiving (s .0) f) (record { ins = λ e. refl; base = λ e. refl; size = refl }) calm))
-hands (send f) s i = with-page (λ p. weaker turns-refl) (s .0) f (loadedIn (s .0 .ins f) (s .1)) (loaded-sends (s .0 .ins f) (s .1)) (loaded-turns (s .0 .ins f) (s .1)) i
+hands (send f) s i =
+    let p = s .0 .ins f in
+    with-page (λ p. weaker turns-refl) (s .0) f (loadedIn p (s .1)) (loaded-sends p (s .1)) (loaded-turns p (s .1)) i
 hands (place Out f) s i = done-weaker (calm-done i calm)
 hands (place In f) s i = done-weaker (with-page (λ p. turns-refl) (s .0) f (placedIn (s .0 .ins f)) never (placed-turns (s .0 .ins f)) i)
 hands place0 s i = done-weaker (calm-done i calm)
@@ -514,7 +549,8 @@ follow true (r-row k h) s i = never k
 
 pub follow-parts : {A : Type 0} {p : Script true A} → Parts A p → (s : Bk) → Orderly (s .0) → Followed false s (run bookOps p s)
 follow-parts p-ret s i = end i (calm-done i calm .follows)
-follow-parts (p-bind h g) s i = tracks-bind Orderly (WithinOf false) (AskedOf false) (within-then false) (asked-then false) (follow-parts h s i) (λ a t j. follow-parts (g a) t j)
+follow-parts (p-bind h g) s i =
+    tracks-bind Orderly (WithinOf false) (AskedOf false) (within-then false) (asked-then false) (follow-parts h s i) (λ a t j. follow-parts (g a) t j)
 follow-parts (p-test {b = true} h g) s i = follow-parts h s i
 follow-parts (p-test {b = false} h g) s i = follow-parts g s i
 follow-parts (p-read {r = r} {e = e} h) s i = ask i (asks-quietly false s i (Read r e)) (λ v t j. follow-parts (h v) t j)
@@ -526,7 +562,8 @@ follow-parts (p-put {c = c} {v = v} u h) s i = let m = calm-step false i (puts c
 follow-parts (p-is h) s i = follow-parts (h _) s i
 follow-parts (p-look h) s i = follow-parts (h _) s i
 follow-parts (p-fetch h) s i = follow-parts (h _) s i
-follow-parts (p-complete {e = e} h) s i = let m = acts false (complete e) refl s i in after false (m .within) (follow-parts h (actB (complete e) s) (m .orderly))
+follow-parts (p-complete {e = e} h) s i =
+    let m = acts false (complete e) refl s i in after false (m .within) (follow-parts h (actB (complete e) s) (m .orderly))
 follow-parts (p-no-wakes h) s i = let m = acts false no-wakes refl s i in after false (m .within) (follow-parts h (actB no-wakes s) (m .orderly))
 follow-parts (p-waken {codes = c} h) s i = let m = acts false (waken c) refl s i in after false (m .within) (follow-parts h (actB (waken c) s) (m .orderly))
 follow-parts (p-arrive {e = e} {n = n} h) s i = let m = hands (arrive e n) s i in ask (m .orderly) (m .follows) (λ _ t j. follow-parts h t j)

@@ -9,7 +9,8 @@ use Rattle.ring.specs.Waiting.{Same}
 use Rattle.script.specs.Answers.{Answer}
 use Rattle.script.specs.Machine.{Buf, Machine}
 use Rattle.book.specs.Pages.{Pages}
-use Rattle.book.specs.FrontPage.{Made, noted, Chip, slotSize, BeingSent, Unwritten, Sends, still, passed-by, emptied, EmptiedIn, AfterEach, slotsAfter, bookAfter, NotEnded, SlotsStay}
+use Rattle.book.specs.FrontPage.{Made, noted, Chip, slotSize, BeingSent, Unwritten, Sends, still, passed-by}
+use Rattle.book.specs.FrontPage.{emptied, EmptiedIn, AfterEach, slotsAfter, bookAfter, NotEnded, SlotsStay}
 use Rattle.book.specs.FrontPageProved.{demand-3}
 
 -- of the calls from one on

@@ -65,6 +65,8 @@ module _ (dir : Dir) (e : ℕ) (lent b : Buf) (n : Machine Answer Pages) (d : Dr
     passed-then-waiting = x .passed-then-waiting;
     sent-is = x .sent-is;
     load-sends = λ e y v p i g w. let z : _≡_ {A = ℕ} 0 1 = cc in absurd (omega arith);
+    sending-ends = x .sending-ends;
+    load-tells = λ e y g l. let z : _≡_ {A = ℕ} 0 1 = cc in absurd (omega arith);
     unwritten = x .unwritten;
     inside = tt;
   }
