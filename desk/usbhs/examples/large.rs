@@ -1,7 +1,8 @@
 //! large [cold] [BYTES [LENGTH..]]: streams of at least so many bytes (a billion, if not said) with packets of these
 //! lengths (4, 64 and 1,024), every thousandth block damaged; each is read by `cat`, `sha256sum` and `usbhs card
-//! check`, three times in turn. Prints a table: the best time of each, and the most memory that it held. `cold`: the
-//! stream is put out of the page cache before each reading, so that it comes from the disk.
+//! check`, three times in turn. Prints a table: the best time of each and, in brackets, the processors' time, and the
+//! most memory that it held. `cold`: the stream is put out of the page cache before each reading, so that it comes
+//! from the disk.
 
 use std::fs::File;
 use std::io::{BufWriter, Write};
@@ -38,6 +39,7 @@ fn forget(path: &Path) {
 
 struct Took {
     seconds: f64,
+    processor: f64,
     kilobytes: i64,
     status: i32,
 }
@@ -50,7 +52,14 @@ fn run(program: &Path, words: &[&str]) -> Took {
     let (mut status, mut usage) = (0, Usage { times: [0; 4], most: 0, rest: [0; 32] });
     // SAFETY: the child's own number, and room for both answers
     unsafe { wait4(child.id() as i32, &mut status, 0, &mut usage) };
-    Took { seconds: began.elapsed().as_secs_f64(), kilobytes: usage.most, status: status >> 8 & 0xFF }
+    // of the program itself and of the system for it: seconds and their millionths
+    let [a, b, c, d] = usage.times;
+    Took {
+        seconds: began.elapsed().as_secs_f64(),
+        processor: (a + c) as f64 + (b + d) as f64 / 1e6,
+        kilobytes: usage.most,
+        status: status >> 8 & 0xFF,
+    }
 }
 
 /// How many packets and blocks were written.
@@ -95,7 +104,7 @@ fn main() {
             ("sha256sum".into(), vec![image]),
             (tool.clone(), vec!["card", "check", "--quiet", image]),
         ];
-        let mut best = [f64::MAX; 3];
+        let (mut best, mut least) = ([f64::MAX; 3], [f64::MAX; 3]);
         let mut most = [0; 3];
         for _ in 0..3 {
             for (i, (program, words)) in commands.iter().enumerate() {
@@ -106,21 +115,18 @@ fn main() {
                 // damaged blocks are told by status 1
                 assert_eq!(took.status, if i == 2 { 1 } else { 0 });
                 best[i] = best[i].min(took.seconds);
+                least[i] = least[i].min(took.processor);
                 most[i] = most[i].max(took.kilobytes);
             }
         }
         let size = blocks * BLOCK;
+        let [cat, sum, check] = std::array::from_fn(|i| format!("{:.2} s ({:.2})", best[i], least[i]));
+        let [of_cat, of_sum, of_check] = most.map(|kilobytes| kilobytes as f64 / 1e3);
         println!(
-            "| {length} bytes | {} MB, {} packets | {:.2} s | {:.2} s | {:.2} s | {:.0} | {:.1}, {:.1}, {:.1} MB |",
+            "| {length} bytes | {} MB, {} packets | {cat} | {sum} | {check} | {:.0} | {of_cat:.1}, {of_sum:.1}, {of_check:.1} MB |",
             thousands(size as u64 / 1_000_000),
             thousands(packets as u64),
-            best[0],
-            best[1],
-            best[2],
             size as f64 / 1e6 / best[2],
-            most[0] as f64 / 1e3,
-            most[1] as f64 / 1e3,
-            most[2] as f64 / 1e3
         );
         std::fs::remove_file(&path).expect("the file is removed");
     }
