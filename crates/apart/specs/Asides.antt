@@ -49,7 +49,7 @@ stamp-mod : (d : Driver) (e i : ℕ) → stampOn d e i ≡ stampOn d e (i % 16)
 unfolding stampOn stampKey
 stamp-mod d e i = ap (λ j. getD (d .stamps) (e % 16 * 16 + j) 0) (sym (mod-mod i))
 
-stamp-any : (d d′ : Driver) (e i : ℕ) → slotStamps d e ≡ slotStamps d′ e → stampOn d e i ≡ stampOn d′ e i
+pub stamp-any : (d d′ : Driver) (e i : ℕ) → slotStamps d e ≡ slotStamps d′ e → stampOn d e i ≡ stampOn d′ e i
 stamp-any d d′ e i h =
     stamp-mod d e i ∙ sym (stamps-at d e (i % 16) (omega arith)) ∙ ap (λ l. getD l (i % 16) 0) h ∙ stamps-at d′ e (i % 16) (omega arith) ∙ sym (stamp-mod d′ e i)
 
@@ -94,7 +94,7 @@ module _ (c : Channel) (e : ℕ) (n : key Out e ≢ key Out (c .number)) (s t : 
 len-capped : (d : Driver) (dir : Dir) (e most : ℕ) (i : ℕ) → Ring most (epOn d dir e) (lensOf d dir e) → lenOn d dir e i ≤ epOn d dir e .stride
 len-capped d dir e most i g = rw (len-mod d dir e i ∙ sym (lens-at d dir e (i % 16) (omega arith))) (g .capped (i % 16))
 
-next-capped : (d : Driver) (dir : Dir) (e most : ℕ) → Ring most (epOn d dir e) (lensOf d dir e) → nextLen d dir e ≤ epOn d dir e .stride
+pub next-capped : (d : Driver) (dir : Dir) (e most : ℕ) → Ring most (epOn d dir e) (lensOf d dir e) → nextLen d dir e ≤ epOn d dir e .stride
 unfolding nextLen
 next-capped d dir e most g = by (hasWaiting (epOn d dir e))
   where

@@ -6,15 +6,12 @@ use mathlib.Core.Path.{_≡_, refl, ap, subst, sym, _∙_}
 use Prim.Native.Nat.{ℕ, zero}
 use Rattle.regs.specs.declared.Access.{Access}
 use Rattle.script.specs.Answers.{Answer}
-use Rattle.script.specs.Calls.{Config, Op, calls, startRow}
+use Rattle.script.specs.Calls.{Config, Op, startRow}
 use Rattle.script.specs.Machine.{Buf, Call, start, begin, go, question, Event, Ans, idle}
-use Rattle.script.specs.Agree.{Lawful}
-use Rattle.way.specs.Under.{driverOf, drive, machineOf}
+use Rattle.way.specs.Under.{drive, machineOf}
 use Rattle.way.specs.Goes.{Called}
 use Rattle.shared_time.specs.Sharing.{sharedCall}
-use Rattle.book.specs.Book.{book}
-use Rattle.book.specs.Allocations.{fresh-kept}
-use Rattle.book.specs.Agrees.{agree}
+use Rattle.book.specs.MachineRuns.{Premise}
 use Rattle.book.specs.Sorting.{sortsOf}
 use Rattle.apart.specs.But.{Channel}
 use Rattle.apart.specs.Turns.{Run, Two, Turn, begins, goes, asked, stores, others-time, first, second, Early, gets, shares, accessOf, runBy, ownBy, statusOf, shared, called, alone, turn, given, heeded, May, After}
@@ -180,7 +177,7 @@ module _ (share : Bool) (n : ℕ) where
     pub up′ : Did share n (start (m .config)) (m .lent) (w .second) (m .up′)
     pub early : DidEarly (m .before) (startedBy m w)
     pub lawful : let r = runOf (startedBy m w .first) in
-        Lawful driverOf book agree calls fresh-kept (heeded share n (sessionOf m .before) r) (r .machine) (freshBook (m .config) (m .lent) (r .answer))
+        Premise (heeded share n (sessionOf m .before) r) (r .machine) (freshBook (m .config) (m .lent) (r .answer))
     pub rests : runOf (openedBy m w .first) .machine .way ≡ idle
     pub stage : runOf (openedBy m w .first) .machine .st .globals .stage ≡ 2
     pub sorts : m .channel .iso ≡ sortsOf (runOf (openedBy m w .first) .machine .st)
@@ -205,10 +202,10 @@ call-of false n d b h l e =
     λ i. (p i, e .1 i)
 
 module _ (share : Bool) (n : ℕ) where
-  heard-is : (d : Call Config Op) (b : Buf) (h : Held) (l : Left) → Did share n d b h l → runOf (heard l h) ≡ called share n d b (runOf h)
+  pub heard-is : (d : Call Config Op) (b : Buf) (h : Held) (l : Left) → Did share n d b h l → runOf (heard l h) ≡ called share n d b (runOf h)
   heard-is d b h l e = ap (runBy (h .access)) (call-of share n d b h l e)
 
-  own-is : (d : Call Config Op) (b : Buf) (h : Held) (l : Left) → Did share n d b h l → runOf (heardOwn d l h) ≡ alone share n d b (runOf h)
+  pub own-is : (d : Call Config Op) (b : Buf) (h : Held) (l : Left) → Did share n d b h l → runOf (heardOwn d l h) ≡ alone share n d b (runOf h)
   own-is (go v) b h l e = heard-is (go v) b h l e
   own-is (begin o) b h l e = ap (ownBy (h .access) (h .answer)) (call-of share n (begin o) b h l e)
   own-is (start k) b h l e = ap (ownBy (h .access) (h .answer)) (call-of share n (start k) b h l e)
@@ -218,7 +215,7 @@ module _ (share : Bool) (n : ℕ) where
       → _≡_ {A = Two} (record { first = r; second = r′; status = st }) (record { first = z; second = z′; status = st })
   pair-is p p′ st = λ i. record { first = p i; second = p′ i; status = st }
 
-  next-by : (t : Turn) (l l′ : Left) (w : Pair) → DidBy share n t l l′ w → twoOf (nextBy t l l′ w) ≡ turn share n t (twoOf w)
+  pub next-by : (t : Turn) (l l′ : Left) (w : Pair) → DidBy share n t l l′ w → twoOf (nextBy t l l′ w) ≡ turn share n t (twoOf w)
   next-by (begins st o b b′) l l′ w e = pair-is (heard-is (begin o) b (w .first) l (e .0)) (heard-is (begin o) b′ (w .second) l′ (e .1)) _
   next-by (goes v v′ b b′) l l′ w e = pair-is (heard-is (go v) b (w .first) l (e .0)) (heard-is (go v′) b′ (w .second) l′ (e .1)) _
   next-by (asked q b b′) l l′ w e = pair-is (heard-is (question q) b (w .first) l (e .0)) (heard-is (question q) b′ (w .second) l′ (e .1)) _
@@ -242,7 +239,7 @@ module _ (share : Bool) (n : ℕ) where
 
   -- ---- the theorem
 
-  code-every : (c : Channel) (ss : List Step) (w : Pair) → At c (twoOf w) → DidSteps share n c ss w → EveryStep share n c ss w × At c (twoOf (afterSteps ss w))
+  pub code-every : (c : Channel) (ss : List Step) (w : Pair) → At c (twoOf w) → DidSteps share n c ss w → EveryStep share n c ss w × At c (twoOf (afterSteps ss w))
   code-every c [] w a d = (tt, a)
   code-every c (s ∷ ss) w a d =
       let y = step c share n (s .turn) a (d .1) in
@@ -254,7 +251,7 @@ module _ (share : Bool) (n : ℕ) where
     up-is : runOf (startedBy m w .first) ≡ started-up share n (sessionOf m) (runOf (w .first))
     up-is = heard-is (start (m .config)) (m .lent) (w .first) (m .up) (o .up)
 
-    opened-is : opened share n (sessionOf m) (twoOf w) ≡ twoOf (openedBy m w)
+    pub opened-is : opened share n (sessionOf m) (twoOf w) ≡ twoOf (openedBy m w)
     opened-is =
         pair-is (ap (given share n (early (m .before))) (sym up-is))
         (ap (given share n (early (m .before))) (sym (heard-is (start (m .config)) (m .lent) (w .second) (m .up′) (o .up′)))) 0
@@ -264,7 +261,7 @@ module _ (share : Bool) (n : ℕ) where
     opens : Opens share n (record { config = m .config; lent = m .lent; before = early (m .before); channel = m .channel; turns = [] }) (twoOf w)
     opens = record {
       accepted = o .accepted;
-      lawful = subst (λ (r : Run). Lawful driverOf book agree calls fresh-kept (heeded share n (early (m .before)) r) (r .machine)
+      lawful = subst (λ (r : Run). Premise (heeded share n (early (m .before)) r) (r .machine)
           (freshBook (m .config) (m .lent) (r .answer))) up-is (o .lawful);
       rests = subst (λ (z : Two). z .first .machine .way ≡ idle) (sym opened-is) (o .rests);
       stage = subst (λ (z : Two). z .first .machine .st .globals .stage ≡ 2) (sym opened-is) (o .stage);
@@ -272,7 +269,7 @@ module _ (share : Bool) (n : ℕ) where
       allowed = tt;
     }
 
-    begun-at : w .first .time ≡ w .second .time → At (m .channel) (twoOf (openedBy m w))
+    pub begun-at : w .first .time ≡ w .second .time → At (m .channel) (twoOf (openedBy m w))
     begun-at e = subst (At (m .channel)) opened-is (opened-at share n _ (twoOf w) e opens)
 
   -- any bytes in each of two runs with one record of the bus time; start-ups, and calls whose contracts say what they are steps of

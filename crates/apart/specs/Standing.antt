@@ -54,7 +54,7 @@ and-false true = refl
 and-false false = refl
 
 module _ {A : Type 0} where
-  never-made : (x : ℕ) (q : Access) (o : tree.Out St A) → ownable x q ≡ false → madeFor x q o ≡ false
+  pub never-made : (x : ℕ) (q : Access) (o : tree.Out St A) → ownable x q ≡ false → madeFor x q o ≡ false
   never-made x (Read r e) o h = rw h refl
   never-made x (Write r e y) o h = refl
   never-made x (Receive e y) o h = h

@@ -12,7 +12,7 @@ use Rattle.script.specs.Answers.{Answer, Refused, NotYet}
 use Rattle.script.specs.Alike.{Phase, quiet}
 use Rattle.script.specs.Calls.{Config, Op, calls, startRow}
 use Rattle.script.specs.Machine.{Buf, pending, start, question, Event, Ans, ended, Way, idle, busy, Machine, fed, lentTo, started}
-use Rattle.script.specs.Agree.{Ways, both-idle, both-busy, Lawful, agrees, from-start}
+use Rattle.script.specs.Agree.{Ways, both-idle, both-busy, agrees, from-start}
 use Rattle.ops.specs.Rings.{St}
 use Rattle.way.specs.Under.{driverOf, drive}
 use Rattle.way.specs.Goes.{Called}
@@ -24,6 +24,8 @@ use Rattle.book.specs.Agrees.{agree}
 use Rattle.book.specs.Sorts.{Has}
 use Rattle.book.specs.Sorting.{sortsOf, Sorting, ep0-plain, after-sorting}
 use Rattle.book.specs.Always.{after}
+use Rattle.book.specs.MachineRuns.{Premise}
+use Rattle.book.specs.SlotsKept.{lent-is}
 use Rattle.shared_time.specs.Sharing.{starting, sortOf, timeAfter, turnedDown}
 use Rattle.wake_ups.specs.Rooms.{Few, Roomy, Rooms, room, rooms, start-rooms}
 use Rattle.apart.specs.But as but
@@ -77,9 +79,9 @@ record Stood (m : Machine Answer Driver) : Type 0 where
   rest : Rest phase (m .buf) (m .st) (pages .st)
 
 stood : (es : List (Event Config Op)) {φ : Phase} (m : Machine Answer Driver) (d : Machine Answer Pages) → Ways driverOf book agree calls φ (m .way) (d .way) → Rest φ (m .buf) (m .st) (d .st)
-    → Lawful driverOf book agree calls fresh-kept es m d → Stood (after calls driverOf es m)
+    → Premise es m d → Stood (after calls driverOf es m)
 stood [] {φ} m d w r l = record { phase = φ; pages = d; ways = w; rest = r }
-stood (e ∷ es) m d w r l = let a = agrees driverOf book agree calls fresh-kept (e .call) (e .lent) m d w r (l .0) in stood es _ _ (a .ways) (a .rest) (l .1)
+stood (e ∷ es) m d w r l = let a = agrees driverOf book agree calls fresh-kept (e .call) (e .lent) m d w r (lent-is m d r (e .lent) (e .call) (l .0)) in stood es _ _ (a .ways) (a .rest) (l .1)
 
 abbrev isIdle : {A S : Type 0} → Way A S → Bool
 isIdle idle = true
@@ -133,7 +135,7 @@ module _ (share : Bool) (n : ℕ) (k : Config) (b : Buf) (row : startRow k b ≡
 
   abbrev Claim : List Early → Run → Type 0
   Claim es x = let z = given share n es x in
-      Lawful driverOf book agree calls fresh-kept (heeded share n es x) (x .machine) (freshBook k b (x .answer)) → z .machine .way ≡ idle → z .machine .st .globals .stage ≡ 2
+      Premise (heeded share n es x) (x .machine) (freshBook k b (x .answer)) → z .machine .way ≡ idle → z .machine .st .globals .stage ≡ 2
       → (c : Channel) → c .iso ≡ sortsOf (z .machine .st) → At c (record { first = z; second = z; status = 0 })
 
   module _ (es : List Early) (t : List ℕ) where
@@ -153,7 +155,7 @@ module _ (share : Bool) (n : ℕ) (k : Config) (b : Buf) (row : startRow k b ≡
         (subst (λ i. Bounded (after calls driverOf heard (started calls driverOf (λ s. s) k i (record { way = idle; st = driverOf .fresh k; buf = b }) b .1) .st)) row
         (after-bounded k b row heard (record { way = idle; st = driverOf .fresh k; buf = b })))
 
-    stands-met : Lawful driverOf book agree calls fresh-kept heard (anew t .machine) (freshBook k b (anew t .answer))
+    stands-met : Premise heard (anew t .machine) (freshBook k b (anew t .answer))
         → met .machine .way ≡ idle → met .machine .st .globals .stage ≡ 2 → (c : Channel) → c .iso ≡ sortsOf (met .machine .st) → At c (record { first = met; second = met; status = 0 })
     stands-met l e g c f =
         let a = from-start driverOf book agree calls fresh-kept k b row [] (record { way = idle; st = driverOf .fresh k; buf = b }) (record { way = idle; st = book .driver .fresh k; buf = b }) tt .0 in

@@ -3,13 +3,9 @@ use mathlib.Core.Bool.{Bool}
 use mathlib.Core.List.{List, [], _∷_}
 use mathlib.Core.Path.{_≡_, ap, subst, sym, _∙_}
 use Prim.Native.Nat.{ℕ, zero}
-use Rattle.script.specs.Calls.{Config, Op, calls, startRow}
+use Rattle.script.specs.Calls.{Config, Op, startRow}
 use Rattle.script.specs.Machine.{Buf, start, Event, idle}
-use Rattle.script.specs.Agree.{Lawful}
-use Rattle.way.specs.Under.{driverOf}
-use Rattle.book.specs.Book.{book}
-use Rattle.book.specs.Allocations.{fresh-kept}
-use Rattle.book.specs.Agrees.{agree}
+use Rattle.book.specs.MachineRuns.{Premise}
 use Rattle.book.specs.Sorting.{sortsOf}
 use Rattle.apart.specs.But.{Channel}
 use Rattle.apart.specs.Turns.{Run, Two, Early, Turn, begins, goes, asked, stores, others-time, first, second, turn, called, given, heeded, after, May, After, Allowed, Every}
@@ -41,7 +37,7 @@ module _ (share : Bool) (n : ℕ) where
   -- the channel is an isochronous OUT endpoint of the run; and the turns are allowed
   pub record Opens (s : Session) (w : Two) : Type 0 where
     pub accepted : startRow (s .config) (s .lent) ≡ zero
-    pub lawful : Lawful driverOf book agree calls fresh-kept (heeded share n (s .before) (started-up s (w .first))) (started-up s (w .first) .machine) (freshBook (s .config) (s .lent) (started-up s (w .first) .answer))
+    pub lawful : Premise (heeded share n (s .before) (started-up s (w .first))) (started-up s (w .first) .machine) (freshBook (s .config) (s .lent) (started-up s (w .first) .answer))
     pub rests : opened s w .first .machine .way ≡ idle
     pub stage : opened s w .first .machine .st .globals .stage ≡ 2
     pub sorts : s .channel .iso ≡ sortsOf (opened s w .first .machine .st)
@@ -90,7 +86,7 @@ module _ (c : Channel) (share : Bool) (n : ℕ) where
   always [] a m = tt
   always (t ∷ ts) a m = let s = step t a (m .0) in (s .after-it, always ts (s .stand) (m .1))
 
-  stands-after : (ts : List Turn) {w : Two} → At c w → Allowed c share n ts w → At c (after share n ts w)
+  pub stands-after : (ts : List Turn) {w : Two} → At c w → Allowed c share n ts w → At c (after share n ts w)
   stands-after [] a m = a
   stands-after (t ∷ ts) a m = stands-after ts (step t a (m .0) .stand) (m .1)
 

@@ -13,16 +13,14 @@ use Rattle.script.specs.Statics.{flag}
 use Rattle.script.specs.Answers.{Answer, Refused}
 use Rattle.script.specs.Calls.{Config, Op, interrupt, aside, Open, Close, calls, startRow}
 use Rattle.script.specs.Machine.{Buf, Call, start, begin, go, question, pending, Event, ended}
-use Rattle.script.specs.Machine.{Way, idle, busy, Machine, lentTo}
-use Rattle.script.specs.Agree.{Lawful}
+use Rattle.script.specs.Machine.{Way, idle, busy, Machine, misfit, lentTo}
 use Rattle.way.specs.Under.{driverOf, drive}
 use Rattle.way.specs.Goes.{Called}
 use Rattle.shared_time.specs.Sharing.{sortOf, timeAfter, turnedDown}
 use Rattle.book.specs.Pages.{Pages}
 use Rattle.book.specs.Book.{book}
-use Rattle.book.specs.Allocations.{fresh-kept}
-use Rattle.book.specs.Agrees.{agree}
-use Rattle.book.specs.Lent.{lent}
+use Rattle.book.specs.FrontPage.{Chip, unless, LentAsLeft}
+use Rattle.book.specs.MachineRuns.{Premise}
 use Rattle.book.specs.Sorting.{sortsOf}
 use Rattle.apart.specs.But.{Channel}
 use Rattle.apart.specs.Turns.{Run, Two, Turn, Early, gets, accessOf, runBy, ownBy, statusOf}
@@ -51,8 +49,23 @@ nextRun c r d = runBy (r .access) (byDown c (r .machine .buf) r d)
 abbrev lentBack : Call Config Op → Run → Event Config Op
 lentBack c r = record { call = c; lent = r .machine .buf }
 
+-- the chip stores nothing
+no-store : (t : Pages) (b : Buf) → Chip t b b
+no-store t b = record { long = refl; others = λ k e. refl }
+
+granted : (g : Bool) {X : Type 0} → X → unless g X
+granted true x = tt
+granted false x = x
+
+as-left : (c : Call Config Op) (n : Machine Answer Pages) (b : Buf) → LentAsLeft c n b b
+as-left (start k) n b = tt
+as-left (begin o) n b =
+    granted (cond (calls .slots o) (misfit calls (book .driver) (n .st) b) false) (no-store (n .st) b)
+as-left (go v) n b = granted (misfit calls (book .driver) (n .st) b) (no-store (n .st) b)
+as-left (question q) n b = no-store (n .st) b
+
 abbrev Meets : List (Call Config Op) → Run → Machine Answer Pages → Type 0
-Meets cs r y = Lawful driverOf book agree calls fresh-kept (heeded false 0 (earlies cs r) r) (r .machine) y
+Meets cs r y = Premise (heeded false 0 (earlies cs r) r) (r .machine) y
 
 meets : (cs : List (Call Config Op)) (r : Run) (y : Machine Answer Pages) → Meets cs r y
 meets [] r y = tt
@@ -61,10 +74,10 @@ meets (c ∷ cs) r y =
     by (λ z. meets cs z) (turnedDown 0 (sortOf c) a (r .machine .st) (r .time) && false)
   where
     by : ((z : Run) (u : Machine Answer Pages) → Meets cs z u) → (d : Bool)
-        → Lawful driverOf book agree calls fresh-kept (cond d (lentBack (question (pending 0)) r) (lentBack c r) ∷
+        → Premise (cond d (lentBack (question (pending 0)) r) (lentBack c r) ∷
         heeded false 0 (earlies cs (nextRun c r d)) (nextRun c r d)) (r .machine) y
-    by f true = (lent (question (pending 0)) (r .machine) y, f (nextRun c r true) _)
-    by f false = (lent c (r .machine) y, f (nextRun c r false) _)
+    by f true = (as-left (question (pending 0)) y (r .machine .buf), f (nextRun c r true) _)
+    by f false = (as-left c y (r .machine .buf), f (nextRun c r false) _)
 
 -- ---- each call worked out once
 
