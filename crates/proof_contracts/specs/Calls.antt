@@ -1,5 +1,5 @@
--- Every public call of crate `usbhs`: what its generated contract gives a caller (`Learnt`) is a step of demand 3.
--- The hypothesis of each lemma is the
+-- Every public call of crate `usbhs`: what its generated contract gives a caller (`Learnt`) is a step of demand 3,
+-- with what it saves. The hypothesis of each lemma is the
 -- contract itself, as the check of the function's crate states it, so nothing is compared by eye. Of the parameters'
 -- values before the call s is the
 -- state, slots the slot buffer, time the record; z holds the parameters after the call, in their order; r is the answer

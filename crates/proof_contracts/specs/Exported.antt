@@ -1,5 +1,5 @@
 -- Every call that crate `usbhs_c` exports: what its generated contract gives a caller (`Learnt`) is a step of demand
--- 3, with an answer that the
+-- 3, with what it saves and with an answer that the
 -- call's word says: it is the answer's word, and is read back as it (`Says`, answer_word/specs/Word.antt). The
 -- hypothesis of each lemma is the contract itself.
 -- Of the parameters' values before the call s is the state, slots the slot buffer, time the record; z holds the

@@ -1,7 +1,7 @@
--- Account 1 of the 22 bytes in which an operation under way is saved: "the state and every lent byte after a call follow
--- from its inputs alone, for refusals too". After every call of every list from an accepted start-up they are the
--- encoding of what is under way, and all zero where nothing is. Definitions only. `code-canonical` (SavedRuns.antt) is
--- the theorem
+-- Account 1 of the 22 bytes in which an operation under way is saved: "the state and every lent byte after a call
+-- follow from its inputs alone, for refusals too". After every call of every list from an accepted start-up they are
+-- the encoding of what is under way, and all zero where nothing is. Definitions only. `code-canonical`
+-- (SavedRuns.antt) is the theorem
 use mathlib.Core.Bool.{Bool, true, false}
 use mathlib.Core.List.{List, [], _∷_}
 use mathlib.Core.Path.{_≡_}
@@ -63,8 +63,8 @@ SavesAs false a xs ys = KeptBy a xs ys
 abbrev pub Saves : Call Config Op → Ans Answer → List ℕ → List ℕ → Type 0
 Saves c a xs ys = SavesAs (passes c) a xs ys
 
--- calls of driver i one after the other, from the state's bytes xs and the slot buffer a: by its contract each is a step
--- of the machine of calls (`Did`) and saves what it says. Whatever they are lent and whatever they bring
+-- calls of driver i one after the other, from the state's bytes xs and the slot buffer a: by its contract each is a
+-- step of the machine of calls (`Did`) and saves what it says. Whatever they are lent and whatever they bring
 abbrev pub Saving : ℕ → List ℕ → Buf → List Made → Type 0
 Saving i xs a [] = Unit {0}
 Saving i xs a (m ∷ ms) =

@@ -1,7 +1,6 @@
--- A call is a step of demand 3 (`Did`, SharedPage.antt), and saves what account 1 says (`Saves`, SavedPage.antt), for each
--- way in which calls are lent their bytes: xs are the state's bytes before it, ys those
--- after it, x is what it answered. It holds whatever slot buffer the run has (a), and for whichever of the four
--- drivers (i). Definitions
+-- A call is a step of demand 3 (`Did`, SharedPage.antt) and saves what account 1 says (`Saves`, SavedPage.antt), for
+-- each way in which calls are lent their bytes: xs are the state's bytes before it, ys those after it, x is what it
+-- answered. It holds whatever slot buffer the run has (a), and for whichever of the four drivers (i). Definitions
 use mathlib.Core.Bool.{cond}
 use mathlib.Core.List.{List}
 use Prim.Native.Nat.{ℕ}
