@@ -1,3 +1,4 @@
 pub mod Moves
 pub mod Once
 pub mod Witness
+pub mod LateWitness

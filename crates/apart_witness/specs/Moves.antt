@@ -96,7 +96,7 @@ module _ (x : ℕ) where
   readB st EpRxCtrl v v′ = eqb v v′
   readB st EpTxCtrl v v′ = eqb v v′
 
-  abbrev bringsB : ℕ → Access → ℕ → ℕ → Bool
+  abbrev pub bringsB : ℕ → Access → ℕ → ℕ → Bool
   bringsB st (Read r e) v v′ = readB st r v v′
   bringsB st (Write r e y) v v′ = true
   bringsB st (Receive e y) v v′ = true
@@ -136,7 +136,7 @@ module _ (x : ℕ) where
 
 -- ---- what passes the test is allowed
 
-off : (x : Bool) → not x ≡ true → x ≡ false
+pub off : (x : Bool) → not x ≡ true → x ≡ false
 off true h = absurd (true≢false (sym h))
 off false h = refl
 
@@ -221,7 +221,7 @@ module _ (c : Channel) where
   brings st (Wait n) v v′ h = tt
   brings st Callback v v′ h = tt
 
-  brings-at : (x : Way Answer Driver) (st : ℕ) (q : Access) (v v′ : ℕ) → bringsB (c .number) st q v v′ ≡ true
+  pub brings-at : (x : Way Answer Driver) (st : ℕ) (q : Access) (v v′ : ℕ) → bringsB (c .number) st q v v′ ≡ true
       → BringsAt c x st q v v′
   brings-at idle st q v v′ h = tt
   brings-at (busy i a k) st q v v′ h = brings st q v v′ h

@@ -112,7 +112,7 @@ not-down c b r = and-off (turnedDown 0 (sortOf c) (drive c (r .machine) b .0) (r
 quick-is : (c : Call Config Op) (b : Buf) (r : Run) → called false 0 c b r ≡ quick c b r
 quick-is c b r = ap (λ d. runBy (r .access) (byDown c b r d)) (not-down c b r)
 
-quickly-is : (c : Call Config Op) (r : Run) → called false 0 c (r .machine .buf) r ≡ quickly c r
+pub quickly-is : (c : Call Config Op) (r : Run) → called false 0 c (r .machine .buf) r ≡ quickly c r
 quickly-is c r = quick-is c (r .machine .buf) r
 
 own-is : (o : Op) (r : Run) → alone false 0 (begin o) (r .machine .buf) r ≡ quickOwn (begin o) r
@@ -208,6 +208,11 @@ module _ (x : ℕ) where
   last-is (suc n) (m ∷ ms) w =
       last-is n ms (turn false 0 (turnOf x m w) w) ∙ ap (quickLast (take n ms)) (turn-is m w)
 
+  -- after all
+  all-is : (ms : List Move) (w : Two) → after false 0 (turnsOf ms w) w ≡ quickLast ms w
+  all-is [] w = refl
+  all-is (m ∷ ms) w = all-is ms (turn false 0 (turnOf x m w) w) ∙ ap (quickLast ms) (turn-is m w)
+
 -- ---- a session of channel OUT 1, from any run
 
 abbrev pub parting : Run → Two
@@ -279,6 +284,9 @@ module _ (k : Config) (b : Buf) (cs : List (Call Config Op)) (ms : List Move) (r
       sorts = refl;
       allowed = allowed 1 channel refl ms (parting set-up) (ap (drop 6) met);
     }
+
+    pub after-all : after false 0 (session .turns) (parting set-up) ≡ quickLast 1 ms (parting quickSetUp)
+    after-all = all-is 1 ms (parting set-up) ∙ ap (λ r. quickLast 1 ms (parting r)) set-up-is
 
     pub after-is : (n : ℕ)
         → after false 0 (take n (session .turns)) (parting set-up) ≡ quickLast 1 (take n ms) (parting quickSetUp)

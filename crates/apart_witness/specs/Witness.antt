@@ -59,12 +59,12 @@ setting =
 
 -- an interrupt with status st begins: frame 8; a transfer; the SIE free; the status; the lengths; the flag released;
 -- frame 8
-abbrev serving : ℕ → ℕ → ℕ → List Move → List Move
+abbrev pub serving : ℕ → ℕ → ℕ → List Move → List Move
 serving st len len′ ms =
     serves st ∷ reads 8 8 ∷ reads 2 2 ∷ reads 1 1 ∷ reads st st ∷ reads len len′ ∷ reads 0 0 ∷ reads 8 8 ∷ ms
 
 -- 65: OUT 1, tog_ok. The channel's receive address, in each run; OUT 2's check and its receive address
-abbrev arrives : List Move → List Move
+abbrev pub arrives : List Move → List Move
 arrives ms =
     stored 1 (1 ∷ 2 ∷ 3 ∷ 4 ∷ []) 1 (9 ∷ 8 ∷ 7 ∷ []) ∷ stored-both 2 (5 ∷ 5 ∷ []) ∷
     serving 65 4 3 (first-goes 0 ∷ second-goes 0 ∷ reads 65 65 ∷ reads 0 0 ∷ ms)

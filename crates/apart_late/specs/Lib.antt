@@ -1,0 +1,7 @@
+pub mod Late
+pub mod Lights
+pub mod Slides
+pub mod Crossing
+pub mod LateRuns
+pub mod Early
+pub mod LateCode
