@@ -10,7 +10,7 @@ use way::rows::stop;
 ghost use mathlib.Core.Path.{_≡_};
 ghost use mathlib.Core.List.{List, []};
 ghost use Prim.Native.Nat.{ℕ};
-ghost use Rattle.state.specs.State.{view};
+ghost use Rattle.state.specs.State.{view, saved};
 ghost use Rattle.script.specs.Machine.{begin};
 ghost use Rattle.script.specs.Calls.{other, interrupt, Microframe, SetPaced, Advance};
 ghost use Rattle.way.specs.Under.{machineOf, drive, answerOf, Kept};
@@ -31,7 +31,7 @@ pub fn begin_microframe(s: &mut [u8; STATE_LEN]) -> Step
 // Whether advance moves the endpoint on (mod.rs 308-317).
 pub fn set_paced(s: &mut [u8; STATE_LEN], e: u32, on: bool) -> Step
     ensures { λ r. ⌜ ((a b : List ℕ) → (answerOf r [] (view (now (s .exit))), machineOf (now (s .exit)) b) ≡ drive (begin (other (SetPaced e on))) (machineOf (now (s .entry)) a) b) ⌝ }
-    ensures { λ r. ⌜ Kept r (now (s .entry)) (now (s .exit)) ⌝ }
+    ensures { λ _. ⌜ saved (now (s .exit)) ≡ saved (now (s .entry)) ⌝ }
 {
     let n = stop(s, 2);
     if n == 0 {

@@ -8,11 +8,11 @@ ghost use mathlib.Core.Path.{_≡_};
 ghost use mathlib.Core.List.{List};
 ghost use Prim.Native.Nat.{ℕ};
 ghost use Rattle.state.specs.Driver.{Driver};
-ghost use Rattle.state.specs.State.{view};
+ghost use Rattle.state.specs.State.{view, saved};
 ghost use Rattle.script.specs.Machine.{begin, ended};
 ghost use Rattle.script.specs.Calls.{aside, Open, Close, Queue};
 ghost use Rattle.open_close.specs.Packets as packets;
-ghost use Rattle.way.specs.Under.{machineOf, drive, answerOf, lentOr, AsLent, Kept};
+ghost use Rattle.way.specs.Under.{machineOf, drive, answerOf, lentOr, AsLent};
 ghost use Rattle.endpoint_calls.specs.Shown.{ShownAt};
 
 fn told(p: Packet) -> Step
@@ -30,7 +30,7 @@ fn told(p: Packet) -> Step
 pub fn open(s: &mut [u8; STATE_LEN], slots: &[u8], e: u32) -> Step
     ensures { λ r. ⌜ ((a : List ℕ) → (answerOf r (now (slots .entry)) (view (now (s .exit))), machineOf (now (s .exit)) (lentOr (view (now (s .entry))) (now (slots .entry)) (now (slots .entry)) a)) ≡ drive (begin (aside (Open e))) (machineOf (now (s .entry)) a) (now (slots .entry))) ⌝ }
     ensures { λ r. ⌜ ShownAt r (view (now (s .exit))) e ⌝ }
-    ensures { λ r. ⌜ Kept r (now (s .entry)) (now (s .exit)) ⌝ }
+    ensures { λ _. ⌜ saved (now (s .exit)) ≡ saved (now (s .entry)) ⌝ }
 {
     if slots_fit(s, slots) {
         if may_pass(s) {
@@ -45,7 +45,7 @@ pub fn open(s: &mut [u8; STATE_LEN], slots: &[u8], e: u32) -> Step
 // And its last.
 pub fn close(s: &mut [u8; STATE_LEN], e: u32) -> Step
     ensures { λ r. ⌜ ((a b : List ℕ) → (answerOf r b (view (now (s .exit))), machineOf (now (s .exit)) b) ≡ drive (begin (aside (Close e))) (machineOf (now (s .entry)) a) b) ⌝ }
-    ensures { λ r. ⌜ Kept r (now (s .entry)) (now (s .exit)) ⌝ }
+    ensures { λ _. ⌜ saved (now (s .exit)) ≡ saved (now (s .entry)) ⌝ }
 {
     if may_pass(s) {
         let x = open_close::close(s, e);
@@ -58,7 +58,7 @@ pub fn close(s: &mut [u8; STATE_LEN], e: u32) -> Step
 pub fn queue(s: &mut [u8; STATE_LEN], slots: &mut [u8], e: u32, bytes: &[u8]) -> Step
     ensures { λ r. ⌜ ((a : List ℕ) → (answerOf r (now (slots .exit)) (view (now (s .exit))), machineOf (now (s .exit)) (lentOr (view (now (s .entry))) (now (slots .entry)) (now (slots .exit)) a)) ≡ drive (begin (aside (Queue e (now (bytes .entry))))) (machineOf (now (s .entry)) a) (now (slots .entry))) ⌝ }
     ensures { λ _. ⌜ AsLent (view (now (s .entry))) (now (slots .entry)) (now (slots .exit)) ⌝ }
-    ensures { λ r. ⌜ Kept r (now (s .entry)) (now (s .exit)) ⌝ }
+    ensures { λ _. ⌜ saved (now (s .exit)) ≡ saved (now (s .entry)) ⌝ }
 {
     if slots_fit(s, slots) {
         if may_pass(s) {

@@ -4,6 +4,8 @@ pub mod SharedAgrees
 pub mod SharedRuns
 pub mod SharedAlone
 pub mod SharedDemand3
+pub mod SavedPage
+pub mod SavedRuns
 pub mod Steps
 pub mod StepsLaws
 pub mod Calls

@@ -1,7 +1,6 @@
--- A call is a step of demand 3 (`Did`, SharedPage.antt), for each way in which calls are lent their bytes: xs are the
--- state's bytes before it, ys those
--- after it, x is what it answered. It holds whatever slot buffer the run has (a), and for whichever of the four
--- drivers (i). Definitions
+-- A call is a step of demand 3 (`Did`, SharedPage.antt) and saves what account 1 says (`Saves`, SavedPage.antt), for
+-- each way in which calls are lent their bytes: xs are the state's bytes before it, ys those after it, x is what it
+-- answered. It holds whatever slot buffer the run has (a), and for whichever of the four drivers (i). Definitions
 use mathlib.Core.Bool.{cond}
 use mathlib.Core.List.{List}
 use Prim.Native.Nat.{ℕ}
@@ -12,6 +11,7 @@ use Rattle.script.specs.Calls.{Config, Op, startRow}
 use Rattle.script.specs.Machine.{Buf, Call, start, question, Question, Ans, told}
 use Rattle.way.specs.Under.{lentOr}
 use Rattle.proof_contracts.specs.SharedPage.{Did}
+use Rattle.proof_contracts.specs.SavedPage.{Saves}
 
 -- it brings neither the slot buffer nor the record: both stay as they stand then (b, time)
 pub record IsStep (c : Call Config Op) (xs : List ℕ) (x : Buf → Ans Answer) (ys : List ℕ) : Type 0 where
@@ -25,6 +25,7 @@ pub record IsStep (c : Call Config Op) (xs : List ℕ) (x : Buf → Ans Answer) 
             b;
         time = time;
       })
+  pub saves : (b : Buf) → Saves c (x b) xs ys
 
 -- it brings the slot buffer: b before it, b′ after it; where its length is wrong (row 1) the run's own stays. The
 -- record stays
@@ -39,6 +40,7 @@ pub record IsStepLent (c : Call Config Op) (xs : List ℕ) (x : Ans Answer) (ys 
             lentOr (view xs) b b′ a;
         time = time;
       })
+  pub saves : Saves c x xs ys
 
 -- it brings both, as driver i: the record before it and after it
 pub record IsStepCharged (i : ℕ) (c : Call Config Op) (xs : List ℕ) (x : Ans Answer) (ys : List ℕ) (b b′ : Buf)
@@ -53,6 +55,7 @@ pub record IsStepCharged (i : ℕ) (c : Call Config Op) (xs : List ℕ) (x : Ans
             lentOr (view xs) b b′ a;
         time = time′;
       })
+  pub saves : Saves c x xs ys
 
 -- a start-up by driver i: the slot buffer that it brings is the run's from then on, unless rows 1 and 2 stop it
 pub record IsStepStart (i : ℕ) (c : Config) (xs : List ℕ) (x : Ans Answer) (ys : List ℕ) (b : Buf)
@@ -66,6 +69,7 @@ pub record IsStepStart (i : ℕ) (c : Config) (xs : List ℕ) (x : Ans Answer) (
         slots = cond (eqb (startRow c b) 0) b a;
         time = time′;
       })
+  pub saves : Saves (start c) x xs ys
 
 -- a question, answered with n: nothing changes
 abbrev pub IsQuestion : Question → List ℕ → ℕ → Type 0

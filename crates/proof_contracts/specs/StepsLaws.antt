@@ -15,29 +15,34 @@ use Rattle.shared_time.specs.Sharing.{apart, sortOf}
 use Rattle.answer_word.specs.Parts.{stepOf, spoken}
 use Rattle.answer_word.specs.Word.{Says, Worded}
 use Rattle.four_drivers.specs.Code.{leaves-record}
+use Rattle.proof_contracts.specs.SavedPage.{Saves}
 use Rattle.proof_contracts.specs.Steps.{IsStep, IsStepLent, IsQuestion}
 
 -- neither the slot buffer nor the record is brought
 pub unlent : {c : Call Config Op} {xs ys : List ℕ} {x : Buf → Ans Answer} → sortOf c ≡ apart
-    → ((a b : Buf) → (x b, machineOf ys b) ≡ drive c (machineOf xs a) b) → IsStep c xs x ys
-unlent {c = c} {xs = xs} p h =
+    → ((a b : Buf) → (x b, machineOf ys b) ≡ drive c (machineOf xs a) b) → ((b : Buf) → Saves c (x b) xs ys)
+    → IsStep c xs x ys
+unlent {c = c} {xs = xs} p h k =
     record {
       did = λ i a b time. ap (λ (z : Called). (z, time)) (h a b) ∙ sym
           (leaves-record i c (machineOf xs a) time b p);
+      saves = k;
     }
 
 -- the slot buffer is brought
 pub lent : {c : Call Config Op} {xs ys : List ℕ} {x : Ans Answer} {b b′ : Buf} → sortOf c ≡ apart
-    → ((a : Buf) → (x, machineOf ys (lentOr (view xs) b b′ a)) ≡ drive c (machineOf xs a) b) → IsStepLent c xs x ys b b′
-lent {c = c} {xs = xs} {b = b} p h =
+    → ((a : Buf) → (x, machineOf ys (lentOr (view xs) b b′ a)) ≡ drive c (machineOf xs a) b) → Saves c x xs ys
+    → IsStepLent c xs x ys b b′
+lent {c = c} {xs = xs} {b = b} p h k =
     record {
       did = λ i a time. ap (λ (z : Called). (z, time)) (h a) ∙ sym
           (leaves-record i c (machineOf xs a) time b p);
+      saves = k;
     }
 
 -- a question
 pub asked : {q : Question} {xs : List ℕ} {n : ℕ} → n ≡ questionOf q (view xs) → IsQuestion q xs n
-asked {q = q} {xs = xs} h = unlent refl (λ a b. ap (λ (k : ℕ). (told k, machineOf xs b)) h)
+asked {q = q} {xs = xs} h = unlent refl (λ a b. ap (λ (k : ℕ). (told k, machineOf xs b)) h) (λ b. refl)
 
 -- what holds of the answer that a word says
 pub worded : (r : ℕ) {P Q : Step → Type 0} → Worded r P → ((step : Step) → P step → Q step) → Worded r Q

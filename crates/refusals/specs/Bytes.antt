@@ -46,7 +46,7 @@ module _ (c : Call Config Op) (n : ℕ) (xs ys : List ℕ) where
   -- every byte of the state
   pub bytes-left : (a b b′ : Buf) → _≡_ {A = Called} (answerOf (step.Refused n) [] (view ys), machineOf ys b′) (drive c (machineOf xs a) b) → Kept (step.Refused n) xs ys
       → Spares c n → Bytes xs → Bytes ys → ys ≡ xs
-  bytes-left a b b′ e k s x y = determined xs ys x y (view-left a b b′ e ∙ spared c n (view xs) s) (k n refl)
+  bytes-left a b b′ e k s x y = determined xs ys x y (view-left a b b′ e ∙ spared c n (view xs) s) k
 
 -- the calls that bring the slots and may change them
 abbrev pub BringsSlots : Call Config Op → Bool

@@ -1,4 +1,5 @@
--- What an exported call says: its word is that of the answer which the machine of calls gives; a refusal leaves what is saved of an operation under way
+-- What an exported call says: its word is that of the answer which the machine of calls gives; the 22 bytes that are saved of an operation under way
+-- are canonical, all zero or as they were, by the answer (`Kept`)
 use mathlib.Core.Bool.{Bool, true, false, not, cond}
 use mathlib.Core.List.{List, []}
 use mathlib.Core.Path.{_≡_}
@@ -6,7 +7,7 @@ use Prim.Native.Nat.{ℕ}
 use lib.Dec.{eqb}
 use Rattle.regs.specs.declared.Dir.{Dir}
 use Rattle.regs.specs.declared.Dir.the-variants.{Out, In}
-use Rattle.state.specs.State.{view}
+use Rattle.state.specs.State.{view, saved}
 use Rattle.script.specs.Calls.{Config, Op, aside, Open, startRow}
 use Rattle.script.specs.Machine.{Buf, Call, begin, start}
 use Rattle.way.specs.Under.{machineOf, drive, answerOf, lentOr, AsLent, lentBy, Kept}
@@ -29,6 +30,13 @@ Answers r c before after =
     Worded r
     (λ step. ((a b : Buf) → (answerOf step [] (view after), machineOf after b) ≡ drive c (machineOf before a) b)
     × Kept step before after)
+
+-- pacing, which is no operation: what is saved stays
+abbrev pub AnswersAtOnce : ℕ → Call Config Op → List ℕ → List ℕ → Type 0
+AnswersAtOnce r c before after =
+    Worded r
+    (λ step. ((a b : Buf) → (answerOf step [] (view after), machineOf after b) ≡ drive c (machineOf before a) b)
+    × (saved after ≡ saved before))
 
 -- a call that brings the slots: their bytes before and after; of a wrong length (row 1) they stay
 abbrev pub AnswersLent : ℕ → Call Config Op → List ℕ → List ℕ → Buf → Buf → Type 0
@@ -53,26 +61,26 @@ AnswersOutOf r c before after slots out out′ =
     × Kept step before after)
     × ((a : Buf) → out′ ≡ lentBy (drive c (machineOf before a) slots .0) out)
 
--- packets in place: of one that is shown, the bytes are the slots'
+-- packets in place: of one that is shown, the bytes are the slots'; what is saved stays
 abbrev pub AnswersBeside : ℕ → Call Config Op → List ℕ → List ℕ → Type 0
 AnswersBeside r c before after =
     Worded r
     (λ step. ((a b : Buf) → (answerOf step b (view after), machineOf after b) ≡ drive c (machineOf before a) b)
-    × Kept step before after)
+    × (saved after ≡ saved before))
 
 -- the same with the slots: their bytes before and after
 abbrev pub AnswersShown : ℕ → Call Config Op → List ℕ → List ℕ → Buf → Buf → Type 0
 AnswersShown r c before after slots slots′ =
     Worded r
     (λ step. ((a : Buf) → (answerOf step slots′ (view after), machineOf after (lentOr (view before) slots slots′ a)) ≡ drive c (machineOf before a) slots)
-    × (AsLent (view before) slots slots′ × Kept step before after))
+    × (AsLent (view before) slots slots′ × (saved after ≡ saved before)))
 
 -- open, with the slots, which stay: a packet that is shown is the endpoint's oldest; its stamp is in the caller's room, before and after the call
 abbrev pub AnswersOpen : ℕ → ℕ → List ℕ → List ℕ → Buf → ℕ → ℕ → Type 0
 AnswersOpen r e before after slots stamp stamp′ =
     Worded r
     (λ step. ((a : Buf) → (answerOf step slots (view after), machineOf after (lentOr (view before) slots slots a)) ≡ drive (begin (aside (Open e))) (machineOf before a) slots)
-    × (ShownAt step (view after) e × Kept step before after))
+    × (ShownAt step (view after) e × (saved after ≡ saved before)))
     × ((a : Buf) → stamp′ ≡ stampBy (drive (begin (aside (Open e))) (machineOf before a) slots .0) stamp)
 
 -- start-up by driver i: the slots that it is brought are the run's from then on, unless it is refused; the record of bus time before and after

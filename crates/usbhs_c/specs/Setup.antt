@@ -94,17 +94,3 @@ no-slice (step.Shown at n stamp) x h = tt
 
 pub setup-no-slice : (t : Step) (x : Driver) (u : Under) (d : Driver) (a b : Buf) → answerOf t [] x ≡ drive (begin (other PollSetup)) (machineAt u d a) b .0 → NoSlice t
 setup-no-slice t x u d a b e = no-slice t x (subst ByteFirst (sym e) (setup-first u d a b))
-
--- ---- a refusal is told as it is
-
-told-refusal : (s : Step) (d : Driver) (n : ℕ) → answerOf s [] d ≡ ended (Refused n) → s ≡ step.Refused n
-told-refusal (step.Refused m) d n p = let e : m ≡ n = cc in ap step.Refused e
-told-refusal (step.Asks q) d n p = let z : _≡_ {A = ℕ} 0 1 = cc in absurd (omega arith)
-told-refusal (step.Ends k w) d n p = let z : _≡_ {A = ℕ} 0 1 = cc in absurd (omega arith)
-told-refusal step.NotYet d n p = let z : _≡_ {A = ℕ} 0 1 = cc in absurd (omega arith)
-told-refusal (step.Done k) d n p = let z : _≡_ {A = ℕ} 0 1 = cc in absurd (omega arith)
-told-refusal (step.Setup low high) d n p = let z : _≡_ {A = ℕ} 0 1 = cc in absurd (omega arith)
-told-refusal (step.Shown at k stamp) d n p = let z : _≡_ {A = ℕ} 0 1 = cc in absurd (omega arith)
-
-pub refusal-by : (s t : Step) (out : List ℕ) (d : Driver) (n : ℕ) → answerOf t out d ≡ answerOf s [] d → t ≡ step.Refused n → s ≡ step.Refused n
-refusal-by s t out d n e q = told-refusal s d n (sym e ∙ ap (λ (z : Step). answerOf z out d) q)

@@ -27,7 +27,7 @@ ghost use lib.ListN.{length};
 ghost use Rattle.bus_time.specs.Time.{inUse};
 ghost use Rattle.way.specs.Under.{configOf};
 ghost use Rattle.way.specs.Questions.{pendingOn, overrunsOn, enabledAsked};
-ghost use Rattle.usbhs_c.specs.Calls.{Answers, AnswersLent, AnswersInto, AnswersOutOf, AnswersStart, AnswersCharged, AnswersBeside, AnswersShown, AnswersOpen, dirOf, flagOf};
+ghost use Rattle.usbhs_c.specs.Calls.{Answers, AnswersAtOnce, AnswersLent, AnswersInto, AnswersOutOf, AnswersStart, AnswersCharged, AnswersBeside, AnswersShown, AnswersOpen, dirOf, flagOf};
 
 // Start-up on any state, with the buffer's size and count and whether there is a start-of-frame callback.
 #[no_mangle]
@@ -93,7 +93,7 @@ pub extern "C" fn usbhs_begin_microframe(s: &mut [u8; STATE_LEN]) -> u64
 // Whether advance moves the IN endpoint on.
 #[no_mangle]
 pub extern "C" fn usbhs_set_paced(s: &mut [u8; STATE_LEN], endpoint: u32, paced: u32) -> u64
-    ensures { λ r. ⌜ Answers r (begin (other (SetPaced endpoint (flagOf paced)))) (now (s .entry)) (now (s .exit)) ⌝ }
+    ensures { λ r. ⌜ AnswersAtOnce r (begin (other (SetPaced endpoint (flagOf paced)))) (now (s .entry)) (now (s .exit)) ⌝ }
 {
     word_of(usbhs::begins::set_paced(s, endpoint, flag_of(paced)))
 }

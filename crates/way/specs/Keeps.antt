@@ -1,47 +1,69 @@
--- Answers that are no refusal
+-- The saved bytes: canonical ones, and those of a call that changed the state before its operation stood
 use mathlib.Core.List.{List}
-use mathlib.Core.Path.{_≡_, subst, sym, ap, _∙_}
+use mathlib.Core.Path.{_≡_, ap, subst, sym, _∙_}
 use Prim.Native.Nat.{ℕ}
-use Rattle.regs.specs.declared.Access.{Access}
+use Rattle.state.specs.declared.Saved.{Saved}
 use Rattle.state.specs.Driver.{Driver}
+use Rattle.state.specs.State.{saved}
+use Rattle.state.specs.Fresh.{nothing}
 use Rattle.script.specs.Answers.{Answer, Refused, End, NotYet, Done, Shown}
-use Rattle.script.specs.Machine.{Machine, Ans, ended, handed, told}
+use Rattle.script.specs.Machine.{Ans, ended, handed, told}
 use Rattle.way.specs.declared.Step.{Step}
 use Rattle.way.specs.declared.Step.the-variants as step
-use Rattle.way.specs.Under.{answerOf}
-use Rattle.way.specs.Goes.{Called}
+use Rattle.way.specs.declared.Under.{Under}
+use Rattle.way.specs.Under.{encode, decode, decode-encode, answerOf, Canonical, Kept}
 
-abbrev StepPasses : Step → Type 0
-StepPasses (step.Refused n) = ⊥
-StepPasses (step.Asks q) = Unit {0}
-StepPasses (step.Ends n k) = Unit {0}
-StepPasses step.NotYet = Unit {0}
-StepPasses (step.Done n) = Unit {0}
-StepPasses (step.Setup low high) = Unit {0}
-StepPasses (step.Shown at n stamp) = Unit {0}
+-- the encoding of a point is the encoding of what it is read back as
+encoded : (u : Under) (x : Saved) → x ≡ encode u → x ≡ encode (decode x)
+encoded u x e = e ∙ ap encode (sym (ap decode e ∙ decode-encode u))
 
-pub unrefused : {n : ℕ} (r : Step) → StepPasses r → r ≡ step.Refused n → ⊥
-unrefused r h q = subst StepPasses q h
+pub canonical : (u : Under) (xs : List ℕ) → saved xs ≡ encode u → Canonical xs
+canonical u xs e = encoded u (saved xs) e
 
-abbrev AnswerPasses : Answer → Type 0
-AnswerPasses (Refused n) = ⊥
-AnswerPasses (End n w) = Unit {0}
-AnswerPasses NotYet = Unit {0}
-AnswerPasses (Done bs) = Unit {0}
-AnswerPasses (Shown bs k) = Unit {0}
+-- what was saved before, where the state changed first and what is saved did not
+pub kept-from : (r : Step) (xs ys zs : List ℕ) → saved ys ≡ saved xs → Kept r ys zs → Kept r xs zs
+kept-from (step.Refused n) xs ys zs e h = h ∙ e
+kept-from (step.Asks q) xs ys zs e h = h
+kept-from (step.Ends n k) xs ys zs e h = h
+kept-from step.NotYet xs ys zs e h = h ∙ e
+kept-from (step.Done n) xs ys zs e h = h ∙ e
+kept-from (step.Setup low high) xs ys zs e h = h ∙ e
+kept-from (step.Shown at n stamp) xs ys zs e h = h ∙ e
 
-abbrev Passes : Ans Answer → Type 0
-Passes (ended a) = AnswerPasses a
-Passes (handed q) = Unit {0}
-Passes (told n) = Unit {0}
+-- ---- the same by an answer of the machine of calls: after a question they stay
 
-passes : (r : Step) (n : ℕ) (out : List ℕ) (d : Driver) (x : Machine Answer Driver) (y : Called) → r ≡ step.Refused n → _≡_ {A = Called} (answerOf r out d, x) y → Passes (y .0) → ⊥
-passes r n out d x y q p h = subst Passes (sym (sym (ap (λ (z : Step). answerOf z out d) q) ∙ ap (λ (z : Called). z .0) p)) h
+abbrev KeptEnd : Answer → List ℕ → List ℕ → Type 0
+KeptEnd (Refused n) xs ys = saved ys ≡ saved xs
+KeptEnd (End n ws) xs ys = saved ys ≡ nothing
+KeptEnd NotYet xs ys = saved ys ≡ saved xs
+KeptEnd (Done bytes) xs ys = saved ys ≡ saved xs
+KeptEnd (Shown bytes stamp) xs ys = saved ys ≡ saved xs
 
--- the operation is under way
-pub asked : (r : Step) (n : ℕ) (out : List ℕ) (d : Driver) (x y : Machine Answer Driver) (a : Access) → r ≡ step.Refused n → _≡_ {A = Called} (answerOf r out d, x) (handed a, y) → ⊥
-asked r n out d x y a q p = passes r n out d x (handed a, y) q p tt
+abbrev pub KeptBy : Ans Answer → List ℕ → List ℕ → Type 0
+KeptBy (ended a) xs ys = KeptEnd a xs ys
+KeptBy (handed q) xs ys = Canonical ys
+KeptBy (told n) xs ys = saved ys ≡ saved xs
 
--- it has ended
-pub finished : (r : Step) (n : ℕ) (out : List ℕ) (d : Driver) (x y : Machine Answer Driver) (k : ℕ) (w : List ℕ) → r ≡ step.Refused n → _≡_ {A = Called} (answerOf r out d, x) (ended (End k w), y) → ⊥
-finished r n out d x y k w q p = passes r n out d x (ended (End k w), y) q p tt
+pub kept-by : (r : Step) (out : List ℕ) (d : Driver) (xs ys : List ℕ) → Kept r xs ys → KeptBy (answerOf r out d) xs ys
+kept-by (step.Refused n) out d xs ys h = h
+kept-by (step.Asks q) out d xs ys h = h
+kept-by (step.Ends n k) out d xs ys h = h
+kept-by step.NotYet out d xs ys h = h
+kept-by (step.Done n) out d xs ys h = h
+kept-by (step.Setup low high) out d xs ys h = h
+kept-by (step.Shown at n stamp) out d xs ys h = h
+
+of-answer : (r : Step) (out : List ℕ) (d : Driver) (xs ys : List ℕ) → KeptBy (answerOf r out d) xs ys → Kept r xs ys
+of-answer (step.Refused n) out d xs ys h = h
+of-answer (step.Asks q) out d xs ys h = h
+of-answer (step.Ends n k) out d xs ys h = h
+of-answer step.NotYet out d xs ys h = h
+of-answer (step.Done n) out d xs ys h = h
+of-answer (step.Setup low high) out d xs ys h = h
+of-answer (step.Shown at n stamp) out d xs ys h = h
+
+-- two answers that the machine of calls does not tell apart
+pub kept-told : (r t : Step) (out out′ : List ℕ) (d : Driver) (xs ys : List ℕ)
+    → answerOf t out′ d ≡ answerOf r out d → Kept r xs ys → Kept t xs ys
+kept-told r t out out′ d xs ys e h =
+    of-answer t out′ d xs ys (subst (λ (a : Ans Answer). KeptBy a xs ys) (sym e) (kept-by r out d xs ys h))

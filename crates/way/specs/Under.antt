@@ -177,10 +177,25 @@ lentOr d b after old = cond (slotsFit d b) after old
 abbrev pub AsLent : Driver → Buf → Buf → Type 0
 AsLent d b after = slotsFit d b ≡ false → after ≡ b
 
--- a refusal leaves what is saved of the operation under way, byte for byte
-abbrev pub Kept : Step → List ℕ → List ℕ → Type 0
-Kept r xs ys = (n : ℕ) → r ≡ step.Refused n → saved ys ≡ saved xs
+-- the 22 saved bytes are canonical: the encoding of what is under way, all zero where nothing is
+abbrev pub Canonical : List ℕ → Type 0
+Canonical xs = saved xs ≡ encode (decode (saved xs))
 
--- it is no refusal
-abbrev pub Unrefused : Step → Type 0
-Unrefused r = (n : ℕ) → r ≡ step.Refused n → ⊥
+-- the 22 saved bytes after a call that begins an operation, goes on with one or polls, by its answer: where it hands
+-- out an access they are canonical, where an operation has ended all are zero; after all else, a refusal, they stay
+abbrev pub Kept : Step → List ℕ → List ℕ → Type 0
+Kept (step.Refused n) xs ys = saved ys ≡ saved xs
+Kept (step.Asks q) xs ys = Canonical ys
+Kept (step.Ends n k) xs ys = saved ys ≡ fresh.nothing
+Kept step.NotYet xs ys = saved ys ≡ saved xs
+Kept (step.Done n) xs ys = saved ys ≡ saved xs
+Kept (step.Setup low high) xs ys = saved ys ≡ saved xs
+Kept (step.Shown at n stamp) xs ys = saved ys ≡ saved xs
+
+-- of an access handed out or an end: whatever was saved before
+abbrev pub Stored : Step → List ℕ → Type 0
+Stored r ys = (xs : List ℕ) → Kept r xs ys
+
+-- of an answer that comes with what was saved before
+abbrev pub Leaves : Step → Type 0
+Leaves r = (xs ys : List ℕ) → saved ys ≡ saved xs → Kept r xs ys

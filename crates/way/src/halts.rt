@@ -21,12 +21,13 @@ ghost use Rattle.control.specs.Points as control;
 ghost use Rattle.endpoint.specs.Points as endpoint;
 ghost use Rattle.iso_in.specs.Advance as advance;
 ghost use Rattle.handler.specs.Points as handler;
-ghost use Rattle.way.specs.Under.{withTag, encode, decode, finish, machineAt, machineOf, haltsAs, halts, handedOut, answerOf, Kept, Unrefused};
+ghost use Rattle.way.specs.Under.{withTag, encode, decode, finish, machineAt, machineOf, haltsAs, halts, handedOut, answerOf, Kept, Stored, Leaves};
 ghost use Rattle.way.specs.Rows.{isIdle};
 
 // The operation is under way: it stands where it handed out the access, at a point that is saved with its tag.
 fn asks(s: &mut [u8; STATE_LEN], q: Access, p: Saved, tag: u8) -> Step
     ensures { λ r. ⌜ ((u : Under) → encode u ≡ withTag tag p → (out b : List ℕ) → (answerOf r out (view (now (s .exit))), machineOf (now (s .exit)) b) ≡ handedOut q u (view (now (s .entry))) b) ⌝ }
+    ensures { λ r. ⌜ ((u : Under) → encode u ≡ withTag tag p → Stored r (now (s .exit))) ⌝ }
 {
     let mut c = p;
     c.tag = tag;
@@ -37,6 +38,7 @@ fn asks(s: &mut [u8; STATE_LEN], q: Access, p: Saved, tag: u8) -> Step
 // An operation has ended with its result: its wake-ups are answered.
 fn ended(s: &mut [u8; STATE_LEN], n: u16) -> Step
     ensures { λ r. ⌜ ((b : List ℕ) → (answerOf r [] (view (now (s .exit))), machineOf (now (s .exit)) b) ≡ halts (run conc (finish n) (view (now (s .entry)), b))) ⌝ }
+    ensures { λ r. ⌜ Stored r (now (s .exit)) ⌝ }
 {
     state::store_saved(s, nothing());
     let k = how_many(s);
@@ -47,7 +49,7 @@ fn ended(s: &mut [u8; STATE_LEN], n: u16) -> Step
 pub fn halted(s: &mut [u8; STATE_LEN], n: driver::Next) -> Step
     requires { ⌜ driver.Linked n ⌝ }
     ensures { λ r. ⌜ ((b : List ℕ) → (answerOf r [] (view (now (s .exit))), machineOf (now (s .exit)) b) ≡ halts (bindOut (driver.meaning n (view (now (s .entry))) b) (λ k t. run conc (finish k) t))) ⌝ }
-    ensures { λ r. ⌜ Unrefused r ⌝ }
+    ensures { λ r. ⌜ Stored r (now (s .exit)) ⌝ }
 {
     match n {
         driver::Next::Asks(q, p) => asks(s, q, driver_codec::encode(p), 1),
@@ -59,7 +61,7 @@ pub fn halted(s: &mut [u8; STATE_LEN], n: driver::Next) -> Step
 pub fn halted_bus(s: &mut [u8; STATE_LEN], n: bus::Next) -> Step
     requires { ⌜ bus.Linked n ⌝ }
     ensures { λ r. ⌜ ((b : List ℕ) → (answerOf r [] (view (now (s .exit))), machineOf (now (s .exit)) b) ≡ halts (bindOut (bus.meaning n (view (now (s .entry))) b) (λ k t. run conc (finish k) t))) ⌝ }
-    ensures { λ r. ⌜ Unrefused r ⌝ }
+    ensures { λ r. ⌜ Stored r (now (s .exit)) ⌝ }
 {
     match n {
         bus::Next::Asks(q, p) => asks(s, q, bus::encode(p), 2),
@@ -71,7 +73,7 @@ pub fn halted_bus(s: &mut [u8; STATE_LEN], n: bus::Next) -> Step
 pub fn halted_control(s: &mut [u8; STATE_LEN], n: control::Next) -> Step
     requires { ⌜ control.Linked n ⌝ }
     ensures { λ r. ⌜ ((b : List ℕ) → (answerOf r [] (view (now (s .exit))), machineOf (now (s .exit)) b) ≡ halts (bindOut (control.meaning n (view (now (s .entry))) b) (λ k t. run conc (finish k) t))) ⌝ }
-    ensures { λ r. ⌜ Unrefused r ⌝ }
+    ensures { λ r. ⌜ Stored r (now (s .exit)) ⌝ }
 {
     match n {
         control::Next::Asks(q, p) => asks(s, q, control::encode(p), 3),
@@ -111,7 +113,7 @@ pub fn polled_control(s: &mut [u8; STATE_LEN], n: control::Polled) -> Step
 pub fn halted_endpoint(s: &mut [u8; STATE_LEN], n: endpoint::Next) -> Step
     requires { ⌜ endpoint.Linked n ⌝ }
     ensures { λ r. ⌜ ((b : List ℕ) → (answerOf r [] (view (now (s .exit))), machineOf (now (s .exit)) b) ≡ halts (bindOut (endpoint.meaning n (view (now (s .entry))) b) (λ k t. run conc (finish k) t))) ⌝ }
-    ensures { λ r. ⌜ Unrefused r ⌝ }
+    ensures { λ r. ⌜ Stored r (now (s .exit)) ⌝ }
 {
     match n {
         endpoint::Next::Asks(q, p) => asks(s, q, endpoint::encode(p), 4),
@@ -123,7 +125,7 @@ pub fn halted_endpoint(s: &mut [u8; STATE_LEN], n: endpoint::Next) -> Step
 pub fn halted_advance(s: &mut [u8; STATE_LEN], n: AdvanceNext) -> Step
     requires { ⌜ advance.Linked n ⌝ }
     ensures { λ r. ⌜ ((b : List ℕ) → (answerOf r [] (view (now (s .exit))), machineOf (now (s .exit)) b) ≡ halts (bindOut (advance.meaning n (view (now (s .entry))) b) (λ k t. run conc (finish k) t))) ⌝ }
-    ensures { λ r. ⌜ Unrefused r ⌝ }
+    ensures { λ r. ⌜ Stored r (now (s .exit)) ⌝ }
 {
     match n {
         AdvanceNext::Asks(q, p) => asks(s, q, iso_in::codec::encode(p), 5),
@@ -135,7 +137,7 @@ pub fn halted_advance(s: &mut [u8; STATE_LEN], n: AdvanceNext) -> Step
 pub fn halted_interrupt(s: &mut [u8; STATE_LEN], n: handler::Next) -> Step
     requires { ⌜ handler.Linked n ⌝ }
     ensures { λ r. ⌜ ((b : List ℕ) → (answerOf r [] (view (now (s .exit))), machineOf (now (s .exit)) b) ≡ haltsAs true (bindOut (handler.meaning n (view (now (s .entry))) b) (λ k t. run conc (finish k) t))) ⌝ }
-    ensures { λ r. ⌜ Unrefused r ⌝ }
+    ensures { λ r. ⌜ Stored r (now (s .exit)) ⌝ }
 {
     match n {
         handler::Next::Asks(q, p) => asks(s, q, handler_codec::encode(p), 6),
@@ -159,6 +161,7 @@ pub fn begun_endpoint(s: &mut [u8; STATE_LEN], n: endpoint::Begun) -> Step
 // A poll of one.
 pub fn polled_endpoint(n: endpoint::Polled) -> Step
     ensures { λ r. ⌜ ((u : Under) (d : Driver) (out b : List ℕ) → isIdle u ≡ true → (answerOf r out d, machineAt u d b) ≡ halts (endpoint.polledAs n out d b)) ⌝ }
+    ensures { λ r. ⌜ Leaves r ⌝ }
 {
     match n {
         endpoint::Polled::Refused(k) => Step::Refused(k),

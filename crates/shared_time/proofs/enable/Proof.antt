@@ -35,7 +35,7 @@ same-length c = search needs
 returns : tie.Need-returns
 returns c =
     let x = c .before .before .before .before .before .before .before .before .before .before .before .args in
-    (λ a. turned (x .driver) (x .dir) (x .e) (decode (saved (now (x .s)))) (view (now (x .s))) a (now (x .slots)) (now (x .time)) (sym (c .before .is-accepted .ensures) ∙ c .if2 .taken) (rw (← c .before .before .before .before .before .before .before .before .before .entry .ensures .0, ← c .before .before .before .before .before .before .before .charge-on .ensures .0) (sym (c .before .before .before .before .before .passes .ensures) ∙ c .before .before .before .before .if1 .taken)), (λ h. refl, λ n q. refl))
+    (λ a. turned (x .driver) (x .dir) (x .e) (decode (saved (now (x .s)))) (view (now (x .s))) a (now (x .slots)) (now (x .time)) (sym (c .before .is-accepted .ensures) ∙ c .if2 .taken) (rw (← c .before .before .before .before .before .before .before .before .before .entry .ensures .0, ← c .before .before .before .before .before .before .before .charge-on .ensures .0) (sym (c .before .before .before .before .before .passes .ensures) ∙ c .before .before .before .before .if1 .taken)), (λ h. refl, refl))
 
 begin-set-enabled-requires : tie.Need-begin-set-enabled-requires
 begin-set-enabled-requires c κs = search needs

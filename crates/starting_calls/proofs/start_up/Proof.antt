@@ -43,15 +43,15 @@ halted-requires c κs = c .start-up .ensures .1
 
 returns : tie.Need-returns
 unfolding startRow
-returns c = (λ a. simp (← c .before .before .before .before .before .before .before .before .before .good-buffer .ensures, c .before .before .before .before .before .before .before .before .if2 .taken, ← c .before .before .before .before .before .before .before .before .before .before .before .fits2 .ensures, c .before .before .before .before .before .before .before .before .before .before .if1 .taken) (c .halted .ensures .0 _ ∙ simp (c .before .start-up .ensures .0, c .before .before .before .clear-wakes .ensures .0, c .before .before .before .before .before .fresh .ensures .0, c .before .before .before .before .before .before .flag-of .ensures)), λ n q. absurd (c .halted .ensures .1 n q))
+returns c = (λ a. simp (← c .before .before .before .before .before .before .before .before .before .good-buffer .ensures, c .before .before .before .before .before .before .before .before .if2 .taken, ← c .before .before .before .before .before .before .before .before .before .before .before .fits2 .ensures, c .before .before .before .before .before .before .before .before .before .before .if1 .taken) (c .halted .ensures .0 _ ∙ simp (c .before .start-up .ensures .0, c .before .before .before .clear-wakes .ensures .0, c .before .before .before .before .before .fresh .ensures .0, c .before .before .before .before .before .before .flag-of .ensures)), c .halted .ensures .1 _)
 
 returns-2 : tie.Need-returns-2
 unfolding startRow
-returns-2 c = (λ a. simp (← c .before .good-buffer .ensures, c .if2 .left, ← c .before .before .before .fits2 .ensures, c .before .before .if1 .taken), λ n q. refl)
+returns-2 c = (λ a. simp (← c .before .good-buffer .ensures, c .if2 .left, ← c .before .before .before .fits2 .ensures, c .before .before .if1 .taken), refl)
 
 returns-3 : tie.Need-returns-3
 unfolding startRow
-returns-3 c = (λ a. simp (← c .before .fits2 .ensures, c .if1 .left), λ n q. refl)
+returns-3 c = (λ a. simp (← c .before .fits2 .ensures, c .if1 .left), refl)
 
 pub start-up-spec : {M : Type 1} → statement M
 start-up-spec =

@@ -36,7 +36,7 @@ returns : tie.Need-returns
 returns c =
     let k = c .before .before .before in
     let x = k .before .before .before .before .before .args in
-    (λ a b. all-unread (decode (saved (now (x .s)))) (view (now (x .s))) a b (now (x .bytes)) _ (eq-eqb _ _ (sym (k .before .before .stop .ensures) ∙ k .before .if1 .taken)) (sym (ap (λ (r : Reading). r .answer) (k .read .ensures)) ∙ c .before .answer .given .1), λ n q. refl)
+    (λ a b. all-unread (decode (saved (now (x .s)))) (view (now (x .s))) a b (now (x .bytes)) _ (eq-eqb _ _ (sym (k .before .before .stop .ensures) ∙ k .before .if1 .taken)) (sym (ap (λ (r : Reading). r .answer) (k .read .ensures)) ∙ c .before .answer .given .1), refl)
 
 enum-told : tie.Need-enum-told
 enum-told c = search needs
@@ -63,7 +63,7 @@ returns-2 c =
 returns-3 : tie.Need-returns-3
 returns-3 c =
     let x = c .before .before .before .before .args in
-    (λ a b. back (other-call (calls.AllocateAll (now (x .bytes))) 1 (reading-all (now (x .bytes))) (decode (saved (now (x .s)))) (view (now (x .s))) a b refl) (simp (← c .before .stop .ensures, ne-eqb _ _ (c .if1 .left))), λ n q. refl)
+    (λ a b. back (other-call (calls.AllocateAll (now (x .bytes))) 1 (reading-all (now (x .bytes))) (decode (saved (now (x .s)))) (view (now (x .s))) a b refl) (simp (← c .before .stop .ensures, ne-eqb _ _ (c .if1 .left))), refl)
 
 pub allocate-all-spec : {M : Type 1} → statement M
 allocate-all-spec =

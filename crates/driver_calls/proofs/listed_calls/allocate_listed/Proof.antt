@@ -42,14 +42,14 @@ returns c =
     let k = c .before .before .before .before .before .before .before .before .before in
     let a = k .before .before .before .args in
     let t = ap (λ (x : Trial). x .refusal) (k .try-all .ensures ∙ ap (λ (x : Allocator). trialOf x (stored (a .list))) (k .before .load-allocator .ensures)) in
-    (λ b. c .halted .ensures .0 b ∙ all-given (stored (a .list)) (view (now (a .s))) b _ t _ _ _ (c .before .before .before .before .before .before .before .before .if1 .taken) (c .before .announce-all .ensures .0 b) (c .before .before .before .before .clear-wakes .ensures .0) (c .before .before .before .before .before .before .allocate-each .ensures .0), λ n q. absurd (c .halted .ensures .1 n q))
+    (λ b. c .halted .ensures .0 b ∙ all-given (stored (a .list)) (view (now (a .s))) b _ t _ _ _ (c .before .before .before .before .before .before .before .before .if1 .taken) (c .before .announce-all .ensures .0 b) (c .before .before .before .before .clear-wakes .ensures .0) (c .before .before .before .before .before .before .allocate-each .ensures .0), c .halted .ensures .1 _)
 
 returns-2 : tie.Need-returns-2
 returns-2 c =
     let k = c .before in
     let a = k .before .before .before .args in
     let t = ap (λ (x : Trial). x .refusal) (k .try-all .ensures ∙ ap (λ (x : Allocator). trialOf x (stored (a .list))) (k .before .load-allocator .ensures)) in
-    (λ b. all-refused (stored (a .list)) (view (now (a .s))) b _ t (decode (saved (now (a .s)))) (k .before .before .before .pre) (c .if1 .left), λ n q. refl)
+    (λ b. all-refused (stored (a .list)) (view (now (a .s))) b _ t (decode (saved (now (a .s)))) (k .before .before .before .pre) (c .if1 .left), refl)
 
 pub allocate-listed-spec : {M : Type 1} → statement M
 allocate-listed-spec =

@@ -1,3 +1,4 @@
+use mathlib.Core.Path.{_∙_}
 use Rattle.state.specs.Wakes.{listed}
 use Rattle.way.specs.Under.{decode}
 use Rattle.way.specs.Counted.{front-take}
@@ -20,7 +21,7 @@ how-many-requires c κs = search needs
 
 returns : tie.Need-returns
 unfolding decode listed
-returns c b = simp (c .how-many .ensures .0, front-take, c .before .before .store-saved .ensures .0, c .before .before .store-saved .ensures .1, c .before .before .before .nothing .ensures)
+returns c = (λ b. simp (c .how-many .ensures .0, front-take, c .before .before .store-saved .ensures .0, c .before .before .store-saved .ensures .1, c .before .before .before .nothing .ensures), λ xs. c .before .before .store-saved .ensures .1 ∙ c .before .before .before .nothing .ensures)
 
 pub ended-spec : {M : Type 1} → statement M
 ended-spec =

@@ -2,7 +2,6 @@ use Rattle.way.specs.Tags.{as-endpoint}
 use Rattle.way.specs.Fits.{linked-endpoint}
 use mathlib.Core.List.{[]}
 use mathlib.Core.Path.{_∙_}
-use Rattle.way.specs.Keeps.{asked, finished}
 use borrow.Author.Needs.{needs}
 use Rattle.way.proofs.halts.halted_endpoint.Statement.{statement}
 use Rattle.way.proofs.halts.halted_endpoint.Tie as tie
@@ -27,10 +26,10 @@ ended-requires : tie.Need-ended-requires
 ended-requires c κs = search needs
 
 returns : tie.Need-returns
-returns c = (λ b. c .asks .ensures _ (as-endpoint _ _ (c .before .encode .ensures)) [] b ∙ simp (c .before .before .before .before .n .given .1, linked-endpoint _ _ _ (c .before .before .before .before .n .given .1) (c .before .before .before .before .before .before .pre)), λ n q. asked _ _ _ _ _ _ _ q (c .asks .ensures _ (as-endpoint _ _ (c .before .encode .ensures)) [] []))
+returns c = (λ b. c .asks .ensures .0 _ (as-endpoint _ _ (c .before .encode .ensures)) [] b ∙ simp (c .before .before .before .before .n .given .1, linked-endpoint _ _ _ (c .before .before .before .before .n .given .1) (c .before .before .before .before .before .before .pre)), c .asks .ensures .1 _ (as-endpoint _ _ (c .before .encode .ensures)))
 
 returns-2 : tie.Need-returns-2
-returns-2 c = (λ b. simp (c .ended .ensures, c .before .before .before .n2 .given .1), λ n q. finished _ _ _ _ _ _ _ _ q (c .ended .ensures []))
+returns-2 c = (λ b. simp (c .ended .ensures .0, c .before .before .before .n2 .given .1), c .ended .ensures .1)
 
 pub halted-endpoint-spec : {M : Type 1} → statement M
 halted-endpoint-spec =

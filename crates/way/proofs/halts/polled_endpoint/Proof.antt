@@ -16,13 +16,13 @@ enum-known-n-2 : tie.Need-enum-known-n-2
 enum-known-n-2 c = search needs
 
 returns : tie.Need-returns
-returns c u d out b i = ends-idle u d b _ i ∙ simp (c .before .n .given .1)
+returns c = (λ u d out b i. ends-idle u d b _ i ∙ simp (c .before .n .given .1), λ xs ys h. h)
 
 returns-2 : tie.Need-returns-2
-returns-2 c u d out b i = ends-idle u d b _ i ∙ simp (c .enum-told .given .1)
+returns-2 c = (λ u d out b i. ends-idle u d b _ i ∙ simp (c .enum-told .given .1), λ xs ys h. h)
 
 returns-3 : tie.Need-returns-3
-returns-3 c u d out b i = ends-idle u d b _ i ∙ simp (c .before .n2 .given .1)
+returns-3 c = (λ u d out b i. ends-idle u d b _ i ∙ simp (c .before .n2 .given .1), λ xs ys h. h)
 
 pub polled-endpoint-spec : {M : Type 1} → statement M
 polled-endpoint-spec =

@@ -1,0 +1,87 @@
+-- Account 1 of the 22 bytes in which an operation under way is saved: "the state and every lent byte after a call
+-- follow from its inputs alone, for refusals too". After every call of every list from an accepted start-up they are
+-- the encoding of what is under way, and all zero where nothing is. Definitions only. `code-canonical`
+-- (SavedRuns.antt) is the theorem
+use mathlib.Core.Bool.{Bool, true, false}
+use mathlib.Core.List.{List, [], _∷_}
+use mathlib.Core.Path.{_≡_}
+use Prim.Native.Nat.{ℕ, zero}
+use Rattle.state.specs.State.{saved}
+use Rattle.state.specs.Fresh.{nothing}
+use Rattle.script.specs.Answers.{Answer}
+use Rattle.script.specs.Calls.{Config, Op, interrupt, slotted, other, aside, Other, Allocate, AllocateAll, Start}
+use Rattle.script.specs.Calls.{BusPoll, BusEnable, BusDisable, Microframe, SetStalled, IsStalled, SetPaced, Advance}
+use Rattle.script.specs.Calls.{BeginRead, BeginSetup, PollSetup, PollDataIn, BeginAccept, PollAccept, BeginReject}
+use Rattle.script.specs.Calls.{BeginDataOut, BeginAcceptSetAddress, startRow}
+use Rattle.script.specs.Machine.{Buf, Call, start, begin, go, question, idle, Ans}
+use Rattle.way.specs.Under.{encode, decode, machineOf}
+use Rattle.way.specs.Keeps.{KeptBy}
+use Rattle.proof_contracts.specs.SharedPage.{Made, Did}
+
+-- a call that neither begins an operation nor goes on with one, nor polls: pacing; open, close and queue; a question
+abbrev pub isPacing : Other → Bool
+isPacing (Allocate dir kind address maximum interval) = false
+isPacing (AllocateAll bytes) = false
+isPacing (Start maximum) = false
+isPacing BusPoll = false
+isPacing BusEnable = false
+isPacing BusDisable = false
+isPacing Microframe = false
+isPacing (SetStalled dir e on) = false
+isPacing (IsStalled dir e) = false
+isPacing (SetPaced e on) = true
+isPacing (Advance e) = false
+isPacing (BeginRead e n) = false
+isPacing BeginSetup = false
+isPacing PollSetup = false
+isPacing PollDataIn = false
+isPacing BeginAccept = false
+isPacing PollAccept = false
+isPacing BeginReject = false
+isPacing (BeginDataOut n first) = false
+isPacing (BeginAcceptSetAddress address) = false
+
+abbrev pub passesOp : Op → Bool
+passesOp interrupt = false
+passesOp (slotted o) = false
+passesOp (other o) = isPacing o
+passesOp (aside o) = true
+
+abbrev pub passes : Call Config Op → Bool
+passes (start c) = false
+passes (begin o) = passesOp o
+passes (go v) = false
+passes (question q) = true
+
+-- what a call's contract says of the saved bytes, xs the state's bytes before it, ys those after it: one that passes
+-- leaves them; of all others by the answer (`KeptBy`, way/specs/Keeps.antt): canonical with an access, all zero at an
+-- operation's end, else as they were
+abbrev pub SavesAs : Bool → Ans Answer → List ℕ → List ℕ → Type 0
+SavesAs true a xs ys = saved ys ≡ saved xs
+SavesAs false a xs ys = KeptBy a xs ys
+
+abbrev pub Saves : Call Config Op → Ans Answer → List ℕ → List ℕ → Type 0
+Saves c a xs ys = SavesAs (passes c) a xs ys
+
+-- calls of driver i one after the other, from the state's bytes xs and the slot buffer a: by its contract each is a
+-- step of the machine of calls (`Did`) and saves what it says. Whatever they are lent and whatever they bring
+abbrev pub Saving : ℕ → List ℕ → Buf → List Made → Type 0
+Saving i xs a [] = Unit {0}
+Saving i xs a (m ∷ ms) =
+    Did i xs a m × Saves (m .event .call) (m .answer) xs (m .bytes) × Saving i (m .bytes) (m .slots) ms
+
+pub record Pinned (m : Made) : Type 0 where
+  -- the 22 bytes are the encoding of what is under way
+  pub encoded : saved (m .bytes) ≡ encode (decode (saved (m .bytes)))
+  -- where nothing is under way all are zero
+  pub zeros : machineOf (m .bytes) (m .slots) .way ≡ idle → saved (m .bytes) ≡ nothing
+
+abbrev pub AllPinned : List Made → Type 0
+AllPinned [] = Unit {0}
+AllPinned (m ∷ ms) = Pinned m × AllPinned ms
+
+-- after every call of every list from an accepted start-up, whatever bytes the state had before
+abbrev pub CodeCanonical : Type 0
+CodeCanonical = (i : ℕ) (c : Config) (b : Buf) → startRow c b ≡ zero → (xs : List ℕ) (a : Buf) (first : Made)
+    → first .event ≡ record { call = start c; lent = b } → (ms : List Made) → Saving i xs a (first ∷ ms)
+    → AllPinned (first ∷ ms)
