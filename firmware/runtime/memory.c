@@ -27,17 +27,34 @@ void *memcpy(void *restrict to, const void *restrict from, size_t length)
     return to;
 }
 
+/* The last bytes that are set, one store for each: a jump into them costs less than a loop. */
+#define SHORT 24
+#define LAST(n) case n: t[(n) - 1] = (uint8_t)byte; /* falls through */
+
 void *memset(void *to, int byte, size_t length)
 {
     uint8_t *t = to;
     uint32_t four = (uint8_t)byte * 0x01010101u;
 
-    if (aligned(t, t))
-        for (; length >= WORD; length -= WORD, t += WORD)
-            *(word *)t = four;
-    for (; length > 0; length--)
-        *t++ = (uint8_t)byte;
-    return to;
+    if (length > SHORT) {
+        for (; !aligned(t, t); length--)
+            *t++ = (uint8_t)byte;
+        for (; length >= 4 * WORD; length -= 4 * WORD, t += 4 * WORD) {
+            word *w = (word *)t;
+
+            w[0] = four;
+            w[1] = four;
+            w[2] = four;
+            w[3] = four;
+        }
+    }
+    switch (length) {
+    LAST(24) LAST(23) LAST(22) LAST(21) LAST(20) LAST(19) LAST(18) LAST(17)
+    LAST(16) LAST(15) LAST(14) LAST(13) LAST(12) LAST(11) LAST(10) LAST(9)
+    LAST(8) LAST(7) LAST(6) LAST(5) LAST(4) LAST(3) LAST(2) LAST(1)
+    default:
+        return to;
+    }
 }
 
 int memcmp(const void *a, const void *b, size_t length)

@@ -1,5 +1,5 @@
 /* What the calls cost on RV32, in instructions retired (the emulator's -icount makes minstret exact) and bytes of
- * stack.
+ * stack. On x86-64 callgrind counts the same calls: a dump for each operation, with its name.
  *
  *   op NAME CALLS INSTRUCTIONS WORST    an operation, begin to end: its calls, their instructions, those of the worst
  *   stack CALL BYTES                    the deepest stack that was seen of an exported call, found by painting
@@ -7,7 +7,6 @@
  * Registers are memory, and making an access is not counted. firmware/figures prints this as tables. */
 #include <string.h>
 #include "../../firmware/console.h"
-#include "../../firmware/emulator/machine.h"
 #include "usbhs_survey.h"
 
 #define MOST_BUFFERS 24u
@@ -26,6 +25,26 @@ static uint32_t size, slots_length;
 
 static uint32_t calls, cost, worst;
 
+#ifdef __x86_64__
+#include <stdlib.h>
+#include <valgrind/callgrind.h>
+
+#define emulator_end exit
+#define OPERATED(name) CALLGRIND_DUMP_STATS_AT(name)
+#define PREPARED CALLGRIND_ZERO_STATS
+#define CALL(name, word, call)    \
+    do {                          \
+        CALLGRIND_TOGGLE_COLLECT; \
+        (word) = (call);          \
+        CALLGRIND_TOGGLE_COLLECT; \
+        counted(name, 0, 0);      \
+    } while (0)
+#else
+#include "../../firmware/emulator/machine.h"
+
+#define OPERATED(name) (void)0
+#define PREPARED (void)0
+
 /* The call's own instructions are counted with it: loading its arguments, the jump and the return. */
 #define CALL(name, word, call)                                                                 \
     do {                                                                                       \
@@ -41,6 +60,7 @@ static uint32_t calls, cost, worst;
             ;                                                                                  \
         counted(name, took, sp - (uint32_t)low);                                               \
     } while (0)
+#endif
 
 static struct {
     const char *name;
@@ -96,6 +116,7 @@ static void tell(const char *name, uint64_t word)
         print("\n");
         emulator_end(1);
     }
+    OPERATED(name);
     print("op ");
     print(name);
     print(" ");
@@ -122,6 +143,7 @@ static void tell(const char *name, uint64_t word)
     do {                                     \
         BEGIN(call, arguments);              \
         (void)word;                          \
+        PREPARED;                            \
         calls = cost = worst = 0;            \
     } while (0)
 

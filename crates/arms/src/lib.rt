@@ -1,14 +1,11 @@
 // What a token completes (mod.rs 748-790), one access at a time. Every function is total: any number is safe.
 use bits::mask_has;
-use checking::after_checking;
 use checking::after_dispatch;
-use checking::after_moved_read;
-use checking::after_moved_wrote;
-use checking::setup::after_setup_released;
-use checking::setup::after_setup_rx;
-use checking::setup::after_setup_tx;
-use handler::Next;
-use handler::Point;
+use irq_points::stands::stand_completing;
+use irq_points::stands::stand_flip;
+use irq_points::stands::stand_flipped;
+use irq_points::stands::stand_sof_arm;
+use irq_points::stands::stand_toggled;
 use iso_in::complete;
 use iso_in::complete::Complete;
 use iso_in::complete::CompleteNext;
@@ -33,13 +30,13 @@ use transfer::toggled;
 use transfer::toggled::Toggled;
 use transfer::toggled::ToggledNext;
 use transfer::wait::byte;
+use way::Step;
 ghost use mathlib.Core.Path.{_≡_};
-ghost use mathlib.Core.Bool.{true, false};
+ghost use mathlib.Core.Bool.{true};
 ghost use mathlib.Core.List.{List};
 ghost use Prim.Native.Nat.{ℕ};
 ghost use Rattle.regs.specs.Registers.{fitsIn};
 ghost use Rattle.regs.specs.Status.{endpoint, token};
-ghost use Rattle.state.specs.Driver.{Driver};
 ghost use Rattle.state.specs.State.{view, saved};
 ghost use Rattle.script.specs.Tree.{ends, bindOut};
 ghost use Rattle.script.specs.Script.{run};
@@ -49,8 +46,10 @@ ghost use Rattle.iso_in.specs.Complete as completes;
 ghost use Rattle.iso_in.specs.Sof as sofs;
 ghost use Rattle.ops.specs.Conc.{conc, go};
 ghost use Rattle.handler.specs.Tails.{thenCheck, flipDone, passed, afterToggled};
-ghost use Rattle.handler.specs.Points.{denote, meaning, Linked, fitsAt};
-ghost use Rattle.handler.specs.Stages.{inArm};
+ghost use Rattle.handler.specs.Points.{denote};
+ghost use Rattle.handler.specs.declared.Point.the-variants as Point;
+ghost use Rattle.irq_points.specs.Stands.{Stops};
+ghost use Rattle.way.specs.Under.{Stored};
 
 // A packet arrived (mod.rs 767-770).
 fn received(s: &mut [u8; STATE_LEN], ep: u8, len: u16)
@@ -101,31 +100,41 @@ fn flip_done(s: &mut [u8; STATE_LEN], d: Dir, len: u16)
     }
 }
 
-fn after_flipped(
+pub fn after_flipped(
     s: &mut [u8; STATE_LEN],
     buf: &mut [u8],
     d: Dir,
     setup: bool,
     x: Transfer,
     iso: bool,
-) -> Next
-    ensures { λ r. ⌜ ((v : ℕ) → meaning r (view (now (s .exit))) (now (buf .exit)) ≡ denote (Point.Flipped d setup x iso) v (view (now (s .entry)), now (buf .entry))) ⌝ }
-    ensures { λ _. ⌜ saved (now (s .exit)) ≡ saved (now (s .entry)) ⌝ }
-    ensures { λ r. ⌜ Linked r ⌝ }
+) -> Step
+    ensures { λ r. ⌜ ((v : ℕ) → Stops r (now (s .exit)) (now (buf .exit)) (denote (Point.Flipped d setup x iso) v (view (now (s .entry)), now (buf .entry)))) ⌝ }
+    ensures { λ r. ⌜ Stored r (now (s .exit)) ⌝ }
 {
     flip_done(s, d, x.len);
     after_dispatch(s, buf, setup, x, iso)
 }
 
-fn after_flip(d: Dir, setup: bool, x: Transfer, iso: bool, v: u32) -> Next
+pub fn after_flip(
+    s: &mut [u8; STATE_LEN],
+    d: Dir,
+    setup: bool,
+    x: Transfer,
+    iso: bool,
+    v: u32,
+) -> Step
     requires { ⌜ fitsIn v 8 ≡ true ⌝ }
-    ensures { λ r. ⌜ ((e : Driver) (b : List ℕ) → meaning r e b ≡ denote (Point.Flip d setup x iso) v (e, b)) ⌝ }
-    ensures { λ r. ⌜ Linked r ⌝ }
+    ensures { λ r. ⌜ ((b : List ℕ) → Stops r (now (s .exit)) b (denote (Point.Flip d setup x iso) v (view (now (s .entry)), b))) ⌝ }
+    ensures { λ r. ⌜ Stored r (now (s .exit)) ⌝ }
 {
     let word = control_word::flip(byte(v));
-    Next::Asks(
+    stand_flipped(
+        s,
         Access::Write(ctrl_of(d), 0, word as u32),
-        Point::Flipped(d, setup, x, iso),
+        d,
+        setup,
+        x,
+        iso,
     )
 }
 
@@ -138,14 +147,13 @@ fn then_toggled(
     x: Transfer,
     iso: bool,
     n: ToggledNext,
-) -> Next
+) -> Step
     requires { ⌜ toggles.Linked n ⌝ }
-    ensures { λ r. ⌜ meaning r (view (now (s .exit))) (now (buf .exit)) ≡ thenCheck setup x iso (bindOut (toggles.meaning d (endpoint (x .st)) n (view (now (s .entry))) (now (buf .entry))) (λ b u. run conc (afterToggled d x b) u)) ⌝ }
-    ensures { λ _. ⌜ saved (now (s .exit)) ≡ saved (now (s .entry)) ⌝ }
-    ensures { λ r. ⌜ Linked r ⌝ }
+    ensures { λ r. ⌜ Stops r (now (s .exit)) (now (buf .exit)) (thenCheck setup x iso (bindOut (toggles.meaning d (endpoint (x .st)) n (view (now (s .entry))) (now (buf .entry))) (λ b u. run conc (afterToggled d x b) u))) ⌝ }
+    ensures { λ r. ⌜ Stored r (now (s .exit)) ⌝ }
 {
     match n {
-        ToggledNext::Asks(q, p) => Next::Asks(q, Point::Toggled(d, setup, x, iso, p)),
+        ToggledNext::Asks(q, p) => stand_toggled(s, q, d, setup, x, iso, p),
         ToggledNext::Ends(b) => {
             if b {
                 passed(s, d, status::endpoint(x.st), x.len);
@@ -156,7 +164,7 @@ fn then_toggled(
     }
 }
 
-fn after_toggled(
+pub fn after_toggled(
     s: &mut [u8; STATE_LEN],
     buf: &mut [u8],
     d: Dir,
@@ -165,11 +173,10 @@ fn after_toggled(
     iso: bool,
     p: Toggled,
     v: u32,
-) -> Next
+) -> Step
     requires { ⌜ toggles.fitsAt p v ≡ true ⌝ }
-    ensures { λ r. ⌜ meaning r (view (now (s .exit))) (now (buf .exit)) ≡ denote (Point.Toggled d setup x iso p) v (view (now (s .entry)), now (buf .entry)) ⌝ }
-    ensures { λ _. ⌜ saved (now (s .exit)) ≡ saved (now (s .entry)) ⌝ }
-    ensures { λ r. ⌜ Linked r ⌝ }
+    ensures { λ r. ⌜ Stops r (now (s .exit)) (now (buf .exit)) (denote (Point.Toggled d setup x iso p) v (view (now (s .entry)), now (buf .entry))) ⌝ }
+    ensures { λ r. ⌜ Stored r (now (s .exit)) ⌝ }
 {
     let n = toggled::resume(s, d, status::endpoint(x.st), p, v);
     then_toggled(s, buf, d, setup, x, iso, n)
@@ -183,30 +190,25 @@ fn toggled_arm(
     setup: bool,
     x: Transfer,
     iso: bool,
-) -> Next
-    ensures { λ r. ⌜ meaning r (view (now (s .exit))) (now (buf .exit)) ≡ thenCheck setup x iso (bindOut (run conc (script.toggled {i = true} d (endpoint (x .st))) (view (now (s .entry)), now (buf .entry))) (λ b u. run conc (afterToggled d x b) u)) ⌝ }
-    ensures { λ _. ⌜ saved (now (s .exit)) ≡ saved (now (s .entry)) ⌝ }
-    ensures { λ r. ⌜ Linked r ⌝ }
+) -> Step
+    ensures { λ r. ⌜ Stops r (now (s .exit)) (now (buf .exit)) (thenCheck setup x iso (bindOut (run conc (script.toggled {i = true} d (endpoint (x .st))) (view (now (s .entry)), now (buf .entry))) (λ b u. run conc (afterToggled d x b) u))) ⌝ }
+    ensures { λ r. ⌜ Stored r (now (s .exit)) ⌝ }
 {
     let n = toggled::begin(d, status::endpoint(x.st));
     then_toggled(s, buf, d, setup, x, iso, n)
 }
 
 // The arms of OUT (mod.rs 755-771).
-fn out_arm(s: &mut [u8; STATE_LEN], buf: &mut [u8], setup: bool, x: Transfer, iso: bool) -> Next
-    ensures { λ r. ⌜ meaning r (view (now (s .exit))) (now (buf .exit)) ≡ thenCheck setup x iso (run conc (script.outArm {i = true} x iso) (view (now (s .entry)), now (buf .entry))) ⌝ }
-    ensures { λ _. ⌜ saved (now (s .exit)) ≡ saved (now (s .entry)) ⌝ }
-    ensures { λ r. ⌜ Linked r ⌝ }
+fn out_arm(s: &mut [u8; STATE_LEN], buf: &mut [u8], setup: bool, x: Transfer, iso: bool) -> Step
+    ensures { λ r. ⌜ Stops r (now (s .exit)) (now (buf .exit)) (thenCheck setup x iso (run conc (script.outArm {i = true} x iso) (view (now (s .entry)), now (buf .entry)))) ⌝ }
+    ensures { λ r. ⌜ Stored r (now (s .exit)) ⌝ }
 {
     if iso {
         return after_dispatch(s, buf, setup, x, iso);
     }
     if status::endpoint(x.st) == 0 {
         if status::tog_ok(x.st) {
-            return Next::Asks(
-                Access::Read(Reg::EpRxCtrl, 0),
-                Point::Flip(Dir::Out, setup, x, iso),
-            );
+            return stand_flip(s, Access::Read(Reg::EpRxCtrl, 0), Dir::Out, setup, x, iso);
         }
         return after_dispatch(s, buf, setup, x, iso);
     }
@@ -220,29 +222,27 @@ fn then_complete(
     x: Transfer,
     iso: bool,
     n: CompleteNext,
-) -> Next
+) -> Step
     requires { ⌜ completes.Linked n ⌝ }
-    ensures { λ r. ⌜ meaning r (view (now (s .exit))) (now (buf .exit)) ≡ thenCheck setup x iso (completes.meaning n (view (now (s .entry))) (now (buf .entry))) ⌝ }
-    ensures { λ _. ⌜ saved (now (s .exit)) ≡ saved (now (s .entry)) ⌝ }
-    ensures { λ r. ⌜ Linked r ⌝ }
+    ensures { λ r. ⌜ Stops r (now (s .exit)) (now (buf .exit)) (thenCheck setup x iso (completes.meaning n (view (now (s .entry))) (now (buf .entry)))) ⌝ }
+    ensures { λ r. ⌜ Stored r (now (s .exit)) ⌝ }
 {
     match n {
-        CompleteNext::Asks(q, p) => Next::Asks(q, Point::Completing(setup, x, iso, p)),
+        CompleteNext::Asks(q, p) => stand_completing(s, q, setup, x, iso, p),
         CompleteNext::Ends => after_dispatch(s, buf, setup, x, iso),
     }
 }
 
-fn after_completing(
+pub fn after_completing(
     s: &mut [u8; STATE_LEN],
     buf: &mut [u8],
     setup: bool,
     x: Transfer,
     iso: bool,
     p: Complete,
-) -> Next
-    ensures { λ r. ⌜ ((v : ℕ) → meaning r (view (now (s .exit))) (now (buf .exit)) ≡ denote (Point.Completing setup x iso p) v (view (now (s .entry)), now (buf .entry))) ⌝ }
-    ensures { λ _. ⌜ saved (now (s .exit)) ≡ saved (now (s .entry)) ⌝ }
-    ensures { λ r. ⌜ Linked r ⌝ }
+) -> Step
+    ensures { λ r. ⌜ ((v : ℕ) → Stops r (now (s .exit)) (now (buf .exit)) (denote (Point.Completing setup x iso p) v (view (now (s .entry)), now (buf .entry)))) ⌝ }
+    ensures { λ r. ⌜ Stored r (now (s .exit)) ⌝ }
 {
     let n = complete::resume(s, p);
     then_complete(s, buf, setup, x, iso, n)
@@ -256,10 +256,9 @@ fn iso_in_arm(
     x: Transfer,
     iso: bool,
     frame: u16,
-) -> Next
-    ensures { λ r. ⌜ meaning r (view (now (s .exit))) (now (buf .exit)) ≡ thenCheck setup x iso (run conc (script.isoInArm {i = true} (endpoint (x .st)) frame) (view (now (s .entry)), now (buf .entry))) ⌝ }
-    ensures { λ _. ⌜ saved (now (s .exit)) ≡ saved (now (s .entry)) ⌝ }
-    ensures { λ r. ⌜ Linked r ⌝ }
+) -> Step
+    ensures { λ r. ⌜ Stops r (now (s .exit)) (now (buf .exit)) (thenCheck setup x iso (run conc (script.isoInArm {i = true} (endpoint (x .st)) frame) (view (now (s .entry)), now (buf .entry)))) ⌝ }
+    ensures { λ r. ⌜ Stored r (now (s .exit)) ⌝ }
 {
     let ep = status::endpoint(x.st);
     let g = load_globals(s);
@@ -281,19 +280,15 @@ fn in_arm(
     x: Transfer,
     iso: bool,
     frame: u16,
-) -> Next
-    ensures { λ r. ⌜ meaning r (view (now (s .exit))) (now (buf .exit)) ≡ thenCheck setup x iso (run conc (script.inArm {i = true} x iso frame) (view (now (s .entry)), now (buf .entry))) ⌝ }
-    ensures { λ _. ⌜ saved (now (s .exit)) ≡ saved (now (s .entry)) ⌝ }
-    ensures { λ r. ⌜ Linked r ⌝ }
+) -> Step
+    ensures { λ r. ⌜ Stops r (now (s .exit)) (now (buf .exit)) (thenCheck setup x iso (run conc (script.inArm {i = true} x iso frame) (view (now (s .entry)), now (buf .entry)))) ⌝ }
+    ensures { λ r. ⌜ Stored r (now (s .exit)) ⌝ }
 {
     if iso {
         return iso_in_arm(s, buf, setup, x, iso, frame);
     }
     if status::endpoint(x.st) == 0 {
-        return Next::Asks(
-            Access::Read(Reg::EpTxCtrl, 0),
-            Point::Flip(Dir::In, setup, x, iso),
-        );
+        return stand_flip(s, Access::Read(Reg::EpTxCtrl, 0), Dir::In, setup, x, iso);
     }
     toggled_arm(s, buf, Dir::In, setup, x, iso)
 }
@@ -306,19 +301,18 @@ fn then_sof_arm(
     iso: bool,
     frame: u16,
     n: SofNext,
-) -> Next
+) -> Step
     requires { ⌜ sofs.Linked n ⌝ }
-    ensures { λ r. ⌜ meaning r (view (now (s .exit))) (now (buf .exit)) ≡ thenCheck setup x iso (sofs.meaning frame n (view (now (s .entry))) (now (buf .entry))) ⌝ }
-    ensures { λ _. ⌜ saved (now (s .exit)) ≡ saved (now (s .entry)) ⌝ }
-    ensures { λ r. ⌜ Linked r ⌝ }
+    ensures { λ r. ⌜ Stops r (now (s .exit)) (now (buf .exit)) (thenCheck setup x iso (sofs.meaning frame n (view (now (s .entry))) (now (buf .entry)))) ⌝ }
+    ensures { λ r. ⌜ Stored r (now (s .exit)) ⌝ }
 {
     match n {
-        SofNext::Asks(q, p) => Next::Asks(q, Point::SofArm(setup, x, iso, frame, p)),
+        SofNext::Asks(q, p) => stand_sof_arm(s, q, setup, x, iso, frame, p),
         SofNext::Ends => after_dispatch(s, buf, setup, x, iso),
     }
 }
 
-fn after_sof_arm(
+pub fn after_sof_arm(
     s: &mut [u8; STATE_LEN],
     buf: &mut [u8],
     setup: bool,
@@ -327,11 +321,10 @@ fn after_sof_arm(
     frame: u16,
     p: Sof,
     v: u32,
-) -> Next
+) -> Step
     requires { ⌜ sofs.fitsAt p v ≡ true ⌝ }
-    ensures { λ r. ⌜ meaning r (view (now (s .exit))) (now (buf .exit)) ≡ denote (Point.SofArm setup x iso frame p) v (view (now (s .entry)), now (buf .entry)) ⌝ }
-    ensures { λ _. ⌜ saved (now (s .exit)) ≡ saved (now (s .entry)) ⌝ }
-    ensures { λ r. ⌜ Linked r ⌝ }
+    ensures { λ r. ⌜ Stops r (now (s .exit)) (now (buf .exit)) (denote (Point.SofArm setup x iso frame p) v (view (now (s .entry)), now (buf .entry))) ⌝ }
+    ensures { λ r. ⌜ Stored r (now (s .exit)) ⌝ }
 {
     let n = sof::resume(s, frame, p, v);
     then_sof_arm(s, buf, setup, x, iso, frame, n)
@@ -345,10 +338,9 @@ fn sof_arm(
     x: Transfer,
     iso: bool,
     frame: u16,
-) -> Next
-    ensures { λ r. ⌜ meaning r (view (now (s .exit))) (now (buf .exit)) ≡ thenCheck setup x iso (run conc (script.sofArm {i = true} frame) (view (now (s .entry)), now (buf .entry))) ⌝ }
-    ensures { λ _. ⌜ saved (now (s .exit)) ≡ saved (now (s .entry)) ⌝ }
-    ensures { λ r. ⌜ Linked r ⌝ }
+) -> Step
+    ensures { λ r. ⌜ Stops r (now (s .exit)) (now (buf .exit)) (thenCheck setup x iso (run conc (script.sofArm {i = true} frame) (view (now (s .entry)), now (buf .entry)))) ⌝ }
+    ensures { λ r. ⌜ Stored r (now (s .exit)) ⌝ }
 {
     let g = load_globals(s);
     if g.sof_frame == frame {
@@ -365,10 +357,9 @@ pub fn dispatch(
     x: Transfer,
     iso: bool,
     frame: u16,
-) -> Next
-    ensures { λ r. ⌜ meaning r (view (now (s .exit))) (now (buf .exit)) ≡ thenCheck setup x iso (run conc (script.dispatch {i = true} (token (x .st)) x iso frame) (view (now (s .entry)), now (buf .entry))) ⌝ }
-    ensures { λ _. ⌜ saved (now (s .exit)) ≡ saved (now (s .entry)) ⌝ }
-    ensures { λ r. ⌜ Linked r ⌝ }
+) -> Step
+    ensures { λ r. ⌜ Stops r (now (s .exit)) (now (buf .exit)) (thenCheck setup x iso (run conc (script.dispatch {i = true} (token (x .st)) x iso frame) (view (now (s .entry)), now (buf .entry)))) ⌝ }
+    ensures { λ r. ⌜ Stored r (now (s .exit)) ⌝ }
 {
     let t = status::token(x.st);
     match t {
@@ -376,29 +367,5 @@ pub fn dispatch(
         Token::Out => out_arm(s, buf, setup, x, iso),
         Token::In => in_arm(s, buf, setup, x, iso, frame),
         Token::Setup => after_dispatch(s, buf, setup, x, iso),
-    }
-}
-
-// The next access of the interrupt that stands at `p`, in an arm or later, now that `v` was brought.
-pub fn resume(s: &mut [u8; STATE_LEN], buf: &mut [u8], p: Point, v: u32) -> Next
-    requires { ⌜ fitsAt p v ≡ true ⌝ }
-    requires { ⌜ inArm p ≡ true ⌝ }
-    ensures { λ r. ⌜ meaning r (view (now (s .exit))) (now (buf .exit)) ≡ denote p v (view (now (s .entry)), now (buf .entry)) ⌝ }
-    ensures { λ _. ⌜ saved (now (s .exit)) ≡ saved (now (s .entry)) ⌝ }
-    ensures { λ r. ⌜ Linked r ⌝ }
-{
-    match p {
-        Point::SofArm(setup, x, iso, frame, q) => after_sof_arm(s, buf, setup, x, iso, frame, q, v),
-        Point::Flip(d, setup, x, iso) => after_flip(d, setup, x, iso, v),
-        Point::Flipped(d, setup, x, iso) => after_flipped(s, buf, d, setup, x, iso),
-        Point::Toggled(d, setup, x, iso, q) => after_toggled(s, buf, d, setup, x, iso, q, v),
-        Point::Completing(setup, x, iso, q) => after_completing(s, buf, setup, x, iso, q),
-        Point::Check(setup, x, iso, q) => after_checking(s, buf, setup, x, iso, q, v),
-        Point::MovedRead(d, setup) => after_moved_read(d, setup, v),
-        Point::MovedWrote(d, setup) => after_moved_wrote(s, d, setup),
-        Point::SetupRx => after_setup_rx(),
-        Point::SetupTx => after_setup_tx(s, buf),
-        Point::SetupReleased => after_setup_released(s),
-        _ => Next::Ends(0), // no point of an arm
     }
 }

@@ -1,6 +1,8 @@
 // A new control transfer (mod.rs 803-818).
-use handler::Next;
-use handler::Point;
+use irq_points::stands::stand_setup_released;
+use irq_points::stands::stand_setup_rx;
+use irq_points::stands::stand_setup_tx;
+use irq_points::stands::stop;
 use ops::records::wake;
 use ops::rings::setup_word;
 use regs::Access;
@@ -13,12 +15,13 @@ use state::load_ep;
 use state::load_globals;
 use state::store_ep;
 use state::store_globals;
+use way::Step;
 ghost use mathlib.Core.Path.{_≡_};
-ghost use mathlib.Core.Bool.{true, false};
+ghost use mathlib.Core.Bool.{false};
 ghost use mathlib.Core.List.{List};
 ghost use Prim.Native.Nat.{ℕ};
 ghost use Rattle.regs.specs.Flags.{SETUP_ACT};
-ghost use Rattle.state.specs.Driver.{Driver, epOn, withOn, withGlobals};
+ghost use Rattle.state.specs.Driver.{epOn, withOn, withGlobals};
 ghost use Rattle.state.specs.State.{view, saved};
 ghost use Rattle.script.specs.Tree.{asks};
 ghost use Rattle.script.specs.Script.{run};
@@ -26,7 +29,10 @@ ghost use Rattle.script.specs.Statics.{withReady, withArmed, withSetup};
 ghost use Rattle.ops.specs.Conc.{conc, go};
 ghost use Rattle.ops.specs.Records.{plainOf, merged, mergedGlobals};
 ghost use Rattle.handler.specs.Tails.{resultless, nakWord, afterSetupReleased, afterSetupTx, afterTransfer};
-ghost use Rattle.handler.specs.Points.{denote, meaning, Linked};
+ghost use Rattle.handler.specs.Points.{denote};
+ghost use Rattle.handler.specs.declared.Point.the-variants as Point;
+ghost use Rattle.irq_points.specs.Stands.{Stops};
+ghost use Rattle.way.specs.Under.{Stored};
 
 // NAK, DATA0.
 fn nak_word() -> u32
@@ -36,21 +42,21 @@ fn nak_word() -> u32
 }
 
 // Whatever EP0 was doing is over.
-pub fn after_transfer(setup: bool) -> Next
-    ensures { λ r. ⌜ ((d : Driver) (b : List ℕ) → meaning r d b ≡ go (resultless (afterTransfer setup)) d b) ⌝ }
-    ensures { λ r. ⌜ Linked r ⌝ }
+pub fn after_transfer(s: &mut [u8; STATE_LEN], setup: bool) -> Step
+    ensures { λ r. ⌜ ((b : List ℕ) → Stops r (now (s .exit)) b (go (resultless (afterTransfer setup)) (view (now (s .entry))) b)) ⌝ }
+    ensures { λ r. ⌜ Stored r (now (s .exit)) ⌝ }
 {
     if setup {
-        return Next::Asks(Access::Write(Reg::EpRxCtrl, 0, nak_word()), Point::SetupRx);
+        return stand_setup_rx(s, Access::Write(Reg::EpRxCtrl, 0, nak_word()));
     }
-    Next::Ends(0)
+    stop(s)
 }
 
-pub fn after_setup_rx() -> Next
-    ensures { λ r. ⌜ ((v : ℕ) (d : Driver) (b : List ℕ) → meaning r d b ≡ denote Point.SetupRx v (d, b)) ⌝ }
-    ensures { λ r. ⌜ Linked r ⌝ }
+pub fn after_setup_rx(s: &mut [u8; STATE_LEN]) -> Step
+    ensures { λ r. ⌜ ((v : ℕ) (b : List ℕ) → Stops r (now (s .exit)) b (denote Point.SetupRx v (view (now (s .entry)), b))) ⌝ }
+    ensures { λ r. ⌜ Stored r (now (s .exit)) ⌝ }
 {
-    Next::Asks(Access::Write(Reg::EpTxCtrl, 0, nak_word()), Point::SetupTx)
+    stand_setup_tx(s, Access::Write(Reg::EpTxCtrl, 0, nak_word()))
 }
 
 // EP0 in a direction: not ready, not armed.
@@ -88,24 +94,19 @@ fn take(s: &mut [u8; STATE_LEN], buf: &[u8])
 }
 
 // The packet is taken in the call that clears the flag.
-pub fn after_setup_tx(s: &mut [u8; STATE_LEN], buf: &[u8]) -> Next
-    ensures { λ r. ⌜ ((v : ℕ) → meaning r (view (now (s .exit))) (now (buf .entry)) ≡ denote Point.SetupTx v (view (now (s .entry)), now (buf .entry))) ⌝ }
-    ensures { λ _. ⌜ saved (now (s .exit)) ≡ saved (now (s .entry)) ⌝ }
-    ensures { λ r. ⌜ Linked r ⌝ }
+pub fn after_setup_tx(s: &mut [u8; STATE_LEN], buf: &[u8]) -> Step
+    ensures { λ r. ⌜ ((v : ℕ) → Stops r (now (s .exit)) (now (buf .entry)) (denote Point.SetupTx v (view (now (s .entry)), now (buf .entry)))) ⌝ }
+    ensures { λ r. ⌜ Stored r (now (s .exit)) ⌝ }
 {
     take(s, buf);
-    Next::Asks(
-        Access::Write(Reg::IntFg, 0, flags::SETUP_ACT),
-        Point::SetupReleased,
-    )
+    stand_setup_released(s, Access::Write(Reg::IntFg, 0, flags::SETUP_ACT))
 }
 
-pub fn after_setup_released(s: &mut [u8; STATE_LEN]) -> Next
-    ensures { λ r. ⌜ ((v : ℕ) (b : List ℕ) → meaning r (view (now (s .exit))) b ≡ denote Point.SetupReleased v (view (now (s .entry)), b)) ⌝ }
-    ensures { λ _. ⌜ saved (now (s .exit)) ≡ saved (now (s .entry)) ⌝ }
-    ensures { λ r. ⌜ Linked r ⌝ }
+pub fn after_setup_released(s: &mut [u8; STATE_LEN]) -> Step
+    ensures { λ r. ⌜ ((v : ℕ) (b : List ℕ) → Stops r (now (s .exit)) b (denote Point.SetupReleased v (view (now (s .entry)), b))) ⌝ }
+    ensures { λ r. ⌜ Stored r (now (s .exit)) ⌝ }
 {
     wake(s, Dir::Out, 0);
     wake(s, Dir::In, 0);
-    Next::Ends(0)
+    stop(s)
 }

@@ -1,6 +1,10 @@
 // The transfer is entered, released, settled (mod.rs 656-722). Every function is total: any number is safe.
-use handler::Next;
-use handler::Point;
+use irq_points::stands::stand_frame_no;
+use irq_points::stands::stand_len;
+use irq_points::stands::stand_nak;
+use irq_points::stands::stand_released;
+use irq_points::stands::stand_settle;
+use irq_points::stands::stand_st;
 use ops::rings::is_on;
 use regs::Access;
 use regs::Dir;
@@ -21,6 +25,7 @@ use transfer::settle::Settle;
 use transfer::settle::SettleNext;
 use transfer::wait::byte;
 use transfer::wait::short;
+use way::Step;
 
 pub mod flags; // flags.rt: the microframe, the flags but the setup's
 
@@ -30,8 +35,7 @@ ghost use mathlib.Core.List.{List};
 ghost use Prim.Native.Nat.{ℕ};
 ghost use Rattle.regs.specs.Registers.{fitsIn};
 ghost use Rattle.regs.specs.Status.{token};
-ghost use Rattle.state.specs.Driver.{Driver};
-ghost use Rattle.state.specs.State.{view, saved};
+ghost use Rattle.state.specs.State.{view};
 ghost use Rattle.script.specs.Tree.{bindOut};
 ghost use Rattle.script.specs.Script.{run};
 ghost use Rattle.script.specs.Handler as script;
@@ -40,7 +44,10 @@ ghost use Rattle.transfer.specs.Settle as settles;
 ghost use Rattle.ops.specs.Conc.{conc};
 ghost use Rattle.ops.specs.Records.{plainOf};
 ghost use Rattle.handler.specs.Tails.{finish, naksFirst, enteredAs, afterNak, afterRelease, afterSettle};
-ghost use Rattle.handler.specs.Points.{denote, meaning, Linked};
+ghost use Rattle.handler.specs.Points.{denote};
+ghost use Rattle.handler.specs.declared.Point.the-variants as Point;
+ghost use Rattle.irq_points.specs.Stands.{Stops};
+ghost use Rattle.way.specs.Under.{Stored};
 
 // `iso` (mod.rs 718-722).
 fn iso_for(st: u8, o: EpState, n: EpState) -> bool
@@ -55,74 +62,71 @@ fn iso_for(st: u8, o: EpState, n: EpState) -> bool
     }
 }
 
-fn after_settle(s: &[u8; STATE_LEN], setup: bool, x: Transfer) -> Next
-    ensures { λ r. ⌜ ((b : List ℕ) → meaning r (view (now (s .entry))) b ≡ finish setup (run conc (afterSettle x) (view (now (s .entry)), b))) ⌝ }
-    ensures { λ r. ⌜ Linked r ⌝ }
+fn after_settle(s: &mut [u8; STATE_LEN], setup: bool, x: Transfer) -> Step
+    ensures { λ r. ⌜ ((b : List ℕ) → Stops r (now (s .exit)) b (finish setup (run conc (afterSettle x) (view (now (s .entry)), b)))) ⌝ }
+    ensures { λ r. ⌜ Stored r (now (s .exit)) ⌝ }
 {
     let ep = status::endpoint(x.st);
     let o = load_ep(s, Dir::Out, ep);
     let n = load_ep(s, Dir::In, ep);
     let iso = iso_for(x.st, o, n);
-    Next::Asks(Access::Read(Reg::FrameNo, 0), Point::FrameNo(setup, x, iso))
+    stand_frame_no(s, Access::Read(Reg::FrameNo, 0), setup, x, iso)
 }
 
-fn then_settle(s: &[u8; STATE_LEN], setup: bool, x: Transfer, n: SettleNext) -> Next
+fn then_settle(s: &mut [u8; STATE_LEN], setup: bool, x: Transfer, n: SettleNext) -> Step
     requires { ⌜ settles.Linked n ⌝ }
-    ensures { λ r. ⌜ ((b : List ℕ) → meaning r (view (now (s .entry))) b ≡ finish setup (bindOut (settles.meaning x n (view (now (s .entry))) b) (λ y u. run conc (afterSettle y) u))) ⌝ }
-    ensures { λ r. ⌜ Linked r ⌝ }
+    ensures { λ r. ⌜ ((b : List ℕ) → Stops r (now (s .exit)) b (finish setup (bindOut (settles.meaning x n (view (now (s .entry))) b) (λ y u. run conc (afterSettle y) u)))) ⌝ }
+    ensures { λ r. ⌜ Stored r (now (s .exit)) ⌝ }
 {
     match n {
-        SettleNext::Asks(q, p) => Next::Asks(q, Point::Settle(setup, x, p)),
+        SettleNext::Asks(q, p) => stand_settle(s, q, setup, x, p),
         SettleNext::Ends(y) => after_settle(s, setup, y),
     }
 }
 
-pub fn after_settling(s: &[u8; STATE_LEN], setup: bool, x: Transfer, p: Settle, v: u32) -> Next
+pub fn after_settling(s: &mut [u8; STATE_LEN], setup: bool, x: Transfer, p: Settle, v: u32) -> Step
     requires { ⌜ settles.fitsAt p v ≡ true ⌝ }
-    ensures { λ r. ⌜ ((b : List ℕ) → meaning r (view (now (s .entry))) b ≡ denote (Point.Settle setup x p) v (view (now (s .entry)), b)) ⌝ }
-    ensures { λ r. ⌜ Linked r ⌝ }
+    ensures { λ r. ⌜ ((b : List ℕ) → Stops r (now (s .exit)) b (denote (Point.Settle setup x p) v (view (now (s .entry)), b))) ⌝ }
+    ensures { λ r. ⌜ Stored r (now (s .exit)) ⌝ }
 {
     let n = settle::resume(s, x, p, v);
     then_settle(s, setup, x, n)
 }
 
-pub fn after_released(s: &[u8; STATE_LEN], setup: bool, x: Transfer) -> Next
-    ensures { λ r. ⌜ ((b : List ℕ) → meaning r (view (now (s .entry))) b ≡ finish setup (run conc (afterRelease x) (view (now (s .entry)), b))) ⌝ }
-    ensures { λ r. ⌜ Linked r ⌝ }
+pub fn after_released(s: &mut [u8; STATE_LEN], setup: bool, x: Transfer) -> Step
+    ensures { λ r. ⌜ ((b : List ℕ) → Stops r (now (s .exit)) b (finish setup (run conc (afterRelease x) (view (now (s .entry)), b)))) ⌝ }
+    ensures { λ r. ⌜ Stored r (now (s .exit)) ⌝ }
 {
     let n = settle::begin(s, x);
     then_settle(s, setup, x, n)
 }
 
 // Released early: int_st and rx_len are read (mod.rs 666-667).
-fn release(setup: bool, x: Transfer) -> Next
-    ensures { λ r. ⌜ ((d : Driver) (b : List ℕ) → meaning r d b ≡ finish setup (run conc (afterNak x) (d, b))) ⌝ }
-    ensures { λ r. ⌜ Linked r ⌝ }
+fn release(s: &mut [u8; STATE_LEN], setup: bool, x: Transfer) -> Step
+    ensures { λ r. ⌜ ((b : List ℕ) → Stops r (now (s .exit)) b (finish setup (run conc (afterNak x) (view (now (s .entry)), b)))) ⌝ }
+    ensures { λ r. ⌜ Stored r (now (s .exit)) ⌝ }
 {
-    Next::Asks(
-        Access::Write(Reg::IntFg, 0, TRANSFER),
-        Point::Released(setup, x),
-    )
+    stand_released(s, Access::Write(Reg::IntFg, 0, TRANSFER), setup, x)
 }
 
-fn then_nak(setup: bool, x: Transfer, n: NakNext) -> Next
+fn then_nak(s: &mut [u8; STATE_LEN], setup: bool, x: Transfer, n: NakNext) -> Step
     requires { ⌜ naks.Linked n ⌝ }
-    ensures { λ r. ⌜ ((d : Driver) (b : List ℕ) → meaning r d b ≡ finish setup (bindOut (naks.meaning (x .st) n d b) (λ _ u. run conc (afterNak x) u))) ⌝ }
-    ensures { λ r. ⌜ Linked r ⌝ }
+    ensures { λ r. ⌜ ((b : List ℕ) → Stops r (now (s .exit)) b (finish setup (bindOut (naks.meaning (x .st) n (view (now (s .entry))) b) (λ _ u. run conc (afterNak x) u)))) ⌝ }
+    ensures { λ r. ⌜ Stored r (now (s .exit)) ⌝ }
 {
     match n {
-        NakNext::Asks(q, p) => Next::Asks(q, Point::Nak(setup, x, p)),
-        NakNext::Ends => release(setup, x),
+        NakNext::Asks(q, p) => stand_nak(s, q, setup, x, p),
+        NakNext::Ends => release(s, setup, x),
     }
 }
 
-pub fn after_naking(setup: bool, x: Transfer, p: Nak, v: u32) -> Next
+pub fn after_naking(s: &mut [u8; STATE_LEN], setup: bool, x: Transfer, p: Nak, v: u32) -> Step
     requires { ⌜ naks.fitsAt p v ≡ true ⌝ }
-    ensures { λ r. ⌜ ((d : Driver) (b : List ℕ) → meaning r d b ≡ denote (Point.Nak setup x p) v (d, b)) ⌝ }
-    ensures { λ r. ⌜ Linked r ⌝ }
+    ensures { λ r. ⌜ ((b : List ℕ) → Stops r (now (s .exit)) b (denote (Point.Nak setup x p) v (view (now (s .entry)), b))) ⌝ }
+    ensures { λ r. ⌜ Stored r (now (s .exit)) ⌝ }
 {
     let n = nak::resume(x.st, p, v);
-    then_nak(setup, x, n)
+    then_nak(s, setup, x, n)
 }
 
 // Is it NAKed before the release (mod.rs 663)?
@@ -150,35 +154,32 @@ fn entered(busy: bool, st: u8, len: u16) -> Transfer
     }
 }
 
-pub fn after_len(s: &[u8; STATE_LEN], setup: bool, busy: bool, st: u8, v: u32) -> Next
+pub fn after_len(s: &mut [u8; STATE_LEN], setup: bool, busy: bool, st: u8, v: u32) -> Step
     requires { ⌜ fitsIn v 16 ≡ true ⌝ }
-    ensures { λ r. ⌜ ((b : List ℕ) → meaning r (view (now (s .entry))) b ≡ denote (Point.Len setup busy st) v (view (now (s .entry)), b)) ⌝ }
-    ensures { λ r. ⌜ Linked r ⌝ }
+    ensures { λ r. ⌜ ((b : List ℕ) → Stops r (now (s .exit)) b (denote (Point.Len setup busy st) v (view (now (s .entry)), b))) ⌝ }
+    ensures { λ r. ⌜ Stored r (now (s .exit)) ⌝ }
 {
     let x = entered(busy, st, short(v));
     if naks_first(busy, st) {
         let n = nak::begin(s, st);
-        return then_nak(setup, x, n);
+        return then_nak(s, setup, x, n);
     }
-    release(setup, x)
+    release(s, setup, x)
 }
 
-pub fn after_st(setup: bool, busy: bool, v: u32) -> Next
+pub fn after_st(s: &mut [u8; STATE_LEN], setup: bool, busy: bool, v: u32) -> Step
     requires { ⌜ fitsIn v 8 ≡ true ⌝ }
-    ensures { λ r. ⌜ ((d : Driver) (b : List ℕ) → meaning r d b ≡ denote (Point.St setup busy) v (d, b)) ⌝ }
-    ensures { λ r. ⌜ Linked r ⌝ }
+    ensures { λ r. ⌜ ((b : List ℕ) → Stops r (now (s .exit)) b (denote (Point.St setup busy) v (view (now (s .entry)), b))) ⌝ }
+    ensures { λ r. ⌜ Stored r (now (s .exit)) ⌝ }
 {
-    Next::Asks(
-        Access::Read(Reg::RxLen, 0),
-        Point::Len(setup, busy, byte(v)),
-    )
+    stand_len(s, Access::Read(Reg::RxLen, 0), setup, busy, byte(v))
 }
 
-pub fn after_mis(setup: bool, v: u32) -> Next
+pub fn after_mis(s: &mut [u8; STATE_LEN], setup: bool, v: u32) -> Step
     requires { ⌜ fitsIn v 8 ≡ true ⌝ }
-    ensures { λ r. ⌜ ((d : Driver) (b : List ℕ) → meaning r d b ≡ denote (Point.Mis setup) v (d, b)) ⌝ }
-    ensures { λ r. ⌜ Linked r ⌝ }
+    ensures { λ r. ⌜ ((b : List ℕ) → Stops r (now (s .exit)) b (denote (Point.Mis setup) v (view (now (s .entry)), b))) ⌝ }
+    ensures { λ r. ⌜ Stored r (now (s .exit)) ⌝ }
 {
     let busy = !mis_status::sie_free(byte(v));
-    Next::Asks(Access::Read(Reg::IntSt, 0), Point::St(setup, busy))
+    stand_st(s, Access::Read(Reg::IntSt, 0), setup, busy)
 }

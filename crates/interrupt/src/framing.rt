@@ -1,18 +1,20 @@
 // The frame is read, and what was on the bus is its own (mod.rs 724-728).
 use crate::serving::serve;
-use handler::Next;
-use handler::Point;
 use regs::status;
 use script::Transfer;
 use state::STATE_LEN;
 use state::load_globals;
 use transfer::wait::short;
+use way::Step;
 ghost use mathlib.Core.Path.{_≡_};
 ghost use mathlib.Core.Bool.{true};
 ghost use Rattle.regs.specs.Registers.{fitsIn};
-ghost use Rattle.state.specs.State.{view, saved};
+ghost use Rattle.state.specs.State.{view};
 ghost use Rattle.script.specs.Handler as script;
-ghost use Rattle.handler.specs.Points.{denote, meaning, Linked};
+ghost use Rattle.handler.specs.Points.{denote};
+ghost use Rattle.handler.specs.declared.Point.the-variants as Point;
+ghost use Rattle.irq_points.specs.Stands.{Stops};
+ghost use Rattle.way.specs.Under.{Stored};
 
 // With this microframe's SOF handled, an isochronous IN's entry is its own (mod.rs 724-728).
 fn own_in(x: Transfer, iso: bool, sof: u16, frame: u16) -> bool
@@ -52,11 +54,10 @@ pub fn after_frame_no(
     x: Transfer,
     iso: bool,
     v: u32,
-) -> Next
+) -> Step
     requires { ⌜ fitsIn v 16 ≡ true ⌝ }
-    ensures { λ r. ⌜ meaning r (view (now (s .exit))) (now (buf .exit)) ≡ denote (Point.FrameNo setup x iso) v (view (now (s .entry)), now (buf .entry)) ⌝ }
-    ensures { λ _. ⌜ saved (now (s .exit)) ≡ saved (now (s .entry)) ⌝ }
-    ensures { λ r. ⌜ Linked r ⌝ }
+    ensures { λ r. ⌜ Stops r (now (s .exit)) (now (buf .exit)) (denote (Point.FrameNo setup x iso) v (view (now (s .entry)), now (buf .entry))) ⌝ }
+    ensures { λ r. ⌜ Stored r (now (s .exit)) ⌝ }
 {
     let frame = short(v);
     let g = load_globals(s);

@@ -1,8 +1,8 @@
 // The microframe's SOF, then a late entry's completions (mod.rs 729-747).
 use arms::dispatch;
 use checking::after_dispatch;
-use handler::Next;
-use handler::Point;
+use irq_points::stands::stand_late;
+use irq_points::stands::stand_sof;
 use iso_in::late;
 use iso_in::late::Late;
 use iso_in::late::LateNext;
@@ -13,19 +13,21 @@ use regs::status;
 use script::Transfer;
 use state::STATE_LEN;
 use state::load_globals;
+use way::Step;
 ghost use mathlib.Core.Path.{_≡_};
 ghost use mathlib.Core.Bool.{true, false};
-ghost use mathlib.Core.List.{List};
 ghost use Prim.Native.Nat.{ℕ};
-ghost use Rattle.state.specs.Driver.{Driver};
-ghost use Rattle.state.specs.State.{view, saved};
+ghost use Rattle.state.specs.State.{view};
 ghost use Rattle.script.specs.Tree.{bindOut};
 ghost use Rattle.script.specs.Script.{run};
 ghost use Rattle.iso_in.specs.Sof as sofs;
 ghost use Rattle.iso_in.specs.Late as lates;
 ghost use Rattle.ops.specs.Conc.{conc};
 ghost use Rattle.handler.specs.Tails.{finish, sofDue, afterLate, afterSof, serving};
-ghost use Rattle.handler.specs.Points.{denote, meaning, Linked};
+ghost use Rattle.handler.specs.Points.{denote};
+ghost use Rattle.handler.specs.declared.Point.the-variants as Point;
+ghost use Rattle.irq_points.specs.Stands.{Stops};
+ghost use Rattle.way.specs.Under.{Stored};
 
 // A transaction that is still on the bus is left to its own entry (mod.rs 748).
 fn after_late(
@@ -35,10 +37,9 @@ fn after_late(
     x: Transfer,
     iso: bool,
     frame: u16,
-) -> Next
-    ensures { λ r. ⌜ meaning r (view (now (s .exit))) (now (buf .exit)) ≡ finish setup (run conc (afterLate x iso frame) (view (now (s .entry)), now (buf .entry))) ⌝ }
-    ensures { λ _. ⌜ saved (now (s .exit)) ≡ saved (now (s .entry)) ⌝ }
-    ensures { λ r. ⌜ Linked r ⌝ }
+) -> Step
+    ensures { λ r. ⌜ Stops r (now (s .exit)) (now (buf .exit)) (finish setup (run conc (afterLate x iso frame) (view (now (s .entry)), now (buf .entry)))) ⌝ }
+    ensures { λ r. ⌜ Stored r (now (s .exit)) ⌝ }
 {
     if x.busy {
         return after_dispatch(s, buf, setup, x, iso);
@@ -54,14 +55,13 @@ fn then_late(
     iso: bool,
     frame: u16,
     n: LateNext,
-) -> Next
+) -> Step
     requires { ⌜ lates.Linked n ⌝ }
-    ensures { λ r. ⌜ meaning r (view (now (s .exit))) (now (buf .exit)) ≡ finish setup (bindOut (lates.meaning frame n (view (now (s .entry))) (now (buf .entry))) (λ _ u. run conc (afterLate x iso frame) u)) ⌝ }
-    ensures { λ _. ⌜ saved (now (s .exit)) ≡ saved (now (s .entry)) ⌝ }
-    ensures { λ r. ⌜ Linked r ⌝ }
+    ensures { λ r. ⌜ Stops r (now (s .exit)) (now (buf .exit)) (finish setup (bindOut (lates.meaning frame n (view (now (s .entry))) (now (buf .entry))) (λ _ u. run conc (afterLate x iso frame) u))) ⌝ }
+    ensures { λ r. ⌜ Stored r (now (s .exit)) ⌝ }
 {
     match n {
-        LateNext::Asks(q, p) => Next::Asks(q, Point::Late(setup, x, iso, frame, p)),
+        LateNext::Asks(q, p) => stand_late(s, q, setup, x, iso, frame, p),
         LateNext::Ends => after_late(s, buf, setup, x, iso, frame),
     }
 }
@@ -74,10 +74,9 @@ pub fn after_completions(
     iso: bool,
     frame: u16,
     p: Late,
-) -> Next
-    ensures { λ r. ⌜ ((v : ℕ) → meaning r (view (now (s .exit))) (now (buf .exit)) ≡ denote (Point.Late setup x iso frame p) v (view (now (s .entry)), now (buf .entry))) ⌝ }
-    ensures { λ _. ⌜ saved (now (s .exit)) ≡ saved (now (s .entry)) ⌝ }
-    ensures { λ r. ⌜ Linked r ⌝ }
+) -> Step
+    ensures { λ r. ⌜ ((v : ℕ) → Stops r (now (s .exit)) (now (buf .exit)) (denote (Point.Late setup x iso frame p) v (view (now (s .entry)), now (buf .entry)))) ⌝ }
+    ensures { λ r. ⌜ Stored r (now (s .exit)) ⌝ }
 {
     let n = late::resume(s, frame, p);
     then_late(s, buf, setup, x, iso, frame, n)
@@ -91,10 +90,9 @@ fn after_sof(
     x: Transfer,
     iso: bool,
     frame: u16,
-) -> Next
-    ensures { λ r. ⌜ meaning r (view (now (s .exit))) (now (buf .exit)) ≡ finish setup (run conc (afterSof x iso frame) (view (now (s .entry)), now (buf .entry))) ⌝ }
-    ensures { λ _. ⌜ saved (now (s .exit)) ≡ saved (now (s .entry)) ⌝ }
-    ensures { λ r. ⌜ Linked r ⌝ }
+) -> Step
+    ensures { λ r. ⌜ Stops r (now (s .exit)) (now (buf .exit)) (finish setup (run conc (afterSof x iso frame) (view (now (s .entry)), now (buf .entry)))) ⌝ }
+    ensures { λ r. ⌜ Stored r (now (s .exit)) ⌝ }
 {
     if x.late {
         let n = late::begin(s, frame);
@@ -111,14 +109,13 @@ fn then_sof(
     iso: bool,
     frame: u16,
     n: SofNext,
-) -> Next
+) -> Step
     requires { ⌜ sofs.Linked n ⌝ }
-    ensures { λ r. ⌜ meaning r (view (now (s .exit))) (now (buf .exit)) ≡ finish setup (bindOut (sofs.meaning frame n (view (now (s .entry))) (now (buf .entry))) (λ _ u. run conc (afterSof x iso frame) u)) ⌝ }
-    ensures { λ _. ⌜ saved (now (s .exit)) ≡ saved (now (s .entry)) ⌝ }
-    ensures { λ r. ⌜ Linked r ⌝ }
+    ensures { λ r. ⌜ Stops r (now (s .exit)) (now (buf .exit)) (finish setup (bindOut (sofs.meaning frame n (view (now (s .entry))) (now (buf .entry))) (λ _ u. run conc (afterSof x iso frame) u))) ⌝ }
+    ensures { λ r. ⌜ Stored r (now (s .exit)) ⌝ }
 {
     match n {
-        SofNext::Asks(q, p) => Next::Asks(q, Point::Sof(setup, x, iso, frame, p)),
+        SofNext::Asks(q, p) => stand_sof(s, q, setup, x, iso, frame, p),
         SofNext::Ends => after_sof(s, buf, setup, x, iso, frame),
     }
 }
@@ -132,11 +129,10 @@ pub fn after_on_sof(
     frame: u16,
     p: Sof,
     v: u32,
-) -> Next
+) -> Step
     requires { ⌜ sofs.fitsAt p v ≡ true ⌝ }
-    ensures { λ r. ⌜ meaning r (view (now (s .exit))) (now (buf .exit)) ≡ denote (Point.Sof setup x iso frame p) v (view (now (s .entry)), now (buf .entry)) ⌝ }
-    ensures { λ _. ⌜ saved (now (s .exit)) ≡ saved (now (s .entry)) ⌝ }
-    ensures { λ r. ⌜ Linked r ⌝ }
+    ensures { λ r. ⌜ Stops r (now (s .exit)) (now (buf .exit)) (denote (Point.Sof setup x iso frame p) v (view (now (s .entry)), now (buf .entry))) ⌝ }
+    ensures { λ r. ⌜ Stored r (now (s .exit)) ⌝ }
 {
     let n = sof::resume(s, frame, p, v);
     then_sof(s, buf, setup, x, iso, frame, n)
@@ -159,10 +155,9 @@ pub fn serve(
     x: Transfer,
     iso: bool,
     frame: u16,
-) -> Next
-    ensures { λ r. ⌜ meaning r (view (now (s .exit))) (now (buf .exit)) ≡ finish setup (run conc (serving x iso frame) (view (now (s .entry)), now (buf .entry))) ⌝ }
-    ensures { λ _. ⌜ saved (now (s .exit)) ≡ saved (now (s .entry)) ⌝ }
-    ensures { λ r. ⌜ Linked r ⌝ }
+) -> Step
+    ensures { λ r. ⌜ Stops r (now (s .exit)) (now (buf .exit)) (finish setup (run conc (serving x iso frame) (view (now (s .entry)), now (buf .entry)))) ⌝ }
+    ensures { λ r. ⌜ Stored r (now (s .exit)) ⌝ }
 {
     let g = load_globals(s);
     if sof_due(x, g.sof_frame, frame) {

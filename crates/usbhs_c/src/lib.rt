@@ -7,6 +7,7 @@ pub mod setup; // setup.rt: a setup packet's bytes
 pub mod stamp; // stamp.rt: the stamp of a packet that is shown
 pub mod woken; // woken.rt: the wake-ups of the last end
 
+use answer_word::continue_word;
 use answer_word::word_of;
 use bus_time::TIME_LEN;
 use inputs::dir_of;
@@ -79,7 +80,7 @@ pub extern "C" fn usbhs_continue(
 ) -> u64
     ensures { λ r. ⌜ AnswersCharged r driver (go value) (now (s .entry)) (now (s .exit)) (now (slots .entry)) (now (slots .exit)) (now (time .entry)) (now (time .exit)) ⌝ }
 {
-    word_of(usbhs::proceeds::proceed(s, slots, time, driver, value))
+    continue_word(usbhs::proceeds::proceed(s, slots, time, driver, value))
 }
 
 // The current microframe number.

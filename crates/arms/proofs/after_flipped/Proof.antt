@@ -1,8 +1,8 @@
+use Rattle.irq_points.specs.StandsLaws.{then-on}
 use Rattle.handler.specs.Laws.{after}
 use Rattle.handler.specs.Tails.{afterDispatch}
 use Rattle.ops.specs.Conc.{conc}
 use Rattle.script.specs.Script.{run}
-use mathlib.Core.Path.{_∙_}
 use borrow.Author.Needs.{needs}
 use Rattle.arms.proofs.after_flipped.Statement.{statement}
 use Rattle.arms.proofs.after_flipped.Tie as tie
@@ -17,7 +17,11 @@ same-length : tie.Need-same-length
 same-length c = search needs
 
 returns : tie.Need-returns
-returns c = (λ v. c .before .before .after-dispatch .ensures .0 ∙ after (c .before .before .before .before .before .before .before .before .args .setup) (λ _ u. run conc (afterDispatch (c .before .before .before .before .before .before .before .before .args .x) (c .before .before .before .before .before .before .before .before .args .iso)) u) _ _ (c .before .before .before .before .before .flip-done .ensures .0 _), (c .before .before .after-dispatch .ensures .1 .0 ∙ c .before .before .before .before .before .flip-done .ensures .1, c .before .before .after-dispatch .ensures .1 .1))
+returns c =
+    let the-after-dispatch = c .before .before .after-dispatch in
+    let a = c .before .before .before .before .before .before .before .before .args in
+    let the-flip-done = c .before .before .before .before .before .flip-done in
+    (λ v. then-on (the-after-dispatch .ensures .0) (after (a .setup) (λ _ u. run conc (afterDispatch (a .x) (a .iso)) u) _ _ (the-flip-done .ensures .0 _)), the-after-dispatch .ensures .1)
 
 pub after-flipped-spec : {M : Type 1} → statement M
 after-flipped-spec =

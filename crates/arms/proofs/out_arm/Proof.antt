@@ -1,3 +1,4 @@
+use Rattle.irq_points.specs.StandsLaws.{stops-at, stored-at, then-on}
 use Rattle.handler.specs.Laws.{at-zero, tells, test-no, test-yes}
 use Rattle.handler.specs.Tails.{thenCheck}
 use borrow.Author.Tests.{eq-eqb, ne-eqb}
@@ -13,7 +14,11 @@ same-length : tie.Need-same-length
 same-length c = search needs
 
 returns : tie.Need-returns
-returns c = (c .before .before .after-dispatch .ensures .0 ∙ test-yes (thenCheck (c .before .before .before .before .before .before .before .args .setup) (c .before .before .before .before .before .before .before .args .x) (c .before .before .before .before .before .before .before .args .iso)) (c .before .before .before .before .before .before .before .args .iso) _ _ (c .before .before .before .before .before .if1 .taken), (c .before .before .after-dispatch .ensures .1 .0, c .before .before .after-dispatch .ensures .1 .1))
+returns c =
+    let the-after-dispatch = c .before .before .after-dispatch in
+    let a = c .before .before .before .before .before .before .before .args in
+    let the-if1 = c .before .before .before .before .before .if1 in
+    (then-on (the-after-dispatch .ensures .0) (test-yes (thenCheck (a .setup) (a .x) (a .iso)) (a .iso) _ _ (the-if1 .taken)), the-after-dispatch .ensures .1)
 
 endpoint-requires : tie.Need-endpoint-requires
 endpoint-requires c κs = search needs
@@ -21,8 +26,19 @@ endpoint-requires c κs = search needs
 tog-ok-requires : tie.Need-tog-ok-requires
 tog-ok-requires c κs = search needs
 
+stand-flip-requires : tie.Need-stand-flip-requires
+stand-flip-requires c κs = search needs
+
 returns-2 : tie.Need-returns-2
-returns-2 c = (test-yes (thenCheck (c .before .before .before .before .before .before .args .setup) (c .before .before .before .before .before .before .args .x) (c .before .before .before .before .before .before .args .iso)) _ _ _ (tells _ _ _ (c .before .tog-ok .ensures) (c .if3 .taken)) ∙ (test-yes (thenCheck (c .before .before .before .before .before .before .args .setup) (c .before .before .before .before .before .before .args .x) (c .before .before .before .before .before .before .args .iso)) _ _ _ (at-zero _ _ _ (c .before .before .before .endpoint .ensures) (eq-eqb _ _ (c .before .before .if2 .taken))) ∙ test-no (thenCheck (c .before .before .before .before .before .before .args .setup) (c .before .before .before .before .before .before .args .x) (c .before .before .before .before .before .before .args .iso)) (c .before .before .before .before .before .before .args .iso) _ _ (c .before .before .before .before .if1 .left)), (refl, refl))
+returns-2 c =
+    let the-stand-flip = c .stand-flip in
+    let a = c .before .before .before .before .before .before .before .before .args in
+    let the-tog-ok = c .before .before .before .tog-ok in
+    let the-if3 = c .before .before .if3 in
+    let the-endpoint = c .before .before .before .before .before .endpoint in
+    let the-if2 = c .before .before .before .before .if2 in
+    let the-if1 = c .before .before .before .before .before .before .if1 in
+    (stops-at (the-stand-flip .ensures) (refl) _ (test-yes (thenCheck (a .setup) (a .x) (a .iso)) _ _ _ (tells _ _ _ (the-tog-ok .ensures) (the-if3 .taken)) ∙ (test-yes (thenCheck (a .setup) (a .x) (a .iso)) _ _ _ (at-zero _ _ _ (the-endpoint .ensures) (eq-eqb _ _ (the-if2 .taken))) ∙ test-no (thenCheck (a .setup) (a .x) (a .iso)) (a .iso) _ _ (the-if1 .left))), stored-at (the-stand-flip .ensures))
 
 after-dispatch-requires-2 : tie.Need-after-dispatch-requires-2
 after-dispatch-requires-2 c κs = search needs
@@ -31,7 +47,15 @@ same-length-2 : tie.Need-same-length-2
 same-length-2 c = search needs
 
 returns-3 : tie.Need-returns-3
-returns-3 c = (c .before .before .after-dispatch2 .ensures .0 ∙ (test-no (thenCheck (c .before .before .before .before .before .before .before .before .before .before .before .args .setup) (c .before .before .before .before .before .before .before .before .before .before .before .args .x) (c .before .before .before .before .before .before .before .before .before .before .before .args .iso)) _ _ _ (tells _ _ _ (c .before .before .before .before .before .before .tog-ok .ensures) (c .before .before .before .before .before .if3 .left)) ∙ (test-yes (thenCheck (c .before .before .before .before .before .before .before .before .before .before .before .args .setup) (c .before .before .before .before .before .before .before .before .before .before .before .args .x) (c .before .before .before .before .before .before .before .before .before .before .before .args .iso)) _ _ _ (at-zero _ _ _ (c .before .before .before .before .before .before .before .before .endpoint .ensures) (eq-eqb _ _ (c .before .before .before .before .before .before .before .if2 .taken))) ∙ test-no (thenCheck (c .before .before .before .before .before .before .before .before .before .before .before .args .setup) (c .before .before .before .before .before .before .before .before .before .before .before .args .x) (c .before .before .before .before .before .before .before .before .before .before .before .args .iso)) (c .before .before .before .before .before .before .before .before .before .before .before .args .iso) _ _ (c .before .before .before .before .before .before .before .before .before .if1 .left))), (c .before .before .after-dispatch2 .ensures .1 .0, c .before .before .after-dispatch2 .ensures .1 .1))
+returns-3 c =
+    let the-after-dispatch2 = c .before .before .after-dispatch2 in
+    let a = c .before .before .before .before .before .before .before .before .before .before .before .args in
+    let the-tog-ok = c .before .before .before .before .before .before .tog-ok in
+    let the-if3 = c .before .before .before .before .before .if3 in
+    let the-endpoint = c .before .before .before .before .before .before .before .before .endpoint in
+    let the-if2 = c .before .before .before .before .before .before .before .if2 in
+    let the-if1 = c .before .before .before .before .before .before .before .before .before .if1 in
+    (then-on (the-after-dispatch2 .ensures .0) (test-no (thenCheck (a .setup) (a .x) (a .iso)) _ _ _ (tells _ _ _ (the-tog-ok .ensures) (the-if3 .left)) ∙ (test-yes (thenCheck (a .setup) (a .x) (a .iso)) _ _ _ (at-zero _ _ _ (the-endpoint .ensures) (eq-eqb _ _ (the-if2 .taken))) ∙ test-no (thenCheck (a .setup) (a .x) (a .iso)) (a .iso) _ _ (the-if1 .left))), the-after-dispatch2 .ensures .1)
 
 toggled-arm-requires : tie.Need-toggled-arm-requires
 toggled-arm-requires c κs = search needs
@@ -40,7 +64,13 @@ same-length-3 : tie.Need-same-length-3
 same-length-3 c = search needs
 
 returns-4 : tie.Need-returns-4
-returns-4 c = (c .before .before .toggled-arm .ensures .0 ∙ (test-no (thenCheck (c .before .before .before .before .before .before .before .before .before .args .setup) (c .before .before .before .before .before .before .before .before .before .args .x) (c .before .before .before .before .before .before .before .before .before .args .iso)) _ _ _ (at-zero _ _ _ (c .before .before .before .before .before .before .endpoint .ensures) (ne-eqb _ _ (c .before .before .before .before .before .if2 .left))) ∙ test-no (thenCheck (c .before .before .before .before .before .before .before .before .before .args .setup) (c .before .before .before .before .before .before .before .before .before .args .x) (c .before .before .before .before .before .before .before .before .before .args .iso)) (c .before .before .before .before .before .before .before .before .before .args .iso) _ _ (c .before .before .before .before .before .before .before .if1 .left)), (c .before .before .toggled-arm .ensures .1 .0, c .before .before .toggled-arm .ensures .1 .1))
+returns-4 c =
+    let the-toggled-arm = c .before .before .toggled-arm in
+    let a = c .before .before .before .before .before .before .before .before .before .args in
+    let the-endpoint = c .before .before .before .before .before .before .endpoint in
+    let the-if2 = c .before .before .before .before .before .if2 in
+    let the-if1 = c .before .before .before .before .before .before .before .if1 in
+    (then-on (the-toggled-arm .ensures .0) (test-no (thenCheck (a .setup) (a .x) (a .iso)) _ _ _ (at-zero _ _ _ (the-endpoint .ensures) (ne-eqb _ _ (the-if2 .left))) ∙ test-no (thenCheck (a .setup) (a .x) (a .iso)) (a .iso) _ _ (the-if1 .left)), the-toggled-arm .ensures .1)
 
 pub out-arm-spec : {M : Type 1} → statement M
 out-arm-spec =
@@ -51,6 +81,7 @@ out-arm-spec =
     returns
     endpoint-requires
     tog-ok-requires
+    stand-flip-requires
     returns-2
     after-dispatch-requires-2
     same-length-2

@@ -1,3 +1,4 @@
+use Rattle.irq_points.specs.StandsLaws.{then-on}
 use Rattle.handler.specs.Laws.{after, sof-handled, when-no, when-yes}
 use Rattle.handler.specs.Tails.{afterDispatch}
 use Rattle.ops.specs.Conc.{conc}
@@ -19,19 +20,32 @@ same-length : tie.Need-same-length
 same-length c = search needs
 
 returns : tie.Need-returns
-returns c = (c .before .before .after-dispatch .ensures .0 ∙ when-no (c .before .before .before .before .before .before .before .before .before .before .args .setup) (onSof (c .before .before .before .before .before .before .before .before .before .before .args .frame)) (λ _ u. run conc (afterDispatch (c .before .before .before .before .before .before .before .before .before .before .args .x) (c .before .before .before .before .before .before .before .before .before .before .args .iso)) u) _ _ (sof-handled _ _ _ _ (c .before .before .before .before .before .before .before .load-globals .ensures) (eq-eqb _ _ (c .before .before .before .before .before .if1 .taken))), (c .before .before .after-dispatch .ensures .1 .0, c .before .before .after-dispatch .ensures .1 .1))
+returns c =
+    let the-after-dispatch = c .before .before .after-dispatch in
+    let a = c .before .before .before .before .before .before .before .before .before .before .args in
+    let the-load-globals = c .before .before .before .before .before .before .before .load-globals in
+    let the-if1 = c .before .before .before .before .before .if1 in
+    (then-on (the-after-dispatch .ensures .0) (when-no (a .setup) (onSof (a .frame)) (λ _ u. run conc (afterDispatch (a .x) (a .iso)) u) _ _ (sof-handled _ _ _ _ (the-load-globals .ensures) (eq-eqb _ _ (the-if1 .taken)))), the-after-dispatch .ensures .1)
 
 begin-requires : tie.Need-begin-requires
 begin-requires c κs = search needs
 
 then-sof-arm-requires : tie.Need-then-sof-arm-requires
-then-sof-arm-requires c κs = c .before .before .begin .ensures .1 .1
+then-sof-arm-requires c κs =
+    let the-begin = c .before .before .begin in
+    the-begin .ensures .1 .1
 
 same-length-2 : tie.Need-same-length-2
 same-length-2 c = search needs
 
 returns-2 : tie.Need-returns-2
-returns-2 c = (c .before .before .then-sof-arm .ensures .0 ∙ (after (c .before .before .before .before .before .before .before .before .before .before .before .before .args .setup) (λ _ u. run conc (afterDispatch (c .before .before .before .before .before .before .before .before .before .before .before .before .args .x) (c .before .before .before .before .before .before .before .before .before .before .before .before .args .iso)) u) _ _ (c .before .before .before .before .before .begin .ensures .0 _) ∙ when-yes (c .before .before .before .before .before .before .before .before .before .before .before .before .args .setup) (onSof (c .before .before .before .before .before .before .before .before .before .before .before .before .args .frame)) (λ _ u. run conc (afterDispatch (c .before .before .before .before .before .before .before .before .before .before .before .before .args .x) (c .before .before .before .before .before .before .before .before .before .before .before .before .args .iso)) u) _ _ (sof-handled _ _ _ _ (c .before .before .before .before .before .before .before .before .before .load-globals .ensures) (ne-eqb _ _ (c .before .before .before .before .before .before .before .if1 .left)))), (c .before .before .then-sof-arm .ensures .1 .0 ∙ c .before .before .before .before .before .begin .ensures .1 .0, c .before .before .then-sof-arm .ensures .1 .1))
+returns-2 c =
+    let the-then-sof-arm = c .before .before .then-sof-arm in
+    let a = c .before .before .before .before .before .before .before .before .before .before .before .before .args in
+    let the-begin = c .before .before .before .before .before .begin in
+    let the-load-globals = c .before .before .before .before .before .before .before .before .before .load-globals in
+    let the-if1 = c .before .before .before .before .before .before .before .if1 in
+    (then-on (the-then-sof-arm .ensures .0) (after (a .setup) (λ _ u. run conc (afterDispatch (a .x) (a .iso)) u) _ _ (the-begin .ensures .0 _) ∙ when-yes (a .setup) (onSof (a .frame)) (λ _ u. run conc (afterDispatch (a .x) (a .iso)) u) _ _ (sof-handled _ _ _ _ (the-load-globals .ensures) (ne-eqb _ _ (the-if1 .left)))), the-then-sof-arm .ensures .1)
 
 pub sof-arm-spec : {M : Type 1} → statement M
 sof-arm-spec =

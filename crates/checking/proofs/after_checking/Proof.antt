@@ -1,23 +1,29 @@
+use Rattle.irq_points.specs.StandsLaws.{then-on}
 use Rattle.handler.specs.Laws.{after}
 use Rattle.handler.specs.Tails.{afterCheck}
 use Rattle.ops.specs.Conc.{conc}
 use Rattle.script.specs.Script.{run}
-use mathlib.Core.Path.{_∙_}
 use borrow.Author.Needs.{needs}
 use Rattle.checking.proofs.after_checking.Statement.{statement}
 use Rattle.checking.proofs.after_checking.Tie as tie
 
 resume-requires : tie.Need-resume-requires
-resume-requires c κs = c .before .before .before .pre
+resume-requires c κs = (c .before .before .before .pre)
 
 checked-requires : tie.Need-checked-requires
-checked-requires c κs = c .before .before .before .before .resume .ensures .1 .1
+checked-requires c κs =
+    let the-resume = c .before .before .before .before .resume in
+    the-resume .ensures .1 .1
 
 same-length : tie.Need-same-length
 same-length c = search needs
 
 returns : tie.Need-returns
-returns c = (c .checked .ensures .0 ∙ after (c .before .before .before .before .before .before .before .before .before .args .setup) (λ _ u. run conc (afterCheck (c .before .before .before .before .before .before .before .before .before .args .x)) u) _ _ (c .before .before .before .before .before .resume .ensures .0), (c .before .before .before .before .before .resume .ensures .1 .0, c .checked .ensures .1))
+returns c =
+    let the-checked = c .checked in
+    let a = c .before .before .before .before .before .before .before .before .before .args in
+    let the-resume = c .before .before .before .before .before .resume in
+    (then-on (the-checked .ensures .0) (after (a .setup) (λ _ u. run conc (afterCheck (a .x)) u) _ _ (the-resume .ensures .0)), the-checked .ensures .1)
 
 pub after-checking-spec : {M : Type 1} → statement M
 after-checking-spec =

@@ -1,4 +1,4 @@
-use mathlib.Core.Path.{_∙_}
+use Rattle.irq_points.specs.StandsLaws.{then-on}
 use borrow.Author.Needs.{needs}
 use Rattle.checking.proofs.after_moved_wrote.Statement.{statement}
 use Rattle.checking.proofs.after_moved_wrote.Tie as tie
@@ -16,7 +16,12 @@ after-transfer-requires : tie.Need-after-transfer-requires
 after-transfer-requires c κs = search needs
 
 returns : tie.Need-returns
-returns c = (λ v b. simp (c .after-transfer .ensures .0, c .before .wake .ensures .0, c .before .before .before .store-ep .ensures .0, c .before .before .before .before .before .load-ep .ensures), (c .before .wake .ensures .1 ∙ c .before .before .before .store-ep .ensures .1, c .after-transfer .ensures .1))
+returns c =
+    let the-after-transfer = c .after-transfer in
+    let the-wake = c .before .before .wake in
+    let the-store-ep = c .before .before .before .before .store-ep in
+    let the-load-ep = c .before .before .before .before .before .before .load-ep in
+    (λ v b. then-on (the-after-transfer .ensures .0 b) (simp (the-wake .ensures .0, the-store-ep .ensures .0, the-load-ep .ensures)), the-after-transfer .ensures .1)
 
 pub after-moved-wrote-spec : {M : Type 1} → statement M
 after-moved-wrote-spec =

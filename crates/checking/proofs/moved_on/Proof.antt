@@ -1,3 +1,4 @@
+use Rattle.irq_points.specs.StandsLaws.{stops-at, stored-at, then-on}
 use Rattle.transfer.specs.Laws.{word-width}
 use borrow.Author.Needs.{needs}
 use Rattle.checking.proofs.moved_on.Statement.{statement}
@@ -12,14 +13,28 @@ is-on-requires c κs = search needs
 ctrl-of-requires : tie.Need-ctrl-of-requires
 ctrl-of-requires c κs = search needs
 
+stand-moved-read-requires : tie.Need-stand-moved-read-requires
+stand-moved-read-requires c κs = search needs
+
 returns : tie.Need-returns
-returns c = (λ b. simp (c .ctrl-of .ensures, ← c .before .before .before .load-ep .ensures, ← c .before .before .is-on .ensures, c .before .if1 .taken), simp (c .ctrl-of .ensures, word-width))
+returns c =
+    let the-stand-moved-read = c .stand-moved-read in
+    let the-ctrl-of = c .before .ctrl-of in
+    let the-load-ep = c .before .before .before .before .before .load-ep in
+    let the-is-on = c .before .before .before .before .is-on in
+    let the-if1 = c .before .before .before .if1 in
+    (λ b. stops-at (the-stand-moved-read .ensures) (simp (the-ctrl-of .ensures, word-width)) b (simp (the-ctrl-of .ensures, ← the-load-ep .ensures, ← the-is-on .ensures, the-if1 .taken)), stored-at (the-stand-moved-read .ensures))
 
 after-transfer-requires : tie.Need-after-transfer-requires
 after-transfer-requires c κs = search needs
 
 returns-2 : tie.Need-returns-2
-returns-2 c = (λ b. simp (c .after-transfer .ensures .0, ← c .before .before .before .load-ep .ensures, ← c .before .before .is-on .ensures, c .before .if1 .left), c .after-transfer .ensures .1)
+returns-2 c =
+    let the-after-transfer = c .after-transfer in
+    let the-load-ep = c .before .before .before .before .load-ep in
+    let the-is-on = c .before .before .before .is-on in
+    let the-if1 = c .before .before .if1 in
+    (λ b. then-on (the-after-transfer .ensures .0 b) (simp (← the-load-ep .ensures, ← the-is-on .ensures, the-if1 .left)), the-after-transfer .ensures .1)
 
 pub moved-on-spec : {M : Type 1} → statement M
 moved-on-spec =
@@ -28,6 +43,7 @@ moved-on-spec =
     load-ep-requires
     is-on-requires
     ctrl-of-requires
+    stand-moved-read-requires
     returns
     after-transfer-requires
     returns-2)

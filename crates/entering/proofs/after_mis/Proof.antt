@@ -1,3 +1,4 @@
+use Rattle.irq_points.specs.StandsLaws.{stops-at, stored-at}
 use Rattle.handler.specs.Tails.{afterMis}
 use mathlib.Core.Path.{refl}
 use borrow.Author.Needs.{needs}
@@ -10,9 +11,16 @@ byte-requires c κs = search needs
 sie-free-requires : tie.Need-sie-free-requires
 sie-free-requires c κs = search needs
 
+stand-st-requires : tie.Need-stand-st-requires
+stand-st-requires c κs = search needs
+
 returns : tie.Need-returns
 unfolding afterMis
-returns c = (λ d b. simp (c .sie-free .ensures, c .before .byte .ensures), refl)
+returns c =
+    let the-stand-st = c .stand-st in
+    let the-sie-free = c .before .before .sie-free in
+    let the-byte = c .before .before .before .byte in
+    (λ b. stops-at (the-stand-st .ensures) (refl) b (simp (the-sie-free .ensures, the-byte .ensures)), stored-at (the-stand-st .ensures))
 
 pub after-mis-spec : {M : Type 1} → statement M
 after-mis-spec =
@@ -20,4 +28,5 @@ after-mis-spec =
     (tie.spec
     byte-requires
     sie-free-requires
+    stand-st-requires
     returns)

@@ -1,3 +1,4 @@
+use Rattle.irq_points.specs.StandsLaws.{stops-at, stored-at}
 use Rattle.handler.specs.Tails.{afterSettle}
 use mathlib.Core.Path.{refl}
 use borrow.Author.Needs.{needs}
@@ -16,9 +17,18 @@ load-ep-requires-2 c κs = search needs
 iso-for-requires : tie.Need-iso-for-requires
 iso-for-requires c κs = search needs
 
+stand-frame-no-requires : tie.Need-stand-frame-no-requires
+stand-frame-no-requires c κs = search needs
+
 returns : tie.Need-returns
 unfolding afterSettle
-returns c = (λ b. simp (c .iso-for .ensures, c .before .load-ep2 .ensures, c .before .before .load-ep .ensures, c .before .before .before .endpoint .ensures), refl)
+returns c =
+    let the-stand-frame-no = c .stand-frame-no in
+    let the-iso-for = c .before .before .iso-for in
+    let the-load-ep2 = c .before .before .before .load-ep2 in
+    let the-load-ep = c .before .before .before .before .before .load-ep in
+    let the-endpoint = c .before .before .before .before .before .before .before .endpoint in
+    (λ b. stops-at (the-stand-frame-no .ensures) (refl) b (simp (the-iso-for .ensures, the-load-ep2 .ensures, the-load-ep .ensures, the-endpoint .ensures)), stored-at (the-stand-frame-no .ensures))
 
 pub after-settle-spec : {M : Type 1} → statement M
 after-settle-spec =
@@ -28,4 +38,5 @@ after-settle-spec =
     load-ep-requires
     load-ep-requires-2
     iso-for-requires
+    stand-frame-no-requires
     returns)

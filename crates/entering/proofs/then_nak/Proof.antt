@@ -1,14 +1,17 @@
+use Rattle.irq_points.specs.StandsLaws.{stops-at, stored-at, then-on}
 use Rattle.handler.specs.Laws.{nak-asks, nak-ends, nak-linked}
 use Rattle.handler.specs.Tails.{afterNak}
 use Rattle.ops.specs.Conc.{conc}
 use Rattle.script.specs.Script.{run}
-use mathlib.Core.Path.{_∙_}
 use borrow.Author.Needs.{needs}
 use Rattle.entering.proofs.then_nak.Statement.{statement}
 use Rattle.entering.proofs.then_nak.Tie as tie
 
 enum-known-n : tie.Need-enum-known-n
 enum-known-n c = search needs
+
+stand-nak-requires : tie.Need-stand-nak-requires
+stand-nak-requires c κs = search needs
 
 enum-told : tie.Need-enum-told
 enum-told c = search needs
@@ -17,16 +20,25 @@ release-requires : tie.Need-release-requires
 release-requires c κs = search needs
 
 returns : tie.Need-returns
-returns c = (λ d b. nak-asks (c .before .before .before .args .setup) (λ _ u. run conc (afterNak (c .before .before .before .args .x)) u) _ d b ((c .before .before .before .args .x) .st) _ _ (c .before .n .given .1), nak-linked _ _ _ (c .before .n .given .1) (c .before .before .before .pre))
+returns c =
+    let the-stand-nak = c .stand-nak in
+    let the-n = c .before .before .before .n in
+    let a = c .before .before .before .before .before .args in
+    (λ b. stops-at (the-stand-nak .ensures) (nak-linked _ _ _ (the-n .given .1) ((c .before .before .before .before .before .pre))) b (nak-asks (a .setup) (λ _ u. run conc (afterNak (a .x)) u) _ _ b ((a .x) .st) _ _ (the-n .given .1)), stored-at (the-stand-nak .ensures))
 
 returns-2 : tie.Need-returns-2
-returns-2 c = (λ d b. c .release .ensures .0 d b ∙ nak-ends (c .before .before .before .args .setup) (λ _ u. run conc (afterNak (c .before .before .before .args .x)) u) d b ((c .before .before .before .args .x) .st) _ (c .before .enum-told .given .1), c .release .ensures .1)
+returns-2 c =
+    let the-release = c .release in
+    let a = c .before .before .before .before .args in
+    let the-enum-told = c .before .before .enum-told in
+    (λ b. then-on (the-release .ensures .0 b) (nak-ends (a .setup) (λ _ u. run conc (afterNak (a .x)) u) _ b ((a .x) .st) _ (the-enum-told .given .1)), the-release .ensures .1)
 
 pub then-nak-spec : {M : Type 1} → statement M
 then-nak-spec =
     tie.close
     (tie.spec
     enum-known-n
+    stand-nak-requires
     enum-told
     release-requires
     returns

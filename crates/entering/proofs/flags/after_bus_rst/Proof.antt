@@ -1,4 +1,4 @@
-use mathlib.Core.Path.{_∙_}
+use Rattle.irq_points.specs.StandsLaws.{then-on}
 use borrow.Author.Needs.{needs}
 use Rattle.entering.proofs.flags.after_bus_rst.Statement.{statement}
 use Rattle.entering.proofs.flags.after_bus_rst.Tie as tie
@@ -10,7 +10,10 @@ suspend-requires : tie.Need-suspend-requires
 suspend-requires c κs = search needs
 
 returns : tie.Need-returns
-returns c = (λ v b. simp (c .suspend .ensures .0, c .before .before .wake-bus .ensures .0), (c .suspend .ensures .1 .0 ∙ c .before .before .wake-bus .ensures .1, c .suspend .ensures .1 .1))
+returns c =
+    let the-suspend = c .suspend in
+    let the-wake-bus = c .before .before .wake-bus in
+    (λ v b. then-on (the-suspend .ensures .0 b) (simp (the-wake-bus .ensures .0)), the-suspend .ensures .1)
 
 pub after-bus-rst-spec : {M : Type 1} → statement M
 after-bus-rst-spec =

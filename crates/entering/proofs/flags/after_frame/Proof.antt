@@ -1,3 +1,4 @@
+use Rattle.irq_points.specs.StandsLaws.{stops-at, stored-at}
 use Rattle.handler.specs.Laws.{microframe-kept}
 use mathlib.Core.Path.{refl}
 use borrow.Author.Needs.{needs}
@@ -16,8 +17,26 @@ load-globals-requires c κs = search needs
 store-globals-requires : tie.Need-store-globals-requires
 store-globals-requires c κs = search needs
 
+stand-flags-requires : tie.Need-stand-flags-requires
+stand-flags-requires c κs = search needs
+
 returns : tie.Need-returns
-returns c = (λ b. microframe-kept (c .before .before .before .before .before .before .args .v) _ _ (c .before .before .load-globals .result) _ _ b (c .before .before .before .before .before .short .ensures) (c .before .before .before .before .microframe-index .ensures) (c .before .before .load-globals .ensures) (c .store-globals .ensures .0), (c .store-globals .ensures .1, refl))
+returns c =
+    let the-stand-flags = c .stand-flags in
+    let a = c .before .before .before .before .before .before .before .before .args in
+    let the-load-globals = c .before .before .before .before .load-globals in
+    let the-short = c .before .before .before .before .before .before .before .short in
+    let the-microframe-index = c .before .before .before .before .before .before .microframe-index in
+    let the-store-globals = c .before .before .store-globals in
+    (λ b. stops-at (the-stand-flags .ensures) (refl) b (microframe-kept (a .v) _ _ (the-load-globals .result) _ _ b (the-short .ensures) (the-microframe-index .ensures) (the-load-globals .ensures) (the-store-globals .ensures .0)), stored-at (the-stand-flags .ensures))
 
 pub after-frame-spec : {M : Type 1} → statement M
-after-frame-spec = tie.close (tie.spec short-requires microframe-index-requires load-globals-requires store-globals-requires returns)
+after-frame-spec =
+    tie.close
+    (tie.spec
+    short-requires
+    microframe-index-requires
+    load-globals-requires
+    store-globals-requires
+    stand-flags-requires
+    returns)

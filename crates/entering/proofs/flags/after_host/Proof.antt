@@ -1,5 +1,6 @@
+use Rattle.irq_points.specs.StandsLaws.{stops-at, stored-at, then-on}
 use Rattle.handler.specs.Laws.{host-other, host-transfer, tells}
-use mathlib.Core.Path.{_∙_, refl}
+use mathlib.Core.Path.{refl}
 use borrow.Author.Needs.{needs}
 use Rattle.entering.proofs.flags.after_host.Statement.{statement}
 use Rattle.entering.proofs.flags.after_host.Tie as tie
@@ -10,14 +11,27 @@ setup-act-requires c κs = search needs
 transfer-requires : tie.Need-transfer-requires
 transfer-requires c κs = search needs
 
+stand-mis-requires : tie.Need-stand-mis-requires
+stand-mis-requires c κs = search needs
+
 returns : tie.Need-returns
-returns c = (λ d b. host-transfer _ _ d b (c .before .before .setup-act .ensures) (tells _ _ _ (c .before .transfer .ensures) (c .if1 .taken)), refl)
+returns c =
+    let the-stand-mis = c .stand-mis in
+    let the-setup-act = c .before .before .before .before .setup-act in
+    let the-transfer = c .before .before .before .transfer in
+    let the-if1 = c .before .before .if1 in
+    (λ b. stops-at (the-stand-mis .ensures) (refl) b (host-transfer _ _ _ b (the-setup-act .ensures) (tells _ _ _ (the-transfer .ensures) (the-if1 .taken))), stored-at (the-stand-mis .ensures))
 
 after-transfer-requires : tie.Need-after-transfer-requires
 after-transfer-requires c κs = search needs
 
 returns-2 : tie.Need-returns-2
-returns-2 c = (λ d b. c .after-transfer .ensures .0 d b ∙ host-other _ _ d b (c .before .before .before .setup-act .ensures) (tells _ _ _ (c .before .before .transfer .ensures) (c .before .if1 .left)), c .after-transfer .ensures .1)
+returns-2 c =
+    let the-after-transfer = c .after-transfer in
+    let the-setup-act = c .before .before .before .before .setup-act in
+    let the-transfer = c .before .before .before .transfer in
+    let the-if1 = c .before .before .if1 in
+    (λ b. then-on (the-after-transfer .ensures .0 b) (host-other _ _ _ b (the-setup-act .ensures) (tells _ _ _ (the-transfer .ensures) (the-if1 .left))), the-after-transfer .ensures .1)
 
 pub after-host-spec : {M : Type 1} → statement M
 after-host-spec =
@@ -25,6 +39,7 @@ after-host-spec =
     (tie.spec
     setup-act-requires
     transfer-requires
+    stand-mis-requires
     returns
     after-transfer-requires
     returns-2)

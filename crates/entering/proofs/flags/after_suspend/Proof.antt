@@ -1,3 +1,4 @@
+use Rattle.irq_points.specs.StandsLaws.{then-on}
 use borrow.Author.Needs.{needs}
 use Rattle.entering.proofs.flags.after_suspend.Statement.{statement}
 use Rattle.entering.proofs.flags.after_suspend.Tie as tie
@@ -9,7 +10,10 @@ fifo-requires : tie.Need-fifo-requires
 fifo-requires c κs = search needs
 
 returns : tie.Need-returns
-returns c = (λ v b. simp (c .fifo .ensures .0, c .before .wake-bus .ensures .0), (c .before .wake-bus .ensures .1, c .fifo .ensures .1))
+returns c =
+    let the-fifo = c .fifo in
+    let the-wake-bus = c .before .before .wake-bus in
+    (λ v b. then-on (the-fifo .ensures .0 b) (simp (the-wake-bus .ensures .0)), the-fifo .ensures .1)
 
 pub after-suspend-spec : {M : Type 1} → statement M
 after-suspend-spec =

@@ -1,3 +1,4 @@
+use Rattle.irq_points.specs.StandsLaws.{stops-at, stored-at, then-on}
 use Rattle.handler.specs.Tails.{afterBusRst}
 use mathlib.Core.Path.{refl}
 use borrow.Author.Needs.{needs}
@@ -16,19 +17,33 @@ with-suspend-requires c κs = search needs
 set-int-en-requires : tie.Need-set-int-en-requires
 set-int-en-requires c κs = search needs
 
-cast-t10 : tie.Need-cast-t10
-cast-t10 c = search needs
+cast-t11 : tie.Need-cast-t11
+cast-t11 c = search needs
+
+stand-suspend-requires : tie.Need-stand-suspend-requires
+stand-suspend-requires c κs = search needs
 
 returns : tie.Need-returns
 unfolding afterBusRst
-returns c = (λ b. simp (c .set-int-en .ensures .0, c .before .before .with-suspend .ensures, c .before .before .before .load-globals .ensures, ← c .before .before .before .before .before .before .suspend .ensures, c .before .before .before .before .before .if1 .taken), (c .set-int-en .ensures .1, refl))
+returns c =
+    let the-stand-suspend = c .stand-suspend in
+    let the-set-int-en = c .before .before .set-int-en in
+    let the-with-suspend = c .before .before .before .before .with-suspend in
+    let the-load-globals = c .before .before .before .before .before .load-globals in
+    let the-suspend = c .before .before .before .before .before .before .before .before .suspend in
+    let the-if1 = c .before .before .before .before .before .before .before .if1 in
+    (λ b. stops-at (the-stand-suspend .ensures) (refl) b (simp (the-set-int-en .ensures .0, the-with-suspend .ensures, the-load-globals .ensures, ← the-suspend .ensures, the-if1 .taken)), stored-at (the-stand-suspend .ensures))
 
 fifo-requires : tie.Need-fifo-requires
 fifo-requires c κs = search needs
 
 returns-2 : tie.Need-returns-2
 unfolding afterBusRst
-returns-2 c = (λ b. simp (c .fifo .ensures .0, ← c .before .before .suspend .ensures, c .before .if1 .left), (refl, c .fifo .ensures .1))
+returns-2 c =
+    let the-fifo = c .fifo in
+    let the-suspend = c .before .before .before .suspend in
+    let the-if1 = c .before .before .if1 in
+    (λ b. then-on (the-fifo .ensures .0 b) (simp (← the-suspend .ensures, the-if1 .left)), the-fifo .ensures .1)
 
 pub suspend-spec : {M : Type 1} → statement M
 suspend-spec =
@@ -38,7 +53,8 @@ suspend-spec =
     load-globals-requires
     with-suspend-requires
     set-int-en-requires
-    cast-t10
+    cast-t11
+    stand-suspend-requires
     returns
     fifo-requires
     returns-2)

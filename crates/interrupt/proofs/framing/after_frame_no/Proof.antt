@@ -1,11 +1,11 @@
+use Rattle.irq_points.specs.StandsLaws.{then-on}
 use Rattle.handler.specs.Laws.{frame-read}
-use mathlib.Core.Path.{_∙_}
 use borrow.Author.Needs.{needs}
 use Rattle.interrupt.proofs.framing.after_frame_no.Statement.{statement}
 use Rattle.interrupt.proofs.framing.after_frame_no.Tie as tie
 
 short-requires : tie.Need-short-requires
-short-requires c κs = c .before .pre
+short-requires c κs = (c .before .pre)
 
 load-globals-requires : tie.Need-load-globals-requires
 load-globals-requires c κs = search needs
@@ -20,7 +20,13 @@ same-length : tie.Need-same-length
 same-length c = search needs
 
 returns : tie.Need-returns
-returns c = (c .before .before .serve .ensures .0 ∙ frame-read (c .before .before .before .before .before .before .before .before .before .before .args .setup) (c .before .before .before .before .before .before .before .before .before .before .args .x) _ (c .before .before .before .before .before .before .before .before .before .before .args .iso) _ _ _ _ _ (c .before .before .before .before .before .framed .ensures) (c .before .before .before .before .before .before .load-globals .ensures) (c .before .before .before .before .before .before .before .before .short .ensures), (c .before .before .serve .ensures .1 .0, c .before .before .serve .ensures .1 .1))
+returns c =
+    let the-serve = c .before .before .serve in
+    let a = c .before .before .before .before .before .before .before .before .before .before .args in
+    let the-framed = c .before .before .before .before .before .framed in
+    let the-load-globals = c .before .before .before .before .before .before .load-globals in
+    let the-short = c .before .before .before .before .before .before .before .before .short in
+    (then-on (the-serve .ensures .0) (frame-read (a .setup) (a .x) _ (a .iso) _ _ _ _ _ (the-framed .ensures) (the-load-globals .ensures) (the-short .ensures)), the-serve .ensures .1)
 
 pub after-frame-no-spec : {M : Type 1} → statement M
 after-frame-no-spec =

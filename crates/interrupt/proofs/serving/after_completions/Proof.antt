@@ -1,8 +1,8 @@
+use Rattle.irq_points.specs.StandsLaws.{then-on}
 use Rattle.handler.specs.Laws.{after}
 use Rattle.handler.specs.Tails.{afterLate}
 use Rattle.ops.specs.Conc.{conc}
 use Rattle.script.specs.Script.{run}
-use mathlib.Core.Path.{_∙_}
 use borrow.Author.Needs.{needs}
 use Rattle.interrupt.proofs.serving.after_completions.Statement.{statement}
 use Rattle.interrupt.proofs.serving.after_completions.Tie as tie
@@ -11,13 +11,19 @@ resume-requires : tie.Need-resume-requires
 resume-requires c κs = search needs
 
 then-late-requires : tie.Need-then-late-requires
-then-late-requires c κs = c .before .before .resume .ensures .1 .1
+then-late-requires c κs =
+    let the-resume = c .before .before .resume in
+    the-resume .ensures .1 .1
 
 same-length : tie.Need-same-length
 same-length c = search needs
 
 returns : tie.Need-returns
-returns c = (λ v. c .before .before .then-late .ensures .0 ∙ after (c .before .before .before .before .before .before .before .before .args .setup) (λ _ u. run conc (afterLate (c .before .before .before .before .before .before .before .before .args .x) (c .before .before .before .before .before .before .before .before .args .iso) (c .before .before .before .before .before .before .before .before .args .frame)) u) _ _ (c .before .before .before .before .before .resume .ensures .0 _), (c .before .before .then-late .ensures .1 .0 ∙ c .before .before .before .before .before .resume .ensures .1 .0, c .before .before .then-late .ensures .1 .1))
+returns c =
+    let the-then-late = c .before .before .then-late in
+    let a = c .before .before .before .before .before .before .before .before .args in
+    let the-resume = c .before .before .before .before .before .resume in
+    (λ v. then-on (the-then-late .ensures .0) (after (a .setup) (λ _ u. run conc (afterLate (a .x) (a .iso) (a .frame)) u) _ _ (the-resume .ensures .0 _)), the-then-late .ensures .1)
 
 pub after-completions-spec : {M : Type 1} → statement M
 after-completions-spec =

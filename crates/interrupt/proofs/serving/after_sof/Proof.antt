@@ -1,3 +1,4 @@
+use Rattle.irq_points.specs.StandsLaws.{then-on}
 use Rattle.handler.specs.Laws.{after, when-no, when-yes}
 use Rattle.handler.specs.Tails.{afterLate, afterSof}
 use Rattle.iso_in.specs.Late.{lateAll}
@@ -12,14 +13,21 @@ begin-requires : tie.Need-begin-requires
 begin-requires c κs = search needs
 
 then-late-requires : tie.Need-then-late-requires
-then-late-requires c κs = c .before .before .begin .ensures .1 .1
+then-late-requires c κs =
+    let the-begin = c .before .before .begin in
+    the-begin .ensures .1 .1
 
 same-length : tie.Need-same-length
 same-length c = search needs
 
 returns : tie.Need-returns
 unfolding afterSof
-returns c = (c .before .before .then-late .ensures .0 ∙ (after (c .before .before .before .before .before .before .before .before .before .args .setup) (λ _ u. run conc (afterLate (c .before .before .before .before .before .before .before .before .before .args .x) (c .before .before .before .before .before .before .before .before .before .args .iso) (c .before .before .before .before .before .before .before .before .before .args .frame)) u) _ _ (c .before .before .before .before .before .begin .ensures .0 _) ∙ when-yes (c .before .before .before .before .before .before .before .before .before .args .setup) (lateAll (c .before .before .before .before .before .before .before .before .before .args .frame)) (λ _ u. run conc (afterLate (c .before .before .before .before .before .before .before .before .before .args .x) (c .before .before .before .before .before .before .before .before .before .args .iso) (c .before .before .before .before .before .before .before .before .before .args .frame)) u) _ _ (c .before .before .before .before .before .before .before .if1 .taken)), (c .before .before .then-late .ensures .1 .0 ∙ c .before .before .before .before .before .begin .ensures .1 .0, c .before .before .then-late .ensures .1 .1))
+returns c =
+    let the-then-late = c .before .before .then-late in
+    let a = c .before .before .before .before .before .before .before .before .before .args in
+    let the-begin = c .before .before .before .before .before .begin in
+    let the-if1 = c .before .before .before .before .before .before .before .if1 in
+    (then-on (the-then-late .ensures .0) (after (a .setup) (λ _ u. run conc (afterLate (a .x) (a .iso) (a .frame)) u) _ _ (the-begin .ensures .0 _) ∙ when-yes (a .setup) (lateAll (a .frame)) (λ _ u. run conc (afterLate (a .x) (a .iso) (a .frame)) u) _ _ (the-if1 .taken)), the-then-late .ensures .1)
 
 after-late-requires : tie.Need-after-late-requires
 after-late-requires c κs = search needs
@@ -29,7 +37,11 @@ same-length-2 c = search needs
 
 returns-2 : tie.Need-returns-2
 unfolding afterSof
-returns-2 c = (c .before .before .after-late .ensures .0 ∙ when-no (c .before .before .before .before .before .before .before .args .setup) (lateAll (c .before .before .before .before .before .before .before .args .frame)) (λ _ u. run conc (afterLate (c .before .before .before .before .before .before .before .args .x) (c .before .before .before .before .before .before .before .args .iso) (c .before .before .before .before .before .before .before .args .frame)) u) _ _ (c .before .before .before .before .before .if1 .left), (c .before .before .after-late .ensures .1 .0, c .before .before .after-late .ensures .1 .1))
+returns-2 c =
+    let the-after-late = c .before .before .after-late in
+    let a = c .before .before .before .before .before .before .before .args in
+    let the-if1 = c .before .before .before .before .before .if1 in
+    (then-on (the-after-late .ensures .0) (when-no (a .setup) (lateAll (a .frame)) (λ _ u. run conc (afterLate (a .x) (a .iso) (a .frame)) u) _ _ (the-if1 .left)), the-after-late .ensures .1)
 
 pub after-sof-spec : {M : Type 1} → statement M
 after-sof-spec =

@@ -1,3 +1,4 @@
+use Rattle.irq_points.specs.StandsLaws.{then-on}
 use Rattle.handler.specs.Laws.{after, tells-of, when-no, when-yes}
 use Rattle.handler.specs.Tails.{afterSof, serving, sofDue}
 use Rattle.ops.specs.Conc.{conc}
@@ -19,14 +20,23 @@ begin-requires : tie.Need-begin-requires
 begin-requires c κs = search needs
 
 then-sof-requires : tie.Need-then-sof-requires
-then-sof-requires c κs = c .before .before .begin .ensures .1 .1
+then-sof-requires c κs =
+    let the-begin = c .before .before .begin in
+    the-begin .ensures .1 .1
 
 same-length : tie.Need-same-length
 same-length c = search needs
 
 returns : tie.Need-returns
 unfolding serving
-returns c = (c .before .before .then-sof .ensures .0 ∙ (after (c .before .before .before .before .before .before .before .before .before .before .before .before .args .setup) (λ _ u. run conc (afterSof (c .before .before .before .before .before .before .before .before .before .before .before .before .args .x) (c .before .before .before .before .before .before .before .before .before .before .before .before .args .iso) (c .before .before .before .before .before .before .before .before .before .before .before .before .args .frame)) u) _ _ (c .before .before .before .before .before .begin .ensures .0 _) ∙ when-yes (c .before .before .before .before .before .before .before .before .before .before .before .before .args .setup) (onSof (c .before .before .before .before .before .before .before .before .before .before .before .before .args .frame)) (λ _ u. run conc (afterSof (c .before .before .before .before .before .before .before .before .before .before .before .before .args .x) (c .before .before .before .before .before .before .before .before .before .before .before .before .args .iso) (c .before .before .before .before .before .before .before .before .before .before .before .before .args .frame)) u) _ _ (tells-of (λ (z : Globals). sofDue (c .before .before .before .before .before .before .before .before .before .before .before .before .args .x) (z .«sof_frame») (c .before .before .before .before .before .before .before .before .before .before .before .before .args .frame)) _ _ _ _ (c .before .before .before .before .before .before .before .before .sof-due .ensures) (c .before .before .before .before .before .before .before .before .before .load-globals .ensures) (c .before .before .before .before .before .before .before .if1 .taken))), (c .before .before .then-sof .ensures .1 .0 ∙ c .before .before .before .before .before .begin .ensures .1 .0, c .before .before .then-sof .ensures .1 .1))
+returns c =
+    let the-then-sof = c .before .before .then-sof in
+    let a = c .before .before .before .before .before .before .before .before .before .before .before .before .args in
+    let the-begin = c .before .before .before .before .before .begin in
+    let the-sof-due = c .before .before .before .before .before .before .before .before .sof-due in
+    let the-load-globals = c .before .before .before .before .before .before .before .before .before .load-globals in
+    let the-if1 = c .before .before .before .before .before .before .before .if1 in
+    (then-on (the-then-sof .ensures .0) (after (a .setup) (λ _ u. run conc (afterSof (a .x) (a .iso) (a .frame)) u) _ _ (the-begin .ensures .0 _) ∙ when-yes (a .setup) (onSof (a .frame)) (λ _ u. run conc (afterSof (a .x) (a .iso) (a .frame)) u) _ _ (tells-of (λ (z : Globals). sofDue (a .x) (z .«sof_frame») (a .frame)) _ _ _ _ (the-sof-due .ensures) (the-load-globals .ensures) (the-if1 .taken))), the-then-sof .ensures .1)
 
 after-sof-requires : tie.Need-after-sof-requires
 after-sof-requires c κs = search needs
@@ -36,7 +46,13 @@ same-length-2 c = search needs
 
 returns-2 : tie.Need-returns-2
 unfolding serving
-returns-2 c = (c .before .before .after-sof .ensures .0 ∙ when-no (c .before .before .before .before .before .before .before .before .before .before .args .setup) (onSof (c .before .before .before .before .before .before .before .before .before .before .args .frame)) (λ _ u. run conc (afterSof (c .before .before .before .before .before .before .before .before .before .before .args .x) (c .before .before .before .before .before .before .before .before .before .before .args .iso) (c .before .before .before .before .before .before .before .before .before .before .args .frame)) u) _ _ (tells-of (λ (z : Globals). sofDue (c .before .before .before .before .before .before .before .before .before .before .args .x) (z .«sof_frame») (c .before .before .before .before .before .before .before .before .before .before .args .frame)) _ _ _ _ (c .before .before .before .before .before .before .sof-due .ensures) (c .before .before .before .before .before .before .before .load-globals .ensures) (c .before .before .before .before .before .if1 .left)), (c .before .before .after-sof .ensures .1 .0, c .before .before .after-sof .ensures .1 .1))
+returns-2 c =
+    let the-after-sof = c .before .before .after-sof in
+    let a = c .before .before .before .before .before .before .before .before .before .before .args in
+    let the-sof-due = c .before .before .before .before .before .before .sof-due in
+    let the-load-globals = c .before .before .before .before .before .before .before .load-globals in
+    let the-if1 = c .before .before .before .before .before .if1 in
+    (then-on (the-after-sof .ensures .0) (when-no (a .setup) (onSof (a .frame)) (λ _ u. run conc (afterSof (a .x) (a .iso) (a .frame)) u) _ _ (tells-of (λ (z : Globals). sofDue (a .x) (z .«sof_frame») (a .frame)) _ _ _ _ (the-sof-due .ensures) (the-load-globals .ensures) (the-if1 .left))), the-after-sof .ensures .1)
 
 pub serve-spec : {M : Type 1} → statement M
 serve-spec =

@@ -1,0 +1,31 @@
+use Rattle.way.specs.Under.{encode}
+use Rattle.handler_codec.specs.Codec as codec
+use mathlib.Core.Path.{_∙_}
+use borrow.Author.Needs.{needs}
+use Rattle.irq_points.proofs.stands.stand_sof.Statement.{statement}
+use Rattle.irq_points.proofs.stands.stand_sof.Tie as tie
+
+sof-as-requires : tie.Need-sof-as-requires
+sof-as-requires c κs = search needs
+
+code-requires : tie.Need-code-requires
+code-requires c κs = search needs
+
+stand-requires : tie.Need-stand-requires
+stand-requires c κs = search needs
+
+returns : tie.Need-returns
+unfolding encode codec.encode
+returns c =
+    let the-stand = c .stand in
+    let the-sof-as = c .before .before .sof-as in
+    record { answered = the-stand .ensures .0; viewed = the-stand .ensures .1 .0; stored = the-stand .ensures .1 .1 ∙ simp (c .before .code .ensures, the-sof-as .ensures) }
+
+pub stand-sof-spec : {M : Type 1} → statement M
+stand-sof-spec =
+    tie.close
+    (tie.spec
+    sof-as-requires
+    code-requires
+    stand-requires
+    returns)

@@ -1,0 +1,32 @@
+-- Where an interrupt's call leaves it: at a point, whose bytes are saved and whose access is the answer; or at its end
+use mathlib.Core.Bool.{true}
+use mathlib.Core.List.{List, []}
+use mathlib.Core.Path.{_≡_}
+use Prim.Native.Nat.{ℕ}
+use Rattle.regs.specs.declared.Access.{Access}
+use Rattle.state.specs.State.{view, saved}
+use Rattle.script.specs.Tree.{Out, bindOut}
+use Rattle.script.specs.Script.{run}
+use Rattle.script.specs.Machine.{Buf}
+use Rattle.ops.specs.Rings.{St}
+use Rattle.ops.specs.Conc.{conc}
+use Rattle.handler.specs.declared.Point.{Point}
+use Rattle.way.specs.declared.Under.the-variants as under
+use Rattle.way.specs.declared.Step.{Step}
+use Rattle.way.specs.declared.Step.the-variants as step
+use Rattle.way.specs.Under.{encode, finish, haltsAs, machineOf, answerOf}
+use Rattle.way.specs.Goes.{Called}
+
+-- the access q is answered, the view stays, and all 22 bytes of what is saved are the point's
+pub record Stands (r : Step) (q : Access) (p : Point) (xs ys : List ℕ) : Type 0 where
+  pub answered : r ≡ step.Asks q
+  pub viewed : view ys ≡ view xs
+  pub stored : saved ys ≡ encode (under.Interrupt p)
+
+-- where the rest o of an interrupt stops: at its next access, or at its end
+unfoldable pub halted : Out St ℕ → Called
+halted o = haltsAs true (bindOut o (λ n t. run conc (finish n) t))
+
+-- the call's answer and the bytes that it leaves are where the rest o stops
+pub record Stops (r : Step) (ys : List ℕ) (b : Buf) (o : Out St ℕ) : Type 0 where
+  pub there : _≡_ {A = Called} (answerOf r [] (view ys), machineOf ys b) (halted o)

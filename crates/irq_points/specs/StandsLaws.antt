@@ -1,0 +1,46 @@
+-- Standing at a point: the next access of what is left to run is handed out there. Assumes nothing.
+use mathlib.Core.List.{List, []}
+use mathlib.Core.Path.{_≡_, _∙_, ap, sym, subst}
+use Prim.Native.Nat.{ℕ}
+use Rattle.regs.specs.declared.Access.{Access}
+use Rattle.state.specs.Driver.{Driver}
+use Rattle.state.specs.State.{view, saved}
+use Rattle.script.specs.Tree.{Out}
+use Rattle.script.specs.Machine.{Buf, awaited}
+use Rattle.ops.specs.Rings.{St}
+use Rattle.handler.specs.declared.Point.{Point}
+use Rattle.handler.specs.declared.Next.the-variants as next
+use Rattle.handler.specs.Points.{meaning, awaitsAt}
+use Rattle.way.specs.declared.Under.the-variants as under
+use Rattle.way.specs.declared.Step.{Step}
+use Rattle.way.specs.Under.{decode, decode-encode, machineOf, handedOut, answerOf, Kept, Stored}
+use Rattle.way.specs.Goes.{Called}
+use Rattle.way.specs.Keeps.{canonical}
+use Rattle.irq_points.specs.Stands.{Stands, halted, Stops}
+
+-- all 22 bytes are pinned
+pub stored-at : {r : Step} {q : Access} {p : Point} {xs ys : List ℕ} → Stands r q p xs ys → Stored r ys
+stored-at {r} {q} {p} {xs} {ys} h zs =
+    subst (λ (z : Step). Kept z zs ys) (sym (h .answered)) (canonical (under.Interrupt p) ys (h .stored))
+
+stood : (q : Access) (p : Point) (d : Driver) (b : Buf) → awaited q ≡ awaitsAt p
+    → handedOut q (under.Interrupt p) d b ≡ halted (meaning (next.Asks q p) d b)
+unfolding halted
+stood q p d b h = simp h
+
+handed-out : (r : Step) (q : Access) (p : Point) (xs ys : List ℕ) (b : Buf) → Stands r q p xs ys → decode (saved ys) ≡ under.Interrupt p
+    → _≡_ {A = Called} (answerOf r [] (view ys), machineOf ys b) (handedOut q (under.Interrupt p) (view xs) b)
+handed-out r q p xs ys b h k = simp (h .answered, h .viewed, k)
+
+-- at a point: its access is the first of what is left
+pub stops-at : {r : Step} {q : Access} {p : Point} {xs ys : List ℕ} → Stands r q p xs ys → awaited q ≡ awaitsAt p
+    → (b : Buf) {o : Out St ℕ} → meaning (next.Asks q p) (view xs) b ≡ o → Stops r ys b o
+stops-at {r} {q} {p} {xs} {ys} h l b m = record {
+  there =
+      handed-out r q p xs ys b h (ap decode (h .stored) ∙ decode-encode (under.Interrupt p))
+      ∙ (stood q p (view xs) b l ∙ ap halted m);
+}
+
+-- the same rest, said another way
+pub then-on : {r : Step} {ys : List ℕ} {b : Buf} {o o' : Out St ℕ} → Stops r ys b o → o ≡ o' → Stops r ys b o'
+then-on h e = record { there = h .there ∙ ap halted e }

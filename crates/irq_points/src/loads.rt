@@ -1,0 +1,188 @@
+// What a point of the interrupt has: each part is loaded alone from the saved record's bytes. Any bytes are a point.
+use crate::numbers::check_of;
+use crate::numbers::complete_of;
+use crate::numbers::dir_of;
+use crate::numbers::late_of;
+use crate::numbers::nak_of;
+use crate::numbers::settle_of;
+use crate::numbers::sof_of;
+use crate::numbers::toggled_of;
+use fields::get8;
+use fields::get16;
+use iso_in::complete::Complete;
+use iso_in::late::Late;
+use iso_in::sof::Sof;
+use iso_out::Check;
+use ops::rings::is_on;
+use regs::Dir;
+use script::Transfer;
+use state::STATE_LEN;
+use transfer::nak::Nak;
+use transfer::settle::Settle;
+use transfer::toggled::Toggled;
+ghost use mathlib.Core.Path.{_≡_};
+ghost use Rattle.state.specs.State.{saved};
+ghost use Rattle.script.specs.Statics.{isOn};
+ghost use Rattle.handler_codec.specs.Codec.{dirOf, transferOf, nakOf, settleOf, toggledOf, completeOf, sofOf, lateOf, checkOf};
+
+// Where crate `state` has the saved record.
+const SAVED: usize = 2817;
+
+fn sub_byte(s: &[u8; STATE_LEN]) -> u8
+    ensures { λ r. ⌜ r ≡ saved (now (s .entry)) .sub ⌝ }
+{
+    get8(s, SAVED, 1)
+}
+
+pub fn site_byte(s: &[u8; STATE_LEN]) -> u8
+    ensures { λ r. ⌜ r ≡ saved (now (s .entry)) .site ⌝ }
+{
+    get8(s, SAVED, 2)
+}
+
+fn flag_byte(s: &[u8; STATE_LEN]) -> u8
+    ensures { λ r. ⌜ r ≡ saved (now (s .entry)) .flag ⌝ }
+{
+    get8(s, SAVED, 3)
+}
+
+fn busy_byte(s: &[u8; STATE_LEN]) -> u8
+    ensures { λ r. ⌜ r ≡ saved (now (s .entry)) .busy ⌝ }
+{
+    get8(s, SAVED, 4)
+}
+
+fn late_byte(s: &[u8; STATE_LEN]) -> u8
+    ensures { λ r. ⌜ r ≡ saved (now (s .entry)) .late ⌝ }
+{
+    get8(s, SAVED, 5)
+}
+
+fn len_ok_byte(s: &[u8; STATE_LEN]) -> u8
+    ensures { λ r. ⌜ r ≡ saved (now (s .entry)) .«len_ok» ⌝ }
+{
+    get8(s, SAVED, 6)
+}
+
+pub fn st_byte(s: &[u8; STATE_LEN]) -> u8
+    ensures { λ r. ⌜ r ≡ saved (now (s .entry)) .st ⌝ }
+{
+    get8(s, SAVED, 7)
+}
+
+fn now_byte(s: &[u8; STATE_LEN]) -> u8
+    ensures { λ r. ⌜ r ≡ saved (now (s .entry)) .now ⌝ }
+{
+    get8(s, SAVED, 8)
+}
+
+fn ep_byte(s: &[u8; STATE_LEN]) -> u8
+    ensures { λ r. ⌜ r ≡ saved (now (s .entry)) .ep ⌝ }
+{
+    get8(s, SAVED, 9)
+}
+
+fn len_word(s: &[u8; STATE_LEN]) -> u16
+    ensures { λ r. ⌜ r ≡ saved (now (s .entry)) .len ⌝ }
+{
+    get16(s, SAVED, 10)
+}
+
+pub fn frame_word(s: &[u8; STATE_LEN]) -> u16
+    ensures { λ r. ⌜ r ≡ saved (now (s .entry)) .frame ⌝ }
+{
+    get16(s, SAVED, 12)
+}
+
+fn eps_word(s: &[u8; STATE_LEN]) -> u16
+    ensures { λ r. ⌜ r ≡ saved (now (s .entry)) .eps ⌝ }
+{
+    get16(s, SAVED, 14)
+}
+
+fn n_word(s: &[u8; STATE_LEN]) -> u16
+    ensures { λ r. ⌜ r ≡ saved (now (s .entry)) .n ⌝ }
+{
+    get16(s, SAVED, 16)
+}
+
+// Is the setup flag set?
+pub fn setup_at(s: &[u8; STATE_LEN]) -> bool
+    ensures { λ r. ⌜ r ≡ isOn (saved (now (s .entry)) .flag) ⌝ }
+{
+    is_on(flag_byte(s))
+}
+
+// Was a transaction on the bus?
+pub fn busy_at(s: &[u8; STATE_LEN]) -> bool
+    ensures { λ r. ⌜ r ≡ isOn (saved (now (s .entry)) .busy) ⌝ }
+{
+    is_on(busy_byte(s))
+}
+
+// Is the endpoint isochronous?
+pub fn iso_at(s: &[u8; STATE_LEN]) -> bool
+    ensures { λ r. ⌜ r ≡ isOn (saved (now (s .entry)) .now) ⌝ }
+{
+    is_on(now_byte(s))
+}
+
+pub fn dir_at(s: &[u8; STATE_LEN]) -> Dir
+    ensures { λ r. ⌜ r ≡ dirOf (saved (now (s .entry)) .ep) ⌝ }
+{
+    dir_of(ep_byte(s))
+}
+
+pub fn transfer_at(s: &[u8; STATE_LEN]) -> Transfer
+    ensures { λ r. ⌜ r ≡ transferOf (saved (now (s .entry))) ⌝ }
+{
+    Transfer {
+        busy: is_on(busy_byte(s)),
+        st: st_byte(s),
+        len: len_word(s),
+        late: is_on(late_byte(s)),
+        len_ok: is_on(len_ok_byte(s)),
+    }
+}
+
+pub fn nak_at(s: &[u8; STATE_LEN]) -> Nak
+    ensures { λ r. ⌜ r ≡ nakOf (saved (now (s .entry)) .sub) ⌝ }
+{
+    nak_of(sub_byte(s))
+}
+
+pub fn settle_at(s: &[u8; STATE_LEN]) -> Settle
+    ensures { λ r. ⌜ r ≡ settleOf (saved (now (s .entry)) .sub) (saved (now (s .entry)) .now) (saved (now (s .entry)) .n) ⌝ }
+{
+    settle_of(sub_byte(s), now_byte(s), n_word(s))
+}
+
+pub fn toggled_at(s: &[u8; STATE_LEN]) -> Toggled
+    ensures { λ r. ⌜ r ≡ toggledOf (saved (now (s .entry)) .sub) (saved (now (s .entry)) .n) ⌝ }
+{
+    toggled_of(sub_byte(s), n_word(s))
+}
+
+pub fn complete_at(s: &[u8; STATE_LEN]) -> Complete
+    ensures { λ r. ⌜ r ≡ completeOf (saved (now (s .entry)) .sub) (saved (now (s .entry)) .ep) ⌝ }
+{
+    complete_of(sub_byte(s), ep_byte(s))
+}
+
+pub fn sof_at(s: &[u8; STATE_LEN]) -> Sof
+    ensures { λ r. ⌜ r ≡ sofOf (saved (now (s .entry)) .sub) (saved (now (s .entry)) .ep) (saved (now (s .entry)) .eps) ⌝ }
+{
+    sof_of(sub_byte(s), ep_byte(s), eps_word(s))
+}
+
+pub fn late_at(s: &[u8; STATE_LEN]) -> Late
+    ensures { λ r. ⌜ r ≡ lateOf (saved (now (s .entry)) .sub) (saved (now (s .entry)) .ep) (saved (now (s .entry)) .eps) ⌝ }
+{
+    late_of(sub_byte(s), ep_byte(s), eps_word(s))
+}
+
+pub fn check_at(s: &[u8; STATE_LEN]) -> Check
+    ensures { λ r. ⌜ r ≡ checkOf (saved (now (s .entry)) .sub) (saved (now (s .entry)) .ep) (saved (now (s .entry)) .eps) ⌝ }
+{
+    check_of(sub_byte(s), ep_byte(s), eps_word(s))
+}

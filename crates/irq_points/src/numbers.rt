@@ -1,0 +1,257 @@
+// The numbers of a point: its inner point's, and the record that is saved of it.
+use handler_codec::Numbers;
+use iso_in::complete::Complete;
+use iso_in::late::Late;
+use iso_in::sof::Sof;
+use iso_out::Check;
+use regs::Dir;
+use script::Transfer;
+use state::Saved;
+use transfer::nak::Nak;
+use transfer::settle::Settle;
+use transfer::toggled::Toggled;
+ghost use mathlib.Core.Path.{_≡_};
+ghost use Rattle.script.specs.Statics.{flag};
+ghost use Rattle.handler_codec.specs.Codec.{dirAs, dirOf, inner, none, onDir, nakAs, nakOf, settleAs, settleOf, toggledAs, toggledOf, completeAs, completeOf, sofAs, sofOf, lateAs, lateOf, checkAs, checkOf, code, early};
+
+fn dir_as(d: Dir) -> u8
+    ensures { λ r. ⌜ r ≡ dirAs d ⌝ }
+{
+    match d {
+        Dir::Out => 0,
+        Dir::In => 1,
+    }
+}
+
+pub fn dir_of(n: u8) -> Dir
+    ensures { λ r. ⌜ r ≡ dirOf n ⌝ }
+{
+    if n == 0 { Dir::Out } else { Dir::In }
+}
+
+fn flag_of(b: bool) -> u8
+    ensures { λ r. ⌜ r ≡ flag b ⌝ }
+{
+    if b {
+        return 1;
+    }
+    0
+}
+
+fn inner(sub: u8, now: u8, ep: u8, eps: u16, n: u16) -> Numbers
+    ensures { λ r. ⌜ r ≡ inner sub now ep eps n ⌝ }
+{
+    Numbers {
+        sub,
+        now,
+        ep,
+        eps,
+        n,
+    }
+}
+
+pub fn none(iso: bool) -> Numbers
+    ensures { λ r. ⌜ r ≡ none iso ⌝ }
+{
+    inner(0, flag_of(iso), 0, 0, 0)
+}
+
+pub fn on_dir(d: Dir, iso: bool) -> Numbers
+    ensures { λ r. ⌜ r ≡ onDir d iso ⌝ }
+{
+    inner(0, flag_of(iso), dir_as(d), 0, 0)
+}
+
+pub fn nak_as(st: u8, p: Nak) -> Numbers
+    ensures { λ r. ⌜ r ≡ nakAs st p ⌝ }
+{
+    match p {
+        Nak::Word(d) => match d {
+            Dir::Out => inner(0, st, 0, 0, 0),
+            Dir::In => inner(1, st, 0, 0, 0),
+        },
+        Nak::Wrote => inner(2, st, 0, 0, 0),
+    }
+}
+
+pub fn nak_of(sub: u8) -> Nak
+    ensures { λ r. ⌜ r ≡ nakOf sub ⌝ }
+{
+    match sub {
+        0 => Nak::Word(Dir::Out),
+        1 => Nak::Word(Dir::In),
+        _ => Nak::Wrote,
+    }
+}
+
+pub fn settle_as(p: Settle) -> Numbers
+    ensures { λ r. ⌜ r ≡ settleAs p ⌝ }
+{
+    match p {
+        Settle::IsoLook(n) => inner(3, 0, 0, 0, n),
+        Settle::IsoSt => inner(4, 0, 0, 0, 0),
+        Settle::IsoLen(now) => inner(5, now, 0, 0, 0),
+        Settle::BulkLook(n) => inner(6, 0, 0, 0, n),
+        Settle::BulkLen => inner(7, 0, 0, 0, 0),
+        Settle::Mis => inner(8, 0, 0, 0, 0),
+        Settle::Flags => inner(9, 0, 0, 0, 0),
+        Settle::St => inner(10, 0, 0, 0, 0),
+        Settle::Nak(st, q) => nak_as(st, q),
+    }
+}
+
+pub fn settle_of(sub: u8, now: u8, n: u16) -> Settle
+    ensures { λ r. ⌜ r ≡ settleOf sub now n ⌝ }
+{
+    match sub {
+        3 => Settle::IsoLook(n),
+        4 => Settle::IsoSt,
+        5 => Settle::IsoLen(now),
+        6 => Settle::BulkLook(n),
+        7 => Settle::BulkLen,
+        8 => Settle::Mis,
+        9 => Settle::Flags,
+        10 => Settle::St,
+        _ => Settle::Nak(now, nak_of(sub)),
+    }
+}
+
+pub fn toggled_as(d: Dir, iso: bool, p: Toggled) -> Numbers
+    ensures { λ r. ⌜ r ≡ toggledAs d iso p ⌝ }
+{
+    let ep = dir_as(d);
+    let now = flag_of(iso);
+    match p {
+        Toggled::Look(n) => inner(0, now, ep, 0, n),
+        Toggled::Word => inner(1, now, ep, 0, 0),
+        Toggled::AckRead => inner(2, now, ep, 0, 0),
+        Toggled::Acked => inner(3, now, ep, 0, 0),
+    }
+}
+
+pub fn toggled_of(sub: u8, n: u16) -> Toggled
+    ensures { λ r. ⌜ r ≡ toggledOf sub n ⌝ }
+{
+    match sub {
+        0 => Toggled::Look(n),
+        1 => Toggled::Word,
+        2 => Toggled::AckRead,
+        _ => Toggled::Acked,
+    }
+}
+
+pub fn complete_as(iso: bool, m: u16, p: Complete) -> Numbers
+    ensures { λ r. ⌜ r ≡ completeAs iso m p ⌝ }
+{
+    let now = flag_of(iso);
+    match p {
+        Complete::Sent(e) => inner(0, now, e, m, 0),
+        Complete::Loaded(e) => inner(1, now, e, m, 0),
+    }
+}
+
+pub fn complete_of(sub: u8, e: u8) -> Complete
+    ensures { λ r. ⌜ r ≡ completeOf sub e ⌝ }
+{
+    if sub == 0 {
+        Complete::Sent(e)
+    } else {
+        Complete::Loaded(e)
+    }
+}
+
+pub fn sof_as(iso: bool, p: Sof) -> Numbers
+    ensures { λ r. ⌜ r ≡ sofAs iso p ⌝ }
+{
+    let now = flag_of(iso);
+    match p {
+        Sof::Mis(e, m) => inner(2, now, e, m, 0),
+        Sof::St(e, m) => inner(3, now, e, m, 0),
+        Sof::Completing(m, q) => complete_as(iso, m, q),
+        Sof::Callback => inner(4, now, 0, 0, 0),
+    }
+}
+
+pub fn sof_of(sub: u8, e: u8, m: u16) -> Sof
+    ensures { λ r. ⌜ r ≡ sofOf sub e m ⌝ }
+{
+    match sub {
+        2 => Sof::Mis(e, m),
+        3 => Sof::St(e, m),
+        4 => Sof::Callback,
+        _ => Sof::Completing(m, complete_of(sub, e)),
+    }
+}
+
+pub fn late_as(iso: bool, p: Late) -> Numbers
+    ensures { λ r. ⌜ r ≡ lateAs iso p ⌝ }
+{
+    let m = p.rest;
+    let q = p.completing;
+    complete_as(iso, m, q)
+}
+
+pub fn late_of(sub: u8, e: u8, m: u16) -> Late
+    ensures { λ r. ⌜ r ≡ lateOf sub e m ⌝ }
+{
+    let completing = complete_of(sub, e);
+    Late {
+        rest: m,
+        completing,
+    }
+}
+
+pub fn check_as(iso: bool, p: Check) -> Numbers
+    ensures { λ r. ⌜ r ≡ checkAs iso p ⌝ }
+{
+    let now = flag_of(iso);
+    match p {
+        Check::St(e, m) => inner(0, now, e, m, 0),
+        Check::Armed(e, m) => inner(1, now, e, m, 0),
+    }
+}
+
+pub fn check_of(sub: u8, e: u8, m: u16) -> Check
+    ensures { λ r. ⌜ r ≡ checkOf sub e m ⌝ }
+{
+    if sub == 0 {
+        Check::St(e, m)
+    } else {
+        Check::Armed(e, m)
+    }
+}
+
+pub fn code(site: u8, setup: bool, x: Transfer, frame: u16, i: Numbers) -> Saved
+    ensures { λ r. ⌜ r ≡ code site setup x frame i ⌝ }
+{
+    Saved {
+        tag: 0,
+        sub: i.sub,
+        site,
+        flag: flag_of(setup),
+        busy: flag_of(x.busy),
+        late: flag_of(x.late),
+        len_ok: flag_of(x.len_ok),
+        st: x.st,
+        now: i.now,
+        ep: i.ep,
+        len: x.len,
+        frame,
+        eps: i.eps,
+        n: i.n,
+        value: 0,
+    }
+}
+
+// Before there is a transfer: the flags or the status, and busy.
+pub fn early(busy: bool, st: u8) -> Transfer
+    ensures { λ r. ⌜ r ≡ early busy st ⌝ }
+{
+    Transfer {
+        busy,
+        st,
+        len: 0,
+        late: false,
+        len_ok: false,
+    }
+}

@@ -1,0 +1,61 @@
+use Rattle.irq_resume.specs.Sites.{loaded-frame-no}
+use Rattle.irq_resume.specs.Resumes.{went-on, stays-on}
+use Rattle.handler.specs.Points.{fitsAt}
+use Rattle.state.specs.State.{view, saved}
+use denote.Ref.{now}
+use mathlib.Core.Path.{_∙_, sym, refl}
+use borrow.Author.Needs.{needs}
+use Rattle.irq_resume.proofs.serving.resume_frame_no.Statement.{statement}
+use Rattle.irq_resume.proofs.serving.resume_frame_no.Tie as tie
+
+fits-requires : tie.Need-fits-requires
+fits-requires c κs = search needs
+
+setup-at-requires : tie.Need-setup-at-requires
+setup-at-requires c κs = search needs
+
+transfer-at-requires : tie.Need-transfer-at-requires
+transfer-at-requires c κs = search needs
+
+iso-at-requires : tie.Need-iso-at-requires
+iso-at-requires c κs = search needs
+
+after-frame-no-requires : tie.Need-after-frame-no-requires
+after-frame-no-requires c κs =
+    let the-fits2 = c .before .before .before .before .before .before .before .before .before .fits2 in
+    let the-if1 = c .before .before .before .before .before .before .before .before .if1 in
+    sym (the-fits2 .ensures) ∙ the-if1 .taken
+
+same-length : tie.Need-same-length
+same-length c = search needs
+
+returns : tie.Need-returns
+unfolding fitsAt
+returns c =
+    let a = c .before .before .before .before .before .before .before .before .before .before .before .before .before .before .args in
+    let the-setup-at = c .before .before .before .before .before .before .before .before .before .setup-at in
+    let the-transfer-at = c .before .before .before .before .before .before .before .transfer-at in
+    let the-iso-at = c .before .before .before .before .before .iso-at in
+    let the-fits2 = c .before .before .before .before .before .before .before .before .before .before .before .before .fits2 in
+    let the-if1 = c .before .before .before .before .before .before .before .before .before .before .before .if1 in
+    let the-after-frame-no = c .before .before .after-frame-no in
+    (went-on (saved (now (a .s))) _ (a .v) (view (now (a .s))) (now (a .slots)) (loaded-frame-no _ _ _ _ (the-setup-at .ensures) (the-transfer-at .ensures) (the-iso-at .ensures) (c .before .before .before .before .before .before .before .before .before .before .before .before .before .before .pre)) (sym (the-fits2 .ensures) ∙ the-if1 .taken) (the-after-frame-no .ensures .0), the-after-frame-no .ensures .1 _)
+
+returns-2 : tie.Need-returns-2
+unfolding fitsAt
+returns-2 c =
+    let a = c .before .before .before .args in
+    (stays-on (saved (now (a .s))) _ (a .v) (view (now (a .s))) (now (a .slots)) (c .before .before .before .pre) (sym (c .before .fits2 .ensures) ∙ c .if1 .left), refl)
+
+pub resume-frame-no-spec : {M : Type 1} → statement M
+resume-frame-no-spec =
+    tie.close
+    (tie.spec
+    fits-requires
+    setup-at-requires
+    transfer-at-requires
+    iso-at-requires
+    after-frame-no-requires
+    same-length
+    returns
+    returns-2)

@@ -1,0 +1,30 @@
+-- A continue at a point of the interrupt
+use mathlib.Core.List.{List, []}
+use mathlib.Core.Path.{_≡_}
+use mathlib.Core.Bool.{true, false}
+use Prim.Native.Nat.{ℕ}
+use Rattle.state.specs.declared.Saved.{Saved}
+use Rattle.state.specs.Driver.{Driver}
+use Rattle.state.specs.State.{view}
+use Rattle.script.specs.Machine.{Buf}
+use Rattle.handler.specs.declared.Point.{Point}
+use Rattle.handler.specs.Points.{denote, fitsAt}
+use Rattle.irq_points.specs.Stands.{halted, Stops}
+use Rattle.way.specs.declared.Step.{Step}
+use Rattle.way.specs.declared.Under.the-variants as under
+use Rattle.way.specs.Under.{decode, machineOf, goneOn, answerOf}
+use Rattle.way.specs.Goes.{Called, stayed}
+use Rattle.way.specs.Interrupt.{gone-interrupt, stay-interrupt}
+use Rattle.going_on.specs.Going.{going, staying}
+
+-- what was brought fits: the rest stops where the call leaves it
+pub went-on : (c : Saved) (p : Point) (v : ℕ) (d : Driver) (b : Buf) → decode c ≡ under.Interrupt p
+    → {r : Step} {ys : List ℕ} {b' : Buf} → fitsAt p v ≡ true → Stops r ys b' (denote p v (d, b))
+    → _≡_ {A = Called} (answerOf r [] (view ys), machineOf ys b') (goneOn v (decode c) d b)
+unfolding halted
+went-on c p v d b e f k = going c (under.Interrupt p) v d b e (gone-interrupt p v d b f) (k .there)
+
+-- row 16: it stays awaited
+pub stays-on : (c : Saved) (p : Point) (v : ℕ) (d : Driver) (b : Buf) → decode c ≡ under.Interrupt p → fitsAt p v ≡ false
+    → stayed (decode c) d b ≡ goneOn v (decode c) d b
+stays-on c p v d b e f = staying c (under.Interrupt p) v d b e (stay-interrupt p v d b f)

@@ -1,0 +1,110 @@
+// The transfer is entered, released, settled (mod.rs 656-722).
+use entering::after_len;
+use entering::after_mis;
+use entering::after_naking;
+use entering::after_released;
+use entering::after_settling;
+use entering::after_st;
+use irq_points::loads::busy_at;
+use irq_points::loads::nak_at;
+use irq_points::loads::settle_at;
+use irq_points::loads::setup_at;
+use irq_points::loads::st_byte;
+use irq_points::loads::transfer_at;
+use regs::registers::fits;
+use state::STATE_LEN;
+use transfer::nak;
+use transfer::settle;
+use way::Step;
+ghost use mathlib.Core.Path.{_≡_};
+ghost use mathlib.Core.List.{List, []};
+ghost use Prim.Native.Nat.{ℕ};
+ghost use Rattle.script.specs.Statics.{isOn};
+ghost use Rattle.state.specs.State.{view, saved};
+ghost use Rattle.handler.specs.declared.Point.the-variants as Point;
+ghost use Rattle.handler_codec.specs.Codec.{nakOf, settleOf, transferOf};
+ghost use Rattle.way.specs.declared.Under.the-variants as Under;
+ghost use Rattle.way.specs.Under.{decode, machineOf, goneOn, answerOf, Kept};
+
+// mis_st: is a transaction on the bus? (mod.rs 656-661).
+pub fn resume_mis(s: &mut [u8; STATE_LEN], v: u32) -> Step
+    requires { ⌜ decode (saved (now s)) ≡ Under.Interrupt (Point.Mis (isOn ((saved (now s)) .flag))) ⌝ }
+    ensures { λ r. ⌜ ((b : List ℕ) → (answerOf r [] (view (now (s .exit))), machineOf (now (s .exit)) b) ≡ goneOn v (decode (saved (now (s .entry)))) (view (now (s .entry))) b) ⌝ }
+    ensures { λ r. ⌜ Kept r (now (s .entry)) (now (s .exit)) ⌝ }
+{
+    if fits(v, 2) {
+        let setup = setup_at(s);
+        return after_mis(s, setup, v);
+    }
+    Step::Refused(16)
+}
+
+// int_st.
+pub fn resume_st(s: &mut [u8; STATE_LEN], v: u32) -> Step
+    requires { ⌜ decode (saved (now s)) ≡ Under.Interrupt (Point.St (isOn ((saved (now s)) .flag)) (isOn ((saved (now s)) .busy))) ⌝ }
+    ensures { λ r. ⌜ ((b : List ℕ) → (answerOf r [] (view (now (s .exit))), machineOf (now (s .exit)) b) ≡ goneOn v (decode (saved (now (s .entry)))) (view (now (s .entry))) b) ⌝ }
+    ensures { λ r. ⌜ Kept r (now (s .entry)) (now (s .exit)) ⌝ }
+{
+    if fits(v, 7) {
+        let setup = setup_at(s);
+        let busy = busy_at(s);
+        return after_st(s, setup, busy, v);
+    }
+    Step::Refused(16)
+}
+
+// rx_len.
+pub fn resume_len(s: &mut [u8; STATE_LEN], v: u32) -> Step
+    requires { ⌜ decode (saved (now s)) ≡ Under.Interrupt (Point.Len (isOn ((saved (now s)) .flag)) (isOn ((saved (now s)) .busy)) ((saved (now s)) .st)) ⌝ }
+    ensures { λ r. ⌜ ((b : List ℕ) → (answerOf r [] (view (now (s .exit))), machineOf (now (s .exit)) b) ≡ goneOn v (decode (saved (now (s .entry)))) (view (now (s .entry))) b) ⌝ }
+    ensures { λ r. ⌜ Kept r (now (s .entry)) (now (s .exit)) ⌝ }
+{
+    if fits(v, 16) {
+        let setup = setup_at(s);
+        let busy = busy_at(s);
+        let st = st_byte(s);
+        return after_len(s, setup, busy, st, v);
+    }
+    Step::Refused(16)
+}
+
+// NAK before the release (mod.rs 663).
+pub fn resume_nak(s: &mut [u8; STATE_LEN], v: u32) -> Step
+    requires { ⌜ decode (saved (now s)) ≡ Under.Interrupt (Point.Nak (isOn ((saved (now s)) .flag)) (transferOf (saved (now s))) (nakOf ((saved (now s)) .sub))) ⌝ }
+    ensures { λ r. ⌜ ((b : List ℕ) → (answerOf r [] (view (now (s .exit))), machineOf (now (s .exit)) b) ≡ goneOn v (decode (saved (now (s .entry)))) (view (now (s .entry))) b) ⌝ }
+    ensures { λ r. ⌜ Kept r (now (s .entry)) (now (s .exit)) ⌝ }
+{
+    let q = nak_at(s);
+    if nak::fits_at(q, v) {
+        let setup = setup_at(s);
+        let x = transfer_at(s);
+        return after_naking(s, setup, x, q, v);
+    }
+    Step::Refused(16)
+}
+
+// the transfer flag is cleared (mod.rs 666-667).
+pub fn resume_released(s: &mut [u8; STATE_LEN]) -> Step
+    requires { ⌜ decode (saved (now s)) ≡ Under.Interrupt (Point.Released (isOn ((saved (now s)) .flag)) (transferOf (saved (now s)))) ⌝ }
+    ensures { λ r. ⌜ ((v : ℕ) (b : List ℕ) → (answerOf r [] (view (now (s .exit))), machineOf (now (s .exit)) b) ≡ goneOn v (decode (saved (now (s .entry)))) (view (now (s .entry))) b) ⌝ }
+    ensures { λ r. ⌜ Kept r (now (s .entry)) (now (s .exit)) ⌝ }
+{
+    let setup = setup_at(s);
+    let x = transfer_at(s);
+    after_released(s, setup, x)
+}
+
+// what was on the bus is waited for (mod.rs 668-717).
+pub fn resume_settle(s: &mut [u8; STATE_LEN], v: u32) -> Step
+    requires { ⌜ decode (saved (now s)) ≡ Under.Interrupt (Point.Settle (isOn ((saved (now s)) .flag)) (transferOf (saved (now s))) (settleOf ((saved (now s)) .sub) ((saved (now s)) .now) ((saved (now s)) .n))) ⌝ }
+    ensures { λ r. ⌜ ((b : List ℕ) → (answerOf r [] (view (now (s .exit))), machineOf (now (s .exit)) b) ≡ goneOn v (decode (saved (now (s .entry)))) (view (now (s .entry))) b) ⌝ }
+    ensures { λ r. ⌜ Kept r (now (s .entry)) (now (s .exit)) ⌝ }
+{
+    let q = settle_at(s);
+    if settle::fits_at(q, v) {
+        let setup = setup_at(s);
+        let x = transfer_at(s);
+        return after_settling(s, setup, x, q, v);
+    }
+    Step::Refused(16)
+}

@@ -1,0 +1,82 @@
+// The microframe, then the flags but the setup's (mod.rs 634-655).
+use entering::flags::after_bus_rst;
+use entering::flags::after_fifo;
+use entering::flags::after_flags;
+use entering::flags::after_frame;
+use entering::flags::after_host;
+use entering::flags::after_suspend;
+use irq_points::loads::st_byte;
+use regs::registers::fits;
+use state::STATE_LEN;
+use way::Step;
+ghost use mathlib.Core.Path.{_≡_};
+ghost use mathlib.Core.List.{List, []};
+ghost use Prim.Native.Nat.{ℕ};
+ghost use Rattle.state.specs.State.{view, saved};
+ghost use Rattle.handler.specs.declared.Point.the-variants as Point;
+ghost use Rattle.way.specs.declared.Under.the-variants as Under;
+ghost use Rattle.way.specs.Under.{decode, machineOf, goneOn, answerOf, Kept};
+
+// frame_no, whose microframe index what the interrupt admits carries.
+pub fn resume_frame(s: &mut [u8; STATE_LEN], v: u32) -> Step
+    requires { ⌜ decode (saved (now s)) ≡ Under.Interrupt Point.Frame ⌝ }
+    ensures { λ r. ⌜ ((b : List ℕ) → (answerOf r [] (view (now (s .exit))), machineOf (now (s .exit)) b) ≡ goneOn v (decode (saved (now (s .entry)))) (view (now (s .entry))) b) ⌝ }
+    ensures { λ r. ⌜ Kept r (now (s .entry)) (now (s .exit)) ⌝ }
+{
+    if fits(v, 16) {
+        return after_frame(s, v);
+    }
+    Step::Refused(16)
+}
+
+// int_fg (mod.rs 637).
+pub fn resume_flags(s: &mut [u8; STATE_LEN], v: u32) -> Step
+    requires { ⌜ decode (saved (now s)) ≡ Under.Interrupt Point.Flags ⌝ }
+    ensures { λ r. ⌜ ((b : List ℕ) → (answerOf r [] (view (now (s .exit))), machineOf (now (s .exit)) b) ≡ goneOn v (decode (saved (now (s .entry)))) (view (now (s .entry))) b) ⌝ }
+    ensures { λ r. ⌜ Kept r (now (s .entry)) (now (s .exit)) ⌝ }
+{
+    if fits(v, 6) {
+        return after_flags(s, v);
+    }
+    Step::Refused(16)
+}
+
+// the reset interrupt is masked (mod.rs 640-643).
+pub fn resume_bus_rst(s: &mut [u8; STATE_LEN]) -> Step
+    requires { ⌜ decode (saved (now s)) ≡ Under.Interrupt (Point.BusRst ((saved (now s)) .st)) ⌝ }
+    ensures { λ r. ⌜ ((v : ℕ) (b : List ℕ) → (answerOf r [] (view (now (s .exit))), machineOf (now (s .exit)) b) ≡ goneOn v (decode (saved (now (s .entry)))) (view (now (s .entry))) b) ⌝ }
+    ensures { λ r. ⌜ Kept r (now (s .entry)) (now (s .exit)) ⌝ }
+{
+    let f = st_byte(s);
+    after_bus_rst(s, f)
+}
+
+// the suspend interrupt is (mod.rs 644-648).
+pub fn resume_suspend(s: &mut [u8; STATE_LEN]) -> Step
+    requires { ⌜ decode (saved (now s)) ≡ Under.Interrupt (Point.Suspend ((saved (now s)) .st)) ⌝ }
+    ensures { λ r. ⌜ ((v : ℕ) (b : List ℕ) → (answerOf r [] (view (now (s .exit))), machineOf (now (s .exit)) b) ≡ goneOn v (decode (saved (now (s .entry)))) (view (now (s .entry))) b) ⌝ }
+    ensures { λ r. ⌜ Kept r (now (s .entry)) (now (s .exit)) ⌝ }
+{
+    let f = st_byte(s);
+    after_suspend(s, f)
+}
+
+// the FIFO flag is cleared (mod.rs 649-651).
+pub fn resume_fifo(s: &mut [u8; STATE_LEN]) -> Step
+    requires { ⌜ decode (saved (now s)) ≡ Under.Interrupt (Point.Fifo ((saved (now s)) .st)) ⌝ }
+    ensures { λ r. ⌜ ((v : ℕ) (b : List ℕ) → (answerOf r [] (view (now (s .exit))), machineOf (now (s .exit)) b) ≡ goneOn v (decode (saved (now (s .entry)))) (view (now (s .entry))) b) ⌝ }
+    ensures { λ r. ⌜ Kept r (now (s .entry)) (now (s .exit)) ⌝ }
+{
+    let f = st_byte(s);
+    after_fifo(s, f)
+}
+
+// the host SOF flag is (mod.rs 652-655).
+pub fn resume_host(s: &mut [u8; STATE_LEN]) -> Step
+    requires { ⌜ decode (saved (now s)) ≡ Under.Interrupt (Point.Host ((saved (now s)) .st)) ⌝ }
+    ensures { λ r. ⌜ ((v : ℕ) (b : List ℕ) → (answerOf r [] (view (now (s .exit))), machineOf (now (s .exit)) b) ≡ goneOn v (decode (saved (now (s .entry)))) (view (now (s .entry))) b) ⌝ }
+    ensures { λ r. ⌜ Kept r (now (s .entry)) (now (s .exit)) ⌝ }
+{
+    let f = st_byte(s);
+    after_host(s, f)
+}
