@@ -4,7 +4,6 @@
 mod card; // card.rt: packets on the card and back
 mod list; // list.rt: the recorded list
 
-use bus_time::TIME_LEN;
 use card::CARD_LEN;
 use card::Counts;
 use libc::STDIN_FILENO;
@@ -12,8 +11,9 @@ use list::Entry;
 use list::LIST_LEN;
 use list::SLOTS_LEN;
 use list::number;
+use print_access::text::print;
+use req_bus_time::TIME_LEN;
 use state::STATE_LEN;
-use wording::text::print;
 
 // The number of a store in the list, and the answer of what is no call.
 const STORE: u32 = 34;
@@ -24,7 +24,7 @@ const NO_ANSWER: u64 = 15;
 const FRAME: u32 = 0;
 
 fn say(n: u32) {
-    wording::text::number(n);
+    print_access::text::number(n);
 }
 
 // Makes an entry's call on the port; those that the incident does not have are left out.

@@ -6,7 +6,7 @@ use lib.Dec.{eqb}
 use Rattle.regs.specs.declared.Dir.{Dir}
 use Rattle.regs.specs.declared.Dir.the-variants.{Out, In}
 use Rattle.state.specs.declared.Saved.{Saved}
-use Rattle.script.specs.Statics.{isOn, flag}
+use Rattle.model.specs.Statics.{isOn, flag}
 use Rattle.bus.specs.declared.Point.{Point}
 use Rattle.bus.specs.declared.Point.the-variants as point
 

@@ -7,8 +7,8 @@ use borrow.Author.Tests.{lt-ltb, ltb-true}
 use Rattle.regs.specs.declared.Dir.{Dir}
 use Rattle.regs.specs.declared.Dir.the-variants.{Out, In}
 use Rattle.regs.specs.Registers.{ctrlOf, widthOf, fitsIn}
-use Rattle.script.specs.Tree as tree
-use Rattle.ops.specs.Rings.{St}
+use Rattle.model.specs.Tree as tree
+use Rattle.model_ops.specs.Rings.{St}
 use Rattle.bus.specs.declared.Point.{Point}
 use Rattle.bus.specs.declared.Point.the-variants as point
 use Rattle.bus.specs.Points.{denote, fitsAt}

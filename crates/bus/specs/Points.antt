@@ -14,16 +14,16 @@ use Rattle.regs.specs.IntEn.{withBusRst, withSuspend}
 use Rattle.regs.specs.Ctrl.{pulledUp}
 use Rattle.state.specs.declared.EpState.{EpState}
 use Rattle.state.specs.Driver.{Driver, epOn, withOn}
-use Rattle.script.specs.Tree as tree
-use Rattle.script.specs.Tree.{asks, ends, bindOut}
-use Rattle.script.specs.Cells.{globals-cell}
-use Rattle.script.specs.Script.{Script, run, rows, ret, done, test, _>>=_, _>>_, read, write, get, act, row, when, set-enabled, switch, bus-reset}
-use Rattle.script.specs.Statics.{flag, completed, renewed, withArmed, modifyEp, modifyIntEn, wake, wakeAll}
-use Rattle.script.specs.Machine.{Awaits, nothing, reading, awaited}
-use Rattle.script.specs.Bus.{nakAll, busReset, kept, setEnabledOut}
-use Rattle.ops.specs.Records.{plainOf, merged}
-use Rattle.ops.specs.Rings.{St, emptiedOn}
-use Rattle.ops.specs.Conc.{conc}
+use Rattle.model.specs.Tree as tree
+use Rattle.model.specs.Tree.{asks, ends, bindOut}
+use Rattle.model.specs.Cells.{globals-cell}
+use Rattle.model.specs.Script.{Script, run, rows, ret, done, test, _>>=_, _>>_, read, write, get, act, row, when, set-enabled, switch, bus-reset}
+use Rattle.model.specs.Statics.{flag, completed, renewed, withArmed, modifyEp, modifyIntEn, wake, wakeAll}
+use Rattle.model.specs.Machine.{Awaits, nothing, reading, awaited}
+use Rattle.model.specs.Bus.{nakAll, busReset, kept, setEnabledOut}
+use Rattle.model_ops.specs.Records.{plainOf, merged}
+use Rattle.model_ops.specs.Rings.{St, emptiedOn}
+use Rattle.model_ops.specs.Conc.{conc}
 use Rattle.bus.specs.declared.Point.{Point}
 use Rattle.bus.specs.declared.Point.the-variants as point
 use Rattle.bus.specs.declared.Next.{Next}

@@ -1,10 +1,10 @@
 // A point as numbers, and back.
 use crate::Point;
-use ops::rings::is_on;
+use model_ops::rings::is_on;
 use regs::Dir;
 use state::Saved;
 ghost use mathlib.Core.Path.{_≡_};
-ghost use Rattle.script.specs.Statics.{flag};
+ghost use Rattle.model.specs.Statics.{flag};
 ghost use Rattle.bus.specs.Codec.{dirAs, dirOf, code, encode, decode};
 
 fn dir_as(d: Dir) -> u8

@@ -1,9 +1,9 @@
-use arming::reset_all;
 use bus::Next;
 use bus::Point;
 use bus::byte;
-use ops::records::wake_all;
-use ops::rings::is_on;
+use model_ops::records::wake_all;
+use model_ops::rings::is_on;
+use model_ops_slots::reset_all;
 use regs::Access;
 use regs::Reg;
 use regs::control_word;
@@ -24,8 +24,8 @@ ghost use Rattle.regs.specs.Registers.{fitsIn};
 ghost use Rattle.regs.specs.ControlWord.{NAK, DATA0, wordOf};
 ghost use Rattle.state.specs.Driver.{Driver};
 ghost use Rattle.state.specs.State.{view, saved};
-ghost use Rattle.script.specs.Bus as script;
-ghost use Rattle.ops.specs.Conc.{go};
+ghost use Rattle.model.specs.Bus as script;
+ghost use Rattle.model_ops.specs.Conc.{go};
 ghost use Rattle.bus.specs.Points.{afterReset, afterNaked, afterStatus, afterReleased, afterFlags, denote, meaning, Linked};
 
 // `poll` (mod.rs 1231-1266).

@@ -26,8 +26,8 @@ ghost use mathlib.Core.List.{List};
 ghost use Prim.Native.Nat.{ℕ};
 ghost use Rattle.state.specs.Driver.{Driver};
 ghost use Rattle.state.specs.State.{view, saved};
-ghost use Rattle.script.specs.Bus as script;
-ghost use Rattle.ops.specs.Conc.{go};
+ghost use Rattle.model.specs.Bus as script;
+ghost use Rattle.model_ops.specs.Conc.{go};
 ghost use Rattle.bus.specs.Points.{resultless, denote, meaning, Linked, fitsAt};
 
 // `enable` (mod.rs 1225-1227).
@@ -69,6 +69,6 @@ pub fn resume(s: &mut [u8; STATE_LEN], buf: &mut [u8], p: Point, v: u32) -> Next
         Point::Untyped => after_untyped(),
         Point::Single => after_single(s),
         Point::Reset => after_reset(s),
-        _ => enabling::resume(s, buf, p, v),
+        _ => bus_set_enabled::resume(s, buf, p, v),
     }
 }

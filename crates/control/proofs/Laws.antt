@@ -17,16 +17,16 @@ use Rattle.state.specs.declared.Control.{Control}
 use Rattle.state.specs.declared.EpState.{EpState}
 use Rattle.state.specs.Driver.{Driver, epOn, withGlobals, withControl, withWakes}
 use Rattle.state.specs.Wakes.{none-woken}
-use Rattle.script.specs.Statics.{isOn, flag, withReady, withLen, withArmed, withSetup}
-use Rattle.script.specs.Tree.{ends}
-use Rattle.script.specs.Script.{ret}
-use Rattle.script.specs.Answers.{Refused, NotYet, Done}
-use Rattle.script.specs.Control.{SETUP, ACCEPT, DATA-OUT, DATA-IN, setupBytes, pollSetup, pollAccept, pollDataIn, pollDataOut, aborted-else, take-out, take-closing, take-in, requestOf, dataInOf, addressOf, no-control, beginAccept, beginAcceptSetAddress, beginReject, beginDataOut, beginDataIn}
-use Rattle.ops.specs.Rings.{St, filledEp0}
-use Rattle.ops.specs.Conc.{go}
-use Rattle.request.specs.Records.{modifiedOn}
-use Rattle.request.specs.Front.{front-over}
-use Rattle.request.specs.Answers.{lentAfter}
+use Rattle.model.specs.Statics.{isOn, flag, withReady, withLen, withArmed, withSetup}
+use Rattle.model.specs.Tree.{ends}
+use Rattle.model.specs.Script.{ret}
+use Rattle.model.specs.Answers.{Refused, NotYet, Done}
+use Rattle.model.specs.Control.{SETUP, ACCEPT, DATA-OUT, DATA-IN, setupBytes, pollSetup, pollAccept, pollDataIn, pollDataOut, aborted-else, take-out, take-closing, take-in, requestOf, dataInOf, addressOf, no-control, beginAccept, beginAcceptSetAddress, beginReject, beginDataOut, beginDataIn}
+use Rattle.model_ops.specs.Rings.{St, filledEp0}
+use Rattle.model_ops.specs.Conc.{go}
+use Rattle.endpoint_common.specs.Records.{modifiedOn}
+use Rattle.endpoint_common.specs.Front.{front-over}
+use Rattle.endpoint_common.specs.Answers.{lentAfter}
 use Rattle.control.specs.declared.Point.{Point}
 use Rattle.control.specs.declared.Point.the-variants as point
 use Rattle.control.specs.declared.Begun.the-variants as begun

@@ -11,9 +11,9 @@ ghost use lib.Dec.{eqb, ltb};
 ghost use Rattle.regs.specs.declared.Dir.the-variants.{Out, In};
 ghost use Rattle.state.specs.Driver.{withControl};
 ghost use Rattle.state.specs.State.{view, saved};
-ghost use Rattle.script.specs.Statics.{withReady, withLen, withArmed};
-ghost use Rattle.script.specs.Control.{requestOf, dataInOf, addressOf};
-ghost use Rattle.request.specs.Records.{modifiedOn};
+ghost use Rattle.model.specs.Statics.{withReady, withLen, withArmed};
+ghost use Rattle.model.specs.Control.{requestOf, dataInOf, addressOf};
+ghost use Rattle.endpoint_common.specs.Records.{modifiedOn};
 
 pub const SETUP: u8 = 1;
 

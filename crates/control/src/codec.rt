@@ -1,11 +1,11 @@
 // A point as the fixed record of the state, and back: the point's number in `sub`, a direction in `site`, whether the packet is the stage's
 // first in `flag`, a length in `len`.
 use crate::Point;
-use ops::rings::is_on;
+use model_ops::rings::is_on;
 use regs::Dir;
 use state::Saved;
 ghost use mathlib.Core.Path.{_≡_};
-ghost use Rattle.script.specs.Statics.{flag};
+ghost use Rattle.model.specs.Statics.{flag};
 ghost use Rattle.control.specs.Codec.{dirAs, dirOf, code, encode, decode};
 
 pub fn flag_as(b: bool) -> u8

@@ -1,13 +1,13 @@
 // A point as the saved record, and back; what fits a point.
 use driver::Point;
-use ops::rings::is_on;
+use model_ops::rings::is_on;
 use regs::Dir;
 use regs::Reg;
 use regs::registers::fits;
 use regs::registers::width;
 use state::Saved;
 ghost use mathlib.Core.Path.{_≡_};
-ghost use Rattle.script.specs.Statics.{flag};
+ghost use Rattle.model.specs.Statics.{flag};
 ghost use Rattle.driver.specs.Points.{fitsAt};
 ghost use Rattle.driver_codec.specs.Codec.{dirAs, dirOf, code, listCode, encode, decode};
 

@@ -19,20 +19,20 @@ use Rattle.regs.specs.Enables as enables
 use Rattle.state.specs.declared.EpState.{EpState}
 use Rattle.state.specs.Driver.{Driver, epOn, requestOn, withRequestOn, withWakes}
 use Rattle.state.specs.Wakes.{none-woken}
-use Rattle.script.specs.Tree as tree
-use Rattle.script.specs.Tree.{ends}
-use Rattle.script.specs.Cells.{Plain}
-use Rattle.script.specs.Script.{ret}
-use Rattle.script.specs.Statics.{isOn, withReady, withArmed}
-use Rattle.script.specs.Answers.{Answer, Refused, NotYet, Done, isAllocated}
-use Rattle.script.specs.Endpoint.{begun, no-request, enabled-else, ends-request, tooLong, beginRead, pollRead, take-iso, take-ready, beginWrite, pollWrite, put-iso, sent-ready}
-use Rattle.ops.specs.Records.{plainOf}
-use Rattle.ops.specs.Rings.{St, waitingOn, roomOn, oldestAt, nextLen, oldestOn, takeOn, enqueueOn, filledOn}
-use Rattle.ops.specs.Conc.{go}
-use Rattle.request.specs.Records.{modifiedOn}
-use Rattle.request.specs.Front.{front-over}
-use Rattle.request.specs.Answers.{front, lentAfter}
-use Rattle.rows.specs.Rows.{refusalOf, started, allocated, by-row}
+use Rattle.model.specs.Tree as tree
+use Rattle.model.specs.Tree.{ends}
+use Rattle.model.specs.Cells.{Plain}
+use Rattle.model.specs.Script.{ret}
+use Rattle.model.specs.Statics.{isOn, withReady, withArmed}
+use Rattle.model.specs.Answers.{Answer, Refused, NotYet, Done, isAllocated}
+use Rattle.model.specs.Endpoint.{begun, no-request, enabled-else, ends-request, tooLong, beginRead, pollRead, take-iso, take-ready, beginWrite, pollWrite, put-iso, sent-ready}
+use Rattle.model_ops.specs.Records.{plainOf}
+use Rattle.model_ops.specs.Rings.{St, waitingOn, roomOn, oldestAt, nextLen, oldestOn, takeOn, enqueueOn, filledOn}
+use Rattle.model_ops.specs.Conc.{go}
+use Rattle.endpoint_common.specs.Records.{modifiedOn}
+use Rattle.endpoint_common.specs.Front.{front-over}
+use Rattle.endpoint_common.specs.Answers.{front, lentAfter}
+use Rattle.endpoint_rows.specs.Rows.{refusalOf, started, allocated, by-row}
 use Rattle.endpoint.specs.declared.Point.{Point}
 use Rattle.endpoint.specs.declared.Point.the-variants as point
 use Rattle.endpoint.specs.declared.Begun.the-variants as begun-as

@@ -7,6 +7,7 @@ mod write;
 
 pub use codec::decode;
 pub use codec::encode;
+use endpoint_common::byte;
 pub use read::begin_read;
 pub use read::poll_read;
 use regs::Access;
@@ -16,7 +17,6 @@ use regs::control_word::ack;
 use regs::registers::ctrl_of;
 use regs::registers::fits;
 use regs::registers::width;
-use request::byte;
 pub use write::begin_write;
 pub use write::poll_write;
 ghost use mathlib.Core.Path.{_≡_};
@@ -24,7 +24,7 @@ ghost use mathlib.Core.Bool.{true};
 ghost use mathlib.Core.List.{List};
 ghost use Prim.Native.Nat.{ℕ};
 ghost use Rattle.state.specs.Driver.{Driver};
-ghost use Rattle.ops.specs.Conc.{go};
+ghost use Rattle.model_ops.specs.Conc.{go};
 ghost use Rattle.endpoint.specs.Points.{denote, meaning, Linked, fitsAt};
 
 // Where an operation stops.

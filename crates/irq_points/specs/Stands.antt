@@ -5,17 +5,17 @@ use mathlib.Core.Path.{_≡_}
 use Prim.Native.Nat.{ℕ}
 use Rattle.regs.specs.declared.Access.{Access}
 use Rattle.state.specs.State.{view, saved}
-use Rattle.script.specs.Tree.{Out, bindOut}
-use Rattle.script.specs.Script.{run}
-use Rattle.script.specs.Machine.{Buf}
-use Rattle.ops.specs.Rings.{St}
-use Rattle.ops.specs.Conc.{conc}
-use Rattle.handler.specs.declared.Point.{Point}
-use Rattle.way.specs.declared.Under.the-variants as under
-use Rattle.way.specs.declared.Step.{Step}
-use Rattle.way.specs.declared.Step.the-variants as step
-use Rattle.way.specs.Under.{encode, finish, haltsAs, machineOf, answerOf}
-use Rattle.way.specs.Goes.{Called}
+use Rattle.model.specs.Tree.{Out, bindOut}
+use Rattle.model.specs.Script.{run}
+use Rattle.model.specs.Machine.{Buf}
+use Rattle.model_ops.specs.Rings.{St}
+use Rattle.model_ops.specs.Conc.{conc}
+use Rattle.irq.specs.declared.Point.{Point}
+use Rattle.machine.specs.declared.Under.the-variants as under
+use Rattle.machine.specs.declared.Step.{Step}
+use Rattle.machine.specs.declared.Step.the-variants as step
+use Rattle.machine.specs.Under.{encode, finish, haltsAs, machineOf, answerOf}
+use Rattle.machine.specs.Goes.{Called}
 
 -- the access q is answered, the view stays, and all 22 bytes of what is saved are the point's
 pub record Stands (r : Step) (q : Access) (p : Point) (xs ys : List ℕ) : Type 0 where

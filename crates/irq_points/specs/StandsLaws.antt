@@ -5,17 +5,17 @@ use Prim.Native.Nat.{ℕ}
 use Rattle.regs.specs.declared.Access.{Access}
 use Rattle.state.specs.Driver.{Driver}
 use Rattle.state.specs.State.{view, saved}
-use Rattle.script.specs.Tree.{Out}
-use Rattle.script.specs.Machine.{Buf, awaited}
-use Rattle.ops.specs.Rings.{St}
-use Rattle.handler.specs.declared.Point.{Point}
-use Rattle.handler.specs.declared.Next.the-variants as next
-use Rattle.handler.specs.Points.{meaning, awaitsAt}
-use Rattle.way.specs.declared.Under.the-variants as under
-use Rattle.way.specs.declared.Step.{Step}
-use Rattle.way.specs.Under.{decode, decode-encode, machineOf, handedOut, answerOf, Kept, Stored}
-use Rattle.way.specs.Goes.{Called}
-use Rattle.way.specs.Keeps.{canonical}
+use Rattle.model.specs.Tree.{Out}
+use Rattle.model.specs.Machine.{Buf, awaited}
+use Rattle.model_ops.specs.Rings.{St}
+use Rattle.irq.specs.declared.Point.{Point}
+use Rattle.irq.specs.declared.Next.the-variants as next
+use Rattle.irq.specs.Points.{meaning, awaitsAt}
+use Rattle.machine.specs.declared.Under.the-variants as under
+use Rattle.machine.specs.declared.Step.{Step}
+use Rattle.machine.specs.Under.{decode, decode-encode, machineOf, handedOut, answerOf, Kept, Stored}
+use Rattle.machine.specs.Goes.{Called}
+use Rattle.machine.specs.Keeps.{canonical}
 use Rattle.irq_points.specs.Stands.{Stands, halted, Stops}
 
 -- all 22 bytes are pinned

@@ -1,18 +1,18 @@
 // The numbers of a point: its inner point's, and the record that is saved of it.
-use handler_codec::Numbers;
+use irq_codec::Numbers;
+use irq_transfer::nak::Nak;
+use irq_transfer::settle::Settle;
+use irq_transfer::toggled::Toggled;
 use iso_in::complete::Complete;
 use iso_in::late::Late;
 use iso_in::sof::Sof;
 use iso_out::Check;
+use model::Transfer;
 use regs::Dir;
-use script::Transfer;
 use state::Saved;
-use transfer::nak::Nak;
-use transfer::settle::Settle;
-use transfer::toggled::Toggled;
 ghost use mathlib.Core.Path.{_≡_};
-ghost use Rattle.script.specs.Statics.{flag};
-ghost use Rattle.handler_codec.specs.Codec.{dirAs, dirOf, inner, none, onDir, nakAs, nakOf, settleAs, settleOf, toggledAs, toggledOf, completeAs, completeOf, sofAs, sofOf, lateAs, lateOf, checkAs, checkOf, code, early};
+ghost use Rattle.model.specs.Statics.{flag};
+ghost use Rattle.irq_codec.specs.Codec.{dirAs, dirOf, inner, none, onDir, nakAs, nakOf, settleAs, settleOf, toggledAs, toggledOf, completeAs, completeOf, sofAs, sofOf, lateAs, lateOf, checkAs, checkOf, code, early};
 
 fn dir_as(d: Dir) -> u8
     ensures { λ r. ⌜ r ≡ dirAs d ⌝ }

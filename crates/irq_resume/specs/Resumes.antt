@@ -6,16 +6,16 @@ use Prim.Native.Nat.{ℕ}
 use Rattle.state.specs.declared.Saved.{Saved}
 use Rattle.state.specs.Driver.{Driver}
 use Rattle.state.specs.State.{view}
-use Rattle.script.specs.Machine.{Buf}
-use Rattle.handler.specs.declared.Point.{Point}
-use Rattle.handler.specs.Points.{denote, fitsAt}
+use Rattle.model.specs.Machine.{Buf}
+use Rattle.irq.specs.declared.Point.{Point}
+use Rattle.irq.specs.Points.{denote, fitsAt}
 use Rattle.irq_points.specs.Stands.{halted, Stops}
-use Rattle.way.specs.declared.Step.{Step}
-use Rattle.way.specs.declared.Under.the-variants as under
-use Rattle.way.specs.Under.{decode, machineOf, goneOn, answerOf}
-use Rattle.way.specs.Goes.{Called, stayed}
-use Rattle.way.specs.Interrupt.{gone-interrupt, stay-interrupt}
-use Rattle.going_on.specs.Going.{going, staying}
+use Rattle.machine.specs.declared.Step.{Step}
+use Rattle.machine.specs.declared.Under.the-variants as under
+use Rattle.machine.specs.Under.{decode, machineOf, goneOn, answerOf}
+use Rattle.machine.specs.Goes.{Called, stayed}
+use Rattle.machine.specs.Interrupt.{gone-interrupt, stay-interrupt}
+use Rattle.machine_resume_op.specs.Going.{going, staying}
 
 -- what was brought fits: the rest stops where the call leaves it
 pub went-on : (c : Saved) (p : Point) (v : ℕ) (d : Driver) (b : Buf) → decode c ≡ under.Interrupt p

@@ -4,22 +4,22 @@ use mathlib.Core.Bool.{Bool, true, false}
 use Prim.Native.Nat.{ℕ}
 use borrow.Author.Tests.{ne-eqb}
 use Rattle.regs.specs.declared.Dir.{Dir}
-use Rattle.script.specs.Statics.{isOn}
-use Rattle.script.specs.declared.Transfer.{Transfer}
+use Rattle.model.specs.Statics.{isOn}
+use Rattle.model.specs.declared.Transfer.{Transfer}
 use Rattle.state.specs.declared.Saved.{Saved}
-use Rattle.transfer.specs.declared.nak.Nak.{Nak}
-use Rattle.transfer.specs.declared.settle.Settle.{Settle}
-use Rattle.transfer.specs.declared.toggled.Toggled.{Toggled}
+use Rattle.irq_transfer.specs.declared.nak.Nak.{Nak}
+use Rattle.irq_transfer.specs.declared.settle.Settle.{Settle}
+use Rattle.irq_transfer.specs.declared.toggled.Toggled.{Toggled}
 use Rattle.iso_in.specs.declared.complete.Complete.{Complete}
 use Rattle.iso_in.specs.declared.sof.Sof.{Sof}
 use Rattle.iso_in.specs.declared.late.Late.{Late}
 use Rattle.iso_out.specs.declared.Check.{Check}
-use Rattle.handler.specs.declared.Point.the-variants as point
-use Rattle.handler_codec.specs.Codec as codec
-use Rattle.handler_codec.specs.Codec.{dirOf, transferOf, nakOf, settleOf, toggledOf, completeOf, sofOf, lateOf, checkOf}
-use Rattle.way.specs.declared.Under.the-variants as under
-use Rattle.way.specs.Under.{decode}
-use Rattle.way.specs.Tags.{at-interrupt}
+use Rattle.irq.specs.declared.Point.the-variants as point
+use Rattle.irq_codec.specs.Codec as codec
+use Rattle.irq_codec.specs.Codec.{dirOf, transferOf, nakOf, settleOf, toggledOf, completeOf, sofOf, lateOf, checkOf}
+use Rattle.machine.specs.declared.Under.the-variants as under
+use Rattle.machine.specs.Under.{decode}
+use Rattle.machine.specs.Tags.{at-interrupt}
 
 -- any other number
 is-frame : (c : Saved) → (c .site ≡ 1 → ⊥) → (c .site ≡ 2 → ⊥) → (c .site ≡ 3 → ⊥) → (c .site ≡ 4 → ⊥) → (c .site ≡ 5 → ⊥)

@@ -1,30 +1,30 @@
 // The transfer is entered, released, settled (mod.rs 656-722).
-use entering::after_len;
-use entering::after_mis;
-use entering::after_naking;
-use entering::after_released;
-use entering::after_settling;
-use entering::after_st;
+use irq_entry::after_len;
+use irq_entry::after_mis;
+use irq_entry::after_naking;
+use irq_entry::after_released;
+use irq_entry::after_settling;
+use irq_entry::after_st;
 use irq_points::loads::busy_at;
 use irq_points::loads::nak_at;
 use irq_points::loads::settle_at;
 use irq_points::loads::setup_at;
 use irq_points::loads::st_byte;
 use irq_points::loads::transfer_at;
+use irq_transfer::nak;
+use irq_transfer::settle;
+use machine::Step;
 use regs::registers::fits;
 use state::STATE_LEN;
-use transfer::nak;
-use transfer::settle;
-use way::Step;
 ghost use mathlib.Core.Path.{_≡_};
 ghost use mathlib.Core.List.{List, []};
 ghost use Prim.Native.Nat.{ℕ};
-ghost use Rattle.script.specs.Statics.{isOn};
+ghost use Rattle.model.specs.Statics.{isOn};
 ghost use Rattle.state.specs.State.{view, saved};
-ghost use Rattle.handler.specs.declared.Point.the-variants as Point;
-ghost use Rattle.handler_codec.specs.Codec.{nakOf, settleOf, transferOf};
-ghost use Rattle.way.specs.declared.Under.the-variants as Under;
-ghost use Rattle.way.specs.Under.{decode, machineOf, goneOn, answerOf, Kept};
+ghost use Rattle.irq.specs.declared.Point.the-variants as Point;
+ghost use Rattle.irq_codec.specs.Codec.{nakOf, settleOf, transferOf};
+ghost use Rattle.machine.specs.declared.Under.the-variants as Under;
+ghost use Rattle.machine.specs.Under.{decode, machineOf, goneOn, answerOf, Kept};
 
 // mis_st: is a transaction on the bus? (mod.rs 656-661).
 pub fn resume_mis(s: &mut [u8; STATE_LEN], v: u32) -> Step

@@ -1,21 +1,21 @@
 // The microframe, then the flags but the setup's (mod.rs 634-655).
-use entering::flags::after_bus_rst;
-use entering::flags::after_fifo;
-use entering::flags::after_flags;
-use entering::flags::after_frame;
-use entering::flags::after_host;
-use entering::flags::after_suspend;
+use irq_entry::flags::after_bus_rst;
+use irq_entry::flags::after_fifo;
+use irq_entry::flags::after_flags;
+use irq_entry::flags::after_frame;
+use irq_entry::flags::after_host;
+use irq_entry::flags::after_suspend;
 use irq_points::loads::st_byte;
+use machine::Step;
 use regs::registers::fits;
 use state::STATE_LEN;
-use way::Step;
 ghost use mathlib.Core.Path.{_≡_};
 ghost use mathlib.Core.List.{List, []};
 ghost use Prim.Native.Nat.{ℕ};
 ghost use Rattle.state.specs.State.{view, saved};
-ghost use Rattle.handler.specs.declared.Point.the-variants as Point;
-ghost use Rattle.way.specs.declared.Under.the-variants as Under;
-ghost use Rattle.way.specs.Under.{decode, machineOf, goneOn, answerOf, Kept};
+ghost use Rattle.irq.specs.declared.Point.the-variants as Point;
+ghost use Rattle.machine.specs.declared.Under.the-variants as Under;
+ghost use Rattle.machine.specs.Under.{decode, machineOf, goneOn, answerOf, Kept};
 
 // frame_no, whose microframe index what the interrupt admits carries.
 pub fn resume_frame(s: &mut [u8; STATE_LEN], v: u32) -> Step

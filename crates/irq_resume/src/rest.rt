@@ -1,27 +1,27 @@
 // Isochronous OUTs looked at, EP0's hidden stage, a new control transfer (mod.rs 792-852).
-use checking::after_checking;
-use checking::after_moved_read;
-use checking::after_moved_wrote;
-use checking::setup::after_setup_released;
-use checking::setup::after_setup_rx;
-use checking::setup::after_setup_tx;
+use irq_check::after_checking;
+use irq_check::after_moved_read;
+use irq_check::after_moved_wrote;
+use irq_check::setup::after_setup_released;
+use irq_check::setup::after_setup_rx;
+use irq_check::setup::after_setup_tx;
 use irq_points::loads::check_at;
 use irq_points::loads::dir_at;
 use irq_points::loads::iso_at;
 use irq_points::loads::setup_at;
 use irq_points::loads::transfer_at;
+use machine::Step;
 use regs::registers::fits;
 use state::STATE_LEN;
-use way::Step;
 ghost use mathlib.Core.Path.{_≡_};
 ghost use mathlib.Core.List.{List, []};
 ghost use Prim.Native.Nat.{ℕ};
-ghost use Rattle.script.specs.Statics.{isOn};
+ghost use Rattle.model.specs.Statics.{isOn};
 ghost use Rattle.state.specs.State.{view, saved};
-ghost use Rattle.handler.specs.declared.Point.the-variants as Point;
-ghost use Rattle.handler_codec.specs.Codec.{checkOf, dirOf, transferOf};
-ghost use Rattle.way.specs.declared.Under.the-variants as Under;
-ghost use Rattle.way.specs.Under.{decode, machineOf, goneOn, answerOf, Kept};
+ghost use Rattle.irq.specs.declared.Point.the-variants as Point;
+ghost use Rattle.irq_codec.specs.Codec.{checkOf, dirOf, transferOf};
+ghost use Rattle.machine.specs.declared.Under.the-variants as Under;
+ghost use Rattle.machine.specs.Under.{decode, machineOf, goneOn, answerOf, Kept};
 
 // isochronous OUTs are looked at (`iso_out_check`).
 pub fn resume_check(s: &mut [u8; STATE_LEN], slots: &mut [u8], v: u32) -> Step

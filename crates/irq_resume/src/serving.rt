@@ -1,26 +1,26 @@
 // The frame, the microframe's SOF, a late entry's completions (mod.rs 724-747).
-use interrupt::framing::after_frame_no;
-use interrupt::serving::after_completions;
-use interrupt::serving::after_on_sof;
 use irq_points::loads::frame_word;
 use irq_points::loads::iso_at;
 use irq_points::loads::late_at;
 use irq_points::loads::setup_at;
 use irq_points::loads::sof_at;
 use irq_points::loads::transfer_at;
+use irq_serve::framing::after_frame_no;
+use irq_serve::serving::after_completions;
+use irq_serve::serving::after_on_sof;
 use iso_in::sof;
+use machine::Step;
 use regs::registers::fits;
 use state::STATE_LEN;
-use way::Step;
 ghost use mathlib.Core.Path.{_≡_};
 ghost use mathlib.Core.List.{List, []};
 ghost use Prim.Native.Nat.{ℕ};
-ghost use Rattle.script.specs.Statics.{isOn};
+ghost use Rattle.model.specs.Statics.{isOn};
 ghost use Rattle.state.specs.State.{view, saved};
-ghost use Rattle.handler.specs.declared.Point.the-variants as Point;
-ghost use Rattle.handler_codec.specs.Codec.{lateOf, sofOf, transferOf};
-ghost use Rattle.way.specs.declared.Under.the-variants as Under;
-ghost use Rattle.way.specs.Under.{decode, machineOf, goneOn, answerOf, Kept};
+ghost use Rattle.irq.specs.declared.Point.the-variants as Point;
+ghost use Rattle.irq_codec.specs.Codec.{lateOf, sofOf, transferOf};
+ghost use Rattle.machine.specs.declared.Under.the-variants as Under;
+ghost use Rattle.machine.specs.Under.{decode, machineOf, goneOn, answerOf, Kept};
 
 // frame_no (mod.rs 724-728).
 pub fn resume_frame_no(s: &mut [u8; STATE_LEN], slots: &mut [u8], v: u32) -> Step

@@ -1,9 +1,4 @@
 // What a token completes (mod.rs 748-790).
-use arms::after_completing;
-use arms::after_flip;
-use arms::after_flipped;
-use arms::after_sof_arm;
-use arms::after_toggled;
 use irq_points::loads::complete_at;
 use irq_points::loads::dir_at;
 use irq_points::loads::frame_word;
@@ -12,20 +7,25 @@ use irq_points::loads::setup_at;
 use irq_points::loads::sof_at;
 use irq_points::loads::toggled_at;
 use irq_points::loads::transfer_at;
+use irq_tokens::after_completing;
+use irq_tokens::after_flip;
+use irq_tokens::after_flipped;
+use irq_tokens::after_sof_arm;
+use irq_tokens::after_toggled;
+use irq_transfer::toggled;
 use iso_in::sof;
+use machine::Step;
 use regs::registers::fits;
 use state::STATE_LEN;
-use transfer::toggled;
-use way::Step;
 ghost use mathlib.Core.Path.{_≡_};
 ghost use mathlib.Core.List.{List, []};
 ghost use Prim.Native.Nat.{ℕ};
-ghost use Rattle.script.specs.Statics.{isOn};
+ghost use Rattle.model.specs.Statics.{isOn};
 ghost use Rattle.state.specs.State.{view, saved};
-ghost use Rattle.handler.specs.declared.Point.the-variants as Point;
-ghost use Rattle.handler_codec.specs.Codec.{completeOf, dirOf, sofOf, toggledOf, transferOf};
-ghost use Rattle.way.specs.declared.Under.the-variants as Under;
-ghost use Rattle.way.specs.Under.{decode, machineOf, goneOn, answerOf, Kept};
+ghost use Rattle.irq.specs.declared.Point.the-variants as Point;
+ghost use Rattle.irq_codec.specs.Codec.{completeOf, dirOf, sofOf, toggledOf, transferOf};
+ghost use Rattle.machine.specs.declared.Under.the-variants as Under;
+ghost use Rattle.machine.specs.Under.{decode, machineOf, goneOn, answerOf, Kept};
 
 // the arm of SOF (mod.rs 750-754).
 pub fn resume_sof_arm(s: &mut [u8; STATE_LEN], slots: &mut [u8], v: u32) -> Step

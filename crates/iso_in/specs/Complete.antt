@@ -6,13 +6,13 @@ use Prim.Native.Nat.{ℕ}
 use Rattle.regs.specs.declared.Reg.the-variants.{EpTLen}
 use Rattle.regs.specs.declared.Dir.the-variants.{In}
 use Rattle.state.specs.Driver.{Driver}
-use Rattle.script.specs.Tree as tree
-use Rattle.script.specs.Tree.{asks, ends}
-use Rattle.script.specs.Script.{Script, run, _>>=_, _>>_, write, look, next-len}
-use Rattle.script.specs.Statics.{wake}
-use Rattle.script.specs.Machine.{Awaits, nothing, awaited}
-use Rattle.ops.specs.Rings.{St}
-use Rattle.ops.specs.Conc.{conc}
+use Rattle.model.specs.Tree as tree
+use Rattle.model.specs.Tree.{asks, ends}
+use Rattle.model.specs.Script.{Script, run, _>>=_, _>>_, write, look, next-len}
+use Rattle.model.specs.Statics.{wake}
+use Rattle.model.specs.Machine.{Awaits, nothing, awaited}
+use Rattle.model_ops.specs.Rings.{St}
+use Rattle.model_ops.specs.Conc.{conc}
 use Rattle.iso_in.specs.declared.complete.Complete.{Complete}
 use Rattle.iso_in.specs.declared.complete.Complete.the-variants as point
 use Rattle.iso_in.specs.declared.complete.CompleteNext.{CompleteNext}

@@ -1,8 +1,8 @@
 // A completion (mod.rs 405-414, 593-608): the loaded packet went out, the next is loaded, its writer is woken.
-use ops::records::wake;
-use ops::rings::next_len;
-use ops::rings::send;
-use ops::rings::waiting;
+use model_ops::records::wake;
+use model_ops::rings::next_len;
+use model_ops::rings::send;
+use model_ops::rings::waiting;
 use regs::Access;
 use regs::Dir;
 use regs::Reg;
@@ -12,8 +12,8 @@ ghost use mathlib.Core.Bool.{true};
 ghost use mathlib.Core.List.{List};
 ghost use Prim.Native.Nat.{ℕ};
 ghost use Rattle.state.specs.State.{view, saved};
-ghost use Rattle.script.specs.IsoIn.{isoInComplete};
-ghost use Rattle.ops.specs.Conc.{go};
+ghost use Rattle.model.specs.IsoIn.{isoInComplete};
+ghost use Rattle.model_ops.specs.Conc.{go};
 ghost use Rattle.iso_in.specs.Complete.{denote, begun, meaning, Linked, Bound};
 
 // What was handed out last, of which endpoint. Nothing is awaited at either.
@@ -39,7 +39,7 @@ pub fn start(s: &mut [u8; STATE_LEN], e: u8) -> Begun
     ensures { λ _. ⌜ saved (now (s .exit)) ≡ saved (now (s .entry)) ⌝ }
     ensures { λ r. ⌜ Bound r ⌝ }
 {
-    ops::rings::complete(s, e);
+    model_ops::rings::complete(s, e);
     if waiting(s, Dir::In, e) {
         let at = send(s, e);
         return Begun {

@@ -14,7 +14,7 @@ use frame::frame_of_index;
 use frame::in_previous;
 use frame::microframe_index;
 use frame::previous;
-use ops::rings::is_on;
+use model_ops::rings::is_on;
 use regs::Access;
 use regs::Dir;
 use regs::Reg;
@@ -33,8 +33,8 @@ ghost use Rattle.regs.specs.Registers.{fitsIn};
 ghost use Rattle.frame.specs.Usb20.{indexOf, frameOf};
 ghost use Rattle.frame.specs.Advance as frames;
 ghost use Rattle.state.specs.State.{view, saved};
-ghost use Rattle.script.specs.IsoIn as script;
-ghost use Rattle.ops.specs.Conc.{go};
+ghost use Rattle.model.specs.IsoIn as script;
+ghost use Rattle.model_ops.specs.Conc.{go};
 ghost use Rattle.iso_in.specs.Sof.{walking, thenWalk, looked, denote, meaning, Linked, fitsAt};
 
 // Where it stands, with the endpoints that are left.

@@ -1,10 +1,11 @@
 // Isochronous OUT arrivals (`iso_out_check`, mod.rs 461-512) one access at a time. Every function is total: any number is safe.
-use arming::arrive;
 use bits::next_endpoint;
 use bits::rest_of;
-use ops::records::wake;
-use ops::rings::changed;
-use ops::rings::marked;
+use model::Transfer;
+use model_ops::records::wake;
+use model_ops::rings::changed;
+use model_ops::rings::marked;
+use model_ops_slots::arrive;
 use regs::Access;
 use regs::Dir;
 use regs::Reg;
@@ -13,7 +14,6 @@ use regs::registers::fits;
 use regs::status::endpoint;
 use regs::status::is_out;
 use regs::status::tog_ok;
-use script::Transfer;
 use state::STATE_LEN;
 use state::load_globals;
 ghost use mathlib.Core.Path.{_≡_};
@@ -21,9 +21,9 @@ ghost use mathlib.Core.Bool.{Bool, true, false};
 ghost use Prim.Native.Nat.{ℕ};
 ghost use Rattle.regs.specs.Registers.{fitsIn};
 ghost use Rattle.state.specs.State.{view, saved};
-ghost use Rattle.script.specs.declared.Transfer.{Transfer};
-ghost use Rattle.script.specs.IsoOut.{arriving, entry, isoOutCheck};
-ghost use Rattle.ops.specs.Conc.{go};
+ghost use Rattle.model.specs.declared.Transfer.{Transfer};
+ghost use Rattle.model.specs.IsoOut.{arriving, entry, isoOutCheck};
+ghost use Rattle.model_ops.specs.Conc.{go};
 ghost use Rattle.iso_out.specs.Points.{walk, arrival, denote, meaning, foundAs, Linked, fitsAt};
 
 // Where the check stands: the endpoint, and the mask of those behind it.

@@ -8,54 +8,54 @@ use mathlib.Core.Path.{_≡_, refl, ap, _∙_}
 use lib.ListN.{length}
 use denote.Ref.{now}
 use Rattle.state.specs.State.{view}
-use Rattle.script.specs.Statics.{flag}
-use Rattle.script.specs.Machine.{begin, go, pending, overruns, enabled}
-use Rattle.script.specs.Calls.{other, slotted, aside, interrupt, Microframe, Allocate, AllocateAll, Start, SetPaced}
-use Rattle.script.specs.Calls.{BusEnable, BusDisable, BusPoll, IsStalled, SetStalled, SetEnabled, BeginSetup}
-use Rattle.script.specs.Calls.{PollSetup, BeginDataOut, PollDataOut, BeginDataIn, PollDataIn, BeginAccept}
-use Rattle.script.specs.Calls.{BeginAcceptSetAddress, PollAccept, BeginReject, Advance, BeginRead, PollRead}
-use Rattle.script.specs.Calls.{BeginWrite, PollWrite, Open, Close, Queue}
-use Rattle.way.specs.Under.{configOf, answerOf}
-use Rattle.way.specs.Keeps.{kept-by}
-use Rattle.starting_calls.proofs.allocate.Reads as allocate-contract
-use Rattle.starting_calls.proofs.start.Reads as start-contract
-use Rattle.driver_calls.proofs.begins.begin_microframe.Reads as begin-microframe-contract
-use Rattle.driver_calls.proofs.begins.set_paced.Reads as set-paced-contract
-use Rattle.driver_calls.proofs.begins.begin_advance.Reads as begin-advance-contract
-use Rattle.driver_calls.proofs.begins.begin_interrupt.Reads as begin-interrupt-contract
-use Rattle.driver_calls.proofs.listed_calls.allocate_all.Reads as allocate-all-contract
-use Rattle.bus_calls.proofs.bus_begins.begin_bus_enable.Reads as begin-bus-enable-contract
-use Rattle.bus_calls.proofs.bus_begins.begin_bus_disable.Reads as begin-bus-disable-contract
-use Rattle.bus_calls.proofs.bus_begins.begin_bus_poll.Reads as begin-bus-poll-contract
-use Rattle.bus_calls.proofs.bus_begins.begin_is_stalled.Reads as begin-is-stalled-contract
-use Rattle.bus_calls.proofs.bus_begins.begin_set_stalled.Reads as begin-set-stalled-contract
-use Rattle.control_calls.proofs.control_begins.begin_setup.Reads as begin-setup-contract
-use Rattle.control_calls.proofs.control_begins.begin_data_out.Reads as begin-data-out-contract
-use Rattle.control_calls.proofs.control_begins.begin_data_in.Reads as begin-data-in-contract
-use Rattle.control_calls.proofs.control_begins.begin_accept.Reads as begin-accept-contract
-use Rattle.control_calls.proofs.control_begins.begin_accept_set_address.Reads as begin-accept-set-address-contract
-use Rattle.control_calls.proofs.control_begins.begin_reject.Reads as begin-reject-contract
-use Rattle.control_calls.proofs.control_polls.poll_setup.Reads as poll-setup-contract
-use Rattle.control_calls.proofs.control_polls.poll_data_out.Reads as poll-data-out-contract
-use Rattle.control_calls.proofs.control_polls.poll_data_in.Reads as poll-data-in-contract
-use Rattle.control_calls.proofs.control_polls.poll_accept.Reads as poll-accept-contract
-use Rattle.endpoint_calls.proofs.requests.begin_read.Reads as begin-read-contract
-use Rattle.endpoint_calls.proofs.requests.poll_read.Reads as poll-read-contract
-use Rattle.endpoint_calls.proofs.requests.begin_write.Reads as begin-write-contract
-use Rattle.endpoint_calls.proofs.requests.poll_write.Reads as poll-write-contract
-use Rattle.endpoint_calls.proofs.in_place.open.Reads as open-contract
-use Rattle.endpoint_calls.proofs.in_place.close.Reads as close-contract
-use Rattle.endpoint_calls.proofs.in_place.queue.Reads as queue-contract
-use Rattle.endpoint_calls.proofs.questions.pending.Reads as pending-contract
-use Rattle.endpoint_calls.proofs.questions.overruns.Reads as overruns-contract
-use Rattle.endpoint_calls.proofs.questions.enabled.Reads as enabled-contract
-use Rattle.shared_time.proofs.start_up.Reads as start-up-contract
-use Rattle.shared_time.proofs.begin_set_enabled.Reads as begin-set-enabled-contract
+use Rattle.model.specs.Statics.{flag}
+use Rattle.model.specs.Machine.{begin, go, pending, overruns, enabled}
+use Rattle.model.specs.Calls.{other, slotted, aside, interrupt, Microframe, Allocate, AllocateAll, Start, SetPaced}
+use Rattle.model.specs.Calls.{BusEnable, BusDisable, BusPoll, IsStalled, SetStalled, SetEnabled, BeginSetup}
+use Rattle.model.specs.Calls.{PollSetup, BeginDataOut, PollDataOut, BeginDataIn, PollDataIn, BeginAccept}
+use Rattle.model.specs.Calls.{BeginAcceptSetAddress, PollAccept, BeginReject, Advance, BeginRead, PollRead}
+use Rattle.model.specs.Calls.{BeginWrite, PollWrite, Open, Close, Queue}
+use Rattle.machine.specs.Under.{configOf, answerOf}
+use Rattle.machine.specs.Keeps.{kept-by}
+use Rattle.call_start.proofs.allocate.Reads as allocate-contract
+use Rattle.call_start.proofs.start.Reads as start-contract
+use Rattle.call_driver.proofs.begins.begin_microframe.Reads as begin-microframe-contract
+use Rattle.call_driver.proofs.begins.set_paced.Reads as set-paced-contract
+use Rattle.call_driver.proofs.begins.begin_advance.Reads as begin-advance-contract
+use Rattle.call_driver.proofs.begins.begin_interrupt.Reads as begin-interrupt-contract
+use Rattle.call_driver.proofs.listed_calls.allocate_all.Reads as allocate-all-contract
+use Rattle.call_bus.proofs.bus_begins.begin_bus_enable.Reads as begin-bus-enable-contract
+use Rattle.call_bus.proofs.bus_begins.begin_bus_disable.Reads as begin-bus-disable-contract
+use Rattle.call_bus.proofs.bus_begins.begin_bus_poll.Reads as begin-bus-poll-contract
+use Rattle.call_bus.proofs.bus_begins.begin_is_stalled.Reads as begin-is-stalled-contract
+use Rattle.call_bus.proofs.bus_begins.begin_set_stalled.Reads as begin-set-stalled-contract
+use Rattle.call_control.proofs.control_begins.begin_setup.Reads as begin-setup-contract
+use Rattle.call_control.proofs.control_begins.begin_data_out.Reads as begin-data-out-contract
+use Rattle.call_control.proofs.control_begins.begin_data_in.Reads as begin-data-in-contract
+use Rattle.call_control.proofs.control_begins.begin_accept.Reads as begin-accept-contract
+use Rattle.call_control.proofs.control_begins.begin_accept_set_address.Reads as begin-accept-set-address-contract
+use Rattle.call_control.proofs.control_begins.begin_reject.Reads as begin-reject-contract
+use Rattle.call_control.proofs.control_polls.poll_setup.Reads as poll-setup-contract
+use Rattle.call_control.proofs.control_polls.poll_data_out.Reads as poll-data-out-contract
+use Rattle.call_control.proofs.control_polls.poll_data_in.Reads as poll-data-in-contract
+use Rattle.call_control.proofs.control_polls.poll_accept.Reads as poll-accept-contract
+use Rattle.call_endpoint.proofs.requests.begin_read.Reads as begin-read-contract
+use Rattle.call_endpoint.proofs.requests.poll_read.Reads as poll-read-contract
+use Rattle.call_endpoint.proofs.requests.begin_write.Reads as begin-write-contract
+use Rattle.call_endpoint.proofs.requests.poll_write.Reads as poll-write-contract
+use Rattle.call_endpoint.proofs.in_place.open.Reads as open-contract
+use Rattle.call_endpoint.proofs.in_place.close.Reads as close-contract
+use Rattle.call_endpoint.proofs.in_place.queue.Reads as queue-contract
+use Rattle.call_endpoint.proofs.questions.pending.Reads as pending-contract
+use Rattle.call_endpoint.proofs.questions.overruns.Reads as overruns-contract
+use Rattle.call_endpoint.proofs.questions.enabled.Reads as enabled-contract
+use Rattle.call_bus_time.proofs.start_up.Reads as start-up-contract
+use Rattle.call_bus_time.proofs.begin_set_enabled.Reads as begin-set-enabled-contract
 use Rattle.usbhs.proofs.proceeds.proceed.Reads as proceed-contract
 use Rattle.proof_contracts.specs.Steps.{IsStep, IsStepLent, IsStepCharged, IsStepStart, IsQuestion}
 use Rattle.proof_contracts.specs.StepsLaws.{unlent, lent, asked}
 
--- ---- allocation and EP0's start (crate `starting_calls`)
+-- ---- allocation and EP0's start (crate `call_start`)
 
 pub allocate-step : (κs s dir kind address maximum interval r z : _)
     → allocate-contract.Learnt κs (s, (dir, (kind, (address, (maximum, (interval, tt)))))) r z
@@ -67,7 +67,7 @@ pub start-step : (κs s maximum r z : _) → start-contract.Learnt κs (s, (maxi
     → IsStep (begin (other (Start maximum))) (now s) (λ b. answerOf r [] (view (now (z .0)))) (now (z .0))
 start-step κs s maximum r z h = unlent refl (h .0) (λ b. kept-by r _ _ _ _ (h .1))
 
--- ---- the microframe, pacing, advance, the interrupt; endpoints from a descriptor (`driver_calls`)
+-- ---- the microframe, pacing, advance, the interrupt; endpoints from a descriptor (`call_driver`)
 
 pub begin-microframe-step : (κs s r z : _) → begin-microframe-contract.Learnt κs (s, tt) r z
     → IsStep (begin (other Microframe)) (now s) (λ b. answerOf r [] (view (now (z .0)))) (now (z .0))
@@ -89,7 +89,7 @@ pub allocate-all-step : (κs s bytes r z : _) → allocate-all-contract.Learnt �
     → IsStep (begin (other (AllocateAll (now bytes)))) (now s) (λ b. answerOf r [] (view (now (z .0)))) (now (z .0))
 allocate-all-step κs s bytes r z h = unlent refl (h .0) (λ b. kept-by r _ _ _ _ (h .1))
 
--- ---- the bus and stalls (`bus_calls`)
+-- ---- the bus and stalls (`call_bus`)
 
 pub begin-bus-enable-step : (κs s r z : _) → begin-bus-enable-contract.Learnt κs (s, tt) r z
     → IsStep (begin (other BusEnable)) (now s) (λ b. answerOf r [] (view (now (z .0)))) (now (z .0))
@@ -112,7 +112,7 @@ pub begin-set-stalled-step : (κs s dir e on r z : _)
     → IsStep (begin (other (SetStalled dir e on))) (now s) (λ b. answerOf r [] (view (now (z .0)))) (now (z .0))
 begin-set-stalled-step κs s dir e on r z h = unlent refl (h .0) (λ b. kept-by r _ _ _ _ (h .1))
 
--- ---- the control pipe (`control_calls`)
+-- ---- the control pipe (`call_control`)
 
 pub begin-setup-step : (κs s r z : _) → begin-setup-contract.Learnt κs (s, tt) r z
     → IsStep (begin (other BeginSetup)) (now s) (λ b. answerOf r [] (view (now (z .0)))) (now (z .0))
@@ -159,7 +159,7 @@ pub poll-accept-step : (κs s r z : _) → poll-accept-contract.Learnt κs (s, t
     → IsStep (begin (other PollAccept)) (now s) (λ b. answerOf r [] (view (now (z .0)))) (now (z .0))
 poll-accept-step κs s r z h = unlent refl (h .0) (λ b. kept-by r _ _ _ _ (h .1))
 
--- ---- reads and writes, packets in place, questions (`endpoint_calls`)
+-- ---- reads and writes, packets in place, questions (`call_endpoint`)
 
 pub begin-read-step : (κs s e n r z : _) → begin-read-contract.Learnt κs (s, (e, (n, tt))) r z
     → IsStep (begin (other (BeginRead e n))) (now s) (λ b. answerOf r [] (view (now (z .0)))) (now (z .0))
@@ -206,7 +206,7 @@ pub enabled-step : (κs s dir e r z : _) → enabled-contract.Learnt κs (s, (di
     → IsQuestion (enabled dir e) (now s) (flag r)
 enabled-step κs s dir e r z h = asked (ap flag h)
 
--- ---- start-up and enabling, with the record (`shared_time`)
+-- ---- start-up and enabling, with the record (`call_bus_time`)
 
 pub start-up-step : (κs s slots time driver size count callback r z : _)
     → start-up-contract.Learnt κs (s, (slots, (time, (driver, (size, (count, (callback, tt))))))) r z

@@ -1,6 +1,6 @@
 -- Every call that crate `usbhs_c` exports: what its generated contract gives a caller (`Learnt`) is a step of demand
 -- 3, with what it saves and with an answer that the
--- call's word says: it is the answer's word, and is read back as it (`Says`, answer_word/specs/Word.antt). The
+-- call's word says: it is the answer's word, and is read back as it (`Says`, call_answer_word/specs/Word.antt). The
 -- hypothesis of each lemma is the contract itself.
 -- Of the parameters' values before the call s is the state, slots the slot buffer, time the record; z holds the
 -- parameters after the call, in their
@@ -11,16 +11,16 @@ use Prim.Native.Nat.{_%_}
 use lib.ListN.{length}
 use denote.Ref.{now}
 use Rattle.state.specs.State.{view}
-use Rattle.script.specs.Machine.{begin, go, pending, overruns, enabled}
-use Rattle.script.specs.Calls.{other, slotted, aside, interrupt, Microframe, Allocate, AllocateAll, Start, SetPaced}
-use Rattle.script.specs.Calls.{BusEnable, BusDisable, BusPoll, IsStalled, SetStalled, SetEnabled, BeginSetup}
-use Rattle.script.specs.Calls.{PollSetup, BeginDataOut, PollDataOut, BeginDataIn, PollDataIn, BeginAccept}
-use Rattle.script.specs.Calls.{BeginAcceptSetAddress, PollAccept, BeginReject, Advance, BeginRead, PollRead}
-use Rattle.script.specs.Calls.{BeginWrite, PollWrite, Open, Close, Queue}
-use Rattle.way.specs.Under.{configOf, answerOf}
-use Rattle.way.specs.Keeps.{kept-by}
-use Rattle.bus_time.specs.Time.{inUse}
-use Rattle.answer_word.specs.Word.{Worded}
+use Rattle.model.specs.Machine.{begin, go, pending, overruns, enabled}
+use Rattle.model.specs.Calls.{other, slotted, aside, interrupt, Microframe, Allocate, AllocateAll, Start, SetPaced}
+use Rattle.model.specs.Calls.{BusEnable, BusDisable, BusPoll, IsStalled, SetStalled, SetEnabled, BeginSetup}
+use Rattle.model.specs.Calls.{PollSetup, BeginDataOut, PollDataOut, BeginDataIn, PollDataIn, BeginAccept}
+use Rattle.model.specs.Calls.{BeginAcceptSetAddress, PollAccept, BeginReject, Advance, BeginRead, PollRead}
+use Rattle.model.specs.Calls.{BeginWrite, PollWrite, Open, Close, Queue}
+use Rattle.machine.specs.Under.{configOf, answerOf}
+use Rattle.machine.specs.Keeps.{kept-by}
+use Rattle.req_bus_time.specs.Time.{inUse}
+use Rattle.call_answer_word.specs.Word.{Worded}
 use Rattle.usbhs_c.specs.Calls.{dirOf, flagOf}
 use Rattle.usbhs_c.proofs.usbhs_start_up.Reads as start-up-contract
 use Rattle.usbhs_c.proofs.usbhs_allocate.Reads as allocate-contract

@@ -1,19 +1,19 @@
--- The steps are those of the lists of calls of four drivers too (four_drivers/specs/Code.antt): so the record is what
+-- The steps are those of the lists of calls of four drivers too (proof_bus_time/specs/Code.antt): so the record is what
 -- the history of the calls says, and the
 -- question of the time in use answers that
 use mathlib.Core.List.{List}
 use mathlib.Core.Path.{_≡_, ap, subst, _∙_}
 use Prim.Native.Nat.{ℕ, _%_}
 use denote.Ref.{now}
-use Rattle.script.specs.Calls.{Config, Op}
-use Rattle.way.specs.Under.{machineOf}
-use Rattle.bus_time.specs.Time.{inUse}
-use Rattle.shared_time.specs.Sharing.{sharedCall}
-use Rattle.four_drivers.specs.History.{history}
-use Rattle.four_drivers.specs.Enabled.{FourAtFirst}
-use Rattle.four_drivers.specs.Charged.{chargedTime}
-use Rattle.four_drivers.specs.Code.{Lent, fourOf, Run, turns, last, code-in-use-charged}
-use Rattle.four_drivers.specs.Code as four
+use Rattle.model.specs.Calls.{Config, Op}
+use Rattle.machine.specs.Under.{machineOf}
+use Rattle.req_bus_time.specs.Time.{inUse}
+use Rattle.call_bus_time.specs.Sharing.{sharedCall}
+use Rattle.proof_bus_time.specs.History.{history}
+use Rattle.proof_bus_time.specs.Enabled.{FourAtFirst}
+use Rattle.proof_bus_time.specs.Charged.{chargedTime}
+use Rattle.proof_bus_time.specs.Code.{Lent, fourOf, Run, turns, last, code-in-use-charged}
+use Rattle.proof_bus_time.specs.Code as four
 use Rattle.usbhs_c.proofs.usbhs_time_in_use.Reads as time-in-use-contract
 use Rattle.proof_contracts.specs.SharedPage.{Made, Did}
 

@@ -8,14 +8,14 @@ use mathlib.Core.Path.{_≡_}
 use Prim.Native.Nat.{ℕ, zero}
 use Rattle.state.specs.State.{saved}
 use Rattle.state.specs.Fresh.{nothing}
-use Rattle.script.specs.Answers.{Answer}
-use Rattle.script.specs.Calls.{Config, Op, interrupt, slotted, other, aside, Other, Allocate, AllocateAll, Start}
-use Rattle.script.specs.Calls.{BusPoll, BusEnable, BusDisable, Microframe, SetStalled, IsStalled, SetPaced, Advance}
-use Rattle.script.specs.Calls.{BeginRead, BeginSetup, PollSetup, PollDataIn, BeginAccept, PollAccept, BeginReject}
-use Rattle.script.specs.Calls.{BeginDataOut, BeginAcceptSetAddress, startRow}
-use Rattle.script.specs.Machine.{Buf, Call, start, begin, go, question, idle, Ans}
-use Rattle.way.specs.Under.{encode, decode, machineOf}
-use Rattle.way.specs.Keeps.{KeptBy}
+use Rattle.model.specs.Answers.{Answer}
+use Rattle.model.specs.Calls.{Config, Op, interrupt, slotted, other, aside, Other, Allocate, AllocateAll, Start}
+use Rattle.model.specs.Calls.{BusPoll, BusEnable, BusDisable, Microframe, SetStalled, IsStalled, SetPaced, Advance}
+use Rattle.model.specs.Calls.{BeginRead, BeginSetup, PollSetup, PollDataIn, BeginAccept, PollAccept, BeginReject}
+use Rattle.model.specs.Calls.{BeginDataOut, BeginAcceptSetAddress, startRow}
+use Rattle.model.specs.Machine.{Buf, Call, start, begin, go, question, idle, Ans}
+use Rattle.machine.specs.Under.{encode, decode, machineOf}
+use Rattle.machine.specs.Keeps.{KeptBy}
 use Rattle.proof_contracts.specs.SharedPage.{Made, Did}
 
 -- a call that neither begins an operation nor goes on with one, nor polls: pacing; open, close and queue; a question
@@ -54,7 +54,7 @@ passes (go v) = false
 passes (question q) = true
 
 -- what a call's contract says of the saved bytes, xs the state's bytes before it, ys those after it: one that passes
--- leaves them; of all others by the answer (`KeptBy`, way/specs/Keeps.antt): canonical with an access, all zero at an
+-- leaves them; of all others by the answer (`KeptBy`, machine/specs/Keeps.antt): canonical with an access, all zero at an
 -- operation's end, else as they were
 abbrev pub SavesAs : Bool → Ans Answer → List ℕ → List ℕ → Type 0
 SavesAs true a xs ys = saved ys ≡ saved xs

@@ -8,16 +8,16 @@ use Rattle.state.specs.Driver.{Driver}
 use Rattle.state.specs.State.{view, saved}
 use Rattle.state.specs.Fresh.{nothing}
 use Rattle.state.specs.Determined.{Bytes, determined}
-use Rattle.script.specs.Answers.{Answer, Refused, End, NotYet, Done, Shown}
-use Rattle.script.specs.Calls.{Config, Op, calls, startRow}
-use Rattle.script.specs.Machine.{Buf, Event, Call, start, idle, Machine, Ans, ended, handed, told, started}
-use Rattle.way.specs.declared.Under.{Under}
-use Rattle.way.specs.declared.Under.the-variants as under
-use Rattle.way.specs.Under.{encode, decode, wayOf, machineOf, driverOf, Canonical}
-use Rattle.way.specs.Rows.{idleWay}
-use Rattle.way.specs.Keeps.{canonical, KeptBy}
-use Rattle.way.specs.Goes.{Called}
-use Rattle.shared_time.specs.Sharing.{sharedCall, settled, isHanded}
+use Rattle.model.specs.Answers.{Answer, Refused, End, NotYet, Done, Shown}
+use Rattle.model.specs.Calls.{Config, Op, calls, startRow}
+use Rattle.model.specs.Machine.{Buf, Event, Call, start, idle, Machine, Ans, ended, handed, told, started}
+use Rattle.machine.specs.declared.Under.{Under}
+use Rattle.machine.specs.declared.Under.the-variants as under
+use Rattle.machine.specs.Under.{encode, decode, wayOf, machineOf, driverOf, Canonical}
+use Rattle.machine.specs.Rows.{idleWay}
+use Rattle.machine.specs.Keeps.{canonical, KeptBy}
+use Rattle.machine.specs.Goes.{Called}
+use Rattle.call_bus_time.specs.Sharing.{sharedCall, settled, isHanded}
 use Rattle.proof_contracts.specs.SharedPage.{Made}
 use Rattle.proof_contracts.specs.SavedPage.{passes, SavesAs, Saves, Saving, Pinned, AllPinned, CodeCanonical}
 

@@ -7,31 +7,31 @@ use lib.ListN.{set}
 use Rattle.regs.specs.declared.Access.{Access}
 use Rattle.regs.specs.declared.Dir.{Dir}
 use Rattle.state.specs.Driver.{Driver}
-use Rattle.script.specs.Tree as tree
-use Rattle.script.specs.Tree.{ends, asks}
-use Rattle.script.specs.Script.{run}
-use Rattle.script.specs.Alike.{Phase}
-use Rattle.script.specs.Cells.{Plain}
-use Rattle.script.specs.Answers.{Answer, Refused}
-use Rattle.script.specs.Calls.{Config, Op, calls, startRow}
-use Rattle.script.specs.Machine.{Buf, Call, start, begin, go, question, Way, idle, busy, Machine, Ans, ended, handed}
-use Rattle.script.specs.Machine.{told, fed, halt, begun, continued, started, call, misfit, stay, lentTo, over, blankA}
-use Rattle.script.specs.Agree.{After, Ways, Lent, unless, agrees}
-use Rattle.way.specs.Under.{driverOf, drive}
-use Rattle.way.specs.Goes.{Called}
-use Rattle.bus_time.specs.Time.{chargeOf, entryOf, passes}
-use Rattle.shared_time.specs.Sharing.{Sort, enabling, starting, going, apart, opSort, sortOf, isHanded, chargeOn}
-use Rattle.shared_time.specs.Sharing.{turnedDown, timeAfter, settled, sharedCall}
-use Rattle.book.specs.Pages.{Pages}
-use Rattle.book.specs.Book.{book}
-use Rattle.book.specs.Rest.{Rest, Chip}
-use Rattle.book.specs.Allocations.{fresh-kept}
-use Rattle.book.specs.Agrees.{agree}
-use Rattle.book.specs.FrontPage.{written, LentAsLeft}
-use Rattle.book.specs.SlotsKept.{lent-is}
+use Rattle.model.specs.Tree as tree
+use Rattle.model.specs.Tree.{ends, asks}
+use Rattle.model.specs.Script.{run}
+use Rattle.model.specs.Alike.{Phase}
+use Rattle.model.specs.Cells.{Plain}
+use Rattle.model.specs.Answers.{Answer, Refused}
+use Rattle.model.specs.Calls.{Config, Op, calls, startRow}
+use Rattle.model.specs.Machine.{Buf, Call, start, begin, go, question, Way, idle, busy, Machine, Ans, ended, handed}
+use Rattle.model.specs.Machine.{told, fed, halt, begun, continued, started, call, misfit, stay, lentTo, over, blankA}
+use Rattle.model.specs.Agree.{After, Ways, Lent, unless, agrees}
+use Rattle.machine.specs.Under.{driverOf, drive}
+use Rattle.machine.specs.Goes.{Called}
+use Rattle.req_bus_time.specs.Time.{chargeOf, entryOf, passes}
+use Rattle.call_bus_time.specs.Sharing.{Sort, enabling, starting, going, apart, opSort, sortOf, isHanded, chargeOn}
+use Rattle.call_bus_time.specs.Sharing.{turnedDown, timeAfter, settled, sharedCall}
+use Rattle.proof_book.specs.Pages.{Pages}
+use Rattle.proof_book.specs.Book.{book}
+use Rattle.proof_book.specs.Rest.{Rest, Chip}
+use Rattle.proof_book.specs.Allocations.{fresh-kept}
+use Rattle.proof_book.specs.Agrees.{agree}
+use Rattle.proof_book.specs.FrontPage.{written, LentAsLeft}
+use Rattle.proof_book.specs.SlotsKept.{lent-is}
 use Rattle.proof_contracts.specs.SharedBook.{chargeIn, wouldPass, sharedStep, timeIn}
 
--- driver and book agree after a call (book/specs/Rest.antt), and the record is what the book works out
+-- driver and book agree after a call (proof_book/specs/Rest.antt), and the record is what the book works out
 pub record Agreed (i : ℕ) (c : Call Config Op) (x : Called) (before after : List ℕ) (b : Buf)
     (n : Machine Answer Pages) : Type 0 where
   pub both : After driverOf book agree calls x (sharedStep i (x .0) c n before b)

@@ -1,27 +1,27 @@
 -- A list of calls with the record of bus time is one of the driver alone, in which a call that row 19 stops is a
 -- question: so what is proved of the
--- code over every list of calls without the record (Calls in book/specs/FrontPage.antt) holds of it too
+-- code over every list of calls without the record (Calls in proof_book/specs/FrontPage.antt) holds of it too
 use mathlib.Core.Bool.{Bool, true, false, cond}
 use mathlib.Core.List.{List, [], _∷_}
 use mathlib.Core.Path.{_≡_, refl, ap, subst, sym, _∙_}
 use Prim.Native.Nat.{ℕ, zero}
 use Rattle.state.specs.State.{view}
-use Rattle.script.specs.Alike.{Phase}
-use Rattle.script.specs.Answers.{Answer, Refused}
-use Rattle.script.specs.Calls.{Config, Op, calls, startRow}
-use Rattle.script.specs.Machine.{Buf, Event, Call, start, question, pending, Machine, Ans, ended, told, lentTo}
-use Rattle.script.specs.Agree.{Ways}
-use Rattle.way.specs.Questions.{questionOf}
-use Rattle.way.specs.Under.{driverOf, drive, machineOf}
-use Rattle.way.specs.Goes.{Called}
-use Rattle.shared_time.specs.Sharing.{sortOf, turnedDown, timeAfter, settled}
-use Rattle.book.specs.Pages.{Pages}
-use Rattle.book.specs.Book.{book}
-use Rattle.book.specs.Rest.{Rest}
-use Rattle.book.specs.Agrees.{agree}
-use Rattle.book.specs.FrontPage.{written, LentAsLeft}
-use Rattle.book.specs.FrontPage as page
-use Rattle.book.specs.SlotsKept.{lent-is}
+use Rattle.model.specs.Alike.{Phase}
+use Rattle.model.specs.Answers.{Answer, Refused}
+use Rattle.model.specs.Calls.{Config, Op, calls, startRow}
+use Rattle.model.specs.Machine.{Buf, Event, Call, start, question, pending, Machine, Ans, ended, told, lentTo}
+use Rattle.model.specs.Agree.{Ways}
+use Rattle.machine.specs.Questions.{questionOf}
+use Rattle.machine.specs.Under.{driverOf, drive, machineOf}
+use Rattle.machine.specs.Goes.{Called}
+use Rattle.call_bus_time.specs.Sharing.{sortOf, turnedDown, timeAfter, settled}
+use Rattle.proof_book.specs.Pages.{Pages}
+use Rattle.proof_book.specs.Book.{book}
+use Rattle.proof_book.specs.Rest.{Rest}
+use Rattle.proof_book.specs.Agrees.{agree}
+use Rattle.proof_book.specs.FrontPage.{written, LentAsLeft}
+use Rattle.proof_book.specs.FrontPage as page
+use Rattle.proof_book.specs.SlotsKept.{lent-is}
 use Rattle.proof_contracts.specs.SharedPage.{Made, Did, noted, Calls}
 use Rattle.proof_contracts.specs.SharedAgrees.{down-chip, down-same}
 use Rattle.proof_contracts.specs.SharedRuns.{AgreedAll, agreed-all}

@@ -7,15 +7,15 @@ use Prim.Native.Nat.{ℕ}
 use lib.ListN.{set}
 use Rattle.regs.specs.declared.Access.{Access}
 use Rattle.regs.specs.declared.Dir.{Dir}
-use Rattle.script.specs.Answers.{Answer, Refused}
-use Rattle.script.specs.Calls.{Config, Op, calls}
-use Rattle.script.specs.Machine.{Buf, Call, Machine, Ans, ended, handed, told, lentTo}
-use Rattle.bus_time.specs.Time.{chargeOf, entryOf, passes, keepOf}
-use Rattle.shared_time.specs.Sharing.{Sort, enabling, starting, going, apart, sortOf, isHanded}
-use Rattle.shared_time.specs.Sharing as sharing
-use Rattle.book.specs.Pages.{Pages}
-use Rattle.book.specs.Book.{book}
-use Rattle.book.specs.FrontPage.{written}
+use Rattle.model.specs.Answers.{Answer, Refused}
+use Rattle.model.specs.Calls.{Config, Op, calls}
+use Rattle.model.specs.Machine.{Buf, Call, Machine, Ans, ended, handed, told, lentTo}
+use Rattle.req_bus_time.specs.Time.{chargeOf, entryOf, passes, keepOf}
+use Rattle.call_bus_time.specs.Sharing.{Sort, enabling, starting, going, apart, sortOf, isHanded}
+use Rattle.call_bus_time.specs.Sharing as sharing
+use Rattle.proof_book.specs.Pages.{Pages}
+use Rattle.proof_book.specs.Book.{book}
+use Rattle.proof_book.specs.FrontPage.{written}
 
 -- what an endpoint is charged, by the kept kind and maximum
 abbrev pub chargeIn : Pages → Dir → ℕ → ℕ

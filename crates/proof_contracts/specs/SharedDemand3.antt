@@ -7,18 +7,18 @@ use native.Mathlib.Omega.{arith}
 use Rattle.regs.specs.declared.Dir.{Dir}
 use Rattle.state.specs.State.{view}
 use Rattle.state.specs.Driver.{Driver}
-use Rattle.script.specs.Answers.{Answer, Refused}
-use Rattle.script.specs.Calls.{Config, Op, interrupt, slotted, other, aside, SetEnabled, PollRead, BeginWrite}
-use Rattle.script.specs.Calls.{PollWrite, PollDataOut, BeginDataIn, calls}
-use Rattle.script.specs.Machine.{Buf, Call, start, begin, go, question, pending, Machine, Ans, ended, told, lentTo}
-use Rattle.way.specs.Questions.{questionOf}
-use Rattle.way.specs.Under.{driverOf, drive, machineOf}
-use Rattle.way.specs.Goes.{Called}
-use Rattle.shared_time.specs.Sharing.{sortOf, turnedDown, timeAfter}
-use Rattle.book.specs.Pages.{Pages}
-use Rattle.book.specs.FrontPage.{written, Compared, Sentences, same, AfterCall}
-use Rattle.book.specs.FrontPage as page
-use Rattle.book.specs.FrontPageProved.{demand-3}
+use Rattle.model.specs.Answers.{Answer, Refused}
+use Rattle.model.specs.Calls.{Config, Op, interrupt, slotted, other, aside, SetEnabled, PollRead, BeginWrite}
+use Rattle.model.specs.Calls.{PollWrite, PollDataOut, BeginDataIn, calls}
+use Rattle.model.specs.Machine.{Buf, Call, start, begin, go, question, pending, Machine, Ans, ended, told, lentTo}
+use Rattle.machine.specs.Questions.{questionOf}
+use Rattle.machine.specs.Under.{driverOf, drive, machineOf}
+use Rattle.machine.specs.Goes.{Called}
+use Rattle.call_bus_time.specs.Sharing.{sortOf, turnedDown, timeAfter}
+use Rattle.proof_book.specs.Pages.{Pages}
+use Rattle.proof_book.specs.FrontPage.{written, Compared, Sentences, same, AfterCall}
+use Rattle.proof_book.specs.FrontPage as page
+use Rattle.proof_book.specs.FrontPageProved.{demand-3}
 use Rattle.proof_contracts.specs.SharedPage.{Made, Did, Calls, noted, AfterEach, SharedDemand3}
 use Rattle.proof_contracts.specs.SharedRuns.{AgreedAll, agreed-all}
 use Rattle.proof_contracts.specs.SharedAlone.{isStopped, callAlone, answerAlone, madeAlone, allAlone, did-as}

@@ -1,4 +1,4 @@
--- Demand 3 with the record of bus time, to be read beside book/specs/FrontPage.antt: every public call is in its
+-- Demand 3 with the record of bus time, to be read beside proof_book/specs/FrontPage.antt: every public call is in its
 -- lists, those that bring the record and an
 -- enabling that row 19 stops too. Definitions only. `shared-demand-3` (SharedDemand3.antt) is the theorem
 use mathlib.Core.Bool.{Bool, cond}
@@ -6,13 +6,13 @@ use mathlib.Core.List.{List, [], _∷_}
 use mathlib.Core.Path.{_≡_}
 use Prim.Native.Nat.{ℕ, zero}
 use Rattle.state.specs.State.{view}
-use Rattle.script.specs.Answers.{Answer}
-use Rattle.script.specs.Calls.{Config, Op, startRow}
-use Rattle.script.specs.Machine.{Buf, Event, start, Machine, Ans, blankA}
-use Rattle.way.specs.Under.{machineOf}
-use Rattle.shared_time.specs.Sharing.{sortOf, sharedCall}
-use Rattle.book.specs.Pages.{Pages}
-use Rattle.book.specs.FrontPage.{LentAsLeft, AfterCall}
+use Rattle.model.specs.Answers.{Answer}
+use Rattle.model.specs.Calls.{Config, Op, startRow}
+use Rattle.model.specs.Machine.{Buf, Event, start, Machine, Ans, blankA}
+use Rattle.machine.specs.Under.{machineOf}
+use Rattle.call_bus_time.specs.Sharing.{sortOf, sharedCall}
+use Rattle.proof_book.specs.Pages.{Pages}
+use Rattle.proof_book.specs.FrontPage.{LentAsLeft, AfterCall}
 use Rattle.proof_contracts.specs.SharedBook.{sharedStep, timeIn}
 
 -- a call that was made: the call and the slot buffer it was lent; the record before it; its answer; the state's
@@ -26,7 +26,7 @@ pub record Made : Type 0 where
   pub slots : Buf
   pub time : List ℕ
 
--- its contract, by driver i, where the state's bytes were xs and the slot buffer a (shared_time/specs/Sharing.antt)
+-- its contract, by driver i, where the state's bytes were xs and the slot buffer a (call_bus_time/specs/Sharing.antt)
 abbrev pub Did : ℕ → List ℕ → Buf → Made → Type 0
 Did i xs a m = ((m .answer, machineOf (m .bytes) (m .slots)), m .time) ≡ sharedCall i (m .event .call)
     (machineOf xs a) (m .before) (m .event .lent)

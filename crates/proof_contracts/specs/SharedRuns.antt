@@ -4,19 +4,19 @@ use mathlib.Core.Path.{_≡_, refl, subst, sym}
 use Prim.Native.Nat.{ℕ, zero}
 use Rattle.state.specs.State.{view}
 use Rattle.state.specs.Driver.{Driver}
-use Rattle.script.specs.Alike.{Phase}
-use Rattle.script.specs.Answers.{Answer}
-use Rattle.script.specs.Calls.{Config, Op, calls, startRow}
-use Rattle.script.specs.Machine.{Buf, Event, start, Machine, Ans, ended, handed, told, fed, started}
-use Rattle.script.specs.Agree.{After, Ways, from-start}
-use Rattle.way.specs.Under.{driverOf, drive, machineOf}
-use Rattle.way.specs.Goes.{Called}
-use Rattle.shared_time.specs.Sharing.{sortOf, timeAfter, settled, sharedCall}
-use Rattle.book.specs.Pages.{Pages}
-use Rattle.book.specs.Book.{book}
-use Rattle.book.specs.Rest.{Rest}
-use Rattle.book.specs.Allocations.{fresh-kept}
-use Rattle.book.specs.Agrees.{agree}
+use Rattle.model.specs.Alike.{Phase}
+use Rattle.model.specs.Answers.{Answer}
+use Rattle.model.specs.Calls.{Config, Op, calls, startRow}
+use Rattle.model.specs.Machine.{Buf, Event, start, Machine, Ans, ended, handed, told, fed, started}
+use Rattle.model.specs.Agree.{After, Ways, from-start}
+use Rattle.machine.specs.Under.{driverOf, drive, machineOf}
+use Rattle.machine.specs.Goes.{Called}
+use Rattle.call_bus_time.specs.Sharing.{sortOf, timeAfter, settled, sharedCall}
+use Rattle.proof_book.specs.Pages.{Pages}
+use Rattle.proof_book.specs.Book.{book}
+use Rattle.proof_book.specs.Rest.{Rest}
+use Rattle.proof_book.specs.Allocations.{fresh-kept}
+use Rattle.proof_book.specs.Agrees.{agree}
 use Rattle.proof_contracts.specs.SharedBook.{timeIn}
 use Rattle.proof_contracts.specs.SharedPage.{Made, Did, noted, Calls}
 use Rattle.proof_contracts.specs.SharedAgrees.{Agreed, shared-agrees}

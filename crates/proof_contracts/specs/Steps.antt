@@ -6,10 +6,10 @@ use mathlib.Core.List.{List}
 use Prim.Native.Nat.{ℕ}
 use lib.Dec.{eqb}
 use Rattle.state.specs.State.{view}
-use Rattle.script.specs.Answers.{Answer}
-use Rattle.script.specs.Calls.{Config, Op, startRow}
-use Rattle.script.specs.Machine.{Buf, Call, start, question, Question, Ans, told}
-use Rattle.way.specs.Under.{lentOr}
+use Rattle.model.specs.Answers.{Answer}
+use Rattle.model.specs.Calls.{Config, Op, startRow}
+use Rattle.model.specs.Machine.{Buf, Call, start, question, Question, Ans, told}
+use Rattle.machine.specs.Under.{lentOr}
 use Rattle.proof_contracts.specs.SharedPage.{Did}
 use Rattle.proof_contracts.specs.SavedPage.{Saves}
 

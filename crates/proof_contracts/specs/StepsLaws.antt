@@ -4,17 +4,17 @@ use mathlib.Core.Path.{_≡_, refl, ap, sym, _∙_}
 use Prim.Native.Nat.{ℕ}
 use Rattle.state.specs.State.{view}
 use Rattle.state.specs.Driver.{Driver}
-use Rattle.script.specs.Answers.{Answer}
-use Rattle.script.specs.Calls.{Config, Op}
-use Rattle.script.specs.Machine.{Buf, Call, question, Question, Ans, told}
-use Rattle.way.specs.declared.Step.{Step}
-use Rattle.way.specs.Questions.{questionOf}
-use Rattle.way.specs.Under.{machineOf, drive, answerOf, lentOr}
-use Rattle.way.specs.Goes.{Called}
-use Rattle.shared_time.specs.Sharing.{apart, sortOf}
-use Rattle.answer_word.specs.Parts.{stepOf, spoken}
-use Rattle.answer_word.specs.Word.{Says, Worded}
-use Rattle.four_drivers.specs.Code.{leaves-record}
+use Rattle.model.specs.Answers.{Answer}
+use Rattle.model.specs.Calls.{Config, Op}
+use Rattle.model.specs.Machine.{Buf, Call, question, Question, Ans, told}
+use Rattle.machine.specs.declared.Step.{Step}
+use Rattle.machine.specs.Questions.{questionOf}
+use Rattle.machine.specs.Under.{machineOf, drive, answerOf, lentOr}
+use Rattle.machine.specs.Goes.{Called}
+use Rattle.call_bus_time.specs.Sharing.{apart, sortOf}
+use Rattle.call_answer_word.specs.Parts.{stepOf, spoken}
+use Rattle.call_answer_word.specs.Word.{Says, Worded}
+use Rattle.proof_bus_time.specs.Code.{leaves-record}
 use Rattle.proof_contracts.specs.SavedPage.{Saves}
 use Rattle.proof_contracts.specs.Steps.{IsStep, IsStepLent, IsQuestion}
 

@@ -21,20 +21,20 @@ use Rattle.state.specs.declared.Control.{Control}
 use Rattle.state.specs.Kept.{withIntEn}
 use Rattle.state.specs.Wakes.{Wakes, wakeCode, busCode, listed, woken, all-woken}
 use Rattle.state.specs.WakesLaws.{Room, woken-keeps, woken-full, woken-count, woken-listed}
-use Rattle.wake_ups.specs.Still.{put-still, act-still, hand-still}
+use Rattle.proof_wake_ups.specs.Still.{put-still, act-still, hand-still}
 use Rattle.state.specs.Driver.{Driver, key, noEp, epOn, withOn, withRequestOn, withPacedOn}
-use Rattle.script.specs.Tree as tree
-use Rattle.script.specs.Cells.{Plain, Cell, Val, ep-cell, globals-cell, control-cell, request-cell, paced-cell}
-use Rattle.script.specs.Script.{Script, ret, bind, test, read-then, write-then, wait-then, callback-then, get-then, put-then, is-then, look-then, fetch-then, act-then, hand-then, run, Test, Look, Fetch, Act, complete, reset-ring, set-enabled, fill, fill0, open-oldest, close-oldest, take-oldest, enqueue, allocate, allocate0, waken, Hand, handAsk, arrive, send, place, place0}
-use Rattle.script.specs.Sorts.{allocates}
-use Rattle.script.specs.SortsWalks.{among-ins, among-outs}
-use Rattle.script.specs.Every.{sameReg}
-use Rattle.script.specs.Statics.{isOn, withLastFrame}
-use Rattle.ops.specs.Records.{merged}
-use Rattle.ops.specs.Rings.{St}
-use Rattle.ops.specs.Conc.{conc}
-use Rattle.book.specs.Sorts.{Steady, Has, put-steady, act-steady, hand-steady}
-use Rattle.book.specs.Sorting.{sortsOf}
+use Rattle.model.specs.Tree as tree
+use Rattle.model.specs.Cells.{Plain, Cell, Val, ep-cell, globals-cell, control-cell, request-cell, paced-cell}
+use Rattle.model.specs.Script.{Script, ret, bind, test, read-then, write-then, wait-then, callback-then, get-then, put-then, is-then, look-then, fetch-then, act-then, hand-then, run, Test, Look, Fetch, Act, complete, reset-ring, set-enabled, fill, fill0, open-oldest, close-oldest, take-oldest, enqueue, allocate, allocate0, waken, Hand, handAsk, arrive, send, place, place0}
+use Rattle.model.specs.Sorts.{allocates}
+use Rattle.model.specs.SortsWalks.{among-ins, among-outs}
+use Rattle.model.specs.Every.{sameReg}
+use Rattle.model.specs.Statics.{isOn, withLastFrame}
+use Rattle.model_ops.specs.Records.{merged}
+use Rattle.model_ops.specs.Rings.{St}
+use Rattle.model_ops.specs.Conc.{conc}
+use Rattle.proof_book.specs.Sorts.{Steady, Has, put-steady, act-steady, hand-steady}
+use Rattle.proof_book.specs.Sorting.{sortsOf}
 use Rattle.proof_usb20.specs.Walks.{Each, each-set}
 use Rattle.proof_usb20.specs.Sequence.{off, Track, howOften, reads, writes, saw}
 use Rattle.proof_usb20.specs.Follow as follow
@@ -42,11 +42,11 @@ use Rattle.proof_usb20.specs.Follow.{Seen, seenOf, view, Keeps, Follow}
 use Rattle.proof_usb20.specs.Watch.{at-end, at-ask}
 use Rattle.proof_usb20.specs.Untouched.{same-view, record-same, act-view, hand-view}
 use Rattle.bits.specs.Walk.{setBits}
-use Rattle.script.specs.Script.{when, get, act, no-wakes}
-use Rattle.script.specs.Statics.{wake, wakeBus, isoInEvery, isoOuts, modify, modifyEp, modifyReg, modifyIntEn}
-use Rattle.script.specs.Answers.{Answer, staged, operation, resultless}
-use Rattle.script.specs.Handler.{looks}
-use Rattle.script.specs.Endpoint.{enabled-else, ends-request, no-request}
+use Rattle.model.specs.Script.{when, get, act, no-wakes}
+use Rattle.model.specs.Statics.{wake, wakeBus, isoInEvery, isoOuts, modify, modifyEp, modifyReg, modifyIntEn}
+use Rattle.model.specs.Answers.{Answer, staged, operation, resultless}
+use Rattle.model.specs.Handler.{looks}
+use Rattle.model.specs.Endpoint.{enabled-else, ends-request, no-request}
 use Rattle.proof_usb20.specs.Exempt.{differ}
 use Rattle.proof_usb20.specs.Views.{ep-other}
 

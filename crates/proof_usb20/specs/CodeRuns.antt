@@ -1,17 +1,17 @@
 -- The same of the Rattle code: what its calls make of the lent bytes. The contract of each call says that it is one
--- step of the machine of calls that the bytes are (way/specs/Under.antt), so what is claimed of lists of calls is
+-- step of the machine of calls that the bytes are (machine/specs/Under.antt), so what is claimed of lists of calls is
 -- claimed of calls that were made
 use mathlib.Core.List.{List, [], _∷_, _++_}
 use mathlib.Core.Path.{_≡_, ap, subst, sym, _∙_}
 use Prim.Native.Nat.{ℕ, zero}
 use Rattle.state.specs.Driver.{Driver}
-use Rattle.script.specs.Answers.{Answer}
-use Rattle.script.specs.Calls.{Config, Op, calls, startRow}
-use Rattle.script.specs.Machine.{Buf, Event, Machine, Ans, start, started}
-use Rattle.way.specs.Under.{driverOf, drive, machineOf}
-use Rattle.book.specs.Always.{after}
-use Rattle.book.specs.Code.{Made}
-use Rattle.book.specs.CodeReadings.{Steps}
+use Rattle.model.specs.Answers.{Answer}
+use Rattle.model.specs.Calls.{Config, Op, calls, startRow}
+use Rattle.model.specs.Machine.{Buf, Event, Machine, Ans, start, started}
+use Rattle.machine.specs.Under.{driverOf, drive, machineOf}
+use Rattle.proof_book.specs.Always.{after}
+use Rattle.proof_book.specs.Code.{Made}
+use Rattle.proof_book.specs.CodeReadings.{Steps}
 use Rattle.proof_usb20.specs.Observer.{Observer, serves, Watched, startedBy, noted, Claim, Standing, Read, Reads, All, Meaning}
 use Rattle.proof_usb20.specs.Runs.{Laws, from-start}
 

@@ -4,17 +4,17 @@ use mathlib.Core.List.{List, [], _∷_}
 use mathlib.Core.Path.{_≡_, refl, sym, _∙_}
 use Prim.Native.Nat.{ℕ, zero}
 use Rattle.state.specs.Driver.{Driver}
-use Rattle.script.specs.Tree as tree
-use Rattle.script.specs.Script.{run}
-use Rattle.script.specs.Every as ways
-use Rattle.script.specs.AddressWrites.{Writes}
-use Rattle.script.specs.AddressCalls.{Addresses, address-writes}
-use Rattle.script.specs.Answers.{Answer, Refused}
-use Rattle.script.specs.Calls.{Config, calls, startRow, Op, interrupt, slotted, other, aside, Slotted, SetEnabled, PollRead, BeginWrite, PollWrite, PollDataOut, BeginDataIn, Other, Allocate, AllocateAll, Start, BusPoll, BusEnable, BusDisable, Microframe, SetStalled, IsStalled, SetPaced, Advance, BeginRead, BeginSetup, PollSetup, PollDataIn, BeginAccept, PollAccept, BeginReject, BeginDataOut, BeginAcceptSetAddress, code}
-use Rattle.script.specs.Machine.{Buf, Event, Machine, start, started}
-use Rattle.way.specs.Under.{driverOf}
-use Rattle.ops.specs.Rings.{St}
-use Rattle.ops.specs.Conc.{conc}
+use Rattle.model.specs.Tree as tree
+use Rattle.model.specs.Script.{run}
+use Rattle.model.specs.Every as ways
+use Rattle.model.specs.AddressWrites.{Writes}
+use Rattle.model.specs.AddressCalls.{Addresses, address-writes}
+use Rattle.model.specs.Answers.{Answer, Refused}
+use Rattle.model.specs.Calls.{Config, calls, startRow, Op, interrupt, slotted, other, aside, Slotted, SetEnabled, PollRead, BeginWrite, PollWrite, PollDataOut, BeginDataIn, Other, Allocate, AllocateAll, Start, BusPoll, BusEnable, BusDisable, Microframe, SetStalled, IsStalled, SetPaced, Advance, BeginRead, BeginSetup, PollSetup, PollDataIn, BeginAccept, PollAccept, BeginReject, BeginDataOut, BeginAcceptSetAddress, code}
+use Rattle.model.specs.Machine.{Buf, Event, Machine, start, started}
+use Rattle.machine.specs.Under.{driverOf}
+use Rattle.model_ops.specs.Rings.{St}
+use Rattle.model_ops.specs.Conc.{conc}
 use Rattle.proof_usb20.specs.Log.{Log, before, opens, saw, closes, Brings, Armed, Fair, Allowed, Poll, none, begins, pollSetup, pollOut, pollIn, pollStatus, pollOf, FairPoll}
 use Rattle.proof_usb20.specs.Observer.{Observer, startedBy, Reads, All}
 use Rattle.proof_usb20.specs.Exempt.{differ}
@@ -22,8 +22,8 @@ use Rattle.proof_usb20.specs.Watch.{at-end, at-ask, watch-more}
 use Rattle.proof_usb20.specs.Ep0.{View, view, R, Law}
 use Rattle.proof_usb20.specs.Runs.{Laws, Ups, from-start}
 use Rattle.proof_usb20.specs.Besides.{aside-wakes}
-use Rattle.book.specs.Code.{Made}
-use Rattle.book.specs.CodeReadings.{Steps}
+use Rattle.proof_book.specs.Code.{Made}
+use Rattle.proof_book.specs.CodeReadings.{Steps}
 use Rattle.proof_usb20.specs.CodeRuns.{left, CodeReads, CodeMeaning, CodeAll, code-from-start}
 use Rattle.proof_usb20.specs.Stages.{law-data-out, law-data-in, law-accept, law-accept-address, law-reject, law-setup}
 use Rattle.proof_usb20.specs.Polls.{law-poll-setup, law-poll-data-out, law-poll-data-in, law-poll-accept}
@@ -34,10 +34,10 @@ use mathlib.Core.Bool.{Bool, true, false, cond}
 use Rattle.regs.specs.declared.Access.{Access}
 use Rattle.regs.specs.declared.Access.the-variants.{Read, Write, Receive, Transmit, Ep0Dma, Wait, Callback}
 use Rattle.regs.specs.declared.Reg.the-variants.{IntFg, IntSt, MisSt, FrameNo, EpRxCtrl, EpTxCtrl}
-use Rattle.script.specs.Every.{sameReg}
-use Rattle.script.specs.Answers.{End, Done}
-use Rattle.script.specs.Machine.{Call, begin, go, Ans, ended, idle}
-use Rattle.way.specs.Under.{drive}
+use Rattle.model.specs.Every.{sameReg}
+use Rattle.model.specs.Answers.{End, Done}
+use Rattle.model.specs.Machine.{Call, begin, go, Ans, ended, idle}
+use Rattle.machine.specs.Under.{drive}
 use Prim.Native.Nat.{suc}
 use Rattle.proof_usb20.specs.Observer.{Watched, watched, Under, at-rest, doing, starting, serves, noted}
 use Rattle.alloc.specs.Alloc as alloc-alloc
@@ -46,19 +46,19 @@ use Rattle.bits.specs.Bit as bits-bit
 use Rattle.bits.specs.Walk as bits-walk
 use Rattle.frame.specs.Usb20 as frame-usb20
 use Rattle.marks.specs.Copies as marks-copies
-use Rattle.ops.specs.Records as ops-records
-use Rattle.ops.specs.Rings as ops-rings
+use Rattle.model_ops.specs.Records as ops-records
+use Rattle.model_ops.specs.Rings as ops-rings
 use Rattle.regs.specs.ControlWord as regs-controlword
 use Rattle.regs.specs.Enables as regs-enables
 use Rattle.regs.specs.Registers as regs-registers
 use Rattle.regs.specs.Status as regs-status
-use Rattle.script.specs.Answers as script-answers
-use Rattle.script.specs.Calls as script-calls
-use Rattle.script.specs.Control as script-control
-use Rattle.script.specs.Handler as script-handler
-use Rattle.script.specs.IsoIn as script-isoin
-use Rattle.script.specs.IsoOut as script-isoout
-use Rattle.script.specs.Statics as script-statics
+use Rattle.model.specs.Answers as script-answers
+use Rattle.model.specs.Calls as script-calls
+use Rattle.model.specs.Control as script-control
+use Rattle.model.specs.Handler as script-handler
+use Rattle.model.specs.IsoIn as script-isoin
+use Rattle.model.specs.IsoOut as script-isoout
+use Rattle.model.specs.Statics as script-statics
 use Rattle.state.specs.Driver as state-driver
 use Rattle.state.specs.Fresh as state-fresh
 use Rattle.state.specs.Wakes as state-wakes

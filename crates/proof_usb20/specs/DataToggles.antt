@@ -8,12 +8,12 @@ use Rattle.regs.specs.declared.Dir.{Dir}
 use Rattle.regs.specs.declared.Dir.the-variants.{Out, In}
 use Rattle.state.specs.Driver.{Driver, key}
 use Rattle.state.specs.Laws.{key-apart, key-same}
-use Rattle.script.specs.Answers.{Answer}
-use Rattle.script.specs.Calls.{Config, calls, startRow, Op, interrupt, slotted, other, aside, Slotted, SetEnabled, PollRead, BeginWrite, PollWrite, PollDataOut, BeginDataIn, Other, Allocate, AllocateAll, Start, BusPoll, BusEnable, BusDisable, Microframe, SetStalled, IsStalled, SetPaced, Advance, BeginRead, BeginSetup, PollSetup, PollDataIn, BeginAccept, PollAccept, BeginReject, BeginDataOut, BeginAcceptSetAddress}
-use Rattle.script.specs.Machine.{Buf, Event, Machine, started}
-use Rattle.script.specs.TogglesLaws.{number}
-use Rattle.script.specs.Usb20Toggles.{Pid, DATA0, DATA1}
-use Rattle.way.specs.Under.{driverOf}
+use Rattle.model.specs.Answers.{Answer}
+use Rattle.model.specs.Calls.{Config, calls, startRow, Op, interrupt, slotted, other, aside, Slotted, SetEnabled, PollRead, BeginWrite, PollWrite, PollDataOut, BeginDataIn, Other, Allocate, AllocateAll, Start, BusPoll, BusEnable, BusDisable, Microframe, SetStalled, IsStalled, SetPaced, Advance, BeginRead, BeginSetup, PollSetup, PollDataIn, BeginAccept, PollAccept, BeginReject, BeginDataOut, BeginAcceptSetAddress}
+use Rattle.model.specs.Machine.{Buf, Event, Machine, started}
+use Rattle.model.specs.TogglesLaws.{number}
+use Rattle.model.specs.Usb20Toggles.{Pid, DATA0, DATA1}
+use Rattle.machine.specs.Under.{driverOf}
 use Rattle.proof_usb20.specs.Sequence.{Track}
 use Rattle.proof_usb20.specs.Follow.{Seen, Fits, Law}
 use Rattle.proof_usb20.specs.Calm.{Else}
@@ -26,16 +26,16 @@ use Rattle.state.specs.Ep.{newEp}
 use Rattle.state.specs.Fresh.{freshDriver}
 use Rattle.state.specs.Laws.{key-lt}
 use Rattle.state.specs.Driver.{noEp, epOn}
-use Rattle.script.specs.Tree as tree
-use Rattle.script.specs.Script.{run}
-use Rattle.script.specs.Every as ways
-use Rattle.script.specs.Statics.{isOn}
-use Rattle.script.specs.Answers.{Refused}
-use Rattle.script.specs.Calls.{code}
-use Rattle.script.specs.Machine.{Call, start, begin, go, question, Ans, ended, handed, told}
-use Rattle.ops.specs.Rings.{St}
-use Rattle.ops.specs.Conc.{conc}
-use Rattle.book.specs.Sorting.{Sorting}
+use Rattle.model.specs.Tree as tree
+use Rattle.model.specs.Script.{run}
+use Rattle.model.specs.Every as ways
+use Rattle.model.specs.Statics.{isOn}
+use Rattle.model.specs.Answers.{Refused}
+use Rattle.model.specs.Calls.{code}
+use Rattle.model.specs.Machine.{Call, start, begin, go, question, Ans, ended, handed, told}
+use Rattle.model_ops.specs.Rings.{St}
+use Rattle.model_ops.specs.Conc.{conc}
+use Rattle.proof_book.specs.Sorting.{Sorting}
 use Rattle.proof_usb20.specs.Sequence as log
 use Rattle.proof_usb20.specs.Sequence.{before, opens, saw, closes, Fair, own, Writing, unwritten-yet, wrote, Leaves}
 use Rattle.proof_usb20.specs.Observer.{Observer, Under, at-rest, doing, starting, Watched, startedBy, ReadAt, Read, Reads, All, Meaning}
@@ -45,8 +45,8 @@ use Rattle.proof_usb20.specs.Runs.{Laws, Sees, Ups, Only, from-start}
 use Rattle.proof_usb20.specs.Follow as follow
 use Rattle.proof_usb20.specs.Follow.{seenOf, view, Follow}
 use Rattle.proof_usb20.specs.Besides.{aside-wakes}
-use Rattle.book.specs.Code.{Made}
-use Rattle.book.specs.CodeReadings.{Steps}
+use Rattle.proof_book.specs.Code.{Made}
+use Rattle.proof_book.specs.CodeReadings.{Steps}
 use Rattle.proof_usb20.specs.CodeRuns.{left, CodeReads, CodeMeaning, CodeAll, code-from-start}
 use Rattle.proof_usb20.specs.Calm.{Off, Quiet, loose, q-resultless, q-bind, q-ret, q-write, q-wait, q-reg, q-int-en}
 use Rattle.proof_usb20.specs.Reading.{law-begin-read, law-poll-read, law-poll-write, law-begin-write}

@@ -13,13 +13,13 @@ use Rattle.regs.specs.ControlWord.{nak}
 use Rattle.regs.specs.Flags.{transfer}
 use Rattle.regs.specs.MisStatus.{sieFree}
 use Rattle.regs.specs.Status.{endpoint, token, outToken, inToken, isOut, isIn, togOk}
-use Rattle.script.specs.declared.Transfer.{Transfer}
-use Rattle.script.specs.Cells.{Plain, ep-cell}
-use Rattle.script.specs.Script.{bind, ret, run}
-use Rattle.script.specs.Statics.{isOn}
-use Rattle.script.specs.Handler.{looks, nakNonIso, outNaks, inNaks, retake, retaken, settle, waitsForIso, waitsForBulk}
-use Rattle.ops.specs.Rings.{St}
-use Rattle.ops.specs.Conc.{conc}
+use Rattle.model.specs.declared.Transfer.{Transfer}
+use Rattle.model.specs.Cells.{Plain, ep-cell}
+use Rattle.model.specs.Script.{bind, ret, run}
+use Rattle.model.specs.Statics.{isOn}
+use Rattle.model.specs.Handler.{looks, nakNonIso, outNaks, inNaks, retake, retaken, settle, waitsForIso, waitsForBulk}
+use Rattle.model_ops.specs.Rings.{St}
+use Rattle.model_ops.specs.Conc.{conc}
 use Rattle.proof_usb20.specs.Log.{Log, shows, again, writes, saw, withRx, withTx, withPhase}
 use Rattle.proof_usb20.specs.Watch.{at-end, at-ask, watch-bind, watch-more, watch-cond}
 use Rattle.proof_usb20.specs.Ep0.{Watch, View, view, Keeps}

@@ -6,8 +6,8 @@ use native.Mathlib.Omega.{arith}
 use Rattle.regs.specs.declared.Dir.the-variants.{Out, In}
 use Rattle.regs.specs.ControlWord as word
 use Rattle.regs.specs.ControlWord.{response, toggle, withToggle, nak, flip, nakflip}
-use Rattle.script.specs.Statics.{isOn}
-use Rattle.script.specs.ControlLaws.{nak-keeps, flips}
+use Rattle.model.specs.Statics.{isOn}
+use Rattle.model.specs.ControlLaws.{nak-keeps, flips}
 use Rattle.proof_usb20.specs.Pipe.{data-stage, status-stage, Answers, naks, stalls, acks, Half, gone, renewed, isReady, dataReady, Pipe, with, setup, packet, token, after, Awaited, nothing, taken, given, confirmed}
 use Rattle.proof_usb20.specs.Ep0.{Rec, View, Fits, Rests, no-request, set-up, Gives, first-wait, second-wait, Waits, Rel}
 use Rattle.proof_usb20.specs.Views.{setOut, setIn, setReady}

@@ -14,12 +14,12 @@ use Rattle.regs.specs.declared.Token.the-variants as tok
 use Rattle.regs.specs.Flags.{transfer}
 use Rattle.regs.specs.Status as status
 use Rattle.regs.specs.Status.{endpoint, togOk}
-use Rattle.script.specs.Script.{run}
-use Rattle.script.specs.Answers.{Answer, Refused, End, NotYet, Done, Shown}
-use Rattle.script.specs.Calls.{Op, interrupt, slotted, other, aside, Slotted, SetEnabled, PollRead, BeginWrite, PollWrite, PollDataOut, BeginDataIn, Other, Allocate, AllocateAll, Start, BusPoll, BusEnable, BusDisable, Microframe, SetStalled, IsStalled, SetPaced, Advance, BeginRead, BeginSetup, PollSetup, PollDataIn, BeginAccept, PollAccept, BeginReject, BeginDataOut, BeginAcceptSetAddress, code}
-use Rattle.script.specs.Every.{sameReg}
-use Rattle.ops.specs.Rings.{St}
-use Rattle.ops.specs.Conc.{conc}
+use Rattle.model.specs.Script.{run}
+use Rattle.model.specs.Answers.{Answer, Refused, End, NotYet, Done, Shown}
+use Rattle.model.specs.Calls.{Op, interrupt, slotted, other, aside, Slotted, SetEnabled, PollRead, BeginWrite, PollWrite, PollDataOut, BeginDataIn, Other, Allocate, AllocateAll, Start, BusPoll, BusEnable, BusDisable, Microframe, SetStalled, IsStalled, SetPaced, Advance, BeginRead, BeginSetup, PollSetup, PollDataIn, BeginAccept, PollAccept, BeginReject, BeginDataOut, BeginAcceptSetAddress, code}
+use Rattle.model.specs.Every.{sameReg}
+use Rattle.model_ops.specs.Rings.{St}
+use Rattle.model_ops.specs.Conc.{conc}
 use Rattle.proof_usb20.specs.Pipe.{Event, packet, token}
 use Rattle.proof_usb20.specs.Log.{Phase, off, entered, flagged, again, timed, shows, Log, withPhase, happens, ofToken, seen, reads, saw, opens, endsOther, endsSlotted, ends, Poll, none, pollSetup, pollOut, pollIn, pollStatus, pollOf, settled, done, closes, Unfinished, Begins, begins, Completes, Wrote, GivesSetup, FairPoll, AllowedTo, Allowed}
 use Rattle.proof_usb20.specs.Watch.{watch-any}

@@ -19,11 +19,11 @@ use Rattle.regs.specs.Flags.{transfer, setupAct}
 use Rattle.regs.specs.Status as status
 use Rattle.regs.specs.Status.{endpoint, togOk}
 use Rattle.regs.specs.MisStatus.{sieFree}
-use Rattle.script.specs.Answers.{Answer, Refused, End, NotYet, Done, Shown}
-use Rattle.script.specs.Calls.{Op, interrupt, slotted, other, aside, Slotted, SetEnabled, PollRead, BeginWrite, PollWrite, PollDataOut, BeginDataIn, Other, Allocate, AllocateAll, Start, BusPoll, BusEnable, BusDisable, Microframe, SetStalled, IsStalled, SetPaced, Advance, BeginRead, BeginSetup, PollSetup, PollDataIn, BeginAccept, PollAccept, BeginReject, BeginDataOut, BeginAcceptSetAddress}
-use Rattle.script.specs.Every.{sameReg}
-use Rattle.script.specs.AddressWrites.{Writes}
-use Rattle.script.specs.TogglesLaws.{number}
+use Rattle.model.specs.Answers.{Answer, Refused, End, NotYet, Done, Shown}
+use Rattle.model.specs.Calls.{Op, interrupt, slotted, other, aside, Slotted, SetEnabled, PollRead, BeginWrite, PollWrite, PollDataOut, BeginDataIn, Other, Allocate, AllocateAll, Start, BusPoll, BusEnable, BusDisable, Microframe, SetStalled, IsStalled, SetPaced, Advance, BeginRead, BeginSetup, PollSetup, PollDataIn, BeginAccept, PollAccept, BeginReject, BeginDataOut, BeginAcceptSetAddress}
+use Rattle.model.specs.Every.{sameReg}
+use Rattle.model.specs.AddressWrites.{Writes}
+use Rattle.model.specs.TogglesLaws.{number}
 use Rattle.proof_usb20.specs.Pipe.{Answers, naks, stalls, acks, Half, renewed, isReady, Pipe, Event, setup, packet, token, possible, after, Choice, takes, gives, confirms, rejects, chosen, orderly, Awaited, nothing, awaitedBy, over, taken, given, confirmed, Setting, keeps, sets}
 
 -- how far an interrupt's readings are: none of them concerns endpoint 0, its flags are to come, they are read, the

@@ -16,21 +16,21 @@ use Rattle.regs.specs.MisStatus.{sieFree}
 use Rattle.regs.specs.Status.{endpoint}
 use Rattle.state.specs.Wakes.{Wakes, wakeCode, all-woken}
 use Rattle.state.specs.Driver.{epOn, withOn}
-use Rattle.script.specs.declared.Transfer.{Transfer}
-use Rattle.script.specs.Tree as tree
-use Rattle.script.specs.Cells.{Plain, ep-cell}
-use Rattle.script.specs.Script.{Script, ret, test, when, get, run, waken, _>>=_, _>>_}
-use Rattle.script.specs.Statics.{isOn, flag, withArmed, withTog, withLen, withReady, completed, modifyEp, modifyReg}
-use Rattle.script.specs.Handler.{looks, repeated, toggled, received, sent, outArm, inArm}
-use Rattle.script.specs.Every.{Every, at-end, at-ask, every-bind, every-cond}
-use Rattle.script.specs.Usb20Toggles.{Pid, DATA0, DATA1, Transaction, bitAfterAll, passed}
-use Rattle.script.specs.TogglesLaws.{number, shown, repeated-not-passed}
-use Rattle.script.specs.ToggledLaws.{toggling, KeepsRecord, Answered, ack-keeps, ack-acks}
-use Rattle.ops.specs.Records.{plainOf, merged}
-use Rattle.ops.specs.Rings.{St}
-use Rattle.ops.specs.Conc.{conc}
-use Rattle.book.specs.Sorts.{put-steady}
-use Rattle.toggles.specs.Toggles.{Whole, same-ep}
+use Rattle.model.specs.declared.Transfer.{Transfer}
+use Rattle.model.specs.Tree as tree
+use Rattle.model.specs.Cells.{Plain, ep-cell}
+use Rattle.model.specs.Script.{Script, ret, test, when, get, run, waken, _>>=_, _>>_}
+use Rattle.model.specs.Statics.{isOn, flag, withArmed, withTog, withLen, withReady, completed, modifyEp, modifyReg}
+use Rattle.model.specs.Handler.{looks, repeated, toggled, received, sent, outArm, inArm}
+use Rattle.model.specs.Every.{Every, at-end, at-ask, every-bind, every-cond}
+use Rattle.model.specs.Usb20Toggles.{Pid, DATA0, DATA1, Transaction, bitAfterAll, passed}
+use Rattle.model.specs.TogglesLaws.{number, shown, repeated-not-passed}
+use Rattle.model.specs.ToggledLaws.{toggling, KeepsRecord, Answered, ack-keeps, ack-acks}
+use Rattle.model_ops.specs.Records.{plainOf, merged}
+use Rattle.model_ops.specs.Rings.{St}
+use Rattle.model_ops.specs.Conc.{conc}
+use Rattle.proof_book.specs.Sorts.{put-steady}
+use Rattle.proof_toggles.specs.Toggles.{Whole, same-ep}
 use Rattle.proof_usb20.specs.Exempt.{differ}
 
 -- the record of a new packet: taken (OUT) with its length, or sent (IN); the bit as it is now

@@ -16,17 +16,17 @@ use Rattle.regs.specs.Registers.{ctrlOf}
 use Rattle.state.specs.declared.Globals.{Globals}
 use Rattle.state.specs.Driver.{Driver, key, epOn, withOn}
 use Rattle.state.specs.Laws.{key-apart, key-same}
-use Rattle.script.specs.Tree as tree
-use Rattle.script.specs.Cells.{Plain, Cell, Val, ep-cell, globals-cell}
-use Rattle.script.specs.Script.{Script, get, ret, bind, test, read-then, write-then, callback-then, get-then, put-then, is-then, look-then, fetch-then, act-then, hand-then, run, Test, Look, Fetch, Act, Hand, handAsk, arrive, send, place, place0}
-use Rattle.script.specs.Sorts.{Among, allocates}
-use Rattle.script.specs.SortsWalks.{among-ins}
-use Rattle.script.specs.Statics.{isOn, withLastFrame, isoInEvery}
-use Rattle.ops.specs.Records.{merged}
-use Rattle.ops.specs.Rings.{St}
-use Rattle.ops.specs.Conc.{conc}
-use Rattle.book.specs.Sorts.{Steady, put-steady, act-steady}
-use Rattle.book.specs.Sorting.{Sorting, ep0-plain}
+use Rattle.model.specs.Tree as tree
+use Rattle.model.specs.Cells.{Plain, Cell, Val, ep-cell, globals-cell}
+use Rattle.model.specs.Script.{Script, get, ret, bind, test, read-then, write-then, callback-then, get-then, put-then, is-then, look-then, fetch-then, act-then, hand-then, run, Test, Look, Fetch, Act, Hand, handAsk, arrive, send, place, place0}
+use Rattle.model.specs.Sorts.{Among, allocates}
+use Rattle.model.specs.SortsWalks.{among-ins}
+use Rattle.model.specs.Statics.{isOn, withLastFrame, isoInEvery}
+use Rattle.model_ops.specs.Records.{merged}
+use Rattle.model_ops.specs.Rings.{St}
+use Rattle.model_ops.specs.Conc.{conc}
+use Rattle.proof_book.specs.Sorts.{Steady, put-steady, act-steady}
+use Rattle.proof_book.specs.Sorting.{Sorting, ep0-plain}
 use Rattle.proof_usb20.specs.Exempt.{differ}
 use Rattle.proof_usb20.specs.Fitting.{negated}
 use Rattle.proof_usb20.specs.Walks.{Each, each-set}

@@ -15,18 +15,18 @@ use Rattle.regs.specs.Enables as enables
 use Rattle.state.specs.declared.EpState.{EpState}
 use Rattle.state.specs.Driver.{Driver, key, noEp, epOn, withOn}
 use Rattle.state.specs.Laws.{key-lt}
-use Rattle.script.specs.Cells.{Plain, Cell, Val, ep-cell, allocator-cell, request-cell}
-use Rattle.script.specs.Script.{Script, run, no-wakes, fill}
-use Rattle.script.specs.Statics.{isOn, withReady, withArmed}
-use Rattle.script.specs.Answers.{Answer, Refused, NotYet, Done, named, isAllocated}
-use Rattle.script.specs.Endpoint.{polled, tooLong, no-request, begun}
-use Rattle.script.specs.Calls.{Op, slotted, other, PollRead, BeginWrite, PollWrite, BeginRead, code}
-use Rattle.script.specs.TogglesLaws.{number}
-use Rattle.script.specs.Usb20Toggles.{Pid}
-use Rattle.ops.specs.Records.{plainOf, merged}
-use Rattle.ops.specs.Rings.{St}
-use Rattle.ops.specs.Conc.{conc}
-use Rattle.book.specs.Sorts.{put-steady, act-steady}
+use Rattle.model.specs.Cells.{Plain, Cell, Val, ep-cell, allocator-cell, request-cell}
+use Rattle.model.specs.Script.{Script, run, no-wakes, fill}
+use Rattle.model.specs.Statics.{isOn, withReady, withArmed}
+use Rattle.model.specs.Answers.{Answer, Refused, NotYet, Done, named, isAllocated}
+use Rattle.model.specs.Endpoint.{polled, tooLong, no-request, begun}
+use Rattle.model.specs.Calls.{Op, slotted, other, PollRead, BeginWrite, PollWrite, BeginRead, code}
+use Rattle.model.specs.TogglesLaws.{number}
+use Rattle.model.specs.Usb20Toggles.{Pid}
+use Rattle.model_ops.specs.Records.{plainOf, merged}
+use Rattle.model_ops.specs.Rings.{St}
+use Rattle.model_ops.specs.Conc.{conc}
+use Rattle.proof_book.specs.Sorts.{put-steady, act-steady}
 use Rattle.proof_usb20.specs.Exempt.{differ}
 use Rattle.proof_usb20.specs.Sequence as log
 use Rattle.proof_usb20.specs.Sequence.{Track, off, withPhase, own, opens, closes, takes, taken, awaits, loaded, Fair}

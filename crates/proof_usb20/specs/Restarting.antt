@@ -20,25 +20,25 @@ use Rattle.state.specs.Laws.{key-apart}
 use Rattle.alloc.specs.declared.Answer as alloc
 use Rattle.alloc.specs.declared.Answer.the-variants as variant
 use Rattle.alloc.specs.Alloc.{allocateOf, allocateEp0Of}
-use Rattle.descriptor.specs.declared.Endpoint.{Endpoint}
-use Rattle.descriptor.specs.declared.Answer as listing
-use Rattle.descriptor.specs.declared.Answer.the-variants as listed
-use Rattle.descriptor.specs.Reading.{readingOf, listOf}
-use Rattle.preview.specs.Trial.{directionOf, trialOf}
-use Rattle.script.specs.Tree as tree
-use Rattle.script.specs.Cells.{ep-cell, allocator-cell}
-use Rattle.script.specs.Script.{bind, run, row, rows, bus-reset, no-wakes, waken, allocate, allocate0}
-use Rattle.script.specs.Statics.{isOn, withTog, completed, wake, wakeAll, withPower}
-use Rattle.script.specs.Answers.{Answer, isAllocated, operation, resultless}
-use Rattle.script.specs.Bus as bus
-use Rattle.script.specs.Driver.{newEndpoint, allocated-as, startEp0, started-as}
-use Rattle.script.specs.AllocateAll.{allocateEach, announce, beginsAt, announceAfter, announceAll, allocate-read}
-use Rattle.script.specs.Calls.{other, Allocate, AllocateAll, Start, BusPoll, SetStalled, code}
-use Rattle.script.specs.Usb20Toggles.{initial}
-use Rattle.ops.specs.Records.{plainOf, startedWith, allocatedEp0}
-use Rattle.ops.specs.Rings.{St}
-use Rattle.ops.specs.Conc.{conc}
-use Rattle.book.specs.Sorts.{act-steady}
+use Rattle.req_descriptor.specs.declared.Endpoint.{Endpoint}
+use Rattle.req_descriptor.specs.declared.Answer as listing
+use Rattle.req_descriptor.specs.declared.Answer.the-variants as listed
+use Rattle.req_descriptor.specs.Reading.{readingOf, listOf}
+use Rattle.req_preview.specs.Trial.{directionOf, trialOf}
+use Rattle.model.specs.Tree as tree
+use Rattle.model.specs.Cells.{ep-cell, allocator-cell}
+use Rattle.model.specs.Script.{bind, run, row, rows, bus-reset, no-wakes, waken, allocate, allocate0}
+use Rattle.model.specs.Statics.{isOn, withTog, completed, wake, wakeAll, withPower}
+use Rattle.model.specs.Answers.{Answer, isAllocated, operation, resultless}
+use Rattle.model.specs.Bus as bus
+use Rattle.model.specs.Driver.{newEndpoint, allocated-as, startEp0, started-as}
+use Rattle.model.specs.AllocateAll.{allocateEach, announce, beginsAt, announceAfter, announceAll, allocate-read}
+use Rattle.model.specs.Calls.{other, Allocate, AllocateAll, Start, BusPoll, SetStalled, code}
+use Rattle.model.specs.Usb20Toggles.{initial}
+use Rattle.model_ops.specs.Records.{plainOf, startedWith, allocatedEp0}
+use Rattle.model_ops.specs.Rings.{St}
+use Rattle.model_ops.specs.Conc.{conc}
+use Rattle.proof_book.specs.Sorts.{act-steady}
 use Rattle.proof_usb20.specs.Exempt.{differ}
 use Rattle.proof_usb20.specs.Sequence as log
 use Rattle.proof_usb20.specs.Sequence.{Track, off, withPhase, own}

@@ -5,19 +5,19 @@ use mathlib.Core.Path.{_≡_, refl, ap, subst, sym, _∙_}
 use Prim.Native.Nat.{ℕ, zero, suc}
 use Rattle.regs.specs.declared.Access.{Access}
 use Rattle.state.specs.Driver.{Driver}
-use Rattle.script.specs.Tree as tree
-use Rattle.script.specs.Script.{run}
-use Rattle.script.specs.Every as ways
-use Rattle.script.specs.Answers.{Answer, Refused}
-use Rattle.script.specs.Calls.{Config, Op, interrupt, slotted, other, aside, Aside, asideCode, code, calls, startRow}
-use Rattle.script.specs.Machine as machine
-use Rattle.script.specs.Machine.{Buf, Call, start, begin, go, question, Event, Ans, ended, Awaits, Way, idle, busy, Machine, misfit, beside, begun, continued, started, stay}
-use Rattle.ops.specs.Rings.{St}
-use Rattle.ops.specs.Conc.{conc}
-use Rattle.way.specs.Under.{driverOf, drive, haltsAs}
-use Rattle.book.specs.Always.{after}
-use Rattle.book.specs.Sorting.{Sorting, after-sorting}
-use Rattle.wake_ups.specs.Rooms.{Few, Roomy, rooms, start-rooms}
+use Rattle.model.specs.Tree as tree
+use Rattle.model.specs.Script.{run}
+use Rattle.model.specs.Every as ways
+use Rattle.model.specs.Answers.{Answer, Refused}
+use Rattle.model.specs.Calls.{Config, Op, interrupt, slotted, other, aside, Aside, asideCode, code, calls, startRow}
+use Rattle.model.specs.Machine as machine
+use Rattle.model.specs.Machine.{Buf, Call, start, begin, go, question, Event, Ans, ended, Awaits, Way, idle, busy, Machine, misfit, beside, begun, continued, started, stay}
+use Rattle.model_ops.specs.Rings.{St}
+use Rattle.model_ops.specs.Conc.{conc}
+use Rattle.machine.specs.Under.{driverOf, drive, haltsAs}
+use Rattle.proof_book.specs.Always.{after}
+use Rattle.proof_book.specs.Sorting.{Sorting, after-sorting}
+use Rattle.proof_wake_ups.specs.Rooms.{Few, Roomy, rooms, start-rooms}
 use Rattle.proof_usb20.specs.Watch.{Along, at-end, at-ask}
 use Rattle.proof_usb20.specs.Observer.{Observer, Under, at-rest, doing, starting, serves, Watched, watched, startedBy, beginsBy, noted, ClaimBegun, Claim, Standing, ReadAt, Read, Reads, All, Meaning}
 

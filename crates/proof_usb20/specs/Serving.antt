@@ -20,15 +20,15 @@ use Rattle.state.specs.declared.Globals.{Globals}
 use Rattle.state.specs.Wakes.{wakeCode, busCode}
 use Rattle.state.specs.Kept.{withIntEn}
 use Rattle.frame.specs.Usb20.{indexOf}
-use Rattle.script.specs.declared.Transfer.{Transfer}
-use Rattle.script.specs.Cells.{Plain, ep-cell, globals-cell}
-use Rattle.script.specs.Script.{Script, read, get, when, run, waken, no-wakes, setup-word, _>>=_, _>>_}
-use Rattle.script.specs.Statics.{isOn, withReady, withArmed, withSetup, withEntered, modifyIntEn, wakeBus}
-use Rattle.script.specs.Calls.{interrupt}
-use Rattle.script.specs.Handler.{entered, nakNonIso, isoFor, ownIn, framed, released, served, onTransfer, onSetup, onInterrupt}
-use Rattle.ops.specs.Rings.{St}
-use Rattle.ops.specs.Conc.{conc}
-use Rattle.book.specs.Sorts.{act-steady}
+use Rattle.model.specs.declared.Transfer.{Transfer}
+use Rattle.model.specs.Cells.{Plain, ep-cell, globals-cell}
+use Rattle.model.specs.Script.{Script, read, get, when, run, waken, no-wakes, setup-word, _>>=_, _>>_}
+use Rattle.model.specs.Statics.{isOn, withReady, withArmed, withSetup, withEntered, modifyIntEn, wakeBus}
+use Rattle.model.specs.Calls.{interrupt}
+use Rattle.model.specs.Handler.{entered, nakNonIso, isoFor, ownIn, framed, released, served, onTransfer, onSetup, onInterrupt}
+use Rattle.model_ops.specs.Rings.{St}
+use Rattle.model_ops.specs.Conc.{conc}
+use Rattle.proof_book.specs.Sorts.{act-steady}
 use Rattle.proof_usb20.specs.Log.{Log, off, flagged, shows, withRx, withTx, withPhase, withFlags, seen, opens, set-up}
 use Rattle.proof_usb20.specs.Pipe as pipe
 use Rattle.proof_usb20.specs.Log as log

@@ -10,15 +10,15 @@ use lib.ListN.{length}
 use Rattle.regs.specs.declared.Dir.the-variants.{Out, In}
 use Rattle.regs.specs.ControlWord.{toggle, ack, stall, status}
 use Rattle.state.specs.declared.Control.{Control}
-use Rattle.script.specs.Cells.{Plain, ep-cell, control-cell}
-use Rattle.script.specs.Script.{no-wakes, fill0}
-use Rattle.script.specs.Statics.{isOn, withReady, withArmed, withLen}
-use Rattle.script.specs.Control.{SETUP, DATA-OUT, ACCEPT, requestOf, no-control, dataInOf, addressOf}
-use Rattle.script.specs.Calls.{slotted, other, BeginDataIn, BeginSetup, BeginAccept, BeginReject, BeginDataOut, BeginAcceptSetAddress}
-use Rattle.script.specs.ToggledLaws.{ack-keeps, ack-acks}
-use Rattle.ops.specs.Rings.{St}
-use Rattle.ops.specs.Conc.{conc}
-use Rattle.book.specs.Sorts.{put-steady, act-steady}
+use Rattle.model.specs.Cells.{Plain, ep-cell, control-cell}
+use Rattle.model.specs.Script.{no-wakes, fill0}
+use Rattle.model.specs.Statics.{isOn, withReady, withArmed, withLen}
+use Rattle.model.specs.Control.{SETUP, DATA-OUT, ACCEPT, requestOf, no-control, dataInOf, addressOf}
+use Rattle.model.specs.Calls.{slotted, other, BeginDataIn, BeginSetup, BeginAccept, BeginReject, BeginDataOut, BeginAcceptSetAddress}
+use Rattle.model.specs.ToggledLaws.{ack-keeps, ack-acks}
+use Rattle.model_ops.specs.Rings.{St}
+use Rattle.model_ops.specs.Conc.{conc}
+use Rattle.proof_book.specs.Sorts.{put-steady, act-steady}
 use Rattle.proof_usb20.specs.Pipe.{Pipe, Awaited, keeps, sets}
 use Rattle.proof_usb20.specs.Log.{afresh}
 use Rattle.proof_usb20.specs.Watch.{at-end, at-ask, watch-cond}

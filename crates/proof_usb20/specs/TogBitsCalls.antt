@@ -8,18 +8,18 @@ use Rattle.regs.specs.declared.Token.{Token}
 use Rattle.regs.specs.declared.Token.the-variants as tok
 use Rattle.alloc.specs.declared.Answer as alloc-answer
 use Rattle.alloc.specs.declared.Answer.the-variants as alloc
-use Rattle.descriptor.specs.declared.Endpoint.{Endpoint}
-use Rattle.descriptor.specs.declared.Answer as reading-answer
-use Rattle.descriptor.specs.declared.Answer.the-variants as reading
-use Rattle.script.specs.declared.Transfer.{Transfer}
-use Rattle.script.specs.IsoIn.{isoInComplete, sofOne, sofWalk, lateWalk, onSof, isoInCompletions}
-use Rattle.script.specs.IsoOut.{checkWalk}
-use Rattle.script.specs.Handler.{looks, toggled, retake, settle, dispatch, movedOn, ep0MovedOn, served, onTransfer, onSetup, stampedInterrupt}
-use Rattle.script.specs.Bus as bus
-use Rattle.script.specs.Control.{acks}
-use Rattle.script.specs.Driver.{allocated-as, started-as}
-use Rattle.script.specs.AllocateAll.{allocateEach, announce, beginsAt, announceAfter, announceAll, allocate-read}
-use Rattle.script.specs.Calls.{Config, Slotted, SetEnabled, PollRead, BeginWrite, PollWrite, PollDataOut, BeginDataIn, Other, Allocate, AllocateAll, Start, BusPoll, BusEnable, BusDisable, Microframe, SetStalled, IsStalled, SetPaced, Advance, BeginRead, BeginSetup, PollSetup, PollDataIn, BeginAccept, PollAccept, BeginReject, BeginDataOut, BeginAcceptSetAddress, Aside, Open, Close, Queue, Op, interrupt, slotted, other, aside, slottedCode, otherCode, asideCode, code, starting}
+use Rattle.req_descriptor.specs.declared.Endpoint.{Endpoint}
+use Rattle.req_descriptor.specs.declared.Answer as reading-answer
+use Rattle.req_descriptor.specs.declared.Answer.the-variants as reading
+use Rattle.model.specs.declared.Transfer.{Transfer}
+use Rattle.model.specs.IsoIn.{isoInComplete, sofOne, sofWalk, lateWalk, onSof, isoInCompletions}
+use Rattle.model.specs.IsoOut.{checkWalk}
+use Rattle.model.specs.Handler.{looks, toggled, retake, settle, dispatch, movedOn, ep0MovedOn, served, onTransfer, onSetup, stampedInterrupt}
+use Rattle.model.specs.Bus as bus
+use Rattle.model.specs.Control.{acks}
+use Rattle.model.specs.Driver.{allocated-as, started-as}
+use Rattle.model.specs.AllocateAll.{allocateEach, announce, beginsAt, announceAfter, announceAll, allocate-read}
+use Rattle.model.specs.Calls.{Config, Slotted, SetEnabled, PollRead, BeginWrite, PollWrite, PollDataOut, BeginDataIn, Other, Allocate, AllocateAll, Start, BusPoll, BusEnable, BusDisable, Microframe, SetStalled, IsStalled, SetPaced, Advance, BeginRead, BeginSetup, PollSetup, PollDataIn, BeginAccept, PollAccept, BeginReject, BeginDataOut, BeginAcceptSetAddress, Aside, Open, Close, Queue, Op, interrupt, slotted, other, aside, slottedCode, otherCode, asideCode, code, starting}
 use Rattle.proof_usb20.specs.TogBitsLaws.{Keeps, k-bind, k-test, keeping}
 
 module _ {i : Bool} where

@@ -22,14 +22,14 @@ use Rattle.ring.specs.Out.{armedAt}
 use Rattle.alloc.specs.Alloc.{allocateOf, allocateEp0Of, allocated}
 use Rattle.alloc.specs.declared.Answer as alloc-answer
 use Rattle.alloc.specs.declared.Answer.the-variants as alloc
-use Rattle.script.specs.Tree as tree
-use Rattle.script.specs.Tree.{ends, asks, bindOut}
-use Rattle.script.specs.Cells.{Plain, Cell, Val, globals-cell, control-cell, allocator-cell, ep-cell, request-cell, paced-cell}
-use Rattle.script.specs.Script.{Script, run, rows, ret, bind, test, read-then, write-then, wait-then, callback-then, get-then, put-then, is-then, look-then, fetch-then, act-then, hand-then, row-then, Test, Look, Fetch, Act, complete, reset-ring, set-enabled, fill, fill0, open-oldest, close-oldest, take-oldest, enqueue, allocate, allocate0, no-wakes, waken, Hand, Row, switch, bus-reset, lastOf}
-use Rattle.script.specs.Statics.{isOn, flag}
-use Rattle.ops.specs.Records.{merged, recordGiven, setsGiven, givenTo, allocatedOn, startedWith, allocatedEp0}
-use Rattle.ops.specs.Rings.{St, renewedOn, armAt, slotStep, typeStep, configStep, resetBelow, resetAll}
-use Rattle.ops.specs.Conc.{conc}
+use Rattle.model.specs.Tree as tree
+use Rattle.model.specs.Tree.{ends, asks, bindOut}
+use Rattle.model.specs.Cells.{Plain, Cell, Val, globals-cell, control-cell, allocator-cell, ep-cell, request-cell, paced-cell}
+use Rattle.model.specs.Script.{Script, run, rows, ret, bind, test, read-then, write-then, wait-then, callback-then, get-then, put-then, is-then, look-then, fetch-then, act-then, hand-then, row-then, Test, Look, Fetch, Act, complete, reset-ring, set-enabled, fill, fill0, open-oldest, close-oldest, take-oldest, enqueue, allocate, allocate0, no-wakes, waken, Hand, Row, switch, bus-reset, lastOf}
+use Rattle.model.specs.Statics.{isOn, flag}
+use Rattle.model_ops.specs.Records.{merged, recordGiven, setsGiven, givenTo, allocatedOn, startedWith, allocatedEp0}
+use Rattle.model_ops.specs.Rings.{St, renewedOn, armAt, slotStep, typeStep, configStep, resetBelow, resetAll}
+use Rattle.model_ops.specs.Conc.{conc}
 use Rattle.proof_usb20.specs.Follow.{Seen}
 use Rattle.proof_usb20.specs.Untouched.{Same, act-same, hand-same}
 use Rattle.proof_usb20.specs.TogBits.{IsBit, TogBits}

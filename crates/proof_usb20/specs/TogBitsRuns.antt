@@ -9,15 +9,15 @@ use Rattle.state.specs.Fresh.{freshDriver}
 use Rattle.state.specs.Driver.{Driver, key, noEp, epOn}
 use Rattle.state.specs.Laws.{key-lt}
 use Rattle.state.specs.State.{view}
-use Rattle.script.specs.Tree as tree
-use Rattle.script.specs.Answers.{Answer}
-use Rattle.script.specs.Calls.{Config, Op, calls, startRow}
-use Rattle.script.specs.Machine.{Buf, Call, Event, start, begin, go, question, Ans, Way, idle, busy, Machine, misfit, lentTo, beside, over, halt, begun, continued, started}
-use Rattle.ops.specs.Rings.{St}
-use Rattle.way.specs.Under.{driverOf, drive, machineOf}
-use Rattle.book.specs.Always.{after}
-use Rattle.book.specs.Code.{Made, Did}
-use Rattle.book.specs.CodeReadings.{Steps, bytesAfter, slotsAfter}
+use Rattle.model.specs.Tree as tree
+use Rattle.model.specs.Answers.{Answer}
+use Rattle.model.specs.Calls.{Config, Op, calls, startRow}
+use Rattle.model.specs.Machine.{Buf, Call, Event, start, begin, go, question, Ans, Way, idle, busy, Machine, misfit, lentTo, beside, over, halt, begun, continued, started}
+use Rattle.model_ops.specs.Rings.{St}
+use Rattle.machine.specs.Under.{driverOf, drive, machineOf}
+use Rattle.proof_book.specs.Always.{after}
+use Rattle.proof_book.specs.Code.{Made, Did}
+use Rattle.proof_book.specs.CodeReadings.{Steps, bytesAfter, slotsAfter}
 use Rattle.proof_usb20.specs.TogBits.{TogBits}
 use Rattle.proof_usb20.specs.TogBitsLaws.{Holds, end, ask, bit-0}
 use Rattle.proof_usb20.specs.TogBitsCalls.{k-call, k-starting}

@@ -12,10 +12,10 @@ use Rattle.state.specs.declared.Globals.{Globals}
 use Rattle.state.specs.declared.Control.{Control}
 use Rattle.state.specs.Driver.{Driver, key, noEp, epOn, withOn}
 use Rattle.state.specs.Laws.{key-lt, key-apart}
-use Rattle.script.specs.Cells.{Plain, ep-cell, globals-cell, control-cell}
-use Rattle.ops.specs.Records.{merged}
-use Rattle.ops.specs.Rings.{St}
-use Rattle.ops.specs.Conc.{conc}
+use Rattle.model.specs.Cells.{Plain, ep-cell, globals-cell, control-cell}
+use Rattle.model_ops.specs.Records.{merged}
+use Rattle.model_ops.specs.Rings.{St}
+use Rattle.model_ops.specs.Conc.{conc}
 use Rattle.proof_usb20.specs.Ep0.{Rec, View, recOf, view}
 
 abbrev pub rec : Plain → Rec

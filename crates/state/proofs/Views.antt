@@ -12,14 +12,14 @@ use Rattle.state.specs.declared.Globals.{Globals}
 use Rattle.state.specs.declared.Request.{Request}
 use Rattle.state.specs.declared.Control.{Control}
 use Rattle.state.specs.declared.Saved.{Saved}
-use Rattle.fields.specs.Bytes.{gets, puts, number, digits, numbers, bytes, Each}
+use Rattle.le_bytes.specs.Bytes.{gets, puts, number, digits, numbers, bytes, Each}
 use Rattle.state.specs.Codec.{epWidths, epAs, epOf, allocatorWidths, allocatorAs, allocatorOf, globalsWidths, globalsAs, globalsOf, requestWidths, requestAs, requestOf, controlWidths, controlAs, controlOf, savedWidths, savedAs, savedOf}
 use Rattle.state.specs.Wakes.{Wakes, withCount, withCodes}
 use Rattle.state.specs.Driver.{Driver, key, lenKey, stampKey, noEp, noRequest, withEps, withLens, withStamps, withPaced, withRequests, withGlobals, withAllocator, withControl, withWakes, epOn, withOn, lenOn, withLenOn, stampOn, withStampOn, pacedOn, withPacedOn, requestOn, withRequestOn}
 use Rattle.state.specs.State.{epIn, allocatorIn, globalsIn, wakesIn, requestIn, controlIn, savedIn, view, saved}
-use Rattle.fields.specs.Runs.{Same, puts-same, gets-same, gets-puts}
-use Rattle.fields.specs.Numbers.{number-digits, numbers-bytes, each-eq}
-use Rattle.fields.specs.Tables.{table, table-same, table-set, table-at}
+use Rattle.le_bytes.specs.Runs.{Same, puts-same, gets-same, gets-puts}
+use Rattle.le_bytes.specs.Numbers.{number-digits, numbers-bytes, each-eq}
+use Rattle.le_bytes.specs.Tables.{table, table-same, table-set, table-at}
 
 -- each part of the view, after bytes were stored elsewhere
 module _ (xs : List ℕ) (o : ℕ) (bs : List ℕ) where

@@ -6,10 +6,10 @@ use Prim.Native.Nat.{ℕ, _≤_, _<_}
 use native.Mathlib.Omega.{arith}
 use lib.ListN.{length, getD}
 use lib.Seq.{ext-getD}
-use Rattle.fields.specs.Bytes.{number, numbers}
-use Rattle.fields.specs.Runs.{Same}
-use Rattle.fields.specs.Tables.{lt-or-ge}
-use Rattle.fields.specs.Injective.{Tells, tells-number, tells-numbers, one-tells, table-tells}
+use Rattle.le_bytes.specs.Bytes.{number, numbers}
+use Rattle.le_bytes.specs.Runs.{Same}
+use Rattle.le_bytes.specs.Tables.{lt-or-ge}
+use Rattle.le_bytes.specs.Injective.{Tells, tells-number, tells-numbers, one-tells, table-tells}
 use Rattle.regs.specs.declared.Dir.{Dir}
 use Rattle.state.specs.declared.EpState.{EpState}
 use Rattle.state.specs.Codec as codec

@@ -41,7 +41,7 @@ none-woken = record { count = 0; codes = replicate 64 0 }
 unfoldable pub listed : Wakes → List ℕ
 listed w = take (w .count) (w .codes)
 
--- one more, the last. With 64 there is room for none, which no operation comes to (crate `wake_ups`)
+-- one more, the last. With 64 there is room for none, which no operation comes to (crate `proof_wake_ups`)
 unfoldable pub woken : ℕ → Wakes → Wakes
 woken c w = cond (ltb (w .count) 64) (withCount (withCodes w (set (w .codes) (w .count) c)) (w .count + 1)) w
 

@@ -12,8 +12,8 @@ use codec::write_ep;
 use codec::write_globals;
 use codec::write_request;
 use codec::write_saved;
-use fields::get16;
-use fields::put16;
+use le_bytes::get16;
+use le_bytes::put16;
 use regs::Dir;
 
 mod codec;
@@ -22,10 +22,10 @@ mod stamps;
 mod start_up;
 mod wakes;
 
-pub use fields::STATE_LEN;
 pub use kept::set_ep_config;
 pub use kept::set_ep_type;
 pub use kept::set_int_en;
+pub use le_bytes::STATE_LEN;
 pub use stamps::clear_all_stamps;
 pub use stamps::clear_stamps;
 pub use stamps::load_stamp;

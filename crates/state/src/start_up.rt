@@ -19,7 +19,7 @@ use crate::store_allocator;
 use crate::store_control;
 use crate::store_globals;
 use crate::store_saved;
-use fields::put16;
+use le_bytes::put16;
 ghost use mathlib.Core.Path.{_≡_};
 ghost use Prim.Native.Nat.{_+_, _≤_};
 ghost use Rattle.state.specs.Ep.{newEp};

@@ -1,4 +1,4 @@
--- From the definitions of the card's calls: a writer's numbers are read back, so that calls from C go on as those of `card_writer` do, and any
+-- From the definitions of the card's calls: a writer's numbers are read back, so that calls from C go on as those of `req_card_writer` do, and any
 -- number may be brought as an endpoint. Assumes nothing.
 use mathlib.Core.Path.{_≡_, refl, sym, ap, _∙_}
 use mathlib.Core.Bool.{Bool, true, false, cond, or-true}
@@ -7,9 +7,10 @@ use Prim.Native.Nat.{ℕ, _+_, _%_, _^_, _<_, _≤_, min}
 use native.Mathlib.Omega.{arith}
 use native.Mathlib.Decide.{decLt}
 use borrow.Author.Tests.{lt-ltb}
-use Rattle.card.specs.Packet.{Packet, packetOf}
-use Rattle.card_writer.specs.declared.Writer.{Writer}
-use Rattle.card_writer.specs.Writing.{newWriter, usedOf, doneOf, pieceOf, beginsFirst, firstOf, fullOf, wholeOf, doneAfter, writerOf, unfit, writeOf, writtenOf}
+use Rattle.req_card.specs.Packet.{Packet, packetOf}
+use Rattle.req_card_writer.specs.declared.Writer.{Writer}
+use Rattle.req_card_writer.specs.Writing.{newWriter, usedOf, doneOf, pieceOf, beginsFirst, firstOf, fullOf, wholeOf, doneAfter, writerOf, unfit, writeOf}
+use Rattle.req_card_writer.specs.Writing.{writtenOf}
 use Rattle.survey_c.specs.Card.{writerIn, numbersOf}
 
 -- ---- the writer's numbers

@@ -8,19 +8,19 @@ use native.Mathlib.Decide.{decLt}
 use lib.Dec.{eqb, ltb}
 use lib.ListN.{length}
 use borrow.Author.Tests.{lt-ltb}
-use Rattle.card.specs.Packet.{Packet, All, size}
-use Rattle.card.specs.Written.{stream}
-use Rattle.card.specs.Places.{length-stream}
-use Rattle.card.specs.Turns.{calls-give, calls-back}
-use Rattle.card_reader.specs.Runs.{readRun, run-gives}
-use Rattle.card_writer.specs.declared.Writer.{Writer}
-use Rattle.card_writer.specs.declared.Wrote.{Wrote}
-use Rattle.card_writer.specs.declared.Wrote.the-variants as wrote
-use Rattle.card_writer.specs.declared.Finished.{Finished}
-use Rattle.card_writer.specs.declared.Finished.the-variants as finished
-use Rattle.card_writer.specs.Writing.{newWriter, usedOf, writerOf, fullOf, wholeOf, unfit, blockOfPiece, pieceWrote, writeOf, writtenOf, finishOf, lastOf}
-use Rattle.card_writer.specs.Runs.{Lends, Desk, after, packetRun, packetsRun, lastRun, streamRun}
-use Rattle.card_writer.specs.Stream.{stream-run}
+use Rattle.req_card.specs.Packet.{Packet, All, size}
+use Rattle.req_card.specs.Written.{stream}
+use Rattle.req_card.specs.Places.{length-stream}
+use Rattle.req_card.specs.Turns.{calls-give, calls-back}
+use Rattle.req_card_reader.specs.Runs.{readRun, run-gives}
+use Rattle.req_card_writer.specs.declared.Writer.{Writer}
+use Rattle.req_card_writer.specs.declared.Wrote.{Wrote}
+use Rattle.req_card_writer.specs.declared.Wrote.the-variants as wrote
+use Rattle.req_card_writer.specs.declared.Finished.{Finished}
+use Rattle.req_card_writer.specs.declared.Finished.the-variants as finished
+use Rattle.req_card_writer.specs.Writing.{newWriter, usedOf, writerOf, fullOf, wholeOf, unfit, blockOfPiece, pieceWrote, writeOf, writtenOf, finishOf, lastOf}
+use Rattle.req_card_writer.specs.Runs.{Lends, Desk, after, packetRun, packetsRun, lastRun, streamRun}
+use Rattle.req_card_writer.specs.Stream.{stream-run}
 use Rattle.survey_c.specs.Card.{writerIn, numbersOf, wroteWord, writerBy, finishedWord}
 use Rattle.survey_c.specs.CardLaws.{Short, writer-back, new-short, next-short}
 use Rattle.survey_c.specs.CardRuns.{isRefused, blockFull, packetWritten, Caller, storedIf, afterWrite, packetCalls, packetsCalls, lastCall, streamCalls}

@@ -4,17 +4,17 @@ mod rooms; // rooms.rt: an answer's numbers in the caller's rooms
 mod words; // words.rt: an answer as one word
 mod writer; // writer.rt: a card's writer as four numbers
 
-use bus_time::TIME_LEN;
-use card_reader::Batch;
-use card_reader::Next;
-use card_reader::Reader;
-use card_reader::Started;
-use card_writer::Finished;
-use card_writer::Wrote;
-use channels::Channel;
+use req_bus_time::TIME_LEN;
+use req_card_reader::Batch;
+use req_card_reader::Next;
+use req_card_reader::Reader;
+use req_card_reader::Started;
+use req_card_writer::Finished;
+use req_card_writer::Wrote;
+use req_channels::Channel;
+use req_visits::Bounds;
 use rooms::best_into;
 use rooms::reached;
-use visits::Bounds;
 use words::done;
 use words::ended;
 use words::refused;
@@ -22,18 +22,18 @@ use writer::endpoint_of;
 use writer::numbers_of;
 use writer::result_of;
 use writer::writer_in;
-ghost use Rattle.descriptor.specs.Rewriting.{rewrittenOf, roomRewritten};
+ghost use Rattle.req_descriptor.specs.Rewriting.{rewrittenOf, roomRewritten};
 ghost use Rattle.survey_c.specs.Descriptor.{writtenWord};
 ghost use mathlib.Core.Path.{_≡_};
 ghost use lib.ListN.{length};
-ghost use Rattle.bus_time.specs.Time.{inUse};
-ghost use Rattle.visits.specs.Bounds.{boundsOf};
+ghost use Rattle.req_bus_time.specs.Time.{inUse};
+ghost use Rattle.req_visits.specs.Bounds.{boundsOf};
 ghost use Rattle.crc.specs.Crc.{dataCrc};
-ghost use Rattle.card.specs.Packet.{packetOf};
-ghost use Rattle.card_writer.specs.Writing.{newWriter, writeOf, writtenOf, finishOf, lastOf};
-ghost use Rattle.card_reader.specs.Calls.{startOf, nextOf, roomOf};
+ghost use Rattle.req_card.specs.Packet.{packetOf};
+ghost use Rattle.req_card_writer.specs.Writing.{newWriter, writeOf, writtenOf, finishOf, lastOf};
+ghost use Rattle.req_card_reader.specs.Calls.{startOf, nextOf, roomOf};
 ghost use Rattle.survey_c.specs.Numbers.{BestSet, boundsWord, leastBy, greatestBy};
-ghost use Rattle.card_reader.specs.Batches.{batchOf, batchRoomOf};
+ghost use Rattle.req_card_reader.specs.Batches.{batchOf, batchRoomOf};
 ghost use Rattle.survey_c.specs.Card.{batchWord, batchPlaceBy, countBy, usedBy};
 ghost use Rattle.survey_c.specs.Card.{writerIn, numbersOf, wroteWord, writerBy, finishedWord, startedWord, startBy, nextWord, endpointBy, placeBy};
 
@@ -50,8 +50,8 @@ pub extern "C" fn usbhs_best_set(
 ) -> u64
     ensures { λ r. ⌜ BestSet (now (list .entry)) (inUse (now (time .entry))) budget (now (total .entry)) (now (figure .entry)) (now (looked .entry)) r (now (list .exit)) (now (total .exit)) (now (figure .exit)) (now (looked .exit)) ⌝ }
 {
-    let in_use = bus_time::in_use(time);
-    let answer = channels::best_set(list, in_use, budget);
+    let in_use = req_bus_time::in_use(time);
+    let answer = req_channels::best_set(list, in_use, budget);
     best_into(answer, total, figure, looked)
 }
 
@@ -69,7 +69,7 @@ pub extern "C" fn usbhs_between_visits(
     ensures { λ _. ⌜ now (least .exit) ≡ leastBy (boundsOf a b c d) (now (least .entry)) ⌝ }
     ensures { λ _. ⌜ now (greatest .exit) ≡ greatestBy (boundsOf a b c d) (now (greatest .entry)) ⌝ }
 {
-    match visits::between_visits(a, b, c, d) {
+    match req_visits::between_visits(a, b, c, d) {
         Bounds::Refused(row) => refused(row),
         Bounds::Between(l, g) => {
             let few = reached(l);
@@ -94,7 +94,7 @@ pub extern "C" fn usbhs_data_crc(bytes: &[u8]) -> u32
 pub extern "C" fn usbhs_card_new(writer: &mut [u32; 4])
     ensures { λ _. ⌜ now (writer .exit) ≡ numbersOf newWriter ⌝ }
 {
-    let numbers = numbers_of(card_writer::writing::new());
+    let numbers = numbers_of(req_card_writer::writing::new());
     *writer = numbers;
 }
 
@@ -111,7 +111,7 @@ pub extern "C" fn usbhs_card_write(
     ensures { λ _. ⌜ now (block .exit) ≡ writtenOf (writerIn (now (writer .entry))) (packetOf endpoint (now (bytes .entry))) (now (block .entry)) ⌝ }
 {
     let w = writer_in(writer);
-    match card_writer::writing::write(w, block, endpoint_of(endpoint), bytes) {
+    match req_card_writer::writing::write(w, block, endpoint_of(endpoint), bytes) {
         Wrote::Refused(row) => refused(row),
         Wrote::Piece { next, full, done } => {
             let numbers = numbers_of(next);
@@ -127,7 +127,7 @@ pub extern "C" fn usbhs_card_finish(writer: &[u32; 4], block: &mut [u8]) -> u64
     ensures { λ r. ⌜ r ≡ finishedWord (finishOf (writerIn (now (writer .entry))) (now (block .entry))) ⌝ }
     ensures { λ _. ⌜ now (block .exit) ≡ lastOf (writerIn (now (writer .entry))) (now (block .entry)) ⌝ }
 {
-    match card_writer::writing::finish(writer_in(writer), block) {
+    match req_card_writer::writing::finish(writer_in(writer), block) {
         Finished::Refused(row) => refused(row),
         Finished::Nothing => ended(0),
         Finished::Last => ended(1),
@@ -140,7 +140,7 @@ pub extern "C" fn usbhs_card_start(stream: &[u8], place: &mut usize) -> u64
     ensures { λ r. ⌜ r ≡ startedWord (startOf (now (stream .entry))) ⌝ }
     ensures { λ _. ⌜ now (place .exit) ≡ startBy (startOf (now (stream .entry))) (now (place .entry)) ⌝ }
 {
-    match card_reader::reading::start(stream) {
+    match req_card_reader::reading::start(stream) {
         Started::Refused(row) => refused(row),
         Started::At(reader) => {
             *place = reader.at;
@@ -163,7 +163,7 @@ pub extern "C" fn usbhs_card_next(
     ensures { λ _. ⌜ now (room .exit) ≡ roomOf (now (stream .entry)) (now (place .entry)) (now (room .entry)) ⌝ }
 {
     let reader = Reader { at: *place };
-    match card_reader::reading::next_packet(reader, stream, room) {
+    match req_card_reader::reading::next_packet(reader, stream, room) {
         Next::Refused(row) => refused(row),
         Next::End => ended(0),
         Next::Packet {
@@ -194,7 +194,7 @@ pub extern "C" fn usbhs_card_read(
     ensures { λ _. ⌜ now (room .exit) ≡ batchRoomOf (now (stream .entry)) (now (place .entry)) (now (room .entry)) ⌝ }
 {
     let reader = Reader { at: *place };
-    match card_reader::batches::next_packets(reader, stream, room) {
+    match req_card_reader::batches::next_packets(reader, stream, room) {
         Batch::Refused(row) => refused(row),
         Batch::End => {
             *count = 0;
@@ -220,8 +220,8 @@ pub extern "C" fn usbhs_write_descriptor(bytes: &[u8], room: &mut [u8]) -> u64
     ensures { λ r. ⌜ r ≡ writtenWord (rewrittenOf (now (bytes .entry)) (now (room .entry))) ⌝ }
     ensures { λ _. ⌜ now (room .exit) ≡ roomRewritten (now (bytes .entry)) (now (room .entry)) ⌝ }
 {
-    match descriptor::rewrite(bytes, room) {
-        descriptor::Written::Refused(row) => refused(row),
-        descriptor::Written::Bytes(n) => done(n as u16),
+    match req_descriptor::rewrite(bytes, room) {
+        req_descriptor::Written::Refused(row) => refused(row),
+        req_descriptor::Written::Bytes(n) => done(n as u16),
     }
 }

@@ -1,14 +1,14 @@
-use bus_time::TIME_LEN;
-use shared_time::charges::gone_on;
+use call_bus_time::charges::gone_on;
+use machine::Step;
+use req_bus_time::TIME_LEN;
 use state::STATE_LEN;
-use way::Step;
 ghost use mathlib.Core.Path.{_≡_};
 ghost use mathlib.Core.List.{List, []};
 ghost use Prim.Native.Nat.{ℕ};
 ghost use Rattle.state.specs.State.{view};
-ghost use Rattle.script.specs.Machine.{go};
-ghost use Rattle.way.specs.Under.{machineOf, answerOf, lentOr, AsLent, Kept};
-ghost use Rattle.shared_time.specs.Sharing.{sharedCall};
+ghost use Rattle.model.specs.Machine.{go};
+ghost use Rattle.machine.specs.Under.{machineOf, answerOf, lentOr, AsLent, Kept};
+ghost use Rattle.call_bus_time.specs.Sharing.{sharedCall};
 
 // Goes on with the operation under way: a write of ep_config gives back what it clears.
 pub fn proceed(
@@ -22,7 +22,7 @@ pub fn proceed(
     ensures { λ _. ⌜ AsLent (view (now (s .entry))) (now (slots .entry)) (now (slots .exit)) ⌝ }
     ensures { λ r. ⌜ Kept r (now (s .entry)) (now (s .exit)) ⌝ }
 {
-    let step = proceeding::proceed(s, slots, v);
+    let step = machine_resume::proceed(s, slots, v);
     gone_on(time, driver, step);
     step
 }

@@ -8,12 +8,12 @@ use lib.Dec.{eqb}
 use Rattle.regs.specs.declared.Dir.{Dir}
 use Rattle.regs.specs.declared.Dir.the-variants.{Out, In}
 use Rattle.state.specs.State.{view, saved}
-use Rattle.script.specs.Calls.{Config, Op, aside, Open, startRow}
-use Rattle.script.specs.Machine.{Buf, Call, begin, start}
-use Rattle.way.specs.Under.{machineOf, drive, answerOf, lentOr, AsLent, lentBy, Kept}
-use Rattle.endpoint_calls.specs.Shown.{ShownAt}
-use Rattle.shared_time.specs.Sharing.{sharedCall}
-use Rattle.answer_word.specs.Word.{Worded}
+use Rattle.model.specs.Calls.{Config, Op, aside, Open, startRow}
+use Rattle.model.specs.Machine.{Buf, Call, begin, start}
+use Rattle.machine.specs.Under.{machineOf, drive, answerOf, lentOr, AsLent, lentBy, Kept}
+use Rattle.call_endpoint.specs.Shown.{ShownAt}
+use Rattle.call_bus_time.specs.Sharing.{sharedCall}
+use Rattle.call_answer_word.specs.Word.{Worded}
 use Rattle.usbhs_c.specs.Stamp.{stampBy}
 
 -- a number as a direction: 0 OUT, else IN

@@ -2,12 +2,12 @@
 use mathlib.Core.List.{List}
 use Prim.Native.Nat.{ℕ, _+_, _*_, _%_, _^_}
 use Rattle.state.specs.State.{view, saved}
-use Rattle.preview.specs.declared.Said.{Said}
-use Rattle.preview.specs.declared.Said.the-variants as said
-use Rattle.preview.specs.declared.Shown.{Shown}
-use Rattle.way.specs.Under.{decode}
-use Rattle.way.specs.Rows.{isIdle, stopOf}
-use Rattle.driver_calls.specs.Listed.{previewed}
+use Rattle.req_preview.specs.declared.Said.{Said}
+use Rattle.req_preview.specs.declared.Said.the-variants as said
+use Rattle.req_preview.specs.declared.Shown.{Shown}
+use Rattle.machine.specs.Under.{decode}
+use Rattle.machine.specs.Rows.{isIdle, stopOf}
+use Rattle.call_driver.specs.Listed.{previewed}
 
 -- by the state's bytes and the descriptor's
 abbrev pub shownBy : List ℕ → List ℕ → Shown

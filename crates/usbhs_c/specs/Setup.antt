@@ -9,18 +9,18 @@ use lib.ListN.{length, take, drop}
 use Rattle.marks.specs.Copies.{over}
 use Rattle.state.specs.declared.Globals.{Globals}
 use Rattle.state.specs.Driver.{Driver}
-use Rattle.script.specs.Tree.{ends}
-use Rattle.script.specs.Statics.{isOn}
-use Rattle.script.specs.Answers.{Answer, Refused, End, NotYet, Done, Shown}
-use Rattle.script.specs.Control.{SETUP, wordBytes, setupBytes}
-use Rattle.script.specs.Calls.{other, PollSetup}
-use Rattle.script.specs.Machine.{Buf, Machine, Ans, ended, handed, told, begin}
-use Rattle.way.specs.declared.Under.{Under}
-use Rattle.way.specs.declared.Step.{Step}
-use Rattle.way.specs.declared.Step.the-variants as step
-use Rattle.way.specs.Under.{machineAt, drive, halts, answerOf}
-use Rattle.way.specs.Goes.{Called}
-use Rattle.way.specs.Rows.{isIdle, other-idle}
+use Rattle.model.specs.Tree.{ends}
+use Rattle.model.specs.Statics.{isOn}
+use Rattle.model.specs.Answers.{Answer, Refused, End, NotYet, Done, Shown}
+use Rattle.model.specs.Control.{SETUP, wordBytes, setupBytes}
+use Rattle.model.specs.Calls.{other, PollSetup}
+use Rattle.model.specs.Machine.{Buf, Machine, Ans, ended, handed, told, begin}
+use Rattle.machine.specs.declared.Under.{Under}
+use Rattle.machine.specs.declared.Step.{Step}
+use Rattle.machine.specs.declared.Step.the-variants as step
+use Rattle.machine.specs.Under.{machineAt, drive, halts, answerOf}
+use Rattle.machine.specs.Goes.{Called}
+use Rattle.machine.specs.Rows.{isIdle, other-idle}
 
 abbrev none : List ℕ
 none = []

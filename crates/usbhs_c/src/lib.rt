@@ -1,5 +1,5 @@
 // The driver's calls for programs in other languages (include/usbhs.h): a direction is 0 for OUT, else IN, a flag 0 for no, else yes, and any
-// number is safe. Each call answers one word (crate `answer_word`), a question its number. `time` is the record of bus time that up to four drivers
+// number is safe. Each call answers one word (crate `call_answer_word`), a question its number. `time` is the record of bus time that up to four drivers
 // share, `driver` the caller's number in it, modulo 4.
 pub mod inputs; // inputs.rt: directions and flags as numbers
 pub mod listed; // listed.rt: endpoints from a configuration descriptor
@@ -7,11 +7,11 @@ pub mod setup; // setup.rt: a setup packet's bytes
 pub mod stamp; // stamp.rt: the stamp of a packet that is shown
 pub mod woken; // woken.rt: the wake-ups of the last end
 
-use answer_word::continue_word;
-use answer_word::word_of;
-use bus_time::TIME_LEN;
+use call_answer_word::continue_word;
+use call_answer_word::word_of;
 use inputs::dir_of;
 use inputs::flag_of;
+use req_bus_time::TIME_LEN;
 use setup::setup_word;
 use stamp::stamp_by;
 use state::STATE_LEN;
@@ -20,14 +20,14 @@ ghost use mathlib.Core.Path.{_≡_};
 ghost use Rattle.marks.specs.Copies.{over};
 ghost use Rattle.state.specs.State.{view};
 ghost use Rattle.state.specs.Wakes.{listed};
-ghost use Rattle.script.specs.Statics.{flag};
-ghost use Rattle.script.specs.Machine.{begin, go, start};
-ghost use Rattle.script.specs.Calls.{other, slotted, aside, interrupt, Microframe, Allocate, Start, SetPaced, BusEnable, BusDisable, BusPoll, IsStalled, SetStalled, SetEnabled, BeginSetup, PollSetup, BeginDataOut, PollDataOut, BeginDataIn, PollDataIn, BeginAccept, BeginAcceptSetAddress, PollAccept, BeginReject, Advance, BeginRead, PollRead, BeginWrite, PollWrite, Close, Queue};
+ghost use Rattle.model.specs.Statics.{flag};
+ghost use Rattle.model.specs.Machine.{begin, go, start};
+ghost use Rattle.model.specs.Calls.{other, slotted, aside, interrupt, Microframe, Allocate, Start, SetPaced, BusEnable, BusDisable, BusPoll, IsStalled, SetStalled, SetEnabled, BeginSetup, PollSetup, BeginDataOut, PollDataOut, BeginDataIn, PollDataIn, BeginAccept, BeginAcceptSetAddress, PollAccept, BeginReject, Advance, BeginRead, PollRead, BeginWrite, PollWrite, Close, Queue};
 ghost use Prim.Native.Nat.{_%_};
 ghost use lib.ListN.{length};
-ghost use Rattle.bus_time.specs.Time.{inUse};
-ghost use Rattle.way.specs.Under.{configOf};
-ghost use Rattle.way.specs.Questions.{pendingOn, overrunsOn, enabledAsked};
+ghost use Rattle.req_bus_time.specs.Time.{inUse};
+ghost use Rattle.machine.specs.Under.{configOf};
+ghost use Rattle.machine.specs.Questions.{pendingOn, overrunsOn, enabledAsked};
 ghost use Rattle.usbhs_c.specs.Calls.{Answers, AnswersAtOnce, AnswersLent, AnswersInto, AnswersOutOf, AnswersStart, AnswersCharged, AnswersBeside, AnswersShown, AnswersOpen, dirOf, flagOf};
 
 // Start-up on any state, with the buffer's size and count and whether there is a start-of-frame callback.
@@ -371,7 +371,7 @@ pub extern "C" fn usbhs_woken(s: &[u8; STATE_LEN], room: &mut [u8; 64]) -> u32
 pub extern "C" fn usbhs_time_in_use(time: &[u16; TIME_LEN]) -> u32
     ensures { λ r. ⌜ r ≡ inUse (now (time .entry)) ⌝ }
 {
-    bus_time::in_use(time)
+    req_bus_time::in_use(time)
 }
 
 // The packets queued on the IN endpoint and not yet taken by the host.

@@ -1,10 +1,10 @@
 // Endpoints from a configuration descriptor, exported.
-use answer_word::word_of;
-use preview::Said;
+use call_answer_word::word_of;
+use req_preview::Said;
 use state::STATE_LEN;
 ghost use mathlib.Core.Path.{_≡_};
-ghost use Rattle.script.specs.Machine.{begin};
-ghost use Rattle.script.specs.Calls.{other, AllocateAll};
+ghost use Rattle.model.specs.Machine.{begin};
+ghost use Rattle.model.specs.Calls.{other, AllocateAll};
 ghost use Rattle.usbhs_c.specs.Calls.{Answers};
 ghost use Rattle.usbhs_c.specs.Preview.{shownBy, wordBy, numbersBy, buffersBy, refusalBy};
 

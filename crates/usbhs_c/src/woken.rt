@@ -1,6 +1,6 @@
+use machine::woken::how_many;
 use state::STATE_LEN;
 use state::woken_at;
-use way::woken::how_many;
 ghost use mathlib.Core.Path.{_≡_};
 ghost use lib.ListN.{length};
 ghost use Rattle.marks.specs.Copies.{over};

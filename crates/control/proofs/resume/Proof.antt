@@ -11,8 +11,8 @@ use Rattle.regs.proofs.control_word.ack.Reads as ack-reads
 use Rattle.regs.proofs.control_word.stall.Reads as stall-reads
 use Rattle.regs.proofs.control_word.status.Reads as status-reads
 use Rattle.regs.proofs.registers.ctrl_of.Reads as ctrl-of-reads
-use Rattle.request.proofs.byte.Reads as byte-reads
-use Rattle.request.proofs.set_armed.Reads as set-armed-reads
+use Rattle.endpoint_common.proofs.byte.Reads as byte-reads
+use Rattle.endpoint_common.proofs.set_armed.Reads as set-armed-reads
 
 enum-told : tie.Need-enum-told
 enum-told c = search needs

@@ -6,7 +6,7 @@ use Rattle.driver_codec.proofs.decode.Tie as tie
 use Rattle.driver_codec.proofs.decode.Reads as reads
 use Rattle.driver_codec.proofs.decode.Lts as lts
 use Rattle.driver_codec.proofs.dir_of.Reads as dir-of-reads
-use Rattle.ops.proofs.rings.is_on.Reads as is-on-reads
+use Rattle.model_ops.proofs.rings.is_on.Reads as is-on-reads
 
 is-on-requires : tie.Need-is-on-requires
 is-on-requires c κs = search needs

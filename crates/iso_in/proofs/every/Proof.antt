@@ -1,5 +1,5 @@
 use Rattle.bits.specs.Mask.{except}
-use Rattle.script.specs.Statics.{isoInEvery}
+use Rattle.model.specs.Statics.{isoInEvery}
 use borrow.Author.Needs.{needs}
 use Rattle.iso_in.proofs.every.Statement.{statement}
 use Rattle.iso_in.proofs.every.Tie as tie

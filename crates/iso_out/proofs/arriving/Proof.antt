@@ -1,4 +1,4 @@
-use Rattle.script.specs.IsoOut.{arriving}
+use Rattle.model.specs.IsoOut.{arriving}
 use borrow.Author.Needs.{needs}
 use Rattle.iso_out.proofs.arriving.Statement.{statement}
 use Rattle.iso_out.proofs.arriving.Tie as tie

@@ -3,7 +3,7 @@ use denote.Ref.{now}
 use Rattle.state.specs.State.{view}
 use Rattle.state.specs.declared.Globals.{Globals}
 use Rattle.regs.specs.Enables.{outEnabled}
-use Rattle.script.specs.Statics.{isoOuts}
+use Rattle.model.specs.Statics.{isoOuts}
 use Rattle.iso_out.specs.Laws.{begun}
 use borrow.Author.Needs.{needs}
 use Rattle.iso_out.proofs.begin.Statement.{statement}

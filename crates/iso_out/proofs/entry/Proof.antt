@@ -1,6 +1,6 @@
 use mathlib.Core.Path.{sym, _∙_}
 use Rattle.iso_out.specs.Laws.{entry-as}
-use Rattle.script.specs.IsoOut.{entry}
+use Rattle.model.specs.IsoOut.{entry}
 use borrow.Author.Needs.{needs}
 use Rattle.iso_out.proofs.entry.Statement.{statement}
 use Rattle.iso_out.proofs.entry.Tie as tie

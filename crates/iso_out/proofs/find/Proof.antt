@@ -4,8 +4,8 @@ use Prim.Native.Nat.{_<_}
 use native.Mathlib.Omega.{arith}
 use denote.Ref.{now}
 use Rattle.state.specs.State.{view}
-use Rattle.script.specs.declared.Transfer.{Transfer}
-use Rattle.ops.specs.Conc.{go}
+use Rattle.model.specs.declared.Transfer.{Transfer}
+use Rattle.model_ops.specs.Conc.{go}
 use Rattle.iso_out.specs.Points.{walk}
 use Rattle.iso_out.specs.Laws.{walk-over, walk-at, walk-end, rest-less}
 use borrow.Author.Needs.{needs}

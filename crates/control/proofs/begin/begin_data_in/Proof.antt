@@ -4,8 +4,8 @@ use lib.ListN.{length}
 use mathlib.Core.Path.{refl, sym, _∙_}
 use borrow.Author.Tests.{ltb-false}
 use lib.Dec.{eqb, ltb}
-use Rattle.script.specs.Statics.{isOn}
-use Rattle.request.specs.Records.{on-driver}
+use Rattle.model.specs.Statics.{isOn}
+use Rattle.endpoint_common.specs.Records.{on-driver}
 use Rattle.control.proofs.Laws.{in-last, in-more}
 use borrow.Author.Tests.{not-false, not-true}
 use borrow.Author.Needs.{needs}
@@ -18,12 +18,12 @@ use Rattle.control.proofs.checks.is_above.Reads as is-above-reads
 use Rattle.control.proofs.checks.is_started.Reads as is-started-reads
 use Rattle.control.proofs.checks.set_data_in.Reads as set-data-in-reads
 use Rattle.control.proofs.codec.flag_as.Reads as flag-as-reads
-use Rattle.ops.proofs.rings.fill0.Reads as fill0-reads
-use Rattle.ops.proofs.rings.is_on.Reads as is-on-reads
+use Rattle.model_ops.proofs.rings.fill0.Reads as fill0-reads
+use Rattle.model_ops.proofs.rings.is_on.Reads as is-on-reads
 use Rattle.regs.proofs.control_word.word_of.Reads as word-of-reads
-use Rattle.request.proofs.length16.Reads as length16-reads
-use Rattle.request.proofs.set_armed.Reads as set-armed-reads
-use Rattle.request.proofs.unready.Reads as unready-reads
+use Rattle.endpoint_common.proofs.length16.Reads as length16-reads
+use Rattle.endpoint_common.proofs.set_armed.Reads as set-armed-reads
+use Rattle.endpoint_common.proofs.unready.Reads as unready-reads
 use Rattle.state.proofs.load_globals.Reads as load-globals-reads
 use Rattle.state.proofs.clear_wakes.Reads as clear-wakes-reads
 

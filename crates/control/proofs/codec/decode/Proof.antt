@@ -6,7 +6,7 @@ use Rattle.control.proofs.codec.decode.Tie as tie
 use Rattle.control.proofs.codec.decode.Reads as reads
 use Rattle.control.proofs.codec.decode.Lts as lts
 use Rattle.control.proofs.codec.dir_of.Reads as dir-of-reads
-use Rattle.ops.proofs.rings.is_on.Reads as is-on-reads
+use Rattle.model_ops.proofs.rings.is_on.Reads as is-on-reads
 
 dir-of-requires : tie.Need-dir-of-requires
 dir-of-requires c κs = search needs

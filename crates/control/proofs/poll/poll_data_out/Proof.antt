@@ -3,7 +3,7 @@ use lib.Dec.{eqb}
 use lib.ListN.{length}
 use borrow.Author.Tests.{eq-eqb, ne-eqb, not-true, not-false}
 use Rattle.state.specs.State.{view}
-use Rattle.request.specs.Records.{on-driver}
+use Rattle.endpoint_common.specs.Records.{on-driver}
 use Rattle.control.proofs.Laws.{stage-told, stage-lends, sort-told, sort-lends, take-is, take-lends, other-told, other-lends}
 use borrow.Author.Needs.{needs}
 use Rattle.control.proofs.poll.poll_data_out.Statement.{statement}
@@ -14,7 +14,7 @@ use Rattle.control.proofs.checks.is_sort.Reads as is-sort-reads
 use Rattle.control.proofs.checks.is_started.Reads as is-started-reads
 use Rattle.control.proofs.checks.set_request.Reads as set-request-reads
 use Rattle.control.proofs.poll.take_out.Reads as take-out-reads
-use Rattle.request.proofs.unready.Reads as unready-reads
+use Rattle.endpoint_common.proofs.unready.Reads as unready-reads
 use Rattle.state.proofs.load_control.Reads as load-control-reads
 use Rattle.state.proofs.load_globals.Reads as load-globals-reads
 

@@ -1,12 +1,12 @@
 use Rattle.state.specs.State.{view}
 use denote.Ref.{now}
 use lib.Dec.{eqb, ltb}
-use Rattle.script.specs.Statics.{isOn}
-use Rattle.request.specs.Records.{on-driver}
+use Rattle.model.specs.Statics.{isOn}
+use Rattle.endpoint_common.specs.Records.{on-driver}
 use Rattle.control.proofs.Laws.{setup-done}
 use borrow.Author.Tests.{not-false, not-true}
 use mathlib.Core.Path.{_∙_, refl}
-use Rattle.script.specs.Control.{setupBytes}
+use Rattle.model.specs.Control.{setupBytes}
 use borrow.Author.Needs.{needs}
 use Rattle.control.proofs.poll.poll_setup.Statement.{statement}
 use Rattle.control.proofs.poll.poll_setup.Tie as tie
@@ -15,7 +15,7 @@ use Rattle.control.proofs.poll.poll_setup.Lts as lts
 use Rattle.control.proofs.checks.is_sort.Reads as is-sort-reads
 use Rattle.control.proofs.checks.is_started.Reads as is-started-reads
 use Rattle.control.proofs.checks.set_request.Reads as set-request-reads
-use Rattle.ops.proofs.rings.is_on.Reads as is-on-reads
+use Rattle.model_ops.proofs.rings.is_on.Reads as is-on-reads
 use Rattle.state.proofs.load_control.Reads as load-control-reads
 use Rattle.state.proofs.load_globals.Reads as load-globals-reads
 use Rattle.state.proofs.store_globals.Reads as store-globals-reads

@@ -2,8 +2,8 @@ use mathlib.Core.List.{[]}
 use mathlib.Core.Path.{_∙_, sym}
 use denote.Ref.{now}
 use Rattle.state.specs.State.{view}
-use Rattle.script.specs.Statics.{isOn}
-use Rattle.request.specs.Records.{on-driver}
+use Rattle.model.specs.Statics.{isOn}
+use Rattle.endpoint_common.specs.Records.{on-driver}
 use Rattle.control.proofs.Laws.{in-waits, in-closes, in-done}
 use borrow.Author.Needs.{needs}
 use Rattle.control.proofs.poll.take_in.Statement.{statement}
@@ -13,8 +13,8 @@ use Rattle.control.proofs.poll.take_in.Lts as lts
 use Rattle.control.proofs.checks.set_request.Reads as set-request-reads
 use Rattle.control.proofs.poll.take_closing.Reads as take-closing-reads
 use Rattle.control.proofs.poll.wait_on.Reads as wait-on-reads
-use Rattle.ops.proofs.rings.is_on.Reads as is-on-reads
-use Rattle.request.proofs.unready.Reads as unready-reads
+use Rattle.model_ops.proofs.rings.is_on.Reads as is-on-reads
+use Rattle.endpoint_common.proofs.unready.Reads as unready-reads
 use Rattle.state.proofs.load_ep.Reads as load-ep-reads
 
 load-ep-requires : tie.Need-load-ep-requires

@@ -3,8 +3,8 @@ use lib.Dec.{ltb}
 use lib.ListN.{length}
 use borrow.Author.Tests.{lt-ltb, le-ltb}
 use Rattle.state.specs.State.{view}
-use Rattle.script.specs.Statics.{isOn}
-use Rattle.request.specs.Records.{on-driver}
+use Rattle.model.specs.Statics.{isOn}
+use Rattle.endpoint_common.specs.Records.{on-driver}
 use Rattle.control.proofs.Laws.{long-told, long-lends, done-told, done-lends, wait-is, wait-lends}
 use borrow.Author.Needs.{needs}
 use Rattle.control.proofs.poll.take_out.Statement.{statement}
@@ -13,9 +13,9 @@ use Rattle.control.proofs.poll.take_out.Reads as reads
 use Rattle.control.proofs.poll.take_out.Lts as lts
 use Rattle.control.proofs.checks.set_request.Reads as set-request-reads
 use Rattle.control.proofs.poll.wait_on.Reads as wait-on-reads
-use Rattle.ops.proofs.rings.is_on.Reads as is-on-reads
-use Rattle.request.proofs.fetch.Reads as fetch-reads
-use Rattle.request.proofs.unready.Reads as unready-reads
+use Rattle.model_ops.proofs.rings.is_on.Reads as is-on-reads
+use Rattle.endpoint_common.proofs.fetch.Reads as fetch-reads
+use Rattle.endpoint_common.proofs.unready.Reads as unready-reads
 use Rattle.state.proofs.load_ep.Reads as load-ep-reads
 use Rattle.state.proofs.load_globals.Reads as load-globals-reads
 

@@ -3,11 +3,11 @@ use mathlib.Core.Path.{refl, ap, sym, _∙_}
 use Prim.Native.Nat.{ℕ}
 use borrow.Author.Tests.{eq-eqb, ne-eqb}
 use Rattle.state.specs.State.{view}
-use Rattle.ops.specs.Conc.{go}
+use Rattle.model_ops.specs.Conc.{go}
 use lib.ListN.{length}
 use Rattle.regs.specs.declared.Dir.the-variants.{Out}
-use Rattle.script.specs.Endpoint.{pollRead}
-use Rattle.rows.specs.Rows.{numbered}
+use Rattle.model.specs.Endpoint.{pollRead}
+use Rattle.endpoint_rows.specs.Rows.{numbered}
 use Rattle.endpoint.proofs.Laws.{lends, read-refused}
 use borrow.Author.Needs.{needs}
 use Rattle.endpoint.proofs.read.poll_read.Statement.{statement}

@@ -1,4 +1,4 @@
-use Rattle.handler_codec.specs.Codec.{checkAs}
+use Rattle.irq_codec.specs.Codec.{checkAs}
 use borrow.Author.Needs.{needs}
 use Rattle.irq_points.proofs.numbers.check_as.Statement.{statement}
 use Rattle.irq_points.proofs.numbers.check_as.Tie as tie

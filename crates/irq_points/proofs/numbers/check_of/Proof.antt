@@ -1,4 +1,4 @@
-use Rattle.handler_codec.specs.Codec.{checkOf}
+use Rattle.irq_codec.specs.Codec.{checkOf}
 use borrow.Author.Tests.{eq-eqb, ne-eqb}
 use borrow.Author.Needs.{needs}
 use Rattle.irq_points.proofs.numbers.check_of.Statement.{statement}

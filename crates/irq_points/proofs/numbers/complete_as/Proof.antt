@@ -1,4 +1,4 @@
-use Rattle.handler_codec.specs.Codec.{completeAs}
+use Rattle.irq_codec.specs.Codec.{completeAs}
 use borrow.Author.Needs.{needs}
 use Rattle.irq_points.proofs.numbers.complete_as.Statement.{statement}
 use Rattle.irq_points.proofs.numbers.complete_as.Tie as tie

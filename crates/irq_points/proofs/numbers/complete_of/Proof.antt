@@ -1,4 +1,4 @@
-use Rattle.handler_codec.specs.Codec.{completeOf}
+use Rattle.irq_codec.specs.Codec.{completeOf}
 use borrow.Author.Tests.{eq-eqb, ne-eqb}
 use borrow.Author.Needs.{needs}
 use Rattle.irq_points.proofs.numbers.complete_of.Statement.{statement}

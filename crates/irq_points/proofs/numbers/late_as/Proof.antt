@@ -1,4 +1,4 @@
-use Rattle.handler_codec.specs.Codec.{lateAs}
+use Rattle.irq_codec.specs.Codec.{lateAs}
 use borrow.Author.Needs.{needs}
 use Rattle.irq_points.proofs.numbers.late_as.Statement.{statement}
 use Rattle.irq_points.proofs.numbers.late_as.Tie as tie

@@ -1,4 +1,4 @@
-use Rattle.handler_codec.specs.Codec.{lateOf}
+use Rattle.irq_codec.specs.Codec.{lateOf}
 use borrow.Author.Needs.{needs}
 use Rattle.irq_points.proofs.numbers.late_of.Statement.{statement}
 use Rattle.irq_points.proofs.numbers.late_of.Tie as tie

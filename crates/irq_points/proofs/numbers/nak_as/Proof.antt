@@ -1,4 +1,4 @@
-use Rattle.handler_codec.specs.Codec.{nakAs}
+use Rattle.irq_codec.specs.Codec.{nakAs}
 use borrow.Author.Needs.{needs}
 use Rattle.irq_points.proofs.numbers.nak_as.Statement.{statement}
 use Rattle.irq_points.proofs.numbers.nak_as.Tie as tie

@@ -1,4 +1,4 @@
-use Rattle.handler_codec.specs.Codec.{nakOf}
+use Rattle.irq_codec.specs.Codec.{nakOf}
 use borrow.Author.Tests.{ne-eqb}
 use borrow.Author.Needs.{needs}
 use Rattle.irq_points.proofs.numbers.nak_of.Statement.{statement}

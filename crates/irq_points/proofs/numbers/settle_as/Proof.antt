@@ -1,4 +1,4 @@
-use Rattle.handler_codec.specs.Codec.{settleAs}
+use Rattle.irq_codec.specs.Codec.{settleAs}
 use borrow.Author.Needs.{needs}
 use Rattle.irq_points.proofs.numbers.settle_as.Statement.{statement}
 use Rattle.irq_points.proofs.numbers.settle_as.Tie as tie

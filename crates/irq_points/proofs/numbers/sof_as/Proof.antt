@@ -1,4 +1,4 @@
-use Rattle.handler_codec.specs.Codec.{sofAs}
+use Rattle.irq_codec.specs.Codec.{sofAs}
 use borrow.Author.Needs.{needs}
 use Rattle.irq_points.proofs.numbers.sof_as.Statement.{statement}
 use Rattle.irq_points.proofs.numbers.sof_as.Tie as tie

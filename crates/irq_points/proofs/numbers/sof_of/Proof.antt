@@ -1,4 +1,4 @@
-use Rattle.handler_codec.specs.Codec.{sofOf}
+use Rattle.irq_codec.specs.Codec.{sofOf}
 use borrow.Author.Tests.{ne-eqb}
 use borrow.Author.Needs.{needs}
 use Rattle.irq_points.proofs.numbers.sof_of.Statement.{statement}

@@ -1,4 +1,4 @@
-use Rattle.handler_codec.specs.Codec.{toggledAs}
+use Rattle.irq_codec.specs.Codec.{toggledAs}
 use borrow.Author.Needs.{needs}
 use Rattle.irq_points.proofs.numbers.toggled_as.Statement.{statement}
 use Rattle.irq_points.proofs.numbers.toggled_as.Tie as tie

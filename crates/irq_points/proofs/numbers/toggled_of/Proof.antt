@@ -1,4 +1,4 @@
-use Rattle.handler_codec.specs.Codec.{toggledOf}
+use Rattle.irq_codec.specs.Codec.{toggledOf}
 use borrow.Author.Tests.{ne-eqb}
 use borrow.Author.Needs.{needs}
 use Rattle.irq_points.proofs.numbers.toggled_of.Statement.{statement}

@@ -1,6 +1,6 @@
 use Rattle.state.specs.Wakes.{listed}
-use Rattle.way.specs.Under.{decode}
-use Rattle.way.specs.Counted.{front-take}
+use Rattle.machine.specs.Under.{decode}
+use Rattle.machine.specs.Counted.{front-take}
 use Rattle.irq_points.specs.Stands.{halted}
 use mathlib.Core.Path.{_∙_}
 use borrow.Author.Needs.{needs}

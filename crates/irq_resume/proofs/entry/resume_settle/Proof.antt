@@ -1,8 +1,8 @@
 use Rattle.irq_resume.specs.Sites.{loaded-settle}
 use Rattle.irq_resume.specs.Resumes.{went-on, stays-on}
-use Rattle.transfer.specs.Settle as settles
-use Rattle.transfer.specs.declared.settle.Settle.{Settle}
-use Rattle.handler.specs.Points.{fitsAt}
+use Rattle.irq_transfer.specs.Settle as settles
+use Rattle.irq_transfer.specs.declared.settle.Settle.{Settle}
+use Rattle.irq.specs.Points.{fitsAt}
 use Rattle.state.specs.State.{view, saved}
 use denote.Ref.{now}
 use mathlib.Core.Path.{_∙_, sym, refl, ap}

@@ -1,7 +1,7 @@
 use Rattle.irq_resume.specs.Sites.{loaded-st}
 use Rattle.irq_resume.specs.Resumes.{went-on, stays-on}
-use Rattle.handler.specs.Points.{fitsAt}
-use Rattle.transfer.specs.Laws.{wider}
+use Rattle.irq.specs.Points.{fitsAt}
+use Rattle.irq_transfer.specs.Laws.{wider}
 use native.Mathlib.Omega.{arith}
 use Rattle.state.specs.State.{view, saved}
 use denote.Ref.{now}

@@ -2,7 +2,7 @@ use Rattle.irq_resume.specs.Sites.{loaded-sof-arm}
 use Rattle.irq_resume.specs.Resumes.{went-on, stays-on}
 use Rattle.iso_in.specs.Sof as sofs
 use Rattle.iso_in.specs.declared.sof.Sof.{Sof}
-use Rattle.handler.specs.Points.{fitsAt}
+use Rattle.irq.specs.Points.{fitsAt}
 use Rattle.state.specs.State.{view, saved}
 use denote.Ref.{now}
 use mathlib.Core.Path.{_∙_, sym, refl, ap}

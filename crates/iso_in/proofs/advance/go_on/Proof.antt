@@ -1,6 +1,6 @@
 use mathlib.Core.Path.{ap, sym, _∙_}
 use Rattle.state.specs.Driver.{Driver}
-use Rattle.script.specs.Tree.{ends}
+use Rattle.model.specs.Tree.{ends}
 use Rattle.iso_in.specs.Laws.{paced-none, paced-begun}
 use borrow.Author.Needs.{needs}
 use Rattle.iso_in.proofs.advance.go_on.Statement.{statement}

@@ -2,7 +2,7 @@ use mathlib.Core.Path.{_≡_, refl, sym, ap, _∙_}
 use Prim.Native.Nat.{ℕ, _≤_, _-_, _+_, _*_}
 use native.Mathlib.Omega.{arith}
 use lib.ListN.{set}
-use Rattle.fields.specs.Bytes.{bytes, digits}
+use Rattle.le_bytes.specs.Bytes.{bytes, digits}
 use Rattle.state.specs.Driver.{Driver, withEps}
 use Rattle.state.specs.State.{view, saved}
 use Rattle.state.specs.Fresh.{filled}
@@ -11,7 +11,7 @@ use Rattle.state.proofs.Filling.{filled-none, filled-first}
 use Rattle.state.specs.declared.EpState.{EpState}
 use Rattle.state.specs.Codec.{epWidths, epAs}
 use Rattle.state.specs.Ep.{newEp}
-use Rattle.fields.specs.Bytes.{puts}
+use Rattle.le_bytes.specs.Bytes.{puts}
 use borrow.Author.Needs.{needs}
 use Rattle.state.proofs.start_up.fill_eps.Statement.{statement}
 use Rattle.state.proofs.start_up.fill_eps.Tie as tie

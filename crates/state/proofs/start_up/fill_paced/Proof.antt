@@ -2,7 +2,7 @@ use mathlib.Core.Path.{_≡_, refl, sym, ap, _∙_}
 use Prim.Native.Nat.{ℕ, _≤_, _-_, _+_, _*_}
 use native.Mathlib.Omega.{arith}
 use lib.ListN.{set}
-use Rattle.fields.specs.Bytes.{bytes, digits}
+use Rattle.le_bytes.specs.Bytes.{bytes, digits}
 use Rattle.state.specs.Driver.{Driver, withPaced}
 use Rattle.state.specs.State.{view, saved}
 use Rattle.state.specs.Fresh.{filled}

@@ -1,15 +1,15 @@
 use denote.Ref.{now}
 use mathlib.Core.Path.{refl}
-use Rattle.way.specs.Under.{machineOf, configOf}
-use Rattle.shared_time.specs.Sharing.{settles}
-use Rattle.script.specs.Machine.{go}
+use Rattle.machine.specs.Under.{machineOf, configOf}
+use Rattle.call_bus_time.specs.Sharing.{settles}
+use Rattle.model.specs.Machine.{go}
 use borrow.Author.Needs.{needs}
 use Rattle.usbhs.proofs.proceeds.proceed.Statement.{statement}
 use Rattle.usbhs.proofs.proceeds.proceed.Tie as tie
 use Rattle.usbhs.proofs.proceeds.proceed.Reads as reads
 use Rattle.usbhs.proofs.proceeds.proceed.Lts as lts
-use Rattle.proceeding.proofs.proceed.Reads as proceed-reads
-use Rattle.shared_time.proofs.charges.gone_on.Reads as gone-on-reads
+use Rattle.machine_resume.proofs.proceed.Reads as proceed-reads
+use Rattle.call_bus_time.proofs.charges.gone_on.Reads as gone-on-reads
 
 proceed-requires : tie.Need-proceed-requires
 proceed-requires c κs = search needs

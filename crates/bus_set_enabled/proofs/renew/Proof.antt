@@ -1,0 +1,20 @@
+use Rattle.bus_set_enabled.specs.Laws.{renew-both}
+use Rattle.state.specs.Laws.{view-sized}
+use borrow.Author.Needs.{needs}
+use Rattle.bus_set_enabled.proofs.renew.Statement.{statement}
+use Rattle.bus_set_enabled.proofs.renew.Tie as tie
+
+load-ep-requires : tie.Need-load-ep-requires
+load-ep-requires c κs = search needs
+
+reset-requires : tie.Need-reset-requires
+reset-requires c κs = search needs
+
+store-ep-requires : tie.Need-store-ep-requires
+store-ep-requires c κs = search needs
+
+returns : tie.Need-returns
+returns c = (simp (c .store-ep .ensures .0, c .before .before .reset .ensures, c .before .before .before .load-ep .ensures, renew-both _ (view-sized _) _ _ (c .before .before .before .before .before .args .armed) (c .before .before .before .before .before .pre)), c .store-ep .ensures .1)
+
+pub renew-spec : {M : Type 1} → statement M
+renew-spec = tie.close (tie.spec load-ep-requires reset-requires store-ep-requires returns)

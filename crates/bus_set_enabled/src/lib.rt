@@ -1,0 +1,192 @@
+// Endpoints enabled and disabled (mod.rs 1268-1330) one access at a time. Every function is total: any number is safe.
+use bus::Next;
+use bus::Point;
+use bus::flag_of;
+use iso_out_enable::after_switch;
+use model_ops::records::iso_out;
+use model_ops::records::place;
+use model_ops::rings::is_on;
+use regs::Access;
+use regs::Dir;
+use regs::Reg;
+use regs::control_word;
+use regs::enables;
+use state::EpState;
+use state::STATE_LEN;
+use state::load_ep;
+use state::load_globals;
+use state::set_ep_type;
+use state::store_ep;
+use state::store_paced;
+ghost use mathlib.Core.Path.{_≡_};
+ghost use mathlib.Core.Bool.{true, false, cond, not, _&&_};
+ghost use mathlib.Core.List.{List};
+ghost use Prim.Native.Nat.{ℕ};
+ghost use Rattle.regs.specs.ControlWord.{ACK, NYET, NAK, DATA0, wordOf};
+ghost use Rattle.state.specs.Driver.{Driver};
+ghost use Rattle.state.specs.State.{view, saved};
+ghost use Rattle.model.specs.Bus as script;
+ghost use Rattle.model_ops.specs.Conc.{go};
+ghost use Rattle.model_ops.specs.Records.{isoOut};
+ghost use Rattle.bus.specs.Points.{resultless, renewedAs, enabledOut, afterType, afterWords, afterPlaced, denote, meaning, Linked, fitsAt};
+ghost use Rattle.bus.specs.Stages.{ofEndpoint};
+
+// The record reset, and armed or not.
+fn renew(s: &mut [u8; STATE_LEN], dir: Dir, e: u8, armed: u8)
+    requires { ⌜ isoOut (view (now s)) dir e ≡ false ⌝ }
+    ensures { λ _. ⌜ view (now (s .exit)) ≡ renewedAs (view (now (s .entry))) dir e armed ⌝ }
+    ensures { λ _. ⌜ saved (now (s .exit)) ≡ saved (now (s .entry)) ⌝ }
+{
+    let r = load_ep(s, dir, e);
+    let mut t = r.reset();
+    t.armed = armed;
+    store_ep(s, dir, e, t);
+}
+
+// Not isochronous: armed as soon as it is enabled (mod.rs 1279-1282, 1296).
+fn set_enabled_out(s: &mut [u8; STATE_LEN], e: u8, on: bool) -> Next
+    requires { ⌜ isoOut (view (now s)) Dir.Out e ≡ false ⌝ }
+    ensures { λ r. ⌜ ((b : List ℕ) → meaning r (view (now (s .exit))) b ≡ go (enabledOut e on) (view (now (s .entry))) b) ⌝ }
+    ensures { λ _. ⌜ saved (now (s .exit)) ≡ saved (now (s .entry)) ⌝ }
+    ensures { λ r. ⌜ Linked r ⌝ }
+{
+    renew(s, Dir::Out, e, flag_of(on));
+    let at = place(s, Dir::Out, e);
+    Next::Asks(Access::Receive(e, at), Point::PlacedOut(e, on))
+}
+
+fn set_enabled_in(s: &mut [u8; STATE_LEN], e: u8, on: bool) -> Next
+    ensures { λ r. ⌜ ((b : List ℕ) → meaning r (view (now (s .exit))) b ≡ go (resultless (script.setEnabled Dir.In e on)) (view (now (s .entry))) b) ⌝ }
+    ensures { λ _. ⌜ saved (now (s .exit)) ≡ saved (now (s .entry)) ⌝ }
+    ensures { λ r. ⌜ Linked r ⌝ }
+{
+    let r = load_ep(s, Dir::In, e);
+    let iso = is_on(r.iso);
+    renew(s, Dir::In, e, 0);
+    store_paced(s, e, EpState::NO_FRAME);
+    let at = place(s, Dir::In, e);
+    Next::Asks(Access::Transmit(e, at), Point::PlacedIn(e, iso, on))
+}
+
+// `endpoint_set_enabled` (mod.rs 1268-1330).
+pub fn set_enabled(s: &mut [u8; STATE_LEN], buf: &mut [u8], dir: Dir, e: u8, on: bool) -> Next
+    ensures { λ r. ⌜ meaning r (view (now (s .exit))) (now (buf .exit)) ≡ go (resultless (script.setEnabled dir e on)) (view (now (s .entry))) (now (buf .entry)) ⌝ }
+    ensures { λ _. ⌜ saved (now (s .exit)) ≡ saved (now (s .entry)) ⌝ }
+    ensures { λ r. ⌜ Linked r ⌝ }
+{
+    match dir {
+        Dir::Out => {
+            if iso_out(s, Dir::Out, e) {
+                return after_switch(s, buf, e, on, 19);
+            }
+            set_enabled_out(s, e, on)
+        }
+        Dir::In => set_enabled_in(s, e, on),
+    }
+}
+
+// The word of an OUT (mod.rs 1298-1309).
+fn out_word(on: bool) -> u8
+    ensures { λ r. ⌜ r ≡ wordOf (cond on ACK NAK) DATA0 true ⌝ }
+{
+    if on {
+        return control_word::word_of(control_word::ACK, control_word::DATA0, true);
+    }
+    control_word::word_of(control_word::NAK, control_word::DATA0, true)
+}
+
+fn after_placed_out(e: u8, on: bool) -> Next
+    ensures { λ r. ⌜ ((v : ℕ) (d : Driver) (b : List ℕ) → meaning r d b ≡ denote (Point.PlacedOut e on) v (d, b)) ⌝ }
+    ensures { λ r. ⌜ Linked r ⌝ }
+{
+    let word = out_word(on);
+    Next::Asks(
+        Access::Write(Reg::EpRxCtrl, e, word as u32),
+        Point::Words(Dir::Out, e, false, on),
+    )
+}
+
+fn after_placed_in(e: u8, iso: bool, on: bool) -> Next
+    ensures { λ r. ⌜ ((v : ℕ) (d : Driver) (b : List ℕ) → meaning r d b ≡ denote (Point.PlacedIn e iso on) v (d, b)) ⌝ }
+    ensures { λ r. ⌜ Linked r ⌝ }
+{
+    Next::Asks(
+        Access::Write(Reg::EpTLen, e, 0),
+        Point::NoLength(e, iso, on),
+    )
+}
+
+fn both(iso: bool, on: bool) -> bool
+    ensures { λ r. ⌜ r ≡ (iso && on) ⌝ }
+{
+    if iso {
+        return on;
+    }
+    false
+}
+
+// The word of an IN (mod.rs 1317-1323).
+fn in_word(iso: bool, on: bool) -> u8
+    ensures { λ r. ⌜ r ≡ wordOf (cond (iso && on) NYET NAK) DATA0 (not iso) ⌝ }
+{
+    if both(iso, on) {
+        return control_word::word_of(control_word::NYET, control_word::DATA0, !iso);
+    }
+    control_word::word_of(control_word::NAK, control_word::DATA0, !iso)
+}
+
+fn after_no_length(e: u8, iso: bool, on: bool) -> Next
+    ensures { λ r. ⌜ ((d : Driver) (b : List ℕ) → meaning r d b ≡ go (afterPlaced e iso on) d b) ⌝ }
+    ensures { λ r. ⌜ Linked r ⌝ }
+{
+    let word = in_word(iso, on);
+    Next::Asks(
+        Access::Write(Reg::EpTxCtrl, e, word as u32),
+        Point::Words(Dir::In, e, iso, on),
+    )
+}
+
+// ep_type's bit, then ep_config's (mod.rs 1310-1311, 1324-1325).
+fn after_words(s: &mut [u8; STATE_LEN], dir: Dir, e: u8, iso: bool, on: bool) -> Next
+    ensures { λ r. ⌜ ((b : List ℕ) → meaning r (view (now (s .exit))) b ≡ go (afterWords dir e iso on) (view (now (s .entry))) b) ⌝ }
+    ensures { λ _. ⌜ saved (now (s .exit)) ≡ saved (now (s .entry)) ⌝ }
+    ensures { λ r. ⌜ Linked r ⌝ }
+{
+    let g = load_globals(s);
+    let bit = both(iso, on);
+    let word = enables::with_on(g.ep_type, dir, e, bit);
+    set_ep_type(s, word);
+    Next::Asks(Access::Write(Reg::EpType, 0, word), Point::Type(dir, e, on))
+}
+
+fn after_type(s: &mut [u8; STATE_LEN], dir: Dir, e: u8, on: bool) -> Next
+    ensures { λ r. ⌜ ((b : List ℕ) → meaning r (view (now (s .exit))) b ≡ go (afterType dir e on) (view (now (s .entry))) b) ⌝ }
+    ensures { λ _. ⌜ saved (now (s .exit)) ≡ saved (now (s .entry)) ⌝ }
+    ensures { λ r. ⌜ Linked r ⌝ }
+{
+    model_ops::records::set_enabled(s, dir, e, on);
+    let g = load_globals(s);
+    Next::Asks(
+        Access::Write(Reg::EpConfig, 0, g.ep_config),
+        Point::Woken(dir, e),
+    )
+}
+
+// The next access of the operation that stands at `p`, of an endpoint, now that `v` was brought.
+pub fn resume(s: &mut [u8; STATE_LEN], buf: &mut [u8], p: Point, v: u32) -> Next
+    requires { ⌜ fitsAt p v ≡ true ⌝ }
+    requires { ⌜ ofEndpoint p ≡ true ⌝ }
+    ensures { λ r. ⌜ meaning r (view (now (s .exit))) (now (buf .exit)) ≡ denote p v (view (now (s .entry)), now (buf .entry)) ⌝ }
+    ensures { λ _. ⌜ saved (now (s .exit)) ≡ saved (now (s .entry)) ⌝ }
+    ensures { λ r. ⌜ Linked r ⌝ }
+{
+    match p {
+        Point::PlacedOut(e, on) => after_placed_out(e, on),
+        Point::PlacedIn(e, iso, on) => after_placed_in(e, iso, on),
+        Point::NoLength(e, iso, on) => after_no_length(e, iso, on),
+        Point::Words(d, e, iso, on) => after_words(s, d, e, iso, on),
+        Point::Type(d, e, on) => after_type(s, d, e, on),
+        Point::Switch(e, on, n) => after_switch(s, buf, e, on, n),
+        _ => bus_set_stalled::resume(s, p, v),
+    }
+}

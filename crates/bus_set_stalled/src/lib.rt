@@ -1,0 +1,195 @@
+// Stalls (mod.rs 1053-1106) one access at a time. Every function is total: any number is safe.
+use bus::Next;
+use bus::Point;
+use bus::byte;
+use model_ops::records::wake;
+use model_ops::rings::is_on;
+use regs::Access;
+use regs::Dir;
+use regs::Reg;
+use regs::control_word;
+use regs::registers::ctrl_of;
+use state::EpState;
+use state::STATE_LEN;
+use state::load_ep;
+use state::store_ep;
+ghost use mathlib.Core.Path.{_≡_};
+ghost use mathlib.Core.Bool.{true, false};
+ghost use mathlib.Core.List.{List};
+ghost use Prim.Native.Nat.{ℕ};
+ghost use Rattle.regs.specs.Registers.{fitsIn};
+ghost use Rattle.state.specs.Driver.{Driver};
+ghost use Rattle.state.specs.State.{view, saved};
+ghost use Rattle.model.specs.Bus as script;
+ghost use Rattle.model_ops.specs.Conc.{go};
+ghost use Rattle.model_ops.specs.Records.{plainOf};
+ghost use Rattle.bus.specs.Points.{resultless, woken, afterStallWord, afterRestart, denote, meaning, Linked, fitsAt};
+ghost use Rattle.bus.specs.Stages.{ofStall};
+
+// `is_endpoint_stalled` (mod.rs 1101-1106).
+pub fn is_stalled(dir: Dir, e: u8) -> Next
+    ensures { λ r. ⌜ ((d : Driver) (b : List ℕ) → meaning r d b ≡ go {i = false} (script.isEndpointStalled dir e) d b) ⌝ }
+    ensures { λ r. ⌜ Linked r ⌝ }
+{
+    Next::Asks(Access::Read(ctrl_of(dir), e), Point::Stalled)
+}
+
+fn after_stalled(v: u32) -> Next
+    requires { ⌜ fitsIn v 8 ≡ true ⌝ }
+    ensures { λ r. ⌜ ((d : Driver) (b : List ℕ) → meaning r d b ≡ denote Point.Stalled v (d, b)) ⌝ }
+    ensures { λ r. ⌜ Linked r ⌝ }
+{
+    if control_word::is_stalled(byte(v)) {
+        return Next::Ends(1);
+    }
+    Next::Ends(0)
+}
+
+// Un-stalled: DATA0, automatic but for EP0 and isochronous endpoints (mod.rs 1069-1091).
+fn restarted(response: u8, e: u8, r: EpState) -> u8
+    ensures { λ w. ⌜ w ≡ script.restarted response e (plainOf r) ⌝ }
+{
+    let iso = r.iso;
+    if is_on(iso) {
+        return control_word::word_of(control_word::NYET, control_word::DATA0, false);
+    }
+    control_word::word_of(response, control_word::DATA0, e != 0)
+}
+
+// A read still waiting stays armed.
+fn restarted_out(e: u8, r: EpState) -> u8
+    ensures { λ w. ⌜ w ≡ script.restartedOut e (plainOf r) ⌝ }
+{
+    if is_on(r.armed) {
+        return restarted(control_word::ACK, e, r);
+    }
+    restarted(control_word::NAK, e, r)
+}
+
+fn restarted_in(e: u8, r: EpState) -> u8
+    ensures { λ w. ⌜ w ≡ script.restartedIn e (plainOf r) ⌝ }
+{
+    restarted(control_word::NAK, e, r)
+}
+
+// The toggle restarts, and the control word.
+fn restart_out(s: &mut [u8; STATE_LEN], e: u8) -> Next
+    ensures { λ r. ⌜ ((b : List ℕ) → meaning r (view (now (s .exit))) b ≡ go (resultless (script.setStalled Dir.Out e false)) (view (now (s .entry))) b) ⌝ }
+    ensures { λ _. ⌜ saved (now (s .exit)) ≡ saved (now (s .entry)) ⌝ }
+    ensures { λ r. ⌜ Linked r ⌝ }
+{
+    let r = load_ep(s, Dir::Out, e);
+    let word = restarted_out(e, r);
+    let mut t = r;
+    t.tog = 0;
+    store_ep(s, Dir::Out, e, t);
+    Next::Asks(
+        Access::Write(Reg::EpRxCtrl, e, word as u32),
+        Point::Woken(Dir::Out, e),
+    )
+}
+
+fn restart_in(s: &mut [u8; STATE_LEN], e: u8) -> Next
+    ensures { λ r. ⌜ ((b : List ℕ) → meaning r (view (now (s .exit))) b ≡ go (resultless (script.setStalled Dir.In e false)) (view (now (s .entry))) b) ⌝ }
+    ensures { λ _. ⌜ saved (now (s .exit)) ≡ saved (now (s .entry)) ⌝ }
+    ensures { λ r. ⌜ Linked r ⌝ }
+{
+    let r = load_ep(s, Dir::In, e);
+    let word = restarted_in(e, r);
+    let iso = is_on(r.iso);
+    let mut t = r;
+    t.tog = 0;
+    store_ep(s, Dir::In, e, t);
+    Next::Asks(
+        Access::Write(Reg::EpTxCtrl, e, word as u32),
+        Point::Restarted(e, iso),
+    )
+}
+
+// `set_endpoint_stalled` (mod.rs 1053-1099).
+pub fn set_stalled(s: &mut [u8; STATE_LEN], dir: Dir, e: u8, on: bool) -> Next
+    ensures { λ r. ⌜ ((b : List ℕ) → meaning r (view (now (s .exit))) b ≡ go (resultless (script.setStalled dir e on)) (view (now (s .entry))) b) ⌝ }
+    ensures { λ _. ⌜ saved (now (s .exit)) ≡ saved (now (s .entry)) ⌝ }
+    ensures { λ r. ⌜ Linked r ⌝ }
+{
+    match dir {
+        Dir::Out => {
+            if on {
+                return Next::Asks(
+                    Access::Read(Reg::EpRxCtrl, e),
+                    Point::StallWord(Dir::Out, e),
+                );
+            }
+            restart_out(s, e)
+        }
+        Dir::In => {
+            if on {
+                return Next::Asks(Access::Write(Reg::EpTLen, e, 0), Point::StallLen(e));
+            }
+            restart_in(s, e)
+        }
+    }
+}
+
+fn after_stall_len(e: u8) -> Next
+    ensures { λ r. ⌜ ((v : ℕ) (d : Driver) (b : List ℕ) → meaning r d b ≡ denote (Point.StallLen e) v (d, b)) ⌝ }
+    ensures { λ r. ⌜ Linked r ⌝ }
+{
+    Next::Asks(Access::Read(Reg::EpTxCtrl, e), Point::StallWord(Dir::In, e))
+}
+
+fn after_stall_word(dir: Dir, e: u8, v: u32) -> Next
+    requires { ⌜ fitsIn v 8 ≡ true ⌝ }
+    ensures { λ r. ⌜ ((d : Driver) (b : List ℕ) → meaning r d b ≡ go (afterStallWord dir e v) d b) ⌝ }
+    ensures { λ r. ⌜ Linked r ⌝ }
+{
+    let word = control_word::stall(byte(v));
+    Next::Asks(
+        Access::Write(ctrl_of(dir), e, word as u32),
+        Point::Woken(dir, e),
+    )
+}
+
+// The endpoint is woken, and the operation ends.
+pub fn after_woken(s: &mut [u8; STATE_LEN], dir: Dir, e: u8) -> Next
+    ensures { λ r. ⌜ ((b : List ℕ) → meaning r (view (now (s .exit))) b ≡ go (woken dir e) (view (now (s .entry))) b) ⌝ }
+    ensures { λ _. ⌜ saved (now (s .exit)) ≡ saved (now (s .entry)) ⌝ }
+    ensures { λ r. ⌜ Linked r ⌝ }
+{
+    wake(s, dir, e);
+    Next::Ends(0)
+}
+
+// A write waiting on the stalled endpoint finishes; its data is dropped (mod.rs 1093-1098).
+fn after_restart(s: &mut [u8; STATE_LEN], e: u8, iso: bool) -> Next
+    ensures { λ r. ⌜ ((b : List ℕ) → meaning r (view (now (s .exit))) b ≡ go (afterRestart e iso) (view (now (s .entry))) b) ⌝ }
+    ensures { λ _. ⌜ saved (now (s .exit)) ≡ saved (now (s .entry)) ⌝ }
+    ensures { λ r. ⌜ Linked r ⌝ }
+{
+    if iso {
+        return after_woken(s, Dir::In, e);
+    }
+    let mut r = load_ep(s, Dir::In, e);
+    r.ready = 1;
+    r.armed = 0;
+    store_ep(s, Dir::In, e, r);
+    after_woken(s, Dir::In, e)
+}
+
+// The next access of the operation that stands at `p`, in a stall or later, now that `v` was brought.
+pub fn resume(s: &mut [u8; STATE_LEN], p: Point, v: u32) -> Next
+    requires { ⌜ fitsAt p v ≡ true ⌝ }
+    requires { ⌜ ofStall p ≡ true ⌝ }
+    ensures { λ r. ⌜ ((b : List ℕ) → meaning r (view (now (s .exit))) b ≡ denote p v (view (now (s .entry)), b)) ⌝ }
+    ensures { λ _. ⌜ saved (now (s .exit)) ≡ saved (now (s .entry)) ⌝ }
+    ensures { λ r. ⌜ Linked r ⌝ }
+{
+    match p {
+        Point::Stalled => after_stalled(v),
+        Point::StallLen(e) => after_stall_len(e),
+        Point::StallWord(d, e) => after_stall_word(d, e, v),
+        Point::Restarted(e, iso) => after_restart(s, e, iso),
+        Point::Woken(d, e) => after_woken(s, d, e),
+        _ => Next::Ends(0), // no point of a stall
+    }
+}

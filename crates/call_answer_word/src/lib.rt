@@ -1,0 +1,80 @@
+// A call's answer as one word of 64 bits.
+use machine::Step;
+use regs::Access;
+use regs::registers::number;
+ghost use mathlib.Core.Path.{_≡_};
+ghost use Rattle.call_answer_word.specs.Parts.{AccessFits, EndFits};
+ghost use Rattle.call_answer_word.specs.Word.{readWord, writeWord, accessWord, endWord, doneWord, shownWord, Says};
+
+fn read_word(register: u8, endpoint: u8) -> u64
+    ensures { λ r. ⌜ r ≡ readWord register endpoint ⌝ }
+{
+    1 + register as u64 * 0x100 + endpoint as u64 * 0x10000
+}
+
+fn write_word(register: u8, endpoint: u8, value: u32) -> u64
+    ensures { λ r. ⌜ r ≡ writeWord register endpoint value ⌝ }
+{
+    2 + register as u64 * 0x100 + endpoint as u64 * 0x10000 + value as u64 * 0x1_0000_0000
+}
+
+fn access_word(q: Access) -> u64
+    ensures { λ r. ⌜ r ≡ accessWord q ⌝ }
+    ensures { λ _. ⌜ AccessFits q ⌝ }
+{
+    match q {
+        Access::Read(r, e) => read_word(number(r), e),
+        Access::Write(r, e, x) => write_word(number(r), e, x),
+        Access::Receive(e, x) => write_word(15, e, x),
+        Access::Transmit(e, x) => write_word(16, e, x),
+        Access::Ep0Dma(x) => write_word(12, 0, x),
+        Access::Wait(n) => 3 + n as u64 * 0x100,
+        Access::Callback => 4,
+    }
+}
+
+fn end_word(n: u16, k: u8) -> u64
+    ensures { λ r. ⌜ r ≡ endWord n k ⌝ }
+    ensures { λ _. ⌜ EndFits n k ⌝ }
+{
+    5 + n as u64 * 0x100 + k as u64 * 0x100_0000
+}
+
+fn done_word(n: u16) -> u64
+    ensures { λ r. ⌜ r ≡ doneWord n ⌝ }
+{
+    7 + n as u64 * 0x100
+}
+
+fn shown_word(at: u32, n: u16) -> u64
+    ensures { λ r. ⌜ r ≡ shownWord at n ⌝ }
+{
+    8 + n as u64 * 0x100 + at as u64 * 0x1_0000_0000
+}
+
+// The word of a call's answer. A setup packet's bytes lie in the caller's packet: 8 are brought. The stamp of a packet that is shown lies in the
+// caller's room for it.
+pub fn word_of(step: Step) -> u64
+    ensures { λ r. ⌜ Says r step ⌝ }
+{
+    match step {
+        Step::Refused(n) => n as u64 * 0x100,
+        Step::Asks(q) => access_word(q),
+        Step::Ends(n, k) => end_word(n, k),
+        Step::NotYet => 6,
+        Step::Done(n) => done_word(n),
+        Step::Setup(_low, _high) => done_word(8),
+        Step::Shown(at, n, _stamp) => shown_word(at, n),
+    }
+}
+
+// The same, of a continue: nearly all of its answers are accesses and ends. Its one caller has it in line.
+pub fn continue_word(step: Step) -> u64
+    ensures { λ r. ⌜ Says r step ⌝ }
+{
+    match step {
+        Step::Asks(q) => access_word(q),
+        Step::Ends(n, k) => end_word(n, k),
+        _ => word_of(step),
+    }
+}

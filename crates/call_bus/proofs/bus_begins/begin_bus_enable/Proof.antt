@@ -1,0 +1,47 @@
+use Rattle.machine.specs.Rows.{back, other-call}
+use Rattle.model.specs.Calls as calls
+use Rattle.model.specs.Answers.{resultless}
+use Rattle.model.specs.Bus as script
+use Rattle.machine.specs.Under.{decode}
+use Rattle.state.specs.State.{view, saved}
+use denote.Ref.{now}
+use mathlib.Core.Path.{_∙_, refl}
+use borrow.Author.Tests.{eq-eqb, ne-eqb}
+use borrow.Author.Needs.{needs}
+use Rattle.call_bus.proofs.bus_begins.begin_bus_enable.Statement.{statement}
+use Rattle.call_bus.proofs.bus_begins.begin_bus_enable.Tie as tie
+use Rattle.call_bus.proofs.bus_begins.begin_bus_enable.Reads as reads
+use Rattle.call_bus.proofs.bus_begins.begin_bus_enable.Lts as lts
+use Rattle.bus_events.proofs.enable.Reads as enable-reads
+use Rattle.state.proofs.clear_wakes.Reads as clear-wakes-reads
+use Rattle.machine.proofs.stops.stop.Reads as stop-reads
+use Rattle.machine.proofs.halts.halted_bus.Reads as halted-bus-reads
+
+stop-requires : tie.Need-stop-requires
+stop-requires c κs = search needs
+
+clear-wakes-requires : tie.Need-clear-wakes-requires
+clear-wakes-requires c κs = search needs
+
+enable-requires : tie.Need-enable-requires
+enable-requires c κs = search needs
+
+halted-bus-requires : tie.Need-halted-bus-requires
+halted-bus-requires c κs = c .enable .ensures .1
+
+returns : tie.Need-returns
+returns c = (λ a b. back (other-call calls.BusEnable 2 (resultless script.enable) (decode (saved (now (c .before .before .before .before .before .before .before .before .args .s)))) (view (now (c .before .before .before .before .before .before .before .before .args .s))) a b refl) (c .halted-bus .ensures .0 b ∙ simp (c .before .enable .ensures .0, c .before .before .before .clear-wakes .ensures .0, ← c .before .before .before .before .before .before .stop .ensures, eq-eqb _ _ (c .before .before .before .before .before .if1 .taken))), c .halted-bus .ensures .1 _)
+
+returns-2 : tie.Need-returns-2
+returns-2 c = (λ a b. back (other-call calls.BusEnable 2 (resultless script.enable) (decode (saved (now (c .before .before .before .args .s)))) (view (now (c .before .before .before .args .s))) a b refl) (simp (← c .before .stop .ensures, ne-eqb _ _ (c .if1 .left))), refl)
+
+pub begin-bus-enable-spec : {M : Type 1} → statement M
+begin-bus-enable-spec =
+    tie.close
+    (tie.spec
+    stop-requires
+    clear-wakes-requires
+    enable-requires
+    halted-bus-requires
+    returns
+    returns-2)

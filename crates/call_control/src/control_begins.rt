@@ -1,0 +1,95 @@
+// The begins of the control pipe's stages. Rows 4, 10 and 9 are `control`'s.
+use machine::Step;
+use machine::halts::begun_control;
+use machine::saved::is_idle;
+use machine::stops::slots_fit;
+use state::STATE_LEN;
+ghost use mathlib.Core.Path.{_≡_};
+ghost use mathlib.Core.List.{List, []};
+ghost use Prim.Native.Nat.{ℕ};
+ghost use Rattle.state.specs.State.{view};
+ghost use Rattle.model.specs.Machine.{begin};
+ghost use Rattle.model.specs.Calls.{other, slotted, BeginSetup, BeginDataOut, BeginDataIn, BeginAccept, BeginAcceptSetAddress, BeginReject};
+ghost use Rattle.machine.specs.Under.{machineOf, drive, answerOf, lentOr, AsLent, Kept};
+
+// `setup` (control.rs 70-80).
+pub fn begin_setup(s: &mut [u8; STATE_LEN]) -> Step
+    ensures { λ r. ⌜ ((a b : List ℕ) → (answerOf r [] (view (now (s .exit))), machineOf (now (s .exit)) b) ≡ drive (begin (other BeginSetup)) (machineOf (now (s .entry)) a) b) ⌝ }
+    ensures { λ r. ⌜ Kept r (now (s .entry)) (now (s .exit)) ⌝ }
+{
+    if is_idle(s) {
+        let x = control::begin_setup(s);
+        return begun_control(s, x);
+    }
+    Step::Refused(3)
+}
+
+// `data_out` (82-115), into a slice of n bytes.
+pub fn begin_data_out(s: &mut [u8; STATE_LEN], n: u32, first: bool) -> Step
+    ensures { λ r. ⌜ ((a b : List ℕ) → (answerOf r [] (view (now (s .exit))), machineOf (now (s .exit)) b) ≡ drive (begin (other (BeginDataOut n first))) (machineOf (now (s .entry)) a) b) ⌝ }
+    ensures { λ r. ⌜ Kept r (now (s .entry)) (now (s .exit)) ⌝ }
+{
+    if is_idle(s) {
+        let x = control::begin_data_out(s, n, first);
+        return begun_control(s, x);
+    }
+    Step::Refused(3)
+}
+
+// `data_in` (117-161).
+pub fn begin_data_in(
+    s: &mut [u8; STATE_LEN],
+    slots: &mut [u8],
+    bytes: &[u8],
+    first: bool,
+    last: bool,
+) -> Step
+    ensures { λ r. ⌜ ((a : List ℕ) → (answerOf r [] (view (now (s .exit))), machineOf (now (s .exit)) (lentOr (view (now (s .entry))) (now (slots .entry)) (now (slots .exit)) a)) ≡ drive (begin (slotted (BeginDataIn (now (bytes .entry)) first last))) (machineOf (now (s .entry)) a) (now (slots .entry))) ⌝ }
+    ensures { λ _. ⌜ AsLent (view (now (s .entry))) (now (slots .entry)) (now (slots .exit)) ⌝ }
+    ensures { λ r. ⌜ Kept r (now (s .entry)) (now (s .exit)) ⌝ }
+{
+    if slots_fit(s, slots) {
+        if is_idle(s) {
+            let x = control::begin_data_in(s, slots, bytes, first, last);
+            return begun_control(s, x);
+        }
+        return Step::Refused(3);
+    }
+    Step::Refused(1)
+}
+
+// `accept` (26-46, 163-166).
+pub fn begin_accept(s: &mut [u8; STATE_LEN]) -> Step
+    ensures { λ r. ⌜ ((a b : List ℕ) → (answerOf r [] (view (now (s .exit))), machineOf (now (s .exit)) b) ≡ drive (begin (other BeginAccept)) (machineOf (now (s .entry)) a) b) ⌝ }
+    ensures { λ r. ⌜ Kept r (now (s .entry)) (now (s .exit)) ⌝ }
+{
+    if is_idle(s) {
+        let x = control::begin_accept(s);
+        return begun_control(s, x);
+    }
+    Step::Refused(3)
+}
+
+// `accept_set_address` (179-186).
+pub fn begin_accept_set_address(s: &mut [u8; STATE_LEN], address: u32) -> Step
+    ensures { λ r. ⌜ ((a b : List ℕ) → (answerOf r [] (view (now (s .exit))), machineOf (now (s .exit)) b) ≡ drive (begin (other (BeginAcceptSetAddress address))) (machineOf (now (s .entry)) a) b) ⌝ }
+    ensures { λ r. ⌜ Kept r (now (s .entry)) (now (s .exit)) ⌝ }
+{
+    if is_idle(s) {
+        let x = control::begin_accept_set_address(s, address);
+        return begun_control(s, x);
+    }
+    Step::Refused(3)
+}
+
+// `reject` (168-177).
+pub fn begin_reject(s: &mut [u8; STATE_LEN]) -> Step
+    ensures { λ r. ⌜ ((a b : List ℕ) → (answerOf r [] (view (now (s .exit))), machineOf (now (s .exit)) b) ≡ drive (begin (other BeginReject)) (machineOf (now (s .entry)) a) b) ⌝ }
+    ensures { λ r. ⌜ Kept r (now (s .entry)) (now (s .exit)) ⌝ }
+{
+    if is_idle(s) {
+        let x = control::begin_reject(s);
+        return begun_control(s, x);
+    }
+    Step::Refused(3)
+}

@@ -1,0 +1,38 @@
+-- Pacing after its change
+use mathlib.Core.Bool.{Bool, true, false}
+use mathlib.Core.Path.{_≡_, refl, ap, _∙_}
+use Prim.Native.Nat.{ℕ}
+use Rattle.state.specs.Driver.{Driver}
+use Rattle.model.specs.Tree.{Out, ends, bindOut}
+use Rattle.model.specs.Script.{Script, ret, _>>_}
+use Rattle.model.specs.Answers.{Answer, ok, isNumber}
+use Rattle.model.specs.Calls.{other, SetPaced}
+use Rattle.model.specs.IsoIn.{isoInSetPaced}
+use Rattle.model.specs.Machine.{Buf, ended, begin}
+use Rattle.model_ops.specs.Rings.{St}
+use Rattle.model_ops.specs.Conc.{go}
+use Rattle.driver.specs.Points.{setPaced}
+use Rattle.machine.specs.declared.Under.{Under}
+use Rattle.machine.specs.Under.{machineAt, drive, halts}
+use Rattle.machine.specs.Goes.{Called}
+use Rattle.machine.specs.Rows.{back, numbered-call, accepted, Passes, answered-idle}
+
+abbrev pub pacing : ℕ → Bool → Script false Answer
+pacing e on = do
+  isoInSetPaced e on
+  ret ok
+
+-- a change that the call answers with `ok`
+abbrev answered : Out St Unit → Called
+answered o = halts (bindOut o (λ _ t. ends ok t))
+
+pub set-paced-begins :
+    (u : Under) (d after : Driver) (a b : Buf) (e n : ℕ) (on : Bool)
+    → Passes 2 u d
+    → isNumber e ≡ true
+    → n ≡ e
+    → ends tt (after, b) ≡ go (setPaced n on) d b
+    → (ended ok, machineAt u after b) ≡ drive (begin (other (SetPaced e on))) (machineAt u d a) b
+set-paced-begins u d after a b e n on h number low change =
+    back (numbered-call (SetPaced e on) e (pacing e on) u d a b refl ∙ accepted (isNumber e) u d b (pacing e on) h number)
+    (answered-idle 2 u d after b ok h ∙ (ap answered change ∙ ap (λ (m : ℕ). answered (go (setPaced m on) d b)) low))

@@ -1,0 +1,82 @@
+// Endpoints from a configuration descriptor (requests Three and Four).
+use machine::Step;
+use machine::halts::halted;
+use machine::stops::stop;
+use req_descriptor::Answer;
+use req_descriptor::Endpoints;
+use req_preview::Said;
+use req_preview::Shown;
+use state::STATE_LEN;
+ghost use mathlib.Core.Path.{_≡_};
+ghost use mathlib.Core.Bool.{true};
+ghost use mathlib.Core.List.{List, []};
+ghost use Prim.Native.Nat.{ℕ};
+ghost use Rattle.req_descriptor.specs.Writing.{stored};
+ghost use Rattle.state.specs.State.{view, saved};
+ghost use Rattle.model.specs.Machine.{begin};
+ghost use Rattle.model.specs.Calls.{other, AllocateAll};
+ghost use Rattle.machine.specs.Under.{decode, machineOf, drive, answerOf, Kept};
+ghost use Rattle.req_preview.specs.Preview.{refusedBy};
+ghost use Rattle.machine.specs.Rows.{isIdle, stopOf};
+ghost use Rattle.call_driver.specs.Listed.{allocatedAll, previewed};
+
+// All or none, where nothing is under way: the refusal of the first that would be refused, or all allocated and the first announced.
+fn allocate_listed(s: &mut [u8; STATE_LEN], list: Endpoints) -> Step
+    requires { ⌜ isIdle (decode (saved (now s))) ≡ true ⌝ }
+    ensures { λ r. ⌜ ((b : List ℕ) → (answerOf r [] (view (now (s .exit))), machineOf (now (s .exit)) b) ≡ allocatedAll (stored list) (view (now (s .entry))) b) ⌝ }
+    ensures { λ r. ⌜ Kept r (now (s .entry)) (now (s .exit)) ⌝ }
+{
+    let t = req_preview::try_all(state::load_allocator(s), list);
+    let row = t.refusal;
+    if row == 0 {
+        alloc_all::allocate_each(s, list);
+        state::clear_wakes(s);
+        return halted(s, alloc_all::announce_all(s, list));
+    }
+    Step::Refused(row)
+}
+
+// A descriptor's endpoints allocated in its order, or none: rows 3, 4, 17, 18, then 6, 7 or 8 of the first that would be refused.
+pub fn allocate_all(s: &mut [u8; STATE_LEN], bytes: &[u8]) -> Step
+    ensures { λ r. ⌜ ((a b : List ℕ) → (answerOf r [] (view (now (s .exit))), machineOf (now (s .exit)) b) ≡ drive (begin (other (AllocateAll (now (bytes .entry))))) (machineOf (now (s .entry)) a) b) ⌝ }
+    ensures { λ r. ⌜ Kept r (now (s .entry)) (now (s .exit)) ⌝ }
+{
+    let n = stop(s, 1);
+    if n == 0 {
+        let r = req_descriptor::read(bytes);
+        let answer = r.answer;
+        match answer {
+            Answer::Refused(row) => {
+                return Step::Refused(row);
+            }
+            Answer::Listed => {
+                let list = r.list;
+                return allocate_listed(s, list);
+            }
+        }
+    }
+    Step::Refused(n)
+}
+
+fn unshown(row: u8) -> Shown
+    ensures { λ r. ⌜ r ≡ refusedBy row ⌝ }
+{
+    Shown {
+        said: Said::Refused(row),
+        numbers: [0; 32],
+        count: 0,
+        buffers: 0,
+        refusal: 0,
+    }
+}
+
+// What allocating a descriptor's endpoints one by one would give, up to the first refusal: rows 3, 4, 17, 18 as above. The state is untouched.
+pub fn preview(s: &[u8; STATE_LEN], bytes: &[u8]) -> Shown
+    ensures { λ r. ⌜ r ≡ previewed (stopOf (isIdle (decode (saved (now (s .entry))))) 1 (view (now (s .entry)) .globals .stage)) (view (now (s .entry)) .allocator) (now (bytes .entry)) ⌝ }
+{
+    let n = stop(s, 1);
+    if n == 0 {
+        return req_preview::preview(state::load_allocator(s), bytes);
+    }
+    unshown(n)
+}

@@ -1,0 +1,49 @@
+use Rattle.machine.specs.Rows.{back, aside-call}
+use Rattle.call_endpoint.specs.AtOnce.{told-beside}
+use Rattle.model.specs.Calls as calls
+use Rattle.machine.specs.Under.{decode}
+use Rattle.state.specs.State.{view, saved}
+use denote.Ref.{now}
+use mathlib.Core.Path.{_∙_, sym, refl}
+use borrow.Author.Needs.{needs}
+use Rattle.call_endpoint.proofs.in_place.open.Statement.{statement}
+use Rattle.call_endpoint.proofs.in_place.open.Tie as tie
+use Rattle.call_endpoint.proofs.in_place.open.Reads as reads
+use Rattle.call_endpoint.proofs.in_place.open.Lts as lts
+use Rattle.iso_out_open_close.proofs.open.Reads as open-reads
+use Rattle.machine.proofs.stops.slots_fit.Reads as slots-fit-reads
+use Rattle.machine.proofs.saved.may_pass.Reads as may-pass-reads
+use Rattle.call_endpoint.proofs.in_place.told.Reads as told-reads
+
+slots-fit-requires : tie.Need-slots-fit-requires
+slots-fit-requires c κs = search needs
+
+may-pass-requires : tie.Need-may-pass-requires
+may-pass-requires c κs = search needs
+
+open-requires : tie.Need-open-requires
+open-requires c κs = search needs
+
+told-requires : tie.Need-told-requires
+told-requires c κs = search needs
+
+returns : tie.Need-returns
+returns c = (λ a. back (aside-call (calls.Open (c .before .before .before .before .before .before .before .before .before .before .args .e)) (decode (saved (now (c .before .before .before .before .before .before .before .before .before .before .args .s)))) (view (now (c .before .before .before .before .before .before .before .before .before .before .args .s))) a (now (c .before .before .before .before .before .before .before .before .before .before .args .slots))) (simp (← c .before .before .before .before .before .before .before .slots-fit .ensures, c .before .before .before .before .before .before .if1 .taken) (told-beside _ _ (view (now (c .before .before .before .before .before .before .before .before .before .before .args .s))) (now (c .before .before .before .before .before .before .before .before .before .before .args .slots)) _ _ _ (c .told .result) (c .before .«open» .result) (c .told .ensures .0) (c .before .«open» .ensures .1 .0) (sym (c .before .before .before .before .may-pass .ensures) ∙ c .before .before .before .if2 .taken) (c .before .«open» .ensures .0))), (c .told .ensures .1 _ _ (c .before .«open» .ensures .1 .1), c .before .«open» .ensures .1 .0))
+
+returns-2 : tie.Need-returns-2
+returns-2 c = (λ a. back (aside-call (calls.Open (c .before .before .before .before .before .before .before .args .e)) (decode (saved (now (c .before .before .before .before .before .before .before .args .s)))) (view (now (c .before .before .before .before .before .before .before .args .s))) a (now (c .before .before .before .before .before .before .before .args .slots))) (simp (← c .before .before .before .before .slots-fit .ensures, c .before .before .before .if1 .taken, ← c .before .may-pass .ensures, c .if2 .left)), (tt, refl))
+
+returns-3 : tie.Need-returns-3
+returns-3 c = (λ a. back (aside-call (calls.Open (c .before .before .before .before .args .e)) (decode (saved (now (c .before .before .before .before .args .s)))) (view (now (c .before .before .before .before .args .s))) a (now (c .before .before .before .before .args .slots))) (simp (← c .before .slots-fit .ensures, c .if1 .left)), (tt, refl))
+
+pub open-spec : {M : Type 1} → statement M
+open-spec =
+    tie.close
+    (tie.spec
+    slots-fit-requires
+    may-pass-requires
+    open-requires
+    told-requires
+    returns
+    returns-2
+    returns-3)

@@ -1,0 +1,63 @@
+use Rattle.machine.specs.Rows.{back, other-call}
+use Rattle.call_start.specs.Begins.{starting, start-begins, start-refused}
+use Rattle.model.specs.Calls as calls
+use Rattle.machine.specs.Under.{decode}
+use Rattle.state.specs.State.{view, saved}
+use denote.Ref.{now}
+use mathlib.Core.Path.{_∙_, sym, refl}
+use borrow.Author.Tests.{eq-eqb, ne-eqb}
+use borrow.Author.Needs.{needs}
+use Rattle.call_start.proofs.start.Statement.{statement}
+use Rattle.call_start.proofs.start.Tie as tie
+use Rattle.call_start.proofs.start.Reads as reads
+use Rattle.call_start.proofs.start.Lts as lts
+use Rattle.driver.proofs.start_ep0.Reads as start-ep0-reads
+use Rattle.model_ops.proofs.records.allocate0.Reads as allocate0-reads
+use Rattle.state.proofs.clear_wakes.Reads as clear-wakes-reads
+use Rattle.machine.proofs.halts.halted.Reads as halted-reads
+use Rattle.machine.proofs.stops.stop.Reads as stop-reads
+
+stop-requires : tie.Need-stop-requires
+stop-requires c κs = search needs
+
+allocate0-requires : tie.Need-allocate0-requires
+allocate0-requires c κs = search needs
+
+enum-known-z : tie.Need-enum-known-z
+enum-known-z c = search needs
+
+returns : tie.Need-returns
+returns c = (λ a b. simp (c .before .before .before .allocate0 .ensures .1 .0, c .before .before .before .allocate0 .ensures .1 .1) (start-refused (decode (saved (now (c .before .before .before .before .before .before .before .before .args .s)))) (view (now (c .before .before .before .before .before .before .before .before .args .s))) a b (c .before .before .before .before .before .before .before .before .args .maximum) _ (eq-eqb _ _ (sym (c .before .before .before .before .before .before .stop .ensures) ∙ c .before .before .before .before .before .if1 .taken)) (sym (c .before .before .before .allocate0 .ensures .0) ∙ c .before .z .given .1)), c .before .before .before .allocate0 .ensures .1 .1)
+
+enum-known-z-2 : tie.Need-enum-known-z-2
+enum-known-z-2 c = search needs
+
+clear-wakes-requires : tie.Need-clear-wakes-requires
+clear-wakes-requires c κs = search needs
+
+start-ep0-requires : tie.Need-start-ep0-requires
+start-ep0-requires c κs = search needs
+
+halted-requires : tie.Need-halted-requires
+halted-requires c κs = c .start-ep0 .ensures .1
+
+returns-2 : tie.Need-returns-2
+returns-2 c = (λ a b. c .halted .ensures .0 b ∙ simp (c .before .start-ep0 .ensures .0) (simp (c .before .before .before .before .clear-wakes .ensures .0, c .before .before .before .before .before .before .before .before .before .allocate0 .ensures .1 .0) (start-begins (decode (saved (now (c .before .before .before .before .before .before .before .before .before .before .before .before .before .before .args .s)))) (view (now (c .before .before .before .before .before .before .before .before .before .before .before .before .before .before .args .s))) a b (c .before .before .before .before .before .before .before .before .before .before .before .before .before .before .args .maximum) _ _ _ (eq-eqb _ _ (sym (c .before .before .before .before .before .before .before .before .before .before .before .before .stop .ensures) ∙ c .before .before .before .before .before .before .before .before .before .before .before .if1 .taken)) (sym (c .before .before .before .before .before .before .before .before .before .allocate0 .ensures .0) ∙ c .before .before .before .before .before .before .before .z2 .given .1))), c .halted .ensures .1 _)
+
+returns-3 : tie.Need-returns-3
+returns-3 c = (λ a b. back (other-call (calls.Start (c .before .before .before .args .maximum)) 1 (starting (c .before .before .before .args .maximum)) (decode (saved (now (c .before .before .before .args .s)))) (view (now (c .before .before .before .args .s))) a b refl) (simp (← c .before .stop .ensures, ne-eqb _ _ (c .if1 .left))), refl)
+
+pub start-spec : {M : Type 1} → statement M
+start-spec =
+    tie.close
+    (tie.spec
+    stop-requires
+    allocate0-requires
+    enum-known-z
+    returns
+    enum-known-z-2
+    clear-wakes-requires
+    start-ep0-requires
+    halted-requires
+    returns-2
+    returns-3)

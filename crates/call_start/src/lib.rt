@@ -1,0 +1,97 @@
+// Start-up, allocation and EP0's start.
+use alloc::Answer;
+use machine::Step;
+use machine::halts::halted;
+use machine::stops::stop;
+use regs::Dir;
+use state::STATE_LEN;
+ghost use mathlib.Core.Path.{_≡_};
+ghost use mathlib.Core.Bool.{cond};
+ghost use mathlib.Core.List.{List, []};
+ghost use Prim.Native.Nat.{ℕ};
+ghost use lib.Dec.{eqb};
+ghost use Rattle.state.specs.State.{view};
+ghost use Rattle.model.specs.Machine.{begin, start};
+ghost use Rattle.model.specs.Calls.{other, Allocate, Start, startRow};
+ghost use Rattle.model.specs.Statics.{flag};
+ghost use Rattle.machine.specs.Under.{machineOf, drive, answerOf, configOf, Kept};
+
+// Allocation (mod.rs 953-1043, endpoint.rs 18-36): rows 6, 7, 8 are the allocator's answer.
+pub fn allocate(
+    s: &mut [u8; STATE_LEN],
+    dir: Dir,
+    kind: u8,
+    address: u32,
+    maximum: u32,
+    interval: u32,
+) -> Step
+    ensures { λ r. ⌜ ((a b : List ℕ) → (answerOf r [] (view (now (s .exit))), machineOf (now (s .exit)) b) ≡ drive (begin (other (Allocate dir kind address maximum interval))) (machineOf (now (s .entry)) a) b) ⌝ }
+    ensures { λ r. ⌜ Kept r (now (s .entry)) (now (s .exit)) ⌝ }
+{
+    let n = stop(s, 1);
+    if n == 0 {
+        let z = model_ops::records::allocate(s, dir, kind, address, maximum, interval);
+        match z {
+            Answer::Refused(row) => {
+                return Step::Refused(row);
+            }
+            Answer::Given(e, _base, _slots) => {
+                state::clear_wakes(s);
+                return halted(s, driver::new_endpoint(dir, kind, maximum, e));
+            }
+        }
+    }
+    Step::Refused(n)
+}
+
+// EP0's start (mod.rs 1144-1178).
+pub fn start(s: &mut [u8; STATE_LEN], maximum: u32) -> Step
+    ensures { λ r. ⌜ ((a b : List ℕ) → (answerOf r [] (view (now (s .exit))), machineOf (now (s .exit)) b) ≡ drive (begin (other (Start maximum))) (machineOf (now (s .entry)) a) b) ⌝ }
+    ensures { λ r. ⌜ Kept r (now (s .entry)) (now (s .exit)) ⌝ }
+{
+    let n = stop(s, 1);
+    if n == 0 {
+        let z = model_ops::records::allocate0(s, maximum);
+        match z {
+            Answer::Refused(row) => {
+                return Step::Refused(row);
+            }
+            Answer::Given(_e, _base, _slots) => {
+                state::clear_wakes(s);
+                return halted(s, driver::start_ep0(s, maximum));
+            }
+        }
+    }
+    Step::Refused(n)
+}
+
+fn flag_of(on: bool) -> u8
+    ensures { λ r. ⌜ r ≡ flag on ⌝ }
+{
+    if on {
+        return 1;
+    }
+    0
+}
+
+// Start-up on any state (mod.rs 886-951), whatever is under way: a refused one changes nothing.
+pub fn start_up(
+    s: &mut [u8; STATE_LEN],
+    slots: &[u8],
+    size: u32,
+    count: u32,
+    callback: bool,
+) -> Step
+    ensures { λ r. ⌜ ((a : List ℕ) → (answerOf r [] (view (now (s .exit))), machineOf (now (s .exit)) (cond (eqb (startRow (configOf size count callback) (now (slots .entry))) 0) (now (slots .entry)) a)) ≡ drive (start (configOf size count callback)) (machineOf (now (s .entry)) a) (now (slots .entry))) ⌝ }
+    ensures { λ r. ⌜ Kept r (now (s .entry)) (now (s .exit)) ⌝ }
+{
+    if alloc::buffer::fits(slots.len() as u64, size, count) {
+        if alloc::buffer::good_buffer(size, count) {
+            state::fresh(s, size as u16, count as u16, flag_of(callback));
+            state::clear_wakes(s);
+            return halted(s, driver::start_up(callback));
+        }
+        return Step::Refused(2);
+    }
+    Step::Refused(1)
+}

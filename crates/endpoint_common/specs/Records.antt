@@ -1,0 +1,15 @@
+-- An endpoint's record, as a script assigns it
+use mathlib.Core.Path.{_≡_}
+use mathlib.Core.Bool.{Bool}
+use Prim.Native.Nat.{ℕ}
+use Rattle.regs.specs.declared.Dir.{Dir}
+use Rattle.state.specs.Driver.{Driver, epOn, withOn}
+use Rattle.model.specs.Cells.{Plain}
+use Rattle.model_ops.specs.Records.{plainOf, merged}
+
+abbrev pub modifiedOn : Dir → ℕ → (Plain → Plain) → Driver → Driver
+modifiedOn dir e f d = withOn d dir e (merged (epOn d dir e) (f (plainOf (epOn d dir e))))
+
+-- a test of what was loaded is a test of the driver
+pub on-driver : {A : Type 0} {x y : A} (f : A → Bool) {r t : Bool} → x ≡ y → r ≡ f x → r ≡ t → f y ≡ t
+on-driver f e h k = rw (← e, ← h) k

@@ -1,0 +1,350 @@
+-- An operation inside the interrupt, tests, and the script's own nesting. Assumes nothing.
+use mathlib.Core.Path.{_≡_, refl, ap, sym, subst, _∙_}
+use mathlib.Core.Bool.{Bool, true, false, not, cond}
+use mathlib.Core.List.{List}
+use Prim.Native.Nat.{ℕ, _+_, _*_, _%_}
+use native.Mathlib.Omega.{arith}
+use lib.Dec.{eqb}
+use Rattle.bits.specs.Bit.{isSet}
+use Rattle.frame.specs.Usb20.{indexOf}
+use Rattle.regs.specs.declared.Access.{Access}
+use Rattle.regs.specs.declared.Access.the-variants.{Read, Write}
+use Rattle.regs.specs.declared.Reg.the-variants.{IntFg, MisSt, FrameNo}
+use Rattle.regs.specs.declared.Dir.{Dir}
+use Rattle.regs.specs.declared.Dir.the-variants.{Out, In}
+use Rattle.regs.specs.declared.Token.{Token}
+use Rattle.regs.specs.Flags.{transfer, setupAct, SETUP_ACT}
+use Rattle.regs.specs.Status.{endpoint}
+use Rattle.state.specs.declared.EpState.{EpState}
+use Rattle.state.specs.declared.Globals.{Globals}
+use Rattle.state.specs.Driver.{Driver, epOn, withOn, withGlobals}
+use Rattle.model.specs.declared.Transfer.{Transfer}
+use Rattle.model.specs.Tree as tree
+use Rattle.model.specs.Tree.{asks, ends, bindOut}
+use Rattle.model.specs.Script.{Script, run, read, when, _>>=_}
+use Rattle.model.specs.Statics.{withReady, withArmed, withSetup, withEntered}
+use Rattle.model.specs.Machine.{awaited}
+use Rattle.model.specs.IsoIn.{firstInFrame, isoInComplete}
+use Rattle.model.specs.Handler as script
+use Rattle.model.specs.Handler.{nakNonIso, framed, isoInArm, onTransfer, onInterrupt, stampedInterrupt}
+use Rattle.iso_in.specs.Frames.{framedOn, isFirst}
+use Rattle.irq_transfer.specs.declared.nak.Nak as nak-point
+use Rattle.irq_transfer.specs.declared.nak.NakNext as nak-next
+use Rattle.irq_transfer.specs.declared.nak.NakNext.the-variants as nak-to
+use Rattle.irq_transfer.specs.declared.settle.Settle as settle-point
+use Rattle.irq_transfer.specs.declared.settle.SettleNext as settle-next
+use Rattle.irq_transfer.specs.declared.settle.SettleNext.the-variants as settle-to
+use Rattle.irq_transfer.specs.declared.toggled.Toggled as toggled-point
+use Rattle.irq_transfer.specs.declared.toggled.ToggledNext as toggled-next
+use Rattle.irq_transfer.specs.declared.toggled.ToggledNext.the-variants as toggled-to
+use Rattle.iso_in.specs.declared.sof.Sof as sof-point
+use Rattle.iso_in.specs.declared.sof.SofNext as sof-next
+use Rattle.iso_in.specs.declared.sof.SofNext.the-variants as sof-to
+use Rattle.iso_in.specs.declared.late.Late as late-point
+use Rattle.iso_in.specs.declared.late.LateNext as late-next
+use Rattle.iso_in.specs.declared.late.LateNext.the-variants as late-to
+use Rattle.iso_in.specs.declared.complete.Complete as complete-point
+use Rattle.iso_in.specs.declared.complete.CompleteNext as complete-next
+use Rattle.iso_in.specs.declared.complete.CompleteNext.the-variants as complete-to
+use Rattle.iso_out.specs.declared.Check as check-point
+use Rattle.iso_out.specs.declared.CheckNext as check-next
+use Rattle.iso_out.specs.declared.CheckNext.the-variants as check-to
+use Rattle.irq_transfer.specs.Nak as nak
+use Rattle.irq_transfer.specs.Settle as settle
+use Rattle.irq_transfer.specs.Toggled as toggled
+use Rattle.iso_in.specs.Sof as sof
+use Rattle.iso_in.specs.Late as late
+use Rattle.iso_in.specs.Complete as complete
+use Rattle.iso_out.specs.Points as check
+use Rattle.model_ops.specs.Records.{plainOf, merged, mergedGlobals}
+use Rattle.model_ops.specs.Rings.{St, wordAt}
+use Rattle.model_ops.specs.Conc.{conc}
+use Rattle.irq.specs.declared.Point.{Point}
+use Rattle.irq.specs.Tails.{resultless, afterSetupReleased, afterSetupTx, finish, afterTransfer, afterCheck, afterDispatch, flipDone, passed, afterLate, afterSof, sofDue, serving, afterFrameNo, afterSettle, afterRelease, afterNak, naksFirst, enteredAs, afterLen, afterSt, afterMis, afterHost, afterFifo, afterSuspend, afterBusRst, afterFlags, afterFrame}
+use Rattle.irq.specs.Points.{denote, fitsAt}
+
+-- ---- tests
+
+-- what a test told of what it computes
+pub tells : (r x a : Bool) → r ≡ x → r ≡ a → x ≡ a
+tells r x a h k = sym h ∙ k
+
+pub tells-not : (r x a : Bool) → r ≡ x → r ≡ a → not x ≡ not a
+tells-not r x a h k = ap not (sym h ∙ k)
+
+-- of a record that was loaded
+pub tells-of : {A : Type 0} (F : A → Bool) (g g' : A) (r a : Bool) → r ≡ F g → g ≡ g' → r ≡ a → F g' ≡ a
+tells-of F g g' r a h k l = ap F (sym k) ∙ (sym h ∙ l)
+
+module _ (setup : Bool) (p : Script true Unit) (f : Unit {0} → tree.Prog St Unit) (t : St) where
+  pub when-yes : (c : Bool) → c ≡ true → finish setup (bindOut (run conc p t) f) ≡ finish setup (bindOut (run conc (when c p) t) f)
+  when-yes c h = ap (λ (x : Bool). finish setup (bindOut (run conc (when x p) t) f)) (sym h)
+
+  pub when-no : (c : Bool) → c ≡ false → finish setup (f tt t) ≡ finish setup (bindOut (run conc (when c p) t) f)
+  when-no c h = ap (λ (x : Bool). finish setup (bindOut (run conc (when x p) t) f)) (sym h)
+
+-- the same of an arm's tests
+module _ (F : tree.Out St Unit → tree.Out St ℕ) (c : Bool) (y z : tree.Out St Unit) where
+  pub test-yes : c ≡ true → F y ≡ F (cond c y z)
+  test-yes h = ap (λ (x : Bool). F (cond x y z)) (sym h)
+
+  pub test-no : c ≡ false → F z ≡ F (cond c y z)
+  test-no h = ap (λ (x : Bool). F (cond x y z)) (sym h)
+
+-- the endpoint is 0
+pub at-zero : (e x : ℕ) (a : Bool) → e ≡ x → eqb e 0 ≡ a → eqb x 0 ≡ a
+at-zero e x a h k = ap (λ (z : ℕ). eqb z 0) (sym h) ∙ k
+
+-- the microframe's SOF was handled
+pub sof-handled : (g g' : Globals) (frame : ℕ) (a : Bool) → g ≡ g' → eqb (g .«sof_frame») frame ≡ a → not (eqb (g' .«sof_frame») frame) ≡ not a
+sof-handled g g' frame a h k = ap (λ (z : Globals). not (eqb (z .«sof_frame») frame)) (sym h) ∙ ap not k
+
+-- ---- the rest f after an operation's outcome o
+
+abbrev pub onward : {A : Type 0} → Bool → (A → tree.Prog St Unit) → tree.Out St A → tree.Out St ℕ
+onward setup f o = finish setup (bindOut o f)
+
+pub after : {A : Type 0} (setup : Bool) (f : A → tree.Prog St Unit) (o o' : tree.Out St A) → o ≡ o' → finish setup (bindOut o f) ≡ finish setup (bindOut o' f)
+after setup f o o' h = ap (onward setup f) h
+
+module _ (setup : Bool) (f : Unit {0} → tree.Prog St Unit) (q : Access) (d : Driver) (b : List ℕ) where
+  pub nak-asks : (st : ℕ) (n : nak-next.NakNext) (p : nak-point.Nak) → n ≡ nak-to.Asks q p → asks q (d, b) (λ v t. onward setup f (nak.denote st p v t)) ≡ onward setup f (nak.meaning st n d b)
+  nak-asks st n p h = ap (λ (m : nak-next.NakNext). onward setup f (nak.meaning st m d b)) (sym h)
+
+  pub sof-asks : (frame : ℕ) (n : sof-next.SofNext) (p : sof-point.Sof) → n ≡ sof-to.Asks q p → asks q (d, b) (λ v t. onward setup f (sof.denote frame p v t)) ≡ onward setup f (sof.meaning frame n d b)
+  sof-asks frame n p h = ap (λ (m : sof-next.SofNext). onward setup f (sof.meaning frame m d b)) (sym h)
+
+  pub late-asks : (frame : ℕ) (n : late-next.LateNext) (p : late-point.Late) → n ≡ late-to.Asks q p → asks q (d, b) (λ _ t. onward setup f (late.denote frame p t)) ≡ onward setup f (late.meaning frame n d b)
+  late-asks frame n p h = ap (λ (m : late-next.LateNext). onward setup f (late.meaning frame m d b)) (sym h)
+
+  pub complete-asks : (n : complete-next.CompleteNext) (p : complete-point.Complete) → n ≡ complete-to.Asks q p → asks q (d, b) (λ _ t. onward setup f (complete.denote p t)) ≡ onward setup f (complete.meaning n d b)
+  complete-asks n p h = ap (λ (m : complete-next.CompleteNext). onward setup f (complete.meaning m d b)) (sym h)
+
+  pub check-asks : (x : Transfer) (iso : Bool) (n : check-next.CheckNext) (p : check-point.Check) → n ≡ check-to.Asks q p → asks q (d, b) (λ v t. onward setup f (check.denote x iso p v t)) ≡ onward setup f (check.meaning x iso n d b)
+  check-asks x iso n p h = ap (λ (m : check-next.CheckNext). onward setup f (check.meaning x iso m d b)) (sym h)
+
+module _ (setup : Bool) (f : Unit {0} → tree.Prog St Unit) (d : Driver) (b : List ℕ) where
+  pub nak-ends : (st : ℕ) (n : nak-next.NakNext) → n ≡ nak-to.Ends → finish setup (f tt (d, b)) ≡ onward setup f (nak.meaning st n d b)
+  nak-ends st n h = ap (λ (m : nak-next.NakNext). onward setup f (nak.meaning st m d b)) (sym h)
+
+  pub sof-ends : (frame : ℕ) (n : sof-next.SofNext) → n ≡ sof-to.Ends → finish setup (f tt (d, b)) ≡ onward setup f (sof.meaning frame n d b)
+  sof-ends frame n h = ap (λ (m : sof-next.SofNext). onward setup f (sof.meaning frame m d b)) (sym h)
+
+  pub late-ends : (frame : ℕ) (n : late-next.LateNext) → n ≡ late-to.Ends → finish setup (f tt (d, b)) ≡ onward setup f (late.meaning frame n d b)
+  late-ends frame n h = ap (λ (m : late-next.LateNext). onward setup f (late.meaning frame m d b)) (sym h)
+
+  pub complete-ends : (n : complete-next.CompleteNext) → n ≡ complete-to.Ends → finish setup (f tt (d, b)) ≡ onward setup f (complete.meaning n d b)
+  complete-ends n h = ap (λ (m : complete-next.CompleteNext). onward setup f (complete.meaning m d b)) (sym h)
+
+  pub check-ends : (x : Transfer) (iso : Bool) (n : check-next.CheckNext) → n ≡ check-to.Ends → finish setup (f tt (d, b)) ≡ onward setup f (check.meaning x iso n d b)
+  check-ends x iso n h = ap (λ (m : check-next.CheckNext). onward setup f (check.meaning x iso m d b)) (sym h)
+
+module _ (setup : Bool) (f : Transfer → tree.Prog St Unit) (d : Driver) (b : List ℕ) (x : Transfer) (n : settle-next.SettleNext) where
+  pub settle-asks : (q : Access) (p : settle-point.Settle) → n ≡ settle-to.Asks q p → asks q (d, b) (λ v t. onward setup f (settle.denote x p v t)) ≡ onward setup f (settle.meaning x n d b)
+  settle-asks q p h = ap (λ (m : settle-next.SettleNext). onward setup f (settle.meaning x m d b)) (sym h)
+
+  pub settle-ends : (y : Transfer) → n ≡ settle-to.Ends y → finish setup (f y (d, b)) ≡ onward setup f (settle.meaning x n d b)
+  settle-ends y h = ap (λ (m : settle-next.SettleNext). onward setup f (settle.meaning x m d b)) (sym h)
+
+-- `toggled` in an arm: its own rest g, then f
+module _ (setup : Bool) (f : Unit {0} → tree.Prog St Unit) (g : Bool → tree.Prog St Unit) (d : Driver) (b : List ℕ) (dir : Dir) (ep : ℕ) (n : toggled-next.ToggledNext) where
+  pub toggled-asks : (q : Access) (p : toggled-point.Toggled) → n ≡ toggled-to.Asks q p → asks q (d, b) (λ v t. onward setup f (bindOut (toggled.denote dir ep p v t) g)) ≡ onward setup f (bindOut (toggled.meaning dir ep n d b) g)
+  toggled-asks q p h = ap (λ (m : toggled-next.ToggledNext). onward setup f (bindOut (toggled.meaning dir ep m d b) g)) (sym h)
+
+  pub toggled-ends : (y : Bool) → n ≡ toggled-to.Ends y → onward setup f (g y (d, b)) ≡ onward setup f (bindOut (toggled.meaning dir ep n d b) g)
+  toggled-ends y h = ap (λ (m : toggled-next.ToggledNext). onward setup f (bindOut (toggled.meaning dir ep m d b) g)) (sym h)
+
+-- of the endpoint x that the status shows
+module _ (setup : Bool) (f : Unit {0} → tree.Prog St Unit) (g : Bool → tree.Prog St Unit) (dir : Dir) (e x : ℕ) (n : toggled-next.ToggledNext) (d : Driver) (b : List ℕ) (h : e ≡ x) where
+  pub toggled-on : (p : toggled-point.Toggled) (v : ℕ) (t : St) → toggled.meaning dir e n d b ≡ toggled.denote dir e p v t → onward setup f (bindOut (toggled.meaning dir x n d b) g) ≡ onward setup f (bindOut (toggled.denote dir x p v t) g)
+  toggled-on p v t k = subst (λ (z : ℕ). onward setup f (bindOut (toggled.meaning dir z n d b) g) ≡ onward setup f (bindOut (toggled.denote dir z p v t) g)) h (ap (λ (o : tree.Out St Bool). onward setup f (bindOut o g)) k)
+
+  pub toggled-from : toggled.meaning dir e n d b ≡ run conc (script.toggled {i = true} dir e) (d, b) → onward setup f (bindOut (toggled.meaning dir x n d b) g) ≡ onward setup f (bindOut (run conc (script.toggled {i = true} dir x) (d, b)) g)
+  toggled-from k = subst (λ (z : ℕ). onward setup f (bindOut (toggled.meaning dir z n d b) g) ≡ onward setup f (bindOut (run conc (script.toggled {i = true} dir z) (d, b)) g)) h (ap (λ (o : tree.Out St Bool). onward setup f (bindOut o g)) k)
+
+pub passed-at : (F : tree.Out St Unit → tree.Out St ℕ) (dir : Dir) (e x len : ℕ) (t : St) → e ≡ x → F (run conc (passed dir e len) t) ≡ F (run conc (passed dir x len) t)
+passed-at F dir e x len t h = ap (λ (z : ℕ). F (run conc (passed dir z len) t)) h
+
+-- ---- what a match told
+
+pub passed-known : (o : tree.Out St Unit) (dir known : Dir) (ep len : ℕ) (t : St) → dir ≡ known → o ≡ run conc (passed known ep len) t → o ≡ run conc (passed dir ep len) t
+passed-known o dir known ep len t h k = k ∙ ap (λ (z : Dir). run conc (passed z ep len) t) (sym h)
+
+pub flipped-known : (o : tree.Out St Unit) (dir known : Dir) (len : ℕ) (t : St) → dir ≡ known → o ≡ run conc (flipDone known len) t → o ≡ run conc (flipDone dir len) t
+flipped-known o dir known len t h k = k ∙ ap (λ (z : Dir). run conc (flipDone z len) t) (sym h)
+
+pub dispatched : (F : tree.Out St Unit → tree.Out St ℕ) (x : Transfer) (iso : Bool) (frame : ℕ) (t : St) (k known shown : Token) → k ≡ known → k ≡ shown → F (run conc (script.dispatch {i = true} known x iso frame) t) ≡ F (run conc (script.dispatch {i = true} shown x iso frame) t)
+dispatched F x iso frame t k known shown h l = ap (λ (z : Token). F (run conc (script.dispatch {i = true} z x iso frame) t)) (sym h ∙ l)
+
+pub stands : (o : tree.Out St ℕ) (p known : Point) (v : ℕ) (t : St) → p ≡ known → o ≡ denote known v t → o ≡ denote p v t
+stands o p known v t h k = k ∙ ap (λ (z : Point). denote z v t) (sym h)
+
+-- ---- the access handed out is the one awaited
+
+pub nak-linked : (n : nak-next.NakNext) (q : Access) (p : nak-point.Nak) → n ≡ nak-to.Asks q p → nak.Linked n → awaited q ≡ nak.awaitsAt p
+nak-linked n q p h k = subst nak.Linked h k
+
+pub settle-linked : (n : settle-next.SettleNext) (q : Access) (p : settle-point.Settle) → n ≡ settle-to.Asks q p → settle.Linked n → awaited q ≡ settle.awaitsAt p
+settle-linked n q p h k = subst settle.Linked h k
+
+pub toggled-linked : (n : toggled-next.ToggledNext) (q : Access) (p : toggled-point.Toggled) → n ≡ toggled-to.Asks q p → toggled.Linked n → awaited q ≡ toggled.awaitsAt p
+toggled-linked n q p h k = subst toggled.Linked h k
+
+pub sof-linked : (n : sof-next.SofNext) (q : Access) (p : sof-point.Sof) → n ≡ sof-to.Asks q p → sof.Linked n → awaited q ≡ sof.awaitsAt p
+sof-linked n q p h k = subst sof.Linked h k
+
+pub late-linked : (n : late-next.LateNext) (q : Access) (p : late-point.Late) → n ≡ late-to.Asks q p → late.Linked n → awaited q ≡ late.awaitsAt p
+late-linked n q p h k = subst late.Linked h k
+
+pub complete-linked : (n : complete-next.CompleteNext) (q : Access) (p : complete-point.Complete) → n ≡ complete-to.Asks q p → complete.Linked n → awaited q ≡ complete.awaitsAt p
+complete-linked n q p h k = subst complete.Linked h k
+
+pub check-linked : (n : check-next.CheckNext) (q : Access) (p : check-point.Check) → n ≡ check-to.Asks q p → check.Linked n → awaited q ≡ check.awaitsAt p
+check-linked n q p h k = subst check.Linked h k
+
+-- ---- the script, in the tails' nesting
+
+transfer-is : onTransfer {i = true} ≡ (read MisSt 0 >>= (λ m. afterMis m))
+unfolding afterMis afterSt afterLen naksFirst afterNak afterRelease afterSettle afterFrameNo serving sofDue afterSof afterLate afterDispatch afterCheck
+transfer-is = refl
+
+pub transfer-begun : (t : St) → run conc (onTransfer {i = true}) t ≡ asks (Read MisSt 0) t (λ v u. run conc (afterMis v) u)
+transfer-begun t = ap (λ (p : Script true Unit). run conc p t) transfer-is
+
+flags-is : onInterrupt {i = true} ≡ (read IntFg 0 >>= (λ f. afterFlags f))
+unfolding afterFlags afterBusRst afterSuspend afterFifo afterHost afterTransfer
+flags-is = refl
+
+flags-begun : (t : St) → asks (Read IntFg 0) t (λ v u. run conc (resultless (afterFlags v)) u) ≡ run conc (resultless onInterrupt) t
+flags-begun t = ap (λ (p : Script true Unit). run conc (resultless p) t) (sym flags-is)
+
+-- the microframe is kept
+abbrev entering : ℕ → Globals → Driver → Driver
+entering i g d = withGlobals d (withEntered i g)
+
+pub microframe-kept : (v n i : ℕ) (g : Globals) (d x : Driver) (b : List ℕ)
+    → n ≡ v
+    → i ≡ indexOf n
+    → g ≡ d .globals
+    → x ≡ entering i g d
+    → asks (Read IntFg 0) (x, b) (λ f u. run conc (resultless (afterFlags f)) u) ≡ run conc (resultless (afterFrame v)) (d, b)
+unfolding afterFrame
+microframe-kept v n i g d x b hn hi hg hx =
+    flags-begun (x, b)
+    ∙ (ap from hx
+    ∙ (ap (λ (z : Globals). from (entering i z d)) hg
+    ∙ (ap (λ (z : ℕ). from (entering z (d .globals) d)) hi
+    ∙ ap (λ (z : ℕ). from (entering (indexOf z) (d .globals) d)) hn)))
+  where
+    from : Driver → tree.Out St ℕ
+    from z = run conc (resultless onInterrupt) (z, b)
+
+pub interrupt-begun : (t : St) → asks (Read FrameNo 0) t (λ v u. run conc (resultless (afterFrame v)) u) ≡ run conc (resultless stampedInterrupt) t
+unfolding afterFrame
+interrupt-begun t = refl
+
+-- the transfer flag; whether the setup's is set is known from here on
+module _ (f : ℕ) (setup : Bool) (d : Driver) (b : List ℕ) (h : setup ≡ setupAct f) where
+  pub host-transfer : transfer f ≡ true → asks (Read MisSt 0) (d, b) (λ v t. finish setup (run conc (afterMis v) t)) ≡ run conc (resultless (afterHost f)) (d, b)
+  unfolding afterHost
+  host-transfer k =
+      ap (λ (z : Bool). asks (Read MisSt 0) (d, b) (λ v t. finish z (run conc (afterMis v) t))) h
+      ∙ (ap (finish (setupAct f)) (sym (transfer-begun (d, b)))
+      ∙ ap (λ (z : Bool). finish (setupAct f) (run conc (when {i = true} z onTransfer) (d, b))) (sym k))
+
+  pub host-other : transfer f ≡ false → run conc (resultless (afterTransfer setup)) (d, b) ≡ run conc (resultless (afterHost f)) (d, b)
+  unfolding afterHost
+  host-other k =
+      ap (λ (z : Bool). run conc (resultless (afterTransfer z)) (d, b)) h
+      ∙ ap (λ (z : Bool). finish (setupAct f) (run conc (when {i = true} z onTransfer) (d, b))) (sym k)
+
+-- the transfer is entered
+module _ (setup busy : Bool) (st v : ℕ) (y : Transfer) (d : Driver) (b : List ℕ) (h : y ≡ enteredAs busy st v) where
+  pub entered-nak : (n : nak-next.NakNext) → nak.meaning st n d b ≡ run conc (nakNonIso {i = true} st) (d, b) → naksFirst busy st ≡ true → onward setup (λ _ u. run conc (afterNak y) u) (nak.meaning (y .st) n d b) ≡ finish setup (run conc (afterLen busy st v) (d, b))
+  unfolding afterLen
+  entered-nak n k l =
+      ap (λ (z : Transfer). onward setup (λ _ u. run conc (afterNak z) u) (nak.meaning (z .st) n d b)) h
+      ∙ (ap (onward setup (λ _ u. run conc (afterNak (enteredAs busy st v)) u)) k
+      ∙ when-yes setup (nakNonIso st) (λ _ u. run conc (afterNak (enteredAs busy st v)) u) (d, b) (naksFirst busy st) l)
+
+  pub entered-free : naksFirst busy st ≡ false → finish setup (run conc (afterNak y) (d, b)) ≡ finish setup (run conc (afterLen busy st v) (d, b))
+  unfolding afterLen
+  entered-free l =
+      ap (λ (z : Transfer). finish setup (run conc (afterNak z) (d, b))) h
+      ∙ when-no setup (nakNonIso st) (λ _ u. run conc (afterNak (enteredAs busy st v)) u) (d, b) (naksFirst busy st) l
+
+-- the arm of an isochronous IN
+endpoint-small : (st : ℕ) → endpoint st % 16 ≡ endpoint st
+unfolding endpoint
+endpoint-small st = omega arith
+
+pub paced-told : (g g' : Globals) (e st : ℕ) (r a : Bool) → r ≡ isSet (g .«iso_in_paced») (e % 16) → g ≡ g' → e ≡ endpoint st → r ≡ a → isSet (g' .«iso_in_paced») (endpoint st) ≡ a
+paced-told g g' e st r a h k l m =
+    ap (isSet (g' .«iso_in_paced»)) (sym (endpoint-small st))
+    ∙ (ap (λ (z : ℕ). isSet (g' .«iso_in_paced») (z % 16)) (sym l)
+    ∙ (ap (λ (z : Globals). isSet (z .«iso_in_paced») (e % 16)) (sym k)
+    ∙ (sym h ∙ m)))
+
+module _ (F : tree.Out St Unit → tree.Out St ℕ) (d y : Driver) (b : List ℕ) (frame : ℕ) where
+  abbrev counted : ℕ → Bool → Driver → tree.Out St ℕ
+  counted e first z = F (cond first (run conc (isoInComplete {i = true} e) (z, b)) (ends tt (z, b)))
+
+  reached : (e : ℕ) (first : Bool) → y ≡ framedOn d e frame → isFirst d e frame ≡ first → isSet (d .globals .«iso_in_paced») e ≡ false → counted e first y ≡ F (run conc (isoInArm {i = true} e frame) (d, b))
+  unfolding framedOn isFirst
+  reached e first h k l =
+      ap (counted e first) h
+      ∙ (ap (λ (z : Bool). counted e z (framedOn d e frame)) (sym k)
+      ∙ ap (λ (z : Bool). F (cond z (ends tt (d, b)) (run conc (firstInFrame {i = true} e frame >>= (λ x. when x (isoInComplete e))) (d, b)))) (sym l))
+
+  pub in-frame : (e st : ℕ) (first : Bool) → e ≡ endpoint st → y ≡ framedOn d e frame → isFirst d e frame ≡ first → isSet (d .globals .«iso_in_paced») (endpoint st) ≡ false → counted e first y ≡ F (run conc (isoInArm {i = true} (endpoint st) frame) (d, b))
+  in-frame e st first h k l m =
+      reached e first k l (ap (isSet (d .globals .«iso_in_paced»)) h ∙ m)
+      ∙ ap (λ (z : ℕ). F (run conc (isoInArm {i = true} z frame) (d, b))) h
+
+-- EP0's IN, its toggle flipped
+pub flip-in : (d y : Driver) (b : List ℕ) (r : EpState) (len : ℕ) (dir : Dir) → r ≡ epOn d In 0 → y ≡ withOn d In 0 (merged r (withArmed 0 (plainOf r))) → dir ≡ In → run conc (script.sent {i = true} 0) (y, b) ≡ run conc (flipDone dir len) (d, b)
+flip-in d y b r len dir h k l =
+    ap (λ (z : Driver). run conc (script.sent {i = true} 0) (z, b)) k
+    ∙ (ap (λ (z : EpState). run conc (script.sent {i = true} 0) (withOn d In 0 (merged z (withArmed 0 (plainOf z))), b)) h
+    ∙ ap (λ (z : Dir). run conc (flipDone z len) (d, b)) (sym l))
+
+-- the setup packet is taken
+abbrev cleared : Dir → Driver → Driver
+cleared dir d = withOn d dir 0 (merged (epOn d dir 0) (withArmed 0 (withReady 0 (plainOf (epOn d dir 0)))))
+
+abbrev kept : ℕ → ℕ → Driver → Driver
+kept low high d = withGlobals d (mergedGlobals (d .globals) (withSetup 1 low high (d .globals)))
+
+pub setup-taken : (d x y z : Driver) (b : List ℕ) (low high : ℕ)
+    → low ≡ wordAt b (d .globals .«ep0_buf» + 0 * 4)
+    → high ≡ wordAt b (d .globals .«ep0_buf» + 1 * 4)
+    → x ≡ cleared Out d
+    → y ≡ cleared In x
+    → z ≡ kept low high y
+    → asks (Write IntFg 0 SETUP_ACT) (z, b) (λ _ t. run conc (resultless afterSetupReleased) t) ≡ run conc (resultless afterSetupTx) (d, b)
+unfolding afterSetupTx
+setup-taken d x y z b low high h k l m n =
+    ap at n
+    ∙ (ap (λ (q : Driver). at (kept low high q)) m
+    ∙ (ap (λ (q : Driver). at (kept low high (cleared In q))) l
+    ∙ (ap (λ (q : ℕ). at (kept q high (cleared In (cleared Out d)))) h
+    ∙ ap (λ (q : ℕ). at (kept (wordAt b (d .globals .«ep0_buf» + 0 * 4)) q (cleared In (cleared Out d)))) k)))
+  where
+    at : Driver → tree.Out St ℕ
+    at q = asks (Write IntFg 0 SETUP_ACT) (q, b) (λ _ t. run conc (resultless afterSetupReleased) t)
+
+-- the frame that was read
+pub frame-read : (setup : Bool) (x y : Transfer) (iso : Bool) (g : Globals) (d : Driver) (b : List ℕ) (frame v : ℕ)
+    → y ≡ framed x iso (g .«sof_frame») frame
+    → g ≡ d .globals
+    → frame ≡ v
+    → finish setup (run conc (serving y iso frame) (d, b)) ≡ finish setup (run conc (afterFrameNo x iso v) (d, b))
+unfolding afterFrameNo
+frame-read setup x y iso g d b frame v h k l =
+    ap (λ (z : Transfer). finish setup (run conc (serving z iso frame) (d, b))) h
+    ∙ (ap (λ (z : Globals). finish setup (run conc (serving (framed x iso (z .«sof_frame») frame) iso frame) (d, b))) k
+    ∙ ap (λ (z : ℕ). finish setup (run conc (serving (framed x iso (d .globals .«sof_frame») z) iso z) (d, b))) l)
+
+-- what a match told of the point
+pub told : (p q : Point) (v : ℕ) → p ≡ q → fitsAt p v ≡ true → fitsAt q v ≡ true
+told p q v h k = ap (λ (x : Point). fitsAt x v) (sym h) ∙ k

@@ -1,0 +1,91 @@
+// The interrupt (`on_interrupt`, mod.rs 634-852) one access at a time. Every function is total: any number is safe.
+use irq_transfer::nak;
+use irq_transfer::nak::Nak;
+use irq_transfer::settle;
+use irq_transfer::settle::Settle;
+use irq_transfer::toggled;
+use irq_transfer::toggled::Toggled;
+use iso_in::complete::Complete;
+use iso_in::late::Late;
+use iso_in::sof;
+use iso_in::sof::Sof;
+use iso_out::Check;
+use model::Transfer;
+use regs::Access;
+use regs::Dir;
+use regs::Reg;
+use regs::registers::fits;
+ghost use mathlib.Core.Path.{_≡_};
+ghost use mathlib.Core.List.{List};
+ghost use Prim.Native.Nat.{ℕ};
+ghost use Rattle.state.specs.Driver.{Driver};
+ghost use Rattle.model_ops.specs.Conc.{go};
+ghost use Rattle.irq.specs.Points.{interrupt, meaning, Linked, fitsAt};
+
+// Where the interrupt stands: what it handed out last, with what the rest of it needs. First, of a transfer, comes whether the setup flag is
+// set, then the transfer, whether its endpoint is isochronous, the frame.
+pub enum Point {
+    Frame, // frame_no is read, whose microframe index what the interrupt admits carries
+    Flags, // int_fg is read
+    BusRst(u8), // the reset interrupt is masked; the flags
+    Suspend(u8), // the suspend interrupt is
+    Fifo(u8), // the FIFO flag is cleared
+    Host(u8), // the host SOF flag is
+    Mis(bool), // mis_st is read
+    St(bool, bool), // int_st; busy
+    Len(bool, bool, u8), // rx_len; busy, int_st
+    Nak(bool, Transfer, Nak), // NAK before the release
+    Released(bool, Transfer), // the transfer flag is cleared
+    Settle(bool, Transfer, Settle), // what was on the bus is waited for
+    FrameNo(bool, Transfer, bool), // frame_no is read
+    Sof(bool, Transfer, bool, u16, Sof), // a SOF that was not handled
+    Late(bool, Transfer, bool, u16, Late), // a late entry's completions
+    SofArm(bool, Transfer, bool, u16, Sof), // the arm of SOF
+    Flip(Dir, bool, Transfer, bool), // EP0's control word is read
+    Flipped(Dir, bool, Transfer, bool), // its toggle is flipped
+    Toggled(Dir, bool, Transfer, bool, Toggled), // did a packet go through?
+    Completing(bool, Transfer, bool, Complete), // an isochronous IN completes
+    Check(bool, Transfer, bool, Check), // isochronous OUTs are looked at
+    MovedRead(Dir, bool), // EP0's control word is read, for its hidden stage
+    MovedWrote(Dir, bool), // it answers NAK
+    SetupRx, // EP0's OUT answers NAK
+    SetupTx, // and its IN
+    SetupReleased, // the setup flag is cleared
+}
+
+// The next access with the point at which the interrupt stops, or its result.
+pub enum Next {
+    Asks(Access, Point),
+    Ends(u16),
+}
+
+// `on_interrupt` begins (mod.rs 637), with a frame reading before it.
+pub fn begin() -> Next
+    ensures { λ r. ⌜ ((d : Driver) (b : List ℕ) → meaning r d b ≡ go interrupt d b) ⌝ }
+    ensures { λ r. ⌜ Linked r ⌝ }
+{
+    Next::Asks(Access::Read(Reg::FrameNo, 0), Point::Frame)
+}
+
+// Row 16 turned round: where a reading is awaited, has it no bit above its register's width?
+pub fn fits_at(p: Point, v: u32) -> bool
+    ensures { λ r. ⌜ r ≡ fitsAt p v ⌝ }
+{
+    match p {
+        Point::Frame => fits(v, 16),
+        Point::Flags => fits(v, 6),
+        Point::Mis(_) => fits(v, 2),
+        Point::St(_, _) => fits(v, 7),
+        Point::Len(_, _, _) => fits(v, 16),
+        Point::Nak(_, _, q) => nak::fits_at(q, v),
+        Point::Settle(_, _, q) => settle::fits_at(q, v),
+        Point::FrameNo(_, _, _) => fits(v, 16),
+        Point::Sof(_, _, _, _, q) => sof::fits_at(q, v),
+        Point::SofArm(_, _, _, _, q) => sof::fits_at(q, v),
+        Point::Flip(_, _, _, _) => fits(v, 8),
+        Point::Toggled(_, _, _, _, q) => toggled::fits_at(q, v),
+        Point::Check(_, _, _, q) => iso_out::fits_at(q, v),
+        Point::MovedRead(_, _) => fits(v, 8),
+        _ => true, // a write
+    }
+}

@@ -1,0 +1,35 @@
+use Rattle.irq_points.specs.StandsLaws.{then-on}
+use Rattle.irq.specs.Laws.{after}
+use Rattle.irq.specs.Tails.{afterCheck}
+use Rattle.model_ops.specs.Conc.{conc}
+use Rattle.model.specs.Script.{run}
+use borrow.Author.Needs.{needs}
+use Rattle.irq_check.proofs.after_checking.Statement.{statement}
+use Rattle.irq_check.proofs.after_checking.Tie as tie
+
+resume-requires : tie.Need-resume-requires
+resume-requires c κs = (c .before .before .before .pre)
+
+checked-requires : tie.Need-checked-requires
+checked-requires c κs =
+    let the-resume = c .before .before .before .before .resume in
+    the-resume .ensures .1 .1
+
+same-length : tie.Need-same-length
+same-length c = search needs
+
+returns : tie.Need-returns
+returns c =
+    let the-checked = c .checked in
+    let a = c .before .before .before .before .before .before .before .before .before .args in
+    let the-resume = c .before .before .before .before .before .resume in
+    (then-on (the-checked .ensures .0) (after (a .setup) (λ _ u. run conc (afterCheck (a .x)) u) _ _ (the-resume .ensures .0)), the-checked .ensures .1)
+
+pub after-checking-spec : {M : Type 1} → statement M
+after-checking-spec =
+    tie.close
+    (tie.spec
+    resume-requires
+    checked-requires
+    same-length
+    returns)

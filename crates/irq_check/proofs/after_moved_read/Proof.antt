@@ -1,0 +1,38 @@
+use Rattle.irq_points.specs.StandsLaws.{stops-at, stored-at}
+use mathlib.Core.Path.{refl}
+use borrow.Author.Needs.{needs}
+use Rattle.irq_check.proofs.after_moved_read.Statement.{statement}
+use Rattle.irq_check.proofs.after_moved_read.Tie as tie
+
+byte-requires : tie.Need-byte-requires
+byte-requires c κs = search needs
+
+nakflip-requires : tie.Need-nakflip-requires
+nakflip-requires c κs = search needs
+
+ctrl-of-requires : tie.Need-ctrl-of-requires
+ctrl-of-requires c κs = search needs
+
+cast-t9 : tie.Need-cast-t9
+cast-t9 c = search needs
+
+stand-moved-wrote-requires : tie.Need-stand-moved-wrote-requires
+stand-moved-wrote-requires c κs = search needs
+
+returns : tie.Need-returns
+returns c =
+    let the-stand-moved-wrote = c .stand-moved-wrote in
+    let the-nakflip = c .before .before .before .nakflip in
+    let the-byte = c .before .before .before .before .byte in
+    (λ b. stops-at (the-stand-moved-wrote .ensures) (refl) b (simp (c .before .ctrl-of .ensures, the-nakflip .ensures, the-byte .ensures)), stored-at (the-stand-moved-wrote .ensures))
+
+pub after-moved-read-spec : {M : Type 1} → statement M
+after-moved-read-spec =
+    tie.close
+    (tie.spec
+    byte-requires
+    nakflip-requires
+    ctrl-of-requires
+    cast-t9
+    stand-moved-wrote-requires
+    returns)

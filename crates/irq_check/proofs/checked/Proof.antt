@@ -1,0 +1,45 @@
+use Rattle.irq_points.specs.StandsLaws.{stops-at, stored-at, then-on}
+use Rattle.irq.specs.Laws.{check-asks, check-ends, check-linked}
+use Rattle.irq.specs.Tails.{afterCheck}
+use Rattle.model_ops.specs.Conc.{conc}
+use Rattle.model.specs.Script.{run}
+use borrow.Author.Needs.{needs}
+use Rattle.irq_check.proofs.checked.Statement.{statement}
+use Rattle.irq_check.proofs.checked.Tie as tie
+
+enum-known-n : tie.Need-enum-known-n
+enum-known-n c = search needs
+
+stand-check-requires : tie.Need-stand-check-requires
+stand-check-requires c κs = search needs
+
+enum-told : tie.Need-enum-told
+enum-told c = search needs
+
+after-check-requires : tie.Need-after-check-requires
+after-check-requires c κs = search needs
+
+returns : tie.Need-returns
+returns c =
+    let the-stand-check = c .stand-check in
+    let the-n = c .before .before .before .n in
+    let a = c .before .before .before .before .before .before .args in
+    (stops-at (the-stand-check .ensures) (check-linked _ _ _ (the-n .given .1) ((c .before .before .before .before .before .before .pre))) _ (check-asks (a .setup) (λ _ u. run conc (afterCheck (a .x)) u) _ _ _ (a .x) (a .iso) _ _ (the-n .given .1)), stored-at (the-stand-check .ensures))
+
+returns-2 : tie.Need-returns-2
+returns-2 c =
+    let the-after-check = c .after-check in
+    let a = c .before .before .before .before .before .args in
+    let the-enum-told = c .before .before .enum-told in
+    (then-on (the-after-check .ensures .0 _) (check-ends (a .setup) (λ _ u. run conc (afterCheck (a .x)) u) _ _ (a .x) (a .iso) _ (the-enum-told .given .1)), the-after-check .ensures .1)
+
+pub checked-spec : {M : Type 1} → statement M
+checked-spec =
+    tie.close
+    (tie.spec
+    enum-known-n
+    stand-check-requires
+    enum-told
+    after-check-requires
+    returns
+    returns-2)

@@ -1,0 +1,144 @@
+// Isochronous OUTs are looked at (mod.rs 792-797), then EP0's hidden stage (mod.rs 798-800, 822-852).
+use irq_points::stands::stand_check;
+use irq_points::stands::stand_moved_read;
+use irq_points::stands::stand_moved_wrote;
+use irq_transfer::wait::byte;
+use iso_out::Check;
+use iso_out::CheckNext;
+use machine::Step;
+use model::Transfer;
+use model_ops::records::wake;
+use model_ops::rings::is_on;
+use regs::Access;
+use regs::Dir;
+use regs::Token;
+use regs::control_word;
+use regs::registers::ctrl_of;
+use regs::status;
+use setup::after_transfer;
+use state::STATE_LEN;
+use state::load_ep;
+use state::store_ep;
+
+pub mod setup; // setup.rt: a new control transfer
+
+ghost use mathlib.Core.Path.{_≡_};
+ghost use mathlib.Core.Bool.{true};
+ghost use mathlib.Core.List.{List};
+ghost use Prim.Native.Nat.{ℕ};
+ghost use Rattle.regs.specs.Registers.{fitsIn};
+ghost use Rattle.state.specs.State.{view};
+ghost use Rattle.model.specs.Tree.{bindOut};
+ghost use Rattle.model.specs.Script.{run};
+ghost use Rattle.model.specs.Handler.{movedOn};
+ghost use Rattle.iso_out.specs.Points as checks;
+ghost use Rattle.model_ops.specs.Conc.{conc};
+ghost use Rattle.irq.specs.Tails.{finish, afterCheck, afterDispatch};
+ghost use Rattle.irq.specs.Points.{denote};
+ghost use Rattle.irq.specs.declared.Point.the-variants as Point;
+ghost use Rattle.irq_points.specs.Stands.{Stops};
+ghost use Rattle.machine.specs.Under.{Stored};
+
+pub fn after_moved_wrote(s: &mut [u8; STATE_LEN], d: Dir, setup: bool) -> Step
+    ensures { λ r. ⌜ ((v : ℕ) (b : List ℕ) → Stops r (now (s .exit)) b (denote (Point.MovedWrote d setup) v (view (now (s .entry)), b))) ⌝ }
+    ensures { λ r. ⌜ Stored r (now (s .exit)) ⌝ }
+{
+    let mut r = load_ep(s, d, 0);
+    r.ready = 1;
+    r.armed = 0;
+    store_ep(s, d, 0, r);
+    wake(s, d, 0);
+    after_transfer(s, setup)
+}
+
+pub fn after_moved_read(s: &mut [u8; STATE_LEN], d: Dir, setup: bool, v: u32) -> Step
+    requires { ⌜ fitsIn v 8 ≡ true ⌝ }
+    ensures { λ r. ⌜ ((b : List ℕ) → Stops r (now (s .exit)) b (denote (Point.MovedRead d setup) v (view (now (s .entry)), b))) ⌝ }
+    ensures { λ r. ⌜ Stored r (now (s .exit)) ⌝ }
+{
+    let word = control_word::nakflip(byte(v));
+    stand_moved_wrote(s, Access::Write(ctrl_of(d), 0, word as u32), d, setup)
+}
+
+fn moved_on(s: &mut [u8; STATE_LEN], d: Dir, setup: bool) -> Step
+    ensures { λ r. ⌜ ((b : List ℕ) → Stops r (now (s .exit)) b (finish setup (run conc (movedOn {i = true} d) (view (now (s .entry)), b)))) ⌝ }
+    ensures { λ r. ⌜ Stored r (now (s .exit)) ⌝ }
+{
+    let r = load_ep(s, d, 0);
+    if is_on(r.armed) {
+        return stand_moved_read(s, Access::Read(ctrl_of(d), 0), d, setup);
+    }
+    after_transfer(s, setup)
+}
+
+// The host's token for the other direction says that a stage went through (`ep0_moved_on`).
+pub fn after_check(s: &mut [u8; STATE_LEN], setup: bool, x: Transfer) -> Step
+    ensures { λ r. ⌜ ((b : List ℕ) → Stops r (now (s .exit)) b (finish setup (run conc (afterCheck x) (view (now (s .entry)), b)))) ⌝ }
+    ensures { λ r. ⌜ Stored r (now (s .exit)) ⌝ }
+{
+    if status::endpoint(x.st) == 0 {
+        let t = status::token(x.st);
+        match t {
+            Token::Out => moved_on(s, Dir::In, setup),
+            Token::In => moved_on(s, Dir::Out, setup),
+            Token::Sof => after_transfer(s, setup),
+            Token::Setup => after_transfer(s, setup),
+        }
+    } else {
+        after_transfer(s, setup)
+    }
+}
+
+// Where the check stops, or what follows it.
+fn checked(
+    s: &mut [u8; STATE_LEN],
+    buf: &[u8],
+    setup: bool,
+    x: Transfer,
+    iso: bool,
+    n: CheckNext,
+) -> Step
+    requires { ⌜ checks.Linked n ⌝ }
+    ensures { λ r. ⌜ Stops r (now (s .exit)) (now (buf .entry)) (finish setup (bindOut (checks.meaning x iso n (view (now (s .entry))) (now (buf .entry))) (λ _ u. run conc (afterCheck x) u))) ⌝ }
+    ensures { λ r. ⌜ Stored r (now (s .exit)) ⌝ }
+{
+    match n {
+        CheckNext::Asks(q, p) => stand_check(s, q, setup, x, iso, p),
+        CheckNext::Ends => after_check(s, setup, x),
+    }
+}
+
+pub fn after_checking(
+    s: &mut [u8; STATE_LEN],
+    buf: &mut [u8],
+    setup: bool,
+    x: Transfer,
+    iso: bool,
+    p: Check,
+    v: u32,
+) -> Step
+    requires { ⌜ checks.fitsAt p v ≡ true ⌝ }
+    ensures { λ r. ⌜ Stops r (now (s .exit)) (now (buf .exit)) (denote (Point.Check setup x iso p) v (view (now (s .entry)), now (buf .entry))) ⌝ }
+    ensures { λ r. ⌜ Stored r (now (s .exit)) ⌝ }
+{
+    let n = iso_out::resume(s, buf, x, iso, p, v);
+    checked(s, buf, setup, x, iso, n)
+}
+
+// An OUT completes too early in its microframe to merge into the next SOF's entry (mod.rs 795-797).
+pub fn after_dispatch(
+    s: &mut [u8; STATE_LEN],
+    buf: &mut [u8],
+    setup: bool,
+    x: Transfer,
+    iso: bool,
+) -> Step
+    ensures { λ r. ⌜ Stops r (now (s .exit)) (now (buf .exit)) (finish setup (run conc (afterDispatch x iso) (view (now (s .entry)), now (buf .entry)))) ⌝ }
+    ensures { λ r. ⌜ Stored r (now (s .exit)) ⌝ }
+{
+    if status::is_sof(x.st) {
+        return after_check(s, setup, x);
+    }
+    let n = iso_out::begin(s, buf, x, iso);
+    checked(s, buf, setup, x, iso, n)
+}

@@ -1,0 +1,112 @@
+// A new control transfer (mod.rs 803-818).
+use irq_points::stands::stand_setup_released;
+use irq_points::stands::stand_setup_rx;
+use irq_points::stands::stand_setup_tx;
+use irq_points::stands::stop;
+use machine::Step;
+use model_ops::records::wake;
+use model_ops::rings::setup_word;
+use regs::Access;
+use regs::Dir;
+use regs::Reg;
+use regs::control_word;
+use regs::flags;
+use state::STATE_LEN;
+use state::load_ep;
+use state::load_globals;
+use state::store_ep;
+use state::store_globals;
+ghost use mathlib.Core.Path.{_≡_};
+ghost use mathlib.Core.Bool.{false};
+ghost use mathlib.Core.List.{List};
+ghost use Prim.Native.Nat.{ℕ};
+ghost use Rattle.regs.specs.Flags.{SETUP_ACT};
+ghost use Rattle.state.specs.Driver.{epOn, withOn, withGlobals};
+ghost use Rattle.state.specs.State.{view, saved};
+ghost use Rattle.model.specs.Tree.{asks};
+ghost use Rattle.model.specs.Script.{run};
+ghost use Rattle.model.specs.Statics.{withReady, withArmed, withSetup};
+ghost use Rattle.model_ops.specs.Conc.{conc, go};
+ghost use Rattle.model_ops.specs.Records.{plainOf, merged, mergedGlobals};
+ghost use Rattle.irq.specs.Tails.{resultless, nakWord, afterSetupReleased, afterSetupTx, afterTransfer};
+ghost use Rattle.irq.specs.Points.{denote};
+ghost use Rattle.irq.specs.declared.Point.the-variants as Point;
+ghost use Rattle.irq_points.specs.Stands.{Stops};
+ghost use Rattle.machine.specs.Under.{Stored};
+
+// NAK, DATA0.
+fn nak_word() -> u32
+    ensures { λ r. ⌜ r ≡ nakWord ⌝ }
+{
+    control_word::word_of(control_word::NAK, control_word::DATA0, false) as u32
+}
+
+// Whatever EP0 was doing is over.
+pub fn after_transfer(s: &mut [u8; STATE_LEN], setup: bool) -> Step
+    ensures { λ r. ⌜ ((b : List ℕ) → Stops r (now (s .exit)) b (go (resultless (afterTransfer setup)) (view (now (s .entry))) b)) ⌝ }
+    ensures { λ r. ⌜ Stored r (now (s .exit)) ⌝ }
+{
+    if setup {
+        return stand_setup_rx(s, Access::Write(Reg::EpRxCtrl, 0, nak_word()));
+    }
+    stop(s)
+}
+
+pub fn after_setup_rx(s: &mut [u8; STATE_LEN]) -> Step
+    ensures { λ r. ⌜ ((v : ℕ) (b : List ℕ) → Stops r (now (s .exit)) b (denote Point.SetupRx v (view (now (s .entry)), b))) ⌝ }
+    ensures { λ r. ⌜ Stored r (now (s .exit)) ⌝ }
+{
+    stand_setup_tx(s, Access::Write(Reg::EpTxCtrl, 0, nak_word()))
+}
+
+// EP0 in a direction: not ready, not armed.
+fn clear(s: &mut [u8; STATE_LEN], d: Dir)
+    ensures { λ _. ⌜ view (now (s .exit)) ≡ withOn (view (now (s .entry))) d 0 (merged (epOn (view (now (s .entry))) d 0) (withArmed 0 (withReady 0 (plainOf (epOn (view (now (s .entry))) d 0))))) ⌝ }
+    ensures { λ _. ⌜ saved (now (s .exit)) ≡ saved (now (s .entry)) ⌝ }
+{
+    let mut r = load_ep(s, d, 0);
+    r.ready = 0;
+    r.armed = 0;
+    store_ep(s, d, 0, r);
+}
+
+fn keep(s: &mut [u8; STATE_LEN], low: u32, high: u32)
+    ensures { λ _. ⌜ view (now (s .exit)) ≡ withGlobals (view (now (s .entry))) (mergedGlobals (view (now (s .entry)) .globals) (withSetup 1 low high (view (now (s .entry)) .globals))) ⌝ }
+    ensures { λ _. ⌜ saved (now (s .exit)) ≡ saved (now (s .entry)) ⌝ }
+{
+    let mut g = load_globals(s);
+    g.setup_ready = 1;
+    g.setup_low = low;
+    g.setup_high = high;
+    store_globals(s, g);
+}
+
+// The packet is taken, EP0 is idle: what is left is the access that clears the flag.
+fn take(s: &mut [u8; STATE_LEN], buf: &[u8])
+    ensures { λ _. ⌜ asks (Access.Write Reg.IntFg 0 SETUP_ACT) (view (now (s .exit)), now (buf .entry)) (λ _ t. run conc (resultless afterSetupReleased) t) ≡ run conc (resultless afterSetupTx) (view (now (s .entry)), now (buf .entry)) ⌝ }
+    ensures { λ _. ⌜ saved (now (s .exit)) ≡ saved (now (s .entry)) ⌝ }
+{
+    let low = setup_word(s, buf, 0);
+    let high = setup_word(s, buf, 1);
+    clear(s, Dir::Out);
+    clear(s, Dir::In);
+    keep(s, low, high);
+}
+
+// The packet is taken in the call that clears the flag.
+pub fn after_setup_tx(s: &mut [u8; STATE_LEN], buf: &[u8]) -> Step
+    ensures { λ r. ⌜ ((v : ℕ) → Stops r (now (s .exit)) (now (buf .entry)) (denote Point.SetupTx v (view (now (s .entry)), now (buf .entry)))) ⌝ }
+    ensures { λ r. ⌜ Stored r (now (s .exit)) ⌝ }
+{
+    take(s, buf);
+    stand_setup_released(s, Access::Write(Reg::IntFg, 0, flags::SETUP_ACT))
+}
+
+pub fn after_setup_released(s: &mut [u8; STATE_LEN]) -> Step
+    ensures { λ r. ⌜ ((v : ℕ) (b : List ℕ) → Stops r (now (s .exit)) b (denote Point.SetupReleased v (view (now (s .entry)), b))) ⌝ }
+    ensures { λ r. ⌜ Stored r (now (s .exit)) ⌝ }
+{
+    wake(s, Dir::Out, 0);
+    wake(s, Dir::In, 0);
+    stop(s)
+}

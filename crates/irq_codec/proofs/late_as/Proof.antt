@@ -1,0 +1,14 @@
+use Rattle.irq_codec.specs.Codec.{lateAs}
+use borrow.Author.Needs.{needs}
+use Rattle.irq_codec.proofs.late_as.Statement.{statement}
+use Rattle.irq_codec.proofs.late_as.Tie as tie
+
+complete-as-requires : tie.Need-complete-as-requires
+complete-as-requires c κs = search needs
+
+returns : tie.Need-returns
+unfolding lateAs
+returns c = simp (c .complete-as .ensures)
+
+pub late-as-spec : {M : Type 1} → statement M
+late-as-spec = tie.close (tie.spec complete-as-requires returns)

@@ -1,0 +1,14 @@
+use Rattle.irq_codec.specs.Codec.{lateOf}
+use borrow.Author.Needs.{needs}
+use Rattle.irq_codec.proofs.late_of.Statement.{statement}
+use Rattle.irq_codec.proofs.late_of.Tie as tie
+
+complete-of-requires : tie.Need-complete-of-requires
+complete-of-requires c κs = search needs
+
+returns : tie.Need-returns
+unfolding lateOf
+returns c = simp (c .complete-of .ensures)
+
+pub late-of-spec : {M : Type 1} → statement M
+late-of-spec = tie.close (tie.spec complete-of-requires returns)

@@ -1,0 +1,15 @@
+use borrow.Author.Needs.{needs}
+use Rattle.irq_codec.proofs.none.Statement.{statement}
+use Rattle.irq_codec.proofs.none.Tie as tie
+
+flag-of-requires : tie.Need-flag-of-requires
+flag-of-requires c κs = search needs
+
+inner-requires : tie.Need-inner-requires
+inner-requires c κs = search needs
+
+returns : tie.Need-returns
+returns c = simp (c .inner .ensures, c .before .flag-of .ensures)
+
+pub none-spec : {M : Type 1} → statement M
+none-spec = tie.close (tie.spec flag-of-requires inner-requires returns)

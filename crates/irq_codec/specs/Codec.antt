@@ -1,0 +1,277 @@
+-- A point of the interrupt as numbers, and back: `site` says which, `flag` the setup flag; the transfer's fields have their names; `now` is its
+-- isochronous flag, or a status; `sub`, `ep`, `eps`, `n` are the inner point's, `ep` a direction where there is none
+use mathlib.Core.Path.{_≡_, refl}
+use mathlib.Core.Bool.{Bool, true, false, cond}
+use Prim.Native.Nat.{ℕ}
+use lib.Dec.{eqb}
+use Rattle.regs.specs.declared.Dir.{Dir}
+use Rattle.regs.specs.declared.Dir.the-variants.{Out, In}
+use Rattle.state.specs.declared.Saved.{Saved}
+use Rattle.model.specs.declared.Transfer.{Transfer}
+use Rattle.model.specs.Statics.{isOn, flag}
+use Rattle.irq_transfer.specs.declared.nak.Nak.{Nak}
+use Rattle.irq_transfer.specs.declared.nak.Nak.the-variants as nak
+use Rattle.irq_transfer.specs.declared.settle.Settle.{Settle}
+use Rattle.irq_transfer.specs.declared.settle.Settle.the-variants as settle
+use Rattle.irq_transfer.specs.declared.toggled.Toggled.{Toggled}
+use Rattle.irq_transfer.specs.declared.toggled.Toggled.the-variants as toggled
+use Rattle.iso_in.specs.declared.complete.Complete.{Complete}
+use Rattle.iso_in.specs.declared.complete.Complete.the-variants as complete
+use Rattle.iso_in.specs.declared.sof.Sof.{Sof}
+use Rattle.iso_in.specs.declared.sof.Sof.the-variants as sof
+use Rattle.iso_in.specs.declared.late.Late.{Late}
+use Rattle.iso_out.specs.declared.Check.{Check}
+use Rattle.iso_out.specs.declared.Check.the-variants as check
+use Rattle.irq.specs.declared.Point.{Point}
+use Rattle.irq.specs.declared.Point.the-variants as point
+use Rattle.irq_codec.specs.declared.Numbers.{Numbers}
+
+-- ---- directions, flags, the inner points
+
+abbrev pub dirAs : Dir → ℕ
+dirAs Out = 0
+dirAs In = 1
+
+abbrev pub dirOf : ℕ → Dir
+dirOf n = cond (eqb n 0) Out In
+
+abbrev pub inner : ℕ → ℕ → ℕ → ℕ → ℕ → Numbers
+inner sub now ep eps n = record { sub = sub; now = now; ep = ep; eps = eps; n = n }
+
+abbrev pub none : Bool → Numbers
+none iso = inner 0 (flag iso) 0 0 0
+
+abbrev pub onDir : Dir → Bool → Numbers
+onDir d iso = inner 0 (flag iso) (dirAs d) 0 0
+
+unfoldable pub nakAs : ℕ → Nak → Numbers
+nakAs st (nak.Word Out) = inner 0 st 0 0 0
+nakAs st (nak.Word In) = inner 1 st 0 0 0
+nakAs st nak.Wrote = inner 2 st 0 0 0
+
+unfoldable pub nakOf : ℕ → Nak
+nakOf sub = cond (eqb sub 0) (nak.Word Out) (cond (eqb sub 1) (nak.Word In) nak.Wrote)
+
+unfoldable pub settleAs : Settle → Numbers
+settleAs (settle.IsoLook n) = inner 3 0 0 0 n
+settleAs settle.IsoSt = inner 4 0 0 0 0
+settleAs (settle.IsoLen now) = inner 5 now 0 0 0
+settleAs (settle.BulkLook n) = inner 6 0 0 0 n
+settleAs settle.BulkLen = inner 7 0 0 0 0
+settleAs settle.Mis = inner 8 0 0 0 0
+settleAs settle.Flags = inner 9 0 0 0 0
+settleAs settle.St = inner 10 0 0 0 0
+settleAs (settle.Nak st p) = nakAs st p
+
+unfoldable pub settleOf : ℕ → ℕ → ℕ → Settle
+settleOf sub now n =
+    cond (eqb sub 3) (settle.IsoLook n) (
+    cond (eqb sub 4) settle.IsoSt (
+    cond (eqb sub 5) (settle.IsoLen now) (
+    cond (eqb sub 6) (settle.BulkLook n) (
+    cond (eqb sub 7) settle.BulkLen (
+    cond (eqb sub 8) settle.Mis (
+    cond (eqb sub 9) settle.Flags (
+    cond (eqb sub 10) settle.St (
+    settle.Nak now (nakOf sub)))))))))
+
+unfoldable pub toggledAs : Dir → Bool → Toggled → Numbers
+toggledAs d iso (toggled.Look n) = inner 0 (flag iso) (dirAs d) 0 n
+toggledAs d iso toggled.Word = inner 1 (flag iso) (dirAs d) 0 0
+toggledAs d iso toggled.AckRead = inner 2 (flag iso) (dirAs d) 0 0
+toggledAs d iso toggled.Acked = inner 3 (flag iso) (dirAs d) 0 0
+
+unfoldable pub toggledOf : ℕ → ℕ → Toggled
+toggledOf sub n = cond (eqb sub 0) (toggled.Look n) (cond (eqb sub 1) toggled.Word (cond (eqb sub 2) toggled.AckRead toggled.Acked))
+
+unfoldable pub completeAs : Bool → ℕ → Complete → Numbers
+completeAs iso m (complete.Sent e) = inner 0 (flag iso) e m 0
+completeAs iso m (complete.Loaded e) = inner 1 (flag iso) e m 0
+
+unfoldable pub completeOf : ℕ → ℕ → Complete
+completeOf sub e = cond (eqb sub 0) (complete.Sent e) (complete.Loaded e)
+
+unfoldable pub sofAs : Bool → Sof → Numbers
+sofAs iso (sof.Mis e m) = inner 2 (flag iso) e m 0
+sofAs iso (sof.St e m) = inner 3 (flag iso) e m 0
+sofAs iso (sof.Completing m p) = completeAs iso m p
+sofAs iso sof.Callback = inner 4 (flag iso) 0 0 0
+
+unfoldable pub sofOf : ℕ → ℕ → ℕ → Sof
+sofOf sub e m =
+    cond (eqb sub 2) (sof.Mis e m) (
+    cond (eqb sub 3) (sof.St e m) (
+    cond (eqb sub 4) sof.Callback (
+    sof.Completing m (completeOf sub e))))
+
+unfoldable pub lateAs : Bool → Late → Numbers
+lateAs iso p = completeAs iso (p .rest) (p .completing)
+
+unfoldable pub lateOf : ℕ → ℕ → ℕ → Late
+lateOf sub e m = record { rest = m; completing = completeOf sub e }
+
+unfoldable pub checkAs : Bool → Check → Numbers
+checkAs iso (check.St e m) = inner 0 (flag iso) e m 0
+checkAs iso (check.Armed e m) = inner 1 (flag iso) e m 0
+
+unfoldable pub checkOf : ℕ → ℕ → ℕ → Check
+checkOf sub e m = cond (eqb sub 0) (check.St e m) (check.Armed e m)
+
+-- ---- the point
+
+abbrev pub code : ℕ → Bool → Transfer → ℕ → Numbers → Saved
+code site setup x frame i = record {
+  tag = 0;
+  sub = i .sub;
+  site = site;
+  flag = flag setup;
+  busy = flag (x .busy);
+  late = flag (x .late);
+  «len_ok» = flag (x .«len_ok»);
+  st = x .st;
+  now = i .now;
+  ep = i .ep;
+  len = x .len;
+  frame = frame;
+  eps = i .eps;
+  n = i .n;
+  value = 0;
+}
+
+-- before there is a transfer: the flags or the status, and busy
+abbrev pub early : Bool → ℕ → Transfer
+early busy st = record { busy = busy; st = st; len = 0; late = false; «len_ok» = false }
+
+abbrev pub bare : ℕ → Saved
+bare site = code site false (early false 0) 0 (none false)
+
+unfoldable pub encode : Point → Saved
+encode point.Frame = bare 0
+encode point.Flags = bare 1
+encode (point.BusRst f) = code 2 false (early false f) 0 (none false)
+encode (point.Suspend f) = code 3 false (early false f) 0 (none false)
+encode (point.Fifo f) = code 4 false (early false f) 0 (none false)
+encode (point.Host f) = code 5 false (early false f) 0 (none false)
+encode (point.Mis setup) = code 6 setup (early false 0) 0 (none false)
+encode (point.St setup busy) = code 7 setup (early busy 0) 0 (none false)
+encode (point.Len setup busy st) = code 8 setup (early busy st) 0 (none false)
+encode (point.Nak setup x p) = code 9 setup x 0 (nakAs 0 p)
+encode (point.Released setup x) = code 10 setup x 0 (none false)
+encode (point.Settle setup x p) = code 11 setup x 0 (settleAs p)
+encode (point.FrameNo setup x iso) = code 12 setup x 0 (none iso)
+encode (point.Sof setup x iso frame p) = code 13 setup x frame (sofAs iso p)
+encode (point.Late setup x iso frame p) = code 14 setup x frame (lateAs iso p)
+encode (point.SofArm setup x iso frame p) = code 15 setup x frame (sofAs iso p)
+encode (point.Flip d setup x iso) = code 16 setup x 0 (onDir d iso)
+encode (point.Flipped d setup x iso) = code 17 setup x 0 (onDir d iso)
+encode (point.Toggled d setup x iso p) = code 18 setup x 0 (toggledAs d iso p)
+encode (point.Completing setup x iso p) = code 19 setup x 0 (completeAs iso 0 p)
+encode (point.Check setup x iso p) = code 20 setup x 0 (checkAs iso p)
+encode (point.MovedRead d setup) = code 21 setup (early false 0) 0 (onDir d false)
+encode (point.MovedWrote d setup) = code 22 setup (early false 0) 0 (onDir d false)
+encode point.SetupRx = bare 23
+encode point.SetupTx = bare 24
+encode point.SetupReleased = bare 25
+
+abbrev pub transferOf : Saved → Transfer
+transferOf c = record { busy = isOn (c .busy); st = c .st; len = c .len; late = isOn (c .late); «len_ok» = isOn (c .«len_ok») }
+
+-- an unknown number is the first point
+unfoldable pub decode : Saved → Point
+decode c =
+    cond (eqb (c .site) 1) point.Flags (
+    cond (eqb (c .site) 2) (point.BusRst (c .st)) (
+    cond (eqb (c .site) 3) (point.Suspend (c .st)) (
+    cond (eqb (c .site) 4) (point.Fifo (c .st)) (
+    cond (eqb (c .site) 5) (point.Host (c .st)) (
+    cond (eqb (c .site) 6) (point.Mis (isOn (c .flag))) (
+    cond (eqb (c .site) 7) (point.St (isOn (c .flag)) (isOn (c .busy))) (
+    cond (eqb (c .site) 8) (point.Len (isOn (c .flag)) (isOn (c .busy)) (c .st)) (
+    cond (eqb (c .site) 9) (point.Nak (isOn (c .flag)) (transferOf c) (nakOf (c .sub))) (
+    cond (eqb (c .site) 10) (point.Released (isOn (c .flag)) (transferOf c)) (
+    cond (eqb (c .site) 11) (point.Settle (isOn (c .flag)) (transferOf c) (settleOf (c .sub) (c .now) (c .n))) (
+    cond (eqb (c .site) 12) (point.FrameNo (isOn (c .flag)) (transferOf c) (isOn (c .now))) (
+    cond (eqb (c .site) 13) (point.Sof (isOn (c .flag)) (transferOf c) (isOn (c .now)) (c .frame) (sofOf (c .sub) (c .ep) (c .eps))) (
+    cond (eqb (c .site) 14) (point.Late (isOn (c .flag)) (transferOf c) (isOn (c .now)) (c .frame) (lateOf (c .sub) (c .ep) (c .eps))) (
+    cond (eqb (c .site) 15) (point.SofArm (isOn (c .flag)) (transferOf c) (isOn (c .now)) (c .frame) (sofOf (c .sub) (c .ep) (c .eps))) (
+    cond (eqb (c .site) 16) (point.Flip (dirOf (c .ep)) (isOn (c .flag)) (transferOf c) (isOn (c .now))) (
+    cond (eqb (c .site) 17) (point.Flipped (dirOf (c .ep)) (isOn (c .flag)) (transferOf c) (isOn (c .now))) (
+    cond (eqb (c .site) 18) (point.Toggled (dirOf (c .ep)) (isOn (c .flag)) (transferOf c) (isOn (c .now)) (toggledOf (c .sub) (c .n))) (
+    cond (eqb (c .site) 19) (point.Completing (isOn (c .flag)) (transferOf c) (isOn (c .now)) (completeOf (c .sub) (c .ep))) (
+    cond (eqb (c .site) 20) (point.Check (isOn (c .flag)) (transferOf c) (isOn (c .now)) (checkOf (c .sub) (c .ep) (c .eps))) (
+    cond (eqb (c .site) 21) (point.MovedRead (dirOf (c .ep)) (isOn (c .flag))) (
+    cond (eqb (c .site) 22) (point.MovedWrote (dirOf (c .ep)) (isOn (c .flag))) (
+    cond (eqb (c .site) 23) point.SetupRx (
+    cond (eqb (c .site) 24) point.SetupTx (
+    cond (eqb (c .site) 25) point.SetupReleased (
+    point.Frame)))))))))))))))))))))))))
+
+-- ---- back
+
+flag-back : (b : Bool) → isOn (flag b) ≡ b
+unfolding isOn
+flag-back true = refl
+flag-back false = refl
+
+dir-back : (d : Dir) → dirOf (dirAs d) ≡ d
+dir-back Out = refl
+dir-back In = refl
+
+late-back : (setup : Bool) (x : Transfer) (iso : Bool) (frame m : ℕ) (q : Complete) → decode (encode (point.Late setup x iso frame (record { rest = m; completing = q }))) ≡ point.Late setup x iso frame (record { rest = m; completing = q })
+unfolding encode decode lateAs lateOf completeAs completeOf
+late-back setup x iso frame m (complete.Sent e) = simp flag-back
+late-back setup x iso frame m (complete.Loaded e) = simp flag-back
+
+pub decode-encode : (p : Point) → decode (encode p) ≡ p
+unfolding encode decode nakAs nakOf settleAs settleOf toggledAs toggledOf completeAs completeOf sofAs sofOf lateAs lateOf checkAs checkOf
+decode-encode point.Frame = refl
+decode-encode point.Flags = refl
+decode-encode (point.BusRst f) = refl
+decode-encode (point.Suspend f) = refl
+decode-encode (point.Fifo f) = refl
+decode-encode (point.Host f) = refl
+decode-encode (point.Mis setup) = simp flag-back
+decode-encode (point.St setup busy) = simp flag-back
+decode-encode (point.Len setup busy st) = simp flag-back
+decode-encode (point.Nak setup x (nak.Word Out)) = simp flag-back
+decode-encode (point.Nak setup x (nak.Word In)) = simp flag-back
+decode-encode (point.Nak setup x nak.Wrote) = simp flag-back
+decode-encode (point.Released setup x) = simp flag-back
+decode-encode (point.Settle setup x (settle.IsoLook n)) = simp flag-back
+decode-encode (point.Settle setup x settle.IsoSt) = simp flag-back
+decode-encode (point.Settle setup x (settle.IsoLen now)) = simp flag-back
+decode-encode (point.Settle setup x (settle.BulkLook n)) = simp flag-back
+decode-encode (point.Settle setup x settle.BulkLen) = simp flag-back
+decode-encode (point.Settle setup x settle.Mis) = simp flag-back
+decode-encode (point.Settle setup x settle.Flags) = simp flag-back
+decode-encode (point.Settle setup x settle.St) = simp flag-back
+decode-encode (point.Settle setup x (settle.Nak st (nak.Word Out))) = simp flag-back
+decode-encode (point.Settle setup x (settle.Nak st (nak.Word In))) = simp flag-back
+decode-encode (point.Settle setup x (settle.Nak st nak.Wrote)) = simp flag-back
+decode-encode (point.FrameNo setup x iso) = simp flag-back
+decode-encode (point.Sof setup x iso frame (sof.Mis e m)) = simp flag-back
+decode-encode (point.Sof setup x iso frame (sof.St e m)) = simp flag-back
+decode-encode (point.Sof setup x iso frame (sof.Completing m (complete.Sent e))) = simp flag-back
+decode-encode (point.Sof setup x iso frame (sof.Completing m (complete.Loaded e))) = simp flag-back
+decode-encode (point.Sof setup x iso frame sof.Callback) = simp flag-back
+decode-encode (point.Late setup x iso frame p) = late-back setup x iso frame (p .rest) (p .completing)
+decode-encode (point.SofArm setup x iso frame (sof.Mis e m)) = simp flag-back
+decode-encode (point.SofArm setup x iso frame (sof.St e m)) = simp flag-back
+decode-encode (point.SofArm setup x iso frame (sof.Completing m (complete.Sent e))) = simp flag-back
+decode-encode (point.SofArm setup x iso frame (sof.Completing m (complete.Loaded e))) = simp flag-back
+decode-encode (point.SofArm setup x iso frame sof.Callback) = simp flag-back
+decode-encode (point.Flip d setup x iso) = simp (flag-back, dir-back)
+decode-encode (point.Flipped d setup x iso) = simp (flag-back, dir-back)
+decode-encode (point.Toggled d setup x iso (toggled.Look n)) = simp (flag-back, dir-back)
+decode-encode (point.Toggled d setup x iso toggled.Word) = simp (flag-back, dir-back)
+decode-encode (point.Toggled d setup x iso toggled.AckRead) = simp (flag-back, dir-back)
+decode-encode (point.Toggled d setup x iso toggled.Acked) = simp (flag-back, dir-back)
+decode-encode (point.Completing setup x iso (complete.Sent e)) = simp flag-back
+decode-encode (point.Completing setup x iso (complete.Loaded e)) = simp flag-back
+decode-encode (point.Check setup x iso (check.St e m)) = simp flag-back
+decode-encode (point.Check setup x iso (check.Armed e m)) = simp flag-back
+decode-encode (point.MovedRead d setup) = simp (flag-back, dir-back)
+decode-encode (point.MovedWrote d setup) = simp (flag-back, dir-back)
+decode-encode point.SetupRx = refl
+decode-encode point.SetupTx = refl
+decode-encode point.SetupReleased = refl

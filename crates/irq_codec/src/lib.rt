@@ -1,0 +1,357 @@
+// A point of the interrupt as numbers, and back.
+use irq::Point;
+use irq_transfer::nak::Nak;
+use irq_transfer::settle::Settle;
+use irq_transfer::toggled::Toggled;
+use iso_in::complete::Complete;
+use iso_in::late::Late;
+use iso_in::sof::Sof;
+use iso_out::Check;
+use model::Transfer;
+use model_ops::rings::is_on;
+use regs::Dir;
+use state::Saved;
+ghost use mathlib.Core.Path.{_≡_};
+ghost use Rattle.model.specs.Statics.{flag};
+ghost use Rattle.irq_codec.specs.Codec.{dirAs, dirOf, inner, none, onDir, nakAs, nakOf, settleAs, settleOf, toggledAs, toggledOf, completeAs, completeOf, sofAs, sofOf, lateAs, lateOf, checkAs, checkOf, code, early, bare, transferOf, encode, decode};
+
+// An inner point's numbers, with the isochronous flag or a status.
+pub struct Numbers {
+    pub sub: u8,
+    pub now: u8,
+    pub ep: u8,
+    pub eps: u16,
+    pub n: u16,
+}
+
+fn dir_as(d: Dir) -> u8
+    ensures { λ r. ⌜ r ≡ dirAs d ⌝ }
+{
+    match d {
+        Dir::Out => 0,
+        Dir::In => 1,
+    }
+}
+
+fn dir_of(n: u8) -> Dir
+    ensures { λ r. ⌜ r ≡ dirOf n ⌝ }
+{
+    if n == 0 { Dir::Out } else { Dir::In }
+}
+
+fn flag_of(b: bool) -> u8
+    ensures { λ r. ⌜ r ≡ flag b ⌝ }
+{
+    if b {
+        return 1;
+    }
+    0
+}
+
+fn inner(sub: u8, now: u8, ep: u8, eps: u16, n: u16) -> Numbers
+    ensures { λ r. ⌜ r ≡ inner sub now ep eps n ⌝ }
+{
+    Numbers {
+        sub,
+        now,
+        ep,
+        eps,
+        n,
+    }
+}
+
+fn none(iso: bool) -> Numbers
+    ensures { λ r. ⌜ r ≡ none iso ⌝ }
+{
+    inner(0, flag_of(iso), 0, 0, 0)
+}
+
+fn on_dir(d: Dir, iso: bool) -> Numbers
+    ensures { λ r. ⌜ r ≡ onDir d iso ⌝ }
+{
+    inner(0, flag_of(iso), dir_as(d), 0, 0)
+}
+
+fn nak_as(st: u8, p: Nak) -> Numbers
+    ensures { λ r. ⌜ r ≡ nakAs st p ⌝ }
+{
+    match p {
+        Nak::Word(d) => match d {
+            Dir::Out => inner(0, st, 0, 0, 0),
+            Dir::In => inner(1, st, 0, 0, 0),
+        },
+        Nak::Wrote => inner(2, st, 0, 0, 0),
+    }
+}
+
+fn nak_of(sub: u8) -> Nak
+    ensures { λ r. ⌜ r ≡ nakOf sub ⌝ }
+{
+    match sub {
+        0 => Nak::Word(Dir::Out),
+        1 => Nak::Word(Dir::In),
+        _ => Nak::Wrote,
+    }
+}
+
+fn settle_as(p: Settle) -> Numbers
+    ensures { λ r. ⌜ r ≡ settleAs p ⌝ }
+{
+    match p {
+        Settle::IsoLook(n) => inner(3, 0, 0, 0, n),
+        Settle::IsoSt => inner(4, 0, 0, 0, 0),
+        Settle::IsoLen(now) => inner(5, now, 0, 0, 0),
+        Settle::BulkLook(n) => inner(6, 0, 0, 0, n),
+        Settle::BulkLen => inner(7, 0, 0, 0, 0),
+        Settle::Mis => inner(8, 0, 0, 0, 0),
+        Settle::Flags => inner(9, 0, 0, 0, 0),
+        Settle::St => inner(10, 0, 0, 0, 0),
+        Settle::Nak(st, q) => nak_as(st, q),
+    }
+}
+
+fn settle_of(sub: u8, now: u8, n: u16) -> Settle
+    ensures { λ r. ⌜ r ≡ settleOf sub now n ⌝ }
+{
+    match sub {
+        3 => Settle::IsoLook(n),
+        4 => Settle::IsoSt,
+        5 => Settle::IsoLen(now),
+        6 => Settle::BulkLook(n),
+        7 => Settle::BulkLen,
+        8 => Settle::Mis,
+        9 => Settle::Flags,
+        10 => Settle::St,
+        _ => Settle::Nak(now, nak_of(sub)),
+    }
+}
+
+fn toggled_as(d: Dir, iso: bool, p: Toggled) -> Numbers
+    ensures { λ r. ⌜ r ≡ toggledAs d iso p ⌝ }
+{
+    let ep = dir_as(d);
+    let now = flag_of(iso);
+    match p {
+        Toggled::Look(n) => inner(0, now, ep, 0, n),
+        Toggled::Word => inner(1, now, ep, 0, 0),
+        Toggled::AckRead => inner(2, now, ep, 0, 0),
+        Toggled::Acked => inner(3, now, ep, 0, 0),
+    }
+}
+
+fn toggled_of(sub: u8, n: u16) -> Toggled
+    ensures { λ r. ⌜ r ≡ toggledOf sub n ⌝ }
+{
+    match sub {
+        0 => Toggled::Look(n),
+        1 => Toggled::Word,
+        2 => Toggled::AckRead,
+        _ => Toggled::Acked,
+    }
+}
+
+fn complete_as(iso: bool, m: u16, p: Complete) -> Numbers
+    ensures { λ r. ⌜ r ≡ completeAs iso m p ⌝ }
+{
+    let now = flag_of(iso);
+    match p {
+        Complete::Sent(e) => inner(0, now, e, m, 0),
+        Complete::Loaded(e) => inner(1, now, e, m, 0),
+    }
+}
+
+fn complete_of(sub: u8, e: u8) -> Complete
+    ensures { λ r. ⌜ r ≡ completeOf sub e ⌝ }
+{
+    if sub == 0 {
+        Complete::Sent(e)
+    } else {
+        Complete::Loaded(e)
+    }
+}
+
+fn sof_as(iso: bool, p: Sof) -> Numbers
+    ensures { λ r. ⌜ r ≡ sofAs iso p ⌝ }
+{
+    let now = flag_of(iso);
+    match p {
+        Sof::Mis(e, m) => inner(2, now, e, m, 0),
+        Sof::St(e, m) => inner(3, now, e, m, 0),
+        Sof::Completing(m, q) => complete_as(iso, m, q),
+        Sof::Callback => inner(4, now, 0, 0, 0),
+    }
+}
+
+fn sof_of(sub: u8, e: u8, m: u16) -> Sof
+    ensures { λ r. ⌜ r ≡ sofOf sub e m ⌝ }
+{
+    match sub {
+        2 => Sof::Mis(e, m),
+        3 => Sof::St(e, m),
+        4 => Sof::Callback,
+        _ => Sof::Completing(m, complete_of(sub, e)),
+    }
+}
+
+fn late_as(iso: bool, p: Late) -> Numbers
+    ensures { λ r. ⌜ r ≡ lateAs iso p ⌝ }
+{
+    let m = p.rest;
+    let q = p.completing;
+    complete_as(iso, m, q)
+}
+
+fn late_of(sub: u8, e: u8, m: u16) -> Late
+    ensures { λ r. ⌜ r ≡ lateOf sub e m ⌝ }
+{
+    let completing = complete_of(sub, e);
+    Late {
+        rest: m,
+        completing,
+    }
+}
+
+fn check_as(iso: bool, p: Check) -> Numbers
+    ensures { λ r. ⌜ r ≡ checkAs iso p ⌝ }
+{
+    let now = flag_of(iso);
+    match p {
+        Check::St(e, m) => inner(0, now, e, m, 0),
+        Check::Armed(e, m) => inner(1, now, e, m, 0),
+    }
+}
+
+fn check_of(sub: u8, e: u8, m: u16) -> Check
+    ensures { λ r. ⌜ r ≡ checkOf sub e m ⌝ }
+{
+    if sub == 0 {
+        Check::St(e, m)
+    } else {
+        Check::Armed(e, m)
+    }
+}
+
+fn code(site: u8, setup: bool, x: Transfer, frame: u16, i: Numbers) -> Saved
+    ensures { λ r. ⌜ r ≡ code site setup x frame i ⌝ }
+{
+    Saved {
+        tag: 0,
+        sub: i.sub,
+        site,
+        flag: flag_of(setup),
+        busy: flag_of(x.busy),
+        late: flag_of(x.late),
+        len_ok: flag_of(x.len_ok),
+        st: x.st,
+        now: i.now,
+        ep: i.ep,
+        len: x.len,
+        frame,
+        eps: i.eps,
+        n: i.n,
+        value: 0,
+    }
+}
+
+// Before there is a transfer: the flags or the status, and busy.
+fn early(busy: bool, st: u8) -> Transfer
+    ensures { λ r. ⌜ r ≡ early busy st ⌝ }
+{
+    Transfer {
+        busy,
+        st,
+        len: 0,
+        late: false,
+        len_ok: false,
+    }
+}
+
+fn bare(site: u8) -> Saved
+    ensures { λ r. ⌜ r ≡ bare site ⌝ }
+{
+    code(site, false, early(false, 0), 0, none(false))
+}
+
+pub fn encode(p: Point) -> Saved
+    ensures { λ r. ⌜ r ≡ encode p ⌝ }
+{
+    match p {
+        Point::Frame => bare(0),
+        Point::Flags => bare(1),
+        Point::BusRst(f) => code(2, false, early(false, f), 0, none(false)),
+        Point::Suspend(f) => code(3, false, early(false, f), 0, none(false)),
+        Point::Fifo(f) => code(4, false, early(false, f), 0, none(false)),
+        Point::Host(f) => code(5, false, early(false, f), 0, none(false)),
+        Point::Mis(setup) => code(6, setup, early(false, 0), 0, none(false)),
+        Point::St(setup, busy) => code(7, setup, early(busy, 0), 0, none(false)),
+        Point::Len(setup, busy, st) => code(8, setup, early(busy, st), 0, none(false)),
+        Point::Nak(setup, x, q) => code(9, setup, x, 0, nak_as(0, q)),
+        Point::Released(setup, x) => code(10, setup, x, 0, none(false)),
+        Point::Settle(setup, x, q) => code(11, setup, x, 0, settle_as(q)),
+        Point::FrameNo(setup, x, iso) => code(12, setup, x, 0, none(iso)),
+        Point::Sof(setup, x, iso, frame, q) => code(13, setup, x, frame, sof_as(iso, q)),
+        Point::Late(setup, x, iso, frame, q) => code(14, setup, x, frame, late_as(iso, q)),
+        Point::SofArm(setup, x, iso, frame, q) => code(15, setup, x, frame, sof_as(iso, q)),
+        Point::Flip(d, setup, x, iso) => code(16, setup, x, 0, on_dir(d, iso)),
+        Point::Flipped(d, setup, x, iso) => code(17, setup, x, 0, on_dir(d, iso)),
+        Point::Toggled(d, setup, x, iso, q) => code(18, setup, x, 0, toggled_as(d, iso, q)),
+        Point::Completing(setup, x, iso, q) => code(19, setup, x, 0, complete_as(iso, 0, q)),
+        Point::Check(setup, x, iso, q) => code(20, setup, x, 0, check_as(iso, q)),
+        Point::MovedRead(d, setup) => code(21, setup, early(false, 0), 0, on_dir(d, false)),
+        Point::MovedWrote(d, setup) => code(22, setup, early(false, 0), 0, on_dir(d, false)),
+        Point::SetupRx => bare(23),
+        Point::SetupTx => bare(24),
+        Point::SetupReleased => bare(25),
+    }
+}
+
+fn transfer_of(c: Saved) -> Transfer
+    ensures { λ r. ⌜ r ≡ transferOf c ⌝ }
+{
+    Transfer {
+        busy: is_on(c.busy),
+        st: c.st,
+        len: c.len,
+        late: is_on(c.late),
+        len_ok: is_on(c.len_ok),
+    }
+}
+
+// Any numbers are a point: an unknown one is the first.
+pub fn decode(c: Saved) -> Point
+    ensures { λ r. ⌜ r ≡ decode c ⌝ }
+{
+    let setup = is_on(c.flag);
+    let x = transfer_of(c);
+    let iso = is_on(c.now);
+    let d = dir_of(c.ep);
+    let site = c.site;
+    match site {
+        1 => Point::Flags,
+        2 => Point::BusRst(c.st),
+        3 => Point::Suspend(c.st),
+        4 => Point::Fifo(c.st),
+        5 => Point::Host(c.st),
+        6 => Point::Mis(setup),
+        7 => Point::St(setup, x.busy),
+        8 => Point::Len(setup, x.busy, c.st),
+        9 => Point::Nak(setup, x, nak_of(c.sub)),
+        10 => Point::Released(setup, x),
+        11 => Point::Settle(setup, x, settle_of(c.sub, c.now, c.n)),
+        12 => Point::FrameNo(setup, x, iso),
+        13 => Point::Sof(setup, x, iso, c.frame, sof_of(c.sub, c.ep, c.eps)),
+        14 => Point::Late(setup, x, iso, c.frame, late_of(c.sub, c.ep, c.eps)),
+        15 => Point::SofArm(setup, x, iso, c.frame, sof_of(c.sub, c.ep, c.eps)),
+        16 => Point::Flip(d, setup, x, iso),
+        17 => Point::Flipped(d, setup, x, iso),
+        18 => Point::Toggled(d, setup, x, iso, toggled_of(c.sub, c.n)),
+        19 => Point::Completing(setup, x, iso, complete_of(c.sub, c.ep)),
+        20 => Point::Check(setup, x, iso, check_of(c.sub, c.ep, c.eps)),
+        21 => Point::MovedRead(d, setup),
+        22 => Point::MovedWrote(d, setup),
+        23 => Point::SetupRx,
+        24 => Point::SetupTx,
+        25 => Point::SetupReleased,
+        _ => Point::Frame,
+    }
+}

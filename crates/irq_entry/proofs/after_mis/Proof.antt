@@ -1,0 +1,32 @@
+use Rattle.irq_points.specs.StandsLaws.{stops-at, stored-at}
+use Rattle.irq.specs.Tails.{afterMis}
+use mathlib.Core.Path.{refl}
+use borrow.Author.Needs.{needs}
+use Rattle.irq_entry.proofs.after_mis.Statement.{statement}
+use Rattle.irq_entry.proofs.after_mis.Tie as tie
+
+byte-requires : tie.Need-byte-requires
+byte-requires c κs = search needs
+
+sie-free-requires : tie.Need-sie-free-requires
+sie-free-requires c κs = search needs
+
+stand-st-requires : tie.Need-stand-st-requires
+stand-st-requires c κs = search needs
+
+returns : tie.Need-returns
+unfolding afterMis
+returns c =
+    let the-stand-st = c .stand-st in
+    let the-sie-free = c .before .before .sie-free in
+    let the-byte = c .before .before .before .byte in
+    (λ b. stops-at (the-stand-st .ensures) (refl) b (simp (the-sie-free .ensures, the-byte .ensures)), stored-at (the-stand-st .ensures))
+
+pub after-mis-spec : {M : Type 1} → statement M
+after-mis-spec =
+    tie.close
+    (tie.spec
+    byte-requires
+    sie-free-requires
+    stand-st-requires
+    returns)

@@ -1,0 +1,26 @@
+use Rattle.irq_points.specs.StandsLaws.{stops-at, stored-at}
+use Rattle.irq.specs.Tails.{afterSt}
+use mathlib.Core.Path.{refl}
+use borrow.Author.Needs.{needs}
+use Rattle.irq_entry.proofs.after_st.Statement.{statement}
+use Rattle.irq_entry.proofs.after_st.Tie as tie
+
+byte-requires : tie.Need-byte-requires
+byte-requires c κs = search needs
+
+stand-len-requires : tie.Need-stand-len-requires
+stand-len-requires c κs = search needs
+
+returns : tie.Need-returns
+unfolding afterSt
+returns c =
+    let the-stand-len = c .stand-len in
+    (λ b. stops-at (the-stand-len .ensures) (refl) b (simp (c .before .byte .ensures)), stored-at (the-stand-len .ensures))
+
+pub after-st-spec : {M : Type 1} → statement M
+after-st-spec =
+    tie.close
+    (tie.spec
+    byte-requires
+    stand-len-requires
+    returns)

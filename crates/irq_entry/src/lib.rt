@@ -1,0 +1,185 @@
+// The transfer is entered, released, settled (mod.rs 656-722). Every function is total: any number is safe.
+use irq_points::stands::stand_frame_no;
+use irq_points::stands::stand_len;
+use irq_points::stands::stand_nak;
+use irq_points::stands::stand_released;
+use irq_points::stands::stand_settle;
+use irq_points::stands::stand_st;
+use irq_transfer::nak;
+use irq_transfer::nak::Nak;
+use irq_transfer::nak::NakNext;
+use irq_transfer::settle;
+use irq_transfer::settle::Settle;
+use irq_transfer::settle::SettleNext;
+use irq_transfer::wait::byte;
+use irq_transfer::wait::short;
+use machine::Step;
+use model::Transfer;
+use model_ops::rings::is_on;
+use regs::Access;
+use regs::Dir;
+use regs::Reg;
+use regs::Token;
+use regs::flags::TRANSFER;
+use regs::mis_status;
+use regs::status;
+use state::EpState;
+use state::STATE_LEN;
+use state::load_ep;
+
+pub mod flags; // flags.rt: the microframe, the flags but the setup's
+
+ghost use mathlib.Core.Path.{_≡_};
+ghost use mathlib.Core.Bool.{true, false};
+ghost use mathlib.Core.List.{List};
+ghost use Prim.Native.Nat.{ℕ};
+ghost use Rattle.regs.specs.Registers.{fitsIn};
+ghost use Rattle.regs.specs.Status.{token};
+ghost use Rattle.state.specs.State.{view};
+ghost use Rattle.model.specs.Tree.{bindOut};
+ghost use Rattle.model.specs.Script.{run};
+ghost use Rattle.model.specs.Handler as script;
+ghost use Rattle.irq_transfer.specs.Nak as naks;
+ghost use Rattle.irq_transfer.specs.Settle as settles;
+ghost use Rattle.model_ops.specs.Conc.{conc};
+ghost use Rattle.model_ops.specs.Records.{plainOf};
+ghost use Rattle.irq.specs.Tails.{finish, naksFirst, enteredAs, afterNak, afterRelease, afterSettle};
+ghost use Rattle.irq.specs.Points.{denote};
+ghost use Rattle.irq.specs.declared.Point.the-variants as Point;
+ghost use Rattle.irq_points.specs.Stands.{Stops};
+ghost use Rattle.machine.specs.Under.{Stored};
+
+// `iso` (mod.rs 718-722).
+fn iso_for(st: u8, o: EpState, n: EpState) -> bool
+    ensures { λ r. ⌜ r ≡ script.isoFor (token st) (plainOf o) (plainOf n) ⌝ }
+{
+    let t = status::token(st);
+    match t {
+        Token::Out => is_on(o.iso),
+        Token::Sof => true,
+        Token::In => is_on(n.iso),
+        Token::Setup => true,
+    }
+}
+
+fn after_settle(s: &mut [u8; STATE_LEN], setup: bool, x: Transfer) -> Step
+    ensures { λ r. ⌜ ((b : List ℕ) → Stops r (now (s .exit)) b (finish setup (run conc (afterSettle x) (view (now (s .entry)), b)))) ⌝ }
+    ensures { λ r. ⌜ Stored r (now (s .exit)) ⌝ }
+{
+    let ep = status::endpoint(x.st);
+    let o = load_ep(s, Dir::Out, ep);
+    let n = load_ep(s, Dir::In, ep);
+    let iso = iso_for(x.st, o, n);
+    stand_frame_no(s, Access::Read(Reg::FrameNo, 0), setup, x, iso)
+}
+
+fn then_settle(s: &mut [u8; STATE_LEN], setup: bool, x: Transfer, n: SettleNext) -> Step
+    requires { ⌜ settles.Linked n ⌝ }
+    ensures { λ r. ⌜ ((b : List ℕ) → Stops r (now (s .exit)) b (finish setup (bindOut (settles.meaning x n (view (now (s .entry))) b) (λ y u. run conc (afterSettle y) u)))) ⌝ }
+    ensures { λ r. ⌜ Stored r (now (s .exit)) ⌝ }
+{
+    match n {
+        SettleNext::Asks(q, p) => stand_settle(s, q, setup, x, p),
+        SettleNext::Ends(y) => after_settle(s, setup, y),
+    }
+}
+
+pub fn after_settling(s: &mut [u8; STATE_LEN], setup: bool, x: Transfer, p: Settle, v: u32) -> Step
+    requires { ⌜ settles.fitsAt p v ≡ true ⌝ }
+    ensures { λ r. ⌜ ((b : List ℕ) → Stops r (now (s .exit)) b (denote (Point.Settle setup x p) v (view (now (s .entry)), b))) ⌝ }
+    ensures { λ r. ⌜ Stored r (now (s .exit)) ⌝ }
+{
+    let n = settle::resume(s, x, p, v);
+    then_settle(s, setup, x, n)
+}
+
+pub fn after_released(s: &mut [u8; STATE_LEN], setup: bool, x: Transfer) -> Step
+    ensures { λ r. ⌜ ((b : List ℕ) → Stops r (now (s .exit)) b (finish setup (run conc (afterRelease x) (view (now (s .entry)), b)))) ⌝ }
+    ensures { λ r. ⌜ Stored r (now (s .exit)) ⌝ }
+{
+    let n = settle::begin(s, x);
+    then_settle(s, setup, x, n)
+}
+
+// Released early: int_st and rx_len are read (mod.rs 666-667).
+fn release(s: &mut [u8; STATE_LEN], setup: bool, x: Transfer) -> Step
+    ensures { λ r. ⌜ ((b : List ℕ) → Stops r (now (s .exit)) b (finish setup (run conc (afterNak x) (view (now (s .entry)), b)))) ⌝ }
+    ensures { λ r. ⌜ Stored r (now (s .exit)) ⌝ }
+{
+    stand_released(s, Access::Write(Reg::IntFg, 0, TRANSFER), setup, x)
+}
+
+fn then_nak(s: &mut [u8; STATE_LEN], setup: bool, x: Transfer, n: NakNext) -> Step
+    requires { ⌜ naks.Linked n ⌝ }
+    ensures { λ r. ⌜ ((b : List ℕ) → Stops r (now (s .exit)) b (finish setup (bindOut (naks.meaning (x .st) n (view (now (s .entry))) b) (λ _ u. run conc (afterNak x) u)))) ⌝ }
+    ensures { λ r. ⌜ Stored r (now (s .exit)) ⌝ }
+{
+    match n {
+        NakNext::Asks(q, p) => stand_nak(s, q, setup, x, p),
+        NakNext::Ends => release(s, setup, x),
+    }
+}
+
+pub fn after_naking(s: &mut [u8; STATE_LEN], setup: bool, x: Transfer, p: Nak, v: u32) -> Step
+    requires { ⌜ naks.fitsAt p v ≡ true ⌝ }
+    ensures { λ r. ⌜ ((b : List ℕ) → Stops r (now (s .exit)) b (denote (Point.Nak setup x p) v (view (now (s .entry)), b))) ⌝ }
+    ensures { λ r. ⌜ Stored r (now (s .exit)) ⌝ }
+{
+    let n = nak::resume(x.st, p, v);
+    then_nak(s, setup, x, n)
+}
+
+// Is it NAKed before the release (mod.rs 663)?
+fn naks_first(busy: bool, st: u8) -> bool
+    ensures { λ r. ⌜ r ≡ naksFirst busy st ⌝ }
+{
+    if busy {
+        if status::is_sof(st) {
+            return false;
+        }
+        return status::endpoint(st) != 0;
+    }
+    true
+}
+
+fn entered(busy: bool, st: u8, len: u16) -> Transfer
+    ensures { λ r. ⌜ r ≡ enteredAs busy st len ⌝ }
+{
+    Transfer {
+        busy,
+        st,
+        len,
+        late: false,
+        len_ok: true,
+    }
+}
+
+pub fn after_len(s: &mut [u8; STATE_LEN], setup: bool, busy: bool, st: u8, v: u32) -> Step
+    requires { ⌜ fitsIn v 16 ≡ true ⌝ }
+    ensures { λ r. ⌜ ((b : List ℕ) → Stops r (now (s .exit)) b (denote (Point.Len setup busy st) v (view (now (s .entry)), b))) ⌝ }
+    ensures { λ r. ⌜ Stored r (now (s .exit)) ⌝ }
+{
+    let x = entered(busy, st, short(v));
+    if naks_first(busy, st) {
+        let n = nak::begin(s, st);
+        return then_nak(s, setup, x, n);
+    }
+    release(s, setup, x)
+}
+
+pub fn after_st(s: &mut [u8; STATE_LEN], setup: bool, busy: bool, v: u32) -> Step
+    requires { ⌜ fitsIn v 8 ≡ true ⌝ }
+    ensures { λ r. ⌜ ((b : List ℕ) → Stops r (now (s .exit)) b (denote (Point.St setup busy) v (view (now (s .entry)), b))) ⌝ }
+    ensures { λ r. ⌜ Stored r (now (s .exit)) ⌝ }
+{
+    stand_len(s, Access::Read(Reg::RxLen, 0), setup, busy, byte(v))
+}
+
+pub fn after_mis(s: &mut [u8; STATE_LEN], setup: bool, v: u32) -> Step
+    requires { ⌜ fitsIn v 8 ≡ true ⌝ }
+    ensures { λ r. ⌜ ((b : List ℕ) → Stops r (now (s .exit)) b (denote (Point.Mis setup) v (view (now (s .entry)), b))) ⌝ }
+    ensures { λ r. ⌜ Stored r (now (s .exit)) ⌝ }
+{
+    let busy = !mis_status::sie_free(byte(v));
+    stand_st(s, Access::Read(Reg::IntSt, 0), setup, busy)
+}

@@ -1,0 +1,40 @@
+use Rattle.irq_points.specs.StandsLaws.{then-on}
+use Rattle.irq.specs.Laws.{frame-read}
+use borrow.Author.Needs.{needs}
+use Rattle.irq_serve.proofs.framing.after_frame_no.Statement.{statement}
+use Rattle.irq_serve.proofs.framing.after_frame_no.Tie as tie
+
+short-requires : tie.Need-short-requires
+short-requires c κs = (c .before .pre)
+
+load-globals-requires : tie.Need-load-globals-requires
+load-globals-requires c κs = search needs
+
+framed-requires : tie.Need-framed-requires
+framed-requires c κs = search needs
+
+serve-requires : tie.Need-serve-requires
+serve-requires c κs = search needs
+
+same-length : tie.Need-same-length
+same-length c = search needs
+
+returns : tie.Need-returns
+returns c =
+    let the-serve = c .before .before .serve in
+    let a = c .before .before .before .before .before .before .before .before .before .before .args in
+    let the-framed = c .before .before .before .before .before .framed in
+    let the-load-globals = c .before .before .before .before .before .before .load-globals in
+    let the-short = c .before .before .before .before .before .before .before .before .short in
+    (then-on (the-serve .ensures .0) (frame-read (a .setup) (a .x) _ (a .iso) _ _ _ _ _ (the-framed .ensures) (the-load-globals .ensures) (the-short .ensures)), the-serve .ensures .1)
+
+pub after-frame-no-spec : {M : Type 1} → statement M
+after-frame-no-spec =
+    tie.close
+    (tie.spec
+    short-requires
+    load-globals-requires
+    framed-requires
+    serve-requires
+    same-length
+    returns)

@@ -1,0 +1,51 @@
+use Rattle.irq_points.specs.StandsLaws.{then-on}
+use Rattle.irq.specs.Laws.{when-no, when-yes}
+use Rattle.irq.specs.Tails.{afterDispatch, afterLate}
+use Rattle.model_ops.specs.Conc.{conc}
+use Rattle.regs.specs.Status.{token}
+use Rattle.model.specs.Script.{run}
+use mathlib.Core.Bool.{not, true}
+use mathlib.Core.Path.{ap}
+use Rattle.model.specs.Handler as script
+use borrow.Author.Needs.{needs}
+use Rattle.irq_serve.proofs.serving.after_late.Statement.{statement}
+use Rattle.irq_serve.proofs.serving.after_late.Tie as tie
+
+after-dispatch-requires : tie.Need-after-dispatch-requires
+after-dispatch-requires c κs = search needs
+
+same-length : tie.Need-same-length
+same-length c = search needs
+
+returns : tie.Need-returns
+unfolding afterLate
+returns c =
+    let the-after-dispatch = c .before .before .after-dispatch in
+    let a = c .before .before .before .before .before .before .before .args in
+    let the-if1 = c .before .before .before .before .before .if1 in
+    (then-on (the-after-dispatch .ensures .0) (when-no (a .setup) (script.dispatch {i = true} (token ((a .x) .st)) (a .x) (a .iso) (a .frame)) (λ _ u. run conc (afterDispatch (a .x) (a .iso)) u) _ _ (ap not (the-if1 .taken))), the-after-dispatch .ensures .1)
+
+dispatch-requires : tie.Need-dispatch-requires
+dispatch-requires c κs = search needs
+
+same-length-2 : tie.Need-same-length-2
+same-length-2 c = search needs
+
+returns-2 : tie.Need-returns-2
+unfolding afterLate
+returns-2 c =
+    let the-dispatch = c .before .before .dispatch in
+    let a = c .before .before .before .before .before .before .before .args in
+    let the-if1 = c .before .before .before .before .before .if1 in
+    (then-on (the-dispatch .ensures .0) (when-yes (a .setup) (script.dispatch {i = true} (token ((a .x) .st)) (a .x) (a .iso) (a .frame)) (λ _ u. run conc (afterDispatch (a .x) (a .iso)) u) _ _ (ap not (the-if1 .left))), the-dispatch .ensures .1)
+
+pub after-late-spec : {M : Type 1} → statement M
+after-late-spec =
+    tie.close
+    (tie.spec
+    after-dispatch-requires
+    same-length
+    returns
+    dispatch-requires
+    same-length-2
+    returns-2)

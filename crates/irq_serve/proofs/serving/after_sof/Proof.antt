@@ -1,0 +1,56 @@
+use Rattle.irq_points.specs.StandsLaws.{then-on}
+use Rattle.irq.specs.Laws.{after, when-no, when-yes}
+use Rattle.irq.specs.Tails.{afterLate, afterSof}
+use Rattle.iso_in.specs.Late.{lateAll}
+use Rattle.model_ops.specs.Conc.{conc}
+use Rattle.model.specs.Script.{run}
+use mathlib.Core.Path.{_∙_}
+use borrow.Author.Needs.{needs}
+use Rattle.irq_serve.proofs.serving.after_sof.Statement.{statement}
+use Rattle.irq_serve.proofs.serving.after_sof.Tie as tie
+
+begin-requires : tie.Need-begin-requires
+begin-requires c κs = search needs
+
+then-late-requires : tie.Need-then-late-requires
+then-late-requires c κs =
+    let the-begin = c .before .before .begin in
+    the-begin .ensures .1 .1
+
+same-length : tie.Need-same-length
+same-length c = search needs
+
+returns : tie.Need-returns
+unfolding afterSof
+returns c =
+    let the-then-late = c .before .before .then-late in
+    let a = c .before .before .before .before .before .before .before .before .before .args in
+    let the-begin = c .before .before .before .before .before .begin in
+    let the-if1 = c .before .before .before .before .before .before .before .if1 in
+    (then-on (the-then-late .ensures .0) (after (a .setup) (λ _ u. run conc (afterLate (a .x) (a .iso) (a .frame)) u) _ _ (the-begin .ensures .0 _) ∙ when-yes (a .setup) (lateAll (a .frame)) (λ _ u. run conc (afterLate (a .x) (a .iso) (a .frame)) u) _ _ (the-if1 .taken)), the-then-late .ensures .1)
+
+after-late-requires : tie.Need-after-late-requires
+after-late-requires c κs = search needs
+
+same-length-2 : tie.Need-same-length-2
+same-length-2 c = search needs
+
+returns-2 : tie.Need-returns-2
+unfolding afterSof
+returns-2 c =
+    let the-after-late = c .before .before .after-late in
+    let a = c .before .before .before .before .before .before .before .args in
+    let the-if1 = c .before .before .before .before .before .if1 in
+    (then-on (the-after-late .ensures .0) (when-no (a .setup) (lateAll (a .frame)) (λ _ u. run conc (afterLate (a .x) (a .iso) (a .frame)) u) _ _ (the-if1 .left)), the-after-late .ensures .1)
+
+pub after-sof-spec : {M : Type 1} → statement M
+after-sof-spec =
+    tie.close
+    (tie.spec
+    begin-requires
+    then-late-requires
+    same-length
+    returns
+    after-late-requires
+    same-length-2
+    returns-2)

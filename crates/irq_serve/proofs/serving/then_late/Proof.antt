@@ -1,0 +1,49 @@
+use Rattle.irq_points.specs.StandsLaws.{stops-at, stored-at, then-on}
+use Rattle.irq.specs.Laws.{late-asks, late-ends, late-linked}
+use Rattle.irq.specs.Tails.{afterLate}
+use Rattle.model_ops.specs.Conc.{conc}
+use Rattle.model.specs.Script.{run}
+use borrow.Author.Needs.{needs}
+use Rattle.irq_serve.proofs.serving.then_late.Statement.{statement}
+use Rattle.irq_serve.proofs.serving.then_late.Tie as tie
+
+enum-known-n : tie.Need-enum-known-n
+enum-known-n c = search needs
+
+stand-late-requires : tie.Need-stand-late-requires
+stand-late-requires c κs = search needs
+
+enum-told : tie.Need-enum-told
+enum-told c = search needs
+
+after-late-requires : tie.Need-after-late-requires
+after-late-requires c κs = search needs
+
+returns : tie.Need-returns
+returns c =
+    let the-stand-late = c .stand-late in
+    let the-n = c .before .before .before .n in
+    let a = c .before .before .before .before .before .before .args in
+    (stops-at (the-stand-late .ensures) (late-linked _ _ _ (the-n .given .1) ((c .before .before .before .before .before .before .pre))) _ (late-asks (a .setup) (λ _ u. run conc (afterLate (a .x) (a .iso) (a .frame)) u) _ _ _ (a .frame) _ _ (the-n .given .1)), stored-at (the-stand-late .ensures))
+
+same-length : tie.Need-same-length
+same-length c = search needs
+
+returns-2 : tie.Need-returns-2
+returns-2 c =
+    let the-after-late = c .before .before .after-late in
+    let a = c .before .before .before .before .before .before .before .before .args in
+    let the-enum-told = c .before .before .before .before .before .enum-told in
+    (then-on (the-after-late .ensures .0) (late-ends (a .setup) (λ _ u. run conc (afterLate (a .x) (a .iso) (a .frame)) u) _ _ (a .frame) _ (the-enum-told .given .1)), the-after-late .ensures .1)
+
+pub then-late-spec : {M : Type 1} → statement M
+then-late-spec =
+    tie.close
+    (tie.spec
+    enum-known-n
+    stand-late-requires
+    enum-told
+    after-late-requires
+    returns
+    same-length
+    returns-2)

@@ -1,0 +1,49 @@
+use Rattle.irq_points.specs.StandsLaws.{stops-at, stored-at, then-on}
+use Rattle.irq.specs.Laws.{sof-asks, sof-ends, sof-linked}
+use Rattle.irq.specs.Tails.{afterSof}
+use Rattle.model_ops.specs.Conc.{conc}
+use Rattle.model.specs.Script.{run}
+use borrow.Author.Needs.{needs}
+use Rattle.irq_serve.proofs.serving.then_sof.Statement.{statement}
+use Rattle.irq_serve.proofs.serving.then_sof.Tie as tie
+
+enum-known-n : tie.Need-enum-known-n
+enum-known-n c = search needs
+
+stand-sof-requires : tie.Need-stand-sof-requires
+stand-sof-requires c κs = search needs
+
+enum-told : tie.Need-enum-told
+enum-told c = search needs
+
+after-sof-requires : tie.Need-after-sof-requires
+after-sof-requires c κs = search needs
+
+returns : tie.Need-returns
+returns c =
+    let the-stand-sof = c .stand-sof in
+    let the-n = c .before .before .before .n in
+    let a = c .before .before .before .before .before .before .args in
+    (stops-at (the-stand-sof .ensures) (sof-linked _ _ _ (the-n .given .1) ((c .before .before .before .before .before .before .pre))) _ (sof-asks (a .setup) (λ _ u. run conc (afterSof (a .x) (a .iso) (a .frame)) u) _ _ _ (a .frame) _ _ (the-n .given .1)), stored-at (the-stand-sof .ensures))
+
+same-length : tie.Need-same-length
+same-length c = search needs
+
+returns-2 : tie.Need-returns-2
+returns-2 c =
+    let the-after-sof = c .before .before .after-sof in
+    let a = c .before .before .before .before .before .before .before .before .args in
+    let the-enum-told = c .before .before .before .before .before .enum-told in
+    (then-on (the-after-sof .ensures .0) (sof-ends (a .setup) (λ _ u. run conc (afterSof (a .x) (a .iso) (a .frame)) u) _ _ (a .frame) _ (the-enum-told .given .1)), the-after-sof .ensures .1)
+
+pub then-sof-spec : {M : Type 1} → statement M
+then-sof-spec =
+    tie.close
+    (tie.spec
+    enum-known-n
+    stand-sof-requires
+    enum-told
+    after-sof-requires
+    returns
+    same-length
+    returns-2)

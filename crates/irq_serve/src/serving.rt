@@ -1,0 +1,168 @@
+// The microframe's SOF, then a late entry's completions (mod.rs 729-747).
+use irq_check::after_dispatch;
+use irq_points::stands::stand_late;
+use irq_points::stands::stand_sof;
+use irq_tokens::dispatch;
+use iso_in::late;
+use iso_in::late::Late;
+use iso_in::late::LateNext;
+use iso_in::sof;
+use iso_in::sof::Sof;
+use iso_in::sof::SofNext;
+use machine::Step;
+use model::Transfer;
+use regs::status;
+use state::STATE_LEN;
+use state::load_globals;
+ghost use mathlib.Core.Path.{_≡_};
+ghost use mathlib.Core.Bool.{true, false};
+ghost use Prim.Native.Nat.{ℕ};
+ghost use Rattle.state.specs.State.{view};
+ghost use Rattle.model.specs.Tree.{bindOut};
+ghost use Rattle.model.specs.Script.{run};
+ghost use Rattle.iso_in.specs.Sof as sofs;
+ghost use Rattle.iso_in.specs.Late as lates;
+ghost use Rattle.model_ops.specs.Conc.{conc};
+ghost use Rattle.irq.specs.Tails.{finish, sofDue, afterLate, afterSof, serving};
+ghost use Rattle.irq.specs.Points.{denote};
+ghost use Rattle.irq.specs.declared.Point.the-variants as Point;
+ghost use Rattle.irq_points.specs.Stands.{Stops};
+ghost use Rattle.machine.specs.Under.{Stored};
+
+// A transaction that is still on the bus is left to its own entry (mod.rs 748).
+fn after_late(
+    s: &mut [u8; STATE_LEN],
+    buf: &mut [u8],
+    setup: bool,
+    x: Transfer,
+    iso: bool,
+    frame: u16,
+) -> Step
+    ensures { λ r. ⌜ Stops r (now (s .exit)) (now (buf .exit)) (finish setup (run conc (afterLate x iso frame) (view (now (s .entry)), now (buf .entry)))) ⌝ }
+    ensures { λ r. ⌜ Stored r (now (s .exit)) ⌝ }
+{
+    if x.busy {
+        return after_dispatch(s, buf, setup, x, iso);
+    }
+    dispatch(s, buf, setup, x, iso, frame)
+}
+
+fn then_late(
+    s: &mut [u8; STATE_LEN],
+    buf: &mut [u8],
+    setup: bool,
+    x: Transfer,
+    iso: bool,
+    frame: u16,
+    n: LateNext,
+) -> Step
+    requires { ⌜ lates.Linked n ⌝ }
+    ensures { λ r. ⌜ Stops r (now (s .exit)) (now (buf .exit)) (finish setup (bindOut (lates.meaning frame n (view (now (s .entry))) (now (buf .entry))) (λ _ u. run conc (afterLate x iso frame) u))) ⌝ }
+    ensures { λ r. ⌜ Stored r (now (s .exit)) ⌝ }
+{
+    match n {
+        LateNext::Asks(q, p) => stand_late(s, q, setup, x, iso, frame, p),
+        LateNext::Ends => after_late(s, buf, setup, x, iso, frame),
+    }
+}
+
+pub fn after_completions(
+    s: &mut [u8; STATE_LEN],
+    buf: &mut [u8],
+    setup: bool,
+    x: Transfer,
+    iso: bool,
+    frame: u16,
+    p: Late,
+) -> Step
+    ensures { λ r. ⌜ ((v : ℕ) → Stops r (now (s .exit)) (now (buf .exit)) (denote (Point.Late setup x iso frame p) v (view (now (s .entry)), now (buf .entry)))) ⌝ }
+    ensures { λ r. ⌜ Stored r (now (s .exit)) ⌝ }
+{
+    let n = late::resume(s, frame, p);
+    then_late(s, buf, setup, x, iso, frame, n)
+}
+
+// What raised a late entry completed before the OUT (mod.rs 735-747).
+fn after_sof(
+    s: &mut [u8; STATE_LEN],
+    buf: &mut [u8],
+    setup: bool,
+    x: Transfer,
+    iso: bool,
+    frame: u16,
+) -> Step
+    ensures { λ r. ⌜ Stops r (now (s .exit)) (now (buf .exit)) (finish setup (run conc (afterSof x iso frame) (view (now (s .entry)), now (buf .entry)))) ⌝ }
+    ensures { λ r. ⌜ Stored r (now (s .exit)) ⌝ }
+{
+    if x.late {
+        let n = late::begin(s, frame);
+        return then_late(s, buf, setup, x, iso, frame, n);
+    }
+    after_late(s, buf, setup, x, iso, frame)
+}
+
+fn then_sof(
+    s: &mut [u8; STATE_LEN],
+    buf: &mut [u8],
+    setup: bool,
+    x: Transfer,
+    iso: bool,
+    frame: u16,
+    n: SofNext,
+) -> Step
+    requires { ⌜ sofs.Linked n ⌝ }
+    ensures { λ r. ⌜ Stops r (now (s .exit)) (now (buf .exit)) (finish setup (bindOut (sofs.meaning frame n (view (now (s .entry))) (now (buf .entry))) (λ _ u. run conc (afterSof x iso frame) u))) ⌝ }
+    ensures { λ r. ⌜ Stored r (now (s .exit)) ⌝ }
+{
+    match n {
+        SofNext::Asks(q, p) => stand_sof(s, q, setup, x, iso, frame, p),
+        SofNext::Ends => after_sof(s, buf, setup, x, iso, frame),
+    }
+}
+
+pub fn after_on_sof(
+    s: &mut [u8; STATE_LEN],
+    buf: &mut [u8],
+    setup: bool,
+    x: Transfer,
+    iso: bool,
+    frame: u16,
+    p: Sof,
+    v: u32,
+) -> Step
+    requires { ⌜ sofs.fitsAt p v ≡ true ⌝ }
+    ensures { λ r. ⌜ Stops r (now (s .exit)) (now (buf .exit)) (denote (Point.Sof setup x iso frame p) v (view (now (s .entry)), now (buf .entry))) ⌝ }
+    ensures { λ r. ⌜ Stored r (now (s .exit)) ⌝ }
+{
+    let n = sof::resume(s, frame, p, v);
+    then_sof(s, buf, setup, x, iso, frame, n)
+}
+
+fn sof_due(x: Transfer, sof: u16, frame: u16) -> bool
+    ensures { λ r. ⌜ r ≡ sofDue x sof frame ⌝ }
+{
+    if status::is_sof(x.st) {
+        return false;
+    }
+    sof != frame
+}
+
+// The flag is one bit: a late entry also stands for the SOF (mod.rs 729-733).
+pub fn serve(
+    s: &mut [u8; STATE_LEN],
+    buf: &mut [u8],
+    setup: bool,
+    x: Transfer,
+    iso: bool,
+    frame: u16,
+) -> Step
+    ensures { λ r. ⌜ Stops r (now (s .exit)) (now (buf .exit)) (finish setup (run conc (serving x iso frame) (view (now (s .entry)), now (buf .entry)))) ⌝ }
+    ensures { λ r. ⌜ Stored r (now (s .exit)) ⌝ }
+{
+    let g = load_globals(s);
+    if sof_due(x, g.sof_frame, frame) {
+        let n = sof::begin(s, frame);
+        return then_sof(s, buf, setup, x, iso, frame, n);
+    }
+    after_sof(s, buf, setup, x, iso, frame)
+}

@@ -1,0 +1,38 @@
+use Rattle.irq_points.specs.StandsLaws.{stops-at, stored-at}
+use mathlib.Core.Path.{refl}
+use borrow.Author.Needs.{needs}
+use Rattle.irq_tokens.proofs.after_flip.Statement.{statement}
+use Rattle.irq_tokens.proofs.after_flip.Tie as tie
+
+byte-requires : tie.Need-byte-requires
+byte-requires c κs = search needs
+
+flip-requires : tie.Need-flip-requires
+flip-requires c κs = search needs
+
+ctrl-of-requires : tie.Need-ctrl-of-requires
+ctrl-of-requires c κs = search needs
+
+cast-t11 : tie.Need-cast-t11
+cast-t11 c = search needs
+
+stand-flipped-requires : tie.Need-stand-flipped-requires
+stand-flipped-requires c κs = search needs
+
+returns : tie.Need-returns
+returns c =
+    let the-stand-flipped = c .stand-flipped in
+    let the-flip = c .before .before .before .flip in
+    let the-byte = c .before .before .before .before .byte in
+    (λ b. stops-at (the-stand-flipped .ensures) (refl) b (simp (c .before .ctrl-of .ensures, the-flip .ensures, the-byte .ensures)), stored-at (the-stand-flipped .ensures))
+
+pub after-flip-spec : {M : Type 1} → statement M
+after-flip-spec =
+    tie.close
+    (tie.spec
+    byte-requires
+    flip-requires
+    ctrl-of-requires
+    cast-t11
+    stand-flipped-requires
+    returns)

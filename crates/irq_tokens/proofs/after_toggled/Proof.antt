@@ -1,0 +1,41 @@
+use Rattle.irq_points.specs.StandsLaws.{then-on}
+use Rattle.irq.specs.Laws.{toggled-on}
+use Rattle.irq.specs.Tails.{afterDispatch, afterToggled}
+use Rattle.model_ops.specs.Conc.{conc}
+use Rattle.model.specs.Script.{run}
+use Rattle.state.specs.State.{view}
+use borrow.Author.Needs.{needs}
+use Rattle.irq_tokens.proofs.after_toggled.Statement.{statement}
+use Rattle.irq_tokens.proofs.after_toggled.Tie as tie
+
+endpoint-requires : tie.Need-endpoint-requires
+endpoint-requires c κs = search needs
+
+resume-requires : tie.Need-resume-requires
+resume-requires c κs = (c .before .before .before .pre)
+
+then-toggled-requires : tie.Need-then-toggled-requires
+then-toggled-requires c κs =
+    let the-resume = c .before .before .resume in
+    the-resume .ensures .1 .1
+
+same-length : tie.Need-same-length
+same-length c = search needs
+
+returns : tie.Need-returns
+returns c =
+    let the-then-toggled = c .before .before .then-toggled in
+    let a = c .before .before .before .before .before .before .before .before .before .args in
+    let the-resume = c .before .before .before .before .before .resume in
+    let the-endpoint = c .before .before .before .before .before .before .endpoint in
+    (then-on (the-then-toggled .ensures .0) (toggled-on (a .setup) (λ _ u. run conc (afterDispatch (a .x) (a .iso)) u) (λ z u. run conc (afterToggled (a .d) (a .x) z) u) (a .d) _ _ (the-resume .result) _ _ (the-endpoint .ensures) (a .p) (a .v) (view (a .s .now), a .buf .now) (the-resume .ensures .0 _)), the-then-toggled .ensures .1)
+
+pub after-toggled-spec : {M : Type 1} → statement M
+after-toggled-spec =
+    tie.close
+    (tie.spec
+    endpoint-requires
+    resume-requires
+    then-toggled-requires
+    same-length
+    returns)

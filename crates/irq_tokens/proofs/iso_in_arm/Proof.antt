@@ -1,0 +1,99 @@
+use Rattle.irq_points.specs.StandsLaws.{then-on}
+use Rattle.irq.specs.Laws.{after, in-frame, paced-told, tells, test-yes}
+use Rattle.irq.specs.Tails.{afterDispatch, thenCheck}
+use Rattle.model_ops.specs.Conc.{conc}
+use Rattle.model.specs.Script.{run}
+use mathlib.Core.Bool.{false, true}
+use mathlib.Core.Path.{_∙_}
+use borrow.Author.Needs.{needs}
+use Rattle.irq_tokens.proofs.iso_in_arm.Statement.{statement}
+use Rattle.irq_tokens.proofs.iso_in_arm.Tie as tie
+
+endpoint-requires : tie.Need-endpoint-requires
+endpoint-requires c κs = search needs
+
+load-globals-requires : tie.Need-load-globals-requires
+load-globals-requires c κs = search needs
+
+mask-has-requires : tie.Need-mask-has-requires
+mask-has-requires c κs = search needs
+
+after-dispatch-requires : tie.Need-after-dispatch-requires
+after-dispatch-requires c κs = search needs
+
+same-length : tie.Need-same-length
+same-length c = search needs
+
+returns : tie.Need-returns
+returns c =
+    let the-after-dispatch = c .before .before .after-dispatch in
+    let a = c .before .before .before .before .before .before .before .before .before .before .before .args in
+    let the-mask-has = c .before .before .before .before .before .before .mask-has in
+    let the-load-globals = c .before .before .before .before .before .before .before .load-globals in
+    let the-endpoint = c .before .before .before .before .before .before .before .before .before .endpoint in
+    let the-if1 = c .before .before .before .before .before .if1 in
+    (then-on (the-after-dispatch .ensures .0) (test-yes (thenCheck (a .setup) (a .x) (a .iso)) _ _ _ (paced-told _ _ _ _ _ _ (the-mask-has .ensures) (the-load-globals .ensures) (the-endpoint .ensures) (the-if1 .taken))), the-after-dispatch .ensures .1)
+
+first-in-frame-requires : tie.Need-first-in-frame-requires
+first-in-frame-requires c κs = search needs
+
+begin-requires : tie.Need-begin-requires
+begin-requires c κs = search needs
+
+then-complete-requires : tie.Need-then-complete-requires
+then-complete-requires c κs =
+    let the-begin = c .before .before .begin in
+    the-begin .ensures .1 .1
+
+same-length-2 : tie.Need-same-length-2
+same-length-2 c = search needs
+
+returns-2 : tie.Need-returns-2
+returns-2 c =
+    let the-then-complete = c .before .before .then-complete in
+    let a = c .before .before .before .before .before .before .before .before .before .before .before .before .before .before .before .before .args in
+    let the-begin = c .before .before .before .before .before .begin in
+    let the-endpoint = c .before .before .before .before .before .before .before .before .before .before .before .before .before .before .endpoint in
+    let the-first-in-frame = c .before .before .before .before .before .before .before .before .first-in-frame in
+    let the-if2 = c .before .before .before .before .before .before .before .if2 in
+    let the-mask-has = c .before .before .before .before .before .before .before .before .before .before .before .mask-has in
+    let the-load-globals = c .before .before .before .before .before .before .before .before .before .before .before .before .load-globals in
+    let the-if1 = c .before .before .before .before .before .before .before .before .before .before .if1 in
+    (then-on (the-then-complete .ensures .0) (after (a .setup) (λ _ u. run conc (afterDispatch (a .x) (a .iso)) u) _ _ (the-begin .ensures .0 _) ∙ in-frame (thenCheck (a .setup) (a .x) (a .iso)) _ _ _ _ _ ((a .x) .st) true (the-endpoint .ensures) (the-first-in-frame .ensures .1 .0) (tells _ _ _ (the-first-in-frame .ensures .0) (the-if2 .taken)) (paced-told _ _ _ _ _ _ (the-mask-has .ensures) (the-load-globals .ensures) (the-endpoint .ensures) (the-if1 .left))), the-then-complete .ensures .1)
+
+after-dispatch-requires-2 : tie.Need-after-dispatch-requires-2
+after-dispatch-requires-2 c κs = search needs
+
+same-length-3 : tie.Need-same-length-3
+same-length-3 c = search needs
+
+returns-3 : tie.Need-returns-3
+returns-3 c =
+    let the-after-dispatch2 = c .before .before .after-dispatch2 in
+    let a = c .before .before .before .before .before .before .before .before .before .before .before .before .before .before .args in
+    let the-endpoint = c .before .before .before .before .before .before .before .before .before .before .before .before .endpoint in
+    let the-first-in-frame = c .before .before .before .before .before .before .first-in-frame in
+    let the-if2 = c .before .before .before .before .before .if2 in
+    let the-mask-has = c .before .before .before .before .before .before .before .before .before .mask-has in
+    let the-load-globals = c .before .before .before .before .before .before .before .before .before .before .load-globals in
+    let the-if1 = c .before .before .before .before .before .before .before .before .if1 in
+    (then-on (the-after-dispatch2 .ensures .0) (in-frame (thenCheck (a .setup) (a .x) (a .iso)) _ _ _ _ _ ((a .x) .st) false (the-endpoint .ensures) (the-first-in-frame .ensures .1 .0) (tells _ _ _ (the-first-in-frame .ensures .0) (the-if2 .left)) (paced-told _ _ _ _ _ _ (the-mask-has .ensures) (the-load-globals .ensures) (the-endpoint .ensures) (the-if1 .left))), the-after-dispatch2 .ensures .1)
+
+pub iso-in-arm-spec : {M : Type 1} → statement M
+iso-in-arm-spec =
+    tie.close
+    (tie.spec
+    endpoint-requires
+    load-globals-requires
+    mask-has-requires
+    after-dispatch-requires
+    same-length
+    returns
+    first-in-frame-requires
+    begin-requires
+    then-complete-requires
+    same-length-2
+    returns-2
+    after-dispatch-requires-2
+    same-length-3
+    returns-3)

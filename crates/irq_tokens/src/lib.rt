@@ -1,0 +1,371 @@
+// What a token completes (mod.rs 748-790), one access at a time. Every function is total: any number is safe.
+use bits::mask_has;
+use irq_check::after_dispatch;
+use irq_points::stands::stand_completing;
+use irq_points::stands::stand_flip;
+use irq_points::stands::stand_flipped;
+use irq_points::stands::stand_sof_arm;
+use irq_points::stands::stand_toggled;
+use irq_transfer::toggled;
+use irq_transfer::toggled::Toggled;
+use irq_transfer::toggled::ToggledNext;
+use irq_transfer::wait::byte;
+use iso_in::complete;
+use iso_in::complete::Complete;
+use iso_in::complete::CompleteNext;
+use iso_in::first_in_frame;
+use iso_in::sof;
+use iso_in::sof::Sof;
+use iso_in::sof::SofNext;
+use machine::Step;
+use model::Transfer;
+use model_ops::records::wake;
+use regs::Access;
+use regs::Dir;
+use regs::Reg;
+use regs::Token;
+use regs::control_word;
+use regs::registers::ctrl_of;
+use regs::status;
+use state::STATE_LEN;
+use state::load_ep;
+use state::load_globals;
+use state::store_ep;
+ghost use mathlib.Core.Path.{_≡_};
+ghost use mathlib.Core.Bool.{true};
+ghost use mathlib.Core.List.{List};
+ghost use Prim.Native.Nat.{ℕ};
+ghost use Rattle.regs.specs.Registers.{fitsIn};
+ghost use Rattle.regs.specs.Status.{endpoint, token};
+ghost use Rattle.state.specs.State.{view, saved};
+ghost use Rattle.model.specs.Tree.{ends, bindOut};
+ghost use Rattle.model.specs.Script.{run};
+ghost use Rattle.model.specs.Handler as script;
+ghost use Rattle.irq_transfer.specs.Toggled as toggles;
+ghost use Rattle.iso_in.specs.Complete as completes;
+ghost use Rattle.iso_in.specs.Sof as sofs;
+ghost use Rattle.model_ops.specs.Conc.{conc, go};
+ghost use Rattle.irq.specs.Tails.{thenCheck, flipDone, passed, afterToggled};
+ghost use Rattle.irq.specs.Points.{denote};
+ghost use Rattle.irq.specs.declared.Point.the-variants as Point;
+ghost use Rattle.irq_points.specs.Stands.{Stops};
+ghost use Rattle.machine.specs.Under.{Stored};
+
+// A packet arrived (mod.rs 767-770).
+fn received(s: &mut [u8; STATE_LEN], ep: u8, len: u16)
+    ensures { λ _. ⌜ ((b : List ℕ) → ends tt (view (now (s .exit)), b) ≡ go {i = true} (script.received ep len) (view (now (s .entry))) b) ⌝ }
+    ensures { λ _. ⌜ saved (now (s .exit)) ≡ saved (now (s .entry)) ⌝ }
+{
+    let mut r = load_ep(s, Dir::Out, ep);
+    r.len = len;
+    r.armed = 0;
+    r.ready = 1;
+    store_ep(s, Dir::Out, ep, r);
+    wake(s, Dir::Out, ep);
+}
+
+// A packet went out (mod.rs 786-787).
+fn sent(s: &mut [u8; STATE_LEN], ep: u8)
+    ensures { λ _. ⌜ ((b : List ℕ) → ends tt (view (now (s .exit)), b) ≡ go {i = true} (script.sent ep) (view (now (s .entry))) b) ⌝ }
+    ensures { λ _. ⌜ saved (now (s .exit)) ≡ saved (now (s .entry)) ⌝ }
+{
+    let mut r = load_ep(s, Dir::In, ep);
+    r.ready = 1;
+    store_ep(s, Dir::In, ep, r);
+    wake(s, Dir::In, ep);
+}
+
+fn passed(s: &mut [u8; STATE_LEN], d: Dir, ep: u8, len: u16)
+    ensures { λ _. ⌜ ((b : List ℕ) → ends tt (view (now (s .exit)), b) ≡ go (passed d ep len) (view (now (s .entry))) b) ⌝ }
+    ensures { λ _. ⌜ saved (now (s .exit)) ≡ saved (now (s .entry)) ⌝ }
+{
+    match d {
+        Dir::Out => received(s, ep, len),
+        Dir::In => sent(s, ep),
+    }
+}
+
+fn flip_done(s: &mut [u8; STATE_LEN], d: Dir, len: u16)
+    ensures { λ _. ⌜ ((b : List ℕ) → ends tt (view (now (s .exit)), b) ≡ go (flipDone d len) (view (now (s .entry))) b) ⌝ }
+    ensures { λ _. ⌜ saved (now (s .exit)) ≡ saved (now (s .entry)) ⌝ }
+{
+    match d {
+        Dir::Out => received(s, 0, len),
+        Dir::In => {
+            let mut r = load_ep(s, Dir::In, 0);
+            r.armed = 0;
+            store_ep(s, Dir::In, 0, r);
+            sent(s, 0);
+        }
+    }
+}
+
+pub fn after_flipped(
+    s: &mut [u8; STATE_LEN],
+    buf: &mut [u8],
+    d: Dir,
+    setup: bool,
+    x: Transfer,
+    iso: bool,
+) -> Step
+    ensures { λ r. ⌜ ((v : ℕ) → Stops r (now (s .exit)) (now (buf .exit)) (denote (Point.Flipped d setup x iso) v (view (now (s .entry)), now (buf .entry)))) ⌝ }
+    ensures { λ r. ⌜ Stored r (now (s .exit)) ⌝ }
+{
+    flip_done(s, d, x.len);
+    after_dispatch(s, buf, setup, x, iso)
+}
+
+pub fn after_flip(
+    s: &mut [u8; STATE_LEN],
+    d: Dir,
+    setup: bool,
+    x: Transfer,
+    iso: bool,
+    v: u32,
+) -> Step
+    requires { ⌜ fitsIn v 8 ≡ true ⌝ }
+    ensures { λ r. ⌜ ((b : List ℕ) → Stops r (now (s .exit)) b (denote (Point.Flip d setup x iso) v (view (now (s .entry)), b))) ⌝ }
+    ensures { λ r. ⌜ Stored r (now (s .exit)) ⌝ }
+{
+    let word = control_word::flip(byte(v));
+    stand_flipped(
+        s,
+        Access::Write(ctrl_of(d), 0, word as u32),
+        d,
+        setup,
+        x,
+        iso,
+    )
+}
+
+// Where `toggled` stops, or what follows it: no new packet, and the endpoint stays as it is.
+fn then_toggled(
+    s: &mut [u8; STATE_LEN],
+    buf: &mut [u8],
+    d: Dir,
+    setup: bool,
+    x: Transfer,
+    iso: bool,
+    n: ToggledNext,
+) -> Step
+    requires { ⌜ toggles.Linked n ⌝ }
+    ensures { λ r. ⌜ Stops r (now (s .exit)) (now (buf .exit)) (thenCheck setup x iso (bindOut (toggles.meaning d (endpoint (x .st)) n (view (now (s .entry))) (now (buf .entry))) (λ b u. run conc (afterToggled d x b) u))) ⌝ }
+    ensures { λ r. ⌜ Stored r (now (s .exit)) ⌝ }
+{
+    match n {
+        ToggledNext::Asks(q, p) => stand_toggled(s, q, d, setup, x, iso, p),
+        ToggledNext::Ends(b) => {
+            if b {
+                passed(s, d, status::endpoint(x.st), x.len);
+                return after_dispatch(s, buf, setup, x, iso);
+            }
+            after_dispatch(s, buf, setup, x, iso)
+        }
+    }
+}
+
+pub fn after_toggled(
+    s: &mut [u8; STATE_LEN],
+    buf: &mut [u8],
+    d: Dir,
+    setup: bool,
+    x: Transfer,
+    iso: bool,
+    p: Toggled,
+    v: u32,
+) -> Step
+    requires { ⌜ toggles.fitsAt p v ≡ true ⌝ }
+    ensures { λ r. ⌜ Stops r (now (s .exit)) (now (buf .exit)) (denote (Point.Toggled d setup x iso p) v (view (now (s .entry)), now (buf .entry))) ⌝ }
+    ensures { λ r. ⌜ Stored r (now (s .exit)) ⌝ }
+{
+    let n = toggled::resume(s, d, status::endpoint(x.st), p, v);
+    then_toggled(s, buf, d, setup, x, iso, n)
+}
+
+// Bulk and interrupt (mod.rs 759, 778).
+fn toggled_arm(
+    s: &mut [u8; STATE_LEN],
+    buf: &mut [u8],
+    d: Dir,
+    setup: bool,
+    x: Transfer,
+    iso: bool,
+) -> Step
+    ensures { λ r. ⌜ Stops r (now (s .exit)) (now (buf .exit)) (thenCheck setup x iso (bindOut (run conc (script.toggled {i = true} d (endpoint (x .st))) (view (now (s .entry)), now (buf .entry))) (λ b u. run conc (afterToggled d x b) u))) ⌝ }
+    ensures { λ r. ⌜ Stored r (now (s .exit)) ⌝ }
+{
+    let n = toggled::begin(d, status::endpoint(x.st));
+    then_toggled(s, buf, d, setup, x, iso, n)
+}
+
+// The arms of OUT (mod.rs 755-771).
+fn out_arm(s: &mut [u8; STATE_LEN], buf: &mut [u8], setup: bool, x: Transfer, iso: bool) -> Step
+    ensures { λ r. ⌜ Stops r (now (s .exit)) (now (buf .exit)) (thenCheck setup x iso (run conc (script.outArm {i = true} x iso) (view (now (s .entry)), now (buf .entry)))) ⌝ }
+    ensures { λ r. ⌜ Stored r (now (s .exit)) ⌝ }
+{
+    if iso {
+        return after_dispatch(s, buf, setup, x, iso);
+    }
+    if status::endpoint(x.st) == 0 {
+        if status::tog_ok(x.st) {
+            return stand_flip(s, Access::Read(Reg::EpRxCtrl, 0), Dir::Out, setup, x, iso);
+        }
+        return after_dispatch(s, buf, setup, x, iso);
+    }
+    toggled_arm(s, buf, Dir::Out, setup, x, iso)
+}
+
+fn then_complete(
+    s: &mut [u8; STATE_LEN],
+    buf: &mut [u8],
+    setup: bool,
+    x: Transfer,
+    iso: bool,
+    n: CompleteNext,
+) -> Step
+    requires { ⌜ completes.Linked n ⌝ }
+    ensures { λ r. ⌜ Stops r (now (s .exit)) (now (buf .exit)) (thenCheck setup x iso (completes.meaning n (view (now (s .entry))) (now (buf .entry)))) ⌝ }
+    ensures { λ r. ⌜ Stored r (now (s .exit)) ⌝ }
+{
+    match n {
+        CompleteNext::Asks(q, p) => stand_completing(s, q, setup, x, iso, p),
+        CompleteNext::Ends => after_dispatch(s, buf, setup, x, iso),
+    }
+}
+
+pub fn after_completing(
+    s: &mut [u8; STATE_LEN],
+    buf: &mut [u8],
+    setup: bool,
+    x: Transfer,
+    iso: bool,
+    p: Complete,
+) -> Step
+    ensures { λ r. ⌜ ((v : ℕ) → Stops r (now (s .exit)) (now (buf .exit)) (denote (Point.Completing setup x iso p) v (view (now (s .entry)), now (buf .entry)))) ⌝ }
+    ensures { λ r. ⌜ Stored r (now (s .exit)) ⌝ }
+{
+    let n = complete::resume(s, p);
+    then_complete(s, buf, setup, x, iso, n)
+}
+
+// One isochronous IN per microframe, where it is not paced (mod.rs 772-777).
+fn iso_in_arm(
+    s: &mut [u8; STATE_LEN],
+    buf: &mut [u8],
+    setup: bool,
+    x: Transfer,
+    iso: bool,
+    frame: u16,
+) -> Step
+    ensures { λ r. ⌜ Stops r (now (s .exit)) (now (buf .exit)) (thenCheck setup x iso (run conc (script.isoInArm {i = true} (endpoint (x .st)) frame) (view (now (s .entry)), now (buf .entry)))) ⌝ }
+    ensures { λ r. ⌜ Stored r (now (s .exit)) ⌝ }
+{
+    let ep = status::endpoint(x.st);
+    let g = load_globals(s);
+    if mask_has(g.iso_in_paced, ep) {
+        return after_dispatch(s, buf, setup, x, iso);
+    }
+    if first_in_frame(s, ep, frame) {
+        let n = complete::begin(s, ep);
+        return then_complete(s, buf, setup, x, iso, n);
+    }
+    after_dispatch(s, buf, setup, x, iso)
+}
+
+// The arms of IN (mod.rs 772-788).
+fn in_arm(
+    s: &mut [u8; STATE_LEN],
+    buf: &mut [u8],
+    setup: bool,
+    x: Transfer,
+    iso: bool,
+    frame: u16,
+) -> Step
+    ensures { λ r. ⌜ Stops r (now (s .exit)) (now (buf .exit)) (thenCheck setup x iso (run conc (script.inArm {i = true} x iso frame) (view (now (s .entry)), now (buf .entry)))) ⌝ }
+    ensures { λ r. ⌜ Stored r (now (s .exit)) ⌝ }
+{
+    if iso {
+        return iso_in_arm(s, buf, setup, x, iso, frame);
+    }
+    if status::endpoint(x.st) == 0 {
+        return stand_flip(s, Access::Read(Reg::EpTxCtrl, 0), Dir::In, setup, x, iso);
+    }
+    toggled_arm(s, buf, Dir::In, setup, x, iso)
+}
+
+fn then_sof_arm(
+    s: &mut [u8; STATE_LEN],
+    buf: &mut [u8],
+    setup: bool,
+    x: Transfer,
+    iso: bool,
+    frame: u16,
+    n: SofNext,
+) -> Step
+    requires { ⌜ sofs.Linked n ⌝ }
+    ensures { λ r. ⌜ Stops r (now (s .exit)) (now (buf .exit)) (thenCheck setup x iso (sofs.meaning frame n (view (now (s .entry))) (now (buf .entry)))) ⌝ }
+    ensures { λ r. ⌜ Stored r (now (s .exit)) ⌝ }
+{
+    match n {
+        SofNext::Asks(q, p) => stand_sof_arm(s, q, setup, x, iso, frame, p),
+        SofNext::Ends => after_dispatch(s, buf, setup, x, iso),
+    }
+}
+
+pub fn after_sof_arm(
+    s: &mut [u8; STATE_LEN],
+    buf: &mut [u8],
+    setup: bool,
+    x: Transfer,
+    iso: bool,
+    frame: u16,
+    p: Sof,
+    v: u32,
+) -> Step
+    requires { ⌜ sofs.fitsAt p v ≡ true ⌝ }
+    ensures { λ r. ⌜ Stops r (now (s .exit)) (now (buf .exit)) (denote (Point.SofArm setup x iso frame p) v (view (now (s .entry)), now (buf .entry))) ⌝ }
+    ensures { λ r. ⌜ Stored r (now (s .exit)) ⌝ }
+{
+    let n = sof::resume(s, frame, p, v);
+    then_sof_arm(s, buf, setup, x, iso, frame, n)
+}
+
+// SOF's own (mod.rs 750-754).
+fn sof_arm(
+    s: &mut [u8; STATE_LEN],
+    buf: &mut [u8],
+    setup: bool,
+    x: Transfer,
+    iso: bool,
+    frame: u16,
+) -> Step
+    ensures { λ r. ⌜ Stops r (now (s .exit)) (now (buf .exit)) (thenCheck setup x iso (run conc (script.sofArm {i = true} frame) (view (now (s .entry)), now (buf .entry)))) ⌝ }
+    ensures { λ r. ⌜ Stored r (now (s .exit)) ⌝ }
+{
+    let g = load_globals(s);
+    if g.sof_frame == frame {
+        return after_dispatch(s, buf, setup, x, iso);
+    }
+    let n = sof::begin(s, frame);
+    then_sof_arm(s, buf, setup, x, iso, frame, n)
+}
+
+pub fn dispatch(
+    s: &mut [u8; STATE_LEN],
+    buf: &mut [u8],
+    setup: bool,
+    x: Transfer,
+    iso: bool,
+    frame: u16,
+) -> Step
+    ensures { λ r. ⌜ Stops r (now (s .exit)) (now (buf .exit)) (thenCheck setup x iso (run conc (script.dispatch {i = true} (token (x .st)) x iso frame) (view (now (s .entry)), now (buf .entry)))) ⌝ }
+    ensures { λ r. ⌜ Stored r (now (s .exit)) ⌝ }
+{
+    let t = status::token(x.st);
+    match t {
+        Token::Sof => sof_arm(s, buf, setup, x, iso, frame),
+        Token::Out => out_arm(s, buf, setup, x, iso),
+        Token::In => in_arm(s, buf, setup, x, iso, frame),
+        Token::Setup => after_dispatch(s, buf, setup, x, iso),
+    }
+}

@@ -1,0 +1,19 @@
+use Rattle.machine.specs.Keeps.{canonical}
+use Rattle.machine.specs.Under.{decode, decode-encode}
+use mathlib.Core.Path.{_∙_, ap, sym}
+use borrow.Author.Needs.{needs}
+use Rattle.machine.proofs.halts.asks.Statement.{statement}
+use Rattle.machine.proofs.halts.asks.Tie as tie
+use Rattle.machine.proofs.halts.asks.Reads as reads
+use Rattle.machine.proofs.halts.asks.Lts as lts
+use Rattle.state.proofs.store_saved.Reads as store-saved-reads
+
+store-saved-requires : tie.Need-store-saved-requires
+store-saved-requires c κs = search needs
+
+returns : tie.Need-returns
+returns c = (λ u e out b. simp (c .store-saved .ensures .0, c .store-saved .ensures .1, ap decode (sym e) ∙ decode-encode u), λ u e xs. canonical u _ (c .store-saved .ensures .1 ∙ sym e))
+
+pub asks-spec : {M : Type 1} → statement M
+asks-spec =
+    tie.close (tie.spec store-saved-requires returns)

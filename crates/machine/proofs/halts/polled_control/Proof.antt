@@ -1,0 +1,67 @@
+use Rattle.machine.specs.Tags.{as-control}
+use Rattle.machine.specs.Fits.{linked-polled}
+use Rattle.machine.specs.Rows.{ends-idle}
+use Rattle.machine.specs.Under.{decode}
+use Rattle.state.specs.State.{view, saved}
+use denote.Ref.{now}
+use mathlib.Core.Path.{_∙_, refl}
+use mathlib.Core.List.{[]}
+use borrow.Author.Needs.{needs}
+use Rattle.machine.proofs.halts.polled_control.Statement.{statement}
+use Rattle.machine.proofs.halts.polled_control.Tie as tie
+use Rattle.machine.proofs.halts.polled_control.Reads as reads
+use Rattle.machine.proofs.halts.polled_control.Lts as lts
+use Rattle.machine.proofs.halts.asks.Reads as asks-reads
+
+enum-known-n : tie.Need-enum-known-n
+enum-known-n c = search needs
+
+enum-told : tie.Need-enum-told
+enum-told c = search needs
+
+enum-known-n-2 : tie.Need-enum-known-n-2
+enum-known-n-2 c = search needs
+
+enum-known-n-3 : tie.Need-enum-known-n-3
+enum-known-n-3 c = search needs
+
+enum-known-n-4 : tie.Need-enum-known-n-4
+enum-known-n-4 c = search needs
+
+encode-requires : tie.Need-encode-requires
+encode-requires c κs = search needs
+
+asks-requires : tie.Need-asks-requires
+asks-requires c κs = search needs
+
+returns : tie.Need-returns
+returns c = (λ out b. ends-idle (decode (saved (now (c .before .before .before .args .s)))) (view (now (c .before .before .before .args .s))) b _ (c .before .before .before .pre .1) ∙ simp (c .before .n .given .1), refl)
+
+returns-2 : tie.Need-returns-2
+returns-2 c = (λ out b. ends-idle (decode (saved (now (c .before .before .args .s)))) (view (now (c .before .before .args .s))) b _ (c .before .before .pre .1) ∙ simp (c .enum-told .given .1), refl)
+
+returns-3 : tie.Need-returns-3
+returns-3 c = (λ out b. ends-idle (decode (saved (now (c .before .before .before .args .s)))) (view (now (c .before .before .before .args .s))) b _ (c .before .before .before .pre .1) ∙ simp (c .before .n2 .given .1), refl)
+
+returns-4 : tie.Need-returns-4
+returns-4 c = (λ out b. ends-idle (decode (saved (now (c .before .before .before .args .s)))) (view (now (c .before .before .before .args .s))) b _ (c .before .before .before .pre .1) ∙ simp (c .before .n3 .given .1), refl)
+
+returns-5 : tie.Need-returns-5
+returns-5 c = (λ out b. c .asks .ensures .0 _ (as-control _ _ (c .before .encode .ensures)) out b ∙ simp (c .before .before .before .before .n4 .given .1, linked-polled _ _ _ (c .before .before .before .before .n4 .given .1) (c .before .before .before .before .before .before .pre .0)), c .asks .ensures .1 _ (as-control _ _ (c .before .encode .ensures)) _)
+
+pub polled-control-spec : {M : Type 1} → statement M
+polled-control-spec =
+    tie.close
+    (tie.spec
+    enum-known-n
+    enum-told
+    enum-known-n-2
+    enum-known-n-3
+    enum-known-n-4
+    encode-requires
+    asks-requires
+    returns
+    returns-2
+    returns-3
+    returns-4
+    returns-5)

@@ -1,0 +1,57 @@
+-- "The end of an operation now gives the wake-ups as a list": an end's count is the list's length, whatever bytes the state has. Assumes nothing.
+use mathlib.Core.Path.{_≡_, refl, sym, ap, _∙_}
+use mathlib.Core.List.{List, [], _∷_}
+use Prim.Native.Nat.{ℕ, zero, suc, _≤_}
+use native.Mathlib.Omega.{arith}
+use lib.ListN.{length, take}
+use Rattle.state.specs.Driver.{Driver}
+use Rattle.state.specs.State.{view}
+use Rattle.state.specs.Wakes.{listed}
+use Rattle.state.specs.Laws.{view-codes}
+use Rattle.model.specs.Answers.{Answer, Refused, End, NotYet, Done, Shown}
+use Rattle.model.specs.Machine.{Ans, ended, handed, told}
+use Rattle.endpoint_common.specs.Answers.{front}
+use Rattle.endpoint_common.specs.Front.{front-length}
+use Rattle.machine.specs.declared.Step.the-variants as step
+use Rattle.machine.specs.Under.{answerOf}
+
+-- no more than there is room for
+pub length-most : (n : ℕ) (cs : List ℕ) → length cs ≤ n → length (take n cs) ≡ length cs
+length-most zero [] h = refl
+length-most zero (c ∷ cs) h = absurd (omega (arith, h))
+length-most (suc n) [] h = refl
+length-most (suc n) (c ∷ cs) h = ap suc (length-most n cs (omega (arith, h)))
+
+-- so many from the front are the first of the room
+pub front-take : (n : ℕ) (cs : List ℕ) → front (length (take n cs)) cs ≡ take n cs
+front-take zero cs = refl
+front-take (suc n) [] = refl
+front-take (suc n) (c ∷ cs) = ap (λ (x : List ℕ). c ∷ x) (front-take n cs)
+
+take-few : (n : ℕ) (cs : List ℕ) → length (take n cs) ≤ length cs
+take-few zero cs = omega arith
+take-few (suc n) [] = omega arith
+take-few (suc n) (c ∷ cs) = omega (arith, take-few n cs)
+
+-- the state's list has at most 64, for any bytes
+pub listed-few : (xs : List ℕ) → length (listed (view xs .wakes)) ≤ 64
+unfolding listed
+listed-few xs = omega (arith, take-few (view xs .wakes .count) (view xs .wakes .codes), view-codes xs)
+
+wakesIn : Ans Answer → List ℕ
+wakesIn (ended (End n ws)) = ws
+wakesIn (ended (Refused n)) = []
+wakesIn (ended NotYet) = []
+wakesIn (ended (Done bytes)) = []
+wakesIn (ended (Shown bytes stamp)) = []
+wakesIn (handed q) = []
+wakesIn (told n) = []
+
+-- an end that is the machine's: its count is the length of the machine's list
+pub count-is : (n k m : ℕ) (out ws : List ℕ) (d : Driver) → answerOf (step.Ends n k) out d ≡ ended (End m ws) → k ≡ length ws
+unfolding wakesIn
+count-is n k m out ws d e = sym (front-length k (d .wakes .codes)) ∙ ap (λ (a : Ans Answer). length (wakesIn a)) e
+
+-- so it is at most 64 where that is the list of the state that was left
+pub count-few : (n k m : ℕ) (out xs : List ℕ) → answerOf (step.Ends n k) out (view xs) ≡ ended (End m (listed (view xs .wakes))) → k ≤ 64
+count-few n k m out xs e = omega (arith, count-is n k m out (listed (view xs .wakes)) (view xs) e, listed-few xs)

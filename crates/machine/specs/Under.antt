@@ -1,0 +1,201 @@
+-- What is under way, as the saved record says it, and the machine of calls that the lent bytes are
+use mathlib.Core.Bool.{Bool, true, false, cond}
+use mathlib.Core.List.{List, _++_}
+use mathlib.Core.Path.{_≡_, refl, ap}
+use Prim.Native.Nat.{ℕ, _*_}
+use lib.Dec.{eqb}
+use lib.ListN.{length}
+use Rattle.marks.specs.Copies.{bytesAt}
+use Rattle.regs.specs.declared.Access.{Access}
+use Rattle.state.specs.declared.Saved.{Saved}
+use Rattle.state.specs.Driver.{Driver}
+use Rattle.state.specs.State.{view, saved}
+use Rattle.state.specs.Fresh as fresh
+use Rattle.model.specs.Tree.{Out, ends, asks, bindOut}
+use Rattle.model.specs.Script.{Script, ret, _>>=_, fetch, gathered, run}
+use Rattle.model.specs.Statics.{flag}
+use Rattle.model.specs.Answers.{Answer, Refused, End, NotYet, Done, Shown}
+use Rattle.model.specs.Control.{wordBytes}
+use Rattle.model.specs.Calls.{Config, Op, calls}
+use Rattle.model.specs.Machine as machine
+use Rattle.model.specs.Machine.{Buf, Way, idle, busy, Machine, Ans, ended, handed, told, call, Call, halt, continued}
+use Rattle.model_ops.specs.Rings.{St}
+use Rattle.model_ops.specs.Conc.{conc}
+use Rattle.driver.specs.Points as driver
+use Rattle.driver_codec.specs.Codec as codec
+use Rattle.bus.specs.Points as bus
+use Rattle.bus.specs.Codec as busCodec
+use Rattle.endpoint_common.specs.Answers.{front, broughtBy, lentAfter}
+use Rattle.control.specs.Points as control
+use Rattle.control.specs.Codec as controlCodec
+use Rattle.endpoint.specs.Points as endpoint
+use Rattle.endpoint.specs.Codec as endpointCodec
+use Rattle.iso_in.specs.Advance as advance
+use Rattle.iso_in.specs.Codec as advanceCodec
+use Rattle.irq.specs.Points as handler
+use Rattle.irq_codec.specs.Codec as handlerCodec
+use Rattle.machine.specs.declared.Under.{Under}
+use Rattle.machine.specs.declared.Under.the-variants as under
+use Rattle.machine.specs.declared.Step.{Step}
+use Rattle.machine.specs.declared.Step.the-variants as step
+use Rattle.machine.specs.Questions.{questionOf}
+
+-- ---- the saved record: its tag says whose point it is, 0 or an unknown one that nothing is under way
+
+abbrev pub withTag : ℕ → Saved → Saved
+withTag t c = record {
+  tag = t;
+  sub = c .sub;
+  site = c .site;
+  flag = c .flag;
+  busy = c .busy;
+  late = c .late;
+  «len_ok» = c .«len_ok»;
+  st = c .st;
+  now = c .now;
+  ep = c .ep;
+  len = c .len;
+  frame = c .frame;
+  eps = c .eps;
+  n = c .n;
+  value = c .value;
+}
+
+unfoldable pub encode : Under → Saved
+encode under.Idle = fresh.nothing
+encode (under.Driver p) = withTag 1 (codec.encode p)
+encode (under.Bus p) = withTag 2 (busCodec.encode p)
+encode (under.Control p) = withTag 3 (controlCodec.encode p)
+encode (under.Endpoint p) = withTag 4 (endpointCodec.encode p)
+encode (under.Advance p) = withTag 5 (advanceCodec.encode p)
+encode (under.Interrupt p) = withTag 6 (handlerCodec.encode p)
+
+unfoldable pub decode : Saved → Under
+decode c =
+    cond (eqb (c .tag) 1) (under.Driver (codec.decode c))
+    (cond (eqb (c .tag) 2) (under.Bus (busCodec.decode c))
+    (cond (eqb (c .tag) 3) (under.Control (controlCodec.decode c))
+    (cond (eqb (c .tag) 4) (under.Endpoint (endpointCodec.decode c))
+    (cond (eqb (c .tag) 5) (under.Advance (advanceCodec.decode c))
+    (cond (eqb (c .tag) 6) (under.Interrupt (handlerCodec.decode c))
+    under.Idle)))))
+
+pub decode-encode : (u : Under) → decode (encode u) ≡ u
+unfolding encode decode codec.decode busCodec.decode controlCodec.decode endpointCodec.decode advanceCodec.decode handlerCodec.decode
+decode-encode under.Idle = refl
+decode-encode (under.Driver p) = ap under.Driver (codec.decode-encode p)
+decode-encode (under.Bus p) = ap under.Bus (busCodec.decode-encode p)
+decode-encode (under.Control p) = ap under.Control (controlCodec.decode-encode p)
+decode-encode (under.Endpoint p) = ap under.Endpoint (endpointCodec.decode-encode p)
+decode-encode (under.Advance p) = ap under.Advance (advanceCodec.decode-encode p)
+decode-encode (under.Interrupt p) = ap under.Interrupt (handlerCodec.decode-encode p)
+
+-- ---- what is left of the call
+
+abbrev pub finish : ℕ → Script false Answer
+finish n = do
+  w ← fetch gathered
+  ret (End n w)
+
+abbrev pub wayOf : Under → Way Answer Driver
+wayOf under.Idle = idle
+wayOf (under.Driver p) = busy false (driver.awaitsAt p) (λ v t. run conc (driver.denote p v >>= finish) t)
+wayOf (under.Bus p) = busy false (bus.awaitsAt p) (λ v t. bindOut (bus.denote p v t) (λ n u. run conc (finish n) u))
+wayOf (under.Control p) = busy false (control.awaitsAt p) (λ v t. run conc (control.denote p v >>= finish) t)
+wayOf (under.Endpoint p) = busy false (endpoint.awaitsAt p) (λ v t. run conc (endpoint.denote p v >>= finish) t)
+wayOf (under.Advance p) = busy false (advance.awaitsAt p) (λ v t. bindOut (advance.denote p v t) (λ n u. run conc (finish n) u))
+wayOf (under.Interrupt p) = busy true (handler.awaitsAt p) (λ v t. bindOut (handler.denote p v t) (λ n u. run conc (finish n) u))
+
+abbrev pub machineAt : Under → Driver → Buf → Machine Answer Driver
+machineAt u d b = record { way = wayOf u; st = d; buf = b }
+
+-- the lent state's bytes and the slot buffer, as a machine of calls
+abbrev pub machineOf : List ℕ → Buf → Machine Answer Driver
+machineOf xs b = machineAt (decode (saved xs)) (view xs) b
+
+abbrev pub driverOf : machine.Driver Config Driver
+driverOf = record {
+  ops = conc;
+  fresh = λ c. fresh.freshDriver (c .size) (c .count) (flag (c .callback));
+  size = λ d. d .allocator .count * d .allocator .size;
+  question = questionOf;
+}
+
+-- a start-up's inputs
+abbrev pub configOf : ℕ → ℕ → Bool → Config
+configOf size count callback = record { size = size; count = count; callback = callback }
+
+-- what a call comes to
+abbrev pub drive : Call Config Op → Machine Answer Driver → Buf → Ans Answer × Machine Answer Driver
+drive c m b = call calls driverOf (λ s. s) c m b
+
+-- where a run stops: at an access or at its end; `true`: an interrupt's
+abbrev pub haltsAs : Bool → Out St Answer → Ans Answer × Machine Answer Driver
+haltsAs i o = halt calls driverOf (λ s. s) i o
+
+abbrev pub halts : Out St Answer → Ans Answer × Machine Answer Driver
+halts o = haltsAs false o
+
+-- what a continue comes to, with the number brought
+abbrev pub goneOn : ℕ → Under → Driver → Buf → Ans Answer × Machine Answer Driver
+goneOn v u d b = continued calls driverOf (λ s. s) v (machineAt u d b) (wayOf u) b
+
+-- the access is handed out, and the operation under way
+abbrev pub handedOut : Access → Under → Driver → Buf → Ans Answer × Machine Answer Driver
+handedOut q u d b = (handed q, machineAt u d b)
+
+-- with the bytes that the call was lent: those of a poll's slice that it filled, or the slots in which a packet is shown; and with the state that it
+-- left, which has the wake-ups: k of them, from the front of the state's room for 64
+abbrev pub answerOf : Step → List ℕ → Driver → Ans Answer
+answerOf (step.Refused n) out d = ended (Refused n)
+answerOf (step.Asks q) out d = handed q
+answerOf (step.Ends n k) out d = ended (End n (front k (d .wakes .codes)))
+answerOf step.NotYet out d = ended NotYet
+answerOf (step.Done n) out d = ended (Done (front n out))
+answerOf (step.Setup low high) out d = ended (Done (wordBytes low ++ wordBytes high))
+answerOf (step.Shown at n stamp) out d = ended (Shown (bytesAt out at n) stamp)
+
+-- the slice after a poll that answers so
+abbrev pub lentBy : Ans Answer → List ℕ → List ℕ
+lentBy (ended a) out = broughtBy a out
+lentBy (handed q) out = out
+lentBy (told n) out = out
+
+pub lent-halts : (o : Out St Answer) (out : List ℕ) → lentBy (halts o .0) out ≡ lentAfter o out
+lent-halts (ends a s) out = refl
+lent-halts (asks q s k) out = refl
+
+-- row 1: as long as the driver's buffers
+unfoldable pub slotsFit : Driver → Buf → Bool
+slotsFit d b = eqb (length b) (d .allocator .count * d .allocator .size)
+
+-- the slot buffer after a call that brought it: where its length was wrong, the run's own stays
+abbrev pub lentOr : Driver → Buf → Buf → Buf → Buf
+lentOr d b after old = cond (slotsFit d b) after old
+
+-- row 1: a slot buffer of a wrong length comes back as it was
+abbrev pub AsLent : Driver → Buf → Buf → Type 0
+AsLent d b after = slotsFit d b ≡ false → after ≡ b
+
+-- the 22 saved bytes are canonical: the encoding of what is under way, all zero where nothing is
+abbrev pub Canonical : List ℕ → Type 0
+Canonical xs = saved xs ≡ encode (decode (saved xs))
+
+-- the 22 saved bytes after a call that begins an operation, goes on with one or polls, by its answer: where it hands
+-- out an access they are canonical, where an operation has ended all are zero; after all else, a refusal, they stay
+abbrev pub Kept : Step → List ℕ → List ℕ → Type 0
+Kept (step.Refused n) xs ys = saved ys ≡ saved xs
+Kept (step.Asks q) xs ys = Canonical ys
+Kept (step.Ends n k) xs ys = saved ys ≡ fresh.nothing
+Kept step.NotYet xs ys = saved ys ≡ saved xs
+Kept (step.Done n) xs ys = saved ys ≡ saved xs
+Kept (step.Setup low high) xs ys = saved ys ≡ saved xs
+Kept (step.Shown at n stamp) xs ys = saved ys ≡ saved xs
+
+-- of an access handed out or an end: whatever was saved before
+abbrev pub Stored : Step → List ℕ → Type 0
+Stored r ys = (xs : List ℕ) → Kept r xs ys
+
+-- of an answer that comes with what was saved before
+abbrev pub Leaves : Step → Type 0
+Leaves r = (xs ys : List ℕ) → saved ys ≡ saved xs → Kept r xs ys

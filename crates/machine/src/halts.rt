@@ -1,0 +1,171 @@
+use crate::Step;
+use crate::Under;
+use crate::saved::nothing;
+use crate::woken::how_many;
+use iso_in::advance::AdvanceNext;
+use regs::Access;
+use state::STATE_LEN;
+use state::Saved;
+ghost use mathlib.Core.Path.{_≡_};
+ghost use mathlib.Core.Bool.{true};
+ghost use mathlib.Core.List.{List, []};
+ghost use Prim.Native.Nat.{ℕ};
+ghost use Rattle.state.specs.Driver.{Driver};
+ghost use Rattle.state.specs.State.{view, saved};
+ghost use Rattle.model.specs.Tree.{bindOut};
+ghost use Rattle.model.specs.Script.{run};
+ghost use Rattle.model_ops.specs.Conc.{conc};
+ghost use Rattle.driver.specs.Points as driver;
+ghost use Rattle.bus.specs.Points as bus;
+ghost use Rattle.control.specs.Points as control;
+ghost use Rattle.endpoint.specs.Points as endpoint;
+ghost use Rattle.iso_in.specs.Advance as advance;
+ghost use Rattle.irq.specs.Points as handler;
+ghost use Rattle.machine.specs.Under.{withTag, encode, decode, finish, machineAt, machineOf, haltsAs, halts, handedOut, answerOf, Kept, Stored, Leaves};
+ghost use Rattle.machine.specs.Rows.{isIdle};
+
+// The operation is under way: it stands where it handed out the access, at a point that is saved with its tag.
+fn asks(s: &mut [u8; STATE_LEN], q: Access, p: Saved, tag: u8) -> Step
+    ensures { λ r. ⌜ ((u : Under) → encode u ≡ withTag tag p → (out b : List ℕ) → (answerOf r out (view (now (s .exit))), machineOf (now (s .exit)) b) ≡ handedOut q u (view (now (s .entry))) b) ⌝ }
+    ensures { λ r. ⌜ ((u : Under) → encode u ≡ withTag tag p → Stored r (now (s .exit))) ⌝ }
+{
+    let mut c = p;
+    c.tag = tag;
+    state::store_saved(s, c);
+    Step::Asks(q)
+}
+
+// An operation has ended with its result: its wake-ups are answered.
+fn ended(s: &mut [u8; STATE_LEN], n: u16) -> Step
+    ensures { λ r. ⌜ ((b : List ℕ) → (answerOf r [] (view (now (s .exit))), machineOf (now (s .exit)) b) ≡ halts (run conc (finish n) (view (now (s .entry)), b))) ⌝ }
+    ensures { λ r. ⌜ Stored r (now (s .exit)) ⌝ }
+{
+    state::store_saved(s, nothing());
+    let k = how_many(s);
+    Step::Ends(n, k)
+}
+
+// It goes on, or has ended.
+pub fn halted(s: &mut [u8; STATE_LEN], n: driver::Next) -> Step
+    requires { ⌜ driver.Linked n ⌝ }
+    ensures { λ r. ⌜ ((b : List ℕ) → (answerOf r [] (view (now (s .exit))), machineOf (now (s .exit)) b) ≡ halts (bindOut (driver.meaning n (view (now (s .entry))) b) (λ k t. run conc (finish k) t))) ⌝ }
+    ensures { λ r. ⌜ Stored r (now (s .exit)) ⌝ }
+{
+    match n {
+        driver::Next::Asks(q, p) => asks(s, q, driver_codec::encode(p), 1),
+        driver::Next::Ends(k) => ended(s, k),
+    }
+}
+
+// The same of the bus's operations.
+pub fn halted_bus(s: &mut [u8; STATE_LEN], n: bus::Next) -> Step
+    requires { ⌜ bus.Linked n ⌝ }
+    ensures { λ r. ⌜ ((b : List ℕ) → (answerOf r [] (view (now (s .exit))), machineOf (now (s .exit)) b) ≡ halts (bindOut (bus.meaning n (view (now (s .entry))) b) (λ k t. run conc (finish k) t))) ⌝ }
+    ensures { λ r. ⌜ Stored r (now (s .exit)) ⌝ }
+{
+    match n {
+        bus::Next::Asks(q, p) => asks(s, q, bus::encode(p), 2),
+        bus::Next::Ends(k) => ended(s, k),
+    }
+}
+
+// The same of the control pipe's.
+pub fn halted_control(s: &mut [u8; STATE_LEN], n: control::Next) -> Step
+    requires { ⌜ control.Linked n ⌝ }
+    ensures { λ r. ⌜ ((b : List ℕ) → (answerOf r [] (view (now (s .exit))), machineOf (now (s .exit)) b) ≡ halts (bindOut (control.meaning n (view (now (s .entry))) b) (λ k t. run conc (finish k) t))) ⌝ }
+    ensures { λ r. ⌜ Stored r (now (s .exit)) ⌝ }
+{
+    match n {
+        control::Next::Asks(q, p) => asks(s, q, control::encode(p), 3),
+        control::Next::Ends(k) => ended(s, k),
+    }
+}
+
+// A begin of the control pipe's, with nothing under way.
+pub fn begun_control(s: &mut [u8; STATE_LEN], n: control::Begun) -> Step
+    requires { ⌜ control.LinkedBegun n × (isIdle (decode (saved (now s))) ≡ true) ⌝ }
+    ensures { λ r. ⌜ ((b : List ℕ) → (answerOf r [] (view (now (s .exit))), machineOf (now (s .exit)) b) ≡ halts (control.begunAs n (view (now (s .entry))) b)) ⌝ }
+    ensures { λ r. ⌜ Kept r (now (s .entry)) (now (s .exit)) ⌝ }
+{
+    match n {
+        control::Begun::Refused(k) => Step::Refused(k),
+        control::Begun::Asks(q, p) => asks(s, q, control::encode(p), 3),
+        control::Begun::Ends(k) => ended(s, k),
+    }
+}
+
+// A poll of the control pipe's, with nothing under way.
+pub fn polled_control(s: &mut [u8; STATE_LEN], n: control::Polled) -> Step
+    requires { ⌜ control.LinkedPolled n × (isIdle (decode (saved (now s))) ≡ true) ⌝ }
+    ensures { λ r. ⌜ ((out b : List ℕ) → (answerOf r out (view (now (s .exit))), machineOf (now (s .exit)) b) ≡ halts (control.polledAs n out (view (now (s .entry))) b)) ⌝ }
+    ensures { λ r. ⌜ Kept r (now (s .entry)) (now (s .exit)) ⌝ }
+{
+    match n {
+        control::Polled::Refused(k) => Step::Refused(k),
+        control::Polled::NotYet => Step::NotYet,
+        control::Polled::Done(k) => Step::Done(k),
+        control::Polled::Setup(low, high) => Step::Setup(low, high),
+        control::Polled::Asks(q, p) => asks(s, q, control::encode(p), 3),
+    }
+}
+
+// The same of reads and writes.
+pub fn halted_endpoint(s: &mut [u8; STATE_LEN], n: endpoint::Next) -> Step
+    requires { ⌜ endpoint.Linked n ⌝ }
+    ensures { λ r. ⌜ ((b : List ℕ) → (answerOf r [] (view (now (s .exit))), machineOf (now (s .exit)) b) ≡ halts (bindOut (endpoint.meaning n (view (now (s .entry))) b) (λ k t. run conc (finish k) t))) ⌝ }
+    ensures { λ r. ⌜ Stored r (now (s .exit)) ⌝ }
+{
+    match n {
+        endpoint::Next::Asks(q, p) => asks(s, q, endpoint::encode(p), 4),
+        endpoint::Next::Ends(k) => ended(s, k),
+    }
+}
+
+// Of a paced advance.
+pub fn halted_advance(s: &mut [u8; STATE_LEN], n: AdvanceNext) -> Step
+    requires { ⌜ advance.Linked n ⌝ }
+    ensures { λ r. ⌜ ((b : List ℕ) → (answerOf r [] (view (now (s .exit))), machineOf (now (s .exit)) b) ≡ halts (bindOut (advance.meaning n (view (now (s .entry))) b) (λ k t. run conc (finish k) t))) ⌝ }
+    ensures { λ r. ⌜ Stored r (now (s .exit)) ⌝ }
+{
+    match n {
+        AdvanceNext::Asks(q, p) => asks(s, q, iso_in::codec::encode(p), 5),
+        AdvanceNext::Ends(k) => ended(s, k),
+    }
+}
+
+// Of an interrupt.
+pub fn halted_interrupt(s: &mut [u8; STATE_LEN], n: irq::Next) -> Step
+    requires { ⌜ handler.Linked n ⌝ }
+    ensures { λ r. ⌜ ((b : List ℕ) → (answerOf r [] (view (now (s .exit))), machineOf (now (s .exit)) b) ≡ haltsAs true (bindOut (handler.meaning n (view (now (s .entry))) b) (λ k t. run conc (finish k) t))) ⌝ }
+    ensures { λ r. ⌜ Stored r (now (s .exit)) ⌝ }
+{
+    match n {
+        irq::Next::Asks(q, p) => asks(s, q, irq_codec::encode(p), 6),
+        irq::Next::Ends(k) => ended(s, k),
+    }
+}
+
+// A begin of a read or write, with nothing under way.
+pub fn begun_endpoint(s: &mut [u8; STATE_LEN], n: endpoint::Begun) -> Step
+    requires { ⌜ endpoint.LinkedBegun n × (isIdle (decode (saved (now s))) ≡ true) ⌝ }
+    ensures { λ r. ⌜ ((b : List ℕ) → (answerOf r [] (view (now (s .exit))), machineOf (now (s .exit)) b) ≡ halts (endpoint.begunAs n (view (now (s .entry))) b)) ⌝ }
+    ensures { λ r. ⌜ Kept r (now (s .entry)) (now (s .exit)) ⌝ }
+{
+    match n {
+        endpoint::Begun::Refused(k) => Step::Refused(k),
+        endpoint::Begun::Asks(q, p) => asks(s, q, endpoint::encode(p), 4),
+        endpoint::Begun::Ends(k) => ended(s, k),
+    }
+}
+
+// A poll of one.
+pub fn polled_endpoint(n: endpoint::Polled) -> Step
+    ensures { λ r. ⌜ ((u : Under) (d : Driver) (out b : List ℕ) → isIdle u ≡ true → (answerOf r out d, machineAt u d b) ≡ halts (endpoint.polledAs n out d b)) ⌝ }
+    ensures { λ r. ⌜ Leaves r ⌝ }
+{
+    match n {
+        endpoint::Polled::Refused(k) => Step::Refused(k),
+        endpoint::Polled::NotYet => Step::NotYet,
+        endpoint::Polled::Done(k) => Step::Done(k),
+    }
+}

@@ -1,0 +1,60 @@
+use state::STATE_LEN;
+use state::Saved;
+ghost use mathlib.Core.Path.{_≡_};
+ghost use Rattle.state.specs.State.{saved};
+ghost use Rattle.state.specs.Fresh.{nothing};
+ghost use Rattle.machine.specs.Under.{decode};
+ghost use Rattle.machine.specs.Rows.{isIdle, mayPass};
+
+// Whose point is saved: the driver's (1), the bus's (2), the control pipe's (3), a read's or write's (4), a paced advance's (5), an interrupt's (6). At
+// any other number nothing is under way.
+pub fn tag(s: &[u8; STATE_LEN]) -> u8
+    ensures { λ r. ⌜ r ≡ saved (now (s .entry)) .tag ⌝ }
+{
+    let c = state::load_saved(s);
+    c.tag
+}
+
+// Is nothing under way? (row 3 turned round)
+pub fn is_idle(s: &[u8; STATE_LEN]) -> bool
+    ensures { λ r. ⌜ r ≡ isIdle (decode (saved (now (s .entry)))) ⌝ }
+{
+    let t = tag(s);
+    if t == 0 {
+        return true;
+    }
+    6 < t
+}
+
+// May a packet be opened, closed or queued? Nothing is under way, or an interrupt is: the call falls between two of its accesses.
+pub fn may_pass(s: &[u8; STATE_LEN]) -> bool
+    ensures { λ r. ⌜ r ≡ mayPass (decode (saved (now (s .entry)))) ⌝ }
+{
+    let t = tag(s);
+    if t == 0 {
+        return true;
+    }
+    5 < t
+}
+
+pub fn nothing() -> Saved
+    ensures { λ r. ⌜ r ≡ nothing ⌝ }
+{
+    Saved {
+        tag: 0,
+        sub: 0,
+        site: 0,
+        flag: 0,
+        busy: 0,
+        late: 0,
+        len_ok: 0,
+        st: 0,
+        now: 0,
+        ep: 0,
+        len: 0,
+        frame: 0,
+        eps: 0,
+        n: 0,
+        value: 0,
+    }
+}

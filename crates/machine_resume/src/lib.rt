@@ -1,0 +1,108 @@
+// Continue: the operation under way goes on at its point, with the number brought.
+use irq_points::loads::site_byte;
+use irq_resume::entry::resume_len;
+use irq_resume::entry::resume_mis;
+use irq_resume::entry::resume_nak;
+use irq_resume::entry::resume_released;
+use irq_resume::entry::resume_settle;
+use irq_resume::entry::resume_st;
+use irq_resume::flags::resume_bus_rst;
+use irq_resume::flags::resume_fifo;
+use irq_resume::flags::resume_flags;
+use irq_resume::flags::resume_frame;
+use irq_resume::flags::resume_host;
+use irq_resume::flags::resume_suspend;
+use irq_resume::rest::resume_check;
+use irq_resume::rest::resume_moved_read;
+use irq_resume::rest::resume_moved_wrote;
+use irq_resume::rest::resume_setup_released;
+use irq_resume::rest::resume_setup_rx;
+use irq_resume::rest::resume_setup_tx;
+use irq_resume::serving::resume_frame_no;
+use irq_resume::serving::resume_late;
+use irq_resume::serving::resume_sof;
+use irq_resume::tokens::resume_completing;
+use irq_resume::tokens::resume_flip;
+use irq_resume::tokens::resume_flipped;
+use irq_resume::tokens::resume_sof_arm;
+use irq_resume::tokens::resume_toggled;
+use machine::Step;
+use machine::saved::tag;
+use machine::stops::slots_fit;
+use machine_resume_op::proceed_advance;
+use machine_resume_op::proceed_bus;
+use machine_resume_op::proceed_control;
+use machine_resume_op::proceed_driver;
+use machine_resume_op::proceed_endpoint;
+use state::STATE_LEN;
+ghost use mathlib.Core.Path.{_≡_};
+ghost use mathlib.Core.List.{List, []};
+ghost use Prim.Native.Nat.{ℕ};
+ghost use Rattle.state.specs.State.{view, saved};
+ghost use Rattle.model.specs.Machine.{go};
+ghost use Rattle.machine.specs.Under.{decode, machineOf, drive, goneOn, answerOf, lentOr, AsLent, Kept};
+
+// Goes on at an interrupt's point: the one dispatch on what is saved.
+fn proceed_interrupt(s: &mut [u8; STATE_LEN], slots: &mut [u8], v: u32) -> Step
+    requires { ⌜ saved (now s) .tag ≡ 6 ⌝ }
+    ensures { λ r. ⌜ (answerOf r [] (view (now (s .exit))), machineOf (now (s .exit)) (now (slots .exit))) ≡ goneOn v (decode (saved (now (s .entry)))) (view (now (s .entry))) (now (slots .entry)) ⌝ }
+    ensures { λ r. ⌜ Kept r (now (s .entry)) (now (s .exit)) ⌝ }
+{
+    let site = site_byte(s);
+    match site {
+        1 => resume_flags(s, v),
+        2 => resume_bus_rst(s),
+        3 => resume_suspend(s),
+        4 => resume_fifo(s),
+        5 => resume_host(s),
+        6 => resume_mis(s, v),
+        7 => resume_st(s, v),
+        8 => resume_len(s, v),
+        9 => resume_nak(s, v),
+        10 => resume_released(s),
+        11 => resume_settle(s, v),
+        12 => resume_frame_no(s, slots, v),
+        13 => resume_sof(s, slots, v),
+        14 => resume_late(s, slots),
+        15 => resume_sof_arm(s, slots, v),
+        16 => resume_flip(s, v),
+        17 => resume_flipped(s, slots),
+        18 => resume_toggled(s, slots, v),
+        19 => resume_completing(s, slots),
+        20 => resume_check(s, slots, v),
+        21 => resume_moved_read(s, v),
+        22 => resume_moved_wrote(s),
+        23 => resume_setup_rx(s),
+        24 => resume_setup_tx(s, slots),
+        25 => resume_setup_released(s),
+        _ => resume_frame(s, v), // 0, or an unknown one
+    }
+}
+
+// With the slots: as long as the driver's buffers.
+fn proceed_at(s: &mut [u8; STATE_LEN], slots: &mut [u8], v: u32) -> Step
+    ensures { λ r. ⌜ (answerOf r [] (view (now (s .exit))), machineOf (now (s .exit)) (now (slots .exit))) ≡ goneOn v (decode (saved (now (s .entry)))) (view (now (s .entry))) (now (slots .entry)) ⌝ }
+    ensures { λ r. ⌜ Kept r (now (s .entry)) (now (s .exit)) ⌝ }
+{
+    match tag(s) {
+        1 => proceed_driver(s, v),
+        2 => proceed_bus(s, slots, v),
+        3 => proceed_control(s, v),
+        4 => proceed_endpoint(s, v),
+        5 => proceed_advance(s, v),
+        6 => proceed_interrupt(s, slots, v),
+        _ => Step::Refused(15),
+    }
+}
+
+// Goes on with the operation under way, with the number brought.
+pub fn proceed(s: &mut [u8; STATE_LEN], slots: &mut [u8], v: u32) -> Step
+    ensures { λ r. ⌜ ((a : List ℕ) → (answerOf r [] (view (now (s .exit))), machineOf (now (s .exit)) (lentOr (view (now (s .entry))) (now (slots .entry)) (now (slots .exit)) a)) ≡ drive (go v) (machineOf (now (s .entry)) a) (now (slots .entry))) ⌝ }
+    ensures { λ _. ⌜ AsLent (view (now (s .entry))) (now (slots .entry)) (now (slots .exit)) ⌝ }
+    ensures { λ r. ⌜ Kept r (now (s .entry)) (now (s .exit)) ⌝ }
+{
+    if slots_fit(s, slots) {
+        return proceed_at(s, slots, v);
+    }
+    Step::Refused(1)
+}

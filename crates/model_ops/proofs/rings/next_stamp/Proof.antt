@@ -1,0 +1,41 @@
+use Rattle.model_ops.specs.Rings.{nextStamp}
+use borrow.Author.Needs.{needs}
+use Rattle.model_ops.proofs.rings.next_stamp.Statement.{statement}
+use Rattle.model_ops.proofs.rings.next_stamp.Tie as tie
+use Rattle.model_ops.proofs.rings.next_stamp.Reads as reads
+use Rattle.model_ops.proofs.rings.next_stamp.Lts as lts
+use Rattle.ring.proofs.has_waiting.Reads as has-waiting-reads
+use Rattle.ring.proofs.slot_index.Reads as slot-index-reads
+use Rattle.state.proofs.load_ep.Reads as load-ep-reads
+use Rattle.state.proofs.load_stamp.Reads as load-stamp-reads
+
+load-ep-requires : tie.Need-load-ep-requires
+load-ep-requires c κs = search needs
+
+has-waiting-requires : tie.Need-has-waiting-requires
+has-waiting-requires c κs = search needs
+
+slot-index-requires : tie.Need-slot-index-requires
+slot-index-requires c κs = search needs
+
+load-stamp-requires : tie.Need-load-stamp-requires
+load-stamp-requires c κs = search needs
+
+returns : tie.Need-returns
+unfolding nextStamp
+returns c = simp (c .load-stamp .ensures, c .before .slot-index .ensures, ← c .before .before .before .before .load-ep .ensures, ← c .before .before .before .has-waiting .ensures, c .before .before .if1 .taken)
+
+returns-2 : tie.Need-returns-2
+unfolding nextStamp
+returns-2 c = simp (← c .before .before .load-ep .ensures, ← c .before .has-waiting .ensures, c .if1 .left)
+
+pub next-stamp-spec : {M : Type 1} → statement M
+next-stamp-spec =
+    tie.close
+    (tie.spec
+    load-ep-requires
+    has-waiting-requires
+    slot-index-requires
+    load-stamp-requires
+    returns
+    returns-2)

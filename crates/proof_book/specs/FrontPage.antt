@@ -1,0 +1,359 @@
+-- Demand 3, to be read alone: what a list of calls is, what each call is lent, what document 01 compares after each call, and demand 3's own
+-- sentences. Definitions only. `demand-3` (FrontPageProved.antt) says that `AfterCall` holds after every call of every list that an accepted start-up
+-- begins. The calls are in model/specs/Calls.antt, the book in Book.antt over Pages.antt: what waits, was admitted, read, queued, sent
+use mathlib.Core.Bool.{Bool, true, false, cond}
+use mathlib.Core.List.{List, [], _∷_, _++_}
+use mathlib.Core.Logic.{_⊎_}
+use mathlib.Core.Path.{_≡_}
+use Prim.Native.Nat.{ℕ, zero, _+_, _%_, _^_, _≤_, _<_}
+use lib.ListN.{length, getD}
+use lib.Dec.{eqb}
+use Rattle.regs.specs.declared.Access.{Access}
+use Rattle.regs.specs.declared.Access.the-variants.{Read, Write, Receive, Transmit, Ep0Dma, Wait, Callback}
+use Rattle.regs.specs.declared.Reg.the-variants.{IntFg}
+use Rattle.regs.specs.declared.Dir.{Dir}
+use Rattle.regs.specs.declared.Dir.the-variants.{Out, In}
+use Rattle.state.specs.Driver.{Driver, epOn, lenOn, stampOn}
+use Rattle.alloc.specs.Alloc.{allocatedIn}
+use Rattle.bits.specs.Bit.{isSet}
+use Rattle.le_bytes.specs.Tables.{tab}
+use Rattle.state.specs.State.{view}
+use Rattle.ring.specs.Waiting.{waiting, Same}
+use Rattle.marks.specs.Copies.{bytesAt}
+use Rattle.model.specs.Answers.{Answer, Refused, Done, Shown, ok, isNumber}
+use Rattle.model.specs.Calls.{Config, Op, slotted, aside, SetEnabled, PollRead, Aside, Open, Close, Queue, calls, startRow}
+use Rattle.model.specs.Machine.{Buf, Call, start, begin, go, question, overruns, Event, Ans, ended, handed, told, Way, idle, busy, Machine, over, misfit, fed, call, started}
+use Rattle.machine.specs.Under.{drive, machineOf}
+use Rattle.proof_book.specs.Pages.{Packet, bytesOf, stampsOf, OutPage, InPage, Pages}
+use Rattle.proof_book.specs.Book.{isoOf, receiving, front, book}
+use Rattle.proof_book.specs.Stamps.{stamped}
+use Rattle.proof_book.specs.Lengths.{Known, learnt, lengthAt}
+use Rattle.proof_book.specs.Others.{releasing, Names, underWay, callNames, Away, SamePage}
+
+-- ---- a list of calls
+
+-- a call that was made: the call and the slot buffer it was lent; its answer; the state's bytes and the slot buffer as it left them
+pub record Made : Type 0 where
+  pub event : Event Config Op
+  pub answer : Ans Answer
+  pub bytes : List ℕ
+  pub slots : Buf
+
+-- its contract, where the state's bytes were xs and the slot buffer a: it is one step of the machine of calls that the bytes are
+abbrev pub Did : List ℕ → Buf → Made → Type 0
+Did xs a m = (m .answer, machineOf (m .bytes) (m .slots)) ≡ drive (m .event .call) (machineOf xs a) (m .event .lent)
+
+-- the book's step: "fed the calls alone, with the readings and lent bytes they bring and the accesses they hand out"
+abbrev pub written : Ans Answer → Call Config Op → Machine Answer Pages → Buf → Ans Answer × Machine Answer Pages
+written a c n b = call calls (book .driver) (fed book a) c n b
+
+abbrev pub noted : Made → Machine Answer Pages → Ans Answer × Machine Answer Pages
+noted m n = written (m .answer) (m .event .call) n (m .event .lent)
+
+-- "A receive address counts from the call that hands it out": byte k lies outside of the slot of every OUT endpoint's last receive address in this
+-- run, and outside of EP0's buffer
+pub record Elsewhere (t : Pages) (k : ℕ) : Type 0 where
+  pub outs : (e : ℕ) → isSet (allocatedIn (t .kept .allocator) Out) (e % 16) ≡ true → (k < t .outs e .slot) ⊎ (t .outs e .slot + t .kept .allocator .size ≤ k)
+  pub ep0 : t .kept .globals .stage ≡ 2 → (k < t .kept .globals .«ep0_buf») ⊎ (t .kept .globals .«ep0_buf» + t .kept .allocator .size ≤ k)
+
+-- the chip's stores, from b to b′: all other bytes stay
+pub record Chip (t : Pages) (b b′ : Buf) : Type 0 where
+  pub long : length b′ ≡ length b
+  pub others : (k : ℕ) → Elsewhere t k → getD b′ k 0 ≡ getD b k 0
+
+-- "Each call gets … the slot buffer too, but for the chip's stores; a new run may bring another buffer, a call refused with 1 any other". Call c is lent
+-- b, where the last call left a
+abbrev pub unless : Bool → Type 0 → Type 0
+unless true X = Unit {0}
+unless false X = X
+
+abbrev pub LentAsLeft : Call Config Op → Machine Answer Pages → Buf → Buf → Type 0
+LentAsLeft (start c) n a b = Unit {0}
+LentAsLeft (begin o) n a b = unless (cond (calls .slots o) (misfit calls (book .driver) (n .st) b) false) (Chip (n .st) a b)
+LentAsLeft (go v) n a b = unless (misfit calls (book .driver) (n .st) b) (Chip (n .st) a b)
+LentAsLeft (question q) n a b = Chip (n .st) a b
+
+-- calls one after the other, from the state's bytes xs, the slot buffer a and the book n
+abbrev pub Calls : List ℕ → Buf → Machine Answer Pages → List Made → Type 0
+Calls xs a n [] = Unit {0}
+Calls xs a n (m ∷ ms) = Did xs a m × LentAsLeft (m .event .call) n a (m .event .lent) × Calls (m .bytes) (m .slots) (noted m n .1) ms
+
+-- ---- what is compared
+
+-- the recorded lengths of its slots
+abbrev pub lensOf : Driver → Dir → ℕ → List ℕ
+lensOf d dir e = tab 16 (λ i. lenOn d dir e i)
+
+-- the stamps of the slots of OUT e
+abbrev pub slotStamps : Driver → ℕ → List ℕ
+slotStamps d e = tab 16 (λ i. stampOn d e i)
+
+-- of OUT e: the bytes of the ring's slots, tail to head, each up to its recorded length; their stamps
+abbrev pub ringBytes : Driver → Buf → ℕ → List (List ℕ)
+ringBytes d b e = waiting b (epOn d Out e) (lensOf d Out e)
+
+abbrev pub ringStamps : Driver → ℕ → List ℕ
+ringStamps d e = stamped (epOn d Out e) (slotStamps d e)
+
+-- the first of those waiting is q, and the others wait after the call; q is read, and it alone
+pub record ReadsFirst (p p′ : OutPage) (q : Packet) : Type 0 where
+  pub first : p .waiting ≡ q ∷ p′ .waiting
+  pub read : p′ .read ≡ p .read ++ (q ∷ [])
+  pub admitted : p′ .admitted ≡ p .admitted
+  pub closed : p′ .opened ≡ false
+
+-- where the transmit address x is a load's: the slot there holds the bytes of the first waiting
+abbrev pub Holds : InPage → Buf → ℕ → Type 0
+Holds p b x = (bytes : List ℕ) (rest : List (List ℕ)) → p .load ≡ true → p .waiting ≡ bytes ∷ rest → bytesAt b x (length bytes) ≡ bytes
+
+-- document 01, "Compared after each call". A call c, the book before it, its answer, the driver's state and the slot buffer after it, the book after it
+pub record Compared (c : Call Config Op) (t : Pages) (a : Ans Answer) (d : Driver) (b : Buf) (t′ : Pages) : Type 0 where
+  -- "the bytes of the OUT ring's slots, tail to head, each up to its recorded length, equal those waiting, in order", with their stamps
+  pub ring : (e : ℕ) → ringBytes d b e ≡ bytesOf (t′ .outs e .waiting)
+  pub stamps : (e : ℕ) → ringStamps d e ≡ stampsOf (t′ .outs e .waiting)
+  -- "open shows … the first", which is open then
+  pub open-shows : (e stamp : ℕ) (bytes : List ℕ) → c ≡ begin (aside (Open e)) → a ≡ ended (Shown bytes stamp)
+      → (q : Packet) × (rest : List Packet) × (t .outs e .waiting ≡ q ∷ rest) × (bytes ≡ q .bytes) × (stamp ≡ q .stamp) × (t′ .outs e .opened ≡ true) × (t′ .outs e .waiting ≡ t .outs e .waiting) × (t′ .outs e .admitted ≡ t .outs e .admitted) × (t′ .outs e .read ≡ t .outs e .read)
+  -- "… and a read's poll gives the first", whole; it is read
+  pub poll-gives : (e n : ℕ) (bytes : List ℕ) → c ≡ begin (slotted (PollRead e n)) → a ≡ ended (Done bytes) → isoOf t Out e ≡ true
+      → (q : Packet) × (bytes ≡ q .bytes) × ReadsFirst (t .outs e) (t′ .outs e) q
+  -- "rows 12 and 14 go by the book": none waits; none is open. A close that is not refused reads the first
+  pub row-12 : (e : ℕ) → c ≡ begin (aside (Open e)) → a ≡ ended (Refused 12) → t .outs e .waiting ≡ []
+  pub row-14 : (e : ℕ) → c ≡ begin (aside (Close e)) → a ≡ ended (Refused 14) → t .outs e .opened ≡ false
+  pub close-reads : (e : ℕ) → c ≡ begin (aside (Close e)) → a ≡ ended ok → (t .outs e .opened ≡ true) × (q : Packet) × ReadsFirst (t .outs e) (t′ .outs e) q
+  -- "overruns answers the count modulo 2^32", 0 where the Rust does
+  pub overruns-answers : (e : ℕ) → c ≡ question (overruns e) → a ≡ told (cond (isNumber e) (cond (isoOf t Out e) (t .outs e .lost % 2 ^ 32) 0) 0)
+  -- "row 13 goes by the book": 2 wait. A queue that is not refused finds fewer, and its bytes wait, last
+  pub row-13 : (e : ℕ) (bytes : List ℕ) → c ≡ begin (aside (Queue e bytes)) → a ≡ ended (Refused 13) → length (t .ins e .waiting) ≡ 2
+  pub queue-joins : (e : ℕ) (bytes : List ℕ) → c ≡ begin (aside (Queue e bytes)) → a ≡ ended ok
+      → (length (t .ins e .waiting) < 2) × (t′ .ins e .waiting ≡ t .ins e .waiting ++ (bytes ∷ [])) × (t′ .ins e .queued ≡ t .ins e .queued ++ (bytes ∷ []))
+  -- "the slot whose address a load hands out holds the bytes of the first then waiting"
+  pub load-holds : (e x : ℕ) → a ≡ handed (Transmit e x) → Holds (t′ .ins e) b x
+
+-- ---- demand 3's own sentences
+
+-- "An arrival is decided in the call that hands out the receive address": one that goes on with an interrupt, of an enabled isochronous OUT
+abbrev pub inInterrupt : Way Answer Pages → Bool
+inInterrupt idle = false
+inInterrupt (busy i a k) = i
+
+pub record Decides (c : Call Config Op) (n : Machine Answer Pages) (a : Ans Answer) (e : ℕ) : Type 0 where
+  pub brought : ℕ
+  pub address : ℕ
+  pub continues : c ≡ go brought
+  pub interrupt : inInterrupt (n .way) ≡ true
+  pub enabled : receiving (n .st) e ≡ true
+  pub hands : a ≡ handed (Receive e address)
+
+-- "it joins those waiting, last, with its slot's bytes in that call up to its length; with 15 waiting it is turned away and the endpoint's count
+-- rises": the one or the other, by whether 15 wait
+pub data Decided (lent : Buf) (p p′ : OutPage) : Type 0 where
+  admitted : (q : Packet) → length (p .waiting) < 15 → q .bytes ≡ bytesAt lent (p .slot) (length (q .bytes)) → p′ .waiting ≡ p .waiting ++ (q ∷ [])
+      → p′ .admitted ≡ p .admitted ++ (q ∷ []) → p′ .read ≡ p .read → p′ .lost ≡ p .lost → Decided lent p p′
+  turned-away : length (p .waiting) ≡ 15 → p′ .waiting ≡ p .waiting → p′ .admitted ≡ p .admitted → p′ .read ≡ p .read → p′ .lost ≡ p .lost + 1
+      → Decided lent p p′
+
+-- the count of those turned away rises in no other call, and an accepted start-up alone takes it back, to 0
+pub data Counted (c : Call Config Op) (lent : Buf) (a : Ans Answer) (e : ℕ) (p p′ : OutPage) : Type 0 where
+  same : p′ .lost ≡ p .lost → Counted c lent a e p p′
+  one-more : (f x : ℕ) → f % 16 ≡ e % 16 → a ≡ handed (Receive f x) → length (p′ .waiting) ≡ 15 → p′ .lost ≡ p .lost + 1 → Counted c lent a e p p′
+  none : (g : Config) → c ≡ start g → startRow g lent ≡ zero → p′ .lost ≡ 0 → Counted c lent a e p p′
+
+-- "Reset: none wait on that endpoint", and its stretch begins anew; the count of those turned away stays
+pub record EmptiedOut (p p′ : OutPage) : Type 0 where
+  pub waiting : p′ .waiting ≡ []
+  pub opened : p′ .opened ≡ false
+  pub admitted : p′ .admitted ≡ []
+  pub read : p′ .read ≡ []
+  pub lost : p′ .lost ≡ p .lost
+
+pub record EmptiedIn (p′ : InPage) : Type 0 where
+  pub waiting : p′ .waiting ≡ []
+  pub sending : p′ .sending ≡ false
+  pub queued : p′ .queued ≡ []
+  pub sent : p′ .sent ≡ []
+  pub passed : p′ .passed ≡ []
+
+abbrev pub Emptied : Dir → ℕ → Pages → Pages → Type 0
+Emptied Out e t t′ = EmptiedOut (t .outs e) (t′ .outs e)
+Emptied In e t t′ = EmptiedIn (t′ .ins e)
+
+-- an answer that hands out a receive address of OUT e
+abbrev pub givesTo : Access → ℕ → Bool
+givesTo (Read r f) e = false
+givesTo (Write r f v) e = false
+givesTo (Receive f x) e = eqb (f % 16) (e % 16)
+givesTo (Transmit f x) e = false
+givesTo (Ep0Dma x) e = false
+givesTo (Wait n) e = false
+givesTo Callback e = false
+
+abbrev pub addressed : Ans Answer → ℕ → Bool
+addressed (ended z) e = false
+addressed (handed q) e = givesTo q e
+addressed (told k) e = false
+
+-- a call that rows 1, 2, 3, 15 or 16 stop, or a question
+abbrev pub keepsOut : Way Answer Pages → Op → Bool
+keepsOut idle o = false
+keepsOut (busy i w k) o = cond (cond i (calls .aside o) false) false true
+
+abbrev pub notGoing : Way Answer Pages → ℕ → Bool
+notGoing idle v = true
+notGoing (busy i w k) v = over calls w v
+
+abbrev pub stopped : Call Config Op → Machine Answer Pages → Buf → Bool
+stopped (start g) n b = cond (eqb (startRow g b) zero) false true
+stopped (begin o) n b = cond (cond (calls .slots o) (misfit calls (book .driver) (n .st) b) false) true (keepsOut (n .way) o)
+stopped (go v) n b = cond (misfit calls (book .driver) (n .st) b) true (notGoing (n .way) v)
+stopped (question q) n b = true
+
+-- the length of a slot
+abbrev pub slotSize : Pages → ℕ
+slotSize t = t .kept .allocator .size
+
+-- the first of those waiting on IN e is being sent: from the call that hands out its slot's transmit address on, up to the one in which the tail
+-- passes it, its endpoint is reset or given by an allocation, or a start-up is accepted (Book: sentIn; passedIn, emptyIn, freshPages)
+abbrev pub BeingSent : Pages → ℕ → Type 0
+BeingSent t e = t .ins e .sending ≡ true
+
+-- what one call makes of the packet being sent on IN e: it is being sent still, from the same slot, and what was shown of it stands; or the tail has
+-- passed it; or its endpoint was reset or given by an allocation, or a start-up was accepted
+pub data Sends (e : ℕ) (t t′ : Pages) : Type 0 where
+  still : BeingSent t′ e → t′ .ins e .source ≡ t .ins e .source → t′ .ins e .shown ≡ t .ins e .shown → slotSize t′ ≡ slotSize t → Sends e t t′
+  passed-by : (bytes : List ℕ) → t′ .ins e .passed ≡ t .ins e .passed ++ (bytes ∷ []) → Sends e t t′
+  emptied : EmptiedIn (t′ .ins e) → Sends e t t′
+
+-- all bytes of the slot at that address are in b as they stood when it was handed out
+abbrev pub Unwritten : Pages → Buf → Type 0
+Unwritten t b = (e : ℕ) → BeingSent t e → Same (t .ins e .source) (t .ins e .source + slotSize t) (t .ins e .shown) b
+
+-- an address that is handed out has a slot's length of lent bytes from it on
+abbrev pub LiesIn : Access → Buf → Pages → Type 0
+LiesIn (Read r e) b t = Unit {0}
+LiesIn (Write r e v) b t = Unit {0}
+LiesIn (Receive e x) b t = x + slotSize t ≤ length b
+LiesIn (Transmit e x) b t = x + slotSize t ≤ length b
+LiesIn (Ep0Dma x) b t = x + slotSize t ≤ length b
+LiesIn (Wait n) b t = Unit {0}
+LiesIn Callback b t = Unit {0}
+
+abbrev pub Inside : Ans Answer → Buf → Pages → Type 0
+Inside (ended a) b t = Unit {0}
+Inside (handed q) b t = LiesIn q b t
+Inside (told n) b t = Unit {0}
+
+-- a call c, lent a slot buffer; the book before it; its answer, the driver's state, the slot buffer and the book after it
+pub record Sentences (c : Call Config Op) (lent : Buf) (n : Machine Answer Pages) (a : Ans Answer) (d : Driver) (b : Buf) (t′ : Pages) : Type 0 where
+  -- "the packets read in its stretch, then those queued, are exactly that stretch's admitted arrivals, in order": bytes and stamps as at admission
+  pub read-then-waiting : (e : ℕ) → bytesOf (t′ .outs e .read) ++ ringBytes d b e ≡ bytesOf (t′ .outs e .admitted)
+  pub read-then-stamps : (e : ℕ) → stampsOf (t′ .outs e .read) ++ ringStamps d e ≡ stampsOf (t′ .outs e .admitted)
+  -- "At most 15 wait"
+  pub at-most-15 : (e : ℕ) → length (ringBytes d b e) ≤ 15
+  -- a length is capped at the endpoint's maximum
+  pub capped : (e : ℕ) (earlier later : List Packet) (q : Packet) → t′ .outs e .waiting ≡ earlier ++ (q ∷ later)
+      → length (q .bytes) ≤ t′ .kept .plain Out e .«max_len»
+  -- an open packet is the first of them
+  pub open-waits : (e : ℕ) → t′ .outs e .opened ≡ true → 0 < length (ringBytes d b e)
+  -- "an arrival is turned away exactly when 15 do"
+  pub decided : (e : ℕ) → Decides c n a e → Decided lent (n .st .outs e) (t′ .outs e)
+  -- "All else, refusals too: no change": an interrupt changes the page of an OUT at its receive address alone
+  pub unmoved : (e v : ℕ) → c ≡ go v → inInterrupt (n .way) ≡ true → addressed a e ≡ false → t′ .outs e ≡ n .st .outs e
+  -- a call that any row refuses leaves the pages of all endpoints
+  pub refusal-leaves : (r : ℕ) → a ≡ ended (Refused r) → (e : ℕ) → (t′ .outs e ≡ n .st .outs e) × (t′ .ins e ≡ n .st .ins e)
+  -- a question and a call that rows 1, 2, 3, 15 or 16 stop leave the book; so does an open, close or queue that any row refuses
+  pub stopped-leaves : stopped c n lent ≡ true → t′ ≡ n .st
+  pub refused-leaves : (o : Aside) (r : ℕ) → c ≡ begin (aside o) → a ≡ ended (Refused r) → t′ ≡ n .st
+  -- "overruns": the count of Compared is that of the arrivals turned away since the start-up
+  pub counted : (e : ℕ) → Counted c lent a e (n .st .outs e) (t′ .outs e)
+  -- "Start-up: none wait, counts 0"
+  pub starts-anew : (g : Config) → c ≡ start g → startRow g lent ≡ zero → (e : ℕ)
+      → (t′ .outs e .lost ≡ 0) × (t′ .outs e .waiting ≡ []) × (t′ .ins e .waiting ≡ [])
+  -- "Reset: none wait on that endpoint": an endpoint that is enabled or disabled, in the call that hands out the first access
+  pub enabling-resets : (dir : Dir) (e : ℕ) (on : Bool) (q : Access) → c ≡ begin (slotted (SetEnabled dir e on)) → a ≡ handed q → Emptied dir e (n .st) t′
+  -- every endpoint, in the call in which a bus reset releases its flag
+  pub bus-reset-empties : (v : ℕ) → c ≡ go v → inInterrupt (n .way) ≡ false → a ≡ handed (Write IntFg 0 1) → (dir : Dir) (e : ℕ) → Emptied dir e (n .st) t′
+  -- IN: "at most 2 wait"
+  pub at-most-2 : (e : ℕ) → length (t′ .ins e .waiting) ≤ 2
+  -- "each reaches the chip at most once and in order": those handed to the chip are a beginning of those queued
+  pub sent-in-order : (e : ℕ) → (later : List (List ℕ)) × (t′ .ins e .sent ++ later ≡ t′ .ins e .queued)
+  pub passed-then-waiting : (e : ℕ) → t′ .ins e .passed ++ t′ .ins e .waiting ≡ t′ .ins e .queued
+  pub sent-is : (e : ℕ) → t′ .ins e .sent ≡ t′ .ins e .passed ++ cond (t′ .ins e .sending) (front (t′ .ins e .waiting)) []
+  -- where an interrupt hands out a transmit address and one waits then, that one is being sent, from that address
+  pub load-sends : (e x v : ℕ) → c ≡ go v → inInterrupt (n .way) ≡ true → a ≡ handed (Transmit e x) → 0 < length (t′ .ins e .waiting)
+      → BeingSent t′ e × (t′ .ins e .source ≡ x) × (t′ .ins e .load ≡ true)
+  -- "until the tail passes it, a reset or a start-up": nothing else ends a sending. A transmit address that is a load's is that of the slot being sent
+  pub sending-ends : (e : ℕ) → BeingSent (n .st) e → Sends e (n .st) t′
+  pub load-tells : (e x : ℕ) → a ≡ handed (Transmit e x) → t′ .ins e .load ≡ true → BeingSent t′ e × (t′ .ins e .source ≡ x)
+  -- "no slot being sent is written", whatever the chip stores, where it may, before the next call
+  pub unwritten : (b′ : Buf) → Chip t′ b b′ → Unwritten t′ b′
+  -- demand 1: no address that is handed out reaches outside the lent buffer
+  pub inside : Inside a b t′
+
+pub record AfterCall (c : Call Config Op) (lent : Buf) (n : Machine Answer Pages) (a : Ans Answer) (d : Driver) (b : Buf) (t′ : Pages) : Type 0 where
+  pub compared : Compared c (n .st) a d b t′
+  pub sentences : Sentences c lent n a d b t′
+
+-- "Length: the one of this interrupt, else by the marks": of an arrival that joins those waiting in call m, by what the operation under way was
+-- brought, this call's number too (Lengths.antt)
+abbrev pub LengthIs : Made → Machine Answer Pages → Known → Type 0
+LengthIs m n k = (e : ℕ) → Decides (m .event .call) n (m .answer) e → (q : Packet) → noted m n .1 .st .outs e .waiting ≡ n .st .outs e .waiting ++ (q ∷ [])
+    → length (q .bytes) ≡ lengthAt (k .readings) (m .event .lent) (n .st) e
+
+-- "All else, refusals too: no change": call m leaves the pages of every endpoint that it does not name; k: what the operation under way names. The
+-- release of a bus reset's flag empties all (`bus-reset-empties`)
+abbrev pub OthersStay : Made → Machine Answer Pages → Names → Type 0
+OthersStay m n k = releasing (m .answer) ≡ false → (d : Dir) (e : ℕ) → Away (callNames (m .event .call) k) d e → SamePage d e (n .st) (noted m n .1 .st)
+
+-- ---- the statement
+
+-- of each call of a list that was made, with the book before it
+abbrev pub AfterEach : Machine Answer Pages → List Made → Type 0
+AfterEach n [] = Unit {0}
+AfterEach n (m ∷ ms) =
+    AfterCall (m .event .call) (m .event .lent) n (m .answer) (view (m .bytes)) (m .slots) (noted m n .1 .st) × AfterEach (noted m n .1) ms
+
+-- and the lengths, with what was brought before it
+abbrev pub LengthsEach : Machine Answer Pages → Known → List Made → Type 0
+LengthsEach n k [] = Unit {0}
+LengthsEach n k (m ∷ ms) = let l = learnt (m .event .call) (m .answer) k in LengthIs m n l × LengthsEach (noted m n .1) l ms
+
+abbrev pub OthersEach : Machine Answer Pages → Names → List Made → Type 0
+OthersEach n k [] = Unit {0}
+OthersEach n k (m ∷ ms) = OthersStay m n k × OthersEach (noted m n .1) (underWay (m .event .call) (m .answer) k) ms
+
+-- the state's bytes xs, the slot buffer a and the book n may be any. The first call is a start-up that rows 1 and 2 do not stop, and any calls
+-- follow: refused ones and start-ups too, ending anywhere, whatever the chip answers. Nor does it matter what was under way before
+abbrev pub Demand3 : Type 0
+Demand3 = (c : Config) (b : Buf) → startRow c b ≡ zero → (xs : List ℕ) (a : Buf) (n : Machine Answer Pages) (first : Made)
+    → first .event ≡ record { call = start c; lent = b } → (ms : List Made) → Calls xs a n (first ∷ ms)
+    → AfterEach n (first ∷ ms) × ((k : Known) → LengthsEach n k (first ∷ ms)) × ((k : Names) → OthersEach n k (first ∷ ms))
+
+-- ---- no slot being sent is written, between two moments
+
+-- the slot buffer and the book after calls
+abbrev pub slotsAfter : Buf → List Made → Buf
+slotsAfter b [] = b
+slotsAfter b (m ∷ ms) = slotsAfter (m .slots) ms
+
+abbrev pub bookAfter : Machine Answer Pages → List Made → Machine Answer Pages
+bookAfter n [] = n
+bookAfter n (m ∷ ms) = bookAfter (noted m n .1) ms
+
+-- calls in which the tail does not pass the packet that is being sent on IN e, and no reset, allocation or start-up empties its page
+abbrev pub NotEnded : ℕ → Machine Answer Pages → List Made → Type 0
+NotEnded e n [] = Unit {0}
+NotEnded e n (m ∷ ms) =
+    let p = noted m n .1 .st .ins e in
+    (p .passed ≡ n .st .ins e .passed) × (EmptiedIn p → ⊥) × NotEnded e (noted m n .1) ms
+
+-- "from the call that hands out its address until the tail passes it, a reset or a start-up, all of its `size` bytes stay". A list of calls cut in three:
+-- those before; the one that hands out the address x of the slot of a packet on IN e; and further ones that do not end its sending. All bytes of
+-- the slot are in the buffer as the last call left it, and after what the chip then stores where it may, as the one that handed out x left them
+abbrev pub SlotsStay : Type 0
+SlotsStay = (c : Config) (b : Buf) → startRow c b ≡ zero → (xs : List ℕ) (a : Buf) (n : Machine Answer Pages) (first : Made)
+    → first .event ≡ record { call = start c; lent = b } → (before : List Made) (hands : Made) (further : List Made)
+    → Calls xs a n (first ∷ (before ++ (hands ∷ further)))
+    → let n′ = noted hands (bookAfter n (first ∷ before)) .1 in (e x : ℕ) → hands .answer ≡ handed (Transmit e x) → n′ .st .ins e .load ≡ true
+    → NotEnded e n′ further → (b′ : Buf) → Chip (bookAfter n′ further .st) (slotsAfter (hands .slots) further) b′
+    → Same x (x + slotSize (n′ .st)) (hands .slots) b′

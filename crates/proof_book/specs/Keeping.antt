@@ -1,0 +1,210 @@
+-- A script that leaves `entered`, the microframe index with which the interrupt under way began (request One): each assignment of the globals has
+-- the one that was read. Then it is the same at every access and at the end, whatever is read
+use mathlib.Core.Bool.{Bool, true, false, not, cond, true≢false}
+use mathlib.Core.List.{List}
+use mathlib.Core.Path.{_≡_, refl, sym, ap, _∙_}
+use Prim.Native.Nat.{ℕ, _%_}
+use lib.ListN.{length}
+use Rattle.bits.specs.Bit.{isSet}
+use Rattle.regs.specs.declared.Access.{Access}
+use Rattle.regs.specs.declared.Dir.the-variants.{Out, In}
+use Rattle.state.specs.declared.Globals.{Globals}
+use Rattle.state.specs.Driver.{Driver, epOn, withOn, withLenOn, withStampOn, withPacedOn, withRequestOn}
+use Rattle.ring.specs.Slot.{slotAddr, hasWaiting}
+use Rattle.ring.specs.Out.{hasRoomOut, cappedAt, armedAt}
+use Rattle.marks.specs.Copies.{copied}
+use Rattle.model.specs.Tree as tree
+use Rattle.model.specs.Tree.{ends, asks, bindOut}
+use Rattle.model.specs.Cells.{Cell, Val, globals-cell, control-cell, allocator-cell, ep-cell, request-cell, paced-cell}
+use Rattle.model.specs.Script.{Script, ret, bind, test, read-then, write-then, wait-then, callback-then, get-then, put-then, is-then, look-then, fetch-then, act-then, hand-then, row-then, run, get, Act, complete, reset-ring, set-enabled, fill, fill0, open-oldest, close-oldest, take-oldest, enqueue, allocate, allocate0, no-wakes, waken, Hand, arrive, send, place, place0}
+use Rattle.model.specs.Statics.{isOn, isoOuts}
+use Rattle.model.specs.Sorts.{allocates}
+use Rattle.model_ops.specs.Records.{isoOut, configured, enabledOn}
+use Rattle.model_ops.specs.Rings.{St, completeOn, emptied, emptiedOn, openOn, closeOn, takeOn, roomOn, queuedOn, enqueueOn, recordedOn, admittedOn, arrivedAt, arriveOn, sendOn, placeOn}
+use Rattle.model_ops.specs.Conc.{conc}
+
+-- ---- on every way through an outcome
+
+-- K at each access and at the end, P of the answer; between two accesses K stays
+pub data Throughout {S A : Type 0} (K : S → Type 0) (P : A → Type 0) : tree.Out S A → Type 0 where
+  at-end : {a : A} {s : S} → K s → P a → Throughout K P (ends a s)
+  at-ask : {q : Access} {s : S} {k : ℕ → S → tree.Out S A} → K s → ((v : ℕ) (t : S) → K t → Throughout K P (k v t)) → Throughout K P (asks q s k)
+
+module _ {S : Type 0} {K : S → Type 0} where
+  pub through-more : {A : Type 0} {P Q : A → Type 0} {o : tree.Out S A} → Throughout K P o → ((a : A) → P a → Q a) → Throughout K Q o
+  through-more (at-end k p) f = at-end k (f _ p)
+  through-more (at-ask k x) f = at-ask k (λ v t h. through-more (x v t h) f)
+
+  pub through-bind : {A B : Type 0} {P : A → Type 0} {Q : B → Type 0} {o : tree.Out S A} {f : A → S → tree.Out S B}
+      → Throughout K P o → ((a : A) (s : S) → K s → P a → Throughout K Q (f a s)) → Throughout K Q (bindOut o f)
+  through-bind (at-end k p) f = f _ _ k p
+  through-bind (at-ask k x) f = at-ask k (λ v t h. through-bind (x v t h) f)
+
+  through-cond : {A : Type 0} {P : A → Type 0} (b : Bool) {o u : tree.Out S A} → Throughout K P o → Throughout K P u → Throughout K P (cond b o u)
+  through-cond true x y = x
+  through-cond false x y = y
+
+  pub at-last : {A : Type 0} {P : A → Type 0} {a : A} {s : S} → Throughout K P (ends a s) → K s
+  at-last (at-end k p) = k
+
+-- ---- scripts
+
+-- what a cell says of it
+abbrev pub Says : ℕ → (c : Cell) → Val c → Type 0
+Says x globals-cell g = g .entered ≡ x
+Says x control-cell v = Unit {0}
+Says x allocator-cell v = Unit {0}
+Says x (ep-cell d e) v = Unit {0}
+Says x (request-cell d e) v = Unit {0}
+Says x (paced-cell e) v = Unit {0}
+
+-- what may be said of a script's result: that it was read
+abbrev pub Gives : {i : Bool} {A : Type 0} → ℕ → Script i A → A → Type 0
+Gives x (ret a) b = a ≡ b
+Gives x (get-then c k) b = (v : Val c) × Says x c v × Gives x (k v) b
+Gives x (bind p f) b = Unit {0}
+Gives x (test u p q) b = Unit {0}
+Gives x (read-then r e k) b = Unit {0}
+Gives x (write-then r e v p) b = Unit {0}
+Gives x (wait-then n p) b = Unit {0}
+Gives x (callback-then p) b = Unit {0}
+Gives x (put-then c v p) b = Unit {0}
+Gives x (is-then q k) b = Unit {0}
+Gives x (look-then q k) b = Unit {0}
+Gives x (fetch-then q k) b = Unit {0}
+Gives x (act-then q p) b = Unit {0}
+Gives x (hand-then q p) b = Unit {0}
+Gives x (row-then g p) b = Unit {0}
+
+-- the globals that were read have it
+pub got : (x : ℕ) (g : Globals) → Gives x (get {i = true} globals-cell) g → g .entered ≡ x
+got x g w = sym (ap (λ (h : Globals). h .entered) (w .2)) ∙ w .1
+
+-- the changes in an interrupt: no packet of an OUT endpoint is read, none is voided
+abbrev pub calm : Act → Bool
+calm (complete e) = true
+calm (reset-ring d e) = false
+calm (set-enabled d e on) = false
+calm (fill e bytes) = false
+calm (fill0 bytes) = false
+calm (open-oldest e) = false
+calm (close-oldest e) = false
+calm (take-oldest e) = false
+calm (enqueue e bytes) = false
+calm (allocate d kind address maximum interval) = false
+calm (allocate0 maximum) = false
+calm no-wakes = true
+calm (waken codes) = true
+
+-- those of the calls that pass
+abbrev pub passing : Act → Bool
+passing q = not (allocates q)
+
+-- its changes are of the kind `ok`
+abbrev pub Keeps : {i : Bool} {A : Type 0} → (Act → Bool) → ℕ → Script i A → Type 0
+Keeps ok x (ret a) = Unit {0}
+Keeps ok x (bind p f) = Keeps ok x p × ((a : _) → Gives x p a → Keeps ok x (f a))
+Keeps ok x (test b p q) = Keeps ok x p × Keeps ok x q
+Keeps ok x (read-then r e k) = (v : ℕ) → Keeps ok x (k v)
+Keeps ok x (write-then r e v p) = Keeps ok x p
+Keeps ok x (wait-then n p) = Keeps ok x p
+Keeps ok x (callback-then p) = Keeps ok x p
+Keeps ok x (get-then c k) = (v : Val c) → Says x c v → Keeps ok x (k v)
+Keeps ok x (put-then c v p) = Says x c v × Keeps ok x p
+Keeps ok x (is-then q k) = (b : Bool) → Keeps ok x (k b)
+Keeps ok x (look-then q k) = (n : ℕ) → Keeps ok x (k n)
+Keeps ok x (fetch-then q k) = (l : List ℕ) → Keeps ok x (k l)
+Keeps ok x (act-then q p) = (ok q ≡ true) × Keeps ok x p
+Keeps ok x (hand-then q p) = Keeps ok x p
+Keeps ok x (row-then g p) = ⊥
+
+-- ---- the driver's operations
+
+abbrev pub At : ℕ → St → Type 0
+At x s = s .0 .globals .entered ≡ x
+
+either : {A : Type 0} (f : Globals → A) (b : Bool) (d x y : Driver) → f (x .globals) ≡ f (d .globals) → f (y .globals) ≡ f (d .globals) → f (cond b x y .globals) ≡ f (d .globals)
+either f true d x y p q = p
+either f false d x y p q = q
+
+pub get-says : (x : ℕ) (c : Cell) (s : St) → At x s → Says x c (conc .get c s)
+get-says x globals-cell s k = k
+get-says x control-cell s k = tt
+get-says x allocator-cell s k = tt
+get-says x (ep-cell d e) s k = tt
+get-says x (request-cell d e) s k = tt
+get-says x (paced-cell e) s k = tt
+
+pub put-at : (x : ℕ) (c : Cell) (v : Val c) (s : St) → Says x c v → At x s → At x (conc .put c v s)
+unfolding withOn withRequestOn withPacedOn
+put-at x globals-cell v s h k = h
+put-at x control-cell v s h k = k
+put-at x allocator-cell v s h k = k
+put-at x (ep-cell d e) v s h k = k
+put-at x (request-cell d e) v s h k = k
+put-at x (paced-cell e) v s h k = k
+
+pub act-at : (q : Act) → allocates q ≡ false → (s : St) → conc .act q s .0 .globals .entered ≡ s .0 .globals .entered
+unfolding completeOn emptied emptiedOn enabledOn configured openOn closeOn takeOn enqueueOn queuedOn withOn withLenOn
+act-at (complete e) h s = refl
+act-at (reset-ring d e) h s = either (λ g. g .entered) (isoOut (s .0) d e) (s .0) (s .0) _ refl refl
+act-at (set-enabled d e on) h s = either (λ g. g .entered) (isoOut (s .0) d e) (s .0) (s .0) _ refl refl
+act-at (fill e bytes) h s = refl
+act-at (fill0 bytes) h s = refl
+act-at (open-oldest e) h s = either (λ g. g .entered) (hasWaiting (epOn (s .0) Out e)) (s .0) _ (s .0) refl refl
+act-at (close-oldest e) h s = either (λ g. g .entered) (isOn (epOn (s .0) Out e .«open»)) (s .0) _ (s .0) refl refl
+act-at (take-oldest e) h s = either (λ g. g .entered) (hasWaiting (epOn (s .0) Out e)) (s .0) _ (s .0) refl refl
+act-at (enqueue e bytes) h s = by (roomOn (s .0) e (length bytes))
+  where
+    by : (b : Bool) → cond b (queuedOn (s .0) e (length bytes), copied (s .1) (slotAddr (epOn (s .0) In e) (epOn (s .0) In e .head)) bytes) s .0 .globals .entered ≡ s .0 .globals .entered
+    by true = refl
+    by false = refl
+act-at (allocate d kind address maximum interval) h s = absurd (true≢false h)
+act-at (allocate0 maximum) h s = absurd (true≢false h)
+act-at no-wakes h s = refl
+act-at (waken codes) h s = refl
+
+recorded-at : (d : Driver) (e len : ℕ) → recordedOn d e len .globals .entered ≡ d .globals .entered
+unfolding recordedOn withLenOn withStampOn
+recorded-at d e len = either (λ g. g .entered) (hasRoomOut (epOn d Out e)) d _ d refl refl
+
+pub hand-at : (q : Hand) (s : St) → conc .hand q s .1 .0 .globals .entered ≡ s .0 .globals .entered
+unfolding arriveOn admittedOn sendOn placeOn withOn
+hand-at (arrive e n) s = by (isSet (isoOuts (s .0 .globals)) (e % 16))
+  where
+    by : (b : Bool) → cond b (arrivedAt e (cappedAt (epOn (s .0) Out e) n) s) (epOn (s .0) Out e .«armed_slot», s) .1 .0 .globals .entered ≡ s .0 .globals .entered
+    by true = recorded-at (s .0) e (cappedAt (epOn (s .0) Out e) n)
+    by false = refl
+hand-at (send e) s = either (λ g. g .entered) (hasWaiting (epOn (s .0) In e)) (s .0) _ (s .0) refl refl
+hand-at (place Out e) s = by (isSet (isoOuts (s .0 .globals)) (e % 16))
+  where
+    by : (b : Bool) → cond {A = ℕ × Driver} b (epOn (s .0) Out e .«armed_slot», s .0) (epOn (s .0) Out e .base, withOn (s .0) Out e (armedAt (epOn (s .0) Out e) (epOn (s .0) Out e .base))) .1 .globals .entered ≡ s .0 .globals .entered
+    by true = refl
+    by false = refl
+hand-at (place In e) s = refl
+hand-at place0 s = refl
+
+-- ---- its run
+
+not-allocates : (b : Bool) → not b ≡ true → b ≡ false
+not-allocates true h = absurd (true≢false (sym h))
+not-allocates false h = refl
+
+pub keeps-run : {i : Bool} {A : Type 0} (x : ℕ) (p : Script i A) → Keeps passing x p → (s : St) → At x s → Throughout (At x) (Gives x p) (run conc p s)
+keeps-run x (ret a) h s k = at-end k refl
+keeps-run x (bind p f) h s k = through-bind (keeps-run x p (h .0) s k) (λ a t l g. through-more (keeps-run x (f a) (h .1 a g) t l) (λ b w. tt))
+keeps-run x (test b p q) h s k = through-cond b (through-more (keeps-run x p (h .0) s k) (λ a w. tt)) (through-more (keeps-run x q (h .1) s k) (λ a w. tt))
+keeps-run x (read-then r e f) h s k = at-ask k (λ v t l. through-more (keeps-run x (f v) (h v) t l) (λ a w. tt))
+keeps-run x (write-then r e v p) h s k = at-ask k (λ _ t l. through-more (keeps-run x p h t l) (λ a w. tt))
+keeps-run x (wait-then n p) h s k = at-ask k (λ _ t l. through-more (keeps-run x p h t l) (λ a w. tt))
+keeps-run x (callback-then p) h s k = at-ask k (λ _ t l. through-more (keeps-run x p h t l) (λ a w. tt))
+keeps-run x (get-then c f) h s k =
+    let g = get-says x c s k in
+    through-more (keeps-run x (f (conc .get c s)) (h (conc .get c s) g) s k) (λ a w. (conc .get c s, g, w))
+keeps-run x (put-then c v p) h s k = through-more (keeps-run x p (h .1) (conc .put c v s) (put-at x c v s (h .0) k)) (λ a w. tt)
+keeps-run x (is-then q f) h s k = through-more (keeps-run x (f (conc .is q s)) (h (conc .is q s)) s k) (λ a w. tt)
+keeps-run x (look-then q f) h s k = through-more (keeps-run x (f (conc .look q s)) (h (conc .look q s)) s k) (λ a w. tt)
+keeps-run x (fetch-then q f) h s k = through-more (keeps-run x (f (conc .fetch q s)) (h (conc .fetch q s)) s k) (λ a w. tt)
+keeps-run x (act-then q p) h s k = through-more (keeps-run x p (h .1) (conc .act q s) (act-at q (not-allocates (allocates q) (h .0)) s ∙ k)) (λ a w. tt)
+keeps-run x (hand-then q p) h s k = at-ask (hand-at q s ∙ k) (λ _ t l. through-more (keeps-run x p h t l) (λ a w. tt))
+keeps-run x (row-then g p) h s k = absurd h

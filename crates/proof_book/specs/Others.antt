@@ -1,0 +1,112 @@
+-- Document 01: "All else, refusals too: no change". Which endpoint each call names; the pages of all others stay. Definitions; FrontPage.antt says it of
+-- every call
+use mathlib.Core.Bool.{Bool, true, false, _&&_}
+use mathlib.Core.Logic.{_≢_}
+use mathlib.Core.Path.{_≡_}
+use Prim.Native.Nat.{ℕ, _%_}
+use lib.Dec.{eqb}
+use Rattle.regs.specs.declared.Access.{Access}
+use Rattle.regs.specs.declared.Access.the-variants.{Read, Write, Receive, Transmit, Ep0Dma, Wait, Callback}
+use Rattle.regs.specs.declared.Reg.the-variants.{IntFg}
+use Rattle.regs.specs.declared.Dir.{Dir}
+use Rattle.regs.specs.declared.Dir.the-variants.{Out, In}
+use Rattle.model.specs.Every.{sameReg}
+use Rattle.model.specs.Answers.{Answer}
+use Rattle.model.specs.Calls.{Config, Op, interrupt, slotted, other, aside, Slotted, SetEnabled, PollRead, BeginWrite, PollWrite, PollDataOut, BeginDataIn, Other, Allocate, AllocateAll, Start, BusPoll, BusEnable, BusDisable, Microframe, SetStalled, IsStalled, SetPaced, Advance, BeginRead, BeginSetup, PollSetup, PollDataIn, BeginAccept, PollAccept, BeginReject, BeginDataOut, BeginAcceptSetAddress, Aside, Open, Close, Queue}
+use Rattle.model.specs.Machine.{Call, start, begin, go, question, Ans, ended, handed, told}
+use Rattle.proof_book.specs.Pages.{Pages}
+
+-- the release of a bus reset's flag, in which no endpoint keeps its packets
+abbrev pub releases : Access → Bool
+releases (Read r e) = false
+releases (Write r e v) = sameReg r IntFg && eqb v 1
+releases (Receive e x) = false
+releases (Transmit e x) = false
+releases (Ep0Dma x) = false
+releases (Wait n) = false
+releases Callback = false
+
+abbrev pub releasing : Ans Answer → Bool
+releasing (ended z) = false
+releasing (handed q) = releases q
+releasing (told k) = false
+
+-- the endpoints whose packets a call may change: one, none of them, any
+pub data Names : Type 0 where
+  only : Dir → ℕ → Names
+  none any : Names
+
+abbrev pub slottedNames : Slotted → Names
+slottedNames (SetEnabled d e on) = only d e
+slottedNames (PollRead e n) = only Out e
+slottedNames (BeginWrite e bytes) = only In e
+slottedNames (PollWrite e bytes) = only In e
+slottedNames (PollDataOut n) = none
+slottedNames (BeginDataIn bytes first last) = none
+
+-- an allocation gives a number of its own choice, before EP0's start, where none wait yet
+abbrev pub otherNames : Other → Names
+otherNames (Allocate d kind address maximum interval) = any
+otherNames (AllocateAll bytes) = any
+otherNames (Start maximum) = none
+otherNames BusPoll = none
+otherNames BusEnable = none
+otherNames BusDisable = none
+otherNames Microframe = none
+otherNames (SetStalled d e on) = only d e
+otherNames (IsStalled d e) = only d e
+otherNames (SetPaced e on) = only In e
+otherNames (Advance e) = only In e
+otherNames (BeginRead e n) = only Out e
+otherNames BeginSetup = none
+otherNames PollSetup = none
+otherNames PollDataIn = none
+otherNames BeginAccept = none
+otherNames PollAccept = none
+otherNames BeginReject = none
+otherNames (BeginDataOut n first) = none
+otherNames (BeginAcceptSetAddress a) = none
+
+abbrev pub asideNames : Aside → Names
+asideNames (Open e) = only Out e
+asideNames (Close e) = only Out e
+asideNames (Queue e bytes) = only In e
+
+-- an interrupt goes by its accesses (`unmoved` of FrontPage.antt)
+abbrev pub opNames : Op → Names
+opNames interrupt = any
+opNames (slotted o) = slottedNames o
+opNames (other o) = otherNames o
+opNames (aside o) = asideNames o
+
+-- the operation under way, after a call, by what it was answered: that of a begin that is handed an access. A start-up names none
+abbrev pub underWay : Call Config Op → Ans Answer → Names → Names
+underWay (start c) (handed q) m = none
+underWay (start c) (ended a) m = m
+underWay (start c) (told n) m = m
+underWay (begin o) (handed q) m = opNames o
+underWay (begin o) (ended a) m = m
+underWay (begin o) (told n) m = m
+underWay (go v) a m = m
+underWay (question q) a m = m
+
+-- what a call names, where the operation under way names m. An accepted start-up makes all afresh
+abbrev pub callNames : Call Config Op → Names → Names
+callNames (start c) m = any
+callNames (begin o) m = opNames o
+callNames (go v) m = m
+callNames (question q) m = none
+
+-- another endpoint than those named; numbers count modulo 16
+abbrev pub Away : Names → Dir → ℕ → Type 0
+Away none d e = Unit {0}
+Away any d e = ⊥
+Away (only Out f) Out e = e % 16 ≢ f % 16
+Away (only In f) In e = e % 16 ≢ f % 16
+Away (only Out f) In e = Unit {0}
+Away (only In f) Out e = Unit {0}
+
+-- its page is as before
+abbrev pub SamePage : Dir → ℕ → Pages → Pages → Type 0
+SamePage Out e t t′ = t′ .outs e ≡ t .outs e
+SamePage In e t t′ = t′ .ins e ≡ t .ins e

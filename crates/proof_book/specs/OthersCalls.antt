@@ -1,0 +1,179 @@
+-- A call leaves the pages of the endpoints that it does not name, over every list of calls
+use mathlib.Core.Bool.{Bool, true, false, cond, true≢false}
+use mathlib.Core.Path.{_≡_, refl, ap, subst, sym, _∙_}
+use Prim.Native.Nat.{ℕ, zero, suc, _%_}
+use lib.Dec.{eqb}
+use borrow.Author.Tests.{eq-eqb}
+use Rattle.regs.specs.declared.Access.{Access}
+use Rattle.regs.specs.declared.Access.the-variants.{Read, Write, Receive, Transmit, Ep0Dma, Wait, Callback}
+use Rattle.regs.specs.declared.Dir.{Dir}
+use Rattle.regs.specs.declared.Dir.the-variants.{Out, In}
+use Rattle.model.specs.Tree as tree
+use Rattle.model.specs.Tree.{ends, asks}
+use Rattle.model.specs.Script.{run}
+use Rattle.model.specs.Answers.{Answer}
+use Rattle.model.specs.Calls.{Config, Op, interrupt, slotted, other, aside, calls, code, starting, startRow}
+use Rattle.model.specs.Machine.{Buf, Call, start, begin, go, question, Ans, ended, handed, told, blankA, Way, idle, busy, Machine, over, misfit, stay, lentTo, beside, halt, begun, continued, started, fed}
+use Rattle.proof_book.specs.Pages.{OutPage, InPage, Pages}
+use Rattle.proof_book.specs.Book.{Bk, slotTold, sourceTold, freshPages, bookOps, book}
+use Rattle.proof_book.specs.Frame.{at-elim}
+use Rattle.proof_book.specs.FrontPage.{written, addressed}
+use Rattle.proof_book.specs.Others.{releases, releasing, Names, none, opNames, underWay, callNames, Away, SamePage}
+use Rattle.proof_book.specs.BookTracks.{end, ask}
+use Rattle.proof_book.specs.BookCalls.{addressed-blank, sending, sending-blank}
+use Rattle.proof_book.specs.BusResets.{releasing-blank}
+use Rattle.proof_book.specs.OthersStay.{Spared, spare, spared-any, of-slotted, of-other, of-aside, of-starting}
+
+-- what is left of the operation under way
+abbrev pub WaySpared : Names → Way Answer Pages → Type 0
+WaySpared m idle = Unit {0}
+WaySpared m (busy i a k) = (v : ℕ) (s : Bk) → Spared m s (k v s)
+
+-- ---- an address that is told
+
+same-number : (e f : ℕ) → e % 16 ≡ f % 16 → eqb (f % 16) (e % 16) ≡ true
+same-number e f h = ap (λ (n : ℕ). eqb (f % 16) n) h ∙ eq-eqb (f % 16) (f % 16) refl
+
+fed-out : (z : Ans Answer) (t : Pages) (e : ℕ) → addressed z e ≡ false → fed book z t .outs e ≡ t .outs e
+fed-out (ended z) t e g = refl
+fed-out (handed (Read r f)) t e g = refl
+fed-out (handed (Write r f w)) t e g = refl
+fed-out (handed (Receive f x)) t e g = at-elim (λ (p : OutPage). p ≡ t .outs e) f e (slotTold (t .outs f) x) (t .outs)
+    (λ k. absurd (true≢false (sym (same-number e f k) ∙ g))) (λ _. refl)
+fed-out (handed (Transmit f x)) t e g = refl
+fed-out (handed (Ep0Dma x)) t e g = refl
+fed-out (handed (Wait k)) t e g = refl
+fed-out (handed Callback) t e g = refl
+fed-out (told k) t e g = refl
+
+fed-in : (z : Ans Answer) (t : Pages) (e : ℕ) → sending z e ≡ false → fed book z t .ins e ≡ t .ins e
+fed-in (ended z) t e g = refl
+fed-in (handed (Read r f)) t e g = refl
+fed-in (handed (Write r f w)) t e g = refl
+fed-in (handed (Receive f x)) t e g = refl
+fed-in (handed (Transmit f x)) t e g = at-elim (λ (p : InPage). p ≡ t .ins e) f e (sourceTold (t .ins f) x) (t .ins)
+    (λ k. absurd (true≢false (sym (same-number f e (sym k)) ∙ g))) (λ _. refl)
+fed-in (handed (Ep0Dma x)) t e g = refl
+fed-in (handed (Wait k)) t e g = refl
+fed-in (handed Callback) t e g = refl
+fed-in (told k) t e g = refl
+
+-- ---- one call; x: the driver's answer, of which the book is told
+
+spared : (o : Op) (s : Bk) → Spared (opNames o) s (run bookOps (code o) s)
+spared interrupt s = spared-any s (run bookOps (code interrupt) s)
+spared (slotted o) s = spare (of-slotted o) s
+spared (other o) s = spare (of-other o) s
+spared (aside o) s = spare (of-aside o) s
+
+module _ (x : Ans Answer) where
+  abbrev halts : Bool → tree.Out Bk Answer → Ans Answer × Machine Answer Pages
+  halts i o = halt calls (book .driver) (fed book x) i o
+
+  -- the pages of all but those named, from t on
+  abbrev Leaves : Names → Pages → Ans Answer × Machine Answer Pages → Type 0
+  Leaves m t y = blankA x ≡ blankA (y .0) → releasing x ≡ false → (d : Dir) (e : ℕ) → Away m d e → SamePage d e t (y .1 .st)
+
+  unchanged : (m : Names) (t : Pages) (y : Ans Answer × Machine Answer Pages) → y .1 .st ≡ t → Leaves m t y
+  unchanged m t y h s r Out e a = ap (λ (t : Pages). t .outs e) h
+  unchanged m t y h s r In e a = ap (λ (t : Pages). t .ins e) h
+
+  halted : (m : Names) (i : Bool) (s : Bk) (o : tree.Out Bk Answer) → Spared m s o → Leaves m (s .0) (halts i o)
+  halted m i s (ends z t) (end j q) same r Out e a = q .outs e a
+  halted m i s (ends z t) (end j q) same r In e a = q .ins e a
+  halted m i s (asks q t k) (ask j w g) same r Out e a =
+      fed-out x (t .0) e (sym (addressed-blank x e) ∙ ap (λ (z : Ans Answer). addressed z e) same ∙ addressed-blank (handed q) e ∙ w .receives e a)
+      ∙ w .pages (sym (releasing-blank (handed q)) ∙ ap releasing (sym same) ∙ releasing-blank x ∙ r) .outs e a
+  halted m i s (asks q t k) (ask j w g) same r In e a =
+      fed-in x (t .0) e (sym (sending-blank x e) ∙ ap (λ (z : Ans Answer). sending z e) same ∙ sending-blank (handed q) e ∙ w .transmits e a)
+      ∙ w .pages (sym (releasing-blank (handed q)) ∙ ap releasing (sym same) ∙ releasing-blank x ∙ r) .ins e a
+
+  halted-way : (m : Names) (i : Bool) {s : Bk} (o : tree.Out Bk Answer) → Spared m s o → WaySpared m (halts i o .1 .way)
+  halted-way m i (ends z t) w = tt
+  halted-way m i (asks q t k) (ask j w g) = λ v u. g v u tt
+
+  pub record Goes (c : Call Config Op) (m : Names) (t : Pages) (y : Ans Answer × Machine Answer Pages) : Type 0 where
+    pub way : WaySpared (underWay c (y .0) m) (y .1 .way)
+    pub pages : Leaves (callNames c m) t y
+
+  either : (c : Call Config Op) (m : Names) (t : Pages) (u : Bool) (y z : Ans Answer × Machine Answer Pages) → Goes c m t y → Goes c m t z
+      → Goes c m t (cond u y z)
+  either c m t true y z p q = p
+  either c m t false y z p q = q
+
+  -- begun where nothing is under way
+  begun-way : (o : Op) (m : Names) {s : Bk} (z : tree.Out Bk Answer) → Spared (opNames o) s z
+      → let y = halts (calls .irq o) z in WaySpared (underWay (begin o) (y .0) m) (y .1 .way)
+  begun-way o m (ends a t) w = tt
+  begun-way o m (asks q t k) (ask j w g) = λ v u. g v u tt
+
+  -- that falls in an interrupt
+  passing : (o : Op) (m : Names) (n : Machine Answer Pages) (b : Buf) → WaySpared m (n .way) → (z : tree.Out Bk Answer) → Spared (opNames o) (n .st, b) z
+      → Goes (begin o) m (n .st) (beside calls (book .driver) (lentTo calls (book .driver) n b) z)
+  passing o m n b h (ends a t) (end j q) = record { way = h; pages = ended-pages }
+    where
+      ended-pages : Leaves (opNames o) (n .st) (ended a, record { way = n .way; st = t .0; buf = t .1 })
+      ended-pages s r Out e f = q .outs e f
+      ended-pages s r In e f = q .ins e f
+  passing o m n b h (asks q t k) w = record {
+    way = h;
+    pages = unchanged (opNames o) (n .st) (stay calls (book .driver) 3 (lentTo calls
+        (book .driver) n b)) refl;
+  }
+
+  begun-goes : (o : Op) (m : Names) (n : Machine Answer Pages) (b : Buf) → WaySpared m (n .way) → (w : Way Answer Pages)
+      → Goes (begin o) m (n .st) (begun calls (book .driver) (fed book x) o n w b)
+  begun-goes o m n b h idle = record {
+    way = begun-way o m (run bookOps (code o) (n .st, b)) (spared o (n .st, b));
+    pages = halted (opNames o) (calls .irq o) (n .st, b) (run bookOps (code o) (n .st, b)) (spared o (n .st, b));
+  }
+  begun-goes o m n b h (busy i q k) = either (begin o) m (n .st) (cond i (calls .aside o) false) _ _ (passing o m n b h (run bookOps (code o)
+      (n .st, b)) (spared o (n .st, b)))
+      (record { way = h; pages = unchanged (opNames o) (n .st) (stay calls (book .driver) 3 (lentTo calls (book .driver) n b)) refl })
+
+  continued-goes : (v : ℕ) (m : Names) (n : Machine Answer Pages) (b : Buf) → WaySpared m (n .way) → (w : Way Answer Pages) → WaySpared m w
+      → Goes (go v) m (n .st) (continued calls (book .driver) (fed book x) v n w b)
+  continued-goes v m n b h idle g = record { way = h; pages = unchanged m (n .st) (stay calls (book .driver) 15 (lentTo calls (book .driver) n b)) refl }
+  continued-goes v m n b h (busy i q k) g = either (go v) m (n .st) (over calls q v) (stay calls (book .driver) 16 (lentTo calls
+      (book .driver) n b)) (halts i (k v (n .st, b)))
+      (record { way = h; pages = unchanged m (n .st) (stay calls (book .driver) 16 (lentTo calls (book .driver) n b)) refl })
+      (record { way = halted-way m i (k v (n .st, b)) (g v (n .st, b)); pages = halted m i (n .st, b) (k v (n .st, b)) (g v (n .st, b)) })
+
+  -- a start-up's own accesses change no page
+  started-goes : (g : Config) (r : ℕ) (m : Names) (n : Machine Answer Pages) (b : Buf) → WaySpared m (n .way)
+      → let y = started calls (book .driver) (fed book x) g r n b in WaySpared (underWay (start g) (y .0) m) (y .1 .way)
+  started-goes g zero m n b h =
+      let z = run bookOps (starting g) (freshPages g, b) in
+      let f = underWay (start g) (halts false z .0) m in
+      halted-way f false z (spare (of-starting f g) (freshPages g, b))
+  started-goes g (suc r) m n b h = h
+
+  pub call-goes : (c : Call Config Op) (m : Names) (n : Machine Answer Pages) (b : Buf) → WaySpared m (n .way) → Goes c m (n .st) (written x c n b)
+  call-goes (start g) m n b h = record { way = started-goes g (startRow g b) m n b h; pages = λ s r d e a. absurd a }
+  call-goes (begin o) m n b h = either (begin o) m (n .st) (cond (calls .slots o) (misfit calls (book .driver) (n .st) b) false) (stay calls (book .driver) 1 n)
+      (begun calls (book .driver) (fed book x) o n (n .way) b)
+      (record { way = h; pages = unchanged (opNames o) (n .st) (stay calls (book .driver) 1 n) refl }) (begun-goes o m n b h (n .way))
+  call-goes (go v) m n b h = either (go v) m (n .st) (misfit calls (book .driver) (n .st) b) (stay calls (book .driver) 1 n)
+      (continued calls (book .driver) (fed book x) v n (n .way) b)
+      (record { way = h; pages = unchanged m (n .st) (stay calls (book .driver) 1 n) refl }) (continued-goes v m n b h (n .way) h)
+  call-goes (question q) m n b h = record { way = h; pages = unchanged none (n .st) (written x (question q) n b) refl }
+
+-- after an accepted start-up
+pub start-spared : (x : Ans Answer) (g : Config) (m : Names) (n : Machine Answer Pages) (b : Buf) → startRow g b ≡ zero
+    → WaySpared m (written x (start g) n b .1 .way)
+start-spared x g m n b row = subst (λ (r : ℕ). WaySpared m (started calls (book .driver) (fed book x) g r n b .1 .way)) (sym row)
+    (halted-way x m false (run bookOps (starting g) (freshPages g, b)) (spare (of-starting m g) (freshPages g, b)))
+
+-- an answer but for its address tells the same
+under-blank : (c : Call Config Op) (a : Ans Answer) (m : Names) → underWay c (blankA a) m ≡ underWay c a m
+under-blank (start c) (ended a) m = refl
+under-blank (start c) (told n) m = refl
+under-blank (start c) (handed q) m = refl
+under-blank (begin o) (ended a) m = refl
+under-blank (begin o) (told n) m = refl
+under-blank (begin o) (handed q) m = refl
+under-blank (go v) a m = refl
+under-blank (question q) a m = refl
+
+pub under-same : (c : Call Config Op) (a b : Ans Answer) (m : Names) → blankA a ≡ blankA b → underWay c b m ≡ underWay c a m
+under-same c a b m h = sym (under-blank c b m) ∙ ap (λ (z : Ans Answer). underWay c z m) (sym h) ∙ under-blank c a m

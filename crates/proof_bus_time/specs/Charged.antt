@@ -1,0 +1,129 @@
+-- What an endpoint is charged, "worked out from the history of enables, disables, resets and start-ups" (document 02,
+-- request Seven): from the calls, whether each handed out an access, and which accesses write ep_config. No record is
+-- looked at, and no word that was written. Definitions
+use mathlib.Core.Bool.{Bool, true, false, cond}
+use mathlib.Core.List.{List, [], _∷_}
+use Prim.Native.Nat.{ℕ, _%_}
+use lib.Dec.{eqb}
+use Rattle.regs.specs.declared.Access.{Access}
+use Rattle.regs.specs.declared.Dir.{Dir}
+use Rattle.regs.specs.Enables.{place}
+use Rattle.state.specs.Driver.{Driver}
+use Rattle.model.specs.Answers.{Answer}
+use Rattle.model.specs.Calls.{Config, Op, interrupt, slotted, other, aside, Slotted, SetEnabled, PollRead}
+use Rattle.model.specs.Calls.{BeginWrite, PollWrite, PollDataOut, BeginDataIn, Other, Allocate, AllocateAll, Start}
+use Rattle.model.specs.Calls.{BusPoll, BusEnable, BusDisable, Microframe, SetStalled, IsStalled, SetPaced, Advance}
+use Rattle.model.specs.Calls.{BeginRead, BeginSetup, PollSetup, PollDataIn, BeginAccept, PollAccept, BeginReject}
+use Rattle.model.specs.Calls.{BeginDataOut, BeginAcceptSetAddress}
+use Rattle.model.specs.Machine.{Call, start, begin, go, question, Ans, ended, handed, told}
+use Rattle.call_bus_time.specs.Sharing.{chargeOn}
+use Rattle.proof_bus_time.specs.History.{Line}
+use Rattle.proof_bus_time.specs.Enabled.{writesConfig, sumOf}
+
+-- what a driver began last: an endpoint's enabling or disabling, a poll of the bus, in which a bus reset falls, or
+-- something else
+pub data Begun : Type 0 where
+  enables disables : Dir → ℕ → Begun
+  polls-bus neither : Begun
+
+abbrev pub slottedBegun : Slotted → Begun
+slottedBegun (SetEnabled dir e on) = cond on (enables dir e) (disables dir e)
+slottedBegun (PollRead e n) = neither
+slottedBegun (BeginWrite e bs) = neither
+slottedBegun (PollWrite e bs) = neither
+slottedBegun (PollDataOut n) = neither
+slottedBegun (BeginDataIn bs first last) = neither
+
+-- is it a poll of the bus?
+abbrev pub isBusPoll : Other → Bool
+isBusPoll BusPoll = true
+isBusPoll (Allocate dir kind address maximum interval) = false
+isBusPoll (AllocateAll bytes) = false
+isBusPoll (Start maximum) = false
+isBusPoll BusEnable = false
+isBusPoll BusDisable = false
+isBusPoll Microframe = false
+isBusPoll (SetStalled dir e on) = false
+isBusPoll (IsStalled dir e) = false
+isBusPoll (SetPaced e on) = false
+isBusPoll (Advance e) = false
+isBusPoll (BeginRead e n) = false
+isBusPoll BeginSetup = false
+isBusPoll PollSetup = false
+isBusPoll PollDataIn = false
+isBusPoll BeginAccept = false
+isBusPoll PollAccept = false
+isBusPoll BeginReject = false
+isBusPoll (BeginDataOut n first) = false
+isBusPoll (BeginAcceptSetAddress address) = false
+
+abbrev pub opBegun : Op → Begun
+opBegun interrupt = neither
+opBegun (slotted o) = slottedBegun o
+opBegun (other o) = cond (isBusPoll o) polls-bus neither
+opBegun (aside o) = neither
+
+-- by a call that hands out an access; a continue goes on with what was begun
+abbrev pub began : Call Config Op → Begun → Begun
+began (start c) last = neither
+began (begin o) last = opBegun o
+began (go v) last = last
+began (question q) last = last
+
+-- by any call: one that hands out none begins nothing
+abbrev pub lastOf : Call Config Op → Ans Answer → Begun → Begun
+lastOf c (ended a) last = last
+lastOf c (handed q) last = began c last
+lastOf c (told n) last = last
+
+-- ---- the charge of endpoint e; numbers count modulo 16
+
+-- "an enable counts from its beginning": its maximum plus 38 or 55, by the kind and maximum that its allocation gave it
+-- (`allocation-gives`, `given-stays`)
+abbrev pub counted : Dir → ℕ → Begun → Driver → ℕ → ℕ
+counted dir e (enables dir′ e′) d charge = cond (eqb (place dir′ e′) (place dir e)) (chargeOn d dir′ e′) charge
+counted dir e (disables dir′ e′) d charge = charge
+counted dir e polls-bus d charge = charge
+counted dir e neither d charge = charge
+
+-- "time comes back with the write of a disabling or bus reset that clears its ep_config bit": the charge after a
+-- write of ep_config in what was begun last
+abbrev pub givenBack : Dir → ℕ → Begun → ℕ → ℕ
+givenBack dir e (enables dir′ e′) charge = charge
+givenBack dir e (disables dir′ e′) charge = cond (eqb (place dir′ e′) (place dir e)) 0 charge
+givenBack dir e polls-bus charge = 0
+givenBack dir e neither charge = charge
+
+-- "or as an accepted start-up begins"
+abbrev pub chargedHanded : Dir → ℕ → Call Config Op → Access → Driver → Begun → ℕ → ℕ
+chargedHanded dir e (start c) q d last charge = 0
+chargedHanded dir e (begin o) q d last charge = counted dir e (opBegun o) d charge
+chargedHanded dir e (go v) q d last charge = cond (writesConfig q) (givenBack dir e last charge) charge
+chargedHanded dir e (question x) q d last charge = charge
+
+-- after a call with this answer; a call that is refused or hands out no access changes nothing
+abbrev pub chargedBy : Dir → ℕ → Call Config Op → Ans Answer → Driver → Begun → ℕ → ℕ
+chargedBy dir e c (ended a) d last charge = charge
+chargedBy dir e c (handed q) d last charge = chargedHanded dir e c q d last charge
+chargedBy dir e c (told n) d last charge = charge
+
+-- a line of the history, for driver i
+abbrev pub lastAfter : ℕ → Line → Begun → Begun
+lastAfter i l last = cond (eqb (l .who % 4) i) (lastOf (l .call) (l .answer) last) last
+
+abbrev pub chargedAfter : ℕ → Dir → ℕ → Line → Begun → ℕ → ℕ
+chargedAfter i dir e l last charge =
+    cond (eqb (l .who % 4) i) (chargedBy dir e (l .call) (l .answer) (l .state) last charge) charge
+
+-- after a history
+abbrev pub chargedFrom : ℕ → Dir → ℕ → List Line → Begun → ℕ → ℕ
+chargedFrom i dir e [] last charge = charge
+chargedFrom i dir e (l ∷ ls) last charge =
+    chargedFrom i dir e ls (lastAfter i l last) (chargedAfter i dir e l last charge)
+
+abbrev pub charged : ℕ → Dir → ℕ → List Line → ℕ
+charged i dir e ls = chargedFrom i dir e ls neither 0
+
+-- the time in use: each endpoint of the four drivers, once
+abbrev pub chargedTime : List Line → ℕ
+chargedTime ls = sumOf (λ i dir e. charged i dir e ls)

@@ -1,0 +1,162 @@
+-- What an allocation gave an endpoint stays, whatever a script does: an allocation gives a number that was not taken
+use mathlib.Core.Bool.{Bool, true, false, cond, true≢false}
+use mathlib.Core.Logic.{_≢_}
+use mathlib.Core.Path.{_≡_, refl, ap, sym, _∙_}
+use Prim.Native.Nat.{ℕ, zero, suc, _+_, _%_}
+use native.Mathlib.Omega.{arith}
+use lib.Seq.{getD-set-other}
+use Rattle.bits.specs.Bit.{isSet}
+use Rattle.regs.specs.declared.Access.{Access}
+use Rattle.regs.specs.declared.Dir.{Dir}
+use Rattle.regs.specs.declared.Dir.the-variants.{Out, In}
+use Rattle.state.specs.declared.Allocator.{Allocator}
+use Rattle.state.specs.Driver.{Driver, key, noEp, epOn, withOn, withAllocator}
+use Rattle.alloc.specs.declared.Allocation.{Allocation}
+use Rattle.alloc.specs.Alloc.{takenIn, isIso, withNext}
+use Rattle.alloc.specs.Outcome as outcomes
+use Rattle.alloc.specs.Outcome.{sameDir, Takes, Outcome, six, seven, eight, given, outcome}
+use Rattle.alloc.specs.Run.{ep0, Step, kept, gave-ep0, step}
+use Rattle.model.specs.Tree as tree
+use Rattle.model.specs.Tree.{ends, asks, bindOut}
+use Rattle.model.specs.Script.{Script, ret, bind, test, read-then, write-then, wait-then, callback-then, get-then, put-then, is-then, look-then, fetch-then, act-then, hand-then, row-then, run, rows, lastOf, Act, complete, reset-ring, set-enabled, fill, fill0, open-oldest, close-oldest, take-oldest, enqueue, allocate, allocate0, no-wakes, waken, Row, switch, bus-reset}
+use Rattle.model_ops.specs.Records.{isoOut, configured, enabledOn, recordGiven, setsGiven, givenTo, allocatedOn, startedWith, allocatedEp0}
+use Rattle.model_ops.specs.Rings.{St, configStep}
+use Rattle.model_ops.specs.Conc.{conc}
+use Rattle.proof_book.specs.Cells.{on-key}
+use Rattle.proof_book.specs.Sorts.{Steady, put-steady, act-steady, hand-steady, row-steady}
+use Rattle.proof_bus_time.specs.Enabled.{isTaken}
+use Rattle.proof_bus_time.specs.Stays.{givenOf, Turns, put-stays, act-stays, hand-stays, switch-stays, reset-stays}
+
+pub record Gave (d d′ : Driver) : Type 0 where
+  pub taken : (dir : Dir) (e : ℕ) → isTaken d dir e ≡ true → isTaken d′ dir e ≡ true
+  pub given : (dir : Dir) (e : ℕ) → isTaken d dir e ≡ true → givenOf (epOn d′ dir e) ≡ givenOf (epOn d dir e)
+
+pub gave-then : {d x y : Driver} → Gave d x → Gave x y → Gave d y
+gave-then p q = record { taken = λ dir e h. q .taken dir e (p .taken dir e h); given = λ dir e h. q .given dir e (p .taken dir e h) ∙ p .given dir e h }
+
+pub gave-same : (d : Driver) → Gave d d
+gave-same d = record { taken = λ dir e h. h; given = λ dir e h. refl }
+
+-- with the allocator as it was
+of-steady : {w : ℕ} {d d′ : Driver} → Steady d d′ → Turns w d d′ → Gave d d′
+of-steady p q = record { taken = λ dir e h. rw (p .allocator) h; given = λ dir e h. q .given dir e }
+
+-- the endpoints' records too
+of-records : (d d′ : Driver) → d′ .eps ≡ d .eps → ((dir : Dir) (e : ℕ) → isTaken d′ dir e ≡ isTaken d dir e) → Gave d d′
+unfolding epOn
+of-records d d′ p a = record { taken = λ dir e h. a dir e ∙ h; given = λ dir e h. rw p refl }
+
+-- ---- an allocation
+
+module _ (d : Driver) (dir : Dir) (kind maximum interval e base n : ℕ) (b : Allocator) (t : Takes (d .allocator) (isIso kind) dir e b) where
+  abbrev taker : Driver
+  taker = setsGiven dir kind interval e (recordGiven dir kind maximum e base n (withAllocator d b))
+
+  -- its own number was not taken
+  own : (x : ℕ) → x % 16 ≡ e % 16 → isTaken d dir x ≡ true → givenOf (epOn taker dir x) ≡ givenOf (epOn d dir x)
+  own x q h = absurd (true≢false (sym h ∙ (ap (isSet (takenIn (d .allocator) dir)) number ∙ t .untaken)))
+    where
+      number : x % 16 ≡ e
+      number = omega (arith, q, t .high)
+
+  there : (dir′ : Dir) (x : ℕ) → key dir′ x ≢ key dir e → isTaken d dir′ x ≡ true → givenOf (epOn taker dir′ x) ≡ givenOf (epOn d dir′ x)
+  unfolding setsGiven recordGiven epOn withOn
+  there dir′ x q h = ap givenOf (getD-set-other (d .eps) (key dir e) (key dir′ x) _ noEp q)
+
+  given-gave : Gave d taker
+  unfolding setsGiven recordGiven withOn
+  given-gave = record {
+    taken = λ dir′ x h. t .takes dir′ (x % 16) ∙ outcomes.stays (sameDir dir dir′) (takenIn (d .allocator) dir′) e (x % 16) h;
+    given = on-key (λ dir′ x. isTaken d dir′ x ≡ true → givenOf (epOn taker dir′ x) ≡ givenOf (epOn d dir′ x)) dir e own there;
+  }
+
+allocated-gave : (d : Driver) (dir : Dir) (kind address maximum interval : ℕ) (z : Allocation) → Outcome (d .allocator) kind address maximum dir z → Gave d (givenTo dir kind maximum interval (z .answer) (withAllocator d (z .after)))
+unfolding givenTo
+allocated-gave d dir kind address maximum interval z (six l) = gave-same d
+allocated-gave d dir kind address maximum interval z (seven m q) = gave-same d
+allocated-gave d dir kind address maximum interval z (eight e m q l) = gave-same d
+allocated-gave d dir kind address maximum interval z (given e base n a m q g) = given-gave d dir kind maximum interval e base n a (g .number)
+
+ep0-gave : (d : Driver) (maximum : ℕ) (z : Allocation) → Step (d .allocator) (ep0 maximum) z → Gave d (startedWith maximum (z .answer) (withAllocator d (z .after)))
+unfolding startedWith withNext takenIn
+ep0-gave d maximum z (kept c n w full) = gave-same d
+ep0-gave d maximum z (gave-ep0 m x small l) = of-records d _ refl same
+  where
+    same : (dir : Dir) (x : ℕ) → isTaken (withAllocator d (withNext (d .allocator) (d .allocator .next + 1))) dir x ≡ isTaken d dir x
+    same Out x = refl
+    same In x = refl
+
+-- ---- each operation
+
+enabled-gave : (d : Driver) (dir : Dir) (e : ℕ) (on : Bool) → Gave d (enabledOn d dir e on)
+unfolding enabledOn configured
+enabled-gave d dir e on = by (isoOut d dir e)
+  where
+    by : (b : Bool) → Gave d (cond b d (configured d dir e on))
+    by true = gave-same d
+    by false = of-records d _ refl (λ _ _. refl)
+
+act-gave : (q : Act) (s : St) → Gave (s .0) (conc .act q s .0)
+unfolding allocatedOn allocatedEp0
+act-gave (complete e) s = of-steady (act-steady (complete e) refl s) (act-stays (complete e) refl s)
+act-gave (reset-ring d e) s = of-steady (act-steady (reset-ring d e) refl s) (act-stays (reset-ring d e) refl s)
+act-gave (set-enabled d e on) s = enabled-gave (s .0) d e on
+act-gave (fill e bytes) s = gave-same (s .0)
+act-gave (fill0 bytes) s = gave-same (s .0)
+act-gave (open-oldest e) s = of-steady (act-steady (open-oldest e) refl s) (act-stays (open-oldest e) refl s)
+act-gave (close-oldest e) s = of-steady (act-steady (close-oldest e) refl s) (act-stays (close-oldest e) refl s)
+act-gave (take-oldest e) s = of-steady (act-steady (take-oldest e) refl s) (act-stays (take-oldest e) refl s)
+act-gave (enqueue e bytes) s = of-steady (act-steady (enqueue e bytes) refl s) (act-stays (enqueue e bytes) refl s)
+act-gave (allocate d kind address maximum interval) s = allocated-gave (s .0) d kind address maximum interval _ (outcome (s .0 .allocator) kind address maximum d)
+act-gave (allocate0 maximum) s = ep0-gave (s .0) maximum _ (step (s .0 .allocator) (ep0 maximum))
+act-gave no-wakes s = of-records (s .0) _ refl (λ _ _. refl)
+act-gave (waken codes) s = of-records (s .0) _ refl (λ _ _. refl)
+
+row-gave : (g : Row) (n : ℕ) (s : St) → Gave (s .0) (conc .row g n s .1 .0)
+unfolding configStep
+row-gave (switch e on) zero s = of-records (s .0) _ refl (λ _ _. refl)
+row-gave (switch e on) (suc n) s = of-steady (row-steady (switch e on) (suc n) s) (switch-stays e on n s)
+row-gave bus-reset zero s = of-steady (row-steady bus-reset 0 s) (reset-stays s .0)
+row-gave bus-reset (suc zero) s = gave-same (s .0)
+row-gave bus-reset (suc (suc zero)) s = of-records (s .0) _ refl (λ _ _. refl)
+row-gave bus-reset (suc (suc (suc k))) s = of-records (s .0) _ refl (λ _ _. refl)
+
+-- ---- every script
+
+-- from a state to the next access or the end, and again from whatever the state is in the next call
+pub data Moves {A : Type 0} : Driver → tree.Out St A → Type 0 where
+  to-end : {d : Driver} {a : A} {s : St} → Gave d (s .0) → Moves d (ends a s)
+  to-ask : {d : Driver} {q : Access} {s : St} {k : ℕ → St → tree.Out St A} → Gave d (s .0) → ((v : ℕ) (t : St) → Moves (t .0) (k v t)) → Moves d (asks q s k)
+
+after : {A : Type 0} {d x : Driver} {o : tree.Out St A} → Gave d x → Moves x o → Moves d o
+after p (to-end q) = to-end (gave-then p q)
+after p (to-ask q r) = to-ask (gave-then p q) r
+
+moves-bind : {A B : Type 0} {d : Driver} {o : tree.Out St A} {f : A → St → tree.Out St B} → Moves d o → ((a : A) (s : St) → Moves (s .0) (f a s)) → Moves d (bindOut o f)
+moves-bind (to-end p) k = after p (k _ _)
+moves-bind (to-ask p r) k = to-ask p (λ v t. moves-bind (r v t) k)
+
+moves-cond : {A : Type 0} {d : Driver} (b : Bool) {o u : tree.Out St A} → Moves d o → Moves d u → Moves d (cond b o u)
+moves-cond true x y = x
+moves-cond false x y = y
+
+rows-move : {A : Type 0} (g : Row) (n : ℕ) {k : St → tree.Out St A} → ((t : St) → Moves (t .0) (k t)) → (s : St) → Moves (s .0) (rows conc g n k s)
+rows-move g zero x s = to-ask (row-gave g zero s) (λ _ t. x t)
+rows-move g (suc n) x s = to-ask (row-gave g (suc n) s) (λ _ t. rows-move g n x t)
+
+pub run-moves : {i : Bool} {A : Type 0} (p : Script i A) (s : St) → Moves (s .0) (run conc p s)
+run-moves (ret a) s = to-end (gave-same (s .0))
+run-moves (bind p f) s = moves-bind (run-moves p s) (λ a t. run-moves (f a) t)
+run-moves (test b p q) s = moves-cond b (run-moves p s) (run-moves q s)
+run-moves (read-then r e k) s = to-ask (gave-same (s .0)) (λ v t. run-moves (k v) t)
+run-moves (write-then r e v p) s = to-ask (gave-same (s .0)) (λ _ t. run-moves p t)
+run-moves (wait-then n p) s = to-ask (gave-same (s .0)) (λ _ t. run-moves p t)
+run-moves (callback-then p) s = to-ask (gave-same (s .0)) (λ _ t. run-moves p t)
+run-moves (get-then c k) s = run-moves (k (conc .get c s)) s
+run-moves (put-then c v p) s = after (of-steady (put-steady c v s) (put-stays c v s)) (run-moves p (conc .put c v s))
+run-moves (is-then q k) s = run-moves (k (conc .is q s)) s
+run-moves (look-then q k) s = run-moves (k (conc .look q s)) s
+run-moves (fetch-then q k) s = run-moves (k (conc .fetch q s)) s
+run-moves (act-then q p) s = after (act-gave q s) (run-moves p (conc .act q s))
+run-moves (hand-then q p) s = to-ask (of-steady (hand-steady q s) (hand-stays q s)) (λ _ t. run-moves p t)
+run-moves (row-then g p) s = rows-move g (lastOf g) (run-moves p) s

@@ -1,0 +1,280 @@
+-- Request Fourteen of the Rattle code: what its calls make of the lent bytes in two runs. The contract of each call says that it is one step of the
+-- machine of calls that the bytes are (machine/specs/Under.antt), with the bus time call_bus_time/specs/Sharing.antt
+use mathlib.Core.Bool.{Bool, true, false}
+use mathlib.Core.List.{List, [], _∷_}
+use mathlib.Core.Path.{_≡_, refl, ap, subst, sym, _∙_}
+use Prim.Native.Nat.{ℕ, zero}
+use Rattle.regs.specs.declared.Access.{Access}
+use Rattle.model.specs.Answers.{Answer}
+use Rattle.model.specs.Calls.{Config, Op, startRow}
+use Rattle.model.specs.Machine.{Buf, Call, start, begin, go, question, Event, Ans, idle}
+use Rattle.machine.specs.Under.{drive, machineOf}
+use Rattle.machine.specs.Goes.{Called}
+use Rattle.call_bus_time.specs.Sharing.{sharedCall}
+use Rattle.proof_book.specs.MachineRuns.{Premise}
+use Rattle.proof_book.specs.Sorting.{sortsOf}
+use Rattle.proof_isolation.specs.But.{Channel}
+use Rattle.proof_isolation.specs.Turns.{Run, Two, Turn, begins, goes, asked, stores, others-time, first, second, Early, gets, shares, accessOf, runBy, ownBy, statusOf, shared, called, alone, turn, given, heeded, May, After}
+use Rattle.proof_isolation.specs.Standing.{At, at-time}
+use Rattle.proof_isolation.specs.Start.{freshBook}
+use Rattle.proof_isolation.specs.Undisturbed.{Session, started-up, opened, Opens, step, opened-at}
+use Rattle.proof_isolation.specs.Time.{as-shared, as-driver}
+
+-- ---- the calls that were made
+
+-- what a call left: its answer, the state's bytes, the slot buffer and the record of bus time
+pub record Left : Type 0 where
+  pub answer : Ans Answer
+  pub bytes : List ℕ
+  pub slots : Buf
+  pub time : List ℕ
+
+-- one of the two runs: its bytes; the access handed out last, and what was answered last (to the channel's own opens, closes and polls apart)
+pub record Held : Type 0 where
+  pub bytes : List ℕ
+  pub slots : Buf
+  pub access : Access
+  pub answer : Ans Answer
+  pub time : List ℕ
+
+-- both, and the status word of the interrupt that is under way
+pub record Pair : Type 0 where
+  pub first : Held
+  pub second : Held
+  pub status : ℕ
+
+-- what they are
+abbrev pub runOf : Held → Run
+runOf h = record { machine = machineOf (h .bytes) (h .slots); access = h .access; answer = h .answer; time = h .time }
+
+abbrev pub twoOf : Pair → Two
+twoOf w = record { first = runOf (w .first); second = runOf (w .second); status = w .status }
+
+-- the contract of call d of driver n, with the bus time that it shares, or of a driver that shares none (its record then is what its calls would be
+-- charged, which no call reads)
+abbrev pub Did : Bool → ℕ → Call Config Op → Buf → Held → Left → Type 0
+Did true n d b h l = ((l .answer, machineOf (l .bytes) (l .slots)), l .time) ≡ sharedCall n d (machineOf (h .bytes) (h .slots)) (h .time) b
+Did false n d b h l = ((l .answer, machineOf (l .bytes) (l .slots)) ≡ drive d (machineOf (h .bytes) (h .slots)) b)
+    × (l .time ≡ shared false n d (machineOf (h .bytes) (h .slots)) (h .time) b .1)
+
+-- a run after a call whose answer is compared, and after one whose answer is not
+abbrev pub heard : Left → Held → Held
+heard l h = record { bytes = l .bytes; slots = l .slots; access = accessOf (l .answer) (h .access); answer = l .answer; time = l .time }
+
+abbrev pub unheard : Left → Held → Held
+unheard l h = record { bytes = l .bytes; slots = l .slots; access = accessOf (l .answer) (h .access); answer = h .answer; time = l .time }
+
+abbrev pub heardOwn : Call Config Op → Left → Held → Held
+heardOwn (go v) l h = heard l h
+heardOwn (begin o) l h = unheard l h
+heardOwn (start k) l h = unheard l h
+heardOwn (question q) l h = unheard l h
+
+-- after the chip's stores, and after other drivers' calls
+abbrev pub storedTo : Buf → Held → Held
+storedTo b h = record { bytes = h .bytes; slots = b; access = h .access; answer = h .answer; time = h .time }
+
+abbrev pub timed : (List ℕ → List ℕ) → Held → Held
+timed f h = record { bytes = h .bytes; slots = h .slots; access = h .access; answer = h .answer; time = f (h .time) }
+
+-- a turn with what its calls left; where it is of one run alone, the other's is not looked at
+pub record Step : Type 0 where
+  pub turn : Turn
+  pub first : Left
+  pub second : Left
+
+abbrev nextBy : Turn → Left → Left → Pair → Pair
+nextBy (begins st o b b′) l l′ w =
+    record { first = heard l (w .first); second = heard l′ (w .second); status = statusOf (runOf (w .first) .machine .way) st (w .status) }
+nextBy (goes v v′ b b′) l l′ w = record { first = heard l (w .first); second = heard l′ (w .second); status = w .status }
+nextBy (asked q b b′) l l′ w = record { first = heard l (w .first); second = heard l′ (w .second); status = w .status }
+nextBy (stores b b′) l l′ w = record { first = storedTo b (w .first); second = storedTo b′ (w .second); status = w .status }
+nextBy (others-time f) l l′ w = record { first = timed f (w .first); second = timed f (w .second); status = w .status }
+nextBy (first e) l l′ w = record { first = heardOwn (e .call) l (w .first); second = w .second; status = w .status }
+nextBy (second e) l l′ w = record { first = w .first; second = heardOwn (e .call) l′ (w .second); status = w .status }
+
+abbrev pub next : Step → Pair → Pair
+next s w = nextBy (s .turn) (s .first) (s .second) w
+
+-- before the two part: a call of both, with what it left in each, or what other drivers do to the bus time
+pub data EarlyMade : Type 0 where
+  got : Event Config Op → Left → Left → EarlyMade
+  shared-by : (List ℕ → List ℕ) → EarlyMade
+
+abbrev pub early : List EarlyMade → List Early
+early [] = []
+early (got e l l′ ∷ ms) = gets e ∷ early ms
+early (shared-by f ∷ ms) = shares f ∷ early ms
+
+abbrev pub afterEarly : List EarlyMade → Pair → Pair
+afterEarly [] w = w
+afterEarly (got e l l′ ∷ ms) w = afterEarly ms (record { first = heard l (w .first); second = heard l′ (w .second); status = w .status })
+afterEarly (shared-by f ∷ ms) w = afterEarly ms (record { first = timed f (w .first); second = timed f (w .second); status = w .status })
+
+-- a session (`Session`): a start-up with what it left in both, the list that is one in both, and the steps
+pub record Made : Type 0 where
+  pub config : Config
+  pub lent : Buf
+  pub up : Left
+  pub up′ : Left
+  pub before : List EarlyMade
+  pub channel : Channel
+  pub steps : List Step
+
+abbrev turnsOf : List Step → List Turn
+turnsOf [] = []
+turnsOf (s ∷ ss) = s .turn ∷ turnsOf ss
+
+abbrev pub sessionOf : Made → Session
+sessionOf m = record { config = m .config; lent = m .lent; before = early (m .before); channel = m .channel; turns = turnsOf (m .steps) }
+
+abbrev pub startedBy : Made → Pair → Pair
+startedBy m w = record { first = heard (m .up) (w .first); second = heard (m .up′) (w .second); status = 0 }
+
+abbrev pub openedBy : Made → Pair → Pair
+openedBy m w = afterEarly (m .before) (startedBy m w)
+
+abbrev pub afterSteps : List Step → Pair → Pair
+afterSteps [] w = w
+afterSteps (s ∷ ss) w = afterSteps ss (next s w)
+
+-- ---- each call is as its contract says, and each turn is allowed by the bytes as they then stand (`May`)
+
+module _ (share : Bool) (n : ℕ) where
+  abbrev DidBy : Turn → Left → Left → Pair → Type 0
+  DidBy (begins st o b b′) l l′ w = Did share n (begin o) b (w .first) l × Did share n (begin o) b′ (w .second) l′
+  DidBy (goes v v′ b b′) l l′ w = Did share n (go v) b (w .first) l × Did share n (go v′) b′ (w .second) l′
+  DidBy (asked q b b′) l l′ w = Did share n (question q) b (w .first) l × Did share n (question q) b′ (w .second) l′
+  DidBy (stores b b′) l l′ w = Unit {0}
+  DidBy (others-time f) l l′ w = Unit {0}
+  DidBy (first e) l l′ w = Did share n (e .call) (e .lent) (w .first) l
+  DidBy (second e) l l′ w = Did share n (e .call) (e .lent) (w .second) l′
+
+  abbrev pub DidStep : Step → Pair → Type 0
+  DidStep s w = DidBy (s .turn) (s .first) (s .second) w
+
+  abbrev pub DidEarly : List EarlyMade → Pair → Type 0
+  DidEarly [] w = Unit {0}
+  DidEarly (got e l l′ ∷ ms) w =
+      Did share n (e .call) (e .lent) (w .first) l × Did share n (e .call) (e .lent) (w .second) l′
+      × DidEarly ms (record { first = heard l (w .first); second = heard l′ (w .second); status = w .status })
+  DidEarly (shared-by f ∷ ms) w = DidEarly ms (record { first = timed f (w .first); second = timed f (w .second); status = w .status })
+
+  abbrev pub DidSteps : Channel → List Step → Pair → Type 0
+  DidSteps c [] w = Unit {0}
+  DidSteps c (s ∷ ss) w = DidStep s w × May c (s .turn) (twoOf w) × DidSteps c ss (next s w)
+
+  -- the promise after every step
+  abbrev pub EveryStep : Channel → List Step → Pair → Type 0
+  EveryStep c [] w = Unit {0}
+  EveryStep c (s ∷ ss) w = After c (s .turn) (twoOf (next s w)) × EveryStep c ss (next s w)
+
+  -- the start-up is accepted; the list that is one in both is one of demand 3's premise and comes to a point after EP0's start with nothing under way;
+  -- the channel is an isochronous OUT endpoint of the run
+  pub record Begun (m : Made) (w : Pair) : Type 0 where
+    pub accepted : startRow (m .config) (m .lent) ≡ zero
+    pub up : Did share n (start (m .config)) (m .lent) (w .first) (m .up)
+    pub up′ : Did share n (start (m .config)) (m .lent) (w .second) (m .up′)
+    pub early : DidEarly (m .before) (startedBy m w)
+    pub lawful : let r = runOf (startedBy m w .first) in
+        Premise (heeded share n (sessionOf m .before) r) (r .machine) (freshBook (m .config) (m .lent) (r .answer))
+    pub rests : runOf (openedBy m w .first) .machine .way ≡ idle
+    pub stage : runOf (openedBy m w .first) .machine .st .globals .stage ≡ 2
+    pub sorts : m .channel .iso ≡ sortsOf (runOf (openedBy m w .first) .machine .st)
+    pub steps : DidSteps (m .channel) (m .steps) (openedBy m w)
+
+  abbrev pub AllBegun : List Made → Pair → Type 0
+  AllBegun [] w = Unit {0}
+  AllBegun (m ∷ ms) w = Begun m w × AllBegun ms (afterSteps (m .steps) (openedBy m w))
+
+  abbrev pub CodeUndisturbed : List Made → Pair → Type 0
+  CodeUndisturbed [] w = Unit {0}
+  CodeUndisturbed (m ∷ ms) w = EveryStep (m .channel) (m .steps) (openedBy m w) × CodeUndisturbed ms (afterSteps (m .steps) (openedBy m w))
+
+-- ---- the bytes are the machine's
+
+call-of : (share : Bool) (n : ℕ) (d : Call Config Op) (b : Buf) (h : Held) (l : Left) → Did share n d b h l
+    → ((l .answer, machineOf (l .bytes) (l .slots)), l .time) ≡ shared share n d (machineOf (h .bytes) (h .slots)) (h .time) b
+call-of true n d b h l e = e ∙ sym (as-shared n d (machineOf (h .bytes) (h .slots)) (h .time) b)
+call-of false n d b h l e =
+    let p : (l .answer, machineOf (l .bytes) (l .slots)) ≡ shared false n d (machineOf (h .bytes) (h .slots)) (h .time) b .0 =
+    e .0 ∙ sym (as-driver n d (machineOf (h .bytes) (h .slots)) (h .time) b) in
+    λ i. (p i, e .1 i)
+
+module _ (share : Bool) (n : ℕ) where
+  pub heard-is : (d : Call Config Op) (b : Buf) (h : Held) (l : Left) → Did share n d b h l → runOf (heard l h) ≡ called share n d b (runOf h)
+  heard-is d b h l e = ap (runBy (h .access)) (call-of share n d b h l e)
+
+  pub own-is : (d : Call Config Op) (b : Buf) (h : Held) (l : Left) → Did share n d b h l → runOf (heardOwn d l h) ≡ alone share n d b (runOf h)
+  own-is (go v) b h l e = heard-is (go v) b h l e
+  own-is (begin o) b h l e = ap (ownBy (h .access) (h .answer)) (call-of share n (begin o) b h l e)
+  own-is (start k) b h l e = ap (ownBy (h .access) (h .answer)) (call-of share n (start k) b h l e)
+  own-is (question q) b h l e = ap (ownBy (h .access) (h .answer)) (call-of share n (question q) b h l e)
+
+  pair-is : {r r′ z z′ : Run} → r ≡ z → r′ ≡ z′ → (st : ℕ)
+      → _≡_ {A = Two} (record { first = r; second = r′; status = st }) (record { first = z; second = z′; status = st })
+  pair-is p p′ st = λ i. record { first = p i; second = p′ i; status = st }
+
+  pub next-by : (t : Turn) (l l′ : Left) (w : Pair) → DidBy share n t l l′ w → twoOf (nextBy t l l′ w) ≡ turn share n t (twoOf w)
+  next-by (begins st o b b′) l l′ w e = pair-is (heard-is (begin o) b (w .first) l (e .0)) (heard-is (begin o) b′ (w .second) l′ (e .1)) _
+  next-by (goes v v′ b b′) l l′ w e = pair-is (heard-is (go v) b (w .first) l (e .0)) (heard-is (go v′) b′ (w .second) l′ (e .1)) _
+  next-by (asked q b b′) l l′ w e = pair-is (heard-is (question q) b (w .first) l (e .0)) (heard-is (question q) b′ (w .second) l′ (e .1)) _
+  next-by (stores b b′) l l′ w e = refl
+  next-by (others-time f) l l′ w e = refl
+  next-by (first e) l l′ w d = pair-is (own-is (e .call) (e .lent) (w .first) l d) refl _
+  next-by (second e) l l′ w d = pair-is refl (own-is (e .call) (e .lent) (w .second) l′ d) _
+
+  early-is : (ms : List EarlyMade) (w : Pair) → DidEarly share n ms w
+      → twoOf (afterEarly ms w) ≡ record {
+        first = given share n (early ms) (runOf (w .first));
+        second =
+            given share n (early ms) (runOf (w .second));
+        status = w .status;
+      }
+  early-is [] w e = refl
+  early-is (got d l l′ ∷ ms) w e =
+      early-is ms _ (e .2) ∙ pair-is (ap (given share n (early ms)) (heard-is (d .call) (d .lent) (w .first) l (e .0)))
+      (ap (given share n (early ms)) (heard-is (d .call) (d .lent) (w .second) l′ (e .1))) _
+  early-is (shared-by f ∷ ms) w e = early-is ms _ e
+
+  -- ---- the theorem
+
+  pub code-every : (c : Channel) (ss : List Step) (w : Pair) → At c (twoOf w) → DidSteps share n c ss w → EveryStep share n c ss w × At c (twoOf (afterSteps ss w))
+  code-every c [] w a d = (tt, a)
+  code-every c (s ∷ ss) w a d =
+      let y = step c share n (s .turn) a (d .1) in
+      let e : turn share n (s .turn) (twoOf w) ≡ twoOf (next s w) = sym (next-by (s .turn) (s .first) (s .second) w (d .0)) in
+      let z = code-every c ss (next s w) (subst (At c) e (y .stand)) (d .2) in
+      ((subst (After c (s .turn)) e (y .after-it), z .0), z .1)
+
+  module _ (m : Made) (w : Pair) (o : Begun share n m w) where
+    up-is : runOf (startedBy m w .first) ≡ started-up share n (sessionOf m) (runOf (w .first))
+    up-is = heard-is (start (m .config)) (m .lent) (w .first) (m .up) (o .up)
+
+    pub opened-is : opened share n (sessionOf m) (twoOf w) ≡ twoOf (openedBy m w)
+    opened-is =
+        pair-is (ap (given share n (early (m .before))) (sym up-is))
+        (ap (given share n (early (m .before))) (sym (heard-is (start (m .config)) (m .lent) (w .second) (m .up′) (o .up′)))) 0
+        ∙ sym (early-is (m .before) (startedBy m w) (o .early))
+
+    -- but for the turns
+    opens : Opens share n (record { config = m .config; lent = m .lent; before = early (m .before); channel = m .channel; turns = [] }) (twoOf w)
+    opens = record {
+      accepted = o .accepted;
+      lawful = subst (λ (r : Run). Premise (heeded share n (early (m .before)) r) (r .machine)
+          (freshBook (m .config) (m .lent) (r .answer))) up-is (o .lawful);
+      rests = subst (λ (z : Two). z .first .machine .way ≡ idle) (sym opened-is) (o .rests);
+      stage = subst (λ (z : Two). z .first .machine .st .globals .stage ≡ 2) (sym opened-is) (o .stage);
+      sorts = subst (λ (z : Two). m .channel .iso ≡ sortsOf (z .first .machine .st)) (sym opened-is) (o .sorts);
+      allowed = tt;
+    }
+
+    pub begun-at : w .first .time ≡ w .second .time → At (m .channel) (twoOf (openedBy m w))
+    begun-at e = subst (At (m .channel)) opened-is (opened-at share n _ (twoOf w) e opens)
+
+  -- any bytes in each of two runs with one record of the bus time; start-ups, and calls whose contracts say what they are steps of
+  pub code-undisturbed : (ms : List Made) (w : Pair) → w .first .time ≡ w .second .time → AllBegun share n ms w → CodeUndisturbed share n ms w
+  code-undisturbed [] w e o = tt
+  code-undisturbed (m ∷ ms) w e o =
+      let z = code-every (m .channel) (m .steps) (openedBy m w) (begun-at m w (o .0) e) (o .0 .steps) in
+      (z .0, code-undisturbed ms _ (at-time (z .1)) (o .1))

@@ -1,0 +1,40 @@
+-- Before EP0's start an open or a close, the channel's too, is refused and leaves the machine of calls as it was: runs that differ in these alone are
+-- one run
+use mathlib.Core.Bool.{Bool, true, false, cond}
+use mathlib.Core.Path.{_≡_, refl}
+use Prim.Native.Nat.{ℕ}
+use lib.Dec.{eqb}
+use Rattle.state.specs.Driver.{Driver}
+use Rattle.model.specs.Answers.{Answer}
+use Rattle.model.specs.Calls.{aside, Open, Close, calls}
+use Rattle.model.specs.Machine.{begin, Way, idle, busy, misfit, stay, begun}
+use Rattle.model_ops.specs.Rings.{St}
+use Rattle.machine.specs.Under.{driverOf, drive}
+use Rattle.proof_isolation.specs.Standing.{machineOf}
+
+module _ (s : St) (h : eqb (s .0 .globals .stage) 2 ≡ false) where
+  -- lent the slot buffer as it was left
+  pub open-early : (w : Way Answer Driver) (e : ℕ) → drive (begin (aside (Open e))) (machineOf w s) (s .1) .1 ≡ machineOf w s
+  open-early idle e = by (misfit calls driverOf (s .0) (s .1))
+    where
+      by : (b : Bool) → cond b (stay calls driverOf 1 (machineOf idle s))
+          (begun calls driverOf (λ s. s) (aside (Open e)) (machineOf idle s) idle (s .1)) .1 ≡ machineOf idle s
+      by true = refl
+      by false = rw h refl
+  open-early (busy true a k) e = by (misfit calls driverOf (s .0) (s .1))
+    where
+      by : (b : Bool) → cond b (stay calls driverOf 1 (machineOf (busy true a k) s))
+          (begun calls driverOf (λ s. s) (aside (Open e)) (machineOf (busy true a k) s) (busy true a k) (s .1)) .1 ≡ machineOf (busy true a k) s
+      by true = refl
+      by false = rw h refl
+  open-early (busy false a k) e = by (misfit calls driverOf (s .0) (s .1))
+    where
+      by : (b : Bool) → cond b (stay calls driverOf 1 (machineOf (busy false a k) s))
+          (begun calls driverOf (λ s. s) (aside (Open e)) (machineOf (busy false a k) s) (busy false a k) (s .1)) .1 ≡ machineOf (busy false a k) s
+      by true = refl
+      by false = refl
+
+  pub close-early : (w : Way Answer Driver) (e : ℕ) → drive (begin (aside (Close e))) (machineOf w s) (s .1) .1 ≡ machineOf w s
+  close-early idle e = rw h refl
+  close-early (busy true a k) e = rw h refl
+  close-early (busy false a k) e = refl

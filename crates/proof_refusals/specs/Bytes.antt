@@ -1,0 +1,75 @@
+-- A refusal leaves every byte that was lent, but for a poll's 9 and 10: by a call's contract, of which r is Refused n
+use mathlib.Core.Bool.{Bool, true, false, not, cond, true≢false}
+use mathlib.Core.List.{List, []}
+use mathlib.Core.Logic.{_⊎_, inl, inr}
+use mathlib.Core.Path.{_≡_, refl, ap, sym, _∙_}
+use Prim.Native.Nat.{ℕ}
+use lib.Dec.{eqb}
+use Rattle.state.specs.Driver.{Driver}
+use Rattle.state.specs.State.{view, saved}
+use Rattle.state.specs.Determined.{Bytes, determined}
+use Rattle.model.specs.Answers.{Answer, Refused}
+use Rattle.model.specs.Calls.{Config, Op, slots}
+use Rattle.model.specs.Machine.{Buf, Call, start, begin, go, question, Machine, Ans, ended}
+use Rattle.machine.specs.declared.Step.the-variants as step
+use Rattle.machine.specs.Under.{decode, machineAt, machineOf, drive, answerOf, slotsFit, lentOr, AsLent, Kept}
+use Rattle.machine.specs.Goes.{Called}
+use Rattle.proof_refusals.specs.Left.{Poll, none, pollOf, requestEnded, flagCleared, leftBy, left, buffersRow}
+use Rattle.proof_refusals.specs.Scripts.{unpolled}
+use Rattle.proof_refusals.specs.Refusals.{refusal}
+
+abbrev pub pollIn : Call Config Op → Poll
+pollIn (start c) = none
+pollIn (begin o) = pollOf o
+pollIn (go v) = none
+pollIn (question q) = none
+
+-- it is no poll, or the number is neither 9 nor 10
+abbrev pub Spares : Call Config Op → ℕ → Type 0
+Spares c n = (pollIn c ≡ none) ⊎ ((eqb n 9 ≡ false) × (eqb n 10 ≡ false))
+
+other-number : (p : Poll) (n : ℕ) (d : Driver) → eqb n 9 ≡ false → eqb n 10 ≡ false → leftBy p n d ≡ d
+other-number p n d h g = ap (λ (x : Bool). cond x (requestEnded p d) (cond (eqb n 10) (requestEnded p (flagCleared p d)) d)) h ∙ ap (λ (x : Bool). cond x (requestEnded p (flagCleared p d)) d) g
+
+spared : (c : Call Config Op) (n : ℕ) (d : Driver) → Spares c n → left c n d ≡ d
+spared (start c) n d s = refl
+spared (begin o) n d (inl p) = ap (λ (x : Poll). leftBy x n d) p ∙ unpolled n d
+spared (begin o) n d (inr h) = other-number (pollOf o) n d (h .0) (h .1)
+spared (go v) n d s = refl
+spared (question q) n d s = refl
+
+module _ (c : Call Config Op) (n : ℕ) (xs ys : List ℕ) where
+  -- the driver's part of the state after a call, by its contract: a is the run's slot buffer, b the one lent, b′ the run's afterwards
+  pub view-left : (a b b′ : Buf) → _≡_ {A = Called} (answerOf (step.Refused n) [] (view ys), machineOf ys b′) (drive c (machineOf xs a) b) → view ys ≡ left c n (view xs)
+  view-left a b b′ e = ap (λ (z : Called). z .1 .st) e ∙ ap (λ (z : Machine Answer Driver). z .st) (refusal c (decode (saved xs)) (view xs) a b n (sym (ap (λ (z : Called). z .0) e)))
+
+  -- every byte of the state
+  pub bytes-left : (a b b′ : Buf) → _≡_ {A = Called} (answerOf (step.Refused n) [] (view ys), machineOf ys b′) (drive c (machineOf xs a) b) → Kept (step.Refused n) xs ys
+      → Spares c n → Bytes xs → Bytes ys → ys ≡ xs
+  bytes-left a b b′ e k s x y = determined xs ys x y (view-left a b b′ e ∙ spared c n (view xs) s) k
+
+-- the calls that bring the slots and may change them
+abbrev pub BringsSlots : Call Config Op → Bool
+BringsSlots (start c) = false
+BringsSlots (begin o) = slots o
+BringsSlots (go v) = true
+BringsSlots (question q) = false
+
+fitting-row : (c : Call Config Op) (d : Driver) (b : Buf) → BringsSlots c ≡ true → slotsFit d b ≡ true → buffersRow c d b ≡ false
+fitting-row (start c) d b h f = absurd (true≢false (sym h))
+fitting-row (begin o) d b h f = ap (λ (x : Bool). cond x (not (slotsFit d b)) false) h ∙ ap not f
+fitting-row (go v) d b h f = ap not f
+fitting-row (question q) d b h f = absurd (true≢false (sym h))
+
+-- every byte of the slots
+pub slots-left : (c : Call Config Op) (n : ℕ) (xs ys : List ℕ) (b after : Buf)
+    → ((a : Buf) → _≡_ {A = Called} (answerOf (step.Refused n) [] (view ys), machineOf ys (lentOr (view xs) b after a)) (drive c (machineOf xs a) b))
+    → AsLent (view xs) b after → BringsSlots c ≡ true → after ≡ b
+slots-left c n xs ys b after e l h = by-fit (slotsFit (view xs) b) refl
+  where
+    run-buffer : lentOr (view xs) b after [] ≡ cond (buffersRow c (view xs) b) [] b
+    run-buffer = ap (λ (z : Called). z .1 .buf) (e []) ∙ ap (λ (z : Machine Answer Driver). z .buf) (refusal c (decode (saved xs)) (view xs) [] b n (sym (ap (λ (z : Called). z .0) (e []))))
+
+    by-fit : (x : Bool) → slotsFit (view xs) b ≡ x → after ≡ b
+    by-fit false f = l f
+    by-fit true f = sym (ap (λ (z : Bool). cond z after []) f) ∙ run-buffer ∙ ap (λ (z : Bool). cond z [] b) (fitting-row c (view xs) b h f)

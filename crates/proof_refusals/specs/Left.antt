@@ -1,0 +1,93 @@
+-- Document 01, Refusals: "A refusal returns its number only and leaves state and bytes unchanged, with these exceptions. .. 9 or 10 from a poll ends the request that was
+-- begun, and this 10 clears the ready flag." The exception of 8 is no more (request Two): it keeps no number and no buffer
+use mathlib.Core.Bool.{Bool, true, false, not, cond}
+use Prim.Native.Nat.{ℕ}
+use lib.Dec.{eqb}
+use Rattle.regs.specs.declared.Dir.{Dir}
+use Rattle.regs.specs.declared.Dir.the-variants.{Out, In}
+use Rattle.state.specs.Driver.{Driver, epOn, withOn, withRequestOn, withControl}
+use Rattle.model.specs.Statics.{withReady}
+use Rattle.model.specs.Endpoint.{no-request}
+use Rattle.model.specs.Control.{no-control}
+use Rattle.model.specs.Calls.{Config, Op, interrupt, slotted, other, aside, slots, Slotted, SetEnabled, PollRead, BeginWrite, PollWrite, PollDataOut, BeginDataIn, Other, Allocate, AllocateAll, Start, BusPoll, BusEnable, BusDisable, Microframe, SetStalled, IsStalled, SetPaced, Advance, BeginRead, BeginSetup, PollSetup, PollDataIn, BeginAccept, PollAccept, BeginReject, BeginDataOut, BeginAcceptSetAddress}
+use Rattle.model.specs.Machine.{Buf, Call, start, begin, go, question}
+use Rattle.model_ops.specs.Records.{plainOf, merged}
+use Rattle.machine.specs.Under.{slotsFit}
+
+-- the polls that 9 or 10 may refuse: of a read or a write, of the control pipe's stages; a poll of setup is refused by neither
+pub data Poll : Type 0 where
+  none data-out data-in accept : Poll
+  request : Dir → ℕ → Poll
+
+abbrev pub slottedPoll : Slotted → Poll
+slottedPoll (SetEnabled d e on) = none
+slottedPoll (PollRead e n) = request Out e
+slottedPoll (BeginWrite e bs) = none
+slottedPoll (PollWrite e bs) = request In e
+slottedPoll (PollDataOut n) = data-out
+slottedPoll (BeginDataIn bs first last) = none
+
+abbrev pub otherPoll : Other → Poll
+otherPoll (Allocate d kind address maximum interval) = none
+otherPoll (AllocateAll bytes) = none
+otherPoll (Start maximum) = none
+otherPoll BusPoll = none
+otherPoll BusEnable = none
+otherPoll BusDisable = none
+otherPoll Microframe = none
+otherPoll (SetStalled d e on) = none
+otherPoll (IsStalled d e) = none
+otherPoll (SetPaced e on) = none
+otherPoll (Advance e) = none
+otherPoll (BeginRead e n) = none
+otherPoll BeginSetup = none
+otherPoll PollSetup = none
+otherPoll PollDataIn = data-in
+otherPoll BeginAccept = none
+otherPoll PollAccept = accept
+otherPoll BeginReject = none
+otherPoll (BeginDataOut n first) = none
+otherPoll (BeginAcceptSetAddress a) = none
+
+abbrev pub pollOf : Op → Poll
+pollOf interrupt = none
+pollOf (slotted o) = slottedPoll o
+pollOf (other o) = otherPoll o
+pollOf (aside o) = none
+
+-- the request that was begun is ended
+abbrev pub requestEnded : Poll → Driver → Driver
+requestEnded none d = d
+requestEnded data-out d = withControl d no-control
+requestEnded data-in d = withControl d no-control
+requestEnded accept d = withControl d no-control
+requestEnded (request dir e) d = withRequestOn d dir e no-request
+
+-- a ready flag is cleared; of the record nothing else changes
+abbrev pub unready : Dir → ℕ → Driver → Driver
+unready dir e d = withOn d dir e (merged (epOn d dir e) (withReady 0 (plainOf (epOn d dir e))))
+
+-- the ready flag that the poll waits for; of data_in the closing OUT's, with the data packet's where no poll before took that. No 10 refuses a poll of accept
+abbrev pub flagCleared : Poll → Driver → Driver
+flagCleared none d = d
+flagCleared data-out d = unready Out 0 d
+flagCleared data-in d = cond (eqb (d .control .wait) 2) (unready Out 0 d) (unready In 0 (unready Out 0 d))
+flagCleared accept d = d
+flagCleared (request dir e) d = unready dir e d
+
+-- the state after refusal n
+abbrev pub leftBy : Poll → ℕ → Driver → Driver
+leftBy p n d = cond (eqb n 9) (requestEnded p d) (cond (eqb n 10) (requestEnded p (flagCleared p d)) d)
+
+abbrev pub left : Call Config Op → ℕ → Driver → Driver
+left (start c) n d = d
+left (begin o) n d = leftBy (pollOf o) n d
+left (go v) n d = d
+left (question q) n d = d
+
+-- rows 1 and 2, which ask of the slot buffer: where one of them refuses, the run's own buffer stays, and else it is the one lent
+abbrev pub buffersRow : Call Config Op → Driver → Buf → Bool
+buffersRow (start c) d b = true
+buffersRow (begin o) d b = cond (slots o) (not (slotsFit d b)) false
+buffersRow (go v) d b = not (slotsFit d b)
+buffersRow (question q) d b = false

@@ -1,0 +1,75 @@
+-- What a refusal leaves, and which wake-ups an end gives, of a call that is left to its script: a rule for each form that the scripts have
+use mathlib.Core.Bool.{Bool, true, false, cond}
+use mathlib.Core.Path.{_≡_, refl, subst, sym}
+use mathlib.Core.Logic.{_⊎_, inl, inr}
+use mathlib.Core.List.{List, []}
+use Prim.Native.Nat.{ℕ}
+use Rattle.state.specs.Driver.{Driver}
+use Rattle.state.specs.Wakes.{listed}
+use Rattle.model.specs.Tree.{Out, ends, asks, bindOut}
+use Rattle.model.specs.Script.{Script, ret, bind, test, run, no-wakes, gathered}
+use Rattle.model.specs.Answers.{Answer, Refused, End, NotYet, Done, Shown, operation}
+use Rattle.model_ops.specs.Rings.{St}
+use Rattle.model_ops.specs.Conc.{conc}
+use Rattle.proof_refusals.specs.Left.{Poll, leftBy}
+
+-- the wake-ups of an end are those that the state has, or none where the call is over at once
+abbrev pub Listed : List ℕ → Driver → Type 0
+Listed w d = (w ≡ []) ⊎ (w ≡ listed (d .wakes))
+
+abbrev pub AnswerLeaves : Poll → St → Answer → St → Type 0
+AnswerLeaves x s (Refused n) t = t ≡ (leftBy x n (s .0), s .1)
+AnswerLeaves x s (End n w) t = Listed w (t .0)
+AnswerLeaves x s NotYet t = Unit {0}
+AnswerLeaves x s (Done bs) t = Unit {0}
+AnswerLeaves x s (Shown bs k) t = Unit {0}
+
+abbrev pub OutLeaves : Poll → St → Out St Answer → Type 0
+OutLeaves x s (ends a t) = AnswerLeaves x s a t
+OutLeaves x s (asks q t k) = Unit {0}
+
+-- the script's run from t, where it ends at once with refusal n, leaves of the state s what `leftBy` says, and the buffer of s
+pub record Leaves (x : Poll) (s t : St) {i : Bool} (p : Script i Answer) : Type 0 where
+  pub leaves : OutLeaves x s (run conc p t)
+
+module _ {x : Poll} {s t : St} {i : Bool} where
+  pub refuses : {n : ℕ} → t ≡ (leftBy x n (s .0), s .1) → Leaves x s t {i = i} (ret (Refused n))
+  refuses q = record { leaves = q }
+
+  -- any other answer
+  pub answers : {a : Answer} → AnswerLeaves x s a t → Leaves x s t {i = i} (ret a)
+  answers h = record { leaves = h }
+
+  pub tests : {b : Bool} {p q : Script i Answer} → (b ≡ true → Leaves x s t p) → (b ≡ false → Leaves x s t q) → Leaves x s t (test b p q)
+  tests {b} h g = by-cases b h g
+    where
+      by-cases : (b : Bool) {p q : Script i Answer} → (b ≡ true → Leaves x s t p) → (b ≡ false → Leaves x s t q) → Leaves x s t (test b p q)
+      by-cases true h g = record { leaves = h refl .leaves }
+      by-cases false h g = record { leaves = g refl .leaves }
+
+  pub each : {b : Bool} {p q : Script i Answer} → Leaves x s t p → Leaves x s t q → Leaves x s t (test b p q)
+  each h g = tests (λ _. h) (λ _. g)
+
+  -- steps without an access
+  pub after : {A : Type 0} {p : Script i A} {k : A → Script i Answer} {a : A} {u : St} → run conc p t ≡ ends a u → Leaves x s u (k a) → Leaves x s t (bind p k)
+  after {k = k} q h = record { leaves = subst (λ o. OutLeaves x s (bindOut o (λ a u. run conc (k a) u))) (sym q) (h .leaves) }
+
+  pub picks : (b : Bool) {y z : Answer} → Leaves x s t {i = i} (ret y) → Leaves x s t {i = i} (ret z) → Leaves x s t {i = i} (ret (cond b y z))
+  picks true h g = h
+  picks false h g = g
+
+  -- steps, whatever they do, after which no way refuses
+  pub whatever : {A : Type 0} {p : Script i A} {k : A → Script i Answer} → ((a : A) (u : St) → Leaves x s u (k a)) → Leaves x s t (bind p k)
+  whatever {A} {p} {k} h = record { leaves = gone (run conc p t) }
+    where
+      gone : (o : Out St A) → OutLeaves x s (bindOut o (λ a u. run conc (k a) u))
+      gone (ends a u) = h a u .leaves
+      gone (asks q u l) = tt
+
+  -- an operation that has begun ends with no refusal
+  pub begins : {p : Script i ℕ} → Leaves x s t (operation p)
+  begins {p} = record { leaves = ended (run conc p (conc .act no-wakes t)) }
+    where
+      ended : (o : Out St ℕ) → OutLeaves x s (bindOut o (λ n u. ends (End n (conc .fetch gathered u)) u))
+      ended (ends n u) = inr refl
+      ended (asks q u k) = tt

@@ -1,0 +1,57 @@
+-- The driver beside a record of its scripts' wake-ups since the operation's begin: all of them, in their order, however many. What its ends give is
+-- what document 02 asks for; the driver itself has room for 64
+use mathlib.Core.List.{List, [], _++_}
+use Prim.Native.Nat.{ℕ}
+use Rattle.state.specs.Driver.{Driver}
+use Rattle.model.specs.Script.{Ops, Fetch, oldest, received, received0, gathered, Act, complete, reset-ring, set-enabled, fill, fill0, open-oldest, close-oldest, take-oldest, enqueue, allocate, allocate0, no-wakes, waken}
+use Rattle.model.specs.Machine.{Buf}
+use Rattle.model_ops.specs.Rings.{St}
+use Rattle.model_ops.specs.Conc.{conc}
+
+abbrev pub Heard : Type 0
+Heard = Driver × List ℕ
+
+abbrev pub Hst : Type 0
+Hst = Heard × Buf
+
+-- the driver and the buffer
+abbrev pub bare : Hst → St
+bare t = (t .0 .0, t .1)
+
+-- these changed, the record as it was
+abbrev pub onto : Hst → St → Hst
+onto t s = ((s .0, t .0 .1), s .1)
+
+-- the record after a change: a begin has none, and each wake-up stands last
+abbrev pub recorded : Act → List ℕ → List ℕ
+recorded no-wakes l = []
+recorded (waken codes) l = l ++ codes
+recorded (complete e) l = l
+recorded (reset-ring d e) l = l
+recorded (set-enabled d e on) l = l
+recorded (fill e bytes) l = l
+recorded (fill0 bytes) l = l
+recorded (open-oldest e) l = l
+recorded (close-oldest e) l = l
+recorded (take-oldest e) l = l
+recorded (enqueue e bytes) l = l
+recorded (allocate d kind address maximum interval) l = l
+recorded (allocate0 maximum) l = l
+
+abbrev pub fetchHeard : Fetch → Hst → List ℕ
+fetchHeard gathered t = t .0 .1
+fetchHeard (oldest e) t = conc .fetch (oldest e) (bare t)
+fetchHeard (received e n) t = conc .fetch (received e n) (bare t)
+fetchHeard (received0 n) t = conc .fetch (received0 n) (bare t)
+
+abbrev pub heardOps : Ops Hst
+heardOps = record {
+  get = λ c t. conc .get c (bare t);
+  put = λ c v t. onto t (conc .put c v (bare t));
+  is = λ q t. conc .is q (bare t);
+  look = λ q t. conc .look q (bare t);
+  fetch = fetchHeard;
+  act = λ q t. ((conc .act q (bare t) .0, recorded q (t .0 .1)), conc .act q (bare t) .1);
+  hand = λ q t. (conc .hand q (bare t) .0, onto t (conc .hand q (bare t) .1));
+  row = λ g n t. (conc .row g n (bare t) .0, onto t (conc .row g n (bare t) .1));
+}

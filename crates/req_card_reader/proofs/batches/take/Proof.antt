@@ -1,0 +1,295 @@
+use mathlib.Core.Path.{_≡_, refl, sym, ap, _∙_}
+use mathlib.Core.Bool.{true, false}
+use Prim.Native.Nat.{ℕ, _+_, _-_, _≤_, _<_}
+use native.Mathlib.Omega.{arith}
+use borrow.Author.Needs.{needs}
+use mir.Syntax.{w64}
+use mir.Val.{Fits}
+use lib.ListN.{length}
+use Rattle.req_card.specs.Progress.{find-fits}
+use Rattle.req_card.specs.Reading.{total}
+use Rattle.req_card.specs.Streams.{view}
+use Rattle.req_card_reader.specs.Batches.{some}
+use Rattle.req_card_reader.specs.BatchLaws.{some-end, some-short}
+use Rattle.req_card_reader.proofs.Taking.{Taking, begins, goes-near, goes-on, ends}
+use Rattle.req_card_reader.proofs.batches.take.Statement.{statement}
+use Rattle.req_card_reader.proofs.batches.take.Tie as tie
+use Rattle.req_card_reader.proofs.batches.take.Reads as reads
+use Rattle.req_card_reader.proofs.batches.take.Lts as lts
+use Rattle.req_card_reader.proofs.reading.copy_data.Reads as copy-data-reads
+use Rattle.req_card_reader.proofs.batches.take_near.Reads as take-near-reads
+use Rattle.req_card_reader.proofs.reading.find_from.Reads as find-from-reads
+
+abbrev Inv-loop : tie.InvT-loop
+Inv-loop stream place room₀ count₀ used₀ d₀ first₀ room count used d first =
+    Taking (view stream) (some stream place (length room₀)) room₀ room count used d first
+
+abbrev μ-loop : tie.MeasureT-loop
+μ-loop stream place room₀ count₀ used₀ d₀ first₀ room count used d first = length room₀ - used
+
+loop-holds : tie.Need-loop-holds Inv-loop μ-loop
+loop-holds c =
+    let s = c .before .before .args in
+    begins (view (s .stream .now)) (s .room .now) (s .place) (c .before .before .fits .place)
+
+take-near-requires : tie.Need-take-near-requires Inv-loop μ-loop
+take-near-requires c κs = (c .before .loop .inv .seen, omega arith)
+
+add-count : tie.Need-add-count Inv-loop μ-loop
+add-count c =
+    let s = c .before .before .before .before .before .before .before .before .args in
+    let t = c .before .before .before .before .before .loop in
+    let w = c .before .before .before .take-near in
+    let v = view (s .stream .now) in
+    let far : Fits w64 (total v) = omega (arith, c .before .before .before .before .before .before .before .before .good) in
+    let near =
+    goes-near v _ (s .room .now) (t .room) _ (t .count) (t .used) (t .d) (t .first) _ _ far (t .inv) (w .ensures .0) (w .ensures .1) in
+    omega (arith, near .counted, near .inside)
+
+add-used : tie.Need-add-used Inv-loop μ-loop
+add-used c =
+    let s = c .before .before .before .before .before .before .before .before .before .args in
+    let t = c .before .before .before .before .before .before .loop in
+    let w = c .before .before .before .before .take-near in
+    let v = view (s .stream .now) in
+    let far : Fits w64 (total v) = omega (arith, c .before .before .before .before .before .before .before .before .before .good) in
+    let near =
+    goes-near v _ (s .room .now) (t .room) _ (t .count) (t .used) (t .d) (t .first) _ _ far (t .inv) (w .ensures .0) (w .ensures .1) in
+    omega (arith, near .inside)
+
+add-d : tie.Need-add-d Inv-loop μ-loop
+add-d c =
+    let s = c .before .before .before .before .before .before .before .before .before .before .args in
+    let t = c .before .before .before .before .before .before .before .loop in
+    let w = c .before .before .before .before .before .take-near in
+    let v = view (s .stream .now) in
+    let far : Fits w64 (total v) = omega (arith, c .before .before .before .before .before .before .before .before .before .before .good) in
+    let near =
+    goes-near v _ (s .room .now) (t .room) _ (t .count) (t .used) (t .d) (t .first) _ _ far (t .inv) (w .ensures .0) (w .ensures .1) in
+    near .held
+
+find-from-requires : tie.Need-find-from-requires Inv-loop μ-loop
+find-from-requires c κs =
+    let s = c .before .before .before .before .before .before .before .before .before .before .args in
+    let t = c .before .before .before .before .before .before .before .loop in
+    let w = c .before .before .before .before .before .take-near in
+    let v = view (s .stream .now) in
+    let far : Fits w64 (total v) = omega (arith, c .before .before .before .before .before .before .before .before .before .before .good) in
+    let near =
+    goes-near v _ (s .room .now) (t .room) _ (t .count) (t .used) (t .d) (t .first) _ _ far (t .inv) (w .ensures .0) (w .ensures .1) in
+    near .seen
+
+enum-told : tie.Need-enum-told Inv-loop μ-loop
+enum-told c = search needs
+
+same-length : tie.Need-same-length Inv-loop μ-loop
+same-length c =
+    let n = c .before .before .before in
+    let s = n .before .before .before .before .before .before .before .before .before .before .args in
+    let t = n .before .before .before .before .before .before .before .loop in
+    let w = n .before .before .before .before .before .take-near in
+    let v = view (s .stream .now) in
+    let far : Fits w64 (total v) = omega (arith, n .before .before .before .before .before .before .before .before .before .before .good) in
+    let near =
+    goes-near v _ (s .room .now) (t .room) _ (t .count) (t .used) (t .d) (t .first) _ _ far (t .inv) (w .ensures .0) (w .ensures .1) in
+    near .same
+
+returns : tie.Need-returns Inv-loop μ-loop
+returns c =
+    let n = c .before .before .before in
+    let s = n .before .before .before .before .before .before .before .before .before .before .args in
+    let t = n .before .before .before .before .before .before .before .loop in
+    let w = n .before .before .before .before .before .take-near in
+    let v = view (s .stream .now) in
+    let far : Fits w64 (total v) = omega (arith, n .before .before .before .before .before .before .before .before .before .before .good) in
+    let near =
+    goes-near v _ (s .room .now) (t .room) _ (t .count) (t .used) (t .d) (t .first) _ _ far (t .inv) (w .ensures .0) (w .ensures .1) in
+    let found = sym (c .before .before .find-from .ensures) ∙ c .enum-told .given .1 in
+    let stops = some-end v (near .fuel) _ _ (near .enough) found in
+    ends v _ (s .room .now) _ _ _ _ _ false near stops
+
+enum-known-at : tie.Need-enum-known-at Inv-loop μ-loop
+enum-known-at c = search needs
+
+cast-n : tie.Need-cast-n Inv-loop μ-loop
+cast-n c = search needs
+
+add-n : tie.Need-add-n Inv-loop μ-loop
+add-n c = search needs
+
+sub-if1 : tie.Need-sub-if1 Inv-loop μ-loop
+sub-if1 c =
+    let n = c .before .before .before .before in
+    let s = n .before .before .before .before .before .before .before .before .before .before .args in
+    let t = n .before .before .before .before .before .before .before .loop in
+    let w = n .before .before .before .before .before .take-near in
+    let v = view (s .stream .now) in
+    let far : Fits w64 (total v) = omega (arith, n .before .before .before .before .before .before .before .before .before .before .good) in
+    let near =
+    goes-near v _ (s .room .now) (t .room) _ (t .count) (t .used) (t .d) (t .first) _ _ far (t .inv) (w .ensures .0) (w .ensures .1) in
+    omega (arith, near .inside, near .same)
+
+same-length-2 : tie.Need-same-length-2 Inv-loop μ-loop
+same-length-2 c =
+    let n = c .before .before .before .before .before in
+    let s = n .before .before .before .before .before .before .before .before .before .before .args in
+    let t = n .before .before .before .before .before .before .before .loop in
+    let w = n .before .before .before .before .before .take-near in
+    let v = view (s .stream .now) in
+    let far : Fits w64 (total v) = omega (arith, n .before .before .before .before .before .before .before .before .before .before .good) in
+    let near =
+    goes-near v _ (s .room .now) (t .room) _ (t .count) (t .used) (t .d) (t .first) _ _ far (t .inv) (w .ensures .0) (w .ensures .1) in
+    near .same
+
+returns-2 : tie.Need-returns-2 Inv-loop μ-loop
+returns-2 c =
+    let n = c .before .before .before .before .before in
+    let s = n .before .before .before .before .before .before .before .before .before .before .args in
+    let t = n .before .before .before .before .before .before .before .loop in
+    let w = n .before .before .before .before .before .take-near in
+    let v = view (s .stream .now) in
+    let far : Fits w64 (total v) = omega (arith, n .before .before .before .before .before .before .before .before .before .before .good) in
+    let near =
+    goes-near v _ (s .room .now) (t .room) _ (t .count) (t .used) (t .d) (t .first) _ _ far (t .inv) (w .ensures .0) (w .ensures .1) in
+    let told = c .before .before .at .given .1 in
+    let found = sym (c .before .before .before .before .find-from .ensures) ∙ told in
+    let stops = some-short v (near .fuel) _ _ _ _ _ (near .enough) found (omega (arith, near .same)) in
+    ends v _ (s .room .now) _ _ _ _ _ true near stops
+
+copy-data-requires : tie.Need-copy-data-requires Inv-loop μ-loop
+copy-data-requires c κs =
+    let n = c .before .before .before .before .before .before in
+    let s = n .before .before .before .before .before .before .before .before .before .before .args in
+    let t = n .before .before .before .before .before .before .before .loop in
+    let w = n .before .before .before .before .before .take-near in
+    let v = view (s .stream .now) in
+    let far : Fits w64 (total v) = omega (arith, n .before .before .before .before .before .before .before .before .before .before .good) in
+    let near =
+    goes-near v _ (s .room .now) (t .room) _ (t .count) (t .used) (t .d) (t .first) _ _ far (t .inv) (w .ensures .0) (w .ensures .1) in
+    let told = c .before .before .before .at .given .1 in
+    let found = sym (c .before .before .before .before .before .find-from .ensures) ∙ told in
+    let fits = find-fits v (total v) _ _ _ _ found in
+    (omega (arith, near .same, near .inside), omega arith)
+
+add-count-2 : tie.Need-add-count-2 Inv-loop μ-loop
+add-count-2 c =
+    let n = c .before .before .before .before .before .before .before .before .before in
+    let s = n .before .before .before .before .before .before .before .before .before .before .args in
+    let t = n .before .before .before .before .before .before .before .loop in
+    let w = n .before .before .before .before .before .take-near in
+    let v = view (s .stream .now) in
+    let far : Fits w64 (total v) = omega (arith, n .before .before .before .before .before .before .before .before .before .before .good) in
+    let near =
+    goes-near v _ (s .room .now) (t .room) _ (t .count) (t .used) (t .d) (t .first) _ _ far (t .inv) (w .ensures .0) (w .ensures .1) in
+    omega (
+      arith,
+      near .counted,
+      near .inside,
+      near .same,
+      c .before .before .before .before .if1 .left,
+      n .before .before .before .before .before .before .before .before .before .before .good,
+    )
+
+add-used-2 : tie.Need-add-used-2 Inv-loop μ-loop
+add-used-2 c =
+    let n = c .before .before .before .before .before .before .before .before .before in
+    let s = n .before .before .before .before .before .before .before .before .before .before .args in
+    let t = n .before .before .before .before .before .before .before .loop in
+    let w = n .before .before .before .before .before .take-near in
+    let v = view (s .stream .now) in
+    let far : Fits w64 (total v) = omega (arith, n .before .before .before .before .before .before .before .before .before .before .good) in
+    let near =
+    goes-near v _ (s .room .now) (t .room) _ (t .count) (t .used) (t .d) (t .first) _ _ far (t .inv) (w .ensures .0) (w .ensures .1) in
+    omega (
+      arith,
+      near .inside,
+      near .same,
+      c .before .before .before .before .if1 .left,
+      n .before .before .before .before .before .before .before .before .before .before .good,
+    )
+
+add-d-2 : tie.Need-add-d-2 Inv-loop μ-loop
+add-d-2 c =
+    let n = c .before .before .before .before .before .before .before .before .before in
+    let s = n .before .before .before .before .before .before .before .before .before .before .args in
+    let t = n .before .before .before .before .before .before .before .loop in
+    let w = n .before .before .before .before .before .take-near in
+    let v = view (s .stream .now) in
+    let far : Fits w64 (total v) = omega (arith, n .before .before .before .before .before .before .before .before .before .before .good) in
+    let near =
+    goes-near v _ (s .room .now) (t .room) _ (t .count) (t .used) (t .d) (t .first) _ _ far (t .inv) (w .ensures .0) (w .ensures .1) in
+    let told = c .before .before .before .before .before .before .at .given .1 in
+    let found = sym (c .before .before .before .before .before .before .before .before .find-from .ensures) ∙ told in
+    let fits = find-fits v (total v) _ _ _ _ found in
+    omega arith
+
+add-first : tie.Need-add-first Inv-loop μ-loop
+add-first c =
+    let n = c .before .before .before .before .before .before .before .before .before in
+    let s = n .before .before .before .before .before .before .before .before .before .before .args in
+    let t = n .before .before .before .before .before .before .before .loop in
+    let w = n .before .before .before .before .before .take-near in
+    let v = view (s .stream .now) in
+    let far : Fits w64 (total v) = omega (arith, n .before .before .before .before .before .before .before .before .before .before .good) in
+    let near =
+    goes-near v _ (s .room .now) (t .room) _ (t .count) (t .used) (t .d) (t .first) _ _ far (t .inv) (w .ensures .0) (w .ensures .1) in
+    let told = c .before .before .before .before .before .before .at .given .1 in
+    let found = sym (c .before .before .before .before .before .before .before .before .find-from .ensures) ∙ told in
+    let fits = find-fits v (total v) _ _ _ _ found in
+    omega (arith, n .before .before .before .before .before .before .before .before .before .before .good)
+
+loop-less : tie.Need-loop-less Inv-loop μ-loop
+loop-less c =
+    let n = c .before .before .before .before .before .before .before .before .before in
+    let s = n .before .before .before .before .before .before .before .before .before .before .args in
+    let t = n .before .before .before .before .before .before .before .loop in
+    let w = n .before .before .before .before .before .take-near in
+    let v = view (s .stream .now) in
+    let far : Fits w64 (total v) = omega (arith, n .before .before .before .before .before .before .before .before .before .before .good) in
+    let near =
+    goes-near v _ (s .room .now) (t .room) _ (t .count) (t .used) (t .d) (t .first) _ _ far (t .inv) (w .ensures .0) (w .ensures .1) in
+    omega (arith, near .inside, near .same)
+
+loop-again : tie.Need-loop-again Inv-loop μ-loop
+loop-again c =
+    let n = c .before .before .before .before .before .before .before .before .before in
+    let s = n .before .before .before .before .before .before .before .before .before .before .args in
+    let t = n .before .before .before .before .before .before .before .loop in
+    let w = n .before .before .before .before .before .take-near in
+    let v = view (s .stream .now) in
+    let far : Fits w64 (total v) = omega (arith, n .before .before .before .before .before .before .before .before .before .before .good) in
+    let near =
+    goes-near v _ (s .room .now) (t .room) _ (t .count) (t .used) (t .d) (t .first) _ _ far (t .inv) (w .ensures .0) (w .ensures .1) in
+    let told = c .before .before .before .before .before .before .at .given .1 in
+    let found = sym (c .before .before .before .before .before .before .before .before .find-from .ensures) ∙ told in
+    let copied = c .before .before .copy-data .ensures in
+    goes-on v _ (s .room .now) _ _ _ _ _ _ _ _ _ far near found (omega (arith, near .same)) copied
+
+pub take-spec : {M : Type 1} → statement M
+take-spec =
+    tie.close
+    (tie.spec
+    Inv-loop
+    μ-loop
+    loop-holds
+    take-near-requires
+    add-count
+    add-used
+    add-d
+    find-from-requires
+    enum-told
+    same-length
+    returns
+    enum-known-at
+    cast-n
+    add-n
+    sub-if1
+    same-length-2
+    returns-2
+    copy-data-requires
+    add-count-2
+    add-used-2
+    add-d-2
+    add-first
+    loop-less
+    loop-again)
