@@ -16,7 +16,7 @@ use Rattle.model.specs.Script.{Script}
 use Rattle.model.specs.AllocateAll as script
 use Rattle.model.specs.AllocateAll.{allocateEach}
 use Rattle.model_ops.specs.Records.{allocatedOn}
-use Rattle.model_ops.specs.Conc.{go}
+use Rattle.model_ops.specs.Concrete.{go}
 use Rattle.driver_resume.specs.Announce.{announcing}
 
 -- ---- allocated, in the list's order

@@ -11,7 +11,7 @@ ghost use Prim.Native.Nat.{ℕ};
 ghost use Rattle.req_descriptor.specs.Writing.{stored};
 ghost use Rattle.req_preview.specs.Trial.{directionOf};
 ghost use Rattle.state.specs.State.{view, saved};
-ghost use Rattle.model_ops.specs.Conc.{go};
+ghost use Rattle.model_ops.specs.Concrete.{go};
 ghost use Rattle.driver.specs.Points.{meaning, Linked};
 ghost use Rattle.alloc_all.specs.Each.{oneOn, eachOn, announceAll};
 

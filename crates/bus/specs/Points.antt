@@ -23,7 +23,7 @@ use Rattle.model.specs.Machine.{Awaits, nothing, reading, awaited}
 use Rattle.model.specs.Bus.{nakAll, busReset, kept, setEnabledOut}
 use Rattle.model_ops.specs.Records.{plainOf, merged}
 use Rattle.model_ops.specs.Rings.{St, emptiedOn}
-use Rattle.model_ops.specs.Conc.{conc}
+use Rattle.model_ops.specs.Concrete.{concrete}
 use Rattle.bus.specs.declared.Point.{Point}
 use Rattle.bus.specs.declared.Point.the-variants as point
 use Rattle.bus.specs.declared.Next.{Next}
@@ -145,49 +145,49 @@ afterPlaced e iso on = do
 
 -- n accesses of the row are left
 unfoldable pub switching : ℕ → Bool → ℕ → tree.Prog St ℕ
-switching e on zero t = run conc (woken Out e) t
-switching e on (suc n) t = bindOut (bindOut (rows conc (switch e on) n (λ u. run conc (done {i = false}) u) t) (λ _ u. run conc (wake {i = false} Out e) u)) (λ _ u. ends 0 u)
+switching e on zero t = run concrete (woken Out e) t
+switching e on (suc n) t = bindOut (bindOut (rows concrete (switch e on) n (λ u. run concrete (done {i = false}) u) t) (λ _ u. run concrete (wake {i = false} Out e) u)) (λ _ u. ends 0 u)
 
 -- ---- points
 
 -- the run from a point with the number brought: a script's, and inside a row the accesses of it that are left
 abbrev pub denote : Point → ℕ → tree.Prog St ℕ
-denote point.Enable v t = run conc (resultless (write Ctrl 0 (pulledUp v))) t
+denote point.Enable v t = run concrete (resultless (write Ctrl 0 (pulledUp v))) t
 denote (point.Event n) v t = ends n t
 denote point.Stalled v t = ends (flag (isStalled v)) t
-denote (point.StallLen e) v t = run conc (do
+denote (point.StallLen e) v t = run concrete (do
   word ← read EpTxCtrl e
   afterStallWord In e word) t
-denote (point.StallWord d e) v t = run conc (afterStallWord d e v) t
-denote (point.Restarted e iso) v t = run conc (afterRestart e iso) t
-denote (point.Woken d e) v t = run conc (woken d e) t
-denote point.Flags v t = run conc (afterFlags v) t
-denote point.Status v t = run conc (afterStatus v) t
-denote (point.Released down) v t = run conc (afterReleased down) t
-denote point.Address v t = run conc (do
+denote (point.StallWord d e) v t = run concrete (afterStallWord d e v) t
+denote (point.Restarted e iso) v t = run concrete (afterRestart e iso) t
+denote (point.Woken d e) v t = run concrete (woken d e) t
+denote point.Flags v t = run concrete (afterFlags v) t
+denote point.Status v t = run concrete (afterStatus v) t
+denote (point.Released down) v t = run concrete (afterReleased down) t
+denote point.Address v t = run concrete (do
   write EpRxCtrl 0 (wordOf ACK DATA0 false)
   write EpTxCtrl 0 (wordOf NAK DATA0 false)
   afterNaked 0) t
-denote point.Ep0Out v t = run conc (do
+denote point.Ep0Out v t = run concrete (do
   write EpTxCtrl 0 (wordOf NAK DATA0 false)
   afterNaked 0) t
-denote (point.NakIn e) v t = run conc (do
+denote (point.NakIn e) v t = run concrete (do
   write EpRxCtrl e (wordOf NAK DATA0 false)
   afterNaked e) t
-denote (point.Naked e) v t = run conc (afterNaked e) t
-denote point.Disabled v t = rows conc bus-reset 2 (λ u. run conc afterReset u) t
-denote point.Untyped v t = rows conc bus-reset 1 (λ u. run conc afterReset u) t
-denote point.Single v t = rows conc bus-reset 0 (λ u. run conc afterReset u) t
-denote point.Reset v t = run conc afterReset t
-denote (point.PlacedOut e on) v t = run conc (do
+denote (point.Naked e) v t = run concrete (afterNaked e) t
+denote point.Disabled v t = rows concrete bus-reset 2 (λ u. run concrete afterReset u) t
+denote point.Untyped v t = rows concrete bus-reset 1 (λ u. run concrete afterReset u) t
+denote point.Single v t = rows concrete bus-reset 0 (λ u. run concrete afterReset u) t
+denote point.Reset v t = run concrete afterReset t
+denote (point.PlacedOut e on) v t = run concrete (do
   write EpRxCtrl e (wordOf (cond on ACK NAK) DATA0 true)
   afterWords Out e false on) t
-denote (point.PlacedIn e iso on) v t = run conc (do
+denote (point.PlacedIn e iso on) v t = run concrete (do
   write EpTLen e 0
   afterPlaced e iso on) t
-denote (point.NoLength e iso on) v t = run conc (afterPlaced e iso on) t
-denote (point.Words d e iso on) v t = run conc (afterWords d e iso on) t
-denote (point.Type d e on) v t = run conc (afterType d e on) t
+denote (point.NoLength e iso on) v t = run concrete (afterPlaced e iso on) t
+denote (point.Words d e iso on) v t = run concrete (afterWords d e iso on) t
+denote (point.Type d e on) v t = run concrete (afterType d e on) t
 denote (point.Switch e on n) v t = switching e on n t
 
 abbrev pub meaning : Next → Driver → List ℕ → tree.Out St ℕ

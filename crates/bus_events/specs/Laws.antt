@@ -12,12 +12,12 @@ use Rattle.model.specs.Tree.{asks, ends}
 use Rattle.model.specs.Script.{run}
 use Rattle.model.specs.Bus.{nakAll}
 use Rattle.model_ops.specs.Rings.{St}
-use Rattle.model_ops.specs.Conc.{conc}
+use Rattle.model_ops.specs.Concrete.{concrete}
 
 -- ---- `bus_reset`: the endpoints above e
 
 abbrev naks : ℕ → ℕ → tree.Prog St Unit
-naks n e t = run conc (nakAll {i = false} n e) t
+naks n e t = run concrete (nakAll {i = false} n e) t
 
 gap : (e : ℕ) → e < 15 → 15 - e ≡ suc (15 - suc e)
 gap e h = omega arith
@@ -29,9 +29,9 @@ step : (n e : ℕ) (t : St) → naks (suc n) e t ≡ asks (Write EpTxCtrl e (wor
 unfolding nakAll
 step n e t = refl
 
-pub nak-none : (e : ℕ) → 15 ≤ e → (t : St) → run conc (nakAll {i = false} (15 - e) (suc e)) t ≡ ends tt t
+pub nak-none : (e : ℕ) → 15 ≤ e → (t : St) → run concrete (nakAll {i = false} (15 - e) (suc e)) t ≡ ends tt t
 unfolding nakAll
 nak-none e h t = ap (λ (n : ℕ). naks n (suc e) t) (over e h)
 
-pub nak-more : (e : ℕ) → e < 15 → (t : St) → run conc (nakAll {i = false} (15 - e) (suc e)) t ≡ asks (Write EpTxCtrl (e + 1) (wordOf NAK DATA0 false)) t (λ _ u. asks (Write EpRxCtrl (e + 1) (wordOf NAK DATA0 false)) u (λ _ x. run conc (nakAll {i = false} (15 - (e + 1)) (suc (e + 1))) x))
+pub nak-more : (e : ℕ) → e < 15 → (t : St) → run concrete (nakAll {i = false} (15 - e) (suc e)) t ≡ asks (Write EpTxCtrl (e + 1) (wordOf NAK DATA0 false)) t (λ _ u. asks (Write EpRxCtrl (e + 1) (wordOf NAK DATA0 false)) u (λ _ x. run concrete (nakAll {i = false} (15 - (e + 1)) (suc (e + 1))) x))
 nak-more e h t = rw (add-one e) (ap (λ (n : ℕ). naks n (suc e) t) (gap e h) ∙ step (15 - suc e) (suc e) t)

@@ -25,7 +25,7 @@ ghost use Rattle.regs.specs.ControlWord.{NAK, DATA0, wordOf};
 ghost use Rattle.state.specs.Driver.{Driver};
 ghost use Rattle.state.specs.State.{view, saved};
 ghost use Rattle.model.specs.Bus as script;
-ghost use Rattle.model_ops.specs.Conc.{go};
+ghost use Rattle.model_ops.specs.Concrete.{go};
 ghost use Rattle.bus.specs.Points.{afterReset, afterNaked, afterStatus, afterReleased, afterFlags, denote, meaning, Linked};
 
 // `poll` (mod.rs 1231-1266).

@@ -27,7 +27,7 @@ ghost use Prim.Native.Nat.{ℕ};
 ghost use Rattle.state.specs.Driver.{Driver};
 ghost use Rattle.state.specs.State.{view, saved};
 ghost use Rattle.model.specs.Bus as script;
-ghost use Rattle.model_ops.specs.Conc.{go};
+ghost use Rattle.model_ops.specs.Concrete.{go};
 ghost use Rattle.bus.specs.Points.{resultless, denote, meaning, Linked, fitsAt};
 
 // `enable` (mod.rs 1225-1227).

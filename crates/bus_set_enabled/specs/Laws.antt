@@ -17,7 +17,7 @@ use Rattle.model.specs.Script.{Script, test, row, switch, _>>=_, _>>_}
 use Rattle.model.specs.Bus.{setEnabledOut, setEnabled}
 use Rattle.model_ops.specs.Records.{plainOf, merged, isoOut}
 use Rattle.model_ops.specs.Rings.{St, emptied, emptiedOn, placeOn}
-use Rattle.model_ops.specs.Conc.{go}
+use Rattle.model_ops.specs.Concrete.{go}
 use Rattle.bus.specs.declared.Point.the-variants as point
 use Rattle.bus.specs.Points.{resultless, woken, resetAs, renewedAs, enabledOut, afterPlaced, afterWords, switching, denote}
 

@@ -26,7 +26,7 @@ ghost use Rattle.regs.specs.ControlWord.{ACK, NYET, NAK, DATA0, wordOf};
 ghost use Rattle.state.specs.Driver.{Driver};
 ghost use Rattle.state.specs.State.{view, saved};
 ghost use Rattle.model.specs.Bus as script;
-ghost use Rattle.model_ops.specs.Conc.{go};
+ghost use Rattle.model_ops.specs.Concrete.{go};
 ghost use Rattle.model_ops.specs.Records.{isoOut};
 ghost use Rattle.bus.specs.Points.{resultless, renewedAs, enabledOut, afterType, afterWords, afterPlaced, denote, meaning, Linked, fitsAt};
 ghost use Rattle.bus.specs.Stages.{ofEndpoint};

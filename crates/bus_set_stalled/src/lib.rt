@@ -21,7 +21,7 @@ ghost use Rattle.regs.specs.Registers.{fitsIn};
 ghost use Rattle.state.specs.Driver.{Driver};
 ghost use Rattle.state.specs.State.{view, saved};
 ghost use Rattle.model.specs.Bus as script;
-ghost use Rattle.model_ops.specs.Conc.{go};
+ghost use Rattle.model_ops.specs.Concrete.{go};
 ghost use Rattle.model_ops.specs.Records.{plainOf};
 ghost use Rattle.bus.specs.Points.{resultless, woken, afterStallWord, afterRestart, denote, meaning, Linked, fitsAt};
 ghost use Rattle.bus.specs.Stages.{ofStall};

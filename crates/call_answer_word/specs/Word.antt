@@ -49,9 +49,9 @@ wordOf (Setup low high) = doneWord 8
 wordOf (Shown at n stamp) = shownWord at n
 
 -- the word is the answer's, and is read back as it
-unfoldable pub Says : ℕ → Step → Type 0
-Says r step = (r ≡ wordOf step) × (stepOf r ≡ spoken step)
+unfoldable pub Encodes : ℕ → Step → Type 0
+Encodes r step = (r ≡ wordOf step) × (stepOf r ≡ spoken step)
 
 -- it says an answer of which P holds
 abbrev pub Worded : ℕ → (Step → Type 0) → Type 0
-Worded r P = (step : Step) × Says r step × P step
+Worded r P = (step : Step) × Encodes r step × P step

@@ -9,7 +9,7 @@ use Rattle.regs.specs.declared.Access.{Access}
 use Rattle.regs.specs.declared.Access.the-variants.{Read, Write, Receive, Transmit, Ep0Dma, Wait, Callback}
 use Rattle.machine.specs.declared.Step.{Step}
 use Rattle.machine.specs.declared.Step.the-variants.{Refused, Asks, Ends, NotYet, Done, Setup, Shown}
-use Rattle.call_answer_word.specs.Word.{readWord, writeWord, accessWord, endWord, doneWord, shownWord, wordOf, Says}
+use Rattle.call_answer_word.specs.Word.{readWord, writeWord, accessWord, endWord, doneWord, shownWord, wordOf, Encodes}
 use Rattle.call_answer_word.specs.Parts.{regOf, writeOf, byteAt, halfAt, ofKind, stepOf, spoken, AccessFits, Fits}
 
 number-lt : (r : Reg) → numberOf r < 2 ^ 8
@@ -156,11 +156,11 @@ step-word (Setup low high) h = done-word 8 (omega arith)
 step-word (Shown at n stamp) h = shown-word at n (h .1)
 
 -- the word of an answer by another name
-pub says : (r : ℕ) (step t : Step) → step ≡ t → Fits t → r ≡ wordOf t → Says r step
-unfolding Says
+pub says : (r : ℕ) (step t : Step) → step ≡ t → Fits t → r ≡ wordOf t → Encodes r step
+unfolding Encodes
 says r step t e h k = (k ∙ ap wordOf (sym e), ap stepOf k ∙ (step-word t h ∙ ap spoken (sym e)))
 
 -- a word says one answer
-pub says-one : (r : ℕ) (a b : Step) → Says r a → Says r b → spoken a ≡ spoken b
-unfolding Says
+pub says-one : (r : ℕ) (a b : Step) → Encodes r a → Encodes r b → spoken a ≡ spoken b
+unfolding Encodes
 says-one r a b x y = sym (x .1) ∙ y .1

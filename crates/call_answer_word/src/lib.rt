@@ -4,7 +4,7 @@ use regs::Access;
 use regs::registers::number;
 ghost use mathlib.Core.Path.{_≡_};
 ghost use Rattle.call_answer_word.specs.Parts.{AccessFits, EndFits};
-ghost use Rattle.call_answer_word.specs.Word.{readWord, writeWord, accessWord, endWord, doneWord, shownWord, Says};
+ghost use Rattle.call_answer_word.specs.Word.{readWord, writeWord, accessWord, endWord, doneWord, shownWord, Encodes};
 
 fn read_word(register: u8, endpoint: u8) -> u64
     ensures { λ r. ⌜ r ≡ readWord register endpoint ⌝ }
@@ -55,7 +55,7 @@ fn shown_word(at: u32, n: u16) -> u64
 // The word of a call's answer. A setup packet's bytes lie in the caller's packet: 8 are brought. The stamp of a packet that is shown lies in the
 // caller's room for it.
 pub fn word_of(step: Step) -> u64
-    ensures { λ r. ⌜ Says r step ⌝ }
+    ensures { λ r. ⌜ Encodes r step ⌝ }
 {
     match step {
         Step::Refused(n) => n as u64 * 0x100,
@@ -70,7 +70,7 @@ pub fn word_of(step: Step) -> u64
 
 // The same, of a continue: nearly all of its answers are accesses and ends. Its one caller has it in line.
 pub fn continue_word(step: Step) -> u64
-    ensures { λ r. ⌜ Says r step ⌝ }
+    ensures { λ r. ⌜ Encodes r step ⌝ }
 {
     match step {
         Step::Asks(q) => access_word(q),

@@ -19,15 +19,15 @@ use Rattle.model.specs.Bus as script
 use Rattle.model.specs.Calls.{slotted, SetEnabled}
 use Rattle.model.specs.Machine.{Buf, begin, ended}
 use Rattle.model_ops.specs.Rings.{St}
-use Rattle.model_ops.specs.Conc.{conc}
-use Rattle.machine.specs.declared.Under.{Under}
-use Rattle.machine.specs.Under.{machineAt, drive, halts, slotsFit}
+use Rattle.model_ops.specs.Concrete.{concrete}
+use Rattle.machine.specs.declared.Suspended.{Suspended}
+use Rattle.machine.specs.Suspended.{machineAt, drive, halts, slotsFit}
 use Rattle.machine.specs.Goes.{Called}
 use Rattle.machine.specs.Rows.{isIdle, stopOf, named-call}
 use Rattle.call_bus_time.specs.Sharing.{isHanded}
 
 -- no row before 19 stops it
-unfoldable pub accepts : Driver → Under → Buf → Dir → ℕ → Bool
+unfoldable pub accepts : Driver → Suspended → Buf → Dir → ℕ → Bool
 accepts d u b dir e = cond (slotsFit d b) (cond (eqb (stopOf (isIdle u) 2 (d .globals .stage)) 0) (isAllocated (d .allocator) dir e) false) false
 
 -- ---- each begins with an access
@@ -46,21 +46,21 @@ outBody e on iso = resultless (do
   test iso (row (switch e on)) (script.setEnabledOut e on)
   wake Out e)
 
-first-out : (e : ℕ) (on iso : Bool) (s : St) → asksFirst (run conc (outBody e on iso) s) ≡ true
+first-out : (e : ℕ) (on iso : Bool) (s : St) → asksFirst (run concrete (outBody e on iso) s) ≡ true
 first-out e on true s = refl
 first-out e on false s = refl
 
-first-access : (dir : Dir) (e : ℕ) (on : Bool) (d : Driver) (b : Buf) → asksFirst (run conc (resultless (script.setEnabled dir e on)) (d, b)) ≡ true
+first-access : (dir : Dir) (e : ℕ) (on : Bool) (d : Driver) (b : Buf) → asksFirst (run concrete (resultless (script.setEnabled dir e on)) (d, b)) ≡ true
 first-access Out e on d b = first-out e on (isOn (epOn (withWakes d none-woken) Out e .iso)) (d, b)
 first-access In e on d b = refl
 
 abbrev answer : Called → Bool
 answer x = isHanded (x .0)
 
-abbrev refused : ℕ → Under → Driver → Buf → Called
+abbrev refused : ℕ → Suspended → Driver → Buf → Called
 refused n u d b = (ended (Refused n), machineAt u d b)
 
-by-rows : (fits : Bool) (stop : ℕ) (named : Bool) (o : tree.Out St Answer) (u : Under) (d : Driver) (a b : Buf) → asksFirst o ≡ true
+by-rows : (fits : Bool) (stop : ℕ) (named : Bool) (o : tree.Out St Answer) (u : Suspended) (d : Driver) (a b : Buf) → asksFirst o ≡ true
     → answer (cond fits (cond (eqb stop 0) (cond named (halts o) (refused 5 u d b)) (refused stop u d b)) (refused 1 u d a)) ≡ cond fits (cond (eqb stop 0) named false) false
 by-rows false stop named o u d a b h = refl
 by-rows true stop named o u d a b h = go (eqb stop 0) named
@@ -70,11 +70,11 @@ by-rows true stop named o u d a b h = go (eqb stop 0) named
     go true false = refl
     go true true = handed-first o ∙ h
 
-pub accepts-is : (dir : Dir) (e : ℕ) (on : Bool) (u : Under) (d : Driver) (a b : Buf) → isHanded (drive (begin (slotted (SetEnabled dir e on))) (machineAt u d a) b .0) ≡ accepts d u b dir e
+pub accepts-is : (dir : Dir) (e : ℕ) (on : Bool) (u : Suspended) (d : Driver) (a b : Buf) → isHanded (drive (begin (slotted (SetEnabled dir e on))) (machineAt u d a) b .0) ≡ accepts d u b dir e
 unfolding accepts
 accepts-is dir e on u d a b =
     ap answer (named-call (SetEnabled dir e on) dir e (resultless (script.setEnabled dir e on)) u d a b refl)
-    ∙ by-rows (slotsFit d b) (stopOf (isIdle u) 2 (d .globals .stage)) (isAllocated (d .allocator) dir e) (run conc (resultless (script.setEnabled dir e on)) (d, b)) u d a b (first-access dir e on d b)
+    ∙ by-rows (slotsFit d b) (stopOf (isIdle u) 2 (d .globals .stage)) (isAllocated (d .allocator) dir e) (run concrete (resultless (script.setEnabled dir e on)) (d, b)) u d a b (first-access dir e on d b)
 
 -- ---- an endpoint's number counts modulo 16
 

@@ -9,8 +9,8 @@ use Rattle.state.specs.Driver.{Driver}
 use Rattle.model.specs.Answers.{Answer, Refused, isAllocated}
 use Rattle.model.specs.Calls.{slotted, SetEnabled}
 use Rattle.model.specs.Machine.{Buf, Machine, begin, Ans, ended, handed, told}
-use Rattle.machine.specs.declared.Under.{Under}
-use Rattle.machine.specs.Under.{machineAt, drive, slotsFit, lentOr}
+use Rattle.machine.specs.declared.Suspended.{Suspended}
+use Rattle.machine.specs.Suspended.{machineAt, drive, slotsFit, lentOr}
 use Rattle.machine.specs.Goes.{Called}
 use Rattle.machine.specs.Rows.{isIdle, stopOf}
 use Rattle.req_bus_time.specs.Time.{entryOf, passes}
@@ -27,7 +27,7 @@ and-false : (x : Bool) → (x && false) ≡ false
 and-false true = refl
 and-false false = refl
 
-accepts-fits : (d : Driver) (u : Under) (b : Buf) (dir : Dir) (e : ℕ) → accepts d u b dir e ≡ true → slotsFit d b ≡ true
+accepts-fits : (d : Driver) (u : Suspended) (b : Buf) (dir : Dir) (e : ℕ) → accepts d u b dir e ≡ true → slotsFit d b ≡ true
 unfolding accepts
 accepts-fits d u b dir e h = by (slotsFit d b) _ h
   where
@@ -35,7 +35,7 @@ accepts-fits d u b dir e h = by (slotsFit d b) _ h
     by true y h = refl
     by false y h = absurd (true≢false (sym h))
 
-module _ (i : ℕ) (dir : Dir) (e : ℕ) (u : Under) (d : Driver) (a b : Buf) (t : List ℕ) where
+module _ (i : ℕ) (dir : Dir) (e : ℕ) (u : Suspended) (d : Driver) (a b : Buf) (t : List ℕ) where
   pub turned : accepts d u b dir e ≡ true → passes t (entryOf i dir e) (chargeOn d dir e) ≡ true
       → ((ended (Refused 19), machineAt u d (lentOr d b b a)), t) ≡ sharedCall i (begin (slotted (SetEnabled dir e true))) (machineAt u d a) t b
   turned h p = rw (accepts-fits d u b dir e h) (refuses i dir e (machineAt u d a) t b (accepts-is dir e true u d a b ∙ h) p)

@@ -13,7 +13,7 @@ use Rattle.model.specs.Every.{sameReg}
 use Rattle.model.specs.Answers.{Answer, Refused}
 use Rattle.model.specs.Calls.{Config, Op, interrupt, slotted, other, aside, Slotted, SetEnabled, PollRead, BeginWrite, PollWrite, PollDataOut, BeginDataIn, calls}
 use Rattle.model.specs.Machine.{Buf, Call, start, begin, go, question, Machine, Ans, ended, handed, told, lentTo}
-use Rattle.machine.specs.Under.{driverOf, drive}
+use Rattle.machine.specs.Suspended.{driverOf, drive}
 use Rattle.machine.specs.Goes.{Called}
 use Rattle.req_bus_time.specs.Time.{chargeOf, entryOf, passes, keepOf}
 
@@ -85,7 +85,7 @@ turnedDown i apart a d t = false
 unfoldable pub settled : ℕ → Sort → Machine Answer Driver → List ℕ → Buf → Called → Called × List ℕ
 settled i x m t b y = cond (turnedDown i x (y .0) (m .st) t) ((ended (Refused 19), lentTo calls driverOf m b), t) (y, timeAfter i x (y .0) (m .st) t)
 
--- a call of driver i: the driver's own (machine/specs/Under.antt), unless it is turned down, which changes nothing
+-- a call of driver i: the driver's own (machine/specs/Suspended.antt), unless it is turned down, which changes nothing
 abbrev pub sharedCall : ℕ → Call Config Op → Machine Answer Driver → List ℕ → Buf → Called × List ℕ
 sharedCall i c m t b = settled i (sortOf c) m t b (drive c m b)
 

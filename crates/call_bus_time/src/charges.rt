@@ -16,7 +16,7 @@ ghost use Rattle.regs.specs.declared.Reg.the-variants.{EpConfig};
 ghost use Rattle.state.specs.Driver.{Driver};
 ghost use Rattle.state.specs.State.{view};
 ghost use Rattle.model.specs.Every.{sameReg};
-ghost use Rattle.machine.specs.Under.{answerOf};
+ghost use Rattle.machine.specs.Suspended.{answerOf};
 ghost use Rattle.call_bus_time.specs.Sharing.{chargeOn, starting, going, written, timeAfter};
 ghost use Rattle.call_bus_time.specs.Charging.{chargedAt};
 

@@ -10,10 +10,10 @@ use Rattle.model.specs.Calls.{other, SetPaced}
 use Rattle.model.specs.IsoIn.{isoInSetPaced}
 use Rattle.model.specs.Machine.{Buf, ended, begin}
 use Rattle.model_ops.specs.Rings.{St}
-use Rattle.model_ops.specs.Conc.{go}
+use Rattle.model_ops.specs.Concrete.{go}
 use Rattle.driver.specs.Points.{setPaced}
-use Rattle.machine.specs.declared.Under.{Under}
-use Rattle.machine.specs.Under.{machineAt, drive, halts}
+use Rattle.machine.specs.declared.Suspended.{Suspended}
+use Rattle.machine.specs.Suspended.{machineAt, drive, halts}
 use Rattle.machine.specs.Goes.{Called}
 use Rattle.machine.specs.Rows.{back, numbered-call, accepted, Passes, answered-idle}
 
@@ -27,7 +27,7 @@ abbrev answered : Out St Unit → Called
 answered o = halts (bindOut o (λ _ t. ends ok t))
 
 pub set-paced-begins :
-    (u : Under) (d after : Driver) (a b : Buf) (e n : ℕ) (on : Bool)
+    (u : Suspended) (d after : Driver) (a b : Buf) (e n : ℕ) (on : Bool)
     → Passes 2 u d
     → isNumber e ≡ true
     → n ≡ e

@@ -13,12 +13,12 @@ ghost use Prim.Native.Nat.{ℕ};
 ghost use Rattle.state.specs.State.{view, saved};
 ghost use Rattle.model.specs.Machine.{begin};
 ghost use Rattle.model.specs.Calls.{other, interrupt, Microframe, SetPaced, Advance};
-ghost use Rattle.machine.specs.Under.{machineOf, drive, answerOf, Kept};
+ghost use Rattle.machine.specs.Suspended.{machineOf, drive, answerOf, SavedUnchangedOnRefusal};
 
 // The current microframe number (mod.rs 236-238).
 pub fn begin_microframe(s: &mut [u8; STATE_LEN]) -> Step
     ensures { λ r. ⌜ ((a b : List ℕ) → (answerOf r [] (view (now (s .exit))), machineOf (now (s .exit)) b) ≡ drive (begin (other Microframe)) (machineOf (now (s .entry)) a) b) ⌝ }
-    ensures { λ r. ⌜ Kept r (now (s .entry)) (now (s .exit)) ⌝ }
+    ensures { λ r. ⌜ SavedUnchangedOnRefusal r (now (s .entry)) (now (s .exit)) ⌝ }
 {
     let n = stop(s, 2);
     if n == 0 {
@@ -47,7 +47,7 @@ pub fn set_paced(s: &mut [u8; STATE_LEN], e: u32, on: bool) -> Step
 // `iso_in_advance` (mod.rs 323-340).
 pub fn begin_advance(s: &mut [u8; STATE_LEN], e: u32) -> Step
     ensures { λ r. ⌜ ((a b : List ℕ) → (answerOf r [] (view (now (s .exit))), machineOf (now (s .exit)) b) ≡ drive (begin (other (Advance e))) (machineOf (now (s .entry)) a) b) ⌝ }
-    ensures { λ r. ⌜ Kept r (now (s .entry)) (now (s .exit)) ⌝ }
+    ensures { λ r. ⌜ SavedUnchangedOnRefusal r (now (s .entry)) (now (s .exit)) ⌝ }
 {
     let n = stop(s, 2);
     if n == 0 {
@@ -64,7 +64,7 @@ pub fn begin_advance(s: &mut [u8; STATE_LEN], e: u32) -> Step
 // `on_interrupt` (mod.rs 634-852).
 pub fn begin_interrupt(s: &mut [u8; STATE_LEN]) -> Step
     ensures { λ r. ⌜ ((a b : List ℕ) → (answerOf r [] (view (now (s .exit))), machineOf (now (s .exit)) b) ≡ drive (begin interrupt) (machineOf (now (s .entry)) a) b) ⌝ }
-    ensures { λ r. ⌜ Kept r (now (s .entry)) (now (s .exit)) ⌝ }
+    ensures { λ r. ⌜ SavedUnchangedOnRefusal r (now (s .entry)) (now (s .exit)) ⌝ }
 {
     let n = stop(s, 2);
     if n == 0 {

@@ -15,7 +15,7 @@ ghost use Rattle.req_descriptor.specs.Writing.{stored};
 ghost use Rattle.state.specs.State.{view, saved};
 ghost use Rattle.model.specs.Machine.{begin};
 ghost use Rattle.model.specs.Calls.{other, AllocateAll};
-ghost use Rattle.machine.specs.Under.{decode, machineOf, drive, answerOf, Kept};
+ghost use Rattle.machine.specs.Suspended.{decode, machineOf, drive, answerOf, SavedUnchangedOnRefusal};
 ghost use Rattle.req_preview.specs.Preview.{refusedBy};
 ghost use Rattle.machine.specs.Rows.{isIdle, stopOf};
 ghost use Rattle.call_driver.specs.Listed.{allocatedAll, previewed};
@@ -24,7 +24,7 @@ ghost use Rattle.call_driver.specs.Listed.{allocatedAll, previewed};
 fn allocate_listed(s: &mut [u8; STATE_LEN], list: Endpoints) -> Step
     requires { ⌜ isIdle (decode (saved (now s))) ≡ true ⌝ }
     ensures { λ r. ⌜ ((b : List ℕ) → (answerOf r [] (view (now (s .exit))), machineOf (now (s .exit)) b) ≡ allocatedAll (stored list) (view (now (s .entry))) b) ⌝ }
-    ensures { λ r. ⌜ Kept r (now (s .entry)) (now (s .exit)) ⌝ }
+    ensures { λ r. ⌜ SavedUnchangedOnRefusal r (now (s .entry)) (now (s .exit)) ⌝ }
 {
     let t = req_preview::try_all(state::load_allocator(s), list);
     let row = t.refusal;
@@ -39,7 +39,7 @@ fn allocate_listed(s: &mut [u8; STATE_LEN], list: Endpoints) -> Step
 // A descriptor's endpoints allocated in its order, or none: rows 3, 4, 17, 18, then 6, 7 or 8 of the first that would be refused.
 pub fn allocate_all(s: &mut [u8; STATE_LEN], bytes: &[u8]) -> Step
     ensures { λ r. ⌜ ((a b : List ℕ) → (answerOf r [] (view (now (s .exit))), machineOf (now (s .exit)) b) ≡ drive (begin (other (AllocateAll (now (bytes .entry))))) (machineOf (now (s .entry)) a) b) ⌝ }
-    ensures { λ r. ⌜ Kept r (now (s .entry)) (now (s .exit)) ⌝ }
+    ensures { λ r. ⌜ SavedUnchangedOnRefusal r (now (s .entry)) (now (s .exit)) ⌝ }
 {
     let n = stop(s, 1);
     if n == 0 {

@@ -14,9 +14,9 @@ use Rattle.endpoint.specs.declared.Polled.{Polled}
 use Rattle.endpoint.specs.Points as endpoint
 use Rattle.iso_out_open_close.specs.declared.Packet.{Packet}
 use Rattle.iso_out_open_close.specs.Packets as packets
-use Rattle.machine.specs.declared.Under.{Under}
+use Rattle.machine.specs.declared.Suspended.{Suspended}
 use Rattle.machine.specs.declared.Step.{Step}
-use Rattle.machine.specs.Under.{decode, machineAt, machineOf, halts, answerOf}
+use Rattle.machine.specs.Suspended.{decode, machineAt, machineOf, halts, answerOf}
 use Rattle.machine.specs.Goes.{Called}
 use Rattle.machine.specs.Rows.{isIdle, mayPass, besides, besides-ends}
 
@@ -29,7 +29,7 @@ module _ (before after : List ℕ) (b : Buf) (o : Out St Answer) (r : Called) wh
   still-idle e i = ap (λ (x : Saved). isIdle (decode x)) e ∙ i
 
   -- a poll of a read or write
-  pub polled-idle : (step : Step) (n : Polled) (out : List ℕ) → ((u : Under) (d : Driver) (x s : List ℕ) → isIdle u ≡ true → (answerOf step x d, machineAt u d s) ≡ halts (endpoint.polledAs n x d s)) → saved after ≡ saved before → isIdle (decode (saved before)) ≡ true → endpoint.polledAs n out (view after) b ≡ o
+  pub polled-idle : (step : Step) (n : Polled) (out : List ℕ) → ((u : Suspended) (d : Driver) (x s : List ℕ) → isIdle u ≡ true → (answerOf step x d, machineAt u d s) ≡ halts (endpoint.polledAs n x d s)) → saved after ≡ saved before → isIdle (decode (saved before)) ≡ true → endpoint.polledAs n out (view after) b ≡ o
       → (answerOf step out (view after), machineOf after b) ≡ unless-busy (isIdle (decode (saved before)))
   polled-idle step n out h e i q =
       h (decode (saved after)) (view after) out b (still-idle e i)

@@ -12,7 +12,7 @@ ghost use Rattle.state.specs.State.{view, saved};
 ghost use Rattle.model.specs.Machine.{begin, ended};
 ghost use Rattle.model.specs.Calls.{aside, Open, Close, Queue};
 ghost use Rattle.iso_out_open_close.specs.Packets as packets;
-ghost use Rattle.machine.specs.Under.{machineOf, drive, answerOf, lentOr, AsLent};
+ghost use Rattle.machine.specs.Suspended.{machineOf, drive, answerOf, lentOr, BufferUnchangedOnRow1};
 ghost use Rattle.call_endpoint.specs.Shown.{ShownAt};
 
 fn told(p: Packet) -> Step
@@ -57,7 +57,7 @@ pub fn close(s: &mut [u8; STATE_LEN], e: u32) -> Step
 // `iso_in_prime` (342-395).
 pub fn queue(s: &mut [u8; STATE_LEN], slots: &mut [u8], e: u32, bytes: &[u8]) -> Step
     ensures { λ r. ⌜ ((a : List ℕ) → (answerOf r (now (slots .exit)) (view (now (s .exit))), machineOf (now (s .exit)) (lentOr (view (now (s .entry))) (now (slots .entry)) (now (slots .exit)) a)) ≡ drive (begin (aside (Queue e (now (bytes .entry))))) (machineOf (now (s .entry)) a) (now (slots .entry))) ⌝ }
-    ensures { λ _. ⌜ AsLent (view (now (s .entry))) (now (slots .entry)) (now (slots .exit)) ⌝ }
+    ensures { λ _. ⌜ BufferUnchangedOnRow1 (view (now (s .entry))) (now (slots .entry)) (now (slots .exit)) ⌝ }
     ensures { λ _. ⌜ saved (now (s .exit)) ≡ saved (now (s .entry)) ⌝ }
 {
     if slots_fit(s, slots) {

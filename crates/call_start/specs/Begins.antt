@@ -16,10 +16,10 @@ use Rattle.model.specs.Calls.{other, Allocate, Start}
 use Rattle.model.specs.Driver.{allocated-as, started-as}
 use Rattle.model.specs.Machine.{Buf, ended, begin}
 use Rattle.model_ops.specs.Records.{allocatedOn, allocatedEp0}
-use Rattle.model_ops.specs.Conc.{conc, go}
+use Rattle.model_ops.specs.Concrete.{concrete, go}
 use Rattle.driver.specs.Points.{newEndpoint, startEp0}
-use Rattle.machine.specs.declared.Under.{Under}
-use Rattle.machine.specs.Under.{machineAt, finish, drive, halts}
+use Rattle.machine.specs.declared.Suspended.{Suspended}
+use Rattle.machine.specs.Suspended.{machineAt, finish, drive, halts}
 use Rattle.machine.specs.Goes.{Called}
 use Rattle.machine.specs.Rows.{back, other-call, passed, Passes, answered-idle}
 
@@ -31,9 +31,9 @@ allocating dir kind address maximum interval = do
   act (allocate dir kind address maximum interval)
   allocated-as dir kind maximum (allocateOf x kind address maximum dir .answer)
 
-module _ (u : Under) (d : Driver) (a b : Buf) (dir : Dir) (kind address maximum interval : ℕ) where
+module _ (u : Suspended) (d : Driver) (a b : Buf) (dir : Dir) (kind address maximum interval : ℕ) where
   abbrev allocated-to : alloc-answer.Answer → Called
-  allocated-to z = halts (run {i = false} conc (allocated-as dir kind maximum z) (allocatedOn d dir kind address maximum interval, b))
+  allocated-to z = halts (run {i = false} concrete (allocated-as dir kind maximum z) (allocatedOn d dir kind address maximum interval, b))
 
   allocates : Passes 1 u d → drive (begin (other (Allocate dir kind address maximum interval))) (machineAt u d a) b ≡ allocated-to (allocateOf (d .allocator) kind address maximum dir .answer)
   allocates h = other-call (Allocate dir kind address maximum interval) 1 (allocating dir kind address maximum interval) u d a b refl ∙ passed 1 u d b (allocating dir kind address maximum interval) h
@@ -42,7 +42,7 @@ module _ (u : Under) (d : Driver) (a b : Buf) (dir : Dir) (kind address maximum 
       (e base slots : ℕ)
       → Passes 1 u d
       → allocateOf (d .allocator) kind address maximum dir .answer ≡ alloc.Given e base slots
-      → halts (bindOut (go (newEndpoint dir kind maximum e) (withWakes (allocatedOn d dir kind address maximum interval) none-woken) b) (λ k t. run conc (finish k) t))
+      → halts (bindOut (go (newEndpoint dir kind maximum e) (withWakes (allocatedOn d dir kind address maximum interval) none-woken) b) (λ k t. run concrete (finish k) t))
       ≡ drive (begin (other (Allocate dir kind address maximum interval))) (machineAt u d a) b
   allocate-begins e base slots h given = back (allocates h) (ap allocated-to (sym given))
 
@@ -62,9 +62,9 @@ starting maximum = do
   act (allocate0 maximum)
   started-as maximum (allocateEp0Of x maximum .answer)
 
-module _ (u : Under) (d : Driver) (a b : Buf) (maximum : ℕ) where
+module _ (u : Suspended) (d : Driver) (a b : Buf) (maximum : ℕ) where
   abbrev started-to : alloc-answer.Answer → Called
-  started-to z = halts (run {i = false} conc (started-as maximum z) (allocatedEp0 d maximum, b))
+  started-to z = halts (run {i = false} concrete (started-as maximum z) (allocatedEp0 d maximum, b))
 
   starts : Passes 1 u d → drive (begin (other (Start maximum))) (machineAt u d a) b ≡ started-to (allocateEp0Of (d .allocator) maximum .answer)
   starts h = other-call (Start maximum) 1 (starting maximum) u d a b refl ∙ passed 1 u d b (starting maximum) h
@@ -73,7 +73,7 @@ module _ (u : Under) (d : Driver) (a b : Buf) (maximum : ℕ) where
       (e base slots : ℕ)
       → Passes 1 u d
       → allocateEp0Of (d .allocator) maximum .answer ≡ alloc.Given e base slots
-      → halts (bindOut (go (startEp0 maximum) (withWakes (allocatedEp0 d maximum) none-woken) b) (λ k t. run conc (finish k) t))
+      → halts (bindOut (go (startEp0 maximum) (withWakes (allocatedEp0 d maximum) none-woken) b) (λ k t. run concrete (finish k) t))
       ≡ drive (begin (other (Start maximum))) (machineAt u d a) b
   start-begins e base slots h given = back (starts h) (ap started-to (sym given))
 

@@ -23,7 +23,7 @@ use Rattle.model.specs.Script.{ret}
 use Rattle.model.specs.Answers.{Refused, NotYet, Done}
 use Rattle.model.specs.Control.{SETUP, ACCEPT, DATA-OUT, DATA-IN, setupBytes, pollSetup, pollAccept, pollDataIn, pollDataOut, aborted-else, take-out, take-closing, take-in, requestOf, dataInOf, addressOf, no-control, beginAccept, beginAcceptSetAddress, beginReject, beginDataOut, beginDataIn}
 use Rattle.model_ops.specs.Rings.{St, filledEp0}
-use Rattle.model_ops.specs.Conc.{go}
+use Rattle.model_ops.specs.Concrete.{go}
 use Rattle.endpoint_common.specs.Records.{modifiedOn}
 use Rattle.endpoint_common.specs.Front.{front-over}
 use Rattle.endpoint_common.specs.Answers.{lentAfter}

@@ -32,7 +32,7 @@ ghost use mathlib.Core.List.{List};
 ghost use Prim.Native.Nat.{ℕ};
 ghost use Rattle.state.specs.State.{view, saved};
 ghost use Rattle.model.specs.Control.{beginSetup, beginDataOut, beginDataIn, beginAccept, beginAcceptSetAddress, beginReject};
-ghost use Rattle.model_ops.specs.Conc.{go};
+ghost use Rattle.model_ops.specs.Concrete.{go};
 ghost use Rattle.control.specs.Points.{begunAs, LinkedBegun};
 
 // `setup`, control.rs 70-80.

@@ -38,7 +38,7 @@ ghost use mathlib.Core.List.{List};
 ghost use Prim.Native.Nat.{ℕ};
 ghost use Rattle.state.specs.Driver.{Driver};
 ghost use Rattle.state.specs.State.{view, saved};
-ghost use Rattle.model_ops.specs.Conc.{go};
+ghost use Rattle.model_ops.specs.Concrete.{go};
 ghost use Rattle.control.specs.Points.{denote, meaning, Linked, fitsAt};
 ghost use Rattle.regs.specs.Registers.{fitsIn, widthOf};
 

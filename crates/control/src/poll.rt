@@ -35,7 +35,7 @@ ghost use Rattle.model.specs.Answers.{Refused, Done};
 ghost use Rattle.model.specs.Control.{pollSetup, pollDataOut, pollDataIn, pollAccept, aborted-else, take-out, take-closing, take-in};
 ghost use Rattle.model.specs.Script.{ret};
 ghost use Rattle.model.specs.Answers.{NotYet};
-ghost use Rattle.model_ops.specs.Conc.{go};
+ghost use Rattle.model_ops.specs.Concrete.{go};
 ghost use Rattle.endpoint_common.specs.Answers.{lentAfter};
 ghost use Rattle.control.specs.Points.{polledAs, LinkedPolled};
 

@@ -21,7 +21,7 @@ use Rattle.model.specs.AllocateAll.{announceAfter}
 use Rattle.model.specs.IsoIn as isoIn
 use Rattle.model.specs.Machine.{Awaits, nothing, reading, awaited}
 use Rattle.model_ops.specs.Rings.{St}
-use Rattle.model_ops.specs.Conc.{conc}
+use Rattle.model_ops.specs.Concrete.{concrete}
 use Rattle.driver.specs.declared.Point.{Point}
 use Rattle.driver.specs.declared.Point.the-variants as point
 use Rattle.driver.specs.declared.Next.{Next}
@@ -113,7 +113,7 @@ denote (point.ListMaxLen d kind ep left total) v = do
 denote (point.ListPlace d ep left total) v = announceAfter left total d ep
 
 abbrev pub meaning : Next → Driver → List ℕ → tree.Out St ℕ
-meaning (next.Asks q p) d b = asks q (d, b) (λ v t. run conc (denote p v) t)
+meaning (next.Asks q p) d b = asks q (d, b) (λ v t. run concrete (denote p v) t)
 meaning (next.Ends n) d b = ends n (d, b)
 
 -- what a point awaits, and that it is the access handed out with it

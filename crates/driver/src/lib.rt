@@ -14,7 +14,7 @@ ghost use Prim.Native.Nat.{ℕ, _<_};
 ghost use Rattle.state.specs.Driver.{Driver};
 ghost use Rattle.state.specs.State.{view, saved};
 ghost use Rattle.model.specs.Tree.{ends};
-ghost use Rattle.model_ops.specs.Conc.{go};
+ghost use Rattle.model_ops.specs.Concrete.{go};
 ghost use Rattle.driver.specs.Points.{startUp, newEndpoint, startEp0, microframe, setPaced, meaning, Linked};
 
 // The access that was handed out last, and what the rest needs.

@@ -17,7 +17,7 @@ use Rattle.model.specs.Script.{Script, _>>=_, _>>_, run}
 use Rattle.model.specs.Answers.{isAllocated}
 use Rattle.model.specs.AllocateAll.{announce, beginsAt, announceAfter}
 use Rattle.model_ops.specs.Rings.{St}
-use Rattle.model_ops.specs.Conc.{conc, go}
+use Rattle.model_ops.specs.Concrete.{concrete, go}
 
 -- the byte where an endpoint's buffers end
 unfoldable pub endOn : Driver → Dir → ℕ → ℕ
@@ -84,8 +84,8 @@ pub after-more : (left total : ℕ) (d : Driver) (b : List ℕ) (dir : Dir) (e :
 unfolding announceAfter endOn
 after-more left total d b dir e =
     let x = epOn d dir e .base + slotsOf (isIso (epOn d dir e .kind)) dir * d .allocator .size in
-    ap (λ (z : tree.Out St ℕ). bindOut z (λ o t. cond (eqb o 0) (bindOut (run conc (beginsAt {i = false} In x 15 1) t) (λ n u. run conc (announcing left total In n) u)) (run conc (announcing left total Out o) t))) (begins-at d b Out x 15 1)
-    ∙ ap (λ (z : tree.Out St ℕ). cond (eqb (foundAt d Out x 15 1) 0) (bindOut z (λ n u. run conc (announcing left total In n) u)) (On left total d b Out (foundAt d Out x 15 1))) (begins-at d b In x 15 1)
+    ap (λ (z : tree.Out St ℕ). bindOut z (λ o t. cond (eqb o 0) (bindOut (run concrete (beginsAt {i = false} In x 15 1) t) (λ n u. run concrete (announcing left total In n) u)) (run concrete (announcing left total Out o) t))) (begins-at d b Out x 15 1)
+    ∙ ap (λ (z : tree.Out St ℕ). cond (eqb (foundAt d Out x 15 1) 0) (bindOut z (λ n u. run concrete (announcing left total In n) u)) (On left total d b Out (foundAt d Out x 15 1))) (begins-at d b In x 15 1)
 
 -- ---- by what the code found
 

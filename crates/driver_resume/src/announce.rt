@@ -15,7 +15,7 @@ ghost use mathlib.Core.Path.{_≡_};
 ghost use mathlib.Core.List.{List};
 ghost use Prim.Native.Nat.{ℕ, _*_};
 ghost use Rattle.state.specs.State.{view, saved};
-ghost use Rattle.model_ops.specs.Conc.{go};
+ghost use Rattle.model_ops.specs.Concrete.{go};
 ghost use Rattle.driver.specs.Points.{denote, meaning, Linked};
 ghost use Rattle.driver_resume.specs.Announce.{endOn, startsAt, foundAt, following, announcing};
 

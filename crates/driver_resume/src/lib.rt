@@ -22,7 +22,7 @@ ghost use Rattle.regs.specs.Registers.{fitsIn};
 ghost use Rattle.regs.specs.ControlWord.{wordOf};
 ghost use Rattle.state.specs.Driver.{Driver};
 ghost use Rattle.state.specs.State.{view, saved};
-ghost use Rattle.model_ops.specs.Conc.{go};
+ghost use Rattle.model_ops.specs.Concrete.{go};
 ghost use Rattle.driver.specs.Points.{numbered, afterRun, afterMaxLen, denote, meaning, Linked, fitsAt};
 
 // A reading of 16 bits.

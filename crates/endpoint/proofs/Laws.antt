@@ -21,14 +21,14 @@ use Rattle.state.specs.Driver.{Driver, epOn, requestOn, withRequestOn, withWake
 use Rattle.state.specs.Wakes.{none-woken}
 use Rattle.model.specs.Tree as tree
 use Rattle.model.specs.Tree.{ends}
-use Rattle.model.specs.Cells.{Plain}
+use Rattle.model.specs.Cells.{EpCore}
 use Rattle.model.specs.Script.{ret}
 use Rattle.model.specs.Statics.{isOn, withReady, withArmed}
 use Rattle.model.specs.Answers.{Answer, Refused, NotYet, Done, isAllocated}
 use Rattle.model.specs.Endpoint.{begun, no-request, enabled-else, ends-request, tooLong, beginRead, pollRead, take-iso, take-ready, beginWrite, pollWrite, put-iso, sent-ready}
 use Rattle.model_ops.specs.Records.{plainOf}
 use Rattle.model_ops.specs.Rings.{St, waitingOn, roomOn, oldestAt, nextLen, oldestOn, takeOn, enqueueOn, filledOn}
-use Rattle.model_ops.specs.Conc.{go}
+use Rattle.model_ops.specs.Concrete.{go}
 use Rattle.endpoint_common.specs.Records.{modifiedOn}
 use Rattle.endpoint_common.specs.Front.{front-over}
 use Rattle.endpoint_common.specs.Answers.{front, lentAfter}
@@ -154,7 +154,7 @@ module _ (d : Driver) (b out : List ℕ) (e n : ℕ) where
 
 -- ---- the poll of any other OUT
 
-pub not-long : (n : ℕ) (p : Plain) → tooLong n p ≡ false → p .len ≤ n
+pub not-long : (n : ℕ) (p : EpCore) → tooLong n p ≡ false → p .len ≤ n
 unfolding tooLong
 not-long n p h = ltb-false n (p .len) (first (ltb n (p .len)) (ltb (p .«max_len») (p .len)) h) where
   first : (x y : Bool) → (x || y) ≡ false → x ≡ false

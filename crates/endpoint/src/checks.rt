@@ -15,7 +15,7 @@ ghost use Rattle.state.specs.State.{view, saved};
 ghost use Rattle.model.specs.Answers.{Refused, NotYet};
 ghost use Rattle.model.specs.Script.{ret};
 ghost use Rattle.model.specs.Endpoint.{begun, no-request, enabled-else, ends-request};
-ghost use Rattle.model_ops.specs.Conc.{go};
+ghost use Rattle.model_ops.specs.Concrete.{go};
 ghost use Rattle.endpoint.specs.Points.{polledAs};
 
 // `is_enabled`, endpoint.rs 55-60 (row 9 turned round).

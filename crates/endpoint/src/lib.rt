@@ -24,7 +24,7 @@ ghost use mathlib.Core.Bool.{true};
 ghost use mathlib.Core.List.{List};
 ghost use Prim.Native.Nat.{ℕ};
 ghost use Rattle.state.specs.Driver.{Driver};
-ghost use Rattle.model_ops.specs.Conc.{go};
+ghost use Rattle.model_ops.specs.Concrete.{go};
 ghost use Rattle.endpoint.specs.Points.{denote, meaning, Linked, fitsAt};
 
 // Where an operation stops.

@@ -34,7 +34,7 @@ ghost use Rattle.regs.specs.declared.Dir.the-variants.{Out};
 ghost use Rattle.state.specs.State.{view, saved};
 ghost use Rattle.model.specs.Endpoint.{beginRead, pollRead, tooLong, take-iso, take-ready};
 ghost use Rattle.model_ops.specs.Records.{plainOf};
-ghost use Rattle.model_ops.specs.Conc.{go};
+ghost use Rattle.model_ops.specs.Concrete.{go};
 ghost use Rattle.endpoint_common.specs.Answers.{lentAfter};
 ghost use Rattle.endpoint_rows.specs.Rows.{refusalOf};
 ghost use Rattle.endpoint.specs.Points.{begunAs, polledAs, LinkedBegun};

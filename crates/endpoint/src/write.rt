@@ -33,7 +33,7 @@ ghost use Rattle.state.specs.State.{view, saved};
 ghost use Rattle.model.specs.Statics.{withReady, withArmed};
 ghost use Rattle.model.specs.Endpoint.{beginWrite, pollWrite, put-iso, sent-ready};
 ghost use Rattle.model_ops.specs.Records.{plainOf};
-ghost use Rattle.model_ops.specs.Conc.{go};
+ghost use Rattle.model_ops.specs.Concrete.{go};
 ghost use Rattle.endpoint_common.specs.Records.{modifiedOn};
 ghost use Rattle.endpoint_rows.specs.Rows.{refusalOf};
 ghost use Rattle.endpoint.specs.Points.{begunAs, polledAs, LinkedBegun};

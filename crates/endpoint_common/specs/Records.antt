@@ -4,10 +4,10 @@ use mathlib.Core.Bool.{Bool}
 use Prim.Native.Nat.{ℕ}
 use Rattle.regs.specs.declared.Dir.{Dir}
 use Rattle.state.specs.Driver.{Driver, epOn, withOn}
-use Rattle.model.specs.Cells.{Plain}
+use Rattle.model.specs.Cells.{EpCore}
 use Rattle.model_ops.specs.Records.{plainOf, merged}
 
-abbrev pub modifiedOn : Dir → ℕ → (Plain → Plain) → Driver → Driver
+abbrev pub modifiedOn : Dir → ℕ → (EpCore → EpCore) → Driver → Driver
 modifiedOn dir e f d = withOn d dir e (merged (epOn d dir e) (f (plainOf (epOn d dir e))))
 
 -- a test of what was loaded is a test of the driver

@@ -58,9 +58,9 @@ use Rattle.iso_in.specs.Complete as complete
 use Rattle.iso_out.specs.Points as check
 use Rattle.model_ops.specs.Records.{plainOf, merged, mergedGlobals}
 use Rattle.model_ops.specs.Rings.{St, wordAt}
-use Rattle.model_ops.specs.Conc.{conc}
+use Rattle.model_ops.specs.Concrete.{concrete}
 use Rattle.irq.specs.declared.Point.{Point}
-use Rattle.irq.specs.Tails.{resultless, afterSetupReleased, afterSetupTx, finish, afterTransfer, afterCheck, afterDispatch, flipDone, passed, afterLate, afterSof, sofDue, serving, afterFrameNo, afterSettle, afterRelease, afterNak, naksFirst, enteredAs, afterLen, afterSt, afterMis, afterHost, afterFifo, afterSuspend, afterBusRst, afterFlags, afterFrame}
+use Rattle.irq.specs.Continuations.{resultless, afterSetupReleased, afterSetupTx, finish, afterTransfer, afterCheck, afterDispatch, flipDone, passed, afterLate, afterSof, sofDue, serving, afterFrameNo, afterSettle, afterRelease, afterNak, naksFirst, enteredAs, afterLen, afterSt, afterMis, afterHost, afterFifo, afterSuspend, afterBusRst, afterFlags, afterFrame}
 use Rattle.irq.specs.Points.{denote, fitsAt}
 
 -- ---- tests
@@ -77,11 +77,11 @@ pub tells-of : {A : Type 0} (F : A → Bool) (g g' : A) (r a : Bool) → r ≡ F
 tells-of F g g' r a h k l = ap F (sym k) ∙ (sym h ∙ l)
 
 module _ (setup : Bool) (p : Script true Unit) (f : Unit {0} → tree.Prog St Unit) (t : St) where
-  pub when-yes : (c : Bool) → c ≡ true → finish setup (bindOut (run conc p t) f) ≡ finish setup (bindOut (run conc (when c p) t) f)
-  when-yes c h = ap (λ (x : Bool). finish setup (bindOut (run conc (when x p) t) f)) (sym h)
+  pub when-yes : (c : Bool) → c ≡ true → finish setup (bindOut (run concrete p t) f) ≡ finish setup (bindOut (run concrete (when c p) t) f)
+  when-yes c h = ap (λ (x : Bool). finish setup (bindOut (run concrete (when x p) t) f)) (sym h)
 
-  pub when-no : (c : Bool) → c ≡ false → finish setup (f tt t) ≡ finish setup (bindOut (run conc (when c p) t) f)
-  when-no c h = ap (λ (x : Bool). finish setup (bindOut (run conc (when x p) t) f)) (sym h)
+  pub when-no : (c : Bool) → c ≡ false → finish setup (f tt t) ≡ finish setup (bindOut (run concrete (when c p) t) f)
+  when-no c h = ap (λ (x : Bool). finish setup (bindOut (run concrete (when x p) t) f)) (sym h)
 
 -- the same of an arm's tests
 module _ (F : tree.Out St Unit → tree.Out St ℕ) (c : Bool) (y z : tree.Out St Unit) where
@@ -159,22 +159,22 @@ module _ (setup : Bool) (f : Unit {0} → tree.Prog St Unit) (g : Bool → tree.
   pub toggled-on : (p : toggled-point.Toggled) (v : ℕ) (t : St) → toggled.meaning dir e n d b ≡ toggled.denote dir e p v t → onward setup f (bindOut (toggled.meaning dir x n d b) g) ≡ onward setup f (bindOut (toggled.denote dir x p v t) g)
   toggled-on p v t k = subst (λ (z : ℕ). onward setup f (bindOut (toggled.meaning dir z n d b) g) ≡ onward setup f (bindOut (toggled.denote dir z p v t) g)) h (ap (λ (o : tree.Out St Bool). onward setup f (bindOut o g)) k)
 
-  pub toggled-from : toggled.meaning dir e n d b ≡ run conc (script.toggled {i = true} dir e) (d, b) → onward setup f (bindOut (toggled.meaning dir x n d b) g) ≡ onward setup f (bindOut (run conc (script.toggled {i = true} dir x) (d, b)) g)
-  toggled-from k = subst (λ (z : ℕ). onward setup f (bindOut (toggled.meaning dir z n d b) g) ≡ onward setup f (bindOut (run conc (script.toggled {i = true} dir z) (d, b)) g)) h (ap (λ (o : tree.Out St Bool). onward setup f (bindOut o g)) k)
+  pub toggled-from : toggled.meaning dir e n d b ≡ run concrete (script.toggled {i = true} dir e) (d, b) → onward setup f (bindOut (toggled.meaning dir x n d b) g) ≡ onward setup f (bindOut (run concrete (script.toggled {i = true} dir x) (d, b)) g)
+  toggled-from k = subst (λ (z : ℕ). onward setup f (bindOut (toggled.meaning dir z n d b) g) ≡ onward setup f (bindOut (run concrete (script.toggled {i = true} dir z) (d, b)) g)) h (ap (λ (o : tree.Out St Bool). onward setup f (bindOut o g)) k)
 
-pub passed-at : (F : tree.Out St Unit → tree.Out St ℕ) (dir : Dir) (e x len : ℕ) (t : St) → e ≡ x → F (run conc (passed dir e len) t) ≡ F (run conc (passed dir x len) t)
-passed-at F dir e x len t h = ap (λ (z : ℕ). F (run conc (passed dir z len) t)) h
+pub passed-at : (F : tree.Out St Unit → tree.Out St ℕ) (dir : Dir) (e x len : ℕ) (t : St) → e ≡ x → F (run concrete (passed dir e len) t) ≡ F (run concrete (passed dir x len) t)
+passed-at F dir e x len t h = ap (λ (z : ℕ). F (run concrete (passed dir z len) t)) h
 
 -- ---- what a match told
 
-pub passed-known : (o : tree.Out St Unit) (dir known : Dir) (ep len : ℕ) (t : St) → dir ≡ known → o ≡ run conc (passed known ep len) t → o ≡ run conc (passed dir ep len) t
-passed-known o dir known ep len t h k = k ∙ ap (λ (z : Dir). run conc (passed z ep len) t) (sym h)
+pub passed-known : (o : tree.Out St Unit) (dir known : Dir) (ep len : ℕ) (t : St) → dir ≡ known → o ≡ run concrete (passed known ep len) t → o ≡ run concrete (passed dir ep len) t
+passed-known o dir known ep len t h k = k ∙ ap (λ (z : Dir). run concrete (passed z ep len) t) (sym h)
 
-pub flipped-known : (o : tree.Out St Unit) (dir known : Dir) (len : ℕ) (t : St) → dir ≡ known → o ≡ run conc (flipDone known len) t → o ≡ run conc (flipDone dir len) t
-flipped-known o dir known len t h k = k ∙ ap (λ (z : Dir). run conc (flipDone z len) t) (sym h)
+pub flipped-known : (o : tree.Out St Unit) (dir known : Dir) (len : ℕ) (t : St) → dir ≡ known → o ≡ run concrete (flipDone known len) t → o ≡ run concrete (flipDone dir len) t
+flipped-known o dir known len t h k = k ∙ ap (λ (z : Dir). run concrete (flipDone z len) t) (sym h)
 
-pub dispatched : (F : tree.Out St Unit → tree.Out St ℕ) (x : Transfer) (iso : Bool) (frame : ℕ) (t : St) (k known shown : Token) → k ≡ known → k ≡ shown → F (run conc (script.dispatch {i = true} known x iso frame) t) ≡ F (run conc (script.dispatch {i = true} shown x iso frame) t)
-dispatched F x iso frame t k known shown h l = ap (λ (z : Token). F (run conc (script.dispatch {i = true} z x iso frame) t)) (sym h ∙ l)
+pub dispatched : (F : tree.Out St Unit → tree.Out St ℕ) (x : Transfer) (iso : Bool) (frame : ℕ) (t : St) (k known shown : Token) → k ≡ known → k ≡ shown → F (run concrete (script.dispatch {i = true} known x iso frame) t) ≡ F (run concrete (script.dispatch {i = true} shown x iso frame) t)
+dispatched F x iso frame t k known shown h l = ap (λ (z : Token). F (run concrete (script.dispatch {i = true} z x iso frame) t)) (sym h ∙ l)
 
 pub stands : (o : tree.Out St ℕ) (p known : Point) (v : ℕ) (t : St) → p ≡ known → o ≡ denote known v t → o ≡ denote p v t
 stands o p known v t h k = k ∙ ap (λ (z : Point). denote z v t) (sym h)
@@ -208,15 +208,15 @@ transfer-is : onTransfer {i = true} ≡ (read MisSt 0 >>= (λ m. afterMis m))
 unfolding afterMis afterSt afterLen naksFirst afterNak afterRelease afterSettle afterFrameNo serving sofDue afterSof afterLate afterDispatch afterCheck
 transfer-is = refl
 
-pub transfer-begun : (t : St) → run conc (onTransfer {i = true}) t ≡ asks (Read MisSt 0) t (λ v u. run conc (afterMis v) u)
-transfer-begun t = ap (λ (p : Script true Unit). run conc p t) transfer-is
+pub transfer-begun : (t : St) → run concrete (onTransfer {i = true}) t ≡ asks (Read MisSt 0) t (λ v u. run concrete (afterMis v) u)
+transfer-begun t = ap (λ (p : Script true Unit). run concrete p t) transfer-is
 
 flags-is : onInterrupt {i = true} ≡ (read IntFg 0 >>= (λ f. afterFlags f))
 unfolding afterFlags afterBusRst afterSuspend afterFifo afterHost afterTransfer
 flags-is = refl
 
-flags-begun : (t : St) → asks (Read IntFg 0) t (λ v u. run conc (resultless (afterFlags v)) u) ≡ run conc (resultless onInterrupt) t
-flags-begun t = ap (λ (p : Script true Unit). run conc (resultless p) t) (sym flags-is)
+flags-begun : (t : St) → asks (Read IntFg 0) t (λ v u. run concrete (resultless (afterFlags v)) u) ≡ run concrete (resultless onInterrupt) t
+flags-begun t = ap (λ (p : Script true Unit). run concrete (resultless p) t) (sym flags-is)
 
 -- the microframe is kept
 abbrev entering : ℕ → Globals → Driver → Driver
@@ -227,7 +227,7 @@ pub microframe-kept : (v n i : ℕ) (g : Globals) (d x : Driver) (b : List ℕ)
     → i ≡ indexOf n
     → g ≡ d .globals
     → x ≡ entering i g d
-    → asks (Read IntFg 0) (x, b) (λ f u. run conc (resultless (afterFlags f)) u) ≡ run conc (resultless (afterFrame v)) (d, b)
+    → asks (Read IntFg 0) (x, b) (λ f u. run concrete (resultless (afterFlags f)) u) ≡ run concrete (resultless (afterFrame v)) (d, b)
 unfolding afterFrame
 microframe-kept v n i g d x b hn hi hg hx =
     flags-begun (x, b)
@@ -237,41 +237,41 @@ microframe-kept v n i g d x b hn hi hg hx =
     ∙ ap (λ (z : ℕ). from (entering (indexOf z) (d .globals) d)) hn)))
   where
     from : Driver → tree.Out St ℕ
-    from z = run conc (resultless onInterrupt) (z, b)
+    from z = run concrete (resultless onInterrupt) (z, b)
 
-pub interrupt-begun : (t : St) → asks (Read FrameNo 0) t (λ v u. run conc (resultless (afterFrame v)) u) ≡ run conc (resultless stampedInterrupt) t
+pub interrupt-begun : (t : St) → asks (Read FrameNo 0) t (λ v u. run concrete (resultless (afterFrame v)) u) ≡ run concrete (resultless stampedInterrupt) t
 unfolding afterFrame
 interrupt-begun t = refl
 
 -- the transfer flag; whether the setup's is set is known from here on
 module _ (f : ℕ) (setup : Bool) (d : Driver) (b : List ℕ) (h : setup ≡ setupAct f) where
-  pub host-transfer : transfer f ≡ true → asks (Read MisSt 0) (d, b) (λ v t. finish setup (run conc (afterMis v) t)) ≡ run conc (resultless (afterHost f)) (d, b)
+  pub host-transfer : transfer f ≡ true → asks (Read MisSt 0) (d, b) (λ v t. finish setup (run concrete (afterMis v) t)) ≡ run concrete (resultless (afterHost f)) (d, b)
   unfolding afterHost
   host-transfer k =
-      ap (λ (z : Bool). asks (Read MisSt 0) (d, b) (λ v t. finish z (run conc (afterMis v) t))) h
+      ap (λ (z : Bool). asks (Read MisSt 0) (d, b) (λ v t. finish z (run concrete (afterMis v) t))) h
       ∙ (ap (finish (setupAct f)) (sym (transfer-begun (d, b)))
-      ∙ ap (λ (z : Bool). finish (setupAct f) (run conc (when {i = true} z onTransfer) (d, b))) (sym k))
+      ∙ ap (λ (z : Bool). finish (setupAct f) (run concrete (when {i = true} z onTransfer) (d, b))) (sym k))
 
-  pub host-other : transfer f ≡ false → run conc (resultless (afterTransfer setup)) (d, b) ≡ run conc (resultless (afterHost f)) (d, b)
+  pub host-other : transfer f ≡ false → run concrete (resultless (afterTransfer setup)) (d, b) ≡ run concrete (resultless (afterHost f)) (d, b)
   unfolding afterHost
   host-other k =
-      ap (λ (z : Bool). run conc (resultless (afterTransfer z)) (d, b)) h
-      ∙ ap (λ (z : Bool). finish (setupAct f) (run conc (when {i = true} z onTransfer) (d, b))) (sym k)
+      ap (λ (z : Bool). run concrete (resultless (afterTransfer z)) (d, b)) h
+      ∙ ap (λ (z : Bool). finish (setupAct f) (run concrete (when {i = true} z onTransfer) (d, b))) (sym k)
 
 -- the transfer is entered
 module _ (setup busy : Bool) (st v : ℕ) (y : Transfer) (d : Driver) (b : List ℕ) (h : y ≡ enteredAs busy st v) where
-  pub entered-nak : (n : nak-next.NakNext) → nak.meaning st n d b ≡ run conc (nakNonIso {i = true} st) (d, b) → naksFirst busy st ≡ true → onward setup (λ _ u. run conc (afterNak y) u) (nak.meaning (y .st) n d b) ≡ finish setup (run conc (afterLen busy st v) (d, b))
+  pub entered-nak : (n : nak-next.NakNext) → nak.meaning st n d b ≡ run concrete (nakNonIso {i = true} st) (d, b) → naksFirst busy st ≡ true → onward setup (λ _ u. run concrete (afterNak y) u) (nak.meaning (y .st) n d b) ≡ finish setup (run concrete (afterLen busy st v) (d, b))
   unfolding afterLen
   entered-nak n k l =
-      ap (λ (z : Transfer). onward setup (λ _ u. run conc (afterNak z) u) (nak.meaning (z .st) n d b)) h
-      ∙ (ap (onward setup (λ _ u. run conc (afterNak (enteredAs busy st v)) u)) k
-      ∙ when-yes setup (nakNonIso st) (λ _ u. run conc (afterNak (enteredAs busy st v)) u) (d, b) (naksFirst busy st) l)
+      ap (λ (z : Transfer). onward setup (λ _ u. run concrete (afterNak z) u) (nak.meaning (z .st) n d b)) h
+      ∙ (ap (onward setup (λ _ u. run concrete (afterNak (enteredAs busy st v)) u)) k
+      ∙ when-yes setup (nakNonIso st) (λ _ u. run concrete (afterNak (enteredAs busy st v)) u) (d, b) (naksFirst busy st) l)
 
-  pub entered-free : naksFirst busy st ≡ false → finish setup (run conc (afterNak y) (d, b)) ≡ finish setup (run conc (afterLen busy st v) (d, b))
+  pub entered-free : naksFirst busy st ≡ false → finish setup (run concrete (afterNak y) (d, b)) ≡ finish setup (run concrete (afterLen busy st v) (d, b))
   unfolding afterLen
   entered-free l =
-      ap (λ (z : Transfer). finish setup (run conc (afterNak z) (d, b))) h
-      ∙ when-no setup (nakNonIso st) (λ _ u. run conc (afterNak (enteredAs busy st v)) u) (d, b) (naksFirst busy st) l
+      ap (λ (z : Transfer). finish setup (run concrete (afterNak z) (d, b))) h
+      ∙ when-no setup (nakNonIso st) (λ _ u. run concrete (afterNak (enteredAs busy st v)) u) (d, b) (naksFirst busy st) l
 
 -- the arm of an isochronous IN
 endpoint-small : (st : ℕ) → endpoint st % 16 ≡ endpoint st
@@ -287,26 +287,26 @@ paced-told g g' e st r a h k l m =
 
 module _ (F : tree.Out St Unit → tree.Out St ℕ) (d y : Driver) (b : List ℕ) (frame : ℕ) where
   abbrev counted : ℕ → Bool → Driver → tree.Out St ℕ
-  counted e first z = F (cond first (run conc (isoInComplete {i = true} e) (z, b)) (ends tt (z, b)))
+  counted e first z = F (cond first (run concrete (isoInComplete {i = true} e) (z, b)) (ends tt (z, b)))
 
-  reached : (e : ℕ) (first : Bool) → y ≡ framedOn d e frame → isFirst d e frame ≡ first → isSet (d .globals .«iso_in_paced») e ≡ false → counted e first y ≡ F (run conc (isoInArm {i = true} e frame) (d, b))
+  reached : (e : ℕ) (first : Bool) → y ≡ framedOn d e frame → isFirst d e frame ≡ first → isSet (d .globals .«iso_in_paced») e ≡ false → counted e first y ≡ F (run concrete (isoInArm {i = true} e frame) (d, b))
   unfolding framedOn isFirst
   reached e first h k l =
       ap (counted e first) h
       ∙ (ap (λ (z : Bool). counted e z (framedOn d e frame)) (sym k)
-      ∙ ap (λ (z : Bool). F (cond z (ends tt (d, b)) (run conc (firstInFrame {i = true} e frame >>= (λ x. when x (isoInComplete e))) (d, b)))) (sym l))
+      ∙ ap (λ (z : Bool). F (cond z (ends tt (d, b)) (run concrete (firstInFrame {i = true} e frame >>= (λ x. when x (isoInComplete e))) (d, b)))) (sym l))
 
-  pub in-frame : (e st : ℕ) (first : Bool) → e ≡ endpoint st → y ≡ framedOn d e frame → isFirst d e frame ≡ first → isSet (d .globals .«iso_in_paced») (endpoint st) ≡ false → counted e first y ≡ F (run conc (isoInArm {i = true} (endpoint st) frame) (d, b))
+  pub in-frame : (e st : ℕ) (first : Bool) → e ≡ endpoint st → y ≡ framedOn d e frame → isFirst d e frame ≡ first → isSet (d .globals .«iso_in_paced») (endpoint st) ≡ false → counted e first y ≡ F (run concrete (isoInArm {i = true} (endpoint st) frame) (d, b))
   in-frame e st first h k l m =
       reached e first k l (ap (isSet (d .globals .«iso_in_paced»)) h ∙ m)
-      ∙ ap (λ (z : ℕ). F (run conc (isoInArm {i = true} z frame) (d, b))) h
+      ∙ ap (λ (z : ℕ). F (run concrete (isoInArm {i = true} z frame) (d, b))) h
 
 -- EP0's IN, its toggle flipped
-pub flip-in : (d y : Driver) (b : List ℕ) (r : EpState) (len : ℕ) (dir : Dir) → r ≡ epOn d In 0 → y ≡ withOn d In 0 (merged r (withArmed 0 (plainOf r))) → dir ≡ In → run conc (script.sent {i = true} 0) (y, b) ≡ run conc (flipDone dir len) (d, b)
+pub flip-in : (d y : Driver) (b : List ℕ) (r : EpState) (len : ℕ) (dir : Dir) → r ≡ epOn d In 0 → y ≡ withOn d In 0 (merged r (withArmed 0 (plainOf r))) → dir ≡ In → run concrete (script.sent {i = true} 0) (y, b) ≡ run concrete (flipDone dir len) (d, b)
 flip-in d y b r len dir h k l =
-    ap (λ (z : Driver). run conc (script.sent {i = true} 0) (z, b)) k
-    ∙ (ap (λ (z : EpState). run conc (script.sent {i = true} 0) (withOn d In 0 (merged z (withArmed 0 (plainOf z))), b)) h
-    ∙ ap (λ (z : Dir). run conc (flipDone z len) (d, b)) (sym l))
+    ap (λ (z : Driver). run concrete (script.sent {i = true} 0) (z, b)) k
+    ∙ (ap (λ (z : EpState). run concrete (script.sent {i = true} 0) (withOn d In 0 (merged z (withArmed 0 (plainOf z))), b)) h
+    ∙ ap (λ (z : Dir). run concrete (flipDone z len) (d, b)) (sym l))
 
 -- the setup packet is taken
 abbrev cleared : Dir → Driver → Driver
@@ -321,7 +321,7 @@ pub setup-taken : (d x y z : Driver) (b : List ℕ) (low high : ℕ)
     → x ≡ cleared Out d
     → y ≡ cleared In x
     → z ≡ kept low high y
-    → asks (Write IntFg 0 SETUP_ACT) (z, b) (λ _ t. run conc (resultless afterSetupReleased) t) ≡ run conc (resultless afterSetupTx) (d, b)
+    → asks (Write IntFg 0 SETUP_ACT) (z, b) (λ _ t. run concrete (resultless afterSetupReleased) t) ≡ run concrete (resultless afterSetupTx) (d, b)
 unfolding afterSetupTx
 setup-taken d x y z b low high h k l m n =
     ap at n
@@ -331,19 +331,19 @@ setup-taken d x y z b low high h k l m n =
     ∙ ap (λ (q : ℕ). at (kept (wordAt b (d .globals .«ep0_buf» + 0 * 4)) q (cleared In (cleared Out d)))) k)))
   where
     at : Driver → tree.Out St ℕ
-    at q = asks (Write IntFg 0 SETUP_ACT) (q, b) (λ _ t. run conc (resultless afterSetupReleased) t)
+    at q = asks (Write IntFg 0 SETUP_ACT) (q, b) (λ _ t. run concrete (resultless afterSetupReleased) t)
 
 -- the frame that was read
 pub frame-read : (setup : Bool) (x y : Transfer) (iso : Bool) (g : Globals) (d : Driver) (b : List ℕ) (frame v : ℕ)
     → y ≡ framed x iso (g .«sof_frame») frame
     → g ≡ d .globals
     → frame ≡ v
-    → finish setup (run conc (serving y iso frame) (d, b)) ≡ finish setup (run conc (afterFrameNo x iso v) (d, b))
+    → finish setup (run concrete (serving y iso frame) (d, b)) ≡ finish setup (run concrete (afterFrameNo x iso v) (d, b))
 unfolding afterFrameNo
 frame-read setup x y iso g d b frame v h k l =
-    ap (λ (z : Transfer). finish setup (run conc (serving z iso frame) (d, b))) h
-    ∙ (ap (λ (z : Globals). finish setup (run conc (serving (framed x iso (z .«sof_frame») frame) iso frame) (d, b))) k
-    ∙ ap (λ (z : ℕ). finish setup (run conc (serving (framed x iso (d .globals .«sof_frame») z) iso z) (d, b))) l)
+    ap (λ (z : Transfer). finish setup (run concrete (serving z iso frame) (d, b))) h
+    ∙ (ap (λ (z : Globals). finish setup (run concrete (serving (framed x iso (z .«sof_frame») frame) iso frame) (d, b))) k
+    ∙ ap (λ (z : ℕ). finish setup (run concrete (serving (framed x iso (d .globals .«sof_frame») z) iso z) (d, b))) l)
 
 -- what a match told of the point
 pub told : (p q : Point) (v : ℕ) → p ≡ q → fitsAt p v ≡ true → fitsAt q v ≡ true

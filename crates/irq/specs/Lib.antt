@@ -1,4 +1,4 @@
-pub mod Tails
+pub mod Continuations
 pub mod Points
 pub mod Stages
 pub mod Laws

@@ -21,44 +21,44 @@ use Rattle.iso_in.specs.Sof as sof
 use Rattle.iso_in.specs.Late as late
 use Rattle.iso_out.specs.Points as check
 use Rattle.model_ops.specs.Rings.{St}
-use Rattle.model_ops.specs.Conc.{conc}
+use Rattle.model_ops.specs.Concrete.{concrete}
 use Rattle.irq.specs.declared.Point.{Point}
 use Rattle.irq.specs.declared.Point.the-variants as point
 use Rattle.irq.specs.declared.Next.{Next}
 use Rattle.irq.specs.declared.Next.the-variants as next
-use Rattle.irq.specs.Tails.{resultless, afterSetupReleased, afterSetupTx, afterSetupRx, finish, thenCheck, afterMovedWrote, afterMovedRead, afterCheck, afterDispatch, flipDone, afterFlip, afterToggled, afterLate, afterSof, afterFrameNo, afterSettle, afterRelease, afterNak, afterLen, afterSt, afterMis, afterHost, afterFifo, afterSuspend, afterBusRst, afterFlags, afterFrame}
+use Rattle.irq.specs.Continuations.{resultless, afterSetupReleased, afterSetupTx, afterSetupRx, finish, thenCheck, afterMovedWrote, afterMovedRead, afterCheck, afterDispatch, flipDone, afterFlip, afterToggled, afterLate, afterSof, afterFrameNo, afterSettle, afterRelease, afterNak, afterLen, afterSt, afterMis, afterHost, afterFifo, afterSuspend, afterBusRst, afterFlags, afterFrame}
 
 -- the operation: `on_interrupt`, 634-819, with the frame reading before it
 abbrev pub interrupt : Script true ℕ
 interrupt = resultless stampedInterrupt
 
 abbrev pub denote : Point → ℕ → tree.Prog St ℕ
-denote point.Frame v t = run conc (resultless (afterFrame v)) t
-denote point.Flags v t = run conc (resultless (afterFlags v)) t
-denote (point.BusRst f) v t = run conc (resultless (wakeBus >> afterBusRst f)) t
-denote (point.Suspend f) v t = run conc (resultless (wakeBus >> afterSuspend f)) t
-denote (point.Fifo f) v t = run conc (resultless (afterFifo f)) t
-denote (point.Host f) v t = run conc (resultless (afterHost f)) t
-denote (point.Mis setup) v t = finish setup (run conc (afterMis v) t)
-denote (point.St setup busy) v t = finish setup (run conc (afterSt busy v) t)
-denote (point.Len setup busy st) v t = finish setup (run conc (afterLen busy st v) t)
-denote (point.Nak setup x p) v t = finish setup (bindOut (nak.denote (x .st) p v t) (λ _ u. run conc (afterNak x) u))
-denote (point.Released setup x) v t = finish setup (run conc (afterRelease x) t)
-denote (point.Settle setup x p) v t = finish setup (bindOut (settle.denote x p v t) (λ y u. run conc (afterSettle y) u))
-denote (point.FrameNo setup x iso) v t = finish setup (run conc (afterFrameNo x iso v) t)
-denote (point.Sof setup x iso frame p) v t = finish setup (bindOut (sof.denote frame p v t) (λ _ u. run conc (afterSof x iso frame) u))
-denote (point.Late setup x iso frame p) v t = finish setup (bindOut (late.denote frame p t) (λ _ u. run conc (afterLate x iso frame) u))
+denote point.Frame v t = run concrete (resultless (afterFrame v)) t
+denote point.Flags v t = run concrete (resultless (afterFlags v)) t
+denote (point.BusRst f) v t = run concrete (resultless (wakeBus >> afterBusRst f)) t
+denote (point.Suspend f) v t = run concrete (resultless (wakeBus >> afterSuspend f)) t
+denote (point.Fifo f) v t = run concrete (resultless (afterFifo f)) t
+denote (point.Host f) v t = run concrete (resultless (afterHost f)) t
+denote (point.Mis setup) v t = finish setup (run concrete (afterMis v) t)
+denote (point.St setup busy) v t = finish setup (run concrete (afterSt busy v) t)
+denote (point.Len setup busy st) v t = finish setup (run concrete (afterLen busy st v) t)
+denote (point.Nak setup x p) v t = finish setup (bindOut (nak.denote (x .st) p v t) (λ _ u. run concrete (afterNak x) u))
+denote (point.Released setup x) v t = finish setup (run concrete (afterRelease x) t)
+denote (point.Settle setup x p) v t = finish setup (bindOut (settle.denote x p v t) (λ y u. run concrete (afterSettle y) u))
+denote (point.FrameNo setup x iso) v t = finish setup (run concrete (afterFrameNo x iso v) t)
+denote (point.Sof setup x iso frame p) v t = finish setup (bindOut (sof.denote frame p v t) (λ _ u. run concrete (afterSof x iso frame) u))
+denote (point.Late setup x iso frame p) v t = finish setup (bindOut (late.denote frame p t) (λ _ u. run concrete (afterLate x iso frame) u))
 denote (point.SofArm setup x iso frame p) v t = thenCheck setup x iso (sof.denote frame p v t)
-denote (point.Flip d setup x iso) v t = thenCheck setup x iso (run conc (afterFlip d (x .len) v) t)
-denote (point.Flipped d setup x iso) v t = thenCheck setup x iso (run conc (flipDone d (x .len)) t)
-denote (point.Toggled d setup x iso p) v t = thenCheck setup x iso (bindOut (toggled.denote d (endpoint (x .st)) p v t) (λ b u. run conc (afterToggled d x b) u))
+denote (point.Flip d setup x iso) v t = thenCheck setup x iso (run concrete (afterFlip d (x .len) v) t)
+denote (point.Flipped d setup x iso) v t = thenCheck setup x iso (run concrete (flipDone d (x .len)) t)
+denote (point.Toggled d setup x iso p) v t = thenCheck setup x iso (bindOut (toggled.denote d (endpoint (x .st)) p v t) (λ b u. run concrete (afterToggled d x b) u))
 denote (point.Completing setup x iso p) v t = thenCheck setup x iso (complete.denote p t)
-denote (point.Check setup x iso p) v t = finish setup (bindOut (check.denote x iso p v t) (λ _ u. run conc (afterCheck x) u))
-denote (point.MovedRead d setup) v t = finish setup (run conc (afterMovedRead d v) t)
-denote (point.MovedWrote d setup) v t = finish setup (run conc (afterMovedWrote d) t)
-denote point.SetupRx v t = run conc (resultless afterSetupRx) t
-denote point.SetupTx v t = run conc (resultless afterSetupTx) t
-denote point.SetupReleased v t = run conc (resultless afterSetupReleased) t
+denote (point.Check setup x iso p) v t = finish setup (bindOut (check.denote x iso p v t) (λ _ u. run concrete (afterCheck x) u))
+denote (point.MovedRead d setup) v t = finish setup (run concrete (afterMovedRead d v) t)
+denote (point.MovedWrote d setup) v t = finish setup (run concrete (afterMovedWrote d) t)
+denote point.SetupRx v t = run concrete (resultless afterSetupRx) t
+denote point.SetupTx v t = run concrete (resultless afterSetupTx) t
+denote point.SetupReleased v t = run concrete (resultless afterSetupReleased) t
 
 abbrev pub meaning : Next → Driver → List ℕ → tree.Out St ℕ
 meaning (next.Asks q p) d b = asks q (d, b) (λ v t. denote p v t)

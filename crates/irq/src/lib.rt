@@ -19,7 +19,7 @@ ghost use mathlib.Core.Path.{_≡_};
 ghost use mathlib.Core.List.{List};
 ghost use Prim.Native.Nat.{ℕ};
 ghost use Rattle.state.specs.Driver.{Driver};
-ghost use Rattle.model_ops.specs.Conc.{go};
+ghost use Rattle.model_ops.specs.Concrete.{go};
 ghost use Rattle.irq.specs.Points.{interrupt, meaning, Linked, fitsAt};
 
 // Where the interrupt stands: what it handed out last, with what the rest of it needs. First, of a transfer, comes whether the setup flag is

@@ -32,12 +32,12 @@ ghost use Rattle.model.specs.Tree.{bindOut};
 ghost use Rattle.model.specs.Script.{run};
 ghost use Rattle.model.specs.Handler.{movedOn};
 ghost use Rattle.iso_out.specs.Points as checks;
-ghost use Rattle.model_ops.specs.Conc.{conc};
-ghost use Rattle.irq.specs.Tails.{finish, afterCheck, afterDispatch};
+ghost use Rattle.model_ops.specs.Concrete.{concrete};
+ghost use Rattle.irq.specs.Continuations.{finish, afterCheck, afterDispatch};
 ghost use Rattle.irq.specs.Points.{denote};
 ghost use Rattle.irq.specs.declared.Point.the-variants as Point;
 ghost use Rattle.irq_points.specs.Stands.{Stops};
-ghost use Rattle.machine.specs.Under.{Stored};
+ghost use Rattle.machine.specs.Suspended.{Stored};
 
 pub fn after_moved_wrote(s: &mut [u8; STATE_LEN], d: Dir, setup: bool) -> Step
     ensures { λ r. ⌜ ((v : ℕ) (b : List ℕ) → Stops r (now (s .exit)) b (denote (Point.MovedWrote d setup) v (view (now (s .entry)), b))) ⌝ }
@@ -61,7 +61,7 @@ pub fn after_moved_read(s: &mut [u8; STATE_LEN], d: Dir, setup: bool, v: u32) ->
 }
 
 fn moved_on(s: &mut [u8; STATE_LEN], d: Dir, setup: bool) -> Step
-    ensures { λ r. ⌜ ((b : List ℕ) → Stops r (now (s .exit)) b (finish setup (run conc (movedOn {i = true} d) (view (now (s .entry)), b)))) ⌝ }
+    ensures { λ r. ⌜ ((b : List ℕ) → Stops r (now (s .exit)) b (finish setup (run concrete (movedOn {i = true} d) (view (now (s .entry)), b)))) ⌝ }
     ensures { λ r. ⌜ Stored r (now (s .exit)) ⌝ }
 {
     let r = load_ep(s, d, 0);
@@ -73,7 +73,7 @@ fn moved_on(s: &mut [u8; STATE_LEN], d: Dir, setup: bool) -> Step
 
 // The host's token for the other direction says that a stage went through (`ep0_moved_on`).
 pub fn after_check(s: &mut [u8; STATE_LEN], setup: bool, x: Transfer) -> Step
-    ensures { λ r. ⌜ ((b : List ℕ) → Stops r (now (s .exit)) b (finish setup (run conc (afterCheck x) (view (now (s .entry)), b)))) ⌝ }
+    ensures { λ r. ⌜ ((b : List ℕ) → Stops r (now (s .exit)) b (finish setup (run concrete (afterCheck x) (view (now (s .entry)), b)))) ⌝ }
     ensures { λ r. ⌜ Stored r (now (s .exit)) ⌝ }
 {
     if status::endpoint(x.st) == 0 {
@@ -99,7 +99,7 @@ fn checked(
     n: CheckNext,
 ) -> Step
     requires { ⌜ checks.Linked n ⌝ }
-    ensures { λ r. ⌜ Stops r (now (s .exit)) (now (buf .entry)) (finish setup (bindOut (checks.meaning x iso n (view (now (s .entry))) (now (buf .entry))) (λ _ u. run conc (afterCheck x) u))) ⌝ }
+    ensures { λ r. ⌜ Stops r (now (s .exit)) (now (buf .entry)) (finish setup (bindOut (checks.meaning x iso n (view (now (s .entry))) (now (buf .entry))) (λ _ u. run concrete (afterCheck x) u))) ⌝ }
     ensures { λ r. ⌜ Stored r (now (s .exit)) ⌝ }
 {
     match n {
@@ -133,7 +133,7 @@ pub fn after_dispatch(
     x: Transfer,
     iso: bool,
 ) -> Step
-    ensures { λ r. ⌜ Stops r (now (s .exit)) (now (buf .exit)) (finish setup (run conc (afterDispatch x iso) (view (now (s .entry)), now (buf .entry)))) ⌝ }
+    ensures { λ r. ⌜ Stops r (now (s .exit)) (now (buf .exit)) (finish setup (run concrete (afterDispatch x iso) (view (now (s .entry)), now (buf .entry)))) ⌝ }
     ensures { λ r. ⌜ Stored r (now (s .exit)) ⌝ }
 {
     if status::is_sof(x.st) {

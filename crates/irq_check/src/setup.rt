@@ -26,13 +26,13 @@ ghost use Rattle.state.specs.State.{view, saved};
 ghost use Rattle.model.specs.Tree.{asks};
 ghost use Rattle.model.specs.Script.{run};
 ghost use Rattle.model.specs.Statics.{withReady, withArmed, withSetup};
-ghost use Rattle.model_ops.specs.Conc.{conc, go};
+ghost use Rattle.model_ops.specs.Concrete.{concrete, go};
 ghost use Rattle.model_ops.specs.Records.{plainOf, merged, mergedGlobals};
-ghost use Rattle.irq.specs.Tails.{resultless, nakWord, afterSetupReleased, afterSetupTx, afterTransfer};
+ghost use Rattle.irq.specs.Continuations.{resultless, nakWord, afterSetupReleased, afterSetupTx, afterTransfer};
 ghost use Rattle.irq.specs.Points.{denote};
 ghost use Rattle.irq.specs.declared.Point.the-variants as Point;
 ghost use Rattle.irq_points.specs.Stands.{Stops};
-ghost use Rattle.machine.specs.Under.{Stored};
+ghost use Rattle.machine.specs.Suspended.{Stored};
 
 // NAK, DATA0.
 fn nak_word() -> u32
@@ -83,7 +83,7 @@ fn keep(s: &mut [u8; STATE_LEN], low: u32, high: u32)
 
 // The packet is taken, EP0 is idle: what is left is the access that clears the flag.
 fn take(s: &mut [u8; STATE_LEN], buf: &[u8])
-    ensures { λ _. ⌜ asks (Access.Write Reg.IntFg 0 SETUP_ACT) (view (now (s .exit)), now (buf .entry)) (λ _ t. run conc (resultless afterSetupReleased) t) ≡ run conc (resultless afterSetupTx) (view (now (s .entry)), now (buf .entry)) ⌝ }
+    ensures { λ _. ⌜ asks (Access.Write Reg.IntFg 0 SETUP_ACT) (view (now (s .exit)), now (buf .entry)) (λ _ t. run concrete (resultless afterSetupReleased) t) ≡ run concrete (resultless afterSetupTx) (view (now (s .entry)), now (buf .entry)) ⌝ }
     ensures { λ _. ⌜ saved (now (s .exit)) ≡ saved (now (s .entry)) ⌝ }
 {
     let low = setup_word(s, buf, 0);

@@ -26,12 +26,12 @@ ghost use mathlib.Core.List.{List};
 ghost use Prim.Native.Nat.{ℕ};
 ghost use Rattle.regs.specs.Registers.{fitsIn};
 ghost use Rattle.state.specs.State.{view};
-ghost use Rattle.model_ops.specs.Conc.{go};
-ghost use Rattle.irq.specs.Tails.{resultless, afterFrame, afterFlags, afterBusRst, afterSuspend, afterFifo, afterHost};
+ghost use Rattle.model_ops.specs.Concrete.{go};
+ghost use Rattle.irq.specs.Continuations.{resultless, afterFrame, afterFlags, afterBusRst, afterSuspend, afterFifo, afterHost};
 ghost use Rattle.irq.specs.Points.{denote};
 ghost use Rattle.irq.specs.declared.Point.the-variants as Point;
 ghost use Rattle.irq_points.specs.Stands.{Stops};
-ghost use Rattle.machine.specs.Under.{Stored};
+ghost use Rattle.machine.specs.Suspended.{Stored};
 
 pub fn after_host(s: &mut [u8; STATE_LEN], f: u8) -> Step
     ensures { λ r. ⌜ ((b : List ℕ) → Stops r (now (s .exit)) b (go (resultless (afterHost f)) (view (now (s .entry))) b)) ⌝ }

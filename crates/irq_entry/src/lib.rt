@@ -41,13 +41,13 @@ ghost use Rattle.model.specs.Script.{run};
 ghost use Rattle.model.specs.Handler as script;
 ghost use Rattle.irq_transfer.specs.Nak as naks;
 ghost use Rattle.irq_transfer.specs.Settle as settles;
-ghost use Rattle.model_ops.specs.Conc.{conc};
+ghost use Rattle.model_ops.specs.Concrete.{concrete};
 ghost use Rattle.model_ops.specs.Records.{plainOf};
-ghost use Rattle.irq.specs.Tails.{finish, naksFirst, enteredAs, afterNak, afterRelease, afterSettle};
+ghost use Rattle.irq.specs.Continuations.{finish, naksFirst, enteredAs, afterNak, afterRelease, afterSettle};
 ghost use Rattle.irq.specs.Points.{denote};
 ghost use Rattle.irq.specs.declared.Point.the-variants as Point;
 ghost use Rattle.irq_points.specs.Stands.{Stops};
-ghost use Rattle.machine.specs.Under.{Stored};
+ghost use Rattle.machine.specs.Suspended.{Stored};
 
 // `iso` (mod.rs 718-722).
 fn iso_for(st: u8, o: EpState, n: EpState) -> bool
@@ -63,7 +63,7 @@ fn iso_for(st: u8, o: EpState, n: EpState) -> bool
 }
 
 fn after_settle(s: &mut [u8; STATE_LEN], setup: bool, x: Transfer) -> Step
-    ensures { λ r. ⌜ ((b : List ℕ) → Stops r (now (s .exit)) b (finish setup (run conc (afterSettle x) (view (now (s .entry)), b)))) ⌝ }
+    ensures { λ r. ⌜ ((b : List ℕ) → Stops r (now (s .exit)) b (finish setup (run concrete (afterSettle x) (view (now (s .entry)), b)))) ⌝ }
     ensures { λ r. ⌜ Stored r (now (s .exit)) ⌝ }
 {
     let ep = status::endpoint(x.st);
@@ -75,7 +75,7 @@ fn after_settle(s: &mut [u8; STATE_LEN], setup: bool, x: Transfer) -> Step
 
 fn then_settle(s: &mut [u8; STATE_LEN], setup: bool, x: Transfer, n: SettleNext) -> Step
     requires { ⌜ settles.Linked n ⌝ }
-    ensures { λ r. ⌜ ((b : List ℕ) → Stops r (now (s .exit)) b (finish setup (bindOut (settles.meaning x n (view (now (s .entry))) b) (λ y u. run conc (afterSettle y) u)))) ⌝ }
+    ensures { λ r. ⌜ ((b : List ℕ) → Stops r (now (s .exit)) b (finish setup (bindOut (settles.meaning x n (view (now (s .entry))) b) (λ y u. run concrete (afterSettle y) u)))) ⌝ }
     ensures { λ r. ⌜ Stored r (now (s .exit)) ⌝ }
 {
     match n {
@@ -94,7 +94,7 @@ pub fn after_settling(s: &mut [u8; STATE_LEN], setup: bool, x: Transfer, p: Sett
 }
 
 pub fn after_released(s: &mut [u8; STATE_LEN], setup: bool, x: Transfer) -> Step
-    ensures { λ r. ⌜ ((b : List ℕ) → Stops r (now (s .exit)) b (finish setup (run conc (afterRelease x) (view (now (s .entry)), b)))) ⌝ }
+    ensures { λ r. ⌜ ((b : List ℕ) → Stops r (now (s .exit)) b (finish setup (run concrete (afterRelease x) (view (now (s .entry)), b)))) ⌝ }
     ensures { λ r. ⌜ Stored r (now (s .exit)) ⌝ }
 {
     let n = settle::begin(s, x);
@@ -103,7 +103,7 @@ pub fn after_released(s: &mut [u8; STATE_LEN], setup: bool, x: Transfer) -> Step
 
 // Released early: int_st and rx_len are read (mod.rs 666-667).
 fn release(s: &mut [u8; STATE_LEN], setup: bool, x: Transfer) -> Step
-    ensures { λ r. ⌜ ((b : List ℕ) → Stops r (now (s .exit)) b (finish setup (run conc (afterNak x) (view (now (s .entry)), b)))) ⌝ }
+    ensures { λ r. ⌜ ((b : List ℕ) → Stops r (now (s .exit)) b (finish setup (run concrete (afterNak x) (view (now (s .entry)), b)))) ⌝ }
     ensures { λ r. ⌜ Stored r (now (s .exit)) ⌝ }
 {
     stand_released(s, Access::Write(Reg::IntFg, 0, TRANSFER), setup, x)
@@ -111,7 +111,7 @@ fn release(s: &mut [u8; STATE_LEN], setup: bool, x: Transfer) -> Step
 
 fn then_nak(s: &mut [u8; STATE_LEN], setup: bool, x: Transfer, n: NakNext) -> Step
     requires { ⌜ naks.Linked n ⌝ }
-    ensures { λ r. ⌜ ((b : List ℕ) → Stops r (now (s .exit)) b (finish setup (bindOut (naks.meaning (x .st) n (view (now (s .entry))) b) (λ _ u. run conc (afterNak x) u)))) ⌝ }
+    ensures { λ r. ⌜ ((b : List ℕ) → Stops r (now (s .exit)) b (finish setup (bindOut (naks.meaning (x .st) n (view (now (s .entry))) b) (λ _ u. run concrete (afterNak x) u)))) ⌝ }
     ensures { λ r. ⌜ Stored r (now (s .exit)) ⌝ }
 {
     match n {

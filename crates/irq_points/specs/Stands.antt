@@ -9,12 +9,12 @@ use Rattle.model.specs.Tree.{Out, bindOut}
 use Rattle.model.specs.Script.{run}
 use Rattle.model.specs.Machine.{Buf}
 use Rattle.model_ops.specs.Rings.{St}
-use Rattle.model_ops.specs.Conc.{conc}
+use Rattle.model_ops.specs.Concrete.{concrete}
 use Rattle.irq.specs.declared.Point.{Point}
-use Rattle.machine.specs.declared.Under.the-variants as under
+use Rattle.machine.specs.declared.Suspended.the-variants as under
 use Rattle.machine.specs.declared.Step.{Step}
 use Rattle.machine.specs.declared.Step.the-variants as step
-use Rattle.machine.specs.Under.{encode, finish, haltsAs, machineOf, answerOf}
+use Rattle.machine.specs.Suspended.{encode, finish, haltsAs, machineOf, answerOf}
 use Rattle.machine.specs.Goes.{Called}
 
 -- the access q is answered, the view stays, and all 22 bytes of what is saved are the point's
@@ -25,7 +25,7 @@ pub record Stands (r : Step) (q : Access) (p : Point) (xs ys : List ℕ) : Type 
 
 -- where the rest o of an interrupt stops: at its next access, or at its end
 unfoldable pub halted : Out St ℕ → Called
-halted o = haltsAs true (bindOut o (λ n t. run conc (finish n) t))
+halted o = haltsAs true (bindOut o (λ n t. run concrete (finish n) t))
 
 -- the call's answer and the bytes that it leaves are where the rest o stops
 pub record Stops (r : Step) (ys : List ℕ) (b : Buf) (o : Out St ℕ) : Type 0 where

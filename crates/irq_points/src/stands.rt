@@ -34,7 +34,7 @@ ghost use Rattle.state.specs.State.{view, saved};
 ghost use Rattle.model.specs.Tree.{ends};
 ghost use Rattle.irq.specs.declared.Point.the-variants as Point;
 ghost use Rattle.machine.specs.declared.Step.the-variants as Step;
-ghost use Rattle.machine.specs.Under.{withTag, Stored};
+ghost use Rattle.machine.specs.Suspended.{withTag, Stored};
 ghost use Rattle.irq_points.specs.Stands.{Stands, Stops};
 
 // The interrupt's tag, over what is saved of a point.

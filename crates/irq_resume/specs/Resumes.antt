@@ -11,8 +11,8 @@ use Rattle.irq.specs.declared.Point.{Point}
 use Rattle.irq.specs.Points.{denote, fitsAt}
 use Rattle.irq_points.specs.Stands.{halted, Stops}
 use Rattle.machine.specs.declared.Step.{Step}
-use Rattle.machine.specs.declared.Under.the-variants as under
-use Rattle.machine.specs.Under.{decode, machineOf, goneOn, answerOf}
+use Rattle.machine.specs.declared.Suspended.the-variants as under
+use Rattle.machine.specs.Suspended.{decode, machineOf, resumed, answerOf}
 use Rattle.machine.specs.Goes.{Called, stayed}
 use Rattle.machine.specs.Interrupt.{gone-interrupt, stay-interrupt}
 use Rattle.machine_resume_op.specs.Going.{going, staying}
@@ -20,11 +20,11 @@ use Rattle.machine_resume_op.specs.Going.{going, staying}
 -- what was brought fits: the rest stops where the call leaves it
 pub went-on : (c : Saved) (p : Point) (v : ℕ) (d : Driver) (b : Buf) → decode c ≡ under.Interrupt p
     → {r : Step} {ys : List ℕ} {b' : Buf} → fitsAt p v ≡ true → Stops r ys b' (denote p v (d, b))
-    → _≡_ {A = Called} (answerOf r [] (view ys), machineOf ys b') (goneOn v (decode c) d b)
+    → _≡_ {A = Called} (answerOf r [] (view ys), machineOf ys b') (resumed v (decode c) d b)
 unfolding halted
 went-on c p v d b e f k = going c (under.Interrupt p) v d b e (gone-interrupt p v d b f) (k .there)
 
 -- row 16: it stays awaited
 pub stays-on : (c : Saved) (p : Point) (v : ℕ) (d : Driver) (b : Buf) → decode c ≡ under.Interrupt p → fitsAt p v ≡ false
-    → stayed (decode c) d b ≡ goneOn v (decode c) d b
+    → stayed (decode c) d b ≡ resumed v (decode c) d b
 stays-on c p v d b e f = staying c (under.Interrupt p) v d b e (stay-interrupt p v d b f)

@@ -17,8 +17,8 @@ use Rattle.iso_out.specs.declared.Check.{Check}
 use Rattle.irq.specs.declared.Point.the-variants as point
 use Rattle.irq_codec.specs.Codec as codec
 use Rattle.irq_codec.specs.Codec.{dirOf, transferOf, nakOf, settleOf, toggledOf, completeOf, sofOf, lateOf, checkOf}
-use Rattle.machine.specs.declared.Under.the-variants as under
-use Rattle.machine.specs.Under.{decode}
+use Rattle.machine.specs.declared.Suspended.the-variants as under
+use Rattle.machine.specs.Suspended.{decode}
 use Rattle.machine.specs.Tags.{at-interrupt}
 
 -- any other number

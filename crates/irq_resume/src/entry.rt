@@ -23,14 +23,14 @@ ghost use Rattle.model.specs.Statics.{isOn};
 ghost use Rattle.state.specs.State.{view, saved};
 ghost use Rattle.irq.specs.declared.Point.the-variants as Point;
 ghost use Rattle.irq_codec.specs.Codec.{nakOf, settleOf, transferOf};
-ghost use Rattle.machine.specs.declared.Under.the-variants as Under;
-ghost use Rattle.machine.specs.Under.{decode, machineOf, goneOn, answerOf, Kept};
+ghost use Rattle.machine.specs.declared.Suspended.the-variants as Under;
+ghost use Rattle.machine.specs.Suspended.{decode, machineOf, resumed, answerOf, SavedUnchangedOnRefusal};
 
 // mis_st: is a transaction on the bus? (mod.rs 656-661).
 pub fn resume_mis(s: &mut [u8; STATE_LEN], v: u32) -> Step
     requires { ⌜ decode (saved (now s)) ≡ Under.Interrupt (Point.Mis (isOn ((saved (now s)) .flag))) ⌝ }
-    ensures { λ r. ⌜ ((b : List ℕ) → (answerOf r [] (view (now (s .exit))), machineOf (now (s .exit)) b) ≡ goneOn v (decode (saved (now (s .entry)))) (view (now (s .entry))) b) ⌝ }
-    ensures { λ r. ⌜ Kept r (now (s .entry)) (now (s .exit)) ⌝ }
+    ensures { λ r. ⌜ ((b : List ℕ) → (answerOf r [] (view (now (s .exit))), machineOf (now (s .exit)) b) ≡ resumed v (decode (saved (now (s .entry)))) (view (now (s .entry))) b) ⌝ }
+    ensures { λ r. ⌜ SavedUnchangedOnRefusal r (now (s .entry)) (now (s .exit)) ⌝ }
 {
     if fits(v, 2) {
         let setup = setup_at(s);
@@ -42,8 +42,8 @@ pub fn resume_mis(s: &mut [u8; STATE_LEN], v: u32) -> Step
 // int_st.
 pub fn resume_st(s: &mut [u8; STATE_LEN], v: u32) -> Step
     requires { ⌜ decode (saved (now s)) ≡ Under.Interrupt (Point.St (isOn ((saved (now s)) .flag)) (isOn ((saved (now s)) .busy))) ⌝ }
-    ensures { λ r. ⌜ ((b : List ℕ) → (answerOf r [] (view (now (s .exit))), machineOf (now (s .exit)) b) ≡ goneOn v (decode (saved (now (s .entry)))) (view (now (s .entry))) b) ⌝ }
-    ensures { λ r. ⌜ Kept r (now (s .entry)) (now (s .exit)) ⌝ }
+    ensures { λ r. ⌜ ((b : List ℕ) → (answerOf r [] (view (now (s .exit))), machineOf (now (s .exit)) b) ≡ resumed v (decode (saved (now (s .entry)))) (view (now (s .entry))) b) ⌝ }
+    ensures { λ r. ⌜ SavedUnchangedOnRefusal r (now (s .entry)) (now (s .exit)) ⌝ }
 {
     if fits(v, 7) {
         let setup = setup_at(s);
@@ -56,8 +56,8 @@ pub fn resume_st(s: &mut [u8; STATE_LEN], v: u32) -> Step
 // rx_len.
 pub fn resume_len(s: &mut [u8; STATE_LEN], v: u32) -> Step
     requires { ⌜ decode (saved (now s)) ≡ Under.Interrupt (Point.Len (isOn ((saved (now s)) .flag)) (isOn ((saved (now s)) .busy)) ((saved (now s)) .st)) ⌝ }
-    ensures { λ r. ⌜ ((b : List ℕ) → (answerOf r [] (view (now (s .exit))), machineOf (now (s .exit)) b) ≡ goneOn v (decode (saved (now (s .entry)))) (view (now (s .entry))) b) ⌝ }
-    ensures { λ r. ⌜ Kept r (now (s .entry)) (now (s .exit)) ⌝ }
+    ensures { λ r. ⌜ ((b : List ℕ) → (answerOf r [] (view (now (s .exit))), machineOf (now (s .exit)) b) ≡ resumed v (decode (saved (now (s .entry)))) (view (now (s .entry))) b) ⌝ }
+    ensures { λ r. ⌜ SavedUnchangedOnRefusal r (now (s .entry)) (now (s .exit)) ⌝ }
 {
     if fits(v, 16) {
         let setup = setup_at(s);
@@ -71,8 +71,8 @@ pub fn resume_len(s: &mut [u8; STATE_LEN], v: u32) -> Step
 // NAK before the release (mod.rs 663).
 pub fn resume_nak(s: &mut [u8; STATE_LEN], v: u32) -> Step
     requires { ⌜ decode (saved (now s)) ≡ Under.Interrupt (Point.Nak (isOn ((saved (now s)) .flag)) (transferOf (saved (now s))) (nakOf ((saved (now s)) .sub))) ⌝ }
-    ensures { λ r. ⌜ ((b : List ℕ) → (answerOf r [] (view (now (s .exit))), machineOf (now (s .exit)) b) ≡ goneOn v (decode (saved (now (s .entry)))) (view (now (s .entry))) b) ⌝ }
-    ensures { λ r. ⌜ Kept r (now (s .entry)) (now (s .exit)) ⌝ }
+    ensures { λ r. ⌜ ((b : List ℕ) → (answerOf r [] (view (now (s .exit))), machineOf (now (s .exit)) b) ≡ resumed v (decode (saved (now (s .entry)))) (view (now (s .entry))) b) ⌝ }
+    ensures { λ r. ⌜ SavedUnchangedOnRefusal r (now (s .entry)) (now (s .exit)) ⌝ }
 {
     let q = nak_at(s);
     if nak::fits_at(q, v) {
@@ -86,8 +86,8 @@ pub fn resume_nak(s: &mut [u8; STATE_LEN], v: u32) -> Step
 // the transfer flag is cleared (mod.rs 666-667).
 pub fn resume_released(s: &mut [u8; STATE_LEN]) -> Step
     requires { ⌜ decode (saved (now s)) ≡ Under.Interrupt (Point.Released (isOn ((saved (now s)) .flag)) (transferOf (saved (now s)))) ⌝ }
-    ensures { λ r. ⌜ ((v : ℕ) (b : List ℕ) → (answerOf r [] (view (now (s .exit))), machineOf (now (s .exit)) b) ≡ goneOn v (decode (saved (now (s .entry)))) (view (now (s .entry))) b) ⌝ }
-    ensures { λ r. ⌜ Kept r (now (s .entry)) (now (s .exit)) ⌝ }
+    ensures { λ r. ⌜ ((v : ℕ) (b : List ℕ) → (answerOf r [] (view (now (s .exit))), machineOf (now (s .exit)) b) ≡ resumed v (decode (saved (now (s .entry)))) (view (now (s .entry))) b) ⌝ }
+    ensures { λ r. ⌜ SavedUnchangedOnRefusal r (now (s .entry)) (now (s .exit)) ⌝ }
 {
     let setup = setup_at(s);
     let x = transfer_at(s);
@@ -97,8 +97,8 @@ pub fn resume_released(s: &mut [u8; STATE_LEN]) -> Step
 // what was on the bus is waited for (mod.rs 668-717).
 pub fn resume_settle(s: &mut [u8; STATE_LEN], v: u32) -> Step
     requires { ⌜ decode (saved (now s)) ≡ Under.Interrupt (Point.Settle (isOn ((saved (now s)) .flag)) (transferOf (saved (now s))) (settleOf ((saved (now s)) .sub) ((saved (now s)) .now) ((saved (now s)) .n))) ⌝ }
-    ensures { λ r. ⌜ ((b : List ℕ) → (answerOf r [] (view (now (s .exit))), machineOf (now (s .exit)) b) ≡ goneOn v (decode (saved (now (s .entry)))) (view (now (s .entry))) b) ⌝ }
-    ensures { λ r. ⌜ Kept r (now (s .entry)) (now (s .exit)) ⌝ }
+    ensures { λ r. ⌜ ((b : List ℕ) → (answerOf r [] (view (now (s .exit))), machineOf (now (s .exit)) b) ≡ resumed v (decode (saved (now (s .entry)))) (view (now (s .entry))) b) ⌝ }
+    ensures { λ r. ⌜ SavedUnchangedOnRefusal r (now (s .entry)) (now (s .exit)) ⌝ }
 {
     let q = settle_at(s);
     if settle::fits_at(q, v) {

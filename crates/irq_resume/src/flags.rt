@@ -14,14 +14,14 @@ ghost use mathlib.Core.List.{List, []};
 ghost use Prim.Native.Nat.{ℕ};
 ghost use Rattle.state.specs.State.{view, saved};
 ghost use Rattle.irq.specs.declared.Point.the-variants as Point;
-ghost use Rattle.machine.specs.declared.Under.the-variants as Under;
-ghost use Rattle.machine.specs.Under.{decode, machineOf, goneOn, answerOf, Kept};
+ghost use Rattle.machine.specs.declared.Suspended.the-variants as Under;
+ghost use Rattle.machine.specs.Suspended.{decode, machineOf, resumed, answerOf, SavedUnchangedOnRefusal};
 
 // frame_no, whose microframe index what the interrupt admits carries.
 pub fn resume_frame(s: &mut [u8; STATE_LEN], v: u32) -> Step
     requires { ⌜ decode (saved (now s)) ≡ Under.Interrupt Point.Frame ⌝ }
-    ensures { λ r. ⌜ ((b : List ℕ) → (answerOf r [] (view (now (s .exit))), machineOf (now (s .exit)) b) ≡ goneOn v (decode (saved (now (s .entry)))) (view (now (s .entry))) b) ⌝ }
-    ensures { λ r. ⌜ Kept r (now (s .entry)) (now (s .exit)) ⌝ }
+    ensures { λ r. ⌜ ((b : List ℕ) → (answerOf r [] (view (now (s .exit))), machineOf (now (s .exit)) b) ≡ resumed v (decode (saved (now (s .entry)))) (view (now (s .entry))) b) ⌝ }
+    ensures { λ r. ⌜ SavedUnchangedOnRefusal r (now (s .entry)) (now (s .exit)) ⌝ }
 {
     if fits(v, 16) {
         return after_frame(s, v);
@@ -32,8 +32,8 @@ pub fn resume_frame(s: &mut [u8; STATE_LEN], v: u32) -> Step
 // int_fg (mod.rs 637).
 pub fn resume_flags(s: &mut [u8; STATE_LEN], v: u32) -> Step
     requires { ⌜ decode (saved (now s)) ≡ Under.Interrupt Point.Flags ⌝ }
-    ensures { λ r. ⌜ ((b : List ℕ) → (answerOf r [] (view (now (s .exit))), machineOf (now (s .exit)) b) ≡ goneOn v (decode (saved (now (s .entry)))) (view (now (s .entry))) b) ⌝ }
-    ensures { λ r. ⌜ Kept r (now (s .entry)) (now (s .exit)) ⌝ }
+    ensures { λ r. ⌜ ((b : List ℕ) → (answerOf r [] (view (now (s .exit))), machineOf (now (s .exit)) b) ≡ resumed v (decode (saved (now (s .entry)))) (view (now (s .entry))) b) ⌝ }
+    ensures { λ r. ⌜ SavedUnchangedOnRefusal r (now (s .entry)) (now (s .exit)) ⌝ }
 {
     if fits(v, 6) {
         return after_flags(s, v);
@@ -44,8 +44,8 @@ pub fn resume_flags(s: &mut [u8; STATE_LEN], v: u32) -> Step
 // the reset interrupt is masked (mod.rs 640-643).
 pub fn resume_bus_rst(s: &mut [u8; STATE_LEN]) -> Step
     requires { ⌜ decode (saved (now s)) ≡ Under.Interrupt (Point.BusRst ((saved (now s)) .st)) ⌝ }
-    ensures { λ r. ⌜ ((v : ℕ) (b : List ℕ) → (answerOf r [] (view (now (s .exit))), machineOf (now (s .exit)) b) ≡ goneOn v (decode (saved (now (s .entry)))) (view (now (s .entry))) b) ⌝ }
-    ensures { λ r. ⌜ Kept r (now (s .entry)) (now (s .exit)) ⌝ }
+    ensures { λ r. ⌜ ((v : ℕ) (b : List ℕ) → (answerOf r [] (view (now (s .exit))), machineOf (now (s .exit)) b) ≡ resumed v (decode (saved (now (s .entry)))) (view (now (s .entry))) b) ⌝ }
+    ensures { λ r. ⌜ SavedUnchangedOnRefusal r (now (s .entry)) (now (s .exit)) ⌝ }
 {
     let f = st_byte(s);
     after_bus_rst(s, f)
@@ -54,8 +54,8 @@ pub fn resume_bus_rst(s: &mut [u8; STATE_LEN]) -> Step
 // the suspend interrupt is (mod.rs 644-648).
 pub fn resume_suspend(s: &mut [u8; STATE_LEN]) -> Step
     requires { ⌜ decode (saved (now s)) ≡ Under.Interrupt (Point.Suspend ((saved (now s)) .st)) ⌝ }
-    ensures { λ r. ⌜ ((v : ℕ) (b : List ℕ) → (answerOf r [] (view (now (s .exit))), machineOf (now (s .exit)) b) ≡ goneOn v (decode (saved (now (s .entry)))) (view (now (s .entry))) b) ⌝ }
-    ensures { λ r. ⌜ Kept r (now (s .entry)) (now (s .exit)) ⌝ }
+    ensures { λ r. ⌜ ((v : ℕ) (b : List ℕ) → (answerOf r [] (view (now (s .exit))), machineOf (now (s .exit)) b) ≡ resumed v (decode (saved (now (s .entry)))) (view (now (s .entry))) b) ⌝ }
+    ensures { λ r. ⌜ SavedUnchangedOnRefusal r (now (s .entry)) (now (s .exit)) ⌝ }
 {
     let f = st_byte(s);
     after_suspend(s, f)
@@ -64,8 +64,8 @@ pub fn resume_suspend(s: &mut [u8; STATE_LEN]) -> Step
 // the FIFO flag is cleared (mod.rs 649-651).
 pub fn resume_fifo(s: &mut [u8; STATE_LEN]) -> Step
     requires { ⌜ decode (saved (now s)) ≡ Under.Interrupt (Point.Fifo ((saved (now s)) .st)) ⌝ }
-    ensures { λ r. ⌜ ((v : ℕ) (b : List ℕ) → (answerOf r [] (view (now (s .exit))), machineOf (now (s .exit)) b) ≡ goneOn v (decode (saved (now (s .entry)))) (view (now (s .entry))) b) ⌝ }
-    ensures { λ r. ⌜ Kept r (now (s .entry)) (now (s .exit)) ⌝ }
+    ensures { λ r. ⌜ ((v : ℕ) (b : List ℕ) → (answerOf r [] (view (now (s .exit))), machineOf (now (s .exit)) b) ≡ resumed v (decode (saved (now (s .entry)))) (view (now (s .entry))) b) ⌝ }
+    ensures { λ r. ⌜ SavedUnchangedOnRefusal r (now (s .entry)) (now (s .exit)) ⌝ }
 {
     let f = st_byte(s);
     after_fifo(s, f)
@@ -74,8 +74,8 @@ pub fn resume_fifo(s: &mut [u8; STATE_LEN]) -> Step
 // the host SOF flag is (mod.rs 652-655).
 pub fn resume_host(s: &mut [u8; STATE_LEN]) -> Step
     requires { ⌜ decode (saved (now s)) ≡ Under.Interrupt (Point.Host ((saved (now s)) .st)) ⌝ }
-    ensures { λ r. ⌜ ((v : ℕ) (b : List ℕ) → (answerOf r [] (view (now (s .exit))), machineOf (now (s .exit)) b) ≡ goneOn v (decode (saved (now (s .entry)))) (view (now (s .entry))) b) ⌝ }
-    ensures { λ r. ⌜ Kept r (now (s .entry)) (now (s .exit)) ⌝ }
+    ensures { λ r. ⌜ ((v : ℕ) (b : List ℕ) → (answerOf r [] (view (now (s .exit))), machineOf (now (s .exit)) b) ≡ resumed v (decode (saved (now (s .entry)))) (view (now (s .entry))) b) ⌝ }
+    ensures { λ r. ⌜ SavedUnchangedOnRefusal r (now (s .entry)) (now (s .exit)) ⌝ }
 {
     let f = st_byte(s);
     after_host(s, f)

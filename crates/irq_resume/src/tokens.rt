@@ -24,14 +24,14 @@ ghost use Rattle.model.specs.Statics.{isOn};
 ghost use Rattle.state.specs.State.{view, saved};
 ghost use Rattle.irq.specs.declared.Point.the-variants as Point;
 ghost use Rattle.irq_codec.specs.Codec.{completeOf, dirOf, sofOf, toggledOf, transferOf};
-ghost use Rattle.machine.specs.declared.Under.the-variants as Under;
-ghost use Rattle.machine.specs.Under.{decode, machineOf, goneOn, answerOf, Kept};
+ghost use Rattle.machine.specs.declared.Suspended.the-variants as Under;
+ghost use Rattle.machine.specs.Suspended.{decode, machineOf, resumed, answerOf, SavedUnchangedOnRefusal};
 
 // the arm of SOF (mod.rs 750-754).
 pub fn resume_sof_arm(s: &mut [u8; STATE_LEN], slots: &mut [u8], v: u32) -> Step
     requires { ⌜ decode (saved (now s)) ≡ Under.Interrupt (Point.SofArm (isOn ((saved (now s)) .flag)) (transferOf (saved (now s))) (isOn ((saved (now s)) .now)) ((saved (now s)) .frame) (sofOf ((saved (now s)) .sub) ((saved (now s)) .ep) ((saved (now s)) .eps))) ⌝ }
-    ensures { λ r. ⌜ (answerOf r [] (view (now (s .exit))), machineOf (now (s .exit)) (now (slots .exit))) ≡ goneOn v (decode (saved (now (s .entry)))) (view (now (s .entry))) (now (slots .entry)) ⌝ }
-    ensures { λ r. ⌜ Kept r (now (s .entry)) (now (s .exit)) ⌝ }
+    ensures { λ r. ⌜ (answerOf r [] (view (now (s .exit))), machineOf (now (s .exit)) (now (slots .exit))) ≡ resumed v (decode (saved (now (s .entry)))) (view (now (s .entry))) (now (slots .entry)) ⌝ }
+    ensures { λ r. ⌜ SavedUnchangedOnRefusal r (now (s .entry)) (now (s .exit)) ⌝ }
 {
     let q = sof_at(s);
     if sof::fits_at(q, v) {
@@ -47,8 +47,8 @@ pub fn resume_sof_arm(s: &mut [u8; STATE_LEN], slots: &mut [u8], v: u32) -> Step
 // EP0's control word (mod.rs 757, 781).
 pub fn resume_flip(s: &mut [u8; STATE_LEN], v: u32) -> Step
     requires { ⌜ decode (saved (now s)) ≡ Under.Interrupt (Point.Flip (dirOf ((saved (now s)) .ep)) (isOn ((saved (now s)) .flag)) (transferOf (saved (now s))) (isOn ((saved (now s)) .now))) ⌝ }
-    ensures { λ r. ⌜ ((b : List ℕ) → (answerOf r [] (view (now (s .exit))), machineOf (now (s .exit)) b) ≡ goneOn v (decode (saved (now (s .entry)))) (view (now (s .entry))) b) ⌝ }
-    ensures { λ r. ⌜ Kept r (now (s .entry)) (now (s .exit)) ⌝ }
+    ensures { λ r. ⌜ ((b : List ℕ) → (answerOf r [] (view (now (s .exit))), machineOf (now (s .exit)) b) ≡ resumed v (decode (saved (now (s .entry)))) (view (now (s .entry))) b) ⌝ }
+    ensures { λ r. ⌜ SavedUnchangedOnRefusal r (now (s .entry)) (now (s .exit)) ⌝ }
 {
     if fits(v, 8) {
         let d = dir_at(s);
@@ -63,8 +63,8 @@ pub fn resume_flip(s: &mut [u8; STATE_LEN], v: u32) -> Step
 // its toggle is flipped.
 pub fn resume_flipped(s: &mut [u8; STATE_LEN], slots: &mut [u8]) -> Step
     requires { ⌜ decode (saved (now s)) ≡ Under.Interrupt (Point.Flipped (dirOf ((saved (now s)) .ep)) (isOn ((saved (now s)) .flag)) (transferOf (saved (now s))) (isOn ((saved (now s)) .now))) ⌝ }
-    ensures { λ r. ⌜ ((v : ℕ) → (answerOf r [] (view (now (s .exit))), machineOf (now (s .exit)) (now (slots .exit))) ≡ goneOn v (decode (saved (now (s .entry)))) (view (now (s .entry))) (now (slots .entry))) ⌝ }
-    ensures { λ r. ⌜ Kept r (now (s .entry)) (now (s .exit)) ⌝ }
+    ensures { λ r. ⌜ ((v : ℕ) → (answerOf r [] (view (now (s .exit))), machineOf (now (s .exit)) (now (slots .exit))) ≡ resumed v (decode (saved (now (s .entry)))) (view (now (s .entry))) (now (slots .entry))) ⌝ }
+    ensures { λ r. ⌜ SavedUnchangedOnRefusal r (now (s .entry)) (now (s .exit)) ⌝ }
 {
     let d = dir_at(s);
     let setup = setup_at(s);
@@ -76,8 +76,8 @@ pub fn resume_flipped(s: &mut [u8; STATE_LEN], slots: &mut [u8]) -> Step
 // did a packet go through? (`toggled`).
 pub fn resume_toggled(s: &mut [u8; STATE_LEN], slots: &mut [u8], v: u32) -> Step
     requires { ⌜ decode (saved (now s)) ≡ Under.Interrupt (Point.Toggled (dirOf ((saved (now s)) .ep)) (isOn ((saved (now s)) .flag)) (transferOf (saved (now s))) (isOn ((saved (now s)) .now)) (toggledOf ((saved (now s)) .sub) ((saved (now s)) .n))) ⌝ }
-    ensures { λ r. ⌜ (answerOf r [] (view (now (s .exit))), machineOf (now (s .exit)) (now (slots .exit))) ≡ goneOn v (decode (saved (now (s .entry)))) (view (now (s .entry))) (now (slots .entry)) ⌝ }
-    ensures { λ r. ⌜ Kept r (now (s .entry)) (now (s .exit)) ⌝ }
+    ensures { λ r. ⌜ (answerOf r [] (view (now (s .exit))), machineOf (now (s .exit)) (now (slots .exit))) ≡ resumed v (decode (saved (now (s .entry)))) (view (now (s .entry))) (now (slots .entry)) ⌝ }
+    ensures { λ r. ⌜ SavedUnchangedOnRefusal r (now (s .entry)) (now (s .exit)) ⌝ }
 {
     let q = toggled_at(s);
     if toggled::fits_at(q, v) {
@@ -93,8 +93,8 @@ pub fn resume_toggled(s: &mut [u8; STATE_LEN], slots: &mut [u8], v: u32) -> Step
 // an isochronous IN completes (mod.rs 772-777).
 pub fn resume_completing(s: &mut [u8; STATE_LEN], slots: &mut [u8]) -> Step
     requires { ⌜ decode (saved (now s)) ≡ Under.Interrupt (Point.Completing (isOn ((saved (now s)) .flag)) (transferOf (saved (now s))) (isOn ((saved (now s)) .now)) (completeOf ((saved (now s)) .sub) ((saved (now s)) .ep))) ⌝ }
-    ensures { λ r. ⌜ ((v : ℕ) → (answerOf r [] (view (now (s .exit))), machineOf (now (s .exit)) (now (slots .exit))) ≡ goneOn v (decode (saved (now (s .entry)))) (view (now (s .entry))) (now (slots .entry))) ⌝ }
-    ensures { λ r. ⌜ Kept r (now (s .entry)) (now (s .exit)) ⌝ }
+    ensures { λ r. ⌜ ((v : ℕ) → (answerOf r [] (view (now (s .exit))), machineOf (now (s .exit)) (now (slots .exit))) ≡ resumed v (decode (saved (now (s .entry)))) (view (now (s .entry))) (now (slots .entry))) ⌝ }
+    ensures { λ r. ⌜ SavedUnchangedOnRefusal r (now (s .entry)) (now (s .exit)) ⌝ }
 {
     let setup = setup_at(s);
     let x = transfer_at(s);

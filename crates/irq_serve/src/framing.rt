@@ -14,7 +14,7 @@ ghost use Rattle.model.specs.Handler as script;
 ghost use Rattle.irq.specs.Points.{denote};
 ghost use Rattle.irq.specs.declared.Point.the-variants as Point;
 ghost use Rattle.irq_points.specs.Stands.{Stops};
-ghost use Rattle.machine.specs.Under.{Stored};
+ghost use Rattle.machine.specs.Suspended.{Stored};
 
 // With this microframe's SOF handled, an isochronous IN's entry is its own (mod.rs 724-728).
 fn own_in(x: Transfer, iso: bool, sof: u16, frame: u16) -> bool

@@ -22,12 +22,12 @@ ghost use Rattle.model.specs.Tree.{bindOut};
 ghost use Rattle.model.specs.Script.{run};
 ghost use Rattle.iso_in.specs.Sof as sofs;
 ghost use Rattle.iso_in.specs.Late as lates;
-ghost use Rattle.model_ops.specs.Conc.{conc};
-ghost use Rattle.irq.specs.Tails.{finish, sofDue, afterLate, afterSof, serving};
+ghost use Rattle.model_ops.specs.Concrete.{concrete};
+ghost use Rattle.irq.specs.Continuations.{finish, sofDue, afterLate, afterSof, serving};
 ghost use Rattle.irq.specs.Points.{denote};
 ghost use Rattle.irq.specs.declared.Point.the-variants as Point;
 ghost use Rattle.irq_points.specs.Stands.{Stops};
-ghost use Rattle.machine.specs.Under.{Stored};
+ghost use Rattle.machine.specs.Suspended.{Stored};
 
 // A transaction that is still on the bus is left to its own entry (mod.rs 748).
 fn after_late(
@@ -38,7 +38,7 @@ fn after_late(
     iso: bool,
     frame: u16,
 ) -> Step
-    ensures { λ r. ⌜ Stops r (now (s .exit)) (now (buf .exit)) (finish setup (run conc (afterLate x iso frame) (view (now (s .entry)), now (buf .entry)))) ⌝ }
+    ensures { λ r. ⌜ Stops r (now (s .exit)) (now (buf .exit)) (finish setup (run concrete (afterLate x iso frame) (view (now (s .entry)), now (buf .entry)))) ⌝ }
     ensures { λ r. ⌜ Stored r (now (s .exit)) ⌝ }
 {
     if x.busy {
@@ -57,7 +57,7 @@ fn then_late(
     n: LateNext,
 ) -> Step
     requires { ⌜ lates.Linked n ⌝ }
-    ensures { λ r. ⌜ Stops r (now (s .exit)) (now (buf .exit)) (finish setup (bindOut (lates.meaning frame n (view (now (s .entry))) (now (buf .entry))) (λ _ u. run conc (afterLate x iso frame) u))) ⌝ }
+    ensures { λ r. ⌜ Stops r (now (s .exit)) (now (buf .exit)) (finish setup (bindOut (lates.meaning frame n (view (now (s .entry))) (now (buf .entry))) (λ _ u. run concrete (afterLate x iso frame) u))) ⌝ }
     ensures { λ r. ⌜ Stored r (now (s .exit)) ⌝ }
 {
     match n {
@@ -91,7 +91,7 @@ fn after_sof(
     iso: bool,
     frame: u16,
 ) -> Step
-    ensures { λ r. ⌜ Stops r (now (s .exit)) (now (buf .exit)) (finish setup (run conc (afterSof x iso frame) (view (now (s .entry)), now (buf .entry)))) ⌝ }
+    ensures { λ r. ⌜ Stops r (now (s .exit)) (now (buf .exit)) (finish setup (run concrete (afterSof x iso frame) (view (now (s .entry)), now (buf .entry)))) ⌝ }
     ensures { λ r. ⌜ Stored r (now (s .exit)) ⌝ }
 {
     if x.late {
@@ -111,7 +111,7 @@ fn then_sof(
     n: SofNext,
 ) -> Step
     requires { ⌜ sofs.Linked n ⌝ }
-    ensures { λ r. ⌜ Stops r (now (s .exit)) (now (buf .exit)) (finish setup (bindOut (sofs.meaning frame n (view (now (s .entry))) (now (buf .entry))) (λ _ u. run conc (afterSof x iso frame) u))) ⌝ }
+    ensures { λ r. ⌜ Stops r (now (s .exit)) (now (buf .exit)) (finish setup (bindOut (sofs.meaning frame n (view (now (s .entry))) (now (buf .entry))) (λ _ u. run concrete (afterSof x iso frame) u))) ⌝ }
     ensures { λ r. ⌜ Stored r (now (s .exit)) ⌝ }
 {
     match n {
@@ -156,7 +156,7 @@ pub fn serve(
     iso: bool,
     frame: u16,
 ) -> Step
-    ensures { λ r. ⌜ Stops r (now (s .exit)) (now (buf .exit)) (finish setup (run conc (serving x iso frame) (view (now (s .entry)), now (buf .entry)))) ⌝ }
+    ensures { λ r. ⌜ Stops r (now (s .exit)) (now (buf .exit)) (finish setup (run concrete (serving x iso frame) (view (now (s .entry)), now (buf .entry)))) ⌝ }
     ensures { λ r. ⌜ Stored r (now (s .exit)) ⌝ }
 {
     let g = load_globals(s);

@@ -44,12 +44,12 @@ ghost use Rattle.model.specs.Handler as script;
 ghost use Rattle.irq_transfer.specs.Toggled as toggles;
 ghost use Rattle.iso_in.specs.Complete as completes;
 ghost use Rattle.iso_in.specs.Sof as sofs;
-ghost use Rattle.model_ops.specs.Conc.{conc, go};
-ghost use Rattle.irq.specs.Tails.{thenCheck, flipDone, passed, afterToggled};
+ghost use Rattle.model_ops.specs.Concrete.{concrete, go};
+ghost use Rattle.irq.specs.Continuations.{thenCheck, flipDone, passed, afterToggled};
 ghost use Rattle.irq.specs.Points.{denote};
 ghost use Rattle.irq.specs.declared.Point.the-variants as Point;
 ghost use Rattle.irq_points.specs.Stands.{Stops};
-ghost use Rattle.machine.specs.Under.{Stored};
+ghost use Rattle.machine.specs.Suspended.{Stored};
 
 // A packet arrived (mod.rs 767-770).
 fn received(s: &mut [u8; STATE_LEN], ep: u8, len: u16)
@@ -149,7 +149,7 @@ fn then_toggled(
     n: ToggledNext,
 ) -> Step
     requires { ⌜ toggles.Linked n ⌝ }
-    ensures { λ r. ⌜ Stops r (now (s .exit)) (now (buf .exit)) (thenCheck setup x iso (bindOut (toggles.meaning d (endpoint (x .st)) n (view (now (s .entry))) (now (buf .entry))) (λ b u. run conc (afterToggled d x b) u))) ⌝ }
+    ensures { λ r. ⌜ Stops r (now (s .exit)) (now (buf .exit)) (thenCheck setup x iso (bindOut (toggles.meaning d (endpoint (x .st)) n (view (now (s .entry))) (now (buf .entry))) (λ b u. run concrete (afterToggled d x b) u))) ⌝ }
     ensures { λ r. ⌜ Stored r (now (s .exit)) ⌝ }
 {
     match n {
@@ -191,7 +191,7 @@ fn toggled_arm(
     x: Transfer,
     iso: bool,
 ) -> Step
-    ensures { λ r. ⌜ Stops r (now (s .exit)) (now (buf .exit)) (thenCheck setup x iso (bindOut (run conc (script.toggled {i = true} d (endpoint (x .st))) (view (now (s .entry)), now (buf .entry))) (λ b u. run conc (afterToggled d x b) u))) ⌝ }
+    ensures { λ r. ⌜ Stops r (now (s .exit)) (now (buf .exit)) (thenCheck setup x iso (bindOut (run concrete (script.toggled {i = true} d (endpoint (x .st))) (view (now (s .entry)), now (buf .entry))) (λ b u. run concrete (afterToggled d x b) u))) ⌝ }
     ensures { λ r. ⌜ Stored r (now (s .exit)) ⌝ }
 {
     let n = toggled::begin(d, status::endpoint(x.st));
@@ -200,7 +200,7 @@ fn toggled_arm(
 
 // The arms of OUT (mod.rs 755-771).
 fn out_arm(s: &mut [u8; STATE_LEN], buf: &mut [u8], setup: bool, x: Transfer, iso: bool) -> Step
-    ensures { λ r. ⌜ Stops r (now (s .exit)) (now (buf .exit)) (thenCheck setup x iso (run conc (script.outArm {i = true} x iso) (view (now (s .entry)), now (buf .entry)))) ⌝ }
+    ensures { λ r. ⌜ Stops r (now (s .exit)) (now (buf .exit)) (thenCheck setup x iso (run concrete (script.outArm {i = true} x iso) (view (now (s .entry)), now (buf .entry)))) ⌝ }
     ensures { λ r. ⌜ Stored r (now (s .exit)) ⌝ }
 {
     if iso {
@@ -257,7 +257,7 @@ fn iso_in_arm(
     iso: bool,
     frame: u16,
 ) -> Step
-    ensures { λ r. ⌜ Stops r (now (s .exit)) (now (buf .exit)) (thenCheck setup x iso (run conc (script.isoInArm {i = true} (endpoint (x .st)) frame) (view (now (s .entry)), now (buf .entry)))) ⌝ }
+    ensures { λ r. ⌜ Stops r (now (s .exit)) (now (buf .exit)) (thenCheck setup x iso (run concrete (script.isoInArm {i = true} (endpoint (x .st)) frame) (view (now (s .entry)), now (buf .entry)))) ⌝ }
     ensures { λ r. ⌜ Stored r (now (s .exit)) ⌝ }
 {
     let ep = status::endpoint(x.st);
@@ -281,7 +281,7 @@ fn in_arm(
     iso: bool,
     frame: u16,
 ) -> Step
-    ensures { λ r. ⌜ Stops r (now (s .exit)) (now (buf .exit)) (thenCheck setup x iso (run conc (script.inArm {i = true} x iso frame) (view (now (s .entry)), now (buf .entry)))) ⌝ }
+    ensures { λ r. ⌜ Stops r (now (s .exit)) (now (buf .exit)) (thenCheck setup x iso (run concrete (script.inArm {i = true} x iso frame) (view (now (s .entry)), now (buf .entry)))) ⌝ }
     ensures { λ r. ⌜ Stored r (now (s .exit)) ⌝ }
 {
     if iso {
@@ -339,7 +339,7 @@ fn sof_arm(
     iso: bool,
     frame: u16,
 ) -> Step
-    ensures { λ r. ⌜ Stops r (now (s .exit)) (now (buf .exit)) (thenCheck setup x iso (run conc (script.sofArm {i = true} frame) (view (now (s .entry)), now (buf .entry)))) ⌝ }
+    ensures { λ r. ⌜ Stops r (now (s .exit)) (now (buf .exit)) (thenCheck setup x iso (run concrete (script.sofArm {i = true} frame) (view (now (s .entry)), now (buf .entry)))) ⌝ }
     ensures { λ r. ⌜ Stored r (now (s .exit)) ⌝ }
 {
     let g = load_globals(s);
@@ -358,7 +358,7 @@ pub fn dispatch(
     iso: bool,
     frame: u16,
 ) -> Step
-    ensures { λ r. ⌜ Stops r (now (s .exit)) (now (buf .exit)) (thenCheck setup x iso (run conc (script.dispatch {i = true} (token (x .st)) x iso frame) (view (now (s .entry)), now (buf .entry)))) ⌝ }
+    ensures { λ r. ⌜ Stops r (now (s .exit)) (now (buf .exit)) (thenCheck setup x iso (run concrete (script.dispatch {i = true} (token (x .st)) x iso frame) (view (now (s .entry)), now (buf .entry)))) ⌝ }
     ensures { λ r. ⌜ Stored r (now (s .exit)) ⌝ }
 {
     let t = status::token(x.st);

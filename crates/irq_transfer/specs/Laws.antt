@@ -17,7 +17,7 @@ use Rattle.model.specs.Script.{run}
 use Rattle.model.specs.Machine.{awaited}
 use Rattle.model.specs.Handler.{nakNonIso, retaken}
 use Rattle.model_ops.specs.Rings.{St}
-use Rattle.model_ops.specs.Conc.{conc}
+use Rattle.model_ops.specs.Concrete.{concrete}
 use Rattle.irq_transfer.specs.declared.nak.Nak.{Nak}
 use Rattle.irq_transfer.specs.declared.nak.NakNext.{NakNext}
 use Rattle.irq_transfer.specs.declared.nak.NakNext.the-variants as nak-next
@@ -46,20 +46,20 @@ nak-linked n q p h k = subst nak.Linked h k
 
 -- ---- int_st is read again: what follows `nak_non_iso`
 
-module _ (x : Transfer) (st v : ℕ) (n : NakNext) (d : Driver) (b : List ℕ) (h : st ≡ v) (k : nak.meaning st n d b ≡ run conc (nakNonIso {i = true} st) (d, b)) where
+module _ (x : Transfer) (st v : ℕ) (n : NakNext) (d : Driver) (b : List ℕ) (h : st ≡ v) (k : nak.meaning st n d b ≡ run concrete (nakNonIso {i = true} st) (d, b)) where
   abbrev taken : Unit {0} → tree.Prog St Transfer
   taken _ u = ends (retaken x st) u
 
-  read-as : run conc (settle.afterSt x st) (d, b) ≡ run conc (settle.afterSt x v) (d, b)
-  read-as = ap (λ (w : ℕ). run conc (settle.afterSt x w) (d, b)) h
+  read-as : run concrete (settle.afterSt x st) (d, b) ≡ run concrete (settle.afterSt x v) (d, b)
+  read-as = ap (λ (w : ℕ). run concrete (settle.afterSt x w) (d, b)) h
 
-  pub st-asks : (q : Access) (p : Nak) → n ≡ nak-next.Asks q p → asks q (d, b) (λ w t. bindOut (nak.denote st p w t) taken) ≡ run conc (settle.afterSt x v) (d, b)
+  pub st-asks : (q : Access) (p : Nak) → n ≡ nak-next.Asks q p → asks q (d, b) (λ w t. bindOut (nak.denote st p w t) taken) ≡ run concrete (settle.afterSt x v) (d, b)
   unfolding settle.afterSt
-  st-asks q p l = nak-asks taken st n q p d b (run conc (nakNonIso {i = true} st) (d, b)) l k ∙ read-as
+  st-asks q p l = nak-asks taken st n q p d b (run concrete (nakNonIso {i = true} st) (d, b)) l k ∙ read-as
 
-  pub st-ends : (y : Transfer) → y ≡ retaken x st → n ≡ nak-next.Ends → ends y (d, b) ≡ run conc (settle.afterSt x v) (d, b)
+  pub st-ends : (y : Transfer) → y ≡ retaken x st → n ≡ nak-next.Ends → ends y (d, b) ≡ run concrete (settle.afterSt x v) (d, b)
   unfolding settle.afterSt
-  st-ends y j l = ap (λ (z : Transfer). ends z (d, b)) j ∙ (nak-ends taken st n d b (run conc (nakNonIso {i = true} st) (d, b)) l k ∙ read-as)
+  st-ends y j l = ap (λ (z : Transfer). ends z (d, b)) j ∙ (nak-ends taken st n d b (run concrete (nakNonIso {i = true} st) (d, b)) l k ∙ read-as)
 
 -- ---- readings
 

@@ -13,14 +13,14 @@ use Rattle.model.specs.Tree.{asks, ends}
 use Rattle.model.specs.Script.{run, write}
 use Rattle.model.specs.Machine.{Awaits, nothing, reading, awaited}
 use Rattle.model_ops.specs.Rings.{St}
-use Rattle.model_ops.specs.Conc.{conc}
+use Rattle.model_ops.specs.Concrete.{concrete}
 use Rattle.irq_transfer.specs.declared.nak.Nak.{Nak}
 use Rattle.irq_transfer.specs.declared.nak.Nak.the-variants as nak-point
 use Rattle.irq_transfer.specs.declared.nak.NakNext.{NakNext}
 use Rattle.irq_transfer.specs.declared.nak.NakNext.the-variants as nak-next
 
 abbrev pub denote : ℕ → Nak → ℕ → tree.Prog St Unit
-denote st (nak-point.Word d) v t = run conc (write {i = true} (ctrlOf d) (endpoint st) (nak v)) t
+denote st (nak-point.Word d) v t = run concrete (write {i = true} (ctrlOf d) (endpoint st) (nak v)) t
 denote st nak-point.Wrote v t = ends tt t
 
 abbrev pub meaning : ℕ → NakNext → Driver → List ℕ → tree.Out St Unit

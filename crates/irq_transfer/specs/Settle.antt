@@ -15,7 +15,7 @@ use Rattle.model.specs.Script.{Script, run, ret, test, _>>=_, _>>_, read}
 use Rattle.model.specs.Machine.{Awaits, nothing, reading, awaited}
 use Rattle.model.specs.Handler.{nakNonIso, lateTaken, waited, retaken}
 use Rattle.model_ops.specs.Rings.{St}
-use Rattle.model_ops.specs.Conc.{conc}
+use Rattle.model_ops.specs.Concrete.{concrete}
 use Rattle.irq_transfer.specs.declared.settle.Settle.{Settle}
 use Rattle.irq_transfer.specs.declared.settle.Settle.the-variants as point
 use Rattle.irq_transfer.specs.declared.settle.SettleNext.{SettleNext}
@@ -58,16 +58,16 @@ afterMis x m = test (sieFree m)
     (ret x)
 
 abbrev pub denote : Transfer → Settle → ℕ → tree.Prog St Transfer
-denote x (point.IsoLook n) v t = bindOut (looked v n t) (λ _ u. run conc (afterIsoWait x) u)
-denote x point.IsoSt v t = run conc (do
+denote x (point.IsoLook n) v t = bindOut (looked v n t) (λ _ u. run concrete (afterIsoWait x) u)
+denote x point.IsoSt v t = run concrete (do
   len ← read {i = true} RxLen 0
   ret (lateTaken x v len)) t
 denote x (point.IsoLen now) v t = ends (lateTaken x now v) t
-denote x (point.BulkLook n) v t = bindOut (looked v n t) (λ _ u. run conc (afterBulkWait x) u)
+denote x (point.BulkLook n) v t = bindOut (looked v n t) (λ _ u. run concrete (afterBulkWait x) u)
 denote x point.BulkLen v t = ends (waited x v) t
-denote x point.Mis v t = run conc (afterMis x v) t
-denote x point.Flags v t = run conc (afterFlags x v) t
-denote x point.St v t = run conc (afterSt x v) t
+denote x point.Mis v t = run concrete (afterMis x v) t
+denote x point.Flags v t = run concrete (afterFlags x v) t
+denote x point.St v t = run concrete (afterSt x v) t
 denote x (point.Nak st p) v t = bindOut (nak.denote st p v t) (λ _ u. ends (retaken x st) u)
 
 abbrev pub meaning : Transfer → SettleNext → Driver → List ℕ → tree.Out St Transfer

@@ -16,7 +16,7 @@ use Rattle.model.specs.Statics.{isOn, flag, withArmed, withTog, modifyEp, modif
 use Rattle.model.specs.Machine.{Awaits, nothing, reading, awaited}
 use Rattle.model.specs.Handler.{repeated}
 use Rattle.model_ops.specs.Rings.{St}
-use Rattle.model_ops.specs.Conc.{conc}
+use Rattle.model_ops.specs.Concrete.{concrete}
 use Rattle.irq_transfer.specs.declared.toggled.Toggled.{Toggled}
 use Rattle.irq_transfer.specs.declared.toggled.Toggled.the-variants as point
 use Rattle.irq_transfer.specs.declared.toggled.ToggledNext.{ToggledNext}
@@ -40,9 +40,9 @@ afterWait dir ep = do
   afterWord dir ep word
 
 abbrev pub denote : Dir → ℕ → Toggled → ℕ → tree.Prog St Bool
-denote dir ep (point.Look n) v t = bindOut (looked v n t) (λ _ u. run conc (afterWait dir ep) u)
-denote dir ep point.Word v t = run conc (afterWord dir ep v) t
-denote dir ep point.AckRead v t = run conc (do
+denote dir ep (point.Look n) v t = bindOut (looked v n t) (λ _ u. run concrete (afterWait dir ep) u)
+denote dir ep point.Word v t = run concrete (afterWord dir ep v) t
+denote dir ep point.AckRead v t = run concrete (do
   write {i = true} (ctrlOf dir) ep (ack v)
   ret false) t
 denote dir ep point.Acked v t = ends false t

@@ -14,21 +14,21 @@ use Rattle.model.specs.Tree.{asks, ends, bindOut}
 use Rattle.model.specs.Script.{Script, run, done, test}
 use Rattle.model.specs.Handler.{looks, sieWait}
 use Rattle.model_ops.specs.Rings.{St}
-use Rattle.model_ops.specs.Conc.{conc}
+use Rattle.model_ops.specs.Concrete.{concrete}
 
 -- a look brought v; n more may follow
 unfoldable pub looked : ℕ → ℕ → tree.Prog St Unit
-looked v n t = run conc (test {i = true} (sieFree v) done (looks n)) t
+looked v n t = run concrete (test {i = true} (sieFree v) done (looks n)) t
 
 -- the wait ends with this look
 unfoldable pub over : ℕ → ℕ → Bool
 over v n = sieFree v || eqb n 0
 
-none-left : (t : St) → run conc (looks {i = true} 0) t ≡ ends tt t
+none-left : (t : St) → run concrete (looks {i = true} 0) t ≡ ends tt t
 unfolding looks
 none-left t = refl
 
-one-look : (n : ℕ) (t : St) → run conc (looks {i = true} (suc n)) t ≡ asks (Read MisSt 0) t (λ v u. looked v n u)
+one-look : (n : ℕ) (t : St) → run concrete (looks {i = true} (suc n)) t ≡ asks (Read MisSt 0) t (λ v u. looked v n u)
 unfolding looks looked
 one-look n t = refl
 
@@ -39,12 +39,12 @@ none : (n : ℕ) → suc n ≢ 0
 none n h = omega (arith, h)
 
 -- free, or no look is left
-ended : (a : Bool) (n : ℕ) → (a || eqb n 0) ≡ true → (t : St) → run conc (test {i = true} a done (looks n)) t ≡ ends tt t
+ended : (a : Bool) (n : ℕ) → (a || eqb n 0) ≡ true → (t : St) → run concrete (test {i = true} a done (looks n)) t ≡ ends tt t
 ended true n h t = refl
 ended false zero h t = none-left t
 ended false (suc n) h t = absurd (none n (eqb-true (suc n) 0 h))
 
-again : (a : Bool) (n : ℕ) → (a || eqb n 0) ≡ false → (t : St) → run conc (test {i = true} a done (looks n)) t ≡ asks (Read MisSt 0) t (λ v u. looked v (n - 1) u)
+again : (a : Bool) (n : ℕ) → (a || eqb n 0) ≡ false → (t : St) → run concrete (test {i = true} a done (looks n)) t ≡ asks (Read MisSt 0) t (λ v u. looked v (n - 1) u)
 again true n h t = absurd (true≢false h)
 again false zero h t = absurd (true≢false h)
 again false (suc n) h t = one-look n t ∙ ap (λ (k : ℕ). asks (Read MisSt 0) t (λ v u. looked v k u)) (less n)
@@ -54,7 +54,7 @@ some true n h = absurd (true≢false h)
 some false zero h = absurd (true≢false h)
 some false (suc n) h = omega arith
 
-pub wait-begun : {A : Type 0} (f : Unit {0} → tree.Prog St A) (t : St) → bindOut (run conc (sieWait {i = true}) t) f ≡ asks (Read MisSt 0) t (λ v u. bindOut (looked v 2000 u) f)
+pub wait-begun : {A : Type 0} (f : Unit {0} → tree.Prog St A) (t : St) → bindOut (run concrete (sieWait {i = true}) t) f ≡ asks (Read MisSt 0) t (λ v u. bindOut (looked v 2000 u) f)
 wait-begun f t = ap (λ (o : tree.Out St Unit). bindOut o f) (one-look 2000 t)
 
 pub wait-over : (v n : ℕ) → over v n ≡ true → {A : Type 0} (f : Unit {0} → tree.Prog St A) (t : St) → bindOut (looked v n t) f ≡ f tt t

@@ -17,7 +17,7 @@ ghost use Prim.Native.Nat.{ℕ};
 ghost use Rattle.state.specs.Driver.{Driver};
 ghost use Rattle.state.specs.State.{view};
 ghost use Rattle.model.specs.Handler.{outNaks, inNaks, nakNonIso};
-ghost use Rattle.model_ops.specs.Conc.{go};
+ghost use Rattle.model_ops.specs.Concrete.{go};
 ghost use Rattle.model_ops.specs.Records.{plainOf};
 ghost use Rattle.irq_transfer.specs.Nak.{denote, meaning, Linked, fitsAt};
 

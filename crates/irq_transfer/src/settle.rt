@@ -25,7 +25,7 @@ ghost use Rattle.regs.specs.Registers.{fitsIn};
 ghost use Rattle.state.specs.Driver.{Driver};
 ghost use Rattle.state.specs.State.{view};
 ghost use Rattle.model.specs.Handler as script;
-ghost use Rattle.model_ops.specs.Conc.{go};
+ghost use Rattle.model_ops.specs.Concrete.{go};
 ghost use Rattle.model_ops.specs.Records.{plainOf};
 ghost use Rattle.irq_transfer.specs.Settle.{afterSt, afterFlags, afterMis, denote, meaning, Linked, fitsAt};
 

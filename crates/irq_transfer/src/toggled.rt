@@ -22,7 +22,7 @@ ghost use Rattle.state.specs.Driver.{Driver};
 ghost use Rattle.state.specs.State.{view, saved};
 ghost use Rattle.model.specs.Handler as script;
 ghost use Rattle.model.specs.Statics.{flag};
-ghost use Rattle.model_ops.specs.Conc.{go};
+ghost use Rattle.model_ops.specs.Concrete.{go};
 ghost use Rattle.model_ops.specs.Records.{plainOf};
 ghost use Rattle.irq_transfer.specs.Toggled.{afterWait, afterWord, denote, meaning, Linked, fitsAt};
 

@@ -15,7 +15,7 @@ use Rattle.model.specs.Script.{Script, run, ret, _>>=_, _>>_, put}
 use Rattle.model.specs.Machine.{Awaits, nothing, reading, awaited}
 use Rattle.model.specs.IsoIn.{isoInCompletions, isoInAdvance}
 use Rattle.model_ops.specs.Rings.{St}
-use Rattle.model_ops.specs.Conc.{conc}
+use Rattle.model_ops.specs.Concrete.{concrete}
 use Rattle.iso_in.specs.Complete as complete
 use Rattle.iso_in.specs.declared.advance.Advance.{Advance}
 use Rattle.iso_in.specs.declared.advance.Advance.the-variants as point
@@ -30,15 +30,15 @@ advance e = do
 
 -- the completions, then their microframe is kept
 abbrev pub thenKept : ℕ → ℕ → tree.Out St Unit → tree.Out St ℕ
-thenKept e frame o = bindOut (bindOut o (λ _ u. run conc (put {i = false} (paced-cell e) frame) u)) (λ _ u. ends 0 u)
+thenKept e frame o = bindOut (bindOut o (λ _ u. run concrete (put {i = false} (paced-cell e) frame) u)) (λ _ u. ends 0 u)
 
 -- n completions are left
 unfoldable pub completing : ℕ → ℕ → ℕ → tree.Prog St ℕ
-completing e n frame t = thenKept e frame (run conc (isoInCompletions {i = false} n e) t)
+completing e n frame t = thenKept e frame (run concrete (isoInCompletions {i = false} n e) t)
 
 -- one's outcome, then n
 abbrev pub thenMore : ℕ → ℕ → ℕ → tree.Out St Unit → tree.Out St ℕ
-thenMore e n frame o = thenKept e frame (bindOut o (λ _ u. run conc (isoInCompletions {i = false} n e) u))
+thenMore e n frame o = thenKept e frame (bindOut o (λ _ u. run concrete (isoInCompletions {i = false} n e) u))
 
 abbrev pub afterFrameNo : ℕ → ℕ → tree.Prog St ℕ
 afterFrameNo e v t = completing e (completions (pacedOn (t .0) e) (indexOf v)) (frameOf (indexOf v)) t

@@ -12,7 +12,7 @@ use Rattle.model.specs.Script.{Script, run, _>>=_, _>>_, write, look, next-len}
 use Rattle.model.specs.Statics.{wake}
 use Rattle.model.specs.Machine.{Awaits, nothing, awaited}
 use Rattle.model_ops.specs.Rings.{St}
-use Rattle.model_ops.specs.Conc.{conc}
+use Rattle.model_ops.specs.Concrete.{concrete}
 use Rattle.iso_in.specs.declared.complete.Complete.{Complete}
 use Rattle.iso_in.specs.declared.complete.Complete.the-variants as point
 use Rattle.iso_in.specs.declared.complete.CompleteNext.{CompleteNext}
@@ -27,8 +27,8 @@ afterSent e = do
   wake In e
 
 abbrev pub denote : Complete → tree.Prog St Unit
-denote (point.Sent e) t = run conc (afterSent e) t
-denote (point.Loaded e) t = run conc (wake {i = true} In e) t
+denote (point.Sent e) t = run concrete (afterSent e) t
+denote (point.Loaded e) t = run concrete (wake {i = true} In e) t
 
 abbrev pub begun : Begun → Driver → List ℕ → tree.Out St Unit
 begun x d b = asks (x .access) (d, b) (λ _ t. denote (x .point) t)

@@ -13,7 +13,7 @@ use Rattle.model.specs.Statics.{isoInEvery}
 use Rattle.model.specs.Machine.{Awaits, nothing, awaited}
 use Rattle.model.specs.IsoIn.{isoInComplete, lateWalk}
 use Rattle.model_ops.specs.Rings.{St}
-use Rattle.model_ops.specs.Conc.{conc}
+use Rattle.model_ops.specs.Concrete.{concrete}
 use Rattle.iso_in.specs.Complete as complete
 use Rattle.iso_in.specs.declared.late.Late.{Late}
 use Rattle.iso_in.specs.declared.late.LateNext.{LateNext}
@@ -29,7 +29,7 @@ lateAll frame = do
 
 -- the endpoints of a mask are left
 unfoldable pub walking : ℕ → ℕ → tree.Prog St Unit
-walking frame m t = run conc (lateWalk {i = true} frame (setBits m)) t
+walking frame m t = run concrete (lateWalk {i = true} frame (setBits m)) t
 
 -- one endpoint's outcome, then those of a mask
 abbrev pub thenWalk : ℕ → ℕ → tree.Out St Unit → tree.Out St Unit
@@ -37,7 +37,7 @@ thenWalk frame m o = bindOut o (λ _ u. walking frame m u)
 
 -- the first endpoint that has not completed in the microframe
 abbrev pub looked : ℕ → Found → tree.Prog St Unit
-looked frame (found.At e m) t = thenWalk frame m (run conc (isoInComplete {i = true} e) t)
+looked frame (found.At e m) t = thenWalk frame m (run concrete (isoInComplete {i = true} e) t)
 looked frame found.Nothing t = ends tt t
 
 abbrev pub denote : ℕ → Late → tree.Prog St Unit

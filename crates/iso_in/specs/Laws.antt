@@ -28,7 +28,7 @@ use Rattle.model.specs.Machine.{nothing, awaited}
 use Rattle.model.specs.Statics.{withSofFrame, isoInEvery}
 use Rattle.model.specs.IsoIn.{isoInComplete, unseen, onSof, sofWalk, lateWalk, isoInCompletions}
 use Rattle.model_ops.specs.Rings.{St}
-use Rattle.model_ops.specs.Conc.{conc, go}
+use Rattle.model_ops.specs.Concrete.{concrete, go}
 use Rattle.iso_in.specs.declared.complete.Complete.{Complete}
 use Rattle.iso_in.specs.declared.complete.CompleteNext.{CompleteNext}
 use Rattle.iso_in.specs.declared.complete.CompleteNext.the-variants as next
@@ -100,7 +100,7 @@ next-ended n d b o h k = ap (λ (x : CompleteNext). complete.meaning x d b) (sym
 -- ---- the SOF's walk
 
 abbrev sofOver : ℕ → List ℕ → tree.Prog St Unit
-sofOver frame l t = bindOut (run conc (sofWalk {i = true} frame l) t) (λ _ u. sof.called u)
+sofOver frame l t = bindOut (run concrete (sofWalk {i = true} frame l) t) (λ _ u. sof.called u)
 
 sof-over : (frame m : ℕ) (l : List ℕ) (t : St) → setBits m ≡ l → sof.walking frame m t ≡ sofOver frame l t
 unfolding sof.walking
@@ -118,7 +118,7 @@ abbrev pub sofAt : ℕ → ℕ → ℕ → Bool → tree.Prog St Unit
 sofAt frame e m passed t = cond passed (sof.walking frame m t) (sof.looked frame (found.At e m) t)
 
 abbrev sofWith : ℕ → ℕ → ℕ → Bool → tree.Prog St Unit
-sofWith frame e m passed t = sof.thenWalk frame m (cond passed (ends tt t) (asks (Read MisSt 0) t (λ v u. run conc (sof.afterMis frame e v) u)))
+sofWith frame e m passed t = sof.thenWalk frame m (cond passed (ends tt t) (asks (Read MisSt 0) t (λ v u. run concrete (sof.afterMis frame e v) u)))
 
 sof-told : (frame e m : ℕ) (t : St) (passed : Bool) → sofWith frame e m passed t ≡ sofAt frame e m passed t
 unfolding sof.walking
@@ -192,7 +192,7 @@ sof-next frame m n d b o h k = sof-on frame m (d, b) ∙ ap (sof.thenWalk frame 
 -- ---- a late entry's walk
 
 abbrev lateOver : ℕ → List ℕ → tree.Prog St Unit
-lateOver frame l t = run conc (lateWalk {i = true} frame l) t
+lateOver frame l t = run concrete (lateWalk {i = true} frame l) t
 
 late-over : (frame m : ℕ) (l : List ℕ) (t : St) → setBits m ≡ l → late.walking frame m t ≡ lateOver frame l t
 unfolding late.walking
@@ -210,7 +210,7 @@ abbrev pub lateAt : ℕ → ℕ → ℕ → Bool → tree.Prog St Unit
 lateAt frame e m first t = cond first (late.looked frame (found.At e m) t) (late.walking frame m t)
 
 abbrev lateWith : ℕ → ℕ → ℕ → Bool → tree.Prog St Unit
-lateWith frame e m first t = bindOut (cond first (run conc (isoInComplete {i = true} e) t) (ends tt t)) (λ _ u. lateOver frame (setBits m) u)
+lateWith frame e m first t = bindOut (cond first (run concrete (isoInComplete {i = true} e) t) (ends tt t)) (λ _ u. lateOver frame (setBits m) u)
 
 late-told : (frame e m : ℕ) (t : St) (first : Bool) → lateWith frame e m first t ≡ lateAt frame e m first t
 unfolding late.walking
@@ -265,16 +265,16 @@ none e frame d b = refl
 pub paced-none : (e n frame : ℕ) (d : Driver) (b : List ℕ) → n ≡ 0 → advance.completing e n frame (d, b) ≡ ends 0 (withPacedOn d e frame, b)
 paced-none e n frame d b h = ap (λ (x : ℕ). advance.completing e x frame (d, b)) h ∙ none e frame d b
 
-more : (e n frame : ℕ) (t : St) → advance.completing e (suc n) frame t ≡ advance.thenMore e n frame (run conc (isoInComplete {i = true} e) t)
+more : (e n frame : ℕ) (t : St) → advance.completing e (suc n) frame t ≡ advance.thenMore e n frame (run concrete (isoInComplete {i = true} e) t)
 unfolding advance.completing isoInCompletions
 more e n frame t = refl
 
 less : (n : ℕ) → suc n - 1 ≡ n
 less n = omega arith
 
-some : (e n frame : ℕ) (t : St) → n ≢ 0 → advance.completing e n frame t ≡ advance.thenMore e (n - 1) frame (run conc (isoInComplete {i = true} e) t)
+some : (e n frame : ℕ) (t : St) → n ≢ 0 → advance.completing e n frame t ≡ advance.thenMore e (n - 1) frame (run concrete (isoInComplete {i = true} e) t)
 some e zero frame t h = absurd (h refl)
-some e (suc n) frame t h = more e n frame t ∙ ap (λ (k : ℕ). advance.thenMore e k frame (run conc (isoInComplete {i = true} e) t)) (sym (less n))
+some e (suc n) frame t h = more e n frame t ∙ ap (λ (k : ℕ). advance.thenMore e k frame (run concrete (isoInComplete {i = true} e) t)) (sym (less n))
 
 pub paced-begun : (e n frame : ℕ) (q : Access) (p : Complete) (d y : Driver) (b : List ℕ)
     → n ≢ 0
@@ -300,7 +300,7 @@ paced-next e m frame n d b o h k = paced-on e m frame (d, b) ∙ ap (advance.the
 
 -- `iso_in_advance`, by the endpoint: paced and enabled, paced, neither
 abbrev counted : ℕ → Driver → List ℕ → tree.Out St Unit
-counted e d b = asks (Read FrameNo 0) (d, b) (λ v t. bindOut (run conc (isoInCompletions {i = false} (completions (pacedOn (t .0) e) (indexOf v)) e) t) (λ _ u. ends tt (withPacedOn (u .0) e (frameOf (indexOf v)), u .1)))
+counted e d b = asks (Read FrameNo 0) (d, b) (λ v t. bindOut (run concrete (isoInCompletions {i = false} (completions (pacedOn (t .0) e) (indexOf v)) e) t) (λ _ u. ends tt (withPacedOn (u .0) e (frameOf (indexOf v)), u .1)))
 
 abbrev forgotten : ℕ → Driver → List ℕ → tree.Out St Unit
 forgotten e d b = ends tt (withPacedOn d e NO_FRAME, b)

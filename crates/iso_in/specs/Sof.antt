@@ -17,7 +17,7 @@ use Rattle.model.specs.Statics.{isOn}
 use Rattle.model.specs.Machine.{Awaits, nothing, reading, awaited}
 use Rattle.model.specs.IsoIn.{leaving, unseen, sofWalk}
 use Rattle.model_ops.specs.Rings.{St}
-use Rattle.model_ops.specs.Conc.{conc}
+use Rattle.model_ops.specs.Concrete.{concrete}
 use Rattle.iso_in.specs.Complete as complete
 use Rattle.iso_in.specs.declared.sof.Sof.{Sof}
 use Rattle.iso_in.specs.declared.sof.Sof.the-variants as point
@@ -28,15 +28,15 @@ use Rattle.iso_in.specs.declared.Found.the-variants as found
 
 -- after the walk
 abbrev pub called : tree.Prog St Unit
-called t = run conc (get {i = true} globals-cell >>= (λ g. when (isOn (g .callback)) callback)) t
+called t = run concrete (get {i = true} globals-cell >>= (λ g. when (isOn (g .callback)) callback)) t
 
 -- the endpoints of a mask are left
 unfoldable pub walking : ℕ → ℕ → tree.Prog St Unit
-walking frame m t = bindOut (run conc (sofWalk {i = true} frame (setBits m)) t) (λ _ u. called u)
+walking frame m t = bindOut (run concrete (sofWalk {i = true} frame (setBits m)) t) (λ _ u. called u)
 
 -- one endpoint's outcome, then those of a mask
 abbrev pub thenWalk : ℕ → ℕ → tree.Out St Unit → tree.Out St Unit
-thenWalk frame m o = bindOut (bindOut o (λ _ u. run conc (sofWalk {i = true} frame (setBits m)) u)) (λ _ u. called u)
+thenWalk frame m o = bindOut (bindOut o (λ _ u. run concrete (sofWalk {i = true} frame (setBits m)) u)) (λ _ u. called u)
 
 abbrev pub afterSt : ℕ → ℕ → ℕ → Script true Unit
 afterSt frame e st = test (leaving st e) done (unseen frame e)
@@ -48,12 +48,12 @@ afterMis frame e m = test (sieFree m) (unseen frame e) (do
 
 -- the first endpoint that is not passed over
 abbrev pub looked : ℕ → Found → tree.Prog St Unit
-looked frame (found.At e m) t = thenWalk frame m (asks (Read MisSt 0) t (λ v u. run conc (afterMis frame e v) u))
+looked frame (found.At e m) t = thenWalk frame m (asks (Read MisSt 0) t (λ v u. run concrete (afterMis frame e v) u))
 looked frame found.Nothing t = called t
 
 abbrev pub denote : ℕ → Sof → ℕ → tree.Prog St Unit
-denote frame (point.Mis e m) v t = thenWalk frame m (run conc (afterMis frame e v) t)
-denote frame (point.St e m) v t = thenWalk frame m (run conc (afterSt frame e v) t)
+denote frame (point.Mis e m) v t = thenWalk frame m (run concrete (afterMis frame e v) t)
+denote frame (point.St e m) v t = thenWalk frame m (run concrete (afterSt frame e v) t)
 denote frame (point.Completing m p) v t = thenWalk frame m (complete.denote p t)
 denote frame point.Callback v t = ends tt t
 

@@ -25,7 +25,7 @@ ghost use Prim.Native.Nat.{ℕ};
 ghost use Rattle.bits.specs.Bit.{isSet};
 ghost use Rattle.regs.specs.Registers.{fitsIn};
 ghost use Rattle.state.specs.State.{view, saved};
-ghost use Rattle.model_ops.specs.Conc.{go};
+ghost use Rattle.model_ops.specs.Concrete.{go};
 ghost use Rattle.iso_in.specs.Advance.{advance, completing, denote, meaning, Linked, fitsAt};
 
 pub enum Advance {

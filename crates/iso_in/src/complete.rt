@@ -13,7 +13,7 @@ ghost use mathlib.Core.List.{List};
 ghost use Prim.Native.Nat.{ℕ};
 ghost use Rattle.state.specs.State.{view, saved};
 ghost use Rattle.model.specs.IsoIn.{isoInComplete};
-ghost use Rattle.model_ops.specs.Conc.{go};
+ghost use Rattle.model_ops.specs.Concrete.{go};
 ghost use Rattle.iso_in.specs.Complete.{denote, begun, meaning, Linked, Bound};
 
 // What was handed out last, of which endpoint. Nothing is awaited at either.

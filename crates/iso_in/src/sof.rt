@@ -34,7 +34,7 @@ ghost use Rattle.frame.specs.Usb20.{indexOf, frameOf};
 ghost use Rattle.frame.specs.Advance as frames;
 ghost use Rattle.state.specs.State.{view, saved};
 ghost use Rattle.model.specs.IsoIn as script;
-ghost use Rattle.model_ops.specs.Conc.{go};
+ghost use Rattle.model_ops.specs.Concrete.{go};
 ghost use Rattle.iso_in.specs.Sof.{walking, thenWalk, looked, denote, meaning, Linked, fitsAt};
 
 // Where it stands, with the endpoints that are left.

@@ -13,7 +13,7 @@ use Rattle.model.specs.Tree.{ends}
 use Rattle.model.specs.Statics.{isOn}
 use Rattle.model.specs.Answers.{Answer, Refused, ok}
 use Rattle.model_ops.specs.Rings.{St, roomOn, enqueueOn}
-use Rattle.model_ops.specs.Conc.{go}
+use Rattle.model_ops.specs.Concrete.{go}
 use Rattle.iso_out_open_close.specs.declared.Packet.the-variants as packet
 use Rattle.iso_out_open_close.specs.Packets.{answered}
 use Rattle.iso_in_queue.specs.Queue.{queueing}

@@ -16,7 +16,7 @@ ghost use mathlib.Core.Path.{_≡_};
 ghost use mathlib.Core.Bool.{false};
 ghost use Rattle.state.specs.State.{view, saved};
 ghost use Rattle.model.specs.Driver.{queuePacket};
-ghost use Rattle.model_ops.specs.Conc.{go};
+ghost use Rattle.model_ops.specs.Concrete.{go};
 ghost use Rattle.iso_out_open_close.specs.Packets.{answered};
 ghost use Rattle.iso_in_queue.specs.Queue.{queueing};
 

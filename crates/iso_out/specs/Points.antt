@@ -16,7 +16,7 @@ use Rattle.model.specs.Statics.{wake}
 use Rattle.model.specs.IsoOut.{arriving, entry, arrives, checkWalk}
 use Rattle.model.specs.Machine.{Awaits, nothing, reading, awaited}
 use Rattle.model_ops.specs.Rings.{St}
-use Rattle.model_ops.specs.Conc.{conc}
+use Rattle.model_ops.specs.Concrete.{concrete}
 use Rattle.iso_out.specs.declared.Check.{Check}
 use Rattle.iso_out.specs.declared.Check.the-variants as check
 use Rattle.iso_out.specs.declared.CheckNext.{CheckNext}
@@ -48,10 +48,10 @@ arrival x iso e len m = do
 
 -- the run from a point with the number brought
 abbrev pub denote : Transfer → Bool → Check → ℕ → tree.Prog St Unit
-denote x iso (check.St e m) v t = run conc (do
+denote x iso (check.St e m) v t = run concrete (do
   afterSt e v
   walk x iso m) t
-denote x iso (check.Armed e m) v t = run conc (do
+denote x iso (check.Armed e m) v t = run concrete (do
   wake Out e
   walk x iso m) t
 
@@ -61,7 +61,7 @@ meaning x iso next.Ends d b = ends tt (d, b)
 
 -- the run from the endpoint at which the walk without an access stops
 abbrev pub foundAs : Transfer → Bool → Found → tree.Prog St Unit
-foundAs x iso (found.At e m) t = run conc (do
+foundAs x iso (found.At e m) t = run concrete (do
   showing x iso e
   walk x iso m) t
 foundAs x iso found.Nothing t = ends tt t

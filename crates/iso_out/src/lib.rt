@@ -23,7 +23,7 @@ ghost use Rattle.regs.specs.Registers.{fitsIn};
 ghost use Rattle.state.specs.State.{view, saved};
 ghost use Rattle.model.specs.declared.Transfer.{Transfer};
 ghost use Rattle.model.specs.IsoOut.{arriving, entry, isoOutCheck};
-ghost use Rattle.model_ops.specs.Conc.{go};
+ghost use Rattle.model_ops.specs.Concrete.{go};
 ghost use Rattle.iso_out.specs.Points.{walk, arrival, denote, meaning, foundAs, Linked, fitsAt};
 
 // Where the check stands: the endpoint, and the mask of those behind it.

@@ -10,7 +10,7 @@ use Rattle.regs.specs.declared.Dir.the-variants.{Out}
 use Rattle.model.specs.Tree.{asks}
 use Rattle.model.specs.Script.{run}
 use Rattle.model_ops.specs.Rings.{St, slotStep, typeStep, configStep}
-use Rattle.model_ops.specs.Conc.{conc}
+use Rattle.model_ops.specs.Concrete.{concrete}
 use Rattle.bus.specs.Points.{woken, switching}
 
 none-left : (n : ℕ) → n ≤ 3 → n ≢ 3 → n ≢ 2 → n ≢ 1 → n ≡ 0
@@ -20,11 +20,11 @@ none-left (suc (suc zero)) h three two one = absurd (two refl)
 none-left (suc (suc (suc zero))) h three two one = absurd (three refl)
 none-left (suc (suc (suc (suc n)))) h three two one = absurd (omega arith)
 
-end : (e : ℕ) (on : Bool) (t : St) → switching e on 0 t ≡ run conc (woken Out e) t
+end : (e : ℕ) (on : Bool) (t : St) → switching e on 0 t ≡ run concrete (woken Out e) t
 unfolding switching
 end e on t = refl
 
-pub switch-end : (e : ℕ) (on : Bool) (n : ℕ) → n ≤ 3 → n ≢ 3 → n ≢ 2 → n ≢ 1 → (t : St) → switching e on n t ≡ run conc (woken Out e) t
+pub switch-end : (e : ℕ) (on : Bool) (n : ℕ) → n ≤ 3 → n ≢ 3 → n ≢ 2 → n ≢ 1 → (t : St) → switching e on n t ≡ run concrete (woken Out e) t
 switch-end e on n h three two one t = ap (λ (k : ℕ). switching e on k t) (none-left n h three two one) ∙ end e on t
 
 pub switch-config : (e : ℕ) (on : Bool) (t : St) → switching e on 1 t ≡ asks (Write EpConfig 0 (configStep e on (t .0) .0)) (configStep e on (t .0) .1, t .1) (λ _ u. switching e on 0 u)

@@ -19,7 +19,7 @@ ghost use mathlib.Core.List.{List};
 ghost use Prim.Native.Nat.{ℕ};
 ghost use Rattle.state.specs.State.{view, saved};
 ghost use Rattle.model.specs.Driver.{openPacket, closePacket};
-ghost use Rattle.model_ops.specs.Conc.{go};
+ghost use Rattle.model_ops.specs.Concrete.{go};
 ghost use Rattle.iso_out_open_close.specs.Packets.{answered, ShownAt, opening, closing};
 
 // The row that refuses the call; an open packet's offset into the slots, its length and its stamp; or nothing to tell.

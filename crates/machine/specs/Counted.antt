@@ -13,7 +13,7 @@ use Rattle.model.specs.Machine.{Ans, ended, handed, told}
 use Rattle.endpoint_common.specs.Answers.{front}
 use Rattle.endpoint_common.specs.Front.{front-length}
 use Rattle.machine.specs.declared.Step.the-variants as step
-use Rattle.machine.specs.Under.{answerOf}
+use Rattle.machine.specs.Suspended.{answerOf}
 
 -- no more than there is room for
 pub length-most : (n : ℕ) (cs : List ℕ) → length cs ≤ n → length (take n cs) ≡ length cs

@@ -9,7 +9,7 @@ use Rattle.model.specs.Machine.{Buf, Ans, Machine, awaited, over}
 use Rattle.model.specs.Answers.{Answer}
 use Rattle.model.specs.Script.{run, _>>=_}
 use Rattle.model.specs.Tree.{bindOut}
-use Rattle.model_ops.specs.Conc.{conc}
+use Rattle.model_ops.specs.Concrete.{concrete}
 use Rattle.state.specs.Driver.{Driver}
 use Rattle.driver.specs.declared.Point.{Point}
 use Rattle.driver.specs.declared.Point.the-variants as point
@@ -42,8 +42,8 @@ use Rattle.iso_in.specs.declared.advance.Advance.the-variants as point-of-advan
 use Rattle.iso_in.specs.declared.advance.AdvanceNext.{AdvanceNext}
 use Rattle.iso_in.specs.declared.advance.AdvanceNext.the-variants as next-of-advance
 use Rattle.iso_in.specs.Advance as advance
-use Rattle.machine.specs.declared.Under.the-variants as under
-use Rattle.machine.specs.Under.{finish, machineAt, goneOn, halts}
+use Rattle.machine.specs.declared.Suspended.the-variants as under
+use Rattle.machine.specs.Suspended.{finish, machineAt, resumed, halts}
 use Rattle.machine.specs.Goes.{Called, stayed, gone, stays}
 
 pub linked : (n : Next) (q : Access) (p : Point) → n ≡ next.Asks q p → driver.Linked n → awaited q ≡ driver.awaitsAt p
@@ -145,32 +145,32 @@ over-fits-advance (point-of-advance.Completing e n frame p) v = refl
 
 -- ---- a continue at each family's points
 
-pub gone-driver : (p : Point) (v : ℕ) (d : Driver) (b : Buf) → driver.fitsAt p v ≡ true → goneOn v (under.Driver p) d b ≡ halts (run conc (driver.denote p v >>= finish) (d, b))
-gone-driver p v d b h = gone false (driver.awaitsAt p) (λ x t. run conc (driver.denote p x >>= finish) t) v d b (over-fits p v ∙ ap not h)
+pub gone-driver : (p : Point) (v : ℕ) (d : Driver) (b : Buf) → driver.fitsAt p v ≡ true → resumed v (under.Driver p) d b ≡ halts (run concrete (driver.denote p v >>= finish) (d, b))
+gone-driver p v d b h = gone false (driver.awaitsAt p) (λ x t. run concrete (driver.denote p x >>= finish) t) v d b (over-fits p v ∙ ap not h)
 
-pub stay-driver : (p : Point) (v : ℕ) (d : Driver) (b : Buf) → driver.fitsAt p v ≡ false → goneOn v (under.Driver p) d b ≡ stayed (under.Driver p) d b
-stay-driver p v d b h = stays false (driver.awaitsAt p) (λ x t. run conc (driver.denote p x >>= finish) t) v d b (over-fits p v ∙ ap not h)
+pub stay-driver : (p : Point) (v : ℕ) (d : Driver) (b : Buf) → driver.fitsAt p v ≡ false → resumed v (under.Driver p) d b ≡ stayed (under.Driver p) d b
+stay-driver p v d b h = stays false (driver.awaitsAt p) (λ x t. run concrete (driver.denote p x >>= finish) t) v d b (over-fits p v ∙ ap not h)
 
-pub gone-bus : (p : busPoint.Point) (v : ℕ) (d : Driver) (b : Buf) → bus.fitsAt p v ≡ true → goneOn v (under.Bus p) d b ≡ halts (bindOut (bus.denote p v (d, b)) (λ n u. run conc (finish n) u))
-gone-bus p v d b h = gone false (bus.awaitsAt p) (λ x t. bindOut (bus.denote p x t) (λ n u. run conc (finish n) u)) v d b (over-fits-bus p v ∙ ap not h)
+pub gone-bus : (p : busPoint.Point) (v : ℕ) (d : Driver) (b : Buf) → bus.fitsAt p v ≡ true → resumed v (under.Bus p) d b ≡ halts (bindOut (bus.denote p v (d, b)) (λ n u. run concrete (finish n) u))
+gone-bus p v d b h = gone false (bus.awaitsAt p) (λ x t. bindOut (bus.denote p x t) (λ n u. run concrete (finish n) u)) v d b (over-fits-bus p v ∙ ap not h)
 
-pub stay-bus : (p : busPoint.Point) (v : ℕ) (d : Driver) (b : Buf) → bus.fitsAt p v ≡ false → goneOn v (under.Bus p) d b ≡ stayed (under.Bus p) d b
-stay-bus p v d b h = stays false (bus.awaitsAt p) (λ x t. bindOut (bus.denote p x t) (λ n u. run conc (finish n) u)) v d b (over-fits-bus p v ∙ ap not h)
+pub stay-bus : (p : busPoint.Point) (v : ℕ) (d : Driver) (b : Buf) → bus.fitsAt p v ≡ false → resumed v (under.Bus p) d b ≡ stayed (under.Bus p) d b
+stay-bus p v d b h = stays false (bus.awaitsAt p) (λ x t. bindOut (bus.denote p x t) (λ n u. run concrete (finish n) u)) v d b (over-fits-bus p v ∙ ap not h)
 
-pub gone-control : (p : controlPoint.Point) (v : ℕ) (d : Driver) (b : Buf) → control.fitsAt p v ≡ true → goneOn v (under.Control p) d b ≡ halts (run conc (control.denote p v >>= finish) (d, b))
-gone-control p v d b h = gone false (control.awaitsAt p) (λ x t. run conc (control.denote p x >>= finish) t) v d b (over-fits-control p v ∙ ap not h)
+pub gone-control : (p : controlPoint.Point) (v : ℕ) (d : Driver) (b : Buf) → control.fitsAt p v ≡ true → resumed v (under.Control p) d b ≡ halts (run concrete (control.denote p v >>= finish) (d, b))
+gone-control p v d b h = gone false (control.awaitsAt p) (λ x t. run concrete (control.denote p x >>= finish) t) v d b (over-fits-control p v ∙ ap not h)
 
-pub stay-control : (p : controlPoint.Point) (v : ℕ) (d : Driver) (b : Buf) → control.fitsAt p v ≡ false → goneOn v (under.Control p) d b ≡ stayed (under.Control p) d b
-stay-control p v d b h = stays false (control.awaitsAt p) (λ x t. run conc (control.denote p x >>= finish) t) v d b (over-fits-control p v ∙ ap not h)
+pub stay-control : (p : controlPoint.Point) (v : ℕ) (d : Driver) (b : Buf) → control.fitsAt p v ≡ false → resumed v (under.Control p) d b ≡ stayed (under.Control p) d b
+stay-control p v d b h = stays false (control.awaitsAt p) (λ x t. run concrete (control.denote p x >>= finish) t) v d b (over-fits-control p v ∙ ap not h)
 
-pub gone-endpoint : (p : endpointPoint.Point) (v : ℕ) (d : Driver) (b : Buf) → endpoint.fitsAt p v ≡ true → goneOn v (under.Endpoint p) d b ≡ halts (run conc (endpoint.denote p v >>= finish) (d, b))
-gone-endpoint p v d b h = gone false (endpoint.awaitsAt p) (λ x t. run conc (endpoint.denote p x >>= finish) t) v d b (over-fits-endpoint p v ∙ ap not h)
+pub gone-endpoint : (p : endpointPoint.Point) (v : ℕ) (d : Driver) (b : Buf) → endpoint.fitsAt p v ≡ true → resumed v (under.Endpoint p) d b ≡ halts (run concrete (endpoint.denote p v >>= finish) (d, b))
+gone-endpoint p v d b h = gone false (endpoint.awaitsAt p) (λ x t. run concrete (endpoint.denote p x >>= finish) t) v d b (over-fits-endpoint p v ∙ ap not h)
 
-pub stay-endpoint : (p : endpointPoint.Point) (v : ℕ) (d : Driver) (b : Buf) → endpoint.fitsAt p v ≡ false → goneOn v (under.Endpoint p) d b ≡ stayed (under.Endpoint p) d b
-stay-endpoint p v d b h = stays false (endpoint.awaitsAt p) (λ x t. run conc (endpoint.denote p x >>= finish) t) v d b (over-fits-endpoint p v ∙ ap not h)
+pub stay-endpoint : (p : endpointPoint.Point) (v : ℕ) (d : Driver) (b : Buf) → endpoint.fitsAt p v ≡ false → resumed v (under.Endpoint p) d b ≡ stayed (under.Endpoint p) d b
+stay-endpoint p v d b h = stays false (endpoint.awaitsAt p) (λ x t. run concrete (endpoint.denote p x >>= finish) t) v d b (over-fits-endpoint p v ∙ ap not h)
 
-pub gone-advance : (p : Advance) (v : ℕ) (d : Driver) (b : Buf) → advance.fitsAt p v ≡ true → goneOn v (under.Advance p) d b ≡ halts (bindOut (advance.denote p v (d, b)) (λ n u. run conc (finish n) u))
-gone-advance p v d b h = gone false (advance.awaitsAt p) (λ x t. bindOut (advance.denote p x t) (λ n u. run conc (finish n) u)) v d b (over-fits-advance p v ∙ ap not h)
+pub gone-advance : (p : Advance) (v : ℕ) (d : Driver) (b : Buf) → advance.fitsAt p v ≡ true → resumed v (under.Advance p) d b ≡ halts (bindOut (advance.denote p v (d, b)) (λ n u. run concrete (finish n) u))
+gone-advance p v d b h = gone false (advance.awaitsAt p) (λ x t. bindOut (advance.denote p x t) (λ n u. run concrete (finish n) u)) v d b (over-fits-advance p v ∙ ap not h)
 
-pub stay-advance : (p : Advance) (v : ℕ) (d : Driver) (b : Buf) → advance.fitsAt p v ≡ false → goneOn v (under.Advance p) d b ≡ stayed (under.Advance p) d b
-stay-advance p v d b h = stays false (advance.awaitsAt p) (λ x t. bindOut (advance.denote p x t) (λ n u. run conc (finish n) u)) v d b (over-fits-advance p v ∙ ap not h)
+pub stay-advance : (p : Advance) (v : ℕ) (d : Driver) (b : Buf) → advance.fitsAt p v ≡ false → resumed v (under.Advance p) d b ≡ stayed (under.Advance p) d b
+stay-advance p v d b h = stays false (advance.awaitsAt p) (λ x t. bindOut (advance.denote p x t) (λ n u. run concrete (finish n) u)) v d b (over-fits-advance p v ∙ ap not h)

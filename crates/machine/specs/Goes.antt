@@ -8,8 +8,8 @@ use Rattle.model.specs.Answers.{Answer, Refused}
 use Rattle.model.specs.Calls.{calls}
 use Rattle.model.specs.Machine.{Buf, Awaits, over, Way, idle, busy, Machine, Ans, ended, go, continued}
 use Rattle.model_ops.specs.Rings.{St}
-use Rattle.machine.specs.declared.Under.{Under}
-use Rattle.machine.specs.Under.{wayOf, machineAt, driverOf, drive, haltsAs, goneOn, slotsFit}
+use Rattle.machine.specs.declared.Suspended.{Suspended}
+use Rattle.machine.specs.Suspended.{wayOf, machineAt, driverOf, drive, haltsAs, resumed, slotsFit}
 
 abbrev pub Called : Type 0
 Called = Ans Answer × Machine Answer Driver
@@ -17,7 +17,7 @@ Called = Ans Answer × Machine Answer Driver
 -- ---- row 16
 
 -- it stays awaited
-abbrev pub stayed : Under → Driver → Buf → Called
+abbrev pub stayed : Suspended → Driver → Buf → Called
 stayed u d b = (ended (Refused 16), machineAt u d b)
 
 abbrev waiting : Bool → Awaits → (ℕ → St → Out St Answer) → Driver → Buf → Machine Answer Driver
@@ -46,6 +46,6 @@ turned : {A : Type 0} (x : Bool) (y z : A) → cond (not x) y z ≡ cond x z y
 turned true y z = refl
 turned false y z = refl
 
-pub proceeds : (v : ℕ) (u : Under) (d : Driver) (a b : Buf) → drive (go v) (machineAt u d a) b ≡ cond (slotsFit d b) (goneOn v u d b) (ended (Refused 1), machineAt u d a)
+pub proceeds : (v : ℕ) (u : Suspended) (d : Driver) (a b : Buf) → drive (go v) (machineAt u d a) b ≡ cond (slotsFit d b) (resumed v u d b) (ended (Refused 1), machineAt u d a)
 unfolding slotsFit
 proceeds v u d a b = turned (slotsFit d b) (ended (Refused 1), machineAt u d a) (goneIn v (wayOf u) d a b) ∙ ap (λ (x : Called). cond (slotsFit d b) x (ended (Refused 1), machineAt u d a)) (goes-in v (wayOf u) d a b)

@@ -7,7 +7,7 @@ use Rattle.model.specs.Calls.{calls}
 use Rattle.model.specs.Machine.{Buf, awaited, over}
 use Rattle.model.specs.Script.{run}
 use Rattle.model.specs.Tree.{bindOut}
-use Rattle.model_ops.specs.Conc.{conc}
+use Rattle.model_ops.specs.Concrete.{concrete}
 use Rattle.state.specs.Driver.{Driver}
 use Rattle.irq_transfer.specs.declared.nak.Nak.{Nak}
 use Rattle.irq_transfer.specs.declared.nak.Nak.the-variants as point-of-nak
@@ -29,8 +29,8 @@ use Rattle.irq.specs.declared.Point.the-variants as point
 use Rattle.irq.specs.declared.Next.{Next}
 use Rattle.irq.specs.declared.Next.the-variants as next
 use Rattle.irq.specs.Points as handler
-use Rattle.machine.specs.declared.Under.the-variants as under
-use Rattle.machine.specs.Under.{finish, goneOn, haltsAs}
+use Rattle.machine.specs.declared.Suspended.the-variants as under
+use Rattle.machine.specs.Suspended.{finish, resumed, haltsAs}
 use Rattle.machine.specs.Goes.{stayed, gone, stays}
 
 pub linked-interrupt : (n : Next) (q : Access) (p : Point) → n ≡ next.Asks q p → handler.Linked n → awaited q ≡ handler.awaitsAt p
@@ -103,8 +103,8 @@ over-fits-interrupt point.SetupReleased v = refl
 
 -- ---- a continue at them
 
-pub gone-interrupt : (p : Point) (v : ℕ) (d : Driver) (b : Buf) → handler.fitsAt p v ≡ true → goneOn v (under.Interrupt p) d b ≡ haltsAs true (bindOut (handler.denote p v (d, b)) (λ n u. run conc (finish n) u))
-gone-interrupt p v d b h = gone true (handler.awaitsAt p) (λ x t. bindOut (handler.denote p x t) (λ n u. run conc (finish n) u)) v d b (over-fits-interrupt p v ∙ ap not h)
+pub gone-interrupt : (p : Point) (v : ℕ) (d : Driver) (b : Buf) → handler.fitsAt p v ≡ true → resumed v (under.Interrupt p) d b ≡ haltsAs true (bindOut (handler.denote p v (d, b)) (λ n u. run concrete (finish n) u))
+gone-interrupt p v d b h = gone true (handler.awaitsAt p) (λ x t. bindOut (handler.denote p x t) (λ n u. run concrete (finish n) u)) v d b (over-fits-interrupt p v ∙ ap not h)
 
-pub stay-interrupt : (p : Point) (v : ℕ) (d : Driver) (b : Buf) → handler.fitsAt p v ≡ false → goneOn v (under.Interrupt p) d b ≡ stayed (under.Interrupt p) d b
-stay-interrupt p v d b h = stays true (handler.awaitsAt p) (λ x t. bindOut (handler.denote p x t) (λ n u. run conc (finish n) u)) v d b (over-fits-interrupt p v ∙ ap not h)
+pub stay-interrupt : (p : Point) (v : ℕ) (d : Driver) (b : Buf) → handler.fitsAt p v ≡ false → resumed v (under.Interrupt p) d b ≡ stayed (under.Interrupt p) d b
+stay-interrupt p v d b h = stays true (handler.awaitsAt p) (λ x t. bindOut (handler.denote p x t) (λ n u. run concrete (finish n) u)) v d b (over-fits-interrupt p v ∙ ap not h)

@@ -10,18 +10,18 @@ use Rattle.model.specs.Answers.{Answer, Refused, End, NotYet, Done, Shown}
 use Rattle.model.specs.Machine.{Ans, ended, handed, told}
 use Rattle.machine.specs.declared.Step.{Step}
 use Rattle.machine.specs.declared.Step.the-variants as step
-use Rattle.machine.specs.declared.Under.{Under}
-use Rattle.machine.specs.Under.{encode, decode, decode-encode, answerOf, Canonical, Kept}
+use Rattle.machine.specs.declared.Suspended.{Suspended}
+use Rattle.machine.specs.Suspended.{encode, decode, decode-encode, answerOf, Canonical, SavedUnchangedOnRefusal}
 
 -- the encoding of a point is the encoding of what it is read back as
-encoded : (u : Under) (x : Saved) → x ≡ encode u → x ≡ encode (decode x)
+encoded : (u : Suspended) (x : Saved) → x ≡ encode u → x ≡ encode (decode x)
 encoded u x e = e ∙ ap encode (sym (ap decode e ∙ decode-encode u))
 
-pub canonical : (u : Under) (xs : List ℕ) → saved xs ≡ encode u → Canonical xs
+pub canonical : (u : Suspended) (xs : List ℕ) → saved xs ≡ encode u → Canonical xs
 canonical u xs e = encoded u (saved xs) e
 
 -- what was saved before, where the state changed first and what is saved did not
-pub kept-from : (r : Step) (xs ys zs : List ℕ) → saved ys ≡ saved xs → Kept r ys zs → Kept r xs zs
+pub kept-from : (r : Step) (xs ys zs : List ℕ) → saved ys ≡ saved xs → SavedUnchangedOnRefusal r ys zs → SavedUnchangedOnRefusal r xs zs
 kept-from (step.Refused n) xs ys zs e h = h ∙ e
 kept-from (step.Asks q) xs ys zs e h = h
 kept-from (step.Ends n k) xs ys zs e h = h
@@ -44,7 +44,7 @@ KeptBy (ended a) xs ys = KeptEnd a xs ys
 KeptBy (handed q) xs ys = Canonical ys
 KeptBy (told n) xs ys = saved ys ≡ saved xs
 
-pub kept-by : (r : Step) (out : List ℕ) (d : Driver) (xs ys : List ℕ) → Kept r xs ys → KeptBy (answerOf r out d) xs ys
+pub kept-by : (r : Step) (out : List ℕ) (d : Driver) (xs ys : List ℕ) → SavedUnchangedOnRefusal r xs ys → KeptBy (answerOf r out d) xs ys
 kept-by (step.Refused n) out d xs ys h = h
 kept-by (step.Asks q) out d xs ys h = h
 kept-by (step.Ends n k) out d xs ys h = h
@@ -53,7 +53,7 @@ kept-by (step.Done n) out d xs ys h = h
 kept-by (step.Setup low high) out d xs ys h = h
 kept-by (step.Shown at n stamp) out d xs ys h = h
 
-of-answer : (r : Step) (out : List ℕ) (d : Driver) (xs ys : List ℕ) → KeptBy (answerOf r out d) xs ys → Kept r xs ys
+of-answer : (r : Step) (out : List ℕ) (d : Driver) (xs ys : List ℕ) → KeptBy (answerOf r out d) xs ys → SavedUnchangedOnRefusal r xs ys
 of-answer (step.Refused n) out d xs ys h = h
 of-answer (step.Asks q) out d xs ys h = h
 of-answer (step.Ends n k) out d xs ys h = h
@@ -64,6 +64,6 @@ of-answer (step.Shown at n stamp) out d xs ys h = h
 
 -- two answers that the machine of calls does not tell apart
 pub kept-told : (r t : Step) (out out′ : List ℕ) (d : Driver) (xs ys : List ℕ)
-    → answerOf t out′ d ≡ answerOf r out d → Kept r xs ys → Kept t xs ys
+    → answerOf t out′ d ≡ answerOf r out d → SavedUnchangedOnRefusal r xs ys → SavedUnchangedOnRefusal t xs ys
 kept-told r t out out′ d xs ys e h =
     of-answer t out′ d xs ys (subst (λ (a : Ans Answer). KeptBy a xs ys) (sym e) (kept-by r out d xs ys h))

@@ -9,18 +9,18 @@ use Rattle.model.specs.Script.{run}
 use Rattle.model.specs.Answers.{Answer, Refused}
 use Rattle.model.specs.Calls.{Slotted, slotted, slottedCode}
 use Rattle.model.specs.Machine.{Buf, Machine, Ans, ended, begin}
-use Rattle.model_ops.specs.Conc.{conc}
-use Rattle.machine.specs.declared.Under.{Under}
-use Rattle.machine.specs.Under.{machineAt, drive, halts, slotsFit, AsLent, lentBy, lent-halts}
+use Rattle.model_ops.specs.Concrete.{concrete}
+use Rattle.machine.specs.declared.Suspended.{Suspended}
+use Rattle.machine.specs.Suspended.{machineAt, drive, halts, slotsFit, BufferUnchangedOnRow1, lentBy, lent-halts}
 use Rattle.machine.specs.Goes.{Called}
 use Rattle.machine.specs.Rows.{isIdle, slotted-idle}
 
-module _ (o : Slotted) (u : Under) (d : Driver) (a b : Buf) (out : List ℕ) where
+module _ (o : Slotted) (u : Suspended) (d : Driver) (a b : Buf) (out : List ℕ) where
   abbrev misfitted : Called
   misfitted = (ended (Refused 1), machineAt u d a)
 
   abbrev unless-busy : Bool → Called
-  unless-busy x = cond x (halts (run conc (slottedCode o) (d, b))) (ended (Refused 3), machineAt u d b)
+  unless-busy x = cond x (halts (run concrete (slottedCode o) (d, b))) (ended (Refused 3), machineAt u d b)
 
   abbrev fitting : Bool → Called
   fitting x = cond x (unless-busy (isIdle u)) misfitted
@@ -28,8 +28,8 @@ module _ (o : Slotted) (u : Under) (d : Driver) (a b : Buf) (out : List ℕ) whe
   abbrev lent : Called → List ℕ
   lent x = lentBy (x .0) out
 
-  pub lent-done : slotsFit d b ≡ true → isIdle u ≡ true → lentBy (drive (begin (slotted o)) (machineAt u d a) b .0) out ≡ lentAfter (run conc (slottedCode o) (d, b)) out
-  lent-done f i = ap lent (slotted-idle o u d a b ∙ (ap fitting f ∙ ap unless-busy i)) ∙ lent-halts (run conc (slottedCode o) (d, b)) out
+  pub lent-done : slotsFit d b ≡ true → isIdle u ≡ true → lentBy (drive (begin (slotted o)) (machineAt u d a) b .0) out ≡ lentAfter (run concrete (slottedCode o) (d, b)) out
+  lent-done f i = ap lent (slotted-idle o u d a b ∙ (ap fitting f ∙ ap unless-busy i)) ∙ lent-halts (run concrete (slottedCode o) (d, b)) out
 
   pub lent-busy : slotsFit d b ≡ true → isIdle u ≡ false → lentBy (drive (begin (slotted o)) (machineAt u d a) b .0) out ≡ out
   lent-busy f i = ap lent (slotted-idle o u d a b ∙ (ap fitting f ∙ ap unless-busy i))
@@ -42,5 +42,5 @@ pub at-out : {f g : List ℕ → Called} (after x : List ℕ) → after ≡ x �
 at-out after x e h = h after
 
 -- a slot buffer that fits is none of row 1's
-pub as-lent : (d : Driver) (b after : Buf) → slotsFit d b ≡ true → AsLent d b after
+pub as-lent : (d : Driver) (b after : Buf) → slotsFit d b ≡ true → BufferUnchangedOnRow1 d b after
 as-lent d b after f h = absurd (true≢false (sym f ∙ h))

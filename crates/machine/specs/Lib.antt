@@ -1,5 +1,5 @@
 pub mod Questions
-pub mod Under
+pub mod Suspended
 pub mod Counted
 pub mod Goes
 pub mod Fits

@@ -18,8 +18,8 @@ use Rattle.iso_in.specs.declared.advance.Advance.{Advance}
 use Rattle.iso_in.specs.Codec as advanceCodec
 use Rattle.irq.specs.declared.Point as handlerPoint
 use Rattle.irq_codec.specs.Codec as handlerCodec
-use Rattle.machine.specs.declared.Under.the-variants as under
-use Rattle.machine.specs.Under.{withTag, encode, decode}
+use Rattle.machine.specs.declared.Suspended.the-variants as under
+use Rattle.machine.specs.Suspended.{withTag, encode, decode}
 use Rattle.machine.specs.Rows.{isIdle, mayPass}
 
 -- ---- a point's record, with its tag

@@ -1,4 +1,4 @@
-// What is under way, which rows stop a call, how one ends: the machine of calls (specs/Under.antt) that the lent bytes are.
+// What is under way, which rows stop a call, how one ends: the machine of calls (specs/Suspended.antt) that the lent bytes are.
 pub mod saved; // saved.rt: what is under way
 pub mod woken; // woken.rt: how many wake-ups an end gives
 pub mod halts; // halts.rt: how a call ends
@@ -7,7 +7,7 @@ pub mod stops; // stops.rt: what stops a call: rows 1, 3 and 4
 use regs::Access;
 
 // What is under way: nothing, or an operation at the point where it handed out its last access.
-pub enum Under {
+pub enum Suspended {
     Idle,
     Driver(driver::Point),
     Bus(bus::Point),

@@ -3,7 +3,7 @@ use state::Saved;
 ghost use mathlib.Core.Path.{_≡_};
 ghost use Rattle.state.specs.State.{saved};
 ghost use Rattle.state.specs.Fresh.{nothing};
-ghost use Rattle.machine.specs.Under.{decode};
+ghost use Rattle.machine.specs.Suspended.{decode};
 ghost use Rattle.machine.specs.Rows.{isIdle, mayPass};
 
 // Whose point is saved: the driver's (1), the bus's (2), the control pipe's (3), a read's or write's (4), a paced advance's (5), an interrupt's (6). At

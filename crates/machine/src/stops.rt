@@ -2,7 +2,7 @@ use crate::saved::is_idle;
 use state::STATE_LEN;
 ghost use mathlib.Core.Path.{_≡_};
 ghost use Rattle.state.specs.State.{view, saved};
-ghost use Rattle.machine.specs.Under.{decode, slotsFit};
+ghost use Rattle.machine.specs.Suspended.{decode, slotsFit};
 ghost use Rattle.machine.specs.Rows.{isIdle, stopOf};
 
 // Is the lent buffer as long as the driver's buffers? (row 1 turned round)

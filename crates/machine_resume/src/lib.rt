@@ -40,13 +40,13 @@ ghost use mathlib.Core.List.{List, []};
 ghost use Prim.Native.Nat.{ℕ};
 ghost use Rattle.state.specs.State.{view, saved};
 ghost use Rattle.model.specs.Machine.{go};
-ghost use Rattle.machine.specs.Under.{decode, machineOf, drive, goneOn, answerOf, lentOr, AsLent, Kept};
+ghost use Rattle.machine.specs.Suspended.{decode, machineOf, drive, resumed, answerOf, lentOr, BufferUnchangedOnRow1, SavedUnchangedOnRefusal};
 
 // Goes on at an interrupt's point: the one dispatch on what is saved.
 fn proceed_interrupt(s: &mut [u8; STATE_LEN], slots: &mut [u8], v: u32) -> Step
     requires { ⌜ saved (now s) .tag ≡ 6 ⌝ }
-    ensures { λ r. ⌜ (answerOf r [] (view (now (s .exit))), machineOf (now (s .exit)) (now (slots .exit))) ≡ goneOn v (decode (saved (now (s .entry)))) (view (now (s .entry))) (now (slots .entry)) ⌝ }
-    ensures { λ r. ⌜ Kept r (now (s .entry)) (now (s .exit)) ⌝ }
+    ensures { λ r. ⌜ (answerOf r [] (view (now (s .exit))), machineOf (now (s .exit)) (now (slots .exit))) ≡ resumed v (decode (saved (now (s .entry)))) (view (now (s .entry))) (now (slots .entry)) ⌝ }
+    ensures { λ r. ⌜ SavedUnchangedOnRefusal r (now (s .entry)) (now (s .exit)) ⌝ }
 {
     let site = site_byte(s);
     match site {
@@ -81,8 +81,8 @@ fn proceed_interrupt(s: &mut [u8; STATE_LEN], slots: &mut [u8], v: u32) -> Step
 
 // With the slots: as long as the driver's buffers.
 fn proceed_at(s: &mut [u8; STATE_LEN], slots: &mut [u8], v: u32) -> Step
-    ensures { λ r. ⌜ (answerOf r [] (view (now (s .exit))), machineOf (now (s .exit)) (now (slots .exit))) ≡ goneOn v (decode (saved (now (s .entry)))) (view (now (s .entry))) (now (slots .entry)) ⌝ }
-    ensures { λ r. ⌜ Kept r (now (s .entry)) (now (s .exit)) ⌝ }
+    ensures { λ r. ⌜ (answerOf r [] (view (now (s .exit))), machineOf (now (s .exit)) (now (slots .exit))) ≡ resumed v (decode (saved (now (s .entry)))) (view (now (s .entry))) (now (slots .entry)) ⌝ }
+    ensures { λ r. ⌜ SavedUnchangedOnRefusal r (now (s .entry)) (now (s .exit)) ⌝ }
 {
     match tag(s) {
         1 => proceed_driver(s, v),
@@ -98,8 +98,8 @@ fn proceed_at(s: &mut [u8; STATE_LEN], slots: &mut [u8], v: u32) -> Step
 // Goes on with the operation under way, with the number brought.
 pub fn proceed(s: &mut [u8; STATE_LEN], slots: &mut [u8], v: u32) -> Step
     ensures { λ r. ⌜ ((a : List ℕ) → (answerOf r [] (view (now (s .exit))), machineOf (now (s .exit)) (lentOr (view (now (s .entry))) (now (slots .entry)) (now (slots .exit)) a)) ≡ drive (go v) (machineOf (now (s .entry)) a) (now (slots .entry))) ⌝ }
-    ensures { λ _. ⌜ AsLent (view (now (s .entry))) (now (slots .entry)) (now (slots .exit)) ⌝ }
-    ensures { λ r. ⌜ Kept r (now (s .entry)) (now (s .exit)) ⌝ }
+    ensures { λ _. ⌜ BufferUnchangedOnRow1 (view (now (s .entry))) (now (slots .entry)) (now (slots .exit)) ⌝ }
+    ensures { λ r. ⌜ SavedUnchangedOnRefusal r (now (s .entry)) (now (s .exit)) ⌝ }
 {
     if slots_fit(s, slots) {
         return proceed_at(s, slots, v);

@@ -11,13 +11,13 @@ ghost use mathlib.Core.Path.{_≡_};
 ghost use mathlib.Core.List.{List, []};
 ghost use Prim.Native.Nat.{ℕ};
 ghost use Rattle.state.specs.State.{view, saved};
-ghost use Rattle.machine.specs.Under.{decode, machineOf, goneOn, answerOf, Kept};
+ghost use Rattle.machine.specs.Suspended.{decode, machineOf, resumed, answerOf, SavedUnchangedOnRefusal};
 
 // Goes on at the driver's own point.
 pub fn proceed_driver(s: &mut [u8; STATE_LEN], v: u32) -> Step
     requires { ⌜ saved (now s) .tag ≡ 1 ⌝ }
-    ensures { λ r. ⌜ ((b : List ℕ) → (answerOf r [] (view (now (s .exit))), machineOf (now (s .exit)) b) ≡ goneOn v (decode (saved (now (s .entry)))) (view (now (s .entry))) b) ⌝ }
-    ensures { λ r. ⌜ Kept r (now (s .entry)) (now (s .exit)) ⌝ }
+    ensures { λ r. ⌜ ((b : List ℕ) → (answerOf r [] (view (now (s .exit))), machineOf (now (s .exit)) b) ≡ resumed v (decode (saved (now (s .entry)))) (view (now (s .entry))) b) ⌝ }
+    ensures { λ r. ⌜ SavedUnchangedOnRefusal r (now (s .entry)) (now (s .exit)) ⌝ }
 {
     let p = driver_codec::decode(state::load_saved(s));
     if driver_codec::fits_at(p, v) {
@@ -30,8 +30,8 @@ pub fn proceed_driver(s: &mut [u8; STATE_LEN], v: u32) -> Step
 // At the bus's.
 pub fn proceed_bus(s: &mut [u8; STATE_LEN], slots: &mut [u8], v: u32) -> Step
     requires { ⌜ saved (now s) .tag ≡ 2 ⌝ }
-    ensures { λ r. ⌜ (answerOf r [] (view (now (s .exit))), machineOf (now (s .exit)) (now (slots .exit))) ≡ goneOn v (decode (saved (now (s .entry)))) (view (now (s .entry))) (now (slots .entry)) ⌝ }
-    ensures { λ r. ⌜ Kept r (now (s .entry)) (now (s .exit)) ⌝ }
+    ensures { λ r. ⌜ (answerOf r [] (view (now (s .exit))), machineOf (now (s .exit)) (now (slots .exit))) ≡ resumed v (decode (saved (now (s .entry)))) (view (now (s .entry))) (now (slots .entry)) ⌝ }
+    ensures { λ r. ⌜ SavedUnchangedOnRefusal r (now (s .entry)) (now (s .exit)) ⌝ }
 {
     let p = bus::decode(state::load_saved(s));
     if bus::fits_at(p, v) {
@@ -44,8 +44,8 @@ pub fn proceed_bus(s: &mut [u8; STATE_LEN], slots: &mut [u8], v: u32) -> Step
 // At the control pipe's.
 pub fn proceed_control(s: &mut [u8; STATE_LEN], v: u32) -> Step
     requires { ⌜ saved (now s) .tag ≡ 3 ⌝ }
-    ensures { λ r. ⌜ ((b : List ℕ) → (answerOf r [] (view (now (s .exit))), machineOf (now (s .exit)) b) ≡ goneOn v (decode (saved (now (s .entry)))) (view (now (s .entry))) b) ⌝ }
-    ensures { λ r. ⌜ Kept r (now (s .entry)) (now (s .exit)) ⌝ }
+    ensures { λ r. ⌜ ((b : List ℕ) → (answerOf r [] (view (now (s .exit))), machineOf (now (s .exit)) b) ≡ resumed v (decode (saved (now (s .entry)))) (view (now (s .entry))) b) ⌝ }
+    ensures { λ r. ⌜ SavedUnchangedOnRefusal r (now (s .entry)) (now (s .exit)) ⌝ }
 {
     let p = control::decode(state::load_saved(s));
     if control::fits_at(p, v) {
@@ -58,8 +58,8 @@ pub fn proceed_control(s: &mut [u8; STATE_LEN], v: u32) -> Step
 // At a read's or write's.
 pub fn proceed_endpoint(s: &mut [u8; STATE_LEN], v: u32) -> Step
     requires { ⌜ saved (now s) .tag ≡ 4 ⌝ }
-    ensures { λ r. ⌜ ((b : List ℕ) → (answerOf r [] (view (now (s .exit))), machineOf (now (s .exit)) b) ≡ goneOn v (decode (saved (now (s .entry)))) (view (now (s .entry))) b) ⌝ }
-    ensures { λ r. ⌜ Kept r (now (s .entry)) (now (s .exit)) ⌝ }
+    ensures { λ r. ⌜ ((b : List ℕ) → (answerOf r [] (view (now (s .exit))), machineOf (now (s .exit)) b) ≡ resumed v (decode (saved (now (s .entry)))) (view (now (s .entry))) b) ⌝ }
+    ensures { λ r. ⌜ SavedUnchangedOnRefusal r (now (s .entry)) (now (s .exit)) ⌝ }
 {
     let p = endpoint::decode(state::load_saved(s));
     if endpoint::fits_at(p, v) {
@@ -72,8 +72,8 @@ pub fn proceed_endpoint(s: &mut [u8; STATE_LEN], v: u32) -> Step
 // At a paced advance's.
 pub fn proceed_advance(s: &mut [u8; STATE_LEN], v: u32) -> Step
     requires { ⌜ saved (now s) .tag ≡ 5 ⌝ }
-    ensures { λ r. ⌜ ((b : List ℕ) → (answerOf r [] (view (now (s .exit))), machineOf (now (s .exit)) b) ≡ goneOn v (decode (saved (now (s .entry)))) (view (now (s .entry))) b) ⌝ }
-    ensures { λ r. ⌜ Kept r (now (s .entry)) (now (s .exit)) ⌝ }
+    ensures { λ r. ⌜ ((b : List ℕ) → (answerOf r [] (view (now (s .exit))), machineOf (now (s .exit)) b) ≡ resumed v (decode (saved (now (s .entry)))) (view (now (s .entry))) b) ⌝ }
+    ensures { λ r. ⌜ SavedUnchangedOnRefusal r (now (s .entry)) (now (s .exit)) ⌝ }
 {
     let p = iso_in::codec::decode(state::load_saved(s));
     if advance::fits_at(p, v) {

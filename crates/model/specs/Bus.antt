@@ -12,7 +12,7 @@ use Rattle.regs.specs.MisStatus.{suspended}
 use Rattle.regs.specs.IntEn.{withBusRst, withSuspend}
 use Rattle.regs.specs.Ctrl.{pulledUp}
 use Rattle.regs.specs.Enables as enables
-use Rattle.model.specs.Cells.{Plain, globals-cell, ep-cell, paced-cell}
+use Rattle.model.specs.Cells.{EpCore, globals-cell, ep-cell, paced-cell}
 use Rattle.model.specs.Script.{Script, ret, done, test, _>>=_, _>>_, read, write, get, put, act, hand, row, when, reset-ring, set-enabled, place, switch, bus-reset}
 use Rattle.frame.specs.Advance.{NO_FRAME}
 use Rattle.model.specs.Statics.{isOn, flag, withTog, withArmed, renewed, completed, withPower, modify, modifyEp, modifyReg, modifyIntEn, modifyEpType, wake, wakeAll}
@@ -20,14 +20,14 @@ use Rattle.model.specs.Statics.{isOn, flag, withTog, withArmed, renewed,
 -- ---- `set_endpoint_stalled`, 1053-1099
 
 -- un-stalled: DATA0, automatic but for EP0 and isochronous endpoints
-unfoldable pub restarted : ℕ → ℕ → Plain → ℕ
+unfoldable pub restarted : ℕ → ℕ → EpCore → ℕ
 restarted response ep s = wordOf (cond (isOn (s .iso)) NYET response) DATA0 (not (eqb ep 0) && not (isOn (s .iso)))
 
 -- a read still waiting stays armed
-unfoldable pub restartedOut : ℕ → Plain → ℕ
+unfoldable pub restartedOut : ℕ → EpCore → ℕ
 restartedOut ep s = restarted (cond (isOn (s .armed)) ACK NAK) ep s
 
-unfoldable pub restartedIn : ℕ → Plain → ℕ
+unfoldable pub restartedIn : ℕ → EpCore → ℕ
 restartedIn ep s = restarted NAK ep s
 
 abbrev pub setStalled : {i : Bool} → Dir → ℕ → Bool → Script i Unit

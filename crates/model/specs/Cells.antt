@@ -10,7 +10,7 @@ use Rattle.state.specs.declared.Control.{Control}
 
 -- what the script sees of an endpoint's record: all but its ring. Of it `ready`, `len`, `armed`, `last_frame` and `tog` are assigned;
 -- the others come with the allocation
-pub record Plain : Type 0 where
+pub record EpCore : Type 0 where
   pub ready : ℕ
   pub len : ℕ
   pub armed : ℕ
@@ -30,6 +30,6 @@ abbrev pub Val : Cell → Type 0
 Val globals-cell = Globals
 Val control-cell = Control
 Val allocator-cell = Allocator
-Val (ep-cell d e) = Plain
+Val (ep-cell d e) = EpCore
 Val (request-cell d e) = Request
 Val (paced-cell e) = ℕ

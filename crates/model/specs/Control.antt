@@ -11,7 +11,7 @@ use Rattle.regs.specs.Registers.{ctrlOf}
 use Rattle.regs.specs.ControlWord.{ACK, DATA1, wordOf, ack, stall, status}
 use Rattle.state.specs.declared.Control.{Control}
 use Rattle.state.specs.declared.Globals.{Globals}
-use Rattle.model.specs.Cells.{Plain, globals-cell, ep-cell, control-cell}
+use Rattle.model.specs.Cells.{EpCore, globals-cell, ep-cell, control-cell}
 use Rattle.model.specs.Script.{Script, ret, done, test, _>>=_, _>>_, read, write, get, put, fetch, act, when, received0, fill0}
 use Rattle.model.specs.Statics.{isOn, flag, withReady, withArmed, withLen, withSetup, modifyEp, modifyReg}
 use Rattle.model.specs.Answers.{Answer, Refused, End, NotYet, Done, operation, resultless, staged, unless}

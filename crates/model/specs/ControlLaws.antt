@@ -19,7 +19,7 @@ use Rattle.regs.specs.Status.{endpoint, togOk}
 use Rattle.model.specs.declared.Transfer.{Transfer}
 use Rattle.model.specs.Tree as tree
 use Rattle.model.specs.Tree.{ends}
-use Rattle.model.specs.Cells.{Plain, ep-cell, globals-cell}
+use Rattle.model.specs.Cells.{EpCore, ep-cell, globals-cell}
 use Rattle.model.specs.Script.{Ops, run, Script, ret, done, when, _>>=_, _>>_}
 use Rattle.model.specs.Statics.{isOn, modifyReg, modifyEp, completed, wake}
 use Rattle.model.specs.Answers.{Answer, Refused, End, NotYet, Done, Shown}

@@ -13,8 +13,8 @@ use Rattle.regs.specs.declared.Dir.{Dir}
 use Rattle.regs.specs.declared.Dir.the-variants.{Out, In}
 use Rattle.regs.specs.ControlWord as word
 use Rattle.regs.specs.ControlWord.{toggle, wordOf}
-use Rattle.model.specs.Cells.{Plain, ep-cell}
-use Rattle.model.specs.Script.{Ops, run, Script, row, Row, switch, bus-reset, rowAsk, resetAsk, switchAsk}
+use Rattle.model.specs.Cells.{EpCore, ep-cell}
+use Rattle.model.specs.Script.{Ops, run, Script, row, Burst, switch, bus-reset, burstAsk, resetAsk, switchAsk}
 use Rattle.model.specs.Statics.{isOn}
 use Rattle.model.specs.Bus.{setStalled, setEnabled, setEnabledOut, setEnabledIn, kept, busReset, nakAll, restarted, restartedOut, restartedIn}
 use Rattle.model.specs.Every.{Only, sameReg, Where}
@@ -39,15 +39,15 @@ unfolding wordOf toggle
 word-data0 r true = omega arith
 word-data0 r false = omega arith
 
-restarted-data0 : (r e : ℕ) (s : Plain) → toggle (restarted r e s) ≡ number initial
+restarted-data0 : (r e : ℕ) (s : EpCore) → toggle (restarted r e s) ≡ number initial
 unfolding restarted
 restarted-data0 r e s = word-data0 _ _
 
-out-data0 : (e : ℕ) (s : Plain) → toggle (restartedOut e s) ≡ number initial
+out-data0 : (e : ℕ) (s : EpCore) → toggle (restartedOut e s) ≡ number initial
 unfolding restartedOut
 out-data0 e s = restarted-data0 _ e s
 
-in-data0 : (e : ℕ) (s : Plain) → toggle (restartedIn e s) ≡ number initial
+in-data0 : (e : ℕ) (s : EpCore) → toggle (restartedIn e s) ≡ number initial
 unfolding restartedIn
 in-data0 e s = restarted-data0 _ e s
 

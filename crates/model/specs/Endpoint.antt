@@ -10,7 +10,7 @@ use Rattle.regs.specs.declared.Dir.the-variants.{Out, In}
 use Rattle.regs.specs.ControlWord.{ack}
 use Rattle.regs.specs.Enables as enables
 use Rattle.state.specs.declared.Request.{Request}
-use Rattle.model.specs.Cells.{Plain, globals-cell, ep-cell, request-cell}
+use Rattle.model.specs.Cells.{EpCore, globals-cell, ep-cell, request-cell}
 use Rattle.model.specs.Script.{Script, ret, done, test, _>>=_, _>>_, read, write, get, put, is, fetch, act, when, waiting, room, oldest, received, fill, take-oldest, enqueue}
 use Rattle.model.specs.Statics.{isOn, withReady, withArmed, modifyEp, modifyReg}
 use Rattle.model.specs.Answers.{Answer, Refused, End, NotYet, Done, operation, resultless, staged, named, unless}
@@ -34,7 +34,7 @@ ends-request d ep a = do
 
 -- ---- `read`, 83-142
 
-abbrev pub arm-read : {i : Bool} → ℕ → Plain → Script i Unit
+abbrev pub arm-read : {i : Bool} → ℕ → EpCore → Script i Unit
 arm-read ep s = test (isOn (s .iso)) done (test (isOn (s .ready)) done (do
   modifyEp Out ep (withArmed 1)
   modifyReg EpRxCtrl ep ack))
@@ -47,7 +47,7 @@ beginRead ep n = staged 2 (named Out ep (enabled-else Out ep (ret (Refused 9)) (
     resultless (arm-read ep s)))))
 
 -- row 15, and then 10: a poll brings its begin's length
-abbrev pub polled : {i : Bool} → Dir → ℕ → ℕ → (Plain → Script i Answer) → Script i Answer
+abbrev pub polled : {i : Bool} → Dir → ℕ → ℕ → (EpCore → Script i Answer) → Script i Answer
 polled d ep n p = do
   r ← get (request-cell d ep)
   unless (not (isOn (r .begun))) 15 (test (eqb (r .length) n)
@@ -70,11 +70,11 @@ take-iso ep n = enabled-else Out ep (ends-request Out ep (Refused 9)) (do
       (ret NotYet))
 
 -- received longer than the slice or the maximum
-unfoldable pub tooLong : ℕ → Plain → Bool
+unfoldable pub tooLong : ℕ → EpCore → Bool
 tooLong n s = ltb n (s .len) || ltb (s .«max_len») (s .len)
 
 -- 125-141
-abbrev pub take-ready : {i : Bool} → ℕ → ℕ → Plain → Script i Answer
+abbrev pub take-ready : {i : Bool} → ℕ → ℕ → EpCore → Script i Answer
 take-ready ep n s = test (isOn (s .ready))
     (do
       modifyEp Out ep (withReady 0)
@@ -113,7 +113,7 @@ put-iso ep bytes = enabled-else In ep (ends-request In ep (Refused 9)) (do
       (ret NotYet))
 
 -- 182-193
-abbrev pub sent-ready : {i : Bool} → ℕ → Plain → Script i Answer
+abbrev pub sent-ready : {i : Bool} → ℕ → EpCore → Script i Answer
 sent-ready ep s = test (isOn (s .ready))
     (do
       modifyEp In ep (withReady 0)

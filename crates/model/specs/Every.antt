@@ -9,7 +9,7 @@ use Rattle.regs.specs.declared.Reg.{Reg}
 use Rattle.regs.specs.Registers.{numberOf}
 use Rattle.model.specs.Tree as tree
 use Rattle.model.specs.Tree.{ends, asks, bindOut}
-use Rattle.model.specs.Script.{Script, ret, bind, test, read-then, write-then, wait-then, callback-then, get-then, put-then, is-then, look-then, fetch-then, act-then, hand-then, row-then, Ops, run, rows, Row, handAsk, rowAsk, lastOf}
+use Rattle.model.specs.Script.{Script, ret, bind, test, read-then, write-then, wait-then, callback-then, get-then, put-then, is-then, look-then, fetch-then, act-then, hand-then, row-then, Ops, run, rows, Burst, dmaStepAsk, burstAsk, lastOf}
 
 -- the chip as far as a law speaks of it: what it holds, which numbers it may bring for an access, what it holds after one
 pub record Chip : Type 1 where
@@ -60,15 +60,15 @@ Only Ok (is-then q k) = (b : Bool) → Only Ok (k b)
 Only Ok (look-then q k) = (n : ℕ) → Only Ok (k n)
 Only Ok (fetch-then q k) = (l : _) → Only Ok (k l)
 Only Ok (act-then q p) = Only Ok p
-Only Ok (hand-then q p) = ((x : ℕ) → Ok (handAsk q x)) × Only Ok p
-Only Ok (row-then g p) = ((n x : ℕ) → Ok (rowAsk g n x)) × Only Ok p
+Only Ok (hand-then q p) = ((x : ℕ) → Ok (dmaStepAsk q x)) × Only Ok p
+Only Ok (row-then g p) = ((n x : ℕ) → Ok (burstAsk g n x)) × Only Ok p
 
 -- `Ok` of each access, and no more
 abbrev pub All : {S : Type 0} (C : Chip) → (S → S → Type 0) → (Access → Type 0) → {A : Type 0} → C .Holds → tree.Out S A → Type 0
 All C Keeps Ok h o = Every C Keeps Ok (λ _ _ _. Unit {0}) h o
 
 module _ {S : Type 0} {C : Chip} {Keeps : S → S → Type 0} {Ok : Access → Type 0} (O : Ops S) where
-  only-rows : {A : Type 0} (g : Row) → ((n x : ℕ) → Ok (rowAsk g n x)) → (n : ℕ) (k : S → tree.Out S A) → ((h : C .Holds) (t : S) → All C Keeps Ok h (k t)) → (h : C .Holds) (s : S) → All C Keeps Ok h (rows O g n k s)
+  only-rows : {A : Type 0} (g : Burst) → ((n x : ℕ) → Ok (burstAsk g n x)) → (n : ℕ) (k : S → tree.Out S A) → ((h : C .Holds) (t : S) → All C Keeps Ok h (k t)) → (h : C .Holds) (s : S) → All C Keeps Ok h (rows O g n k s)
   only-rows g ok zero k r h s = at-ask (ok zero _) (λ v t b i. r _ t)
   only-rows g ok (suc n) k r h s = at-ask (ok (suc n) _) (λ v t b i. only-rows g ok n k r _ t)
 

@@ -17,7 +17,7 @@ use Rattle.regs.specs.MisStatus.{sieFree}
 use Rattle.frame.specs.Usb20.{indexOf}
 use Rattle.regs.specs.IntEn.{withBusRst, withSuspend}
 use Rattle.model.specs.declared.Transfer.{Transfer}
-use Rattle.model.specs.Cells.{Plain, globals-cell, ep-cell}
+use Rattle.model.specs.Cells.{EpCore, globals-cell, ep-cell}
 use Rattle.model.specs.Script.{Script, ret, done, test, _>>=_, _>>_, read, write, get, put, look, when, setup-word}
 use Rattle.model.specs.Statics.{isOn, flag, withReady, withArmed, withLen, withTog, completed, withSetup, withEntered, modify, modifyEp, modifyReg, modifyIntEn, wake, wakeBus, isoInEvery}
 use Rattle.model.specs.IsoIn.{firstInFrame, isoInComplete, onSof, lateWalk}
@@ -36,10 +36,10 @@ sieWait = looks 2001
 -- ---- `nak_non_iso`, 416-431
 
 -- the guards of its two arms
-unfoldable pub outNaks : ℕ → Plain → Bool
+unfoldable pub outNaks : ℕ → EpCore → Bool
 outNaks st s = isOut st && cond (eqb (endpoint st) 0) (togOk st) (not (isOn (s .iso)))
 
-unfoldable pub inNaks : ℕ → Plain → Bool
+unfoldable pub inNaks : ℕ → EpCore → Bool
 inNaks st s = isIn st && not (isOn (s .iso))
 
 abbrev pub nakNonIso : {i : Bool} → ℕ → Script i Unit
@@ -53,7 +53,7 @@ nakNonIso st = do
 -- ---- `toggled`, 433-459
 
 -- the chip's toggle is still the one recorded: no new packet
-unfoldable pub repeated : Plain → ℕ → Bool
+unfoldable pub repeated : EpCore → ℕ → Bool
 repeated s word = eqb (s .tog) (flag (isData1 word))
 
 abbrev pub toggled : {i : Bool} → Dir → ℕ → Script i Bool
@@ -92,10 +92,10 @@ retaken x st = record { busy = false; st = st; len = x .len; late = x .late; «l
 abbrev pub released : Transfer → Transfer
 released x = record { busy = false; st = x .st; len = x .len; late = x .late; «len_ok» = x .«len_ok» }
 
-unfoldable pub waitsForIso : Transfer → Plain → Bool
+unfoldable pub waitsForIso : Transfer → EpCore → Bool
 waitsForIso x o = x .busy && (isOut (x .st) && isOn (o .iso))
 
-unfoldable pub waitsForBulk : Transfer → Plain → Bool
+unfoldable pub waitsForBulk : Transfer → EpCore → Bool
 waitsForBulk x n = x .busy && (not (eqb (endpoint (x .st)) 0) && (isOut (x .st) || (isIn (x .st) && not (isOn (n .iso)))))
 
 abbrev pub retake : {i : Bool} → Transfer → Script i Transfer
@@ -129,7 +129,7 @@ settle x = do
       (test (x .busy) (retake x) (ret x)))
 
 -- `iso`, 718-722
-unfoldable pub isoFor : Token → Plain → Plain → Bool
+unfoldable pub isoFor : Token → EpCore → EpCore → Bool
 isoFor tok.Out o n = isOn (o .iso)
 isoFor tok.Sof o n = true
 isoFor tok.In o n = isOn (n .iso)

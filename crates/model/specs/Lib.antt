@@ -1,7 +1,7 @@
 pub mod Tree
 pub mod Cells
 pub mod Script
-pub mod Alike
+pub mod Simulates
 pub mod Machine
 pub mod Agree
 pub mod Statics
@@ -32,7 +32,7 @@ pub mod AddressWrites
 pub mod AddressCalls
 pub mod AddressLaws
 pub mod FrameLaws
-pub mod Sorts
+pub mod TransferKinds
 pub mod SortsWalks
 pub mod SortsLaws
 pub mod SortsInterrupt

@@ -13,8 +13,8 @@ use Rattle.regs.specs.declared.Dir.the-variants.{Out, In}
 use Rattle.model.specs.Tree as tree
 use Rattle.model.specs.Tree.{ends, asks, bindOut}
 use Rattle.model.specs.Cells.{Cell, Val}
-use Rattle.model.specs.Script.{Ops, Script, run, Test, Look, Fetch, Act, Hand, arrive, send, place, place0, handAsk, dma, Row, switch, bus-reset, lastOf, rowAsk, switchAsk, resetAsk}
-use Rattle.model.specs.Alike.{Rels, Sim, end, ask, alike, Phase, quiet, mid, Fits, Bare}
+use Rattle.model.specs.Script.{Ops, Script, run, Test, Look, Fetch, Act, DmaStep, arrive, send, place, place0, dmaStepAsk, dma, Burst, switch, bus-reset, lastOf, burstAsk, switchAsk, resetAsk}
+use Rattle.model.specs.Simulates.{Rels, Sim, end, ask, alike, Phase, quiet, mid, Fits, Bare}
 
 abbrev pub Buf : Type 0
 Buf = List ℕ
@@ -78,7 +78,7 @@ pub record Calls (C Op A : Type 0) : Type 1 where
   pub refusal : ℕ → A
 
 -- a driver: its operations over its state with the buffer, the state that a start-up makes, the buffer's length, the questions
-pub record Driver (C S : Type 0) : Type 0 where
+pub record Instance (C S : Type 0) : Type 0 where
   pub ops : Ops (S × Buf)
   pub fresh : C → S
   pub size : S → ℕ
@@ -89,7 +89,7 @@ abbrev pub over : {C Op A : Type 0} → Calls C Op A → Awaits → ℕ → Bool
 over L (reading w) v = L .wide w v
 over L nothing v = false
 
-module _ {C Op A : Type 0} (L : Calls C Op A) {S : Type 0} (D : Driver C S) where
+module _ {C Op A : Type 0} (L : Calls C Op A) {S : Type 0} (D : Instance C S) where
   -- row 1
   abbrev pub misfit : S → Buf → Bool
   misfit s b = not (eqb (length b) (D .size s))
@@ -147,7 +147,7 @@ blankA (told n) = told n
 
 -- a book: a driver of its own, and what it makes of an access that it is told
 pub record Book (C T : Type 0) : Type 0 where
-  pub driver : Driver C T
+  pub driver : Instance C T
   pub feed : Access → T → T
 
 abbrev pub fed : {C T A : Type 0} → Book C T → Ans A → T → T

@@ -12,7 +12,7 @@ use Rattle.req_descriptor.specs.declared.Endpoint.{Endpoint}
 use Rattle.req_descriptor.specs.declared.Answer as reading-answer
 use Rattle.req_descriptor.specs.declared.Answer.the-variants as reading
 use Rattle.req_descriptor.specs.Reading.{readingOf, listOf}
-use Rattle.model.specs.Cells.{Plain, globals-cell, control-cell, allocator-cell, ep-cell, request-cell, paced-cell}
+use Rattle.model.specs.Cells.{EpCore, globals-cell, control-cell, allocator-cell, ep-cell, request-cell, paced-cell}
 use Rattle.model.specs.Script.{Script}
 use Rattle.model.specs.Statics.{isOn}
 use Rattle.model.specs.IsoIn.{isoInCompletions, isoInAdvance}
@@ -102,7 +102,7 @@ module _ {i : Bool} {n : ℕ} where
   aborted-reads : {p : Script i Answer} → Reads≤ n p → Reads≤ n (aborted-else p)
   aborted-reads x = free (no-get globals-cell) (λ _. either ends-control-reads x)
 
-  polled-reads : (d : Dir) (e m : ℕ) {p : Plain → Script i Answer} → ((s : Plain) → Reads≤ n (p s)) → Reads≤ n (polled d e m p)
+  polled-reads : (d : Dir) (e m : ℕ) {p : EpCore → Script i Answer} → ((s : EpCore) → Reads≤ n (p s)) → Reads≤ n (polled d e m p)
   polled-reads d e m x = free (no-get (request-cell _ _)) (λ _. unless-reads (either (free (no-get (ep-cell _ _)) x) (free (assign (ep-cell _ _)) (λ _. ends-request-reads))))
 
 -- ---- the bus
@@ -186,7 +186,7 @@ module _ {i : Bool} where
   take-iso-reads e n = enabled-reads Out e ends-request-reads (free no-is (λ _. either
       (free no-fetch (λ _. free no-act (λ _. ends-request-reads))) reads-ret))
 
-  take-ready-reads : (e n : ℕ) (s : Plain) → Reads≤ {i = i} 0 (take-ready e n s)
+  take-ready-reads : (e n : ℕ) (s : EpCore) → Reads≤ {i = i} 0 (take-ready e n s)
   take-ready-reads e n s = either
       (free (assign (ep-cell _ _)) (λ _. either ends-request-reads (free no-fetch (λ _. ends-request-reads))))
       (enabled-reads Out e ends-request-reads reads-ret)
@@ -194,10 +194,10 @@ module _ {i : Bool} where
   put-iso-reads : (e : ℕ) (bs : List ℕ) → Reads≤ {i = i} 0 (put-iso e bs)
   put-iso-reads e bs = enabled-reads In e ends-request-reads (free no-is (λ _. either (free no-act (λ _. ends-request-reads)) reads-ret))
 
-  sent-ready-reads : (e : ℕ) (s : Plain) → Reads≤ {i = i} 0 (sent-ready e s)
+  sent-ready-reads : (e : ℕ) (s : EpCore) → Reads≤ {i = i} 0 (sent-ready e s)
   sent-ready-reads e s = either (free (assign (ep-cell _ _)) (λ _. ends-request-reads)) (enabled-reads In e ends-request-reads reads-ret)
 
-  arm-read-reads : (e : ℕ) (s : Plain) → Reads≤ {i = i} 1 (arm-read e s)
+  arm-read-reads : (e : ℕ) (s : EpCore) → Reads≤ {i = i} 1 (arm-read e s)
   arm-read-reads e s = either reads-ret (either reads-ret (free (assign (ep-cell _ _)) (λ _. modifyReg-reads)))
 
   load-write-reads : (e : ℕ) (bs : List ℕ) → Reads≤ {i = i} 1 (load-write e bs)

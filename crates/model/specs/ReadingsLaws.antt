@@ -15,7 +15,7 @@ use Rattle.regs.specs.declared.Dir.the-variants.{Out, In}
 use Rattle.model.specs.Tree as tree
 use Rattle.model.specs.Tree.{ends, asks, Prog, bindOut}
 use Rattle.model.specs.Cells.{Cell, Val}
-use Rattle.model.specs.Script.{Script, Ops, run, rows, Test, Look, Fetch, Act, Hand, handAsk, arrive, send, place, place0, Row, switch, bus-reset, lastOf, rowAsk, ret, bind, test, read-then, write-then, wait-then, callback-then, get-then, put-then, is-then, look-then, fetch-then, act-then, hand-then, row-then, _>>_, done, when, read, write, callback, get, put, is, look, fetch, act, hand}
+use Rattle.model.specs.Script.{Script, Ops, run, rows, Test, Look, Fetch, Act, DmaStep, dmaStepAsk, arrive, send, place, place0, Burst, switch, bus-reset, lastOf, burstAsk, ret, bind, test, read-then, write-then, wait-then, callback-then, get-then, put-then, is-then, look-then, fetch-then, act-then, hand-then, row-then, _>>_, done, when, read, write, callback, get, put, is, look, fetch, act, hand}
 use Rattle.model.specs.Statics.{modifyReg}
 use Rattle.model.specs.Readings.{reading, Continues, readings, AtMost, Reads≤}
 
@@ -39,14 +39,14 @@ unfolding readings
 quiet-path n q s k z x [] = omega (arith, z)
 quiet-path n q s k z x (c ∷ w) = omega (arith, z, x (c .0) (c .1) w)
 
-pub hand-quiet : (q : Hand) (x : ℕ) → reading (handAsk q x) ≡ 0
+pub hand-quiet : (q : DmaStep) (x : ℕ) → reading (dmaStepAsk q x) ≡ 0
 hand-quiet (arrive e n) x = refl
 hand-quiet (send e) x = refl
 hand-quiet (place Out e) x = refl
 hand-quiet (place In e) x = refl
 hand-quiet place0 x = refl
 
-row-quiet : (g : Row) (n x : ℕ) → reading (rowAsk g n x) ≡ 0
+row-quiet : (g : Burst) (n x : ℕ) → reading (burstAsk g n x) ≡ 0
 row-quiet (switch e on) zero x = refl
 row-quiet (switch e on) (suc zero) x = refl
 row-quiet (switch e on) (suc (suc zero)) x = refl
@@ -56,7 +56,7 @@ row-quiet bus-reset (suc zero) x = refl
 row-quiet bus-reset (suc (suc zero)) x = refl
 row-quiet bus-reset (suc (suc (suc n))) x = refl
 
-rows-path : {S A : Type 0} (O : Ops S) (g : Row) (n m : ℕ) (k : S → tree.Out S A) → ((t : S) → AtMost m (k t)) → (s : S) → AtMost m (rows O g n k s)
+rows-path : {S A : Type 0} (O : Ops S) (g : Burst) (n m : ℕ) (k : S → tree.Out S A) → ((t : S) → AtMost m (k t)) → (s : S) → AtMost m (rows O g n k s)
 rows-path O g zero m k x s = quiet-path m _ _ _ (row-quiet g zero _) (λ v t. x t)
 rows-path O g (suc n) m k x s = quiet-path m _ _ _ (row-quiet g (suc n) _) (λ v t. rows-path O g n m k x t)
 
@@ -99,7 +99,7 @@ module _ {i : Bool} {A : Type 0} where
   pub reads-callback : {n : ℕ} {p : Script i A} → Reads≤ n p → Reads≤ n (callback-then p)
   reads-callback x = record { on = λ S O s. quiet-path _ _ _ _ refl (λ v t. x .on S O t) }
 
-  pub reads-hand : {n : ℕ} {q : Hand} {p : Script i A} → Reads≤ n p → Reads≤ n (hand-then q p)
+  pub reads-hand : {n : ℕ} {q : DmaStep} {p : Script i A} → Reads≤ n p → Reads≤ n (hand-then q p)
   reads-hand {q = q} x = record { on = λ S O s. quiet-path _ _ _ _ (hand-quiet q _) (λ v t. x .on S O t) }
 
   -- nor does what the state alone is asked or told
@@ -135,7 +135,7 @@ module _ {i : Bool} {A : Type 0} where
   either {n = n} x y = reads-more (reads-test n n x y) (omega arith)
 
 -- a row is writes and addresses
-pub reads-row : {A : Type 0} {n : ℕ} {g : Row} {p : Script false A} → Reads≤ n p → Reads≤ n (row-then g p)
+pub reads-row : {A : Type 0} {n : ℕ} {g : Burst} {p : Script false A} → Reads≤ n p → Reads≤ n (row-then g p)
 reads-row {g = g} x = record { on = λ S O s. rows-path O g (lastOf g) _ _ (λ t. x .on S O t) s }
 
 module _ {i : Bool} where
@@ -164,7 +164,7 @@ module _ {i : Bool} where
   pub no-act : {n : ℕ} {q : Act} → Reads≤ {i = i} n (act q)
   no-act = reads-act reads-ret
 
-  pub no-hand : {n : ℕ} {q : Hand} → Reads≤ {i = i} n (hand q)
+  pub no-hand : {n : ℕ} {q : DmaStep} → Reads≤ {i = i} n (hand q)
   no-hand = reads-hand reads-ret
 
   pub no-callback : {n : ℕ} → Reads≤ {i = i} n callback

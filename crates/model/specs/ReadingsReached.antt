@@ -10,7 +10,7 @@ use Rattle.regs.specs.Enables.{inEnabled, outEnabled}
 use Rattle.regs.specs.Status.{endpoint, tokenNumbered, token, isOut, isSof, isIn}
 use Rattle.state.specs.declared.Globals.{Globals}
 use Rattle.state.specs.declared.Allocator.{Allocator}
-use Rattle.model.specs.Cells.{Cell, Val, Plain, globals-cell, control-cell, allocator-cell, ep-cell, request-cell, paced-cell}
+use Rattle.model.specs.Cells.{Cell, Val, EpCore, globals-cell, control-cell, allocator-cell, ep-cell, request-cell, paced-cell}
 use Rattle.model.specs.Script.{Ops, run}
 use Rattle.frame.specs.Usb20.{frameNumber, microframe, indexOf, frameOf}
 use Rattle.frame.specs.Advance.{isNone, previous, inPrevious}
@@ -25,7 +25,7 @@ use Rattle.model.specs.Readings.{Continues, readings}
 
 -- a state that is no more than whether the endpoints are isochronous; all else stands still. Every endpoint is in both walks and armed, every
 -- slot has changed, and the last start of frame was another
-abbrev pub plain : Bool → Plain
+abbrev pub plain : Bool → EpCore
 plain iso = record { ready = 0; len = 0; armed = 1; «last_frame» = 0x1800; tog = 0; iso = flag iso; kind = 0; base = 0; «max_len» = 64 }
 
 abbrev globals : Globals

@@ -7,7 +7,7 @@ use Rattle.regs.specs.declared.Dir.{Dir}
 use Rattle.regs.specs.declared.Dir.the-variants.{Out, In}
 use Rattle.state.specs.declared.Globals.{Globals}
 use Rattle.model.specs.Tree as tree
-use Rattle.model.specs.Cells.{Plain, ep-cell, globals-cell, paced-cell}
+use Rattle.model.specs.Cells.{EpCore, ep-cell, globals-cell, paced-cell}
 use Rattle.model.specs.Script.{Ops, run, reset-ring, set-enabled, waken, place}
 use Rattle.model.specs.Statics.{isOn}
 use Rattle.model.specs.Bus.{setStalled, setEnabledOut, setEnabledIn}
@@ -20,7 +20,7 @@ togOf O d e s = O .get (ep-cell d e) s .tog
 
 -- where K holds of the state, the record's toggle is assigned; the operations that these scripts have beside that leave it
 pub record Lawful {S : Type 0} (K : S → Type 0) (O : Ops S) (d : Dir) (e : ℕ) : Type 0 where
-  pub assigned : (v : Plain) (s : S) → K s → togOf O d e (O .put (ep-cell d e) v s) ≡ v .tog
+  pub assigned : (v : EpCore) (s : S) → K s → togOf O d e (O .put (ep-cell d e) v s) ≡ v .tog
   pub emptied : (s : S) → K s → K (O .act (reset-ring d e) s)
   pub wakes : (cs : List ℕ) (s : S) → togOf O d e (O .act (waken cs) s) ≡ togOf O d e s
   pub globals : (v : Globals) (s : S) → togOf O d e (O .put globals-cell v s) ≡ togOf O d e s

@@ -14,7 +14,7 @@ use Rattle.state.specs.declared.Request.{Request}
 use Rattle.state.specs.declared.Control.{Control}
 use Rattle.model.specs.Tree as tree
 use Rattle.model.specs.Tree.{ends, asks, bindOut}
-use Rattle.model.specs.Cells.{Cell, Val, Plain, globals-cell, control-cell, allocator-cell, ep-cell, request-cell, paced-cell}
+use Rattle.model.specs.Cells.{Cell, Val, EpCore, globals-cell, control-cell, allocator-cell, ep-cell, request-cell, paced-cell}
 
 -- what is asked of a ring or of slots
 pub data Test : Type 0 where
@@ -54,30 +54,30 @@ pub data Act : Type 0 where
   waken : List ℕ → Act  -- the tasks of these codes are woken, one after the other
 
 -- changes in the call that hands out the address they come to
-pub data Hand : Type 0 where
-  arrive : ℕ → ℕ → Hand  -- OUT e: a packet of that length; the head's slot is armed, the next one, or the same where it was turned away
-  send : ℕ → Hand  -- IN e: the oldest packet is being sent
-  place : Dir → ℕ → Hand  -- the endpoint's buffer
-  place0 : Hand  -- EP0's buffer
+pub data DmaStep : Type 0 where
+  arrive : ℕ → ℕ → DmaStep  -- OUT e: a packet of that length; the head's slot is armed, the next one, or the same where it was turned away
+  send : ℕ → DmaStep  -- IN e: the oldest packet is being sent
+  place : Dir → ℕ → DmaStep  -- the endpoint's buffer
+  place0 : DmaStep  -- EP0's buffer
 
 abbrev pub dma : Dir → ℕ → ℕ → Access
 dma Out e x = Receive e x
 dma In e x = Transmit e x
 
-abbrev pub handAsk : Hand → ℕ → Access
-handAsk (arrive e n) x = Receive e x
-handAsk (send e) x = Transmit e x
-handAsk (place d e) x = dma d e x
-handAsk place0 x = Ep0Dma x
+abbrev pub dmaStepAsk : DmaStep → ℕ → Access
+dmaStepAsk (arrive e n) x = Receive e x
+dmaStepAsk (send e) x = Transmit e x
+dmaStepAsk (place d e) x = dma d e x
+dmaStepAsk place0 x = Ep0Dma x
 
 -- accesses in a row, between which no other call changes anything. A step may hand out a number that the state
 -- gives: an address, or a kept word
-pub data Row : Type 0 where
-  switch : ℕ → Bool → Row  -- an isochronous OUT that is enabled or disabled: its record reset and every slot marked, from the last
-  bus-reset : Row  -- every endpoint disabled, every record reset
+pub data Burst : Type 0 where
+  switch : ℕ → Bool → Burst  -- an isochronous OUT that is enabled or disabled: its record reset and every slot marked, from the last
+  bus-reset : Burst  -- every endpoint disabled, every record reset
 
 -- the number of a row's first step; the last is 0
-abbrev pub lastOf : Row → ℕ
+abbrev pub lastOf : Burst → ℕ
 lastOf (switch e on) = 18
 lastOf bus-reset = 3
 
@@ -94,9 +94,9 @@ resetAsk (suc zero) x = Write EpBufMod 0 0
 resetAsk (suc (suc zero)) x = Write EpType 0 0
 resetAsk (suc (suc (suc n))) x = Write EpConfig 0 0
 
-abbrev pub rowAsk : Row → ℕ → ℕ → Access
-rowAsk (switch e on) n x = switchAsk e on n x
-rowAsk bus-reset n x = resetAsk n x
+abbrev pub burstAsk : Burst → ℕ → ℕ → Access
+burstAsk (switch e on) n x = switchAsk e on n x
+burstAsk bus-reset n x = resetAsk n x
 
 -- `true`: a script in which no row occurs, as an interrupt's
 pub data Script : Bool → Type 0 → Type 1 where
@@ -113,8 +113,8 @@ pub data Script : Bool → Type 0 → Type 1 where
   look-then : {i : Bool} {A : Type 0} → Look → (ℕ → Script i A) → Script i A
   fetch-then : {i : Bool} {A : Type 0} → Fetch → (List ℕ → Script i A) → Script i A
   act-then : {i : Bool} {A : Type 0} → Act → Script i A → Script i A
-  hand-then : {i : Bool} {A : Type 0} → Hand → Script i A → Script i A
-  row-then : {A : Type 0} → Row → Script false A → Script false A
+  hand-then : {i : Bool} {A : Type 0} → DmaStep → Script i A → Script i A
+  row-then : {A : Type 0} → Burst → Script false A → Script false A
 
 infixr 20 _>>=_ _>>_
 abbrev pub _>>=_ : {i : Bool} {A B : Type 0} → Script i A → (A → Script i B) → Script i B
@@ -159,10 +159,10 @@ fetch q = fetch-then q ret
 abbrev pub act : {i : Bool} → Act → Script i Unit
 act q = act-then q (ret tt)
 
-abbrev pub hand : {i : Bool} → Hand → Script i Unit
+abbrev pub hand : {i : Bool} → DmaStep → Script i Unit
 hand q = hand-then q (ret tt)
 
-abbrev pub row : Row → Script false Unit
+abbrev pub row : Burst → Script false Unit
 row g = row-then g (ret tt)
 
 -- the operations of a state
@@ -173,12 +173,12 @@ pub record Ops (S : Type 0) : Type 0 where
   pub look : Look → S → ℕ
   pub fetch : Fetch → S → List ℕ
   pub act : Act → S → S
-  pub hand : Hand → S → ℕ × S
-  pub row : Row → ℕ → S → ℕ × S
+  pub hand : DmaStep → S → ℕ × S
+  pub row : Burst → ℕ → S → ℕ × S
 
-abbrev pub rows : {S A : Type 0} → Ops S → Row → ℕ → (S → tree.Out S A) → S → tree.Out S A
-rows O g zero k s = asks (rowAsk g zero (O .row g zero s .0)) (O .row g zero s .1) (λ _ t. k t)
-rows O g (suc n) k s = asks (rowAsk g (suc n) (O .row g (suc n) s .0)) (O .row g (suc n) s .1) (λ _ t. rows O g n k t)
+abbrev pub rows : {S A : Type 0} → Ops S → Burst → ℕ → (S → tree.Out S A) → S → tree.Out S A
+rows O g zero k s = asks (burstAsk g zero (O .row g zero s .0)) (O .row g zero s .1) (λ _ t. k t)
+rows O g (suc n) k s = asks (burstAsk g (suc n) (O .row g (suc n) s .0)) (O .row g (suc n) s .1) (λ _ t. rows O g n k t)
 
 abbrev pub run : {S : Type 0} {i : Bool} {A : Type 0} → Ops S → Script i A → S → tree.Out S A
 run O (ret a) s = ends a s
@@ -194,5 +194,5 @@ run O (is-then q k) s = run O (k (O .is q s)) s
 run O (look-then q k) s = run O (k (O .look q s)) s
 run O (fetch-then q k) s = run O (k (O .fetch q s)) s
 run O (act-then q p) s = run O p (O .act q s)
-run O (hand-then q p) s = asks (handAsk q (O .hand q s .0)) (O .hand q s .1) (λ _ t. run O p t)
+run O (hand-then q p) s = asks (dmaStepAsk q (O .hand q s .0)) (O .hand q s .1) (λ _ t. run O p t)
 run O (row-then g p) s = rows O g (lastOf g) (λ t. run O p t) s

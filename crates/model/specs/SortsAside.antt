@@ -12,7 +12,7 @@ use Rattle.model.specs.Answers.{Answer}
 use Rattle.model.specs.Calls.{Aside, Open, Close, Queue, asideCode, interruptCode}
 use Rattle.model.specs.Readings.{Continues, readings}
 use Rattle.model.specs.Every.{Every, at-end}
-use Rattle.model.specs.Sorts.{Sorts, Sorted, Along}
+use Rattle.model.specs.TransferKinds.{TransferKinds, Sorted, Along}
 use Rattle.model.specs.SortsLaws.{counted, Any, Staying, Reads, reads-ret, free, either, no-get, no-is, no-fetch, no-look, no-act}
 use Rattle.model.specs.SortsInterrupt.{interrupt-4056}
 
@@ -22,7 +22,7 @@ pub data Passes {S : Type 0} (O : Ops S) (Stores : S → S → Type 0) (s : S) :
   stored : {t u : S} → Passes O Stores s t → Stores t u → Passes O Stores s u
   called : (o : Aside) {a : Answer} {t u : S} → Passes O Stores s t → run O (asideCode o) t ≡ ends a u → Passes O Stores s u
 
-module _ {S : Type 0} {O : Ops S} {K : S → Type 0} {iso : Sorts} (M : Sorted O iso K) where
+module _ {S : Type 0} {O : Ops S} {K : S → Type 0} {iso : TransferKinds} (M : Sorted O iso K) where
   aside-reads : (o : Aside) → Reads O K 0 Any (asideCode o)
   aside-reads (Open e) = free (no-get M globals-cell) (λ _ _. either
       (λ _. free (no-get M allocator-cell) (λ _ _. either

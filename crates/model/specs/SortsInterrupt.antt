@@ -17,7 +17,7 @@ use Rattle.regs.specs.declared.Reg.the-variants.{FrameNo}
 use Rattle.regs.specs.Status.{endpoint, token, outToken, isOut, isIn}
 use Rattle.state.specs.declared.Globals.{Globals}
 use Rattle.model.specs.declared.Transfer.{Transfer}
-use Rattle.model.specs.Cells.{Plain, globals-cell, ep-cell}
+use Rattle.model.specs.Cells.{EpCore, globals-cell, ep-cell}
 use Rattle.model.specs.Script.{Script, Ops, run, bind, _>>=_, _>>_, read, get, complete, no-wakes, waken, send, arrive, open-oldest, close-oldest, enqueue}
 use Rattle.model.specs.Statics.{isOn, isoInEvery, isoOuts}
 use Rattle.model.specs.IsoIn.{firstInFrame, isoInLoad, isoInComplete, unseen, sofOne, sofWalk, onSof, lateOne, lateWalk}
@@ -26,24 +26,24 @@ use Rattle.model.specs.Handler.{looks, sieWait, nakNonIso, toggled, reta
 use Rattle.model.specs.Calls.{interruptCode}
 use Rattle.model.specs.Readings.{Continues, readings}
 use Rattle.model.specs.ToggledLaws.{apart}
-use Rattle.model.specs.Sorts.{Sorts, Shows, Sorted, Along}
+use Rattle.model.specs.TransferKinds.{TransferKinds, Shows, Sorted, Along}
 use Rattle.model.specs.SortsWalks.{Most, most-15, most-14, among-outs, among-ins}
 use Rattle.model.specs.SortsLaws.{Any, Staying, Reads, reads-along, reads-more, reads-ret, reads-bind, reads-walk, free, once, then-free, either, one-read, no-write, no-get, no-put, no-is, no-look, no-fetch, no-act, no-hand, no-callback, when-reads, assign, assign-write, modifyReg-reads}
 
 -- ---- what the tests of `settle` say
 
 -- which wait a transfer has, by the sorts
-abbrev lateBy : Sorts → Transfer → Bool
+abbrev lateBy : TransferKinds → Transfer → Bool
 lateBy iso x = x .busy && (isOut (x .st) && iso Out (endpoint (x .st)))
 
-abbrev bulkBy : Sorts → Transfer → Bool
+abbrev bulkBy : TransferKinds → Transfer → Bool
 bulkBy iso x = x .busy && (not (eqb (endpoint (x .st)) 0) && (isOut (x .st) || (isIn (x .st) && not (iso In (endpoint (x .st))))))
 
-late-shown : (iso : Sorts) (x : Transfer) (o : Plain) → isOn (o .iso) ≡ iso Out (endpoint (x .st)) → waitsForIso x o ≡ lateBy iso x
+late-shown : (iso : TransferKinds) (x : Transfer) (o : EpCore) → isOn (o .iso) ≡ iso Out (endpoint (x .st)) → waitsForIso x o ≡ lateBy iso x
 unfolding waitsForIso
 late-shown iso x o h = ap (λ (b : Bool). x .busy && (isOut (x .st) && b)) h
 
-bulk-shown : (iso : Sorts) (x : Transfer) (n : Plain) → isOn (n .iso) ≡ iso In (endpoint (x .st)) → waitsForBulk x n ≡ bulkBy iso x
+bulk-shown : (iso : TransferKinds) (x : Transfer) (n : EpCore) → isOn (n .iso) ≡ iso In (endpoint (x .st)) → waitsForBulk x n ≡ bulkBy iso x
 unfolding waitsForBulk
 bulk-shown iso x n h = ap (λ (b : Bool). x .busy && (not (eqb (endpoint (x .st)) 0) && (isOut (x .st) || (isIn (x .st) && not b)))) h
 
@@ -86,18 +86,18 @@ framed-st x iso sof frame = go (ownIn x iso sof frame)
     go true = refl
     go false = refl
 
-iso-out : (t : Token) (o n : Plain) → t ≡ tok.Out → isoFor t o n ≡ isOn (o .iso)
+iso-out : (t : Token) (o n : EpCore) → t ≡ tok.Out → isoFor t o n ≡ isOn (o .iso)
 unfolding isoFor
 iso-out t o n h = rw h refl
 
-module _ {S : Type 0} {O : Ops S} {K : S → Type 0} {iso : Sorts} (M : Sorted O iso K) where
+module _ {S : Type 0} {O : Ops S} {K : S → Type 0} {iso : TransferKinds} (M : Sorted O iso K) where
   every-in : Most 15 (iso In)
   every-in = most-15 (iso In) (M .ep0 In)
 
   every-out : Most 15 (iso Out)
   every-out = most-15 (iso Out) (M .ep0 Out)
 
-module _ {S : Type 0} {O : Ops S} {K : S → Type 0} {iso : Sorts} (M : Sorted O iso K) {i : Bool} where
+module _ {S : Type 0} {O : Ops S} {K : S → Type 0} {iso : TransferKinds} (M : Sorted O iso K) {i : Bool} where
   -- ---- isochronous walks
 
   isoInLoad-reads : {n : ℕ} (e : ℕ) → Reads O K {i = i} n Any (isoInLoad e)
@@ -303,7 +303,7 @@ module _ {S : Type 0} {O : Ops S} {K : S → Type 0} {iso : Sorts} (M : Sorted O
       free (when-reads (λ _. free (assign-write M globals-cell) (λ _ _. no-act M (waken _) refl))) (λ _ _. free (when-reads (λ _. no-write)) (λ _ _.
       free (when-reads (λ _. no-write)) (λ _ _. then-free (when-reads (λ _. onTransfer-reads)) (λ _ _. when-reads (λ _. onSetup-reads)))))))
 
-module _ {S : Type 0} {O : Ops S} {K : S → Type 0} {iso : Sorts} (M : Sorted O iso K) where
+module _ {S : Type 0} {O : Ops S} {K : S → Type 0} {iso : TransferKinds} (M : Sorted O iso K) where
   keepMicroframe-reads : {i : Bool} → Reads O K {i = i} 1 Any keepMicroframe
   keepMicroframe-reads = once one-read (λ _ _. assign M globals-cell)
 

@@ -13,12 +13,12 @@ use Rattle.regs.specs.declared.Dir.the-variants.{Out, In}
 use Rattle.model.specs.Tree as tree
 use Rattle.model.specs.Tree.{ends, asks}
 use Rattle.model.specs.Cells.{Cell, Val}
-use Rattle.model.specs.Script.{Script, Ops, run, Test, Look, Fetch, Act, Hand, handAsk, ret, bind, test, _>>_, done, when, read, write, callback, get, put, is, look, fetch, act, hand}
+use Rattle.model.specs.Script.{Script, Ops, run, Test, Look, Fetch, Act, DmaStep, dmaStepAsk, ret, bind, test, _>>_, done, when, read, write, callback, get, put, is, look, fetch, act, hand}
 use Rattle.model.specs.Statics.{modifyReg}
 use Rattle.model.specs.Readings.{reading, Continues, readings}
 use Rattle.model.specs.ReadingsLaws.{hand-quiet}
 use Rattle.model.specs.Every.{Chip, Every, at-end, at-ask, every-bind, every-cond, every-more}
-use Rattle.model.specs.Sorts.{Sorts, Shows, Sorted, allocates, Along}
+use Rattle.model.specs.TransferKinds.{TransferKinds, Shows, Sorted, allocates, Along}
 
 -- the readings that were handed out
 abbrev pub counted : Chip
@@ -104,7 +104,7 @@ module _ {S : Type 0} {O : Ops S} {K : S → Type 0} {i : Bool} where
   modifyReg-reads = once one-read (λ _ _. no-write)
 
 -- those that the sorts' states are asked or told
-module _ {S : Type 0} {O : Ops S} {K : S → Type 0} {iso : Sorts} (M : Sorted O iso K) {i : Bool} where
+module _ {S : Type 0} {O : Ops S} {K : S → Type 0} {iso : TransferKinds} (M : Sorted O iso K) {i : Bool} where
   pub no-get : {n : ℕ} (c : Cell) → Reads O K {i = i} n (Shows iso c) (get c)
   no-get c = record { on = λ h s k. at-end {h = h} (omega arith, k, M .shows c s k) }
 
@@ -114,8 +114,8 @@ module _ {S : Type 0} {O : Ops S} {K : S → Type 0} {iso : Sorts} (M : Sorted O
   pub no-act : {n : ℕ} (q : Act) → allocates q ≡ false → Reads O K {i = i} n Any (act q)
   no-act q a = record { on = λ h s k. at-end {h = h} (omega arith, M .act q a s k, tt) }
 
-  pub no-hand : {n : ℕ} (q : Hand) → Reads O K {i = i} n Any (hand q)
-  no-hand q = record { on = λ h s k. at-ask tt (λ _ t _ l. at-end {h = h + reading (handAsk q (O .hand q s .0))} (omega (arith, hand-quiet q (O .hand q s .0)), l (M .hand q s k), tt)) }
+  pub no-hand : {n : ℕ} (q : DmaStep) → Reads O K {i = i} n Any (hand q)
+  no-hand q = record { on = λ h s k. at-ask tt (λ _ t _ l. at-end {h = h + reading (dmaStepAsk q (O .hand q s .0))} (omega (arith, hand-quiet q (O .hand q s .0)), l (M .hand q s k), tt)) }
 
   pub assign : {n : ℕ} (c : Cell) {f : Val c → Val c} → Reads O K {i = i} n Any (bind (get c) (λ v. put c (f v)))
   assign c = free (no-get c) (λ _ _. no-put c)

@@ -25,7 +25,7 @@ use Rattle.model.specs.Calls.{interruptCode}
 use Rattle.model.specs.Readings.{Continues, readings}
 use Rattle.model.specs.ReadingsReached.{plain, allocator}
 use Rattle.model.specs.ToggledLaws.{apart}
-use Rattle.model.specs.Sorts.{Sorts, Among, Shows, Sorted}
+use Rattle.model.specs.TransferKinds.{TransferKinds, Among, Shows, Sorted}
 
 -- every endpoint is isochronous but EP0 and OUT 1
 abbrev all-but : Dir → ℕ → Bool

@@ -14,7 +14,7 @@ use Rattle.regs.specs.declared.Dir.the-variants.{Out, In}
 use Rattle.state.specs.declared.Globals.{Globals}
 use Rattle.model.specs.Statics.{isoInEvery, isoOuts}
 use Rattle.model.specs.ToggledLaws.{apart}
-use Rattle.model.specs.Sorts.{Sorts, Among}
+use Rattle.model.specs.TransferKinds.{TransferKinds, Among}
 
 -- no walk over such endpoints has more
 abbrev pub Most : ℕ → (ℕ → Bool) → Type 0

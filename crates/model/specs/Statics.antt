@@ -13,7 +13,7 @@ use Rattle.regs.specs.Enables.{inEnabled, outEnabled}
 use Rattle.state.specs.declared.Globals.{Globals}
 use Rattle.state.specs.Wakes.{wakeCode, busCode, every-endpoint}
 use Rattle.state.specs.Kept.{withIntEn, withEpType}
-use Rattle.model.specs.Cells.{Plain, globals-cell, ep-cell, paced-cell}
+use Rattle.model.specs.Cells.{EpCore, globals-cell, ep-cell, paced-cell}
 use Rattle.model.specs.Script.{Script, ret, done, test, _>>=_, _>>_, read, write, get, put, act, when, waken}
 use Rattle.frame.specs.Advance.{NO_FRAME}
 
@@ -27,27 +27,27 @@ flag false = 0
 
 -- ---- an endpoint's record
 
-abbrev pub withReady : ℕ → Plain → Plain
+abbrev pub withReady : ℕ → EpCore → EpCore
 withReady v p = record { ready = v; len = p .len; armed = p .armed; «last_frame» = p .«last_frame»; tog = p .tog; iso = p .iso; kind = p .kind; base = p .base; «max_len» = p .«max_len» }
 
-abbrev pub withLen : ℕ → Plain → Plain
+abbrev pub withLen : ℕ → EpCore → EpCore
 withLen v p = record { ready = p .ready; len = v; armed = p .armed; «last_frame» = p .«last_frame»; tog = p .tog; iso = p .iso; kind = p .kind; base = p .base; «max_len» = p .«max_len» }
 
-abbrev pub withArmed : ℕ → Plain → Plain
+abbrev pub withArmed : ℕ → EpCore → EpCore
 withArmed v p = record { ready = p .ready; len = p .len; armed = v; «last_frame» = p .«last_frame»; tog = p .tog; iso = p .iso; kind = p .kind; base = p .base; «max_len» = p .«max_len» }
 
-abbrev pub withLastFrame : ℕ → Plain → Plain
+abbrev pub withLastFrame : ℕ → EpCore → EpCore
 withLastFrame v p = record { ready = p .ready; len = p .len; armed = p .armed; «last_frame» = v; tog = p .tog; iso = p .iso; kind = p .kind; base = p .base; «max_len» = p .«max_len» }
 
-abbrev pub withTog : ℕ → Plain → Plain
+abbrev pub withTog : ℕ → EpCore → EpCore
 withTog v p = record { ready = p .ready; len = p .len; armed = p .armed; «last_frame» = p .«last_frame»; tog = v; iso = p .iso; kind = p .kind; base = p .base; «max_len» = p .«max_len» }
 
 -- `EpState::reset` (mod.rs 165-173), but for the ring
-abbrev pub renewed : Plain → Plain
+abbrev pub renewed : EpCore → EpCore
 renewed p = withTog 0 (withArmed 0 (withReady 0 (withLastFrame NO_FRAME p)))
 
 -- a stage or a transaction is complete: no packet is armed or loaded, and the task may go on
-abbrev pub completed : Plain → Plain
+abbrev pub completed : EpCore → EpCore
 completed p = withReady 1 (withArmed 0 p)
 
 -- ---- the globals
@@ -74,7 +74,7 @@ modify f = do
   g ← get globals-cell
   put globals-cell (f g)
 
-abbrev pub modifyEp : {i : Bool} → Dir → ℕ → (Plain → Plain) → Script i Unit
+abbrev pub modifyEp : {i : Bool} → Dir → ℕ → (EpCore → EpCore) → Script i Unit
 modifyEp d e f = do
   p ← get (ep-cell d e)
   put (ep-cell d e) (f p)

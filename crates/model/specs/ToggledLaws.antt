@@ -13,7 +13,7 @@ use Rattle.regs.specs.Registers.{ctrlOf}
 use Rattle.regs.specs.ControlWord.{ACK, response, toggle, withResponse, ack, isData1}
 use Rattle.regs.specs.MisStatus.{sieFree}
 use Rattle.model.specs.Tree as tree
-use Rattle.model.specs.Cells.{Plain, ep-cell}
+use Rattle.model.specs.Cells.{EpCore, ep-cell}
 use Rattle.model.specs.Script.{Ops, run, Script, ret, test, when, get, _>>=_, _>>_}
 use Rattle.model.specs.Statics.{isOn, flag, withArmed, withTog, modifyEp, modifyReg}
 use Rattle.model.specs.Handler.{looks, repeated, toggled}
@@ -63,12 +63,12 @@ abbrev pub Answered : Dir → ℕ → Pid → Bool → List Access → Type 0
 Answered d e p true ws = AcksAgain d e p ws
 Answered d e p false ws = ws ≡ []
 
-abbrev pub recordAfter : Pid → Bool → Plain → Plain
+abbrev pub recordAfter : Pid → Bool → EpCore → EpCore
 recordAfter p true r = withArmed 0 (withTog (number p) r)
 recordAfter p false r = r
 
 -- of an endpoint whose record was r: whether a packet passed, the bit now
-pub record Toggled {S : Type 0} (O : Ops S) (d : Dir) (e : ℕ) (r : Plain) (p : Pid) (new : Bool) (ws : List Access) (told : Bool) (t : S) : Type 0 where
+pub record Toggled {S : Type 0} (O : Ops S) (d : Dir) (e : ℕ) (r : EpCore) (p : Pid) (new : Bool) (ws : List Access) (told : Bool) (t : S) : Type 0 where
   pub answer : told ≡ new
   pub recorded : O .get (ep-cell d e) t ≡ recordAfter p new r
   pub handshake : Answered d e p (not new && isOn (r .armed)) ws
@@ -88,7 +88,7 @@ verdict d e word = do
 pub apart : {A : Type 0} → true ≡ false → A
 apart h = let z : _≡_ {A = ℕ} 0 1 = cc in absurd (omega arith)
 
-module _ {S : Type 0} (K : S → Type 0) (O : Ops S) (d : Dir) (e : ℕ) (assigns : Assigns K O d e) (r : Plain) (p : Pid) where
+module _ {S : Type 0} (K : S → Type 0) (O : Ops S) (d : Dir) (e : ℕ) (assigns : Assigns K O d e) (r : EpCore) (p : Pid) where
   abbrev Runs : {A : Type 0} → (List Access → A → S → Type 0) → List Access → tree.Out S A → Type 0
   Runs P ws o = Every (toggling d e p) (KeepsRecord K O d e) (λ _. Unit {0}) P ws o
 
@@ -102,16 +102,16 @@ module _ {S : Type 0} (K : S → Type 0) (O : Ops S) (d : Dir) (e : ℕ) (assign
   repeats i ws n u word h y = every-cond (repeated (O .get (ep-cell d e) u) word)
       (λ _. every-bind {P = λ ws _ t. (O .get (ep-cell d e) t ≡ r) × Answered d e p (isOn (r .armed)) ws}
       (every-cond (isOn (O .get (ep-cell d e) u .armed))
-      (λ a. at-ask tt (λ w t b k. at-ask tt (λ _ t′ _ k′. at-end (k′ .0 ∙ (k .0 ∙ h), rw (sym (ap (λ (z : Plain). isOn (z .armed)) h) ∙ a) (record { word = ack w; writes = ap (λ l. Write (ctrlOf d) e (ack w) ∷ l) n; acks = ack-acks w; keeps = ack-keeps w ∙ b refl })))))
-      (λ a. at-end (h, rw (sym (ap (λ (z : Plain). isOn (z .armed)) h) ∙ a) n)))
+      (λ a. at-ask tt (λ w t b k. at-ask tt (λ _ t′ _ k′. at-end (k′ .0 ∙ (k .0 ∙ h), rw (sym (ap (λ (z : EpCore). isOn (z .armed)) h) ∙ a) (record { word = ack w; writes = ap (λ l. Write (ctrlOf d) e (ack w) ∷ l) n; acks = ack-acks w; keeps = ack-keeps w ∙ b refl })))))
+      (λ a. at-end (h, rw (sym (ap (λ (z : EpCore). isOn (z .armed)) h) ∙ a) n)))
       (λ g _ t x. at-end (record { answer = refl; recorded = x .0; handshake = x .1 })))
-      (λ z. apart (sym y ∙ (ap (λ (q : Plain). repeated q word) (sym h) ∙ z)))
+      (λ z. apart (sym y ∙ (ap (λ (q : EpCore). repeated q word) (sym h) ∙ z)))
 
   -- one passed
   renews : (i : Bool) (ws : List Access) → ws ≡ [] → (u : S) (word : ℕ) → K u → O .get (ep-cell d e) u ≡ r → toggle word ≡ number p → repeated r word ≡ false → Runs (Toggled O d e r p true) ws (run O (verdict {i = i} d e word) u)
   renews i ws n u word z h b y = every-cond (repeated (O .get (ep-cell d e) u) word)
-      (λ x. apart (sym x ∙ (ap (λ (q : Plain). repeated q word) h ∙ y)))
-      (λ _. at-end (record { answer = refl; recorded = assigns _ u z ∙ (ap (λ (q : Plain). withArmed 0 (withTog (flag (isData1 word)) q)) h ∙ ap (λ (m : ℕ). withArmed 0 (withTog m r)) (shown p word b)); handshake = n }))
+      (λ x. apart (sym x ∙ (ap (λ (q : EpCore). repeated q word) h ∙ y)))
+      (λ _. at-end (record { answer = refl; recorded = assigns _ u z ∙ (ap (λ (q : EpCore). withArmed 0 (withTog (flag (isData1 word)) q)) h ∙ ap (λ (m : ℕ). withArmed 0 (withTog m r)) (shown p word b)); handshake = n }))
 
   judged : (i : Bool) (new : Bool) (ws : List Access) → ws ≡ [] → (u : S) (word : ℕ) → K u → O .get (ep-cell d e) u ≡ r → toggle word ≡ number p → repeated r word ≡ not new → Runs (Toggled O d e r p new) ws (run O (verdict {i = i} d e word) u)
   judged i true ws n u word z h b y = renews i ws n u word z h b y

@@ -8,7 +8,7 @@ use lib.Dec.{eqb}
 use Rattle.regs.specs.declared.Dir.{Dir}
 use Rattle.regs.specs.declared.Dir.the-variants.{Out, In}
 use Rattle.regs.specs.ControlWord.{toggle, isData1}
-use Rattle.model.specs.Cells.{Plain}
+use Rattle.model.specs.Cells.{EpCore}
 use Rattle.model.specs.Statics.{flag}
 use Rattle.model.specs.Handler.{repeated}
 use Rattle.model.specs.Usb20Toggles.{Pid, DATA0, DATA1, other, same, Transaction, received, not-taken, passes, acknowledges, bitAfter, bitAfterAll, count, passed}
@@ -67,7 +67,7 @@ kept DATA1 (suc zero) h = refl
 kept b (suc (suc n)) h = absurd (omega arith)
 
 -- the record has the bit as it was, the word the bit after the transactions since, of which at most one passed: a repeat is what did not pass
-pub repeated-not-passed : {d : Dir} (s : Plain) (word : ℕ) (b : Pid) (ts : List (Transaction d)) → s .tog ≡ number b → toggle word ≡ number (bitAfterAll b ts) → passed b ts ≤ 1
+pub repeated-not-passed : {d : Dir} (s : EpCore) (word : ℕ) (b : Pid) (ts : List (Transaction d)) → s .tog ≡ number b → toggle word ≡ number (bitAfterAll b ts) → passed b ts ≤ 1
     → repeated s word ≡ not (eqb (passed b ts) 1)
 unfolding repeated
 repeated-not-passed s word b ts r w h =

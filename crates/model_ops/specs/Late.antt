@@ -18,7 +18,7 @@ use Rattle.marks.specs.Stored.{StoredAlone, true-length, true-bytes}
 use Rattle.model.specs.Script.{marked}
 use Rattle.model.specs.Statics.{isOn, isoOuts}
 use Rattle.model_ops.specs.Rings.{St, markedOn, admittedOn, armAt, armOn, arriveOn, renewedOn, slotStep}
-use Rattle.model_ops.specs.Conc.{conc}
+use Rattle.model_ops.specs.Concrete.{concrete}
 
 -- The armed slot of OUT e, of the record r: it was armed when the buffer was b, and since then the packet alone was stored in it; the packet lies
 -- within the maximum, and its last byte, if it has one, differs from the mark's byte at its place.
@@ -30,12 +30,12 @@ pub record LatePacket (r : EpState) (b packet c : List ℕ) : Type 0 where
 
 module _ (e : ℕ) (s : St) {b packet : List ℕ} (p : LatePacket (epOn (s .0) Out e) b packet (s .1)) where
   -- it is looked at with its length
-  pub late-length : conc .look (marked e) s ≡ length packet
+  pub late-length : concrete .look (marked e) s ≡ length packet
   unfolding markedOn
   late-length = true-length b (epOn (s .0) Out e .«armed_slot») (epOn (s .0) Out e .«max_len») packet (p .fits) (p .small) (s .1) (p .alone) (p .last)
 
   -- and the bytes of that length are its own
-  pub late-bytes : bytesAt (s .1) (epOn (s .0) Out e .«armed_slot») (conc .look (marked e) s) ≡ packet
+  pub late-bytes : bytesAt (s .1) (epOn (s .0) Out e .«armed_slot») (concrete .look (marked e) s) ≡ packet
   late-bytes =
       ap (bytesAt (s .1) (epOn (s .0) Out e .«armed_slot»)) late-length
       ∙ true-bytes b (epOn (s .0) Out e .«armed_slot») (epOn (s .0) Out e .«max_len») packet (p .fits) (p .small) (s .1) (p .alone)

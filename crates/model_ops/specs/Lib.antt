@@ -2,6 +2,6 @@ pub mod Records
 pub mod Rings
 pub mod RingLaws
 pub mod Stamps
-pub mod Conc
+pub mod Concrete
 pub mod Late
 pub mod Values

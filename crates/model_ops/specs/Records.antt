@@ -13,11 +13,11 @@ use Rattle.state.specs.Kept.{withEpConfig}
 use Rattle.alloc.specs.declared.Answer.{Answer}
 use Rattle.alloc.specs.declared.Answer.the-variants.{Refused, Given}
 use Rattle.alloc.specs.Alloc.{allocateOf, allocateEp0Of, allocated, isIso}
-use Rattle.model.specs.Cells.{Plain}
+use Rattle.model.specs.Cells.{EpCore}
 use Rattle.model.specs.Statics.{isOn}
 
 -- all but the ring
-abbrev pub plainOf : EpState → Plain
+abbrev pub plainOf : EpState → EpCore
 plainOf r = record {
   ready = r .ready;
   len = r .len;
@@ -31,7 +31,7 @@ plainOf r = record {
 }
 
 -- `ready`, `len`, `armed`, `last_frame` and `tog` are assigned
-abbrev pub merged : EpState → Plain → EpState
+abbrev pub merged : EpState → EpCore → EpState
 merged r p = record {
   ready = p .ready;
   len = p .len;

@@ -19,7 +19,7 @@ use Rattle.ring.specs.Out.{hasRoomOut, cappedAt, arrivedOf, armedAt, openedOf, 
 use Rattle.ring.specs.In.{hasRoomIn, completedOf, loadedOf, unloadedOf}
 use Rattle.marks.specs.Marks.{isMarked, markedLen, armed}
 use Rattle.marks.specs.Copies.{copied, bytesAt}
-use Rattle.model.specs.Script.{Row, switch, bus-reset}
+use Rattle.model.specs.Script.{Burst, switch, bus-reset}
 use Rattle.model.specs.Statics.{isOn, isoOuts, withSetup}
 use Rattle.model_ops.specs.Records.{isoOut}
 
@@ -217,6 +217,6 @@ resetStep (suc zero) s = (0, s)
 resetStep (suc (suc zero)) s = (0, (withGlobals (s .0) (withEpType 0 (s .0 .globals)), s .1))
 resetStep (suc (suc (suc k))) s = (0, (withGlobals (s .0) (withEpConfig 0 (s .0 .globals)), s .1))
 
-abbrev pub rowOn : Row → ℕ → St → ℕ × St
+abbrev pub rowOn : Burst → ℕ → St → ℕ × St
 rowOn (switch e on) n s = switchStep e on n s
 rowOn bus-reset n s = resetStep n s

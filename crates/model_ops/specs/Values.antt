@@ -8,7 +8,7 @@ use Rattle.marks.specs.Marks.{mark, markedLen}
 use Rattle.marks.specs.Copies.{copied}
 use Rattle.marks.specs.Table as marks
 use Rattle.ring.specs.Slot.{slotOf, countOf}
-use Rattle.ring.specs.Out.{turnedAwayOf}
+use Rattle.ring.specs.Out.{overrunOf}
 use Rattle.ring.specs.Table.{sample}
 use Rattle.ring.specs.Table as rings
 
@@ -29,5 +29,5 @@ pub table :
     × (markedLen (1 ∷ 2 ∷ 3 ∷ 4 ∷ 5 ∷ 0xA5 ∷ 0x3C ∷ 0x5A ∷ []) 0 8 ≡ 5))
     × ((countOf (sample 3 250 0) ≡ 9)
     × (slotOf (sample 3 250 0) 250 ≡ 10)
-    × (turnedAwayOf (sample 3 250 4294967295) .overruns ≡ 0))
+    × (overrunOf (sample 3 250 4294967295) .overruns ≡ 0))
 table = (frames.table, marks.table, rings.table)

@@ -8,7 +8,7 @@ use Rattle.model.specs.Tree as tree
 use Rattle.model.specs.Tree.{ends, asks}
 use Rattle.model.specs.Script.{run}
 use Rattle.model_ops.specs.Rings.{St}
-use Rattle.model_ops.specs.Conc.{conc}
+use Rattle.model_ops.specs.Concrete.{concrete}
 use Rattle.proof_alloc_all.specs.Hands.{allocation}
 
 -- what continue number i brings
@@ -29,6 +29,6 @@ endsAs f i (asks q s k) = endsAs f (suc i) (k (f i .0) (s .0, f i .1))
 unfoldable pub oneByOneAs : (ℕ → Brings) → (ℕ → List ℕ) → ℕ → List Endpoint → Driver → List Access × Driver
 oneByOneAs g bs j [] d = ([], d)
 oneByOneAs g bs j (e ∷ es) d =
-    let o = run conc (allocation e) (d, bs j) in
+    let o = run concrete (allocation e) (d, bs j) in
     let r = oneByOneAs g bs (suc j) es (endsAs (g j) 0 o .1) in
     (handsAs (g j) 0 o ++ r .0, r .1)

@@ -32,7 +32,7 @@ use Rattle.model.specs.Driver.{newEndpoint, allocated-as}
 use Rattle.model.specs.AllocateAll.{allocateEach, announce, endOf, beginsAt, announceAfter, announceAll, allocate-tried, allocate-read}
 use Rattle.model.specs.Calls.{AllocateAll, otherCode}
 use Rattle.model_ops.specs.Rings.{St}
-use Rattle.model_ops.specs.Conc.{conc}
+use Rattle.model_ops.specs.Concrete.{concrete}
 use Rattle.proof_alloc_all.specs.Hands.{handsOut, endsWith, allocation, oneByOne}
 use Rattle.proof_alloc_all.specs.Brought.{Brings, handsAs, endsAs, oneByOneAs}
 use Rattle.proof_alloc_all.specs.Settled.{Settled}
@@ -70,14 +70,14 @@ bind-same (asks q s k) (ends c t) f h g = absurd h
 -- ---- scripts that are so
 
 record Deaf {A : Type 0} (p : Script false A) : Type 0 where
-  same : (d : Driver) (b c : List ℕ) → Same (run conc p (d, b)) (run conc p (d, c))
+  same : (d : Driver) (b c : List ℕ) → Same (run concrete p (d, b)) (run concrete p (d, c))
 
 returns : {A : Type 0} (a : A) → Deaf (ret a)
 returns a = record { same = λ d b c. (refl, refl) }
 
 then : {A B : Type 0} {p : Script false A} {k : A → Script false B} → Deaf p → ((a : A) → Deaf (k a)) → Deaf (bind p k)
 then {p = p} {k = k} h g = record {
-  same = λ d b c. bind-same (run conc p (d, b)) (run conc p (d, c)) (λ a s. run conc (k a) s) (h .same d b c) (λ a d b c. g a .same d b c);
+  same = λ d b c. bind-same (run concrete p (d, b)) (run concrete p (d, c)) (λ a s. run concrete (k a) s) (h .same d b c) (λ a d b c. g a .same d b c);
 }
 
 tests : {A : Type 0} (t : Bool) {p q : Script false A} → Deaf p → Deaf q → Deaf (test t p q)
@@ -150,8 +150,8 @@ singly : (g : ℕ → Brings) (bs : ℕ → List ℕ) (j : ℕ) (es : List Endpo
 unfolding oneByOneAs oneByOne
 singly g bs j [] d b = refl
 singly g bs j (e ∷ es) d b =
-    let o = run conc (allocation e) (d, bs j) in
-    let u = run conc (allocation e) (d, b) in
+    let o = run concrete (allocation e) (d, bs j) in
+    let u = run concrete (allocation e) (d, b) in
     let s = single e .same d (bs j) b in
     let t = endsWith u .1 in
     ap (λ (z : Driver). (handsAs (g j) 0 o ++ oneByOneAs g bs (suc j) es z .0, oneByOneAs g bs (suc j) es z .1)) (ap (λ (z : answers.Answer × Driver). z .1) (to-ends (g j) 0 o u s))
@@ -162,14 +162,14 @@ singly g bs j (e ∷ es) d b =
 
 -- as `in-order`, for any numbers and slots brought to the operation's continues, f, and to those of each allocation, g and bs
 pub record InOrderAs (d : Driver) (b bytes : List ℕ) (f : Brings) (g : ℕ → Brings) (bs : ℕ → List ℕ) : Type 0 where
-  pub hands : handsAs f 0 (run conc (otherCode (AllocateAll bytes)) (d, b)) ≡ oneByOneAs g bs 0 (listOf bytes) d .0
-  pub ends-so : endsAs f 0 (run conc (otherCode (AllocateAll bytes)) (d, b))
+  pub hands : handsAs f 0 (run concrete (otherCode (AllocateAll bytes)) (d, b)) ≡ oneByOneAs g bs 0 (listOf bytes) d .0
+  pub ends-so : endsAs f 0 (run concrete (otherCode (AllocateAll bytes)) (d, b))
       ≡ (End (length (listOf bytes)) [], withWakes (oneByOneAs g bs 0 (listOf bytes) d .1) none-woken)
 
 pub in-order-as : (d : Driver) (b bytes : List ℕ) → Settled d → d .globals .stage ≡ 1 → ((j : ℕ) → getD bytes j 0 < 256) → readingOf bytes .answer ≡ reading.Listed
     → trialOf (d .allocator) (listOf bytes) .refusal ≡ 0 → (f : Brings) (g : ℕ → Brings) (bs : ℕ → List ℕ) → InOrderAs d b bytes f g bs
 in-order-as d b bytes s stage small reads given f g bs =
-    let o = run conc (otherCode (AllocateAll bytes)) (d, b) in
+    let o = run concrete (otherCode (AllocateAll bytes)) (d, b) in
     let r = in-order d b bytes s stage small reads given in
     let z = singly g bs 0 (listOf bytes) d b in
     record {

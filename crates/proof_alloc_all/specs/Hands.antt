@@ -15,7 +15,7 @@ use Rattle.model.specs.Script.{Script, run, dma}
 use Rattle.model.specs.Answers.{Answer}
 use Rattle.model.specs.Calls.{Allocate, otherCode}
 use Rattle.model_ops.specs.Rings.{St}
-use Rattle.model_ops.specs.Conc.{conc}
+use Rattle.model_ops.specs.Concrete.{concrete}
 
 -- its accesses; it reads nothing, so any number is brought
 abbrev pub handsOut : {A : Type 0} → tree.Out St A → List Access
@@ -35,7 +35,7 @@ allocation e = otherCode (Allocate (directionOf (e .address)) (e .kind) (e .addr
 unfoldable pub oneByOne : List Endpoint → St → List Access × St
 oneByOne [] s = ([], s)
 oneByOne (e ∷ es) s =
-    let o = run conc (allocation e) s in
+    let o = run concrete (allocation e) s in
     let r = oneByOne es (endsWith o .1) in
     (handsOut o ++ r .0, r .1)
 

@@ -37,7 +37,7 @@ use Rattle.model.specs.AllocateAll.{allocate-read}
 use Rattle.model.specs.Calls.{AllocateAll, otherCode}
 use Rattle.model_ops.specs.Records.{recordGiven, setsGiven, givenTo, allocatedOn}
 use Rattle.model_ops.specs.Rings.{St, placeOn}
-use Rattle.model_ops.specs.Conc.{conc, go}
+use Rattle.model_ops.specs.Concrete.{concrete, go}
 use Rattle.alloc_all.specs.Each.{oneOn, eachOn, each-run, announceAll}
 use Rattle.proof_alloc_all.specs.Hands.{handsOut, endsWith, allocation, oneByOne, accesses}
 use Rattle.proof_alloc_all.specs.Given.{gives, given-number, one-allocator, one-stage}
@@ -130,9 +130,9 @@ module _ (d : Driver) (b : List ℕ) (e : Endpoint) (n x slots : ℕ) (q : asked
   tail c p = bindOut (bindOut (buffer c p) (λ _ u. ends n u)) lastly
 
   abbrev as-answered : Answer → tree.Out St answers.Answer
-  as-answered z = run {i = false} conc (allocated-as (directionOf (e .address)) (e .kind) (e .maximum) z) (oneOn d e, b)
+  as-answered z = run {i = false} concrete (allocated-as (directionOf (e .address)) (e .kind) (e .maximum) z) (oneOn d e, b)
 
-  runs : run conc (allocation e) (d, b) ≡ as-answered (Given n x slots)
+  runs : run concrete (allocation e) (d, b) ≡ as-answered (Given n x slots)
   unfolding oneOn asked
   runs =
       ap (λ (t : Bool). cond t (as-answered (allocateOf (d .allocator) (e .kind) (e .address) (e .maximum) (directionOf (e .address)) .answer)) (ends (answers.Refused 4) (d, b))) (eq-eqb (d .globals .stage) 1 stage)
@@ -152,13 +152,13 @@ module _ (d : Driver) (b : List ℕ) (e : Endpoint) (n x slots : ℕ) (q : asked
   tail-ends true = refl
   tail-ends false = refl
 
-  one-hands : handsOut (run conc (allocation e) (d, b)) ≡ accesses (directionOf (e .address)) n (e .kind) (e .maximum) x
+  one-hands : handsOut (run concrete (allocation e) (d, b)) ≡ accesses (directionOf (e .address)) n (e .kind) (e .maximum) x
   one-hands =
       ap handsOut runs
       ∙ ap (λ (p : ℕ × Driver). Write EpMaxLen n (e .maximum) ∷ handsOut (tail (not (eqb (e .kind % 4) 0)) p)) place-is
       ∙ ap (λ (l : List Access). Write EpMaxLen n (e .maximum) ∷ l) (tail-hands (not (eqb (e .kind % 4) 0)))
 
-  pub one-ends : endsWith (run conc (allocation e) (d, b)) ≡ (End n [], (withWakes (oneOn d e) none-woken, b))
+  pub one-ends : endsWith (run concrete (allocation e) (d, b)) ≡ (End n [], (withWakes (oneOn d e) none-woken, b))
   one-ends =
       ap endsWith runs
       ∙ ap (λ (p : ℕ × Driver). endsWith (tail (not (eqb (e .kind % 4) 0)) p)) place-is
@@ -186,7 +186,7 @@ stepwise (e ∷ es) d b s stage (goes-on _ _ _ n x slots q r) g =
     sym (more d e n x slots q s) ∙ rw (v .starts, v .slots) in
     record {
       hands =
-          ap (λ (z : St). handsOut (run conc (allocation e) (d, b)) ++ oneByOne es z .0) w
+          ap (λ (z : St). handsOut (run concrete (allocation e) (d, b)) ++ oneByOne es z .0) w
           ∙ ap (λ (l : List Access). l ++ oneByOne es (d2, b) .0) (one-hands d b e n x slots q s stage)
           ∙ ap (λ (l : List Access). accesses (directionOf (e .address)) n (e .kind) (e .maximum) x ++ l) (i .hands ∙ ap (λ (z : ℕ). handed z (d2 .allocator .next * d2 .allocator .size) es) (same-size d e n x slots q s) ∙ ap (λ (z : ℕ). handed (d .allocator .size) z es) y)
           ∙ ap (λ (z : ℕ). accesses (directionOf (e .address)) z (e .kind) (e .maximum) x ++ handed (d .allocator .size) (d .allocator .next * d .allocator .size + slotsOf (isIso (e .kind)) (directionOf (e .address)) * d .allocator .size) es) m
@@ -222,8 +222,8 @@ all-hands (e ∷ es) d b x c =
 -- a descriptor without error, none of whose endpoints would be refused: all that the operation hands out is what their own allocations hand out, one
 -- after the other; it ends with how many were given, and with the state that these leave
 pub record InOrder (d : Driver) (b bytes : List ℕ) : Type 0 where
-  pub hands : handsOut (run conc (otherCode (AllocateAll bytes)) (d, b)) ≡ oneByOne (listOf bytes) (d, b) .0
-  pub ends-so : endsWith (run conc (otherCode (AllocateAll bytes)) (d, b)) ≡ (End (length (listOf bytes)) [], (withWakes (oneByOne (listOf bytes) (d, b) .1 .0) none-woken, b))
+  pub hands : handsOut (run concrete (otherCode (AllocateAll bytes)) (d, b)) ≡ oneByOne (listOf bytes) (d, b) .0
+  pub ends-so : endsWith (run concrete (otherCode (AllocateAll bytes)) (d, b)) ≡ (End (length (listOf bytes)) [], (withWakes (oneByOne (listOf bytes) (d, b) .1 .0) none-woken, b))
 
 pub in-order : (d : Driver) (b bytes : List ℕ) → Settled d → d .globals .stage ≡ 1 → ((j : ℕ) → getD bytes j 0 < 256) → readingOf bytes .answer ≡ reading.Listed
     → trialOf (d .allocator) (listOf bytes) .refusal ≡ 0 → InOrder d b bytes
@@ -237,11 +237,11 @@ in-order d b bytes s stage small reads given =
     let c = chain-wakes es (eachOn d es) none-woken (d .allocator .next * d .allocator .size) (chain es d s a g) in
     let h = all-hands es D b (d .allocator .next * d .allocator .size) c in
     let z = stepwise es d b s stage a g in
-    let r : run conc (otherCode (AllocateAll bytes)) (d, b) ≡ bindOut (go (announceAll es) D b) finishing =
-    ap (λ (t : Bool). cond t (run {i = false} conc (allocate-read bytes (readingOf bytes .answer)) (d, b)) (ends (answers.Refused 4) (d, b))) (eq-eqb (d .globals .stage) 1 stage)
-    ∙ ap (λ (y : reading-answer.Answer). run {i = false} conc (allocate-read bytes y) (d, b)) reads
-    ∙ ap (λ (t : Bool). cond t (bindOut (go (script.allocateEach {i = false} es) d b) (λ _ u. run {i = false} conc (operation (announceAll es)) u)) (ends (answers.Refused (trialOf (d .allocator) es .refusal)) (d, b))) (eq-eqb (trialOf (d .allocator) es .refusal) 0 given)
-    ∙ ap (λ (y : tree.Out St Unit). bindOut y (λ _ u. run {i = false} conc (operation (announceAll es)) u)) (each-run es d b) in
+    let r : run concrete (otherCode (AllocateAll bytes)) (d, b) ≡ bindOut (go (announceAll es) D b) finishing =
+    ap (λ (t : Bool). cond t (run {i = false} concrete (allocate-read bytes (readingOf bytes .answer)) (d, b)) (ends (answers.Refused 4) (d, b))) (eq-eqb (d .globals .stage) 1 stage)
+    ∙ ap (λ (y : reading-answer.Answer). run {i = false} concrete (allocate-read bytes y) (d, b)) reads
+    ∙ ap (λ (t : Bool). cond t (bindOut (go (script.allocateEach {i = false} es) d b) (λ _ u. run {i = false} concrete (operation (announceAll es)) u)) (ends (answers.Refused (trialOf (d .allocator) es .refusal)) (d, b))) (eq-eqb (trialOf (d .allocator) es .refusal) 0 given)
+    ∙ ap (λ (y : tree.Out St Unit). bindOut y (λ _ u. run {i = false} concrete (operation (announceAll es)) u)) (each-run es d b) in
     record {
       hands = ap handsOut r ∙ finish-hands (go (announceAll es) D b) ∙ h .0 ∙ ap (λ (y : ℕ). handed y (d .allocator .next * d .allocator .size) es) (all-size es d s a) ∙ sym (z .hands);
       ends-so = ap endsWith r ∙ finish-ends (go (announceAll es) D b) ∙ ap (λ (y : ℕ × St). (End (y .0) (listed (y .1 .0 .wakes)), y .1)) (h .1) ∙ ap (λ (y : Driver). (End (length es) [], (y, b))) (sym (z .state));
@@ -251,17 +251,17 @@ in-order d b bytes s stage small reads given =
 
 -- by the refusal of the first endpoint that would be refused: nothing is handed out, nothing changes
 pub none-given : (d : Driver) (b bytes : List ℕ) (n : ℕ) → d .globals .stage ≡ 1 → readingOf bytes .answer ≡ reading.Listed
-    → trialOf (d .allocator) (listOf bytes) .refusal ≡ n → (n ≡ 0 → ⊥) → run conc (otherCode (AllocateAll bytes)) (d, b) ≡ ends (answers.Refused n) (d, b)
+    → trialOf (d .allocator) (listOf bytes) .refusal ≡ n → (n ≡ 0 → ⊥) → run concrete (otherCode (AllocateAll bytes)) (d, b) ≡ ends (answers.Refused n) (d, b)
 none-given d b bytes n stage listed refused some =
     let es = listOf bytes in
-    ap (λ (t : Bool). cond t (run {i = false} conc (allocate-read bytes (readingOf bytes .answer)) (d, b)) (ends (answers.Refused 4) (d, b))) (eq-eqb (d .globals .stage) 1 stage)
-    ∙ ap (λ (y : reading-answer.Answer). run {i = false} conc (allocate-read bytes y) (d, b)) listed
-    ∙ ap (λ (k : ℕ). cond (eqb k 0) (bindOut (go (script.allocateEach {i = false} es) d b) (λ _ u. run {i = false} conc (operation (announceAll es)) u)) (ends (answers.Refused k) (d, b))) refused
+    ap (λ (t : Bool). cond t (run {i = false} concrete (allocate-read bytes (readingOf bytes .answer)) (d, b)) (ends (answers.Refused 4) (d, b))) (eq-eqb (d .globals .stage) 1 stage)
+    ∙ ap (λ (y : reading-answer.Answer). run {i = false} concrete (allocate-read bytes y) (d, b)) listed
+    ∙ ap (λ (k : ℕ). cond (eqb k 0) (bindOut (go (script.allocateEach {i = false} es) d b) (λ _ u. run {i = false} concrete (operation (announceAll es)) u)) (ends (answers.Refused k) (d, b))) refused
     ∙ rw (ne-eqb n 0 some)
 
 -- by 17 or 18
 pub unread : (d : Driver) (b bytes : List ℕ) (n : ℕ) → d .globals .stage ≡ 1 → readingOf bytes .answer ≡ reading.Refused n
-    → run conc (otherCode (AllocateAll bytes)) (d, b) ≡ ends (answers.Refused n) (d, b)
+    → run concrete (otherCode (AllocateAll bytes)) (d, b) ≡ ends (answers.Refused n) (d, b)
 unread d b bytes n stage refused =
-    ap (λ (t : Bool). cond t (run {i = false} conc (allocate-read bytes (readingOf bytes .answer)) (d, b)) (ends (answers.Refused 4) (d, b))) (eq-eqb (d .globals .stage) 1 stage)
-    ∙ ap (λ (y : reading-answer.Answer). run {i = false} conc (allocate-read bytes y) (d, b)) refused
+    ap (λ (t : Bool). cond t (run {i = false} concrete (allocate-read bytes (readingOf bytes .answer)) (d, b)) (ends (answers.Refused 4) (d, b))) (eq-eqb (d .globals .stage) 1 stage)
+    ∙ ap (λ (y : reading-answer.Answer). run {i = false} concrete (allocate-read bytes y) (d, b)) refused

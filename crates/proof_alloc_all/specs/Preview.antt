@@ -29,7 +29,7 @@ use Rattle.model.specs.Answers.{End}
 use Rattle.model.specs.Driver.{allocated-as}
 use Rattle.model_ops.specs.Records.{givenTo, allocatedOn}
 use Rattle.model_ops.specs.Rings.{St}
-use Rattle.model_ops.specs.Conc.{conc}
+use Rattle.model_ops.specs.Concrete.{concrete}
 use Rattle.alloc_all.specs.Each.{oneOn}
 use Rattle.proof_alloc_all.specs.Hands.{endsWith, allocation}
 use Rattle.proof_alloc_all.specs.Given.{one-allocator, one-stage}
@@ -39,8 +39,8 @@ use Rattle.proof_alloc_all.specs.Order.{settled-wakes, one-ends}
 -- from a state, for a list: the numbers that the calls end with, the refusal that ended it or 0, and the state then
 pub data Calls : St → List Endpoint → List ℕ → ℕ → St → Type 0 where
   all-given : (s : St) → Calls s [] [] 0 s
-  refused : (s : St) (e : Endpoint) (es : List Endpoint) (n : ℕ) → run conc (allocation e) s ≡ ends (answers.Refused n) s → Calls s (e ∷ es) [] n s
-  ended : (s t u : St) (e : Endpoint) (es : List Endpoint) (k : ℕ) → endsWith (run conc (allocation e) s) ≡ (End k [], t) → (ns : List ℕ) (n : ℕ)
+  refused : (s : St) (e : Endpoint) (es : List Endpoint) (n : ℕ) → run concrete (allocation e) s ≡ ends (answers.Refused n) s → Calls s (e ∷ es) [] n s
+  ended : (s t u : St) (e : Endpoint) (es : List Endpoint) (k : ℕ) → endsWith (run concrete (allocation e) s) ≡ (End k [], t) → (ns : List ℕ) (n : ℕ)
       → Calls t es ns n u → Calls s (e ∷ es) (k ∷ ns) n u
 
 -- ---- a refused call changes nothing
@@ -52,11 +52,11 @@ refused-on d e n q =
     ap (λ (z : Answer). givenTo (directionOf (e .address)) (e .kind) (e .maximum) (e .interval) z (withAllocator d (asked (d .allocator) e .after))) q
     ∙ ap (withAllocator d) (f .2)
 
-refused-run : (d : Driver) (b : List ℕ) (e : Endpoint) (n : ℕ) → d .globals .stage ≡ 1 → asked (d .allocator) e .answer ≡ Refused n → run conc (allocation e) (d, b) ≡ ends (answers.Refused n) (d, b)
+refused-run : (d : Driver) (b : List ℕ) (e : Endpoint) (n : ℕ) → d .globals .stage ≡ 1 → asked (d .allocator) e .answer ≡ Refused n → run concrete (allocation e) (d, b) ≡ ends (answers.Refused n) (d, b)
 unfolding oneOn asked
 refused-run d b e n stage q =
-    ap (λ (t : Bool). cond t (run {i = false} conc (allocated-as (directionOf (e .address)) (e .kind) (e .maximum) (allocateOf (d .allocator) (e .kind) (e .address) (e .maximum) (directionOf (e .address)) .answer)) (oneOn d e, b)) (ends (answers.Refused 4) (d, b))) (eq-eqb (d .globals .stage) 1 stage)
-    ∙ ap (λ (z : Answer). run {i = false} conc (allocated-as (directionOf (e .address)) (e .kind) (e .maximum) z) (oneOn d e, b)) q
+    ap (λ (t : Bool). cond t (run {i = false} concrete (allocated-as (directionOf (e .address)) (e .kind) (e .maximum) (allocateOf (d .allocator) (e .kind) (e .address) (e .maximum) (directionOf (e .address)) .answer)) (oneOn d e, b)) (ends (answers.Refused 4) (d, b))) (eq-eqb (d .globals .stage) 1 stage)
+    ∙ ap (λ (z : Answer). run {i = false} concrete (allocated-as (directionOf (e .address)) (e .kind) (e .maximum) z) (oneOn d e, b)) q
     ∙ ap (λ (z : Driver). ends (answers.Refused n) (z, b)) (refused-on d e n q)
 
 -- ---- the allocator's run is the calls'

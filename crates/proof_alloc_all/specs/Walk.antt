@@ -28,7 +28,7 @@ use Rattle.model.specs.Statics.{isoOuts}
 use Rattle.model.specs.Answers.{isNumber, isAllocated}
 use Rattle.ring.specs.Out.{armedAt}
 use Rattle.model_ops.specs.Rings.{St, placeOn}
-use Rattle.model_ops.specs.Conc.{conc, go}
+use Rattle.model_ops.specs.Concrete.{concrete, go}
 use Rattle.driver_resume.specs.Announce.{endOn, startsAt, foundAt, following, announcing, after-none, after-in, after-out}
 use Rattle.proof_alloc_all.specs.Hands.{handsOut, endsWith, accesses}
 use Rattle.proof_alloc_all.specs.Settled.{Owns}
@@ -112,7 +112,7 @@ module _ (left total : ℕ) (d : Driver) (b : List ℕ) (dir : Dir) (n kind maxi
   buffer c p = cond c (asks (dma dir n (p .0)) (p .1, b) (λ _ u. ends tt u)) (ends tt (d, b))
 
   abbrev tail : Bool → ℕ × Driver → tree.Out St ℕ
-  tail c p = bindOut (bindOut (buffer c p) (λ _ u. ends n u)) (λ _ u. run conc (following left total dir n) u)
+  tail c p = bindOut (bindOut (buffer c p) (λ _ u. ends n u)) (λ _ u. run concrete (following left total dir n) u)
 
   kinds : not (eqb (epOn d dir n .kind % 4) 0) ≡ not (eqb (kind % 4) 0)
   kinds = let z : kind % 4 % 4 ≡ kind % 4 = omega arith in rw (o .has-kind, z)

@@ -19,7 +19,7 @@ use Rattle.model.specs.declared.Transfer.{Transfer}
 use Rattle.model.specs.Tree as tree
 use Rattle.model.specs.Tree.{ends, asks, Prog, bindOut}
 use Rattle.model.specs.Cells.{Cell, Val, globals-cell, ep-cell}
-use Rattle.model.specs.Script.{Script, Ops, Test, Look, Fetch, Act, Hand, ret, bind, test, read-then, write-then, callback-then, hand-then, get-then, put-then, is-then, look-then, fetch-then, act-then, _>>_, done, when, read, write, callback, get, put, is, look, fetch, act, hand}
+use Rattle.model.specs.Script.{Script, Ops, Test, Look, Fetch, Act, DmaStep, ret, bind, test, read-then, write-then, callback-then, hand-then, get-then, put-then, is-then, look-then, fetch-then, act-then, _>>_, done, when, read, write, callback, get, put, is, look, fetch, act, hand}
 use Rattle.model.specs.Statics.{modifyReg}
 use Rattle.model.specs.IsoIn.{firstInFrame, isoInLoad, isoInComplete, unseen, sofOne, sofWalk, onSof, lateOne, lateWalk}
 use Rattle.model.specs.IsoOut.{arrives, checkOne, checkWalk, isoOutCheck}
@@ -73,7 +73,7 @@ module _ {i : Bool} where
   unfolding accesses
   a-write = record { on = λ S O s. ask-path 0 _ s _ (λ v t w. omega arith) }
 
-  a-hand : {q : Hand} → Asks≤ {i = i} 1 (hand q)
+  a-hand : {q : DmaStep} → Asks≤ {i = i} 1 (hand q)
   unfolding accesses
   a-hand = record { on = λ S O s. ask-path 0 _ _ _ (λ v t w. omega arith) }
 

@@ -13,18 +13,18 @@ use Rattle.state.specs.declared.EpState.{EpState}
 use Rattle.state.specs.Wakes.{none-woken, listed, all-woken}
 use Rattle.state.specs.Driver.{Driver, epOn}
 use Rattle.ring.specs.Slot.{countOf}
-use Rattle.model.specs.Cells.{Plain}
-use Rattle.model.specs.Script.{Test, changed, waiting, room, opened, Look, marked, next-len, next-stamp, setup-word, Fetch, oldest, received, received0, gathered, Act, complete, reset-ring, set-enabled, fill, fill0, open-oldest, close-oldest, take-oldest, enqueue, allocate, allocate0, no-wakes, waken, Hand, arrive, send, place, place0}
+use Rattle.model.specs.Cells.{EpCore}
+use Rattle.model.specs.Script.{Test, changed, waiting, room, opened, Look, marked, next-len, next-stamp, setup-word, Fetch, oldest, received, received0, gathered, Act, complete, reset-ring, set-enabled, fill, fill0, open-oldest, close-oldest, take-oldest, enqueue, allocate, allocate0, no-wakes, waken, DmaStep, arrive, send, place, place0}
 use Rattle.model.specs.Statics.{isOn, flag}
 use Rattle.model.specs.Answers.{isNumber}
-use Rattle.model.specs.Alike.{Phase}
+use Rattle.model.specs.Simulates.{Phase}
 use Rattle.model.specs.Machine.{Buf, Question, pending, overruns, enabled}
 use Rattle.model.specs.Agree.{Agree}
 use Rattle.machine.specs.Questions.{pendingOn, overrunsOf, overrunsOn, enabledAsked, questionOf}
-use Rattle.machine.specs.Under.{driverOf}
+use Rattle.machine.specs.Suspended.{driverOf}
 use Rattle.proof_book.specs.Pages.{Pages}
 use Rattle.proof_book.specs.Book.{book, questionB}
-use Rattle.proof_book.specs.Rest.{Rest, Chip, Good}
+use Rattle.proof_book.specs.Coupling.{Coupling, Chip, Good}
 use Rattle.proof_book.specs.Held.{IsAgrees, LookAgrees, FetchAgrees, ActAgrees, HandAgrees, held-length}
 use Rattle.proof_book.specs.Cells.{gets, puts, wakes-kept, unfed, good-bare}
 use Rattle.proof_book.specs.Allocations.{allocates, starts, enables-kept}
@@ -37,10 +37,10 @@ use Rattle.proof_book.specs.Rows.{rows-first, rows-next, rows-finish}
 
 -- ---- the questions
 
-pub answers : (q : Question) (φ : Phase) (b : Buf) (d : Driver) (t : Pages) → Rest φ b d t → questionOf q d ≡ questionB q t
+pub answers : (q : Question) (φ : Phase) (b : Buf) (d : Driver) (t : Pages) → Coupling φ b d t → questionOf q d ≡ questionB q t
 unfolding pendingOn overrunsOn overrunsOf enabledAsked
 answers (pending e) φ b d t r = ap (λ (n : ℕ). cond (isNumber e) n 0) (held-length (r .ins e .held))
-answers (overruns e) φ b d t r = ap (λ (n : ℕ). cond (isNumber e) n 0) (lost (isOn (epOn d Out e .iso)) (isOn (t .kept .plain Out e .iso)) (ap (λ (p : Plain). isOn (p .iso)) (r .same .plain Out e)))
+answers (overruns e) φ b d t r = ap (λ (n : ℕ). cond (isNumber e) n 0) (lost (isOn (epOn d Out e .iso)) (isOn (t .kept .plain Out e .iso)) (ap (λ (p : EpCore). isOn (p .iso)) (r .same .plain Out e)))
   where
     lost : (x y : Bool) → x ≡ y → cond x (epOn d Out e .overruns) 0 ≡ cond y (t .outs e .lost % 2 ^ 32) 0
     lost x y h = rw (h, r .outs e .lost) refl
@@ -84,7 +84,7 @@ acts (allocate0 maximum) = λ b d t r. (refl, starts r maximum)
 acts no-wakes = λ b d t r. (refl, wakes-kept r none-woken none-woken refl)
 acts (waken codes) = λ b d t r. (refl, wakes-kept r _ _ (ap (all-woken codes) (r .same .wakes)))
 
-pub hands : (q : Hand) → HandAgrees q
+pub hands : (q : DmaStep) → HandAgrees q
 hands (arrive e n) = hand-arrive e n
 hands (send e) = hand-send e
 hands (place Out e) = hand-place-out e
@@ -93,7 +93,7 @@ hands place0 = hand-place0
 
 abbrev pub agree : Agree driverOf book
 agree = record {
-  Rest = Rest;
+  Coupling = Coupling;
   Good = Good;
   Chip = Chip;
   chip = chip;

@@ -25,7 +25,7 @@ use Rattle.alloc.specs.Alloc.{allocatedIn, isIso, allocateOf, allocateEp0Of, re
 use Rattle.alloc.specs.Outcome.{Gives, Outcome, six, seven, eight, given, outcome}
 use Rattle.alloc.specs.Run.{Call, endpoint, ep0, called, Step, kept, gave, gave-ep0, step}
 use Rattle.alloc.specs.Sound.{Sound, sound-call}
-use Rattle.model.specs.Alike.{quiet}
+use Rattle.model.specs.Simulates.{quiet}
 use Rattle.model.specs.Machine.{Buf}
 use Rattle.state.specs.Kept.{withEpConfig}
 use Rattle.state.specs.Ep.{newEp}
@@ -39,7 +39,7 @@ use Rattle.alloc.specs.Alloc.{if}
 use Rattle.alloc.specs.Sound.{sound-fresh}
 use Rattle.le_bytes.specs.Tables.{tab, getD-tab, length-tab}
 use Rattle.ring.specs.Laws.{reset-count, reset-waits, reset-ring}
-use Rattle.model.specs.Cells.{Plain}
+use Rattle.model.specs.Cells.{EpCore}
 use Rattle.model.specs.Statics.{isOn, flag, isoOuts}
 use Rattle.model.specs.Calls.{Config, startRow}
 use Rattle.model_ops.specs.Records.{plainOf, isoOut, configured, enabledOn, givenTo, allocatedOn, withEp0, startedWith, allocatedEp0}
@@ -47,7 +47,7 @@ use Rattle.proof_book.specs.Book as book
 use Rattle.proof_book.specs.Cells.{epOn-by}
 use Rattle.proof_book.specs.Pages.{OutPage, Kept, Pages, withKept, keptAllocator}
 use Rattle.proof_book.specs.Book.{freshPages, globalsBy, enableB, givenB, allocateB, startedB, allocateB0}
-use Rattle.proof_book.specs.Rest.{Rest, Shape, Used, Unused, Held, OutFits, InFits, AtRest, SameKept, endOf, lensOf, slotStamps}
+use Rattle.proof_book.specs.Coupling.{Coupling, Shape, Used, Unused, Held, OutFits, InFits, AtRest, SameKept, endOf, lensOf, slotStamps}
 use Rattle.proof_book.specs.Frame.{none-stands}
 use Rattle.proof_book.specs.Stamps.{none-stamps}
 use Rattle.proof_book.specs.Given.{Further, further, gives, receives, receives-by, zero-addr}
@@ -56,23 +56,23 @@ same-further : (a : Allocator) → Sound a → Further a a
 same-further a s = record { size = refl; count = refl; next = omega arith; sound = s; allocated = λ dir j. refl }
 
 -- every answer of the allocator
-answered : {b : Buf} {d : Driver} {t : Pages} → Rest quiet b d t → (dir : Dir) (kind address maximum interval : ℕ) (z : Allocation) → Sound (z .after) → Outcome (d .allocator) kind address maximum dir z
-    → Rest quiet b (givenTo dir kind maximum interval (z .answer) (withAllocator d (z .after))) (givenB dir kind maximum interval (z .answer) (withKept t (keptAllocator (t .kept) (z .after))))
+answered : {b : Buf} {d : Driver} {t : Pages} → Coupling quiet b d t → (dir : Dir) (kind address maximum interval : ℕ) (z : Allocation) → Sound (z .after) → Outcome (d .allocator) kind address maximum dir z
+    → Coupling quiet b (givenTo dir kind maximum interval (z .answer) (withAllocator d (z .after))) (givenB dir kind maximum interval (z .answer) (withKept t (keptAllocator (t .kept) (z .after))))
 unfolding givenTo
 answered {d = d} r dir kind address maximum interval z s (six l) = further r (d .allocator) (same-further (d .allocator) s)
 answered {d = d} r dir kind address maximum interval z s (seven m q) = further r (d .allocator) (same-further (d .allocator) s)
 answered {d = d} r dir kind address maximum interval z s (eight e m q l) = further r (d .allocator) (same-further (d .allocator) s)
 answered {d = d} r dir kind address maximum interval z s (given e base n a m q g) = gives r dir kind maximum interval e base n a m g s
 
-pub allocates : {b : Buf} {d : Driver} {t : Pages} → Rest quiet b d t → (dir : Dir) (kind address maximum interval : ℕ) → Rest quiet b (allocatedOn d dir kind address maximum interval) (allocateB dir kind address maximum interval t)
+pub allocates : {b : Buf} {d : Driver} {t : Pages} → Coupling quiet b d t → (dir : Dir) (kind address maximum interval : ℕ) → Coupling quiet b (allocatedOn d dir kind address maximum interval) (allocateB dir kind address maximum interval t)
 unfolding allocatedOn
 allocates {b = b} {d = d} {t = t} r dir kind address maximum interval =
-    subst (λ (z : Allocation). Rest quiet b (allocatedOn d dir kind address maximum interval) (givenB dir kind maximum interval (z .answer) (withKept t (keptAllocator (t .kept) (z .after)))))
+    subst (λ (z : Allocation). Coupling quiet b (allocatedOn d dir kind address maximum interval) (givenB dir kind maximum interval (z .answer) (withKept t (keptAllocator (t .kept) (z .after)))))
     (ap (λ (a : Allocator). allocateOf a kind address maximum dir) (r .same .allocator))
     (answered r dir kind address maximum interval (allocateOf (d .allocator) kind address maximum dir) (sound-call (d .allocator) (endpoint kind address maximum dir) (r .sound)) (outcome (d .allocator) kind address maximum dir))
 
 -- every buffer that was given lies below the next
-ends-below : {b : Buf} {d : Driver} {t : Pages} → Rest quiet b d t → (dir : Dir) (e : ℕ) → endOf (epOn d dir e) ≤ d .allocator .next * d .allocator .size
+ends-below : {b : Buf} {d : Driver} {t : Pages} → Coupling quiet b d t → (dir : Dir) (e : ℕ) → endOf (epOn d dir e) ≤ d .allocator .next * d .allocator .size
 ends-below {d = d} r dir e = by (isSet (allocatedIn (d .allocator) dir) (e % 16)) (r .shape dir e)
   where
     by : (u : Bool) → Shape u (d .allocator) dir (epOn d dir e) → endOf (epOn d dir e) ≤ d .allocator .next * d .allocator .size
@@ -84,8 +84,8 @@ ends-below {d = d} r dir e = by (isSet (allocatedIn (d .allocator) dir) (e % 16)
 room-up : (x z : ℕ) → x * z + z ≡ (x + 1) * z
 room-up x z = omega (arith, add-mul x 1 z)
 
-started : {b : Buf} {d : Driver} {t : Pages} → Rest quiet b d t → (maximum : ℕ) (z : Allocation) → Sound (z .after) → Step (d .allocator) (ep0 maximum) z
-    → Rest quiet b (startedWith maximum (z .answer) (withAllocator d (z .after))) (startedB maximum (z .answer) (withKept t (keptAllocator (t .kept) (z .after))))
+started : {b : Buf} {d : Driver} {t : Pages} → Coupling quiet b d t → (maximum : ℕ) (z : Allocation) → Sound (z .after) → Step (d .allocator) (ep0 maximum) z
+    → Coupling quiet b (startedWith maximum (z .answer) (withAllocator d (z .after))) (startedB maximum (z .answer) (withKept t (keptAllocator (t .kept) (z .after))))
 unfolding startedWith withNext epOn lenOn stampOn pacedOn requestOn allocatedIn
 started {d = d} r maximum z s (kept c n w k) = further r (d .allocator) (same-further (d .allocator) s)
 started {b = b} {d = d} {t = t} r maximum z s (gave-ep0 m x small l) =
@@ -123,17 +123,17 @@ started {b = b} {d = d} {t = t} r maximum z s (gave-ep0 m x small l) =
     same-bits Out j = refl
     same-bits In j = refl
 
-pub starts : {b : Buf} {d : Driver} {t : Pages} → Rest quiet b d t → (maximum : ℕ) → Rest quiet b (allocatedEp0 d maximum) (allocateB0 maximum t)
+pub starts : {b : Buf} {d : Driver} {t : Pages} → Coupling quiet b d t → (maximum : ℕ) → Coupling quiet b (allocatedEp0 d maximum) (allocateB0 maximum t)
 unfolding allocatedEp0
 starts {b = b} {d = d} {t = t} r maximum =
-    subst (λ (z : Allocation). Rest quiet b (allocatedEp0 d maximum) (startedB maximum (z .answer) (withKept t (keptAllocator (t .kept) (z .after)))))
+    subst (λ (z : Allocation). Coupling quiet b (allocatedEp0 d maximum) (startedB maximum (z .answer) (withKept t (keptAllocator (t .kept) (z .after)))))
     (ap (λ (a : Allocator). allocateEp0Of a maximum) (r .same .allocator))
     (started r maximum (allocateEp0Of (d .allocator) maximum) (sound-call (d .allocator) (ep0 maximum) (r .sound)) (step (d .allocator) (ep0 maximum)))
 
 -- ---- enabling, of all but the isochronous OUT endpoints
 
 -- which isochronous OUT endpoints receive does not change
-receives-kept : {b : Buf} {d : Driver} {t : Pages} → Rest quiet b d t → (dir : Dir) (e : ℕ) (on : Bool) → isoOut d dir e ≡ false → (x : ℕ)
+receives-kept : {b : Buf} {d : Driver} {t : Pages} → Coupling quiet b d t → (dir : Dir) (e : ℕ) (on : Bool) → isoOut d dir e ≡ false → (x : ℕ)
     → isSet (isoOuts (withEpConfig (enables.withOn (d .globals .«ep_config») dir e on) (d .globals))) (x % 16) ≡ isSet (isoOuts (d .globals)) (x % 16)
 unfolding isoOut
 receives-kept {d = d} r In e on h x =
@@ -151,8 +151,8 @@ receives-kept {d = d} r Out e on h x = elim (ℕ-discrete (x % 16) (e % 16)) [
       ∙ sym (receives (d .globals) x))
 ]
 
-configures : {b : Buf} {d : Driver} {t : Pages} → Rest quiet b d t → (dir : Dir) (e : ℕ) (on : Bool) → isoOut d dir e ≡ false
-    → Rest quiet b (configured d dir e on) (globalsBy t (λ g. withEpConfig (enables.withOn (g .«ep_config») dir e on) g))
+configures : {b : Buf} {d : Driver} {t : Pages} → Coupling quiet b d t → (dir : Dir) (e : ℕ) (on : Bool) → isoOut d dir e ≡ false
+    → Coupling quiet b (configured d dir e on) (globalsBy t (λ g. withEpConfig (enables.withOn (g .«ep_config») dir e on) g))
 unfolding configured epOn lenOn stampOn pacedOn requestOn
 configures {b = b} {d = d} {t = t} r dir e on h = record {
   step = tt;
@@ -181,16 +181,16 @@ configures {b = b} {d = d} {t = t} r dir e on h = record {
   isos = r .isos;
 }
 
-iso-same : {b : Buf} {d : Driver} {t : Pages} → Rest quiet b d t → (dir : Dir) (e : ℕ) → isoOut d dir e ≡ book.isoOut t dir e
+iso-same : {b : Buf} {d : Driver} {t : Pages} → Coupling quiet b d t → (dir : Dir) (e : ℕ) → isoOut d dir e ≡ book.isoOut t dir e
 unfolding isoOut
-iso-same r Out e = ap (λ (p : Plain). isOn (p .iso)) (r .same .plain Out e)
+iso-same r Out e = ap (λ (p : EpCore). isOn (p .iso)) (r .same .plain Out e)
 iso-same r In e = refl
 
-pub enables-kept : {b : Buf} {d : Driver} {t : Pages} → Rest quiet b d t → (dir : Dir) (e : ℕ) (on : Bool) → Rest quiet b (enabledOn d dir e on) (enableB t dir e on)
+pub enables-kept : {b : Buf} {d : Driver} {t : Pages} → Coupling quiet b d t → (dir : Dir) (e : ℕ) (on : Bool) → Coupling quiet b (enabledOn d dir e on) (enableB t dir e on)
 unfolding enabledOn
 enables-kept {b = b} {d = d} {t = t} r dir e on = by (isoOut d dir e) refl (iso-same r dir e)
   where
-    by : (x : Bool) → isoOut d dir e ≡ x → x ≡ book.isoOut t dir e → Rest quiet b (cond x d (configured d dir e on)) (enableB t dir e on)
+    by : (x : Bool) → isoOut d dir e ≡ x → x ≡ book.isoOut t dir e → Coupling quiet b (cond x d (configured d dir e on)) (enableB t dir e on)
     by true p q = rw (← q) r
     by false p q = rw (← q) (configures r dir e on p)
 
@@ -285,7 +285,7 @@ module _ (c : Config) (b : Buf) (row : startRow c b ≡ 0) where
   off = refl
 
   -- a start-up that no row stops
-  pub fresh-kept : Rest quiet b D (freshPages c)
+  pub fresh-kept : Coupling quiet b D (freshPages c)
   unfolding freshDriver
   fresh-kept = record {
     step = tt;

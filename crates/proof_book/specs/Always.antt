@@ -5,19 +5,19 @@ use mathlib.Core.List.{List, [], _∷_}
 use mathlib.Core.Path.{_≡_, refl, sym, subst}
 use Prim.Native.Nat.{ℕ, zero}
 use Rattle.model.specs.Cells.{Cell, Val}
-use Rattle.model.specs.Script.{Test, Look, Fetch, Act, Hand, Row, lastOf, rowAsk}
-use Rattle.model.specs.Alike.{Phase}
-use Rattle.model.specs.Machine.{Buf, Question, Call, start, begin, go, question, Event, Machine, Calls, Driver, Book, fed, blank, misfit, started, call}
+use Rattle.model.specs.Script.{Test, Look, Fetch, Act, DmaStep, Burst, lastOf, burstAsk}
+use Rattle.model.specs.Simulates.{Phase}
+use Rattle.model.specs.Machine.{Buf, Question, Call, start, begin, go, question, Event, Machine, Calls, Instance, Book, fed, blank, misfit, started, call}
 use Rattle.model.specs.Agree.{Agree, Ways, Lent, unless, write-up, agrees, from-start}
 
-pub record Invariant {C S : Type 0} (D : Driver C S) (P : S → Type 0) : Type 0 where
+pub record Invariant {C S : Type 0} (D : Instance C S) (P : S → Type 0) : Type 0 where
   pub put : (c : Cell) (v : Val c) (s : S × Buf) → P (s .0) → P (D .ops .put c v s .0)
   pub act : (q : Act) (s : S × Buf) → P (s .0) → P (D .ops .act q s .0)
-  pub hand : (q : Hand) (s : S × Buf) → P (s .0) → P (D .ops .hand q s .1 .0)
-  pub row : (g : Row) (n : ℕ) (s : S × Buf) → P (s .0) → P (D .ops .row g n s .1 .0)
+  pub hand : (q : DmaStep) (s : S × Buf) → P (s .0) → P (D .ops .hand q s .1 .0)
+  pub row : (g : Burst) (n : ℕ) (s : S × Buf) → P (s .0) → P (D .ops .row g n s .1 .0)
 
 -- the driver's machine after a list of calls
-abbrev pub after : {C Op A S : Type 0} → Calls C Op A → Driver C S → List (Event C Op) → Machine A S → Machine A S
+abbrev pub after : {C Op A S : Type 0} → Calls C Op A → Instance C S → List (Event C Op) → Machine A S → Machine A S
 after L D [] m = m
 after L D (e ∷ es) m = after L D es (call L D (λ s. s) (e .call) m (e .lent) .1)
 
@@ -28,7 +28,7 @@ data Both {S : Type 0} (P : S → Type 0) (s : S) : S → Type 0 where
 holds : {S : Type 0} {P : S → Type 0} {s t : S} → Both P s t → P s
 holds (both p) = p
 
-module _ {C S : Type 0} (D : Driver C S) {P : S → Type 0} (K : Invariant D P) where
+module _ {C S : Type 0} (D : Instance C S) {P : S → Type 0} (K : Invariant D P) where
   -- the driver as its own book, which is told nothing
   abbrev itself : Book C S
   itself = record { driver = D; feed = λ q t. t }
@@ -57,16 +57,16 @@ module _ {C S : Type 0} (D : Driver C S) {P : S → Type 0} (K : Invariant D P) 
   acts : (q : Act) (b : Buf) {s t : S} → Both P s t → (D .ops .act q (s, b) .1 ≡ D .ops .act q (t, b) .1) × Both P (D .ops .act q (s, b) .0) (D .ops .act q (t, b) .0)
   acts q b {s = s} (both p) = (refl, both (K .act q (s, b) p))
 
-  hands : (q : Hand) (b : Buf) {s t : S} → Both P s t → Both P (D .ops .hand q (s, b) .1 .0) (D .ops .hand q (t, b) .1 .0)
+  hands : (q : DmaStep) (b : Buf) {s t : S} → Both P s t → Both P (D .ops .hand q (s, b) .1 .0) (D .ops .hand q (t, b) .1 .0)
   hands q b {s = s} (both p) = both (K .hand q (s, b) p)
 
-  row-steps : (g : Row) (n : ℕ) (b : Buf) {s t : S} → Both P s t
-      → (blank (rowAsk g n (D .ops .row g n (s, b) .0)) ≡ blank (rowAsk g n (D .ops .row g n (t, b) .0))) × Both P (D .ops .row g n (s, b) .1 .0) (D .ops .row g n (t, b) .1 .0) × Unit {0}
+  row-steps : (g : Burst) (n : ℕ) (b : Buf) {s t : S} → Both P s t
+      → (blank (burstAsk g n (D .ops .row g n (s, b) .0)) ≡ blank (burstAsk g n (D .ops .row g n (t, b) .0))) × Both P (D .ops .row g n (s, b) .1 .0) (D .ops .row g n (t, b) .1 .0) × Unit {0}
   row-steps g n b {s = s} (both p) = (refl, both (K .row g n (s, b) p), tt)
 
   abbrev agree-itself : Agree D itself
   agree-itself = record {
-    Rest = λ φ b s t. Both P s t;
+    Coupling = λ φ b s t. Both P s t;
     Good = λ q b t. Unit {0};
     Chip = λ t b b′. Unit {0};
     chip = λ b b′ φ s t r c. r;

@@ -15,7 +15,7 @@ use Rattle.state.specs.Driver.{Driver, epOn, withOn, withLenOn}
 use Rattle.state.specs.Laws.{Sized, epOn-same}
 use Rattle.ring.specs.Fields.{withHead, withOverruns}
 use Rattle.ring.specs.Slot.{slotOf, slotAddr, joinedOf}
-use Rattle.ring.specs.Out.{hasRoomOut, cappedAt, turnedAwayOf, arrivedOf, arrivedLens, armedAt}
+use Rattle.ring.specs.Out.{hasRoomOut, cappedAt, overrunOf, arrivedOf, arrivedLens, armedAt}
 use Rattle.ring.specs.Waiting.{window, waiting, join, Only, SamePlace, Placed}
 use Rattle.ring.specs.Window.{only-wider, window-length}
 use Rattle.ring.specs.Slots.{slot-in, slot-from, slot-upto}
@@ -25,16 +25,16 @@ use Rattle.marks.specs.Marks.{armed}
 use Rattle.marks.specs.Copies.{bytesAt}
 use Rattle.marks.specs.Slots.{armed-slot}
 use Rattle.marks.specs.Only as marks
-use Rattle.model.specs.Cells.{Plain}
+use Rattle.model.specs.Cells.{EpCore}
 use Rattle.model.specs.Script as script
-use Rattle.model.specs.Alike.{quiet}
+use Rattle.model.specs.Simulates.{quiet}
 use Rattle.model.specs.Statics.{flag, isoOuts}
 use Rattle.model.specs.Machine.{Buf}
 use Rattle.model_ops.specs.Records.{plainOf}
 use Rattle.model_ops.specs.Rings.{writtenOn, recordedOn, admittedOn, arrivedAt, arriveOn, placeOn}
 use Rattle.proof_book.specs.Pages.{Packet, bytesOf, stampsOf, OutPage, Pages, withOut}
-use Rattle.proof_book.specs.Book.{joined, turnedAway, arrived, slotTold, receiving, packetB, feedB}
-use Rattle.proof_book.specs.Rest.{Short, lensOf, slotStamps, OutFits, Armed, Rest}
+use Rattle.proof_book.specs.Book.{joined, overrun, arrived, slotTold, receiving, packetB, feedB}
+use Rattle.proof_book.specs.Coupling.{Short, lensOf, slotStamps, OutFits, Armed, Coupling}
 use Rattle.proof_book.specs.Lens.{lens-set, lens-on, ep-len, stamps-length, stamps-set, stamps-on, stamps-len, ep-stamp, lens-stamp}
 use Rattle.proof_book.specs.Stamps.{stamped, alike-stamps, arrive-stamps}
 use Rattle.proof_book.specs.Frame.{Changed, changed-not, changed-on, changed-len, changed-stamp, changed-trans, kept-same, end-kept, out-changed, out-moved, out-same, out-twice, only-bytes}
@@ -46,8 +46,8 @@ use Rattle.proof_book.specs.Outs.{Inner, out-on, out-page}
 
 -- an arrival changes the head, or the count of those turned away
 module _ {A : Type 0} (f : EpState → A) (r : EpState) (h : (s : EpState) (n : ℕ) → f (withHead s n) ≡ f s) (o : (s : EpState) (n : ℕ) → f (withOverruns s n) ≡ f s) where
-  arrived-by : (u : Bool) → f (cond u (joinedOf r) (turnedAwayOf r)) ≡ f r
-  unfolding joinedOf turnedAwayOf
+  arrived-by : (u : Bool) → f (cond u (joinedOf r) (overrunOf r)) ≡ f r
+  unfolding joinedOf overrunOf
   arrived-by true = h r _
   arrived-by false = o r _
 
@@ -73,7 +73,7 @@ module _ (p : OutPage) (q : Packet) where
   page-keeps : {A : Type 0} (f : OutPage → A) → ((w a : List Packet) (n : ℕ) → f (record { waiting = w; opened = p .opened; lost = n; slot = p .slot; admitted = a; read = p .read }) ≡ f p) → f (arrived p q) ≡ f p
   page-keeps f h = go (ltb (length (p .waiting)) 15)
     where
-      go : (u : Bool) → f (cond u (joined p q) (turnedAway p)) ≡ f p
+      go : (u : Bool) → f (cond u (joined p q) (overrun p)) ≡ f p
       go true = h _ _ _
       go false = h _ _ _
 
@@ -81,7 +81,7 @@ module _ (p : OutPage) (q : Packet) where
   page-joined : {A : Type 0} (f : Packet → A) → map f (arrived p q .waiting) ≡ cond (ltb (length (p .waiting)) 15) (map f (p .waiting) ++ (f q ∷ [])) (map f (p .waiting))
   page-joined f = go (ltb (length (p .waiting)) 15)
     where
-      go : (u : Bool) → map f (cond u (joined p q) (turnedAway p) .waiting)
+      go : (u : Bool) → map f (cond u (joined p q) (overrun p) .waiting)
           ≡ cond u (map f (p .waiting) ++ (f q ∷ [])) (map f (p .waiting))
       go true = map-append f (p .waiting) (q ∷ [])
       go false = refl
@@ -89,7 +89,7 @@ module _ (p : OutPage) (q : Packet) where
   page-ledger : p .read ++ p .waiting ≡ p .admitted → arrived p q .read ++ arrived p q .waiting ≡ arrived p q .admitted
   page-ledger h = go (ltb (length (p .waiting)) 15)
     where
-      go : (u : Bool) → let z = cond u (joined p q) (turnedAway p) in z .read ++ z .waiting ≡ z .admitted
+      go : (u : Bool) → let z = cond u (joined p q) (overrun p) in z .read ++ z .waiting ≡ z .admitted
       go true = sym (append-assoc (p .read) (p .waiting) (q ∷ [])) ∙ ap (λ (l : List Packet). l ++ (q ∷ [])) h
       go false = h
 
@@ -100,7 +100,7 @@ module _ (p : OutPage) (q : Packet) where
       add [] k = (l, tt)
       add (x ∷ xs) k = (k .0, add xs (k .1))
 
-      go : (u : Bool) → Short n (cond u (joined p q) (turnedAway p) .waiting)
+      go : (u : Bool) → Short n (cond u (joined p q) (overrun p) .waiting)
       go true = add (p .waiting) h
       go false = h
 
@@ -117,15 +117,15 @@ module _ {b : Buf} {r : EpState} {ls ss : List ℕ} {p : OutPage} (f : OutFits b
       ∙ ap (λ (n : ℕ). ltb (length (p .waiting)) (n - 1)) sixteen
 
   lost-by : (q : Packet) (u : Bool)
-      → cond u (joinedOf r) (turnedAwayOf r) .overruns
-      ≡ cond u (joined p q) (turnedAway p) .lost % 2 ^ 32
+      → cond u (joinedOf r) (overrunOf r) .overruns
+      ≡ cond u (joined p q) (overrun p) .lost % 2 ^ 32
   unfolding joinedOf
   lost-by q true = f .lost
   lost-by q false = turned-counts r (p .lost) (f .lost)
 
   arrived-lost : (q : Packet) → arrivedOf r .overruns ≡ arrived p q .lost % 2 ^ 32
   unfolding arrivedOf
-  arrived-lost q = subst (λ u. cond u (joinedOf r) (turnedAwayOf r) .overruns ≡ arrived p q .lost % 2 ^ 32)
+  arrived-lost q = subst (λ u. cond u (joinedOf r) (overrunOf r) .overruns ≡ arrived p q .lost % 2 ^ 32)
       (sym room-same) (lost-by q (ltb (length (p .waiting)) 15))
 
   module _ (q : Packet) (shown : window b (slotAddr r (r .head)) len ≡ q .bytes) where
@@ -146,7 +146,7 @@ module _ {b : Buf} {r : EpState} {ls ss : List ℕ} {p : OutPage} (f : OutFits b
     arrived-fits most =
         let k = arrived-place r in
         let s : arrived p q .slot ≡ p .slot = page-keeps p q (λ z. z .slot) (λ w a n. refl) in
-        let m : arrivedOf r .«max_len» ≡ r .«max_len» = ap (λ (q : Plain). q .«max_len») (arrived-plain r) in
+        let m : arrivedOf r .«max_len» ≡ r .«max_len» = ap (λ (q : EpCore). q .«max_len») (arrived-plain r) in
         record {
           held = record {
             placed = place-placed k (f .held .placed);
@@ -200,17 +200,17 @@ unfolding armedAt
 armed-head r x = refl
 
 -- after the record, the lengths and the stamps of OUT e changed
-arm-rest : {b b′ : Buf} {d : Driver} {t : Pages} → Rest quiet b d t → (e : ℕ) (d1 : Driver) (p : OutPage) → Changed Out e d d1
+arm-rest : {b b′ : Buf} {d : Driver} {t : Pages} → Coupling quiet b d t → (e : ℕ) (d1 : Driver) (p : OutPage) → Changed Out e d d1
     → plainOf (epOn d1 Out e) ≡ plainOf (epOn d Out e) → OutFits b (epOn d1 Out e) (lensOf d1 Out e) (slotStamps d1 e) p → receives d e ≡ true → length b′ ≡ length b
     → Only (slotAddr (epOn d1 Out e) (epOn d1 Out e .head)) (slotAddr (epOn d1 Out e) (epOn d1 Out e .head) + epOn d1 Out e .stride) b b′
-    → Rest quiet b′ (withOn d1 Out e (armedAt (epOn d1 Out e) (slotAddr (epOn d1 Out e) (epOn d1 Out e .head))))
+    → Coupling quiet b′ (withOn d1 Out e (armedAt (epOn d1 Out e) (slotAddr (epOn d1 Out e) (epOn d1 Out e .head))))
     (withOut t e (slotTold p (slotAddr (epOn d1 Out e) (epOn d1 Out e .head))))
 arm-rest {b} {b′} {d} {t} R e d1 p c same f u long o =
     let r = epOn d1 Out e in
     let a = slotAddr r (r .head) in
     let k = armed-alike r a in
     let s = c .sized in
-    let c2 = changed-trans (R .sized) Out e c (changed-on s Out e (armedAt r a) (k .place) (ap (λ (q : Plain). q .iso) (armed-plain r a))) in
+    let c2 = changed-trans (R .sized) Out e c (changed-on s Out e (armedAt r a) (k .place) (ap (λ (q : EpCore). q .iso) (armed-plain r a))) in
     let z : epOn (withOn d1 Out e (armedAt r a)) Out e ≡ armedAt r a = epOn-same d1 Out e (armedAt r a) s in
     out-changed R e (slotTold p a) c2 (kept-same c2 (ap plainOf z ∙ armed-plain r a ∙ same) (R .same)) long
     (only-wider _ _ _ _ b b′ (omega (arith, c .place .base)) (omega (arith, end-kept (c .place))) (slot-region (f .held .placed) (f .held .ring) (r .head) b b′ o))
@@ -284,7 +284,7 @@ module _ (d : Driver) (s : Sized d) (e len : ℕ) where
       let k = arrived-inner (epOn d Out e) in
       changed-trans s Out e recorded-changed (changed-on (recorded-changed .sized) Out e (arrivedOf (epOn d Out e))
       (subst (λ r. SamePlace r (arrivedOf (epOn d Out e))) (sym recorded-ep) (k .place))
-      (ap (λ (q : Plain). q .iso) (k .plain) ∙ ap (λ (r : EpState). r .iso) (sym recorded-ep)))
+      (ap (λ (q : EpCore). q .iso) (k .plain) ∙ ap (λ (r : EpState). r .iso) (sym recorded-ep)))
 
 -- the driver after it, its slot not yet armed
 abbrev pub admits : Driver → ℕ → ℕ → Driver
@@ -298,13 +298,13 @@ headAddr r = slotAddr r (r .head)
 told : (t : Pages) (e x : ℕ) (q : OutPage) → feedB (Receive e x) (withOut t e q) ≡ withOut t e (slotTold q x)
 told t e x q = ap (λ z. withOut (withOut t e q) e (slotTold z x)) (out-same t e q) ∙ out-twice t e (slotTold q x) q
 
-module _ {b : Buf} {d : Driver} {t : Pages} (R : Rest quiet b d t) (e : ℕ) where
+module _ {b : Buf} {d : Driver} {t : Pages} (R : Coupling quiet b d t) (e : ℕ) where
   max-same : epOn d Out e .«max_len» ≡ t .kept .plain Out e .«max_len»
-  max-same = ap (λ (p : Plain). p .«max_len») (R .same .plain Out e)
+  max-same = ap (λ (p : EpCore). p .«max_len») (R .same .plain Out e)
 
   -- the address told is the one that was
-  same-told : Rest quiet b d (withOut t e (slotTold (t .outs e) (epOn d Out e .«armed_slot»)))
-  same-told = subst (λ (x : ℕ). Rest quiet b d (withOut t e (slotTold (t .outs e) x))) (sym (R .outs e .slot)) (out-page R e (t .outs e) (R .outs e) (R .arming e))
+  same-told : Coupling quiet b d (withOut t e (slotTold (t .outs e) (epOn d Out e .«armed_slot»)))
+  same-told = subst (λ (x : ℕ). Coupling quiet b d (withOut t e (slotTold (t .outs e) x))) (sym (R .outs e .slot)) (out-page R e (t .outs e) (R .outs e) (R .arming e))
 
   module _ (n : ℕ) (u : receives d e ≡ true) where
     capped-small : cappedAt (epOn d Out e) n ≤ epOn d Out e .stride
@@ -337,17 +337,17 @@ module _ {b : Buf} {d : Driver} {t : Pages} (R : Rest quiet b d t) (e : ℕ) whe
         (omega (arith, z, w .0)) (ap (λ (x : ℕ). x / 4 * 4) z ∙ w .1 ∙ sym z) (admitted-fits .held .least)
 
     arrive-rest : let x = arrivedAt e (cappedAt (epOn d Out e) n) (d, b) in
-        Rest quiet (x .1 .1) (x .1 .0) (feedB (Receive e (x .0)) (withOut t e (arrived (t .outs e) (packetB e n (t, b)))))
+        Coupling quiet (x .1 .1) (x .1 .0) (feedB (Receive e (x .0)) (withOut t e (arrived (t .outs e) (packetB e n (t, b)))))
     arrive-rest =
         let len = cappedAt (epOn d Out e) n in
         let d1 = admittedOn d e len in
         let r = epOn d1 Out e in
         let o = arrived-words in
-        subst (Rest quiet (arrivedAt e len (d, b) .1 .1) (arrivedAt e len (d, b) .1 .0)) (sym (told t e (slotAddr r (r .head)) _))
+        subst (Coupling quiet (arrivedAt e len (d, b) .1 .1) (arrivedAt e len (d, b) .1 .0)) (sym (told t e (slotAddr r (r .head)) _))
         (arm-rest R e d1 _ (admitted-changed d (R .sized) e len) (ap plainOf (admitted-ep d (R .sized) e len) ∙ arrived-plain (epOn d Out e)) admitted-fits u (o .long) (only-bytes o))
 
   arrive-by : (n : ℕ) (v : Bool) → receives d e ≡ v → let x = cond v (arrivedAt e (cappedAt (epOn d Out e) n) (d, b)) (epOn d Out e .«armed_slot», (d, b)) in
-      Rest quiet (x .1 .1) (x .1 .0) (feedB (Receive e (x .0))
+      Coupling quiet (x .1 .1) (x .1 .0) (feedB (Receive e (x .0))
       (cond v (withOut t e (arrived (t .outs e) (packetB e n (t, b)))) t))
   arrive-by n true h = arrive-rest n h
   arrive-by n false h = same-told
@@ -360,7 +360,7 @@ unfolding arriveOn
 hand-arrive e n b d t R =
     let x = cond (receives d e) (arrivedAt e (cappedAt (epOn d Out e) n) (d, b)) (epOn d Out e .«armed_slot», (d, b)) in
     let p = arrived (t .outs e) (packetB e n (t, b)) in
-    let z = subst (λ v. Rest quiet (x .1 .1) (x .1 .0) (feedB (Receive e (x .0)) (cond v (withOut t e p) t))) (receiving-same R e) (arrive-by R e n (receives d e) refl) in
+    let z = subst (λ v. Coupling quiet (x .1 .1) (x .1 .0) (feedB (Receive e (x .0)) (cond v (withOut t e p) t))) (receiving-same R e) (arrive-by R e n (receives d e) refl) in
     (z, received-lies (cond (receiving t e) (withOut t e p) t) e (x .0) z)
 
 -- ---- an endpoint's buffer handed out
@@ -387,10 +387,10 @@ placed-fits {b} {r} {ls} {ss} f =
       short = f .short;
     }
 
-module _ {b : Buf} {d : Driver} {t : Pages} (R : Rest quiet b d t) (e : ℕ) where
+module _ {b : Buf} {d : Driver} {t : Pages} (R : Coupling quiet b d t) (e : ℕ) where
   place-by : (v : Bool) → receives d e ≡ v
       → let x = cond {A = ℕ × Driver} v (epOn d Out e .«armed_slot», d) (epOn d Out e .base, withOn d Out e (armedAt (epOn d Out e) (epOn d Out e .base))) in
-      Rest quiet b (x .1) (feedB (Receive e (x .0)) t)
+      Coupling quiet b (x .1) (feedB (Receive e (x .0)) t)
   place-by true h = same-told R e
   place-by false h =
       let r = epOn d Out e in

@@ -23,8 +23,8 @@ use Rattle.alloc.specs.Alloc.{allocateOf, allocateEp0Of, isIso}
 use Rattle.marks.specs.Marks.{isMarked, markedLen}
 use Rattle.marks.specs.Copies.{copied, bytesAt}
 use Rattle.frame.specs.Advance.{NO_FRAME}
-use Rattle.model.specs.Cells.{Plain, Cell, Val, globals-cell, control-cell, allocator-cell, ep-cell, request-cell, paced-cell}
-use Rattle.model.specs.Script.{Ops, Test, changed, waiting, room, opened, Look, marked, next-len, next-stamp, setup-word, Fetch, oldest, received, received0, gathered, Act, complete, reset-ring, set-enabled, fill, fill0, open-oldest, close-oldest, take-oldest, enqueue, allocate, allocate0, no-wakes, waken, Hand, arrive, send, place, place0, Row, switch, bus-reset}
+use Rattle.model.specs.Cells.{EpCore, Cell, Val, globals-cell, control-cell, allocator-cell, ep-cell, request-cell, paced-cell}
+use Rattle.model.specs.Script.{Ops, Test, changed, waiting, room, opened, Look, marked, next-len, next-stamp, setup-word, Fetch, oldest, received, received0, gathered, Act, complete, reset-ring, set-enabled, fill, fill0, open-oldest, close-oldest, take-oldest, enqueue, allocate, allocate0, no-wakes, waken, DmaStep, arrive, send, place, place0, Burst, switch, bus-reset}
 use Rattle.model.specs.Statics.{isOn, flag, isoOuts, renewed, withSetup}
 use Rattle.model.specs.Answers.{isNumber}
 use Rattle.model.specs.Calls.{Config}
@@ -70,14 +70,14 @@ abbrev pub joined : OutPage → Packet → OutPage
 joined p q = withLedger (withWaiting p (p .waiting ++ (q ∷ [])) (p .opened)) (p .admitted ++ (q ∷ [])) (p .read)
 
 -- turned away
-abbrev pub turnedAway : OutPage → OutPage
-turnedAway p = record { waiting = p .waiting; opened = p .opened; lost = p .lost + 1; slot = p .slot; admitted = p .admitted; read = p .read }
+abbrev pub overrun : OutPage → OutPage
+overrun p = record { waiting = p .waiting; opened = p .opened; lost = p .lost + 1; slot = p .slot; admitted = p .admitted; read = p .read }
 
 -- "it joins those waiting, last, …; with 15 waiting it is turned away and the endpoint's count rises"
 abbrev pub arrived : OutPage → Packet → OutPage
 arrived p q = cond (ltb (length (p .waiting)) 15)
     (joined p q)
-    (turnedAway p)
+    (overrun p)
 
 -- "the first waiting is read"
 abbrev pub readOut : OutPage → OutPage
@@ -133,11 +133,11 @@ queuedIn p bytes = record {
 -- ---- kept values
 
 -- of an endpoint's record `ready`, `len`, `armed`, `last_frame` and `tog` are assigned
-abbrev pub mergedPlain : Plain → Plain → Plain
+abbrev pub mergedPlain : EpCore → EpCore → EpCore
 mergedPlain p v = record { ready = v .ready; len = v .len; armed = v .armed; «last_frame» = v .«last_frame»; tog = v .tog; iso = p .iso; kind = p .kind; base = p .base; «max_len» = p .«max_len» }
 
 -- an endpoint's record after its allocation
-abbrev pub shapedPlain : Plain → ℕ → ℕ → ℕ → Plain
+abbrev pub shapedPlain : EpCore → ℕ → ℕ → ℕ → EpCore
 shapedPlain p kind maximum base = record { ready = 0; len = p .len; armed = 0; «last_frame» = 0x1800; tog = 0; iso = flag (isIso kind); kind = kind % 4; base = base; «max_len» = maximum }
 
 abbrev pub isoOf : Pages → Dir → ℕ → Bool
@@ -289,7 +289,7 @@ abbrev pub placeB : Pages → Dir → ℕ → Pages
 placeB t Out e = t
 placeB t In e = withIn t e (placedIn (t .ins e))
 
-abbrev pub handB : Hand → Bk → ℕ × Bk
+abbrev pub handB : DmaStep → Bk → ℕ × Bk
 handB (arrive e n) s = (0, (arriveB e n s, s .1))
 handB (send e) s = (0, (withIn (s .0) e (loadedIn (s .0 .ins e) (s .1)), s .1))
 handB (place d e) s = (0, (placeB (s .0) d e, s .1))
@@ -328,7 +328,7 @@ busResetB (suc zero) t = t
 busResetB (suc (suc zero)) t = globalsBy t (withEpType 0)
 busResetB (suc (suc (suc k))) t = globalsBy t (withEpConfig 0)
 
-abbrev pub rowB : Row → ℕ → Bk → ℕ × Bk
+abbrev pub rowB : Burst → ℕ → Bk → ℕ × Bk
 rowB (switch e onn) n s = (switchB e onn n (s .0) .0, (switchB e onn n (s .0) .1, s .1))
 rowB bus-reset n s = (0, (busResetB n (s .0), s .1))
 

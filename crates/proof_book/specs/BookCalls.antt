@@ -18,7 +18,7 @@ use Rattle.model.specs.Answers.{Answer, Refused}
 use Rattle.model.specs.Calls.{Config, Op, interrupt, slotted, other, aside, calls, code, starting, startRow}
 use Rattle.model.specs.Machine.{Buf, Call, start, begin, go, question, Ans, ended, handed, told, blank, blankA, Way, idle, busy, Machine, over, misfit, stay, lentTo, beside, halt, begun, continued, started, call, fed}
 use Rattle.proof_book.specs.Pages.{Packet, OutPage, InPage, Pages, withOut}
-use Rattle.proof_book.specs.Book.{Bk, receiving, slotTold, sourceTold, arrived, joined, turnedAway, feedB, freshPages, bookOps, book}
+use Rattle.proof_book.specs.Book.{Bk, receiving, slotTold, sourceTold, arrived, joined, overrun, feedB, freshPages, bookOps, book}
 use Rattle.proof_book.specs.Frame.{at-elim, out-same, in-same}
 use Rattle.proof_book.specs.FrontPage.{written, inInterrupt, Decides, Decided, admitted, turned-away, Counted, same, one-more, none, addressed}
 use Rattle.proof_book.specs.BookTracks.{Tracks, end, ask}
@@ -283,7 +283,7 @@ decided-by : (b : Buf) (p p′ : OutPage) (q : Packet) (n : ℕ) → length (p .
     → p′ .waiting ≡ arrived p q .waiting → p′ .admitted ≡ arrived p q .admitted → p′ .read ≡ arrived p q .read → p′ .lost ≡ arrived p q .lost → Decided b p p′
 decided-by b p p′ q n l h = by (ltb (length (p .waiting)) 15) refl
   where
-    by : (u : Bool) → ltb (length (p .waiting)) 15 ≡ u → let z = cond u (joined p q) (turnedAway p) in
+    by : (u : Bool) → ltb (length (p .waiting)) 15 ≡ u → let z = cond u (joined p q) (overrun p) in
         p′ .waiting ≡ z .waiting → p′ .admitted ≡ z .admitted → p′ .read ≡ z .read → p′ .lost ≡ z .lost → Decided b p p′
     by true m w x y z = admitted q (ltb-true (length (p .waiting)) 15 m)
         (h ∙ take-whole n (drop (p .slot) b) ∙ ap (λ (k : List ℕ). bytesAt b (p .slot) (length k)) (sym h)) w x y z

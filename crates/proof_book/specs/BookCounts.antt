@@ -17,9 +17,9 @@ use Rattle.alloc.specs.declared.Answer.the-variants as alloc
 use Rattle.alloc.specs.Alloc.{allocateOf, allocateEp0Of}
 use Rattle.model.specs.Tree as tree
 use Rattle.model.specs.Cells.{Cell, Val, globals-cell, control-cell, allocator-cell, ep-cell, request-cell, paced-cell}
-use Rattle.model.specs.Script.{Script, run, rows, ret, bind, test, read-then, write-then, wait-then, callback-then, get-then, put-then, is-then, look-then, fetch-then, act-then, hand-then, row-then, Act, complete, reset-ring, set-enabled, fill, fill0, open-oldest, close-oldest, take-oldest, enqueue, allocate, allocate0, no-wakes, waken, Hand, handAsk, arrive, send, place, place0, Row, switch, bus-reset, lastOf, rowAsk}
+use Rattle.model.specs.Script.{Script, run, rows, ret, bind, test, read-then, write-then, wait-then, callback-then, get-then, put-then, is-then, look-then, fetch-then, act-then, hand-then, row-then, Act, complete, reset-ring, set-enabled, fill, fill0, open-oldest, close-oldest, take-oldest, enqueue, allocate, allocate0, no-wakes, waken, DmaStep, dmaStepAsk, arrive, send, place, place0, Burst, switch, bus-reset, lastOf, burstAsk}
 use Rattle.proof_book.specs.Pages.{Packet, OutPage, Pages, withOut}
-use Rattle.proof_book.specs.Book.{Bk, putB, actB, handB, rowB, some, waitsOn, roomB, isoOf, isoOut, receiving, emptyOut, openOut, readOut, slotTold, arrived, joined, turnedAway, packetB, givenB, startedB, switchB, busResetB, feedB, bookOps}
+use Rattle.proof_book.specs.Book.{Bk, putB, actB, handB, rowB, some, waitsOn, roomB, isoOf, isoOut, receiving, emptyOut, openOut, readOut, slotTold, arrived, joined, overrun, packetB, givenB, startedB, switchB, busResetB, feedB, bookOps}
 use Rattle.proof_book.specs.Frame.{at-elim}
 use Rattle.proof_book.specs.BookTracks.{Tracks, end, ask, earlier, tracks-bind}
 
@@ -115,7 +115,7 @@ acts no-wakes s i = record { periodic = i; lost = λ e. refl }
 acts (waken codes) s i = record { periodic = i; lost = λ e. refl }
 
 arrives-at : (t : Pages) (e : ℕ) (q : Packet) (x : ℕ) → x % 16 ≡ e % 16 → (u : Bool) → ltb (length (t .outs e .waiting)) 15 ≡ u → Periodic t → (b : List ℕ)
-    → let p = cond u (joined (t .outs e) q) (turnedAway (t .outs e)) in (y : Bk) → y .0 .outs x ≡ p → (p .lost ≡ t .outs x .lost) ⊎ Turned x (t, b) (Receive e 0) y
+    → let p = cond u (joined (t .outs e) q) (overrun (t .outs e)) in (y : Bk) → y .0 .outs x ≡ p → (p .lost ≡ t .outs x .lost) ⊎ Turned x (t, b) (Receive e 0) y
 arrives-at t e q x h true m i b y z = inl (ap (λ (p : OutPage). p .lost) (i e x (sym h)))
 arrives-at t e q x h false m i b y z = inr (record {
   number = e;
@@ -129,7 +129,7 @@ arrives-at t e q x h false m i b y z = inr (record {
 quietly : {s : Bk} {t : Bk} (q : Access) → Keeps (s .0) (t .0) → Counts s q t
 quietly q k e = inl (k .lost e)
 
-hands : (q : Hand) (s : Bk) → Periodic (s .0) → Periodic (handB q s .1 .0) × Counts s (handAsk q (handB q s .0)) (handB q s .1)
+hands : (q : DmaStep) (s : Bk) → Periodic (s .0) → Periodic (handB q s .1 .0) × Counts s (dmaStepAsk q (handB q s .0)) (handB q s .1)
 hands (arrive e n) s i = by (receiving (s .0) e)
   where
     page : OutPage
@@ -166,7 +166,7 @@ switches e onn (suc (suc (suc k))) t i =
     let m = with-page t e (emptyOut (t .outs e)) refl i in
     either (isoOf t Out e && eqb k 15) (record { periodic = m .periodic; lost = m .lost }) (stays i)
 
-row-steps : (g : Row) (n : ℕ) (s : Bk) → Periodic (s .0) → Keeps (s .0) (rowB g n s .1 .0)
+row-steps : (g : Burst) (n : ℕ) (s : Bk) → Periodic (s .0) → Keeps (s .0) (rowB g n s .1 .0)
 row-steps (switch e onn) n s i = switches e onn n (s .0) i
 row-steps bus-reset n s i = resets n (s .0) i
 
@@ -175,9 +175,9 @@ row-steps bus-reset n s i = resets n (s .0) i
 abbrev pub Followed : {A : Type 0} → Bk → tree.Out Bk A → Type 0
 Followed s o = Tracks Periodic Uncounted Counts s o
 
-follow-rows : {A : Type 0} (g : Row) (n : ℕ) {k : Bk → tree.Out Bk A} → ((t : Bk) → Periodic (t .0) → Followed t (k t)) → (s : Bk) → Periodic (s .0) → Followed s (rows bookOps g n k s)
-follow-rows g zero h s i = let m = row-steps g zero s i in ask (m .periodic) (quietly (rowAsk g zero (rowB g zero s .0)) m) (λ v t j. h t j)
-follow-rows g (suc n) h s i = let m = row-steps g (suc n) s i in ask (m .periodic) (quietly (rowAsk g (suc n) (rowB g (suc n) s .0)) m) (λ v t j. follow-rows g n h t j)
+follow-rows : {A : Type 0} (g : Burst) (n : ℕ) {k : Bk → tree.Out Bk A} → ((t : Bk) → Periodic (t .0) → Followed t (k t)) → (s : Bk) → Periodic (s .0) → Followed s (rows bookOps g n k s)
+follow-rows g zero h s i = let m = row-steps g zero s i in ask (m .periodic) (quietly (burstAsk g zero (rowB g zero s .0)) m) (λ v t j. h t j)
+follow-rows g (suc n) h s i = let m = row-steps g (suc n) s i in ask (m .periodic) (quietly (burstAsk g (suc n) (rowB g (suc n) s .0)) m) (λ v t j. follow-rows g n h t j)
 
 pub follow : {i : Bool} {A : Type 0} (p : Script i A) (s : Bk) → Periodic (s .0) → Followed s (run bookOps p s)
 follow (ret a) s i = end i (λ e. refl)

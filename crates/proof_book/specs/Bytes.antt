@@ -17,14 +17,14 @@ use Rattle.ring.specs.Slot.{countOf}
 use Rattle.ring.specs.Slots.{slot-from, slot-upto}
 use Rattle.marks.specs.Copies.{bytesAt, copied}
 use Rattle.marks.specs.Slots.{only-copied}
-use Rattle.model.specs.Alike.{quiet}
-use Rattle.model.specs.Cells.{Plain}
+use Rattle.model.specs.Simulates.{quiet}
+use Rattle.model.specs.Cells.{EpCore}
 use Rattle.model.specs.Script as script
 use Rattle.model.specs.Statics.{isOn}
 use Rattle.model.specs.Machine.{Buf}
 use Rattle.model_ops.specs.Rings.{wordAt, filledOn, filledEp0}
 use Rattle.proof_book.specs.Pages.{Pages}
-use Rattle.proof_book.specs.Rest.{endOf, Apart, Rest}
+use Rattle.proof_book.specs.Coupling.{endOf, Apart, Coupling}
 use Rattle.proof_book.specs.Lens.{key-ep}
 use Rattle.proof_book.specs.Frame.{bytes-region, only-bytes}
 use Rattle.proof_book.specs.Lies.{ep0-lies}
@@ -37,7 +37,7 @@ narrow l (inr a) = inr a
 
 -- ---- an endpoint's own slot
 
-module _ {b : Buf} {d : Driver} {t : Pages} (R : Rest quiet b d t) (e : ℕ) (bytes : List ℕ) where
+module _ {b : Buf} {d : Driver} {t : Pages} (R : Coupling quiet b d t) (e : ℕ) (bytes : List ℕ) where
   -- the region of another endpoint is apart, and in its own ring none wait
   fill-away : isOn (epOn d In e .iso) ≡ false → length bytes ≤ epOn d In e .«max_len» → (dir : Dir) (x : ℕ)
       → Apart (epOn d In e .base) (epOn d In e .base + length bytes) (epOn d dir x .base) (endOf (epOn d dir x)) ⊎ (countOf (epOn d dir x) ≡ 0)
@@ -48,7 +48,7 @@ module _ {b : Buf} {d : Driver} {t : Pages} (R : Rest quiet b d t) (e : ℕ) (by
   ]
 
   abbrev Filled : Bool → Bool → Type 0
-  Filled i m = Rest quiet (cond i b (cond m b (copied b (epOn d In e .base) bytes))) d t
+  Filled i m = Coupling quiet (cond i b (cond m b (copied b (epOn d In e .base) bytes))) d t
 
   filled-by : (i m : Bool) → isOn (epOn d In e .iso) ≡ i → ltb (epOn d In e .«max_len») (length bytes) ≡ m → Filled i m
   filled-by true m p q = R
@@ -60,14 +60,14 @@ module _ {b : Buf} {d : Driver} {t : Pages} (R : Rest quiet b d t) (e : ℕ) (by
 pub act-fill : (e : ℕ) (bytes : List ℕ) → ActAgrees (script.fill e bytes)
 unfolding filledOn
 act-fill e bytes b d t R = (
-  ap (λ (p : Plain). cond (isOn (p .iso)) b (cond (ltb (p .«max_len») (length bytes)) b (copied b (p .base) bytes))) (R .same .plain In e),
+  ap (λ (p : EpCore). cond (isOn (p .iso)) b (cond (ltb (p .«max_len») (length bytes)) b (copied b (p .base) bytes))) (R .same .plain In e),
   filled-by R e bytes (isOn (epOn d In e .iso)) (ltb (epOn d In e .«max_len») (length bytes)) refl refl,
 )
 
 -- ---- EP0's
 
-module _ {b : Buf} {d : Driver} {t : Pages} (R : Rest quiet b d t) (bytes : List ℕ) where
-  filled0-by : (m : Bool) → ltb (d .globals .«ep0_max») (length bytes) ≡ m → Rest quiet (cond m b (copied b (d .globals .«ep0_buf») bytes)) d t
+module _ {b : Buf} {d : Driver} {t : Pages} (R : Coupling quiet b d t) (bytes : List ℕ) where
+  filled0-by : (m : Bool) → ltb (d .globals .«ep0_max») (length bytes) ≡ m → Coupling quiet (cond m b (copied b (d .globals .«ep0_buf») bytes)) d t
   filled0-by true q = R
   filled0-by false q =
       let o = only-copied b (d .globals .«ep0_buf») bytes in

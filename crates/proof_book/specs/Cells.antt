@@ -26,15 +26,15 @@ use Rattle.alloc.specs.Alloc.{allocatedIn}
 use Rattle.ring.specs.Slot.{slotAddr, countOf}
 use Rattle.ring.specs.Waiting.{waiting, Placed, Ring, Sends, Shows, Alike, SamePlace}
 use Rattle.ring.specs.Laws.{place-placed, place-addr, alike-count, alike-waits, alike-ring}
-use Rattle.model.specs.Alike.{Phase, quiet, mid, Bare}
-use Rattle.model.specs.Cells.{Plain, Cell, Val, globals-cell, control-cell, allocator-cell, ep-cell, request-cell, paced-cell}
+use Rattle.model.specs.Simulates.{Phase, quiet, mid, Bare}
+use Rattle.model.specs.Cells.{EpCore, Cell, Val, globals-cell, control-cell, allocator-cell, ep-cell, request-cell, paced-cell}
 use Rattle.model.specs.Statics.{isOn, flag, isoOuts}
 use Rattle.model.specs.Machine.{Buf}
 use Rattle.model_ops.specs.Records.{plainOf, merged, mergedGlobals}
-use Rattle.model_ops.specs.Conc.{conc}
+use Rattle.model_ops.specs.Concrete.{concrete}
 use Rattle.proof_book.specs.Pages.{bytesOf, OutPage, InPage, Kept, Pages, at, on, withKept, keptWakes}
 use Rattle.proof_book.specs.Book.{bookOps, feedB, mergedPlain}
-use Rattle.proof_book.specs.Rest.{Short, SameKept, Used, Unused, Shape, Held, OutFits, InFits, AtRest, Arming, Rest, Good, lensOf, slotStamps, endOf}
+use Rattle.proof_book.specs.Coupling.{Short, SameKept, Used, Unused, Shape, Held, OutFits, InFits, AtRest, Arming, Coupling, Good, lensOf, slotStamps, endOf}
 use Rattle.proof_book.specs.Frame.{alike-tail, stands-moved}
 use Rattle.proof_book.specs.Stamps.{alike-stamps}
 
@@ -91,7 +91,7 @@ kin-refl r = record {
 pub kin-by : {r r′ r″ : EpState} → Kin r r′ → r″ ≡ r′ → Kin r r″
 kin-by {r = r} k e = subst (λ z. Kin r z) (sym e) k
 
-pub merged-kin : (r : EpState) (v : Plain) → Kin r (merged r v)
+pub merged-kin : (r : EpState) (v : EpCore) → Kin r (merged r v)
 merged-kin r v = record {
   alike = record { place = record { base = refl; stride = refl; slots = refl }; head = refl; tail = refl };
   iso = refl;
@@ -175,8 +175,8 @@ isoOuts-by : (g g′ : Globals) → g′ .«ep_config» ≡ g .«ep_config» →
 unfolding isoOuts
 isoOuts-by g g′ c i = rw (c, i) refl
 
-module _ {b : Buf} {d d′ : Driver} {t t′ : Pages} (r : Rest quiet b d t) (s : Still d d′) where
-  pub still : SameKept d′ (t′ .kept) → t′ .outs ≡ t .outs → t′ .ins ≡ t .ins → Rest quiet b d′ t′
+module _ {b : Buf} {d d′ : Driver} {t t′ : Pages} (r : Coupling quiet b d t) (s : Still d d′) where
+  pub still : SameKept d′ (t′ .kept) → t′ .outs ≡ t .outs → t′ .ins ≡ t .ins → Coupling quiet b d′ t′
   unfolding epOn
   still k o i = record {
     step = tt;
@@ -199,7 +199,7 @@ module _ {b : Buf} {d d′ : Driver} {t t′ : Pages} (r : Rest quiet b d t) (s 
 
 -- ---- get
 
-pub gets : (c : Cell) (b : Buf) (d : Driver) (t : Pages) → Rest quiet b d t → conc .get c (d, b) ≡ bookOps .get c (t, b)
+pub gets : (c : Cell) (b : Buf) (d : Driver) (t : Pages) → Coupling quiet b d t → concrete .get c (d, b) ≡ bookOps .get c (t, b)
 gets globals-cell b d t r = r .same .globals
 gets control-cell b d t r = r .same .control
 gets allocator-cell b d t r = r .same .allocator
@@ -293,7 +293,7 @@ module _ {A : Type 0} (old new m : Dir → ℕ → A) (dir : Dir) (e : ℕ) (v :
 
 -- of a record replaced
 pub plain-put : (d : Driver) (k : Kept) (dir : Dir) (e : ℕ) (r : EpState) → Sized d → ((dir : Dir) (e : ℕ) → plainOf (epOn d dir e) ≡ k .plain dir e)
-    → (v : Plain) → plainOf r ≡ v → (dir′ : Dir) (x : ℕ) → plainOf (epOn (withOn d dir e r) dir′ x) ≡ on dir e v (k .plain) dir′ x
+    → (v : EpCore) → plainOf r ≡ v → (dir′ : Dir) (x : ℕ) → plainOf (epOn (withOn d dir e r) dir′ x) ≡ on dir e v (k .plain) dir′ x
 plain-put d k dir e r z h v q = on-put (λ dir e. plainOf (epOn d dir e)) (λ dir′ x. plainOf (epOn (withOn d dir e r) dir′ x)) (k .plain) dir e v h
     (λ x p. ap plainOf (epOn-by (withOn d dir e r) dir x e p ∙ epOn-same d dir e r z) ∙ q)
     (λ dir′ x p. ap plainOf (epOn-other d dir e r dir′ x p))
@@ -312,8 +312,8 @@ paced-put d k e v z h x = elim (ℕ-discrete (x % 16) (e % 16)) [
   | no q ↦ pacedOn-other d e v x q ∙ (h x ∙ sym (at-other e x v (k .paced) q))
 ]
 
-pub puts : (c : Cell) (v : Val c) (b : Buf) (d : Driver) (t : Pages) → Rest quiet b d t
-    → (conc .put c v (d, b) .1 ≡ bookOps .put c v (t, b) .1) × Rest quiet (conc .put c v (d, b) .1) (conc .put c v (d, b) .0) (bookOps .put c v (t, b) .0)
+pub puts : (c : Cell) (v : Val c) (b : Buf) (d : Driver) (t : Pages) → Coupling quiet b d t
+    → (concrete .put c v (d, b) .1 ≡ bookOps .put c v (t, b) .1) × Coupling quiet (concrete .put c v (d, b) .1) (concrete .put c v (d, b) .0) (bookOps .put c v (t, b) .0)
 unfolding epOn withOn requestOn withRequestOn pacedOn withPacedOn
 puts globals-cell v b d t r = (
   refl,
@@ -349,7 +349,7 @@ puts (ep-cell dir e) v b d t r = (
     allocator = r .same .allocator;
     paced = r .same .paced;
     requests = r .same .requests;
-    plain = plain-put d (t .kept) dir e (merged (epOn d dir e) v) (r .sized) (r .same .plain) (mergedPlain (t .kept .plain dir e) v) (ap (λ (p : Plain). mergedPlain p v) (r .same .plain dir e));
+    plain = plain-put d (t .kept) dir e (merged (epOn d dir e) v) (r .sized) (r .same .plain) (mergedPlain (t .kept .plain dir e) v) (ap (λ (p : EpCore). mergedPlain p v) (r .same .plain dir e));
   }) refl refl,
 )
 puts (request-cell dir e) v b d t r = (
@@ -380,7 +380,7 @@ puts (paced-cell e) v b d t r = (
 
 -- ---- wake-ups
 
-pub wakes-kept : {b : Buf} {d : Driver} {t : Pages} → Rest quiet b d t → (v w : Wakes) → v ≡ w → Rest quiet b (withWakes d v) (withKept t (keptWakes (t .kept) w))
+pub wakes-kept : {b : Buf} {d : Driver} {t : Pages} → Coupling quiet b d t → (v w : Wakes) → v ≡ w → Coupling quiet b (withWakes d v) (withKept t (keptWakes (t .kept) w))
 unfolding pacedOn requestOn epOn
 wakes-kept {d = d} r v w e = still r (wakes-still d v (r .sized)) (record {
   globals = r .same .globals;

@@ -21,11 +21,11 @@ use Rattle.ring.specs.Slots.{slots-apart, slot-from, slot-upto}
 use Rattle.ring.specs.Laws.{waiting-kept}
 use Rattle.ring.specs.OutLaws.{armed-away}
 use Rattle.model.specs.Script.{switch, bus-reset}
-use Rattle.model.specs.Alike.{Phase, quiet, mid}
+use Rattle.model.specs.Simulates.{Phase, quiet, mid}
 use Rattle.model.specs.Statics.{isOn, isoOuts}
 use Rattle.model.specs.Machine.{Buf}
 use Rattle.proof_book.specs.Pages.{OutPage, Pages}
-use Rattle.proof_book.specs.Rest.{endOf, Used, Shape, Apart, ep0Room, lensOf, Armed, AtRest, InRow, Arming, Rest, Elsewhere, Chip}
+use Rattle.proof_book.specs.Coupling.{endOf, Used, Shape, Apart, ep0Room, lensOf, Armed, AtRest, InRow, Arming, Coupling, Elsewhere, Chip}
 use Rattle.proof_book.specs.Lens.{ep-mod}
 use Rattle.proof_book.specs.Frame.{TailsStay, bytes-changed}
 
@@ -45,7 +45,7 @@ armed-or (mid (switch f onn) n) e u r p a = row-armed (eqb (e % 16) (f % 16) && 
 armed-or (mid bus-reset zero) e u r p a = rest-armed u a
 armed-or (mid bus-reset (suc n)) e u r p a = a .1
 
-module _ {φ : Phase} {b : Buf} {d : Driver} {t : Pages} (R : Rest φ b d t) where
+module _ {φ : Phase} {b : Buf} {d : Driver} {t : Pages} (R : Coupling φ b d t) where
   used-size : (e : ℕ) → isSet (allocatedIn (t .kept .allocator) Out) (e % 16) ≡ true → epOn d Out e .stride ≡ t .kept .allocator .size
   used-size e h =
       let u : Used (d .allocator) Out (epOn d Out e) = subst (λ z. Shape z (d .allocator) Out (epOn d Out e)) (ap (λ (a : Allocator). isSet (allocatedIn a Out) (e % 16)) (R .same .allocator) ∙ h) (R .shape Out e) in
@@ -111,7 +111,7 @@ module _ {φ : Phase} {b : Buf} {d : Driver} {t : Pages} (R : Rest φ b d t) whe
           ⊎-elim (λ y. inl (omega (arith, s))) (λ y. inr (omega (arith, s, w))) (out-own x j k l p q)
 
 -- the chip's stores leave all that holds between calls, in every phase
-pub chip : (b b′ : Buf) (φ : Phase) (d : Driver) (t : Pages) → Rest φ b d t → Chip t b b′ → Rest φ b′ d t
+pub chip : (b b′ : Buf) (φ : Phase) (d : Driver) (t : Pages) → Coupling φ b d t → Chip t b b′ → Coupling φ b′ d t
 chip b b′ φ d t R c = bytes-changed R (c .long) kept tails
   where
     kept : (dir : Dir) (x : ℕ) → waiting b′ (epOn d dir x) (lensOf d dir x) ≡ waiting b (epOn d dir x) (lensOf d dir x)

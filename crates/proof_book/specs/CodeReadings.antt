@@ -6,8 +6,8 @@ use Rattle.state.specs.Driver.{Driver}
 use Rattle.model.specs.Answers.{Answer}
 use Rattle.model.specs.Calls.{Config, Op, interrupt, calls, startRow}
 use Rattle.model.specs.Machine.{Buf, Event, Machine, Ans, start, begin, idle}
-use Rattle.machine.specs.Under.{driverOf, machineOf}
-use Rattle.proof_book.specs.Code.{Made, Did}
+use Rattle.machine.specs.Suspended.{driverOf, machineOf}
+use Rattle.proof_book.specs.Code.{Made, CallStep}
 use Rattle.proof_book.specs.Always.{after}
 use Rattle.proof_book.specs.Sorting.{Sorting, after-sorting}
 use Rattle.proof_book.specs.Served.{andThen, counted, served, sorting-served}
@@ -15,7 +15,7 @@ use Rattle.proof_book.specs.Served.{andThen, counted, served, sorting-se
 -- calls one after the other, each as its contract says
 abbrev pub Steps : List ℕ → Buf → List Made → Type 0
 Steps xs a [] = Unit {0}
-Steps xs a (m ∷ ms) = Did xs a m × Steps (m .bytes) (m .slots) ms
+Steps xs a (m ∷ ms) = CallStep xs a m × Steps (m .bytes) (m .slots) ms
 
 -- the state's bytes and the slot buffer after them
 abbrev pub bytesAfter : List ℕ → List Made → List ℕ

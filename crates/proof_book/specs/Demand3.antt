@@ -8,7 +8,7 @@ use Rattle.model.specs.Answers.{Answer}
 use Rattle.model.specs.Calls.{Config, Op, calls, startRow}
 use Rattle.model.specs.Machine.{Buf, Event, Machine, Ans, fed, started}
 use Rattle.model.specs.Agree.{After, All, Lawful, from-start}
-use Rattle.machine.specs.Under.{driverOf}
+use Rattle.machine.specs.Suspended.{driverOf}
 use Rattle.proof_book.specs.Pages.{Pages}
 use Rattle.proof_book.specs.Book.{book}
 use Rattle.proof_book.specs.Allocations.{fresh-kept}

@@ -24,16 +24,16 @@ use Rattle.ring.specs.Slots.{slot-from, slot-upto}
 use Rattle.ring.specs.Waiting.{waiting, Same, Only, Placed, SamePlace, Alike}
 use Rattle.ring.specs.Laws.{waiting-foreign, waiting-none, place-trans, place-addr}
 use Rattle.marks.specs.Only as marks
-use Rattle.model.specs.Cells.{Plain}
+use Rattle.model.specs.Cells.{EpCore}
 use Rattle.model.specs.Script.{switch, bus-reset}
-use Rattle.model.specs.Alike.{Phase, quiet, mid}
+use Rattle.model.specs.Simulates.{Phase, quiet, mid}
 use Rattle.model.specs.Statics.{isOn, flag, isoOuts}
 use Rattle.model.specs.Machine.{Buf}
 use Rattle.model_ops.specs.Records.{plainOf}
 use Rattle.model_ops.specs.Stamps.{length-filled}
 use Rattle.proof_book.specs.Pages.{OutPage, InPage, Kept, Pages, at, on, withKept, withOut, withIn, keptPlain}
 use Rattle.proof_book.specs.Lens.{key-mod, key-other, ep-mod, lens-mod, key-ep, lens-on, ep-len, lens-set-other, stamps-mod, stamps-on, stamps-len, ep-stamp, lens-stamp, stamps-set-other, ep-clear, lens-clear, stamps-clear-other}
-use Rattle.proof_book.specs.Rest.{SameKept, endOf, Shape, Apart, ep0Room, lensOf, slotStamps, Held, OutFits, InFits, Stands, InRow, Arming, Step, Rest}
+use Rattle.proof_book.specs.Coupling.{SameKept, endOf, Shape, Apart, ep0Room, lensOf, slotStamps, Held, OutFits, InFits, Stands, InRow, Arming, Step, Coupling}
 
 -- ---- one endpoint's record, lengths and stamps changed, its buffers where they were
 
@@ -230,7 +230,7 @@ module _ {dir : Dir} {e : ℕ} {d d′ : Driver} (c : Changed dir e d d′) wher
   }
 
   -- and where it changes
-  pub kept-plain : {k : Kept} {v : Plain} → plainOf (epOn d′ dir e) ≡ v → SameKept d k → SameKept d′ (keptPlain k dir e v)
+  pub kept-plain : {k : Kept} {v : EpCore} → plainOf (epOn d′ dir e) ≡ v → SameKept d k → SameKept d′ (keptPlain k dir e v)
   kept-plain {k} {v} p s = record {
     globals = c .globals ∙ s .globals;
     wakes = c .wakes ∙ s .wakes;
@@ -327,7 +327,7 @@ shape-kept false l dir k i u = record { iso = i ∙ u .iso; base = k .base ∙ u
 apart-kept : {lo lo′ hi hi′ x x′ y y′ : ℕ} → lo′ ≡ lo → hi′ ≡ hi → x′ ≡ x → y′ ≡ y → Apart lo hi x y → Apart lo′ hi′ x′ y′
 apart-kept a b c d h = rw (a, b, c, d) h
 
-pub rebuilt : {φ ψ : Phase} {b b′ : Buf} {d d′ : Driver} {t t′ : Pages} → Rest φ b d t → Keeps d d′ → length b′ ≡ length b → Parts ψ b′ d′ t′ → Rest ψ b′ d′ t′
+pub rebuilt : {φ ψ : Phase} {b b′ : Buf} {d d′ : Driver} {t t′ : Pages} → Coupling φ b d t → Keeps d d′ → length b′ ≡ length b → Parts ψ b′ d′ t′ → Coupling ψ b′ d′ t′
 rebuilt {d = d} {d′ = d′} R k l p =
     let room : ep0Room (d′ .globals) (d′ .allocator) ≡ ep0Room (d .globals) (d .allocator) = rw (k .stage, k .allocator) refl in
     record {
@@ -384,7 +384,7 @@ arming-mod (mid (switch f onn) n) x e u r p h a = subst (λ k. InRow (eqb k (f %
 arming-mod (mid bus-reset zero) x e u r p h a = a
 arming-mod (mid bus-reset (suc n)) x e u r p h a = a
 
-module _ {φ : Phase} {b b′ : Buf} {d d′ : Driver} {t : Pages} (R : Rest φ b d t) where
+module _ {φ : Phase} {b b′ : Buf} {d d′ : Driver} {t : Pages} (R : Coupling φ b d t) where
   module _ {dir : Dir} {e : ℕ} (c : Changed dir e d d′) (long : length b′ ≡ length b) (o : Only (epOn d dir e .base) (endOf (epOn d dir e)) b b′) where
     pub other-out : (x : ℕ) → key Out x ≢ key dir e → OutFits b′ (epOn d′ Out x) (lensOf d′ Out x) (slotStamps d′ x) (t .outs x)
     other-out x n =
@@ -402,7 +402,7 @@ module _ {φ : Phase} {b b′ : Buf} {d d′ : Driver} {t : Pages} (R : Rest φ 
   pub out-changed : {ψ : Phase} {k : Kept} (e : ℕ) (p : OutPage) → Changed Out e d d′ → SameKept d′ k → length b′ ≡ length b
       → Only (epOn d Out e .base) (endOf (epOn d Out e)) b b′ → OutFits b′ (epOn d′ Out e) (lensOf d′ Out e) (slotStamps d′ e) p → Step ψ
       → ((x : ℕ) (u : Bool) → x % 16 ≢ e % 16 → Arming φ x u (epOn d Out x) (t .outs x) → Arming ψ x u (epOn d Out x) (t .outs x))
-      → Arming ψ e (isSet (isoOuts (d .globals)) (e % 16)) (epOn d′ Out e) p → Rest ψ b′ d′ (withOut (withKept t k) e p)
+      → Arming ψ e (isSet (isoOuts (d .globals)) (e % 16)) (epOn d′ Out e) p → Coupling ψ b′ d′ (withOut (withKept t k) e p)
   out-changed {ψ} {k} e p c s long o f step others a = rebuilt R (keeps-changed c) long (record {
     step = step;
     same = s;
@@ -420,7 +420,7 @@ module _ {φ : Phase} {b b′ : Buf} {d d′ : Driver} {t : Pages} (R : Rest φ 
 
   -- IN e
   pub in-changed : {k : Kept} (e : ℕ) (p : InPage) → Changed In e d d′ → SameKept d′ k → length b′ ≡ length b
-      → Only (epOn d In e .base) (endOf (epOn d In e)) b b′ → InFits b′ (epOn d′ In e) (lensOf d′ In e) p → Rest φ b′ d′ (withIn (withKept t k) e p)
+      → Only (epOn d In e .base) (endOf (epOn d In e)) b b′ → InFits b′ (epOn d′ In e) (lensOf d′ In e) p → Coupling φ b′ d′ (withIn (withKept t k) e p)
   in-changed {k} e p c s long o f = rebuilt R (keeps-changed c) long (record {
     step = R .step;
     same = s;
@@ -438,8 +438,8 @@ module _ {φ : Phase} {b b′ : Buf} {d d′ : Driver} {t : Pages} (R : Rest φ 
 abbrev pub TailsStay : Driver → Buf → Buf → Type 0
 TailsStay d b b′ = (x : ℕ) → 0 < countOf (epOn d In x) → Same (slotAddr (epOn d In x) (epOn d In x .tail)) (slotAddr (epOn d In x) (epOn d In x .tail) + epOn d In x .stride) b b′
 
-module _ {φ : Phase} {b b′ : Buf} {d : Driver} {t : Pages} (R : Rest φ b d t) (long : length b′ ≡ length b) where
-  pub bytes-changed : ((dir : Dir) (x : ℕ) → waiting b′ (epOn d dir x) (lensOf d dir x) ≡ waiting b (epOn d dir x) (lensOf d dir x)) → TailsStay d b b′ → Rest φ b′ d t
+module _ {φ : Phase} {b b′ : Buf} {d : Driver} {t : Pages} (R : Coupling φ b d t) (long : length b′ ≡ length b) where
+  pub bytes-changed : ((dir : Dir) (x : ℕ) → waiting b′ (epOn d dir x) (lensOf d dir x) ≡ waiting b (epOn d dir x) (lensOf d dir x)) → TailsStay d b b′ → Coupling φ b′ d t
   bytes-changed w s = rebuilt R (keeps-changed (changed-not (R .sized) Out 0)) long (record {
     step = R .step;
     same = R .same;
@@ -450,7 +450,7 @@ module _ {φ : Phase} {b b′ : Buf} {d : Driver} {t : Pages} (R : Rest φ b d t
 
   -- in a region apart from every ring in which some wait
   pub bytes-region : (lo hi : ℕ) → Only lo hi b b′
-      → ((dir : Dir) (x : ℕ) → Apart lo hi (epOn d dir x .base) (endOf (epOn d dir x)) ⊎ (countOf (epOn d dir x) ≡ 0)) → Rest φ b′ d t
+      → ((dir : Dir) (x : ℕ) → Apart lo hi (epOn d dir x .base) (endOf (epOn d dir x)) ⊎ (countOf (epOn d dir x) ≡ 0)) → Coupling φ b′ d t
   bytes-region lo hi o away = bytes-changed kept tails
     where
       swap : {x y : ℕ} → Apart lo hi x y → (y ≤ lo) ⊎ (hi ≤ x)

@@ -23,7 +23,7 @@ use Rattle.marks.specs.Copies.{bytesAt}
 use Rattle.model.specs.Answers.{Answer, Refused, Done, Shown, ok, isNumber}
 use Rattle.model.specs.Calls.{Config, Op, slotted, aside, SetEnabled, PollRead, Aside, Open, Close, Queue, calls, startRow}
 use Rattle.model.specs.Machine.{Buf, Call, start, begin, go, question, overruns, Event, Ans, ended, handed, told, Way, idle, busy, Machine, over, misfit, fed, call, started}
-use Rattle.machine.specs.Under.{drive, machineOf}
+use Rattle.machine.specs.Suspended.{drive, machineOf}
 use Rattle.proof_book.specs.Pages.{Packet, bytesOf, stampsOf, OutPage, InPage, Pages}
 use Rattle.proof_book.specs.Book.{isoOf, receiving, front, book}
 use Rattle.proof_book.specs.Stamps.{stamped}
@@ -40,8 +40,8 @@ pub record Made : Type 0 where
   pub slots : Buf
 
 -- its contract, where the state's bytes were xs and the slot buffer a: it is one step of the machine of calls that the bytes are
-abbrev pub Did : List ℕ → Buf → Made → Type 0
-Did xs a m = (m .answer, machineOf (m .bytes) (m .slots)) ≡ drive (m .event .call) (machineOf xs a) (m .event .lent)
+abbrev pub CallStep : List ℕ → Buf → Made → Type 0
+CallStep xs a m = (m .answer, machineOf (m .bytes) (m .slots)) ≡ drive (m .event .call) (machineOf xs a) (m .event .lent)
 
 -- the book's step: "fed the calls alone, with the readings and lent bytes they bring and the accesses they hand out"
 abbrev pub written : Ans Answer → Call Config Op → Machine Answer Pages → Buf → Ans Answer × Machine Answer Pages
@@ -76,7 +76,7 @@ LentAsLeft (question q) n a b = Chip (n .st) a b
 -- calls one after the other, from the state's bytes xs, the slot buffer a and the book n
 abbrev pub Calls : List ℕ → Buf → Machine Answer Pages → List Made → Type 0
 Calls xs a n [] = Unit {0}
-Calls xs a n (m ∷ ms) = Did xs a m × LentAsLeft (m .event .call) n a (m .event .lent) × Calls (m .bytes) (m .slots) (noted m n .1) ms
+Calls xs a n (m ∷ ms) = CallStep xs a m × LentAsLeft (m .event .call) n a (m .event .lent) × Calls (m .bytes) (m .slots) (noted m n .1) ms
 
 -- ---- what is compared
 

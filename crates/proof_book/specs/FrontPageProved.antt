@@ -15,23 +15,23 @@ use Rattle.state.specs.State.{view}
 use Rattle.state.specs.Driver.{Driver, epOn}
 use Rattle.ring.specs.Slot.{countOf}
 use Rattle.ring.specs.Laws.{waiting-length}
-use Rattle.model.specs.Alike.{Phase}
+use Rattle.model.specs.Simulates.{Phase}
 use Rattle.model.specs.Statics.{flag}
-use Rattle.model.specs.Cells.{Plain}
+use Rattle.model.specs.Cells.{EpCore}
 use Rattle.model.specs.Answers.{Answer, Refused, Shown, ok}
 use Rattle.model.specs.Calls.{Config, Op, aside, Aside, Open, Close, Queue, calls, startRow}
 use Rattle.model.specs.Machine.{Buf, Call, start, begin, go, question, overruns, Event, Ans, ended, handed, told, blankA, Machine, fed, started}
 use Rattle.model.specs.Agree.{After, Ways, GoodA, agrees, from-start}
-use Rattle.machine.specs.Under.{driverOf, drive, machineOf}
+use Rattle.machine.specs.Suspended.{driverOf, drive, machineOf}
 use Rattle.proof_book.specs.Pages.{Packet, bytesOf, stampsOf, OutPage, Pages}
 use Rattle.proof_book.specs.Book.{book}
-use Rattle.proof_book.specs.Rest.{Rest, Short, Holds, lensOf}
+use Rattle.proof_book.specs.Coupling.{Coupling, Short, Holds, lensOf}
 use Rattle.proof_book.specs.Held.{held-length}
 use Rattle.proof_book.specs.Allocations.{fresh-kept}
 use Rattle.proof_book.specs.Agrees.{agree}
 use Rattle.proof_book.specs.LedgerLaws as ledger
 use Rattle.proof_book.specs.ReadRoomCalls.{Kept, steps, start-kept}
-use Rattle.proof_book.specs.FrontPage.{Made, Did, noted, written, LentAsLeft, ringBytes, ringStamps, EmptiedIn, BeingSent, Sends, emptied, Compared}
+use Rattle.proof_book.specs.FrontPage.{Made, CallStep, noted, written, LentAsLeft, ringBytes, ringStamps, EmptiedIn, BeingSent, Sends, emptied, Compared}
 use Rattle.proof_book.specs.FrontPage.{Sentences, AfterCall, Counted, none, AfterEach, LengthsEach, OthersEach, Demand3}
 use Rattle.proof_book.specs.FrontPage as page
 use Rattle.proof_book.specs.MachineRuns.{Premise, AfterEvents}
@@ -52,7 +52,7 @@ use Rattle.proof_book.specs.OthersCalls.{WaySpared, call-goes, start-spa
 
 -- ---- from the relation of driver and book
 
-module _ {φ : Phase} {b : Buf} {d : Driver} {t : Pages} (R : Rest φ b d t) (e : ℕ) where
+module _ {φ : Phase} {b : Buf} {d : Driver} {t : Pages} (R : Coupling φ b d t) (e : ℕ) where
   ring-length : length (ringBytes d b e) ≡ length (t .outs e .waiting)
   ring-length = ap (λ (w : List (List ℕ)). length w) (R .outs e .held .waits) ∙ length-map (t .outs e .waiting) (λ (q : Packet). q .bytes)
 
@@ -81,7 +81,7 @@ module _ {φ : Phase} {b : Buf} {d : Driver} {t : Pages} (R : Rest φ b d t) (e 
 
   within : (earlier later : List Packet) (q : Packet) → t .outs e .waiting ≡ earlier ++ (q ∷ later) → length (q .bytes) ≤ t .kept .plain Out e .«max_len»
   within earlier later q k =
-      let s = subst (λ (m : ℕ). Short m (t .outs e .waiting)) (ap (λ (p : Plain). p .«max_len») (R .same .plain Out e)) (R .outs e .short) in
+      let s = subst (λ (m : ℕ). Short m (t .outs e .waiting)) (ap (λ (p : EpCore). p .«max_len») (R .same .plain Out e)) (R .outs e .short) in
       short-each (t .kept .plain Out e .«max_len») earlier later q (subst (λ (w : List Packet). Short (t .kept .plain Out e .«max_len») w) k s)
 
 -- ---- one call
@@ -89,7 +89,7 @@ module _ {φ : Phase} {b : Buf} {d : Driver} {t : Pages} (R : Rest φ b d t) (e 
 -- before a call that is no first start-up
 record Before (m : Machine Answer Driver) (n : Machine Answer Pages) : Type 0 where
   phase : Phase
-  rest : Rest phase (m .buf) (m .st) (n .st)
+  rest : Coupling phase (m .buf) (m .st) (n .st)
   room : Kept m
   fine : Fine n
   sending : Sending n
@@ -238,7 +238,7 @@ later-call c l m n k a = record {
 record Agreeing (m : Machine Answer Driver) (n : Machine Answer Pages) : Type 0 where
   phase : Phase
   ways : Ways driverOf book agree calls phase (m .way) (n .way)
-  rest : Rest phase (m .buf) (m .st) (n .st)
+  rest : Coupling phase (m .buf) (m .st) (n .st)
   room : Kept m
   fine : Fine n
   sending : Sending n
@@ -296,7 +296,7 @@ machine-demand-3 c b row es m n p = let z = begins c b row m n in (z .0, events 
 abbrev Said : Made → Machine Answer Pages → Type 0
 Said m n = AfterCall (m .event .call) (m .event .lent) n (m .answer) (view (m .bytes)) (m .slots) (noted m n .1 .st) × Agreeing (machineOf (m .bytes) (m .slots)) (noted m n .1)
 
-said : (xs : List ℕ) (a : Buf) (n : Machine Answer Pages) (m : Made) → Did xs a m
+said : (xs : List ℕ) (a : Buf) (n : Machine Answer Pages) (m : Made) → CallStep xs a m
     → (let x = drive (m .event .call) (machineOf xs a) (m .event .lent) in
     Holds-after (m .event .call) (m .event .lent) (machineOf xs a) n × Agreeing (x .1) (written (x .0) (m .event .call) n (m .event .lent) .1)) → Said m n
 said xs a n m did h = subst (λ (x : Ans Answer × Machine Answer Driver).
@@ -310,7 +310,7 @@ code (m ∷ ms) xs a n k p =
     (z .0, code ms (m .bytes) (m .slots) _ (z .1) (p .2))
 
 -- the book's answer is the driver's, but for an address
-same-answer : (xs : List ℕ) (a : Buf) (n : Machine Answer Pages) (m : Made) → Agreeing (machineOf xs a) n → Did xs a m
+same-answer : (xs : List ℕ) (a : Buf) (n : Machine Answer Pages) (m : Made) → Agreeing (machineOf xs a) n → CallStep xs a m
     → LentAsLeft (m .event .call) n a (m .event .lent) → blankA (m .answer) ≡ blankA (noted m n .0)
 same-answer xs a n m k did p =
     let c = m .event .call in

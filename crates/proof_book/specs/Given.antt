@@ -32,15 +32,15 @@ use Rattle.alloc.specs.Sound.{Sound, sound-call}
 use Rattle.ring.specs.Slot.{slotOf, slotAddr, countOf}
 use Rattle.ring.specs.Waiting.{waiting, Placed, Ring, Shows, Sends}
 use Rattle.ring.specs.Laws.{reset-count, reset-waits, reset-ring}
-use Rattle.model.specs.Alike.{quiet}
-use Rattle.model.specs.Cells.{Plain}
+use Rattle.model.specs.Simulates.{quiet}
+use Rattle.model.specs.Cells.{EpCore}
 use Rattle.model.specs.Statics.{isOn, flag, isoOuts}
 use Rattle.model.specs.Machine.{Buf}
 use Rattle.model_ops.specs.Records.{plainOf, withSets, isoAdded, withIsoSets, recordGiven, setsGiven, givenTo, allocatedOn, withEp0, startedWith, allocatedEp0}
-use Rattle.model_ops.specs.Conc.{conc}
+use Rattle.model_ops.specs.Concrete.{concrete}
 use Rattle.proof_book.specs.Pages.{OutPage, InPage, Kept, Pages, at, on, withKept, withOut, withIn, keptGlobals, keptAllocator, keptPlain}
 use Rattle.proof_book.specs.Book.{bookOps, shapedPlain, slotTold, emptyOut, emptyIn, pagesGiven, givenB, allocateB, startedB, allocateB0}
-use Rattle.proof_book.specs.Rest.{SameKept, Used, Unused, Shape, Apart, Held, OutFits, InFits, AtRest, Rest, lensOf, slotStamps, endOf, ep0Room}
+use Rattle.proof_book.specs.Coupling.{SameKept, Used, Unused, Shape, Apart, Held, OutFits, InFits, AtRest, Coupling, lensOf, slotStamps, endOf, ep0Room}
 use Rattle.proof_book.specs.Frame.{none-stands}
 use Rattle.proof_book.specs.Stamps.{none-stamps}
 use Rattle.proof_book.specs.Cells.{Still, still, kin-refl, key-by, epOn-by, on-key, at-same, at-other, plain-put}
@@ -62,7 +62,7 @@ shape-further true a b f dir r s = record { stride = s .stride ∙ sym (f .size)
 shape-further false a b f dir r s = s
 
 -- the relation with the allocator further on
-pub further : {b : Buf} {d : Driver} {t : Pages} → Rest quiet b d t → (a : Allocator) → Further (d .allocator) a → Rest quiet b (withAllocator d a) (withKept t (keptAllocator (t .kept) a))
+pub further : {b : Buf} {d : Driver} {t : Pages} → Coupling quiet b d t → (a : Allocator) → Further (d .allocator) a → Coupling quiet b (withAllocator d a) (withKept t (keptAllocator (t .kept) a))
 unfolding epOn lenOn stampOn pacedOn requestOn
 further {b = b} {d = d} {t = t} r a f = record {
   step = tt;
@@ -305,7 +305,7 @@ added-there e a b dir iso base n g dir′ x q = g .allocates dir′ (x % 16) ∙
     by In Out q = refl
     by In In q = other In (λ h. q (ap (16 +_) h)) (eqb e (x % 16)) refl
 
-module _ {b : Buf} {d : Driver} {t : Pages} (r : Rest quiet b d t) (dir : Dir) (kind maximum interval e base n : ℕ) (a : Allocator)
+module _ {b : Buf} {d : Driver} {t : Pages} (r : Coupling quiet b d t) (dir : Dir) (kind maximum interval e base n : ℕ) (a : Allocator)
     (small : maximum ≤ d .allocator .size) (g : Gives (d .allocator) (isIso kind) dir e base n a) (snd : Sound a) where
   abbrev R : EpState
   R = allocated (epOn d dir e) kind maximum base (a .size) n
@@ -393,7 +393,7 @@ module _ {b : Buf} {d : Driver} {t : Pages} (r : Rest quiet b d t) (dir : Dir) (
   unfolding allocated
   plain-as =
       ap (λ (i : ℕ). record { ready = 0; len = epOn d dir e .len; armed = 0; «last_frame» = 0x1800; tog = 0; iso = i; kind = kind % 4; base = base; «max_len» = maximum }) (flags-same (isIso kind))
-      ∙ ap (λ (p : Plain). shapedPlain p kind maximum base) (r .same .plain dir e)
+      ∙ ap (λ (p : EpCore). shapedPlain p kind maximum base) (r .same .plain dir e)
 
   iso-as : isOn (R .iso) ≡ isIso kind
   unfolding allocated
@@ -488,7 +488,7 @@ module _ {b : Buf} {d : Driver} {t : Pages} (r : Rest quiet b d t) (dir : Dir) (
   ep0-end : D .globals .«ep0_buf» + ep0Room (D .globals) a ≡ d .globals .«ep0_buf» + ep0Room (d .globals) (d .allocator)
   ep0-end = ends-as _ _ (d .globals .stage) (D .globals .stage) (d .allocator .size) (a .size) (outs-as .ep0-buf) (outs-as .stage) (g .number .same-size)
 
-  pub gives : Rest quiet b D T
+  pub gives : Coupling quiet b D T
   gives = record {
     step = tt;
     sized = sized-after;

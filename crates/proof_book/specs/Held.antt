@@ -22,36 +22,36 @@ use Rattle.ring.specs.Waiting.{waiting}
 use Rattle.ring.specs.Slots.{slot-in}
 use Rattle.ring.specs.Laws.{waiting-length, waiting-some, first-length, first-part}
 use Rattle.marks.specs.Copies.{bytesAt}
-use Rattle.model.specs.Script.{Test, Look, Fetch, Act, Hand, handAsk}
-use Rattle.model.specs.Alike.{Phase, quiet}
+use Rattle.model.specs.Script.{Test, Look, Fetch, Act, DmaStep, dmaStepAsk}
+use Rattle.model.specs.Simulates.{Phase, quiet}
 use Rattle.model.specs.Statics.{isOn, isoOuts}
 use Rattle.model.specs.Machine.{Buf}
 use Rattle.model_ops.specs.Rings.{nextLen, nextStamp}
-use Rattle.model_ops.specs.Conc.{isOf, lookOf, fetchOf, actOn, handOn}
+use Rattle.model_ops.specs.Concrete.{isOf, lookOf, fetchOf, actOn, handOn}
 use Rattle.proof_book.specs.Pages.{Packet, bytesOf, stampsOf, OutPage, Pages}
 use Rattle.proof_book.specs.Book.{some, first, firstStamp, isB, lookB, fetchB, actB, handB, feedB}
-use Rattle.proof_book.specs.Rest.{Used, Shape, lensOf, slotStamps, Held, OutFits, Rest, Good}
+use Rattle.proof_book.specs.Coupling.{Used, Shape, lensOf, slotStamps, Held, OutFits, Coupling, Good}
 use Rattle.proof_book.specs.Lens.{lens-at, lens-length, stamps-at}
 use Rattle.proof_book.specs.Stamps.{split-stamps}
 
 -- ---- each operation, of driver and book
 
 abbrev pub IsAgrees : Test → Type 0
-IsAgrees q = (b : Buf) (d : Driver) (t : Pages) → Rest quiet b d t → isOf q (d, b) ≡ isB q (t, b)
+IsAgrees q = (b : Buf) (d : Driver) (t : Pages) → Coupling quiet b d t → isOf q (d, b) ≡ isB q (t, b)
 
 abbrev pub LookAgrees : Look → Type 0
-LookAgrees q = (b : Buf) (d : Driver) (t : Pages) → Rest quiet b d t → lookOf q (d, b) ≡ lookB q (t, b)
+LookAgrees q = (b : Buf) (d : Driver) (t : Pages) → Coupling quiet b d t → lookOf q (d, b) ≡ lookB q (t, b)
 
 abbrev pub FetchAgrees : Fetch → Type 0
-FetchAgrees q = (b : Buf) (d : Driver) (t : Pages) → Rest quiet b d t → fetchOf q (d, b) ≡ fetchB q (t, b)
+FetchAgrees q = (b : Buf) (d : Driver) (t : Pages) → Coupling quiet b d t → fetchOf q (d, b) ≡ fetchB q (t, b)
 
 abbrev pub ActAgrees : Act → Type 0
-ActAgrees q = (b : Buf) (d : Driver) (t : Pages) → Rest quiet b d t
-    → (actOn q (d, b) .1 ≡ actB q (t, b) .1) × Rest quiet (actOn q (d, b) .1) (actOn q (d, b) .0) (actB q (t, b) .0)
+ActAgrees q = (b : Buf) (d : Driver) (t : Pages) → Coupling quiet b d t
+    → (actOn q (d, b) .1 ≡ actB q (t, b) .1) × Coupling quiet (actOn q (d, b) .1) (actOn q (d, b) .0) (actB q (t, b) .0)
 
-abbrev pub HandAgrees : Hand → Type 0
-HandAgrees q = (b : Buf) (d : Driver) (t : Pages) → Rest quiet b d t
-    → let x = handOn q (d, b) in let t′ = feedB (handAsk q (x .0)) (handB q (t, b) .1 .0) in Rest quiet (x .1 .1) (x .1 .0) t′ × Good (handAsk q (x .0)) (x .1 .1) t′
+abbrev pub HandAgrees : DmaStep → Type 0
+HandAgrees q = (b : Buf) (d : Driver) (t : Pages) → Coupling quiet b d t
+    → let x = handOn q (d, b) in let t′ = feedB (dmaStepAsk q (x .0)) (handB q (t, b) .1 .0) in Coupling quiet (x .1 .1) (x .1 .0) t′ × Good (dmaStepAsk q (x .0)) (x .1 .1) t′
 
 -- ---- those that wait
 
@@ -120,7 +120,7 @@ receives-is g e =
     out-enabled-set (g .«ep_config») (g .«iso_out_eps») (e % 16) (omega arith)
     ∙ ap (λ (k : ℕ). both (isSet (g .«iso_out_eps») (e % 16)) (isSet (g .«ep_config») k)) m
 
-module _ {φ : Phase} {b : Buf} {d : Driver} {t : Pages} (R : Rest φ b d t) (e : ℕ) where
+module _ {φ : Phase} {b : Buf} {d : Driver} {t : Pages} (R : Coupling φ b d t) (e : ℕ) where
   pub receives-iso : receives d e ≡ true → isOn (epOn d Out e .iso) ≡ true
   receives-iso h = sym (R .isos e) ∙ both-left _ _ (sym (receives-is (d .globals) e) ∙ h)
 

@@ -27,17 +27,17 @@ use Rattle.ring.specs.InLaws as ring-in
 use Rattle.marks.specs.Copies.{copied}
 use Rattle.marks.specs.Only as marks
 use Rattle.marks.specs.Slots.{only-copied, copied-bytes}
-use Rattle.model.specs.Cells.{Plain}
+use Rattle.model.specs.Cells.{EpCore}
 use Rattle.model.specs.Script as script
 use Rattle.model.specs.Statics.{isOn, flag}
-use Rattle.model.specs.Alike.{quiet}
+use Rattle.model.specs.Simulates.{quiet}
 use Rattle.model.specs.Machine.{Buf}
 use Rattle.model_ops.specs.Records.{plainOf, isoOut}
 use Rattle.model_ops.specs.Rings.{St, waitingOn, roomOn, roomIn, completeOn, emptied, emptiedOn, queuedOn, enqueueOn, sendOn, sendAddr, placeOn}
 use Rattle.model_ops.specs.RingLaws.{room-fits}
 use Rattle.proof_book.specs.Pages.{InPage, Pages, withIn}
 use Rattle.proof_book.specs.Book.{Bk, front, roomB, emptyIn, passedIn, sentIn, sourceTold, placedIn, queuedIn, feedB}
-use Rattle.proof_book.specs.Rest.{Used, Shape, lensOf, Held, Stands, InFits, Rest, Holds, Good}
+use Rattle.proof_book.specs.Coupling.{Used, Shape, lensOf, Held, Stands, InFits, Coupling, Holds, Good}
 use Rattle.proof_book.specs.Lens.{lens-on, lens-set, ep-len}
 use Rattle.proof_book.specs.Frame.{changed-not, changed-on, changed-len, changed-trans, in-same, in-twice, kept-same, in-moved, in-changed, only-bytes, alike-tail, none-stands, sending-count}
 use Rattle.proof_book.specs.Lies as in-buffer
@@ -58,9 +58,9 @@ unfolding isOn
 iso-used true a dir r s h = s
 iso-used false a dir r s h = absurd (true≢false (sym h ∙ ap (λ (n : ℕ). not (eqb n 0)) (s .iso)))
 
-module _ {b : Buf} {d : Driver} {t : Pages} (R : Rest quiet b d t) (e : ℕ) where
+module _ {b : Buf} {d : Driver} {t : Pages} (R : Coupling quiet b d t) (e : ℕ) where
   iso-same : epOn d In e .iso ≡ t .kept .plain In e .iso
-  iso-same = ap (λ (p : Plain). p .iso) (R .same .plain In e)
+  iso-same = ap (λ (p : EpCore). p .iso) (R .same .plain In e)
 
   size-same : d .allocator .size ≡ t .kept .allocator .size
   size-same = ap (λ (a : Allocator). a .size) (R .same .allocator)
@@ -99,17 +99,17 @@ module _ {r r′ : EpState} (k : Alike r r′) (m : r′ .«max_len» ≡ r .«m
     waits = alike-waits k b ls (h .ring .tail8) ∙ h .waits;
   }
 
-module _ {b : Buf} {d : Driver} {t : Pages} (R : Rest quiet b d t) (e : ℕ) where
+module _ {b : Buf} {d : Driver} {t : Pages} (R : Coupling quiet b d t) (e : ℕ) where
   -- IN e's record changed, and its page; no byte
   record-changed : (r : EpState) (p : InPage) → SamePlace (epOn d In e) r → plainOf r ≡ plainOf (epOn d In e) → InFits b r (lensOf d In e) p
-      → Rest quiet b (withOn d In e r) (withIn t e p)
+      → Coupling quiet b (withOn d In e r) (withIn t e p)
   record-changed r p k q f =
-      let c = changed-on (R .sized) In e r k (ap (λ (x : Plain). x .iso) q) in
+      let c = changed-on (R .sized) In e r k (ap (λ (x : EpCore). x .iso) q) in
       in-changed R {k = t .kept} e p c (kept-same c (ap plainOf (epOn-same d In e r (R .sized)) ∙ q) (R .same)) refl (λ i h. refl)
       (in-moved (epOn-same d In e r (R .sized)) (lens-on d In e r In e) f)
 
   -- its page alone
-  page-changed : (p : InPage) → InFits b (epOn d In e) (lensOf d In e) p → Rest quiet b d (withIn t e p)
+  page-changed : (p : InPage) → InFits b (epOn d In e) (lensOf d In e) p → Coupling quiet b d (withIn t e p)
   page-changed p f = in-changed R {k = t .kept} e p (changed-not (R .sized) In e) (R .same) refl (λ i h. refl) f
 
 -- ---- a completion
@@ -178,13 +178,13 @@ complete-fits {b} {r} {ls} {p} f =
       held = record {
         placed = place-placed (completed-place r) g;
         ring = alike-in k a′;
-        least = rw (ap (λ (x : Plain). x .«max_len») (completed-plain r), completed-place r .stride) (f .held .least);
+        least = rw (ap (λ (x : EpCore). x .«max_len») (completed-plain r), completed-place r .stride) (f .held .least);
         waits = w;
       };
       ringless = λ h.
           sym (waiting-length b (unloadedOf (completedOf r)) ls)
           ∙ ap (λ x. length x) w
-          ∙ passed-none (p .sending) (p .waiting) (sym (held-length (f .held)) ∙ f .ringless (ap isOn (sym (ap (λ (x : Plain). x .iso) (completed-plain r))) ∙ h));
+          ∙ passed-none (p .sending) (p .waiting) (sym (held-length (f .held)) ∙ f .ringless (ap isOn (sym (ap (λ (x : EpCore). x .iso) (completed-plain r))) ∙ h));
       loaded = refl;
       sends = ring-in.unloaded-sends (completedOf r);
       turn = ap (λ (n : ℕ). n % 2) (completed-head r) ∙ f .turn;
@@ -293,7 +293,7 @@ joined-plain : (r : EpState) → plainOf (joinedOf r) ≡ plainOf r
 unfolding joinedOf
 joined-plain r = refl
 
-module _ {b : Buf} {d : Driver} {t : Pages} (R : Rest quiet b d t) (e : ℕ) (bytes : List ℕ) where
+module _ {b : Buf} {d : Driver} {t : Pages} (R : Coupling quiet b d t) (e : ℕ) (bytes : List ℕ) where
   abbrev headAt : ℕ
   headAt = slotAddr (epOn d In e) (epOn d In e .head)
 
@@ -302,21 +302,21 @@ module _ {b : Buf} {d : Driver} {t : Pages} (R : Rest quiet b d t) (e : ℕ) (by
     head-at : headAt ≡ t .kept .plain In e .base + t .ins e .turn * t .kept .allocator .size
     head-at =
         slot-lies (R .ins e .held .placed) (epOn d In e .head)
-        ∙ ap₂ _+_ (ap (λ (p : Plain). p .base) (R .same .plain In e))
+        ∙ ap₂ _+_ (ap (λ (p : EpCore). p .base) (R .same .plain In e))
         (ap₂ _*_ (slot-is (R .ins e .held .placed) (epOn d In e .head) ∙ ap (λ (n : ℕ). epOn d In e .head % n) (two R e (z .iso)) ∙ R .ins e .turn)
         (used R e (z .iso) .stride ∙ size-same R e))
 
     head-slot : slotOf (epOn d In e) (epOn d In e .head) < 16
     head-slot = omega (arith, slot-in (R .ins e .held .placed) (epOn d In e .head), two R e (z .iso))
 
-    queued-rest : Rest quiet (copied b headAt bytes) (queuedOn d e (length bytes)) (withIn t e (queuedIn (t .ins e) bytes))
+    queued-rest : Coupling quiet (copied b headAt bytes) (queuedOn d e (length bytes)) (withIn t e (queuedIn (t .ins e) bytes))
     unfolding queuedOn
     queued-rest =
         let i = slotOf (epOn d In e) (epOn d In e .head) in
         let l = changed-len (R .sized) In e i (length bytes) in
         let m = withLenOn d In e i (length bytes) in
         let q = ep-len d In e i (length bytes) In e in
-        let c = changed-trans (R .sized) In e l (changed-on (l .sized) In e (joinedOf (epOn d In e)) (subst (λ r. SamePlace r (joinedOf (epOn d In e))) (sym q) (join-place (epOn d In e))) (ap (λ (p : Plain). p .iso) (joined-plain (epOn d In e)) ∙ ap (λ (r : EpState). r .iso) (sym q))) in
+        let c = changed-trans (R .sized) In e l (changed-on (l .sized) In e (joinedOf (epOn d In e)) (subst (λ r. SamePlace r (joinedOf (epOn d In e))) (sym q) (join-place (epOn d In e))) (ap (λ (p : EpCore). p .iso) (joined-plain (epOn d In e)) ∙ ap (λ (r : EpState). r .iso) (sym q))) in
         let s = epOn-same m In e (joinedOf (epOn d In e)) (l .sized) in
         in-changed R {k = t .kept} e (queuedIn (t .ins e) bytes) c
         (kept-same c (ap plainOf s ∙ joined-plain (epOn d In e)) (R .same))
@@ -328,7 +328,7 @@ module _ {b : Buf} {d : Driver} {t : Pages} (R : Rest quiet b d t) (e : ℕ) (by
   Queued u =
       let x = cond {A = St} u (queuedOn d e (length bytes), copied b headAt bytes) (d, b) in
       let y = cond {A = Bk} u (withIn t e (queuedIn (t .ins e) bytes), copied b (t .kept .plain In e .base + t .ins e .turn * t .kept .allocator .size) bytes) (t, b) in
-      (x .1 ≡ y .1) × Rest quiet (x .1) (x .0) (y .0)
+      (x .1 ≡ y .1) × Coupling quiet (x .1) (x .0) (y .0)
 
   enqueue-by : (u : Bool) → roomOn d e (length bytes) ≡ u → Queued u
   unfolding roomOn
@@ -378,23 +378,23 @@ pub hand-place-in : (e : ℕ) → HandAgrees (script.place In e)
 unfolding placeOn
 hand-place-in e b d t R =
     let x = epOn d In e .base in
-    subst (λ u. Rest quiet b d u × Good (Transmit e x) b u) (sym (told-in t e x (placedIn (t .ins e)))) (
+    subst (λ u. Coupling quiet b d u × Good (Transmit e x) b u) (sym (told-in t e x (placedIn (t .ins e)))) (
       page-changed R e (placedIn (t .ins e)) (place-fits (R .ins e)),
       (subst (λ p. Holds p b x) (sym (in-same t e (placedIn (t .ins e)))) (λ bytes rest h q. absurd (true≢false (sym h))), in-buffer.base-lies R In e),
     )
 
-module _ {b : Buf} {d : Driver} {t : Pages} (R : Rest quiet b d t) (e : ℕ) where
+module _ {b : Buf} {d : Driver} {t : Pages} (R : Coupling quiet b d t) (e : ℕ) where
   abbrev Loaded : Bool → Type 0
   Loaded u =
       let x = slotAddr (epOn d In e) (epOn d In e .tail) in
       let t′ = feedB (Transmit e x) (withIn t e (cond u (sentIn (t .ins e) b) (placedIn (t .ins e)))) in
-      Rest quiet b (cond u (withOn d In e (loadedOf (epOn d In e))) d) t′ × Good (Transmit e x) b t′
+      Coupling quiet b (cond u (withOn d In e (loadedOf (epOn d In e))) d) t′ × Good (Transmit e x) b t′
 
   send-by : (u : Bool) → hasWaiting (epOn d In e) ≡ u → Loaded u
   send-by true h =
       let x = slotAddr (epOn d In e) (epOn d In e .tail) in
       let p = sentIn (t .ins e) b in
-      subst (λ u. Rest quiet b (withOn d In e (loadedOf (epOn d In e))) u × Good (Transmit e x) b u) (sym (told-in t e x p)) (
+      subst (λ u. Coupling quiet b (withOn d In e (loadedOf (epOn d In e))) u × Good (Transmit e x) b u) (sym (told-in t e x p)) (
         record-changed R e (loadedOf (epOn d In e)) (sourceTold p x) (ring-in.loaded-alike (epOn d In e) .place) (loaded-plain (epOn d In e)) (load-fits (R .ins e) (waits-count (epOn d In e) h)),
         (
           subst (λ q. Holds q b x) (sym (in-same t e (sourceTold p x)))
@@ -404,7 +404,7 @@ module _ {b : Buf} {d : Driver} {t : Pages} (R : Rest quiet b d t) (e : ℕ) whe
       )
   send-by false h =
       let x = slotAddr (epOn d In e) (epOn d In e .tail) in
-      subst (λ u. Rest quiet b d u × Good (Transmit e x) b u) (sym (told-in t e x (placedIn (t .ins e)))) (
+      subst (λ u. Coupling quiet b d u × Good (Transmit e x) b u) (sym (told-in t e x (placedIn (t .ins e)))) (
         page-changed R e (placedIn (t .ins e)) (place-fits (R .ins e)),
         (subst (λ q. Holds q b x) (sym (in-same t e (placedIn (t .ins e)))) (λ bytes rest l q. absurd (true≢false (sym l))), in-buffer.slot-lies R In e (epOn d In e .tail)),
       )

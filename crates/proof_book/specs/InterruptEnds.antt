@@ -16,8 +16,8 @@ use Rattle.model.specs.Calls.{Config, Op, interrupt, slotted, other, aside, Asi
 use Rattle.model.specs.Machine.{Buf, Call, start, begin, go, question, Event, Awaits, awaited, idle, busy, Machine, over, misfit, stay, beside, begun, continued, started}
 use Rattle.model.specs.Readings.{Continues}
 use Rattle.model_ops.specs.Rings.{St}
-use Rattle.model_ops.specs.Conc.{conc}
-use Rattle.machine.specs.Under.{driverOf, drive, haltsAs}
+use Rattle.model_ops.specs.Concrete.{concrete}
+use Rattle.machine.specs.Suspended.{driverOf, drive, haltsAs}
 use Rattle.proof_book.specs.Served.{serving}
 use Rattle.proof_book.specs.Accesses.{accesses}
 use Rattle.proof_book.specs.AccessesInterrupt.{interrupt-4154}
@@ -54,7 +54,7 @@ module _ (es : List (Event Config Op)) (goes : Goes es) (q : Access) (s : St) (k
   replaced (asks x t j) = none (continues-none es _ refl)
 
   starts : (c : Config) (b l : Buf) (n : ℕ) → Path (asks q s k) (interruptContinues es (started calls driverOf (λ s. s) c n (serves a k d b) l .1))
-  starts c b l zero = replaced (run conc (starting c) (driverOf .fresh c, l))
+  starts c b l zero = replaced (run concrete (starting c) (driverOf .fresh c, l))
   starts c b l (suc n) = goes q s k a d b
 
   -- a call that passes
@@ -66,7 +66,7 @@ module _ (es : List (Event Config Op)) (goes : Goes es) (q : Access) (s : St) (k
   begins interrupt l b = goes q s k a d l
   begins (slotted o) l b = goes q s k a d l
   begins (other o) l b = goes q s k a d l
-  begins (aside o) l b = passes l (run conc (asideCode o) (d, l))
+  begins (aside o) l b = passes l (run concrete (asideCode o) (d, l))
 
   fitted : (o : Op) (l b : Buf) (g : Bool) → Path (asks q s k) (interruptContinues es (cond g (stay calls driverOf 1 (serves a k d b)) (begun calls driverOf (λ s. s) o (serves a k d b) (busy true a k) l) .1))
   fitted o l b true = goes q s k a d b
@@ -99,10 +99,10 @@ every (e ∷ es) = λ q s k a d b. one es (every es) q s k a d (e .call) b (e .l
 
 -- an interrupt begun where nothing is under way, in any state, and any calls after it
 pub interrupt-ends : (n : Machine Answer Driver) → n .way ≡ idle → (slots : Buf) (fs : List (Event Config Op)) → interruptContinues fs (drive (begin interrupt) n slots .1) ≤ 4154
-interrupt-ends n w slots fs = subst (λ y. interruptContinues fs (begun calls driverOf (λ s. s) interrupt n y slots .1) ≤ 4154) (sym w) (by (run conc interruptCode (n .st, slots)) refl)
+interrupt-ends n w slots fs = subst (λ y. interruptContinues fs (begun calls driverOf (λ s. s) interrupt n y slots .1) ≤ 4154) (sym w) (by (run concrete interruptCode (n .st, slots)) refl)
   where
-    by : (x : tree.Out St Answer) → run conc interruptCode (n .st, slots) ≡ x → interruptContinues fs (haltsAs true x .1) ≤ 4154
+    by : (x : tree.Out St Answer) → run concrete interruptCode (n .st, slots) ≡ x → interruptContinues fs (haltsAs true x .1) ≤ 4154
     by (ends y t) h = omega (arith, continues-none fs (haltsAs true (ends y t) .1) refl)
     by (asks y t j) h =
         let r = every fs y t j (awaited y) (t .0) (t .1) in
-        le-trans (r .most) (subst (λ o. accesses o (r .path) ≤ 4154) h (interrupt-4154 .on St conc (n .st, slots) (r .path)))
+        le-trans (r .most) (subst (λ o. accesses o (r .path) ≤ 4154) h (interrupt-4154 .on St concrete (n .st, slots) (r .path)))

@@ -16,12 +16,12 @@ use Rattle.marks.specs.Copies.{copied}
 use Rattle.model.specs.Tree as tree
 use Rattle.model.specs.Tree.{ends, asks, bindOut}
 use Rattle.model.specs.Cells.{Cell, Val, globals-cell, control-cell, allocator-cell, ep-cell, request-cell, paced-cell}
-use Rattle.model.specs.Script.{Script, ret, bind, test, read-then, write-then, wait-then, callback-then, get-then, put-then, is-then, look-then, fetch-then, act-then, hand-then, row-then, run, get, Act, complete, reset-ring, set-enabled, fill, fill0, open-oldest, close-oldest, take-oldest, enqueue, allocate, allocate0, no-wakes, waken, Hand, arrive, send, place, place0}
+use Rattle.model.specs.Script.{Script, ret, bind, test, read-then, write-then, wait-then, callback-then, get-then, put-then, is-then, look-then, fetch-then, act-then, hand-then, row-then, run, get, Act, complete, reset-ring, set-enabled, fill, fill0, open-oldest, close-oldest, take-oldest, enqueue, allocate, allocate0, no-wakes, waken, DmaStep, arrive, send, place, place0}
 use Rattle.model.specs.Statics.{isOn, isoOuts}
-use Rattle.model.specs.Sorts.{allocates}
+use Rattle.model.specs.TransferKinds.{allocates}
 use Rattle.model_ops.specs.Records.{isoOut, configured, enabledOn}
 use Rattle.model_ops.specs.Rings.{St, completeOn, emptied, emptiedOn, openOn, closeOn, takeOn, roomOn, queuedOn, enqueueOn, recordedOn, admittedOn, arrivedAt, arriveOn, sendOn, placeOn}
-use Rattle.model_ops.specs.Conc.{conc}
+use Rattle.model_ops.specs.Concrete.{concrete}
 
 -- ---- on every way through an outcome
 
@@ -127,7 +127,7 @@ either : {A : Type 0} (f : Globals → A) (b : Bool) (d x y : Driver) → f (x .
 either f true d x y p q = p
 either f false d x y p q = q
 
-pub get-says : (x : ℕ) (c : Cell) (s : St) → At x s → Says x c (conc .get c s)
+pub get-says : (x : ℕ) (c : Cell) (s : St) → At x s → Says x c (concrete .get c s)
 get-says x globals-cell s k = k
 get-says x control-cell s k = tt
 get-says x allocator-cell s k = tt
@@ -135,7 +135,7 @@ get-says x (ep-cell d e) s k = tt
 get-says x (request-cell d e) s k = tt
 get-says x (paced-cell e) s k = tt
 
-pub put-at : (x : ℕ) (c : Cell) (v : Val c) (s : St) → Says x c v → At x s → At x (conc .put c v s)
+pub put-at : (x : ℕ) (c : Cell) (v : Val c) (s : St) → Says x c v → At x s → At x (concrete .put c v s)
 unfolding withOn withRequestOn withPacedOn
 put-at x globals-cell v s h k = h
 put-at x control-cell v s h k = k
@@ -144,7 +144,7 @@ put-at x (ep-cell d e) v s h k = k
 put-at x (request-cell d e) v s h k = k
 put-at x (paced-cell e) v s h k = k
 
-pub act-at : (q : Act) → allocates q ≡ false → (s : St) → conc .act q s .0 .globals .entered ≡ s .0 .globals .entered
+pub act-at : (q : Act) → allocates q ≡ false → (s : St) → concrete .act q s .0 .globals .entered ≡ s .0 .globals .entered
 unfolding completeOn emptied emptiedOn enabledOn configured openOn closeOn takeOn enqueueOn queuedOn withOn withLenOn
 act-at (complete e) h s = refl
 act-at (reset-ring d e) h s = either (λ g. g .entered) (isoOut (s .0) d e) (s .0) (s .0) _ refl refl
@@ -168,7 +168,7 @@ recorded-at : (d : Driver) (e len : ℕ) → recordedOn d e len .globals .entere
 unfolding recordedOn withLenOn withStampOn
 recorded-at d e len = either (λ g. g .entered) (hasRoomOut (epOn d Out e)) d _ d refl refl
 
-pub hand-at : (q : Hand) (s : St) → conc .hand q s .1 .0 .globals .entered ≡ s .0 .globals .entered
+pub hand-at : (q : DmaStep) (s : St) → concrete .hand q s .1 .0 .globals .entered ≡ s .0 .globals .entered
 unfolding arriveOn admittedOn sendOn placeOn withOn
 hand-at (arrive e n) s = by (isSet (isoOuts (s .0 .globals)) (e % 16))
   where
@@ -190,7 +190,7 @@ not-allocates : (b : Bool) → not b ≡ true → b ≡ false
 not-allocates true h = absurd (true≢false (sym h))
 not-allocates false h = refl
 
-pub keeps-run : {i : Bool} {A : Type 0} (x : ℕ) (p : Script i A) → Keeps passing x p → (s : St) → At x s → Throughout (At x) (Gives x p) (run conc p s)
+pub keeps-run : {i : Bool} {A : Type 0} (x : ℕ) (p : Script i A) → Keeps passing x p → (s : St) → At x s → Throughout (At x) (Gives x p) (run concrete p s)
 keeps-run x (ret a) h s k = at-end k refl
 keeps-run x (bind p f) h s k = through-bind (keeps-run x p (h .0) s k) (λ a t l g. through-more (keeps-run x (f a) (h .1 a g) t l) (λ b w. tt))
 keeps-run x (test b p q) h s k = through-cond b (through-more (keeps-run x p (h .0) s k) (λ a w. tt)) (through-more (keeps-run x q (h .1) s k) (λ a w. tt))
@@ -200,11 +200,11 @@ keeps-run x (wait-then n p) h s k = at-ask k (λ _ t l. through-more (keeps-run 
 keeps-run x (callback-then p) h s k = at-ask k (λ _ t l. through-more (keeps-run x p h t l) (λ a w. tt))
 keeps-run x (get-then c f) h s k =
     let g = get-says x c s k in
-    through-more (keeps-run x (f (conc .get c s)) (h (conc .get c s) g) s k) (λ a w. (conc .get c s, g, w))
-keeps-run x (put-then c v p) h s k = through-more (keeps-run x p (h .1) (conc .put c v s) (put-at x c v s (h .0) k)) (λ a w. tt)
-keeps-run x (is-then q f) h s k = through-more (keeps-run x (f (conc .is q s)) (h (conc .is q s)) s k) (λ a w. tt)
-keeps-run x (look-then q f) h s k = through-more (keeps-run x (f (conc .look q s)) (h (conc .look q s)) s k) (λ a w. tt)
-keeps-run x (fetch-then q f) h s k = through-more (keeps-run x (f (conc .fetch q s)) (h (conc .fetch q s)) s k) (λ a w. tt)
-keeps-run x (act-then q p) h s k = through-more (keeps-run x p (h .1) (conc .act q s) (act-at q (not-allocates (allocates q) (h .0)) s ∙ k)) (λ a w. tt)
+    through-more (keeps-run x (f (concrete .get c s)) (h (concrete .get c s) g) s k) (λ a w. (concrete .get c s, g, w))
+keeps-run x (put-then c v p) h s k = through-more (keeps-run x p (h .1) (concrete .put c v s) (put-at x c v s (h .0) k)) (λ a w. tt)
+keeps-run x (is-then q f) h s k = through-more (keeps-run x (f (concrete .is q s)) (h (concrete .is q s)) s k) (λ a w. tt)
+keeps-run x (look-then q f) h s k = through-more (keeps-run x (f (concrete .look q s)) (h (concrete .look q s)) s k) (λ a w. tt)
+keeps-run x (fetch-then q f) h s k = through-more (keeps-run x (f (concrete .fetch q s)) (h (concrete .fetch q s)) s k) (λ a w. tt)
+keeps-run x (act-then q p) h s k = through-more (keeps-run x p (h .1) (concrete .act q s) (act-at q (not-allocates (allocates q) (h .0)) s ∙ k)) (λ a w. tt)
 keeps-run x (hand-then q p) h s k = at-ask (hand-at q s ∙ k) (λ _ t l. through-more (keeps-run x p h t l) (λ a w. tt))
 keeps-run x (row-then g p) h s k = absurd h

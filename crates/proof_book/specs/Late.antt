@@ -11,15 +11,15 @@ use Rattle.marks.specs.Marks.{reach}
 use Rattle.marks.specs.Copies.{bytesAt}
 use Rattle.marks.specs.Finds.{LastDiffers}
 use Rattle.marks.specs.Stored.{StoredAlone, true-bytes}
-use Rattle.model.specs.Cells.{Plain}
-use Rattle.model.specs.Alike.{quiet}
+use Rattle.model.specs.Cells.{EpCore}
+use Rattle.model.specs.Simulates.{quiet}
 use Rattle.model.specs.Machine.{Buf}
 use Rattle.model.specs.Script.{marked}
-use Rattle.model_ops.specs.Conc.{conc}
+use Rattle.model_ops.specs.Concrete.{concrete}
 use Rattle.model_ops.specs.Late.{LatePacket, late-length}
 use Rattle.proof_book.specs.Pages.{Pages}
 use Rattle.proof_book.specs.Book.{packetB, bookOps}
-use Rattle.proof_book.specs.Rest.{Rest}
+use Rattle.proof_book.specs.Coupling.{Coupling}
 use Rattle.proof_book.specs.Held.{Words, receives, receives-used, good-words}
 use Rattle.proof_book.specs.Outs.{look-marked}
 
@@ -30,9 +30,9 @@ pub record LateB (e : ℕ) (t : Pages) (b packet c : List ℕ) : Type 0 where
   pub alone : StoredAlone b (t .outs e .slot) (t .kept .plain Out e .«max_len») packet c
   pub last : LastDiffers (length packet) packet
 
-module _ {c : Buf} {d : Driver} {t : Pages} (R : Rest quiet c d t) (e : ℕ) (u : receives d e ≡ true) {b packet : List ℕ} (p : LateB e t b packet c) where
+module _ {c : Buf} {d : Driver} {t : Pages} (R : Coupling quiet c d t) (e : ℕ) (u : receives d e ≡ true) {b packet : List ℕ} (p : LateB e t b packet c) where
   max-same : epOn d Out e .«max_len» ≡ t .kept .plain Out e .«max_len»
-  max-same = ap (λ (q : Plain). q .«max_len») (R .same .plain Out e)
+  max-same = ap (λ (q : EpCore). q .«max_len») (R .same .plain Out e)
 
   -- the slot lies in the buffer
   slot-fits : t .outs e .slot + reach (t .kept .plain Out e .«max_len») ≤ length b
@@ -51,7 +51,7 @@ module _ {c : Buf} {d : Driver} {t : Pages} (R : Rest quiet c d t) (e : ℕ) (u 
   }
 
   -- the driver's look
-  pub late-looked : conc .look (marked e) (d, c) ≡ length packet
+  pub late-looked : concrete .look (marked e) (d, c) ≡ length packet
   late-looked = late-length e (d, c) late-packet
 
   -- the book's

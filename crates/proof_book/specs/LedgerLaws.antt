@@ -11,12 +11,12 @@ use Rattle.regs.specs.declared.Dir.the-variants.{Out, In}
 use Rattle.state.specs.Driver.{Driver, epOn}
 use Rattle.alloc.specs.Alloc.{allocatedIn, slotsOf}
 use Rattle.ring.specs.Waiting.{waiting}
-use Rattle.model.specs.Alike.{Phase}
+use Rattle.model.specs.Simulates.{Phase}
 use Rattle.model.specs.Statics.{isOn}
 use Rattle.model.specs.Machine.{Buf}
 use Rattle.proof_book.specs.Pages.{Packet, bytesOf, Pages}
 use Rattle.proof_book.specs.Book.{front}
-use Rattle.proof_book.specs.Rest.{Used, Unused, Shape, lensOf, Rest}
+use Rattle.proof_book.specs.Coupling.{Used, Unused, Shape, lensOf, Coupling}
 use Rattle.proof_book.specs.Held.{held-length}
 
 slots-out : (i : Bool) → slotsOf i Out ≤ 16
@@ -29,7 +29,7 @@ unfolding slotsOf
 slots-in true = omega arith
 slots-in false = omega arith
 
-module _ {φ : Phase} {b : Buf} {d : Driver} {t : Pages} (R : Rest φ b d t) (e : ℕ) where
+module _ {φ : Phase} {b : Buf} {d : Driver} {t : Pages} (R : Coupling φ b d t) (e : ℕ) where
   few-out : epOn d Out e .slots ≤ 16
   few-out = go (isSet (allocatedIn (d .allocator) Out) _) (R .shape Out e)
     where

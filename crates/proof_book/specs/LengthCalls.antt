@@ -21,9 +21,9 @@ use Rattle.marks.specs.Marks.{markedLen}
 use Rattle.marks.specs.Copies.{bytesAt, copied}
 use Rattle.model.specs.Tree as tree
 use Rattle.model.specs.Tree.{ends, asks}
-use Rattle.model.specs.Cells.{Plain}
+use Rattle.model.specs.Cells.{EpCore}
 use Rattle.model.specs.Script.{run}
-use Rattle.model.specs.Alike.{Phase}
+use Rattle.model.specs.Simulates.{Phase}
 use Rattle.model.specs.Statics.{isOn, isoOuts}
 use Rattle.model.specs.Answers.{Answer, Refused, isAllocated}
 use Rattle.model.specs.Driver.{openPacket, closePacket, queuePacket}
@@ -31,8 +31,8 @@ use Rattle.model.specs.Calls.{Config, Op, interrupt, slotted, other, aside, Asi
 use Rattle.model.specs.Machine.{Buf, Call, start, begin, go, question, Ans, ended, handed, told, blank, blankA, Awaits, Way, idle, busy, Machine, over, misfit, stay, lentTo, beside, halt, begun, continued, started, fed}
 use Rattle.model_ops.specs.Records.{plainOf}
 use Rattle.proof_book.specs.Pages.{Packet, OutPage, InPage, Kept, Pages, withOut, withIn}
-use Rattle.proof_book.specs.Book.{Bk, isoOf, receiving, some, waitsOn, roomB, openOut, readOut, queuedIn, arrived, joined, turnedAway, feedB, freshPages, bookOps, book}
-use Rattle.proof_book.specs.Rest.{Rest}
+use Rattle.proof_book.specs.Book.{Bk, isoOf, receiving, some, waitsOn, roomB, openOut, readOut, queuedIn, arrived, joined, overrun, feedB, freshPages, bookOps, book}
+use Rattle.proof_book.specs.Coupling.{Coupling}
 use Rattle.proof_book.specs.Held.{receives-iso}
 use Rattle.proof_book.specs.FrontPage.{written, inInterrupt, Decides}
 use Rattle.proof_book.specs.Lengths.{Readings, Known, nothing-read, bringing, learnt, lengthOf, lengthAt}
@@ -278,7 +278,7 @@ longer (p ∷ l) q = ap suc (longer l q)
 joined-is : (p : OutPage) (k q : Packet) → arrived p k .waiting ≡ p .waiting ++ (q ∷ []) → q ≡ k
 joined-is p k q = by (ltb (length (p .waiting)) 15)
   where
-    by : (u : Bool) → cond u (joined p k) (turnedAway p) .waiting ≡ p .waiting ++ (q ∷ []) → q ≡ k
+    by : (u : Bool) → cond u (joined p k) (overrun p) .waiting ≡ p .waiting ++ (q ∷ []) → q ≡ k
     by true h = sym (last-is q (p .waiting) q) ∙ ap (λ (l : List Packet). last q l) (sym h) ∙ last-is q (p .waiting) k
     by false h = absurd (omega (arith, ap (λ (l : List Packet). length l) h, longer (p .waiting) q))
 
@@ -340,7 +340,7 @@ module _ (a : Ans Answer) (e x v : ℕ) (n : Machine Answer Pages) (h : Fine n) 
 
 -- ---- of driver and book that agree
 
-module _ {φ : Phase} {b : Buf} {d : Driver} {t : Pages} (R : Rest φ b d t) where
+module _ {φ : Phase} {b : Buf} {d : Driver} {t : Pages} (R : Coupling φ b d t) where
   ep-even : (e f : ℕ) → e % 16 ≡ f % 16 → epOn d Out e ≡ epOn d Out f
   unfolding epOn key
   ep-even e f h = ap (λ (j : ℕ). getD (d .eps) j noEp) h
@@ -350,19 +350,19 @@ module _ {φ : Phase} {b : Buf} {d : Driver} {t : Pages} (R : Rest φ b d t) whe
 
   pub regular : Regular t
   regular = record {
-    iso = λ e f h. ap (λ (p : Plain). isOn (p .iso)) (plain-even e f h);
-    most = λ e f h. ap (λ (p : Plain). p .«max_len») (plain-even e f h);
+    iso = λ e f h. ap (λ (p : EpCore). isOn (p .iso)) (plain-even e f h);
+    most = λ e f h. ap (λ (p : EpCore). p .«max_len») (plain-even e f h);
   }
 
   is-iso : (e : ℕ) → receiving t e ≡ true → isoOf t Out e ≡ true
-  is-iso e h = ap (λ (p : Plain). isOn (p .iso)) (sym (R .same .plain Out e))
+  is-iso e h = ap (λ (p : EpCore). isOn (p .iso)) (sym (R .same .plain Out e))
       ∙ receives-iso R e (ap (λ (g : Globals). isSet (isoOuts g) (e % 16)) (R .same .globals) ∙ h)
 
   -- so many bytes of its slot, up to the maximum
   in-slot : (l : Buf) (e k : ℕ) → length l ≡ t .kept .allocator .count * t .kept .allocator .size → k ≤ t .kept .plain Out e .«max_len»
       → length (bytesAt l (t .outs e .slot) k) ≡ k
   in-slot l e k m s =
-      let max-same : epOn d Out e .«max_len» ≡ t .kept .plain Out e .«max_len» = ap (λ (p : Plain). p .«max_len») (R .same .plain Out e) in
+      let max-same : epOn d Out e .«max_len» ≡ t .kept .plain Out e .«max_len» = ap (λ (p : EpCore). p .«max_len») (R .same .plain Out e) in
       let long : length b ≡ t .kept .allocator .count * t .kept .allocator .size = R .long ∙ ap (λ (a : Allocator). a .count * a .size) (R .same .allocator) in
       omega (
         arith,
@@ -378,7 +378,7 @@ module _ {φ : Phase} {b : Buf} {d : Driver} {t : Pages} (R : Rest φ b d t) whe
       )
 
 -- where an arrival is decided: the packet that joined has the length that the interrupt's readings tell, else the one by the marks, capped
-pub length-is : {φ : Phase} {m : Buf} {d : Driver} (c : Call Config Op) (a : Ans Answer) (e : ℕ) (n : Machine Answer Pages) → Rest φ m d (n .st)
+pub length-is : {φ : Phase} {m : Buf} {d : Driver} (c : Call Config Op) (a : Ans Answer) (e : ℕ) (n : Machine Answer Pages) → Coupling φ m d (n .st)
     → Fine n → (f : Known)
     → WayTold f (n .way) (n .st) → (b : Buf) → let y = written a c n b in blankA a ≡ blankA (y .0) → Decides c n a e
     → (q : Packet) → y .1 .st .outs e .waiting ≡ n .st .outs e .waiting ++ (q ∷ []) → length (q .bytes) ≡ lengthAt (learnt c a f .readings) b (n .st) e

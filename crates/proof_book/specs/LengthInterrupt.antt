@@ -21,7 +21,7 @@ use Rattle.marks.specs.Marks.{markedLen}
 use Rattle.model.specs.declared.Transfer.{Transfer}
 use Rattle.model.specs.Tree as tree
 use Rattle.model.specs.Tree.{ends, asks}
-use Rattle.model.specs.Cells.{Plain, ep-cell}
+use Rattle.model.specs.Cells.{EpCore, ep-cell}
 use Rattle.model.specs.Every.{sameReg}
 use Rattle.model.specs.Script.{run, write, when, changed, marked, no-wakes}
 use Rattle.model.specs.Calls.{interruptCode}
@@ -163,7 +163,7 @@ module _ {I : ℕ → Bool} {M : ℕ → ℕ} (even : Evens I M) where
   -- ---- what it tells
 
   -- an isochronous OUT's status is the transfer's own
-  is-iso : (st e : ℕ) (o n : Plain) → isOn (o .iso) ≡ I (endpoint st) → arriving st e ≡ true → I e ≡ true → isoFor (token st) o n ≡ true
+  is-iso : (st e : ℕ) (o n : EpCore) → isOn (o .iso) ≡ I (endpoint st) → arriving st e ≡ true → I e ≡ true → isoFor (token st) o n ≡ true
   unfolding arriving isOut isoFor
   is-iso st e o n k a i = by (token st) (and-left (outToken (token st)) (eqb (endpoint st) e) a)
     where
@@ -192,7 +192,7 @@ module _ {I : ℕ → Bool} {M : ℕ → ℕ} (even : Evens I M) where
   abbrev Tells : Readings → Transfer → Bool → Type 0
   Tells h y iso = (e m : ℕ) → I e ≡ true → lengthOf h e m ≡ cond (entry y iso e) (y .len) m
 
-  module _ (o n : Plain) (sof frame : ℕ) where
+  module _ (o n : EpCore) (sof frame : ℕ) where
     tells-free : (h : Readings) (m st len : ℕ) (es ss ls : List ℕ) → h .engine ≡ m ∷ es → h .status ≡ st ∷ ss → h .lengths ≡ len ∷ ls
         → sieFree m ≡ true → isOn (o .iso) ≡ I (endpoint st)
         → let iso = isoFor (token st) o n in Tells h (framed (entered m st len) iso sof frame) iso
@@ -314,7 +314,7 @@ module _ {I : ℕ → Bool} {M : ℕ → ℕ} (even : Evens I M) where
         (λ _. t-end idle l (aside (others free busy) (not-true (sieFree m) busy) (heads-on m st MisSt 0 m₁ h refl (heads-of b))))))
         (λ u. t-end idle k (was-free m st n (b .later) [] [] (b .engine) (b .status) (b .lengths) (not-false (sieFree m) u)))))
       where
-        o : Plain
+        o : EpCore
         o = getB (ep-cell Out (endpoint st)) s
 
         others : (not (sieFree m) && (isOut st && isOn (o .iso))) ≡ false → not (sieFree m) ≡ true → (isOut st && I (endpoint st)) ≡ false

@@ -13,7 +13,7 @@ use Rattle.marks.specs.Marks.{markedLen}
 use Rattle.marks.specs.Copies.{bytesAt}
 use Rattle.model.specs.Tree as tree
 use Rattle.model.specs.Tree.{ends, asks, bindOut}
-use Rattle.model.specs.Cells.{Plain, Cell, Val, globals-cell, control-cell, allocator-cell, ep-cell, request-cell, paced-cell}
+use Rattle.model.specs.Cells.{EpCore, Cell, Val, globals-cell, control-cell, allocator-cell, ep-cell, request-cell, paced-cell}
 use Rattle.model.specs.Script.{Script, run, arrive}
 use Rattle.model.specs.Statics.{isOn}
 use Rattle.model.specs.Machine.{Buf}
@@ -117,10 +117,10 @@ module _ {I : ℕ → Bool} {M : ℕ → ℕ} where
     puts-fixed control-cell v s k = record { iso = k .iso; most = k .most }
     puts-fixed allocator-cell v s k = k
     puts-fixed (ep-cell Out f) v s k =
-        let p : Plain = mergedPlain (s .0 .kept .plain Out f) v in
+        let p : EpCore = mergedPlain (s .0 .kept .plain Out f) v in
         record {
-          iso = λ e. at-elim (λ (p : Plain). isOn (p .iso) ≡ I e) f e p (s .0 .kept .plain Out) (λ h. k .iso f ∙ even .iso f e (sym h)) (λ _. k .iso e);
-          most = λ e. at-elim (λ (p : Plain). p .«max_len» ≡ M e) f e p (s .0 .kept .plain Out) (λ h. k .most f ∙ even .most f e (sym h)) (λ _. k .most e);
+          iso = λ e. at-elim (λ (p : EpCore). isOn (p .iso) ≡ I e) f e p (s .0 .kept .plain Out) (λ h. k .iso f ∙ even .iso f e (sym h)) (λ _. k .iso e);
+          most = λ e. at-elim (λ (p : EpCore). p .«max_len» ≡ M e) f e p (s .0 .kept .plain Out) (λ h. k .most f ∙ even .most f e (sym h)) (λ _. k .most e);
         }
     puts-fixed (ep-cell In f) v s k = record { iso = k .iso; most = k .most }
     puts-fixed (request-cell d f) v s k = record { iso = k .iso; most = k .most }

@@ -8,10 +8,10 @@ use Rattle.model.specs.Answers.{Answer}
 use Rattle.model.specs.Calls.{Config, Op, calls, startRow}
 use Rattle.model.specs.Machine.{Buf, Call, start, begin, go, question, Event, Machine, fed, misfit, started}
 use Rattle.model.specs.Agree.{After, All, Lawful, Lent, unless}
-use Rattle.machine.specs.Under.{driverOf, drive}
+use Rattle.machine.specs.Suspended.{driverOf, drive}
 use Rattle.proof_book.specs.Pages.{Pages}
 use Rattle.proof_book.specs.Book.{book}
-use Rattle.proof_book.specs.Rest.{Chip}
+use Rattle.proof_book.specs.Coupling.{Chip}
 use Rattle.proof_book.specs.Allocations.{fresh-kept}
 use Rattle.proof_book.specs.Agrees.{agree}
 use Rattle.proof_book.specs.Demand3.{demand3}

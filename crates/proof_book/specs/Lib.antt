@@ -4,7 +4,7 @@ pub mod Stamps
 pub mod Lengths
 pub mod Others
 pub mod FrontPage
-pub mod Rest
+pub mod Coupling
 pub mod Cells
 pub mod Given
 pub mod Allocations
@@ -56,7 +56,7 @@ pub mod Lent
 pub mod Code
 pub mod FrontPageProved
 pub mod SlotsStay
-pub mod Sorts
+pub mod TransferKinds
 pub mod Always
 pub mod Sorting
 pub mod MaxLens

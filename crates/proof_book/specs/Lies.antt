@@ -16,14 +16,14 @@ use Rattle.alloc.specs.Alloc.{allocatedIn}
 use Rattle.ring.specs.Slot.{slotAddr}
 use Rattle.ring.specs.Waiting.{Placed}
 use Rattle.ring.specs.Slots.{slot-from, slot-upto}
-use Rattle.model.specs.Alike.{Phase}
+use Rattle.model.specs.Simulates.{Phase}
 use Rattle.model.specs.Machine.{Buf}
 use Rattle.proof_book.specs.Pages.{OutPage, Pages}
 use Rattle.proof_book.specs.Book.{feedB, slotTold}
-use Rattle.proof_book.specs.Rest.{endOf, Shape, Rest, Lies}
+use Rattle.proof_book.specs.Coupling.{endOf, Shape, Coupling, Lies}
 use Rattle.proof_book.specs.Frame.{out-same}
 
-module _ {φ : Phase} {b : Buf} {d : Driver} {t : Pages} (R : Rest φ b d t) where
+module _ {φ : Phase} {b : Buf} {d : Driver} {t : Pages} (R : Coupling φ b d t) where
   size-same : d .allocator .size ≡ t .kept .allocator .size
   size-same = ap (λ (a : Allocator). a .size) (R .same .allocator)
 
@@ -52,7 +52,7 @@ module _ {φ : Phase} {b : Buf} {d : Driver} {t : Pages} (R : Rest φ b d t) whe
   ep0-lies = omega (arith, R .ep0-lies, size-same)
 
 -- the last receive address
-pub received-lies : {φ : Phase} {b : Buf} {d : Driver} (t : Pages) (e x : ℕ) → Rest φ b d (feedB (Receive e x) t) → Lies b (feedB (Receive e x) t) x
+pub received-lies : {φ : Phase} {b : Buf} {d : Driver} (t : Pages) (e x : ℕ) → Coupling φ b d (feedB (Receive e x) t) → Lies b (feedB (Receive e x) t) x
 received-lies {d = d} t e x R =
     let q = ap (λ (p : OutPage). p .slot) (out-same t e (slotTold (t .outs e) x)) in
     lies R Out e x (omega (arith, R .outs e .from, q)) (omega (arith, R .outs e .upto, q))

@@ -17,13 +17,13 @@ use Rattle.alloc.specs.Buffer.{goodSize, each-size}
 use Rattle.req_descriptor.specs.declared.Answer.the-variants as reading
 use Rattle.req_descriptor.specs.Reading.{readingOf, listOf}
 use Rattle.req_preview.specs.Trial.{trialOf}
-use Rattle.model.specs.Alike.{quiet}
+use Rattle.model.specs.Simulates.{quiet}
 use Rattle.model.specs.Statics.{isOn}
 use Rattle.model.specs.Machine.{Buf}
 use Rattle.proof_alloc_all.specs.Settled.{Settled, slots-some}
 use Rattle.proof_alloc_all.specs.Order.{InOrder, in-order}
 use Rattle.proof_book.specs.Pages.{Pages}
-use Rattle.proof_book.specs.Rest.{Used, Shape, Rest}
+use Rattle.proof_book.specs.Coupling.{Used, Shape, Coupling}
 
 size-some : (size : ℕ) → goodSize size ≡ true → 1 ≤ size
 size-some size h = each-size (λ (z : ℕ). 1 ≤ z) (omega arith) (omega arith) (omega arith) (omega arith) (omega arith) (omega arith) size h
@@ -34,7 +34,7 @@ used-below a dir r l u =
     let m = mul-le-mul-right (r .stride) s in
     omega (arith, m, u .below, u .stride, l)
 
-pub rest-settled : {b : Buf} {d : Driver} {t : Pages} → Rest quiet b d t → Settled d
+pub rest-settled : {b : Buf} {d : Driver} {t : Pages} → Coupling quiet b d t → Settled d
 rest-settled {d = d} r = record {
   sized = r .sized;
   sound = r .sound;
@@ -45,6 +45,6 @@ rest-settled {d = d} r = record {
       (subst (λ (x : Bool). Shape x (d .allocator) dir (epOn d dir m)) (ap (λ (z : ℕ). isSet (allocatedIn (d .allocator) dir) z) e ∙ t) (r .shape dir m));
 }
 
-pub listed-in-order : {b : Buf} {d : Driver} {t : Pages} → Rest quiet b d t → (bytes : List ℕ) → d .globals .stage ≡ 1 → ((j : ℕ) → getD bytes j 0 < 256)
+pub listed-in-order : {b : Buf} {d : Driver} {t : Pages} → Coupling quiet b d t → (bytes : List ℕ) → d .globals .stage ≡ 1 → ((j : ℕ) → getD bytes j 0 < 256)
     → readingOf bytes .answer ≡ reading.Listed → trialOf (d .allocator) (listOf bytes) .refusal ≡ 0 → InOrder d b bytes
 listed-in-order {b = b} {d = d} r bytes stage small listed given = in-order d b bytes (rest-settled r) stage small listed given

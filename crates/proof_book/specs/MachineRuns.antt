@@ -5,7 +5,7 @@ use Rattle.state.specs.Driver.{Driver}
 use Rattle.model.specs.Answers.{Answer}
 use Rattle.model.specs.Calls.{Config, Op}
 use Rattle.model.specs.Machine.{Event, Machine}
-use Rattle.machine.specs.Under.{drive}
+use Rattle.machine.specs.Suspended.{drive}
 use Rattle.proof_book.specs.Pages.{Pages}
 use Rattle.proof_book.specs.FrontPage.{written, LentAsLeft, AfterCall}
 

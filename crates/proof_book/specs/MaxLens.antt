@@ -16,16 +16,16 @@ use Rattle.state.specs.Ep.{resetOf}
 use Rattle.state.specs.Fresh.{clearStamps, noStamps}
 use Rattle.state.specs.Driver.{Driver, key, noEp, epOn, withOn, withLenOn, withStampOn, withPacedOn, withRequestOn}
 use Rattle.ring.specs.Slot.{slotAddr, joinedOf, passedOf, hasWaiting}
-use Rattle.ring.specs.Out.{hasRoomOut, cappedAt, turnedAwayOf, arrivedOf, armedAt, openedOf, closedOf}
+use Rattle.ring.specs.Out.{hasRoomOut, cappedAt, overrunOf, arrivedOf, armedAt, openedOf, closedOf}
 use Rattle.ring.specs.In.{completedOf, loadedOf, unloadedOf}
 use Rattle.marks.specs.Copies.{copied}
 use Rattle.model.specs.Cells.{Cell, Val, globals-cell, control-cell, allocator-cell, ep-cell, request-cell, paced-cell}
-use Rattle.model.specs.Script.{Act, complete, reset-ring, set-enabled, fill, fill0, open-oldest, close-oldest, take-oldest, enqueue, allocate, allocate0, no-wakes, waken, Hand, arrive, send, place, place0, Row, switch, bus-reset}
+use Rattle.model.specs.Script.{Act, complete, reset-ring, set-enabled, fill, fill0, open-oldest, close-oldest, take-oldest, enqueue, allocate, allocate0, no-wakes, waken, DmaStep, arrive, send, place, place0, Burst, switch, bus-reset}
 use Rattle.model.specs.Statics.{isOn, isoOuts}
-use Rattle.model.specs.Sorts.{allocates}
+use Rattle.model.specs.TransferKinds.{allocates}
 use Rattle.model_ops.specs.Records.{isoOut, configured, enabledOn}
 use Rattle.model_ops.specs.Rings.{St, completeOn, emptied, emptiedOn, openOn, closeOn, takeOn, roomOn, queuedOn, enqueueOn, recordedOn, admittedOn, arrivedAt, arriveOn, sendOn, placeOn, renewedOn, armAt, slotStep, typeStep, configStep, switchStep, resetBelow, resetAll, resetStep}
-use Rattle.model_ops.specs.Conc.{conc}
+use Rattle.model_ops.specs.Concrete.{concrete}
 
 -- ---- what leaves the maximums, the requests and the allocator
 
@@ -84,10 +84,10 @@ completed-flag r = by (eqb (r .loaded) 0)
     by false = refl
 
 arrived-flag : (r : EpState) → arrivedOf r .«max_len» ≡ r .«max_len»
-unfolding arrivedOf joinedOf turnedAwayOf
+unfolding arrivedOf joinedOf overrunOf
 arrived-flag r = by (hasRoomOut r)
   where
-    by : (b : Bool) → cond b (joinedOf r) (turnedAwayOf r) .«max_len» ≡ r .«max_len»
+    by : (b : Bool) → cond b (joinedOf r) (overrunOf r) .«max_len» ≡ r .«max_len»
     by true = refl
     by false = refl
 
@@ -101,7 +101,7 @@ isRequest (ep-cell d e) = false
 isRequest (request-cell d e) = true
 isRequest (paced-cell e) = false
 
-pub put-steady : (c : Cell) → isRequest c ≡ false → (v : Val c) (s : St) → Steady (s .0) (conc .put c v s .0)
+pub put-steady : (c : Cell) → isRequest c ≡ false → (v : Val c) (s : St) → Steady (s .0) (concrete .put c v s .0)
 unfolding withPacedOn
 put-steady globals-cell h v s = others (s .0) _ refl refl refl refl
 put-steady control-cell h v s = others (s .0) _ refl refl refl refl
@@ -114,7 +114,7 @@ queued-steady : (d : Driver) (e n : ℕ) → Steady d (queuedOn d e n)
 unfolding queuedOn withLenOn joinedOf epOn
 queued-steady d e n = then (others d (withLenOn d In e _ n) refl refl refl refl) (record-steady (withLenOn d In e _ n) In e (joinedOf (epOn d In e)) refl)
 
-pub act-steady : (q : Act) → allocates q ≡ false → (s : St) → Steady (s .0) (conc .act q s .0)
+pub act-steady : (q : Act) → allocates q ≡ false → (s : St) → Steady (s .0) (concrete .act q s .0)
 unfolding completeOn emptiedOn emptied enabledOn configured openOn openedOf closeOn takeOn closedOf passedOf enqueueOn
 act-steady (complete e) h s = record-steady (s .0) In e _ (completed-flag (epOn (s .0) In e))
 act-steady (reset-ring d e) h s = either (isoOut (s .0) d e) (steady (s .0)) (record-steady (s .0) d e _ refl)
@@ -146,7 +146,7 @@ admitted-steady : (d : Driver) (e len : ℕ) → Steady d (admittedOn d e len)
 unfolding admittedOn
 admitted-steady d e len = let p = recorded-steady d e len in then p (record-steady (recordedOn d e len) Out e _ (arrived-flag (epOn d Out e) ∙ sym (p .maximums Out e)))
 
-pub hand-steady : (q : Hand) (s : St) → Steady (s .0) (conc .hand q s .1 .0)
+pub hand-steady : (q : DmaStep) (s : St) → Steady (s .0) (concrete .hand q s .1 .0)
 unfolding arriveOn sendOn loadedOf placeOn
 hand-steady (arrive e n) s = by (isSet (isoOuts (s .0 .globals)) (e % 16))
   where
@@ -201,6 +201,6 @@ reset-steady (suc zero) s = steady (s .0)
 reset-steady (suc (suc zero)) s = others (s .0) _ refl refl refl refl
 reset-steady (suc (suc (suc k))) s = others (s .0) _ refl refl refl refl
 
-pub row-steady : (g : Row) (n : ℕ) (s : St) → Steady (s .0) (conc .row g n s .1 .0)
+pub row-steady : (g : Burst) (n : ℕ) (s : St) → Steady (s .0) (concrete .row g n s .1 .0)
 row-steady (switch e on) n s = switch-steady e on n s
 row-steady bus-reset n s = reset-steady n s

@@ -17,7 +17,7 @@ use Rattle.alloc.specs.declared.Answer.the-variants as alloc
 use Rattle.model.specs.Tree as tree
 use Rattle.model.specs.Tree.{ends, asks}
 use Rattle.model.specs.Cells.{Cell, Val}
-use Rattle.model.specs.Script.{Script, run, rows, ret, bind, test, read-then, write-then, wait-then, callback-then, get-then, put-then, is-then, look-then, fetch-then, act-then, hand-then, row-then, Test, Look, Fetch, Act, complete, reset-ring, open-oldest, close-oldest, take-oldest, enqueue, Hand, handAsk, send, place, place0, Row, switch, bus-reset, lastOf, rowAsk}
+use Rattle.model.specs.Script.{Script, run, rows, ret, bind, test, read-then, write-then, wait-then, callback-then, get-then, put-then, is-then, look-then, fetch-then, act-then, hand-then, row-then, Test, Look, Fetch, Act, complete, reset-ring, open-oldest, close-oldest, take-oldest, enqueue, DmaStep, dmaStepAsk, send, place, place0, Burst, switch, bus-reset, lastOf, burstAsk}
 use Rattle.marks.specs.Copies.{copied}
 use Rattle.model.specs.Statics.{renewed}
 use Rattle.model.specs.IsoIn.{isoInComplete, isoInCompletions}
@@ -167,7 +167,7 @@ to-out f x s t h = record { pages = λ _. h; receives = λ e a. other-number e f
 to-in : (f x : ℕ) (s t : Bk) → Spares (only In f) s t → SparesAt (only In f) s (Transmit f x) t
 to-in f x s t h = record { pages = λ _. h; receives = λ e a. refl; transmits = λ e a. other-number f e (λ k. a (sym k)) }
 
-to-own : (d : Dir) (f x : ℕ) (s t : Bk) → Spares (only d f) s t → SparesAt (only d f) s (handAsk (place d f) x) t
+to-own : (d : Dir) (f x : ℕ) (s t : Bk) → Spares (only d f) s t → SparesAt (only d f) s (dmaStepAsk (place d f) x) t
 to-own Out f x s t h = to-out f x s t h
 to-own In f x s t h = to-in f x s t h
 
@@ -178,22 +178,22 @@ plain-access m s t q g h k = record { pages = λ _. k; receives = λ e a. g e; t
 kept-alone : (m : Names) (s : Bk) (k : Kept) → Spares m s (withKept (s .0) k, s .1)
 kept-alone m s k = record { outs = λ e a. refl; ins = λ e a. refl }
 
-switches : (f : ℕ) (on : Bool) (n : ℕ) (s : Bk) → SparesAt (only Out f) s (rowAsk (switch f on) n (rowB (switch f on) n s .0)) (rowB (switch f on) n s .1)
+switches : (f : ℕ) (on : Bool) (n : ℕ) (s : Bk) → SparesAt (only Out f) s (burstAsk (switch f on) n (rowB (switch f on) n s .0)) (rowB (switch f on) n s .1)
 switches f on zero s = plain-access (only Out f) s (rowB (switch f on) zero s .1) _ (λ e. refl) (λ e. refl) (kept-alone (only Out f) s _)
 switches f on (suc zero) s = plain-access (only Out f) s (rowB (switch f on) (suc zero) s .1) _ (λ e. refl) (λ e. refl) (kept-alone (only Out f) s _)
-switches f on (suc (suc zero)) s = plain-access (only Out f) s s (rowAsk (switch f on) (suc (suc zero)) 0) (λ e. refl) (λ e. refl) (still (only Out f) s)
+switches f on (suc (suc zero)) s = plain-access (only Out f) s s (burstAsk (switch f on) (suc (suc zero)) 0) (λ e. refl) (λ e. refl) (still (only Out f) s)
 switches f on (suc (suc (suc k))) s = to-out f 0 s (rowB (switch f on) (suc (suc (suc k))) s .1)
     (either (only Out f) s (isoOf (s .0) Out f && eqb k 15)
     (withOut (withKept (s .0) (keptPlain (s .0 .kept) Out f (renewed (s .0 .kept .plain Out f)))) f (emptyOut (s .0 .outs f))) (s .0) (s .1)
     (with-out f (s .0) (keptPlain (s .0 .kept) Out f (renewed (s .0 .kept .plain Out f))) (emptyOut (s .0 .outs f)) (s .1) (s .1)) (still (only Out f) s))
 
-bus-resets : (m : Names) (n : ℕ) (s : Bk) → SparesAt m s (rowAsk bus-reset n (rowB bus-reset n s .0)) (rowB bus-reset n s .1)
+bus-resets : (m : Names) (n : ℕ) (s : Bk) → SparesAt m s (burstAsk bus-reset n (rowB bus-reset n s .0)) (rowB bus-reset n s .1)
 bus-resets m zero s = record { pages = λ h. absurd (true≢false h); receives = λ e a. refl; transmits = λ e a. refl }
 bus-resets m (suc zero) s = record { pages = λ _. still m s; receives = λ e a. refl; transmits = λ e a. refl }
 bus-resets m (suc (suc zero)) s = record { pages = λ _. kept-alone m s _; receives = λ e a. refl; transmits = λ e a. refl }
 bus-resets m (suc (suc (suc k))) s = record { pages = λ _. kept-alone m s _; receives = λ e a. refl; transmits = λ e a. refl }
 
-spare-rows : {A : Type 0} (m : Names) (g : Row) → ((n : ℕ) (s : Bk) → SparesAt m s (rowAsk g n (rowB g n s .0)) (rowB g n s .1)) → (n : ℕ)
+spare-rows : {A : Type 0} (m : Names) (g : Burst) → ((n : ℕ) (s : Bk) → SparesAt m s (burstAsk g n (rowB g n s .0)) (rowB g n s .1)) → (n : ℕ)
     {k : Bk → tree.Out Bk A} → ((t : Bk) → Spared m t (k t)) → (s : Bk) → Spared m s (rows bookOps g n k s)
 spare-rows m g j zero h s = ask tt (j zero s) (λ v t _. h t)
 spare-rows m g j (suc n) h s = ask tt (j (suc n) s) (λ v t _. spare-rows m g j n h t)

@@ -17,16 +17,16 @@ use Rattle.ring.specs.Laws.{place-placed, place-addr, alike-count, alike-waits,
 use Rattle.ring.specs.OutLaws.{opened-alike, opened-shows, closed-place, closed-shows, close-waits, close-ring}
 use Rattle.marks.specs.Marks.{isMarked, markedLen}
 use Rattle.marks.specs.Copies.{bytesAt}
-use Rattle.model.specs.Cells.{Plain}
+use Rattle.model.specs.Cells.{EpCore}
 use Rattle.model.specs.Script as script
-use Rattle.model.specs.Alike.{quiet}
+use Rattle.model.specs.Simulates.{quiet}
 use Rattle.model.specs.Statics.{isOn, flag}
 use Rattle.model.specs.Machine.{Buf}
 use Rattle.model_ops.specs.Records.{plainOf, isoOut}
 use Rattle.model_ops.specs.Rings.{changedOn, markedOn, waitingOn, openedOn, oldestAt, oldestOn, emptied, emptiedOn, openOn, closeOn, takeOn}
 use Rattle.proof_book.specs.Pages.{Packet, bytesOf, OutPage, Pages, withOut}
 use Rattle.proof_book.specs.Book.{some, front, isoOf, openOut, readOut, emptyOut}
-use Rattle.proof_book.specs.Rest.{Short, lensOf, slotStamps, OutFits, AtRest, Rest}
+use Rattle.proof_book.specs.Coupling.{Short, lensOf, slotStamps, OutFits, AtRest, Coupling}
 use Rattle.proof_book.specs.Lens.{lens-on, stamps-on}
 use Rattle.proof_book.specs.Stamps.{alike-stamps, none-stamps, close-stamps}
 use Rattle.proof_book.specs.Frame.{changed-not, changed-on, kept-same, out-changed, out-moved}
@@ -34,9 +34,9 @@ use Rattle.proof_book.specs.Held.{IsAgrees, LookAgrees, FetchAgrees, Act
 
 -- ---- what is asked
 
-module _ {b : Buf} {d : Driver} {t : Pages} (R : Rest quiet b d t) (e : ℕ) where
+module _ {b : Buf} {d : Driver} {t : Pages} (R : Coupling quiet b d t) (e : ℕ) where
   max-same : epOn d Out e .«max_len» ≡ t .kept .plain Out e .«max_len»
-  max-same = ap (λ (p : Plain). p .«max_len») (R .same .plain Out e)
+  max-same = ap (λ (p : EpCore). p .«max_len») (R .same .plain Out e)
 
 pub is-changed : (e : ℕ) → IsAgrees (script.changed e)
 unfolding changedOn
@@ -72,7 +72,7 @@ unfolding oldestOn oldestAt
 fetch-oldest e b d t R = held-first d Out e (R .outs e .held)
 
 pub fetch-received : (e n : ℕ) → FetchAgrees (script.received e n)
-fetch-received e n b d t R = ap (λ (p : Plain). bytesAt b (p .base) n) (R .same .plain Out e)
+fetch-received e n b d t R = ap (λ (p : EpCore). bytesAt b (p .base) n) (R .same .plain Out e)
 
 -- ---- a record changed, bytes as they were
 
@@ -81,18 +81,18 @@ pub record Inner (r r′ : EpState) : Type 0 where
   pub place : SamePlace r r′
   pub plain : plainOf r′ ≡ plainOf r
 
-pub out-on : {b : Buf} {d : Driver} {t : Pages} → Rest quiet b d t → (e : ℕ) (r : EpState) (p : OutPage) → Inner (epOn d Out e) r
-    → OutFits b r (lensOf d Out e) (slotStamps d e) p → AtRest (receives d e) r p → Rest quiet b (withOn d Out e r) (withOut t e p)
+pub out-on : {b : Buf} {d : Driver} {t : Pages} → Coupling quiet b d t → (e : ℕ) (r : EpState) (p : OutPage) → Inner (epOn d Out e) r
+    → OutFits b r (lensOf d Out e) (slotStamps d e) p → AtRest (receives d e) r p → Coupling quiet b (withOn d Out e r) (withOut t e p)
 out-on {b} {d} {t} R e r p k f a =
     let s = R .sized in
-    let c = changed-on s Out e r (k .place) (ap (λ (q : Plain). q .iso) (k .plain)) in
+    let c = changed-on s Out e r (k .place) (ap (λ (q : EpCore). q .iso) (k .plain)) in
     let z : epOn (withOn d Out e r) Out e ≡ r = epOn-same d Out e r s in
     out-changed R e p c (kept-same c (ap plainOf z ∙ k .plain) (R .same)) refl (λ i h. refl) (out-moved z (lens-on d Out e r Out e) (stamps-on d Out e r e) f) tt (λ x u n y. y)
     (subst (λ y. AtRest (receives d e) y p) (sym z) a)
 
 -- nothing but a page that is read as it was
-pub out-page : {b : Buf} {d : Driver} {t : Pages} → Rest quiet b d t → (e : ℕ) (p : OutPage) → OutFits b (epOn d Out e) (lensOf d Out e) (slotStamps d e) p
-    → AtRest (receives d e) (epOn d Out e) p → Rest quiet b d (withOut t e p)
+pub out-page : {b : Buf} {d : Driver} {t : Pages} → Coupling quiet b d t → (e : ℕ) (p : OutPage) → OutFits b (epOn d Out e) (lensOf d Out e) (slotStamps d e) p
+    → AtRest (receives d e) (epOn d Out e) p → Coupling quiet b d (withOut t e p)
 out-page {b} {d} {t} R e p f a =
     let c = changed-not (R .sized) Out e in
     out-changed R e p c (R .same) refl (λ i h. refl) f tt (λ x u n y. y) a
@@ -134,11 +134,11 @@ module _ {b : Buf} {r : EpState} {ls ss : List ℕ} {p : OutPage} (f : OutFits b
   }
 
 -- both changed, or both as they were
-cond-rest : {b : Buf} {d d′ : Driver} {t t′ : Pages} (u v : Bool) → u ≡ v → (u ≡ true → Rest quiet b d′ t′) → (u ≡ false → Rest quiet b d t)
-    → Rest quiet b (cond u d′ d) (cond v t′ t)
-cond-rest {b} {d} {d′} {t} {t′} u v z p q = subst (λ y. Rest quiet b (cond u d′ d) (cond y t′ t)) z (go u refl)
+cond-rest : {b : Buf} {d d′ : Driver} {t t′ : Pages} (u v : Bool) → u ≡ v → (u ≡ true → Coupling quiet b d′ t′) → (u ≡ false → Coupling quiet b d t)
+    → Coupling quiet b (cond u d′ d) (cond v t′ t)
+cond-rest {b} {d} {d′} {t} {t′} u v z p q = subst (λ y. Coupling quiet b (cond u d′ d) (cond y t′ t)) z (go u refl)
   where
-    go : (y : Bool) → u ≡ y → Rest quiet b (cond y d′ d) (cond y t′ t)
+    go : (y : Bool) → u ≡ y → Coupling quiet b (cond y d′ d) (cond y t′ t)
     go true h = p h
     go false h = q h
 
@@ -202,8 +202,8 @@ module _ {b : Buf} {r : EpState} {ls ss : List ℕ} {p : OutPage} (f : OutFits b
     none = λ h. absurd (omega (arith, a .none h));
   }
 
-read-out : {b : Buf} {d : Driver} {t : Pages} → Rest quiet b d t → (e : ℕ) → 0 < countOf (epOn d Out e)
-    → Rest quiet b (withOn d Out e (closedOf (epOn d Out e))) (withOut t e (readOut (t .outs e)))
+read-out : {b : Buf} {d : Driver} {t : Pages} → Coupling quiet b d t → (e : ℕ) → 0 < countOf (epOn d Out e)
+    → Coupling quiet b (withOn d Out e (closedOf (epOn d Out e))) (withOut t e (readOut (t .outs e)))
 read-out {d = d} {t = t} R e w =
     let f = R .outs e in
     out-on R e (closedOf (epOn d Out e)) (readOut (t .outs e)) (close-inner (epOn d Out e)) (close-fits f w) (close-rest f w (R .arming e))
@@ -265,7 +265,7 @@ pub act-reset-out : (e : ℕ) → ActAgrees (script.reset-ring Out e)
 unfolding emptiedOn isoOut
 act-reset-out e b d t R = (
   refl,
-  cond-rest (isOn (epOn d Out e .iso)) (isoOf t Out e) (ap (λ (p : Plain). isOn (p .iso)) (R .same .plain Out e))
+  cond-rest (isOn (epOn d Out e .iso)) (isoOf t Out e) (ap (λ (p : EpCore). isOn (p .iso)) (R .same .plain Out e))
       (λ h. R)
       (λ h. out-on R e (emptied (epOn d Out e)) (emptyOut (t .outs e)) (empty-inner (epOn d Out e)) (empty-fits (R .outs e))
       (record { armed = λ u. absurd (true≢false (sym u ∙ plain-receives R e h)); none = λ u. empty-count (epOn d Out e) })),

@@ -10,7 +10,7 @@ use Rattle.state.specs.declared.Allocator.{Allocator}
 use Rattle.state.specs.declared.Request.{Request}
 use Rattle.state.specs.declared.Control.{Control}
 use Rattle.state.specs.Wakes.{Wakes}
-use Rattle.model.specs.Cells.{Plain}
+use Rattle.model.specs.Cells.{EpCore}
 
 -- a packet that waits on an OUT endpoint: its bytes, and the microframe index of the interrupt that admitted it (request One)
 pub record Packet : Type 0 where
@@ -56,7 +56,7 @@ pub record Kept : Type 0 where
   pub allocator : Allocator
   pub paced : ℕ → ℕ
   pub requests : Dir → ℕ → Request
-  pub plain : Dir → ℕ → Plain
+  pub plain : Dir → ℕ → EpCore
 
 pub record Pages : Type 0 where
   pub kept : Kept
@@ -102,5 +102,5 @@ keptPaced k e v = record { globals = k .globals; wakes = k .wakes; control = k .
 abbrev pub keptRequest : Kept → Dir → ℕ → Request → Kept
 keptRequest k d e v = record { globals = k .globals; wakes = k .wakes; control = k .control; allocator = k .allocator; paced = k .paced; requests = on d e v (k .requests); plain = k .plain }
 
-abbrev pub keptPlain : Kept → Dir → ℕ → Plain → Kept
+abbrev pub keptPlain : Kept → Dir → ℕ → EpCore → Kept
 keptPlain k d e v = record { globals = k .globals; wakes = k .wakes; control = k .control; allocator = k .allocator; paced = k .paced; requests = k .requests; plain = on d e v (k .plain) }

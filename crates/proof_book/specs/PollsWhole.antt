@@ -16,8 +16,8 @@ use Rattle.state.specs.declared.Request.{Request}
 use Rattle.state.specs.Driver.{Driver, epOn, requestOn}
 use Rattle.model.specs.Tree as tree
 use Rattle.model.specs.Tree.{ends, asks}
-use Rattle.model.specs.Alike.{Phase}
-use Rattle.model.specs.Cells.{Plain, request-cell, ep-cell}
+use Rattle.model.specs.Simulates.{Phase}
+use Rattle.model.specs.Cells.{EpCore, request-cell, ep-cell}
 use Rattle.model.specs.Script.{Script, run, ret, bind, test, get, put, is, act, fetch, waiting, oldest, take-oldest, _>>_}
 use Rattle.model.specs.Statics.{isOn, withReady, modifyEp}
 use Rattle.model.specs.Answers.{Answer, Refused, End, NotYet, Done, Shown, named, unless, isAllocated}
@@ -26,10 +26,10 @@ use Rattle.model.specs.Calls.{Config, Op, slotted, PollRead, calls}
 use Rattle.model.specs.Machine.{Buf, Call, begin, Ans, ended, handed, told, blankA, Way, idle, busy, Machine, misfit, stay, fed, halt}
 use Rattle.model.specs.Machine as machine
 use Rattle.model.specs.Agree.{After}
-use Rattle.machine.specs.Under.{driverOf, drive}
+use Rattle.machine.specs.Suspended.{driverOf, drive}
 use Rattle.proof_book.specs.Pages.{Packet, bytesOf, OutPage, Pages, withOut}
 use Rattle.proof_book.specs.Book.{Bk, some, first, isoOf, readOut, takeB, bookOps, book}
-use Rattle.proof_book.specs.Rest.{Short, Rest}
+use Rattle.proof_book.specs.Coupling.{Short, Coupling}
 use Rattle.proof_book.specs.Frame.{out-same}
 use Rattle.proof_book.specs.Agrees.{agree}
 use Rattle.proof_book.specs.ReadRoom.{ReadRoom}
@@ -155,7 +155,7 @@ module _ (t : Pages) (b : Buf) (e n : ℕ) (iso : isOn (t .kept .plain Out e .is
 
 -- ---- one call
 
-module _ {φ : Phase} {b : Buf} {d : Driver} {t : Pages} (R : Rest φ b d t) (k : ReadRoom d) (e n : ℕ) where
+module _ {φ : Phase} {b : Buf} {d : Driver} {t : Pages} (R : Coupling φ b d t) (k : ReadRoom d) (e n : ℕ) where
   same-request : requestOn d Out e ≡ t .kept .requests Out e
   same-request = R .same .requests Out e
 
@@ -175,7 +175,7 @@ module _ {φ : Phase} {b : Buf} {d : Driver} {t : Pages} (R : Rest φ b d t) (k 
       )
 
 -- a call's answer that is a read's poll done
-pub one-call : {φ : Phase} (c : Call Config Op) (l : Buf) (m : Machine Answer Driver) (n : Machine Answer Pages) → Rest φ (m .buf) (m .st) (n .st) → ReadRoom (m .st)
+pub one-call : {φ : Phase} (c : Call Config Op) (l : Buf) (m : Machine Answer Driver) (n : Machine Answer Pages) → Coupling φ (m .buf) (m .st) (n .st) → ReadRoom (m .st)
     → let x = drive c m l in let y = written (x .0) c n l in After driverOf book agree calls x y → (e len : ℕ) (bytes : List ℕ)
     → c ≡ begin (slotted (PollRead e len)) → x .0 ≡ ended (Done bytes) → isoOf (n .st) Out e ≡ true
     → (q : Packet) × (bytes ≡ q .bytes) × ReadsFirst (n .st .outs e) (y .1 .st .outs e) q

@@ -25,7 +25,7 @@ use Rattle.model.specs.Script.{Act, complete, reset-ring, set-enabled, fill, fi
 use Rattle.model.specs.Statics.{isOn}
 use Rattle.model_ops.specs.Records.{recordGiven, setsGiven, givenTo, allocatedOn, startedWith, allocatedEp0}
 use Rattle.model_ops.specs.Rings.{St}
-use Rattle.model_ops.specs.Conc.{conc}
+use Rattle.model_ops.specs.Concrete.{concrete}
 use Rattle.proof_book.specs.Cells.{epOn-by}
 use Rattle.proof_book.specs.MaxLens.{Steady, others, act-steady}
 
@@ -123,7 +123,7 @@ allocated-room {d = d} k dir kind address maximum interval z s (given e base n a
 
 -- ---- each change
 
-pub act-room : (q : Act) (s : St) → ReadRoom (s .0) → ReadRoom (conc .act q s .0)
+pub act-room : (q : Act) (s : St) → ReadRoom (s .0) → ReadRoom (concrete .act q s .0)
 unfolding allocatedOn allocatedEp0
 act-room (complete e) s k = steady-room (act-steady (complete e) refl s) k
 act-room (reset-ring dir e) s k = steady-room (act-steady (reset-ring dir e) refl s) k

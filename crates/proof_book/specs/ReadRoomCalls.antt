@@ -18,7 +18,7 @@ use Rattle.regs.specs.declared.Token.{Token}
 use Rattle.regs.specs.declared.Token.the-variants as tok
 use Rattle.model.specs.declared.Transfer.{Transfer}
 use Rattle.model.specs.Tree as tree
-use Rattle.model.specs.Cells.{Plain, ep-cell, request-cell}
+use Rattle.model.specs.Cells.{EpCore, ep-cell, request-cell}
 use Rattle.model.specs.Script.{Script, run, bind, test, ret, get, put, _>>_}
 use Rattle.model.specs.Statics.{isOn}
 use Rattle.model.specs.Answers.{Answer, Refused, resultless, unless, named, isNumber, isAllocated}
@@ -27,8 +27,8 @@ use Rattle.model.specs.Machine.{Buf, Call, Event, start, begin, go, question, A
 use Rattle.model.specs.Machine as machine
 use Rattle.model_ops.specs.Records.{plainOf}
 use Rattle.model_ops.specs.Rings.{St}
-use Rattle.model_ops.specs.Conc.{conc, putOn}
-use Rattle.machine.specs.Under.{driverOf, drive}
+use Rattle.model_ops.specs.Concrete.{concrete, putOn}
+use Rattle.machine.specs.Suspended.{driverOf, drive}
 use Rattle.model.specs.IsoIn.{isoInComplete, sofOne, sofWalk, lateWalk, onSof, isoInCompletions}
 use Rattle.model.specs.IsoOut.{checkWalk}
 use Rattle.model.specs.Handler.{looks, toggled, settle, dispatch, movedOn, ep0MovedOn, served, onTransfer, onSetup, stampedInterrupt}
@@ -187,7 +187,7 @@ k-started maximum (alloc.Refused n) = search keeping
 k-started maximum (alloc.Given e base slots) = search keeping depth 20
 
 -- a read's begin (rows 4, 5, 9 and 10), and what follows its request
-k-arms : (e : ℕ) (p : Plain) → Keeps {i = false} (resultless (arm-read e p))
+k-arms : (e : ℕ) (p : EpCore) → Keeps {i = false} (resultless (arm-read e p))
 k-arms e p = search keeping depth 30
 
 -- a number that is allocated is taken
@@ -211,22 +211,22 @@ k-begin-read : (e n : ℕ) → Keeps {i = false} (beginRead e n)
 k-begin-read e n = record { on = λ s b. staged-by s b (eqb (s .0 .globals .stage) 2) }
   where
     most-by : (s : St) → ReadRoom (s .0) → isSet (takenIn (s .0 .allocator) Out) (e % 16) ≡ true → (u : Bool) → ltb n (epOn (s .0) Out e .«max_len») ≡ u
-        → Holds (run {i = false} conc (unless u 10 (put (request-cell Out e) (begun n) >> resultless (arm-read e (plainOf (epOn (s .0) Out e))))) s)
+        → Holds (run {i = false} concrete (unless u 10 (put (request-cell Out e) (begun n) >> resultless (arm-read e (plainOf (epOn (s .0) Out e))))) s)
     most-by s b t true h = end b
     most-by s b t false h = k-arms e (plainOf (epOn (s .0) Out e)) .on (putOn (request-cell Out e) (begun n) s) (put-out e (begun n) (λ _. (t, ltb-false n (epOn (s .0) Out e .«max_len») h)) b)
 
     enabled-by : (s : St) → ReadRoom (s .0) → isSet (takenIn (s .0 .allocator) Out) (e % 16) ≡ true → (u : Bool)
-        → Holds (run {i = false} conc (test u (bind (get (ep-cell Out e)) (λ p. unless (ltb n (p .«max_len»)) 10 (put (request-cell Out e) (begun n) >> resultless (arm-read e p)))) (ret (Refused 9))) s)
+        → Holds (run {i = false} concrete (test u (bind (get (ep-cell Out e)) (λ p. unless (ltb n (p .«max_len»)) 10 (put (request-cell Out e) (begun n) >> resultless (arm-read e p)))) (ret (Refused 9))) s)
     enabled-by s b t true = most-by s b t (ltb n (epOn (s .0) Out e .«max_len»)) refl
     enabled-by s b t false = end b
 
     named-by : (s : St) → ReadRoom (s .0) → (u : Bool) → isAllocated (s .0 .allocator) Out e ≡ u
-        → Holds (run {i = false} conc (test u (enabled-else Out e (ret (Refused 9)) (bind (get (ep-cell Out e)) (λ p. unless (ltb n (p .«max_len»)) 10 (put (request-cell Out e) (begun n) >> resultless (arm-read e p))))) (ret (Refused 5))) s)
+        → Holds (run {i = false} concrete (test u (enabled-else Out e (ret (Refused 9)) (bind (get (ep-cell Out e)) (λ p. unless (ltb n (p .«max_len»)) 10 (put (request-cell Out e) (begun n) >> resultless (arm-read e p))))) (ret (Refused 5))) s)
     named-by s b true h = enabled-by s b (named-taken e (s .0) (b .sound) h) (enables.isOn (s .0 .globals .«ep_config») Out e)
     named-by s b false h = end b
 
     staged-by : (s : St) → ReadRoom (s .0) → (u : Bool)
-        → Holds (run {i = false} conc (test u (named Out e (enabled-else Out e (ret (Refused 9)) (bind (get (ep-cell Out e)) (λ p. unless (ltb n (p .«max_len»)) 10 (put (request-cell Out e) (begun n) >> resultless (arm-read e p)))))) (ret (Refused 4))) s)
+        → Holds (run {i = false} concrete (test u (named Out e (enabled-else Out e (ret (Refused 9)) (bind (get (ep-cell Out e)) (λ p. unless (ltb n (p .«max_len»)) 10 (put (request-cell Out e) (begun n) >> resultless (arm-read e p)))))) (ret (Refused 4))) s)
     staged-by s b true = named-by s b (isAllocated (s .0 .allocator) Out e) refl
     staged-by s b false = end b
 

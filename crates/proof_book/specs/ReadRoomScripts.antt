@@ -11,10 +11,10 @@ use Rattle.regs.specs.declared.Dir.the-variants.{Out, In}
 use Rattle.model.specs.Cells.{Cell, Val, request-cell}
 use Rattle.model.specs.Tree as tree
 use Rattle.model.specs.Tree.{ends, asks, bindOut}
-use Rattle.model.specs.Script.{Script, run, rows, ret, bind, test, read-then, write-then, wait-then, callback-then, get-then, put-then, is-then, look-then, fetch-then, act-then, hand-then, row-then, Test, Look, Fetch, Act, Hand, Row, lastOf}
+use Rattle.model.specs.Script.{Script, run, rows, ret, bind, test, read-then, write-then, wait-then, callback-then, get-then, put-then, is-then, look-then, fetch-then, act-then, hand-then, row-then, Test, Look, Fetch, Act, DmaStep, Burst, lastOf}
 use Rattle.model.specs.Endpoint.{no-request}
 use Rattle.model_ops.specs.Rings.{St}
-use Rattle.model_ops.specs.Conc.{conc}
+use Rattle.model_ops.specs.Concrete.{concrete}
 use Rattle.proof_book.specs.MaxLens.{isRequest, put-steady, hand-steady, row-steady}
 use Rattle.proof_book.specs.ReadRoom.{ReadRoom, steady-room, put-out, put-in, act-room, off}
 
@@ -24,13 +24,13 @@ pub data Holds {A : Type 0} : tree.Out St A → Type 0 where
   ask : {q : Access} {s : St} {k : ℕ → St → tree.Out St A} → ReadRoom (s .0) → ((v : ℕ) (t : St) → ReadRoom (t .0) → Holds (k v t)) → Holds (asks q s k)
 
 pub record Keeps {i : Bool} {A : Type 0} (p : Script i A) : Type 0 where
-  pub on : (s : St) → ReadRoom (s .0) → Holds (run conc p s)
+  pub on : (s : St) → ReadRoom (s .0) → Holds (run concrete p s)
 
 holds-bind : {A B : Type 0} {o : tree.Out St A} {f : A → St → tree.Out St B} → Holds o → ((a : A) (s : St) → ReadRoom (s .0) → Holds (f a s)) → Holds (bindOut o f)
 holds-bind (end b) h = h _ _ b
 holds-bind (ask b k) h = ask b (λ v t c. holds-bind (k v t c) h)
 
-holds-rows : {A : Type 0} (g : Row) (n : ℕ) {k : St → tree.Out St A} → ((t : St) → ReadRoom (t .0) → Holds (k t)) → (s : St) → ReadRoom (s .0) → Holds (rows conc g n k s)
+holds-rows : {A : Type 0} (g : Burst) (n : ℕ) {k : St → tree.Out St A} → ((t : St) → ReadRoom (t .0) → Holds (k t)) → (s : St) → ReadRoom (s .0) → Holds (rows concrete g n k s)
 holds-rows g zero h s b = ask (steady-room (row-steady g zero s) b) (λ v t c. h t c)
 holds-rows g (suc n) h s b = ask (steady-room (row-steady g (suc n) s) b) (λ v t c. holds-rows g n h t c)
 
@@ -89,10 +89,10 @@ module _ {i : Bool} {A : Type 0} where
   pub k-act : {q : Act} {p : Script i A} → Keeps p → Keeps (act-then q p)
   k-act {q} h = record { on = λ s b. h .on _ (act-room q s b) }
 
-  pub k-hand : {q : Hand} {p : Script i A} → Keeps p → Keeps (hand-then q p)
+  pub k-hand : {q : DmaStep} {p : Script i A} → Keeps p → Keeps (hand-then q p)
   k-hand {q} h = record { on = λ s b. ask (steady-room (hand-steady q s) b) (λ v t c. h .on t c) }
 
-pub k-row : {A : Type 0} {g : Row} {p : Script false A} → Keeps p → Keeps (row-then g p)
+pub k-row : {A : Type 0} {g : Burst} {p : Script false A} → Keeps p → Keeps (row-then g p)
 k-row {g = g} h = record { on = λ s b. holds-rows g (lastOf g) (λ t c. h .on t c) s b }
 
 -- rules by which a script is taken apart

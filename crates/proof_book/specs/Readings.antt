@@ -8,12 +8,12 @@ use Rattle.model.specs.Answers.{Answer}
 use Rattle.model.specs.Calls.{Config, Op, calls, startRow, interruptCode}
 use Rattle.model.specs.Machine.{Buf, Event, Machine, start}
 use Rattle.model.specs.Readings.{Continues, readings}
-use Rattle.model.specs.Sorts.{Along}
+use Rattle.model.specs.TransferKinds.{Along}
 use Rattle.model.specs.SortsAside.{Passes, passing-4056}
 use Rattle.model_ops.specs.Rings.{St}
-use Rattle.model_ops.specs.Conc.{conc}
-use Rattle.machine.specs.Under.{driverOf}
-use Rattle.proof_book.specs.Sorts.{Has, sorted}
+use Rattle.model_ops.specs.Concrete.{concrete}
+use Rattle.machine.specs.Suspended.{driverOf}
+use Rattle.proof_book.specs.TransferKinds.{Has, sorted}
 use Rattle.proof_book.specs.Always.{after}
 use Rattle.proof_book.specs.Sorting.{sortsOf, Sorting, ep0-plain, after-sorting}
 
@@ -22,7 +22,7 @@ abbrev pub Stores : St → St → Type 0
 Stores s t = t .0 ≡ s .0
 
 -- from a state in which flags and sets tell one sort of each endpoint
-pub sorting-4056 : (d : Driver) → Sorting d → (slots : Buf) (w : Continues St) → Along (Passes conc Stores) (run conc interruptCode (d, slots)) w → readings (run conc interruptCode (d, slots)) w ≤ 4056
+pub sorting-4056 : (d : Driver) → Sorting d → (slots : Buf) (w : Continues St) → Along (Passes concrete Stores) (run concrete interruptCode (d, slots)) w → readings (run concrete interruptCode (d, slots)) w ≤ 4056
 sorting-4056 d k slots w l = passing-4056 (sorted (sortsOf d) (ep0-plain k)) (λ s t h. subst (Has (sortsOf d)) (sym h)) (d, slots) (k .has) w l
 
 -- the first call is a start-up that rows 1 and 2 do not stop, on whatever was before; then any calls, refused ones included, each lent any slot
@@ -30,5 +30,5 @@ sorting-4056 d k slots w l = passing-4056 (sorted (sortsOf d) (ep0-plain k)) (λ
 -- change
 pub driver-4056 : (c : Config) (b : Buf) → startRow c b ≡ zero → (es : List (Event Config Op)) (m : Machine Answer Driver)
     → let d = after calls driverOf (record { call = start c; lent = b } ∷ es) m .st in
-    (slots : Buf) (w : Continues St) → Along (Passes conc Stores) (run conc interruptCode (d, slots)) w → readings (run conc interruptCode (d, slots)) w ≤ 4056
+    (slots : Buf) (w : Continues St) → Along (Passes concrete Stores) (run concrete interruptCode (d, slots)) w → readings (run concrete interruptCode (d, slots)) w ≤ 4056
 driver-4056 c b row es m = sorting-4056 (after calls driverOf (record { call = start c; lent = b } ∷ es) m .st) (after-sorting c b row es m)

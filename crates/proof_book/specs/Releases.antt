@@ -18,7 +18,7 @@ use Rattle.req_descriptor.specs.declared.Answer.the-variants as reading
 use Rattle.model.specs.Tree as tree
 use Rattle.model.specs.Tree.{ends, asks}
 use Rattle.model.specs.Cells.{Cell, Val}
-use Rattle.model.specs.Script.{Script, run, rows, ret, bind, test, read-then, write-then, wait-then, callback-then, get-then, put-then, is-then, look-then, fetch-then, act-then, hand-then, row-then, Test, Look, Fetch, Act, Hand, handAsk, arrive, send, place, place0, Row, switch, bus-reset, lastOf, rowAsk}
+use Rattle.model.specs.Script.{Script, run, rows, ret, bind, test, read-then, write-then, wait-then, callback-then, get-then, put-then, is-then, look-then, fetch-then, act-then, hand-then, row-then, Test, Look, Fetch, Act, DmaStep, dmaStepAsk, arrive, send, place, place0, Burst, switch, bus-reset, lastOf, burstAsk}
 use Rattle.model.specs.Script.{complete, reset-ring, set-enabled, fill, fill0, open-oldest, close-oldest, take-oldest}
 use Rattle.model.specs.Script.{enqueue, allocate, allocate0, no-wakes, waken}
 use Rattle.model.specs.IsoIn.{isoInComplete, isoInCompletions}
@@ -66,8 +66,8 @@ pub data InRows (u : Bool) : (A : Type 0) → Script false A → Type 1 where
   r-look : {A : Type 0} {q : Look} {k : ℕ → Script false A} → ((n : ℕ) → InRows u A (k n)) → InRows u A (look-then q k)
   r-fetch : {A : Type 0} {q : Fetch} {k : List ℕ → Script false A} → ((l : List ℕ) → InRows u A (k l)) → InRows u A (fetch-then q k)
   r-act : {A : Type 0} {q : Act} {p : Script false A} → suits u q ≡ true → InRows u A p → InRows u A (act-then q p)
-  r-hand : {A : Type 0} {q : Hand} {p : Script false A} → not u ≡ true → InRows u A p → InRows u A (hand-then q p)
-  r-row : {A : Type 0} {g : Row} {p : Script false A} → not u ≡ true → InRows u A p → InRows u A (row-then g p)
+  r-hand : {A : Type 0} {q : DmaStep} {p : Script false A} → not u ≡ true → InRows u A p → InRows u A (hand-then q p)
+  r-row : {A : Type 0} {g : Burst} {p : Script false A} → not u ≡ true → InRows u A p → InRows u A (row-then g p)
 
 abbrev pub Rows : {A : Type 0} → Script false A → Type 1
 Rows {A} p = InRows false A p
@@ -100,14 +100,14 @@ Clears s o = Tracks Any Whatever Cleared s o
 not-released : {X : Type 0} {u : Bool} → u ≡ false → u ≡ true → X
 not-released h k = absurd (true≢false (sym k ∙ h))
 
-handed-quiet : (q : Hand) (x : ℕ) → releases (handAsk q x) ≡ false
+handed-quiet : (q : DmaStep) (x : ℕ) → releases (dmaStepAsk q x) ≡ false
 handed-quiet (arrive e n) x = refl
 handed-quiet (send e) x = refl
 handed-quiet (place Out e) x = refl
 handed-quiet (place In e) x = refl
 handed-quiet place0 x = refl
 
-row-cleared : (g : Row) (n : ℕ) (s : Bk) → Cleared s (rowAsk g n (rowB g n s .0)) (rowB g n s .1)
+row-cleared : (g : Burst) (n : ℕ) (s : Bk) → Cleared s (burstAsk g n (rowB g n s .0)) (rowB g n s .1)
 row-cleared (switch e on) zero s h = not-released refl h
 row-cleared (switch e on) (suc zero) s h = not-released refl h
 row-cleared (switch e on) (suc (suc zero)) s h = not-released refl h
@@ -117,7 +117,7 @@ row-cleared bus-reset (suc zero) s h = not-released refl h
 row-cleared bus-reset (suc (suc zero)) s h = not-released refl h
 row-cleared bus-reset (suc (suc (suc n))) s h = not-released refl h
 
-clear-rows : {A : Type 0} (g : Row) (n : ℕ) {k : Bk → tree.Out Bk A} → ((t : Bk) → Clears t (k t)) → (s : Bk) → Clears s (rows bookOps g n k s)
+clear-rows : {A : Type 0} (g : Burst) (n : ℕ) {k : Bk → tree.Out Bk A} → ((t : Bk) → Clears t (k t)) → (s : Bk) → Clears s (rows bookOps g n k s)
 clear-rows g zero h s = ask tt (row-cleared g zero s) (λ v t _. h t)
 clear-rows g (suc n) h s = ask tt (row-cleared g (suc n) s) (λ v t _. clear-rows g n h t)
 

@@ -22,7 +22,7 @@ use Rattle.ring.specs.Slot.{countOf}
 use Rattle.ring.specs.Waiting.{SamePlace}
 use Rattle.ring.specs.Laws.{place-placed, reset-count, reset-waits, reset-ring}
 use Rattle.model.specs.Script.{bus-reset}
-use Rattle.model.specs.Alike.{quiet, mid}
+use Rattle.model.specs.Simulates.{quiet, mid}
 use Rattle.model.specs.Statics.{isoOuts, withSetup}
 use Rattle.model.specs.Statics as statics
 use Rattle.model.specs.Machine.{Buf}
@@ -31,7 +31,7 @@ use Rattle.model_ops.specs.RingLaws.{renewed}
 use Rattle.model_ops.specs.Rings.{resetBelow, resetAll}
 use Rattle.proof_book.specs.Pages.{OutPage, InPage, Pages}
 use Rattle.proof_book.specs.Book.{emptyOut, emptyIn, allReset}
-use Rattle.proof_book.specs.Rest.{SameKept, lensOf, slotStamps, Held, OutFits, InFits, Rest}
+use Rattle.proof_book.specs.Coupling.{SameKept, lensOf, slotStamps, Held, OutFits, InFits, Coupling}
 use Rattle.proof_book.specs.Lens.{ep-mod, key-other}
 use Rattle.proof_book.specs.Stamps.{none-stamps}
 use Rattle.proof_book.specs.Frame.{Keeps, rebuilt, changed-on, out-moved, in-moved, none-stands}
@@ -157,7 +157,7 @@ unfolding resetAll noStamps epOn
 reset-ep d z dir x = reset-below 16 d (omega arith) z .these dir x (omega arith)
 
 -- all of them, and no setup packet
-module _ {b : Buf} {d : Driver} {t : Pages} (R : Rest (mid bus-reset 1) b d t) where
+module _ {b : Buf} {d : Driver} {t : Pages} (R : Coupling (mid bus-reset 1) b d t) where
   all-below : Below 16 d (resetBelow 16 d)
   all-below = reset-below 16 d (omega arith) (R .sized)
 
@@ -201,7 +201,7 @@ module _ {b : Buf} {d : Driver} {t : Pages} (R : Rest (mid bus-reset 1) b d t) w
   unfolding isoOuts
   all-disabled x = ap (λ (g : Globals). isSet (isoOuts g) (x % 16)) all-globals ∙ R .arming x .0
 
-  pub all-reset : Rest (mid bus-reset 0) b (resetAll d) (allReset t)
+  pub all-reset : Coupling (mid bus-reset 0) b (resetAll d) (allReset t)
   all-reset = rebuilt R all-keeps refl (record {
     step = omega arith;
     same = all-same;
@@ -215,7 +215,7 @@ module _ {b : Buf} {d : Driver} {t : Pages} (R : Rest (mid bus-reset 1) b d t) w
 
 -- ---- its steps
 
-pub reset-first : (b : Buf) (d : Driver) (t : Pages) → Rest quiet b d t → RowStep bus-reset 3 b d t
+pub reset-first : (b : Buf) (d : Driver) (t : Pages) → Coupling quiet b d t → RowStep bus-reset 3 b d t
 reset-first b d t R = (
   refl,
   globals-changed R (withEpConfig 0 (d .globals)) (withEpConfig 0 (t .kept .globals)) (ap (withEpConfig 0) (R .same .globals)) refl refl refl refl (omega arith)
@@ -223,7 +223,7 @@ reset-first b d t R = (
   tt,
 )
 
-pub reset-next : (n : ℕ) (b : Buf) (d : Driver) (t : Pages) → Rest (mid bus-reset (suc n)) b d t → RowStep bus-reset n b d t
+pub reset-next : (n : ℕ) (b : Buf) (d : Driver) (t : Pages) → Coupling (mid bus-reset (suc n)) b d t → RowStep bus-reset n b d t
 unfolding isoOuts
 reset-next zero b d t R = (refl, all-reset R, tt)
 reset-next (suc zero) b d t R = (refl, phase-changed R (omega arith) (R .arming), tt)

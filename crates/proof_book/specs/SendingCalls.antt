@@ -19,9 +19,9 @@ use Rattle.bits.specs.Bit.{isSet}
 use Rattle.ring.specs.Slot.{slotOf, slotAddr, countOf}
 use Rattle.model.specs.Tree as tree
 use Rattle.model.specs.Tree.{ends, asks}
-use Rattle.model.specs.Cells.{Plain}
+use Rattle.model.specs.Cells.{EpCore}
 use Rattle.model.specs.Script.{run}
-use Rattle.model.specs.Alike as phases
+use Rattle.model.specs.Simulates as phases
 use Rattle.model.specs.Statics.{isOn}
 use Rattle.model.specs.Answers.{Answer}
 use Rattle.model.specs.Calls.{Config, Op, interrupt, slotted, other, aside, calls, starting, startRow}
@@ -33,7 +33,7 @@ use Rattle.proof_book.specs.Book.{Bk, some, front, roomB, waitsOn, queue
 use Rattle.proof_book.specs.Book.{book}
 use Rattle.proof_book.specs.Frame.{at-elim, in-same, sending-count}
 use Rattle.proof_book.specs.Held.{held-length}
-use Rattle.proof_book.specs.Rest.{Shape, Rest}
+use Rattle.proof_book.specs.Coupling.{Shape, Coupling}
 use Rattle.proof_book.specs.FrontPage.{written, EmptiedIn, slotSize, BeingSent, Sends, still, passed-by, emptied}
 use Rattle.proof_book.specs.BookTracks.{end, ask}
 use Rattle.proof_book.specs.InterruptParts.{of-interrupt}
@@ -251,7 +251,7 @@ told-source {y = y} z s e x h l =
 parity : (head tail turn count : ℕ) → tail < 256 → head % 2 ≡ turn → (head + 256 - tail) % 256 ≡ count → tail % 2 ≡ (turn + count) % 2
 parity head tail turn count t h c = omega (arith, t, h, c)
 
-module _ {φ : phases.Phase} {b : Buf} {d : Driver} {t : Pages} (R : Rest φ b d t) (e : ℕ) (s : BeingSent t e) where
+module _ {φ : phases.Phase} {b : Buf} {d : Driver} {t : Pages} (R : Coupling φ b d t) (e : ℕ) (s : BeingSent t e) where
   abbrev r : EpState
   r = epOn d In e
 
@@ -270,13 +270,13 @@ module _ {φ : phases.Phase} {b : Buf} {d : Driver} {t : Pages} (R : Rest φ b d
       R .ins e .stands .slot s
       ∙ ap (λ (n : ℕ). (r .base + n * r .stride) % 2 ^ 32) tail-slot
       ∙ ap (λ (n : ℕ). (r .base + ((t .ins e .turn + length (t .ins e .waiting)) % 2) * n) % 2 ^ 32) (sent-size R e s)
-      ∙ ap (λ (p : Plain). (p .base + ((t .ins e .turn + length (t .ins e .waiting)) % 2) * slotSize t) % 2 ^ 32) (R .same .plain In e)
+      ∙ ap (λ (p : EpCore). (p .base + ((t .ins e .turn + length (t .ins e .waiting)) % 2) * slotSize t) % 2 ^ 32) (R .same .plain In e)
 
   one-waits : (w : List (List ℕ)) → t .ins e .waiting ≡ w → (bytes : List ℕ) × (front w ≡ bytes ∷ [])
   one-waits [] h = absurd (omega (arith, sending-count (R .ins e) s, held-length (R .ins e .held), ap (λ (w : List (List ℕ)). length w) h))
   one-waits (p ∷ w) h = (p, refl)
 
-pub sends-of : {φ ψ : phases.Phase} {b c : Buf} {d d′ : Driver} {t t′ : Pages} → Rest φ b d t → Rest ψ c d′ t′
+pub sends-of : {φ ψ : phases.Phase} {b c : Buf} {d d′ : Driver} {t t′ : Pages} → Coupling φ b d t → Coupling ψ c d′ t′
     → (e : ℕ) → BeingSent t e → Fate e t t′ → Sends e t t′
 sends-of R R′ e s (goes g) =
     let same-slot = source-spot R′ e (g .sending) ∙ ap (λ (n : ℕ). n % 2 ^ 32) (g .place) ∙ sym (source-spot R e s) in

@@ -20,11 +20,11 @@ use Rattle.alloc.specs.Alloc.{if, refused, allocateOf, allocateEp0Of, withNext}
 use Rattle.alloc.specs.Outcome.{Outcome, six, seven, eight, given, outcome}
 use Rattle.marks.specs.Copies.{copied}
 use Rattle.model.specs.Tree as tree
-use Rattle.model.specs.Cells.{Plain, Cell, Val, globals-cell, control-cell, allocator-cell, ep-cell, request-cell}
+use Rattle.model.specs.Cells.{EpCore, Cell, Val, globals-cell, control-cell, allocator-cell, ep-cell, request-cell}
 use Rattle.model.specs.Cells.{paced-cell}
 use Rattle.model.specs.Script.{Script, run, rows, Act, complete, reset-ring, set-enabled, fill, fill0, open-oldest}
-use Rattle.model.specs.Script.{close-oldest, take-oldest, enqueue, allocate, allocate0, no-wakes, waken, Hand}
-use Rattle.model.specs.Script.{arrive, send, place, place0, Row, switch, bus-reset, lastOf}
+use Rattle.model.specs.Script.{close-oldest, take-oldest, enqueue, allocate, allocate0, no-wakes, waken, DmaStep}
+use Rattle.model.specs.Script.{arrive, send, place, place0, Burst, switch, bus-reset, lastOf}
 use Rattle.model.specs.Machine.{Buf}
 use Rattle.proof_book.specs.Pages.{InPage, Pages, withIn, withKept, keptAllocator, keptPlain}
 use Rattle.proof_book.specs.Book.{Bk, some, front, mergedPlain, shapedPlain, emptyIn, passedIn, sentIn, sourceTold}
@@ -284,7 +284,7 @@ puts (ep-cell In f) v s i =
     let k = s .0 .kept .plain In in
     record {
       ins = λ e. refl;
-      base = λ e. at-elim (λ (p : Plain). p .base ≡ k e .base) f e (mergedPlain (k f) v) k (λ m. i .bases f e (sym m)) (λ _. refl);
+      base = λ e. at-elim (λ (p : EpCore). p .base ≡ k e .base) f e (mergedPlain (k f) v) k (λ m. i .bases f e (sym m)) (λ _. refl);
       size = refl;
     }
 puts (request-cell d f) v s i = record { ins = λ e. refl; base = λ e. refl; size = refl }
@@ -311,7 +311,7 @@ started-size a maximum = by (eqb maximum 64) (ltb (a .size) maximum) (leb (a .co
     by true false false = refl
 
 -- an IN that is allocated
-module _ (t : Pages) (f : ℕ) (v : Plain) (i : Orderly t) where
+module _ (t : Pages) (f : ℕ) (v : EpCore) (i : Orderly t) where
   abbrev shaped : Pages
   shaped = withIn (withKept t (keptPlain (t .kept) In f v)) f emptyIn
 
@@ -329,7 +329,7 @@ module _ (t : Pages) (f : ℕ) (v : Plain) (i : Orderly t) where
     };
   }
     where
-      k : ℕ → Plain
+      k : ℕ → EpCore
       k = t .kept .plain In
 
       by-number : (x y : ℕ) → x % 16 ≡ y % 16 → (u : Bool) → eqb (x % 16) (f % 16) ≡ u
@@ -468,7 +468,7 @@ loaded-sends p b = by (some (p .waiting))
     by true h = refl
     by false h = never h
 
-hands : (q : Hand) (s : Bk) → Orderly (s .0) → Done Either (s .0) (handB q s .1 .0)
+hands : (q : DmaStep) (s : Bk) → Orderly (s .0) → Done Either (s .0) (handB q s .1 .0)
 hands (arrive f n) s i = done-weaker (calm-done i (calm-or (receiving (s .0) f) (record { ins = λ e. refl; base = λ e. refl; size = refl }) calm))
 hands (send f) s i =
     let p = s .0 .ins f in
@@ -492,7 +492,7 @@ switches f onn (suc zero) t = record { ins = λ e. refl; base = λ e. refl; size
 switches f onn (suc (suc zero)) t = calm
 switches f onn (suc (suc (suc k))) t = calm-or (isoOf t Out f && eqb k 15) (record { ins = λ e. refl; base = λ e. refl; size = refl }) calm
 
-row-steps : (g : Row) (n : ℕ) (s : Bk) → Orderly (s .0) → Done Either (s .0) (rowB g n s .1 .0)
+row-steps : (g : Burst) (n : ℕ) (s : Bk) → Orderly (s .0) → Done Either (s .0) (rowB g n s .1 .0)
 row-steps (switch f onn) n s i = done-weaker (calm-done i (switches f onn n (s .0)))
 row-steps bus-reset n s i = done-weaker (resets n (s .0) i)
 
@@ -522,7 +522,7 @@ asks-quietly false s i q = done-weaker (calm-done i calm) .follows
 after : {A : Type 0} (u : Bool) {s t : Bk} {o : tree.Out Bk A} → WithinOf u s t → Followed u t o → Followed u s o
 after u h w = earlier Orderly (WithinOf u) (AskedOf u) (within-then u) (asked-then u) h w
 
-follow-rows : {A : Type 0} (g : Row) (n : ℕ) {k : Bk → tree.Out Bk A} → ((t : Bk) → Orderly (t .0) → Followed false t (k t)) → (s : Bk) → Orderly (s .0)
+follow-rows : {A : Type 0} (g : Burst) (n : ℕ) {k : Bk → tree.Out Bk A} → ((t : Bk) → Orderly (t .0) → Followed false t (k t)) → (s : Bk) → Orderly (s .0)
     → Followed false s (rows bookOps g n k s)
 follow-rows g zero h s i = let m = row-steps g zero s i in ask (m .orderly) (m .follows) (λ v t j. h t j)
 follow-rows g (suc n) h s i = let m = row-steps g (suc n) s i in ask (m .orderly) (m .follows) (λ v t j. follow-rows g n h t j)

@@ -14,23 +14,23 @@ use Rattle.state.specs.declared.Allocator.{Allocator}
 use Rattle.state.specs.Driver.{Driver, epOn}
 use Rattle.alloc.specs.Alloc.{allocatedIn}
 use Rattle.ring.specs.Slot.{countOf}
-use Rattle.model.specs.Alike.{Phase}
+use Rattle.model.specs.Simulates.{Phase}
 use Rattle.model.specs.Statics.{isOn}
 use Rattle.model.specs.Answers.{Answer}
 use Rattle.model.specs.Calls.{Config, Op, calls}
 use Rattle.model.specs.Machine.{Buf, Call, start, begin, go, question, misfit, Machine, Ans, ended, handed, told}
 use Rattle.model.specs.Agree.{After, GoodA, Lent, unless}
-use Rattle.machine.specs.Under.{driverOf}
+use Rattle.machine.specs.Suspended.{driverOf}
 use Rattle.proof_book.specs.Pages.{Pages}
 use Rattle.proof_book.specs.Book.{book}
-use Rattle.proof_book.specs.Rest.{Shape, Used, Rest, Good, Chip}
+use Rattle.proof_book.specs.Coupling.{Shape, Used, Coupling, Good, Chip}
 use Rattle.proof_book.specs.Frame.{sending-count}
 use Rattle.proof_book.specs.Chips.{chip}
 use Rattle.proof_book.specs.Agrees.{agree}
 use Rattle.proof_book.specs.FrontPage.{slotSize, Unwritten, LiesIn, Inside, LentAsLeft}
 use Rattle.proof_book.specs.FrontPage as page
 
-module _ {φ : Phase} {b : Buf} {d : Driver} {t : Pages} (R : Rest φ b d t) where
+module _ {φ : Phase} {b : Buf} {d : Driver} {t : Pages} (R : Coupling φ b d t) where
   -- an endpoint on which some wait is isochronous, and so allocated: its slots are of the buffers' size
   pub sent-used : (e : ℕ) → t .ins e .sending ≡ true → (isOn (epOn d In e .iso) ≡ true) × Used (d .allocator) In (epOn d In e)
   unfolding isOn
@@ -76,7 +76,7 @@ module _ {x : Ans Answer × Machine Answer Driver} {y : Ans Answer × Machine An
   lies-inside = inside-after (x .0) (x .1 .buf) (y .1 .st) (a .good)
 
 -- the premise is demand3's: row 1 goes by the same length
-module _ {φ : Phase} (m : Machine Answer Driver) (n : Machine Answer Pages) (R : Rest φ (m .buf) (m .st) (n .st)) (b : Buf) where
+module _ {φ : Phase} (m : Machine Answer Driver) (n : Machine Answer Pages) (R : Coupling φ (m .buf) (m .st) (n .st)) (b : Buf) where
   lent-as : (f : Bool → Bool) → page.unless (f (misfit calls (book .driver) (n .st) b)) (Chip (n .st) (m .buf) b)
       → unless driverOf book agree calls (f (misfit calls driverOf (m .st) b)) (Chip (n .st) (m .buf) b)
   lent-as f p = by (f (misfit calls driverOf (m .st) b)) (rw (← same) at p)

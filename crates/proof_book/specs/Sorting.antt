@@ -28,24 +28,24 @@ use Rattle.alloc.specs.Run.{endpoint, ep0, Step, kept, gave-ep0, step}
 use Rattle.alloc.specs.Sound.{Sound, sound-call}
 use Rattle.model.specs.Script.{Act, complete, reset-ring, set-enabled, fill, fill0, open-oldest, close-oldest, take-oldest, enqueue, allocate, allocate0, no-wakes, waken}
 use Rattle.model.specs.Statics.{isOn}
-use Rattle.model.specs.Alike.{Phase}
+use Rattle.model.specs.Simulates.{Phase}
 use Rattle.model.specs.Answers.{Answer}
 use Rattle.model.specs.Machine.{Buf, Event, Machine, start}
 use Rattle.model.specs.Calls.{Config, Op, calls, startRow}
-use Rattle.model.specs.Sorts.{Sorts, Among}
+use Rattle.model.specs.TransferKinds.{TransferKinds, Among}
 use Rattle.model_ops.specs.Records.{withIsoSets, isoAdded, withSets, recordGiven, setsGiven, givenTo, allocatedOn, startedWith, allocatedEp0}
 use Rattle.model_ops.specs.Rings.{St}
-use Rattle.model_ops.specs.Conc.{conc}
-use Rattle.machine.specs.Under.{driverOf}
+use Rattle.model_ops.specs.Concrete.{concrete}
+use Rattle.machine.specs.Suspended.{driverOf}
 use Rattle.proof_book.specs.Pages.{Pages}
-use Rattle.proof_book.specs.Rest.{Rest, Shape}
+use Rattle.proof_book.specs.Coupling.{Coupling, Shape}
 use Rattle.proof_book.specs.Cells.{key-by, on-key}
 use Rattle.proof_book.specs.Allocations.{fresh-kept}
-use Rattle.proof_book.specs.Sorts.{Steady, others, Has, put-steady, act-steady, hand-steady, row-steady}
+use Rattle.proof_book.specs.TransferKinds.{Steady, others, Has, put-steady, act-steady, hand-steady, row-steady}
 use Rattle.proof_book.specs.Always.{Invariant, after, from-accepted}
 
 -- an endpoint's sort is its record's flag
-abbrev pub sortsOf : Driver → Sorts
+abbrev pub sortsOf : Driver → TransferKinds
 sortsOf d dir e = isOn (epOn d dir e .iso)
 
 pub record Sorting (d : Driver) : Type 0 where
@@ -206,7 +206,7 @@ allocated-sorting {d = d} k dir kind address maximum interval z s (given e base 
 
 -- ---- each operation
 
-acts : (q : Act) (s : St) → Sorting (s .0) → Sorting (conc .act q s .0)
+acts : (q : Act) (s : St) → Sorting (s .0) → Sorting (concrete .act q s .0)
 unfolding allocatedOn allocatedEp0
 acts (complete e) s k = steady-sorting (act-steady (complete e) refl s) k
 acts (reset-ring dir e) s k = steady-sorting (act-steady (reset-ring dir e) refl s) k
@@ -234,7 +234,7 @@ keeps = record {
 
 -- ---- start-up
 
-unshaped : {φ : Phase} {b : Buf} {d : Driver} {t : Pages} → Rest φ b d t → (dir : Dir) (e : ℕ) → isSet (takenIn (d .allocator) dir) (e % 16) ≡ false → sortsOf d dir e ≡ false
+unshaped : {φ : Phase} {b : Buf} {d : Driver} {t : Pages} → Coupling φ b d t → (dir : Dir) (e : ℕ) → isSet (takenIn (d .allocator) dir) (e % 16) ≡ false → sortsOf d dir e ≡ false
 unfolding isOn
 unshaped {d = d} r dir e h = by (isSet (allocatedIn (d .allocator) dir) (e % 16)) refl (r .shape dir e)
   where

@@ -11,7 +11,7 @@ use Rattle.state.specs.State.{view}
 use Rattle.model.specs.Answers.{Answer}
 use Rattle.model.specs.Calls.{Config, Op}
 use Rattle.model.specs.Machine.{Buf, Call, start, begin, go, question, Event, Ans, ended, handed, told, Way, idle, busy, Machine}
-use Rattle.machine.specs.Under.{drive, machineOf}
+use Rattle.machine.specs.Suspended.{drive, machineOf}
 use Rattle.proof_book.specs.FrontPage.{Made, ringStamps}
 
 -- ---- "that reading": the number that the first continue of the operation under way brought

@@ -18,23 +18,23 @@ use Rattle.state.specs.Driver.{Driver, key, stampKey, noEp, epOn, stampOn}
 use Rattle.model.specs.Tree as tree
 use Rattle.model.specs.Tree.{ends, asks}
 use Rattle.model.specs.Script.{run}
-use Rattle.model.specs.Alike.{Phase}
+use Rattle.model.specs.Simulates.{Phase}
 use Rattle.model.specs.Answers.{Answer, Refused, resultless}
 use Rattle.model.specs.Calls.{Config, Op, interrupt, slotted, other, aside, Aside, asideCode, code, calls, startRow, interruptCode}
 use Rattle.model.specs.Handler.{onInterrupt, stampedInterrupt}
 use Rattle.model.specs.Machine.{Buf, Call, start, begin, go, question, Event, Ans, ended, handed, told, Awaits, awaited, Way, idle, busy, Machine, fed, blankA, over, misfit, stay, lentTo, beside, halt, begun, started}
 use Rattle.model.specs.Agree.{Ways, both-idle, both-busy, After, agrees, from-start}
 use Rattle.model_ops.specs.Rings.{St}
-use Rattle.model_ops.specs.Conc.{conc}
+use Rattle.model_ops.specs.Concrete.{concrete}
 use Rattle.state.specs.State.{view}
-use Rattle.machine.specs.Under.{driverOf, drive, machineOf}
+use Rattle.machine.specs.Suspended.{driverOf, drive, machineOf}
 use Rattle.proof_book.specs.Pages.{stampsOf, Pages}
 use Rattle.proof_book.specs.Stamps.{stamped}
 use Rattle.proof_book.specs.Book.{Bk, joined, slotTold, bookOps, book}
-use Rattle.proof_book.specs.Rest.{Rest}
+use Rattle.proof_book.specs.Coupling.{Coupling}
 use Rattle.proof_book.specs.Allocations.{fresh-kept}
 use Rattle.proof_book.specs.Agrees.{agree}
-use Rattle.proof_book.specs.FrontPage.{Made, Did, written, Calls, ringStamps}
+use Rattle.proof_book.specs.FrontPage.{Made, CallStep, written, Calls, ringStamps}
 use Rattle.proof_book.specs.MachineRuns.{Premise}
 use Rattle.proof_book.specs.SlotsKept.{lent-is}
 use Rattle.proof_book.specs.Keeping.{Throughout, at-end, at-ask, At, keeps-run}
@@ -100,14 +100,14 @@ stamps-mod : (d : Driver) (e f : ℕ) → e % 16 ≡ f % 16 → ringStamps d e �
 unfolding epOn key stampOn stampKey
 stamps-mod d e f h = ap (λ j. stamped (getD (d .eps) j noEp) (tab 16 (λ i. getD (d .stamps) (j * 16 + i % 16) 0))) h
 
-even-of : {φ : Phase} {b : Buf} {d : Driver} {t : Pages} → Rest φ b d t → Even t
+even-of : {φ : Phase} {b : Buf} {d : Driver} {t : Pages} → Coupling φ b d t → Even t
 even-of {d = d} R e f h = sym (R .outs e .stamps) ∙ stamps-mod d e f h ∙ R .outs f .stamps
 
-kept-of : {φ : Phase} {b : Buf} {d : Driver} {t : Pages} {x : ℕ} → Rest φ b d t → d .globals .entered ≡ x → (c : Buf) → Kept x (t, c)
+kept-of : {φ : Phase} {b : Buf} {d : Driver} {t : Pages} {x : ℕ} → Coupling φ b d t → d .globals .entered ≡ x → (c : Buf) → Kept x (t, c)
 kept-of R h c = record { entered = sym (ap (λ (g : Globals). g .entered) (R .same .globals)) ∙ h; even = even-of R }
 
 -- one more, where it joined
-one-more : {φ ψ : Phase} {b c : Buf} {d d′ : Driver} {t t′ : Pages} (w : ℕ) → Rest φ b d t → Rest ψ c d′ t′ → Joins (indexOf w) t t′ → OneMore (brought w) d d′
+one-more : {φ ψ : Phase} {b c : Buf} {d d′ : Driver} {t t′ : Pages} (w : ℕ) → Coupling φ b d t → Coupling ψ c d′ t′ → Joins (indexOf w) t t′ → OneMore (brought w) d d′
 one-more {d = d} {d′ = d′} {t = t} {t′ = t′} w R R′ j e h =
     ⊎-elim
     (λ p. absurd (let z : length (ringStamps d′ e) ≡ length (ringStamps d e) = ap length (R′ .outs e .stamps ∙ p ∙ sym (R .outs e .stamps)) in
@@ -115,7 +115,7 @@ one-more {d = d} {d′ = d′} {t = t} {t′ = t′} w R R′ j e h =
     (λ p. (indexOf w, refl, R′ .outs e .stamps ∙ p ∙ ap (λ (l : List ℕ). l ++ (indexOf w ∷ [])) (sym (R .outs e .stamps))))
     (j e)
 
-none-more : {φ ψ : Phase} {b c : Buf} {d d′ : Driver} {t t′ : Pages} (f : First) → Rest φ b d t → Rest ψ c d′ t′ → Stays t t′ → OneMore f d d′
+none-more : {φ ψ : Phase} {b c : Buf} {d d′ : Driver} {t t′ : Pages} (f : First) → Coupling φ b d t → Coupling ψ c d′ t′ → Stays t t′ → OneMore f d d′
 none-more {d = d} {d′ = d′} f R R′ s e h =
     absurd (let z : length (ringStamps d′ e) ≡ length (ringStamps d e) = ap length (R′ .outs e .stamps ∙ s e ∙ sym (R .outs e .stamps)) in
     omega (arith, z, h))
@@ -148,7 +148,7 @@ serves-on (brought v) (busy true a k) d d′ e h = (e ∙ h .0, h .1)
 
 -- open, close and queue during an interrupt leave the driver's index
 aside-entered : (o : Aside) (w : Way Answer Driver) (d : Driver) (b : Buf)
-    → beside calls driverOf (record { way = w; st = d; buf = b }) (run conc (asideCode o) (d, b)) .1 .st .globals .entered ≡ d .globals .entered
+    → beside calls driverOf (record { way = w; st = d; buf = b }) (run concrete (asideCode o) (d, b)) .1 .st .globals .entered ≡ d .globals .entered
 aside-entered o w d b = by (keeps-run (d .globals .entered) (asideCode o) (of-aside (d .globals .entered) o) (d, b) refl)
   where
     by : {P : Answer → Type 0} {z : tree.Out St Answer} → Throughout (At (d .globals .entered)) P z
@@ -194,9 +194,9 @@ record Went (f : First) (n : ℕ) (t : Pages) (d d′ : Driver) (y : Ans Answer 
   serves : Serves (noticed (go n) (y .0) f) (y .1 .way) d′
   more : OneMore (noticed (go n) (y .0) f) d d′
 
-module _ {φ ψ : Phase} {c c′ : Buf} {d d′ : Driver} {t : Pages} (R : Rest φ c d t) (b : Buf) (x : Ans Answer) (n : ℕ) (f : First) where
+module _ {φ ψ : Phase} {c c′ : Buf} {d d′ : Driver} {t : Pages} (R : Coupling φ c d t) (b : Buf) (x : Ans Answer) (n : ℕ) (f : First) where
   went : (w : ℕ) → firstOf n f ≡ brought w → {o : tree.Out Bk Answer} → Grows (indexOf w) Any (t, b) o
-      → let y = halt calls (book .driver) (fed book x) true o in Rest ψ c′ d′ (y .1 .st) → Went f n t d d′ y
+      → let y = halt calls (book .driver) (fed book x) true o in Coupling ψ c′ d′ (y .1 .st) → Went f n t d d′ y
   went w e (ends-so s k p) R′ = record { serves = tt; more = none-more f R R′ s }
   went w e (asks-so {q = q} {t = u} {k = g} j k h) R′ =
       let i : d′ .globals .entered ≡ indexOf w = ap (λ (g : Globals). g .entered) (R′ .same .globals) ∙ fed-entered x (u .0) ∙ k in
@@ -206,7 +206,7 @@ module _ {φ ψ : Phase} {c c′ : Buf} {d d′ : Driver} {t : Pages} (R : Rest 
       }
 
   goes-on : (a : Awaits) (k : ℕ → Bk → tree.Out Bk Answer) → Serves f (busy true a k) d
-      → let y = halt calls (book .driver) (fed book x) true (k n (t, b)) in Rest ψ c′ d′ (y .1 .st) → Went f n t d d′ y
+      → let y = halt calls (book .driver) (fed book x) true (k n (t, b)) in Coupling ψ c′ d′ (y .1 .st) → Went f n t d d′ y
   goes-on a k h R′ = by f refl h
     where
       by : (g : First) → g ≡ f → Serves g (busy true a k) d → Went f n t d d′ (halt calls (book .driver) (fed book x) true (k n (t, b)))
@@ -214,7 +214,7 @@ module _ {φ ψ : Phase} {c c′ : Buf} {d d′ : Driver} {t : Pages} (R : Rest 
       by (brought w) e h = went w (ap (firstOf n) (sym e)) (h .1 n (t, b) (kept-of R (h .0) b)) R′
 
   -- refused
-  stayed : (w : Way Answer Pages) (z : Buf) (r : ℕ) → Serves f w d → Rest ψ c′ d′ t
+  stayed : (w : Way Answer Pages) (z : Buf) (r : ℕ) → Serves f w d → Coupling ψ c′ d′ t
       → Went f n t d d′ (stay calls (book .driver) r (record { way = w; st = t; buf = z }))
   stayed w z r h R′ = record {
     serves = serves-on f w d d′ (ap (λ (g : Globals). g .entered) (R′ .same .globals ∙ sym (R .same .globals))) h;
@@ -222,7 +222,7 @@ module _ {φ ψ : Phase} {c c′ : Buf} {d d′ : Driver} {t : Pages} (R : Rest 
   }
 
   go-serves : (a : Awaits) (k : ℕ → Bk → tree.Out Bk Answer) → Serves f (busy true a k) d
-      → (z : Buf) → let y = written x (go n) (record { way = busy true a k; st = t; buf = z }) b in Rest ψ c′ d′ (y .1 .st) → Went f n t d d′ y
+      → (z : Buf) → let y = written x (go n) (record { way = busy true a k; st = t; buf = z }) b in Coupling ψ c′ d′ (y .1 .st) → Went f n t d d′ y
   go-serves a k h z = by (misfit calls (book .driver) t b) (over calls a n)
     where
       m : Machine Answer Pages
@@ -230,7 +230,7 @@ module _ {φ ψ : Phase} {c c′ : Buf} {d d′ : Driver} {t : Pages} (R : Rest 
 
       by : (g g′ : Bool) → let y = cond g (stay calls (book .driver) 1 m)
           (cond g′ (stay calls (book .driver) 16 (lentTo calls (book .driver) m b)) (halt calls (book .driver) (fed book x) true (k n (t, b)))) in
-          Rest ψ c′ d′ (y .1 .st) → Went f n t d d′ y
+          Coupling ψ c′ d′ (y .1 .st) → Went f n t d d′ y
       by true g′ R′ = stayed (busy true a k) z 1 h R′
       by false true R′ = stayed (busy true a k) b 16 h R′
       by false false R′ = goes-on a k h R′
@@ -300,7 +300,7 @@ record Step (c : Call Config Op) (w : Way Answer Driver) (d : Driver) (f : First
 
 -- told by the book's answer
 step : (c : Call Config Op) (b : Buf) {φ : Phase} (w : Way Answer Driver) (d : Driver) (a : Buf) (w′ : Way Answer Pages) (t : Pages) (a′ : Buf)
-    (f : First) → Ways driverOf book agree calls φ w w′ → Rest φ a d t → Serves f w′ d
+    (f : First) → Ways driverOf book agree calls φ w w′ → Coupling φ a d t → Serves f w′ d
     → let x = drive c (record { way = w; st = d; buf = a }) b in
     let y = written (x .0) c (record { way = w′; st = t; buf = a′ }) b in
     After driverOf book agree calls x y → Step c w d (noticed c (y .0) f) x y
@@ -337,7 +337,7 @@ step (question q) b w d a w′ t a′ f v R h k = record { serves = h; stamps = 
 -- ---- every list of calls
 
 one : (c : Call Config Op) (b : Buf) {φ : Phase} (m : Machine Answer Driver) (n : Machine Answer Pages) (f : First)
-    → Ways driverOf book agree calls φ (m .way) (n .way) → Rest φ (m .buf) (m .st) (n .st) → Serves f (n .way) (m .st)
+    → Ways driverOf book agree calls φ (m .way) (n .way) → Coupling φ (m .buf) (m .st) (n .st) → Serves f (n .way) (m .st)
     → let x = drive c m b in
     let y = written (x .0) c n b in
     After driverOf book agree calls x y → Step c (m .way) (m .st) (noticed c (x .0) f) x y
@@ -348,7 +348,7 @@ one c b m n f w R h k =
     (step c b (m .way) (m .st) (m .buf) (n .way) (n .st) (n .buf) f w R h k)
 
 each : (es : List (Event Config Op)) {φ : Phase} (m : Machine Answer Driver) (n : Machine Answer Pages) (f : First)
-    → Ways driverOf book agree calls φ (m .way) (n .way) → Rest φ (m .buf) (m .st) (n .st) → Serves f (n .way) (m .st)
+    → Ways driverOf book agree calls φ (m .way) (n .way) → Coupling φ (m .buf) (m .st) (n .st) → Serves f (n .way) (m .st)
     → Premise es m n → StampsEach es m f
 each [] m n f w R h l = tt
 each (e ∷ es) m n f w R h l =
@@ -369,7 +369,7 @@ stamps-each c b row es m n p =
 -- ---- of the code
 
 made-each : (ms : List Made) {φ : Phase} (xs : List ℕ) (a : Buf) (n : Machine Answer Pages) (f : First)
-    → Ways driverOf book agree calls φ (machineOf xs a .way) (n .way) → Rest φ a (view xs) (n .st) → Serves f (n .way) (view xs)
+    → Ways driverOf book agree calls φ (machineOf xs a .way) (n .way) → Coupling φ a (view xs) (n .st) → Serves f (n .way) (view xs)
     → Calls xs a n ms → StampsMade xs a f ms
 made-each [] xs a n f w R h r = tt
 made-each (m ∷ ms) xs a n f w R h r =
@@ -383,7 +383,7 @@ made-each (m ∷ ms) xs a n f w R h r =
 
 -- any bytes, a start-up that rows 1 and 2 do not stop, and then any calls whose contracts say what they are steps of
 pub code-stamps : (c : Config) (b : Buf) → startRow c b ≡ zero → (xs : List ℕ) (a : Buf) (n : Machine Answer Pages) (first : Made)
-    → first .event ≡ record { call = start c; lent = b } → Did xs a first → (ms : List Made)
+    → first .event ≡ record { call = start c; lent = b } → CallStep xs a first → (ms : List Made)
     → let y = started calls (book .driver) (fed book (first .answer)) c zero n b in
     Calls (first .bytes) (first .slots) (y .1) ms → StampsMade (first .bytes) (first .slots) not-yet ms
 code-stamps c b row xs a n first e did ms r =

@@ -13,10 +13,10 @@ use Rattle.regs.specs.declared.Dir.the-variants.{Out, In}
 use Rattle.model.specs.Tree as tree
 use Rattle.model.specs.Tree.{ends, asks, bindOut}
 use Rattle.model.specs.Cells.{Cell, Val, globals-cell, control-cell, allocator-cell, ep-cell, request-cell, paced-cell}
-use Rattle.model.specs.Script.{Script, ret, bind, test, read-then, write-then, wait-then, callback-then, get-then, put-then, is-then, look-then, fetch-then, act-then, hand-then, row-then, run, Act, complete, reset-ring, set-enabled, fill, fill0, open-oldest, close-oldest, take-oldest, enqueue, allocate, allocate0, no-wakes, waken, Hand, arrive, send, place, place0}
+use Rattle.model.specs.Script.{Script, ret, bind, test, read-then, write-then, wait-then, callback-then, get-then, put-then, is-then, look-then, fetch-then, act-then, hand-then, row-then, run, Act, complete, reset-ring, set-enabled, fill, fill0, open-oldest, close-oldest, take-oldest, enqueue, allocate, allocate0, no-wakes, waken, DmaStep, arrive, send, place, place0}
 use Rattle.model.specs.Calls.{interrupt}
 use Rattle.proof_book.specs.Pages.{Packet, stampsOf, OutPage, Pages, withOut}
-use Rattle.proof_book.specs.Book.{Bk, joined, turnedAway, arrived, packetB, getB, putB, actB, handB, arriveB, receiving, bookOps, book}
+use Rattle.proof_book.specs.Book.{Bk, joined, overrun, arrived, packetB, getB, putB, actB, handB, arriveB, receiving, bookOps, book}
 use Rattle.proof_book.specs.Keeping.{Says, Gives, Keeps, calm}
 
 -- ---- the book, from a call's beginning to its next access or its end
@@ -134,7 +134,7 @@ arrive-joins x e n s k f = by (receiving (s .0) e)
     q : Packet
     q = packetB e n s
 
-    rooms : (z : Bool) → f % 16 ≡ e % 16 → Either x (s .0) f (stampsOf (cond z (joined p q) (turnedAway p) .waiting))
+    rooms : (z : Bool) → f % 16 ≡ e % 16 → Either x (s .0) f (stampsOf (cond z (joined p q) (overrun p) .waiting))
     rooms true h = inr (map-append (λ (r : Packet). r .stamp) (p .waiting) (q ∷ []) ∙ ap (λ (y : ℕ). stampsOf (p .waiting) ++ (y ∷ [])) (k .entered)
         ∙ ap (λ (l : List ℕ). l ++ (x ∷ [])) (k .even e f (sym h)))
     rooms false h = inl (k .even e f (sym h))
@@ -147,14 +147,14 @@ arrive-joins x e n s k f = by (receiving (s .0) e)
     by true = here (eqb (f % 16) (e % 16)) refl
     by false = inl refl
 
-hand-joins : (x : ℕ) (q : Hand) (s : Bk) → Kept x s → Joins x (s .0) (handB q s .1 .0)
+hand-joins : (x : ℕ) (q : DmaStep) (s : Bk) → Kept x s → Joins x (s .0) (handB q s .1 .0)
 hand-joins x (arrive e n) s k = arrive-joins x e n s k
 hand-joins x (send e) s k = λ f. inl refl
 hand-joins x (place Out e) s k = λ f. inl refl
 hand-joins x (place In e) s k = λ f. inl refl
 hand-joins x place0 s k = λ f. inl refl
 
-hand-entered : (q : Hand) (s : Bk) → handB q s .1 .0 .kept .globals .entered ≡ s .0 .kept .globals .entered
+hand-entered : (q : DmaStep) (s : Bk) → handB q s .1 .0 .kept .globals .entered ≡ s .0 .kept .globals .entered
 hand-entered (arrive e n) s = by (receiving (s .0) e)
   where
     by : (z : Bool) → cond z (withOut (s .0) e (arrived (s .0 .outs e) (packetB e n s))) (s .0) .kept .globals .entered ≡ s .0 .kept .globals .entered

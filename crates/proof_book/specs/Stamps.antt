@@ -8,7 +8,7 @@ use lib.ListN.{length, getD, set}
 use lib.Seq.{getD-set-same, getD-set-other}
 use Rattle.state.specs.declared.EpState.{EpState}
 use Rattle.ring.specs.Slot.{after, slotOf, countOf, joinedOf, passedOf}
-use Rattle.ring.specs.Out.{hasRoomOut, turnedAwayOf, arrivedOf, arrivedLens, closedOf}
+use Rattle.ring.specs.Out.{hasRoomOut, overrunOf, arrivedOf, arrivedLens, closedOf}
 use Rattle.ring.specs.Waiting.{Placed, OutRing, Alike}
 use Rattle.ring.specs.Slots.{slots-some, slot-in}
 use Rattle.ring.specs.Laws.{place-slot, alike-count, head-after, head-away, join-count, pass-count}
@@ -76,7 +76,7 @@ module _ {n : ℕ} {s : EpState} {ls : List ℕ} (g : Placed n s) (a : OutRing s
         ∙ ap₂ _++_ (from-same s (joinedOf s) ss joined (s .tail) (countOf s) (a .tail8) join-old) (ap (λ (x : ℕ). x ∷ []) (join-new w)))
 
     module _ (w : s .slots ≤ length ss) where
-      arrive-by : (t : Bool) → stamped (cond t (joinedOf s) (turnedAwayOf s)) (cond t joined ss) ≡ cond t (stamped s ss ++ (v ∷ [])) (stamped s ss)
+      arrive-by : (t : Bool) → stamped (cond t (joinedOf s) (overrunOf s)) (cond t joined ss) ≡ cond t (stamped s ss ++ (v ∷ [])) (stamped s ss)
       arrive-by true = join-stamps w
       arrive-by false = alike-stamps (turned-alike s) ss (a .tail8)
 

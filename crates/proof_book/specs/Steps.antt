@@ -13,36 +13,36 @@ use Rattle.regs.specs.EnablesLaws.{on-with}
 use Rattle.state.specs.declared.Globals.{Globals}
 use Rattle.state.specs.Kept.{withEpConfig}
 use Rattle.state.specs.Driver.{Driver, epOn, lenOn, stampOn, pacedOn, requestOn, withGlobals}
-use Rattle.model.specs.Script.{Row, rowAsk}
-use Rattle.model.specs.Alike.{Phase, mid}
+use Rattle.model.specs.Script.{Burst, burstAsk}
+use Rattle.model.specs.Simulates.{Phase, mid}
 use Rattle.model.specs.Statics.{isoOuts}
 use Rattle.model.specs.Machine.{Buf, blank}
 use Rattle.model_ops.specs.Rings.{rowOn}
 use Rattle.proof_book.specs.Pages.{Pages, withKept, keptGlobals}
 use Rattle.proof_book.specs.Book.{rowB, feedB}
-use Rattle.proof_book.specs.Rest.{Arming, Step, Rest, Good}
+use Rattle.proof_book.specs.Coupling.{Arming, Step, Coupling, Good}
 use Rattle.proof_book.specs.Frame.{rebuilt, same-place, changed-not, keeps-changed}
 use Rattle.proof_book.specs.Held.{receives-is}
 
 -- what a step of a row has to show
-abbrev pub RowStep : Row → ℕ → Buf → Driver → Pages → Type 0
+abbrev pub RowStep : Burst → ℕ → Buf → Driver → Pages → Type 0
 RowStep g n b d t =
     let x = rowOn g n (d, b) in
-    let t′ = feedB (rowAsk g n (x .0)) (rowB g n (t, b) .1 .0) in
-    (blank (rowAsk g n (x .0)) ≡ blank (rowAsk g n (rowB g n (t, b) .0))) × Rest (mid g n) (x .1 .1) (x .1 .0) t′ × Good (rowAsk g n (x .0)) (x .1 .1) t′
+    let t′ = feedB (burstAsk g n (x .0)) (rowB g n (t, b) .1 .0) in
+    (blank (burstAsk g n (x .0)) ≡ blank (burstAsk g n (rowB g n (t, b) .0))) × Coupling (mid g n) (x .1 .1) (x .1 .0) t′ × Good (burstAsk g n (x .0)) (x .1 .1) t′
 
 -- ---- no record and no byte changed
 
-module _ {φ : Phase} {b : Buf} {d : Driver} {t : Pages} (R : Rest φ b d t) where
+module _ {φ : Phase} {b : Buf} {d : Driver} {t : Pages} (R : Coupling φ b d t) where
   -- nothing but the phase
-  pub phase-changed : {ψ : Phase} → Step ψ → ((e : ℕ) → Arming ψ e (isSet (isoOuts (d .globals)) (e % 16)) (epOn d Out e) (t .outs e)) → Rest ψ b d t
+  pub phase-changed : {ψ : Phase} → Step ψ → ((e : ℕ) → Arming ψ e (isSet (isoOuts (d .globals)) (e % 16)) (epOn d Out e) (t .outs e)) → Coupling ψ b d t
   phase-changed s a = rebuilt R (keeps-changed (changed-not (R .sized) Out 0)) refl
       (record { step = s; same = R .same; outs = R .outs; ins = R .ins; arming = a })
 
   -- the globals, but not the sets of endpoints nor EP0's buffer
   pub globals-changed : {ψ : Phase} (g h : Globals) → g ≡ h → g .stage ≡ d .globals .stage → g .«ep0_buf» ≡ d .globals .«ep0_buf»
       → g .«ep0_max» ≡ d .globals .«ep0_max» → g .«iso_out_eps» ≡ d .globals .«iso_out_eps» → Step ψ
-      → ((e : ℕ) → Arming ψ e (isSet (isoOuts g) (e % 16)) (epOn d Out e) (t .outs e)) → Rest ψ b (withGlobals d g) (withKept t (keptGlobals (t .kept) h))
+      → ((e : ℕ) → Arming ψ e (isSet (isoOuts g) (e % 16)) (epOn d Out e) (t .outs e)) → Coupling ψ b (withGlobals d g) (withKept t (keptGlobals (t .kept) h))
   unfolding epOn lenOn stampOn pacedOn requestOn
   globals-changed g h q stage buf most isos s a = rebuilt R
       (record {

@@ -28,9 +28,9 @@ use Rattle.ring.specs.OutLaws.{armed-alike}
 use Rattle.marks.specs.Marks.{armed}
 use Rattle.marks.specs.Only as marks
 use Rattle.marks.specs.Slots.{armed-slot}
-use Rattle.model.specs.Cells.{Plain}
+use Rattle.model.specs.Cells.{EpCore}
 use Rattle.model.specs.Script.{switch}
-use Rattle.model.specs.Alike.{Phase, quiet, mid}
+use Rattle.model.specs.Simulates.{Phase, quiet, mid}
 use Rattle.model.specs.Statics.{isOn, isoOuts}
 use Rattle.model.specs.Statics as statics
 use Rattle.model.specs.Machine.{Buf}
@@ -38,7 +38,7 @@ use Rattle.model_ops.specs.Records.{plainOf}
 use Rattle.model_ops.specs.Rings.{St, renewedOn, armAt, slotStep, typeStep, configStep}
 use Rattle.proof_book.specs.Pages.{OutPage, Kept, Pages, withKept, withOut, keptPlain}
 use Rattle.proof_book.specs.Book.{emptyOut, slotTold, isoOf, feedB}
-use Rattle.proof_book.specs.Rest.{SameKept, endOf, lensOf, slotStamps, OutFits, AtRest, Switching, InRow, Arming, Rest}
+use Rattle.proof_book.specs.Coupling.{SameKept, endOf, lensOf, slotStamps, OutFits, AtRest, Switching, InRow, Arming, Coupling}
 use Rattle.proof_book.specs.Lens.{ep-mod, lens-on, stamps-on, ep-clear, lens-clear}
 use Rattle.proof_book.specs.Stamps.{alike-stamps}
 use Rattle.proof_book.specs.Frame.{Changed, changed-not, changed-on, changed-clear, changed-trans, kept-same, kept-plain, out-same, out-twice, out-moved, end-kept, out-changed, only-bytes}
@@ -91,9 +91,9 @@ module _ (e : ℕ) (onn : Bool) (n x : ℕ) (u : Bool) (r : EpState) (p : OutPag
 
 -- ---- the kind and the enable word
 
-module _ {φ : Phase} {b : Buf} {d : Driver} {t : Pages} (R : Rest φ b d t) (e : ℕ) where
+module _ {φ : Phase} {b : Buf} {d : Driver} {t : Pages} (R : Coupling φ b d t) (e : ℕ) where
   iso-same : epOn d Out e .iso ≡ t .kept .plain Out e .iso
-  iso-same = ap (λ (p : Plain). p .iso) (R .same .plain Out e)
+  iso-same = ap (λ (p : EpCore). p .iso) (R .same .plain Out e)
 
   -- the word that is written
   word-same : (f : Globals → ℕ) (onn : Bool)
@@ -101,7 +101,7 @@ module _ {φ : Phase} {b : Buf} {d : Driver} {t : Pages} (R : Rest φ b d t) (e 
       ≡ cond (isoOf t Out e) (enables.withOn (f (t .kept .globals)) Out e onn) (f (t .kept .globals))
   word-same f onn i = cond (isOn (iso-same i)) (enables.withOn (f (R .same .globals i)) Out e onn) (f (R .same .globals i))
 
-type-step : (e : ℕ) (onn : Bool) (b : Buf) (d : Driver) (t : Pages) → Rest (mid (switch e onn) 2) b d t → RowStep (switch e onn) 1 b d t
+type-step : (e : ℕ) (onn : Bool) (b : Buf) (d : Driver) (t : Pages) → Coupling (mid (switch e onn) 2) b d t → RowStep (switch e onn) 1 b d t
 unfolding typeStep isoOuts
 type-step e onn b d t R =
     let v = word-same R e (λ g. g .«ep_type») onn in (
@@ -123,7 +123,7 @@ switched r p u u′ true true s h k = record { none = s .none; head = s .head; a
 switched r p u u′ true false s h k = subst (λ w. AtRest w r p) (sym (k refl refl)) s
 switched r p u u′ false iso s h k = subst (λ w. AtRest w r p) (sym (h refl)) s
 
-config-step : (e : ℕ) (onn : Bool) (b : Buf) (d : Driver) (t : Pages) → Rest (mid (switch e onn) 1) b d t → RowStep (switch e onn) 0 b d t
+config-step : (e : ℕ) (onn : Bool) (b : Buf) (d : Driver) (t : Pages) → Coupling (mid (switch e onn) 1) b d t → RowStep (switch e onn) 0 b d t
 unfolding configStep
 config-step e onn b d t R =
     let v = word-same R e (λ g. g .«ep_config») onn in (
@@ -137,7 +137,7 @@ config-step e onn b d t R =
     )
 
 -- ep_rx_ctrl
-rx-step : (e : ℕ) (onn : Bool) (b : Buf) (d : Driver) (t : Pages) → Rest (mid (switch e onn) 3) b d t → RowStep (switch e onn) 2 b d t
+rx-step : (e : ℕ) (onn : Bool) (b : Buf) (d : Driver) (t : Pages) → Coupling (mid (switch e onn) 3) b d t → RowStep (switch e onn) 2 b d t
 rx-step e onn b d t R =
     (refl, phase-changed R (omega arith) (λ x. later e onn 2 x (isSet (isoOuts (d .globals)) (x % 16)) (epOn d Out x) (t .outs x) (omega arith) (R .arming x)), tt)
 
@@ -213,11 +213,11 @@ module _ (d : Driver) (z : Sized d) (e k : ℕ) where
   on-iso = ap (λ (r : EpState). r .iso) on-is
 
 -- from where the record is reset, if it is to be, and its page with it
-module _ {φ : Phase} {b : Buf} {d d₁ : Driver} {t : Pages} (R : Rest φ b d t) (e : ℕ) (onn : Bool) (k : ℕ) {kept : Kept} {p : OutPage}
+module _ {φ : Phase} {b : Buf} {d d₁ : Driver} {t : Pages} (R : Coupling φ b d t) (e : ℕ) (onn : Bool) (k : ℕ) {kept : Kept} {p : OutPage}
     (c : Changed Out e d d₁) (s : SameKept d₁ kept) (f : OutFits b (epOn d₁ Out e) (lensOf d₁ Out e) (slotStamps d₁ e) p) (w : Words (epOn d₁ Out e .stride))
     (i : isOn (epOn d₁ Out e .iso) ≡ true) (none : countOf (epOn d₁ Out e) ≡ 0) (head : epOn d₁ Out e .head ≡ 0) (step : suc (suc (suc k)) ≤ 18)
     (others : (x : ℕ) (u : Bool) → x % 16 ≢ e % 16 → Arming φ x u (epOn d Out x) (t .outs x) → Arming (mid (switch e onn) (suc (suc (suc k)))) x u (epOn d Out x) (t .outs x)) where
-  slot-armed : Rest (mid (switch e onn) (suc (suc (suc k)))) (armed b (slotAddr (epOn d₁ Out e) k) (epOn d₁ Out e .«max_len»)) (armed-on d₁ (c .sized) e k)
+  slot-armed : Coupling (mid (switch e onn) (suc (suc (suc k)))) (armed b (slotAddr (epOn d₁ Out e) k) (epOn d₁ Out e .«max_len»)) (armed-on d₁ (c .sized) e k)
       (withOut (withKept t kept) e (slotTold p (slotAddr (epOn d₁ Out e) k)))
   slot-armed =
       let r₁ = epOn d₁ Out e in
@@ -235,10 +235,10 @@ module _ {φ : Phase} {b : Buf} {d d₁ : Driver} {t : Pages} (R : Rest φ b d t
       (subst (λ y. Switching n y (slotTold p a)) (sym (on-is d₁ (c .sized) e k)) (slot-switching f w k none head)))
 
 -- one that is not isochronous: the address handed out again
-module _ {φ : Phase} {b : Buf} {d : Driver} {t : Pages} (R : Rest φ b d t) (e : ℕ) (onn : Bool) (n : ℕ) (i : isOn (epOn d Out e .iso) ≡ false) (step : n ≤ 18)
+module _ {φ : Phase} {b : Buf} {d : Driver} {t : Pages} (R : Coupling φ b d t) (e : ℕ) (onn : Bool) (n : ℕ) (i : isOn (epOn d Out e .iso) ≡ false) (step : n ≤ 18)
     (rest : (u : Bool) → Arming φ e u (epOn d Out e) (t .outs e) → AtRest u (epOn d Out e) (t .outs e))
     (others : (x : ℕ) (u : Bool) → x % 16 ≢ e % 16 → Arming φ x u (epOn d Out x) (t .outs x) → Arming (mid (switch e onn) n) x u (epOn d Out x) (t .outs x)) where
-  told-again : Rest (mid (switch e onn) n) b d (withOut t e (slotTold (t .outs e) (epOn d Out e .«armed_slot»)))
+  told-again : Coupling (mid (switch e onn) n) b d (withOut t e (slotTold (t .outs e) (epOn d Out e .«armed_slot»)))
   told-again =
       let r = epOn d Out e in
       let f = R .outs e in
@@ -262,7 +262,7 @@ module _ {φ : Phase} {b : Buf} {d : Driver} {t : Pages} (R : Rest φ b d t) (e 
 
 -- ---- the first step: the record reset, no stamp
 
-module _ {φ : Phase} {b : Buf} {d : Driver} {t : Pages} (R : Rest φ b d t) (e : ℕ) where
+module _ {φ : Phase} {b : Buf} {d : Driver} {t : Pages} (R : Coupling φ b d t) (e : ℕ) where
   -- the stamps made new
   cleared-changed : Changed Out e d (clearStamps d e)
   cleared-changed = changed-clear (R .sized) e
@@ -308,9 +308,9 @@ paged iso last e t = cond (iso && last) (withOut (withKept t (keptPlain (t .kept
 abbrev Slotted : (iso iso′ last : Bool) → ℕ → Bool → ℕ → Buf → Driver → Pages → Type 0
 Slotted iso iso′ last e onn k b d t =
     let x = slotted iso last e k d b in
-    Rest (mid (switch e onn) (suc (suc (suc k)))) (x .1 .1) (x .1 .0) (feedB (Receive e (x .0)) (paged iso′ last e t))
+    Coupling (mid (switch e onn) (suc (suc (suc k)))) (x .1 .1) (x .1 .0) (feedB (Receive e (x .0)) (paged iso′ last e t))
 
-pub slot-first : (e : ℕ) (onn : Bool) (b : Buf) (d : Driver) (t : Pages) → Rest quiet b d t → RowStep (switch e onn) 18 b d t
+pub slot-first : (e : ℕ) (onn : Bool) (b : Buf) (d : Driver) (t : Pages) → Coupling quiet b d t → RowStep (switch e onn) 18 b d t
 unfolding slotStep
 slot-first e onn b d t R =
     let z = subst (λ w. Slotted (isOn (epOn d Out e .iso)) w true e onn 15 b d t) (ap isOn (iso-same R e)) (go (isOn (epOn d Out e .iso)) refl) in
@@ -324,7 +324,7 @@ slot-first e onn b d t R =
         let k = keptPlain (t .kept) Out e (statics.renewed (t .kept .plain Out e)) in
         let p = emptyOut (t .outs e) in
         let a = slotAddr (epOn (renewedOn d e) Out e) 15 in
-        subst (λ y. Rest (mid (switch e onn) 18) (armed b a (epOn (renewedOn d e) Out e .«max_len»)) (armed-on (renewedOn d e) (fresh-changed R e .sized) e 15) y)
+        subst (λ y. Coupling (mid (switch e onn) 18) (armed b a (epOn (renewedOn d e) Out e .«max_len»)) (armed-on (renewedOn d e) (fresh-changed R e .sized) e 15) y)
         (sym (ap (λ q. withOut (withOut (withKept t k) e p) e (slotTold q a)) (out-same (withKept t k) e p) ∙ out-twice (withKept t k) e (slotTold p a) p))
         (slot-armed R e onn 15 (fresh-changed R e) (fresh-kept R e) (fresh-out R e)
         (subst Words (sym (fresh-changed R e .place .stride)) (slot-words R e i))
@@ -334,7 +334,7 @@ slot-first e onn b d t R =
         (omega arith) others)
     go false i = told-again R e onn 18 i (omega arith) (λ u a. a) others
 
-slot-next : (e : ℕ) (onn : Bool) (k : ℕ) (b : Buf) (d : Driver) (t : Pages) → Rest (mid (switch e onn) (suc (suc (suc (suc k))))) b d t → RowStep (switch e onn) (suc (suc (suc k))) b d t
+slot-next : (e : ℕ) (onn : Bool) (k : ℕ) (b : Buf) (d : Driver) (t : Pages) → Coupling (mid (switch e onn) (suc (suc (suc (suc k))))) b d t → RowStep (switch e onn) (suc (suc (suc k))) b d t
 unfolding slotStep
 slot-next e onn k b d t R =
     let z = subst (λ w. Slotted (isOn (epOn d Out e .iso)) w (eqb k 15) e onn k b d t) (ap isOn (iso-same R e))
@@ -351,7 +351,7 @@ slot-next e onn k b d t R =
     go false i = told-again R e onn (suc (suc (suc k))) i (omega (arith, R .step))
         (λ u a. plain-out e onn (suc (suc (suc (suc k)))) e u (epOn d Out e) (t .outs e) i a) others
 
-pub switch-next : (e : ℕ) (onn : Bool) (n : ℕ) (b : Buf) (d : Driver) (t : Pages) → Rest (mid (switch e onn) (suc n)) b d t → RowStep (switch e onn) n b d t
+pub switch-next : (e : ℕ) (onn : Bool) (n : ℕ) (b : Buf) (d : Driver) (t : Pages) → Coupling (mid (switch e onn) (suc n)) b d t → RowStep (switch e onn) n b d t
 switch-next e onn zero b d t R = config-step e onn b d t R
 switch-next e onn (suc zero) b d t R = type-step e onn b d t R
 switch-next e onn (suc (suc zero)) b d t R = rx-step e onn b d t R

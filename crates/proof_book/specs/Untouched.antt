@@ -23,21 +23,21 @@ use Rattle.marks.specs.Slots.{armed-slot, only-copied}
 use Rattle.marks.specs.Stored.{StoredAlone}
 use Rattle.marks.specs.Only as marks
 use Rattle.model.specs.Cells.{Cell, Val, globals-cell, control-cell, allocator-cell, ep-cell, request-cell, paced-cell}
-use Rattle.model.specs.Script.{Act, complete, reset-ring, set-enabled, fill, fill0, open-oldest, close-oldest, take-oldest, enqueue, allocate, allocate0, no-wakes, waken, Hand, arrive, send, place, place0, Row, switch, bus-reset}
-use Rattle.model.specs.Alike.{Phase, quiet}
+use Rattle.model.specs.Script.{Act, complete, reset-ring, set-enabled, fill, fill0, open-oldest, close-oldest, take-oldest, enqueue, allocate, allocate0, no-wakes, waken, DmaStep, arrive, send, place, place0, Burst, switch, bus-reset}
+use Rattle.model.specs.Simulates.{Phase, quiet}
 use Rattle.model.specs.Statics.{isOn}
 use Rattle.model.specs.Machine.{Buf}
 use Rattle.model_ops.specs.Rings.{St, roomOn, queuedOn, enqueueOn, filledOn, filledEp0, arrivedAt, arriveOn, renewedOn, armAt, slotStep}
 use Rattle.model_ops.specs.RingLaws.{room-fits}
-use Rattle.model_ops.specs.Conc.{conc}
+use Rattle.model_ops.specs.Concrete.{concrete}
 use Rattle.proof_book.specs.Pages.{Pages}
-use Rattle.proof_book.specs.Rest.{endOf, Apart, Rest}
+use Rattle.proof_book.specs.Coupling.{endOf, Apart, Coupling}
 use Rattle.proof_book.specs.Lens.{key-other}
 use Rattle.proof_book.specs.Held.{Words, receives}
 use Rattle.proof_book.specs.Arrives.{admits, admitted-changed, admitted-fits, arrived-words}
 use Rattle.proof_book.specs.Switches.{fresh-ep, slot-words}
 
-module _ {φ : Phase} {b : Buf} {d : Driver} {t : Pages} (R : Rest φ b d t) (e : ℕ) where
+module _ {φ : Phase} {b : Buf} {d : Driver} {t : Pages} (R : Coupling φ b d t) (e : ℕ) where
   -- the bytes of that slot are as they were
   abbrev pub Untouched : Buf → Type 0
   Untouched b′ = marks.Same (t .outs e .slot) (t .outs e .slot + epOn d Out e .stride) b b′
@@ -56,7 +56,7 @@ module _ {φ : Phase} {b : Buf} {d : Driver} {t : Pages} (R : Rest φ b d t) (e 
 
   -- ---- puts and acts
 
-  pub put-leaves : (c : Cell) (v : Val c) → Untouched (conc .put c v (d, b) .1)
+  pub put-leaves : (c : Cell) (v : Val c) → Untouched (concrete .put c v (d, b) .1)
   put-leaves globals-cell v = λ k l h. refl
   put-leaves control-cell v = λ k l h. refl
   put-leaves allocator-cell v = λ k l h. refl
@@ -93,7 +93,7 @@ module _ {φ : Phase} {b : Buf} {d : Driver} {t : Pages} (R : Rest φ b d t) (e 
       apart-leaves a (a + length bytes) (only-copied b a bytes)
       (⊎-elim (λ z. inl (omega (arith, R .ep0-least, ltb-false (d .globals .«ep0_max») (length bytes) h))) (λ z. inr z) (R .ep0-apart Out e))
 
-  pub act-leaves : (q : Act) → Untouched (conc .act q (d, b) .1)
+  pub act-leaves : (q : Act) → Untouched (concrete .act q (d, b) .1)
   unfolding enqueueOn filledOn filledEp0
   act-leaves (complete f) = λ k l h. refl
   act-leaves (reset-ring dir f) = λ k l h. refl
@@ -132,7 +132,7 @@ module _ {φ : Phase} {b : Buf} {d : Driver} {t : Pages} (R : Rest φ b d t) (e 
   slot-by f k n true false h = slot-armed f k n h
   slot-by f k n false last h = λ j l g. refl
 
-  pub row-leaves : (g : Row) (n : ℕ) → ((f : ℕ) (onn : Bool) → g ≡ switch f onn → f % 16 ≢ e % 16) → Untouched (conc .row g n (d, b) .1 .1)
+  pub row-leaves : (g : Burst) (n : ℕ) → ((f : ℕ) (onn : Bool) → g ≡ switch f onn → f % 16 ≢ e % 16) → Untouched (concrete .row g n (d, b) .1 .1)
   unfolding slotStep
   row-leaves (switch f onn) zero m = λ k l h. refl
   row-leaves (switch f onn) (suc zero) m = λ k l h. refl
@@ -145,7 +145,7 @@ module _ {φ : Phase} {b : Buf} {d : Driver} {t : Pages} (R : Rest φ b d t) (e 
 
 -- ---- hands that are not its own
 
-module _ {b : Buf} {d : Driver} {t : Pages} (R : Rest quiet b d t) (e : ℕ) where
+module _ {b : Buf} {d : Driver} {t : Pages} (R : Coupling quiet b d t) (e : ℕ) where
   arrive-by : (f n : ℕ) → f % 16 ≢ e % 16 → (u : Bool) → receives d f ≡ u
       → Untouched R e (cond u (arrivedAt f (cappedAt (epOn d Out f) n) (d, b)) (epOn d Out f .«armed_slot», (d, b)) .1 .1)
   arrive-by f n m true u =
@@ -161,7 +161,7 @@ module _ {b : Buf} {d : Driver} {t : Pages} (R : Rest quiet b d t) (e : ℕ) whe
       end-same p q s = λ i. p i + s i * q i
   arrive-by f n m false u = λ k l h. refl
 
-  pub hand-leaves : (q : Hand) → ((f n : ℕ) → q ≡ arrive f n → f % 16 ≢ e % 16) → Untouched R e (conc .hand q (d, b) .1 .1)
+  pub hand-leaves : (q : DmaStep) → ((f n : ℕ) → q ≡ arrive f n → f % 16 ≢ e % 16) → Untouched R e (concrete .hand q (d, b) .1 .1)
   unfolding arriveOn
   hand-leaves (arrive f n) m = arrive-by f n (m f n refl) (receives d f) refl
   hand-leaves (send f) m = λ k l h. refl

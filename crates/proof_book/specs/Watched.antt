@@ -14,14 +14,14 @@ use Rattle.marks.specs.Marks.{markedLen}
 use Rattle.marks.specs.Copies.{bytesAt}
 use Rattle.marks.specs.Finds.{LastDiffers}
 use Rattle.model.specs.Answers.{Answer}
-use Rattle.model.specs.Script.{Act, complete, reset-ring, set-enabled, fill, fill0, open-oldest, close-oldest, take-oldest, enqueue, allocate, allocate0, no-wakes, waken, Hand, arrive, send, place, place0, Row, switch, bus-reset}
+use Rattle.model.specs.Script.{Act, complete, reset-ring, set-enabled, fill, fill0, open-oldest, close-oldest, take-oldest, enqueue, allocate, allocate0, no-wakes, waken, DmaStep, arrive, send, place, place0, Burst, switch, bus-reset}
 use Rattle.model.specs.Calls.{Config, Op, calls}
 use Rattle.model.specs.Machine as machine
 use Rattle.model.specs.Machine.{Buf, Call, start, begin, go, question, Event, Ans, Machine, misfit, fed, call}
-use Rattle.machine.specs.Under.{driverOf, drive, machineOf}
+use Rattle.machine.specs.Suspended.{driverOf, drive, machineOf}
 use Rattle.proof_book.specs.Pages.{Pages}
 use Rattle.proof_book.specs.Book.{Bk, receiving, isoOf, getB, putB, isB, lookB, fetchB, actB, handB, rowB, freshPages, questionB, feedB, book}
-use Rattle.proof_book.specs.FrontPage.{Made, Did, Chip, unless}
+use Rattle.proof_book.specs.FrontPage.{Made, CallStep, Chip, unless}
 
 -- ---- how often a slot of OUT e was armed
 
@@ -41,7 +41,7 @@ armsBy true w = record { armings = w .armings + 1; armed = true }
 armsBy false w = record { armings = w .armings; armed = false }
 
 -- an arrival arms the head's slot, whether its packet is admitted or turned away; another receive address arms none
-abbrev pub watchHand : ℕ → Hand → Pages → Watch → Watch
+abbrev pub watchHand : ℕ → DmaStep → Pages → Watch → Watch
 watchHand e (arrive f n) t w = cond (eqb (e % 16) (f % 16)) (armsBy (receiving t f) w) w
 watchHand e (place Out f) t w = cond (eqb (e % 16) (f % 16)) (armsBy false w) w
 watchHand e (place In f) t w = w
@@ -49,7 +49,7 @@ watchHand e (send f) t w = w
 watchHand e place0 t w = w
 
 -- enabling and disabling arm each slot
-abbrev pub watchRow : ℕ → Row → ℕ → Pages → Watch → Watch
+abbrev pub watchRow : ℕ → Burst → ℕ → Pages → Watch → Watch
 watchRow e (switch f onn) zero t w = w
 watchRow e (switch f onn) (suc zero) t w = w
 watchRow e (switch f onn) (suc (suc zero)) t w = w
@@ -157,7 +157,7 @@ TrueLengths e n packet (v ∷ vs) m y =
 -- calls of the code one after the other, each as its contract says and lent so
 abbrev pub RunLent : ℕ → ℕ → List ℕ → List ℕ → Buf → Machine Answer Seen → List Made → Type 0
 RunLent e n packet xs a y [] = Unit {0}
-RunLent e n packet xs a y (m ∷ ms) = Did xs a m × LentBy e n packet (m .event .call) (machineOf xs a) y (m .event .lent)
+RunLent e n packet xs a y (m ∷ ms) = CallStep xs a m × LentBy e n packet (m .event .call) (machineOf xs a) y (m .event .lent)
     × RunLent e n packet (m .bytes) (m .slots) (noted e (m .answer) (m .event .call) y (m .event .lent) .1) ms
 
 abbrev pub TrueLengthsMade : ℕ → ℕ → List ℕ → Machine Answer Seen → List Made → Type 0

@@ -20,15 +20,15 @@ use Rattle.marks.specs.Copies.{bytesAt}
 use Rattle.marks.specs.Finds.{LastDiffers}
 use Rattle.marks.specs.Slots.{only-armed, armed-empties, len-is}
 use Rattle.marks.specs.Only as marks
-use Rattle.model.specs.Cells.{Plain, Cell, Val, globals-cell, control-cell, allocator-cell, ep-cell, request-cell, paced-cell}
-use Rattle.model.specs.Script.{Act, complete, reset-ring, set-enabled, fill, fill0, open-oldest, close-oldest, take-oldest, enqueue, allocate, allocate0, no-wakes, waken, Hand, arrive, send, place, place0, handAsk, Row, switch, bus-reset, rowAsk}
-use Rattle.model.specs.Alike.{Phase, quiet, mid}
+use Rattle.model.specs.Cells.{EpCore, Cell, Val, globals-cell, control-cell, allocator-cell, ep-cell, request-cell, paced-cell}
+use Rattle.model.specs.Script.{Act, complete, reset-ring, set-enabled, fill, fill0, open-oldest, close-oldest, take-oldest, enqueue, allocate, allocate0, no-wakes, waken, DmaStep, arrive, send, place, place0, dmaStepAsk, Burst, switch, bus-reset, burstAsk}
+use Rattle.model.specs.Simulates.{Phase, quiet, mid}
 use Rattle.model.specs.Statics.{isOn}
 use Rattle.model.specs.Machine.{Buf}
-use Rattle.model_ops.specs.Conc.{conc}
+use Rattle.model_ops.specs.Concrete.{concrete}
 use Rattle.proof_book.specs.Pages.{OutPage, Pages, at, withOut}
 use Rattle.proof_book.specs.Book.{some, waitsOn, openOut, readOut, emptyOut, slotTold, arrived, packetB, roomB, queuedIn, isoOut, putB, actB, handB, rowB, receiving, isoOf, feedB}
-use Rattle.proof_book.specs.Rest.{Rest}
+use Rattle.proof_book.specs.Coupling.{Coupling}
 use Rattle.proof_book.specs.Lens.{ep-mod}
 use Rattle.proof_book.specs.Held.{Words}
 use Rattle.proof_book.specs.Switches.{slot-words}
@@ -49,13 +49,13 @@ module _ (e : ℕ) (packet : List ℕ) where
     pub slot : slotAt e u ≡ slotAt e t
     pub size : most e u ≡ most e t
 
-  module _ {φ : Phase} {b : Buf} {d : Driver} {t : Pages} (R : Rest φ b d t) where
+  module _ {φ : Phase} {b : Buf} {d : Driver} {t : Pages} (R : Coupling φ b d t) where
     slot-mod : (f : ℕ) → e % 16 ≡ f % 16 → t .outs f .slot ≡ slotAt e t
     slot-mod f h = sym (R .outs f .slot) ∙ ap (λ (r : EpState). r .«armed_slot») (sym (ep-mod d Out e f h)) ∙ R .outs e .slot
 
     most-mod : (f : ℕ) → e % 16 ≡ f % 16 → t .kept .plain Out f .«max_len» ≡ most e t
-    most-mod f h = ap (λ (p : Plain). p .«max_len») (sym (R .same .plain Out f)) ∙ ap (λ (r : EpState). r .«max_len») (sym (ep-mod d Out e f h))
-        ∙ ap (λ (p : Plain). p .«max_len») (R .same .plain Out e)
+    most-mod f h = ap (λ (p : EpCore). p .«max_len») (sym (R .same .plain Out f)) ∙ ap (λ (r : EpState). r .«max_len») (sym (ep-mod d Out e f h))
+        ∙ ap (λ (p : EpCore). p .«max_len») (R .same .plain Out e)
 
     -- a page that keeps its slot
     out-stays : (f : ℕ) (p : OutPage) → p .slot ≡ t .outs f .slot → at f p (t .outs) e .slot ≡ slotAt e t
@@ -65,7 +65,7 @@ module _ (e : ℕ) (packet : List ℕ) where
         by true g = h ∙ slot-mod f (eqb-true (e % 16) (f % 16) g)
         by false g = refl
 
-    plain-stays : (f : ℕ) (p : Plain) → p .«max_len» ≡ t .kept .plain Out f .«max_len» → at f p (t .kept .plain Out) e .«max_len» ≡ most e t
+    plain-stays : (f : ℕ) (p : EpCore) → p .«max_len» ≡ t .kept .plain Out f .«max_len» → at f p (t .kept .plain Out) e .«max_len» ≡ most e t
     plain-stays f p h = by (eqb (e % 16) (f % 16)) refl
       where
         by : (z : Bool) → eqb (e % 16) (f % 16) ≡ z → cond z p (t .kept .plain Out e) .«max_len» ≡ most e t
@@ -77,7 +77,7 @@ module _ (e : ℕ) (packet : List ℕ) where
     clean-moved u b′ s n c k h =
         let l : k < most e t = omega (arith, s .size) in
         let w : slotAt e u + k ≡ slotAt e t + k = omega (arith, s .slot) in
-        let m : k < epOn d Out e .stride = omega (arith, R .outs e .held .least, ap (λ (p : Plain). p .«max_len») (R .same .plain Out e)) in
+        let m : k < epOn d Out e .stride = omega (arith, R .outs e .held .least, ap (λ (p : EpCore). p .«max_len») (R .same .plain Out e)) in
         let y : getD b′ (slotAt e t + k) 0 ≡ getD b (slotAt e t + k) 0 = n (slotAt e t + k) (omega arith) (omega arith) in
         subst (λ x. (getD b′ x 0 ≡ markByte k) ⊎ ((k < length packet) × (getD b′ x 0 ≡ getD packet k 0))) (sym w)
         (⊎-elim (λ q. inl (y ∙ q)) (λ q. inr (q .0, y ∙ q .1)) (c k l))
@@ -131,7 +131,7 @@ module _ (e : ℕ) (packet : List ℕ) where
     clean-armed f h i a s k l =
         let r = epOn d Out f in
         let x : slotAt e t ≡ r .«armed_slot» = sym (slot-mod f h) ∙ sym (R .outs f .slot) in
-        let m : most e t ≡ r .«max_len» = sym (most-mod f h) ∙ ap (λ (p : Plain). p .«max_len») (sym (R .same .plain Out f)) in
+        let m : most e t ≡ r .«max_len» = sym (most-mod f h) ∙ ap (λ (p : EpCore). p .«max_len») (sym (R .same .plain Out f)) in
         let w : Words (r .stride) = slot-words R f i in
         let n : length b ≡ length a = ap length s ∙ only-armed a (r .«armed_slot») (r .«max_len») .long in
         let z : r .«armed_slot» + reach (r .«max_len») ≤ length a =
@@ -142,13 +142,13 @@ module _ (e : ℕ) (packet : List ℕ) where
 
   -- ---- what it says
 
-  pub true-length : {φ : Phase} {b : Buf} {d : Driver} {t : Pages} → Rest φ b d t → Clean t b → length packet ≤ epOn d Out e .«max_len»
+  pub true-length : {φ : Phase} {b : Buf} {d : Driver} {t : Pages} → Coupling φ b d t → Clean t b → length packet ≤ epOn d Out e .«max_len»
       → Whole e packet t b → LastDiffers (length packet) packet
       → (markedLen b (epOn d Out e .«armed_slot») (epOn d Out e .«max_len») ≡ length packet) × (bytesAt b (epOn d Out e .«armed_slot») (length packet) ≡ packet)
   true-length {b = b} {d = d} {t = t} R c small whole last =
       let r = epOn d Out e in
       let x : slotAt e t ≡ r .«armed_slot» = sym (R .outs e .slot) in
-      let m : most e t ≡ r .«max_len» = ap (λ (p : Plain). p .«max_len») (sym (R .same .plain Out e)) in
+      let m : most e t ≡ r .«max_len» = ap (λ (p : EpCore). p .«max_len») (sym (R .same .plain Out e)) in
       let fits : r .«armed_slot» + r .«max_len» ≤ length b =
       omega (arith, R .outs e .held .least, R .outs e .slot, R .outs e .upto, R .outs e .held .placed .inside) in
       let byte : (k : ℕ) → k < length packet → getD (drop (r .«armed_slot») b) k 0 ≡ getD packet k 0 =

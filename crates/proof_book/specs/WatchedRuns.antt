@@ -16,20 +16,20 @@ use Rattle.state.specs.State.{view}
 use Rattle.ring.specs.Out.{cappedAt}
 use Rattle.marks.specs.Marks.{armed}
 use Rattle.model.specs.Answers.{Answer}
-use Rattle.model.specs.Cells.{Plain}
-use Rattle.model.specs.Script.{Act, complete, reset-ring, set-enabled, fill, fill0, open-oldest, close-oldest, take-oldest, enqueue, allocate, allocate0, no-wakes, waken, Hand, arrive, send, place, place0, handAsk, Row, switch, bus-reset, rowAsk, lastOf}
-use Rattle.model.specs.Alike.{Phase, quiet, mid}
+use Rattle.model.specs.Cells.{EpCore}
+use Rattle.model.specs.Script.{Act, complete, reset-ring, set-enabled, fill, fill0, open-oldest, close-oldest, take-oldest, enqueue, allocate, allocate0, no-wakes, waken, DmaStep, arrive, send, place, place0, dmaStepAsk, Burst, switch, bus-reset, burstAsk, lastOf}
+use Rattle.model.specs.Simulates.{Phase, quiet, mid}
 use Rattle.model.specs.Statics.{isOn, isoOuts, renewed}
 use Rattle.model.specs.Calls.{Config, Op, calls, startRow}
 use Rattle.model.specs.Machine.{Buf, Call, start, begin, go, question, Event, Ans, Machine, misfit, fed, started}
 use Rattle.model.specs.Agree.{Agree, After, All, Lawful, Lent, Ways, unless, agrees, from-start}
-use Rattle.model_ops.specs.Conc.{conc}
+use Rattle.model_ops.specs.Concrete.{concrete}
 use Rattle.model_ops.specs.Rings.{St, armAt, arriveOn, renewedOn, slotStep}
 use Rattle.model_ops.specs.Late.{arms-slot, arrive-arms, slot-arms}
-use Rattle.machine.specs.Under.{driverOf, drive, machineOf}
+use Rattle.machine.specs.Suspended.{driverOf, drive, machineOf}
 use Rattle.proof_book.specs.Pages.{OutPage, Pages, withOut, withKept, keptPlain}
 use Rattle.proof_book.specs.Book.{Bk, emptyOut, slotTold, arrived, packetB, receiving, isoOf, putB, actB, handB, rowB, feedB}
-use Rattle.proof_book.specs.Rest.{Rest, Good}
+use Rattle.proof_book.specs.Coupling.{Coupling, Good}
 use Rattle.proof_book.specs.Chips.{chip}
 use Rattle.proof_book.specs.Allocations.{fresh-kept}
 use Rattle.proof_book.specs.Held.{receives-iso}
@@ -37,18 +37,18 @@ use Rattle.proof_book.specs.Arrives.{admits, admitted-changed}
 use Rattle.proof_book.specs.Switches.{fresh-changed}
 use Rattle.proof_book.specs.Untouched.{put-leaves, act-leaves, hand-leaves, row-leaves}
 use Rattle.proof_book.specs.Agrees.{agree}
-use Rattle.proof_book.specs.FrontPage.{Made, Did}
+use Rattle.proof_book.specs.FrontPage.{Made, CallStep}
 use Rattle.proof_book.specs.FrontPage as page
 use Rattle.proof_book.specs.Watched.{Watch, Seen, armsBy, watchHand, watchRow, watchAct, watched, Stored, TrueLength, noted, LentBy, AllLent, TrueLengths, RunLent, TrueLengthsMade}
 use Rattle.proof_book.specs.WatchedLaws.{Clean, clean-stored, Stays, clean-moved, put-stays, act-stays, clean-armed, true-length}
 
-abbrev numberOf : Hand → ℕ
+abbrev numberOf : DmaStep → ℕ
 numberOf (arrive f n) = f
 numberOf (send f) = 0
 numberOf (place d f) = 0
 numberOf place0 = 0
 
-abbrev rowOf : Row → ℕ
+abbrev rowOf : Burst → ℕ
 rowOf (switch f onn) = f
 rowOf bus-reset = 0
 
@@ -79,7 +79,7 @@ module _ (e n : ℕ) (packet : List ℕ) where
   same-globals true t u h = h
   same-globals false t u h = refl
 
-  iso-same : {φ ψ : Phase} {b b′ : Buf} {d d′ : Driver} {t t′ : Pages} → Rest φ b d t → Rest ψ b′ d′ t′ → t′ .kept .globals ≡ t .kept .globals
+  iso-same : {φ ψ : Phase} {b b′ : Buf} {d d′ : Driver} {t t′ : Pages} → Coupling φ b d t → Coupling ψ b′ d′ t′ → t′ .kept .globals ≡ t .kept .globals
       → (f : ℕ) → isOn (epOn d′ Out f .iso) ≡ isOn (epOn d Out f .iso)
   iso-same R R′ h f = sym (R′ .isos f) ∙ ap (λ (g : Globals). isSet (g .«iso_out_eps») (f % 16)) (R′ .same .globals ∙ h ∙ sym (R .same .globals)) ∙ R .isos f
 
@@ -98,22 +98,22 @@ module _ (e n : ℕ) (packet : List ℕ) where
   act-watch no-wakes w h = refl
   act-watch (waken codes) w h = refl
 
-  act-claims : (q : Act) (b : Buf) (d : Driver) (t : Pages) (w : Watch) → Rest quiet b d t → Claim w t b
-      → Claim (watchAct q w) (actB q (t, b) .0) (conc .act q (d, b) .1)
+  act-claims : (q : Act) (b : Buf) (d : Driver) (t : Pages) (w : Watch) → Coupling quiet b d t → Claim w t b
+      → Claim (watchAct q w) (actB q (t, b) .0) (concrete .act q (d, b) .1)
   act-claims q b d t w R c a m =
       let h = act-watch q w a in
-      clean-moved e packet R (actB q (t, b) .0) (conc .act q (d, b) .1) (act-stays e packet R q w a) (act-leaves R e q)
+      clean-moved e packet R (actB q (t, b) .0) (concrete .act q (d, b) .1) (act-stays e packet R q w a) (act-leaves R e q)
       (c (ap (λ (v : Watch). v .armed) (sym h) ∙ a) (ap (λ (v : Watch). v .armings) (sym h) ∙ m))
 
   -- ---- an address
 
-  module _ (b : Buf) (d : Driver) (t : Pages) (w : Watch) (R : Rest quiet b d t) (c : Claim w t b) where
-    arrive-claims : (f k : ℕ) → let x = conc .hand (arrive f k) (d, b) in let u = feedB (Receive f (x .0)) (handB (arrive f k) (t, b) .1 .0) in
-        Rest quiet (x .1 .1) (x .1 .0) u → Claim (watchHand e (arrive f k) t w) u (x .1 .1)
+  module _ (b : Buf) (d : Driver) (t : Pages) (w : Watch) (R : Coupling quiet b d t) (c : Claim w t b) where
+    arrive-claims : (f k : ℕ) → let x = concrete .hand (arrive f k) (d, b) in let u = feedB (Receive f (x .0)) (handB (arrive f k) (t, b) .1 .0) in
+        Coupling quiet (x .1 .1) (x .1 .0) u → Claim (watchHand e (arrive f k) t w) u (x .1 .1)
     arrive-claims f k R′ = by (eqb (e % 16) (f % 16)) refl
       where
         x : ℕ × St
-        x = conc .hand (arrive f k) (d, b)
+        x = concrete .hand (arrive f k) (d, b)
 
         u : Pages
         u = feedB (Receive f (x .0)) (handB (arrive f k) (t, b) .1 .0)
@@ -145,23 +145,23 @@ module _ (e n : ℕ) (packet : List ℕ) where
         by true g a m = absurd (true≢false (sym a))
         by false g a m = clean-moved e packet R (feedB (Receive f x) t) b (away t f g false (t .outs f) x) (λ k l h. refl) (c a m)
 
-    abbrev handed : Hand → Pages
-    handed q = feedB (handAsk q (conc .hand q (d, b) .0)) (handB q (t, b) .1 .0)
+    abbrev handed : DmaStep → Pages
+    handed q = feedB (dmaStepAsk q (concrete .hand q (d, b) .0)) (handB q (t, b) .1 .0)
 
-    hand-claims : (q : Hand) → let x = conc .hand q (d, b) in let u = feedB (handAsk q (x .0)) (handB q (t, b) .1 .0) in
-        Rest quiet (x .1 .1) (x .1 .0) u → Claim (watchHand e q t w) u (x .1 .1)
+    hand-claims : (q : DmaStep) → let x = concrete .hand q (d, b) in let u = feedB (dmaStepAsk q (x .0)) (handB q (t, b) .1 .0) in
+        Coupling quiet (x .1 .1) (x .1 .0) u → Claim (watchHand e q t w) u (x .1 .1)
     hand-claims (arrive f k) R′ = arrive-claims f k R′
     hand-claims (send f) R′ = λ a m. clean-moved e packet R (handed (send f)) b (record { slot = refl; size = refl }) (λ k l h. refl) (c a m)
-    hand-claims (place Out f) R′ = place-claims f (conc .hand (place Out f) (d, b) .0)
+    hand-claims (place Out f) R′ = place-claims f (concrete .hand (place Out f) (d, b) .0)
     hand-claims (place In f) R′ = λ a m. clean-moved e packet R (handed (place In f)) b (record { slot = refl; size = refl }) (λ k l h. refl) (c a m)
     hand-claims place0 R′ = λ a m. clean-moved e packet R (handed place0) b (record { slot = refl; size = refl }) (λ k l h. refl) (c a m)
 
   -- ---- a row's step
 
-  module _ {φ : Phase} (b : Buf) (d : Driver) (t : Pages) (w : Watch) (R : Rest φ b d t) (c : Claim w t b) where
+  module _ {φ : Phase} (b : Buf) (d : Driver) (t : Pages) (w : Watch) (R : Coupling φ b d t) (c : Claim w t b) where
     slot-claims : {ψ : Phase} (f : ℕ) (onn : Bool) (k : ℕ) → let x = slotStep f k (d, b) in let u =
         feedB (Receive f (x .0)) (rowB (switch f onn) (suc (suc (suc k))) (t, b) .1 .0) in
-        Rest ψ (x .1 .1) (x .1 .0) u → Claim (watchRow e (switch f onn) (suc (suc (suc k))) t w) u (x .1 .1)
+        Coupling ψ (x .1 .1) (x .1 .0) u → Claim (watchRow e (switch f onn) (suc (suc (suc k))) t w) u (x .1 .1)
     slot-claims f onn k R′ = by (eqb (e % 16) (f % 16)) refl
       where
         x : ℕ × St
@@ -180,7 +180,7 @@ module _ (e n : ℕ) (packet : List ℕ) where
 
         own : (v : Bool) → isoOf t Out f ≡ v → e % 16 ≡ f % 16 → Claim (armsBy v w) u (x .1 .1)
         own true v h a m =
-            let i : isOn (epOn d Out f .iso) ≡ true = ap (λ (p : Plain). isOn (p .iso)) (R .same .plain Out f) ∙ v in
+            let i : isOn (epOn d Out f .iso) ≡ true = ap (λ (p : EpCore). isOn (p .iso)) (R .same .plain Out f) ∙ v in
             clean-armed e packet R′ f h (iso-same R R′ (same-globals (isoOf t Out f && eqb k 15) t (renewedOut t f) refl) f ∙ i) b (arms i)
         own false v h a m = absurd (true≢false (sym a))
 
@@ -190,11 +190,11 @@ module _ (e n : ℕ) (packet : List ℕ) where
             (row-leaves R e (switch f onn) (suc (suc (suc k)))
             (λ f′ on′ p. subst (λ y. y % 16 ≢ e % 16) (ap rowOf p) (λ z. eqb-false (e % 16) (f % 16) g (sym z)))) (c a m)
 
-    abbrev stepped : Row → ℕ → Pages
-    stepped g k = feedB (rowAsk g k (conc .row g k (d, b) .0)) (rowB g k (t, b) .1 .0)
+    abbrev stepped : Burst → ℕ → Pages
+    stepped g k = feedB (burstAsk g k (concrete .row g k (d, b) .0)) (rowB g k (t, b) .1 .0)
 
-    row-claims : {ψ : Phase} (g : Row) (k : ℕ) → let x = conc .row g k (d, b) in let u = feedB (rowAsk g k (x .0)) (rowB g k (t, b) .1 .0) in
-        Rest ψ (x .1 .1) (x .1 .0) u → Claim (watchRow e g k t w) u (x .1 .1)
+    row-claims : {ψ : Phase} (g : Burst) (k : ℕ) → let x = concrete .row g k (d, b) in let u = feedB (burstAsk g k (x .0)) (rowB g k (t, b) .1 .0) in
+        Coupling ψ (x .1 .1) (x .1 .0) u → Claim (watchRow e g k t w) u (x .1 .1)
     row-claims (switch f onn) zero R′ =
         λ a m. clean-moved e packet R (stepped (switch f onn) zero) b (record { slot = refl; size = refl }) (λ k l h. refl) (c a m)
     row-claims (switch f onn) (suc zero) R′ =
@@ -207,11 +207,11 @@ module _ (e n : ℕ) (packet : List ℕ) where
   -- ---- driver and watched book agree
 
   abbrev Claims : Phase → Buf → Driver → Seen → Type 0
-  Claims φ b d s = Rest φ b d (s .pages) × Claim (s .watch) (s .pages) b
+  Claims φ b d s = Coupling φ b d (s .pages) × Claim (s .watch) (s .pages) b
 
   abbrev agreed : Agree driverOf (watched e)
   agreed = record {
-    Rest = Claims;
+    Coupling = Claims;
     Good = λ q b s. Good q b (s .pages);
     Chip = λ s b b′. Stored e n packet s b b′;
     chip = λ b b′ φ d s r c. (chip b b′ φ d (s .pages) (r .0) (c .chip), λ a m. clean-stored e packet (s .pages) b b′ (r .1 a m) (c .alone a m));
@@ -224,7 +224,7 @@ module _ (e n : ℕ) (packet : List ℕ) where
       z .0,
       (
         z .1,
-        λ a m. clean-moved e packet (r .0) (putB c v (s .pages, b) .0) (conc .put c v (d, b) .1) (put-stays e packet (r .0) c v)
+        λ a m. clean-moved e packet (r .0) (putB c v (s .pages, b) .0) (concrete .put c v (d, b) .1) (put-stays e packet (r .0) c v)
             (put-leaves (r .0) e c v) (r .1 a m),
       ),
     );
@@ -295,7 +295,7 @@ module _ (e n : ℕ) (packet : List ℕ) where
 
   -- any bytes, a start-up that rows 1 and 2 do not stop, and then any calls whose contracts say what they are steps of
   pub code-true-lengths : (c : Config) (b : Buf) → startRow c b ≡ zero → (xs : List ℕ) (a : Buf) (y : Machine Answer Seen) (first : Made)
-      → first .event ≡ record { call = start c; lent = b } → Did xs a first → (ms : List Made)
+      → first .event ≡ record { call = start c; lent = b } → CallStep xs a first → (ms : List Made)
       → let z = started calls (watched e .driver) (fed (watched e) (first .answer)) c zero y b in
       RunLent e n packet (first .bytes) (first .slots) (z .1) ms → TrueLengthsMade e n packet (z .1) ms
   code-true-lengths c b row xs a y first v did ms h =

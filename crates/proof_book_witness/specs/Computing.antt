@@ -54,7 +54,7 @@ unfolding alloc-alloc.allocateEp0Of alloc-alloc.withNext alloc-alloc.isIso alloc
     regs-controlword.flip regs-controlword.isData1 regs-enables.isOn regs-enables.withOn regs-enables.outEnabled
     regs-enables.inEnabled regs-registers.fitsIn regs-status.isIn regs-status.token regs-status.tokenNumbered
     regs-status.endpoint regs-status.isOut regs-status.isSof ring-in.loadedOf ring-in.hasRoomIn ring-in.completedOf
-    ring-in.unloadedOf ring-out.armedAt ring-out.cappedAt ring-out.arrivedOf ring-out.turnedAwayOf
+    ring-in.unloadedOf ring-out.armedAt ring-out.cappedAt ring-out.arrivedOf ring-out.overrunOf
     ring-out.hasRoomOut ring-out.closedOf ring-out.openedOf ring-slot.slotAddr ring-slot.slotOf ring-slot.countOf
     ring-slot.hasWaiting ring-slot.joinedOf ring-slot.passedOf script-answers.isNumber script-answers.isAllocated
     script-bus.restartedIn script-bus.restarted script-bus.restartedOut script-bus.nakAll script-calls.startRow

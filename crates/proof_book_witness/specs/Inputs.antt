@@ -18,7 +18,7 @@ use Rattle.state.specs.Driver.{Driver}
 use Rattle.model.specs.Answers.{Answer}
 use Rattle.model.specs.Calls.{Config, Op, calls}
 use Rattle.model.specs.Machine.{Buf, Call, start, begin, go, question, Event, Machine, misfit}
-use Rattle.machine.specs.Under.{drive}
+use Rattle.machine.specs.Suspended.{drive}
 use Rattle.proof_book.specs.Pages.{Pages}
 use Rattle.proof_book.specs.Book.{book}
 use Rattle.proof_book.specs.FrontPage.{written, Chip, unless, LentAsLeft}

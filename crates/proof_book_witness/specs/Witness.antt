@@ -11,7 +11,7 @@ use Rattle.model.specs.Statics.{flag}
 use Rattle.model.specs.Answers.{Answer}
 use Rattle.model.specs.Calls.{Config, Op, interrupt, slotted, other, aside, SetEnabled, Allocate, Start, Open, Close, Queue, startRow}
 use Rattle.model.specs.Machine.{Buf, Call, start, begin, go, question, overruns, Event, idle, Machine}
-use Rattle.machine.specs.Under.{driverOf, drive}
+use Rattle.machine.specs.Suspended.{driverOf, drive}
 use Rattle.proof_book.specs.Pages.{Pages}
 use Rattle.proof_book.specs.Book.{freshPages}
 use Rattle.proof_book.specs.FrontPage.{written}

@@ -17,8 +17,8 @@ use Rattle.model.specs.Calls as the-calls
 use Rattle.model.specs.Calls.{Config, Op, slots, passes, irq, code, startRow, calls}
 use Rattle.model.specs.Machine.{Buf, Call, start, begin, go, question, Way, idle, busy, Machine, ended, lentTo, misfit, stay, halt, beside, begun, continued, started, over}
 use Rattle.model_ops.specs.Rings.{St}
-use Rattle.model_ops.specs.Conc.{conc}
-use Rattle.machine.specs.Under.{driverOf, drive}
+use Rattle.model_ops.specs.Concrete.{concrete}
+use Rattle.machine.specs.Suspended.{driverOf, drive}
 use Rattle.machine.specs.Goes.{Called}
 use Rattle.call_bus_time.specs.Sharing.{Sort, starting, going, opSort, sortOf, timeAfter, turnedDown, settled, sharedCall}
 use Rattle.proof_bus_time.specs.Four.{Four, Turn, called, next, after}
@@ -51,7 +51,7 @@ begins-at : (o : Op) (m : Machine Answer Driver) (w : Way Answer Driver) (b : Bu
 begins-at o m idle b h = halts (opSort o) (m .st) (irq o) (run-moves (code o) (m .st, b))
 begins-at o m (busy i q k) b h =
     let n = lentTo calls driverOf m b in
-    let x = run conc (code o) (m .st, b) in
+    let x = run concrete (code o) (m .st, b) in
     went-cond (opSort o) (m .st) (cond i (passes o) false) (beside calls driverOf n x) (stay calls driverOf 3 n) (besides (opSort o) n h (run-moves (code o) (m .st, b))) (h, λ _. gave-same (m .st))
 
 continues-at : (v : ℕ) (m : Machine Answer Driver) (w : Way Answer Driver) (b : Buf) → Sane (m .way) → Sane w → Went going (m .st) (continued calls driverOf (λ s. s) v m w b)

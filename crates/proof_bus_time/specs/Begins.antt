@@ -24,8 +24,8 @@ use Rattle.model.specs.Calls.{Config, Op, slotted, other, SetEnabled, code, oth
 use Rattle.model.specs.Calls as the-calls
 use Rattle.model.specs.Machine.{Buf}
 use Rattle.model_ops.specs.Rings.{St}
-use Rattle.model_ops.specs.Conc.{conc}
-use Rattle.machine.specs.Under.{driverOf, finish}
+use Rattle.model_ops.specs.Concrete.{concrete}
+use Rattle.machine.specs.Suspended.{driverOf, finish}
 use Rattle.proof_book.specs.Cells.{epOn-by}
 use Rattle.req_bus_time.specs.Time.{chargeOf}
 use Rattle.call_bus_time.specs.Sharing.{Sort, enabling, starting, apart, opSort, chargeOn}
@@ -50,33 +50,33 @@ pub data Hands {A : Type 0} : tree.Out St A → Type 0 where
 first-of : {A : Type 0} {o : tree.Out St A} → Hands o → First o
 first-of (hands x) = some x
 
-turn-hands : (dir : Dir) (e : ℕ) (on : Bool) (s : St) → Hands (run conc (resultless (bus.setEnabled dir e on)) s)
+turn-hands : (dir : Dir) (e : ℕ) (on : Bool) (s : St) → Hands (run concrete (resultless (bus.setEnabled dir e on)) s)
 turn-hands In e on s = hands tt
 turn-hands Out e on s = by (isOn (epOn (t .0) Out e .iso))
   where
     t : St
-    t = conc .act no-wakes s
+    t = concrete .act no-wakes s
 
     turn : Bool → tree.Out St (Unit {0})
-    turn b = cond b (run conc (row (switch e on)) t) (run conc (bus.setEnabledOut {i = false} e on) t)
+    turn b = cond b (run concrete (row (switch e on)) t) (run concrete (bus.setEnabledOut {i = false} e on) t)
 
-    by : (b : Bool) → Hands (bindOut (bindOut (bindOut (turn b) (λ _ u. run conc (wake {i = false} Out e) u)) (λ _ u. run conc (ret {i = false} {A = ℕ} 0) u)) (λ n u. run conc (finish n) u))
+    by : (b : Bool) → Hands (bindOut (bindOut (bindOut (turn b) (λ _ u. run concrete (wake {i = false} Out e) u)) (λ _ u. run concrete (ret {i = false} {A = ℕ} 0) u)) (λ n u. run concrete (finish n) u))
     by true = hands tt
     by false = hands tt
 
-start-hands : (c : Config) (s : St) → Hands (run conc (the-calls.starting c) s)
+start-hands : (c : Config) (s : St) → Hands (run concrete (the-calls.starting c) s)
 start-hands c s = hands tt
 
-pub start-first : (c : Config) (s : St) → First (run conc (the-calls.starting c) s)
+pub start-first : (c : Config) (s : St) → First (run concrete (the-calls.starting c) s)
 start-first c s = first-of (start-hands c s)
 
-poll-first : (s : St) → First (run conc (operation bus.poll) s)
+poll-first : (s : St) → First (run concrete (operation bus.poll) s)
 poll-first s = first-bind (first-cond (isOn (s .0 .globals .power)) (some tt) none) (λ n t. none)
 
-pub code-first : (o : Op) (s : St) → First (run conc (code o) s)
+pub code-first : (o : Op) (s : St) → First (run concrete (code o) s)
 code-first o s = by (manner o)
   where
-    by : {o : Op} → Manner o → First (run conc (code o) s)
+    by : {o : Op} → Manner o → First (run concrete (code o) s)
     by (calm o x y) = calm-first false (code o) y s
     by (gives o x y) = calm-first true (otherCode o) y s
     by (turns d e on) = first-cond (eqb (s .0 .globals .stage) 2) (first-cond (isAllocated (s .0 .allocator) d e) (first-of (turn-hands d e on s)) none) none
@@ -146,7 +146,7 @@ module _ (dir : Dir) (e : ℕ) where
 
   -- calm scripts
   calm-rests : {i : Bool} (back : ℕ → ℕ) (c : ℕ) (p : Script i Answer) → Calm false p → (s : St) → Rests c (s .0)
-      → Left bit back (Due dir e false) Rests c (run conc p s)
+      → Left bit back (Due dir e false) Rests c (run concrete p s)
   calm-rests back c p x s r =
       left-more (calm-run (keeps (rests-stays c)) bit back c (Due dir e false) (λ d k. k .due) p x s r)
       (λ g d y. subst (λ z. Rests z d) (sym (y .0)) (y .1))
@@ -156,7 +156,7 @@ module _ (dir : Dir) (e : ℕ) where
   uncharged c d h r = r .due ∙ sym (none-rests d h .due)
 
   gives-rests : (back : ℕ → ℕ) (c : ℕ) (p : Script false Answer) → Calm true p → (s : St) → Rests c (s .0)
-      → configOf (s .0) ≡ 0 → Left bit back (Due dir e false) Rests c (run conc p s)
+      → configOf (s .0) ≡ 0 → Left bit back (Due dir e false) Rests c (run concrete p s)
   gives-rests back c p x s r h =
       let zero-is = uncharged c (s .0) h r in
       left-more (calm-run none-keeps bit back c (Due dir e false) (λ d k. zero-is ∙ none-rests d k .due) p x s h)
@@ -183,14 +183,14 @@ module _ (dir : Dir) (e : ℕ) where
 
   turn-left : (dir′ : Dir) (e′ : ℕ) (on : Bool) (c : ℕ) (s : St) → Due dir e (mine dir e dir′ e′ on) c (s .0) → s .0 .globals .stage ≡ 2
       → Left bit (turnsBack dir e dir′ e′ on) (Due dir e (mine dir e dir′ e′ on)) Rests c
-      (run conc (resultless (bus.setEnabled dir′ e′ on)) s)
+      (run concrete (resultless (bus.setEnabled dir′ e′ on)) s)
   turn-left dir′ e′ on c s due second =
       let x = act-stays no-wakes refl s in
-      left-bind (left-bind (switched dir e dir′ e′ on c (conc .act no-wakes s) (due-stays dir e (mine dir e dir′ e′ on) c x due) (x .stage ∙ second)) (λ g _ t y. at-end y)) (λ g _ t y. at-end (ended-rests g (t .0) y))
+      left-bind (left-bind (switched dir e dir′ e′ on c (concrete .act no-wakes s) (due-stays dir e (mine dir e dir′ e′ on) c x due) (x .stage ∙ second)) (λ g _ t y. at-end y)) (λ g _ t y. at-end (ended-rests g (t .0) y))
 
   opens-turn : (dir′ : Dir) (e′ : ℕ) (on : Bool) (c : ℕ) (was : Bool) (s : St) → Rests c (s .0)
       → Opens (opSort (slotted (SetEnabled dir′ e′ on))) (slottedBegun (SetEnabled dir′ e′ on)) (s .0) c was
-      (run conc (code (slotted (SetEnabled dir′ e′ on))) s)
+      (run concrete (code (slotted (SetEnabled dir′ e′ on))) s)
   opens-turn dir′ e′ true c was s r = let x = enabling dir′ e′ in
       opens-cond (eqb (s .0 .globals .stage) 2)
       (λ h. opens-cond (isAllocated (s .0 .allocator) dir′ e′)
@@ -210,7 +210,7 @@ module _ (dir : Dir) (e : ℕ) where
   -- ---- each call
 
   pub opens : (o : Op) (s : St) (c : ℕ) (was : Bool) → Rests c (s .0)
-      → Opens (opSort o) (opBegun o) (s .0) c was (run conc (code o) s)
+      → Opens (opSort o) (opBegun o) (s .0) c was (run concrete (code o) s)
   opens o s c was r = by (manner o)
     where
       early : (last : Begun) (p : tree.Out St Answer) (b : Bool) → eqb (s .0 .globals .stage) 1 ≡ b
@@ -219,11 +219,11 @@ module _ (dir : Dir) (e : ℕ) where
       early last p true h x y = y (eqb-true _ 1 h)
       early last p false h x y = subst (λ z. Opens apart last (s .0) c was z) (sym (x h)) (at-once r)
 
-      by : {o : Op} → Manner o → Opens (opSort o) (opBegun o) (s .0) c was (run conc (code o) s)
-      by (calm o x y) = subst (λ z. Opens z (opBegun o) (s .0) c was (run conc (code o) s)) (sym x)
+      by : {o : Op} → Manner o → Opens (opSort o) (opBegun o) (s .0) c was (run concrete (code o) s)
+      by (calm o x y) = subst (λ z. Opens z (opBegun o) (s .0) c was (run concrete (code o) s)) (sym x)
           (opens-calm (opBegun o) (s .0) c was (calm-rests (givenBack dir e (opBegun o)) c (code o) y s r)
           (calm-first false (code o) y s))
-      by (gives o x y) = early (opBegun (other o)) (run conc (otherCode o) s) _ refl (x s)
+      by (gives o x y) = early (opBegun (other o)) (run concrete (otherCode o) s) _ refl (x s)
           (λ h. opens-calm (opBegun (other o)) (s .0) c was (gives-rests (givenBack dir e (opBegun (other o))) c
           (otherCode o) y s r (r .early h)) (calm-first true (otherCode o) y s))
       by (turns dir′ e′ on) = opens-turn dir′ e′ on c was s r
@@ -232,7 +232,7 @@ module _ (dir : Dir) (e : ℕ) where
 
   -- an accepted start-up, from whatever was before
   pub opens-start : (x : Config) (b : Buf) (d : Driver) (c : ℕ) (was : Bool)
-      → Opens starting neither d c was (run conc (the-calls.starting x) (driverOf .fresh x, b))
+      → Opens starting neither d c was (run concrete (the-calls.starting x) (driverOf .fresh x, b))
   unfolding freshDriver
   opens-start x b d c was =
       opens-hands starting neither d c 0 was (λ q. refl) (calm-rests (givenBack dir e neither) 0

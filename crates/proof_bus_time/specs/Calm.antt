@@ -3,7 +3,7 @@ use mathlib.Core.Bool.{Bool, true, false, not}
 use Prim.Native.Nat.{ℕ}
 use Rattle.regs.specs.declared.Access.{Access}
 use Rattle.regs.specs.declared.Access.the-variants.{Read, Write, Wait, Callback}
-use Rattle.model.specs.Script.{Script, ret, bind, test, read-then, write-then, wait-then, callback-then, get-then, put-then, is-then, look-then, fetch-then, act-then, hand-then, row-then, handAsk}
+use Rattle.model.specs.Script.{Script, ret, bind, test, read-then, write-then, wait-then, callback-then, get-then, put-then, is-then, look-then, fetch-then, act-then, hand-then, row-then, dmaStepAsk}
 use Rattle.proof_bus_time.specs.Enabled.{writesConfig}
 use Rattle.proof_bus_time.specs.Stays.{allowed}
 
@@ -29,5 +29,5 @@ Calm giving (is-then q k) = (b : Bool) → Calm giving (k b)
 Calm giving (look-then q k) = (n : ℕ) → Calm giving (k n)
 Calm giving (fetch-then q k) = (l : _) → Calm giving (k l)
 Calm giving (act-then q p) = If (allowed giving q) (Calm giving p)
-Calm giving (hand-then q p) = ((x : ℕ) → Quiet (handAsk q x)) × Calm giving p
+Calm giving (hand-then q p) = ((x : ℕ) → Quiet (dmaStepAsk q x)) × Calm giving p
 Calm giving (row-then g p) = ⊥

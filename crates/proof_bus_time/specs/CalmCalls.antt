@@ -25,7 +25,7 @@ use Rattle.model.specs.Bus as bus
 use Rattle.model.specs.Tree.{ends}
 use Rattle.model.specs.Answers.{Refused}
 use Rattle.model_ops.specs.Rings.{St}
-use Rattle.model_ops.specs.Conc.{conc}
+use Rattle.model_ops.specs.Concrete.{concrete}
 use Rattle.call_bus_time.specs.Sharing.{opSort, apart}
 use Rattle.proof_bus_time.specs.Calm.{Calm}
 use Rattle.proof_bus_time.specs.CalmInterrupt.{control, placed, of-stamped, of-advance}
@@ -118,7 +118,7 @@ of-started maximum (alloc.Given ep base slots) = (tt, λ _. ((((λ _. tt, tt), �
 
 -- before EP0's start alone, else refused with 4
 abbrev pub Early : Other → Type 0
-Early o = (s : St) → eqb (s .0 .globals .stage) 1 ≡ false → run conc (otherCode o) s ≡ ends (Refused 4) s
+Early o = (s : St) → eqb (s .0 .globals .stage) 1 ≡ false → run concrete (otherCode o) s ≡ ends (Refused 4) s
 
 pub data Manner : Op → Type 0 where
   calm : (o : Op) → opSort o ≡ apart → C (code o) → Manner o

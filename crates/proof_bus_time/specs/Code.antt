@@ -11,7 +11,7 @@ use Rattle.state.specs.Driver.{Driver}
 use Rattle.model.specs.Answers.{Answer}
 use Rattle.model.specs.Calls.{Config, Op}
 use Rattle.model.specs.Machine.{Buf, Call, Machine, idle, Ans, ended, handed, told}
-use Rattle.machine.specs.Under.{decode, drive, machineOf}
+use Rattle.machine.specs.Suspended.{decode, drive, machineOf}
 use Rattle.machine.specs.Goes.{Called}
 use Rattle.req_bus_time.specs.Time.{inUse, uncharged}
 use Rattle.call_bus_time.specs.Sharing.{Sort, apart, sortOf, timeAfter, settled, sharedCall}
@@ -42,8 +42,8 @@ pub record Made : Type 0 where
   pub time : List ℕ
 
 -- its contract
-abbrev pub Did : Lent → Made → Type 0
-Did l m = ((m .answer, machineOf (m .bytes) (m .slots)), m .time) ≡ called (m .turn) (fourOf l)
+abbrev pub CallStep : Lent → Made → Type 0
+CallStep l m = ((m .answer, machineOf (m .bytes) (m .slots)), m .time) ≡ called (m .turn) (fourOf l)
 
 abbrev pub left : Lent → Made → Lent
 left l m = record {
@@ -55,7 +55,7 @@ left l m = record {
 -- calls one after the other, each as its contract says
 abbrev pub Run : Lent → List Made → Type 0
 Run l [] = Unit {0}
-Run l (m ∷ ms) = Did l m × Run (left l m) ms
+Run l (m ∷ ms) = CallStep l m × Run (left l m) ms
 
 abbrev pub turns : List Made → List Turn
 turns [] = []
@@ -84,12 +84,12 @@ leaves-record i c m time b h = ap (λ (x : Sort). settled i x m time b (drive c 
 pub did-without : (l : Lent) (x : Turn) (answer : Ans Answer) (bytes : List ℕ) (slots : Buf)
     → sortOf (x .event .call) ≡ apart
     → (answer, machineOf bytes slots) ≡ drive (x .event .call) (fourOf l .driver (x .who % 4)) (x .event .lent)
-    → Did l (record { turn = x; answer = answer; bytes = bytes; slots = slots; time = l .time })
+    → CallStep l (record { turn = x; answer = answer; bytes = bytes; slots = slots; time = l .time })
 did-without l x answer bytes slots h did =
     ap (λ (z : Called). (z, l .time)) did
     ∙ sym (leaves-record (x .who) (x .event .call) (fourOf l .driver (x .who % 4)) (l .time) (x .event .lent) h)
 
-step : (l : Lent) (m : Made) → Did l m → fourOf (left l m) ≡ next (m .turn) (fourOf l)
+step : (l : Lent) (m : Made) → CallStep l m → fourOf (left l m) ≡ next (m .turn) (fourOf l)
 step l m h = λ i. record { driver = λ j. drivers j i; time = ap (λ (x : Called × List ℕ). x .1) h i }
   where
     by : (b : Bool) (j : ℕ) → machineOf (cond b (m .bytes) (l .bytes j)) (cond b (m .slots) (l .slots j)) ≡ cond b (called (m .turn) (fourOf l) .0 .1) (machineOf (l .bytes j) (l .slots j))

@@ -8,9 +8,9 @@ use Rattle.model.specs.Answers.{Answer}
 use Rattle.model.specs.Calls.{Config, Op, slots, passes, irq, code, startRow, calls}
 use Rattle.model.specs.Machine.{Buf, Call, start, begin, go, question, Way, idle, busy, Machine, lentTo, misfit, stay, halt, beside, begun, started}
 use Rattle.model_ops.specs.Rings.{St}
-use Rattle.model_ops.specs.Conc.{conc}
+use Rattle.model_ops.specs.Concrete.{concrete}
 use Rattle.model.specs.Script.{run}
-use Rattle.machine.specs.Under.{driverOf, drive}
+use Rattle.machine.specs.Suspended.{driverOf, drive}
 use Rattle.machine.specs.Goes.{Called}
 use Rattle.call_bus_time.specs.Sharing.{going, sortOf}
 use Rattle.proof_bus_time.specs.Enabled.{writesConfig, handsConfig}
@@ -41,7 +41,7 @@ of-begin : (o : Op) (m : Machine Answer Driver) (w : Way Answer Driver) (b : Buf
 of-begin o m idle b = of-halt (irq o) (code-first o (m .st, b))
 of-begin o m (busy i q k) b =
     let n = lentTo calls driverOf m b in
-    let x = run conc (code o) (m .st, b) in
+    let x = run concrete (code o) (m .st, b) in
     either (cond i (passes o) false) (beside calls driverOf n x) (stay calls driverOf 3 n) (of-beside n x) refl
 
 of-start : (c : Config) (n : ℕ) (m : Machine Answer Driver) (b : Buf) → None (started calls driverOf (λ s. s) c n m b)

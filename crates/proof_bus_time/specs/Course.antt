@@ -18,7 +18,7 @@ use Rattle.model.specs.Calls.{Config, Op, interrupt, slotted, other, aside, Set
 use Rattle.model.specs.Calls.{PollWrite, PollDataOut, BeginDataIn, asideCode, slots, irq, startRow, calls}
 use Rattle.model.specs.Machine.{Buf, Call, start, begin, go, question, Way, idle, busy, Awaits, Machine, ended, lentTo, misfit, stay, halt, beside, begun, continued, started, over}
 use Rattle.model_ops.specs.Rings.{St}
-use Rattle.machine.specs.Under.{driverOf, drive}
+use Rattle.machine.specs.Suspended.{driverOf, drive}
 use Rattle.machine.specs.Goes.{Called}
 use Rattle.call_bus_time.specs.Sharing.{starting, opSort, sortOf, chargeOn, timeAfter, turnedDown, settled, sharedCall}
 use Rattle.proof_bus_time.specs.Four.{Four, Turn, called, next, after}

@@ -18,12 +18,12 @@ use Rattle.alloc.specs.Outcome.{sameDir, Takes, Outcome, six, seven, eight, giv
 use Rattle.alloc.specs.Run.{ep0, Step, kept, gave-ep0, step}
 use Rattle.model.specs.Tree as tree
 use Rattle.model.specs.Tree.{ends, asks, bindOut}
-use Rattle.model.specs.Script.{Script, ret, bind, test, read-then, write-then, wait-then, callback-then, get-then, put-then, is-then, look-then, fetch-then, act-then, hand-then, row-then, run, rows, lastOf, Act, complete, reset-ring, set-enabled, fill, fill0, open-oldest, close-oldest, take-oldest, enqueue, allocate, allocate0, no-wakes, waken, Row, switch, bus-reset}
+use Rattle.model.specs.Script.{Script, ret, bind, test, read-then, write-then, wait-then, callback-then, get-then, put-then, is-then, look-then, fetch-then, act-then, hand-then, row-then, run, rows, lastOf, Act, complete, reset-ring, set-enabled, fill, fill0, open-oldest, close-oldest, take-oldest, enqueue, allocate, allocate0, no-wakes, waken, Burst, switch, bus-reset}
 use Rattle.model_ops.specs.Records.{isoOut, configured, enabledOn, recordGiven, setsGiven, givenTo, allocatedOn, startedWith, allocatedEp0}
 use Rattle.model_ops.specs.Rings.{St, configStep}
-use Rattle.model_ops.specs.Conc.{conc}
+use Rattle.model_ops.specs.Concrete.{concrete}
 use Rattle.proof_book.specs.Cells.{on-key}
-use Rattle.proof_book.specs.Sorts.{Steady, put-steady, act-steady, hand-steady, row-steady}
+use Rattle.proof_book.specs.TransferKinds.{Steady, put-steady, act-steady, hand-steady, row-steady}
 use Rattle.proof_bus_time.specs.Enabled.{isTaken}
 use Rattle.proof_bus_time.specs.Stays.{givenOf, Turns, put-stays, act-stays, hand-stays, switch-stays, reset-stays}
 
@@ -96,7 +96,7 @@ enabled-gave d dir e on = by (isoOut d dir e)
     by true = gave-same d
     by false = of-records d _ refl (λ _ _. refl)
 
-act-gave : (q : Act) (s : St) → Gave (s .0) (conc .act q s .0)
+act-gave : (q : Act) (s : St) → Gave (s .0) (concrete .act q s .0)
 unfolding allocatedOn allocatedEp0
 act-gave (complete e) s = of-steady (act-steady (complete e) refl s) (act-stays (complete e) refl s)
 act-gave (reset-ring d e) s = of-steady (act-steady (reset-ring d e) refl s) (act-stays (reset-ring d e) refl s)
@@ -112,7 +112,7 @@ act-gave (allocate0 maximum) s = ep0-gave (s .0) maximum _ (step (s .0 .allocato
 act-gave no-wakes s = of-records (s .0) _ refl (λ _ _. refl)
 act-gave (waken codes) s = of-records (s .0) _ refl (λ _ _. refl)
 
-row-gave : (g : Row) (n : ℕ) (s : St) → Gave (s .0) (conc .row g n s .1 .0)
+row-gave : (g : Burst) (n : ℕ) (s : St) → Gave (s .0) (concrete .row g n s .1 .0)
 unfolding configStep
 row-gave (switch e on) zero s = of-records (s .0) _ refl (λ _ _. refl)
 row-gave (switch e on) (suc n) s = of-steady (row-steady (switch e on) (suc n) s) (switch-stays e on n s)
@@ -140,11 +140,11 @@ moves-cond : {A : Type 0} {d : Driver} (b : Bool) {o u : tree.Out St A} → Move
 moves-cond true x y = x
 moves-cond false x y = y
 
-rows-move : {A : Type 0} (g : Row) (n : ℕ) {k : St → tree.Out St A} → ((t : St) → Moves (t .0) (k t)) → (s : St) → Moves (s .0) (rows conc g n k s)
+rows-move : {A : Type 0} (g : Burst) (n : ℕ) {k : St → tree.Out St A} → ((t : St) → Moves (t .0) (k t)) → (s : St) → Moves (s .0) (rows concrete g n k s)
 rows-move g zero x s = to-ask (row-gave g zero s) (λ _ t. x t)
 rows-move g (suc n) x s = to-ask (row-gave g (suc n) s) (λ _ t. rows-move g n x t)
 
-pub run-moves : {i : Bool} {A : Type 0} (p : Script i A) (s : St) → Moves (s .0) (run conc p s)
+pub run-moves : {i : Bool} {A : Type 0} (p : Script i A) (s : St) → Moves (s .0) (run concrete p s)
 run-moves (ret a) s = to-end (gave-same (s .0))
 run-moves (bind p f) s = moves-bind (run-moves p s) (λ a t. run-moves (f a) t)
 run-moves (test b p q) s = moves-cond b (run-moves p s) (run-moves q s)
@@ -152,11 +152,11 @@ run-moves (read-then r e k) s = to-ask (gave-same (s .0)) (λ v t. run-moves (k 
 run-moves (write-then r e v p) s = to-ask (gave-same (s .0)) (λ _ t. run-moves p t)
 run-moves (wait-then n p) s = to-ask (gave-same (s .0)) (λ _ t. run-moves p t)
 run-moves (callback-then p) s = to-ask (gave-same (s .0)) (λ _ t. run-moves p t)
-run-moves (get-then c k) s = run-moves (k (conc .get c s)) s
-run-moves (put-then c v p) s = after (of-steady (put-steady c v s) (put-stays c v s)) (run-moves p (conc .put c v s))
-run-moves (is-then q k) s = run-moves (k (conc .is q s)) s
-run-moves (look-then q k) s = run-moves (k (conc .look q s)) s
-run-moves (fetch-then q k) s = run-moves (k (conc .fetch q s)) s
-run-moves (act-then q p) s = after (act-gave q s) (run-moves p (conc .act q s))
+run-moves (get-then c k) s = run-moves (k (concrete .get c s)) s
+run-moves (put-then c v p) s = after (of-steady (put-steady c v s) (put-stays c v s)) (run-moves p (concrete .put c v s))
+run-moves (is-then q k) s = run-moves (k (concrete .is q s)) s
+run-moves (look-then q k) s = run-moves (k (concrete .look q s)) s
+run-moves (fetch-then q k) s = run-moves (k (concrete .fetch q s)) s
+run-moves (act-then q p) s = after (act-gave q s) (run-moves p (concrete .act q s))
 run-moves (hand-then q p) s = to-ask (of-steady (hand-steady q s) (hand-stays q s)) (λ _ t. run-moves p t)
 run-moves (row-then g p) s = rows-move g (lastOf g) (run-moves p) s

@@ -10,10 +10,10 @@ use Rattle.state.specs.Driver.{Driver}
 use Rattle.model.specs.Tree as tree
 use Rattle.model.specs.Tree.{ends, asks, bindOut}
 use Rattle.model.specs.Cells.{Cell, Val}
-use Rattle.model.specs.Script.{Script, ret, bind, test, read-then, write-then, wait-then, callback-then, get-then, put-then, is-then, look-then, fetch-then, act-then, hand-then, Act, Hand, handAsk, run}
+use Rattle.model.specs.Script.{Script, ret, bind, test, read-then, write-then, wait-then, callback-then, get-then, put-then, is-then, look-then, fetch-then, act-then, hand-then, Act, DmaStep, dmaStepAsk, run}
 use Rattle.model.specs.Every.{sameReg}
 use Rattle.model_ops.specs.Rings.{St}
-use Rattle.model_ops.specs.Conc.{conc}
+use Rattle.model_ops.specs.Concrete.{concrete}
 use Rattle.proof_bus_time.specs.History.{cleared}
 use Rattle.proof_bus_time.specs.Enabled.{writesConfig}
 use Rattle.proof_bus_time.specs.Stays.{configOf, Stays, allowed, put-stays, act-stays, hand-stays, gives-config}
@@ -50,7 +50,7 @@ module _ {bit : ℕ} {back : ℕ → ℕ} {X : ℕ → Driver → Type 0} where
 -- a script's run from the states K
 pub record Goes (bit : ℕ) (back : ℕ → ℕ) (c : ℕ) (K : Driver → Type 0) (X P : ℕ → Driver → Type 0) {i : Bool}
     {A : Type 0} (p : Script i A) : Type 0 where
-  pub on : (s : St) → K (s .0) → Left bit back X P c (run conc p s)
+  pub on : (s : St) → K (s .0) → Left bit back X P c (run concrete p s)
 
 -- the first access is no write of ep_config
 pub data First {A : Type 0} : tree.Out St A → Type 0 where
@@ -88,9 +88,9 @@ unwritten false x y h = refl
 
 -- what the operations that a calm script has keep
 pub record Keeps (giving : Bool) (K : Driver → Type 0) : Type 0 where
-  pub put : (c : Cell) (v : Val c) (s : St) → K (s .0) → K (conc .put c v s .0)
-  pub act : (q : Act) → allowed giving q ≡ true → (s : St) → K (s .0) → K (conc .act q s .0)
-  pub hand : (q : Hand) (s : St) → K (s .0) → K (conc .hand q s .1 .0)
+  pub put : (c : Cell) (v : Val c) (s : St) → K (s .0) → K (concrete .put c v s .0)
+  pub act : (q : Act) → allowed giving q ≡ true → (s : St) → K (s .0) → K (concrete .act q s .0)
+  pub hand : (q : DmaStep) (s : St) → K (s .0) → K (concrete .hand q s .1 .0)
   pub later : (d d′ : Driver) → Stays d d′ → K d → K d′
 
 -- what follows from what stays
@@ -125,23 +125,23 @@ module _ {giving : Bool} {K : Driver → Type 0} (M : Keeps giving K) (bit : ℕ
       (subst (λ g. X g (s .0)) (sym (quiet bit q c x)) (shows (s .0) y))
       (λ v t b. subst (λ g. Left bit back X Same g (k v t)) (sym (quiet bit q c x)) (z v t (M .later _ _ b y)))
 
-  pub calm-run : {i : Bool} {A : Type 0} (p : Script i A) → Calm giving p → (s : St) → K (s .0) → Runs (run conc p s)
+  pub calm-run : {i : Bool} {A : Type 0} (p : Script i A) → Calm giving p → (s : St) → K (s .0) → Runs (run concrete p s)
   calm-run (ret a) x s k = at-end (refl, k)
   calm-run (bind p f) x s k =
-      left-bind (calm-run p (x .0) s k) (λ g a t y. subst (λ h. Left bit back X Same h (run conc (f a) t))
+      left-bind (calm-run p (x .0) s k) (λ g a t y. subst (λ h. Left bit back X Same h (run concrete (f a) t))
       (sym (y .0)) (calm-run (f a) (x .1 a) t (y .1)))
   calm-run (test b p q) x s k = left-cond b (λ _. calm-run p (x .0) s k) (λ _. calm-run q (x .1) s k)
   calm-run (read-then r e f) x s k = ask (Read r e) s (x .0) k (λ v t y. calm-run (f v) (x .1 v) t y)
   calm-run (write-then r e v p) x s k = ask (Write r e v) s (x .0) k (λ _ t y. calm-run p (x .1) t y)
   calm-run (wait-then n p) x s k = ask (Wait n) s (x .0) k (λ _ t y. calm-run p (x .1) t y)
   calm-run (callback-then p) x s k = ask Callback s (x .0) k (λ _ t y. calm-run p (x .1) t y)
-  calm-run (get-then cell f) x s k = calm-run (f (conc .get cell s)) (x (conc .get cell s)) s k
-  calm-run (put-then cell v p) x s k = calm-run p x (conc .put cell v s) (M .put cell v s k)
-  calm-run (is-then q f) x s k = calm-run (f (conc .is q s)) (x (conc .is q s)) s k
-  calm-run (look-then q f) x s k = calm-run (f (conc .look q s)) (x (conc .look q s)) s k
-  calm-run (fetch-then q f) x s k = calm-run (f (conc .fetch q s)) (x (conc .fetch q s)) s k
-  calm-run (act-then q p) x s k = let y = opened (allowed giving q) x in calm-run p (y .1) (conc .act q s) (M .act q (y .0) s k)
-  calm-run (hand-then q p) x s k = ask (handAsk q (conc .hand q s .0)) (conc .hand q s .1) (x .0 (conc .hand q s .0)) (M .hand q s k) (λ _ t y. calm-run p (x .1) t y)
+  calm-run (get-then cell f) x s k = calm-run (f (concrete .get cell s)) (x (concrete .get cell s)) s k
+  calm-run (put-then cell v p) x s k = calm-run p x (concrete .put cell v s) (M .put cell v s k)
+  calm-run (is-then q f) x s k = calm-run (f (concrete .is q s)) (x (concrete .is q s)) s k
+  calm-run (look-then q f) x s k = calm-run (f (concrete .look q s)) (x (concrete .look q s)) s k
+  calm-run (fetch-then q f) x s k = calm-run (f (concrete .fetch q s)) (x (concrete .fetch q s)) s k
+  calm-run (act-then q p) x s k = let y = opened (allowed giving q) x in calm-run p (y .1) (concrete .act q s) (M .act q (y .0) s k)
+  calm-run (hand-then q p) x s k = ask (dmaStepAsk q (concrete .hand q s .0)) (concrete .hand q s .1) (x .0 (concrete .hand q s .0)) (M .hand q s k) (λ _ t y. calm-run p (x .1) t y)
 
   -- a calm part, and the rest
   pub calm-then : {i : Bool} {A B : Type 0} {P : ℕ → Driver → Type 0} {p : Script i A} {f : A → Script i B}
@@ -149,10 +149,10 @@ module _ {giving : Bool} {K : Driver → Type 0} (M : Keeps giving K) (bit : ℕ
   calm-then {P = P} {p = p} {f = f} x rest =
       record {
         on = λ s k. left-bind (calm-run p x s k) (λ g a t y. subst
-            (λ h. Left bit back X P h (run conc (f a) t)) (sym (y .0)) (rest a .on t (y .1)));
+            (λ h. Left bit back X P h (run concrete (f a) t)) (sym (y .0)) (rest a .on t (y .1)));
       }
 
-pub calm-first : (giving : Bool) {i : Bool} {A : Type 0} (p : Script i A) → Calm giving p → (s : St) → First (run conc p s)
+pub calm-first : (giving : Bool) {i : Bool} {A : Type 0} (p : Script i A) → Calm giving p → (s : St) → First (run concrete p s)
 calm-first giving (ret a) x s = none
 calm-first giving (bind p f) x s = first-bind (calm-first giving p (x .0) s) (λ a t. calm-first giving (f a) (x .1 a) t)
 calm-first giving (test b p q) x s = first-cond b (calm-first giving p (x .0) s) (calm-first giving q (x .1) s)
@@ -160,10 +160,10 @@ calm-first giving (read-then r e f) x s = some (x .0)
 calm-first giving (write-then r e v p) x s = some (x .0)
 calm-first giving (wait-then n p) x s = some (x .0)
 calm-first giving (callback-then p) x s = some (x .0)
-calm-first giving (get-then cell f) x s = calm-first giving (f (conc .get cell s)) (x (conc .get cell s)) s
-calm-first giving (put-then cell v p) x s = calm-first giving p x (conc .put cell v s)
-calm-first giving (is-then q f) x s = calm-first giving (f (conc .is q s)) (x (conc .is q s)) s
-calm-first giving (look-then q f) x s = calm-first giving (f (conc .look q s)) (x (conc .look q s)) s
-calm-first giving (fetch-then q f) x s = calm-first giving (f (conc .fetch q s)) (x (conc .fetch q s)) s
-calm-first giving (act-then q p) x s = calm-first giving p (opened (allowed giving q) x .1) (conc .act q s)
-calm-first giving (hand-then q p) x s = some (x .0 (conc .hand q s .0))
+calm-first giving (get-then cell f) x s = calm-first giving (f (concrete .get cell s)) (x (concrete .get cell s)) s
+calm-first giving (put-then cell v p) x s = calm-first giving p x (concrete .put cell v s)
+calm-first giving (is-then q f) x s = calm-first giving (f (concrete .is q s)) (x (concrete .is q s)) s
+calm-first giving (look-then q f) x s = calm-first giving (f (concrete .look q s)) (x (concrete .look q s)) s
+calm-first giving (fetch-then q f) x s = calm-first giving (f (concrete .fetch q s)) (x (concrete .fetch q s)) s
+calm-first giving (act-then q p) x s = calm-first giving p (opened (allowed giving q) x .1) (concrete .act q s)
+calm-first giving (hand-then q p) x s = some (x .0 (concrete .hand q s .0))

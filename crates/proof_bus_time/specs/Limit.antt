@@ -15,7 +15,7 @@ use Rattle.state.specs.Driver.{Driver}
 use Rattle.model.specs.Every.{sameReg}
 use Rattle.model.specs.Answers.{Answer}
 use Rattle.model.specs.Machine.{Buf, Machine, Ans, ended, handed, told}
-use Rattle.machine.specs.Under.{drive}
+use Rattle.machine.specs.Suspended.{drive}
 use Rattle.req_bus_time.specs.Time.{entryOf, total, inUse, passes, keepOf, uncharged}
 use Rattle.req_bus_time.specs.TimeLaws.{length-keep, keep-le, total-set}
 use Rattle.call_bus_time.specs.Sharing.{Sort, enabling, starting, going, apart, sortOf, chargeOn, written, timeAfter, settled}

@@ -20,7 +20,7 @@ use Rattle.model.specs.Every.{Chip, Every, at-end, at-ask, every-bind}
 use Rattle.model.specs.Bus.{nakAll, busReset, setEnabledOut, setEnabled}
 use Rattle.model_ops.specs.Records.{isoOut, configured, enabledOn}
 use Rattle.model_ops.specs.Rings.{St, configStep}
-use Rattle.model_ops.specs.Conc.{conc}
+use Rattle.model_ops.specs.Concrete.{concrete}
 use Rattle.proof_bus_time.specs.History.{cleared}
 use Rattle.proof_bus_time.specs.Histories.{none-set}
 
@@ -61,25 +61,25 @@ module _ (e : ℕ) (on : Bool) (charge : ℕ) where
   abbrev by-word : {b : Bool} → b ≡ on → cond b charge 0 ≡ cond on charge 0
   by-word h = ap (λ (b : Bool). cond b charge 0) h
 
-  of-in : (iso : Bool) (s : St) → Ends In e iso Left charge (run conc (setEnabled In e on) s)
+  of-in : (iso : Bool) (s : St) → Ends In e iso Left charge (run concrete (setEnabled In e on) s)
   of-in iso s =
       at-ask tt (λ _ _ _ _. at-ask tt (λ _ _ _ _. at-ask tt (λ _ _ _ _. at-ask tt (λ _ u _ _. at-ask tt (λ _ _ _ _. at-end (by-word (in-word (u .0) e on)))))))
 
-  of-row : (n : ℕ) (s : St) → isOn (epOn (s .0) Out e .iso) ≡ true → Ends Out e true Left charge (rows conc (switch e on) n (λ t. ends (tt {0}) t) s)
+  of-row : (n : ℕ) (s : St) → isOn (epOn (s .0) Out e .iso) ≡ true → Ends Out e true Left charge (rows concrete (switch e on) n (λ t. ends (tt {0}) t) s)
   of-row zero s h = at-ask tt (λ _ _ _ _. at-end (by-word (row-word (s .0) e on h)))
   of-row (suc zero) s h = at-ask tt (λ _ t _ k. of-row zero t k)
   of-row (suc (suc zero)) s h = at-ask tt (λ _ t _ k. of-row (suc zero) t k)
   of-row (suc (suc (suc n))) s h = at-ask tt (λ _ t _ k. of-row (suc (suc n)) t k)
 
-  of-plain : (s : St) → Ends Out e false Left charge (run conc (setEnabledOut {i = false} e on) s)
+  of-plain : (s : St) → Ends Out e false Left charge (run concrete (setEnabledOut {i = false} e on) s)
   of-plain s = at-ask tt (λ _ _ _ _. at-ask tt (λ _ _ _ _. at-ask tt (λ _ u _ k. at-ask tt (λ _ _ _ _. at-end (by-word (out-word (u .0) e on k))))))
 
   -- by its sort
-  of-out : (iso : Bool) (s : St) → isOn (epOn (s .0) Out e .iso) ≡ iso → Ends Out e iso Left charge (cond iso (rows conc (switch e on) 18 (λ t. ends (tt {0}) t) s) (run conc (setEnabledOut {i = false} e on) s))
+  of-out : (iso : Bool) (s : St) → isOn (epOn (s .0) Out e .iso) ≡ iso → Ends Out e iso Left charge (cond iso (rows concrete (switch e on) 18 (λ t. ends (tt {0}) t) s) (run concrete (setEnabledOut {i = false} e on) s))
   of-out true s h = of-row 18 s h
   of-out false s h = of-plain s
 
-  pub switched : (dir : Dir) (s : St) → Ends dir e (isOn (epOn (s .0) dir e .iso)) Left charge (run conc (setEnabled dir e on) s)
+  pub switched : (dir : Dir) (s : St) → Ends dir e (isOn (epOn (s .0) dir e .iso)) Left charge (run concrete (setEnabled dir e on) s)
   switched In s = of-in (isOn (epOn (s .0) In e .iso)) s
   switched Out s = every-bind (of-out (isOn (epOn (s .0) Out e .iso)) s refl) (λ _ _ _ p. at-end p)
 
@@ -89,15 +89,15 @@ module _ (e : ℕ) (on : Bool) (charge : ℕ) where
 abbrev pub Ends-all : {A : Type 0} → ℕ → (ℕ → Type 0) → ℕ → tree.Out St A → Type 0
 Ends-all bit P charge o = Every (charge-of bit) (λ (s t : St). Unit {0}) Any (λ c _ _. P c) charge o
 
-naks : (bit n e charge : ℕ) (s : St) → Ends-all bit (λ c. c ≡ charge) charge (run conc (nakAll {i = false} n e) s)
+naks : (bit n e charge : ℕ) (s : St) → Ends-all bit (λ c. c ≡ charge) charge (run concrete (nakAll {i = false} n e) s)
 unfolding nakAll
 naks bit zero e charge s = at-end refl
 naks bit (suc n) e charge s = at-ask tt (λ _ _ _ _. at-ask tt (λ _ t _ _. naks bit n (suc e) charge t))
 
-reset-row : (bit charge : ℕ) (s : St) → Ends-all bit (λ c. c ≡ 0) charge (rows conc bus-reset 3 (λ t. ends (tt {0}) t) s)
+reset-row : (bit charge : ℕ) (s : St) → Ends-all bit (λ c. c ≡ 0) charge (rows concrete bus-reset 3 (λ t. ends (tt {0}) t) s)
 reset-row bit charge s = at-ask tt (λ _ _ _ _. at-ask tt (λ _ _ _ _. at-ask tt (λ _ _ _ _. at-ask tt (λ _ _ _ _. at-end (ap (λ (b : Bool). cond b charge 0) (none-set bit))))))
 
-pub reset : (bit charge : ℕ) (s : St) → Ends-all bit (λ c. c ≡ 0) charge (run conc busReset s)
+pub reset : (bit charge : ℕ) (s : St) → Ends-all bit (λ c. c ≡ 0) charge (run concrete busReset s)
 reset bit charge s =
     at-ask tt (λ _ _ _ _. at-ask tt (λ _ _ _ _. at-ask tt (λ _ t _ _.
-    every-bind (naks bit 15 1 charge t) (λ c _ u p. every-bind {f = λ (_ : Unit {0}) (v : St). run conc (wakeAll {i = false}) v} (reset-row bit c u) (λ _ _ _ z. at-end z)))))
+    every-bind (naks bit 15 1 charge t) (λ c _ u p. every-bind {f = λ (_ : Unit {0}) (v : St). run concrete (wakeAll {i = false}) v} (reset-row bit c u) (λ _ _ _ z. at-end z)))))

@@ -10,7 +10,7 @@ use Rattle.state.specs.Driver.{Driver}
 use Rattle.model.specs.Answers.{Answer, Refused}
 use Rattle.model.specs.Calls.{Config, Op, calls}
 use Rattle.model.specs.Machine.{Buf, Call, question, pending, Event, Machine, ended, lentTo}
-use Rattle.machine.specs.Under.{driverOf, drive}
+use Rattle.machine.specs.Suspended.{driverOf, drive}
 use Rattle.machine.specs.Goes.{Called}
 use Rattle.proof_book.specs.Always as alone
 use Rattle.call_bus_time.specs.Sharing.{sortOf, timeAfter, turnedDown, settled, sharedCall}

@@ -18,18 +18,18 @@ use Rattle.state.specs.Ep.{resetOf}
 use Rattle.state.specs.Fresh.{clearStamps, noStamps}
 use Rattle.state.specs.Driver.{Driver, key, noEp, epOn, withOn, withLenOn, withStampOn, withPacedOn, withRequestOn}
 use Rattle.ring.specs.Slot.{slotAddr, joinedOf, passedOf, hasWaiting}
-use Rattle.ring.specs.Out.{hasRoomOut, cappedAt, turnedAwayOf, arrivedOf, armedAt, openedOf, closedOf}
+use Rattle.ring.specs.Out.{hasRoomOut, cappedAt, overrunOf, arrivedOf, armedAt, openedOf, closedOf}
 use Rattle.ring.specs.In.{completedOf, loadedOf, unloadedOf}
 use Rattle.marks.specs.Copies.{copied}
 use Rattle.alloc.specs.declared.Answer.{Answer}
 use Rattle.alloc.specs.declared.Answer.the-variants.{Refused, Given}
 use Rattle.alloc.specs.Alloc.{isIso}
 use Rattle.model.specs.Cells.{Cell, Val, globals-cell, control-cell, allocator-cell, ep-cell, request-cell, paced-cell}
-use Rattle.model.specs.Script.{Act, complete, reset-ring, set-enabled, fill, fill0, open-oldest, close-oldest, take-oldest, enqueue, allocate, allocate0, no-wakes, waken, Hand, arrive, send, place, place0}
+use Rattle.model.specs.Script.{Act, complete, reset-ring, set-enabled, fill, fill0, open-oldest, close-oldest, take-oldest, enqueue, allocate, allocate0, no-wakes, waken, DmaStep, arrive, send, place, place0}
 use Rattle.model.specs.Statics.{isOn, isoOuts}
 use Rattle.model_ops.specs.Records.{isoOut, configured, enabledOn, isoAdded, withSets, recordGiven, setsGiven, givenTo, allocatedOn, startedWith, allocatedEp0}
 use Rattle.model_ops.specs.Rings.{St, completeOn, emptied, emptiedOn, openOn, closeOn, takeOn, roomOn, queuedOn, enqueueOn, recordedOn, admittedOn, arrivedAt, arriveOn, sendOn, placeOn, renewedOn, armAt, slotStep, typeStep, configStep, switchStep, resetBelow, resetAll, resetStep}
-use Rattle.model_ops.specs.Conc.{conc}
+use Rattle.model_ops.specs.Concrete.{concrete}
 
 -- ---- what stays
 
@@ -92,16 +92,16 @@ completed-given r = by (eqb (r .loaded) 0)
     by false = refl
 
 arrived-given : (r : EpState) → givenOf (arrivedOf r) ≡ givenOf r
-unfolding arrivedOf joinedOf turnedAwayOf
+unfolding arrivedOf joinedOf overrunOf
 arrived-given r = by (hasRoomOut r)
   where
-    by : (b : Bool) → givenOf (cond b (joinedOf r) (turnedAwayOf r)) ≡ givenOf r
+    by : (b : Bool) → givenOf (cond b (joinedOf r) (overrunOf r)) ≡ givenOf r
     by true = refl
     by false = refl
 
 -- ---- each operation
 
-pub put-stays : (c : Cell) (v : Val c) (s : St) → Stays (s .0) (conc .put c v s .0)
+pub put-stays : (c : Cell) (v : Val c) (s : St) → Stays (s .0) (concrete .put c v s .0)
 unfolding withRequestOn withPacedOn
 put-stays globals-cell v s = others (s .0) _ refl refl refl
 put-stays control-cell v s = others (s .0) _ refl refl refl
@@ -130,7 +130,7 @@ allowed giving (allocate0 maximum) = giving
 allowed giving no-wakes = true
 allowed giving (waken codes) = true
 
-pub act-stays : (q : Act) → allowed false q ≡ true → (s : St) → Stays (s .0) (conc .act q s .0)
+pub act-stays : (q : Act) → allowed false q ≡ true → (s : St) → Stays (s .0) (concrete .act q s .0)
 unfolding completeOn emptiedOn emptied openOn openedOf closeOn takeOn closedOf passedOf enqueueOn
 act-stays (complete e) h s = record-stays (s .0) In e _ (completed-given (epOn (s .0) In e))
 act-stays (reset-ring d e) h s = either (isoOut (s .0) d e) (stays (s .0)) (record-stays (s .0) d e _ refl)
@@ -162,7 +162,7 @@ admitted-stays : (d : Driver) (e len : ℕ) → Stays d (admittedOn d e len)
 unfolding admittedOn
 admitted-stays d e len = let p = recorded-stays d e len in still p (record-stays (recordedOn d e len) Out e _ (arrived-given (epOn d Out e) ∙ sym (p .given Out e)))
 
-pub hand-stays : (q : Hand) (s : St) → Stays (s .0) (conc .hand q s .1 .0)
+pub hand-stays : (q : DmaStep) (s : St) → Stays (s .0) (concrete .hand q s .1 .0)
 unfolding arriveOn sendOn loadedOf placeOn
 hand-stays (arrive e n) s = by (isSet (isoOuts (s .0 .globals)) (e % 16))
   where
@@ -255,7 +255,7 @@ unfolding startedWith
 started-config maximum (Refused n) d = refl
 started-config maximum (Given e base slots) d = refl
 
-pub gives-config : (q : Act) → allowed true q ≡ true → (s : St) → configOf (conc .act q s .0) ≡ configOf (s .0)
+pub gives-config : (q : Act) → allowed true q ≡ true → (s : St) → configOf (concrete .act q s .0) ≡ configOf (s .0)
 unfolding allocatedOn allocatedEp0
 gives-config (complete e) h s = act-stays (complete e) refl s .config
 gives-config (reset-ring d e) h s = act-stays (reset-ring d e) refl s .config

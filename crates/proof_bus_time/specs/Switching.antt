@@ -19,7 +19,7 @@ use Rattle.model.specs.Bus as bus
 use Rattle.model.specs.Calls.{SetEnabled}
 use Rattle.model_ops.specs.Records.{isoOut}
 use Rattle.model_ops.specs.Rings.{St, configStep}
-use Rattle.model_ops.specs.Conc.{conc}
+use Rattle.model_ops.specs.Concrete.{concrete}
 use Rattle.req_bus_time.specs.Time.{chargeOf}
 use Rattle.call_bus_time.specs.Sharing.{chargeOn}
 use Rattle.proof_bus_time.specs.Enabled.{isEnabled}
@@ -88,7 +88,7 @@ module _ (dir : Dir) (e : ℕ) where
 
   -- calm scripts then
   pub calm-ended : {i : Bool} {A : Type 0} (back : ℕ → ℕ) (c : ℕ) (p : Script i A) → Calm false p → (s : St)
-      → Ended c (s .0) → Left bit back (Due dir e false) Ended c (run conc p s)
+      → Ended c (s .0) → Left bit back (Due dir e false) Ended c (run concrete p s)
   calm-ended back c p x s h =
       left-more (calm-run (keeps (ended-stays c)) bit back c (Due dir e false) (λ d k. k .0) p x s h)
       (λ g d y. subst (λ z. Ended z d) (sym (y .0)) (y .1))
@@ -177,7 +177,7 @@ module _ (dir : Dir) (e e′ : ℕ) (on : Bool) (c : ℕ) (d : Driver) (second :
     shows x k = shown dir e Out e′ on c d due second x k
 
     -- an isochronous OUT: its row
-    of-row : isOn (epOn d Out e′ .iso) ≡ true → (n : ℕ) (s : St) → Stays d (s .0) → Runs (rows conc (switch e′ on) n (λ t. ends (tt {0}) t) s)
+    of-row : isOn (epOn d Out e′ .iso) ≡ true → (n : ℕ) (s : St) → Stays d (s .0) → Runs (rows concrete (switch e′ on) n (λ t. ends (tt {0}) t) s)
     unfolding isoOut configStep
     of-row iso zero s k =
         let x = row-turns (s .0) e′ on (iso-stays Out e′ k ∙ iso) in
@@ -193,7 +193,7 @@ module _ (dir : Dir) (e e′ : ℕ) (on : Bool) (c : ℕ) (d : Driver) (second :
         let x = still k (switch-stays e′ on (suc (suc n)) s) in at-ask refl (shows _ x)
         (λ _ t w. of-row iso (suc (suc n)) t (still x w))
 
-    of-out : (iso : Bool) → isOn (epOn d Out e′ .iso) ≡ iso → (s : St) → Stays d (s .0) → Runs (cond iso (rows conc (switch e′ on) 18 (λ t. ends (tt {0}) t) s) (run conc (bus.setEnabledOut {i = false} e′ on) s))
+    of-out : (iso : Bool) → isOn (epOn d Out e′ .iso) ≡ iso → (s : St) → Stays d (s .0) → Runs (cond iso (rows concrete (switch e′ on) 18 (λ t. ends (tt {0}) t) s) (run concrete (bus.setEnabledOut {i = false} e′ on) s))
     unfolding isoOut
     of-out true h s k = of-row h 18 s k
     of-out false h s k = of-plain h .on s k
@@ -203,11 +203,11 @@ module _ (dir : Dir) (e e′ : ℕ) (on : Bool) (c : ℕ) (d : Driver) (second :
 module _ (dir : Dir) (e : ℕ) where
   woken : {back : ℕ → ℕ} {X : ℕ → Driver → Type 0} {A : Type 0} (dir′ : Dir) (e′ : ℕ) {c : ℕ} {o : tree.Out St A}
       → Left (place dir e) back X (Ended dir e) c o
-      → Left (place dir e) back X (Ended dir e) c (tree.bindOut o (λ _ t. run conc (wake {i = false} dir′ e′) t))
+      → Left (place dir e) back X (Ended dir e) c (tree.bindOut o (λ _ t. run concrete (wake {i = false} dir′ e′) t))
   woken dir′ e′ x = left-bind x (λ g _ t y. at-end (ended-stays dir e g _ _ (act-stays (waken (wakeCode dir′ e′ ∷ [])) refl t) y))
 
   pub switched : (dir′ : Dir) (e′ : ℕ) (on : Bool) (c : ℕ) (s : St) → Due dir e (mine dir e dir′ e′ on) c (s .0) → s .0 .globals .stage ≡ 2
       → Left (place dir e) (turnsBack dir e dir′ e′ on) (Due dir e (mine dir e dir′ e′ on)) (Ended dir e) c
-      (run conc (bus.setEnabled dir′ e′ on) s)
+      (run concrete (bus.setEnabled dir′ e′ on) s)
   switched In e′ on c s due second = woken In e′ (of-in dir e e′ on c (s .0) second due (isOn (epOn (s .0) In e′ .iso)) .on s (stays (s .0)))
   switched Out e′ on c s due second = woken Out e′ (of-out dir e e′ on c (s .0) second due (isOn (epOn (s .0) Out e′ .iso)) refl s (stays (s .0)))

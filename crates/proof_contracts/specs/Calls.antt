@@ -15,7 +15,7 @@ use Rattle.model.specs.Calls.{BusEnable, BusDisable, BusPoll, IsStalled, SetSta
 use Rattle.model.specs.Calls.{PollSetup, BeginDataOut, PollDataOut, BeginDataIn, PollDataIn, BeginAccept}
 use Rattle.model.specs.Calls.{BeginAcceptSetAddress, PollAccept, BeginReject, Advance, BeginRead, PollRead}
 use Rattle.model.specs.Calls.{BeginWrite, PollWrite, Open, Close, Queue}
-use Rattle.machine.specs.Under.{configOf, answerOf}
+use Rattle.machine.specs.Suspended.{configOf, answerOf}
 use Rattle.machine.specs.Keeps.{kept-by}
 use Rattle.call_start.proofs.allocate.Reads as allocate-contract
 use Rattle.call_start.proofs.start.Reads as start-contract

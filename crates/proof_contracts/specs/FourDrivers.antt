@@ -6,7 +6,7 @@ use mathlib.Core.Path.{_≡_, ap, subst, _∙_}
 use Prim.Native.Nat.{ℕ, _%_}
 use denote.Ref.{now}
 use Rattle.model.specs.Calls.{Config, Op}
-use Rattle.machine.specs.Under.{machineOf}
+use Rattle.machine.specs.Suspended.{machineOf}
 use Rattle.req_bus_time.specs.Time.{inUse}
 use Rattle.call_bus_time.specs.Sharing.{sharedCall}
 use Rattle.proof_bus_time.specs.History.{history}
@@ -15,7 +15,7 @@ use Rattle.proof_bus_time.specs.Charged.{chargedTime}
 use Rattle.proof_bus_time.specs.Code.{Lent, fourOf, Run, turns, last, code-in-use-charged}
 use Rattle.proof_bus_time.specs.Code as four
 use Rattle.usbhs_c.proofs.usbhs_time_in_use.Reads as time-in-use-contract
-use Rattle.proof_contracts.specs.SharedPage.{Made, Did}
+use Rattle.proof_contracts.specs.SharedPage.{Made, CallStep}
 
 -- a call of driver i, as one of the four
 abbrev pub asTurn : ℕ → Made → four.Made
@@ -29,8 +29,8 @@ asTurn i m = record {
 }
 
 -- it gets its own bytes, and the record as the last call of the four left it
-pub did-of-four : (l : Lent) (i : ℕ) (m : Made) → m .before ≡ l .time → Did i (l .bytes (i % 4)) (l .slots (i % 4)) m
-    → four.Did l (asTurn i m)
+pub did-of-four : (l : Lent) (i : ℕ) (m : Made) → m .before ≡ l .time → CallStep i (l .bytes (i % 4)) (l .slots (i % 4)) m
+    → four.CallStep l (asTurn i m)
 did-of-four l i m h did = did
     ∙ ap (λ (t : List ℕ). sharedCall i (m .event .call) (machineOf (l .bytes (i % 4)) (l .slots (i % 4))) t
     (m .event .lent)) h

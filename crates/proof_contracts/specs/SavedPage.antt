@@ -14,9 +14,9 @@ use Rattle.model.specs.Calls.{BusPoll, BusEnable, BusDisable, Microframe, SetSt
 use Rattle.model.specs.Calls.{BeginRead, BeginSetup, PollSetup, PollDataIn, BeginAccept, PollAccept, BeginReject}
 use Rattle.model.specs.Calls.{BeginDataOut, BeginAcceptSetAddress, startRow}
 use Rattle.model.specs.Machine.{Buf, Call, start, begin, go, question, idle, Ans}
-use Rattle.machine.specs.Under.{encode, decode, machineOf}
+use Rattle.machine.specs.Suspended.{encode, decode, machineOf}
 use Rattle.machine.specs.Keeps.{KeptBy}
-use Rattle.proof_contracts.specs.SharedPage.{Made, Did}
+use Rattle.proof_contracts.specs.SharedPage.{Made, CallStep}
 
 -- a call that neither begins an operation nor goes on with one, nor polls: pacing; open, close and queue; a question
 abbrev pub isPacing : Other → Bool
@@ -64,11 +64,11 @@ abbrev pub Saves : Call Config Op → Ans Answer → List ℕ → List ℕ → T
 Saves c a xs ys = SavesAs (passes c) a xs ys
 
 -- calls of driver i one after the other, from the state's bytes xs and the slot buffer a: by its contract each is a
--- step of the machine of calls (`Did`) and saves what it says. Whatever they are lent and whatever they bring
+-- step of the machine of calls (`CallStep`) and saves what it says. Whatever they are lent and whatever they bring
 abbrev pub Saving : ℕ → List ℕ → Buf → List Made → Type 0
 Saving i xs a [] = Unit {0}
 Saving i xs a (m ∷ ms) =
-    Did i xs a m × Saves (m .event .call) (m .answer) xs (m .bytes) × Saving i (m .bytes) (m .slots) ms
+    CallStep i xs a m × Saves (m .event .call) (m .answer) xs (m .bytes) × Saving i (m .bytes) (m .slots) ms
 
 pub record Pinned (m : Made) : Type 0 where
   -- the 22 bytes are the encoding of what is under way

@@ -11,9 +11,9 @@ use Rattle.state.specs.Determined.{Bytes, determined}
 use Rattle.model.specs.Answers.{Answer, Refused, End, NotYet, Done, Shown}
 use Rattle.model.specs.Calls.{Config, Op, calls, startRow}
 use Rattle.model.specs.Machine.{Buf, Event, Call, start, idle, Machine, Ans, ended, handed, told, started}
-use Rattle.machine.specs.declared.Under.{Under}
-use Rattle.machine.specs.declared.Under.the-variants as under
-use Rattle.machine.specs.Under.{encode, decode, wayOf, machineOf, driverOf, Canonical}
+use Rattle.machine.specs.declared.Suspended.{Suspended}
+use Rattle.machine.specs.declared.Suspended.the-variants as under
+use Rattle.machine.specs.Suspended.{encode, decode, wayOf, machineOf, driverOf, Canonical}
 use Rattle.machine.specs.Rows.{idleWay}
 use Rattle.machine.specs.Keeps.{canonical, KeptBy}
 use Rattle.machine.specs.Goes.{Called}
@@ -23,7 +23,7 @@ use Rattle.proof_contracts.specs.SavedPage.{passes, SavesAs, Saves, Savi
 
 -- ---- nothing is under way
 
-none-of : (u : Under) → wayOf u ≡ idle → u ≡ under.Idle
+none-of : (u : Suspended) → wayOf u ≡ idle → u ≡ under.Idle
 none-of under.Idle h = refl
 none-of (under.Driver p) h = absurd (true≢false (sym (ap idleWay h)))
 none-of (under.Bus p) h = absurd (true≢false (sym (ap idleWay h)))

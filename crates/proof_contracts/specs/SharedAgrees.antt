@@ -10,28 +10,28 @@ use Rattle.state.specs.Driver.{Driver}
 use Rattle.model.specs.Tree as tree
 use Rattle.model.specs.Tree.{ends, asks}
 use Rattle.model.specs.Script.{run}
-use Rattle.model.specs.Alike.{Phase}
-use Rattle.model.specs.Cells.{Plain}
+use Rattle.model.specs.Simulates.{Phase}
+use Rattle.model.specs.Cells.{EpCore}
 use Rattle.model.specs.Answers.{Answer, Refused}
 use Rattle.model.specs.Calls.{Config, Op, calls, startRow}
 use Rattle.model.specs.Machine.{Buf, Call, start, begin, go, question, Way, idle, busy, Machine, Ans, ended, handed}
 use Rattle.model.specs.Machine.{told, fed, halt, begun, continued, started, call, misfit, stay, lentTo, over, blankA}
 use Rattle.model.specs.Agree.{After, Ways, Lent, unless, agrees}
-use Rattle.machine.specs.Under.{driverOf, drive}
+use Rattle.machine.specs.Suspended.{driverOf, drive}
 use Rattle.machine.specs.Goes.{Called}
 use Rattle.req_bus_time.specs.Time.{chargeOf, entryOf, passes}
 use Rattle.call_bus_time.specs.Sharing.{Sort, enabling, starting, going, apart, opSort, sortOf, isHanded, chargeOn}
 use Rattle.call_bus_time.specs.Sharing.{turnedDown, timeAfter, settled, sharedCall}
 use Rattle.proof_book.specs.Pages.{Pages}
 use Rattle.proof_book.specs.Book.{book}
-use Rattle.proof_book.specs.Rest.{Rest, Chip}
+use Rattle.proof_book.specs.Coupling.{Coupling, Chip}
 use Rattle.proof_book.specs.Allocations.{fresh-kept}
 use Rattle.proof_book.specs.Agrees.{agree}
 use Rattle.proof_book.specs.FrontPage.{written, LentAsLeft}
 use Rattle.proof_book.specs.SlotsKept.{lent-is}
 use Rattle.proof_contracts.specs.SharedBook.{chargeIn, wouldPass, sharedStep, timeIn}
 
--- driver and book agree after a call (proof_book/specs/Rest.antt), and the record is what the book works out
+-- driver and book agree after a call (proof_book/specs/Coupling.antt), and the record is what the book works out
 pub record Agreed (i : ℕ) (c : Call Config Op) (x : Called) (before after : List ℕ) (b : Buf)
     (n : Machine Answer Pages) : Type 0 where
   pub both : After driverOf book agree calls x (sharedStep i (x .0) c n before b)
@@ -91,10 +91,10 @@ handed-same x y h = unblank x ∙ ap isHanded h ∙ sym (unblank y)
 
 -- ---- the driver's charges and the book's
 
-module _ {φ : Phase} {b : Buf} {d : Driver} {t : Pages} (r : Rest φ b d t) where
+module _ {φ : Phase} {b : Buf} {d : Driver} {t : Pages} (r : Coupling φ b d t) where
   charge-same : (dir : Dir) (e : ℕ) → chargeOn d dir e ≡ chargeIn t dir e
   unfolding chargeOn
-  charge-same dir e = ap (λ (p : Plain). chargeOf (p .kind) (p .«max_len»)) (r .same .plain dir e)
+  charge-same dir e = ap (λ (p : EpCore). chargeOf (p .kind) (p .«max_len»)) (r .same .plain dir e)
 
   pass-same : (i : ℕ) (x : Sort) (a a′ : Ans Answer) (time : List ℕ) → isHanded a ≡ isHanded a′
       → turnedDown i x a d time ≡ wouldPass i x a′ t time
@@ -145,7 +145,7 @@ down-chip i (question q) m n time b h l = absurd (true≢false (sym h))
 
 module _ (i : ℕ) (c : Call Config Op) (b : Buf) (time : List ℕ) {φ : Phase} (m : Machine Answer Driver)
     (n : Machine Answer Pages)
-    (w : Ways driverOf book agree calls φ (m .way) (n .way)) (r : Rest φ (m .buf) (m .st) (n .st))
+    (w : Ways driverOf book agree calls φ (m .way) (n .way)) (r : Coupling φ (m .buf) (m .st) (n .st))
     (l : LentAsLeft c n (m .buf) b) where
   -- the driver's own call, without the record
   own : After driverOf book agree calls (drive c m b) (written (drive c m b .0) c n b)

@@ -6,23 +6,23 @@ use mathlib.Core.List.{List, [], _∷_}
 use mathlib.Core.Path.{_≡_, refl, ap, subst, sym, _∙_}
 use Prim.Native.Nat.{ℕ, zero}
 use Rattle.state.specs.State.{view}
-use Rattle.model.specs.Alike.{Phase}
+use Rattle.model.specs.Simulates.{Phase}
 use Rattle.model.specs.Answers.{Answer, Refused}
 use Rattle.model.specs.Calls.{Config, Op, calls, startRow}
 use Rattle.model.specs.Machine.{Buf, Event, Call, start, question, pending, Machine, Ans, ended, told, lentTo}
 use Rattle.model.specs.Agree.{Ways}
 use Rattle.machine.specs.Questions.{questionOf}
-use Rattle.machine.specs.Under.{driverOf, drive, machineOf}
+use Rattle.machine.specs.Suspended.{driverOf, drive, machineOf}
 use Rattle.machine.specs.Goes.{Called}
 use Rattle.call_bus_time.specs.Sharing.{sortOf, turnedDown, timeAfter, settled}
 use Rattle.proof_book.specs.Pages.{Pages}
 use Rattle.proof_book.specs.Book.{book}
-use Rattle.proof_book.specs.Rest.{Rest}
+use Rattle.proof_book.specs.Coupling.{Coupling}
 use Rattle.proof_book.specs.Agrees.{agree}
 use Rattle.proof_book.specs.FrontPage.{written, LentAsLeft}
 use Rattle.proof_book.specs.FrontPage as page
 use Rattle.proof_book.specs.SlotsKept.{lent-is}
-use Rattle.proof_contracts.specs.SharedPage.{Made, Did, noted, Calls}
+use Rattle.proof_contracts.specs.SharedPage.{Made, CallStep, noted, Calls}
 use Rattle.proof_contracts.specs.SharedAgrees.{down-chip, down-same}
 use Rattle.proof_contracts.specs.SharedRuns.{AgreedAll, agreed-all}
 
@@ -63,11 +63,11 @@ module _ (i : ℕ) (xs : List ℕ) (a : Buf) (m : Made) where
   outcome u = cond u ((ended (Refused 19), lentTo calls driverOf (machineOf xs a) b), m .before)
       (drive c (machineOf xs a) b, timeAfter i (sortOf c) (drive c (machineOf xs a) b .0) (view xs) (m .before))
 
-  pub did-as : Did i xs a m → ((m .answer, machineOf (m .bytes) (m .slots)), m .time) ≡ outcome (isStopped i xs a m)
+  pub did-as : CallStep i xs a m → ((m .answer, machineOf (m .bytes) (m .slots)), m .time) ≡ outcome (isStopped i xs a m)
   unfolding settled
   did-as h = h
 
-  pub did-alone : Did i xs a m → page.Did xs a (madeAlone i xs a m)
+  pub did-alone : CallStep i xs a m → page.CallStep xs a (madeAlone i xs a m)
   did-alone h = by (isStopped i xs a m) (did-as h)
     where
       by : (u : Bool) → ((m .answer, machineOf (m .bytes) (m .slots)), m .time) ≡ outcome u
@@ -75,7 +75,7 @@ module _ (i : ℕ) (xs : List ℕ) (a : Buf) (m : Made) where
       by true h = ap (λ (z : Called × List ℕ). (told (questionOf (pending 0) (view xs)), z .0 .1)) h
       by false h = ap (λ (z : Called × List ℕ). z .0) h
 
-  lent-alone : {φ : Phase} (n : Machine Answer Pages) → Rest φ a (view xs) (n .st) → LentAsLeft c n a b
+  lent-alone : {φ : Phase} (n : Machine Answer Pages) → Coupling φ a (view xs) (n .st) → LentAsLeft c n a b
       → LentAsLeft (callAlone (isStopped i xs a m) c) n a b
   lent-alone n r l = by (isStopped i xs a m) refl
     where
@@ -84,7 +84,7 @@ module _ (i : ℕ) (xs : List ℕ) (a : Buf) (m : Made) where
       by false h = l
 
   noted-alone : {φ : Phase} (n : Machine Answer Pages)
-      → Ways driverOf book agree calls φ (machineOf xs a .way) (n .way) → Rest φ a (view xs) (n .st)
+      → Ways driverOf book agree calls φ (machineOf xs a .way) (n .way) → Coupling φ a (view xs) (n .st)
       → LentAsLeft c n a b
       → noted i m n .1 ≡ page.noted (madeAlone i xs a m) n .1
   noted-alone n w r l =
@@ -108,7 +108,7 @@ NotedAll i xs a n (m ∷ ms) = (noted i m n .1 ≡ page.noted (madeAlone i xs a 
     × LentAsLeft (madeAlone i xs a m .event .call) n a (m .event .lent) × NotedAll i (m .bytes) (m .slots) (noted i m n .1) ms
 
 noted-all : (i : ℕ) (ms : List Made) {φ : Phase} (xs : List ℕ) (a : Buf) (n : Machine Answer Pages)
-    → Ways driverOf book agree calls φ (machineOf xs a .way) (n .way) → Rest φ a (view xs) (n .st) → Calls i xs a n ms
+    → Ways driverOf book agree calls φ (machineOf xs a .way) (n .way) → Coupling φ a (view xs) (n .st) → Calls i xs a n ms
     → AgreedAll i n ms → NotedAll i xs a n ms
 noted-all i [] xs a n w r h k = tt
 noted-all i (m ∷ ms) xs a n w r h k = (

@@ -12,14 +12,14 @@ use Rattle.model.specs.Calls.{Config, Op, interrupt, slotted, other, aside, Set
 use Rattle.model.specs.Calls.{PollWrite, PollDataOut, BeginDataIn, calls}
 use Rattle.model.specs.Machine.{Buf, Call, start, begin, go, question, pending, Machine, Ans, ended, told, lentTo}
 use Rattle.machine.specs.Questions.{questionOf}
-use Rattle.machine.specs.Under.{driverOf, drive, machineOf}
+use Rattle.machine.specs.Suspended.{driverOf, drive, machineOf}
 use Rattle.machine.specs.Goes.{Called}
 use Rattle.call_bus_time.specs.Sharing.{sortOf, turnedDown, timeAfter}
 use Rattle.proof_book.specs.Pages.{Pages}
 use Rattle.proof_book.specs.FrontPage.{written, Compared, Sentences, same, AfterCall}
 use Rattle.proof_book.specs.FrontPage as page
 use Rattle.proof_book.specs.FrontPageProved.{demand-3}
-use Rattle.proof_contracts.specs.SharedPage.{Made, Did, Calls, noted, AfterEach, SharedDemand3}
+use Rattle.proof_contracts.specs.SharedPage.{Made, CallStep, Calls, noted, AfterEach, SharedDemand3}
 use Rattle.proof_contracts.specs.SharedRuns.{AgreedAll, agreed-all}
 use Rattle.proof_contracts.specs.SharedAlone.{isStopped, callAlone, answerAlone, madeAlone, allAlone, did-as}
 use Rattle.proof_contracts.specs.SharedAlone.{NotedAll, start-alone, all-noted, code-alone}
@@ -100,7 +100,7 @@ stopped-is i (question q) x s time h lent b n d k y = absurd (true≢false (sym 
 
 -- ---- one call
 
-after-made : (i : ℕ) (xs : List ℕ) (a : Buf) (m : Made) (n : Machine Answer Pages) → Did i xs a m
+after-made : (i : ℕ) (xs : List ℕ) (a : Buf) (m : Made) (n : Machine Answer Pages) → CallStep i xs a m
     → noted i m n .1 ≡ page.noted (madeAlone i xs a m) n .1
     → AfterCall (madeAlone i xs a m .event .call) (m .event .lent) n (madeAlone i xs a m .answer) (view (m .bytes))
     (m .slots) (page.noted (madeAlone i xs a m) n .1 .st)

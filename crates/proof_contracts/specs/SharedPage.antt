@@ -9,7 +9,7 @@ use Rattle.state.specs.State.{view}
 use Rattle.model.specs.Answers.{Answer}
 use Rattle.model.specs.Calls.{Config, Op, startRow}
 use Rattle.model.specs.Machine.{Buf, Event, start, Machine, Ans, blankA}
-use Rattle.machine.specs.Under.{machineOf}
+use Rattle.machine.specs.Suspended.{machineOf}
 use Rattle.call_bus_time.specs.Sharing.{sortOf, sharedCall}
 use Rattle.proof_book.specs.Pages.{Pages}
 use Rattle.proof_book.specs.FrontPage.{LentAsLeft, AfterCall}
@@ -27,8 +27,8 @@ pub record Made : Type 0 where
   pub time : List ℕ
 
 -- its contract, by driver i, where the state's bytes were xs and the slot buffer a (call_bus_time/specs/Sharing.antt)
-abbrev pub Did : ℕ → List ℕ → Buf → Made → Type 0
-Did i xs a m = ((m .answer, machineOf (m .bytes) (m .slots)), m .time) ≡ sharedCall i (m .event .call)
+abbrev pub CallStep : ℕ → List ℕ → Buf → Made → Type 0
+CallStep i xs a m = ((m .answer, machineOf (m .bytes) (m .slots)), m .time) ≡ sharedCall i (m .event .call)
     (machineOf xs a) (m .before) (m .event .lent)
 
 abbrev pub noted : ℕ → Made → Machine Answer Pages → Ans Answer × Machine Answer Pages
@@ -40,7 +40,7 @@ noted i m n = sharedStep i (m .answer) (m .event .call) n (m .before) (m .event 
 abbrev pub Calls : ℕ → List ℕ → Buf → Machine Answer Pages → List Made → Type 0
 Calls i xs a n [] = Unit {0}
 Calls i xs a n (m ∷ ms) =
-    Did i xs a m × LentAsLeft (m .event .call) n a (m .event .lent)
+    CallStep i xs a m × LentAsLeft (m .event .call) n a (m .event .lent)
     × Calls i (m .bytes) (m .slots) (noted i m n .1) ms
 
 pub record AfterShared (i : ℕ) (m : Made) (n : Machine Answer Pages) : Type 0 where

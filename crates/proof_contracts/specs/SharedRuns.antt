@@ -4,21 +4,21 @@ use mathlib.Core.Path.{_≡_, refl, subst, sym}
 use Prim.Native.Nat.{ℕ, zero}
 use Rattle.state.specs.State.{view}
 use Rattle.state.specs.Driver.{Driver}
-use Rattle.model.specs.Alike.{Phase}
+use Rattle.model.specs.Simulates.{Phase}
 use Rattle.model.specs.Answers.{Answer}
 use Rattle.model.specs.Calls.{Config, Op, calls, startRow}
 use Rattle.model.specs.Machine.{Buf, Event, start, Machine, Ans, ended, handed, told, fed, started}
 use Rattle.model.specs.Agree.{After, Ways, from-start}
-use Rattle.machine.specs.Under.{driverOf, drive, machineOf}
+use Rattle.machine.specs.Suspended.{driverOf, drive, machineOf}
 use Rattle.machine.specs.Goes.{Called}
 use Rattle.call_bus_time.specs.Sharing.{sortOf, timeAfter, settled, sharedCall}
 use Rattle.proof_book.specs.Pages.{Pages}
 use Rattle.proof_book.specs.Book.{book}
-use Rattle.proof_book.specs.Rest.{Rest}
+use Rattle.proof_book.specs.Coupling.{Coupling}
 use Rattle.proof_book.specs.Allocations.{fresh-kept}
 use Rattle.proof_book.specs.Agrees.{agree}
 use Rattle.proof_contracts.specs.SharedBook.{timeIn}
-use Rattle.proof_contracts.specs.SharedPage.{Made, Did, noted, Calls}
+use Rattle.proof_contracts.specs.SharedPage.{Made, CallStep, noted, Calls}
 use Rattle.proof_contracts.specs.SharedAgrees.{Agreed, shared-agrees}
 
 -- of a call that was made
@@ -30,14 +30,14 @@ abbrev pub AgreedAll : ℕ → Machine Answer Pages → List Made → Type 0
 AgreedAll i n [] = Unit {0}
 AgreedAll i n (m ∷ ms) = AgreedOn i m n × AgreedAll i (noted i m n .1) ms
 
-of-made : (i : ℕ) (m : Made) (xs : List ℕ) (a : Buf) (n : Machine Answer Pages) → Did i xs a m
+of-made : (i : ℕ) (m : Made) (xs : List ℕ) (a : Buf) (n : Machine Answer Pages) → CallStep i xs a m
     → let z = sharedCall i (m .event .call) (machineOf xs a) (m .before) (m .event .lent) in
     Agreed i (m .event .call) (z .0) (m .before) (z .1) (m .event .lent) n → AgreedOn i m n
 of-made i m xs a n did k =
     subst (λ (z : Called × List ℕ). Agreed i (m .event .call) (z .0) (m .before) (z .1) (m .event .lent) n) (sym did) k
 
 always : (i : ℕ) (ms : List Made) {φ : Phase} (xs : List ℕ) (a : Buf) (n : Machine Answer Pages)
-    → Ways driverOf book agree calls φ (machineOf xs a .way) (n .way) → Rest φ a (view xs) (n .st) → Calls i xs a n ms
+    → Ways driverOf book agree calls φ (machineOf xs a .way) (n .way) → Coupling φ a (view xs) (n .st) → Calls i xs a n ms
     → AgreedAll i n ms
 always i [] xs a n w r h = tt
 always i (m ∷ ms) xs a n w r h =

@@ -1,4 +1,4 @@
--- A call is a step of demand 3 (`Did`, SharedPage.antt) and saves what account 1 says (`Saves`, SavedPage.antt), for
+-- A call is a step of demand 3 (`CallStep`, SharedPage.antt) and saves what account 1 says (`Saves`, SavedPage.antt), for
 -- each way in which calls are lent their bytes: xs are the state's bytes before it, ys those after it, x is what it
 -- answered. It holds whatever slot buffer the run has (a), and for whichever of the four drivers (i). Definitions
 use mathlib.Core.Bool.{cond}
@@ -9,14 +9,14 @@ use Rattle.state.specs.State.{view}
 use Rattle.model.specs.Answers.{Answer}
 use Rattle.model.specs.Calls.{Config, Op, startRow}
 use Rattle.model.specs.Machine.{Buf, Call, start, question, Question, Ans, told}
-use Rattle.machine.specs.Under.{lentOr}
-use Rattle.proof_contracts.specs.SharedPage.{Did}
+use Rattle.machine.specs.Suspended.{lentOr}
+use Rattle.proof_contracts.specs.SharedPage.{CallStep}
 use Rattle.proof_contracts.specs.SavedPage.{Saves}
 
 -- it brings neither the slot buffer nor the record: both stay as they stand then (b, time)
 pub record IsStep (c : Call Config Op) (xs : List ℕ) (x : Buf → Ans Answer) (ys : List ℕ) : Type 0 where
   pub did : (i : ℕ) (a b : Buf) (time : List ℕ)
-      → Did i xs a (record {
+      → CallStep i xs a (record {
         event = record { call = c; lent = b };
         before = time;
         answer = x b;
@@ -31,7 +31,7 @@ pub record IsStep (c : Call Config Op) (xs : List ℕ) (x : Buf → Ans Answer) 
 -- record stays
 pub record IsStepLent (c : Call Config Op) (xs : List ℕ) (x : Ans Answer) (ys : List ℕ) (b b′ : Buf) : Type 0 where
   pub did : (i : ℕ) (a : Buf) (time : List ℕ)
-      → Did i xs a (record {
+      → CallStep i xs a (record {
         event = record { call = c; lent = b };
         before = time;
         answer = x;
@@ -46,7 +46,7 @@ pub record IsStepLent (c : Call Config Op) (xs : List ℕ) (x : Ans Answer) (ys 
 pub record IsStepCharged (i : ℕ) (c : Call Config Op) (xs : List ℕ) (x : Ans Answer) (ys : List ℕ) (b b′ : Buf)
     (time time′ : List ℕ) : Type 0 where
   pub did : (a : Buf)
-      → Did i xs a (record {
+      → CallStep i xs a (record {
         event = record { call = c; lent = b };
         before = time;
         answer = x;
@@ -61,7 +61,7 @@ pub record IsStepCharged (i : ℕ) (c : Call Config Op) (xs : List ℕ) (x : Ans
 pub record IsStepStart (i : ℕ) (c : Config) (xs : List ℕ) (x : Ans Answer) (ys : List ℕ) (b : Buf)
     (time time′ : List ℕ) : Type 0 where
   pub did : (a : Buf)
-      → Did i xs a (record {
+      → CallStep i xs a (record {
         event = record { call = start c; lent = b };
         before = time;
         answer = x;

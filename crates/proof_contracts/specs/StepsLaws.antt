@@ -9,11 +9,11 @@ use Rattle.model.specs.Calls.{Config, Op}
 use Rattle.model.specs.Machine.{Buf, Call, question, Question, Ans, told}
 use Rattle.machine.specs.declared.Step.{Step}
 use Rattle.machine.specs.Questions.{questionOf}
-use Rattle.machine.specs.Under.{machineOf, drive, answerOf, lentOr}
+use Rattle.machine.specs.Suspended.{machineOf, drive, answerOf, lentOr}
 use Rattle.machine.specs.Goes.{Called}
 use Rattle.call_bus_time.specs.Sharing.{apart, sortOf}
 use Rattle.call_answer_word.specs.Parts.{stepOf, spoken}
-use Rattle.call_answer_word.specs.Word.{Says, Worded}
+use Rattle.call_answer_word.specs.Word.{Encodes, Worded}
 use Rattle.proof_bus_time.specs.Code.{leaves-record}
 use Rattle.proof_contracts.specs.SavedPage.{Saves}
 use Rattle.proof_contracts.specs.Steps.{IsStep, IsStepLent, IsQuestion}
@@ -50,7 +50,7 @@ worded r w f = (w .0, w .1, f (w .0) (w .2))
 
 -- the answer as the caller reads it back from the word, with the bytes and the state that the call left: every answer but
 -- a setup packet and a packet that is shown, whose bytes and stamp are in the caller's room (`spoken`)
-pub read-back : (r : ℕ) (step : Step) (out : List ℕ) (d : Driver) → Says r step → spoken step ≡ step
+pub read-back : (r : ℕ) (step : Step) (out : List ℕ) (d : Driver) → Encodes r step → spoken step ≡ step
     → answerOf step out d ≡ answerOf (stepOf r) out d
-unfolding Says
+unfolding Encodes
 read-back r step out d says same = ap (λ (s : Step). answerOf s out d) (sym (says .1 ∙ same))

@@ -10,15 +10,15 @@ use Rattle.model.specs.Tree as tree
 use Rattle.model.specs.Tree.{ends, asks}
 use Rattle.model.specs.Every.{at-end}
 use Rattle.model.specs.Answers.{Answer, Refused}
-use Rattle.model.specs.Alike.{quiet, mid}
+use Rattle.model.specs.Simulates.{quiet, mid}
 use Rattle.model.specs.Calls.{Config, PollRead, Op, slotted, aside, Aside, calls}
 use Rattle.model.specs.Machine.{Buf, Call, start, begin, go, question, Ans, ended, awaited, busy, beside}
 use Rattle.model_ops.specs.Rings.{St}
-use Rattle.machine.specs.Under.{driverOf, drive}
+use Rattle.machine.specs.Suspended.{driverOf, drive}
 use Rattle.call_bus_time.specs.Sharing as sharing
 use Rattle.call_bus_time.specs.Sharing.{going, timeAfter}
 use Rattle.proof_wake_ups.specs.Rooms.{Few, Rooms, rooms}
-use Rattle.proof_isolation.specs.But.{Lawful, Channel, Touched}
+use Rattle.proof_isolation.specs.EqualExcept.{Lawful, Channel, Touched}
 use Rattle.proof_isolation.specs.Whose.{sof}
 use Rattle.proof_isolation.specs.Apart.{gone, waits, ApartBy, end, both, left, right, owns}
 use Rattle.proof_isolation.specs.Answers.{SameAnswer}
@@ -29,7 +29,7 @@ use Rattle.proof_isolation.specs.Operations.{OfChannel, polls, passes}
 use Rattle.proof_isolation.specs.OwnReading.{own-polls}
 use Rattle.proof_isolation.specs.Stores.{OwnLent, own-like}
 use Rattle.proof_isolation.specs.Spares.{spares-on}
-use Rattle.proof_isolation.specs.Turns.{Run, Two, accessOf, runBy, ownBy, alone, stateOf, Timely, wide, atOwn, OwnCall, own-row1, own-lent, Alone}
+use Rattle.proof_isolation.specs.Schedule.{Run, Two, accessOf, runBy, ownBy, alone, stateOf, Timely, wide, atOwn, OwnCall, own-row1, own-lent, Alone}
 use Rattle.proof_isolation.specs.Standing.{machineOf, stops, runOf, own-no, past-no, Told, telling, telling-own, time-spared, Keeps, At, at}
 use Rattle.proof_isolation.specs.Runs.{go-busy, go-wide, go-unfit, begin-idle, begin-unfit, aside-busy, aside-late, through-one, spares-put, row-one}
 

@@ -11,10 +11,10 @@ use Rattle.model.specs.Tree.{Out, ends, asks}
 use Rattle.model.specs.Script.{Script, run}
 use Rattle.model.specs.IsoOut.{arriving}
 use Rattle.model.specs.Every.{sameReg}
-use Rattle.model.specs.Alike.{Phase, quiet, Fits}
+use Rattle.model.specs.Simulates.{Phase, quiet, Fits}
 use Rattle.model_ops.specs.Rings.{St}
-use Rattle.model_ops.specs.Conc.{conc}
-use Rattle.proof_isolation.specs.But.{Lawful, Channel, Like, Touched}
+use Rattle.model_ops.specs.Concrete.{concrete}
+use Rattle.proof_isolation.specs.EqualExcept.{Lawful, Channel, LowEquiv, Touched}
 use Rattle.proof_isolation.specs.Whose.{receives, sof}
 
 -- "with the status word and the other readings the same throughout each interrupt", but for "the lengths reported for its packets": where the
@@ -89,15 +89,15 @@ module _ (c : Channel) (st : ℕ) where
   -- long as they stay so. An access may stand in a row of accesses (`Phase`), but in no interrupt's (`Fits`). `false`: no access of x's own comes
   -- any more
   pub data ApartBy (i : Bool) {A B : Type 0} (Q : A → B → Type 0) : Bool → Out St A → Out St B → Type 0 where
-    end : {m : Bool} {a : A} {b : B} {s t : St} → Q a b → Like c quiet s t → ApartBy i Q m (ends a s) (ends b t)
-    both : {m : Bool} {q : Access} {s t : St} {k : ℕ → St → Out St A} {k′ : ℕ → St → Out St B} (φ : Phase) → Fits i φ → Shared i (c .number) q k → Shared i (c .number) q k′ → Like c φ s t
-        → ((v v′ : ℕ) (s t : St) → Brings (c .number) st q v v′ → Like c φ s t → ApartBy i Q m (k v s) (k′ v′ t)) → ApartBy i Q m (asks q s k) (asks q t k′)
+    end : {m : Bool} {a : A} {b : B} {s t : St} → Q a b → LowEquiv c quiet s t → ApartBy i Q m (ends a s) (ends b t)
+    both : {m : Bool} {q : Access} {s t : St} {k : ℕ → St → Out St A} {k′ : ℕ → St → Out St B} (φ : Phase) → Fits i φ → Shared i (c .number) q k → Shared i (c .number) q k′ → LowEquiv c φ s t
+        → ((v v′ : ℕ) (s t : St) → Brings (c .number) st q v v′ → LowEquiv c φ s t → ApartBy i Q m (k v s) (k′ v′ t)) → ApartBy i Q m (asks q s k) (asks q t k′)
     left : {q : Access} {s : St} {k : ℕ → St → Out St A} {u : Out St B} → Own i (c .number) q k → Past (c .number) u → Lawful (c .iso) quiet s
         → ((v : ℕ) (s′ : St) → Touched c quiet s s′ → ApartBy i Q true (k v s′) u) → ApartBy i Q true (asks q s k) u
     right : {q : Access} {t : St} {k : ℕ → St → Out St B} {o : Out St A} → Own i (c .number) q k → Past (c .number) o → Lawful (c .iso) quiet t
         → ((v : ℕ) (t′ : St) → Touched c quiet t t′ → ApartBy i Q true o (k v t′)) → ApartBy i Q true o (asks q t k)
-    owns : {q q′ : Access} {s t : St} {k : ℕ → St → Out St A} {k′ : ℕ → St → Out St B} → Own i (c .number) q k → Own i (c .number) q′ k′ → Like c quiet s t
-        → ((v : ℕ) (s t : St) → Like c quiet s t → ApartBy i Q true (k v s) (asks q′ t k′)) → ((v : ℕ) (s t : St) → Like c quiet s t → ApartBy i Q true (asks q s k) (k′ v t))
+    owns : {q q′ : Access} {s t : St} {k : ℕ → St → Out St A} {k′ : ℕ → St → Out St B} → Own i (c .number) q k → Own i (c .number) q′ k′ → LowEquiv c quiet s t
+        → ((v : ℕ) (s t : St) → LowEquiv c quiet s t → ApartBy i Q true (k v s) (asks q′ t k′)) → ((v : ℕ) (s t : St) → LowEquiv c quiet s t → ApartBy i Q true (asks q s k) (k′ v t))
         → ApartBy i Q true (asks q s k) (asks q′ t k′)
 
   abbrev pub Apart : (i : Bool) {A B : Type 0} (Q : A → B → Type 0) → Out St A → Out St B → Type 0
@@ -105,7 +105,7 @@ module _ (c : Channel) (st : ℕ) where
 
   -- two scripts that run so from all such states
   pub record PairBy (m : Bool) {i : Bool} {A B : Type 0} (Q : A → B → Type 0) (p : Script i A) (p′ : Script i B) : Type 0 where
-    pub on : (s t : St) → Like c quiet s t → ApartBy i Q m (run conc p s) (run conc p′ t)
+    pub on : (s t : St) → LowEquiv c quiet s t → ApartBy i Q m (run concrete p s) (run concrete p′ t)
 
   abbrev pub Pair : {i : Bool} {A B : Type 0} (Q : A → B → Type 0) → Script i A → Script i B → Type 0
   Pair Q p p′ = PairBy false Q p p′

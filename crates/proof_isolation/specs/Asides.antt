@@ -18,18 +18,18 @@ use Rattle.ring.specs.Out.{openedOf, closedOf}
 use Rattle.ring.specs.Waiting.{SamePlace, Ring}
 use Rattle.ring.specs.Slots.{slot-in, slot-from, slot-upto}
 use Rattle.ring.specs.Window.{window-is, window-same}
-use Rattle.model.specs.Cells.{Plain, globals-cell, allocator-cell, ep-cell}
+use Rattle.model.specs.Cells.{EpCore, globals-cell, allocator-cell, ep-cell}
 use Rattle.model.specs.Script.{run, Act, waiting, room, opened, oldest, next-stamp, open-oldest, close-oldest, enqueue}
 use Rattle.model.specs.Statics.{isOn}
 use Rattle.model.specs.Calls.{Aside, Open, Close, Queue, asideCode}
-use Rattle.model.specs.Alike.{quiet}
+use Rattle.model.specs.Simulates.{quiet}
 use Rattle.model_ops.specs.Rings.{St, waitingOn, roomOn, roomIn, openedOn, nextStamp, oldestAt, oldestOn, openOn, closeOn, queuedOn, enqueueOn, nextLen}
-use Rattle.model_ops.specs.Conc.{conc, isOf, lookOf, fetchOf, actOn}
-use Rattle.proof_book.specs.Rest.{endOf, lensOf, slotStamps}
+use Rattle.model_ops.specs.Concrete.{concrete, isOf, lookOf, fetchOf, actOn}
+use Rattle.proof_book.specs.Coupling.{endOf, lensOf, slotStamps}
 use Rattle.proof_book.specs.Lens.{stamps-at, lens-at, lens-length, lens-set, lens-mod, ep-len}
 use Rattle.proof_book.specs.Frame.{changed-on, changed-len, same-place}
 use Rattle.proof_book.specs.Outs.{Inner}
-use Rattle.proof_isolation.specs.But.{But, Beside, Lawful, Channel, Like, Touched}
+use Rattle.proof_isolation.specs.EqualExcept.{EqualExcept, Beside, Lawful, Channel, LowEquiv, Touched}
 use Rattle.proof_isolation.specs.Apart.{Pair}
 use Rattle.proof_isolation.specs.Likes.{inner-stays, own-changed, but-refl, touched-refl, touched-trans}
 use Rattle.proof_isolation.specs.Pairs.{Eq, p-ret, p-same, p-then, p-test, p-get, p-is, p-look, p-fetch, p-act}
@@ -56,7 +56,7 @@ stamp-any d d′ e i h =
 pub bytes-same : (b c : List ℕ) (at n : ℕ) → length c ≡ length b → at + n ≤ length b → Same at (at + n) b c → bytesAt b at n ≡ bytesAt c at n
 bytes-same b c at n long fits s = sym (window-is b at n fits) ∙ sym (window-same b c at n s) ∙ window-is c at n (omega (arith, long))
 
-module _ (c : Channel) (e : ℕ) (n : key Out e ≢ key Out (c .number)) (s t : St) (l : Like c quiet s t) where
+module _ (c : Channel) (e : ℕ) (n : key Out e ≢ key Out (c .number)) (s t : St) (l : LowEquiv c quiet s t) where
   abbrev h : epOn (s .0) Out e ≡ epOn (t .0) Out e
   h = l .but .eps Out e n
 
@@ -74,7 +74,7 @@ module _ (c : Channel) (e : ℕ) (n : key Out e ≢ key Out (c .number)) (s t : 
       ap (λ (r : EpState). cond (hasWaiting r) (stampOn (s .0) e (slotOf r (r .tail))) 0) h
       ∙ ap (λ k. cond (hasWaiting (epOn (t .0) Out e)) k 0) (stamp-any (s .0) (t .0) e (slotOf (epOn (t .0) Out e) (epOn (t .0) Out e .tail)) (l .but .stamps e n))
 
-  opens : Like c quiet (actOn (open-oldest e) s) (actOn (open-oldest e) t)
+  opens : LowEquiv c quiet (actOn (open-oldest e) s) (actOn (open-oldest e) t)
   unfolding openOn withOn
   opens = like-made l
       (lawful-act c (open-oldest e) refl (l .left))
@@ -82,7 +82,7 @@ module _ (c : Channel) (e : ℕ) (n : key Out e ≢ key Out (c .number)) (s t : 
       (but-cond _ _ (ap hasWaiting h) (but-on (l .but) (l .left .rest .sized) (l .right .rest .sized) Out e _ _ (λ _. ap openedOf h) (λ p. absurd (n p))) (l .but))
       (cond-seat (c .number) (epOn (s .0) Out (c .number)) (hasWaiting (epOn (s .0) Out e)) _ _ (on-seat (c .number) (s .0) Out e _ n) (same-place (epOn (s .0) Out (c .number)))) (l .bytes)
 
-  closes : Like c quiet (actOn (close-oldest e) s) (actOn (close-oldest e) t)
+  closes : LowEquiv c quiet (actOn (close-oldest e) s) (actOn (close-oldest e) t)
   unfolding closeOn withOn
   closes = like-made l
       (lawful-act c (close-oldest e) refl (l .left))
@@ -102,7 +102,7 @@ next-capped d dir e most g = by (hasWaiting (epOn d dir e))
     by true = len-capped d dir e most _ g
     by false = omega arith
 
-module _ (c : Channel) (e : ℕ) (n : key Out e ≢ key Out (c .number)) (s t : St) (l : Like c quiet s t) where
+module _ (c : Channel) (e : ℕ) (n : key Out e ≢ key Out (c .number)) (s t : St) (l : LowEquiv c quiet s t) where
   pub oldest-out : fetchOf (oldest e) s ≡ fetchOf (oldest e) t
   unfolding oldestOn oldestAt
   oldest-out =
@@ -118,7 +118,7 @@ module _ (c : Channel) (e : ℕ) (n : key Out e ≢ key Out (c .number)) (s t : 
 
 -- ---- of an IN endpoint
 
-module _ (c : Channel) (e : ℕ) (bytes : List ℕ) (s t : St) (l : Like c quiet s t) where
+module _ (c : Channel) (e : ℕ) (bytes : List ℕ) (s t : St) (l : LowEquiv c quiet s t) where
   pub room-in : (n : ℕ) → isOf (room e n) s ≡ isOf (room e n) t
   unfolding roomOn
   room-in n = ap (λ r. roomIn r n) (l .but .eps In e (in-other (c .number) e))
@@ -132,7 +132,7 @@ module _ (c : Channel) (e : ℕ) (bytes : List ℕ) (s t : St) (l : Like c quiet
   head-in : slotOf r (r .head) < 16
   head-in = let f = l .left .rest .ins e .held in omega (arith, slot-in (f .placed) (r .head), f .ring .whole, lens-length (s .0) In e)
 
-  longer : But (c .number) (withLenOn (s .0) In e (slotOf r (r .head)) (length bytes)) (withLenOn (t .0) In e (slotOf r (r .head)) (length bytes))
+  longer : EqualExcept (c .number) (withLenOn (s .0) In e (slotOf r (r .head)) (length bytes)) (withLenOn (t .0) In e (slotOf r (r .head)) (length bytes))
   longer =
       let i = slotOf r (r .head) in
       let z = l .left .rest .sized in
@@ -147,15 +147,15 @@ module _ (c : Channel) (e : ℕ) (bytes : List ℕ) (s t : St) (l : Like c quiet
       by q In f p = lens-mod _ In f e (key-same In f e p) ∙ q ∙ sym (lens-mod _ In f e (key-same In f e p))
       by q Out f p = absurd (key-apart f e p)
 
-  queued : But (c .number) (queuedOn (s .0) e (length bytes)) (queuedOn (t .0) e (length bytes))
+  queued : EqualExcept (c .number) (queuedOn (s .0) e (length bytes)) (queuedOn (t .0) e (length bytes))
   unfolding queuedOn
   queued =
       let i = slotOf r (r .head) in
-      subst (λ (q : EpState). But (c .number) (withOn (withLenOn (s .0) In e i (length bytes)) In e (joinedOf r)) (withOn (withLenOn (t .0) In e (slotOf q (q .head)) (length bytes)) In e (joinedOf q))) same-r
+      subst (λ (q : EpState). EqualExcept (c .number) (withOn (withLenOn (s .0) In e i (length bytes)) In e (joinedOf r)) (withOn (withLenOn (t .0) In e (slotOf q (q .head)) (length bytes)) In e (joinedOf q))) same-r
       (but-on longer (changed-len (l .left .rest .sized) In e i (length bytes) .sized) (changed-len (l .right .rest .sized) In e i (length bytes) .sized) In e (joinedOf r) (joinedOf r) (λ _. refl) (λ p. absurd (in-other (c .number) e p)))
 
   record Kept (a b : St) : Type 0 where
-    but : But (c .number) (a .0) (b .0)
+    but : EqualExcept (c .number) (a .0) (b .0)
     seat : SamePlace (epOn (s .0) Out (c .number)) (epOn (a .0) Out (c .number))
     lent : Only (epOn (s .0) Out (c .number) .base) (endOf (epOn (s .0) Out (c .number))) (a .1) (b .1)
 
@@ -174,7 +174,7 @@ module _ (c : Channel) (e : ℕ) (bytes : List ℕ) (s t : St) (l : Like c quiet
   unfolding enqueueOn
   enqueued = subst (λ u. Kept (enqueueOn e bytes s) (cond u (queuedOn (t .0) e (length bytes), copied (t .1) (slotAddr (epOn (t .0) In e) (epOn (t .0) In e .head)) bytes) t)) (room-in (length bytes)) (queued-by (roomOn (s .0) e (length bytes)))
 
-  pub enqueues : Like c quiet (actOn (enqueue e bytes) s) (actOn (enqueue e bytes) t)
+  pub enqueues : LowEquiv c quiet (actOn (enqueue e bytes) s) (actOn (enqueue e bytes) t)
   enqueues = let k = enqueued in like-made l (lawful-act c (enqueue e bytes) refl (l .left)) (lawful-act c (enqueue e bytes) refl (l .right)) (k .but) (k .seat) (k .lent)
 
 -- ---- the calls
@@ -209,7 +209,7 @@ module _ (c : Channel) (s : St) (l : Lawful (c .iso) quiet s) where
   x = c .number
 
   own-on : (r : EpState) → Inner (epOn (s .0) Out x) r → Beside x (s .0) (withOn (s .0) Out x r)
-  own-on r k = own-changed (changed-on (l .rest .sized) Out x r (k .place) (ap (λ (q : Plain). q .iso) (k .plain))) (inner-stays (rw (epOn-same (s .0) Out x r (l .rest .sized)) k))
+  own-on r k = own-changed (changed-on (l .rest .sized) Out x r (k .place) (ap (λ (q : EpCore). q .iso) (k .plain))) (inner-stays (rw (epOn-same (s .0) Out x r (l .rest .sized)) k))
 
   own-cond : (u : Bool) (r : EpState) → Inner (epOn (s .0) Out x) r → Beside x (s .0) (cond u (withOn (s .0) Out x r) (s .0))
   own-cond true r k = own-on r k
@@ -249,7 +249,7 @@ brief K (Queue e bytes) h = b-bind (b-get globals-cell) (λ g. b-test _ (b-bind 
     (b-bind (b-get allocator-cell) (λ a. b-test _ (b-ret _) (b-bind (b-get (ep-cell In e)) (λ p. b-test _ (b-ret _) (b-bind (b-is (room e (length bytes))) (λ b. b-test b (b-bind (b-act (enqueue e bytes) h) (λ _. b-ret _)) (b-ret _)))))))
     (b-ret _))) (b-ret _))) (b-ret _))
 
-pub finishes : (o : Aside) (K : St → Type 0) → ((s : St) → K s → K (actOn (actOf o) s)) → (s : St) → K s → Finished K (run conc (asideCode o) s)
+pub finishes : (o : Aside) (K : St → Type 0) → ((s : St) → K s → K (actOn (actOf o) s)) → (s : St) → K s → Finished K (run concrete (asideCode o) s)
 finishes o K h s k = brief K o h .on s k
 
 -- the channel's open or close
@@ -273,5 +273,5 @@ own-act c (Close e) m s t l = subst (λ d. Touched c quiet s (d, t .1)) (sym (cl
 own-act c (Queue e bytes) m s t l = absurd m
 
 -- it leaves a state that is the same but for the channel's data
-pub own-finishes : (c : Channel) (o : Aside) → Mine (c .number) o → (s : St) → Lawful (c .iso) quiet s → Finished (Touched c quiet s) (run conc (asideCode o) s)
+pub own-finishes : (c : Channel) (o : Aside) → Mine (c .number) o → (s : St) → Lawful (c .iso) quiet s → Finished (Touched c quiet s) (run concrete (asideCode o) s)
 own-finishes c o m s l = finishes o (Touched c quiet s) (own-act c o m s) s (touched-refl l)

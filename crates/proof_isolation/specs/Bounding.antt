@@ -11,11 +11,11 @@ use Rattle.state.specs.declared.Control.{Control}
 use Rattle.model.specs.Cells.{Cell, Val, control-cell}
 use Rattle.model.specs.Tree as tree
 use Rattle.model.specs.Tree.{ends, asks, bindOut}
-use Rattle.model.specs.Script.{Script, run, rows, ret, bind, test, read-then, write-then, wait-then, callback-then, get-then, put-then, is-then, look-then, fetch-then, act-then, hand-then, row-then, Test, Look, Fetch, Act, Hand, Row, lastOf}
+use Rattle.model.specs.Script.{Script, run, rows, ret, bind, test, read-then, write-then, wait-then, callback-then, get-then, put-then, is-then, look-then, fetch-then, act-then, hand-then, row-then, Test, Look, Fetch, Act, DmaStep, Burst, lastOf}
 use Rattle.model.specs.Control.{DATA-OUT}
 use Rattle.model_ops.specs.Rings.{St}
-use Rattle.model_ops.specs.Conc.{conc}
-use Rattle.proof_isolation.specs.But.{Bounded}
+use Rattle.model_ops.specs.Concrete.{concrete}
+use Rattle.proof_isolation.specs.EqualExcept.{Bounded}
 use Rattle.proof_isolation.specs.Settled.{settled-bounded, isControl, put-settled, starts, act-settled, hand-settled, row-settled}
 
 -- at each access and at each end, whatever is read and whatever such state the next call finds
@@ -24,13 +24,13 @@ pub data Holds {A : Type 0} : tree.Out St A → Type 0 where
   ask : {q : Access} {s : St} {k : ℕ → St → tree.Out St A} → Bounded (s .0) → ((v : ℕ) (t : St) → Bounded (t .0) → Holds (k v t)) → Holds (asks q s k)
 
 pub record Keeps {i : Bool} {A : Type 0} (p : Script i A) : Type 0 where
-  pub on : (s : St) → Bounded (s .0) → Holds (run conc p s)
+  pub on : (s : St) → Bounded (s .0) → Holds (run concrete p s)
 
 holds-bind : {A B : Type 0} {o : tree.Out St A} {f : A → St → tree.Out St B} → Holds o → ((a : A) (s : St) → Bounded (s .0) → Holds (f a s)) → Holds (bindOut o f)
 holds-bind (end b) h = h _ _ b
 holds-bind (ask b k) h = ask b (λ v t c. holds-bind (k v t c) h)
 
-holds-rows : {A : Type 0} (g : Row) (n : ℕ) {k : St → tree.Out St A} → ((t : St) → Bounded (t .0) → Holds (k t)) → (s : St) → Bounded (s .0) → Holds (rows conc g n k s)
+holds-rows : {A : Type 0} (g : Burst) (n : ℕ) {k : St → tree.Out St A} → ((t : St) → Bounded (t .0) → Holds (k t)) → (s : St) → Bounded (s .0) → Holds (rows concrete g n k s)
 holds-rows g zero h s b = ask (settled-bounded (row-settled g zero s) b) (λ v t c. h t c)
 holds-rows g (suc n) h s b = ask (settled-bounded (row-settled g (suc n) s) b) (λ v t c. holds-rows g n h t c)
 
@@ -82,10 +82,10 @@ module _ {i : Bool} {A : Type 0} where
   pub k-act : {q : Act} {p : Script i A} → starts q ≡ false → Keeps p → Keeps (act-then q p)
   k-act {q} e h = record { on = λ s b. h .on _ (settled-bounded (act-settled q e s) b) }
 
-  pub k-hand : {q : Hand} {p : Script i A} → Keeps p → Keeps (hand-then q p)
+  pub k-hand : {q : DmaStep} {p : Script i A} → Keeps p → Keeps (hand-then q p)
   k-hand {q} h = record { on = λ s b. ask (settled-bounded (hand-settled q s) b) (λ v t c. h .on t c) }
 
-pub k-row : {A : Type 0} {g : Row} {p : Script false A} → Keeps p → Keeps (row-then g p)
+pub k-row : {A : Type 0} {g : Burst} {p : Script false A} → Keeps p → Keeps (row-then g p)
 k-row {g = g} h = record { on = λ s b. holds-rows g (lastOf g) (λ t c. h .on t c) s b }
 
 -- rules by which a script is taken apart

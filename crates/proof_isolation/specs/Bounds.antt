@@ -22,8 +22,8 @@ use Rattle.model.specs.Answers.{Answer, Refused, resultless, unless}
 use Rattle.model.specs.Machine.{Buf, Call, Event, start, begin, go, question, Ans, Way, idle, busy, Machine, misfit, lentTo, beside, over, halt, begun, continued, started}
 use Rattle.model_ops.specs.Records.{startedWith, allocatedEp0}
 use Rattle.model_ops.specs.Rings.{St}
-use Rattle.model_ops.specs.Conc.{conc, putOn, actOn}
-use Rattle.machine.specs.Under.{driverOf, drive}
+use Rattle.model_ops.specs.Concrete.{concrete, putOn, actOn}
+use Rattle.machine.specs.Suspended.{driverOf, drive}
 use Rattle.proof_book.specs.Always.{after}
 use Rattle.alloc.specs.Alloc.{allocateEp0Of}
 use Rattle.model.specs.IsoIn.{isoInComplete, sofOne, sofWalk, lateWalk, onSof, isoInCompletions}
@@ -40,7 +40,7 @@ use Rattle.model.specs.Driver.{allocated-as, started-as}
 use Rattle.model.specs.Driver as driver
 use Rattle.model.specs.AllocateAll.{allocateEach, announce, beginsAt, announceAfter, announceAll, allocate-read}
 use Rattle.model.specs.Calls.{Config, Slotted, SetEnabled, PollRead, BeginWrite, PollWrite, PollDataOut, BeginDataIn, Other, Allocate, AllocateAll, Start, BusPoll, BusEnable, BusDisable, Microframe, SetStalled, IsStalled, SetPaced, Advance, BeginRead, BeginSetup, PollSetup, PollDataIn, BeginAccept, PollAccept, BeginReject, BeginDataOut, BeginAcceptSetAddress, Aside, Open, Close, Queue, Op, interrupt, slotted, other, aside, slottedCode, otherCode, asideCode, code, starting, calls, startRow}
-use Rattle.proof_isolation.specs.But.{Bounded}
+use Rattle.proof_isolation.specs.EqualExcept.{Bounded}
 use Rattle.proof_isolation.specs.Bounding.{Holds, end, ask, Keeps, k-bind, k-test, keeping}
 
 module _ {i : Bool} where
@@ -194,7 +194,7 @@ unfolding allocatedEp0
 k-start maximum = record { on = λ s b. by s b (eqb (s .0 .globals .stage) 1) refl }
   where
     by : (s : St) → Bounded (s .0) → (u : Bool) → eqb (s .0 .globals .stage) 1 ≡ u
-        → Holds (run {i = false} conc (test u (bind (get allocator-cell) (λ a. act (allocate0 maximum) >> started-as maximum (allocateEp0Of a maximum .answer))) (ret (Refused 4))) s)
+        → Holds (run {i = false} concrete (test u (bind (get allocator-cell) (λ a. act (allocate0 maximum) >> started-as maximum (allocateEp0Of a maximum .answer))) (ret (Refused 4))) s)
     by s b true h = k-started maximum (allocateEp0Of (s .0 .allocator) maximum .answer) .on (actOn (allocate0 maximum) s)
         (λ z. absurd (omega (arith, eqb-true (s .0 .globals .stage) 1 h, b (sym (ap (λ (v : Control). v .sort) (ep0-control maximum (allocateEp0Of (s .0 .allocator) maximum .answer) _)) ∙ z) .0)))
     by s b false h = end b
@@ -209,15 +209,15 @@ k-arms n first = search (k-acks, keeping) depth 20
 k-begin-out : (n : ℕ) (first : Bool) → Keeps {i = false} (beginDataOut n first)
 k-begin-out n first = record { on = λ s b. staged-by s b (eqb (s .0 .globals .stage) 2) refl }
   where
-    setup-by : (s : St) → Bounded (s .0) → s .0 .globals .stage ≡ 2 → n ≤ s .0 .globals .«ep0_max» → (u : Bool) → Holds (run {i = false} conc (unless u 9 (put control-cell (requestOf DATA-OUT n) >> arms n first)) s)
+    setup-by : (s : St) → Bounded (s .0) → s .0 .globals .stage ≡ 2 → n ≤ s .0 .globals .«ep0_max» → (u : Bool) → Holds (run {i = false} concrete (unless u 9 (put control-cell (requestOf DATA-OUT n) >> arms n first)) s)
     setup-by s b h k true = end b
     setup-by s b h k false = k-arms n first .on (putOn control-cell (requestOf DATA-OUT n) s) (λ _. (h, k))
 
-    within-by : (s : St) → Bounded (s .0) → s .0 .globals .stage ≡ 2 → (u : Bool) → ltb (s .0 .globals .«ep0_max») n ≡ u → Holds (run {i = false} conc (unless u 10 (unlessSetup (put control-cell (requestOf DATA-OUT n) >> arms n first))) s)
+    within-by : (s : St) → Bounded (s .0) → s .0 .globals .stage ≡ 2 → (u : Bool) → ltb (s .0 .globals .«ep0_max») n ≡ u → Holds (run {i = false} concrete (unless u 10 (unlessSetup (put control-cell (requestOf DATA-OUT n) >> arms n first))) s)
     within-by s b h true w = end b
     within-by s b h false w = setup-by s b h (ltb-false (s .0 .globals .«ep0_max») n w) (isOn (s .0 .globals .«setup_ready»))
 
-    staged-by : (s : St) → Bounded (s .0) → (u : Bool) → eqb (s .0 .globals .stage) 2 ≡ u → Holds (run {i = false} conc (test u (withinMaximum n (unlessSetup (put control-cell (requestOf DATA-OUT n) >> arms n first))) (ret (Refused 4))) s)
+    staged-by : (s : St) → Bounded (s .0) → (u : Bool) → eqb (s .0 .globals .stage) 2 ≡ u → Holds (run {i = false} concrete (test u (withinMaximum n (unlessSetup (put control-cell (requestOf DATA-OUT n) >> arms n first))) (ret (Refused 4))) s)
     staged-by s b true h = within-by s b (eqb-true (s .0 .globals .stage) 2 h) (ltb (s .0 .globals .«ep0_max») n) refl
     staged-by s b false h = end b
 

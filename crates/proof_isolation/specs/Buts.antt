@@ -17,31 +17,31 @@ use Rattle.state.specs.Laws.{Sized, key-apart, epOn-same, epOn-other}
 use Rattle.marks.specs.Only.{Same, Only, only-apart}
 use Rattle.ring.specs.Waiting.{SamePlace}
 use Rattle.state.specs.declared.Control.{Control}
-use Rattle.model.specs.Cells.{Cell, Val, Plain, control-cell}
+use Rattle.model.specs.Cells.{Cell, Val, EpCore, control-cell}
 use Rattle.model.specs.Control.{DATA-OUT}
-use Rattle.model.specs.Script.{Act, Hand, Row, lastOf}
+use Rattle.model.specs.Script.{Act, DmaStep, Burst, lastOf}
 use Rattle.model.specs.Statics.{isOn}
-use Rattle.model.specs.Alike.{Phase, quiet, mid}
-use Rattle.model.specs.Sorts.{Sorts, Sorted, allocates}
+use Rattle.model.specs.Simulates.{Phase, quiet, mid}
+use Rattle.model.specs.TransferKinds.{TransferKinds, Sorted, allocates}
 use Rattle.model.specs.Machine.{Buf}
 use Rattle.model_ops.specs.Records.{plainOf, merged}
 use Rattle.model_ops.specs.Rings.{St, rowOn}
-use Rattle.model_ops.specs.Conc.{putOn, actOn, handOn}
+use Rattle.model_ops.specs.Concrete.{putOn, actOn, handOn}
 use Rattle.proof_book.specs.Book.{mergedPlain}
-use Rattle.proof_book.specs.Rest.{endOf, Apart, ep0Room, lensOf, slotStamps}
+use Rattle.proof_book.specs.Coupling.{endOf, Apart, ep0Room, lensOf, slotStamps}
 use Rattle.proof_book.specs.Lens.{key-ep, lens-on, stamps-on}
 use Rattle.proof_book.specs.Frame.{Changed, same-place}
 use Rattle.proof_book.specs.Agrees.{agree}
 use Rattle.proof_book.specs.Rows.{rows-first, rows-next, rows-finish}
-use Rattle.proof_book.specs.Sorts.{Steady, Has, sorted, row-steady}
-use Rattle.proof_isolation.specs.But.{OtherWakes, Stays, But, Lawful, Channel, Like}
+use Rattle.proof_book.specs.TransferKinds.{Steady, Has, sorted, row-steady}
+use Rattle.proof_isolation.specs.EqualExcept.{OtherWakes, Stays, EqualExcept, Lawful, Channel, LowEquiv}
 use Rattle.proof_isolation.specs.Settled.{isControl, put-settled, no-start, act-settled, hand-settled, row-settled, settled-bounded}
 use Rattle.proof_isolation.specs.Likes.{stays-refl}
 
 -- ---- drivers
 
-module _ {x : ℕ} {d d′ : Driver} (h : But x d d′) where
-  pub but-globals : (g g′ : Globals) → g ≡ g′ → But x (withGlobals d g) (withGlobals d′ g′)
+module _ {x : ℕ} {d d′ : Driver} (h : EqualExcept x d d′) where
+  pub but-globals : (g g′ : Globals) → g ≡ g′ → EqualExcept x (withGlobals d g) (withGlobals d′ g′)
   unfolding epOn lenOn stampOn requestOn
   but-globals g g′ e = record {
     globals = e;
@@ -56,7 +56,7 @@ module _ {x : ℕ} {d d′ : Driver} (h : But x d d′) where
     own = h .own;
   }
 
-  pub but-wakes : (w w′ : Wakes) → OtherWakes x w w′ → But x (withWakes d w) (withWakes d′ w′)
+  pub but-wakes : (w w′ : Wakes) → OtherWakes x w w′ → EqualExcept x (withWakes d w) (withWakes d′ w′)
   unfolding epOn lenOn stampOn requestOn
   but-wakes w w′ e = record {
     globals = h .globals;
@@ -73,7 +73,7 @@ module _ {x : ℕ} {d d′ : Driver} (h : But x d d′) where
 
   -- one endpoint's record: the same one, or x's with what stays of it
   module _ (z : Sized d) (z′ : Sized d′) (dir : Dir) (e : ℕ) (r r′ : EpState) where
-    pub but-on : (key dir e ≢ key Out x → r ≡ r′) → (key dir e ≡ key Out x → Stays r r′) → But x (withOn d dir e r) (withOn d′ dir e r′)
+    pub but-on : (key dir e ≢ key Out x → r ≡ r′) → (key dir e ≡ key Out x → Stays r r′) → EqualExcept x (withOn d dir e r) (withOn d′ dir e r′)
     unfolding withOn requestOn
     but-on f g = record {
       globals = h .globals;
@@ -96,7 +96,7 @@ module _ {x : ℕ} {d d′ : Driver} (h : But x d d′) where
 
   -- an endpoint but x
   pub but-changed : {d1 d1′ : Driver} (dir : Dir) (e : ℕ) → key dir e ≢ key Out x → Changed dir e d d1 → Changed dir e d′ d1′
-      → epOn d1 dir e ≡ epOn d1′ dir e → ((a : Dir) (c : ℕ) → key a c ≡ key dir e → lensOf d1 a c ≡ lensOf d1′ a c) → ((c : ℕ) → key Out c ≡ key dir e → slotStamps d1 c ≡ slotStamps d1′ c) → But x d1 d1′
+      → epOn d1 dir e ≡ epOn d1′ dir e → ((a : Dir) (c : ℕ) → key a c ≡ key dir e → lensOf d1 a c ≡ lensOf d1′ a c) → ((c : ℕ) → key Out c ≡ key dir e → slotStamps d1 c ≡ slotStamps d1′ c) → EqualExcept x d1 d1′
   unfolding requestOn
   but-changed {d1} {d1′} dir e n u v p l s = record {
     globals = u .globals ∙ h .globals ∙ sym (v .globals);
@@ -121,16 +121,16 @@ module _ {x : ℕ} {d d′ : Driver} (h : But x d d′) where
   }
 
 -- what stays of any record, the channel's too
-pub stays-any : {x : ℕ} {d d′ : Driver} → But x d d′ → (dir : Dir) (e : ℕ) → Stays (epOn d dir e) (epOn d′ dir e)
+pub stays-any : {x : ℕ} {d d′ : Driver} → EqualExcept x d d′ → (dir : Dir) (e : ℕ) → Stays (epOn d dir e) (epOn d′ dir e)
 stays-any {x} {d} {d′} h dir e = elim (ℕ-discrete (key dir e) (key Out x)) [
   | yes p ↦ rw (key-ep d dir Out e x p, key-ep d′ dir Out e x p) (h .own)
   | no n ↦ subst (λ r. Stays (epOn d dir e) r) (h .eps dir e n) (stays-refl (epOn d dir e))
 ]
 
-pub but-cond : {x : ℕ} {a a′ b b′ : Driver} (u u′ : Bool) → u ≡ u′ → But x a a′ → But x b b′ → But x (cond u a b) (cond u′ a′ b′)
-but-cond {x} {a} {a′} {b} {b′} u u′ e p q = subst (λ v. But x (cond u a b) (cond v a′ b′)) e (by u)
+pub but-cond : {x : ℕ} {a a′ b b′ : Driver} (u u′ : Bool) → u ≡ u′ → EqualExcept x a a′ → EqualExcept x b b′ → EqualExcept x (cond u a b) (cond u′ a′ b′)
+but-cond {x} {a} {a′} {b} {b′} u u′ e p q = subst (λ v. EqualExcept x (cond u a b) (cond v a′ b′)) e (by u)
   where
-    by : (u : Bool) → But x (cond u a b) (cond u a′ b′)
+    by : (u : Bool) → EqualExcept x (cond u a b) (cond u a′ b′)
     by true = p
     by false = q
 
@@ -144,18 +144,18 @@ changed-seat x {d} {d1} {dir} {e} c = elim (ℕ-discrete (key Out x) (key dir e)
 -- ---- states
 
 module _ {c : Channel} where
-  pub like-made : {φ ψ : Phase} {s t s1 t1 : St} → Like c φ s t → Lawful (c .iso) ψ s1 → Lawful (c .iso) ψ t1 → But (c .number) (s1 .0) (t1 .0)
+  pub like-made : {φ ψ : Phase} {s t s1 t1 : St} → LowEquiv c φ s t → Lawful (c .iso) ψ s1 → Lawful (c .iso) ψ t1 → EqualExcept (c .number) (s1 .0) (t1 .0)
       → SamePlace (epOn (s .0) Out (c .number)) (epOn (s1 .0) Out (c .number))
-      → Only (epOn (s .0) Out (c .number) .base) (endOf (epOn (s .0) Out (c .number))) (s1 .1) (t1 .1) → Like c ψ s1 t1
+      → Only (epOn (s .0) Out (c .number) .base) (endOf (epOn (s .0) Out (c .number))) (s1 .1) (t1 .1) → LowEquiv c ψ s1 t1
   like-made {s1 = s1} {t1 = t1} h l r b p o = record { left = l; right = r; but = b; bytes = rw (p .base, p .slots, p .stride) o }
 
   -- bytes of another endpoint's slots are the same
-  pub others-same : {φ : Phase} {s t : St} → Like c φ s t → (dir : Dir) (e lo hi : ℕ) → key dir e ≢ key Out (c .number) → epOn (s .0) dir e .base ≤ lo → hi ≤ endOf (epOn (s .0) dir e) → Same lo hi (s .1) (t .1)
+  pub others-same : {φ : Phase} {s t : St} → LowEquiv c φ s t → (dir : Dir) (e lo hi : ℕ) → key dir e ≢ key Out (c .number) → epOn (s .0) dir e .base ≤ lo → hi ≤ endOf (epOn (s .0) dir e) → Same lo hi (s .1) (t .1)
   others-same {s = s} h dir e lo hi n p q =
       only-apart lo hi (h .bytes) (⊎-elim (λ a. inr (omega arith)) (λ a. inl (omega arith)) (h .left .rest .apart Out dir (c .number) e (λ z. n (sym z))))
 
   -- and EP0's
-  pub ep0-same : {φ : Phase} {s t : St} → Like c φ s t → (lo hi : ℕ) → s .0 .globals .«ep0_buf» ≤ lo → hi ≤ s .0 .globals .«ep0_buf» + s .0 .allocator .size → Same lo hi (s .1) (t .1)
+  pub ep0-same : {φ : Phase} {s t : St} → LowEquiv c φ s t → (lo hi : ℕ) → s .0 .globals .«ep0_buf» ≤ lo → hi ≤ s .0 .globals .«ep0_buf» + s .0 .allocator .size → Same lo hi (s .1) (t .1)
   ep0-same {s = s} h lo hi p q =
       let room : ep0Room (s .0 .globals) (s .0 .allocator) ≡ s .0 .allocator .size = rw (h .left .stage) refl in
       only-apart lo hi (h .bytes) (⊎-elim (λ a. inl (omega (arith, room))) (λ a. inr (omega (arith, room))) (h .left .rest .ep0-apart Out (c .number)))
@@ -190,7 +190,7 @@ module _ (c : Channel) where
     bounded = settled-bounded k (l .bounded);
   }
 
-  pub lawful-hand : (q : Hand) {s : St} → Lawful (c .iso) quiet s → Lawful (c .iso) quiet (handOn q s .1)
+  pub lawful-hand : (q : DmaStep) {s : St} → Lawful (c .iso) quiet s → Lawful (c .iso) quiet (handOn q s .1)
   lawful-hand q {s} l = let k = hand-settled q s in record {
     pages = _;
     rest = agree .hand q (s .1) (s .0) (l .pages) (l .rest) .0;
@@ -203,7 +203,7 @@ module _ (c : Channel) where
   has-by : {d d′ : Driver} → Steady d d′ → Has (c .iso) d → Has (c .iso) d′
   has-by p k = record { flags = λ dir e. ap isOn (p .flags dir e) ∙ k .flags dir e; outs = rw (p .outs) (k .outs); every = rw (p .every) (k .every) }
 
-  module _ (g : Row) where
+  module _ (g : Burst) where
     pub lawful-first : {s : St} → Lawful (c .iso) quiet s → Lawful (c .iso) (mid g (lastOf g)) (rowOn g (lastOf g) s .1)
     lawful-first {s} l = let k = row-settled g (lastOf g) s in record {
       pages = _;
@@ -225,5 +225,5 @@ module _ (c : Channel) where
     lawful-over : {s : St} → Lawful (c .iso) (mid g zero) s → Lawful (c .iso) quiet s
     lawful-over {s} l = record { pages = l .pages; rest = rows-finish g (s .1) (s .0) (l .pages) (l .rest); has = l .has; stage = l .stage; bounded = l .bounded }
 
-    pub row-over : (s t : St) → Like c (mid g zero) s t → Like c quiet s t
+    pub row-over : (s t : St) → LowEquiv c (mid g zero) s t → LowEquiv c quiet s t
     row-over s t l = record { left = lawful-over (l .left); right = lawful-over (l .right); but = l .but; bytes = l .bytes }

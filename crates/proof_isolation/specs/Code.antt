@@ -1,5 +1,5 @@
 -- Request Fourteen of the Rattle code: what its calls make of the lent bytes in two runs. The contract of each call says that it is one step of the
--- machine of calls that the bytes are (machine/specs/Under.antt), with the bus time call_bus_time/specs/Sharing.antt
+-- machine of calls that the bytes are (machine/specs/Suspended.antt), with the bus time call_bus_time/specs/Sharing.antt
 use mathlib.Core.Bool.{Bool, true, false}
 use mathlib.Core.List.{List, [], _∷_}
 use mathlib.Core.Path.{_≡_, refl, ap, subst, sym, _∙_}
@@ -8,13 +8,13 @@ use Rattle.regs.specs.declared.Access.{Access}
 use Rattle.model.specs.Answers.{Answer}
 use Rattle.model.specs.Calls.{Config, Op, startRow}
 use Rattle.model.specs.Machine.{Buf, Call, start, begin, go, question, Event, Ans, idle}
-use Rattle.machine.specs.Under.{drive, machineOf}
+use Rattle.machine.specs.Suspended.{drive, machineOf}
 use Rattle.machine.specs.Goes.{Called}
 use Rattle.call_bus_time.specs.Sharing.{sharedCall}
 use Rattle.proof_book.specs.MachineRuns.{Premise}
 use Rattle.proof_book.specs.Sorting.{sortsOf}
-use Rattle.proof_isolation.specs.But.{Channel}
-use Rattle.proof_isolation.specs.Turns.{Run, Two, Turn, begins, goes, asked, stores, others-time, first, second, Early, gets, shares, accessOf, runBy, ownBy, statusOf, shared, called, alone, turn, given, heeded, May, After}
+use Rattle.proof_isolation.specs.EqualExcept.{Channel}
+use Rattle.proof_isolation.specs.Schedule.{Run, Two, Turn, begins, goes, asked, stores, others-time, first, second, Early, gets, shares, accessOf, runBy, ownBy, statusOf, shared, called, alone, turn, given, heeded, May, After}
 use Rattle.proof_isolation.specs.Standing.{At, at-time}
 use Rattle.proof_isolation.specs.Start.{freshBook}
 use Rattle.proof_isolation.specs.Undisturbed.{Session, started-up, opened, Opens, step, opened-at}
@@ -52,9 +52,9 @@ twoOf w = record { first = runOf (w .first); second = runOf (w .second); status 
 
 -- the contract of call d of driver n, with the bus time that it shares, or of a driver that shares none (its record then is what its calls would be
 -- charged, which no call reads)
-abbrev pub Did : Bool → ℕ → Call Config Op → Buf → Held → Left → Type 0
-Did true n d b h l = ((l .answer, machineOf (l .bytes) (l .slots)), l .time) ≡ sharedCall n d (machineOf (h .bytes) (h .slots)) (h .time) b
-Did false n d b h l = ((l .answer, machineOf (l .bytes) (l .slots)) ≡ drive d (machineOf (h .bytes) (h .slots)) b)
+abbrev pub CallStep : Bool → ℕ → Call Config Op → Buf → Held → Left → Type 0
+CallStep true n d b h l = ((l .answer, machineOf (l .bytes) (l .slots)), l .time) ≡ sharedCall n d (machineOf (h .bytes) (h .slots)) (h .time) b
+CallStep false n d b h l = ((l .answer, machineOf (l .bytes) (l .slots)) ≡ drive d (machineOf (h .bytes) (h .slots)) b)
     × (l .time ≡ shared false n d (machineOf (h .bytes) (h .slots)) (h .time) b .1)
 
 -- a run after a call whose answer is compared, and after one whose answer is not
@@ -142,13 +142,13 @@ afterSteps (s ∷ ss) w = afterSteps ss (next s w)
 
 module _ (share : Bool) (n : ℕ) where
   abbrev DidBy : Turn → Left → Left → Pair → Type 0
-  DidBy (begins st o b b′) l l′ w = Did share n (begin o) b (w .first) l × Did share n (begin o) b′ (w .second) l′
-  DidBy (goes v v′ b b′) l l′ w = Did share n (go v) b (w .first) l × Did share n (go v′) b′ (w .second) l′
-  DidBy (asked q b b′) l l′ w = Did share n (question q) b (w .first) l × Did share n (question q) b′ (w .second) l′
+  DidBy (begins st o b b′) l l′ w = CallStep share n (begin o) b (w .first) l × CallStep share n (begin o) b′ (w .second) l′
+  DidBy (goes v v′ b b′) l l′ w = CallStep share n (go v) b (w .first) l × CallStep share n (go v′) b′ (w .second) l′
+  DidBy (asked q b b′) l l′ w = CallStep share n (question q) b (w .first) l × CallStep share n (question q) b′ (w .second) l′
   DidBy (stores b b′) l l′ w = Unit {0}
   DidBy (others-time f) l l′ w = Unit {0}
-  DidBy (first e) l l′ w = Did share n (e .call) (e .lent) (w .first) l
-  DidBy (second e) l l′ w = Did share n (e .call) (e .lent) (w .second) l′
+  DidBy (first e) l l′ w = CallStep share n (e .call) (e .lent) (w .first) l
+  DidBy (second e) l l′ w = CallStep share n (e .call) (e .lent) (w .second) l′
 
   abbrev pub DidStep : Step → Pair → Type 0
   DidStep s w = DidBy (s .turn) (s .first) (s .second) w
@@ -156,7 +156,7 @@ module _ (share : Bool) (n : ℕ) where
   abbrev pub DidEarly : List EarlyMade → Pair → Type 0
   DidEarly [] w = Unit {0}
   DidEarly (got e l l′ ∷ ms) w =
-      Did share n (e .call) (e .lent) (w .first) l × Did share n (e .call) (e .lent) (w .second) l′
+      CallStep share n (e .call) (e .lent) (w .first) l × CallStep share n (e .call) (e .lent) (w .second) l′
       × DidEarly ms (record { first = heard l (w .first); second = heard l′ (w .second); status = w .status })
   DidEarly (shared-by f ∷ ms) w = DidEarly ms (record { first = timed f (w .first); second = timed f (w .second); status = w .status })
 
@@ -173,8 +173,8 @@ module _ (share : Bool) (n : ℕ) where
   -- the channel is an isochronous OUT endpoint of the run
   pub record Begun (m : Made) (w : Pair) : Type 0 where
     pub accepted : startRow (m .config) (m .lent) ≡ zero
-    pub up : Did share n (start (m .config)) (m .lent) (w .first) (m .up)
-    pub up′ : Did share n (start (m .config)) (m .lent) (w .second) (m .up′)
+    pub up : CallStep share n (start (m .config)) (m .lent) (w .first) (m .up)
+    pub up′ : CallStep share n (start (m .config)) (m .lent) (w .second) (m .up′)
     pub early : DidEarly (m .before) (startedBy m w)
     pub lawful : let r = runOf (startedBy m w .first) in
         Premise (heeded share n (sessionOf m .before) r) (r .machine) (freshBook (m .config) (m .lent) (r .answer))
@@ -193,7 +193,7 @@ module _ (share : Bool) (n : ℕ) where
 
 -- ---- the bytes are the machine's
 
-call-of : (share : Bool) (n : ℕ) (d : Call Config Op) (b : Buf) (h : Held) (l : Left) → Did share n d b h l
+call-of : (share : Bool) (n : ℕ) (d : Call Config Op) (b : Buf) (h : Held) (l : Left) → CallStep share n d b h l
     → ((l .answer, machineOf (l .bytes) (l .slots)), l .time) ≡ shared share n d (machineOf (h .bytes) (h .slots)) (h .time) b
 call-of true n d b h l e = e ∙ sym (as-shared n d (machineOf (h .bytes) (h .slots)) (h .time) b)
 call-of false n d b h l e =
@@ -202,10 +202,10 @@ call-of false n d b h l e =
     λ i. (p i, e .1 i)
 
 module _ (share : Bool) (n : ℕ) where
-  pub heard-is : (d : Call Config Op) (b : Buf) (h : Held) (l : Left) → Did share n d b h l → runOf (heard l h) ≡ called share n d b (runOf h)
+  pub heard-is : (d : Call Config Op) (b : Buf) (h : Held) (l : Left) → CallStep share n d b h l → runOf (heard l h) ≡ called share n d b (runOf h)
   heard-is d b h l e = ap (runBy (h .access)) (call-of share n d b h l e)
 
-  pub own-is : (d : Call Config Op) (b : Buf) (h : Held) (l : Left) → Did share n d b h l → runOf (heardOwn d l h) ≡ alone share n d b (runOf h)
+  pub own-is : (d : Call Config Op) (b : Buf) (h : Held) (l : Left) → CallStep share n d b h l → runOf (heardOwn d l h) ≡ alone share n d b (runOf h)
   own-is (go v) b h l e = heard-is (go v) b h l e
   own-is (begin o) b h l e = ap (ownBy (h .access) (h .answer)) (call-of share n (begin o) b h l e)
   own-is (start k) b h l e = ap (ownBy (h .access) (h .answer)) (call-of share n (start k) b h l e)

@@ -12,12 +12,12 @@ use Rattle.state.specs.Driver.{epOn, withOn}
 use Rattle.model.specs.Script.{reset-ring, set-enabled, place}
 use Rattle.model.specs.Statics.{isOn, modifyEpType}
 use Rattle.model.specs.Bus as bus
-use Rattle.model.specs.Alike.{quiet}
+use Rattle.model.specs.Simulates.{quiet}
 use Rattle.model_ops.specs.Records.{isoOut, configured, enabledOn}
 use Rattle.model_ops.specs.Rings.{St, emptied, emptiedOn, placeOn}
-use Rattle.model_ops.specs.Conc.{actOn, handOn}
+use Rattle.model_ops.specs.Concrete.{actOn, handOn}
 use Rattle.proof_book.specs.Frame.{same-place}
-use Rattle.proof_isolation.specs.But.{Channel, Like}
+use Rattle.proof_isolation.specs.EqualExcept.{Channel, LowEquiv}
 use Rattle.proof_isolation.specs.Apart.{Pair}
 use Rattle.proof_isolation.specs.Pairs.{Any, p-then, p-write, p-act, p-hand}
 use Rattle.proof_isolation.specs.Buts.{but-globals, but-on, like-made, lawful-act, lawful-hand}
@@ -26,7 +26,7 @@ use Rattle.proof_isolation.specs.InRings.{on-seat}
 use Rattle.proof_isolation.specs.Kept.{p-put-paced}
 
 module _ (c : Channel) (e : ℕ) where
-  resets : (s t : St) → Like c quiet s t → Like c quiet (actOn (reset-ring In e) s) (actOn (reset-ring In e) t)
+  resets : (s t : St) → LowEquiv c quiet s t → LowEquiv c quiet (actOn (reset-ring In e) s) (actOn (reset-ring In e) t)
   unfolding emptiedOn isoOut withOn
   resets s t l =
       let n = in-other (c .number) e in
@@ -34,12 +34,12 @@ module _ (c : Channel) (e : ℕ) where
       (but-on (l .but) (l .left .rest .sized) (l .right .rest .sized) In e _ _ (λ _. ap emptied (l .but .eps In e n)) (λ p. absurd (n p)))
       (on-seat (c .number) (s .0) In e _ n) (l .bytes)
 
-  configures : (onn : Bool) (s t : St) → Like c quiet s t → Like c quiet (actOn (set-enabled In e onn) s) (actOn (set-enabled In e onn) t)
+  configures : (onn : Bool) (s t : St) → LowEquiv c quiet s t → LowEquiv c quiet (actOn (set-enabled In e onn) s) (actOn (set-enabled In e onn) t)
   unfolding enabledOn isoOut configured epOn
   configures onn s t l = like-made l (lawful-act c (set-enabled In e onn) refl (l .left)) (lawful-act c (set-enabled In e onn) refl (l .right))
       (but-globals (l .but) _ _ (ap (λ (g : Globals). withEpConfig (enables.withOn (g .«ep_config») In e onn) g) (l .but .globals))) (same-place (epOn (s .0) Out (c .number))) (l .bytes)
 
-  places : (s t : St) → Like c quiet s t → (handOn (place In e) s .0 ≡ handOn (place In e) t .0) × Like c quiet (handOn (place In e) s .1) (handOn (place In e) t .1)
+  places : (s t : St) → LowEquiv c quiet s t → (handOn (place In e) s .0 ≡ handOn (place In e) t .0) × LowEquiv c quiet (handOn (place In e) s .1) (handOn (place In e) t .1)
   unfolding placeOn
   places s t l = (
     ap (λ (r : EpState). r .base) (l .but .eps In e (in-other (c .number) e)),

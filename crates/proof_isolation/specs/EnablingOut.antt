@@ -18,13 +18,13 @@ use Rattle.ring.specs.Waiting.{SamePlace}
 use Rattle.model.specs.Script.{reset-ring, set-enabled, place}
 use Rattle.model.specs.Statics.{isOn, isoOuts}
 use Rattle.model.specs.Bus as bus
-use Rattle.model.specs.Alike.{quiet}
+use Rattle.model.specs.Simulates.{quiet}
 use Rattle.model_ops.specs.Records.{isoOut, configured, enabledOn}
 use Rattle.model_ops.specs.Rings.{St, emptied, emptiedOn, placeOn}
-use Rattle.model_ops.specs.Conc.{actOn, handOn}
+use Rattle.model_ops.specs.Concrete.{actOn, handOn}
 use Rattle.proof_book.specs.Lens.{key-ep}
 use Rattle.proof_book.specs.Frame.{same-place}
-use Rattle.proof_isolation.specs.But.{But, Lawful, Channel, Like}
+use Rattle.proof_isolation.specs.EqualExcept.{EqualExcept, Lawful, Channel, LowEquiv}
 use Rattle.proof_isolation.specs.Apart.{Pair}
 use Rattle.proof_isolation.specs.Pairs.{Any, p-then, p-test, p-write, p-act, p-hand}
 use Rattle.proof_isolation.specs.Buts.{but-globals, but-on, but-cond, like-made, lawful-act, lawful-hand}
@@ -39,7 +39,7 @@ module _ (c : Channel) (e : ℕ) (plain : c .iso Out e ≡ false) where
   other-number : eqb e (c .number) ≡ false
   other-number = ne-eqb e (c .number) (λ z. true≢false (sym (c .receives) ∙ ap (λ a. c .iso Out a) (sym z) ∙ plain))
 
-  resets : (s t : St) → Like c quiet s t → Like c quiet (actOn (reset-ring Out e) s) (actOn (reset-ring Out e) t)
+  resets : (s t : St) → LowEquiv c quiet s t → LowEquiv c quiet (actOn (reset-ring Out e) s) (actOn (reset-ring Out e) t)
   unfolding emptiedOn isoOut withOn
   resets s t l =
       let n = other (l .left) in
@@ -54,7 +54,7 @@ module _ (c : Channel) (e : ℕ) (plain : c .iso Out e ≡ false) where
   unfolding epOn
   config-seat d g = same-place (epOn d Out (c .number))
 
-  configures : (onn : Bool) (s t : St) → Like c quiet s t → Like c quiet (actOn (set-enabled Out e onn) s) (actOn (set-enabled Out e onn) t)
+  configures : (onn : Bool) (s t : St) → LowEquiv c quiet s t → LowEquiv c quiet (actOn (set-enabled Out e onn) s) (actOn (set-enabled Out e onn) t)
   unfolding enabledOn isoOut configured
   configures onn s t l =
       let h = l .but .eps Out e (other (l .left)) in
@@ -66,10 +66,10 @@ module _ (c : Channel) (e : ℕ) (plain : c .iso Out e ≡ false) where
 
   record Placed (s t : St) (x y : ℕ × Driver) : Type 0 where
     address : x .0 ≡ y .0
-    but : But (c .number) (x .1) (y .1)
+    but : EqualExcept (c .number) (x .1) (y .1)
     seat : SamePlace (epOn (s .0) Out (c .number)) (epOn (x .1) Out (c .number))
 
-  placed-by : (u : Bool) (s t : St) → Like c quiet s t
+  placed-by : (u : Bool) (s t : St) → LowEquiv c quiet s t
       → Placed s t (cond {A = ℕ × Driver} u (epOn (s .0) Out e .«armed_slot», s .0) (epOn (s .0) Out e .base, withOn (s .0) Out e (armedAt (epOn (s .0) Out e) (epOn (s .0) Out e .base))))
       (cond {A = ℕ × Driver} u (epOn (t .0) Out e .«armed_slot», t .0) (epOn (t .0) Out e .base, withOn (t .0) Out e (armedAt (epOn (t .0) Out e) (epOn (t .0) Out e .base))))
   unfolding withOn
@@ -83,12 +83,12 @@ module _ (c : Channel) (e : ℕ) (plain : c .iso Out e ≡ false) where
         seat = on-seat (c .number) (s .0) Out e _ n;
       }
 
-  placed : (s t : St) → Like c quiet s t → Placed s t (placeOn Out e (s .0)) (placeOn Out e (t .0))
+  placed : (s t : St) → LowEquiv c quiet s t → Placed s t (placeOn Out e (s .0)) (placeOn Out e (t .0))
   unfolding placeOn
   placed s t l = subst (λ u. Placed s t (placeOn Out e (s .0)) (cond {A = ℕ × Driver} u (epOn (t .0) Out e .«armed_slot», t .0) (epOn (t .0) Out e .base, withOn (t .0) Out e (armedAt (epOn (t .0) Out e) (epOn (t .0) Out e .base)))))
       (ap (λ (g : Globals). isSet (isoOuts g) (e % 16)) (l .but .globals)) (placed-by (isSet (isoOuts (s .0 .globals)) (e % 16)) s t l)
 
-  places : (s t : St) → Like c quiet s t → (handOn (place Out e) s .0 ≡ handOn (place Out e) t .0) × Like c quiet (handOn (place Out e) s .1) (handOn (place Out e) t .1)
+  places : (s t : St) → LowEquiv c quiet s t → (handOn (place Out e) s .0 ≡ handOn (place Out e) t .0) × LowEquiv c quiet (handOn (place Out e) s .1) (handOn (place Out e) t .1)
   places s t l = let b = placed s t l in (b .address, like-made l (lawful-hand c (place Out e) (l .left)) (lawful-hand c (place Out e) (l .right)) (b .but) (b .seat) (l .bytes))
 
   module _ {st : ℕ} {i : Bool} where

@@ -4,7 +4,7 @@ use Rattle.model.specs.Cells.{Cell, Val}
 use Rattle.model.specs.Tree as tree
 use Rattle.model.specs.Script.{Script, run, ret, bind, test, get, put, is, look, fetch, act, Test, Look, Fetch, Act}
 use Rattle.model_ops.specs.Rings.{St}
-use Rattle.model_ops.specs.Conc.{conc, putOn, actOn}
+use Rattle.model_ops.specs.Concrete.{concrete, putOn, actOn}
 
 -- in a state of which K holds
 pub data Finished {A : Type 0} (K : St → Type 0) : tree.Out St A → Type 0 where
@@ -12,7 +12,7 @@ pub data Finished {A : Type 0} (K : St → Type 0) : tree.Out St A → Type 0 wh
 
 -- a script that hands out no access and keeps K
 pub record Brief {A : Type 0} (K : St → Type 0) (p : Script false A) : Type 0 where
-  pub on : (s : St) → K s → Finished K (run conc p s)
+  pub on : (s : St) → K s → Finished K (run concrete p s)
 
 fin-bind : {A B : Type 0} {K : St → Type 0} {o : tree.Out St A} {f : A → St → tree.Out St B} → Finished K o → ((a : A) (s : St) → K s → Finished K (f a s)) → Finished K (tree.bindOut o f)
 fin-bind (fin a k) h = h a _ k

@@ -18,13 +18,13 @@ use Rattle.ring.specs.Slot.{slotOf, slotAddr, hasWaiting}
 use Rattle.ring.specs.In.{completedOf, loadedOf, unloadedOf}
 use Rattle.ring.specs.Waiting.{SamePlace}
 use Rattle.model.specs.Script.{waiting, next-len, setup-word, complete, send}
-use Rattle.model.specs.Alike.{quiet}
+use Rattle.model.specs.Simulates.{quiet}
 use Rattle.model_ops.specs.Rings.{St, waitingOn, nextLen, wordAt, completeOn, sendOn, sendAddr}
-use Rattle.model_ops.specs.Conc.{isOf, lookOf, actOn, handOn}
-use Rattle.proof_book.specs.Rest.{lensOf}
+use Rattle.model_ops.specs.Concrete.{isOf, lookOf, actOn, handOn}
+use Rattle.proof_book.specs.Coupling.{lensOf}
 use Rattle.proof_book.specs.Lens.{lens-at}
 use Rattle.proof_book.specs.Frame.{same-place}
-use Rattle.proof_isolation.specs.But.{Channel, Like}
+use Rattle.proof_isolation.specs.EqualExcept.{Channel, LowEquiv}
 use Rattle.proof_isolation.specs.Values.{in-other}
 use Rattle.proof_isolation.specs.Buts.{but-on, but-cond, like-made, lawful-act, lawful-hand, ep0-same}
 
@@ -64,7 +64,7 @@ size-least : (n : ℕ) → goodSize n ≡ true → 8 ≤ n
 size-least = each-size (λ n. 8 ≤ n) (omega arith) (omega arith) (omega arith) (omega arith) (omega arith) (omega arith)
 
 module _ (c : Channel) where
-  pub setup-same : (k : ℕ) → k < 2 → (s t : St) → Like c quiet s t → lookOf (setup-word k) s ≡ lookOf (setup-word k) t
+  pub setup-same : (k : ℕ) → k < 2 → (s t : St) → LowEquiv c quiet s t → lookOf (setup-word k) s ≡ lookOf (setup-word k) t
   setup-same k h s t l =
       let at = s .0 .globals .«ep0_buf» + k * 4 in
       let z = size-least (s .0 .allocator .size) (l .left .rest .good) in
@@ -73,14 +73,14 @@ module _ (c : Channel) where
 
   -- ---- IN rings
 
-  pub waiting-in : (e : ℕ) (s t : St) → Like c quiet s t → isOf (waiting In e) s ≡ isOf (waiting In e) t
+  pub waiting-in : (e : ℕ) (s t : St) → LowEquiv c quiet s t → isOf (waiting In e) s ≡ isOf (waiting In e) t
   unfolding waitingOn
   waiting-in e s t l = ap hasWaiting (l .but .eps In e (in-other (c .number) e))
 
-  pub next-in : (e : ℕ) (s t : St) → Like c quiet s t → lookOf (next-len In e) s ≡ lookOf (next-len In e) t
+  pub next-in : (e : ℕ) (s t : St) → LowEquiv c quiet s t → lookOf (next-len In e) s ≡ lookOf (next-len In e) t
   next-in e s t l = let n = in-other (c .number) e in next-same (s .0) (t .0) In e (l .but .eps In e n) (l .but .lens In e n)
 
-  pub completes : (e : ℕ) (s t : St) → Like c quiet s t → Like c quiet (actOn (complete e) s) (actOn (complete e) t)
+  pub completes : (e : ℕ) (s t : St) → LowEquiv c quiet s t → LowEquiv c quiet (actOn (complete e) s) (actOn (complete e) t)
   unfolding completeOn withOn
   completes e s t l =
       let n = in-other (c .number) e in
@@ -88,7 +88,7 @@ module _ (c : Channel) where
       (but-on (l .but) (l .left .rest .sized) (l .right .rest .sized) In e _ _ (λ _. ap (λ r. unloadedOf (completedOf r)) (l .but .eps In e n)) (λ p. absurd (n p)))
       (on-seat (c .number) (s .0) In e _ n) (l .bytes)
 
-  pub sends : (e : ℕ) (s t : St) → Like c quiet s t → (handOn (send e) s .0 ≡ handOn (send e) t .0) × Like c quiet (handOn (send e) s .1) (handOn (send e) t .1)
+  pub sends : (e : ℕ) (s t : St) → LowEquiv c quiet s t → (handOn (send e) s .0 ≡ handOn (send e) t .0) × LowEquiv c quiet (handOn (send e) s .1) (handOn (send e) t .1)
   unfolding sendAddr sendOn
   sends e s t l =
       let n = in-other (c .number) e in

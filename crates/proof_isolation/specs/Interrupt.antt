@@ -20,7 +20,7 @@ use Rattle.regs.specs.Flags.{transfer}
 use Rattle.regs.specs.MisStatus.{sieFree}
 use Rattle.state.specs.Driver.{key}
 use Rattle.model.specs.declared.Transfer.{Transfer}
-use Rattle.model.specs.Cells.{Plain, globals-cell, ep-cell}
+use Rattle.model.specs.Cells.{EpCore, globals-cell, ep-cell}
 use Rattle.model.specs.Script.{Script, run, ret, bind, test, done, _>>=_, _>>_, read, get, look, changed, marked, arrive, setup-word}
 use Rattle.model.specs.Statics.{isOn, isoOuts, withReady}
 use Rattle.model.specs.IsoOut.{arriving, entry, arrives, checkOne, checkWalk, isoOutCheck}
@@ -28,8 +28,8 @@ use Rattle.model.specs.Handler.{sieWait, nakNonIso, outNaks, inNaks, sameOut, l
 use Rattle.model.specs.Calls.{interruptCode}
 use Rattle.model.specs.SortsWalks.{among-outs}
 use Rattle.model_ops.specs.Rings.{St}
-use Rattle.model_ops.specs.Conc.{conc}
-use Rattle.proof_isolation.specs.But.{Channel}
+use Rattle.model_ops.specs.Concrete.{concrete}
+use Rattle.proof_isolation.specs.EqualExcept.{Channel}
 use Rattle.proof_isolation.specs.Whose.{sof}
 use Rattle.proof_isolation.specs.Apart.{Next, next, PairBy, Pair}
 use Rattle.proof_isolation.specs.Pairs.{Any, p-ret, p-bind, p-same, p-then, p-before-then, p-test, p-tests, p-bind-test, p-when, p-read, p-write, p-is, p-look, p-hand}
@@ -105,7 +105,7 @@ unfolding key
 other-key x e p q n z = n (omega (arith, z))
 
 -- with its status, the channel is isochronous
-iso-sure : (c : Channel) (st : ℕ) (o n : Plain) → isOn (o .iso) ≡ c .iso Out (endpoint st) → arriving st (c .number) ≡ true → isoFor (token st) o n ≡ true
+iso-sure : (c : Channel) (st : ℕ) (o n : EpCore) → isOn (o .iso) ≡ c .iso Out (endpoint st) → arriving st (c .number) ≡ true → isoFor (token st) o n ≡ true
 unfolding isoFor
 iso-sure c st o n s w =
     let z = arriving-out st (c .number) w in
@@ -116,7 +116,7 @@ abbrev after-plain : Transfer → Bool → Script true Unit
 after-plain x iso = read FrameNo 0 >>= λ frame. get globals-cell >>= λ g. served (framed x iso (g .«sof_frame») frame) iso frame
 
 -- whether it is isochronous is not told by `ready`
-iso-ready : (t : Token) (o n : Plain) (r : ℕ) → isoFor t (withReady r o) n ≡ isoFor t o n
+iso-ready : (t : Token) (o n : EpCore) (r : ℕ) → isoFor t (withReady r o) n ≡ isoFor t o n
 unfolding isoFor
 iso-ready tok.Out o n r = refl
 iso-ready tok.Sof o n r = refl
@@ -127,7 +127,7 @@ other-number : (c : Channel) (e : ℕ) → key Out e ≢ key Out (c .number) →
 other-number c e k = ne-eqb e (c .number) (λ z. k (ap (λ a. key Out a) z))
 
 -- with a status that shows no OUT the receive address of another endpoint is next
-check-next : (c : Channel) (e : ℕ) → key Out e ≢ key Out (c .number) → (s : St) → Next (c .number) (run {i = true} conc (test (arriving sof e) done (look (marked e) >>= λ n. arrives e n)) s)
+check-next : (c : Channel) (e : ℕ) → key Out e ≢ key Out (c .number) → (s : St) → Next (c .number) (run {i = true} concrete (test (arriving sof e) done (look (marked e) >>= λ n. arrives e n)) s)
 unfolding arriving isOut token tokenNumbered
 check-next c e k s = next (other-number c e k)
 
@@ -227,17 +227,17 @@ module _ {c : Channel} {st : ℕ} where
       (subst (λ w. PairBy c st m Q (f (transferOf (a .busy) st (a .late) (a .len) (a .«len_ok»))) (g (transferOf (a .busy) st w (b .len) (b .«len_ok»)))) (e .late)
       (k (a .busy) (a .late) (a .len) (b .len) (a .«len_ok») (b .«len_ok») (e .others))))))
 
-  p-bind-plain-in : {m : Bool} {T C D : Type 0} {Q : C → D → Type 0} (e : ℕ) {h h′ : Plain → Script true T} {f : T → Script true C} {g : T → Script true D}
-      → ((p : Plain) → PairBy c st m Q (bind (h p) f) (bind (h′ p) g)) → PairBy c st m Q (bind (bind (get (ep-cell In e)) h) f) (bind (bind (get (ep-cell In e)) h′) g)
+  p-bind-plain-in : {m : Bool} {T C D : Type 0} {Q : C → D → Type 0} (e : ℕ) {h h′ : EpCore → Script true T} {f : T → Script true C} {g : T → Script true D}
+      → ((p : EpCore) → PairBy c st m Q (bind (h p) f) (bind (h′ p) g)) → PairBy c st m Q (bind (bind (get (ep-cell In e)) h) f) (bind (bind (get (ep-cell In e)) h′) g)
   p-bind-plain-in e {h} {h′} {f} {g} k = record { on = λ s t l. p-plain-in c e {f = λ p. bind (h p) f} {g = λ p. bind (h′ p) g} (λ p _. k p) .on s t l }
 
-  p-bind-plain-any : {m : Bool} {T C D : Type 0} {Q : C → D → Type 0} (dir : Dir) (e : ℕ) {h h′ : Plain → Script true T} {f : T → Script true C} {g : T → Script true D}
-      → ((p : Plain) (r : ℕ) → PairBy c st m Q (bind (h p) f) (bind (h′ (withReady r p)) g)) → PairBy c st m Q (bind (bind (get (ep-cell dir e)) h) f) (bind (bind (get (ep-cell dir e)) h′) g)
+  p-bind-plain-any : {m : Bool} {T C D : Type 0} {Q : C → D → Type 0} (dir : Dir) (e : ℕ) {h h′ : EpCore → Script true T} {f : T → Script true C} {g : T → Script true D}
+      → ((p : EpCore) (r : ℕ) → PairBy c st m Q (bind (h p) f) (bind (h′ (withReady r p)) g)) → PairBy c st m Q (bind (bind (get (ep-cell dir e)) h) f) (bind (bind (get (ep-cell dir e)) h′) g)
   p-bind-plain-any dir e {h} {h′} {f} {g} k = record { on = λ s t l. p-plain-any c dir e {f = λ p. bind (h p) f} {g = λ p. bind (h′ p) g} (λ p r _ _ _. k p r) .on s t l }
 
   -- what goes on after it, f and g: with a status that shows no OUT it does not begin with the channel's receive address
   module _ {m : Bool} {C D : Type 0} {Q : C → D → Type 0} (f : Transfer → Script true C) (g : Transfer → Script true D)
-      (nf : (y : Transfer) (s : St) → Next (c .number) (run conc (f y) s)) (ng : (y : Transfer) (s : St) → Next (c .number) (run conc (g y) s))
+      (nf : (y : Transfer) (s : St) → Next (c .number) (run concrete (f y) s)) (ng : (y : Transfer) (s : St) → Next (c .number) (run concrete (g y) s))
       (k : (busy late : Bool) (n n′ : ℕ) (o o′ : Bool) → Lengths (c .number) st n n′ o o′ → PairBy c st m Q (f (transferOf busy st late n o)) (g (transferOf busy st late n′ o′))) where
     p-retake : (busy late : Bool) (n n′ : ℕ) (o o′ : Bool) → Lengths (c .number) st n n′ o o′ → PairBy c st m Q (bind (retake (transferOf busy st late n o)) f) (bind (retake (transferOf busy st late n′ o′)) g)
     unfolding outNaks inNaks isOut isIn token tokenNumbered
@@ -262,7 +262,7 @@ module _ {c : Channel} {st : ℕ} where
     unfolding sameOut waitsForIso waitsForBulk
     p-settle busy late n n′ o o′ h = p-bind-plain-any Out (endpoint st) (λ p r. p-bind-plain-in (endpoint st) (λ q. waits p q))
       where
-        waits : (p q : Plain) → PairBy c st m Q
+        waits : (p q : EpCore) → PairBy c st m Q
             (bind (test (waitsForIso (transferOf busy st late n o) p) (sieWait >> (read IntSt 0 >>= λ now. read RxLen 0 >>= λ len. ret (lateTaken (transferOf busy st late n o) now len)))
             (test (waitsForBulk (transferOf busy st late n o) q) (sieWait >> (read RxLen 0 >>= λ len. ret (waited (transferOf busy st late n o) len))) (test busy (retake (transferOf busy st late n o)) (ret (transferOf busy st late n o))))) f)
             (bind (test (waitsForIso (transferOf busy st late n′ o′) p) (sieWait >> (read IntSt 0 >>= λ now. read RxLen 0 >>= λ len. ret (lateTaken (transferOf busy st late n′ o′) now len)))

@@ -22,13 +22,13 @@ use Rattle.model.specs.Cells.{control-cell, request-cell, paced-cell}
 use Rattle.model.specs.Script.{put, get, act, fill, fill0}
 use Rattle.model.specs.Statics.{isOn}
 use Rattle.model.specs.Control.{DATA-OUT}
-use Rattle.model.specs.Alike.{quiet}
+use Rattle.model.specs.Simulates.{quiet}
 use Rattle.model.specs.Machine.{Buf}
 use Rattle.model_ops.specs.Rings.{St, filledOn, filledEp0}
-use Rattle.model_ops.specs.Conc.{getOn, putOn, actOn}
-use Rattle.proof_book.specs.Rest.{endOf}
+use Rattle.model_ops.specs.Concrete.{getOn, putOn, actOn}
+use Rattle.proof_book.specs.Coupling.{endOf}
 use Rattle.proof_book.specs.Frame.{same-place}
-use Rattle.proof_isolation.specs.But.{But, Channel, Like}
+use Rattle.proof_isolation.specs.EqualExcept.{EqualExcept, Channel, LowEquiv}
 use Rattle.proof_isolation.specs.Apart.{Pair}
 use Rattle.proof_isolation.specs.Pairs.{Eq, Any, p-get, p-put, p-act}
 use Rattle.proof_isolation.specs.Buts.{like-made, lawful-put, lawful-control, lawful-act}
@@ -41,16 +41,16 @@ request-key : (d : Driver) (a dir : Dir) (f e : ℕ) → key a f ≡ key dir e �
 unfolding requestOn
 request-key d a dir f e p = ap (λ k. getD (d .requests) k noRequest) p
 
-module _ {x : ℕ} {d d′ : Driver} (h : But x d d′) where
-  but-control : (v : Control) → But x (withControl d v) (withControl d′ v)
+module _ {x : ℕ} {d d′ : Driver} (h : EqualExcept x d d′) where
+  but-control : (v : Control) → EqualExcept x (withControl d v) (withControl d′ v)
   unfolding epOn lenOn stampOn requestOn
   but-control v = record { globals = h .globals; allocator = h .allocator; control = refl; paced = h .paced; wakes = h .wakes; requests = h .requests; eps = h .eps; lens = h .lens; stamps = h .stamps; own = h .own }
 
-  but-paced : (e v : ℕ) → But x (withPacedOn d e v) (withPacedOn d′ e v)
+  but-paced : (e v : ℕ) → EqualExcept x (withPacedOn d e v) (withPacedOn d′ e v)
   unfolding withPacedOn epOn lenOn stampOn requestOn
   but-paced e v = record { globals = h .globals; allocator = h .allocator; control = h .control; paced = ap (λ l. set l (e % 16) v) (h .paced); wakes = h .wakes; requests = h .requests; eps = h .eps; lens = h .lens; stamps = h .stamps; own = h .own }
 
-  but-request : Sized d → Sized d′ → (dir : Dir) (e : ℕ) (v : Request) → But x (withRequestOn d dir e v) (withRequestOn d′ dir e v)
+  but-request : Sized d → Sized d′ → (dir : Dir) (e : ℕ) (v : Request) → EqualExcept x (withRequestOn d dir e v) (withRequestOn d′ dir e v)
   unfolding withRequestOn epOn lenOn stampOn
   but-request z z′ dir e v = record {
     globals = h .globals;
@@ -71,21 +71,21 @@ module _ {x : ℕ} {d d′ : Driver} (h : But x d d′) where
 -- ---- states
 
 module _ (c : Channel) where
-  pub control-kept : (v : Control) (s t : St) → (v .sort ≡ DATA-OUT → v .length ≤ s .0 .globals .«ep0_max») → Like c quiet s t → Like c quiet (putOn control-cell v s) (putOn control-cell v t)
+  pub control-kept : (v : Control) (s t : St) → (v .sort ≡ DATA-OUT → v .length ≤ s .0 .globals .«ep0_max») → LowEquiv c quiet s t → LowEquiv c quiet (putOn control-cell v s) (putOn control-cell v t)
   unfolding epOn
   control-kept v s t h l = like-made l (lawful-control c v h (l .left)) (lawful-control c v (λ z. subst (λ (g : Globals). v .length ≤ g .«ep0_max») (l .but .globals) (h z)) (l .right))
       (but-control (l .but) v) (same-place (epOn (s .0) Out (c .number))) (l .bytes)
 
-  paced-kept : (e v : ℕ) (s t : St) → Like c quiet s t → Like c quiet (putOn (paced-cell e) v s) (putOn (paced-cell e) v t)
+  paced-kept : (e v : ℕ) (s t : St) → LowEquiv c quiet s t → LowEquiv c quiet (putOn (paced-cell e) v s) (putOn (paced-cell e) v t)
   unfolding epOn withPacedOn
   paced-kept e v s t l = like-made l (lawful-put c (paced-cell e) v (l .left) refl) (lawful-put c (paced-cell e) v (l .right) refl) (but-paced (l .but) e v) (same-place (epOn (s .0) Out (c .number))) (l .bytes)
 
-  request-kept : (dir : Dir) (e : ℕ) (v : Request) (s t : St) → Like c quiet s t → Like c quiet (putOn (request-cell dir e) v s) (putOn (request-cell dir e) v t)
+  request-kept : (dir : Dir) (e : ℕ) (v : Request) (s t : St) → LowEquiv c quiet s t → LowEquiv c quiet (putOn (request-cell dir e) v s) (putOn (request-cell dir e) v t)
   unfolding epOn withRequestOn
   request-kept dir e v s t l = like-made l (lawful-put c (request-cell dir e) v (l .left) refl) (lawful-put c (request-cell dir e) v (l .right) refl)
       (but-request (l .but) (l .left .rest .sized) (l .right .rest .sized) dir e v) (same-place (epOn (s .0) Out (c .number))) (l .bytes)
 
-  paced-same : (e : ℕ) (s t : St) → Like c quiet s t → getOn (paced-cell e) s ≡ getOn (paced-cell e) t
+  paced-same : (e : ℕ) (s t : St) → LowEquiv c quiet s t → getOn (paced-cell e) s ≡ getOn (paced-cell e) t
   unfolding pacedOn
   paced-same e s t l = ap (λ m. getD m (e % 16) 0) (l .but .paced)
 
@@ -95,7 +95,7 @@ module _ (c : Channel) where
   fill-by false true at bytes o = o
   fill-by false false at bytes {b = b} {b′ = b′} o = only-like o (λ k a. copied-like b b′ at bytes k a)
 
-  fills : (e : ℕ) (bytes : List ℕ) (s t : St) → Like c quiet s t → Like c quiet (actOn (fill e bytes) s) (actOn (fill e bytes) t)
+  fills : (e : ℕ) (bytes : List ℕ) (s t : St) → LowEquiv c quiet s t → LowEquiv c quiet (actOn (fill e bytes) s) (actOn (fill e bytes) t)
   unfolding filledOn
   fills e bytes s t l =
       let r = epOn (s .0) In e in
@@ -104,7 +104,7 @@ module _ (c : Channel) where
       (l .but .eps In e (in-other (c .number) e)) (fill-by (isOn (r .iso)) (ltb (r .«max_len») (length bytes)) (r .base) bytes (l .bytes)))
 
   -- into EP0's
-  fills0 : (bytes : List ℕ) (s t : St) → Like c quiet s t → Like c quiet (actOn (fill0 bytes) s) (actOn (fill0 bytes) t)
+  fills0 : (bytes : List ℕ) (s t : St) → LowEquiv c quiet s t → LowEquiv c quiet (actOn (fill0 bytes) s) (actOn (fill0 bytes) t)
   unfolding filledEp0
   fills0 bytes s t l =
       let g = s .0 .globals in

@@ -1,4 +1,4 @@
-pub mod But
+pub mod EqualExcept
 pub mod Whose
 pub mod Apart
 pub mod Settled
@@ -30,7 +30,7 @@ pub mod DataOut
 pub mod Operations
 pub mod Stores
 pub mod Spares
-pub mod Turns
+pub mod Schedule
 pub mod Others
 pub mod Standing
 pub mod Runs

@@ -13,15 +13,15 @@ use Rattle.state.specs.declared.Request.{Request}
 use Rattle.state.specs.Driver.{Driver, key, epOn, requestOn, noRequest}
 use Rattle.marks.specs.Only.{Only, only-refl, only-trans}
 use Rattle.ring.specs.Waiting.{SamePlace}
-use Rattle.model.specs.Alike.{Phase, quiet}
-use Rattle.model.specs.Cells.{Plain}
-use Rattle.model.specs.Sorts.{Sorts}
+use Rattle.model.specs.Simulates.{Phase, quiet}
+use Rattle.model.specs.Cells.{EpCore}
+use Rattle.model.specs.TransferKinds.{TransferKinds}
 use Rattle.model.specs.Machine.{Buf}
 use Rattle.model_ops.specs.Rings.{St}
-use Rattle.proof_book.specs.Rest.{endOf}
+use Rattle.proof_book.specs.Coupling.{endOf}
 use Rattle.proof_book.specs.Frame.{Changed, same-place, end-kept}
 use Rattle.proof_book.specs.Outs.{Inner}
-use Rattle.proof_isolation.specs.But.{OtherWakes, Stays, ButBy, Beside, Lawful, Channel, Like, Touched}
+use Rattle.proof_isolation.specs.EqualExcept.{OtherWakes, Stays, ButBy, Beside, Lawful, Channel, LowEquiv, Touched}
 
 -- ---- wake-ups
 
@@ -105,7 +105,7 @@ seat {x = x} {d = d} {d′ = d′} b c h o =
     subst (λ hi. Only (epOn d′ Out x .base) hi b c) (sym (end-kept p)) (subst (λ lo. Only lo (endOf (epOn d Out x)) b c) (sym (p .base)) o)
 
 module _ {c : Channel} {φ : Phase} where
-  pub like-refl : {s : St} → Lawful (c .iso) φ s → Room (s .0 .wakes) → Like c φ s s
+  pub like-refl : {s : St} → Lawful (c .iso) φ s → Room (s .0 .wakes) → LowEquiv c φ s s
   like-refl {s} l r = record {
     left = l;
     right = l;
@@ -113,7 +113,7 @@ module _ {c : Channel} {φ : Phase} where
     bytes = only-refl _ _ (s .1);
   }
 
-  pub like-sym : {s t : St} → Like c φ s t → Like c φ t s
+  pub like-sym : {s t : St} → LowEquiv c φ s t → LowEquiv c φ t s
   like-sym {s} {t} h = record { left = h .right; right = h .left; but = but-sym {U = OtherWakes (c .number)} (h .but) (wakes-sym (h .but .wakes)); bytes = seat (t .1) (s .1) (h .but) (only-sym (h .bytes)) }
 
   pub touched-refl : {s : St} → Lawful (c .iso) φ s → Touched c φ s s
@@ -131,7 +131,7 @@ module _ {c : Channel} {φ : Phase} where
   }
 
   -- what is done to x's data in one run leaves the two the same but for it
-  pub touch : {s t u : St} → Touched c φ s t → Like c φ s u → Like c φ t u
+  pub touch : {s t u : St} → Touched c φ s t → LowEquiv c φ s u → LowEquiv c φ t u
   touch {s} {t} {u} h k = record {
     left = h .right;
     right = k .right;

@@ -13,7 +13,7 @@ use Rattle.regs.specs.declared.Dir.the-variants.{Out, In}
 use Rattle.regs.specs.Registers.{ctrlOf}
 use Rattle.state.specs.declared.Globals.{Globals}
 use Rattle.state.specs.declared.Control.{Control}
-use Rattle.model.specs.Cells.{Plain, globals-cell}
+use Rattle.model.specs.Cells.{EpCore, globals-cell}
 use Rattle.state.specs.Driver.{key}
 use Rattle.model.specs.Script.{Script, ret, test, room, enqueue}
 use Rattle.model.specs.Statics.{isOn, withReady, withTog}
@@ -23,7 +23,7 @@ use Rattle.model.specs.Bus as bus
 use Rattle.model.specs.Endpoint.{arm-read, load-write, put-iso, sent-ready}
 use Rattle.model.specs.Control.{acks, closing-out, take-closing, take-in, statusIn}
 use Rattle.model.specs.Calls.{Slotted, SetEnabled, PollRead, BeginWrite, PollWrite, PollDataOut, BeginDataIn, Other, Allocate, AllocateAll, Start, BusPoll, BusEnable, BusDisable, Microframe, SetStalled, IsStalled, SetPaced, Advance, BeginRead, BeginSetup, PollSetup, PollDataIn, BeginAccept, PollAccept, BeginReject, BeginDataOut, BeginAcceptSetAddress, Aside, Open, Close, Queue, Op, interrupt, slotted, other, aside, code}
-use Rattle.proof_isolation.specs.But.{Channel}
+use Rattle.proof_isolation.specs.EqualExcept.{Channel}
 use Rattle.proof_isolation.specs.Apart.{PairBy, Pair}
 use Rattle.proof_isolation.specs.Pairs.{Any, p-later, p-ret, p-bind, p-same, p-then, p-test, p-tests, p-when, p-write, p-get, p-is, p-act}
 use Rattle.proof_isolation.specs.Values.{p-assign, p-record, p-modify-ep, p-wake, p-globals, p-plain-in, p-plain-ep0, p-plain-any, in-other, p-records}
@@ -87,7 +87,7 @@ module _ {c : Channel} {st : ℕ} {i : Bool} where
 
   -- ---- reads and writes
 
-  p-arm-read : (e : ℕ) (s : Plain) (r : ℕ) → (isOn (s .iso) ≡ false → r ≡ s .ready) → Pair c st {i = i} Any (arm-read e s) (arm-read e (withReady r s))
+  p-arm-read : (e : ℕ) (s : EpCore) (r : ℕ) → (isOn (s .iso) ≡ false → r ≡ s .ready) → Pair c st {i = i} Any (arm-read e s) (arm-read e (withReady r s))
   p-arm-read e s r n = p-test _ (λ _. p-ret tt) (λ u. p-tests (ap isOn (sym (n u))) (λ _. p-ret tt) (λ _. p-then (p-modify-ep c Out e _ (λ _. refl)) (p-modify-reg EpRxCtrl e _ (λ v v′ h. h))))
 
   p-load-write : (e : ℕ) (bytes : List ℕ) → Pair c st {i = i} Any (load-write e bytes) (load-write e bytes)
@@ -98,7 +98,7 @@ module _ {c : Channel} {st : ℕ} {i : Bool} where
       (λ _. p-then (p-act (enqueue e bytes) (enqueues c e bytes)) (p-ends-request In e _))
       (λ _. p-ret (same _))))
 
-  p-sent-ready : (e : ℕ) (s : Plain) → Pair c st {i = i} (SameAnswer (c .number)) (sent-ready e s) (sent-ready e s)
+  p-sent-ready : (e : ℕ) (s : EpCore) → Pair c st {i = i} (SameAnswer (c .number)) (sent-ready e s) (sent-ready e s)
   p-sent-ready e s = p-test _ (λ _. p-then (p-modify-ep c In e _ (λ _. refl)) (p-ends-request In e _)) (λ _. p-enabled In e (p-ends-request In e _) (p-ret (same _)))
 
   -- ---- the control pipe

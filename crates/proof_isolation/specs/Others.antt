@@ -17,19 +17,19 @@ use Rattle.regs.specs.Enables as enables
 use Rattle.state.specs.declared.Globals.{Globals}
 use Rattle.model.specs.Answers.{Answer, isNumber}
 use Rattle.model.specs.Statics.{flag}
-use Rattle.model.specs.Alike.{Phase}
+use Rattle.model.specs.Simulates.{Phase}
 use Rattle.model.specs.Machine.{Question, pending, overruns, enabled, Way}
 use Rattle.proof_wake_ups.specs.Twins.{Short}
 use Rattle.machine.specs.Questions.{pendingOn, overrunsOf, overrunsOn, enabledAsked, questionOf}
 use Rattle.model_ops.specs.Rings.{St}
-use Rattle.proof_book.specs.Rest.{endOf, lensOf, slotStamps}
+use Rattle.proof_book.specs.Coupling.{endOf, lensOf, slotStamps}
 use Rattle.proof_book.specs.Stamps.{stamped}
-use Rattle.proof_isolation.specs.But.{SameCodes, Channel, Like}
+use Rattle.proof_isolation.specs.EqualExcept.{SameCodes, Channel, LowEquiv}
 use Rattle.proof_isolation.specs.Buts.{others-same}
-use Rattle.proof_isolation.specs.Turns.{Asked, SameOthers}
+use Rattle.proof_isolation.specs.Schedule.{Asked, SameOthers}
 use Rattle.proof_isolation.specs.Values.{in-other}
 
-module _ {c : Channel} {φ : Phase} {s t : St} (l : Like c φ s t) where
+module _ {c : Channel} {φ : Phase} {s t : St} (l : LowEquiv c φ s t) where
   -- the packets that wait, tail to head, each with its bytes
   pub same-queue : (dir : Dir) (e : ℕ) → key dir e ≢ key Out (c .number) → waiting (s .1) (epOn (s .0) dir e) (lensOf (s .0) dir e) ≡ waiting (t .1) (epOn (t .0) dir e) (lensOf (t .0) dir e)
   same-queue Out e n =
@@ -64,7 +64,7 @@ module _ {c : Channel} {φ : Phase} {s t : St} (l : Like c φ s t) where
   same-answers (enabled dir e) n = ap (λ (g : Globals). flag (cond (isNumber e) (enables.isOn (g .«ep_config») dir e) false)) (l .but .globals)
 
 -- the wake-ups without a premise where there is room for more, which there is in every run (`proof_wake_ups`)
-pub same-others : {c : Channel} {φ : Phase} {s t : St} → Like c φ s t → Short (listed (s .0 .wakes)) → Short (listed (t .0 .wakes)) → {w w′ : Way Answer Driver}
+pub same-others : {c : Channel} {φ : Phase} {s t : St} → LowEquiv c φ s t → Short (listed (s .0 .wakes)) → Short (listed (t .0 .wakes)) → {w w′ : Way Answer Driver}
     → SameOthers c (record { way = w; st = s .0; buf = s .1 }) (record { way = w′; st = t .0; buf = t .1 })
 same-others l p q = record {
   queue = same-queue l;

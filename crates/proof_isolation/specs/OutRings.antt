@@ -19,26 +19,26 @@ use Rattle.ring.specs.Out.{cappedAt, arrivedOf, arrivedLens, armedAt}
 use Rattle.ring.specs.Waiting.{SamePlace}
 use Rattle.ring.specs.Slots.{slot-in}
 use Rattle.ring.specs.OutLaws.{armed-alike}
-use Rattle.model.specs.Cells.{Plain}
+use Rattle.model.specs.Cells.{EpCore}
 use Rattle.model.specs.Script.{changed, marked, arrive}
-use Rattle.model.specs.Alike.{quiet}
+use Rattle.model.specs.Simulates.{quiet}
 use Rattle.model.specs.Statics.{isoOuts}
 use Rattle.model.specs.Machine.{Buf}
 use Rattle.model_ops.specs.Rings.{St, changedOn, markedOn, arrivedAt, arriveOn}
-use Rattle.model_ops.specs.Conc.{isOf, lookOf, handOn}
+use Rattle.model_ops.specs.Concrete.{isOf, lookOf, handOn}
 use Rattle.proof_book.specs.Pages.{Pages}
-use Rattle.proof_book.specs.Rest.{endOf, Used, lensOf, slotStamps, Rest}
+use Rattle.proof_book.specs.Coupling.{endOf, Used, lensOf, slotStamps, Coupling}
 use Rattle.proof_book.specs.Lens.{lens-on, stamps-on, lens-mod, stamps-mod}
 use Rattle.proof_book.specs.Frame.{Changed, changed-on, changed-trans, same-place}
 use Rattle.proof_book.specs.Held.{receives, iso-used, receives-slots, good-words}
 use Rattle.proof_book.specs.Arrives.{admits, headAddr, armed-plain, admitted-ep, admitted-lens, admitted-stamps, admitted-changed}
-use Rattle.proof_isolation.specs.But.{But, Channel, Like}
+use Rattle.proof_isolation.specs.EqualExcept.{EqualExcept, Channel, LowEquiv}
 use Rattle.proof_isolation.specs.Buts.{but-changed, changed-seat, like-made, lawful-hand, others-same}
 use Rattle.proof_isolation.specs.Bytes.{armed-like, only-like}
 
 -- ---- what is asked of another's armed slot
 
-module _ (c : Channel) (e : ℕ) (n : key Out e ≢ key Out (c .number)) (i : c .iso Out e ≡ true) (s t : St) (l : Like c quiet s t) where
+module _ (c : Channel) (e : ℕ) (n : key Out e ≢ key Out (c .number)) (i : c .iso Out e ≡ true) (s t : St) (l : LowEquiv c quiet s t) where
   used : Used (s .0 .allocator) Out (epOn (s .0) Out e)
   used = iso-used (l .left .rest) e (l .left .has .flags Out e ∙ i)
 
@@ -79,7 +79,7 @@ module _ {d : Driver} (z : Sized d) (e n : ℕ) where
   pub after-changed : Changed Out e d (after d e n)
   after-changed =
       let r1 = epOn (admits d e n) Out e in
-      changed-trans z Out e given (changed-on (given .sized) Out e (armedAt r1 (headAddr r1)) (armed-alike r1 (headAddr r1) .place) (ap (λ (q : Plain). q .iso) (armed-plain r1 (headAddr r1))))
+      changed-trans z Out e given (changed-on (given .sized) Out e (armedAt r1 (headAddr r1)) (armed-alike r1 (headAddr r1) .place) (ap (λ (q : EpCore). q .iso) (armed-plain r1 (headAddr r1))))
 
   pub after-ep : epOn (after d e n) Out e ≡ arrivedEp (epOn d Out e)
   after-ep =
@@ -97,12 +97,12 @@ module _ {d : Driver} (z : Sized d) (e n : ℕ) where
 abbrev pub marks : EpState → Buf → Buf
 marks r b = armed b (headAddr r) (r .«max_len»)
 
-head-in : {b : Buf} {d : Driver} {p : Pages} (R : Rest quiet b d p) (e : ℕ) → receives d e ≡ true → slotOf (epOn d Out e) (epOn d Out e .head) < 16
+head-in : {b : Buf} {d : Driver} {p : Pages} (R : Coupling quiet b d p) (e : ℕ) → receives d e ≡ true → slotOf (epOn d Out e) (epOn d Out e .head) < 16
 head-in {d = d} R e u = omega (arith, slot-in (R .outs e .held .placed) (epOn d Out e .head), receives-slots R e u)
 
 -- ---- another's arrival, in both runs
 
-module _ (c : Channel) (e n : ℕ) (o : key Out e ≢ key Out (c .number)) (s t : St) (l : Like c quiet s t) where
+module _ (c : Channel) (e n : ℕ) (o : key Out e ≢ key Out (c .number)) (s t : St) (l : LowEquiv c quiet s t) where
   abbrev d : Driver
   d = s .0
 
@@ -131,7 +131,7 @@ module _ (c : Channel) (e n : ℕ) (o : key Out e ≢ key Out (c .number)) (s t 
         ∙ ap (λ (g : Globals). arrivedLens (epOn d′ Out e) (slotStamps d′ e) (g .entered)) (l .but .globals)
         ∙ sym (after-stamps (l .right .rest .sized) e n (head-in (l .right .rest) e u′))
 
-    same-but : But (c .number) (after d e n) (after d′ e n)
+    same-but : EqualExcept (c .number) (after d e n) (after d′ e n)
     same-but = but-changed (l .but) Out e o (after-changed (l .left .rest .sized) e n) (after-changed (l .right .rest .sized) e n)
         (after-ep (l .left .rest .sized) e n ∙ ap arrivedEp eps ∙ sym (after-ep (l .right .rest .sized) e n))
         (λ a f p. by a f p)
@@ -150,7 +150,7 @@ module _ (c : Channel) (e n : ℕ) (o : key Out e ≢ key Out (c .number)) (s t 
   -- both answers of `receives`
   pub record Both (x y : ℕ × St) : Type 0 where
     pub address : x .0 ≡ y .0
-    pub but : But (c .number) (x .1 .0) (y .1 .0)
+    pub but : EqualExcept (c .number) (x .1 .0) (y .1 .0)
     pub seat : SamePlace (epOn d Out (c .number)) (epOn (x .1 .0) Out (c .number))
     pub bytes : Only (epOn d Out (c .number) .base) (endOf (epOn d Out (c .number))) (x .1 .1) (y .1 .1)
 
@@ -175,7 +175,7 @@ module _ (c : Channel) (e n : ℕ) (o : key Out e ≢ key Out (c .number)) (s t 
       let g : receives d e ≡ receives d′ e = ap (λ (g : Globals). isSet (isoOuts g) (e % 16)) (l .but .globals) in
       subst (λ v. Both (handOn (arrive e n) s) (cond v (arrivedAt e (lenOf d′ e n) t) (epOn d′ Out e .«armed_slot», t))) g (arrives-by (receives d e) refl (sym g))
 
-  pub arrives-same : (handOn (arrive e n) s .0 ≡ handOn (arrive e n) t .0) × Like c quiet (handOn (arrive e n) s .1) (handOn (arrive e n) t .1)
+  pub arrives-same : (handOn (arrive e n) s .0 ≡ handOn (arrive e n) t .0) × LowEquiv c quiet (handOn (arrive e n) s .1) (handOn (arrive e n) t .1)
   arrives-same =
       let b = arrives-both in
       (b .address, like-made l (lawful-hand c (arrive e n) (l .left)) (lawful-hand c (arrive e n) (l .right)) (b .but) (b .seat) (b .bytes))

@@ -10,18 +10,18 @@ use Rattle.state.specs.Laws.{epOn-same, requestOn-other}
 use Rattle.marks.specs.Only.{only-refl}
 use Rattle.ring.specs.Slot.{hasWaiting, passedOf}
 use Rattle.ring.specs.Out.{closedOf}
-use Rattle.model.specs.Cells.{Plain, globals-cell, allocator-cell, ep-cell, request-cell}
+use Rattle.model.specs.Cells.{EpCore, globals-cell, allocator-cell, ep-cell, request-cell}
 use Rattle.model.specs.Script.{run, waiting, oldest, received, take-oldest}
 use Rattle.model.specs.Statics.{withReady, modifyEp}
 use Rattle.model.specs.Answers.{Answer}
 use Rattle.model.specs.Endpoint.{ends-request, take-iso, take-ready, pollRead}
-use Rattle.model.specs.Alike.{quiet}
+use Rattle.model.specs.Simulates.{quiet}
 use Rattle.model_ops.specs.Records.{plainOf}
 use Rattle.model_ops.specs.Rings.{St, takeOn}
-use Rattle.model_ops.specs.Conc.{conc, putOn, actOn}
+use Rattle.model_ops.specs.Concrete.{concrete, putOn, actOn}
 use Rattle.proof_book.specs.Lens.{key-ep}
 use Rattle.proof_book.specs.Frame.{Changed, changed-on}
-use Rattle.proof_isolation.specs.But.{Stays, Beside, Lawful, Channel, Touched}
+use Rattle.proof_isolation.specs.EqualExcept.{Stays, Beside, Lawful, Channel, Touched}
 use Rattle.proof_isolation.specs.Likes.{stays-refl, own-changed, but-refl, touched-refl, touched-trans}
 use Rattle.proof_isolation.specs.Buts.{lawful-put, lawful-act}
 use Rattle.proof_isolation.specs.Ending.{Finished, fin, Brief, b-ret, b-bind, b-test, b-get, b-is, b-fetch, b-act, b-put}
@@ -48,7 +48,7 @@ module _ (c : Channel) (e : ℕ) (p : key Out e ≡ key Out (c .number)) where
 
   module _ (s : St) (l : Lawful (c .iso) quiet s) where
     own-record : (r : EpState) → Stays (epOn (s .0) Out e) r → Beside (c .number) (s .0) (withOn (s .0) Out e r)
-    own-record r k = own-changed (changed-key p (changed-on (l .rest .sized) Out e r (k .place) (ap (λ (q : Plain). q .iso) (k .plain))))
+    own-record r k = own-changed (changed-key p (changed-on (l .rest .sized) Out e r (k .place) (ap (λ (q : EpCore). q .iso) (k .plain))))
         (rw (key-ep (s .0) Out Out (c .number) e (sym p), key-ep (withOn (s .0) Out e r) Out Out (c .number) e (sym p) ∙ epOn-same (s .0) Out e r (l .rest .sized)) k)
 
     own-cond : (u : Bool) (r : EpState) → Stays (epOn (s .0) Out e) r → Beside (c .number) (s .0) (cond u (withOn (s .0) Out e r) (s .0))
@@ -112,7 +112,7 @@ module _ (c : Channel) (e : ℕ) (p : key Out e ≡ key Out (c .number)) where
         (b-ret _)))
         (b-ends _))
 
-    b-take-ready : (n : ℕ) (v : Plain) → Brief T (take-ready e n v)
+    b-take-ready : (n : ℕ) (v : EpCore) → Brief T (take-ready e n v)
     b-take-ready n v = b-test _
         (b-bind b-ready (λ _. b-test _ (b-ends _) (b-bind (b-fetch (received e (v .len))) (λ w. b-ends _))))
         (b-bind (b-get globals-cell) (λ g. b-test _ (b-ret _) (b-ends _)))
@@ -126,5 +126,5 @@ module _ (c : Channel) (e : ℕ) (p : key Out e ≡ key Out (c .number)) where
         (b-ret _)))
         (b-ret _))
 
-  pub own-polls : (n : ℕ) (s : St) → Lawful (c .iso) quiet s → Finished (Touched c quiet s) (run {i = false} conc (pollRead e n) s)
+  pub own-polls : (n : ℕ) (s : St) → Lawful (c .iso) quiet s → Finished (Touched c quiet s) (run {i = false} concrete (pollRead e n) s)
   own-polls n s l = b-poll s n .on s (touched-refl l)

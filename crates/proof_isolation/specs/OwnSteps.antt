@@ -20,14 +20,14 @@ use Rattle.model.specs.Tree as tree
 use Rattle.model.specs.Tree.{asks, bindOut}
 use Rattle.model.specs.Script.{Script, run, test, read, look, when, done, _>>_, _>>=_, arrive, changed, marked, waken}
 use Rattle.model.specs.IsoOut.{arriving, entry, arrives, checkOne}
-use Rattle.model.specs.Alike.{quiet}
+use Rattle.model.specs.Simulates.{quiet}
 use Rattle.model_ops.specs.Rings.{St, arrivedAt, arriveOn}
-use Rattle.model_ops.specs.Conc.{conc, isOf, lookOf, actOn, handOn}
-use Rattle.proof_book.specs.Rest.{endOf}
+use Rattle.model_ops.specs.Concrete.{concrete, isOf, lookOf, actOn, handOn}
+use Rattle.proof_book.specs.Coupling.{endOf}
 use Rattle.proof_book.specs.Held.{receives}
 use Rattle.proof_book.specs.Outs.{Inner}
 use Rattle.proof_book.specs.Arrives.{admits, headAddr, arrived-inner, armed-plain, arrived-words}
-use Rattle.proof_isolation.specs.But.{Beside, Lawful, Channel, Like, Touched}
+use Rattle.proof_isolation.specs.EqualExcept.{Beside, Lawful, Channel, LowEquiv, Touched}
 use Rattle.proof_isolation.specs.Whose.{sof}
 use Rattle.proof_isolation.specs.Apart.{Its, status, receive, ApartBy, Apart, left, owns, PairBy, Pair}
 use Rattle.proof_isolation.specs.Pairs.{apart-flip, apart-later, past-of}
@@ -86,14 +86,14 @@ rest-of e v = test (arriving v e) done (look (marked e) >>= λ n. arrives e n)
 
 -- the check, by whether the first word changed and the length came with the entry
 abbrev checks : {A : Type 0} → ℕ → Transfer → (St → tree.Out St A) → Bool → Bool → St → tree.Out St A
-checks x y f b e s = bindOut (run conc (when b (test e (arrives x (y .len)) (read IntSt 0 >>= rest-of x))) s) (λ _ z. f z)
+checks x y f b e s = bindOut (run concrete (when b (test e (arrives x (y .len)) (read IntSt 0 >>= rest-of x))) s) (λ _ z. f z)
 
 -- what goes on after its receive address, and after the status reading; `f`: what follows the check
 abbrev woken : {A : Type 0} → ℕ → (St → tree.Out St A) → ℕ → St → tree.Out St A
 woken x f v s = f (actOn (waken (wakeCode Out x ∷ [])) s)
 
 abbrev rested : {A : Type 0} → ℕ → (St → tree.Out St A) → ℕ → St → tree.Out St A
-rested x f v s = bindOut (run conc (rest-of x v) s) (λ _ z. f z)
+rested x f v s = bindOut (run concrete (rest-of x v) s) (λ _ z. f z)
 
 abbrev at-receive : {A : Type 0} → ℕ → (St → tree.Out St A) → ℕ → St → tree.Out St A
 at-receive x f y s = asks (Receive x y) s (woken x f)
@@ -107,86 +107,86 @@ unfolding arriving isOut token tokenNumbered
 rest-its x f s = status
 
 -- what follows the check, in the one run and in the other: no access of x's own
-module _ {c : Channel} {st : ℕ} {A B : Type 0} (Q : A → B → Type 0) (f : St → tree.Out St A) (g : St → tree.Out St B) (h : (s t : St) → Like c quiet s t → Apart c st true Q (f s) (g t)) where
-  arrived : (n : ℕ) {s t : St} → Like c quiet s t → Like c quiet (handOn (arrive (c .number) n) s .1) t
+module _ {c : Channel} {st : ℕ} {A B : Type 0} (Q : A → B → Type 0) (f : St → tree.Out St A) (g : St → tree.Out St B) (h : (s t : St) → LowEquiv c quiet s t → Apart c st true Q (f s) (g t)) where
+  arrived : (n : ℕ) {s t : St} → LowEquiv c quiet s t → LowEquiv c quiet (handOn (arrive (c .number) n) s .1) t
   arrived n {s} l = touch (own-arrives c n s (l .left)) l
 
-  past-past : {s t : St} → Like c quiet s t → ApartBy c st true Q true (f s) (g t)
+  past-past : {s t : St} → LowEquiv c quiet s t → ApartBy c st true Q true (f s) (g t)
   past-past l = apart-later (h _ _ l)
 
-  receive-past : (y : ℕ) {s t : St} → Like c quiet s t → ApartBy c st true Q true (at-receive (c .number) f y s) (g t)
+  receive-past : (y : ℕ) {s t : St} → LowEquiv c quiet s t → ApartBy c st true Q true (at-receive (c .number) f y s) (g t)
   receive-past y l = left (refl, λ _. receive) (past-of refl (h _ _ l)) (l .left) (λ v s m. past-past (own-wake c (touch m l)))
 
   -- what the status says decides
-  rest-past : (b : Bool) (n : ℕ) {s t : St} → Like c quiet s t → ApartBy c st true Q true (bindOut (run {i = true} conc (test b done (arrives (c .number) n)) s) (λ _ z. f z)) (g t)
+  rest-past : (b : Bool) (n : ℕ) {s t : St} → LowEquiv c quiet s t → ApartBy c st true Q true (bindOut (run {i = true} concrete (test b done (arrives (c .number) n)) s) (λ _ z. f z)) (g t)
   rest-past true n l = past-past l
   rest-past false n l = receive-past _ (arrived n l)
 
-  status-past : {s t : St} → Like c quiet s t → ApartBy c st true Q true (at-status (c .number) f s) (g t)
+  status-past : {s t : St} → LowEquiv c quiet s t → ApartBy c st true Q true (at-status (c .number) f s) (g t)
   status-past l = left (refl, λ s. rest-its (c .number) f s) (past-of refl (h _ _ l)) (l .left) (λ v s m. rest-past (arriving v (c .number)) (lookOf (marked (c .number)) s) (touch m l))
 
-module _ {c : Channel} {st : ℕ} {A B : Type 0} {Q : A → B → Type 0} {f : St → tree.Out St A} {g : St → tree.Out St B} (h : (s t : St) → Like c quiet s t → Apart c st true Q (f s) (g t)) where
-  flipped : (t s : St) → Like c quiet t s → Apart c st true (λ b a. Q a b) (g t) (f s)
+module _ {c : Channel} {st : ℕ} {A B : Type 0} {Q : A → B → Type 0} {f : St → tree.Out St A} {g : St → tree.Out St B} (h : (s t : St) → LowEquiv c quiet s t → Apart c st true Q (f s) (g t)) where
+  flipped : (t s : St) → LowEquiv c quiet t s → Apart c st true (λ b a. Q a b) (g t) (f s)
   flipped t s l = apart-flip (h s t (like-sym l))
 
-module _ {c : Channel} {st : ℕ} {A B : Type 0} (Q : A → B → Type 0) (f : St → tree.Out St A) (g : St → tree.Out St B) (h : (s t : St) → Like c quiet s t → Apart c st true Q (f s) (g t)) where
-  past-receive : (y : ℕ) {s t : St} → Like c quiet s t → ApartBy c st true Q true (f s) (at-receive (c .number) g y t)
+module _ {c : Channel} {st : ℕ} {A B : Type 0} (Q : A → B → Type 0) (f : St → tree.Out St A) (g : St → tree.Out St B) (h : (s t : St) → LowEquiv c quiet s t → Apart c st true Q (f s) (g t)) where
+  past-receive : (y : ℕ) {s t : St} → LowEquiv c quiet s t → ApartBy c st true Q true (f s) (at-receive (c .number) g y t)
   past-receive y l = apart-flip (receive-past (λ b a. Q a b) g f (flipped h) y (like-sym l))
 
-  past-status : {s t : St} → Like c quiet s t → ApartBy c st true Q true (f s) (at-status (c .number) g t)
+  past-status : {s t : St} → LowEquiv c quiet s t → ApartBy c st true Q true (f s) (at-status (c .number) g t)
   past-status l = apart-flip (status-past (λ b a. Q a b) g f (flipped h) (like-sym l))
 
-  receive-receive : (y y′ : ℕ) {s t : St} → Like c quiet s t → ApartBy c st true Q true (at-receive (c .number) f y s) (at-receive (c .number) g y′ t)
+  receive-receive : (y y′ : ℕ) {s t : St} → LowEquiv c quiet s t → ApartBy c st true Q true (at-receive (c .number) f y s) (at-receive (c .number) g y′ t)
   receive-receive y y′ l = owns (refl, λ _. receive) (refl, λ _. receive) l (λ v s t m. past-receive y′ (own-wake c m)) (λ v s t m. receive-past Q f g h y (like-sym (own-wake c (like-sym m))))
 
-  rest-receive : (b : Bool) (n y : ℕ) {s t : St} → Like c quiet s t → ApartBy c st true Q true (bindOut (run {i = true} conc (test b done (arrives (c .number) n)) s) (λ _ z. f z)) (at-receive (c .number) g y t)
+  rest-receive : (b : Bool) (n y : ℕ) {s t : St} → LowEquiv c quiet s t → ApartBy c st true Q true (bindOut (run {i = true} concrete (test b done (arrives (c .number) n)) s) (λ _ z. f z)) (at-receive (c .number) g y t)
   rest-receive true n y l = past-receive y l
   rest-receive false n y l = receive-receive _ y (arrived Q f g h n l)
 
-  status-receive : (y : ℕ) {s t : St} → Like c quiet s t → ApartBy c st true Q true (at-status (c .number) f s) (at-receive (c .number) g y t)
+  status-receive : (y : ℕ) {s t : St} → LowEquiv c quiet s t → ApartBy c st true Q true (at-status (c .number) f s) (at-receive (c .number) g y t)
   status-receive y l = owns (refl, λ s. rest-its (c .number) f s) (refl, λ _. receive) l
       (λ v s t m. rest-receive (arriving v (c .number)) (lookOf (marked (c .number)) s) y m)
       (λ v s t m. status-past Q f g h (like-sym (own-wake c (like-sym m))))
 
-module _ {c : Channel} {st : ℕ} {A B : Type 0} (Q : A → B → Type 0) (f : St → tree.Out St A) (g : St → tree.Out St B) (h : (s t : St) → Like c quiet s t → Apart c st true Q (f s) (g t)) where
-  receive-status : (y : ℕ) {s t : St} → Like c quiet s t → ApartBy c st true Q true (at-receive (c .number) f y s) (at-status (c .number) g t)
+module _ {c : Channel} {st : ℕ} {A B : Type 0} (Q : A → B → Type 0) (f : St → tree.Out St A) (g : St → tree.Out St B) (h : (s t : St) → LowEquiv c quiet s t → Apart c st true Q (f s) (g t)) where
+  receive-status : (y : ℕ) {s t : St} → LowEquiv c quiet s t → ApartBy c st true Q true (at-receive (c .number) f y s) (at-status (c .number) g t)
   receive-status y l = apart-flip (status-receive (λ b a. Q a b) g f (flipped h) y (like-sym l))
 
-  rest-status : (b : Bool) (n : ℕ) {s t : St} → Like c quiet s t → ApartBy c st true Q true (bindOut (run {i = true} conc (test b done (arrives (c .number) n)) s) (λ _ z. f z)) (at-status (c .number) g t)
+  rest-status : (b : Bool) (n : ℕ) {s t : St} → LowEquiv c quiet s t → ApartBy c st true Q true (bindOut (run {i = true} concrete (test b done (arrives (c .number) n)) s) (λ _ z. f z)) (at-status (c .number) g t)
   rest-status true n l = past-status Q f g h l
   rest-status false n l = receive-status _ (arrived Q f g h n l)
 
-module _ {c : Channel} {st : ℕ} {A B : Type 0} (Q : A → B → Type 0) (f : St → tree.Out St A) (g : St → tree.Out St B) (h : (s t : St) → Like c quiet s t → Apart c st true Q (f s) (g t)) where
-  status-status : {s t : St} → Like c quiet s t → ApartBy c st true Q true (at-status (c .number) f s) (at-status (c .number) g t)
+module _ {c : Channel} {st : ℕ} {A B : Type 0} (Q : A → B → Type 0) (f : St → tree.Out St A) (g : St → tree.Out St B) (h : (s t : St) → LowEquiv c quiet s t → Apart c st true Q (f s) (g t)) where
+  status-status : {s t : St} → LowEquiv c quiet s t → ApartBy c st true Q true (at-status (c .number) f s) (at-status (c .number) g t)
   status-status l = owns (refl, λ s. rest-its (c .number) f s) (refl, λ s. rest-its (c .number) g s) l
       (λ v s t m. rest-status Q f g h (arriving v (c .number)) (lookOf (marked (c .number)) s) m)
       (λ v s t m. apart-flip (rest-status (λ b a. Q a b) g f (flipped h) (arriving v (c .number)) (lookOf (marked (c .number)) t) (like-sym m)))
 
   -- the one at its check's begin, the other past, at its receive address, at its status reading
   module _ (y : Transfer) where
-    check-past : (b e : Bool) {s t : St} → Like c quiet s t → ApartBy c st true Q true (checks (c .number) y f b e s) (g t)
+    check-past : (b e : Bool) {s t : St} → LowEquiv c quiet s t → ApartBy c st true Q true (checks (c .number) y f b e s) (g t)
     check-past false e l = past-past Q f g h l
     check-past true true l = receive-past Q f g h _ (arrived Q f g h (y .len) l)
     check-past true false l = status-past Q f g h l
 
-    check-receive : (z : ℕ) (b e : Bool) {s t : St} → Like c quiet s t → ApartBy c st true Q true (checks (c .number) y f b e s) (at-receive (c .number) g z t)
+    check-receive : (z : ℕ) (b e : Bool) {s t : St} → LowEquiv c quiet s t → ApartBy c st true Q true (checks (c .number) y f b e s) (at-receive (c .number) g z t)
     check-receive z false e l = past-receive Q f g h z l
     check-receive z true true l = receive-receive Q f g h _ z (arrived Q f g h (y .len) l)
     check-receive z true false l = status-receive Q f g h z l
 
-    check-status : (b e : Bool) {s t : St} → Like c quiet s t → ApartBy c st true Q true (checks (c .number) y f b e s) (at-status (c .number) g t)
+    check-status : (b e : Bool) {s t : St} → LowEquiv c quiet s t → ApartBy c st true Q true (checks (c .number) y f b e s) (at-status (c .number) g t)
     check-status false e l = past-status Q f g h l
     check-status true true l = receive-status Q f g h _ (arrived Q f g h (y .len) l)
     check-status true false l = status-status l
 
 -- in both: the two checks need not go alike
-module _ {c : Channel} {st : ℕ} {A B : Type 0} (Q : A → B → Type 0) (f : St → tree.Out St A) (g : St → tree.Out St B) (h : (s t : St) → Like c quiet s t → Apart c st true Q (f s) (g t)) (y y′ : Transfer) where
-  check-check : (b b′ e e′ : Bool) {s t : St} → Like c quiet s t → ApartBy c st true Q true (checks (c .number) y f b e s) (checks (c .number) y′ g b′ e′ t)
+module _ {c : Channel} {st : ℕ} {A B : Type 0} (Q : A → B → Type 0) (f : St → tree.Out St A) (g : St → tree.Out St B) (h : (s t : St) → LowEquiv c quiet s t → Apart c st true Q (f s) (g t)) (y y′ : Transfer) where
+  check-check : (b b′ e e′ : Bool) {s t : St} → LowEquiv c quiet s t → ApartBy c st true Q true (checks (c .number) y f b e s) (checks (c .number) y′ g b′ e′ t)
   check-check b false e e′ l = check-past Q f g h y b e l
   check-check b true e true {s} {t} l = check-receive Q f g h y _ b e (like-sym (arrived (λ b a. Q a b) g f (flipped h) (y′ .len) (like-sym l)))
   check-check b true e false l = check-status Q f g h y b e l
 
 pub p-own-check : {c : Channel} {st : ℕ} {A B : Type 0} {Q : A → B → Type 0} (y y′ : Transfer) (iso : Bool) {p : Script true A} {p′ : Script true B} → Pair c st Q p p′ → PairBy c st true Q (checkOne y iso (c .number) >> p) (checkOne y′ iso (c .number) >> p′)
 p-own-check {c} {Q = Q} y y′ iso {p} {p′} h = record {
-  on = λ s t l. check-check Q (λ z. run conc p z) (λ z. run conc p′ z) (λ s t l. h .on s t l) y y′ (isOf (changed (c .number)) s) (isOf (changed (c .number)) t) (entry y iso (c .number)) (entry y′ iso (c .number)) l;
+  on = λ s t l. check-check Q (λ z. run concrete p z) (λ z. run concrete p′ z) (λ s t l. h .on s t l) y y′ (isOf (changed (c .number)) s) (isOf (changed (c .number)) t) (entry y iso (c .number)) (entry y′ iso (c .number)) l;
 }

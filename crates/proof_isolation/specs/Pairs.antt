@@ -9,11 +9,11 @@ use Rattle.regs.specs.declared.Access.the-variants.{Read, Write, Receive, Trans
 use Rattle.model.specs.Tree.{Out, ends, asks, bindOut}
 use Rattle.model.specs.Cells.{Cell, Val}
 use Rattle.model.specs.Every.{sameReg}
-use Rattle.model.specs.Script.{Script, ret, bind, test, _>>_, when, read, write, wait, callback, get, put, is, look, fetch, act, hand, row, rows, Test, Look, Fetch, Act, Hand, handAsk, Row, lastOf, rowAsk}
-use Rattle.model.specs.Alike.{quiet, mid, Fits}
+use Rattle.model.specs.Script.{Script, ret, bind, test, _>>_, when, read, write, wait, callback, get, put, is, look, fetch, act, hand, row, rows, Test, Look, Fetch, Act, DmaStep, dmaStepAsk, Burst, lastOf, burstAsk}
+use Rattle.model.specs.Simulates.{quiet, mid, Fits}
 use Rattle.model_ops.specs.Rings.{St, rowOn}
-use Rattle.model_ops.specs.Conc.{conc, getOn, putOn, isOf, lookOf, fetchOf, actOn, handOn}
-use Rattle.proof_isolation.specs.But.{Channel, Like}
+use Rattle.model_ops.specs.Concrete.{concrete, getOn, putOn, isOf, lookOf, fetchOf, actOn, handOn}
+use Rattle.proof_isolation.specs.EqualExcept.{Channel, LowEquiv}
 use Rattle.proof_isolation.specs.Likes.{like-sym, touched-refl}
 use Rattle.proof_isolation.specs.Whose.{sof}
 use Rattle.proof_isolation.specs.Apart.{Reads, Brings, ownable, Next, next, Another, never, elsewhere, Its, status, receive, Past, gone, waits, ApartBy, end, both, left, right, owns, Apart, PairBy, Pair}
@@ -60,8 +60,8 @@ abbrev stop : St → Out St (Unit {0})
 stop s = ends tt s
 
 -- step n of a row in both runs: the same number is handed out, and the two states are the same but for x's data
-abbrev pub Steps : Channel → Row → ℕ → St → St → Type 0
-Steps c g n s t = (rowOn g n s .0 ≡ rowOn g n t .0) × Like c (mid g n) (rowOn g n s .1) (rowOn g n t .1)
+abbrev pub Steps : Channel → Burst → ℕ → St → St → Type 0
+Steps c g n s t = (rowOn g n s .0 ≡ rowOn g n t .0) × LowEquiv c (mid g n) (rowOn g n s .1) (rowOn g n t .1)
 
 -- ---- whose access it is, after a bind
 
@@ -86,7 +86,7 @@ record Met (ch : Channel) {A B : Type 0} (P : A → B → Type 0) (b : B) (t : S
   value : A
   state : St
   holds : P value b
-  like : Like ch quiet state t
+  like : LowEquiv ch quiet state t
 
 module _ {ch : Channel} {st : ℕ} where
   -- ---- outcomes
@@ -120,19 +120,19 @@ module _ {ch : Channel} {st : ℕ} where
   met (left {s = s} w p z k) = met (k sof s (touched-refl z))
 
   past-after : {i : Bool} {A B C D : Type 0} {P : A → B → Type 0} {Q : C → D → Type 0} {o : Out St A} {u : Out St B} {f : A → St → Out St C} {g : B → St → Out St D} → i ≡ true
-      → ApartBy ch st i P true o u → Past (ch .number) u → ((a : A) (b : B) (s t : St) → P a b → Like ch quiet s t → Apart ch st i Q (f a s) (g b t)) → Past (ch .number) (bindOut u g)
+      → ApartBy ch st i P true o u → Past (ch .number) u → ((a : A) (b : B) (s t : St) → P a b → LowEquiv ch quiet s t → Apart ch st i Q (f a s) (g b t)) → Past (ch .number) (bindOut u g)
   past-after e d gone h = let w = met d in past-of e (h _ _ _ _ (w .holds) (w .like))
   past-after {g = g} e d (waits n) h = waits (λ s. another-bind g (n s))
 
   -- x's own accesses come after
   apart-bind : {m i : Bool} {A B C D : Type 0} {P : A → B → Type 0} {Q : C → D → Type 0} {o : Out St A} {u : Out St B} {f : A → St → Out St C} {g : B → St → Out St D}
-      → Apart ch st i P o u → ((a : A) (b : B) (s t : St) → P a b → Like ch quiet s t → ApartBy ch st i Q m (f a s) (g b t)) → ApartBy ch st i Q m (bindOut o f) (bindOut u g)
+      → Apart ch st i P o u → ((a : A) (b : B) (s t : St) → P a b → LowEquiv ch quiet s t → ApartBy ch st i Q m (f a s) (g b t)) → ApartBy ch st i Q m (bindOut o f) (bindOut u g)
   apart-bind (end q l) h = h _ _ _ _ q l
   apart-bind {f = f} {g = g} (both φ z p p′ l k) h = both φ z (λ e s. another-bind f (p e s)) (λ e s. another-bind g (p′ e s)) l (λ v v′ s t b r. apart-bind (k v v′ s t b r) h)
 
   -- or before
   apart-before : {m i : Bool} {A B C D : Type 0} {P : A → B → Type 0} {Q : C → D → Type 0} {o : Out St A} {u : Out St B} {f : A → St → Out St C} {g : B → St → Out St D}
-      → ApartBy ch st i P m o u → ((a : A) (b : B) (s t : St) → P a b → Like ch quiet s t → Apart ch st i Q (f a s) (g b t)) → ApartBy ch st i Q m (bindOut o f) (bindOut u g)
+      → ApartBy ch st i P m o u → ((a : A) (b : B) (s t : St) → P a b → LowEquiv ch quiet s t → Apart ch st i Q (f a s) (g b t)) → ApartBy ch st i Q m (bindOut o f) (bindOut u g)
   apart-before (end q l) h = apart-later (h _ _ _ _ q l)
   apart-before {f = f} {g = g} (both φ z p p′ l k) h = both φ z (λ e s. another-bind f (p e s)) (λ e s. another-bind g (p′ e s)) l (λ v v′ s t b r. apart-before (k v v′ s t b r) h)
   apart-before {f = f} (left {s = s} w p z k) h = left (w .0, λ s. its-bind f (w .1 s)) (past-after (w .0) (k sof s (touched-refl z)) p h) z (λ v s l. apart-before (k v s l) h)
@@ -203,38 +203,38 @@ module _ {ch : Channel} {st : ℕ} where
     pub p-callback : Pair ch st {i = i} Any callback callback
     p-callback = record { on = λ s t l. both quiet (rests i) (λ _ _. never refl) (λ _ _. never refl) l (λ v v′ s t b l. end tt l) }
 
-    pub p-get : (c : Cell) (P : Val c → Val c → Type 0) → ((s t : St) → Like ch quiet s t → P (getOn c s) (getOn c t)) → Pair ch st {i = i} P (get c) (get c)
+    pub p-get : (c : Cell) (P : Val c → Val c → Type 0) → ((s t : St) → LowEquiv ch quiet s t → P (getOn c s) (getOn c t)) → Pair ch st {i = i} P (get c) (get c)
     p-get c P h = record { on = λ s t l. end (h s t l) l }
 
-    pub p-put : (c : Cell) (v v′ : Val c) → ((s t : St) → Like ch quiet s t → Like ch quiet (putOn c v s) (putOn c v′ t)) → Pair ch st {i = i} Any (put c v) (put c v′)
+    pub p-put : (c : Cell) (v v′ : Val c) → ((s t : St) → LowEquiv ch quiet s t → LowEquiv ch quiet (putOn c v s) (putOn c v′ t)) → Pair ch st {i = i} Any (put c v) (put c v′)
     p-put c v v′ h = record { on = λ s t l. end tt (h s t l) }
 
-    pub p-is : (q : Test) → ((s t : St) → Like ch quiet s t → isOf q s ≡ isOf q t) → Pair ch st {i = i} Eq (is q) (is q)
+    pub p-is : (q : Test) → ((s t : St) → LowEquiv ch quiet s t → isOf q s ≡ isOf q t) → Pair ch st {i = i} Eq (is q) (is q)
     p-is q h = record { on = λ s t l. end (h s t l) l }
 
-    pub p-look : (q : Look) → ((s t : St) → Like ch quiet s t → lookOf q s ≡ lookOf q t) → Pair ch st {i = i} Eq (look q) (look q)
+    pub p-look : (q : Look) → ((s t : St) → LowEquiv ch quiet s t → lookOf q s ≡ lookOf q t) → Pair ch st {i = i} Eq (look q) (look q)
     p-look q h = record { on = λ s t l. end (h s t l) l }
 
-    pub p-fetch : (q : Fetch) → ((s t : St) → Like ch quiet s t → fetchOf q s ≡ fetchOf q t) → Pair ch st {i = i} Eq (fetch q) (fetch q)
+    pub p-fetch : (q : Fetch) → ((s t : St) → LowEquiv ch quiet s t → fetchOf q s ≡ fetchOf q t) → Pair ch st {i = i} Eq (fetch q) (fetch q)
     p-fetch q h = record { on = λ s t l. end (h s t l) l }
 
-    pub p-act : (q : Act) → ((s t : St) → Like ch quiet s t → Like ch quiet (actOn q s) (actOn q t)) → Pair ch st {i = i} Any (act q) (act q)
+    pub p-act : (q : Act) → ((s t : St) → LowEquiv ch quiet s t → LowEquiv ch quiet (actOn q s) (actOn q t)) → Pair ch st {i = i} Any (act q) (act q)
     p-act q h = record { on = λ s t l. end tt (h s t l) }
 
-    pub p-hand : (q : Hand) → ((y : ℕ) → ownable (ch .number) (handAsk q y) ≡ false) → ((s t : St) → Like ch quiet s t → (handOn q s .0 ≡ handOn q t .0) × Like ch quiet (handOn q s .1) (handOn q t .1)) → Pair ch st {i = i} Any (hand q) (hand q)
+    pub p-hand : (q : DmaStep) → ((y : ℕ) → ownable (ch .number) (dmaStepAsk q y) ≡ false) → ((s t : St) → LowEquiv ch quiet s t → (handOn q s .0 ≡ handOn q t .0) × LowEquiv ch quiet (handOn q s .1) (handOn q t .1)) → Pair ch st {i = i} Any (hand q) (hand q)
     p-hand q n h = record {
-      on = λ s t l. subst (λ y. Apart ch st i Any (asks (handAsk q (handOn q s .0)) (handOn q s .1) (λ _ t. ends tt t)) (asks (handAsk q y) (handOn q t .1) (λ _ t. ends tt t))) (h s t l .0)
+      on = λ s t l. subst (λ y. Apart ch st i Any (asks (dmaStepAsk q (handOn q s .0)) (handOn q s .1) (λ _ t. ends tt t)) (asks (dmaStepAsk q y) (handOn q t .1) (λ _ t. ends tt t))) (h s t l .0)
           (both quiet (rests i) (λ _ _. never (n _)) (λ _ _. never (n _)) (h s t l .1) (λ v v′ s t b l. end tt l));
     }
 
   -- ---- a row of accesses
 
-  module _ (g : Row) (next : (n : ℕ) (s t : St) → Like ch (mid g (suc n)) s t → Steps ch g n s t) (over : (s t : St) → Like ch (mid g zero) s t → Like ch quiet s t) where
-    steps : (n : ℕ) (s t : St) → Steps ch g n s t → Apart ch st false Any (rows conc g n stop s) (rows conc g n stop t)
-    steps zero s t x = subst (λ y. Apart ch st false Any (rows conc g zero stop s) (asks (rowAsk g zero y) (rowOn g zero t .1) (λ _ t. stop t))) (x .0)
+  module _ (g : Burst) (next : (n : ℕ) (s t : St) → LowEquiv ch (mid g (suc n)) s t → Steps ch g n s t) (over : (s t : St) → LowEquiv ch (mid g zero) s t → LowEquiv ch quiet s t) where
+    steps : (n : ℕ) (s t : St) → Steps ch g n s t → Apart ch st false Any (rows concrete g n stop s) (rows concrete g n stop t)
+    steps zero s t x = subst (λ y. Apart ch st false Any (rows concrete g zero stop s) (asks (burstAsk g zero y) (rowOn g zero t .1) (λ _ t. stop t))) (x .0)
         (both (mid g zero) tt no-interrupt no-interrupt (x .1) (λ v v′ s t b l. end tt (over s t l)))
-    steps (suc n) s t x = subst (λ y. Apart ch st false Any (rows conc g (suc n) stop s) (asks (rowAsk g (suc n) y) (rowOn g (suc n) t .1) (λ _ t. rows conc g n stop t))) (x .0)
+    steps (suc n) s t x = subst (λ y. Apart ch st false Any (rows concrete g (suc n) stop s) (asks (burstAsk g (suc n) y) (rowOn g (suc n) t .1) (λ _ t. rows concrete g n stop t))) (x .0)
         (both (mid g (suc n)) tt no-interrupt no-interrupt (x .1) (λ v v′ s t b l. steps n s t (next n s t l)))
 
-    pub p-row : ((s t : St) → Like ch quiet s t → Steps ch g (lastOf g) s t) → Pair ch st Any (row g) (row g)
+    pub p-row : ((s t : St) → LowEquiv ch quiet s t → Steps ch g (lastOf g) s t) → Pair ch st Any (row g) (row g)
     p-row first = record { on = λ s t l. steps (lastOf g) s t (first s t l) }

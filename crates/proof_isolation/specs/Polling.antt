@@ -18,11 +18,11 @@ use Rattle.ring.specs.Laws.{place-trans}
 use Rattle.model.specs.Script.{bus-reset}
 use Rattle.model.specs.Statics.{renewed, withSetup}
 use Rattle.model.specs.Bus as bus
-use Rattle.model.specs.Alike.{quiet, mid}
+use Rattle.model.specs.Simulates.{quiet, mid}
 use Rattle.model_ops.specs.Rings.{St, resetBelow, resetAll}
 use Rattle.proof_book.specs.Frame.{same-place, changed-on}
 use Rattle.proof_book.specs.Resets.{reset-place}
-use Rattle.proof_isolation.specs.But.{Stays, But, Channel, Like}
+use Rattle.proof_isolation.specs.EqualExcept.{Stays, EqualExcept, Channel, LowEquiv}
 use Rattle.proof_isolation.specs.Apart.{Pair}
 use Rattle.proof_isolation.specs.Pairs.{Eq, Any, Steps, p-ret, p-then, p-test, p-write, p-row}
 use Rattle.proof_isolation.specs.Buts.{stays-any, but-globals, but-on, changed-seat, like-made, lawful-first, lawful-next, row-over}
@@ -44,7 +44,7 @@ renewed-sized dir e {d} z = changed-on z dir e (resetOf (epOn d dir e)) (reset-p
 renewed-seat : (x : ℕ) (dir : Dir) (e : ℕ) {d : Driver} → Sized d → SamePlace (epOn d Out x) (epOn (renewedAt dir e d) Out x)
 renewed-seat x dir e {d} z = changed-seat x (changed-on z dir e (resetOf (epOn d dir e)) (reset-place (epOn d dir e)) refl)
 
-renewed-but : {x : ℕ} (dir : Dir) (e : ℕ) {d d′ : Driver} → Sized d → Sized d′ → But x d d′ → But x (renewedAt dir e d) (renewedAt dir e d′)
+renewed-but : {x : ℕ} (dir : Dir) (e : ℕ) {d d′ : Driver} → Sized d → Sized d′ → EqualExcept x d d′ → EqualExcept x (renewedAt dir e d) (renewedAt dir e d′)
 renewed-but dir e z z′ h = but-on h z z′ dir e _ _ (λ n. ap resetOf (h .eps dir e n)) (λ _. reset-stays (stays-any h dir e))
 
 -- those of the endpoints below n
@@ -58,7 +58,7 @@ unfolding resetBelow
 below-seat x zero {d} z = same-place (epOn d Out x)
 below-seat x (suc n) z = let y = below-sized n z in place-trans (below-seat x n z) (place-trans (renewed-seat x Out n y) (renewed-seat x In n (renewed-sized Out n y)))
 
-below-but : {x : ℕ} (n : ℕ) {d d′ : Driver} → Sized d → Sized d′ → But x d d′ → But x (resetBelow n d) (resetBelow n d′)
+below-but : {x : ℕ} (n : ℕ) {d d′ : Driver} → Sized d → Sized d′ → EqualExcept x d d′ → EqualExcept x (resetBelow n d) (resetBelow n d′)
 unfolding resetBelow
 below-but zero z z′ h = h
 below-but (suc n) z z′ h =
@@ -67,7 +67,7 @@ below-but (suc n) z z′ h =
     renewed-but In n (renewed-sized Out n y) (renewed-sized Out n y′) (renewed-but Out n y y′ (below-but n z z′ h))
 
 -- no stamp stays
-none-but : {x : ℕ} {d d′ : Driver} → But x d d′ → But x (noStamps d) (noStamps d′)
+none-but : {x : ℕ} {d d′ : Driver} → EqualExcept x d d′ → EqualExcept x (noStamps d) (noStamps d′)
 unfolding noStamps epOn lenOn stampOn requestOn
 none-but h = record {
   globals = h .globals;
@@ -84,7 +84,7 @@ none-but h = record {
 
 -- all of them, and no setup packet
 module _ (c : Channel) where
-  all-but : {d d′ : Driver} → Sized d → Sized d′ → But (c .number) d d′ → But (c .number) (resetAll d) (resetAll d′)
+  all-but : {d d′ : Driver} → Sized d → Sized d′ → EqualExcept (c .number) d d′ → EqualExcept (c .number) (resetAll d) (resetAll d′)
   unfolding resetAll
   all-but z z′ h = let k = none-but (below-but 16 z z′ h) in but-globals k _ _ (ap (λ (g : Globals). withSetup 0 (g .«setup_low») (g .«setup_high») g) (k .globals))
 
@@ -94,7 +94,7 @@ module _ (c : Channel) where
 
   -- ---- the row of a reset
 
-  first : (s t : St) → Like c quiet s t → Steps c bus-reset 3 s t
+  first : (s t : St) → LowEquiv c quiet s t → Steps c bus-reset 3 s t
   unfolding epOn
   first s t l = (
     refl,
@@ -102,7 +102,7 @@ module _ (c : Channel) where
         (but-globals (l .but) _ _ (ap (withEpConfig 0) (l .but .globals))) (same-place (epOn (s .0) Out (c .number))) (l .bytes),
   )
 
-  next : (n : ℕ) (s t : St) → Like c (mid bus-reset (suc n)) s t → Steps c bus-reset n s t
+  next : (n : ℕ) (s t : St) → LowEquiv c (mid bus-reset (suc n)) s t → Steps c bus-reset n s t
   unfolding epOn
   next zero s t l = (
     refl,

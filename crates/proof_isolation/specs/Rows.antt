@@ -6,13 +6,13 @@ use Prim.Native.Nat.{ℕ}
 use Rattle.regs.specs.declared.Dir.{Dir}
 use Rattle.regs.specs.declared.Dir.the-variants.{Out}
 use Rattle.state.specs.Driver.{key}
-use Rattle.model.specs.Cells.{Plain, ep-cell}
+use Rattle.model.specs.Cells.{EpCore, ep-cell}
 use Rattle.model.specs.Script.{Script, bind, get}
 use Rattle.model.specs.Answers.{Answer, unless}
 use Rattle.model.specs.Statics.{withReady}
 use Rattle.model.specs.Endpoint.{enabled-else, ends-request, polled}
 use Rattle.model.specs.Calls.{numbered, named-or-0}
-use Rattle.proof_isolation.specs.But.{Channel}
+use Rattle.proof_isolation.specs.EqualExcept.{Channel}
 use Rattle.proof_isolation.specs.Apart.{Pair}
 use Rattle.proof_isolation.specs.Pairs.{p-ret, p-same, p-then, p-test}
 use Rattle.proof_isolation.specs.Values.{p-modify-ep, p-globals}
@@ -35,5 +35,5 @@ module _ {c : Channel} {st : ℕ} {i : Bool} where
   pub p-ends-request : (dir : Dir) (e : ℕ) (a : Answer) → Pair c st {i = i} (SameAnswer (c .number)) (ends-request dir e a) (ends-request dir e a)
   p-ends-request dir e a = p-then (p-put-request c dir e _) (p-ret (same a))
 
-  pub p-polled : (dir : Dir) (e n : ℕ) → key dir e ≢ key Out (c .number) → {p : Plain → Script i Answer} → Pair c st (SameAnswer (c .number)) (bind (get (ep-cell dir e)) p) (bind (get (ep-cell dir e)) p) → Pair c st (SameAnswer (c .number)) (polled dir e n p) (polled dir e n p)
+  pub p-polled : (dir : Dir) (e n : ℕ) → key dir e ≢ key Out (c .number) → {p : EpCore → Script i Answer} → Pair c st (SameAnswer (c .number)) (bind (get (ep-cell dir e)) p) (bind (get (ep-cell dir e)) p) → Pair c st (SameAnswer (c .number)) (polled dir e n p) (polled dir e n p)
   p-polled dir e n k h = p-same (p-request c dir e k) (λ r. p-unless _ 15 (p-test _ (λ _. h) (λ _. p-then (p-modify-ep c dir e (withReady 0) (λ _. refl)) (p-ends-request dir e _))))

@@ -10,17 +10,17 @@ use Rattle.model.specs.Tree.{ends, asks}
 use Rattle.model.specs.Every.{at-end, at-ask}
 use Rattle.model.specs.Script.{run}
 use Rattle.model.specs.Answers.{Answer, Refused}
-use Rattle.model.specs.Alike.{Phase, quiet, mid}
+use Rattle.model.specs.Simulates.{Phase, quiet, mid}
 use Rattle.model.specs.Calls.{Config, Op, interrupt, slotted, other, aside, Aside, calls, irq, code, slots, asideCode, asideSlots}
 use Rattle.model.specs.Machine.{Buf, Question, pending, Call, begin, go, question, Ans, ended, handed, told, awaited, Way, idle, busy, Machine, over, lentTo, beside}
 use Rattle.model_ops.specs.Rings.{St}
-use Rattle.model_ops.specs.Conc.{conc}
-use Rattle.machine.specs.Under.{driverOf, drive}
+use Rattle.model_ops.specs.Concrete.{concrete}
+use Rattle.machine.specs.Suspended.{driverOf, drive}
 use Rattle.machine.specs.Goes.{Called}
 use Rattle.call_bus_time.specs.Sharing.{Sort, enabling, starting, going, opSort, slottedSort, sortOf, timeAfter, turnedDown}
 use Rattle.call_bus_time.specs.Sharing as sharing
 use Rattle.proof_wake_ups.specs.Rooms.{Roomy, Rooms, rooms}
-use Rattle.proof_isolation.specs.But.{Lawful, Channel, Like}
+use Rattle.proof_isolation.specs.EqualExcept.{Lawful, Channel, LowEquiv}
 use Rattle.proof_isolation.specs.Apart.{ApartBy, Apart, end, both, left, right, owns}
 use Rattle.proof_isolation.specs.Answers.{SameAnswer}
 use Rattle.proof_isolation.specs.Ending.{Finished, fin}
@@ -30,7 +30,7 @@ use Rattle.proof_isolation.specs.Stores.{Lent, lent-like}
 use Rattle.proof_isolation.specs.Time.{same-record, same-turned-down}
 use Rattle.proof_isolation.specs.Others.{same-answers}
 use Rattle.proof_isolation.specs.Spares.{Sparing, interrupt-spares, spares-on}
-use Rattle.proof_isolation.specs.Turns.{Run, Two, begins, goes, asked, stores, accessOf, runBy, statusOf, shared, called, turn, stateOf, Timely, atOwn, unfit, wide, BringsAt, BothCall, call-row1, call-lent, BothGo, go-row1, go-row16, go-on, May, SameAns, same, alike}
+use Rattle.proof_isolation.specs.Schedule.{Run, Two, begins, goes, asked, stores, accessOf, runBy, statusOf, shared, called, turn, stateOf, Timely, atOwn, unfit, wide, BringsAt, BothCall, call-row1, call-lent, BothGo, go-row1, go-row16, go-on, May, SameAns, same, alike}
 use Rattle.proof_isolation.specs.Standing.{machineOf, stops, runOf, fits, own-yes, past-no, same-ans, Told, times-on, Keeps, At, at, Both, lands}
 
 -- ---- what the machine of calls does
@@ -51,12 +51,12 @@ module _ (c : Channel) {φ : Phase} (s : St) (b : Buf) (l : Lawful (c .iso) φ (
       → drive (go v) (machineOf (busy i (awaited q) k) s) b ≡ (ended (Refused 16), machineOf (busy i (awaited q) k) (s .0, b))
   go-wide i q k v w = rw (fits c l, w) refl
 
-  pub begin-idle : (o : Op) → drive (begin o) (machineOf idle s) b ≡ stops (irq o) (run conc (code o) (s .0, b))
+  pub begin-idle : (o : Op) → drive (begin o) (machineOf idle s) b ≡ stops (irq o) (run concrete (code o) (s .0, b))
   begin-idle o = rw (fits c l) (no-row1 (slots o) _ _)
 
   -- open, close and queue during an interrupt, and during another operation
   pub aside-busy : (o : Aside) (i : Bool) → i ≡ true → (q : Access) (k : ℕ → St → tree.Out St Answer)
-      → drive (begin (aside o)) (machineOf (busy i (awaited q) k) s) b ≡ beside calls driverOf (machineOf (busy i (awaited q) k) (s .0, b)) (run conc (asideCode o) (s .0, b))
+      → drive (begin (aside o)) (machineOf (busy i (awaited q) k) s) b ≡ beside calls driverOf (machineOf (busy i (awaited q) k) (s .0, b)) (run concrete (asideCode o) (s .0, b))
   aside-busy o i e q k = rw (fits c l, e) (no-row1 (asideSlots o) _ _)
 
   pub aside-late : (o : Aside) (q : Access) (k : ℕ → St → tree.Out St Answer) → drive (begin (aside o)) (machineOf (busy false (awaited q) k) s) b ≡ (ended (Refused 3), machineOf (busy false (awaited q) k) (s .0, b))
@@ -87,12 +87,12 @@ record Ended (c : Channel) (o u : tree.Out St Answer) : Type 0 where
   is : o ≡ ends value state
   is′ : u ≡ ends value′ state′
   same : SameAnswer (c .number) value value′
-  like : Like c quiet state state′
+  like : LowEquiv c quiet state state′
 
 both-end : {c : Channel} {st : ℕ} {i : Bool} {o u : tree.Out St Answer} {K K′ : St → Type 0} → Finished K o → Finished K′ u → Apart c st i (SameAnswer (c .number)) o u → Ended c o u
 both-end (fin a k) (fin b k′) (end q l) = record { value = a; value′ = b; state = _; state′ = _; is = refl; is′ = refl; same = q; like = l }
 
-ended-aside : (c : Channel) (st : ℕ) (o : Aside) → Others (c .number) o → {s t : St} → Like c quiet s t → Ended c (run conc (asideCode o) s) (run conc (asideCode o) t)
+ended-aside : (c : Channel) (st : ℕ) (o : Aside) → Others (c .number) o → {s t : St} → LowEquiv c quiet s t → Ended c (run concrete (asideCode o) s) (run concrete (asideCode o) t)
 ended-aside c st o n {s} {t} l = both-end (finishes o (λ _. Unit {0}) (λ _ _. tt) s tt) (finishes o (λ _. Unit {0}) (λ _ _. tt) t tt) (p-aside c st o n .on s t l)
 
 told-same : {x m n : ℕ} → m ≡ n → SameAns x (told m) (told n)
@@ -103,7 +103,7 @@ told-same {x} {m} e = subst (λ k. SameAns x (told m) (told k)) e (same (told m)
 pub spares-put : {q : Access} {s : St} (t : St) {k : ℕ → St → tree.Out St Answer} → Sparing (asks q s k) → Sparing (asks q t k)
 spares-put t (at-ask ok k) = at-ask ok (λ v t b i. k v t b i)
 
-irq-spares : (o : Op) → irq o ≡ true → (s : St) → Sparing (run conc (code o) s)
+irq-spares : (o : Op) → irq o ≡ true → (s : St) → Sparing (run concrete (code o) s)
 irq-spares interrupt e s = interrupt-spares s
 irq-spares (slotted o) e s = absurd (true≢false (sym e))
 irq-spares (other o) e s = absurd (true≢false (sym e))
@@ -126,7 +126,7 @@ ended-down n starting a d r = refl
 ended-down n going a d r = refl
 ended-down n sharing.apart a d r = refl
 
-module _ (n : ℕ) {c : Channel} {st : ℕ} {s t : St} (lk : Like c quiet s t) {r r′ : List ℕ} (e : r ≡ r′) where
+module _ (n : ℕ) {c : Channel} {st : ℕ} {s t : St} (lk : LowEquiv c quiet s t) {r r′ : List ℕ} (e : r ≡ r′) where
   begin-times : (o : Op) {x y : tree.Out St Answer} → ApartBy c st (irq o) (SameAnswer (c .number)) true x y
       → timeAfter n (opSort o) (stops (irq o) x .0) (s .0) r ≡ timeAfter n (opSort o) (stops (irq o) y .0) (t .0) r′
   begin-times interrupt {x} {y} l = apart-time n (stops true x .0) (s .0) r ∙ e ∙ sym (apart-time n (stops true y .0) (t .0) r′)
@@ -254,9 +254,9 @@ module _ (c : Channel) (share : Bool) (n : ℕ) where
 
   -- open, close or queue of another endpoint, where both stand at a common access or at one of the channel's own
   module _ (st : ℕ) (i : Bool) (j : i ≡ true) (o : Aside) (x : Others (c .number) o) {s t : St} (p p′ : Access) (g g′ : ℕ → St → tree.Out St Answer) (b b′ : Buf)
-      (h : Like c quiet (s .0, b) (t .0, b′)) (a a′ : Ans Answer) (r r′ : List ℕ) (k : Keeps i (asks p s g) a) (k′ : Keeps i (asks p′ t g′) a′)
+      (h : LowEquiv c quiet (s .0, b) (t .0, b′)) (a a′ : Ans Answer) (r r′ : List ℕ) (k : Keeps i (asks p s g) a) (k′ : Keeps i (asks p′ t g′) a′)
       (G : Run → Run → Type 0)
-      (f : (d d′ : Answer) (u u′ : St) → SameAnswer (c .number) d d′ → Like c quiet u u′ → Rooms (ended d, machineOf (busy i (awaited p) g) u) → Rooms (ended d′, machineOf (busy i (awaited p′) g′) u′)
+      (f : (d d′ : Answer) (u u′ : St) → SameAnswer (c .number) d d′ → LowEquiv c quiet u u′ → Rooms (ended d, machineOf (busy i (awaited p) g) u) → Rooms (ended d′, machineOf (busy i (awaited p′) g′) u′)
       → G (runOf i (asks p u g) p (ended d) r) (runOf i (asks p′ u′ g′) p′ (ended d′) r′)) where
     passes : G (runBy p (drive (begin (aside o)) (machineOf (busy i (awaited p) g) s) b, timeAfter n sharing.apart (drive (begin (aside o)) (machineOf (busy i (awaited p) g) s) b .0) (s .0) r))
         (runBy p′ (drive (begin (aside o)) (machineOf (busy i (awaited p′) g′) t) b′, timeAfter n sharing.apart (drive (begin (aside o)) (machineOf (busy i (awaited p′) g′) t) b′ .0) (t .0) r′))

@@ -18,13 +18,13 @@ use Rattle.ring.specs.Slot.{slotAddr, hasWaiting}
 use Rattle.ring.specs.Out.{hasRoomOut, cappedAt, armedAt}
 use Rattle.marks.specs.Copies.{copied}
 use Rattle.model.specs.Cells.{Cell, Val, globals-cell, control-cell, allocator-cell, ep-cell, request-cell, paced-cell}
-use Rattle.model.specs.Script.{Act, complete, reset-ring, set-enabled, fill, fill0, open-oldest, close-oldest, take-oldest, enqueue, allocate, allocate0, no-wakes, waken, Hand, arrive, send, place, place0, Row, switch, bus-reset}
+use Rattle.model.specs.Script.{Act, complete, reset-ring, set-enabled, fill, fill0, open-oldest, close-oldest, take-oldest, enqueue, allocate, allocate0, no-wakes, waken, DmaStep, arrive, send, place, place0, Burst, switch, bus-reset}
 use Rattle.model.specs.Statics.{isOn, isoOuts}
-use Rattle.model.specs.Sorts.{allocates}
+use Rattle.model.specs.TransferKinds.{allocates}
 use Rattle.model_ops.specs.Records.{isoOut, configured, enabledOn, isoAdded, withSets, recordGiven, setsGiven, givenTo, allocatedOn}
 use Rattle.model_ops.specs.Rings.{St, completeOn, emptied, emptiedOn, openOn, closeOn, takeOn, roomOn, queuedOn, enqueueOn, recordedOn, admittedOn, arrivedAt, arriveOn, sendOn, placeOn, renewedOn, armAt, slotStep, typeStep, configStep, resetBelow, resetAll, rowOn}
-use Rattle.model_ops.specs.Conc.{putOn, actOn, handOn}
-use Rattle.proof_isolation.specs.But.{Bounded}
+use Rattle.model_ops.specs.Concrete.{putOn, actOn, handOn}
+use Rattle.proof_isolation.specs.EqualExcept.{Bounded}
 
 pub record Settled (d x : Driver) : Type 0 where
   pub control : x .control ≡ d .control
@@ -136,7 +136,7 @@ recorded-settled : (d : Driver) (e len : ℕ) → Settled d (recordedOn d e len)
 unfolding recordedOn withLenOn withStampOn
 recorded-settled d e len = either (hasRoomOut (epOn d Out e)) d (record { control = refl; stage = refl; most = refl }) (same d)
 
-pub hand-settled : (q : Hand) (s : St) → Settled (s .0) (handOn q s .1 .0)
+pub hand-settled : (q : DmaStep) (s : St) → Settled (s .0) (handOn q s .1 .0)
 unfolding arriveOn admittedOn sendOn placeOn withOn
 hand-settled (arrive e n) s = by (isSet (isoOuts (s .0 .globals)) (e % 16))
   where
@@ -172,7 +172,7 @@ unfolding resetBelow withOn
 below-settled zero d = same d
 below-settled (suc n) d = let k = below-settled n d in record { control = k .control; stage = k .stage; most = k .most }
 
-pub row-settled : (g : Row) (n : ℕ) (s : St) → Settled (s .0) (rowOn g n s .1 .0)
+pub row-settled : (g : Burst) (n : ℕ) (s : St) → Settled (s .0) (rowOn g n s .1 .0)
 unfolding configStep typeStep resetAll noStamps
 row-settled (switch e on) zero s = record { control = refl; stage = refl; most = refl }
 row-settled (switch e on) (suc zero) s = record { control = refl; stage = refl; most = refl }

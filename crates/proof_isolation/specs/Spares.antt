@@ -24,7 +24,7 @@ use Rattle.model.specs.Handler.{looks, nakNonIso, toggled, retake, settle, outA
 use Rattle.model.specs.Calls.{interruptCode}
 use Rattle.model.specs.Every.{Chip, at-ask, All, only-run, Only, Where, sameReg}
 use Rattle.model_ops.specs.Rings.{St}
-use Rattle.model_ops.specs.Conc.{conc}
+use Rattle.model_ops.specs.Concrete.{concrete}
 
 -- no write of ep_config
 abbrev pub Spares : Access → Type 0
@@ -128,8 +128,8 @@ any = record { Holds = Unit {0}; Brings = λ _ _ _. Unit {0}; after = λ h _. h 
 abbrev pub Sparing : tree.Out St Answer → Type 0
 Sparing o = All any (λ _ _. Unit {0}) Spares tt o
 
-pub interrupt-spares : (s : St) → Sparing (run conc interruptCode s)
-interrupt-spares s = only-run conc interruptCode (λ _. tt, λ _. ((tt, λ _. ((of-stamped true, λ _. tt), λ _. (λ _. tt, λ _. tt))), tt)) tt s
+pub interrupt-spares : (s : St) → Sparing (run concrete interruptCode s)
+interrupt-spares s = only-run concrete interruptCode (λ _. tt, λ _. ((tt, λ _. ((of-stamped true, λ _. tt), λ _. (λ _. tt, λ _. tt))), tt)) tt s
 
 -- what goes on after an access
 pub spares-on : {q : Access} {s : St} {k : ℕ → St → tree.Out St Answer} → Sparing (asks q s k) → (v : ℕ) (t : St) → Sparing (k v t)

@@ -13,15 +13,15 @@ use Rattle.model.specs.Tree as tree
 use Rattle.model.specs.Tree.{asks}
 use Rattle.model.specs.Every.{at-end, at-ask, Where, sameReg}
 use Rattle.model.specs.Answers.{Answer}
-use Rattle.model.specs.Alike.{Phase}
+use Rattle.model.specs.Simulates.{Phase}
 use Rattle.model.specs.Calls.{calls}
 use Rattle.model.specs.Machine.{Ans, ended, awaited, Way, busy, Machine, halt, misfit}
 use Rattle.model_ops.specs.Rings.{St}
-use Rattle.machine.specs.Under.{driverOf}
+use Rattle.machine.specs.Suspended.{driverOf}
 use Rattle.machine.specs.Goes.{Called}
 use Rattle.call_bus_time.specs.Sharing.{going, written, timeAfter}
 use Rattle.proof_wake_ups.specs.Rooms.{Few, Roomy, Rooms, short}
-use Rattle.proof_isolation.specs.But.{Lawful, Channel}
+use Rattle.proof_isolation.specs.EqualExcept.{Lawful, Channel}
 use Rattle.proof_isolation.specs.Whose.{madeFor, ownWay}
 use Rattle.proof_isolation.specs.Apart.{next, Another, never, elsewhere, ownable, Its, status, receive, Past, gone, waits, Shared, Own, ApartBy, end, both, left, right, owns}
 use Rattle.proof_isolation.specs.Pairs.{apart-more, apart-flip}
@@ -29,8 +29,8 @@ use Rattle.proof_isolation.specs.Answers as answer
 use Rattle.proof_isolation.specs.Answers.{SameAnswer, answer-sym}
 use Rattle.proof_isolation.specs.Spares.{Spares, Sparing}
 use Rattle.proof_isolation.specs.Others.{same-others}
-use Rattle.proof_isolation.specs.Turns.{Run, Two, accessOf, atOwn, SameAns, same, ended-same, SameStand, SameOthers, Answers, alike, own-first}
-use Rattle.proof_isolation.specs.Turns.{own-second}
+use Rattle.proof_isolation.specs.Schedule.{Run, Two, accessOf, atOwn, SameAns, same, ended-same, SameStand, SameOthers, Answers, alike, own-first}
+use Rattle.proof_isolation.specs.Schedule.{own-second}
 
 -- ---- machines
 

@@ -9,32 +9,32 @@ use Rattle.state.specs.Driver.{Driver}
 use Rattle.model.specs.Tree.{ends}
 use Rattle.model.specs.Every.{at-end}
 use Rattle.model.specs.Answers.{Answer, Refused, NotYet}
-use Rattle.model.specs.Alike.{Phase, quiet}
+use Rattle.model.specs.Simulates.{Phase, quiet}
 use Rattle.model.specs.Calls.{Config, Op, calls, startRow}
 use Rattle.model.specs.Machine.{Buf, pending, start, question, Event, Ans, ended, Way, idle, busy, Machine, fed, lentTo, started}
 use Rattle.model.specs.Agree.{Ways, both-idle, both-busy, agrees, from-start}
 use Rattle.model_ops.specs.Rings.{St}
-use Rattle.machine.specs.Under.{driverOf, drive}
+use Rattle.machine.specs.Suspended.{driverOf, drive}
 use Rattle.machine.specs.Goes.{Called}
 use Rattle.proof_book.specs.Pages.{Pages}
 use Rattle.proof_book.specs.Book.{book}
-use Rattle.proof_book.specs.Rest.{Rest}
+use Rattle.proof_book.specs.Coupling.{Coupling}
 use Rattle.proof_book.specs.Allocations.{fresh-kept}
 use Rattle.proof_book.specs.Agrees.{agree}
-use Rattle.proof_book.specs.Sorts.{Has}
+use Rattle.proof_book.specs.TransferKinds.{Has}
 use Rattle.proof_book.specs.Sorting.{sortsOf, Sorting, ep0-plain, after-sorting}
 use Rattle.proof_book.specs.Always.{after}
 use Rattle.proof_book.specs.MachineRuns.{Premise}
 use Rattle.proof_book.specs.SlotsKept.{lent-is}
 use Rattle.call_bus_time.specs.Sharing.{starting, sortOf, timeAfter, turnedDown}
 use Rattle.proof_wake_ups.specs.Rooms.{Few, Roomy, Rooms, room, rooms, start-rooms}
-use Rattle.proof_isolation.specs.But as but
-use Rattle.proof_isolation.specs.But.{Bounded, Channel}
+use Rattle.proof_isolation.specs.EqualExcept as but
+use Rattle.proof_isolation.specs.EqualExcept.{Bounded, Channel}
 use Rattle.proof_isolation.specs.Bounds.{after-bounded}
 use Rattle.proof_isolation.specs.Likes.{like-refl}
 use Rattle.proof_isolation.specs.Apart.{end}
 use Rattle.proof_isolation.specs.Answers as answer
-use Rattle.proof_isolation.specs.Turns.{Run, Two, Early, gets, shares, runBy, sharing, called, given, heeded, same}
+use Rattle.proof_isolation.specs.Schedule.{Run, Two, Early, gets, shares, runBy, sharing, called, given, heeded, same}
 use Rattle.proof_isolation.specs.Standing.{At, at}
 use Rattle.proof_isolation.specs.Runs.{lent-room}
 
@@ -76,9 +76,9 @@ record Stood (m : Machine Answer Driver) : Type 0 where
   phase : Phase
   pages : Machine Answer Pages
   ways : Ways driverOf book agree calls phase (m .way) (pages .way)
-  rest : Rest phase (m .buf) (m .st) (pages .st)
+  rest : Coupling phase (m .buf) (m .st) (pages .st)
 
-stood : (es : List (Event Config Op)) {φ : Phase} (m : Machine Answer Driver) (d : Machine Answer Pages) → Ways driverOf book agree calls φ (m .way) (d .way) → Rest φ (m .buf) (m .st) (d .st)
+stood : (es : List (Event Config Op)) {φ : Phase} (m : Machine Answer Driver) (d : Machine Answer Pages) → Ways driverOf book agree calls φ (m .way) (d .way) → Coupling φ (m .buf) (m .st) (d .st)
     → Premise es m d → Stood (after calls driverOf es m)
 stood [] {φ} m d w r l = record { phase = φ; pages = d; ways = w; rest = r }
 stood (e ∷ es) m d w r l = let a = agrees driverOf book agree calls fresh-kept (e .call) (e .lent) m d w r (lent-is m d r (e .lent) (e .call) (l .0)) in stood es _ _ (a .ways) (a .rest) (l .1)
@@ -91,8 +91,8 @@ at-rest : {φ : Phase} {w : Way Answer Driver} {w′ : Way Answer Pages} → Way
 at-rest both-idle e = refl
 at-rest (both-busy i a p k) e = absurd (true≢false (sym e))
 
-quiet-rest : {m : Machine Answer Driver} (s : Stood m) → m .way ≡ idle → Rest quiet (m .buf) (m .st) (s .pages .st)
-quiet-rest {m} s e = subst (λ φ. Rest φ (m .buf) (m .st) (s .pages .st)) (at-rest (s .ways) (ap isIdle e)) (s .rest)
+quiet-rest : {m : Machine Answer Driver} (s : Stood m) → m .way ≡ idle → Coupling quiet (m .buf) (m .st) (s .pages .st)
+quiet-rest {m} s e = subst (λ φ. Coupling φ (m .buf) (m .st) (s .pages .st)) (at-rest (s .ways) (ap isIdle e)) (s .rest)
 
 -- ---- the channel
 

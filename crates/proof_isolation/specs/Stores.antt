@@ -11,13 +11,13 @@ use Rattle.state.specs.declared.Allocator.{Allocator}
 use Rattle.state.specs.declared.Globals.{Globals}
 use Rattle.state.specs.Driver.{Driver, epOn}
 use Rattle.alloc.specs.Alloc.{allocatedIn}
-use Rattle.model.specs.Alike.{Phase}
+use Rattle.model.specs.Simulates.{Phase}
 use Rattle.model.specs.Machine.{Buf}
 use Rattle.model_ops.specs.Rings.{St}
 use Rattle.proof_book.specs.Pages.{Pages}
-use Rattle.proof_book.specs.Rest.{endOf, Rest, Chip}
+use Rattle.proof_book.specs.Coupling.{endOf, Coupling, Chip}
 use Rattle.proof_book.specs.Chips.{chip}
-use Rattle.proof_isolation.specs.But.{Lawful, Channel, Like, Touched}
+use Rattle.proof_isolation.specs.EqualExcept.{Lawful, Channel, LowEquiv, Touched}
 use Rattle.proof_isolation.specs.Likes.{but-refl}
 
 -- demand 3's premise, by the driver: byte k lies outside of the armed slot of every OUT endpoint of this run, and outside of EP0's buffer
@@ -57,7 +57,7 @@ own-lent-back c s = record { stored = stored-none (s .0) (s .1); own = λ k o. r
 
 -- ---- these leave two states the same but for the channel's data
 
-by-book : {φ : Phase} {d : Driver} {b b′ : Buf} {p : Pages} → Rest φ b d p → d .globals .stage ≡ 2 → Stored d b b′ → Chip p b b′
+by-book : {φ : Phase} {d : Driver} {b b′ : Buf} {p : Pages} → Coupling φ b d p → d .globals .stage ≡ 2 → Stored d b b′ → Chip p b b′
 by-book {d = d} {p = p} R g h = record {
   long = h .long;
   others = λ k w. h .others k (record {
@@ -77,7 +77,7 @@ lawful-stored : (c : Channel) {φ : Phase} {s : St} {b : Buf} → Lawful (c .iso
 lawful-stored c {φ} {s} {b} l h = record { pages = l .pages; rest = chip (s .1) b φ (s .0) (l .pages) (l .rest) (by-book (l .rest) (l .stage) h); has = l .has; stage = l .stage; bounded = l .bounded }
 
 module _ {c : Channel} {φ : Phase} where
-  pub lent-like : {s t : St} {b b′ : Buf} → Like c φ s t → Lent c s t b b′ → Like c φ (s .0, b) (t .0, b′)
+  pub lent-like : {s t : St} {b b′ : Buf} → LowEquiv c φ s t → Lent c s t b b′ → LowEquiv c φ (s .0, b) (t .0, b′)
   lent-like {s} {t} {b} {b′} l h = record {
     left = lawful-stored c (l .left) (h .left);
     right = lawful-stored c (l .right) (h .right);

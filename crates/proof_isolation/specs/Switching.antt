@@ -23,19 +23,19 @@ use Rattle.ring.specs.Out.{armedAt}
 use Rattle.ring.specs.Waiting.{SamePlace}
 use Rattle.ring.specs.Laws.{place-addr, place-trans}
 use Rattle.ring.specs.OutLaws.{armed-alike}
-use Rattle.model.specs.Cells.{Plain}
+use Rattle.model.specs.Cells.{EpCore}
 use Rattle.model.specs.Script.{switch}
 use Rattle.model.specs.Statics.{isOn}
 use Rattle.model.specs.Bus as bus
-use Rattle.model.specs.Alike.{Phase, quiet, mid}
+use Rattle.model.specs.Simulates.{Phase, quiet, mid}
 use Rattle.model.specs.Machine.{Buf}
 use Rattle.model_ops.specs.Rings.{St, renewedOn, armAt, slotStep, typeStep, configStep}
 use Rattle.model_ops.specs.Stamps.{cleared-stamp}
-use Rattle.proof_book.specs.Rest.{endOf, slotStamps}
+use Rattle.proof_book.specs.Coupling.{endOf, slotStamps}
 use Rattle.proof_book.specs.Lens.{key-other, stamps-mod, stamps-clear-other}
 use Rattle.proof_book.specs.Frame.{Changed, same-place, changed-on, changed-clear, changed-trans}
 use Rattle.proof_book.specs.Resets.{reset-place}
-use Rattle.proof_isolation.specs.But.{Stays, But, Channel, Like}
+use Rattle.proof_isolation.specs.EqualExcept.{Stays, EqualExcept, Channel, LowEquiv}
 use Rattle.proof_isolation.specs.Apart.{Pair}
 use Rattle.proof_isolation.specs.Pairs.{Any, Steps, p-then, p-test, p-row}
 use Rattle.proof_isolation.specs.Buts.{stays-any, but-globals, but-on, changed-seat, like-made, lawful-first, lawful-next, row-over}
@@ -45,7 +45,7 @@ use Rattle.proof_isolation.specs.Polling.{reset-stays}
 
 -- ---- the record reset, its stamps cleared
 
-module _ {x : ℕ} {d d′ : Driver} (z : Sized d) (z′ : Sized d′) (h : But x d d′) (e : ℕ) where
+module _ {x : ℕ} {d d′ : Driver} (z : Sized d) (z′ : Sized d′) (h : EqualExcept x d d′) (e : ℕ) where
   clear-stamps : (f : ℕ) → key Out f ≢ key Out x → slotStamps (clearStamps d e) f ≡ slotStamps (clearStamps d′ e) f
   clear-stamps f n = elim (ℕ-discrete (f % 16) (e % 16)) [
     | yes p ↦ stamps-mod (clearStamps d e) f e p
@@ -54,7 +54,7 @@ module _ {x : ℕ} {d d′ : Driver} (z : Sized d) (z′ : Sized d′) (h : But 
     | no p ↦ stamps-clear-other d e f (key-other Out f e p) ∙ h .stamps f n ∙ sym (stamps-clear-other d′ e f (key-other Out f e p))
   ]
 
-  clear-but : But x (clearStamps d e) (clearStamps d′ e)
+  clear-but : EqualExcept x (clearStamps d e) (clearStamps d′ e)
   unfolding clearStamps epOn lenOn requestOn
   clear-but = record {
     globals = h .globals;
@@ -69,7 +69,7 @@ module _ {x : ℕ} {d d′ : Driver} (z : Sized d) (z′ : Sized d′) (h : But 
     own = h .own;
   }
 
-  renewed-but : But x (renewedOn d e) (renewedOn d′ e)
+  renewed-but : EqualExcept x (renewedOn d e) (renewedOn d′ e)
   unfolding renewedOn
   renewed-but = but-on clear-but (changed-clear z e .sized) (changed-clear z′ e .sized) Out e _ _ (λ n. ap resetOf (h .eps Out e n)) (λ _. reset-stays (stays-any h Out e))
 
@@ -91,11 +91,11 @@ module _ (c : Channel) (e : ℕ) where
   -- the number that a step hands out, and what it leaves
   record Armed (d : Driver) (lo hi : ℕ) (x y : ℕ × St) : Type 0 where
     address : x .0 ≡ y .0
-    but : But (c .number) (x .1 .0) (y .1 .0)
+    but : EqualExcept (c .number) (x .1 .0) (y .1 .0)
     seat : SamePlace (epOn d Out (c .number)) (epOn (x .1 .0) Out (c .number))
     bytes : Only lo hi (x .1 .1) (y .1 .1)
 
-  module _ {d d′ : Driver} (z : Sized d) (z′ : Sized d′) (h : But (c .number) d d′) {lo hi : ℕ} {b b′ : Buf} (o : Only lo hi b b′) (k : ℕ) where
+  module _ {d d′ : Driver} (z : Sized d) (z′ : Sized d′) (h : EqualExcept (c .number) d d′) {lo hi : ℕ} {b b′ : Buf} (o : Only lo hi b b′) (k : ℕ) where
     arms : Armed d lo hi (armAt e k (d, b)) (armAt e k (d′, b′))
     unfolding withOn
     arms =
@@ -103,7 +103,7 @@ module _ (c : Channel) (e : ℕ) where
         let r′ = epOn d′ Out e in
         let i = stays-any h Out e in
         let a : slotAddr r′ k ≡ slotAddr r k = place-addr (i .place) k in
-        let m : r′ .«max_len» ≡ r .«max_len» = ap (λ (p : Plain). p .«max_len») (i .plain) in
+        let m : r′ .«max_len» ≡ r .«max_len» = ap (λ (p : EpCore). p .«max_len») (i .plain) in
         record {
           address = sym a;
           but = but-on h z z′ Out e _ _ (λ n. ap (λ (r : EpState). armedAt r (slotAddr r k)) (h .eps Out e n)) (λ _. armed-stays (slotAddr r k) (slotAddr r′ k) i);
@@ -113,7 +113,7 @@ module _ (c : Channel) (e : ℕ) where
         }
 
   -- from the reset record on
-  module _ {d d′ : Driver} (z : Sized d) (z′ : Sized d′) (h : But (c .number) d d′) {lo hi : ℕ} {b b′ : Buf} (o : Only lo hi b b′) (k : ℕ) where
+  module _ {d d′ : Driver} (z : Sized d) (z′ : Sized d′) (h : EqualExcept (c .number) d d′) {lo hi : ℕ} {b b′ : Buf} (o : Only lo hi b b′) (k : ℕ) where
     arms-by : (u : Bool) → Armed d lo hi (armAt e k (cond u (renewedOn d e) d, b)) (armAt e k (cond u (renewedOn d′ e) d′, b′))
     arms-by true =
         let y = renewed-changed z e in
@@ -128,24 +128,24 @@ module _ (c : Channel) (e : ℕ) where
     arms-by false = arms z z′ h o k
 
   module _ (iso : c .iso Out e ≡ true) (onn : Bool) where
-    slot-armed : {φ : Phase} (k : ℕ) (s t : St) → Like c φ s t → Armed (s .0) (epOn (s .0) Out (c .number) .base) (endOf (epOn (s .0) Out (c .number))) (slotStep e k s) (slotStep e k t)
+    slot-armed : {φ : Phase} (k : ℕ) (s t : St) → LowEquiv c φ s t → Armed (s .0) (epOn (s .0) Out (c .number) .base) (endOf (epOn (s .0) Out (c .number))) (slotStep e k s) (slotStep e k t)
     unfolding slotStep
     slot-armed k s t l = rw (l .left .has .flags Out e ∙ iso, l .right .has .flags Out e ∙ iso) (arms-by (l .left .rest .sized) (l .right .rest .sized) (l .but) (l .bytes) k (eqb k 15))
 
-    first : (s t : St) → Like c quiet s t → Steps c (switch e onn) 18 s t
+    first : (s t : St) → LowEquiv c quiet s t → Steps c (switch e onn) 18 s t
     first s t l =
         let q = slot-armed 15 s t l in
         (q .address, like-made l (lawful-first c (switch e onn) (l .left)) (lawful-first c (switch e onn) (l .right)) (q .but) (q .seat) (q .bytes))
 
     -- ---- the kind and the enable bit
 
-    word-same : {φ : Phase} (s t : St) → Like c φ s t → (f : Globals → ℕ)
+    word-same : {φ : Phase} (s t : St) → LowEquiv c φ s t → (f : Globals → ℕ)
         → cond (isOn (epOn (s .0) Out e .iso)) (enables.withOn (f (s .0 .globals)) Out e onn) (f (s .0 .globals)) ≡ cond (isOn (epOn (t .0) Out e .iso)) (enables.withOn (f (t .0 .globals)) Out e onn) (f (t .0 .globals))
     word-same s t l f =
-        let p : epOn (s .0) Out e .iso ≡ epOn (t .0) Out e .iso = sym (ap (λ (p : Plain). p .iso) (stays-any (l .but) Out e .plain)) in
+        let p : epOn (s .0) Out e .iso ≡ epOn (t .0) Out e .iso = sym (ap (λ (p : EpCore). p .iso) (stays-any (l .but) Out e .plain)) in
         λ i. cond (isOn (p i)) (enables.withOn (f (l .but .globals i)) Out e onn) (f (l .but .globals i))
 
-    next : (n : ℕ) (s t : St) → Like c (mid (switch e onn) (suc n)) s t → Steps c (switch e onn) n s t
+    next : (n : ℕ) (s t : St) → LowEquiv c (mid (switch e onn) (suc n)) s t → Steps c (switch e onn) n s t
     unfolding configStep typeStep epOn
     next zero s t l =
         let v = word-same s t l (λ g. g .«ep_config») in (

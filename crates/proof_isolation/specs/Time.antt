@@ -7,26 +7,26 @@ use Prim.Native.Nat.{ℕ}
 use lib.ListN.{set}
 use Rattle.regs.specs.declared.Dir.{Dir}
 use Rattle.state.specs.Driver.{Driver}
-use Rattle.model.specs.Cells.{Plain}
+use Rattle.model.specs.Cells.{EpCore}
 use Rattle.model.specs.Answers.{Answer, Refused}
 use Rattle.model.specs.Calls.{Config, Op, calls}
-use Rattle.model.specs.Alike.{Phase}
+use Rattle.model.specs.Simulates.{Phase}
 use Rattle.model.specs.Machine.{Buf, Call, Ans, ended, handed, told, Machine, lentTo}
 use Rattle.model_ops.specs.Rings.{St}
-use Rattle.machine.specs.Under.{driverOf, drive}
+use Rattle.machine.specs.Suspended.{driverOf, drive}
 use Rattle.machine.specs.Goes.{Called}
 use Rattle.req_bus_time.specs.Time.{chargeOf, entryOf, passes}
 use Rattle.call_bus_time.specs.Sharing.{Sort, enabling, starting, going, apart, chargeOn, isHanded, sortOf, timeAfter, turnedDown, settled, sharedCall}
-use Rattle.proof_isolation.specs.But.{Channel, Like}
+use Rattle.proof_isolation.specs.EqualExcept.{Channel, LowEquiv}
 use Rattle.proof_isolation.specs.Buts.{stays-any}
-use Rattle.proof_isolation.specs.Turns.{shared}
+use Rattle.proof_isolation.specs.Schedule.{shared}
 
 -- of driver i
-module _ (i : ℕ) {c : Channel} {φ : Phase} {s t : St} (l : Like c φ s t) where
+module _ (i : ℕ) {c : Channel} {φ : Phase} {s t : St} (l : LowEquiv c φ s t) where
   -- what an endpoint is charged, the channel too
   pub same-charge : (dir : Dir) (e : ℕ) → chargeOn (s .0) dir e ≡ chargeOn (t .0) dir e
   unfolding chargeOn
-  same-charge dir e = ap (λ (p : Plain). chargeOf (p .kind) (p .«max_len»)) (sym (stays-any (l .but) dir e .plain))
+  same-charge dir e = ap (λ (p : EpCore). chargeOf (p .kind) (p .«max_len»)) (sym (stays-any (l .but) dir e .plain))
 
   -- the record after a call
   pub same-record : (x : Sort) (a : Ans Answer) (r : List ℕ) → timeAfter i x a (s .0) r ≡ timeAfter i x a (t .0) r

@@ -7,8 +7,8 @@ use Rattle.model.specs.Calls.{Config, Op, startRow}
 use Rattle.model.specs.Machine.{Buf, start, Event, idle}
 use Rattle.proof_book.specs.MachineRuns.{Premise}
 use Rattle.proof_book.specs.Sorting.{sortsOf}
-use Rattle.proof_isolation.specs.But.{Channel}
-use Rattle.proof_isolation.specs.Turns.{Run, Two, Early, Turn, begins, goes, asked, stores, others-time, first, second, turn, called, given, heeded, after, May, After, Allowed, Every}
+use Rattle.proof_isolation.specs.EqualExcept.{Channel}
+use Rattle.proof_isolation.specs.Schedule.{Run, Two, Early, Turn, begins, goes, asked, stores, others-time, first, second, turn, called, given, heeded, after, May, After, Allowed, Every}
 use Rattle.proof_isolation.specs.Standing.{At, at, at-stands, at-lined, at-alike, at-time, at-swap}
 use Rattle.proof_isolation.specs.Runs.{goes-by, begins-by, asked-by, stores-by}
 use Rattle.proof_isolation.specs.Alone.{alone-by}

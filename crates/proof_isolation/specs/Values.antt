@@ -13,26 +13,26 @@ use Rattle.state.specs.Wakes.{none-woken, wakeCode, busCode, every-endpoint}
 use Rattle.state.specs.WakesLaws.{none-room}
 use Rattle.state.specs.Driver.{key, epOn, withOn}
 use Rattle.state.specs.Laws.{key-apart}
-use Rattle.model.specs.Cells.{Plain, globals-cell, ep-cell}
+use Rattle.model.specs.Cells.{EpCore, globals-cell, ep-cell}
 use Rattle.model.specs.Script.{Script, run, bind, get, put, act, fetch, gathered, no-wakes, waken}
 use Rattle.model.specs.Statics.{isOn, withReady, modify, modifyEp, wake, wakeAll, wakeBus}
-use Rattle.model.specs.Alike.{quiet}
-use Rattle.model.specs.Sorts.{Shows}
+use Rattle.model.specs.Simulates.{quiet}
+use Rattle.model.specs.TransferKinds.{Shows}
 use Rattle.model_ops.specs.Records.{plainOf, merged, mergedGlobals}
 use Rattle.model_ops.specs.Rings.{St}
-use Rattle.model_ops.specs.Conc.{conc, putOn, actOn}
+use Rattle.model_ops.specs.Concrete.{concrete, putOn, actOn}
 use Rattle.proof_book.specs.Book.{mergedPlain}
 use Rattle.proof_book.specs.Lens.{key-ep}
 use Rattle.proof_book.specs.Frame.{same-place, changed-on}
-use Rattle.proof_book.specs.Sorts.{sorted}
-use Rattle.proof_isolation.specs.But.{SameCodes, Stays, Channel, Like}
+use Rattle.proof_book.specs.TransferKinds.{sorted}
+use Rattle.proof_isolation.specs.EqualExcept.{SameCodes, Stays, Channel, LowEquiv}
 use Rattle.proof_isolation.specs.Apart.{ApartBy, end, PairBy, Pair}
 use Rattle.proof_isolation.specs.Pairs.{Eq, Any, p-bind, p-same, p-get, p-put, p-act}
 use Rattle.proof_isolation.specs.Likes.{wakes-refl}
 use Rattle.proof_isolation.specs.Wakes.{all-same, own-woken}
 use Rattle.proof_isolation.specs.Buts.{stays-any, but-globals, but-wakes, but-on, changed-seat, like-made, lawful-put, lawful-act}
 
-merged-stays : {r r′ : EpState} (v v′ : Plain) → withReady 0 v′ ≡ withReady 0 v → Stays r r′ → Stays (merged r v) (merged r′ v′)
+merged-stays : {r r′ : EpState} (v v′ : EpCore) → withReady 0 v′ ≡ withReady 0 v → Stays r r′ → Stays (merged r v) (merged r′ v′)
 merged-stays v v′ q h = record { place = record { base = h .place .base; stride = h .place .stride; slots = h .place .slots }; plain = λ i. mergedPlain (h .plain i) (q i) }
 
 -- EP0 is not the channel, nor is an IN endpoint
@@ -47,7 +47,7 @@ ep0-other c In z = in-other (c .number) 0 z
 module _ (c : Channel) where
   -- ---- the globals
 
-  pub globals-kept : (v : Globals) (s t : St) → Like c quiet s t → Like c quiet (putOn globals-cell v s) (putOn globals-cell v t)
+  pub globals-kept : (v : Globals) (s t : St) → LowEquiv c quiet s t → LowEquiv c quiet (putOn globals-cell v s) (putOn globals-cell v t)
   unfolding epOn
   globals-kept v s t l = like-made l (lawful-put c globals-cell v (l .left) refl) (lawful-put c globals-cell v (l .right) refl)
       (but-globals (l .but) _ _ (ap (λ g. mergedGlobals g v) (l .but .globals))) (same-place (epOn (s .0) Out (c .number))) (l .bytes)
@@ -55,7 +55,7 @@ module _ (c : Channel) where
   -- ---- a record
 
   -- values that are the same, or of the channel the same but for `ready`
-  pub record-kept : (dir : Dir) (e : ℕ) (v v′ : Plain) → withReady 0 v′ ≡ withReady 0 v → (key dir e ≢ key Out (c .number) → v ≡ v′) → (s t : St) → Like c quiet s t → Like c quiet (putOn (ep-cell dir e) v s) (putOn (ep-cell dir e) v′ t)
+  pub record-kept : (dir : Dir) (e : ℕ) (v v′ : EpCore) → withReady 0 v′ ≡ withReady 0 v → (key dir e ≢ key Out (c .number) → v ≡ v′) → (s t : St) → LowEquiv c quiet s t → LowEquiv c quiet (putOn (ep-cell dir e) v s) (putOn (ep-cell dir e) v′ t)
   unfolding withOn
   record-kept dir e v v′ q f s t l =
       let z = l .left .rest .sized in
@@ -68,27 +68,27 @@ module _ (c : Channel) where
       (changed-seat (c .number) (changed-on z dir e (merged r v) (record { base = refl; stride = refl; slots = refl }) refl)) (l .bytes)
 
   -- what scripts see of a record
-  pub plain-other : (dir : Dir) (e : ℕ) → key dir e ≢ key Out (c .number) → (s t : St) → Like c quiet s t → plainOf (epOn (s .0) dir e) ≡ plainOf (epOn (t .0) dir e)
+  pub plain-other : (dir : Dir) (e : ℕ) → key dir e ≢ key Out (c .number) → (s t : St) → LowEquiv c quiet s t → plainOf (epOn (s .0) dir e) ≡ plainOf (epOn (t .0) dir e)
   plain-other dir e n s t l = ap plainOf (l .but .eps dir e n)
 
   -- and of the channel's
-  pub plain-any : (dir : Dir) (e : ℕ) (s t : St) → Like c quiet s t → withReady 0 (plainOf (epOn (s .0) dir e)) ≡ withReady 0 (plainOf (epOn (t .0) dir e))
+  pub plain-any : (dir : Dir) (e : ℕ) (s t : St) → LowEquiv c quiet s t → withReady 0 (plainOf (epOn (s .0) dir e)) ≡ withReady 0 (plainOf (epOn (t .0) dir e))
   plain-any dir e s t l = sym (stays-any (l .but) dir e .plain)
 
   -- ---- wake-ups
 
-  begins-none : (s t : St) → Like c quiet s t → Like c quiet (actOn no-wakes s) (actOn no-wakes t)
+  begins-none : (s t : St) → LowEquiv c quiet s t → LowEquiv c quiet (actOn no-wakes s) (actOn no-wakes t)
   unfolding epOn
   begins-none s t l = like-made l (lawful-act c no-wakes refl (l .left)) (lawful-act c no-wakes refl (l .right))
       (but-wakes (l .but) none-woken none-woken (wakes-refl (c .number) none-woken none-room)) (same-place (epOn (s .0) Out (c .number))) (l .bytes)
 
-  wakens : (codes : List ℕ) (s t : St) → Like c quiet s t → Like c quiet (actOn (waken codes) s) (actOn (waken codes) t)
+  wakens : (codes : List ℕ) (s t : St) → LowEquiv c quiet s t → LowEquiv c quiet (actOn (waken codes) s) (actOn (waken codes) t)
   unfolding epOn
   wakens codes s t l = like-made l (lawful-act c (waken codes) refl (l .left)) (lawful-act c (waken codes) refl (l .right))
       (but-wakes (l .but) _ _ (all-same codes (l .but .wakes))) (same-place (epOn (s .0) Out (c .number))) (l .bytes)
 
   -- the channel's own wake-up, in one run
-  pub own-wake : {s t : St} → Like c quiet s t → Like c quiet (actOn (waken (wakeCode Out (c .number) ∷ [])) s) t
+  pub own-wake : {s t : St} → LowEquiv c quiet s t → LowEquiv c quiet (actOn (waken (wakeCode Out (c .number) ∷ [])) s) t
   unfolding epOn
   own-wake {s} {t} l = like-made l (lawful-act c (waken (wakeCode Out (c .number) ∷ [])) refl (l .left)) (l .right)
       (but-wakes (l .but) _ (t .0 .wakes) (own-woken (l .but .wakes))) (same-place (epOn (s .0) Out (c .number))) (l .bytes)
@@ -99,17 +99,17 @@ module _ (c : Channel) where
     pub p-assign : (v : Globals) → Pair c st {i = i} Any (put globals-cell v) (put globals-cell v)
     p-assign v = p-put globals-cell v v (globals-kept v)
 
-    pub p-records : (dir : Dir) (e : ℕ) (v v′ : Plain) → withReady 0 v′ ≡ withReady 0 v → (key dir e ≢ key Out (c .number) → v ≡ v′) → Pair c st {i = i} Any (put (ep-cell dir e) v) (put (ep-cell dir e) v′)
+    pub p-records : (dir : Dir) (e : ℕ) (v v′ : EpCore) → withReady 0 v′ ≡ withReady 0 v → (key dir e ≢ key Out (c .number) → v ≡ v′) → Pair c st {i = i} Any (put (ep-cell dir e) v) (put (ep-cell dir e) v′)
     p-records dir e v v′ q f = p-put (ep-cell dir e) v v′ (record-kept dir e v v′ q f)
 
-    pub p-record : (dir : Dir) (e : ℕ) (v : Plain) → Pair c st {i = i} Any (put (ep-cell dir e) v) (put (ep-cell dir e) v)
+    pub p-record : (dir : Dir) (e : ℕ) (v : EpCore) → Pair c st {i = i} Any (put (ep-cell dir e) v) (put (ep-cell dir e) v)
     p-record dir e v = p-records dir e v v refl (λ _. refl)
 
     pub p-modify : (f : Globals → Globals) → Pair c st {i = i} Any (modify f) (modify f)
     p-modify f = p-same (p-get globals-cell Eq (λ s t l. l .but .globals)) (λ g. p-assign (f g))
 
     -- a change that carries no more of `ready` into the other fields
-    pub p-modify-ep : (dir : Dir) (e : ℕ) (f : Plain → Plain) → ((p : Plain) → withReady 0 (f p) ≡ withReady 0 (f (withReady 0 p))) → Pair c st {i = i} Any (modifyEp dir e f) (modifyEp dir e f)
+    pub p-modify-ep : (dir : Dir) (e : ℕ) (f : EpCore → EpCore) → ((p : EpCore) → withReady 0 (f p) ≡ withReady 0 (f (withReady 0 p))) → Pair c st {i = i} Any (modifyEp dir e f) (modifyEp dir e f)
     p-modify-ep dir e f k = record {
       on = λ s t l. end tt (record-kept dir e _ _
           (k _ ∙ ap (λ p. withReady 0 (f p)) (sym (plain-any dir e s t l)) ∙ sym (k _))
@@ -138,25 +138,25 @@ module _ (c : Channel) where
           (λ v v′ e. subst (λ z. PairBy c st m Q (f v) (g z)) (e .0) (h v (e .1)))
 
       -- of an endpoint but the channel
-      pub p-plain : (dir : Dir) (e : ℕ) → key dir e ≢ key Out (c .number) → {f : Plain → Script i A} {g : Plain → Script i B} → ((v : Plain) → Shows (c .iso) (ep-cell dir e) v → PairBy c st m Q (f v) (g v)) → PairBy c st m Q (bind (get (ep-cell dir e)) f) (bind (get (ep-cell dir e)) g)
+      pub p-plain : (dir : Dir) (e : ℕ) → key dir e ≢ key Out (c .number) → {f : EpCore → Script i A} {g : EpCore → Script i B} → ((v : EpCore) → Shows (c .iso) (ep-cell dir e) v → PairBy c st m Q (f v) (g v)) → PairBy c st m Q (bind (get (ep-cell dir e)) f) (bind (get (ep-cell dir e)) g)
       p-plain dir e n {f} {g} h = p-bind (p-get (ep-cell dir e) (λ v v′. (v ≡ v′) × Shows (c .iso) (ep-cell dir e) v) (λ s t l. (plain-other dir e n s t l, sorted (c .iso) (c .ep0) .shows (ep-cell dir e) s (l .left .has))))
           (λ v v′ e. subst (λ z. PairBy c st m Q (f v) (g z)) (e .0) (h v (e .1)))
 
-      pub p-plain-in : (e : ℕ) {f : Plain → Script i A} {g : Plain → Script i B} → ((v : Plain) → Shows (c .iso) (ep-cell In e) v → PairBy c st m Q (f v) (g v)) → PairBy c st m Q (bind (get (ep-cell In e)) f) (bind (get (ep-cell In e)) g)
+      pub p-plain-in : (e : ℕ) {f : EpCore → Script i A} {g : EpCore → Script i B} → ((v : EpCore) → Shows (c .iso) (ep-cell In e) v → PairBy c st m Q (f v) (g v)) → PairBy c st m Q (bind (get (ep-cell In e)) f) (bind (get (ep-cell In e)) g)
       p-plain-in e h = p-plain In e (in-other (c .number) e) h
 
-      pub p-plain-ep0 : (dir : Dir) {f : Plain → Script i A} {g : Plain → Script i B} → ((v : Plain) → Shows (c .iso) (ep-cell dir 0) v → PairBy c st m Q (f v) (g v)) → PairBy c st m Q (bind (get (ep-cell dir 0)) f) (bind (get (ep-cell dir 0)) g)
+      pub p-plain-ep0 : (dir : Dir) {f : EpCore → Script i A} {g : EpCore → Script i B} → ((v : EpCore) → Shows (c .iso) (ep-cell dir 0) v → PairBy c st m Q (f v) (g v)) → PairBy c st m Q (bind (get (ep-cell dir 0)) f) (bind (get (ep-cell dir 0)) g)
       p-plain-ep0 dir h = p-plain dir 0 (ep0-other c dir) h
 
       -- of any: the channel's `ready` may be another, and it is isochronous
-      pub p-plain-any : (dir : Dir) (e : ℕ) {f : Plain → Script i A} {g : Plain → Script i B} → ((v : Plain) (r : ℕ) → (key dir e ≢ key Out (c .number) → r ≡ v .ready) → (key dir e ≡ key Out (c .number) → isOn (v .iso) ≡ true) → Shows (c .iso) (ep-cell dir e) v → PairBy c st m Q (f v) (g (withReady r v)))
+      pub p-plain-any : (dir : Dir) (e : ℕ) {f : EpCore → Script i A} {g : EpCore → Script i B} → ((v : EpCore) (r : ℕ) → (key dir e ≢ key Out (c .number) → r ≡ v .ready) → (key dir e ≡ key Out (c .number) → isOn (v .iso) ≡ true) → Shows (c .iso) (ep-cell dir e) v → PairBy c st m Q (f v) (g (withReady r v)))
           → PairBy c st m Q (bind (get (ep-cell dir e)) f) (bind (get (ep-cell dir e)) g)
       p-plain-any dir e {f} {g} h = record {
         on = λ s t l.
             let p = plainOf (epOn (s .0) dir e) in
             let q = plainOf (epOn (t .0) dir e) in
-            subst (λ z. ApartBy c st i Q m (run conc (f p) s) (run conc (g z) t)) (ap (withReady (q .ready)) (plain-any dir e s t l))
-            (h p (q .ready) (λ n. ap (λ (v : Plain). v .ready) (sym (plain-other dir e n s t l)))
+            subst (λ z. ApartBy c st i Q m (run concrete (f p) s) (run concrete (g z) t)) (ap (withReady (q .ready)) (plain-any dir e s t l))
+            (h p (q .ready) (λ n. ap (λ (v : EpCore). v .ready) (sym (plain-other dir e n s t l)))
             (λ k. ap (λ (r : EpState). isOn (r .iso)) (key-ep (s .0) dir Out e (c .number) k) ∙ l .left .has .flags Out (c .number) ∙ c .receives)
             (sorted (c .iso) (c .ep0) .shows (ep-cell dir e) s (l .left .has)) .on s t l);
       }

@@ -11,7 +11,7 @@ use lib.ListN.{length}
 use Rattle.regs.specs.declared.Dir.the-variants.{Out, In}
 use Rattle.state.specs.Wakes.{Wakes, wakeCode, listed, woken, all-woken}
 use Rattle.state.specs.WakesLaws.{Room, woken-full, woken-count, woken-keeps, woken-listed, listed-count}
-use Rattle.proof_isolation.specs.But.{without, others, OtherWakes}
+use Rattle.proof_isolation.specs.EqualExcept.{without, others, OtherWakes}
 
 without-append : (o : ℕ) (l m : List ℕ) → without o (l ++ m) ≡ without o l ++ without o m
 without-append o [] m = refl

@@ -14,7 +14,7 @@ use Rattle.model.specs.Cells.{ep-cell}
 use Rattle.model.specs.Tree.{bindOut}
 use Rattle.model.specs.Script.{Script, run, bind, test, done, _>>=_, _>>_, read, write, look, hand, complete, send, waiting, next-len}
 use Rattle.model.specs.Every.{sameReg}
-use Rattle.model.specs.Alike.{quiet}
+use Rattle.model.specs.Simulates.{quiet}
 use Rattle.frame.specs.Usb20.{indexOf, frameOf}
 use Rattle.frame.specs.Advance.{previous}
 use Rattle.model.specs.Statics.{withLastFrame, modifyReg, modifyIntEn, wake}
@@ -23,8 +23,8 @@ use Rattle.model.specs.Handler.{looks, sieWait, outNaks, nakNonIso, repeated, t
 use Rattle.regs.specs.declared.Token.{Token}
 use Rattle.regs.specs.declared.Token.the-variants as tok
 use Rattle.model_ops.specs.Rings.{St}
-use Rattle.model_ops.specs.Conc.{conc, isOf, actOn, putOn, getOn}
-use Rattle.proof_isolation.specs.But.{Channel}
+use Rattle.model_ops.specs.Concrete.{concrete, isOf, actOn, putOn, getOn}
+use Rattle.proof_isolation.specs.EqualExcept.{Channel}
 use Rattle.proof_isolation.specs.Whose.{sof}
 use Rattle.proof_isolation.specs.Apart.{Reads, Next, next, elsewhere, ApartBy, both, PairBy, Pair}
 use Rattle.proof_isolation.specs.Pairs.{rests, Eq, Any, p-ret, p-bind, p-same, p-then, p-test, p-when, p-read, p-write, p-callback, p-is, p-look, p-act}
@@ -96,15 +96,15 @@ no-status c st EpRxCtrl z = refl
 no-status c st EpTxCtrl z = refl
 
 -- its transmit address or its length is next
-load-next : (x : ℕ) (i : Bool) (e : ℕ) (s : St) → Next x (run {i = i} conc (isoInLoad e >> wake In e) s)
+load-next : (x : ℕ) (i : Bool) (e : ℕ) (s : St) → Next x (run {i = i} concrete (isoInLoad e >> wake In e) s)
 load-next x i e s = by (isOf (waiting In e) s)
   where
-    by : (b : Bool) → Next x (bindOut (run {i = i} conc (test b (hand (send e) >> (look (next-len In e) >>= λ n. write EpTLen e n)) (write EpTLen e 0)) s) (λ _ t. run {i = i} conc (wake In e) t))
+    by : (b : Bool) → Next x (bindOut (run {i = i} concrete (test b (hand (send e) >> (look (next-len In e) >>= λ n. write EpTLen e n)) (write EpTLen e 0)) s) (λ _ t. run {i = i} concrete (wake In e) t))
     by true = next refl
     by false = next refl
 
 -- so where the status shows no IN
-sof-next : (x : ℕ) (i : Bool) (frame e : ℕ) (s : St) → Next x (run {i = i} conc (test (leaving sof e) done (unseen frame e)) s)
+sof-next : (x : ℕ) (i : Bool) (frame e : ℕ) (s : St) → Next x (run {i = i} concrete (test (leaving sof e) done (unseen frame e)) s)
 unfolding leaving isIn token tokenNumbered
 sof-next x i frame e s = load-next x i e (run-of frame e s)
   where
@@ -117,10 +117,10 @@ module _ {c : Channel} {st : ℕ} {i : Bool} where
 
   -- the status word is the same throughout the interrupt; one that shows no OUT does not lead to the channel's receive address
   pub p-status : {m : Bool} {A B : Type 0} {Q : A → B → Type 0} {f : ℕ → Script i A} {g : ℕ → Script i B}
-      → ((s : St) → Next (c .number) (run conc (f sof) s)) → ((s : St) → Next (c .number) (run conc (g sof) s)) → PairBy c st m Q (f st) (g st) → PairBy c st m Q (bind (read IntSt 0) f) (bind (read IntSt 0) g)
+      → ((s : St) → Next (c .number) (run concrete (f sof) s)) → ((s : St) → Next (c .number) (run concrete (g sof) s)) → PairBy c st m Q (f st) (g st) → PairBy c st m Q (bind (read IntSt 0) f) (bind (read IntSt 0) g)
   p-status {m} {Q = Q} {f} {g} n n′ h = record {
     on = λ s t l. both {q = Read IntSt 0} quiet (rests i) (λ _ s. elsewhere (n s)) (λ _ s. elsewhere (n′ s)) l (λ v v′ s t b r.
-        subst (λ y. ApartBy c st i Q m (run conc (f v) s) (run conc (g y) t)) (sym (b .1)) (subst (λ y. ApartBy c st i Q m (run conc (f y) s) (run conc (g st) t)) (sym (b .0)) (h .on s t r)));
+        subst (λ y. ApartBy c st i Q m (run concrete (f v) s) (run concrete (g y) t)) (sym (b .1)) (subst (λ y. ApartBy c st i Q m (run concrete (f y) s) (run concrete (g st) t)) (sym (b .0)) (h .on s t r)));
   }
 
   pub p-modify-reg : (r : Reg) (e : ℕ) (f : ℕ → ℕ) → Steady c st r → Pair c st {i = i} Any (modifyReg r e f) (modifyReg r e f)

@@ -14,19 +14,19 @@ use Rattle.model.specs.Tree.{ends, asks}
 use Rattle.model.specs.Script.{run, open-oldest, close-oldest}
 use Rattle.model.specs.Statics.{isOn}
 use Rattle.model.specs.Answers.{Answer, Refused, Shown, ok, isAllocated}
-use Rattle.model.specs.Alike.{quiet}
+use Rattle.model.specs.Simulates.{quiet}
 use Rattle.model.specs.Calls.{calls, Open, Close, asideCode}
 use Rattle.model.specs.Machine.{pending, Ans, ended, handed, told, awaited, Way, idle, busy, beside}
 use Rattle.model_ops.specs.Rings.{St, waitingOn, openedOn, oldestOn, nextStamp}
-use Rattle.model_ops.specs.Conc.{conc}
-use Rattle.machine.specs.Under.{driverOf, drive}
+use Rattle.model_ops.specs.Concrete.{concrete}
+use Rattle.machine.specs.Suspended.{driverOf, drive}
 use Rattle.call_bus_time.specs.Sharing as sharing
 use Rattle.call_bus_time.specs.Sharing.{going, written, timeAfter}
-use Rattle.proof_isolation.specs.But.{Lawful, Channel}
+use Rattle.proof_isolation.specs.EqualExcept.{Lawful, Channel}
 use Rattle.proof_isolation.specs.Buts.{lawful-act}
 use Rattle.proof_isolation.specs.Whose.{sof, madeFor, ownWay}
 use Rattle.proof_isolation.specs.Apart.{ownable}
-use Rattle.proof_isolation.specs.Turns.{Run, runBy, wide, atOwn}
+use Rattle.proof_isolation.specs.Schedule.{Run, runBy, wide, atOwn}
 use Rattle.proof_isolation.specs.Standing.{machineOf, stops, runOf, never-made}
 use Rattle.proof_isolation.specs.Runs.{go-busy, aside-busy}
 use Rattle.proof_isolation_late.specs.Late.{Light, opens, closes, asks-of, callOf, Item, gets, goes-own, lightsOf, lit, gone, lits}
@@ -74,14 +74,14 @@ close-shape true true false s h = refl
 close-shape true false d s h = refl
 close-shape false b d s h = refl
 
-pub open-run : (e : ℕ) (s : St) → Sized (s .0) → run conc (asideCode (Open e)) s ≡ ends (openAnswer e (seen (opens e) s)) (done-at (opens e) s)
+pub open-run : (e : ℕ) (s : St) → Sized (s .0) → run concrete (asideCode (Open e)) s ≡ ends (openAnswer e (seen (opens e) s)) (done-at (opens e) s)
 open-run e s z = open-shape (eqb (s .0 .globals .stage) 2) (isAllocated (s .0 .allocator) Out e) (not (isOn (epOn (s .0) Out e .iso)))
     (waitingOn (s .0) Out e) s
     (Shown (oldestOn (s .0) e (s .1)) (nextStamp (s .0) e))
     (ap (λ (d : Driver). ends (Shown (oldestOn d e (s .1)) (nextStamp d e)) (d, s .1)) (open-is (s .0) e)
     ∙ (λ i. ends (Shown (oldest-opening e (s .0) z (s .1) i) (stamp-opening e (s .0) z i)) (done-by (opens e) s)))
 
-pub close-run : (e : ℕ) (s : St) → run conc (asideCode (Close e)) s ≡ ends (closeAnswer e (seen (closes e) s)) (done-at (closes e) s)
+pub close-run : (e : ℕ) (s : St) → run concrete (asideCode (Close e)) s ≡ ends (closeAnswer e (seen (closes e) s)) (done-at (closes e) s)
 close-run e s = close-shape (eqb (s .0 .globals .stage) 2) (isAllocated (s .0 .allocator) Out e) (openedOn (s .0) e) s
     (ap (λ (d : Driver). ends ok (d, s .1)) (close-is (s .0) e))
 

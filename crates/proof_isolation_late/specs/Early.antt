@@ -9,7 +9,7 @@ use Rattle.model.specs.Answers.{Answer}
 use Rattle.model.specs.Calls.{aside, Open, Close, calls}
 use Rattle.model.specs.Machine.{begin, Way, idle, busy, misfit, stay, begun}
 use Rattle.model_ops.specs.Rings.{St}
-use Rattle.machine.specs.Under.{driverOf, drive}
+use Rattle.machine.specs.Suspended.{driverOf, drive}
 use Rattle.proof_isolation.specs.Standing.{machineOf}
 
 module _ (s : St) (h : eqb (s .0 .globals .stage) 2 ≡ false) where

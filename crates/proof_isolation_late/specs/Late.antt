@@ -11,8 +11,8 @@ use Rattle.state.specs.Driver.{Driver, key}
 use Rattle.model.specs.Answers.{Answer}
 use Rattle.model.specs.Calls.{Config, Op, aside, Open, Close}
 use Rattle.model.specs.Machine.{Question, Call, begin, go, question, Ans, Way, idle, busy}
-use Rattle.proof_isolation.specs.But.{Channel}
-use Rattle.proof_isolation.specs.Turns.{Run, Two, Turn, others-time, called, turn, after, wide, Asked, atOwn, BringsAt, May, SameAns, After, Every}
+use Rattle.proof_isolation.specs.EqualExcept.{Channel}
+use Rattle.proof_isolation.specs.Schedule.{Run, Two, Turn, others-time, called, turn, after, wide, Asked, atOwn, BringsAt, May, SameAns, After, Every}
 use Rattle.proof_isolation.specs.Undisturbed.{Session, opened, Opens}
 
 -- ---- the calls that may fall late

@@ -5,10 +5,10 @@ use mathlib.Core.Path.{_≡_, refl, ap, subst, sym, _∙_}
 use Prim.Native.Nat.{ℕ}
 use Rattle.model.specs.Answers.{Answer}
 use Rattle.model.specs.Machine.{go, Ans}
-use Rattle.proof_isolation.specs.But.{Channel}
-use Rattle.proof_isolation.specs.Turns.{Run, Two, turn}
+use Rattle.proof_isolation.specs.EqualExcept.{Channel}
+use Rattle.proof_isolation.specs.Schedule.{Run, Two, turn}
 use Rattle.proof_isolation.specs.Standing.{At, at-time}
-use Rattle.proof_isolation.specs.Code.{Left, Held, Pair, runOf, twoOf, Did, heard, Step, next, Made, sessionOf, openedBy, afterSteps, DidStep, DidSteps}
+use Rattle.proof_isolation.specs.Code.{Left, Held, Pair, runOf, twoOf, CallStep, heard, Step, next, Made, sessionOf, openedBy, afterSteps, DidStep, DidSteps}
 use Rattle.proof_isolation.specs.Code.{EveryStep, Begun}
 use Rattle.proof_isolation.specs.Code.{heard-is, next-by, code-every, opened-is, begun-at}
 use Rattle.proof_isolation_late.specs.Late as late
@@ -80,11 +80,11 @@ otherAnswers (i ∷ is) = answerLeft (i .item) (i .other .answer) (otherAnswers 
 
 module _ (share : Bool) (n : ℕ) where
   abbrev DidItem : Item → Left → Held → Type 0
-  DidItem (gets o) l h = Did share n (callOf o) (h .slots) h l
-  DidItem (goes-own v) l h = Did share n (go v) (h .slots) h l
+  DidItem (gets o) l h = CallStep share n (callOf o) (h .slots) h l
+  DidItem (goes-own v) l h = CallStep share n (go v) (h .slots) h l
 
   abbrev DidLight : Item → Left → Held → Type 0
-  DidLight (gets o) l h = Did share n (callOf o) (h .slots) h l
+  DidLight (gets o) l h = CallStep share n (callOf o) (h .slots) h l
   DidLight (goes-own v) l h = Unit {0}
 
   abbrev pub DidItems : List ItemMade → Held → Type 0
@@ -97,10 +97,10 @@ module _ (share : Bool) (n : ℕ) where
 
   -- of the late run h and of the other h′: what they bring, what the two continues left
   pub record DidLate (v v′ : ℕ) (l l′ : Left) (is : List ItemMade) (h h′ : Held) : Type 0 where
-    pub goes : Did share n (go v) (h .slots) h l
+    pub goes : CallStep share n (go v) (h .slots) h l
     pub items : DidItems is (heard l h)
     pub lights : DidLights is h′
-    pub goes′ : Did share n (go v′) (afterLights is h′ .slots) (afterLights is h′) l′
+    pub goes′ : CallStep share n (go v′) (afterLights is h′ .slots) (afterLights is h′) l′
 
   abbrev pub DidLateStep : LateStep → Pair → Type 0
   DidLateStep (timely s) w = DidStep share n s w

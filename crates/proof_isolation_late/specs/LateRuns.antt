@@ -9,16 +9,16 @@ use Rattle.model.specs.Tree as tree
 use Rattle.model.specs.Tree.{ends, asks}
 use Rattle.model.specs.Script.{run}
 use Rattle.model.specs.Answers.{Answer, Refused}
-use Rattle.model.specs.Alike.{quiet, mid, Fits}
+use Rattle.model.specs.Simulates.{quiet, mid, Fits}
 use Rattle.model.specs.Calls.{Config, Op, calls, startRow, Open, Close, asideCode}
 use Rattle.model.specs.Machine.{Buf, Call, start, begin, go, question, Event, Ans, ended, told, awaited, Way, busy, Machine, lentTo}
 use Rattle.model_ops.specs.Rings.{St}
-use Rattle.model_ops.specs.Conc.{conc}
-use Rattle.machine.specs.Under.{driverOf, drive}
+use Rattle.model_ops.specs.Concrete.{concrete}
+use Rattle.machine.specs.Suspended.{driverOf, drive}
 use Rattle.machine.specs.Goes.{Called}
 use Rattle.call_bus_time.specs.Sharing.{sortOf, timeAfter, turnedDown}
 use Rattle.proof_wake_ups.specs.Rooms.{Few, Roomy, Rooms, rooms}
-use Rattle.proof_isolation.specs.But.{Channel, Like}
+use Rattle.proof_isolation.specs.EqualExcept.{Channel, LowEquiv}
 use Rattle.proof_isolation.specs.Whose.{ownWay}
 use Rattle.proof_isolation.specs.Apart.{Brings, gone, waits, Shared, ApartBy, end, both, left, right, owns}
 use Rattle.proof_isolation.specs.Answers.{SameAnswer}
@@ -26,8 +26,8 @@ use Rattle.proof_isolation.specs.Pairs.{brings-sym}
 use Rattle.proof_isolation.specs.Asides.{p-aside}
 use Rattle.proof_isolation.specs.Stores.{lent-back, own-lent-back}
 use Rattle.proof_isolation.specs.Others.{same-answers}
-use Rattle.proof_isolation.specs.Turns.{Run, Two, Turn, begins, goes, asked, stores, others-time, first, second, Early, gets, shares}
-use Rattle.proof_isolation.specs.Turns.{called, alone, turn, given, after, sharing, wide, atOwn, go-on, own-lent, SameAns, same, After, Allowed}
+use Rattle.proof_isolation.specs.Schedule.{Run, Two, Turn, begins, goes, asked, stores, others-time, first, second, Early, gets, shares}
+use Rattle.proof_isolation.specs.Schedule.{called, alone, turn, given, after, sharing, wide, atOwn, go-on, own-lent, SameAns, same, After, Allowed}
 use Rattle.proof_isolation.specs.Standing.{machineOf, stops, runOf, own-yes, own-no, past-no, same-ans, ans-sym, Told, Keeps, At, at, swap}
 use Rattle.proof_isolation.specs.Standing.{at-stands, at-lined, at-alike, at-time, at-swap}
 use Rattle.proof_isolation.specs.Runs.{goes-by, spares-put}
@@ -47,27 +47,27 @@ use Rattle.proof_isolation_late.specs.Crossing.{Crosses, crosses, gone-b
 -- ---- a call of the others in both, at one access
 
 ended-like : {c : Channel} {st : ℕ} {i m : Bool} {Q : Answer → Answer → Type 0} {a b : Answer} {s t : St} → ApartBy c st i Q m (ends a s) (ends b t)
-    → Q a b × Like c quiet s t
+    → Q a b × LowEquiv c quiet s t
 ended-like (end q l) = (q, l)
 
 told-alike : {x m n : ℕ} → m ≡ n → SameAns x (told m) (told n)
 told-alike {x} {m} e = subst (λ k. SameAns x (told m) (told k)) e (same (told m))
 
 record Alike (c : Channel) (o : Light) (s t : St) : Type 0 where
-  like : Like c quiet (done-at o s) (done-at o t)
+  like : LowEquiv c quiet (done-at o s) (done-at o t)
   same-told : Few (answered o (seen o s)) → Few (answered o (seen o t)) → SameAns (c .number) (answered o (seen o s)) (answered o (seen o t))
 
-light-both : (c : Channel) (st : ℕ) (o : Light) → Other c o → {s t : St} → Like c quiet s t → Alike c o s t
+light-both : (c : Channel) (st : ℕ) (o : Light) → Other c o → {s t : St} → LowEquiv c quiet s t → Alike c o s t
 light-both c st (opens e) n {s} {t} l =
     let y = ended-like (subst (λ u. ApartBy c st false (SameAnswer (c .number)) false
     (ends (openAnswer e (seen (opens e) s)) (done-at (opens e) s)) u) (open-run e t (l .right .rest .sized))
-    (subst (λ u. ApartBy c st false (SameAnswer (c .number)) false u (run conc (asideCode (Open e)) t)) (open-run e s (l .left .rest .sized))
+    (subst (λ u. ApartBy c st false (SameAnswer (c .number)) false u (run concrete (asideCode (Open e)) t)) (open-run e s (l .left .rest .sized))
     (p-aside c st (Open e) n .on s t l))) in
     record { like = y .1; same-told = λ f g. same-ans (y .0) f g }
 light-both c st (closes e) n {s} {t} l =
     let y = ended-like (subst (λ u. ApartBy c st false (SameAnswer (c .number)) false
     (ends (closeAnswer e (seen (closes e) s)) (done-at (closes e) s)) u) (close-run e t)
-    (subst (λ u. ApartBy c st false (SameAnswer (c .number)) false u (run conc (asideCode (Close e)) t)) (close-run e s)
+    (subst (λ u. ApartBy c st false (SameAnswer (c .number)) false u (run concrete (asideCode (Close e)) t)) (close-run e s)
     (p-aside c st (Close e) n .on s t l))) in
     record { like = y .1; same-told = λ f g. same-ans (y .0) f g }
 light-both c st (asks-of q) n l = record { like = l; same-told = λ f g. told-alike (same-answers l q n) }
@@ -156,10 +156,10 @@ module _ (c : Channel) (share : Bool) (n : ℕ) where
       × AllSame (c .number) (litAnswers share n os x) (litAnswers share n os y)
 
   module _ (st : ℕ) (p : Access) (g g′ : ℕ → St → tree.Out St Answer) (w : Shared true (c .number) p g) (w′ : Shared true (c .number) p g′)
-      (f : (v v′ : ℕ) (s t : St) → Brings (c .number) st p v v′ → Like c quiet s t → ApartBy c st true (SameAnswer (c .number)) true (g v s) (g′ v′ t))
+      (f : (v v′ : ℕ) (s t : St) → Brings (c .number) st p v v′ → LowEquiv c quiet s t → ApartBy c st true (SameAnswer (c .number)) true (g v s) (g′ v′ t))
       (v v′ : ℕ) (in-width : wide (busy true (awaited p) g) v ≡ false) (in-width′ : wide (busy true (awaited p) g′) v′ ≡ false)
       (brings : Brings (c .number) st p v v′) where
-    lits-both : (os : List Light) → Others c share n os → {s t : St} → Like c quiet s t → (q q′ : Access) {a a′ : Ans Answer} {τ τ′ : List ℕ}
+    lits-both : (os : List Light) → Others c share n os → {s t : St} → LowEquiv c quiet s t → (q q′ : Access) {a a′ : Ans Answer} {τ τ′ : List ℕ}
         → Keeps true (asks p s g) a → Keeps true (asks p t g′) a′ → τ ≡ τ′ → Reached st v v′ os (runOf true (asks p s g) q a τ)
         (runOf true (asks p t g′) q′ a′ τ′)
     lits-both [] m {s} {t} l q q′ k k′ e = (
@@ -290,7 +290,7 @@ module _ (c : Channel) (share : Bool) (n : ℕ) where
   -- whatever was before
   start-free : (k : Config) (b : Buf) → startRow k b ≡ zero → (r : Run) → FreeWay c (called share n (start k) b r .machine .way)
   start-free k b row r = subst (λ (z : Run). FreeWay c (z .machine .way)) (sym (starts share n k b row r))
-      (halt-late c (run conc (calls .starts k) (driverOf .fresh k, b)))
+      (halt-late c (run concrete (calls .starts k) (driverOf .fresh k, b)))
 
   pub opened-free : (s : Session) (w : Two) → startRow (s .config) (s .lent) ≡ zero → FreeBoth (opened share n s w)
   opened-free s w row = record {

@@ -26,22 +26,22 @@ use Rattle.marks.specs.Only.{Same, only-apart}
 use Rattle.ring.specs.Slot.{slotOf, slotAddr, countOf, hasWaiting, passedOf}
 use Rattle.ring.specs.Slots.{slot-from, slot-upto}
 use Rattle.ring.specs.Out.{hasRoomOut, cappedAt, arrivedOf, armedAt, openedOf, closedOf}
-use Rattle.model.specs.Cells.{Cell, Val, Plain, globals-cell, control-cell, allocator-cell, ep-cell, request-cell, paced-cell}
+use Rattle.model.specs.Cells.{Cell, Val, EpCore, globals-cell, control-cell, allocator-cell, ep-cell, request-cell, paced-cell}
 use Rattle.model.specs.Script.{changed, marked, setup-word, arrive}
 use Rattle.model.specs.Statics.{isOn, isoOuts, flag}
 use Rattle.model.specs.Answers.{isNumber}
-use Rattle.model.specs.Alike.{quiet}
+use Rattle.model.specs.Simulates.{quiet}
 use Rattle.model.specs.Machine.{Question, pending, overruns, enabled}
 use Rattle.machine.specs.Questions.{pendingOn, overrunsOf, overrunsOn, enabledAsked, questionOf}
 use Rattle.model_ops.specs.Records.{plainOf, merged, mergedGlobals}
 use Rattle.model_ops.specs.Rings.{St, changedOn, markedOn, waitingOn, openedOn, nextLen, nextStamp, oldestAt, oldestOn, openOn, closeOn}
 use Rattle.model_ops.specs.Rings.{writtenOn, recordedOn, admittedOn, armAt, armOn, arrivedAt, arriveOn}
-use Rattle.model_ops.specs.Conc.{getOn, putOn, isOf, lookOf, actOn, handOn}
-use Rattle.proof_book.specs.Rest.{endOf}
+use Rattle.model_ops.specs.Concrete.{getOn, putOn, isOf, lookOf, actOn, handOn}
+use Rattle.proof_book.specs.Coupling.{endOf}
 use Rattle.proof_book.specs.Lens.{key-ep}
-use Rattle.proof_isolation.specs.But.{ButBy, Lawful, Channel, Touched}
+use Rattle.proof_isolation.specs.EqualExcept.{ButBy, Lawful, Channel, Touched}
 use Rattle.proof_isolation_late.specs.Late.{Light, opens, closes, asks-of, Other}
-use Rattle.proof_isolation.specs.Turns.{Asked}
+use Rattle.proof_isolation.specs.Schedule.{Asked}
 use Rattle.proof_isolation.specs.InRings.{next-same}
 use Rattle.proof_isolation.specs.OwnSteps.{own-arrives}
 use Rattle.proof_isolation.specs.Asides.{bytes-same, next-capped, stamp-any}
@@ -85,13 +85,13 @@ close-is d e = by (isOn (epOn d Out e .«open»))
 record Gentle (g : EpState → EpState) : Type 0 where
   plain : (r : EpState) → plainOf (g r) ≡ plainOf r
   slot : (r : EpState) → g r .«armed_slot» ≡ r .«armed_slot»
-  merges : (r : EpState) (v : Plain) → g (merged r v) ≡ merged (g r) v
+  merges : (r : EpState) (v : EpCore) → g (merged r v) ≡ merged (g r) v
 
 either : {X : Type 0} (f : EpState → X) (b : Bool) (y r : EpState) → f y ≡ f r → f (cond b y r) ≡ f r
 either f true y r h = h
 either f false y r h = refl
 
-merge-either : (b : Bool) (y r : EpState) (v : Plain) → cond b (merged y v) (merged r v) ≡ merged (cond b y r) v
+merge-either : (b : Bool) (y r : EpState) (v : EpCore) → cond b (merged y v) (merged r v) ≡ merged (cond b y r) v
 merge-either true y r v = refl
 merge-either false y r v = refl
 
@@ -135,7 +135,7 @@ module _ {g : EpState → EpState} (k : Gentle g) (e : ℕ) (d : Driver) (z : Si
     | no p ↦ ap f (epOn-other d Out e _ dir a p)
   ]
 
-  record-assigned : (dir : Dir) (a : ℕ) (v : Plain)
+  record-assigned : (dir : Dir) (a : ℕ) (v : EpCore)
       → withOn (changeOf g e d) dir a (merged (epOn (changeOf g e d) dir a) v) ≡ changeOf g e (withOn d dir a (merged (epOn d dir a) v))
   record-assigned dir a v = elim (ℕ-discrete (key dir a) (key Out e)) [
     | yes p ↦
@@ -185,7 +185,7 @@ module _ {g : EpState → EpState} (k : Gentle g) (e : ℕ) (s : St) (z : Sized 
   marked-change a =
       ap (λ n. markedLen (s .1) n (epOn (t .0) Out a .«max_len»)) (seen-in k e (s .0) z (λ (r : EpState). r .«armed_slot») (k .slot) Out a)
       ∙ ap (λ n. markedLen (s .1) (epOn (s .0) Out a .«armed_slot») n)
-      (seen-in k e (s .0) z (λ (r : EpState). r .«max_len») (λ r. ap (λ (p : Plain). p .«max_len») (k .plain r)) Out a)
+      (seen-in k e (s .0) z (λ (r : EpState). r .«max_len») (λ r. ap (λ (p : EpCore). p .«max_len») (k .plain r)) Out a)
 
 -- ---- it and an arrival on another endpoint
 
@@ -342,7 +342,7 @@ module _ (e : ℕ) (d : Driver) (z : Sized d) where
       ap (λ (r : EpState). stampBy e r (d .stamps)) (epOn-same d Out e (opening (epOn d Out e)) z)
       ∙ either (λ (r : EpState). stampBy e r (d .stamps)) (hasWaiting (epOn d Out e)) (openedOf (epOn d Out e)) (epOn d Out e) refl
 
-record-steady : (d : Driver) (z : Sized d) (dir : Dir) (a : ℕ) (v : Plain) (b : Dir) (e : ℕ) → core (epOn d b e)
+record-steady : (d : Driver) (z : Sized d) (dir : Dir) (a : ℕ) (v : EpCore) (b : Dir) (e : ℕ) → core (epOn d b e)
     ≡ core (epOn (withOn d dir a (merged (epOn d dir a) v)) b e)
 record-steady d z dir a v b e = elim (ℕ-discrete (key b e) (key dir a)) [
   | yes p ↦ ap core (key-ep d b dir e a p) ∙ sym (ap core (key-ep (withOn d dir a (merged (epOn d dir a) v)) b dir e a p ∙ epOn-same d dir a _ z))

@@ -23,12 +23,12 @@ use Rattle.state.specs.Wakes.{none-woken, listed, all-woken}
 use Rattle.model.specs.declared.Transfer.{Transfer}
 use Rattle.model.specs.Tree as tree
 use Rattle.model.specs.Tree.{ends, asks, bindOut}
-use Rattle.model.specs.Cells.{Cell, Val, Plain, globals-cell, ep-cell}
+use Rattle.model.specs.Cells.{Cell, Val, EpCore, globals-cell, ep-cell}
 use Rattle.model.specs.Script.{Script, run, ret, bind, test, _>>=_, _>>_, when, read, write, callback, get, put, is, look, fetch, act, hand}
 use Rattle.model.specs.Script.{changed, waiting, marked, next-len, setup-word, gathered, complete, no-wakes, waken, arrive, send}
 use Rattle.model.specs.Statics.{isoInEvery, isoOuts, modify, modifyEp, modifyReg, modifyIntEn, wake, wakeBus}
 use Rattle.model.specs.Answers.{Answer, staged, resultless}
-use Rattle.model.specs.Alike.{quiet}
+use Rattle.model.specs.Simulates.{quiet}
 use Rattle.model.specs.IsoIn.{firstInFrame, isoInLoad, isoInComplete, unseen, sofOne, sofWalk, onSof, lateOne, lateWalk}
 use Rattle.model.specs.IsoOut.{arrives, checkOne, checkWalk, isoOutCheck}
 use Rattle.model.specs.Handler.{looks, sieWait, nakNonIso, toggled, retake, settle, received, sent, sofArm, outArm, isoInArm, inArm, entered, framed, isoFor}
@@ -37,10 +37,10 @@ use Rattle.model.specs.Calls.{Config, Op, interrupt, slotted, other, aside, cal
 use Rattle.model.specs.Machine.{Buf, Call, start, begin, go, question, Ans, Way, idle, busy, Machine, over, misfit, stay, lentTo}
 use Rattle.model.specs.Machine.{beside, begun, continued, started}
 use Rattle.model_ops.specs.Rings.{St}
-use Rattle.model_ops.specs.Conc.{conc, getOn, putOn, isOf, lookOf, actOn, handOn}
-use Rattle.machine.specs.Under.{driverOf, drive}
+use Rattle.model_ops.specs.Concrete.{concrete, getOn, putOn, isOf, lookOf, actOn, handOn}
+use Rattle.machine.specs.Suspended.{driverOf, drive}
 use Rattle.machine.specs.Goes.{Called}
-use Rattle.proof_isolation.specs.But.{Channel}
+use Rattle.proof_isolation.specs.EqualExcept.{Channel}
 use Rattle.proof_isolation.specs.Apart.{ownable}
 use Rattle.proof_isolation.specs.Settled.{isControl}
 use Rattle.proof_isolation.specs.Buts.{lawful-put, lawful-act, lawful-hand}
@@ -77,8 +77,8 @@ module _ (c : Channel) where
   -- ---- scripts
 
   pub record Slides {A : Type 0} (p : Script true A) : Type 0 where
-    pub free : (s : St) → Free (run conc p s)
-    pub slid : (o : Light) (z : Seen) (s : St) → Other c o → Shows c o z s → Slid o z (run conc p s) (run conc p (done-by o s))
+    pub free : (s : St) → Free (run concrete p s)
+    pub slid : (o : Light) (z : Seen) (s : St) → Other c o → Shows c o z s → Slid o z (run concrete p s) (run concrete p (done-by o s))
 
   s-ret : {A : Type 0} {a : A} → Slides (ret a)
   s-ret = record { free = λ s. free-end; slid = λ o z s n p. slid-end p }
@@ -192,17 +192,17 @@ module _ (c : Channel) where
   abbrev loads : ℕ → Bool → Script true Unit
   loads e b = test b (hand (send e) >> (look (next-len In e) >>= λ n. write EpTLen e n)) (write EpTLen e 0)
 
-  load-lost : (e : ℕ) (s : St) → Lost (run conc (isoInLoad {i = true} e) s)
+  load-lost : (e : ℕ) (s : St) → Lost (run concrete (isoInLoad {i = true} e) s)
   load-lost e s = by (isOf (waiting In e) s)
     where
-      by : (b : Bool) → Lost (run conc (loads e b) s)
+      by : (b : Bool) → Lost (run concrete (loads e b) s)
       by true = lost refl
       by false = lost refl
 
-  load-free : (e : ℕ) (s : St) → Free (run conc (isoInLoad {i = true} e) s)
+  load-free : (e : ℕ) (s : St) → Free (run concrete (isoInLoad {i = true} e) s)
   load-free e s = by (isOf (waiting In e) s)
     where
-      by : (b : Bool) → Free (run conc (loads e b) s)
+      by : (b : Bool) → Free (run concrete (loads e b) s)
       by true = free-ask (λ v t. free-ask (λ v t. free-end) (λ o z v t n p. slid-end p)) (λ o z v t n p. slid-lost refl)
       by false = free-ask (λ v t. free-end) (λ o z v t n p. slid-end p)
 
@@ -212,7 +212,7 @@ module _ (c : Channel) where
   s-complete : (e : ℕ) → Slides (isoInComplete e)
   s-complete e = record {
     free = λ s. free-bind (load-free e (actOn (complete e) s)) (λ a t. s-wake In e .free t) (λ o z a t n p. s-wake In e .slid o z t n p);
-    slid = λ o z s n p. lost-slid (lost-bind (λ _ t. run conc (wake {i = true} In e) t) (load-lost e (actOn (complete e) s)));
+    slid = λ o z s n p. lost-slid (lost-bind (λ _ t. run concrete (wake {i = true} In e) t) (load-lost e (actOn (complete e) s)));
   }
 
   -- ---- the interrupt
@@ -220,7 +220,7 @@ module _ (c : Channel) where
   s-modify : (f : Globals → Globals) → Slides (modify f)
   s-modify f = s-bind (s-get globals-cell) (λ g. s-put globals-cell (f g) refl)
 
-  s-modify-ep : (dir : Dir) (e : ℕ) (f : Plain → Plain) → Slides (modifyEp dir e f)
+  s-modify-ep : (dir : Dir) (e : ℕ) (f : EpCore → EpCore) → Slides (modifyEp dir e f)
   s-modify-ep dir e f = s-bind (s-get (ep-cell dir e)) (λ p. s-put (ep-cell dir e) (f p) refl)
 
   s-modify-reg : (r : Reg) (e : ℕ) (f : ℕ → ℕ) → Slides (modifyReg r e f)
@@ -388,12 +388,12 @@ module _ (c : Channel) where
 
   begins-free : (o : Op) (m : Machine Answer Driver) → FreeWay (m .way) → (w : Way Answer Driver) (b : Buf) → FreeAfter (begun calls driverOf (λ s. s) o m w b)
   begins-free interrupt m f idle b = halt-free (s-call .free (m .st, b))
-  begins-free (slotted o) m f idle b = halt-late (run conc (code (slotted o)) (m .st, b))
-  begins-free (other o) m f idle b = halt-late (run conc (code (other o)) (m .st, b))
-  begins-free (aside o) m f idle b = halt-late (run conc (code (aside o)) (m .st, b))
+  begins-free (slotted o) m f idle b = halt-late (run concrete (code (slotted o)) (m .st, b))
+  begins-free (other o) m f idle b = halt-late (run concrete (code (other o)) (m .st, b))
+  begins-free (aside o) m f idle b = halt-late (run concrete (code (aside o)) (m .st, b))
   begins-free o m f (busy i q k) b = either-free (cond i (calls .aside o) false)
-      (beside calls driverOf (lentTo calls driverOf m b) (run conc (code o) (m .st, b)))
-      (stay calls driverOf 3 (lentTo calls driverOf m b)) (beside-free (lentTo calls driverOf m b) f (run conc (code o) (m .st, b))) f
+      (beside calls driverOf (lentTo calls driverOf m b) (run concrete (code o) (m .st, b)))
+      (stay calls driverOf 3 (lentTo calls driverOf m b)) (beside-free (lentTo calls driverOf m b) f (run concrete (code o) (m .st, b))) f
 
   goes-free : (v : ℕ) (m : Machine Answer Driver) → FreeWay (m .way) → (w : Way Answer Driver) → FreeWay w → (b : Buf)
       → FreeAfter (continued calls driverOf (λ s. s) v m w b)
@@ -404,7 +404,7 @@ module _ (c : Channel) where
       (stops false (k v (m .st, b))) f (halt-late (k v (m .st, b)))
 
   starts-free : (k : Config) (n : ℕ) (m : Machine Answer Driver) → FreeWay (m .way) → (b : Buf) → FreeAfter (started calls driverOf (λ s. s) k n m b)
-  starts-free k zero m f b = halt-late (run conc (calls .starts k) (driverOf .fresh k, b))
+  starts-free k zero m f b = halt-late (run concrete (calls .starts k) (driverOf .fresh k, b))
   starts-free k (suc n) m f b = f
 
   pub drive-free : (d : Call Config Op) (m : Machine Answer Driver) (b : Buf) → FreeWay (m .way) → FreeAfter (drive d m b)

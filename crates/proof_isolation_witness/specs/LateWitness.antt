@@ -15,9 +15,9 @@ use Rattle.model.specs.Statics.{flag}
 use Rattle.model.specs.Answers.{Answer}
 use Rattle.model.specs.Machine.{go, overruns, Way, idle, busy}
 use Rattle.proof_book_witness.specs.Computing.{computing}
-use Rattle.proof_isolation.specs.But.{Channel}
+use Rattle.proof_isolation.specs.EqualExcept.{Channel}
 use Rattle.proof_isolation.specs.Whose.{own}
-use Rattle.proof_isolation.specs.Turns.{Run, Two, wide, atOwn}
+use Rattle.proof_isolation.specs.Schedule.{Run, Two, wide, atOwn}
 use Rattle.proof_isolation.specs.Undisturbed.{Session}
 use Rattle.proof_isolation_late.specs.Late.{opens, closes, asks-of, callOf, Item, gets, goes-own, first-late, Serving, Other, AtOwn}
 use Rattle.proof_isolation_late.specs.Late.{MayLate}

@@ -26,16 +26,16 @@ use Rattle.model.specs.IsoOut.{arriving}
 use Rattle.model.specs.Answers.{Answer}
 use Rattle.model.specs.Calls.{interrupt, aside, Aside, Open, Close}
 use Rattle.model.specs.Machine.{Buf, begin, go, Way, idle, busy}
-use Rattle.proof_book.specs.Rest.{endOf}
+use Rattle.proof_book.specs.Coupling.{endOf}
 use Rattle.proof_book_witness.specs.Inputs.{left, right}
-use Rattle.proof_isolation.specs.But.{Channel}
+use Rattle.proof_isolation.specs.EqualExcept.{Channel}
 use Rattle.proof_isolation.specs.Whose.{own}
 use Rattle.proof_isolation.specs.Apart.{Brings}
 use Rattle.proof_isolation.specs.Asides.{Mine}
 use Rattle.proof_isolation.specs.Operations.{passes}
 use Rattle.proof_isolation.specs.Stores.{Stored, lent-back, own-lent-back}
-use Rattle.proof_isolation.specs.Turns.{Run, Two, Turn, begins, goes, stores, first, second, stateOf}
-use Rattle.proof_isolation.specs.Turns.{Timely, atOwn, wide, BringsAt, call-lent, go-on, own-lent, Alone, May}
+use Rattle.proof_isolation.specs.Schedule.{Run, Two, Turn, begins, goes, stores, first, second, stateOf}
+use Rattle.proof_isolation.specs.Schedule.{Timely, atOwn, wide, BringsAt, call-lent, go-on, own-lent, Alone, May}
 
 -- an interrupt begins in both, with its status word; a continue of both; a packet is stored in the slot of an OUT
 -- endpoint in each run, any; one packet in that of one OUT endpoint in both; a continue of one alone; the first opens

@@ -14,7 +14,7 @@ use Rattle.model.specs.Answers.{Answer, Refused}
 use Rattle.model.specs.Calls.{Config, Op, interrupt, aside, Open, Close, calls, startRow}
 use Rattle.model.specs.Machine.{Buf, Call, start, begin, go, question, pending, Event, ended}
 use Rattle.model.specs.Machine.{Way, idle, busy, Machine, misfit, lentTo}
-use Rattle.machine.specs.Under.{driverOf, drive}
+use Rattle.machine.specs.Suspended.{driverOf, drive}
 use Rattle.machine.specs.Goes.{Called}
 use Rattle.call_bus_time.specs.Sharing.{sortOf, timeAfter, turnedDown}
 use Rattle.proof_book.specs.Pages.{Pages}
@@ -22,9 +22,9 @@ use Rattle.proof_book.specs.Book.{book}
 use Rattle.proof_book.specs.FrontPage.{Chip, unless, LentAsLeft}
 use Rattle.proof_book.specs.MachineRuns.{Premise}
 use Rattle.proof_book.specs.Sorting.{sortsOf}
-use Rattle.proof_isolation.specs.But.{Channel}
-use Rattle.proof_isolation.specs.Turns.{Run, Two, Turn, Early, gets, accessOf, runBy, ownBy, statusOf}
-use Rattle.proof_isolation.specs.Turns.{called, alone, turn, given, heeded, after, May, Allowed}
+use Rattle.proof_isolation.specs.EqualExcept.{Channel}
+use Rattle.proof_isolation.specs.Schedule.{Run, Two, Turn, Early, gets, accessOf, runBy, ownBy, statusOf}
+use Rattle.proof_isolation.specs.Schedule.{called, alone, turn, given, heeded, after, May, Allowed}
 use Rattle.proof_isolation.specs.Start.{freshBook}
 use Rattle.proof_isolation.specs.Undisturbed.{Session, Opens}
 use Rattle.proof_isolation_witness.specs.Moves.{Move, serves, reads, stored, stored-both, first-goes, second-goes}

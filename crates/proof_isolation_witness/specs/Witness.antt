@@ -21,10 +21,10 @@ use Rattle.ring.specs.Waiting.{waiting}
 use Rattle.model.specs.Answers.{Answer, Refused, End, NotYet, Done, Shown}
 use Rattle.model.specs.Calls.{Config, Op, slotted, other, SetEnabled, Allocate, Start}
 use Rattle.model.specs.Machine.{Buf, Call, begin, go, Ans, ended, handed, told, idle}
-use Rattle.machine.specs.Under.{driverOf}
+use Rattle.machine.specs.Suspended.{driverOf}
 use Rattle.proof_book.specs.FrontPage.{lensOf}
 use Rattle.proof_book_witness.specs.Computing.{computing}
-use Rattle.proof_isolation.specs.Turns.{Run, Two, after}
+use Rattle.proof_isolation.specs.Schedule.{Run, Two, after}
 use Rattle.proof_isolation.specs.Undisturbed.{Session, opened, AllOpen, Undisturbed, undisturbed}
 use Rattle.proof_isolation_witness.specs.Moves.{Move, serves, reads, stored, stored-both, first-goes, second-goes}
 use Rattle.proof_isolation_witness.specs.Moves.{first-opens, first-closes}

@@ -12,7 +12,7 @@ use Rattle.model.specs.Answers.{Answer, Refused}
 use Rattle.model.specs.Calls.{Config, Op, slots}
 use Rattle.model.specs.Machine.{Buf, Call, start, begin, go, question, Machine, Ans, ended}
 use Rattle.machine.specs.declared.Step.the-variants as step
-use Rattle.machine.specs.Under.{decode, machineAt, machineOf, drive, answerOf, slotsFit, lentOr, AsLent, Kept}
+use Rattle.machine.specs.Suspended.{decode, machineAt, machineOf, drive, answerOf, slotsFit, lentOr, BufferUnchangedOnRow1, SavedUnchangedOnRefusal}
 use Rattle.machine.specs.Goes.{Called}
 use Rattle.proof_refusals.specs.Left.{Poll, none, pollOf, requestEnded, flagCleared, leftBy, left, buffersRow}
 use Rattle.proof_refusals.specs.Scripts.{unpolled}
@@ -44,7 +44,7 @@ module _ (c : Call Config Op) (n : ℕ) (xs ys : List ℕ) where
   view-left a b b′ e = ap (λ (z : Called). z .1 .st) e ∙ ap (λ (z : Machine Answer Driver). z .st) (refusal c (decode (saved xs)) (view xs) a b n (sym (ap (λ (z : Called). z .0) e)))
 
   -- every byte of the state
-  pub bytes-left : (a b b′ : Buf) → _≡_ {A = Called} (answerOf (step.Refused n) [] (view ys), machineOf ys b′) (drive c (machineOf xs a) b) → Kept (step.Refused n) xs ys
+  pub bytes-left : (a b b′ : Buf) → _≡_ {A = Called} (answerOf (step.Refused n) [] (view ys), machineOf ys b′) (drive c (machineOf xs a) b) → SavedUnchangedOnRefusal (step.Refused n) xs ys
       → Spares c n → Bytes xs → Bytes ys → ys ≡ xs
   bytes-left a b b′ e k s x y = determined xs ys x y (view-left a b b′ e ∙ spared c n (view xs) s) k
 
@@ -64,7 +64,7 @@ fitting-row (question q) d b h f = absurd (true≢false (sym h))
 -- every byte of the slots
 pub slots-left : (c : Call Config Op) (n : ℕ) (xs ys : List ℕ) (b after : Buf)
     → ((a : Buf) → _≡_ {A = Called} (answerOf (step.Refused n) [] (view ys), machineOf ys (lentOr (view xs) b after a)) (drive c (machineOf xs a) b))
-    → AsLent (view xs) b after → BringsSlots c ≡ true → after ≡ b
+    → BufferUnchangedOnRow1 (view xs) b after → BringsSlots c ≡ true → after ≡ b
 slots-left c n xs ys b after e l h = by-fit (slotsFit (view xs) b) refl
   where
     run-buffer : lentOr (view xs) b after [] ≡ cond (buffersRow c (view xs) b) [] b

@@ -15,16 +15,16 @@ use Rattle.model.specs.Calls.{Config, Op}
 use Rattle.model.specs.Machine.{Buf, Call, Machine, Ans, ended}
 use Rattle.endpoint_common.specs.Answers.{front}
 use Rattle.endpoint_common.specs.Front.{front-length}
-use Rattle.machine.specs.declared.Under.{Under}
+use Rattle.machine.specs.declared.Suspended.{Suspended}
 use Rattle.machine.specs.declared.Step.the-variants as step
-use Rattle.machine.specs.Under.{decode, machineAt, machineOf, drive, answerOf}
+use Rattle.machine.specs.Suspended.{decode, machineAt, machineOf, drive, answerOf}
 use Rattle.machine.specs.Counted.{listed-few}
 use Rattle.proof_refusals.specs.Left.{left, buffersRow}
 use Rattle.proof_refusals.specs.Outcomes.{Listed}
 use Rattle.proof_refusals.specs.Refusals.{Called, AnsIs, call-is}
 
 -- of every call, on a machine with any state
-pub end-lists : (c : Call Config Op) (u : Under) (d : Driver) (a b : Buf) (n : ℕ) (ws : List ℕ) → drive c (machineAt u d a) b .0 ≡ ended (End n ws)
+pub end-lists : (c : Call Config Op) (u : Suspended) (d : Driver) (a b : Buf) (n : ℕ) (ws : List ℕ) → drive c (machineAt u d a) b .0 ≡ ended (End n ws)
     → Listed ws (drive c (machineAt u d a) b .1 .st)
 end-lists c u d a b n ws q =
     subst (λ (x : Ans Answer). AnsIs (λ n. machineAt u (left c n d) (cond (buffersRow c d b) a b)) x (drive c (machineAt u d a) b .1)) q (call-is c u d a b)

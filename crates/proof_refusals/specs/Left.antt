@@ -12,7 +12,7 @@ use Rattle.model.specs.Control.{no-control}
 use Rattle.model.specs.Calls.{Config, Op, interrupt, slotted, other, aside, slots, Slotted, SetEnabled, PollRead, BeginWrite, PollWrite, PollDataOut, BeginDataIn, Other, Allocate, AllocateAll, Start, BusPoll, BusEnable, BusDisable, Microframe, SetStalled, IsStalled, SetPaced, Advance, BeginRead, BeginSetup, PollSetup, PollDataIn, BeginAccept, PollAccept, BeginReject, BeginDataOut, BeginAcceptSetAddress}
 use Rattle.model.specs.Machine.{Buf, Call, start, begin, go, question}
 use Rattle.model_ops.specs.Records.{plainOf, merged}
-use Rattle.machine.specs.Under.{slotsFit}
+use Rattle.machine.specs.Suspended.{slotsFit}
 
 -- the polls that 9 or 10 may refuse: of a read or a write, of the control pipe's stages; a poll of setup is refused by neither
 pub data Poll : Type 0 where

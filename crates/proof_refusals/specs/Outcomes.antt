@@ -10,7 +10,7 @@ use Rattle.model.specs.Tree.{Out, ends, asks, bindOut}
 use Rattle.model.specs.Script.{Script, ret, bind, test, run, no-wakes, gathered}
 use Rattle.model.specs.Answers.{Answer, Refused, End, NotYet, Done, Shown, operation}
 use Rattle.model_ops.specs.Rings.{St}
-use Rattle.model_ops.specs.Conc.{conc}
+use Rattle.model_ops.specs.Concrete.{concrete}
 use Rattle.proof_refusals.specs.Left.{Poll, leftBy}
 
 -- the wake-ups of an end are those that the state has, or none where the call is over at once
@@ -30,7 +30,7 @@ OutLeaves x s (asks q t k) = Unit {0}
 
 -- the script's run from t, where it ends at once with refusal n, leaves of the state s what `leftBy` says, and the buffer of s
 pub record Leaves (x : Poll) (s t : St) {i : Bool} (p : Script i Answer) : Type 0 where
-  pub leaves : OutLeaves x s (run conc p t)
+  pub leaves : OutLeaves x s (run concrete p t)
 
 module _ {x : Poll} {s t : St} {i : Bool} where
   pub refuses : {n : ℕ} → t ≡ (leftBy x n (s .0), s .1) → Leaves x s t {i = i} (ret (Refused n))
@@ -51,8 +51,8 @@ module _ {x : Poll} {s t : St} {i : Bool} where
   each h g = tests (λ _. h) (λ _. g)
 
   -- steps without an access
-  pub after : {A : Type 0} {p : Script i A} {k : A → Script i Answer} {a : A} {u : St} → run conc p t ≡ ends a u → Leaves x s u (k a) → Leaves x s t (bind p k)
-  after {k = k} q h = record { leaves = subst (λ o. OutLeaves x s (bindOut o (λ a u. run conc (k a) u))) (sym q) (h .leaves) }
+  pub after : {A : Type 0} {p : Script i A} {k : A → Script i Answer} {a : A} {u : St} → run concrete p t ≡ ends a u → Leaves x s u (k a) → Leaves x s t (bind p k)
+  after {k = k} q h = record { leaves = subst (λ o. OutLeaves x s (bindOut o (λ a u. run concrete (k a) u))) (sym q) (h .leaves) }
 
   pub picks : (b : Bool) {y z : Answer} → Leaves x s t {i = i} (ret y) → Leaves x s t {i = i} (ret z) → Leaves x s t {i = i} (ret (cond b y z))
   picks true h g = h
@@ -60,16 +60,16 @@ module _ {x : Poll} {s t : St} {i : Bool} where
 
   -- steps, whatever they do, after which no way refuses
   pub whatever : {A : Type 0} {p : Script i A} {k : A → Script i Answer} → ((a : A) (u : St) → Leaves x s u (k a)) → Leaves x s t (bind p k)
-  whatever {A} {p} {k} h = record { leaves = gone (run conc p t) }
+  whatever {A} {p} {k} h = record { leaves = gone (run concrete p t) }
     where
-      gone : (o : Out St A) → OutLeaves x s (bindOut o (λ a u. run conc (k a) u))
+      gone : (o : Out St A) → OutLeaves x s (bindOut o (λ a u. run concrete (k a) u))
       gone (ends a u) = h a u .leaves
       gone (asks q u l) = tt
 
   -- an operation that has begun ends with no refusal
   pub begins : {p : Script i ℕ} → Leaves x s t (operation p)
-  begins {p} = record { leaves = ended (run conc p (conc .act no-wakes t)) }
+  begins {p} = record { leaves = ended (run concrete p (concrete .act no-wakes t)) }
     where
-      ended : (o : Out St ℕ) → OutLeaves x s (bindOut o (λ n u. ends (End n (conc .fetch gathered u)) u))
+      ended : (o : Out St ℕ) → OutLeaves x s (bindOut o (λ n u. ends (End n (concrete .fetch gathered u)) u))
       ended (ends n u) = inr refl
       ended (asks q u k) = tt

@@ -7,8 +7,8 @@ use Rattle.state.specs.Driver.{Driver}
 use Rattle.model.specs.Answers.{Answer, Refused, End, NotYet, Done, Shown}
 use Rattle.model.specs.Calls.{Config, Op, calls}
 use Rattle.model.specs.Machine.{Buf, Call, start, begin, go, question, Way, Machine, Ans, ended, handed, told, begun, stay, lentTo}
-use Rattle.machine.specs.declared.Under.{Under}
-use Rattle.machine.specs.Under.{wayOf, machineAt, driverOf, drive, slotsFit}
+use Rattle.machine.specs.declared.Suspended.{Suspended}
+use Rattle.machine.specs.Suspended.{wayOf, machineAt, driverOf, drive, slotsFit}
 use Rattle.call_bus_time.specs.Sharing.{Sort, enabling, starting, going, apart, opSort, sortOf, turnedDown, timeAfter, settled, sharedCall}
 use Rattle.proof_refusals.specs.Left.{left, buffersRow}
 use Rattle.proof_refusals.specs.Refusals.{Called, machineIn, AnsIs, Is, call-is}
@@ -56,7 +56,7 @@ fits-first : (i : ℕ) (o : Op) (w : Way Answer Driver) (d : Driver) (a b : Buf)
 fits-first i o w d a b t true h = absurd (true≢false (sym h ∙ not-down i (opSort o) (Refused 1) d t))
 fits-first i o w d a b t false h = refl
 
-turned : (i : ℕ) (c : Call Config Op) (u : Under) (d : Driver) (a b : Buf) (t : List ℕ)
+turned : (i : ℕ) (c : Call Config Op) (u : Suspended) (d : Driver) (a b : Buf) (t : List ℕ)
     → turnedDown i (sortOf c) (drive c (machineAt u d a) b .0) d t ≡ true → machineAt u d b ≡ machineAt u (left c 19 d) (cond (buffersRow c d b) a b)
 unfolding slotsFit
 turned i (start c) u d a b t h = absurd (true≢false (sym h))
@@ -64,7 +64,7 @@ turned i (begin o) u d a b t h = ap (λ (x : Bool). machineAt u d (cond x a b)) 
 turned i (go v) u d a b t h = absurd (true≢false (sym h))
 turned i (question q) u d a b t h = absurd (true≢false (sym h))
 
-pub shared-refusal : (i : ℕ) (c : Call Config Op) (u : Under) (d : Driver) (a b : Buf) (t : List ℕ) (n : ℕ) → sharedCall i c (machineAt u d a) t b .0 .0 ≡ ended (Refused n)
+pub shared-refusal : (i : ℕ) (c : Call Config Op) (u : Suspended) (d : Driver) (a b : Buf) (t : List ℕ) (n : ℕ) → sharedCall i c (machineAt u d a) t b .0 .0 ≡ ended (Refused n)
     → (sharedCall i c (machineAt u d a) t b .0 .1 ≡ machineAt u (left c n d) (cond (buffersRow c d b) a b)) × (sharedCall i c (machineAt u d a) t b .1 ≡ t)
 unfolding settled
 shared-refusal i c u d a b t n q =

@@ -19,7 +19,7 @@ use Rattle.regs.specs.ControlWord as word
 use Rattle.regs.specs.ControlWord.{toggle, wordOf}
 use Rattle.model.specs.Tree as tree
 use Rattle.model.specs.Tree.{ends}
-use Rattle.model.specs.Cells.{Plain, ep-cell}
+use Rattle.model.specs.Cells.{EpCore, ep-cell}
 use Rattle.model.specs.Script.{Ops, run, rows, switch, bus-reset}
 use Rattle.model.specs.Statics.{isOn, wakeAll}
 use Rattle.model.specs.Bus.{restarted, restartedOut, restartedIn, setStalled, setEnabled, setEnabledOut, setEnabledIn, nakAll, busReset}
@@ -58,7 +58,7 @@ either : (t : Bool) (b v : ℕ) → toggle v ≡ number initial → IsData0 b �
 either true b v h k = h
 either false b v h k = k
 
-restarted-data0 : (r e : ℕ) (s : Plain) → toggle (restarted r e s) ≡ number initial
+restarted-data0 : (r e : ℕ) (s : EpCore) → toggle (restarted r e s) ≡ number initial
 unfolding restarted
 restarted-data0 r e s = word-data0 _ _
 

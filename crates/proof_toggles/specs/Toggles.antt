@@ -16,7 +16,7 @@ use Rattle.state.specs.declared.EpState.{EpState}
 use Rattle.state.specs.Driver.{Driver, key, noEp, epOn, withOn, withPacedOn}
 use Rattle.state.specs.Laws.{Sized, key-lt}
 use Rattle.ring.specs.Out.{armedAt}
-use Rattle.model.specs.Cells.{Plain, ep-cell}
+use Rattle.model.specs.Cells.{EpCore, ep-cell}
 use Rattle.model.specs.Script.{run}
 use Rattle.model.specs.Statics.{isOn, isoOuts, withArmed, withTog}
 use Rattle.model.specs.Handler.{toggled}
@@ -29,7 +29,7 @@ use Rattle.model.specs.RestartLaws as restart
 use Rattle.model.specs.RestartLaws.{Lawful, togOf, Restarts}
 use Rattle.model_ops.specs.Records.{plainOf, merged, isoOut, configured, enabledOn}
 use Rattle.model_ops.specs.Rings.{St, emptied, emptiedOn, placeOn}
-use Rattle.model_ops.specs.Conc.{conc}
+use Rattle.model_ops.specs.Concrete.{concrete}
 
 -- a driver that has its 32 records, as every view of lent bytes has (`view-sized`)
 abbrev pub Whole : St → Type 0
@@ -41,13 +41,13 @@ same-ep d dir e r h = getD-set-same (d .eps) (key dir e) r noEp (omega (arith, h
 
 -- ---- `toggled`
 
-pub assigns : (dir : Dir) (e : ℕ) → Assigns Whole conc dir e
+pub assigns : (dir : Dir) (e : ℕ) → Assigns Whole concrete dir e
 assigns dir e n s h = ap plainOf (same-ep (s .0) dir e (merged (epOn (s .0) dir e) (withArmed 0 (withTog n (plainOf (epOn (s .0) dir e))))) h)
 
 -- of the driver: whether a new packet passed is answered, the bit recorded, a repeat acknowledged again
 pub driver-toggled : (i : Bool) (dir : Dir) (e : ℕ) (b : Pid) (ts : List (Transaction dir)) → passed b ts ≤ 1 → (s : St) → epOn (s .0) dir e .tog ≡ number b
-    → Every (toggling dir e (bitAfterAll b ts)) (KeepsRecord Whole conc dir e) (λ _. Unit {0}) (Toggled conc dir e (plainOf (epOn (s .0) dir e)) (bitAfterAll b ts) (eqb (passed b ts) 1)) [] (run conc (toggled {i = i} dir e) s)
-driver-toggled i dir e b ts h s is = toggled-meets i Whole conc dir e (assigns dir e) b ts h s is
+    → Every (toggling dir e (bitAfterAll b ts)) (KeepsRecord Whole concrete dir e) (λ _. Unit {0}) (Toggled concrete dir e (plainOf (epOn (s .0) dir e)) (bitAfterAll b ts) (eqb (passed b ts) 1)) [] (run concrete (toggled {i = i} dir e) s)
+driver-toggled i dir e b ts h s is = toggled-meets i Whole concrete dir e (assigns dir e) b ts h s is
 
 -- ---- DATA0 in the record
 
@@ -84,7 +84,7 @@ place-tog d Out e = by (isSet (isoOuts (d .globals)) (e % 16))
     by true = refl
     by false = tog-kept d Out e (armedAt (epOn d Out e) (epOn d Out e .base)) refl
 
-pub lawful : (dir : Dir) (e : ℕ) → Lawful Whole conc dir e
+pub lawful : (dir : Dir) (e : ℕ) → Lawful Whole concrete dir e
 unfolding epOn withPacedOn
 lawful dir e = record {
   assigned = λ v s h. ap (λ (r : EpState). r .tog) (same-ep (s .0) dir e (merged (epOn (s .0) dir e) v) h);
@@ -96,11 +96,11 @@ lawful dir e = record {
   placing = λ s. place-tog (s .0) dir e;
 }
 
-pub driver-cleared : (i : Bool) (dir : Dir) (e : ℕ) (s : St) → Sized (s .0) → Restarts Whole conc dir e (run conc (setStalled {i = i} dir e false) s)
-driver-cleared i dir e s z = restart.cleared-recorded Whole conc i dir e (lawful dir e) s (z .eps)
+pub driver-cleared : (i : Bool) (dir : Dir) (e : ℕ) (s : St) → Sized (s .0) → Restarts Whole concrete dir e (run concrete (setStalled {i = i} dir e false) s)
+driver-cleared i dir e s z = restart.cleared-recorded Whole concrete i dir e (lawful dir e) s (z .eps)
 
-pub driver-enabled-out : (i : Bool) (e : ℕ) (on : Bool) (s : St) → Sized (s .0) → Restarts Whole conc Out e (run conc (setEnabledOut {i = i} e on) s)
-driver-enabled-out i e on s z = restart.enabled-out-recorded Whole conc i e on (lawful Out e) s (z .eps)
+pub driver-enabled-out : (i : Bool) (e : ℕ) (on : Bool) (s : St) → Sized (s .0) → Restarts Whole concrete Out e (run concrete (setEnabledOut {i = i} e on) s)
+driver-enabled-out i e on s z = restart.enabled-out-recorded Whole concrete i e on (lawful Out e) s (z .eps)
 
-pub driver-enabled-in : (i : Bool) (e : ℕ) (iso on : Bool) (s : St) → Sized (s .0) → Restarts Whole conc In e (run conc (setEnabledIn {i = i} e iso on) s)
-driver-enabled-in i e iso on s z = restart.enabled-in-recorded Whole conc i e iso on (lawful In e) s (z .eps)
+pub driver-enabled-in : (i : Bool) (e : ℕ) (iso on : Bool) (s : St) → Sized (s .0) → Restarts Whole concrete In e (run concrete (setEnabledIn {i = i} e iso on) s)
+driver-enabled-in i e iso on s z = restart.enabled-in-recorded Whole concrete i e iso on (lawful In e) s (z .eps)

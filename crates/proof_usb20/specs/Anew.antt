@@ -24,7 +24,7 @@ use Rattle.model.specs.Script.{allocate}
 use Rattle.model.specs.TogglesLaws.{number}
 use Rattle.model.specs.Usb20Toggles.{initial}
 use Rattle.model_ops.specs.Records.{withIsoSets, isoAdded, withSets, recordGiven, setsGiven, givenTo, allocatedOn}
-use Rattle.model_ops.specs.Conc.{conc}
+use Rattle.model_ops.specs.Concrete.{concrete}
 use Rattle.proof_usb20.specs.Sequence.{Track}
 use Rattle.proof_usb20.specs.Follow.{FitsAs, Fits, view}
 use Rattle.proof_usb20.specs.Calm.{Whole}
@@ -152,7 +152,7 @@ module _ (D : Dir) (E : ℕ) where
 
   pub alloc-fits : (w : Track) (s : St) (d : Dir) (kind address maximum interval : ℕ) → Whole s
       → Fits w (view D E (s .0)) → eqb (s .0 .globals .stage) 2 ≡ false
-      → let t = conc .act (allocate d kind address maximum interval) s in Fits w (view D E (t .0)) × Whole t × (t .0 .globals .stage ≡ s .0 .globals .stage)
+      → let t = concrete .act (allocate d kind address maximum interval) s in Fits w (view D E (t .0)) × Whole t × (t .0 .globals .stage ≡ s .0 .globals .stage)
   unfolding allocatedOn givenTo setsGiven epOn
   alloc-fits w s d kind address maximum interval l r two =
       let z = allocateOf (s .0 .allocator) kind address maximum d in

@@ -24,16 +24,16 @@ use Rattle.state.specs.WakesLaws.{Room, woken-keeps, woken-full, woken-count, w
 use Rattle.proof_wake_ups.specs.Still.{put-still, act-still, hand-still}
 use Rattle.state.specs.Driver.{Driver, key, noEp, epOn, withOn, withRequestOn, withPacedOn}
 use Rattle.model.specs.Tree as tree
-use Rattle.model.specs.Cells.{Plain, Cell, Val, ep-cell, globals-cell, control-cell, request-cell, paced-cell}
-use Rattle.model.specs.Script.{Script, ret, bind, test, read-then, write-then, wait-then, callback-then, get-then, put-then, is-then, look-then, fetch-then, act-then, hand-then, run, Test, Look, Fetch, Act, complete, reset-ring, set-enabled, fill, fill0, open-oldest, close-oldest, take-oldest, enqueue, allocate, allocate0, waken, Hand, handAsk, arrive, send, place, place0}
-use Rattle.model.specs.Sorts.{allocates}
+use Rattle.model.specs.Cells.{EpCore, Cell, Val, ep-cell, globals-cell, control-cell, request-cell, paced-cell}
+use Rattle.model.specs.Script.{Script, ret, bind, test, read-then, write-then, wait-then, callback-then, get-then, put-then, is-then, look-then, fetch-then, act-then, hand-then, run, Test, Look, Fetch, Act, complete, reset-ring, set-enabled, fill, fill0, open-oldest, close-oldest, take-oldest, enqueue, allocate, allocate0, waken, DmaStep, dmaStepAsk, arrive, send, place, place0}
+use Rattle.model.specs.TransferKinds.{allocates}
 use Rattle.model.specs.SortsWalks.{among-ins, among-outs}
 use Rattle.model.specs.Every.{sameReg}
 use Rattle.model.specs.Statics.{isOn, withLastFrame}
 use Rattle.model_ops.specs.Records.{merged}
 use Rattle.model_ops.specs.Rings.{St}
-use Rattle.model_ops.specs.Conc.{conc}
-use Rattle.proof_book.specs.Sorts.{Steady, Has, put-steady, act-steady, hand-steady}
+use Rattle.model_ops.specs.Concrete.{concrete}
+use Rattle.proof_book.specs.TransferKinds.{Steady, Has, put-steady, act-steady, hand-steady}
 use Rattle.proof_book.specs.Sorting.{sortsOf}
 use Rattle.proof_usb20.specs.Walks.{Each, each-set}
 use Rattle.proof_usb20.specs.Sequence.{off, Track, howOften, reads, writes, saw}
@@ -137,7 +137,7 @@ module _ (D : Dir) (E : ℕ) where
 
   pub record Quiet (m : Bool) (P : Track → Type 0) {i : Bool} {A : Type 0} (p : Script i A) : Type 0 where
     pub goes : (w : Track) (s : St) → P w × Hush w → Kept m s
-        → Follow D E {A = A} (λ x _ t. Stays m w s x t) w (run conc p s)
+        → Follow D E {A = A} (λ x _ t. Stays m w s x t) w (run concrete p s)
 
   pub only : {m : Bool} {P Q : Track → Type 0} {i : Bool} {A : Type 0} {p : Script i A} → ((w : Track) → P w → Q w)
       → Quiet m Q p → Quiet m P p
@@ -158,7 +158,7 @@ module _ (D : Dir) (E : ℕ) where
       → Follow D E {A = A} (λ x _ u. Stays m w s x u) w o
   onward w s t e h x = follow.follow-more D E x (λ _ _ _ n. (n .0, n .1 ∙ e, n .2, hears-then h (n .3)))
 
-  hand-silent : (q : Hand) (x : ℕ) (w : Track) (v : ℕ) → saw D E w (handAsk q x) v ≡ w
+  hand-silent : (q : DmaStep) (x : ℕ) (w : Track) (v : ℕ) → saw D E w (dmaStepAsk q x) v ≡ w
   hand-silent (arrive e n) x w v = refl
   hand-silent (send e) x w v = refl
   hand-silent (place Out e) x w v = refl
@@ -233,7 +233,7 @@ module _ (D : Dir) (E : ℕ) where
   Silent m (allocate0 maximum) = Unit {0}
 
   pub act-kept : {m : Bool} (q : Act) → allocates q ≡ false → Silent m q → (s : St) → Kept m s
-      → Kept m (conc .act q s) × Hears m s (conc .act q s)
+      → Kept m (concrete .act q s) × Hears m s (concrete .act q s)
   unfolding epOn
   act-kept no-wakes h o s k = (record { whole = act-steady no-wakes refl s .places ∙ k .whole; sorts = λ q. differ (sym o ∙ q); plain = λ q. differ (sym o ∙ q); room = λ q. differ (sym o ∙ q) }, record { same = λ q. differ (sym o ∙ q); grows = λ q. differ (sym o ∙ q) })
   act-kept (waken codes) h o s k =
@@ -258,10 +258,10 @@ module _ (D : Dir) (E : ℕ) where
   act-kept (allocate d kind address maximum interval) h o s k = differ (sym h)
   act-kept (allocate0 maximum) h o s k = differ (sym h)
 
-  pub put-kept : {m : Bool} (c : Cell) (v : Val c) (s : St) → Kept m s → Kept m (conc .put c v s)
+  pub put-kept : {m : Bool} (c : Cell) (v : Val c) (s : St) → Kept m s → Kept m (concrete .put c v s)
   put-kept c v s k = kept-steady (put-steady c v s) (put-still c v s) k
 
-  pub put-hears : {m : Bool} (c : Cell) (v : Val c) (s : St) → Hears m s (conc .put c v s)
+  pub put-hears : {m : Bool} (c : Cell) (v : Val c) (s : St) → Hears m s (concrete .put c v s)
   put-hears c v s = hears-same (put-still c v s)
 
   iso-apart : (s : St) (d : Dir) (e : ℕ) → isOn (epOn (s .0) D E .iso) ≡ false → isOn (epOn (s .0) d e .iso) ≡ true
@@ -275,7 +275,7 @@ module _ (D : Dir) (E : ℕ) where
 
     pub q-bind : {i : Bool} {A B : Type 0} {p : Script i A} {f : A → Script i B} → Quiet m P p
         → ((a : A) → Quiet m P (f a)) → Quiet m P (bind p f)
-    q-bind {f = f} x y = record { goes = λ w s z k. follow.follow-bind D E (x .goes w s z k) (λ v a t l. subst (λ (u : Track). Follow D E (λ x _ t. Stays m w s x t) u (run conc (f a) t)) (sym (l .0)) (follow.follow-more D E (y a .goes w t z (l .2)) (λ _ _ _ n. (n .0, n .1 ∙ l .1, n .2, hears-then (l .3) (n .3))))) }
+    q-bind {f = f} x y = record { goes = λ w s z k. follow.follow-bind D E (x .goes w s z k) (λ v a t l. subst (λ (u : Track). Follow D E (λ x _ t. Stays m w s x t) u (run concrete (f a) t)) (sym (l .0)) (follow.follow-more D E (y a .goes w t z (l .2)) (λ _ _ _ n. (n .0, n .1 ∙ l .1, n .2, hears-then (l .3) (n .3))))) }
 
     pub q-test : {i : Bool} {A : Type 0} {b : Bool} {p q : Script i A} → Quiet m P p → Quiet m P q
         → Quiet m P (test b p q)
@@ -302,7 +302,7 @@ module _ (D : Dir) (E : ℕ) where
 
     pub q-get : {i : Bool} {A : Type 0} {c : Cell} {f : Val c → Script i A} → ((v : Val c) → Quiet m P (f v))
         → Quiet m P (get-then c f)
-    q-get {c = c} x = record { goes = λ w s z k. x (conc .get c s) .goes w s z k }
+    q-get {c = c} x = record { goes = λ w s z k. x (concrete .get c s) .goes w s z k }
 
     -- the isochronous endpoints that an interrupt walks: others
     pub q-ins : {i : Bool} {A : Type 0} {f : Globals → Script i A}
@@ -317,33 +317,33 @@ module _ (D : Dir) (E : ℕ) where
 
     pub q-is : {i : Bool} {A : Type 0} {q : Test} {f : Bool → Script i A} → ((b : Bool) → Quiet m P (f b))
         → Quiet m P (is-then q f)
-    q-is {q = q} x = record { goes = λ w s z k. x (conc .is q s) .goes w s z k }
+    q-is {q = q} x = record { goes = λ w s z k. x (concrete .is q s) .goes w s z k }
 
     pub q-look : {i : Bool} {A : Type 0} {q : Look} {f : ℕ → Script i A} → ((n : ℕ) → Quiet m P (f n))
         → Quiet m P (look-then q f)
-    q-look {q = q} x = record { goes = λ w s z k. x (conc .look q s) .goes w s z k }
+    q-look {q = q} x = record { goes = λ w s z k. x (concrete .look q s) .goes w s z k }
 
     pub q-fetch : {i : Bool} {A : Type 0} {q : Fetch} {f : List ℕ → Script i A} → ((l : List ℕ) → Quiet m P (f l))
         → Quiet m P (fetch-then q f)
-    q-fetch {q = q} x = record { goes = λ w s z k. x (conc .fetch q s) .goes w s z k }
+    q-fetch {q = q} x = record { goes = λ w s z k. x (concrete .fetch q s) .goes w s z k }
 
     pub q-act-as : {i : Bool} {A : Type 0} {q : Act} {p : Script i A} → allocates q ≡ false → Silent m q → Quiet m P p
         → Quiet m P (act-then q p)
-    q-act-as {q = q} h o x = record { goes = λ w s z k. let n = act-kept q h o s k in onward w s (conc .act q s) (act-view D E q h s) (n .1) (x .goes w (conc .act q s) z (n .0)) }
+    q-act-as {q = q} h o x = record { goes = λ w s z k. let n = act-kept q h o s k in onward w s (concrete .act q s) (act-view D E q h s) (n .1) (x .goes w (concrete .act q s) z (n .0)) }
 
-    pub q-hand : {i : Bool} {A : Type 0} {q : Hand} {p : Script i A} → Quiet m P p → Quiet m P (hand-then q p)
-    q-hand {q = q} x = record { goes = λ w s z k. onward w s (conc .hand q s .1) (hand-view D E q s) (hears-same (hand-still q s)) (asked w (kept-steady (hand-steady q s) (hand-still q s) k) (hand-silent q (conc .hand q s .0) w) (λ _ t l. x .goes w t z l)) }
+    pub q-hand : {i : Bool} {A : Type 0} {q : DmaStep} {p : Script i A} → Quiet m P p → Quiet m P (hand-then q p)
+    q-hand {q = q} x = record { goes = λ w s z k. onward w s (concrete .hand q s .1) (hand-view D E q s) (hears-same (hand-still q s)) (asked w (kept-steady (hand-steady q s) (hand-still q s) k) (hand-silent q (concrete .hand q s .0) w) (λ _ t l. x .goes w t z l)) }
 
     -- an assignment that shows the same
     pub q-put : {i : Bool} {A : Type 0} {c : Cell} {v : Val c} {p : Script i A}
-        → ((s : St) → view D E (conc .put c v s .0) ≡ view D E (s .0)) → Quiet m P p → Quiet m P (put-then c v p)
-    q-put {c = c} {v = v} e x = record { goes = λ w s z k. onward w s (conc .put c v s) (e s) (put-hears c v s) (x .goes w (conc .put c v s) z (put-kept c v s k)) }
+        → ((s : St) → view D E (concrete .put c v s .0) ≡ view D E (s .0)) → Quiet m P p → Quiet m P (put-then c v p)
+    q-put {c = c} {v = v} e x = record { goes = λ w s z k. onward w s (concrete .put c v s) (e s) (put-hears c v s) (x .goes w (concrete .put c v s) z (put-kept c v s k)) }
 
     -- a record that is read and changed
     pub q-modify : {i : Bool} (c : Cell) (f : Val c → Val c)
-        → ((s : St) → view D E (conc .put c (f (conc .get c s)) s .0) ≡ view D E (s .0))
+        → ((s : St) → view D E (concrete .put c (f (concrete .get c s)) s .0) ≡ view D E (s .0))
         → Quiet m P (bind {i = i} (get-then c ret) (λ p. put-then c (f p) (ret (tt {0}))))
-    q-modify c f e = record { goes = λ w s z k. at-end (refl, e s, put-kept c (f (conc .get c s)) s k, put-hears c (f (conc .get c s)) s) }
+    q-modify c f e = record { goes = λ w s z k. at-end (refl, e s, put-kept c (f (concrete .get c s)) s k, put-hears c (f (concrete .get c s)) s) }
 
   -- of a call that is no interrupt
   module _ {P : Track → Type 0} where
@@ -373,29 +373,29 @@ module _ (D : Dir) (E : ℕ) where
   unfolding withOn
   with-other x d e r o = ap (λ q. seenOf q (x .globals .stage)) (ep-other x d e r D E o)
 
-  pub put-other : (d : Dir) (e : ℕ) → Else d e → (v : Plain) (s : St)
-      → view D E (conc .put (ep-cell d e) v s .0) ≡ view D E (s .0)
+  pub put-other : (d : Dir) (e : ℕ) → Else d e → (v : EpCore) (s : St)
+      → view D E (concrete .put (ep-cell d e) v s .0) ≡ view D E (s .0)
   put-other d e o v s = with-other (s .0) d e (merged (epOn (s .0) d e) v) o
 
   -- `last_frame` of any
   pub put-frame : (d : Dir) (e frame : ℕ) (s : St)
-      → view D E (conc .put (ep-cell d e) (withLastFrame frame (conc .get (ep-cell d e) s)) s .0) ≡ view D E (s .0)
-  put-frame d e frame s = same-view D E (record-same (s .0) d e (merged (epOn (s .0) d e) (withLastFrame frame (conc .get (ep-cell d e) s))) refl)
+      → view D E (concrete .put (ep-cell d e) (withLastFrame frame (concrete .get (ep-cell d e) s)) s .0) ≡ view D E (s .0)
+  put-frame d e frame s = same-view D E (record-same (s .0) d e (merged (epOn (s .0) d e) (withLastFrame frame (concrete .get (ep-cell d e) s))) refl)
 
-  pub put-globals : (g : Globals) (s : St) → view D E (conc .put globals-cell g s .0) ≡ view D E (s .0)
+  pub put-globals : (g : Globals) (s : St) → view D E (concrete .put globals-cell g s .0) ≡ view D E (s .0)
   unfolding epOn
   put-globals g s = refl
 
-  pub put-control : (c : Control) (s : St) → view D E (conc .put control-cell c s .0) ≡ view D E (s .0)
+  pub put-control : (c : Control) (s : St) → view D E (concrete .put control-cell c s .0) ≡ view D E (s .0)
   unfolding epOn
   put-control c s = refl
 
   pub put-request : (d : Dir) (e : ℕ) (v : Request) (s : St)
-      → view D E (conc .put (request-cell d e) v s .0) ≡ view D E (s .0)
+      → view D E (concrete .put (request-cell d e) v s .0) ≡ view D E (s .0)
   unfolding withRequestOn epOn
   put-request d e v s = refl
 
-  pub put-paced : (e v : ℕ) (s : St) → view D E (conc .put (paced-cell e) v s .0) ≡ view D E (s .0)
+  pub put-paced : (e v : ℕ) (s : St) → view D E (concrete .put (paced-cell e) v s .0) ≡ view D E (s .0)
   unfolding withPacedOn epOn
   put-paced e v s = refl
 
@@ -435,11 +435,11 @@ module _ (D : Dir) (E : ℕ) where
     pub q-when : {i : Bool} {b : Bool} {p : Script i Unit} → Quiet m P p → Quiet m P (when b p)
     q-when x = q-test x q-ret
 
-    pub q-ep : {i : Bool} (d : Dir) (e : ℕ) (f : Plain → Plain) → Else d e → Quiet m P (modifyEp {i = i} d e f)
-    q-ep d e f o = q-modify (ep-cell d e) f (λ s. put-other d e o (f (conc .get (ep-cell d e) s)) s)
+    pub q-ep : {i : Bool} (d : Dir) (e : ℕ) (f : EpCore → EpCore) → Else d e → Quiet m P (modifyEp {i = i} d e f)
+    q-ep d e f o = q-modify (ep-cell d e) f (λ s. put-other d e o (f (concrete .get (ep-cell d e) s)) s)
 
     pub q-globals : {i : Bool} (f : Globals → Globals) → Quiet m P (modify {i = i} f)
-    q-globals f = q-modify globals-cell f (λ s. put-globals (f (conc .get globals-cell s)) s)
+    q-globals f = q-modify globals-cell f (λ s. put-globals (f (concrete .get globals-cell s)) s)
 
     pub q-staged : {i : Bool} (n : ℕ) {p : Script i Answer} → Quiet m P p → Quiet m P (staged n p)
     q-staged n x = q-bind (q-got globals-cell) (λ g. q-test x q-ret)

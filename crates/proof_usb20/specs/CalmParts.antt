@@ -10,7 +10,7 @@ use Rattle.regs.specs.declared.Dir.the-variants.{Out, In}
 use Rattle.regs.specs.Registers.{ctrlOf}
 use Rattle.model.specs.Cells.{ep-cell, globals-cell}
 use Rattle.model.specs.Statics.{withLastFrame, withArmed}
-use Rattle.model_ops.specs.Conc.{conc}
+use Rattle.model_ops.specs.Concrete.{concrete}
 use Rattle.proof_usb20.specs.Walks.{Each}
 use Rattle.proof_usb20.specs.Watch.{at-end}
 use Rattle.bits.specs.Walk.{setBits}
@@ -36,7 +36,7 @@ module _ (D : Dir) (E : ℕ) where
   q-complete e o = (q-bind D E) ((q-act-as D E) refl tt (q-ret D E)) (λ _. (q-bind D E) ((q-bind D E) ((q-is D E) (λ _. (q-ret D E))) (λ b. (q-test D E) ((q-bind D E) ((q-hand D E) (q-ret D E)) (λ _. (q-bind D E) ((q-look D E) (λ _. (q-ret D E))) (λ _. (q-write D E) (q-ret D E)))) ((q-write D E) (q-ret D E)))) (λ _. (q-wakes D E) In e o))
 
   q-first : {m : Bool} {i : Bool} (e frame : ℕ) → Quiet D E m (Idle D E) (firstInFrame {i = i} e frame)
-  q-first e frame = record { goes = λ w s z k. at-end (refl, (put-frame D E) In e frame s, (put-kept D E) (ep-cell In e) (withLastFrame frame (conc .get (ep-cell In e) s)) s k, (put-hears D E) (ep-cell In e) (withLastFrame frame (conc .get (ep-cell In e) s)) s) }
+  q-first e frame = record { goes = λ w s z k. at-end (refl, (put-frame D E) In e frame s, (put-kept D E) (ep-cell In e) (withLastFrame frame (concrete .get (ep-cell In e) s)) s k, (put-hears D E) (ep-cell In e) (withLastFrame frame (concrete .get (ep-cell In e) s)) s) }
 
   q-unseen : {m : Bool} {i : Bool} (frame e : ℕ) → (m ≡ true → Else D E In e)
       → Quiet D E m (Idle D E) (unseen {i = i} frame e)

@@ -1,5 +1,5 @@
 -- The same of the Rattle code: what its calls make of the lent bytes. The contract of each call says that it is one
--- step of the machine of calls that the bytes are (machine/specs/Under.antt), so what is claimed of lists of calls is
+-- step of the machine of calls that the bytes are (machine/specs/Suspended.antt), so what is claimed of lists of calls is
 -- claimed of calls that were made
 use mathlib.Core.List.{List, [], _∷_, _++_}
 use mathlib.Core.Path.{_≡_, ap, subst, sym, _∙_}
@@ -8,7 +8,7 @@ use Rattle.state.specs.Driver.{Driver}
 use Rattle.model.specs.Answers.{Answer}
 use Rattle.model.specs.Calls.{Config, Op, calls, startRow}
 use Rattle.model.specs.Machine.{Buf, Event, Machine, Ans, start, started}
-use Rattle.machine.specs.Under.{driverOf, drive, machineOf}
+use Rattle.machine.specs.Suspended.{driverOf, drive, machineOf}
 use Rattle.proof_book.specs.Always.{after}
 use Rattle.proof_book.specs.Code.{Made}
 use Rattle.proof_book.specs.CodeReadings.{Steps}

@@ -12,9 +12,9 @@ use Rattle.model.specs.AddressCalls.{Addresses, address-writes}
 use Rattle.model.specs.Answers.{Answer, Refused}
 use Rattle.model.specs.Calls.{Config, calls, startRow, Op, interrupt, slotted, other, aside, Slotted, SetEnabled, PollRead, BeginWrite, PollWrite, PollDataOut, BeginDataIn, Other, Allocate, AllocateAll, Start, BusPoll, BusEnable, BusDisable, Microframe, SetStalled, IsStalled, SetPaced, Advance, BeginRead, BeginSetup, PollSetup, PollDataIn, BeginAccept, PollAccept, BeginReject, BeginDataOut, BeginAcceptSetAddress, code}
 use Rattle.model.specs.Machine.{Buf, Event, Machine, start, started}
-use Rattle.machine.specs.Under.{driverOf}
+use Rattle.machine.specs.Suspended.{driverOf}
 use Rattle.model_ops.specs.Rings.{St}
-use Rattle.model_ops.specs.Conc.{conc}
+use Rattle.model_ops.specs.Concrete.{concrete}
 use Rattle.proof_usb20.specs.Log.{Log, before, opens, saw, closes, Brings, Armed, Fair, Allowed, Poll, none, begins, pollSetup, pollOut, pollIn, pollStatus, pollOf, FairPoll}
 use Rattle.proof_usb20.specs.Observer.{Observer, startedBy, Reads, All}
 use Rattle.proof_usb20.specs.Exempt.{differ}
@@ -37,7 +37,7 @@ use Rattle.regs.specs.declared.Reg.the-variants.{IntFg, IntSt, MisSt, FrameNo, 
 use Rattle.model.specs.Every.{sameReg}
 use Rattle.model.specs.Answers.{End, Done}
 use Rattle.model.specs.Machine.{Call, begin, go, Ans, ended, idle}
-use Rattle.machine.specs.Under.{drive}
+use Rattle.machine.specs.Suspended.{drive}
 use Prim.Native.Nat.{suc}
 use Rattle.proof_usb20.specs.Observer.{Watched, watched, Under, at-rest, doing, starting, serves, noted}
 use Rattle.alloc.specs.Alloc as alloc-alloc
@@ -132,9 +132,9 @@ pub laws : Laws control R
 laws = record {
   stands = stands;
   call = λ o w s r _ z. watch-more (law-of o w s r z) (λ x a t p. (p .0, λ _. p .1));
-  asks = λ o s. ways.only-run conc (code o) (address-writes o) tt s;
+  asks = λ o s. ways.only-run concrete (code o) (address-writes o) tt s;
   besides = λ o d b a t z h. (aside-view o d b a t z h, aside-wakes o d b a t h);
-  new = λ c b. new (run conc (calls .starts c) (driverOf .fresh c, b));
+  new = λ c b. new (run concrete (calls .starts c) (driverOf .fresh c, b));
   unlent = unlent;
   fair-1 = λ o w. fair-1 (pollOf o) w;
 }

@@ -13,7 +13,7 @@ use Rattle.model.specs.Calls.{Config, calls, startRow, Op, interrupt, slotted, 
 use Rattle.model.specs.Machine.{Buf, Event, Machine, started}
 use Rattle.model.specs.TogglesLaws.{number}
 use Rattle.model.specs.Usb20Toggles.{Pid, DATA0, DATA1}
-use Rattle.machine.specs.Under.{driverOf}
+use Rattle.machine.specs.Suspended.{driverOf}
 use Rattle.proof_usb20.specs.Sequence.{Track}
 use Rattle.proof_usb20.specs.Follow.{Seen, Fits, Law}
 use Rattle.proof_usb20.specs.Calm.{Else}
@@ -34,7 +34,7 @@ use Rattle.model.specs.Answers.{Refused}
 use Rattle.model.specs.Calls.{code}
 use Rattle.model.specs.Machine.{Call, start, begin, go, question, Ans, ended, handed, told}
 use Rattle.model_ops.specs.Rings.{St}
-use Rattle.model_ops.specs.Conc.{conc}
+use Rattle.model_ops.specs.Concrete.{concrete}
 use Rattle.proof_book.specs.Sorting.{Sorting}
 use Rattle.proof_usb20.specs.Sequence as log
 use Rattle.proof_usb20.specs.Sequence.{before, opens, saw, closes, Fair, own, Writing, unwritten-yet, wrote, Leaves}
@@ -106,7 +106,7 @@ module _ (D : Dir) (E : ℕ) (z : (d : Dir) → Else D E d 0) where
   few o x = watch-more x (λ x a t p. (p .0, λ _. p .1))
 
   law-of : (o : Op) (w : Track) (s : St) → Fits w (view D E (s .0)) → isOn (epOn (s .0) D E .iso) ≡ false
-      → Sorting (s .0) → Sees (toggles D E) (λ _ _. Unit {0}) (follow.EndsFew D E o) (opens D E o w) (run conc (code o) s)
+      → Sorting (s .0) → Sees (toggles D E) (λ _ _. Unit {0}) (follow.EndsFew D E o) (opens D E o w) (run concrete (code o) s)
   law-of interrupt w s r i k = law-interrupt D E z w s r i k
   law-of (slotted o) w s r i k = few (slotted o) (of-slotted o w s r i k)
   law-of (other o) w s r i k = few (other o) (of-other o w s r i k)
@@ -132,7 +132,7 @@ module _ (D : Dir) (E : ℕ) (z : (d : Dir) → Else D E d 0) where
   new-places c = refl
 
   new : (c : Config) (b : Buf)
-      → Follow D E (λ _ _ s. Fits before (view D E (s .0))) before (run conc (calls .starts c) (driverOf .fresh c, b))
+      → Follow D E (λ _ _ s. Fits before (view D E (s .0))) before (run concrete (calls .starts c) (driverOf .fresh c, b))
   new c b = follow.follow-more D E (law-new c .goes before (driverOf .fresh c, b) (refl, λ _ _ _ _. refl) (loose D E (new-places c))) (λ _ _ s m. subst (Fits before) (sym (m .1)) (new-fits c))
 
   last : (b : Bool) (x y : Track) → cond (b && false) x y ≡ y
@@ -188,7 +188,7 @@ module _ (D : Dir) (E : ℕ) (z : (d : Dir) → Else D E d 0) where
   laws = record {
     stands = λ w x r. r;
     call = λ o w s r i q. law-of o w s r i q;
-    asks = λ o s. any (run conc (code o) s);
+    asks = λ o s. any (run concrete (code o) s);
     besides = λ o d b a t q h. (aside-view D E o d b a t q h, aside-wakes o d b a t h);
     new = λ c b. ups (new c b);
     unlent = unlent;

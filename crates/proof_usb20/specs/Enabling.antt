@@ -20,7 +20,7 @@ use Rattle.state.specs.Kept.{withEpType}
 use Rattle.state.specs.Wakes.{wakeCode}
 use Rattle.frame.specs.Advance.{NO_FRAME}
 use Rattle.model.specs.Tree as tree
-use Rattle.model.specs.Cells.{Plain, ep-cell, globals-cell, paced-cell}
+use Rattle.model.specs.Cells.{EpCore, ep-cell, globals-cell, paced-cell}
 use Rattle.regs.specs.declared.Reg.the-variants.{EpRxCtrl, EpTxCtrl, EpTLen}
 use Rattle.regs.specs.ControlWord.{ACK, NAK, NYET, DATA0, wordOf, response, toggle, ack}
 use Rattle.model.specs.Script.{Script, run, put, hand, write, place, row, rows, switch, switchAsk, no-wakes, waken, reset-ring, _>>=_, _>>_}
@@ -30,8 +30,8 @@ use Rattle.model.specs.Bus as bus
 use Rattle.model.specs.Calls.{Op, slotted, other, SetEnabled, SetStalled, BeginRead, BeginWrite, BusPoll, code}
 use Rattle.model.specs.Usb20Toggles.{initial}
 use Rattle.model_ops.specs.Rings.{St, slotStep, armAt, renewedOn, typeStep, configStep}
-use Rattle.model_ops.specs.Conc.{conc}
-use Rattle.proof_book.specs.Sorts.{act-steady, row-steady}
+use Rattle.model_ops.specs.Concrete.{concrete}
+use Rattle.proof_book.specs.TransferKinds.{act-steady, row-steady}
 use Rattle.proof_usb20.specs.Sequence as log
 use Rattle.proof_usb20.specs.Sequence.{Track, off, withPhase, own, saw, armsAt, Writing, written, withWord, unwritten-yet, Restarts, Acks, wrote, Leaves}
 use Rattle.proof_usb20.specs.Follow as follow
@@ -65,7 +65,7 @@ module _ (D : Dir) (E : ℕ) where
       by false c = refl
 
   switch-view : (e : ℕ) (on : Bool) (n : ℕ) → Else D E Out e → (s : St)
-      → view D E (conc .row (switch e on) n s .1 .0) ≡ view D E (s .0)
+      → view D E (concrete .row (switch e on) n s .1 .0) ≡ view D E (s .0)
   unfolding configStep typeStep epOn
   switch-view e on zero o s = refl
   switch-view e on (suc zero) o s = refl
@@ -79,9 +79,9 @@ module _ (D : Dir) (E : ℕ) where
   silent e on (suc (suc (suc n))) x w v h = refl
 
   in-row : (e : ℕ) (on : Bool) → Else D E Out e → (n : ℕ) (w : Track) (s : St) → Hush D E w → Kept D E false s
-      → Follow D E (λ x _ t. Stays D E false w s x t) w (rows conc (switch e on) n (λ t. tree.ends (tt {0}) t) s)
-  in-row e on m zero w s h k = onward D E w s (conc .row (switch e on) zero s .1) (switch-view e on zero m s) (loosely D E) (asked D E w (loose D E (row-steady (switch e on) zero s .places ∙ k .whole)) (λ v. silent e on zero (conc .row (switch e on) zero s .0) w v h) (λ _ t l. at-end (refl, refl, l, loosely D E)))
-  in-row e on m (suc n) w s h k = onward D E w s (conc .row (switch e on) (suc n) s .1) (switch-view e on (suc n) m s) (loosely D E) (asked D E w (loose D E (row-steady (switch e on) (suc n) s .places ∙ k .whole)) (λ v. silent e on (suc n) (conc .row (switch e on) (suc n) s .0) w v h) (λ _ t l. in-row e on m n w t h l))
+      → Follow D E (λ x _ t. Stays D E false w s x t) w (rows concrete (switch e on) n (λ t. tree.ends (tt {0}) t) s)
+  in-row e on m zero w s h k = onward D E w s (concrete .row (switch e on) zero s .1) (switch-view e on zero m s) (loosely D E) (asked D E w (loose D E (row-steady (switch e on) zero s .places ∙ k .whole)) (λ v. silent e on zero (concrete .row (switch e on) zero s .0) w v h) (λ _ t l. at-end (refl, refl, l, loosely D E)))
+  in-row e on m (suc n) w s h k = onward D E w s (concrete .row (switch e on) (suc n) s .1) (switch-view e on (suc n) m s) (loosely D E) (asked D E w (loose D E (row-steady (switch e on) (suc n) s .places ∙ k .whole)) (λ v. silent e on (suc n) (concrete .row (switch e on) (suc n) s .0) w v h) (λ _ t l. in-row e on m n w t h l))
 
   q-row : {P : Track → Type 0} (e : ℕ) (on : Bool) → Else D E Out e → Quiet D E false P (row (switch e on))
   q-row e on m = record { goes = λ w s z k. in-row e on m 18 w s (z .1) k }
@@ -116,11 +116,11 @@ module _ (D : Dir) (E : ℕ) where
   Renews : Bool → Track → {A : Type 0} → Track → A → St → Type 0
   Renews a w y _ t = (y ≡ withPhase off w) × FitsAs initial false (w .len) a (view D E (t .0))
 
-  abbrev renews-by : (d : Dir) (e : ℕ) (f : Plain → Plain) (g : Bool) (w : Track) (s : St) → Own D E d e → Whole s
+  abbrev renews-by : (d : Dir) (e : ℕ) (f : EpCore → EpCore) (g : Bool) (w : Track) (s : St) → Own D E d e → Whole s
       → Fits w (view D E (s .0)) → eqb (s .0 .globals .stage) 2 ≡ true
-      → ((p : Plain) → f p .tog ≡ 0) → ((p : Plain) → f p .ready ≡ 0) → ((p : Plain) → f p .len ≡ p .len)
-      → ((p : Plain) → isOn (f p .armed) ≡ g)
-      → FitsAs initial false (w .len) g (view D E (conc .put (ep-cell d e) (f (conc .get (ep-cell d e) s)) s .0))
+      → ((p : EpCore) → f p .tog ≡ 0) → ((p : EpCore) → f p .ready ≡ 0) → ((p : EpCore) → f p .len ≡ p .len)
+      → ((p : EpCore) → isOn (f p .armed) ≡ g)
+      → FitsAs initial false (w .len) g (view D E (concrete .put (ep-cell d e) (f (concrete .get (ep-cell d e) s)) s .0))
   unfolding isOn
   renews-by d e f g w s o k r two a b c m = subst (FitsAs initial false (w .len) g) (sym (changed D E d e f s o k)) (fits-2 D E two (a _) (ap isOn (b _)) (c _ ∙ r .len) (m _))
 
@@ -131,26 +131,26 @@ module _ (D : Dir) (E : ℕ) where
 
   enabling : (d : Dir) (e : ℕ) (on : Bool) (w : Track) (s : St) → Own D E d e → Whole s → Fits w (view D E (s .0))
       → eqb (s .0 .globals .stage) 2 ≡ true → isOn (epOn (s .0) D E .iso) ≡ false
-      → Follow D E (Renews (armsAt D E d on) w) (withPhase off w) (run conc (bus.setEnabled d e on) s)
+      → Follow D E (Renews (armsAt D E d on) w) (withPhase off w) (run concrete (bus.setEnabled d e on) s)
   unfolding Renews isOn
   enabling Out e on w s o k r two i =
-      let f : Plain → Plain = λ p. withArmed (flag on) (statics.renewed p) in
-      let a = conc .act (reset-ring Out e) s in
-      let t = conc .put (ep-cell Out e) (f (conc .get (ep-cell Out e) a)) a in
+      let f : EpCore → EpCore = λ p. withArmed (flag on) (statics.renewed p) in
+      let a = concrete .act (reset-ring Out e) s in
+      let t = concrete .put (ep-cell Out e) (f (concrete .get (ep-cell Out e) a)) a in
       let v = act-view D E (reset-ring Out e) refl s in
       let l : Whole a = act-steady (reset-ring Out e) refl s .places ∙ k in
       let g = renews-by Out e f on w a o l (subst (Fits w) (sym v) r) (ap (λ (q : Seen). eqb (q .stage) 2) v ∙ two) (λ _. refl) (λ _. refl) (λ _. refl) (λ _. flagged on) in
-      follow.follow-bind D E {P = λ y _ u. Stays D E false (withPhase off w) t y u} (follow.follow-cond D E (isOn (conc .get (ep-cell Out e) s .iso)) (λ q. iso-own D E Out e s o i q)
-      (λ _. q-rest-out e on .goes (withPhase off w) t (refl, λ _ _ _ _. refl) (loose D E (whole-put D E (ep-cell Out e) (f (conc .get (ep-cell Out e) a)) a l))))
-      (λ y _ u m. at-end {s = conc .act (waken (wakeCode Out e ∷ [])) u} (m .0, subst (FitsAs initial false (w .len) on) (sym (act-view D E (waken (wakeCode Out e ∷ [])) refl u ∙ m .1)) g))
+      follow.follow-bind D E {P = λ y _ u. Stays D E false (withPhase off w) t y u} (follow.follow-cond D E (isOn (concrete .get (ep-cell Out e) s .iso)) (λ q. iso-own D E Out e s o i q)
+      (λ _. q-rest-out e on .goes (withPhase off w) t (refl, λ _ _ _ _. refl) (loose D E (whole-put D E (ep-cell Out e) (f (concrete .get (ep-cell Out e) a)) a l))))
+      (λ y _ u m. at-end {s = concrete .act (waken (wakeCode Out e ∷ [])) u} (m .0, subst (FitsAs initial false (w .len) on) (sym (act-view D E (waken (wakeCode Out e ∷ [])) refl u ∙ m .1)) g))
   enabling In e on w s o k r two i =
-      let a = conc .act (reset-ring In e) s in
-      let t = conc .put (ep-cell In e) (statics.renewed (conc .get (ep-cell In e) a)) a in
+      let a = concrete .act (reset-ring In e) s in
+      let t = concrete .put (ep-cell In e) (statics.renewed (concrete .get (ep-cell In e) a)) a in
       let v = act-view D E (reset-ring In e) refl s in
       let l : Whole a = act-steady (reset-ring In e) refl s .places ∙ k in
       let g = renews-by In e statics.renewed false w a o l (subst (Fits w) (sym v) r) (ap (λ (q : Seen). eqb (q .stage) 2) v ∙ two) (λ _. refl) (λ _. refl) (λ _. refl) (λ _. refl) in
-      follow.follow-bind D E {P = λ y _ u. Stays D E false (withPhase off w) t y u} {f = λ (_ : Unit {0}) (u : St). run {i = false} conc (wake In e) u}
-      (q-rest-in e (isOn (conc .get (ep-cell In e) s .iso)) on .goes (withPhase off w) t (refl, λ _ _ _ _. refl) (loose D E (whole-put D E (ep-cell In e) (statics.renewed (conc .get (ep-cell In e) a)) a l)))
+      follow.follow-bind D E {P = λ y _ u. Stays D E false (withPhase off w) t y u} {f = λ (_ : Unit {0}) (u : St). run {i = false} concrete (wake In e) u}
+      (q-rest-in e (isOn (concrete .get (ep-cell In e) s .iso)) on .goes (withPhase off w) t (refl, λ _ _ _ _. refl) (loose D E (whole-put D E (ep-cell In e) (statics.renewed (concrete .get (ep-cell In e) a)) a l)))
       (λ y _ u m. at-end (m .0, subst (FitsAs initial false (w .len) false) (sym (act-view D E (waken (wakeCode In e ∷ [])) refl u ∙ m .1)) g))
 
   pub law-set-enabled : (d : Dir) (e : ℕ) (on : Bool) → Law D E (slotted (SetEnabled d e on))
@@ -165,11 +165,11 @@ module _ (D : Dir) (E : ℕ) where
       nothing = rw (last (own D E d e)) r
 
       by : (b : Bool) → own D E d e ≡ b
-          → Follow D E (Ends D E (slotted (SetEnabled d e on))) (withPhase off w) (run conc (code (slotted (SetEnabled d e on))) s)
+          → Follow D E (Ends D E (slotted (SetEnabled d e on))) (withPhase off w) (run concrete (code (slotted (SetEnabled d e on))) s)
       by false h = quiet-law D E (slotted (SetEnabled d e on)) refl (λ a x. not-and D E (own D E d e) (log.ended D E a) (log.renewed D E (armsAt D E d on) x) x h) (λ _ _. tt) ((q-staged D E) 2 (reading.q-named D E d e ((q-resultless D E) (q-enabling d e on (own-false D E d e h))))) w s r i z
       by true h = follow.follow-cond D E (eqb (s .0 .globals .stage) 2) (λ two. follow.follow-cond D E (isAllocated (s .0 .allocator) d e)
           (λ _.
-          let a = conc .act no-wakes s in
+          let a = concrete .act no-wakes s in
           let v = act-view D E no-wakes refl s in
           follow.follow-bind D E {P = Renews (armsAt D E d on) w} (follow.follow-bind D E {P = Renews (armsAt D E d on) w} (enabling d e on w a (own-true D E d e h) (act-steady no-wakes refl s .places ∙ z .places) (subst (Fits w) (sym v) r) two (ap (λ (q : Seen). isOn (q .iso)) v ∙ i)) (λ y _ t m. at-end m))
           (λ y _ t m. at-end (rw (m .0) (rw h (m .1)), tt)))
@@ -204,11 +204,11 @@ module _ (D : Dir) (E : ℕ) where
   Marks P u o = Along (wrote D E) (λ _ _ _. Unit {0}) (follow.Keeps D E) (λ _ _. Unit {0}) P u o
 
   abbrev pub WordLaw : Op → Type 0
-  WordLaw o = (w : Track) (s : St) → Fits w (view D E (s .0)) → isOn (epOn (s .0) D E .iso) ≡ false → Marks (λ u a _. Leaves D E o a u) (unwritten-yet w) (run conc (code o) s)
+  WordLaw o = (w : Track) (s : St) → Fits w (view D E (s .0)) → isOn (epOn (s .0) D E .iso) ≡ false → Marks (λ u a _. Leaves D E o a u) (unwritten-yet w) (run concrete (code o) s)
 
   -- a call of which nothing is claimed
   pub leaves-any : (o : Op) → ((a : Answer) (u : Writing) → Leaves D E o a u) → WordLaw o
-  leaves-any o f w s r i = watch-any (λ _. Unit {0}) (λ _ _ _. tt) (λ _ _ _ _. tt) (λ x a _ _. f a x) (unwritten-yet w) tt (run conc (code o) s)
+  leaves-any o f w s r i = watch-any (λ _. Unit {0}) (λ _ _ _. tt) (λ _ _ _ _. tt) (λ x a _ _. f a x) (unwritten-yet w) tt (run concrete (code o) s)
 
   abbrev Word0 : Bool → {A : Type 0} → Writing → A → St → Type 0
   Word0 b u _ _ = Restarts b (u .word)
@@ -219,37 +219,37 @@ module _ (D : Dir) (E : ℕ) where
   own-word b false v u h r = differ h
 
   enabled-word : (d : Dir) (e : ℕ) (on : Bool) (u : Writing) (s : St) → own D E d e ≡ true
-      → isOn (epOn (s .0) D E .iso) ≡ false → Marks (Word0 (armsAt D E d on)) u (run conc (bus.setEnabled d e on) s)
-  enabled-word Out e on u s h i = watch-bind {P = Word0 on} (watch-cond (isOn (conc .get (ep-cell Out e) s .iso)) (λ q. iso-own D E Out e s (own-true D E Out e h) i q)
+      → isOn (epOn (s .0) D E .iso) ≡ false → Marks (Word0 (armsAt D E d on)) u (run concrete (bus.setEnabled d e on) s)
+  enabled-word Out e on u s h i = watch-bind {P = Word0 on} (watch-cond (isOn (concrete .get (ep-cell Out e) s .iso)) (λ q. iso-own D E Out e s (own-true D E Out e h) i q)
       (λ _. at-ask tt (λ _ _ _ _. at-ask tt (λ _ _ _ _. at-ask tt (λ _ _ _ _. at-ask tt (λ _ _ _ _. at-end (own-word on (own D E Out e) _ u h (word-of on true))))))))
       (λ _ _ _ m. at-end m)
   enabled-word In e on u s h i =
-      let j : isOn (conc .get (ep-cell In e) s .iso) ≡ false = ap (λ (p : Plain). isOn (p .iso)) (reading.got D E In e s (own-true D E In e h)) ∙ i in
-      watch-bind {P = Word0 false} {f = λ (_ : Unit {0}) (t : St). run {i = false} conc (wake In e) t}
-      (at-ask tt (λ _ _ _ _. at-ask tt (λ _ _ _ _. at-ask tt (λ _ _ _ _. at-ask tt (λ _ _ _ _. at-ask tt (λ _ _ _ _. at-end (own-word false (own D E In e) _ u h (word-not-iso (isOn (conc .get (ep-cell In e) s .iso)) on on _ j refl .1))))))))
+      let j : isOn (concrete .get (ep-cell In e) s .iso) ≡ false = ap (λ (p : EpCore). isOn (p .iso)) (reading.got D E In e s (own-true D E In e h)) ∙ i in
+      watch-bind {P = Word0 false} {f = λ (_ : Unit {0}) (t : St). run {i = false} concrete (wake In e) t}
+      (at-ask tt (λ _ _ _ _. at-ask tt (λ _ _ _ _. at-ask tt (λ _ _ _ _. at-ask tt (λ _ _ _ _. at-ask tt (λ _ _ _ _. at-end (own-word false (own D E In e) _ u h (word-not-iso (isOn (concrete .get (ep-cell In e) s .iso)) on on _ j refl .1))))))))
       (λ _ _ _ m. at-end m)
 
   pub leaves-enabled : (d : Dir) (e : ℕ) (on : Bool) → WordLaw (slotted (SetEnabled d e on))
   leaves-enabled d e on w s r i = by (own D E d e) refl
     where
       by : (b : Bool) → own D E d e ≡ b
-          → Marks (λ u a _. Leaves D E (slotted (SetEnabled d e on)) a u) (unwritten-yet w) (run conc (code (slotted (SetEnabled d e on))) s)
+          → Marks (λ u a _. Leaves D E (slotted (SetEnabled d e on)) a u) (unwritten-yet w) (run concrete (code (slotted (SetEnabled d e on))) s)
       by false h = leaves-any (slotted (SetEnabled d e on)) (λ a u k. not-own (own D E d e) (log.ended D E a) h k) w s r i
       by true h = watch-cond (eqb (s .0 .globals .stage) 2) (λ _. watch-cond (isAllocated (s .0 .allocator) d e)
           (λ _.
           let v = act-view D E no-wakes refl s in
-          watch-bind {P = Word0 (armsAt D E d on)} (watch-bind {P = Word0 (armsAt D E d on)} (enabled-word d e on (unwritten-yet w) (conc .act no-wakes s) h (ap (λ (q : Seen). isOn (q .iso)) v ∙ i)) (λ _ _ _ m. at-end m)) (λ _ _ _ m. at-end (λ _. m)))
+          watch-bind {P = Word0 (armsAt D E d on)} (watch-bind {P = Word0 (armsAt D E d on)} (enabled-word d e on (unwritten-yet w) (concrete .act no-wakes s) h (ap (λ (q : Seen). isOn (q .iso)) v ∙ i)) (λ _ _ _ m. at-end m)) (λ _ _ _ m. at-end (λ _. m)))
           (λ _. at-end (λ k. never (own D E d e) k))) (λ _. at-end (λ k. never (own D E d e) k))
 
   -- ---- a cleared halt
 
   cleared-word : (d : Dir) (e : ℕ) (u : Writing) (s : St) → own D E d e ≡ true → isOn (epOn (s .0) D E .iso) ≡ false
       → isOn (epOn (s .0) D E .armed) ≡ u .waited
-      → Marks (λ x _ _. Restarts (armsAt D E d (x .waited)) (x .word)) u (run {i = false} conc (bus.setStalled d e false) s)
+      → Marks (λ x _ _. Restarts (armsAt D E d (x .waited)) (x .word)) u (run {i = false} concrete (bus.setStalled d e false) s)
   unfolding bus.restartedOut bus.restartedIn bus.restarted
   cleared-word Out e u s h i k =
       let g = reading.got D E Out e s (own-true D E Out e h) in
-      at-ask tt (λ _ _ _ _. at-end (kept-word (own D E Out e) _ u h (word-not-iso (isOn (conc .get (ep-cell Out e) s .iso)) true (isOn (conc .get (ep-cell Out e) s .armed)) _ (ap (λ (p : Plain). isOn (p .iso)) g ∙ i) (ap (λ (p : Plain). isOn (p .armed)) g ∙ k) .0)))
+      at-ask tt (λ _ _ _ _. at-end (kept-word (own D E Out e) _ u h (word-not-iso (isOn (concrete .get (ep-cell Out e) s .iso)) true (isOn (concrete .get (ep-cell Out e) s .armed)) _ (ap (λ (p : EpCore). isOn (p .iso)) g ∙ i) (ap (λ (p : EpCore). isOn (p .armed)) g ∙ k) .0)))
     where
       kept-word : (c : Bool) (v : ℕ) (u : Writing) → c ≡ true → Restarts (u .waited) (written v)
           → Restarts (cond c (withWord v u) u .waited) (cond c (withWord v u) u .word)
@@ -257,22 +257,22 @@ module _ (D : Dir) (E : ℕ) where
       kept-word false v u h r = differ h
   cleared-word In e u s h i k =
       let g = reading.got D E In e s (own-true D E In e h) in
-      let m = own-word false (own D E In e) _ u h (word-not-iso (isOn (conc .get (ep-cell In e) s .iso)) true false _ (ap (λ (p : Plain). isOn (p .iso)) g ∙ i) refl .0) in
-      at-ask tt (λ _ _ _ _. watch-bind {P = Word0 false} {f = λ (_ : Unit {0}) (t : St). run {i = false} conc (wake In e) t} (watch-cond (not (isOn (conc .get (ep-cell In e) s .iso))) (λ _. at-end m) (λ _. at-end m)) (λ _ _ _ n. at-end n))
+      let m = own-word false (own D E In e) _ u h (word-not-iso (isOn (concrete .get (ep-cell In e) s .iso)) true false _ (ap (λ (p : EpCore). isOn (p .iso)) g ∙ i) refl .0) in
+      at-ask tt (λ _ _ _ _. watch-bind {P = Word0 false} {f = λ (_ : Unit {0}) (t : St). run {i = false} concrete (wake In e) t} (watch-cond (not (isOn (concrete .get (ep-cell In e) s .iso))) (λ _. at-end m) (λ _. at-end m)) (λ _ _ _ n. at-end n))
 
   pub leaves-stalled : (d : Dir) (e : ℕ) (on : Bool) → WordLaw (other (SetStalled d e on))
   leaves-stalled d e true w s r i = leaves-any (other (SetStalled d e true)) (λ a u k. never (own D E d e) k) w s r i
   leaves-stalled d e false w s r i = by (own D E d e) refl
     where
       by : (b : Bool) → own D E d e ≡ b
-          → Marks (λ u a _. Leaves D E (other (SetStalled d e false)) a u) (unwritten-yet w) (run conc (code (other (SetStalled d e false))) s)
+          → Marks (λ u a _. Leaves D E (other (SetStalled d e false)) a u) (unwritten-yet w) (run concrete (code (other (SetStalled d e false))) s)
       by false h = leaves-any (other (SetStalled d e false)) (λ a u k. not-own (own D E d e) (log.ended D E a) h k) w s r i
       by true h = watch-cond (eqb (s .0 .globals .stage) 2) (λ _. watch-cond (eqb e 0) (λ _. goes) (λ _. watch-cond (isAllocated (s .0 .allocator) d e) (λ _. goes) (λ _. at-end (λ k. never (own D E d e) k)))) (λ _. at-end (λ k. never (own D E d e) k))
         where
-          goes : Marks (λ u a _. Leaves D E (other (SetStalled d e false)) a u) (unwritten-yet w) (run {i = false} conc (resultless (bus.setStalled d e false)) s)
+          goes : Marks (λ u a _. Leaves D E (other (SetStalled d e false)) a u) (unwritten-yet w) (run {i = false} concrete (resultless (bus.setStalled d e false)) s)
           goes =
               let v = act-view D E no-wakes refl s in
-              watch-bind {P = λ x _ _. Restarts (armsAt D E d (x .waited)) (x .word)} (watch-bind {P = λ x _ _. Restarts (armsAt D E d (x .waited)) (x .word)} (cleared-word d e (unwritten-yet w) (conc .act no-wakes s) h (ap (λ (q : Seen). isOn (q .iso)) v ∙ i) (ap (λ (q : Seen). isOn (q .armed)) v ∙ r .armed)) (λ _ _ _ m. at-end m)) (λ _ _ _ m. at-end (λ _. m))
+              watch-bind {P = λ x _ _. Restarts (armsAt D E d (x .waited)) (x .word)} (watch-bind {P = λ x _ _. Restarts (armsAt D E d (x .waited)) (x .word)} (cleared-word d e (unwritten-yet w) (concrete .act no-wakes s) h (ap (λ (q : Seen). isOn (q .iso)) v ∙ i) (ap (λ (q : Seen). isOn (q .armed)) v ∙ r .armed)) (λ _ _ _ m. at-end m)) (λ _ _ _ m. at-end (λ _. m))
 
   -- ---- reads and writes
 
@@ -284,15 +284,15 @@ module _ (D : Dir) (E : ℕ) where
   leaves-read e n w s r i = by (own D E Out e) refl
     where
       by : (b : Bool) → own D E Out e ≡ b
-          → Marks (λ u a _. Leaves D E (other (BeginRead e n)) a u) (unwritten-yet w) (run conc (code (other (BeginRead e n))) s)
+          → Marks (λ u a _. Leaves D E (other (BeginRead e n)) a u) (unwritten-yet w) (run concrete (code (other (BeginRead e n))) s)
       by false h = leaves-any (other (BeginRead e n)) (λ a u k. not-own (own D E Out e) (log.ended D E a) h k) w s r i
       by true h =
           let o = own-true D E Out e h in
           watch-cond (eqb (s .0 .globals .stage) 2) (λ _. watch-cond (isAllocated (s .0 .allocator) Out e) (λ _. watch-cond (enables.isOn (s .0 .globals .«ep_config») Out e)
-          (λ _. watch-cond (ltb n (conc .get (ep-cell Out e) s .«max_len»)) (λ _. at-end (λ k. never (own D E Out e) k))
-          (λ _. watch-bind {P = λ x _ _. (x .there ≡ false → Acks (x .word))} (watch-bind {P = λ x _ _. (x .there ≡ false → Acks (x .word))} (watch-cond (isOn (conc .get (ep-cell Out e) s .iso)) (λ q. iso-own D E Out e s o i q)
-          (λ _. watch-cond (isOn (conc .get (ep-cell Out e) s .ready))
-          (λ q. at-end (λ f. differ (sym f ∙ (sym (r .ready) ∙ (sym (ap (λ (p : Plain). isOn (p .ready)) (reading.got D E Out e s o)) ∙ q)))))
+          (λ _. watch-cond (ltb n (concrete .get (ep-cell Out e) s .«max_len»)) (λ _. at-end (λ k. never (own D E Out e) k))
+          (λ _. watch-bind {P = λ x _ _. (x .there ≡ false → Acks (x .word))} (watch-bind {P = λ x _ _. (x .there ≡ false → Acks (x .word))} (watch-cond (isOn (concrete .get (ep-cell Out e) s .iso)) (λ q. iso-own D E Out e s o i q)
+          (λ _. watch-cond (isOn (concrete .get (ep-cell Out e) s .ready))
+          (λ q. at-end (λ f. differ (sym f ∙ (sym (r .ready) ∙ (sym (ap (λ (p : EpCore). isOn (p .ready)) (reading.got D E Out e s o)) ∙ q)))))
           (λ _. at-ask tt (λ v _ _ _. at-ask tt (λ _ _ _ _. at-end (λ _. acked (own D E Out e) v (unwritten-yet w) h)))))) (λ _ _ _ m. at-end m))
           (λ _ _ _ m. at-end (λ _. m))))
           (λ _. at-end (λ k. never (own D E Out e) k))) (λ _. at-end (λ k. never (own D E Out e) k))) (λ _. at-end (λ k. never (own D E Out e) k))
@@ -301,12 +301,12 @@ module _ (D : Dir) (E : ℕ) where
   leaves-write e bytes w s r i = by (own D E In e) refl
     where
       by : (b : Bool) → own D E In e ≡ b
-          → Marks (λ u a _. Leaves D E (slotted (BeginWrite e bytes)) a u) (unwritten-yet w) (run conc (code (slotted (BeginWrite e bytes))) s)
+          → Marks (λ u a _. Leaves D E (slotted (BeginWrite e bytes)) a u) (unwritten-yet w) (run concrete (code (slotted (BeginWrite e bytes))) s)
       by false h = leaves-any (slotted (BeginWrite e bytes)) (λ a u k. not-own (own D E In e) (log.ended D E a) h k) w s r i
       by true h =
           watch-cond (eqb (s .0 .globals .stage) 2) (λ _. watch-cond (isAllocated (s .0 .allocator) In e) (λ _. watch-cond (enables.isOn (s .0 .globals .«ep_config») In e)
-          (λ _. watch-cond (ltb (conc .get (ep-cell In e) s .«max_len») (length bytes)) (λ _. at-end (λ k. never (own D E In e) k))
-          (λ _. watch-bind {P = λ x _ _. Acks (x .word)} (watch-bind {P = λ x _ _. Acks (x .word)} (watch-cond (isOn (conc .get (ep-cell In e) s .iso)) (λ q. iso-own D E In e s (own-true D E In e h) i q)
+          (λ _. watch-cond (ltb (concrete .get (ep-cell In e) s .«max_len») (length bytes)) (λ _. at-end (λ k. never (own D E In e) k))
+          (λ _. watch-bind {P = λ x _ _. Acks (x .word)} (watch-bind {P = λ x _ _. Acks (x .word)} (watch-cond (isOn (concrete .get (ep-cell In e) s .iso)) (λ q. iso-own D E In e s (own-true D E In e h) i q)
           (λ _. at-ask tt (λ _ _ _ _. at-ask tt (λ v _ _ _. at-ask tt (λ _ _ _ _. at-end (acked (own D E In e) v (unwritten-yet w) h)))))) (λ _ _ _ m. at-end m))
           (λ _ _ _ m. at-end (λ _. m))))
           (λ _. at-end (λ k. never (own D E In e) k))) (λ _. at-end (λ k. never (own D E In e) k))) (λ _. at-end (λ k. never (own D E In e) k))
@@ -331,7 +331,7 @@ module _ (D : Dir) (E : ℕ) where
   naked false false v u r (inr (inr m)) = differ m
 
   naks : (n e : ℕ) (u : Writing) (s : St) → Restarts false (u .word) ⊎ Among n e
-      → Marks (Word0 false) u (run {i = false} conc (bus.nakAll n e) s)
+      → Marks (Word0 false) u (run {i = false} concrete (bus.nakAll n e) s)
   unfolding bus.nakAll
   naks zero e u s (inl r) = at-end r
   naks zero e u s (inr m) = absurd m
@@ -363,9 +363,9 @@ module _ (D : Dir) (E : ℕ) where
   pub among-all : (E % 16 ≡ 0 → ⊥) → Among 15 1
   among-all h = within 15 1 (omega (arith, h)) (omega arith)
 
-  reset-word : (u : Writing) (s : St) → Among 15 1 → Marks (Word0 false) u (run conc bus.busReset s)
+  reset-word : (u : Writing) (s : St) → Among 15 1 → Marks (Word0 false) u (run concrete bus.busReset s)
   reset-word u s m = at-ask tt (λ _ _ _ _. at-ask tt (λ _ _ _ _. at-ask tt (λ _ a _ _. watch-bind {P = Word0 false} (naks 15 1 _ a (inr m)) (λ _ _ b r.
-      watch-bind {P = Word0 false} {f = λ (_ : Unit {0}) (t : St). run {i = false} conc wakeAll t} (at-ask tt (λ _ _ _ _. at-ask tt (λ _ _ _ _. at-ask tt (λ _ _ _ _. at-ask tt (λ _ _ _ _. at-end r))))) (λ _ _ _ q. at-end q)))))
+      watch-bind {P = Word0 false} {f = λ (_ : Unit {0}) (t : St). run {i = false} concrete wakeAll t} (at-ask tt (λ _ _ _ _. at-ask tt (λ _ _ _ _. at-ask tt (λ _ _ _ _. at-ask tt (λ _ _ _ _. at-end r))))) (λ _ _ _ q. at-end q)))))
 
   pub leaves-poll : Among 15 1 → WordLaw (other BusPoll)
   leaves-poll m w s r i = watch-cond (eqb (s .0 .globals .stage) 2)

@@ -14,12 +14,12 @@ use Rattle.regs.specs.Flags.{transfer}
 use Rattle.regs.specs.MisStatus.{sieFree}
 use Rattle.regs.specs.Status.{endpoint, token, outToken, inToken, isOut, isIn, togOk}
 use Rattle.model.specs.declared.Transfer.{Transfer}
-use Rattle.model.specs.Cells.{Plain, ep-cell}
+use Rattle.model.specs.Cells.{EpCore, ep-cell}
 use Rattle.model.specs.Script.{bind, ret, run}
 use Rattle.model.specs.Statics.{isOn}
 use Rattle.model.specs.Handler.{looks, nakNonIso, outNaks, inNaks, retake, retaken, settle, waitsForIso, waitsForBulk}
 use Rattle.model_ops.specs.Rings.{St}
-use Rattle.model_ops.specs.Conc.{conc}
+use Rattle.model_ops.specs.Concrete.{concrete}
 use Rattle.proof_usb20.specs.Log.{Log, shows, again, writes, saw, withRx, withTx, withPhase}
 use Rattle.proof_usb20.specs.Watch.{at-end, at-ask, watch-bind, watch-more, watch-cond}
 use Rattle.proof_usb20.specs.Ep0.{Watch, View, view, Keeps}
@@ -30,12 +30,12 @@ use Rattle.proof_usb20.specs.Interrupt.{back, Exactly, naked}
 
 -- ---- NAK before the release
 
-out-naks : (st : ℕ) (o : Plain) (t : Token) → token st ≡ t → eqb (endpoint st) 0 ≡ true
+out-naks : (st : ℕ) (o : EpCore) (t : Token) → token st ≡ t → eqb (endpoint st) 0 ≡ true
     → outNaks st o ≡ (outToken t && togOk st)
 unfolding outNaks isOut
 out-naks st o t e h = rw (e, h) refl
 
-in-naks : (st : ℕ) (n : Plain) (t : Token) → token st ≡ t → isOn (n .iso) ≡ false → inNaks st n ≡ inToken t
+in-naks : (st : ℕ) (n : EpCore) (t : Token) → token st ≡ t → isOn (n .iso) ≡ false → inNaks st n ≡ inToken t
 unfolding inNaks isIn
 in-naks st n t e h = rw (e, h) (by (inToken t))
   where
@@ -54,50 +54,50 @@ module _ (w : Log) (b : Bool) (shown : ℕ) (s : St) (k : Plainly s) where
   L y = withPhase (shows b shown) y
 
   pub nak-other : (st : ℕ) → eqb (endpoint st) 0 ≡ false
-      → Watch Keeps Any (Exactly (L w) (view (s .0))) (L w) (run conc (nakNonIso {i = true} st) s)
+      → Watch Keeps Any (Exactly (L w) (view (s .0))) (L w) (run concrete (nakNonIso {i = true} st) s)
   nak-other st h =
-      watch-cond (outNaks st (conc .get (ep-cell Out (endpoint st)) s))
+      watch-cond (outNaks st (concrete .get (ep-cell Out (endpoint st)) s))
       (λ _. at-ask tt (λ v t _ i. at-ask tt (λ _ u _ j. at-end (other-word Out (endpoint st) (nak v) h (L w), j .0 ∙ i .0, plainly (j .1)))))
-      (λ _. watch-cond (inNaks st (conc .get (ep-cell In (endpoint st)) s))
+      (λ _. watch-cond (inNaks st (concrete .get (ep-cell In (endpoint st)) s))
       (λ _. at-ask tt (λ v t _ i. at-ask tt (λ _ u _ j. at-end (other-word In (endpoint st) (nak v) h (L w), j .0 ∙ i .0, plainly (j .1)))))
       (λ _. at-end (refl, refl, k)))
 
-  not-iso : (st : ℕ) → eqb (endpoint st) 0 ≡ true → isOn (conc .get (ep-cell In (endpoint st)) s .iso) ≡ false
-  not-iso st h = ap (λ (e : ℕ). isOn (conc .get (ep-cell In e) s .iso)) (eqb-true (endpoint st) 0 h) ∙ k .plain In
+  not-iso : (st : ℕ) → eqb (endpoint st) 0 ≡ true → isOn (concrete .get (ep-cell In (endpoint st)) s .iso) ≡ false
+  not-iso st h = ap (λ (e : ℕ). isOn (concrete .get (ep-cell In e) s .iso)) (eqb-true (endpoint st) 0 h) ∙ k .plain In
 
   -- EP0's
   pub nak-own : (st : ℕ) → eqb (endpoint st) 0 ≡ true → (t : Token) → token st ≡ t → (ok : Bool) → togOk st ≡ ok
-      → Watch Keeps Any (Exactly (L (naked t false ok w)) (view (s .0))) (L w) (run conc (nakNonIso {i = true} st) s)
+      → Watch Keeps Any (Exactly (L (naked t false ok w)) (view (s .0))) (L w) (run concrete (nakNonIso {i = true} st) s)
   nak-own st h tok.Out e true o =
-      watch-cond (outNaks st (conc .get (ep-cell Out (endpoint st)) s))
+      watch-cond (outNaks st (concrete .get (ep-cell Out (endpoint st)) s))
       (λ _. at-ask {q = Read EpRxCtrl (endpoint st)} tt (λ v t c i. at-ask tt (λ _ u _ j. at-end (own-rx (endpoint st) (nak v) h (L w) ∙ ap (λ n. L (withRx (nak n) w)) (c .0 h), j .0 ∙ i .0, plainly (j .1)))))
-      (λ q. differ (sym q ∙ (out-naks st (conc .get (ep-cell Out (endpoint st)) s) tok.Out e h ∙ o)))
+      (λ q. differ (sym q ∙ (out-naks st (concrete .get (ep-cell Out (endpoint st)) s) tok.Out e h ∙ o)))
   nak-own st h tok.Out e false o =
-      watch-cond (outNaks st (conc .get (ep-cell Out (endpoint st)) s))
-      (λ q. differ (sym (out-naks st (conc .get (ep-cell Out (endpoint st)) s) tok.Out e h ∙ o) ∙ q))
-      (λ _. watch-cond (inNaks st (conc .get (ep-cell In (endpoint st)) s)) (λ q. differ (sym (in-naks st (conc .get (ep-cell In (endpoint st)) s) tok.Out e (not-iso st h)) ∙ q)) (λ _. at-end (refl, refl, k)))
+      watch-cond (outNaks st (concrete .get (ep-cell Out (endpoint st)) s))
+      (λ q. differ (sym (out-naks st (concrete .get (ep-cell Out (endpoint st)) s) tok.Out e h ∙ o) ∙ q))
+      (λ _. watch-cond (inNaks st (concrete .get (ep-cell In (endpoint st)) s)) (λ q. differ (sym (in-naks st (concrete .get (ep-cell In (endpoint st)) s) tok.Out e (not-iso st h)) ∙ q)) (λ _. at-end (refl, refl, k)))
   nak-own st h tok.In e ok o =
-      watch-cond (outNaks st (conc .get (ep-cell Out (endpoint st)) s))
-      (λ q. differ (sym (out-naks st (conc .get (ep-cell Out (endpoint st)) s) tok.In e h) ∙ q))
-      (λ _. watch-cond (inNaks st (conc .get (ep-cell In (endpoint st)) s))
+      watch-cond (outNaks st (concrete .get (ep-cell Out (endpoint st)) s))
+      (λ q. differ (sym (out-naks st (concrete .get (ep-cell Out (endpoint st)) s) tok.In e h) ∙ q))
+      (λ _. watch-cond (inNaks st (concrete .get (ep-cell In (endpoint st)) s))
       (λ _. at-ask {q = Read EpTxCtrl (endpoint st)} tt (λ v t c i. at-ask tt (λ _ u _ j. at-end (own-tx (endpoint st) (nak v) h (L w) ∙ ap (λ n. L (withTx (nak n) w)) (c .1 h), j .0 ∙ i .0, plainly (j .1)))))
-      (λ q. differ (sym q ∙ in-naks st (conc .get (ep-cell In (endpoint st)) s) tok.In e (not-iso st h))))
+      (λ q. differ (sym q ∙ in-naks st (concrete .get (ep-cell In (endpoint st)) s) tok.In e (not-iso st h))))
   nak-own st h tok.Sof e ok o = neither tok.Sof e refl refl
     where
       neither : (t : Token) → token st ≡ t → outToken t ≡ false → inToken t ≡ false
-          → Watch Keeps Any (Exactly (L w) (view (s .0))) (L w) (run conc (nakNonIso {i = true} st) s)
+          → Watch Keeps Any (Exactly (L w) (view (s .0))) (L w) (run concrete (nakNonIso {i = true} st) s)
       neither t e a c =
-          watch-cond (outNaks st (conc .get (ep-cell Out (endpoint st)) s))
-          (λ q. differ (sym (out-naks st (conc .get (ep-cell Out (endpoint st)) s) t e h ∙ ap (λ (z : Bool). z && togOk st) a) ∙ q))
-          (λ _. watch-cond (inNaks st (conc .get (ep-cell In (endpoint st)) s)) (λ q. differ (sym (in-naks st (conc .get (ep-cell In (endpoint st)) s) t e (not-iso st h) ∙ c) ∙ q)) (λ _. at-end (refl, refl, k)))
+          watch-cond (outNaks st (concrete .get (ep-cell Out (endpoint st)) s))
+          (λ q. differ (sym (out-naks st (concrete .get (ep-cell Out (endpoint st)) s) t e h ∙ ap (λ (z : Bool). z && togOk st) a) ∙ q))
+          (λ _. watch-cond (inNaks st (concrete .get (ep-cell In (endpoint st)) s)) (λ q. differ (sym (in-naks st (concrete .get (ep-cell In (endpoint st)) s) t e (not-iso st h) ∙ c) ∙ q)) (λ _. at-end (refl, refl, k)))
   nak-own st h tok.Setup e ok o = neither tok.Setup e refl refl
     where
       neither : (t : Token) → token st ≡ t → outToken t ≡ false → inToken t ≡ false
-          → Watch Keeps Any (Exactly (L w) (view (s .0))) (L w) (run conc (nakNonIso {i = true} st) s)
+          → Watch Keeps Any (Exactly (L w) (view (s .0))) (L w) (run concrete (nakNonIso {i = true} st) s)
       neither t e a c =
-          watch-cond (outNaks st (conc .get (ep-cell Out (endpoint st)) s))
-          (λ q. differ (sym (out-naks st (conc .get (ep-cell Out (endpoint st)) s) t e h ∙ ap (λ (z : Bool). z && togOk st) a) ∙ q))
-          (λ _. watch-cond (inNaks st (conc .get (ep-cell In (endpoint st)) s)) (λ q. differ (sym (in-naks st (conc .get (ep-cell In (endpoint st)) s) t e (not-iso st h) ∙ c) ∙ q)) (λ _. at-end (refl, refl, k)))
+          watch-cond (outNaks st (concrete .get (ep-cell Out (endpoint st)) s))
+          (λ q. differ (sym (out-naks st (concrete .get (ep-cell Out (endpoint st)) s) t e h ∙ ap (λ (z : Bool). z && togOk st) a) ∙ q))
+          (λ _. watch-cond (inNaks st (concrete .get (ep-cell In (endpoint st)) s)) (λ q. differ (sym (in-naks st (concrete .get (ep-cell In (endpoint st)) s) t e (not-iso st h) ∙ c) ∙ q)) (λ _. at-end (refl, refl, k)))
 
 -- ---- the transfer settles
 
@@ -116,7 +116,7 @@ naked-busy tok.Sof ok w = refl
 naked-busy tok.Setup ok w = refl
 
 looked : (w : Log) (b : Bool) (st n : ℕ) (s : St) → Plainly s
-    → Watch Keeps Any (Exactly (withPhase (shows b st) w) (view (s .0))) (withPhase (shows b st) w) (run conc (looks {i = true} n) s)
+    → Watch Keeps Any (Exactly (withPhase (shows b st) w) (view (s .0))) (withPhase (shows b st) w) (run concrete (looks {i = true} n) s)
 unfolding looks
 looked w b st zero s k = at-end (refl, refl, k)
 looked w b st (suc n) s k = at-ask tt (λ v t _ i. watch-cond (sieFree v) (λ _. at-end (refl, i .0, plainly (i .1))) (λ _. watch-more (looked w b st n t (plainly (i .1))) (λ _ _ _ m. (m .0, m .1 ∙ i .0, m .2))))
@@ -139,7 +139,7 @@ flag-taken : (st f : ℕ) (w : Log) → transfer f ≡ false
 flag-taken st f w q = rw q refl
 
 retakes : (w : Log) (s : St) (x : Transfer) → x .busy ≡ true → Plainly s
-    → Watch Keeps Any (λ l y t. Settled w (view (s .0)) l y t) (withPhase (shows true (x .st)) w) (run conc (retake {i = true} x) s)
+    → Watch Keeps Any (λ l y t. Settled w (view (s .0)) l y t) (withPhase (shows true (x .st)) w) (run concrete (retake {i = true} x) s)
 retakes w s x b k = at-ask tt (λ m t _ i. watch-cond (sieFree m)
     (λ _. at-ask {q = Read IntFg 0} tt (λ f u _ j. watch-cond (transfer f)
     (λ q. back (flag-kept (x .st) f w q) (at-end (stays w s u x b (j .0 ∙ i .0) (plainly (j .1)))))
@@ -147,21 +147,21 @@ retakes w s x b k = at-ask tt (λ m t _ i. watch-cond (sieFree m)
     (λ _. at-end (stays w s t x b (i .0) (plainly (i .1)))))
   where
     named : (st : ℕ) (o : St) → view (o .0) ≡ view (s .0) → Plainly o
-        → Watch Keeps Any (λ l y t. Settled w (view (s .0)) l y t) (withPhase (shows false st) w) (run {i = true} conc (bind (nakNonIso st) (λ _. ret (retaken x st))) o)
+        → Watch Keeps Any (λ l y t. Settled w (view (s .0)) l y t) (withPhase (shows false st) w) (run {i = true} concrete (bind (nakNonIso st) (λ _. ret (retaken x st))) o)
     named st o e n = by (eqb (endpoint st) 0) refl
       where
         by : (z : Bool) → eqb (endpoint st) 0 ≡ z
-            → Watch Keeps Any (λ l y t. Settled w (view (s .0)) l y t) (withPhase (shows false st) w) (run {i = true} conc (bind (nakNonIso st) (λ _. ret (retaken x st))) o)
+            → Watch Keeps Any (λ l y t. Settled w (view (s .0)) l y t) (withPhase (shows false st) w) (run {i = true} concrete (bind (nakNonIso st) (λ _. ret (retaken x st))) o)
         by true h = watch-bind (nak-own w false st o n st h (token st) refl (togOk st) refl) (λ y _ u m. at-end (mine h (m .0) (m .1 ∙ e) (m .2)))
         by false h = watch-bind (nak-other w false st o n st h) (λ y _ u m. at-end (others h false (m .0) (m .1 ∙ e) (m .2)))
 
 -- ---- which waits there are
 
-iso-waits : (x : Transfer) (o : Plain) → waitsForIso x o ≡ true → (x .busy ≡ true) × (isOn (o .iso) ≡ true)
+iso-waits : (x : Transfer) (o : EpCore) → waitsForIso x o ≡ true → (x .busy ≡ true) × (isOn (o .iso) ≡ true)
 unfolding waitsForIso
 iso-waits x o h = let a = both (x .busy) (isOut (x .st) && isOn (o .iso)) h in (a .0, both (isOut (x .st)) (isOn (o .iso)) (a .1) .1)
 
-bulk-waits : (x : Transfer) (n : Plain) → waitsForBulk x n ≡ true
+bulk-waits : (x : Transfer) (n : EpCore) → waitsForBulk x n ≡ true
     → (x .busy ≡ true) × (eqb (endpoint (x .st)) 0 ≡ false)
 unfolding waitsForBulk
 bulk-waits x n h = let a = both (x .busy) (not (eqb (endpoint (x .st)) 0) && (isOut (x .st) || (isIn (x .st) && not (isOn (n .iso))))) h in (a .0, negated (eqb (endpoint (x .st)) 0) (both (not (eqb (endpoint (x .st)) 0)) (isOut (x .st) || (isIn (x .st) && not (isOn (n .iso)))) (a .1) .0))
@@ -171,20 +171,20 @@ abbrev pub entry : Log → Transfer → Log
 entry w x = withPhase (shows (x .busy) (x .st)) (cond (eqb (endpoint (x .st)) 0) (naked (token (x .st)) (x .busy) (togOk (x .st)) w) w)
 
 pub settles : (w : Log) (s : St) (x : Transfer) → Plainly s
-    → Watch Keeps Any (λ l y t. Settled w (view (s .0)) l y t) (entry w x) (run conc (settle {i = true} x) s)
+    → Watch Keeps Any (λ l y t. Settled w (view (s .0)) l y t) (entry w x) (run concrete (settle {i = true} x) s)
 settles w s x k = by (eqb (endpoint (x .st)) 0) refl (x .busy) refl
   where
-    O : Plain
-    O = conc .get (ep-cell Out (endpoint (x .st))) s
+    O : EpCore
+    O = concrete .get (ep-cell Out (endpoint (x .st))) s
 
-    N : Plain
-    N = conc .get (ep-cell In (endpoint (x .st))) s
+    N : EpCore
+    N = concrete .get (ep-cell In (endpoint (x .st))) s
 
     plain-out : eqb (endpoint (x .st)) 0 ≡ true → isOn (O .iso) ≡ false
-    plain-out h = ap (λ (e : ℕ). isOn (conc .get (ep-cell Out e) s .iso)) (eqb-true (endpoint (x .st)) 0 h) ∙ k .plain Out
+    plain-out h = ap (λ (e : ℕ). isOn (concrete .get (ep-cell Out e) s .iso)) (eqb-true (endpoint (x .st)) 0 h) ∙ k .plain Out
 
     by : (m : Bool) → eqb (endpoint (x .st)) 0 ≡ m → (b : Bool) → x .busy ≡ b
-        → Watch Keeps Any (λ l y t. Settled w (view (s .0)) l y t) (entry w x) (run conc (settle {i = true} x) s)
+        → Watch Keeps Any (λ l y t. Settled w (view (s .0)) l y t) (entry w x) (run concrete (settle {i = true} x) s)
     -- EP0, complete
     by true h false b =
         watch-cond (waitsForIso x O) (λ q. differ (sym b ∙ iso-waits x O q .0)) (λ _. watch-cond (waitsForBulk x N) (λ q. differ (sym b ∙ bulk-waits x N q .0))

@@ -17,7 +17,7 @@ use Rattle.model.specs.Tree as tree
 use Rattle.model.specs.Statics.{isOn}
 use Rattle.model.specs.TogglesLaws.{number}
 use Rattle.model_ops.specs.Rings.{St}
-use Rattle.model_ops.specs.Conc.{conc}
+use Rattle.model_ops.specs.Concrete.{concrete}
 use Rattle.proof_book.specs.Sorting.{Sorting}
 use Rattle.proof_usb20.specs.Pipe.{Half, Pipe, dataReady, isReady, Awaited, nothing, taken, given, confirmed, Setting, keeps, sets}
 use Rattle.proof_usb20.specs.Log.{Log, Shows, saw, Brings, opens, closes, Fair, Allowed}
@@ -100,4 +100,4 @@ abbrev pub Ends : Op → Log → Answer → St → Type 0
 Ends o w a s = R (closes o a w) (view (s .0)) × Fair o a w
 
 abbrev pub Law : Op → Type 0
-Law o = (w : Log) (s : St) → R w (view (s .0)) → Sorting (s .0) → Watch Keeps (Allowed o) (Ends o) (opens o w) (run conc (code o) s)
+Law o = (w : Log) (s : St) → R w (view (s .0)) → Sorting (s .0) → Watch Keeps (Allowed o) (Ends o) (opens o w) (run concrete (code o) s)

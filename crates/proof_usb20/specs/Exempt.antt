@@ -19,7 +19,7 @@ use Rattle.model.specs.Answers.{Answer, Refused, End, NotYet, Done, Shown}
 use Rattle.model.specs.Calls.{Op, interrupt, slotted, other, aside, Slotted, SetEnabled, PollRead, BeginWrite, PollWrite, PollDataOut, BeginDataIn, Other, Allocate, AllocateAll, Start, BusPoll, BusEnable, BusDisable, Microframe, SetStalled, IsStalled, SetPaced, Advance, BeginRead, BeginSetup, PollSetup, PollDataIn, BeginAccept, PollAccept, BeginReject, BeginDataOut, BeginAcceptSetAddress, code}
 use Rattle.model.specs.Every.{sameReg}
 use Rattle.model_ops.specs.Rings.{St}
-use Rattle.model_ops.specs.Conc.{conc}
+use Rattle.model_ops.specs.Concrete.{concrete}
 use Rattle.proof_usb20.specs.Pipe.{Event, packet, token}
 use Rattle.proof_usb20.specs.Log.{Phase, off, entered, flagged, again, timed, shows, Log, withPhase, happens, ofToken, seen, reads, saw, opens, endsOther, endsSlotted, ends, Poll, none, pollSetup, pollOut, pollIn, pollStatus, pollOf, settled, done, closes, Unfinished, Begins, begins, Completes, Wrote, GivesSetup, FairPoll, AllowedTo, Allowed}
 use Rattle.proof_usb20.specs.Watch.{watch-any}
@@ -195,5 +195,5 @@ opens-exempt (aside o) w h = h
 
 -- a task's call, whatever it does
 pub exempt-law : (o : Op) → Task o → (w : Log) (s : St) → w .exempt ≡ true
-    → Watch Keeps (Allowed o) (Ends o) (opens o w) (run conc (code o) s)
-exempt-law o t w s h = watch-any (λ x. x .exempt ≡ true) (λ x q g. allowed-exempt (pollOf o) x q g) (λ x q v g. saw-exempt x q v (it g) .is) (λ x a u g. (inl (closes-exempt o t a x g), fair-exempt (pollOf o) a x g)) (opens o w) (opens-exempt o w h) (run conc (code o) s)
+    → Watch Keeps (Allowed o) (Ends o) (opens o w) (run concrete (code o) s)
+exempt-law o t w s h = watch-any (λ x. x .exempt ≡ true) (λ x q g. allowed-exempt (pollOf o) x q g) (λ x q v g. saw-exempt x q v (it g) .is) (λ x a u g. (inl (closes-exempt o t a x g), fair-exempt (pollOf o) a x g)) (opens o w) (opens-exempt o w h) (run concrete (code o) s)

@@ -16,7 +16,7 @@ use Rattle.model.specs.Statics.{isOn}
 use Rattle.model.specs.TogglesLaws.{number}
 use Rattle.model.specs.Usb20Toggles.{Pid, initial}
 use Rattle.model_ops.specs.Rings.{St}
-use Rattle.model_ops.specs.Conc.{conc}
+use Rattle.model_ops.specs.Concrete.{concrete}
 use Rattle.proof_book.specs.Sorting.{Sorting}
 use Rattle.model.specs.Machine.{ended}
 use Rattle.proof_wake_ups.specs.Rooms.{Few}
@@ -84,4 +84,4 @@ module _ (D : Dir) (E : ℕ) where
 
   -- `iso`: the endpoint is not isochronous when the call begins
   abbrev pub Law : Op → Type 0
-  Law o = (w : Track) (s : St) → Fits w (view (s .0)) → isOn (epOn (s .0) D E .iso) ≡ false → Sorting (s .0) → Follow (Ends o) (opens D E o w) (run conc (code o) s)
+  Law o = (w : Track) (s : St) → Fits w (view (s .0)) → isOn (epOn (s .0) D E .iso) ≡ false → Sorting (s .0) → Follow (Ends o) (opens D E o w) (run concrete (code o) s)

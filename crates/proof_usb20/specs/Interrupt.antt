@@ -16,7 +16,7 @@ use Rattle.regs.specs.ControlWord.{nak, flip, nakflip}
 use Rattle.regs.specs.Status.{endpoint, token, isSof, togOk}
 use Rattle.model.specs.declared.Transfer.{Transfer}
 use Rattle.model.specs.Tree as tree
-use Rattle.model.specs.Cells.{Plain, ep-cell, globals-cell}
+use Rattle.model.specs.Cells.{EpCore, ep-cell, globals-cell}
 use Rattle.model.specs.Script.{Script, bind, test, get, when, run, waken, _>>=_, _>>_}
 use Rattle.model.specs.Statics.{isOn, wake, withReady, withArmed, withLen, modifyEp, modifyReg, isoInEvery}
 use Rattle.model.specs.Statics as statics
@@ -25,8 +25,8 @@ use Rattle.model.specs.IsoOut.{isoOutCheck}
 use Rattle.model.specs.Handler.{sent, dispatch, movedOn, ep0MovedOn}
 use Rattle.state.specs.Wakes.{wakeCode}
 use Rattle.model_ops.specs.Rings.{St}
-use Rattle.model_ops.specs.Conc.{conc}
-use Rattle.proof_book.specs.Sorts.{put-steady, act-steady}
+use Rattle.model_ops.specs.Concrete.{concrete}
+use Rattle.proof_book.specs.TransferKinds.{put-steady, act-steady}
 use Rattle.proof_usb20.specs.Pipe as pipe
 use Rattle.proof_usb20.specs.Pipe.{isReady, dataReady, packet}
 use Rattle.proof_usb20.specs.Log.{Log, off, reads, withRx, withTx, withPhase, happens, ofToken}
@@ -87,7 +87,7 @@ back {P = P} {o = o} e x = subst (λ (y : Log). Watch Keeps Any P y o) (sym e) x
 
 -- a script's run, so that the script shows
 pub record Runs {i : Bool} {A : Type 0} (P : Log → A → St → Type 0) (p : Script i A) (w : Log) (s : St) : Type 0 where
-  pub ok : Watch Keeps Any P w (run conc p s)
+  pub ok : Watch Keeps Any P w (run concrete p s)
 
 pub then-quiet : {i : Bool} {A B : Type 0} {p : Script i A} {f : A → Script i B} {P : Log → B → St → Type 0} {w : Log} {s : St}
     → w .phase ≡ off → Plainly s → Quiet p
@@ -115,9 +115,9 @@ read-off : (w : Log) (r : Reg) (v : ℕ) → w .phase ≡ off → reads (w .phas
 read-off w r v z = ap (λ p. reads p r v w) z
 
 -- EP0's word of a direction is read, changed and written; then its record completed
-flipped-out : (f : ℕ → ℕ) (g : Plain → Plain) (w : Log) (s : St) → ((p : Plain) → (g p .ready ≡ 1) × (g p .armed ≡ 0))
+flipped-out : (f : ℕ → ℕ) (g : EpCore → EpCore) (w : Log) (s : St) → ((p : EpCore) → (g p .ready ≡ 1) × (g p .armed ≡ 0))
     → w .phase ≡ off
-    → Watch Keeps Any (Exactly (withRx (f (w .rx)) w) (setOut completed (view (s .0)))) w (run conc (do
+    → Watch Keeps Any (Exactly (withRx (f (w .rx)) w) (setOut completed (view (s .0)))) w (run concrete (do
       modifyReg {i = true} EpRxCtrl 0 f
       modifyEp Out 0 g
       wake Out 0) s)
@@ -126,17 +126,17 @@ flipped-out f g w s c z = at-ask {q = Read EpRxCtrl 0} tt (λ v t b k. back (rea
     let o = outWith g u in
     at-end (
       ap (λ n. withRx (f n) w) (b .0 refl),
-      act-view (waken (wakeCode Out 0 ∷ [])) refl o ∙ (out-view g u h ∙ (ap (λ (r : Rec). setOut r (view (u .0))) (made (g (conc .get (ep-cell Out 0) u)) (c (conc .get (ep-cell Out 0) u))) ∙ ap (setOut completed) (l .0 ∙ k .0))),
-      steadily (act-steady (waken (wakeCode Out 0 ∷ [])) refl o) (steadily (put-steady (ep-cell Out 0) (g (conc .get (ep-cell Out 0) u)) u) (plainly (l .1))),
+      act-view (waken (wakeCode Out 0 ∷ [])) refl o ∙ (out-view g u h ∙ (ap (λ (r : Rec). setOut r (view (u .0))) (made (g (concrete .get (ep-cell Out 0) u)) (c (concrete .get (ep-cell Out 0) u))) ∙ ap (setOut completed) (l .0 ∙ k .0))),
+      steadily (act-steady (waken (wakeCode Out 0 ∷ [])) refl o) (steadily (put-steady (ep-cell Out 0) (g (concrete .get (ep-cell Out 0) u)) u) (plainly (l .1))),
     ))))
   where
-    made : (p : Plain) → (p .ready ≡ 1) × (p .armed ≡ 0)
+    made : (p : EpCore) → (p .ready ≡ 1) × (p .armed ≡ 0)
         → _≡_ {A = Rec} (record { ready = p .ready; armed = p .armed }) completed
     made p q = rw (q .0, q .1) refl
 
-flipped-in : (f : ℕ → ℕ) (g : Plain → Plain) (w : Log) (s : St) → ((p : Plain) → (g p .ready ≡ 1) × (g p .armed ≡ 0))
+flipped-in : (f : ℕ → ℕ) (g : EpCore → EpCore) (w : Log) (s : St) → ((p : EpCore) → (g p .ready ≡ 1) × (g p .armed ≡ 0))
     → w .phase ≡ off
-    → Watch Keeps Any (Exactly (withTx (f (w .tx)) w) (setIn completed (view (s .0)))) w (run conc (do
+    → Watch Keeps Any (Exactly (withTx (f (w .tx)) w) (setIn completed (view (s .0)))) w (run concrete (do
       modifyReg {i = true} EpTxCtrl 0 f
       modifyEp In 0 g
       wake In 0) s)
@@ -145,17 +145,17 @@ flipped-in f g w s c z = at-ask {q = Read EpTxCtrl 0} tt (λ v t b k. back (read
     let o = inWith g u in
     at-end (
       ap (λ n. withTx (f n) w) (b .1 refl),
-      act-view (waken (wakeCode In 0 ∷ [])) refl o ∙ (in-view g u h ∙ (ap (λ (r : Rec). setIn r (view (u .0))) (made (g (conc .get (ep-cell In 0) u)) (c (conc .get (ep-cell In 0) u))) ∙ ap (setIn completed) (l .0 ∙ k .0))),
-      steadily (act-steady (waken (wakeCode In 0 ∷ [])) refl o) (steadily (put-steady (ep-cell In 0) (g (conc .get (ep-cell In 0) u)) u) (plainly (l .1))),
+      act-view (waken (wakeCode In 0 ∷ [])) refl o ∙ (in-view g u h ∙ (ap (λ (r : Rec). setIn r (view (u .0))) (made (g (concrete .get (ep-cell In 0) u)) (c (concrete .get (ep-cell In 0) u))) ∙ ap (setIn completed) (l .0 ∙ k .0))),
+      steadily (act-steady (waken (wakeCode In 0 ∷ [])) refl o) (steadily (put-steady (ep-cell In 0) (g (concrete .get (ep-cell In 0) u)) u) (plainly (l .1))),
     ))))
   where
-    made : (p : Plain) → (p .ready ≡ 1) × (p .armed ≡ 0)
+    made : (p : EpCore) → (p .ready ≡ 1) × (p .armed ≡ 0)
         → _≡_ {A = Rec} (record { ready = p .ready; armed = p .armed }) completed
     made p q = rw (q .0, q .1) refl
 
 -- a packet IN
 sent-in : (w : Log) (s : St) → w .phase ≡ off
-    → Watch Keeps Any (Exactly (withTx (flip (w .tx)) w) (setIn completed (view (s .0)))) w (run conc (do
+    → Watch Keeps Any (Exactly (withTx (flip (w .tx)) w) (setIn completed (view (s .0)))) w (run concrete (do
       modifyReg {i = true} EpTxCtrl 0 flip
       modifyEp In 0 (withArmed 0)
       sent 0) s)
@@ -166,19 +166,19 @@ sent-in w s z = at-ask {q = Read EpTxCtrl 0} tt (λ v t b k. back (read-off w Ep
     at-end (
       ap (λ n. withTx (flip n) w) (b .1 refl),
       act-view (waken (wakeCode In 0 ∷ [])) refl o ∙ (in-view (withReady 1) m (in-whole (withArmed 0) u h) ∙ (ap (λ (y : View). setIn (record { ready = 1; armed = y .inn .armed }) y) (in-view (withArmed 0) u h) ∙ ap (setIn completed) (l .0 ∙ k .0))),
-      steadily (act-steady (waken (wakeCode In 0 ∷ [])) refl o) (steadily (put-steady (ep-cell In 0) (withReady 1 (conc .get (ep-cell In 0) m)) m) (steadily (put-steady (ep-cell In 0) (withArmed 0 (conc .get (ep-cell In 0) u)) u) (plainly (l .1)))),
+      steadily (act-steady (waken (wakeCode In 0 ∷ [])) refl o) (steadily (put-steady (ep-cell In 0) (withReady 1 (concrete .get (ep-cell In 0) m)) m) (steadily (put-steady (ep-cell In 0) (withArmed 0 (concrete .get (ep-cell In 0) u)) u) (plainly (l .1)))),
     ))))
 
 -- a hidden stage
 moved-in : (w : Log) (s : St) → w .phase ≡ off → Plainly s → (m : Bool) → isOn (view (s .0) .inn .armed) ≡ m
-    → Watch Keeps Any (Exactly (withTx (cond m (nakflip (w .tx)) (w .tx)) w) (cond m (setIn completed (view (s .0))) (view (s .0)))) w (run conc (movedOn {i = true} In) s)
-moved-in w s z k true h = watch-cond (isOn (conc .get (ep-cell In 0) s .armed)) (λ _. flipped-in nakflip statics.completed w s (λ _. (refl, refl)) z) (λ q. differ (sym q ∙ h))
-moved-in w s z k false h = watch-cond (isOn (conc .get (ep-cell In 0) s .armed)) (λ q. differ (sym h ∙ q)) (λ _. at-end (refl, refl, k))
+    → Watch Keeps Any (Exactly (withTx (cond m (nakflip (w .tx)) (w .tx)) w) (cond m (setIn completed (view (s .0))) (view (s .0)))) w (run concrete (movedOn {i = true} In) s)
+moved-in w s z k true h = watch-cond (isOn (concrete .get (ep-cell In 0) s .armed)) (λ _. flipped-in nakflip statics.completed w s (λ _. (refl, refl)) z) (λ q. differ (sym q ∙ h))
+moved-in w s z k false h = watch-cond (isOn (concrete .get (ep-cell In 0) s .armed)) (λ q. differ (sym h ∙ q)) (λ _. at-end (refl, refl, k))
 
 moved-out : (w : Log) (s : St) → w .phase ≡ off → Plainly s → (m : Bool) → isOn (view (s .0) .out .armed) ≡ m
-    → Watch Keeps Any (Exactly (withRx (cond m (nakflip (w .rx)) (w .rx)) w) (cond m (setOut completed (view (s .0))) (view (s .0)))) w (run conc (movedOn {i = true} Out) s)
-moved-out w s z k true h = watch-cond (isOn (conc .get (ep-cell Out 0) s .armed)) (λ _. flipped-out nakflip statics.completed w s (λ _. (refl, refl)) z) (λ q. differ (sym q ∙ h))
-moved-out w s z k false h = watch-cond (isOn (conc .get (ep-cell Out 0) s .armed)) (λ q. differ (sym h ∙ q)) (λ _. at-end (refl, refl, k))
+    → Watch Keeps Any (Exactly (withRx (cond m (nakflip (w .rx)) (w .rx)) w) (cond m (setOut completed (view (s .0))) (view (s .0)))) w (run concrete (movedOn {i = true} Out) s)
+moved-out w s z k true h = watch-cond (isOn (concrete .get (ep-cell Out 0) s .armed)) (λ _. flipped-out nakflip statics.completed w s (λ _. (refl, refl)) z) (λ q. differ (sym q ∙ h))
+moved-out w s z k false h = watch-cond (isOn (concrete .get (ep-cell Out 0) s .armed)) (λ q. differ (sym h ∙ q)) (λ _. at-end (refl, refl, k))
 
 -- ---- `served`, its token apart
 
@@ -217,7 +217,7 @@ module _ (x : Transfer) (frame : ℕ) (mine : eqb (endpoint (x .st)) 0 ≡ true)
       if-so (eqb (endpoint (x .st)) 0) mine (sign u′ (d ∙ m .1) n)))))))
 
 pub made : {i : Bool} {A : Type 0} {P : Log → A → St → Type 0} {p : Script i A} {w : Log} {s : St}
-    → Watch Keeps Any P w (run conc p s) → Runs P p w s
+    → Watch Keeps Any P w (run concrete p s) → Runs P p w s
 made x = record { ok = x }
 
 conclude : {su : Bool} (y w : Log) (u : St) (v : View) → y ≡ w → view (u .0) ≡ v → R w v → v .stage ≡ 2
@@ -248,7 +248,7 @@ module _ (x : Transfer) (frame : ℕ) (mine : eqb (endpoint (x .st)) 0 ≡ true)
   armedOut = isOn (view (s .0) .out .armed)
 
   out-taken : x .busy ≡ false → togOk (x .st) ≡ true
-      → Watch Keeps Any (Served su) (ofToken tok.Out false true (withPhase off (withRx (nak (w .rx)) w))) (run conc (servedAs tok.Out x false frame) s)
+      → Watch Keeps Any (Served su) (ofToken tok.Out false true (withPhase off (withRx (nak (w .rx)) w))) (run concrete (servedAs tok.Out x false frame) s)
   out-taken b ok =
       let u = ofToken tok.Out false true (withPhase off (withRx (nak (w .rx)) w)) in
       let v = withRx (flip (u .rx)) u in
@@ -258,7 +258,7 @@ module _ (x : Transfer) (frame : ℕ) (mine : eqb (endpoint (x .st)) 0 ≡ true)
 
   -- the token OUT alone: a repeat, or a transaction that is not complete
   out-token : (busy ok : Bool) → not busy && ok ≡ false → x .busy ≡ busy → togOk (x .st) ≡ ok
-      → Watch Keeps Any (Served su) (happens (pipe.token Out) (withPhase off w)) (run conc (servedAs tok.Out x false frame) s)
+      → Watch Keeps Any (Served su) (happens (pipe.token Out) (withPhase off w)) (run concrete (servedAs tok.Out x false frame) s)
   out-token busy ok none b o =
       let u = happens (pipe.token Out) (withPhase off w) in
       (framing x frame mine u refl s k tok.Out false u (view (s .0)) refl
@@ -269,7 +269,7 @@ module _ (x : Transfer) (frame : ℕ) (mine : eqb (endpoint (x .st)) 0 ≡ true)
       both p q f g = rw (p, q, f, g) refl
 
   in-sent : x .busy ≡ false
-      → Watch Keeps Any (Served su) (ofToken tok.In false true (withPhase off (withTx (nak (w .tx)) w))) (run conc (servedAs tok.In x false frame) s)
+      → Watch Keeps Any (Served su) (ofToken tok.In false true (withPhase off (withTx (nak (w .tx)) w))) (run concrete (servedAs tok.In x false frame) s)
   in-sent b =
       let u = ofToken tok.In false true (withPhase off (withTx (nak (w .tx)) w)) in
       let v = withTx (flip (u .tx)) u in
@@ -278,7 +278,7 @@ module _ (x : Transfer) (frame : ℕ) (mine : eqb (endpoint (x .st)) 0 ≡ true)
       (λ t e l. made (watch-more (moved-out v t refl l armedOut (ap (λ (y : View). isOn (y .out .armed)) e)) (λ y _ o m. conclude y _ o _ (m .0) (m .1 ∙ ap (λ (q : View). cond armedOut (setOut completed q) q) e) (r-in w (view (s .0)) armedOut refl r) (same-stage armedOut _ _ two two) seen-su)))) .ok
 
   in-token : x .busy ≡ true
-      → Watch Keeps Any (Served su) (happens (pipe.token In) (withPhase off w)) (run conc (servedAs tok.In x false frame) s)
+      → Watch Keeps Any (Served su) (happens (pipe.token In) (withPhase off w)) (run concrete (servedAs tok.In x false frame) s)
   in-token b =
       let u = happens (pipe.token In) (withPhase off w) in
       (framing x frame mine u refl s k tok.In false u (view (s .0)) refl
@@ -287,14 +287,14 @@ module _ (x : Transfer) (frame : ℕ) (mine : eqb (endpoint (x .st)) 0 ≡ true)
 
   plain-token : (tk : Token) (iso : Bool) → Quiet {i = true} (dispatch tk x iso frame)
       → Quiet {i = true} (ep0MovedOn tk)
-      → Watch Keeps Any (Served su) (withPhase off w) (run conc (servedAs tk x iso frame) s)
+      → Watch Keeps Any (Served su) (withPhase off w) (run concrete (servedAs tk x iso frame) s)
   plain-token tk iso q p =
       (framing x frame mine (withPhase off w) refl s k tk iso (withPhase off w) (view (s .0)) refl
       (λ t e l. made (watch-more (q-when {b = not (x .busy)} q .goes (withPhase off w) t refl l) (λ _ _ _ m. (m .0, m .1 ∙ e, m .2))))
       (λ t e l. made (watch-more (p .goes (withPhase off w) t refl l) (λ y _ o m. conclude y (withPhase off w) o (view (s .0)) (m .0) (m .1 ∙ e) r two seen-su)))) .ok
 
   pub served-ep0 : (tk : Token) (iso busy ok : Bool) → x .busy ≡ busy → togOk (x .st) ≡ ok → NotIso tk iso
-      → Watch Keeps Any (Served su) (ofToken tk busy ok (withPhase off (naked tk busy ok w))) (run conc (servedAs tk x iso frame) s)
+      → Watch Keeps Any (Served su) (ofToken tk busy ok (withPhase off (naked tk busy ok w))) (run concrete (servedAs tk x iso frame) s)
   served-ep0 tok.Out false false true b o i = out-taken b o
   served-ep0 tok.Out false false false b o i = out-token false false refl b o
   served-ep0 tok.Out false true ok b o i = out-token true ok refl b o

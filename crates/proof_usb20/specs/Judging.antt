@@ -19,7 +19,7 @@ use Rattle.state.specs.Wakes.{wakeCode, listed, woken}
 use Rattle.state.specs.Driver.{key, epOn, withOn}
 use Rattle.model.specs.declared.Transfer.{Transfer}
 use Rattle.model.specs.Tree as tree
-use Rattle.model.specs.Cells.{Plain, ep-cell}
+use Rattle.model.specs.Cells.{EpCore, ep-cell}
 use Rattle.model.specs.Script.{run, when, waken}
 use Rattle.model.specs.Statics.{isOn, flag, withReady, withArmed, withTog, withLen, completed, modifyReg}
 use Rattle.model.specs.Every.{sameReg}
@@ -27,8 +27,8 @@ use Rattle.model.specs.Handler.{repeated, toggled, received, sent, outArm, inAr
 use Rattle.model.specs.TogglesLaws.{number}
 use Rattle.model.specs.Usb20Toggles.{Pid, DATA0, DATA1, same}
 use Rattle.model_ops.specs.Rings.{St}
-use Rattle.model_ops.specs.Conc.{conc}
-use Rattle.proof_book.specs.Sorts.{act-steady}
+use Rattle.model_ops.specs.Concrete.{concrete}
+use Rattle.proof_book.specs.TransferKinds.{act-steady}
 use Rattle.proof_usb20.specs.Exempt.{differ}
 use Rattle.proof_usb20.specs.Sequence.{Track, off, due, owes, withPhase, own, shown, lengthOf, judged, acksAs, howOften, reads, saw}
 use Rattle.proof_usb20.specs.Follow as follow
@@ -111,10 +111,10 @@ module _ (D : Dir) (E : ℕ) where
     other-bit v h = rw h refl
 
     -- a repeat: acknowledged again where a packet is waited for
-    again : (s t : St) (v : ℕ) (b : Bool) → isOn (conc .get (ep-cell D e) t .armed) ≡ b
+    again : (s t : St) (v : ℕ) (b : Bool) → isOn (concrete .get (ep-cell D e) t .armed) ≡ b
         → view D E (t .0) ≡ view D E (s .0) → Kept D E true t → Hears D E true s t
-        → Follow D E (λ y _ u. (y ≡ withPhase off w) × (view D E (u .0) ≡ view D E (s .0)) × Kept D E true u × Hears D E true s u) (withPhase (cond b (owes v) off) w) (run {i = true} conc (when (isOn (conc .get (ep-cell D e) t .armed)) (modifyReg (ctrlOf D) e ack)) t)
-    again s t v true h z l f = follow.follow-cond D E (isOn (conc .get (ep-cell D e) t .armed))
+        → Follow D E (λ y _ u. (y ≡ withPhase off w) × (view D E (u .0) ≡ view D E (s .0)) × Kept D E true u × Hears D E true s u) (withPhase (cond b (owes v) off) w) (run {i = true} concrete (when (isOn (concrete .get (ep-cell D e) t .armed)) (modifyReg (ctrlOf D) e ack)) t)
+    again s t v true h z l f = follow.follow-cond D E (isOn (concrete .get (ep-cell D e) t .armed))
         (λ _. at-ask tt (λ n u _ p. back D E (read-again v n) (at-ask tt (λ x a _ q. back D E (acked n x) (
         let ku : Kept D E true u = kept-by D E {s = t} {t = u} p l in
         let ka : Kept D E true a = kept-by D E {s = u} {t = a} q ku in
@@ -122,10 +122,10 @@ module _ (D : Dir) (E : ℕ) where
         let ha : Hears D E true u a = hears-same D E {s = u} {t = a} (q .2) in
         at-end (refl, q .0 ∙ (p .0 ∙ z), ka, hears-then D E f (hears-then D E hu ha)))))))
         (λ q. differ (sym q ∙ h))
-    again s t v false h z l f = follow.follow-cond D E (isOn (conc .get (ep-cell D e) t .armed)) (λ q. differ (sym h ∙ q)) (λ _. at-end (refl, z, l, f))
+    again s t v false h z l f = follow.follow-cond D E (isOn (concrete .get (ep-cell D e) t .armed)) (λ q. differ (sym h ∙ q)) (λ _. at-end (refl, z, l, f))
 
     pub toggles-own : (s : St) → Kept D E true s → Fits w (view D E (s .0)) → eqb (s .0 .globals .stage) 2 ≡ true
-        → Follow D E (Told s w k) (withPhase (due k) w) (run conc (toggled {i = true} D e) s)
+        → Follow D E (Told s w k) (withPhase (due k) w) (run concrete (toggled {i = true} D e) s)
     unfolding repeated withOn isOn
     toggles-own s l r two = follow.follow-bind D E ((q-looks D E) 2001 .goes (withPhase (due k) w) s (due-idle k w, λ _ _ _ _. refl) l) (λ y _ a m. back D E (m .0) (at-ask tt (λ v t _ p.
         let z : view D E (t .0) ≡ view D E (s .0) = p .0 ∙ m .1 in
@@ -133,17 +133,17 @@ module _ (D : Dir) (E : ℕ) where
         let kt : Kept D E true t = kept-by D E {s = a} {t = t} p (m .2) in
         let at : Hears D E true a t = hears-same D E {s = a} {t = t} (p .2) in
         let hs : Hears D E true s t = hears-then D E (m .3) at in
-        let g : repeated (conc .get (ep-cell D e) t) v ≡ same (w .bit) (shown v) = ap (λ (x : Plain). eqb (x .tog) (flag (isData1 v))) (got D E D e t q) ∙ (ap (λ (x : Seen). eqb (x .tog) (flag (isData1 v))) z ∙ (ap (λ n. eqb n (flag (isData1 v))) (r .tog) ∙ agree (w .bit) v)) in
+        let g : repeated (concrete .get (ep-cell D e) t) v ≡ same (w .bit) (shown v) = ap (λ (x : EpCore). eqb (x .tog) (flag (isData1 v))) (got D E D e t q) ∙ (ap (λ (x : Seen). eqb (x .tog) (flag (isData1 v))) z ∙ (ap (λ n. eqb n (flag (isData1 v))) (r .tog) ∙ agree (w .bit) v)) in
         let st2 : eqb (t .0 .globals .stage) 2 ≡ true = ap (λ (x : Seen). eqb (x .stage) 2) z ∙ two in
-        let ar : isOn (conc .get (ep-cell D e) t .armed) ≡ w .armed = ap (λ (x : Plain). isOn (x .armed)) (got D E D e t q) ∙ (ap (λ (x : Seen). isOn (x .armed)) z ∙ r .armed) in
-        back D E (read-word v) (follow.follow-cond D E (repeated (conc .get (ep-cell D e) t) v)
+        let ar : isOn (concrete .get (ep-cell D e) t .armed) ≡ w .armed = ap (λ (x : EpCore). isOn (x .armed)) (got D E D e t q) ∙ (ap (λ (x : Seen). isOn (x .armed)) z ∙ r .armed) in
+        back D E (read-word v) (follow.follow-cond D E (repeated (concrete .get (ep-cell D e) t) v)
         (λ h. back D E (same-bit v (w .armed) refl (sym g ∙ h)) (follow.follow-bind D E (again s t v (w .armed) ar z kt hs)
         (λ y _ u x. at-end (repeat refl (x .0) (subst (Fits w) (sym (x .1)) r) (x .2) (ap (λ (x : Seen). eqb (x .stage) 2) (x .1) ∙ two) (x .3)))))
         (λ h. back D E (other-bit v (sym g ∙ h))
-        (let f : Plain → Plain = λ p. withArmed 0 (withTog (flag (isData1 v)) p) in
+        (let f : EpCore → EpCore = λ p. withArmed 0 (withTog (flag (isData1 v)) p) in
         let c = changed D E D e f t q (kt .whole) in
-        at-end (new v refl refl (ap (λ (x : Seen). x .tog) c ∙ numbers v) (ap (λ (x : Seen). x .len) (c) ∙ (ap (λ (x : Seen). x .len) z ∙ r .len)) (ap (λ (x : Seen). isOn (x .armed)) c) (put-kept D E (ep-cell D e) (f (conc .get (ep-cell D e) t)) t kt) st2
-        (hears-then D E hs (put-hears D E (ep-cell D e) (f (conc .get (ep-cell D e) t)) t)))))))))
+        at-end (new v refl refl (ap (λ (x : Seen). x .tog) c ∙ numbers v) (ap (λ (x : Seen). x .len) (c) ∙ (ap (λ (x : Seen). x .len) z ∙ r .len)) (ap (λ (x : Seen). isOn (x .armed)) c) (put-kept D E (ep-cell D e) (f (concrete .get (ep-cell D e) t)) t kt) st2
+        (hears-then D E hs (put-hears D E (ep-cell D e) (f (concrete .get (ep-cell D e) t)) t)))))))))
 
 -- ---- the arms
 
@@ -170,7 +170,7 @@ code-own In E e o = eq-eqb (e % 16) (E % 16) (omega (arith, o))
 
 -- its task is woken
 module _ (D : Dir) (E e : ℕ) (o : Own D E D e) (u : St) (l : Kept D E true u) where
-  woken-kept : Kept D E true (conc .act (waken (wakeCode D e ∷ [])) u)
+  woken-kept : Kept D E true (concrete .act (waken (wakeCode D e ∷ [])) u)
   unfolding epOn
   woken-kept = record {
     whole = act-steady (waken (wakeCode D e ∷ [])) refl u .places ∙ l .whole;
@@ -179,55 +179,55 @@ module _ (D : Dir) (E e : ℕ) (o : Own D E D e) (u : St) (l : Kept D E true u) 
     room = λ h. woken-room D E (wakeCode D e) (u .0 .wakes) (l .room h);
   }
 
-  woken-heard : (y : Track) → y .new ≡ true → heard D E u ≡ 0 → Heard D E y (conc .act (waken (wakeCode D e ∷ [])) u)
+  woken-heard : (y : Track) → y .new ≡ true → heard D E u ≡ 0 → Heard D E y (concrete .act (waken (wakeCode D e ∷ [])) u)
   woken-heard y n h = by (woken-own D E (wakeCode D e) (u .0 .wakes) (l .room refl) (code-own D E e o))
     where
       by : (64 ≤ woken (wakeCode D e) (u .0 .wakes) .count) ⊎ (howOften (wakeCode D E) (listed (woken (wakeCode D e) (u .0 .wakes))) ≡ heard D E u + 1)
-          → Heard D E y (conc .act (waken (wakeCode D e ∷ [])) u)
+          → Heard D E y (concrete .act (waken (wakeCode D e ∷ [])) u)
       by (inl f) = inl f
       by (inr f) = inr (f ∙ (ap (λ k. k + 1) h ∙ sym (ap flag n)))
 
 module _ (E : ℕ) (x : Transfer) (k : ℕ) (w : Track) (s : St) (quiet : w .new ≡ false) (none : heard Out E s ≡ 0) where
   pub arm-out : own Out E Out (endpoint (x .st)) ≡ true → eqb (endpoint (x .st)) 0 ≡ false → x .len ≡ k
       → Kept Out E true s → Fits w (view Out E (s .0)) → eqb (s .0 .globals .stage) 2 ≡ true
-      → Follow Out E (Done Out E) (withPhase (due k) w) (run conc (outArm {i = true} x false) s)
+      → Follow Out E (Done Out E) (withPhase (due k) w) (run concrete (outArm {i = true} x false) s)
   unfolding withOn isOn
   arm-out o nz e l r two =
       follow.follow-cond Out E (eqb (endpoint (x .st)) 0) (λ z. differ (sym nz ∙ z)) (λ _. follow.follow-bind Out E (toggles-own Out E (endpoint (x .st)) k w o s l r two) (λ y b t m. go y b t m))
     where
       go : (y : Track) (b : Bool) (t : St) → Told Out E s w k y b t
-          → Follow Out E (Done Out E) y (run {i = true} conc (when b (received (endpoint (x .st)) (x .len))) t)
+          → Follow Out E (Done Out E) y (run {i = true} concrete (when b (received (endpoint (x .st)) (x .len))) t)
       go y b t (repeat h p f l two m) = follow.follow-cond Out E b (λ z. differ (sym h ∙ z)) (λ _. at-end (done-as Out E y (withPhase off w) t p refl f l two (inr (m .same refl ∙ (none ∙ sym (ap flag quiet))))))
       go y b t (new v h p g n a l two m) = follow.follow-cond Out E b
           (λ _.
           let q = own-true Out E Out (endpoint (x .st)) o in
-          let f : Plain → Plain = λ p. completed (withLen (x .len) p) in
-          let u = conc .put (ep-cell Out (endpoint (x .st))) (f (conc .get (ep-cell Out (endpoint (x .st))) t)) t in
+          let f : EpCore → EpCore = λ p. completed (withLen (x .len) p) in
+          let u = concrete .put (ep-cell Out (endpoint (x .st))) (f (concrete .get (ep-cell Out (endpoint (x .st))) t)) t in
           let c = changed Out E Out (endpoint (x .st)) f t q (l .whole) in
           let i = waken (wakeCode Out (endpoint (x .st)) ∷ []) in
-          let ku = put-kept Out E (ep-cell Out (endpoint (x .st))) (f (conc .get (ep-cell Out (endpoint (x .st))) t)) t l in
-          at-end (done-as Out E y (newly Out v k w) (conc .act i u) p refl (subst (Fits (newly Out v k w)) (sym (act-view Out E i refl u ∙ c)) (fits-2 Out E two g refl e refl)) (woken-kept Out E (endpoint (x .st)) q u ku) two
-          (woken-heard Out E (endpoint (x .st)) q u ku (newly Out v k w) refl (put-hears Out E {m = true} (ep-cell Out (endpoint (x .st))) (f (conc .get (ep-cell Out (endpoint (x .st))) t)) t .same refl ∙ (m .same refl ∙ none)))))
+          let ku = put-kept Out E (ep-cell Out (endpoint (x .st))) (f (concrete .get (ep-cell Out (endpoint (x .st))) t)) t l in
+          at-end (done-as Out E y (newly Out v k w) (concrete .act i u) p refl (subst (Fits (newly Out v k w)) (sym (act-view Out E i refl u ∙ c)) (fits-2 Out E two g refl e refl)) (woken-kept Out E (endpoint (x .st)) q u ku) two
+          (woken-heard Out E (endpoint (x .st)) q u ku (newly Out v k w) refl (put-hears Out E {m = true} (ep-cell Out (endpoint (x .st))) (f (concrete .get (ep-cell Out (endpoint (x .st))) t)) t .same refl ∙ (m .same refl ∙ none)))))
           (λ z. differ (sym z ∙ h))
 
 module _ (E : ℕ) (x : Transfer) (frame k : ℕ) (w : Track) (s : St) (quiet : w .new ≡ false) (none : heard In E s ≡ 0) where
   pub arm-in : own In E In (endpoint (x .st)) ≡ true → eqb (endpoint (x .st)) 0 ≡ false → x .len ≡ k → Kept In E true s
       → Fits w (view In E (s .0)) → eqb (s .0 .globals .stage) 2 ≡ true
-      → Follow In E (Done In E) (withPhase (due k) w) (run conc (inArm {i = true} x false frame) s)
+      → Follow In E (Done In E) (withPhase (due k) w) (run concrete (inArm {i = true} x false frame) s)
   unfolding withOn isOn
   arm-in o nz e l r two =
       follow.follow-cond In E (eqb (endpoint (x .st)) 0) (λ z. differ (sym nz ∙ z)) (λ _. follow.follow-bind In E (toggles-own In E (endpoint (x .st)) k w o s l r two) (λ y b t m. go y b t m))
     where
       go : (y : Track) (b : Bool) (t : St) → Told In E s w k y b t
-          → Follow In E (Done In E) y (run {i = true} conc (when b (sent (endpoint (x .st)))) t)
+          → Follow In E (Done In E) y (run {i = true} concrete (when b (sent (endpoint (x .st)))) t)
       go y b t (repeat h p f l two m) = follow.follow-cond In E b (λ z. differ (sym h ∙ z)) (λ _. at-end (done-as In E y (withPhase off w) t p refl f l two (inr (m .same refl ∙ (none ∙ sym (ap flag quiet))))))
       go y b t (new v h p g n a l two m) = follow.follow-cond In E b
           (λ _.
           let q = own-true In E In (endpoint (x .st)) o in
-          let u = conc .put (ep-cell In (endpoint (x .st))) (withReady 1 (conc .get (ep-cell In (endpoint (x .st))) t)) t in
+          let u = concrete .put (ep-cell In (endpoint (x .st))) (withReady 1 (concrete .get (ep-cell In (endpoint (x .st))) t)) t in
           let c = changed In E In (endpoint (x .st)) (withReady 1) t q (l .whole) in
           let i = waken (wakeCode In (endpoint (x .st)) ∷ []) in
-          let ku = put-kept In E (ep-cell In (endpoint (x .st))) (withReady 1 (conc .get (ep-cell In (endpoint (x .st))) t)) t l in
-          at-end (done-as In E y (newly In v k w) (conc .act i u) p refl (subst (Fits (newly In v k w)) (sym (act-view In E i refl u ∙ c)) (fits-2 In E two g refl n a)) (woken-kept In E (endpoint (x .st)) q u ku) two
-          (woken-heard In E (endpoint (x .st)) q u ku (newly In v k w) refl (put-hears In E {m = true} (ep-cell In (endpoint (x .st))) (withReady 1 (conc .get (ep-cell In (endpoint (x .st))) t)) t .same refl ∙ (m .same refl ∙ none)))))
+          let ku = put-kept In E (ep-cell In (endpoint (x .st))) (withReady 1 (concrete .get (ep-cell In (endpoint (x .st))) t)) t l in
+          at-end (done-as In E y (newly In v k w) (concrete .act i u) p refl (subst (Fits (newly In v k w)) (sym (act-view In E i refl u ∙ c)) (fits-2 In E two g refl n a)) (woken-kept In E (endpoint (x .st)) q u ku) two
+          (woken-heard In E (endpoint (x .st)) q u ku (newly In v k w) refl (put-hears In E {m = true} (ep-cell In (endpoint (x .st))) (withReady 1 (concrete .get (ep-cell In (endpoint (x .st))) t)) t .same refl ∙ (m .same refl ∙ none)))))
           (λ z. differ (sym z ∙ h))

@@ -10,7 +10,7 @@ use Rattle.state.specs.Driver.{Driver}
 use Rattle.model.specs.Answers.{Answer}
 use Rattle.model.specs.Calls.{Config, Op, calls, startRow}
 use Rattle.model.specs.Machine.{Buf, Call, start, begin, go, question, Event, Ans, ended, handed, told, Way, idle, busy, Machine}
-use Rattle.machine.specs.Under.{driverOf, drive}
+use Rattle.machine.specs.Suspended.{driverOf, drive}
 use Rattle.proof_book.specs.Always.{after}
 
 pub record Observer : Type 1 where

@@ -22,7 +22,7 @@ use Rattle.model.specs.Answers.{Answer, Refused, Done, resultless}
 use Rattle.model.specs.Control.{SETUP, DATA-OUT, DATA-IN, ACCEPT, requestOf, no-control, dataInOf, addressOf, ends-control, unlessSetup, withinMaximum, requested, aborted-else, acks, take-closing, statusIn}
 use Rattle.model.specs.Calls.{slotted, other, aside, PollDataOut, BeginDataIn, BusEnable, BusDisable, Microframe, IsStalled, SetPaced, Advance, BeginSetup, PollSetup, PollDataIn, BeginAccept, PollAccept, BeginReject, BeginDataOut, BeginAcceptSetAddress, Aside, Open, Close, Queue, asideCode}
 use Rattle.model_ops.specs.Rings.{St}
-use Rattle.model_ops.specs.Conc.{conc}
+use Rattle.model_ops.specs.Concrete.{concrete}
 use Rattle.proof_book.specs.Sorting.{Sorting}
 use Rattle.proof_usb20.specs.Sequence.{Track, before}
 use Rattle.proof_usb20.specs.Follow as follow
@@ -73,7 +73,7 @@ module _ (D : Dir) (E : ℕ) where
   ended-view (at-end p) = p
 
   pub aside-view : (o : Aside) (d : Driver) (b : Buf) (a : Answer) (t : St) → Sorting d
-      → run conc (asideCode o) (d, b) ≡ tree.ends a t → view D E (t .0) ≡ view D E d
+      → run concrete (asideCode o) (d, b) ≡ tree.ends a t → view D E (t .0) ≡ view D E d
   aside-view o d b a t z h = ended-view (subst (Follow D E (λ _ _ t. view D E (t .0) ≡ view D E d) before) h (follow.follow-more D E (q-aside o .goes before (d, b) (refl, λ _ _ _ _. refl) (loose D E (z .places))) (λ _ _ _ m. m .1)))
 
   -- ---- EP0's

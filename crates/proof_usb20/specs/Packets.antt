@@ -18,7 +18,7 @@ use Rattle.state.specs.Wakes.{Wakes, wakeCode, all-woken}
 use Rattle.state.specs.Driver.{epOn, withOn}
 use Rattle.model.specs.declared.Transfer.{Transfer}
 use Rattle.model.specs.Tree as tree
-use Rattle.model.specs.Cells.{Plain, ep-cell}
+use Rattle.model.specs.Cells.{EpCore, ep-cell}
 use Rattle.model.specs.Script.{Script, ret, test, when, get, run, waken, _>>=_, _>>_}
 use Rattle.model.specs.Statics.{isOn, flag, withArmed, withTog, withLen, withReady, completed, modifyEp, modifyReg}
 use Rattle.model.specs.Handler.{looks, repeated, toggled, received, sent, outArm, inArm}
@@ -28,45 +28,45 @@ use Rattle.model.specs.TogglesLaws.{number, shown, repeated-not-passed}
 use Rattle.model.specs.ToggledLaws.{toggling, KeepsRecord, Answered, ack-keeps, ack-acks}
 use Rattle.model_ops.specs.Records.{plainOf, merged}
 use Rattle.model_ops.specs.Rings.{St}
-use Rattle.model_ops.specs.Conc.{conc}
-use Rattle.proof_book.specs.Sorts.{put-steady}
+use Rattle.model_ops.specs.Concrete.{concrete}
+use Rattle.proof_book.specs.TransferKinds.{put-steady}
 use Rattle.proof_toggles.specs.Toggles.{Whole, same-ep}
 use Rattle.proof_usb20.specs.Exempt.{differ}
 
 -- the record of a new packet: taken (OUT) with its length, or sent (IN); the bit as it is now
-abbrev pub delivered : Dir → Pid → ℕ → Plain → Plain
+abbrev pub delivered : Dir → Pid → ℕ → EpCore → EpCore
 delivered Out p n r = completed (withLen n (withArmed 0 (withTog (number p) r)))
 delivered In p n r = withReady 1 (withArmed 0 (withTog (number p) r))
 
 -- what becomes of the endpoint's record r, with the wake-ups ws before; `true`: a new packet
-abbrev pub Passed : Dir → ℕ → Plain → Wakes → Pid → ℕ → Bool → List Access → St → Type 0
-Passed d e r k p n true ws t = (conc .get (ep-cell d e) t ≡ delivered d p n r) × (t .0 .wakes ≡ all-woken (wakeCode d e ∷ []) k) × (ws ≡ [])
-Passed d e r k p n false ws t = (conc .get (ep-cell d e) t ≡ r) × (t .0 .wakes ≡ k) × Answered d e p (isOn (r .armed)) ws
+abbrev pub Passed : Dir → ℕ → EpCore → Wakes → Pid → ℕ → Bool → List Access → St → Type 0
+Passed d e r k p n true ws t = (concrete .get (ep-cell d e) t ≡ delivered d p n r) × (t .0 .wakes ≡ all-woken (wakeCode d e ∷ []) k) × (ws ≡ [])
+Passed d e r k p n false ws t = (concrete .get (ep-cell d e) t ≡ r) × (t .0 .wakes ≡ k) × Answered d e p (isOn (r .armed)) ws
 
 -- between two accesses the record, the wake-ups and the records' places stay: so do open, close and queue leave them
 abbrev pub Stay : Dir → ℕ → Wakes → St → St → Type 0
-Stay d e k = KeepsRecord (λ t. Whole t × (t .0 .wakes ≡ k)) conc d e
+Stay d e k = KeepsRecord (λ t. Whole t × (t .0 .wakes ≡ k)) concrete d e
 
-module _ (d : Dir) (e : ℕ) (r : Plain) (k : Wakes) (p : Pid) where
+module _ (d : Dir) (e : ℕ) (r : EpCore) (k : Wakes) (p : Pid) where
   abbrev Runs : {A : Type 0} → (List Access → A → St → Type 0) → List Access → tree.Out St A → Type 0
   Runs P ws o = Every (toggling d e p) (Stay d e k) (λ _. Unit {0}) P ws o
 
   abbrev Same : St → Type 0
-  Same t = (conc .get (ep-cell d e) t ≡ r) × (Whole t × (t .0 .wakes ≡ k))
+  Same t = (concrete .get (ep-cell d e) t ≡ r) × (Whole t × (t .0 .wakes ≡ k))
 
-  looked : (i : Bool) (n : ℕ) (s : St) → Same s → Runs (λ ws _ t. (ws ≡ []) × Same t) [] (run conc (looks {i = i} n) s)
+  looked : (i : Bool) (n : ℕ) (s : St) → Same s → Runs (λ ws _ t. (ws ≡ []) × Same t) [] (run concrete (looks {i = i} n) s)
   unfolding looks
   looked i zero s h = at-end (refl, h)
   looked i (suc n) s h = at-ask tt (λ v t _ q. every-cond (sieFree v) (λ _. at-end (refl, (q .0 ∙ h .0, q .1))) (λ _. looked i n t (q .0 ∙ h .0, q .1)))
 
-  put-get : (v : Plain) (s : St) → Whole s → plainOf (merged (epOn (s .0) d e) v) ≡ v
-      → conc .get (ep-cell d e) (conc .put (ep-cell d e) v s) ≡ v
+  put-get : (v : EpCore) (s : St) → Whole s → plainOf (merged (epOn (s .0) d e) v) ≡ v
+      → concrete .get (ep-cell d e) (concrete .put (ep-cell d e) v s) ≡ v
   put-get v s h q = ap plainOf (same-ep (s .0) d e (merged (epOn (s .0) d e) v) h) ∙ q
 
   -- what `toggled` leaves
   abbrev Judged : Bool → List Access → Bool → St → Type 0
-  Judged true ws b t = (b ≡ true) × (conc .get (ep-cell d e) t ≡ withArmed 0 (withTog (number p) r)) × (ws ≡ []) × Whole t × (t .0 .wakes ≡ k)
-  Judged false ws b t = (b ≡ false) × (conc .get (ep-cell d e) t ≡ r) × Answered d e p (isOn (r .armed)) ws × (t .0 .wakes ≡ k)
+  Judged true ws b t = (b ≡ true) × (concrete .get (ep-cell d e) t ≡ withArmed 0 (withTog (number p) r)) × (ws ≡ []) × Whole t × (t .0 .wakes ≡ k)
+  Judged false ws b t = (b ≡ false) × (concrete .get (ep-cell d e) t ≡ r) × Answered d e p (isOn (r .armed)) ws × (t .0 .wakes ≡ k)
 
   -- `toggled` once the word is read
   abbrev verdict : {i : Bool} → ℕ → Script i Bool
@@ -81,78 +81,78 @@ module _ (d : Dir) (e : ℕ) (r : Plain) (k : Wakes) (p : Pid) where
           ret true)
 
   judged : (i new : Bool) (ws : List Access) → ws ≡ [] → (u : St) (word : ℕ) → Same u → toggle word ≡ number p
-      → repeated r word ≡ not new → Runs (Judged new) ws (run conc (verdict {i = i} word) u)
+      → repeated r word ≡ not new → Runs (Judged new) ws (run concrete (verdict {i = i} word) u)
   unfolding withOn
-  judged i true ws n u word h b y = every-cond (repeated (conc .get (ep-cell d e) u) word)
-      (λ x. differ (sym y ∙ (ap (λ (q : Plain). repeated q word) (sym (h .0)) ∙ x)))
+  judged i true ws n u word h b y = every-cond (repeated (concrete .get (ep-cell d e) u) word)
+      (λ x. differ (sym y ∙ (ap (λ (q : EpCore). repeated q word) (sym (h .0)) ∙ x)))
       (λ _.
-      let v = withArmed 0 (withTog (flag (isData1 word)) (conc .get (ep-cell d e) u)) in
-      at-end (refl, put-get v u (h .1 .0) refl ∙ (ap (λ (q : Plain). withArmed 0 (withTog (flag (isData1 word)) q)) (h .0) ∙ ap (λ (m : ℕ). withArmed 0 (withTog m r)) (shown p word b)), n, put-steady (ep-cell d e) v u .places ∙ h .1 .0, h .1 .1))
-  judged i false ws n u word h b y = every-cond (repeated (conc .get (ep-cell d e) u) word)
-      (λ _. every-bind {P = λ ws _ t. (conc .get (ep-cell d e) t ≡ r) × Answered d e p (isOn (r .armed)) ws × (t .0 .wakes ≡ k)}
-      (every-cond (isOn (conc .get (ep-cell d e) u .armed))
-      (λ a. at-ask tt (λ w t c q. at-ask tt (λ _ t′ _ q′. at-end (q′ .0 ∙ (q .0 ∙ h .0), rw (sym (ap (λ (z : Plain). isOn (z .armed)) (h .0)) ∙ a) (record { word = ack w; writes = ap (λ l. Write (ctrlOf d) e (ack w) ∷ l) n; acks = ack-acks w; keeps = ack-keeps w ∙ c refl }), q′ .1 .1))))
-      (λ a. at-end (h .0, rw (sym (ap (λ (z : Plain). isOn (z .armed)) (h .0)) ∙ a) n, h .1 .1)))
+      let v = withArmed 0 (withTog (flag (isData1 word)) (concrete .get (ep-cell d e) u)) in
+      at-end (refl, put-get v u (h .1 .0) refl ∙ (ap (λ (q : EpCore). withArmed 0 (withTog (flag (isData1 word)) q)) (h .0) ∙ ap (λ (m : ℕ). withArmed 0 (withTog m r)) (shown p word b)), n, put-steady (ep-cell d e) v u .places ∙ h .1 .0, h .1 .1))
+  judged i false ws n u word h b y = every-cond (repeated (concrete .get (ep-cell d e) u) word)
+      (λ _. every-bind {P = λ ws _ t. (concrete .get (ep-cell d e) t ≡ r) × Answered d e p (isOn (r .armed)) ws × (t .0 .wakes ≡ k)}
+      (every-cond (isOn (concrete .get (ep-cell d e) u .armed))
+      (λ a. at-ask tt (λ w t c q. at-ask tt (λ _ t′ _ q′. at-end (q′ .0 ∙ (q .0 ∙ h .0), rw (sym (ap (λ (z : EpCore). isOn (z .armed)) (h .0)) ∙ a) (record { word = ack w; writes = ap (λ l. Write (ctrlOf d) e (ack w) ∷ l) n; acks = ack-acks w; keeps = ack-keeps w ∙ c refl }), q′ .1 .1))))
+      (λ a. at-end (h .0, rw (sym (ap (λ (z : EpCore). isOn (z .armed)) (h .0)) ∙ a) n, h .1 .1)))
       (λ g _ t x. at-end (refl, x .0, x .1, x .2)))
-      (λ x. differ (sym x ∙ (ap (λ (q : Plain). repeated q word) (h .0) ∙ y)))
+      (λ x. differ (sym x ∙ (ap (λ (q : EpCore). repeated q word) (h .0) ∙ y)))
 
   pub told : (i new : Bool) (s : St) → Same s → ((word : ℕ) → toggle word ≡ number p → repeated r word ≡ not new)
-      → Runs (Judged new) [] (run conc (toggled {i = i} d e) s)
+      → Runs (Judged new) [] (run concrete (toggled {i = i} d e) s)
   told i new s h y = every-bind (looked i 2001 s h) (λ g _ t x. at-ask tt (λ word u c q. judged i new g (x .0) u word (q .0 ∙ x .1 .0, q .1) (c refl) (y word (c refl))))
 
 wake-leaves : (d : Dir) (e : ℕ) (cs : List ℕ) (s : St)
-    → conc .get (ep-cell d e) (conc .act (waken cs) s) ≡ conc .get (ep-cell d e) s
+    → concrete .get (ep-cell d e) (concrete .act (waken cs) s) ≡ concrete .get (ep-cell d e) s
 unfolding epOn
 wake-leaves d e cs s = refl
 
-judges : (r : Plain) (p : Pid) (new : Bool) → eqb (r .tog) (number p) ≡ not new → (word : ℕ) → toggle word ≡ number p
+judges : (r : EpCore) (p : Pid) (new : Bool) → eqb (r .tog) (number p) ≡ not new → (word : ℕ) → toggle word ≡ number p
     → repeated r word ≡ not new
 unfolding repeated
 judges r p new h word b = ap (eqb (r .tog)) (shown p word b) ∙ h
 
 -- the sequence bit in the chip is p; `new`: the recorded one is another. OUT ..
 pub out-packet : (x : Transfer) (s : St) (p : Pid) (new : Bool) → eqb (endpoint (x .st)) 0 ≡ false → Whole s
-    → let e = endpoint (x .st) in let r = conc .get (ep-cell Out e) s in
+    → let e = endpoint (x .st) in let r = concrete .get (ep-cell Out e) s in
     eqb (r .tog) (number p) ≡ not new
-    → Every (toggling Out e p) (Stay Out e (s .0 .wakes)) (λ _. Unit {0}) (λ ws _ t. Passed Out e r (s .0 .wakes) p (x .len) new ws t) [] (run conc (outArm {i = true} x false) s)
+    → Every (toggling Out e p) (Stay Out e (s .0 .wakes)) (λ _. Unit {0}) (λ ws _ t. Passed Out e r (s .0 .wakes) p (x .len) new ws t) [] (run concrete (outArm {i = true} x false) s)
 unfolding withOn
 out-packet x s p new o h y =
-    let e = endpoint (x .st) in let r = conc .get (ep-cell Out e) s in let k = s .0 .wakes in
+    let e = endpoint (x .st) in let r = concrete .get (ep-cell Out e) s in let k = s .0 .wakes in
     every-cond (eqb e 0) (λ z. differ (sym o ∙ z)) (λ _. every-bind (told Out e r k p true new s (refl, (h, refl)) (judges r p new y)) (λ ws b t j. go new ws b t j))
   where
     go : (new : Bool) (ws : List Access) (b : Bool) (t : St)
-        → Judged Out (endpoint (x .st)) (conc .get (ep-cell Out (endpoint (x .st))) s) (s .0 .wakes) p new ws b t
-        → Every (toggling Out (endpoint (x .st)) p) (Stay Out (endpoint (x .st)) (s .0 .wakes)) (λ _. Unit {0}) (λ ws _ t. Passed Out (endpoint (x .st)) (conc .get (ep-cell Out (endpoint (x .st))) s) (s .0 .wakes) p (x .len) new ws t) ws (run {i = true} conc (when b (received (endpoint (x .st)) (x .len))) t)
+        → Judged Out (endpoint (x .st)) (concrete .get (ep-cell Out (endpoint (x .st))) s) (s .0 .wakes) p new ws b t
+        → Every (toggling Out (endpoint (x .st)) p) (Stay Out (endpoint (x .st)) (s .0 .wakes)) (λ _. Unit {0}) (λ ws _ t. Passed Out (endpoint (x .st)) (concrete .get (ep-cell Out (endpoint (x .st))) s) (s .0 .wakes) p (x .len) new ws t) ws (run {i = true} concrete (when b (received (endpoint (x .st)) (x .len))) t)
     go true ws b t j = every-cond b
         (λ _.
-        let e = endpoint (x .st) in let v = completed (withLen (x .len) (conc .get (ep-cell Out e) t)) in
-        at-end (wake-leaves Out e (wakeCode Out e ∷ []) (conc .put (ep-cell Out e) v t) ∙ (put-get Out e (conc .get (ep-cell Out e) s) (s .0 .wakes) p v t (j .3) refl ∙ ap (λ (q : Plain). completed (withLen (x .len) q)) (j .1)), ap (all-woken (wakeCode Out e ∷ [])) (j .4), j .2))
+        let e = endpoint (x .st) in let v = completed (withLen (x .len) (concrete .get (ep-cell Out e) t)) in
+        at-end (wake-leaves Out e (wakeCode Out e ∷ []) (concrete .put (ep-cell Out e) v t) ∙ (put-get Out e (concrete .get (ep-cell Out e) s) (s .0 .wakes) p v t (j .3) refl ∙ ap (λ (q : EpCore). completed (withLen (x .len) q)) (j .1)), ap (all-woken (wakeCode Out e ∷ [])) (j .4), j .2))
         (λ z. differ (sym z ∙ j .0))
     go false ws b t j = every-cond b (λ z. differ (sym (j .0) ∙ z)) (λ _. at-end (j .1, j .3, j .2))
 
 -- .. and IN
 pub in-packet : (x : Transfer) (s : St) (frame : ℕ) (p : Pid) (new : Bool) → eqb (endpoint (x .st)) 0 ≡ false → Whole s
-    → let e = endpoint (x .st) in let r = conc .get (ep-cell In e) s in
+    → let e = endpoint (x .st) in let r = concrete .get (ep-cell In e) s in
     eqb (r .tog) (number p) ≡ not new
-    → Every (toggling In e p) (Stay In e (s .0 .wakes)) (λ _. Unit {0}) (λ ws _ t. Passed In e r (s .0 .wakes) p (x .len) new ws t) [] (run conc (inArm {i = true} x false frame) s)
+    → Every (toggling In e p) (Stay In e (s .0 .wakes)) (λ _. Unit {0}) (λ ws _ t. Passed In e r (s .0 .wakes) p (x .len) new ws t) [] (run concrete (inArm {i = true} x false frame) s)
 unfolding withOn
 in-packet x s frame p new o h y =
-    let e = endpoint (x .st) in let r = conc .get (ep-cell In e) s in let k = s .0 .wakes in
+    let e = endpoint (x .st) in let r = concrete .get (ep-cell In e) s in let k = s .0 .wakes in
     every-cond (eqb e 0) (λ z. differ (sym o ∙ z)) (λ _. every-bind (told In e r k p true new s (refl, (h, refl)) (judges r p new y)) (λ ws b t j. go new ws b t j))
   where
     go : (new : Bool) (ws : List Access) (b : Bool) (t : St)
-        → Judged In (endpoint (x .st)) (conc .get (ep-cell In (endpoint (x .st))) s) (s .0 .wakes) p new ws b t
-        → Every (toggling In (endpoint (x .st)) p) (Stay In (endpoint (x .st)) (s .0 .wakes)) (λ _. Unit {0}) (λ ws _ t. Passed In (endpoint (x .st)) (conc .get (ep-cell In (endpoint (x .st))) s) (s .0 .wakes) p (x .len) new ws t) ws (run {i = true} conc (when b (sent (endpoint (x .st)))) t)
+        → Judged In (endpoint (x .st)) (concrete .get (ep-cell In (endpoint (x .st))) s) (s .0 .wakes) p new ws b t
+        → Every (toggling In (endpoint (x .st)) p) (Stay In (endpoint (x .st)) (s .0 .wakes)) (λ _. Unit {0}) (λ ws _ t. Passed In (endpoint (x .st)) (concrete .get (ep-cell In (endpoint (x .st))) s) (s .0 .wakes) p (x .len) new ws t) ws (run {i = true} concrete (when b (sent (endpoint (x .st)))) t)
     go true ws b t j = every-cond b
         (λ _.
-        let e = endpoint (x .st) in let v = withReady 1 (conc .get (ep-cell In e) t) in
-        at-end (wake-leaves In e (wakeCode In e ∷ []) (conc .put (ep-cell In e) v t) ∙ (put-get In e (conc .get (ep-cell In e) s) (s .0 .wakes) p v t (j .3) refl ∙ ap (withReady 1) (j .1)), ap (all-woken (wakeCode In e ∷ [])) (j .4), j .2))
+        let e = endpoint (x .st) in let v = withReady 1 (concrete .get (ep-cell In e) t) in
+        at-end (wake-leaves In e (wakeCode In e ∷ []) (concrete .put (ep-cell In e) v t) ∙ (put-get In e (concrete .get (ep-cell In e) s) (s .0 .wakes) p v t (j .3) refl ∙ ap (withReady 1) (j .1)), ap (all-woken (wakeCode In e ∷ [])) (j .4), j .2))
         (λ z. differ (sym z ∙ j .0))
     go false ws b t j = every-cond b (λ z. differ (sym (j .0) ∙ z)) (λ _. at-end (j .1, j .3, j .2))
 
 -- the record has the bit b as it was, `ts` are the transactions since, of which at most one passed: the chip's bit is
 -- another exactly if one did
-pub new-if-passed : {d : Dir} (r : Plain) (b : Pid) (ts : List (Transaction d)) → r .tog ≡ number b → passed b ts ≤ 1
+pub new-if-passed : {d : Dir} (r : EpCore) (b : Pid) (ts : List (Transaction d)) → r .tog ≡ number b → passed b ts ≤ 1
     → eqb (r .tog) (number (bitAfterAll b ts)) ≡ not (eqb (passed b ts) 1)
 unfolding repeated isData1 toggle
 new-if-passed r b ts h m = by (bitAfterAll b ts) refl

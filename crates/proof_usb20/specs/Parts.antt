@@ -16,15 +16,15 @@ use Rattle.regs.specs.ControlWord.{isData1}
 use Rattle.regs.specs.Status.{endpoint}
 use Rattle.state.specs.declared.Globals.{Globals}
 use Rattle.model.specs.declared.Transfer.{Transfer}
-use Rattle.model.specs.Cells.{Plain, Cell, ep-cell, globals-cell}
+use Rattle.model.specs.Cells.{EpCore, Cell, ep-cell, globals-cell}
 use Rattle.model.specs.Script.{Script, when, get}
 use Rattle.model.specs.Statics.{wake, completed, withLen, withReady, withTog, withArmed, withSofFrame, withLastFrame, flag, isoInEvery, isoOuts, modify, modifyEp, modifyReg}
 use Rattle.model.specs.IsoIn.{firstInFrame, isoInComplete, unseen, sofOne, sofWalk, onSof, lateWalk}
 use Rattle.model.specs.IsoOut.{arrives, checkWalk, isoOutCheck}
 use Rattle.model.specs.Handler.{looks, toggled, received, sent, sofArm, dispatch}
-use Rattle.model_ops.specs.Conc.{conc}
+use Rattle.model_ops.specs.Concrete.{concrete}
 use Rattle.proof_usb20.specs.Exempt.{differ}
-use Rattle.proof_book.specs.Sorts.{put-steady}
+use Rattle.proof_book.specs.TransferKinds.{put-steady}
 use Rattle.frame.specs.Usb20.{indexOf, frameOf}
 use Rattle.frame.specs.Advance.{previous}
 use Rattle.proof_usb20.specs.Watch.{at-end}
@@ -50,8 +50,8 @@ not-0 st h q = let e : st % 16 ≡ 0 = omega (arith, q) in absurd (subst (λ (b 
 pub q-reg : {i : Bool} (d : Dir) (e : ℕ) (f : ℕ → ℕ) → eqb e 0 ≡ false → Quiet (modifyReg {i = i} (ctrlOf d) e f)
 q-reg d e f h = q-bind (q-read (λ _. q-ret)) (λ v. q-write (other-word d e (f v) h) q-ret)
 
-pub q-ep : {i : Bool} (d : Dir) (e : ℕ) (f : Plain → Plain) → Other e → Quiet (modifyEp {i = i} d e f)
-q-ep d e f o = q-modify (ep-cell d e) f (λ s. put-other d e o (f (conc .get (ep-cell d e) s)) s)
+pub q-ep : {i : Bool} (d : Dir) (e : ℕ) (f : EpCore → EpCore) → Other e → Quiet (modifyEp {i = i} d e f)
+q-ep d e f o = q-modify (ep-cell d e) f (λ s. put-other d e o (f (concrete .get (ep-cell d e) s)) s)
 
 pub q-globals : {i : Bool} (f : Globals → Globals) → ((g : Globals) → f g .«setup_ready» ≡ g .«setup_ready»)
     → Quiet (modify {i = i} f)
@@ -83,7 +83,7 @@ pub q-complete : {i : Bool} (e : ℕ) → eqb e 0 ≡ false → Quiet (isoInComp
 q-complete e h = q-bind (q-act refl q-ret) (λ _. q-bind (q-bind (q-is (λ _. q-ret)) (λ b. q-test (q-bind (q-hand q-ret) (λ _. q-bind (q-look (λ _. q-ret)) (λ n. q-write (other-length e n h) q-ret))) (q-write (other-length e 0 h) q-ret))) (λ _. q-wake In e))
 
 q-first : {i : Bool} (e frame : ℕ) → Quiet (firstInFrame {i = i} e frame)
-q-first e frame = record { goes = λ w s z k. at-end (refl, put-frame In e frame s, steadily (put-steady (ep-cell In e) (withLastFrame frame (conc .get (ep-cell In e) s)) s) k) }
+q-first e frame = record { goes = λ w s z k. at-end (refl, put-frame In e frame s, steadily (put-steady (ep-cell In e) (withLastFrame frame (concrete .get (ep-cell In e) s)) s) k) }
 
 q-unseen : {i : Bool} (frame e : ℕ) → eqb e 0 ≡ false → Quiet (unseen {i = i} frame e)
 q-unseen frame e h = q-bind (q-modify (ep-cell In e) (withLastFrame (frameOf (previous (indexOf frame)))) (λ s. put-frame In e (frameOf (previous (indexOf frame))) s)) (λ _. q-complete e h)

@@ -20,7 +20,7 @@ use Rattle.model.specs.Answers.{Answer, Refused, NotYet, Done}
 use Rattle.model.specs.Control.{SETUP, DATA-OUT, DATA-IN, ACCEPT, no-control, dataInOf, setupBytes}
 use Rattle.model.specs.Calls.{slotted, other, PollDataOut, PollSetup, PollDataIn, PollAccept, code}
 use Rattle.model_ops.specs.Rings.{St}
-use Rattle.model_ops.specs.Conc.{conc}
+use Rattle.model_ops.specs.Concrete.{concrete}
 use Rattle.proof_book.specs.Sorting.{Sorting}
 use Rattle.proof_usb20.specs.Pipe.{Half, Pipe, Awaited, nothing, taken, given, confirmed, over, keeps, sets}
 use Rattle.proof_usb20.specs.Log.{Log, afresh, Accepted, Allowed, asksAfter, pollOut, pollIn, pollStatus}
@@ -54,7 +54,7 @@ over-now r k c = inr (record { stage = k .stage ∙ r .stage; out = refit (k .ou
 -- ---- the states
 
 abbrev none : St → St
-none s = conc .put control-cell no-control s
+none s = concrete .put control-cell no-control s
 
 none-view : (s : St) → view (none s .0) ≡ setControl no-control (view (s .0))
 none-view s = put-control no-control s
@@ -91,7 +91,7 @@ law-poll-setup w s (inr r) z =
     (λ _. at-end (inr r, tt))
   where
     x : St
-    x = conc .put globals-cell (withSetup 0 (s .0 .globals .«setup_low») (s .0 .globals .«setup_high») (s .0 .globals)) s
+    x = concrete .put globals-cell (withSetup 0 (s .0 .globals .«setup_low») (s .0 .globals .«setup_high») (s .0 .globals)) s
 
     seen : view (none x .0) ≡ setControl no-control (setReady 0 (view (s .0)))
     seen = none-view x ∙ ap (setControl no-control) (put-globals (withSetup 0 (s .0 .globals .«setup_low») (s .0 .globals .«setup_high») (s .0 .globals)) s)
@@ -154,8 +154,8 @@ law-poll-data-out n w s (inr r) z =
     (λ _. watch-cond (eqb (s .0 .control .sort) DATA-OUT)
     (λ q. let two = eqb-true (s .0 .control .sort) DATA-OUT q in
     watch-cond (eqb (s .0 .control .length) n)
-    (λ _. watch-cond (isOn (conc .get (ep-cell Out 0) s .ready))
-    (λ o. watch-cond (ltb n (conc .get (ep-cell Out 0) s .len))
+    (λ _. watch-cond (isOn (concrete .get (ep-cell Out 0) s .ready))
+    (λ o. watch-cond (ltb n (concrete .get (ep-cell Out 0) s .len))
     (λ _. at-end (over-now r (kin-out s (z .places)) (done-none (outWith (withReady 0) s)), ((λ h. differ h, λ h. differ h), tt)))
     (λ _. at-end (over-now r (kin-out s (z .places)) (done-none (outWith (withReady 0) s)), (tt, λ _. ready-out (w .awaits) r two o))))
     (λ o. watch-cond (isOn (s .0 .globals .«setup_ready»))
@@ -209,7 +209,7 @@ law-poll-accept w s (inr r) z =
     watch-cond (eqb (s .0 .globals .stage) 2)
     (λ _. watch-cond (eqb (s .0 .control .sort) ACCEPT)
     (λ q. let four = eqb-true (s .0 .control .sort) ACCEPT q in
-    watch-cond (isOn (conc .get (ep-cell In 0) s .ready))
+    watch-cond (isOn (concrete .get (ep-cell In 0) s .ready))
     (λ o. watch-cond (isOn (s .0 .control .«sets_address»))
     (λ h. at-ask (λ _. ready-status (w .awaits) r four o, λ _. address-written (w .awaits) r four o h .0) (λ v t b k.
     at-end (moved (k .0 ∙ act-view no-wakes refl (none (inWith (withReady 0) s))) (over-now r (kin-in s (z .places)) (done-none (inWith (withReady 0) s))), (tt, λ _. ready-status (w .awaits) r four o, λ _. address-written (w .awaits) r four o h .1))))
@@ -256,7 +256,7 @@ not-sent false p h = h
 
 -- the first wait is over: the data packet's completion is taken
 abbrev second : St → St
-second s = conc .put control-cell (dataInOf (s .0 .control .length) (s .0 .control .last) 2) (inWith (withReady 0) s)
+second s = concrete .put control-cell (dataInOf (s .0 .control .length) (s .0 .control .last) 2) (inWith (withReady 0) s)
 
 second-view : (s : St) → Whole s
     → view (second s .0) ≡ setControl (dataInOf (s .0 .control .length) (s .0 .control .last) 2) (setIn (record { ready = 0; armed = view (s .0) .inn .armed }) (view (s .0)))
@@ -280,21 +280,21 @@ module _ (w : Log) (s : St) (r : Rel (w .rx) (w .tx) (w .len) (w .pipe) (w .awai
       → isOn (view (s .0) .out .ready) ≡ w .pipe .out .through → R (afresh w) (view (second s .0))
   goes-on a l i o = inr (subst (λ (x : Awaited). Rel (w .rx) (w .tx) (w .len) (w .pipe) x (w .untaken) (view (second s .0))) (sym a) (subst (Rel (w .rx) (w .tx) (w .len) (w .pipe) (given true) (w .untaken)) (sym (second-view s (z .places))) (record { stage = r .stage; out = r .out; inn = refit refl (r .inn); waits = (refl, l, second-wait refl refl i o); size = r .size; setup = r .setup })))
 
-  polled-in : Waiting (w .awaits) (w .pipe) (view (s .0)) → Polled w s (run conc (code (other PollDataIn)) s)
+  polled-in : Waiting (w .awaits) (w .pipe) (view (s .0)) → Polled w s (run concrete (code (other PollDataIn)) s)
   polled-in (aborted e f g) =
       watch-cond (eqb (s .0 .globals .stage) 2)
       (λ _. watch-cond (eqb (s .0 .control .sort) DATA-IN)
       (λ _. watch-cond (eqb (s .0 .control .wait) 2)
-      (λ _. watch-cond (isOn (conc .get (ep-cell Out 0) s .ready)) (λ b. differ (sym f ∙ b)) (λ _. watch-cond (isOn (s .0 .globals .«setup_ready»)) (λ g. refused g) (λ b. differ (sym b ∙ e))))
-      (λ _. watch-cond (isOn (conc .get (ep-cell In 0) s .ready)) (λ b. differ (sym g ∙ b)) (λ _. watch-cond (isOn (s .0 .globals .«setup_ready»)) (λ g. refused g) (λ b. differ (sym b ∙ e)))))
+      (λ _. watch-cond (isOn (concrete .get (ep-cell Out 0) s .ready)) (λ b. differ (sym f ∙ b)) (λ _. watch-cond (isOn (s .0 .globals .«setup_ready»)) (λ g. refused g) (λ b. differ (sym b ∙ e))))
+      (λ _. watch-cond (isOn (concrete .get (ep-cell In 0) s .ready)) (λ b. differ (sym g ∙ b)) (λ _. watch-cond (isOn (s .0 .globals .«setup_ready»)) (λ g. refused g) (λ b. differ (sym b ∙ e)))))
       (λ k. at-end (inr r, ((λ h. differ h, λ _ _. other-in (w .awaits) r k), tt))))
       (λ _. at-end (inr r, ((λ h. differ h, λ h. differ h), tt)))
   polled-in (closing-of a l n i o) =
       watch-cond (eqb (s .0 .globals .stage) 2)
       (λ _. watch-cond (eqb (s .0 .control .sort) DATA-IN)
       (λ _. watch-cond (eqb (s .0 .control .wait) 2)
-      (λ _. watch-cond (isOn (conc .get (ep-cell Out 0) s .ready))
-      (λ b. closed (outWith (withReady 0) s) (kin-out s (z .places)) (ap (λ (x : Awaited). asksAfter pollIn x && over x (w .pipe)) a ∙ (over-last (w .pipe) i ∙ (sym o ∙ b))) (eqb (conc .get (ep-cell Out 0) s .len) 0))
+      (λ _. watch-cond (isOn (concrete .get (ep-cell Out 0) s .ready))
+      (λ b. closed (outWith (withReady 0) s) (kin-out s (z .places)) (ap (λ (x : Awaited). asksAfter pollIn x && over x (w .pipe)) a ∙ (over-last (w .pipe) i ∙ (sym o ∙ b))) (eqb (concrete .get (ep-cell Out 0) s .len) 0))
       (λ b. watch-cond (isOn (s .0 .globals .«setup_ready»)) (λ g. refused g) (λ g. at-end {a = NotYet} (inr r, ((λ _. ap (λ (x : Awaited). asksAfter pollIn x && over x (w .pipe)) a ∙ (over-last (w .pipe) i ∙ (sym o ∙ b)), λ _. sym (r .setup) ∙ g), tt)))))
       (λ two. differ (sym two ∙ ap (λ (k : ℕ). eqb k 2) n)))
       (λ k. at-end (inr r, ((λ h. differ h, λ _ _. other-in (w .awaits) r k), tt))))
@@ -304,13 +304,13 @@ module _ (w : Log) (s : St) (r : Rel (w .rx) (w .tx) (w .len) (w .pipe) (w .awai
       (λ _. watch-cond (eqb (s .0 .control .sort) DATA-IN)
       (λ _. watch-cond (eqb (s .0 .control .wait) 2)
       (λ two. absurd (omega (arith, n, eqb-true (s .0 .control .wait) 2 two)))
-      (λ _. watch-cond (isOn (conc .get (ep-cell In 0) s .ready))
+      (λ _. watch-cond (isOn (concrete .get (ep-cell In 0) s .ready))
       (λ b. watch-cond (isOn (s .0 .control .last))
       (λ x. let it : last ≡ true = sym l ∙ x in
       let gives : w .awaits ≡ given true = a ∙ ap given it in
       let sent : w .pipe .inn .through ≡ true = sym i ∙ b in
-      watch-cond (isOn (conc .get (ep-cell Out 0) s .ready))
-      (λ y. closed (inWith (withReady 0) (outWith (withReady 0) s)) (kin-both s (z .places)) (ap (λ (x : Awaited). asksAfter pollIn x && over x (w .pipe)) gives ∙ (over-last (w .pipe) sent ∙ (sym (o it) ∙ y))) (eqb (conc .get (ep-cell Out 0) s .len) 0))
+      watch-cond (isOn (concrete .get (ep-cell Out 0) s .ready))
+      (λ y. closed (inWith (withReady 0) (outWith (withReady 0) s)) (kin-both s (z .places)) (ap (λ (x : Awaited). asksAfter pollIn x && over x (w .pipe)) gives ∙ (over-last (w .pipe) sent ∙ (sym (o it) ∙ y))) (eqb (concrete .get (ep-cell Out 0) s .len) 0))
       (λ y. watch-cond (isOn (s .0 .globals .«setup_ready»)) (λ g. refused g) (λ g. at-end {a = NotYet} (goes-on gives x sent (o it), ((λ _. ap (λ (x : Awaited). asksAfter pollIn x && over x (w .pipe)) gives ∙ (over-last (w .pipe) sent ∙ (sym (o it) ∙ y)), λ _. sym (r .setup) ∙ g), tt)))))
       (λ x. at-end {a = Done []} (over-now r (kin-in s (z .places)) (done-none (inWith (withReady 0) s)), (tt, λ _. ap (λ (x : Awaited). asksAfter pollIn x && over x (w .pipe)) (a ∙ ap given (sym l ∙ x)) ∙ (sym i ∙ b)))))
       (λ b. watch-cond (isOn (s .0 .globals .«setup_ready»)) (λ g. refused g) (λ g. at-end {a = NotYet} (inr r, ((λ _. ap (λ (x : Awaited). asksAfter pollIn x && over x (w .pipe)) a ∙ not-sent last (w .pipe) (sym i ∙ b), λ _. sym (r .setup) ∙ g), tt))))))
@@ -322,6 +322,6 @@ law-poll-data-in w s (inl e) z = exempt-law (other PollDataIn) tt w s e
 law-poll-data-in w s (inr r) z = by (eqb (s .0 .control .sort) DATA-IN) refl
   where
     by : (t : Bool) → eqb (s .0 .control .sort) DATA-IN ≡ t
-        → Watch Keeps (Allowed (other PollDataIn)) (Ends (other PollDataIn)) (afresh w) (run conc (code (other PollDataIn)) s)
+        → Watch Keeps (Allowed (other PollDataIn)) (Ends (other PollDataIn)) (afresh w) (run concrete (code (other PollDataIn)) s)
     by true q = polled-in w s r z (waiting (w .awaits) r (eqb-true (s .0 .control .sort) DATA-IN q))
     by false q = watch-cond (eqb (s .0 .globals .stage) 2) (λ _. watch-cond (eqb (s .0 .control .sort) DATA-IN) (λ y. differ (sym q ∙ y)) (λ k. at-end (inr r, ((λ h. differ h, λ _ _. other-in (w .awaits) r k), tt)))) (λ _. at-end (inr r, ((λ h. differ h, λ h. differ h), tt)))

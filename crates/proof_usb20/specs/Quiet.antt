@@ -17,15 +17,15 @@ use Rattle.state.specs.declared.Globals.{Globals}
 use Rattle.state.specs.Driver.{Driver, key, epOn, withOn}
 use Rattle.state.specs.Laws.{key-apart, key-same}
 use Rattle.model.specs.Tree as tree
-use Rattle.model.specs.Cells.{Plain, Cell, Val, ep-cell, globals-cell}
-use Rattle.model.specs.Script.{Script, get, ret, bind, test, read-then, write-then, callback-then, get-then, put-then, is-then, look-then, fetch-then, act-then, hand-then, run, Test, Look, Fetch, Act, Hand, handAsk, arrive, send, place, place0}
-use Rattle.model.specs.Sorts.{Among, allocates}
+use Rattle.model.specs.Cells.{EpCore, Cell, Val, ep-cell, globals-cell}
+use Rattle.model.specs.Script.{Script, get, ret, bind, test, read-then, write-then, callback-then, get-then, put-then, is-then, look-then, fetch-then, act-then, hand-then, run, Test, Look, Fetch, Act, DmaStep, dmaStepAsk, arrive, send, place, place0}
+use Rattle.model.specs.TransferKinds.{Among, allocates}
 use Rattle.model.specs.SortsWalks.{among-ins}
 use Rattle.model.specs.Statics.{isOn, withLastFrame, isoInEvery}
 use Rattle.model_ops.specs.Records.{merged}
 use Rattle.model_ops.specs.Rings.{St}
-use Rattle.model_ops.specs.Conc.{conc}
-use Rattle.proof_book.specs.Sorts.{Steady, put-steady, act-steady}
+use Rattle.model_ops.specs.Concrete.{concrete}
+use Rattle.proof_book.specs.TransferKinds.{Steady, put-steady, act-steady}
 use Rattle.proof_book.specs.Sorting.{Sorting, ep0-plain}
 use Rattle.proof_usb20.specs.Exempt.{differ}
 use Rattle.proof_usb20.specs.Fitting.{negated}
@@ -64,7 +64,7 @@ Any x q = Unit {0}
 
 pub record Quiet {i : Bool} {A : Type 0} (p : Script i A) : Type 0 where
   pub goes : (w : Log) (s : St) → w .phase ≡ off → Plainly s
-      → Watch Keeps Any {A = A} (λ x _ t. Stays w s x t) w (run conc p s)
+      → Watch Keeps Any {A = A} (λ x _ t. Stays w s x t) w (run concrete p s)
 
 -- ---- how they are put together
 
@@ -73,7 +73,7 @@ q-ret = record { goes = λ w s z k. at-end (refl, refl, k) }
 
 pub q-bind : {i : Bool} {A B : Type 0} {p : Script i A} {f : A → Script i B} → Quiet p → ((a : A) → Quiet (f a))
     → Quiet (bind p f)
-q-bind {f = f} x y = record { goes = λ w s z k. watch-bind (x .goes w s z k) (λ v a t l. subst (λ (u : Log). Watch Keeps Any (λ x _ t. Stays w s x t) u (run conc (f a) t)) (sym (l .0)) (watch-more (y a .goes w t z (l .2)) (λ _ _ _ m. (m .0, m .1 ∙ l .1, m .2)))) }
+q-bind {f = f} x y = record { goes = λ w s z k. watch-bind (x .goes w s z k) (λ v a t l. subst (λ (u : Log). Watch Keeps Any (λ x _ t. Stays w s x t) u (run concrete (f a) t)) (sym (l .0)) (watch-more (y a .goes w t z (l .2)) (λ _ _ _ m. (m .0, m .1 ∙ l .1, m .2)))) }
 
 pub q-test : {i : Bool} {A : Type 0} {b : Bool} {p q : Script i A} → Quiet p → Quiet q → Quiet (test b p q)
 q-test {b = b} x y = record { goes = λ w s z k. watch-cond b (λ _. x .goes w s z k) (λ _. y .goes w s z k) }
@@ -103,7 +103,7 @@ q-callback x = record { goes = λ w s z k. asked w (λ _. refl) (λ _ t l. x .go
 
 pub q-get : {i : Bool} {A : Type 0} {c : Cell} {f : Val c → Script i A} → ((v : Val c) → Quiet (f v))
     → Quiet (get-then c f)
-q-get {c = c} x = record { goes = λ w s z k. x (conc .get c s) .goes w s z k }
+q-get {c = c} x = record { goes = λ w s z k. x (concrete .get c s) .goes w s z k }
 
 -- the isochronous IN endpoints that an interrupt walks: not EP0
 pub q-every : {i : Bool} {A : Type 0} {f : Globals → Script i A}
@@ -112,14 +112,14 @@ pub q-every : {i : Bool} {A : Type 0} {f : Globals → Script i A}
 q-every {f = f} x = record { goes = λ w s z k. x (s .0 .globals) (each-set (isoInEvery (s .0 .globals)) (λ e l h. negated (eqb e 0) (among-ins (λ e. not (eqb e 0)) (s .0 .globals) (k .every) e l h))) .goes w s z k }
 
 pub q-is : {i : Bool} {A : Type 0} {q : Test} {f : Bool → Script i A} → ((b : Bool) → Quiet (f b)) → Quiet (is-then q f)
-q-is {q = q} x = record { goes = λ w s z k. x (conc .is q s) .goes w s z k }
+q-is {q = q} x = record { goes = λ w s z k. x (concrete .is q s) .goes w s z k }
 
 pub q-look : {i : Bool} {A : Type 0} {q : Look} {f : ℕ → Script i A} → ((n : ℕ) → Quiet (f n)) → Quiet (look-then q f)
-q-look {q = q} x = record { goes = λ w s z k. x (conc .look q s) .goes w s z k }
+q-look {q = q} x = record { goes = λ w s z k. x (concrete .look q s) .goes w s z k }
 
 pub q-fetch : {i : Bool} {A : Type 0} {q : Fetch} {f : List ℕ → Script i A} → ((l : List ℕ) → Quiet (f l))
     → Quiet (fetch-then q f)
-q-fetch {q = q} x = record { goes = λ w s z k. x (conc .fetch q s) .goes w s z k }
+q-fetch {q = q} x = record { goes = λ w s z k. x (concrete .fetch q s) .goes w s z k }
 
 -- a state that shows the same
 pub onward : {A : Type 0} {o : tree.Out St A} (w : Log) (s t : St) → view (t .0) ≡ view (s .0)
@@ -127,28 +127,28 @@ pub onward : {A : Type 0} {o : tree.Out St A} (w : Log) (s t : St) → view (t .
 onward w s t e x = watch-more x (λ _ _ _ m. (m .0, m .1 ∙ e, m .2))
 
 pub q-act : {i : Bool} {A : Type 0} {q : Act} {p : Script i A} → allocates q ≡ false → Quiet p → Quiet (act-then q p)
-q-act {q = q} h x = record { goes = λ w s z k. onward w s (conc .act q s) (act-view q h s) (x .goes w (conc .act q s) z (steadily (act-steady q h s) k)) }
+q-act {q = q} h x = record { goes = λ w s z k. onward w s (concrete .act q s) (act-view q h s) (x .goes w (concrete .act q s) z (steadily (act-steady q h s) k)) }
 
-hand-silent : (q : Hand) (x : ℕ) (w : Log) (v : ℕ) → saw w (handAsk q x) v ≡ w
+hand-silent : (q : DmaStep) (x : ℕ) (w : Log) (v : ℕ) → saw w (dmaStepAsk q x) v ≡ w
 hand-silent (arrive e n) x w v = refl
 hand-silent (send e) x w v = refl
 hand-silent (place Out e) x w v = refl
 hand-silent (place In e) x w v = refl
 hand-silent place0 x w v = refl
 
-pub q-hand : {i : Bool} {A : Type 0} {q : Hand} {p : Script i A} → Quiet p → Quiet (hand-then q p)
-q-hand {q = q} x = record { goes = λ w s z k. onward w s (conc .hand q s .1) (hand-view q s) (asked w (hand-silent q (conc .hand q s .0) w) (λ _ t l. x .goes w t z l)) }
+pub q-hand : {i : Bool} {A : Type 0} {q : DmaStep} {p : Script i A} → Quiet p → Quiet (hand-then q p)
+q-hand {q = q} x = record { goes = λ w s z k. onward w s (concrete .hand q s .1) (hand-view q s) (asked w (hand-silent q (concrete .hand q s .0) w) (λ _ t l. x .goes w t z l)) }
 
 -- an assignment that shows the same
 pub q-put : {i : Bool} {A : Type 0} {c : Cell} {v : Val c} {p : Script i A}
-    → ((s : St) → view (conc .put c v s .0) ≡ view (s .0)) → Quiet p → Quiet (put-then c v p)
-q-put {c = c} {v = v} e x = record { goes = λ w s z k. onward w s (conc .put c v s) (e s) (x .goes w (conc .put c v s) z (steadily (put-steady c v s) k)) }
+    → ((s : St) → view (concrete .put c v s .0) ≡ view (s .0)) → Quiet p → Quiet (put-then c v p)
+q-put {c = c} {v = v} e x = record { goes = λ w s z k. onward w s (concrete .put c v s) (e s) (x .goes w (concrete .put c v s) z (steadily (put-steady c v s) k)) }
 
 -- a record that is read and changed
 pub q-modify : {i : Bool} (c : Cell) (f : Val c → Val c)
-    → ((s : St) → view (conc .put c (f (conc .get c s)) s .0) ≡ view (s .0))
+    → ((s : St) → view (concrete .put c (f (concrete .get c s)) s .0) ≡ view (s .0))
     → Quiet (bind {i = i} (get-then c ret) (λ p. put-then c (f p) (ret (tt {0}))))
-q-modify c f e = record { goes = λ w s z k. onward w s (conc .put c (f (conc .get c s)) s) (e s) (at-end (refl, refl, steadily (put-steady c (f (conc .get c s)) s) k)) }
+q-modify c f e = record { goes = λ w s z k. onward w s (concrete .put c (f (concrete .get c s)) s) (e s) (at-end (refl, refl, steadily (put-steady c (f (concrete .get c s)) s) k)) }
 
 -- ---- assignments
 
@@ -162,18 +162,18 @@ apart Out In e o q = key-apart e 0 (sym q)
 apart In Out e o q = key-apart 0 e q
 
 -- another endpoint's record
-pub put-other : (d : Dir) (e : ℕ) → Other e → (v : Plain) (s : St) → view (conc .put (ep-cell d e) v s .0) ≡ view (s .0)
+pub put-other : (d : Dir) (e : ℕ) → Other e → (v : EpCore) (s : St) → view (concrete .put (ep-cell d e) v s .0) ≡ view (s .0)
 unfolding withOn
 put-other d e o v s = made _ _ (ap recOf (ep-other (s .0) d e (merged (epOn (s .0) d e) v) Out 0 (apart d Out e o))) (ap recOf (ep-other (s .0) d e (merged (epOn (s .0) d e) v) In 0 (apart d In e o))) refl refl refl
 
 -- `last_frame` of any
 pub put-frame : (d : Dir) (e frame : ℕ) (s : St)
-    → view (conc .put (ep-cell d e) (withLastFrame frame (conc .get (ep-cell d e) s)) s .0) ≡ view (s .0)
-put-frame d e frame s = same-view (record-same (s .0) d e (merged (epOn (s .0) d e) (withLastFrame frame (conc .get (ep-cell d e) s))) refl)
+    → view (concrete .put (ep-cell d e) (withLastFrame frame (concrete .get (ep-cell d e) s)) s .0) ≡ view (s .0)
+put-frame d e frame s = same-view (record-same (s .0) d e (merged (epOn (s .0) d e) (withLastFrame frame (concrete .get (ep-cell d e) s))) refl)
 
 -- the globals but for the setup packet
 pub put-kept : (f : Globals → Globals) → ((g : Globals) → f g .«setup_ready» ≡ g .«setup_ready») → (s : St)
-    → view (conc .put globals-cell (f (conc .get globals-cell s)) s .0) ≡ view (s .0)
+    → view (concrete .put globals-cell (f (concrete .get globals-cell s)) s .0) ≡ view (s .0)
 put-kept f h s = put-globals (f (s .0 .globals)) s ∙ ap (λ n. record { out = view (s .0) .out; inn = view (s .0) .inn; control = view (s .0) .control; setup-ready = n; stage = view (s .0) .stage }) (h (s .0 .globals))
 
 -- a control word of another endpoint's

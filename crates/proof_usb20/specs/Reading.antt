@@ -15,7 +15,7 @@ use Rattle.regs.specs.Enables as enables
 use Rattle.state.specs.declared.EpState.{EpState}
 use Rattle.state.specs.Driver.{Driver, key, noEp, epOn, withOn}
 use Rattle.state.specs.Laws.{key-lt}
-use Rattle.model.specs.Cells.{Plain, Cell, Val, ep-cell, allocator-cell, request-cell}
+use Rattle.model.specs.Cells.{EpCore, Cell, Val, ep-cell, allocator-cell, request-cell}
 use Rattle.model.specs.Script.{Script, run, no-wakes, fill}
 use Rattle.model.specs.Statics.{isOn, withReady, withArmed}
 use Rattle.model.specs.Answers.{Answer, Refused, NotYet, Done, named, isAllocated}
@@ -25,8 +25,8 @@ use Rattle.model.specs.TogglesLaws.{number}
 use Rattle.model.specs.Usb20Toggles.{Pid}
 use Rattle.model_ops.specs.Records.{plainOf, merged}
 use Rattle.model_ops.specs.Rings.{St}
-use Rattle.model_ops.specs.Conc.{conc}
-use Rattle.proof_book.specs.Sorts.{put-steady, act-steady}
+use Rattle.model_ops.specs.Concrete.{concrete}
+use Rattle.proof_book.specs.TransferKinds.{put-steady, act-steady}
 use Rattle.proof_usb20.specs.Exempt.{differ}
 use Rattle.proof_usb20.specs.Sequence as log
 use Rattle.proof_usb20.specs.Sequence.{Track, off, withPhase, own, opens, closes, takes, taken, awaits, loaded, Fair}
@@ -41,7 +41,7 @@ module _ (D : Dir) (E : ℕ) where
 
   pub quiet-law : (o : Op) → (opens D E o ≡ withPhase off) → ((a : Answer) (x : Track) → closes D E o a x ≡ x)
       → ((a : Answer) (x : Track) → Fair D E o a x) → Quiet D E false (Off D E) (code o) → Law D E o
-  quiet-law o p c f q w s r i z = subst (λ (u : Track). Follow D E (Ends D E o) u (run conc (code o) s)) (sym (ap (λ (g : Track → Track). g w) p))
+  quiet-law o p c f q w s r i z = subst (λ (u : Track). Follow D E (Ends D E o) u (run concrete (code o) s)) (sym (ap (λ (g : Track → Track). g w) p))
       (follow.follow-more D E (q .goes (withPhase off w) s (refl, λ _ _ _ _. refl) (loose D E (z .places))) (λ x a u m. (subst (λ (y : Track). Fits y (view D E (u .0))) (sym (c a x ∙ m .0)) (subst (Fits w) (sym (m .1)) r), f a x)))
 
   -- ---- the endpoint's own record
@@ -58,18 +58,18 @@ module _ (D : Dir) (E : ℕ) where
   unfolding epOn withOn
   own-with x d e r h l = ap (λ k. getD (set (x .eps) (key d e) r) k noEp) (sym h) ∙ getD-set-same (x .eps) (key d e) r noEp (omega (arith, l, key-lt d e))
 
-  abbrev pub written : Plain → Seen → Seen
+  abbrev pub written : EpCore → Seen → Seen
   written v x = record { ready = v .ready; len = v .len; armed = v .armed; tog = v .tog; iso = x .iso; stage = x .stage }
 
-  pub put-own : (d : Dir) (e : ℕ) (v : Plain) (s : St) → Own d e → Whole s
-      → view D E (conc .put (ep-cell d e) v s .0) ≡ written v (view D E (s .0))
+  pub put-own : (d : Dir) (e : ℕ) (v : EpCore) (s : St) → Own d e → Whole s
+      → view D E (concrete .put (ep-cell d e) v s .0) ≡ written v (view D E (s .0))
   unfolding withOn
   put-own d e v s h l = ap (λ q. seenOf q (s .0 .globals .stage)) (own-with (s .0) d e (merged (epOn (s .0) d e) v) h l) ∙ ap (λ (q : EpState). seenOf (merged q v) (s .0 .globals .stage)) (own-ep (s .0) d e h)
 
-  pub got : (d : Dir) (e : ℕ) (s : St) → Own d e → conc .get (ep-cell d e) s ≡ plainOf (epOn (s .0) D E)
+  pub got : (d : Dir) (e : ℕ) (s : St) → Own d e → concrete .get (ep-cell d e) s ≡ plainOf (epOn (s .0) D E)
   got d e s h = ap plainOf (own-ep (s .0) d e h)
 
-  pub whole-put : (c : Cell) (v : Val c) (s : St) → Whole s → Whole (conc .put c v s)
+  pub whole-put : (c : Cell) (v : Val c) (s : St) → Whole s → Whole (concrete .put c v s)
   whole-put c v s h = put-steady c v s .places ∙ h
 
   -- after EP0's start
@@ -78,9 +78,9 @@ module _ (D : Dir) (E : ℕ) where
   fits-2 h p q r g = record { tog = p; ready = q; len = r; armed = g; early = λ k. differ (sym k ∙ h) }
 
   -- a change of its record
-  pub changed : (d : Dir) (e : ℕ) (f : Plain → Plain) (s : St) → Own d e → Whole s
-      → view D E (conc .put (ep-cell d e) (f (conc .get (ep-cell d e) s)) s .0) ≡ written (f (plainOf (epOn (s .0) D E))) (view D E (s .0))
-  changed d e f s h l = put-own d e (f (conc .get (ep-cell d e) s)) s h l ∙ ap (λ (p : Plain). written (f p) (view D E (s .0))) (got d e s h)
+  pub changed : (d : Dir) (e : ℕ) (f : EpCore → EpCore) (s : St) → Own d e → Whole s
+      → view D E (concrete .put (ep-cell d e) (f (concrete .get (ep-cell d e) s)) s .0) ≡ written (f (plainOf (epOn (s .0) D E))) (view D E (s .0))
+  changed d e f s h l = put-own d e (f (concrete .get (ep-cell d e) s)) s h l ∙ ap (λ (p : EpCore). written (f p) (view D E (s .0))) (got d e s h)
 
   -- `own` by its answer
   pub own-true : (d : Dir) (e : ℕ) → own D E d e ≡ true → Own d e
@@ -98,8 +98,8 @@ module _ (D : Dir) (E : ℕ) where
       → Quiet D E false P (named d e p)
   q-named d e x = (q-bind D E) ((q-got D E) allocator-cell) (λ a. (q-test D E) x (q-ret D E))
 
-  q-polled : {i : Bool} (d : Dir) (e n : ℕ) → Else D E d e → {p : Plain → Script i Answer}
-      → ((s : Plain) → Quiet D E false (Off D E) (p s)) → Quiet D E false (Off D E) (polled d e n p)
+  q-polled : {i : Bool} (d : Dir) (e n : ℕ) → Else D E d e → {p : EpCore → Script i Answer}
+      → ((s : EpCore) → Quiet D E false (Off D E) (p s)) → Quiet D E false (Off D E) (polled d e n p)
   q-polled d e n m x = (q-bind D E) ((q-got D E) (request-cell d e)) (λ r. (q-test D E) (q-ret D E) ((q-test D E) ((q-bind D E) ((q-got D E) (ep-cell d e)) (λ s. x s)) ((q-bind D E) ((q-ep D E) d e (withReady 0) m) (λ _. (q-ends D E) d e (Refused 10)))))
 
   -- ---- reads and writes
@@ -116,17 +116,17 @@ module _ (D : Dir) (E : ℕ) where
   -- what a poll leaves that takes the completion
   took : (d : Dir) (e : ℕ) (w : Track) (s : St) → Own d e → Fits w (view D E (s .0))
       → eqb (s .0 .globals .stage) 2 ≡ true → Whole s
-      → FitsAs (w .bit) false (w .len) (w .armed) (view D E (conc .put (request-cell d e) no-request (conc .put (ep-cell d e) (withReady 0 (conc .get (ep-cell d e) s)) s) .0))
+      → FitsAs (w .bit) false (w .len) (w .armed) (view D E (concrete .put (request-cell d e) no-request (concrete .put (ep-cell d e) (withReady 0 (concrete .get (ep-cell d e) s)) s) .0))
   unfolding isOn
-  took d e w s h r q l = subst (FitsAs (w .bit) false (w .len) (w .armed)) (sym (put-request D E d e no-request (conc .put (ep-cell d e) (withReady 0 (conc .get (ep-cell d e) s)) s) ∙ changed d e (withReady 0) s h l)) (fits-2 q (r .tog) refl (r .len) (r .armed))
+  took d e w s h r q l = subst (FitsAs (w .bit) false (w .len) (w .armed)) (sym (put-request D E d e no-request (concrete .put (ep-cell d e) (withReady 0 (concrete .get (ep-cell d e) s)) s) ∙ changed d e (withReady 0) s h l)) (fits-2 q (r .tog) refl (r .len) (r .armed))
 
   ready-own : (d : Dir) (e : ℕ) (w : Track) (s : St) {b : Bool} → Own d e → Fits w (view D E (s .0))
-      → isOn (conc .get (ep-cell d e) s .ready) ≡ b → w .through ≡ b
-  ready-own d e w s h r q = sym (r .ready) ∙ (sym (ap (λ (p : Plain). isOn (p .ready)) (got d e s h)) ∙ q)
+      → isOn (concrete .get (ep-cell d e) s .ready) ≡ b → w .through ≡ b
+  ready-own d e w s h r q = sym (r .ready) ∙ (sym (ap (λ (p : EpCore). isOn (p .ready)) (got d e s h)) ∙ q)
 
   pub iso-own : (d : Dir) (e : ℕ) (s : St) {A : Type 0} → Own d e → isOn (epOn (s .0) D E .iso) ≡ false
-      → isOn (conc .get (ep-cell d e) s .iso) ≡ true → A
-  iso-own d e s h i q = differ (sym i ∙ (sym (ap (λ (p : Plain). isOn (p .iso)) (got d e s h)) ∙ q))
+      → isOn (concrete .get (ep-cell d e) s .iso) ≡ true → A
+  iso-own d e s h i q = differ (sym i ∙ (sym (ap (λ (p : EpCore). isOn (p .iso)) (got d e s h)) ∙ q))
 
   stay : (d : Dir) (e : ℕ) (a : Answer) (w : Track) (x : Seen) → takes D E a ≡ false → Fits w x
       → Fits (cond (own D E d e && takes D E a) (taken D E (withPhase off w)) (withPhase off w)) x
@@ -159,21 +159,21 @@ module _ (D : Dir) (E : ℕ) where
       not-there h = rw h refl
 
       by : (b : Bool) → own D E Out e ≡ b
-          → Follow D E (Ends D E (other (BeginRead e n))) (withPhase off w) (run conc (code (other (BeginRead e n))) s)
+          → Follow D E (Ends D E (other (BeginRead e n))) (withPhase off w) (run concrete (code (other (BeginRead e n))) s)
       by false h = off-begin-read e n h w s r i z
       by true h =
           let o = own-true Out e h in
-          let s1 = conc .put (request-cell Out e) (begun n) s in
-          let s2 = conc .act no-wakes s1 in
+          let s1 = concrete .put (request-cell Out e) (begun n) s in
+          let s2 = concrete .act no-wakes s1 in
           let k : Whole s2 = act-steady no-wakes refl s1 .places ∙ whole-put (request-cell Out e) (begun n) s (z .places) in
           let v : view D E (s2 .0) ≡ view D E (s .0) = act-view D E no-wakes refl s1 ∙ put-request D E Out e (begun n) s in
           follow.follow-cond D E (eqb (s .0 .globals .stage) 2) (λ two. follow.follow-cond D E (isAllocated (s .0 .allocator) Out e) (λ _. follow.follow-cond D E (enables.isOn (s .0 .globals .«ep_config») Out e)
-          (λ _. follow.follow-cond D E (ltb n (conc .get (ep-cell Out e) s .«max_len»)) (λ _. at-end (nothing, tt))
-          (λ _. follow.follow-bind D E {P = λ y _ a. (y ≡ withPhase off w) × FitsAs (w .bit) (w .through) (w .len) (cond (w .through) (w .armed) true) (view D E (a .0))} (follow.follow-bind D E {P = λ y _ a. (y ≡ withPhase off w) × FitsAs (w .bit) (w .through) (w .len) (cond (w .through) (w .armed) true) (view D E (a .0))} (follow.follow-cond D E (isOn (conc .get (ep-cell Out e) s .iso)) (λ q. iso-own Out e s o i q)
-          (λ _. follow.follow-cond D E (isOn (conc .get (ep-cell Out e) s .ready))
+          (λ _. follow.follow-cond D E (ltb n (concrete .get (ep-cell Out e) s .«max_len»)) (λ _. at-end (nothing, tt))
+          (λ _. follow.follow-bind D E {P = λ y _ a. (y ≡ withPhase off w) × FitsAs (w .bit) (w .through) (w .len) (cond (w .through) (w .armed) true) (view D E (a .0))} (follow.follow-bind D E {P = λ y _ a. (y ≡ withPhase off w) × FitsAs (w .bit) (w .through) (w .len) (cond (w .through) (w .armed) true) (view D E (a .0))} (follow.follow-cond D E (isOn (concrete .get (ep-cell Out e) s .iso)) (λ q. iso-own Out e s o i q)
+          (λ _. follow.follow-cond D E (isOn (concrete .get (ep-cell Out e) s .ready))
           (λ q. let g = there (w .through) refl (ready-own Out e w s o r q) in at-end (refl, subst (FitsAs (w .bit) (w .through) (w .len) (cond (w .through) (w .armed) true)) (sym v) (fits-2 two (r .tog) (r .ready) (r .len) (r .armed ∙ sym g))))
           (λ q. let g = not-there (ready-own Out e w s o r q) in
-          let t = conc .put (ep-cell Out e) (withArmed 1 (conc .get (ep-cell Out e) s2)) s2 in
+          let t = concrete .put (ep-cell Out e) (withArmed 1 (concrete .get (ep-cell Out e) s2)) s2 in
           at-ask tt (λ _ a _ p. at-ask tt (λ _ c _ m. at-end (
             refl,
             subst (FitsAs (w .bit) (w .through) (w .len) (cond (w .through) (w .armed) true)) (sym (m .0 ∙ (p .0 ∙ changed Out e (withArmed 1) s2 o k)))
@@ -186,14 +186,14 @@ module _ (D : Dir) (E : ℕ) where
   law-poll-read e n w s r i z = by (own D E Out e) refl
     where
       by : (b : Bool) → own D E Out e ≡ b
-          → Follow D E (Ends D E (slotted (PollRead e n))) (withPhase off w) (run conc (code (slotted (PollRead e n))) s)
+          → Follow D E (Ends D E (slotted (PollRead e n))) (withPhase off w) (run concrete (code (slotted (PollRead e n))) s)
       by false h = off-poll-read e n h w s r i z
       by true h =
           let o = own-true Out e h in
-          follow.follow-cond D E (eqb (s .0 .globals .stage) 2) (λ two. follow.follow-cond D E (isAllocated (s .0 .allocator) Out e) (λ _. follow.follow-cond D E (not (isOn (conc .get (request-cell Out e) s .begun))) (λ _. at-end (stay Out e (Refused 15) w _ refl r, λ _. tt))
-          (λ _. follow.follow-cond D E (eqb (conc .get (request-cell Out e) s .length) n)
-          (λ _. follow.follow-cond D E (isOn (conc .get (ep-cell Out e) s .iso)) (λ q. iso-own Out e s o i q) (λ _. follow.follow-cond D E (isOn (conc .get (ep-cell Out e) s .ready))
-          (λ q. follow.follow-cond D E (tooLong n (conc .get (ep-cell Out e) s)) (λ _. at-end (gone Out e (Refused 10) w _ h refl (took Out e w s o r two (z .places)), λ _. tt))
+          follow.follow-cond D E (eqb (s .0 .globals .stage) 2) (λ two. follow.follow-cond D E (isAllocated (s .0 .allocator) Out e) (λ _. follow.follow-cond D E (not (isOn (concrete .get (request-cell Out e) s .begun))) (λ _. at-end (stay Out e (Refused 15) w _ refl r, λ _. tt))
+          (λ _. follow.follow-cond D E (eqb (concrete .get (request-cell Out e) s .length) n)
+          (λ _. follow.follow-cond D E (isOn (concrete .get (ep-cell Out e) s .iso)) (λ q. iso-own Out e s o i q) (λ _. follow.follow-cond D E (isOn (concrete .get (ep-cell Out e) s .ready))
+          (λ q. follow.follow-cond D E (tooLong n (concrete .get (ep-cell Out e) s)) (λ _. at-end (gone Out e (Refused 10) w _ h refl (took Out e w s o r two (z .places)), λ _. tt))
           (λ _. at-end (gone Out e (Done []) w _ h refl (took Out e w s o r two (z .places)), λ _. ready-own Out e w s o r q)))
           (λ q. follow.follow-cond D E (enables.isOn (s .0 .globals .«ep_config») Out e) (λ _. at-end (stay Out e NotYet w _ refl r, λ _. ready-own Out e w s o r q)) (λ _. at-end (stay Out e (Refused 9) w _ refl (subst (Fits w) (sym (put-request D E Out e no-request s)) r), λ _. tt)))))
           (λ _. at-end (gone Out e (Refused 10) w _ h refl (took Out e w s o r two (z .places)), λ _. tt))))
@@ -208,13 +208,13 @@ module _ (D : Dir) (E : ℕ) where
   law-poll-write e bytes w s r i z = by (own D E In e) refl
     where
       by : (b : Bool) → own D E In e ≡ b
-          → Follow D E (Ends D E (slotted (PollWrite e bytes))) (withPhase off w) (run conc (code (slotted (PollWrite e bytes))) s)
+          → Follow D E (Ends D E (slotted (PollWrite e bytes))) (withPhase off w) (run concrete (code (slotted (PollWrite e bytes))) s)
       by false h = off-poll-write e bytes h w s r i z
       by true h =
           let o = own-true In e h in
-          follow.follow-cond D E (eqb (s .0 .globals .stage) 2) (λ two. follow.follow-cond D E (isAllocated (s .0 .allocator) In e) (λ _. follow.follow-cond D E (not (isOn (conc .get (request-cell In e) s .begun))) (λ _. at-end (stay In e (Refused 15) w _ refl r, λ _. tt))
-          (λ _. follow.follow-cond D E (eqb (conc .get (request-cell In e) s .length) (length bytes))
-          (λ _. follow.follow-cond D E (isOn (conc .get (ep-cell In e) s .iso)) (λ q. iso-own In e s o i q) (λ _. follow.follow-cond D E (isOn (conc .get (ep-cell In e) s .ready))
+          follow.follow-cond D E (eqb (s .0 .globals .stage) 2) (λ two. follow.follow-cond D E (isAllocated (s .0 .allocator) In e) (λ _. follow.follow-cond D E (not (isOn (concrete .get (request-cell In e) s .begun))) (λ _. at-end (stay In e (Refused 15) w _ refl r, λ _. tt))
+          (λ _. follow.follow-cond D E (eqb (concrete .get (request-cell In e) s .length) (length bytes))
+          (λ _. follow.follow-cond D E (isOn (concrete .get (ep-cell In e) s .iso)) (λ q. iso-own In e s o i q) (λ _. follow.follow-cond D E (isOn (concrete .get (ep-cell In e) s .ready))
           (λ q. at-end (gone In e (Done []) w _ h refl (took In e w s o r two (z .places)), λ _. ready-own In e w s o r q))
           (λ q. follow.follow-cond D E (enables.isOn (s .0 .globals .«ep_config») In e) (λ _. at-end (stay In e NotYet w _ refl r, λ _. ready-own In e w s o r q)) (λ _. at-end (stay In e (Refused 9) w _ refl (subst (Fits w) (sym (put-request D E In e no-request s)) r), λ _. tt)))))
           (λ _. at-end (gone In e (Refused 10) w _ h refl (took In e w s o r two (z .places)), λ _. tt))))
@@ -237,19 +237,19 @@ module _ (D : Dir) (E : ℕ) where
       nothing n = rw (last (own D E In e)) r
 
       by : (b : Bool) → own D E In e ≡ b
-          → Follow D E (Ends D E (slotted (BeginWrite e bytes))) (withPhase off w) (run conc (code (slotted (BeginWrite e bytes))) s)
+          → Follow D E (Ends D E (slotted (BeginWrite e bytes))) (withPhase off w) (run concrete (code (slotted (BeginWrite e bytes))) s)
       by false h = off-begin-write e bytes h w s r i z
       by true h =
           let o = own-true In e h in
-          let s1 = conc .put (request-cell In e) (begun (length bytes)) s in
-          let s2 = conc .act no-wakes s1 in
-          let u = conc .act (fill e bytes) s2 in
-          let t = conc .put (ep-cell In e) (withArmed 1 (withReady 0 (conc .get (ep-cell In e) u))) u in
+          let s1 = concrete .put (request-cell In e) (begun (length bytes)) s in
+          let s2 = concrete .act no-wakes s1 in
+          let u = concrete .act (fill e bytes) s2 in
+          let t = concrete .put (ep-cell In e) (withArmed 1 (withReady 0 (concrete .get (ep-cell In e) u))) u in
           let k : Whole u = act-steady (fill e bytes) refl s2 .places ∙ (act-steady no-wakes refl s1 .places ∙ whole-put (request-cell In e) (begun (length bytes)) s (z .places)) in
           let v : view D E (u .0) ≡ view D E (s .0) = act-view D E (fill e bytes) refl s2 ∙ (act-view D E no-wakes refl s1 ∙ put-request D E In e (begun (length bytes)) s) in
           follow.follow-cond D E (eqb (s .0 .globals .stage) 2) (λ two. follow.follow-cond D E (isAllocated (s .0 .allocator) In e) (λ _. follow.follow-cond D E (enables.isOn (s .0 .globals .«ep_config») In e)
-          (λ _. follow.follow-cond D E (ltb (conc .get (ep-cell In e) s .«max_len») (length bytes)) (λ _. at-end (nothing 10, tt))
-          (λ _. follow.follow-bind D E {P = λ y _ a. (y ≡ withPhase off w) × (view D E (a .0) ≡ view D E (t .0))} (follow.follow-bind D E {P = λ y _ a. (y ≡ withPhase off w) × (view D E (a .0) ≡ view D E (t .0))} (follow.follow-cond D E (isOn (conc .get (ep-cell In e) s .iso)) (λ q. iso-own In e s o i q)
+          (λ _. follow.follow-cond D E (ltb (concrete .get (ep-cell In e) s .«max_len») (length bytes)) (λ _. at-end (nothing 10, tt))
+          (λ _. follow.follow-bind D E {P = λ y _ a. (y ≡ withPhase off w) × (view D E (a .0) ≡ view D E (t .0))} (follow.follow-bind D E {P = λ y _ a. (y ≡ withPhase off w) × (view D E (a .0) ≡ view D E (t .0))} (follow.follow-cond D E (isOn (concrete .get (ep-cell In e) s .iso)) (λ q. iso-own In e s o i q)
           (λ _. at-ask tt (λ _ a _ p. at-ask tt (λ _ b _ q. at-ask tt (λ _ c _ m. at-end (refl, m .0 ∙ (q .0 ∙ p .0))))))) (λ y _ a m. at-end m))
           (λ y n a m. at-end (
             rw (m .0) (rw h (subst (FitsAs (w .bit) false (w .len) true) (sym (m .1 ∙ changed In e (λ p. withArmed 1 (withReady 0 p)) u o k))

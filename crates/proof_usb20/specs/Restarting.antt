@@ -37,8 +37,8 @@ use Rattle.model.specs.Calls.{other, Allocate, AllocateAll, Start, BusPoll, Set
 use Rattle.model.specs.Usb20Toggles.{initial}
 use Rattle.model_ops.specs.Records.{plainOf, startedWith, allocatedEp0}
 use Rattle.model_ops.specs.Rings.{St}
-use Rattle.model_ops.specs.Conc.{conc}
-use Rattle.proof_book.specs.Sorts.{act-steady}
+use Rattle.model_ops.specs.Concrete.{concrete}
+use Rattle.proof_book.specs.TransferKinds.{act-steady}
 use Rattle.proof_usb20.specs.Exempt.{differ}
 use Rattle.proof_usb20.specs.Sequence as log
 use Rattle.proof_usb20.specs.Sequence.{Track, off, withPhase, own}
@@ -116,19 +116,19 @@ module _ (D : Dir) (E : ℕ) where
 
   clearing : (d : Dir) (e : ℕ) (w : Track) (s : St) → Own D E d e → Whole s → Fits w (view D E (s .0))
       → eqb (s .0 .globals .stage) 2 ≡ true → isOn (epOn (s .0) D E .iso) ≡ false
-      → Follow D E (Clears w) (withPhase off w) (run {i = false} conc (bus.setStalled d e false) s)
+      → Follow D E (Clears w) (withPhase off w) (run {i = false} concrete (bus.setStalled d e false) s)
   unfolding Clears isOn
   clearing Out e w s o k r two i = at-ask tt (λ _ u _ p. at-end (refl, subst (FitsAs initial (log.finishes D E D (w .through)) (w .len) (log.staysArmed D E D (w .armed))) (sym (act-view D E (waken (wakeCode Out e ∷ [])) refl u ∙ (p .0 ∙ changed D E Out e (withTog 0) s o k))) (fits-2 D E two refl (r .ready ∙ sym (keeps-out e (w .through) o)) (r .len) (r .armed ∙ sym (stays-out e (w .armed) o)))))
   clearing In e w s o k r two i =
-      let t = conc .put (ep-cell In e) (withTog 0 (conc .get (ep-cell In e) s)) s in
+      let t = concrete .put (ep-cell In e) (withTog 0 (concrete .get (ep-cell In e) s)) s in
       let v = changed D E In e (withTog 0) s o k in
       at-ask tt (λ _ u _ p.
-      let b = conc .put (ep-cell In e) (completed (conc .get (ep-cell In e) u)) u in
+      let b = concrete .put (ep-cell In e) (completed (concrete .get (ep-cell In e) u)) u in
       let x : view D E (b .0) ≡ written D E (completed (plainOf (epOn (u .0) D E))) (view D E (u .0)) = changed D E In e completed u o (p .1 .places) in
       let y : FitsAs initial (log.finishes D E D (w .through)) (w .len) (log.staysArmed D E D (w .armed)) (view D E (b .0)) = subst (FitsAs initial (log.finishes D E D (w .through)) (w .len) (log.staysArmed D E D (w .armed))) (sym x)
       (fits-2 D E (ap (λ (q : Seen). eqb (q .stage) 2) (p .0 ∙ v) ∙ two) (ap (λ (q : Seen). q .tog) (p .0 ∙ v)) (sym (ends-in e (w .through) o)) (ap (λ (q : Seen). q .len) (p .0 ∙ v) ∙ r .len) (sym (ends-armed e (w .armed) o))) in
-      follow.follow-bind D E {P = Clears w} {f = λ (_ : Unit {0}) (u : St). run {i = false} conc (wake In e) u} (follow.follow-cond D E (not (isOn (conc .get (ep-cell In e) s .iso))) (λ _. at-end (refl, y)) (λ q. iso-own D E In e s o i (turned (isOn (conc .get (ep-cell In e) s .iso)) q)))
-      (λ z _ a m. at-end {s = conc .act (waken (wakeCode In e ∷ [])) a} (m .0, subst (FitsAs initial (log.finishes D E D (w .through)) (w .len) (log.staysArmed D E D (w .armed))) (sym (act-view D E (waken (wakeCode In e ∷ [])) refl a)) (m .1))))
+      follow.follow-bind D E {P = Clears w} {f = λ (_ : Unit {0}) (u : St). run {i = false} concrete (wake In e) u} (follow.follow-cond D E (not (isOn (concrete .get (ep-cell In e) s .iso))) (λ _. at-end (refl, y)) (λ q. iso-own D E In e s o i (turned (isOn (concrete .get (ep-cell In e) s .iso)) q)))
+      (λ z _ a m. at-end {s = concrete .act (waken (wakeCode In e ∷ [])) a} (m .0, subst (FitsAs initial (log.finishes D E D (w .through)) (w .len) (log.staysArmed D E D (w .armed))) (sym (act-view D E (waken (wakeCode In e ∷ [])) refl a)) (m .1))))
     where
       turned : (b : Bool) → not b ≡ false → b ≡ true
       turned true h = refl
@@ -151,15 +151,15 @@ module _ (D : Dir) (E : ℕ) where
       nothing = rw (last (own D E d e)) r
 
       by : (b : Bool) → own D E d e ≡ b
-          → Follow D E (Ends D E (other (SetStalled d e false))) (withPhase off w) (run conc (code (other (SetStalled d e false))) s)
+          → Follow D E (Ends D E (other (SetStalled d e false))) (withPhase off w) (run concrete (code (other (SetStalled d e false))) s)
       by false h = quiet-law D E (other (SetStalled d e false)) refl (λ a x. not-and D E (own D E d e) (log.ended D E a) (log.cleared D E x) x h) (λ _ _. tt)
           (let q = q-stalled d e false (own-false D E d e h) in (q-staged D E) 2 ((q-test D E) ((q-resultless D E) q) (reading.q-named D E d e ((q-resultless D E) q)))) w s r i z
       by true h = follow.follow-cond D E (eqb (s .0 .globals .stage) 2) (λ two. follow.follow-cond D E (eqb e 0) (λ _. goes two) (λ _. follow.follow-cond D E (isAllocated (s .0 .allocator) d e) (λ _. goes two) (λ _. at-end (nothing, tt)))) (λ _. at-end (nothing, tt))
         where
           goes : eqb (s .0 .globals .stage) 2 ≡ true
-              → Follow D E (Ends D E (other (SetStalled d e false))) (withPhase off w) (run {i = false} conc (resultless (bus.setStalled d e false)) s)
+              → Follow D E (Ends D E (other (SetStalled d e false))) (withPhase off w) (run {i = false} concrete (resultless (bus.setStalled d e false)) s)
           goes two =
-              let a = conc .act no-wakes s in
+              let a = concrete .act no-wakes s in
               let v = act-view D E no-wakes refl s in
               follow.follow-bind D E {P = Clears w} (follow.follow-bind D E {P = Clears w} (clearing d e w a (own-true D E d e h) (act-steady no-wakes refl s .places ∙ z .places) (subst (Fits w) (sym v) r) two (ap (λ (q : Seen). isOn (q .iso)) v ∙ i)) (λ y _ t m. at-end m))
               (λ y _ t m. at-end (rw (m .0) (rw h (m .1)), tt))
@@ -176,11 +176,11 @@ module _ (D : Dir) (E : ℕ) where
     reset : n ≡ 2 → y ≡ withPhase off w → FitsAs initial false (w .len) false (view D E (t .0)) → Polls w y n t
     kept : eqb n 2 ≡ false → y ≡ withPhase off w → Fits w (view D E (t .0)) → Polls w y n t
 
-  types : (s : St) → view D E (conc .row bus-reset 2 s .1 .0) ≡ view D E (s .0)
+  types : (s : St) → view D E (concrete .row bus-reset 2 s .1 .0) ≡ view D E (s .0)
   unfolding epOn
   types s = refl
 
-  configs : (s : St) → view D E (conc .row bus-reset 3 s .1 .0) ≡ view D E (s .0)
+  configs : (s : St) → view D E (concrete .row bus-reset 3 s .1 .0) ≡ view D E (s .0)
   unfolding epOn
   configs s = refl
 
@@ -188,24 +188,24 @@ module _ (D : Dir) (E : ℕ) where
   Restarted w y _ t = (y ≡ withPhase off w) × FitsAs initial false (w .len) false (view D E (t .0)) × Whole t
 
   rests : (w : Track) (s : St) → Whole s → Fits w (view D E (s .0)) → eqb (s .0 .globals .stage) 2 ≡ true
-      → Follow D E (Restarted w) (withPhase off w) (rows conc bus-reset 3 (λ t. tree.ends (tt {0}) t) s)
+      → Follow D E (Restarted w) (withPhase off w) (rows concrete bus-reset 3 (λ t. tree.ends (tt {0}) t) s)
   rests w s k r two = at-ask tt (λ _ b _ p. at-ask tt (λ _ c _ q. at-ask tt (λ _ e _ f.
       let v : view D E (e .0) ≡ view D E (s .0) = f .0 ∙ (q .0 ∙ (types b ∙ (p .0 ∙ configs s))) in
       let g = reset-fits D E w (e .0) (f .1 .places) (subst (Fits w) (sym v) r) (ap (λ (x : Seen). eqb (x .stage) 2) v ∙ two) in
       at-ask tt (λ _ h _ l. at-end (refl, subst (FitsAs initial false (w .len) false) (sym (l .0)) g, l .1 .places)))))
 
   resets : (w : Track) (s : St) → Whole s → Fits w (view D E (s .0)) → eqb (s .0 .globals .stage) 2 ≡ true
-      → Follow D E (Restarted w) (withPhase off w) (run conc bus.busReset s)
+      → Follow D E (Restarted w) (withPhase off w) (run concrete bus.busReset s)
   resets w s k r two = at-ask tt (λ _ a1 _ p1. at-ask tt (λ _ a2 _ p2. at-ask tt (λ _ a3 _ p3. follow.follow-bind D E (q-naks 15 1 .goes (withPhase off w) a3 (refl, λ _ _ _ _. refl) (loose D E (p3 .1 .places))) (λ y _ a m.
       let v : view D E (a .0) ≡ view D E (s .0) = m .1 ∙ (p3 .0 ∙ (p2 .0 ∙ p1 .0)) in
-      subst (λ (u : Track). Follow D E (Restarted w) u (run conc (bind (row bus-reset) (λ _. wakeAll)) a)) (sym (m .0))
-      (follow.follow-bind D E {f = λ (_ : Unit {0}) (u : St). run {i = false} conc wakeAll u} (rests w a (m .2 .whole) (subst (Fits w) (sym v) r) (ap (λ (x : Seen). eqb (x .stage) 2) v ∙ two))
-      (λ y _ t x. at-end {s = conc .act (waken every-endpoint) t} (x .0, subst (FitsAs initial false (w .len) false) (sym (act-view D E (waken every-endpoint) refl t)) (x .1), act-steady (waken every-endpoint) refl t .places ∙ x .2)))))))
+      subst (λ (u : Track). Follow D E (Restarted w) u (run concrete (bind (row bus-reset) (λ _. wakeAll)) a)) (sym (m .0))
+      (follow.follow-bind D E {f = λ (_ : Unit {0}) (u : St). run {i = false} concrete wakeAll u} (rests w a (m .2 .whole) (subst (Fits w) (sym v) r) (ap (λ (x : Seen). eqb (x .stage) 2) v ∙ two))
+      (λ y _ t x. at-end {s = concrete .act (waken every-endpoint) t} (x .0, subst (FitsAs initial false (w .len) false) (sym (act-view D E (waken every-endpoint) refl t)) (x .1), act-steady (waken every-endpoint) refl t .places ∙ x .2)))))))
 
   pub law-bus-poll : Law D E (other BusPoll)
   law-bus-poll w s r i z = follow.follow-cond D E (eqb (s .0 .globals .stage) 2)
       (λ two.
-      let a0 = conc .act no-wakes s in
+      let a0 = concrete .act no-wakes s in
       let v0 = act-view D E no-wakes refl s in
       follow.follow-bind D E {P = Polls w} (follow.follow-cond D E (isOn (s .0 .globals .power))
       (λ _. at-ask tt (λ f a _ p.
@@ -236,7 +236,7 @@ module _ (D : Dir) (E : ℕ) where
       → Law D E (other (Allocate d kind address maximum interval))
   law-allocate d kind address maximum interval w s r i z = follow.follow-cond D E (eqb (s .0 .globals .stage) 1)
       (λ one.
-      let t = conc .act (allocate d kind address maximum interval) s in
+      let t = concrete .act (allocate d kind address maximum interval) s in
       let f = alloc-fits D E w s d kind address maximum interval (z .places) r (early (s .0 .globals .stage) one) in
       by (allocateOf (s .0 .allocator) kind address maximum d .answer) t (f .0) (f .1))
       (λ _. at-end (r, tt))
@@ -248,18 +248,18 @@ module _ (D : Dir) (E : ℕ) where
       q-new e = (q-bind D E) ((q-write D E) (q-ret D E)) (λ _. (q-bind D E) ((q-when D E) ((q-hand D E) (q-ret D E))) (λ _. (q-ret D E)))
 
       by : (a : alloc.Answer) (t : St) → Fits w (view D E (t .0)) → Whole t
-          → Follow D E (Ends D E (other (Allocate d kind address maximum interval))) (withPhase off w) (run {i = false} conc (allocated-as d kind maximum a) t)
+          → Follow D E (Ends D E (other (Allocate d kind address maximum interval))) (withPhase off w) (run {i = false} concrete (allocated-as d kind maximum a) t)
       by (variant.Refused n) t f l = at-end (f, tt)
       by (variant.Given e base slots) t f l = follow.follow-more D E ((q-operation D E) (q-new {i = false} e) .goes (withPhase off w) t (refl, λ _ _ _ _. refl) (loose D E l)) (λ y a u m. (rw (m .0) (subst (Fits w) (sym (m .1)) f), tt))
 
   each : (es : List Endpoint) (w : Track) (s : St) → Whole s → Fits w (view D E (s .0))
       → eqb (s .0 .globals .stage) 2 ≡ false
-      → Follow D E (λ y _ t. (y ≡ withPhase off w) × Fits w (view D E (t .0)) × Whole t) (withPhase off w) (run {i = false} conc (allocateEach es) s)
+      → Follow D E (λ y _ t. (y ≡ withPhase off w) × Fits w (view D E (t .0)) × Whole t) (withPhase off w) (run {i = false} concrete (allocateEach es) s)
   unfolding allocateEach
   each [] w s l r two = at-end (refl, r, l)
   each (e ∷ es) w s l r two =
       let f = alloc-fits D E w s (directionOf (e .address)) (e .kind) (e .address) (e .maximum) (e .interval) l r two in
-      each es w (conc .act (allocate (directionOf (e .address)) (e .kind) (e .address) (e .maximum) (e .interval)) s) (f .1) (f .0) (ap (λ n. eqb n 2) (f .2) ∙ two)
+      each es w (concrete .act (allocate (directionOf (e .address)) (e .kind) (e .address) (e .maximum) (e .interval)) s) (f .1) (f .0) (ap (λ n. eqb n 2) (f .2) ∙ two)
 
   q-announce : {i : Bool} (d : Dir) (e : ℕ) → Quiet D E false (Off D E) (announce {i = i} d e)
   q-announce d e = (q-bind D E) ((q-got D E) (ep-cell d e)) (λ s. (q-bind D E) ((q-write D E) (q-ret D E)) (λ _. (q-bind D E) ((q-when D E) ((q-hand D E) (q-ret D E))) (λ _. (q-ret D E))))
@@ -289,22 +289,22 @@ module _ (D : Dir) (E : ℕ) where
       early n h = ne-eqb n 2 (λ q. absurd (omega (arith, q, eqb-true n 1 h)))
 
       by : (a : listing.Answer) → eqb (s .0 .globals .stage) 2 ≡ false
-          → Follow D E (Ends D E (other (AllocateAll bytes))) (withPhase off w) (run {i = false} conc (allocate-read bytes a) s)
+          → Follow D E (Ends D E (other (AllocateAll bytes))) (withPhase off w) (run {i = false} concrete (allocate-read bytes a) s)
       by (listed.Refused n) two = at-end (r, tt)
       by listed.Listed two = follow.follow-cond D E (eqb (trialOf (s .0 .allocator) (listOf bytes) .refusal) 0)
-          (λ _. follow.follow-bind D E (each (listOf bytes) w s (z .places) r two) (λ y _ t m. subst (λ (u : Track). Follow D E (Ends D E (other (AllocateAll bytes))) u (run {i = false} conc (operation (announceAll (listOf bytes))) t)) (sym (m .0))
+          (λ _. follow.follow-bind D E (each (listOf bytes) w s (z .places) r two) (λ y _ t m. subst (λ (u : Track). Follow D E (Ends D E (other (AllocateAll bytes))) u (run {i = false} concrete (operation (announceAll (listOf bytes))) t)) (sym (m .0))
           (follow.follow-more D E ((q-operation D E) (q-announces (listOf bytes)) .goes (withPhase off w) t (refl, λ _ _ _ _. refl) (loose D E (m .2))) (λ x a u n. (rw (n .0) (subst (Fits w) (sym (n .1)) (m .1)), tt)))))
           (λ _. at-end (r, tt))
 
   pub law-start : (maximum : ℕ) → Law D E (other (Start maximum))
   law-start maximum w s r i z = follow.follow-cond D E (eqb (s .0 .globals .stage) 1)
-      (λ _. by (allocateEp0Of (s .0 .allocator) maximum .answer) (conc .act (allocate0 maximum) s) (started D E w maximum (s .0) r) (started-places maximum (s .0) (z .places)))
+      (λ _. by (allocateEp0Of (s .0 .allocator) maximum .answer) (concrete .act (allocate0 maximum) s) (started D E w maximum (s .0) r) (started-places maximum (s .0) (z .places)))
       (λ _. at-end (r, tt))
     where
       q-start : {i : Bool} → Quiet D E false (Off D E) (startEp0 {i = i} maximum)
       q-start = (q-bind D E) ((q-hand D E) (q-ret D E)) (λ _. (q-bind D E) ((q-write D E) (q-ret D E)) (λ _. (q-bind D E) ((q-write D E) (q-ret D E)) (λ _. (q-bind D E) ((q-write D E) (q-ret D E)) (λ _. (q-write D E) (q-ret D E)))))
 
       by : (a : alloc.Answer) (t : St) → Fits w (view D E (t .0)) → Whole t
-          → Follow D E (Ends D E (other (Start maximum))) (withPhase off w) (run {i = false} conc (started-as maximum a) t)
+          → Follow D E (Ends D E (other (Start maximum))) (withPhase off w) (run {i = false} concrete (started-as maximum a) t)
       by (variant.Refused n) t f l = at-end (f, tt)
       by (variant.Given e base slots) t f l = follow.follow-more D E ((q-resultless D E) (q-start {i = false}) .goes (withPhase off w) t (refl, λ _ _ _ _. refl) (loose D E l)) (λ y a u m. (rw (m .0) (subst (Fits w) (sym (m .1)) f), tt))

@@ -13,8 +13,8 @@ use Rattle.model.specs.Calls.{Config, Op, interrupt, slotted, other, aside, Asi
 use Rattle.model.specs.Machine as machine
 use Rattle.model.specs.Machine.{Buf, Call, start, begin, go, question, Event, Ans, ended, Awaits, Way, idle, busy, Machine, misfit, beside, begun, continued, started, stay}
 use Rattle.model_ops.specs.Rings.{St}
-use Rattle.model_ops.specs.Conc.{conc}
-use Rattle.machine.specs.Under.{driverOf, drive, haltsAs}
+use Rattle.model_ops.specs.Concrete.{concrete}
+use Rattle.machine.specs.Suspended.{driverOf, drive, haltsAs}
 use Rattle.proof_book.specs.Always.{after}
 use Rattle.proof_book.specs.Sorting.{Sorting, after-sorting}
 use Rattle.proof_wake_ups.specs.Rooms.{Few, Roomy, rooms, start-rooms}
@@ -45,12 +45,12 @@ module _ (O : Observer) where
   pub record Laws (R : O .Log → O .View → Type 0) : Type 0 where
     pub stands : (w : O .Log) (x : O .View) → R w x → O .Stands w x
     pub call : (o : Op) (w : O .Log) (s : St) → R w (O .view (s .0)) → O .Meant (O .view (s .0)) → Sorting (s .0)
-        → Sees (O .Allowed o) (λ x a t. R (O .closes o a x) (O .view (t .0)) × (Few (ended a) → O .Fair o a x)) (O .opens o w) (run conc (code o) s)
-    pub asks : (o : Op) (s : St) → Only (O .Asks o) (run conc (code o) s)
+        → Sees (O .Allowed o) (λ x a t. R (O .closes o a x) (O .view (t .0)) × (Few (ended a) → O .Fair o a x)) (O .opens o w) (run concrete (code o) s)
+    pub asks : (o : Op) (s : St) → Only (O .Asks o) (run concrete (code o) s)
     pub besides : (o : Aside) (d : Driver) (b : Buf) (a : Answer) (t : St) → Sorting d
-        → run conc (asideCode o) (d, b) ≡ tree.ends a t → (O .view (t .0) ≡ O .view d) × (t .0 .wakes ≡ d .wakes)
+        → run concrete (asideCode o) (d, b) ≡ tree.ends a t → (O .view (t .0) ≡ O .view d) × (t .0 .wakes ≡ d .wakes)
     pub new : (c : Config) (b : Buf)
-        → Ups (λ s. R (O .before) (O .view (s .0))) (run conc (calls .starts c) (driverOf .fresh c, b))
+        → Ups (λ s. R (O .before) (O .view (s .0))) (run concrete (calls .starts c) (driverOf .fresh c, b))
     -- row 1 leaves all as it was
     pub unlent : (o : Op) (w : O .Log) (x : O .View) → R w x → R (O .closes o (Refused 1) (O .opens o w)) x
     pub fair-1 : (o : Op) (w : O .Log) → O .Fair o (Refused 1) w
@@ -147,7 +147,7 @@ module _ (O : Observer) where
       }
 
       passing : (d : Driver) (l : Buf) (f : Aside) → Sorting d → J (busy i y k) d (x .log) (x .under)
-          → (out : tree.Out St Answer) → run conc (asideCode f) (d, b) ≡ out
+          → (out : tree.Out St Answer) → run concrete (asideCode f) (d, b) ≡ out
           → Step (begin o) b (beside calls driverOf (record { way = busy i y k; st = d; buf = b }) out) x
       passing d l f z j (tree.ends a t) h = stepped (ended a) (t .0) (t .1) (still-J i y k d (t .0) (x .log) (x .under) (L .besides f d b a t z h) j)
       passing d l f z j (tree.asks q t g) h = stepped (ended (Refused 3)) d b j
@@ -161,7 +161,7 @@ module _ (O : Observer) where
     during (slotted o) b false y k d l x z j = stepped (slotted o) b false y k x (ended (Refused 3)) d b j
     during (other o) b true y k d l x z j = stepped (other o) b true y k x (ended (Refused 3)) d b j
     during (other o) b false y k d l x z j = stepped (other o) b false y k x (ended (Refused 3)) d b j
-    during (aside o) b true y k d l x z j = passing (aside o) b true y k x d l o z j (run conc (asideCode o) (d, b)) refl
+    during (aside o) b true y k d l x z j = passing (aside o) b true y k x d l o z j (run concrete (asideCode o) (d, b)) refl
     during (aside o) b false y k d l x z j = stepped (aside o) b false y k x (ended (Refused 3)) d b j
 
     -- at rest, with row 1

@@ -14,15 +14,15 @@ use Rattle.regs.specs.declared.Dir.the-variants.{Out, In}
 use Rattle.state.specs.declared.EpState.{EpState}
 use Rattle.state.specs.Driver.{Driver, key, noEp, epOn, withOn, withLenOn, withStampOn}
 use Rattle.ring.specs.Slot.{slotAddr, joinedOf, passedOf, hasWaiting}
-use Rattle.ring.specs.Out.{hasRoomOut, cappedAt, turnedAwayOf, arrivedOf, armedAt, openedOf, closedOf}
+use Rattle.ring.specs.Out.{hasRoomOut, cappedAt, overrunOf, arrivedOf, armedAt, openedOf, closedOf}
 use Rattle.ring.specs.In.{completedOf, loadedOf, unloadedOf}
 use Rattle.marks.specs.Copies.{copied}
-use Rattle.model.specs.Script.{Act, complete, reset-ring, set-enabled, fill, fill0, open-oldest, close-oldest, take-oldest, enqueue, allocate, allocate0, no-wakes, waken, Hand, arrive, send, place, place0}
+use Rattle.model.specs.Script.{Act, complete, reset-ring, set-enabled, fill, fill0, open-oldest, close-oldest, take-oldest, enqueue, allocate, allocate0, no-wakes, waken, DmaStep, arrive, send, place, place0}
 use Rattle.model.specs.Statics.{isOn, isoOuts}
-use Rattle.model.specs.Sorts.{allocates}
+use Rattle.model.specs.TransferKinds.{allocates}
 use Rattle.model_ops.specs.Records.{isoOut, configured, enabledOn}
 use Rattle.model_ops.specs.Rings.{St, completeOn, emptied, emptiedOn, openOn, closeOn, takeOn, roomOn, queuedOn, enqueueOn, recordedOn, admittedOn, arrivedAt, arriveOn, sendOn, placeOn}
-use Rattle.model_ops.specs.Conc.{conc}
+use Rattle.model_ops.specs.Concrete.{concrete}
 use Rattle.proof_usb20.specs.Ep0.{recOf, view}
 
 -- ---- what leaves it
@@ -83,10 +83,10 @@ completed-flag r = by (eqb (r .loaded) 0)
     by false = refl
 
 arrived-flag : (r : EpState) → recOf (arrivedOf r) ≡ recOf r
-unfolding arrivedOf joinedOf turnedAwayOf
+unfolding arrivedOf joinedOf overrunOf
 arrived-flag r = by (hasRoomOut r)
   where
-    by : (b : Bool) → recOf (cond b (joinedOf r) (turnedAwayOf r)) ≡ recOf r
+    by : (b : Bool) → recOf (cond b (joinedOf r) (overrunOf r)) ≡ recOf r
     by true = refl
     by false = refl
 
@@ -96,7 +96,7 @@ queued-same : (d : Driver) (e n : ℕ) → Same d (queuedOn d e n)
 unfolding queuedOn withLenOn joinedOf epOn
 queued-same d e n = then (others d (withLenOn d In e _ n) refl refl refl refl) (record-same (withLenOn d In e _ n) In e (joinedOf (epOn d In e)) refl)
 
-pub act-same : (q : Act) → allocates q ≡ false → (s : St) → Same (s .0) (conc .act q s .0)
+pub act-same : (q : Act) → allocates q ≡ false → (s : St) → Same (s .0) (concrete .act q s .0)
 unfolding completeOn emptiedOn emptied enabledOn configured openOn openedOf closeOn takeOn closedOf passedOf enqueueOn
 act-same (complete e) h s = record-same (s .0) In e _ (completed-flag (epOn (s .0) In e))
 act-same (reset-ring d e) h s = either (isoOut (s .0) d e) (same (s .0)) (record-same (s .0) d e _ refl)
@@ -129,7 +129,7 @@ admitted-same : (d : Driver) (e len : ℕ) → Same d (admittedOn d e len)
 unfolding admittedOn
 admitted-same d e len = let p = recorded-same d e len in then p (record-same (recordedOn d e len) Out e _ (arrived-flag (epOn d Out e) ∙ sym (p .flags Out e)))
 
-pub hand-same : (q : Hand) (s : St) → Same (s .0) (conc .hand q s .1 .0)
+pub hand-same : (q : DmaStep) (s : St) → Same (s .0) (concrete .hand q s .1 .0)
 unfolding arriveOn sendOn loadedOf placeOn
 hand-same (arrive e n) s = by (isSet (isoOuts (s .0 .globals)) (e % 16))
   where
@@ -150,8 +150,8 @@ hand-same place0 s = same (s .0)
 pub same-view : {d d′ : Driver} → Same d d′ → view d′ ≡ view d
 same-view p = rw (p .flags Out 0, p .flags In 0, p .control, p .setup, p .stage) refl
 
-pub act-view : (q : Act) → allocates q ≡ false → (s : St) → view (conc .act q s .0) ≡ view (s .0)
+pub act-view : (q : Act) → allocates q ≡ false → (s : St) → view (concrete .act q s .0) ≡ view (s .0)
 act-view q h s = same-view (act-same q h s)
 
-pub hand-view : (q : Hand) (s : St) → view (conc .hand q s .1 .0) ≡ view (s .0)
+pub hand-view : (q : DmaStep) (s : St) → view (concrete .hand q s .1 .0) ≡ view (s .0)
 hand-view q s = same-view (hand-same q s)

@@ -16,13 +16,13 @@ use Rattle.regs.specs.MisStatus.{sieFree}
 use Rattle.regs.specs.Status.{endpoint, token, outToken, inToken, isOut, isIn}
 use Rattle.state.specs.Driver.{key, epOn}
 use Rattle.model.specs.declared.Transfer.{Transfer}
-use Rattle.model.specs.Cells.{Plain, ep-cell}
+use Rattle.model.specs.Cells.{EpCore, ep-cell}
 use Rattle.model.specs.Script.{Script, read-then, run}
 use Rattle.model.specs.Statics.{isOn}
 use Rattle.model.specs.Every.{sameReg}
 use Rattle.model.specs.Handler.{looks, nakNonIso, settle, waitsForIso, waitsForBulk, isoFor}
 use Rattle.model_ops.specs.Rings.{St}
-use Rattle.model_ops.specs.Conc.{conc}
+use Rattle.model_ops.specs.Concrete.{concrete}
 use Rattle.proof_usb20.specs.Exempt.{differ}
 use Rattle.proof_usb20.specs.Fitting.{both}
 use Rattle.proof_usb20.specs.Sequence.{Track, shows, again, withPhase, own, mine, tokenFor, saw}
@@ -68,11 +68,11 @@ module _ (D : Dir) (E : ℕ) where
 
   -- a token of the endpoint: the endpoint's record says that it is not isochronous
   module _ (s : St) (i : isOn (epOn (s .0) D E .iso) ≡ false) (z : (d : Dir) → Else D E d 0) (st : ℕ) (h : mine D E st ≡ true) where
-    abbrev pub O : Plain
-    O = conc .get (ep-cell Out (endpoint st)) s
+    abbrev pub O : EpCore
+    O = concrete .get (ep-cell Out (endpoint st)) s
 
-    abbrev pub N : Plain
-    N = conc .get (ep-cell In (endpoint st)) s
+    abbrev pub N : EpCore
+    N = concrete .get (ep-cell In (endpoint st)) s
 
     pub its-own : Own D E D (endpoint st)
     its-own = own-true D E D (endpoint st) (both (tokenFor D (token st)) (own D E D (endpoint st)) h .1)
@@ -80,8 +80,8 @@ module _ (D : Dir) (E : ℕ) where
     pub its-token : tokenFor D (token st) ≡ true
     its-token = both (tokenFor D (token st)) (own D E D (endpoint st)) h .0
 
-    plain : (d : Dir) → D ≡ d → isOn (conc .get (ep-cell d (endpoint st)) s .iso) ≡ false
-    plain d g = ap (λ (p : Plain). isOn (p .iso)) (got D E d (endpoint st) s (subst (λ (x : Dir). key x (endpoint st) ≡ key D E) g its-own)) ∙ i
+    plain : (d : Dir) → D ≡ d → isOn (concrete .get (ep-cell d (endpoint st)) s .iso) ≡ false
+    plain d g = ap (λ (p : EpCore). isOn (p .iso)) (got D E d (endpoint st) s (subst (λ (x : Dir). key x (endpoint st) ≡ key D E) g its-own)) ∙ i
 
     pub not-zero : eqb (endpoint st) 0 ≡ false
     not-zero = by (eqb (endpoint st) 0) refl
@@ -144,12 +144,12 @@ module _ (D : Dir) (E : ℕ) where
   module _ (z : (d : Dir) → Else D E d 0) where
     -- an answer of a wait that a token of the endpoint would not give
     not-mine : {A : Type 0} (s : St) → isOn (epOn (s .0) D E .iso) ≡ false → (x : Transfer)
-        → waitsForBulk x (conc .get (ep-cell In (endpoint (x .st))) s) ≡ false → x .busy ≡ true
+        → waitsForBulk x (concrete .get (ep-cell In (endpoint (x .st))) s) ≡ false → x .busy ≡ true
         → mine D E (x .st) ≡ true → A
     not-mine s i x q b h = differ (sym q ∙ (bulk-wait s i z (x .st) h x refl ∙ b))
 
     not-mine-iso : {A : Type 0} (s : St) → isOn (epOn (s .0) D E .iso) ≡ false → (x : Transfer)
-        → waitsForIso x (conc .get (ep-cell Out (endpoint (x .st))) s) ≡ true → mine D E (x .st) ≡ true → A
+        → waitsForIso x (concrete .get (ep-cell Out (endpoint (x .st))) s) ≡ true → mine D E (x .st) ≡ true → A
     not-mine-iso s i x q h = differ (sym (no-iso-wait s i z (x .st) h x refl) ∙ q)
 
     -- after one access more
@@ -160,11 +160,11 @@ module _ (D : Dir) (E : ℕ) where
     same s = hears-same D E {s = s} {t = s} refl
 
     pub settles : (w : Track) (s : St) (x : Transfer) → isOn (epOn (s .0) D E .iso) ≡ false → Kept D E true s
-        → Follow D E (λ l y t. Settled s w (view D E (s .0)) l y t) (withPhase (shows (x .st) (x .len)) w) (run conc (settle {i = true} x) s)
-    settles w s x i k = follow.follow-cond D E (waitsForIso x (conc .get (ep-cell Out (endpoint (x .st))) s))
+        → Follow D E (λ l y t. Settled s w (view D E (s .0)) l y t) (withPhase (shows (x .st) (x .len)) w) (run concrete (settle {i = true} x) s)
+    settles w s x i k = follow.follow-cond D E (waitsForIso x (concrete .get (ep-cell Out (endpoint (x .st))) s))
         (λ q. follow.follow-bind D E (q-waits 2001 .goes (withPhase (shows (x .st) (x .len)) w) s (deaf (x .st) (x .len) w, λ _ _ _ _. refl) k) (λ y _ a m. back D E (m .0) (at-ask tt (λ now b _ p. at-ask tt (λ n c _ r.
         at-end (record { len = cond (eqb n 0) (x .len) n; log = refl; its = λ h. not-mine-iso s i x q h; view = r .0 ∙ (p .0 ∙ m .1); kept = kept-by D E {s = b} {t = c} r (kept-by D E {s = a} {t = b} p (m .2)); hears = after s b c (after s a b (m .3) p) r }))))))
-        (λ _. follow.follow-cond D E (waitsForBulk x (conc .get (ep-cell In (endpoint (x .st))) s))
+        (λ _. follow.follow-cond D E (waitsForBulk x (concrete .get (ep-cell In (endpoint (x .st))) s))
         (λ _. follow.follow-bind D E (q-waits 2001 .goes (withPhase (shows (x .st) (x .len)) w) s (deaf (x .st) (x .len) w, λ _ _ _ _. refl) k) (λ y _ a m. back D E (m .0) (at-ask tt (λ n c _ r.
         at-end (record { len = cond (eqb n 0) (x .len) n; log = refl; its = λ _. (refl, refl); view = r .0 ∙ m .1; kept = kept-by D E {s = a} {t = c} r (m .2); hears = after s a c (m .3) r })))))
         (λ q. follow.follow-cond D E (x .busy)

@@ -10,15 +10,15 @@ use lib.ListN.{length}
 use Rattle.regs.specs.declared.Dir.the-variants.{Out, In}
 use Rattle.regs.specs.ControlWord.{toggle, ack, stall, status}
 use Rattle.state.specs.declared.Control.{Control}
-use Rattle.model.specs.Cells.{Plain, ep-cell, control-cell}
+use Rattle.model.specs.Cells.{EpCore, ep-cell, control-cell}
 use Rattle.model.specs.Script.{no-wakes, fill0}
 use Rattle.model.specs.Statics.{isOn, withReady, withArmed, withLen}
 use Rattle.model.specs.Control.{SETUP, DATA-OUT, ACCEPT, requestOf, no-control, dataInOf, addressOf}
 use Rattle.model.specs.Calls.{slotted, other, BeginDataIn, BeginSetup, BeginAccept, BeginReject, BeginDataOut, BeginAcceptSetAddress}
 use Rattle.model.specs.ToggledLaws.{ack-keeps, ack-acks}
 use Rattle.model_ops.specs.Rings.{St}
-use Rattle.model_ops.specs.Conc.{conc}
-use Rattle.proof_book.specs.Sorts.{put-steady, act-steady}
+use Rattle.model_ops.specs.Concrete.{concrete}
+use Rattle.proof_book.specs.TransferKinds.{put-steady, act-steady}
 use Rattle.proof_usb20.specs.Pipe.{Pipe, Awaited, keeps, sets}
 use Rattle.proof_usb20.specs.Log.{afresh}
 use Rattle.proof_usb20.specs.Watch.{at-end, at-ask, watch-cond}
@@ -31,38 +31,38 @@ use Rattle.proof_usb20.specs.Fitting.{acked-ack, acked-one, stall-stalls
 -- ---- states
 
 -- an endpoint's record is changed: EP0's own
-abbrev pub outWith : (Plain → Plain) → St → St
-outWith f s = conc .put (ep-cell Out 0) (f (conc .get (ep-cell Out 0) s)) s
+abbrev pub outWith : (EpCore → EpCore) → St → St
+outWith f s = concrete .put (ep-cell Out 0) (f (concrete .get (ep-cell Out 0) s)) s
 
-abbrev pub inWith : (Plain → Plain) → St → St
-inWith f s = conc .put (ep-cell In 0) (f (conc .get (ep-cell In 0) s)) s
+abbrev pub inWith : (EpCore → EpCore) → St → St
+inWith f s = concrete .put (ep-cell In 0) (f (concrete .get (ep-cell In 0) s)) s
 
 abbrev pub Whole : St → Type 0
 Whole s = length (s .0 .eps) ≡ 32
 
-pub out-view : (f : Plain → Plain) (s : St) → Whole s
-    → view (outWith f s .0) ≡ setOut (rec (f (conc .get (ep-cell Out 0) s))) (view (s .0))
-out-view f s h = put-out (f (conc .get (ep-cell Out 0) s)) s h
+pub out-view : (f : EpCore → EpCore) (s : St) → Whole s
+    → view (outWith f s .0) ≡ setOut (rec (f (concrete .get (ep-cell Out 0) s))) (view (s .0))
+out-view f s h = put-out (f (concrete .get (ep-cell Out 0) s)) s h
 
-pub in-view : (f : Plain → Plain) (s : St) → Whole s
-    → view (inWith f s .0) ≡ setIn (rec (f (conc .get (ep-cell In 0) s))) (view (s .0))
-in-view f s h = put-in (f (conc .get (ep-cell In 0) s)) s h
+pub in-view : (f : EpCore → EpCore) (s : St) → Whole s
+    → view (inWith f s .0) ≡ setIn (rec (f (concrete .get (ep-cell In 0) s))) (view (s .0))
+in-view f s h = put-in (f (concrete .get (ep-cell In 0) s)) s h
 
-pub out-whole : (f : Plain → Plain) (s : St) → Whole s → Whole (outWith f s)
-out-whole f s h = put-steady (ep-cell Out 0) (f (conc .get (ep-cell Out 0) s)) s .places ∙ h
+pub out-whole : (f : EpCore → EpCore) (s : St) → Whole s → Whole (outWith f s)
+out-whole f s h = put-steady (ep-cell Out 0) (f (concrete .get (ep-cell Out 0) s)) s .places ∙ h
 
-pub in-whole : (f : Plain → Plain) (s : St) → Whole s → Whole (inWith f s)
-in-whole f s h = put-steady (ep-cell In 0) (f (conc .get (ep-cell In 0) s)) s .places ∙ h
+pub in-whole : (f : EpCore → EpCore) (s : St) → Whole s → Whole (inWith f s)
+in-whole f s h = put-steady (ep-cell In 0) (f (concrete .get (ep-cell In 0) s)) s .places ∙ h
 
 -- a request is noted, and an operation begins
 abbrev pub noted : Control → St → St
-noted c s = conc .act no-wakes (conc .put control-cell c s)
+noted c s = concrete .act no-wakes (concrete .put control-cell c s)
 
 pub noted-view : (c : Control) (s : St) → view (noted c s .0) ≡ setControl c (view (s .0))
-noted-view c s = act-view no-wakes refl (conc .put control-cell c s) ∙ put-control c s
+noted-view c s = act-view no-wakes refl (concrete .put control-cell c s) ∙ put-control c s
 
 pub noted-whole : (c : Control) (s : St) → Whole s → Whole (noted c s)
-noted-whole c s h = act-steady no-wakes refl (conc .put control-cell c s) .places ∙ (put-steady control-cell c s .places ∙ h)
+noted-whole c s h = act-steady no-wakes refl (concrete .put control-cell c s) .places ∙ (put-steady control-cell c s .places ∙ h)
 
 pub moved : {ex : Bool} {rx tx l : ℕ} {p : Pipe} {a : Awaited} {u : Bool} {x y : View} → y ≡ x
     → (ex ≡ true) ⊎ Rel rx tx l p a u x → (ex ≡ true) ⊎ Rel rx tx l p a u y
@@ -92,11 +92,11 @@ law-data-out n false w s (inr r) z =
 
 -- the last packet: before the closing OUT's access, and the next
 closing : (n : ℕ) (bytes : List ℕ) (s : St) → Whole s
-    → let x = conc .act (fill0 bytes) (noted (dataInOf n 1 1) s) in
+    → let x = concrete .act (fill0 bytes) (noted (dataInOf n 1 1) s) in
     view (outWith (λ p. withLen 0 (withReady 0 p)) (inWith (withReady 0) x) .0) ≡ setOut (record { ready = 0; armed = view (s .0) .out .armed }) (setIn (record { ready = 0; armed = view (s .0) .inn .armed }) (setControl (dataInOf n 1 1) (view (s .0))))
 closing n bytes s h =
     let c = dataInOf n 1 1 in
-    let x = conc .act (fill0 bytes) (noted c s) in
+    let x = concrete .act (fill0 bytes) (noted c s) in
     let hx = act-steady (fill0 bytes) refl (noted c s) .places ∙ noted-whole c s h in
     let vx = act-view (fill0 bytes) refl (noted c s) ∙ noted-view c s in
     out-view (λ p. withLen 0 (withReady 0 p)) (inWith (withReady 0) x) (in-whole (withReady 0) x hx)
@@ -109,11 +109,11 @@ armed-in t y h e = in-view (withArmed 1) t h ∙ ap (λ (y : View). setIn (recor
 
 -- another one
 opening : (n : ℕ) (bytes : List ℕ) (s : St) → Whole s
-    → let x = conc .act (fill0 bytes) (noted (dataInOf n 0 1) s) in
+    → let x = concrete .act (fill0 bytes) (noted (dataInOf n 0 1) s) in
     view (inWith (withArmed 1) (inWith (withReady 0) x) .0) ≡ setIn (record { ready = 0; armed = 1 }) (setControl (dataInOf n 0 1) (view (s .0)))
 opening n bytes s h =
     let c = dataInOf n 0 1 in
-    let x = conc .act (fill0 bytes) (noted c s) in
+    let x = concrete .act (fill0 bytes) (noted c s) in
     let hx = act-steady (fill0 bytes) refl (noted c s) .places ∙ noted-whole c s h in
     let vx = act-view (fill0 bytes) refl (noted c s) ∙ noted-view c s in
     in-view (withArmed 1) (inWith (withReady 0) x) (in-whole (withReady 0) x hx)

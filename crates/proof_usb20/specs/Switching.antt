@@ -18,7 +18,7 @@ use Rattle.model.specs.Statics.{isOn, renewed, withArmed, flag, modifyEpType}
 use Rattle.model.specs.Bus as bus
 use Rattle.model.specs.Calls.{slotted, SetEnabled}
 use Rattle.model_ops.specs.Rings.{St, slotStep, armAt, renewedOn, typeStep, configStep}
-use Rattle.model_ops.specs.Conc.{conc}
+use Rattle.model_ops.specs.Concrete.{concrete}
 use Rattle.proof_usb20.specs.Log.{Log, saw}
 use Rattle.proof_usb20.specs.Watch.{at-end}
 use Rattle.proof_usb20.specs.Ep0.{Watch, view, recOf, Keeps, Law}
@@ -50,7 +50,7 @@ slot-view e k o s = by (isOn (epOn (s .0) Out e .iso)) (eqb k 15)
     by true false = with-other (s .0) e _ o
     by false c = refl
 
-switch-view : (e : ℕ) (on : Bool) (n : ℕ) → Other e → (s : St) → view (conc .row (switch e on) n s .1 .0) ≡ view (s .0)
+switch-view : (e : ℕ) (on : Bool) (n : ℕ) → Other e → (s : St) → view (concrete .row (switch e on) n s .1 .0) ≡ view (s .0)
 unfolding configStep typeStep epOn
 switch-view e on zero o s = refl
 switch-view e on (suc zero) o s = refl
@@ -64,9 +64,9 @@ silent e on (suc (suc zero)) x h w v = other-word Out e (cond on 1 2) h w
 silent e on (suc (suc (suc n))) x h w v = refl
 
 in-row : (e : ℕ) (on : Bool) → Numbered e → (n : ℕ) (w : Log) (s : St) → Plainly s
-    → Watch Keeps Any (λ x _ t. Stays w s x t) w (rows conc (switch e on) n (λ t. tree.ends (tt {0}) t) s)
-in-row e on m zero w s k = onward w s (conc .row (switch e on) zero s .1) (switch-view e on zero (m .apart) s) (asked w (silent e on zero (conc .row (switch e on) zero s .0) (m .zero-not) w) (λ _ t l. at-end (refl, refl, l)))
-in-row e on m (suc n) w s k = onward w s (conc .row (switch e on) (suc n) s .1) (switch-view e on (suc n) (m .apart) s) (asked w (silent e on (suc n) (conc .row (switch e on) (suc n) s .0) (m .zero-not) w) (λ _ t l. in-row e on m n w t l))
+    → Watch Keeps Any (λ x _ t. Stays w s x t) w (rows concrete (switch e on) n (λ t. tree.ends (tt {0}) t) s)
+in-row e on m zero w s k = onward w s (concrete .row (switch e on) zero s .1) (switch-view e on zero (m .apart) s) (asked w (silent e on zero (concrete .row (switch e on) zero s .0) (m .zero-not) w) (λ _ t l. at-end (refl, refl, l)))
+in-row e on m (suc n) w s k = onward w s (concrete .row (switch e on) (suc n) s .1) (switch-view e on (suc n) (m .apart) s) (asked w (silent e on (suc n) (concrete .row (switch e on) (suc n) s .0) (m .zero-not) w) (λ _ t l. in-row e on m n w t l))
 
 q-row : (e : ℕ) (on : Bool) → Numbered e → Quiet (row (switch e on))
 q-row e on m = record { goes = λ w s z k. in-row e on m 18 w s k }
@@ -75,7 +75,7 @@ q-types : (f : ℕ → ℕ) → Quiet (modifyEpType {i = false} f)
 q-types f = record {
   goes = λ w s z k.
       let h : Globals → Globals = λ g. withEpType (f (g .«ep_type»)) g in
-      onward w s (conc .put globals-cell (h (conc .get globals-cell s)) s) (put-kept h (λ _. refl) s) (asked w (λ _. refl) (λ _ t l. at-end (refl, refl, l)));
+      onward w s (concrete .put globals-cell (h (concrete .get globals-cell s)) s) (put-kept h (λ _. refl) s) (asked w (λ _. refl) (λ _ t l. at-end (refl, refl, l)));
 }
 
 q-kept : (d : Dir) (e : ℕ) (iso on : Bool) → Quiet (bus.kept {i = false} d e iso on)

@@ -21,11 +21,11 @@ use Rattle.regs.specs.Flags.{busRst, suspend}
 use Rattle.regs.specs.IntEn.{withBusRst, withSuspend}
 use Rattle.state.specs.Kept.{withIntEn}
 use Rattle.model.specs.Tree as tree
-use Rattle.model.specs.Cells.{Plain, ep-cell, globals-cell, allocator-cell, request-cell, paced-cell}
+use Rattle.model.specs.Cells.{EpCore, ep-cell, globals-cell, allocator-cell, request-cell, paced-cell}
 use Rattle.model.specs.Script.{Script, ret, bind, run, no-wakes}
 use Rattle.bits.specs.Bit.{withBit}
 use Rattle.model.specs.Machine.{Buf}
-use Rattle.proof_book.specs.Sorts.{put-steady, act-steady}
+use Rattle.proof_book.specs.TransferKinds.{put-steady, act-steady}
 use Rattle.proof_book.specs.Sorting.{Sorting}
 use Rattle.model.specs.Statics.{isOn, withReady, withArmed, withPaced, withTog, withPower, modifyIntEn}
 use Rattle.model.specs.Answers.{Answer, Refused, End, NotYet, Done, Shown, operation, resultless, staged, named, unless, isNumber, isAllocated}
@@ -34,7 +34,7 @@ use Rattle.model.specs.Bus as bus
 use Rattle.model.specs.Endpoint.{enabled-else, ends-request, polled, no-request, begun}
 use Rattle.model.specs.Calls.{Op, slotted, other, aside, PollRead, BeginWrite, PollWrite, Other, Allocate, AllocateAll, Start, BusPoll, BusEnable, BusDisable, Microframe, SetStalled, IsStalled, SetPaced, Advance, BeginRead, Aside, Open, Close, Queue, asideCode, code}
 use Rattle.model_ops.specs.Rings.{St}
-use Rattle.model_ops.specs.Conc.{conc}
+use Rattle.model_ops.specs.Concrete.{concrete}
 use Rattle.regs.specs.declared.Access.{Access}
 use Rattle.proof_usb20.specs.Log as log
 use Rattle.proof_usb20.specs.Log.{Log, before, exempted, afresh, opens, ends, closes, Poll, none, pollOf, settled, FairPoll, Allowed, AllowedTo}
@@ -71,7 +71,7 @@ opened (other o) t w = refl
 opened (aside o) t w = refl
 
 pub quiet-law : (o : Op) → Task o → pollOf o ≡ none → ((n : ℕ) (x : Log) → ends o n x ≡ x) → Quiet (code o) → Law o
-quiet-law o t p e q w s r z = subst (λ (u : Log). Watch Keeps (Allowed o) (Ends o) u (run conc (code o) s)) (sym (opened o t w))
+quiet-law o t p e q w s r z = subst (λ (u : Log). Watch Keeps (Allowed o) (Ends o) u (run concrete (code o) s)) (sym (opened o t w))
     (allows (λ x q. subst (λ (a : Poll). AllowedTo a x q) (sym p) tt) (watch-more (q .goes (afresh w) s refl (plainly z))
     (λ x a u m. (subst (λ (y : Log). R y (view (u .0))) (sym (closed o p e a x ∙ m .0)) (subst (R w) (sym (m .1)) r), subst (λ (y : Poll). FairPoll y a x) (sym p) tt))))
 
@@ -110,11 +110,11 @@ q-named d e x = q-bind (q-got allocator-cell) (λ a. q-if (isAllocated a d e) (�
 q-unless : {i : Bool} (b : Bool) (n : ℕ) {p : Script i Answer} → Quiet p → Quiet (unless b n p)
 q-unless b n x = q-test q-ret x
 
-put-request : (d : Dir) (e : ℕ) (v : Request) (s : St) → view (conc .put (request-cell d e) v s .0) ≡ view (s .0)
+put-request : (d : Dir) (e : ℕ) (v : Request) (s : St) → view (concrete .put (request-cell d e) v s .0) ≡ view (s .0)
 unfolding withRequestOn epOn
 put-request d e v s = refl
 
-pub put-paced : (e v : ℕ) (s : St) → view (conc .put (paced-cell e) v s .0) ≡ view (s .0)
+pub put-paced : (e v : ℕ) (s : St) → view (concrete .put (paced-cell e) v s .0) ≡ view (s .0)
 unfolding withPacedOn epOn
 put-paced e v s = refl
 
@@ -130,7 +130,7 @@ pub law-begin-read : (e n : ℕ) → Law (other (BeginRead e n))
 law-begin-read e n = quiet-law (other (BeginRead e n)) tt refl (λ _ _. refl) (q-staged 2 (q-named Out e (λ m. q-enabled Out e q-ret (q-bind (q-got (ep-cell Out e)) (λ s. q-unless _ 10
     (q-bind (q-put (put-request Out e (begun n)) q-ret) (λ _. q-resultless (q-test q-ret (q-test q-ret (q-bind (q-ep Out e (withArmed 1) (m .apart)) (λ _. q-reg Out e _ (m .zero-not))))))))))))
 
-q-polled : {i : Bool} (d : Dir) (e n : ℕ) → Numbered e → {p : Plain → Script i Answer} → ((s : Plain) → Quiet (p s))
+q-polled : {i : Bool} (d : Dir) (e n : ℕ) → Numbered e → {p : EpCore → Script i Answer} → ((s : EpCore) → Quiet (p s))
     → Quiet (polled d e n p)
 q-polled d e n m x = q-bind (q-got (request-cell d e)) (λ r. q-unless _ 15 (q-test (q-bind (q-got (ep-cell d e)) (λ s. x s)) (q-bind (q-ep d e (withReady 0) (m .apart)) (λ _. q-ends d e (Refused 10)))))
 
@@ -184,8 +184,8 @@ q-paced : {i : Bool} (e : ℕ) (on : Bool) → Quiet (isoInSetPaced {i = i} e on
 q-paced e on = record {
   goes = λ w s z k.
       let f : Globals → Globals = λ g. withPaced (withBit (g .«iso_in_paced») e on) g in
-      let t = conc .put globals-cell (f (conc .get globals-cell s)) s in
-      at-end (refl, put-paced e NO_FRAME t ∙ put-kept f (λ _. refl) s, steadily (put-steady (paced-cell e) NO_FRAME t) (steadily (put-steady globals-cell (f (conc .get globals-cell s)) s) k));
+      let t = concrete .put globals-cell (f (concrete .get globals-cell s)) s in
+      at-end (refl, put-paced e NO_FRAME t ∙ put-kept f (λ _. refl) s, steadily (put-steady (paced-cell e) NO_FRAME t) (steadily (put-steady globals-cell (f (concrete .get globals-cell s)) s) k));
 }
 
 pub law-set-paced : (e : ℕ) (on : Bool) → Law (other (SetPaced e on))
@@ -216,7 +216,7 @@ ended-view : {A : Type 0} {w : Log} {v : View} {a : A} {t : St}
 ended-view (at-end p) = p
 
 pub aside-view : (o : Aside) (d : Driver) (b : Buf) (a : Answer) (t : St) → Sorting d
-    → run conc (asideCode o) (d, b) ≡ tree.ends a t → view (t .0) ≡ view d
+    → run concrete (asideCode o) (d, b) ≡ tree.ends a t → view (t .0) ≡ view d
 aside-view o d b a t z h = ended-view (subst (Watch Keeps Any (λ _ _ t. (view (t .0) ≡ view d)) before) h (watch-more (q-aside o .goes before (d, b) refl (plainly z)) (λ _ _ _ m. m .1)))
 
 -- ---- halts
@@ -238,13 +238,13 @@ pub law-set-stalled : (d : Dir) (e : ℕ) (on : Bool) → Law (other (SetStalled
 law-set-stalled d e on w s r z = by (eqb e 0) refl
   where
     by : (b : Bool) → eqb e 0 ≡ b
-        → Watch Keeps (Allowed (other (SetStalled d e on))) (Ends (other (SetStalled d e on))) (afresh w) (run conc (code (other (SetStalled d e on))) s)
+        → Watch Keeps (Allowed (other (SetStalled d e on))) (Ends (other (SetStalled d e on))) (afresh w) (run concrete (code (other (SetStalled d e on))) s)
     by false h = quiet-part
       where
-        quiet-part : Watch Keeps (Allowed (other (SetStalled d e on))) (Ends (other (SetStalled d e on))) (afresh w) (run conc (code (other (SetStalled d e on))) s)
+        quiet-part : Watch Keeps (Allowed (other (SetStalled d e on))) (Ends (other (SetStalled d e on))) (afresh w) (run concrete (code (other (SetStalled d e on))) s)
         quiet-part = quiet-law (other (SetStalled d e on)) tt refl (λ _ x. ap (λ (b : Bool). cond b (exempted x) x) h) (q-staged 2 (q-if (eqb e 0) (λ q. differ (sym h ∙ q)) (λ _. q-named d e (λ m. q-resultless (q-stalled d e on m))))) w s r z
     by true h = watch-cond (eqb (s .0 .globals .stage) 2)
-        (λ _. watch-cond (eqb e 0) (λ _. watch-bind {P = λ _ _ _. Unit {0}} (any-end (afresh w) (run {i = false} conc (bind (bus.setStalled d e on) (λ _. ret 0)) _)) (λ x n t _. at-end (inl (exempts e x h), tt))) (λ q. differ (sym q ∙ h)))
+        (λ _. watch-cond (eqb e 0) (λ _. watch-bind {P = λ _ _ _. Unit {0}} (any-end (afresh w) (run {i = false} concrete (bind (bus.setStalled d e on) (λ _. ret 0)) _)) (λ x n t _. at-end (inl (exempts e x h), tt))) (λ q. differ (sym q ∙ h)))
         (λ _. at-end (r, tt))
 
 -- a bus reset exempts; the rest of a poll is quiet
@@ -252,11 +252,11 @@ pub law-bus-poll : Law (other BusPoll)
 law-bus-poll w s r z = watch-cond (eqb (s .0 .globals .stage) 2)
     (λ _. watch-bind {P = λ x n t. (n ≡ 2) ⊎ Stays (afresh w) s x t} (watch-cond (isOn (s .0 .globals .power))
     (λ _. at-ask tt (λ f a _ i. watch-cond (busRst f)
-    (λ _. watch-bind {P = λ _ _ _. Unit {0}} (any-end (afresh w) (run conc bus.busReset a)) (λ x _ t _. watch-bind {P = λ _ _ _. Unit {0}} (any-end x (run {i = false} conc (modifyIntEn (λ v. withBusRst v true)) t)) (λ y _ u _. at-end {s = u} (inl refl))))
+    (λ _. watch-bind {P = λ _ _ _. Unit {0}} (any-end (afresh w) (run concrete bus.busReset a)) (λ x _ t _. watch-bind {P = λ _ _ _. Unit {0}} (any-end x (run {i = false} concrete (modifyIntEn (λ v. withBusRst v true)) t)) (λ y _ u _. at-end {s = u} (inl refl))))
     (λ _. watch-cond (suspend f)
     (λ _. at-ask tt (λ m b _ j. at-ask tt (λ _ c _ l. at-ask tt (λ _ u _ n. at-end (inr (refl, n .0 ∙ (put-kept (λ g. withIntEn (withSuspend (g .«int_en») true) g) (λ _. refl) c ∙ (l .0 ∙ (j .0 ∙ (i .0 ∙ act-view no-wakes refl s)))), plainly (n .1)))))))
     (λ _. at-end (inr (refl, i .0 ∙ act-view no-wakes refl s, plainly (i .1)))))))
-    (λ _. at-end (inr (refl, put-kept (withPower 1) (λ _. refl) (conc .act no-wakes s) ∙ act-view no-wakes refl s, steadily (put-steady globals-cell (withPower 1 (s .0 .globals)) (conc .act no-wakes s)) (steadily (act-steady no-wakes refl s) (plainly z))))))
+    (λ _. at-end (inr (refl, put-kept (withPower 1) (λ _. refl) (concrete .act no-wakes s) ∙ act-view no-wakes refl s, steadily (put-steady globals-cell (withPower 1 (s .0 .globals)) (concrete .act no-wakes s)) (steadily (act-steady no-wakes refl s) (plainly z))))))
     (λ x n t p. at-end (after n x t p, tt)))
     (λ _. at-end (r, tt))
   where

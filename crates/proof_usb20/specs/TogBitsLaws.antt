@@ -24,12 +24,12 @@ use Rattle.alloc.specs.declared.Answer as alloc-answer
 use Rattle.alloc.specs.declared.Answer.the-variants as alloc
 use Rattle.model.specs.Tree as tree
 use Rattle.model.specs.Tree.{ends, asks, bindOut}
-use Rattle.model.specs.Cells.{Plain, Cell, Val, globals-cell, control-cell, allocator-cell, ep-cell, request-cell, paced-cell}
-use Rattle.model.specs.Script.{Script, run, rows, ret, bind, test, read-then, write-then, wait-then, callback-then, get-then, put-then, is-then, look-then, fetch-then, act-then, hand-then, row-then, Test, Look, Fetch, Act, complete, reset-ring, set-enabled, fill, fill0, open-oldest, close-oldest, take-oldest, enqueue, allocate, allocate0, no-wakes, waken, Hand, Row, switch, bus-reset, lastOf}
+use Rattle.model.specs.Cells.{EpCore, Cell, Val, globals-cell, control-cell, allocator-cell, ep-cell, request-cell, paced-cell}
+use Rattle.model.specs.Script.{Script, run, rows, ret, bind, test, read-then, write-then, wait-then, callback-then, get-then, put-then, is-then, look-then, fetch-then, act-then, hand-then, row-then, Test, Look, Fetch, Act, complete, reset-ring, set-enabled, fill, fill0, open-oldest, close-oldest, take-oldest, enqueue, allocate, allocate0, no-wakes, waken, DmaStep, Burst, switch, bus-reset, lastOf}
 use Rattle.model.specs.Statics.{isOn, flag}
 use Rattle.model_ops.specs.Records.{merged, recordGiven, setsGiven, givenTo, allocatedOn, startedWith, allocatedEp0}
 use Rattle.model_ops.specs.Rings.{St, renewedOn, armAt, slotStep, typeStep, configStep, resetBelow, resetAll}
-use Rattle.model_ops.specs.Conc.{conc}
+use Rattle.model_ops.specs.Concrete.{concrete}
 use Rattle.proof_usb20.specs.Follow.{Seen}
 use Rattle.proof_usb20.specs.Untouched.{Same, act-same, hand-same}
 use Rattle.proof_usb20.specs.TogBits.{IsBit, TogBits}
@@ -75,7 +75,7 @@ isEp (ep-cell d e) = true
 isEp (request-cell d e) = false
 isEp (paced-cell e) = false
 
-put-bits : (c : Cell) → isEp c ≡ false → (v : Val c) (s : St) → TogBits (s .0) → TogBits (conc .put c v s .0)
+put-bits : (c : Cell) → isEp c ≡ false → (v : Val c) (s : St) → TogBits (s .0) → TogBits (concrete .put c v s .0)
 unfolding withPacedOn withRequestOn
 put-bits globals-cell h v s k = else-bits refl k
 put-bits control-cell h v s k = else-bits refl k
@@ -95,7 +95,7 @@ unfolding startedWith
 started-bits maximum (alloc.Refused n) k = k
 started-bits maximum (alloc.Given e base slots) k = else-bits refl k
 
-act-bits : (q : Act) (s : St) → TogBits (s .0) → TogBits (conc .act q s .0)
+act-bits : (q : Act) (s : St) → TogBits (s .0) → TogBits (concrete .act q s .0)
 unfolding allocatedOn allocatedEp0
 act-bits (complete e) s k = same-bits (act-same (complete e) refl s) k
 act-bits (reset-ring dir e) s k = same-bits (act-same (reset-ring dir e) refl s) k
@@ -146,7 +146,7 @@ below-bits (suc n) d k =
     let z : TogBits y = record-bits Out n (resetOf (epOn x Out n)) (inl refl) (below-bits n d k) in
     record-bits In n (resetOf (epOn y In n)) (inl refl) z
 
-row-bits : (g : Row) (n : ℕ) (s : St) → TogBits (s .0) → TogBits (conc .row g n s .1 .0)
+row-bits : (g : Burst) (n : ℕ) (s : St) → TogBits (s .0) → TogBits (concrete .row g n s .1 .0)
 unfolding configStep typeStep resetAll noStamps
 row-bits (switch e on) zero s k = else-bits refl k
 row-bits (switch e on) (suc zero) s k = else-bits refl k
@@ -166,15 +166,15 @@ pub data Holds {A : Type 0} : tree.Out St A → Type 0 where
       → ((v : ℕ) (t : St) → TogBits (t .0) → Holds (k v t)) → Holds (asks q s k)
 
 pub record Keeps {i : Bool} {A : Type 0} (p : Script i A) : Type 0 where
-  pub on : (s : St) → TogBits (s .0) → Holds (run conc p s)
+  pub on : (s : St) → TogBits (s .0) → Holds (run concrete p s)
 
 holds-bind : {A B : Type 0} {o : tree.Out St A} {f : A → St → tree.Out St B} → Holds o
     → ((a : A) (s : St) → TogBits (s .0) → Holds (f a s)) → Holds (bindOut o f)
 holds-bind (end b) h = h _ _ b
 holds-bind (ask b k) h = ask b (λ v t c. holds-bind (k v t c) h)
 
-holds-rows : {A : Type 0} (g : Row) (n : ℕ) {k : St → tree.Out St A} → ((t : St) → TogBits (t .0) → Holds (k t))
-    → (s : St) → TogBits (s .0) → Holds (rows conc g n k s)
+holds-rows : {A : Type 0} (g : Burst) (n : ℕ) {k : St → tree.Out St A} → ((t : St) → TogBits (t .0) → Holds (k t))
+    → (s : St) → TogBits (s .0) → Holds (rows concrete g n k s)
 holds-rows g zero h s b = ask (row-bits g zero s b) (λ v t c. h t c)
 holds-rows g (suc n) h s b = ask (row-bits g (suc n) s b) (λ v t c. holds-rows g n h t c)
 
@@ -213,7 +213,7 @@ module _ {i : Bool} {A : Type 0} where
   k-callback h = record { on = λ s b. ask b (λ v t c. h .on t c) }
 
   -- a record's toggle is 0 or 1 where it is got
-  pub k-got : {d : Dir} {e : ℕ} {f : Plain → Script i A} → ((p : Plain) → IsBit (p .tog) → Keeps (f p))
+  pub k-got : {d : Dir} {e : ℕ} {f : EpCore → Script i A} → ((p : EpCore) → IsBit (p .tog) → Keeps (f p))
       → Keeps (bind (get-then (ep-cell d e) ret) f)
   k-got {d} {e} h = record { on = λ s b. h _ (b .bits d e) .on s b }
 
@@ -223,7 +223,7 @@ module _ {i : Bool} {A : Type 0} where
   pub k-put : {c : Cell} {v : Val c} {p : Script i A} → isEp c ≡ false → Keeps p → Keeps (put-then c v p)
   k-put {c} {v} e h = record { on = λ s b. h .on _ (put-bits c e v s b) }
 
-  pub k-assigned : {d : Dir} {e : ℕ} {v : Plain} {p : Script i A} → IsBit (v .tog) → Keeps p
+  pub k-assigned : {d : Dir} {e : ℕ} {v : EpCore} {p : Script i A} → IsBit (v .tog) → Keeps p
       → Keeps (put-then (ep-cell d e) v p)
   k-assigned {d} {e} {v} t h = record { on = λ s b. h .on _ (record-bits d e (merged (epOn (s .0) d e) v) t b) }
 
@@ -239,10 +239,10 @@ module _ {i : Bool} {A : Type 0} where
   pub k-act : {q : Act} {p : Script i A} → Keeps p → Keeps (act-then q p)
   k-act {q} h = record { on = λ s b. h .on _ (act-bits q s b) }
 
-  pub k-hand : {q : Hand} {p : Script i A} → Keeps p → Keeps (hand-then q p)
+  pub k-hand : {q : DmaStep} {p : Script i A} → Keeps p → Keeps (hand-then q p)
   k-hand {q} h = record { on = λ s b. ask (same-bits (hand-same q s) b) (λ v t c. h .on t c) }
 
-pub k-row : {A : Type 0} {g : Row} {p : Script false A} → Keeps p → Keeps (row-then g p)
+pub k-row : {A : Type 0} {g : Burst} {p : Script false A} → Keeps p → Keeps (row-then g p)
 k-row {g = g} h = record { on = λ s b. holds-rows g (lastOf g) (λ t c. h .on t c) s b }
 
 -- rules by which a script is taken apart: what it got and assigns, and the rest

@@ -14,9 +14,9 @@ use Rattle.model.specs.Answers.{Answer}
 use Rattle.model.specs.Calls.{Config, Op, calls, startRow}
 use Rattle.model.specs.Machine.{Buf, Call, Event, start, begin, go, question, Ans, Way, idle, busy, Machine, misfit, lentTo, beside, over, halt, begun, continued, started}
 use Rattle.model_ops.specs.Rings.{St}
-use Rattle.machine.specs.Under.{driverOf, drive, machineOf}
+use Rattle.machine.specs.Suspended.{driverOf, drive, machineOf}
 use Rattle.proof_book.specs.Always.{after}
-use Rattle.proof_book.specs.Code.{Made, Did}
+use Rattle.proof_book.specs.Code.{Made, CallStep}
 use Rattle.proof_book.specs.CodeReadings.{Steps, bytesAfter, slotsAfter}
 use Rattle.proof_usb20.specs.TogBits.{TogBits}
 use Rattle.proof_usb20.specs.TogBitsLaws.{Holds, end, ask, bit-0}
@@ -93,7 +93,7 @@ pub tog-bits : (c : Config) (b : Buf) → startRow c b ≡ zero → (es : List (
 tog-bits c b row es m = always es _ (accepted c m b row) .togs
 
 -- a call as its contract says
-made : (xs : List ℕ) (a : Buf) (m : Made) → Did xs a m
+made : (xs : List ℕ) (a : Buf) (m : Made) → CallStep xs a m
     → Kept (drive (m .event .call) (machineOf xs a) (m .event .lent) .1) → Kept (machineOf (m .bytes) (m .slots))
 made xs a m h k = subst (λ (z : Ans Answer × Machine Answer Driver). Kept (z .1)) (sym h) k
 

@@ -36,7 +36,7 @@ use Rattle.state.specs.WakesLaws.{none-room, none-listed, listed-count}
 use Rattle.proof_wake_ups.specs.Rooms.{Few}
 use Rattle.proof_book.specs.Sorting.{Sorting}
 use Rattle.model_ops.specs.Rings.{St}
-use Rattle.model_ops.specs.Conc.{conc}
+use Rattle.model_ops.specs.Concrete.{concrete}
 use Rattle.proof_usb20.specs.Exempt.{differ}
 use Rattle.proof_usb20.specs.Fitting.{both}
 use Rattle.proof_usb20.specs.Sequence as log
@@ -54,14 +54,14 @@ use Rattle.proof_usb20.specs.Settling.{Settled, deaf, settles, its-token
 
 Arms : Dir → ℕ → Type 0
 Arms D E = (x : Transfer) (frame k : ℕ) (w : Track) (s : St) → w .new ≡ false → heard D E s ≡ 0 → tokenFor D (token (x .st)) ≡ true → own D E D (endpoint (x .st)) ≡ true → eqb (endpoint (x .st)) 0 ≡ false → x .len ≡ k → Kept D E true s → Fits w (view D E (s .0)) → eqb (s .0 .globals .stage) 2 ≡ true
-    → Follow D E (Done D E) (withPhase (due k) w) (run conc (dispatch {i = true} (token (x .st)) x false frame) s)
+    → Follow D E (Done D E) (withPhase (due k) w) (run concrete (dispatch {i = true} (token (x .st)) x false frame) s)
 
 arms : (D : Dir) (E : ℕ) → Arms D E
 unfolding Arms
 arms Out E x frame k w s n j t o z l h r two = by (token (x .st)) t
   where
     by : (t : Token) → tokenFor Out t ≡ true
-        → Follow Out E (Done Out E) (withPhase (due k) w) (run conc (dispatch {i = true} t x false frame) s)
+        → Follow Out E (Done Out E) (withPhase (due k) w) (run concrete (dispatch {i = true} t x false frame) s)
     by tok.Out t = arm-out E x k w s n j o z l h r two
     by tok.In t = differ t
     by tok.Sof t = differ t
@@ -69,7 +69,7 @@ arms Out E x frame k w s n j t o z l h r two = by (token (x .st)) t
 arms In E x frame k w s n j t o z l h r two = by (token (x .st)) t
   where
     by : (t : Token) → tokenFor In t ≡ true
-        → Follow In E (Done In E) (withPhase (due k) w) (run conc (dispatch {i = true} t x false frame) s)
+        → Follow In E (Done In E) (withPhase (due k) w) (run concrete (dispatch {i = true} t x false frame) s)
     by tok.In t = arm-in E x frame k w s n j o z l h r two
     by tok.Out t = differ t
     by tok.Sof t = differ t
@@ -126,7 +126,7 @@ module _ (D : Dir) (E : ℕ) (z : (d : Dir) → Else D E d 0) where
   ours : (w : Track) (y : Transfer) (k frame : ℕ) (s : St) → w .new ≡ false → heard D E s ≡ 0
       → tokenFor D (token (y .st)) ≡ true → own D E D (endpoint (y .st)) ≡ true → eqb (endpoint (y .st)) 0 ≡ false
       → y .len ≡ k → y .busy ≡ false → Kept D E true s → Fits w (view D E (s .0)) → eqb (s .0 .globals .stage) 2 ≡ true
-      → Follow D E (Done D E) (withPhase (due k) w) (run conc (served {i = true} y false frame) s)
+      → Follow D E (Done D E) (withPhase (due k) w) (run concrete (served {i = true} y false frame) s)
   unfolding Arms
   ours w y k frame s q j t o nz l b h r two =
       follow.follow-bind D E {P = λ x _ a. Stays D E true (withPhase (due k) w) s x a} (follow.follow-cond D E (not (isSof (y .st)) && not (eqb (s .0 .globals .«sof_frame») frame)) (λ _. (q-sof D E) frame .goes (withPhase (due k) w) s (due-idle D E k w, λ _ _ _ _. refl) h) (λ _. at-end (refl, refl, h, hears-same D E {s = s} {t = s} refl))) (λ x _ a m. back D E (m .0)
@@ -188,7 +188,7 @@ module _ (D : Dir) (E : ℕ) (z : (d : Dir) → Else D E d 0) where
 
   framing : (w : Track) (v : Seen) (x : Transfer) (l : Track) (s t : St) → w .new ≡ false → heard D E s ≡ 0 → Fits w v
       → isOn (v .iso) ≡ false → eqb (v .stage) 2 ≡ true → Settled D E s w v l x t
-      → Follow D E (Done D E) l (run conc (frames x) t)
+      → Follow D E (Done D E) l (run concrete (frames x) t)
   framing w v x l s t quiet none r i two m = back D E (m .log) (by (mine D E (x .st)) refl)
     where
       i-here : isOn (epOn (t .0) D E .iso) ≡ false
@@ -198,17 +198,17 @@ module _ (D : Dir) (E : ℕ) (z : (d : Dir) → Else D E d 0) where
       heard-here u p = hears-same D E {m = true} {s = t} {t = u} (p .2) .same refl ∙ (m .hears .same refl ∙ none)
 
       by : (b : Bool) → mine D E (x .st) ≡ b
-          → Follow D E (Done D E) (withPhase (shows (x .st) (m .len)) w) (run conc (frames x) t)
+          → Follow D E (Done D E) (withPhase (shows (x .st) (m .len)) w) (run concrete (frames x) t)
       by true h = at-ask tt (λ frame u _ p. back D E (due-now (x .st) (m .len) w true h frame)
           (let q = m .its h in
           let g : view D E (u .0) ≡ v = p .0 ∙ m .view in
           let iso = not-iso D E t i-here z (x .st) h in
-          subst (λ (c : Bool). Follow D E (Done D E) (withPhase (due (m .len)) w) (run conc (served {i = true} (framed x c (u .0 .globals .«sof_frame») frame) c frame) u)) (sym iso)
-          (subst (λ (y : Transfer). Follow D E (Done D E) (withPhase (due (m .len)) w) (run conc (served {i = true} y false frame) u)) (sym (not-framed x false (u .0 .globals .«sof_frame») frame (q .1)))
+          subst (λ (c : Bool). Follow D E (Done D E) (withPhase (due (m .len)) w) (run concrete (served {i = true} (framed x c (u .0 .globals .«sof_frame») frame) c frame) u)) (sym iso)
+          (subst (λ (y : Transfer). Follow D E (Done D E) (withPhase (due (m .len)) w) (run concrete (served {i = true} y false frame) u)) (sym (not-framed x false (u .0 .globals .«sof_frame») frame (q .1)))
           (ours w x (m .len) frame u quiet (heard-here u p) (its-token D E t i-here z (x .st) h) (both (tokenFor D (token (x .st))) (own D E D (endpoint (x .st))) h .1) (not-zero D E t i-here z (x .st) h) (sym (q .0)) (q .1) (kept-by D E {s = t} {t = u} p (m .kept)) (subst (Fits w) (sym g) r) (ap (λ (a : Seen). eqb (a .stage) 2) g ∙ two)))))
       by false h = at-ask tt (λ frame u _ p. back D E (due-now (x .st) (m .len) w false h frame)
           (let g : view D E (u .0) ≡ v = p .0 ∙ m .view in
-          let iso = isoFor (token (x .st)) (conc .get (ep-cell Out (endpoint (x .st))) t) (conc .get (ep-cell In (endpoint (x .st))) t) in
+          let iso = isoFor (token (x .st)) (concrete .get (ep-cell Out (endpoint (x .st))) t) (concrete .get (ep-cell In (endpoint (x .st))) t) in
           let y = framed x iso (u .0 .globals .«sof_frame») frame in
           let e : y .st ≡ x .st = framed-st x iso (u .0 .globals .«sof_frame») frame in
           let k : mine D E (y .st) ≡ false = ap (mine D E) e ∙ h in
@@ -226,7 +226,7 @@ module _ (D : Dir) (E : ℕ) (z : (d : Dir) → Else D E d 0) where
 
   transfers : (w : Track) (s : St) → w .new ≡ false → heard D E s ≡ 0 → Kept D E true s → Fits w (view D E (s .0))
       → isOn (epOn (s .0) D E .iso) ≡ false → eqb (s .0 .globals .stage) 2 ≡ true
-      → Follow D E (Done D E) (withPhase flagged w) (run conc (onTransfer {i = true}) s)
+      → Follow D E (Done D E) (withPhase flagged w) (run concrete (onTransfer {i = true}) s)
   transfers w s quiet none ks r i two = at-ask tt (λ m a _ p. at-ask tt (λ st b _ q. at-ask tt (λ n c _ f.
       let v : view D E (c .0) ≡ view D E (s .0) = f .0 ∙ (q .0 ∙ p .0) in
       let kc = kept-by D E {s = b} {t = c} f (kept-by D E {s = a} {t = b} q (kept-by D E {s = s} {t = a} p ks)) in
@@ -268,11 +268,11 @@ module _ (D : Dir) (E : ℕ) (z : (d : Dir) → Else D E d 0) where
 
   on-interrupt : (w : Track) (s : St) → w .new ≡ false → heard D E s ≡ 0 → Kept D E true s → Fits w (view D E (s .0))
       → isOn (epOn (s .0) D E .iso) ≡ false → eqb (s .0 .globals .stage) 2 ≡ true
-      → Follow D E (Done D E) (withPhase log.entered w) (run conc (onInterrupt {i = true}) s)
+      → Follow D E (Done D E) (withPhase log.entered w) (run concrete (onInterrupt {i = true}) s)
   on-interrupt w s quiet none ks r i two = at-ask tt (λ f a _ p. by f a p (transfer f) refl)
     where
       by : (f : ℕ) (a : St) → follow.Keeps D E s a → (b : Bool) → transfer f ≡ b
-          → Follow D E (Done D E) (saw D E (withPhase log.entered w) (Read IntFg 0) f) (run conc (bind (when {i = true} (busRst f) (bind (modifyIntEn (λ w. withBusRst w false)) (λ _. wakeBus))) (λ _. bind (when (suspend f) (bind (modifyIntEn (λ w. withSuspend w false)) (λ _. wakeBus))) (λ _. bind (when (fifoOv f) (write IntFg 0 FIFO_OV)) (λ _. bind (when (hstSof f) (write IntFg 0 HST_SOF)) (λ _. bind (when (transfer f) onTransfer) (λ _. when (setupAct f) onSetup)))))) a)
+          → Follow D E (Done D E) (saw D E (withPhase log.entered w) (Read IntFg 0) f) (run concrete (bind (when {i = true} (busRst f) (bind (modifyIntEn (λ w. withBusRst w false)) (λ _. wakeBus))) (λ _. bind (when (suspend f) (bind (modifyIntEn (λ w. withSuspend w false)) (λ _. wakeBus))) (λ _. bind (when (fifoOv f) (write IntFg 0 FIFO_OV)) (λ _. bind (when (hstSof f) (write IntFg 0 HST_SOF)) (λ _. bind (when (transfer f) onTransfer) (λ _. when (setupAct f) onSetup)))))) a)
       by f a p b h = back D E (on-flag w f b h)
           (let L = withPhase (cond b flagged off) w in
           let hush = flags-hush w b in
@@ -291,16 +291,16 @@ module _ (D : Dir) (E : ℕ) (z : (d : Dir) → Else D E d 0) where
         where
           moves : (f : ℕ) (c : St) → heard D E c ≡ 0 → Kept D E true c → (b : Bool) → transfer f ≡ b
               → Fits w (view D E (c .0)) → isOn (epOn (c .0) D E .iso) ≡ false → eqb (c .0 .globals .stage) 2 ≡ true
-              → Follow D E (Done D E) (withPhase (cond b flagged off) w) (run {i = true} conc (when (transfer f) onTransfer) c)
+              → Follow D E (Done D E) (withPhase (cond b flagged off) w) (run {i = true} concrete (when (transfer f) onTransfer) c)
           moves f c nc k true h r i two = follow.follow-cond D E (transfer f) (λ _. transfers w c quiet nc k r i two) (λ q. differ (sym q ∙ h))
           moves f c nc k false h r i two = follow.follow-cond D E (transfer f) (λ q. differ (sym h ∙ q)) (λ _. at-end (refl, r, k, two, inr (nc ∙ sym (ap flag quiet))))
 
   -- its wake-ups are gathered from none
-  gathers : (s : St) → isOn (epOn (s .0) D E .iso) ≡ false → Sorting (s .0) → Kept D E true (conc .act no-wakes s)
+  gathers : (s : St) → isOn (epOn (s .0) D E .iso) ≡ false → Sorting (s .0) → Kept D E true (concrete .act no-wakes s)
   unfolding epOn
   gathers s i k = record { whole = k .places; sorts = λ _. record { flags = λ dir e. refl; outs = λ e l h. k .has .outs e l h; every = λ e l h. k .has .every e l h }; plain = λ _. i; room = λ _. none-room }
 
-  heard-none : (s : St) → heard D E (conc .act no-wakes s) ≡ 0
+  heard-none : (s : St) → heard D E (concrete .act no-wakes s) ≡ 0
   heard-none s = ap (howOften (wakeCode D E)) none-listed
 
   -- fewer wake-ups than there is room for, so the list is not full
@@ -313,14 +313,14 @@ module _ (D : Dir) (E : ℕ) (z : (d : Dir) → Else D E d 0) where
   begun w = record { bit = w .bit; through = w .through; len = w .len; armed = w .armed; new = false; phase = off }
 
   pub law-interrupt : (w : Track) (s : St) → Fits w (view D E (s .0)) → isOn (epOn (s .0) D E .iso) ≡ false
-      → Sorting (s .0) → Follow D E (EndsFew D E interrupt) (log.opens D E interrupt w) (run conc (code interrupt) s)
+      → Sorting (s .0) → Follow D E (EndsFew D E interrupt) (log.opens D E interrupt w) (run concrete (code interrupt) s)
   law-interrupt w s r i k = follow.follow-cond D E (eqb (s .0 .globals .stage) 2)
       (λ two. follow.follow-bind D E {P = Done D E} (follow.follow-bind D E {P = Done D E} (at-ask tt (λ frame a _ p.
-      let s0 = conc .act no-wakes s in
-      let g = withEntered (indexOf frame) (conc .get globals-cell a) in
-      let v : view D E (conc .put globals-cell g a .0) ≡ view D E (s .0) = put-globals D E g a ∙ (p .0 ∙ act-view D E no-wakes refl s) in
+      let s0 = concrete .act no-wakes s in
+      let g = withEntered (indexOf frame) (concrete .get globals-cell a) in
+      let v : view D E (concrete .put globals-cell g a .0) ≡ view D E (s .0) = put-globals D E g a ∙ (p .0 ∙ act-view D E no-wakes refl s) in
       let ka = kept-by D E {s = s0} {t = a} p (gathers s i k) in
-      let na : heard D E (conc .put globals-cell g a) ≡ 0 = put-hears D E {m = true} globals-cell g a .same refl ∙ (hears-same D E {m = true} {s = s0} {t = a} (p .2) .same refl ∙ heard-none s) in
-      on-interrupt (begun w) (conc .put globals-cell g a) refl na (put-kept D E globals-cell g a ka) (subst (Fits w) (sym v) r) (ap (λ (q : Seen). isOn (q .iso)) v ∙ i) (ap (λ (q : Seen). eqb (q .stage) 2) v ∙ two)))
+      let na : heard D E (concrete .put globals-cell g a) ≡ 0 = put-hears D E {m = true} globals-cell g a .same refl ∙ (hears-same D E {m = true} {s = s0} {t = a} (p .2) .same refl ∙ heard-none s) in
+      on-interrupt (begun w) (concrete .put globals-cell g a) refl na (put-kept D E globals-cell g a ka) (subst (Fits w) (sym v) r) (ap (λ (q : Seen). isOn (q .iso)) v ∙ i) (ap (λ (q : Seen). eqb (q .stage) 2) v ∙ two)))
       (λ y _ t m. at-end m)) (λ y _ t m. at-end (m .1, λ few. (m .0, ends-few y t (m .2) (m .4) few))))
       (λ _. at-end (r, λ _. tt))

@@ -12,13 +12,13 @@ use Rattle.state.specs.declared.Globals.{Globals}
 use Rattle.state.specs.declared.Control.{Control}
 use Rattle.state.specs.Driver.{Driver, key, noEp, epOn, withOn}
 use Rattle.state.specs.Laws.{key-lt, key-apart}
-use Rattle.model.specs.Cells.{Plain, ep-cell, globals-cell, control-cell}
+use Rattle.model.specs.Cells.{EpCore, ep-cell, globals-cell, control-cell}
 use Rattle.model_ops.specs.Records.{merged}
 use Rattle.model_ops.specs.Rings.{St}
-use Rattle.model_ops.specs.Conc.{conc}
+use Rattle.model_ops.specs.Concrete.{concrete}
 use Rattle.proof_usb20.specs.Ep0.{Rec, View, recOf, view}
 
-abbrev pub rec : Plain → Rec
+abbrev pub rec : EpCore → Rec
 rec p = record { ready = p .ready; armed = p .armed }
 
 abbrev pub setOut : Rec → View → View
@@ -47,27 +47,27 @@ pub made : (d : Driver) (x : View) → recOf (epOn d Out 0) ≡ x .out → recOf
 made d x p q c g t = rw (p, q, c, g, t) refl
 
 -- EP0's own records
-pub put-out : (v : Plain) (s : St) → length (s .0 .eps) ≡ 32
-    → view (conc .put (ep-cell Out 0) v s .0) ≡ setOut (rec v) (view (s .0))
+pub put-out : (v : EpCore) (s : St) → length (s .0 .eps) ≡ 32
+    → view (concrete .put (ep-cell Out 0) v s .0) ≡ setOut (rec v) (view (s .0))
 unfolding withOn
 put-out v s h = made _ _ (ap recOf (ep-same (s .0) Out 0 (merged (epOn (s .0) Out 0) v) h)) (ap recOf (ep-other (s .0) Out 0 (merged (epOn (s .0) Out 0) v) In 0 (λ z. key-apart 0 0 (sym z)))) refl refl refl
 
-pub put-in : (v : Plain) (s : St) → length (s .0 .eps) ≡ 32
-    → view (conc .put (ep-cell In 0) v s .0) ≡ setIn (rec v) (view (s .0))
+pub put-in : (v : EpCore) (s : St) → length (s .0 .eps) ≡ 32
+    → view (concrete .put (ep-cell In 0) v s .0) ≡ setIn (rec v) (view (s .0))
 unfolding withOn
 put-in v s h = made _ _ (ap recOf (ep-other (s .0) In 0 (merged (epOn (s .0) In 0) v) Out 0 (λ z. key-apart 0 0 z))) (ap recOf (ep-same (s .0) In 0 (merged (epOn (s .0) In 0) v) h)) refl refl refl
 
-pub put-control : (c : Control) (s : St) → view (conc .put control-cell c s .0) ≡ setControl c (view (s .0))
+pub put-control : (c : Control) (s : St) → view (concrete .put control-cell c s .0) ≡ setControl c (view (s .0))
 unfolding epOn
 put-control c s = refl
 
 pub put-globals : (g : Globals) (s : St)
-    → view (conc .put globals-cell g s .0) ≡ setReady (g .«setup_ready») (view (s .0))
+    → view (concrete .put globals-cell g s .0) ≡ setReady (g .«setup_ready») (view (s .0))
 unfolding epOn
 put-globals g s = refl
 
 -- the records keep their places
-pub places-out : (dir : Dir) (e : ℕ) (v : Plain) (s : St)
-    → length (conc .put (ep-cell dir e) v s .0 .eps) ≡ length (s .0 .eps)
+pub places-out : (dir : Dir) (e : ℕ) (v : EpCore) (s : St)
+    → length (concrete .put (ep-cell dir e) v s .0 .eps) ≡ length (s .0 .eps)
 unfolding withOn
 places-out dir e v s = length-set (s .0 .eps) (key dir e) _

@@ -11,7 +11,7 @@ use Rattle.frame.specs.Laws.{completions-le}
 use Rattle.alloc.specs.declared.Answer as alloc-answer
 use Rattle.alloc.specs.declared.Answer.the-variants as alloc
 use Rattle.alloc.specs.Alloc.{allocateOf, allocateEp0Of}
-use Rattle.model.specs.Cells.{Plain, globals-cell, control-cell, allocator-cell, ep-cell, request-cell, paced-cell}
+use Rattle.model.specs.Cells.{EpCore, globals-cell, control-cell, allocator-cell, ep-cell, request-cell, paced-cell}
 use Rattle.model.specs.Script.{Script, reset-ring, set-enabled, fill, fill0, open-oldest, close-oldest, take-oldest, enqueue, allocate, allocate0}
 use Rattle.model.specs.Statics.{isOn, wakeAll}
 use Rattle.model.specs.Answers.{Answer, resultless, staged, named, unless}
@@ -90,7 +90,7 @@ module _ {i : Bool} {n : ℕ} where
   aborted-wakes : {p : Script i Answer} → Wakes≤ n p → Wakes≤ n (aborted-else p)
   aborted-wakes x = free (no-get globals-cell) (λ _. either ends-control-wakes x)
 
-  polled-wakes : (d : Dir) (e m : ℕ) {p : Plain → Script i Answer} → ((s : Plain) → Wakes≤ n (p s)) → Wakes≤ n (polled d e m p)
+  polled-wakes : (d : Dir) (e m : ℕ) {p : EpCore → Script i Answer} → ((s : EpCore) → Wakes≤ n (p s)) → Wakes≤ n (polled d e m p)
   polled-wakes d e m x = free (no-get (request-cell _ _)) (λ _. unless-wakes (either (free (no-get (ep-cell _ _)) x) (free (assign (ep-cell _ _)) (λ _. ends-request-wakes))))
 
 -- ---- the bus
@@ -178,7 +178,7 @@ module _ {i : Bool} where
   take-iso-wakes e n = enabled-wakes Out e ends-request-wakes (free no-is (λ _. either
       (free no-fetch (λ _. free (no-act (take-oldest e) tt) (λ _. ends-request-wakes))) wakes-ret))
 
-  take-ready-wakes : (e n : ℕ) (s : Plain) → Wakes≤ {i = i} 0 (take-ready e n s)
+  take-ready-wakes : (e n : ℕ) (s : EpCore) → Wakes≤ {i = i} 0 (take-ready e n s)
   take-ready-wakes e n s = either
       (free (assign (ep-cell _ _)) (λ _. either ends-request-wakes (free no-fetch (λ _. ends-request-wakes))))
       (enabled-wakes Out e ends-request-wakes wakes-ret)
@@ -186,10 +186,10 @@ module _ {i : Bool} where
   put-iso-wakes : (e : ℕ) (bs : List ℕ) → Wakes≤ {i = i} 0 (put-iso e bs)
   put-iso-wakes e bs = enabled-wakes In e ends-request-wakes (free no-is (λ _. either (free (no-act (enqueue e bs) tt) (λ _. ends-request-wakes)) wakes-ret))
 
-  sent-ready-wakes : (e : ℕ) (s : Plain) → Wakes≤ {i = i} 0 (sent-ready e s)
+  sent-ready-wakes : (e : ℕ) (s : EpCore) → Wakes≤ {i = i} 0 (sent-ready e s)
   sent-ready-wakes e s = either (free (assign (ep-cell _ _)) (λ _. ends-request-wakes)) (enabled-wakes In e ends-request-wakes wakes-ret)
 
-  arm-read-wakes : (e : ℕ) (s : Plain) → Wakes≤ {i = i} 0 (arm-read e s)
+  arm-read-wakes : (e : ℕ) (s : EpCore) → Wakes≤ {i = i} 0 (arm-read e s)
   arm-read-wakes e s = either wakes-ret (either wakes-ret (free (assign (ep-cell _ _)) (λ _. modifyReg-wakes)))
 
   load-write-wakes : (e : ℕ) (bs : List ℕ) → Wakes≤ {i = i} 0 (load-write e bs)

@@ -11,8 +11,8 @@ use Rattle.model.specs.Calls.{Config, Op, startRow}
 use Rattle.model.specs.Machine.{Buf, Event, Machine, Ans, ended, handed, told, start}
 use Rattle.machine.specs.declared.Step.{Step}
 use Rattle.machine.specs.declared.Step.the-variants as step
-use Rattle.machine.specs.Under.{machineOf, drive, answerOf}
-use Rattle.proof_book.specs.Code.{Made, Did}
+use Rattle.machine.specs.Suspended.{machineOf, drive, answerOf}
+use Rattle.proof_book.specs.Code.{Made, CallStep}
 use Rattle.proof_book.specs.CodeReadings.{Steps}
 use Rattle.proof_wake_ups.specs.Heard.{Heard}
 use Rattle.proof_wake_ups.specs.Machines.{Told, hear, Pair, Alike, steps, from-start}
@@ -22,7 +22,7 @@ abbrev pub AsHeard : Machine Answer Heard → List Made → Type 0
 AsHeard n [] = Unit {0}
 AsHeard n (m ∷ ms) = (m .answer ≡ hear (m .event .call) n (m .event .lent) .0) × AsHeard (hear (m .event .call) n (m .event .lent) .1) ms
 
-made : (m : Made) (xs : List ℕ) (a : Buf) (n : Machine Answer Heard) → Did xs a m → Alike (drive (m .event .call) (machineOf xs a) (m .event .lent)) (hear (m .event .call) n (m .event .lent))
+made : (m : Made) (xs : List ℕ) (a : Buf) (n : Machine Answer Heard) → CallStep xs a m → Alike (drive (m .event .call) (machineOf xs a) (m .event .lent)) (hear (m .event .call) n (m .event .lent))
     → Alike (m .answer, machineOf (m .bytes) (m .slots)) (hear (m .event .call) n (m .event .lent))
 made m xs a n d s = subst (λ (z : Told). Alike z (hear (m .event .call) n (m .event .lent))) (sym d) s
 

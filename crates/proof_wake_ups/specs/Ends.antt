@@ -18,7 +18,7 @@ use Rattle.req_descriptor.specs.declared.Answer.the-variants as reading
 use Rattle.req_descriptor.specs.Reading.{readingOf}
 use Rattle.model.specs.Tree as tree
 use Rattle.model.specs.Tree.{ends, asks, bindOut}
-use Rattle.model.specs.Cells.{Plain}
+use Rattle.model.specs.Cells.{EpCore}
 use Rattle.model.specs.Script.{Script, run, ret, bind, test}
 use Rattle.model.specs.Answers.{Answer, Refused, End, NotYet, Done, Shown, operation, staged, named, unless}
 use Rattle.model.specs.Endpoint.{enabled-else, ends-request, polled}
@@ -27,7 +27,7 @@ use Rattle.model.specs.Driver.{allocated-as, started-as}
 use Rattle.model.specs.AllocateAll.{allocate-read}
 use Rattle.model.specs.Calls.{Config, Slotted, SetEnabled, PollRead, BeginWrite, PollWrite, PollDataOut, BeginDataIn, Other, Allocate, AllocateAll, Start, BusPoll, BusEnable, BusDisable, Microframe, SetStalled, IsStalled, SetPaced, Advance, BeginRead, BeginSetup, PollSetup, PollDataIn, BeginAccept, PollAccept, BeginReject, BeginDataOut, BeginAcceptSetAddress, Aside, Open, Close, Queue, Op, interrupt, slotted, other, aside, slottedCode, otherCode, asideCode, code, starting}
 use Rattle.model_ops.specs.Rings.{St}
-use Rattle.model_ops.specs.Conc.{conc}
+use Rattle.model_ops.specs.Concrete.{concrete}
 
 -- what an answer lists, by what was gathered
 abbrev pub Lists : Answer → List ℕ → Type 0
@@ -44,7 +44,7 @@ pub data Ends : tree.Out St Answer → Type 0 where
 
 -- of a script's, from every state
 pub record Gives {i : Bool} (p : Script i Answer) : Type 0 where
-  pub on : (s : St) → Ends (run conc p s)
+  pub on : (s : St) → Ends (run concrete p s)
 
 ends-bind : {B : Type 0} (o : tree.Out St B) (f : B → St → tree.Out St Answer) → ((b : B) (s : St) → Ends (f b s)) → Ends (bindOut o f)
 ends-bind (ends b s) f h = h b s
@@ -55,7 +55,7 @@ module _ {i : Bool} where
   g-ret h = record { on = λ s. end (h _) }
 
   g-bind : {B : Type 0} {p : Script i B} {f : B → Script i Answer} → ((b : B) → Gives (f b)) → Gives (bind p f)
-  g-bind {p = p} h = record { on = λ s. ends-bind (run conc p s) _ (λ b t. h b .on t) }
+  g-bind {p = p} h = record { on = λ s. ends-bind (run concrete p s) _ (λ b t. h b .on t) }
 
   g-test : {b : Bool} {p q : Script i Answer} → Gives p → Gives q → Gives (test b p q)
   g-test {b = true} x y = record { on = λ s. x .on s }
@@ -99,7 +99,7 @@ module _ {i : Bool} where
   g-requested : (sort : ℕ) {p : Control → Script i Answer} → ((c : Control) → Gives (p c)) → Gives (requested sort p)
   g-requested sort x = g-bind (λ c. g-test (x c) g-refused)
 
-  g-polled : (d : Dir) (e n : ℕ) {p : Plain → Script i Answer} → ((s : Plain) → Gives (p s)) → Gives (polled d e n p)
+  g-polled : (d : Dir) (e n : ℕ) {p : EpCore → Script i Answer} → ((s : EpCore) → Gives (p s)) → Gives (polled d e n p)
   g-polled d e n x = g-bind (λ _. g-unless (g-test (g-bind x) (g-bind (λ _. g-ends-request (λ w. tt)))))
 
   g-take-closing : (now : Bool) (c : Control) → Gives {i = i} (take-closing now c)

@@ -6,7 +6,7 @@ use Rattle.state.specs.Driver.{Driver}
 use Rattle.model.specs.Script.{Ops, Fetch, oldest, received, received0, gathered, Act, complete, reset-ring, set-enabled, fill, fill0, open-oldest, close-oldest, take-oldest, enqueue, allocate, allocate0, no-wakes, waken}
 use Rattle.model.specs.Machine.{Buf}
 use Rattle.model_ops.specs.Rings.{St}
-use Rattle.model_ops.specs.Conc.{conc}
+use Rattle.model_ops.specs.Concrete.{concrete}
 
 abbrev pub Heard : Type 0
 Heard = Driver × List ℕ
@@ -40,18 +40,18 @@ recorded (allocate0 maximum) l = l
 
 abbrev pub fetchHeard : Fetch → Hst → List ℕ
 fetchHeard gathered t = t .0 .1
-fetchHeard (oldest e) t = conc .fetch (oldest e) (bare t)
-fetchHeard (received e n) t = conc .fetch (received e n) (bare t)
-fetchHeard (received0 n) t = conc .fetch (received0 n) (bare t)
+fetchHeard (oldest e) t = concrete .fetch (oldest e) (bare t)
+fetchHeard (received e n) t = concrete .fetch (received e n) (bare t)
+fetchHeard (received0 n) t = concrete .fetch (received0 n) (bare t)
 
 abbrev pub heardOps : Ops Hst
 heardOps = record {
-  get = λ c t. conc .get c (bare t);
-  put = λ c v t. onto t (conc .put c v (bare t));
-  is = λ q t. conc .is q (bare t);
-  look = λ q t. conc .look q (bare t);
+  get = λ c t. concrete .get c (bare t);
+  put = λ c v t. onto t (concrete .put c v (bare t));
+  is = λ q t. concrete .is q (bare t);
+  look = λ q t. concrete .look q (bare t);
   fetch = fetchHeard;
-  act = λ q t. ((conc .act q (bare t) .0, recorded q (t .0 .1)), conc .act q (bare t) .1);
-  hand = λ q t. (conc .hand q (bare t) .0, onto t (conc .hand q (bare t) .1));
-  row = λ g n t. (conc .row g n (bare t) .0, onto t (conc .row g n (bare t) .1));
+  act = λ q t. ((concrete .act q (bare t) .0, recorded q (t .0 .1)), concrete .act q (bare t) .1);
+  hand = λ q t. (concrete .hand q (bare t) .0, onto t (concrete .hand q (bare t) .1));
+  row = λ g n t. (concrete .row g n (bare t) .0, onto t (concrete .row g n (bare t) .1));
 }

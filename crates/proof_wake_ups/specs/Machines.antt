@@ -15,13 +15,13 @@ use Rattle.model.specs.Calls.{Config, Op, interrupt, slotted, other, aside, cal
 use Rattle.model.specs.Machine as machine
 use Rattle.model.specs.Machine.{Buf, Event, Call, start, begin, go, question, Ans, Awaits, Way, idle, busy, Machine, over, halt, beside, begun, continued, started, call}
 use Rattle.model_ops.specs.Rings.{St}
-use Rattle.machine.specs.Under.{driverOf, drive}
+use Rattle.machine.specs.Suspended.{driverOf, drive}
 use Rattle.proof_wake_ups.specs.Heard.{Heard, Hst, bare, heardOps}
 use Rattle.proof_wake_ups.specs.Twins.{Fits, Twin, end, ask, twin-more, Short, grown-same}
 use Rattle.proof_wake_ups.specs.Calls.{aside-wakes, call-within, start-up-within}
 
 -- the driver beside the record
-abbrev pub heard : machine.Driver Config Heard
+abbrev pub heard : machine.Instance Config Heard
 heard = record {
   ops = heardOps;
   fresh = λ c. (driverOf .fresh c, []);

@@ -13,7 +13,7 @@ use Rattle.model.specs.Answers.{Answer, Refused, End, NotYet, Done, Shown}
 use Rattle.model.specs.Calls.{Config, Op, aside, calls, startRow}
 use Rattle.model.specs.Machine.{Buf, Event, Call, start, begin, go, question, Ans, ended, handed, told, Awaits, Way, idle, busy, Machine, over, halt, stay, lentTo, beside, begun, continued, started, misfit}
 use Rattle.model_ops.specs.Rings.{St}
-use Rattle.machine.specs.Under.{driverOf, drive}
+use Rattle.machine.specs.Suspended.{driverOf, drive}
 use Rattle.proof_book.specs.Always.{after}
 use Rattle.proof_wake_ups.specs.Heard.{Heard}
 use Rattle.proof_wake_ups.specs.Twins.{Short}

@@ -15,11 +15,11 @@ use Rattle.ring.specs.Slot.{slotAddr, hasWaiting}
 use Rattle.ring.specs.Out.{hasRoomOut, cappedAt, armedAt}
 use Rattle.marks.specs.Copies.{copied}
 use Rattle.model.specs.Cells.{Cell, Val, globals-cell, control-cell, allocator-cell, ep-cell, request-cell, paced-cell}
-use Rattle.model.specs.Script.{Act, complete, reset-ring, set-enabled, fill, fill0, open-oldest, close-oldest, take-oldest, enqueue, allocate, allocate0, no-wakes, waken, Hand, arrive, send, place, place0, Row, switch, bus-reset}
+use Rattle.model.specs.Script.{Act, complete, reset-ring, set-enabled, fill, fill0, open-oldest, close-oldest, take-oldest, enqueue, allocate, allocate0, no-wakes, waken, DmaStep, arrive, send, place, place0, Burst, switch, bus-reset}
 use Rattle.model.specs.Statics.{isOn, isoOuts}
 use Rattle.model_ops.specs.Records.{isoOut, configured, enabledOn, recordGiven, setsGiven, givenTo, allocatedOn, startedWith, allocatedEp0}
 use Rattle.model_ops.specs.Rings.{St, completeOn, emptied, emptiedOn, openOn, closeOn, takeOn, roomOn, queuedOn, enqueueOn, recordedOn, admittedOn, arrivedAt, arriveOn, sendOn, placeOn, renewedOn, armAt, slotStep, typeStep, configStep, switchStep, resetBelow, resetAll, resetStep}
-use Rattle.model_ops.specs.Conc.{conc}
+use Rattle.model_ops.specs.Concrete.{concrete}
 
 abbrev pub Quiet : Driver → Driver → Type 0
 Quiet d x = x .wakes ≡ d .wakes
@@ -28,7 +28,7 @@ either : (b : Bool) (d x y : Driver) → Quiet d x → Quiet d y → Quiet d (co
 either true d x y p q = p
 either false d x y p q = q
 
-pub put-still : (c : Cell) (v : Val c) (s : St) → Quiet (s .0) (conc .put c v s .0)
+pub put-still : (c : Cell) (v : Val c) (s : St) → Quiet (s .0) (concrete .put c v s .0)
 unfolding withOn withRequestOn withPacedOn
 put-still globals-cell v s = refl
 put-still control-cell v s = refl
@@ -63,7 +63,7 @@ unfolding startedWith
 started-still maximum (Refused n) d = refl
 started-still maximum (Given e base slots) d = refl
 
-pub act-still : (q : Act) → Other q → (s : St) → Quiet (s .0) (conc .act q s .0)
+pub act-still : (q : Act) → Other q → (s : St) → Quiet (s .0) (concrete .act q s .0)
 unfolding completeOn emptied emptiedOn enabledOn configured openOn closeOn takeOn enqueueOn queuedOn allocatedOn allocatedEp0 withOn withLenOn
 act-still no-wakes h s = absurd h
 act-still (waken codes) h s = absurd h
@@ -87,7 +87,7 @@ recorded-still : (d : Driver) (e len : ℕ) → Quiet d (recordedOn d e len)
 unfolding recordedOn withLenOn withStampOn
 recorded-still d e len = either (hasRoomOut (epOn d Out e)) d _ d refl refl
 
-pub hand-still : (q : Hand) (s : St) → Quiet (s .0) (conc .hand q s .1 .0)
+pub hand-still : (q : DmaStep) (s : St) → Quiet (s .0) (concrete .hand q s .1 .0)
 unfolding arriveOn admittedOn sendOn placeOn withOn
 hand-still (arrive e n) s = by (isSet (isoOuts (s .0 .globals)) (e % 16))
   where
@@ -137,6 +137,6 @@ reset-still (suc zero) s = refl
 reset-still (suc (suc zero)) s = refl
 reset-still (suc (suc (suc k))) s = refl
 
-pub row-still : (g : Row) (n : ℕ) (s : St) → Quiet (s .0) (conc .row g n s .1 .0)
+pub row-still : (g : Burst) (n : ℕ) (s : St) → Quiet (s .0) (concrete .row g n s .1 .0)
 row-still (switch e on) n s = switch-still e on n s
 row-still bus-reset n s = reset-still n s

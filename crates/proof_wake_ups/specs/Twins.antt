@@ -16,11 +16,11 @@ use Rattle.state.specs.WakesLaws.{Room, none-room, none-listed, all-room, all-l
 use Rattle.model.specs.Tree as tree
 use Rattle.model.specs.Tree.{ends, asks, Prog, bindOut}
 use Rattle.model.specs.Cells.{Cell, Val}
-use Rattle.model.specs.Script.{Script, run, rows, Test, Look, Fetch, oldest, received, received0, gathered, Act, complete, reset-ring, set-enabled, fill, fill0, open-oldest, close-oldest, take-oldest, enqueue, allocate, allocate0, no-wakes, waken, Hand, Row, lastOf, ret, bind, test, read-then, write-then, wait-then, callback-then, get-then, put-then, is-then, look-then, fetch-then, act-then, hand-then, row-then, _>>=_, _>>_, done, when, read, write, callback, get, put, is, look, fetch, act, hand}
+use Rattle.model.specs.Script.{Script, run, rows, Test, Look, Fetch, oldest, received, received0, gathered, Act, complete, reset-ring, set-enabled, fill, fill0, open-oldest, close-oldest, take-oldest, enqueue, allocate, allocate0, no-wakes, waken, DmaStep, Burst, lastOf, ret, bind, test, read-then, write-then, wait-then, callback-then, get-then, put-then, is-then, look-then, fetch-then, act-then, hand-then, row-then, _>>=_, _>>_, done, when, read, write, callback, get, put, is, look, fetch, act, hand}
 use Rattle.model.specs.Statics.{modifyReg}
 use Rattle.model.specs.Answers.{Answer, End, operation}
 use Rattle.model_ops.specs.Rings.{St}
-use Rattle.model_ops.specs.Conc.{conc}
+use Rattle.model_ops.specs.Concrete.{concrete}
 use Rattle.proof_wake_ups.specs.Heard.{Heard, Hst, bare, onto, recorded, heardOps}
 use Rattle.proof_wake_ups.specs.Still.{Quiet, Other, put-still, act-still, hand-still, row-still}
 
@@ -80,7 +80,7 @@ grown-same {l} g = by-more (g .more) (g .by) (g .few)
 
 -- from any state with room for them
 pub record Wakes≤ {i : Bool} {A : Type 0} (n : ℕ) (p : Script i A) : Type 0 where
-  pub on : (t : Hst) → Fits (t .0) → length (t .0 .1) + n ≤ 64 → Twin (Grown (t .0 .1) n) (run conc p (bare t)) (run heardOps p t)
+  pub on : (t : Hst) → Fits (t .0) → length (t .0 .1) + n ≤ 64 → Twin (Grown (t .0 .1) n) (run concrete p (bare t)) (run heardOps p t)
 
 fits-by : (h : Heard) (d : Driver) → Quiet (h .0) d → Fits h → Fits (d, h .1)
 fits-by h d q f = record { room = rw q (f .room); list = ap listed q ∙ f .list }
@@ -139,9 +139,9 @@ module _ {i : Bool} {A : Type 0} where
   pub wakes-callback : {n : ℕ} {p : Script i A} → Wakes≤ n p → Wakes≤ n (callback-then p)
   wakes-callback {n = n} x = record { on = λ t f r. ask t f (grown-none _ n) (λ v u g e. twin-more (x .on u g (omega (arith, r, ap length e))) (grown-from e)) }
 
-  pub wakes-hand : {n : ℕ} {q : Hand} {p : Script i A} → Wakes≤ n p → Wakes≤ n (hand-then q p)
+  pub wakes-hand : {n : ℕ} {q : DmaStep} {p : Script i A} → Wakes≤ n p → Wakes≤ n (hand-then q p)
   wakes-hand {n = n} {q = q} x = record {
-    on = λ t f r. ask (onto t (conc .hand q (bare t) .1)) (fits-by (t .0) _ (hand-still q (bare t)) f) (grown-none _ n)
+    on = λ t f r. ask (onto t (concrete .hand q (bare t) .1)) (fits-by (t .0) _ (hand-still q (bare t)) f) (grown-none _ n)
         (λ v u g e. twin-more (x .on u g (omega (arith, r, ap length e))) (grown-from e));
   }
 
@@ -150,7 +150,7 @@ module _ {i : Bool} {A : Type 0} where
   wakes-get x = record { on = λ t f r. x _ .on t f r }
 
   pub wakes-put : {n : ℕ} {c : Cell} {v : Val c} {p : Script i A} → Wakes≤ n p → Wakes≤ n (put-then c v p)
-  wakes-put {c = c} {v = v} x = record { on = λ t f r. x .on (onto t (conc .put c v (bare t))) (fits-by (t .0) _ (put-still c v (bare t)) f) r }
+  wakes-put {c = c} {v = v} x = record { on = λ t f r. x .on (onto t (concrete .put c v (bare t))) (fits-by (t .0) _ (put-still c v (bare t)) f) r }
 
   pub wakes-is : {n : ℕ} {q : Test} {k : Bool → Script i A} → ((v : Bool) → Wakes≤ n (k v)) → Wakes≤ n (is-then q k)
   wakes-is x = record { on = λ t f r. x _ .on t f r }
@@ -161,8 +161,8 @@ module _ {i : Bool} {A : Type 0} where
   pub wakes-fetch : {n : ℕ} {q : Fetch} {k : List ℕ → Script i A} → ((v : List ℕ) → Wakes≤ n (k v)) → Wakes≤ n (fetch-then q k)
   wakes-fetch {n = n} {q = q} {k = k} x = record { on = λ t f r. of q t f r }
     where
-      of : (q : Fetch) (t : Hst) → Fits (t .0) → length (t .0 .1) + n ≤ 64 → Twin (Grown (t .0 .1) n) (run conc (fetch-then q k) (bare t)) (run heardOps (fetch-then q k) t)
-      of gathered t f r = subst (λ (l : List ℕ). Twin (Grown (t .0 .1) n) (run conc (k l) (bare t)) (run heardOps (k (t .0 .1)) t)) (sym (f .list)) (x (t .0 .1) .on t f r)
+      of : (q : Fetch) (t : Hst) → Fits (t .0) → length (t .0 .1) + n ≤ 64 → Twin (Grown (t .0 .1) n) (run concrete (fetch-then q k) (bare t)) (run heardOps (fetch-then q k) t)
+      of gathered t f r = subst (λ (l : List ℕ). Twin (Grown (t .0 .1) n) (run concrete (k l) (bare t)) (run heardOps (k (t .0 .1)) t)) (sym (f .list)) (x (t .0 .1) .on t f r)
       of (oldest e) t f r = x _ .on t f r
       of (received e m) t f r = x _ .on t f r
       of (received0 m) t f r = x _ .on t f r
@@ -172,8 +172,8 @@ module _ {i : Bool} {A : Type 0} where
     on = λ t f r.
         let e = recorded-other q h (t .0 .1) in
         twin-more
-        (x .on ((conc .act q (bare t) .0, recorded q (t .0 .1)), conc .act q (bare t) .1)
-        (subst (λ (l : List ℕ). Fits (conc .act q (bare t) .0, l)) (sym e) (fits-by (t .0) _ (act-still q h (bare t)) f)) (omega (arith, r, ap length e)))
+        (x .on ((concrete .act q (bare t) .0, recorded q (t .0 .1)), concrete .act q (bare t) .1)
+        (subst (λ (l : List ℕ). Fits (concrete .act q (bare t) .0, l)) (sym e) (fits-by (t .0) _ (act-still q h (bare t)) f)) (omega (arith, r, ap length e)))
         (grown-from e);
   }
 
@@ -201,14 +201,14 @@ module _ {i : Bool} {A : Type 0} where
   then-free {n = n} x y = wakes-more (wakes-bind n 0 x y) (omega arith)
 
 -- a row
-rows-twin : {A : Type 0} (g : Row) (n m : ℕ) {p : Script false A} → Wakes≤ m p → (t : Hst) → Fits (t .0) → length (t .0 .1) + m ≤ 64
-    → Twin (Grown (t .0 .1) m) (rows conc g n (λ s. run conc p s) (bare t)) (rows heardOps g n (λ u. run heardOps p u) t)
-rows-twin g zero m x t f r = ask (onto t (conc .row g zero (bare t) .1)) (fits-by (t .0) _ (row-still g zero (bare t)) f) (grown-none _ m)
+rows-twin : {A : Type 0} (g : Burst) (n m : ℕ) {p : Script false A} → Wakes≤ m p → (t : Hst) → Fits (t .0) → length (t .0 .1) + m ≤ 64
+    → Twin (Grown (t .0 .1) m) (rows concrete g n (λ s. run concrete p s) (bare t)) (rows heardOps g n (λ u. run heardOps p u) t)
+rows-twin g zero m x t f r = ask (onto t (concrete .row g zero (bare t) .1)) (fits-by (t .0) _ (row-still g zero (bare t)) f) (grown-none _ m)
     (λ v u h e. twin-more (x .on u h (omega (arith, r, ap length e))) (grown-from e))
-rows-twin g (suc n) m x t f r = ask (onto t (conc .row g (suc n) (bare t) .1)) (fits-by (t .0) _ (row-still g (suc n) (bare t)) f) (grown-none _ m)
+rows-twin g (suc n) m x t f r = ask (onto t (concrete .row g (suc n) (bare t) .1)) (fits-by (t .0) _ (row-still g (suc n) (bare t)) f) (grown-none _ m)
     (λ v u h e. twin-more (rows-twin g n m x u h (omega (arith, r, ap length e))) (grown-from e))
 
-pub wakes-row : {A : Type 0} {n : ℕ} {g : Row} {p : Script false A} → Wakes≤ n p → Wakes≤ n (row-then g p)
+pub wakes-row : {A : Type 0} {n : ℕ} {g : Burst} {p : Script false A} → Wakes≤ n p → Wakes≤ n (row-then g p)
 wakes-row {g = g} x = record { on = λ t f r. rows-twin g (lastOf g) _ x t f r }
 
 module _ {i : Bool} where
@@ -240,7 +240,7 @@ module _ {i : Bool} where
   pub one-wake : {n c : ℕ} → Wakes≤ {i = i} (suc n) (act (waken (c ∷ [])))
   one-wake {n = n} {c = c} = wakes-more (wakes-waken {n = n} (c ∷ []) {p = done} wakes-ret) (omega arith)
 
-  pub no-hand : {n : ℕ} {q : Hand} → Wakes≤ {i = i} n (hand q)
+  pub no-hand : {n : ℕ} {q : DmaStep} → Wakes≤ {i = i} n (hand q)
   no-hand = wakes-hand wakes-ret
 
   pub no-callback : {n : ℕ} → Wakes≤ {i = i} n callback
@@ -278,7 +278,7 @@ Short l = length l < 64
 
 -- from any state that fits: an operation begins without wake-ups
 pub record Within {i : Bool} (p : Script i Answer) : Type 0 where
-  pub on : (t : Hst) → Fits (t .0) → Short (t .0 .1) → Twin Short (run conc p (bare t)) (run heardOps p t)
+  pub on : (t : Hst) → Fits (t .0) → Short (t .0 .1) → Twin Short (run concrete p (bare t)) (run heardOps p t)
 
 module _ {i : Bool} where
   pub within-quiet : {p : Script i Answer} → Wakes≤ 0 p → Within p

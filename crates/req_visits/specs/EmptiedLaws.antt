@@ -10,7 +10,7 @@ use lib.ListN.{length}
 use borrow.Author.Tests.{ltb-false, lt-ltb, le-ltb}
 use Rattle.state.specs.declared.EpState.{EpState}
 use Rattle.ring.specs.Slot.{countOf, joinedOf, passedOf}
-use Rattle.ring.specs.Out.{hasRoomOut, turnedAwayOf, arrivedOf, closedOf}
+use Rattle.ring.specs.Out.{hasRoomOut, overrunOf, arrivedOf, closedOf}
 use Rattle.ring.specs.Waiting.{waiting, Alike}
 use Rattle.ring.specs.Laws.{waiting-length}
 use Rattle.ring.specs.OutLaws.{turned-alike}
@@ -41,7 +41,7 @@ module _ {s : EpState} (g : Sixteen s) where
 
   -- ---- an arrival
 
-  arrive-by : (t : Bool) → Sixteen (cond t (joinedOf s) (turnedAwayOf s))
+  arrive-by : (t : Bool) → Sixteen (cond t (joinedOf s) (overrunOf s))
   arrive-by true = join-sixteen
   arrive-by false = alike-sixteen (turned-alike s) g
 
@@ -62,12 +62,12 @@ module _ {s : EpState} (g : Sixteen s) where
     admit-overruns = rw admits refl
 
   module _ (many : 15 ≤ countOf s) where
-    turns : arrivedOf s ≡ turnedAwayOf s
+    turns : arrivedOf s ≡ overrunOf s
     unfolding arrivedOf
     turns = rw (room ∙ le-ltb (countOf s) 15 many) refl
 
     pub turn-overruns : arrivedOf s .overruns ≢ s .overruns
-    unfolding turnedAwayOf
+    unfolding overrunOf
     turn-overruns e = omega (arith, ap (λ (r : EpState). r .overruns) (sym turns) ∙ e)
 
   -- ---- a visit

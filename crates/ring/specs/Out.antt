@@ -17,12 +17,12 @@ unfoldable pub cappedAt : EpState → ℕ → ℕ
 cappedAt s len = cond (ltb len (s .«max_len»)) len (s .«max_len»)
 
 -- "the overrun count wraps at 32 bits"
-unfoldable pub turnedAwayOf : EpState → EpState
-turnedAwayOf s = withOverruns s ((s .overruns + 1) % 2 ^ 32)
+unfoldable pub overrunOf : EpState → EpState
+overrunOf s = withOverruns s ((s .overruns + 1) % 2 ^ 32)
 
 -- an arrival in the head's slot: the record, and the recorded lengths, its own being `len`
 unfoldable pub arrivedOf : EpState → EpState
-arrivedOf s = cond (hasRoomOut s) (joinedOf s) (turnedAwayOf s)
+arrivedOf s = cond (hasRoomOut s) (joinedOf s) (overrunOf s)
 
 unfoldable pub arrivedLens : EpState → List ℕ → ℕ → List ℕ
 arrivedLens s ls len = cond (hasRoomOut s) (set ls (slotOf s (s .head)) len) ls

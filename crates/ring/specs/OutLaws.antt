@@ -9,15 +9,15 @@ use borrow.Author.Tests.{ltb-true, ltb-false, le-ltb}
 use lib.ListN.{length, set}
 use Rattle.state.specs.declared.EpState.{EpState}
 use Rattle.ring.specs.Slot.{slotOf, slotAddr, countOf, joinedOf, passedOf}
-use Rattle.ring.specs.Out.{hasRoomOut, cappedAt, turnedAwayOf, arrivedOf, arrivedLens, armedAt, openedOf, closedOf}
+use Rattle.ring.specs.Out.{hasRoomOut, cappedAt, overrunOf, arrivedOf, arrivedLens, armedAt, openedOf, closedOf}
 use Rattle.ring.specs.Waiting.{window, waiting, join, Away, Only, Shows, Placed, OutRing, SamePlace, Alike}
 use Rattle.ring.specs.Slots.{slots-some}
 use Rattle.ring.specs.Laws.{waiting-length, alike-count, alike-waits, alike-out, alike-away, head-away, waiting-head, join-place, join-count, join-waits, join-ring, pass-waits, pass-ring, pass-away}
 
 -- ---- what touches neither place, head nor tail
 
-pub turned-alike : (s : EpState) → Alike s (turnedAwayOf s)
-unfolding turnedAwayOf
+pub turned-alike : (s : EpState) → Alike s (overrunOf s)
+unfolding overrunOf
 turned-alike s = record { place = record { base = refl; stride = refl; slots = refl }; head = refl; tail = refl }
 
 pub armed-alike : (s : EpState) (x : ℕ) → Alike s (armedAt s x)
@@ -36,7 +36,7 @@ pub closed-place : (s : EpState) → SamePlace s (closedOf s)
 unfolding closedOf passedOf
 closed-place s = record { base = refl; stride = refl; slots = refl }
 
-arrived-by : (s : EpState) (t : Bool) → SamePlace s (cond t (joinedOf s) (turnedAwayOf s))
+arrived-by : (s : EpState) (t : Bool) → SamePlace s (cond t (joinedOf s) (overrunOf s))
 arrived-by s true = join-place s
 arrived-by s false = turned-alike s .place
 
@@ -64,8 +64,8 @@ capped-is s len = go (ltb len (s .«max_len»)) refl
     go false e = omega (arith, ltb-false len (s .«max_len») e)
 
 -- ---- counting those turned away, modulo 2^32
-pub turned-counts : (s : EpState) (lost : ℕ) → s .overruns ≡ lost % 2 ^ 32 → turnedAwayOf s .overruns ≡ (lost + 1) % 2 ^ 32
-unfolding turnedAwayOf
+pub turned-counts : (s : EpState) (lost : ℕ) → s .overruns ≡ lost % 2 ^ 32 → overrunOf s .overruns ≡ (lost + 1) % 2 ^ 32
+unfolding overrunOf
 turned-counts s lost e = omega (arith, e)
 
 module _ {n : ℕ} {s : EpState} {ls : List ℕ} (g : Placed n s) (a : OutRing s ls) where
@@ -111,7 +111,7 @@ module _ {n : ℕ} {s : EpState} {ls : List ℕ} (g : Placed n s) (a : OutRing s
 
   -- an arrival joins, last, or is turned away
   arrive-by : (len : ℕ) (t : Bool) → hasRoomOut s ≡ t → (b : List ℕ)
-      → waiting b (cond t (joinedOf s) (turnedAwayOf s)) (cond t (set ls (slotOf s (s .head)) len) ls)
+      → waiting b (cond t (joinedOf s) (overrunOf s)) (cond t (set ls (slotOf s (s .head)) len) ls)
       ≡ cond t (waiting b s ls ++ (window b (slotAddr s (s .head)) len ∷ [])) (waiting b s ls)
   arrive-by len true e b = admit-waits e len b
   arrive-by len false e b = alike-waits (turned-alike s) b ls (a .tail8)
@@ -122,7 +122,7 @@ module _ {n : ℕ} {s : EpState} {ls : List ℕ} (g : Placed n s) (a : OutRing s
   arrive-waits len b = rw (← room-out b) (arrive-by len (hasRoomOut s) refl b)
 
   ring-by : (len : ℕ) (t : Bool) → hasRoomOut s ≡ t → len ≤ s .stride
-      → OutRing (cond t (joinedOf s) (turnedAwayOf s)) (cond t (set ls (slotOf s (s .head)) len) ls)
+      → OutRing (cond t (joinedOf s) (overrunOf s)) (cond t (set ls (slotOf s (s .head)) len) ls)
   ring-by len true e h = admit-ring e len h
   ring-by len false e h = alike-out (turned-alike s) a
 
@@ -130,8 +130,8 @@ module _ {n : ℕ} {s : EpState} {ls : List ℕ} (g : Placed n s) (a : OutRing s
   unfolding arrivedOf arrivedLens
   arrive-ring len h = ring-by len (hasRoomOut s) refl h
 
-  shows-by : (t : Bool) → hasRoomOut s ≡ t → Shows s → Shows (cond t (joinedOf s) (turnedAwayOf s))
-  unfolding turnedAwayOf
+  shows-by : (t : Bool) → hasRoomOut s ≡ t → Shows s → Shows (cond t (joinedOf s) (overrunOf s))
+  unfolding overrunOf
   shows-by true e h f = omega (arith, join-count g a few)
   shows-by false e h f = omega (arith, h f, alike-count (turned-alike s))
 

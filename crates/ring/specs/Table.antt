@@ -5,7 +5,7 @@ use native.Mathlib.Omega.{arith}
 use lib.ListN.{replicate}
 use Rattle.state.specs.declared.EpState.{EpState}
 use Rattle.ring.specs.Slot.{slotOf, countOf}
-use Rattle.ring.specs.Out.{turnedAwayOf}
+use Rattle.ring.specs.Out.{overrunOf}
 use Rattle.ring.specs.Waiting.{Placed, OutRing}
 use Rattle.ring.specs.Laws.{replicate-capped}
 
@@ -34,8 +34,8 @@ sample h t n = record {
 pub table :
     (countOf (sample 3 250 0) ≡ 9)
     × (slotOf (sample 3 250 0) 250 ≡ 10)
-    × (turnedAwayOf (sample 3 250 4294967295) .overruns ≡ 0)
-unfolding countOf slotOf turnedAwayOf
+    × (overrunOf (sample 3 250 4294967295) .overruns ≡ 0)
+unfolding countOf slotOf overrunOf
 table = (refl, refl, refl)
 
 -- this ring is one of those that the laws speak of

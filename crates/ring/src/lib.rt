@@ -4,7 +4,7 @@ use state::EpState;
 ghost use mathlib.Core.Path.{_≡_};
 ghost use Prim.Native.Nat.{_+_, _-_, _*_, _%_, _^_, _≤_, _<_};
 ghost use Rattle.ring.specs.Slot.{slotOf, slotAddr, hasWaiting, joinedOf};
-ghost use Rattle.ring.specs.Out.{hasRoomOut, cappedAt, turnedAwayOf, arrivedOf, armedAt, openedOf, closedOf};
+ghost use Rattle.ring.specs.Out.{hasRoomOut, cappedAt, overrunOf, arrivedOf, armedAt, openedOf, closedOf};
 ghost use Rattle.ring.specs.In.{hasRoomIn, completedOf, loadedOf, unloadedOf, nextLoad};
 
 // The slot of counter i.
@@ -60,7 +60,7 @@ pub fn capped(s: EpState, len: u16) -> u16
 
 // The arrival is dropped and counted (mod.rs 505).
 pub fn turned_away(mut s: EpState) -> EpState
-    ensures { λ r. ⌜ r ≡ turnedAwayOf s ⌝ }
+    ensures { λ r. ⌜ r ≡ overrunOf s ⌝ }
 {
     s.overruns = std::num::wrapping_add_u32(s.overruns, 1);
     s

@@ -7,7 +7,7 @@ ghost use mathlib.Core.List.{List, []};
 ghost use Prim.Native.Nat.{ℕ};
 ghost use Rattle.state.specs.State.{view};
 ghost use Rattle.model.specs.Machine.{go};
-ghost use Rattle.machine.specs.Under.{machineOf, answerOf, lentOr, AsLent, Kept};
+ghost use Rattle.machine.specs.Suspended.{machineOf, answerOf, lentOr, BufferUnchangedOnRow1, SavedUnchangedOnRefusal};
 ghost use Rattle.call_bus_time.specs.Sharing.{sharedCall};
 
 // Goes on with the operation under way: a write of ep_config gives back what it clears.
@@ -19,8 +19,8 @@ pub fn proceed(
     v: u32,
 ) -> Step
     ensures { λ r. ⌜ ((a : List ℕ) → ((answerOf r [] (view (now (s .exit))), machineOf (now (s .exit)) (lentOr (view (now (s .entry))) (now (slots .entry)) (now (slots .exit)) a)), now (time .exit)) ≡ sharedCall driver (go v) (machineOf (now (s .entry)) a) (now (time .entry)) (now (slots .entry))) ⌝ }
-    ensures { λ _. ⌜ AsLent (view (now (s .entry))) (now (slots .entry)) (now (slots .exit)) ⌝ }
-    ensures { λ r. ⌜ Kept r (now (s .entry)) (now (s .exit)) ⌝ }
+    ensures { λ _. ⌜ BufferUnchangedOnRow1 (view (now (s .entry))) (now (slots .entry)) (now (slots .exit)) ⌝ }
+    ensures { λ r. ⌜ SavedUnchangedOnRefusal r (now (s .entry)) (now (s .exit)) ⌝ }
 {
     let step = machine_resume::proceed(s, slots, v);
     gone_on(time, driver, step);

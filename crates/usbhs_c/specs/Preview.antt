@@ -5,7 +5,7 @@ use Rattle.state.specs.State.{view, saved}
 use Rattle.req_preview.specs.declared.Said.{Said}
 use Rattle.req_preview.specs.declared.Said.the-variants as said
 use Rattle.req_preview.specs.declared.Shown.{Shown}
-use Rattle.machine.specs.Under.{decode}
+use Rattle.machine.specs.Suspended.{decode}
 use Rattle.machine.specs.Rows.{isIdle, stopOf}
 use Rattle.call_driver.specs.Listed.{previewed}
 

@@ -15,10 +15,10 @@ use Rattle.model.specs.Answers.{Answer, Refused, End, NotYet, Done, Shown}
 use Rattle.model.specs.Control.{SETUP, wordBytes, setupBytes}
 use Rattle.model.specs.Calls.{other, PollSetup}
 use Rattle.model.specs.Machine.{Buf, Machine, Ans, ended, handed, told, begin}
-use Rattle.machine.specs.declared.Under.{Under}
+use Rattle.machine.specs.declared.Suspended.{Suspended}
 use Rattle.machine.specs.declared.Step.{Step}
 use Rattle.machine.specs.declared.Step.the-variants as step
-use Rattle.machine.specs.Under.{machineAt, drive, halts, answerOf}
+use Rattle.machine.specs.Suspended.{machineAt, drive, halts, answerOf}
 use Rattle.machine.specs.Goes.{Called}
 use Rattle.machine.specs.Rows.{isIdle, other-idle}
 
@@ -68,7 +68,7 @@ by-rows true true false w g s1 s2 s3 s4 m = tt
 by-rows true false z w g s1 s2 s3 s4 m = tt
 by-rows false y z w g s1 s2 s3 s4 m = tt
 
-setup-first : (u : Under) (d : Driver) (a b : Buf) → ByteFirst (drive (begin (other PollSetup)) (machineAt u d a) b .0)
+setup-first : (u : Suspended) (d : Driver) (a b : Buf) → ByteFirst (drive (begin (other PollSetup)) (machineAt u d a) b .0)
 setup-first u d a b =
     subst (λ (c : Called). ByteFirst (c .0)) (sym (other-idle PollSetup u d a b))
     (by-rows (isIdle u) (eqb (d .globals .stage) 2) (eqb (d .control .sort) SETUP) (isOn (d .globals .«setup_ready»)) (d .globals) _ _ _ _ _)
@@ -92,5 +92,5 @@ no-slice (step.Done (suc n)) x h = omega arith
 no-slice (step.Setup low high) x h = tt
 no-slice (step.Shown at n stamp) x h = tt
 
-pub setup-no-slice : (t : Step) (x : Driver) (u : Under) (d : Driver) (a b : Buf) → answerOf t [] x ≡ drive (begin (other PollSetup)) (machineAt u d a) b .0 → NoSlice t
+pub setup-no-slice : (t : Step) (x : Driver) (u : Suspended) (d : Driver) (a b : Buf) → answerOf t [] x ≡ drive (begin (other PollSetup)) (machineAt u d a) b .0 → NoSlice t
 setup-no-slice t x u d a b e = no-slice t x (subst ByteFirst (sym e) (setup-first u d a b))

@@ -26,7 +26,7 @@ ghost use Rattle.model.specs.Calls.{other, slotted, aside, interrupt, Microfram
 ghost use Prim.Native.Nat.{_%_};
 ghost use lib.ListN.{length};
 ghost use Rattle.req_bus_time.specs.Time.{inUse};
-ghost use Rattle.machine.specs.Under.{configOf};
+ghost use Rattle.machine.specs.Suspended.{configOf};
 ghost use Rattle.machine.specs.Questions.{pendingOn, overrunsOn, enabledAsked};
 ghost use Rattle.usbhs_c.specs.Calls.{Answers, AnswersAtOnce, AnswersLent, AnswersInto, AnswersOutOf, AnswersStart, AnswersCharged, AnswersBeside, AnswersShown, AnswersOpen, dirOf, flagOf};
 

@@ -5,7 +5,7 @@ ghost use mathlib.Core.List.{[], _++_};
 ghost use Rattle.marks.specs.Copies.{over};
 ghost use Rattle.state.specs.Driver.{Driver};
 ghost use Rattle.model.specs.Control.{wordBytes};
-ghost use Rattle.machine.specs.Under.{answerOf, lentBy};
+ghost use Rattle.machine.specs.Suspended.{answerOf, lentBy};
 ghost use Rattle.usbhs_c.specs.Setup.{NoSlice};
 ghost use Rattle.call_answer_word.specs.Word.{Worded};
 

@@ -3,7 +3,7 @@ ghost use mathlib.Core.Path.{_≡_};
 ghost use mathlib.Core.List.{List};
 ghost use Prim.Native.Nat.{ℕ};
 ghost use Rattle.state.specs.Driver.{Driver};
-ghost use Rattle.machine.specs.Under.{answerOf};
+ghost use Rattle.machine.specs.Suspended.{answerOf};
 ghost use Rattle.usbhs_c.specs.Stamp.{stampBy};
 
 // The stamp of a packet that is shown; no other answer has one, and what the caller had stays.

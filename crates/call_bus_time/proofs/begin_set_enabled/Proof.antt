@@ -1,5 +1,5 @@
 use denote.Ref.{now}
-use Rattle.machine.specs.Under.{machineOf}
+use Rattle.machine.specs.Suspended.{machineOf}
 use Rattle.call_bus_time.specs.Enabling.{disables}
 use borrow.Author.Needs.{needs}
 use Rattle.call_bus_time.proofs.begin_set_enabled.Statement.{statement}

@@ -2,7 +2,7 @@ use denote.Ref.{now}
 use mathlib.Core.Path.{refl, sym, _∙_}
 use native.Mathlib.Omega.{arith}
 use Rattle.state.specs.State.{view, saved}
-use Rattle.machine.specs.Under.{decode}
+use Rattle.machine.specs.Suspended.{decode}
 use Rattle.req_bus_time.specs.TimeLaws.{within}
 use Rattle.call_bus_time.specs.Enabling.{turned, stopped, begun}
 use borrow.Author.Needs.{needs}

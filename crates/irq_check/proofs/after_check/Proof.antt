@@ -1,5 +1,5 @@
 use Rattle.irq_points.specs.StandsLaws.{then-on}
-use Rattle.irq.specs.Tails.{afterCheck}
+use Rattle.irq.specs.Continuations.{afterCheck}
 use borrow.Author.Tests.{eq-eqb, ne-eqb}
 use borrow.Author.Needs.{needs}
 use Rattle.irq_check.proofs.after_check.Statement.{statement}

@@ -1,7 +1,7 @@
 use Rattle.irq_points.specs.StandsLaws.{then-on}
 use Rattle.irq.specs.Laws.{after}
-use Rattle.irq.specs.Tails.{afterCheck}
-use Rattle.model_ops.specs.Conc.{conc}
+use Rattle.irq.specs.Continuations.{afterCheck}
+use Rattle.model_ops.specs.Concrete.{concrete}
 use Rattle.model.specs.Script.{run}
 use borrow.Author.Needs.{needs}
 use Rattle.irq_check.proofs.after_checking.Statement.{statement}
@@ -23,7 +23,7 @@ returns c =
     let the-checked = c .checked in
     let a = c .before .before .before .before .before .before .before .before .before .args in
     let the-resume = c .before .before .before .before .before .resume in
-    (then-on (the-checked .ensures .0) (after (a .setup) (λ _ u. run conc (afterCheck (a .x)) u) _ _ (the-resume .ensures .0)), the-checked .ensures .1)
+    (then-on (the-checked .ensures .0) (after (a .setup) (λ _ u. run concrete (afterCheck (a .x)) u) _ _ (the-resume .ensures .0)), the-checked .ensures .1)
 
 pub after-checking-spec : {M : Type 1} → statement M
 after-checking-spec =

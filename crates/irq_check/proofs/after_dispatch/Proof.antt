@@ -1,7 +1,7 @@
 use Rattle.irq_points.specs.StandsLaws.{then-on}
 use Rattle.irq.specs.Laws.{after, tells-not, when-no, when-yes}
-use Rattle.irq.specs.Tails.{afterCheck, afterDispatch}
-use Rattle.model_ops.specs.Conc.{conc}
+use Rattle.irq.specs.Continuations.{afterCheck, afterDispatch}
+use Rattle.model_ops.specs.Concrete.{concrete}
 use Rattle.model.specs.IsoOut.{isoOutCheck}
 use Rattle.model.specs.Script.{run}
 use mathlib.Core.Path.{_∙_}
@@ -22,7 +22,7 @@ returns c =
     let a = c .before .before .before .before .before .args in
     let the-is-sof = c .before .before .before .is-sof in
     let the-if1 = c .before .before .if1 in
-    (then-on (the-after-check .ensures .0 _) (when-no (a .setup) (isoOutCheck (a .x) (a .iso)) (λ _ u. run conc (afterCheck (a .x)) u) _ _ (tells-not _ _ _ (the-is-sof .ensures) (the-if1 .taken))), the-after-check .ensures .1)
+    (then-on (the-after-check .ensures .0 _) (when-no (a .setup) (isoOutCheck (a .x) (a .iso)) (λ _ u. run concrete (afterCheck (a .x)) u) _ _ (tells-not _ _ _ (the-is-sof .ensures) (the-if1 .taken))), the-after-check .ensures .1)
 
 begin-requires : tie.Need-begin-requires
 begin-requires c κs = search needs
@@ -43,7 +43,7 @@ returns-2 c =
     let the-begin = c .before .before .before .before .before .begin in
     let the-is-sof = c .before .before .before .before .before .before .before .before .before .is-sof in
     let the-if1 = c .before .before .before .before .before .before .before .before .if1 in
-    (then-on (the-checked .ensures .0) (after (a .setup) (λ _ u. run conc (afterCheck (a .x)) u) _ _ (the-begin .ensures .0) ∙ when-yes (a .setup) (isoOutCheck (a .x) (a .iso)) (λ _ u. run conc (afterCheck (a .x)) u) _ _ (tells-not _ _ _ (the-is-sof .ensures) (the-if1 .left))), the-checked .ensures .1)
+    (then-on (the-checked .ensures .0) (after (a .setup) (λ _ u. run concrete (afterCheck (a .x)) u) _ _ (the-begin .ensures .0) ∙ when-yes (a .setup) (isoOutCheck (a .x) (a .iso)) (λ _ u. run concrete (afterCheck (a .x)) u) _ _ (tells-not _ _ _ (the-is-sof .ensures) (the-if1 .left))), the-checked .ensures .1)
 
 pub after-dispatch-spec : {M : Type 1} → statement M
 after-dispatch-spec =

@@ -1,7 +1,7 @@
 use Rattle.irq_points.specs.StandsLaws.{stops-at, stored-at, then-on}
 use Rattle.irq.specs.Laws.{check-asks, check-ends, check-linked}
-use Rattle.irq.specs.Tails.{afterCheck}
-use Rattle.model_ops.specs.Conc.{conc}
+use Rattle.irq.specs.Continuations.{afterCheck}
+use Rattle.model_ops.specs.Concrete.{concrete}
 use Rattle.model.specs.Script.{run}
 use borrow.Author.Needs.{needs}
 use Rattle.irq_check.proofs.checked.Statement.{statement}
@@ -24,14 +24,14 @@ returns c =
     let the-stand-check = c .stand-check in
     let the-n = c .before .before .before .n in
     let a = c .before .before .before .before .before .before .args in
-    (stops-at (the-stand-check .ensures) (check-linked _ _ _ (the-n .given .1) ((c .before .before .before .before .before .before .pre))) _ (check-asks (a .setup) (λ _ u. run conc (afterCheck (a .x)) u) _ _ _ (a .x) (a .iso) _ _ (the-n .given .1)), stored-at (the-stand-check .ensures))
+    (stops-at (the-stand-check .ensures) (check-linked _ _ _ (the-n .given .1) ((c .before .before .before .before .before .before .pre))) _ (check-asks (a .setup) (λ _ u. run concrete (afterCheck (a .x)) u) _ _ _ (a .x) (a .iso) _ _ (the-n .given .1)), stored-at (the-stand-check .ensures))
 
 returns-2 : tie.Need-returns-2
 returns-2 c =
     let the-after-check = c .after-check in
     let a = c .before .before .before .before .before .args in
     let the-enum-told = c .before .before .enum-told in
-    (then-on (the-after-check .ensures .0 _) (check-ends (a .setup) (λ _ u. run conc (afterCheck (a .x)) u) _ _ (a .x) (a .iso) _ (the-enum-told .given .1)), the-after-check .ensures .1)
+    (then-on (the-after-check .ensures .0 _) (check-ends (a .setup) (λ _ u. run concrete (afterCheck (a .x)) u) _ _ (a .x) (a .iso) _ (the-enum-told .given .1)), the-after-check .ensures .1)
 
 pub checked-spec : {M : Type 1} → statement M
 checked-spec =

@@ -1,7 +1,7 @@
 use Rattle.irq_points.specs.StandsLaws.{then-on}
 use Prim.Native.Nat.{ℕ}
 use Rattle.irq.specs.Laws.{entered-free, entered-nak, tells}
-use Rattle.irq.specs.Tails.{enteredAs}
+use Rattle.irq.specs.Continuations.{enteredAs}
 use mathlib.Core.Path.{_∙_, ap}
 use borrow.Author.Needs.{needs}
 use Rattle.irq_entry.proofs.after_len.Statement.{statement}

@@ -1,7 +1,7 @@
 use Rattle.irq_points.specs.StandsLaws.{then-on}
 use Rattle.irq.specs.Laws.{after}
-use Rattle.irq.specs.Tails.{afterNak}
-use Rattle.model_ops.specs.Conc.{conc}
+use Rattle.irq.specs.Continuations.{afterNak}
+use Rattle.model_ops.specs.Concrete.{concrete}
 use Rattle.model.specs.Script.{run}
 use borrow.Author.Needs.{needs}
 use Rattle.irq_entry.proofs.after_naking.Statement.{statement}
@@ -18,7 +18,7 @@ returns c =
     let the-then-nak = c .then-nak in
     let a = c .before .before .before .args in
     let the-resume = c .before .before .resume in
-    (λ b. then-on (the-then-nak .ensures .0 b) (after (a .setup) (λ _ u. run conc (afterNak (a .x)) u) _ _ (the-resume .ensures .0 _ b)), the-then-nak .ensures .1)
+    (λ b. then-on (the-then-nak .ensures .0 b) (after (a .setup) (λ _ u. run concrete (afterNak (a .x)) u) _ _ (the-resume .ensures .0 _ b)), the-then-nak .ensures .1)
 
 pub after-naking-spec : {M : Type 1} → statement M
 after-naking-spec =

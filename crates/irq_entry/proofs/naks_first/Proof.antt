@@ -1,4 +1,4 @@
-use Rattle.irq.specs.Tails.{naksFirst}
+use Rattle.irq.specs.Continuations.{naksFirst}
 use borrow.Author.Needs.{needs}
 use Rattle.irq_entry.proofs.naks_first.Statement.{statement}
 use Rattle.irq_entry.proofs.naks_first.Tie as tie

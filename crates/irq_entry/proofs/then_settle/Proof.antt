@@ -1,7 +1,7 @@
 use Rattle.irq_points.specs.StandsLaws.{stops-at, stored-at, then-on}
 use Rattle.irq.specs.Laws.{settle-asks, settle-ends, settle-linked}
-use Rattle.irq.specs.Tails.{afterSettle}
-use Rattle.model_ops.specs.Conc.{conc}
+use Rattle.irq.specs.Continuations.{afterSettle}
+use Rattle.model_ops.specs.Concrete.{concrete}
 use Rattle.model.specs.Script.{run}
 use borrow.Author.Needs.{needs}
 use Rattle.irq_entry.proofs.then_settle.Statement.{statement}
@@ -24,14 +24,14 @@ returns c =
     let the-stand-settle = c .stand-settle in
     let the-n = c .before .before .before .n in
     let a = c .before .before .before .before .before .args in
-    (λ b. stops-at (the-stand-settle .ensures) (settle-linked _ _ _ (the-n .given .1) ((c .before .before .before .before .before .pre))) b (settle-asks (a .setup) (λ y u. run conc (afterSettle y) u) _ b (a .x) _ _ _ (the-n .given .1)), stored-at (the-stand-settle .ensures))
+    (λ b. stops-at (the-stand-settle .ensures) (settle-linked _ _ _ (the-n .given .1) ((c .before .before .before .before .before .pre))) b (settle-asks (a .setup) (λ y u. run concrete (afterSettle y) u) _ b (a .x) _ _ _ (the-n .given .1)), stored-at (the-stand-settle .ensures))
 
 returns-2 : tie.Need-returns-2
 returns-2 c =
     let the-after-settle = c .after-settle in
     let a = c .before .before .before .before .before .args in
     let the-n2 = c .before .before .before .n2 in
-    (λ b. then-on (the-after-settle .ensures .0 b) (settle-ends (a .setup) (λ y u. run conc (afterSettle y) u) _ b (a .x) _ _ (the-n2 .given .1)), the-after-settle .ensures .1)
+    (λ b. then-on (the-after-settle .ensures .0 b) (settle-ends (a .setup) (λ y u. run concrete (afterSettle y) u) _ b (a .x) _ _ (the-n2 .given .1)), the-after-settle .ensures .1)
 
 pub then-settle-spec : {M : Type 1} → statement M
 then-settle-spec =

@@ -1,7 +1,7 @@
 use Rattle.irq_points.specs.StandsLaws.{then-on}
 use Rattle.irq.specs.Laws.{after}
-use Rattle.irq.specs.Tails.{afterDispatch}
-use Rattle.model_ops.specs.Conc.{conc}
+use Rattle.irq.specs.Continuations.{afterDispatch}
+use Rattle.model_ops.specs.Concrete.{concrete}
 use Rattle.model.specs.Script.{run}
 use borrow.Author.Needs.{needs}
 use Rattle.irq_tokens.proofs.after_completing.Statement.{statement}
@@ -23,7 +23,7 @@ returns c =
     let the-then-complete = c .before .before .then-complete in
     let a = c .before .before .before .before .before .before .before .before .args in
     let the-resume = c .before .before .before .before .before .resume in
-    (λ v. then-on (the-then-complete .ensures .0) (after (a .setup) (λ _ u. run conc (afterDispatch (a .x) (a .iso)) u) _ _ (the-resume .ensures .0 _)), the-then-complete .ensures .1)
+    (λ v. then-on (the-then-complete .ensures .0) (after (a .setup) (λ _ u. run concrete (afterDispatch (a .x) (a .iso)) u) _ _ (the-resume .ensures .0 _)), the-then-complete .ensures .1)
 
 pub after-completing-spec : {M : Type 1} → statement M
 after-completing-spec =

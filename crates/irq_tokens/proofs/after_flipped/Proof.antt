@@ -1,7 +1,7 @@
 use Rattle.irq_points.specs.StandsLaws.{then-on}
 use Rattle.irq.specs.Laws.{after}
-use Rattle.irq.specs.Tails.{afterDispatch}
-use Rattle.model_ops.specs.Conc.{conc}
+use Rattle.irq.specs.Continuations.{afterDispatch}
+use Rattle.model_ops.specs.Concrete.{concrete}
 use Rattle.model.specs.Script.{run}
 use borrow.Author.Needs.{needs}
 use Rattle.irq_tokens.proofs.after_flipped.Statement.{statement}
@@ -21,7 +21,7 @@ returns c =
     let the-after-dispatch = c .before .before .after-dispatch in
     let a = c .before .before .before .before .before .before .before .before .args in
     let the-flip-done = c .before .before .before .before .before .flip-done in
-    (λ v. then-on (the-after-dispatch .ensures .0) (after (a .setup) (λ _ u. run conc (afterDispatch (a .x) (a .iso)) u) _ _ (the-flip-done .ensures .0 _)), the-after-dispatch .ensures .1)
+    (λ v. then-on (the-after-dispatch .ensures .0) (after (a .setup) (λ _ u. run concrete (afterDispatch (a .x) (a .iso)) u) _ _ (the-flip-done .ensures .0 _)), the-after-dispatch .ensures .1)
 
 pub after-flipped-spec : {M : Type 1} → statement M
 after-flipped-spec =

@@ -1,7 +1,7 @@
 use Rattle.irq_points.specs.StandsLaws.{then-on}
 use Rattle.irq.specs.Laws.{toggled-on}
-use Rattle.irq.specs.Tails.{afterDispatch, afterToggled}
-use Rattle.model_ops.specs.Conc.{conc}
+use Rattle.irq.specs.Continuations.{afterDispatch, afterToggled}
+use Rattle.model_ops.specs.Concrete.{concrete}
 use Rattle.model.specs.Script.{run}
 use Rattle.state.specs.State.{view}
 use borrow.Author.Needs.{needs}
@@ -28,7 +28,7 @@ returns c =
     let a = c .before .before .before .before .before .before .before .before .before .args in
     let the-resume = c .before .before .before .before .before .resume in
     let the-endpoint = c .before .before .before .before .before .before .endpoint in
-    (then-on (the-then-toggled .ensures .0) (toggled-on (a .setup) (λ _ u. run conc (afterDispatch (a .x) (a .iso)) u) (λ z u. run conc (afterToggled (a .d) (a .x) z) u) (a .d) _ _ (the-resume .result) _ _ (the-endpoint .ensures) (a .p) (a .v) (view (a .s .now), a .buf .now) (the-resume .ensures .0 _)), the-then-toggled .ensures .1)
+    (then-on (the-then-toggled .ensures .0) (toggled-on (a .setup) (λ _ u. run concrete (afterDispatch (a .x) (a .iso)) u) (λ z u. run concrete (afterToggled (a .d) (a .x) z) u) (a .d) _ _ (the-resume .result) _ _ (the-endpoint .ensures) (a .p) (a .v) (view (a .s .now), a .buf .now) (the-resume .ensures .0 _)), the-then-toggled .ensures .1)
 
 pub after-toggled-spec : {M : Type 1} → statement M
 after-toggled-spec =

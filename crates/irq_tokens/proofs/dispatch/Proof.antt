@@ -1,6 +1,6 @@
 use Rattle.irq_points.specs.StandsLaws.{then-on}
 use Rattle.irq.specs.Laws.{dispatched}
-use Rattle.irq.specs.Tails.{thenCheck}
+use Rattle.irq.specs.Continuations.{thenCheck}
 use borrow.Author.Needs.{needs}
 use Rattle.irq_tokens.proofs.dispatch.Statement.{statement}
 use Rattle.irq_tokens.proofs.dispatch.Tie as tie

@@ -1,6 +1,6 @@
 use Rattle.irq_points.specs.StandsLaws.{stops-at, stored-at, then-on}
 use Rattle.irq.specs.Laws.{at-zero, test-no, test-yes}
-use Rattle.irq.specs.Tails.{thenCheck}
+use Rattle.irq.specs.Continuations.{thenCheck}
 use borrow.Author.Tests.{eq-eqb, ne-eqb}
 use mathlib.Core.Path.{_∙_, refl}
 use borrow.Author.Needs.{needs}

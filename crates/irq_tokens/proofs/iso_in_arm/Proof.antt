@@ -1,7 +1,7 @@
 use Rattle.irq_points.specs.StandsLaws.{then-on}
 use Rattle.irq.specs.Laws.{after, in-frame, paced-told, tells, test-yes}
-use Rattle.irq.specs.Tails.{afterDispatch, thenCheck}
-use Rattle.model_ops.specs.Conc.{conc}
+use Rattle.irq.specs.Continuations.{afterDispatch, thenCheck}
+use Rattle.model_ops.specs.Concrete.{concrete}
 use Rattle.model.specs.Script.{run}
 use mathlib.Core.Bool.{false, true}
 use mathlib.Core.Path.{_∙_}
@@ -59,7 +59,7 @@ returns-2 c =
     let the-mask-has = c .before .before .before .before .before .before .before .before .before .before .before .mask-has in
     let the-load-globals = c .before .before .before .before .before .before .before .before .before .before .before .before .load-globals in
     let the-if1 = c .before .before .before .before .before .before .before .before .before .before .if1 in
-    (then-on (the-then-complete .ensures .0) (after (a .setup) (λ _ u. run conc (afterDispatch (a .x) (a .iso)) u) _ _ (the-begin .ensures .0 _) ∙ in-frame (thenCheck (a .setup) (a .x) (a .iso)) _ _ _ _ _ ((a .x) .st) true (the-endpoint .ensures) (the-first-in-frame .ensures .1 .0) (tells _ _ _ (the-first-in-frame .ensures .0) (the-if2 .taken)) (paced-told _ _ _ _ _ _ (the-mask-has .ensures) (the-load-globals .ensures) (the-endpoint .ensures) (the-if1 .left))), the-then-complete .ensures .1)
+    (then-on (the-then-complete .ensures .0) (after (a .setup) (λ _ u. run concrete (afterDispatch (a .x) (a .iso)) u) _ _ (the-begin .ensures .0 _) ∙ in-frame (thenCheck (a .setup) (a .x) (a .iso)) _ _ _ _ _ ((a .x) .st) true (the-endpoint .ensures) (the-first-in-frame .ensures .1 .0) (tells _ _ _ (the-first-in-frame .ensures .0) (the-if2 .taken)) (paced-told _ _ _ _ _ _ (the-mask-has .ensures) (the-load-globals .ensures) (the-endpoint .ensures) (the-if1 .left))), the-then-complete .ensures .1)
 
 after-dispatch-requires-2 : tie.Need-after-dispatch-requires-2
 after-dispatch-requires-2 c κs = search needs

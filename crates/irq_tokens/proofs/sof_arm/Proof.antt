@@ -1,7 +1,7 @@
 use Rattle.irq_points.specs.StandsLaws.{then-on}
 use Rattle.irq.specs.Laws.{after, sof-handled, when-no, when-yes}
-use Rattle.irq.specs.Tails.{afterDispatch}
-use Rattle.model_ops.specs.Conc.{conc}
+use Rattle.irq.specs.Continuations.{afterDispatch}
+use Rattle.model_ops.specs.Concrete.{concrete}
 use Rattle.model.specs.IsoIn.{onSof}
 use Rattle.model.specs.Script.{run}
 use borrow.Author.Tests.{eq-eqb, ne-eqb}
@@ -25,7 +25,7 @@ returns c =
     let a = c .before .before .before .before .before .before .before .before .before .before .args in
     let the-load-globals = c .before .before .before .before .before .before .before .load-globals in
     let the-if1 = c .before .before .before .before .before .if1 in
-    (then-on (the-after-dispatch .ensures .0) (when-no (a .setup) (onSof (a .frame)) (λ _ u. run conc (afterDispatch (a .x) (a .iso)) u) _ _ (sof-handled _ _ _ _ (the-load-globals .ensures) (eq-eqb _ _ (the-if1 .taken)))), the-after-dispatch .ensures .1)
+    (then-on (the-after-dispatch .ensures .0) (when-no (a .setup) (onSof (a .frame)) (λ _ u. run concrete (afterDispatch (a .x) (a .iso)) u) _ _ (sof-handled _ _ _ _ (the-load-globals .ensures) (eq-eqb _ _ (the-if1 .taken)))), the-after-dispatch .ensures .1)
 
 begin-requires : tie.Need-begin-requires
 begin-requires c κs = search needs
@@ -45,7 +45,7 @@ returns-2 c =
     let the-begin = c .before .before .before .before .before .begin in
     let the-load-globals = c .before .before .before .before .before .before .before .before .before .load-globals in
     let the-if1 = c .before .before .before .before .before .before .before .if1 in
-    (then-on (the-then-sof-arm .ensures .0) (after (a .setup) (λ _ u. run conc (afterDispatch (a .x) (a .iso)) u) _ _ (the-begin .ensures .0 _) ∙ when-yes (a .setup) (onSof (a .frame)) (λ _ u. run conc (afterDispatch (a .x) (a .iso)) u) _ _ (sof-handled _ _ _ _ (the-load-globals .ensures) (ne-eqb _ _ (the-if1 .left)))), the-then-sof-arm .ensures .1)
+    (then-on (the-then-sof-arm .ensures .0) (after (a .setup) (λ _ u. run concrete (afterDispatch (a .x) (a .iso)) u) _ _ (the-begin .ensures .0 _) ∙ when-yes (a .setup) (onSof (a .frame)) (λ _ u. run concrete (afterDispatch (a .x) (a .iso)) u) _ _ (sof-handled _ _ _ _ (the-load-globals .ensures) (ne-eqb _ _ (the-if1 .left)))), the-then-sof-arm .ensures .1)
 
 pub sof-arm-spec : {M : Type 1} → statement M
 sof-arm-spec =

@@ -1,7 +1,7 @@
 use Rattle.irq_points.specs.StandsLaws.{stops-at, stored-at, then-on}
 use Rattle.irq.specs.Laws.{complete-asks, complete-ends, complete-linked}
-use Rattle.irq.specs.Tails.{afterDispatch}
-use Rattle.model_ops.specs.Conc.{conc}
+use Rattle.irq.specs.Continuations.{afterDispatch}
+use Rattle.model_ops.specs.Concrete.{concrete}
 use Rattle.model.specs.Script.{run}
 use borrow.Author.Needs.{needs}
 use Rattle.irq_tokens.proofs.then_complete.Statement.{statement}
@@ -24,7 +24,7 @@ returns c =
     let the-stand-completing = c .stand-completing in
     let the-n = c .before .before .before .n in
     let a = c .before .before .before .before .before .before .args in
-    (stops-at (the-stand-completing .ensures) (complete-linked _ _ _ (the-n .given .1) ((c .before .before .before .before .before .before .pre))) _ (complete-asks (a .setup) (λ _ u. run conc (afterDispatch (a .x) (a .iso)) u) _ _ _ _ _ (the-n .given .1)), stored-at (the-stand-completing .ensures))
+    (stops-at (the-stand-completing .ensures) (complete-linked _ _ _ (the-n .given .1) ((c .before .before .before .before .before .before .pre))) _ (complete-asks (a .setup) (λ _ u. run concrete (afterDispatch (a .x) (a .iso)) u) _ _ _ _ _ (the-n .given .1)), stored-at (the-stand-completing .ensures))
 
 same-length : tie.Need-same-length
 same-length c = search needs
@@ -34,7 +34,7 @@ returns-2 c =
     let the-after-dispatch = c .before .before .after-dispatch in
     let a = c .before .before .before .before .before .before .before .before .args in
     let the-enum-told = c .before .before .before .before .before .enum-told in
-    (then-on (the-after-dispatch .ensures .0) (complete-ends (a .setup) (λ _ u. run conc (afterDispatch (a .x) (a .iso)) u) _ _ _ (the-enum-told .given .1)), the-after-dispatch .ensures .1)
+    (then-on (the-after-dispatch .ensures .0) (complete-ends (a .setup) (λ _ u. run concrete (afterDispatch (a .x) (a .iso)) u) _ _ _ (the-enum-told .given .1)), the-after-dispatch .ensures .1)
 
 pub then-complete-spec : {M : Type 1} → statement M
 then-complete-spec =

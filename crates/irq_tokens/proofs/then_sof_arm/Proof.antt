@@ -1,7 +1,7 @@
 use Rattle.irq_points.specs.StandsLaws.{stops-at, stored-at, then-on}
 use Rattle.irq.specs.Laws.{sof-asks, sof-ends, sof-linked}
-use Rattle.irq.specs.Tails.{afterDispatch}
-use Rattle.model_ops.specs.Conc.{conc}
+use Rattle.irq.specs.Continuations.{afterDispatch}
+use Rattle.model_ops.specs.Concrete.{concrete}
 use Rattle.model.specs.Script.{run}
 use borrow.Author.Needs.{needs}
 use Rattle.irq_tokens.proofs.then_sof_arm.Statement.{statement}
@@ -24,7 +24,7 @@ returns c =
     let the-stand-sof-arm = c .stand-sof-arm in
     let the-n = c .before .before .before .n in
     let a = c .before .before .before .before .before .before .args in
-    (stops-at (the-stand-sof-arm .ensures) (sof-linked _ _ _ (the-n .given .1) ((c .before .before .before .before .before .before .pre))) _ (sof-asks (a .setup) (λ _ u. run conc (afterDispatch (a .x) (a .iso)) u) _ _ _ (a .frame) _ _ (the-n .given .1)), stored-at (the-stand-sof-arm .ensures))
+    (stops-at (the-stand-sof-arm .ensures) (sof-linked _ _ _ (the-n .given .1) ((c .before .before .before .before .before .before .pre))) _ (sof-asks (a .setup) (λ _ u. run concrete (afterDispatch (a .x) (a .iso)) u) _ _ _ (a .frame) _ _ (the-n .given .1)), stored-at (the-stand-sof-arm .ensures))
 
 same-length : tie.Need-same-length
 same-length c = search needs
@@ -34,7 +34,7 @@ returns-2 c =
     let the-after-dispatch = c .before .before .after-dispatch in
     let a = c .before .before .before .before .before .before .before .before .args in
     let the-enum-told = c .before .before .before .before .before .enum-told in
-    (then-on (the-after-dispatch .ensures .0) (sof-ends (a .setup) (λ _ u. run conc (afterDispatch (a .x) (a .iso)) u) _ _ (a .frame) _ (the-enum-told .given .1)), the-after-dispatch .ensures .1)
+    (then-on (the-after-dispatch .ensures .0) (sof-ends (a .setup) (λ _ u. run concrete (afterDispatch (a .x) (a .iso)) u) _ _ (a .frame) _ (the-enum-told .given .1)), the-after-dispatch .ensures .1)
 
 pub then-sof-arm-spec : {M : Type 1} → statement M
 then-sof-arm-spec =

@@ -1,7 +1,7 @@
 use Rattle.irq_points.specs.StandsLaws.{then-on}
 use Rattle.irq.specs.Laws.{toggled-from}
-use Rattle.irq.specs.Tails.{afterDispatch, afterToggled}
-use Rattle.model_ops.specs.Conc.{conc}
+use Rattle.irq.specs.Continuations.{afterDispatch, afterToggled}
+use Rattle.model_ops.specs.Concrete.{concrete}
 use Rattle.model.specs.Script.{run}
 use borrow.Author.Needs.{needs}
 use Rattle.irq_tokens.proofs.toggled_arm.Statement.{statement}
@@ -27,7 +27,7 @@ returns c =
     let a = c .before .before .before .before .before .before .before .before .args in
     let the-begin = c .before .before .before .before .before .begin in
     let the-endpoint = c .before .before .before .before .before .before .endpoint in
-    (then-on (the-then-toggled .ensures .0) (toggled-from (a .setup) (λ _ u. run conc (afterDispatch (a .x) (a .iso)) u) (λ z u. run conc (afterToggled (a .d) (a .x) z) u) (a .d) _ _ (the-begin .result) _ _ (the-endpoint .ensures) (the-begin .ensures .0 _ _)), the-then-toggled .ensures .1)
+    (then-on (the-then-toggled .ensures .0) (toggled-from (a .setup) (λ _ u. run concrete (afterDispatch (a .x) (a .iso)) u) (λ z u. run concrete (afterToggled (a .d) (a .x) z) u) (a .d) _ _ (the-begin .result) _ _ (the-endpoint .ensures) (the-begin .ensures .0 _ _)), the-then-toggled .ensures .1)
 
 pub toggled-arm-spec : {M : Type 1} → statement M
 toggled-arm-spec =

@@ -2,7 +2,7 @@ use mathlib.Core.Path.{refl, ap, sym, _∙_}
 use denote.Ref.{now}
 use Rattle.state.specs.State.{view}
 use Rattle.regs.specs.declared.Dir.the-variants.{In}
-use Rattle.model_ops.specs.Conc.{go}
+use Rattle.model_ops.specs.Concrete.{go}
 use Rattle.iso_in_queue.specs.Queue.{queueing}
 use Rattle.iso_out_open_close.specs.Laws.{passed, refused, passed-number}
 use Prim.Native.Nat.{ℕ}

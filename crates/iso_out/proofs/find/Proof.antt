@@ -5,7 +5,7 @@ use native.Mathlib.Omega.{arith}
 use denote.Ref.{now}
 use Rattle.state.specs.State.{view}
 use Rattle.model.specs.declared.Transfer.{Transfer}
-use Rattle.model_ops.specs.Conc.{go}
+use Rattle.model_ops.specs.Concrete.{go}
 use Rattle.iso_out.specs.Points.{walk}
 use Rattle.iso_out.specs.Laws.{walk-over, walk-at, walk-end, rest-less}
 use borrow.Author.Needs.{needs}

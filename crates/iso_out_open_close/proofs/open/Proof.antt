@@ -3,7 +3,7 @@ use denote.Ref.{now}
 use Rattle.state.specs.State.{view}
 use Rattle.model.specs.Answers.{Answer}
 use Rattle.regs.specs.declared.Dir.the-variants.{Out}
-use Rattle.model_ops.specs.Conc.{go}
+use Rattle.model_ops.specs.Concrete.{go}
 use Rattle.iso_out_open_close.specs.Packets.{opening}
 use Rattle.iso_out_open_close.specs.Laws.{passed, refused, passed-number}
 use Prim.Native.Nat.{ℕ}

@@ -1,6 +1,6 @@
 use Rattle.machine.specs.Rows.{back}
 use Rattle.machine.specs.Goes.{proceeds}
-use Rattle.machine.specs.Under.{decode}
+use Rattle.machine.specs.Suspended.{decode}
 use Rattle.machine.specs.Lent.{as-lent}
 use Rattle.state.specs.State.{view, saved}
 use denote.Ref.{now}

@@ -1,6 +1,6 @@
 use Rattle.irq_resume.specs.Sites.{on-bus-rst, on-check, on-completing, on-fifo, on-flags, on-flip, on-flipped, on-frame-no, on-host, on-late, on-len, on-mis, on-moved-read, on-moved-wrote, on-nak, on-released, on-settle, on-setup-released, on-setup-rx, on-setup-tx, on-sof, on-sof-arm, on-st, on-suspend, on-toggled, on-frame}
-use Rattle.machine.specs.Under.{decode}
-use Rattle.machine.specs.declared.Under.the-variants as under
+use Rattle.machine.specs.Suspended.{decode}
+use Rattle.machine.specs.declared.Suspended.the-variants as under
 use Rattle.irq.specs.declared.Point.the-variants as point
 use Rattle.state.specs.declared.Saved.{Saved}
 use Rattle.state.specs.State.{saved}

@@ -3,7 +3,7 @@ use Rattle.state.specs.State.{view, saved}
 use Rattle.usbhs_c.specs.Setup.{told-by, setup-no-slice}
 use Rattle.machine.specs.Keeps.{kept-told}
 use Rattle.machine.specs.Goes.{Called}
-use Rattle.machine.specs.Under.{decode, lentBy}
+use Rattle.machine.specs.Suspended.{decode, lentBy}
 use denote.Ref.{now}
 use mathlib.Core.Path.{_∙_, ap}
 use borrow.Author.Needs.{needs}

@@ -3,7 +3,7 @@ use Rattle.machine.specs.Rows.{back, named-call}
 use Rattle.model.specs.Calls as calls
 use Rattle.model.specs.Answers.{resultless}
 use Rattle.model.specs.Bus as script
-use Rattle.machine.specs.Under.{decode}
+use Rattle.machine.specs.Suspended.{decode}
 use Rattle.machine.specs.Lent.{as-lent}
 use Rattle.state.specs.State.{view, saved}
 use denote.Ref.{now}

@@ -2,7 +2,7 @@ use Rattle.machine.specs.Keeps.{kept-from}
 use Rattle.machine.specs.Rows.{back, slotted-idle}
 use Rattle.machine.specs.Lent.{at-out, lent-done, lent-busy, lent-misfit}
 use Rattle.model.specs.Calls as calls
-use Rattle.machine.specs.Under.{decode}
+use Rattle.machine.specs.Suspended.{decode}
 use Rattle.state.specs.State.{view, saved}
 use denote.Ref.{now}
 use lib.ListN.{length}

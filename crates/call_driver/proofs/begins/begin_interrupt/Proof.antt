@@ -1,5 +1,5 @@
 use Rattle.machine.specs.Rows.{back, interrupt-call}
-use Rattle.machine.specs.Under.{decode}
+use Rattle.machine.specs.Suspended.{decode}
 use Rattle.state.specs.State.{view, saved}
 use denote.Ref.{now}
 use mathlib.Core.Path.{_∙_, refl}

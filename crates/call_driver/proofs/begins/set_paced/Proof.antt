@@ -2,7 +2,7 @@ use Rattle.machine.specs.Rows.{back, numbered-call}
 use Rattle.endpoint_rows.specs.Rows.{number-lt}
 use Rattle.call_driver.specs.Begins.{pacing, set-paced-begins}
 use Rattle.model.specs.Calls as calls
-use Rattle.machine.specs.Under.{decode}
+use Rattle.machine.specs.Suspended.{decode}
 use Rattle.state.specs.State.{view, saved}
 use denote.Ref.{now}
 use mathlib.Core.Path.{_∙_, sym, refl}

@@ -11,7 +11,7 @@ use Rattle.req_descriptor.specs.Reading.{listOf}
 use Rattle.req_descriptor.specs.Writing.{stored}
 use Rattle.req_descriptor.specs.ReadBack.{accepted, stored-of}
 use Rattle.model.specs.Calls as calls
-use Rattle.machine.specs.Under.{decode}
+use Rattle.machine.specs.Suspended.{decode}
 use Rattle.machine.specs.Rows.{back, other-call}
 use Rattle.call_driver.specs.Listed.{reading-all, all-unread, all-read, passes-idle}
 use borrow.Author.Needs.{needs}

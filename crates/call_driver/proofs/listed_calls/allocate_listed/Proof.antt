@@ -5,7 +5,7 @@ use Rattle.state.specs.declared.Allocator.{Allocator}
 use Rattle.req_descriptor.specs.Writing.{stored}
 use Rattle.req_preview.specs.declared.Trial.{Trial}
 use Rattle.req_preview.specs.Trial.{trialOf}
-use Rattle.machine.specs.Under.{decode}
+use Rattle.machine.specs.Suspended.{decode}
 use Rattle.call_driver.specs.Listed.{all-given, all-refused}
 use borrow.Author.Needs.{needs}
 use Rattle.call_driver.proofs.listed_calls.allocate_listed.Statement.{statement}

@@ -1,5 +1,5 @@
 use Rattle.irq_points.specs.StandsLaws.{stops-at, stored-at, then-on}
-use Rattle.irq.specs.Tails.{afterSetupTx, afterTransfer}
+use Rattle.irq.specs.Continuations.{afterSetupTx, afterTransfer}
 use mathlib.Core.Path.{refl}
 use borrow.Author.Needs.{needs}
 use Rattle.irq_check.proofs.setup.after_transfer.Statement.{statement}

@@ -1,5 +1,5 @@
 use Rattle.irq_points.specs.StandsLaws.{stops-at, stored-at, then-on}
-use Rattle.irq.specs.Tails.{afterBusRst}
+use Rattle.irq.specs.Continuations.{afterBusRst}
 use mathlib.Core.Path.{refl}
 use borrow.Author.Needs.{needs}
 use Rattle.irq_entry.proofs.flags.suspend.Statement.{statement}

@@ -1,4 +1,4 @@
-use Rattle.machine.specs.Under.{encode}
+use Rattle.machine.specs.Suspended.{encode}
 use Rattle.irq_codec.specs.Codec as codec
 use mathlib.Core.Path.{_∙_}
 use borrow.Author.Needs.{needs}

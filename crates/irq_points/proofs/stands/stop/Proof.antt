@@ -1,5 +1,5 @@
 use Rattle.state.specs.Wakes.{listed}
-use Rattle.machine.specs.Under.{decode}
+use Rattle.machine.specs.Suspended.{decode}
 use Rattle.machine.specs.Counted.{front-take}
 use Rattle.irq_points.specs.Stands.{halted}
 use mathlib.Core.Path.{_∙_}

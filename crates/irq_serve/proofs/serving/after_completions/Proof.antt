@@ -1,7 +1,7 @@
 use Rattle.irq_points.specs.StandsLaws.{then-on}
 use Rattle.irq.specs.Laws.{after}
-use Rattle.irq.specs.Tails.{afterLate}
-use Rattle.model_ops.specs.Conc.{conc}
+use Rattle.irq.specs.Continuations.{afterLate}
+use Rattle.model_ops.specs.Concrete.{concrete}
 use Rattle.model.specs.Script.{run}
 use borrow.Author.Needs.{needs}
 use Rattle.irq_serve.proofs.serving.after_completions.Statement.{statement}
@@ -23,7 +23,7 @@ returns c =
     let the-then-late = c .before .before .then-late in
     let a = c .before .before .before .before .before .before .before .before .args in
     let the-resume = c .before .before .before .before .before .resume in
-    (λ v. then-on (the-then-late .ensures .0) (after (a .setup) (λ _ u. run conc (afterLate (a .x) (a .iso) (a .frame)) u) _ _ (the-resume .ensures .0 _)), the-then-late .ensures .1)
+    (λ v. then-on (the-then-late .ensures .0) (after (a .setup) (λ _ u. run concrete (afterLate (a .x) (a .iso) (a .frame)) u) _ _ (the-resume .ensures .0 _)), the-then-late .ensures .1)
 
 pub after-completions-spec : {M : Type 1} → statement M
 after-completions-spec =

@@ -1,7 +1,7 @@
 use Rattle.irq_points.specs.StandsLaws.{then-on}
 use Rattle.irq.specs.Laws.{after}
-use Rattle.irq.specs.Tails.{afterSof}
-use Rattle.model_ops.specs.Conc.{conc}
+use Rattle.irq.specs.Continuations.{afterSof}
+use Rattle.model_ops.specs.Concrete.{concrete}
 use Rattle.model.specs.Script.{run}
 use borrow.Author.Needs.{needs}
 use Rattle.irq_serve.proofs.serving.after_on_sof.Statement.{statement}
@@ -23,7 +23,7 @@ returns c =
     let the-then-sof = c .before .before .then-sof in
     let a = c .before .before .before .before .before .before .before .before .args in
     let the-resume = c .before .before .before .before .before .resume in
-    (then-on (the-then-sof .ensures .0) (after (a .setup) (λ _ u. run conc (afterSof (a .x) (a .iso) (a .frame)) u) _ _ (the-resume .ensures .0 _)), the-then-sof .ensures .1)
+    (then-on (the-then-sof .ensures .0) (after (a .setup) (λ _ u. run concrete (afterSof (a .x) (a .iso) (a .frame)) u) _ _ (the-resume .ensures .0 _)), the-then-sof .ensures .1)
 
 pub after-on-sof-spec : {M : Type 1} → statement M
 after-on-sof-spec =

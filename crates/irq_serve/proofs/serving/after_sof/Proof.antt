@@ -1,8 +1,8 @@
 use Rattle.irq_points.specs.StandsLaws.{then-on}
 use Rattle.irq.specs.Laws.{after, when-no, when-yes}
-use Rattle.irq.specs.Tails.{afterLate, afterSof}
+use Rattle.irq.specs.Continuations.{afterLate, afterSof}
 use Rattle.iso_in.specs.Late.{lateAll}
-use Rattle.model_ops.specs.Conc.{conc}
+use Rattle.model_ops.specs.Concrete.{concrete}
 use Rattle.model.specs.Script.{run}
 use mathlib.Core.Path.{_∙_}
 use borrow.Author.Needs.{needs}
@@ -27,7 +27,7 @@ returns c =
     let a = c .before .before .before .before .before .before .before .before .before .args in
     let the-begin = c .before .before .before .before .before .begin in
     let the-if1 = c .before .before .before .before .before .before .before .if1 in
-    (then-on (the-then-late .ensures .0) (after (a .setup) (λ _ u. run conc (afterLate (a .x) (a .iso) (a .frame)) u) _ _ (the-begin .ensures .0 _) ∙ when-yes (a .setup) (lateAll (a .frame)) (λ _ u. run conc (afterLate (a .x) (a .iso) (a .frame)) u) _ _ (the-if1 .taken)), the-then-late .ensures .1)
+    (then-on (the-then-late .ensures .0) (after (a .setup) (λ _ u. run concrete (afterLate (a .x) (a .iso) (a .frame)) u) _ _ (the-begin .ensures .0 _) ∙ when-yes (a .setup) (lateAll (a .frame)) (λ _ u. run concrete (afterLate (a .x) (a .iso) (a .frame)) u) _ _ (the-if1 .taken)), the-then-late .ensures .1)
 
 after-late-requires : tie.Need-after-late-requires
 after-late-requires c κs = search needs
@@ -41,7 +41,7 @@ returns-2 c =
     let the-after-late = c .before .before .after-late in
     let a = c .before .before .before .before .before .before .before .args in
     let the-if1 = c .before .before .before .before .before .if1 in
-    (then-on (the-after-late .ensures .0) (when-no (a .setup) (lateAll (a .frame)) (λ _ u. run conc (afterLate (a .x) (a .iso) (a .frame)) u) _ _ (the-if1 .left)), the-after-late .ensures .1)
+    (then-on (the-after-late .ensures .0) (when-no (a .setup) (lateAll (a .frame)) (λ _ u. run concrete (afterLate (a .x) (a .iso) (a .frame)) u) _ _ (the-if1 .left)), the-after-late .ensures .1)
 
 pub after-sof-spec : {M : Type 1} → statement M
 after-sof-spec =

@@ -1,4 +1,4 @@
-use Rattle.irq.specs.Tails.{sofDue}
+use Rattle.irq.specs.Continuations.{sofDue}
 use borrow.Author.Needs.{needs}
 use Rattle.irq_serve.proofs.serving.sof_due.Statement.{statement}
 use Rattle.irq_serve.proofs.serving.sof_due.Tie as tie

@@ -1,6 +1,6 @@
 use mathlib.Core.Path.{_∙_}
 use Rattle.state.specs.Wakes.{listed}
-use Rattle.machine.specs.Under.{decode}
+use Rattle.machine.specs.Suspended.{decode}
 use Rattle.machine.specs.Counted.{front-take}
 use borrow.Author.Needs.{needs}
 use Rattle.machine.proofs.halts.ended.Statement.{statement}

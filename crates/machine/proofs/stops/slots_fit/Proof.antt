@@ -1,5 +1,5 @@
 use Rattle.alloc.specs.Buffer.{fits}
-use Rattle.machine.specs.Under.{slotsFit}
+use Rattle.machine.specs.Suspended.{slotsFit}
 use borrow.Author.Needs.{needs}
 use Rattle.machine.proofs.stops.slots_fit.Statement.{statement}
 use Rattle.machine.proofs.stops.slots_fit.Tie as tie

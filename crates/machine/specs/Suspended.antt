@@ -20,7 +20,7 @@ use Rattle.model.specs.Calls.{Config, Op, calls}
 use Rattle.model.specs.Machine as machine
 use Rattle.model.specs.Machine.{Buf, Way, idle, busy, Machine, Ans, ended, handed, told, call, Call, halt, continued}
 use Rattle.model_ops.specs.Rings.{St}
-use Rattle.model_ops.specs.Conc.{conc}
+use Rattle.model_ops.specs.Concrete.{concrete}
 use Rattle.driver.specs.Points as driver
 use Rattle.driver_codec.specs.Codec as codec
 use Rattle.bus.specs.Points as bus
@@ -34,8 +34,8 @@ use Rattle.iso_in.specs.Advance as advance
 use Rattle.iso_in.specs.Codec as advanceCodec
 use Rattle.irq.specs.Points as handler
 use Rattle.irq_codec.specs.Codec as handlerCodec
-use Rattle.machine.specs.declared.Under.{Under}
-use Rattle.machine.specs.declared.Under.the-variants as under
+use Rattle.machine.specs.declared.Suspended.{Suspended}
+use Rattle.machine.specs.declared.Suspended.the-variants as under
 use Rattle.machine.specs.declared.Step.{Step}
 use Rattle.machine.specs.declared.Step.the-variants as step
 use Rattle.machine.specs.Questions.{questionOf}
@@ -61,7 +61,7 @@ withTag t c = record {
   value = c .value;
 }
 
-unfoldable pub encode : Under → Saved
+unfoldable pub encode : Suspended → Saved
 encode under.Idle = fresh.nothing
 encode (under.Driver p) = withTag 1 (codec.encode p)
 encode (under.Bus p) = withTag 2 (busCodec.encode p)
@@ -70,7 +70,7 @@ encode (under.Endpoint p) = withTag 4 (endpointCodec.encode p)
 encode (under.Advance p) = withTag 5 (advanceCodec.encode p)
 encode (under.Interrupt p) = withTag 6 (handlerCodec.encode p)
 
-unfoldable pub decode : Saved → Under
+unfoldable pub decode : Saved → Suspended
 decode c =
     cond (eqb (c .tag) 1) (under.Driver (codec.decode c))
     (cond (eqb (c .tag) 2) (under.Bus (busCodec.decode c))
@@ -80,7 +80,7 @@ decode c =
     (cond (eqb (c .tag) 6) (under.Interrupt (handlerCodec.decode c))
     under.Idle)))))
 
-pub decode-encode : (u : Under) → decode (encode u) ≡ u
+pub decode-encode : (u : Suspended) → decode (encode u) ≡ u
 unfolding encode decode codec.decode busCodec.decode controlCodec.decode endpointCodec.decode advanceCodec.decode handlerCodec.decode
 decode-encode under.Idle = refl
 decode-encode (under.Driver p) = ap under.Driver (codec.decode-encode p)
@@ -97,25 +97,25 @@ finish n = do
   w ← fetch gathered
   ret (End n w)
 
-abbrev pub wayOf : Under → Way Answer Driver
+abbrev pub wayOf : Suspended → Way Answer Driver
 wayOf under.Idle = idle
-wayOf (under.Driver p) = busy false (driver.awaitsAt p) (λ v t. run conc (driver.denote p v >>= finish) t)
-wayOf (under.Bus p) = busy false (bus.awaitsAt p) (λ v t. bindOut (bus.denote p v t) (λ n u. run conc (finish n) u))
-wayOf (under.Control p) = busy false (control.awaitsAt p) (λ v t. run conc (control.denote p v >>= finish) t)
-wayOf (under.Endpoint p) = busy false (endpoint.awaitsAt p) (λ v t. run conc (endpoint.denote p v >>= finish) t)
-wayOf (under.Advance p) = busy false (advance.awaitsAt p) (λ v t. bindOut (advance.denote p v t) (λ n u. run conc (finish n) u))
-wayOf (under.Interrupt p) = busy true (handler.awaitsAt p) (λ v t. bindOut (handler.denote p v t) (λ n u. run conc (finish n) u))
+wayOf (under.Driver p) = busy false (driver.awaitsAt p) (λ v t. run concrete (driver.denote p v >>= finish) t)
+wayOf (under.Bus p) = busy false (bus.awaitsAt p) (λ v t. bindOut (bus.denote p v t) (λ n u. run concrete (finish n) u))
+wayOf (under.Control p) = busy false (control.awaitsAt p) (λ v t. run concrete (control.denote p v >>= finish) t)
+wayOf (under.Endpoint p) = busy false (endpoint.awaitsAt p) (λ v t. run concrete (endpoint.denote p v >>= finish) t)
+wayOf (under.Advance p) = busy false (advance.awaitsAt p) (λ v t. bindOut (advance.denote p v t) (λ n u. run concrete (finish n) u))
+wayOf (under.Interrupt p) = busy true (handler.awaitsAt p) (λ v t. bindOut (handler.denote p v t) (λ n u. run concrete (finish n) u))
 
-abbrev pub machineAt : Under → Driver → Buf → Machine Answer Driver
+abbrev pub machineAt : Suspended → Driver → Buf → Machine Answer Driver
 machineAt u d b = record { way = wayOf u; st = d; buf = b }
 
 -- the lent state's bytes and the slot buffer, as a machine of calls
 abbrev pub machineOf : List ℕ → Buf → Machine Answer Driver
 machineOf xs b = machineAt (decode (saved xs)) (view xs) b
 
-abbrev pub driverOf : machine.Driver Config Driver
+abbrev pub driverOf : machine.Instance Config Driver
 driverOf = record {
-  ops = conc;
+  ops = concrete;
   fresh = λ c. fresh.freshDriver (c .size) (c .count) (flag (c .callback));
   size = λ d. d .allocator .count * d .allocator .size;
   question = questionOf;
@@ -137,11 +137,11 @@ abbrev pub halts : Out St Answer → Ans Answer × Machine Answer Driver
 halts o = haltsAs false o
 
 -- what a continue comes to, with the number brought
-abbrev pub goneOn : ℕ → Under → Driver → Buf → Ans Answer × Machine Answer Driver
-goneOn v u d b = continued calls driverOf (λ s. s) v (machineAt u d b) (wayOf u) b
+abbrev pub resumed : ℕ → Suspended → Driver → Buf → Ans Answer × Machine Answer Driver
+resumed v u d b = continued calls driverOf (λ s. s) v (machineAt u d b) (wayOf u) b
 
 -- the access is handed out, and the operation under way
-abbrev pub handedOut : Access → Under → Driver → Buf → Ans Answer × Machine Answer Driver
+abbrev pub handedOut : Access → Suspended → Driver → Buf → Ans Answer × Machine Answer Driver
 handedOut q u d b = (handed q, machineAt u d b)
 
 -- with the bytes that the call was lent: those of a poll's slice that it filled, or the slots in which a packet is shown; and with the state that it
@@ -174,8 +174,8 @@ abbrev pub lentOr : Driver → Buf → Buf → Buf → Buf
 lentOr d b after old = cond (slotsFit d b) after old
 
 -- row 1: a slot buffer of a wrong length comes back as it was
-abbrev pub AsLent : Driver → Buf → Buf → Type 0
-AsLent d b after = slotsFit d b ≡ false → after ≡ b
+abbrev pub BufferUnchangedOnRow1 : Driver → Buf → Buf → Type 0
+BufferUnchangedOnRow1 d b after = slotsFit d b ≡ false → after ≡ b
 
 -- the 22 saved bytes are canonical: the encoding of what is under way, all zero where nothing is
 abbrev pub Canonical : List ℕ → Type 0
@@ -183,19 +183,19 @@ Canonical xs = saved xs ≡ encode (decode (saved xs))
 
 -- the 22 saved bytes after a call that begins an operation, goes on with one or polls, by its answer: where it hands
 -- out an access they are canonical, where an operation has ended all are zero; after all else, a refusal, they stay
-abbrev pub Kept : Step → List ℕ → List ℕ → Type 0
-Kept (step.Refused n) xs ys = saved ys ≡ saved xs
-Kept (step.Asks q) xs ys = Canonical ys
-Kept (step.Ends n k) xs ys = saved ys ≡ fresh.nothing
-Kept step.NotYet xs ys = saved ys ≡ saved xs
-Kept (step.Done n) xs ys = saved ys ≡ saved xs
-Kept (step.Setup low high) xs ys = saved ys ≡ saved xs
-Kept (step.Shown at n stamp) xs ys = saved ys ≡ saved xs
+abbrev pub SavedUnchangedOnRefusal : Step → List ℕ → List ℕ → Type 0
+SavedUnchangedOnRefusal (step.Refused n) xs ys = saved ys ≡ saved xs
+SavedUnchangedOnRefusal (step.Asks q) xs ys = Canonical ys
+SavedUnchangedOnRefusal (step.Ends n k) xs ys = saved ys ≡ fresh.nothing
+SavedUnchangedOnRefusal step.NotYet xs ys = saved ys ≡ saved xs
+SavedUnchangedOnRefusal (step.Done n) xs ys = saved ys ≡ saved xs
+SavedUnchangedOnRefusal (step.Setup low high) xs ys = saved ys ≡ saved xs
+SavedUnchangedOnRefusal (step.Shown at n stamp) xs ys = saved ys ≡ saved xs
 
 -- of an access handed out or an end: whatever was saved before
 abbrev pub Stored : Step → List ℕ → Type 0
-Stored r ys = (xs : List ℕ) → Kept r xs ys
+Stored r ys = (xs : List ℕ) → SavedUnchangedOnRefusal r xs ys
 
 -- of an answer that comes with what was saved before
 abbrev pub Leaves : Step → Type 0
-Leaves r = (xs ys : List ℕ) → saved ys ≡ saved xs → Kept r xs ys
+Leaves r = (xs ys : List ℕ) → saved ys ≡ saved xs → SavedUnchangedOnRefusal r xs ys

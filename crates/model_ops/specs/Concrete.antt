@@ -9,7 +9,7 @@ use Rattle.state.specs.Wakes.{none-woken, listed, all-woken}
 use Rattle.marks.specs.Copies.{bytesAt}
 use Rattle.model.specs.Tree as tree
 use Rattle.model.specs.Cells.{Cell, Val, globals-cell, control-cell, allocator-cell, ep-cell, request-cell, paced-cell}
-use Rattle.model.specs.Script.{Script, Ops, run, Test, changed, waiting, room, opened, Look, marked, next-len, next-stamp, setup-word, Fetch, oldest, received, received0, gathered, Act, complete, reset-ring, set-enabled, fill, fill0, open-oldest, close-oldest, take-oldest, enqueue, allocate, allocate0, no-wakes, waken, Hand, arrive, send, place, place0}
+use Rattle.model.specs.Script.{Script, Ops, run, Test, changed, waiting, room, opened, Look, marked, next-len, next-stamp, setup-word, Fetch, oldest, received, received0, gathered, Act, complete, reset-ring, set-enabled, fill, fill0, open-oldest, close-oldest, take-oldest, enqueue, allocate, allocate0, no-wakes, waken, DmaStep, arrive, send, place, place0}
 use Rattle.model_ops.specs.Records.{plainOf, merged, mergedGlobals, enabledOn, allocatedOn, allocatedEp0}
 use Rattle.model_ops.specs.Rings.{St, changedOn, markedOn, waitingOn, roomOn, openedOn, nextLen, nextStamp, oldestOn, wordAt, completeOn, emptiedOn, openOn, closeOn, takeOn, enqueueOn, filledOn, filledEp0, arriveOn, sendOn, sendAddr, placeOn, rowOn}
 
@@ -63,15 +63,15 @@ actOn (allocate0 maximum) s = (allocatedEp0 (s .0) maximum, s .1)
 actOn no-wakes s = (withWakes (s .0) none-woken, s .1)
 actOn (waken codes) s = (withWakes (s .0) (all-woken codes (s .0 .wakes)), s .1)
 
-abbrev pub handOn : Hand → St → ℕ × St
+abbrev pub handOn : DmaStep → St → ℕ × St
 handOn (arrive e n) s = arriveOn e n s
 handOn (send e) s = (sendAddr (s .0) e, (sendOn (s .0) e, s .1))
 handOn (place d e) s = (placeOn d e (s .0) .0, (placeOn d e (s .0) .1, s .1))
 handOn place0 s = (s .0 .globals .«ep0_buf», s)
 
-abbrev pub conc : Ops St
-conc = record { get = getOn; put = putOn; is = isOf; look = lookOf; fetch = fetchOf; act = actOn; hand = handOn; row = rowOn }
+abbrev pub concrete : Ops St
+concrete = record { get = getOn; put = putOn; is = isOf; look = lookOf; fetch = fetchOf; act = actOn; hand = handOn; row = rowOn }
 
 -- a script's run from a driver and a buffer
 abbrev pub go : {i : Bool} {A : Type 0} → Script i A → Driver → List ℕ → tree.Out St A
-go p d b = run conc p (d, b)
+go p d b = run concrete p (d, b)

@@ -15,13 +15,13 @@ use Rattle.model.specs.Answers.{Answer, Refused, End}
 use Rattle.model.specs.Calls.{Config, Op, interrupt, slotted, other, aside, slots, calls}
 use Rattle.model.specs.Machine.{Buf, Question, pending, overruns, enabled, Call, start, begin, go, question, Event, Ans, ended, handed, told, Way, idle, busy, Machine, over, misfit, lentTo}
 use Rattle.model_ops.specs.Rings.{St}
-use Rattle.machine.specs.Under.{driverOf, drive}
+use Rattle.machine.specs.Suspended.{driverOf, drive}
 use Rattle.machine.specs.Goes.{Called}
 use Rattle.machine.specs.Questions.{questionOf}
-use Rattle.proof_book.specs.Rest.{endOf, lensOf, slotStamps}
+use Rattle.proof_book.specs.Coupling.{endOf, lensOf, slotStamps}
 use Rattle.proof_book.specs.Stamps.{stamped}
 use Rattle.call_bus_time.specs.Sharing.{sortOf, timeAfter, turnedDown}
-use Rattle.proof_isolation.specs.But.{others, Channel}
+use Rattle.proof_isolation.specs.EqualExcept.{others, Channel}
 use Rattle.proof_isolation.specs.Whose.{own}
 use Rattle.proof_isolation.specs.Apart.{Brings}
 use Rattle.proof_isolation.specs.Operations.{Common, OfChannel}

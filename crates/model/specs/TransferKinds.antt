@@ -9,20 +9,20 @@ use Rattle.regs.specs.declared.Dir.the-variants.{Out, In}
 use Rattle.model.specs.Tree as tree
 use Rattle.model.specs.Tree.{ends, asks}
 use Rattle.model.specs.Cells.{Cell, Val, globals-cell, control-cell, allocator-cell, ep-cell, request-cell, paced-cell}
-use Rattle.model.specs.Script.{Ops, Act, complete, reset-ring, set-enabled, fill, fill0, open-oldest, close-oldest, take-oldest, enqueue, allocate, allocate0, no-wakes, waken, Hand}
+use Rattle.model.specs.Script.{Ops, Act, complete, reset-ring, set-enabled, fill, fill0, open-oldest, close-oldest, take-oldest, enqueue, allocate, allocate0, no-wakes, waken, DmaStep}
 use Rattle.model.specs.Statics.{isOn}
 use Rattle.model.specs.Readings.{Continues}
 
 -- is it isochronous?
-abbrev pub Sorts : Type 0
-Sorts = Dir → ℕ → Bool
+abbrev pub TransferKinds : Type 0
+TransferKinds = Dir → ℕ → Bool
 
 -- every endpoint of a mask is
 abbrev pub Among : (ℕ → Bool) → ℕ → Type 0
 Among f m = (e : ℕ) → e < 16 → isSet m e ≡ true → f e ≡ true
 
 -- what a cell says of the sorts: a record's flag is the endpoint's sort, the two sets have isochronous endpoints only
-abbrev pub Shows : Sorts → (c : Cell) → Val c → Type 0
+abbrev pub Shows : TransferKinds → (c : Cell) → Val c → Type 0
 Shows iso globals-cell g = Among (iso Out) (g .«iso_out_eps») × Among (iso In) (g .«iso_in_every»)
 Shows iso control-cell c = Unit {0}
 Shows iso allocator-cell a = Unit {0}
@@ -46,12 +46,12 @@ allocates no-wakes = false
 allocates (waken codes) = false
 
 -- the states K have the sorts `iso`, EP0 is not isochronous, and no operation but an allocation leaves K
-pub record Sorted {S : Type 0} (O : Ops S) (iso : Sorts) (K : S → Type 0) : Type 0 where
+pub record Sorted {S : Type 0} (O : Ops S) (iso : TransferKinds) (K : S → Type 0) : Type 0 where
   pub ep0 : (d : Dir) → iso d 0 ≡ false
   pub shows : (c : Cell) (s : S) → K s → Shows iso c (O .get c s)
   pub put : (c : Cell) (v : Val c) (s : S) → K s → K (O .put c v s)
   pub act : (q : Act) → allocates q ≡ false → (s : S) → K s → K (O .act q s)
-  pub hand : (q : Hand) (s : S) → K s → K (O .hand q s .1)
+  pub hand : (q : DmaStep) (s : S) → K s → K (O .hand q s .1)
 
 -- a path on which R holds of the state at each access and the state as it is in the next call
 unfoldable pub Along : {S A : Type 0} → (S → S → Type 0) → tree.Out S A → Continues S → Type 0

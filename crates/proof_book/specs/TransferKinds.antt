@@ -17,16 +17,16 @@ use Rattle.state.specs.Ep.{resetOf}
 use Rattle.state.specs.Fresh.{clearStamps, noStamps}
 use Rattle.state.specs.Driver.{Driver, key, noEp, epOn, withOn, withLenOn, withStampOn, withPacedOn, withRequestOn}
 use Rattle.ring.specs.Slot.{slotAddr, joinedOf, passedOf, hasWaiting}
-use Rattle.ring.specs.Out.{hasRoomOut, cappedAt, turnedAwayOf, arrivedOf, armedAt, openedOf, closedOf}
+use Rattle.ring.specs.Out.{hasRoomOut, cappedAt, overrunOf, arrivedOf, armedAt, openedOf, closedOf}
 use Rattle.ring.specs.In.{completedOf, loadedOf, unloadedOf}
 use Rattle.marks.specs.Copies.{copied}
 use Rattle.model.specs.Cells.{Cell, Val, globals-cell, control-cell, allocator-cell, ep-cell, request-cell, paced-cell}
-use Rattle.model.specs.Script.{Act, complete, reset-ring, set-enabled, fill, fill0, open-oldest, close-oldest, take-oldest, enqueue, allocate, allocate0, no-wakes, waken, Hand, arrive, send, place, place0, Row, switch, bus-reset}
+use Rattle.model.specs.Script.{Act, complete, reset-ring, set-enabled, fill, fill0, open-oldest, close-oldest, take-oldest, enqueue, allocate, allocate0, no-wakes, waken, DmaStep, arrive, send, place, place0, Burst, switch, bus-reset}
 use Rattle.model.specs.Statics.{isOn, isoOuts}
-use Rattle.model.specs.Sorts.{Sorts, Among, Shows, allocates, Sorted}
+use Rattle.model.specs.TransferKinds.{TransferKinds, Among, Shows, allocates, Sorted}
 use Rattle.model_ops.specs.Records.{isoOut, configured, enabledOn}
 use Rattle.model_ops.specs.Rings.{St, completeOn, emptied, emptiedOn, openOn, closeOn, takeOn, roomOn, queuedOn, enqueueOn, recordedOn, admittedOn, arrivedAt, arriveOn, sendOn, placeOn, renewedOn, armAt, slotStep, typeStep, configStep, switchStep, resetBelow, resetAll, resetStep}
-use Rattle.model_ops.specs.Conc.{conc}
+use Rattle.model_ops.specs.Concrete.{concrete}
 
 -- ---- what leaves the flags and the sets
 
@@ -85,16 +85,16 @@ completed-flag r = by (eqb (r .loaded) 0)
     by false = refl
 
 arrived-flag : (r : EpState) → arrivedOf r .iso ≡ r .iso
-unfolding arrivedOf joinedOf turnedAwayOf
+unfolding arrivedOf joinedOf overrunOf
 arrived-flag r = by (hasRoomOut r)
   where
-    by : (b : Bool) → cond b (joinedOf r) (turnedAwayOf r) .iso ≡ r .iso
+    by : (b : Bool) → cond b (joinedOf r) (overrunOf r) .iso ≡ r .iso
     by true = refl
     by false = refl
 
 -- ---- each operation
 
-pub put-steady : (c : Cell) (v : Val c) (s : St) → Steady (s .0) (conc .put c v s .0)
+pub put-steady : (c : Cell) (v : Val c) (s : St) → Steady (s .0) (concrete .put c v s .0)
 unfolding withRequestOn withPacedOn
 put-steady globals-cell v s = others (s .0) _ refl refl refl refl
 put-steady control-cell v s = others (s .0) _ refl refl refl refl
@@ -107,7 +107,7 @@ queued-steady : (d : Driver) (e n : ℕ) → Steady d (queuedOn d e n)
 unfolding queuedOn withLenOn joinedOf epOn
 queued-steady d e n = then (others d (withLenOn d In e _ n) refl refl refl refl) (record-steady (withLenOn d In e _ n) In e (joinedOf (epOn d In e)) refl)
 
-pub act-steady : (q : Act) → allocates q ≡ false → (s : St) → Steady (s .0) (conc .act q s .0)
+pub act-steady : (q : Act) → allocates q ≡ false → (s : St) → Steady (s .0) (concrete .act q s .0)
 unfolding completeOn emptiedOn emptied enabledOn configured openOn openedOf closeOn takeOn closedOf passedOf enqueueOn
 act-steady (complete e) h s = record-steady (s .0) In e _ (completed-flag (epOn (s .0) In e))
 act-steady (reset-ring d e) h s = either (isoOut (s .0) d e) (steady (s .0)) (record-steady (s .0) d e _ refl)
@@ -139,7 +139,7 @@ admitted-steady : (d : Driver) (e len : ℕ) → Steady d (admittedOn d e len)
 unfolding admittedOn
 admitted-steady d e len = let p = recorded-steady d e len in then p (record-steady (recordedOn d e len) Out e _ (arrived-flag (epOn d Out e) ∙ sym (p .flags Out e)))
 
-pub hand-steady : (q : Hand) (s : St) → Steady (s .0) (conc .hand q s .1 .0)
+pub hand-steady : (q : DmaStep) (s : St) → Steady (s .0) (concrete .hand q s .1 .0)
 unfolding arriveOn sendOn loadedOf placeOn
 hand-steady (arrive e n) s = by (isSet (isoOuts (s .0 .globals)) (e % 16))
   where
@@ -194,22 +194,22 @@ reset-steady (suc zero) s = steady (s .0)
 reset-steady (suc (suc zero)) s = others (s .0) _ refl refl refl refl
 reset-steady (suc (suc (suc k))) s = others (s .0) _ refl refl refl refl
 
-pub row-steady : (g : Row) (n : ℕ) (s : St) → Steady (s .0) (conc .row g n s .1 .0)
+pub row-steady : (g : Burst) (n : ℕ) (s : St) → Steady (s .0) (concrete .row g n s .1 .0)
 row-steady (switch e on) n s = switch-steady e on n s
 row-steady bus-reset n s = reset-steady n s
 
 -- ---- the instance
 
 -- a state with these sorts: the flags say them, and the sets have isochronous endpoints only
-pub record Has (iso : Sorts) (d : Driver) : Type 0 where
+pub record Has (iso : TransferKinds) (d : Driver) : Type 0 where
   pub flags : (dir : Dir) (e : ℕ) → isOn (epOn d dir e .iso) ≡ iso dir e
   pub outs : Among (iso Out) (d .globals .«iso_out_eps»)
   pub every : Among (iso In) (d .globals .«iso_in_every»)
 
-has-steady : {iso : Sorts} {d d′ : Driver} → Steady d d′ → Has iso d → Has iso d′
+has-steady : {iso : TransferKinds} {d d′ : Driver} → Steady d d′ → Has iso d → Has iso d′
 has-steady p k = record { flags = λ dir e. ap isOn (p .flags dir e) ∙ k .flags dir e; outs = rw (p .outs) (k .outs); every = rw (p .every) (k .every) }
 
-has-shows : {iso : Sorts} (c : Cell) (s : St) → Has iso (s .0) → Shows iso c (conc .get c s)
+has-shows : {iso : TransferKinds} (c : Cell) (s : St) → Has iso (s .0) → Shows iso c (concrete .get c s)
 has-shows globals-cell s k = (k .outs, k .every)
 has-shows control-cell s k = tt
 has-shows allocator-cell s k = tt
@@ -218,7 +218,7 @@ has-shows (request-cell d e) s k = tt
 has-shows (paced-cell e) s k = tt
 
 -- the driver's own operations leave the sorts of any state in which EP0 is not isochronous
-pub sorted : (iso : Sorts) → ((dir : Dir) → iso dir 0 ≡ false) → Sorted conc iso (λ s. Has iso (s .0))
+pub sorted : (iso : TransferKinds) → ((dir : Dir) → iso dir 0 ≡ false) → Sorted concrete iso (λ s. Has iso (s .0))
 sorted iso ep0 = record {
   ep0 = ep0;
   shows = has-shows;

@@ -13,16 +13,16 @@ use Rattle.state.specs.Wakes.{Wakes, wakeCode, listed}
 use Rattle.state.specs.WakesLaws.{Room}
 use Rattle.state.specs.Driver.{Driver, key, epOn, requestOn}
 use Rattle.marks.specs.Only.{Only}
-use Rattle.model.specs.Alike.{Phase}
-use Rattle.model.specs.Sorts.{Sorts}
+use Rattle.model.specs.Simulates.{Phase}
+use Rattle.model.specs.TransferKinds.{TransferKinds}
 use Rattle.model.specs.Statics.{withReady}
 use Rattle.model.specs.Control.{DATA-OUT}
 use Rattle.ring.specs.Waiting.{SamePlace}
 use Rattle.model_ops.specs.Records.{plainOf}
 use Rattle.model_ops.specs.Rings.{St}
 use Rattle.proof_book.specs.Pages.{Pages}
-use Rattle.proof_book.specs.Rest.{endOf, lensOf, slotStamps, Rest}
-use Rattle.proof_book.specs.Sorts.{Has}
+use Rattle.proof_book.specs.Coupling.{endOf, lensOf, slotStamps, Coupling}
+use Rattle.proof_book.specs.TransferKinds.{Has}
 
 -- a list without one code
 abbrev pub without : ℕ → List ℕ → List ℕ
@@ -64,8 +64,8 @@ pub record ButBy (W : Wakes → Wakes → Type 0) (x : ℕ) (d d′ : Driver) : 
   pub own : Stays (epOn d Out x) (epOn d′ Out x)
 
 -- of two runs: the others' wake-ups are the same
-abbrev pub But : ℕ → Driver → Driver → Type 0
-But x d d′ = ButBy (OtherWakes x) x d d′
+abbrev pub EqualExcept : ℕ → Driver → Driver → Type 0
+EqualExcept x d d′ = ButBy (OtherWakes x) x d d′
 
 -- of one run, before and after: no wake-up
 abbrev pub Beside : ℕ → Driver → Driver → Type 0
@@ -76,9 +76,9 @@ abbrev pub Bounded : Driver → Type 0
 Bounded d = d .control .sort ≡ DATA-OUT → (d .globals .stage ≡ 2) × (d .control .length ≤ d .globals .«ep0_max»)
 
 -- a state of a run under demand 3's premise, after EP0's start, whose endpoints have these sorts
-pub record Lawful (iso : Sorts) (φ : Phase) (s : St) : Type 0 where
+pub record Lawful (iso : TransferKinds) (φ : Phase) (s : St) : Type 0 where
   pub pages : Pages
-  pub rest : Rest φ (s .1) (s .0) pages
+  pub rest : Coupling φ (s .1) (s .0) pages
   pub has : Has iso (s .0)
   pub stage : s .0 .globals .stage ≡ 2
   pub bounded : Bounded (s .0)
@@ -87,16 +87,16 @@ pub record Lawful (iso : Sorts) (φ : Phase) (s : St) : Type 0 where
 pub record Channel : Type 0 where
   pub number : ℕ
   pub below : number < 16
-  pub iso : Sorts
+  pub iso : TransferKinds
   pub receives : iso Out number ≡ true
   pub ep0 : (dir : Dir) → iso dir 0 ≡ false
 
 -- two such states, with their slot buffers, that are the same but for its data: "every other endpoint has the same queue, stamps, bytes,
 -- overruns and wake-ups"
-pub record Like (c : Channel) (φ : Phase) (s t : St) : Type 0 where
+pub record LowEquiv (c : Channel) (φ : Phase) (s t : St) : Type 0 where
   pub left : Lawful (c .iso) φ s
   pub right : Lawful (c .iso) φ t
-  pub but : But (c .number) (s .0) (t .0)
+  pub but : EqualExcept (c .number) (s .0) (t .0)
   pub bytes : Only (epOn (s .0) Out (c .number) .base) (endOf (epOn (s .0) Out (c .number))) (s .1) (t .1)
 
 -- one state before and after what is done to its data alone, between two accesses or operations: stores in its slots, its opens and closes, polls of its

@@ -23,7 +23,7 @@ use Rattle.model.specs.IsoOut.{isoOutCheck}
 use Rattle.model.specs.Handler.{nakNonIso, settle, isoFor, received, sent, dispatch, ep0MovedOn, framed, onTransfer, onSetup, onInterrupt}
 use Rattle.iso_in.specs.Late.{lateAll}
 use Rattle.model_ops.specs.Rings.{St}
-use Rattle.model_ops.specs.Conc.{conc}
+use Rattle.model_ops.specs.Concrete.{concrete}
 
 -- an operation without a result answers 0
 abbrev pub resultless : Script true Unit → Script true ℕ
@@ -61,7 +61,7 @@ afterTransfer setup = when setup onSetup
 
 -- the rest after the transfer's outcome
 abbrev pub finish : Bool → tree.Out St Unit → tree.Out St ℕ
-finish setup o = bindOut (bindOut o (λ _ u. run conc (afterTransfer setup) u)) (λ _ u. ends 0 u)
+finish setup o = bindOut (bindOut o (λ _ u. run concrete (afterTransfer setup) u)) (λ _ u. ends 0 u)
 
 -- ---- 792-800: the check of isochronous OUTs, EP0's hidden stage
 
@@ -85,7 +85,7 @@ afterDispatch x iso = do
 
 -- an arm's outcome, and the rest
 abbrev pub thenCheck : Bool → Transfer → Bool → tree.Out St Unit → tree.Out St ℕ
-thenCheck setup x iso o = finish setup (bindOut o (λ _ u. run conc (afterDispatch x iso) u))
+thenCheck setup x iso o = finish setup (bindOut o (λ _ u. run concrete (afterDispatch x iso) u))
 
 -- ---- 748-790: the arms
 

@@ -23,8 +23,8 @@ use Rattle.alloc.specs.Sound.{Sound}
 use Rattle.ring.specs.Slot.{slotAddr, countOf}
 use Rattle.ring.specs.Waiting.{waiting, Same, Placed, Ring, Sends, Shows}
 use Rattle.marks.specs.Copies.{bytesAt}
-use Rattle.model.specs.Script.{Row, switch, bus-reset, lastOf}
-use Rattle.model.specs.Alike.{Phase, quiet, mid}
+use Rattle.model.specs.Script.{Burst, switch, bus-reset, lastOf}
+use Rattle.model.specs.Simulates.{Phase, quiet, mid}
 use Rattle.model.specs.Statics.{isOn, flag, isoOuts}
 use Rattle.model.specs.Machine.{Buf}
 use Rattle.model_ops.specs.Records.{plainOf}
@@ -152,7 +152,7 @@ Step (mid g n) = n ≤ lastOf g
 
 -- ---- the relation
 
-pub record Rest (φ : Phase) (b : Buf) (d : Driver) (t : Pages) : Type 0 where
+pub record Coupling (φ : Phase) (b : Buf) (d : Driver) (t : Pages) : Type 0 where
   pub step : Step φ
   pub sized : Sized d
   pub sound : Sound (d .allocator)

@@ -8,12 +8,12 @@ use Rattle.regs.specs.declared.Access.the-variants.{Read, Write, Receive, Trans
 use Rattle.model.specs.Tree as tree
 use Rattle.model.specs.Tree.{ends, asks, Prog, bindOut}
 use Rattle.model.specs.Cells.{Cell, Val}
-use Rattle.model.specs.Script.{Script, Ops, run, rows, Test, Look, Fetch, Act, Hand, handAsk, Row, lastOf, rowAsk, ret, bind, test, read-then, write-then, wait-then, callback-then, get-then, put-then, is-then, look-then, fetch-then, act-then, hand-then, row-then}
+use Rattle.model.specs.Script.{Script, Ops, run, rows, Test, Look, Fetch, Act, DmaStep, dmaStepAsk, Burst, lastOf, burstAsk, ret, bind, test, read-then, write-then, wait-then, callback-then, get-then, put-then, is-then, look-then, fetch-then, act-then, hand-then, row-then}
 
 -- at rest, or in a row after its step of that number
 pub data Phase : Type 0 where
   quiet : Phase
-  mid : Row → ℕ → Phase
+  mid : Burst → ℕ → Phase
 
 -- no row occurs in an interrupt
 abbrev pub Fits : Bool → Phase → Type 0
@@ -42,10 +42,10 @@ pub record Rels {S T : Type 0} (O : Ops S) (P : Ops T) : Type 1 where
   pub looks : (q : Look) {s : S} {t : T} → R quiet s t → O .look q s ≡ P .look q t
   pub fetches : (q : Fetch) {s : S} {t : T} → R quiet s t → O .fetch q s ≡ P .fetch q t
   pub acts : (q : Act) {s : S} {t : T} → R quiet s t → R quiet (O .act q s) (P .act q t)
-  pub hands : (q : Hand) {s : S} {t : T} → R quiet s t → At quiet (handAsk q (O .hand q s .0)) (handAsk q (P .hand q t .0)) (O .hand q s .1) (P .hand q t .1)
-  pub first : (g : Row) {s : S} {t : T} → R quiet s t → At (mid g (lastOf g)) (rowAsk g (lastOf g) (O .row g (lastOf g) s .0)) (rowAsk g (lastOf g) (P .row g (lastOf g) t .0)) (O .row g (lastOf g) s .1) (P .row g (lastOf g) t .1)
-  pub next : (g : Row) (n : ℕ) {s : S} {t : T} → R (mid g (suc n)) s t → At (mid g n) (rowAsk g n (O .row g n s .0)) (rowAsk g n (P .row g n t .0)) (O .row g n s .1) (P .row g n t .1)
-  pub over : (g : Row) {s : S} {t : T} → R (mid g zero) s t → R quiet s t
+  pub hands : (q : DmaStep) {s : S} {t : T} → R quiet s t → At quiet (dmaStepAsk q (O .hand q s .0)) (dmaStepAsk q (P .hand q t .0)) (O .hand q s .1) (P .hand q t .1)
+  pub first : (g : Burst) {s : S} {t : T} → R quiet s t → At (mid g (lastOf g)) (burstAsk g (lastOf g) (O .row g (lastOf g) s .0)) (burstAsk g (lastOf g) (P .row g (lastOf g) t .0)) (O .row g (lastOf g) s .1) (P .row g (lastOf g) t .1)
+  pub next : (g : Burst) (n : ℕ) {s : S} {t : T} → R (mid g (suc n)) s t → At (mid g n) (burstAsk g n (O .row g n s .0)) (burstAsk g n (P .row g n t .0)) (O .row g n s .1) (P .row g n t .1)
+  pub over : (g : Burst) {s : S} {t : T} → R (mid g zero) s t → R quiet s t
 
 module _ {S T : Type 0} {O : Ops S} {P : Ops T} (E : Rels O P) where
   -- two outcomes: the same end with related states, or accesses that agree, after which they go on alike whatever is brought and
@@ -62,12 +62,12 @@ module _ {S T : Type 0} {O : Ops S} {P : Ops T} (E : Rels O P) where
   fits true = tt
   fits false = tt
 
-  rows-next : {A : Type 0} (g : Row) (n : ℕ) {k : S → tree.Out S A} {k′ : T → tree.Out T A} → ((s : S) (t : T) → E .R quiet s t → Sim false (k s) (k′ t)) → (s : S) (t : T) → E .R (mid g (suc n)) s t → Sim false (rows O g n k s) (rows P g n k′ t)
+  rows-next : {A : Type 0} (g : Burst) (n : ℕ) {k : S → tree.Out S A} {k′ : T → tree.Out T A} → ((s : S) (t : T) → E .R quiet s t → Sim false (k s) (k′ t)) → (s : S) (t : T) → E .R (mid g (suc n)) s t → Sim false (rows O g n k s) (rows P g n k′ t)
   rows-next g zero h s t r = ask (mid g zero) tt (E .next g zero r) (λ v s t r. h s t (E .over g r))
   rows-next g (suc n) h s t r = ask (mid g (suc n)) tt (E .next g (suc n) r) (λ v. rows-next g n h)
 
-  rows-first : {A : Type 0} (g : Row) (n : ℕ) {k : S → tree.Out S A} {k′ : T → tree.Out T A} → ((s : S) (t : T) → E .R quiet s t → Sim false (k s) (k′ t)) → (s : S) (t : T)
-      → E .At (mid g n) (rowAsk g n (O .row g n s .0)) (rowAsk g n (P .row g n t .0)) (O .row g n s .1) (P .row g n t .1) → Sim false (rows O g n k s) (rows P g n k′ t)
+  rows-first : {A : Type 0} (g : Burst) (n : ℕ) {k : S → tree.Out S A} {k′ : T → tree.Out T A} → ((s : S) (t : T) → E .R quiet s t → Sim false (k s) (k′ t)) → (s : S) (t : T)
+      → E .At (mid g n) (burstAsk g n (O .row g n s .0)) (burstAsk g n (P .row g n t .0)) (O .row g n s .1) (P .row g n t .1) → Sim false (rows O g n k s) (rows P g n k′ t)
   rows-first g zero h s t x = ask (mid g zero) tt x (λ v s t r. h s t (E .over g r))
   rows-first g (suc n) h s t x = ask (mid g (suc n)) tt x (λ v. rows-next g n h)
 
