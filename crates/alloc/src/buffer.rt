@@ -3,7 +3,7 @@ ghost use mathlib.Core.Path.{_≡_};
 ghost use Prim.Native.Nat.{_*_};
 ghost use Rattle.alloc.specs.Buffer.{goodSize, goodBuffer, fits};
 
-pub fn good_size(size: u32) -> bool
+pub fn validate_buffer_size(size: u32) -> bool
     ensures { λ r. ⌜ r ≡ goodSize size ⌝ }
 {
     match size {
@@ -22,7 +22,7 @@ pub fn product(size: u32, count: u32) -> u64
 pub fn good_buffer(size: u32, count: u32) -> bool
     ensures { λ r. ⌜ r ≡ goodBuffer size count ⌝ }
 {
-    if !good_size(size) {
+    if !validate_buffer_size(size) {
         return false;
     }
     if count == 0 {

@@ -73,7 +73,7 @@ fn buffered(a: Allocator, iso: bool, dir: Dir, e: u8) -> Allocation
 }
 
 // An endpoint number and its buffers: rows 6, 7, 8. `address` is a descriptor's byte, or 256 or more where none is asked for.
-pub fn allocate(a: Allocator, kind: u8, address: u32, maximum: u32, dir: Dir) -> Allocation
+pub fn alloc_endpoint(a: Allocator, kind: u8, address: u32, maximum: u32, dir: Dir) -> Allocation
     ensures { λ r. ⌜ r ≡ allocateOf a kind address maximum dir ⌝ }
 {
     if (a.size as u32) < maximum {

@@ -69,7 +69,13 @@ fn set_enabled_in(s: &mut [u8; STATE_LEN], e: u8, on: bool) -> Next
 }
 
 // `endpoint_set_enabled` (mod.rs 1268-1330).
-pub fn set_enabled(s: &mut [u8; STATE_LEN], buf: &mut [u8], dir: Dir, e: u8, on: bool) -> Next
+pub fn endpoint_set_enabled(
+    s: &mut [u8; STATE_LEN],
+    buf: &mut [u8],
+    dir: Dir,
+    e: u8,
+    on: bool,
+) -> Next
     ensures { λ r. ⌜ meaning r (view (now (s .exit))) (now (buf .exit)) ≡ go (resultless (script.setEnabled dir e on)) (view (now (s .entry))) (now (buf .entry)) ⌝ }
     ensures { λ _. ⌜ saved (now (s .exit)) ≡ saved (now (s .entry)) ⌝ }
     ensures { λ r. ⌜ Linked r ⌝ }

@@ -27,7 +27,7 @@ ghost use Rattle.bus.specs.Points.{resultless, woken, afterStallWord, afterRest
 ghost use Rattle.bus.specs.Stages.{ofStall};
 
 // `is_endpoint_stalled` (mod.rs 1101-1106).
-pub fn is_stalled(dir: Dir, e: u8) -> Next
+pub fn is_endpoint_stalled(dir: Dir, e: u8) -> Next
     ensures { λ r. ⌜ ((d : Driver) (b : List ℕ) → meaning r d b ≡ go {i = false} (script.isEndpointStalled dir e) d b) ⌝ }
     ensures { λ r. ⌜ Linked r ⌝ }
 {
@@ -107,7 +107,7 @@ fn restart_in(s: &mut [u8; STATE_LEN], e: u8) -> Next
 }
 
 // `set_endpoint_stalled` (mod.rs 1053-1099).
-pub fn set_stalled(s: &mut [u8; STATE_LEN], dir: Dir, e: u8, on: bool) -> Next
+pub fn set_endpoint_stalled(s: &mut [u8; STATE_LEN], dir: Dir, e: u8, on: bool) -> Next
     ensures { λ r. ⌜ ((b : List ℕ) → meaning r (view (now (s .exit))) b ≡ go (resultless (script.setStalled dir e on)) (view (now (s .entry))) b) ⌝ }
     ensures { λ _. ⌜ saved (now (s .exit)) ≡ saved (now (s .entry)) ⌝ }
     ensures { λ r. ⌜ Linked r ⌝ }

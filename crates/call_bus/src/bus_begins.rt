@@ -3,7 +3,7 @@ use endpoint_rows::is_allocated;
 use endpoint_rows::is_stallable;
 use endpoint_rows::low;
 use machine::Step;
-use machine::halts::halted_bus;
+use machine::halts::suspend_or_end_bus;
 use machine::stops::slots_fit;
 use machine::stops::stop;
 use regs::Dir;
@@ -24,7 +24,7 @@ pub fn begin_bus_enable(s: &mut [u8; STATE_LEN]) -> Step
     let n = stop(s, 2);
     if n == 0 {
         state::clear_wakes(s);
-        return halted_bus(s, bus_events::enable());
+        return suspend_or_end_bus(s, bus_events::enable());
     }
     Step::Refused(n)
 }
@@ -37,7 +37,7 @@ pub fn begin_bus_disable(s: &mut [u8; STATE_LEN]) -> Step
     let n = stop(s, 2);
     if n == 0 {
         state::clear_wakes(s);
-        return halted_bus(s, bus::Next::Ends(0));
+        return suspend_or_end_bus(s, bus::Next::Ends(0));
     }
     Step::Refused(n)
 }
@@ -51,7 +51,7 @@ pub fn begin_bus_poll(s: &mut [u8; STATE_LEN]) -> Step
     if n == 0 {
         state::clear_wakes(s);
         let x = bus_events::poll(s);
-        return halted_bus(s, x);
+        return suspend_or_end_bus(s, x);
     }
     Step::Refused(n)
 }
@@ -65,8 +65,8 @@ pub fn begin_is_stalled(s: &mut [u8; STATE_LEN], dir: Dir, e: u32) -> Step
     if n == 0 {
         if is_stallable(s, dir, e) {
             state::clear_wakes(s);
-            let x = bus_set_stalled::is_stalled(dir, endpoint(e));
-            return halted_bus(s, x);
+            let x = bus_set_stalled::is_endpoint_stalled(dir, endpoint(e));
+            return suspend_or_end_bus(s, x);
         }
         return Step::Refused(5);
     }
@@ -82,8 +82,8 @@ pub fn begin_set_stalled(s: &mut [u8; STATE_LEN], dir: Dir, e: u32, on: bool) ->
     if n == 0 {
         if is_stallable(s, dir, e) {
             state::clear_wakes(s);
-            let x = bus_set_stalled::set_stalled(s, dir, endpoint(e), on);
-            return halted_bus(s, x);
+            let x = bus_set_stalled::set_endpoint_stalled(s, dir, endpoint(e), on);
+            return suspend_or_end_bus(s, x);
         }
         return Step::Refused(5);
     }
@@ -107,8 +107,8 @@ pub fn begin_set_enabled(
         if n == 0 {
             if is_allocated(s, dir, e) {
                 state::clear_wakes(s);
-                let x = bus_set_enabled::set_enabled(s, slots, dir, low(e), on);
-                return halted_bus(s, x);
+                let x = bus_set_enabled::endpoint_set_enabled(s, slots, dir, low(e), on);
+                return suspend_or_end_bus(s, x);
             }
             return Step::Refused(5);
         }

@@ -18,7 +18,7 @@ pub fn begin_setup(s: &mut [u8; STATE_LEN]) -> Step
     ensures { λ r. ⌜ SavedUnchangedOnRefusal r (now (s .entry)) (now (s .exit)) ⌝ }
 {
     if is_idle(s) {
-        let x = control::begin_setup(s);
+        let x = control::setup(s);
         return begun_control(s, x);
     }
     Step::Refused(3)
@@ -30,7 +30,7 @@ pub fn begin_data_out(s: &mut [u8; STATE_LEN], n: u32, first: bool) -> Step
     ensures { λ r. ⌜ SavedUnchangedOnRefusal r (now (s .entry)) (now (s .exit)) ⌝ }
 {
     if is_idle(s) {
-        let x = control::begin_data_out(s, n, first);
+        let x = control::data_out(s, n, first);
         return begun_control(s, x);
     }
     Step::Refused(3)
@@ -50,7 +50,7 @@ pub fn begin_data_in(
 {
     if slots_fit(s, slots) {
         if is_idle(s) {
-            let x = control::begin_data_in(s, slots, bytes, first, last);
+            let x = control::data_in(s, slots, bytes, first, last);
             return begun_control(s, x);
         }
         return Step::Refused(3);
@@ -64,7 +64,7 @@ pub fn begin_accept(s: &mut [u8; STATE_LEN]) -> Step
     ensures { λ r. ⌜ SavedUnchangedOnRefusal r (now (s .entry)) (now (s .exit)) ⌝ }
 {
     if is_idle(s) {
-        let x = control::begin_accept(s);
+        let x = control::accept(s);
         return begun_control(s, x);
     }
     Step::Refused(3)
@@ -76,7 +76,7 @@ pub fn begin_accept_set_address(s: &mut [u8; STATE_LEN], address: u32) -> Step
     ensures { λ r. ⌜ SavedUnchangedOnRefusal r (now (s .entry)) (now (s .exit)) ⌝ }
 {
     if is_idle(s) {
-        let x = control::begin_accept_set_address(s, address);
+        let x = control::accept_set_address(s, address);
         return begun_control(s, x);
     }
     Step::Refused(3)
@@ -88,7 +88,7 @@ pub fn begin_reject(s: &mut [u8; STATE_LEN]) -> Step
     ensures { λ r. ⌜ SavedUnchangedOnRefusal r (now (s .entry)) (now (s .exit)) ⌝ }
 {
     if is_idle(s) {
-        let x = control::begin_reject(s);
+        let x = control::reject(s);
         return begun_control(s, x);
     }
     Step::Refused(3)

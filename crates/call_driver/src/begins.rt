@@ -2,9 +2,9 @@ use endpoint_rows::is_number;
 use endpoint_rows::low;
 use iso_in::advance;
 use machine::Step;
-use machine::halts::halted;
-use machine::halts::halted_advance;
-use machine::halts::halted_interrupt;
+use machine::halts::suspend_or_end;
+use machine::halts::suspend_or_end_advance;
+use machine::halts::suspend_or_end_interrupt;
 use machine::stops::stop;
 use state::STATE_LEN;
 ghost use mathlib.Core.Path.{_≡_};
@@ -23,7 +23,7 @@ pub fn begin_microframe(s: &mut [u8; STATE_LEN]) -> Step
     let n = stop(s, 2);
     if n == 0 {
         state::clear_wakes(s);
-        return halted(s, driver::microframe());
+        return suspend_or_end(s, driver::microframe());
     }
     Step::Refused(n)
 }
@@ -36,7 +36,7 @@ pub fn set_paced(s: &mut [u8; STATE_LEN], e: u32, on: bool) -> Step
     let n = stop(s, 2);
     if n == 0 {
         if is_number(e) {
-            driver::set_paced(s, low(e), on);
+            driver::iso_in_set_paced(s, low(e), on);
             return Step::Ends(0, 0);
         }
         return Step::Refused(5);
@@ -53,8 +53,8 @@ pub fn begin_advance(s: &mut [u8; STATE_LEN], e: u32) -> Step
     if n == 0 {
         if is_number(e) {
             state::clear_wakes(s);
-            let x = advance::begin(s, low(e));
-            return halted_advance(s, x);
+            let x = advance::iso_in_advance(s, low(e));
+            return suspend_or_end_advance(s, x);
         }
         return Step::Refused(5);
     }
@@ -69,7 +69,7 @@ pub fn begin_interrupt(s: &mut [u8; STATE_LEN]) -> Step
     let n = stop(s, 2);
     if n == 0 {
         state::clear_wakes(s);
-        return halted_interrupt(s, irq::begin());
+        return suspend_or_end_interrupt(s, irq::on_interrupt());
     }
     Step::Refused(n)
 }

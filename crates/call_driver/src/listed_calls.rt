@@ -1,6 +1,6 @@
 // Endpoints from a configuration descriptor (requests Three and Four).
 use machine::Step;
-use machine::halts::halted;
+use machine::halts::suspend_or_end;
 use machine::stops::stop;
 use req_descriptor::Answer;
 use req_descriptor::Endpoints;
@@ -31,7 +31,7 @@ fn allocate_listed(s: &mut [u8; STATE_LEN], list: Endpoints) -> Step
     if row == 0 {
         alloc_all::allocate_each(s, list);
         state::clear_wakes(s);
-        return halted(s, alloc_all::announce_all(s, list));
+        return suspend_or_end(s, alloc_all::announce_all(s, list));
     }
     Step::Refused(row)
 }

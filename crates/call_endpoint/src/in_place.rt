@@ -34,7 +34,7 @@ pub fn open(s: &mut [u8; STATE_LEN], slots: &[u8], e: u32) -> Step
 {
     if slots_fit(s, slots) {
         if may_pass(s) {
-            let x = iso_out_open_close::open(s, slots, e);
+            let x = iso_out_open_close::iso_out_take(s, slots, e);
             return told(x);
         }
         return Step::Refused(3);
@@ -48,7 +48,7 @@ pub fn close(s: &mut [u8; STATE_LEN], e: u32) -> Step
     ensures { λ _. ⌜ saved (now (s .exit)) ≡ saved (now (s .entry)) ⌝ }
 {
     if may_pass(s) {
-        let x = iso_out_open_close::close(s, e);
+        let x = iso_out_open_close::iso_out_take_close(s, e);
         return told(x);
     }
     Step::Refused(3)
@@ -62,7 +62,7 @@ pub fn queue(s: &mut [u8; STATE_LEN], slots: &mut [u8], e: u32, bytes: &[u8]) ->
 {
     if slots_fit(s, slots) {
         if may_pass(s) {
-            let x = iso_in_queue::queue(s, slots, e, bytes);
+            let x = iso_in_queue::iso_in_prime(s, slots, e, bytes);
             return told(x);
         }
         return Step::Refused(3);

@@ -19,7 +19,7 @@ pub fn pending(s: &[u8; STATE_LEN], e: u32) -> u32
     0
 }
 
-fn overruns_of(r: EpState) -> u32
+fn iso_out_overruns(r: EpState) -> u32
     ensures { λ n. ⌜ n ≡ overrunsOf r ⌝ }
 {
     if is_on(r.iso) {
@@ -34,7 +34,7 @@ pub fn overruns(s: &[u8; STATE_LEN], e: u32) -> u32
 {
     if is_number(e) {
         let r = state::load_ep(s, Dir::Out, low(e));
-        return overruns_of(r);
+        return iso_out_overruns(r);
     }
     0
 }

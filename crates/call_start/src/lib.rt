@@ -1,7 +1,7 @@
 // Start-up, allocation and EP0's start.
 use alloc::Answer;
 use machine::Step;
-use machine::halts::halted;
+use machine::halts::suspend_or_end;
 use machine::stops::stop;
 use regs::Dir;
 use state::STATE_LEN;
@@ -37,7 +37,7 @@ pub fn allocate(
             }
             Answer::Given(e, _base, _slots) => {
                 state::clear_wakes(s);
-                return halted(s, driver::new_endpoint(dir, kind, maximum, e));
+                return suspend_or_end(s, driver::new_endpoint(dir, kind, maximum, e));
             }
         }
     }
@@ -58,7 +58,7 @@ pub fn start(s: &mut [u8; STATE_LEN], maximum: u32) -> Step
             }
             Answer::Given(_e, _base, _slots) => {
                 state::clear_wakes(s);
-                return halted(s, driver::start_ep0(s, maximum));
+                return suspend_or_end(s, driver::start_ep0(s, maximum));
             }
         }
     }
@@ -89,7 +89,7 @@ pub fn start_up(
         if alloc::buffer::good_buffer(size, count) {
             state::fresh(s, size as u16, count as u16, flag_of(callback));
             state::clear_wakes(s);
-            return halted(s, driver::start_up(callback));
+            return suspend_or_end(s, driver::start_up(callback));
         }
         return Step::Refused(2);
     }

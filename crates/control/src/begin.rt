@@ -36,7 +36,7 @@ ghost use Rattle.model_ops.specs.Concrete.{go};
 ghost use Rattle.control.specs.Points.{begunAs, LinkedBegun};
 
 // `setup`, control.rs 70-80.
-pub fn begin_setup(s: &mut [u8; STATE_LEN]) -> Begun
+pub fn setup(s: &mut [u8; STATE_LEN]) -> Begun
     ensures { λ r. ⌜ ((b : List ℕ) → begunAs r (view (now (s .exit))) b ≡ go {i = false} beginSetup (view (now (s .entry))) b) ⌝ }
     ensures { λ _. ⌜ saved (now (s .exit)) ≡ saved (now (s .entry)) ⌝ }
     ensures { λ r. ⌜ LinkedBegun r ⌝ }
@@ -51,7 +51,7 @@ pub fn begin_setup(s: &mut [u8; STATE_LEN]) -> Begun
 }
 
 // `data_out`, 82-115, into a slice of n bytes.
-pub fn begin_data_out(s: &mut [u8; STATE_LEN], n: u32, first: bool) -> Begun
+pub fn data_out(s: &mut [u8; STATE_LEN], n: u32, first: bool) -> Begun
     ensures { λ r. ⌜ ((b : List ℕ) → begunAs r (view (now (s .exit))) b ≡ go {i = false} (beginDataOut n first) (view (now (s .entry))) b) ⌝ }
     ensures { λ _. ⌜ saved (now (s .exit)) ≡ saved (now (s .entry)) ⌝ }
     ensures { λ r. ⌜ LinkedBegun r ⌝ }
@@ -78,7 +78,7 @@ pub fn begin_data_out(s: &mut [u8; STATE_LEN], n: u32, first: bool) -> Begun
 }
 
 // `data_in`, 117-161: the packet into EP0's slot; with the last one the status stage's OUT right away.
-pub fn begin_data_in(
+pub fn data_in(
     s: &mut [u8; STATE_LEN],
     buf: &mut [u8],
     bytes: &[u8],
@@ -120,7 +120,7 @@ pub fn begin_data_in(
 }
 
 // `accept`, 26-46, 163-166.
-pub fn begin_accept(s: &mut [u8; STATE_LEN]) -> Begun
+pub fn accept(s: &mut [u8; STATE_LEN]) -> Begun
     ensures { λ r. ⌜ ((b : List ℕ) → begunAs r (view (now (s .exit))) b ≡ go {i = false} beginAccept (view (now (s .entry))) b) ⌝ }
     ensures { λ _. ⌜ saved (now (s .exit)) ≡ saved (now (s .entry)) ⌝ }
     ensures { λ r. ⌜ LinkedBegun r ⌝ }
@@ -139,7 +139,7 @@ pub fn begin_accept(s: &mut [u8; STATE_LEN]) -> Begun
 }
 
 // `accept_set_address`, 179-186.
-pub fn begin_accept_set_address(s: &mut [u8; STATE_LEN], address: u32) -> Begun
+pub fn accept_set_address(s: &mut [u8; STATE_LEN], address: u32) -> Begun
     ensures { λ r. ⌜ ((b : List ℕ) → begunAs r (view (now (s .exit))) b ≡ go {i = false} (beginAcceptSetAddress address) (view (now (s .entry))) b) ⌝ }
     ensures { λ _. ⌜ saved (now (s .exit)) ≡ saved (now (s .entry)) ⌝ }
     ensures { λ r. ⌜ LinkedBegun r ⌝ }
@@ -158,7 +158,7 @@ pub fn begin_accept_set_address(s: &mut [u8; STATE_LEN], address: u32) -> Begun
 }
 
 // `reject`, 168-177.
-pub fn begin_reject(s: &mut [u8; STATE_LEN]) -> Begun
+pub fn reject(s: &mut [u8; STATE_LEN]) -> Begun
     ensures { λ r. ⌜ ((b : List ℕ) → begunAs r (view (now (s .exit))) b ≡ go {i = false} beginReject (view (now (s .entry))) b) ⌝ }
     ensures { λ _. ⌜ saved (now (s .exit)) ≡ saved (now (s .entry)) ⌝ }
     ensures { λ r. ⌜ LinkedBegun r ⌝ }

@@ -5,12 +5,12 @@ mod checks;
 mod codec;
 mod poll;
 
-pub use begin::begin_accept;
-pub use begin::begin_accept_set_address;
-pub use begin::begin_data_in;
-pub use begin::begin_data_out;
-pub use begin::begin_reject;
-pub use begin::begin_setup;
+pub use begin::accept;
+pub use begin::accept_set_address;
+pub use begin::data_in;
+pub use begin::data_out;
+pub use begin::reject;
+pub use begin::setup;
 pub use codec::decode;
 pub use codec::encode;
 use endpoint_common::byte;

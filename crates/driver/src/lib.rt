@@ -88,7 +88,7 @@ pub fn microframe() -> Next
 }
 
 // `iso_in_set_paced`, without an access.
-pub fn set_paced(s: &mut [u8; STATE_LEN], e: u8, on: bool)
+pub fn iso_in_set_paced(s: &mut [u8; STATE_LEN], e: u8, on: bool)
     requires { ⌜ e < 16 ⌝ }
     ensures { λ _. ⌜ ((b : List ℕ) → ends tt (view (now (s .exit)), b) ≡ go (setPaced e on) (view (now (s .entry))) b) ⌝ }
     ensures { λ _. ⌜ saved (now (s .exit)) ≡ saved (now (s .entry)) ⌝ }

@@ -10,9 +10,9 @@ use endpoint_common::length16;
 use endpoint_common::unready;
 use endpoint_rows::low;
 use endpoint_rows::refusal;
-use model_ops::rings::enqueue;
 use model_ops::rings::fill;
 use model_ops::rings::is_on;
+use model_ops::rings::iso_in_enqueue;
 use model_ops::rings::room;
 use regs::Access;
 use regs::Dir;
@@ -98,7 +98,7 @@ fn put_iso(s: &mut [u8; STATE_LEN], buf: &mut [u8], e: u8, bytes: &[u8]) -> Poll
     if !room(s, e, bytes.len()) {
         return Polled::NotYet;
     }
-    enqueue(s, buf, e, bytes);
+    iso_in_enqueue(s, buf, e, bytes);
     end_request(s, Dir::In, e);
     Polled::Done(0)
 }

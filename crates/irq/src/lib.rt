@@ -60,7 +60,7 @@ pub enum Next {
 }
 
 // `on_interrupt` begins (mod.rs 637), with a frame reading before it.
-pub fn begin() -> Next
+pub fn on_interrupt() -> Next
     ensures { λ r. ⌜ ((d : Driver) (b : List ℕ) → meaning r d b ≡ go interrupt d b) ⌝ }
     ensures { λ r. ⌜ Linked r ⌝ }
 {

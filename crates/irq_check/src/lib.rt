@@ -72,7 +72,7 @@ fn moved_on(s: &mut [u8; STATE_LEN], d: Dir, setup: bool) -> Step
 }
 
 // The host's token for the other direction says that a stage went through (`ep0_moved_on`).
-pub fn after_check(s: &mut [u8; STATE_LEN], setup: bool, x: Transfer) -> Step
+pub fn ep0_moved_on(s: &mut [u8; STATE_LEN], setup: bool, x: Transfer) -> Step
     ensures { λ r. ⌜ ((b : List ℕ) → Stops r (now (s .exit)) b (finish setup (run concrete (afterCheck x) (view (now (s .entry)), b)))) ⌝ }
     ensures { λ r. ⌜ Stored r (now (s .exit)) ⌝ }
 {
@@ -104,7 +104,7 @@ fn checked(
 {
     match n {
         CheckNext::Asks(q, p) => stand_check(s, q, setup, x, iso, p),
-        CheckNext::Ends => after_check(s, setup, x),
+        CheckNext::Ends => ep0_moved_on(s, setup, x),
     }
 }
 
@@ -121,7 +121,7 @@ pub fn after_checking(
     ensures { λ r. ⌜ Stops r (now (s .exit)) (now (buf .exit)) (denote (Point.Check setup x iso p) v (view (now (s .entry)), now (buf .entry))) ⌝ }
     ensures { λ r. ⌜ Stored r (now (s .exit)) ⌝ }
 {
-    let n = iso_out::resume(s, buf, x, iso, p, v);
+    let n = iso_out::iso_out_check_resume(s, buf, x, iso, p, v);
     checked(s, buf, setup, x, iso, n)
 }
 
@@ -137,8 +137,8 @@ pub fn after_dispatch(
     ensures { λ r. ⌜ Stored r (now (s .exit)) ⌝ }
 {
     if status::is_sof(x.st) {
-        return after_check(s, setup, x);
+        return ep0_moved_on(s, setup, x);
     }
-    let n = iso_out::begin(s, buf, x, iso);
+    let n = iso_out::iso_out_check(s, buf, x, iso);
     checked(s, buf, setup, x, iso, n)
 }

@@ -125,7 +125,7 @@ pub fn after_naking(s: &mut [u8; STATE_LEN], setup: bool, x: Transfer, p: Nak, v
     ensures { λ r. ⌜ ((b : List ℕ) → Stops r (now (s .exit)) b (denote (Point.Nak setup x p) v (view (now (s .entry)), b))) ⌝ }
     ensures { λ r. ⌜ Stored r (now (s .exit)) ⌝ }
 {
-    let n = nak::resume(x.st, p, v);
+    let n = nak::nak_non_iso_resume(x.st, p, v);
     then_nak(s, setup, x, n)
 }
 
@@ -161,7 +161,7 @@ pub fn after_len(s: &mut [u8; STATE_LEN], setup: bool, busy: bool, st: u8, v: u3
 {
     let x = entered(busy, st, short(v));
     if naks_first(busy, st) {
-        let n = nak::begin(s, st);
+        let n = nak::nak_non_iso(s, st);
         return then_nak(s, setup, x, n);
     }
     release(s, setup, x)

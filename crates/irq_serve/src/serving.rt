@@ -134,7 +134,7 @@ pub fn after_on_sof(
     ensures { λ r. ⌜ Stops r (now (s .exit)) (now (buf .exit)) (denote (Point.Sof setup x iso frame p) v (view (now (s .entry)), now (buf .entry))) ⌝ }
     ensures { λ r. ⌜ Stored r (now (s .exit)) ⌝ }
 {
-    let n = sof::resume(s, frame, p, v);
+    let n = sof::on_sof_resume(s, frame, p, v);
     then_sof(s, buf, setup, x, iso, frame, n)
 }
 
@@ -161,7 +161,7 @@ pub fn serve(
 {
     let g = load_globals(s);
     if sof_due(x, g.sof_frame, frame) {
-        let n = sof::begin(s, frame);
+        let n = sof::on_sof(s, frame);
         return then_sof(s, buf, setup, x, iso, frame, n);
     }
     after_sof(s, buf, setup, x, iso, frame)

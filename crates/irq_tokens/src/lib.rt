@@ -244,7 +244,7 @@ pub fn after_completing(
     ensures { λ r. ⌜ ((v : ℕ) → Stops r (now (s .exit)) (now (buf .exit)) (denote (Point.Completing setup x iso p) v (view (now (s .entry)), now (buf .entry)))) ⌝ }
     ensures { λ r. ⌜ Stored r (now (s .exit)) ⌝ }
 {
-    let n = complete::resume(s, p);
+    let n = complete::iso_in_complete_resume(s, p);
     then_complete(s, buf, setup, x, iso, n)
 }
 
@@ -266,7 +266,7 @@ fn iso_in_arm(
         return after_dispatch(s, buf, setup, x, iso);
     }
     if first_in_frame(s, ep, frame) {
-        let n = complete::begin(s, ep);
+        let n = complete::iso_in_complete(s, ep);
         return then_complete(s, buf, setup, x, iso, n);
     }
     after_dispatch(s, buf, setup, x, iso)
@@ -326,7 +326,7 @@ pub fn after_sof_arm(
     ensures { λ r. ⌜ Stops r (now (s .exit)) (now (buf .exit)) (denote (Point.SofArm setup x iso frame p) v (view (now (s .entry)), now (buf .entry))) ⌝ }
     ensures { λ r. ⌜ Stored r (now (s .exit)) ⌝ }
 {
-    let n = sof::resume(s, frame, p, v);
+    let n = sof::on_sof_resume(s, frame, p, v);
     then_sof_arm(s, buf, setup, x, iso, frame, n)
 }
 
@@ -346,7 +346,7 @@ fn sof_arm(
     if g.sof_frame == frame {
         return after_dispatch(s, buf, setup, x, iso);
     }
-    let n = sof::begin(s, frame);
+    let n = sof::on_sof(s, frame);
     then_sof_arm(s, buf, setup, x, iso, frame, n)
 }
 

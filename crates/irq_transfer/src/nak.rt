@@ -56,7 +56,7 @@ fn in_naks(st: u8, r: EpState) -> bool
 }
 
 // `nak_non_iso` (mod.rs 416-431).
-pub fn begin(s: &[u8; STATE_LEN], st: u8) -> NakNext
+pub fn nak_non_iso(s: &[u8; STATE_LEN], st: u8) -> NakNext
     ensures { λ r. ⌜ ((b : List ℕ) → meaning st r (view (now (s .entry))) b ≡ go {i = true} (nakNonIso st) (view (now (s .entry))) b) ⌝ }
     ensures { λ r. ⌜ Linked r ⌝ }
 {
@@ -72,7 +72,7 @@ pub fn begin(s: &[u8; STATE_LEN], st: u8) -> NakNext
     NakNext::Ends
 }
 
-pub fn resume(st: u8, p: Nak, v: u32) -> NakNext
+pub fn nak_non_iso_resume(st: u8, p: Nak, v: u32) -> NakNext
     requires { ⌜ fitsAt p v ≡ true ⌝ }
     ensures { λ r. ⌜ ((d : Driver) (b : List ℕ) → meaning st r d b ≡ denote st p v (d, b)) ⌝ }
     ensures { λ r. ⌜ Linked r ⌝ }

@@ -210,7 +210,7 @@ fn after_st(s: &[u8; STATE_LEN], x: Transfer, v: u32) -> SettleNext
     ensures { λ r. ⌜ Linked r ⌝ }
 {
     let st = byte(v);
-    let n = nak::begin(s, st);
+    let n = nak::nak_non_iso(s, st);
     match n {
         NakNext::Asks(q, p) => SettleNext::Asks(q, Settle::Nak(st, p)),
         NakNext::Ends => SettleNext::Ends(retaken(x, st)),
@@ -222,7 +222,7 @@ fn after_nak(x: Transfer, st: u8, p: Nak, v: u32) -> SettleNext
     ensures { λ r. ⌜ ((d : Driver) (b : List ℕ) → meaning x r d b ≡ denote x (Settle.Nak st p) v (d, b)) ⌝ }
     ensures { λ r. ⌜ Linked r ⌝ }
 {
-    let n = nak::resume(st, p, v);
+    let n = nak::nak_non_iso_resume(st, p, v);
     match n {
         NakNext::Asks(q, p2) => SettleNext::Asks(q, Settle::Nak(st, p2)),
         NakNext::Ends => SettleNext::Ends(retaken(x, st)),

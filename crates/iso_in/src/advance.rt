@@ -47,7 +47,7 @@ fn is_paced(mask: u16, e: u8) -> bool
     false
 }
 
-pub fn begin(s: &mut [u8; STATE_LEN], e: u8) -> AdvanceNext
+pub fn iso_in_advance(s: &mut [u8; STATE_LEN], e: u8) -> AdvanceNext
     ensures { λ r. ⌜ ((b : List ℕ) → meaning r (view (now (s .exit))) b ≡ go (advance e) (view (now (s .entry))) b) ⌝ }
     ensures { λ _. ⌜ saved (now (s .exit)) ≡ saved (now (s .entry)) ⌝ }
     ensures { λ r. ⌜ Linked r ⌝ }
@@ -104,7 +104,7 @@ fn after_completing(
     ensures { λ _. ⌜ saved (now (s .exit)) ≡ saved (now (s .entry)) ⌝ }
     ensures { λ r. ⌜ Linked r ⌝ }
 {
-    let n = complete::resume(s, p);
+    let n = complete::iso_in_complete_resume(s, p);
     match n {
         CompleteNext::Asks(q, p) => AdvanceNext::Asks(q, Advance::Completing(e, left, frame, p)),
         CompleteNext::Ends => go_on(s, e, left, frame),
@@ -121,7 +121,7 @@ pub fn fits_at(p: Advance, v: u32) -> bool
     }
 }
 
-pub fn resume(s: &mut [u8; STATE_LEN], p: Advance, v: u32) -> AdvanceNext
+pub fn iso_in_advance_resume(s: &mut [u8; STATE_LEN], p: Advance, v: u32) -> AdvanceNext
     requires { ⌜ fitsAt p v ≡ true ⌝ }
     ensures { λ r. ⌜ ((b : List ℕ) → meaning r (view (now (s .exit))) b ≡ denote p v (view (now (s .entry)), b)) ⌝ }
     ensures { λ _. ⌜ saved (now (s .exit)) ≡ saved (now (s .entry)) ⌝ }

@@ -53,7 +53,7 @@ pub fn start(s: &mut [u8; STATE_LEN], e: u8) -> Begun
     }
 }
 
-pub fn begin(s: &mut [u8; STATE_LEN], e: u8) -> CompleteNext
+pub fn iso_in_complete(s: &mut [u8; STATE_LEN], e: u8) -> CompleteNext
     ensures { λ r. ⌜ ((b : List ℕ) → meaning r (view (now (s .exit))) b ≡ go {i = true} (isoInComplete e) (view (now (s .entry))) b) ⌝ }
     ensures { λ _. ⌜ saved (now (s .exit)) ≡ saved (now (s .entry)) ⌝ }
     ensures { λ r. ⌜ Linked r ⌝ }
@@ -81,7 +81,7 @@ fn after_sent(s: &[u8; STATE_LEN], e: u8) -> CompleteNext
     CompleteNext::Asks(Access::Write(Reg::EpTLen, e, n as u32), Complete::Loaded(e))
 }
 
-pub fn resume(s: &mut [u8; STATE_LEN], p: Complete) -> CompleteNext
+pub fn iso_in_complete_resume(s: &mut [u8; STATE_LEN], p: Complete) -> CompleteNext
     ensures { λ r. ⌜ ((b : List ℕ) → meaning r (view (now (s .exit))) b ≡ denote p (view (now (s .entry)), b)) ⌝ }
     ensures { λ _. ⌜ saved (now (s .exit)) ≡ saved (now (s .entry)) ⌝ }
     ensures { λ r. ⌜ Linked r ⌝ }

@@ -4,8 +4,8 @@ use crate::complete;
 use crate::complete::Complete;
 use crate::complete::CompleteNext;
 use crate::complete::start;
-use crate::every;
 use crate::first_in_frame;
+use crate::iso_in_every;
 use bits::next_endpoint;
 use bits::rest_of;
 use regs::Access;
@@ -70,7 +70,7 @@ pub fn begin(s: &mut [u8; STATE_LEN], frame: u16) -> LateNext
     ensures { λ r. ⌜ Linked r ⌝ }
 {
     let g = load_globals(s);
-    walk(s, frame, every(g))
+    walk(s, frame, iso_in_every(g))
 }
 
 pub fn resume(s: &mut [u8; STATE_LEN], frame: u16, p: Late) -> LateNext
@@ -80,7 +80,7 @@ pub fn resume(s: &mut [u8; STATE_LEN], frame: u16, p: Late) -> LateNext
 {
     let rest = p.rest;
     let q = p.completing;
-    let n = complete::resume(s, q);
+    let n = complete::iso_in_complete_resume(s, q);
     match n {
         CompleteNext::Asks(q, completing) => LateNext::Asks(q, Late { rest, completing }),
         CompleteNext::Ends => walk(s, frame, rest),

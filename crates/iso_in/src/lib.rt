@@ -26,7 +26,7 @@ pub enum Found {
 }
 
 // `iso_in_every` (mod.rs 80-92).
-pub fn every(g: Globals) -> u16
+pub fn iso_in_every(g: Globals) -> u16
     ensures { λ r. ⌜ r ≡ isoInEvery g ⌝ }
 {
     in_enabled(g.ep_config, mask_except(g.iso_in_every, g.iso_in_paced))

@@ -5,7 +5,7 @@ use crate::complete;
 use crate::complete::Complete;
 use crate::complete::CompleteNext;
 use crate::complete::start;
-use crate::every;
+use crate::iso_in_every;
 use crate::record_frame;
 use bits::next_endpoint;
 use bits::rest_of;
@@ -85,7 +85,7 @@ fn walk(s: &[u8; STATE_LEN], frame: u16, m: u16) -> SofNext
     }
 }
 
-pub fn begin(s: &mut [u8; STATE_LEN], frame: u16) -> SofNext
+pub fn on_sof(s: &mut [u8; STATE_LEN], frame: u16) -> SofNext
     ensures { λ r. ⌜ ((b : List ℕ) → meaning frame r (view (now (s .exit))) b ≡ go {i = true} (script.onSof frame) (view (now (s .entry))) b) ⌝ }
     ensures { λ _. ⌜ saved (now (s .exit)) ≡ saved (now (s .entry)) ⌝ }
     ensures { λ r. ⌜ Linked r ⌝ }
@@ -93,7 +93,7 @@ pub fn begin(s: &mut [u8; STATE_LEN], frame: u16) -> SofNext
     let mut g = load_globals(s);
     g.sof_frame = frame;
     store_globals(s, g);
-    walk(s, frame, every(g))
+    walk(s, frame, iso_in_every(g))
 }
 
 // The frame of the microframe before.
@@ -156,7 +156,7 @@ fn after_completing(s: &mut [u8; STATE_LEN], frame: u16, m: u16, p: Complete) ->
     ensures { λ _. ⌜ saved (now (s .exit)) ≡ saved (now (s .entry)) ⌝ }
     ensures { λ r. ⌜ Linked r ⌝ }
 {
-    let n = complete::resume(s, p);
+    let n = complete::iso_in_complete_resume(s, p);
     match n {
         CompleteNext::Asks(q, p) => SofNext::Asks(q, Sof::Completing(m, p)),
         CompleteNext::Ends => walk(s, frame, m),
@@ -175,7 +175,7 @@ pub fn fits_at(p: Sof, v: u32) -> bool
     }
 }
 
-pub fn resume(s: &mut [u8; STATE_LEN], frame: u16, p: Sof, v: u32) -> SofNext
+pub fn on_sof_resume(s: &mut [u8; STATE_LEN], frame: u16, p: Sof, v: u32) -> SofNext
     requires { ⌜ fitsAt p v ≡ true ⌝ }
     ensures { λ r. ⌜ ((b : List ℕ) → meaning frame r (view (now (s .exit))) b ≡ denote frame p v (view (now (s .entry)), b)) ⌝ }
     ensures { λ _. ⌜ saved (now (s .exit)) ≡ saved (now (s .entry)) ⌝ }

@@ -3,8 +3,8 @@
 use endpoint_rows::low;
 use endpoint_rows::refusal;
 use iso_out_open_close::Packet;
-use model_ops::rings::enqueue;
 use model_ops::rings::is_on;
+use model_ops::rings::iso_in_enqueue;
 use model_ops::rings::room;
 use regs::Dir;
 use regs::enables;
@@ -34,7 +34,7 @@ fn queue_at(s: &mut [u8; STATE_LEN], buf: &mut [u8], e: u8, bytes: &[u8]) -> Pac
         let r = load_ep(s, Dir::In, e);
         if is_on(r.iso) {
             if room(s, e, bytes.len()) {
-                enqueue(s, buf, e, bytes);
+                iso_in_enqueue(s, buf, e, bytes);
                 return Packet::Ok;
             }
             return Packet::Refused(13);
@@ -45,7 +45,7 @@ fn queue_at(s: &mut [u8; STATE_LEN], buf: &mut [u8], e: u8, bytes: &[u8]) -> Pac
 }
 
 // `iso_in_prime`.
-pub fn queue(s: &mut [u8; STATE_LEN], buf: &mut [u8], e: u32, bytes: &[u8]) -> Packet
+pub fn iso_in_prime(s: &mut [u8; STATE_LEN], buf: &mut [u8], e: u32, bytes: &[u8]) -> Packet
     ensures { λ r. ⌜ answered r (view (now (s .exit))) (now (buf .exit)) ≡ go (queuePacket {i = false} e (now (bytes .entry))) (view (now (s .entry))) (now (buf .entry)) ⌝ }
     ensures { λ _. ⌜ saved (now (s .exit)) ≡ saved (now (s .entry)) ⌝ }
 {

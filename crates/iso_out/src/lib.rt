@@ -117,7 +117,7 @@ fn walk_on(s: &mut [u8; STATE_LEN], buf: &mut [u8], x: Transfer, iso: bool, m: u
 }
 
 // A disabled endpoint's slot still holds its last packet: it is not walked (mod.rs 466-467).
-pub fn begin(s: &mut [u8; STATE_LEN], buf: &mut [u8], x: Transfer, iso: bool) -> CheckNext
+pub fn iso_out_check(s: &mut [u8; STATE_LEN], buf: &mut [u8], x: Transfer, iso: bool) -> CheckNext
     ensures { λ r. ⌜ meaning x iso r (view (now (s .exit))) (now (buf .exit)) ≡ go (isoOutCheck {i = true} x iso) (view (now (s .entry))) (now (buf .entry)) ⌝ }
     ensures { λ _. ⌜ saved (now (s .exit)) ≡ saved (now (s .entry)) ⌝ }
     ensures { λ r. ⌜ Linked r ⌝ }
@@ -186,7 +186,7 @@ pub fn fits_at(p: Check, v: u32) -> bool
 }
 
 // The next access of the check that stands at `p`, now that `v` was brought.
-pub fn resume(
+pub fn iso_out_check_resume(
     s: &mut [u8; STATE_LEN],
     buf: &mut [u8],
     x: Transfer,

@@ -50,7 +50,7 @@ fn open_at(s: &mut [u8; STATE_LEN], e: u8) -> Packet
 }
 
 // `iso_out_take`, its first part.
-pub fn open(s: &mut [u8; STATE_LEN], buf: &[u8], e: u32) -> Packet
+pub fn iso_out_take(s: &mut [u8; STATE_LEN], buf: &[u8], e: u32) -> Packet
     ensures { λ r. ⌜ answered r (view (now (s .exit))) (now (buf .entry)) ≡ go (openPacket {i = false} e) (view (now (s .entry))) (now (buf .entry)) ⌝ }
     ensures { λ _. ⌜ saved (now (s .exit)) ≡ saved (now (s .entry)) ⌝ }
     ensures { λ r. ⌜ ShownAt r (view (now (s .exit))) e ⌝ }
@@ -75,7 +75,7 @@ fn close_at(s: &mut [u8; STATE_LEN], e: u8) -> Packet
 }
 
 // And its last.
-pub fn close(s: &mut [u8; STATE_LEN], e: u32) -> Packet
+pub fn iso_out_take_close(s: &mut [u8; STATE_LEN], e: u32) -> Packet
     ensures { λ r. ⌜ ((b : List ℕ) → answered r (view (now (s .exit))) b ≡ go (closePacket {i = false} e) (view (now (s .entry))) b) ⌝ }
     ensures { λ _. ⌜ saved (now (s .exit)) ≡ saved (now (s .entry)) ⌝ }
 {

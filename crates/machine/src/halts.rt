@@ -46,7 +46,7 @@ fn ended(s: &mut [u8; STATE_LEN], n: u16) -> Step
 }
 
 // It goes on, or has ended.
-pub fn halted(s: &mut [u8; STATE_LEN], n: driver::Next) -> Step
+pub fn suspend_or_end(s: &mut [u8; STATE_LEN], n: driver::Next) -> Step
     requires { ⌜ driver.Linked n ⌝ }
     ensures { λ r. ⌜ ((b : List ℕ) → (answerOf r [] (view (now (s .exit))), machineOf (now (s .exit)) b) ≡ halts (bindOut (driver.meaning n (view (now (s .entry))) b) (λ k t. run concrete (finish k) t))) ⌝ }
     ensures { λ r. ⌜ Stored r (now (s .exit)) ⌝ }
@@ -58,7 +58,7 @@ pub fn halted(s: &mut [u8; STATE_LEN], n: driver::Next) -> Step
 }
 
 // The same of the bus's operations.
-pub fn halted_bus(s: &mut [u8; STATE_LEN], n: bus::Next) -> Step
+pub fn suspend_or_end_bus(s: &mut [u8; STATE_LEN], n: bus::Next) -> Step
     requires { ⌜ bus.Linked n ⌝ }
     ensures { λ r. ⌜ ((b : List ℕ) → (answerOf r [] (view (now (s .exit))), machineOf (now (s .exit)) b) ≡ halts (bindOut (bus.meaning n (view (now (s .entry))) b) (λ k t. run concrete (finish k) t))) ⌝ }
     ensures { λ r. ⌜ Stored r (now (s .exit)) ⌝ }
@@ -70,7 +70,7 @@ pub fn halted_bus(s: &mut [u8; STATE_LEN], n: bus::Next) -> Step
 }
 
 // The same of the control pipe's.
-pub fn halted_control(s: &mut [u8; STATE_LEN], n: control::Next) -> Step
+pub fn suspend_or_end_control(s: &mut [u8; STATE_LEN], n: control::Next) -> Step
     requires { ⌜ control.Linked n ⌝ }
     ensures { λ r. ⌜ ((b : List ℕ) → (answerOf r [] (view (now (s .exit))), machineOf (now (s .exit)) b) ≡ halts (bindOut (control.meaning n (view (now (s .entry))) b) (λ k t. run concrete (finish k) t))) ⌝ }
     ensures { λ r. ⌜ Stored r (now (s .exit)) ⌝ }
@@ -110,7 +110,7 @@ pub fn polled_control(s: &mut [u8; STATE_LEN], n: control::Polled) -> Step
 }
 
 // The same of reads and writes.
-pub fn halted_endpoint(s: &mut [u8; STATE_LEN], n: endpoint::Next) -> Step
+pub fn suspend_or_end_endpoint(s: &mut [u8; STATE_LEN], n: endpoint::Next) -> Step
     requires { ⌜ endpoint.Linked n ⌝ }
     ensures { λ r. ⌜ ((b : List ℕ) → (answerOf r [] (view (now (s .exit))), machineOf (now (s .exit)) b) ≡ halts (bindOut (endpoint.meaning n (view (now (s .entry))) b) (λ k t. run concrete (finish k) t))) ⌝ }
     ensures { λ r. ⌜ Stored r (now (s .exit)) ⌝ }
@@ -122,7 +122,7 @@ pub fn halted_endpoint(s: &mut [u8; STATE_LEN], n: endpoint::Next) -> Step
 }
 
 // Of a paced advance.
-pub fn halted_advance(s: &mut [u8; STATE_LEN], n: AdvanceNext) -> Step
+pub fn suspend_or_end_advance(s: &mut [u8; STATE_LEN], n: AdvanceNext) -> Step
     requires { ⌜ advance.Linked n ⌝ }
     ensures { λ r. ⌜ ((b : List ℕ) → (answerOf r [] (view (now (s .exit))), machineOf (now (s .exit)) b) ≡ halts (bindOut (advance.meaning n (view (now (s .entry))) b) (λ k t. run concrete (finish k) t))) ⌝ }
     ensures { λ r. ⌜ Stored r (now (s .exit)) ⌝ }
@@ -134,7 +134,7 @@ pub fn halted_advance(s: &mut [u8; STATE_LEN], n: AdvanceNext) -> Step
 }
 
 // Of an interrupt.
-pub fn halted_interrupt(s: &mut [u8; STATE_LEN], n: irq::Next) -> Step
+pub fn suspend_or_end_interrupt(s: &mut [u8; STATE_LEN], n: irq::Next) -> Step
     requires { ⌜ handler.Linked n ⌝ }
     ensures { λ r. ⌜ ((b : List ℕ) → (answerOf r [] (view (now (s .exit))), machineOf (now (s .exit)) b) ≡ haltsAs true (bindOut (handler.meaning n (view (now (s .entry))) b) (λ k t. run concrete (finish k) t))) ⌝ }
     ensures { λ r. ⌜ Stored r (now (s .exit)) ⌝ }

@@ -29,11 +29,11 @@ use irq_resume::tokens::resume_toggled;
 use machine::Step;
 use machine::saved::tag;
 use machine::stops::slots_fit;
-use machine_resume_op::proceed_advance;
-use machine_resume_op::proceed_bus;
-use machine_resume_op::proceed_control;
-use machine_resume_op::proceed_driver;
-use machine_resume_op::proceed_endpoint;
+use machine_resume_op::resume_advance;
+use machine_resume_op::resume_bus;
+use machine_resume_op::resume_control;
+use machine_resume_op::resume_driver;
+use machine_resume_op::resume_endpoint;
 use state::STATE_LEN;
 ghost use mathlib.Core.Path.{_≡_};
 ghost use mathlib.Core.List.{List, []};
@@ -43,7 +43,7 @@ ghost use Rattle.model.specs.Machine.{go};
 ghost use Rattle.machine.specs.Suspended.{decode, machineOf, drive, resumed, answerOf, lentOr, BufferUnchangedOnRow1, SavedUnchangedOnRefusal};
 
 // Goes on at an interrupt's point: the one dispatch on what is saved.
-fn proceed_interrupt(s: &mut [u8; STATE_LEN], slots: &mut [u8], v: u32) -> Step
+fn resume_interrupt(s: &mut [u8; STATE_LEN], slots: &mut [u8], v: u32) -> Step
     requires { ⌜ saved (now s) .tag ≡ 6 ⌝ }
     ensures { λ r. ⌜ (answerOf r [] (view (now (s .exit))), machineOf (now (s .exit)) (now (slots .exit))) ≡ resumed v (decode (saved (now (s .entry)))) (view (now (s .entry))) (now (slots .entry)) ⌝ }
     ensures { λ r. ⌜ SavedUnchangedOnRefusal r (now (s .entry)) (now (s .exit)) ⌝ }
@@ -80,29 +80,29 @@ fn proceed_interrupt(s: &mut [u8; STATE_LEN], slots: &mut [u8], v: u32) -> Step
 }
 
 // With the slots: as long as the driver's buffers.
-fn proceed_at(s: &mut [u8; STATE_LEN], slots: &mut [u8], v: u32) -> Step
+fn resume_at(s: &mut [u8; STATE_LEN], slots: &mut [u8], v: u32) -> Step
     ensures { λ r. ⌜ (answerOf r [] (view (now (s .exit))), machineOf (now (s .exit)) (now (slots .exit))) ≡ resumed v (decode (saved (now (s .entry)))) (view (now (s .entry))) (now (slots .entry)) ⌝ }
     ensures { λ r. ⌜ SavedUnchangedOnRefusal r (now (s .entry)) (now (s .exit)) ⌝ }
 {
     match tag(s) {
-        1 => proceed_driver(s, v),
-        2 => proceed_bus(s, slots, v),
-        3 => proceed_control(s, v),
-        4 => proceed_endpoint(s, v),
-        5 => proceed_advance(s, v),
-        6 => proceed_interrupt(s, slots, v),
+        1 => resume_driver(s, v),
+        2 => resume_bus(s, slots, v),
+        3 => resume_control(s, v),
+        4 => resume_endpoint(s, v),
+        5 => resume_advance(s, v),
+        6 => resume_interrupt(s, slots, v),
         _ => Step::Refused(15),
     }
 }
 
 // Goes on with the operation under way, with the number brought.
-pub fn proceed(s: &mut [u8; STATE_LEN], slots: &mut [u8], v: u32) -> Step
+pub fn resume(s: &mut [u8; STATE_LEN], slots: &mut [u8], v: u32) -> Step
     ensures { λ r. ⌜ ((a : List ℕ) → (answerOf r [] (view (now (s .exit))), machineOf (now (s .exit)) (lentOr (view (now (s .entry))) (now (slots .entry)) (now (slots .exit)) a)) ≡ drive (go v) (machineOf (now (s .entry)) a) (now (slots .entry))) ⌝ }
     ensures { λ _. ⌜ BufferUnchangedOnRow1 (view (now (s .entry))) (now (slots .entry)) (now (slots .exit)) ⌝ }
     ensures { λ r. ⌜ SavedUnchangedOnRefusal r (now (s .entry)) (now (s .exit)) ⌝ }
 {
     if slots_fit(s, slots) {
-        return proceed_at(s, slots, v);
+        return resume_at(s, slots, v);
     }
     Step::Refused(1)
 }

@@ -232,7 +232,7 @@ pub fn allocate(
 {
     let b = state::load_allocator(s);
     let size = b.size;
-    let z = alloc::allocate(b, kind, address, maximum, dir);
+    let z = alloc::alloc_endpoint(b, kind, address, maximum, dir);
     let a = z.answer;
     state::store_allocator(s, z.after);
     if (size as u32) < maximum {

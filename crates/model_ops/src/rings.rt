@@ -213,7 +213,7 @@ fn length16(n: usize, most: u16) -> u16
 }
 
 // A packet into the head's slot of an isochronous IN, where it has room (mod.rs 382-395).
-pub fn enqueue(s: &mut [u8; STATE_LEN], buf: &mut [u8], e: u8, bytes: &[u8])
+pub fn iso_in_enqueue(s: &mut [u8; STATE_LEN], buf: &mut [u8], e: u8, bytes: &[u8])
     ensures { λ _. ⌜ view (now (s .exit)) ≡ enqueueOn e (now (bytes .entry)) (view (now (s .entry)), now (buf .entry)) .0 ⌝ }
     ensures { λ _. ⌜ now (buf .exit) ≡ enqueueOn e (now (bytes .entry)) (view (now (s .entry)), now (buf .entry)) .1 ⌝ }
     ensures { λ _. ⌜ saved (now (s .exit)) ≡ saved (now (s .entry)) ⌝ }

@@ -44,7 +44,7 @@ fn direction(address: u8) -> Dir
 fn asked(a: Allocator, e: Endpoint) -> Allocation
     ensures { λ r. ⌜ r ≡ asked a e ⌝ }
 {
-    alloc::allocate(
+    alloc::alloc_endpoint(
         a,
         e.kind,
         e.address as u32,

@@ -59,7 +59,7 @@ pub fn capped(s: EpState, len: u16) -> u16
 }
 
 // The arrival is dropped and counted (mod.rs 505).
-pub fn turned_away(mut s: EpState) -> EpState
+pub fn overrun(mut s: EpState) -> EpState
     ensures { λ r. ⌜ r ≡ overrunOf s ⌝ }
 {
     s.overruns = std::num::wrapping_add_u32(s.overruns, 1);
@@ -73,7 +73,7 @@ pub fn arrived(s: EpState) -> EpState
     if has_room_out(s) {
         return joined(s);
     }
-    turned_away(s)
+    overrun(s)
 }
 
 // The slot at `addr` is armed (mod.rs 554).

@@ -22,7 +22,7 @@ pub fn proceed(
     ensures { λ _. ⌜ BufferUnchangedOnRow1 (view (now (s .entry))) (now (slots .entry)) (now (slots .exit)) ⌝ }
     ensures { λ r. ⌜ SavedUnchangedOnRefusal r (now (s .entry)) (now (s .exit)) ⌝ }
 {
-    let step = machine_resume::proceed(s, slots, v);
+    let step = machine_resume::resume(s, slots, v);
     gone_on(time, driver, step);
     step
 }

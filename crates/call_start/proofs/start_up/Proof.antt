@@ -12,7 +12,7 @@ use Rattle.driver.proofs.start_up.Reads as start-up-reads
 use Rattle.state.proofs.fresh.Reads as fresh-reads
 use Rattle.state.proofs.clear_wakes.Reads as clear-wakes-reads
 use Rattle.call_start.proofs.flag_of.Reads as flag-of-reads
-use Rattle.machine.proofs.halts.halted.Reads as halted-reads
+use Rattle.machine.proofs.halts.suspend_or_end.Reads as suspend-or-end-reads
 
 fits-requires : tie.Need-fits-requires
 fits-requires c κs = search needs
@@ -38,12 +38,12 @@ clear-wakes-requires c κs = search needs
 start-up-requires : tie.Need-start-up-requires
 start-up-requires c κs = search needs
 
-halted-requires : tie.Need-halted-requires
-halted-requires c κs = c .start-up .ensures .1
+suspend-or-end-requires : tie.Need-suspend-or-end-requires
+suspend-or-end-requires c κs = c .start-up .ensures .1
 
 returns : tie.Need-returns
 unfolding startRow
-returns c = (λ a. simp (← c .before .before .before .before .before .before .before .before .before .good-buffer .ensures, c .before .before .before .before .before .before .before .before .if2 .taken, ← c .before .before .before .before .before .before .before .before .before .before .before .fits2 .ensures, c .before .before .before .before .before .before .before .before .before .before .if1 .taken) (c .halted .ensures .0 _ ∙ simp (c .before .start-up .ensures .0, c .before .before .before .clear-wakes .ensures .0, c .before .before .before .before .before .fresh .ensures .0, c .before .before .before .before .before .before .flag-of .ensures)), c .halted .ensures .1 _)
+returns c = (λ a. simp (← c .before .before .before .before .before .before .before .before .before .good-buffer .ensures, c .before .before .before .before .before .before .before .before .if2 .taken, ← c .before .before .before .before .before .before .before .before .before .before .before .fits2 .ensures, c .before .before .before .before .before .before .before .before .before .before .if1 .taken) (c .suspend-or-end .ensures .0 _ ∙ simp (c .before .start-up .ensures .0, c .before .before .before .clear-wakes .ensures .0, c .before .before .before .before .before .fresh .ensures .0, c .before .before .before .before .before .before .flag-of .ensures)), c .suspend-or-end .ensures .1 _)
 
 returns-2 : tie.Need-returns-2
 unfolding startRow
@@ -65,7 +65,7 @@ start-up-spec =
     fresh-requires
     clear-wakes-requires
     start-up-requires
-    halted-requires
+    suspend-or-end-requires
     returns
     returns-2
     returns-3)

@@ -12,24 +12,24 @@ use Rattle.irq_check.proofs.after_dispatch.Tie as tie
 is-sof-requires : tie.Need-is-sof-requires
 is-sof-requires c κs = search needs
 
-after-check-requires : tie.Need-after-check-requires
-after-check-requires c κs = search needs
+ep0-moved-on-requires : tie.Need-ep0-moved-on-requires
+ep0-moved-on-requires c κs = search needs
 
 returns : tie.Need-returns
 unfolding afterDispatch
 returns c =
-    let the-after-check = c .after-check in
+    let the-after-check = c .ep0-moved-on in
     let a = c .before .before .before .before .before .args in
     let the-is-sof = c .before .before .before .is-sof in
     let the-if1 = c .before .before .if1 in
     (then-on (the-after-check .ensures .0 _) (when-no (a .setup) (isoOutCheck (a .x) (a .iso)) (λ _ u. run concrete (afterCheck (a .x)) u) _ _ (tells-not _ _ _ (the-is-sof .ensures) (the-if1 .taken))), the-after-check .ensures .1)
 
-begin-requires : tie.Need-begin-requires
-begin-requires c κs = search needs
+iso-out-check-requires : tie.Need-iso-out-check-requires
+iso-out-check-requires c κs = search needs
 
 checked-requires : tie.Need-checked-requires
 checked-requires c κs =
-    let the-begin = c .before .before .before .before .begin in
+    let the-begin = c .before .before .before .before .iso-out-check in
     the-begin .ensures .1 .1
 
 same-length : tie.Need-same-length
@@ -40,7 +40,7 @@ unfolding afterDispatch
 returns-2 c =
     let the-checked = c .checked in
     let a = c .before .before .before .before .before .before .before .before .before .before .before .args in
-    let the-begin = c .before .before .before .before .before .begin in
+    let the-begin = c .before .before .before .before .before .iso-out-check in
     let the-is-sof = c .before .before .before .before .before .before .before .before .before .is-sof in
     let the-if1 = c .before .before .before .before .before .before .before .before .if1 in
     (then-on (the-checked .ensures .0) (after (a .setup) (λ _ u. run concrete (afterCheck (a .x)) u) _ _ (the-begin .ensures .0) ∙ when-yes (a .setup) (isoOutCheck (a .x) (a .iso)) (λ _ u. run concrete (afterCheck (a .x)) u) _ _ (tells-not _ _ _ (the-is-sof .ensures) (the-if1 .left))), the-checked .ensures .1)
@@ -50,9 +50,9 @@ after-dispatch-spec =
     tie.close
     (tie.spec
     is-sof-requires
-    after-check-requires
+    ep0-moved-on-requires
     returns
-    begin-requires
+    iso-out-check-requires
     checked-requires
     same-length
     returns-2)

@@ -16,8 +16,8 @@ stand-check-requires c κs = search needs
 enum-told : tie.Need-enum-told
 enum-told c = search needs
 
-after-check-requires : tie.Need-after-check-requires
-after-check-requires c κs = search needs
+ep0-moved-on-requires : tie.Need-ep0-moved-on-requires
+ep0-moved-on-requires c κs = search needs
 
 returns : tie.Need-returns
 returns c =
@@ -28,7 +28,7 @@ returns c =
 
 returns-2 : tie.Need-returns-2
 returns-2 c =
-    let the-after-check = c .after-check in
+    let the-after-check = c .ep0-moved-on in
     let a = c .before .before .before .before .before .args in
     let the-enum-told = c .before .before .enum-told in
     (then-on (the-after-check .ensures .0 _) (check-ends (a .setup) (λ _ u. run concrete (afterCheck (a .x)) u) _ _ (a .x) (a .iso) _ (the-enum-told .given .1)), the-after-check .ensures .1)
@@ -40,6 +40,6 @@ checked-spec =
     enum-known-n
     stand-check-requires
     enum-told
-    after-check-requires
+    ep0-moved-on-requires
     returns
     returns-2)

@@ -16,11 +16,11 @@ entered-requires c κs = search needs
 naks-first-requires : tie.Need-naks-first-requires
 naks-first-requires c κs = search needs
 
-begin-requires : tie.Need-begin-requires
-begin-requires c κs = search needs
+nak-non-iso-requires : tie.Need-nak-non-iso-requires
+nak-non-iso-requires c κs = search needs
 
 then-nak-requires : tie.Need-then-nak-requires
-then-nak-requires c κs = c .before .begin .ensures .1
+then-nak-requires c κs = c .before .nak-non-iso .ensures .1
 
 returns : tie.Need-returns
 returns c =
@@ -28,7 +28,7 @@ returns c =
     let a = c .before .before .before .before .before .before .before .before .args in
     let the-entered = c .before .before .before .before .before .before .entered in
     let the-short = c .before .before .before .before .before .before .before .short in
-    let the-begin = c .before .before .begin in
+    let the-begin = c .before .before .nak-non-iso in
     let the-naks-first = c .before .before .before .before .before .naks-first in
     let the-if1 = c .before .before .before .before .if1 in
     (λ b. then-on (the-then-nak .ensures .0 b) (entered-nak (a .setup) (a .busy) (a .st) _ _ _ b (the-entered .ensures ∙ ap (λ (z : ℕ). enteredAs (a .busy) (a .st) z) (the-short .ensures)) (the-begin .result) (the-begin .ensures .0 b) (tells _ _ _ (the-naks-first .ensures) (the-if1 .taken))), the-then-nak .ensures .1)
@@ -53,7 +53,7 @@ after-len-spec =
     short-requires
     entered-requires
     naks-first-requires
-    begin-requires
+    nak-non-iso-requires
     then-nak-requires
     returns
     release-requires

@@ -7,12 +7,12 @@ use borrow.Author.Needs.{needs}
 use Rattle.irq_tokens.proofs.after_completing.Statement.{statement}
 use Rattle.irq_tokens.proofs.after_completing.Tie as tie
 
-resume-requires : tie.Need-resume-requires
-resume-requires c κs = search needs
+iso-in-complete-resume-requires : tie.Need-iso-in-complete-resume-requires
+iso-in-complete-resume-requires c κs = search needs
 
 then-complete-requires : tie.Need-then-complete-requires
 then-complete-requires c κs =
-    let the-resume = c .before .before .resume in
+    let the-resume = c .before .before .iso-in-complete-resume in
     the-resume .ensures .1 .1
 
 same-length : tie.Need-same-length
@@ -22,14 +22,14 @@ returns : tie.Need-returns
 returns c =
     let the-then-complete = c .before .before .then-complete in
     let a = c .before .before .before .before .before .before .before .before .args in
-    let the-resume = c .before .before .before .before .before .resume in
+    let the-resume = c .before .before .before .before .before .iso-in-complete-resume in
     (λ v. then-on (the-then-complete .ensures .0) (after (a .setup) (λ _ u. run concrete (afterDispatch (a .x) (a .iso)) u) _ _ (the-resume .ensures .0 _)), the-then-complete .ensures .1)
 
 pub after-completing-spec : {M : Type 1} → statement M
 after-completing-spec =
     tie.close
     (tie.spec
-    resume-requires
+    iso-in-complete-resume-requires
     then-complete-requires
     same-length
     returns)

@@ -37,12 +37,12 @@ returns c =
 first-in-frame-requires : tie.Need-first-in-frame-requires
 first-in-frame-requires c κs = search needs
 
-begin-requires : tie.Need-begin-requires
-begin-requires c κs = search needs
+iso-in-complete-requires : tie.Need-iso-in-complete-requires
+iso-in-complete-requires c κs = search needs
 
 then-complete-requires : tie.Need-then-complete-requires
 then-complete-requires c κs =
-    let the-begin = c .before .before .begin in
+    let the-begin = c .before .before .iso-in-complete in
     the-begin .ensures .1 .1
 
 same-length-2 : tie.Need-same-length-2
@@ -52,7 +52,7 @@ returns-2 : tie.Need-returns-2
 returns-2 c =
     let the-then-complete = c .before .before .then-complete in
     let a = c .before .before .before .before .before .before .before .before .before .before .before .before .before .before .before .before .args in
-    let the-begin = c .before .before .before .before .before .begin in
+    let the-begin = c .before .before .before .before .before .iso-in-complete in
     let the-endpoint = c .before .before .before .before .before .before .before .before .before .before .before .before .before .before .endpoint in
     let the-first-in-frame = c .before .before .before .before .before .before .before .before .first-in-frame in
     let the-if2 = c .before .before .before .before .before .before .before .if2 in
@@ -90,7 +90,7 @@ iso-in-arm-spec =
     same-length
     returns
     first-in-frame-requires
-    begin-requires
+    iso-in-complete-requires
     then-complete-requires
     same-length-2
     returns-2

@@ -27,12 +27,12 @@ returns c =
     let the-if1 = c .before .before .before .before .before .if1 in
     (then-on (the-after-dispatch .ensures .0) (when-no (a .setup) (onSof (a .frame)) (λ _ u. run concrete (afterDispatch (a .x) (a .iso)) u) _ _ (sof-handled _ _ _ _ (the-load-globals .ensures) (eq-eqb _ _ (the-if1 .taken)))), the-after-dispatch .ensures .1)
 
-begin-requires : tie.Need-begin-requires
-begin-requires c κs = search needs
+on-sof-requires : tie.Need-on-sof-requires
+on-sof-requires c κs = search needs
 
 then-sof-arm-requires : tie.Need-then-sof-arm-requires
 then-sof-arm-requires c κs =
-    let the-begin = c .before .before .begin in
+    let the-begin = c .before .before .on-sof in
     the-begin .ensures .1 .1
 
 same-length-2 : tie.Need-same-length-2
@@ -42,7 +42,7 @@ returns-2 : tie.Need-returns-2
 returns-2 c =
     let the-then-sof-arm = c .before .before .then-sof-arm in
     let a = c .before .before .before .before .before .before .before .before .before .before .before .before .args in
-    let the-begin = c .before .before .before .before .before .begin in
+    let the-begin = c .before .before .before .before .before .on-sof in
     let the-load-globals = c .before .before .before .before .before .before .before .before .before .load-globals in
     let the-if1 = c .before .before .before .before .before .before .before .if1 in
     (then-on (the-then-sof-arm .ensures .0) (after (a .setup) (λ _ u. run concrete (afterDispatch (a .x) (a .iso)) u) _ _ (the-begin .ensures .0 _) ∙ when-yes (a .setup) (onSof (a .frame)) (λ _ u. run concrete (afterDispatch (a .x) (a .iso)) u) _ _ (sof-handled _ _ _ _ (the-load-globals .ensures) (ne-eqb _ _ (the-if1 .left)))), the-then-sof-arm .ensures .1)
@@ -55,7 +55,7 @@ sof-arm-spec =
     after-dispatch-requires
     same-length
     returns
-    begin-requires
+    on-sof-requires
     then-sof-arm-requires
     same-length-2
     returns-2)

@@ -4,22 +4,22 @@ use Rattle.req_preview.specs.Trial.{asked}
 use Rattle.req_preview.proofs.asked.Statement.{statement}
 use Rattle.req_preview.proofs.asked.Tie as tie
 
-cast-allocate : tie.Need-cast-allocate
-cast-allocate c = search needs
+cast-alloc-endpoint : tie.Need-cast-alloc-endpoint
+cast-alloc-endpoint c = search needs
 
-cast-allocate-2 : tie.Need-cast-allocate-2
-cast-allocate-2 c = search needs
+cast-alloc-endpoint-2 : tie.Need-cast-alloc-endpoint-2
+cast-alloc-endpoint-2 c = search needs
 
 direction-requires : tie.Need-direction-requires
 direction-requires c κs = search needs
 
-allocate-requires : tie.Need-allocate-requires
-allocate-requires c κs = search needs
+alloc-endpoint-requires : tie.Need-alloc-endpoint-requires
+alloc-endpoint-requires c κs = search needs
 
 returns : tie.Need-returns
 unfolding asked
-returns c = c .allocate .ensures ∙ rw (c .before .direction .ensures)
+returns c = c .alloc-endpoint .ensures ∙ rw (c .before .direction .ensures)
 
 pub asked-spec : {M : Type 1} → statement M
 asked-spec =
-    tie.close (tie.spec cast-allocate cast-allocate-2 direction-requires allocate-requires returns)
+    tie.close (tie.spec cast-alloc-endpoint cast-alloc-endpoint-2 direction-requires alloc-endpoint-requires returns)

@@ -13,12 +13,12 @@ returns : tie.Need-returns
 unfolding arrivedOf
 returns c = simp (c .joined .ensures, c .before .if1 .taken, ← c .before .before .has-room-out .ensures)
 
-turned-away-requires : tie.Need-turned-away-requires
-turned-away-requires c κs = search needs
+overrun-requires : tie.Need-overrun-requires
+overrun-requires c κs = search needs
 
 returns-2 : tie.Need-returns-2
 unfolding arrivedOf
-returns-2 c = simp (c .turned-away .ensures, c .before .if1 .left, ← c .before .before .has-room-out .ensures)
+returns-2 c = simp (c .overrun .ensures, c .before .if1 .left, ← c .before .before .has-room-out .ensures)
 
 pub arrived-spec : {M : Type 1} → statement M
 arrived-spec =
@@ -27,5 +27,5 @@ arrived-spec =
     has-room-out-requires
     joined-requires
     returns
-    turned-away-requires
+    overrun-requires
     returns-2)

@@ -15,7 +15,7 @@ use Rattle.call_bus.proofs.bus_begins.begin_bus_enable.Lts as lts
 use Rattle.bus_events.proofs.enable.Reads as enable-reads
 use Rattle.state.proofs.clear_wakes.Reads as clear-wakes-reads
 use Rattle.machine.proofs.stops.stop.Reads as stop-reads
-use Rattle.machine.proofs.halts.halted_bus.Reads as halted-bus-reads
+use Rattle.machine.proofs.halts.suspend_or_end_bus.Reads as suspend-or-end-bus-reads
 
 stop-requires : tie.Need-stop-requires
 stop-requires c κs = search needs
@@ -26,11 +26,11 @@ clear-wakes-requires c κs = search needs
 enable-requires : tie.Need-enable-requires
 enable-requires c κs = search needs
 
-halted-bus-requires : tie.Need-halted-bus-requires
-halted-bus-requires c κs = c .enable .ensures .1
+suspend-or-end-bus-requires : tie.Need-suspend-or-end-bus-requires
+suspend-or-end-bus-requires c κs = c .enable .ensures .1
 
 returns : tie.Need-returns
-returns c = (λ a b. back (other-call calls.BusEnable 2 (resultless script.enable) (decode (saved (now (c .before .before .before .before .before .before .before .before .args .s)))) (view (now (c .before .before .before .before .before .before .before .before .args .s))) a b refl) (c .halted-bus .ensures .0 b ∙ simp (c .before .enable .ensures .0, c .before .before .before .clear-wakes .ensures .0, ← c .before .before .before .before .before .before .stop .ensures, eq-eqb _ _ (c .before .before .before .before .before .if1 .taken))), c .halted-bus .ensures .1 _)
+returns c = (λ a b. back (other-call calls.BusEnable 2 (resultless script.enable) (decode (saved (now (c .before .before .before .before .before .before .before .before .args .s)))) (view (now (c .before .before .before .before .before .before .before .before .args .s))) a b refl) (c .suspend-or-end-bus .ensures .0 b ∙ simp (c .before .enable .ensures .0, c .before .before .before .clear-wakes .ensures .0, ← c .before .before .before .before .before .before .stop .ensures, eq-eqb _ _ (c .before .before .before .before .before .if1 .taken))), c .suspend-or-end-bus .ensures .1 _)
 
 returns-2 : tie.Need-returns-2
 returns-2 c = (λ a b. back (other-call calls.BusEnable 2 (resultless script.enable) (decode (saved (now (c .before .before .before .args .s)))) (view (now (c .before .before .before .args .s))) a b refl) (simp (← c .before .stop .ensures, ne-eqb _ _ (c .if1 .left))), refl)
@@ -42,6 +42,6 @@ begin-bus-enable-spec =
     stop-requires
     clear-wakes-requires
     enable-requires
-    halted-bus-requires
+    suspend-or-end-bus-requires
     returns
     returns-2)

@@ -14,13 +14,13 @@ use Rattle.call_bus.proofs.bus_begins.begin_set_enabled.Statement.{stat
 use Rattle.call_bus.proofs.bus_begins.begin_set_enabled.Tie as tie
 use Rattle.call_bus.proofs.bus_begins.begin_set_enabled.Reads as reads
 use Rattle.call_bus.proofs.bus_begins.begin_set_enabled.Lts as lts
-use Rattle.bus_set_enabled.proofs.set_enabled.Reads as set-enabled-reads
+use Rattle.bus_set_enabled.proofs.endpoint_set_enabled.Reads as endpoint-set-enabled-reads
 use Rattle.state.proofs.clear_wakes.Reads as clear-wakes-reads
 use Rattle.machine.proofs.stops.slots_fit.Reads as slots-fit-reads
 use Rattle.endpoint_rows.proofs.low.Reads as low-reads
 use Rattle.endpoint_rows.proofs.is_allocated.Reads as is-allocated-reads
 use Rattle.machine.proofs.stops.stop.Reads as stop-reads
-use Rattle.machine.proofs.halts.halted_bus.Reads as halted-bus-reads
+use Rattle.machine.proofs.halts.suspend_or_end_bus.Reads as suspend-or-end-bus-reads
 
 slots-fit-requires : tie.Need-slots-fit-requires
 slots-fit-requires c κs = search needs
@@ -37,17 +37,17 @@ clear-wakes-requires c κs = search needs
 low-requires : tie.Need-low-requires
 low-requires c κs = allocated-number _ _ _ (sym (c .before .before .before .before .before .is-allocated .ensures) ∙ c .before .before .before .before .if3 .taken)
 
-set-enabled-requires : tie.Need-set-enabled-requires
-set-enabled-requires c κs = search needs
+endpoint-set-enabled-requires : tie.Need-endpoint-set-enabled-requires
+endpoint-set-enabled-requires c κs = search needs
 
-halted-bus-requires : tie.Need-halted-bus-requires
-halted-bus-requires c κs = c .before .before .before .set-enabled .ensures .1 .1
+suspend-or-end-bus-requires : tie.Need-suspend-or-end-bus-requires
+suspend-or-end-bus-requires c κs = c .before .before .before .endpoint-set-enabled .ensures .1 .1
 
 same-length : tie.Need-same-length
 same-length c = search needs
 
 returns : tie.Need-returns
-returns c = (λ a. back (named-call (calls.SetEnabled (c .before .before .before .before .before .before .before .before .before .before .before .before .before .before .before .before .before .before .before .before .before .args .dir) (c .before .before .before .before .before .before .before .before .before .before .before .before .before .before .before .before .before .before .before .before .before .args .e) (c .before .before .before .before .before .before .before .before .before .before .before .before .before .before .before .before .before .before .before .before .before .args .on)) (c .before .before .before .before .before .before .before .before .before .before .before .before .before .before .before .before .before .before .before .before .before .args .dir) (c .before .before .before .before .before .before .before .before .before .before .before .before .before .before .before .before .before .before .before .before .before .args .e) (resultless (script.setEnabled (c .before .before .before .before .before .before .before .before .before .before .before .before .before .before .before .before .before .before .before .before .before .args .dir) (c .before .before .before .before .before .before .before .before .before .before .before .before .before .before .before .before .before .before .before .before .before .args .e) (c .before .before .before .before .before .before .before .before .before .before .before .before .before .before .before .before .before .before .before .before .before .args .on))) (decode (saved (now (c .before .before .before .before .before .before .before .before .before .before .before .before .before .before .before .before .before .before .before .before .before .args .s)))) (view (now (c .before .before .before .before .before .before .before .before .before .before .before .before .before .before .before .before .before .before .before .before .before .args .s))) a (now (c .before .before .before .before .before .before .before .before .before .before .before .before .before .before .before .before .before .before .before .before .before .args .slots)) refl) (simp (← c .before .before .before .before .before .before .before .before .before .before .before .before .before .before .before .before .before .slots-fit .ensures, c .before .before .before .before .before .before .before .before .before .before .before .before .before .before .before .before .if1 .taken) (c .halted-bus .ensures .0 _ ∙ simp (c .before .before .before .before .set-enabled .ensures .0, c .before .before .before .before .before .low .ensures, c .before .before .before .before .before .before .before .before .clear-wakes .ensures .0, ← c .before .before .before .before .before .before .before .before .before .before .before .before .before .before .stop .ensures, eq-eqb _ _ (c .before .before .before .before .before .before .before .before .before .before .before .before .before .if2 .taken), ← c .before .before .before .before .before .before .before .before .before .before .before .is-allocated .ensures, c .before .before .before .before .before .before .before .before .before .before .if3 .taken))), (as-lent _ _ _ (sym (c .before .before .before .before .before .before .before .before .before .before .before .before .before .before .before .before .before .slots-fit .ensures) ∙ c .before .before .before .before .before .before .before .before .before .before .before .before .before .before .before .before .if1 .taken), c .halted-bus .ensures .1 _))
+returns c = (λ a. back (named-call (calls.SetEnabled (c .before .before .before .before .before .before .before .before .before .before .before .before .before .before .before .before .before .before .before .before .before .args .dir) (c .before .before .before .before .before .before .before .before .before .before .before .before .before .before .before .before .before .before .before .before .before .args .e) (c .before .before .before .before .before .before .before .before .before .before .before .before .before .before .before .before .before .before .before .before .before .args .on)) (c .before .before .before .before .before .before .before .before .before .before .before .before .before .before .before .before .before .before .before .before .before .args .dir) (c .before .before .before .before .before .before .before .before .before .before .before .before .before .before .before .before .before .before .before .before .before .args .e) (resultless (script.setEnabled (c .before .before .before .before .before .before .before .before .before .before .before .before .before .before .before .before .before .before .before .before .before .args .dir) (c .before .before .before .before .before .before .before .before .before .before .before .before .before .before .before .before .before .before .before .before .before .args .e) (c .before .before .before .before .before .before .before .before .before .before .before .before .before .before .before .before .before .before .before .before .before .args .on))) (decode (saved (now (c .before .before .before .before .before .before .before .before .before .before .before .before .before .before .before .before .before .before .before .before .before .args .s)))) (view (now (c .before .before .before .before .before .before .before .before .before .before .before .before .before .before .before .before .before .before .before .before .before .args .s))) a (now (c .before .before .before .before .before .before .before .before .before .before .before .before .before .before .before .before .before .before .before .before .before .args .slots)) refl) (simp (← c .before .before .before .before .before .before .before .before .before .before .before .before .before .before .before .before .before .slots-fit .ensures, c .before .before .before .before .before .before .before .before .before .before .before .before .before .before .before .before .if1 .taken) (c .suspend-or-end-bus .ensures .0 _ ∙ simp (c .before .before .before .before .endpoint-set-enabled .ensures .0, c .before .before .before .before .before .low .ensures, c .before .before .before .before .before .before .before .before .clear-wakes .ensures .0, ← c .before .before .before .before .before .before .before .before .before .before .before .before .before .before .stop .ensures, eq-eqb _ _ (c .before .before .before .before .before .before .before .before .before .before .before .before .before .if2 .taken), ← c .before .before .before .before .before .before .before .before .before .before .before .is-allocated .ensures, c .before .before .before .before .before .before .before .before .before .before .if3 .taken))), (as-lent _ _ _ (sym (c .before .before .before .before .before .before .before .before .before .before .before .before .before .before .before .before .before .slots-fit .ensures) ∙ c .before .before .before .before .before .before .before .before .before .before .before .before .before .before .before .before .if1 .taken), c .suspend-or-end-bus .ensures .1 _))
 
 same-length-2 : tie.Need-same-length-2
 same-length-2 c = search needs
@@ -76,8 +76,8 @@ begin-set-enabled-spec =
     is-allocated-requires
     clear-wakes-requires
     low-requires
-    set-enabled-requires
-    halted-bus-requires
+    endpoint-set-enabled-requires
+    suspend-or-end-bus-requires
     same-length
     returns
     same-length-2

@@ -14,12 +14,12 @@ use Rattle.call_bus.proofs.bus_begins.begin_set_stalled.Statement.{stat
 use Rattle.call_bus.proofs.bus_begins.begin_set_stalled.Tie as tie
 use Rattle.call_bus.proofs.bus_begins.begin_set_stalled.Reads as reads
 use Rattle.call_bus.proofs.bus_begins.begin_set_stalled.Lts as lts
-use Rattle.bus_set_stalled.proofs.set_stalled.Reads as set-stalled-reads
+use Rattle.bus_set_stalled.proofs.set_endpoint_stalled.Reads as set-endpoint-stalled-reads
 use Rattle.state.proofs.clear_wakes.Reads as clear-wakes-reads
 use Rattle.endpoint_rows.proofs.endpoint.Reads as endpoint-reads
 use Rattle.endpoint_rows.proofs.is_stallable.Reads as is-stallable-reads
 use Rattle.machine.proofs.stops.stop.Reads as stop-reads
-use Rattle.machine.proofs.halts.halted_bus.Reads as halted-bus-reads
+use Rattle.machine.proofs.halts.suspend_or_end_bus.Reads as suspend-or-end-bus-reads
 
 stop-requires : tie.Need-stop-requires
 stop-requires c κs = search needs
@@ -33,14 +33,14 @@ clear-wakes-requires c κs = search needs
 endpoint-requires : tie.Need-endpoint-requires
 endpoint-requires c κs = stallable-lt _ _ _ (sym (c .before .before .before .before .is-stallable .ensures) ∙ c .before .before .before .if2 .taken)
 
-set-stalled-requires : tie.Need-set-stalled-requires
-set-stalled-requires c κs = search needs
+set-endpoint-stalled-requires : tie.Need-set-endpoint-stalled-requires
+set-endpoint-stalled-requires c κs = search needs
 
-halted-bus-requires : tie.Need-halted-bus-requires
-halted-bus-requires c κs = c .before .set-stalled .ensures .1 .1
+suspend-or-end-bus-requires : tie.Need-suspend-or-end-bus-requires
+suspend-or-end-bus-requires c κs = c .before .set-endpoint-stalled .ensures .1 .1
 
 returns : tie.Need-returns
-returns c = (λ a b. back (stall-call (calls.SetStalled (c .before .before .before .before .before .before .before .before .before .before .before .before .before .args .dir) (c .before .before .before .before .before .before .before .before .before .before .before .before .before .args .e) (c .before .before .before .before .before .before .before .before .before .before .before .before .before .args .on)) (c .before .before .before .before .before .before .before .before .before .before .before .before .before .args .dir) (c .before .before .before .before .before .before .before .before .before .before .before .before .before .args .e) (resultless (script.setStalled (c .before .before .before .before .before .before .before .before .before .before .before .before .before .args .dir) (c .before .before .before .before .before .before .before .before .before .before .before .before .before .args .e) (c .before .before .before .before .before .before .before .before .before .before .before .before .before .args .on))) (decode (saved (now (c .before .before .before .before .before .before .before .before .before .before .before .before .before .args .s)))) (view (now (c .before .before .before .before .before .before .before .before .before .before .before .before .before .args .s))) a b refl) (c .halted-bus .ensures .0 b ∙ simp (c .before .before .set-stalled .ensures .0, c .before .before .before .endpoint .ensures, c .before .before .before .before .before .clear-wakes .ensures .0, ← c .before .before .before .before .before .before .before .before .before .before .before .stop .ensures, eq-eqb _ _ (c .before .before .before .before .before .before .before .before .before .before .if1 .taken), ← c .before .before .before .before .before .before .before .before .is-stallable .ensures, c .before .before .before .before .before .before .before .if2 .taken)), c .halted-bus .ensures .1 _)
+returns c = (λ a b. back (stall-call (calls.SetStalled (c .before .before .before .before .before .before .before .before .before .before .before .before .before .args .dir) (c .before .before .before .before .before .before .before .before .before .before .before .before .before .args .e) (c .before .before .before .before .before .before .before .before .before .before .before .before .before .args .on)) (c .before .before .before .before .before .before .before .before .before .before .before .before .before .args .dir) (c .before .before .before .before .before .before .before .before .before .before .before .before .before .args .e) (resultless (script.setStalled (c .before .before .before .before .before .before .before .before .before .before .before .before .before .args .dir) (c .before .before .before .before .before .before .before .before .before .before .before .before .before .args .e) (c .before .before .before .before .before .before .before .before .before .before .before .before .before .args .on))) (decode (saved (now (c .before .before .before .before .before .before .before .before .before .before .before .before .before .args .s)))) (view (now (c .before .before .before .before .before .before .before .before .before .before .before .before .before .args .s))) a b refl) (c .suspend-or-end-bus .ensures .0 b ∙ simp (c .before .before .set-endpoint-stalled .ensures .0, c .before .before .before .endpoint .ensures, c .before .before .before .before .before .clear-wakes .ensures .0, ← c .before .before .before .before .before .before .before .before .before .before .before .stop .ensures, eq-eqb _ _ (c .before .before .before .before .before .before .before .before .before .before .if1 .taken), ← c .before .before .before .before .before .before .before .before .is-stallable .ensures, c .before .before .before .before .before .before .before .if2 .taken)), c .suspend-or-end-bus .ensures .1 _)
 
 returns-2 : tie.Need-returns-2
 returns-2 c = (λ a b. back (stall-call (calls.SetStalled (c .before .before .before .before .before .before .args .dir) (c .before .before .before .before .before .before .args .e) (c .before .before .before .before .before .before .args .on)) (c .before .before .before .before .before .before .args .dir) (c .before .before .before .before .before .before .args .e) (resultless (script.setStalled (c .before .before .before .before .before .before .args .dir) (c .before .before .before .before .before .before .args .e) (c .before .before .before .before .before .before .args .on))) (decode (saved (now (c .before .before .before .before .before .before .args .s)))) (view (now (c .before .before .before .before .before .before .args .s))) a b refl) (simp (← c .before .before .before .before .stop .ensures, eq-eqb _ _ (c .before .before .before .if1 .taken), ← c .before .is-stallable .ensures, c .if2 .left)), refl)
@@ -56,8 +56,8 @@ begin-set-stalled-spec =
     is-stallable-requires
     clear-wakes-requires
     endpoint-requires
-    set-stalled-requires
-    halted-bus-requires
+    set-endpoint-stalled-requires
+    suspend-or-end-bus-requires
     returns
     returns-2
     returns-3)

@@ -11,7 +11,7 @@ use Rattle.call_control.proofs.control_begins.begin_data_in.Statement.{
 use Rattle.call_control.proofs.control_begins.begin_data_in.Tie as tie
 use Rattle.call_control.proofs.control_begins.begin_data_in.Reads as reads
 use Rattle.call_control.proofs.control_begins.begin_data_in.Lts as lts
-use Rattle.control.proofs.begin_data_in.Reads as begin-data-in-reads
+use Rattle.control.proofs.data_in.Reads as data-in-reads
 use Rattle.machine.proofs.halts.begun_control.Reads as begun-control-reads
 use Rattle.machine.proofs.stops.slots_fit.Reads as slots-fit-reads
 use Rattle.machine.proofs.saved.is_idle.Reads as is-idle-reads
@@ -22,17 +22,17 @@ slots-fit-requires c κs = search needs
 is-idle-requires : tie.Need-is-idle-requires
 is-idle-requires c κs = search needs
 
-begin-data-in-requires : tie.Need-begin-data-in-requires
-begin-data-in-requires c κs = search needs
+data-in-requires : tie.Need-data-in-requires
+data-in-requires c κs = search needs
 
 begun-control-requires : tie.Need-begun-control-requires
-begun-control-requires c κs = (c .before .before .before .begin-data-in .ensures .1 .1, simp (c .before .before .before .begin-data-in .ensures .1 .0) (sym (c .before .before .before .before .before .before .before .is-idle .ensures) ∙ c .before .before .before .before .before .before .if2 .taken))
+begun-control-requires c κs = (c .before .before .before .data-in .ensures .1 .1, simp (c .before .before .before .data-in .ensures .1 .0) (sym (c .before .before .before .before .before .before .before .is-idle .ensures) ∙ c .before .before .before .before .before .before .if2 .taken))
 
 same-length : tie.Need-same-length
 same-length c = search needs
 
 returns : tie.Need-returns
-returns c = (λ a. back (slotted-idle (calls.BeginDataIn (now (c .before .before .before .before .before .before .before .before .before .before .before .before .before .before .before .before .args .bytes)) (c .before .before .before .before .before .before .before .before .before .before .before .before .before .before .before .before .args .first) (c .before .before .before .before .before .before .before .before .before .before .before .before .before .before .before .before .args .last)) (decode (saved (now (c .before .before .before .before .before .before .before .before .before .before .before .before .before .before .before .before .args .s)))) (view (now (c .before .before .before .before .before .before .before .before .before .before .before .before .before .before .before .before .args .s))) a (now (c .before .before .before .before .before .before .before .before .before .before .before .before .before .before .before .before .args .slots))) (simp (← c .before .before .before .before .before .before .before .before .before .before .before .slots-fit .ensures, c .before .before .before .before .before .before .before .before .before .before .if1 .taken) (c .begun-control .ensures .0 _ ∙ simp (c .before .before .before .before .begin-data-in .ensures .0, ← c .before .before .before .before .before .before .before .before .is-idle .ensures, c .before .before .before .before .before .before .before .if2 .taken))), (as-lent _ _ _ (sym (c .before .before .before .before .before .before .before .before .before .before .before .slots-fit .ensures) ∙ c .before .before .before .before .before .before .before .before .before .before .if1 .taken), kept-from (c .begun-control .result) _ _ _ (c .before .before .before .before .begin-data-in .ensures .1 .0) (c .begun-control .ensures .1)))
+returns c = (λ a. back (slotted-idle (calls.BeginDataIn (now (c .before .before .before .before .before .before .before .before .before .before .before .before .before .before .before .before .args .bytes)) (c .before .before .before .before .before .before .before .before .before .before .before .before .before .before .before .before .args .first) (c .before .before .before .before .before .before .before .before .before .before .before .before .before .before .before .before .args .last)) (decode (saved (now (c .before .before .before .before .before .before .before .before .before .before .before .before .before .before .before .before .args .s)))) (view (now (c .before .before .before .before .before .before .before .before .before .before .before .before .before .before .before .before .args .s))) a (now (c .before .before .before .before .before .before .before .before .before .before .before .before .before .before .before .before .args .slots))) (simp (← c .before .before .before .before .before .before .before .before .before .before .before .slots-fit .ensures, c .before .before .before .before .before .before .before .before .before .before .if1 .taken) (c .begun-control .ensures .0 _ ∙ simp (c .before .before .before .before .data-in .ensures .0, ← c .before .before .before .before .before .before .before .before .is-idle .ensures, c .before .before .before .before .before .before .before .if2 .taken))), (as-lent _ _ _ (sym (c .before .before .before .before .before .before .before .before .before .before .before .slots-fit .ensures) ∙ c .before .before .before .before .before .before .before .before .before .before .if1 .taken), kept-from (c .begun-control .result) _ _ _ (c .before .before .before .before .data-in .ensures .1 .0) (c .begun-control .ensures .1)))
 
 same-length-2 : tie.Need-same-length-2
 same-length-2 c = search needs
@@ -52,7 +52,7 @@ begin-data-in-spec =
     (tie.spec
     slots-fit-requires
     is-idle-requires
-    begin-data-in-requires
+    data-in-requires
     begun-control-requires
     same-length
     returns

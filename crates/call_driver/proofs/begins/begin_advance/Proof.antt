@@ -12,11 +12,11 @@ use Rattle.call_driver.proofs.begins.begin_advance.Statement.{statement
 use Rattle.call_driver.proofs.begins.begin_advance.Tie as tie
 use Rattle.call_driver.proofs.begins.begin_advance.Reads as reads
 use Rattle.call_driver.proofs.begins.begin_advance.Lts as lts
-use Rattle.iso_in.proofs.advance.begin.Reads as begin-reads
+use Rattle.iso_in.proofs.advance.iso_in_advance.Reads as iso-in-advance-reads
 use Rattle.state.proofs.clear_wakes.Reads as clear-wakes-reads
 use Rattle.endpoint_rows.proofs.is_number.Reads as is-number-reads
 use Rattle.endpoint_rows.proofs.low.Reads as low-reads
-use Rattle.machine.proofs.halts.halted_advance.Reads as halted-advance-reads
+use Rattle.machine.proofs.halts.suspend_or_end_advance.Reads as suspend-or-end-advance-reads
 use Rattle.machine.proofs.stops.stop.Reads as stop-reads
 
 stop-requires : tie.Need-stop-requires
@@ -31,14 +31,14 @@ clear-wakes-requires c κs = search needs
 low-requires : tie.Need-low-requires
 low-requires c κs = simp (← c .before .before .before .before .is-number .ensures, c .before .before .before .if2 .taken)
 
-begin-requires : tie.Need-begin-requires
-begin-requires c κs = search needs
+iso-in-advance-requires : tie.Need-iso-in-advance-requires
+iso-in-advance-requires c κs = search needs
 
-halted-advance-requires : tie.Need-halted-advance-requires
-halted-advance-requires c κs = c .before .begin .ensures .1 .1
+suspend-or-end-advance-requires : tie.Need-suspend-or-end-advance-requires
+suspend-or-end-advance-requires c κs = c .before .iso-in-advance .ensures .1 .1
 
 returns : tie.Need-returns
-returns c = (λ a b. back (numbered-call (calls.Advance (c .before .before .before .before .before .before .before .before .before .before .before .before .args .e)) (c .before .before .before .before .before .before .before .before .before .before .before .before .args .e) (resultless (script.isoInAdvance (c .before .before .before .before .before .before .before .before .before .before .before .before .args .e))) (decode (saved (now (c .before .before .before .before .before .before .before .before .before .before .before .before .args .s)))) (view (now (c .before .before .before .before .before .before .before .before .before .before .before .before .args .s))) a b refl) (c .halted-advance .ensures .0 b ∙ simp (c .before .before .begin .ensures .0, c .before .before .before .low .ensures, c .before .before .before .before .before .clear-wakes .ensures .0, ← c .before .before .before .before .before .before .before .before .before .before .stop .ensures, eq-eqb _ _ (c .before .before .before .before .before .before .before .before .before .if1 .taken), ← c .before .before .before .before .before .before .before .before .is-number .ensures, c .before .before .before .before .before .before .before .if2 .taken)), c .halted-advance .ensures .1 _)
+returns c = (λ a b. back (numbered-call (calls.Advance (c .before .before .before .before .before .before .before .before .before .before .before .before .args .e)) (c .before .before .before .before .before .before .before .before .before .before .before .before .args .e) (resultless (script.isoInAdvance (c .before .before .before .before .before .before .before .before .before .before .before .before .args .e))) (decode (saved (now (c .before .before .before .before .before .before .before .before .before .before .before .before .args .s)))) (view (now (c .before .before .before .before .before .before .before .before .before .before .before .before .args .s))) a b refl) (c .suspend-or-end-advance .ensures .0 b ∙ simp (c .before .before .iso-in-advance .ensures .0, c .before .before .before .low .ensures, c .before .before .before .before .before .clear-wakes .ensures .0, ← c .before .before .before .before .before .before .before .before .before .before .stop .ensures, eq-eqb _ _ (c .before .before .before .before .before .before .before .before .before .if1 .taken), ← c .before .before .before .before .before .before .before .before .is-number .ensures, c .before .before .before .before .before .before .before .if2 .taken)), c .suspend-or-end-advance .ensures .1 _)
 
 returns-2 : tie.Need-returns-2
 returns-2 c = (λ a b. back (numbered-call (calls.Advance (c .before .before .before .before .before .args .e)) (c .before .before .before .before .before .args .e) (resultless (script.isoInAdvance (c .before .before .before .before .before .args .e))) (decode (saved (now (c .before .before .before .before .before .args .s)))) (view (now (c .before .before .before .before .before .args .s))) a b refl) (simp (← c .before .before .before .stop .ensures, eq-eqb _ _ (c .before .before .if1 .taken), ← c .before .is-number .ensures, c .if2 .left)), refl)
@@ -54,8 +54,8 @@ begin-advance-spec =
     is-number-requires
     clear-wakes-requires
     low-requires
-    begin-requires
-    halted-advance-requires
+    iso-in-advance-requires
+    suspend-or-end-advance-requires
     returns
     returns-2
     returns-3)

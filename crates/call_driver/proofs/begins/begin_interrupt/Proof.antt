@@ -9,9 +9,9 @@ use Rattle.call_driver.proofs.begins.begin_interrupt.Statement.{stateme
 use Rattle.call_driver.proofs.begins.begin_interrupt.Tie as tie
 use Rattle.call_driver.proofs.begins.begin_interrupt.Reads as reads
 use Rattle.call_driver.proofs.begins.begin_interrupt.Lts as lts
-use Rattle.irq.proofs.begin.Reads as begin-reads
+use Rattle.irq.proofs.on_interrupt.Reads as on-interrupt-reads
 use Rattle.state.proofs.clear_wakes.Reads as clear-wakes-reads
-use Rattle.machine.proofs.halts.halted_interrupt.Reads as halted-interrupt-reads
+use Rattle.machine.proofs.halts.suspend_or_end_interrupt.Reads as suspend-or-end-interrupt-reads
 use Rattle.machine.proofs.stops.stop.Reads as stop-reads
 
 stop-requires : tie.Need-stop-requires
@@ -20,14 +20,14 @@ stop-requires c κs = search needs
 clear-wakes-requires : tie.Need-clear-wakes-requires
 clear-wakes-requires c κs = search needs
 
-begin-requires : tie.Need-begin-requires
-begin-requires c κs = search needs
+on-interrupt-requires : tie.Need-on-interrupt-requires
+on-interrupt-requires c κs = search needs
 
-halted-interrupt-requires : tie.Need-halted-interrupt-requires
-halted-interrupt-requires c κs = c .begin .ensures .1
+suspend-or-end-interrupt-requires : tie.Need-suspend-or-end-interrupt-requires
+suspend-or-end-interrupt-requires c κs = c .on-interrupt .ensures .1
 
 returns : tie.Need-returns
-returns c = (λ a b. back (interrupt-call (decode (saved (now (c .before .before .before .before .before .before .before .before .args .s)))) (view (now (c .before .before .before .before .before .before .before .before .args .s))) a b) (c .halted-interrupt .ensures .0 b ∙ simp (c .before .begin .ensures .0, c .before .before .before .clear-wakes .ensures .0, ← c .before .before .before .before .before .before .stop .ensures, eq-eqb _ _ (c .before .before .before .before .before .if1 .taken))), c .halted-interrupt .ensures .1 _)
+returns c = (λ a b. back (interrupt-call (decode (saved (now (c .before .before .before .before .before .before .before .before .args .s)))) (view (now (c .before .before .before .before .before .before .before .before .args .s))) a b) (c .suspend-or-end-interrupt .ensures .0 b ∙ simp (c .before .on-interrupt .ensures .0, c .before .before .before .clear-wakes .ensures .0, ← c .before .before .before .before .before .before .stop .ensures, eq-eqb _ _ (c .before .before .before .before .before .if1 .taken))), c .suspend-or-end-interrupt .ensures .1 _)
 
 returns-2 : tie.Need-returns-2
 returns-2 c = (λ a b. back (interrupt-call (decode (saved (now (c .before .before .before .args .s)))) (view (now (c .before .before .before .args .s))) a b) (simp (← c .before .stop .ensures, ne-eqb _ _ (c .if1 .left))), refl)
@@ -38,7 +38,7 @@ begin-interrupt-spec =
     (tie.spec
     stop-requires
     clear-wakes-requires
-    begin-requires
-    halted-interrupt-requires
+    on-interrupt-requires
+    suspend-or-end-interrupt-requires
     returns
     returns-2)

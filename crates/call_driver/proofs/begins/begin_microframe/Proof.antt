@@ -14,7 +14,7 @@ use Rattle.call_driver.proofs.begins.begin_microframe.Reads as reads
 use Rattle.call_driver.proofs.begins.begin_microframe.Lts as lts
 use Rattle.driver.proofs.microframe.Reads as microframe-reads
 use Rattle.state.proofs.clear_wakes.Reads as clear-wakes-reads
-use Rattle.machine.proofs.halts.halted.Reads as halted-reads
+use Rattle.machine.proofs.halts.suspend_or_end.Reads as suspend-or-end-reads
 use Rattle.machine.proofs.stops.stop.Reads as stop-reads
 
 stop-requires : tie.Need-stop-requires
@@ -26,11 +26,11 @@ clear-wakes-requires c κs = search needs
 microframe-requires : tie.Need-microframe-requires
 microframe-requires c κs = search needs
 
-halted-requires : tie.Need-halted-requires
-halted-requires c κs = c .microframe .ensures .1
+suspend-or-end-requires : tie.Need-suspend-or-end-requires
+suspend-or-end-requires c κs = c .microframe .ensures .1
 
 returns : tie.Need-returns
-returns c = (λ a b. back (other-call calls.Microframe 2 (operation script.microframe) (decode (saved (now (c .before .before .before .before .before .before .before .before .args .s)))) (view (now (c .before .before .before .before .before .before .before .before .args .s))) a b refl) (c .halted .ensures .0 b ∙ simp (c .before .microframe .ensures .0, c .before .before .before .clear-wakes .ensures .0, ← c .before .before .before .before .before .before .stop .ensures, eq-eqb _ _ (c .before .before .before .before .before .if1 .taken))), c .halted .ensures .1 _)
+returns c = (λ a b. back (other-call calls.Microframe 2 (operation script.microframe) (decode (saved (now (c .before .before .before .before .before .before .before .before .args .s)))) (view (now (c .before .before .before .before .before .before .before .before .args .s))) a b refl) (c .suspend-or-end .ensures .0 b ∙ simp (c .before .microframe .ensures .0, c .before .before .before .clear-wakes .ensures .0, ← c .before .before .before .before .before .before .stop .ensures, eq-eqb _ _ (c .before .before .before .before .before .if1 .taken))), c .suspend-or-end .ensures .1 _)
 
 returns-2 : tie.Need-returns-2
 returns-2 c = (λ a b. back (other-call calls.Microframe 2 (operation script.microframe) (decode (saved (now (c .before .before .before .args .s)))) (view (now (c .before .before .before .args .s))) a b refl) (simp (← c .before .stop .ensures, ne-eqb _ _ (c .if1 .left))), refl)
@@ -42,6 +42,6 @@ begin-microframe-spec =
     stop-requires
     clear-wakes-requires
     microframe-requires
-    halted-requires
+    suspend-or-end-requires
     returns
     returns-2)

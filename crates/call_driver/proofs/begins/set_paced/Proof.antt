@@ -12,7 +12,7 @@ use Rattle.call_driver.proofs.begins.set_paced.Statement.{statement}
 use Rattle.call_driver.proofs.begins.set_paced.Tie as tie
 use Rattle.call_driver.proofs.begins.set_paced.Reads as reads
 use Rattle.call_driver.proofs.begins.set_paced.Lts as lts
-use Rattle.driver.proofs.set_paced.Reads as set-paced-reads
+use Rattle.driver.proofs.iso_in_set_paced.Reads as iso-in-set-paced-reads
 use Rattle.endpoint_rows.proofs.is_number.Reads as is-number-reads
 use Rattle.endpoint_rows.proofs.low.Reads as low-reads
 use Rattle.machine.proofs.stops.stop.Reads as stop-reads
@@ -26,11 +26,11 @@ is-number-requires c κs = search needs
 low-requires : tie.Need-low-requires
 low-requires c κs = simp (← c .before .before .is-number .ensures, c .before .if2 .taken)
 
-set-paced-requires : tie.Need-set-paced-requires
-set-paced-requires c κs = simp (c .low .ensures) (number-lt _ (sym (c .before .before .before .is-number .ensures) ∙ c .before .before .if2 .taken))
+iso-in-set-paced-requires : tie.Need-iso-in-set-paced-requires
+iso-in-set-paced-requires c κs = simp (c .low .ensures) (number-lt _ (sym (c .before .before .before .is-number .ensures) ∙ c .before .before .if2 .taken))
 
 returns : tie.Need-returns
-returns c = (λ a b. simp (c .set-paced .ensures .1) (set-paced-begins (decode (saved (now (c .before .before .before .before .before .before .before .before .args .s)))) (view (now (c .before .before .before .before .before .before .before .before .args .s))) _ a b (c .before .before .before .before .before .before .before .before .args .e) _ (c .before .before .before .before .before .before .before .before .args .on) (eq-eqb _ _ (sym (c .before .before .before .before .before .before .stop .ensures) ∙ c .before .before .before .before .before .if1 .taken)) (sym (c .before .before .before .before .is-number .ensures) ∙ c .before .before .before .if2 .taken) (c .before .low .ensures) (c .set-paced .ensures .0 b)), c .set-paced .ensures .1)
+returns c = (λ a b. simp (c .iso-in-set-paced .ensures .1) (set-paced-begins (decode (saved (now (c .before .before .before .before .before .before .before .before .args .s)))) (view (now (c .before .before .before .before .before .before .before .before .args .s))) _ a b (c .before .before .before .before .before .before .before .before .args .e) _ (c .before .before .before .before .before .before .before .before .args .on) (eq-eqb _ _ (sym (c .before .before .before .before .before .before .stop .ensures) ∙ c .before .before .before .before .before .if1 .taken)) (sym (c .before .before .before .before .is-number .ensures) ∙ c .before .before .before .if2 .taken) (c .before .low .ensures) (c .iso-in-set-paced .ensures .0 b)), c .iso-in-set-paced .ensures .1)
 
 returns-2 : tie.Need-returns-2
 returns-2 c = (λ a b. back (numbered-call (calls.SetPaced (c .before .before .before .before .before .args .e) (c .before .before .before .before .before .args .on)) (c .before .before .before .before .before .args .e) (pacing (c .before .before .before .before .before .args .e) (c .before .before .before .before .before .args .on)) (decode (saved (now (c .before .before .before .before .before .args .s)))) (view (now (c .before .before .before .before .before .args .s))) a b refl) (simp (← c .before .before .before .stop .ensures, eq-eqb _ _ (c .before .before .if1 .taken), ← c .before .is-number .ensures, c .if2 .left)), refl)
@@ -45,7 +45,7 @@ set-paced-spec =
     stop-requires
     is-number-requires
     low-requires
-    set-paced-requires
+    iso-in-set-paced-requires
     returns
     returns-2
     returns-3)

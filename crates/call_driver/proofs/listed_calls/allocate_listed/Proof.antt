@@ -17,7 +17,7 @@ use Rattle.alloc_all.proofs.announce_all.Reads as announce-all-reads
 use Rattle.req_preview.proofs.try_all.Reads as try-all-reads
 use Rattle.state.proofs.load_allocator.Reads as load-allocator-reads
 use Rattle.state.proofs.clear_wakes.Reads as clear-wakes-reads
-use Rattle.machine.proofs.halts.halted.Reads as halted-reads
+use Rattle.machine.proofs.halts.suspend_or_end.Reads as suspend-or-end-reads
 
 load-allocator-requires : tie.Need-load-allocator-requires
 load-allocator-requires c κs = search needs
@@ -34,15 +34,15 @@ clear-wakes-requires c κs = search needs
 announce-all-requires : tie.Need-announce-all-requires
 announce-all-requires c κs = search needs
 
-halted-requires : tie.Need-halted-requires
-halted-requires c κs = c .announce-all .ensures .1
+suspend-or-end-requires : tie.Need-suspend-or-end-requires
+suspend-or-end-requires c κs = c .announce-all .ensures .1
 
 returns : tie.Need-returns
 returns c =
     let k = c .before .before .before .before .before .before .before .before .before in
     let a = k .before .before .before .args in
     let t = ap (λ (x : Trial). x .refusal) (k .try-all .ensures ∙ ap (λ (x : Allocator). trialOf x (stored (a .list))) (k .before .load-allocator .ensures)) in
-    (λ b. c .halted .ensures .0 b ∙ all-given (stored (a .list)) (view (now (a .s))) b _ t _ _ _ (c .before .before .before .before .before .before .before .before .if1 .taken) (c .before .announce-all .ensures .0 b) (c .before .before .before .before .clear-wakes .ensures .0) (c .before .before .before .before .before .before .allocate-each .ensures .0), c .halted .ensures .1 _)
+    (λ b. c .suspend-or-end .ensures .0 b ∙ all-given (stored (a .list)) (view (now (a .s))) b _ t _ _ _ (c .before .before .before .before .before .before .before .before .if1 .taken) (c .before .announce-all .ensures .0 b) (c .before .before .before .before .clear-wakes .ensures .0) (c .before .before .before .before .before .before .allocate-each .ensures .0), c .suspend-or-end .ensures .1 _)
 
 returns-2 : tie.Need-returns-2
 returns-2 c =
@@ -60,6 +60,6 @@ allocate-listed-spec =
     allocate-each-requires
     clear-wakes-requires
     announce-all-requires
-    halted-requires
+    suspend-or-end-requires
     returns
     returns-2)

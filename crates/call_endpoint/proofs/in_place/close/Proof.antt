@@ -10,21 +10,21 @@ use Rattle.call_endpoint.proofs.in_place.close.Statement.{statement}
 use Rattle.call_endpoint.proofs.in_place.close.Tie as tie
 use Rattle.call_endpoint.proofs.in_place.close.Reads as reads
 use Rattle.call_endpoint.proofs.in_place.close.Lts as lts
-use Rattle.iso_out_open_close.proofs.close.Reads as close-reads
+use Rattle.iso_out_open_close.proofs.iso_out_take_close.Reads as iso-out-take-close-reads
 use Rattle.machine.proofs.saved.may_pass.Reads as may-pass-reads
 use Rattle.call_endpoint.proofs.in_place.told.Reads as told-reads
 
 may-pass-requires : tie.Need-may-pass-requires
 may-pass-requires c κs = search needs
 
-close-requires : tie.Need-close-requires
-close-requires c κs = search needs
+iso-out-take-close-requires : tie.Need-iso-out-take-close-requires
+iso-out-take-close-requires c κs = search needs
 
 told-requires : tie.Need-told-requires
 told-requires c κs = search needs
 
 returns : tie.Need-returns
-returns c = (λ a b. back (aside-call (calls.Close (c .before .before .before .before .before .before .args .e)) (decode (saved (now (c .before .before .before .before .before .before .args .s)))) (view (now (c .before .before .before .before .before .before .args .s))) a b) (told-beside _ _ (view (now (c .before .before .before .before .before .before .args .s))) b _ _ _ (c .told .result) (c .before .close .result) (c .told .ensures .0) (c .before .close .ensures .1) (sym (c .before .before .before .before .may-pass .ensures) ∙ c .before .before .before .if1 .taken) (c .before .close .ensures .0 b)), c .before .close .ensures .1)
+returns c = (λ a b. back (aside-call (calls.Close (c .before .before .before .before .before .before .args .e)) (decode (saved (now (c .before .before .before .before .before .before .args .s)))) (view (now (c .before .before .before .before .before .before .args .s))) a b) (told-beside _ _ (view (now (c .before .before .before .before .before .before .args .s))) b _ _ _ (c .told .result) (c .before .iso-out-take-close .result) (c .told .ensures .0) (c .before .iso-out-take-close .ensures .1) (sym (c .before .before .before .before .may-pass .ensures) ∙ c .before .before .before .if1 .taken) (c .before .iso-out-take-close .ensures .0 b)), c .before .iso-out-take-close .ensures .1)
 
 returns-2 : tie.Need-returns-2
 returns-2 c = (λ a b. back (aside-call (calls.Close (c .before .before .before .args .e)) (decode (saved (now (c .before .before .before .args .s)))) (view (now (c .before .before .before .args .s))) a b) (simp (← c .before .may-pass .ensures, c .if1 .left)), refl)
@@ -34,7 +34,7 @@ close-spec =
     tie.close
     (tie.spec
     may-pass-requires
-    close-requires
+    iso-out-take-close-requires
     told-requires
     returns
     returns-2)

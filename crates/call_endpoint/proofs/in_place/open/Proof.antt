@@ -10,7 +10,7 @@ use Rattle.call_endpoint.proofs.in_place.open.Statement.{statement}
 use Rattle.call_endpoint.proofs.in_place.open.Tie as tie
 use Rattle.call_endpoint.proofs.in_place.open.Reads as reads
 use Rattle.call_endpoint.proofs.in_place.open.Lts as lts
-use Rattle.iso_out_open_close.proofs.open.Reads as open-reads
+use Rattle.iso_out_open_close.proofs.iso_out_take.Reads as iso-out-take-reads
 use Rattle.machine.proofs.stops.slots_fit.Reads as slots-fit-reads
 use Rattle.machine.proofs.saved.may_pass.Reads as may-pass-reads
 use Rattle.call_endpoint.proofs.in_place.told.Reads as told-reads
@@ -21,14 +21,14 @@ slots-fit-requires c κs = search needs
 may-pass-requires : tie.Need-may-pass-requires
 may-pass-requires c κs = search needs
 
-open-requires : tie.Need-open-requires
-open-requires c κs = search needs
+iso-out-take-requires : tie.Need-iso-out-take-requires
+iso-out-take-requires c κs = search needs
 
 told-requires : tie.Need-told-requires
 told-requires c κs = search needs
 
 returns : tie.Need-returns
-returns c = (λ a. back (aside-call (calls.Open (c .before .before .before .before .before .before .before .before .before .before .args .e)) (decode (saved (now (c .before .before .before .before .before .before .before .before .before .before .args .s)))) (view (now (c .before .before .before .before .before .before .before .before .before .before .args .s))) a (now (c .before .before .before .before .before .before .before .before .before .before .args .slots))) (simp (← c .before .before .before .before .before .before .before .slots-fit .ensures, c .before .before .before .before .before .before .if1 .taken) (told-beside _ _ (view (now (c .before .before .before .before .before .before .before .before .before .before .args .s))) (now (c .before .before .before .before .before .before .before .before .before .before .args .slots)) _ _ _ (c .told .result) (c .before .«open» .result) (c .told .ensures .0) (c .before .«open» .ensures .1 .0) (sym (c .before .before .before .before .may-pass .ensures) ∙ c .before .before .before .if2 .taken) (c .before .«open» .ensures .0))), (c .told .ensures .1 _ _ (c .before .«open» .ensures .1 .1), c .before .«open» .ensures .1 .0))
+returns c = (λ a. back (aside-call (calls.Open (c .before .before .before .before .before .before .before .before .before .before .args .e)) (decode (saved (now (c .before .before .before .before .before .before .before .before .before .before .args .s)))) (view (now (c .before .before .before .before .before .before .before .before .before .before .args .s))) a (now (c .before .before .before .before .before .before .before .before .before .before .args .slots))) (simp (← c .before .before .before .before .before .before .before .slots-fit .ensures, c .before .before .before .before .before .before .if1 .taken) (told-beside _ _ (view (now (c .before .before .before .before .before .before .before .before .before .before .args .s))) (now (c .before .before .before .before .before .before .before .before .before .before .args .slots)) _ _ _ (c .told .result) (c .before .iso-out-take .result) (c .told .ensures .0) (c .before .iso-out-take .ensures .1 .0) (sym (c .before .before .before .before .may-pass .ensures) ∙ c .before .before .before .if2 .taken) (c .before .iso-out-take .ensures .0))), (c .told .ensures .1 _ _ (c .before .iso-out-take .ensures .1 .1), c .before .iso-out-take .ensures .1 .0))
 
 returns-2 : tie.Need-returns-2
 returns-2 c = (λ a. back (aside-call (calls.Open (c .before .before .before .before .before .before .before .args .e)) (decode (saved (now (c .before .before .before .before .before .before .before .args .s)))) (view (now (c .before .before .before .before .before .before .before .args .s))) a (now (c .before .before .before .before .before .before .before .args .slots))) (simp (← c .before .before .before .before .slots-fit .ensures, c .before .before .before .if1 .taken, ← c .before .may-pass .ensures, c .if2 .left)), (tt, refl))
@@ -42,7 +42,7 @@ open-spec =
     (tie.spec
     slots-fit-requires
     may-pass-requires
-    open-requires
+    iso-out-take-requires
     told-requires
     returns
     returns-2

@@ -11,7 +11,7 @@ use Rattle.call_endpoint.proofs.in_place.queue.Statement.{statement}
 use Rattle.call_endpoint.proofs.in_place.queue.Tie as tie
 use Rattle.call_endpoint.proofs.in_place.queue.Reads as reads
 use Rattle.call_endpoint.proofs.in_place.queue.Lts as lts
-use Rattle.iso_in_queue.proofs.queue.Reads as queue-reads
+use Rattle.iso_in_queue.proofs.iso_in_prime.Reads as iso-in-prime-reads
 use Rattle.machine.proofs.stops.slots_fit.Reads as slots-fit-reads
 use Rattle.machine.proofs.saved.may_pass.Reads as may-pass-reads
 use Rattle.call_endpoint.proofs.in_place.told.Reads as told-reads
@@ -22,8 +22,8 @@ slots-fit-requires c κs = search needs
 may-pass-requires : tie.Need-may-pass-requires
 may-pass-requires c κs = search needs
 
-queue-requires : tie.Need-queue-requires
-queue-requires c κs = search needs
+iso-in-prime-requires : tie.Need-iso-in-prime-requires
+iso-in-prime-requires c κs = search needs
 
 told-requires : tie.Need-told-requires
 told-requires c κs = search needs
@@ -32,7 +32,7 @@ same-length : tie.Need-same-length
 same-length c = search needs
 
 returns : tie.Need-returns
-returns c = (λ a. back (aside-call (calls.Queue (c .before .before .before .before .before .before .before .before .before .before .before .before .before .before .before .args .e) (now (c .before .before .before .before .before .before .before .before .before .before .before .before .before .before .before .args .bytes))) (decode (saved (now (c .before .before .before .before .before .before .before .before .before .before .before .before .before .before .before .args .s)))) (view (now (c .before .before .before .before .before .before .before .before .before .before .before .before .before .before .before .args .s))) a (now (c .before .before .before .before .before .before .before .before .before .before .before .before .before .before .before .args .slots))) (simp (← c .before .before .before .before .before .before .before .before .before .before .slots-fit .ensures, c .before .before .before .before .before .before .before .before .before .if1 .taken) (told-beside _ _ (view (now (c .before .before .before .before .before .before .before .before .before .before .before .before .before .before .before .args .s))) (now (c .before .before .before .before .before .before .before .before .before .before .before .before .before .before .before .args .slots)) _ _ _ (c .told .result) (c .before .before .before .queue .result) (c .told .ensures .0) (c .before .before .before .queue .ensures .1) (sym (c .before .before .before .before .before .before .before .may-pass .ensures) ∙ c .before .before .before .before .before .before .if2 .taken) (c .before .before .before .queue .ensures .0))), (as-lent _ _ _ (sym (c .before .before .before .before .before .before .before .before .before .before .slots-fit .ensures) ∙ c .before .before .before .before .before .before .before .before .before .if1 .taken), c .before .before .before .queue .ensures .1))
+returns c = (λ a. back (aside-call (calls.Queue (c .before .before .before .before .before .before .before .before .before .before .before .before .before .before .before .args .e) (now (c .before .before .before .before .before .before .before .before .before .before .before .before .before .before .before .args .bytes))) (decode (saved (now (c .before .before .before .before .before .before .before .before .before .before .before .before .before .before .before .args .s)))) (view (now (c .before .before .before .before .before .before .before .before .before .before .before .before .before .before .before .args .s))) a (now (c .before .before .before .before .before .before .before .before .before .before .before .before .before .before .before .args .slots))) (simp (← c .before .before .before .before .before .before .before .before .before .before .slots-fit .ensures, c .before .before .before .before .before .before .before .before .before .if1 .taken) (told-beside _ _ (view (now (c .before .before .before .before .before .before .before .before .before .before .before .before .before .before .before .args .s))) (now (c .before .before .before .before .before .before .before .before .before .before .before .before .before .before .before .args .slots)) _ _ _ (c .told .result) (c .before .before .before .iso-in-prime .result) (c .told .ensures .0) (c .before .before .before .iso-in-prime .ensures .1) (sym (c .before .before .before .before .before .before .before .may-pass .ensures) ∙ c .before .before .before .before .before .before .if2 .taken) (c .before .before .before .iso-in-prime .ensures .0))), (as-lent _ _ _ (sym (c .before .before .before .before .before .before .before .before .before .before .slots-fit .ensures) ∙ c .before .before .before .before .before .before .before .before .before .if1 .taken), c .before .before .before .iso-in-prime .ensures .1))
 
 same-length-2 : tie.Need-same-length-2
 same-length-2 c = search needs
@@ -52,7 +52,7 @@ queue-spec =
     (tie.spec
     slots-fit-requires
     may-pass-requires
-    queue-requires
+    iso-in-prime-requires
     told-requires
     same-length
     returns

@@ -7,7 +7,7 @@ use Rattle.call_endpoint.proofs.questions.overruns.Lts as lts
 use Rattle.state.proofs.load_ep.Reads as load-ep-reads
 use Rattle.endpoint_rows.proofs.is_number.Reads as is-number-reads
 use Rattle.endpoint_rows.proofs.low.Reads as low-reads
-use Rattle.call_endpoint.proofs.questions.overruns_of.Reads as overruns-of-reads
+use Rattle.call_endpoint.proofs.questions.iso_out_overruns.Reads as iso-out-overruns-reads
 
 is-number-requires : tie.Need-is-number-requires
 is-number-requires c κs = search needs
@@ -18,12 +18,12 @@ low-requires c κs = simp (← c .before .is-number .ensures, c .if1 .taken)
 load-ep-requires : tie.Need-load-ep-requires
 load-ep-requires c κs = search needs
 
-overruns-of-requires : tie.Need-overruns-of-requires
-overruns-of-requires c κs = search needs
+iso-out-overruns-requires : tie.Need-iso-out-overruns-requires
+iso-out-overruns-requires c κs = search needs
 
 returns : tie.Need-returns
 unfolding overrunsOn
-returns c = simp (c .overruns-of .ensures, c .before .load-ep .ensures, c .before .before .low .ensures, ← c .before .before .before .before .is-number .ensures, c .before .before .before .if1 .taken)
+returns c = simp (c .iso-out-overruns .ensures, c .before .load-ep .ensures, c .before .before .low .ensures, ← c .before .before .before .before .is-number .ensures, c .before .before .before .if1 .taken)
 
 returns-2 : tie.Need-returns-2
 unfolding overrunsOn
@@ -36,6 +36,6 @@ overruns-spec =
     is-number-requires
     low-requires
     load-ep-requires
-    overruns-of-requires
+    iso-out-overruns-requires
     returns
     returns-2)

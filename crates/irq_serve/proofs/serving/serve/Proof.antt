@@ -16,12 +16,12 @@ load-globals-requires c κs = search needs
 sof-due-requires : tie.Need-sof-due-requires
 sof-due-requires c κs = search needs
 
-begin-requires : tie.Need-begin-requires
-begin-requires c κs = search needs
+on-sof-requires : tie.Need-on-sof-requires
+on-sof-requires c κs = search needs
 
 then-sof-requires : tie.Need-then-sof-requires
 then-sof-requires c κs =
-    let the-begin = c .before .before .begin in
+    let the-begin = c .before .before .on-sof in
     the-begin .ensures .1 .1
 
 same-length : tie.Need-same-length
@@ -32,7 +32,7 @@ unfolding serving
 returns c =
     let the-then-sof = c .before .before .then-sof in
     let a = c .before .before .before .before .before .before .before .before .before .before .before .before .args in
-    let the-begin = c .before .before .before .before .before .begin in
+    let the-begin = c .before .before .before .before .before .on-sof in
     let the-sof-due = c .before .before .before .before .before .before .before .before .sof-due in
     let the-load-globals = c .before .before .before .before .before .before .before .before .before .load-globals in
     let the-if1 = c .before .before .before .before .before .before .before .if1 in
@@ -60,7 +60,7 @@ serve-spec =
     (tie.spec
     load-globals-requires
     sof-due-requires
-    begin-requires
+    on-sof-requires
     then-sof-requires
     same-length
     returns

@@ -10,9 +10,9 @@ use Rattle.irq_transfer.proofs.settle.after_nak.Tie as tie
 use Rattle.irq_transfer.proofs.settle.after_nak.Reads as reads
 use Rattle.irq_transfer.proofs.settle.after_nak.Lts as lts
 
-resume-requires : tie.Need-resume-requires
+nak-non-iso-resume-requires : tie.Need-nak-non-iso-resume-requires
 unfolding fitsAt
-resume-requires c κs = c .pre
+nak-non-iso-resume-requires c κs = c .pre
 
 enum-known-n : tie.Need-enum-known-n
 enum-known-n c = search needs
@@ -24,11 +24,11 @@ retaken-requires : tie.Need-retaken-requires
 retaken-requires c κs = search needs
 
 returns : tie.Need-returns
-returns c = (λ d b. nak-asks (λ _ u. ends (retaken (c .before .before .before .before .args .x) (c .before .before .before .before .args .st)) u) (c .before .before .before .before .args .st) _ _ _ d b _ (c .before .n .given .1) (c .before .before .before .resume .ensures .0 d b), nak-linked _ _ _ (c .before .n .given .1) (c .before .before .before .resume .ensures .1))
+returns c = (λ d b. nak-asks (λ _ u. ends (retaken (c .before .before .before .before .args .x) (c .before .before .before .before .args .st)) u) (c .before .before .before .before .args .st) _ _ _ d b _ (c .before .n .given .1) (c .before .before .before .nak-non-iso-resume .ensures .0 d b), nak-linked _ _ _ (c .before .n .given .1) (c .before .before .before .nak-non-iso-resume .ensures .1))
 
 returns-2 : tie.Need-returns-2
-returns-2 c = (λ d b. ap (λ (y : Transfer). ends y (d, b)) (c .retaken .ensures) ∙ nak-ends (λ _ u. ends (retaken (c .before .before .before .before .args .x) (c .before .before .before .before .args .st)) u) (c .before .before .before .before .args .st) _ d b _ (c .before .enum-told .given .1) (c .before .before .before .resume .ensures .0 d b), tt)
+returns-2 c = (λ d b. ap (λ (y : Transfer). ends y (d, b)) (c .retaken .ensures) ∙ nak-ends (λ _ u. ends (retaken (c .before .before .before .before .args .x) (c .before .before .before .before .args .st)) u) (c .before .before .before .before .args .st) _ d b _ (c .before .enum-told .given .1) (c .before .before .before .nak-non-iso-resume .ensures .0 d b), tt)
 
 pub after-nak-spec : {M : Type 1} → statement M
 after-nak-spec =
-    tie.close (tie.spec resume-requires enum-known-n enum-told retaken-requires returns returns-2)
+    tie.close (tie.spec nak-non-iso-resume-requires enum-known-n enum-told retaken-requires returns returns-2)

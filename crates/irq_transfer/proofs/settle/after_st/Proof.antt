@@ -6,8 +6,8 @@ use Rattle.irq_transfer.proofs.settle.after_st.Tie as tie
 byte-requires : tie.Need-byte-requires
 byte-requires c κs = search needs
 
-begin-requires : tie.Need-begin-requires
-begin-requires c κs = search needs
+nak-non-iso-requires : tie.Need-nak-non-iso-requires
+nak-non-iso-requires c κs = search needs
 
 enum-known-n : tie.Need-enum-known-n
 enum-known-n c = search needs
@@ -19,17 +19,17 @@ retaken-requires : tie.Need-retaken-requires
 retaken-requires c κs = search needs
 
 returns : tie.Need-returns
-returns c = (λ b. st-asks (c .before .before .before .before .before .args .x) _ _ _ _ b (c .before .before .before .before .byte .ensures) (c .before .before .before .begin .ensures .0 b) _ _ (c .before .n .given .1), nak-linked _ _ _ (c .before .n .given .1) (c .before .before .before .begin .ensures .1))
+returns c = (λ b. st-asks (c .before .before .before .before .before .args .x) _ _ _ _ b (c .before .before .before .before .byte .ensures) (c .before .before .before .nak-non-iso .ensures .0 b) _ _ (c .before .n .given .1), nak-linked _ _ _ (c .before .n .given .1) (c .before .before .before .nak-non-iso .ensures .1))
 
 returns-2 : tie.Need-returns-2
-returns-2 c = (λ b. st-ends (c .before .before .before .before .before .args .x) _ _ _ _ b (c .before .before .before .before .byte .ensures) (c .before .before .before .begin .ensures .0 b) _ (c .retaken .ensures) (c .before .enum-told .given .1), tt)
+returns-2 c = (λ b. st-ends (c .before .before .before .before .before .args .x) _ _ _ _ b (c .before .before .before .before .byte .ensures) (c .before .before .before .nak-non-iso .ensures .0 b) _ (c .retaken .ensures) (c .before .enum-told .given .1), tt)
 
 pub after-st-spec : {M : Type 1} → statement M
 after-st-spec =
     tie.close
     (tie.spec
     byte-requires
-    begin-requires
+    nak-non-iso-requires
     enum-known-n
     enum-told
     retaken-requires

@@ -1,0 +1,14 @@
+use Rattle.irq.specs.Laws.{interrupt-begun}
+use mathlib.Core.Path.{refl}
+use borrow.Author.Needs.{needs}
+use Rattle.irq.proofs.on_interrupt.Statement.{statement}
+use Rattle.irq.proofs.on_interrupt.Tie as tie
+
+returns : tie.Need-returns
+returns c = (λ d b. interrupt-begun (d, b), refl)
+
+pub on-interrupt-spec : {M : Type 1} → statement M
+on-interrupt-spec =
+    tie.close
+    (tie.spec
+    returns)

@@ -1,0 +1,37 @@
+use Rattle.machine.specs.Rows.{back}
+use Rattle.machine.specs.Goes.{proceeds}
+use Rattle.machine.specs.Suspended.{decode}
+use Rattle.machine.specs.Lent.{as-lent}
+use Rattle.state.specs.State.{view, saved}
+use denote.Ref.{now}
+use mathlib.Core.Path.{refl, sym, _∙_}
+use borrow.Author.Needs.{needs}
+use Rattle.machine_resume.proofs.resume.Statement.{statement}
+use Rattle.machine_resume.proofs.resume.Tie as tie
+use Rattle.machine_resume.proofs.resume.Reads as reads
+use Rattle.machine_resume.proofs.resume.Lts as lts
+use Rattle.machine_resume.proofs.resume_at.Reads as resume-at-reads
+use Rattle.machine.proofs.stops.slots_fit.Reads as slots-fit-reads
+
+slots-fit-requires : tie.Need-slots-fit-requires
+slots-fit-requires c κs = search needs
+
+resume-at-requires : tie.Need-resume-at-requires
+resume-at-requires c κs = search needs
+
+same-length : tie.Need-same-length
+same-length c = search needs
+
+returns : tie.Need-returns
+returns c = (λ a. back (proceeds (c .before .before .before .before .before .before .before .before .before .before .args .v) (decode (saved (now (c .before .before .before .before .before .before .before .before .before .before .args .s)))) (view (now (c .before .before .before .before .before .before .before .before .before .before .args .s))) a (now (c .before .before .before .before .before .before .before .before .before .before .args .slots))) (simp (← c .before .before .before .before .before .before .slots-fit .ensures, c .before .before .before .before .before .if1 .taken) (c .before .before .resume-at .ensures .0)), (as-lent _ _ _ (sym (c .before .before .before .before .before .before .slots-fit .ensures) ∙ c .before .before .before .before .before .if1 .taken), c .before .before .resume-at .ensures .1))
+
+same-length-2 : tie.Need-same-length-2
+same-length-2 c = search needs
+
+returns-2 : tie.Need-returns-2
+returns-2 c = (λ a. back (proceeds (c .before .before .before .before .before .args .v) (decode (saved (now (c .before .before .before .before .before .args .s)))) (view (now (c .before .before .before .before .before .args .s))) a (now (c .before .before .before .before .before .args .slots))) (simp (← c .before .slots-fit .ensures, c .if1 .left)), (λ h. refl, refl))
+
+pub resume-spec : {M : Type 1} → statement M
+resume-spec =
+    tie.close
+    (tie.spec slots-fit-requires resume-at-requires same-length returns same-length-2 returns-2)
