@@ -1,9 +1,8 @@
 -- The slot buffer that start-up is brought: document 01, rows 1 and 2.
 use mathlib.Core.Bool.{Bool, true, false}
-use mathlib.Core.Path.{_≡_, refl, sym, subst}
+use mathlib.Core.Path.{_≡_}
 use Prim.Native.Nat.{ℕ, _*_}
 use lib.Dec.{eqb, leb}
-use borrow.Author.Tests.{eqb-true}
 use Rattle.alloc.specs.Alloc.{if}
 
 -- usb/mod.rs, validate_buffer_size, and 1,024 (request Six): a high-speed isochronous packet may carry as much (USB 2.0, 5.6.3)
@@ -18,19 +17,3 @@ goodBuffer size count = if (goodSize size) (if (eqb count 0) false (leb (count *
 -- row 1 does not stop the call: the lent buffer is as long as its count of buffers of this size
 unfoldable pub fits : ℕ → ℕ → ℕ → Bool
 fits length size count = eqb length (count * size)
-
--- ---- what holds of each of the sizes holds of every good one
-
-one-of : (P : ℕ → Type 0) (size n : ℕ) (t rest : Bool) → P n → eqb size n ≡ t → (rest ≡ true → P size) → if t true rest ≡ true → P size
-one-of P size n true rest p e k h = subst P (sym (eqb-true size n e)) p
-one-of P size n false rest p e k h = k h
-
-pub each-size : (P : ℕ → Type 0) → P 8 → P 16 → P 32 → P 64 → P 512 → P 1024 → (size : ℕ) → goodSize size ≡ true → P size
-unfolding goodSize
-each-size P a b c d e f size h =
-    one-of P size 8 _ _ a refl
-    (one-of P size 16 _ _ b refl
-    (one-of P size 32 _ _ c refl
-    (one-of P size 64 _ _ d refl
-    (one-of P size 512 _ _ e refl (λ q. subst P (sym (eqb-true size 1024 q)) f)))))
-    h

@@ -3,8 +3,10 @@ pub mod Number
 pub mod Outcome
 pub mod Run
 pub mod Sound
+pub mod SoundLaws
 pub mod Apart
 pub mod Rows
 pub mod OneByOne
 pub mod Endpoint
 pub mod Buffer
+pub mod BufferLaws

@@ -4,7 +4,8 @@ use mathlib.Core.Bool.{Bool, true, false, not, true≢false}
 use Prim.Native.Nat.{ℕ, _+_, _*_, _≤_, _<_}
 use lib.Dec.{eqb, ltb}
 use borrow.Author.Tests.{ltb-true, ltb-false, not-true}
-use Rattle.bits.specs.Bit.{bit, pick, isSet, withBit, bit-with}
+use Rattle.bits.specs.Bit.{bit, pick, isSet, withBit}
+use Rattle.bits.specs.BitLaws.{bit-with}
 use Rattle.state.specs.declared.Allocator.{Allocator}
 use Rattle.regs.specs.declared.Dir.{Dir}
 use Rattle.regs.specs.declared.Dir.the-variants.{Out, In}

@@ -15,7 +15,8 @@ use Rattle.model_ops.specs.Concrete.{concrete}
 use Rattle.endpoint_rows.specs.Rows.{stallable}
 use Rattle.machine.specs.declared.Suspended.{Suspended}
 use Rattle.machine.specs.Suspended.{machineAt, drive, halts}
-use Rattle.machine.specs.Rows.{isIdle, stopOf, rowed, other-call, past-row}
+use Rattle.machine.specs.Rows.{isIdle, stopOf}
+use Rattle.machine.specs.RowsLaws.{rowed, other-call, past-row}
 
 pick : {A : Type 0} (x y : Bool) (p q : A) → cond x p (cond y p q) ≡ cond (cond x true y) p q
 pick true y p q = refl

@@ -14,9 +14,12 @@ use Rattle.machine.specs.Suspended.{machineAt, drive, slotsFit, lentOr}
 use Rattle.machine.specs.Goes.{Called}
 use Rattle.machine.specs.Rows.{isIdle, stopOf}
 use Rattle.req_bus_time.specs.Time.{entryOf, passes}
-use Rattle.call_bus_time.specs.Sharing.{Sort, enabling, apart, chargeOn, isHanded, timeAfter, sharedCall, settles, refuses}
-use Rattle.call_bus_time.specs.Accepts.{accepts, accepts-is}
-use Rattle.call_bus_time.specs.Charging.{chargedAt, charged-is}
+use Rattle.call_bus_time.specs.Sharing.{Sort, enabling, apart, chargeOn, isHanded, timeAfter, sharedCall}
+use Rattle.call_bus_time.specs.SharingLaws.{settles, refuses}
+use Rattle.call_bus_time.specs.Accepts.{accepts}
+use Rattle.call_bus_time.specs.AcceptsLaws.{accepts-is}
+use Rattle.call_bus_time.specs.Charging.{chargedAt}
+use Rattle.call_bus_time.specs.ChargingLaws.{charged-is}
 
 unchanged : (i : ℕ) (x : Sort) (a : Ans Answer) (d : Driver) (t : List ℕ) → isHanded a ≡ false → t ≡ timeAfter i x a d t
 unchanged i x (ended a) d t h = refl

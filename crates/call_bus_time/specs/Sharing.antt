@@ -1,7 +1,7 @@
 -- A driver's calls with the bus time that up to four drivers share (document 02, request Seven)
 use mathlib.Core.Bool.{Bool, true, false, cond, _&&_}
 use mathlib.Core.List.{List}
-use mathlib.Core.Path.{_≡_, refl, ap, _∙_, subst, sym}
+use mathlib.Core.Path.{_≡_, _∙_}
 use Prim.Native.Nat.{ℕ}
 use lib.ListN.{set}
 use Rattle.regs.specs.declared.Access.{Access}
@@ -88,18 +88,3 @@ settled i x m t b y = cond (turnedDown i x (y .0) (m .st) t) ((ended (Refused 19
 -- a call of driver i: the driver's own (machine/specs/Suspended.antt), unless it is turned down, which changes nothing
 abbrev pub sharedCall : ℕ → Call Config Op → Machine Answer Driver → List ℕ → Buf → Called × List ℕ
 sharedCall i c m t b = settled i (sortOf c) m t b (drive c m b)
-
--- ---- laws
-
--- not turned down: the driver's call, and the record after it
-pub settles : (i : ℕ) (c : Call Config Op) (m : Machine Answer Driver) (t : List ℕ) (b : Buf) (y : Called) (after : List ℕ)
-    → turnedDown i (sortOf c) (y .0) (m .st) t ≡ false → y ≡ drive c m b → after ≡ timeAfter i (sortOf c) (y .0) (m .st) t → (y, after) ≡ sharedCall i c m t b
-unfolding settled
-settles i c m t b y after h e k = subst (λ z. (y, after) ≡ settled i (sortOf c) m t b z) e (rw h (ap (λ (u : List ℕ). (y, u)) k))
-
--- turned down
-pub refuses : (i : ℕ) (dir : Dir) (e : ℕ) (m : Machine Answer Driver) (t : List ℕ) (b : Buf)
-    → isHanded (drive (begin (slotted (SetEnabled dir e true))) m b .0) ≡ true → passes t (entryOf i dir e) (chargeOn (m .st) dir e) ≡ true
-    → ((ended (Refused 19), lentTo calls driverOf m b), t) ≡ sharedCall i (begin (slotted (SetEnabled dir e true))) m t b
-unfolding settled
-refuses i dir e m t b h p = rw (h, p) refl

@@ -1,2 +1,3 @@
 pub mod Begins
 pub mod Listed
+pub mod ListedLaws

@@ -18,7 +18,8 @@ use Rattle.machine.specs.declared.Suspended.{Suspended}
 use Rattle.machine.specs.declared.Step.{Step}
 use Rattle.machine.specs.Suspended.{decode, machineAt, machineOf, halts, answerOf}
 use Rattle.machine.specs.Goes.{Called}
-use Rattle.machine.specs.Rows.{isIdle, mayPass, besides, besides-ends}
+use Rattle.machine.specs.Rows.{isIdle, mayPass}
+use Rattle.machine.specs.RowsLaws.{besides, besides-ends}
 
 -- the state's bytes before and after the call, the slots after it, what the script comes to, and what a call that is stopped comes to
 module _ (before after : List ℕ) (b : Buf) (o : Out St Answer) (r : Called) where

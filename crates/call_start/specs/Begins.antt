@@ -21,7 +21,7 @@ use Rattle.driver.specs.Points.{newEndpoint, startEp0}
 use Rattle.machine.specs.declared.Suspended.{Suspended}
 use Rattle.machine.specs.Suspended.{machineAt, finish, drive, halts}
 use Rattle.machine.specs.Goes.{Called}
-use Rattle.machine.specs.Rows.{back, other-call, passed, Passes, answered-idle}
+use Rattle.machine.specs.RowsLaws.{back, other-call, passed, Passes, answered-idle}
 
 -- ---- allocation
 

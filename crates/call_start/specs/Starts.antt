@@ -7,7 +7,8 @@ use native.Mathlib.Omega.{arith}
 use native.Mathlib.Nat.{mul-le-mul-left}
 use borrow.Author.Tests.{leb-true}
 use Rattle.alloc.specs.Alloc.{if}
-use Rattle.alloc.specs.Buffer.{goodSize, goodBuffer, each-size}
+use Rattle.alloc.specs.Buffer.{goodSize, goodBuffer}
+use Rattle.alloc.specs.BufferLaws.{each-size}
 
 abbrev pub Small : ℕ → Type 0
 Small size = (8 ≤ size) × (size ≤ 1024)

@@ -1,6 +1,6 @@
 -- A point as numbers, and back
-use mathlib.Core.Path.{_≡_, refl}
-use mathlib.Core.Bool.{Bool, true, false, cond}
+use mathlib.Core.Path.{_≡_}
+use mathlib.Core.Bool.{Bool, cond}
 use Prim.Native.Nat.{ℕ}
 use lib.Dec.{eqb}
 use Rattle.regs.specs.declared.Dir.{Dir}
@@ -63,24 +63,3 @@ byNumber k c =
 
 unfoldable pub decode : Saved → Point
 decode c = byNumber (c .sub) c
-
-flag-back : (b : Bool) → isOn (flag b) ≡ b
-unfolding isOn
-flag-back true = refl
-flag-back false = refl
-
-dir-back : (d : Dir) → dirOf (dirAs d) ≡ d
-dir-back Out = refl
-dir-back In = refl
-
-pub decode-encode : (p : Point) → decode (encode p) ≡ p
-unfolding encode decode
-decode-encode point.Wrote = refl
-decode-encode (point.Ack d) = simp dir-back
-decode-encode point.StatusLen = refl
-decode-encode point.Status = refl
-decode-encode point.StallIn = refl
-decode-encode point.StalledIn = refl
-decode-encode point.StallOut = refl
-decode-encode (point.Closing n first) = simp flag-back
-decode-encode (point.Loaded first) = simp flag-back

@@ -1,2 +1,4 @@
 pub mod Points
+pub mod PointsLaws
 pub mod Codec
+pub mod CodecLaws

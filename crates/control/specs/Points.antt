@@ -1,5 +1,5 @@
 -- What is left to run at each point, and what the answers of the control pipe's calls mean
-use mathlib.Core.Path.{_≡_, refl}
+use mathlib.Core.Path.{_≡_}
 use mathlib.Core.Bool.{Bool, true, false}
 use mathlib.Core.List.{List, [], _++_}
 use Prim.Native.Nat.{ℕ}
@@ -12,7 +12,7 @@ use Rattle.state.specs.Wakes.{listed}
 use Rattle.state.specs.Driver.{Driver}
 use Rattle.model.specs.Tree as tree
 use Rattle.model.specs.Tree.{ends, asks}
-use Rattle.model.specs.Script.{Script, run, ret, _>>=_, _>>_, read, write}
+use Rattle.model.specs.Script.{Script, run, ret, _>>=_, _>>_, write}
 use Rattle.model.specs.Statics.{withArmed, modifyEp, modifyReg}
 use Rattle.model.specs.Machine.{Awaits, nothing, reading, awaited}
 use Rattle.model.specs.Answers.{Answer, Refused, End, NotYet, Done}
@@ -75,10 +75,6 @@ fitsAt point.StalledIn v = true
 fitsAt point.StallOut v = fitsIn v (widthOf EpRxCtrl)
 fitsAt (point.Closing n first) v = true
 fitsAt (point.Loaded first) v = true
-
-pub ctrl-width : (d : Dir) → widthOf (ctrlOf d) ≡ 8
-ctrl-width Out = refl
-ctrl-width In = refl
 
 -- the next access and the point at which it stops, or the result
 abbrev pub meaning : Next → Driver → List ℕ → tree.Out St ℕ

@@ -8,7 +8,8 @@ use lib.ListN.{length, drop, getD, drop-of-length-le}
 use lib.Bits.{bitXor}
 use lib.Seq.{drop-cons}
 use Rattle.crc.specs.Register.{turned, turns, over}
-use Rattle.crc.specs.Bytewise.{shifted, wordOf, word-step}
+use Rattle.crc.specs.Bytewise.{wordOf}
+use Rattle.crc.specs.BytewiseLaws.{shifted, word-step}
 use Rattle.crc.specs.Fold.{folded, odd, remainderOf}
 use Rattle.crc.specs.FoldLaws.{word-folds}
 

@@ -1,5 +1,5 @@
 -- The data CRC of USB 2.0, 8.3.5, in its words, over lists of bits.
-use mathlib.Core.Path.{_≡_, refl}
+use mathlib.Core.Path.{_≡_}
 use mathlib.Core.Bool.{Bool, true, false, not, cond}
 use mathlib.Core.List.{List, [], _∷_, _++_, map}
 use Prim.Native.Nat.{ℕ, zero, suc, _+_, _*_, _/_, _%_}
@@ -63,15 +63,3 @@ crcBits data-field = map not (remainder ones (bitsOfBytes data-field))
 -- the same as a number, the first bit sent being bit 0
 unfoldable pub dataCrc : List ℕ → ℕ
 dataCrc data-field = numberOf (crcBits data-field)
-
--- "123456789"
-abbrev pub digits : List ℕ
-digits = 49 ∷ 50 ∷ 51 ∷ 52 ∷ 53 ∷ 54 ∷ 55 ∷ 56 ∷ 57 ∷ []
-
-pub check-value : dataCrc digits ≡ 0xB4C8
-unfolding dataCrc crcBits remainder stepped added ones generator numberOf bitsOfBytes bitsOf
-check-value = refl
-
--- the bytes that the bus carries
-pub check-bytes : _≡_ {A = List ℕ} (dataCrc digits % 256 ∷ dataCrc digits / 256 ∷ []) (0xC8 ∷ 0xB4 ∷ [])
-check-bytes = rw check-value

@@ -10,7 +10,7 @@ use lib.Bits.{bitXor, differ, xor-comm, xor-self, xor-zero-r, xor-shifted, xor-b
 use lib.Dec.{T, eqb, eqb→eq}
 use Rattle.crc.specs.Register.{turned, turns}
 use Rattle.crc.specs.Xor.{xor-assoc, xor-swap, differ-lt}
-use Rattle.crc.specs.Bytewise.{shifted, shifted-sum}
+use Rattle.crc.specs.BytewiseLaws.{shifted, shifted-sum}
 use Rattle.crc.specs.Fold.{folded, settled, odd, remainderOf}
 
 -- ---- sums go on apart

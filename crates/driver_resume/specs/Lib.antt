@@ -1,1 +1,2 @@
 pub mod Announce
+pub mod AnnounceLaws

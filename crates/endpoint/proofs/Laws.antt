@@ -32,7 +32,8 @@ use Rattle.model_ops.specs.Concrete.{go}
 use Rattle.endpoint_common.specs.Records.{modifiedOn}
 use Rattle.endpoint_common.specs.Front.{front-over}
 use Rattle.endpoint_common.specs.Answers.{front, lentAfter}
-use Rattle.endpoint_rows.specs.Rows.{refusalOf, started, allocated, by-row}
+use Rattle.endpoint_rows.specs.Rows.{refusalOf}
+use Rattle.endpoint_rows.specs.RowsLaws.{started, allocated, by-row}
 use Rattle.endpoint.specs.declared.Point.{Point}
 use Rattle.endpoint.specs.declared.Point.the-variants as point
 use Rattle.endpoint.specs.declared.Begun.the-variants as begun-as

@@ -1,5 +1,5 @@
 -- A point as numbers, and back
-use mathlib.Core.Path.{_≡_, refl}
+use mathlib.Core.Path.{_≡_}
 use mathlib.Core.Bool.{cond}
 use Prim.Native.Nat.{ℕ}
 use lib.Dec.{eqb}
@@ -50,13 +50,3 @@ byNumber k c =
 
 unfoldable pub decode : Saved → Point
 decode c = byNumber (c .sub) c
-
-dir-back : (d : Dir) → dirOf (dirAs d) ≡ d
-dir-back Out = refl
-dir-back In = refl
-
-pub decode-encode : (p : Point) → decode (encode p) ≡ p
-unfolding encode decode
-decode-encode (point.Ack d e) = simp dir-back
-decode-encode point.Wrote = refl
-decode-encode (point.Loaded e) = refl

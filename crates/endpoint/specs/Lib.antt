@@ -1,2 +1,3 @@
 pub mod Points
 pub mod Codec
+pub mod CodecLaws

@@ -1,4 +1,5 @@
 pub mod Records
+pub mod RecordsLaws
 pub mod Fetch
 pub mod Answers
 pub mod Front

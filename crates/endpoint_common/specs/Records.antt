@@ -9,7 +9,3 @@ use Rattle.model_ops.specs.Records.{plainOf, merged}
 
 abbrev pub modifiedOn : Dir → ℕ → (EpCore → EpCore) → Driver → Driver
 modifiedOn dir e f d = withOn d dir e (merged (epOn d dir e) (f (plainOf (epOn d dir e))))
-
--- a test of what was loaded is a test of the driver
-pub on-driver : {A : Type 0} {x y : A} (f : A → Bool) {r t : Bool} → x ≡ y → r ≡ f x → r ≡ t → f y ≡ t
-on-driver f e h k = rw (← e, ← h) k

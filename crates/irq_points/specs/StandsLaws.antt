@@ -13,9 +13,10 @@ use Rattle.irq.specs.declared.Next.the-variants as next
 use Rattle.irq.specs.Points.{meaning, awaitsAt}
 use Rattle.machine.specs.declared.Suspended.the-variants as under
 use Rattle.machine.specs.declared.Step.{Step}
-use Rattle.machine.specs.Suspended.{decode, decode-encode, machineOf, handedOut, answerOf, SavedUnchangedOnRefusal, Stored}
+use Rattle.machine.specs.Suspended.{decode, machineOf, handedOut, answerOf, SavedUnchangedOnRefusal, Stored}
+use Rattle.machine.specs.SuspendedLaws.{decode-encode}
 use Rattle.machine.specs.Goes.{Called}
-use Rattle.machine.specs.Keeps.{canonical}
+use Rattle.machine.specs.KeepsLaws.{canonical}
 use Rattle.irq_points.specs.Stands.{Stands, halted, Stops}
 
 -- all 22 bytes are pinned

@@ -13,7 +13,8 @@ use Rattle.irq_points.specs.Stands.{halted, Stops}
 use Rattle.machine.specs.declared.Step.{Step}
 use Rattle.machine.specs.declared.Suspended.the-variants as under
 use Rattle.machine.specs.Suspended.{decode, machineOf, resumed, answerOf}
-use Rattle.machine.specs.Goes.{Called, stayed}
+use Rattle.machine.specs.Goes.{Called}
+use Rattle.machine.specs.GoesLaws.{stayed}
 use Rattle.machine.specs.Interrupt.{gone-interrupt, stay-interrupt}
 use Rattle.machine_resume_op.specs.Going.{going, staying}
 

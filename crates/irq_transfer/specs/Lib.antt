@@ -1,4 +1,5 @@
 pub mod Wait
+pub mod WaitLaws
 pub mod Nak
 pub mod Toggled
 pub mod Settle

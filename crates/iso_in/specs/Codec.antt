@@ -1,5 +1,5 @@
 -- A paced advance's point as numbers, and back: which point, its endpoint, the completions left, their microframe, and the completion's endpoint
-use mathlib.Core.Path.{_≡_, refl}
+use mathlib.Core.Path.{_≡_}
 use mathlib.Core.Bool.{cond}
 use Prim.Native.Nat.{ℕ}
 use lib.Dec.{eqb}
@@ -42,9 +42,3 @@ decode c =
     cond (eqb (c .sub) 1) (point.Completing (c .ep) (c .st) (c .frame) (complete.Sent (c .now))) (
     cond (eqb (c .sub) 2) (point.Completing (c .ep) (c .st) (c .frame) (complete.Loaded (c .now))) (
     point.FrameNo (c .ep)))
-
-pub decode-encode : (p : Advance) → decode (encode p) ≡ p
-unfolding encode decode
-decode-encode (point.FrameNo e) = refl
-decode-encode (point.Completing e left frame (complete.Sent of)) = refl
-decode-encode (point.Completing e left frame (complete.Loaded of)) = refl

@@ -7,8 +7,10 @@ use Prim.Native.Nat.{ℕ, zero, suc, _+_, _-_, _^_, _<_, _≤_}
 use native.Mathlib.Omega.{arith}
 use lib.Pow.{pow-mono}
 use borrow.Author.Tests.{lt-ltb, ltb-true}
-use Rattle.bits.specs.Bit.{bit, isSet, bit-cases, bit-le}
-use Rattle.bits.specs.Walk.{setBits, lowest, rest, walk-none, walk-step, rest-lt}
+use Rattle.bits.specs.Bit.{bit, isSet}
+use Rattle.bits.specs.BitLaws.{bit-cases, bit-le}
+use Rattle.bits.specs.Walk.{setBits, lowest, rest}
+use Rattle.bits.specs.WalkLaws.{walk-none, walk-step, rest-lt}
 use Rattle.regs.specs.declared.Access.{Access}
 use Rattle.regs.specs.declared.Access.the-variants.{Read}
 use Rattle.regs.specs.declared.Reg.the-variants.{MisSt, FrameNo}

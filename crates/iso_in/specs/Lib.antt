@@ -4,4 +4,5 @@ pub mod Sof
 pub mod Late
 pub mod Advance
 pub mod Codec
+pub mod CodecLaws
 pub mod Laws

@@ -6,7 +6,8 @@ use mathlib.Core.List.{List, [], _∷_}
 use Prim.Native.Nat.{ℕ, zero, suc, _^_, _<_}
 use native.Mathlib.Omega.{arith}
 use borrow.Author.Tests.{lt-ltb, ltb-true}
-use Rattle.bits.specs.Walk.{setBits, lowest, rest, walk-step, walk-none, rest-lt}
+use Rattle.bits.specs.Walk.{setBits, lowest, rest}
+use Rattle.bits.specs.WalkLaws.{walk-step, walk-none, rest-lt}
 use Rattle.regs.specs.declared.Access.the-variants.{Read}
 use Rattle.regs.specs.declared.Reg.the-variants.{IntSt}
 use Rattle.regs.specs.Status.{togOk}

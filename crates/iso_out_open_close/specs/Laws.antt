@@ -13,7 +13,8 @@ use Rattle.model.specs.Tree.{ends}
 use Rattle.model.specs.Script.{Script}
 use Rattle.model.specs.Statics.{isOn}
 use Rattle.model.specs.Answers.{Answer, Refused, Shown, staged, named, isNumber}
-use Rattle.endpoint_rows.specs.Rows.{refusalOf, numbered, by-row}
+use Rattle.endpoint_rows.specs.Rows.{refusalOf}
+use Rattle.endpoint_rows.specs.RowsLaws.{numbered, by-row}
 use Rattle.model_ops.specs.Rings.{waitingOn, openedOn, oldestOn, oldestAt, nextLen, nextStamp, openOn, closeOn}
 use Rattle.model_ops.specs.Concrete.{go}
 use Rattle.iso_out_open_close.specs.declared.Packet.the-variants as packet

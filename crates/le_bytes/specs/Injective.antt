@@ -8,7 +8,8 @@ use native.Mathlib.Nat.{mod-lt, div-add-mod', div-lt-iff-lt-mul}
 use lib.ListN.{length, getD, take, drop}
 use Rattle.le_bytes.specs.Bytes.{getsFrom, gets, number, numbers}
 use Rattle.le_bytes.specs.Runs.{Same, getD-gets}
-use Rattle.le_bytes.specs.Tables.{table, getD-tab}
+use Rattle.le_bytes.specs.Tables.{table}
+use Rattle.le_bytes.specs.TablesLaws.{getD-tab}
 
 -- each element is a byte
 abbrev pub Small : List ℕ → Type 0

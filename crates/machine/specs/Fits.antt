@@ -44,7 +44,8 @@ use Rattle.iso_in.specs.declared.advance.AdvanceNext.the-variants as next-of-ad
 use Rattle.iso_in.specs.Advance as advance
 use Rattle.machine.specs.declared.Suspended.the-variants as under
 use Rattle.machine.specs.Suspended.{finish, machineAt, resumed, halts}
-use Rattle.machine.specs.Goes.{Called, stayed, gone, stays}
+use Rattle.machine.specs.Goes.{Called}
+use Rattle.machine.specs.GoesLaws.{stayed, gone, stays}
 
 pub linked : (n : Next) (q : Access) (p : Point) → n ≡ next.Asks q p → driver.Linked n → awaited q ≡ driver.awaitsAt p
 linked n q p e l = subst driver.Linked e l

@@ -31,7 +31,7 @@ use Rattle.irq.specs.declared.Next.the-variants as next
 use Rattle.irq.specs.Points as handler
 use Rattle.machine.specs.declared.Suspended.the-variants as under
 use Rattle.machine.specs.Suspended.{finish, resumed, haltsAs}
-use Rattle.machine.specs.Goes.{stayed, gone, stays}
+use Rattle.machine.specs.GoesLaws.{stayed, gone, stays}
 
 pub linked-interrupt : (n : Next) (q : Access) (p : Point) → n ≡ next.Asks q p → handler.Linked n → awaited q ≡ handler.awaitsAt p
 linked-interrupt n q p e l = subst handler.Linked e l

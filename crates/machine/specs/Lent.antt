@@ -11,9 +11,11 @@ use Rattle.model.specs.Calls.{Slotted, slotted, slottedCode}
 use Rattle.model.specs.Machine.{Buf, Machine, Ans, ended, begin}
 use Rattle.model_ops.specs.Concrete.{concrete}
 use Rattle.machine.specs.declared.Suspended.{Suspended}
-use Rattle.machine.specs.Suspended.{machineAt, drive, halts, slotsFit, BufferUnchangedOnRow1, lentBy, lent-halts}
+use Rattle.machine.specs.Suspended.{machineAt, drive, halts, slotsFit, BufferUnchangedOnRow1, lentBy}
+use Rattle.machine.specs.SuspendedLaws.{lent-halts}
 use Rattle.machine.specs.Goes.{Called}
-use Rattle.machine.specs.Rows.{isIdle, slotted-idle}
+use Rattle.machine.specs.Rows.{isIdle}
+use Rattle.machine.specs.RowsLaws.{slotted-idle}
 
 module _ (o : Slotted) (u : Suspended) (d : Driver) (a b : Buf) (out : List ℕ) where
   abbrev misfitted : Called

@@ -1,10 +1,14 @@
 pub mod Questions
 pub mod Suspended
+pub mod SuspendedLaws
 pub mod Counted
 pub mod Goes
+pub mod GoesLaws
 pub mod Fits
 pub mod Interrupt
 pub mod Rows
+pub mod RowsLaws
 pub mod Lent
 pub mod Tags
 pub mod Keeps
+pub mod KeepsLaws

@@ -1,7 +1,7 @@
 -- What is under way, as the saved record says it, and the machine of calls that the lent bytes are
 use mathlib.Core.Bool.{Bool, true, false, cond}
 use mathlib.Core.List.{List, _++_}
-use mathlib.Core.Path.{_≡_, refl, ap}
+use mathlib.Core.Path.{_≡_}
 use Prim.Native.Nat.{ℕ, _*_}
 use lib.Dec.{eqb}
 use lib.ListN.{length}
@@ -11,7 +11,7 @@ use Rattle.state.specs.declared.Saved.{Saved}
 use Rattle.state.specs.Driver.{Driver}
 use Rattle.state.specs.State.{view, saved}
 use Rattle.state.specs.Fresh as fresh
-use Rattle.model.specs.Tree.{Out, ends, asks, bindOut}
+use Rattle.model.specs.Tree.{Out, bindOut}
 use Rattle.model.specs.Script.{Script, ret, _>>=_, fetch, gathered, run}
 use Rattle.model.specs.Statics.{flag}
 use Rattle.model.specs.Answers.{Answer, Refused, End, NotYet, Done, Shown}
@@ -25,7 +25,7 @@ use Rattle.driver.specs.Points as driver
 use Rattle.driver_codec.specs.Codec as codec
 use Rattle.bus.specs.Points as bus
 use Rattle.bus.specs.Codec as busCodec
-use Rattle.endpoint_common.specs.Answers.{front, broughtBy, lentAfter}
+use Rattle.endpoint_common.specs.Answers.{front, broughtBy}
 use Rattle.control.specs.Points as control
 use Rattle.control.specs.Codec as controlCodec
 use Rattle.endpoint.specs.Points as endpoint
@@ -79,16 +79,6 @@ decode c =
     (cond (eqb (c .tag) 5) (under.Advance (advanceCodec.decode c))
     (cond (eqb (c .tag) 6) (under.Interrupt (handlerCodec.decode c))
     under.Idle)))))
-
-pub decode-encode : (u : Suspended) → decode (encode u) ≡ u
-unfolding encode decode codec.decode busCodec.decode controlCodec.decode endpointCodec.decode advanceCodec.decode handlerCodec.decode
-decode-encode under.Idle = refl
-decode-encode (under.Driver p) = ap under.Driver (codec.decode-encode p)
-decode-encode (under.Bus p) = ap under.Bus (busCodec.decode-encode p)
-decode-encode (under.Control p) = ap under.Control (controlCodec.decode-encode p)
-decode-encode (under.Endpoint p) = ap under.Endpoint (endpointCodec.decode-encode p)
-decode-encode (under.Advance p) = ap under.Advance (advanceCodec.decode-encode p)
-decode-encode (under.Interrupt p) = ap under.Interrupt (handlerCodec.decode-encode p)
 
 -- ---- what is left of the call
 
@@ -160,10 +150,6 @@ abbrev pub lentBy : Ans Answer → List ℕ → List ℕ
 lentBy (ended a) out = broughtBy a out
 lentBy (handed q) out = out
 lentBy (told n) out = out
-
-pub lent-halts : (o : Out St Answer) (out : List ℕ) → lentBy (halts o .0) out ≡ lentAfter o out
-lent-halts (ends a s) out = refl
-lent-halts (asks q s k) out = refl
 
 -- row 1: as long as the driver's buffers
 unfoldable pub slotsFit : Driver → Buf → Bool

@@ -6,7 +6,8 @@ use Rattle.state.specs.Driver.{Driver}
 use Rattle.model.specs.Machine.{Buf}
 use Rattle.machine.specs.declared.Suspended.{Suspended}
 use Rattle.machine.specs.Suspended.{decode, resumed}
-use Rattle.machine.specs.Goes.{Called, stayed}
+use Rattle.machine.specs.Goes.{Called}
+use Rattle.machine.specs.GoesLaws.{stayed}
 
 module _ (c : Saved) (u : Suspended) (v : ℕ) (d : Driver) (b : Buf) (e : decode c ≡ u) where
   -- what the operation comes to

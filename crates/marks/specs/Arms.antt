@@ -11,7 +11,8 @@ use lib.ListN.{length, getD, set, length-set}
 use lib.Seq.{sets, getD-set-same}
 use Rattle.marks.specs.Marks.{mark, markByte, isMark, marked, markedRun, armedWords, arm, reach}
 use Rattle.marks.specs.Words.{all-agree, same-mark, mark-byte}
-use Rattle.marks.specs.Only.{Only, only-refl, only-trans, only-wider, only-sets, only-apart}
+use Rattle.marks.specs.Only.{Only}
+use Rattle.marks.specs.OnlyLaws.{only-refl, only-trans, only-wider, only-sets, only-apart}
 
 -- ---- one word, and a run of words
 

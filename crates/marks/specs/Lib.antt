@@ -1,9 +1,12 @@
 pub mod Marks
 pub mod Copies
 pub mod Only
+pub mod OnlyLaws
 pub mod Words
 pub mod Arms
 pub mod Finds
+pub mod FindsLaws
 pub mod Slots
 pub mod Stored
+pub mod StoredLaws
 pub mod Table

@@ -10,10 +10,12 @@ use lib.ListN.{length, take, drop, getD, length-append, length-drop, List·getD-
 use lib.Seq.{take-append-seam, drop-at, ext-getD, getD-append-add, getD-drop, getD-take, length-take-le, take-at}
 use Rattle.marks.specs.Marks.{agrees, arm, reach, isMarked, armed, markedLen}
 use Rattle.marks.specs.Copies.{over, bytesAt, copied, copiedOut}
-use Rattle.marks.specs.Only.{Same, Only, only-refl, only-wider, only-part}
+use Rattle.marks.specs.Only.{Same, Only}
+use Rattle.marks.specs.OnlyLaws.{only-refl, only-wider, only-part}
 use Rattle.marks.specs.Words.{same-mark, one-differs}
 use Rattle.marks.specs.Arms.{MarkedEmpty, only-arm, arm-word, arm-empties}
-use Rattle.marks.specs.Finds.{LastDiffers, MarkedAfter, found-is, found-most, found-same}
+use Rattle.marks.specs.Finds.{LastDiffers, MarkedAfter}
+use Rattle.marks.specs.FindsLaws.{found-is, found-most, found-same}
 
 back : (b p : List ℕ) (at : ℕ) → at ≤ length b → drop at (take at b ++ p) ≡ p
 back b p at h = drop-at (take at b) p at (length-take-le at b h)

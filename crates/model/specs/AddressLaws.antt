@@ -12,9 +12,10 @@ use Rattle.model.specs.Cells.{globals-cell, control-cell, ep-cell}
 use Rattle.model.specs.Script.{Ops, run, Script}
 use Rattle.model.specs.Statics.{isOn}
 use Rattle.model.specs.Control.{ACCEPT, pollAccept}
-use Rattle.model.specs.Every.{Chip, Every, at-end, at-ask, every-cond, sameReg, Where, only-run}
+use Rattle.model.specs.Every.{Chip, Every, at-end, at-ask, sameReg, Where}
+use Rattle.model.specs.EveryLaws.{every-cond, only-run}
 use Rattle.model.specs.AddressWrites.{Writes}
-use Rattle.model.specs.AddressCalls.{None, N}
+use Rattle.model.specs.AddressCallsLaws.{None, N}
 use Rattle.model.specs.Usb20Control.{addressAfter}
 
 -- the address in force: the one last written

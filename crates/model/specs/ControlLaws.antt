@@ -25,7 +25,8 @@ use Rattle.model.specs.Statics.{isOn, modifyReg, modifyEp, completed, wa
 use Rattle.model.specs.Answers.{Answer, Refused, End, NotYet, Done, Shown}
 use Rattle.model.specs.Handler.{outNaks, inNaks, nakNonIso, outArm, inArm, received, movedOn}
 use Rattle.model.specs.Control.{acks, beginDataOut, beginDataIn, statusIn, beginAccept, beginAcceptSetAddress}
-use Rattle.model.specs.Every.{Chip, Every, at-end, at-ask, every-bind, every-cond, Only, Where, sameReg}
+use Rattle.model.specs.Every.{Chip, Every, at-end, at-ask, Where, sameReg}
+use Rattle.model.specs.EveryLaws.{every-bind, every-cond, Only}
 use Rattle.model.specs.Usb20Toggles.{Pid, DATA0, DATA1, other}
 use Rattle.model.specs.Usb20Control.{dataPid, statusPid, statusLength, statusDir}
 use Rattle.model.specs.TogglesLaws.{number}

@@ -17,7 +17,8 @@ use Rattle.model.specs.Cells.{EpCore, ep-cell}
 use Rattle.model.specs.Script.{Ops, run, Script, row, Burst, switch, bus-reset, burstAsk, resetAsk, switchAsk}
 use Rattle.model.specs.Statics.{isOn}
 use Rattle.model.specs.Bus.{setStalled, setEnabled, setEnabledOut, setEnabledIn, kept, busReset, nakAll, restarted, restartedOut, restartedIn}
-use Rattle.model.specs.Every.{Only, sameReg, Where}
+use Rattle.model.specs.Every.{sameReg, Where}
+use Rattle.model.specs.EveryLaws.{Only}
 use Rattle.model.specs.Usb20Toggles.{initial}
 use Rattle.model.specs.TogglesLaws.{number}
 

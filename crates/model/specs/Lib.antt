@@ -21,6 +21,7 @@ pub mod ReadingsInterrupt
 pub mod ReadingsCalls
 pub mod ReadingsReached
 pub mod Every
+pub mod EveryLaws
 pub mod Usb20Toggles
 pub mod Usb20Control
 pub mod TogglesLaws
@@ -29,7 +30,9 @@ pub mod Data0Laws
 pub mod RestartLaws
 pub mod ControlLaws
 pub mod AddressWrites
+pub mod AddressWritesLaws
 pub mod AddressCalls
+pub mod AddressCallsLaws
 pub mod AddressLaws
 pub mod FrameLaws
 pub mod TransferKinds

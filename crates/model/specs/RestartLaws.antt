@@ -11,7 +11,8 @@ use Rattle.model.specs.Cells.{EpCore, ep-cell, globals-cell, paced-cell}
 use Rattle.model.specs.Script.{Ops, run, reset-ring, set-enabled, waken, place}
 use Rattle.model.specs.Statics.{isOn}
 use Rattle.model.specs.Bus.{setStalled, setEnabledOut, setEnabledIn}
-use Rattle.model.specs.Every.{Chip, Every, at-end, at-ask, every-bind, every-cond}
+use Rattle.model.specs.Every.{Chip, Every, at-end, at-ask}
+use Rattle.model.specs.EveryLaws.{every-bind, every-cond}
 use Rattle.model.specs.Usb20Toggles.{initial}
 use Rattle.model.specs.TogglesLaws.{number}
 

@@ -17,7 +17,8 @@ use Rattle.model.specs.Script.{Script, Ops, run, Test, Look, Fetch, Act,
 use Rattle.model.specs.Statics.{modifyReg}
 use Rattle.model.specs.Readings.{reading, Continues, readings}
 use Rattle.model.specs.ReadingsLaws.{hand-quiet}
-use Rattle.model.specs.Every.{Chip, Every, at-end, at-ask, every-bind, every-cond, every-more}
+use Rattle.model.specs.Every.{Chip, Every, at-end, at-ask}
+use Rattle.model.specs.EveryLaws.{every-bind, every-cond, every-more}
 use Rattle.model.specs.TransferKinds.{TransferKinds, Shows, Sorted, allocates, Along}
 
 -- the readings that were handed out

@@ -7,7 +7,8 @@ use Prim.Native.Nat.{ℕ, zero, suc, _+_, _-_, _/_, _%_, _≤_, _<_}
 use native.Mathlib.Omega.{arith}
 use lib.Bits.{bitAnd}
 use lib.ListN.{length}
-use Rattle.bits.specs.Bit.{bit, bit-suc, bit-cases, isSet, one-set, both, set-and}
+use Rattle.bits.specs.Bit.{bit, isSet, both}
+use Rattle.bits.specs.BitLaws.{bit-suc, bit-cases, one-set, set-and}
 use Rattle.bits.specs.Walk.{consIf, bitsFrom, setBits}
 use Rattle.regs.specs.Enables.{inEnabled, outEnabled}
 use Rattle.regs.specs.declared.Dir.the-variants.{Out, In}

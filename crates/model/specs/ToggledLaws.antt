@@ -17,7 +17,8 @@ use Rattle.model.specs.Cells.{EpCore, ep-cell}
 use Rattle.model.specs.Script.{Ops, run, Script, ret, test, when, get, _>>=_, _>>_}
 use Rattle.model.specs.Statics.{isOn, flag, withArmed, withTog, modifyEp, modifyReg}
 use Rattle.model.specs.Handler.{looks, repeated, toggled}
-use Rattle.model.specs.Every.{Chip, Every, at-end, at-ask, every-bind, every-cond}
+use Rattle.model.specs.Every.{Chip, Every, at-end, at-ask}
+use Rattle.model.specs.EveryLaws.{every-bind, every-cond}
 use Rattle.model.specs.Usb20Toggles.{Pid, Transaction, bitAfterAll, passed}
 use Rattle.model.specs.TogglesLaws.{number, shown, repeated-not-passed}
 

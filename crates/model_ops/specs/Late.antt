@@ -14,7 +14,8 @@ use Rattle.ring.specs.Out.{cappedAt, armedAt}
 use Rattle.marks.specs.Marks.{reach, armed}
 use Rattle.marks.specs.Copies.{bytesAt}
 use Rattle.marks.specs.Finds.{LastDiffers}
-use Rattle.marks.specs.Stored.{StoredAlone, true-length, true-bytes}
+use Rattle.marks.specs.Stored.{StoredAlone}
+use Rattle.marks.specs.StoredLaws.{true-length, true-bytes}
 use Rattle.model.specs.Script.{marked}
 use Rattle.model.specs.Statics.{isOn, isoOuts}
 use Rattle.model_ops.specs.Rings.{St, markedOn, admittedOn, armAt, armOn, arriveOn, renewedOn, slotStep}

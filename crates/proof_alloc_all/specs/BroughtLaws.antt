@@ -36,7 +36,8 @@ use Rattle.model_ops.specs.Concrete.{concrete}
 use Rattle.proof_alloc_all.specs.Hands.{handsOut, endsWith, allocation, oneByOne}
 use Rattle.proof_alloc_all.specs.Brought.{Brings, handsAs, endsAs, oneByOneAs}
 use Rattle.proof_alloc_all.specs.Settled.{Settled}
-use Rattle.proof_alloc_all.specs.Order.{InOrder, in-order}
+use Rattle.proof_alloc_all.specs.Order.{InOrder}
+use Rattle.proof_alloc_all.specs.OrderLaws.{in-order}
 
 -- ---- two runs with the same accesses, answer and driver, whatever is brought and stored
 

@@ -1,8 +1,11 @@
 pub mod Hands
 pub mod Given
 pub mod Settled
+pub mod SettledLaws
 pub mod Walk
+pub mod WalkLaws
 pub mod Order
+pub mod OrderLaws
 pub mod Brought
 pub mod BroughtLaws
 pub mod Preview

@@ -14,8 +14,8 @@ use Rattle.alloc.specs.Alloc.{allocateOf}
 use Rattle.req_descriptor.specs.declared.Endpoint.{Endpoint}
 use Rattle.req_descriptor.specs.declared.Answer.the-variants as reading
 use Rattle.req_descriptor.specs.Reading.{readingOf, listOf}
-use Rattle.req_descriptor.specs.Lists.{few}
-use Rattle.req_descriptor.specs.ReadBack.{accepted}
+use Rattle.req_descriptor.specs.ListsLaws.{few}
+use Rattle.req_descriptor.specs.ReadBackLaws.{accepted}
 use Rattle.req_preview.specs.declared.Said.the-variants as said
 use Rattle.req_preview.specs.declared.Trial.{Trial}
 use Rattle.req_preview.specs.Trial.{directionOf, asked}
@@ -33,8 +33,9 @@ use Rattle.model_ops.specs.Concrete.{concrete}
 use Rattle.alloc_all.specs.Each.{oneOn}
 use Rattle.proof_alloc_all.specs.Hands.{endsWith, allocation}
 use Rattle.proof_alloc_all.specs.Given.{one-allocator, one-stage}
-use Rattle.proof_alloc_all.specs.Settled.{Settled, settled}
-use Rattle.proof_alloc_all.specs.Order.{settled-wakes, one-ends}
+use Rattle.proof_alloc_all.specs.Settled.{Settled}
+use Rattle.proof_alloc_all.specs.SettledLaws.{settled}
+use Rattle.proof_alloc_all.specs.OrderLaws.{settled-wakes, one-ends}
 
 -- from a state, for a list: the numbers that the calls end with, the refusal that ended it or 0, and the state then
 pub data Calls : St → List Endpoint → List ℕ → ℕ → St → Type 0 where

@@ -26,7 +26,8 @@ use Rattle.model.specs.AllocateAll.{allocateEach, allocate-tried, allocate-read
 use Rattle.model.specs.Calls.{AllocateAll, otherCode}
 use Rattle.model_ops.specs.Rings.{St}
 use Rattle.model_ops.specs.Concrete.{concrete, go}
-use Rattle.alloc_all.specs.Each.{eachOn, each-run, announceAll}
+use Rattle.alloc_all.specs.Each.{eachOn, announceAll}
+use Rattle.alloc_all.specs.EachLaws.{each-run}
 
 -- the row that a preview tells: 17 or 18, or the first refusal of an allocation; 0 where there is none
 abbrev pub saidRow : Said → ℕ → ℕ

@@ -7,7 +7,8 @@ use native.Mathlib.Nat.{suc-mul}
 use native.Mathlib.Omega.{arith}
 use lib.Dec.{eqb}
 use lib.ListN.{length}
-use Rattle.bits.specs.Walk.{setBits, walk-length}
+use Rattle.bits.specs.Walk.{setBits}
+use Rattle.bits.specs.WalkLaws.{walk-length}
 use Rattle.regs.specs.declared.Access.{Access}
 use Rattle.regs.specs.declared.Reg.{Reg}
 use Rattle.regs.specs.declared.Dir.{Dir}

@@ -27,9 +27,9 @@ use Rattle.proof_book.specs.Book.{book, questionB}
 use Rattle.proof_book.specs.Coupling.{Coupling, Chip, Good}
 use Rattle.proof_book.specs.Held.{IsAgrees, LookAgrees, FetchAgrees, ActAgrees, HandAgrees, held-length}
 use Rattle.proof_book.specs.Cells.{gets, puts, wakes-kept, unfed, good-bare}
-use Rattle.proof_book.specs.Allocations.{allocates, starts, enables-kept}
+use Rattle.proof_book.specs.AllocationsLaws.{allocates, starts, enables-kept}
 use Rattle.proof_book.specs.Chips.{chip}
-use Rattle.proof_book.specs.Outs.{is-changed, is-waiting-out, is-opened, look-marked, look-next-out, look-next-stamp, fetch-oldest, fetch-received, act-open, act-close, act-take, act-reset-out}
+use Rattle.proof_book.specs.OutsLaws.{is-changed, is-waiting-out, is-opened, look-marked, look-next-out, look-next-stamp, fetch-oldest, fetch-received, act-open, act-close, act-take, act-reset-out}
 use Rattle.proof_book.specs.Arrives.{hand-arrive, hand-place-out}
 use Rattle.proof_book.specs.Ins.{is-waiting-in, look-next-in, is-room, act-complete, act-reset-in, act-enqueue, hand-place-in, hand-send}
 use Rattle.proof_book.specs.Bytes.{act-fill, act-fill0, look-setup-word, fetch-received0, hand-place0}

@@ -36,11 +36,13 @@ use Rattle.proof_book.specs.Pages.{Packet, bytesOf, stampsOf, OutPage, P
 use Rattle.proof_book.specs.Book.{joined, overrun, arrived, slotTold, receiving, packetB, feedB}
 use Rattle.proof_book.specs.Coupling.{Short, lensOf, slotStamps, OutFits, Armed, Coupling}
 use Rattle.proof_book.specs.Lens.{lens-set, lens-on, ep-len, stamps-length, stamps-set, stamps-on, stamps-len, ep-stamp, lens-stamp}
-use Rattle.proof_book.specs.Stamps.{stamped, alike-stamps, arrive-stamps}
+use Rattle.proof_book.specs.Stamps.{stamped}
+use Rattle.proof_book.specs.StampsLaws.{alike-stamps, arrive-stamps}
 use Rattle.proof_book.specs.Frame.{Changed, changed-not, changed-on, changed-len, changed-stamp, changed-trans, kept-same, end-kept, out-changed, out-moved, out-same, out-twice, only-bytes}
 use Rattle.proof_book.specs.Held.{HandAgrees, receives, receives-used, receives-slots, good-words}
 use Rattle.proof_book.specs.Lies.{received-lies}
-use Rattle.proof_book.specs.Outs.{Inner, out-on, out-page}
+use Rattle.proof_book.specs.Outs.{Inner}
+use Rattle.proof_book.specs.OutsLaws.{out-on, out-page}
 
 -- ---- the record
 

@@ -36,7 +36,7 @@ use Rattle.proof_book.specs.Pages.{bytesOf, OutPage, InPage, Kept, Pages
 use Rattle.proof_book.specs.Book.{bookOps, feedB, mergedPlain}
 use Rattle.proof_book.specs.Coupling.{Short, SameKept, Used, Unused, Shape, Held, OutFits, InFits, AtRest, Arming, Coupling, Good, lensOf, slotStamps, endOf}
 use Rattle.proof_book.specs.Frame.{alike-tail, stands-moved}
-use Rattle.proof_book.specs.Stamps.{alike-stamps}
+use Rattle.proof_book.specs.StampsLaws.{alike-stamps}
 
 -- ---- an endpoint's key decides its record
 

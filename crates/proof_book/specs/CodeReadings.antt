@@ -9,8 +9,10 @@ use Rattle.model.specs.Machine.{Buf, Event, Machine, Ans, start, begin, idle}
 use Rattle.machine.specs.Suspended.{driverOf, machineOf}
 use Rattle.proof_book.specs.Code.{Made, CallStep}
 use Rattle.proof_book.specs.Always.{after}
-use Rattle.proof_book.specs.Sorting.{Sorting, after-sorting}
-use Rattle.proof_book.specs.Served.{andThen, counted, served, sorting-served}
+use Rattle.proof_book.specs.Sorting.{Sorting}
+use Rattle.proof_book.specs.SortingLaws.{after-sorting}
+use Rattle.proof_book.specs.Served.{andThen}
+use Rattle.proof_book.specs.ServedLaws.{counted, served, sorting-served}
 
 -- calls one after the other, each as its contract says
 abbrev pub Steps : List ℕ → Buf → List Made → Type 0

@@ -10,8 +10,10 @@ use native.Mathlib.Nat.{zero-mod, mod-lt, mod-eq-of-lt, mul-le-mul-right, le-tra
 use lib.Dec.{eqb, leb, ltb}
 use borrow.Author.Tests.{eq-eqb, ne-eqb, eqb-true}
 use lib.ListN.{length, getD, length-set}
-use Rattle.bits.specs.Bit.{isSet, withBit, both, set-with}
-use Rattle.le_bytes.specs.Tables.{tab, length-tab}
+use Rattle.bits.specs.Bit.{isSet, withBit, both}
+use Rattle.bits.specs.BitLaws.{set-with}
+use Rattle.le_bytes.specs.Tables.{tab}
+use Rattle.le_bytes.specs.TablesLaws.{length-tab}
 use Rattle.regs.specs.declared.Dir.{Dir}
 use Rattle.regs.specs.declared.Dir.the-variants.{Out, In}
 use Rattle.regs.specs.Enables as enables
@@ -28,7 +30,8 @@ use Rattle.alloc.specs.Alloc.{if, isOut, allocatedIn, takenIn, slotsOf, isIso, 
 use Rattle.alloc.specs.Alloc as alloc
 use Rattle.alloc.specs.Outcome.{sameDir, inAdded, Takes, Gives, Outcome, six, seven, eight, given, outcome}
 use Rattle.alloc.specs.Run.{Call, endpoint, ep0, called, Step, kept, gave, gave-ep0, step}
-use Rattle.alloc.specs.Sound.{Sound, sound-call}
+use Rattle.alloc.specs.Sound.{Sound}
+use Rattle.alloc.specs.SoundLaws.{sound-call}
 use Rattle.ring.specs.Slot.{slotOf, slotAddr, countOf}
 use Rattle.ring.specs.Waiting.{waiting, Placed, Ring, Shows, Sends}
 use Rattle.ring.specs.Laws.{reset-count, reset-waits, reset-ring}
@@ -42,7 +45,7 @@ use Rattle.proof_book.specs.Pages.{OutPage, InPage, Kept, Pages, at, on,
 use Rattle.proof_book.specs.Book.{bookOps, shapedPlain, slotTold, emptyOut, emptyIn, pagesGiven, givenB, allocateB, startedB, allocateB0}
 use Rattle.proof_book.specs.Coupling.{SameKept, Used, Unused, Shape, Apart, Held, OutFits, InFits, AtRest, Coupling, lensOf, slotStamps, endOf, ep0Room}
 use Rattle.proof_book.specs.Frame.{none-stands}
-use Rattle.proof_book.specs.Stamps.{none-stamps}
+use Rattle.proof_book.specs.StampsLaws.{none-stamps}
 use Rattle.proof_book.specs.Cells.{Still, still, kin-refl, key-by, epOn-by, on-key, at-same, at-other, plain-put}
 
 -- ---- an allocator with the same buffers, of which perhaps more are used

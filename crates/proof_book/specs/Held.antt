@@ -16,7 +16,8 @@ use Rattle.state.specs.declared.EpState.{EpState}
 use Rattle.state.specs.declared.Globals.{Globals}
 use Rattle.state.specs.Driver.{Driver, epOn, lenOn, stampOn}
 use Rattle.alloc.specs.Alloc.{if, allocatedIn, slotsOf}
-use Rattle.alloc.specs.Buffer.{goodSize, each-size}
+use Rattle.alloc.specs.Buffer.{goodSize}
+use Rattle.alloc.specs.BufferLaws.{each-size}
 use Rattle.ring.specs.Slot.{slotOf, slotAddr, countOf, hasWaiting}
 use Rattle.ring.specs.Waiting.{waiting}
 use Rattle.ring.specs.Slots.{slot-in}
@@ -32,7 +33,7 @@ use Rattle.proof_book.specs.Pages.{Packet, bytesOf, stampsOf, OutPage, P
 use Rattle.proof_book.specs.Book.{some, first, firstStamp, isB, lookB, fetchB, actB, handB, feedB}
 use Rattle.proof_book.specs.Coupling.{Used, Shape, lensOf, slotStamps, Held, OutFits, Coupling, Good}
 use Rattle.proof_book.specs.Lens.{lens-at, lens-length, stamps-at}
-use Rattle.proof_book.specs.Stamps.{split-stamps}
+use Rattle.proof_book.specs.StampsLaws.{split-stamps}
 
 -- ---- each operation, of driver and book
 

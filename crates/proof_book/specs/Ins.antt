@@ -26,6 +26,7 @@ use Rattle.ring.specs.Laws.{place-placed, place-trans, place-addr, head-away, a
 use Rattle.ring.specs.InLaws as ring-in
 use Rattle.marks.specs.Copies.{copied}
 use Rattle.marks.specs.Only as marks
+use Rattle.marks.specs.OnlyLaws as marks-laws
 use Rattle.marks.specs.Slots.{only-copied, copied-bytes}
 use Rattle.model.specs.Cells.{EpCore}
 use Rattle.model.specs.Script as script
@@ -231,7 +232,7 @@ module _ {b : Buf} {r : EpState} {ls : List ℕ} {p : InPage} (f : InFits b r ls
   queued-in = omega (arith, slot-upto (f .held .placed) (r .head), f .held .placed .inside)
 
   queued-only : Only (slotAddr r (r .head)) (slotAddr r (r .head) + r .stride) b queued
-  queued-only = only-bytes (marks.only-wider _ _ (omega arith) (omega arith) (only-copied b (slotAddr r (r .head)) bytes))
+  queued-only = only-bytes (marks-laws.only-wider _ _ (omega arith) (omega arith) (only-copied b (slotAddr r (r .head)) bytes))
 
   queued-waits : waiting queued (joinedOf r) (set ls (slotOf r (r .head)) (length bytes)) ≡ p .waiting ++ (bytes ∷ [])
   queued-waits =

@@ -10,7 +10,8 @@ use Rattle.state.specs.Driver.{Driver, epOn}
 use Rattle.marks.specs.Marks.{reach}
 use Rattle.marks.specs.Copies.{bytesAt}
 use Rattle.marks.specs.Finds.{LastDiffers}
-use Rattle.marks.specs.Stored.{StoredAlone, true-bytes}
+use Rattle.marks.specs.Stored.{StoredAlone}
+use Rattle.marks.specs.StoredLaws.{true-bytes}
 use Rattle.model.specs.Cells.{EpCore}
 use Rattle.model.specs.Simulates.{quiet}
 use Rattle.model.specs.Machine.{Buf}
@@ -21,7 +22,7 @@ use Rattle.proof_book.specs.Pages.{Pages}
 use Rattle.proof_book.specs.Book.{packetB, bookOps}
 use Rattle.proof_book.specs.Coupling.{Coupling}
 use Rattle.proof_book.specs.Held.{Words, receives, receives-used, good-words}
-use Rattle.proof_book.specs.Outs.{look-marked}
+use Rattle.proof_book.specs.OutsLaws.{look-marked}
 
 -- The packet was stored alone in the slot of OUT e's last receive address since this was handed out, b then being the buffer; it lies within the
 -- maximum, and its last byte, if it has one, differs from the mark's byte at its place.

@@ -7,7 +7,8 @@ use native.Mathlib.Omega.{arith}
 use native.Mathlib.Decide.{ℕ-discrete, decLt}
 use lib.ListN.{length, getD, set, replicate}
 use lib.Seq.{getD-set-same, getD-set-other}
-use Rattle.le_bytes.specs.Tables.{tab, tab-ext, tab-set, getD-tab, length-tab}
+use Rattle.le_bytes.specs.Tables.{tab}
+use Rattle.le_bytes.specs.TablesLaws.{tab-ext, tab-set, getD-tab, length-tab}
 use Rattle.regs.specs.declared.Dir.{Dir}
 use Rattle.regs.specs.declared.Dir.the-variants.{Out, In}
 use Rattle.state.specs.declared.EpState.{EpState}

@@ -1,6 +1,7 @@
 pub mod Pages
 pub mod Book
 pub mod Stamps
+pub mod StampsLaws
 pub mod Lengths
 pub mod Others
 pub mod FrontPage
@@ -8,12 +9,14 @@ pub mod Coupling
 pub mod Cells
 pub mod Given
 pub mod Allocations
+pub mod AllocationsLaws
 pub mod Lens
 pub mod Frame
 pub mod Held
 pub mod Lies
 pub mod Chips
 pub mod Outs
+pub mod OutsLaws
 pub mod Late
 pub mod Arrives
 pub mod Ins
@@ -57,8 +60,11 @@ pub mod Code
 pub mod FrontPageProved
 pub mod SlotsStay
 pub mod TransferKinds
+pub mod TransferKindsLaws
 pub mod Always
+pub mod AlwaysLaws
 pub mod Sorting
+pub mod SortingLaws
 pub mod MaxLens
 pub mod ReadRoom
 pub mod ReadRoomScripts
@@ -70,6 +76,7 @@ pub mod Stamping
 pub mod StampingScripts
 pub mod StampingLaws
 pub mod Served
+pub mod ServedLaws
 pub mod Accesses
 pub mod AccessesInterrupt
 pub mod Continues

@@ -13,15 +13,18 @@ use Rattle.state.specs.declared.EpState.{EpState}
 use Rattle.state.specs.declared.Allocator.{Allocator}
 use Rattle.state.specs.Driver.{Driver, epOn}
 use Rattle.alloc.specs.Alloc.{allocatedIn}
-use Rattle.alloc.specs.Buffer.{goodSize, each-size}
+use Rattle.alloc.specs.Buffer.{goodSize}
+use Rattle.alloc.specs.BufferLaws.{each-size}
 use Rattle.req_descriptor.specs.declared.Answer.the-variants as reading
 use Rattle.req_descriptor.specs.Reading.{readingOf, listOf}
 use Rattle.req_preview.specs.Trial.{trialOf}
 use Rattle.model.specs.Simulates.{quiet}
 use Rattle.model.specs.Statics.{isOn}
 use Rattle.model.specs.Machine.{Buf}
-use Rattle.proof_alloc_all.specs.Settled.{Settled, slots-some}
-use Rattle.proof_alloc_all.specs.Order.{InOrder, in-order}
+use Rattle.proof_alloc_all.specs.Settled.{Settled}
+use Rattle.proof_alloc_all.specs.SettledLaws.{slots-some}
+use Rattle.proof_alloc_all.specs.Order.{InOrder}
+use Rattle.proof_alloc_all.specs.OrderLaws.{in-order}
 use Rattle.proof_book.specs.Pages.{Pages}
 use Rattle.proof_book.specs.Coupling.{Used, Shape, Coupling}
 

@@ -20,7 +20,8 @@ use Rattle.alloc.specs.declared.Allocation.{Allocation}
 use Rattle.alloc.specs.Alloc.{takenIn, allocateOf, allocateEp0Of, withNext, isIso}
 use Rattle.alloc.specs.Outcome.{sameDir, stays, Takes, Outcome, six, seven, eight, given, outcome}
 use Rattle.alloc.specs.Run.{endpoint, ep0, Step, kept, gave-ep0, step}
-use Rattle.alloc.specs.Sound.{Sound, sound-call}
+use Rattle.alloc.specs.Sound.{Sound}
+use Rattle.alloc.specs.SoundLaws.{sound-call}
 use Rattle.model.specs.Script.{Act, complete, reset-ring, set-enabled, fill, fill0, open-oldest, close-oldest, take-oldest, enqueue, allocate, allocate0, no-wakes, waken}
 use Rattle.model.specs.Statics.{isOn}
 use Rattle.model_ops.specs.Records.{recordGiven, setsGiven, givenTo, allocatedOn, startedWith, allocatedEp0}

@@ -13,9 +13,11 @@ use Rattle.model.specs.SortsAside.{Passes, passing-4056}
 use Rattle.model_ops.specs.Rings.{St}
 use Rattle.model_ops.specs.Concrete.{concrete}
 use Rattle.machine.specs.Suspended.{driverOf}
-use Rattle.proof_book.specs.TransferKinds.{Has, sorted}
+use Rattle.proof_book.specs.TransferKinds.{Has}
+use Rattle.proof_book.specs.TransferKindsLaws.{sorted}
 use Rattle.proof_book.specs.Always.{after}
-use Rattle.proof_book.specs.Sorting.{sortsOf, Sorting, ep0-plain, after-sorting}
+use Rattle.proof_book.specs.Sorting.{sortsOf, Sorting}
+use Rattle.proof_book.specs.SortingLaws.{ep0-plain, after-sorting}
 
 -- stores by others: any bytes of the slots become anything, the driver's state stays
 abbrev pub Stores : St → St → Type 0

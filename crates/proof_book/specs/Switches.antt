@@ -40,7 +40,7 @@ use Rattle.proof_book.specs.Pages.{OutPage, Kept, Pages, withKept, withO
 use Rattle.proof_book.specs.Book.{emptyOut, slotTold, isoOf, feedB}
 use Rattle.proof_book.specs.Coupling.{SameKept, endOf, lensOf, slotStamps, OutFits, AtRest, Switching, InRow, Arming, Coupling}
 use Rattle.proof_book.specs.Lens.{ep-mod, lens-on, stamps-on, ep-clear, lens-clear}
-use Rattle.proof_book.specs.Stamps.{alike-stamps}
+use Rattle.proof_book.specs.StampsLaws.{alike-stamps}
 use Rattle.proof_book.specs.Frame.{Changed, changed-not, changed-on, changed-clear, changed-trans, kept-same, kept-plain, out-same, out-twice, out-moved, end-kept, out-changed, only-bytes}
 use Rattle.proof_book.specs.Held.{iso-used, Words, good-words}
 use Rattle.proof_book.specs.Lies.{received-lies}

@@ -23,7 +23,8 @@ use Rattle.model_ops.specs.Records.{isoOut, configured, enabledOn, recordGiven,
 use Rattle.model_ops.specs.Rings.{St, configStep}
 use Rattle.model_ops.specs.Concrete.{concrete}
 use Rattle.proof_book.specs.Cells.{on-key}
-use Rattle.proof_book.specs.TransferKinds.{Steady, put-steady, act-steady, hand-steady, row-steady}
+use Rattle.proof_book.specs.TransferKinds.{Steady}
+use Rattle.proof_book.specs.TransferKindsLaws.{put-steady, act-steady, hand-steady, row-steady}
 use Rattle.proof_bus_time.specs.Enabled.{isTaken}
 use Rattle.proof_bus_time.specs.Stays.{givenOf, Turns, put-stays, act-stays, hand-stays, switch-stays, reset-stays}
 

@@ -21,3 +21,4 @@ pub mod Gave
 pub mod Allocated
 pub mod Gives
 pub mod Code
+pub mod CodeLaws

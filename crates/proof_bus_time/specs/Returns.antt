@@ -5,7 +5,8 @@ use mathlib.Core.Path.{_≡_, refl, ap, sym, _∙_}
 use Prim.Native.Nat.{ℕ, zero, suc}
 use lib.Dec.{eqb}
 use borrow.Author.Tests.{eq-eqb}
-use Rattle.bits.specs.Bit.{isSet, withBit, pick, set-with}
+use Rattle.bits.specs.Bit.{isSet, withBit, pick}
+use Rattle.bits.specs.BitLaws.{set-with}
 use Rattle.regs.specs.declared.Access.{Access}
 use Rattle.regs.specs.declared.Dir.{Dir}
 use Rattle.regs.specs.declared.Dir.the-variants.{Out, In}
@@ -16,7 +17,8 @@ use Rattle.model.specs.Tree as tree
 use Rattle.model.specs.Tree.{ends}
 use Rattle.model.specs.Script.{run, rows, switch, bus-reset}
 use Rattle.model.specs.Statics.{isOn, wakeAll}
-use Rattle.model.specs.Every.{Chip, Every, at-end, at-ask, every-bind}
+use Rattle.model.specs.Every.{Chip, Every, at-end, at-ask}
+use Rattle.model.specs.EveryLaws.{every-bind}
 use Rattle.model.specs.Bus.{nakAll, busReset, setEnabledOut, setEnabled}
 use Rattle.model_ops.specs.Records.{isoOut, configured, enabledOn}
 use Rattle.model_ops.specs.Rings.{St, configStep}

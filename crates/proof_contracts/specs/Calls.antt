@@ -16,7 +16,7 @@ use Rattle.model.specs.Calls.{PollSetup, BeginDataOut, PollDataOut, BeginDataIn
 use Rattle.model.specs.Calls.{BeginAcceptSetAddress, PollAccept, BeginReject, Advance, BeginRead, PollRead}
 use Rattle.model.specs.Calls.{BeginWrite, PollWrite, Open, Close, Queue}
 use Rattle.machine.specs.Suspended.{configOf, answerOf}
-use Rattle.machine.specs.Keeps.{kept-by}
+use Rattle.machine.specs.KeepsLaws.{kept-by}
 use Rattle.call_start.proofs.allocate.Reads as allocate-contract
 use Rattle.call_start.proofs.start.Reads as start-contract
 use Rattle.call_driver.proofs.begins.begin_microframe.Reads as begin-microframe-contract

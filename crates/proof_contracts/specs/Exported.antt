@@ -18,7 +18,7 @@ use Rattle.model.specs.Calls.{PollSetup, BeginDataOut, PollDataOut, BeginDataIn
 use Rattle.model.specs.Calls.{BeginAcceptSetAddress, PollAccept, BeginReject, Advance, BeginRead, PollRead}
 use Rattle.model.specs.Calls.{BeginWrite, PollWrite, Open, Close, Queue}
 use Rattle.machine.specs.Suspended.{configOf, answerOf}
-use Rattle.machine.specs.Keeps.{kept-by}
+use Rattle.machine.specs.KeepsLaws.{kept-by}
 use Rattle.req_bus_time.specs.Time.{inUse}
 use Rattle.call_answer_word.specs.Word.{Worded}
 use Rattle.usbhs_c.specs.Calls.{dirOf, flagOf}

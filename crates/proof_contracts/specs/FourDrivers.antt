@@ -12,7 +12,8 @@ use Rattle.call_bus_time.specs.Sharing.{sharedCall}
 use Rattle.proof_bus_time.specs.History.{history}
 use Rattle.proof_bus_time.specs.Enabled.{FourAtFirst}
 use Rattle.proof_bus_time.specs.Charged.{chargedTime}
-use Rattle.proof_bus_time.specs.Code.{Lent, fourOf, Run, turns, last, code-in-use-charged}
+use Rattle.proof_bus_time.specs.Code.{Lent, fourOf, Run, turns, last}
+use Rattle.proof_bus_time.specs.CodeLaws.{code-in-use-charged}
 use Rattle.proof_bus_time.specs.Code as four
 use Rattle.usbhs_c.proofs.usbhs_time_in_use.Reads as time-in-use-contract
 use Rattle.proof_contracts.specs.SharedPage.{Made, CallStep}

@@ -15,7 +15,8 @@ use Rattle.machine.specs.declared.Suspended.{Suspended}
 use Rattle.machine.specs.declared.Suspended.the-variants as under
 use Rattle.machine.specs.Suspended.{encode, decode, wayOf, machineOf, driverOf, Canonical}
 use Rattle.machine.specs.Rows.{idleWay}
-use Rattle.machine.specs.Keeps.{canonical, KeptBy}
+use Rattle.machine.specs.Keeps.{KeptBy}
+use Rattle.machine.specs.KeepsLaws.{canonical}
 use Rattle.machine.specs.Goes.{Called}
 use Rattle.call_bus_time.specs.Sharing.{sharedCall, settled, isHanded}
 use Rattle.proof_contracts.specs.SharedPage.{Made}

@@ -14,7 +14,7 @@ use Rattle.machine.specs.Goes.{Called}
 use Rattle.call_bus_time.specs.Sharing.{apart, sortOf}
 use Rattle.call_answer_word.specs.Parts.{stepOf, spoken}
 use Rattle.call_answer_word.specs.Word.{Encodes, Worded}
-use Rattle.proof_bus_time.specs.Code.{leaves-record}
+use Rattle.proof_bus_time.specs.CodeLaws.{leaves-record}
 use Rattle.proof_contracts.specs.SavedPage.{Saves}
 use Rattle.proof_contracts.specs.Steps.{IsStep, IsStepLent, IsQuestion}
 

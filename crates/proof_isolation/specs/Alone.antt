@@ -17,7 +17,8 @@ use Rattle.model_ops.specs.Rings.{St}
 use Rattle.machine.specs.Suspended.{driverOf, drive}
 use Rattle.call_bus_time.specs.Sharing as sharing
 use Rattle.call_bus_time.specs.Sharing.{going, timeAfter}
-use Rattle.proof_wake_ups.specs.Rooms.{Few, Rooms, rooms}
+use Rattle.proof_wake_ups.specs.Rooms.{Few, Rooms}
+use Rattle.proof_wake_ups.specs.RoomsLaws.{rooms}
 use Rattle.proof_isolation.specs.EqualExcept.{Lawful, Channel, Touched}
 use Rattle.proof_isolation.specs.Whose.{sof}
 use Rattle.proof_isolation.specs.Apart.{gone, waits, ApartBy, end, both, left, right, owns}
@@ -27,11 +28,14 @@ use Rattle.proof_isolation.specs.Ending.{Finished, fin}
 use Rattle.proof_isolation.specs.Asides.{Mine, own-finishes}
 use Rattle.proof_isolation.specs.Operations.{OfChannel, polls, passes}
 use Rattle.proof_isolation.specs.OwnReading.{own-polls}
-use Rattle.proof_isolation.specs.Stores.{OwnLent, own-like}
-use Rattle.proof_isolation.specs.Spares.{spares-on}
+use Rattle.proof_isolation.specs.Stores.{OwnLent}
+use Rattle.proof_isolation.specs.StoresLaws.{own-like}
+use Rattle.proof_isolation.specs.SparesLaws.{spares-on}
 use Rattle.proof_isolation.specs.Schedule.{Run, Two, accessOf, runBy, ownBy, alone, stateOf, Timely, wide, atOwn, OwnCall, own-row1, own-lent, Alone}
-use Rattle.proof_isolation.specs.Standing.{machineOf, stops, runOf, own-no, past-no, Told, telling, telling-own, time-spared, Keeps, At, at}
-use Rattle.proof_isolation.specs.Runs.{go-busy, go-wide, go-unfit, begin-idle, begin-unfit, aside-busy, aside-late, through-one, spares-put, row-one}
+use Rattle.proof_isolation.specs.Standing.{machineOf, stops, runOf, own-no, Told, telling, telling-own, Keeps, At, at}
+use Rattle.proof_isolation.specs.StandingLaws.{past-no, time-spared}
+use Rattle.proof_isolation.specs.Runs.{go-busy, go-wide, go-unfit, begin-idle, begin-unfit, aside-busy, aside-late, spares-put, row-one}
+use Rattle.proof_isolation.specs.RunsLaws.{through-one}
 
 -- ---- where the one is touched they line up as before
 

@@ -11,7 +11,8 @@ use Rattle.regs.specs.declared.Dir.the-variants.{Out, In}
 use Rattle.state.specs.declared.EpState.{EpState}
 use Rattle.state.specs.Driver.{Driver, key, noEp, withEps, epOn, withOn, lenOn, withLenOn, stampOn, stampKey}
 use Rattle.state.specs.Laws.{key-apart, key-same, epOn-same, epOn-other}
-use Rattle.marks.specs.Only.{Same, Only, only-refl}
+use Rattle.marks.specs.Only.{Same, Only}
+use Rattle.marks.specs.OnlyLaws.{only-refl}
 use Rattle.marks.specs.Copies.{copied, bytesAt}
 use Rattle.ring.specs.Slot.{slotOf, slotAddr, hasWaiting, joinedOf}
 use Rattle.ring.specs.Out.{openedOf, closedOf}
@@ -35,9 +36,11 @@ use Rattle.proof_isolation.specs.Likes.{inner-stays, own-changed, but-re
 use Rattle.proof_isolation.specs.Pairs.{Eq, p-ret, p-same, p-then, p-test, p-get, p-is, p-look, p-fetch, p-act}
 use Rattle.proof_isolation.specs.Buts.{but-on, but-cond, but-changed, like-made, lawful-act, others-same}
 use Rattle.proof_isolation.specs.Values.{in-other, p-globals, p-plain, p-plain-in}
-use Rattle.proof_isolation.specs.Answers.{SameAnswer, same, p-staged, p-named}
+use Rattle.proof_isolation.specs.Answers.{SameAnswer, same}
+use Rattle.proof_isolation.specs.AnswersLaws.{p-staged, p-named}
 use Rattle.proof_isolation.specs.Bytes.{copied-like, only-like}
-use Rattle.proof_isolation.specs.Ending.{Finished, Brief, b-ret, b-bind, b-test, b-get, b-is, b-look, b-fetch, b-act}
+use Rattle.proof_isolation.specs.Ending.{Finished}
+use Rattle.proof_isolation.specs.EndingLaws.{Brief, b-ret, b-bind, b-test, b-get, b-is, b-look, b-fetch, b-act}
 use Rattle.proof_isolation.specs.InRings.{len-mod, next-same, on-seat, cond-seat}
 
 -- ---- of another OUT endpoint

@@ -16,7 +16,8 @@ use Rattle.model.specs.Control.{DATA-OUT}
 use Rattle.model_ops.specs.Rings.{St}
 use Rattle.model_ops.specs.Concrete.{concrete}
 use Rattle.proof_isolation.specs.EqualExcept.{Bounded}
-use Rattle.proof_isolation.specs.Settled.{settled-bounded, isControl, put-settled, starts, act-settled, hand-settled, row-settled}
+use Rattle.proof_isolation.specs.Settled.{isControl}
+use Rattle.proof_isolation.specs.SettledLaws.{settled-bounded, put-settled, starts, act-settled, hand-settled, row-settled}
 
 -- at each access and at each end, whatever is read and whatever such state the next call finds
 pub data Holds {A : Type 0} : tree.Out St A → Type 0 where

@@ -14,7 +14,8 @@ use Rattle.state.specs.declared.Globals.{Globals}
 use Rattle.state.specs.Wakes.{Wakes}
 use Rattle.state.specs.Driver.{Driver, key, epOn, withOn, lenOn, stampOn, requestOn, withGlobals, withWakes}
 use Rattle.state.specs.Laws.{Sized, key-apart, epOn-same, epOn-other}
-use Rattle.marks.specs.Only.{Same, Only, only-apart}
+use Rattle.marks.specs.Only.{Same, Only}
+use Rattle.marks.specs.OnlyLaws.{only-apart}
 use Rattle.ring.specs.Waiting.{SamePlace}
 use Rattle.state.specs.declared.Control.{Control}
 use Rattle.model.specs.Cells.{Cell, Val, EpCore, control-cell}
@@ -33,9 +34,11 @@ use Rattle.proof_book.specs.Lens.{key-ep, lens-on, stamps-on}
 use Rattle.proof_book.specs.Frame.{Changed, same-place}
 use Rattle.proof_book.specs.Agrees.{agree}
 use Rattle.proof_book.specs.Rows.{rows-first, rows-next, rows-finish}
-use Rattle.proof_book.specs.TransferKinds.{Steady, Has, sorted, row-steady}
+use Rattle.proof_book.specs.TransferKinds.{Steady, Has}
+use Rattle.proof_book.specs.TransferKindsLaws.{sorted, row-steady}
 use Rattle.proof_isolation.specs.EqualExcept.{OtherWakes, Stays, EqualExcept, Lawful, Channel, LowEquiv}
-use Rattle.proof_isolation.specs.Settled.{isControl, put-settled, no-start, act-settled, hand-settled, row-settled, settled-bounded}
+use Rattle.proof_isolation.specs.Settled.{isControl}
+use Rattle.proof_isolation.specs.SettledLaws.{put-settled, no-start, act-settled, hand-settled, row-settled, settled-bounded}
 use Rattle.proof_isolation.specs.Likes.{stays-refl}
 
 -- ---- drivers

@@ -11,7 +11,8 @@ use lib.ListN.{length, getD, set, take, drop, length-set, length-drop, List·get
 use lib.Seq.{sets, getD-set-same, getD-set-other, getD-append-add, getD-drop}
 use Rattle.marks.specs.Marks.{mark, marked, markedRun, armedWords, arm, reach, armed}
 use Rattle.marks.specs.Copies.{copied, over}
-use Rattle.marks.specs.Only.{Only, only-set, only-sets, back-low, back-high, part-byte}
+use Rattle.marks.specs.Only.{Only}
+use Rattle.marks.specs.OnlyLaws.{only-set, only-sets, back-low, back-high, part-byte}
 use Rattle.marks.specs.Arms.{only-marked, only-run, only-arm}
 use Rattle.marks.specs.Slots.{only-armed, only-copied, over-low, over-high}
 

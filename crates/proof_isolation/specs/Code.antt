@@ -15,9 +15,11 @@ use Rattle.proof_book.specs.MachineRuns.{Premise}
 use Rattle.proof_book.specs.Sorting.{sortsOf}
 use Rattle.proof_isolation.specs.EqualExcept.{Channel}
 use Rattle.proof_isolation.specs.Schedule.{Run, Two, Turn, begins, goes, asked, stores, others-time, first, second, Early, gets, shares, accessOf, runBy, ownBy, statusOf, shared, called, alone, turn, given, heeded, May, After}
-use Rattle.proof_isolation.specs.Standing.{At, at-time}
+use Rattle.proof_isolation.specs.Standing.{At}
+use Rattle.proof_isolation.specs.StandingLaws.{at-time}
 use Rattle.proof_isolation.specs.Start.{freshBook}
-use Rattle.proof_isolation.specs.Undisturbed.{Session, started-up, opened, Opens, step, opened-at}
+use Rattle.proof_isolation.specs.Undisturbed.{Session, started-up, opened, Opens, step}
+use Rattle.proof_isolation.specs.UndisturbedLaws.{opened-at}
 use Rattle.proof_isolation.specs.Time.{as-shared, as-driver}
 
 -- ---- the calls that were made

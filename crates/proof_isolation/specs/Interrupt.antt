@@ -9,7 +9,9 @@ use native.Mathlib.Decide.{ℕ-discrete}
 use lib.Dec.{eqb}
 use borrow.Author.Tests.{eqb-true, ne-eqb}
 use Rattle.bits.specs.Walk as walk
-use Rattle.bits.specs.Walk.{setBits, walked-set, walk-rises}
+use Rattle.bits.specs.WalkLaws as walk-laws
+use Rattle.bits.specs.Walk.{setBits}
+use Rattle.bits.specs.WalkLaws.{walked-set, walk-rises}
 use Rattle.regs.specs.declared.Reg.the-variants.{IntFg, IntSt, MisSt, RxLen, FrameNo, EpRxCtrl, EpTxCtrl}
 use Rattle.regs.specs.declared.Dir.{Dir}
 use Rattle.regs.specs.declared.Dir.the-variants.{Out, In}
@@ -33,7 +35,8 @@ use Rattle.proof_isolation.specs.EqualExcept.{Channel}
 use Rattle.proof_isolation.specs.Whose.{sof}
 use Rattle.proof_isolation.specs.Apart.{Next, next, PairBy, Pair}
 use Rattle.proof_isolation.specs.Pairs.{Any, p-ret, p-bind, p-same, p-then, p-before-then, p-test, p-tests, p-bind-test, p-when, p-read, p-write, p-is, p-look, p-hand}
-use Rattle.proof_isolation.specs.Answers.{SameAnswer, p-staged, p-resultless}
+use Rattle.proof_isolation.specs.Answers.{SameAnswer}
+use Rattle.proof_isolation.specs.AnswersLaws.{p-staged, p-resultless}
 use Rattle.proof_isolation.specs.Values.{p-modify, p-modify-ep, p-wake, p-wake-bus, p-globals, p-plain-in, p-plain-any}
 use Rattle.proof_isolation.specs.InRings.{setup-same}
 use Rattle.proof_isolation.specs.OutRings.{changed-same, marked-len-same, arrives-same}
@@ -150,13 +153,13 @@ module _ {c : Channel} {st : ℕ} where
         (entry-same (c .number) st busy late n n′ o o′ h iso e p (arriving st (c .number)) refl) (len-used (c .number) st busy late n n′ o o′ h iso e p (arriving st (c .number)) refl)
 
     -- past the channel's number
-    p-later-walk : (i : ℕ) → c .number < i → (es : List ℕ) → walk.Rising i es → ((e : ℕ) → walk.In e es → (e < 16) × (c .iso Out e ≡ true))
+    p-later-walk : (i : ℕ) → c .number < i → (es : List ℕ) → walk-laws.Rising i es → ((e : ℕ) → walk-laws.In e es → (e < 16) × (c .iso Out e ≡ true))
         → Pair c st {i = true} Any (checkWalk (transferOf busy st late n o) iso es) (checkWalk (transferOf busy st late n′ o′) iso es)
     unfolding checkWalk
     p-later-walk i l [] r f = p-ret tt
     p-later-walk i l (e ∷ es) r f = p-then (p-check-other e (λ z. absurd (omega (arith, l, r .0, z))) (f e (inl refl))) (p-later-walk (suc e) (omega (arith, l, r .0)) es (r .1) (λ a m. f a (inr m)))
 
-    p-check-walk : (i : ℕ) (es : List ℕ) → walk.Rising i es → ((e : ℕ) → walk.In e es → (e < 16) × (c .iso Out e ≡ true))
+    p-check-walk : (i : ℕ) (es : List ℕ) → walk-laws.Rising i es → ((e : ℕ) → walk-laws.In e es → (e < 16) × (c .iso Out e ≡ true))
         → PairBy c st true {i = true} Any (checkWalk (transferOf busy st late n o) iso es) (checkWalk (transferOf busy st late n′ o′) iso es)
     unfolding checkWalk
     p-check-walk i [] r f = p-ret tt

@@ -11,7 +11,8 @@ use Rattle.state.specs.WakesLaws.{Room}
 use Rattle.state.specs.declared.EpState.{EpState}
 use Rattle.state.specs.declared.Request.{Request}
 use Rattle.state.specs.Driver.{Driver, key, epOn, requestOn, noRequest}
-use Rattle.marks.specs.Only.{Only, only-refl, only-trans}
+use Rattle.marks.specs.Only.{Only}
+use Rattle.marks.specs.OnlyLaws.{only-refl, only-trans}
 use Rattle.ring.specs.Waiting.{SamePlace}
 use Rattle.model.specs.Simulates.{Phase, quiet}
 use Rattle.model.specs.Cells.{EpCore}

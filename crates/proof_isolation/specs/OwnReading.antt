@@ -7,7 +7,7 @@ use Rattle.state.specs.declared.EpState.{EpState}
 use Rattle.state.specs.declared.Request.{Request}
 use Rattle.state.specs.Driver.{Driver, key, epOn, withOn, lenOn, stampOn, withRequestOn}
 use Rattle.state.specs.Laws.{epOn-same, requestOn-other}
-use Rattle.marks.specs.Only.{only-refl}
+use Rattle.marks.specs.OnlyLaws.{only-refl}
 use Rattle.ring.specs.Slot.{hasWaiting, passedOf}
 use Rattle.ring.specs.Out.{closedOf}
 use Rattle.model.specs.Cells.{EpCore, globals-cell, allocator-cell, ep-cell, request-cell}
@@ -24,7 +24,8 @@ use Rattle.proof_book.specs.Frame.{Changed, changed-on}
 use Rattle.proof_isolation.specs.EqualExcept.{Stays, Beside, Lawful, Channel, Touched}
 use Rattle.proof_isolation.specs.Likes.{stays-refl, own-changed, but-refl, touched-refl, touched-trans}
 use Rattle.proof_isolation.specs.Buts.{lawful-put, lawful-act}
-use Rattle.proof_isolation.specs.Ending.{Finished, fin, Brief, b-ret, b-bind, b-test, b-get, b-is, b-fetch, b-act, b-put}
+use Rattle.proof_isolation.specs.Ending.{Finished, fin}
+use Rattle.proof_isolation.specs.EndingLaws.{Brief, b-ret, b-bind, b-test, b-get, b-is, b-fetch, b-act, b-put}
 
 -- its number may be brought in any way (row 5 comes after)
 changed-key : {e x : ℕ} {d d′ : Driver} → key Out e ≡ key Out x → Changed Out e d d′ → Changed Out x d d′

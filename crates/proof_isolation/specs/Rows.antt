@@ -16,7 +16,8 @@ use Rattle.proof_isolation.specs.EqualExcept.{Channel}
 use Rattle.proof_isolation.specs.Apart.{Pair}
 use Rattle.proof_isolation.specs.Pairs.{p-ret, p-same, p-then, p-test}
 use Rattle.proof_isolation.specs.Values.{p-modify-ep, p-globals}
-use Rattle.proof_isolation.specs.Answers.{SameAnswer, same, p-named}
+use Rattle.proof_isolation.specs.Answers.{SameAnswer, same}
+use Rattle.proof_isolation.specs.AnswersLaws.{p-named}
 use Rattle.proof_isolation.specs.Kept.{p-put-request, p-request}
 
 module _ {c : Channel} {st : ℕ} {i : Bool} where

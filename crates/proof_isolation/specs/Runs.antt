@@ -19,19 +19,24 @@ use Rattle.machine.specs.Suspended.{driverOf, drive}
 use Rattle.machine.specs.Goes.{Called}
 use Rattle.call_bus_time.specs.Sharing.{Sort, enabling, starting, going, opSort, slottedSort, sortOf, timeAfter, turnedDown}
 use Rattle.call_bus_time.specs.Sharing as sharing
-use Rattle.proof_wake_ups.specs.Rooms.{Roomy, Rooms, rooms}
+use Rattle.proof_wake_ups.specs.Rooms.{Roomy, Rooms}
+use Rattle.proof_wake_ups.specs.RoomsLaws.{rooms}
 use Rattle.proof_isolation.specs.EqualExcept.{Lawful, Channel, LowEquiv}
 use Rattle.proof_isolation.specs.Apart.{ApartBy, Apart, end, both, left, right, owns}
 use Rattle.proof_isolation.specs.Answers.{SameAnswer}
 use Rattle.proof_isolation.specs.Ending.{Finished, fin}
 use Rattle.proof_isolation.specs.Asides.{Others, p-aside, finishes}
-use Rattle.proof_isolation.specs.Operations.{Common, p-call}
-use Rattle.proof_isolation.specs.Stores.{Lent, lent-like}
+use Rattle.proof_isolation.specs.Operations.{Common}
+use Rattle.proof_isolation.specs.OperationsLaws.{p-call}
+use Rattle.proof_isolation.specs.Stores.{Lent}
+use Rattle.proof_isolation.specs.StoresLaws.{lent-like}
 use Rattle.proof_isolation.specs.Time.{same-record, same-turned-down}
 use Rattle.proof_isolation.specs.Others.{same-answers}
-use Rattle.proof_isolation.specs.Spares.{Sparing, interrupt-spares, spares-on}
+use Rattle.proof_isolation.specs.Spares.{Sparing}
+use Rattle.proof_isolation.specs.SparesLaws.{interrupt-spares, spares-on}
 use Rattle.proof_isolation.specs.Schedule.{Run, Two, begins, goes, asked, stores, accessOf, runBy, statusOf, shared, called, turn, stateOf, Timely, atOwn, unfit, wide, BringsAt, BothCall, call-row1, call-lent, BothGo, go-row1, go-row16, go-on, May, SameAns, same, alike}
-use Rattle.proof_isolation.specs.Standing.{machineOf, stops, runOf, fits, own-yes, past-no, same-ans, Told, times-on, Keeps, At, at, Both, lands}
+use Rattle.proof_isolation.specs.Standing.{machineOf, stops, runOf, own-yes, same-ans, Told, Keeps, At, at, Both}
+use Rattle.proof_isolation.specs.StandingLaws.{fits, past-no, times-on, lands}
 
 -- ---- what the machine of calls does
 
@@ -72,9 +77,6 @@ begin-unfit r o b h = rw h refl
 -- what is shown of the calls' outcomes is shown of the calls
 through : (G : Called → Called → Type 0) {y y′ z z′ : Called} → y ≡ z → y′ ≡ z′ → Rooms y → Rooms y′ → (Rooms z → Rooms z′ → G z z′) → G y y′
 through G {y′ = y′} {z = z} e e′ r r′ f = subst (λ p. G p y′) (sym e) (subst (λ p. G z p) (sym e′) (f (subst Rooms e r) (subst Rooms e′ r′)))
-
-pub through-one : (G : Called → Type 0) {y z : Called} → y ≡ z → Rooms y → (Rooms z → G z) → G y
-through-one G e r f = subst G (sym e) (f (subst Rooms e r))
 
 -- ---- calls that end at once
 

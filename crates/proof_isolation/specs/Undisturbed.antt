@@ -1,7 +1,7 @@
 -- "One channel's data can't disturb another" (request Fourteen), over two lists of calls
 use mathlib.Core.Bool.{Bool}
 use mathlib.Core.List.{List, [], _∷_}
-use mathlib.Core.Path.{_≡_, ap, subst, sym, _∙_}
+use mathlib.Core.Path.{_≡_, ap, _∙_}
 use Prim.Native.Nat.{ℕ, zero}
 use Rattle.model.specs.Calls.{Config, Op, startRow}
 use Rattle.model.specs.Machine.{Buf, start, Event, idle}
@@ -9,10 +9,11 @@ use Rattle.proof_book.specs.MachineRuns.{Premise}
 use Rattle.proof_book.specs.Sorting.{sortsOf}
 use Rattle.proof_isolation.specs.EqualExcept.{Channel}
 use Rattle.proof_isolation.specs.Schedule.{Run, Two, Early, Turn, begins, goes, asked, stores, others-time, first, second, turn, called, given, heeded, after, May, After, Allowed, Every}
-use Rattle.proof_isolation.specs.Standing.{At, at, at-stands, at-lined, at-alike, at-time, at-swap}
+use Rattle.proof_isolation.specs.Standing.{At, at}
+use Rattle.proof_isolation.specs.StandingLaws.{at-stands, at-lined, at-alike, at-time, at-swap}
 use Rattle.proof_isolation.specs.Runs.{goes-by, begins-by, asked-by, stores-by}
 use Rattle.proof_isolation.specs.Alone.{alone-by}
-use Rattle.proof_isolation.specs.Start.{freshBook, anew, starts, one-so-far}
+use Rattle.proof_isolation.specs.Start.{freshBook}
 
 -- ---- the two runs
 
@@ -89,20 +90,3 @@ module _ (c : Channel) (share : Bool) (n : ℕ) where
   pub stands-after : (ts : List Turn) {w : Two} → At c w → Allowed c share n ts w → At c (after share n ts w)
   stands-after [] a m = a
   stands-after (t ∷ ts) a m = stands-after ts (step t a (m .0) .stand) (m .1)
-
--- ---- from start-ups on
-
-module _ (share : Bool) (n : ℕ) where
-  -- a start-up on whatever was before in each run makes them one
-  pub opened-at : (s : Session) (w : Two) → w .first .time ≡ w .second .time → Opens share n s w → At (s .channel) (opened share n s w)
-  opened-at s w e o =
-      subst (λ (z : Run). At (s .channel) (record { first = given share n (s .before) (started-up share n s (w .first)); second = given share n (s .before) z; status = 0 }))
-      (starts share n (s .config) (s .lent) (o .accepted) (w .first) ∙ (ap (λ t. anew share n (s .config) (s .lent) (o .accepted) t) e ∙ sym (starts share n (s .config) (s .lent) (o .accepted) (w .second))))
-      (one-so-far share n (s .config) (s .lent) (o .accepted) (s .before) (w .first) (o .lawful) (o .rests) (o .stage) (s .channel) (o .sorts))
-
-  -- two runs with one record of the bus time, whatever was before
-  pub undisturbed : (ss : List Session) (w : Two) → w .first .time ≡ w .second .time → AllOpen share n ss w → Undisturbed share n ss w
-  undisturbed [] w e o = tt
-  undisturbed (s ∷ ss) w e o =
-      let a = opened-at s w e (o .0) in
-      (always (s .channel) share n (s .turns) a (o .0 .allowed), undisturbed ss _ (at-time (stands-after (s .channel) share n (s .turns) a (o .0 .allowed))) (o .1))

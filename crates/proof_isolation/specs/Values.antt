@@ -24,7 +24,7 @@ use Rattle.model_ops.specs.Concrete.{concrete, putOn, actOn}
 use Rattle.proof_book.specs.Book.{mergedPlain}
 use Rattle.proof_book.specs.Lens.{key-ep}
 use Rattle.proof_book.specs.Frame.{same-place, changed-on}
-use Rattle.proof_book.specs.TransferKinds.{sorted}
+use Rattle.proof_book.specs.TransferKindsLaws.{sorted}
 use Rattle.proof_isolation.specs.EqualExcept.{SameCodes, Stays, Channel, LowEquiv}
 use Rattle.proof_isolation.specs.Apart.{ApartBy, end, PairBy, Pair}
 use Rattle.proof_isolation.specs.Pairs.{Eq, Any, p-bind, p-same, p-get, p-put, p-act}

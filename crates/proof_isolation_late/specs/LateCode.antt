@@ -7,7 +7,8 @@ use Rattle.model.specs.Answers.{Answer}
 use Rattle.model.specs.Machine.{go, Ans}
 use Rattle.proof_isolation.specs.EqualExcept.{Channel}
 use Rattle.proof_isolation.specs.Schedule.{Run, Two, turn}
-use Rattle.proof_isolation.specs.Standing.{At, at-time}
+use Rattle.proof_isolation.specs.Standing.{At}
+use Rattle.proof_isolation.specs.StandingLaws.{at-time}
 use Rattle.proof_isolation.specs.Code.{Left, Held, Pair, runOf, twoOf, CallStep, heard, Step, next, Made, sessionOf, openedBy, afterSteps, DidStep, DidSteps}
 use Rattle.proof_isolation.specs.Code.{EveryStep, Begun}
 use Rattle.proof_isolation.specs.Code.{heard-is, next-by, code-every, opened-is, begun-at}

@@ -17,22 +17,25 @@ use Rattle.model_ops.specs.Concrete.{concrete}
 use Rattle.machine.specs.Suspended.{driverOf, drive}
 use Rattle.machine.specs.Goes.{Called}
 use Rattle.call_bus_time.specs.Sharing.{sortOf, timeAfter, turnedDown}
-use Rattle.proof_wake_ups.specs.Rooms.{Few, Roomy, Rooms, rooms}
+use Rattle.proof_wake_ups.specs.Rooms.{Few, Roomy, Rooms}
+use Rattle.proof_wake_ups.specs.RoomsLaws.{rooms}
 use Rattle.proof_isolation.specs.EqualExcept.{Channel, LowEquiv}
 use Rattle.proof_isolation.specs.Whose.{ownWay}
 use Rattle.proof_isolation.specs.Apart.{Brings, gone, waits, Shared, ApartBy, end, both, left, right, owns}
 use Rattle.proof_isolation.specs.Answers.{SameAnswer}
 use Rattle.proof_isolation.specs.Pairs.{brings-sym}
 use Rattle.proof_isolation.specs.Asides.{p-aside}
-use Rattle.proof_isolation.specs.Stores.{lent-back, own-lent-back}
+use Rattle.proof_isolation.specs.StoresLaws.{lent-back, own-lent-back}
 use Rattle.proof_isolation.specs.Others.{same-answers}
 use Rattle.proof_isolation.specs.Schedule.{Run, Two, Turn, begins, goes, asked, stores, others-time, first, second, Early, gets, shares}
 use Rattle.proof_isolation.specs.Schedule.{called, alone, turn, given, after, sharing, wide, atOwn, go-on, own-lent, SameAns, same, After, Allowed}
-use Rattle.proof_isolation.specs.Standing.{machineOf, stops, runOf, own-yes, own-no, past-no, same-ans, ans-sym, Told, Keeps, At, at, swap}
-use Rattle.proof_isolation.specs.Standing.{at-stands, at-lined, at-alike, at-time, at-swap}
+use Rattle.proof_isolation.specs.Standing.{machineOf, stops, runOf, own-yes, own-no, same-ans, ans-sym, Told, Keeps, At, at}
+use Rattle.proof_isolation.specs.StandingLaws.{past-no, swap}
+use Rattle.proof_isolation.specs.StandingLaws.{at-stands, at-lined, at-alike, at-time, at-swap}
 use Rattle.proof_isolation.specs.Runs.{goes-by, spares-put}
 use Rattle.proof_isolation.specs.Start.{anew, starts}
-use Rattle.proof_isolation.specs.Undisturbed.{Session, started-up, opened, step, always, stands-after, opened-at}
+use Rattle.proof_isolation.specs.Undisturbed.{Session, started-up, opened, step, always, stands-after}
+use Rattle.proof_isolation.specs.UndisturbedLaws.{opened-at}
 use Rattle.proof_isolation_late.specs.Late as late
 use Rattle.proof_isolation_late.specs.Late.{Light, opens, closes, asks-of, callOf, Item, goes-own, lightsOf, Later, timely, first-late, second-late}
 use Rattle.proof_isolation_late.specs.Late.{lit, lits, items, litAnswers, itemAnswers, later, afterAll, Serving, Other, Continues, AtOwn, MayLate}

@@ -1,5 +1,6 @@
 pub mod Late
 pub mod Lights
+pub mod LightsLaws
 pub mod Slides
 pub mod Crossing
 pub mod LateRuns

@@ -33,7 +33,8 @@ use Rattle.proof_isolation.specs.Whose.{own}
 use Rattle.proof_isolation.specs.Apart.{Brings}
 use Rattle.proof_isolation.specs.Asides.{Mine}
 use Rattle.proof_isolation.specs.Operations.{passes}
-use Rattle.proof_isolation.specs.Stores.{Stored, lent-back, own-lent-back}
+use Rattle.proof_isolation.specs.Stores.{Stored}
+use Rattle.proof_isolation.specs.StoresLaws.{lent-back, own-lent-back}
 use Rattle.proof_isolation.specs.Schedule.{Run, Two, Turn, begins, goes, stores, first, second, stateOf}
 use Rattle.proof_isolation.specs.Schedule.{Timely, atOwn, wide, BringsAt, call-lent, go-on, own-lent, Alone, May}
 

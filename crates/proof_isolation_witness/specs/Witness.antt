@@ -25,7 +25,8 @@ use Rattle.machine.specs.Suspended.{driverOf}
 use Rattle.proof_book.specs.FrontPage.{lensOf}
 use Rattle.proof_book_witness.specs.Computing.{computing}
 use Rattle.proof_isolation.specs.Schedule.{Run, Two, after}
-use Rattle.proof_isolation.specs.Undisturbed.{Session, opened, AllOpen, Undisturbed, undisturbed}
+use Rattle.proof_isolation.specs.Undisturbed.{Session, opened, AllOpen, Undisturbed}
+use Rattle.proof_isolation.specs.UndisturbedLaws.{undisturbed}
 use Rattle.proof_isolation_witness.specs.Moves.{Move, serves, reads, stored, stored-both, first-goes, second-goes}
 use Rattle.proof_isolation_witness.specs.Moves.{first-opens, first-closes}
 use Rattle.proof_isolation_witness.specs.Once.{quickLast, parting, quickSetUp, Passes, session, opens, after-is}

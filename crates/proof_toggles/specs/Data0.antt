@@ -23,7 +23,8 @@ use Rattle.model.specs.Cells.{EpCore, ep-cell}
 use Rattle.model.specs.Script.{Ops, run, rows, switch, bus-reset}
 use Rattle.model.specs.Statics.{isOn, wakeAll}
 use Rattle.model.specs.Bus.{restarted, restartedOut, restartedIn, setStalled, setEnabled, setEnabledOut, setEnabledIn, nakAll, busReset}
-use Rattle.model.specs.Every.{Chip, Every, at-end, at-ask, every-bind, every-cond, sameReg}
+use Rattle.model.specs.Every.{Chip, Every, at-end, at-ask, sameReg}
+use Rattle.model.specs.EveryLaws.{every-bind, every-cond}
 use Rattle.model.specs.Usb20Toggles.{initial}
 use Rattle.model.specs.TogglesLaws.{number}
 use Rattle.model.specs.Data0Laws.{word-data0}

@@ -33,7 +33,8 @@ use Rattle.model.specs.Statics.{isOn, withLastFrame}
 use Rattle.model_ops.specs.Records.{merged}
 use Rattle.model_ops.specs.Rings.{St}
 use Rattle.model_ops.specs.Concrete.{concrete}
-use Rattle.proof_book.specs.TransferKinds.{Steady, Has, put-steady, act-steady, hand-steady}
+use Rattle.proof_book.specs.TransferKinds.{Steady, Has}
+use Rattle.proof_book.specs.TransferKindsLaws.{put-steady, act-steady, hand-steady}
 use Rattle.proof_book.specs.Sorting.{sortsOf}
 use Rattle.proof_usb20.specs.Walks.{Each, each-set}
 use Rattle.proof_usb20.specs.Sequence.{off, Track, howOften, reads, writes, saw}

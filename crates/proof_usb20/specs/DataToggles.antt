@@ -1,351 +1,51 @@
 -- Data toggles equal USB 2.0's (8.6), over EVERY list of calls from an accepted start-up, of every endpoint that is
 -- neither 0 nor isochronous
 use mathlib.Core.List.{List, [], _∷_}
-use mathlib.Core.Logic.{_⊎_, inl, inr}
-use mathlib.Core.Path.{_≡_, refl, subst, sym}
-use Prim.Native.Nat.{ℕ, zero, _%_}
+use mathlib.Core.Logic.{_⊎_}
+use mathlib.Core.Path.{_≡_}
+use Prim.Native.Nat.{ℕ, _%_}
 use Rattle.regs.specs.declared.Dir.{Dir}
 use Rattle.regs.specs.declared.Dir.the-variants.{Out, In}
-use Rattle.state.specs.Driver.{Driver, key}
-use Rattle.state.specs.Laws.{key-apart, key-same}
+use Rattle.state.specs.Driver.{Driver}
 use Rattle.model.specs.Answers.{Answer}
-use Rattle.model.specs.Calls.{Config, calls, startRow, Op, interrupt, slotted, other, aside, Slotted, SetEnabled, PollRead, BeginWrite, PollWrite, PollDataOut, BeginDataIn, Other, Allocate, AllocateAll, Start, BusPoll, BusEnable, BusDisable, Microframe, SetStalled, IsStalled, SetPaced, Advance, BeginRead, BeginSetup, PollSetup, PollDataIn, BeginAccept, PollAccept, BeginReject, BeginDataOut, BeginAcceptSetAddress}
-use Rattle.model.specs.Machine.{Buf, Event, Machine, started}
-use Rattle.model.specs.TogglesLaws.{number}
+use Rattle.model.specs.Calls.{Config, Op, Slotted, SetEnabled, PollRead, BeginWrite, PollWrite, PollDataOut, BeginDataIn, Other, Allocate, AllocateAll, Start, BusPoll, BusEnable, BusDisable, Microframe, SetStalled, IsStalled, SetPaced, Advance, BeginRead, BeginSetup, PollSetup, PollDataIn, BeginAccept, PollAccept, BeginReject, BeginDataOut, BeginAcceptSetAddress}
+use Rattle.model.specs.Machine.{Buf, Event, Machine}
 use Rattle.model.specs.Usb20Toggles.{Pid, DATA0, DATA1}
-use Rattle.machine.specs.Suspended.{driverOf}
 use Rattle.proof_usb20.specs.Sequence.{Track}
 use Rattle.proof_usb20.specs.Follow.{Seen, Fits, Law}
 use Rattle.proof_usb20.specs.Calm.{Else}
-use mathlib.Core.Bool.{Bool, true, false, cond, _&&_}
-use lib.ListN.{length, getD, replicate, getD-replicate}
+use mathlib.Core.Bool.{Bool, false, _&&_}
 use Prim.Native.Nat.{_<_}
 use Rattle.regs.specs.declared.Reg.the-variants.{Ctrl}
 use Rattle.state.specs.declared.EpState.{EpState}
-use Rattle.state.specs.Ep.{newEp}
-use Rattle.state.specs.Fresh.{freshDriver}
-use Rattle.state.specs.Laws.{key-lt}
-use Rattle.state.specs.Driver.{noEp, epOn}
 use Rattle.model.specs.Tree as tree
-use Rattle.model.specs.Script.{run}
 use Rattle.model.specs.Every as ways
 use Rattle.model.specs.Statics.{isOn}
 use Rattle.model.specs.Answers.{Refused}
-use Rattle.model.specs.Calls.{code}
-use Rattle.model.specs.Machine.{Call, start, begin, go, question, Ans, ended, handed, told}
+use Rattle.model.specs.Machine.{Call, Ans}
 use Rattle.model_ops.specs.Rings.{St}
-use Rattle.model_ops.specs.Concrete.{concrete}
 use Rattle.proof_book.specs.Sorting.{Sorting}
 use Rattle.proof_usb20.specs.Sequence as log
-use Rattle.proof_usb20.specs.Sequence.{before, opens, saw, closes, Fair, own, Writing, unwritten-yet, wrote, Leaves}
-use Rattle.proof_usb20.specs.Observer.{Observer, Under, at-rest, doing, starting, Watched, startedBy, ReadAt, Read, Reads, All, Meaning}
-use Rattle.proof_usb20.specs.Watch.{Along, at-end, at-ask, watch-more}
+use Rattle.proof_usb20.specs.Sequence.{before, opens, saw, closes, Fair, Writing, unwritten-yet, wrote, Leaves}
+use Rattle.proof_usb20.specs.Observer.{Observer, Under, Watched, ReadAt, Read, Reads, All, Meaning}
+use Rattle.proof_usb20.specs.Watch.{Along}
 use Rattle.regs.specs.declared.Access.{Access}
-use Rattle.proof_usb20.specs.Runs.{Laws, Sees, Ups, Only, from-start}
+use Rattle.proof_usb20.specs.Runs.{Laws, Sees, Ups, Only}
 use Rattle.proof_usb20.specs.Follow as follow
-use Rattle.proof_usb20.specs.Follow.{seenOf, view, Follow}
-use Rattle.proof_usb20.specs.Besides.{aside-wakes}
+use Rattle.proof_usb20.specs.Follow.{view, Follow}
 use Rattle.proof_book.specs.Code.{Made}
 use Rattle.proof_book.specs.CodeReadings.{Steps}
-use Rattle.proof_usb20.specs.CodeRuns.{left, CodeReads, CodeMeaning, CodeAll, code-from-start}
-use Rattle.proof_usb20.specs.Calm.{Off, Quiet, loose, q-resultless, q-bind, q-ret, q-write, q-wait, q-reg, q-int-en}
-use Rattle.proof_usb20.specs.Reading.{law-begin-read, law-poll-read, law-poll-write, law-begin-write}
-use Rattle.proof_usb20.specs.Enabling.{law-set-enabled, WordLaw, leaves-any, leaves-enabled, leaves-stalled, leaves-read, leaves-write, leaves-poll, among-all, never}
-use Rattle.proof_usb20.specs.Others.{law-bus-enable, law-bus-disable, law-microframe, law-is-stalled, law-set-paced, law-advance, law-aside, aside-view, law-setup, law-poll-setup, law-data-out, law-poll-data-out, law-data-in, law-poll-data-in, law-accept, law-accept-address, law-poll-accept, law-reject}
-use Rattle.proof_usb20.specs.Restarting.{law-set-stalled, law-bus-poll, law-allocate, law-allocate-all, law-start}
-use Rattle.proof_usb20.specs.Tokens.{law-interrupt}
+use Rattle.proof_usb20.specs.CodeRuns.{CodeReads, CodeMeaning, CodeAll}
+use Rattle.proof_usb20.specs.Calm.{Off, Quiet}
+use Rattle.proof_usb20.specs.Enabling.{WordLaw}
 
 -- the observer of an endpoint's data toggle: by its log a poll is done exactly if a completion is there, an interrupt
 -- has looked, and the record has the bit with the last new packet, whether a completion is there, its length
 abbrev pub toggles : Dir → ℕ → Observer
 toggles D E = record { Log = Track; before = before; opens = opens D E; saw = saw D E; closes = closes D E; Brings = λ _ _ _. Unit {0}; Fair = Fair D E; Allowed = λ _ _ _. Unit {0}; Asks = λ _ _. Unit {0}; View = Seen; view = view D E; Stands = Fits; Meant = λ x. isOn (x .iso) ≡ false }
 
-not-ep0 : (D : Dir) (E : ℕ) → (E % 16 ≡ 0 → ⊥) → (d : Dir) → Else D E d 0
-not-ep0 Out E h Out q = h (key-same Out E 0 q)
-not-ep0 In E h In q = h (key-same In E 0 q)
-not-ep0 Out E h In q = key-apart E 0 q
-not-ep0 In E h Out q = key-apart 0 E (sym q)
-
-module _ (D : Dir) (E : ℕ) (z : (d : Dir) → Else D E d 0) where
-  of-slotted : (o : Slotted) → Law D E (slotted o)
-  of-slotted (SetEnabled d e on) = law-set-enabled D E d e on
-  of-slotted (PollRead e n) = law-poll-read D E e n
-  of-slotted (BeginWrite e bs) = law-begin-write D E e bs
-  of-slotted (PollWrite e bs) = law-poll-write D E e bs
-  of-slotted (PollDataOut n) = law-poll-data-out D E z n
-  of-slotted (BeginDataIn bs first last) = law-data-in D E z bs first last
-
-  of-other : (o : Other) → Law D E (other o)
-  of-other (Allocate d kind address maximum interval) = law-allocate D E d kind address maximum interval
-  of-other (AllocateAll bytes) = law-allocate-all D E bytes
-  of-other (Start maximum) = law-start D E maximum
-  of-other BusPoll = law-bus-poll D E
-  of-other BusEnable = law-bus-enable D E
-  of-other BusDisable = law-bus-disable D E
-  of-other Microframe = law-microframe D E
-  of-other (SetStalled d e on) = law-set-stalled D E d e on
-  of-other (IsStalled d e) = law-is-stalled D E d e
-  of-other (SetPaced e on) = law-set-paced D E e on
-  of-other (Advance e) = law-advance D E e
-  of-other (BeginRead e n) = law-begin-read D E e n
-  of-other BeginSetup = law-setup D E z
-  of-other PollSetup = law-poll-setup D E z
-  of-other PollDataIn = law-poll-data-in D E z
-  of-other BeginAccept = law-accept D E z
-  of-other PollAccept = law-poll-accept D E z
-  of-other BeginReject = law-reject D E z
-  of-other (BeginDataOut n first) = law-data-out D E z n first
-  of-other (BeginAcceptSetAddress a) = law-accept-address D E z a
-
-  ups : {P : St → Type 0} {w : Track} {o : tree.Out St Answer} → Follow D E (λ _ _ s. P s) w o → Ups (toggles D E) P o
-  ups (at-end p) = at-end p
-  ups (at-ask _ k) = at-ask tt (λ v t _ h. ups (k v t tt h))
-
-  few : (o : Op) {w : Track} {out : tree.Out St Answer} → Follow D E (follow.Ends D E o) w out
-      → Sees (toggles D E) (λ _ _. Unit {0}) (follow.EndsFew D E o) w out
-  few o x = watch-more x (λ x a t p. (p .0, λ _. p .1))
-
-  law-of : (o : Op) (w : Track) (s : St) → Fits w (view D E (s .0)) → isOn (epOn (s .0) D E .iso) ≡ false
-      → Sorting (s .0) → Sees (toggles D E) (λ _ _. Unit {0}) (follow.EndsFew D E o) (opens D E o w) (run concrete (code o) s)
-  law-of interrupt w s r i k = law-interrupt D E z w s r i k
-  law-of (slotted o) w s r i k = few (slotted o) (of-slotted o w s r i k)
-  law-of (other o) w s r i k = few (other o) (of-other o w s r i k)
-  law-of (aside o) w s r i k = few (aside o) (law-aside D E o w s r i k)
-
-  any : (out : tree.Out St Answer) → Only (λ _. Unit {0}) out
-  any (tree.ends a s) = ways.at-end tt
-  any (tree.asks q s k) = ways.at-ask tt (λ v t _ _. any (k v t))
-
-  law-new : (c : Config) → Quiet D E false (Off D E) (calls .starts c)
-  law-new c = q-resultless D E (q-bind D E (q-write D E (q-ret D E)) (λ _. q-bind D E (q-wait D E (q-ret D E)) (λ _. q-bind D E (q-reg D E Ctrl 0 _) (λ _. q-bind D E (q-write D E (q-ret D E)) (λ _. q-bind D E (q-write D E (q-ret D E)) (λ _. q-int-en D E _))))))
-
-  -- start-up's own script
-  new-fits : (c : Config) → Fits before (view D E (driverOf .fresh c))
-  unfolding freshDriver epOn isOn
-  new-fits c = fresh-fits (key D E) (key-lt D E)
-    where
-      fresh-fits : (k : ℕ) → k < 32 → Fits before (seenOf (getD (replicate 32 newEp) k noEp) 1)
-      fresh-fits k l = subst (λ (r : EpState). Fits before (seenOf r 1)) (sym (getD-replicate 32 k newEp noEp l)) (record { tog = refl; ready = refl; len = refl; armed = refl; early = λ _. (refl, refl, refl) })
-
-  new-places : (c : Config) → length (driverOf .fresh c .eps) ≡ 32
-  unfolding freshDriver
-  new-places c = refl
-
-  new : (c : Config) (b : Buf)
-      → Follow D E (λ _ _ s. Fits before (view D E (s .0))) before (run concrete (calls .starts c) (driverOf .fresh c, b))
-  new c b = follow.follow-more D E (law-new c .goes before (driverOf .fresh c, b) (refl, λ _ _ _ _. refl) (loose D E (new-places c))) (λ _ _ s m. subst (Fits before) (sym (m .1)) (new-fits c))
-
-  last : (b : Bool) (x y : Track) → cond (b && false) x y ≡ y
-  last true x y = refl
-  last false x y = refl
-
-  unlent : (o : Op) (w : Track) (v : Seen) → Fits w v → Fits (log.closes D E o (Refused 1) (log.opens D E o w)) v
-  unlent interrupt w v r = r
-  unlent (slotted (SetEnabled d e on)) w v r = rw (last (log.own D E d e) (log.renewed D E (log.armsAt D E d on) (log.withPhase log.off w)) (log.withPhase log.off w)) r
-  unlent (slotted (PollRead e n)) w v r = rw (last (log.own D E Out e) (log.taken D E (log.withPhase log.off w)) (log.withPhase log.off w)) r
-  unlent (slotted (BeginWrite e bs)) w v r = rw (last (log.own D E In e) (log.loaded D E (log.withPhase log.off w)) (log.withPhase log.off w)) r
-  unlent (slotted (PollWrite e bs)) w v r = rw (last (log.own D E In e) (log.taken D E (log.withPhase log.off w)) (log.withPhase log.off w)) r
-  unlent (slotted (PollDataOut n)) w v r = r
-  unlent (slotted (BeginDataIn bs first final)) w v r = r
-  unlent (other o) w v r = others o
-    where
-      others : (o : Other) → Fits (log.closes D E (other o) (Refused 1) (log.withPhase log.off w)) v
-      others (Allocate d kind address maximum interval) = r
-      others (AllocateAll bytes) = r
-      others (Start maximum) = r
-      others BusPoll = r
-      others BusEnable = r
-      others BusDisable = r
-      others Microframe = r
-      others (SetStalled d e true) = rw (last (log.own D E d e) (log.cleared D E (log.withPhase log.off w)) (log.withPhase log.off w)) r
-      others (SetStalled d e false) = rw (last (log.own D E d e) (log.cleared D E (log.withPhase log.off w)) (log.withPhase log.off w)) r
-      others (IsStalled d e) = r
-      others (SetPaced e on) = r
-      others (Advance e) = r
-      others (BeginRead e n) = rw (last (log.own D E Out e) (log.awaits D E (log.withPhase log.off w)) (log.withPhase log.off w)) r
-      others BeginSetup = r
-      others PollSetup = r
-      others PollDataIn = r
-      others BeginAccept = r
-      others PollAccept = r
-      others BeginReject = r
-      others (BeginDataOut n first) = r
-      others (BeginAcceptSetAddress a) = r
-  unlent (aside o) w v r = r
-
-  fair-refused : (o : Op) (n : ℕ) (w : Track) → Fair D E o (Refused n) w
-  fair-refused interrupt n w = tt
-  fair-refused (slotted (SetEnabled d e on)) n w = tt
-  fair-refused (slotted (PollRead e m)) n w = λ _. tt
-  fair-refused (slotted (BeginWrite e bs)) n w = tt
-  fair-refused (slotted (PollWrite e bs)) n w = λ _. tt
-  fair-refused (slotted (PollDataOut m)) n w = tt
-  fair-refused (slotted (BeginDataIn bs first last)) n w = tt
-  fair-refused (other o) n w = tt
-  fair-refused (aside o) n w = tt
-
-  pub laws : Laws (toggles D E) Fits
-  laws = record {
-    stands = λ w x r. r;
-    call = λ o w s r i q. law-of o w s r i q;
-    asks = λ o s. any (run concrete (code o) s);
-    besides = λ o d b a t q h. (aside-view D E o d b a t q h, aside-wakes o d b a t h);
-    new = λ c b. ups (new c b);
-    unlent = unlent;
-    fair-1 = λ o w. fair-refused o 1 w;
-  }
-
--- nothing is asked of the chip
-module _ (O : Observer) (brings : (w : O .Log) (q : Access) (v : ℕ) → O .Brings w q v) where
-  read-at : (v : ℕ) (a : Ans Answer) (still : Bool) (w : O .Log) (u : Under) → ReadAt O v a still w u
-  read-at v a still w at-rest = tt
-  read-at v (ended a) true w (doing o q) = tt
-  read-at v (ended a) false w (doing o q) = brings w q v
-  read-at v (handed p) still w (doing o q) = brings w q v
-  read-at v (told n) still w (doing o q) = tt
-  read-at v (ended a) true w starting = tt
-  read-at v (ended a) false w starting = tt
-  read-at v (handed p) still w starting = tt
-  read-at v (told n) still w starting = tt
-
-  any-read : (c : Call Config Op) (a : Ans Answer) (still : Bool) (x : Watched O) → Read O c a still x
-  any-read (start c) a still x = tt
-  any-read (begin o) a still x = tt
-  any-read (go v) a still x = read-at v a still (x .log) (x .under)
-  any-read (question q) a still x = tt
-
-  reads-any : (es : List (Event Config Op)) (m : Machine Answer Driver) (x : Watched O) → Reads O es m x
-  reads-any [] m x = tt
-  reads-any (e ∷ es) m x = (any-read (e .call) _ _ x, reads-any es _ _)
-
-  code-reads-any : (ms : List Made) (x : Watched O) → CodeReads O ms x
-  code-reads-any [] x = tt
-  code-reads-any (m ∷ ms) x = (any-read (m .event .call) _ _ x, code-reads-any ms _)
-
--- after each call: a poll of the endpoint is done exactly if a packet with another sequence bit was served since (or a
--- cleared halt finished its write); an interrupt that ends with a token of the endpoint has read its control word;
--- where nothing is under way, the record has the bit with the last new packet, or DATA0 since it was enabled, its halt
--- cleared, the bus reset; whether a completion is there; its length. Whatever the chip answers
-pub data-toggles : (D : Dir) (E : ℕ) → (E % 16 ≡ 0 → ⊥) → (c : Config) (b : Buf) → startRow c b ≡ zero
-    → (es : List (Event Config Op)) (m : Machine Answer Driver)
-    → let y = started calls driverOf (λ s. s) c zero m b in
-    Meaning (toggles D E) es (y .1) → All (toggles D E) es (y .1) (startedBy (toggles D E) (y .0))
-data-toggles D E h c b row es m p = from-start (toggles D E) (laws D E (not-ep0 D E h)) c b row es m p (reads-any (toggles D E) (λ _ _ _. tt) es _ _)
-
--- of the Rattle code: any bytes, a start-up that rows 1 and 2 do not stop, and then any calls, each as its contract
--- says
-pub code-data-toggles : (D : Dir) (E : ℕ) → (E % 16 ≡ 0 → ⊥) → (c : Config) (b : Buf) → startRow c b ≡ zero
-    → (xs : List ℕ) (a : Buf) (first : Made) → first .event ≡ record { call = start c; lent = b } → (ms : List Made)
-    → Steps xs a (first ∷ ms) → CodeMeaning (toggles D E) (left first) ms
-    → CodeAll (toggles D E) ms (startedBy (toggles D E) (first .answer))
-code-data-toggles D E h c b row xs a first e ms s p = code-from-start (toggles D E) (laws D E (not-ep0 D E h)) c b row xs a first e ms s p (code-reads-any (toggles D E) (λ _ _ _. tt) ms _)
-
--- DECISIONS 94, of such an endpoint, where nothing is under way
-pub tog-is-bit : (w : Track) (x : Seen) → Fits w x → (x .tog ≡ 0) ⊎ (x .tog ≡ 1)
-tog-is-bit w x r = by (w .bit) (r .tog)
-  where
-    by : (b : Pid) → x .tog ≡ number b → (x .tog ≡ 0) ⊎ (x .tog ≡ 1)
-    by DATA0 h = inl h
-    by DATA1 h = inr h
-
 -- ---- the control word that a call leaves
 
 -- the observer of an endpoint's control word: by its log the word that a call has written last
 abbrev pub words : Dir → ℕ → Observer
 words D E = record { Log = Track × Writing; before = (before, unwritten-yet before); opens = λ o x. (opens D E o (x .0), unwritten-yet (x .0)); saw = λ x q v. (saw D E (x .0) q v, wrote D E (x .1) q v); closes = λ o a x. (closes D E o a (x .0), x .1); Brings = λ _ _ _. Unit {0}; Fair = λ o a x. Leaves D E o a (x .1); Allowed = λ _ _ _. Unit {0}; Asks = λ _ _. Unit {0}; View = Seen; view = view D E; Stands = λ _ _. Unit {0}; Meant = λ x. isOn (x .iso) ≡ false }
-
-module _ (D : Dir) (E : ℕ) (h : E % 16 ≡ 0 → ⊥) where
-  word-law : (o : Op) → WordLaw D E o
-  word-law interrupt = leaves-any D E interrupt (λ _ _. tt)
-  word-law (slotted (SetEnabled d e on)) = leaves-enabled D E d e on
-  word-law (slotted (PollRead e n)) = leaves-any D E (slotted (PollRead e n)) (λ _ _. tt)
-  word-law (slotted (BeginWrite e bs)) = leaves-write D E e bs
-  word-law (slotted (PollWrite e bs)) = leaves-any D E (slotted (PollWrite e bs)) (λ _ _. tt)
-  word-law (slotted (PollDataOut n)) = leaves-any D E (slotted (PollDataOut n)) (λ _ _. tt)
-  word-law (slotted (BeginDataIn bs first last)) = leaves-any D E (slotted (BeginDataIn bs first last)) (λ _ _. tt)
-  word-law (other (Allocate d kind address maximum interval)) = leaves-any D E (other (Allocate d kind address maximum interval)) (λ _ _. tt)
-  word-law (other (AllocateAll bytes)) = leaves-any D E (other (AllocateAll bytes)) (λ _ _. tt)
-  word-law (other (Start maximum)) = leaves-any D E (other (Start maximum)) (λ _ _. tt)
-  word-law (other BusPoll) = leaves-poll D E (among-all D E h)
-  word-law (other BusEnable) = leaves-any D E (other BusEnable) (λ _ _. tt)
-  word-law (other BusDisable) = leaves-any D E (other BusDisable) (λ _ _. tt)
-  word-law (other Microframe) = leaves-any D E (other Microframe) (λ _ _. tt)
-  word-law (other (SetStalled d e on)) = leaves-stalled D E d e on
-  word-law (other (IsStalled d e)) = leaves-any D E (other (IsStalled d e)) (λ _ _. tt)
-  word-law (other (SetPaced e on)) = leaves-any D E (other (SetPaced e on)) (λ _ _. tt)
-  word-law (other (Advance e)) = leaves-any D E (other (Advance e)) (λ _ _. tt)
-  word-law (other (BeginRead e n)) = leaves-read D E e n
-  word-law (other BeginSetup) = leaves-any D E (other BeginSetup) (λ _ _. tt)
-  word-law (other PollSetup) = leaves-any D E (other PollSetup) (λ _ _. tt)
-  word-law (other PollDataIn) = leaves-any D E (other PollDataIn) (λ _ _. tt)
-  word-law (other BeginAccept) = leaves-any D E (other BeginAccept) (λ _ _. tt)
-  word-law (other PollAccept) = leaves-any D E (other PollAccept) (λ _ _. tt)
-  word-law (other BeginReject) = leaves-any D E (other BeginReject) (λ _ _. tt)
-  word-law (other (BeginDataOut n first)) = leaves-any D E (other (BeginDataOut n first)) (λ _ _. tt)
-  word-law (other (BeginAcceptSetAddress a)) = leaves-any D E (other (BeginAcceptSetAddress a)) (λ _ _. tt)
-  word-law (aside o) = leaves-any D E (aside o) (λ _ _. tt)
-
-  -- two logs of one outcome
-  together : {A : Type 0} {P : Track → A → St → Type 0} {Q : Writing → A → St → Type 0} {w : Track} {u : Writing} {o : tree.Out St A}
-      → Sees (toggles D E) (λ _ _. Unit {0}) P w o
-      → Along (wrote D E) (λ _ _ _. Unit {0}) (follow.Keeps D E) (λ _ _. Unit {0}) Q u o
-      → Sees (words D E) (λ _ _. Unit {0}) (λ x a t. P (x .0) a t × Q (x .1) a t) (w, u) o
-  together (at-end p) (at-end q) = at-end (p, q)
-  together (at-ask _ f) (at-ask _ g) = at-ask tt (λ v t b k. together (f v t tt k) (g v t tt k))
-
-  refused-leaves : (o : Op) (u : Writing) → Leaves D E o (Refused 1) u
-  refused-leaves interrupt u = tt
-  refused-leaves (slotted (SetEnabled d e on)) u = λ k. never (own D E d e) k
-  refused-leaves (slotted (PollRead e n)) u = tt
-  refused-leaves (slotted (BeginWrite e bs)) u = λ k. never (own D E In e) k
-  refused-leaves (slotted (PollWrite e bs)) u = tt
-  refused-leaves (slotted (PollDataOut n)) u = tt
-  refused-leaves (slotted (BeginDataIn bs first last)) u = tt
-  refused-leaves (other o) u = of-others o
-    where
-      of-others : (o : Other) → Leaves D E (other o) (Refused 1) u
-      of-others (Allocate d kind address maximum interval) = tt
-      of-others (AllocateAll bytes) = tt
-      of-others (Start maximum) = tt
-      of-others BusPoll = λ k. never true k
-      of-others BusEnable = tt
-      of-others BusDisable = tt
-      of-others Microframe = tt
-      of-others (SetStalled d e true) = λ k. never (own D E d e) k
-      of-others (SetStalled d e false) = λ k. never (own D E d e) k
-      of-others (IsStalled d e) = tt
-      of-others (SetPaced e on) = tt
-      of-others (Advance e) = tt
-      of-others (BeginRead e n) = λ k. never (own D E Out e) k
-      of-others BeginSetup = tt
-      of-others PollSetup = tt
-      of-others PollDataIn = tt
-      of-others BeginAccept = tt
-      of-others PollAccept = tt
-      of-others BeginReject = tt
-      of-others (BeginDataOut n first) = tt
-      of-others (BeginAcceptSetAddress a) = tt
-  refused-leaves (aside o) u = tt
-
-  word-laws : Laws (words D E) (λ x v. Fits (x .0) v)
-  word-laws =
-      let L = laws D E (not-ep0 D E h) in
-      record {
-        stands = λ _ _ _. tt;
-        call = λ o x s r i q. watch-more (together (L .call o (x .0) s r i q) (word-law o (x .0) s r i)) (λ y a t p. (p .0 .0, λ _. p .1));
-        asks = L .asks;
-        besides = L .besides;
-        new = L .new;
-        unlent = λ o x v r. L .unlent o (x .0) v r;
-        fair-1 = λ o x. refused-leaves o (x .1);
-      }
-
--- DATA0 in the chip's control word (9.1.1.5, 9.4.5), of every endpoint that is neither 0 nor isochronous, over EVERY
--- list of calls: a set_enabled, a cleared halt and a bus reset leave it with DATA0, on ACK where an OUT waits for a
--- packet, else on NAK; a begin_read that finds no packet there, and a begin_write, leave it on ACK. Whatever the chip
--- answers
-pub code-control-words : (D : Dir) (E : ℕ) → (E % 16 ≡ 0 → ⊥) → (c : Config) (b : Buf) → startRow c b ≡ zero
-    → (xs : List ℕ) (a : Buf) (first : Made) → first .event ≡ record { call = start c; lent = b } → (ms : List Made)
-    → Steps xs a (first ∷ ms) → CodeMeaning (words D E) (left first) ms
-    → CodeAll (words D E) ms (startedBy (words D E) (first .answer))
-code-control-words D E h c b row xs a first e ms s p = code-from-start (words D E) (word-laws D E h) c b row xs a first e ms s p (code-reads-any (words D E) (λ _ _ _. tt) ms _)

@@ -31,12 +31,13 @@ use Rattle.model.specs.Calls.{Op, slotted, other, SetEnabled, SetStalled, Begin
 use Rattle.model.specs.Usb20Toggles.{initial}
 use Rattle.model_ops.specs.Rings.{St, slotStep, armAt, renewedOn, typeStep, configStep}
 use Rattle.model_ops.specs.Concrete.{concrete}
-use Rattle.proof_book.specs.TransferKinds.{act-steady, row-steady}
+use Rattle.proof_book.specs.TransferKindsLaws.{act-steady, row-steady}
 use Rattle.proof_usb20.specs.Sequence as log
 use Rattle.proof_usb20.specs.Sequence.{Track, off, withPhase, own, saw, armsAt, Writing, written, withWord, unwritten-yet, Restarts, Acks, wrote, Leaves}
 use Rattle.proof_usb20.specs.Follow as follow
 use Rattle.proof_usb20.specs.Follow.{Seen, FitsAs, Fits, view, Follow, Ends, Law}
-use Rattle.proof_usb20.specs.Watch.{Along, at-end, at-ask, watch-bind, watch-cond, watch-any}
+use Rattle.proof_usb20.specs.Watch.{Along, at-end, at-ask}
+use Rattle.proof_usb20.specs.WatchLaws.{watch-bind, watch-cond, watch-any}
 use Rattle.proof_usb20.specs.Exempt.{differ}
 use Rattle.model.specs.TogglesLaws.{number}
 use Rattle.model.specs.Answers.{Answer, isAllocated, resultless}

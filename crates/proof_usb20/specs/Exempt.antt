@@ -22,7 +22,7 @@ use Rattle.model_ops.specs.Rings.{St}
 use Rattle.model_ops.specs.Concrete.{concrete}
 use Rattle.proof_usb20.specs.Pipe.{Event, packet, token}
 use Rattle.proof_usb20.specs.Log.{Phase, off, entered, flagged, again, timed, shows, Log, withPhase, happens, ofToken, seen, reads, saw, opens, endsOther, endsSlotted, ends, Poll, none, pollSetup, pollOut, pollIn, pollStatus, pollOf, settled, done, closes, Unfinished, Begins, begins, Completes, Wrote, GivesSetup, FairPoll, AllowedTo, Allowed}
-use Rattle.proof_usb20.specs.Watch.{watch-any}
+use Rattle.proof_usb20.specs.WatchLaws.{watch-any}
 use Rattle.proof_usb20.specs.Ep0.{Watch, Keeps, Ends}
 
 pub differ : {A : Type 0} → false ≡ true → A

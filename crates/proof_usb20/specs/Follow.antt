@@ -20,7 +20,8 @@ use Rattle.model_ops.specs.Concrete.{concrete}
 use Rattle.proof_book.specs.Sorting.{Sorting}
 use Rattle.model.specs.Machine.{ended}
 use Rattle.proof_wake_ups.specs.Rooms.{Few}
-use Rattle.proof_usb20.specs.Watch.{Along, watch-bind, watch-more, watch-cond}
+use Rattle.proof_usb20.specs.Watch.{Along}
+use Rattle.proof_usb20.specs.WatchLaws.{watch-bind, watch-more, watch-cond}
 use Rattle.proof_usb20.specs.Sequence.{Track, saw, opens, closes, Fair}
 
 pub record Seen : Type 0 where

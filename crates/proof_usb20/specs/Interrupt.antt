@@ -26,11 +26,12 @@ use Rattle.model.specs.Handler.{sent, dispatch, movedOn, ep0MovedOn}
 use Rattle.state.specs.Wakes.{wakeCode}
 use Rattle.model_ops.specs.Rings.{St}
 use Rattle.model_ops.specs.Concrete.{concrete}
-use Rattle.proof_book.specs.TransferKinds.{put-steady, act-steady}
+use Rattle.proof_book.specs.TransferKindsLaws.{put-steady, act-steady}
 use Rattle.proof_usb20.specs.Pipe as pipe
 use Rattle.proof_usb20.specs.Pipe.{isReady, dataReady, packet}
 use Rattle.proof_usb20.specs.Log.{Log, off, reads, withRx, withTx, withPhase, happens, ofToken}
-use Rattle.proof_usb20.specs.Watch.{at-end, at-ask, watch-bind, watch-more, watch-cond}
+use Rattle.proof_usb20.specs.Watch.{at-end, at-ask}
+use Rattle.proof_usb20.specs.WatchLaws.{watch-bind, watch-more, watch-cond}
 use Rattle.proof_usb20.specs.Ep0.{Watch, Rec, View, view, Rel, R, Keeps}
 use Rattle.proof_usb20.specs.Exempt.{differ}
 use Rattle.proof_usb20.specs.Views.{setOut, setIn}

@@ -28,7 +28,7 @@ use Rattle.model.specs.TogglesLaws.{number}
 use Rattle.model.specs.Usb20Toggles.{Pid, DATA0, DATA1, same}
 use Rattle.model_ops.specs.Rings.{St}
 use Rattle.model_ops.specs.Concrete.{concrete}
-use Rattle.proof_book.specs.TransferKinds.{act-steady}
+use Rattle.proof_book.specs.TransferKindsLaws.{act-steady}
 use Rattle.proof_usb20.specs.Exempt.{differ}
 use Rattle.proof_usb20.specs.Sequence.{Track, off, due, owes, withPhase, own, shown, lengthOf, judged, acksAs, howOften, reads, saw}
 use Rattle.proof_usb20.specs.Follow as follow

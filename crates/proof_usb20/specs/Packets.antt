@@ -22,14 +22,15 @@ use Rattle.model.specs.Cells.{EpCore, ep-cell}
 use Rattle.model.specs.Script.{Script, ret, test, when, get, run, waken, _>>=_, _>>_}
 use Rattle.model.specs.Statics.{isOn, flag, withArmed, withTog, withLen, withReady, completed, modifyEp, modifyReg}
 use Rattle.model.specs.Handler.{looks, repeated, toggled, received, sent, outArm, inArm}
-use Rattle.model.specs.Every.{Every, at-end, at-ask, every-bind, every-cond}
+use Rattle.model.specs.Every.{Every, at-end, at-ask}
+use Rattle.model.specs.EveryLaws.{every-bind, every-cond}
 use Rattle.model.specs.Usb20Toggles.{Pid, DATA0, DATA1, Transaction, bitAfterAll, passed}
 use Rattle.model.specs.TogglesLaws.{number, shown, repeated-not-passed}
 use Rattle.model.specs.ToggledLaws.{toggling, KeepsRecord, Answered, ack-keeps, ack-acks}
 use Rattle.model_ops.specs.Records.{plainOf, merged}
 use Rattle.model_ops.specs.Rings.{St}
 use Rattle.model_ops.specs.Concrete.{concrete}
-use Rattle.proof_book.specs.TransferKinds.{put-steady}
+use Rattle.proof_book.specs.TransferKindsLaws.{put-steady}
 use Rattle.proof_toggles.specs.Toggles.{Whole, same-ep}
 use Rattle.proof_usb20.specs.Exempt.{differ}
 

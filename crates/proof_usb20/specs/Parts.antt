@@ -24,7 +24,7 @@ use Rattle.model.specs.IsoOut.{arrives, checkWalk, isoOutCheck}
 use Rattle.model.specs.Handler.{looks, toggled, received, sent, sofArm, dispatch}
 use Rattle.model_ops.specs.Concrete.{concrete}
 use Rattle.proof_usb20.specs.Exempt.{differ}
-use Rattle.proof_book.specs.TransferKinds.{put-steady}
+use Rattle.proof_book.specs.TransferKindsLaws.{put-steady}
 use Rattle.frame.specs.Usb20.{indexOf, frameOf}
 use Rattle.frame.specs.Advance.{previous}
 use Rattle.proof_usb20.specs.Watch.{at-end}

@@ -24,7 +24,8 @@ use Rattle.model_ops.specs.Concrete.{concrete}
 use Rattle.proof_book.specs.Sorting.{Sorting}
 use Rattle.proof_usb20.specs.Pipe.{Half, Pipe, Awaited, nothing, taken, given, confirmed, over, keeps, sets}
 use Rattle.proof_usb20.specs.Log.{Log, afresh, Accepted, Allowed, asksAfter, pollOut, pollIn, pollStatus}
-use Rattle.proof_usb20.specs.Watch.{at-end, at-ask, watch-cond}
+use Rattle.proof_usb20.specs.Watch.{at-end, at-ask}
+use Rattle.proof_usb20.specs.WatchLaws.{watch-cond}
 use Rattle.proof_usb20.specs.Ep0.{Watch, Rec, View, view, Fits, Rests, no-request, set-up, Gives, first-wait, second-wait, Rel, R, Keeps, Ends, Law}
 use Rattle.proof_usb20.specs.Exempt.{exempt-law, differ}
 use Rattle.proof_usb20.specs.Fitting as fitting

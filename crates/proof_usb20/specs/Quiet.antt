@@ -25,13 +25,16 @@ use Rattle.model.specs.Statics.{isOn, withLastFrame, isoInEvery}
 use Rattle.model_ops.specs.Records.{merged}
 use Rattle.model_ops.specs.Rings.{St}
 use Rattle.model_ops.specs.Concrete.{concrete}
-use Rattle.proof_book.specs.TransferKinds.{Steady, put-steady, act-steady}
-use Rattle.proof_book.specs.Sorting.{Sorting, ep0-plain}
+use Rattle.proof_book.specs.TransferKinds.{Steady}
+use Rattle.proof_book.specs.TransferKindsLaws.{put-steady, act-steady}
+use Rattle.proof_book.specs.Sorting.{Sorting}
+use Rattle.proof_book.specs.SortingLaws.{ep0-plain}
 use Rattle.proof_usb20.specs.Exempt.{differ}
 use Rattle.proof_usb20.specs.Fitting.{negated}
 use Rattle.proof_usb20.specs.Walks.{Each, each-set}
 use Rattle.proof_usb20.specs.Log.{Log, off, reads, writes, saw}
-use Rattle.proof_usb20.specs.Watch.{at-end, at-ask, watch-bind, watch-more, watch-cond}
+use Rattle.proof_usb20.specs.Watch.{at-end, at-ask}
+use Rattle.proof_usb20.specs.WatchLaws.{watch-bind, watch-more, watch-cond}
 use Rattle.proof_usb20.specs.Ep0.{Watch, view, recOf, Keeps}
 use Rattle.proof_usb20.specs.Same.{same-view, record-same, act-view, hand-view}
 use Rattle.proof_usb20.specs.Views.{made, ep-other, put-globals}

@@ -16,8 +16,10 @@ use Rattle.model_ops.specs.Rings.{St}
 use Rattle.model_ops.specs.Concrete.{concrete}
 use Rattle.machine.specs.Suspended.{driverOf, drive, haltsAs}
 use Rattle.proof_book.specs.Always.{after}
-use Rattle.proof_book.specs.Sorting.{Sorting, after-sorting}
-use Rattle.proof_wake_ups.specs.Rooms.{Few, Roomy, rooms, start-rooms}
+use Rattle.proof_book.specs.Sorting.{Sorting}
+use Rattle.proof_book.specs.SortingLaws.{after-sorting}
+use Rattle.proof_wake_ups.specs.Rooms.{Few, Roomy}
+use Rattle.proof_wake_ups.specs.RoomsLaws.{rooms, start-rooms}
 use Rattle.proof_usb20.specs.Watch.{Along, at-end, at-ask}
 use Rattle.proof_usb20.specs.Observer.{Observer, Under, at-rest, doing, starting, serves, Watched, watched, startedBy, beginsBy, noted, ClaimBegun, Claim, Standing, ReadAt, Read, Reads, All, Meaning}
 

@@ -28,11 +28,12 @@ use Rattle.model.specs.Calls.{interrupt}
 use Rattle.model.specs.Handler.{entered, nakNonIso, isoFor, ownIn, framed, released, served, onTransfer, onSetup, onInterrupt}
 use Rattle.model_ops.specs.Rings.{St}
 use Rattle.model_ops.specs.Concrete.{concrete}
-use Rattle.proof_book.specs.TransferKinds.{act-steady}
+use Rattle.proof_book.specs.TransferKindsLaws.{act-steady}
 use Rattle.proof_usb20.specs.Log.{Log, off, flagged, shows, withRx, withTx, withPhase, withFlags, seen, opens, set-up}
 use Rattle.proof_usb20.specs.Pipe as pipe
 use Rattle.proof_usb20.specs.Log as log
-use Rattle.proof_usb20.specs.Watch.{at-end, at-ask, watch-bind, watch-more, watch-cond}
+use Rattle.proof_usb20.specs.Watch.{at-end, at-ask}
+use Rattle.proof_usb20.specs.WatchLaws.{watch-bind, watch-more, watch-cond}
 use Rattle.proof_usb20.specs.Ep0.{Watch, View, view, Rel, R, Keeps, Law}
 use Rattle.proof_usb20.specs.Exempt.{differ}
 use Rattle.proof_usb20.specs.Views.{setOut, setIn, setReady, put-globals}

@@ -18,10 +18,11 @@ use Rattle.model.specs.Calls.{slotted, other, BeginDataIn, BeginSetup, BeginAcc
 use Rattle.model.specs.ToggledLaws.{ack-keeps, ack-acks}
 use Rattle.model_ops.specs.Rings.{St}
 use Rattle.model_ops.specs.Concrete.{concrete}
-use Rattle.proof_book.specs.TransferKinds.{put-steady, act-steady}
+use Rattle.proof_book.specs.TransferKindsLaws.{put-steady, act-steady}
 use Rattle.proof_usb20.specs.Pipe.{Pipe, Awaited, keeps, sets}
 use Rattle.proof_usb20.specs.Log.{afresh}
-use Rattle.proof_usb20.specs.Watch.{at-end, at-ask, watch-cond}
+use Rattle.proof_usb20.specs.Watch.{at-end, at-ask}
+use Rattle.proof_usb20.specs.WatchLaws.{watch-cond}
 use Rattle.proof_usb20.specs.Ep0.{View, view, no-request, Rel, Law}
 use Rattle.proof_usb20.specs.Exempt.{differ, exempt-law}
 use Rattle.proof_usb20.specs.Views.{rec, setOut, setIn, setControl, put-out, put-in, put-control}

@@ -25,7 +25,7 @@ use Rattle.model.specs.Cells.{EpCore, ep-cell, globals-cell, allocator-cell, re
 use Rattle.model.specs.Script.{Script, ret, bind, run, no-wakes}
 use Rattle.bits.specs.Bit.{withBit}
 use Rattle.model.specs.Machine.{Buf}
-use Rattle.proof_book.specs.TransferKinds.{put-steady, act-steady}
+use Rattle.proof_book.specs.TransferKindsLaws.{put-steady, act-steady}
 use Rattle.proof_book.specs.Sorting.{Sorting}
 use Rattle.model.specs.Statics.{isOn, withReady, withArmed, withPaced, withTog, withPower, modifyIntEn}
 use Rattle.model.specs.Answers.{Answer, Refused, End, NotYet, Done, Shown, operation, resultless, staged, named, unless, isNumber, isAllocated}
@@ -38,7 +38,8 @@ use Rattle.model_ops.specs.Concrete.{concrete}
 use Rattle.regs.specs.declared.Access.{Access}
 use Rattle.proof_usb20.specs.Log as log
 use Rattle.proof_usb20.specs.Log.{Log, before, exempted, afresh, opens, ends, closes, Poll, none, pollOf, settled, FairPoll, Allowed, AllowedTo}
-use Rattle.proof_usb20.specs.Watch.{at-end, at-ask, watch-bind, watch-more, watch-cond, watch-any}
+use Rattle.proof_usb20.specs.Watch.{at-end, at-ask}
+use Rattle.proof_usb20.specs.WatchLaws.{watch-bind, watch-more, watch-cond, watch-any}
 use Rattle.proof_usb20.specs.Ep0.{Watch, View, view, R, Keeps, Ends, Law}
 use Rattle.proof_usb20.specs.Exempt.{differ, Task, exempt-law}
 use Rattle.proof_usb20.specs.Same.{act-view}

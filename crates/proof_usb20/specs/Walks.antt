@@ -5,7 +5,8 @@ use mathlib.Core.Logic.{inl, inr}
 use mathlib.Core.Path.{_≡_, refl}
 use Prim.Native.Nat.{ℕ, _<_}
 use Rattle.bits.specs.Bit.{isSet}
-use Rattle.bits.specs.Walk.{setBits, In, walked-set}
+use Rattle.bits.specs.Walk.{setBits}
+use Rattle.bits.specs.WalkLaws.{In, walked-set}
 
 abbrev pub Each : (ℕ → Type 0) → List ℕ → Type 0
 Each P [] = Unit {0}

@@ -27,7 +27,7 @@ use Rattle.req_preview.specs.Trial.{directionOf}
 use Rattle.model.specs.Driver.{allocated-as, started-as}
 use Rattle.model.specs.AllocateAll.{allocateEach, announce, beginsAt, announceAfter, announceAll, allocate-read}
 use Rattle.model.specs.Calls.{Config, Slotted, SetEnabled, PollRead, BeginWrite, PollWrite, PollDataOut, BeginDataIn, Other, Allocate, AllocateAll, Start, BusPoll, BusEnable, BusDisable, Microframe, SetStalled, IsStalled, SetPaced, Advance, BeginRead, BeginSetup, PollSetup, PollDataIn, BeginAccept, PollAccept, BeginReject, BeginDataOut, BeginAcceptSetAddress, Aside, Open, Close, Queue, Op, interrupt, slotted, other, aside, numbered, named-or-0, slottedCode, otherCode, asideCode, code, starting}
-use Rattle.proof_wake_ups.specs.Twins.{Wakes≤, wakes-more, wakes-ret, wakes-waken, wakes-row, wakes-wait, free, once, then-free, either, no-read, no-write, no-get, no-put, no-is, no-look, no-fetch, no-act, one-wake, no-hand, when-wakes, assign, assign-write, modifyReg-wakes, Within, within-quiet, within-bind, within-test, within-ret, within-operation}
+use Rattle.proof_wake_ups.specs.TwinsLaws.{Wakes≤, wakes-more, wakes-ret, wakes-waken, wakes-row, wakes-wait, free, once, then-free, either, no-read, no-write, no-get, no-put, no-is, no-look, no-fetch, no-act, one-wake, no-hand, when-wakes, assign, assign-write, modifyReg-wakes, Within, within-quiet, within-bind, within-test, within-ret, within-operation}
 use Rattle.proof_wake_ups.specs.Interrupt.{isoInComplete-wakes, stamped-wakes}
 
 -- ---- the checks that stand before a call

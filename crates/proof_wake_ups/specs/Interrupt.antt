@@ -16,7 +16,7 @@ use Rattle.model.specs.Script.{complete, when}
 use Rattle.model.specs.IsoIn.{firstInFrame, isoInLoad, isoInComplete, unseen, sofOne, sofWalk, onSof, lateOne, lateWalk}
 use Rattle.model.specs.IsoOut.{arrives, checkOne, checkWalk, isoOutCheck}
 use Rattle.model.specs.Handler.{looks, nakNonIso, toggled, retake, settle, received, sent, sofArm, outArm, isoInArm, inArm, dispatch, movedOn, ep0MovedOn, isoFor, framed, served, onTransfer, onSetup, onInterrupt, stampedInterrupt}
-use Rattle.proof_wake_ups.specs.Twins.{Wakes≤, wakes-more, wakes-ret, wakes-bind, wakes-cond, wakes-mask, free, once, then-free, either, no-read, no-write, no-get, no-put, no-is, no-look, no-act, one-wake, no-hand, no-callback, when-wakes, assign, assign-write, modifyReg-wakes}
+use Rattle.proof_wake_ups.specs.TwinsLaws.{Wakes≤, wakes-more, wakes-ret, wakes-bind, wakes-cond, wakes-mask, free, once, then-free, either, no-read, no-write, no-get, no-put, no-is, no-look, no-act, one-wake, no-hand, no-callback, when-wakes, assign, assign-write, modifyReg-wakes}
 
 -- of a token, by whether it is a start of frame
 abbrev tokenMost : Bool → ℕ

@@ -6,7 +6,8 @@ use native.Mathlib.Nat.{mod-eq-of-lt}
 use native.Mathlib.Omega.{arith}
 use borrow.Author.Tests.{eq-eqb, ne-eqb}
 use lib.Dec.{eqb}
-use Rattle.bits.specs.Bit.{isSet, pick, both, set-with, set-and, set-low, set-high}
+use Rattle.bits.specs.Bit.{isSet, pick, both}
+use Rattle.bits.specs.BitLaws.{set-with, set-and, set-low, set-high}
 use Rattle.regs.specs.declared.Dir.{Dir}
 use Rattle.regs.specs.declared.Dir.the-variants.{Out, In}
 use Rattle.regs.specs.Enables.{place, isOn, withOn, inEnabled, outEnabled}

@@ -9,4 +9,5 @@ pub mod Progress
 pub mod Theorem
 pub mod Places
 pub mod Whole
+pub mod WholeLaws
 pub mod Turns

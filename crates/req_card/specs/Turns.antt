@@ -13,7 +13,8 @@ use Rattle.req_card.specs.Kept.{keptFrom}
 use Rattle.req_card.specs.Steps.{step-short, read-ends, read-goes, read-gives}
 use Rattle.req_card.specs.Written.{stream}
 use Rattle.req_card.specs.Streams.{view}
-use Rattle.req_card.specs.Whole.{AsInStream, reads-written, as-in-stream, reads-back}
+use Rattle.req_card.specs.Whole.{AsInStream}
+use Rattle.req_card.specs.WholeLaws.{reads-written, as-in-stream, reads-back}
 use Rattle.req_card.specs.Progress.{goes-further, find-end, find-go, find-give, nothing-packet}
 
 -- nothing is read at the stream's end

@@ -9,7 +9,7 @@ use lib.ListN.{length}
 use mathlib.Core.List.{List}
 use Rattle.req_card.specs.Streams.{placed, checked, goodBlock}
 use Rattle.req_card.specs.Reading.{View, blockEnd, cleanTo, cleanUpTo, seek, begins}
-use Rattle.req_card_reader.specs.Seen.{clean-behind}
+use Rattle.req_card_reader.specs.SeenLaws.{clean-behind}
 
 pub clean-more : (v : View) (k end : ℕ) → k < end → v .good k ≡ true → cleanTo v k (end - k) ≡ cleanTo v (k + 1) (end - (k + 1))
 unfolding cleanTo

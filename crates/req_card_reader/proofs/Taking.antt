@@ -15,10 +15,12 @@ use Rattle.req_card.specs.Reading.{View, total, bytesFrom, find}
 use Rattle.req_card.specs.Progress.{find-fits}
 use Rattle.req_card_reader.specs.declared.batches.Taken.{Taken}
 use Rattle.req_card_reader.specs.Rooms.{length-bytes}
-use Rattle.req_card_reader.specs.Seen.{Seen, seen-none}
+use Rattle.req_card_reader.specs.Seen.{Seen}
+use Rattle.req_card_reader.specs.SeenLaws.{seen-none}
 use Rattle.req_card_reader.specs.Batches.{Some, none, someFrom, front, Takes}
 use Rattle.req_card_reader.specs.BatchLaws.{behind, some-more, some-standing, front-more, found-seen}
-use Rattle.req_card_reader.specs.Inside.{Near, standing-count, standing-lies}
+use Rattle.req_card_reader.specs.Inside.{Near}
+use Rattle.req_card_reader.specs.InsideLaws.{standing-count, standing-lies}
 
 -- so many packets are in the room, and what is left to be taken joins them to all
 pub record Taking (v : View) (all : Some) (lent room : List ℕ) (count used d first : ℕ) : Type 0 where

@@ -1,8 +1,11 @@
 pub mod Seen
+pub mod SeenLaws
 pub mod Calls
 pub mod Rooms
 pub mod Runs
+pub mod RunsLaws
 pub mod Inside
+pub mod InsideLaws
 pub mod Batches
 pub mod BatchLaws
 pub mod InTurn

@@ -1,29 +1,10 @@
 -- What a reader has looked at already.
-use mathlib.Core.Path.{_≡_, refl, sym}
-use Prim.Native.Nat.{ℕ, zero, _+_, _-_, _/_, _≤_, _<_}
-use native.Mathlib.Omega.{arith}
-use Rattle.req_card.specs.Reading.{View, blockEnd, cleanTo, cleanUpTo}
-use Rattle.req_card.specs.Clean.{clean-join}
+use mathlib.Core.Path.{_≡_}
+use Prim.Native.Nat.{ℕ, _+_, _-_, _/_, _≤_, _<_}
+use Rattle.req_card.specs.Reading.{View, blockEnd, cleanTo}
 
 -- the blocks from that of place d up to block `first` are good; the header at d does not end before them
 pub record Seen (v : View) (d first : ℕ) : Type 0 where
   pub low : d / 504 ≤ first
   pub high : first ≤ blockEnd (d + 3)
   pub good : first ≤ cleanTo v (d / 504) (first - d / 504)
-
-pub seen-none : (v : View) (d : ℕ) → Seen v d (d / 504)
-unfolding cleanTo
-seen-none v d =
-    let e : d / 504 - d / 504 ≡ 0 = omega arith in
-    record { low = omega arith; high = omega arith; good = rw e (omega arith) }
-
--- the blocks behind some that are good
-pub clean-behind : (v : View) (a b e : ℕ) → a ≤ b → b ≤ e → b ≤ cleanTo v a (b - a) → cleanTo v b (e - b) ≡ cleanTo v a (e - a)
-clean-behind v a b e l h c =
-    let x : a + (b - a) ≡ b = omega arith in
-    let y : (b - a) + (e - b) ≡ e - a = omega arith in
-    sym (rw (y, x) at (clean-join v (b - a) (e - b) a (omega arith)))
-
-pub seen-clean : (v : View) (d first : ℕ) → Seen v d first
-    → cleanTo v first (blockEnd (d + 3) - first) ≡ cleanUpTo v d (d + 3)
-seen-clean v d first s = clean-behind v (d / 504) first (blockEnd (d + 3)) (s .low) (s .high) (s .good)

@@ -5,7 +5,8 @@ use Prim.Native.Nat.{ℕ, zero, suc, _+_, _-_, _%_, _^_, _≤_, _<_}
 use native.Mathlib.Nat.{zero-div}
 use native.Mathlib.Numerals.{add-one}
 use native.Mathlib.Omega.{arith}
-use Rattle.bits.specs.Bit.{isSet, one-set, bit-not}
+use Rattle.bits.specs.Bit.{isSet}
+use Rattle.bits.specs.BitLaws.{one-set, bit-not}
 use Rattle.req_channels.specs.Sets.{partOf, total, sum}
 
 pub total-none : (f : ℕ → ℕ) (w : ℕ) → total f w 0 ≡ 0

@@ -4,11 +4,14 @@ pub mod Reading
 pub mod Writing
 pub mod Rewriting
 pub mod Lists
+pub mod ListsLaws
 pub mod RowLaws
 pub mod Walk
+pub mod WalkLaws
 pub mod Types
 pub mod WritingLaws
 pub mod RewritingLaws
 pub mod ReadBack
+pub mod ReadBackLaws
 pub mod Table
 pub mod Merging

@@ -14,8 +14,8 @@ use Rattle.req_preview.specs.declared.Trial.{Trial}
 use Rattle.req_preview.specs.Trial.{asked, given, answered, step, tried, trialOf}
 use Rattle.req_descriptor.specs.declared.Answer.the-variants.{Listed}
 use Rattle.req_descriptor.specs.Reading.{listOf, readingOf}
-use Rattle.req_descriptor.specs.Lists.{few}
-use Rattle.req_descriptor.specs.ReadBack.{accepted}
+use Rattle.req_descriptor.specs.ListsLaws.{few}
+use Rattle.req_descriptor.specs.ReadBackLaws.{accepted}
 use Rattle.req_preview.specs.Asked.{Fair, fair-asked}
 use Rattle.req_preview.specs.TrialLaws.{tried-stopped}
 

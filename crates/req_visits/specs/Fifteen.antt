@@ -7,7 +7,7 @@ use Rattle.state.specs.declared.EpState.{EpState}
 use Rattle.req_visits.specs.Limits.{Limits}
 use Rattle.req_visits.specs.Bounds.{greatestOf}
 use Rattle.req_visits.specs.Times.{Permitted, steady}
-use Rattle.req_visits.specs.Reaches.{greatest-reached}
+use Rattle.req_visits.specs.ReachesLaws.{greatest-reached}
 use Rattle.req_visits.specs.Emptied.{Sixteen, after, NoOverrun}
 use Rattle.req_visits.specs.Suffices.{no-overrun}
 use Rattle.req_visits.specs.Overruns.{first-visited, sixteenth}

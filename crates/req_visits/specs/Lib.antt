@@ -6,10 +6,12 @@ pub mod SpacedLaws
 pub mod SpanLaws
 pub mod BoundsLaws
 pub mod Reaches
+pub mod ReachesLaws
 pub mod Emptied
 pub mod EmptiedLaws
 pub mod Suffices
 pub mod Overruns
 pub mod Fifteen
 pub mod Told
+pub mod ToldLaws
 pub mod Table

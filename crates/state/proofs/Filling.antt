@@ -7,7 +7,7 @@ use native.Mathlib.Omega.{arith}
 use native.Mathlib.Numerals.{add-one}
 use lib.ListN.{length, getD, set, replicate, length-set}
 use lib.Seq.{getD-set-same, getD-set-other, ext-getD}
-use Rattle.le_bytes.specs.Tables.{lt-or-ge}
+use Rattle.le_bytes.specs.TablesLaws.{lt-or-ge}
 use Rattle.state.specs.State.{view}
 use Rattle.state.specs.Ep.{newEp}
 use Rattle.state.specs.Wakes.{none-woken}

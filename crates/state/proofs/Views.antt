@@ -19,7 +19,8 @@ use Rattle.state.specs.Driver.{Driver, key, lenKey, stampKey, noEp, noRe
 use Rattle.state.specs.State.{epIn, allocatorIn, globalsIn, wakesIn, requestIn, controlIn, savedIn, view, saved}
 use Rattle.le_bytes.specs.Runs.{Same, puts-same, gets-same, gets-puts}
 use Rattle.le_bytes.specs.Numbers.{number-digits, numbers-bytes, each-eq}
-use Rattle.le_bytes.specs.Tables.{table, table-same, table-set, table-at}
+use Rattle.le_bytes.specs.Tables.{table}
+use Rattle.le_bytes.specs.TablesLaws.{table-same, table-set, table-at}
 
 -- each part of the view, after bytes were stored elsewhere
 module _ (xs : List ℕ) (o : ℕ) (bs : List ℕ) where

@@ -8,7 +8,7 @@ use lib.ListN.{length, getD}
 use lib.Seq.{ext-getD}
 use Rattle.le_bytes.specs.Bytes.{number, numbers}
 use Rattle.le_bytes.specs.Runs.{Same}
-use Rattle.le_bytes.specs.Tables.{lt-or-ge}
+use Rattle.le_bytes.specs.TablesLaws.{lt-or-ge}
 use Rattle.le_bytes.specs.Injective.{Tells, tells-number, tells-numbers, one-tells, table-tells}
 use Rattle.regs.specs.declared.Dir.{Dir}
 use Rattle.state.specs.declared.EpState.{EpState}

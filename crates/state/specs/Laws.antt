@@ -7,7 +7,7 @@ use native.Mathlib.Omega.{arith}
 use lib.ListN.{length, getD, set}
 use lib.Seq.{getD-set-same, getD-set-other, set-getD}
 use Rattle.le_bytes.specs.Bytes.{gets, number}
-use Rattle.le_bytes.specs.Tables.{length-tab}
+use Rattle.le_bytes.specs.TablesLaws.{length-tab}
 use Rattle.regs.specs.declared.Dir.{Dir}
 use Rattle.regs.specs.declared.Dir.the-variants.{Out, In}
 use Rattle.state.specs.declared.EpState.{EpState}

@@ -12,7 +12,8 @@ use Rattle.req_card.specs.Packet.{Packet, All, size}
 use Rattle.req_card.specs.Written.{stream}
 use Rattle.req_card.specs.Places.{length-stream}
 use Rattle.req_card.specs.Turns.{calls-give, calls-back}
-use Rattle.req_card_reader.specs.Runs.{readRun, run-gives}
+use Rattle.req_card_reader.specs.Runs.{readRun}
+use Rattle.req_card_reader.specs.RunsLaws.{run-gives}
 use Rattle.req_card_writer.specs.declared.Writer.{Writer}
 use Rattle.req_card_writer.specs.declared.Wrote.{Wrote}
 use Rattle.req_card_writer.specs.declared.Wrote.the-variants as wrote

@@ -1,5 +1,6 @@
 pub mod Stamp
 pub mod Calls
 pub mod Setup
+pub mod SetupLaws
 pub mod Woken
 pub mod Preview

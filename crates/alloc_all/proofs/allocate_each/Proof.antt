@@ -7,7 +7,8 @@ use Rattle.state.specs.State.{view, saved}
 use Rattle.state.specs.Driver.{Driver}
 use Rattle.req_descriptor.specs.Endpoints.{none}
 use Rattle.req_descriptor.specs.Writing.{upTo, countOf}
-use Rattle.alloc_all.specs.Each.{oneOn, eachOn, each-none, each-more}
+use Rattle.alloc_all.specs.Each.{oneOn, eachOn}
+use Rattle.alloc_all.specs.EachLaws.{each-none, each-more}
 use Rattle.alloc_all.proofs.allocate_each.Statement.{statement}
 use Rattle.alloc_all.proofs.allocate_each.Tie as tie
 use Rattle.alloc_all.proofs.allocate_each.Reads as reads

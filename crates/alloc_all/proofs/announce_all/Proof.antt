@@ -3,7 +3,8 @@ use Prim.Native.Nat.{ℕ}
 use denote.Ref.{now}
 use Rattle.state.specs.State.{view}
 use Rattle.req_descriptor.specs.Writing.{upTo}
-use Rattle.alloc_all.specs.Each.{announceAll, announce-none, announce-first}
+use Rattle.alloc_all.specs.Each.{announceAll}
+use Rattle.alloc_all.specs.EachLaws.{announce-none, announce-first}
 use Rattle.model_ops.specs.Concrete.{go}
 use borrow.Author.Needs.{needs}
 use Rattle.alloc_all.proofs.announce_all.Statement.{statement}

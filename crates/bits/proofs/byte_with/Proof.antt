@@ -1,7 +1,7 @@
 use Prim.Native.Nat.{_%_}
 use borrow.Author.Needs.{needs}
 use native.Mathlib.Omega.{arith}
-use Rattle.bits.specs.Bit.{sets, clears}
+use Rattle.bits.specs.BitLaws.{sets, clears}
 use Rattle.bits.proofs.byte_with.Statement.{statement}
 use Rattle.bits.proofs.byte_with.Tie as tie
 use Rattle.bits.proofs.byte_with.Reads as reads

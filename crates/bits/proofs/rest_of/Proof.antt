@@ -1,4 +1,4 @@
-use Rattle.bits.specs.Walk.{rest-code}
+use Rattle.bits.specs.WalkLaws.{rest-code}
 use borrow.Author.Needs.{needs}
 use Rattle.bits.proofs.rest_of.Statement.{statement}
 use Rattle.bits.proofs.rest_of.Tie as tie

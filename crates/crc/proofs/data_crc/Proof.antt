@@ -3,7 +3,8 @@ use Prim.Native.Nat.{ℕ, _-_, _≤_}
 use native.Mathlib.Omega.{arith}
 use borrow.Author.Needs.{needs}
 use lib.ListN.{length, drop}
-use Rattle.crc.specs.Register.{over, register-crc}
+use Rattle.crc.specs.Register.{over}
+use Rattle.crc.specs.RegisterLaws.{register-crc}
 use Rattle.crc.proofs.Laws.{over-more, over-none}
 use Rattle.crc.proofs.data_crc.Statement.{statement}
 use Rattle.crc.proofs.data_crc.Tie as tie

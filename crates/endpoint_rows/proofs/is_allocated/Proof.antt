@@ -1,5 +1,5 @@
 use mathlib.Core.Path.{_∙_, sym}
-use Rattle.endpoint_rows.specs.Rows.{no-number, number-lt}
+use Rattle.endpoint_rows.specs.RowsLaws.{no-number, number-lt}
 use Rattle.model.specs.Answers.{isAllocated}
 use native.Mathlib.Nat.{mod-eq-of-lt}
 use borrow.Author.Needs.{needs}

@@ -1,4 +1,4 @@
-use Rattle.endpoint_rows.specs.Rows.{number-lt}
+use Rattle.endpoint_rows.specs.RowsLaws.{number-lt}
 use native.Mathlib.Omega.{arith}
 use borrow.Author.Needs.{needs}
 use Rattle.endpoint_rows.proofs.low.Statement.{statement}

@@ -1,5 +1,5 @@
-use Rattle.machine.specs.Rows.{back}
-use Rattle.machine.specs.Goes.{proceeds}
+use Rattle.machine.specs.RowsLaws.{back}
+use Rattle.machine.specs.GoesLaws.{proceeds}
 use Rattle.machine.specs.Suspended.{decode}
 use Rattle.machine.specs.Lent.{as-lent}
 use Rattle.state.specs.State.{view, saved}

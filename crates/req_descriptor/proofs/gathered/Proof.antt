@@ -5,7 +5,7 @@ use borrow.Author.Needs.{needs}
 use Rattle.req_descriptor.specs.declared.Endpoint.{Endpoint}
 use Rattle.req_descriptor.specs.Endpoints.{ofList, listed, gathered}
 use Rattle.req_descriptor.specs.Reading.{endpoints}
-use Rattle.req_descriptor.specs.Lists.{listed-of, tidy-of, good-none}
+use Rattle.req_descriptor.specs.ListsLaws.{listed-of, tidy-of, good-none}
 use Rattle.req_descriptor.specs.Types.{gathered-append}
 use Rattle.req_descriptor.proofs.gathered.Statement.{statement}
 use Rattle.req_descriptor.proofs.gathered.Tie as tie

@@ -6,7 +6,7 @@ use borrow.Author.Tests.{not-true, not-false}
 use Rattle.req_descriptor.specs.declared.Endpoint.{Endpoint}
 use Rattle.req_descriptor.specs.Endpoints.{listed, agree}
 use Rattle.req_descriptor.specs.Reading.{endpoints, listOf, readingOf}
-use Rattle.req_descriptor.specs.Lists.{listed-of}
+use Rattle.req_descriptor.specs.ListsLaws.{listed-of}
 use Rattle.req_descriptor.specs.Types.{two-in-first, two-in-others, one-each}
 use Rattle.req_descriptor.proofs.read.Statement.{statement}
 use Rattle.req_descriptor.proofs.read.Tie as tie

@@ -9,7 +9,7 @@ use Rattle.req_descriptor.specs.declared.Endpoints.{Endpoints}
 use Rattle.req_descriptor.specs.declared.Reading.{Reading}
 use Rattle.req_descriptor.specs.Reading.{listOf}
 use Rattle.req_descriptor.specs.Writing.{stored}
-use Rattle.req_descriptor.specs.ReadBack.{accepted, stored-of}
+use Rattle.req_descriptor.specs.ReadBackLaws.{accepted, stored-of}
 use Rattle.req_preview.specs.declared.Trial.{Trial}
 use Rattle.req_preview.specs.Trial.{trialOf}
 use Rattle.req_preview.specs.Preview.{shown, shownOf}

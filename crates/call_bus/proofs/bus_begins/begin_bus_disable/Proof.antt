@@ -1,4 +1,4 @@
-use Rattle.machine.specs.Rows.{back, other-call}
+use Rattle.machine.specs.RowsLaws.{back, other-call}
 use Rattle.model.specs.Calls as calls
 use Rattle.model.specs.Answers.{resultless}
 use Rattle.model.specs.Script.{done}

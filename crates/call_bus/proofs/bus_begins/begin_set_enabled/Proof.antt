@@ -1,5 +1,5 @@
-use Rattle.endpoint_rows.specs.Rows.{allocated-number}
-use Rattle.machine.specs.Rows.{back, named-call}
+use Rattle.endpoint_rows.specs.RowsLaws.{allocated-number}
+use Rattle.machine.specs.RowsLaws.{back, named-call}
 use Rattle.model.specs.Calls as calls
 use Rattle.model.specs.Answers.{resultless}
 use Rattle.model.specs.Bus as script

@@ -1,6 +1,6 @@
-use Rattle.machine.specs.Rows.{back}
+use Rattle.machine.specs.RowsLaws.{back}
 use Rattle.call_bus.specs.Stalls.{stall-call}
-use Rattle.endpoint_rows.specs.Rows.{stallable-lt}
+use Rattle.endpoint_rows.specs.RowsLaws.{stallable-lt}
 use Rattle.model.specs.Calls as calls
 use Rattle.model.specs.Answers.{resultless}
 use Rattle.model.specs.Bus as script

@@ -1,6 +1,6 @@
 use mathlib.Core.Path.{_∙_}
 use Rattle.call_bus_time.specs.Sharing.{chargeOn}
-use Rattle.call_bus_time.specs.Accepts.{epOn-low}
+use Rattle.call_bus_time.specs.AcceptsLaws.{epOn-low}
 use borrow.Author.Needs.{needs}
 use Rattle.call_bus_time.proofs.charges.charge_on.Statement.{statement}
 use Rattle.call_bus_time.proofs.charges.charge_on.Tie as tie

@@ -1,4 +1,4 @@
-use Rattle.machine.specs.Rows.{back, numbered-call}
+use Rattle.machine.specs.RowsLaws.{back, numbered-call}
 use Rattle.model.specs.Answers.{resultless}
 use Rattle.model.specs.IsoIn as script
 use Rattle.model.specs.Calls as calls

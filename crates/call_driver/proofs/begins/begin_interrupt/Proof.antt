@@ -1,4 +1,4 @@
-use Rattle.machine.specs.Rows.{back, interrupt-call}
+use Rattle.machine.specs.RowsLaws.{back, interrupt-call}
 use Rattle.machine.specs.Suspended.{decode}
 use Rattle.state.specs.State.{view, saved}
 use denote.Ref.{now}

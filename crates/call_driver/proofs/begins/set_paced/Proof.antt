@@ -1,5 +1,5 @@
-use Rattle.machine.specs.Rows.{back, numbered-call}
-use Rattle.endpoint_rows.specs.Rows.{number-lt}
+use Rattle.machine.specs.RowsLaws.{back, numbered-call}
+use Rattle.endpoint_rows.specs.RowsLaws.{number-lt}
 use Rattle.call_driver.specs.Begins.{pacing, set-paced-begins}
 use Rattle.model.specs.Calls as calls
 use Rattle.machine.specs.Suspended.{decode}

@@ -9,11 +9,11 @@ use Rattle.req_descriptor.specs.declared.Endpoints.{Endpoints}
 use Rattle.req_descriptor.specs.declared.Reading.{Reading}
 use Rattle.req_descriptor.specs.Reading.{listOf}
 use Rattle.req_descriptor.specs.Writing.{stored}
-use Rattle.req_descriptor.specs.ReadBack.{accepted, stored-of}
+use Rattle.req_descriptor.specs.ReadBackLaws.{accepted, stored-of}
 use Rattle.model.specs.Calls as calls
 use Rattle.machine.specs.Suspended.{decode}
-use Rattle.machine.specs.Rows.{back, other-call}
-use Rattle.call_driver.specs.Listed.{reading-all, all-unread, all-read, passes-idle}
+use Rattle.machine.specs.RowsLaws.{back, other-call}
+use Rattle.call_driver.specs.ListedLaws.{reading-all, all-unread, all-read, passes-idle}
 use borrow.Author.Needs.{needs}
 use Rattle.call_driver.proofs.listed_calls.allocate_all.Statement.{statement}
 use Rattle.call_driver.proofs.listed_calls.allocate_all.Tie as tie

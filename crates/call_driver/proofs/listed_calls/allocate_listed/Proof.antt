@@ -6,7 +6,7 @@ use Rattle.req_descriptor.specs.Writing.{stored}
 use Rattle.req_preview.specs.declared.Trial.{Trial}
 use Rattle.req_preview.specs.Trial.{trialOf}
 use Rattle.machine.specs.Suspended.{decode}
-use Rattle.call_driver.specs.Listed.{all-given, all-refused}
+use Rattle.call_driver.specs.ListedLaws.{all-given, all-refused}
 use borrow.Author.Needs.{needs}
 use Rattle.call_driver.proofs.listed_calls.allocate_listed.Statement.{statement}
 use Rattle.call_driver.proofs.listed_calls.allocate_listed.Tie as tie

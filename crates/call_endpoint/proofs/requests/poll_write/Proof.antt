@@ -1,4 +1,4 @@
-use Rattle.machine.specs.Rows.{back, slotted-idle}
+use Rattle.machine.specs.RowsLaws.{back, slotted-idle}
 use Rattle.call_endpoint.specs.AtOnce.{polled-idle}
 use Rattle.model.specs.Calls as calls
 use Rattle.machine.specs.Suspended.{decode}

@@ -5,7 +5,7 @@ use mathlib.Core.Path.{refl, sym, _∙_}
 use borrow.Author.Tests.{ltb-false}
 use lib.Dec.{eqb, ltb}
 use Rattle.model.specs.Statics.{isOn}
-use Rattle.endpoint_common.specs.Records.{on-driver}
+use Rattle.endpoint_common.specs.RecordsLaws.{on-driver}
 use Rattle.control.proofs.Laws.{in-last, in-more}
 use borrow.Author.Tests.{not-false, not-true}
 use borrow.Author.Needs.{needs}

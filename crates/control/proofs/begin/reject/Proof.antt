@@ -1,7 +1,7 @@
 use Rattle.state.specs.State.{view}
 use denote.Ref.{now}
 use lib.Dec.{eqb, ltb}
-use Rattle.endpoint_common.specs.Records.{on-driver}
+use Rattle.endpoint_common.specs.RecordsLaws.{on-driver}
 use Rattle.control.proofs.Laws.{reject-asks, reject-refused}
 use mathlib.Core.Path.{_∙_, refl}
 use borrow.Author.Needs.{needs}

@@ -2,7 +2,7 @@ use Rattle.state.specs.State.{view}
 use denote.Ref.{now}
 use lib.Dec.{eqb, ltb}
 use Rattle.model.specs.Statics.{isOn}
-use Rattle.endpoint_common.specs.Records.{on-driver}
+use Rattle.endpoint_common.specs.RecordsLaws.{on-driver}
 use Rattle.control.proofs.Laws.{accept-address, accept-done}
 use borrow.Author.Tests.{not-false, not-true}
 use mathlib.Core.Path.{_∙_, refl}

@@ -2,7 +2,7 @@ use mathlib.Core.Path.{refl, _∙_}
 use lib.Dec.{eqb}
 use denote.Ref.{now}
 use Rattle.state.specs.State.{view}
-use Rattle.endpoint_common.specs.Records.{on-driver}
+use Rattle.endpoint_common.specs.RecordsLaws.{on-driver}
 use Rattle.control.proofs.Laws.{in-second, in-first}
 use borrow.Author.Tests.{eq-eqb, le-ltb, lt-ltb, ne-eqb, not-false, not-true}
 use borrow.Author.Needs.{needs}

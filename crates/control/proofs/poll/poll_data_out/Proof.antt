@@ -3,7 +3,7 @@ use lib.Dec.{eqb}
 use lib.ListN.{length}
 use borrow.Author.Tests.{eq-eqb, ne-eqb, not-true, not-false}
 use Rattle.state.specs.State.{view}
-use Rattle.endpoint_common.specs.Records.{on-driver}
+use Rattle.endpoint_common.specs.RecordsLaws.{on-driver}
 use Rattle.control.proofs.Laws.{stage-told, stage-lends, sort-told, sort-lends, take-is, take-lends, other-told, other-lends}
 use borrow.Author.Needs.{needs}
 use Rattle.control.proofs.poll.poll_data_out.Statement.{statement}

@@ -3,7 +3,7 @@ use mathlib.Core.Path.{_∙_, sym}
 use denote.Ref.{now}
 use Rattle.state.specs.State.{view}
 use Rattle.model.specs.Statics.{isOn}
-use Rattle.endpoint_common.specs.Records.{on-driver}
+use Rattle.endpoint_common.specs.RecordsLaws.{on-driver}
 use Rattle.control.proofs.Laws.{in-waits, in-closes, in-done}
 use borrow.Author.Needs.{needs}
 use Rattle.control.proofs.poll.take_in.Statement.{statement}

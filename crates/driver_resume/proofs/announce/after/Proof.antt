@@ -2,7 +2,7 @@ use mathlib.Core.Path.{_∙_, refl, sym, ap}
 use denote.Ref.{now}
 use borrow.Author.Needs.{needs}
 use Rattle.state.specs.State.{view}
-use Rattle.driver_resume.specs.Announce.{after-none, after-in, after-out}
+use Rattle.driver_resume.specs.AnnounceLaws.{after-none, after-in, after-out}
 use Rattle.driver_resume.proofs.announce.after.Statement.{statement}
 use Rattle.driver_resume.proofs.announce.after.Tie as tie
 use Rattle.driver_resume.proofs.announce.after.Reads as reads

@@ -4,7 +4,8 @@ use native.Mathlib.Omega.{arith}
 use denote.Ref.{now}
 use borrow.Author.Needs.{needs}
 use Rattle.state.specs.State.{view}
-use Rattle.driver_resume.specs.Announce.{foundAt, found-step, found-none}
+use Rattle.driver_resume.specs.Announce.{foundAt}
+use Rattle.driver_resume.specs.AnnounceLaws.{found-step, found-none}
 use Rattle.driver_resume.proofs.announce.found_at.Statement.{statement}
 use Rattle.driver_resume.proofs.announce.found_at.Tie as tie
 use Rattle.driver_resume.proofs.announce.found_at.Reads as reads

@@ -7,7 +7,7 @@ use Rattle.model_ops.specs.Concrete.{go}
 use lib.ListN.{length}
 use Rattle.regs.specs.declared.Dir.the-variants.{Out}
 use Rattle.model.specs.Endpoint.{pollRead}
-use Rattle.endpoint_rows.specs.Rows.{numbered}
+use Rattle.endpoint_rows.specs.RowsLaws.{numbered}
 use Rattle.endpoint.proofs.Laws.{lends, read-refused}
 use borrow.Author.Needs.{needs}
 use Rattle.endpoint.proofs.read.poll_read.Statement.{statement}

@@ -4,7 +4,7 @@ use lib.ListN.{length}
 use borrow.Author.Tests.{eq-eqb, ne-eqb, not-true, not-false}
 use Rattle.state.specs.State.{view}
 use Rattle.model.specs.Statics.{isOn}
-use Rattle.endpoint_common.specs.Records.{on-driver}
+use Rattle.endpoint_common.specs.RecordsLaws.{on-driver}
 use Rattle.endpoint.proofs.Laws.{write-none, write-is-iso, write-is-ready, write-other}
 use borrow.Author.Needs.{needs}
 use Rattle.endpoint.proofs.write.take_write.Statement.{statement}

@@ -1,4 +1,4 @@
-use Rattle.irq_transfer.specs.Wait.{over-told, some-left, wait-more, wait-over}
+use Rattle.irq_transfer.specs.WaitLaws.{over-told, some-left, wait-more, wait-over}
 use mathlib.Core.Path.{refl}
 use native.Mathlib.Omega.{arith}
 use borrow.Author.Needs.{needs}

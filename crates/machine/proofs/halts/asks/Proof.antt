@@ -1,5 +1,6 @@
-use Rattle.machine.specs.Keeps.{canonical}
-use Rattle.machine.specs.Suspended.{decode, decode-encode}
+use Rattle.machine.specs.KeepsLaws.{canonical}
+use Rattle.machine.specs.Suspended.{decode}
+use Rattle.machine.specs.SuspendedLaws.{decode-encode}
 use mathlib.Core.Path.{_∙_, ap, sym}
 use borrow.Author.Needs.{needs}
 use Rattle.machine.proofs.halts.asks.Statement.{statement}

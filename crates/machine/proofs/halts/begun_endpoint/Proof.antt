@@ -1,7 +1,7 @@
 use Rattle.machine.specs.Tags.{as-endpoint}
 use Rattle.machine.specs.Fits.{linked-begun-endpoint}
 use mathlib.Core.List.{[]}
-use Rattle.machine.specs.Rows.{ends-idle}
+use Rattle.machine.specs.RowsLaws.{ends-idle}
 use Rattle.machine.specs.Suspended.{decode}
 use Rattle.state.specs.State.{view, saved}
 use denote.Ref.{now}

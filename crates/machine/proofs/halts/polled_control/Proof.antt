@@ -1,6 +1,6 @@
 use Rattle.machine.specs.Tags.{as-control}
 use Rattle.machine.specs.Fits.{linked-polled}
-use Rattle.machine.specs.Rows.{ends-idle}
+use Rattle.machine.specs.RowsLaws.{ends-idle}
 use Rattle.machine.specs.Suspended.{decode}
 use Rattle.state.specs.State.{view, saved}
 use denote.Ref.{now}

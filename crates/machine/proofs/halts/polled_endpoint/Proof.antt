@@ -1,4 +1,4 @@
-use Rattle.machine.specs.Rows.{ends-idle}
+use Rattle.machine.specs.RowsLaws.{ends-idle}
 use mathlib.Core.Path.{_∙_}
 use borrow.Author.Needs.{needs}
 use Rattle.machine.proofs.halts.polled_endpoint.Statement.{statement}

@@ -6,7 +6,8 @@ use lib.ListN.{length}
 use lib.Seq.{paste-zero}
 use Rattle.req_card.specs.Reading.{bytesFrom}
 use Rattle.req_card.specs.Streams.{view}
-use Rattle.req_card_reader.specs.Inside.{Near, seen-good, good-lies, near-none, near-walked, near-bytes}
+use Rattle.req_card_reader.specs.Inside.{Near}
+use Rattle.req_card_reader.specs.InsideLaws.{seen-good, good-lies, near-none, near-walked, near-bytes}
 use Rattle.req_card_reader.proofs.batches.take_near.Statement.{statement}
 use Rattle.req_card_reader.proofs.batches.take_near.Tie as tie
 use Rattle.req_card_reader.proofs.batches.take_near.Reads as reads

@@ -3,7 +3,8 @@ use Prim.Native.Nat.{ℕ, _+_, _-_, _*_, _/_, _%_, _≤_}
 use native.Mathlib.Omega.{arith}
 use borrow.Author.Needs.{needs}
 use Rattle.req_card.specs.Streams.{view}
-use Rattle.req_card_reader.specs.Inside.{Standing, Walked, standing-none, good-lies, walk-more}
+use Rattle.req_card_reader.specs.Inside.{Standing, Walked}
+use Rattle.req_card_reader.specs.InsideLaws.{standing-none, good-lies, walk-more}
 use Rattle.req_card_reader.proofs.batches.walk.Statement.{statement}
 use Rattle.req_card_reader.proofs.batches.walk.Tie as tie
 use Rattle.req_card_reader.proofs.batches.walk.Reads as reads

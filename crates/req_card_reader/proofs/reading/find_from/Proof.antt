@@ -5,7 +5,8 @@ use borrow.Author.Needs.{needs}
 use Rattle.req_card.specs.Reading.{total, find}
 use Rattle.req_card.specs.Progress.{find-ends, find-gives, find-goes, goes-further}
 use Rattle.req_card.specs.Streams.{view}
-use Rattle.req_card_reader.specs.Seen.{Seen, seen-none}
+use Rattle.req_card_reader.specs.Seen.{Seen}
+use Rattle.req_card_reader.specs.SeenLaws.{seen-none}
 use Rattle.req_card_reader.proofs.reading.find_from.Statement.{statement}
 use Rattle.req_card_reader.proofs.reading.find_from.Tie as tie
 

@@ -6,7 +6,7 @@ use Rattle.req_card.specs.Progress.{find-fits}
 use Rattle.req_card.specs.Streams.{view}
 use Rattle.req_card_reader.specs.Rooms.{next-torn, room-torn, next-found, room-found}
 use borrow.Author.Needs.{needs}
-use Rattle.req_card_reader.specs.Seen.{seen-none}
+use Rattle.req_card_reader.specs.SeenLaws.{seen-none}
 use Rattle.req_card_reader.proofs.reading.next_packet.Statement.{statement}
 use Rattle.req_card_reader.proofs.reading.next_packet.Tie as tie
 

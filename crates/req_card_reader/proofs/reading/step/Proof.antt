@@ -6,7 +6,7 @@ use Rattle.req_card.specs.Reading.{seekFrom, beginAt}
 use Rattle.req_card.specs.Steps.{intact-good, intact-cut, step-short, step-begin}
 use Rattle.req_card.specs.Streams.{view}
 use borrow.Author.Needs.{needs}
-use Rattle.req_card_reader.specs.Seen.{seen-clean}
+use Rattle.req_card_reader.specs.SeenLaws.{seen-clean}
 use Rattle.req_card_reader.proofs.reading.step.Statement.{statement}
 use Rattle.req_card_reader.proofs.reading.step.Tie as tie
 

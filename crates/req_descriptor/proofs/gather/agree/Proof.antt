@@ -8,7 +8,7 @@ use borrow.Author.Tests.{not-true, not-false}
 use Rattle.req_descriptor.specs.Row.{isRow, endpointsOf}
 use Rattle.req_descriptor.specs.Endpoints.{listed, agree}
 use Rattle.req_descriptor.specs.Reading.{endpoints}
-use Rattle.req_descriptor.specs.Walk.{on, begins, agree-at, agree-over}
+use Rattle.req_descriptor.specs.WalkLaws.{on, begins, agree-at, agree-over}
 use Rattle.req_descriptor.proofs.gather.agree.Statement.{statement}
 use Rattle.req_descriptor.proofs.gather.agree.Tie as tie
 

@@ -1,6 +1,6 @@
 use mathlib.Core.Path.{sym, _∙_}
 use borrow.Author.Needs.{needs}
-use Rattle.req_descriptor.specs.Walk.{meant-endpoint}
+use Rattle.req_descriptor.specs.WalkLaws.{meant-endpoint}
 use Rattle.req_descriptor.proofs.gather.agrees.Statement.{statement}
 use Rattle.req_descriptor.proofs.gather.agrees.Tie as tie
 

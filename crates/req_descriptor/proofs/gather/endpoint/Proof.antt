@@ -1,5 +1,5 @@
 use borrow.Author.Needs.{needs}
-use Rattle.req_descriptor.specs.Walk.{endpoint-at}
+use Rattle.req_descriptor.specs.WalkLaws.{endpoint-at}
 use Rattle.req_descriptor.proofs.gather.endpoint.Statement.{statement}
 use Rattle.req_descriptor.proofs.gather.endpoint.Tie as tie
 

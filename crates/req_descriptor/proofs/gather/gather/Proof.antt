@@ -10,7 +10,7 @@ use Rattle.req_descriptor.specs.Row.{isRow, endpointsOf}
 use Rattle.req_descriptor.specs.Endpoints.{ofList, listed, gathered}
 use Rattle.req_descriptor.specs.Reading.{endpoints}
 use Rattle.req_descriptor.specs.Lists.{Tidy}
-use Rattle.req_descriptor.specs.Walk.{on, begins, gather-at, tidy-at, gather-over}
+use Rattle.req_descriptor.specs.WalkLaws.{on, begins, gather-at, tidy-at, gather-over}
 use Rattle.req_descriptor.proofs.gather.gather.Statement.{statement}
 use Rattle.req_descriptor.proofs.gather.gather.Tie as tie
 

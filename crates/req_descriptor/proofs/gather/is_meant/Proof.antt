@@ -1,6 +1,6 @@
 use borrow.Author.Needs.{needs}
 use borrow.Author.Tests.{not-true, not-false}
-use Rattle.req_descriptor.specs.Walk.{meant-at}
+use Rattle.req_descriptor.specs.WalkLaws.{meant-at}
 use Rattle.req_descriptor.proofs.gather.is_meant.Statement.{statement}
 use Rattle.req_descriptor.proofs.gather.is_meant.Tie as tie
 

@@ -2,7 +2,7 @@ use mathlib.Core.Path.{sym, _∙_}
 use native.Mathlib.Omega.{arith}
 use borrow.Author.Needs.{needs}
 use borrow.Author.Tests.{eqb-true}
-use Rattle.req_descriptor.specs.Walk.{setting-at}
+use Rattle.req_descriptor.specs.WalkLaws.{setting-at}
 use Rattle.req_descriptor.proofs.gather.setting.Statement.{statement}
 use Rattle.req_descriptor.proofs.gather.setting.Tie as tie
 

@@ -1,7 +1,7 @@
 use mathlib.Core.Path.{sym, _∙_}
 use borrow.Author.Needs.{needs}
-use Rattle.req_descriptor.specs.Lists.{place-few}
-use Rattle.req_descriptor.specs.Walk.{meant-endpoint, fine-at}
+use Rattle.req_descriptor.specs.ListsLaws.{place-few}
+use Rattle.req_descriptor.specs.WalkLaws.{meant-endpoint, fine-at}
 use Rattle.req_descriptor.proofs.gather.taken.Statement.{statement}
 use Rattle.req_descriptor.proofs.gather.taken.Tie as tie
 

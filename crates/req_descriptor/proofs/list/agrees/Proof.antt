@@ -3,7 +3,7 @@ use native.Mathlib.Omega.{arith}
 use lib.Seq.{getD-take}
 use borrow.Author.Needs.{needs}
 use Rattle.req_descriptor.specs.Endpoints.{none, listed}
-use Rattle.req_descriptor.specs.Lists.{tidy-count, agrees-found, agrees-new}
+use Rattle.req_descriptor.specs.ListsLaws.{tidy-count, agrees-found, agrees-new}
 use Rattle.req_descriptor.proofs.list.agrees.Statement.{statement}
 use Rattle.req_descriptor.proofs.list.agrees.Tie as tie
 

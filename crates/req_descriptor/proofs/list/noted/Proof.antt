@@ -1,6 +1,6 @@
 use native.Mathlib.Omega.{arith}
 use borrow.Author.Needs.{needs}
-use Rattle.req_descriptor.specs.Lists.{noted-there, noted-last}
+use Rattle.req_descriptor.specs.ListsLaws.{noted-there, noted-last}
 use Rattle.req_descriptor.proofs.list.noted.Statement.{statement}
 use Rattle.req_descriptor.proofs.list.noted.Tie as tie
 

@@ -5,7 +5,8 @@ use lib.ListN.{length, drop}
 use lib.Seq.{getD-take}
 use Rattle.req_descriptor.specs.declared.Endpoint.{Endpoint}
 use Rattle.req_descriptor.specs.Endpoints.{none, listed, placeOf}
-use Rattle.req_descriptor.specs.Lists.{Tidy, tidy-count, place-found, place-past, place-end}
+use Rattle.req_descriptor.specs.Lists.{Tidy}
+use Rattle.req_descriptor.specs.ListsLaws.{tidy-count, place-found, place-past, place-end}
 use Rattle.req_descriptor.proofs.list.place.Statement.{statement}
 use Rattle.req_descriptor.proofs.list.place.Tie as tie
 

@@ -1,7 +1,7 @@
 use denote.Ref.{now}
 use mathlib.Core.Path.{refl}
 use Rattle.machine.specs.Suspended.{machineOf, configOf}
-use Rattle.call_bus_time.specs.Sharing.{settles}
+use Rattle.call_bus_time.specs.SharingLaws.{settles}
 use Rattle.model.specs.Machine.{go}
 use borrow.Author.Needs.{needs}
 use Rattle.usbhs.proofs.proceeds.proceed.Statement.{statement}

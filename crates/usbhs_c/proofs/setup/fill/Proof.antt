@@ -1,4 +1,4 @@
-use Rattle.usbhs_c.specs.Setup.{over-all}
+use Rattle.usbhs_c.specs.SetupLaws.{over-all}
 use denote.Ref.{now}
 use mathlib.Core.Path.{_∙_}
 use borrow.Author.Needs.{needs}

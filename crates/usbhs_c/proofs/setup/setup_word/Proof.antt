@@ -1,4 +1,5 @@
-use Rattle.usbhs_c.specs.Setup.{take-nil, drop-nil, NoSlice}
+use Rattle.usbhs_c.specs.Setup.{NoSlice}
+use Rattle.usbhs_c.specs.SetupLaws.{take-nil, drop-nil}
 use mathlib.Core.Path.{_∙_, subst}
 use borrow.Author.Needs.{needs}
 use Rattle.usbhs_c.proofs.setup.setup_word.Statement.{statement}

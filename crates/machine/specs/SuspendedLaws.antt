@@ -1,0 +1,54 @@
+-- Laws on the definitions of Suspended.antt
+use mathlib.Core.Bool.{Bool}
+use mathlib.Core.List.{List, _++_}
+use mathlib.Core.Path.{_≡_, refl, ap}
+use Prim.Native.Nat.{ℕ, _*_}
+use Rattle.regs.specs.declared.Access.{Access}
+use Rattle.state.specs.declared.Saved.{Saved}
+use Rattle.state.specs.Driver.{Driver}
+use Rattle.state.specs.Fresh as fresh
+use Rattle.model.specs.Tree.{Out, ends, asks}
+use Rattle.model.specs.Script.{Script, _>>=_}
+use Rattle.model.specs.Answers.{Answer, Refused, End, NotYet, Done, Shown}
+use Rattle.model.specs.Calls.{Config, Op}
+use Rattle.model.specs.Machine as machine
+use Rattle.model.specs.Machine.{Buf, Way, Machine, Ans, Call}
+use Rattle.model_ops.specs.Rings.{St}
+use Rattle.driver.specs.Points as driver
+use Rattle.driver_codec.specs.Codec as codec
+use Rattle.driver_codec.specs.CodecLaws as codec-laws
+use Rattle.bus.specs.Points as bus
+use Rattle.bus.specs.Codec as busCodec
+use Rattle.bus.specs.CodecLaws as busCodec-laws
+use Rattle.endpoint_common.specs.Answers.{lentAfter}
+use Rattle.control.specs.Points as control
+use Rattle.control.specs.Codec as controlCodec
+use Rattle.control.specs.CodecLaws as controlCodec-laws
+use Rattle.endpoint.specs.Points as endpoint
+use Rattle.endpoint.specs.Codec as endpointCodec
+use Rattle.endpoint.specs.CodecLaws as endpointCodec-laws
+use Rattle.iso_in.specs.Advance as advance
+use Rattle.iso_in.specs.Codec as advanceCodec
+use Rattle.iso_in.specs.CodecLaws as advanceCodec-laws
+use Rattle.irq.specs.Points as handler
+use Rattle.irq_codec.specs.Codec as handlerCodec
+use Rattle.irq_codec.specs.CodecLaws as handlerCodec-laws
+use Rattle.machine.specs.declared.Suspended.{Suspended}
+use Rattle.machine.specs.declared.Suspended.the-variants as under
+use Rattle.machine.specs.declared.Step.{Step}
+use Rattle.machine.specs.declared.Step.the-variants as step
+use Rattle.machine.specs.Suspended.{encode, decode, halts, lentBy}
+
+pub decode-encode : (u : Suspended) → decode (encode u) ≡ u
+unfolding encode decode codec.decode busCodec.decode controlCodec.decode endpointCodec.decode advanceCodec.decode handlerCodec.decode
+decode-encode under.Idle = refl
+decode-encode (under.Driver p) = ap under.Driver (codec-laws.decode-encode p)
+decode-encode (under.Bus p) = ap under.Bus (busCodec-laws.decode-encode p)
+decode-encode (under.Control p) = ap under.Control (controlCodec-laws.decode-encode p)
+decode-encode (under.Endpoint p) = ap under.Endpoint (endpointCodec-laws.decode-encode p)
+decode-encode (under.Advance p) = ap under.Advance (advanceCodec-laws.decode-encode p)
+decode-encode (under.Interrupt p) = ap under.Interrupt (handlerCodec-laws.decode-encode p)
+
+pub lent-halts : (o : Out St Answer) (out : List ℕ) → lentBy (halts o .0) out ≡ lentAfter o out
+lent-halts (ends a s) out = refl
+lent-halts (asks q s k) out = refl

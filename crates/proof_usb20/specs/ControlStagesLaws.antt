@@ -1,0 +1,278 @@
+-- Laws on the definitions of ControlStages.antt
+use mathlib.Core.Logic.{inl, inr}
+use mathlib.Core.List.{List, [], _∷_}
+use mathlib.Core.Path.{_≡_, refl, sym, _∙_}
+use Prim.Native.Nat.{ℕ, zero}
+use Rattle.state.specs.Driver.{Driver}
+use Rattle.model.specs.Tree as tree
+use Rattle.model.specs.Script.{run}
+use Rattle.model.specs.Every as ways
+use Rattle.model.specs.EveryLaws as ways-laws
+use Rattle.model.specs.AddressWrites.{Writes}
+use Rattle.model.specs.AddressCalls.{Addresses}
+use Rattle.model.specs.AddressCallsLaws.{address-writes}
+use Rattle.model.specs.Answers.{Answer, Refused}
+use Rattle.model.specs.Calls.{Config, calls, startRow, Op, interrupt, slotted, other, aside, Slotted, SetEnabled, PollRead, BeginWrite, PollWrite, PollDataOut, BeginDataIn, Other, Allocate, AllocateAll, Start, BusPoll, BusEnable, BusDisable, Microframe, SetStalled, IsStalled, SetPaced, Advance, BeginRead, BeginSetup, PollSetup, PollDataIn, BeginAccept, PollAccept, BeginReject, BeginDataOut, BeginAcceptSetAddress, code}
+use Rattle.model.specs.Machine.{Buf, Event, Machine, start, started}
+use Rattle.machine.specs.Suspended.{driverOf}
+use Rattle.model_ops.specs.Rings.{St}
+use Rattle.model_ops.specs.Concrete.{concrete}
+use Rattle.proof_usb20.specs.Log.{Log, before, opens, closes, Brings, Armed, Fair, Allowed, Poll, none, begins, pollSetup, pollOut, pollIn, pollStatus, pollOf, FairPoll}
+use Rattle.proof_usb20.specs.Observer.{Observer, startedBy, Reads, All}
+use Rattle.proof_usb20.specs.Exempt.{differ}
+use Rattle.proof_usb20.specs.Watch.{at-end, at-ask}
+use Rattle.proof_usb20.specs.WatchLaws.{watch-more}
+use Rattle.proof_usb20.specs.Ep0.{View, view, R, Law}
+use Rattle.proof_usb20.specs.Runs.{Laws, Ups, from-start}
+use Rattle.proof_usb20.specs.Besides.{aside-wakes}
+use Rattle.proof_book.specs.Code.{Made}
+use Rattle.proof_book.specs.CodeReadings.{Steps}
+use Rattle.proof_usb20.specs.CodeRuns.{left, CodeReads, CodeMeaning, CodeAll, code-from-start}
+use Rattle.proof_usb20.specs.Stages.{law-data-out, law-data-in, law-accept, law-accept-address, law-reject, law-setup}
+use Rattle.proof_usb20.specs.Polls.{law-poll-setup, law-poll-data-out, law-poll-data-in, law-poll-accept}
+use Rattle.proof_usb20.specs.Serving.{law-interrupt}
+use Rattle.proof_usb20.specs.Switching.{law-set-enabled}
+use Rattle.proof_usb20.specs.Tasks.{law-begin-read, law-poll-read, law-begin-write, law-poll-write, law-allocate, law-allocate-all, law-start, law-bus-enable, law-bus-disable, law-microframe, law-is-stalled, law-set-paced, law-advance, law-aside, law-set-stalled, law-bus-poll, aside-view}
+use mathlib.Core.Bool.{Bool, true, false, cond}
+use Rattle.regs.specs.declared.Access.{Access}
+use Rattle.regs.specs.declared.Access.the-variants.{Read, Write, Receive, Transmit, Ep0Dma, Wait, Callback}
+use Rattle.regs.specs.declared.Reg.the-variants.{IntFg, IntSt, MisSt, FrameNo, EpRxCtrl, EpTxCtrl}
+use Rattle.model.specs.Every.{sameReg}
+use Rattle.model.specs.Answers.{End, Done}
+use Rattle.model.specs.Machine.{Call, begin, go, Ans, ended, idle}
+use Rattle.machine.specs.Suspended.{drive}
+use Prim.Native.Nat.{suc}
+use Rattle.proof_usb20.specs.Observer.{Watched, Under, at-rest, doing, starting, serves, noted}
+use Rattle.alloc.specs.Alloc as alloc-alloc
+use Rattle.alloc.specs.Buffer as alloc-buffer
+use Rattle.bits.specs.Bit as bits-bit
+use Rattle.bits.specs.Walk as bits-walk
+use Rattle.frame.specs.Usb20 as frame-usb20
+use Rattle.marks.specs.Copies as marks-copies
+use Rattle.model_ops.specs.Records as ops-records
+use Rattle.model_ops.specs.Rings as ops-rings
+use Rattle.regs.specs.ControlWord as regs-controlword
+use Rattle.regs.specs.Enables as regs-enables
+use Rattle.regs.specs.Registers as regs-registers
+use Rattle.regs.specs.Status as regs-status
+use Rattle.model.specs.Answers as script-answers
+use Rattle.model.specs.Calls as script-calls
+use Rattle.model.specs.Control as script-control
+use Rattle.model.specs.Handler as script-handler
+use Rattle.model.specs.IsoIn as script-isoin
+use Rattle.model.specs.IsoOut as script-isoout
+use Rattle.model.specs.Statics as script-statics
+use Rattle.state.specs.Driver as state-driver
+use Rattle.state.specs.Fresh as state-fresh
+use Rattle.state.specs.Wakes as state-wakes
+use Rattle.ring.specs.Slot as ring-slot
+use Rattle.proof_usb20.specs.ControlStages.{control}
+
+of-slotted : (o : Slotted) → Law (slotted o)
+of-slotted (SetEnabled d e on) = law-set-enabled d e on
+of-slotted (PollRead e n) = law-poll-read e n
+of-slotted (BeginWrite e bs) = law-begin-write e bs
+of-slotted (PollWrite e bs) = law-poll-write e bs
+of-slotted (PollDataOut n) = law-poll-data-out n
+of-slotted (BeginDataIn bs first last) = law-data-in bs first last
+
+of-other : (o : Other) → Law (other o)
+of-other (Allocate d kind address maximum interval) = law-allocate d kind address maximum interval
+of-other (AllocateAll bytes) = law-allocate-all bytes
+of-other (Start maximum) = law-start maximum
+of-other BusPoll = law-bus-poll
+of-other BusEnable = law-bus-enable
+of-other BusDisable = law-bus-disable
+of-other Microframe = law-microframe
+of-other (SetStalled d e on) = law-set-stalled d e on
+of-other (IsStalled d e) = law-is-stalled d e
+of-other (SetPaced e on) = law-set-paced e on
+of-other (Advance e) = law-advance e
+of-other (BeginRead e n) = law-begin-read e n
+of-other BeginSetup = law-setup
+of-other PollSetup = law-poll-setup
+of-other PollDataIn = law-poll-data-in
+of-other BeginAccept = law-accept
+of-other PollAccept = law-poll-accept
+of-other BeginReject = law-reject
+of-other (BeginDataOut n first) = law-data-out n first
+of-other (BeginAcceptSetAddress a) = law-accept-address a
+
+law-of : (o : Op) → Law o
+law-of interrupt = law-interrupt
+law-of (slotted o) = of-slotted o
+law-of (other o) = of-other o
+law-of (aside o) = law-aside o
+
+stands : (w : Log) (x : View) → R w x → Armed w
+stands w x (inl e) h = differ (sym h ∙ e)
+stands w x (inr r) h = (r .out .shows, r .inn .shows, r .size)
+
+-- before the first setup packet
+new : (out : tree.Out St Answer) → Ups control (λ s. R before (view (s .0))) out
+new (tree.ends a s) = at-end (inl refl)
+new (tree.asks q s k) = at-ask tt (λ v t b h. new (k v t))
+
+unlent : (o : Op) (w : Log) (x : View) → R w x → R (closes o (Refused 1) (opens o w)) x
+unlent interrupt w x r = r
+unlent (slotted o) w x r = r
+unlent (other o) w x r = r
+unlent (aside o) w x r = r
+
+fair-1 : (p : Poll) (w : Log) → FairPoll p (Refused 1) w
+fair-1 none w = tt
+fair-1 begins w = λ h. differ h
+fair-1 pollSetup w = tt
+fair-1 pollOut w = ((λ h. differ h, λ h. differ h), tt)
+fair-1 pollIn w = ((λ h. differ h, λ h. differ h), tt)
+fair-1 pollStatus w = ((λ h. differ h, λ h. differ h), tt, tt)
+
+pub laws : Laws control R
+laws = record {
+  stands = stands;
+  call = λ o w s r _ z. watch-more (law-of o w s r z) (λ x a t p. (p .0, λ _. p .1));
+  asks = λ o s. ways-laws.only-run concrete (code o) (address-writes o) tt s;
+  besides = λ o d b a t z h. (aside-view o d b a t z h, aside-wakes o d b a t h);
+  new = λ c b. new (run concrete (calls .starts c) (driverOf .fresh c, b));
+  unlent = unlent;
+  fair-1 = λ o w. fair-1 (pollOf o) w;
+}
+
+-- after each call: EP0's control words as last written say what USB 2.0's pipe says, a packet IN that is ready has its
+-- length, a poll is done exactly after the completion, "not yet" exactly before it, refused with 9 only after a setup
+-- packet, and the address is written after the status stage alone; but for the log's exemptions (Log.antt). `Reads`:
+-- EP0's control words read back as they were written
+pub control-stages : (c : Config) (b : Buf) → startRow c b ≡ zero
+    → (es : List (Event Config Op)) (m : Machine Answer Driver)
+    → let y = started calls driverOf (λ s. s) c zero m b in
+    Reads control es (y .1) (startedBy control (y .0)) → All control es (y .1) (startedBy control (y .0))
+control-stages c b row es m r = from-start control laws c b row es m (λ _ _ _. tt) r
+
+-- of the Rattle code: any bytes, a start-up that rows 1 and 2 do not stop, and then any calls, each as its contract
+-- says
+pub code-control-stages : (c : Config) (b : Buf) → startRow c b ≡ zero → (xs : List ℕ) (a : Buf) (first : Made)
+    → first .event ≡ record { call = start c; lent = b } → (ms : List Made)
+    → Steps xs a (first ∷ ms) → CodeReads control ms (startedBy control (first .answer))
+    → CodeAll control ms (startedBy control (first .answer))
+code-control-stages c b row xs a first e ms h r = code-from-start control laws c b row xs a first e ms h (meant ms (left first)) r
+  where
+    meant : (ms : List Made) (n : Machine Answer Driver) → CodeMeaning control n ms
+    meant [] n = tt
+    meant (m ∷ ms) n = (tt, meant ms (left m))
+
+-- ---- nothing of an ordinary transfer is exempt: calls with readings, computed by the check
+
+-- an operation; what is read if it is an interrupt: the flags, whether the bus is free, the status
+pub record Does : Type 0 where
+  pub op : Op
+  pub flags : ℕ
+  pub free : ℕ
+  pub status : ℕ
+
+abbrev does : Op → Does
+does o = record { op = o; flags = 0; free = 1; status = 0 }
+
+abbrev serving : ℕ → ℕ → ℕ → Does
+serving f b s = record { op = interrupt; flags = f; free = b; status = s }
+
+-- EP0's control words read back as they were written, the frame is 8
+abbrev reading : Does → Log → Access → ℕ
+reading x w (Read r e) = cond (sameReg r EpRxCtrl) (w .rx) (cond (sameReg r EpTxCtrl) (w .tx) (cond (sameReg r IntFg) (x .flags) (cond (sameReg r MisSt) (x .free) (cond (sameReg r IntSt) (x .status) (cond (sameReg r FrameNo) 8 0)))))
+reading x w (Write r e v) = 0
+reading x w (Receive e y) = 0
+reading x w (Transmit e y) = 0
+reading x w (Ep0Dma y) = 0
+reading x w (Wait n) = 0
+reading x w Callback = 0
+
+pub record Play : Type 0 where
+  pub machine : Machine Answer Driver
+  pub seen : Watched control
+  pub answer : Ans Answer
+
+abbrev called : Call Config Op → Play → Play
+called c p =
+    let y = drive c (p .machine) (p .machine .buf) in
+    record { machine = y .1; seen = noted control c (p .machine .buf) (y .0) (serves (y .1 .way)) (p .seen); answer = y .0 }
+
+-- so many continues at most
+abbrev on : ℕ → Does → Under → Play → Play
+on zero x u p = p
+on (suc n) x at-rest p = p
+on (suc n) x (doing o q) p = let r = called (go (reading x (p .seen .log) q)) p in on n x (r .seen .under) r
+on (suc n) x starting p = let r = called (go 0) p in on n x (r .seen .under) r
+
+abbrev done : Does → Play → Play
+done x p = let r = called (begin (x .op)) p in on 16 x (r .seen .under) r
+
+-- whether the log is exempt after each of the operations, and the last answer
+abbrev pub exempts : List Does → Play → List Bool
+exempts [] p = []
+exempts (x ∷ xs) p = let r = done x p in r .seen .log .exempt ∷ exempts xs r
+
+abbrev pub last : List Does → Play → Ans Answer
+last [] p = p .answer
+last (x ∷ xs) p = last xs (done x p)
+
+abbrev zeros : ℕ → List ℕ
+zeros zero = []
+zeros (suc n) = 0 ∷ zeros n
+
+abbrev config : Config
+config = record { size = 64; count = 1; callback = false }
+
+-- start-up, and EP0's start; eight bytes in EP0's slot
+abbrev pub up : Play
+up =
+    let y = drive (start config) (record { way = idle; st = driverOf .fresh config; buf = [] }) (1 ∷ 2 ∷ 3 ∷ 4 ∷ 5 ∷ 6 ∷ 7 ∷ 8 ∷ zeros 56) in
+    let p : Play = record { machine = y .1; seen = startedBy control (y .0); answer = y .0 } in
+    done (does (other (Start 64))) (on 16 (does (other (Start 64))) (p .seen .under) p)
+
+-- a setup packet, and its poll
+abbrev setting : List Does → List Does
+setting xs = serving 32 1 0 ∷ does (other BeginSetup) ∷ does (other PollSetup) ∷ xs
+
+pub data Transfer : Type 0 where
+  setup-alone control-read control-write hidden-write set-address : Transfer
+
+-- the status is of IN 0, or of OUT 0 with tog_ok; of the hidden packet OUT no interrupt tells, but
+-- the status stage's token IN while the bus is busy
+abbrev pub steps : Transfer → List Does
+steps setup-alone = setting []
+steps control-read = setting (does (slotted (BeginDataIn (1 ∷ 2 ∷ []) true true)) ∷ serving 2 1 32 ∷ does (other PollDataIn) ∷ serving 2 1 64 ∷ does (other PollDataIn) ∷ [])
+steps control-write = setting (does (other (BeginDataOut 64 true)) ∷ serving 2 1 64 ∷ does (slotted (PollDataOut 64)) ∷ does (other BeginAccept) ∷ serving 2 1 32 ∷ does (other PollAccept) ∷ [])
+steps hidden-write = setting (does (other (BeginDataOut 64 true)) ∷ serving 2 0 32 ∷ does (slotted (PollDataOut 64)) ∷ does (other BeginAccept) ∷ serving 2 1 32 ∷ does (other PollAccept) ∷ [])
+steps set-address = setting (does (other (BeginAcceptSetAddress 5)) ∷ serving 2 1 32 ∷ does (other PollAccept) ∷ [])
+
+abbrev pub none-of : List Does → List Bool
+none-of [] = []
+none-of (x ∷ xs) = false ∷ none-of xs
+
+abbrev pub answerOf : Transfer → Ans Answer
+answerOf setup-alone = ended (Done (1 ∷ 2 ∷ 3 ∷ 4 ∷ 5 ∷ 6 ∷ 7 ∷ 8 ∷ []))
+answerOf control-read = ended (Done [])
+answerOf control-write = ended (Done [])
+answerOf hidden-write = ended (Done [])
+answerOf set-address = ended (End 0 [])
+
+-- never exempt, and its last poll is done; a setup's gives the bytes of EP0's slot
+pub ordinary-run : (t : Transfer) → (exempts (steps t) up ≡ none-of (steps t)) × (last (steps t) up ≡ answerOf t)
+unfolding alloc-alloc.allocateEp0Of alloc-alloc.withNext alloc-alloc.taken alloc-alloc.slotsOf
+    alloc-buffer.goodBuffer alloc-buffer.goodSize alloc-buffer.fits bits-bit.isSet bits-bit.withBit
+    bits-walk.bitsFrom frame-usb20.indexOf frame-usb20.microframe frame-usb20.frameNumber frame-usb20.frameOf
+    marks-copies.copied ops-records.allocatedEp0 ops-records.startedWith ops-rings.wordAt ops-rings.filledEp0
+    ops-rings.placeOn regs-controlword.status regs-controlword.withToggle regs-controlword.toggle
+    regs-controlword.ack regs-controlword.withResponse regs-controlword.response regs-controlword.wordOf
+    regs-controlword.nakflip regs-controlword.nak regs-controlword.flip regs-enables.isOn regs-enables.inEnabled regs-enables.outEnabled
+    regs-registers.fitsIn regs-status.isIn regs-status.token regs-status.tokenNumbered
+    regs-status.endpoint regs-status.isOut regs-status.isSof script-calls.startRow script-control.setupBytes
+    script-handler.ownIn script-handler.looks script-handler.isoFor script-handler.inNaks script-handler.outNaks
+    script-handler.waitsForBulk script-handler.sameOut script-handler.waitsForIso script-isoin.sofWalk
+    script-isoin.lateWalk script-isoout.checkWalk script-statics.isOn script-statics.isoOuts
+    script-statics.isoInEvery state-driver.epOn state-driver.key state-driver.withOn state-fresh.freshDriver
+    state-fresh.noStamps state-fresh.filled state-wakes.woken state-wakes.listed state-wakes.wakeCode
+ordinary-run setup-alone = (refl, refl)
+ordinary-run control-read = (refl, refl)
+ordinary-run control-write = (refl, refl)
+ordinary-run hidden-write = (refl, refl)
+ordinary-run set-address = (refl, refl)
