@@ -1,6 +1,7 @@
--- Allocation of an endpoint number and its buffers, and of EP0's buffer (mod.rs 953-1043, 1144-1149; usb/mod.rs 19-42): what they
--- answer and the allocator afterwards, in the order of document 01's rows 6, 7, 8, and request Twelve's 22 before them. A refusal changes nothing: of an 8 the Rust keeps the
--- number and the buffers that were left. The accesses stand elsewhere.
+-- Allocation of an endpoint number and its buffers, and of EP0's buffer (mod.rs 953-1043, 1144-1149; usb/mod.rs 19-42):
+-- what they answer and the allocator afterwards, in the order of document 01's rows 6, 7, 8, and request Twelve's 22
+-- before them. A refusal changes nothing: of an 8 the Rust keeps the number and the buffers that were left. The
+-- accesses stand elsewhere.
 use mathlib.Core.Bool.{Bool, true, false, not}
 use Prim.Native.Nat.{ℕ, zero, suc, _+_, _*_, _/_, _%_}
 use lib.Dec.{eqb, leb, ltb}

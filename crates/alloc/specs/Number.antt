@@ -83,7 +83,8 @@ module _ (a : Allocator) (iso : Bool) (dir : Dir) where
       either (Lowest a iso dir e (suc left + e)) (isFree a iso dir e) _ _ (λ f j p q. absurd (omega arith))
       (λ n. earlier (suc left + e) e n (lowestOf a iso dir left (suc e)) (shifted (lowest-lowest left (suc e))))
     where
-      shifted : Lowest a iso dir (suc e) (left + suc e) (lowestOf a iso dir left (suc e)) → Lowest a iso dir (suc e) (suc left + e) (lowestOf a iso dir left (suc e))
+      shifted : Lowest a iso dir (suc e) (left + suc e) (lowestOf a iso dir left (suc e))
+          → Lowest a iso dir (suc e) (suc left + e) (lowestOf a iso dir left (suc e))
       shifted h = subst (λ (t : ℕ). Lowest a iso dir (suc e) t (lowestOf a iso dir left (suc e))) (omega arith) h
 
   -- without an address the lowest free of 1 to 15 is found, and none only where none of them is free

@@ -13,7 +13,8 @@ use Rattle.alloc.specs.declared.Found.{Found}
 use Rattle.alloc.specs.declared.Found.the-variants.{Number, Nothing}
 use Rattle.alloc.specs.declared.Answer.the-variants.{Given}
 use Rattle.alloc.specs.declared.Allocation.{Allocation}
-use Rattle.alloc.specs.Alloc.{if, takenIn, numsOf, allocatedIn, addTo, isOut, isIso, isFree, numberOf, slotsOf, taken, withAllocated, withNext, refused, bufferedOf, numberedOf, allocateOf}
+use Rattle.alloc.specs.Alloc.{if, takenIn, numsOf, allocatedIn, addTo, isOut, isIso, isFree, numberOf, slotsOf}
+use Rattle.alloc.specs.Alloc.{taken, withAllocated, withNext, refused, bufferedOf, numberedOf, allocateOf}
 use Rattle.alloc.specs.Number.{either, number-good}
 
 -- ---- the sets

@@ -1,5 +1,5 @@
--- Document 01's rows for an allocation and EP0's start: a refusal is 6, 7 or 8, of EP0's start 22, 6 or 8, and changes nothing; what is accepted has a maximum within
--- the buffer size. Assumes nothing.
+-- Document 01's rows for an allocation and EP0's start: a refusal is 6, 7 or 8, of EP0's start 22, 6 or 8, and changes
+-- nothing; what is accepted has a maximum within the buffer size. Assumes nothing.
 use mathlib.Core.Path.{_≡_, refl, sym, subst, _∙_}
 use Prim.Native.Nat.{ℕ, _+_, _≤_, _<_}
 use native.Mathlib.Omega.{arith}

@@ -92,7 +92,8 @@ puts-field (suc n) i j (suc k) w v e l b =
     let g : v * 2 ^ suc k ≡ v * 2 ^ k * 2 = ap (λ (y : ℕ). v * y) (pow-suc 2 k) ∙ sym (mul-assoc v (2 ^ k) 2) in
     let a = bitAnd w (outside (suc n) (suc k) j) in
     let s : a ≡ bitAnd (w / 2) (outside n k j) * 2 + w % 2 =
-    rw (outside-half n k j m, outside-odd n k j m) at (and-step w (outside (suc n) (suc k) j)) ∙ ap (λ (y : ℕ). bitAnd (w / 2) (outside n k j) * 2 + y) (odd w) in
+    rw (outside-half n k j m, outside-odd n k j m) at (and-step w (outside (suc n) (suc k) j))
+    ∙ ap (λ (y : ℕ). bitAnd (w / 2) (outside n k j) * 2 + y) (odd w) in
     step a (v * 2 ^ suc k) (bitAnd (w / 2) (outside n k j)) (v * 2 ^ k) s g
     ∙ ap (λ (y : ℕ). y * 2 + w % 2) (puts-field n i j k (w / 2) v (omega arith) (omega arith) b)
     ∙ last w x (field w (suc k) j * 2 ^ suc k) (v * 2 ^ k) (v * 2 ^ suc k) h f g

@@ -47,7 +47,8 @@ unfolding bitsFrom
 in-set zero i m x p = absurd p
 in-set (suc k) i m x p = go (m % 2) refl p (λ q. in-set k (suc i) (m / 2) x q)
   where
-    go : (d : ℕ) → m % 2 ≡ d → In x (consIf d i (bitsFrom k (suc i) (m / 2))) → (In x (bitsFrom k (suc i) (m / 2)) → (e : ℕ) × (e < k) × (x ≡ suc i + e) × (bit (m / 2) e ≡ 1))
+    go : (d : ℕ) → m % 2 ≡ d → In x (consIf d i (bitsFrom k (suc i) (m / 2)))
+        → (In x (bitsFrom k (suc i) (m / 2)) → (e : ℕ) × (e < k) × (x ≡ suc i + e) × (bit (m / 2) e ≡ 1))
         → (e : ℕ) × (e < suc k) × (x ≡ i + e) × (bit m e ≡ 1)
     go zero z p ih = let r = ih p in (suc (r .0), omega (arith, r .1), omega (arith, r .2), bit-suc m (r .0) ∙ r .3)
     go (suc d) z (inl q) ih = (zero, omega arith, omega arith, omega (arith, mod-lt m (pow-pos 1)))

@@ -146,7 +146,9 @@ afterPlaced e iso on = do
 -- n accesses of the row are left
 unfoldable pub switching : ℕ → Bool → ℕ → tree.Prog St ℕ
 switching e on zero t = run concrete (woken Out e) t
-switching e on (suc n) t = bindOut (bindOut (rows concrete (switch e on) n (λ u. run concrete (done {i = false}) u) t) (λ _ u. run concrete (wake {i = false} Out e) u)) (λ _ u. ends 0 u)
+switching e on (suc n) t = bindOut
+    (bindOut (rows concrete (switch e on) n (λ u. run concrete (done {i = false}) u) t) (λ _ u. run concrete (wake {i = false} Out e) u))
+    (λ _ u. ends 0 u)
 
 -- ---- points
 

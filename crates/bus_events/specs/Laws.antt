@@ -25,7 +25,8 @@ gap e h = omega arith
 over : (e : ℕ) → 15 ≤ e → 15 - e ≡ 0
 over e h = omega arith
 
-step : (n e : ℕ) (t : St) → naks (suc n) e t ≡ asks (Write EpTxCtrl e (wordOf NAK DATA0 false)) t (λ _ u. asks (Write EpRxCtrl e (wordOf NAK DATA0 false)) u (λ _ x. naks n (suc e) x))
+step : (n e : ℕ) (t : St) → naks (suc n) e t ≡ asks (Write EpTxCtrl e (wordOf NAK DATA0 false)) t
+    (λ _ u. asks (Write EpRxCtrl e (wordOf NAK DATA0 false)) u (λ _ x. naks n (suc e) x))
 unfolding nakAll
 step n e t = refl
 
@@ -33,5 +34,7 @@ pub nak-none : (e : ℕ) → 15 ≤ e → (t : St) → run concrete (nakAll {i =
 unfolding nakAll
 nak-none e h t = ap (λ (n : ℕ). naks n (suc e) t) (over e h)
 
-pub nak-more : (e : ℕ) → e < 15 → (t : St) → run concrete (nakAll {i = false} (15 - e) (suc e)) t ≡ asks (Write EpTxCtrl (e + 1) (wordOf NAK DATA0 false)) t (λ _ u. asks (Write EpRxCtrl (e + 1) (wordOf NAK DATA0 false)) u (λ _ x. run concrete (nakAll {i = false} (15 - (e + 1)) (suc (e + 1))) x))
+pub nak-more : (e : ℕ) → e < 15 → (t : St)
+    → run concrete (nakAll {i = false} (15 - e) (suc e)) t ≡ asks (Write EpTxCtrl (e + 1) (wordOf NAK DATA0 false)) t
+    (λ _ u. asks (Write EpRxCtrl (e + 1) (wordOf NAK DATA0 false)) u (λ _ x. run concrete (nakAll {i = false} (15 - (e + 1)) (suc (e + 1))) x))
 nak-more e h t = rw (add-one e) (ap (λ (n : ℕ). naks n (suc e) t) (gap e h) ∙ step (15 - suc e) (suc e) t)

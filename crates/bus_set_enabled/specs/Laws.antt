@@ -38,7 +38,8 @@ ring-emptied : (d : Driver) (dir : Dir) (e : ℕ) → isoOut d dir e ≡ false �
 unfolding emptiedOn
 ring-emptied d dir e h = rw h refl
 
-pub renew-both : (d : Driver) → Sized d → (dir : Dir) (e armed : ℕ) → isoOut d dir e ≡ false → renewedAs d dir e armed ≡ withOn d dir e (resetAs (epOn d dir e) armed)
+pub renew-both : (d : Driver) → Sized d → (dir : Dir) (e armed : ℕ)
+    → isoOut d dir e ≡ false → renewedAs d dir e armed ≡ withOn d dir e (resetAs (epOn d dir e) armed)
 renew-both d s dir e armed h =
     ap (λ (x : Driver). withOn x dir e (change (epOn x dir e) armed)) (ring-emptied d dir e h)
     ∙ (twice d dir e (emptied (epOn d dir e)) (change (epOn (withOn d dir e (emptied (epOn d dir e))) dir e) armed)
@@ -60,16 +61,19 @@ row-begun : (e : ℕ) (on : Bool) (d : Driver) (b : List ℕ) → go (chosen e o
 unfolding switching
 row-begun e on d b = refl
 
-pub enable-iso : (dir : Dir) (e : ℕ) (on : Bool) (d : Driver) (b : List ℕ) → dir ≡ Out → isoOut d Out e ≡ true → go (resultless (setEnabled dir e on)) d b ≡ switching e on 19 (d, b)
+pub enable-iso : (dir : Dir) (e : ℕ) (on : Bool) (d : Driver) (b : List ℕ)
+    → dir ≡ Out → isoOut d Out e ≡ true → go (resultless (setEnabled dir e on)) d b ≡ switching e on 19 (d, b)
 enable-iso dir e on d b p h = ap (λ (x : Dir). go (resultless (setEnabled x e on)) d b) p ∙ (asked e on d b true h ∙ row-begun e on d b)
 
-pub enable-out : (dir : Dir) (e : ℕ) (on : Bool) (d : Driver) (b : List ℕ) → dir ≡ Out → isoOut d Out e ≡ false → go (resultless (setEnabled dir e on)) d b ≡ go (enabledOut e on) d b
+pub enable-out : (dir : Dir) (e : ℕ) (on : Bool) (d : Driver) (b : List ℕ)
+    → dir ≡ Out → isoOut d Out e ≡ false → go (resultless (setEnabled dir e on)) d b ≡ go (enabledOut e on) d b
 enable-out dir e on d b p h = ap (λ (x : Dir). go (resultless (setEnabled x e on)) d b) p ∙ asked e on d b false h
 
 abbrev placed : ℕ → Bool → Bool → ℕ × Driver → List ℕ → tree.Out St ℕ
 placed e on iso p b = asks (Transmit e (p .0)) (p .1, b) (λ v t. denote (point.PlacedIn e iso on) v t)
 
-begun : (e : ℕ) (on : Bool) (d : Driver) (b : List ℕ) → placed e on (isOn (epOn d In e .iso)) (placeOn In e (withPacedOn (renewedAs d In e 0) e 0x1800)) b ≡ go (resultless (setEnabled In e on)) d b
+begun : (e : ℕ) (on : Bool) (d : Driver) (b : List ℕ) → placed e on (isOn (epOn d In e .iso))
+    (placeOn In e (withPacedOn (renewedAs d In e 0) e 0x1800)) b ≡ go (resultless (setEnabled In e on)) d b
 unfolding afterPlaced afterWords woken
 begun e on d b = refl
 

@@ -76,7 +76,8 @@ pub fn endpoint_set_enabled(
     e: u8,
     on: bool,
 ) -> Next
-    ensures { λ r. ⌜ meaning r (view (now (s .exit))) (now (buf .exit)) ≡ go (resultless (script.setEnabled dir e on)) (view (now (s .entry))) (now (buf .entry)) ⌝ }
+    ensures { λ r. ⌜ meaning r (view (now (s .exit))) (now (buf .exit))
+        ≡ go (resultless (script.setEnabled dir e on)) (view (now (s .entry))) (now (buf .entry)) ⌝ }
     ensures { λ _. ⌜ saved (now (s .exit)) ≡ saved (now (s .entry)) ⌝ }
     ensures { λ r. ⌜ Linked r ⌝ }
 {

@@ -59,7 +59,8 @@ abbrev refused : ℕ → Suspended → Driver → Buf → Called
 refused n u d b = (ended (Refused n), machineAt u d b)
 
 by-rows : (fits : Bool) (stop : ℕ) (named : Bool) (o : tree.Out St Answer) (u : Suspended) (d : Driver) (a b : Buf) → asksFirst o ≡ true
-    → answer (cond fits (cond (eqb stop 0) (cond named (halts o) (refused 5 u d b)) (refused stop u d b)) (refused 1 u d a)) ≡ cond fits (cond (eqb stop 0) named false) false
+    → answer (cond fits (cond (eqb stop 0) (cond named (halts o) (refused 5 u d b)) (refused stop u d b)) (refused 1 u d a))
+    ≡ cond fits (cond (eqb stop 0) named false) false
 by-rows false stop named o u d a b h = refl
 by-rows true stop named o u d a b h = go (eqb stop 0) named
   where
@@ -68,11 +69,13 @@ by-rows true stop named o u d a b h = go (eqb stop 0) named
     go true false = refl
     go true true = handed-first o ∙ h
 
-pub accepts-is : (dir : Dir) (e : ℕ) (on : Bool) (u : Suspended) (d : Driver) (a b : Buf) → isHanded (drive (begin (slotted (SetEnabled dir e on))) (machineAt u d a) b .0) ≡ accepts d u b dir e
+pub accepts-is : (dir : Dir) (e : ℕ) (on : Bool) (u : Suspended) (d : Driver) (a b : Buf)
+    → isHanded (drive (begin (slotted (SetEnabled dir e on))) (machineAt u d a) b .0) ≡ accepts d u b dir e
 unfolding accepts
 accepts-is dir e on u d a b =
     ap answer (named-call (SetEnabled dir e on) dir e (resultless (script.setEnabled dir e on)) u d a b refl)
-    ∙ by-rows (slotsFit d b) (stopOf (isIdle u) 2 (d .globals .stage)) (isAllocated (d .allocator) dir e) (run concrete (resultless (script.setEnabled dir e on)) (d, b)) u d a b (first-access dir e on d b)
+    ∙ by-rows (slotsFit d b) (stopOf (isIdle u) 2 (d .globals .stage)) (isAllocated (d .allocator) dir e)
+    (run concrete (resultless (script.setEnabled dir e on)) (d, b)) u d a b (first-access dir e on d b)
 
 -- ---- an endpoint's number counts modulo 16
 

@@ -10,7 +10,8 @@ use Rattle.req_bus_time.specs.Time.{entryOf}
 use Rattle.call_bus_time.specs.Sharing.{enabling, chargeOn, timeAfter}
 use Rattle.call_bus_time.specs.Charging.{chargedAt}
 
-pub charged-is : (i : ℕ) (dir : Dir) (e : ℕ) (a : Ans Answer) (d : Driver) (t : List ℕ) → chargedAt a (entryOf i dir e) (chargeOn d dir e) t ≡ timeAfter i (enabling dir e) a d t
+pub charged-is : (i : ℕ) (dir : Dir) (e : ℕ) (a : Ans Answer) (d : Driver) (t : List ℕ)
+    → chargedAt a (entryOf i dir e) (chargeOn d dir e) t ≡ timeAfter i (enabling dir e) a d t
 charged-is i dir e (ended a) d t = refl
 charged-is i dir e (handed q) d t = refl
 charged-is i dir e (told n) d t = refl

@@ -50,7 +50,8 @@ module _ (i : ℕ) (dir : Dir) (e : ℕ) (u : Suspended) (d : Driver) (a b : Buf
       settles i (begin (slotted (SetEnabled dir e true))) (machineAt u d a) t b y t (rw n refl) k (unchanged i (enabling dir e) (y .0) d t n)
 
   pub begun : (y : Called) (after : List ℕ) (k c : ℕ) → k ≡ entryOf i dir e → c ≡ chargeOn d dir e → passes t k c ≡ false
-      → y ≡ drive (begin (slotted (SetEnabled dir e true))) (machineAt u d a) b → after ≡ chargedAt (y .0) k c t → (y, after) ≡ sharedCall i (begin (slotted (SetEnabled dir e true))) (machineAt u d a) t b
+      → y ≡ drive (begin (slotted (SetEnabled dir e true))) (machineAt u d a) b → after ≡ chargedAt (y .0) k c t
+      → (y, after) ≡ sharedCall i (begin (slotted (SetEnabled dir e true))) (machineAt u d a) t b
   begun y after k c ek ec p q h =
       let z : passes t (entryOf i dir e) (chargeOn d dir e) ≡ false = sym (λ j. passes t (ek j) (ec j)) ∙ p in
       settles i (begin (slotted (SetEnabled dir e true))) (machineAt u d a) t b y after (rw z (and-false (isHanded (y .0)))) q

@@ -14,7 +14,10 @@ ghost use Rattle.machine.specs.Suspended.{machineOf, drive, answerOf, lentOr, B
 
 // `setup` (control.rs 70-80).
 pub fn begin_setup(s: &mut [u8; STATE_LEN]) -> Step
-    ensures { λ r. ⌜ ((a b : List ℕ) → (answerOf r [] (view (now (s .exit))), machineOf (now (s .exit)) b) ≡ drive (begin (other BeginSetup)) (machineOf (now (s .entry)) a) b) ⌝ }
+    ensures { λ r. ⌜ ((a b : List ℕ) → (
+      answerOf r [] (view (now (s .exit))),
+      machineOf (now (s .exit)) b,
+    ) ≡ drive (begin (other BeginSetup)) (machineOf (now (s .entry)) a) b) ⌝ }
     ensures { λ r. ⌜ SavedUnchangedOnRefusal r (now (s .entry)) (now (s .exit)) ⌝ }
 {
     if is_idle(s) {
@@ -26,7 +29,10 @@ pub fn begin_setup(s: &mut [u8; STATE_LEN]) -> Step
 
 // `data_out` (82-115), into a slice of n bytes.
 pub fn begin_data_out(s: &mut [u8; STATE_LEN], n: u32, first: bool) -> Step
-    ensures { λ r. ⌜ ((a b : List ℕ) → (answerOf r [] (view (now (s .exit))), machineOf (now (s .exit)) b) ≡ drive (begin (other (BeginDataOut n first))) (machineOf (now (s .entry)) a) b) ⌝ }
+    ensures { λ r. ⌜ ((a b : List ℕ) → (
+      answerOf r [] (view (now (s .exit))),
+      machineOf (now (s .exit)) b,
+    ) ≡ drive (begin (other (BeginDataOut n first))) (machineOf (now (s .entry)) a) b) ⌝ }
     ensures { λ r. ⌜ SavedUnchangedOnRefusal r (now (s .entry)) (now (s .exit)) ⌝ }
 {
     if is_idle(s) {
@@ -44,7 +50,10 @@ pub fn begin_data_in(
     first: bool,
     last: bool,
 ) -> Step
-    ensures { λ r. ⌜ ((a : List ℕ) → (answerOf r [] (view (now (s .exit))), machineOf (now (s .exit)) (lentOr (view (now (s .entry))) (now (slots .entry)) (now (slots .exit)) a)) ≡ drive (begin (slotted (BeginDataIn (now (bytes .entry)) first last))) (machineOf (now (s .entry)) a) (now (slots .entry))) ⌝ }
+    ensures { λ r. ⌜ ((a : List ℕ) → (
+      answerOf r [] (view (now (s .exit))),
+      machineOf (now (s .exit)) (lentOr (view (now (s .entry))) (now (slots .entry)) (now (slots .exit)) a),
+    ) ≡ drive (begin (slotted (BeginDataIn (now (bytes .entry)) first last))) (machineOf (now (s .entry)) a) (now (slots .entry))) ⌝ }
     ensures { λ _. ⌜ BufferUnchangedOnRow1 (view (now (s .entry))) (now (slots .entry)) (now (slots .exit)) ⌝ }
     ensures { λ r. ⌜ SavedUnchangedOnRefusal r (now (s .entry)) (now (s .exit)) ⌝ }
 {
@@ -60,7 +69,10 @@ pub fn begin_data_in(
 
 // `accept` (26-46, 163-166).
 pub fn begin_accept(s: &mut [u8; STATE_LEN]) -> Step
-    ensures { λ r. ⌜ ((a b : List ℕ) → (answerOf r [] (view (now (s .exit))), machineOf (now (s .exit)) b) ≡ drive (begin (other BeginAccept)) (machineOf (now (s .entry)) a) b) ⌝ }
+    ensures { λ r. ⌜ ((a b : List ℕ) → (
+      answerOf r [] (view (now (s .exit))),
+      machineOf (now (s .exit)) b,
+    ) ≡ drive (begin (other BeginAccept)) (machineOf (now (s .entry)) a) b) ⌝ }
     ensures { λ r. ⌜ SavedUnchangedOnRefusal r (now (s .entry)) (now (s .exit)) ⌝ }
 {
     if is_idle(s) {
@@ -72,7 +84,10 @@ pub fn begin_accept(s: &mut [u8; STATE_LEN]) -> Step
 
 // `accept_set_address` (179-186).
 pub fn begin_accept_set_address(s: &mut [u8; STATE_LEN], address: u32) -> Step
-    ensures { λ r. ⌜ ((a b : List ℕ) → (answerOf r [] (view (now (s .exit))), machineOf (now (s .exit)) b) ≡ drive (begin (other (BeginAcceptSetAddress address))) (machineOf (now (s .entry)) a) b) ⌝ }
+    ensures { λ r. ⌜ ((a b : List ℕ) → (
+      answerOf r [] (view (now (s .exit))),
+      machineOf (now (s .exit)) b,
+    ) ≡ drive (begin (other (BeginAcceptSetAddress address))) (machineOf (now (s .entry)) a) b) ⌝ }
     ensures { λ r. ⌜ SavedUnchangedOnRefusal r (now (s .entry)) (now (s .exit)) ⌝ }
 {
     if is_idle(s) {
@@ -84,7 +99,10 @@ pub fn begin_accept_set_address(s: &mut [u8; STATE_LEN], address: u32) -> Step
 
 // `reject` (168-177).
 pub fn begin_reject(s: &mut [u8; STATE_LEN]) -> Step
-    ensures { λ r. ⌜ ((a b : List ℕ) → (answerOf r [] (view (now (s .exit))), machineOf (now (s .exit)) b) ≡ drive (begin (other BeginReject)) (machineOf (now (s .entry)) a) b) ⌝ }
+    ensures { λ r. ⌜ ((a b : List ℕ) → (
+      answerOf r [] (view (now (s .exit))),
+      machineOf (now (s .exit)) b,
+    ) ≡ drive (begin (other BeginReject)) (machineOf (now (s .entry)) a) b) ⌝ }
     ensures { λ r. ⌜ SavedUnchangedOnRefusal r (now (s .entry)) (now (s .exit)) ⌝ }
 {
     if is_idle(s) {

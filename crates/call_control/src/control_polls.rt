@@ -15,7 +15,10 @@ ghost use Rattle.machine.specs.Suspended.{machineOf, drive, answerOf, lentOr, l
 
 // `setup` (control.rs 70-80).
 pub fn poll_setup(s: &mut [u8; STATE_LEN]) -> Step
-    ensures { λ r. ⌜ ((a b : List ℕ) → (answerOf r [] (view (now (s .exit))), machineOf (now (s .exit)) b) ≡ drive (begin (other PollSetup)) (machineOf (now (s .entry)) a) b) ⌝ }
+    ensures { λ r. ⌜ ((a b : List ℕ) → (
+      answerOf r [] (view (now (s .exit))),
+      machineOf (now (s .exit)) b,
+    ) ≡ drive (begin (other PollSetup)) (machineOf (now (s .entry)) a) b) ⌝ }
     ensures { λ r. ⌜ SavedUnchangedOnRefusal r (now (s .entry)) (now (s .exit)) ⌝ }
 {
     if is_idle(s) {
@@ -27,8 +30,12 @@ pub fn poll_setup(s: &mut [u8; STATE_LEN]) -> Step
 
 // `data_out` (82-115): the packet at the front of `out`.
 pub fn poll_data_out(s: &mut [u8; STATE_LEN], slots: &[u8], out: &mut [u8]) -> Step
-    ensures { λ r. ⌜ ((a : List ℕ) → (answerOf r (now (out .exit)) (view (now (s .exit))), machineOf (now (s .exit)) (lentOr (view (now (s .entry))) (now (slots .entry)) (now (slots .entry)) a)) ≡ drive (begin (slotted (PollDataOut (length (now (out .entry)))))) (machineOf (now (s .entry)) a) (now (slots .entry))) ⌝ }
-    ensures { λ _. ⌜ ((a : List ℕ) → now (out .exit) ≡ lentBy (drive (begin (slotted (PollDataOut (length (now (out .entry)))))) (machineOf (now (s .entry)) a) (now (slots .entry)) .0) (now (out .entry))) ⌝ }
+    ensures { λ r. ⌜ ((a : List ℕ) → (
+      answerOf r (now (out .exit)) (view (now (s .exit))),
+      machineOf (now (s .exit)) (lentOr (view (now (s .entry))) (now (slots .entry)) (now (slots .entry)) a),
+    ) ≡ drive (begin (slotted (PollDataOut (length (now (out .entry)))))) (machineOf (now (s .entry)) a) (now (slots .entry))) ⌝ }
+    ensures { λ _. ⌜ ((a : List ℕ) → now (out .exit) ≡ lentBy (drive (begin (slotted (PollDataOut (length (now (out .entry))))))
+        (machineOf (now (s .entry)) a) (now (slots .entry)) .0) (now (out .entry))) ⌝ }
     ensures { λ r. ⌜ SavedUnchangedOnRefusal r (now (s .entry)) (now (s .exit)) ⌝ }
 {
     if slots_fit(s, slots) {
@@ -43,7 +50,10 @@ pub fn poll_data_out(s: &mut [u8; STATE_LEN], slots: &[u8], out: &mut [u8]) -> S
 
 // `data_in` (117-161).
 pub fn poll_data_in(s: &mut [u8; STATE_LEN]) -> Step
-    ensures { λ r. ⌜ ((a b : List ℕ) → (answerOf r [] (view (now (s .exit))), machineOf (now (s .exit)) b) ≡ drive (begin (other PollDataIn)) (machineOf (now (s .entry)) a) b) ⌝ }
+    ensures { λ r. ⌜ ((a b : List ℕ) → (
+      answerOf r [] (view (now (s .exit))),
+      machineOf (now (s .exit)) b,
+    ) ≡ drive (begin (other PollDataIn)) (machineOf (now (s .entry)) a) b) ⌝ }
     ensures { λ r. ⌜ SavedUnchangedOnRefusal r (now (s .entry)) (now (s .exit)) ⌝ }
 {
     if is_idle(s) {
@@ -55,7 +65,10 @@ pub fn poll_data_in(s: &mut [u8; STATE_LEN]) -> Step
 
 // `accept` and `accept_set_address` (26-46).
 pub fn poll_accept(s: &mut [u8; STATE_LEN]) -> Step
-    ensures { λ r. ⌜ ((a b : List ℕ) → (answerOf r [] (view (now (s .exit))), machineOf (now (s .exit)) b) ≡ drive (begin (other PollAccept)) (machineOf (now (s .entry)) a) b) ⌝ }
+    ensures { λ r. ⌜ ((a b : List ℕ) → (
+      answerOf r [] (view (now (s .exit))),
+      machineOf (now (s .exit)) b,
+    ) ≡ drive (begin (other PollAccept)) (machineOf (now (s .entry)) a) b) ⌝ }
     ensures { λ r. ⌜ SavedUnchangedOnRefusal r (now (s .entry)) (now (s .exit)) ⌝ }
 {
     if is_idle(s) {

@@ -40,13 +40,16 @@ module _ (es : List Endpoint) (d : Driver) (b : Buf) (n : ℕ) (refusal : n ≡ 
   all-refused u i h = ends-idle u d b (Refused n) i ∙ sym (tried-as ∙ rw (ne-eqb n 0 h))
 
   given : n ≡ 0 → halts (bindOut (go (announceAll es) (withWakes (eachOn d es) none-woken) b) (λ k t. run concrete (finish k) t)) ≡ allocatedAll es d b
-  given h = sym (tried-as ∙ rw (eq-eqb n 0 h) (ap (λ (o : tree.Out St Unit). halts (bindOut o (λ _ t. run {i = false} concrete (operation (announceAll es)) t))) (each-run es d b)))
+  given h = sym (tried-as ∙ rw (eq-eqb n 0 h)
+      (ap (λ (o : tree.Out St Unit). halts (bindOut o (λ _ t. run {i = false} concrete (operation (announceAll es)) t))) (each-run es d b)))
 
   -- all are allocated, and no wake-up is gathered yet
-  pub all-given : (between after : Driver) (o : tree.Out St ℕ) → n ≡ 0 → o ≡ go (announceAll es) after b → after ≡ withWakes between none-woken → between ≡ eachOn d es
+  pub all-given : (between after : Driver) (o : tree.Out St ℕ)
+      → n ≡ 0 → o ≡ go (announceAll es) after b → after ≡ withWakes between none-woken → between ≡ eachOn d es
       → halts (bindOut o (λ k t. run concrete (finish k) t)) ≡ allocatedAll es d b
   all-given between after o h announced cleared each =
-      ap (λ (x : tree.Out St ℕ). halts (bindOut x (λ k t. run concrete (finish k) t))) (announced ∙ ap (λ (x : Driver). go (announceAll es) x b) (cleared ∙ ap (λ (x : Driver). withWakes x none-woken) each))
+      ap (λ (x : tree.Out St ℕ). halts (bindOut x (λ k t. run concrete (finish k) t)))
+      (announced ∙ ap (λ (x : Driver). go (announceAll es) x b) (cleared ∙ ap (λ (x : Driver). withWakes x none-woken) each))
       ∙ given h
 
 -- ---- the call
@@ -55,13 +58,18 @@ abbrev pub reading-all : List ℕ → Script false Answer
 reading-all bytes = allocate-read bytes (readingOf bytes .answer)
 
 module _ (u : Suspended) (d : Driver) (a b : Buf) (bytes : List ℕ) where
-  reads : Passes 1 u d → (x : reading-answer.Answer) → readingOf bytes .answer ≡ x → drive (begin (other (AllocateAll bytes))) (machineAt u d a) b ≡ halts (run {i = false} concrete (allocate-read bytes x) (d, b))
-  reads h x e = other-call (AllocateAll bytes) 1 (reading-all bytes) u d a b refl ∙ passed 1 u d b (reading-all bytes) h ∙ ap (λ (z : reading-answer.Answer). halts (run {i = false} concrete (allocate-read bytes z) (d, b))) e
+  reads : Passes 1 u d → (x : reading-answer.Answer) → readingOf bytes .answer ≡ x
+      → drive (begin (other (AllocateAll bytes))) (machineAt u d a) b ≡ halts (run {i = false} concrete (allocate-read bytes x) (d, b))
+  reads h x e = other-call (AllocateAll bytes) 1 (reading-all bytes) u d a b refl ∙ passed 1 u d b (reading-all bytes) h
+      ∙ ap (λ (z : reading-answer.Answer). halts (run {i = false} concrete (allocate-read bytes z) (d, b))) e
 
-  pub all-unread : (n : ℕ) → Passes 1 u d → readingOf bytes .answer ≡ reading.Refused n → (ended (Refused n), machineAt u d b) ≡ drive (begin (other (AllocateAll bytes))) (machineAt u d a) b
-  all-unread n h e = back (reads h (reading.Refused n) e) (ap (λ (w : Way Answer Driver). (ended (Refused n), record { way = w; st = d; buf = b })) (passed-idle 1 u d h))
+  pub all-unread : (n : ℕ) → Passes 1 u d → readingOf bytes .answer ≡ reading.Refused n
+      → (ended (Refused n), machineAt u d b) ≡ drive (begin (other (AllocateAll bytes))) (machineAt u d a) b
+  all-unread n h e = back (reads h (reading.Refused n) e)
+      (ap (λ (w : Way Answer Driver). (ended (Refused n), record { way = w; st = d; buf = b })) (passed-idle 1 u d h))
 
-  pub all-read : (es : List Endpoint) → Passes 1 u d → readingOf bytes .answer ≡ reading.Listed → es ≡ listOf bytes → allocatedAll es d b ≡ drive (begin (other (AllocateAll bytes))) (machineAt u d a) b
+  pub all-read : (es : List Endpoint) → Passes 1 u d → readingOf bytes .answer ≡ reading.Listed
+      → es ≡ listOf bytes → allocatedAll es d b ≡ drive (begin (other (AllocateAll bytes))) (machineAt u d a) b
   all-read es h e l = back (reads h reading.Listed e) (ap (λ (x : List Endpoint). allocatedAll x d b) l)
 
 -- no row: nothing was under way

@@ -17,7 +17,10 @@ ghost use Rattle.machine.specs.Suspended.{machineOf, drive, answerOf, SavedUnch
 
 // The current microframe number (mod.rs 236-238).
 pub fn begin_microframe(s: &mut [u8; STATE_LEN]) -> Step
-    ensures { λ r. ⌜ ((a b : List ℕ) → (answerOf r [] (view (now (s .exit))), machineOf (now (s .exit)) b) ≡ drive (begin (other Microframe)) (machineOf (now (s .entry)) a) b) ⌝ }
+    ensures { λ r. ⌜ ((a b : List ℕ) → (
+      answerOf r [] (view (now (s .exit))),
+      machineOf (now (s .exit)) b,
+    ) ≡ drive (begin (other Microframe)) (machineOf (now (s .entry)) a) b) ⌝ }
     ensures { λ r. ⌜ SavedUnchangedOnRefusal r (now (s .entry)) (now (s .exit)) ⌝ }
 {
     let n = stop(s, 2);
@@ -30,7 +33,10 @@ pub fn begin_microframe(s: &mut [u8; STATE_LEN]) -> Step
 
 // Whether advance moves the endpoint on (mod.rs 308-317).
 pub fn set_paced(s: &mut [u8; STATE_LEN], e: u32, on: bool) -> Step
-    ensures { λ r. ⌜ ((a b : List ℕ) → (answerOf r [] (view (now (s .exit))), machineOf (now (s .exit)) b) ≡ drive (begin (other (SetPaced e on))) (machineOf (now (s .entry)) a) b) ⌝ }
+    ensures { λ r. ⌜ ((a b : List ℕ) → (
+      answerOf r [] (view (now (s .exit))),
+      machineOf (now (s .exit)) b,
+    ) ≡ drive (begin (other (SetPaced e on))) (machineOf (now (s .entry)) a) b) ⌝ }
     ensures { λ _. ⌜ saved (now (s .exit)) ≡ saved (now (s .entry)) ⌝ }
 {
     let n = stop(s, 2);
@@ -46,7 +52,10 @@ pub fn set_paced(s: &mut [u8; STATE_LEN], e: u32, on: bool) -> Step
 
 // `iso_in_advance` (mod.rs 323-340).
 pub fn begin_advance(s: &mut [u8; STATE_LEN], e: u32) -> Step
-    ensures { λ r. ⌜ ((a b : List ℕ) → (answerOf r [] (view (now (s .exit))), machineOf (now (s .exit)) b) ≡ drive (begin (other (Advance e))) (machineOf (now (s .entry)) a) b) ⌝ }
+    ensures { λ r. ⌜ ((a b : List ℕ) → (
+      answerOf r [] (view (now (s .exit))),
+      machineOf (now (s .exit)) b,
+    ) ≡ drive (begin (other (Advance e))) (machineOf (now (s .entry)) a) b) ⌝ }
     ensures { λ r. ⌜ SavedUnchangedOnRefusal r (now (s .entry)) (now (s .exit)) ⌝ }
 {
     let n = stop(s, 2);
@@ -63,7 +72,10 @@ pub fn begin_advance(s: &mut [u8; STATE_LEN], e: u32) -> Step
 
 // `on_interrupt` (mod.rs 634-852).
 pub fn begin_interrupt(s: &mut [u8; STATE_LEN]) -> Step
-    ensures { λ r. ⌜ ((a b : List ℕ) → (answerOf r [] (view (now (s .exit))), machineOf (now (s .exit)) b) ≡ drive (begin interrupt) (machineOf (now (s .entry)) a) b) ⌝ }
+    ensures { λ r. ⌜ ((a b : List ℕ) → (
+      answerOf r [] (view (now (s .exit))),
+      machineOf (now (s .exit)) b,
+    ) ≡ drive (begin interrupt) (machineOf (now (s .entry)) a) b) ⌝ }
     ensures { λ r. ⌜ SavedUnchangedOnRefusal r (now (s .entry)) (now (s .exit)) ⌝ }
 {
     let n = stop(s, 2);

@@ -23,7 +23,10 @@ ghost use Rattle.call_driver.specs.Listed.{allocatedAll, previewed};
 // All or none, where nothing is under way: the refusal of the first that would be refused, or all allocated and the first announced.
 fn allocate_listed(s: &mut [u8; STATE_LEN], list: Endpoints) -> Step
     requires { ⌜ isIdle (decode (saved (now s))) ≡ true ⌝ }
-    ensures { λ r. ⌜ ((b : List ℕ) → (answerOf r [] (view (now (s .exit))), machineOf (now (s .exit)) b) ≡ allocatedAll (stored list) (view (now (s .entry))) b) ⌝ }
+    ensures { λ r. ⌜ ((b : List ℕ) → (
+      answerOf r [] (view (now (s .exit))),
+      machineOf (now (s .exit)) b,
+    ) ≡ allocatedAll (stored list) (view (now (s .entry))) b) ⌝ }
     ensures { λ r. ⌜ SavedUnchangedOnRefusal r (now (s .entry)) (now (s .exit)) ⌝ }
 {
     let t = req_preview::try_all(state::load_allocator(s), list);
@@ -38,7 +41,10 @@ fn allocate_listed(s: &mut [u8; STATE_LEN], list: Endpoints) -> Step
 
 // A descriptor's endpoints allocated in its order, or none: rows 3, 4, 17, 18, then 6, 7 or 8 of the first that would be refused.
 pub fn allocate_all(s: &mut [u8; STATE_LEN], bytes: &[u8]) -> Step
-    ensures { λ r. ⌜ ((a b : List ℕ) → (answerOf r [] (view (now (s .exit))), machineOf (now (s .exit)) b) ≡ drive (begin (other (AllocateAll (now (bytes .entry))))) (machineOf (now (s .entry)) a) b) ⌝ }
+    ensures { λ r. ⌜ ((a b : List ℕ) → (
+      answerOf r [] (view (now (s .exit))),
+      machineOf (now (s .exit)) b,
+    ) ≡ drive (begin (other (AllocateAll (now (bytes .entry))))) (machineOf (now (s .entry)) a) b) ⌝ }
     ensures { λ r. ⌜ SavedUnchangedOnRefusal r (now (s .entry)) (now (s .exit)) ⌝ }
 {
     let n = stop(s, 1);
@@ -72,7 +78,8 @@ fn unshown(row: u8) -> Shown
 
 // What allocating a descriptor's endpoints one by one would give, up to the first refusal: rows 3, 4, 17, 18 as above. The state is untouched.
 pub fn preview(s: &[u8; STATE_LEN], bytes: &[u8]) -> Shown
-    ensures { λ r. ⌜ r ≡ previewed (stopOf (isIdle (decode (saved (now (s .entry))))) 1 (view (now (s .entry)) .globals .stage)) (view (now (s .entry)) .allocator) (now (bytes .entry)) ⌝ }
+    ensures { λ r. ⌜ r ≡ previewed (stopOf (isIdle (decode (saved (now (s .entry))))) 1 (view (now (s .entry)) .globals .stage))
+        (view (now (s .entry)) .allocator) (now (bytes .entry)) ⌝ }
 {
     let n = stop(s, 1);
     if n == 0 {

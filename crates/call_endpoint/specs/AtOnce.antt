@@ -30,7 +30,9 @@ module _ (before after : List ℕ) (b : Buf) (o : Out St Answer) (r : Called) wh
   still-idle e i = ap (λ (x : Saved). isIdle (decode x)) e ∙ i
 
   -- a poll of a read or write
-  pub polled-idle : (step : Step) (n : Polled) (out : List ℕ) → ((u : Suspended) (d : Driver) (x s : List ℕ) → isIdle u ≡ true → (answerOf step x d, machineAt u d s) ≡ halts (endpoint.polledAs n x d s)) → saved after ≡ saved before → isIdle (decode (saved before)) ≡ true → endpoint.polledAs n out (view after) b ≡ o
+  pub polled-idle : (step : Step) (n : Polled) (out : List ℕ) → ((u : Suspended) (d : Driver) (x s : List ℕ)
+      → isIdle u ≡ true → (answerOf step x d, machineAt u d s) ≡ halts (endpoint.polledAs n x d s))
+      → saved after ≡ saved before → isIdle (decode (saved before)) ≡ true → endpoint.polledAs n out (view after) b ≡ o
       → (answerOf step out (view after), machineOf after b) ≡ unless-busy (isIdle (decode (saved before)))
   polled-idle step n out h e i q =
       h (decode (saved after)) (view after) out b (still-idle e i)
@@ -41,7 +43,8 @@ module _ (before after : List ℕ) (d : Driver) (c b : Buf) (o : Out St Answer) 
   abbrev unless-stopped : Bool → Called
   unless-stopped x = cond x (besides (decode (saved before)) d c o) r
 
-  pub told-beside : (step : Step) (p : Packet) → ((s : List ℕ) (x : Driver) → answerOf step s x ≡ ended (packets.answerOf p s)) → saved after ≡ saved before → mayPass (decode (saved before)) ≡ true → packets.answered p (view after) b ≡ o
+  pub told-beside : (step : Step) (p : Packet) → ((s : List ℕ) (x : Driver) → answerOf step s x ≡ ended (packets.answerOf p s))
+      → saved after ≡ saved before → mayPass (decode (saved before)) ≡ true → packets.answered p (view after) b ≡ o
       → (answerOf step b (view after), machineOf after b) ≡ unless-stopped (mayPass (decode (saved before)))
   told-beside step p h e i q =
       ap (λ (x : Ans Answer). (x, machineOf after b)) (h b (view after))

@@ -1,4 +1,5 @@
-// Packets in place: the calls without accesses, which pass while an interrupt is under way. Rows 4, 5 and 9 to 14 are those of `iso_out_open_close` and `iso_in_queue`. Of an answer that shows a packet the bytes are the slots'.
+// Packets in place: the calls without accesses, which pass while an interrupt is under way. Rows 4, 5 and 9 to 14 are
+// those of `iso_out_open_close` and `iso_in_queue`. Of an answer that shows a packet the bytes are the slots'.
 use iso_out_open_close::Packet;
 use machine::Step;
 use machine::saved::may_pass;
@@ -28,7 +29,10 @@ fn told(p: Packet) -> Step
 
 // `iso_out_take` (mod.rs 253-271), its first part.
 pub fn open(s: &mut [u8; STATE_LEN], slots: &[u8], e: u32) -> Step
-    ensures { λ r. ⌜ ((a : List ℕ) → (answerOf r (now (slots .entry)) (view (now (s .exit))), machineOf (now (s .exit)) (lentOr (view (now (s .entry))) (now (slots .entry)) (now (slots .entry)) a)) ≡ drive (begin (aside (Open e))) (machineOf (now (s .entry)) a) (now (slots .entry))) ⌝ }
+    ensures { λ r. ⌜ ((a : List ℕ) → (
+      answerOf r (now (slots .entry)) (view (now (s .exit))),
+      machineOf (now (s .exit)) (lentOr (view (now (s .entry))) (now (slots .entry)) (now (slots .entry)) a),
+    ) ≡ drive (begin (aside (Open e))) (machineOf (now (s .entry)) a) (now (slots .entry))) ⌝ }
     ensures { λ r. ⌜ ShownAt r (view (now (s .exit))) e ⌝ }
     ensures { λ _. ⌜ saved (now (s .exit)) ≡ saved (now (s .entry)) ⌝ }
 {
@@ -44,7 +48,10 @@ pub fn open(s: &mut [u8; STATE_LEN], slots: &[u8], e: u32) -> Step
 
 // And its last.
 pub fn close(s: &mut [u8; STATE_LEN], e: u32) -> Step
-    ensures { λ r. ⌜ ((a b : List ℕ) → (answerOf r b (view (now (s .exit))), machineOf (now (s .exit)) b) ≡ drive (begin (aside (Close e))) (machineOf (now (s .entry)) a) b) ⌝ }
+    ensures { λ r. ⌜ ((a b : List ℕ) → (
+      answerOf r b (view (now (s .exit))),
+      machineOf (now (s .exit)) b,
+    ) ≡ drive (begin (aside (Close e))) (machineOf (now (s .entry)) a) b) ⌝ }
     ensures { λ _. ⌜ saved (now (s .exit)) ≡ saved (now (s .entry)) ⌝ }
 {
     if may_pass(s) {
@@ -56,7 +63,10 @@ pub fn close(s: &mut [u8; STATE_LEN], e: u32) -> Step
 
 // `iso_in_prime` (342-395).
 pub fn queue(s: &mut [u8; STATE_LEN], slots: &mut [u8], e: u32, bytes: &[u8]) -> Step
-    ensures { λ r. ⌜ ((a : List ℕ) → (answerOf r (now (slots .exit)) (view (now (s .exit))), machineOf (now (s .exit)) (lentOr (view (now (s .entry))) (now (slots .entry)) (now (slots .exit)) a)) ≡ drive (begin (aside (Queue e (now (bytes .entry))))) (machineOf (now (s .entry)) a) (now (slots .entry))) ⌝ }
+    ensures { λ r. ⌜ ((a : List ℕ) → (
+      answerOf r (now (slots .exit)) (view (now (s .exit))),
+      machineOf (now (s .exit)) (lentOr (view (now (s .entry))) (now (slots .entry)) (now (slots .exit)) a),
+    ) ≡ drive (begin (aside (Queue e (now (bytes .entry))))) (machineOf (now (s .entry)) a) (now (slots .entry))) ⌝ }
     ensures { λ _. ⌜ BufferUnchangedOnRow1 (view (now (s .entry))) (now (slots .entry)) (now (slots .exit)) ⌝ }
     ensures { λ _. ⌜ saved (now (s .exit)) ≡ saved (now (s .entry)) ⌝ }
 {

@@ -16,7 +16,10 @@ ghost use Rattle.machine.specs.Suspended.{machineOf, drive, answerOf, lentOr, B
 
 // `read` (endpoint.rs 83-142), into a slice of n bytes.
 pub fn begin_read(s: &mut [u8; STATE_LEN], e: u32, n: u32) -> Step
-    ensures { λ r. ⌜ ((a b : List ℕ) → (answerOf r [] (view (now (s .exit))), machineOf (now (s .exit)) b) ≡ drive (begin (other (BeginRead e n))) (machineOf (now (s .entry)) a) b) ⌝ }
+    ensures { λ r. ⌜ ((a b : List ℕ) → (
+      answerOf r [] (view (now (s .exit))),
+      machineOf (now (s .exit)) b,
+    ) ≡ drive (begin (other (BeginRead e n))) (machineOf (now (s .entry)) a) b) ⌝ }
     ensures { λ r. ⌜ SavedUnchangedOnRefusal r (now (s .entry)) (now (s .exit)) ⌝ }
 {
     if is_idle(s) {
@@ -28,8 +31,12 @@ pub fn begin_read(s: &mut [u8; STATE_LEN], e: u32, n: u32) -> Step
 
 // The packet at the front of `out`.
 pub fn poll_read(s: &mut [u8; STATE_LEN], slots: &[u8], e: u32, out: &mut [u8]) -> Step
-    ensures { λ r. ⌜ ((a : List ℕ) → (answerOf r (now (out .exit)) (view (now (s .exit))), machineOf (now (s .exit)) (lentOr (view (now (s .entry))) (now (slots .entry)) (now (slots .entry)) a)) ≡ drive (begin (slotted (PollRead e (length (now (out .entry)))))) (machineOf (now (s .entry)) a) (now (slots .entry))) ⌝ }
-    ensures { λ _. ⌜ ((a : List ℕ) → now (out .exit) ≡ lentBy (drive (begin (slotted (PollRead e (length (now (out .entry)))))) (machineOf (now (s .entry)) a) (now (slots .entry)) .0) (now (out .entry))) ⌝ }
+    ensures { λ r. ⌜ ((a : List ℕ) → (
+      answerOf r (now (out .exit)) (view (now (s .exit))),
+      machineOf (now (s .exit)) (lentOr (view (now (s .entry))) (now (slots .entry)) (now (slots .entry)) a),
+    ) ≡ drive (begin (slotted (PollRead e (length (now (out .entry)))))) (machineOf (now (s .entry)) a) (now (slots .entry))) ⌝ }
+    ensures { λ _. ⌜ ((a : List ℕ) → now (out .exit) ≡ lentBy (drive (begin (slotted (PollRead e (length (now (out .entry))))))
+        (machineOf (now (s .entry)) a) (now (slots .entry)) .0) (now (out .entry))) ⌝ }
     ensures { λ r. ⌜ SavedUnchangedOnRefusal r (now (s .entry)) (now (s .exit)) ⌝ }
 {
     if slots_fit(s, slots) {
@@ -44,7 +51,10 @@ pub fn poll_read(s: &mut [u8; STATE_LEN], slots: &[u8], e: u32, out: &mut [u8]) 
 
 // `write` (146-194).
 pub fn begin_write(s: &mut [u8; STATE_LEN], slots: &mut [u8], e: u32, bytes: &[u8]) -> Step
-    ensures { λ r. ⌜ ((a : List ℕ) → (answerOf r [] (view (now (s .exit))), machineOf (now (s .exit)) (lentOr (view (now (s .entry))) (now (slots .entry)) (now (slots .exit)) a)) ≡ drive (begin (slotted (BeginWrite e (now (bytes .entry))))) (machineOf (now (s .entry)) a) (now (slots .entry))) ⌝ }
+    ensures { λ r. ⌜ ((a : List ℕ) → (
+      answerOf r [] (view (now (s .exit))),
+      machineOf (now (s .exit)) (lentOr (view (now (s .entry))) (now (slots .entry)) (now (slots .exit)) a),
+    ) ≡ drive (begin (slotted (BeginWrite e (now (bytes .entry))))) (machineOf (now (s .entry)) a) (now (slots .entry))) ⌝ }
     ensures { λ _. ⌜ BufferUnchangedOnRow1 (view (now (s .entry))) (now (slots .entry)) (now (slots .exit)) ⌝ }
     ensures { λ r. ⌜ SavedUnchangedOnRefusal r (now (s .entry)) (now (s .exit)) ⌝ }
 {
@@ -59,7 +69,10 @@ pub fn begin_write(s: &mut [u8; STATE_LEN], slots: &mut [u8], e: u32, bytes: &[u
 }
 
 pub fn poll_write(s: &mut [u8; STATE_LEN], slots: &mut [u8], e: u32, bytes: &[u8]) -> Step
-    ensures { λ r. ⌜ ((a : List ℕ) → (answerOf r [] (view (now (s .exit))), machineOf (now (s .exit)) (lentOr (view (now (s .entry))) (now (slots .entry)) (now (slots .exit)) a)) ≡ drive (begin (slotted (PollWrite e (now (bytes .entry))))) (machineOf (now (s .entry)) a) (now (slots .entry))) ⌝ }
+    ensures { λ r. ⌜ ((a : List ℕ) → (
+      answerOf r [] (view (now (s .exit))),
+      machineOf (now (s .exit)) (lentOr (view (now (s .entry))) (now (slots .entry)) (now (slots .exit)) a),
+    ) ≡ drive (begin (slotted (PollWrite e (now (bytes .entry))))) (machineOf (now (s .entry)) a) (now (slots .entry))) ⌝ }
     ensures { λ _. ⌜ BufferUnchangedOnRow1 (view (now (s .entry))) (now (slots .entry)) (now (slots .exit)) ⌝ }
     ensures { λ r. ⌜ SavedUnchangedOnRefusal r (now (s .entry)) (now (s .exit)) ⌝ }
 {

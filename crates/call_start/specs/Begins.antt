@@ -35,14 +35,18 @@ module _ (u : Suspended) (d : Driver) (a b : Buf) (dir : Dir) (kind address maxi
   abbrev allocated-to : alloc-answer.Answer → Called
   allocated-to z = halts (run {i = false} concrete (allocated-as dir kind maximum z) (allocatedOn d dir kind address maximum interval, b))
 
-  allocates : Passes 1 u d → drive (begin (other (Allocate dir kind address maximum interval))) (machineAt u d a) b ≡ allocated-to (allocateOf (d .allocator) kind address maximum dir .answer)
-  allocates h = other-call (Allocate dir kind address maximum interval) 1 (allocating dir kind address maximum interval) u d a b refl ∙ passed 1 u d b (allocating dir kind address maximum interval) h
+  allocates : Passes 1 u d → drive (begin (other (Allocate dir kind address maximum interval))) (machineAt u d a) b
+      ≡ allocated-to (allocateOf (d .allocator) kind address maximum dir .answer)
+  allocates h = other-call (Allocate dir kind address maximum interval) 1 (allocating dir kind address maximum interval) u d a b refl
+      ∙ passed 1 u d b (allocating dir kind address maximum interval) h
 
   pub allocate-begins :
       (e base slots : ℕ)
       → Passes 1 u d
       → allocateOf (d .allocator) kind address maximum dir .answer ≡ alloc.Given e base slots
-      → halts (bindOut (go (newEndpoint dir kind maximum e) (withWakes (allocatedOn d dir kind address maximum interval) none-woken) b) (λ k t. run concrete (finish k) t))
+      → halts
+      (bindOut (go (newEndpoint dir kind maximum e) (withWakes (allocatedOn d dir kind address maximum interval) none-woken) b)
+      (λ k t. run concrete (finish k) t))
       ≡ drive (begin (other (Allocate dir kind address maximum interval))) (machineAt u d a) b
   allocate-begins e base slots h given = back (allocates h) (ap allocated-to (sym given))
 
@@ -52,7 +56,8 @@ module _ (u : Suspended) (d : Driver) (a b : Buf) (dir : Dir) (kind address maxi
       → allocateOf (d .allocator) kind address maximum dir .answer ≡ alloc.Refused n
       → (ended (Refused n), machineAt u (allocatedOn d dir kind address maximum interval) b)
       ≡ drive (begin (other (Allocate dir kind address maximum interval))) (machineAt u d a) b
-  allocate-refused n h given = back (allocates h) (answered-idle 1 u d (allocatedOn d dir kind address maximum interval) b (Refused n) h ∙ ap allocated-to (sym given))
+  allocate-refused n h given = back (allocates h)
+      (answered-idle 1 u d (allocatedOn d dir kind address maximum interval) b (Refused n) h ∙ ap allocated-to (sym given))
 
 -- ---- EP0's start
 

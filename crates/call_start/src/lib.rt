@@ -25,7 +25,10 @@ pub fn allocate(
     maximum: u32,
     interval: u32,
 ) -> Step
-    ensures { λ r. ⌜ ((a b : List ℕ) → (answerOf r [] (view (now (s .exit))), machineOf (now (s .exit)) b) ≡ drive (begin (other (Allocate dir kind address maximum interval))) (machineOf (now (s .entry)) a) b) ⌝ }
+    ensures { λ r. ⌜ ((a b : List ℕ) → (
+      answerOf r [] (view (now (s .exit))),
+      machineOf (now (s .exit)) b,
+    ) ≡ drive (begin (other (Allocate dir kind address maximum interval))) (machineOf (now (s .entry)) a) b) ⌝ }
     ensures { λ r. ⌜ SavedUnchangedOnRefusal r (now (s .entry)) (now (s .exit)) ⌝ }
 {
     let n = stop(s, 1);
@@ -46,7 +49,10 @@ pub fn allocate(
 
 // EP0's start (mod.rs 1144-1178).
 pub fn start(s: &mut [u8; STATE_LEN], maximum: u32) -> Step
-    ensures { λ r. ⌜ ((a b : List ℕ) → (answerOf r [] (view (now (s .exit))), machineOf (now (s .exit)) b) ≡ drive (begin (other (Start maximum))) (machineOf (now (s .entry)) a) b) ⌝ }
+    ensures { λ r. ⌜ ((a b : List ℕ) → (
+      answerOf r [] (view (now (s .exit))),
+      machineOf (now (s .exit)) b,
+    ) ≡ drive (begin (other (Start maximum))) (machineOf (now (s .entry)) a) b) ⌝ }
     ensures { λ r. ⌜ SavedUnchangedOnRefusal r (now (s .entry)) (now (s .exit)) ⌝ }
 {
     let n = stop(s, 1);
@@ -82,7 +88,10 @@ pub fn start_up(
     count: u32,
     callback: bool,
 ) -> Step
-    ensures { λ r. ⌜ ((a : List ℕ) → (answerOf r [] (view (now (s .exit))), machineOf (now (s .exit)) (cond (eqb (startRow (configOf size count callback) (now (slots .entry))) 0) (now (slots .entry)) a)) ≡ drive (start (configOf size count callback)) (machineOf (now (s .entry)) a) (now (slots .entry))) ⌝ }
+    ensures { λ r. ⌜ ((a : List ℕ) → (
+      answerOf r [] (view (now (s .exit))),
+      machineOf (now (s .exit)) (cond (eqb (startRow (configOf size count callback) (now (slots .entry))) 0) (now (slots .entry)) a),
+    ) ≡ drive (start (configOf size count callback)) (machineOf (now (s .entry)) a) (now (slots .entry))) ⌝ }
     ensures { λ r. ⌜ SavedUnchangedOnRefusal r (now (s .entry)) (now (s .exit)) ⌝ }
 {
     if alloc::buffer::fits(slots.len() as u64, size, count) {

@@ -21,7 +21,10 @@ use Rattle.model.specs.Statics.{isOn, flag, withReady, withLen, withArmed, with
 use Rattle.model.specs.Tree.{ends}
 use Rattle.model.specs.Script.{ret}
 use Rattle.model.specs.Answers.{Refused, NotYet, Done}
-use Rattle.model.specs.Control.{SETUP, ACCEPT, DATA-OUT, DATA-IN, setupBytes, pollSetup, pollAccept, pollDataIn, pollDataOut, aborted-else, take-out, take-closing, take-in, requestOf, dataInOf, addressOf, no-control, beginAccept, beginAcceptSetAddress, beginReject, beginDataOut, beginDataIn}
+use Rattle.model.specs.Control.{SETUP, ACCEPT, DATA-OUT, DATA-IN, setupBytes, pollSetup, pollAccept, pollDataIn}
+use Rattle.model.specs.Control.{pollDataOut, aborted-else, take-out, take-closing, take-in, requestOf, dataInOf}
+use Rattle.model.specs.Control.{addressOf, no-control, beginAccept, beginAcceptSetAddress, beginReject, beginDataOut}
+use Rattle.model.specs.Control.{beginDataIn}
 use Rattle.model_ops.specs.Rings.{St, filledEp0}
 use Rattle.model_ops.specs.Concrete.{go}
 use Rattle.endpoint_common.specs.Records.{modifiedOn}
@@ -43,7 +46,8 @@ unfolding fitsAt
 ack-fits Out v h = h
 ack-fits In v h = h
 
-module _ (d d1 d2 d3 : Driver) (b : List ℕ) (h2 : d2 ≡ withWakes d1 none-woken) (h3 : d3 ≡ modifiedOn In 0 (withReady 0) d2) (s : eqb (d .globals .stage) 2 ≡ true)
+module _ (d d1 d2 d3 : Driver) (b : List ℕ) (h2 : d2 ≡ withWakes d1 none-woken)
+    (h3 : d3 ≡ modifiedOn In 0 (withReady 0) d2) (s : eqb (d .globals .stage) 2 ≡ true)
     (u : isOn (d .globals .«setup_ready») ≡ false) where
   pub accept-asks : d1 ≡ withControl d (requestOf ACCEPT 0) → begunAs (begun.Asks (Write EpTLen 0 0) point.StatusLen) d3 b ≡ go {i = false} beginAccept d b
   accept-asks h1 = rw (h3, h2, h1, s, u)
@@ -108,7 +112,8 @@ pub closing-now : (d d1 d2 d3 : Driver) (c : Control) (x : EpState) (r : Polled)
     → polledAs r [] d3 b ≡ go {i = false} (take-closing true c) d b
 closing-now d d1 d2 d3 c x r b e h1 h2 h3 u k = k d3 b ∙ rw (h3, h2, h1, e, u)
 
-pub closing-waits : (d d1 d2 : Driver) (c : Control) (b : List ℕ) → d1 ≡ modifiedOn In 0 (withReady 0) d → d2 ≡ withControl d1 (dataInOf (c .length) (c .last) 2)
+pub closing-waits : (d d1 d2 : Driver) (c : Control) (b : List ℕ)
+    → d1 ≡ modifiedOn In 0 (withReady 0) d → d2 ≡ withControl d1 (dataInOf (c .length) (c .last) 2)
     → isOn (epOn d Out 0 .ready) ≡ false → isOn (d .globals .«setup_ready») ≡ false → polledAs polled.NotYet [] d2 b ≡ go {i = false} (take-closing true c) d b
 closing-waits d d1 d2 c b h1 h2 u g = rw (h2, h1, u, g)
 

@@ -85,7 +85,8 @@ pub fn data_in(
     first: bool,
     last: bool,
 ) -> Begun
-    ensures { λ r. ⌜ begunAs r (view (now (s .exit))) (now (buf .exit)) ≡ go {i = false} (beginDataIn (now (bytes .entry)) first last) (view (now (s .entry))) (now (buf .entry)) ⌝ }
+    ensures { λ r. ⌜ begunAs r (view (now (s .exit))) (now (buf .exit))
+        ≡ go {i = false} (beginDataIn (now (bytes .entry)) first last) (view (now (s .entry))) (now (buf .entry)) ⌝ }
     ensures { λ _. ⌜ saved (now (s .exit)) ≡ saved (now (s .entry)) ⌝ }
     ensures { λ r. ⌜ LinkedBegun r ⌝ }
 {

@@ -185,8 +185,10 @@ pub fn poll_data_in(s: &mut [u8; STATE_LEN]) -> Polled
 
 // The packet out of EP0's slot, no longer than the slice.
 fn take_out(s: &mut [u8; STATE_LEN], buf: &[u8], out: &mut [u8]) -> Polled
-    ensures { λ r. ⌜ polledAs r (now (out .exit)) (view (now (s .exit))) (now (buf .entry)) ≡ go {i = false} (take-out (length (now (out .entry)))) (view (now (s .entry))) (now (buf .entry)) ⌝ }
-    ensures { λ _. ⌜ now (out .exit) ≡ lentAfter (go {i = false} (take-out (length (now (out .entry)))) (view (now (s .entry))) (now (buf .entry))) (now (out .entry)) ⌝ }
+    ensures { λ r. ⌜ polledAs r (now (out .exit)) (view (now (s .exit))) (now (buf .entry))
+        ≡ go {i = false} (take-out (length (now (out .entry)))) (view (now (s .entry))) (now (buf .entry)) ⌝ }
+    ensures { λ _. ⌜ now (out .exit)
+        ≡ lentAfter (go {i = false} (take-out (length (now (out .entry)))) (view (now (s .entry))) (now (buf .entry))) (now (out .entry)) ⌝ }
     ensures { λ _. ⌜ saved (now (s .exit)) ≡ saved (now (s .entry)) ⌝ }
     ensures { λ r. ⌜ LinkedPolled r ⌝ }
 {
@@ -207,8 +209,10 @@ fn take_out(s: &mut [u8; STATE_LEN], buf: &[u8], out: &mut [u8]) -> Polled
 
 // `data_out`, 82-115; the slice has its begin's length, else row 10.
 pub fn poll_data_out(s: &mut [u8; STATE_LEN], buf: &[u8], out: &mut [u8]) -> Polled
-    ensures { λ r. ⌜ polledAs r (now (out .exit)) (view (now (s .exit))) (now (buf .entry)) ≡ go {i = false} (pollDataOut (length (now (out .entry)))) (view (now (s .entry))) (now (buf .entry)) ⌝ }
-    ensures { λ _. ⌜ now (out .exit) ≡ lentAfter (go {i = false} (pollDataOut (length (now (out .entry)))) (view (now (s .entry))) (now (buf .entry))) (now (out .entry)) ⌝ }
+    ensures { λ r. ⌜ polledAs r (now (out .exit)) (view (now (s .exit))) (now (buf .entry))
+        ≡ go {i = false} (pollDataOut (length (now (out .entry)))) (view (now (s .entry))) (now (buf .entry)) ⌝ }
+    ensures { λ _. ⌜ now (out .exit) ≡ lentAfter
+        (go {i = false} (pollDataOut (length (now (out .entry)))) (view (now (s .entry))) (now (buf .entry))) (now (out .entry)) ⌝ }
     ensures { λ _. ⌜ saved (now (s .exit)) ≡ saved (now (s .entry)) ⌝ }
     ensures { λ r. ⌜ LinkedPolled r ⌝ }
 {

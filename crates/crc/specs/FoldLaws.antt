@@ -194,7 +194,8 @@ word-folds z words w hz even hw =
     let parity : odd x ≡ odd w = odd-sum .apart z w ∙ rw even in
     let apart : shifted 32 (bitXor (bitXor (settled z) weight) w) ≡ bitXor (bitXor (shifted 32 z) weight) (shifted 32 w) =
     shifted-sum 32 (bitXor (settled z) weight) w
-    ∙ ap (λ (y : ℕ). bitXor y (shifted 32 w)) (shifted-sum 32 (settled z) weight ∙ ap₂ bitXor (settled-shifts z hz) (weight-stays (odd words) (odd-lt words))) in
+    ∙ ap (λ (y : ℕ). bitXor y (shifted 32 w))
+    (shifted-sum 32 (settled z) weight ∙ ap₂ bitXor (settled-shifts z hz) (weight-stays (odd words) (odd-lt words))) in
     let moved : bitXor (bitXor (shifted 32 z) weight) (shifted 32 w) ≡ bitXor (shifted 32 x) weight =
     xor-assoc (shifted 32 z) weight (shifted 32 w)
     ∙ ap (λ (y : ℕ). bitXor (shifted 32 z) y) (xor-comm weight (shifted 32 w))

@@ -81,7 +81,8 @@ struct Sums {
 fn with_word(s: Sums, bytes: &[u8], i: usize) -> Sums
     requires { ⌜ (i + 3 < length (now bytes)) × Even (s .sum) ⌝ }
     ensures { λ r. ⌜ Even (r .sum) ⌝ }
-    ensures { λ r. ⌜ over (remainderOf (r .sum) (r .words)) (drop (i + 4) (now (bytes .entry))) ≡ over (remainderOf (s .sum) (s .words)) (drop i (now (bytes .entry))) ⌝ }
+    ensures { λ r. ⌜ over (remainderOf (r .sum) (r .words)) (drop (i + 4) (now (bytes .entry)))
+        ≡ over (remainderOf (s .sum) (s .words)) (drop i (now (bytes .entry))) ⌝ }
 {
     let next = word(bytes[i], bytes[i + 1], bytes[i + 2], bytes[i + 3]);
     Sums {

@@ -60,12 +60,16 @@ pub after-more : (left total : ℕ) (d : Driver) (b : List ℕ) (dir : Dir) (e :
 unfolding announceAfter endOn
 after-more left total d b dir e =
     let x = epOn d dir e .base + slotsOf (isIso (epOn d dir e .kind)) dir * d .allocator .size in
-    ap (λ (z : tree.Out St ℕ). bindOut z (λ o t. cond (eqb o 0) (bindOut (run concrete (beginsAt {i = false} In x 15 1) t) (λ n u. run concrete (announcing left total In n) u)) (run concrete (announcing left total Out o) t))) (begins-at d b Out x 15 1)
-    ∙ ap (λ (z : tree.Out St ℕ). cond (eqb (foundAt d Out x 15 1) 0) (bindOut z (λ n u. run concrete (announcing left total In n) u)) (On left total d b Out (foundAt d Out x 15 1))) (begins-at d b In x 15 1)
+    ap (λ (z : tree.Out St ℕ). bindOut z
+    (λ o t. cond (eqb o 0) (bindOut (run concrete (beginsAt {i = false} In x 15 1) t) (λ n u. run concrete (announcing left total In n) u))
+    (run concrete (announcing left total Out o) t))) (begins-at d b Out x 15 1)
+    ∙ ap (λ (z : tree.Out St ℕ). cond (eqb (foundAt d Out x 15 1) 0) (bindOut z (λ n u. run concrete (announcing left total In n) u))
+    (On left total d b Out (foundAt d Out x 15 1))) (begins-at d b In x 15 1)
 
 -- ---- by what the code found
 
-module _ (left total : ℕ) (d : Driver) (b : List ℕ) (dir : Dir) (e x o : ℕ) (some : left ≡ 0 → ⊥) (end : x ≡ endOn d dir e) (out : o ≡ foundAt d Out x 15 1) where
+module _ (left total : ℕ) (d : Driver) (b : List ℕ)
+    (dir : Dir) (e x o : ℕ) (some : left ≡ 0 → ⊥) (end : x ≡ endOn d dir e) (out : o ≡ foundAt d Out x 15 1) where
   more : go (following left total dir e) d b ≡ next-found (left - 1) total d b x o
   more =
       let s : left ≡ suc (left - 1) = omega arith in

@@ -25,7 +25,8 @@ use Rattle.model.specs.Cells.{EpCore}
 use Rattle.model.specs.Script.{ret}
 use Rattle.model.specs.Statics.{isOn, withReady, withArmed}
 use Rattle.model.specs.Answers.{Answer, Refused, NotYet, Done, isAllocated}
-use Rattle.model.specs.Endpoint.{begun, no-request, enabled-else, ends-request, tooLong, beginRead, pollRead, take-iso, take-ready, beginWrite, pollWrite, put-iso, sent-ready}
+use Rattle.model.specs.Endpoint.{begun, no-request, enabled-else, ends-request, tooLong, beginRead, pollRead, take-iso}
+use Rattle.model.specs.Endpoint.{take-ready, beginWrite, pollWrite, put-iso, sent-ready}
 use Rattle.model_ops.specs.Records.{plainOf}
 use Rattle.model_ops.specs.Rings.{St, waitingOn, roomOn, oldestAt, nextLen, oldestOn, takeOn, enqueueOn, filledOn}
 use Rattle.model_ops.specs.Concrete.{go}
@@ -67,7 +68,8 @@ module _ (d : Driver) (b : List ℕ) (e n : ℕ) (h : eqb (refusalOf d Out e) 0 
     pub read-short : ltb n (epOn d Out e .«max_len») ≡ true → begunAs (begun-as.Refused 10) d b ≡ go {i = false} (beginRead e n) d b
     read-short l = rw (started d Out e h, allocated d Out e h, o, l)
 
-    module _ (l : ltb n (epOn d Out e .«max_len») ≡ false) (d1 d2 : Driver) (h1 : d1 ≡ withRequestOn d Out e (begun n)) (h2 : d2 ≡ withWakes d1 none-woken) where
+    module _ (l : ltb n (epOn d Out e .«max_len») ≡ false)
+        (d1 d2 : Driver) (h1 : d1 ≡ withRequestOn d Out e (begun n)) (h2 : d2 ≡ withWakes d1 none-woken) where
       pub read-iso : isOn (epOn d Out e .iso) ≡ true → begunAs (begun-as.Ends 0) d2 b ≡ go {i = false} (beginRead e n) d b
       read-iso i = rw (h2, h1, started d Out e h, allocated d Out e h, o, l, i)
 
@@ -89,7 +91,8 @@ module _ (d : Driver) (b bytes : List ℕ) (e : ℕ) (h : eqb (refusalOf d In e)
     pub write-long : ltb (epOn d In e .«max_len») (length bytes) ≡ true → begunAs (begun-as.Refused 10) d b ≡ go {i = false} (beginWrite e bytes) d b
     write-long l = rw (started d In e h, allocated d In e h, o, l)
 
-    module _ (l : ltb (epOn d In e .«max_len») (length bytes) ≡ false) (n : ℕ) (k : n ≡ length bytes) (d1 d2 : Driver) (h1 : d1 ≡ withRequestOn d In e (begun n))
+    module _ (l : ltb (epOn d In e .«max_len») (length bytes) ≡ false)
+        (n : ℕ) (k : n ≡ length bytes) (d1 d2 : Driver) (h1 : d1 ≡ withRequestOn d In e (begun n))
         (h2 : d2 ≡ withWakes d1 none-woken) where
       pub write-iso : isOn (epOn d In e .iso) ≡ true → begunAs (begun-as.Ends 0) d2 b ≡ go {i = false} (beginWrite e bytes) d b
       write-iso i = rw (h2, h1, k, started d In e h, allocated d In e h, o, l, i)
@@ -188,7 +191,8 @@ module _ (d : Driver) (b out : List ℕ) (e n : ℕ) (h : eqb (refusalOf d Out e
   read-none q = refuses 15 d b out (go {i = false} (pollRead e n) d b) (rw (started d Out e h, allocated d Out e h, q))
 
   module _ (q : isOn (requestOn d Out e .begun) ≡ true) where
-    pub read-other : eqb (requestOn d Out e .length) n ≡ false → (d1 d2 : Driver) → d1 ≡ modifiedOn Out e (withReady 0) d → d2 ≡ withRequestOn d1 Out e no-request
+    pub read-other : eqb (requestOn d Out e .length) n ≡ false
+        → (d1 d2 : Driver) → d1 ≡ modifiedOn Out e (withReady 0) d → d2 ≡ withRequestOn d1 Out e no-request
         → Brought (polled-as.Refused 10) out d2 b out (go {i = false} (pollRead e n) d b)
     read-other l d1 d2 h1 h2 = refuses 10 d2 b out (go {i = false} (pollRead e n) d b) (rw (h2, h1, started d Out e h, allocated d Out e h, q, l))
 

@@ -90,8 +90,10 @@ fn shorter(len: u16, n: usize) -> u16
 
 // 96-113: drain the ring the interrupt fills.
 fn take_iso(s: &mut [u8; STATE_LEN], buf: &[u8], e: u8, out: &mut [u8]) -> Polled
-    ensures { λ r. ⌜ polledAs r (now (out .exit)) (view (now (s .exit))) (now (buf .entry)) ≡ go {i = false} (take-iso e (length (now (out .entry)))) (view (now (s .entry))) (now (buf .entry)) ⌝ }
-    ensures { λ _. ⌜ now (out .exit) ≡ lentAfter (go {i = false} (take-iso e (length (now (out .entry)))) (view (now (s .entry))) (now (buf .entry))) (now (out .entry)) ⌝ }
+    ensures { λ r. ⌜ polledAs r (now (out .exit)) (view (now (s .exit))) (now (buf .entry))
+        ≡ go {i = false} (take-iso e (length (now (out .entry)))) (view (now (s .entry))) (now (buf .entry)) ⌝ }
+    ensures { λ _. ⌜ now (out .exit)
+        ≡ lentAfter (go {i = false} (take-iso e (length (now (out .entry)))) (view (now (s .entry))) (now (buf .entry))) (now (out .entry)) ⌝ }
     ensures { λ _. ⌜ saved (now (s .exit)) ≡ saved (now (s .entry)) ⌝ }
 {
     if !is_enabled(s, Dir::Out, e) {
@@ -122,8 +124,10 @@ fn too_long(n: usize, r: EpState) -> bool
 
 // 125-141.
 fn take_ready(s: &mut [u8; STATE_LEN], buf: &[u8], e: u8, out: &mut [u8], r: EpState) -> Polled
-    ensures { λ x. ⌜ polledAs x (now (out .exit)) (view (now (s .exit))) (now (buf .entry)) ≡ go {i = false} (take-ready e (length (now (out .entry))) (plainOf r)) (view (now (s .entry))) (now (buf .entry)) ⌝ }
-    ensures { λ _. ⌜ now (out .exit) ≡ lentAfter (go {i = false} (take-ready e (length (now (out .entry))) (plainOf r)) (view (now (s .entry))) (now (buf .entry))) (now (out .entry)) ⌝ }
+    ensures { λ x. ⌜ polledAs x (now (out .exit)) (view (now (s .exit))) (now (buf .entry))
+        ≡ go {i = false} (take-ready e (length (now (out .entry))) (plainOf r)) (view (now (s .entry))) (now (buf .entry)) ⌝ }
+    ensures { λ _. ⌜ now (out .exit) ≡ lentAfter
+        (go {i = false} (take-ready e (length (now (out .entry))) (plainOf r)) (view (now (s .entry))) (now (buf .entry))) (now (out .entry)) ⌝ }
     ensures { λ _. ⌜ saved (now (s .exit)) ≡ saved (now (s .entry)) ⌝ }
 {
     if is_on(r.ready) {
@@ -143,8 +147,10 @@ fn take_ready(s: &mut [u8; STATE_LEN], buf: &[u8], e: u8, out: &mut [u8], r: EpS
 // Past rows 4 and 5; the slice has its begin's length, else row 10.
 fn take_read(s: &mut [u8; STATE_LEN], buf: &[u8], e: u8, out: &mut [u8]) -> Polled
     requires { ⌜ eqb (refusalOf (view (now s)) Out e) 0 ≡ true ⌝ }
-    ensures { λ r. ⌜ polledAs r (now (out .exit)) (view (now (s .exit))) (now (buf .entry)) ≡ go {i = false} (pollRead e (length (now (out .entry)))) (view (now (s .entry))) (now (buf .entry)) ⌝ }
-    ensures { λ _. ⌜ now (out .exit) ≡ lentAfter (go {i = false} (pollRead e (length (now (out .entry)))) (view (now (s .entry))) (now (buf .entry))) (now (out .entry)) ⌝ }
+    ensures { λ r. ⌜ polledAs r (now (out .exit)) (view (now (s .exit))) (now (buf .entry))
+        ≡ go {i = false} (pollRead e (length (now (out .entry)))) (view (now (s .entry))) (now (buf .entry)) ⌝ }
+    ensures { λ _. ⌜ now (out .exit)
+        ≡ lentAfter (go {i = false} (pollRead e (length (now (out .entry)))) (view (now (s .entry))) (now (buf .entry))) (now (out .entry)) ⌝ }
     ensures { λ _. ⌜ saved (now (s .exit)) ≡ saved (now (s .entry)) ⌝ }
 {
     let q = load_request(s, Dir::Out, e);
@@ -164,8 +170,10 @@ fn take_read(s: &mut [u8; STATE_LEN], buf: &[u8], e: u8, out: &mut [u8]) -> Poll
 }
 
 pub fn poll_read(s: &mut [u8; STATE_LEN], buf: &[u8], e: u32, out: &mut [u8]) -> Polled
-    ensures { λ r. ⌜ polledAs r (now (out .exit)) (view (now (s .exit))) (now (buf .entry)) ≡ go {i = false} (pollRead e (length (now (out .entry)))) (view (now (s .entry))) (now (buf .entry)) ⌝ }
-    ensures { λ _. ⌜ now (out .exit) ≡ lentAfter (go {i = false} (pollRead e (length (now (out .entry)))) (view (now (s .entry))) (now (buf .entry))) (now (out .entry)) ⌝ }
+    ensures { λ r. ⌜ polledAs r (now (out .exit)) (view (now (s .exit))) (now (buf .entry))
+        ≡ go {i = false} (pollRead e (length (now (out .entry)))) (view (now (s .entry))) (now (buf .entry)) ⌝ }
+    ensures { λ _. ⌜ now (out .exit)
+        ≡ lentAfter (go {i = false} (pollRead e (length (now (out .entry)))) (view (now (s .entry))) (now (buf .entry))) (now (out .entry)) ⌝ }
     ensures { λ _. ⌜ saved (now (s .exit)) ≡ saved (now (s .entry)) ⌝ }
 {
     let row = refusal(s, Dir::Out, e);

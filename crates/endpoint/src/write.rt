@@ -52,7 +52,8 @@ fn arm_in(s: &mut [u8; STATE_LEN], e: u8)
 // 147-180, past rows 4 and 5: an isochronous IN's packet is queued by the poll, any other's goes into its slot.
 fn start_write(s: &mut [u8; STATE_LEN], buf: &mut [u8], e: u8, bytes: &[u8]) -> Begun
     requires { ⌜ eqb (refusalOf (view (now s)) In e) 0 ≡ true ⌝ }
-    ensures { λ r. ⌜ begunAs r (view (now (s .exit))) (now (buf .exit)) ≡ go {i = false} (beginWrite e (now (bytes .entry))) (view (now (s .entry))) (now (buf .entry)) ⌝ }
+    ensures { λ r. ⌜ begunAs r (view (now (s .exit))) (now (buf .exit))
+        ≡ go {i = false} (beginWrite e (now (bytes .entry))) (view (now (s .entry))) (now (buf .entry)) ⌝ }
     ensures { λ _. ⌜ saved (now (s .exit)) ≡ saved (now (s .entry)) ⌝ }
     ensures { λ r. ⌜ LinkedBegun r ⌝ }
 {
@@ -75,7 +76,8 @@ fn start_write(s: &mut [u8; STATE_LEN], buf: &mut [u8], e: u8, bytes: &[u8]) -> 
 }
 
 pub fn begin_write(s: &mut [u8; STATE_LEN], buf: &mut [u8], e: u32, bytes: &[u8]) -> Begun
-    ensures { λ r. ⌜ begunAs r (view (now (s .exit))) (now (buf .exit)) ≡ go {i = false} (beginWrite e (now (bytes .entry))) (view (now (s .entry))) (now (buf .entry)) ⌝ }
+    ensures { λ r. ⌜ begunAs r (view (now (s .exit))) (now (buf .exit))
+        ≡ go {i = false} (beginWrite e (now (bytes .entry))) (view (now (s .entry))) (now (buf .entry)) ⌝ }
     ensures { λ _. ⌜ saved (now (s .exit)) ≡ saved (now (s .entry)) ⌝ }
     ensures { λ r. ⌜ LinkedBegun r ⌝ }
 {
@@ -88,7 +90,8 @@ pub fn begin_write(s: &mut [u8; STATE_LEN], buf: &mut [u8], e: u32, bytes: &[u8]
 
 // 157-171: queue it; wait while the ring is full.
 fn put_iso(s: &mut [u8; STATE_LEN], buf: &mut [u8], e: u8, bytes: &[u8]) -> Polled
-    ensures { λ r. ⌜ polledAs r [] (view (now (s .exit))) (now (buf .exit)) ≡ go {i = false} (put-iso e (now (bytes .entry))) (view (now (s .entry))) (now (buf .entry)) ⌝ }
+    ensures { λ r. ⌜ polledAs r [] (view (now (s .exit))) (now (buf .exit))
+        ≡ go {i = false} (put-iso e (now (bytes .entry))) (view (now (s .entry))) (now (buf .entry)) ⌝ }
     ensures { λ _. ⌜ saved (now (s .exit)) ≡ saved (now (s .entry)) ⌝ }
 {
     if !is_enabled(s, Dir::In, e) {
@@ -119,7 +122,8 @@ fn sent_ready(s: &mut [u8; STATE_LEN], e: u8, r: EpState) -> Polled
 // Past rows 4 and 5; the packet has its begin's length, else row 10.
 fn take_write(s: &mut [u8; STATE_LEN], buf: &mut [u8], e: u8, bytes: &[u8]) -> Polled
     requires { ⌜ eqb (refusalOf (view (now s)) In e) 0 ≡ true ⌝ }
-    ensures { λ r. ⌜ polledAs r [] (view (now (s .exit))) (now (buf .exit)) ≡ go {i = false} (pollWrite e (now (bytes .entry))) (view (now (s .entry))) (now (buf .entry)) ⌝ }
+    ensures { λ r. ⌜ polledAs r [] (view (now (s .exit))) (now (buf .exit))
+        ≡ go {i = false} (pollWrite e (now (bytes .entry))) (view (now (s .entry))) (now (buf .entry)) ⌝ }
     ensures { λ _. ⌜ saved (now (s .exit)) ≡ saved (now (s .entry)) ⌝ }
 {
     let q = load_request(s, Dir::In, e);
@@ -139,7 +143,8 @@ fn take_write(s: &mut [u8; STATE_LEN], buf: &mut [u8], e: u8, bytes: &[u8]) -> P
 }
 
 pub fn poll_write(s: &mut [u8; STATE_LEN], buf: &mut [u8], e: u32, bytes: &[u8]) -> Polled
-    ensures { λ r. ⌜ polledAs r [] (view (now (s .exit))) (now (buf .exit)) ≡ go {i = false} (pollWrite e (now (bytes .entry))) (view (now (s .entry))) (now (buf .entry)) ⌝ }
+    ensures { λ r. ⌜ polledAs r [] (view (now (s .exit))) (now (buf .exit))
+        ≡ go {i = false} (pollWrite e (now (bytes .entry))) (view (now (s .entry))) (now (buf .entry)) ⌝ }
     ensures { λ _. ⌜ saved (now (s .exit)) ≡ saved (now (s .entry)) ⌝ }
 {
     let row = refusal(s, Dir::In, e);

@@ -60,7 +60,11 @@ use Rattle.model_ops.specs.Records.{plainOf, merged, mergedGlobals}
 use Rattle.model_ops.specs.Rings.{St, wordAt}
 use Rattle.model_ops.specs.Concrete.{concrete}
 use Rattle.irq.specs.declared.Point.{Point}
-use Rattle.irq.specs.Continuations.{resultless, afterSetupReleased, afterSetupTx, finish, afterTransfer, afterCheck, afterDispatch, flipDone, passed, afterLate, afterSof, sofDue, serving, afterFrameNo, afterSettle, afterRelease, afterNak, naksFirst, enteredAs, afterLen, afterSt, afterMis, afterHost, afterFifo, afterSuspend, afterBusRst, afterFlags, afterFrame}
+use Rattle.irq.specs.Continuations.{resultless, afterSetupReleased, afterSetupTx, finish, afterTransfer}
+use Rattle.irq.specs.Continuations.{afterCheck, afterDispatch, flipDone, passed, afterLate, afterSof, sofDue}
+use Rattle.irq.specs.Continuations.{serving, afterFrameNo, afterSettle, afterRelease, afterNak, naksFirst}
+use Rattle.irq.specs.Continuations.{enteredAs, afterLen, afterSt, afterMis, afterHost, afterFifo, afterSuspend}
+use Rattle.irq.specs.Continuations.{afterBusRst, afterFlags, afterFrame}
 use Rattle.irq.specs.Points.{denote, fitsAt}
 
 -- ---- tests
@@ -108,19 +112,24 @@ pub after : {A : Type 0} (setup : Bool) (f : A → tree.Prog St Unit) (o o' : tr
 after setup f o o' h = ap (onward setup f) h
 
 module _ (setup : Bool) (f : Unit {0} → tree.Prog St Unit) (q : Access) (d : Driver) (b : List ℕ) where
-  pub nak-asks : (st : ℕ) (n : nak-next.NakNext) (p : nak-point.Nak) → n ≡ nak-to.Asks q p → asks q (d, b) (λ v t. onward setup f (nak.denote st p v t)) ≡ onward setup f (nak.meaning st n d b)
+  pub nak-asks : (st : ℕ) (n : nak-next.NakNext) (p : nak-point.Nak) → n ≡ nak-to.Asks q p
+      → asks q (d, b) (λ v t. onward setup f (nak.denote st p v t)) ≡ onward setup f (nak.meaning st n d b)
   nak-asks st n p h = ap (λ (m : nak-next.NakNext). onward setup f (nak.meaning st m d b)) (sym h)
 
-  pub sof-asks : (frame : ℕ) (n : sof-next.SofNext) (p : sof-point.Sof) → n ≡ sof-to.Asks q p → asks q (d, b) (λ v t. onward setup f (sof.denote frame p v t)) ≡ onward setup f (sof.meaning frame n d b)
+  pub sof-asks : (frame : ℕ) (n : sof-next.SofNext) (p : sof-point.Sof) → n ≡ sof-to.Asks q p
+      → asks q (d, b) (λ v t. onward setup f (sof.denote frame p v t)) ≡ onward setup f (sof.meaning frame n d b)
   sof-asks frame n p h = ap (λ (m : sof-next.SofNext). onward setup f (sof.meaning frame m d b)) (sym h)
 
-  pub late-asks : (frame : ℕ) (n : late-next.LateNext) (p : late-point.Late) → n ≡ late-to.Asks q p → asks q (d, b) (λ _ t. onward setup f (late.denote frame p t)) ≡ onward setup f (late.meaning frame n d b)
+  pub late-asks : (frame : ℕ) (n : late-next.LateNext) (p : late-point.Late) → n ≡ late-to.Asks q p
+      → asks q (d, b) (λ _ t. onward setup f (late.denote frame p t)) ≡ onward setup f (late.meaning frame n d b)
   late-asks frame n p h = ap (λ (m : late-next.LateNext). onward setup f (late.meaning frame m d b)) (sym h)
 
-  pub complete-asks : (n : complete-next.CompleteNext) (p : complete-point.Complete) → n ≡ complete-to.Asks q p → asks q (d, b) (λ _ t. onward setup f (complete.denote p t)) ≡ onward setup f (complete.meaning n d b)
+  pub complete-asks : (n : complete-next.CompleteNext) (p : complete-point.Complete) → n ≡ complete-to.Asks q p
+      → asks q (d, b) (λ _ t. onward setup f (complete.denote p t)) ≡ onward setup f (complete.meaning n d b)
   complete-asks n p h = ap (λ (m : complete-next.CompleteNext). onward setup f (complete.meaning m d b)) (sym h)
 
-  pub check-asks : (x : Transfer) (iso : Bool) (n : check-next.CheckNext) (p : check-point.Check) → n ≡ check-to.Asks q p → asks q (d, b) (λ v t. onward setup f (check.denote x iso p v t)) ≡ onward setup f (check.meaning x iso n d b)
+  pub check-asks : (x : Transfer) (iso : Bool) (n : check-next.CheckNext) (p : check-point.Check) → n ≡ check-to.Asks q p
+      → asks q (d, b) (λ v t. onward setup f (check.denote x iso p v t)) ≡ onward setup f (check.meaning x iso n d b)
   check-asks x iso n p h = ap (λ (m : check-next.CheckNext). onward setup f (check.meaning x iso m d b)) (sym h)
 
 module _ (setup : Bool) (f : Unit {0} → tree.Prog St Unit) (d : Driver) (b : List ℕ) where
@@ -136,44 +145,62 @@ module _ (setup : Bool) (f : Unit {0} → tree.Prog St Unit) (d : Driver) (b : L
   pub complete-ends : (n : complete-next.CompleteNext) → n ≡ complete-to.Ends → finish setup (f tt (d, b)) ≡ onward setup f (complete.meaning n d b)
   complete-ends n h = ap (λ (m : complete-next.CompleteNext). onward setup f (complete.meaning m d b)) (sym h)
 
-  pub check-ends : (x : Transfer) (iso : Bool) (n : check-next.CheckNext) → n ≡ check-to.Ends → finish setup (f tt (d, b)) ≡ onward setup f (check.meaning x iso n d b)
+  pub check-ends : (x : Transfer) (iso : Bool) (n : check-next.CheckNext)
+      → n ≡ check-to.Ends → finish setup (f tt (d, b)) ≡ onward setup f (check.meaning x iso n d b)
   check-ends x iso n h = ap (λ (m : check-next.CheckNext). onward setup f (check.meaning x iso m d b)) (sym h)
 
 module _ (setup : Bool) (f : Transfer → tree.Prog St Unit) (d : Driver) (b : List ℕ) (x : Transfer) (n : settle-next.SettleNext) where
-  pub settle-asks : (q : Access) (p : settle-point.Settle) → n ≡ settle-to.Asks q p → asks q (d, b) (λ v t. onward setup f (settle.denote x p v t)) ≡ onward setup f (settle.meaning x n d b)
+  pub settle-asks : (q : Access) (p : settle-point.Settle) → n ≡ settle-to.Asks q p
+      → asks q (d, b) (λ v t. onward setup f (settle.denote x p v t)) ≡ onward setup f (settle.meaning x n d b)
   settle-asks q p h = ap (λ (m : settle-next.SettleNext). onward setup f (settle.meaning x m d b)) (sym h)
 
   pub settle-ends : (y : Transfer) → n ≡ settle-to.Ends y → finish setup (f y (d, b)) ≡ onward setup f (settle.meaning x n d b)
   settle-ends y h = ap (λ (m : settle-next.SettleNext). onward setup f (settle.meaning x m d b)) (sym h)
 
 -- `toggled` in an arm: its own rest g, then f
-module _ (setup : Bool) (f : Unit {0} → tree.Prog St Unit) (g : Bool → tree.Prog St Unit) (d : Driver) (b : List ℕ) (dir : Dir) (ep : ℕ) (n : toggled-next.ToggledNext) where
-  pub toggled-asks : (q : Access) (p : toggled-point.Toggled) → n ≡ toggled-to.Asks q p → asks q (d, b) (λ v t. onward setup f (bindOut (toggled.denote dir ep p v t) g)) ≡ onward setup f (bindOut (toggled.meaning dir ep n d b) g)
+module _ (setup : Bool) (f : Unit {0} → tree.Prog St Unit)
+    (g : Bool → tree.Prog St Unit) (d : Driver) (b : List ℕ) (dir : Dir) (ep : ℕ) (n : toggled-next.ToggledNext) where
+  pub toggled-asks : (q : Access) (p : toggled-point.Toggled)
+      → n ≡ toggled-to.Asks q p → asks q (d, b) (λ v t. onward setup f (bindOut (toggled.denote dir ep p v t) g))
+      ≡ onward setup f (bindOut (toggled.meaning dir ep n d b) g)
   toggled-asks q p h = ap (λ (m : toggled-next.ToggledNext). onward setup f (bindOut (toggled.meaning dir ep m d b) g)) (sym h)
 
   pub toggled-ends : (y : Bool) → n ≡ toggled-to.Ends y → onward setup f (g y (d, b)) ≡ onward setup f (bindOut (toggled.meaning dir ep n d b) g)
   toggled-ends y h = ap (λ (m : toggled-next.ToggledNext). onward setup f (bindOut (toggled.meaning dir ep m d b) g)) (sym h)
 
 -- of the endpoint x that the status shows
-module _ (setup : Bool) (f : Unit {0} → tree.Prog St Unit) (g : Bool → tree.Prog St Unit) (dir : Dir) (e x : ℕ) (n : toggled-next.ToggledNext) (d : Driver) (b : List ℕ) (h : e ≡ x) where
-  pub toggled-on : (p : toggled-point.Toggled) (v : ℕ) (t : St) → toggled.meaning dir e n d b ≡ toggled.denote dir e p v t → onward setup f (bindOut (toggled.meaning dir x n d b) g) ≡ onward setup f (bindOut (toggled.denote dir x p v t) g)
-  toggled-on p v t k = subst (λ (z : ℕ). onward setup f (bindOut (toggled.meaning dir z n d b) g) ≡ onward setup f (bindOut (toggled.denote dir z p v t) g)) h (ap (λ (o : tree.Out St Bool). onward setup f (bindOut o g)) k)
+module _ (setup : Bool) (f : Unit {0} → tree.Prog St Unit) (g : Bool → tree.Prog St Unit)
+    (dir : Dir) (e x : ℕ) (n : toggled-next.ToggledNext) (d : Driver) (b : List ℕ) (h : e ≡ x) where
+  pub toggled-on : (p : toggled-point.Toggled) (v : ℕ) (t : St) → toggled.meaning dir e n d b ≡ toggled.denote dir e p v t
+      → onward setup f (bindOut (toggled.meaning dir x n d b) g) ≡ onward setup f (bindOut (toggled.denote dir x p v t) g)
+  toggled-on p v t k = subst
+      (λ (z : ℕ). onward setup f (bindOut (toggled.meaning dir z n d b) g) ≡ onward setup f (bindOut (toggled.denote dir z p v t) g)) h
+      (ap (λ (o : tree.Out St Bool). onward setup f (bindOut o g)) k)
 
-  pub toggled-from : toggled.meaning dir e n d b ≡ run concrete (script.toggled {i = true} dir e) (d, b) → onward setup f (bindOut (toggled.meaning dir x n d b) g) ≡ onward setup f (bindOut (run concrete (script.toggled {i = true} dir x) (d, b)) g)
-  toggled-from k = subst (λ (z : ℕ). onward setup f (bindOut (toggled.meaning dir z n d b) g) ≡ onward setup f (bindOut (run concrete (script.toggled {i = true} dir z) (d, b)) g)) h (ap (λ (o : tree.Out St Bool). onward setup f (bindOut o g)) k)
+  pub toggled-from : toggled.meaning dir e n d b ≡ run concrete (script.toggled {i = true} dir e) (d, b)
+      → onward setup f (bindOut (toggled.meaning dir x n d b) g)
+      ≡ onward setup f (bindOut (run concrete (script.toggled {i = true} dir x) (d, b)) g)
+  toggled-from k = subst
+      (λ (z : ℕ). onward setup f (bindOut (toggled.meaning dir z n d b) g) ≡ onward setup f
+      (bindOut (run concrete (script.toggled {i = true} dir z) (d, b)) g)) h (ap (λ (o : tree.Out St Bool). onward setup f (bindOut o g)) k)
 
-pub passed-at : (F : tree.Out St Unit → tree.Out St ℕ) (dir : Dir) (e x len : ℕ) (t : St) → e ≡ x → F (run concrete (passed dir e len) t) ≡ F (run concrete (passed dir x len) t)
+pub passed-at : (F : tree.Out St Unit → tree.Out St ℕ) (dir : Dir) (e x len : ℕ) (t : St)
+    → e ≡ x → F (run concrete (passed dir e len) t) ≡ F (run concrete (passed dir x len) t)
 passed-at F dir e x len t h = ap (λ (z : ℕ). F (run concrete (passed dir z len) t)) h
 
 -- ---- what a match told
 
-pub passed-known : (o : tree.Out St Unit) (dir known : Dir) (ep len : ℕ) (t : St) → dir ≡ known → o ≡ run concrete (passed known ep len) t → o ≡ run concrete (passed dir ep len) t
+pub passed-known : (o : tree.Out St Unit) (dir known : Dir) (ep len : ℕ) (t : St)
+    → dir ≡ known → o ≡ run concrete (passed known ep len) t → o ≡ run concrete (passed dir ep len) t
 passed-known o dir known ep len t h k = k ∙ ap (λ (z : Dir). run concrete (passed z ep len) t) (sym h)
 
-pub flipped-known : (o : tree.Out St Unit) (dir known : Dir) (len : ℕ) (t : St) → dir ≡ known → o ≡ run concrete (flipDone known len) t → o ≡ run concrete (flipDone dir len) t
+pub flipped-known : (o : tree.Out St Unit) (dir known : Dir) (len : ℕ) (t : St)
+    → dir ≡ known → o ≡ run concrete (flipDone known len) t → o ≡ run concrete (flipDone dir len) t
 flipped-known o dir known len t h k = k ∙ ap (λ (z : Dir). run concrete (flipDone z len) t) (sym h)
 
-pub dispatched : (F : tree.Out St Unit → tree.Out St ℕ) (x : Transfer) (iso : Bool) (frame : ℕ) (t : St) (k known shown : Token) → k ≡ known → k ≡ shown → F (run concrete (script.dispatch {i = true} known x iso frame) t) ≡ F (run concrete (script.dispatch {i = true} shown x iso frame) t)
+pub dispatched : (F : tree.Out St Unit → tree.Out St ℕ) (x : Transfer) (iso : Bool) (frame : ℕ) (t : St) (k known shown : Token)
+    → k ≡ known → k ≡ shown → F (run concrete (script.dispatch {i = true} known x iso frame) t)
+    ≡ F (run concrete (script.dispatch {i = true} shown x iso frame) t)
 dispatched F x iso frame t k known shown h l = ap (λ (z : Token). F (run concrete (script.dispatch {i = true} z x iso frame) t)) (sym h ∙ l)
 
 pub stands : (o : tree.Out St ℕ) (p known : Point) (v : ℕ) (t : St) → p ≡ known → o ≡ denote known v t → o ≡ denote p v t
@@ -184,10 +211,12 @@ stands o p known v t h k = k ∙ ap (λ (z : Point). denote z v t) (sym h)
 pub nak-linked : (n : nak-next.NakNext) (q : Access) (p : nak-point.Nak) → n ≡ nak-to.Asks q p → nak.Linked n → awaited q ≡ nak.awaitsAt p
 nak-linked n q p h k = subst nak.Linked h k
 
-pub settle-linked : (n : settle-next.SettleNext) (q : Access) (p : settle-point.Settle) → n ≡ settle-to.Asks q p → settle.Linked n → awaited q ≡ settle.awaitsAt p
+pub settle-linked : (n : settle-next.SettleNext) (q : Access) (p : settle-point.Settle)
+    → n ≡ settle-to.Asks q p → settle.Linked n → awaited q ≡ settle.awaitsAt p
 settle-linked n q p h k = subst settle.Linked h k
 
-pub toggled-linked : (n : toggled-next.ToggledNext) (q : Access) (p : toggled-point.Toggled) → n ≡ toggled-to.Asks q p → toggled.Linked n → awaited q ≡ toggled.awaitsAt p
+pub toggled-linked : (n : toggled-next.ToggledNext) (q : Access) (p : toggled-point.Toggled)
+    → n ≡ toggled-to.Asks q p → toggled.Linked n → awaited q ≡ toggled.awaitsAt p
 toggled-linked n q p h k = subst toggled.Linked h k
 
 pub sof-linked : (n : sof-next.SofNext) (q : Access) (p : sof-point.Sof) → n ≡ sof-to.Asks q p → sof.Linked n → awaited q ≡ sof.awaitsAt p
@@ -196,7 +225,8 @@ sof-linked n q p h k = subst sof.Linked h k
 pub late-linked : (n : late-next.LateNext) (q : Access) (p : late-point.Late) → n ≡ late-to.Asks q p → late.Linked n → awaited q ≡ late.awaitsAt p
 late-linked n q p h k = subst late.Linked h k
 
-pub complete-linked : (n : complete-next.CompleteNext) (q : Access) (p : complete-point.Complete) → n ≡ complete-to.Asks q p → complete.Linked n → awaited q ≡ complete.awaitsAt p
+pub complete-linked : (n : complete-next.CompleteNext) (q : Access) (p : complete-point.Complete)
+    → n ≡ complete-to.Asks q p → complete.Linked n → awaited q ≡ complete.awaitsAt p
 complete-linked n q p h k = subst complete.Linked h k
 
 pub check-linked : (n : check-next.CheckNext) (q : Access) (p : check-point.Check) → n ≡ check-to.Asks q p → check.Linked n → awaited q ≡ check.awaitsAt p
@@ -245,7 +275,8 @@ interrupt-begun t = refl
 
 -- the transfer flag; whether the setup's is set is known from here on
 module _ (f : ℕ) (setup : Bool) (d : Driver) (b : List ℕ) (h : setup ≡ setupAct f) where
-  pub host-transfer : transfer f ≡ true → asks (Read MisSt 0) (d, b) (λ v t. finish setup (run concrete (afterMis v) t)) ≡ run concrete (resultless (afterHost f)) (d, b)
+  pub host-transfer : transfer f ≡ true → asks (Read MisSt 0) (d, b) (λ v t. finish setup (run concrete (afterMis v) t))
+      ≡ run concrete (resultless (afterHost f)) (d, b)
   unfolding afterHost
   host-transfer k =
       ap (λ (z : Bool). asks (Read MisSt 0) (d, b) (λ v t. finish z (run concrete (afterMis v) t))) h
@@ -260,7 +291,9 @@ module _ (f : ℕ) (setup : Bool) (d : Driver) (b : List ℕ) (h : setup ≡ set
 
 -- the transfer is entered
 module _ (setup busy : Bool) (st v : ℕ) (y : Transfer) (d : Driver) (b : List ℕ) (h : y ≡ enteredAs busy st v) where
-  pub entered-nak : (n : nak-next.NakNext) → nak.meaning st n d b ≡ run concrete (nakNonIso {i = true} st) (d, b) → naksFirst busy st ≡ true → onward setup (λ _ u. run concrete (afterNak y) u) (nak.meaning (y .st) n d b) ≡ finish setup (run concrete (afterLen busy st v) (d, b))
+  pub entered-nak : (n : nak-next.NakNext) → nak.meaning st n d b ≡ run concrete (nakNonIso {i = true} st) (d, b)
+      → naksFirst busy st ≡ true → onward setup (λ _ u. run concrete (afterNak y) u) (nak.meaning (y .st) n d b)
+      ≡ finish setup (run concrete (afterLen busy st v) (d, b))
   unfolding afterLen
   entered-nak n k l =
       ap (λ (z : Transfer). onward setup (λ _ u. run concrete (afterNak z) u) (nak.meaning (z .st) n d b)) h
@@ -278,7 +311,8 @@ endpoint-small : (st : ℕ) → endpoint st % 16 ≡ endpoint st
 unfolding endpoint
 endpoint-small st = omega arith
 
-pub paced-told : (g g' : Globals) (e st : ℕ) (r a : Bool) → r ≡ isSet (g .«iso_in_paced») (e % 16) → g ≡ g' → e ≡ endpoint st → r ≡ a → isSet (g' .«iso_in_paced») (endpoint st) ≡ a
+pub paced-told : (g g' : Globals) (e st : ℕ) (r a : Bool) → r ≡ isSet (g .«iso_in_paced») (e % 16)
+    → g ≡ g' → e ≡ endpoint st → r ≡ a → isSet (g' .«iso_in_paced») (endpoint st) ≡ a
 paced-told g g' e st r a h k l m =
     ap (isSet (g' .«iso_in_paced»)) (sym (endpoint-small st))
     ∙ (ap (λ (z : ℕ). isSet (g' .«iso_in_paced») (z % 16)) (sym l)
@@ -289,20 +323,25 @@ module _ (F : tree.Out St Unit → tree.Out St ℕ) (d y : Driver) (b : List ℕ
   abbrev counted : ℕ → Bool → Driver → tree.Out St ℕ
   counted e first z = F (cond first (run concrete (isoInComplete {i = true} e) (z, b)) (ends tt (z, b)))
 
-  reached : (e : ℕ) (first : Bool) → y ≡ framedOn d e frame → isFirst d e frame ≡ first → isSet (d .globals .«iso_in_paced») e ≡ false → counted e first y ≡ F (run concrete (isoInArm {i = true} e frame) (d, b))
+  reached : (e : ℕ) (first : Bool) → y ≡ framedOn d e frame → isFirst d e frame ≡ first
+      → isSet (d .globals .«iso_in_paced») e ≡ false → counted e first y ≡ F (run concrete (isoInArm {i = true} e frame) (d, b))
   unfolding framedOn isFirst
   reached e first h k l =
       ap (counted e first) h
       ∙ (ap (λ (z : Bool). counted e z (framedOn d e frame)) (sym k)
       ∙ ap (λ (z : Bool). F (cond z (ends tt (d, b)) (run concrete (firstInFrame {i = true} e frame >>= (λ x. when x (isoInComplete e))) (d, b)))) (sym l))
 
-  pub in-frame : (e st : ℕ) (first : Bool) → e ≡ endpoint st → y ≡ framedOn d e frame → isFirst d e frame ≡ first → isSet (d .globals .«iso_in_paced») (endpoint st) ≡ false → counted e first y ≡ F (run concrete (isoInArm {i = true} (endpoint st) frame) (d, b))
+  pub in-frame : (e st : ℕ) (first : Bool) → e ≡ endpoint st
+      → y ≡ framedOn d e frame → isFirst d e frame ≡ first → isSet (d .globals .«iso_in_paced») (endpoint st) ≡ false
+      → counted e first y ≡ F (run concrete (isoInArm {i = true} (endpoint st) frame) (d, b))
   in-frame e st first h k l m =
       reached e first k l (ap (isSet (d .globals .«iso_in_paced»)) h ∙ m)
       ∙ ap (λ (z : ℕ). F (run concrete (isoInArm {i = true} z frame) (d, b))) h
 
 -- EP0's IN, its toggle flipped
-pub flip-in : (d y : Driver) (b : List ℕ) (r : EpState) (len : ℕ) (dir : Dir) → r ≡ epOn d In 0 → y ≡ withOn d In 0 (merged r (withArmed 0 (plainOf r))) → dir ≡ In → run concrete (script.sent {i = true} 0) (y, b) ≡ run concrete (flipDone dir len) (d, b)
+pub flip-in : (d y : Driver) (b : List ℕ) (r : EpState) (len : ℕ) (dir : Dir)
+    → r ≡ epOn d In 0 → y ≡ withOn d In 0 (merged r (withArmed 0 (plainOf r)))
+    → dir ≡ In → run concrete (script.sent {i = true} 0) (y, b) ≡ run concrete (flipDone dir len) (d, b)
 flip-in d y b r len dir h k l =
     ap (λ (z : Driver). run concrete (script.sent {i = true} 0) (z, b)) k
     ∙ (ap (λ (z : EpState). run concrete (script.sent {i = true} 0) (withOn d In 0 (merged z (withArmed 0 (plainOf z))), b)) h

@@ -26,7 +26,11 @@ use Rattle.irq.specs.declared.Point.{Point}
 use Rattle.irq.specs.declared.Point.the-variants as point
 use Rattle.irq.specs.declared.Next.{Next}
 use Rattle.irq.specs.declared.Next.the-variants as next
-use Rattle.irq.specs.Continuations.{resultless, afterSetupReleased, afterSetupTx, afterSetupRx, finish, thenCheck, afterMovedWrote, afterMovedRead, afterCheck, afterDispatch, flipDone, afterFlip, afterToggled, afterLate, afterSof, afterFrameNo, afterSettle, afterRelease, afterNak, afterLen, afterSt, afterMis, afterHost, afterFifo, afterSuspend, afterBusRst, afterFlags, afterFrame}
+use Rattle.irq.specs.Continuations.{resultless, afterSetupReleased, afterSetupTx, afterSetupRx, finish, thenCheck}
+use Rattle.irq.specs.Continuations.{afterMovedWrote, afterMovedRead, afterCheck, afterDispatch, flipDone}
+use Rattle.irq.specs.Continuations.{afterFlip, afterToggled, afterLate, afterSof, afterFrameNo, afterSettle}
+use Rattle.irq.specs.Continuations.{afterRelease, afterNak, afterLen, afterSt, afterMis, afterHost, afterFifo}
+use Rattle.irq.specs.Continuations.{afterSuspend, afterBusRst, afterFlags, afterFrame}
 
 -- the operation: `on_interrupt`, 634-819, with the frame reading before it
 abbrev pub interrupt : Script true ℕ
@@ -51,7 +55,8 @@ denote (point.Late setup x iso frame p) v t = finish setup (bindOut (late.denote
 denote (point.SofArm setup x iso frame p) v t = thenCheck setup x iso (sof.denote frame p v t)
 denote (point.Flip d setup x iso) v t = thenCheck setup x iso (run concrete (afterFlip d (x .len) v) t)
 denote (point.Flipped d setup x iso) v t = thenCheck setup x iso (run concrete (flipDone d (x .len)) t)
-denote (point.Toggled d setup x iso p) v t = thenCheck setup x iso (bindOut (toggled.denote d (endpoint (x .st)) p v t) (λ b u. run concrete (afterToggled d x b) u))
+denote (point.Toggled d setup x iso p) v t =
+    thenCheck setup x iso (bindOut (toggled.denote d (endpoint (x .st)) p v t) (λ b u. run concrete (afterToggled d x b) u))
 denote (point.Completing setup x iso p) v t = thenCheck setup x iso (complete.denote p t)
 denote (point.Check setup x iso p) v t = finish setup (bindOut (check.denote x iso p v t) (λ _ u. run concrete (afterCheck x) u))
 denote (point.MovedRead d setup) v t = finish setup (run concrete (afterMovedRead d v) t)

@@ -99,7 +99,8 @@ fn checked(
     n: CheckNext,
 ) -> Step
     requires { ⌜ checks.Linked n ⌝ }
-    ensures { λ r. ⌜ Stops r (now (s .exit)) (now (buf .entry)) (finish setup (bindOut (checks.meaning x iso n (view (now (s .entry))) (now (buf .entry))) (λ _ u. run concrete (afterCheck x) u))) ⌝ }
+    ensures { λ r. ⌜ Stops r (now (s .exit)) (now (buf .entry))
+        (finish setup (bindOut (checks.meaning x iso n (view (now (s .entry))) (now (buf .entry))) (λ _ u. run concrete (afterCheck x) u))) ⌝ }
     ensures { λ r. ⌜ Stored r (now (s .exit)) ⌝ }
 {
     match n {

@@ -61,7 +61,8 @@ pub fn after_setup_rx(s: &mut [u8; STATE_LEN]) -> Step
 
 // EP0 in a direction: not ready, not armed.
 fn clear(s: &mut [u8; STATE_LEN], d: Dir)
-    ensures { λ _. ⌜ view (now (s .exit)) ≡ withOn (view (now (s .entry))) d 0 (merged (epOn (view (now (s .entry))) d 0) (withArmed 0 (withReady 0 (plainOf (epOn (view (now (s .entry))) d 0))))) ⌝ }
+    ensures { λ _. ⌜ view (now (s .exit)) ≡ withOn (view (now (s .entry))) d 0
+        (merged (epOn (view (now (s .entry))) d 0) (withArmed 0 (withReady 0 (plainOf (epOn (view (now (s .entry))) d 0))))) ⌝ }
     ensures { λ _. ⌜ saved (now (s .exit)) ≡ saved (now (s .entry)) ⌝ }
 {
     let mut r = load_ep(s, d, 0);
@@ -71,7 +72,8 @@ fn clear(s: &mut [u8; STATE_LEN], d: Dir)
 }
 
 fn keep(s: &mut [u8; STATE_LEN], low: u32, high: u32)
-    ensures { λ _. ⌜ view (now (s .exit)) ≡ withGlobals (view (now (s .entry))) (mergedGlobals (view (now (s .entry)) .globals) (withSetup 1 low high (view (now (s .entry)) .globals))) ⌝ }
+    ensures { λ _. ⌜ view (now (s .exit)) ≡ withGlobals (view (now (s .entry)))
+        (mergedGlobals (view (now (s .entry)) .globals) (withSetup 1 low high (view (now (s .entry)) .globals))) ⌝ }
     ensures { λ _. ⌜ saved (now (s .exit)) ≡ saved (now (s .entry)) ⌝ }
 {
     let mut g = load_globals(s);
@@ -83,7 +85,10 @@ fn keep(s: &mut [u8; STATE_LEN], low: u32, high: u32)
 
 // The packet is taken, EP0 is idle: what is left is the access that clears the flag.
 fn take(s: &mut [u8; STATE_LEN], buf: &[u8])
-    ensures { λ _. ⌜ asks (Access.Write Reg.IntFg 0 SETUP_ACT) (view (now (s .exit)), now (buf .entry)) (λ _ t. run concrete (resultless afterSetupReleased) t) ≡ run concrete (resultless afterSetupTx) (view (now (s .entry)), now (buf .entry)) ⌝ }
+    ensures { λ _. ⌜ asks (Access.Write Reg.IntFg 0 SETUP_ACT) (
+      view (now (s .exit)),
+      now (buf .entry),
+    ) (λ _ t. run concrete (resultless afterSetupReleased) t) ≡ run concrete (resultless afterSetupTx) (view (now (s .entry)), now (buf .entry)) ⌝ }
     ensures { λ _. ⌜ saved (now (s .exit)) ≡ saved (now (s .entry)) ⌝ }
 {
     let low = setup_word(s, buf, 0);

@@ -23,7 +23,9 @@ use Rattle.iso_out.specs.declared.Check.the-variants as check
 use Rattle.irq.specs.declared.Point.{Point}
 use Rattle.irq.specs.declared.Point.the-variants as point
 use Rattle.irq_codec.specs.declared.Numbers.{Numbers}
-use Rattle.irq_codec.specs.Codec.{dirAs, dirOf, nakAs, nakOf, settleAs, settleOf, toggledAs, toggledOf, completeAs, completeOf, sofAs, sofOf, lateAs, lateOf, checkAs, checkOf, encode, decode}
+use Rattle.irq_codec.specs.Codec.{dirAs, dirOf, nakAs, nakOf, settleAs, settleOf, toggledAs, toggledOf}
+use Rattle.irq_codec.specs.Codec.{completeAs, completeOf, sofAs, sofOf, lateAs, lateOf, checkAs, checkOf, encode}
+use Rattle.irq_codec.specs.Codec.{decode}
 
 -- ---- back
 
@@ -36,7 +38,9 @@ dir-back : (d : Dir) → dirOf (dirAs d) ≡ d
 dir-back Out = refl
 dir-back In = refl
 
-late-back : (setup : Bool) (x : Transfer) (iso : Bool) (frame m : ℕ) (q : Complete) → decode (encode (point.Late setup x iso frame (record { rest = m; completing = q }))) ≡ point.Late setup x iso frame (record { rest = m; completing = q })
+late-back : (setup : Bool) (x : Transfer) (iso : Bool) (frame m : ℕ) (q : Complete)
+    → decode (encode (point.Late setup x iso frame (record { rest = m; completing = q })))
+    ≡ point.Late setup x iso frame (record { rest = m; completing = q })
 unfolding encode decode lateAs lateOf completeAs completeOf
 late-back setup x iso frame m (complete.Sent e) = simp flag-back
 late-back setup x iso frame m (complete.Loaded e) = simp flag-back

@@ -13,7 +13,9 @@ use regs::Dir;
 use state::Saved;
 ghost use mathlib.Core.Path.{_≡_};
 ghost use Rattle.model.specs.Statics.{flag};
-ghost use Rattle.irq_codec.specs.Codec.{dirAs, dirOf, inner, none, onDir, nakAs, nakOf, settleAs, settleOf, toggledAs, toggledOf, completeAs, completeOf, sofAs, sofOf, lateAs, lateOf, checkAs, checkOf, code, early, bare, transferOf, encode, decode};
+ghost use Rattle.irq_codec.specs.Codec.{dirAs, dirOf, inner, none, onDir, nakAs, nakOf, settleAs, settleOf};
+ghost use Rattle.irq_codec.specs.Codec.{toggledAs, toggledOf, completeAs, completeOf, sofAs, sofOf, lateAs};
+ghost use Rattle.irq_codec.specs.Codec.{lateOf, checkAs, checkOf, code, early, bare, transferOf, encode, decode};
 
 // An inner point's numbers, with the isochronous flag or a status.
 pub struct Numbers {

@@ -75,7 +75,8 @@ fn after_settle(s: &mut [u8; STATE_LEN], setup: bool, x: Transfer) -> Step
 
 fn then_settle(s: &mut [u8; STATE_LEN], setup: bool, x: Transfer, n: SettleNext) -> Step
     requires { ⌜ settles.Linked n ⌝ }
-    ensures { λ r. ⌜ ((b : List ℕ) → Stops r (now (s .exit)) b (finish setup (bindOut (settles.meaning x n (view (now (s .entry))) b) (λ y u. run concrete (afterSettle y) u)))) ⌝ }
+    ensures { λ r. ⌜ ((b : List ℕ) → Stops r (now (s .exit)) b
+        (finish setup (bindOut (settles.meaning x n (view (now (s .entry))) b) (λ y u. run concrete (afterSettle y) u)))) ⌝ }
     ensures { λ r. ⌜ Stored r (now (s .exit)) ⌝ }
 {
     match n {
@@ -111,7 +112,8 @@ fn release(s: &mut [u8; STATE_LEN], setup: bool, x: Transfer) -> Step
 
 fn then_nak(s: &mut [u8; STATE_LEN], setup: bool, x: Transfer, n: NakNext) -> Step
     requires { ⌜ naks.Linked n ⌝ }
-    ensures { λ r. ⌜ ((b : List ℕ) → Stops r (now (s .exit)) b (finish setup (bindOut (naks.meaning (x .st) n (view (now (s .entry))) b) (λ _ u. run concrete (afterNak x) u)))) ⌝ }
+    ensures { λ r. ⌜ ((b : List ℕ) → Stops r (now (s .exit)) b
+        (finish setup (bindOut (naks.meaning (x .st) n (view (now (s .entry))) b) (λ _ u. run concrete (afterNak x) u)))) ⌝ }
     ensures { λ r. ⌜ Stored r (now (s .exit)) ⌝ }
 {
     match n {

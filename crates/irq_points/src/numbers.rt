@@ -12,7 +12,9 @@ use regs::Dir;
 use state::Saved;
 ghost use mathlib.Core.Path.{_≡_};
 ghost use Rattle.model.specs.Statics.{flag};
-ghost use Rattle.irq_codec.specs.Codec.{dirAs, dirOf, inner, none, onDir, nakAs, nakOf, settleAs, settleOf, toggledAs, toggledOf, completeAs, completeOf, sofAs, sofOf, lateAs, lateOf, checkAs, checkOf, code, early};
+ghost use Rattle.irq_codec.specs.Codec.{dirAs, dirOf, inner, none, onDir, nakAs, nakOf, settleAs, settleOf, toggledAs};
+ghost use Rattle.irq_codec.specs.Codec.{toggledOf, completeAs, completeOf, sofAs, sofOf, lateAs, lateOf, checkAs};
+ghost use Rattle.irq_codec.specs.Codec.{checkOf, code, early};
 
 fn dir_as(d: Dir) -> u8
     ensures { λ r. ⌜ r ≡ dirAs d ⌝ }

@@ -134,7 +134,8 @@ is-st c h = simp h
 pub on-st : (c : Saved) → c .tag ≡ 6 → c .site ≡ 7 → decode c ≡ under.Interrupt (point.St (isOn (c .flag)) (isOn (c .busy)))
 on-st c t h = at-interrupt c _ t (is-st c h)
 
-pub loaded-st : (c : Saved) (setup : Bool) (busy : Bool) → setup ≡ isOn (c .flag) → busy ≡ isOn (c .busy) → decode c ≡ under.Interrupt (point.St (isOn (c .flag)) (isOn (c .busy)))
+pub loaded-st : (c : Saved) (setup : Bool) (busy : Bool) → setup ≡ isOn (c .flag)
+    → busy ≡ isOn (c .busy) → decode c ≡ under.Interrupt (point.St (isOn (c .flag)) (isOn (c .busy)))
     → decode c ≡ under.Interrupt (point.St setup busy)
 loaded-st c setup busy e0 e1 p = p ∙ simp (e0, e1)
 
@@ -145,7 +146,8 @@ is-len c h = simp h
 pub on-len : (c : Saved) → c .tag ≡ 6 → c .site ≡ 8 → decode c ≡ under.Interrupt (point.Len (isOn (c .flag)) (isOn (c .busy)) (c .st))
 on-len c t h = at-interrupt c _ t (is-len c h)
 
-pub loaded-len : (c : Saved) (setup : Bool) (busy : Bool) (st : ℕ) → setup ≡ isOn (c .flag) → busy ≡ isOn (c .busy) → st ≡ c .st → decode c ≡ under.Interrupt (point.Len (isOn (c .flag)) (isOn (c .busy)) (c .st))
+pub loaded-len : (c : Saved) (setup : Bool) (busy : Bool) (st : ℕ) → setup ≡ isOn (c .flag) → busy ≡ isOn (c .busy)
+    → st ≡ c .st → decode c ≡ under.Interrupt (point.Len (isOn (c .flag)) (isOn (c .busy)) (c .st))
     → decode c ≡ under.Interrupt (point.Len setup busy st)
 loaded-len c setup busy st e0 e1 e2 p = p ∙ simp (e0, e1, e2)
 
@@ -156,7 +158,8 @@ is-nak c h = simp h
 pub on-nak : (c : Saved) → c .tag ≡ 6 → c .site ≡ 9 → decode c ≡ under.Interrupt (point.Nak (isOn (c .flag)) (transferOf c) (nakOf (c .sub)))
 on-nak c t h = at-interrupt c _ t (is-nak c h)
 
-pub loaded-nak : (c : Saved) (setup : Bool) (x : Transfer) (q : Nak) → setup ≡ isOn (c .flag) → x ≡ transferOf c → q ≡ nakOf (c .sub) → decode c ≡ under.Interrupt (point.Nak (isOn (c .flag)) (transferOf c) (nakOf (c .sub)))
+pub loaded-nak : (c : Saved) (setup : Bool) (x : Transfer) (q : Nak) → setup ≡ isOn (c .flag) → x ≡ transferOf c
+    → q ≡ nakOf (c .sub) → decode c ≡ under.Interrupt (point.Nak (isOn (c .flag)) (transferOf c) (nakOf (c .sub)))
     → decode c ≡ under.Interrupt (point.Nak setup x q)
 loaded-nak c setup x q e0 e1 e2 p = p ∙ simp (e0, e1, e2)
 
@@ -167,7 +170,8 @@ is-released c h = simp h
 pub on-released : (c : Saved) → c .tag ≡ 6 → c .site ≡ 10 → decode c ≡ under.Interrupt (point.Released (isOn (c .flag)) (transferOf c))
 on-released c t h = at-interrupt c _ t (is-released c h)
 
-pub loaded-released : (c : Saved) (setup : Bool) (x : Transfer) → setup ≡ isOn (c .flag) → x ≡ transferOf c → decode c ≡ under.Interrupt (point.Released (isOn (c .flag)) (transferOf c))
+pub loaded-released : (c : Saved) (setup : Bool) (x : Transfer) → setup ≡ isOn (c .flag)
+    → x ≡ transferOf c → decode c ≡ under.Interrupt (point.Released (isOn (c .flag)) (transferOf c))
     → decode c ≡ under.Interrupt (point.Released setup x)
 loaded-released c setup x e0 e1 p = p ∙ simp (e0, e1)
 
@@ -175,10 +179,13 @@ is-settle : (c : Saved) → c .site ≡ 11 → (point.Settle (isOn (c .flag)) (t
 unfolding codec.decode
 is-settle c h = simp h
 
-pub on-settle : (c : Saved) → c .tag ≡ 6 → c .site ≡ 11 → decode c ≡ under.Interrupt (point.Settle (isOn (c .flag)) (transferOf c) (settleOf (c .sub) (c .now) (c .n)))
+pub on-settle : (c : Saved) → c .tag ≡ 6 → c .site ≡ 11
+    → decode c ≡ under.Interrupt (point.Settle (isOn (c .flag)) (transferOf c) (settleOf (c .sub) (c .now) (c .n)))
 on-settle c t h = at-interrupt c _ t (is-settle c h)
 
-pub loaded-settle : (c : Saved) (setup : Bool) (x : Transfer) (q : Settle) → setup ≡ isOn (c .flag) → x ≡ transferOf c → q ≡ settleOf (c .sub) (c .now) (c .n) → decode c ≡ under.Interrupt (point.Settle (isOn (c .flag)) (transferOf c) (settleOf (c .sub) (c .now) (c .n)))
+pub loaded-settle : (c : Saved) (setup : Bool) (x : Transfer) (q : Settle)
+    → setup ≡ isOn (c .flag) → x ≡ transferOf c → q ≡ settleOf (c .sub) (c .now) (c .n)
+    → decode c ≡ under.Interrupt (point.Settle (isOn (c .flag)) (transferOf c) (settleOf (c .sub) (c .now) (c .n)))
     → decode c ≡ under.Interrupt (point.Settle setup x q)
 loaded-settle c setup x q e0 e1 e2 p = p ∙ simp (e0, e1, e2)
 
@@ -189,7 +196,8 @@ is-frame-no c h = simp h
 pub on-frame-no : (c : Saved) → c .tag ≡ 6 → c .site ≡ 12 → decode c ≡ under.Interrupt (point.FrameNo (isOn (c .flag)) (transferOf c) (isOn (c .now)))
 on-frame-no c t h = at-interrupt c _ t (is-frame-no c h)
 
-pub loaded-frame-no : (c : Saved) (setup : Bool) (x : Transfer) (iso : Bool) → setup ≡ isOn (c .flag) → x ≡ transferOf c → iso ≡ isOn (c .now) → decode c ≡ under.Interrupt (point.FrameNo (isOn (c .flag)) (transferOf c) (isOn (c .now)))
+pub loaded-frame-no : (c : Saved) (setup : Bool) (x : Transfer) (iso : Bool) → setup ≡ isOn (c .flag) → x ≡ transferOf c
+    → iso ≡ isOn (c .now) → decode c ≡ under.Interrupt (point.FrameNo (isOn (c .flag)) (transferOf c) (isOn (c .now)))
     → decode c ≡ under.Interrupt (point.FrameNo setup x iso)
 loaded-frame-no c setup x iso e0 e1 e2 p = p ∙ simp (e0, e1, e2)
 
@@ -197,32 +205,43 @@ is-sof : (c : Saved) → c .site ≡ 13 → (point.Sof (isOn (c .flag)) (transfe
 unfolding codec.decode
 is-sof c h = simp h
 
-pub on-sof : (c : Saved) → c .tag ≡ 6 → c .site ≡ 13 → decode c ≡ under.Interrupt (point.Sof (isOn (c .flag)) (transferOf c) (isOn (c .now)) (c .frame) (sofOf (c .sub) (c .ep) (c .eps)))
+pub on-sof : (c : Saved) → c .tag ≡ 6 → c .site ≡ 13 → decode c
+    ≡ under.Interrupt (point.Sof (isOn (c .flag)) (transferOf c) (isOn (c .now)) (c .frame) (sofOf (c .sub) (c .ep) (c .eps)))
 on-sof c t h = at-interrupt c _ t (is-sof c h)
 
-pub loaded-sof : (c : Saved) (setup : Bool) (x : Transfer) (iso : Bool) (frame : ℕ) (q : Sof) → setup ≡ isOn (c .flag) → x ≡ transferOf c → iso ≡ isOn (c .now) → frame ≡ c .frame → q ≡ sofOf (c .sub) (c .ep) (c .eps) → decode c ≡ under.Interrupt (point.Sof (isOn (c .flag)) (transferOf c) (isOn (c .now)) (c .frame) (sofOf (c .sub) (c .ep) (c .eps)))
+pub loaded-sof : (c : Saved) (setup : Bool) (x : Transfer) (iso : Bool) (frame : ℕ) (q : Sof) → setup ≡ isOn (c .flag)
+    → x ≡ transferOf c → iso ≡ isOn (c .now) → frame ≡ c .frame → q ≡ sofOf (c .sub) (c .ep) (c .eps) → decode c
+    ≡ under.Interrupt (point.Sof (isOn (c .flag)) (transferOf c) (isOn (c .now)) (c .frame) (sofOf (c .sub) (c .ep) (c .eps)))
     → decode c ≡ under.Interrupt (point.Sof setup x iso frame q)
 loaded-sof c setup x iso frame q e0 e1 e2 e3 e4 p = p ∙ simp (e0, e1, e2, e3, e4)
 
-is-late : (c : Saved) → c .site ≡ 14 → (point.Late (isOn (c .flag)) (transferOf c) (isOn (c .now)) (c .frame) (lateOf (c .sub) (c .ep) (c .eps))) ≡ codec.decode c
+is-late : (c : Saved) → c .site ≡ 14
+    → (point.Late (isOn (c .flag)) (transferOf c) (isOn (c .now)) (c .frame) (lateOf (c .sub) (c .ep) (c .eps))) ≡ codec.decode c
 unfolding codec.decode
 is-late c h = simp h
 
-pub on-late : (c : Saved) → c .tag ≡ 6 → c .site ≡ 14 → decode c ≡ under.Interrupt (point.Late (isOn (c .flag)) (transferOf c) (isOn (c .now)) (c .frame) (lateOf (c .sub) (c .ep) (c .eps)))
+pub on-late : (c : Saved) → c .tag ≡ 6 → c .site ≡ 14 → decode c
+    ≡ under.Interrupt (point.Late (isOn (c .flag)) (transferOf c) (isOn (c .now)) (c .frame) (lateOf (c .sub) (c .ep) (c .eps)))
 on-late c t h = at-interrupt c _ t (is-late c h)
 
-pub loaded-late : (c : Saved) (setup : Bool) (x : Transfer) (iso : Bool) (frame : ℕ) (q : Late) → setup ≡ isOn (c .flag) → x ≡ transferOf c → iso ≡ isOn (c .now) → frame ≡ c .frame → q ≡ lateOf (c .sub) (c .ep) (c .eps) → decode c ≡ under.Interrupt (point.Late (isOn (c .flag)) (transferOf c) (isOn (c .now)) (c .frame) (lateOf (c .sub) (c .ep) (c .eps)))
+pub loaded-late : (c : Saved) (setup : Bool) (x : Transfer) (iso : Bool) (frame : ℕ) (q : Late) → setup ≡ isOn (c .flag)
+    → x ≡ transferOf c → iso ≡ isOn (c .now) → frame ≡ c .frame → q ≡ lateOf (c .sub) (c .ep) (c .eps) → decode c
+    ≡ under.Interrupt (point.Late (isOn (c .flag)) (transferOf c) (isOn (c .now)) (c .frame) (lateOf (c .sub) (c .ep) (c .eps)))
     → decode c ≡ under.Interrupt (point.Late setup x iso frame q)
 loaded-late c setup x iso frame q e0 e1 e2 e3 e4 p = p ∙ simp (e0, e1, e2, e3, e4)
 
-is-sof-arm : (c : Saved) → c .site ≡ 15 → (point.SofArm (isOn (c .flag)) (transferOf c) (isOn (c .now)) (c .frame) (sofOf (c .sub) (c .ep) (c .eps))) ≡ codec.decode c
+is-sof-arm : (c : Saved) → c .site ≡ 15
+    → (point.SofArm (isOn (c .flag)) (transferOf c) (isOn (c .now)) (c .frame) (sofOf (c .sub) (c .ep) (c .eps))) ≡ codec.decode c
 unfolding codec.decode
 is-sof-arm c h = simp h
 
-pub on-sof-arm : (c : Saved) → c .tag ≡ 6 → c .site ≡ 15 → decode c ≡ under.Interrupt (point.SofArm (isOn (c .flag)) (transferOf c) (isOn (c .now)) (c .frame) (sofOf (c .sub) (c .ep) (c .eps)))
+pub on-sof-arm : (c : Saved) → c .tag ≡ 6 → c .site ≡ 15 → decode c ≡ under.Interrupt
+    (point.SofArm (isOn (c .flag)) (transferOf c) (isOn (c .now)) (c .frame) (sofOf (c .sub) (c .ep) (c .eps)))
 on-sof-arm c t h = at-interrupt c _ t (is-sof-arm c h)
 
-pub loaded-sof-arm : (c : Saved) (setup : Bool) (x : Transfer) (iso : Bool) (frame : ℕ) (q : Sof) → setup ≡ isOn (c .flag) → x ≡ transferOf c → iso ≡ isOn (c .now) → frame ≡ c .frame → q ≡ sofOf (c .sub) (c .ep) (c .eps) → decode c ≡ under.Interrupt (point.SofArm (isOn (c .flag)) (transferOf c) (isOn (c .now)) (c .frame) (sofOf (c .sub) (c .ep) (c .eps)))
+pub loaded-sof-arm : (c : Saved) (setup : Bool) (x : Transfer) (iso : Bool) (frame : ℕ) (q : Sof) → setup ≡ isOn (c .flag)
+    → x ≡ transferOf c → iso ≡ isOn (c .now) → frame ≡ c .frame → q ≡ sofOf (c .sub) (c .ep) (c .eps) → decode c
+    ≡ under.Interrupt (point.SofArm (isOn (c .flag)) (transferOf c) (isOn (c .now)) (c .frame) (sofOf (c .sub) (c .ep) (c .eps)))
     → decode c ≡ under.Interrupt (point.SofArm setup x iso frame q)
 loaded-sof-arm c setup x iso frame q e0 e1 e2 e3 e4 p = p ∙ simp (e0, e1, e2, e3, e4)
 
@@ -233,7 +252,9 @@ is-flip c h = simp h
 pub on-flip : (c : Saved) → c .tag ≡ 6 → c .site ≡ 16 → decode c ≡ under.Interrupt (point.Flip (dirOf (c .ep)) (isOn (c .flag)) (transferOf c) (isOn (c .now)))
 on-flip c t h = at-interrupt c _ t (is-flip c h)
 
-pub loaded-flip : (c : Saved) (d : Dir) (setup : Bool) (x : Transfer) (iso : Bool) → d ≡ dirOf (c .ep) → setup ≡ isOn (c .flag) → x ≡ transferOf c → iso ≡ isOn (c .now) → decode c ≡ under.Interrupt (point.Flip (dirOf (c .ep)) (isOn (c .flag)) (transferOf c) (isOn (c .now)))
+pub loaded-flip : (c : Saved) (d : Dir) (setup : Bool) (x : Transfer) (iso : Bool)
+    → d ≡ dirOf (c .ep) → setup ≡ isOn (c .flag) → x ≡ transferOf c → iso ≡ isOn (c .now)
+    → decode c ≡ under.Interrupt (point.Flip (dirOf (c .ep)) (isOn (c .flag)) (transferOf c) (isOn (c .now)))
     → decode c ≡ under.Interrupt (point.Flip d setup x iso)
 loaded-flip c d setup x iso e0 e1 e2 e3 p = p ∙ simp (e0, e1, e2, e3)
 
@@ -241,21 +262,28 @@ is-flipped : (c : Saved) → c .site ≡ 17 → (point.Flipped (dirOf (c .ep)) (
 unfolding codec.decode
 is-flipped c h = simp h
 
-pub on-flipped : (c : Saved) → c .tag ≡ 6 → c .site ≡ 17 → decode c ≡ under.Interrupt (point.Flipped (dirOf (c .ep)) (isOn (c .flag)) (transferOf c) (isOn (c .now)))
+pub on-flipped : (c : Saved) → c .tag ≡ 6 → c .site ≡ 17
+    → decode c ≡ under.Interrupt (point.Flipped (dirOf (c .ep)) (isOn (c .flag)) (transferOf c) (isOn (c .now)))
 on-flipped c t h = at-interrupt c _ t (is-flipped c h)
 
-pub loaded-flipped : (c : Saved) (d : Dir) (setup : Bool) (x : Transfer) (iso : Bool) → d ≡ dirOf (c .ep) → setup ≡ isOn (c .flag) → x ≡ transferOf c → iso ≡ isOn (c .now) → decode c ≡ under.Interrupt (point.Flipped (dirOf (c .ep)) (isOn (c .flag)) (transferOf c) (isOn (c .now)))
+pub loaded-flipped : (c : Saved) (d : Dir) (setup : Bool) (x : Transfer) (iso : Bool)
+    → d ≡ dirOf (c .ep) → setup ≡ isOn (c .flag) → x ≡ transferOf c → iso ≡ isOn (c .now)
+    → decode c ≡ under.Interrupt (point.Flipped (dirOf (c .ep)) (isOn (c .flag)) (transferOf c) (isOn (c .now)))
     → decode c ≡ under.Interrupt (point.Flipped d setup x iso)
 loaded-flipped c d setup x iso e0 e1 e2 e3 p = p ∙ simp (e0, e1, e2, e3)
 
-is-toggled : (c : Saved) → c .site ≡ 18 → (point.Toggled (dirOf (c .ep)) (isOn (c .flag)) (transferOf c) (isOn (c .now)) (toggledOf (c .sub) (c .n))) ≡ codec.decode c
+is-toggled : (c : Saved) → c .site ≡ 18
+    → (point.Toggled (dirOf (c .ep)) (isOn (c .flag)) (transferOf c) (isOn (c .now)) (toggledOf (c .sub) (c .n))) ≡ codec.decode c
 unfolding codec.decode
 is-toggled c h = simp h
 
-pub on-toggled : (c : Saved) → c .tag ≡ 6 → c .site ≡ 18 → decode c ≡ under.Interrupt (point.Toggled (dirOf (c .ep)) (isOn (c .flag)) (transferOf c) (isOn (c .now)) (toggledOf (c .sub) (c .n)))
+pub on-toggled : (c : Saved) → c .tag ≡ 6 → c .site ≡ 18 → decode c ≡ under.Interrupt
+    (point.Toggled (dirOf (c .ep)) (isOn (c .flag)) (transferOf c) (isOn (c .now)) (toggledOf (c .sub) (c .n)))
 on-toggled c t h = at-interrupt c _ t (is-toggled c h)
 
-pub loaded-toggled : (c : Saved) (d : Dir) (setup : Bool) (x : Transfer) (iso : Bool) (q : Toggled) → d ≡ dirOf (c .ep) → setup ≡ isOn (c .flag) → x ≡ transferOf c → iso ≡ isOn (c .now) → q ≡ toggledOf (c .sub) (c .n) → decode c ≡ under.Interrupt (point.Toggled (dirOf (c .ep)) (isOn (c .flag)) (transferOf c) (isOn (c .now)) (toggledOf (c .sub) (c .n)))
+pub loaded-toggled : (c : Saved) (d : Dir) (setup : Bool) (x : Transfer) (iso : Bool) (q : Toggled) → d ≡ dirOf (c .ep)
+    → setup ≡ isOn (c .flag) → x ≡ transferOf c → iso ≡ isOn (c .now) → q ≡ toggledOf (c .sub) (c .n) → decode c
+    ≡ under.Interrupt (point.Toggled (dirOf (c .ep)) (isOn (c .flag)) (transferOf c) (isOn (c .now)) (toggledOf (c .sub) (c .n)))
     → decode c ≡ under.Interrupt (point.Toggled d setup x iso q)
 loaded-toggled c d setup x iso q e0 e1 e2 e3 e4 p = p ∙ simp (e0, e1, e2, e3, e4)
 
@@ -263,10 +291,13 @@ is-completing : (c : Saved) → c .site ≡ 19 → (point.Completing (isOn (c .f
 unfolding codec.decode
 is-completing c h = simp h
 
-pub on-completing : (c : Saved) → c .tag ≡ 6 → c .site ≡ 19 → decode c ≡ under.Interrupt (point.Completing (isOn (c .flag)) (transferOf c) (isOn (c .now)) (completeOf (c .sub) (c .ep)))
+pub on-completing : (c : Saved) → c .tag ≡ 6 → c .site ≡ 19 → decode c
+    ≡ under.Interrupt (point.Completing (isOn (c .flag)) (transferOf c) (isOn (c .now)) (completeOf (c .sub) (c .ep)))
 on-completing c t h = at-interrupt c _ t (is-completing c h)
 
-pub loaded-completing : (c : Saved) (setup : Bool) (x : Transfer) (iso : Bool) (q : Complete) → setup ≡ isOn (c .flag) → x ≡ transferOf c → iso ≡ isOn (c .now) → q ≡ completeOf (c .sub) (c .ep) → decode c ≡ under.Interrupt (point.Completing (isOn (c .flag)) (transferOf c) (isOn (c .now)) (completeOf (c .sub) (c .ep)))
+pub loaded-completing : (c : Saved) (setup : Bool) (x : Transfer) (iso : Bool) (q : Complete)
+    → setup ≡ isOn (c .flag) → x ≡ transferOf c → iso ≡ isOn (c .now) → q ≡ completeOf (c .sub) (c .ep) → decode c
+    ≡ under.Interrupt (point.Completing (isOn (c .flag)) (transferOf c) (isOn (c .now)) (completeOf (c .sub) (c .ep)))
     → decode c ≡ under.Interrupt (point.Completing setup x iso q)
 loaded-completing c setup x iso q e0 e1 e2 e3 p = p ∙ simp (e0, e1, e2, e3)
 
@@ -274,10 +305,13 @@ is-check : (c : Saved) → c .site ≡ 20 → (point.Check (isOn (c .flag)) (tra
 unfolding codec.decode
 is-check c h = simp h
 
-pub on-check : (c : Saved) → c .tag ≡ 6 → c .site ≡ 20 → decode c ≡ under.Interrupt (point.Check (isOn (c .flag)) (transferOf c) (isOn (c .now)) (checkOf (c .sub) (c .ep) (c .eps)))
+pub on-check : (c : Saved) → c .tag ≡ 6 → c .site ≡ 20 → decode c
+    ≡ under.Interrupt (point.Check (isOn (c .flag)) (transferOf c) (isOn (c .now)) (checkOf (c .sub) (c .ep) (c .eps)))
 on-check c t h = at-interrupt c _ t (is-check c h)
 
-pub loaded-check : (c : Saved) (setup : Bool) (x : Transfer) (iso : Bool) (q : Check) → setup ≡ isOn (c .flag) → x ≡ transferOf c → iso ≡ isOn (c .now) → q ≡ checkOf (c .sub) (c .ep) (c .eps) → decode c ≡ under.Interrupt (point.Check (isOn (c .flag)) (transferOf c) (isOn (c .now)) (checkOf (c .sub) (c .ep) (c .eps)))
+pub loaded-check : (c : Saved) (setup : Bool) (x : Transfer) (iso : Bool) (q : Check)
+    → setup ≡ isOn (c .flag) → x ≡ transferOf c → iso ≡ isOn (c .now) → q ≡ checkOf (c .sub) (c .ep) (c .eps) → decode c
+    ≡ under.Interrupt (point.Check (isOn (c .flag)) (transferOf c) (isOn (c .now)) (checkOf (c .sub) (c .ep) (c .eps)))
     → decode c ≡ under.Interrupt (point.Check setup x iso q)
 loaded-check c setup x iso q e0 e1 e2 e3 p = p ∙ simp (e0, e1, e2, e3)
 
@@ -288,7 +322,8 @@ is-moved-read c h = simp h
 pub on-moved-read : (c : Saved) → c .tag ≡ 6 → c .site ≡ 21 → decode c ≡ under.Interrupt (point.MovedRead (dirOf (c .ep)) (isOn (c .flag)))
 on-moved-read c t h = at-interrupt c _ t (is-moved-read c h)
 
-pub loaded-moved-read : (c : Saved) (d : Dir) (setup : Bool) → d ≡ dirOf (c .ep) → setup ≡ isOn (c .flag) → decode c ≡ under.Interrupt (point.MovedRead (dirOf (c .ep)) (isOn (c .flag)))
+pub loaded-moved-read : (c : Saved) (d : Dir) (setup : Bool) → d ≡ dirOf (c .ep)
+    → setup ≡ isOn (c .flag) → decode c ≡ under.Interrupt (point.MovedRead (dirOf (c .ep)) (isOn (c .flag)))
     → decode c ≡ under.Interrupt (point.MovedRead d setup)
 loaded-moved-read c d setup e0 e1 p = p ∙ simp (e0, e1)
 
@@ -299,7 +334,8 @@ is-moved-wrote c h = simp h
 pub on-moved-wrote : (c : Saved) → c .tag ≡ 6 → c .site ≡ 22 → decode c ≡ under.Interrupt (point.MovedWrote (dirOf (c .ep)) (isOn (c .flag)))
 on-moved-wrote c t h = at-interrupt c _ t (is-moved-wrote c h)
 
-pub loaded-moved-wrote : (c : Saved) (d : Dir) (setup : Bool) → d ≡ dirOf (c .ep) → setup ≡ isOn (c .flag) → decode c ≡ under.Interrupt (point.MovedWrote (dirOf (c .ep)) (isOn (c .flag)))
+pub loaded-moved-wrote : (c : Saved) (d : Dir) (setup : Bool) → d ≡ dirOf (c .ep)
+    → setup ≡ isOn (c .flag) → decode c ≡ under.Interrupt (point.MovedWrote (dirOf (c .ep)) (isOn (c .flag)))
     → decode c ≡ under.Interrupt (point.MovedWrote d setup)
 loaded-moved-wrote c d setup e0 e1 p = p ∙ simp (e0, e1)
 

@@ -29,7 +29,10 @@ ghost use Rattle.machine.specs.Suspended.{decode, machineOf, resumed, answerOf,
 // mis_st: is a transaction on the bus? (mod.rs 656-661).
 pub fn resume_mis(s: &mut [u8; STATE_LEN], v: u32) -> Step
     requires { ⌜ decode (saved (now s)) ≡ Under.Interrupt (Point.Mis (isOn ((saved (now s)) .flag))) ⌝ }
-    ensures { λ r. ⌜ ((b : List ℕ) → (answerOf r [] (view (now (s .exit))), machineOf (now (s .exit)) b) ≡ resumed v (decode (saved (now (s .entry)))) (view (now (s .entry))) b) ⌝ }
+    ensures { λ r. ⌜ ((b : List ℕ) → (
+      answerOf r [] (view (now (s .exit))),
+      machineOf (now (s .exit)) b,
+    ) ≡ resumed v (decode (saved (now (s .entry)))) (view (now (s .entry))) b) ⌝ }
     ensures { λ r. ⌜ SavedUnchangedOnRefusal r (now (s .entry)) (now (s .exit)) ⌝ }
 {
     if fits(v, 2) {
@@ -42,7 +45,10 @@ pub fn resume_mis(s: &mut [u8; STATE_LEN], v: u32) -> Step
 // int_st.
 pub fn resume_st(s: &mut [u8; STATE_LEN], v: u32) -> Step
     requires { ⌜ decode (saved (now s)) ≡ Under.Interrupt (Point.St (isOn ((saved (now s)) .flag)) (isOn ((saved (now s)) .busy))) ⌝ }
-    ensures { λ r. ⌜ ((b : List ℕ) → (answerOf r [] (view (now (s .exit))), machineOf (now (s .exit)) b) ≡ resumed v (decode (saved (now (s .entry)))) (view (now (s .entry))) b) ⌝ }
+    ensures { λ r. ⌜ ((b : List ℕ) → (
+      answerOf r [] (view (now (s .exit))),
+      machineOf (now (s .exit)) b,
+    ) ≡ resumed v (decode (saved (now (s .entry)))) (view (now (s .entry))) b) ⌝ }
     ensures { λ r. ⌜ SavedUnchangedOnRefusal r (now (s .entry)) (now (s .exit)) ⌝ }
 {
     if fits(v, 7) {
@@ -56,7 +62,10 @@ pub fn resume_st(s: &mut [u8; STATE_LEN], v: u32) -> Step
 // rx_len.
 pub fn resume_len(s: &mut [u8; STATE_LEN], v: u32) -> Step
     requires { ⌜ decode (saved (now s)) ≡ Under.Interrupt (Point.Len (isOn ((saved (now s)) .flag)) (isOn ((saved (now s)) .busy)) ((saved (now s)) .st)) ⌝ }
-    ensures { λ r. ⌜ ((b : List ℕ) → (answerOf r [] (view (now (s .exit))), machineOf (now (s .exit)) b) ≡ resumed v (decode (saved (now (s .entry)))) (view (now (s .entry))) b) ⌝ }
+    ensures { λ r. ⌜ ((b : List ℕ) → (
+      answerOf r [] (view (now (s .exit))),
+      machineOf (now (s .exit)) b,
+    ) ≡ resumed v (decode (saved (now (s .entry)))) (view (now (s .entry))) b) ⌝ }
     ensures { λ r. ⌜ SavedUnchangedOnRefusal r (now (s .entry)) (now (s .exit)) ⌝ }
 {
     if fits(v, 16) {
@@ -70,8 +79,12 @@ pub fn resume_len(s: &mut [u8; STATE_LEN], v: u32) -> Step
 
 // NAK before the release (mod.rs 663).
 pub fn resume_nak(s: &mut [u8; STATE_LEN], v: u32) -> Step
-    requires { ⌜ decode (saved (now s)) ≡ Under.Interrupt (Point.Nak (isOn ((saved (now s)) .flag)) (transferOf (saved (now s))) (nakOf ((saved (now s)) .sub))) ⌝ }
-    ensures { λ r. ⌜ ((b : List ℕ) → (answerOf r [] (view (now (s .exit))), machineOf (now (s .exit)) b) ≡ resumed v (decode (saved (now (s .entry)))) (view (now (s .entry))) b) ⌝ }
+    requires { ⌜ decode (saved (now s))
+        ≡ Under.Interrupt (Point.Nak (isOn ((saved (now s)) .flag)) (transferOf (saved (now s))) (nakOf ((saved (now s)) .sub))) ⌝ }
+    ensures { λ r. ⌜ ((b : List ℕ) → (
+      answerOf r [] (view (now (s .exit))),
+      machineOf (now (s .exit)) b,
+    ) ≡ resumed v (decode (saved (now (s .entry)))) (view (now (s .entry))) b) ⌝ }
     ensures { λ r. ⌜ SavedUnchangedOnRefusal r (now (s .entry)) (now (s .exit)) ⌝ }
 {
     let q = nak_at(s);
@@ -86,7 +99,10 @@ pub fn resume_nak(s: &mut [u8; STATE_LEN], v: u32) -> Step
 // the transfer flag is cleared (mod.rs 666-667).
 pub fn resume_released(s: &mut [u8; STATE_LEN]) -> Step
     requires { ⌜ decode (saved (now s)) ≡ Under.Interrupt (Point.Released (isOn ((saved (now s)) .flag)) (transferOf (saved (now s)))) ⌝ }
-    ensures { λ r. ⌜ ((v : ℕ) (b : List ℕ) → (answerOf r [] (view (now (s .exit))), machineOf (now (s .exit)) b) ≡ resumed v (decode (saved (now (s .entry)))) (view (now (s .entry))) b) ⌝ }
+    ensures { λ r. ⌜ ((v : ℕ) (b : List ℕ) → (
+      answerOf r [] (view (now (s .exit))),
+      machineOf (now (s .exit)) b,
+    ) ≡ resumed v (decode (saved (now (s .entry)))) (view (now (s .entry))) b) ⌝ }
     ensures { λ r. ⌜ SavedUnchangedOnRefusal r (now (s .entry)) (now (s .exit)) ⌝ }
 {
     let setup = setup_at(s);
@@ -96,8 +112,12 @@ pub fn resume_released(s: &mut [u8; STATE_LEN]) -> Step
 
 // what was on the bus is waited for (mod.rs 668-717).
 pub fn resume_settle(s: &mut [u8; STATE_LEN], v: u32) -> Step
-    requires { ⌜ decode (saved (now s)) ≡ Under.Interrupt (Point.Settle (isOn ((saved (now s)) .flag)) (transferOf (saved (now s))) (settleOf ((saved (now s)) .sub) ((saved (now s)) .now) ((saved (now s)) .n))) ⌝ }
-    ensures { λ r. ⌜ ((b : List ℕ) → (answerOf r [] (view (now (s .exit))), machineOf (now (s .exit)) b) ≡ resumed v (decode (saved (now (s .entry)))) (view (now (s .entry))) b) ⌝ }
+    requires { ⌜ decode (saved (now s)) ≡ Under.Interrupt (Point.Settle (isOn ((saved (now s)) .flag))
+        (transferOf (saved (now s))) (settleOf ((saved (now s)) .sub) ((saved (now s)) .now) ((saved (now s)) .n))) ⌝ }
+    ensures { λ r. ⌜ ((b : List ℕ) → (
+      answerOf r [] (view (now (s .exit))),
+      machineOf (now (s .exit)) b,
+    ) ≡ resumed v (decode (saved (now (s .entry)))) (view (now (s .entry))) b) ⌝ }
     ensures { λ r. ⌜ SavedUnchangedOnRefusal r (now (s .entry)) (now (s .exit)) ⌝ }
 {
     let q = settle_at(s);

@@ -20,7 +20,10 @@ ghost use Rattle.machine.specs.Suspended.{decode, machineOf, resumed, answerOf,
 // frame_no, whose microframe index what the interrupt admits carries.
 pub fn resume_frame(s: &mut [u8; STATE_LEN], v: u32) -> Step
     requires { ⌜ decode (saved (now s)) ≡ Under.Interrupt Point.Frame ⌝ }
-    ensures { λ r. ⌜ ((b : List ℕ) → (answerOf r [] (view (now (s .exit))), machineOf (now (s .exit)) b) ≡ resumed v (decode (saved (now (s .entry)))) (view (now (s .entry))) b) ⌝ }
+    ensures { λ r. ⌜ ((b : List ℕ) → (
+      answerOf r [] (view (now (s .exit))),
+      machineOf (now (s .exit)) b,
+    ) ≡ resumed v (decode (saved (now (s .entry)))) (view (now (s .entry))) b) ⌝ }
     ensures { λ r. ⌜ SavedUnchangedOnRefusal r (now (s .entry)) (now (s .exit)) ⌝ }
 {
     if fits(v, 16) {
@@ -32,7 +35,10 @@ pub fn resume_frame(s: &mut [u8; STATE_LEN], v: u32) -> Step
 // int_fg (mod.rs 637).
 pub fn resume_flags(s: &mut [u8; STATE_LEN], v: u32) -> Step
     requires { ⌜ decode (saved (now s)) ≡ Under.Interrupt Point.Flags ⌝ }
-    ensures { λ r. ⌜ ((b : List ℕ) → (answerOf r [] (view (now (s .exit))), machineOf (now (s .exit)) b) ≡ resumed v (decode (saved (now (s .entry)))) (view (now (s .entry))) b) ⌝ }
+    ensures { λ r. ⌜ ((b : List ℕ) → (
+      answerOf r [] (view (now (s .exit))),
+      machineOf (now (s .exit)) b,
+    ) ≡ resumed v (decode (saved (now (s .entry)))) (view (now (s .entry))) b) ⌝ }
     ensures { λ r. ⌜ SavedUnchangedOnRefusal r (now (s .entry)) (now (s .exit)) ⌝ }
 {
     if fits(v, 6) {
@@ -44,7 +50,10 @@ pub fn resume_flags(s: &mut [u8; STATE_LEN], v: u32) -> Step
 // the reset interrupt is masked (mod.rs 640-643).
 pub fn resume_bus_rst(s: &mut [u8; STATE_LEN]) -> Step
     requires { ⌜ decode (saved (now s)) ≡ Under.Interrupt (Point.BusRst ((saved (now s)) .st)) ⌝ }
-    ensures { λ r. ⌜ ((v : ℕ) (b : List ℕ) → (answerOf r [] (view (now (s .exit))), machineOf (now (s .exit)) b) ≡ resumed v (decode (saved (now (s .entry)))) (view (now (s .entry))) b) ⌝ }
+    ensures { λ r. ⌜ ((v : ℕ) (b : List ℕ) → (
+      answerOf r [] (view (now (s .exit))),
+      machineOf (now (s .exit)) b,
+    ) ≡ resumed v (decode (saved (now (s .entry)))) (view (now (s .entry))) b) ⌝ }
     ensures { λ r. ⌜ SavedUnchangedOnRefusal r (now (s .entry)) (now (s .exit)) ⌝ }
 {
     let f = st_byte(s);
@@ -54,7 +63,10 @@ pub fn resume_bus_rst(s: &mut [u8; STATE_LEN]) -> Step
 // the suspend interrupt is (mod.rs 644-648).
 pub fn resume_suspend(s: &mut [u8; STATE_LEN]) -> Step
     requires { ⌜ decode (saved (now s)) ≡ Under.Interrupt (Point.Suspend ((saved (now s)) .st)) ⌝ }
-    ensures { λ r. ⌜ ((v : ℕ) (b : List ℕ) → (answerOf r [] (view (now (s .exit))), machineOf (now (s .exit)) b) ≡ resumed v (decode (saved (now (s .entry)))) (view (now (s .entry))) b) ⌝ }
+    ensures { λ r. ⌜ ((v : ℕ) (b : List ℕ) → (
+      answerOf r [] (view (now (s .exit))),
+      machineOf (now (s .exit)) b,
+    ) ≡ resumed v (decode (saved (now (s .entry)))) (view (now (s .entry))) b) ⌝ }
     ensures { λ r. ⌜ SavedUnchangedOnRefusal r (now (s .entry)) (now (s .exit)) ⌝ }
 {
     let f = st_byte(s);
@@ -64,7 +76,10 @@ pub fn resume_suspend(s: &mut [u8; STATE_LEN]) -> Step
 // the FIFO flag is cleared (mod.rs 649-651).
 pub fn resume_fifo(s: &mut [u8; STATE_LEN]) -> Step
     requires { ⌜ decode (saved (now s)) ≡ Under.Interrupt (Point.Fifo ((saved (now s)) .st)) ⌝ }
-    ensures { λ r. ⌜ ((v : ℕ) (b : List ℕ) → (answerOf r [] (view (now (s .exit))), machineOf (now (s .exit)) b) ≡ resumed v (decode (saved (now (s .entry)))) (view (now (s .entry))) b) ⌝ }
+    ensures { λ r. ⌜ ((v : ℕ) (b : List ℕ) → (
+      answerOf r [] (view (now (s .exit))),
+      machineOf (now (s .exit)) b,
+    ) ≡ resumed v (decode (saved (now (s .entry)))) (view (now (s .entry))) b) ⌝ }
     ensures { λ r. ⌜ SavedUnchangedOnRefusal r (now (s .entry)) (now (s .exit)) ⌝ }
 {
     let f = st_byte(s);
@@ -74,7 +89,10 @@ pub fn resume_fifo(s: &mut [u8; STATE_LEN]) -> Step
 // the host SOF flag is (mod.rs 652-655).
 pub fn resume_host(s: &mut [u8; STATE_LEN]) -> Step
     requires { ⌜ decode (saved (now s)) ≡ Under.Interrupt (Point.Host ((saved (now s)) .st)) ⌝ }
-    ensures { λ r. ⌜ ((v : ℕ) (b : List ℕ) → (answerOf r [] (view (now (s .exit))), machineOf (now (s .exit)) b) ≡ resumed v (decode (saved (now (s .entry)))) (view (now (s .entry))) b) ⌝ }
+    ensures { λ r. ⌜ ((v : ℕ) (b : List ℕ) → (
+      answerOf r [] (view (now (s .exit))),
+      machineOf (now (s .exit)) b,
+    ) ≡ resumed v (decode (saved (now (s .entry)))) (view (now (s .entry))) b) ⌝ }
     ensures { λ r. ⌜ SavedUnchangedOnRefusal r (now (s .entry)) (now (s .exit)) ⌝ }
 {
     let f = st_byte(s);

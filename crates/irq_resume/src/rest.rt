@@ -25,8 +25,12 @@ ghost use Rattle.machine.specs.Suspended.{decode, machineOf, resumed, answerOf,
 
 // isochronous OUTs are looked at (`iso_out_check`).
 pub fn resume_check(s: &mut [u8; STATE_LEN], slots: &mut [u8], v: u32) -> Step
-    requires { ⌜ decode (saved (now s)) ≡ Under.Interrupt (Point.Check (isOn ((saved (now s)) .flag)) (transferOf (saved (now s))) (isOn ((saved (now s)) .now)) (checkOf ((saved (now s)) .sub) ((saved (now s)) .ep) ((saved (now s)) .eps))) ⌝ }
-    ensures { λ r. ⌜ (answerOf r [] (view (now (s .exit))), machineOf (now (s .exit)) (now (slots .exit))) ≡ resumed v (decode (saved (now (s .entry)))) (view (now (s .entry))) (now (slots .entry)) ⌝ }
+    requires { ⌜ decode (saved (now s)) ≡ Under.Interrupt (Point.Check (isOn ((saved (now s)) .flag)) (transferOf (saved (now s)))
+        (isOn ((saved (now s)) .now)) (checkOf ((saved (now s)) .sub) ((saved (now s)) .ep) ((saved (now s)) .eps))) ⌝ }
+    ensures { λ r. ⌜ (
+      answerOf r [] (view (now (s .exit))),
+      machineOf (now (s .exit)) (now (slots .exit)),
+    ) ≡ resumed v (decode (saved (now (s .entry)))) (view (now (s .entry))) (now (slots .entry)) ⌝ }
     ensures { λ r. ⌜ SavedUnchangedOnRefusal r (now (s .entry)) (now (s .exit)) ⌝ }
 {
     let q = check_at(s);
@@ -42,7 +46,10 @@ pub fn resume_check(s: &mut [u8; STATE_LEN], slots: &mut [u8], v: u32) -> Step
 // EP0's control word, for its hidden stage (`ep0_moved_on`).
 pub fn resume_moved_read(s: &mut [u8; STATE_LEN], v: u32) -> Step
     requires { ⌜ decode (saved (now s)) ≡ Under.Interrupt (Point.MovedRead (dirOf ((saved (now s)) .ep)) (isOn ((saved (now s)) .flag))) ⌝ }
-    ensures { λ r. ⌜ ((b : List ℕ) → (answerOf r [] (view (now (s .exit))), machineOf (now (s .exit)) b) ≡ resumed v (decode (saved (now (s .entry)))) (view (now (s .entry))) b) ⌝ }
+    ensures { λ r. ⌜ ((b : List ℕ) → (
+      answerOf r [] (view (now (s .exit))),
+      machineOf (now (s .exit)) b,
+    ) ≡ resumed v (decode (saved (now (s .entry)))) (view (now (s .entry))) b) ⌝ }
     ensures { λ r. ⌜ SavedUnchangedOnRefusal r (now (s .entry)) (now (s .exit)) ⌝ }
 {
     if fits(v, 8) {
@@ -56,7 +63,10 @@ pub fn resume_moved_read(s: &mut [u8; STATE_LEN], v: u32) -> Step
 // it answers NAK.
 pub fn resume_moved_wrote(s: &mut [u8; STATE_LEN]) -> Step
     requires { ⌜ decode (saved (now s)) ≡ Under.Interrupt (Point.MovedWrote (dirOf ((saved (now s)) .ep)) (isOn ((saved (now s)) .flag))) ⌝ }
-    ensures { λ r. ⌜ ((v : ℕ) (b : List ℕ) → (answerOf r [] (view (now (s .exit))), machineOf (now (s .exit)) b) ≡ resumed v (decode (saved (now (s .entry)))) (view (now (s .entry))) b) ⌝ }
+    ensures { λ r. ⌜ ((v : ℕ) (b : List ℕ) → (
+      answerOf r [] (view (now (s .exit))),
+      machineOf (now (s .exit)) b,
+    ) ≡ resumed v (decode (saved (now (s .entry)))) (view (now (s .entry))) b) ⌝ }
     ensures { λ r. ⌜ SavedUnchangedOnRefusal r (now (s .entry)) (now (s .exit)) ⌝ }
 {
     let d = dir_at(s);
@@ -67,7 +77,10 @@ pub fn resume_moved_wrote(s: &mut [u8; STATE_LEN]) -> Step
 // EP0's OUT answers NAK (mod.rs 803-818).
 pub fn resume_setup_rx(s: &mut [u8; STATE_LEN]) -> Step
     requires { ⌜ decode (saved (now s)) ≡ Under.Interrupt Point.SetupRx ⌝ }
-    ensures { λ r. ⌜ ((v : ℕ) (b : List ℕ) → (answerOf r [] (view (now (s .exit))), machineOf (now (s .exit)) b) ≡ resumed v (decode (saved (now (s .entry)))) (view (now (s .entry))) b) ⌝ }
+    ensures { λ r. ⌜ ((v : ℕ) (b : List ℕ) → (
+      answerOf r [] (view (now (s .exit))),
+      machineOf (now (s .exit)) b,
+    ) ≡ resumed v (decode (saved (now (s .entry)))) (view (now (s .entry))) b) ⌝ }
     ensures { λ r. ⌜ SavedUnchangedOnRefusal r (now (s .entry)) (now (s .exit)) ⌝ }
 {
     after_setup_rx(s)
@@ -76,7 +89,10 @@ pub fn resume_setup_rx(s: &mut [u8; STATE_LEN]) -> Step
 // and its IN.
 pub fn resume_setup_tx(s: &mut [u8; STATE_LEN], slots: &mut [u8]) -> Step
     requires { ⌜ decode (saved (now s)) ≡ Under.Interrupt Point.SetupTx ⌝ }
-    ensures { λ r. ⌜ ((v : ℕ) → (answerOf r [] (view (now (s .exit))), machineOf (now (s .exit)) (now (slots .exit))) ≡ resumed v (decode (saved (now (s .entry)))) (view (now (s .entry))) (now (slots .entry))) ⌝ }
+    ensures { λ r. ⌜ ((v : ℕ) → (
+      answerOf r [] (view (now (s .exit))),
+      machineOf (now (s .exit)) (now (slots .exit)),
+    ) ≡ resumed v (decode (saved (now (s .entry)))) (view (now (s .entry))) (now (slots .entry))) ⌝ }
     ensures { λ r. ⌜ SavedUnchangedOnRefusal r (now (s .entry)) (now (s .exit)) ⌝ }
 {
     after_setup_tx(s, slots)
@@ -85,7 +101,10 @@ pub fn resume_setup_tx(s: &mut [u8; STATE_LEN], slots: &mut [u8]) -> Step
 // the setup flag is cleared.
 pub fn resume_setup_released(s: &mut [u8; STATE_LEN]) -> Step
     requires { ⌜ decode (saved (now s)) ≡ Under.Interrupt Point.SetupReleased ⌝ }
-    ensures { λ r. ⌜ ((v : ℕ) (b : List ℕ) → (answerOf r [] (view (now (s .exit))), machineOf (now (s .exit)) b) ≡ resumed v (decode (saved (now (s .entry)))) (view (now (s .entry))) b) ⌝ }
+    ensures { λ r. ⌜ ((v : ℕ) (b : List ℕ) → (
+      answerOf r [] (view (now (s .exit))),
+      machineOf (now (s .exit)) b,
+    ) ≡ resumed v (decode (saved (now (s .entry)))) (view (now (s .entry))) b) ⌝ }
     ensures { λ r. ⌜ SavedUnchangedOnRefusal r (now (s .entry)) (now (s .exit)) ⌝ }
 {
     after_setup_released(s)

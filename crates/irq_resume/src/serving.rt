@@ -24,8 +24,12 @@ ghost use Rattle.machine.specs.Suspended.{decode, machineOf, resumed, answerOf,
 
 // frame_no (mod.rs 724-728).
 pub fn resume_frame_no(s: &mut [u8; STATE_LEN], slots: &mut [u8], v: u32) -> Step
-    requires { ⌜ decode (saved (now s)) ≡ Under.Interrupt (Point.FrameNo (isOn ((saved (now s)) .flag)) (transferOf (saved (now s))) (isOn ((saved (now s)) .now))) ⌝ }
-    ensures { λ r. ⌜ (answerOf r [] (view (now (s .exit))), machineOf (now (s .exit)) (now (slots .exit))) ≡ resumed v (decode (saved (now (s .entry)))) (view (now (s .entry))) (now (slots .entry)) ⌝ }
+    requires { ⌜ decode (saved (now s))
+        ≡ Under.Interrupt (Point.FrameNo (isOn ((saved (now s)) .flag)) (transferOf (saved (now s))) (isOn ((saved (now s)) .now))) ⌝ }
+    ensures { λ r. ⌜ (
+      answerOf r [] (view (now (s .exit))),
+      machineOf (now (s .exit)) (now (slots .exit)),
+    ) ≡ resumed v (decode (saved (now (s .entry)))) (view (now (s .entry))) (now (slots .entry)) ⌝ }
     ensures { λ r. ⌜ SavedUnchangedOnRefusal r (now (s .entry)) (now (s .exit)) ⌝ }
 {
     if fits(v, 16) {
@@ -39,8 +43,13 @@ pub fn resume_frame_no(s: &mut [u8; STATE_LEN], slots: &mut [u8], v: u32) -> Ste
 
 // a SOF that was not handled (mod.rs 729-733).
 pub fn resume_sof(s: &mut [u8; STATE_LEN], slots: &mut [u8], v: u32) -> Step
-    requires { ⌜ decode (saved (now s)) ≡ Under.Interrupt (Point.Sof (isOn ((saved (now s)) .flag)) (transferOf (saved (now s))) (isOn ((saved (now s)) .now)) ((saved (now s)) .frame) (sofOf ((saved (now s)) .sub) ((saved (now s)) .ep) ((saved (now s)) .eps))) ⌝ }
-    ensures { λ r. ⌜ (answerOf r [] (view (now (s .exit))), machineOf (now (s .exit)) (now (slots .exit))) ≡ resumed v (decode (saved (now (s .entry)))) (view (now (s .entry))) (now (slots .entry)) ⌝ }
+    requires { ⌜ decode (saved (now s)) ≡ Under.Interrupt
+        (Point.Sof (isOn ((saved (now s)) .flag)) (transferOf (saved (now s))) (isOn ((saved (now s)) .now))
+        ((saved (now s)) .frame) (sofOf ((saved (now s)) .sub) ((saved (now s)) .ep) ((saved (now s)) .eps))) ⌝ }
+    ensures { λ r. ⌜ (
+      answerOf r [] (view (now (s .exit))),
+      machineOf (now (s .exit)) (now (slots .exit)),
+    ) ≡ resumed v (decode (saved (now (s .entry)))) (view (now (s .entry))) (now (slots .entry)) ⌝ }
     ensures { λ r. ⌜ SavedUnchangedOnRefusal r (now (s .entry)) (now (s .exit)) ⌝ }
 {
     let q = sof_at(s);
@@ -56,8 +65,13 @@ pub fn resume_sof(s: &mut [u8; STATE_LEN], slots: &mut [u8], v: u32) -> Step
 
 // a late entry's completions (mod.rs 735-747).
 pub fn resume_late(s: &mut [u8; STATE_LEN], slots: &mut [u8]) -> Step
-    requires { ⌜ decode (saved (now s)) ≡ Under.Interrupt (Point.Late (isOn ((saved (now s)) .flag)) (transferOf (saved (now s))) (isOn ((saved (now s)) .now)) ((saved (now s)) .frame) (lateOf ((saved (now s)) .sub) ((saved (now s)) .ep) ((saved (now s)) .eps))) ⌝ }
-    ensures { λ r. ⌜ ((v : ℕ) → (answerOf r [] (view (now (s .exit))), machineOf (now (s .exit)) (now (slots .exit))) ≡ resumed v (decode (saved (now (s .entry)))) (view (now (s .entry))) (now (slots .entry))) ⌝ }
+    requires { ⌜ decode (saved (now s)) ≡ Under.Interrupt
+        (Point.Late (isOn ((saved (now s)) .flag)) (transferOf (saved (now s))) (isOn ((saved (now s)) .now))
+        ((saved (now s)) .frame) (lateOf ((saved (now s)) .sub) ((saved (now s)) .ep) ((saved (now s)) .eps))) ⌝ }
+    ensures { λ r. ⌜ ((v : ℕ) → (
+      answerOf r [] (view (now (s .exit))),
+      machineOf (now (s .exit)) (now (slots .exit)),
+    ) ≡ resumed v (decode (saved (now (s .entry)))) (view (now (s .entry))) (now (slots .entry))) ⌝ }
     ensures { λ r. ⌜ SavedUnchangedOnRefusal r (now (s .entry)) (now (s .exit)) ⌝ }
 {
     let setup = setup_at(s);

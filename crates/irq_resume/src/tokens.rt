@@ -29,8 +29,13 @@ ghost use Rattle.machine.specs.Suspended.{decode, machineOf, resumed, answerOf,
 
 // the arm of SOF (mod.rs 750-754).
 pub fn resume_sof_arm(s: &mut [u8; STATE_LEN], slots: &mut [u8], v: u32) -> Step
-    requires { ⌜ decode (saved (now s)) ≡ Under.Interrupt (Point.SofArm (isOn ((saved (now s)) .flag)) (transferOf (saved (now s))) (isOn ((saved (now s)) .now)) ((saved (now s)) .frame) (sofOf ((saved (now s)) .sub) ((saved (now s)) .ep) ((saved (now s)) .eps))) ⌝ }
-    ensures { λ r. ⌜ (answerOf r [] (view (now (s .exit))), machineOf (now (s .exit)) (now (slots .exit))) ≡ resumed v (decode (saved (now (s .entry)))) (view (now (s .entry))) (now (slots .entry)) ⌝ }
+    requires { ⌜ decode (saved (now s)) ≡ Under.Interrupt
+        (Point.SofArm (isOn ((saved (now s)) .flag)) (transferOf (saved (now s))) (isOn ((saved (now s)) .now))
+        ((saved (now s)) .frame) (sofOf ((saved (now s)) .sub) ((saved (now s)) .ep) ((saved (now s)) .eps))) ⌝ }
+    ensures { λ r. ⌜ (
+      answerOf r [] (view (now (s .exit))),
+      machineOf (now (s .exit)) (now (slots .exit)),
+    ) ≡ resumed v (decode (saved (now (s .entry)))) (view (now (s .entry))) (now (slots .entry)) ⌝ }
     ensures { λ r. ⌜ SavedUnchangedOnRefusal r (now (s .entry)) (now (s .exit)) ⌝ }
 {
     let q = sof_at(s);
@@ -46,8 +51,12 @@ pub fn resume_sof_arm(s: &mut [u8; STATE_LEN], slots: &mut [u8], v: u32) -> Step
 
 // EP0's control word (mod.rs 757, 781).
 pub fn resume_flip(s: &mut [u8; STATE_LEN], v: u32) -> Step
-    requires { ⌜ decode (saved (now s)) ≡ Under.Interrupt (Point.Flip (dirOf ((saved (now s)) .ep)) (isOn ((saved (now s)) .flag)) (transferOf (saved (now s))) (isOn ((saved (now s)) .now))) ⌝ }
-    ensures { λ r. ⌜ ((b : List ℕ) → (answerOf r [] (view (now (s .exit))), machineOf (now (s .exit)) b) ≡ resumed v (decode (saved (now (s .entry)))) (view (now (s .entry))) b) ⌝ }
+    requires { ⌜ decode (saved (now s)) ≡ Under.Interrupt
+        (Point.Flip (dirOf ((saved (now s)) .ep)) (isOn ((saved (now s)) .flag)) (transferOf (saved (now s))) (isOn ((saved (now s)) .now))) ⌝ }
+    ensures { λ r. ⌜ ((b : List ℕ) → (
+      answerOf r [] (view (now (s .exit))),
+      machineOf (now (s .exit)) b,
+    ) ≡ resumed v (decode (saved (now (s .entry)))) (view (now (s .entry))) b) ⌝ }
     ensures { λ r. ⌜ SavedUnchangedOnRefusal r (now (s .entry)) (now (s .exit)) ⌝ }
 {
     if fits(v, 8) {
@@ -62,8 +71,12 @@ pub fn resume_flip(s: &mut [u8; STATE_LEN], v: u32) -> Step
 
 // its toggle is flipped.
 pub fn resume_flipped(s: &mut [u8; STATE_LEN], slots: &mut [u8]) -> Step
-    requires { ⌜ decode (saved (now s)) ≡ Under.Interrupt (Point.Flipped (dirOf ((saved (now s)) .ep)) (isOn ((saved (now s)) .flag)) (transferOf (saved (now s))) (isOn ((saved (now s)) .now))) ⌝ }
-    ensures { λ r. ⌜ ((v : ℕ) → (answerOf r [] (view (now (s .exit))), machineOf (now (s .exit)) (now (slots .exit))) ≡ resumed v (decode (saved (now (s .entry)))) (view (now (s .entry))) (now (slots .entry))) ⌝ }
+    requires { ⌜ decode (saved (now s)) ≡ Under.Interrupt (Point.Flipped (dirOf ((saved (now s)) .ep))
+        (isOn ((saved (now s)) .flag)) (transferOf (saved (now s))) (isOn ((saved (now s)) .now))) ⌝ }
+    ensures { λ r. ⌜ ((v : ℕ) → (
+      answerOf r [] (view (now (s .exit))),
+      machineOf (now (s .exit)) (now (slots .exit)),
+    ) ≡ resumed v (decode (saved (now (s .entry)))) (view (now (s .entry))) (now (slots .entry))) ⌝ }
     ensures { λ r. ⌜ SavedUnchangedOnRefusal r (now (s .entry)) (now (s .exit)) ⌝ }
 {
     let d = dir_at(s);
@@ -75,8 +88,12 @@ pub fn resume_flipped(s: &mut [u8; STATE_LEN], slots: &mut [u8]) -> Step
 
 // did a packet go through? (`toggled`).
 pub fn resume_toggled(s: &mut [u8; STATE_LEN], slots: &mut [u8], v: u32) -> Step
-    requires { ⌜ decode (saved (now s)) ≡ Under.Interrupt (Point.Toggled (dirOf ((saved (now s)) .ep)) (isOn ((saved (now s)) .flag)) (transferOf (saved (now s))) (isOn ((saved (now s)) .now)) (toggledOf ((saved (now s)) .sub) ((saved (now s)) .n))) ⌝ }
-    ensures { λ r. ⌜ (answerOf r [] (view (now (s .exit))), machineOf (now (s .exit)) (now (slots .exit))) ≡ resumed v (decode (saved (now (s .entry)))) (view (now (s .entry))) (now (slots .entry)) ⌝ }
+    requires { ⌜ decode (saved (now s)) ≡ Under.Interrupt (Point.Toggled (dirOf ((saved (now s)) .ep)) (isOn ((saved (now s)) .flag))
+        (transferOf (saved (now s))) (isOn ((saved (now s)) .now)) (toggledOf ((saved (now s)) .sub) ((saved (now s)) .n))) ⌝ }
+    ensures { λ r. ⌜ (
+      answerOf r [] (view (now (s .exit))),
+      machineOf (now (s .exit)) (now (slots .exit)),
+    ) ≡ resumed v (decode (saved (now (s .entry)))) (view (now (s .entry))) (now (slots .entry)) ⌝ }
     ensures { λ r. ⌜ SavedUnchangedOnRefusal r (now (s .entry)) (now (s .exit)) ⌝ }
 {
     let q = toggled_at(s);
@@ -92,8 +109,12 @@ pub fn resume_toggled(s: &mut [u8; STATE_LEN], slots: &mut [u8], v: u32) -> Step
 
 // an isochronous IN completes (mod.rs 772-777).
 pub fn resume_completing(s: &mut [u8; STATE_LEN], slots: &mut [u8]) -> Step
-    requires { ⌜ decode (saved (now s)) ≡ Under.Interrupt (Point.Completing (isOn ((saved (now s)) .flag)) (transferOf (saved (now s))) (isOn ((saved (now s)) .now)) (completeOf ((saved (now s)) .sub) ((saved (now s)) .ep))) ⌝ }
-    ensures { λ r. ⌜ ((v : ℕ) → (answerOf r [] (view (now (s .exit))), machineOf (now (s .exit)) (now (slots .exit))) ≡ resumed v (decode (saved (now (s .entry)))) (view (now (s .entry))) (now (slots .entry))) ⌝ }
+    requires { ⌜ decode (saved (now s)) ≡ Under.Interrupt (Point.Completing (isOn ((saved (now s)) .flag))
+        (transferOf (saved (now s))) (isOn ((saved (now s)) .now)) (completeOf ((saved (now s)) .sub) ((saved (now s)) .ep))) ⌝ }
+    ensures { λ r. ⌜ ((v : ℕ) → (
+      answerOf r [] (view (now (s .exit))),
+      machineOf (now (s .exit)) (now (slots .exit)),
+    ) ≡ resumed v (decode (saved (now (s .entry)))) (view (now (s .entry))) (now (slots .entry))) ⌝ }
     ensures { λ r. ⌜ SavedUnchangedOnRefusal r (now (s .entry)) (now (s .exit)) ⌝ }
 {
     let setup = setup_at(s);

@@ -38,7 +38,10 @@ fn after_late(
     iso: bool,
     frame: u16,
 ) -> Step
-    ensures { λ r. ⌜ Stops r (now (s .exit)) (now (buf .exit)) (finish setup (run concrete (afterLate x iso frame) (view (now (s .entry)), now (buf .entry)))) ⌝ }
+    ensures { λ r. ⌜ Stops r (now (s .exit)) (now (buf .exit)) (finish setup (run concrete (afterLate x iso frame) (
+      view (now (s .entry)),
+      now (buf .entry),
+    ))) ⌝ }
     ensures { λ r. ⌜ Stored r (now (s .exit)) ⌝ }
 {
     if x.busy {
@@ -57,7 +60,8 @@ fn then_late(
     n: LateNext,
 ) -> Step
     requires { ⌜ lates.Linked n ⌝ }
-    ensures { λ r. ⌜ Stops r (now (s .exit)) (now (buf .exit)) (finish setup (bindOut (lates.meaning frame n (view (now (s .entry))) (now (buf .entry))) (λ _ u. run concrete (afterLate x iso frame) u))) ⌝ }
+    ensures { λ r. ⌜ Stops r (now (s .exit)) (now (buf .exit)) (finish setup
+        (bindOut (lates.meaning frame n (view (now (s .entry))) (now (buf .entry))) (λ _ u. run concrete (afterLate x iso frame) u))) ⌝ }
     ensures { λ r. ⌜ Stored r (now (s .exit)) ⌝ }
 {
     match n {
@@ -75,7 +79,10 @@ pub fn after_completions(
     frame: u16,
     p: Late,
 ) -> Step
-    ensures { λ r. ⌜ ((v : ℕ) → Stops r (now (s .exit)) (now (buf .exit)) (denote (Point.Late setup x iso frame p) v (view (now (s .entry)), now (buf .entry)))) ⌝ }
+    ensures { λ r. ⌜ ((v : ℕ) → Stops r (now (s .exit)) (now (buf .exit)) (denote (Point.Late setup x iso frame p) v (
+      view (now (s .entry)),
+      now (buf .entry),
+    ))) ⌝ }
     ensures { λ r. ⌜ Stored r (now (s .exit)) ⌝ }
 {
     let n = late::resume(s, frame, p);
@@ -91,7 +98,10 @@ fn after_sof(
     iso: bool,
     frame: u16,
 ) -> Step
-    ensures { λ r. ⌜ Stops r (now (s .exit)) (now (buf .exit)) (finish setup (run concrete (afterSof x iso frame) (view (now (s .entry)), now (buf .entry)))) ⌝ }
+    ensures { λ r. ⌜ Stops r (now (s .exit)) (now (buf .exit)) (finish setup (run concrete (afterSof x iso frame) (
+      view (now (s .entry)),
+      now (buf .entry),
+    ))) ⌝ }
     ensures { λ r. ⌜ Stored r (now (s .exit)) ⌝ }
 {
     if x.late {
@@ -111,7 +121,8 @@ fn then_sof(
     n: SofNext,
 ) -> Step
     requires { ⌜ sofs.Linked n ⌝ }
-    ensures { λ r. ⌜ Stops r (now (s .exit)) (now (buf .exit)) (finish setup (bindOut (sofs.meaning frame n (view (now (s .entry))) (now (buf .entry))) (λ _ u. run concrete (afterSof x iso frame) u))) ⌝ }
+    ensures { λ r. ⌜ Stops r (now (s .exit)) (now (buf .exit))
+        (finish setup (bindOut (sofs.meaning frame n (view (now (s .entry))) (now (buf .entry))) (λ _ u. run concrete (afterSof x iso frame) u))) ⌝ }
     ensures { λ r. ⌜ Stored r (now (s .exit)) ⌝ }
 {
     match n {

@@ -108,7 +108,10 @@ pub fn after_flipped(
     x: Transfer,
     iso: bool,
 ) -> Step
-    ensures { λ r. ⌜ ((v : ℕ) → Stops r (now (s .exit)) (now (buf .exit)) (denote (Point.Flipped d setup x iso) v (view (now (s .entry)), now (buf .entry)))) ⌝ }
+    ensures { λ r. ⌜ ((v : ℕ) → Stops r (now (s .exit)) (now (buf .exit)) (denote (Point.Flipped d setup x iso) v (
+      view (now (s .entry)),
+      now (buf .entry),
+    ))) ⌝ }
     ensures { λ r. ⌜ Stored r (now (s .exit)) ⌝ }
 {
     flip_done(s, d, x.len);
@@ -149,7 +152,8 @@ fn then_toggled(
     n: ToggledNext,
 ) -> Step
     requires { ⌜ toggles.Linked n ⌝ }
-    ensures { λ r. ⌜ Stops r (now (s .exit)) (now (buf .exit)) (thenCheck setup x iso (bindOut (toggles.meaning d (endpoint (x .st)) n (view (now (s .entry))) (now (buf .entry))) (λ b u. run concrete (afterToggled d x b) u))) ⌝ }
+    ensures { λ r. ⌜ Stops r (now (s .exit)) (now (buf .exit)) (thenCheck setup x iso
+        (bindOut (toggles.meaning d (endpoint (x .st)) n (view (now (s .entry))) (now (buf .entry))) (λ b u. run concrete (afterToggled d x b) u))) ⌝ }
     ensures { λ r. ⌜ Stored r (now (s .exit)) ⌝ }
 {
     match n {
@@ -191,7 +195,10 @@ fn toggled_arm(
     x: Transfer,
     iso: bool,
 ) -> Step
-    ensures { λ r. ⌜ Stops r (now (s .exit)) (now (buf .exit)) (thenCheck setup x iso (bindOut (run concrete (script.toggled {i = true} d (endpoint (x .st))) (view (now (s .entry)), now (buf .entry))) (λ b u. run concrete (afterToggled d x b) u))) ⌝ }
+    ensures { λ r. ⌜ Stops r (now (s .exit)) (now (buf .exit)) (thenCheck setup x iso (bindOut (run concrete (script.toggled {i = true} d (endpoint (x .st))) (
+      view (now (s .entry)),
+      now (buf .entry),
+    )) (λ b u. run concrete (afterToggled d x b) u))) ⌝ }
     ensures { λ r. ⌜ Stored r (now (s .exit)) ⌝ }
 {
     let n = toggled::begin(d, status::endpoint(x.st));
@@ -200,7 +207,10 @@ fn toggled_arm(
 
 // The arms of OUT (mod.rs 755-771).
 fn out_arm(s: &mut [u8; STATE_LEN], buf: &mut [u8], setup: bool, x: Transfer, iso: bool) -> Step
-    ensures { λ r. ⌜ Stops r (now (s .exit)) (now (buf .exit)) (thenCheck setup x iso (run concrete (script.outArm {i = true} x iso) (view (now (s .entry)), now (buf .entry)))) ⌝ }
+    ensures { λ r. ⌜ Stops r (now (s .exit)) (now (buf .exit)) (thenCheck setup x iso (run concrete (script.outArm {i = true} x iso) (
+      view (now (s .entry)),
+      now (buf .entry),
+    ))) ⌝ }
     ensures { λ r. ⌜ Stored r (now (s .exit)) ⌝ }
 {
     if iso {
@@ -241,7 +251,10 @@ pub fn after_completing(
     iso: bool,
     p: Complete,
 ) -> Step
-    ensures { λ r. ⌜ ((v : ℕ) → Stops r (now (s .exit)) (now (buf .exit)) (denote (Point.Completing setup x iso p) v (view (now (s .entry)), now (buf .entry)))) ⌝ }
+    ensures { λ r. ⌜ ((v : ℕ) → Stops r (now (s .exit)) (now (buf .exit)) (denote (Point.Completing setup x iso p) v (
+      view (now (s .entry)),
+      now (buf .entry),
+    ))) ⌝ }
     ensures { λ r. ⌜ Stored r (now (s .exit)) ⌝ }
 {
     let n = complete::iso_in_complete_resume(s, p);
@@ -257,7 +270,8 @@ fn iso_in_arm(
     iso: bool,
     frame: u16,
 ) -> Step
-    ensures { λ r. ⌜ Stops r (now (s .exit)) (now (buf .exit)) (thenCheck setup x iso (run concrete (script.isoInArm {i = true} (endpoint (x .st)) frame) (view (now (s .entry)), now (buf .entry)))) ⌝ }
+    ensures { λ r. ⌜ Stops r (now (s .exit)) (now (buf .exit))
+        (thenCheck setup x iso (run concrete (script.isoInArm {i = true} (endpoint (x .st)) frame) (view (now (s .entry)), now (buf .entry)))) ⌝ }
     ensures { λ r. ⌜ Stored r (now (s .exit)) ⌝ }
 {
     let ep = status::endpoint(x.st);
@@ -281,7 +295,10 @@ fn in_arm(
     iso: bool,
     frame: u16,
 ) -> Step
-    ensures { λ r. ⌜ Stops r (now (s .exit)) (now (buf .exit)) (thenCheck setup x iso (run concrete (script.inArm {i = true} x iso frame) (view (now (s .entry)), now (buf .entry)))) ⌝ }
+    ensures { λ r. ⌜ Stops r (now (s .exit)) (now (buf .exit)) (thenCheck setup x iso (run concrete (script.inArm {i = true} x iso frame) (
+      view (now (s .entry)),
+      now (buf .entry),
+    ))) ⌝ }
     ensures { λ r. ⌜ Stored r (now (s .exit)) ⌝ }
 {
     if iso {
@@ -339,7 +356,10 @@ fn sof_arm(
     iso: bool,
     frame: u16,
 ) -> Step
-    ensures { λ r. ⌜ Stops r (now (s .exit)) (now (buf .exit)) (thenCheck setup x iso (run concrete (script.sofArm {i = true} frame) (view (now (s .entry)), now (buf .entry)))) ⌝ }
+    ensures { λ r. ⌜ Stops r (now (s .exit)) (now (buf .exit)) (thenCheck setup x iso (run concrete (script.sofArm {i = true} frame) (
+      view (now (s .entry)),
+      now (buf .entry),
+    ))) ⌝ }
     ensures { λ r. ⌜ Stored r (now (s .exit)) ⌝ }
 {
     let g = load_globals(s);
@@ -358,7 +378,8 @@ pub fn dispatch(
     iso: bool,
     frame: u16,
 ) -> Step
-    ensures { λ r. ⌜ Stops r (now (s .exit)) (now (buf .exit)) (thenCheck setup x iso (run concrete (script.dispatch {i = true} (token (x .st)) x iso frame) (view (now (s .entry)), now (buf .entry)))) ⌝ }
+    ensures { λ r. ⌜ Stops r (now (s .exit)) (now (buf .exit)) (thenCheck setup x iso
+        (run concrete (script.dispatch {i = true} (token (x .st)) x iso frame) (view (now (s .entry)), now (buf .entry)))) ⌝ }
     ensures { λ r. ⌜ Stored r (now (s .exit)) ⌝ }
 {
     let t = status::token(x.st);

@@ -46,14 +46,16 @@ nak-linked n q p h k = subst nak.Linked h k
 
 -- ---- int_st is read again: what follows `nak_non_iso`
 
-module _ (x : Transfer) (st v : ℕ) (n : NakNext) (d : Driver) (b : List ℕ) (h : st ≡ v) (k : nak.meaning st n d b ≡ run concrete (nakNonIso {i = true} st) (d, b)) where
+module _ (x : Transfer) (st v : ℕ) (n : NakNext) (d : Driver)
+    (b : List ℕ) (h : st ≡ v) (k : nak.meaning st n d b ≡ run concrete (nakNonIso {i = true} st) (d, b)) where
   abbrev taken : Unit {0} → tree.Prog St Transfer
   taken _ u = ends (retaken x st) u
 
   read-as : run concrete (settle.afterSt x st) (d, b) ≡ run concrete (settle.afterSt x v) (d, b)
   read-as = ap (λ (w : ℕ). run concrete (settle.afterSt x w) (d, b)) h
 
-  pub st-asks : (q : Access) (p : Nak) → n ≡ nak-next.Asks q p → asks q (d, b) (λ w t. bindOut (nak.denote st p w t) taken) ≡ run concrete (settle.afterSt x v) (d, b)
+  pub st-asks : (q : Access) (p : Nak) → n ≡ nak-next.Asks q p
+      → asks q (d, b) (λ w t. bindOut (nak.denote st p w t) taken) ≡ run concrete (settle.afterSt x v) (d, b)
   unfolding settle.afterSt
   st-asks q p l = nak-asks taken st n q p d b (run concrete (nakNonIso {i = true} st) (d, b)) l k ∙ read-as
 

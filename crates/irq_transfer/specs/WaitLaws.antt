@@ -37,7 +37,8 @@ ended true n h t = refl
 ended false zero h t = none-left t
 ended false (suc n) h t = absurd (none n (eqb-true (suc n) 0 h))
 
-again : (a : Bool) (n : ℕ) → (a || eqb n 0) ≡ false → (t : St) → run concrete (test {i = true} a done (looks n)) t ≡ asks (Read MisSt 0) t (λ v u. looked v (n - 1) u)
+again : (a : Bool) (n : ℕ) → (a || eqb n 0) ≡ false
+    → (t : St) → run concrete (test {i = true} a done (looks n)) t ≡ asks (Read MisSt 0) t (λ v u. looked v (n - 1) u)
 again true n h t = absurd (true≢false h)
 again false zero h t = absurd (true≢false h)
 again false (suc n) h t = one-look n t ∙ ap (λ (k : ℕ). asks (Read MisSt 0) t (λ v u. looked v k u)) (less n)
@@ -47,14 +48,16 @@ some true n h = absurd (true≢false h)
 some false zero h = absurd (true≢false h)
 some false (suc n) h = omega arith
 
-pub wait-begun : {A : Type 0} (f : Unit {0} → tree.Prog St A) (t : St) → bindOut (run concrete (sieWait {i = true}) t) f ≡ asks (Read MisSt 0) t (λ v u. bindOut (looked v 2000 u) f)
+pub wait-begun : {A : Type 0} (f : Unit {0} → tree.Prog St A) (t : St)
+    → bindOut (run concrete (sieWait {i = true}) t) f ≡ asks (Read MisSt 0) t (λ v u. bindOut (looked v 2000 u) f)
 wait-begun f t = ap (λ (o : tree.Out St Unit). bindOut o f) (one-look 2000 t)
 
 pub wait-over : (v n : ℕ) → over v n ≡ true → {A : Type 0} (f : Unit {0} → tree.Prog St A) (t : St) → bindOut (looked v n t) f ≡ f tt t
 unfolding looked over
 wait-over v n h f t = ap (λ (o : tree.Out St Unit). bindOut o f) (ended (sieFree v) n h t)
 
-pub wait-more : (v n : ℕ) → over v n ≡ false → {A : Type 0} (f : Unit {0} → tree.Prog St A) (t : St) → bindOut (looked v n t) f ≡ asks (Read MisSt 0) t (λ w u. bindOut (looked w (n - 1) u) f)
+pub wait-more : (v n : ℕ) → over v n ≡ false → {A : Type 0} (f : Unit {0} → tree.Prog St A) (t : St)
+    → bindOut (looked v n t) f ≡ asks (Read MisSt 0) t (λ w u. bindOut (looked w (n - 1) u) f)
 unfolding looked over
 wait-more v n h f t = ap (λ (o : tree.Out St Unit). bindOut o f) (again (sieFree v) n h t)
 

@@ -93,7 +93,8 @@ asked q p d b = asks q (d, b) (λ _ t. complete.denote p t)
 pub next-linked : (n : CompleteNext) (q : Access) (p : Complete) → n ≡ next.Asks q p → complete.Linked n → awaited q ≡ nothing
 next-linked n q p h l = subst complete.Linked h l
 
-next-asked : (n : CompleteNext) (q : Access) (p : Complete) (d : Driver) (b : List ℕ) (o : tree.Out St Unit) → n ≡ next.Asks q p → complete.meaning n d b ≡ o → asked q p d b ≡ o
+next-asked : (n : CompleteNext) (q : Access) (p : Complete) (d : Driver) (b : List ℕ) (o : tree.Out St Unit)
+    → n ≡ next.Asks q p → complete.meaning n d b ≡ o → asked q p d b ≡ o
 next-asked n q p d b o h k = ap (λ (x : CompleteNext). complete.meaning x d b) (sym h) ∙ k
 
 next-ended : (n : CompleteNext) (d : Driver) (b : List ℕ) (o : tree.Out St Unit) → n ≡ next.Ends → complete.meaning n d b ≡ o → ends tt (d, b) ≡ o
@@ -127,7 +128,8 @@ unfolding sof.walking
 sof-told frame e m t true = refl
 sof-told frame e m t false = refl
 
-sof-cons : (frame e m : ℕ) (t : St) (passed : Bool) → inPrevious (epOn (t .0) In e .«last_frame») frame ≡ passed → sofOver frame (e ∷ setBits m) t ≡ sofAt frame e m passed t
+sof-cons : (frame e m : ℕ) (t : St) (passed : Bool) → inPrevious (epOn (t .0) In e .«last_frame») frame ≡ passed
+    → sofOver frame (e ∷ setBits m) t ≡ sofAt frame e m passed t
 unfolding sofWalk
 sof-cons frame e m t passed h = ap (λ (x : Bool). sofWith frame e m x t) h ∙ sof-told frame e m t passed
 
@@ -146,7 +148,9 @@ sof-step frame m e k t r x passed p l he hk hr hx hp =
     ∙ (ap (λ (z : ℕ). sofOver frame (e ∷ setBits z) t) (sym hk)
     ∙ sof-cons frame e k t passed (ap (λ (z : EpState). inPrevious (z .«last_frame») frame) (sym hr) ∙ (sym hx ∙ hp))))
 
-entered : (frame : ℕ) (d : Driver) (b : List ℕ) → sof.walking frame (isoInEvery (withSofFrame frame (d .globals))) (withGlobals d (withSofFrame frame (d .globals)), b) ≡ go {i = true} (onSof frame) d b
+entered : (frame : ℕ) (d : Driver) (b : List ℕ)
+    → sof.walking frame (isoInEvery (withSofFrame frame (d .globals))) (withGlobals d (withSofFrame frame (d .globals)), b)
+    ≡ go {i = true} (onSof frame) d b
 unfolding sof.walking
 entered frame d b = refl
 
@@ -161,7 +165,8 @@ sof-entered frame m d x g b hg hx hm =
     ∙ (ap (λ (z : Globals). sof.walking frame (isoInEvery (withSofFrame frame z)) (withGlobals d (withSofFrame frame z), b)) hg
     ∙ entered frame d b))
 
-unseen-framed : (frame e : ℕ) (d : Driver) (b : List ℕ) → go {i = true} (isoInComplete e) (framedOn d e (frameOf (previous (indexOf frame)))) b ≡ go {i = true} (unseen frame e) d b
+unseen-framed : (frame e : ℕ) (d : Driver) (b : List ℕ)
+    → go {i = true} (isoInComplete e) (framedOn d e (frameOf (previous (indexOf frame)))) b ≡ go {i = true} (unseen frame e) d b
 unfolding framedOn
 unseen-framed frame e d b = refl
 
@@ -219,7 +224,8 @@ unfolding late.walking
 late-told frame e m t true = refl
 late-told frame e m t false = refl
 
-late-cons : (frame e m : ℕ) (d : Driver) (b : List ℕ) (first : Bool) → isFirst d e frame ≡ first → lateOver frame (e ∷ setBits m) (d, b) ≡ lateAt frame e m first (framedOn d e frame, b)
+late-cons : (frame e m : ℕ) (d : Driver) (b : List ℕ) (first : Bool)
+    → isFirst d e frame ≡ first → lateOver frame (e ∷ setBits m) (d, b) ≡ lateAt frame e m first (framedOn d e frame, b)
 unfolding lateWalk isFirst framedOn
 late-cons frame e m d b first h = ap (λ (x : Bool). lateWith frame e m x (framedOn d e frame, b)) h ∙ late-told frame e m (framedOn d e frame, b) first
 
@@ -302,7 +308,9 @@ paced-next e m frame n d b o h k = paced-on e m frame (d, b) ∙ ap (advance.the
 
 -- `iso_in_advance`, by the endpoint: paced and enabled, paced, neither
 abbrev counted : ℕ → Driver → List ℕ → tree.Out St Unit
-counted e d b = asks (Read FrameNo 0) (d, b) (λ v t. bindOut (run concrete (isoInCompletions {i = false} (completions (pacedOn (t .0) e) (indexOf v)) e) t) (λ _ u. ends tt (withPacedOn (u .0) e (frameOf (indexOf v)), u .1)))
+counted e d b = asks (Read FrameNo 0) (d, b)
+    (λ v t. bindOut (run concrete (isoInCompletions {i = false} (completions (pacedOn (t .0) e) (indexOf v)) e) t)
+    (λ _ u. ends tt (withPacedOn (u .0) e (frameOf (indexOf v)), u .1)))
 
 abbrev forgotten : ℕ → Driver → List ℕ → tree.Out St Unit
 forgotten e d b = ends tt (withPacedOn d e NO_FRAME, b)
@@ -320,17 +328,20 @@ abbrev sorted : ℕ → Driver → List ℕ → Bool → Bool → tree.Out St �
 sorted e d b paced on = bindOut (first e d b paced on) (λ _ u. ends 0 u)
 
 module _ (e : ℕ) (d : Driver) (b : List ℕ) where
-  of-sort : (paced on : Bool) → isSet (d .globals .«iso_in_paced») e ≡ paced → enables.isOn (d .globals .«ep_config») In e ≡ on → go (advance.advance e) d b ≡ sorted e d b paced on
+  of-sort : (paced on : Bool) → isSet (d .globals .«iso_in_paced») e ≡ paced
+      → enables.isOn (d .globals .«ep_config») In e ≡ on → go (advance.advance e) d b ≡ sorted e d b paced on
   of-sort paced on h k = ap (λ (x : Bool). sorted e d b x (enables.isOn (d .globals .«ep_config») In e)) h ∙ ap (λ (x : Bool). sorted e d b paced x) k
 
   reads : sorted e d b true true ≡ asks (Read FrameNo 0) (d, b) (λ v t. advance.afterFrameNo e v t)
   unfolding advance.completing
   reads = refl
 
-  pub advance-reads : isSet (d .globals .«iso_in_paced») e ≡ true → enables.isOn (d .globals .«ep_config») In e ≡ true → go (advance.advance e) d b ≡ asks (Read FrameNo 0) (d, b) (λ v t. advance.afterFrameNo e v t)
+  pub advance-reads : isSet (d .globals .«iso_in_paced») e ≡ true → enables.isOn (d .globals .«ep_config») In e ≡ true
+      → go (advance.advance e) d b ≡ asks (Read FrameNo 0) (d, b) (λ v t. advance.afterFrameNo e v t)
   advance-reads h k = of-sort true true h k ∙ reads
 
-  pub advance-forgets : isSet (d .globals .«iso_in_paced») e ≡ true → enables.isOn (d .globals .«ep_config») In e ≡ false → go (advance.advance e) d b ≡ ends 0 (withPacedOn d e NO_FRAME, b)
+  pub advance-forgets : isSet (d .globals .«iso_in_paced») e ≡ true → enables.isOn (d .globals .«ep_config») In e ≡ false
+      → go (advance.advance e) d b ≡ ends 0 (withPacedOn d e NO_FRAME, b)
   advance-forgets h k = of-sort true false h k
 
   pub advance-ends : isSet (d .globals .«iso_in_paced») e ≡ false → go (advance.advance e) d b ≡ ends 0 (d, b)

@@ -106,7 +106,8 @@ fn frame_before(frame: u16) -> u16
 
 // It completed in the microframe before.
 fn unseen(s: &mut [u8; STATE_LEN], frame: u16, e: u8, m: u16) -> SofNext
-    ensures { λ r. ⌜ ((b : List ℕ) → meaning frame r (view (now (s .exit))) b ≡ thenWalk frame m (go {i = true} (script.unseen frame e) (view (now (s .entry))) b)) ⌝ }
+    ensures { λ r. ⌜ ((b : List ℕ) → meaning frame r (view (now (s .exit))) b
+        ≡ thenWalk frame m (go {i = true} (script.unseen frame e) (view (now (s .entry))) b)) ⌝ }
     ensures { λ _. ⌜ saved (now (s .exit)) ≡ saved (now (s .entry)) ⌝ }
     ensures { λ r. ⌜ Linked r ⌝ }
 {

@@ -46,7 +46,8 @@ fn queue_at(s: &mut [u8; STATE_LEN], buf: &mut [u8], e: u8, bytes: &[u8]) -> Pac
 
 // `iso_in_prime`.
 pub fn iso_in_prime(s: &mut [u8; STATE_LEN], buf: &mut [u8], e: u32, bytes: &[u8]) -> Packet
-    ensures { λ r. ⌜ answered r (view (now (s .exit))) (now (buf .exit)) ≡ go (queuePacket {i = false} e (now (bytes .entry))) (view (now (s .entry))) (now (buf .entry)) ⌝ }
+    ensures { λ r. ⌜ answered r (view (now (s .exit))) (now (buf .exit))
+        ≡ go (queuePacket {i = false} e (now (bytes .entry))) (view (now (s .entry))) (now (buf .entry)) ⌝ }
     ensures { λ _. ⌜ saved (now (s .exit)) ≡ saved (now (s .entry)) ⌝ }
 {
     let row = refusal(s, Dir::In, e);

@@ -32,7 +32,8 @@ use Rattle.iso_out.specs.Points.{walk, showing, afterSt, arrival, denote
 all-of : (p q r s t u : Bool) → p ≡ false → q ≡ true → r ≡ true → s ≡ true → u ≡ t → u ≡ (not p && (q && (r && (s && t))))
 all-of p q r s t u a b c d e = rw (a, b, c, d) e
 
-pub entry-as : (x : Transfer) (iso : Bool) (e : ℕ) (u : Bool) → x .busy ≡ false → x .«len_ok» ≡ true → iso ≡ true → togOk (x .st) ≡ true → u ≡ arriving (x .st) e → u ≡ entry x iso e
+pub entry-as : (x : Transfer) (iso : Bool) (e : ℕ) (u : Bool) → x .busy ≡ false
+    → x .«len_ok» ≡ true → iso ≡ true → togOk (x .st) ≡ true → u ≡ arriving (x .st) e → u ≡ entry x iso e
 unfolding entry
 entry-as x iso e u a b c d h = all-of (x .busy) (x .«len_ok») iso (togOk (x .st)) (arriving (x .st) e) u a b c d h
 
@@ -84,7 +85,9 @@ walk-end x iso m t h = ap (λ (n : ℕ). listed x iso (setBits n) t) h ∙ (ap (
 -- ---- the endpoint at which it stops
 
 abbrev shown : Transfer → Bool → ℕ → ℕ → Bool → tree.Prog St Unit
-shown x iso e m y t = bindOut (cond y (run concrete (arrives {i = true} e (x .len)) t) (asks (Read IntSt 0) t (λ v u. run concrete (afterSt e v) u))) (λ _ u. run concrete (walk x iso m) u)
+shown x iso e m y t = bindOut
+    (cond y (run concrete (arrives {i = true} e (x .len)) t) (asks (Read IntSt 0) t (λ v u. run concrete (afterSt e v) u)))
+    (λ _ u. run concrete (walk x iso m) u)
 
 stops : (x : Transfer) (iso : Bool) (f : Found) (e m : ℕ) (y : Bool) (t : St) → f ≡ found.At e m → entry x iso e ≡ y → foundAs x iso f t ≡ shown x iso e m y t
 stops x iso f e m y t h k = ap (λ (g : Found). foundAs x iso g t) h ∙ ap (λ (z : Bool). shown x iso e m z t) k
@@ -122,7 +125,8 @@ status-marked x iso e m v len t h k = status x iso e m v false t h ∙ ap (λ (n
 
 -- ---- the begin
 
-pub begun : (x : Transfer) (iso : Bool) (m : ℕ) (d : Driver) (b : List ℕ) → m ≡ isoOuts (d .globals) → go (walk x iso m) d b ≡ go (isoOutCheck {i = true} x iso) d b
+pub begun : (x : Transfer) (iso : Bool) (m : ℕ) (d : Driver) (b : List ℕ)
+    → m ≡ isoOuts (d .globals) → go (walk x iso m) d b ≡ go (isoOutCheck {i = true} x iso) d b
 begun x iso m d b h = ap (λ (n : ℕ). go (walk x iso n) d b) h
 
 -- ---- a status is a byte

@@ -75,7 +75,10 @@ fn entry(x: Transfer, iso: bool, e: u8) -> bool
 
 // The endpoints whose slot is as it was armed are passed over (mod.rs 474-476).
 fn find(s: &[u8; STATE_LEN], buf: &[u8], mask: u16) -> Found
-    ensures { λ r. ⌜ ((x : Transfer) (iso : Bool) → go (walk x iso mask) (view (now (s .entry))) (now (buf .entry)) ≡ foundAs x iso r (view (now (s .entry)), now (buf .entry))) ⌝ }
+    ensures { λ r. ⌜ ((x : Transfer) (iso : Bool) → go (walk x iso mask) (view (now (s .entry))) (now (buf .entry)) ≡ foundAs x iso r (
+      view (now (s .entry)),
+      now (buf .entry),
+    )) ⌝ }
 {
     let mut m = mask;
     while m != 0 {
@@ -90,7 +93,8 @@ fn find(s: &[u8; STATE_LEN], buf: &[u8], mask: u16) -> Found
 
 // The packet is admitted or turned away, and the head's slot armed (mod.rs 491-508).
 fn arm(s: &mut [u8; STATE_LEN], buf: &mut [u8], e: u8, m: u16, len: u16) -> CheckNext
-    ensures { λ r. ⌜ ((x : Transfer) (iso : Bool) → meaning x iso r (view (now (s .exit))) (now (buf .exit)) ≡ go (arrival x iso e len m) (view (now (s .entry))) (now (buf .entry))) ⌝ }
+    ensures { λ r. ⌜ ((x : Transfer) (iso : Bool) → meaning x iso r (view (now (s .exit))) (now (buf .exit))
+        ≡ go (arrival x iso e len m) (view (now (s .entry))) (now (buf .entry))) ⌝ }
     ensures { λ _. ⌜ saved (now (s .exit)) ≡ saved (now (s .entry)) ⌝ }
     ensures { λ r. ⌜ Linked r ⌝ }
 {
@@ -167,7 +171,10 @@ fn after_armed(
     e: u8,
     m: u16,
 ) -> CheckNext
-    ensures { λ r. ⌜ ((v : ℕ) → meaning x iso r (view (now (s .exit))) (now (buf .exit)) ≡ denote x iso (Check.Armed e m) v (view (now (s .entry)), now (buf .entry))) ⌝ }
+    ensures { λ r. ⌜ ((v : ℕ) → meaning x iso r (view (now (s .exit))) (now (buf .exit)) ≡ denote x iso (Check.Armed e m) v (
+      view (now (s .entry)),
+      now (buf .entry),
+    )) ⌝ }
     ensures { λ _. ⌜ saved (now (s .exit)) ≡ saved (now (s .entry)) ⌝ }
     ensures { λ r. ⌜ Linked r ⌝ }
 {

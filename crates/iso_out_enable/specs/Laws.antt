@@ -27,11 +27,13 @@ end e on t = refl
 pub switch-end : (e : ℕ) (on : Bool) (n : ℕ) → n ≤ 3 → n ≢ 3 → n ≢ 2 → n ≢ 1 → (t : St) → switching e on n t ≡ run concrete (woken Out e) t
 switch-end e on n h three two one t = ap (λ (k : ℕ). switching e on k t) (none-left n h three two one) ∙ end e on t
 
-pub switch-config : (e : ℕ) (on : Bool) (t : St) → switching e on 1 t ≡ asks (Write EpConfig 0 (configStep e on (t .0) .0)) (configStep e on (t .0) .1, t .1) (λ _ u. switching e on 0 u)
+pub switch-config : (e : ℕ) (on : Bool) (t : St) → switching e on 1 t
+    ≡ asks (Write EpConfig 0 (configStep e on (t .0) .0)) (configStep e on (t .0) .1, t .1) (λ _ u. switching e on 0 u)
 unfolding switching woken
 switch-config e on t = refl
 
-pub switch-type : (e : ℕ) (on : Bool) (t : St) → switching e on 2 t ≡ asks (Write EpType 0 (typeStep e on (t .0) .0)) (typeStep e on (t .0) .1, t .1) (λ _ u. switching e on 1 u)
+pub switch-type : (e : ℕ) (on : Bool) (t : St) → switching e on 2 t
+    ≡ asks (Write EpType 0 (typeStep e on (t .0) .0)) (typeStep e on (t .0) .1, t .1) (λ _ u. switching e on 1 u)
 unfolding switching
 switch-type e on t = refl
 
@@ -39,7 +41,8 @@ pub switch-word : (e : ℕ) (on : Bool) (t : St) → switching e on 3 t ≡ asks
 unfolding switching
 switch-word e on t = refl
 
-slot : (e : ℕ) (on : Bool) (k : ℕ) (t : St) → switching e on (suc (suc (suc (suc k)))) t ≡ asks (Receive e (slotStep e k t .0)) (slotStep e k t .1) (λ _ u. switching e on (suc (suc (suc k))) u)
+slot : (e : ℕ) (on : Bool) (k : ℕ) (t : St) → switching e on (suc (suc (suc (suc k)))) t
+    ≡ asks (Receive e (slotStep e k t .0)) (slotStep e k t .1) (λ _ u. switching e on (suc (suc (suc k))) u)
 unfolding switching
 slot e on k t = refl
 
@@ -49,7 +52,8 @@ by-four k = omega arith
 by-one : (k : ℕ) → suc (suc (suc (suc k))) - 1 ≡ suc (suc (suc k))
 by-one k = omega arith
 
-pub switch-slot : (e : ℕ) (on : Bool) (n : ℕ) → 3 < n → (t : St) → switching e on n t ≡ asks (Receive e (slotStep e (n - 4) t .0)) (slotStep e (n - 4) t .1) (λ _ u. switching e on (n - 1) u)
+pub switch-slot : (e : ℕ) (on : Bool) (n : ℕ) → 3 < n → (t : St) → switching e on n t
+    ≡ asks (Receive e (slotStep e (n - 4) t .0)) (slotStep e (n - 4) t .1) (λ _ u. switching e on (n - 1) u)
 switch-slot e on zero h t = absurd (omega arith)
 switch-slot e on (suc zero) h t = absurd (omega arith)
 switch-slot e on (suc (suc zero)) h t = absurd (omega arith)

@@ -25,12 +25,14 @@ rowed : (dir : Dir) (e : ℕ) (p : Script false Answer) (d : Driver) (b : List �
 rowed dir e p d b = by-row (λ (n : ℕ). ends (Refused n) (d, b)) (go p d b) d dir e
 
 -- no row: the script
-pub passed : (dir : Dir) (e row : ℕ) (p : Script false Answer) (d : Driver) (b : List ℕ) → row ≡ refusalOf d dir e → row ≡ 0 → go p d b ≡ go (staged 2 (named dir e p)) d b
+pub passed : (dir : Dir) (e row : ℕ) (p : Script false Answer) (d : Driver) (b : List ℕ)
+    → row ≡ refusalOf d dir e → row ≡ 0 → go p d b ≡ go (staged 2 (named dir e p)) d b
 passed dir e row p d b h z =
     sym (rowed dir e p d b ∙ ap (λ (x : Bool). cond x (go p d b) (ends (Refused (refusalOf d dir e)) (d, b))) (eq-eqb (refusalOf d dir e) 0 (sym h ∙ z)))
 
 -- a row: its refusal
-pub refused : (dir : Dir) (e row : ℕ) (p : Script false Answer) (d : Driver) (b : List ℕ) → row ≡ refusalOf d dir e → row ≢ 0 → ends (Refused row) (d, b) ≡ go (staged 2 (named dir e p)) d b
+pub refused : (dir : Dir) (e row : ℕ) (p : Script false Answer) (d : Driver) (b : List ℕ)
+    → row ≡ refusalOf d dir e → row ≢ 0 → ends (Refused row) (d, b) ≡ go (staged 2 (named dir e p)) d b
 refused dir e row p d b h z =
     ap (λ (n : ℕ). ends (Refused n) (d, b)) h
     ∙ sym (rowed dir e p d b ∙ ap (λ (x : Bool). cond x (go p d b) (ends (Refused (refusalOf d dir e)) (d, b))) (ne-eqb (refusalOf d dir e) 0 (λ q. z (h ∙ q))))
@@ -40,7 +42,8 @@ passed-number d dir e row h z = numbered d dir e (eq-eqb (refusalOf d dir e) 0 (
 
 -- ---- open, by what is found
 
-pub open-shown : (e : ℕ) (d x : Driver) (b : List ℕ) (at n stamp : ℕ) → isOn (epOn d Out e .iso) ≡ true → waitingOn d Out e ≡ true → x ≡ openOn d e → at ≡ oldestAt x e → n ≡ nextLen x Out e → stamp ≡ nextStamp x e
+pub open-shown : (e : ℕ) (d x : Driver) (b : List ℕ) (at n stamp : ℕ) → isOn (epOn d Out e .iso) ≡ true
+    → waitingOn d Out e ≡ true → x ≡ openOn d e → at ≡ oldestAt x e → n ≡ nextLen x Out e → stamp ≡ nextStamp x e
     → answered (packet.Shown at n stamp) x b ≡ go (opening e) d b
 unfolding oldestOn
 open-shown e d x b at n stamp iso some h p q r =
@@ -50,7 +53,8 @@ open-shown e d x b at n stamp iso some h p q r =
     ∙ (ap (λ (y : Driver). ends (Shown (oldestOn y e b) (nextStamp y e)) (y, b)) h
     ∙ sym (simp (iso, some)))))
 
-pub open-none : (e : ℕ) (d : Driver) (b : List ℕ) → isOn (epOn d Out e .iso) ≡ true → waitingOn d Out e ≡ false → answered (packet.Refused 12) d b ≡ go (opening e) d b
+pub open-none : (e : ℕ) (d : Driver) (b : List ℕ) → isOn (epOn d Out e .iso) ≡ true
+    → waitingOn d Out e ≡ false → answered (packet.Refused 12) d b ≡ go (opening e) d b
 open-none e d b iso none = simp (iso, none)
 
 pub open-other : (e : ℕ) (d : Driver) (b : List ℕ) → isOn (epOn d Out e .iso) ≡ false → answered (packet.Refused 11) d b ≡ go (opening e) d b

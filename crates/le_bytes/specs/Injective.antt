@@ -85,7 +85,8 @@ tells-numbers ws bs cs l m p q e = numbers-injective ws bs cs l m p q e
 module _ (xs ys : List ℕ) (small-xs : (i : ℕ) → getD xs i 0 < 256) (small-ys : (i : ℕ) → getD ys i 0 < 256) where
   pub one-tells : {A : Type 0} (f : List ℕ → A) (o n : ℕ) → Tells n f → f (gets ys o 0 n) ≡ f (gets xs o 0 n) → Same xs ys o (o + n)
   one-tells f o n h e i p q =
-      let g : gets ys o 0 n ≡ gets xs o 0 n = h (gets ys o 0 n) (gets xs o 0 n) (length-getsFrom ys o 0 0 n) (length-getsFrom xs o 0 0 n) (small-getsFrom ys small-ys o 0 0 n) (small-getsFrom xs small-xs o 0 0 n) e in
+      let g : gets ys o 0 n ≡ gets xs o 0 n = h (gets ys o 0 n) (gets xs o 0 n) (length-getsFrom ys o 0 0 n)
+      (length-getsFrom xs o 0 0 n) (small-getsFrom ys small-ys o 0 0 n) (small-getsFrom xs small-xs o 0 0 n) e in
       let w : o + (i - o) ≡ i = omega arith in
       ap (λ (j : ℕ). getD ys j 0) (sym w) ∙ sym (getD-gets ys o n (i - o) (omega arith)) ∙ ap (λ (l : List ℕ). getD l (i - o) 0) g
       ∙ getD-gets xs o n (i - o) (omega arith) ∙ ap (λ (j : ℕ). getD xs j 0) w

@@ -20,7 +20,8 @@ pub length-puts : (xs : List ℕ) (o k : ℕ) (vs : List ℕ) → length (puts x
 length-puts xs o k vs = length-putsFrom xs o k 0 vs
 
 -- an index that no store meets
-putsFrom-apart : (xs : List ℕ) (o k i : ℕ) (vs : List ℕ) (j : ℕ) → ((m : ℕ) → i ≤ m → m < i + length vs → j ≢ o + (k + m)) → getD (putsFrom xs o k i vs) j 0 ≡ getD xs j 0
+putsFrom-apart : (xs : List ℕ) (o k i : ℕ) (vs : List ℕ) (j : ℕ)
+    → ((m : ℕ) → i ≤ m → m < i + length vs → j ≢ o + (k + m)) → getD (putsFrom xs o k i vs) j 0 ≡ getD xs j 0
 putsFrom-apart xs o k i [] j h = refl
 putsFrom-apart xs o k i (v ∷ vs) j h =
     putsFrom-apart (set xs (o + (k + i)) v) o k (i + 1) vs j (λ m a b. h m (omega arith) (omega arith))
@@ -29,7 +30,8 @@ putsFrom-apart xs o k i (v ∷ vs) j h =
 pub puts-same : (xs : List ℕ) (o : ℕ) (vs : List ℕ) (p q : ℕ) → (q ≤ o) ⊎ (o + length vs ≤ p) → Same xs (puts xs o 0 vs) p q
 puts-same xs o vs p q h i a b = putsFrom-apart xs o 0 0 vs i (λ m c d e. ⊎-elim (λ (l : q ≤ o). omega arith) (λ (l : o + length vs ≤ p). omega arith) h)
 
-getsFrom-ext : (xs ys : List ℕ) (o k i n : ℕ) → ((m : ℕ) → i ≤ m → m < i + n → getD ys (o + (k + m)) 0 ≡ getD xs (o + (k + m)) 0) → getsFrom ys o k i n ≡ getsFrom xs o k i n
+getsFrom-ext : (xs ys : List ℕ) (o k i n : ℕ) → ((m : ℕ) → i ≤ m → m < i + n → getD ys (o + (k + m)) 0 ≡ getD xs (o + (k + m)) 0)
+    → getsFrom ys o k i n ≡ getsFrom xs o k i n
 getsFrom-ext xs ys o k i zero h = refl
 getsFrom-ext xs ys o k i (suc n) h =
     λ t. h i (omega arith) (omega arith) t ∷ getsFrom-ext xs ys o k (i + 1) n (λ m a b. h m (omega arith) (omega arith)) t

@@ -75,7 +75,8 @@ module _ {A : Type 0} (f : List ℕ → A) (o n z : ℕ) where
       (λ j m d. ap f (gets-same xs ys (o + j * z) z (puts-same xs (o + k * z) bs (o + j * z) (o + j * z + z) (side j d))))
     where
       side : (j : ℕ) → j ≢ k → (o + j * z + z ≤ o + k * z) ⊎ (o + k * z + length bs ≤ o + j * z)
-      side j d = ⊎-elim (λ (h : j < k). inl (let b = next j k z h in omega arith)) (λ (h : k ≤ j). inr (let b = next k j z (omega arith) in omega arith)) (lt-or-ge j k)
+      side j d = ⊎-elim (λ (h : j < k). inl (let b = next j k z h in omega arith))
+          (λ (h : k ≤ j). inr (let b = next k j z (omega arith) in omega arith)) (lt-or-ge j k)
 
   pub table-at : (xs : List ℕ) (k : ℕ) (d : A) → k < n → f (gets xs (o + k * z) 0 z) ≡ getD (table xs o n z f) k d
   table-at xs k d l = sym (getD-tab (λ j. f (gets xs (o + j * z) 0 z)) n k d l)

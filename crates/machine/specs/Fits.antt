@@ -53,19 +53,24 @@ linked n q p e l = subst driver.Linked e l
 pub linked-bus : (n : busNext.Next) (q : Access) (p : busPoint.Point) → n ≡ next-of-bus.Asks q p → bus.Linked n → awaited q ≡ bus.awaitsAt p
 linked-bus n q p e l = subst bus.Linked e l
 
-pub linked-control : (n : controlNext.Next) (q : Access) (p : controlPoint.Point) → n ≡ next-of-control.Asks q p → control.Linked n → awaited q ≡ control.awaitsAt p
+pub linked-control : (n : controlNext.Next) (q : Access) (p : controlPoint.Point)
+    → n ≡ next-of-control.Asks q p → control.Linked n → awaited q ≡ control.awaitsAt p
 linked-control n q p e l = subst control.Linked e l
 
-pub linked-begun : (n : controlBegun.Begun) (q : Access) (p : controlPoint.Point) → n ≡ begun-of-control.Asks q p → control.LinkedBegun n → awaited q ≡ control.awaitsAt p
+pub linked-begun : (n : controlBegun.Begun) (q : Access) (p : controlPoint.Point)
+    → n ≡ begun-of-control.Asks q p → control.LinkedBegun n → awaited q ≡ control.awaitsAt p
 linked-begun n q p e l = subst control.LinkedBegun e l
 
-pub linked-polled : (n : controlPolled.Polled) (q : Access) (p : controlPoint.Point) → n ≡ polled-of-control.Asks q p → control.LinkedPolled n → awaited q ≡ control.awaitsAt p
+pub linked-polled : (n : controlPolled.Polled) (q : Access) (p : controlPoint.Point)
+    → n ≡ polled-of-control.Asks q p → control.LinkedPolled n → awaited q ≡ control.awaitsAt p
 linked-polled n q p e l = subst control.LinkedPolled e l
 
-pub linked-endpoint : (n : endpointNext.Next) (q : Access) (p : endpointPoint.Point) → n ≡ next-of-endpoint.Asks q p → endpoint.Linked n → awaited q ≡ endpoint.awaitsAt p
+pub linked-endpoint : (n : endpointNext.Next) (q : Access) (p : endpointPoint.Point)
+    → n ≡ next-of-endpoint.Asks q p → endpoint.Linked n → awaited q ≡ endpoint.awaitsAt p
 linked-endpoint n q p e l = subst endpoint.Linked e l
 
-pub linked-begun-endpoint : (n : endpointBegun.Begun) (q : Access) (p : endpointPoint.Point) → n ≡ begun-of-endpoint.Asks q p → endpoint.LinkedBegun n → awaited q ≡ endpoint.awaitsAt p
+pub linked-begun-endpoint : (n : endpointBegun.Begun) (q : Access) (p : endpointPoint.Point)
+    → n ≡ begun-of-endpoint.Asks q p → endpoint.LinkedBegun n → awaited q ≡ endpoint.awaitsAt p
 linked-begun-endpoint n q p e l = subst endpoint.LinkedBegun e l
 
 pub linked-advance : (n : AdvanceNext) (q : Access) (p : Advance) → n ≡ next-of-advance.Asks q p → advance.Linked n → awaited q ≡ advance.awaitsAt p
@@ -146,32 +151,41 @@ over-fits-advance (point-of-advance.Completing e n frame p) v = refl
 
 -- ---- a continue at each family's points
 
-pub gone-driver : (p : Point) (v : ℕ) (d : Driver) (b : Buf) → driver.fitsAt p v ≡ true → resumed v (under.Driver p) d b ≡ halts (run concrete (driver.denote p v >>= finish) (d, b))
+pub gone-driver : (p : Point) (v : ℕ) (d : Driver) (b : Buf) → driver.fitsAt p v ≡ true
+    → resumed v (under.Driver p) d b ≡ halts (run concrete (driver.denote p v >>= finish) (d, b))
 gone-driver p v d b h = gone false (driver.awaitsAt p) (λ x t. run concrete (driver.denote p x >>= finish) t) v d b (over-fits p v ∙ ap not h)
 
 pub stay-driver : (p : Point) (v : ℕ) (d : Driver) (b : Buf) → driver.fitsAt p v ≡ false → resumed v (under.Driver p) d b ≡ stayed (under.Driver p) d b
 stay-driver p v d b h = stays false (driver.awaitsAt p) (λ x t. run concrete (driver.denote p x >>= finish) t) v d b (over-fits p v ∙ ap not h)
 
-pub gone-bus : (p : busPoint.Point) (v : ℕ) (d : Driver) (b : Buf) → bus.fitsAt p v ≡ true → resumed v (under.Bus p) d b ≡ halts (bindOut (bus.denote p v (d, b)) (λ n u. run concrete (finish n) u))
+pub gone-bus : (p : busPoint.Point) (v : ℕ) (d : Driver) (b : Buf) → bus.fitsAt p v ≡ true
+    → resumed v (under.Bus p) d b ≡ halts (bindOut (bus.denote p v (d, b)) (λ n u. run concrete (finish n) u))
 gone-bus p v d b h = gone false (bus.awaitsAt p) (λ x t. bindOut (bus.denote p x t) (λ n u. run concrete (finish n) u)) v d b (over-fits-bus p v ∙ ap not h)
 
 pub stay-bus : (p : busPoint.Point) (v : ℕ) (d : Driver) (b : Buf) → bus.fitsAt p v ≡ false → resumed v (under.Bus p) d b ≡ stayed (under.Bus p) d b
 stay-bus p v d b h = stays false (bus.awaitsAt p) (λ x t. bindOut (bus.denote p x t) (λ n u. run concrete (finish n) u)) v d b (over-fits-bus p v ∙ ap not h)
 
-pub gone-control : (p : controlPoint.Point) (v : ℕ) (d : Driver) (b : Buf) → control.fitsAt p v ≡ true → resumed v (under.Control p) d b ≡ halts (run concrete (control.denote p v >>= finish) (d, b))
+pub gone-control : (p : controlPoint.Point) (v : ℕ) (d : Driver) (b : Buf) → control.fitsAt p v ≡ true
+    → resumed v (under.Control p) d b ≡ halts (run concrete (control.denote p v >>= finish) (d, b))
 gone-control p v d b h = gone false (control.awaitsAt p) (λ x t. run concrete (control.denote p x >>= finish) t) v d b (over-fits-control p v ∙ ap not h)
 
-pub stay-control : (p : controlPoint.Point) (v : ℕ) (d : Driver) (b : Buf) → control.fitsAt p v ≡ false → resumed v (under.Control p) d b ≡ stayed (under.Control p) d b
+pub stay-control : (p : controlPoint.Point) (v : ℕ) (d : Driver) (b : Buf)
+    → control.fitsAt p v ≡ false → resumed v (under.Control p) d b ≡ stayed (under.Control p) d b
 stay-control p v d b h = stays false (control.awaitsAt p) (λ x t. run concrete (control.denote p x >>= finish) t) v d b (over-fits-control p v ∙ ap not h)
 
-pub gone-endpoint : (p : endpointPoint.Point) (v : ℕ) (d : Driver) (b : Buf) → endpoint.fitsAt p v ≡ true → resumed v (under.Endpoint p) d b ≡ halts (run concrete (endpoint.denote p v >>= finish) (d, b))
+pub gone-endpoint : (p : endpointPoint.Point) (v : ℕ) (d : Driver) (b : Buf) → endpoint.fitsAt p v ≡ true
+    → resumed v (under.Endpoint p) d b ≡ halts (run concrete (endpoint.denote p v >>= finish) (d, b))
 gone-endpoint p v d b h = gone false (endpoint.awaitsAt p) (λ x t. run concrete (endpoint.denote p x >>= finish) t) v d b (over-fits-endpoint p v ∙ ap not h)
 
-pub stay-endpoint : (p : endpointPoint.Point) (v : ℕ) (d : Driver) (b : Buf) → endpoint.fitsAt p v ≡ false → resumed v (under.Endpoint p) d b ≡ stayed (under.Endpoint p) d b
+pub stay-endpoint : (p : endpointPoint.Point) (v : ℕ) (d : Driver) (b : Buf)
+    → endpoint.fitsAt p v ≡ false → resumed v (under.Endpoint p) d b ≡ stayed (under.Endpoint p) d b
 stay-endpoint p v d b h = stays false (endpoint.awaitsAt p) (λ x t. run concrete (endpoint.denote p x >>= finish) t) v d b (over-fits-endpoint p v ∙ ap not h)
 
-pub gone-advance : (p : Advance) (v : ℕ) (d : Driver) (b : Buf) → advance.fitsAt p v ≡ true → resumed v (under.Advance p) d b ≡ halts (bindOut (advance.denote p v (d, b)) (λ n u. run concrete (finish n) u))
-gone-advance p v d b h = gone false (advance.awaitsAt p) (λ x t. bindOut (advance.denote p x t) (λ n u. run concrete (finish n) u)) v d b (over-fits-advance p v ∙ ap not h)
+pub gone-advance : (p : Advance) (v : ℕ) (d : Driver) (b : Buf) → advance.fitsAt p v ≡ true
+    → resumed v (under.Advance p) d b ≡ halts (bindOut (advance.denote p v (d, b)) (λ n u. run concrete (finish n) u))
+gone-advance p v d b h = gone false (advance.awaitsAt p)
+    (λ x t. bindOut (advance.denote p x t) (λ n u. run concrete (finish n) u)) v d b (over-fits-advance p v ∙ ap not h)
 
 pub stay-advance : (p : Advance) (v : ℕ) (d : Driver) (b : Buf) → advance.fitsAt p v ≡ false → resumed v (under.Advance p) d b ≡ stayed (under.Advance p) d b
-stay-advance p v d b h = stays false (advance.awaitsAt p) (λ x t. bindOut (advance.denote p x t) (λ n u. run concrete (finish n) u)) v d b (over-fits-advance p v ∙ ap not h)
+stay-advance p v d b h = stays false (advance.awaitsAt p)
+    (λ x t. bindOut (advance.denote p x t) (λ n u. run concrete (finish n) u)) v d b (over-fits-advance p v ∙ ap not h)

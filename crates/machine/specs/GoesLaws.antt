@@ -25,10 +25,12 @@ abbrev goes : Bool → Awaits → (ℕ → St → Out St Answer) → ℕ → Dri
 goes i q k v d b x = cond x (ended (Refused 16), waiting i q k d b) (haltsAs i (k v (d, b)))
 
 -- what was read fits: the operation goes on with it
-pub gone : (i : Bool) (q : Awaits) (k : ℕ → St → Out St Answer) (v : ℕ) (d : Driver) (b : Buf) → over calls q v ≡ false → continued calls driverOf (λ s. s) v (waiting i q k d b) (busy i q k) b ≡ haltsAs i (k v (d, b))
+pub gone : (i : Bool) (q : Awaits) (k : ℕ → St → Out St Answer) (v : ℕ) (d : Driver) (b : Buf) → over calls q v ≡ false
+    → continued calls driverOf (λ s. s) v (waiting i q k d b) (busy i q k) b ≡ haltsAs i (k v (d, b))
 gone i q k v d b h = ap (goes i q k v d b) h
 
-pub stays : (i : Bool) (q : Awaits) (k : ℕ → St → Out St Answer) (v : ℕ) (d : Driver) (b : Buf) → over calls q v ≡ true → continued calls driverOf (λ s. s) v (waiting i q k d b) (busy i q k) b ≡ (ended (Refused 16), waiting i q k d b)
+pub stays : (i : Bool) (q : Awaits) (k : ℕ → St → Out St Answer) (v : ℕ) (d : Driver) (b : Buf) → over calls q v ≡ true
+    → continued calls driverOf (λ s. s) v (waiting i q k d b) (busy i q k) b ≡ (ended (Refused 16), waiting i q k d b)
 stays i q k v d b h = ap (goes i q k v d b) h
 
 -- ---- row 1
@@ -44,6 +46,8 @@ turned : {A : Type 0} (x : Bool) (y z : A) → cond (not x) y z ≡ cond x z y
 turned true y z = refl
 turned false y z = refl
 
-pub proceeds : (v : ℕ) (u : Suspended) (d : Driver) (a b : Buf) → drive (go v) (machineAt u d a) b ≡ cond (slotsFit d b) (resumed v u d b) (ended (Refused 1), machineAt u d a)
+pub proceeds : (v : ℕ) (u : Suspended) (d : Driver) (a b : Buf)
+    → drive (go v) (machineAt u d a) b ≡ cond (slotsFit d b) (resumed v u d b) (ended (Refused 1), machineAt u d a)
 unfolding slotsFit
-proceeds v u d a b = turned (slotsFit d b) (ended (Refused 1), machineAt u d a) (goneIn v (wayOf u) d a b) ∙ ap (λ (x : Called). cond (slotsFit d b) x (ended (Refused 1), machineAt u d a)) (goes-in v (wayOf u) d a b)
+proceeds v u d a b = turned (slotsFit d b) (ended (Refused 1), machineAt u d a) (goneIn v (wayOf u) d a b)
+    ∙ ap (λ (x : Called). cond (slotsFit d b) x (ended (Refused 1), machineAt u d a)) (goes-in v (wayOf u) d a b)

@@ -30,7 +30,8 @@ module _ (o : Slotted) (u : Suspended) (d : Driver) (a b : Buf) (out : List ℕ)
   abbrev lent : Called → List ℕ
   lent x = lentBy (x .0) out
 
-  pub lent-done : slotsFit d b ≡ true → isIdle u ≡ true → lentBy (drive (begin (slotted o)) (machineAt u d a) b .0) out ≡ lentAfter (run concrete (slottedCode o) (d, b)) out
+  pub lent-done : slotsFit d b ≡ true → isIdle u ≡ true
+      → lentBy (drive (begin (slotted o)) (machineAt u d a) b .0) out ≡ lentAfter (run concrete (slottedCode o) (d, b)) out
   lent-done f i = ap lent (slotted-idle o u d a b ∙ (ap fitting f ∙ ap unless-busy i)) ∙ lent-halts (run concrete (slottedCode o) (d, b)) out
 
   pub lent-busy : slotsFit d b ≡ true → isIdle u ≡ false → lentBy (drive (begin (slotted o)) (machineAt u d a) b .0) out ≡ out

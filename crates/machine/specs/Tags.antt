@@ -92,7 +92,8 @@ idle-by c (suc (suc (suc zero))) h = simp (← h)
 idle-by c (suc (suc (suc (suc zero)))) h = simp (← h)
 idle-by c (suc (suc (suc (suc (suc zero))))) h = simp (← h)
 idle-by c (suc (suc (suc (suc (suc (suc zero)))))) h = simp (← h)
-idle-by c (suc (suc (suc (suc (suc (suc (suc t))))))) h = simp (above c _ h (omega arith), lt-ltb 6 (suc (suc (suc (suc (suc (suc (suc t))))))) (omega arith), eqb·suc-zero)
+idle-by c (suc (suc (suc (suc (suc (suc (suc t))))))) h =
+    simp (above c _ h (omega arith), lt-ltb 6 (suc (suc (suc (suc (suc (suc (suc t))))))) (omega arith), eqb·suc-zero)
 
 pub passes-by : (c : Saved) (t : ℕ) → t ≡ c .tag → mayPass (decode c) ≡ cond (eqb t 0) true (ltb 5 t)
 unfolding mayPass decode
@@ -103,4 +104,5 @@ passes-by c (suc (suc (suc zero))) h = simp (← h)
 passes-by c (suc (suc (suc (suc zero)))) h = simp (← h)
 passes-by c (suc (suc (suc (suc (suc zero))))) h = simp (← h)
 passes-by c (suc (suc (suc (suc (suc (suc zero)))))) h = simp (← h)
-passes-by c (suc (suc (suc (suc (suc (suc (suc t))))))) h = simp (above c _ h (omega arith), lt-ltb 5 (suc (suc (suc (suc (suc (suc (suc t))))))) (omega arith), eqb·suc-zero)
+passes-by c (suc (suc (suc (suc (suc (suc (suc t))))))) h =
+    simp (above c _ h (omega arith), lt-ltb 5 (suc (suc (suc (suc (suc (suc (suc t))))))) (omega arith), eqb·suc-zero)

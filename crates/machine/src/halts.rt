@@ -21,12 +21,16 @@ ghost use Rattle.control.specs.Points as control;
 ghost use Rattle.endpoint.specs.Points as endpoint;
 ghost use Rattle.iso_in.specs.Advance as advance;
 ghost use Rattle.irq.specs.Points as handler;
-ghost use Rattle.machine.specs.Suspended.{withTag, encode, decode, finish, machineAt, machineOf, haltsAs, halts, handedOut, answerOf, SavedUnchangedOnRefusal, Stored, Leaves};
+ghost use Rattle.machine.specs.Suspended.{withTag, encode, decode, finish, machineAt, machineOf, haltsAs, halts};
+ghost use Rattle.machine.specs.Suspended.{handedOut, answerOf, SavedUnchangedOnRefusal, Stored, Leaves};
 ghost use Rattle.machine.specs.Rows.{isIdle};
 
 // The operation is under way: it stands where it handed out the access, at a point that is saved with its tag.
 fn asks(s: &mut [u8; STATE_LEN], q: Access, p: Saved, tag: u8) -> Step
-    ensures { λ r. ⌜ ((u : Suspended) → encode u ≡ withTag tag p → (out b : List ℕ) → (answerOf r out (view (now (s .exit))), machineOf (now (s .exit)) b) ≡ handedOut q u (view (now (s .entry))) b) ⌝ }
+    ensures { λ r. ⌜ ((u : Suspended) → encode u ≡ withTag tag p → (out b : List ℕ) → (
+      answerOf r out (view (now (s .exit))),
+      machineOf (now (s .exit)) b,
+    ) ≡ handedOut q u (view (now (s .entry))) b) ⌝ }
     ensures { λ r. ⌜ ((u : Suspended) → encode u ≡ withTag tag p → Stored r (now (s .exit))) ⌝ }
 {
     let mut c = p;
@@ -37,7 +41,10 @@ fn asks(s: &mut [u8; STATE_LEN], q: Access, p: Saved, tag: u8) -> Step
 
 // An operation has ended with its result: its wake-ups are answered.
 fn ended(s: &mut [u8; STATE_LEN], n: u16) -> Step
-    ensures { λ r. ⌜ ((b : List ℕ) → (answerOf r [] (view (now (s .exit))), machineOf (now (s .exit)) b) ≡ halts (run concrete (finish n) (view (now (s .entry)), b))) ⌝ }
+    ensures { λ r. ⌜ ((b : List ℕ) → (
+      answerOf r [] (view (now (s .exit))),
+      machineOf (now (s .exit)) b,
+    ) ≡ halts (run concrete (finish n) (view (now (s .entry)), b))) ⌝ }
     ensures { λ r. ⌜ Stored r (now (s .exit)) ⌝ }
 {
     state::store_saved(s, nothing());
@@ -48,7 +55,10 @@ fn ended(s: &mut [u8; STATE_LEN], n: u16) -> Step
 // It goes on, or has ended.
 pub fn suspend_or_end(s: &mut [u8; STATE_LEN], n: driver::Next) -> Step
     requires { ⌜ driver.Linked n ⌝ }
-    ensures { λ r. ⌜ ((b : List ℕ) → (answerOf r [] (view (now (s .exit))), machineOf (now (s .exit)) b) ≡ halts (bindOut (driver.meaning n (view (now (s .entry))) b) (λ k t. run concrete (finish k) t))) ⌝ }
+    ensures { λ r. ⌜ ((b : List ℕ) → (
+      answerOf r [] (view (now (s .exit))),
+      machineOf (now (s .exit)) b,
+    ) ≡ halts (bindOut (driver.meaning n (view (now (s .entry))) b) (λ k t. run concrete (finish k) t))) ⌝ }
     ensures { λ r. ⌜ Stored r (now (s .exit)) ⌝ }
 {
     match n {
@@ -60,7 +70,10 @@ pub fn suspend_or_end(s: &mut [u8; STATE_LEN], n: driver::Next) -> Step
 // The same of the bus's operations.
 pub fn suspend_or_end_bus(s: &mut [u8; STATE_LEN], n: bus::Next) -> Step
     requires { ⌜ bus.Linked n ⌝ }
-    ensures { λ r. ⌜ ((b : List ℕ) → (answerOf r [] (view (now (s .exit))), machineOf (now (s .exit)) b) ≡ halts (bindOut (bus.meaning n (view (now (s .entry))) b) (λ k t. run concrete (finish k) t))) ⌝ }
+    ensures { λ r. ⌜ ((b : List ℕ) → (
+      answerOf r [] (view (now (s .exit))),
+      machineOf (now (s .exit)) b,
+    ) ≡ halts (bindOut (bus.meaning n (view (now (s .entry))) b) (λ k t. run concrete (finish k) t))) ⌝ }
     ensures { λ r. ⌜ Stored r (now (s .exit)) ⌝ }
 {
     match n {
@@ -72,7 +85,10 @@ pub fn suspend_or_end_bus(s: &mut [u8; STATE_LEN], n: bus::Next) -> Step
 // The same of the control pipe's.
 pub fn suspend_or_end_control(s: &mut [u8; STATE_LEN], n: control::Next) -> Step
     requires { ⌜ control.Linked n ⌝ }
-    ensures { λ r. ⌜ ((b : List ℕ) → (answerOf r [] (view (now (s .exit))), machineOf (now (s .exit)) b) ≡ halts (bindOut (control.meaning n (view (now (s .entry))) b) (λ k t. run concrete (finish k) t))) ⌝ }
+    ensures { λ r. ⌜ ((b : List ℕ) → (
+      answerOf r [] (view (now (s .exit))),
+      machineOf (now (s .exit)) b,
+    ) ≡ halts (bindOut (control.meaning n (view (now (s .entry))) b) (λ k t. run concrete (finish k) t))) ⌝ }
     ensures { λ r. ⌜ Stored r (now (s .exit)) ⌝ }
 {
     match n {
@@ -84,7 +100,10 @@ pub fn suspend_or_end_control(s: &mut [u8; STATE_LEN], n: control::Next) -> Step
 // A begin of the control pipe's, with nothing under way.
 pub fn begun_control(s: &mut [u8; STATE_LEN], n: control::Begun) -> Step
     requires { ⌜ control.LinkedBegun n × (isIdle (decode (saved (now s))) ≡ true) ⌝ }
-    ensures { λ r. ⌜ ((b : List ℕ) → (answerOf r [] (view (now (s .exit))), machineOf (now (s .exit)) b) ≡ halts (control.begunAs n (view (now (s .entry))) b)) ⌝ }
+    ensures { λ r. ⌜ ((b : List ℕ) → (
+      answerOf r [] (view (now (s .exit))),
+      machineOf (now (s .exit)) b,
+    ) ≡ halts (control.begunAs n (view (now (s .entry))) b)) ⌝ }
     ensures { λ r. ⌜ SavedUnchangedOnRefusal r (now (s .entry)) (now (s .exit)) ⌝ }
 {
     match n {
@@ -97,7 +116,10 @@ pub fn begun_control(s: &mut [u8; STATE_LEN], n: control::Begun) -> Step
 // A poll of the control pipe's, with nothing under way.
 pub fn polled_control(s: &mut [u8; STATE_LEN], n: control::Polled) -> Step
     requires { ⌜ control.LinkedPolled n × (isIdle (decode (saved (now s))) ≡ true) ⌝ }
-    ensures { λ r. ⌜ ((out b : List ℕ) → (answerOf r out (view (now (s .exit))), machineOf (now (s .exit)) b) ≡ halts (control.polledAs n out (view (now (s .entry))) b)) ⌝ }
+    ensures { λ r. ⌜ ((out b : List ℕ) → (
+      answerOf r out (view (now (s .exit))),
+      machineOf (now (s .exit)) b,
+    ) ≡ halts (control.polledAs n out (view (now (s .entry))) b)) ⌝ }
     ensures { λ r. ⌜ SavedUnchangedOnRefusal r (now (s .entry)) (now (s .exit)) ⌝ }
 {
     match n {
@@ -112,7 +134,10 @@ pub fn polled_control(s: &mut [u8; STATE_LEN], n: control::Polled) -> Step
 // The same of reads and writes.
 pub fn suspend_or_end_endpoint(s: &mut [u8; STATE_LEN], n: endpoint::Next) -> Step
     requires { ⌜ endpoint.Linked n ⌝ }
-    ensures { λ r. ⌜ ((b : List ℕ) → (answerOf r [] (view (now (s .exit))), machineOf (now (s .exit)) b) ≡ halts (bindOut (endpoint.meaning n (view (now (s .entry))) b) (λ k t. run concrete (finish k) t))) ⌝ }
+    ensures { λ r. ⌜ ((b : List ℕ) → (
+      answerOf r [] (view (now (s .exit))),
+      machineOf (now (s .exit)) b,
+    ) ≡ halts (bindOut (endpoint.meaning n (view (now (s .entry))) b) (λ k t. run concrete (finish k) t))) ⌝ }
     ensures { λ r. ⌜ Stored r (now (s .exit)) ⌝ }
 {
     match n {
@@ -124,7 +149,10 @@ pub fn suspend_or_end_endpoint(s: &mut [u8; STATE_LEN], n: endpoint::Next) -> St
 // Of a paced advance.
 pub fn suspend_or_end_advance(s: &mut [u8; STATE_LEN], n: AdvanceNext) -> Step
     requires { ⌜ advance.Linked n ⌝ }
-    ensures { λ r. ⌜ ((b : List ℕ) → (answerOf r [] (view (now (s .exit))), machineOf (now (s .exit)) b) ≡ halts (bindOut (advance.meaning n (view (now (s .entry))) b) (λ k t. run concrete (finish k) t))) ⌝ }
+    ensures { λ r. ⌜ ((b : List ℕ) → (
+      answerOf r [] (view (now (s .exit))),
+      machineOf (now (s .exit)) b,
+    ) ≡ halts (bindOut (advance.meaning n (view (now (s .entry))) b) (λ k t. run concrete (finish k) t))) ⌝ }
     ensures { λ r. ⌜ Stored r (now (s .exit)) ⌝ }
 {
     match n {
@@ -136,7 +164,10 @@ pub fn suspend_or_end_advance(s: &mut [u8; STATE_LEN], n: AdvanceNext) -> Step
 // Of an interrupt.
 pub fn suspend_or_end_interrupt(s: &mut [u8; STATE_LEN], n: irq::Next) -> Step
     requires { ⌜ handler.Linked n ⌝ }
-    ensures { λ r. ⌜ ((b : List ℕ) → (answerOf r [] (view (now (s .exit))), machineOf (now (s .exit)) b) ≡ haltsAs true (bindOut (handler.meaning n (view (now (s .entry))) b) (λ k t. run concrete (finish k) t))) ⌝ }
+    ensures { λ r. ⌜ ((b : List ℕ) → (
+      answerOf r [] (view (now (s .exit))),
+      machineOf (now (s .exit)) b,
+    ) ≡ haltsAs true (bindOut (handler.meaning n (view (now (s .entry))) b) (λ k t. run concrete (finish k) t))) ⌝ }
     ensures { λ r. ⌜ Stored r (now (s .exit)) ⌝ }
 {
     match n {
@@ -148,7 +179,10 @@ pub fn suspend_or_end_interrupt(s: &mut [u8; STATE_LEN], n: irq::Next) -> Step
 // A begin of a read or write, with nothing under way.
 pub fn begun_endpoint(s: &mut [u8; STATE_LEN], n: endpoint::Begun) -> Step
     requires { ⌜ endpoint.LinkedBegun n × (isIdle (decode (saved (now s))) ≡ true) ⌝ }
-    ensures { λ r. ⌜ ((b : List ℕ) → (answerOf r [] (view (now (s .exit))), machineOf (now (s .exit)) b) ≡ halts (endpoint.begunAs n (view (now (s .entry))) b)) ⌝ }
+    ensures { λ r. ⌜ ((b : List ℕ) → (
+      answerOf r [] (view (now (s .exit))),
+      machineOf (now (s .exit)) b,
+    ) ≡ halts (endpoint.begunAs n (view (now (s .entry))) b)) ⌝ }
     ensures { λ r. ⌜ SavedUnchangedOnRefusal r (now (s .entry)) (now (s .exit)) ⌝ }
 {
     match n {
@@ -160,7 +194,10 @@ pub fn begun_endpoint(s: &mut [u8; STATE_LEN], n: endpoint::Begun) -> Step
 
 // A poll of one.
 pub fn polled_endpoint(n: endpoint::Polled) -> Step
-    ensures { λ r. ⌜ ((u : Suspended) (d : Driver) (out b : List ℕ) → isIdle u ≡ true → (answerOf r out d, machineAt u d b) ≡ halts (endpoint.polledAs n out d b)) ⌝ }
+    ensures { λ r. ⌜ ((u : Suspended) (d : Driver) (out b : List ℕ) → isIdle u ≡ true → (
+      answerOf r out d,
+      machineAt u d b,
+    ) ≡ halts (endpoint.polledAs n out d b)) ⌝ }
     ensures { λ r. ⌜ Leaves r ⌝ }
 {
     match n {

@@ -17,9 +17,10 @@ pub enum Suspended {
     Interrupt(irq::Point),
 }
 
-// What a call answers: the row that stopped it, the access that it hands out, the operation's result and how many wake-ups the state has for it, in their order; of a poll, that it is not
-// done, so many bytes at the lent slice's front, a setup packet as two words, lowest byte first; of an open packet, its offset and length in the slots
-// and its stamp.
+// What a call answers: the row that stopped it, the access that it hands out, the operation's result and how many
+// wake-ups the state has for it, in their order; of a poll, that it is not done, so many bytes at the lent slice's
+// front, a setup packet as two words, lowest byte first; of an open packet, its offset and length in the slots and its
+// stamp.
 pub enum Step {
     Refused(u8),
     Asks(Access),

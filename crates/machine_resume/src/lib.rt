@@ -45,7 +45,10 @@ ghost use Rattle.machine.specs.Suspended.{decode, machineOf, drive, resumed, an
 // Goes on at an interrupt's point: the one dispatch on what is saved.
 fn resume_interrupt(s: &mut [u8; STATE_LEN], slots: &mut [u8], v: u32) -> Step
     requires { ⌜ saved (now s) .tag ≡ 6 ⌝ }
-    ensures { λ r. ⌜ (answerOf r [] (view (now (s .exit))), machineOf (now (s .exit)) (now (slots .exit))) ≡ resumed v (decode (saved (now (s .entry)))) (view (now (s .entry))) (now (slots .entry)) ⌝ }
+    ensures { λ r. ⌜ (
+      answerOf r [] (view (now (s .exit))),
+      machineOf (now (s .exit)) (now (slots .exit)),
+    ) ≡ resumed v (decode (saved (now (s .entry)))) (view (now (s .entry))) (now (slots .entry)) ⌝ }
     ensures { λ r. ⌜ SavedUnchangedOnRefusal r (now (s .entry)) (now (s .exit)) ⌝ }
 {
     let site = site_byte(s);
@@ -81,7 +84,10 @@ fn resume_interrupt(s: &mut [u8; STATE_LEN], slots: &mut [u8], v: u32) -> Step
 
 // With the slots: as long as the driver's buffers.
 fn resume_at(s: &mut [u8; STATE_LEN], slots: &mut [u8], v: u32) -> Step
-    ensures { λ r. ⌜ (answerOf r [] (view (now (s .exit))), machineOf (now (s .exit)) (now (slots .exit))) ≡ resumed v (decode (saved (now (s .entry)))) (view (now (s .entry))) (now (slots .entry)) ⌝ }
+    ensures { λ r. ⌜ (
+      answerOf r [] (view (now (s .exit))),
+      machineOf (now (s .exit)) (now (slots .exit)),
+    ) ≡ resumed v (decode (saved (now (s .entry)))) (view (now (s .entry))) (now (slots .entry)) ⌝ }
     ensures { λ r. ⌜ SavedUnchangedOnRefusal r (now (s .entry)) (now (s .exit)) ⌝ }
 {
     match tag(s) {
@@ -97,7 +103,10 @@ fn resume_at(s: &mut [u8; STATE_LEN], slots: &mut [u8], v: u32) -> Step
 
 // Goes on with the operation under way, with the number brought.
 pub fn resume(s: &mut [u8; STATE_LEN], slots: &mut [u8], v: u32) -> Step
-    ensures { λ r. ⌜ ((a : List ℕ) → (answerOf r [] (view (now (s .exit))), machineOf (now (s .exit)) (lentOr (view (now (s .entry))) (now (slots .entry)) (now (slots .exit)) a)) ≡ drive (go v) (machineOf (now (s .entry)) a) (now (slots .entry))) ⌝ }
+    ensures { λ r. ⌜ ((a : List ℕ) → (
+      answerOf r [] (view (now (s .exit))),
+      machineOf (now (s .exit)) (lentOr (view (now (s .entry))) (now (slots .entry)) (now (slots .exit)) a),
+    ) ≡ drive (go v) (machineOf (now (s .entry)) a) (now (slots .entry))) ⌝ }
     ensures { λ _. ⌜ BufferUnchangedOnRow1 (view (now (s .entry))) (now (slots .entry)) (now (slots .exit)) ⌝ }
     ensures { λ r. ⌜ SavedUnchangedOnRefusal r (now (s .entry)) (now (s .exit)) ⌝ }
 {

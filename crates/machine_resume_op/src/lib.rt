@@ -16,7 +16,10 @@ ghost use Rattle.machine.specs.Suspended.{decode, machineOf, resumed, answerOf,
 // Goes on at the driver's own point.
 pub fn resume_driver(s: &mut [u8; STATE_LEN], v: u32) -> Step
     requires { ⌜ saved (now s) .tag ≡ 1 ⌝ }
-    ensures { λ r. ⌜ ((b : List ℕ) → (answerOf r [] (view (now (s .exit))), machineOf (now (s .exit)) b) ≡ resumed v (decode (saved (now (s .entry)))) (view (now (s .entry))) b) ⌝ }
+    ensures { λ r. ⌜ ((b : List ℕ) → (
+      answerOf r [] (view (now (s .exit))),
+      machineOf (now (s .exit)) b,
+    ) ≡ resumed v (decode (saved (now (s .entry)))) (view (now (s .entry))) b) ⌝ }
     ensures { λ r. ⌜ SavedUnchangedOnRefusal r (now (s .entry)) (now (s .exit)) ⌝ }
 {
     let p = driver_codec::decode(state::load_saved(s));
@@ -30,7 +33,10 @@ pub fn resume_driver(s: &mut [u8; STATE_LEN], v: u32) -> Step
 // At the bus's.
 pub fn resume_bus(s: &mut [u8; STATE_LEN], slots: &mut [u8], v: u32) -> Step
     requires { ⌜ saved (now s) .tag ≡ 2 ⌝ }
-    ensures { λ r. ⌜ (answerOf r [] (view (now (s .exit))), machineOf (now (s .exit)) (now (slots .exit))) ≡ resumed v (decode (saved (now (s .entry)))) (view (now (s .entry))) (now (slots .entry)) ⌝ }
+    ensures { λ r. ⌜ (
+      answerOf r [] (view (now (s .exit))),
+      machineOf (now (s .exit)) (now (slots .exit)),
+    ) ≡ resumed v (decode (saved (now (s .entry)))) (view (now (s .entry))) (now (slots .entry)) ⌝ }
     ensures { λ r. ⌜ SavedUnchangedOnRefusal r (now (s .entry)) (now (s .exit)) ⌝ }
 {
     let p = bus::decode(state::load_saved(s));
@@ -44,7 +50,10 @@ pub fn resume_bus(s: &mut [u8; STATE_LEN], slots: &mut [u8], v: u32) -> Step
 // At the control pipe's.
 pub fn resume_control(s: &mut [u8; STATE_LEN], v: u32) -> Step
     requires { ⌜ saved (now s) .tag ≡ 3 ⌝ }
-    ensures { λ r. ⌜ ((b : List ℕ) → (answerOf r [] (view (now (s .exit))), machineOf (now (s .exit)) b) ≡ resumed v (decode (saved (now (s .entry)))) (view (now (s .entry))) b) ⌝ }
+    ensures { λ r. ⌜ ((b : List ℕ) → (
+      answerOf r [] (view (now (s .exit))),
+      machineOf (now (s .exit)) b,
+    ) ≡ resumed v (decode (saved (now (s .entry)))) (view (now (s .entry))) b) ⌝ }
     ensures { λ r. ⌜ SavedUnchangedOnRefusal r (now (s .entry)) (now (s .exit)) ⌝ }
 {
     let p = control::decode(state::load_saved(s));
@@ -58,7 +67,10 @@ pub fn resume_control(s: &mut [u8; STATE_LEN], v: u32) -> Step
 // At a read's or write's.
 pub fn resume_endpoint(s: &mut [u8; STATE_LEN], v: u32) -> Step
     requires { ⌜ saved (now s) .tag ≡ 4 ⌝ }
-    ensures { λ r. ⌜ ((b : List ℕ) → (answerOf r [] (view (now (s .exit))), machineOf (now (s .exit)) b) ≡ resumed v (decode (saved (now (s .entry)))) (view (now (s .entry))) b) ⌝ }
+    ensures { λ r. ⌜ ((b : List ℕ) → (
+      answerOf r [] (view (now (s .exit))),
+      machineOf (now (s .exit)) b,
+    ) ≡ resumed v (decode (saved (now (s .entry)))) (view (now (s .entry))) b) ⌝ }
     ensures { λ r. ⌜ SavedUnchangedOnRefusal r (now (s .entry)) (now (s .exit)) ⌝ }
 {
     let p = endpoint::decode(state::load_saved(s));
@@ -72,7 +84,10 @@ pub fn resume_endpoint(s: &mut [u8; STATE_LEN], v: u32) -> Step
 // At a paced advance's.
 pub fn resume_advance(s: &mut [u8; STATE_LEN], v: u32) -> Step
     requires { ⌜ saved (now s) .tag ≡ 5 ⌝ }
-    ensures { λ r. ⌜ ((b : List ℕ) → (answerOf r [] (view (now (s .exit))), machineOf (now (s .exit)) b) ≡ resumed v (decode (saved (now (s .entry)))) (view (now (s .entry))) b) ⌝ }
+    ensures { λ r. ⌜ ((b : List ℕ) → (
+      answerOf r [] (view (now (s .exit))),
+      machineOf (now (s .exit)) b,
+    ) ≡ resumed v (decode (saved (now (s .entry)))) (view (now (s .entry))) b) ⌝ }
     ensures { λ r. ⌜ SavedUnchangedOnRefusal r (now (s .entry)) (now (s .exit)) ⌝ }
 {
     let p = iso_in::codec::decode(state::load_saved(s));

@@ -17,7 +17,12 @@ all-agree p i h = rw (h 0 (omega arith), h 1 (omega arith), h 2 (omega arith), h
 pub same-mark : (p q : List ℕ) (i : ℕ) → Same (i * 4) (i * 4 + 4) p q → isMark q i ≡ isMark p i
 unfolding isMark
 same-mark p q i h =
-    rw (h (i * 4 + 0) (omega arith) (omega arith), h (i * 4 + 1) (omega arith) (omega arith), h (i * 4 + 2) (omega arith) (omega arith), h (i * 4 + 3) (omega arith) (omega arith))
+    rw (
+      h (i * 4 + 0) (omega arith) (omega arith),
+      h (i * 4 + 1) (omega arith) (omega arith),
+      h (i * 4 + 2) (omega arith) (omega arith),
+      h (i * 4 + 3) (omega arith) (omega arith),
+    )
 
 pub one-differs : (p : List ℕ) (i k : ℕ) → k < 4 → agrees p i k ≡ false → isMark p i ≡ false
 unfolding isMark

@@ -12,7 +12,11 @@ use Rattle.req_descriptor.specs.declared.Answer as reading-answer
 use Rattle.req_descriptor.specs.declared.Answer.the-variants as reading
 use Rattle.model.specs.Script.{Script}
 use Rattle.model.specs.Bus as bus
-use Rattle.model.specs.Calls.{Config, Op, interrupt, slotted, other, aside, Slotted, SetEnabled, PollRead, BeginWrite, PollWrite, PollDataOut, BeginDataIn, Other, Allocate, AllocateAll, Start, BusPoll, BusEnable, BusDisable, Microframe, SetStalled, IsStalled, SetPaced, Advance, BeginRead, BeginSetup, PollSetup, PollDataIn, BeginAccept, PollAccept, BeginReject, BeginDataOut, BeginAcceptSetAddress, Aside, Open, Close, Queue}
+use Rattle.model.specs.Calls.{Config, Op, interrupt, slotted, other, aside, Slotted, SetEnabled, PollRead}
+use Rattle.model.specs.Calls.{BeginWrite, PollWrite, PollDataOut, BeginDataIn, Other, Allocate, AllocateAll}
+use Rattle.model.specs.Calls.{Start, BusPoll, BusEnable, BusDisable, Microframe, SetStalled, IsStalled, SetPaced}
+use Rattle.model.specs.Calls.{Advance, BeginRead, BeginSetup, PollSetup, PollDataIn, BeginAccept, PollAccept}
+use Rattle.model.specs.Calls.{BeginReject, BeginDataOut, BeginAcceptSetAddress, Aside, Open, Close, Queue}
 use Rattle.model.specs.EveryLaws.{Only}
 use Rattle.model.specs.AddressWrites.{Writes}
 

@@ -37,7 +37,8 @@ Addressed {S = S} P a o = Every addressed (λ (s t : S). Unit {0}) (λ _. Unit {
 
 -- the accept of a Set Address is under way, and the interrupt has seen its status stage's packet go through
 abbrev pub statusComplete : {S : Type 0} → Ops S → S → Bool
-statusComplete O s = eqb (O .get globals-cell s .stage) 2 && (eqb (O .get control-cell s .sort) ACCEPT && (isOn (O .get (ep-cell In 0) s .ready) && isOn (O .get control-cell s .«sets_address»)))
+statusComplete O s = eqb (O .get globals-cell s .stage) 2
+    && (eqb (O .get control-cell s .sort) ACCEPT && (isOn (O .get (ep-cell In 0) s .ready) && isOn (O .get control-cell s .«sets_address»)))
 
 pub address-after-status : (i : Bool) {S : Type 0} (O : Ops S) (a : ℕ) (s : S)
     → Addressed (λ b. b ≡ addressAfter (statusComplete O s) (O .get control-cell s .address % 128) a) a (run O (pollAccept {i = i}) s)
@@ -65,7 +66,8 @@ keeps (Ep0Dma y) a x = refl
 keeps (Wait n) a x = refl
 keeps Callback a x = refl
 
-stays : {S A : Type 0} {a b : ℕ} {o : tree.Out S A} → Every addressed (λ (s t : S). Unit {0}) (Writes None) (λ _ _ _. Unit {0}) b o → b ≡ a → Addressed (λ c. c ≡ a) b o
+stays : {S A : Type 0} {a b : ℕ} {o : tree.Out S A}
+    → Every addressed (λ (s t : S). Unit {0}) (Writes None) (λ _ _ _. Unit {0}) b o → b ≡ a → Addressed (λ c. c ≡ a) b o
 stays (at-end x) e = at-end e
 stays {b = b} (at-ask {q = q} ok k) e = at-ask tt (λ v t y z. stays (k v t y z) (keeps q b ok ∙ e))
 

@@ -11,9 +11,12 @@ use Rattle.regs.specs.declared.Dir.the-variants.{Out, In}
 use Rattle.model.specs.Tree as tree
 use Rattle.model.specs.Tree.{ends, asks, bindOut}
 use Rattle.model.specs.Cells.{Cell, Val}
-use Rattle.model.specs.Script.{Ops, Script, run, Test, Look, Fetch, Act, DmaStep, arrive, send, place, place0, dmaStepAsk, dma, Burst, switch, bus-reset, lastOf, burstAsk, switchAsk, resetAsk}
+use Rattle.model.specs.Script.{Ops, Script, run, Test, Look, Fetch, Act, DmaStep, arrive, send, place, place0}
+use Rattle.model.specs.Script.{dmaStepAsk, dma, Burst, switch, bus-reset, lastOf, burstAsk, switchAsk, resetAsk}
 use Rattle.model.specs.Simulates.{Rels, Sim, end, ask, alike, Phase, quiet, mid, Fits, Bare}
-use Rattle.model.specs.Machine.{Buf, Question, Call, start, begin, go, question, Event, Ans, ended, handed, told, Awaits, awaited, Way, idle, busy, Machine, Calls, Instance, Book, fed, blank, blankA, over, misfit, stay, lentTo, beside, halt, begun, continued, started, call}
+use Rattle.model.specs.Machine.{Buf, Question, Call, start, begin, go, question, Event, Ans, ended, handed, told}
+use Rattle.model.specs.Machine.{Awaits, awaited, Way, idle, busy, Machine, Calls, Instance, Book, fed, blank}
+use Rattle.model.specs.Machine.{blankA, over, misfit, stay, lentTo, beside, halt, begun, continued, started, call}
 
 -- what is to be shown of a driver D and a book K, operation by operation
 pub record Agree {C S T : Type 0} (D : Instance C S) (K : Book C T) : Type 1 where
@@ -27,14 +30,25 @@ pub record Agree {C S T : Type 0} (D : Instance C S) (K : Book C T) : Type 1 whe
   pub unfed : (q : Access) → Bare q → (t : T) → K .feed q t ≡ t
   pub good-bare : (q : Access) → Bare q → (b : Buf) (t : T) → Good q b t
   pub get : (c : Cell) (b : Buf) (s : S) (t : T) → Coupling quiet b s t → D .ops .get c (s, b) ≡ K .driver .ops .get c (t, b)
-  pub put : (c : Cell) (v : Val c) (b : Buf) (s : S) (t : T) → Coupling quiet b s t → (D .ops .put c v (s, b) .1 ≡ K .driver .ops .put c v (t, b) .1) × Coupling quiet (D .ops .put c v (s, b) .1) (D .ops .put c v (s, b) .0) (K .driver .ops .put c v (t, b) .0)
+  pub put : (c : Cell) (v : Val c) (b : Buf) (s : S) (t : T)
+      → Coupling quiet b s t → (D .ops .put c v (s, b) .1 ≡ K .driver .ops .put c v (t, b) .1)
+      × Coupling quiet (D .ops .put c v (s, b) .1) (D .ops .put c v (s, b) .0) (K .driver .ops .put c v (t, b) .0)
   pub is : (q : Test) (b : Buf) (s : S) (t : T) → Coupling quiet b s t → D .ops .is q (s, b) ≡ K .driver .ops .is q (t, b)
   pub look : (q : Look) (b : Buf) (s : S) (t : T) → Coupling quiet b s t → D .ops .look q (s, b) ≡ K .driver .ops .look q (t, b)
   pub fetch : (q : Fetch) (b : Buf) (s : S) (t : T) → Coupling quiet b s t → D .ops .fetch q (s, b) ≡ K .driver .ops .fetch q (t, b)
-  pub act : (q : Act) (b : Buf) (s : S) (t : T) → Coupling quiet b s t → (D .ops .act q (s, b) .1 ≡ K .driver .ops .act q (t, b) .1) × Coupling quiet (D .ops .act q (s, b) .1) (D .ops .act q (s, b) .0) (K .driver .ops .act q (t, b) .0)
-  pub hand : (q : DmaStep) (b : Buf) (s : S) (t : T) → Coupling quiet b s t → let x = D .ops .hand q (s, b) in let t′ = K .feed (dmaStepAsk q (x .0)) (K .driver .ops .hand q (t, b) .1 .0) in Coupling quiet (x .1 .1) (x .1 .0) t′ × Good (dmaStepAsk q (x .0)) (x .1 .1) t′
-  pub first : (g : Burst) (b : Buf) (s : S) (t : T) → Coupling quiet b s t → let n = lastOf g in let x = D .ops .row g n (s, b) in let t′ = K .feed (burstAsk g n (x .0)) (K .driver .ops .row g n (t, b) .1 .0) in (blank (burstAsk g n (x .0)) ≡ blank (burstAsk g n (K .driver .ops .row g n (t, b) .0))) × Coupling (mid g n) (x .1 .1) (x .1 .0) t′ × Good (burstAsk g n (x .0)) (x .1 .1) t′
-  pub next : (g : Burst) (n : ℕ) (b : Buf) (s : S) (t : T) → Coupling (mid g (suc n)) b s t → let x = D .ops .row g n (s, b) in let t′ = K .feed (burstAsk g n (x .0)) (K .driver .ops .row g n (t, b) .1 .0) in (blank (burstAsk g n (x .0)) ≡ blank (burstAsk g n (K .driver .ops .row g n (t, b) .0))) × Coupling (mid g n) (x .1 .1) (x .1 .0) t′ × Good (burstAsk g n (x .0)) (x .1 .1) t′
+  pub act : (q : Act) (b : Buf) (s : S) (t : T) → Coupling quiet b s t → (D .ops .act q (s, b) .1 ≡ K .driver .ops .act q (t, b) .1)
+      × Coupling quiet (D .ops .act q (s, b) .1) (D .ops .act q (s, b) .0) (K .driver .ops .act q (t, b) .0)
+  pub hand : (q : DmaStep) (b : Buf) (s : S) (t : T) → Coupling quiet b s t → let x = D .ops .hand q (s, b) in
+      let t′ = K .feed (dmaStepAsk q (x .0)) (K .driver .ops .hand q (t, b) .1 .0) in
+      Coupling quiet (x .1 .1) (x .1 .0) t′ × Good (dmaStepAsk q (x .0)) (x .1 .1) t′
+  pub first : (g : Burst) (b : Buf) (s : S) (t : T) → Coupling quiet b s t → let n = lastOf g in
+      let x = D .ops .row g n (s, b) in let t′ = K .feed (burstAsk g n (x .0)) (K .driver .ops .row g n (t, b) .1 .0) in
+      (blank (burstAsk g n (x .0)) ≡ blank (burstAsk g n (K .driver .ops .row g n (t, b) .0)))
+      × Coupling (mid g n) (x .1 .1) (x .1 .0) t′ × Good (burstAsk g n (x .0)) (x .1 .1) t′
+  pub next : (g : Burst) (n : ℕ) (b : Buf) (s : S) (t : T) → Coupling (mid g (suc n)) b s t
+      → let x = D .ops .row g n (s, b) in let t′ = K .feed (burstAsk g n (x .0)) (K .driver .ops .row g n (t, b) .1 .0) in
+      (blank (burstAsk g n (x .0)) ≡ blank (burstAsk g n (K .driver .ops .row g n (t, b) .0)))
+      × Coupling (mid g n) (x .1 .1) (x .1 .0) t′ × Good (burstAsk g n (x .0)) (x .1 .1) t′
   pub finish : (g : Burst) (b : Buf) (s : S) (t : T) → Coupling (mid g zero) b s t → Coupling quiet b s t
 
 pub blank-hand : (q : DmaStep) (x y : ℕ) → blank (dmaStepAsk q x) ≡ blank (dmaStepAsk q y)
@@ -63,18 +77,31 @@ module _ {C S T : Type 0} (D : Instance C S) (K : Book C T) (M : Agree D K) wher
   rels = record {
     R = In-call;
     At = Handed;
-    bare = λ q p {s} {t} h. record { same = refl; rest = subst (λ z. M .Coupling quiet (s .1) (s .0) z) (sym (M .unfed q p (t .0))) (h .rest); good = M .good-bare q p _ _ };
+    bare = λ q p {s} {t} h. record {
+      same = refl;
+      rest = subst (λ z. M .Coupling quiet (s .1) (s .0) z) (sym (M .unfed q p (t .0))) (h .rest);
+      good = M .good-bare q p _ _;
+    };
     gets = λ c {s} {t} h. M .get c (s .1) (s .0) (t .0) (h .rest) ∙ moved (K .driver .ops .get c) h;
-    puts = λ c v {s} {t} h. subst (λ b. In-call quiet (D .ops .put c v s) (K .driver .ops .put c v (t .0, b))) (h .bytes) (let z = M .put c v (s .1) (s .0) (t .0) (h .rest) in record { bytes = z .0; rest = z .1 });
+    puts = λ c v {s} {t} h. subst (λ b. In-call quiet (D .ops .put c v s) (K .driver .ops .put c v (t .0, b)))
+        (h .bytes) (let z = M .put c v (s .1) (s .0) (t .0) (h .rest) in record { bytes = z .0; rest = z .1 });
     tests = λ q {s} {t} h. M .is q (s .1) (s .0) (t .0) (h .rest) ∙ moved (K .driver .ops .is q) h;
     looks = λ q {s} {t} h. M .look q (s .1) (s .0) (t .0) (h .rest) ∙ moved (K .driver .ops .look q) h;
     fetches = λ q {s} {t} h. M .fetch q (s .1) (s .0) (t .0) (h .rest) ∙ moved (K .driver .ops .fetch q) h;
-    acts = λ q {s} {t} h. subst (λ b. In-call quiet (D .ops .act q s) (K .driver .ops .act q (t .0, b))) (h .bytes) (let z = M .act q (s .1) (s .0) (t .0) (h .rest) in record { bytes = z .0; rest = z .1 });
-    hands = λ q {s} {t} h. subst (λ b. Handed quiet (dmaStepAsk q (D .ops .hand q s .0)) (dmaStepAsk q (K .driver .ops .hand q (t .0, b) .0)) (D .ops .hand q s .1) (K .driver .ops .hand q (t .0, b) .1)) (h .bytes)
+    acts = λ q {s} {t} h. subst (λ b. In-call quiet (D .ops .act q s) (K .driver .ops .act q (t .0, b)))
+        (h .bytes) (let z = M .act q (s .1) (s .0) (t .0) (h .rest) in record { bytes = z .0; rest = z .1 });
+    hands = λ q {s} {t} h. subst
+        (λ b. Handed quiet (dmaStepAsk q (D .ops .hand q s .0)) (dmaStepAsk q (K .driver .ops .hand q (t .0, b) .0))
+        (D .ops .hand q s .1) (K .driver .ops .hand q (t .0, b) .1)) (h .bytes)
         (let z = M .hand q (s .1) (s .0) (t .0) (h .rest) in record { same = blank-hand q _ _; rest = z .0; good = z .1 });
-    first = λ g {s} {t} h. subst (λ b. Handed (mid g (lastOf g)) (burstAsk g (lastOf g) (D .ops .row g (lastOf g) s .0)) (burstAsk g (lastOf g) (K .driver .ops .row g (lastOf g) (t .0, b) .0)) (D .ops .row g (lastOf g) s .1) (K .driver .ops .row g (lastOf g) (t .0, b) .1)) (h .bytes)
+    first = λ g {s} {t} h. subst
+        (λ b. Handed (mid g (lastOf g)) (burstAsk g (lastOf g) (D .ops .row g (lastOf g) s .0))
+        (burstAsk g (lastOf g) (K .driver .ops .row g (lastOf g) (t .0, b) .0))
+        (D .ops .row g (lastOf g) s .1) (K .driver .ops .row g (lastOf g) (t .0, b) .1)) (h .bytes)
         (let z = M .first g (s .1) (s .0) (t .0) (h .rest) in record { same = z .0; rest = z .1; good = z .2 });
-    next = λ g n {s} {t} h. subst (λ b. Handed (mid g n) (burstAsk g n (D .ops .row g n s .0)) (burstAsk g n (K .driver .ops .row g n (t .0, b) .0)) (D .ops .row g n s .1) (K .driver .ops .row g n (t .0, b) .1)) (h .bytes)
+    next = λ g n {s} {t} h. subst
+        (λ b. Handed (mid g n) (burstAsk g n (D .ops .row g n s .0)) (burstAsk g n (K .driver .ops .row g n (t .0, b) .0))
+        (D .ops .row g n s .1) (K .driver .ops .row g n (t .0, b) .1)) (h .bytes)
         (let z = M .next g n (s .1) (s .0) (t .0) (h .rest) in record { same = z .0; rest = z .1; good = z .2 });
     over = λ g {s} {t} h. record { bytes = h .bytes; rest = M .finish g (s .1) (s .0) (t .0) (h .rest) };
   }
@@ -83,7 +110,9 @@ module _ {C S T : Type 0} (D : Instance C S) (K : Book C T) (M : Agree D K) wher
     -- between calls: what is under way, and in which phase
     pub data Ways : Phase → Way A S → Way A T → Type 0 where
       both-idle : Ways quiet idle idle
-      both-busy : (i : Bool) (a : Awaits) {φ : Phase} {k : ℕ → S × Buf → tree.Out (S × Buf) A} {k′ : ℕ → T × Buf → tree.Out (T × Buf) A} → Fits i φ → ((v : ℕ) (s : S × Buf) (t : T × Buf) → In-call φ s t → Sim rels i (k v s) (k′ v t)) → Ways φ (busy i a k) (busy i a k′)
+      both-busy : (i : Bool) (a : Awaits) {φ : Phase} {k : ℕ → S × Buf → tree.Out (S × Buf) A} {k′ : ℕ → T × Buf → tree.Out (T × Buf) A}
+          → Fits i φ → ((v : ℕ) (s : S × Buf) (t : T × Buf) → In-call φ s t → Sim rels i (k v s) (k′ v t))
+          → Ways φ (busy i a k) (busy i a k′)
 
     abbrev pub GoodA : Ans A → Buf → T → Type 0
     GoodA (ended a) b t = Unit {0}
@@ -130,23 +159,33 @@ module _ {C S T : Type 0} (D : Instance C S) (K : Book C T) (M : Agree D K) wher
     awaited-same : (q q′ : Access) → blank q ≡ blank q′ → awaited q ≡ awaited q′
     awaited-same q q′ p = awaited-blank q ∙ (ap awaited p ∙ sym (awaited-blank q′))
 
-    both-ask : (i : Bool) (q q′ : Access) → blank q ≡ blank q′ → {φ : Phase} {k : ℕ → S × Buf → tree.Out (S × Buf) A} {k′ : ℕ → T × Buf → tree.Out (T × Buf) A} → Fits i φ → ((v : ℕ) (s : S × Buf) (t : T × Buf) → In-call φ s t → Sim rels i (k v s) (k′ v t)) → Ways φ (busy i (awaited q) k) (busy i (awaited q′) k′)
-    both-ask i q q′ e {φ = φ} {k = k} {k′ = k′} p h = subst (λ a. Ways φ (busy i (awaited q) k) (busy i a k′)) (awaited-same q q′ e) (both-busy i (awaited q) p h)
+    both-ask : (i : Bool) (q q′ : Access) → blank q ≡ blank q′
+        → {φ : Phase} {k : ℕ → S × Buf → tree.Out (S × Buf) A} {k′ : ℕ → T × Buf → tree.Out (T × Buf) A}
+        → Fits i φ → ((v : ℕ) (s : S × Buf) (t : T × Buf) → In-call φ s t → Sim rels i (k v s) (k′ v t))
+        → Ways φ (busy i (awaited q) k) (busy i (awaited q′) k′)
+    both-ask i q q′ e {φ = φ} {k = k} {k′ = k′} p h =
+        subst (λ a. Ways φ (busy i (awaited q) k) (busy i a k′)) (awaited-same q q′ e) (both-busy i (awaited q) p h)
 
-    halts : (i : Bool) {o : tree.Out (S × Buf) A} {u : tree.Out (T × Buf) A} → Sim rels i o u → After (halt L D (λ s. s) i o) (halt L (K .driver) (fed K (halt L D (λ s. s) i o .0)) i u)
+    halts : (i : Bool) {o : tree.Out (S × Buf) A} {u : tree.Out (T × Buf) A}
+        → Sim rels i o u → After (halt L D (λ s. s) i o) (halt L (K .driver) (fed K (halt L D (λ s. s) i o .0)) i u)
     halts i (end e r) = record { same = ap ended e; phase = quiet; ways = both-idle; rest = r .rest; good = tt }
-    halts i (ask {q = q} {q′ = q′} φ p x k) = record { same = ap handed (x .same); phase = φ; ways = both-ask i q q′ (x .same) p k; rest = x .rest; good = x .good }
+    halts i (ask {q = q} {q′ = q′} φ p x k) =
+        record { same = ap handed (x .same); phase = φ; ways = both-ask i q q′ (x .same) p k; rest = x .rest; good = x .good }
 
     -- refused: nothing changes
-    stays : (n : ℕ) {φ : Phase} (m : Machine A S) (d : Machine A T) → Ways φ (m .way) (d .way) → M .Coupling φ (m .buf) (m .st) (d .st) → After (stay L D n m) (stay L (K .driver) n d)
+    stays : (n : ℕ) {φ : Phase} (m : Machine A S) (d : Machine A T) → Ways φ (m .way) (d .way)
+        → M .Coupling φ (m .buf) (m .st) (d .st) → After (stay L D n m) (stay L (K .driver) n d)
     stays n {φ = φ} m d w r = record { same = refl; phase = φ; ways = w; rest = r; good = tt }
 
-    besides : {i : Bool} (m : Machine A S) (d : Machine A T) → Ways quiet (m .way) (d .way) → M .Coupling quiet (m .buf) (m .st) (d .st) → {o : tree.Out (S × Buf) A} {u : tree.Out (T × Buf) A} → Sim rels i o u → After (beside L D m o) (beside L (K .driver) d u)
+    besides : {i : Bool} (m : Machine A S) (d : Machine A T) → Ways quiet (m .way) (d .way)
+        → M .Coupling quiet (m .buf) (m .st) (d .st) → {o : tree.Out (S × Buf) A} {u : tree.Out (T × Buf) A}
+        → Sim rels i o u → After (beside L D m o) (beside L (K .driver) d u)
     besides m d w r (end e h) = record { same = ap ended e; phase = quiet; ways = w; rest = h .rest; good = tt }
     besides m d w r (ask φ p x k) = stays 3 m d w r
 
     -- while an operation is under way
-    asides : (g : Bool) {i : Bool} {φ : Phase} (j : Bool) → Fits j φ → (m : Machine A S) (d : Machine A T) → Ways φ (m .way) (d .way) → M .Coupling φ (m .buf) (m .st) (d .st)
+    asides : (g : Bool) {i : Bool} {φ : Phase} (j : Bool) → Fits j φ
+        → (m : Machine A S) (d : Machine A T) → Ways φ (m .way) (d .way) → M .Coupling φ (m .buf) (m .st) (d .st)
         → {o : tree.Out (S × Buf) A} {u : tree.Out (T × Buf) A} → (φ ≡ quiet → Sim rels i o u)
         → After (cond (cond j g false) (beside L D m o) (stay L D 3 m)) (cond (cond j g false) (beside L (K .driver) d u) (stay L (K .driver) 3 d))
     asides true {φ = quiet} true p m d w r h = besides m d w r (h refl)
@@ -154,18 +193,21 @@ module _ {C S T : Type 0} (D : Instance C S) (K : Book C T) (M : Agree D K) wher
     asides false true p m d w r h = stays 3 m d w r
     asides g false p m d w r h = stays 3 m d w r
 
-    begins : (o : Op) {φ : Phase} (m : Machine A S) (d : Machine A T) (b : Buf) {w : Way A S} {w′ : Way A T} → Ways φ (m .way) (d .way) → Ways φ w w′ → M .Coupling φ b (m .st) (d .st)
+    begins : (o : Op) {φ : Phase} (m : Machine A S) (d : Machine A T) (b : Buf) {w : Way A S} {w′ : Way A T}
+        → Ways φ (m .way) (d .way) → Ways φ w w′ → M .Coupling φ b (m .st) (d .st)
         → After (begun L D (λ s. s) o m w b) (begun L (K .driver) (fed K (begun L D (λ s. s) o m w b .0)) o d w′ b)
     begins o m d b v both-idle r = halts (L .irq o) (alike rels (L .code o) (m .st, b) (d .st, b) (record { bytes = refl; rest = r }))
     begins o m d b v (both-busy i a p k) r = asides (L .aside o) i p (lentTo L D m b) (lentTo L (K .driver) d b) v r
         (λ e. alike rels (L .code o) (m .st, b) (d .st, b) (record { bytes = refl; rest = subst (λ φ. M .Coupling φ b (m .st) (d .st)) e r }))
 
-    wides : (g : Bool) {φ : Phase} {i : Bool} (m : Machine A S) (d : Machine A T) → Ways φ (m .way) (d .way) → M .Coupling φ (m .buf) (m .st) (d .st) → {o : tree.Out (S × Buf) A} {u : tree.Out (T × Buf) A} → Sim rels i o u
+    wides : (g : Bool) {φ : Phase} {i : Bool} (m : Machine A S) (d : Machine A T) → Ways φ (m .way) (d .way)
+        → M .Coupling φ (m .buf) (m .st) (d .st) → {o : tree.Out (S × Buf) A} {u : tree.Out (T × Buf) A} → Sim rels i o u
         → let x = cond g (stay L D 16 m) (halt L D (λ s. s) i o) in After x (cond g (stay L (K .driver) 16 d) (halt L (K .driver) (fed K (x .0)) i u))
     wides true m d w r h = stays 16 m d w r
     wides false m d w r h = halts _ h
 
-    continues : (n : ℕ) {φ : Phase} (m : Machine A S) (d : Machine A T) (b : Buf) {w : Way A S} {w′ : Way A T} → Ways φ (m .way) (d .way) → Ways φ w w′ → M .Coupling φ b (m .st) (d .st)
+    continues : (n : ℕ) {φ : Phase} (m : Machine A S) (d : Machine A T) (b : Buf) {w : Way A S} {w′ : Way A T}
+        → Ways φ (m .way) (d .way) → Ways φ w w′ → M .Coupling φ b (m .st) (d .st)
         → After (continued L D (λ s. s) n m w b) (continued L (K .driver) (fed K (continued L D (λ s. s) n m w b .0)) n d w′ b)
     continues n m d b v both-idle r = stays 15 (lentTo L D m b) (lentTo L (K .driver) d b) v r
     continues n m d b v (both-busy i a p h) r =
@@ -179,13 +221,15 @@ module _ {C S T : Type 0} (D : Instance C S) (K : Book C T) (M : Agree D K) wher
     fitted false g′ e m d w r p x y f = subst (λ g. After x (cond g (stay L (K .driver) 1 d) (y (x .0)))) e (f p)
 
     module _ (fresh : (c : C) (b : Buf) → L .refuses c b ≡ zero → M .Coupling quiet b (D .fresh c) (K .driver .fresh c)) where
-      starting : (c : C) (b : Buf) (n : ℕ) → L .refuses c b ≡ n → {φ : Phase} (m : Machine A S) (d : Machine A T) → Ways φ (m .way) (d .way) → M .Coupling φ (m .buf) (m .st) (d .st)
+      starting : (c : C) (b : Buf) (n : ℕ) → L .refuses c b ≡ n → {φ : Phase} (m : Machine A S) (d : Machine A T)
+          → Ways φ (m .way) (d .way) → M .Coupling φ (m .buf) (m .st) (d .st)
           → let z = started L D (λ s. s) c n m b in After z (started L (K .driver) (fed K (z .0)) c n d b)
       starting c b zero e m d w r = halts false (alike rels (L .starts c) (D .fresh c, b) (K .driver .fresh c, b) (record { bytes = refl; rest = fresh c b e }))
       starting c b (suc n) e m d w r = stays (suc n) m d w r
 
       -- one call
-      pub agrees : (c : Call C Op) (b : Buf) {φ : Phase} (m : Machine A S) (d : Machine A T) → Ways φ (m .way) (d .way) → M .Coupling φ (m .buf) (m .st) (d .st) → Lent c m d b
+      pub agrees : (c : Call C Op) (b : Buf) {φ : Phase} (m : Machine A S) (d : Machine A T)
+          → Ways φ (m .way) (d .way) → M .Coupling φ (m .buf) (m .st) (d .st) → Lent c m d b
           → After (drive c m b) (write-up (drive c m b .0) c d b)
       agrees (start c) b m d w r l = starting c b (L .refuses c b) refl m d w r
       agrees (begin o) b {φ = φ} m d w r l =
@@ -217,7 +261,8 @@ module _ {C S T : Type 0} (D : Instance C S) (K : Book C T) (M : Agree D K) wher
           After x y × All es (x .1) (y .1)
 
       -- EVERY list of calls
-      pub always : (es : List (Event C Op)) {φ : Phase} (m : Machine A S) (d : Machine A T) → Ways φ (m .way) (d .way) → M .Coupling φ (m .buf) (m .st) (d .st) → Lawful es m d → All es m d
+      pub always : (es : List (Event C Op)) {φ : Phase} (m : Machine A S) (d : Machine A T)
+          → Ways φ (m .way) (d .way) → M .Coupling φ (m .buf) (m .st) (d .st) → Lawful es m d → All es m d
       always [] m d w r l = tt
       always (e ∷ es) m d w r l =
           let a = agrees (e .call) (e .lent) m d w r (l .0) in

@@ -13,9 +13,11 @@ use Rattle.regs.specs.IntEn.{withBusRst, withSuspend}
 use Rattle.regs.specs.Ctrl.{pulledUp}
 use Rattle.regs.specs.Enables as enables
 use Rattle.model.specs.Cells.{EpCore, globals-cell, ep-cell, paced-cell}
-use Rattle.model.specs.Script.{Script, ret, done, test, _>>=_, _>>_, read, write, get, put, act, hand, row, when, reset-ring, set-enabled, place, switch, bus-reset}
+use Rattle.model.specs.Script.{Script, ret, done, test, _>>=_, _>>_, read, write, get, put, act, hand, row, when}
+use Rattle.model.specs.Script.{reset-ring, set-enabled, place, switch, bus-reset}
 use Rattle.frame.specs.Advance.{NO_FRAME}
-use Rattle.model.specs.Statics.{isOn, flag, withTog, withArmed, renewed, completed, withPower, modify, modifyEp, modifyReg, modifyIntEn, modifyEpType, wake, wakeAll}
+use Rattle.model.specs.Statics.{isOn, flag, withTog, withArmed, renewed, completed, withPower, modify, modifyEp}
+use Rattle.model.specs.Statics.{modifyReg, modifyIntEn, modifyEpType, wake, wakeAll}
 
 -- ---- `set_endpoint_stalled`, 1053-1099
 

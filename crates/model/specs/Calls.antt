@@ -14,7 +14,8 @@ use Rattle.model.specs.IsoIn.{isoInAdvance, isoInSetPaced, microframe}
 use Rattle.model.specs.Handler.{stampedInterrupt}
 use Rattle.model.specs.Bus as bus
 use Rattle.model.specs.Endpoint.{beginRead, pollRead, beginWrite, pollWrite}
-use Rattle.model.specs.Control.{beginSetup, pollSetup, beginDataOut, pollDataOut, beginDataIn, pollDataIn, beginAccept, beginAcceptSetAddress, pollAccept, beginReject}
+use Rattle.model.specs.Control.{beginSetup, pollSetup, beginDataOut, pollDataOut, beginDataIn, pollDataIn}
+use Rattle.model.specs.Control.{beginAccept, beginAcceptSetAddress, pollAccept, beginReject}
 use Rattle.model.specs.Driver.{startUp, allocEndpoint, start, openPacket, closePacket, queuePacket}
 use Rattle.model.specs.AllocateAll.{allocateAll}
 use Rattle.model.specs.Machine.{Buf, Calls}

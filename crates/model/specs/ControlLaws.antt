@@ -107,12 +107,19 @@ Begun old new b (Shown bytes stamp) = ⊥
 module _ {S : Type 0} (O : Ops S) where
   -- past the rows 4, 10 and 9
   begins : {d : Dir} {b new : ℕ} (n : ℕ) (s : S) {o : tree.Out S Answer} → Leads d (Begun b new) b o
-      → Leads d (Begun b new) b (cond (eqb (O .get globals-cell s .stage) 2) (cond (ltb (O .get globals-cell s .«ep0_max») n) (ends (Refused 10) s) (cond (isOn (O .get globals-cell s .«setup_ready»)) (ends (Refused 9) s) o)) (ends (Refused 4) s))
-  begins n s x = every-cond (eqb (O .get globals-cell s .stage) 2) (λ _. every-cond (ltb (O .get globals-cell s .«ep0_max») n) (λ _. at-end refl) (λ _. every-cond (isOn (O .get globals-cell s .«setup_ready»)) (λ _. at-end refl) (λ _. x))) (λ _. at-end refl)
+      → Leads d (Begun b new) b
+      (cond (eqb (O .get globals-cell s .stage) 2) (cond (ltb (O .get globals-cell s .«ep0_max») n) (ends (Refused 10) s)
+      (cond (isOn (O .get globals-cell s .«setup_ready»)) (ends (Refused 9) s) o)) (ends (Refused 4) s))
+  begins n s x = every-cond (eqb (O .get globals-cell s .stage) 2)
+      (λ _. every-cond (ltb (O .get globals-cell s .«ep0_max») n) (λ _. at-end refl)
+      (λ _. every-cond (isOn (O .get globals-cell s .«setup_ready»)) (λ _. at-end refl) (λ _. x))) (λ _. at-end refl)
 
   -- past the rows 4 and 9
-  accepts : {d : Dir} {b new : ℕ} (s : S) {o : tree.Out S Answer} → Leads d (Begun b new) b o → Leads d (Begun b new) b (cond (eqb (O .get globals-cell s .stage) 2) (cond (isOn (O .get globals-cell s .«setup_ready»)) (ends (Refused 9) s) o) (ends (Refused 4) s))
-  accepts s x = every-cond (eqb (O .get globals-cell s .stage) 2) (λ _. every-cond (isOn (O .get globals-cell s .«setup_ready»)) (λ _. at-end refl) (λ _. x)) (λ _. at-end refl)
+  accepts : {d : Dir} {b new : ℕ} (s : S) {o : tree.Out S Answer} → Leads d (Begun b new) b o → Leads d (Begun b new) b
+      (cond (eqb (O .get globals-cell s .stage) 2)
+      (cond (isOn (O .get globals-cell s .«setup_ready»)) (ends (Refused 9) s) o) (ends (Refused 4) s))
+  accepts s x = every-cond (eqb (O .get globals-cell s .stage) 2)
+      (λ _. every-cond (isOn (O .get globals-cell s .«setup_ready»)) (λ _. at-end refl) (λ _. x)) (λ _. at-end refl)
 
   -- ---- the data stage
 
@@ -120,7 +127,8 @@ module _ {S : Type 0} (O : Ops S) where
   pub first-out : (i : Bool) (n b : ℕ) (s : S) → Leads Out (Begun b (number (dataPid 0))) b (run O (beginDataOut {i = i} n true) s)
   first-out i n b s = begins n s (at-ask tt (λ _ _ _ _. at-end acked-data1))
 
-  pub first-in : (i : Bool) (bytes : List ℕ) (last : Bool) (b : ℕ) (s : S) → Leads In (Begun b (number (dataPid 0))) b (run O (beginDataIn {i = i} bytes true last) s)
+  pub first-in : (i : Bool) (bytes : List ℕ) (last : Bool) (b : ℕ) (s : S)
+      → Leads In (Begun b (number (dataPid 0))) b (run O (beginDataIn {i = i} bytes true last) s)
   first-in i bytes true b s = begins (length bytes) s (at-ask tt (λ _ _ _ _. at-ask tt (λ _ _ _ _. at-ask tt (λ _ _ _ _. at-end acked-data1))))
   first-in i bytes false b s = begins (length bytes) s (at-ask tt (λ _ _ _ _. at-ask tt (λ _ _ _ _. at-end acked-data1)))
 
@@ -129,15 +137,19 @@ module _ {S : Type 0} (O : Ops S) where
   next-out i n b s = begins n s (at-ask tt (λ w _ r _. at-ask tt (λ _ _ _ _. at-end (ack-keeps w ∙ r refl))))
 
   pub next-in : (i : Bool) (bytes : List ℕ) (last : Bool) (b : ℕ) (s : S) → Leads In (Begun b b) b (run O (beginDataIn {i = i} bytes false last) s)
-  next-in i bytes true b s = begins (length bytes) s (at-ask tt (λ _ _ _ _. at-ask tt (λ _ _ _ _. at-ask tt (λ w _ r _. at-ask tt (λ _ _ _ _. at-end (ack-keeps w ∙ r refl))))))
+  next-in i bytes true b s = begins (length bytes) s
+      (at-ask tt (λ _ _ _ _. at-ask tt (λ _ _ _ _. at-ask tt (λ w _ r _. at-ask tt (λ _ _ _ _. at-end (ack-keeps w ∙ r refl))))))
   next-in i bytes false b s = begins (length bytes) s (at-ask tt (λ _ _ _ _. at-ask tt (λ w _ r _. at-ask tt (λ _ _ _ _. at-end (ack-keeps w ∙ r refl)))))
 
   -- the interrupt's NAK, of whichever endpoint, leaves it
   pub nak-leaves : (i : Bool) (d : Dir) (st b : ℕ) (s : S) → Leads d (λ c _. c ≡ b) b (run O (nakNonIso {i = i} st) s)
-  nak-leaves i Out st b s = every-cond (outNaks st (O .get (ep-cell Out (endpoint st)) s)) (λ _. at-ask tt (λ w _ r _. at-ask tt (λ _ _ _ _. at-end (left-nak (endpoint st) b w (λ z. r (ap (Read EpRxCtrl) z))))))
+  nak-leaves i Out st b s = every-cond (outNaks st (O .get (ep-cell Out (endpoint st)) s))
+      (λ _. at-ask tt (λ w _ r _. at-ask tt (λ _ _ _ _. at-end (left-nak (endpoint st) b w (λ z. r (ap (Read EpRxCtrl) z))))))
       (λ _. every-cond (inNaks st (O .get (ep-cell In (endpoint st)) s)) (λ _. at-ask tt (λ _ _ _ _. at-ask tt (λ _ _ _ _. at-end refl))) (λ _. at-end refl))
   nak-leaves i In st b s = every-cond (outNaks st (O .get (ep-cell Out (endpoint st)) s)) (λ _. at-ask tt (λ _ _ _ _. at-ask tt (λ _ _ _ _. at-end refl)))
-      (λ _. every-cond (inNaks st (O .get (ep-cell In (endpoint st)) s)) (λ _. at-ask tt (λ w _ r _. at-ask tt (λ _ _ _ _. at-end (left-nak (endpoint st) b w (λ z. r (ap (Read EpTxCtrl) z)))))) (λ _. at-end refl))
+      (λ _. every-cond (inNaks st (O .get (ep-cell In (endpoint st)) s))
+      (λ _. at-ask tt (λ w _ r _. at-ask tt (λ _ _ _ _. at-end (left-nak (endpoint st) b w (λ z. r (ap (Read EpTxCtrl) z))))))
+      (λ _. at-end refl))
 
   -- the interrupt that saw packet k leaves the toggle of packet k + 1; an OUT packet that is no new one leaves it
   pub passed-out : (i : Bool) (x : Transfer) (k : ℕ) (s : S) → eqb (endpoint (x .st)) 0 ≡ true
@@ -152,7 +164,8 @@ module _ {S : Type 0} (O : Ops S) where
 
   pub passed-in : (i : Bool) (x : Transfer) (frame k : ℕ) (s : S) → eqb (endpoint (x .st)) 0 ≡ true
       → Leads In (λ b _. b ≡ number (dataPid (suc k))) (number (dataPid k)) (run O (inArm {i = i} x false frame) s)
-  passed-in i x frame k s h = every-cond (eqb (endpoint (x .st)) 0) (λ _. at-ask tt (λ w _ r _. at-ask tt (λ _ _ _ _. at-end (flips (dataPid k) w (r refl))))) (λ z. apart (sym h ∙ z))
+  passed-in i x frame k s h = every-cond (eqb (endpoint (x .st)) 0)
+      (λ _. at-ask tt (λ w _ r _. at-ask tt (λ _ _ _ _. at-end (flips (dataPid k) w (r refl))))) (λ z. apart (sym h ∙ z))
 
   -- so does the host's token for the other direction, where packet k was armed and no interrupt saw it go through
   pub moved-on : (i : Bool) (d : Dir) (k : ℕ) (s : S)
@@ -170,12 +183,15 @@ module _ {S : Type 0} (O : Ops S) where
   -- ---- the status stage
 
   -- after a data stage IN: the closing OUT is armed with the last packet
-  pub status-out : (i : Bool) (bytes : List ℕ) (first : Bool) (k b : ℕ) (s : S) → Leads (statusDir In (suc k)) (Begun b (number statusPid)) b (run O (beginDataIn {i = i} bytes first true) s)
+  pub status-out : (i : Bool) (bytes : List ℕ) (first : Bool) (k b : ℕ) (s : S)
+      → Leads (statusDir In (suc k)) (Begun b (number statusPid)) b (run O (beginDataIn {i = i} bytes first true) s)
   status-out i bytes true k b s = begins (length bytes) s (at-ask tt (λ _ _ _ _. at-ask tt (λ _ _ _ _. at-ask tt (λ _ _ _ _. at-end acked-data1))))
-  status-out i bytes false k b s = begins (length bytes) s (at-ask tt (λ _ _ _ _. at-ask tt (λ _ _ _ _. at-ask tt (λ _ _ _ _. at-ask tt (λ _ _ _ _. at-end acked-data1)))))
+  status-out i bytes false k b s = begins (length bytes) s
+      (at-ask tt (λ _ _ _ _. at-ask tt (λ _ _ _ _. at-ask tt (λ _ _ _ _. at-ask tt (λ _ _ _ _. at-end acked-data1)))))
 
   -- and not before
-  pub no-status-out : (i : Bool) (bytes : List ℕ) (first : Bool) (k b : ℕ) (s : S) → Leads (statusDir In (suc k)) (Begun b b) b (run O (beginDataIn {i = i} bytes first false) s)
+  pub no-status-out : (i : Bool) (bytes : List ℕ) (first : Bool) (k b : ℕ) (s : S)
+      → Leads (statusDir In (suc k)) (Begun b b) b (run O (beginDataIn {i = i} bytes first false) s)
   no-status-out i bytes true k b s = begins (length bytes) s (at-ask tt (λ _ _ _ _. at-ask tt (λ _ _ _ _. at-end refl)))
   no-status-out i bytes false k b s = begins (length bytes) s (at-ask tt (λ _ _ _ _. at-ask tt (λ _ _ _ _. at-ask tt (λ _ _ _ _. at-end refl))))
 
@@ -187,8 +203,10 @@ module _ {S : Type 0} (O : Ops S) where
   pub status-in : (i : Bool) (k b : ℕ) (s : S) → Leads (statusDir Out k) (Begun b (number statusPid)) b (run O (beginAccept {i = i}) s)
   status-in i k b s = rw (in-status k) (accepts s (at-ask tt (λ _ _ _ _. at-ask tt (λ w _ _ _. at-ask tt (λ _ _ _ _. at-end (status-data1 w))))))
 
-  pub status-in-address : (i : Bool) (address k b : ℕ) (s : S) → Leads (statusDir Out k) (Begun b (number statusPid)) b (run O (beginAcceptSetAddress {i = i} address) s)
-  status-in-address i address k b s = rw (in-status k) (accepts s (at-ask tt (λ _ _ _ _. at-ask tt (λ w _ _ _. at-ask tt (λ _ _ _ _. at-end (status-data1 w))))))
+  pub status-in-address : (i : Bool) (address k b : ℕ) (s : S)
+      → Leads (statusDir Out k) (Begun b (number statusPid)) b (run O (beginAcceptSetAddress {i = i} address) s)
+  status-in-address i address k b s = rw (in-status k)
+      (accepts s (at-ask tt (λ _ _ _ _. at-ask tt (λ w _ _ _. at-ask tt (λ _ _ _ _. at-end (status-data1 w))))))
 
   -- ---- packet by packet: the first is armed, then each time the interrupt sees one go through and the next is armed
   abbrev pub goesThrough : {i : Bool} → Dir → Transfer → ℕ → Script i Unit
@@ -212,7 +230,9 @@ module _ {S : Type 0} (O : Ops S) where
 
   gone-through : (i : Bool) (d : Dir) (x : Transfer) (frame k : ℕ) → eqb (endpoint (x .st)) 0 ≡ true → togOk (x .st) ≡ true → (s : S)
       → Leads d (λ b _. b ≡ number (dataPid (suc k))) (number (dataPid k)) (run O (goesThrough {i = i} d x frame) s)
-  gone-through i Out x frame k h t s = subst (λ (ok : Bool). Leads Out (λ b _. b ≡ number (dataPid (cond ok (suc k) k))) (number (dataPid k)) (run O (goesThrough {i = i} Out x frame) s)) t (passed-out i x k s h)
+  gone-through i Out x frame k h t s = subst
+      (λ (ok : Bool). Leads Out (λ b _. b ≡ number (dataPid (cond ok (suc k) k)))
+      (number (dataPid k)) (run O (goesThrough {i = i} Out x frame) s)) t (passed-out i x k s h)
   gone-through i In x frame k h t s = passed-in i x frame k s h
 
   pub kth-packet : (i : Bool) (d : Dir) (x : Transfer) (frame k b : ℕ) → eqb (endpoint (x .st)) 0 ≡ true → togOk (x .st) ≡ true → (s : S)

@@ -79,7 +79,10 @@ out-enabled : (e : ℕ) (on : Bool) → Only Initial (setEnabledOut {i = false} 
 out-enabled e on = (tt, λ _. ((λ _. tt, λ _. tt), λ _. ((λ _. tt, tt), λ _. ((word-data0 _ _, tt), λ _. kept-data0 Out e false on))))
 
 in-enabled : (e : ℕ) (iso on : Bool) → Only Initial (setEnabledIn {i = false} e iso on)
-in-enabled e iso on = (tt, λ _. ((λ _. tt, λ _. tt), λ _. (tt, λ _. ((λ _. tt, tt), λ _. ((tt, tt), λ _. ((word-data0 _ _, tt), λ _. kept-data0 In e iso on))))))
+in-enabled e iso on = (
+  tt,
+  λ _. ((λ _. tt, λ _. tt), λ _. (tt, λ _. ((λ _. tt, tt), λ _. ((tt, tt), λ _. ((word-data0 _ _, tt), λ _. kept-data0 In e iso on))))),
+)
 
 pub enabled-data0 : (d : Dir) (e : ℕ) (on : Bool) → Only Initial (setEnabled d e on)
 enabled-data0 Out e on = (λ _. tt, λ s. (((switch-data0 e on, tt), out-enabled e on), λ _. tt))

@@ -15,7 +15,9 @@ use Rattle.alloc.specs.declared.Answer as alloc-answer
 use Rattle.alloc.specs.declared.Answer.the-variants as alloc
 use Rattle.alloc.specs.Alloc.{allocateOf, allocateEp0Of}
 use Rattle.model.specs.Cells.{EpCore, globals-cell, ep-cell, allocator-cell}
-use Rattle.model.specs.Script.{Script, ret, done, test, _>>=_, _>>_, read, write, wait, get, put, is, look, fetch, act, hand, when, waiting, room, opened, next-stamp, oldest, place, place0, open-oldest, close-oldest, enqueue, allocate, allocate0}
+use Rattle.model.specs.Script.{Script, ret, done, test, _>>=_, _>>_, read, write, wait, get, put, is, look, fetch}
+use Rattle.model.specs.Script.{act, hand, when, waiting, room, opened, next-stamp, oldest, place, place0}
+use Rattle.model.specs.Script.{open-oldest, close-oldest, enqueue, allocate, allocate0}
 use Rattle.model.specs.Statics.{isOn, modifyIntEn, modifyReg}
 use Rattle.model.specs.Answers.{Answer, Refused, End, Shown, ok, operation, resultless, staged, named, unless}
 use Rattle.model.specs.Endpoint.{enabled-else}

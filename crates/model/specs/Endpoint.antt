@@ -11,7 +11,8 @@ use Rattle.regs.specs.ControlWord.{ack}
 use Rattle.regs.specs.Enables as enables
 use Rattle.state.specs.declared.Request.{Request}
 use Rattle.model.specs.Cells.{EpCore, globals-cell, ep-cell, request-cell}
-use Rattle.model.specs.Script.{Script, ret, done, test, _>>=_, _>>_, read, write, get, put, is, fetch, act, when, waiting, room, oldest, received, fill, take-oldest, enqueue}
+use Rattle.model.specs.Script.{Script, ret, done, test, _>>=_, _>>_, read, write, get, put, is, fetch, act, when}
+use Rattle.model.specs.Script.{waiting, room, oldest, received, fill, take-oldest, enqueue}
 use Rattle.model.specs.Statics.{isOn, withReady, withArmed, modifyEp, modifyReg}
 use Rattle.model.specs.Answers.{Answer, Refused, End, NotYet, Done, operation, resultless, staged, named, unless}
 

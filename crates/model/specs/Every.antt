@@ -27,9 +27,12 @@ sameReg r q = eqb (numberOf r) (numberOf q)
 
 -- `Ok` of each access that is handed out, and `P` of what the chip holds, the answer and the state at each end. `Keeps`: what becomes of the
 -- state between an access and the next call
-pub data Every {S : Type 0} (C : Chip) (Keeps : S → S → Type 0) (Ok : Access → Type 0) {A : Type 0} (P : C .Holds → A → S → Type 0) : C .Holds → tree.Out S A → Type 0 where
+pub data Every {S : Type 0} (C : Chip) (Keeps : S → S → Type 0)
+    (Ok : Access → Type 0) {A : Type 0} (P : C .Holds → A → S → Type 0) : C .Holds → tree.Out S A → Type 0 where
   at-end : {h : C .Holds} {a : A} {s : S} → P h a s → Every C Keeps Ok P h (ends a s)
-  at-ask : {h : C .Holds} {q : Access} {s : S} {k : ℕ → S → tree.Out S A} → Ok q → ((v : ℕ) (t : S) → C .Brings h q v → Keeps s t → Every C Keeps Ok P (C .after h q) (k v t)) → Every C Keeps Ok P h (asks q s k)
+  at-ask : {h : C .Holds} {q : Access} {s : S} {k : ℕ → S → tree.Out S A}
+      → Ok q → ((v : ℕ) (t : S) → C .Brings h q v → Keeps s t → Every C Keeps Ok P (C .after h q) (k v t))
+      → Every C Keeps Ok P h (asks q s k)
 
 -- `Ok` of each access, and no more
 abbrev pub All : {S : Type 0} (C : Chip) → (S → S → Type 0) → (Access → Type 0) → {A : Type 0} → C .Holds → tree.Out S A → Type 0

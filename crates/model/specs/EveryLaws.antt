@@ -7,7 +7,9 @@ use Rattle.regs.specs.declared.Access.the-variants.{Read, Write, Wait, Callback
 use Rattle.regs.specs.declared.Reg.{Reg}
 use Rattle.model.specs.Tree as tree
 use Rattle.model.specs.Tree.{bindOut}
-use Rattle.model.specs.Script.{Script, ret, bind, test, read-then, write-then, wait-then, callback-then, get-then, put-then, is-then, look-then, fetch-then, act-then, hand-then, row-then, Ops, run, rows, Burst, dmaStepAsk, burstAsk, lastOf}
+use Rattle.model.specs.Script.{Script, ret, bind, test, read-then, write-then, wait-then, callback-then, get-then}
+use Rattle.model.specs.Script.{put-then, is-then, look-then, fetch-then, act-then, hand-then, row-then, Ops, run}
+use Rattle.model.specs.Script.{rows, Burst, dmaStepAsk, burstAsk, lastOf}
 use Rattle.model.specs.Every.{Chip, Every, at-end, at-ask, All}
 
 module _ {S : Type 0} {C : Chip} {Keeps : S → S → Type 0} {Ok : Access → Type 0} where
@@ -16,11 +18,13 @@ module _ {S : Type 0} {C : Chip} {Keeps : S → S → Type 0} {Ok : Access → T
   every-bind (at-end x) k = k _ _ _ x
   every-bind (at-ask ok x) k = at-ask ok (λ v t b i. every-bind (x v t b i) k)
 
-  pub every-more : {A : Type 0} {P Q : C .Holds → A → S → Type 0} {h : C .Holds} {o : tree.Out S A} → Every C Keeps Ok P h o → ((g : C .Holds) (a : A) (s : S) → P g a s → Q g a s) → Every C Keeps Ok Q h o
+  pub every-more : {A : Type 0} {P Q : C .Holds → A → S → Type 0} {h : C .Holds} {o : tree.Out S A}
+      → Every C Keeps Ok P h o → ((g : C .Holds) (a : A) (s : S) → P g a s → Q g a s) → Every C Keeps Ok Q h o
   every-more (at-end x) f = at-end (f _ _ _ x)
   every-more (at-ask ok x) f = at-ask ok (λ v t b i. every-more (x v t b i) f)
 
-  pub every-cond : {A : Type 0} {P : C .Holds → A → S → Type 0} {h : C .Holds} (b : Bool) {o u : tree.Out S A} → (b ≡ true → Every C Keeps Ok P h o) → (b ≡ false → Every C Keeps Ok P h u) → Every C Keeps Ok P h (cond b o u)
+  pub every-cond : {A : Type 0} {P : C .Holds → A → S → Type 0} {h : C .Holds} (b : Bool) {o u : tree.Out S A}
+      → (b ≡ true → Every C Keeps Ok P h o) → (b ≡ false → Every C Keeps Ok P h u) → Every C Keeps Ok P h (cond b o u)
   every-cond true x y = x refl
   every-cond false x y = y refl
 
@@ -43,7 +47,8 @@ Only Ok (hand-then q p) = ((x : ℕ) → Ok (dmaStepAsk q x)) × Only Ok p
 Only Ok (row-then g p) = ((n x : ℕ) → Ok (burstAsk g n x)) × Only Ok p
 
 module _ {S : Type 0} {C : Chip} {Keeps : S → S → Type 0} {Ok : Access → Type 0} (O : Ops S) where
-  only-rows : {A : Type 0} (g : Burst) → ((n x : ℕ) → Ok (burstAsk g n x)) → (n : ℕ) (k : S → tree.Out S A) → ((h : C .Holds) (t : S) → All C Keeps Ok h (k t)) → (h : C .Holds) (s : S) → All C Keeps Ok h (rows O g n k s)
+  only-rows : {A : Type 0} (g : Burst) → ((n x : ℕ) → Ok (burstAsk g n x)) → (n : ℕ) (k : S → tree.Out S A)
+      → ((h : C .Holds) (t : S) → All C Keeps Ok h (k t)) → (h : C .Holds) (s : S) → All C Keeps Ok h (rows O g n k s)
   only-rows g ok zero k r h s = at-ask (ok zero _) (λ v t b i. r _ t)
   only-rows g ok (suc n) k r h s = at-ask (ok (suc n) _) (λ v t b i. only-rows g ok n k r _ t)
 

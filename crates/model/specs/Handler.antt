@@ -19,7 +19,8 @@ use Rattle.regs.specs.IntEn.{withBusRst, withSuspend}
 use Rattle.model.specs.declared.Transfer.{Transfer}
 use Rattle.model.specs.Cells.{EpCore, globals-cell, ep-cell}
 use Rattle.model.specs.Script.{Script, ret, done, test, _>>=_, _>>_, read, write, get, put, look, when, setup-word}
-use Rattle.model.specs.Statics.{isOn, flag, withReady, withArmed, withLen, withTog, completed, withSetup, withEntered, modify, modifyEp, modifyReg, modifyIntEn, wake, wakeBus, isoInEvery}
+use Rattle.model.specs.Statics.{isOn, flag, withReady, withArmed, withLen, withTog, completed, withSetup}
+use Rattle.model.specs.Statics.{withEntered, modify, modifyEp, modifyReg, modifyIntEn, wake, wakeBus, isoInEvery}
 use Rattle.model.specs.IsoIn.{firstInFrame, isoInComplete, onSof, lateWalk}
 use Rattle.model.specs.IsoOut.{isoOutCheck}
 

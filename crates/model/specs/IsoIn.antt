@@ -11,7 +11,8 @@ use Rattle.regs.specs.MisStatus.{sieFree}
 use Rattle.regs.specs.Status.{endpoint, isIn}
 use Rattle.regs.specs.Enables as enables
 use Rattle.model.specs.Cells.{EpCore, globals-cell, ep-cell, paced-cell}
-use Rattle.model.specs.Script.{Script, ret, done, test, _>>=_, _>>_, read, write, callback, get, put, is, look, act, hand, when, waiting, next-len, complete, send}
+use Rattle.model.specs.Script.{Script, ret, done, test, _>>=_, _>>_, read, write, callback, get, put, is, look}
+use Rattle.model.specs.Script.{act, hand, when, waiting, next-len, complete, send}
 use Rattle.frame.specs.Usb20.{indexOf, frameOf}
 use Rattle.frame.specs.Advance.{NO_FRAME, previous, completions, inPrevious}
 use Rattle.model.specs.Statics.{isOn, withLastFrame, withSofFrame, withPaced, modify, modifyEp, wake, isoInEvery}

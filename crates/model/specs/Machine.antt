@@ -13,7 +13,8 @@ use Rattle.regs.specs.declared.Dir.the-variants.{Out, In}
 use Rattle.model.specs.Tree as tree
 use Rattle.model.specs.Tree.{ends, asks, bindOut}
 use Rattle.model.specs.Cells.{Cell, Val}
-use Rattle.model.specs.Script.{Ops, Script, run, Test, Look, Fetch, Act, DmaStep, arrive, send, place, place0, dmaStepAsk, dma, Burst, switch, bus-reset, lastOf, burstAsk, switchAsk, resetAsk}
+use Rattle.model.specs.Script.{Ops, Script, run, Test, Look, Fetch, Act, DmaStep, arrive, send, place, place0}
+use Rattle.model.specs.Script.{dmaStepAsk, dma, Burst, switch, bus-reset, lastOf, burstAsk, switchAsk, resetAsk}
 use Rattle.model.specs.Simulates.{Rels, Sim, end, ask, alike, Phase, quiet, mid, Fits, Bare}
 
 abbrev pub Buf : Type 0

@@ -18,13 +18,22 @@ use Rattle.model.specs.Statics.{isOn}
 use Rattle.model.specs.IsoIn.{isoInCompletions, isoInAdvance}
 use Rattle.model.specs.Bus as bus
 use Rattle.model.specs.Endpoint.{enabled-else, ends-request, arm-read, polled, take-iso, take-ready, load-write, put-iso, sent-ready}
-use Rattle.model.specs.Control.{ends-control, unlessSetup, withinMaximum, requested, aborted-else, acks, take-out, beginDataIn, take-closing, take-in, statusIn}
+use Rattle.model.specs.Control.{ends-control, unlessSetup, withinMaximum, requested, aborted-else, acks, take-out}
+use Rattle.model.specs.Control.{beginDataIn, take-closing, take-in, statusIn}
 use Rattle.model.specs.Driver.{allocated-as, started-as}
 use Rattle.model.specs.AllocateAll.{allocateEach, announce, beginsAt, announceAfter, announceAll, allocate-read}
 use Rattle.model.specs.Answers.{Answer, named, unless}
-use Rattle.model.specs.Calls.{Slotted, SetEnabled, PollRead, BeginWrite, PollWrite, PollDataOut, BeginDataIn, Other, Allocate, AllocateAll, Start, BusPoll, BusEnable, BusDisable, Microframe, SetStalled, IsStalled, SetPaced, Advance, BeginRead, BeginSetup, PollSetup, PollDataIn, BeginAccept, PollAccept, BeginReject, BeginDataOut, BeginAcceptSetAddress, Aside, Open, Close, Queue, Op, interrupt, slotted, other, aside, numbered, named-or-0, slottedCode, otherCode, asideCode, code, Config, starting}
+use Rattle.model.specs.Calls.{Slotted, SetEnabled, PollRead, BeginWrite, PollWrite, PollDataOut, BeginDataIn}
+use Rattle.model.specs.Calls.{Other, Allocate, AllocateAll, Start, BusPoll, BusEnable, BusDisable, Microframe}
+use Rattle.model.specs.Calls.{SetStalled, IsStalled, SetPaced, Advance, BeginRead, BeginSetup, PollSetup}
+use Rattle.model.specs.Calls.{PollDataIn, BeginAccept, PollAccept, BeginReject, BeginDataOut}
+use Rattle.model.specs.Calls.{BeginAcceptSetAddress, Aside, Open, Close, Queue, Op, interrupt, slotted, other}
+use Rattle.model.specs.Calls.{aside, numbered, named-or-0, slottedCode, otherCode, asideCode, code, Config}
+use Rattle.model.specs.Calls.{starting}
 use Rattle.model.specs.Readings.{Reads≤}
-use Rattle.model.specs.ReadingsLaws.{reads-ret, reads-wait, reads-row, free, once, either, one-read, no-write, no-get, no-put, no-is, no-fetch, no-look, no-act, no-hand, when-reads, assign, assign-write, modifyReg-reads}
+use Rattle.model.specs.ReadingsLaws.{reads-ret, reads-wait, reads-row, free, once, either, one-read, no-write}
+use Rattle.model.specs.ReadingsLaws.{no-get, no-put, no-is, no-fetch, no-look, no-act, no-hand, when-reads}
+use Rattle.model.specs.ReadingsLaws.{assign, assign-write, modifyReg-reads}
 use Rattle.model.specs.ReadingsInterrupt.{isoInComplete-reads, operation-reads, resultless-reads, staged-reads, interrupt-reads}
 
 -- ---- the table
@@ -103,7 +112,8 @@ module _ {i : Bool} {n : ℕ} where
   aborted-reads x = free (no-get globals-cell) (λ _. either ends-control-reads x)
 
   polled-reads : (d : Dir) (e m : ℕ) {p : EpCore → Script i Answer} → ((s : EpCore) → Reads≤ n (p s)) → Reads≤ n (polled d e m p)
-  polled-reads d e m x = free (no-get (request-cell _ _)) (λ _. unless-reads (either (free (no-get (ep-cell _ _)) x) (free (assign (ep-cell _ _)) (λ _. ends-request-reads))))
+  polled-reads d e m x = free (no-get (request-cell _ _))
+      (λ _. unless-reads (either (free (no-get (ep-cell _ _)) x) (free (assign (ep-cell _ _)) (λ _. ends-request-reads))))
 
 -- ---- the bus
 
@@ -120,7 +130,8 @@ module _ {i : Bool} where
   stall-reads Out e true = once modifyReg-reads (λ _. no-act)
   stall-reads In e true = free no-write (λ _. once modifyReg-reads (λ _. no-act))
   stall-reads Out e false = free (no-get (ep-cell _ _)) (λ _. free (no-put (ep-cell _ _)) (λ _. free no-write (λ _. no-act)))
-  stall-reads In e false = free (no-get (ep-cell _ _)) (λ _. free (no-put (ep-cell _ _)) (λ _. free no-write (λ _. free (when-reads (assign (ep-cell _ _))) (λ _. no-act))))
+  stall-reads In e false = free (no-get (ep-cell _ _))
+      (λ _. free (no-put (ep-cell _ _)) (λ _. free no-write (λ _. free (when-reads (assign (ep-cell _ _))) (λ _. no-act))))
 
   completions-reads : (n e : ℕ) → Reads≤ {i = i} 0 (isoInCompletions n e)
   unfolding isoInCompletions
@@ -150,7 +161,8 @@ enabling-reads Out e on = free (no-get (ep-cell _ _)) (λ _. free (either (reads
     (free no-act (λ _. free (assign (ep-cell _ _)) (λ _. free no-hand (λ _. free no-write (λ _. kept-reads Out e false on))))))
     (λ _. no-act))
 enabling-reads In e on = free (no-get (ep-cell _ _)) (λ s. free
-    (free no-act (λ _. free (assign (ep-cell _ _)) (λ _. free (no-put (paced-cell _)) (λ _. free no-hand (λ _. free no-write (λ _. free no-write (λ _. kept-reads In e (isOn (s .iso)) on)))))))
+    (free no-act (λ _. free (assign (ep-cell _ _)) (λ _. free (no-put (paced-cell _))
+    (λ _. free no-hand (λ _. free no-write (λ _. free no-write (λ _. kept-reads In e (isOn (s .iso)) on)))))))
     (λ _. no-act))
 
 -- ---- control
@@ -166,7 +178,8 @@ module _ {i : Bool} where
       (aborted-reads (free (when-reads (free (assign (ep-cell _ _)) (λ _. no-put control-cell))) (λ _. reads-ret))))
 
   take-in-reads : (c : Control) → Reads≤ {i = i} 0 (take-in c)
-  take-in-reads c = free (no-get (ep-cell _ _)) (λ _. either (either (take-closing-reads true c) (free (assign (ep-cell _ _)) (λ _. ends-control-reads))) (aborted-reads reads-ret))
+  take-in-reads c = free (no-get (ep-cell _ _))
+      (λ _. either (either (take-closing-reads true c) (free (assign (ep-cell _ _)) (λ _. ends-control-reads))) (aborted-reads reads-ret))
 
   take-out-reads : (n : ℕ) → Reads≤ {i = i} 0 (take-out n)
   take-out-reads n = free (no-get (ep-cell _ _)) (λ _. either
@@ -177,7 +190,9 @@ module _ {i : Bool} where
   statusIn-reads = free (assign (ep-cell _ _)) (λ _. free no-write (λ _. modifyReg-reads))
 
   dataIn-reads : (bs : List ℕ) (first last : Bool) → Reads≤ {i = i} (cond first 0 1) (beginDataIn bs first last)
-  dataIn-reads bs first last = staged-reads 2 (withinMaximum-reads _ (unlessSetup-reads (free (no-put control-cell) (λ _. resultless-reads (free no-act (λ _. free (assign (ep-cell _ _)) (λ _.
+  dataIn-reads bs first last = staged-reads 2
+      (withinMaximum-reads _
+      (unlessSetup-reads (free (no-put control-cell) (λ _. resultless-reads (free no-act (λ _. free (assign (ep-cell _ _)) (λ _.
       free (when-reads (free (assign (ep-cell _ _)) (λ _. no-write))) (λ _. free (assign (ep-cell _ _)) (λ _. free no-write (λ _. acks-reads In first))))))))))
 
   -- ---- reads and writes
@@ -225,7 +240,8 @@ module _ {i : Bool} where
   after-reads : (left total : ℕ) (d : Dir) (e : ℕ) → Reads≤ {i = i} 0 (announceAfter left total d e)
   unfolding announceAfter
   after-reads zero total d e = reads-ret
-  after-reads (suc left) total d e = free (free (no-get allocator-cell) (λ _. free (no-get (ep-cell _ _)) (λ _. reads-ret))) (λ x. free (beginsAt-reads Out x 15 1) (λ o. either
+  after-reads (suc left) total d e = free (free (no-get allocator-cell) (λ _. free (no-get (ep-cell _ _)) (λ _. reads-ret)))
+      (λ x. free (beginsAt-reads Out x 15 1) (λ o. either
       (free (beginsAt-reads In x 15 1) (λ n. free (announce-reads In n) (λ _. after-reads left total In n)))
       (free (announce-reads Out o) (λ _. after-reads left total Out o))))
 
@@ -235,24 +251,29 @@ module _ {i : Bool} where
 
   all-reads : (bytes : List ℕ) (a : reading-answer.Answer) → Reads≤ {i = i} 0 (allocate-read bytes a)
   all-reads bytes (reading.Refused n) = reads-ret
-  all-reads bytes reading.Listed = free (no-get allocator-cell) (λ _. either (free (each-reads (listOf bytes)) (λ _. operation-reads (announceAll-reads (listOf bytes)))) reads-ret)
+  all-reads bytes reading.Listed = free (no-get allocator-cell)
+      (λ _. either (free (each-reads (listOf bytes)) (λ _. operation-reads (announceAll-reads (listOf bytes)))) reads-ret)
 
   started-reads : (maximum : ℕ) (a : alloc-answer.Answer) → Reads≤ {i = i} 0 (started-as maximum a)
   started-reads maximum (alloc.Refused n) = reads-ret
-  started-reads maximum (alloc.Given ep base slots) = resultless-reads (free no-hand (λ _. free no-write (λ _. free no-write (λ _. free no-write (λ _. no-write)))))
+  started-reads maximum (alloc.Given ep base slots) =
+      resultless-reads (free no-hand (λ _. free no-write (λ _. free no-write (λ _. free no-write (λ _. no-write)))))
 
 -- ---- every call
 
 slotted-reads : (o : Slotted) → Reads≤ (slottedMost o) (slottedCode o)
 slotted-reads (SetEnabled d e on) = staged-reads 2 (named-reads d e (resultless-reads (enabling-reads d e on)))
 slotted-reads (PollRead e n) = staged-reads 2 (named-reads Out e (polled-reads Out e n (λ s. either (take-iso-reads e n) (take-ready-reads e n s))))
-slotted-reads (BeginWrite e bs) = staged-reads 2 (named-reads In e (enabled-reads In e reads-ret (free (no-get (ep-cell _ _)) (λ _. unless-reads (free (no-put (request-cell _ _)) (λ _. resultless-reads (either reads-ret (load-write-reads e bs))))))))
+slotted-reads (BeginWrite e bs) = staged-reads 2
+    (named-reads In e (enabled-reads In e reads-ret (free (no-get (ep-cell _ _))
+    (λ _. unless-reads (free (no-put (request-cell _ _)) (λ _. resultless-reads (either reads-ret (load-write-reads e bs))))))))
 slotted-reads (PollWrite e bs) = staged-reads 2 (named-reads In e (polled-reads In e _ (λ s. either (put-iso-reads e bs) (sent-ready-reads e s))))
 slotted-reads (PollDataOut n) = staged-reads 2 (requested-reads _ (λ c. either (take-out-reads n) (free (assign (ep-cell _ _)) (λ _. ends-control-reads))))
 slotted-reads (BeginDataIn bs first last) = dataIn-reads bs first last
 
 other-reads : (o : Other) → Reads≤ (otherMost o) (otherCode o)
-other-reads (Allocate d kind address maximum interval) = staged-reads 1 (free (no-get allocator-cell) (λ a. free no-act (λ _. allocated-reads d kind maximum (allocateOf a kind address maximum d .answer))))
+other-reads (Allocate d kind address maximum interval) = staged-reads 1
+    (free (no-get allocator-cell) (λ a. free no-act (λ _. allocated-reads d kind maximum (allocateOf a kind address maximum d .answer))))
 other-reads (AllocateAll bytes) = staged-reads 1 (all-reads bytes (readingOf bytes .answer))
 other-reads (Start maximum) = staged-reads 1 (free (no-get allocator-cell) (λ a. free no-act (λ _. started-reads maximum (allocateEp0Of a maximum .answer))))
 other-reads BusPoll = staged-reads 2 (operation-reads poll-reads)
@@ -261,24 +282,36 @@ other-reads BusDisable = staged-reads 2 (resultless-reads reads-ret)
 other-reads Microframe = staged-reads 2 (operation-reads (once one-read (λ _. reads-ret)))
 other-reads (SetStalled d e on) = staged-reads 2 (named-or-0-reads d e (resultless-reads (stall-reads d e on)))
 other-reads (IsStalled d e) = staged-reads 2 (named-or-0-reads d e (operation-reads (once one-read (λ _. reads-ret))))
-other-reads (SetPaced e on) = staged-reads 2 (numbered-reads e (free (free (no-get globals-cell) (λ _. free (no-put globals-cell) (λ _. no-put (paced-cell _)))) (λ _. reads-ret)))
+other-reads (SetPaced e on) = staged-reads 2
+    (numbered-reads e (free (free (no-get globals-cell) (λ _. free (no-put globals-cell) (λ _. no-put (paced-cell _)))) (λ _. reads-ret)))
 other-reads (Advance e) = staged-reads 2 (numbered-reads e (resultless-reads (advance-reads e)))
-other-reads (BeginRead e n) = staged-reads 2 (named-reads Out e (enabled-reads Out e reads-ret (free (no-get (ep-cell _ _)) (λ s. unless-reads (free (no-put (request-cell _ _)) (λ _. resultless-reads (arm-read-reads e s)))))))
+other-reads (BeginRead e n) = staged-reads 2
+    (named-reads Out e (enabled-reads Out e reads-ret
+    (free (no-get (ep-cell _ _)) (λ s. unless-reads (free (no-put (request-cell _ _)) (λ _. resultless-reads (arm-read-reads e s)))))))
 other-reads BeginSetup = staged-reads 2 (free (no-put control-cell) (λ _. resultless-reads reads-ret))
-other-reads PollSetup = staged-reads 2 (requested-reads _ (λ c. free (no-get globals-cell) (λ _. either (free (no-put globals-cell) (λ _. ends-control-reads)) reads-ret)))
+other-reads PollSetup = staged-reads 2
+    (requested-reads _ (λ c. free (no-get globals-cell) (λ _. either (free (no-put globals-cell) (λ _. ends-control-reads)) reads-ret)))
 other-reads PollDataIn = staged-reads 2 (requested-reads _ (λ c. either (take-closing-reads false c) (take-in-reads c)))
 other-reads BeginAccept = staged-reads 2 (unlessSetup-reads (free (no-put control-cell) (λ _. resultless-reads statusIn-reads)))
 other-reads PollAccept = staged-reads 2 (requested-reads _ (λ c. free (no-get (ep-cell _ _)) (λ _. either
     (free (assign (ep-cell _ _)) (λ _. free (no-put control-cell) (λ _. either (resultless-reads no-write) reads-ret)))
     (aborted-reads reads-ret))))
-other-reads BeginReject = staged-reads 2 (free (no-put control-cell) (λ _. resultless-reads (free (assign (ep-cell _ _)) (λ _. free (assign (ep-cell _ _)) (λ _. once modifyReg-reads (λ _. modifyReg-reads))))))
-other-reads (BeginDataOut n first) = staged-reads 2 (withinMaximum-reads n (unlessSetup-reads (free (no-put control-cell) (λ _. resultless-reads (free (assign (ep-cell _ _)) (λ _. acks-reads Out first))))))
+other-reads BeginReject = staged-reads 2
+    (free (no-put control-cell)
+    (λ _. resultless-reads (free (assign (ep-cell _ _)) (λ _. free (assign (ep-cell _ _)) (λ _. once modifyReg-reads (λ _. modifyReg-reads))))))
+other-reads (BeginDataOut n first) = staged-reads 2
+    (withinMaximum-reads n
+    (unlessSetup-reads (free (no-put control-cell) (λ _. resultless-reads (free (assign (ep-cell _ _)) (λ _. acks-reads Out first))))))
 other-reads (BeginAcceptSetAddress a) = staged-reads 2 (unlessSetup-reads (free (no-put control-cell) (λ _. resultless-reads statusIn-reads)))
 
 aside-reads : (o : Aside) → Reads≤ 0 (asideCode o)
-aside-reads (Open e) = staged-reads 2 (named-reads Out e (free (no-get (ep-cell _ _)) (λ _. unless-reads (free no-is (λ _. either (free no-act (λ _. free no-fetch (λ _. free no-look (λ _. reads-ret)))) reads-ret)))))
+aside-reads (Open e) = staged-reads 2
+    (named-reads Out e (free (no-get (ep-cell _ _))
+    (λ _. unless-reads (free no-is (λ _. either (free no-act (λ _. free no-fetch (λ _. free no-look (λ _. reads-ret)))) reads-ret)))))
 aside-reads (Close e) = staged-reads 2 (named-reads Out e (free no-is (λ _. either (free no-act (λ _. reads-ret)) reads-ret)))
-aside-reads (Queue e bs) = staged-reads 2 (named-reads In e (enabled-reads In e reads-ret (free (no-get allocator-cell) (λ _. unless-reads (free (no-get (ep-cell _ _)) (λ _. unless-reads (free no-is (λ _. either (free no-act (λ _. reads-ret)) reads-ret))))))))
+aside-reads (Queue e bs) = staged-reads 2
+    (named-reads In e (enabled-reads In e reads-ret (free (no-get allocator-cell)
+    (λ _. unless-reads (free (no-get (ep-cell _ _)) (λ _. unless-reads (free no-is (λ _. either (free no-act (λ _. reads-ret)) reads-ret))))))))
 
 -- no call reads more often than the table says
 pub call-reads : (o : Op) → Reads≤ (most o) (code o)
@@ -289,4 +322,6 @@ call-reads (aside o) = aside-reads o
 
 -- start-up: ctrl
 pub start-up-reads : (c : Config) → Reads≤ 1 (starting c)
-start-up-reads c = resultless-reads (free no-write (λ _. free (reads-wait reads-ret) (λ _. once modifyReg-reads (λ _. free no-write (λ _. free no-write (λ _. assign-write globals-cell))))))
+start-up-reads c = resultless-reads
+    (free no-write
+    (λ _. free (reads-wait reads-ret) (λ _. once modifyReg-reads (λ _. free no-write (λ _. free no-write (λ _. assign-write globals-cell))))))

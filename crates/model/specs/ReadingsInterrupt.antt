@@ -16,11 +16,16 @@ use Rattle.model.specs.Cells.{globals-cell, ep-cell}
 use Rattle.model.specs.Script.{Script}
 use Rattle.model.specs.IsoIn.{firstInFrame, isoInLoad, isoInComplete, unseen, sofOne, sofWalk, onSof, lateOne, lateWalk}
 use Rattle.model.specs.IsoOut.{arrives, checkOne, checkWalk, isoOutCheck}
-use Rattle.model.specs.Handler.{looks, sieWait, nakNonIso, toggled, retake, settle, received, sent, sofArm, outArm, isoInArm, inArm, dispatch, movedOn, ep0MovedOn, isoFor, framed, served, onTransfer, onSetup, onInterrupt, keepMicroframe}
+use Rattle.model.specs.Handler.{looks, sieWait, nakNonIso, toggled, retake, settle, received, sent, sofArm}
+use Rattle.model.specs.Handler.{outArm, isoInArm, inArm, dispatch, movedOn, ep0MovedOn, isoFor, framed, served}
+use Rattle.model.specs.Handler.{onTransfer, onSetup, onInterrupt, keepMicroframe}
 use Rattle.model.specs.Answers.{Answer, staged, resultless, operation}
 use Rattle.model.specs.Calls.{interruptCode}
 use Rattle.model.specs.Readings.{Reads≤}
-use Rattle.model.specs.ReadingsLaws.{reads-more, reads-ret, reads-bind, reads-test, reads-cond, reads-mask, free, once, then-free, either, one-read, no-write, no-get, no-put, no-is, no-look, no-fetch, no-act, no-hand, no-callback, when-reads, assign, assign-write, modifyReg-reads}
+use Rattle.model.specs.ReadingsLaws.{reads-more, reads-ret, reads-bind, reads-test, reads-cond, reads-mask, free}
+use Rattle.model.specs.ReadingsLaws.{once, then-free, either, one-read, no-write, no-get, no-put, no-is, no-look}
+use Rattle.model.specs.ReadingsLaws.{no-fetch, no-act, no-hand, no-callback, when-reads, assign, assign-write}
+use Rattle.model.specs.ReadingsLaws.{modifyReg-reads}
 
 -- what an arm reads at most, EP0's and another's; and what any token's does
 abbrev armMost : Bool → ℕ
@@ -64,7 +69,8 @@ module _ {i : Bool} where
   sofWalk-reads frame = reads-mask (sofWalk frame) (sofOne frame) refl (λ e es. refl) (sofOne-reads frame)
 
   onSof-reads : (frame : ℕ) → Reads≤ {i = i} 32 (onSof frame)
-  onSof-reads frame = free (assign globals-cell) (λ _. free (no-get globals-cell) (λ _. then-free (sofWalk-reads frame _) (λ _. free (no-get globals-cell) (λ _. when-reads no-callback))))
+  onSof-reads frame = free (assign globals-cell)
+      (λ _. free (no-get globals-cell) (λ _. then-free (sofWalk-reads frame _) (λ _. free (no-get globals-cell) (λ _. when-reads no-callback))))
 
   firstInFrame-reads : {n : ℕ} (e frame : ℕ) → Reads≤ {i = i} n (firstInFrame e frame)
   firstInFrame-reads e frame = free (no-get (ep-cell _ _)) (λ _. free (no-put (ep-cell _ _)) (λ _. reads-ret))

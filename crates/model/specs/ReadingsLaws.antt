@@ -16,7 +16,11 @@ use Rattle.regs.specs.declared.Dir.the-variants.{Out, In}
 use Rattle.model.specs.Tree as tree
 use Rattle.model.specs.Tree.{ends, asks, Prog, bindOut}
 use Rattle.model.specs.Cells.{Cell, Val}
-use Rattle.model.specs.Script.{Script, Ops, run, rows, Test, Look, Fetch, Act, DmaStep, dmaStepAsk, arrive, send, place, place0, Burst, switch, bus-reset, lastOf, burstAsk, ret, bind, test, read-then, write-then, wait-then, callback-then, get-then, put-then, is-then, look-then, fetch-then, act-then, hand-then, row-then, _>>_, done, when, read, write, callback, get, put, is, look, fetch, act, hand}
+use Rattle.model.specs.Script.{Script, Ops, run, rows, Test, Look, Fetch, Act, DmaStep, dmaStepAsk, arrive, send}
+use Rattle.model.specs.Script.{place, place0, Burst, switch, bus-reset, lastOf, burstAsk, ret, bind, test}
+use Rattle.model.specs.Script.{read-then, write-then, wait-then, callback-then, get-then, put-then, is-then}
+use Rattle.model.specs.Script.{look-then, fetch-then, act-then, hand-then, row-then, _>>_, done, when, read}
+use Rattle.model.specs.Script.{write, callback, get, put, is, look, fetch, act, hand}
 use Rattle.model.specs.Statics.{modifyReg}
 use Rattle.model.specs.Readings.{reading, Continues, readings, AtMost, Reads≤}
 
@@ -35,7 +39,8 @@ unfolding readings
 ask-path n q s k x [] = omega arith
 ask-path n q s k x (c ∷ w) = omega (arith, x (c .0) (c .1) w)
 
-quiet-path : {S A : Type 0} (n : ℕ) (q : Access) (s : S) (k : ℕ → S → tree.Out S A) → reading q ≡ 0 → ((v : ℕ) (t : S) → AtMost n (k v t)) → AtMost n (asks q s k)
+quiet-path : {S A : Type 0} (n : ℕ) (q : Access) (s : S) (k : ℕ → S → tree.Out S A)
+    → reading q ≡ 0 → ((v : ℕ) (t : S) → AtMost n (k v t)) → AtMost n (asks q s k)
 unfolding readings
 quiet-path n q s k z x [] = omega (arith, z)
 quiet-path n q s k z x (c ∷ w) = omega (arith, z, x (c .0) (c .1) w)
@@ -178,14 +183,16 @@ module _ {i : Bool} where
   pub assign : {n : ℕ} (c : Cell) {f : Val c → Val c} → Reads≤ {i = i} n (bind (get c) (λ v. put c (f v)))
   assign c = free (no-get c) (λ _. no-put c)
 
-  pub assign-write : {n : ℕ} (c : Cell) {f : Val c → Val c} {r : Reg} {e : ℕ} {h : Val c → ℕ} → Reads≤ {i = i} n (bind (get c) (λ v. bind (put c (f v)) (λ _. write r e (h v))))
+  pub assign-write : {n : ℕ} (c : Cell) {f : Val c → Val c} {r : Reg} {e : ℕ} {h : Val c → ℕ}
+      → Reads≤ {i = i} n (bind (get c) (λ v. bind (put c (f v)) (λ _. write r e (h v))))
   assign-write c = free (no-get c) (λ _. free (no-put c) (λ _. no-write))
 
   pub modifyReg-reads : {n : ℕ} {r : Reg} {e : ℕ} {f : ℕ → ℕ} → Reads≤ {i = i} (suc n) (modifyReg r e f)
   modifyReg-reads = once one-read (λ _. no-write)
 
 -- a walk over a list: one endpoint's for each
-module _ {i : Bool} (W : List ℕ → Script i Unit) (one : ℕ → Script i Unit) (none : W [] ≡ done) (step : (e : ℕ) (es : List ℕ) → W (e ∷ es) ≡ (one e >> W es)) where
+module _ {i : Bool} (W : List ℕ → Script i Unit)
+    (one : ℕ → Script i Unit) (none : W [] ≡ done) (step : (e : ℕ) (es : List ℕ) → W (e ∷ es) ≡ (one e >> W es)) where
   pub reads-walk : {n : ℕ} → ((e : ℕ) → Reads≤ n (one e)) → (k : ℕ) (es : List ℕ) → length es ≤ k → Reads≤ (k * n) (W es)
   reads-walk x k [] h = rw none reads-ret
   reads-walk x zero (e ∷ es) h = absurd (omega (arith, h))

@@ -29,10 +29,37 @@ abbrev pub plain : Bool → EpCore
 plain iso = record { ready = 0; len = 0; armed = 1; «last_frame» = 0x1800; tog = 0; iso = flag iso; kind = 0; base = 0; «max_len» = 64 }
 
 abbrev globals : Globals
-globals = record { stage = 2; callback = 0; power = 1; «setup_ready» = 0; «setup_low» = 0; «setup_high» = 0; «int_en» = 0; «ep_config» = 0xFFFFFFFF; «ep_type» = 0; «iso_out_eps» = 0xFFFF; «iso_in_every» = 0xFFFF; «iso_in_paced» = 0; «sof_frame» = 7; «ep0_buf» = 0; «ep0_max» = 64; entered = 0 }
+globals = record {
+  stage = 2;
+  callback = 0;
+  power = 1;
+  «setup_ready» = 0;
+  «setup_low» = 0;
+  «setup_high» = 0;
+  «int_en» = 0;
+  «ep_config» = 0xFFFFFFFF;
+  «ep_type» = 0;
+  «iso_out_eps» = 0xFFFF;
+  «iso_in_every» = 0xFFFF;
+  «iso_in_paced» = 0;
+  «sof_frame» = 7;
+  «ep0_buf» = 0;
+  «ep0_max» = 64;
+  entered = 0;
+}
 
 abbrev pub allocator : Allocator
-allocator = record { size = 64; count = 1; next = 0; «taken_out» = 0; «taken_in» = 0; «iso_nums» = 0; «other_nums» = 0; «allocated_out» = 0; «allocated_in» = 0 }
+allocator = record {
+  size = 64;
+  count = 1;
+  next = 0;
+  «taken_out» = 0;
+  «taken_in» = 0;
+  «iso_nums» = 0;
+  «other_nums» = 0;
+  «allocated_out» = 0;
+  «allocated_in» = 0;
+}
 
 abbrev cells : (c : Cell) → Bool → Val c
 cells globals-cell s = globals
@@ -65,5 +92,7 @@ abbrev longest : Continues Bool
 longest = (0, false) ∷ (2, false) ∷ (0, false) ∷ (1, false) ∷ (0, false) ∷ (0, false) ∷ (0, false) ∷ (0, true) ∷ zeros 4200
 
 pub interrupt-reached : readings (run standing interruptCode false) longest ≡ 4061
-unfolding readings looks sofWalk lateWalk checkWalk isSet bitsFrom inEnabled outEnabled isOn isoInEvery isoOuts withBit endpoint tokenNumbered token isOut isSof isIn toggle isData1 frameNumber microframe indexOf frameOf isNone previous inPrevious leaving arriving entry outNaks inNaks repeated sameOut waitsForIso waitsForBulk isoFor ownIn
+unfolding readings looks sofWalk lateWalk checkWalk isSet bitsFrom inEnabled outEnabled isOn isoInEvery isoOuts
+    withBit endpoint tokenNumbered token isOut isSof isIn toggle isData1 frameNumber microframe indexOf frameOf isNone
+    previous inPrevious leaving arriving entry outNaks inNaks repeated sameOut waitsForIso waitsForBulk isoFor ownIn
 interrupt-reached = refl

@@ -36,12 +36,14 @@ any-chip = record { Holds = Unit {0}; Brings = λ _ _ _. Unit {0}; after = λ h 
 module _ {S : Type 0} (K : S → Type 0) (O : Ops S) where
   -- the toggle stays as it is between two accesses, and so does K; at each end it is the initial bit
   abbrev pub Restarts : {A : Type 0} → Dir → ℕ → tree.Out S A → Type 0
-  Restarts {A = A} d e o = Every any-chip (λ (s t : S). (togOf O d e t ≡ togOf O d e s) × K t) (λ _. Unit {0}) {A = A} (λ _ _ t. togOf O d e t ≡ number initial) tt o
+  Restarts {A = A} d e o = Every any-chip (λ (s t : S). (togOf O d e t ≡ togOf O d e s) × K t)
+      (λ _. Unit {0}) {A = A} (λ _ _ t. togOf O d e t ≡ number initial) tt o
 
   pub cleared-recorded : (i : Bool) (d : Dir) (e : ℕ) → Lawful K O d e → (s : S) → K s → Restarts d e (run O (setStalled {i = i} d e false) s)
   cleared-recorded i Out e L s z = at-ask tt (λ _ t _ k. at-end (L .wakes _ t ∙ (k .0 ∙ L .assigned _ s z)))
   cleared-recorded i In e L s z = at-ask tt (λ _ t _ k. every-bind {P = λ _ _ u. togOf O In e u ≡ number initial}
-      (every-cond (not (isOn (O .get (ep-cell In e) s .iso))) (λ _. at-end (L .assigned _ t (k .1) ∙ (k .0 ∙ L .assigned _ s z))) (λ _. at-end (k .0 ∙ L .assigned _ s z)))
+      (every-cond (not (isOn (O .get (ep-cell In e) s .iso)))
+      (λ _. at-end (L .assigned _ t (k .1) ∙ (k .0 ∙ L .assigned _ s z))) (λ _. at-end (k .0 ∙ L .assigned _ s z)))
       (λ _ _ u x. at-end (L .wakes _ u ∙ x)))
 
   pub enabled-out-recorded : (i : Bool) (e : ℕ) (on : Bool) → Lawful K O Out e → (s : S) → K s → Restarts Out e (run O (setEnabledOut {i = i} e on) s)
@@ -50,4 +52,5 @@ module _ {S : Type 0} (K : S → Type 0) (O : Ops S) where
 
   pub enabled-in-recorded : (i : Bool) (e : ℕ) (iso on : Bool) → Lawful K O In e → (s : S) → K s → Restarts In e (run O (setEnabledIn {i = i} e iso on) s)
   enabled-in-recorded i e iso on L s z = at-ask tt (λ _ a _ ka. at-ask tt (λ _ l _ kl. at-ask tt (λ _ b _ kb. at-ask tt (λ _ c _ kc. at-ask tt (λ _ t _ kt.
-      at-end (kt .0 ∙ (L .enabling on c ∙ (kc .0 ∙ (L .globals _ b ∙ (kb .0 ∙ (kl .0 ∙ (ka .0 ∙ (L .placing _ ∙ (L .paced _ _ ∙ L .assigned _ _ (L .emptied s z)))))))))))))))
+      at-end (kt .0 ∙ (L .enabling on c
+      ∙ (kc .0 ∙ (L .globals _ b ∙ (kb .0 ∙ (kl .0 ∙ (ka .0 ∙ (L .placing _ ∙ (L .paced _ _ ∙ L .assigned _ _ (L .emptied s z)))))))))))))))

@@ -8,7 +8,9 @@ use Rattle.regs.specs.declared.Access.the-variants.{Read, Write, Receive, Trans
 use Rattle.model.specs.Tree as tree
 use Rattle.model.specs.Tree.{ends, asks, Prog, bindOut}
 use Rattle.model.specs.Cells.{Cell, Val}
-use Rattle.model.specs.Script.{Script, Ops, run, rows, Test, Look, Fetch, Act, DmaStep, dmaStepAsk, Burst, lastOf, burstAsk, ret, bind, test, read-then, write-then, wait-then, callback-then, get-then, put-then, is-then, look-then, fetch-then, act-then, hand-then, row-then}
+use Rattle.model.specs.Script.{Script, Ops, run, rows, Test, Look, Fetch, Act, DmaStep, dmaStepAsk, Burst, lastOf}
+use Rattle.model.specs.Script.{burstAsk, ret, bind, test, read-then, write-then, wait-then, callback-then}
+use Rattle.model.specs.Script.{get-then, put-then, is-then, look-then, fetch-then, act-then, hand-then, row-then}
 
 -- at rest, or in a row after its step of that number
 pub data Phase : Type 0 where
@@ -42,9 +44,12 @@ pub record Rels {S T : Type 0} (O : Ops S) (P : Ops T) : Type 1 where
   pub looks : (q : Look) {s : S} {t : T} → R quiet s t → O .look q s ≡ P .look q t
   pub fetches : (q : Fetch) {s : S} {t : T} → R quiet s t → O .fetch q s ≡ P .fetch q t
   pub acts : (q : Act) {s : S} {t : T} → R quiet s t → R quiet (O .act q s) (P .act q t)
-  pub hands : (q : DmaStep) {s : S} {t : T} → R quiet s t → At quiet (dmaStepAsk q (O .hand q s .0)) (dmaStepAsk q (P .hand q t .0)) (O .hand q s .1) (P .hand q t .1)
-  pub first : (g : Burst) {s : S} {t : T} → R quiet s t → At (mid g (lastOf g)) (burstAsk g (lastOf g) (O .row g (lastOf g) s .0)) (burstAsk g (lastOf g) (P .row g (lastOf g) t .0)) (O .row g (lastOf g) s .1) (P .row g (lastOf g) t .1)
-  pub next : (g : Burst) (n : ℕ) {s : S} {t : T} → R (mid g (suc n)) s t → At (mid g n) (burstAsk g n (O .row g n s .0)) (burstAsk g n (P .row g n t .0)) (O .row g n s .1) (P .row g n t .1)
+  pub hands : (q : DmaStep) {s : S} {t : T} → R quiet s t
+      → At quiet (dmaStepAsk q (O .hand q s .0)) (dmaStepAsk q (P .hand q t .0)) (O .hand q s .1) (P .hand q t .1)
+  pub first : (g : Burst) {s : S} {t : T} → R quiet s t → At (mid g (lastOf g)) (burstAsk g (lastOf g) (O .row g (lastOf g) s .0))
+      (burstAsk g (lastOf g) (P .row g (lastOf g) t .0)) (O .row g (lastOf g) s .1) (P .row g (lastOf g) t .1)
+  pub next : (g : Burst) (n : ℕ) {s : S} {t : T} → R (mid g (suc n)) s t
+      → At (mid g n) (burstAsk g n (O .row g n s .0)) (burstAsk g n (P .row g n t .0)) (O .row g n s .1) (P .row g n t .1)
   pub over : (g : Burst) {s : S} {t : T} → R (mid g zero) s t → R quiet s t
 
 module _ {S T : Type 0} {O : Ops S} {P : Ops T} (E : Rels O P) where
@@ -52,9 +57,11 @@ module _ {S T : Type 0} {O : Ops S} {P : Ops T} (E : Rels O P) where
   -- whatever becomes of the states, so long as these are related
   pub data Sim (i : Bool) {A : Type 0} : tree.Out S A → tree.Out T A → Type 0 where
     end : {a b : A} {s : S} {t : T} → a ≡ b → E .R quiet s t → Sim i (ends a s) (ends b t)
-    ask : {q q′ : Access} {s : S} {t : T} {k : ℕ → S → tree.Out S A} {k′ : ℕ → T → tree.Out T A} (φ : Phase) → Fits i φ → E .At φ q q′ s t → ((v : ℕ) (s : S) (t : T) → E .R φ s t → Sim i (k v s) (k′ v t)) → Sim i (asks q s k) (asks q′ t k′)
+    ask : {q q′ : Access} {s : S} {t : T} {k : ℕ → S → tree.Out S A} {k′ : ℕ → T → tree.Out T A} (φ : Phase) → Fits i φ
+        → E .At φ q q′ s t → ((v : ℕ) (s : S) (t : T) → E .R φ s t → Sim i (k v s) (k′ v t)) → Sim i (asks q s k) (asks q′ t k′)
 
-  bind-sim : {i : Bool} {A B : Type 0} {o : tree.Out S A} {u : tree.Out T A} {f : A → Prog S B} {g : A → Prog T B} → Sim i o u → ((a : A) (s : S) (t : T) → E .R quiet s t → Sim i (f a s) (g a t)) → Sim i (bindOut o f) (bindOut u g)
+  bind-sim : {i : Bool} {A B : Type 0} {o : tree.Out S A} {u : tree.Out T A} {f : A → Prog S B} {g : A → Prog T B}
+      → Sim i o u → ((a : A) (s : S) (t : T) → E .R quiet s t → Sim i (f a s) (g a t)) → Sim i (bindOut o f) (bindOut u g)
   bind-sim {i = i} {f = f} {g = g} (end {a = a} {s = s} {t = t} e r) h = subst (λ b. Sim i (f a s) (g b t)) e (h a s t r)
   bind-sim (ask φ p x k) h = ask φ p x (λ v s t r. bind-sim (k v s t r) h)
 
@@ -62,12 +69,16 @@ module _ {S T : Type 0} {O : Ops S} {P : Ops T} (E : Rels O P) where
   fits true = tt
   fits false = tt
 
-  rows-next : {A : Type 0} (g : Burst) (n : ℕ) {k : S → tree.Out S A} {k′ : T → tree.Out T A} → ((s : S) (t : T) → E .R quiet s t → Sim false (k s) (k′ t)) → (s : S) (t : T) → E .R (mid g (suc n)) s t → Sim false (rows O g n k s) (rows P g n k′ t)
+  rows-next : {A : Type 0} (g : Burst) (n : ℕ) {k : S → tree.Out S A} {k′ : T → tree.Out T A}
+      → ((s : S) (t : T) → E .R quiet s t → Sim false (k s) (k′ t))
+      → (s : S) (t : T) → E .R (mid g (suc n)) s t → Sim false (rows O g n k s) (rows P g n k′ t)
   rows-next g zero h s t r = ask (mid g zero) tt (E .next g zero r) (λ v s t r. h s t (E .over g r))
   rows-next g (suc n) h s t r = ask (mid g (suc n)) tt (E .next g (suc n) r) (λ v. rows-next g n h)
 
-  rows-first : {A : Type 0} (g : Burst) (n : ℕ) {k : S → tree.Out S A} {k′ : T → tree.Out T A} → ((s : S) (t : T) → E .R quiet s t → Sim false (k s) (k′ t)) → (s : S) (t : T)
-      → E .At (mid g n) (burstAsk g n (O .row g n s .0)) (burstAsk g n (P .row g n t .0)) (O .row g n s .1) (P .row g n t .1) → Sim false (rows O g n k s) (rows P g n k′ t)
+  rows-first : {A : Type 0} (g : Burst) (n : ℕ) {k : S → tree.Out S A} {k′ : T → tree.Out T A}
+      → ((s : S) (t : T) → E .R quiet s t → Sim false (k s) (k′ t)) → (s : S) (t : T)
+      → E .At (mid g n) (burstAsk g n (O .row g n s .0)) (burstAsk g n (P .row g n t .0)) (O .row g n s .1) (P .row g n t .1)
+      → Sim false (rows O g n k s) (rows P g n k′ t)
   rows-first g zero h s t x = ask (mid g zero) tt x (λ v s t r. h s t (E .over g r))
   rows-first g (suc n) h s t x = ask (mid g (suc n)) tt x (λ v. rows-next g n h)
 

@@ -27,7 +27,8 @@ module _ {S : Type 0} {O : Ops S} {K : S → Type 0} {iso : TransferKinds} (M : 
   aside-reads (Open e) = free (no-get M globals-cell) (λ _ _. either
       (λ _. free (no-get M allocator-cell) (λ _ _. either
       (λ _. free (no-get M (ep-cell _ _)) (λ _ _. either (λ _. reads-ret tt)
-      (λ _. free no-is (λ _ _. either (λ _. free (no-act M (open-oldest e) refl) (λ _ _. free no-fetch (λ _ _. free no-look (λ _ _. reads-ret tt)))) (λ _. reads-ret tt)))))
+      (λ _. free no-is (λ _ _. either
+      (λ _. free (no-act M (open-oldest e) refl) (λ _ _. free no-fetch (λ _ _. free no-look (λ _ _. reads-ret tt)))) (λ _. reads-ret tt)))))
       (λ _. reads-ret tt)))
       (λ _. reads-ret tt))
   aside-reads (Close e) = free (no-get M globals-cell) (λ _ _. either
@@ -52,7 +53,8 @@ module _ {S : Type 0} {O : Ops S} {K : S → Type 0} {iso : TransferKinds} (M : 
     stays : {s t : S} → Passes O Stores s t → K s → K t
     stays nothing k = k
     stays (stored {t = t} {u = u} x y) k = leaves t u y (stays x k)
-    stays (called o {t = t} x e) k = ended (subst (λ z. Every counted (Staying K) Any (λ m b u. (m ≤ 0 + 0) × K u × Any b) 0 z) e (aside-reads o .on 0 t (stays x k)))
+    stays (called o {t = t} x e) k =
+        ended (subst (λ z. Every counted (Staying K) Any (λ m b u. (m ≤ 0 + 0) × K u × Any b) 0 z) e (aside-reads o .on 0 t (stays x k)))
 
     all-stay : {A : Type 0} (o : tree.Out S A) (w : Continues S) → Along (Passes O Stores) o w → Along (Staying K) o w
     unfolding Along

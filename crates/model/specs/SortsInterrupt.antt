@@ -19,17 +19,24 @@ use Rattle.regs.specs.Status.{endpoint, token, outToken, isOut, isIn}
 use Rattle.state.specs.declared.Globals.{Globals}
 use Rattle.model.specs.declared.Transfer.{Transfer}
 use Rattle.model.specs.Cells.{EpCore, globals-cell, ep-cell}
-use Rattle.model.specs.Script.{Script, Ops, run, bind, _>>=_, _>>_, read, get, complete, no-wakes, waken, send, arrive, open-oldest, close-oldest, enqueue}
+use Rattle.model.specs.Script.{Script, Ops, run, bind, _>>=_, _>>_, read, get, complete, no-wakes, waken, send}
+use Rattle.model.specs.Script.{arrive, open-oldest, close-oldest, enqueue}
 use Rattle.model.specs.Statics.{isOn, isoInEvery, isoOuts}
 use Rattle.model.specs.IsoIn.{firstInFrame, isoInLoad, isoInComplete, unseen, sofOne, sofWalk, onSof, lateOne, lateWalk}
 use Rattle.model.specs.IsoOut.{arrives, checkOne, checkWalk, isoOutCheck}
-use Rattle.model.specs.Handler.{looks, sieWait, nakNonIso, toggled, retake, settle, entered, waitsForIso, waitsForBulk, received, sent, sofArm, outArm, isoInArm, inArm, dispatch, movedOn, ep0MovedOn, isoFor, ownIn, released, framed, served, onTransfer, onSetup, onInterrupt, keepMicroframe}
+use Rattle.model.specs.Handler.{looks, sieWait, nakNonIso, toggled, retake, settle, entered, waitsForIso}
+use Rattle.model.specs.Handler.{waitsForBulk, received, sent, sofArm, outArm, isoInArm, inArm, dispatch, movedOn}
+use Rattle.model.specs.Handler.{ep0MovedOn, isoFor, ownIn, released, framed, served, onTransfer, onSetup}
+use Rattle.model.specs.Handler.{onInterrupt, keepMicroframe}
 use Rattle.model.specs.Calls.{interruptCode}
 use Rattle.model.specs.Readings.{Continues, readings}
 use Rattle.model.specs.ToggledLaws.{apart}
 use Rattle.model.specs.TransferKinds.{TransferKinds, Shows, Sorted, Along}
 use Rattle.model.specs.SortsWalks.{Most, most-15, most-14, among-outs, among-ins}
-use Rattle.model.specs.SortsLaws.{Any, Staying, Reads, reads-along, reads-more, reads-ret, reads-bind, reads-walk, free, once, then-free, either, one-read, no-write, no-get, no-put, no-is, no-look, no-fetch, no-act, no-hand, no-callback, when-reads, assign, assign-write, modifyReg-reads}
+use Rattle.model.specs.SortsLaws.{Any, Staying, Reads, reads-along, reads-more, reads-ret, reads-bind, reads-walk}
+use Rattle.model.specs.SortsLaws.{free, once, then-free, either, one-read, no-write, no-get, no-put, no-is}
+use Rattle.model.specs.SortsLaws.{no-look, no-fetch, no-act, no-hand, no-callback, when-reads, assign}
+use Rattle.model.specs.SortsLaws.{assign-write, modifyReg-reads}
 
 -- ---- what the tests of `settle` say
 
@@ -55,7 +62,8 @@ late-is true false io h = apart (sym h)
 late-is false out io h = apart (sym h)
 
 -- the bulk wait is not on EP0, and an endpoint that is not isochronous
-bulk-is : (busy ep0 out isin io ii : Bool) → (busy && (out && io)) ≡ false → (busy && (not ep0 && (out || (isin && not ii)))) ≡ true → (ep0 ≡ false) × ((io ≡ false) ⊎ (ii ≡ false))
+bulk-is : (busy ep0 out isin io ii : Bool) → (busy && (out && io)) ≡ false
+    → (busy && (not ep0 && (out || (isin && not ii)))) ≡ true → (ep0 ≡ false) × ((io ≡ false) ⊎ (ii ≡ false))
 bulk-is false ep0 out isin io ii a b = apart (sym b)
 bulk-is true true out isin io ii a b = apart (sym b)
 bulk-is true false true isin io ii a b = (refl, inl a)
@@ -115,9 +123,11 @@ module _ {S : Type 0} {O : Ops S} {K : S → Type 0} {iso : TransferKinds} (M : 
   sofOne-reads frame e = free (no-get M (ep-cell _ _)) (λ _ _. either (λ _. reads-ret tt)
       (λ _. once one-read (λ _ _. either (λ _. unseen-reads frame e) (λ _. once one-read (λ _ _. either (λ _. reads-ret tt) (λ _. unseen-reads frame e))))))
 
-  sofWalk-reads : (k : ℕ) → Most k (iso In) → (frame : ℕ) (g : Globals) → Shows iso globals-cell g → Reads O K {i = i} (k * 2) Any (sofWalk frame (setBits (isoInEvery g)))
+  sofWalk-reads : (k : ℕ) → Most k (iso In) → (frame : ℕ) (g : Globals)
+      → Shows iso globals-cell g → Reads O K {i = i} (k * 2) Any (sofWalk frame (setBits (isoInEvery g)))
   unfolding sofWalk
-  sofWalk-reads k x frame g s = reads-walk (sofWalk frame) (sofOne frame) refl (λ e es. refl) (sofOne-reads frame) k (setBits (isoInEvery g)) (x (isoInEvery g) (among-ins (iso In) g (s .1)))
+  sofWalk-reads k x frame g s = reads-walk (sofWalk frame) (sofOne frame) refl
+      (λ e es. refl) (sofOne-reads frame) k (setBits (isoInEvery g)) (x (isoInEvery g) (among-ins (iso In) g (s .1)))
 
   onSof-reads : (k : ℕ) → Most k (iso In) → (frame : ℕ) → Reads O K {i = i} (k * 2) Any (onSof frame)
   onSof-reads k x frame = free (assign M globals-cell) (λ _ _. free (no-get M globals-cell) (λ g s.
@@ -142,9 +152,11 @@ module _ {S : Type 0} {O : Ops S} {K : S → Type 0} {iso : TransferKinds} (M : 
       (λ _. arrives-reads e _)
       (λ _. once one-read (λ _ _. either (λ _. reads-ret tt) (λ _. free no-look (λ _ _. arrives-reads e _))))))
 
-  checkWalk-reads : (k : ℕ) → Most k (iso Out) → (x : Transfer) (f : Bool) (g : Globals) → Shows iso globals-cell g → Reads O K {i = i} (k * 1) Any (checkWalk x f (setBits (isoOuts g)))
+  checkWalk-reads : (k : ℕ) → Most k (iso Out) → (x : Transfer) (f : Bool) (g : Globals)
+      → Shows iso globals-cell g → Reads O K {i = i} (k * 1) Any (checkWalk x f (setBits (isoOuts g)))
   unfolding checkWalk
-  checkWalk-reads k y x f g s = reads-walk (checkWalk x f) (checkOne x f) refl (λ e es. refl) (checkOne-reads x f) k (setBits (isoOuts g)) (y (isoOuts g) (among-outs (iso Out) g (s .0)))
+  checkWalk-reads k y x f g s = reads-walk (checkWalk x f) (checkOne x f) refl
+      (λ e es. refl) (checkOne-reads x f) k (setBits (isoOuts g)) (y (isoOuts g) (among-outs (iso Out) g (s .0)))
 
   isoOutCheck-reads : (k : ℕ) → Most k (iso Out) → (x : Transfer) (f : Bool) → Reads O K {i = i} (k * 1) Any (isoOutCheck x f)
   isoOutCheck-reads k y x f = free (no-get M globals-cell) (λ g s. checkWalk-reads k y x f g s)
@@ -160,7 +172,8 @@ module _ {S : Type 0} {O : Ops S} {K : S → Type 0} {iso : TransferKinds} (M : 
   sieWait-reads = looks-reads 2001
 
   nakNonIso-reads : {n : ℕ} (st : ℕ) → Reads O K {i = i} (suc n) Any (nakNonIso st)
-  nakNonIso-reads st = free (no-get M (ep-cell _ _)) (λ _ _. free (no-get M (ep-cell _ _)) (λ _ _. either (λ _. modifyReg-reads) (λ _. when-reads (λ _. modifyReg-reads))))
+  nakNonIso-reads st = free (no-get M (ep-cell _ _))
+      (λ _ _. free (no-get M (ep-cell _ _)) (λ _ _. either (λ _. modifyReg-reads) (λ _. when-reads (λ _. modifyReg-reads))))
 
   toggled-reads : (d : Dir) (e : ℕ) → Reads O K {i = i} 2003 Any (toggled d e)
   toggled-reads d e = reads-bind 2001 2 sieWait-reads (λ _ _. once one-read (λ _ _. free (no-get M (ep-cell _ _)) (λ _ _. either
@@ -202,7 +215,8 @@ module _ {S : Type 0} {O : Ops S} {K : S → Type 0} {iso : TransferKinds} (M : 
   sofArm-reads frame = free (no-get M globals-cell) (λ _ _. when-reads (λ _. reads-more (onSof-reads 15 (every-in M) frame) (omega arith)))
 
   isoInArm-reads : {n : ℕ} (e frame : ℕ) → Reads O K {i = i} n Any (isoInArm e frame)
-  isoInArm-reads e frame = free (no-get M globals-cell) (λ _ _. either (λ _. reads-ret tt) (λ _. free (firstInFrame-reads e frame) (λ _ _. when-reads (λ _. isoInComplete-reads e))))
+  isoInArm-reads e frame = free (no-get M globals-cell)
+      (λ _ _. either (λ _. reads-ret tt) (λ _. free (firstInFrame-reads e frame) (λ _ _. when-reads (λ _. isoInComplete-reads e))))
 
   outArm-reads : (x : Transfer) (f : Bool) → Reads O K {i = i} 2003 Any (outArm x f)
   outArm-reads x f = either (λ _. reads-ret tt) (λ _. either
@@ -225,7 +239,8 @@ module _ {S : Type 0} {O : Ops S} {K : S → Type 0} {iso : TransferKinds} (M : 
   dispatch-none t x f frame a b = rw (a, b) (either (λ _. reads-ret tt) (λ z. apart z))
 
   movedOn-reads : (d : Dir) → Reads O K {i = i} 1 Any (movedOn d)
-  movedOn-reads d = free (no-get M (ep-cell _ _)) (λ _ _. when-reads (λ _. once modifyReg-reads (λ _ _. free (assign M (ep-cell _ _)) (λ _ _. no-act M (waken _) refl))))
+  movedOn-reads d = free (no-get M (ep-cell _ _))
+      (λ _ _. when-reads (λ _. once modifyReg-reads (λ _ _. free (assign M (ep-cell _ _)) (λ _ _. no-act M (waken _) refl))))
 
   ep0MovedOn-reads : (t : Token) → Reads O K {i = i} 1 Any (ep0MovedOn t)
   ep0MovedOn-reads tok.Out = movedOn-reads In
@@ -236,7 +251,8 @@ module _ {S : Type 0} {O : Ops S} {K : S → Type 0} {iso : TransferKinds} (M : 
   -- ---- the whole
 
   -- walks over at most j and k endpoints, an arm with at most d readings, and one more for EP0
-  served-reads : (j d k l : ℕ) → Most j (iso In) → Most k (iso Out) → (x : Transfer) (f : Bool) (frame : ℕ) → Reads O K {i = i} d Any (dispatch (token (x .st)) x f frame)
+  served-reads : (j d k l : ℕ) → Most j (iso In) → Most k (iso Out)
+      → (x : Transfer) (f : Bool) (frame : ℕ) → Reads O K {i = i} d Any (dispatch (token (x .st)) x f frame)
       → (eqb (endpoint (x .st)) 0 ≡ true → 1 ≤ l) → Reads O K {i = i} (j * 2 + (d + (k * 1 + l))) Any (served x f frame)
   served-reads j d k l a b x f frame y z =
       free (no-get M globals-cell) (λ _ _. reads-bind (j * 2) (d + (k * 1 + l)) (when-reads (λ _. onSof-reads j a frame)) (λ _ _.
@@ -264,11 +280,13 @@ module _ {S : Type 0} {O : Ops S} {K : S → Type 0} {iso : TransferKinds} (M : 
       (λ _. omega arith)))))
 
   rest-bulk : (j k : ℕ) → Most j (iso In) → Most k (iso Out) → j * 2 + k ≤ 44 → (x : Transfer) → eqb (endpoint (x .st)) 0 ≡ false → Reads O K 2048 Any (rest x)
-  rest-bulk j k a b h x e = free (no-get M (ep-cell _ _)) (λ o _. free (no-get M (ep-cell _ _)) (λ n _. once one-read (λ frame _. free (no-get M globals-cell) (λ g _.
+  rest-bulk j k a b h x e = free (no-get M (ep-cell _ _))
+      (λ o _. free (no-get M (ep-cell _ _)) (λ n _. once one-read (λ frame _. free (no-get M globals-cell) (λ g _.
       let f = isoFor (token (x .st)) o n in
       let z = framed x f (g .«sof_frame») frame in
       reads-more (served-reads j 2003 k 0 a b z f frame (dispatch-reads (token (z .st)) z f frame)
-      (λ (q : eqb (endpoint (z .st)) 0 ≡ true). apart (sym q ∙ (ap (λ (st : ℕ). eqb (endpoint st) 0) (framed-st x f (g .«sof_frame») frame) ∙ e)))) (omega (arith, h))))))
+      (λ (q : eqb (endpoint (z .st)) 0 ≡ true). apart (sym q
+      ∙ (ap (λ (st : ℕ). eqb (endpoint st) 0) (framed-st x f (g .«sof_frame») frame) ∙ e)))) (omega (arith, h))))))
 
   rest-else : (x : Transfer) → Reads O K 2050 Any (rest x)
   rest-else x = free (no-get M (ep-cell _ _)) (λ o _. free (no-get M (ep-cell _ _)) (λ n _. once one-read (λ frame _. free (no-get M globals-cell) (λ g _.
@@ -277,14 +295,20 @@ module _ {S : Type 0} {O : Ops S} {K : S → Type 0} {iso : TransferKinds} (M : 
       served-reads 15 2003 15 1 (every-in M) (every-out M) z f frame (dispatch-reads (token (z .st)) z f frame) (λ _. omega arith)))))
 
   -- the endpoint that waited is missing from its direction's walk
-  rest-missing : (x : Transfer) → eqb (endpoint (x .st)) 0 ≡ false → (iso Out (endpoint (x .st)) ≡ false) ⊎ (iso In (endpoint (x .st)) ≡ false) → Reads O K 2048 Any (rest x)
-  rest-missing x e (inl q) = rest-bulk 15 14 (every-in M) (most-14 (iso Out) (M .ep0 Out) (endpoint (x .st)) (not-ep0 (endpoint (x .st)) e) (endpoint-lt (x .st)) q) (omega arith) x e
-  rest-missing x e (inr q) = rest-bulk 14 15 (most-14 (iso In) (M .ep0 In) (endpoint (x .st)) (not-ep0 (endpoint (x .st)) e) (endpoint-lt (x .st)) q) (every-out M) (omega arith) x e
+  rest-missing : (x : Transfer) → eqb (endpoint (x .st)) 0 ≡ false
+      → (iso Out (endpoint (x .st)) ≡ false) ⊎ (iso In (endpoint (x .st)) ≡ false) → Reads O K 2048 Any (rest x)
+  rest-missing x e (inl q) = rest-bulk 15 14 (every-in M)
+      (most-14 (iso Out) (M .ep0 Out) (endpoint (x .st)) (not-ep0 (endpoint (x .st)) e) (endpoint-lt (x .st)) q) (omega arith) x e
+  rest-missing x e (inr q) =
+      rest-bulk 14 15 (most-14 (iso In) (M .ep0 In) (endpoint (x .st)) (not-ep0 (endpoint (x .st)) e) (endpoint-lt (x .st)) q)
+      (every-out M) (omega arith) x e
 
   settled : (x : Transfer) (a b : Bool) → lateBy iso x ≡ a → bulkBy iso x ≡ b → Reads O K 4050 Any (bind (settle x) rest)
   settled x true b l h =
       let z = late-is (x .busy) (isOut (x .st)) (iso Out (endpoint (x .st))) l in
-      reads-more (reads-bind 2003 47 (settle-late x l) (λ y q. rest-late y (ap token q ∙ is-out (x .st) (z .0)) (ap (λ (st : ℕ). iso Out (endpoint st)) q ∙ z .1))) (omega arith)
+      reads-more
+      (reads-bind 2003 47 (settle-late x l)
+      (λ y q. rest-late y (ap token q ∙ is-out (x .st) (z .0)) (ap (λ (st : ℕ). iso Out (endpoint st)) q ∙ z .1))) (omega arith)
   settled x false true l h =
       let z = bulk-is (x .busy) (eqb (endpoint (x .st)) 0) (isOut (x .st)) (isIn (x .st)) (iso Out (endpoint (x .st))) (iso In (endpoint (x .st))) l h in
       reads-bind 2002 2048 (settle-bulk x l h) (λ y q. rest-missing y (ap (λ (st : ℕ). eqb (endpoint st) 0) q ∙ z .0) (rw q (z .1)))
@@ -296,7 +320,8 @@ module _ {S : Type 0} {O : Ops S} {K : S → Type 0} {iso : TransferKinds} (M : 
 
   onSetup-reads : {n : ℕ} → Reads O K {i = i} n Any onSetup
   onSetup-reads = free no-write (λ _ _. free no-write (λ _ _. free no-look (λ _ _. free no-look (λ _ _. free (assign M (ep-cell _ _)) (λ _ _.
-      free (assign M (ep-cell _ _)) (λ _ _. free (assign M globals-cell) (λ _ _. free no-write (λ _ _. free (no-act M (waken _) refl) (λ _ _. no-act M (waken _) refl)))))))))
+      free (assign M (ep-cell _ _)) (λ _ _. free (assign M globals-cell)
+      (λ _ _. free no-write (λ _ _. free (no-act M (waken _) refl) (λ _ _. no-act M (waken _) refl)))))))))
 
   -- `on_interrupt`
   onInterrupt-reads : Reads O K {i = i} 4055 Any onInterrupt
@@ -310,7 +335,9 @@ module _ {S : Type 0} {O : Ops S} {K : S → Type 0} {iso : TransferKinds} (M : 
 
   interrupt-reads : Reads O K 4056 Any interruptCode
   interrupt-reads = free (no-get M globals-cell) (λ _ _. either
-      (λ _. free (no-act M no-wakes refl) (λ _ _. then-free {P = Any} (then-free (once keepMicroframe-reads (λ _ _. onInterrupt-reads M)) (λ _ _. reads-ret tt)) (λ _ _. free no-fetch (λ _ _. reads-ret tt))))
+      (λ _. free (no-act M no-wakes refl)
+      (λ _ _. then-free {P = Any} (then-free (once keepMicroframe-reads (λ _ _. onInterrupt-reads M)) (λ _ _. reads-ret tt))
+      (λ _ _. free no-fetch (λ _ _. reads-ret tt))))
       (λ _. reads-ret tt))
 
   -- from a state of these sorts, on every path on which they stay between two accesses

@@ -13,7 +13,8 @@ use Rattle.regs.specs.declared.Dir.the-variants.{Out, In}
 use Rattle.model.specs.Tree as tree
 use Rattle.model.specs.Tree.{ends, asks}
 use Rattle.model.specs.Cells.{Cell, Val}
-use Rattle.model.specs.Script.{Script, Ops, run, Test, Look, Fetch, Act, DmaStep, dmaStepAsk, ret, bind, test, _>>_, done, when, read, write, callback, get, put, is, look, fetch, act, hand}
+use Rattle.model.specs.Script.{Script, Ops, run, Test, Look, Fetch, Act, DmaStep, dmaStepAsk, ret, bind, test}
+use Rattle.model.specs.Script.{_>>_, done, when, read, write, callback, get, put, is, look, fetch, act, hand}
 use Rattle.model.specs.Statics.{modifyReg}
 use Rattle.model.specs.Readings.{reading, Continues, readings}
 use Rattle.model.specs.ReadingsLaws.{hand-quiet}
@@ -43,7 +44,8 @@ module _ {S A : Type 0} {K : S → Type 0} {Q : A → Type 0} where
   so-far (at-end x) = x .0
   so-far (at-ask {s = s} ok x) = omega (arith, so-far (x 0 s tt (λ k. k)))
 
-  along : {n h : ℕ} {o : tree.Out S A} → Every counted (Staying K) Any (λ m a t. (m ≤ n) × K t × Q a) h o → (w : Continues S) → Along (Staying K) o w → h + readings o w ≤ n
+  along : {n h : ℕ} {o : tree.Out S A} → Every counted (Staying K) Any (λ m a t. (m ≤ n) × K t × Q a) h o
+      → (w : Continues S) → Along (Staying K) o w → h + readings o w ≤ n
   unfolding readings Along
   along (at-end x) w l = omega (arith, x .0)
   along (at-ask {s = s} ok x) [] l = so-far (x 0 s tt (λ k. k))
@@ -62,20 +64,27 @@ module _ {S : Type 0} {O : Ops S} {K : S → Type 0} {i : Bool} {A : Type 0} {Q 
   pub reads-ret : {n : ℕ} {a : A} → Q a → Reads O K {i = i} n Q (ret a)
   reads-ret q = record { on = λ h s k. at-end {h = h} (omega arith, k, q) }
 
-  pub reads-bind : {B : Type 0} {P : B → Type 0} (m n : ℕ) {p : Script i B} {f : B → Script i A} → Reads O K m P p → ((b : B) → P b → Reads O K n Q (f b)) → Reads O K (m + n) Q (bind p f)
-  reads-bind m n x y = record { on = λ h s k. every-bind (x .on h s k) (λ g b t p. every-more (y b (p .2) .on g t (p .1)) (λ l a u q. (omega (arith, p .0, q .0), q .1, q .2))) }
+  pub reads-bind : {B : Type 0} {P : B → Type 0} (m n : ℕ) {p : Script i B} {f : B → Script i A}
+      → Reads O K m P p → ((b : B) → P b → Reads O K n Q (f b)) → Reads O K (m + n) Q (bind p f)
+  reads-bind m n x y = record {
+    on = λ h s k. every-bind (x .on h s k)
+        (λ g b t p. every-more (y b (p .2) .on g t (p .1)) (λ l a u q. (omega (arith, p .0, q .0), q .1, q .2)));
+  }
 
   -- each way with what the test says
   pub either : {n : ℕ} {b : Bool} {p q : Script i A} → (b ≡ true → Reads O K n Q p) → (b ≡ false → Reads O K n Q q) → Reads O K n Q (test b p q)
   either {b = b} x y = record { on = λ h s k. every-cond b (λ e. x e .on h s k) (λ e. y e .on h s k) }
 
-  pub free : {B : Type 0} {P : B → Type 0} {n : ℕ} {p : Script i B} {f : B → Script i A} → Reads O K 0 P p → ((b : B) → P b → Reads O K n Q (f b)) → Reads O K n Q (bind p f)
+  pub free : {B : Type 0} {P : B → Type 0} {n : ℕ} {p : Script i B} {f : B → Script i A}
+      → Reads O K 0 P p → ((b : B) → P b → Reads O K n Q (f b)) → Reads O K n Q (bind p f)
   free {n = n} x y = reads-more (reads-bind 0 n x y) (omega arith)
 
-  pub once : {B : Type 0} {P : B → Type 0} {n : ℕ} {p : Script i B} {f : B → Script i A} → Reads O K 1 P p → ((b : B) → P b → Reads O K n Q (f b)) → Reads O K (suc n) Q (bind p f)
+  pub once : {B : Type 0} {P : B → Type 0} {n : ℕ} {p : Script i B} {f : B → Script i A}
+      → Reads O K 1 P p → ((b : B) → P b → Reads O K n Q (f b)) → Reads O K (suc n) Q (bind p f)
   once {n = n} x y = reads-more (reads-bind 1 n x y) (omega arith)
 
-  pub then-free : {B : Type 0} {P : B → Type 0} {n : ℕ} {p : Script i B} {f : B → Script i A} → Reads O K n P p → ((b : B) → P b → Reads O K 0 Q (f b)) → Reads O K n Q (bind p f)
+  pub then-free : {B : Type 0} {P : B → Type 0} {n : ℕ} {p : Script i B} {f : B → Script i A}
+      → Reads O K n P p → ((b : B) → P b → Reads O K 0 Q (f b)) → Reads O K n Q (bind p f)
   then-free {n = n} x y = reads-more (reads-bind n 0 x y) (omega arith)
 
 module _ {S : Type 0} {O : Ops S} {K : S → Type 0} {i : Bool} where
@@ -116,16 +125,24 @@ module _ {S : Type 0} {O : Ops S} {K : S → Type 0} {iso : TransferKinds} (M : 
   no-act q a = record { on = λ h s k. at-end {h = h} (omega arith, M .act q a s k, tt) }
 
   pub no-hand : {n : ℕ} (q : DmaStep) → Reads O K {i = i} n Any (hand q)
-  no-hand q = record { on = λ h s k. at-ask tt (λ _ t _ l. at-end {h = h + reading (dmaStepAsk q (O .hand q s .0))} (omega (arith, hand-quiet q (O .hand q s .0)), l (M .hand q s k), tt)) }
+  no-hand q = record {
+    on = λ h s k. at-ask tt (λ _ t _ l. at-end {h = h + reading (dmaStepAsk q (O .hand q s .0))} (
+      omega (arith, hand-quiet q (O .hand q s .0)),
+      l (M .hand q s k),
+      tt,
+    ));
+  }
 
   pub assign : {n : ℕ} (c : Cell) {f : Val c → Val c} → Reads O K {i = i} n Any (bind (get c) (λ v. put c (f v)))
   assign c = free (no-get c) (λ _ _. no-put c)
 
-  pub assign-write : {n : ℕ} (c : Cell) {f : Val c → Val c} {r : Reg} {e : ℕ} {h : Val c → ℕ} → Reads O K {i = i} n Any (bind (get c) (λ v. bind (put c (f v)) (λ _. write r e (h v))))
+  pub assign-write : {n : ℕ} (c : Cell) {f : Val c → Val c} {r : Reg} {e : ℕ} {h : Val c → ℕ}
+      → Reads O K {i = i} n Any (bind (get c) (λ v. bind (put c (f v)) (λ _. write r e (h v))))
   assign-write c = free (no-get c) (λ _ _. free (no-put c) (λ _ _. no-write))
 
 -- a walk over a list: one endpoint's for each
-module _ {S : Type 0} {O : Ops S} {K : S → Type 0} {i : Bool} (W : List ℕ → Script i Unit) (one : ℕ → Script i Unit) (none : W [] ≡ done) (step : (e : ℕ) (es : List ℕ) → W (e ∷ es) ≡ (one e >> W es)) where
+module _ {S : Type 0} {O : Ops S} {K : S → Type 0} {i : Bool} (W : List ℕ → Script i Unit)
+    (one : ℕ → Script i Unit) (none : W [] ≡ done) (step : (e : ℕ) (es : List ℕ) → W (e ∷ es) ≡ (one e >> W es)) where
   pub reads-walk : {n : ℕ} → ((e : ℕ) → Reads O K n Any (one e)) → (k : ℕ) (es : List ℕ) → length es ≤ k → Reads O K (k * n) Any (W es)
   reads-walk x k [] h = rw none (reads-ret tt)
   reads-walk x zero (e ∷ es) h = absurd (omega (arith, h))

@@ -37,7 +37,24 @@ all-but In (suc e) = true
 
 -- all in the sets, enabled and armed, every slot changed, and the last start of frame another
 abbrev globals : Globals
-globals = record { stage = 2; callback = 0; power = 1; «setup_ready» = 0; «setup_low» = 0; «setup_high» = 0; «int_en» = 0; «ep_config» = 0xFFFFFFFF; «ep_type» = 0; «iso_out_eps» = 0xFFFC; «iso_in_every» = 0xFFFE; «iso_in_paced» = 0; «sof_frame» = 7; «ep0_buf» = 0; «ep0_max» = 64; entered = 0 }
+globals = record {
+  stage = 2;
+  callback = 0;
+  power = 1;
+  «setup_ready» = 0;
+  «setup_low» = 0;
+  «setup_high» = 0;
+  «int_en» = 0;
+  «ep_config» = 0xFFFFFFFF;
+  «ep_type» = 0;
+  «iso_out_eps» = 0xFFFC;
+  «iso_in_every» = 0xFFFE;
+  «iso_in_paced» = 0;
+  «sof_frame» = 7;
+  «ep0_buf» = 0;
+  «ep0_max» = 64;
+  entered = 0;
+}
 
 abbrev cells : (c : Cell) → Val c
 cells globals-cell = globals
@@ -100,5 +117,7 @@ abbrev longest : Continues Unit
 longest = (0, tt) ∷ (2, tt) ∷ (0, tt) ∷ (1, tt) ∷ zeros 4200
 
 pub sorted-reached : readings (run standing interruptCode tt) longest ≡ 4056
-unfolding readings looks sofWalk lateWalk checkWalk isSet bitsFrom inEnabled outEnabled isOn isoInEvery isoOuts withBit endpoint tokenNumbered token isOut isSof isIn toggle isData1 frameNumber microframe indexOf frameOf isNone previous inPrevious leaving arriving entry outNaks inNaks repeated sameOut waitsForIso waitsForBulk isoFor ownIn
+unfolding readings looks sofWalk lateWalk checkWalk isSet bitsFrom inEnabled outEnabled isOn isoInEvery isoOuts
+    withBit endpoint tokenNumbered token isOut isSof isIn toggle isData1 frameNumber microframe indexOf frameOf isNone
+    previous inPrevious leaving arriving entry outNaks inNaks repeated sameOut waitsForIso waitsForBulk isoFor ownIn
 sorted-reached = refl

@@ -28,19 +28,69 @@ flag false = 0
 -- ---- an endpoint's record
 
 abbrev pub withReady : ℕ → EpCore → EpCore
-withReady v p = record { ready = v; len = p .len; armed = p .armed; «last_frame» = p .«last_frame»; tog = p .tog; iso = p .iso; kind = p .kind; base = p .base; «max_len» = p .«max_len» }
+withReady v p = record {
+  ready = v;
+  len = p .len;
+  armed = p .armed;
+  «last_frame» = p .«last_frame»;
+  tog = p .tog;
+  iso = p .iso;
+  kind = p .kind;
+  base = p .base;
+  «max_len» = p .«max_len»;
+}
 
 abbrev pub withLen : ℕ → EpCore → EpCore
-withLen v p = record { ready = p .ready; len = v; armed = p .armed; «last_frame» = p .«last_frame»; tog = p .tog; iso = p .iso; kind = p .kind; base = p .base; «max_len» = p .«max_len» }
+withLen v p = record {
+  ready = p .ready;
+  len = v;
+  armed = p .armed;
+  «last_frame» = p .«last_frame»;
+  tog = p .tog;
+  iso = p .iso;
+  kind = p .kind;
+  base = p .base;
+  «max_len» = p .«max_len»;
+}
 
 abbrev pub withArmed : ℕ → EpCore → EpCore
-withArmed v p = record { ready = p .ready; len = p .len; armed = v; «last_frame» = p .«last_frame»; tog = p .tog; iso = p .iso; kind = p .kind; base = p .base; «max_len» = p .«max_len» }
+withArmed v p = record {
+  ready = p .ready;
+  len = p .len;
+  armed = v;
+  «last_frame» = p .«last_frame»;
+  tog = p .tog;
+  iso = p .iso;
+  kind = p .kind;
+  base = p .base;
+  «max_len» = p .«max_len»;
+}
 
 abbrev pub withLastFrame : ℕ → EpCore → EpCore
-withLastFrame v p = record { ready = p .ready; len = p .len; armed = p .armed; «last_frame» = v; tog = p .tog; iso = p .iso; kind = p .kind; base = p .base; «max_len» = p .«max_len» }
+withLastFrame v p = record {
+  ready = p .ready;
+  len = p .len;
+  armed = p .armed;
+  «last_frame» = v;
+  tog = p .tog;
+  iso = p .iso;
+  kind = p .kind;
+  base = p .base;
+  «max_len» = p .«max_len»;
+}
 
 abbrev pub withTog : ℕ → EpCore → EpCore
-withTog v p = record { ready = p .ready; len = p .len; armed = p .armed; «last_frame» = p .«last_frame»; tog = v; iso = p .iso; kind = p .kind; base = p .base; «max_len» = p .«max_len» }
+withTog v p = record {
+  ready = p .ready;
+  len = p .len;
+  armed = p .armed;
+  «last_frame» = p .«last_frame»;
+  tog = v;
+  iso = p .iso;
+  kind = p .kind;
+  base = p .base;
+  «max_len» = p .«max_len»;
+}
 
 -- `EpState::reset` (mod.rs 165-173), but for the ring
 abbrev pub renewed : EpCore → EpCore
@@ -53,19 +103,104 @@ completed p = withReady 1 (withArmed 0 p)
 -- ---- the globals
 
 abbrev pub withPower : ℕ → Globals → Globals
-withPower v g = record { stage = g .stage; callback = g .callback; power = v; «setup_ready» = g .«setup_ready»; «setup_low» = g .«setup_low»; «setup_high» = g .«setup_high»; «int_en» = g .«int_en»; «ep_config» = g .«ep_config»; «ep_type» = g .«ep_type»; «iso_out_eps» = g .«iso_out_eps»; «iso_in_every» = g .«iso_in_every»; «iso_in_paced» = g .«iso_in_paced»; «sof_frame» = g .«sof_frame»; «ep0_buf» = g .«ep0_buf»; «ep0_max» = g .«ep0_max»; entered = g .entered }
+withPower v g = record {
+  stage = g .stage;
+  callback = g .callback;
+  power = v;
+  «setup_ready» = g .«setup_ready»;
+  «setup_low» = g .«setup_low»;
+  «setup_high» = g .«setup_high»;
+  «int_en» = g .«int_en»;
+  «ep_config» = g .«ep_config»;
+  «ep_type» = g .«ep_type»;
+  «iso_out_eps» = g .«iso_out_eps»;
+  «iso_in_every» = g .«iso_in_every»;
+  «iso_in_paced» = g .«iso_in_paced»;
+  «sof_frame» = g .«sof_frame»;
+  «ep0_buf» = g .«ep0_buf»;
+  «ep0_max» = g .«ep0_max»;
+  entered = g .entered;
+}
 
 abbrev pub withSetup : ℕ → ℕ → ℕ → Globals → Globals
-withSetup v lo hi g = record { stage = g .stage; callback = g .callback; power = g .power; «setup_ready» = v; «setup_low» = lo; «setup_high» = hi; «int_en» = g .«int_en»; «ep_config» = g .«ep_config»; «ep_type» = g .«ep_type»; «iso_out_eps» = g .«iso_out_eps»; «iso_in_every» = g .«iso_in_every»; «iso_in_paced» = g .«iso_in_paced»; «sof_frame» = g .«sof_frame»; «ep0_buf» = g .«ep0_buf»; «ep0_max» = g .«ep0_max»; entered = g .entered }
+withSetup v lo hi g = record {
+  stage = g .stage;
+  callback = g .callback;
+  power = g .power;
+  «setup_ready» = v;
+  «setup_low» = lo;
+  «setup_high» = hi;
+  «int_en» = g .«int_en»;
+  «ep_config» = g .«ep_config»;
+  «ep_type» = g .«ep_type»;
+  «iso_out_eps» = g .«iso_out_eps»;
+  «iso_in_every» = g .«iso_in_every»;
+  «iso_in_paced» = g .«iso_in_paced»;
+  «sof_frame» = g .«sof_frame»;
+  «ep0_buf» = g .«ep0_buf»;
+  «ep0_max» = g .«ep0_max»;
+  entered = g .entered;
+}
 
 abbrev pub withPaced : ℕ → Globals → Globals
-withPaced v g = record { stage = g .stage; callback = g .callback; power = g .power; «setup_ready» = g .«setup_ready»; «setup_low» = g .«setup_low»; «setup_high» = g .«setup_high»; «int_en» = g .«int_en»; «ep_config» = g .«ep_config»; «ep_type» = g .«ep_type»; «iso_out_eps» = g .«iso_out_eps»; «iso_in_every» = g .«iso_in_every»; «iso_in_paced» = v; «sof_frame» = g .«sof_frame»; «ep0_buf» = g .«ep0_buf»; «ep0_max» = g .«ep0_max»; entered = g .entered }
+withPaced v g = record {
+  stage = g .stage;
+  callback = g .callback;
+  power = g .power;
+  «setup_ready» = g .«setup_ready»;
+  «setup_low» = g .«setup_low»;
+  «setup_high» = g .«setup_high»;
+  «int_en» = g .«int_en»;
+  «ep_config» = g .«ep_config»;
+  «ep_type» = g .«ep_type»;
+  «iso_out_eps» = g .«iso_out_eps»;
+  «iso_in_every» = g .«iso_in_every»;
+  «iso_in_paced» = v;
+  «sof_frame» = g .«sof_frame»;
+  «ep0_buf» = g .«ep0_buf»;
+  «ep0_max» = g .«ep0_max»;
+  entered = g .entered;
+}
 
 abbrev pub withSofFrame : ℕ → Globals → Globals
-withSofFrame v g = record { stage = g .stage; callback = g .callback; power = g .power; «setup_ready» = g .«setup_ready»; «setup_low» = g .«setup_low»; «setup_high» = g .«setup_high»; «int_en» = g .«int_en»; «ep_config» = g .«ep_config»; «ep_type» = g .«ep_type»; «iso_out_eps» = g .«iso_out_eps»; «iso_in_every» = g .«iso_in_every»; «iso_in_paced» = g .«iso_in_paced»; «sof_frame» = v; «ep0_buf» = g .«ep0_buf»; «ep0_max» = g .«ep0_max»; entered = g .entered }
+withSofFrame v g = record {
+  stage = g .stage;
+  callback = g .callback;
+  power = g .power;
+  «setup_ready» = g .«setup_ready»;
+  «setup_low» = g .«setup_low»;
+  «setup_high» = g .«setup_high»;
+  «int_en» = g .«int_en»;
+  «ep_config» = g .«ep_config»;
+  «ep_type» = g .«ep_type»;
+  «iso_out_eps» = g .«iso_out_eps»;
+  «iso_in_every» = g .«iso_in_every»;
+  «iso_in_paced» = g .«iso_in_paced»;
+  «sof_frame» = v;
+  «ep0_buf» = g .«ep0_buf»;
+  «ep0_max» = g .«ep0_max»;
+  entered = g .entered;
+}
 
 abbrev pub withEntered : ℕ → Globals → Globals
-withEntered v g = record { stage = g .stage; callback = g .callback; power = g .power; «setup_ready» = g .«setup_ready»; «setup_low» = g .«setup_low»; «setup_high» = g .«setup_high»; «int_en» = g .«int_en»; «ep_config» = g .«ep_config»; «ep_type» = g .«ep_type»; «iso_out_eps» = g .«iso_out_eps»; «iso_in_every» = g .«iso_in_every»; «iso_in_paced» = g .«iso_in_paced»; «sof_frame» = g .«sof_frame»; «ep0_buf» = g .«ep0_buf»; «ep0_max» = g .«ep0_max»; entered = v }
+withEntered v g = record {
+  stage = g .stage;
+  callback = g .callback;
+  power = g .power;
+  «setup_ready» = g .«setup_ready»;
+  «setup_low» = g .«setup_low»;
+  «setup_high» = g .«setup_high»;
+  «int_en» = g .«int_en»;
+  «ep_config» = g .«ep_config»;
+  «ep_type» = g .«ep_type»;
+  «iso_out_eps» = g .«iso_out_eps»;
+  «iso_in_every» = g .«iso_in_every»;
+  «iso_in_paced» = g .«iso_in_paced»;
+  «sof_frame» = g .«sof_frame»;
+  «ep0_buf» = g .«ep0_buf»;
+  «ep0_max» = g .«ep0_max»;
+  entered = v;
+}
 
 -- ---- assignments
 

@@ -99,29 +99,49 @@ module _ {S : Type 0} (K : S → Type 0) (O : Ops S) (d : Dir) (e : ℕ) (assign
   looked i (suc n) s h = at-ask tt (λ v t _ k. every-cond (sieFree v) (λ _. at-end (refl, k .0 ∙ h)) (λ _. looked i n t (k .0 ∙ h)))
 
   -- no packet passed
-  repeats : (i : Bool) (ws : List Access) → ws ≡ [] → (u : S) (word : ℕ) → O .get (ep-cell d e) u ≡ r → repeated r word ≡ true → Runs (Toggled O d e r p false) ws (run O (verdict {i = i} d e word) u)
+  repeats : (i : Bool) (ws : List Access) → ws ≡ [] → (u : S) (word : ℕ) → O .get (ep-cell d e) u ≡ r
+      → repeated r word ≡ true → Runs (Toggled O d e r p false) ws (run O (verdict {i = i} d e word) u)
   repeats i ws n u word h y = every-cond (repeated (O .get (ep-cell d e) u) word)
       (λ _. every-bind {P = λ ws _ t. (O .get (ep-cell d e) t ≡ r) × Answered d e p (isOn (r .armed)) ws}
       (every-cond (isOn (O .get (ep-cell d e) u .armed))
-      (λ a. at-ask tt (λ w t b k. at-ask tt (λ _ t′ _ k′. at-end (k′ .0 ∙ (k .0 ∙ h), rw (sym (ap (λ (z : EpCore). isOn (z .armed)) h) ∙ a) (record { word = ack w; writes = ap (λ l. Write (ctrlOf d) e (ack w) ∷ l) n; acks = ack-acks w; keeps = ack-keeps w ∙ b refl })))))
+      (λ a. at-ask tt (λ w t b k. at-ask tt (λ _ t′ _ k′. at-end (
+        k′ .0 ∙ (k .0 ∙ h),
+        rw (sym (ap (λ (z : EpCore). isOn (z .armed)) h) ∙ a) (record {
+          word = ack w;
+          writes = ap (λ l. Write (ctrlOf d) e (ack w) ∷ l) n;
+          acks = ack-acks w;
+          keeps = ack-keeps w ∙ b refl;
+        }),
+      ))))
       (λ a. at-end (h, rw (sym (ap (λ (z : EpCore). isOn (z .armed)) h) ∙ a) n)))
       (λ g _ t x. at-end (record { answer = refl; recorded = x .0; handshake = x .1 })))
       (λ z. apart (sym y ∙ (ap (λ (q : EpCore). repeated q word) (sym h) ∙ z)))
 
   -- one passed
-  renews : (i : Bool) (ws : List Access) → ws ≡ [] → (u : S) (word : ℕ) → K u → O .get (ep-cell d e) u ≡ r → toggle word ≡ number p → repeated r word ≡ false → Runs (Toggled O d e r p true) ws (run O (verdict {i = i} d e word) u)
+  renews : (i : Bool) (ws : List Access) → ws ≡ [] → (u : S) (word : ℕ) → K u → O .get (ep-cell d e) u ≡ r → toggle word
+      ≡ number p → repeated r word ≡ false → Runs (Toggled O d e r p true) ws (run O (verdict {i = i} d e word) u)
   renews i ws n u word z h b y = every-cond (repeated (O .get (ep-cell d e) u) word)
       (λ x. apart (sym x ∙ (ap (λ (q : EpCore). repeated q word) h ∙ y)))
-      (λ _. at-end (record { answer = refl; recorded = assigns _ u z ∙ (ap (λ (q : EpCore). withArmed 0 (withTog (flag (isData1 word)) q)) h ∙ ap (λ (m : ℕ). withArmed 0 (withTog m r)) (shown p word b)); handshake = n }))
+      (λ _. at-end (record {
+        answer = refl;
+        recorded = assigns _ u z ∙ (ap (λ (q : EpCore). withArmed 0 (withTog (flag (isData1 word)) q)) h
+            ∙ ap (λ (m : ℕ). withArmed 0 (withTog m r)) (shown p word b));
+        handshake = n;
+      }))
 
-  judged : (i : Bool) (new : Bool) (ws : List Access) → ws ≡ [] → (u : S) (word : ℕ) → K u → O .get (ep-cell d e) u ≡ r → toggle word ≡ number p → repeated r word ≡ not new → Runs (Toggled O d e r p new) ws (run O (verdict {i = i} d e word) u)
+  judged : (i : Bool) (new : Bool) (ws : List Access) → ws ≡ [] → (u : S) (word : ℕ) → K u → O .get (ep-cell d e) u ≡ r
+      → toggle word ≡ number p → repeated r word ≡ not new → Runs (Toggled O d e r p new) ws (run O (verdict {i = i} d e word) u)
   judged i true ws n u word z h b y = renews i ws n u word z h b y
   judged i false ws n u word z h b y = repeats i ws n u word h y
 
 -- the record has the bit b as it was, `ts` are the transactions since, of which at most one passed: the endpoint answers NAK after it
-pub toggled-meets : (i : Bool) {S : Type 0} (K : S → Type 0) (O : Ops S) (d : Dir) (e : ℕ) → Assigns K O d e → (b : Pid) (ts : List (Transaction d)) → passed b ts ≤ 1 → (s : S) → O .get (ep-cell d e) s .tog ≡ number b
-    → Every (toggling d e (bitAfterAll b ts)) (KeepsRecord K O d e) (λ _. Unit {0}) (Toggled O d e (O .get (ep-cell d e) s) (bitAfterAll b ts) (eqb (passed b ts) 1)) [] (run O (toggled {i = i} d e) s)
+pub toggled-meets : (i : Bool) {S : Type 0} (K : S → Type 0) (O : Ops S) (d : Dir) (e : ℕ) → Assigns K O d e
+    → (b : Pid) (ts : List (Transaction d)) → passed b ts ≤ 1 → (s : S) → O .get (ep-cell d e) s .tog ≡ number b
+    → Every (toggling d e (bitAfterAll b ts)) (KeepsRecord K O d e) (λ _. Unit {0})
+    (Toggled O d e (O .get (ep-cell d e) s) (bitAfterAll b ts) (eqb (passed b ts) 1)) [] (run O (toggled {i = i} d e) s)
 toggled-meets i K O d e assigns b ts h s is =
     let r = O .get (ep-cell d e) s in
     let p = bitAfterAll b ts in
-    every-bind (looked K O d e assigns r p i 2001 s refl) (λ g _ t x. at-ask tt (λ word u y k. judged K O d e assigns r p i (eqb (passed b ts) 1) g (x .0) u word (k .1) (k .0 ∙ x .1) (y refl) (repeated-not-passed r word b ts is (y refl) h)))
+    every-bind (looked K O d e assigns r p i 2001 s refl)
+    (λ g _ t x. at-ask tt (λ word u y k. judged K O d e assigns r p i (eqb (passed b ts) 1) g
+    (x .0) u word (k .1) (k .0 ∙ x .1) (y refl) (repeated-not-passed r word b ts is (y refl) h)))

@@ -11,7 +11,8 @@ use Rattle.regs.specs.ControlWord.{toggle, isData1}
 use Rattle.model.specs.Cells.{EpCore}
 use Rattle.model.specs.Statics.{flag}
 use Rattle.model.specs.Handler.{repeated}
-use Rattle.model.specs.Usb20Toggles.{Pid, DATA0, DATA1, other, same, Transaction, received, not-taken, passes, acknowledges, bitAfter, bitAfterAll, count, passed}
+use Rattle.model.specs.Usb20Toggles.{Pid, DATA0, DATA1, other, same, Transaction, received, not-taken, passes}
+use Rattle.model.specs.Usb20Toggles.{acknowledges, bitAfter, bitAfterAll, count, passed}
 
 -- a bit as the control word and the driver's record have it
 abbrev pub number : Pid → ℕ
@@ -67,7 +68,8 @@ kept DATA1 (suc zero) h = refl
 kept b (suc (suc n)) h = absurd (omega arith)
 
 -- the record has the bit as it was, the word the bit after the transactions since, of which at most one passed: a repeat is what did not pass
-pub repeated-not-passed : {d : Dir} (s : EpCore) (word : ℕ) (b : Pid) (ts : List (Transaction d)) → s .tog ≡ number b → toggle word ≡ number (bitAfterAll b ts) → passed b ts ≤ 1
+pub repeated-not-passed : {d : Dir} (s : EpCore) (word : ℕ) (b : Pid) (ts : List (Transaction d))
+    → s .tog ≡ number b → toggle word ≡ number (bitAfterAll b ts) → passed b ts ≤ 1
     → repeated s word ≡ not (eqb (passed b ts) 1)
 unfolding repeated
 repeated-not-passed s word b ts r w h =

@@ -33,7 +33,8 @@ unfolding allocatedOn givenTo
 allocated-large d z a dir kind address maximum interval e f h =
     ap (λ (y : Allocation). withAllocator d (y .after)) (e ∙ large a kind address maximum dir h)
     ∙ ap (λ (y : Allocation). givenTo dir kind maximum interval (y .answer) (withAllocator d (y .after))) (sym (large a kind address maximum dir h))
-    ∙ ap (λ (b : Allocator). givenTo dir kind maximum interval (allocateOf b kind address maximum dir .answer) (withAllocator d (allocateOf b kind address maximum dir .after))) f
+    ∙ ap (λ (b : Allocator). givenTo dir kind maximum interval (allocateOf b kind address maximum dir .answer)
+    (withAllocator d (allocateOf b kind address maximum dir .after))) f
 
 pub started-large : (d : Driver) (z : Allocation) (a : Allocator) (maximum : ℕ)
     → z ≡ allocateEp0Of a maximum → a ≡ d .allocator → a .size < maximum

@@ -9,9 +9,14 @@ use Rattle.state.specs.Wakes.{none-woken, listed, all-woken}
 use Rattle.marks.specs.Copies.{bytesAt}
 use Rattle.model.specs.Tree as tree
 use Rattle.model.specs.Cells.{Cell, Val, globals-cell, control-cell, allocator-cell, ep-cell, request-cell, paced-cell}
-use Rattle.model.specs.Script.{Script, Ops, run, Test, changed, waiting, room, opened, Look, marked, next-len, next-stamp, setup-word, Fetch, oldest, received, received0, gathered, Act, complete, reset-ring, set-enabled, fill, fill0, open-oldest, close-oldest, take-oldest, enqueue, allocate, allocate0, no-wakes, waken, DmaStep, arrive, send, place, place0}
+use Rattle.model.specs.Script.{Script, Ops, run, Test, changed, waiting, room, opened, Look, marked, next-len}
+use Rattle.model.specs.Script.{next-stamp, setup-word, Fetch, oldest, received, received0, gathered, Act, complete}
+use Rattle.model.specs.Script.{reset-ring, set-enabled, fill, fill0, open-oldest, close-oldest, take-oldest, enqueue}
+use Rattle.model.specs.Script.{allocate, allocate0, no-wakes, waken, DmaStep, arrive, send, place, place0}
 use Rattle.model_ops.specs.Records.{plainOf, merged, mergedGlobals, enabledOn, allocatedOn, allocatedEp0}
-use Rattle.model_ops.specs.Rings.{St, changedOn, markedOn, waitingOn, roomOn, openedOn, nextLen, nextStamp, oldestOn, wordAt, completeOn, emptiedOn, openOn, closeOn, takeOn, enqueueOn, filledOn, filledEp0, arriveOn, sendOn, sendAddr, placeOn, rowOn}
+use Rattle.model_ops.specs.Rings.{St, changedOn, markedOn, waitingOn, roomOn, openedOn, nextLen, nextStamp}
+use Rattle.model_ops.specs.Rings.{oldestOn, wordAt, completeOn, emptiedOn, openOn, closeOn, takeOn, enqueueOn}
+use Rattle.model_ops.specs.Rings.{filledOn, filledEp0, arriveOn, sendOn, sendAddr, placeOn, rowOn}
 
 abbrev pub getOn : (c : Cell) → St → Val c
 getOn globals-cell s = s .0 .globals

@@ -50,20 +50,23 @@ module _ (e n : ℕ) (s : St) where
       refl
 
   -- the head's slot has the stamp, each other its own
-  pub admitted : isSet (isoOuts (d .globals)) (e % 16) ≡ true → hasRoomOut (epOn d Out e) ≡ true → arriveOn e n s .1 .0 .stamps ≡ set (d .stamps) (stampKey e place) (d .globals .entered)
+  pub admitted : isSet (isoOuts (d .globals)) (e % 16) ≡ true → hasRoomOut (epOn d Out e) ≡ true
+      → arriveOn e n s .1 .0 .stamps ≡ set (d .stamps) (stampKey e place) (d .globals .entered)
   unfolding arriveOn recordedOn withLenOn withStampOn
   admitted on h =
       ap (λ (b : Bool). cond b (arrivedAt e len s) (epOn d Out e .«armed_slot», s) .1 .0 .stamps) on
       ∙ arrived-stamps
       ∙ ap (λ (room : Bool). cond room (writtenOn d e place len) d .stamps) h
 
-  pub admitted-stamp : Sized d → isSet (isoOuts (d .globals)) (e % 16) ≡ true → hasRoomOut (epOn d Out e) ≡ true → stampOn (arriveOn e n s .1 .0) e place ≡ d .globals .entered
+  pub admitted-stamp : Sized d → isSet (isoOuts (d .globals)) (e % 16) ≡ true
+      → hasRoomOut (epOn d Out e) ≡ true → stampOn (arriveOn e n s .1 .0) e place ≡ d .globals .entered
   unfolding stampOn
   admitted-stamp z on h =
       ap (λ (l : List ℕ). getD l (stampKey e place) 0) (admitted on h)
       ∙ getD-set-same (d .stamps) (stampKey e place) (d .globals .entered) 0 (omega (arith, z .stamps, stampKey-lt e place))
 
-  pub admitted-other : isSet (isoOuts (d .globals)) (e % 16) ≡ true → hasRoomOut (epOn d Out e) ≡ true → (f j : ℕ) → stampKey f j ≢ stampKey e place → stampOn (arriveOn e n s .1 .0) f j ≡ stampOn d f j
+  pub admitted-other : isSet (isoOuts (d .globals)) (e % 16) ≡ true → hasRoomOut (epOn d Out e) ≡ true
+      → (f j : ℕ) → stampKey f j ≢ stampKey e place → stampOn (arriveOn e n s .1 .0) f j ≡ stampOn d f j
   unfolding stampOn
   admitted-other on h f j k =
       ap (λ (l : List ℕ). getD l (stampKey f j) 0) (admitted on h)

@@ -25,7 +25,9 @@ ghost use mathlib.Core.Path.{_≡_};
 ghost use Prim.Native.Nat.{_+_, _*_, _≤_};
 ghost use Rattle.state.specs.State.{view, saved};
 ghost use Rattle.model.specs.Statics.{isOn};
-ghost use Rattle.model_ops.specs.Rings.{changedOn, markedOn, waitingOn, roomIn, roomOn, openedOn, nextLen, nextStamp, oldestAt, wordAt, completeOn, openOn, closeOn, takeOn, enqueueOn, filledOn, filledEp0, sendAddr, sendOn};
+ghost use Rattle.model_ops.specs.Rings.{changedOn, markedOn, waitingOn, roomIn, roomOn, openedOn, nextLen};
+ghost use Rattle.model_ops.specs.Rings.{nextStamp, oldestAt, wordAt, completeOn, openOn, closeOn, takeOn};
+ghost use Rattle.model_ops.specs.Rings.{enqueueOn, filledOn, filledEp0, sendAddr, sendOn};
 
 // A flag in a byte.
 pub fn is_on(n: u8) -> bool

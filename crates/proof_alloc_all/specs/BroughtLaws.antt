@@ -60,7 +60,8 @@ to-ends f i (asks q s k) (asks r t l) h = to-ends f (suc i) (k (f i .0) (s .0, f
 to-ends f i (ends a s) (asks r t l) h = absurd h
 to-ends f i (asks q s k) (ends c t) h = absurd h
 
-bind-same : {A B : Type 0} (o u : tree.Out St A) (f : A → St → tree.Out St B) → Same o u → ((a : A) (d : Driver) (b c : List ℕ) → Same (f a (d, b)) (f a (d, c)))
+bind-same : {A B : Type 0} (o u : tree.Out St A) (f : A → St → tree.Out St B)
+    → Same o u → ((a : A) (d : Driver) (b c : List ℕ) → Same (f a (d, b)) (f a (d, c)))
     → Same (bindOut o f) (bindOut u f)
 bind-same {A} (ends a s) (ends c t) f h g =
     subst (λ (z : A × Driver). Same (f a s) (f (z .0) (z .1, t .1))) (λ x. (h .0 x, h .1 x)) (g a (s .0) (s .1) (t .1))
@@ -155,7 +156,8 @@ singly g bs j (e ∷ es) d b =
     let u = run concrete (allocation e) (d, b) in
     let s = single e .same d (bs j) b in
     let t = endsWith u .1 in
-    ap (λ (z : Driver). (handsAs (g j) 0 o ++ oneByOneAs g bs (suc j) es z .0, oneByOneAs g bs (suc j) es z .1)) (ap (λ (z : answers.Answer × Driver). z .1) (to-ends (g j) 0 o u s))
+    ap (λ (z : Driver). (handsAs (g j) 0 o ++ oneByOneAs g bs (suc j) es z .0, oneByOneAs g bs (suc j) es z .1))
+    (ap (λ (z : answers.Answer × Driver). z .1) (to-ends (g j) 0 o u s))
     ∙ ap (λ (z : List Access × Driver). (handsAs (g j) 0 o ++ z .0, z .1)) (singly g bs (suc j) es (t .0) (t .1))
     ∙ ap (λ (l : List Access). (l ++ oneByOne es t .0, oneByOne es t .1 .0)) (to-hands (g j) 0 o u s)
 
@@ -167,7 +169,8 @@ pub record InOrderAs (d : Driver) (b bytes : List ℕ) (f : Brings) (g : ℕ →
   pub ends-so : endsAs f 0 (run concrete (otherCode (AllocateAll bytes)) (d, b))
       ≡ (End (length (listOf bytes)) [], withWakes (oneByOneAs g bs 0 (listOf bytes) d .1) none-woken)
 
-pub in-order-as : (d : Driver) (b bytes : List ℕ) → Settled d → d .globals .stage ≡ 1 → ((j : ℕ) → getD bytes j 0 < 256) → readingOf bytes .answer ≡ reading.Listed
+pub in-order-as : (d : Driver) (b bytes : List ℕ)
+    → Settled d → d .globals .stage ≡ 1 → ((j : ℕ) → getD bytes j 0 < 256) → readingOf bytes .answer ≡ reading.Listed
     → trialOf (d .allocator) (listOf bytes) .refusal ≡ 0 → (f : Brings) (g : ℕ → Brings) (bs : ℕ → List ℕ) → InOrderAs d b bytes f g bs
 in-order-as d b bytes s stage small reads given f g bs =
     let o = run concrete (otherCode (AllocateAll bytes)) (d, b) in

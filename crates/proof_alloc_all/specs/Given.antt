@@ -54,13 +54,18 @@ module _ (a : Allocator) (kind address maximum : ℕ) (dir : Dir) (n x slots : �
   by-outcome z (given e base k b h m g) q =
       let pe : e ≡ n = cc in
       let px : base ≡ x = cc in
-      let pk : k ≡ slots = cc in
-      (subst (λ (s : ℕ). Gives a (isIso kind) dir n x s b) pk (subst (λ (y : ℕ). Gives a (isIso kind) dir n y k b) px (subst (λ (i : ℕ). Gives a (isIso kind) dir i base k b) pe g)), m ∙ ap Number pe)
+      let pk : k ≡ slots = cc in (
+        subst (λ (s : ℕ). Gives a (isIso kind) dir n x s b) pk
+            (subst (λ (y : ℕ). Gives a (isIso kind) dir n y k b) px (subst (λ (i : ℕ). Gives a (isIso kind) dir i base k b) pe g)),
+        m ∙ ap Number pe,
+      )
 
 module _ (a : Allocator) (e : Endpoint) (n x slots : ℕ) (q : asked a e .answer ≡ Given n x slots) where
-  gave : Gives a (isIso (e .kind)) (directionOf (e .address)) n x slots (asked a e .after) × (numberOf a (isIso (e .kind)) (e .address) (directionOf (e .address)) ≡ Number n)
+  gave : Gives a (isIso (e .kind)) (directionOf (e .address)) n x slots (asked a e .after)
+      × (numberOf a (isIso (e .kind)) (e .address) (directionOf (e .address)) ≡ Number n)
   unfolding asked
-  gave = by-outcome a (e .kind) (e .address) (e .maximum) (directionOf (e .address)) n x slots (asked a e) (outcome a (e .kind) (e .address) (e .maximum) (directionOf (e .address))) q
+  gave = by-outcome a (e .kind) (e .address) (e .maximum) (directionOf (e .address)) n x slots
+      (asked a e) (outcome a (e .kind) (e .address) (e .maximum) (directionOf (e .address))) q
 
   pub gives : Gives a (isIso (e .kind)) (directionOf (e .address)) n x slots (asked a e .after)
   gives = gave .0
@@ -95,7 +100,8 @@ between-sized : (d : Driver) (a : Allocator) → Sized d → Sized (withAllocato
 between-sized d a s = record { eps = s .eps; lens = s .lens; stamps = s .stamps; paced = s .paced; requests = s .requests }
 
 module _ (d : Driver) (e : Endpoint) (n x slots : ℕ) (q : asked (d .allocator) e .answer ≡ Given n x slots) where
-  one-is : oneOn d e ≡ setsGiven (directionOf (e .address)) (e .kind) (e .interval) n (recordGiven (directionOf (e .address)) (e .kind) (e .maximum) n x slots (withAllocator d (asked (d .allocator) e .after)))
+  one-is : oneOn d e ≡ setsGiven (directionOf (e .address)) (e .kind) (e .interval) n
+      (recordGiven (directionOf (e .address)) (e .kind) (e .maximum) n x slots (withAllocator d (asked (d .allocator) e .after)))
   unfolding oneOn allocatedOn asked givenTo
   one-is = ap (λ (z : Answer). givenTo (directionOf (e .address)) (e .kind) (e .maximum) (e .interval) z (withAllocator d (asked (d .allocator) e .after))) q
 
@@ -117,14 +123,17 @@ module _ (d : Driver) (e : Endpoint) (n x slots : ℕ) (q : asked (d .allocator)
     requests = s .requests;
   })
 
-  pub one-here : Sized d → epOn (oneOn d e) (directionOf (e .address)) n ≡ allocated (epOn d (directionOf (e .address)) n) (e .kind) (e .maximum) x (asked (d .allocator) e .after .size) slots
+  pub one-here : Sized d → epOn (oneOn d e) (directionOf (e .address)) n
+      ≡ allocated (epOn d (directionOf (e .address)) n) (e .kind) (e .maximum) x (asked (d .allocator) e .after .size) slots
   unfolding recordGiven
   one-here s =
       let b = withAllocator d (asked (d .allocator) e .after) in
       ap (λ (z : Driver). epOn z (directionOf (e .address)) n) one-is
-      ∙ sets-records (directionOf (e .address)) (e .kind) (e .interval) n (recordGiven (directionOf (e .address)) (e .kind) (e .maximum) n x slots b) (directionOf (e .address)) n
+      ∙ sets-records (directionOf (e .address)) (e .kind) (e .interval) n
+      (recordGiven (directionOf (e .address)) (e .kind) (e .maximum) n x slots b) (directionOf (e .address)) n
       ∙ epOn-same b (directionOf (e .address)) n _ (between-sized d (asked (d .allocator) e .after) s)
-      ∙ ap (λ (r : EpState). allocated r (e .kind) (e .maximum) x (asked (d .allocator) e .after .size) slots) (between-records d (asked (d .allocator) e .after) (directionOf (e .address)) n)
+      ∙ ap (λ (r : EpState). allocated r (e .kind) (e .maximum) x (asked (d .allocator) e .after .size) slots)
+      (between-records d (asked (d .allocator) e .after) (directionOf (e .address)) n)
 
   pub one-other : (dir : Dir) (m : ℕ) → key dir m ≢ key (directionOf (e .address)) n → epOn (oneOn d e) dir m ≡ epOn d dir m
   unfolding recordGiven

@@ -46,4 +46,5 @@ pub record Stepwise (es : List Endpoint) (d : Driver) (b : List ℕ) : Type 0 wh
 -- after the other; it ends with how many were given, and with the state that these leave
 pub record InOrder (d : Driver) (b bytes : List ℕ) : Type 0 where
   pub hands : handsOut (run concrete (otherCode (AllocateAll bytes)) (d, b)) ≡ oneByOne (listOf bytes) (d, b) .0
-  pub ends-so : endsWith (run concrete (otherCode (AllocateAll bytes)) (d, b)) ≡ (End (length (listOf bytes)) [], (withWakes (oneByOne (listOf bytes) (d, b) .1 .0) none-woken, b))
+  pub ends-so : endsWith (run concrete (otherCode (AllocateAll bytes)) (d, b))
+      ≡ (End (length (listOf bytes)) [], (withWakes (oneByOne (listOf bytes) (d, b) .1 .0) none-woken, b))

@@ -53,7 +53,8 @@ use Rattle.proof_alloc_all.specs.Order.{Stepwise, InOrder}
 
 data Accepts : Allocator → List Endpoint → Type 0 where
   done : (a : Allocator) → Accepts a []
-  goes-on : (a : Allocator) (e : Endpoint) (es : List Endpoint) (n x slots : ℕ) → asked a e .answer ≡ Given n x slots → Accepts (asked a e .after) es → Accepts a (e ∷ es)
+  goes-on : (a : Allocator) (e : Endpoint) (es : List Endpoint) (n x slots : ℕ)
+      → asked a e .answer ≡ Given n x slots → Accepts (asked a e .after) es → Accepts a (e ∷ es)
 
 accepts : {a b : Allocator} {es : List Endpoint} {ns : List ℕ} {buffers n : ℕ} → Run a es ns buffers n b → n ≡ 0 → Accepts a es
 accepts (all a) h = done a
@@ -68,11 +69,31 @@ records-wakes d w dir m = refl
 
 owns-wakes : (d : Driver) (w : Wakes) (dir : Dir) (n kind maximum x : ℕ) → Owns d dir n kind maximum x → Owns (withWakes d w) dir n kind maximum x
 unfolding epOn
-owns-wakes d w dir n kind maximum x o = record { low = o .low; high = o .high; allocated = o .allocated; has-kind = o .has-kind; has-maximum = o .has-maximum; base = o .base; armed = o .armed; only = o .only }
+owns-wakes d w dir n kind maximum x o = record {
+  low = o .low;
+  high = o .high;
+  allocated = o .allocated;
+  has-kind = o .has-kind;
+  has-maximum = o .has-maximum;
+  base = o .base;
+  armed = o .armed;
+  only = o .only;
+}
 
 pub settled-wakes : (d : Driver) (w : Wakes) → Settled d → Settled (withWakes d w)
 unfolding epOn
-settled-wakes d w s = record { sized = record { eps = s .sized .eps; lens = s .sized .lens; stamps = s .sized .stamps; paced = s .sized .paced; requests = s .sized .requests }; sound = s .sound; some = s .some; below = s .below }
+settled-wakes d w s = record {
+  sized = record {
+    eps = s .sized .eps;
+    lens = s .sized .lens;
+    stamps = s .sized .stamps;
+    paced = s .sized .paced;
+    requests = s .sized .requests;
+  };
+  sound = s .sound;
+  some = s .some;
+  below = s .below;
+}
 
 chain-wakes : (es : List Endpoint) (d : Driver) (w : Wakes) (x : ℕ) → Chain d x es → Chain (withWakes d w) x es
 chain-wakes [] d w x c = tt
@@ -82,8 +103,11 @@ one-wakes : (d : Driver) (w : Wakes) (e : Endpoint) → oneOn (withWakes d w) e 
 unfolding oneOn allocatedOn givenTo setsGiven recordGiven withOn epOn
 one-wakes d w e = go (allocateOf (d .allocator) (e .kind) (e .address) (e .maximum) (directionOf (e .address)) .answer)
   where
-    go : (z : Answer) → givenTo (directionOf (e .address)) (e .kind) (e .maximum) (e .interval) z (withAllocator (withWakes d w) (allocateOf (d .allocator) (e .kind) (e .address) (e .maximum) (directionOf (e .address)) .after))
-        ≡ withWakes (givenTo (directionOf (e .address)) (e .kind) (e .maximum) (e .interval) z (withAllocator d (allocateOf (d .allocator) (e .kind) (e .address) (e .maximum) (directionOf (e .address)) .after))) w
+    go : (z : Answer) → givenTo (directionOf (e .address)) (e .kind) (e .maximum) (e .interval) z
+        (withAllocator (withWakes d w) (allocateOf (d .allocator) (e .kind) (e .address) (e .maximum) (directionOf (e .address)) .after))
+        ≡ withWakes
+        (givenTo (directionOf (e .address)) (e .kind) (e .maximum) (e .interval) z
+        (withAllocator d (allocateOf (d .allocator) (e .kind) (e .address) (e .maximum) (directionOf (e .address)) .after))) w
     go (Refused n) = refl
     go (Given n x slots) = refl
 
@@ -94,17 +118,20 @@ each-wakes (e ∷ es) d w = ap (λ (z : Driver). eachOn z es) (one-wakes d w e) 
 
 -- ---- after all are allocated they lie one above the other
 
-stays : (es : List Endpoint) (d : Driver) (dir : Dir) (m kind maximum y : ℕ) → Settled d → Accepts (d .allocator) es → Owns d dir m kind maximum y → Owns (eachOn d es) dir m kind maximum y
+stays : (es : List Endpoint) (d : Driver) (dir : Dir) (m kind maximum y : ℕ)
+    → Settled d → Accepts (d .allocator) es → Owns d dir m kind maximum y → Owns (eachOn d es) dir m kind maximum y
 unfolding eachOn
 stays [] d dir m kind maximum y s a o = o
 stays (e ∷ es) d dir m kind maximum y s (goes-on _ _ _ n x slots q r) o =
-    stays es (oneOn d e) dir m kind maximum y (settled d e n x slots q s) (subst (λ (z : Allocator). Accepts z es) (sym (one-allocator d e n x slots q)) r) (still d e n x slots q s dir m kind maximum y o)
+    stays es (oneOn d e) dir m kind maximum y (settled d e n x slots q s)
+    (subst (λ (z : Allocator). Accepts z es) (sym (one-allocator d e n x slots q)) r) (still d e n x slots q s dir m kind maximum y o)
 
 all-size : (es : List Endpoint) (d : Driver) → Settled d → Accepts (d .allocator) es → eachOn d es .allocator .size ≡ d .allocator .size
 unfolding eachOn
 all-size [] d s a = refl
 all-size (e ∷ es) d s (goes-on _ _ _ n x slots q r) =
-    all-size es (oneOn d e) (settled d e n x slots q s) (subst (λ (z : Allocator). Accepts z es) (sym (one-allocator d e n x slots q)) r) ∙ same-size d e n x slots q s
+    all-size es (oneOn d e) (settled d e n x slots q s)
+    (subst (λ (z : Allocator). Accepts z es) (sym (one-allocator d e n x slots q)) r) ∙ same-size d e n x slots q s
 
 chain : (es : List Endpoint) (d : Driver) → Settled d → Accepts (d .allocator) es → Good es → Chain (eachOn d es) (d .allocator .next * d .allocator .size) es
 unfolding eachOn Good
@@ -115,16 +142,19 @@ chain (e ∷ es) d s (goes-on _ _ _ n x slots q r) g =
     let r1 = subst (λ (z : Allocator). Accepts z es) (sym (one-allocator d e n x slots q)) r in
     let v = gives (d .allocator) e n x slots q in
     let o = stays es d1 (directionOf (e .address)) n (e .kind) (e .maximum) x t r1 (owns d e n x slots q s) in
-    let z : d1 .allocator .next * d1 .allocator .size ≡ d .allocator .next * d .allocator .size + slotsOf (isIso (e .kind)) (directionOf (e .address)) * eachOn d1 es .allocator .size =
+    let z : d1 .allocator .next * d1 .allocator .size ≡ d .allocator .next
+    * d .allocator .size + slotsOf (isIso (e .kind)) (directionOf (e .address)) * eachOn d1 es .allocator .size =
     sym (more d e n x slots q s) ∙ rw (all-size es d1 t r1, same-size d e n x slots q s, v .starts, v .slots) in (
-      subst (λ (m : ℕ). Owns (eachOn d1 es) (directionOf (e .address)) m (e .kind) (e .maximum) (d .allocator .next * d .allocator .size)) (given-number (d .allocator) e n x slots q (g .0 .address))
+      subst (λ (m : ℕ). Owns (eachOn d1 es) (directionOf (e .address)) m (e .kind) (e .maximum) (d .allocator .next * d .allocator .size))
+          (given-number (d .allocator) e n x slots q (g .0 .address))
           (subst (λ (y : ℕ). Owns (eachOn d1 es) (directionOf (e .address)) n (e .kind) (e .maximum) y) (v .starts) o),
       subst (λ (y : ℕ). Chain (eachOn d1 es) y es) z (chain es d1 t r1 (g .2)),
     )
 
 -- ---- one endpoint by its own call
 
-module _ (d : Driver) (b : List ℕ) (e : Endpoint) (n x slots : ℕ) (q : asked (d .allocator) e .answer ≡ Given n x slots) (s : Settled d) (stage : d .globals .stage ≡ 1) where
+module _ (d : Driver) (b : List ℕ) (e : Endpoint) (n x slots : ℕ)
+    (q : asked (d .allocator) e .answer ≡ Given n x slots) (s : Settled d) (stage : d .globals .stage ≡ 1) where
   abbrev lastly : ℕ → St → tree.Out St answers.Answer
   lastly k u = ends (End k (listed (u .0 .wakes))) u
 
@@ -140,7 +170,8 @@ module _ (d : Driver) (b : List ℕ) (e : Endpoint) (n x slots : ℕ) (q : asked
   runs : run concrete (allocation e) (d, b) ≡ as-answered (Given n x slots)
   unfolding oneOn asked
   runs =
-      ap (λ (t : Bool). cond t (as-answered (allocateOf (d .allocator) (e .kind) (e .address) (e .maximum) (directionOf (e .address)) .answer)) (ends (answers.Refused 4) (d, b))) (eq-eqb (d .globals .stage) 1 stage)
+      ap (λ (t : Bool). cond t (as-answered (allocateOf (d .allocator) (e .kind) (e .address) (e .maximum) (directionOf (e .address)) .answer))
+      (ends (answers.Refused 4) (d, b))) (eq-eqb (d .globals .stage) 1 stage)
       ∙ ap as-answered q
 
   place-is : placeOn (directionOf (e .address)) n (withWakes (oneOn d e) none-woken) ≡ pair x (withWakes (oneOn d e) none-woken)
@@ -180,16 +211,23 @@ stepwise (e ∷ es) d b s stage (goes-on _ _ _ n x slots q r) g =
     let m = given-number (d .allocator) e n x slots q (g .0 .address) in
     let i = stepwise es d2 b t (one-stage d e n x slots q ∙ stage) r1 (g .2) in
     let w = ap (λ (z : answers.Answer × St). z .1) (one-ends d b e n x slots q s stage) in
-    let y : d2 .allocator .next * d2 .allocator .size ≡ d .allocator .next * d .allocator .size + slotsOf (isIso (e .kind)) (directionOf (e .address)) * d .allocator .size =
+    let y : d2 .allocator .next * d2 .allocator .size ≡ d .allocator .next
+    * d .allocator .size + slotsOf (isIso (e .kind)) (directionOf (e .address)) * d .allocator .size =
     sym (more d e n x slots q s) ∙ rw (v .starts, v .slots) in
     record {
       hands =
           ap (λ (z : St). handsOut (run concrete (allocation e) (d, b)) ++ oneByOne es z .0) w
           ∙ ap (λ (l : List Access). l ++ oneByOne es (d2, b) .0) (one-hands d b e n x slots q s stage)
-          ∙ ap (λ (l : List Access). accesses (directionOf (e .address)) n (e .kind) (e .maximum) x ++ l) (i .hands ∙ ap (λ (z : ℕ). handed z (d2 .allocator .next * d2 .allocator .size) es) (same-size d e n x slots q s) ∙ ap (λ (z : ℕ). handed (d .allocator .size) z es) y)
-          ∙ ap (λ (z : ℕ). accesses (directionOf (e .address)) z (e .kind) (e .maximum) x ++ handed (d .allocator .size) (d .allocator .next * d .allocator .size + slotsOf (isIso (e .kind)) (directionOf (e .address)) * d .allocator .size) es) m
-          ∙ ap (λ (z : ℕ). accesses (directionOf (e .address)) (e .address % 128) (e .kind) (e .maximum) z ++ handed (d .allocator .size) (d .allocator .next * d .allocator .size + slotsOf (isIso (e .kind)) (directionOf (e .address)) * d .allocator .size) es) (v .starts);
-      state = ap (λ (z : St). withWakes (oneByOne es z .1 .0) none-woken) w ∙ i .state ∙ ap (λ (z : Driver). withWakes z none-woken) (each-wakes es (oneOn d e) none-woken);
+          ∙ ap (λ (l : List Access). accesses (directionOf (e .address)) n (e .kind) (e .maximum) x ++ l)
+          (i .hands ∙ ap (λ (z : ℕ). handed z (d2 .allocator .next * d2 .allocator .size) es) (same-size d e n x slots q s)
+          ∙ ap (λ (z : ℕ). handed (d .allocator .size) z es) y)
+          ∙ ap (λ (z : ℕ). accesses (directionOf (e .address)) z (e .kind) (e .maximum) x ++ handed (d .allocator .size)
+          (d .allocator .next * d .allocator .size + slotsOf (isIso (e .kind)) (directionOf (e .address)) * d .allocator .size) es) m
+          ∙ ap (λ (z : ℕ). accesses (directionOf (e .address)) (e .address % 128) (e .kind) (e .maximum) z ++ handed (d .allocator .size)
+          (d .allocator .next * d .allocator .size + slotsOf (isIso (e .kind)) (directionOf (e .address))
+          * d .allocator .size) es) (v .starts);
+      state = ap (λ (z : St). withWakes (oneByOne es z .1 .0) none-woken) w
+          ∙ i .state ∙ ap (λ (z : Driver). withWakes z none-woken) (each-wakes es (oneOn d e) none-woken);
       bytes = ap (λ (z : St). oneByOne es z .1 .1) w ∙ i .bytes;
     }
 
@@ -212,8 +250,10 @@ all-hands [] d b x c = (refl, refl)
 all-hands (e ∷ es) d b x c =
     let dir = directionOf (e .address) in
     let m = e .address % 128 in
-    let r = walk-hands es (suc (length es)) d b dir m (x + slotsOf (isIso (e .kind)) dir * d .allocator .size) (end-is (length es) (suc (length es)) d b dir m (e .kind) (e .maximum) x (c .0)) (c .1) in (
-      announce-hands (length es) (suc (length es)) d b dir m (e .kind) (e .maximum) x (c .0) ∙ ap (λ (l : List Access). accesses dir m (e .kind) (e .maximum) x ++ l) (r .0),
+    let r = walk-hands es (suc (length es)) d b dir m (x + slotsOf (isIso (e .kind)) dir * d .allocator .size)
+    (end-is (length es) (suc (length es)) d b dir m (e .kind) (e .maximum) x (c .0)) (c .1) in (
+      announce-hands (length es) (suc (length es)) d b dir m (e .kind) (e .maximum) x (c .0)
+          ∙ ap (λ (l : List Access). accesses dir m (e .kind) (e .maximum) x ++ l) (r .0),
       announce-ends (length es) (suc (length es)) d b dir m (e .kind) (e .maximum) x (c .0) ∙ r .1,
     )
 
@@ -230,13 +270,19 @@ in-order d b bytes s stage small reads given =
     let h = all-hands es D b (d .allocator .next * d .allocator .size) c in
     let z = stepwise es d b s stage a g in
     let r : run concrete (otherCode (AllocateAll bytes)) (d, b) ≡ bindOut (go (announceAll es) D b) finishing =
-    ap (λ (t : Bool). cond t (run {i = false} concrete (allocate-read bytes (readingOf bytes .answer)) (d, b)) (ends (answers.Refused 4) (d, b))) (eq-eqb (d .globals .stage) 1 stage)
+    ap (λ (t : Bool). cond t (run {i = false} concrete (allocate-read bytes (readingOf bytes .answer)) (d, b)) (ends (answers.Refused 4) (d, b)))
+    (eq-eqb (d .globals .stage) 1 stage)
     ∙ ap (λ (y : reading-answer.Answer). run {i = false} concrete (allocate-read bytes y) (d, b)) reads
-    ∙ ap (λ (t : Bool). cond t (bindOut (go (script.allocateEach {i = false} es) d b) (λ _ u. run {i = false} concrete (operation (announceAll es)) u)) (ends (answers.Refused (trialOf (d .allocator) es .refusal)) (d, b))) (eq-eqb (trialOf (d .allocator) es .refusal) 0 given)
+    ∙ ap (λ (t : Bool). cond t
+    (bindOut (go (script.allocateEach {i = false} es) d b) (λ _ u. run {i = false} concrete (operation (announceAll es)) u))
+    (ends (answers.Refused (trialOf (d .allocator) es .refusal)) (d, b))) (eq-eqb (trialOf (d .allocator) es .refusal) 0 given)
     ∙ ap (λ (y : tree.Out St Unit). bindOut y (λ _ u. run {i = false} concrete (operation (announceAll es)) u)) (each-run es d b) in
     record {
-      hands = ap handsOut r ∙ finish-hands (go (announceAll es) D b) ∙ h .0 ∙ ap (λ (y : ℕ). handed y (d .allocator .next * d .allocator .size) es) (all-size es d s a) ∙ sym (z .hands);
-      ends-so = ap endsWith r ∙ finish-ends (go (announceAll es) D b) ∙ ap (λ (y : ℕ × St). (End (y .0) (listed (y .1 .0 .wakes)), y .1)) (h .1) ∙ ap (λ (y : Driver). (End (length es) [], (y, b))) (sym (z .state));
+      hands = ap handsOut r ∙ finish-hands (go (announceAll es) D b) ∙ h .0
+          ∙ ap (λ (y : ℕ). handed y (d .allocator .next * d .allocator .size) es) (all-size es d s a) ∙ sym (z .hands);
+      ends-so = ap endsWith r ∙ finish-ends (go (announceAll es) D b)
+          ∙ ap (λ (y : ℕ × St). (End (y .0) (listed (y .1 .0 .wakes)), y .1)) (h .1)
+          ∙ ap (λ (y : Driver). (End (length es) [], (y, b))) (sym (z .state));
     }
 
 -- ---- refused
@@ -246,14 +292,17 @@ pub none-given : (d : Driver) (b bytes : List ℕ) (n : ℕ) → d .globals .sta
     → trialOf (d .allocator) (listOf bytes) .refusal ≡ n → (n ≡ 0 → ⊥) → run concrete (otherCode (AllocateAll bytes)) (d, b) ≡ ends (answers.Refused n) (d, b)
 none-given d b bytes n stage listed refused some =
     let es = listOf bytes in
-    ap (λ (t : Bool). cond t (run {i = false} concrete (allocate-read bytes (readingOf bytes .answer)) (d, b)) (ends (answers.Refused 4) (d, b))) (eq-eqb (d .globals .stage) 1 stage)
+    ap (λ (t : Bool). cond t (run {i = false} concrete (allocate-read bytes (readingOf bytes .answer)) (d, b)) (ends (answers.Refused 4) (d, b)))
+    (eq-eqb (d .globals .stage) 1 stage)
     ∙ ap (λ (y : reading-answer.Answer). run {i = false} concrete (allocate-read bytes y) (d, b)) listed
-    ∙ ap (λ (k : ℕ). cond (eqb k 0) (bindOut (go (script.allocateEach {i = false} es) d b) (λ _ u. run {i = false} concrete (operation (announceAll es)) u)) (ends (answers.Refused k) (d, b))) refused
+    ∙ ap (λ (k : ℕ). cond (eqb k 0) (bindOut (go (script.allocateEach {i = false} es) d b)
+    (λ _ u. run {i = false} concrete (operation (announceAll es)) u)) (ends (answers.Refused k) (d, b))) refused
     ∙ rw (ne-eqb n 0 some)
 
 -- by 17 or 18
 pub unread : (d : Driver) (b bytes : List ℕ) (n : ℕ) → d .globals .stage ≡ 1 → readingOf bytes .answer ≡ reading.Refused n
     → run concrete (otherCode (AllocateAll bytes)) (d, b) ≡ ends (answers.Refused n) (d, b)
 unread d b bytes n stage refused =
-    ap (λ (t : Bool). cond t (run {i = false} concrete (allocate-read bytes (readingOf bytes .answer)) (d, b)) (ends (answers.Refused 4) (d, b))) (eq-eqb (d .globals .stage) 1 stage)
+    ap (λ (t : Bool). cond t (run {i = false} concrete (allocate-read bytes (readingOf bytes .answer)) (d, b)) (ends (answers.Refused 4) (d, b)))
+    (eq-eqb (d .globals .stage) 1 stage)
     ∙ ap (λ (y : reading-answer.Answer). run {i = false} concrete (allocate-read bytes y) (d, b)) refused

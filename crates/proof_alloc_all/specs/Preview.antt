@@ -49,14 +49,18 @@ pub data Calls : St → List Endpoint → List ℕ → ℕ → St → Type 0 whe
 refused-on : (d : Driver) (e : Endpoint) (n : ℕ) → asked (d .allocator) e .answer ≡ Refused n → oneOn d e ≡ d
 unfolding oneOn allocatedOn givenTo asked
 refused-on d e n q =
-    let f : Fair (d .allocator) (asked (d .allocator) e .after) (Refused n) = subst (Fair (d .allocator) (asked (d .allocator) e .after)) q (fair-asked (d .allocator) e) in
+    let f : Fair (d .allocator) (asked (d .allocator) e .after) (Refused n) =
+    subst (Fair (d .allocator) (asked (d .allocator) e .after)) q (fair-asked (d .allocator) e) in
     ap (λ (z : Answer). givenTo (directionOf (e .address)) (e .kind) (e .maximum) (e .interval) z (withAllocator d (asked (d .allocator) e .after))) q
     ∙ ap (withAllocator d) (f .2)
 
-refused-run : (d : Driver) (b : List ℕ) (e : Endpoint) (n : ℕ) → d .globals .stage ≡ 1 → asked (d .allocator) e .answer ≡ Refused n → run concrete (allocation e) (d, b) ≡ ends (answers.Refused n) (d, b)
+refused-run : (d : Driver) (b : List ℕ) (e : Endpoint) (n : ℕ) → d .globals .stage ≡ 1
+    → asked (d .allocator) e .answer ≡ Refused n → run concrete (allocation e) (d, b) ≡ ends (answers.Refused n) (d, b)
 unfolding oneOn asked
 refused-run d b e n stage q =
-    ap (λ (t : Bool). cond t (run {i = false} concrete (allocated-as (directionOf (e .address)) (e .kind) (e .maximum) (allocateOf (d .allocator) (e .kind) (e .address) (e .maximum) (directionOf (e .address)) .answer)) (oneOn d e, b)) (ends (answers.Refused 4) (d, b))) (eq-eqb (d .globals .stage) 1 stage)
+    ap (λ (t : Bool). cond t (run {i = false} concrete (allocated-as (directionOf (e .address)) (e .kind) (e .maximum)
+    (allocateOf (d .allocator) (e .kind) (e .address) (e .maximum) (directionOf (e .address)) .answer)) (oneOn d e, b))
+    (ends (answers.Refused 4) (d, b))) (eq-eqb (d .globals .stage) 1 stage)
     ∙ ap (λ (z : Answer). run {i = false} concrete (allocated-as (directionOf (e .address)) (e .kind) (e .maximum) z) (oneOn d e, b)) q
     ∙ ap (λ (z : Driver). ends (answers.Refused n) (z, b)) (refused-on d e n q)
 
@@ -94,7 +98,8 @@ pub record ByCalls (d : Driver) (b bytes : List ℕ) : Type 0 where
   pub after : St
   pub calls : Calls (d, b) (listOf bytes) numbers refusal after
   pub taken : after .0 .allocator .next ≡ d .allocator .next + buffers
-  pub same : previewOf (d .allocator) bytes ≡ record { said = said.Tried; numbers = padded numbers; count = length numbers; buffers = buffers; refusal = refusal }
+  pub same : previewOf (d .allocator) bytes
+      ≡ record { said = said.Tried; numbers = padded numbers; count = length numbers; buffers = buffers; refusal = refusal }
 
 pub previewed-by-calls : (d : Driver) (b bytes : List ℕ) → Settled d → d .globals .stage ≡ 1 → ((j : ℕ) → getD bytes j 0 < 256)
     → readingOf bytes .answer ≡ reading.Listed → ByCalls d b bytes

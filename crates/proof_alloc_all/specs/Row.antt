@@ -54,7 +54,9 @@ tried-row : (es : List Endpoint) (d : Driver) (b : List ℕ) (n : ℕ) → rowOf
 tried-row es d b n = by (eqb n 0) refl
   where
     by : (t : Bool) → eqb n 0 ≡ t
-        → rowOf (cond t (bindOut (go (allocateEach {i = false} es) d b) (λ _ u. run {i = false} concrete (operation (announceAll es)) u)) (ends (answers.Refused n) (d, b))) ≡ n
+        → rowOf
+        (cond t (bindOut (go (allocateEach {i = false} es) d b) (λ _ u. run {i = false} concrete (operation (announceAll es)) u))
+        (ends (answers.Refused n) (d, b))) ≡ n
     by false e = refl
     by true e =
         ap (λ (o : tree.Out St Unit). rowOf (bindOut o (λ _ u. run {i = false} concrete (operation (announceAll es)) u))) (each-run es d b)

@@ -63,7 +63,8 @@ unfolding isOut
 added-here Out w n = rw (eq-eqb n n refl)
 added-here In w n = rw (eq-eqb n n refl)
 
-apart-key : (a : Allocator) (dir dir′ : Dir) (n m : ℕ) → n ≤ 15 → m ≤ 15 → isSet (allocatedIn a dir) n ≡ false → isSet (allocatedIn a dir′) m ≡ true → key dir′ m ≢ key dir n
+apart-key : (a : Allocator) (dir dir′ : Dir) (n m : ℕ) → n ≤ 15
+    → m ≤ 15 → isSet (allocatedIn a dir) n ≡ false → isSet (allocatedIn a dir′) m ≡ true → key dir′ m ≢ key dir n
 apart-key a Out Out n m h l f t k = let e : m ≡ n = omega (arith, key-same Out m n k) in true≢false (sym t ∙ ap (λ (j : ℕ). isSet (allocatedIn a Out) j) e ∙ f)
 apart-key a In In n m h l f t k = let e : m ≡ n = omega (arith, key-same In m n k) in true≢false (sym t ∙ ap (λ (j : ℕ). isSet (allocatedIn a In) j) e ∙ f)
 apart-key a Out In n m h l f t k = key-apart n m (sym k)
@@ -87,16 +88,20 @@ module _ (d : Driver) (e : Endpoint) (n x slots : ℕ) (q : asked (d .allocator)
   next-is : oneOn d e .allocator .next ≡ d .allocator .next + slots
   next-is = ap (λ (a : Allocator). a .next) (one-allocator d e n x slots q) ∙ g .used
 
-  sets : (dir : Dir) (m : ℕ) → isSet (allocatedIn (oneOn d e .allocator) dir) m ≡ inAdded (sameDir (directionOf (e .address)) dir) (allocatedIn (d .allocator) dir) n m
+  sets : (dir : Dir) (m : ℕ) → isSet (allocatedIn (oneOn d e .allocator) dir) m
+      ≡ inAdded (sameDir (directionOf (e .address)) dir) (allocatedIn (d .allocator) dir) n m
   sets dir m = ap (λ (a : Allocator). isSet (allocatedIn a dir) m) (one-allocator d e n x slots q) ∙ g .allocates dir m
 
-  before : (dir : Dir) (m : ℕ) → key dir m ≢ key (directionOf (e .address)) n → isSet (allocatedIn (oneOn d e .allocator) dir) m ≡ true → isSet (allocatedIn (d .allocator) dir) m ≡ true
+  before : (dir : Dir) (m : ℕ) → key dir m ≢ key (directionOf (e .address)) n
+      → isSet (allocatedIn (oneOn d e .allocator) dir) m ≡ true → isSet (allocatedIn (d .allocator) dir) m ≡ true
   before dir m h t = sym (added-other (directionOf (e .address)) dir (allocatedIn (d .allocator) dir) n m h) ∙ sym (sets dir m) ∙ t
 
   new-key : (dir : Dir) (m : ℕ) → m ≤ 15 → isSet (allocatedIn (d .allocator) dir) m ≡ true → key dir m ≢ key (directionOf (e .address)) n
-  new-key dir m h t = apart-key (d .allocator) (directionOf (e .address)) dir n m (g .number .high) h (sym (s .sound .taken (directionOf (e .address)) n) ∙ g .number .untaken) t
+  new-key dir m h t = apart-key (d .allocator) (directionOf (e .address)) dir n m
+      (g .number .high) h (sym (s .sound .taken (directionOf (e .address)) n) ∙ g .number .untaken) t
 
-  here : epOn (oneOn d e) (directionOf (e .address)) n ≡ allocated (epOn d (directionOf (e .address)) n) (e .kind) (e .maximum) x (asked (d .allocator) e .after .size) slots
+  here : epOn (oneOn d e) (directionOf (e .address)) n
+      ≡ allocated (epOn d (directionOf (e .address)) n) (e .kind) (e .maximum) x (asked (d .allocator) e .after .size) slots
   here = one-here d e n x slots q (s .sized)
 
   base-here : epOn (oneOn d e) (directionOf (e .address)) n .base ≡ x
@@ -118,7 +123,8 @@ module _ (d : Driver) (e : Endpoint) (n x slots : ℕ) (q : asked (d .allocator)
   by-key P dir m f h = go (eqb (key dir m) (key (directionOf (e .address)) n)) refl
     where
       go : (t : Bool) → eqb (key dir m) (key (directionOf (e .address)) n) ≡ t → P (epOn (oneOn d e) dir m .base)
-      go true t = let k = eqb-true _ _ t in subst P (sym (ap (λ (r : EpState). r .base) (epOn-key (oneOn d e) (directionOf (e .address)) dir n m k) ∙ base-here)) (f k)
+      go true t = let k = eqb-true _ _ t in
+          subst P (sym (ap (λ (r : EpState). r .base) (epOn-key (oneOn d e) (directionOf (e .address)) dir n m k) ∙ base-here)) (f k)
       go false t = let k = eqb-false _ _ t in subst P (sym (ap (λ (r : EpState). r .base) (one-other d e n x slots q dir m k))) (h k)
 
   sound-after : Sound (asked (d .allocator) e .after)

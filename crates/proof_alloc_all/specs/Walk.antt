@@ -23,4 +23,5 @@ use Rattle.proof_alloc_all.specs.SettledLaws.{Owns}
 -- what each hands out
 abbrev pub handed : ℕ → ℕ → List Endpoint → List Access
 handed size x [] = []
-handed size x (e ∷ es) = accesses (directionOf (e .address)) (e .address % 128) (e .kind) (e .maximum) x ++ handed size (x + slotsOf (isIso (e .kind)) (directionOf (e .address)) * size) es
+handed size x (e ∷ es) = accesses (directionOf (e .address)) (e .address % 128) (e .kind) (e .maximum) x
+    ++ handed size (x + slotsOf (isIso (e .kind)) (directionOf (e .address)) * size) es

@@ -57,7 +57,8 @@ module _ (d : Driver) (dir : Dir) (n kind maximum x : ℕ) (o : Owns d dir n kin
       go false t true u = refl
       go false t false u = refl
 
-none-found : (d : Driver) (dir : Dir) (x : ℕ) → ((m : ℕ) → 1 ≤ m → m ≤ 15 → startsAt d dir x m ≡ false) → (left e : ℕ) → 1 ≤ e → e + left ≤ 16 → foundAt d dir x left e ≡ 0
+none-found : (d : Driver) (dir : Dir) (x : ℕ) → ((m : ℕ) → 1 ≤ m → m ≤ 15 → startsAt d dir x m ≡ false)
+    → (left e : ℕ) → 1 ≤ e → e + left ≤ 16 → foundAt d dir x left e ≡ 0
 unfolding foundAt
 none-found d dir x h zero e l z = refl
 none-found d dir x h (suc left) e l z = rw (h e l (omega arith)) (none-found d dir x h left (suc e) (omega arith) (omega arith))
@@ -82,12 +83,17 @@ next-is : (left total : ℕ) (d : Driver) (b : List ℕ) (dir : Dir) (e : ℕ) (
     → go (following (suc left) total dir e) d b ≡ go (announcing left total dir′ n) d b
 next-is left total d b dir e Out n kind maximum x h o =
     let l : suc left - 1 ≡ left = omega arith in
-    let f = one-found d Out x n (starts-here d Out n kind maximum x o) (λ m p q z. starts-not d Out n kind maximum x o Out m p q (apart-same Out m n q (o .high) z)) 15 1 (omega arith) (o .low) (omega (arith, o .high)) (omega arith) in
-    sym (ap (λ (k : ℕ). go (announcing k total Out n) d b) (sym l) ∙ after-out (suc left) total d b dir e x n (λ z. omega arith) (sym h) (sym f) (λ z. omega (arith, o .low)))
+    let f = one-found d Out x n (starts-here d Out n kind maximum x o)
+    (λ m p q z. starts-not d Out n kind maximum x o Out m p q (apart-same Out m n q (o .high) z)) 15 1
+    (omega arith) (o .low) (omega (arith, o .high)) (omega arith) in
+    sym (ap (λ (k : ℕ). go (announcing k total Out n) d b) (sym l)
+    ∙ after-out (suc left) total d b dir e x n (λ z. omega arith) (sym h) (sym f) (λ z. omega (arith, o .low)))
 next-is left total d b dir e In n kind maximum x h o =
     let l : suc left - 1 ≡ left = omega arith in
     let f = none-found d Out x (λ m p q. starts-not d In n kind maximum x o Out m p q (λ k. key-apart m n k)) 15 1 (omega arith) (omega arith) in
-    let g = one-found d In x n (starts-here d In n kind maximum x o) (λ m p q z. starts-not d In n kind maximum x o In m p q (apart-same In m n q (o .high) z)) 15 1 (omega arith) (o .low) (omega (arith, o .high)) (omega arith) in
+    let g = one-found d In x n (starts-here d In n kind maximum x o)
+    (λ m p q z. starts-not d In n kind maximum x o In m p q (apart-same In m n q (o .high) z)) 15 1
+    (omega arith) (o .low) (omega (arith, o .high)) (omega arith) in
     sym (ap (λ (k : ℕ). go (announcing k total In n) d b) (sym l) ∙ after-in (suc left) total d b dir e x 0 (λ z. omega arith) (sym h) (sym f) n refl (sym g))
 
 -- ---- one announcement
@@ -104,7 +110,8 @@ unfolding placeOn
 placed d In n x p q = rw p
 placed d Out n x p q = go (isSet (isoOuts (d .globals)) (n % 16))
   where
-    go : (t : Bool) → cond t (pair (epOn d Out n .«armed_slot») d) (pair (epOn d Out n .base) (withOn d Out n (armedAt (epOn d Out n) (epOn d Out n .base)))) ≡ pair x d
+    go : (t : Bool) → cond t (pair (epOn d Out n .«armed_slot») d)
+        (pair (epOn d Out n .base) (withOn d Out n (armedAt (epOn d Out n) (epOn d Out n .base)))) ≡ pair x d
     go true = rw q
     go false = ap (λ (z : ℕ). pair z (withOn d Out n (armedAt (epOn d Out n) (epOn d Out n .base)))) p
         ∙ ap (pair x) (ap (withOn d Out n) (armed-back (epOn d Out n) x p q) ∙ withOn-back d Out n)
@@ -148,16 +155,20 @@ module _ (left total : ℕ) (d : Driver) (b : List ℕ) (dir : Dir) (n kind maxi
 -- the endpoints of a list, one above the other from byte x on
 abbrev pub Chain : Driver → ℕ → List Endpoint → Type 0
 Chain d x [] = Unit {0}
-Chain d x (e ∷ es) = Owns d (directionOf (e .address)) (e .address % 128) (e .kind) (e .maximum) x × Chain d (x + slotsOf (isIso (e .kind)) (directionOf (e .address)) * d .allocator .size) es
+Chain d x (e ∷ es) = Owns d (directionOf (e .address)) (e .address % 128) (e .kind) (e .maximum) x
+    × Chain d (x + slotsOf (isIso (e .kind)) (directionOf (e .address)) * d .allocator .size) es
 
 pub walk-hands : (es : List Endpoint) (total : ℕ) (d : Driver) (b : List ℕ) (dir : Dir) (n x : ℕ) → endOn d dir n ≡ x → Chain d x es
-    → (handsOut (go (following (length es) total dir n) d b) ≡ handed (d .allocator .size) x es) × (endsWith (go (following (length es) total dir n) d b) ≡ (total, (d, b)))
+    → (handsOut (go (following (length es) total dir n) d b) ≡ handed (d .allocator .size) x es)
+    × (endsWith (go (following (length es) total dir n) d b) ≡ (total, (d, b)))
 walk-hands [] total d b dir n x h c = (ap handsOut (after-none total d b dir n), ap endsWith (after-none total d b dir n))
 walk-hands (e ∷ es) total d b dir n x h c =
     let dir′ = directionOf (e .address) in
     let m = e .address % 128 in
     let s = next-is (length es) total d b dir n dir′ m (e .kind) (e .maximum) x h (c .0) in
-    let r = walk-hands es total d b dir′ m (x + slotsOf (isIso (e .kind)) dir′ * d .allocator .size) (end-is (length es) total d b dir′ m (e .kind) (e .maximum) x (c .0)) (c .1) in (
-      ap handsOut s ∙ announce-hands (length es) total d b dir′ m (e .kind) (e .maximum) x (c .0) ∙ ap (λ (q : List Access). accesses dir′ m (e .kind) (e .maximum) x ++ q) (r .0),
+    let r = walk-hands es total d b dir′ m (x + slotsOf (isIso (e .kind)) dir′ * d .allocator .size)
+    (end-is (length es) total d b dir′ m (e .kind) (e .maximum) x (c .0)) (c .1) in (
+      ap handsOut s ∙ announce-hands (length es) total d b dir′ m (e .kind) (e .maximum) x (c .0)
+          ∙ ap (λ (q : List Access). accesses dir′ m (e .kind) (e .maximum) x ++ q) (r .0),
       ap endsWith s ∙ announce-ends (length es) total d b dir′ m (e .kind) (e .maximum) x (c .0) ∙ r .1,
     )

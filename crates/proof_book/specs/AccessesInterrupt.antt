@@ -20,11 +20,15 @@ use Rattle.model.specs.declared.Transfer.{Transfer}
 use Rattle.model.specs.Tree as tree
 use Rattle.model.specs.Tree.{ends, asks, Prog, bindOut}
 use Rattle.model.specs.Cells.{Cell, Val, globals-cell, ep-cell}
-use Rattle.model.specs.Script.{Script, Ops, Test, Look, Fetch, Act, DmaStep, ret, bind, test, read-then, write-then, callback-then, hand-then, get-then, put-then, is-then, look-then, fetch-then, act-then, _>>_, done, when, read, write, callback, get, put, is, look, fetch, act, hand}
+use Rattle.model.specs.Script.{Script, Ops, Test, Look, Fetch, Act, DmaStep, ret, bind, test, read-then, write-then}
+use Rattle.model.specs.Script.{callback-then, hand-then, get-then, put-then, is-then, look-then, fetch-then, act-then}
+use Rattle.model.specs.Script.{_>>_, done, when, read, write, callback, get, put, is, look, fetch, act, hand}
 use Rattle.model.specs.Statics.{modifyReg}
 use Rattle.model.specs.IsoIn.{firstInFrame, isoInLoad, isoInComplete, unseen, sofOne, sofWalk, onSof, lateOne, lateWalk}
 use Rattle.model.specs.IsoOut.{arrives, checkOne, checkWalk, isoOutCheck}
-use Rattle.model.specs.Handler.{looks, sieWait, nakNonIso, toggled, retake, settle, received, sent, sofArm, outArm, isoInArm, inArm, dispatch, movedOn, ep0MovedOn, isoFor, framed, served, onTransfer, onSetup, onInterrupt, keepMicroframe}
+use Rattle.model.specs.Handler.{looks, sieWait, nakNonIso, toggled, retake, settle, received, sent, sofArm, outArm}
+use Rattle.model.specs.Handler.{isoInArm, inArm, dispatch, movedOn, ep0MovedOn, isoFor, framed, served, onTransfer}
+use Rattle.model.specs.Handler.{onSetup, onInterrupt, keepMicroframe}
 use Rattle.model.specs.Answers.{Answer, staged, resultless, operation}
 use Rattle.model.specs.Calls.{interruptCode}
 use Rattle.proof_book.specs.Accesses.{accesses, Within, Asks≤}
@@ -112,14 +116,16 @@ module _ {i : Bool} where
   assign : {n : ℕ} (c : Cell) {f : Val c → Val c} → Asks≤ {i = i} n (bind (get c) (λ v. put c (f v)))
   assign c = free (no-get c) (λ _. no-put c)
 
-  assign-write : (c : Cell) {f : Val c → Val c} {r : Reg} {e : ℕ} {h : Val c → ℕ} → Asks≤ {i = i} 1 (bind (get c) (λ v. bind (put c (f v)) (λ _. write r e (h v))))
+  assign-write : (c : Cell) {f : Val c → Val c} {r : Reg} {e : ℕ} {h : Val c → ℕ}
+      → Asks≤ {i = i} 1 (bind (get c) (λ v. bind (put c (f v)) (λ _. write r e (h v))))
   assign-write c = free (no-get c) (λ _. free (no-put c) (λ _. a-write))
 
   of-modifyReg : {r : Reg} {e : ℕ} {f : ℕ → ℕ} → Asks≤ {i = i} 2 (modifyReg r e f)
   of-modifyReg = once a-read (λ _. a-write)
 
 -- a walk over a mask: one endpoint's for each
-module _ {i : Bool} (W : List ℕ → Script i Unit) (one : ℕ → Script i Unit) (none : W [] ≡ done) (step : (e : ℕ) (es : List ℕ) → W (e ∷ es) ≡ (one e >> W es)) where
+module _ {i : Bool} (W : List ℕ → Script i Unit)
+    (one : ℕ → Script i Unit) (none : W [] ≡ done) (step : (e : ℕ) (es : List ℕ) → W (e ∷ es) ≡ (one e >> W es)) where
   walk : {n : ℕ} → ((e : ℕ) → Asks≤ n (one e)) → (k : ℕ) (es : List ℕ) → length es ≤ k → Asks≤ (k * n) (W es)
   walk x k [] h = rw none end
   walk x zero (e ∷ es) h = absurd (omega (arith, h))
@@ -142,14 +148,17 @@ module _ {i : Bool} where
   of-unseen frame e = free (assign (ep-cell _ _)) (λ _. of-complete e)
 
   of-sofOne : (frame e : ℕ) → Asks≤ {i = i} 4 (sofOne frame e)
-  of-sofOne frame e = free (no-get (ep-cell _ _)) (λ _. either end (once a-read (λ _. either (more (of-unseen frame e) (omega arith)) (once a-read (λ _. either end (of-unseen frame e))))))
+  of-sofOne frame e = free (no-get (ep-cell _ _))
+      (λ _. either end (once a-read (λ _. either (more (of-unseen frame e) (omega arith)) (once a-read (λ _. either end (of-unseen frame e))))))
 
   of-sofWalk : (frame m : ℕ) → Asks≤ {i = i} 64 (sofWalk frame (setBits m))
   unfolding sofWalk
   of-sofWalk frame = mask (sofWalk frame) (sofOne frame) refl (λ e es. refl) (of-sofOne frame)
 
   of-onSof : (frame : ℕ) → Asks≤ {i = i} 65 (onSof frame)
-  of-onSof frame = free (assign globals-cell) (λ _. free (no-get globals-cell) (λ _. more (seq 64 1 (of-sofWalk frame _) (λ _. free (no-get globals-cell) (λ _. if a-callback))) (omega arith)))
+  of-onSof frame = free (assign globals-cell)
+      (λ _. free (no-get globals-cell)
+      (λ _. more (seq 64 1 (of-sofWalk frame _) (λ _. free (no-get globals-cell) (λ _. if a-callback))) (omega arith)))
 
   of-first : {n : ℕ} (e frame : ℕ) → Asks≤ {i = i} n (firstInFrame e frame)
   of-first e frame = free (no-get (ep-cell _ _)) (λ _. free (no-put (ep-cell _ _)) (λ _. end))

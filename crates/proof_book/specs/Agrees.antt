@@ -14,7 +14,10 @@ use Rattle.state.specs.Wakes.{none-woken, listed, all-woken}
 use Rattle.state.specs.Driver.{Driver, epOn}
 use Rattle.ring.specs.Slot.{countOf}
 use Rattle.model.specs.Cells.{EpCore}
-use Rattle.model.specs.Script.{Test, changed, waiting, room, opened, Look, marked, next-len, next-stamp, setup-word, Fetch, oldest, received, received0, gathered, Act, complete, reset-ring, set-enabled, fill, fill0, open-oldest, close-oldest, take-oldest, enqueue, allocate, allocate0, no-wakes, waken, DmaStep, arrive, send, place, place0}
+use Rattle.model.specs.Script.{Test, changed, waiting, room, opened, Look, marked, next-len, next-stamp, setup-word}
+use Rattle.model.specs.Script.{Fetch, oldest, received, received0, gathered, Act, complete, reset-ring, set-enabled}
+use Rattle.model.specs.Script.{fill, fill0, open-oldest, close-oldest, take-oldest, enqueue, allocate, allocate0}
+use Rattle.model.specs.Script.{no-wakes, waken, DmaStep, arrive, send, place, place0}
 use Rattle.model.specs.Statics.{isOn, flag}
 use Rattle.model.specs.Answers.{isNumber}
 use Rattle.model.specs.Simulates.{Phase}
@@ -29,7 +32,9 @@ use Rattle.proof_book.specs.Held.{IsAgrees, LookAgrees, FetchAgrees, Act
 use Rattle.proof_book.specs.Cells.{gets, puts, wakes-kept, unfed, good-bare}
 use Rattle.proof_book.specs.AllocationsLaws.{allocates, starts, enables-kept}
 use Rattle.proof_book.specs.Chips.{chip}
-use Rattle.proof_book.specs.OutsLaws.{is-changed, is-waiting-out, is-opened, look-marked, look-next-out, look-next-stamp, fetch-oldest, fetch-received, act-open, act-close, act-take, act-reset-out}
+use Rattle.proof_book.specs.OutsLaws.{is-changed, is-waiting-out, is-opened, look-marked, look-next-out}
+use Rattle.proof_book.specs.OutsLaws.{look-next-stamp, fetch-oldest, fetch-received, act-open, act-close}
+use Rattle.proof_book.specs.OutsLaws.{act-take, act-reset-out}
 use Rattle.proof_book.specs.Arrives.{hand-arrive, hand-place-out}
 use Rattle.proof_book.specs.Ins.{is-waiting-in, look-next-in, is-room, act-complete, act-reset-in, act-enqueue, hand-place-in, hand-send}
 use Rattle.proof_book.specs.Bytes.{act-fill, act-fill0, look-setup-word, fetch-received0, hand-place0}
@@ -40,7 +45,8 @@ use Rattle.proof_book.specs.Rows.{rows-first, rows-next, rows-finish}
 pub answers : (q : Question) (φ : Phase) (b : Buf) (d : Driver) (t : Pages) → Coupling φ b d t → questionOf q d ≡ questionB q t
 unfolding pendingOn overrunsOn overrunsOf enabledAsked
 answers (pending e) φ b d t r = ap (λ (n : ℕ). cond (isNumber e) n 0) (held-length (r .ins e .held))
-answers (overruns e) φ b d t r = ap (λ (n : ℕ). cond (isNumber e) n 0) (lost (isOn (epOn d Out e .iso)) (isOn (t .kept .plain Out e .iso)) (ap (λ (p : EpCore). isOn (p .iso)) (r .same .plain Out e)))
+answers (overruns e) φ b d t r = ap (λ (n : ℕ). cond (isNumber e) n 0)
+    (lost (isOn (epOn d Out e .iso)) (isOn (t .kept .plain Out e .iso)) (ap (λ (p : EpCore). isOn (p .iso)) (r .same .plain Out e)))
   where
     lost : (x y : Bool) → x ≡ y → cond x (epOn d Out e .overruns) 0 ≡ cond y (t .outs e .lost % 2 ^ 32) 0
     lost x y h = rw (h, r .outs e .lost) refl

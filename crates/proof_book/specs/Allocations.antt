@@ -51,7 +51,9 @@ use Rattle.proof_book.specs.Given.{Further, zero-addr}
 
 -- ---- start-up
 
-new-rows : (s z : Bool) (c : Config) (b : Buf) → fits (length b) (c .size) (c .count) ≡ s → goodBuffer (c .size) (c .count) ≡ z → _≡_ {A = ℕ} (cond (not s) 1 (cond z 0 2)) 0 → (length b ≡ c .count * c .size) × (goodBuffer (c .size) (c .count) ≡ true)
+new-rows : (s z : Bool) (c : Config) (b : Buf) → fits (length b) (c .size) (c .count) ≡ s
+    → goodBuffer (c .size) (c .count) ≡ z → _≡_ {A = ℕ} (cond (not s) 1 (cond z 0 2)) 0
+    → (length b ≡ c .count * c .size) × (goodBuffer (c .size) (c .count) ≡ true)
 unfolding fits
 new-rows true true c b p q h = (eqb-true (length b) (c .count * c .size) p, q)
 new-rows true false c b p q h = absurd (let z : _≡_ {A = ℕ} 2 0 = h in omega arith)
@@ -144,7 +146,13 @@ module _ (c : Config) (b : Buf) (row : startRow c b ≡ 0) where
   unfolding freshDriver
   fresh-kept = record {
     step = tt;
-    sized = record { eps = length-replicate 32 newEp; lens = length-replicate {A = ℕ} 512 0; stamps = length-replicate {A = ℕ} 256 0; paced = length-replicate {A = ℕ} 16 0x1800; requests = length-replicate 32 noRequest };
+    sized = record {
+      eps = length-replicate 32 newEp;
+      lens = length-replicate {A = ℕ} 512 0;
+      stamps = length-replicate {A = ℕ} 256 0;
+      paced = length-replicate {A = ℕ} 16 0x1800;
+      requests = length-replicate 32 noRequest;
+    };
     sound = sound-new;
     good = size-good (c .size) (c .count) (rows .1);
     long = rows .0;

@@ -45,20 +45,27 @@ same-further : (a : Allocator) → Sound a → Further a a
 same-further a s = record { size = refl; count = refl; next = omega arith; sound = s; allocated = λ dir j. refl }
 
 -- every answer of the allocator
-answered : {b : Buf} {d : Driver} {t : Pages} → Coupling quiet b d t → (dir : Dir) (kind address maximum interval : ℕ) (z : Allocation) → Sound (z .after) → Outcome (d .allocator) kind address maximum dir z
-    → Coupling quiet b (givenTo dir kind maximum interval (z .answer) (withAllocator d (z .after))) (givenB dir kind maximum interval (z .answer) (withKept t (keptAllocator (t .kept) (z .after))))
+answered : {b : Buf} {d : Driver} {t : Pages}
+    → Coupling quiet b d t → (dir : Dir) (kind address maximum interval : ℕ) (z : Allocation)
+    → Sound (z .after) → Outcome (d .allocator) kind address maximum dir z
+    → Coupling quiet b (givenTo dir kind maximum interval (z .answer) (withAllocator d (z .after)))
+    (givenB dir kind maximum interval (z .answer) (withKept t (keptAllocator (t .kept) (z .after))))
 unfolding givenTo
 answered {d = d} r dir kind address maximum interval z s (six l) = further r (d .allocator) (same-further (d .allocator) s)
 answered {d = d} r dir kind address maximum interval z s (seven m q) = further r (d .allocator) (same-further (d .allocator) s)
 answered {d = d} r dir kind address maximum interval z s (eight e m q l) = further r (d .allocator) (same-further (d .allocator) s)
 answered {d = d} r dir kind address maximum interval z s (given e base n a m q g) = gives r dir kind maximum interval e base n a m g s
 
-pub allocates : {b : Buf} {d : Driver} {t : Pages} → Coupling quiet b d t → (dir : Dir) (kind address maximum interval : ℕ) → Coupling quiet b (allocatedOn d dir kind address maximum interval) (allocateB dir kind address maximum interval t)
+pub allocates : {b : Buf} {d : Driver} {t : Pages} → Coupling quiet b d t → (dir : Dir) (kind address maximum interval : ℕ)
+    → Coupling quiet b (allocatedOn d dir kind address maximum interval) (allocateB dir kind address maximum interval t)
 unfolding allocatedOn
 allocates {b = b} {d = d} {t = t} r dir kind address maximum interval =
-    subst (λ (z : Allocation). Coupling quiet b (allocatedOn d dir kind address maximum interval) (givenB dir kind maximum interval (z .answer) (withKept t (keptAllocator (t .kept) (z .after)))))
+    subst
+    (λ (z : Allocation). Coupling quiet b (allocatedOn d dir kind address maximum interval)
+    (givenB dir kind maximum interval (z .answer) (withKept t (keptAllocator (t .kept) (z .after)))))
     (ap (λ (a : Allocator). allocateOf a kind address maximum dir) (r .same .allocator))
-    (answered r dir kind address maximum interval (allocateOf (d .allocator) kind address maximum dir) (sound-call (d .allocator) (endpoint kind address maximum dir) (r .sound)) (outcome (d .allocator) kind address maximum dir))
+    (answered r dir kind address maximum interval (allocateOf (d .allocator) kind address maximum dir)
+    (sound-call (d .allocator) (endpoint kind address maximum dir) (r .sound)) (outcome (d .allocator) kind address maximum dir))
 
 -- every buffer that was given lies below the next
 ends-below : {b : Buf} {d : Driver} {t : Pages} → Coupling quiet b d t → (dir : Dir) (e : ℕ) → endOf (epOn d dir e) ≤ d .allocator .next * d .allocator .size
@@ -74,7 +81,8 @@ room-up : (x z : ℕ) → x * z + z ≡ (x + 1) * z
 room-up x z = omega (arith, add-mul x 1 z)
 
 started : {b : Buf} {d : Driver} {t : Pages} → Coupling quiet b d t → (maximum : ℕ) (z : Allocation) → Sound (z .after) → Step (d .allocator) (ep0 maximum) z
-    → Coupling quiet b (startedWith maximum (z .answer) (withAllocator d (z .after))) (startedB maximum (z .answer) (withKept t (keptAllocator (t .kept) (z .after))))
+    → Coupling quiet b (startedWith maximum (z .answer) (withAllocator d (z .after)))
+    (startedB maximum (z .answer) (withKept t (keptAllocator (t .kept) (z .after))))
 unfolding startedWith withNext epOn lenOn stampOn pacedOn requestOn allocatedIn
 started {d = d} r maximum z s (kept c n w k) = further r (d .allocator) (same-further (d .allocator) s)
 started {b = b} {d = d} {t = t} r maximum z s (gave-ep0 m x small l) =
@@ -175,7 +183,8 @@ unfolding isoOut
 iso-same r Out e = ap (λ (p : EpCore). isOn (p .iso)) (r .same .plain Out e)
 iso-same r In e = refl
 
-pub enables-kept : {b : Buf} {d : Driver} {t : Pages} → Coupling quiet b d t → (dir : Dir) (e : ℕ) (on : Bool) → Coupling quiet b (enabledOn d dir e on) (enableB t dir e on)
+pub enables-kept : {b : Buf} {d : Driver} {t : Pages} → Coupling quiet b d t
+    → (dir : Dir) (e : ℕ) (on : Bool) → Coupling quiet b (enabledOn d dir e on) (enableB t dir e on)
 unfolding enabledOn
 enables-kept {b = b} {d = d} {t = t} r dir e on = by (isoOut d dir e) refl (iso-same r dir e)
   where

@@ -37,7 +37,8 @@ module _ {C S : Type 0} (D : Instance C S) {P : S → Type 0} (K : Invariant D P
   gets : (c : Cell) (b : Buf) {s t : S} → Both P s t → D .ops .get c (s, b) ≡ D .ops .get c (t, b)
   gets c b (both p) = refl
 
-  puts : (c : Cell) (v : Val c) (b : Buf) {s t : S} → Both P s t → (D .ops .put c v (s, b) .1 ≡ D .ops .put c v (t, b) .1) × Both P (D .ops .put c v (s, b) .0) (D .ops .put c v (t, b) .0)
+  puts : (c : Cell) (v : Val c) (b : Buf) {s t : S} → Both P s t → (D .ops .put c v (s, b) .1 ≡ D .ops .put c v (t, b) .1)
+      × Both P (D .ops .put c v (s, b) .0) (D .ops .put c v (t, b) .0)
   puts c v b {s = s} (both p) = (refl, both (K .put c v (s, b) p))
 
   tests : (q : Test) (b : Buf) {s t : S} → Both P s t → D .ops .is q (s, b) ≡ D .ops .is q (t, b)
@@ -49,14 +50,16 @@ module _ {C S : Type 0} (D : Instance C S) {P : S → Type 0} (K : Invariant D P
   fetches : (q : Fetch) (b : Buf) {s t : S} → Both P s t → D .ops .fetch q (s, b) ≡ D .ops .fetch q (t, b)
   fetches q b (both p) = refl
 
-  acts : (q : Act) (b : Buf) {s t : S} → Both P s t → (D .ops .act q (s, b) .1 ≡ D .ops .act q (t, b) .1) × Both P (D .ops .act q (s, b) .0) (D .ops .act q (t, b) .0)
+  acts : (q : Act) (b : Buf) {s t : S} → Both P s t
+      → (D .ops .act q (s, b) .1 ≡ D .ops .act q (t, b) .1) × Both P (D .ops .act q (s, b) .0) (D .ops .act q (t, b) .0)
   acts q b {s = s} (both p) = (refl, both (K .act q (s, b) p))
 
   hands : (q : DmaStep) (b : Buf) {s t : S} → Both P s t → Both P (D .ops .hand q (s, b) .1 .0) (D .ops .hand q (t, b) .1 .0)
   hands q b {s = s} (both p) = both (K .hand q (s, b) p)
 
   row-steps : (g : Burst) (n : ℕ) (b : Buf) {s t : S} → Both P s t
-      → (blank (burstAsk g n (D .ops .row g n (s, b) .0)) ≡ blank (burstAsk g n (D .ops .row g n (t, b) .0))) × Both P (D .ops .row g n (s, b) .1 .0) (D .ops .row g n (t, b) .1 .0) × Unit {0}
+      → (blank (burstAsk g n (D .ops .row g n (s, b) .0)) ≡ blank (burstAsk g n (D .ops .row g n (t, b) .0)))
+      × Both P (D .ops .row g n (s, b) .1 .0) (D .ops .row g n (t, b) .1 .0) × Unit {0}
   row-steps g n b {s = s} (both p) = (refl, both (K .row g n (s, b) p), tt)
 
   abbrev agree-itself : Agree D itself
@@ -92,7 +95,8 @@ module _ {C S : Type 0} (D : Instance C S) {P : S → Type 0} (K : Invariant D P
     lent (go v) m n b = any (misfit L D (m .st) b)
     lent (question q) m n b = tt
 
-    always : (es : List (Event C Op)) {φ : Phase} (m n : Machine A S) → Ways D itself agree-itself L φ (m .way) (n .way) → Both P (m .st) (n .st) → P (after L D es m .st)
+    always : (es : List (Event C Op)) {φ : Phase} (m n : Machine A S)
+        → Ways D itself agree-itself L φ (m .way) (n .way) → Both P (m .st) (n .st) → P (after L D es m .st)
     always [] m n w r = holds r
     always (e ∷ es) m n w r =
         let x = call L D (λ s. s) (e .call) m (e .lent) in
@@ -101,7 +105,8 @@ module _ {C S : Type 0} (D : Instance C S) {P : S → Type 0} (K : Invariant D P
         always es (x .1) (y .1) (a .ways) (a .rest)
 
     -- every list of calls that follows an accepted start-up, from whatever was before
-    pub from-accepted : (c : C) (b : Buf) → L .refuses c b ≡ zero → (es : List (Event C Op)) (m : Machine A S) → P (after L D (record { call = start c; lent = b } ∷ es) m .st)
+    pub from-accepted : (c : C) (b : Buf) → L .refuses c b ≡ zero
+        → (es : List (Event C Op)) (m : Machine A S) → P (after L D (record { call = start c; lent = b } ∷ es) m .st)
     from-accepted c b h es m =
         let x = started L D (λ s. s) c zero m b in
         let y = started L D (fed itself (x .0)) c zero m b in

@@ -38,7 +38,8 @@ use Rattle.proof_book.specs.Coupling.{Short, lensOf, slotStamps, OutFits
 use Rattle.proof_book.specs.Lens.{lens-set, lens-on, ep-len, stamps-length, stamps-set, stamps-on, stamps-len, ep-stamp, lens-stamp}
 use Rattle.proof_book.specs.Stamps.{stamped}
 use Rattle.proof_book.specs.StampsLaws.{alike-stamps, arrive-stamps}
-use Rattle.proof_book.specs.Frame.{Changed, changed-not, changed-on, changed-len, changed-stamp, changed-trans, kept-same, end-kept, out-changed, out-moved, out-same, out-twice, only-bytes}
+use Rattle.proof_book.specs.Frame.{Changed, changed-not, changed-on, changed-len, changed-stamp, changed-trans}
+use Rattle.proof_book.specs.Frame.{kept-same, end-kept, out-changed, out-moved, out-same, out-twice, only-bytes}
 use Rattle.proof_book.specs.Held.{HandAgrees, receives, receives-used, receives-slots, good-words}
 use Rattle.proof_book.specs.Lies.{received-lies}
 use Rattle.proof_book.specs.Outs.{Inner}
@@ -47,7 +48,8 @@ use Rattle.proof_book.specs.OutsLaws.{out-on, out-page}
 -- ---- the record
 
 -- an arrival changes the head, or the count of those turned away
-module _ {A : Type 0} (f : EpState → A) (r : EpState) (h : (s : EpState) (n : ℕ) → f (withHead s n) ≡ f s) (o : (s : EpState) (n : ℕ) → f (withOverruns s n) ≡ f s) where
+module _ {A : Type 0} (f : EpState → A) (r : EpState)
+    (h : (s : EpState) (n : ℕ) → f (withHead s n) ≡ f s) (o : (s : EpState) (n : ℕ) → f (withOverruns s n) ≡ f s) where
   arrived-by : (u : Bool) → f (cond u (joinedOf r) (overrunOf r)) ≡ f r
   unfolding joinedOf overrunOf
   arrived-by true = h r _
@@ -72,7 +74,14 @@ arrived-inner r = record { place = arrived-place r; plain = arrived-plain r }
 -- ---- the page
 
 module _ (p : OutPage) (q : Packet) where
-  page-keeps : {A : Type 0} (f : OutPage → A) → ((w a : List Packet) (n : ℕ) → f (record { waiting = w; opened = p .opened; lost = n; slot = p .slot; admitted = a; read = p .read }) ≡ f p) → f (arrived p q) ≡ f p
+  page-keeps : {A : Type 0} (f : OutPage → A) → ((w a : List Packet) (n : ℕ) → f (record {
+    waiting = w;
+    opened = p .opened;
+    lost = n;
+    slot = p .slot;
+    admitted = a;
+    read = p .read;
+  }) ≡ f p) → f (arrived p q) ≡ f p
   page-keeps f h = go (ltb (length (p .waiting)) 15)
     where
       go : (u : Bool) → f (cond u (joined p q) (overrun p)) ≡ f p
@@ -80,7 +89,8 @@ module _ (p : OutPage) (q : Packet) where
       go false = h _ _ _
 
   -- of each packet its bytes, or its stamp
-  page-joined : {A : Type 0} (f : Packet → A) → map f (arrived p q .waiting) ≡ cond (ltb (length (p .waiting)) 15) (map f (p .waiting) ++ (f q ∷ [])) (map f (p .waiting))
+  page-joined : {A : Type 0} (f : Packet → A) → map f (arrived p q .waiting)
+      ≡ cond (ltb (length (p .waiting)) 15) (map f (p .waiting) ++ (f q ∷ [])) (map f (p .waiting))
   page-joined f = go (ltb (length (p .waiting)) 15)
     where
       go : (u : Bool) → map f (cond u (joined p q) (overrun p) .waiting)
@@ -108,11 +118,13 @@ module _ (p : OutPage) (q : Packet) where
 
   page-waiting : bytesOf (arrived p q .waiting) ≡ join 15 (bytesOf (p .waiting)) (q .bytes)
   page-waiting = page-joined (λ (z : Packet). z .bytes)
-      ∙ ap (λ (n : ℕ). cond (ltb n 15) (bytesOf (p .waiting) ++ (q .bytes ∷ [])) (bytesOf (p .waiting))) (sym (length-map (p .waiting) (λ (z : Packet). z .bytes)))
+      ∙ ap (λ (n : ℕ). cond (ltb n 15) (bytesOf (p .waiting) ++ (q .bytes ∷ [])) (bytesOf (p .waiting)))
+      (sym (length-map (p .waiting) (λ (z : Packet). z .bytes)))
 
 -- ---- an arrival, before its receive address is handed out
 
-module _ {b : Buf} {r : EpState} {ls ss : List ℕ} {p : OutPage} (f : OutFits b r ls ss p) (sixteen : r .slots ≡ 16) (full : length ss ≡ 16) (len : ℕ) (small : len ≤ r .stride) where
+module _ {b : Buf} {r : EpState} {ls ss : List ℕ} {p : OutPage} (f : OutFits b r ls ss p)
+    (sixteen : r .slots ≡ 16) (full : length ss ≡ 16) (len : ℕ) (small : len ≤ r .stride) where
   room-same : hasRoomOut r ≡ ltb (length (p .waiting)) 15
   room-same = room-out (f .held .placed) (f .held .ring) b
       ∙ ap (λ w. ltb (length w) (r .slots - 1)) (f .held .waits) ∙ ap (λ (n : ℕ). ltb n (r .slots - 1)) (length-map (p .waiting) (λ (z : Packet). z .bytes))
@@ -164,7 +176,8 @@ module _ {b : Buf} {r : EpState} {ls ss : List ℕ} {p : OutPage} (f : OutFits b
           from = omega (arith, s, k .base, f .from);
           upto = omega (arith, s, k .stride, end-kept k, f .upto);
           ledger = page-ledger p q (f .ledger);
-          short = subst (λ (n : ℕ). Short n (arrived p q .waiting)) (sym m) (page-short p q (r .«max_len») (f .short) (omega (arith, most, ap length shown, window-length b (slotAddr r (r .head)) len)));
+          short = subst (λ (n : ℕ). Short n (arrived p q .waiting)) (sym m)
+              (page-short p q (r .«max_len») (f .short) (omega (arith, most, ap length shown, window-length b (slotAddr r (r .head)) len)));
         }
 
 -- ---- the head's slot armed
@@ -203,7 +216,8 @@ armed-head r x = refl
 
 -- after the record, the lengths and the stamps of OUT e changed
 arm-rest : {b b′ : Buf} {d : Driver} {t : Pages} → Coupling quiet b d t → (e : ℕ) (d1 : Driver) (p : OutPage) → Changed Out e d d1
-    → plainOf (epOn d1 Out e) ≡ plainOf (epOn d Out e) → OutFits b (epOn d1 Out e) (lensOf d1 Out e) (slotStamps d1 e) p → receives d e ≡ true → length b′ ≡ length b
+    → plainOf (epOn d1 Out e) ≡ plainOf (epOn d Out e)
+    → OutFits b (epOn d1 Out e) (lensOf d1 Out e) (slotStamps d1 e) p → receives d e ≡ true → length b′ ≡ length b
     → Only (slotAddr (epOn d1 Out e) (epOn d1 Out e .head)) (slotAddr (epOn d1 Out e) (epOn d1 Out e .head) + epOn d1 Out e .stride) b b′
     → Coupling quiet b′ (withOn d1 Out e (armedAt (epOn d1 Out e) (slotAddr (epOn d1 Out e) (epOn d1 Out e .head))))
     (withOut t e (slotTold p (slotAddr (epOn d1 Out e) (epOn d1 Out e .head))))
@@ -215,7 +229,8 @@ arm-rest {b} {b′} {d} {t} R e d1 p c same f u long o =
     let c2 = changed-trans (R .sized) Out e c (changed-on s Out e (armedAt r a) (k .place) (ap (λ (q : EpCore). q .iso) (armed-plain r a))) in
     let z : epOn (withOn d1 Out e (armedAt r a)) Out e ≡ armedAt r a = epOn-same d1 Out e (armedAt r a) s in
     out-changed R e (slotTold p a) c2 (kept-same c2 (ap plainOf z ∙ armed-plain r a ∙ same) (R .same)) long
-    (only-wider _ _ _ _ b b′ (omega (arith, c .place .base)) (omega (arith, end-kept (c .place))) (slot-region (f .held .placed) (f .held .ring) (r .head) b b′ o))
+    (only-wider _ _ _ _ b b′ (omega (arith, c .place .base))
+    (omega (arith, end-kept (c .place))) (slot-region (f .held .placed) (f .held .ring) (r .head) b b′ o))
     (out-moved z (lens-on d1 Out e (armedAt r a) Out e) (stamps-on d1 Out e (armedAt r a) e) (armed-fits f long o)) tt (λ x v n y. y)
     (record {
       armed = λ h. subst (λ y. Armed y (slotTold p a)) (sym z) (ap (slotAddr r) (sym (armed-head r a)) ∙ sym (place-addr (k .place) (armedAt r a .head)));
@@ -259,7 +274,8 @@ module _ (d : Driver) (s : Sized d) (e len : ℕ) where
     unfolding recordedOn arrivedLens
     recorded-lens = recorded-lens-by (hasRoomOut (epOn d Out e))
 
-    recorded-stamps-by : (u : Bool) → slotStamps (cond u (writtenOn d e head-slot len) d) e ≡ cond u (set (slotStamps d e) head-slot (d .globals .entered)) (slotStamps d e)
+    recorded-stamps-by : (u : Bool) → slotStamps (cond u (writtenOn d e head-slot len) d) e
+        ≡ cond u (set (slotStamps d e) head-slot (d .globals .entered)) (slotStamps d e)
     recorded-stamps-by true = stamps-set lengthened e (lengthened-changed .sized) head-slot (d .globals .entered) i
         ∙ ap (λ (l : List ℕ). set l head-slot (d .globals .entered)) (stamps-len d Out e head-slot len e)
     recorded-stamps-by false = refl
@@ -306,7 +322,8 @@ module _ {b : Buf} {d : Driver} {t : Pages} (R : Coupling quiet b d t) (e : ℕ)
 
   -- the address told is the one that was
   same-told : Coupling quiet b d (withOut t e (slotTold (t .outs e) (epOn d Out e .«armed_slot»)))
-  same-told = subst (λ (x : ℕ). Coupling quiet b d (withOut t e (slotTold (t .outs e) x))) (sym (R .outs e .slot)) (out-page R e (t .outs e) (R .outs e) (R .arming e))
+  same-told = subst (λ (x : ℕ). Coupling quiet b d (withOut t e (slotTold (t .outs e) x)))
+      (sym (R .outs e .slot)) (out-page R e (t .outs e) (R .outs e) (R .arming e))
 
   module _ (n : ℕ) (u : receives d e ≡ true) where
     capped-small : cappedAt (epOn d Out e) n ≤ epOn d Out e .stride
@@ -318,7 +335,8 @@ module _ {b : Buf} {d : Driver} {t : Pages} (R : Coupling quiet b d t) (e : ℕ)
         ∙ ap (λ (x : ℕ). bytesAt b x (cappedAt (epOn d Out e) n)) (sym (R .arming e .armed u))
         ∙ ap (λ (x : ℕ). bytesAt b (t .outs e .slot) x) (capped-is (epOn d Out e) n ∙ ap (λ (x : ℕ). min n x) max-same)
 
-    pub admitted-fits : OutFits b (epOn (admits d e n) Out e) (lensOf (admits d e n) Out e) (slotStamps (admits d e n) e) (arrived (t .outs e) (packetB e n (t, b)))
+    pub admitted-fits : OutFits b (epOn (admits d e n) Out e)
+        (lensOf (admits d e n) Out e) (slotStamps (admits d e n) e) (arrived (t .outs e) (packetB e n (t, b)))
     admitted-fits =
         let f = R .outs e in
         let len = cappedAt (epOn d Out e) n in
@@ -346,7 +364,8 @@ module _ {b : Buf} {d : Driver} {t : Pages} (R : Coupling quiet b d t) (e : ℕ)
         let r = epOn d1 Out e in
         let o = arrived-words in
         subst (Coupling quiet (arrivedAt e len (d, b) .1 .1) (arrivedAt e len (d, b) .1 .0)) (sym (told t e (slotAddr r (r .head)) _))
-        (arm-rest R e d1 _ (admitted-changed d (R .sized) e len) (ap plainOf (admitted-ep d (R .sized) e len) ∙ arrived-plain (epOn d Out e)) admitted-fits u (o .long) (only-bytes o))
+        (arm-rest R e d1 _ (admitted-changed d (R .sized) e len)
+        (ap plainOf (admitted-ep d (R .sized) e len) ∙ arrived-plain (epOn d Out e)) admitted-fits u (o .long) (only-bytes o))
 
   arrive-by : (n : ℕ) (v : Bool) → receives d e ≡ v → let x = cond v (arrivedAt e (cappedAt (epOn d Out e) n) (d, b)) (epOn d Out e .«armed_slot», (d, b)) in
       Coupling quiet (x .1 .1) (x .1 .0) (feedB (Receive e (x .0))
@@ -362,7 +381,8 @@ unfolding arriveOn
 hand-arrive e n b d t R =
     let x = cond (receives d e) (arrivedAt e (cappedAt (epOn d Out e) n) (d, b)) (epOn d Out e .«armed_slot», (d, b)) in
     let p = arrived (t .outs e) (packetB e n (t, b)) in
-    let z = subst (λ v. Coupling quiet (x .1 .1) (x .1 .0) (feedB (Receive e (x .0)) (cond v (withOut t e p) t))) (receiving-same R e) (arrive-by R e n (receives d e) refl) in
+    let z = subst (λ v. Coupling quiet (x .1 .1) (x .1 .0) (feedB (Receive e (x .0)) (cond v (withOut t e p) t)))
+    (receiving-same R e) (arrive-by R e n (receives d e) refl) in
     (z, received-lies (cond (receiving t e) (withOut t e p) t) e (x .0) z)
 
 -- ---- an endpoint's buffer handed out
@@ -396,7 +416,8 @@ module _ {b : Buf} {d : Driver} {t : Pages} (R : Coupling quiet b d t) (e : ℕ)
   place-by true h = same-told R e
   place-by false h =
       let r = epOn d Out e in
-      out-on R e (armedAt r (r .base)) (slotTold (t .outs e) (r .base)) (record { place = armed-alike r (r .base) .place; plain = armed-plain r (r .base) }) (placed-fits (R .outs e))
+      out-on R e (armedAt r (r .base)) (slotTold (t .outs e) (r .base))
+      (record { place = armed-alike r (r .base) .place; plain = armed-plain r (r .base) }) (placed-fits (R .outs e))
       (record { armed = λ z. absurd (true≢false (sym z ∙ h)); none = λ z. alike-count (armed-alike r (r .base)) ∙ R .arming e .none h })
 
 pub hand-place-out : (e : ℕ) → HandAgrees (script.place Out e)

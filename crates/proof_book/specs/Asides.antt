@@ -109,7 +109,9 @@ module _ (t : Pages) (e : ℕ) where
     pub leaves : (r : ℕ) → z ≡ Refused r → t′ ≡ t
     pub none : z ≡ Refused 12 → t .outs e .waiting ≡ []
     pub shows : (stamp : ℕ) (bytes : List ℕ) → z ≡ Shown bytes stamp
-        → (q : Packet) × (rest : List Packet) × (t .outs e .waiting ≡ q ∷ rest) × (bytes ≡ q .bytes) × (stamp ≡ q .stamp) × (t′ .outs e .opened ≡ true) × (t′ .outs e .waiting ≡ t .outs e .waiting) × (t′ .outs e .admitted ≡ t .outs e .admitted) × (t′ .outs e .read ≡ t .outs e .read)
+        → (q : Packet) × (rest : List Packet) × (t .outs e .waiting ≡ q ∷ rest) × (bytes ≡ q .bytes)
+        × (stamp ≡ q .stamp) × (t′ .outs e .opened ≡ true) × (t′ .outs e .waiting ≡ t .outs e .waiting)
+        × (t′ .outs e .admitted ≡ t .outs e .admitted) × (t′ .outs e .read ≡ t .outs e .read)
 
   not-opened : (k : ℕ) → (k ≡ 12 → ⊥) → Opened (Refused k) t
   not-opened k h = record { leaves = λ r q. refl; none = λ q. absurd (h (ap row q)); shows = λ stamp bytes q. absurd (true≢false (ap isRefused q)) }
@@ -128,7 +130,8 @@ module _ (t : Pages) (e : ℕ) where
       q,
       w,
       h,
-      sym (ap shown z) ∙ ap (λ (p : OutPage). first (bytesOf (p .waiting))) (out-same t e (openOut (t .outs e))) ∙ ap (λ (w : List Packet). first (bytesOf w)) h,
+      sym (ap shown z) ∙ ap (λ (p : OutPage). first (bytesOf (p .waiting))) (out-same t e (openOut (t .outs e)))
+          ∙ ap (λ (w : List Packet). first (bytesOf w)) h,
       sym (ap stampShown z) ∙ ap (λ (p : OutPage). firstStamp (p .waiting)) (out-same t e (openOut (t .outs e))) ∙ ap firstStamp h,
       ap (λ (p : OutPage). p .opened) (out-same t e (openOut (t .outs e))),
       ap (λ (p : OutPage). p .waiting) (out-same t e (openOut (t .outs e))),
@@ -155,7 +158,8 @@ module _ (t : Pages) (e : ℕ) where
 
 pub opened-by : (a : Ans Answer) (e : ℕ) (n : Machine Answer Pages) (b : Buf) (z : Answer) → written a (begin (aside (Open e))) n b .0 ≡ ended z
     → Opened (n .st) e z (written a (begin (aside (Open e))) n b .1 .st)
-opened-by a e n b = says (Opened (n .st) e) a (Open e) n b (not-opened (n .st) e 1 (λ z. omega (arith, z))) (not-opened (n .st) e 3 (λ z. omega (arith, z))) (open-ends (n .st) e b)
+opened-by a e n b = says (Opened (n .st) e) a (Open e) n b (not-opened (n .st) e 1 (λ z. omega (arith, z)))
+    (not-opened (n .st) e 3 (λ z. omega (arith, z))) (open-ends (n .st) e b)
 
 -- ---- close
 
@@ -198,9 +202,11 @@ module _ (t : Pages) (e : ℕ) (some-open : t .outs e .opened ≡ true → (q : 
       (λ _. not-closed 5 (λ z. omega (arith, z))))
       (λ _. not-closed 4 (λ z. omega (arith, z)))
 
-pub closed-by : (a : Ans Answer) (e : ℕ) (n : Machine Answer Pages) (b : Buf) (o : n .st .outs e .opened ≡ true → (q : Packet) × (w : List Packet) × (n .st .outs e .waiting ≡ q ∷ w)) (z : Answer)
+pub closed-by : (a : Ans Answer) (e : ℕ) (n : Machine Answer Pages) (b : Buf)
+    (o : n .st .outs e .opened ≡ true → (q : Packet) × (w : List Packet) × (n .st .outs e .waiting ≡ q ∷ w)) (z : Answer)
     → written a (begin (aside (Close e))) n b .0 ≡ ended z → Closed (n .st) e o z (written a (begin (aside (Close e))) n b .1 .st)
-closed-by a e n b o = says (Closed (n .st) e o) a (Close e) n b (not-closed (n .st) e o 1 (λ z. omega (arith, z))) (not-closed (n .st) e o 3 (λ z. omega (arith, z))) (close-ends (n .st) e o b)
+closed-by a e n b o = says (Closed (n .st) e o) a (Close e) n b (not-closed (n .st) e o 1 (λ z. omega (arith, z)))
+    (not-closed (n .st) e o 3 (λ z. omega (arith, z))) (close-ends (n .st) e o b)
 
 -- ---- queue
 
@@ -208,7 +214,8 @@ module _ (t : Pages) (e : ℕ) (bytes : List ℕ) (most : length (t .ins e .wait
   pub record Queued (z : Answer) (t′ : Pages) : Type 0 where
     pub leaves : (r : ℕ) → z ≡ Refused r → t′ ≡ t
     pub full : z ≡ Refused 13 → length (t .ins e .waiting) ≡ 2
-    pub joins : z ≡ ok → (length (t .ins e .waiting) < 2) × (t′ .ins e .waiting ≡ t .ins e .waiting ++ (bytes ∷ [])) × (t′ .ins e .queued ≡ t .ins e .queued ++ (bytes ∷ []))
+    pub joins : z ≡ ok → (length (t .ins e .waiting) < 2) × (t′ .ins e .waiting ≡ t .ins e .waiting ++ (bytes ∷ []))
+        × (t′ .ins e .queued ≡ t .ins e .queued ++ (bytes ∷ []))
 
   not-queued : (k : ℕ) → (k ≡ 13 → ⊥) → Queued (Refused k) t
   not-queued k h = record { leaves = λ r q. refl; full = λ q. absurd (h (ap row q)); joins = λ q. absurd (true≢false (ap isRefused q)) }
@@ -229,23 +236,30 @@ module _ (t : Pages) (e : ℕ) (bytes : List ℕ) (most : length (t .ins e .wait
   not-false false h = absurd (true≢false h)
 
   joined : (u : Bool) → roomB t e (length bytes) ≡ u → u ≡ true → (b : Buf)
-      → Queued ok (cond {A = Bk} u (withIn t e (queuedIn (t .ins e) bytes), copied b (t .kept .plain In e .base + t .ins e .turn * t .kept .allocator .size) bytes) (t, b) .0)
+      → Queued ok (cond {A = Bk} u (
+        withIn t e (queuedIn (t .ins e) bytes),
+        copied b (t .kept .plain In e .base + t .ins e .turn * t .kept .allocator .size) bytes,
+      ) (t, b) .0)
   joined true h k b = record {
     leaves = λ r z. absurd (true≢false (sym (ap isRefused z)));
     full = λ z. absurd (true≢false (sym (ap isRefused z)));
     joins = λ _. (
-      ltb-true (length (t .ins e .waiting)) 2 (left (isoOf t In e) (ltb (length (t .ins e .waiting)) 2) (not (ltb (t .kept .allocator .size) (length bytes))) h),
+      ltb-true (length (t .ins e .waiting)) 2
+          (left (isoOf t In e) (ltb (length (t .ins e .waiting)) 2) (not (ltb (t .kept .allocator .size) (length bytes))) h),
       ap (λ (p : InPage). p .waiting) (in-same t e (queuedIn (t .ins e) bytes)),
       ap (λ (p : InPage). p .queued) (in-same t e (queuedIn (t .ins e) bytes)),
     );
   }
   joined false h k b = absurd (true≢false (sym k))
 
-  row-13 : ltb (t .kept .allocator .size) (length bytes) ≡ false → not (isOn (t .kept .plain In e .iso)) ≡ false → roomB t e (length bytes) ≡ false → Queued (Refused 13) t
+  row-13 : ltb (t .kept .allocator .size) (length bytes) ≡ false
+      → not (isOn (t .kept .plain In e .iso)) ≡ false → roomB t e (length bytes) ≡ false → Queued (Refused 13) t
   row-13 short iso h = record {
     leaves = λ r z. refl;
     full = λ _.
-        let f = ltb-false (length (t .ins e .waiting)) 2 (room-by (isoOf t In e) (ltb (length (t .ins e .waiting)) 2) (ltb (t .kept .allocator .size) (length bytes)) (not-false (isoOf t In e) iso) short h) in
+        let f = ltb-false (length (t .ins e .waiting)) 2
+        (room-by (isoOf t In e) (ltb (length (t .ins e .waiting)) 2)
+        (ltb (t .kept .allocator .size) (length bytes)) (not-false (isoOf t In e) iso) short h) in
         omega (arith, f, most);
     joins = λ q. absurd (true≢false (ap isRefused q));
   }
@@ -268,4 +282,6 @@ module _ (t : Pages) (e : ℕ) (bytes : List ℕ) (most : length (t .ins e .wait
 
 pub queued-by : (a : Ans Answer) (e : ℕ) (bytes : List ℕ) (n : Machine Answer Pages) (b : Buf) (m : length (n .st .ins e .waiting) ≤ 2) (z : Answer)
     → written a (begin (aside (Queue e bytes))) n b .0 ≡ ended z → Queued (n .st) e bytes m z (written a (begin (aside (Queue e bytes))) n b .1 .st)
-queued-by a e bytes n b m = says (Queued (n .st) e bytes m) a (Queue e bytes) n b (not-queued (n .st) e bytes m 1 (λ z. omega (arith, z))) (not-queued (n .st) e bytes m 3 (λ z. omega (arith, z))) (queue-ends (n .st) e bytes m b)
+queued-by a e bytes n b m =
+    says (Queued (n .st) e bytes m) a (Queue e bytes) n b (not-queued (n .st) e bytes m 1 (λ z. omega (arith, z)))
+    (not-queued (n .st) e bytes m 3 (λ z. omega (arith, z))) (queue-ends (n .st) e bytes m b)

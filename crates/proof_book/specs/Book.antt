@@ -24,7 +24,11 @@ use Rattle.marks.specs.Marks.{isMarked, markedLen}
 use Rattle.marks.specs.Copies.{copied, bytesAt}
 use Rattle.frame.specs.Advance.{NO_FRAME}
 use Rattle.model.specs.Cells.{EpCore, Cell, Val, globals-cell, control-cell, allocator-cell, ep-cell, request-cell, paced-cell}
-use Rattle.model.specs.Script.{Ops, Test, changed, waiting, room, opened, Look, marked, next-len, next-stamp, setup-word, Fetch, oldest, received, received0, gathered, Act, complete, reset-ring, set-enabled, fill, fill0, open-oldest, close-oldest, take-oldest, enqueue, allocate, allocate0, no-wakes, waken, DmaStep, arrive, send, place, place0, Burst, switch, bus-reset}
+use Rattle.model.specs.Script.{Ops, Test, changed, waiting, room, opened, Look, marked, next-len, next-stamp}
+use Rattle.model.specs.Script.{setup-word, Fetch, oldest, received, received0, gathered, Act, complete, reset-ring}
+use Rattle.model.specs.Script.{set-enabled, fill, fill0, open-oldest, close-oldest, take-oldest, enqueue, allocate}
+use Rattle.model.specs.Script.{allocate0, no-wakes, waken, DmaStep, arrive, send, place, place0, Burst, switch}
+use Rattle.model.specs.Script.{bus-reset}
 use Rattle.model.specs.Statics.{isOn, flag, isoOuts, renewed, withSetup}
 use Rattle.model.specs.Answers.{isNumber}
 use Rattle.model.specs.Calls.{Config}
@@ -32,7 +36,9 @@ use Rattle.model.specs.Machine as machine
 use Rattle.model.specs.Machine.{Buf, Question, pending, overruns, enabled}
 use Rattle.model_ops.specs.Records.{plainOf, mergedGlobals, withSets, withEp0}
 use Rattle.model_ops.specs.Rings.{wordAt}
-use Rattle.proof_book.specs.Pages.{Packet, bytesOf, OutPage, InPage, Kept, Pages, at, on, withKept, withOut, withIn, keptGlobals, keptWakes, keptControl, keptAllocator, keptPaced, keptRequest, keptPlain}
+use Rattle.proof_book.specs.Pages.{Packet, bytesOf, OutPage, InPage, Kept, Pages, at, on, withKept, withOut}
+use Rattle.proof_book.specs.Pages.{withIn, keptGlobals, keptWakes, keptControl, keptAllocator, keptPaced}
+use Rattle.proof_book.specs.Pages.{keptRequest, keptPlain}
 
 -- the book with the lent bytes
 abbrev pub Bk : Type 0
@@ -99,19 +105,59 @@ emptyIn = record { waiting = []; sending = false; load = false; turn = 0; queued
 
 -- "Load: what the Rust's tail passes waits no more"
 abbrev pub passedIn : InPage → InPage
-passedIn p = record { waiting = cond (p .sending) (tail (p .waiting)) (p .waiting); sending = false; load = false; turn = p .turn; queued = p .queued; sent = p .sent; passed = p .passed ++ cond (p .sending) (front (p .waiting)) []; source = 0; shown = [] }
+passedIn p = record {
+  waiting = cond (p .sending) (tail (p .waiting)) (p .waiting);
+  sending = false;
+  load = false;
+  turn = p .turn;
+  queued = p .queued;
+  sent = p .sent;
+  passed = p .passed ++ cond (p .sending) (front (p .waiting)) [];
+  source = 0;
+  shown = [];
+}
 
 -- the first is being sent: it reaches the chip, unless it was being sent already; b: the lent bytes as they stand then
 abbrev pub sentIn : InPage → Buf → InPage
-sentIn p b = record { waiting = p .waiting; sending = true; load = true; turn = p .turn; queued = p .queued; sent = p .sent ++ cond (p .sending) [] (front (p .waiting)); passed = p .passed; source = p .source; shown = cond (p .sending) (p .shown) b }
+sentIn p b = record {
+  waiting = p .waiting;
+  sending = true;
+  load = true;
+  turn = p .turn;
+  queued = p .queued;
+  sent = p .sent ++ cond (p .sending) [] (front (p .waiting));
+  passed = p .passed;
+  source = p .source;
+  shown = cond (p .sending) (p .shown) b;
+}
 
 -- a load's transmit address is that of the one being sent
 abbrev pub sourceTold : InPage → ℕ → InPage
-sourceTold p x = record { waiting = p .waiting; sending = p .sending; load = p .load; turn = p .turn; queued = p .queued; sent = p .sent; passed = p .passed; source = cond (p .load) x (p .source); shown = p .shown }
+sourceTold p x = record {
+  waiting = p .waiting;
+  sending = p .sending;
+  load = p .load;
+  turn = p .turn;
+  queued = p .queued;
+  sent = p .sent;
+  passed = p .passed;
+  source = cond (p .load) x (p .source);
+  shown = p .shown;
+}
 
 -- an address that sends nothing
 abbrev pub placedIn : InPage → InPage
-placedIn p = record { waiting = p .waiting; sending = p .sending; load = false; turn = p .turn; queued = p .queued; sent = p .sent; passed = p .passed; source = p .source; shown = p .shown }
+placedIn p = record {
+  waiting = p .waiting;
+  sending = p .sending;
+  load = false;
+  turn = p .turn;
+  queued = p .queued;
+  sent = p .sent;
+  passed = p .passed;
+  source = p .source;
+  shown = p .shown;
+}
 
 abbrev pub loadedIn : InPage → Buf → InPage
 loadedIn p b = cond (some (p .waiting)) (sentIn p b) (placedIn p)
@@ -134,11 +180,31 @@ queuedIn p bytes = record {
 
 -- of an endpoint's record `ready`, `len`, `armed`, `last_frame` and `tog` are assigned
 abbrev pub mergedPlain : EpCore → EpCore → EpCore
-mergedPlain p v = record { ready = v .ready; len = v .len; armed = v .armed; «last_frame» = v .«last_frame»; tog = v .tog; iso = p .iso; kind = p .kind; base = p .base; «max_len» = p .«max_len» }
+mergedPlain p v = record {
+  ready = v .ready;
+  len = v .len;
+  armed = v .armed;
+  «last_frame» = v .«last_frame»;
+  tog = v .tog;
+  iso = p .iso;
+  kind = p .kind;
+  base = p .base;
+  «max_len» = p .«max_len»;
+}
 
 -- an endpoint's record after its allocation
 abbrev pub shapedPlain : EpCore → ℕ → ℕ → ℕ → EpCore
-shapedPlain p kind maximum base = record { ready = 0; len = p .len; armed = 0; «last_frame» = 0x1800; tog = 0; iso = flag (isIso kind); kind = kind % 4; base = base; «max_len» = maximum }
+shapedPlain p kind maximum base = record {
+  ready = 0;
+  len = p .len;
+  armed = 0;
+  «last_frame» = 0x1800;
+  tog = 0;
+  iso = flag (isIso kind);
+  kind = kind % 4;
+  base = base;
+  «max_len» = maximum;
+}
 
 abbrev pub isoOf : Pages → Dir → ℕ → Bool
 isoOf t d e = isOn (t .kept .plain d e .iso)
@@ -304,7 +370,11 @@ switchB e onn (suc zero) t =
     let v = cond (isoOf t Out e) (enables.withOn (t .kept .globals .«ep_type») Out e onn) (t .kept .globals .«ep_type») in
     (v, globalsBy t (withEpType v))
 switchB e onn (suc (suc zero)) t = (0, t)
-switchB e onn (suc (suc (suc k))) t = (0, cond (isoOf t Out e && eqb k 15) (withOut (withKept t (keptPlain (t .kept) Out e (renewed (t .kept .plain Out e)))) e (emptyOut (t .outs e))) t)
+switchB e onn (suc (suc (suc k))) t = (
+  0,
+  cond (isoOf t Out e && eqb k 15)
+      (withOut (withKept t (keptPlain (t .kept) Out e (renewed (t .kept .plain Out e)))) e (emptyOut (t .outs e))) t,
+)
 
 -- a bus reset: none wait on any endpoint, from the release of the flag on
 abbrev pub allReset : Pages → Pages

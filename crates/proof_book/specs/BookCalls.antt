@@ -16,7 +16,9 @@ use Rattle.model.specs.Tree.{ends, asks}
 use Rattle.model.specs.Script.{run}
 use Rattle.model.specs.Answers.{Answer, Refused}
 use Rattle.model.specs.Calls.{Config, Op, interrupt, slotted, other, aside, calls, code, starting, startRow}
-use Rattle.model.specs.Machine.{Buf, Call, start, begin, go, question, Ans, ended, handed, told, blank, blankA, Way, idle, busy, Machine, over, misfit, stay, lentTo, beside, halt, begun, continued, started, call, fed}
+use Rattle.model.specs.Machine.{Buf, Call, start, begin, go, question, Ans, ended, handed, told, blank, blankA, Way}
+use Rattle.model.specs.Machine.{idle, busy, Machine, over, misfit, stay, lentTo, beside, halt, begun, continued}
+use Rattle.model.specs.Machine.{started, call, fed}
 use Rattle.proof_book.specs.Pages.{Packet, OutPage, InPage, Pages, withOut}
 use Rattle.proof_book.specs.Book.{Bk, receiving, slotTold, sourceTold, arrived, joined, overrun, feedB, freshPages, bookOps, book}
 use Rattle.proof_book.specs.Frame.{at-elim, out-same, in-same}
@@ -54,10 +56,12 @@ feed-periodic (Wait n) t i = i
 feed-periodic Callback t i = i
 
 -- but for its slot the page stays
-feed-page : {A : Type 0} (f : OutPage → A) → ((p : OutPage) (a : ℕ) → f (slotTold p a) ≡ f p) → (q : Access) (t : Pages) → Periodic t → (x : ℕ) → f (feedB q t .outs x) ≡ f (t .outs x)
+feed-page : {A : Type 0} (f : OutPage → A) → ((p : OutPage) (a : ℕ) → f (slotTold p a) ≡ f p)
+    → (q : Access) (t : Pages) → Periodic t → (x : ℕ) → f (feedB q t .outs x) ≡ f (t .outs x)
 feed-page f g (Read r e) t i x = refl
 feed-page f g (Write r e v) t i x = refl
-feed-page f g (Receive e a) t i x = at-elim (λ (p : OutPage). f p ≡ f (t .outs x)) e x (slotTold (t .outs e) a) (t .outs) (λ h. g (t .outs e) a ∙ ap f (i e x (sym h))) (λ _. refl)
+feed-page f g (Receive e a) t i x = at-elim (λ (p : OutPage). f p ≡ f (t .outs x)) e x
+    (slotTold (t .outs e) a) (t .outs) (λ h. g (t .outs e) a ∙ ap f (i e x (sym h))) (λ _. refl)
 feed-page f g (Transmit e a) t i x = refl
 feed-page f g (Ep0Dma a) t i x = refl
 feed-page f g (Wait n) t i x = refl
@@ -68,7 +72,8 @@ fed-periodic (ended z) t i = i
 fed-periodic (handed q) t i = feed-periodic q t i
 fed-periodic (told n) t i = i
 
-pub fed-page : {A : Type 0} (f : OutPage → A) → ((p : OutPage) (a : ℕ) → f (slotTold p a) ≡ f p) → (a : Ans Answer) (t : Pages) → Periodic t → (x : ℕ) → f (fed book a t .outs x) ≡ f (t .outs x)
+pub fed-page : {A : Type 0} (f : OutPage → A) → ((p : OutPage) (a : ℕ) → f (slotTold p a) ≡ f p)
+    → (a : Ans Answer) (t : Pages) → Periodic t → (x : ℕ) → f (fed book a t .outs x) ≡ f (t .outs x)
 fed-page f g (ended z) t i x = refl
 fed-page f g (handed q) t i x = feed-page f g q t i x
 fed-page f g (told n) t i x = refl
@@ -77,7 +82,8 @@ fed-page f g (told n) t i x = refl
 
 pub data Steps (e : ℕ) (t : Pages) : Ans Answer → Pages → Type 0 where
   stays : {a : Ans Answer} {t′ : Pages} → t′ .outs e .lost ≡ t .outs e .lost → Steps e t a t′
-  turns : {a : Ans Answer} {t′ : Pages} (f : ℕ) → f % 16 ≡ e % 16 → a ≡ handed (Receive f 0) → 15 ≤ length (t′ .outs e .waiting) → t′ .outs e .lost ≡ t .outs e .lost + 1 → Steps e t a t′
+  turns : {a : Ans Answer} {t′ : Pages} (f : ℕ) → f % 16 ≡ e % 16 → a ≡ handed (Receive f 0)
+      → 15 ≤ length (t′ .outs e .waiting) → t′ .outs e .lost ≡ t .outs e .lost + 1 → Steps e t a t′
 
 -- ---- an outcome
 
@@ -99,7 +105,8 @@ module _ (a : Ans Answer) where
   halted-steps e i s (asks q t k) (ask j m g) = elim (m e) [
     | inl x ↦ stays (fed-page (λ p. p .lost) (λ p x. refl) a (t .0) j e ∙ x)
     | inr x ↦
-        let l : 15 ≤ length (fed book a (t .0) .outs e .waiting) = omega (arith, x .full, ap (λ (w : List Packet). length w) (fed-page (λ p. p .waiting) (λ p x. refl) a (t .0) j e)) in
+        let l : 15 ≤ length (fed book a (t .0) .outs e .waiting) =
+        omega (arith, x .full, ap (λ (w : List Packet). length w) (fed-page (λ p. p .waiting) (λ p x. refl) a (t .0) j e)) in
         turns (x .number) (x .same) (ap handed (x .access)) l
         (fed-page (λ p. p .lost) (λ p x. refl) a (t .0) j e ∙ x .more)
   ]
@@ -117,7 +124,8 @@ module _ (a : Ans Answer) where
   beside-fine h (ends z t) (end j q) = record { pages = j; way = h .way }
   beside-fine h (asks q t k) (ask j m g) = h
 
-  beside-steps : (e : ℕ) (n : Machine Answer Pages) {s : Bk} → s .0 ≡ n .st → (o : tree.Out Bk Answer) → Followed s o → Steps e (n .st) (beside calls (book .driver) n o .0) (beside calls (book .driver) n o .1 .st)
+  beside-steps : (e : ℕ) (n : Machine Answer Pages) {s : Bk} → s .0 ≡ n .st → (o : tree.Out Bk Answer)
+      → Followed s o → Steps e (n .st) (beside calls (book .driver) n o .0) (beside calls (book .driver) n o .1 .st)
   beside-steps e n h (ends z t) (end j q) = stays (q e ∙ ap (λ (t : Pages). t .outs e .lost) h)
   beside-steps e n h (asks q t k) (ask j m g) = stays refl
 
@@ -127,12 +135,14 @@ module _ (a : Ans Answer) where
   either-fine true x y p q = p
   either-fine false x y p q = q
 
-  either-steps : (e : ℕ) (t : Pages) (u : Bool) (x y : Ans Answer × Machine Answer Pages) → Steps e t (x .0) (x .1 .st) → Steps e t (y .0) (y .1 .st) → Steps e t (cond u x y .0) (cond u x y .1 .st)
+  either-steps : (e : ℕ) (t : Pages) (u : Bool) (x y : Ans Answer × Machine Answer Pages)
+      → Steps e t (x .0) (x .1 .st) → Steps e t (y .0) (y .1 .st) → Steps e t (cond u x y .0) (cond u x y .1 .st)
   either-steps e t true x y p q = p
   either-steps e t false x y p q = q
 
   begun-fine : (o : Op) (n : Machine Answer Pages) → Fine n → (w : Way Answer Pages) (b : Buf) → Fine (begun calls (book .driver) (fed book a) o n w b .1)
-  begun-fine o n h idle b = halted-fine (calls .irq o) (n .st, b) (n .st, b) (run bookOps (calls .code o) (n .st, b)) (follow (calls .code o) (n .st, b) (h .pages)) (watched o (n .st, b)) (call-tells o (n .st, b))
+  begun-fine o n h idle b = halted-fine (calls .irq o) (n .st, b) (n .st, b) (run bookOps (calls .code o) (n .st, b))
+      (follow (calls .code o) (n .st, b) (h .pages)) (watched o (n .st, b)) (call-tells o (n .st, b))
   begun-fine o n h (busy i q k) b = either-fine (cond i (calls .aside o) false) _ _
       (beside-fine (lent-fine b h) (run bookOps (calls .code o) (n .st, b)) (follow (calls .code o) (n .st, b) (h .pages))) (lent-fine b h)
 
@@ -140,9 +150,11 @@ module _ (a : Ans Answer) where
       → let y = begun calls (book .driver) (fed book a) o n w b in Steps e (n .st) (y .0) (y .1 .st)
   begun-steps e o n h idle b = halted-steps e (calls .irq o) (n .st, b) (run bookOps (calls .code o) (n .st, b)) (follow (calls .code o) (n .st, b) (h .pages))
   begun-steps e o n h (busy i q k) b = either-steps e (n .st) (cond i (calls .aside o) false) _ _
-      (beside-steps e (lentTo calls (book .driver) n b) refl (run bookOps (calls .code o) (n .st, b)) (follow (calls .code o) (n .st, b) (h .pages))) (stays refl)
+      (beside-steps e (lentTo calls (book .driver) n b) refl
+      (run bookOps (calls .code o) (n .st, b)) (follow (calls .code o) (n .st, b) (h .pages))) (stays refl)
 
-  continued-fine : (v : ℕ) (n : Machine Answer Pages) → Fine n → (w : Way Answer Pages) → WayFine w → (b : Buf) → Fine (continued calls (book .driver) (fed book a) v n w b .1)
+  continued-fine : (v : ℕ) (n : Machine Answer Pages) → Fine n
+      → (w : Way Answer Pages) → WayFine w → (b : Buf) → Fine (continued calls (book .driver) (fed book a) v n w b .1)
   continued-fine v n h idle g b = lent-fine b h
   continued-fine v n h (busy i q k) g b = either-fine (over calls q v) _ _ (lent-fine b h)
       (halted-fine i (n .st, b) (n .st, b) (k v (n .st, b)) (g v (n .st, b) (h .pages) .0) (g v (n .st, b) (h .pages) .1) (g v (n .st, b) (h .pages) .2))
@@ -157,7 +169,8 @@ module _ (a : Ans Answer) where
   fresh-periodic c x y h = refl
 
   pub start-fine : (c : Config) (n : Machine Answer Pages) (b : Buf) → Fine (started calls (book .driver) (fed book a) c zero n b .1)
-  start-fine c n b = halted-fine false (freshPages c, b) (freshPages c, b) (run bookOps (starting c) (freshPages c, b)) (follow (starting c) (freshPages c, b) (fresh-periodic c)) (clears (of-starting c) (freshPages c, b))
+  start-fine c n b = halted-fine false (freshPages c, b) (freshPages c, b) (run bookOps (starting c) (freshPages c, b))
+      (follow (starting c) (freshPages c, b) (fresh-periodic c)) (clears (of-starting c) (freshPages c, b))
       (start-tells c (freshPages c, b) (freshPages c, b))
 
   started-fine : (c : Config) (r : ℕ) (n : Machine Answer Pages) (b : Buf) → Fine n → Fine (started calls (book .driver) (fed book a) c r n b .1)
@@ -251,7 +264,8 @@ same-receive a y f x h k =
     let z = received-by a r in
     (z .0, z .1 ∙ ap (λ (f : ℕ). handed (Receive f (z .0))) m)
 
-counted-by : (c : Call Config Op) (b : Buf) (a y : Ans Answer) (e : ℕ) (t t′ : Pages) → blankA a ≡ blankA y → length (t′ .outs e .waiting) ≤ 15 → Steps e t y t′ → Counted c b a e (t .outs e) (t′ .outs e)
+counted-by : (c : Call Config Op) (b : Buf) (a y : Ans Answer) (e : ℕ) (t t′ : Pages) → blankA a ≡ blankA y
+    → length (t′ .outs e .waiting) ≤ 15 → Steps e t y t′ → Counted c b a e (t .outs e) (t′ .outs e)
 counted-by c b a y e t t′ h l (stays k) = same k
 counted-by c b a y e t t′ h l (turns f m k full more) =
     let z = same-receive a y f 0 h k in
@@ -259,11 +273,13 @@ counted-by c b a y e t t′ h l (turns f m k full more) =
     one-more f (z .0) m (z .1) n more
 
 module _ (a : Ans Answer) (e : ℕ) (n : Machine Answer Pages) (h : Fine n) (b : Buf) where
-  counted-start : (c : Config) (r : ℕ) → startRow c b ≡ r → Counted (start c) b a e (n .st .outs e) (started calls (book .driver) (fed book a) c r n b .1 .st .outs e)
+  counted-start : (c : Config) (r : ℕ) → startRow c b ≡ r
+      → Counted (start c) b a e (n .st .outs e) (started calls (book .driver) (fed book a) c r n b .1 .st .outs e)
   counted-start c zero k = none c refl k (start-lost a c n b e)
   counted-start c (suc r) k = same refl
 
-  pub counted : (c : Call Config Op) → let y = written a c n b in blankA a ≡ blankA (y .0) → length (y .1 .st .outs e .waiting) ≤ 15 → Counted c b a e (n .st .outs e) (y .1 .st .outs e)
+  pub counted : (c : Call Config Op) → let y = written a c n b in blankA a ≡ blankA (y .0)
+      → length (y .1 .st .outs e .waiting) ≤ 15 → Counted c b a e (n .st .outs e) (y .1 .st .outs e)
   counted (start c) s l = counted-start c (startRow c b) refl
   counted (begin o) s l = counted-by (begin o) b a _ e (n .st) _ s l
       (either-steps a e (n .st) (cond (calls .slots o) (misfit calls (book .driver) (n .st) b) false) _ _ (stays refl) (begun-steps a e o n h (n .way) b))
@@ -291,7 +307,8 @@ decided-by b p p′ q n l h = by (ltb (length (p .waiting)) 15) refl
         let full : length (p .waiting) ≡ 15 = omega (arith, l, ltb-false (length (p .waiting)) 15 m) in
         turned-away full w x y z
 
-module _ (a : Ans Answer) (e x v : ℕ) (n : Machine Answer Pages) (h : Fine n) (b : Buf) (l : length (n .st .outs e .waiting) ≤ 15) (on : receiving (n .st) e ≡ true) where
+module _ (a : Ans Answer) (e x v : ℕ) (n : Machine Answer Pages)
+    (h : Fine n) (b : Buf) (l : length (n .st .outs e .waiting) ≤ 15) (on : receiving (n .st) e ≡ true) where
   abbrev Says : Ans Answer × Machine Answer Pages → Type 0
   Says y = y .0 ≡ handed (Receive e x) → Decided b (n .st .outs e) (y .1 .st .outs e)
 
@@ -322,13 +339,16 @@ module _ (a : Ans Answer) (e x v : ℕ) (n : Machine Answer Pages) (h : Fine n) 
   way-by (busy true q f) g i k = wide-by (over calls q v) _ (outcome (f v (n .st, b)) (g v (n .st, b) (h .pages) .0) (g v (n .st, b) (h .pages) .1)) k
   way-by (busy false q f) g i k = absurd (true≢false (sym i))
 
-  fits-by : (u : Bool) → inInterrupt (n .way) ≡ true → Says (cond u (stay calls (book .driver) 1 n) (continued calls (book .driver) (fed book a) v n (n .way) b))
+  fits-by : (u : Bool) → inInterrupt (n .way) ≡ true
+      → Says (cond u (stay calls (book .driver) 1 n) (continued calls (book .driver) (fed book a) v n (n .way) b))
   fits-by true i k = no-end (Refused 1) k
   fits-by false i k = way-by (n .way) (h .way) i k
 
 pub decided : (c : Call Config Op) (a : Ans Answer) (e : ℕ) (n : Machine Answer Pages) → Fine n → (b : Buf) → let y = written a c n b in
     blankA a ≡ blankA (y .0) → length (n .st .outs e .waiting) ≤ 15 → Decides c n a e → Decided b (n .st .outs e) (y .1 .st .outs e)
-decided c a e n h b s l d = subst (λ (c : Call Config Op). blankA a ≡ blankA (written a c n b .0) → Decided b (n .st .outs e) (written a c n b .1 .st .outs e)) (sym (d .continues))
+decided c a e n h b s l d = subst
+    (λ (c : Call Config Op). blankA a ≡ blankA (written a c n b .0)
+    → Decided b (n .st .outs e) (written a c n b .1 .st .outs e)) (sym (d .continues))
     (λ s. let z = same-receive (written a (go (d .brought)) n b .0) a e (d .address) (sym s) (d .hands) in
     fits-by a e (z .0) (d .brought) n h b l (d .enabled) (misfit calls (book .driver) (n .st) b) (d .interrupt) (z .1)) s
 
@@ -363,7 +383,8 @@ module _ (a : Ans Answer) (e v : ℕ) (n : Machine Answer Pages) (h : Fine n) (b
   stays-way (busy true q f) g i k = stays-wide (over calls q v) _ (stays-at (f v (n .st, b)) (g v (n .st, b) (h .pages) .1)) k
   stays-way (busy false q f) g i k = absurd (true≢false (sym i))
 
-  stays-fits : (u : Bool) → inInterrupt (n .way) ≡ true → Stays (cond u (stay calls (book .driver) 1 n) (continued calls (book .driver) (fed book a) v n (n .way) b))
+  stays-fits : (u : Bool) → inInterrupt (n .way) ≡ true
+      → Stays (cond u (stay calls (book .driver) 1 n) (continued calls (book .driver) (fed book a) v n (n .way) b))
   stays-fits true i k = refl
   stays-fits false i k = stays-way (n .way) (h .way) i k
 
@@ -420,17 +441,21 @@ module _ (e x v : ℕ) (n : Machine Answer Pages) (h : Fine n) (b : Buf) where
   sends-wide true y s k = absurd (true≢false (sym k))
   sends-wide false y s k = s k
 
-  sends-way : (w : Way Answer Pages) → WayFine w → inInterrupt w ≡ true → Sends (continued calls (book .driver) (fed {A = Answer} book (handed (Transmit e x))) v n w b)
+  sends-way : (w : Way Answer Pages) → WayFine w → inInterrupt w ≡ true
+      → Sends (continued calls (book .driver) (fed {A = Answer} book (handed (Transmit e x))) v n w b)
   sends-way idle g i k = absurd (true≢false (sym i))
   sends-way (busy true q f) g i k = sends-wide (over calls q v) _ (sends-at (f v (n .st, b)) (g v (n .st, b) (h .pages) .1)) k
   sends-way (busy false q f) g i k = absurd (true≢false (sym i))
 
-  sends-fits : (u : Bool) → inInterrupt (n .way) ≡ true → Sends (cond u (stay calls (book .driver) 1 n) (continued calls (book .driver) (fed {A = Answer} book (handed (Transmit e x))) v n (n .way) b))
+  sends-fits : (u : Bool) → inInterrupt (n .way) ≡ true → Sends
+      (cond u (stay calls (book .driver) 1 n) (continued calls (book .driver) (fed {A = Answer} book (handed (Transmit e x))) v n (n .way) b))
   sends-fits true i k = absurd (true≢false (sym k))
   sends-fits false i k = sends-way (n .way) (h .way) i k
 
 pub load-sends : (c : Call Config Op) (a : Ans Answer) (e x v : ℕ) (n : Machine Answer Pages) → Fine n → (b : Buf) → blankA a ≡ blankA (written a c n b .0)
     → c ≡ go v → inInterrupt (n .way) ≡ true → a ≡ handed (Transmit e x) → Loaded x (written a c n b .1 .st .ins e)
-load-sends c a e x v n h b s p i g = subst (λ (z : Call Config Op × Ans Answer). let y = written (z .1) (z .0) n b in blankA (z .1) ≡ blankA (y .0) → Loaded x (y .1 .st .ins e)) (sym (ap₂ (λ (c : Call Config Op) (a : Ans Answer). (c, a)) p g))
+load-sends c a e x v n h b s p i g = subst
+    (λ (z : Call Config Op × Ans Answer). let y = written (z .1) (z .0) n b in blankA (z .1) ≡ blankA (y .0)
+    → Loaded x (y .1 .st .ins e)) (sym (ap₂ (λ (c : Call Config Op) (a : Ans Answer). (c, a)) p g))
     (λ s. sends-fits e x v n h b (misfit calls (book .driver) (n .st) b) i
     (sym (sending-blank (written (handed (Transmit e x)) (go v) n b .0) e) ∙ ap (λ (z : Ans Answer). sending z e) (sym s) ∙ eq-eqb (e % 16) (e % 16) refl)) s

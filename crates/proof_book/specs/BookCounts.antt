@@ -17,9 +17,15 @@ use Rattle.alloc.specs.declared.Answer.the-variants as alloc
 use Rattle.alloc.specs.Alloc.{allocateOf, allocateEp0Of}
 use Rattle.model.specs.Tree as tree
 use Rattle.model.specs.Cells.{Cell, Val, globals-cell, control-cell, allocator-cell, ep-cell, request-cell, paced-cell}
-use Rattle.model.specs.Script.{Script, run, rows, ret, bind, test, read-then, write-then, wait-then, callback-then, get-then, put-then, is-then, look-then, fetch-then, act-then, hand-then, row-then, Act, complete, reset-ring, set-enabled, fill, fill0, open-oldest, close-oldest, take-oldest, enqueue, allocate, allocate0, no-wakes, waken, DmaStep, dmaStepAsk, arrive, send, place, place0, Burst, switch, bus-reset, lastOf, burstAsk}
+use Rattle.model.specs.Script.{Script, run, rows, ret, bind, test, read-then, write-then, wait-then, callback-then}
+use Rattle.model.specs.Script.{get-then, put-then, is-then, look-then, fetch-then, act-then, hand-then, row-then, Act}
+use Rattle.model.specs.Script.{complete, reset-ring, set-enabled, fill, fill0, open-oldest, close-oldest, take-oldest}
+use Rattle.model.specs.Script.{enqueue, allocate, allocate0, no-wakes, waken, DmaStep, dmaStepAsk, arrive, send, place}
+use Rattle.model.specs.Script.{place0, Burst, switch, bus-reset, lastOf, burstAsk}
 use Rattle.proof_book.specs.Pages.{Packet, OutPage, Pages, withOut}
-use Rattle.proof_book.specs.Book.{Bk, putB, actB, handB, rowB, some, waitsOn, roomB, isoOf, isoOut, receiving, emptyOut, openOut, readOut, slotTold, arrived, joined, overrun, packetB, givenB, startedB, switchB, busResetB, feedB, bookOps}
+use Rattle.proof_book.specs.Book.{Bk, putB, actB, handB, rowB, some, waitsOn, roomB, isoOf, isoOut, receiving}
+use Rattle.proof_book.specs.Book.{emptyOut, openOut, readOut, slotTold, arrived, joined, overrun, packetB, givenB}
+use Rattle.proof_book.specs.Book.{startedB, switchB, busResetB, feedB, bookOps}
 use Rattle.proof_book.specs.Frame.{at-elim}
 use Rattle.proof_book.specs.BookTracks.{Tracks, end, ask, earlier, tracks-bind}
 
@@ -108,7 +114,8 @@ acts (close-oldest e) s i = either (s .0 .outs e .opened) (with-page (s .0) e (r
 acts (take-oldest e) s i = either (some (waitsOn (s .0) Out e)) (with-page (s .0) e (readOut (s .0 .outs e)) refl i) (stays i)
 acts (enqueue e bytes) s i = either-of (roomB (s .0) e (length bytes)) _ s (record { periodic = i; lost = λ e. refl }) (stays i)
 acts (allocate d kind address maximum interval) s i =
-    let k = given d kind maximum interval (allocateOf (s .0 .kept .allocator) kind address maximum d .answer) _ i in record { periodic = k .periodic; lost = k .lost }
+    let k = given d kind maximum interval (allocateOf (s .0 .kept .allocator) kind address maximum d .answer) _ i in
+    record { periodic = k .periodic; lost = k .lost }
 acts (allocate0 maximum) s i =
     let k = started maximum (allocateEp0Of (s .0 .kept .allocator) maximum .answer) _ i in record { periodic = k .periodic; lost = k .lost }
 acts no-wakes s i = record { periodic = i; lost = λ e. refl }
@@ -136,13 +143,15 @@ hands (arrive e n) s i = by (receiving (s .0) e)
     page = arrived (s .0 .outs e) (packetB e n s)
 
     counts : Counts s (Receive e 0) (withOut (s .0) e page, s .1)
-    counts x = elim (at-elim (λ (y : OutPage). ((y ≡ page) × (x % 16 ≡ e % 16)) ⊎ (y ≡ s .0 .outs x)) e x page (s .0 .outs) (λ h. inl (refl, h)) (λ _. inr refl)) [
-      | inl z ↦ elim (arrives-at (s .0) e (packetB e n s) x (z .1) (ltb (length (s .0 .outs e .waiting)) 15) refl i (s .1) (withOut (s .0) e page, s .1) (z .0)) [
-        | inl l ↦ inl (ap (λ (p : OutPage). p .lost) (z .0) ∙ l)
-        | inr l ↦ inr l
-      ]
-      | inr z ↦ inl (ap (λ (p : OutPage). p .lost) z)
-    ]
+    counts x = elim (at-elim (λ (y : OutPage). ((y ≡ page) × (x % 16 ≡ e % 16)) ⊎ (y ≡ s .0 .outs x)) e x page
+        (s .0 .outs) (λ h. inl (refl, h)) (λ _. inr refl)) [
+          | inl z ↦ elim (arrives-at (s .0) e (packetB e n s) x
+              (z .1) (ltb (length (s .0 .outs e .waiting)) 15) refl i (s .1) (withOut (s .0) e page, s .1) (z .0)) [
+                | inl l ↦ inl (ap (λ (p : OutPage). p .lost) (z .0) ∙ l)
+                | inr l ↦ inr l
+              ]
+          | inr z ↦ inl (ap (λ (p : OutPage). p .lost) z)
+        ]
 
     by : (u : Bool) → Periodic (cond u (withOut (s .0) e page) (s .0)) × Counts s (Receive e 0) (cond u (withOut (s .0) e page) (s .0), s .1)
     by true = (periodic-with (s .0) e page i, counts)
@@ -175,9 +184,11 @@ row-steps bus-reset n s i = resets n (s .0) i
 abbrev pub Followed : {A : Type 0} → Bk → tree.Out Bk A → Type 0
 Followed s o = Tracks Periodic Uncounted Counts s o
 
-follow-rows : {A : Type 0} (g : Burst) (n : ℕ) {k : Bk → tree.Out Bk A} → ((t : Bk) → Periodic (t .0) → Followed t (k t)) → (s : Bk) → Periodic (s .0) → Followed s (rows bookOps g n k s)
+follow-rows : {A : Type 0} (g : Burst) (n : ℕ) {k : Bk → tree.Out Bk A}
+    → ((t : Bk) → Periodic (t .0) → Followed t (k t)) → (s : Bk) → Periodic (s .0) → Followed s (rows bookOps g n k s)
 follow-rows g zero h s i = let m = row-steps g zero s i in ask (m .periodic) (quietly (burstAsk g zero (rowB g zero s .0)) m) (λ v t j. h t j)
-follow-rows g (suc n) h s i = let m = row-steps g (suc n) s i in ask (m .periodic) (quietly (burstAsk g (suc n) (rowB g (suc n) s .0)) m) (λ v t j. follow-rows g n h t j)
+follow-rows g (suc n) h s i = let m = row-steps g (suc n) s i in
+    ask (m .periodic) (quietly (burstAsk g (suc n) (rowB g (suc n) s .0)) m) (λ v t j. follow-rows g n h t j)
 
 pub follow : {i : Bool} {A : Type 0} (p : Script i A) (s : Bk) → Periodic (s .0) → Followed s (run bookOps p s)
 follow (ret a) s i = end i (λ e. refl)
@@ -189,7 +200,8 @@ follow (write-then r e v p) s i = ask i (λ x. inl refl) (λ _ t j. follow p t j
 follow (wait-then n p) s i = ask i (λ x. inl refl) (λ _ t j. follow p t j)
 follow (callback-then p) s i = ask i (λ x. inl refl) (λ _ t j. follow p t j)
 follow (get-then c k) s i = follow (k _) s i
-follow (put-then c v p) s i = let m = puts c v s i in earlier Periodic Uncounted Counts uncounted-then counts-then (m .lost) (follow p (putB c v s) (m .periodic))
+follow (put-then c v p) s i = let m = puts c v s i in
+    earlier Periodic Uncounted Counts uncounted-then counts-then (m .lost) (follow p (putB c v s) (m .periodic))
 follow (is-then q k) s i = follow (k _) s i
 follow (look-then q k) s i = follow (k _) s i
 follow (fetch-then q k) s i = follow (k _) s i

@@ -21,7 +21,9 @@ use Rattle.proof_book.specs.FrontPage.{givesTo}
 use borrow.Author.Tests.{eq-eqb}
 use lib.Dec.{eqb}
 use Rattle.proof_book.specs.BookTracks.{Tracks, end, ask, earlier, tracks-bind}
-use Rattle.proof_book.specs.InterruptParts.{Parts, p-ret, p-bind, p-test, p-read, p-write, p-wait, p-callback, p-get, p-put, p-is, p-look, p-fetch, p-complete, p-no-wakes, p-waken, p-arrive, p-send}
+use Rattle.proof_book.specs.InterruptParts.{Parts, p-ret, p-bind, p-test, p-read, p-write, p-wait, p-callback}
+use Rattle.proof_book.specs.InterruptParts.{p-get, p-put, p-is, p-look, p-fetch, p-complete, p-no-wakes, p-waken}
+use Rattle.proof_book.specs.InterruptParts.{p-arrive, p-send}
 
 abbrev pub Any : Pages → Type 0
 Any t = Unit {0}
@@ -109,7 +111,9 @@ puts (request-cell d e) v s = record { outs = λ e. refl; sets = refl; bytes = r
 puts (paced-cell e) v s = record { outs = λ e. refl; sets = refl; bytes = refl }
 
 arrives : (f n : ℕ) (s : Bk) → Arrives s (Receive f 0) (handB (arrive f n) s .1)
-arrives f n s e x a r = subst (λ (e : ℕ). receiving (s .0) e ≡ true → (m : ℕ) × (k : Packet) × (k .bytes ≡ bytesAt (s .1) (s .0 .outs e .slot) m) × (handB (arrive f n) s .1 .0 .outs e ≡ arrived (s .0 .outs e) k))
+arrives f n s e x a r = subst
+    (λ (e : ℕ). receiving (s .0) e ≡ true → (m : ℕ) × (k : Packet) × (k .bytes ≡ bytesAt (s .1) (s .0 .outs e .slot) m)
+    × (handB (arrive f n) s .1 .0 .outs e ≡ arrived (s .0 .outs e) k))
     (ap numberIn a) (λ r. (min n (s .0 .kept .plain Out f .«max_len»), packetB f n s, refl, by (receiving (s .0) f) r)) r
   where
     by : (u : Bool) → u ≡ true → cond u (withOut (s .0) f (arrived (s .0 .outs f) (packetB f n s))) (s .0) .outs f ≡ arrived (s .0 .outs f) (packetB f n s)
@@ -123,7 +127,8 @@ leaves f n s e g = by (receiving (s .0) f)
     page = arrived (s .0 .outs f) (packetB f n s)
 
     by : (u : Bool) → cond u (withOut (s .0) f page) (s .0) .outs e ≡ s .0 .outs e
-    by true = at-elim (λ (p : OutPage). p ≡ s .0 .outs e) f e page (s .0 .outs) (λ h. absurd (true≢false (sym (ap (λ (k : ℕ). eqb (f % 16) k) h ∙ eq-eqb (f % 16) (f % 16) refl) ∙ g))) (λ _. refl)
+    by true = at-elim (λ (p : OutPage). p ≡ s .0 .outs e) f e page (s .0 .outs)
+        (λ h. absurd (true≢false (sym (ap (λ (k : ℕ). eqb (f % 16) k) h ∙ eq-eqb (f % 16) (f % 16) refl) ∙ g))) (λ _. refl)
     by false = refl
 
 -- an access that is no address
@@ -138,7 +143,8 @@ sends f s e = at-page (eqb (e % 16) (f % 16))
     loaded [] h l = absurd (omega (arith, l, ap (λ (w : List (List ℕ)). length w) h))
     loaded (b ∷ w) h l = (refl, refl)
 
-    at-page : (u : Bool) → u ≡ true → let p = cond u (loadedIn (s .0 .ins f) (s .1)) (s .0 .ins e) in 0 < length (p .waiting) → (p .sending ≡ true) × (p .load ≡ true)
+    at-page : (u : Bool) → u ≡ true → let p = cond u (loadedIn (s .0 .ins f) (s .1)) (s .0 .ins e) in
+        0 < length (p .waiting) → (p .sending ≡ true) × (p .load ≡ true)
     at-page true h = loaded (s .0 .ins f .waiting) refl
     at-page false h = absurd (true≢false (sym h))
 
@@ -165,5 +171,6 @@ watch (p-fetch h) s = watch (h _) s
 watch (p-complete h) s = after (record { outs = λ e. refl; sets = refl; bytes = refl }) (watch h _)
 watch (p-no-wakes h) s = after (record { outs = λ e. refl; sets = refl; bytes = refl }) (watch h _)
 watch (p-waken h) s = after (record { outs = λ e. refl; sets = refl; bytes = refl }) (watch h _)
-watch (p-arrive {e = e} {n = n} h) s = ask tt (record { arrives = arrives e n s; leaves = leaves e n s; loads = λ e k. absurd (true≢false (sym k)) }) (λ v t _. watch h t)
+watch (p-arrive {e = e} {n = n} h) s =
+    ask tt (record { arrives = arrives e n s; leaves = leaves e n s; loads = λ e k. absurd (true≢false (sym k)) }) (λ v t _. watch h t)
 watch (p-send {e = e} h) s = ask tt (record { arrives = λ e x a r. no-receive refl a; leaves = λ e g. refl; loads = sends e s }) (λ v t _. watch h t)

@@ -19,6 +19,7 @@ module _ (I : Pages → Type 0) (Q : Bk → Bk → Type 0) (M : Bk → Access �
     earlier h (end i q) = end i (then _ _ _ h q)
     earlier h (ask i m k) = ask i (then-ask _ _ _ _ h m) k
 
-    pub tracks-bind : {A B : Type 0} {s : Bk} {o : tree.Out Bk A} {f : A → Bk → tree.Out Bk B} → Tracks s o → ((a : A) (t : Bk) → I (t .0) → Tracks t (f a t)) → Tracks s (bindOut o f)
+    pub tracks-bind : {A B : Type 0} {s : Bk} {o : tree.Out Bk A} {f : A → Bk → tree.Out Bk B}
+        → Tracks s o → ((a : A) (t : Bk) → I (t .0) → Tracks t (f a t)) → Tracks s (bindOut o f)
     tracks-bind (end i q) g = earlier q (g _ _ i)
     tracks-bind (ask i m k) g = ask i m (λ v u j. tracks-bind (k v u j) g)

@@ -62,12 +62,14 @@ module _ (a : Ans Answer) (v : ℕ) (n : Machine Answer Pages) (h : Fine n) (b :
   way-by (busy true q f) g i k = absurd (true≢false i)
   way-by (busy false q f) g i k = wide-by (over calls q v) _ (at-access (f v (n .st, b)) (g v (n .st, b) (h .pages) .0) (g v (n .st, b) (h .pages) .1)) k
 
-  fits-by : (u : Bool) → inInterrupt (n .way) ≡ false → Resets (cond u (stay calls (book .driver) 1 n) (continued calls (book .driver) (fed book a) v n (n .way) b))
+  fits-by : (u : Bool) → inInterrupt (n .way) ≡ false
+      → Resets (cond u (stay calls (book .driver) 1 n) (continued calls (book .driver) (fed book a) v n (n .way) b))
   fits-by true i k = absurd (true≢false (sym k))
   fits-by false i k = way-by (n .way) (h .way) i k
 
 pub bus-reset-empties : (c : Call Config Op) (a : Ans Answer) (v : ℕ) (n : Machine Answer Pages) → Fine n → (b : Buf) → blankA a ≡ blankA (written a c n b .0)
     → c ≡ go v → inInterrupt (n .way) ≡ false → a ≡ handed (Write IntFg 0 1) → (dir : Dir) (e : ℕ) → Emptied dir e (n .st) (written a c n b .1 .st)
-bus-reset-empties c a v n h b s p i g dir e = subst (λ (c : Call Config Op). blankA a ≡ blankA (written a c n b .0) → Emptied dir e (n .st) (written a c n b .1 .st)) (sym p)
+bus-reset-empties c a v n h b s p i g dir e =
+    subst (λ (c : Call Config Op). blankA a ≡ blankA (written a c n b .0) → Emptied dir e (n .st) (written a c n b .1 .st)) (sym p)
     (λ s. fits-by a v n h b dir e (misfit calls (book .driver) (n .st) b) i
     (sym (releasing-blank (written a (go v) n b .0)) ∙ ap releasing (sym s) ∙ releasing-blank a ∙ ap releasing g)) s

@@ -55,7 +55,8 @@ module _ {b : Buf} {d : Driver} {t : Pages} (R : Coupling quiet b d t) (e : ℕ)
   filled-by false true p q = R
   filled-by false false p q =
       let o = only-copied b (epOn d In e .base) bytes in
-      bytes-region R (o .long) (epOn d In e .base) (epOn d In e .base + length bytes) (only-bytes o) (fill-away p (ltb-false (epOn d In e .«max_len») (length bytes) q))
+      bytes-region R (o .long) (epOn d In e .base) (epOn d In e .base + length bytes)
+      (only-bytes o) (fill-away p (ltb-false (epOn d In e .«max_len») (length bytes) q))
 
 pub act-fill : (e : ℕ) (bytes : List ℕ) → ActAgrees (script.fill e bytes)
 unfolding filledOn

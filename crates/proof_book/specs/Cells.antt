@@ -34,7 +34,8 @@ use Rattle.model_ops.specs.Records.{plainOf, merged, mergedGlobals}
 use Rattle.model_ops.specs.Concrete.{concrete}
 use Rattle.proof_book.specs.Pages.{bytesOf, OutPage, InPage, Kept, Pages, at, on, withKept, keptWakes}
 use Rattle.proof_book.specs.Book.{bookOps, feedB, mergedPlain}
-use Rattle.proof_book.specs.Coupling.{Short, SameKept, Used, Unused, Shape, Held, OutFits, InFits, AtRest, Arming, Coupling, Good, lensOf, slotStamps, endOf}
+use Rattle.proof_book.specs.Coupling.{Short, SameKept, Used, Unused, Shape, Held, OutFits, InFits, AtRest, Arming}
+use Rattle.proof_book.specs.Coupling.{Coupling, Good, lensOf, slotStamps, endOf}
 use Rattle.proof_book.specs.Frame.{alike-tail, stands-moved}
 use Rattle.proof_book.specs.StampsLaws.{alike-stamps}
 
@@ -56,10 +57,12 @@ pub other-dir : (x e : ℕ) → key In x ≢ key Out e
 other-dir x e q = key-apart e x (sym q)
 
 -- one endpoint, and the others
-pub on-key : (P : Dir → ℕ → Type 0) (dir : Dir) (e : ℕ) → ((x : ℕ) → x % 16 ≡ e % 16 → P dir x) → ((dir′ : Dir) (x : ℕ) → key dir′ x ≢ key dir e → P dir′ x) → (dir′ : Dir) (x : ℕ) → P dir′ x
+pub on-key : (P : Dir → ℕ → Type 0) (dir : Dir) (e : ℕ) → ((x : ℕ) → x % 16 ≡ e % 16 → P dir x)
+    → ((dir′ : Dir) (x : ℕ) → key dir′ x ≢ key dir e → P dir′ x) → (dir′ : Dir) (x : ℕ) → P dir′ x
 on-key P dir e here there dir′ x = by dir dir′ here there (ℕ-discrete (key dir′ x) (key dir e))
   where
-    by : (dir dir′ : Dir) → ((x : ℕ) → x % 16 ≡ e % 16 → P dir x) → ((dir′ : Dir) (x : ℕ) → key dir′ x ≢ key dir e → P dir′ x) → Dec (key dir′ x ≡ key dir e) → P dir′ x
+    by : (dir dir′ : Dir) → ((x : ℕ) → x % 16 ≡ e % 16 → P dir x)
+        → ((dir′ : Dir) (x : ℕ) → key dir′ x ≢ key dir e → P dir′ x) → Dec (key dir′ x ≡ key dir e) → P dir′ x
     by Out Out y n (yes q) = y x (key-same Out x e q)
     by In In y n (yes q) = y x (key-same In x e q)
     by Out In y n (yes q) = absurd (key-apart e x (sym q))
@@ -189,9 +192,23 @@ module _ {b : Buf} {d d′ : Driver} {t t′ : Pages} (r : Coupling quiet b d t)
     outs = λ e. rw (s .lens Out e, s .stamps e, o) (kin-out (s .kin Out e) (r .outs e));
     ins = λ e. rw (s .lens In e, i) (kin-in (s .kin In e) (r .ins e));
     arming = λ e. rw (isoOuts-by (d .globals) (d′ .globals) (s .config) (s .isos), o) (kin-rest (s .kin Out e) (r .arming e));
-    apart = λ dir dir′ e e′ h. rw (s .kin dir e .alike .place .base, s .kin dir e .alike .place .slots, s .kin dir e .alike .place .stride, s .kin dir′ e′ .alike .place .base, s .kin dir′ e′ .alike .place .slots, s .kin dir′ e′ .alike .place .stride) (r .apart dir dir′ e e′ h);
+    apart = λ dir dir′ e e′ h. rw (
+      s .kin dir e .alike .place .base,
+      s .kin dir e .alike .place .slots,
+      s .kin dir e .alike .place .stride,
+      s .kin dir′ e′ .alike .place .base,
+      s .kin dir′ e′ .alike .place .slots,
+      s .kin dir′ e′ .alike .place .stride,
+    ) (r .apart dir dir′ e e′ h);
     ep0-below = rw (s .ep0-buf, s .stage, s .allocator) (r .ep0-below);
-    ep0-apart = λ dir e. rw (s .ep0-buf, s .stage, s .allocator, s .kin dir e .alike .place .base, s .kin dir e .alike .place .slots, s .kin dir e .alike .place .stride) (r .ep0-apart dir e);
+    ep0-apart = λ dir e. rw (
+      s .ep0-buf,
+      s .stage,
+      s .allocator,
+      s .kin dir e .alike .place .base,
+      s .kin dir e .alike .place .slots,
+      s .kin dir e .alike .place .stride,
+    ) (r .ep0-apart dir e);
     ep0-lies = rw (s .ep0-buf, s .allocator) (r .ep0-lies);
     ep0-least = rw (s .ep0-max, s .stage, s .allocator) (r .ep0-least);
     isos = λ e. rw (s .isos, s .kin Out e .iso) (r .isos e);
@@ -210,7 +227,8 @@ gets (paced-cell e) b d t r = r .same .paced e
 -- ---- put
 
 -- a change of other records than the endpoints' and of globals that scripts assign
-others-still : (d d′ : Driver) → d′ .eps ≡ d .eps → d′ .lens ≡ d .lens → d′ .stamps ≡ d .stamps → d′ .allocator ≡ d .allocator → d′ .globals ≡ mergedGlobals (d .globals) (d′ .globals) → Sized d′ → Still d d′
+others-still : (d d′ : Driver) → d′ .eps ≡ d .eps → d′ .lens ≡ d .lens → d′ .stamps ≡ d .stamps
+    → d′ .allocator ≡ d .allocator → d′ .globals ≡ mergedGlobals (d .globals) (d′ .globals) → Sized d′ → Still d d′
 unfolding epOn lenOn stampOn
 others-still d d′ p q w a g z = record {
   sized = z;
@@ -226,21 +244,36 @@ others-still d d′ p q w a g z = record {
 }
 
 globals-still : (d : Driver) (v : Globals) → Sized d → Still d (withGlobals d (mergedGlobals (d .globals) v))
-globals-still d v z = others-still d _ refl refl refl refl refl (record { eps = z .eps; lens = z .lens; stamps = z .stamps; paced = z .paced; requests = z .requests })
+globals-still d v z = others-still d _ refl refl refl refl refl
+    (record { eps = z .eps; lens = z .lens; stamps = z .stamps; paced = z .paced; requests = z .requests })
 
 wakes-still : (d : Driver) (v : _) → Sized d → Still d (withWakes d v)
-wakes-still d v z = others-still d _ refl refl refl refl refl (record { eps = z .eps; lens = z .lens; stamps = z .stamps; paced = z .paced; requests = z .requests })
+wakes-still d v z = others-still d _ refl refl refl refl refl
+    (record { eps = z .eps; lens = z .lens; stamps = z .stamps; paced = z .paced; requests = z .requests })
 
 control-still : (d : Driver) (v : _) → Sized d → Still d (withControl d v)
-control-still d v z = others-still d _ refl refl refl refl refl (record { eps = z .eps; lens = z .lens; stamps = z .stamps; paced = z .paced; requests = z .requests })
+control-still d v z = others-still d _ refl refl refl refl refl
+    (record { eps = z .eps; lens = z .lens; stamps = z .stamps; paced = z .paced; requests = z .requests })
 
 paced-still : (d : Driver) (e v : ℕ) → Sized d → Still d (withPacedOn d e v)
 unfolding withPacedOn
-paced-still d e v z = others-still d _ refl refl refl refl refl (record { eps = z .eps; lens = z .lens; stamps = z .stamps; paced = length-set (d .paced) (e % 16) v ∙ z .paced; requests = z .requests })
+paced-still d e v z = others-still d _ refl refl refl refl refl (record {
+  eps = z .eps;
+  lens = z .lens;
+  stamps = z .stamps;
+  paced = length-set (d .paced) (e % 16) v ∙ z .paced;
+  requests = z .requests;
+})
 
 request-still : (d : Driver) (dir : Dir) (e : ℕ) (v : _) → Sized d → Still d (withRequestOn d dir e v)
 unfolding withRequestOn
-request-still d dir e v z = others-still d _ refl refl refl refl refl (record { eps = z .eps; lens = z .lens; stamps = z .stamps; paced = z .paced; requests = length-set (d .requests) (key dir e) v ∙ z .requests })
+request-still d dir e v z = others-still d _ refl refl refl refl refl (record {
+  eps = z .eps;
+  lens = z .lens;
+  stamps = z .stamps;
+  paced = z .paced;
+  requests = length-set (d .requests) (key dir e) v ∙ z .requests;
+})
 
 -- what stands at one endpoint, and at the others
 pub at-same : {A : Type 0} (e x : ℕ) (v : A) (f : ℕ → A) → x % 16 ≡ e % 16 → at e v f x ≡ v
@@ -254,7 +287,8 @@ unfolding epOn
 by-key d dir dir′ x e h = rw h refl
 
 -- a record replaced by one of its kin
-pub record-kin : (d : Driver) (dir : Dir) (e : ℕ) (r : EpState) → Sized d → Kin (epOn d dir e) r → (dir′ : Dir) (x : ℕ) → Kin (epOn d dir′ x) (epOn (withOn d dir e r) dir′ x)
+pub record-kin : (d : Driver) (dir : Dir) (e : ℕ) (r : EpState)
+    → Sized d → Kin (epOn d dir e) r → (dir′ : Dir) (x : ℕ) → Kin (epOn d dir′ x) (epOn (withOn d dir e r) dir′ x)
 record-kin d dir e r z k dir′ x = elim (ℕ-discrete (key dir′ x) (key dir e)) [
   | yes h ↦ (let p = by-key (withOn d dir e r) dir′ dir x e h in let q = by-key d dir′ dir x e h in
       subst (λ y. Kin y (epOn (withOn d dir e r) dir′ x)) (sym q) (kin-by k (p ∙ epOn-same d dir e r z)))
@@ -283,7 +317,9 @@ module _ {A : Type 0} (old new m : Dir → ℕ → A) (dir : Dir) (e : ℕ) (v :
   pub on-put : (dir′ : Dir) (x : ℕ) → new dir′ x ≡ on dir e v m dir′ x
   on-put dir′ x = by dir dir′ here there (ℕ-discrete (x % 16) (e % 16))
     where
-      by : (dir dir′ : Dir) → ((x : ℕ) → x % 16 ≡ e % 16 → new dir x ≡ v) → ((dir′ : Dir) (x : ℕ) → key dir′ x ≢ key dir e → new dir′ x ≡ old dir′ x) → Dec (x % 16 ≡ e % 16) → new dir′ x ≡ on dir e v m dir′ x
+      by : (dir dir′ : Dir) → ((x : ℕ) → x % 16 ≡ e % 16 → new dir x ≡ v)
+          → ((dir′ : Dir) (x : ℕ) → key dir′ x ≢ key dir e → new dir′ x ≡ old dir′ x)
+          → Dec (x % 16 ≡ e % 16) → new dir′ x ≡ on dir e v m dir′ x
       by Out Out y n (yes q) = y x q ∙ sym (at-same e x v (m Out) q)
       by Out Out y n (no q) = n Out x (other-key Out x e q) ∙ (h Out x ∙ sym (at-other e x v (m Out) q))
       by Out In y n q = n In x (other-dir x e) ∙ h In x
@@ -313,7 +349,8 @@ paced-put d k e v z h x = elim (ℕ-discrete (x % 16) (e % 16)) [
 ]
 
 pub puts : (c : Cell) (v : Val c) (b : Buf) (d : Driver) (t : Pages) → Coupling quiet b d t
-    → (concrete .put c v (d, b) .1 ≡ bookOps .put c v (t, b) .1) × Coupling quiet (concrete .put c v (d, b) .1) (concrete .put c v (d, b) .0) (bookOps .put c v (t, b) .0)
+    → (concrete .put c v (d, b) .1 ≡ bookOps .put c v (t, b) .1)
+    × Coupling quiet (concrete .put c v (d, b) .1) (concrete .put c v (d, b) .0) (bookOps .put c v (t, b) .0)
 unfolding epOn withOn requestOn withRequestOn pacedOn withPacedOn
 puts globals-cell v b d t r = (
   refl,
@@ -349,7 +386,8 @@ puts (ep-cell dir e) v b d t r = (
     allocator = r .same .allocator;
     paced = r .same .paced;
     requests = r .same .requests;
-    plain = plain-put d (t .kept) dir e (merged (epOn d dir e) v) (r .sized) (r .same .plain) (mergedPlain (t .kept .plain dir e) v) (ap (λ (p : EpCore). mergedPlain p v) (r .same .plain dir e));
+    plain = plain-put d (t .kept) dir e (merged (epOn d dir e) v) (r .sized) (r .same .plain)
+        (mergedPlain (t .kept .plain dir e) v) (ap (λ (p : EpCore). mergedPlain p v) (r .same .plain dir e));
   }) refl refl,
 )
 puts (request-cell dir e) v b d t r = (
@@ -380,7 +418,8 @@ puts (paced-cell e) v b d t r = (
 
 -- ---- wake-ups
 
-pub wakes-kept : {b : Buf} {d : Driver} {t : Pages} → Coupling quiet b d t → (v w : Wakes) → v ≡ w → Coupling quiet b (withWakes d v) (withKept t (keptWakes (t .kept) w))
+pub wakes-kept : {b : Buf} {d : Driver} {t : Pages} → Coupling quiet b d t
+    → (v w : Wakes) → v ≡ w → Coupling quiet b (withWakes d v) (withKept t (keptWakes (t .kept) w))
 unfolding pacedOn requestOn epOn
 wakes-kept {d = d} r v w e = still r (wakes-still d v (r .sized)) (record {
   globals = r .same .globals;

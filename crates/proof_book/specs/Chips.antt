@@ -48,7 +48,8 @@ armed-or (mid bus-reset (suc n)) e u r p a = a .1
 module _ {φ : Phase} {b : Buf} {d : Driver} {t : Pages} (R : Coupling φ b d t) where
   used-size : (e : ℕ) → isSet (allocatedIn (t .kept .allocator) Out) (e % 16) ≡ true → epOn d Out e .stride ≡ t .kept .allocator .size
   used-size e h =
-      let u : Used (d .allocator) Out (epOn d Out e) = subst (λ z. Shape z (d .allocator) Out (epOn d Out e)) (ap (λ (a : Allocator). isSet (allocatedIn a Out) (e % 16)) (R .same .allocator) ∙ h) (R .shape Out e) in
+      let u : Used (d .allocator) Out (epOn d Out e) = subst (λ z. Shape z (d .allocator) Out (epOn d Out e))
+      (ap (λ (a : Allocator). isSet (allocatedIn a Out) (e % 16)) (R .same .allocator) ∙ h) (R .shape Out e) in
       u .stride ∙ ap (λ (a : Allocator). a .size) (R .same .allocator)
 
   -- a byte in a region apart from endpoint e's
@@ -90,7 +91,8 @@ module _ {φ : Phase} {b : Buf} {d : Driver} {t : Pages} (R : Coupling φ b d t)
       by (inr z) = absurd (omega (arith, z))
 
   out-elsewhere : (x j k : ℕ) → j < countOf (epOn d Out x)
-      → slotAddr (epOn d Out x) (after (epOn d Out x .tail) j) ≤ k → k < slotAddr (epOn d Out x) (after (epOn d Out x .tail) j) + epOn d Out x .stride → Elsewhere t k
+      → slotAddr (epOn d Out x) (after (epOn d Out x .tail) j) ≤ k
+      → k < slotAddr (epOn d Out x) (after (epOn d Out x .tail) j) + epOn d Out x .stride → Elsewhere t k
   out-elsewhere x j k l p q =
       let g = R .outs x .held .placed in
       let lo : epOn d Out x .base ≤ k = omega (arith, slot-from g (after (epOn d Out x .tail) j)) in
@@ -122,4 +124,6 @@ chip b b′ φ d t R c = bytes-changed R (c .long) kept tails
         (omega (arith, slot-upto (f .placed) (after (epOn d In x .tail) j)))))
 
     tails : TailsStay d b b′
-    tails x w = let f = R .ins x .held in λ k p q. c .others k (in-elsewhere R x k (omega (arith, slot-from (f .placed) (epOn d In x .tail))) (omega (arith, slot-upto (f .placed) (epOn d In x .tail))))
+    tails x w = let f = R .ins x .held in λ k p q. c .others k
+        (in-elsewhere R x k (omega (arith, slot-from (f .placed) (epOn d In x .tail)))
+        (omega (arith, slot-upto (f .placed) (epOn d In x .tail))))

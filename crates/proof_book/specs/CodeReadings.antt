@@ -37,9 +37,11 @@ abbrev pub events : List Made → List (Event Config Op)
 events [] = []
 events (m ∷ ms) = m .event ∷ events ms
 
-same-after : (ms : List Made) (xs : List ℕ) (a : Buf) → Steps xs a ms → machineOf (bytesAfter xs ms) (slotsAfter a ms) ≡ after calls driverOf (events ms) (machineOf xs a)
+same-after : (ms : List Made) (xs : List ℕ) (a : Buf)
+    → Steps xs a ms → machineOf (bytesAfter xs ms) (slotsAfter a ms) ≡ after calls driverOf (events ms) (machineOf xs a)
 same-after [] xs a h = refl
-same-after (m ∷ ms) xs a h = same-after ms (m .bytes) (m .slots) (h .1) ∙ ap (λ (x : Ans Answer × Machine Answer Driver). after calls driverOf (events ms) (x .1)) (h .0)
+same-after (m ∷ ms) xs a h = same-after ms (m .bytes) (m .slots) (h .1)
+    ∙ ap (λ (x : Ans Answer × Machine Answer Driver). after calls driverOf (events ms) (x .1)) (h .0)
 
 read-served : (ms : List Made) (xs : List ℕ) (a : Buf) → Steps xs a ms → readBy ms ≡ served (events ms) (machineOf xs a)
 unfolding served
@@ -48,7 +50,8 @@ read-served (m ∷ ms) xs a h =
     ap (andThen (m .answer, machineOf (m .bytes) (m .slots))) (read-served ms (m .bytes) (m .slots) (h .1)) ∙ ap (counted (events ms)) (h .0)
 
 -- any bytes, a start-up that rows 1 and 2 do not stop, and any calls; then, where nothing is under way, an interrupt, and any calls again
-module _ (c : Config) (b : Buf) (row : startRow c b ≡ zero) (xs : List ℕ) (a : Buf) (first : Made) (is-start : first .event ≡ record { call = start c; lent = b }) (ms : List Made) (steps : Steps xs a (first ∷ ms)) where
+module _ (c : Config) (b : Buf) (row : startRow c b ≡ zero) (xs : List ℕ) (a : Buf) (first : Made)
+    (is-start : first .event ≡ record { call = start c; lent = b }) (ms : List Made) (steps : Steps xs a (first ∷ ms)) where
   -- the machine then
   abbrev pub now : Machine Answer Driver
   now = machineOf (bytesAfter xs (first ∷ ms)) (slotsAfter a (first ∷ ms))
@@ -56,8 +59,12 @@ module _ (c : Config) (b : Buf) (row : startRow c b ≡ zero) (xs : List ℕ) (a
   now-sorting : Sorting (now .st)
   now-sorting =
       subst (λ (n : Machine Answer Driver). Sorting (n .st)) (sym (same-after (first ∷ ms) xs a steps))
-      (subst (λ (v : Event Config Op). Sorting (after calls driverOf (v ∷ events ms) (machineOf xs a) .st)) (sym is-start) (after-sorting c b row (events ms) (machineOf xs a)))
+      (subst (λ (v : Event Config Op). Sorting (after calls driverOf (v ∷ events ms) (machineOf xs a) .st))
+      (sym is-start) (after-sorting c b row (events ms) (machineOf xs a)))
 
   pub code-4056 : now .way ≡ idle → (i : Made) (slots : Buf) → i .event ≡ record { call = begin interrupt; lent = slots } → (fs : List Made)
       → Steps (bytesAfter xs (first ∷ ms)) (slotsAfter a (first ∷ ms)) (i ∷ fs) → readBy (i ∷ fs) ≤ 4056
-  code-4056 w i slots is-interrupt fs h = rw (read-served (i ∷ fs) (bytesAfter xs (first ∷ ms)) (slotsAfter a (first ∷ ms)) h, is-interrupt) (sorting-served now now-sorting w slots (events fs))
+  code-4056 w i slots is-interrupt fs h = rw (
+    read-served (i ∷ fs) (bytesAfter xs (first ∷ ms)) (slotsAfter a (first ∷ ms)) h,
+    is-interrupt,
+  ) (sorting-served now now-sorting w slots (events fs))

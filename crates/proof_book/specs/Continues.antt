@@ -29,4 +29,5 @@ interruptContinues (e ∷ es) m = cond (serving (m .way)) (continues (e .call) m
 -- the same of calls that were made, from the state's bytes xs and the slot buffer a on
 unfoldable pub madeContinues : List ℕ → Buf → List Made → ℕ
 madeContinues xs a [] = 0
-madeContinues xs a (m ∷ ms) = cond (serving (machineOf xs a .way)) (continues (m .event .call) (machineOf xs a) (m .event .lent) + madeContinues (m .bytes) (m .slots) ms) 0
+madeContinues xs a (m ∷ ms) = cond (serving (machineOf xs a .way))
+    (continues (m .event .call) (machineOf xs a) (m .event .lent) + madeContinues (m .bytes) (m .slots) ms) 0

@@ -163,9 +163,11 @@ pub record Coupling (φ : Phase) (b : Buf) (d : Driver) (t : Pages) : Type 0 whe
   pub outs : (e : ℕ) → OutFits b (epOn d Out e) (lensOf d Out e) (slotStamps d e) (t .outs e)
   pub ins : (e : ℕ) → InFits b (epOn d In e) (lensOf d In e) (t .ins e)
   pub arming : (e : ℕ) → Arming φ e (isSet (isoOuts (d .globals)) (e % 16)) (epOn d Out e) (t .outs e)
-  pub apart : (dir dir′ : Dir) (e e′ : ℕ) → key dir e ≢ key dir′ e′ → Apart (epOn d dir e .base) (endOf (epOn d dir e)) (epOn d dir′ e′ .base) (endOf (epOn d dir′ e′))
+  pub apart : (dir dir′ : Dir) (e e′ : ℕ) → key dir e ≢ key dir′ e′
+      → Apart (epOn d dir e .base) (endOf (epOn d dir e)) (epOn d dir′ e′ .base) (endOf (epOn d dir′ e′))
   pub ep0-below : d .globals .«ep0_buf» + ep0Room (d .globals) (d .allocator) ≤ d .allocator .next * d .allocator .size
-  pub ep0-apart : (dir : Dir) (e : ℕ) → Apart (d .globals .«ep0_buf») (d .globals .«ep0_buf» + ep0Room (d .globals) (d .allocator)) (epOn d dir e .base) (endOf (epOn d dir e))
+  pub ep0-apart : (dir : Dir) (e : ℕ) → Apart (d .globals .«ep0_buf»)
+      (d .globals .«ep0_buf» + ep0Room (d .globals) (d .allocator)) (epOn d dir e .base) (endOf (epOn d dir e))
   -- EP0's address lies in the lent buffer with a slot, before its start too
   pub ep0-lies : d .globals .«ep0_buf» + d .allocator .size ≤ length b
   pub ep0-least : d .globals .«ep0_max» ≤ ep0Room (d .globals) (d .allocator)

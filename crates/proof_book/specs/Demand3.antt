@@ -19,5 +19,6 @@ use Rattle.proof_book.specs.Agrees.{agree}
 pub demand3 : (c : Config) (b : Buf) → startRow c b ≡ zero → (es : List (Event Config Op)) (m : Machine Answer Driver) (n : Machine Answer Pages)
     → let x = started calls driverOf (λ s. s) c zero m b in
     let y = started calls (book .driver) (fed book (x .0)) c zero n b in
-    Lawful driverOf book agree calls fresh-kept es (x .1) (y .1) → After driverOf book agree calls x y × All driverOf book agree calls fresh-kept es (x .1) (y .1)
+    Lawful driverOf book agree calls fresh-kept es (x .1) (y .1)
+    → After driverOf book agree calls x y × All driverOf book agree calls fresh-kept es (x .1) (y .1)
 demand3 = from-start driverOf book agree calls fresh-kept

@@ -30,7 +30,8 @@ abbrev Now : {A : Type 0} → (Pages → Type 0) → tree.Out Bk A → Type 0
 Now Q (ends a s) = ⊥
 Now Q (asks q s k) = Q (s .0)
 
-now-bind : {A B : Type 0} (Q : Pages → Type 0) (p : Script false A) (f : A → Script false B) (s : Bk) → Now Q (run bookOps p s) → Now Q (run bookOps (bind p f) s)
+now-bind : {A B : Type 0} (Q : Pages → Type 0) (p : Script false A) (f : A → Script false B) (s : Bk)
+    → Now Q (run bookOps p s) → Now Q (run bookOps (bind p f) s)
 now-bind Q p f s = by (run bookOps p s)
   where
     by : (o : tree.Out Bk _) → Now Q o → Now Q (bindOut o (λ a t. run bookOps (f a) t))
@@ -79,7 +80,8 @@ module _ (t : Pages) (e : ℕ) where
   row-out false h y z k = absurd (true≢false (sym h))
 
   placed-in : EmptiedIn (placedIn (withIn t e emptyIn .ins e))
-  placed-in = subst (λ (p : InPage). EmptiedIn (placedIn p)) (sym (in-same t e emptyIn)) (record { waiting = refl; sending = refl; queued = refl; sent = refl; passed = refl })
+  placed-in = subst (λ (p : InPage). EmptiedIn (placedIn p))
+      (sym (in-same t e emptyIn)) (record { waiting = refl; sending = refl; queued = refl; sent = refl; passed = refl })
 
   ring-in : (x : ℕ) → x % 16 ≡ e % 16 → EmptiedIn (withIn (withIn t e emptyIn) e (placedIn (withIn t e emptyIn .ins e)) .ins x)
   ring-in x h = at-elim EmptiedIn e x (placedIn (withIn t e emptyIn .ins e)) (withIn t e emptyIn .ins) (λ _. placed-in) (λ n. absurd (n h))
@@ -88,7 +90,8 @@ module _ (t : Pages) (e : ℕ) where
   first-access Out on b =
       asks-test Q (eqb (t .kept .globals .stage) 2) _ _
       (λ _. asks-test Q (isAllocated (t .kept .allocator) Out e) _ _
-      (λ _. of-now Q (run {i = false} bookOps (bind ended-0 gathers) s) (now-bind Q ended-0 gathers s (now-bind Q (bus.setEnabled Out e on) (λ _. ret {A = ℕ} 0) s (now-bind Q switched (λ _. wake Out e) s
+      (λ _. of-now Q (run {i = false} bookOps (bind ended-0 gathers) s)
+      (now-bind Q ended-0 gathers s (now-bind Q (bus.setEnabled Out e on) (λ _. ret {A = ℕ} 0) s (now-bind Q switched (λ _. wake Out e) s
       (now-test Q (isOn (t .kept .plain Out e .iso)) (run bookOps (row (switch e on)) s) (run {i = false} bookOps (bus.setEnabledOut e on) s)
       (λ h. row-out (isoOf t Out e) h (s .0) _ (out-same t e (emptyOut (t .outs e))))
       (λ h. ring-out (isoOf t Out e) h (s .0) (withOut (s .0) e (emptyOut (t .outs e))) (out-same (s .0) e (emptyOut (t .outs e)))))))))
@@ -169,8 +172,10 @@ module _ (a : Ans Answer) (dir : Dir) (e : ℕ) (on : Bool) (n : Machine Answer 
   fits-by true k = absurd (true≢false (sym k))
   fits-by false k = way-by (n .way) k
 
-pub enabling-resets : (c : Call Config Op) (a : Ans Answer) (dir : Dir) (e : ℕ) (on : Bool) (q : Access) (n : Machine Answer Pages) → Fine n → (b : Buf) → blankA a ≡ blankA (written a c n b .0)
+pub enabling-resets : (c : Call Config Op) (a : Ans Answer) (dir : Dir) (e : ℕ) (on : Bool) (q : Access) (n : Machine Answer Pages)
+    → Fine n → (b : Buf) → blankA a ≡ blankA (written a c n b .0)
     → c ≡ begin (slotted (SetEnabled dir e on)) → a ≡ handed q → Emptied dir e (n .st) (written a c n b .1 .st)
-enabling-resets c a dir e on q n h b s p g = subst (λ (c : Call Config Op). blankA a ≡ blankA (written a c n b .0) → Emptied dir e (n .st) (written a c n b .1 .st)) (sym p)
+enabling-resets c a dir e on q n h b s p g =
+    subst (λ (c : Call Config Op). blankA a ≡ blankA (written a c n b .0) → Emptied dir e (n .st) (written a c n b .1 .st)) (sym p)
     (λ s. fits-by a dir e on n h b (misfit calls (book .driver) (n .st) b)
     (sym (blank-hands (written a (begin (slotted (SetEnabled dir e on))) n b .0)) ∙ ap hands (sym s) ∙ blank-hands a ∙ ap hands g)) s

@@ -32,8 +32,11 @@ use Rattle.model.specs.Machine.{Buf}
 use Rattle.model_ops.specs.Records.{plainOf}
 use Rattle.model_ops.specs.Stamps.{length-filled}
 use Rattle.proof_book.specs.Pages.{OutPage, InPage, Kept, Pages, at, on, withKept, withOut, withIn, keptPlain}
-use Rattle.proof_book.specs.Lens.{key-mod, key-other, ep-mod, lens-mod, key-ep, lens-on, ep-len, lens-set-other, stamps-mod, stamps-on, stamps-len, ep-stamp, lens-stamp, stamps-set-other, ep-clear, lens-clear, stamps-clear-other}
-use Rattle.proof_book.specs.Coupling.{SameKept, endOf, Shape, Apart, ep0Room, lensOf, slotStamps, Held, OutFits, InFits, Stands, InRow, Arming, Step, Coupling}
+use Rattle.proof_book.specs.Lens.{key-mod, key-other, ep-mod, lens-mod, key-ep, lens-on, ep-len, lens-set-other}
+use Rattle.proof_book.specs.Lens.{stamps-mod, stamps-on, stamps-len, ep-stamp, lens-stamp, stamps-set-other}
+use Rattle.proof_book.specs.Lens.{ep-clear, lens-clear, stamps-clear-other}
+use Rattle.proof_book.specs.Coupling.{SameKept, endOf, Shape, Apart, ep0Room, lensOf, slotStamps, Held, OutFits}
+use Rattle.proof_book.specs.Coupling.{InFits, Stands, InRow, Arming, Step, Coupling}
 
 -- ---- one endpoint's record, lengths and stamps changed, its buffers where they were
 
@@ -95,7 +98,13 @@ module _ {d : Driver} (s : Sized d) (dir : Dir) (e : ℕ) where
 
   len-sized : (i v : ℕ) → Sized (withLenOn d dir e i v)
   unfolding withLenOn
-  len-sized i v = record { eps = s .eps; lens = length-set (d .lens) (lenKey dir e i) v ∙ s .lens; stamps = s .stamps; paced = s .paced; requests = s .requests }
+  len-sized i v = record {
+    eps = s .eps;
+    lens = length-set (d .lens) (lenKey dir e i) v ∙ s .lens;
+    stamps = s .stamps;
+    paced = s .paced;
+    requests = s .requests;
+  }
 
   -- one of its lengths
   pub changed-len : (i v : ℕ) → Changed dir e d (withLenOn d dir e i v)
@@ -248,7 +257,8 @@ module _ {dir : Dir} {e : ℕ} {d d′ : Driver} (c : Changed dir e d d′) wher
 pub alike-tail : {r r′ : EpState} → Alike r r′ → slotAddr r′ (r′ .tail) ≡ slotAddr r (r .tail)
 alike-tail {r} {r′} k = place-addr (k .place) (r′ .tail) ∙ ap (slotAddr r) (k .tail)
 
-pub stands-moved : {b : Buf} {r r′ : EpState} {p : InPage} → slotAddr r′ (r′ .tail) ≡ slotAddr r (r .tail) → r′ .stride ≡ r .stride → Stands b r p → Stands b r′ p
+pub stands-moved : {b : Buf} {r r′ : EpState} {p : InPage}
+    → slotAddr r′ (r′ .tail) ≡ slotAddr r (r .tail) → r′ .stride ≡ r .stride → Stands b r p → Stands b r′ p
 stands-moved a q s = record { slot = λ h. s .slot h ∙ sym a; bytes = λ h k l u. s .bytes h k l (omega (arith, q)) }
 
 -- where none is being sent
@@ -269,7 +279,18 @@ module _ {b b′ : Buf} {r : EpState} {ls : List ℕ} (long : length b′ ≡ le
   held-bytes h = record { placed = subst (λ n. Placed n r) (sym long) (h .placed); ring = h .ring; least = h .least; waits = w ∙ h .waits }
 
   pub out-bytes : {ss : List ℕ} {p : OutPage} → OutFits b r ls ss p → OutFits b′ r ls ss p
-  out-bytes h = record { held = held-bytes (h .held); stamps = h .stamps; opened = h .opened; shows = h .shows; lost = h .lost; slot = h .slot; from = h .from; upto = h .upto; ledger = h .ledger; short = h .short }
+  out-bytes h = record {
+    held = held-bytes (h .held);
+    stamps = h .stamps;
+    opened = h .opened;
+    shows = h .shows;
+    lost = h .lost;
+    slot = h .slot;
+    from = h .from;
+    upto = h .upto;
+    ledger = h .ledger;
+    short = h .short;
+  }
 
   pub in-bytes : {p : InPage} → (0 < countOf r → Same (slotAddr r (r .tail)) (slotAddr r (r .tail) + r .stride) b b′) → InFits b r ls p → InFits b′ r ls p
   in-bytes s h = record {
@@ -327,7 +348,8 @@ shape-kept false l dir k i u = record { iso = i ∙ u .iso; base = k .base ∙ u
 apart-kept : {lo lo′ hi hi′ x x′ y y′ : ℕ} → lo′ ≡ lo → hi′ ≡ hi → x′ ≡ x → y′ ≡ y → Apart lo hi x y → Apart lo′ hi′ x′ y′
 apart-kept a b c d h = rw (a, b, c, d) h
 
-pub rebuilt : {φ ψ : Phase} {b b′ : Buf} {d d′ : Driver} {t t′ : Pages} → Coupling φ b d t → Keeps d d′ → length b′ ≡ length b → Parts ψ b′ d′ t′ → Coupling ψ b′ d′ t′
+pub rebuilt : {φ ψ : Phase} {b b′ : Buf} {d d′ : Driver} {t t′ : Pages}
+    → Coupling φ b d t → Keeps d d′ → length b′ ≡ length b → Parts ψ b′ d′ t′ → Coupling ψ b′ d′ t′
 rebuilt {d = d} {d′ = d′} R k l p =
     let room : ep0Room (d′ .globals) (d′ .allocator) ≡ ep0Room (d .globals) (d .allocator) = rw (k .stage, k .allocator) refl in
     record {
@@ -342,7 +364,8 @@ rebuilt {d = d} {d′ = d′} R k l p =
       outs = p .outs;
       ins = p .ins;
       arming = p .arming;
-      apart = λ dir dir′ x y n. apart-kept (k .place dir x .base) (end-kept (k .place dir x)) (k .place dir′ y .base) (end-kept (k .place dir′ y)) (R .apart dir dir′ x y n);
+      apart = λ dir dir′ x y n. apart-kept (k .place dir x .base)
+          (end-kept (k .place dir x)) (k .place dir′ y .base) (end-kept (k .place dir′ y)) (R .apart dir dir′ x y n);
       ep0-below = rw (room, k .ep0-buf, k .allocator) (R .ep0-below);
       ep0-apart = λ dir x. apart-kept (k .ep0-buf) (rw (room, k .ep0-buf) refl) (k .place dir x .base) (end-kept (k .place dir x)) (R .ep0-apart dir x);
       ep0-lies = rw (k .ep0-buf, k .allocator, l) (R .ep0-lies);
@@ -374,7 +397,8 @@ keeps-changed {dir} {e} {d} {d′} c = record {
     place-by {r} {r′} {s} {s′} p q k = subst (λ z. SamePlace z r′) (sym p) (subst (λ z. SamePlace s z) (sym q) k)
 
 -- a slot of a ring, and bytes in a region apart from the ring's
-slot-foreign : {n lo hi : ℕ} {r : EpState} (i : ℕ) (b b′ : Buf) → Placed n r → Only lo hi b b′ → (endOf r ≤ lo) ⊎ (hi ≤ r .base) → Same (slotAddr r i) (slotAddr r i + r .stride) b b′
+slot-foreign : {n lo hi : ℕ} {r : EpState} (i : ℕ) (b b′ : Buf) → Placed n r
+    → Only lo hi b b′ → (endOf r ≤ lo) ⊎ (hi ≤ r .base) → Same (slotAddr r i) (slotAddr r i + r .stride) b b′
 slot-foreign i b b′ g o (inl a) = λ k l h. o k (inl (omega (arith, slot-upto g i)))
 slot-foreign i b b′ g o (inr a) = λ k l h. o k (inr (omega (arith, slot-from g i)))
 
@@ -396,7 +420,8 @@ module _ {φ : Phase} {b b′ : Buf} {d d′ : Driver} {t : Pages} (R : Coupling
     other-in x n =
         let f = R .ins x in
         in-moved (c .eps In x n) (c .lens In x n)
-        (in-bytes long (waiting-foreign (f .held .placed) (f .held .ring) _ _ b b′ o (R .apart In dir x e n)) (λ _. slot-foreign (epOn d In x .tail) b b′ (f .held .placed) o (R .apart In dir x e n)) f)
+        (in-bytes long (waiting-foreign (f .held .placed) (f .held .ring) _ _ b b′ o (R .apart In dir x e n))
+        (λ _. slot-foreign (epOn d In x .tail) b b′ (f .held .placed) o (R .apart In dir x e n)) f)
 
   -- OUT e
   pub out-changed : {ψ : Phase} {k : Kept} (e : ℕ) (p : OutPage) → Changed Out e d d′ → SameKept d′ k → length b′ ≡ length b
@@ -413,7 +438,8 @@ module _ {φ : Phase} {b b′ : Buf} {d d′ : Driver} {t : Pages} (R : Coupling
     arming = λ x. subst (λ g. Arming ψ x (isSet (isoOuts g) (x % 16)) (epOn d′ Out x) (at e p (t .outs) x)) (sym (c .globals))
         (at-elim (λ q. Arming ψ x (isSet (isoOuts (d .globals)) (x % 16)) (epOn d′ Out x) q) e x p (t .outs)
         (λ h. subst (λ r. Arming ψ x (isSet (isoOuts (d .globals)) (x % 16)) r p) (sym (ep-mod d′ Out x e h))
-        (subst (λ j. Arming ψ x (isSet (isoOuts (d .globals)) j) (epOn d′ Out e) p) (sym h) (arming-mod ψ x e (isSet (isoOuts (d .globals)) (e % 16)) (epOn d′ Out e) p h a)))
+        (subst (λ j. Arming ψ x (isSet (isoOuts (d .globals)) j) (epOn d′ Out e) p)
+        (sym h) (arming-mod ψ x e (isSet (isoOuts (d .globals)) (e % 16)) (epOn d′ Out e) p h a)))
         (λ n. subst (λ r. Arming ψ x (isSet (isoOuts (d .globals)) (x % 16)) r (t .outs x)) (sym (c .eps Out x (key-other Out x e n)))
         (others x (isSet (isoOuts (d .globals)) (x % 16)) n (R .arming x))));
   })
@@ -436,10 +462,12 @@ module _ {φ : Phase} {b b′ : Buf} {d d′ : Driver} {t : Pages} (R : Coupling
 
 -- the tail's slot of every IN ring in which some wait is as it was, whole
 abbrev pub TailsStay : Driver → Buf → Buf → Type 0
-TailsStay d b b′ = (x : ℕ) → 0 < countOf (epOn d In x) → Same (slotAddr (epOn d In x) (epOn d In x .tail)) (slotAddr (epOn d In x) (epOn d In x .tail) + epOn d In x .stride) b b′
+TailsStay d b b′ = (x : ℕ) → 0 < countOf (epOn d In x)
+    → Same (slotAddr (epOn d In x) (epOn d In x .tail)) (slotAddr (epOn d In x) (epOn d In x .tail) + epOn d In x .stride) b b′
 
 module _ {φ : Phase} {b b′ : Buf} {d : Driver} {t : Pages} (R : Coupling φ b d t) (long : length b′ ≡ length b) where
-  pub bytes-changed : ((dir : Dir) (x : ℕ) → waiting b′ (epOn d dir x) (lensOf d dir x) ≡ waiting b (epOn d dir x) (lensOf d dir x)) → TailsStay d b b′ → Coupling φ b′ d t
+  pub bytes-changed : ((dir : Dir) (x : ℕ) → waiting b′ (epOn d dir x) (lensOf d dir x) ≡ waiting b (epOn d dir x) (lensOf d dir x))
+      → TailsStay d b b′ → Coupling φ b′ d t
   bytes-changed w s = rebuilt R (keeps-changed (changed-not (R .sized) Out 0)) long (record {
     step = R .step;
     same = R .same;

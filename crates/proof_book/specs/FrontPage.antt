@@ -22,7 +22,8 @@ use Rattle.ring.specs.Waiting.{waiting, Same}
 use Rattle.marks.specs.Copies.{bytesAt}
 use Rattle.model.specs.Answers.{Answer, Refused, Done, Shown, ok, isNumber}
 use Rattle.model.specs.Calls.{Config, Op, slotted, aside, SetEnabled, PollRead, Aside, Open, Close, Queue, calls, startRow}
-use Rattle.model.specs.Machine.{Buf, Call, start, begin, go, question, overruns, Event, Ans, ended, handed, told, Way, idle, busy, Machine, over, misfit, fed, call, started}
+use Rattle.model.specs.Machine.{Buf, Call, start, begin, go, question, overruns, Event, Ans, ended, handed, told, Way}
+use Rattle.model.specs.Machine.{idle, busy, Machine, over, misfit, fed, call, started}
 use Rattle.machine.specs.Suspended.{drive, machineOf}
 use Rattle.proof_book.specs.Pages.{Packet, bytesOf, stampsOf, OutPage, InPage, Pages}
 use Rattle.proof_book.specs.Book.{isoOf, receiving, front, book}
@@ -113,7 +114,9 @@ pub record Compared (c : Call Config Op) (t : Pages) (a : Ans Answer) (d : Drive
   pub stamps : (e : ℕ) → ringStamps d e ≡ stampsOf (t′ .outs e .waiting)
   -- "open shows … the first", which is open then
   pub open-shows : (e stamp : ℕ) (bytes : List ℕ) → c ≡ begin (aside (Open e)) → a ≡ ended (Shown bytes stamp)
-      → (q : Packet) × (rest : List Packet) × (t .outs e .waiting ≡ q ∷ rest) × (bytes ≡ q .bytes) × (stamp ≡ q .stamp) × (t′ .outs e .opened ≡ true) × (t′ .outs e .waiting ≡ t .outs e .waiting) × (t′ .outs e .admitted ≡ t .outs e .admitted) × (t′ .outs e .read ≡ t .outs e .read)
+      → (q : Packet) × (rest : List Packet) × (t .outs e .waiting ≡ q ∷ rest) × (bytes ≡ q .bytes)
+      × (stamp ≡ q .stamp) × (t′ .outs e .opened ≡ true) × (t′ .outs e .waiting ≡ t .outs e .waiting)
+      × (t′ .outs e .admitted ≡ t .outs e .admitted) × (t′ .outs e .read ≡ t .outs e .read)
   -- "… and a read's poll gives the first", whole; it is read
   pub poll-gives : (e n : ℕ) (bytes : List ℕ) → c ≡ begin (slotted (PollRead e n)) → a ≡ ended (Done bytes) → isoOf t Out e ≡ true
       → (q : Packet) × (bytes ≡ q .bytes) × ReadsFirst (t .outs e) (t′ .outs e) q

@@ -116,7 +116,8 @@ Agrees c l m n = let x = drive c m l in After driverOf book agree calls x (writt
 abbrev Holds-after : Call Config Op → Buf → Machine Answer Driver → Machine Answer Pages → Type 0
 Holds-after c l m n = let x = drive c m l in AfterCall c l n (x .0) (x .1 .st) (x .1 .buf) (written (x .0) c n l .1 .st)
 
-module _ (c : Call Config Op) (l : Buf) (m : Machine Answer Driver) (n : Machine Answer Pages) (a : Agrees c l m n) (before : isStart c ≡ false → Before m n) where
+module _ (c : Call Config Op) (l : Buf) (m : Machine Answer Driver)
+    (n : Machine Answer Pages) (a : Agrees c l m n) (before : isStart c ≡ false → Before m n) where
   abbrev x : Ans Answer × Machine Answer Driver
   x = drive c m l
 
@@ -131,7 +132,8 @@ module _ (c : Call Config Op) (l : Buf) (m : Machine Answer Driver) (n : Machine
   most-15 h e = ledger.at-most-15 (before h .rest) e
 
   of-open : (e : ℕ) (z : Answer) → c ≡ begin (aside (Open e)) → x .0 ≡ ended z → Opened (n .st) e z (y .1 .st)
-  of-open e z p q = subst (λ (c : Call Config Op). written (x .0) c n l .0 ≡ ended z → Opened (n .st) e z (written (x .0) c n l .1 .st)) (sym p) (opened-by (x .0) e n l z) (same-end z q)
+  of-open e z p q = subst (λ (c : Call Config Op). written (x .0) c n l .0 ≡ ended z → Opened (n .st) e z (written (x .0) c n l .1 .st))
+      (sym p) (opened-by (x .0) e n l z) (same-end z q)
 
   module _ (e : ℕ) (p : c ≡ begin (aside (Close e))) where
     opened-first : n .st .outs e .opened ≡ true → (q : Packet) × (w : List Packet) × (n .st .outs e .waiting ≡ q ∷ w)
@@ -188,8 +190,11 @@ module _ (c : Call Config Op) (l : Buf) (m : Machine Answer Driver) (n : Machine
     sent-in-order = ledger.once-in-order (a .rest);
     passed-then-waiting = λ e. a .rest .ins e .ledger;
     sent-is = λ e. a .rest .ins e .reached;
-    starts-anew = λ g p row e. subst (λ (c : Call Config Op). let t = written (x .0) c n l .1 .st in (t .outs e .lost ≡ 0) × (t .outs e .waiting ≡ []) × (t .ins e .waiting ≡ [])) (sym p)
-        (subst (λ (r : ℕ). let t = started calls (book .driver) (fed book (x .0)) g r n l .1 .st in (t .outs e .lost ≡ 0) × (t .outs e .waiting ≡ []) × (t .ins e .waiting ≡ [])) (sym row) (start-anew (x .0) g n l e));
+    starts-anew = λ g p row e. subst
+        (λ (c : Call Config Op). let t = written (x .0) c n l .1 .st in
+        (t .outs e .lost ≡ 0) × (t .outs e .waiting ≡ []) × (t .ins e .waiting ≡ [])) (sym p)
+        (subst (λ (r : ℕ). let t = started calls (book .driver) (fed book (x .0)) g r n l .1 .st in
+        (t .outs e .lost ≡ 0) × (t .outs e .waiting ≡ []) × (t .ins e .waiting ≡ [])) (sym row) (start-anew (x .0) g n l e));
     enabling-resets = λ dir e on q p g. let k = before (ap isStart p) in enabling-resets c (x .0) dir e on q n (k .fine) l (a .same) p g;
     bus-reset-empties = λ v p i g. let k = before (ap isStart p) in bus-reset-empties c (x .0) v n (k .fine) l (a .same) p i g;
     load-sends = λ e z v p i g w. let k = before (ap isStart p) in steps-of.load-sends c (x .0) e z v n (k .fine) l (a .same) p i g w;
@@ -212,11 +217,14 @@ start-emptied-by c l row m n e =
     let a = drive (start c) m l .0 in
     subst (λ (r : ℕ). EmptiedIn (started calls (book .driver) (fed book a) c r n l .1 .st .ins e)) (sym row) (start-emptied a c n l e)
 
-first-start : (c : Config) (l : Buf) → startRow c l ≡ zero → (m : Machine Answer Driver) (n : Machine Answer Pages) → Agrees (start c) l m n → Holds-after (start c) l m n
+first-start : (c : Config) (l : Buf) → startRow c l ≡ zero
+    → (m : Machine Answer Driver) (n : Machine Answer Pages) → Agrees (start c) l m n → Holds-after (start c) l m n
 first-start c l row m n a = record {
   compared = compared (start c) l m n a (λ h. absurd (true≢false h));
   sentences = sentences (start c) l m n a (λ h. absurd (true≢false h))
-      (λ e. none c refl row (ap (λ (r : ℕ). started calls (book .driver) (fed book (drive (start c) m l .0)) c r n l .1 .st .outs e .lost) row ∙ start-lost (drive (start c) m l .0) c n l e))
+      (λ e. none c refl row
+      (ap (λ (r : ℕ). started calls (book .driver) (fed book (drive (start c) m l .0)) c r n l .1 .st .outs e .lost) row
+      ∙ start-lost (drive (start c) m l .0) c n l e))
       (start-sent c l row m n)
       (λ e _. emptied (start-emptied-by c l row m n e));
 }
@@ -278,7 +286,8 @@ module _ (c : Config) (b : Buf) (row : startRow c b ≡ zero) (m : Machine Answe
           ways = a .ways;
           rest = a .rest;
           room = subst (λ (z : Ans Answer × Machine Answer Driver). Kept (z .1)) (sym start-is) (start-kept c m b row);
-          fine = subst (λ (r : ℕ). Fine (started calls (book .driver) (fed book (drive (start c) m b .0)) c r n b .1)) (sym row) (start-fine (drive (start c) m b .0) c n b);
+          fine = subst (λ (r : ℕ). Fine (started calls (book .driver) (fed book (drive (start c) m b .0)) c r n b .1))
+              (sym row) (start-fine (drive (start c) m b .0) c n b);
           sending = start-sent c b row m n .machine;
         },
       )
@@ -294,7 +303,8 @@ machine-demand-3 c b row es m n p = let z = begins c b row m n in (z .0, events 
 
 -- of the code: a call does as its contract says
 abbrev Said : Made → Machine Answer Pages → Type 0
-Said m n = AfterCall (m .event .call) (m .event .lent) n (m .answer) (view (m .bytes)) (m .slots) (noted m n .1 .st) × Agreeing (machineOf (m .bytes) (m .slots)) (noted m n .1)
+Said m n = AfterCall (m .event .call) (m .event .lent) n (m .answer) (view (m .bytes)) (m .slots) (noted m n .1 .st)
+    × Agreeing (machineOf (m .bytes) (m .slots)) (noted m n .1)
 
 said : (xs : List ℕ) (a : Buf) (n : Machine Answer Pages) (m : Made) → CallStep xs a m
     → (let x = drive (m .event .call) (machineOf xs a) (m .event .lent) in
@@ -349,7 +359,8 @@ others (m ∷ ms) xs a n f k w p =
 pub demand-3 : Demand3
 demand-3 c b row xs a n first is ms p =
     let z = said xs a n first (p .0) (subst (λ (v : Event Config Op). let x = drive (v .call) (machineOf xs a) (v .lent) in
-    Holds-after (v .call) (v .lent) (machineOf xs a) n × Agreeing (x .1) (written (x .0) (v .call) n (v .lent) .1)) (sym is) (begins c b row (machineOf xs a) n)) in (
+    Holds-after (v .call) (v .lent) (machineOf xs a) n
+    × Agreeing (x .1) (written (x .0) (v .call) n (v .lent) .1)) (sym is) (begins c b row (machineOf xs a) n)) in (
       (z .0, code ms (first .bytes) (first .slots) _ (z .1) (p .2)),
       λ k.
           let f = learnt (first .event .call) (first .answer) k in

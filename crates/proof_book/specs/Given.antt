@@ -65,7 +65,8 @@ shape-further true a b f dir r s = record { stride = s .stride ∙ sym (f .size)
 shape-further false a b f dir r s = s
 
 -- the relation with the allocator further on
-pub further : {b : Buf} {d : Driver} {t : Pages} → Coupling quiet b d t → (a : Allocator) → Further (d .allocator) a → Coupling quiet b (withAllocator d a) (withKept t (keptAllocator (t .kept) a))
+pub further : {b : Buf} {d : Driver} {t : Pages} → Coupling quiet b d t → (a : Allocator)
+    → Further (d .allocator) a → Coupling quiet b (withAllocator d a) (withKept t (keptAllocator (t .kept) a))
 unfolding epOn lenOn stampOn pacedOn requestOn
 further {b = b} {d = d} {t = t} r a f = record {
   step = tt;
@@ -82,12 +83,14 @@ further {b = b} {d = d} {t = t} r a f = record {
     requests = r .same .requests;
     plain = r .same .plain;
   };
-  shape = λ dir e. rw (f .allocated dir (e % 16)) (shape-further (isSet (allocatedIn (d .allocator) dir) (e % 16)) (d .allocator) a f dir (epOn d dir e) (r .shape dir e));
+  shape = λ dir e. rw (f .allocated dir (e % 16))
+      (shape-further (isSet (allocatedIn (d .allocator) dir) (e % 16)) (d .allocator) a f dir (epOn d dir e) (r .shape dir e));
   outs = r .outs;
   ins = r .ins;
   arming = r .arming;
   apart = r .apart;
-  ep0-below = subst (λ (z : ℕ). d .globals .«ep0_buf» + cond (eqb (d .globals .stage) 2) z 0 ≤ a .next * a .size) (sym (f .size)) (below-further (d .allocator) a f _ (r .ep0-below));
+  ep0-below = subst (λ (z : ℕ). d .globals .«ep0_buf» + cond (eqb (d .globals .stage) 2) z 0 ≤ a .next * a .size)
+      (sym (f .size)) (below-further (d .allocator) a f _ (r .ep0-below));
   ep0-apart = λ dir e. rw (f .size) (r .ep0-apart dir e);
   ep0-lies = rw (f .size) (r .ep0-lies);
   ep0-least = rw (f .size) (r .ep0-least);
@@ -143,7 +146,13 @@ unfolding allocated
 new-held most b r ls kind maximum base size dir long none small inside low =
     let n = allocated r kind maximum base size (slotsOf (isIso kind) dir) in
     record {
-      placed = record { part = part-of (isIso kind) dir; divides = part-is (isIso kind) dir; byte = omega (arith, slots-divide (isIso kind) dir); inside = inside; low = omega arith };
+      placed = record {
+        part = part-of (isIso kind) dir;
+        divides = part-is (isIso kind) dir;
+        byte = omega (arith, slots-divide (isIso kind) dir);
+        inside = inside;
+        low = omega arith;
+      };
       ring = reset-ring n refl refl most ls (omega (arith, slots-divide (isIso kind) dir)) (λ i. omega (arith, none i));
       least = small;
       waits = reset-waits n refl refl b ls;
@@ -155,7 +164,8 @@ pub receives : (g : Globals) (j : ℕ) → isSet (isoOuts g) (j % 16) ≡ both (
 unfolding isoOuts
 receives g j = out-enabled-set (g .«ep_config») (g .«iso_out_eps») (j % 16) (mod-lt j (omega arith))
 
-pub receives-by : (g g′ : Globals) (j : ℕ) → g′ .«ep_config» ≡ g .«ep_config» → isSet (g′ .«iso_out_eps») (j % 16) ≡ isSet (g .«iso_out_eps») (j % 16) → isSet (isoOuts g′) (j % 16) ≡ isSet (isoOuts g) (j % 16)
+pub receives-by : (g g′ : Globals) (j : ℕ) → g′ .«ep_config» ≡ g .«ep_config» → isSet (g′ .«iso_out_eps») (j % 16)
+    ≡ isSet (g .«iso_out_eps») (j % 16) → isSet (isoOuts g′) (j % 16) ≡ isSet (isoOuts g) (j % 16)
 receives-by g g′ j c i = receives g′ j ∙ rw (c, i) (sym (receives g j))
 
 -- an allocation adds its number to a set, and leaves all else
@@ -206,7 +216,8 @@ abbrev SamePage : Dir → Pages → Pages → ℕ → Type 0
 SamePage Out t t′ x = t′ .outs x ≡ t .outs x
 SamePage In t t′ x = t′ .ins x ≡ t .ins x
 
-fits-as : (dir : Dir) (b : Buf) (r r′ : EpState) (ls ss : List ℕ) (t t′ : Pages) (x : ℕ) → r′ ≡ r → SamePage dir t t′ x → Fits dir b r ls ss t x → Fits dir b r′ ls ss t′ x
+fits-as : (dir : Dir) (b : Buf) (r r′ : EpState) (ls ss : List ℕ) (t t′ : Pages) (x : ℕ)
+    → r′ ≡ r → SamePage dir t t′ x → Fits dir b r ls ss t x → Fits dir b r′ ls ss t′ x
 fits-as Out b r r′ ls ss t t′ x q o f = rw (q, o) f
 fits-as In b r r′ ls ss t t′ x q i f = rw (q, i) f
 
@@ -253,7 +264,8 @@ new-fits In b r ls ss t kind maximum base size n e x q held some lost =
       stands = none-stands refl;
     })
 
-new-rest : (r : EpState) (kind maximum base size n : ℕ) (p : OutPage) (on : Bool) → base < 2 ^ 32 → p .slot ≡ base → AtRest on (allocated r kind maximum base size n) p
+new-rest : (r : EpState) (kind maximum base size n : ℕ) (p : OutPage) (on : Bool)
+    → base < 2 ^ 32 → p .slot ≡ base → AtRest on (allocated r kind maximum base size n) p
 unfolding allocated
 new-rest r kind maximum base size n p on low q = record {
   armed = λ h. q ∙ sym (zero-addr (allocated r kind maximum base size n) low);
@@ -264,8 +276,10 @@ abbrev Rests : Dir → Bool → EpState → OutPage → Type 0
 Rests Out on r p = AtRest on r p
 Rests In on r p = Unit {0}
 
-new-rests : (dir : Dir) (r : EpState) (kind maximum base size n e x : ℕ) (t : Pages) (on : Bool) → base < 2 ^ 32 → x % 16 ≡ e % 16 → Rests dir on (allocated r kind maximum base size n) (pagesGiven dir e base t .outs x)
-new-rests Out r kind maximum base size n e x t on low q = new-rest r kind maximum base size n _ on low (ap (λ (p : OutPage). p .slot) (at-same e x (slotTold (emptyOut (t .outs e)) base) (t .outs) q))
+new-rests : (dir : Dir) (r : EpState) (kind maximum base size n e x : ℕ) (t : Pages) (on : Bool) → base < 2 ^ 32
+    → x % 16 ≡ e % 16 → Rests dir on (allocated r kind maximum base size n) (pagesGiven dir e base t .outs x)
+new-rests Out r kind maximum base size n e x t on low q = new-rest r kind maximum base size n _ on low
+    (ap (λ (p : OutPage). p .slot) (at-same e x (slotTold (emptyOut (t .outs e)) base) (t .outs) q))
 new-rests In r kind maximum base size n e x t on low q = tt
 
 shape-wider : (used : Bool) (a b : Allocator) (dir : Dir) (r : EpState) → b .size ≡ a .size → a .next ≤ b .next → Shape used a dir r → Shape used b dir r
@@ -284,9 +298,11 @@ bool-false false y f h = refl
 pub low-16 : (e : ℕ) → e ≤ 15 → e % 16 ≡ e
 low-16 e h = omega arith
 
-added-here : (e : ℕ) (a b : Allocator) (dir : Dir) (iso : Bool) (base n : ℕ) → Gives a iso dir e base n b → (x : ℕ) → x % 16 ≡ e % 16 → isSet (allocatedIn b dir) (x % 16) ≡ true
+added-here : (e : ℕ) (a b : Allocator) (dir : Dir) (iso : Bool) (base n : ℕ)
+    → Gives a iso dir e base n b → (x : ℕ) → x % 16 ≡ e % 16 → isSet (allocatedIn b dir) (x % 16) ≡ true
 unfolding isOut
-added-here e a b dir iso base n g x q = ap (isSet (allocatedIn b dir)) (q ∙ low-16 e (g .number .high)) ∙ (g .allocates dir e ∙ by dir (eqb e e) (eq-eqb e e refl))
+added-here e a b dir iso base n g x q = ap (isSet (allocatedIn b dir)) (q ∙ low-16 e (g .number .high))
+    ∙ (g .allocates dir e ∙ by dir (eqb e e) (eq-eqb e e refl))
   where
     by : (dir : Dir) (k : Bool) → k ≡ true → if (sameDir dir dir) (if k true (isSet (allocatedIn a dir) e)) (isSet (allocatedIn a dir) e) ≡ true
     by Out true h = refl
@@ -294,11 +310,13 @@ added-here e a b dir iso base n g x q = ap (isSet (allocatedIn b dir)) (q ∙ lo
     by Out false h = absurd (true≢false (sym h))
     by In false h = absurd (true≢false (sym h))
 
-added-there : (e : ℕ) (a b : Allocator) (dir : Dir) (iso : Bool) (base n : ℕ) → Gives a iso dir e base n b → (dir′ : Dir) (x : ℕ) → key dir′ x ≢ key dir e → isSet (allocatedIn b dir′) (x % 16) ≡ isSet (allocatedIn a dir′) (x % 16)
+added-there : (e : ℕ) (a b : Allocator) (dir : Dir) (iso : Bool) (base n : ℕ) → Gives a iso dir e base n b
+    → (dir′ : Dir) (x : ℕ) → key dir′ x ≢ key dir e → isSet (allocatedIn b dir′) (x % 16) ≡ isSet (allocatedIn a dir′) (x % 16)
 unfolding key isOut
 added-there e a b dir iso base n g dir′ x q = g .allocates dir′ (x % 16) ∙ by dir dir′ q
   where
-    other : (dir : Dir) → x % 16 ≢ e % 16 → (k : Bool) → eqb e (x % 16) ≡ k → if k true (isSet (allocatedIn a dir) (x % 16)) ≡ isSet (allocatedIn a dir) (x % 16)
+    other : (dir : Dir) → x % 16 ≢ e % 16 → (k : Bool)
+        → eqb e (x % 16) ≡ k → if k true (isSet (allocatedIn a dir) (x % 16)) ≡ isSet (allocatedIn a dir) (x % 16)
     other dir h true k = absurd (h (sym (eqb-true e (x % 16) k) ∙ sym (low-16 e (g .number .high))))
     other dir h false k = refl
 
@@ -347,7 +365,13 @@ module _ {b : Buf} {d : Driver} {t : Pages} (r : Coupling quiet b d t) (dir : Di
 
   here : (x : ℕ) → x % 16 ≡ e % 16 → epOn D dir x ≡ R
   unfolding epOn withOn givenTo setsGiven recordGiven
-  here x q = epOn-by (withOn (withAllocator d a) dir e R) dir x e q ∙ epOn-same (withAllocator d a) dir e R (record { eps = r .sized .eps; lens = r .sized .lens; stamps = r .sized .stamps; paced = r .sized .paced; requests = r .sized .requests })
+  here x q = epOn-by (withOn (withAllocator d a) dir e R) dir x e q ∙ epOn-same (withAllocator d a) dir e R (record {
+    eps = r .sized .eps;
+    lens = r .sized .lens;
+    stamps = r .sized .stamps;
+    paced = r .sized .paced;
+    requests = r .sized .requests;
+  })
 
   there : (dir′ : Dir) (x : ℕ) → key dir′ x ≢ key dir e → epOn D dir′ x ≡ epOn d dir′ x
   unfolding epOn withOn givenTo setsGiven recordGiven
@@ -386,16 +410,28 @@ module _ {b : Buf} {d : Driver} {t : Pages} (r : Coupling quiet b d t) (dir : Di
 
   fits-after : (dir′ : Dir) (x : ℕ) → Fits dir′ b (epOn D dir′ x) (lensOf D dir′ x) (slotStamps D x) T x
   fits-after = on-key (λ dir′ x. Fits dir′ b (epOn D dir′ x) (lensOf D dir′ x) (slotStamps D x) T x) dir e
-      (λ x q. rw (lens-as dir x, stamps-as x) (fits-as dir b R (epOn D dir x) (lensOf d dir x) (slotStamps d x) (pagesGiven dir e base T0) T x (here x q) (page-as dir x)
+      (λ x q. rw (lens-as dir x, stamps-as x)
+      (fits-as dir b R (epOn D dir x) (lensOf d dir x) (slotStamps d x) (pagesGiven dir e base T0) T x (here x q) (page-as dir x)
       (new-fits dir b (epOn d dir e) (lensOf d dir x) (slotStamps d x) T0 kind maximum base (a .size) n e x q
       (λ most. held most (lensOf d dir x) (length-tab (λ i. lenOn d dir x i) 16) (capped-0 dir x (rw (epOn-by d dir x e q) (unused .stride))))
       (rw (g .slots) (slots-divide (isIso kind) dir .0)) (lost-as dir e))))
-      (λ dir′ x q. rw (lens-as dir′ x, stamps-as x) (fits-as dir′ b (epOn d dir′ x) (epOn D dir′ x) (lensOf d dir′ x) (slotStamps d x) t T x (there dir′ x q) (page-there dir′ x q) (fits dir′ x)))
+      (λ dir′ x q. rw (lens-as dir′ x, stamps-as x) (fits-as dir′ b (epOn d dir′ x) (epOn D dir′ x)
+      (lensOf d dir′ x) (slotStamps d x) t T x (there dir′ x q) (page-there dir′ x q) (fits dir′ x)))
 
   plain-as : plainOf R ≡ shapedPlain (t .kept .plain dir e) kind maximum base
   unfolding allocated
   plain-as =
-      ap (λ (i : ℕ). record { ready = 0; len = epOn d dir e .len; armed = 0; «last_frame» = 0x1800; tog = 0; iso = i; kind = kind % 4; base = base; «max_len» = maximum }) (flags-same (isIso kind))
+      ap (λ (i : ℕ). record {
+        ready = 0;
+        len = epOn d dir e .len;
+        armed = 0;
+        «last_frame» = 0x1800;
+        tog = 0;
+        iso = i;
+        kind = kind % 4;
+        base = base;
+        «max_len» = maximum;
+      }) (flags-same (isIso kind))
       ∙ ap (λ (p : EpCore). shapedPlain p kind maximum base) (r .same .plain dir e)
 
   iso-as : isOn (R .iso) ≡ isIso kind
@@ -417,7 +453,8 @@ module _ {b : Buf} {d : Driver} {t : Pages} (r : Coupling quiet b d t) (dir : Di
   shape-after = on-key (λ dir′ x. Shape (isSet (allocatedIn a dir′) (x % 16)) a dir′ (epOn D dir′ x)) dir e
       (λ x q. rw (added-here e (d .allocator) a dir (isIso kind) base n g x q, here x q) shape-here)
       (λ dir′ x q. rw (added-there e (d .allocator) a dir (isIso kind) base n g dir′ x q, there dir′ x q)
-      (shape-wider (isSet (allocatedIn (d .allocator) dir′) (x % 16)) (d .allocator) a dir′ (epOn d dir′ x) (g .number .same-size) (omega (arith, g .used)) (r .shape dir′ x)))
+      (shape-wider (isSet (allocatedIn (d .allocator) dir′) (x % 16))
+      (d .allocator) a dir′ (epOn d dir′ x) (g .number .same-size) (omega (arith, g .used)) (r .shape dir′ x)))
 
   outs-as : SetsOnly (outsAfter (isIso kind) dir e (d .globals .«iso_out_eps»)) (d .globals) (D .globals)
   unfolding withOn givenTo setsGiven recordGiven
@@ -432,14 +469,23 @@ module _ {b : Buf} {d : Driver} {t : Pages} (r : Coupling quiet b d t) (dir : Di
       old
     where
       old : (dir′ : Dir) (x : ℕ) → key dir′ x ≢ key dir e → Rests dir′ (isSet (isoOuts (D .globals)) (x % 16)) (epOn D dir′ x) (T .outs x)
-      old Out x q = rw (receives-by (d .globals) (D .globals) x (outs-as .config) (ap (λ (w : ℕ). isSet w (x % 16)) (outs-as .isos) ∙ outs-there (isIso kind) dir e x (d .globals .«iso_out_eps») q), there Out x q, page-there Out x q) (r .arming x)
+      old Out x q = rw (
+        receives-by (d .globals) (D .globals) x (outs-as .config)
+            (ap (λ (w : ℕ). isSet w (x % 16)) (outs-as .isos) ∙ outs-there (isIso kind) dir e x (d .globals .«iso_out_eps») q),
+        there Out x q,
+        page-there Out x q,
+      ) (r .arming x)
       old In x q = tt
 
-  apart-after : (dir₁ dir₂ : Dir) (x y : ℕ) → key dir₁ x ≢ key dir₂ y → Apart (epOn D dir₁ x .base) (endOf (epOn D dir₁ x)) (epOn D dir₂ y .base) (endOf (epOn D dir₂ y))
+  apart-after : (dir₁ dir₂ : Dir) (x y : ℕ) → key dir₁ x ≢ key dir₂ y
+      → Apart (epOn D dir₁ x .base) (endOf (epOn D dir₁ x)) (epOn D dir₂ y .base) (endOf (epOn D dir₂ y))
   unfolding allocated
-  apart-after dir₁ dir₂ x y = on-key (λ dir₁ x. key dir₁ x ≢ key dir₂ y → Apart (epOn D dir₁ x .base) (endOf (epOn D dir₁ x)) (epOn D dir₂ y .base) (endOf (epOn D dir₂ y))) dir e
+  apart-after dir₁ dir₂ x y = on-key
+      (λ dir₁ x. key dir₁ x ≢ key dir₂ y
+      → Apart (epOn D dir₁ x .base) (endOf (epOn D dir₁ x)) (epOn D dir₂ y .base) (endOf (epOn D dir₂ y))) dir e
       (λ x q h. rw (here x q, there dir₂ y (λ z. h (key-by dir x e q ∙ sym z))) (inr (below-next dir₂ y)))
-      (λ dir₁ x q h. on-key (λ dir₂ y. key dir₁ x ≢ key dir₂ y → Apart (epOn D dir₁ x .base) (endOf (epOn D dir₁ x)) (epOn D dir₂ y .base) (endOf (epOn D dir₂ y))) dir e
+      (λ dir₁ x q h. on-key (λ dir₂ y. key dir₁ x ≢ key dir₂ y
+      → Apart (epOn D dir₁ x .base) (endOf (epOn D dir₁ x)) (epOn D dir₂ y .base) (endOf (epOn D dir₂ y))) dir e
       (λ y p h. rw (here y p, there dir₁ x q) (inl (below-next dir₁ x)))
       (λ dir₂ y p h. rw (there dir₁ x q, there dir₂ y p) (r .apart dir₁ dir₂ x y h)) dir₂ y h)
       dir₁ x
@@ -447,9 +493,12 @@ module _ {b : Buf} {d : Driver} {t : Pages} (r : Coupling quiet b d t) (dir : Di
   ep0-top : d .globals .«ep0_buf» + ep0Room (d .globals) (d .allocator) ≤ base
   ep0-top = omega (arith, r .ep0-below, g .starts)
 
-  ep0-apart-after : (dir′ : Dir) (x : ℕ) → Apart (d .globals .«ep0_buf») (d .globals .«ep0_buf» + ep0Room (d .globals) (d .allocator)) (epOn D dir′ x .base) (endOf (epOn D dir′ x))
+  ep0-apart-after : (dir′ : Dir) (x : ℕ) → Apart (d .globals .«ep0_buf»)
+      (d .globals .«ep0_buf» + ep0Room (d .globals) (d .allocator)) (epOn D dir′ x .base) (endOf (epOn D dir′ x))
   unfolding allocated
-  ep0-apart-after = on-key (λ dir′ x. Apart (d .globals .«ep0_buf») (d .globals .«ep0_buf» + ep0Room (d .globals) (d .allocator)) (epOn D dir′ x .base) (endOf (epOn D dir′ x))) dir e
+  ep0-apart-after = on-key
+      (λ dir′ x. Apart (d .globals .«ep0_buf»)
+      (d .globals .«ep0_buf» + ep0Room (d .globals) (d .allocator)) (epOn D dir′ x .base) (endOf (epOn D dir′ x))) dir e
       (λ x q. rw (here x q) (inl ep0-top))
       (λ dir′ x q. rw (there dir′ x q) (r .ep0-apart dir′ x))
 
@@ -460,12 +509,14 @@ module _ {b : Buf} {d : Driver} {t : Pages} (r : Coupling quiet b d t) (dir : Di
   isos-here : (dir′ : Dir) → dir′ ≡ dir → (x : ℕ) → x % 16 ≡ e % 16 → IsosAs dir′ x
   isos-here Out p x q = ap (λ (w : ℕ). isSet w (x % 16)) (outs-as .isos)
       ∙ (subst (λ (z : Dir). isSet (outsAfter (isIso kind) z e (d .globals .«iso_out_eps»)) (x % 16) ≡ isIso kind) p
-      (outs-here (isIso kind) e x (d .globals .«iso_out_eps») q (r .isos e ∙ subst (λ (z : Dir). isOn (epOn d z e .iso) ≡ false) (sym p) (ap isOn (unused .iso) ∙ flag-on false)))
+      (outs-here (isIso kind) e x (d .globals .«iso_out_eps») q
+      (r .isos e ∙ subst (λ (z : Dir). isOn (epOn d z e .iso) ≡ false) (sym p) (ap isOn (unused .iso) ∙ flag-on false)))
       ∙ (sym iso-as ∙ sym (ap (λ (y : EpState). isOn (y .iso)) (subst (λ (z : Dir). epOn D z x ≡ R) (sym p) (here x q)))))
   isos-here In p x q = tt
 
   isos-there : (dir′ : Dir) (x : ℕ) → key dir′ x ≢ key dir e → IsosAs dir′ x
-  isos-there Out x q = ap (λ (w : ℕ). isSet w (x % 16)) (outs-as .isos) ∙ (outs-there (isIso kind) dir e x (d .globals .«iso_out_eps») q ∙ (r .isos x ∙ sym (ap (λ (y : EpState). isOn (y .iso)) (there Out x q))))
+  isos-there Out x q = ap (λ (w : ℕ). isSet w (x % 16)) (outs-as .isos)
+      ∙ (outs-there (isIso kind) dir e x (d .globals .«iso_out_eps») q ∙ (r .isos x ∙ sym (ap (λ (y : EpState). isOn (y .iso)) (there Out x q))))
   isos-there In x q = tt
 
   same-after : SameKept D (keptGlobals (T0 .kept) (withSets dir kind interval e (T0 .kept .globals)))
@@ -477,12 +528,24 @@ module _ {b : Buf} {d : Driver} {t : Pages} (r : Coupling quiet b d t) (dir : Di
     allocator = refl;
     paced = r .same .paced;
     requests = r .same .requests;
-    plain = plain-put (withAllocator d a) (t .kept) dir e R (record { eps = r .sized .eps; lens = r .sized .lens; stamps = r .sized .stamps; paced = r .sized .paced; requests = r .sized .requests }) (r .same .plain) (shapedPlain (t .kept .plain dir e) kind maximum base) plain-as;
+    plain = plain-put (withAllocator d a) (t .kept) dir e R (record {
+      eps = r .sized .eps;
+      lens = r .sized .lens;
+      stamps = r .sized .stamps;
+      paced = r .sized .paced;
+      requests = r .sized .requests;
+    }) (r .same .plain) (shapedPlain (t .kept .plain dir e) kind maximum base) plain-as;
   }
 
   sized-after : Sized D
   unfolding withOn givenTo setsGiven recordGiven epOn
-  sized-after = record { eps = length-set (d .eps) (key dir e) R ∙ r .sized .eps; lens = r .sized .lens; stamps = r .sized .stamps; paced = r .sized .paced; requests = r .sized .requests }
+  sized-after = record {
+    eps = length-set (d .eps) (key dir e) R ∙ r .sized .eps;
+    lens = r .sized .lens;
+    stamps = r .sized .stamps;
+    paced = r .sized .paced;
+    requests = r .sized .requests;
+  }
 
   allocator-after : D .allocator ≡ a
   unfolding withOn givenTo setsGiven recordGiven
@@ -506,10 +569,14 @@ module _ {b : Buf} {d : Driver} {t : Pages} (r : Coupling quiet b d t) (dir : Di
     apart = apart-after;
     ep0-below = subst (λ (y : Allocator). D .globals .«ep0_buf» + ep0Room (D .globals) y ≤ y .next * y .size) (sym allocator-after)
         (subst (λ (k : ℕ). k ≤ a .next * a .size) (sym ep0-end) (omega (arith, ep0-top, end-below)));
-    ep0-apart = λ dir′ x. subst (λ (y : Allocator). Apart (D .globals .«ep0_buf») (D .globals .«ep0_buf» + ep0Room (D .globals) y) (epOn D dir′ x .base) (endOf (epOn D dir′ x))) (sym allocator-after)
+    ep0-apart = λ dir′ x. subst
+        (λ (y : Allocator). Apart (D .globals .«ep0_buf») (D .globals .«ep0_buf» + ep0Room (D .globals) y)
+        (epOn D dir′ x .base) (endOf (epOn D dir′ x))) (sym allocator-after)
         (subst (λ (k : ℕ). Apart (D .globals .«ep0_buf») k (epOn D dir′ x .base) (endOf (epOn D dir′ x))) (sym ep0-end)
-        (subst (λ (k : ℕ). Apart k (d .globals .«ep0_buf» + ep0Room (d .globals) (d .allocator)) (epOn D dir′ x .base) (endOf (epOn D dir′ x))) (sym (outs-as .ep0-buf)) (ep0-apart-after dir′ x)));
-    ep0-lies = subst (λ (y : Allocator). D .globals .«ep0_buf» + y .size ≤ length b) (sym allocator-after) (rw (outs-as .ep0-buf, g .number .same-size) (r .ep0-lies));
+        (subst (λ (k : ℕ). Apart k (d .globals .«ep0_buf» + ep0Room (d .globals) (d .allocator)) (epOn D dir′ x .base) (endOf (epOn D dir′ x)))
+        (sym (outs-as .ep0-buf)) (ep0-apart-after dir′ x)));
+    ep0-lies = subst (λ (y : Allocator). D .globals .«ep0_buf» + y .size ≤ length b)
+        (sym allocator-after) (rw (outs-as .ep0-buf, g .number .same-size) (r .ep0-lies));
     ep0-least = subst (λ (y : Allocator). D .globals .«ep0_max» ≤ ep0Room (D .globals) y) (sym allocator-after)
         (rw (outs-as .ep0-max, outs-as .stage, g .number .same-size) (r .ep0-least));
     isos = on-key IsosAs dir e (isos-here dir refl) isos-there Out;

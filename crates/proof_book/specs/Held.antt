@@ -52,7 +52,8 @@ ActAgrees q = (b : Buf) (d : Driver) (t : Pages) → Coupling quiet b d t
 
 abbrev pub HandAgrees : DmaStep → Type 0
 HandAgrees q = (b : Buf) (d : Driver) (t : Pages) → Coupling quiet b d t
-    → let x = handOn q (d, b) in let t′ = feedB (dmaStepAsk q (x .0)) (handB q (t, b) .1 .0) in Coupling quiet (x .1 .1) (x .1 .0) t′ × Good (dmaStepAsk q (x .0)) (x .1 .1) t′
+    → let x = handOn q (d, b) in let t′ = feedB (dmaStepAsk q (x .0)) (handB q (t, b) .1 .0) in
+    Coupling quiet (x .1 .1) (x .1 .0) t′ × Good (dmaStepAsk q (x .0)) (x .1 .1) t′
 
 -- ---- those that wait
 
@@ -99,7 +100,8 @@ module _ (d : Driver) (e : ℕ) {b : Buf} {p : OutPage} (f : OutFits b (epOn d O
   stamp-by (q ∷ qs) h =
       let n : 0 < countOf (epOn d Out e) = omega (arith, held-length (f .held) ∙ ap (λ (w : List Packet). length (bytesOf w)) h) in
       sym (stamps-at d e _ (tail-in d Out e (f .held)))
-      ∙ ap (λ (l : List ℕ). getD l 0 0) (sym (split-stamps (f .held .placed) (f .held .ring) (slotStamps d e) n) ∙ f .stamps ∙ ap (λ (w : List Packet). stampsOf w) h)
+      ∙ ap (λ (l : List ℕ). getD l 0 0)
+      (sym (split-stamps (f .held .placed) (f .held .ring) (slotStamps d e) n) ∙ f .stamps ∙ ap (λ (w : List Packet). stampsOf w) h)
 
   pub held-stamp : nextStamp d e ≡ firstStamp (p .waiting)
   unfolding nextStamp

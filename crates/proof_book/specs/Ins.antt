@@ -22,7 +22,9 @@ use Rattle.ring.specs.In.{hasRoomIn, completedOf, loadedOf, unloadedOf}
 use Rattle.ring.specs.Waiting.{waiting, Same, Only, Placed, SamePlace, Alike}
 use Rattle.ring.specs.Window.{window-is, only-apart}
 use Rattle.ring.specs.Slots.{slot-is, slot-in, slot-lies, slot-upto, slots-apart}
-use Rattle.ring.specs.Laws.{place-placed, place-trans, place-addr, head-away, alike-count, alike-waits, alike-in, waiting-length, waiting-head, slot-region, join-place, join-count, join-waits, join-ring, reset-count, reset-waits, reset-ring, first-part}
+use Rattle.ring.specs.Laws.{place-placed, place-trans, place-addr, head-away, alike-count, alike-waits, alike-in}
+use Rattle.ring.specs.Laws.{waiting-length, waiting-head, slot-region, join-place, join-count, join-waits, join-ring}
+use Rattle.ring.specs.Laws.{reset-count, reset-waits, reset-ring, first-part}
 use Rattle.ring.specs.InLaws as ring-in
 use Rattle.marks.specs.Copies.{copied}
 use Rattle.marks.specs.Only as marks
@@ -40,7 +42,9 @@ use Rattle.proof_book.specs.Pages.{InPage, Pages, withIn}
 use Rattle.proof_book.specs.Book.{Bk, front, roomB, emptyIn, passedIn, sentIn, sourceTold, placedIn, queuedIn, feedB}
 use Rattle.proof_book.specs.Coupling.{Used, Shape, lensOf, Held, Stands, InFits, Coupling, Holds, Good}
 use Rattle.proof_book.specs.Lens.{lens-on, lens-set, ep-len}
-use Rattle.proof_book.specs.Frame.{changed-not, changed-on, changed-len, changed-trans, in-same, in-twice, kept-same, in-moved, in-changed, only-bytes, alike-tail, none-stands, sending-count}
+use Rattle.proof_book.specs.Frame.{changed-not, changed-on, changed-len, changed-trans, in-same, in-twice}
+use Rattle.proof_book.specs.Frame.{kept-same, in-moved, in-changed, only-bytes, alike-tail, none-stands}
+use Rattle.proof_book.specs.Frame.{sending-count}
 use Rattle.proof_book.specs.Lies as in-buffer
 use Rattle.proof_book.specs.Held.{IsAgrees, LookAgrees, ActAgrees, HandAgrees, held-some, held-length, held-next, waits-count}
 
@@ -75,7 +79,8 @@ module _ {b : Buf} {d : Driver} {t : Pages} (R : Coupling quiet b d t) (e : ℕ)
     two = used .slots ∙ ap (λ u. slotsOf u In) i
 
   room-by : (n : ℕ) (u : Bool) → isOn (epOn d In e .iso) ≡ u
-      → (u && (hasRoomIn (epOn d In e) && not (ltb (epOn d In e .stride) n))) ≡ (u && (ltb (length (t .ins e .waiting)) 2 && not (ltb (t .kept .allocator .size) n)))
+      → (u && (hasRoomIn (epOn d In e) && not (ltb (epOn d In e .stride) n)))
+      ≡ (u && (ltb (length (t .ins e .waiting)) 2 && not (ltb (t .kept .allocator .size) n)))
   unfolding hasRoomIn
   room-by n false i = refl
   room-by n true i = rw (held-length (R .ins e .held), two i, used i .stride, size-same) refl
@@ -185,7 +190,8 @@ complete-fits {b} {r} {ls} {p} f =
       ringless = λ h.
           sym (waiting-length b (unloadedOf (completedOf r)) ls)
           ∙ ap (λ x. length x) w
-          ∙ passed-none (p .sending) (p .waiting) (sym (held-length (f .held)) ∙ f .ringless (ap isOn (sym (ap (λ (x : EpCore). x .iso) (completed-plain r))) ∙ h));
+          ∙ passed-none (p .sending) (p .waiting)
+          (sym (held-length (f .held)) ∙ f .ringless (ap isOn (sym (ap (λ (x : EpCore). x .iso) (completed-plain r))) ∙ h));
       loaded = refl;
       sends = ring-in.unloaded-sends (completedOf r);
       turn = ap (λ (n : ℕ). n % 2) (completed-head r) ∙ f .turn;
@@ -196,7 +202,11 @@ complete-fits {b} {r} {ls} {p} f =
 
 pub act-complete : (e : ℕ) → ActAgrees (script.complete e)
 unfolding completeOn
-act-complete e b d t R = (refl, record-changed R e (unloadedOf (completedOf (epOn d In e))) (passedIn (t .ins e)) (completed-place (epOn d In e)) (completed-plain (epOn d In e)) (complete-fits (R .ins e)))
+act-complete e b d t R = (
+  refl,
+  record-changed R e (unloadedOf (completedOf (epOn d In e)))
+      (passedIn (t .ins e)) (completed-place (epOn d In e)) (completed-plain (epOn d In e)) (complete-fits (R .ins e)),
+)
 
 -- ---- a reset
 
@@ -220,11 +230,15 @@ empty-fits {b} {r} {ls} f = record {
 
 pub act-reset-in : (e : ℕ) → ActAgrees (script.reset-ring In e)
 unfolding emptiedOn isoOut emptied
-act-reset-in e b d t R = (refl, record-changed R e (emptied (epOn d In e)) emptyIn (record { base = refl; stride = refl; slots = refl }) refl (empty-fits (R .ins e)))
+act-reset-in e b d t R = (
+  refl,
+  record-changed R e (emptied (epOn d In e)) emptyIn (record { base = refl; stride = refl; slots = refl }) refl (empty-fits (R .ins e)),
+)
 
 -- ---- a packet queued
 
-module _ {b : Buf} {r : EpState} {ls : List ℕ} {p : InPage} (f : InFits b r ls p) (few : countOf r < r .slots) (bytes : List ℕ) (small : length bytes ≤ r .stride) where
+module _ {b : Buf} {r : EpState} {ls : List ℕ} {p : InPage}
+    (f : InFits b r ls p) (few : countOf r < r .slots) (bytes : List ℕ) (small : length bytes ≤ r .stride) where
   abbrev queued : Buf
   queued = copied b (slotAddr r (r .head)) bytes
 
@@ -317,18 +331,26 @@ module _ {b : Buf} {d : Driver} {t : Pages} (R : Coupling quiet b d t) (e : ℕ)
         let l = changed-len (R .sized) In e i (length bytes) in
         let m = withLenOn d In e i (length bytes) in
         let q = ep-len d In e i (length bytes) In e in
-        let c = changed-trans (R .sized) In e l (changed-on (l .sized) In e (joinedOf (epOn d In e)) (subst (λ r. SamePlace r (joinedOf (epOn d In e))) (sym q) (join-place (epOn d In e))) (ap (λ (p : EpCore). p .iso) (joined-plain (epOn d In e)) ∙ ap (λ (r : EpState). r .iso) (sym q))) in
+        let c = changed-trans (R .sized) In e l
+        (changed-on (l .sized) In e (joinedOf (epOn d In e))
+        (subst (λ r. SamePlace r (joinedOf (epOn d In e))) (sym q) (join-place (epOn d In e)))
+        (ap (λ (p : EpCore). p .iso) (joined-plain (epOn d In e)) ∙ ap (λ (r : EpState). r .iso) (sym q))) in
         let s = epOn-same m In e (joinedOf (epOn d In e)) (l .sized) in
         in-changed R {k = t .kept} e (queuedIn (t .ins e) bytes) c
         (kept-same c (ap plainOf s ∙ joined-plain (epOn d In e)) (R .same))
         (only-copied b headAt bytes .long)
-        (slot-region (R .ins e .held .placed) (R .ins e .held .ring) (epOn d In e .head) b (copied b headAt bytes) (queued-only (R .ins e) (z .few) bytes (z .small)))
-        (in-moved s (lens-on m In e (joinedOf (epOn d In e)) In e ∙ lens-set d In e (R .sized) i (length bytes) head-slot) (queued-fits (R .ins e) (z .few) bytes (z .small) (z .iso)))
+        (slot-region (R .ins e .held .placed) (R .ins e .held .ring)
+        (epOn d In e .head) b (copied b headAt bytes) (queued-only (R .ins e) (z .few) bytes (z .small)))
+        (in-moved s (lens-on m In e (joinedOf (epOn d In e)) In e ∙ lens-set d In e (R .sized) i (length bytes) head-slot)
+        (queued-fits (R .ins e) (z .few) bytes (z .small) (z .iso)))
 
   abbrev Queued : Bool → Type 0
   Queued u =
       let x = cond {A = St} u (queuedOn d e (length bytes), copied b headAt bytes) (d, b) in
-      let y = cond {A = Bk} u (withIn t e (queuedIn (t .ins e) bytes), copied b (t .kept .plain In e .base + t .ins e .turn * t .kept .allocator .size) bytes) (t, b) in
+      let y = cond {A = Bk} u (
+        withIn t e (queuedIn (t .ins e) bytes),
+        copied b (t .kept .plain In e .base + t .ins e .turn * t .kept .allocator .size) bytes,
+      ) (t, b) in
       (x .1 ≡ y .1) × Coupling quiet (x .1) (x .0) (y .0)
 
   enqueue-by : (u : Bool) → roomOn d e (length bytes) ≡ u → Queued u
@@ -345,7 +367,8 @@ act-enqueue e bytes b d t R = rw (← room-same R e (length bytes)) (enqueue-by 
 -- ---- a load
 
 -- the one being sent keeps its slot, where it was being sent already; else its slot is shown as it stands
-shown-by : {b : Buf} {r : EpState} {p : InPage} → Stands b r p → (s : Bool) → p .sending ≡ s → Same (slotAddr r (r .tail)) (slotAddr r (r .tail) + r .stride) (cond s (p .shown) b) b
+shown-by : {b : Buf} {r : EpState} {p : InPage} → Stands b r p → (s : Bool)
+    → p .sending ≡ s → Same (slotAddr r (r .tail)) (slotAddr r (r .tail) + r .stride) (cond s (p .shown) b) b
 shown-by {b} {r} {p} f true h = λ k l u. f .bytes h k (omega (arith, f .slot h)) (omega (arith, f .slot h))
 shown-by f false h = λ k l u. refl
 
@@ -369,7 +392,16 @@ loaded-plain r = refl
 
 -- an address that sends nothing
 place-fits : {b : Buf} {r : EpState} {ls : List ℕ} {p : InPage} → InFits b r ls p → InFits b r ls (placedIn p)
-place-fits f = record { held = f .held; ringless = f .ringless; loaded = f .loaded; sends = f .sends; turn = f .turn; ledger = f .ledger; reached = f .reached; stands = record { slot = f .stands .slot; bytes = f .stands .bytes } }
+place-fits f = record {
+  held = f .held;
+  ringless = f .ringless;
+  loaded = f .loaded;
+  sends = f .sends;
+  turn = f .turn;
+  ledger = f .ledger;
+  reached = f .reached;
+  stands = record { slot = f .stands .slot; bytes = f .stands .bytes };
+}
 
 -- the address told after the page changed
 told-in : (t : Pages) (e x : ℕ) (q : InPage) → feedB (Transmit e x) (withIn t e q) ≡ withIn t e (sourceTold q x)
@@ -396,7 +428,8 @@ module _ {b : Buf} {d : Driver} {t : Pages} (R : Coupling quiet b d t) (e : ℕ)
       let x = slotAddr (epOn d In e) (epOn d In e .tail) in
       let p = sentIn (t .ins e) b in
       subst (λ u. Coupling quiet b (withOn d In e (loadedOf (epOn d In e))) u × Good (Transmit e x) b u) (sym (told-in t e x p)) (
-        record-changed R e (loadedOf (epOn d In e)) (sourceTold p x) (ring-in.loaded-alike (epOn d In e) .place) (loaded-plain (epOn d In e)) (load-fits (R .ins e) (waits-count (epOn d In e) h)),
+        record-changed R e (loadedOf (epOn d In e)) (sourceTold p x) (ring-in.loaded-alike (epOn d In e) .place)
+            (loaded-plain (epOn d In e)) (load-fits (R .ins e) (waits-count (epOn d In e) h)),
         (
           subst (λ q. Holds q b x) (sym (in-same t e (sourceTold p x)))
               (λ bytes rest l q. first-part (R .ins e .held .placed) (R .ins e .held .ring) b bytes rest (R .ins e .held .waits ∙ q) (omega arith)),
@@ -407,7 +440,10 @@ module _ {b : Buf} {d : Driver} {t : Pages} (R : Coupling quiet b d t) (e : ℕ)
       let x = slotAddr (epOn d In e) (epOn d In e .tail) in
       subst (λ u. Coupling quiet b d u × Good (Transmit e x) b u) (sym (told-in t e x (placedIn (t .ins e)))) (
         page-changed R e (placedIn (t .ins e)) (place-fits (R .ins e)),
-        (subst (λ q. Holds q b x) (sym (in-same t e (placedIn (t .ins e)))) (λ bytes rest l q. absurd (true≢false (sym l))), in-buffer.slot-lies R In e (epOn d In e .tail)),
+        (
+          subst (λ q. Holds q b x) (sym (in-same t e (placedIn (t .ins e)))) (λ bytes rest l q. absurd (true≢false (sym l))),
+          in-buffer.slot-lies R In e (epOn d In e .tail),
+        ),
       )
 
 -- "the slot whose address a load hands out holds the bytes of the first then waiting"

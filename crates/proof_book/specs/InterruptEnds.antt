@@ -13,7 +13,8 @@ use Rattle.model.specs.Tree.{ends, asks}
 use Rattle.model.specs.Script.{run}
 use Rattle.model.specs.Answers.{Answer}
 use Rattle.model.specs.Calls.{Config, Op, interrupt, slotted, other, aside, Aside, asideCode, interruptCode, calls, starting, startRow}
-use Rattle.model.specs.Machine.{Buf, Call, start, begin, go, question, Event, Awaits, awaited, idle, busy, Machine, over, misfit, stay, beside, begun, continued, started}
+use Rattle.model.specs.Machine.{Buf, Call, start, begin, go, question, Event, Awaits, awaited, idle, busy, Machine}
+use Rattle.model.specs.Machine.{over, misfit, stay, beside, begun, continued, started}
 use Rattle.model.specs.Readings.{Continues}
 use Rattle.model_ops.specs.Rings.{St}
 use Rattle.model_ops.specs.Concrete.{concrete}
@@ -45,7 +46,8 @@ continues-none (e ∷ es) m h = rw h refl
 
 -- every list of calls takes such a path from the access q
 abbrev Goes : List (Event Config Op) → Type 0
-Goes es = (q : Access) (s : St) (k : ℕ → St → tree.Out St Answer) (a : Awaits) (d : Driver) (b : Buf) → Path (asks q s k) (interruptContinues es (serves a k d b))
+Goes es = (q : Access) (s : St) (k : ℕ → St → tree.Out St Answer) (a : Awaits) (d : Driver) (b : Buf)
+    → Path (asks q s k) (interruptContinues es (serves a k d b))
 
 module _ (es : List (Event Config Op)) (goes : Goes es) (q : Access) (s : St) (k : ℕ → St → tree.Out St Answer) (a : Awaits) (d : Driver) where
   -- a start-up takes the interrupt's place
@@ -68,7 +70,9 @@ module _ (es : List (Event Config Op)) (goes : Goes es) (q : Access) (s : St) (k
   begins (other o) l b = goes q s k a d l
   begins (aside o) l b = passes l (run concrete (asideCode o) (d, l))
 
-  fitted : (o : Op) (l b : Buf) (g : Bool) → Path (asks q s k) (interruptContinues es (cond g (stay calls driverOf 1 (serves a k d b)) (begun calls driverOf (λ s. s) o (serves a k d b) (busy true a k) l) .1))
+  fitted : (o : Op) (l b : Buf) (g : Bool) → Path (asks q s k)
+      (interruptContinues es
+      (cond g (stay calls driverOf 1 (serves a k d b)) (begun calls driverOf (λ s. s) o (serves a k d b) (busy true a k) l) .1))
   fitted o l b true = goes q s k a d b
   fitted o l b false = begins o l b
 
@@ -81,7 +85,9 @@ module _ (es : List (Event Config Op)) (goes : Goes es) (q : Access) (s : St) (k
       record { path = (v, (d, l)) ∷ r .path; most = rw h (omega (arith, r .most)) }
 
   continued-by : (v : ℕ) (b l : Buf) (g w : Bool)
-      → Path (asks q s k) (cond g 0 (cond w 0 1) + interruptContinues es (cond g (stay calls driverOf 1 (serves a k d b)) (cond w (stay calls driverOf 16 (serves a k d l)) (haltsAs true (k v (d, l)))) .1))
+      → Path (asks q s k)
+      (cond g 0 (cond w 0 1) + interruptContinues es
+      (cond g (stay calls driverOf 1 (serves a k d b)) (cond w (stay calls driverOf 16 (serves a k d l)) (haltsAs true (k v (d, l)))) .1))
   continued-by v b l true w = as-many (goes q s k a d b)
   continued-by v b l false true = as-many (goes q s k a d l)
   continued-by v b l false false = goes-on v l (k v (d, l)) refl
@@ -98,8 +104,10 @@ every [] = λ q s k a d b. none refl
 every (e ∷ es) = λ q s k a d b. one es (every es) q s k a d (e .call) b (e .lent)
 
 -- an interrupt begun where nothing is under way, in any state, and any calls after it
-pub interrupt-ends : (n : Machine Answer Driver) → n .way ≡ idle → (slots : Buf) (fs : List (Event Config Op)) → interruptContinues fs (drive (begin interrupt) n slots .1) ≤ 4154
-interrupt-ends n w slots fs = subst (λ y. interruptContinues fs (begun calls driverOf (λ s. s) interrupt n y slots .1) ≤ 4154) (sym w) (by (run concrete interruptCode (n .st, slots)) refl)
+pub interrupt-ends : (n : Machine Answer Driver) → n .way ≡ idle
+    → (slots : Buf) (fs : List (Event Config Op)) → interruptContinues fs (drive (begin interrupt) n slots .1) ≤ 4154
+interrupt-ends n w slots fs = subst (λ y. interruptContinues fs (begun calls driverOf (λ s. s) interrupt n y slots .1) ≤ 4154)
+    (sym w) (by (run concrete interruptCode (n .st, slots)) refl)
   where
     by : (x : tree.Out St Answer) → run concrete interruptCode (n .st, slots) ≡ x → interruptContinues fs (haltsAs true x .1) ≤ 4154
     by (ends y t) h = omega (arith, continues-none fs (haltsAs true (ends y t) .1) refl)

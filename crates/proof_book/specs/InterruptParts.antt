@@ -10,7 +10,9 @@ use Rattle.regs.specs.declared.Token.{Token}
 use Rattle.regs.specs.declared.Token.the-variants as tok
 use Rattle.model.specs.declared.Transfer.{Transfer}
 use Rattle.model.specs.Cells.{Cell, Val}
-use Rattle.model.specs.Script.{Script, ret, bind, test, read-then, write-then, wait-then, callback-then, get-then, put-then, is-then, look-then, fetch-then, act-then, hand-then, Test, Look, Fetch, complete, no-wakes, waken, arrive, send}
+use Rattle.model.specs.Script.{Script, ret, bind, test, read-then, write-then, wait-then, callback-then, get-then}
+use Rattle.model.specs.Script.{put-then, is-then, look-then, fetch-then, act-then, hand-then, Test, Look, Fetch}
+use Rattle.model.specs.Script.{complete, no-wakes, waken, arrive, send}
 use Rattle.model.specs.Answers.{Answer}
 use Rattle.model.specs.Calls.{interruptCode}
 use Rattle.model.specs.IsoIn.{isoInComplete, sofOne, sofWalk, lateOne, lateWalk, onSof}
@@ -38,7 +40,25 @@ pub data Parts : (A : Type 0) → Script true A → Type 1 where
   p-arrive : {A : Type 0} {e n : ℕ} {p : Script true A} → Parts A p → Parts A (hand-then (arrive e n) p)
   p-send : {A : Type 0} {e : ℕ} {p : Script true A} → Parts A p → Parts A (hand-then (send e) p)
 
-ruleset apart = (p-ret, p-bind, p-test, p-read, p-write, p-wait, p-callback, p-get, p-put, p-is, p-look, p-fetch, p-complete, p-no-wakes, p-waken, p-arrive, p-send)
+ruleset apart = (
+  p-ret,
+  p-bind,
+  p-test,
+  p-read,
+  p-write,
+  p-wait,
+  p-callback,
+  p-get,
+  p-put,
+  p-is,
+  p-look,
+  p-fetch,
+  p-complete,
+  p-no-wakes,
+  p-waken,
+  p-arrive,
+  p-send,
+)
 
 of-looks : (n : ℕ) → Parts Unit (looks {i = true} n)
 unfolding looks

@@ -16,11 +16,15 @@ use Rattle.marks.specs.Copies.{copied}
 use Rattle.model.specs.Tree as tree
 use Rattle.model.specs.Tree.{ends, asks, bindOut}
 use Rattle.model.specs.Cells.{Cell, Val, globals-cell, control-cell, allocator-cell, ep-cell, request-cell, paced-cell}
-use Rattle.model.specs.Script.{Script, ret, bind, test, read-then, write-then, wait-then, callback-then, get-then, put-then, is-then, look-then, fetch-then, act-then, hand-then, row-then, run, get, Act, complete, reset-ring, set-enabled, fill, fill0, open-oldest, close-oldest, take-oldest, enqueue, allocate, allocate0, no-wakes, waken, DmaStep, arrive, send, place, place0}
+use Rattle.model.specs.Script.{Script, ret, bind, test, read-then, write-then, wait-then, callback-then, get-then}
+use Rattle.model.specs.Script.{put-then, is-then, look-then, fetch-then, act-then, hand-then, row-then, run, get, Act}
+use Rattle.model.specs.Script.{complete, reset-ring, set-enabled, fill, fill0, open-oldest, close-oldest, take-oldest}
+use Rattle.model.specs.Script.{enqueue, allocate, allocate0, no-wakes, waken, DmaStep, arrive, send, place, place0}
 use Rattle.model.specs.Statics.{isOn, isoOuts}
 use Rattle.model.specs.TransferKinds.{allocates}
 use Rattle.model_ops.specs.Records.{isoOut, configured, enabledOn}
-use Rattle.model_ops.specs.Rings.{St, completeOn, emptied, emptiedOn, openOn, closeOn, takeOn, roomOn, queuedOn, enqueueOn, recordedOn, admittedOn, arrivedAt, arriveOn, sendOn, placeOn}
+use Rattle.model_ops.specs.Rings.{St, completeOn, emptied, emptiedOn, openOn, closeOn, takeOn, roomOn, queuedOn}
+use Rattle.model_ops.specs.Rings.{enqueueOn, recordedOn, admittedOn, arrivedAt, arriveOn, sendOn, placeOn}
 use Rattle.model_ops.specs.Concrete.{concrete}
 
 -- ---- on every way through an outcome
@@ -123,7 +127,8 @@ Keeps ok x (row-then g p) = ⊥
 abbrev pub At : ℕ → St → Type 0
 At x s = s .0 .globals .entered ≡ x
 
-either : {A : Type 0} (f : Globals → A) (b : Bool) (d x y : Driver) → f (x .globals) ≡ f (d .globals) → f (y .globals) ≡ f (d .globals) → f (cond b x y .globals) ≡ f (d .globals)
+either : {A : Type 0} (f : Globals → A) (b : Bool) (d x y : Driver)
+    → f (x .globals) ≡ f (d .globals) → f (y .globals) ≡ f (d .globals) → f (cond b x y .globals) ≡ f (d .globals)
 either f true d x y p q = p
 either f false d x y p q = q
 
@@ -156,7 +161,10 @@ act-at (close-oldest e) h s = either (λ g. g .entered) (isOn (epOn (s .0) Out e
 act-at (take-oldest e) h s = either (λ g. g .entered) (hasWaiting (epOn (s .0) Out e)) (s .0) _ (s .0) refl refl
 act-at (enqueue e bytes) h s = by (roomOn (s .0) e (length bytes))
   where
-    by : (b : Bool) → cond b (queuedOn (s .0) e (length bytes), copied (s .1) (slotAddr (epOn (s .0) In e) (epOn (s .0) In e .head)) bytes) s .0 .globals .entered ≡ s .0 .globals .entered
+    by : (b : Bool) → cond b (
+      queuedOn (s .0) e (length bytes),
+      copied (s .1) (slotAddr (epOn (s .0) In e) (epOn (s .0) In e .head)) bytes,
+    ) s .0 .globals .entered ≡ s .0 .globals .entered
     by true = refl
     by false = refl
 act-at (allocate d kind address maximum interval) h s = absurd (true≢false h)
@@ -172,13 +180,17 @@ pub hand-at : (q : DmaStep) (s : St) → concrete .hand q s .1 .0 .globals .ente
 unfolding arriveOn admittedOn sendOn placeOn withOn
 hand-at (arrive e n) s = by (isSet (isoOuts (s .0 .globals)) (e % 16))
   where
-    by : (b : Bool) → cond b (arrivedAt e (cappedAt (epOn (s .0) Out e) n) s) (epOn (s .0) Out e .«armed_slot», s) .1 .0 .globals .entered ≡ s .0 .globals .entered
+    by : (b : Bool) → cond b (arrivedAt e (cappedAt (epOn (s .0) Out e) n) s) (epOn (s .0) Out e .«armed_slot», s) .1 .0 .globals .entered
+        ≡ s .0 .globals .entered
     by true = recorded-at (s .0) e (cappedAt (epOn (s .0) Out e) n)
     by false = refl
 hand-at (send e) s = either (λ g. g .entered) (hasWaiting (epOn (s .0) In e)) (s .0) _ (s .0) refl refl
 hand-at (place Out e) s = by (isSet (isoOuts (s .0 .globals)) (e % 16))
   where
-    by : (b : Bool) → cond {A = ℕ × Driver} b (epOn (s .0) Out e .«armed_slot», s .0) (epOn (s .0) Out e .base, withOn (s .0) Out e (armedAt (epOn (s .0) Out e) (epOn (s .0) Out e .base))) .1 .globals .entered ≡ s .0 .globals .entered
+    by : (b : Bool) → cond {A = ℕ × Driver} b (epOn (s .0) Out e .«armed_slot», s .0) (
+      epOn (s .0) Out e .base,
+      withOn (s .0) Out e (armedAt (epOn (s .0) Out e) (epOn (s .0) Out e .base)),
+    ) .1 .globals .entered ≡ s .0 .globals .entered
     by true = refl
     by false = refl
 hand-at (place In e) s = refl

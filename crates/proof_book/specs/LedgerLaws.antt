@@ -65,6 +65,18 @@ module _ {φ : Phase} {b : Buf} {d : Driver} {t : Pages} (R : Coupling φ b d t)
     where
       by : (s : Bool) (w : List (List ℕ)) → t .ins e .waiting ≡ w → t .ins e .sent ≡ t .ins e .passed ++ cond s (front w) []
           → (rest : List (List ℕ)) × (t .ins e .sent ++ rest ≡ t .ins e .queued)
-      by true [] h k = ([], ap (λ (l : List (List ℕ)). l ++ []) k ∙ append-assoc (t .ins e .passed) [] [] ∙ ap (λ (l : List (List ℕ)). t .ins e .passed ++ l) (sym h) ∙ R .ins e .ledger)
-      by true (x ∷ xs) h k = (xs, ap (λ (l : List (List ℕ)). l ++ xs) k ∙ append-assoc (t .ins e .passed) (x ∷ []) xs ∙ ap (λ (l : List (List ℕ)). t .ins e .passed ++ l) (sym h) ∙ R .ins e .ledger)
-      by false w h k = (w, ap (λ (l : List (List ℕ)). l ++ w) k ∙ append-assoc (t .ins e .passed) [] w ∙ ap (λ (l : List (List ℕ)). t .ins e .passed ++ l) (sym h) ∙ R .ins e .ledger)
+      by true [] h k = (
+        [],
+        ap (λ (l : List (List ℕ)). l ++ []) k ∙ append-assoc (t .ins e .passed) [] []
+            ∙ ap (λ (l : List (List ℕ)). t .ins e .passed ++ l) (sym h) ∙ R .ins e .ledger,
+      )
+      by true (x ∷ xs) h k = (
+        xs,
+        ap (λ (l : List (List ℕ)). l ++ xs) k ∙ append-assoc (t .ins e .passed) (x ∷ []) xs
+            ∙ ap (λ (l : List (List ℕ)). t .ins e .passed ++ l) (sym h) ∙ R .ins e .ledger,
+      )
+      by false w h k = (
+        w,
+        ap (λ (l : List (List ℕ)). l ++ w) k ∙ append-assoc (t .ins e .passed) [] w
+            ∙ ap (λ (l : List (List ℕ)). t .ins e .passed ++ l) (sym h) ∙ R .ins e .ledger,
+      )

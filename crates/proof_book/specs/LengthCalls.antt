@@ -27,11 +27,15 @@ use Rattle.model.specs.Simulates.{Phase}
 use Rattle.model.specs.Statics.{isOn, isoOuts}
 use Rattle.model.specs.Answers.{Answer, Refused, isAllocated}
 use Rattle.model.specs.Driver.{openPacket, closePacket, queuePacket}
-use Rattle.model.specs.Calls.{Config, Op, interrupt, slotted, other, aside, Aside, Open, Close, Queue, asideCode, interruptCode, calls, code, starting, startRow}
-use Rattle.model.specs.Machine.{Buf, Call, start, begin, go, question, Ans, ended, handed, told, blank, blankA, Awaits, Way, idle, busy, Machine, over, misfit, stay, lentTo, beside, halt, begun, continued, started, fed}
+use Rattle.model.specs.Calls.{Config, Op, interrupt, slotted, other, aside, Aside, Open, Close, Queue, asideCode}
+use Rattle.model.specs.Calls.{interruptCode, calls, code, starting, startRow}
+use Rattle.model.specs.Machine.{Buf, Call, start, begin, go, question, Ans, ended, handed, told, blank, blankA, Awaits}
+use Rattle.model.specs.Machine.{Way, idle, busy, Machine, over, misfit, stay, lentTo, beside, halt, begun, continued}
+use Rattle.model.specs.Machine.{started, fed}
 use Rattle.model_ops.specs.Records.{plainOf}
 use Rattle.proof_book.specs.Pages.{Packet, OutPage, InPage, Kept, Pages, withOut, withIn}
-use Rattle.proof_book.specs.Book.{Bk, isoOf, receiving, some, waitsOn, roomB, openOut, readOut, queuedIn, arrived, joined, overrun, feedB, freshPages, bookOps, book}
+use Rattle.proof_book.specs.Book.{Bk, isoOf, receiving, some, waitsOn, roomB, openOut, readOut, queuedIn, arrived}
+use Rattle.proof_book.specs.Book.{joined, overrun, feedB, freshPages, bookOps, book}
 use Rattle.proof_book.specs.Coupling.{Coupling}
 use Rattle.proof_book.specs.Held.{receives-iso}
 use Rattle.proof_book.specs.FrontPage.{written, inInterrupt, Decides}

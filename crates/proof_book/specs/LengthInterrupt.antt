@@ -27,11 +27,15 @@ use Rattle.model.specs.Script.{run, write, when, changed, marked, no-wakes}
 use Rattle.model.specs.Calls.{interruptCode}
 use Rattle.model.specs.Statics.{isOn, isoOuts, isoInEvery}
 use Rattle.model.specs.IsoOut.{arriving, entry, arrives, checkOne, checkWalk, isoOutCheck}
-use Rattle.model.specs.Handler.{entered, sameOut, lateTaken, waited, retaken, released, waitsForIso, waitsForBulk, retake, settle, isoFor, ownIn, framed, served, onTransfer, onSetup, onInterrupt, stampedInterrupt}
+use Rattle.model.specs.Handler.{entered, sameOut, lateTaken, waited, retaken, released, waitsForIso, waitsForBulk}
+use Rattle.model.specs.Handler.{retake, settle, isoFor, ownIn, framed, served, onTransfer, onSetup, onInterrupt}
+use Rattle.model.specs.Handler.{stampedInterrupt}
 use Rattle.proof_book.specs.Book.{Bk, getB, bookOps}
 use Rattle.proof_book.specs.Lengths.{Readings, nothing-read, one-more, bringing, first, second, itsOwn, lengthOf}
 use Rattle.proof_book.specs.BookDecides.{idle}
-use Rattle.proof_book.specs.QuietParts.{plainly, notAgain, freely, of-looks, of-nak, nak-freely, of-sof, of-late-walk, of-dispatch, of-ep0-moved, of-on-setup, of-microframe, of-masked}
+use Rattle.proof_book.specs.QuietParts.{plainly, notAgain, freely, of-looks, of-nak, nak-freely, of-sof}
+use Rattle.proof_book.specs.QuietParts.{of-late-walk, of-dispatch, of-ep0-moved, of-on-setup, of-microframe}
+use Rattle.proof_book.specs.QuietParts.{of-masked}
 use Rattle.proof_book.specs.LengthScripts.{Evens, Fixed, Told, t-end, t-ask, told-from, told-bind, told-cond, no-arrival, measures, arrive-fixed}
 use Rattle.proof_book.specs.LengthScripts.{quiet-run}
 

@@ -22,7 +22,8 @@ use Rattle.proof_book.specs.Book.{Bk, putB, isoOf, receiving, arrived, p
 use Rattle.proof_book.specs.Frame.{at-elim, out-same}
 use Rattle.proof_book.specs.Lengths.{Readings, bringing, lengthOf}
 use Rattle.proof_book.specs.BookDecides.{Idle, idle, idle-then, puts, isReceive, numberIn, no-receive}
-use Rattle.proof_book.specs.QuietParts.{Quiet, q-ret, q-bind, q-test, q-read, q-write, q-wait, q-callback, q-get, q-put, q-is, q-look, q-fetch, q-complete, q-no-wakes, q-waken, q-send}
+use Rattle.proof_book.specs.QuietParts.{Quiet, q-ret, q-bind, q-test, q-read, q-write, q-wait, q-callback, q-get}
+use Rattle.proof_book.specs.QuietParts.{q-put, q-is, q-look, q-fetch, q-complete, q-no-wakes, q-waken, q-send}
 
 -- numbers count modulo 16
 pub record Evens (I : ℕ → Bool) (M : ℕ → ℕ) : Type 0 where

@@ -34,7 +34,8 @@ lent (begin o) m n = granted (cond (calls .slots o) (misfit calls driverOf (m .s
 lent (go v) m n = granted (misfit calls driverOf (m .st) (m .buf)) (no-store (n .st) (m .buf))
 lent (question q) m n = no-store (n .st) (m .buf)
 
-pub lawful : (cs : List (Call Config Op)) (m : Machine Answer Driver) (n : Machine Answer Pages) → Lawful driverOf book agree calls fresh-kept (lentBack cs m) m n
+pub lawful : (cs : List (Call Config Op)) (m : Machine Answer Driver) (n : Machine Answer Pages)
+    → Lawful driverOf book agree calls fresh-kept (lentBack cs m) m n
 lawful [] m n = tt
 lawful (c ∷ cs) m n = (lent c m n, lawful cs _ _)
 

@@ -17,18 +17,26 @@ use Rattle.alloc.specs.declared.Answer.the-variants as alloc
 use Rattle.model.specs.Tree as tree
 use Rattle.model.specs.Tree.{ends, asks}
 use Rattle.model.specs.Cells.{Cell, Val}
-use Rattle.model.specs.Script.{Script, run, rows, ret, bind, test, read-then, write-then, wait-then, callback-then, get-then, put-then, is-then, look-then, fetch-then, act-then, hand-then, row-then, Test, Look, Fetch, Act, complete, reset-ring, open-oldest, close-oldest, take-oldest, enqueue, DmaStep, dmaStepAsk, send, place, place0, Burst, switch, bus-reset, lastOf, burstAsk}
+use Rattle.model.specs.Script.{Script, run, rows, ret, bind, test, read-then, write-then, wait-then, callback-then}
+use Rattle.model.specs.Script.{get-then, put-then, is-then, look-then, fetch-then, act-then, hand-then, row-then, Test}
+use Rattle.model.specs.Script.{Look, Fetch, Act, complete, reset-ring, open-oldest, close-oldest, take-oldest, enqueue}
+use Rattle.model.specs.Script.{DmaStep, dmaStepAsk, send, place, place0, Burst, switch, bus-reset, lastOf, burstAsk}
 use Rattle.marks.specs.Copies.{copied}
 use Rattle.model.specs.Statics.{renewed}
 use Rattle.model.specs.IsoIn.{isoInComplete, isoInCompletions}
 use Rattle.model.specs.Bus as bus
 use Rattle.model.specs.Control.{acks}
 use Rattle.model.specs.Driver.{started-as}
-use Rattle.model.specs.Calls.{Config, Slotted, SetEnabled, PollRead, BeginWrite, PollWrite, PollDataOut, BeginDataIn, Other, Allocate, AllocateAll, Start, BusPoll, BusEnable, BusDisable, Microframe, SetStalled, IsStalled, SetPaced, Advance, BeginRead, BeginSetup, PollSetup, PollDataIn, BeginAccept, PollAccept, BeginReject, BeginDataOut, BeginAcceptSetAddress, Aside, Open, Close, Queue, slottedCode, otherCode, asideCode, starting}
+use Rattle.model.specs.Calls.{Config, Slotted, SetEnabled, PollRead, BeginWrite, PollWrite, PollDataOut, BeginDataIn}
+use Rattle.model.specs.Calls.{Other, Allocate, AllocateAll, Start, BusPoll, BusEnable, BusDisable, Microframe}
+use Rattle.model.specs.Calls.{SetStalled, IsStalled, SetPaced, Advance, BeginRead, BeginSetup, PollSetup, PollDataIn}
+use Rattle.model.specs.Calls.{BeginAccept, PollAccept, BeginReject, BeginDataOut, BeginAcceptSetAddress, Aside, Open}
+use Rattle.model.specs.Calls.{Close, Queue, slottedCode, otherCode, asideCode, starting}
 use Rattle.model.specs.Answers.{Answer}
 use Rattle.model.specs.Machine.{Buf}
 use Rattle.proof_book.specs.Pages.{OutPage, InPage, Kept, Pages, withKept, withOut, withIn, keptPlain}
-use Rattle.proof_book.specs.Book.{Bk, putB, actB, handB, rowB, isoOf, roomB, some, waitsOn, openOut, readOut, emptyOut, emptyIn, passedIn, placedIn, loadedIn, queuedIn, bookOps}
+use Rattle.proof_book.specs.Book.{Bk, putB, actB, handB, rowB, isoOf, roomB, some, waitsOn, openOut, readOut}
+use Rattle.proof_book.specs.Book.{emptyOut, emptyIn, passedIn, placedIn, loadedIn, queuedIn, bookOps}
 use Rattle.proof_book.specs.Frame.{at-elim}
 use Rattle.proof_book.specs.FrontPage.{givesTo}
 use Rattle.proof_book.specs.Others.{releases, Names, only, none, any, Away, slottedNames, otherNames, asideNames}

@@ -30,7 +30,8 @@ use Rattle.proof_book.specs.Coupling.{Short, lensOf, slotStamps, OutFits
 use Rattle.proof_book.specs.Lens.{lens-on, stamps-on}
 use Rattle.proof_book.specs.StampsLaws.{alike-stamps, none-stamps, close-stamps}
 use Rattle.proof_book.specs.Frame.{changed-not, changed-on, kept-same, out-changed, out-moved}
-use Rattle.proof_book.specs.Held.{IsAgrees, LookAgrees, FetchAgrees, ActAgrees, held-some, waits-count, held-next, held-first, held-stamp, receives, plain-receives}
+use Rattle.proof_book.specs.Held.{IsAgrees, LookAgrees, FetchAgrees, ActAgrees, held-some, waits-count, held-next}
+use Rattle.proof_book.specs.Held.{held-first, held-stamp, receives, plain-receives}
 use Rattle.proof_book.specs.Outs.{Inner}
 
 -- ---- what is asked
@@ -81,7 +82,8 @@ out-on {b} {d} {t} R e r p k f a =
     let s = R .sized in
     let c = changed-on s Out e r (k .place) (ap (λ (q : EpCore). q .iso) (k .plain)) in
     let z : epOn (withOn d Out e r) Out e ≡ r = epOn-same d Out e r s in
-    out-changed R e p c (kept-same c (ap plainOf z ∙ k .plain) (R .same)) refl (λ i h. refl) (out-moved z (lens-on d Out e r Out e) (stamps-on d Out e r e) f) tt (λ x u n y. y)
+    out-changed R e p c (kept-same c (ap plainOf z ∙ k .plain) (R .same)) refl
+    (λ i h. refl) (out-moved z (lens-on d Out e r Out e) (stamps-on d Out e r e) f) tt (λ x u n y. y)
     (subst (λ y. AtRest (receives d e) y p) (sym z) a)
 
 -- nothing but a page that is read as it was

@@ -85,22 +85,78 @@ abbrev pub withIn : Pages → ℕ → InPage → Pages
 withIn t e p = record { kept = t .kept; outs = t .outs; ins = at e p (t .ins) }
 
 abbrev pub keptGlobals : Kept → Globals → Kept
-keptGlobals k v = record { globals = v; wakes = k .wakes; control = k .control; allocator = k .allocator; paced = k .paced; requests = k .requests; plain = k .plain }
+keptGlobals k v = record {
+  globals = v;
+  wakes = k .wakes;
+  control = k .control;
+  allocator = k .allocator;
+  paced = k .paced;
+  requests = k .requests;
+  plain = k .plain;
+}
 
 abbrev pub keptWakes : Kept → Wakes → Kept
-keptWakes k v = record { globals = k .globals; wakes = v; control = k .control; allocator = k .allocator; paced = k .paced; requests = k .requests; plain = k .plain }
+keptWakes k v = record {
+  globals = k .globals;
+  wakes = v;
+  control = k .control;
+  allocator = k .allocator;
+  paced = k .paced;
+  requests = k .requests;
+  plain = k .plain;
+}
 
 abbrev pub keptControl : Kept → Control → Kept
-keptControl k v = record { globals = k .globals; wakes = k .wakes; control = v; allocator = k .allocator; paced = k .paced; requests = k .requests; plain = k .plain }
+keptControl k v = record {
+  globals = k .globals;
+  wakes = k .wakes;
+  control = v;
+  allocator = k .allocator;
+  paced = k .paced;
+  requests = k .requests;
+  plain = k .plain;
+}
 
 abbrev pub keptAllocator : Kept → Allocator → Kept
-keptAllocator k v = record { globals = k .globals; wakes = k .wakes; control = k .control; allocator = v; paced = k .paced; requests = k .requests; plain = k .plain }
+keptAllocator k v = record {
+  globals = k .globals;
+  wakes = k .wakes;
+  control = k .control;
+  allocator = v;
+  paced = k .paced;
+  requests = k .requests;
+  plain = k .plain;
+}
 
 abbrev pub keptPaced : Kept → ℕ → ℕ → Kept
-keptPaced k e v = record { globals = k .globals; wakes = k .wakes; control = k .control; allocator = k .allocator; paced = at e v (k .paced); requests = k .requests; plain = k .plain }
+keptPaced k e v = record {
+  globals = k .globals;
+  wakes = k .wakes;
+  control = k .control;
+  allocator = k .allocator;
+  paced = at e v (k .paced);
+  requests = k .requests;
+  plain = k .plain;
+}
 
 abbrev pub keptRequest : Kept → Dir → ℕ → Request → Kept
-keptRequest k d e v = record { globals = k .globals; wakes = k .wakes; control = k .control; allocator = k .allocator; paced = k .paced; requests = on d e v (k .requests); plain = k .plain }
+keptRequest k d e v = record {
+  globals = k .globals;
+  wakes = k .wakes;
+  control = k .control;
+  allocator = k .allocator;
+  paced = k .paced;
+  requests = on d e v (k .requests);
+  plain = k .plain;
+}
 
 abbrev pub keptPlain : Kept → Dir → ℕ → EpCore → Kept
-keptPlain k d e v = record { globals = k .globals; wakes = k .wakes; control = k .control; allocator = k .allocator; paced = k .paced; requests = k .requests; plain = on d e v (k .plain) }
+keptPlain k d e v = record {
+  globals = k .globals;
+  wakes = k .wakes;
+  control = k .control;
+  allocator = k .allocator;
+  paced = k .paced;
+  requests = k .requests;
+  plain = on d e v (k .plain);
+}

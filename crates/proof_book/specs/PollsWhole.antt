@@ -94,7 +94,9 @@ module _ (t : Pages) (b : Buf) (e n : ℕ) (iso : isOn (t .kept .plain Out e .is
 
   module _ (r : isOn (t .kept .requests Out e .begun) ≡ true) (l : t .kept .requests Out e .length ≡ n) where
     waiting-by : (u : Bool) → some (bytesOf (t .outs e .waiting)) ≡ u
-        → Gives (run {i = false} bookOps (test u (bind (fetch (oldest e)) (λ bytes. act (take-oldest e) >> ends-request Out e (Done (take n bytes)))) (ret NotYet)) (t, b))
+        → Gives
+        (run {i = false} bookOps
+        (test u (bind (fetch (oldest e)) (λ bytes. act (take-oldest e) >> ends-request Out e (Done (take n bytes)))) (ret NotYet)) (t, b))
     waiting-by true h = λ bytes q. record {
       begun = r;
       room = l;
@@ -104,7 +106,10 @@ module _ (t : Pages) (b : Buf) (e n : ℕ) (iso : isOn (t .kept .plain Out e .is
     }
     waiting-by false h = refused NotYet (t, b) refl
 
-    enabled-by : (u : Bool) → Gives (run {i = false} bookOps (test u (bind (is (waiting Out e)) (λ b. test b (bind (fetch (oldest e)) (λ bytes. act (take-oldest e) >> ends-request Out e (Done (take n bytes)))) (ret NotYet))) (ends-request Out e (Refused 9))) (t, b))
+    enabled-by : (u : Bool) → Gives
+        (run {i = false} bookOps (test u (bind (is (waiting Out e))
+        (λ b. test b (bind (fetch (oldest e)) (λ bytes. act (take-oldest e) >> ends-request Out e (Done (take n bytes)))) (ret NotYet)))
+        (ends-request Out e (Refused 9))) (t, b))
     enabled-by true = waiting-by (some (bytesOf (t .outs e .waiting))) refl
     enabled-by false = λ bytes q. not-done (Refused 9) bytes refl q
 
@@ -113,20 +118,28 @@ module _ (t : Pages) (b : Buf) (e n : ℕ) (iso : isOn (t .kept .plain Out e .is
     iso-by false h = absurd (true≢false (sym h))
 
   length-by : isOn (t .kept .requests Out e .begun) ≡ true → (u : Bool) → eqb (t .kept .requests Out e .length) n ≡ u
-      → Gives (run {i = false} bookOps (test u (bind (get (ep-cell Out e)) (λ s. test (isOn (s .iso)) (take-iso e n) (take-ready e n s))) (modifyEp Out e (withReady 0) >> ends-request Out e (Refused 10))) (t, b))
+      → Gives
+      (run {i = false} bookOps (test u (bind (get (ep-cell Out e)) (λ s. test (isOn (s .iso)) (take-iso e n) (take-ready e n s)))
+      (modifyEp Out e (withReady 0) >> ends-request Out e (Refused 10))) (t, b))
   length-by r true h = iso-by r (eqb-true (t .kept .requests Out e .length) n h) (isOn (t .kept .plain Out e .iso)) iso
   length-by r false h = λ bytes q. not-done (Refused 10) bytes refl q
 
   begun-by : (u : Bool) → isOn (t .kept .requests Out e .begun) ≡ u
-      → Gives (run {i = false} bookOps (unless (not u) 15 (test (eqb (t .kept .requests Out e .length) n) (bind (get (ep-cell Out e)) (λ s. test (isOn (s .iso)) (take-iso e n) (take-ready e n s))) (modifyEp Out e (withReady 0) >> ends-request Out e (Refused 10)))) (t, b))
+      → Gives
+      (run {i = false} bookOps (unless (not u) 15 (test (eqb (t .kept .requests Out e .length) n)
+      (bind (get (ep-cell Out e)) (λ s. test (isOn (s .iso)) (take-iso e n) (take-ready e n s)))
+      (modifyEp Out e (withReady 0) >> ends-request Out e (Refused 10)))) (t, b))
   begun-by true h = length-by h (eqb (t .kept .requests Out e .length) n) refl
   begun-by false h = λ bytes q. not-done (Refused 15) bytes refl q
 
-  named-by : (u : Bool) → Gives (run {i = false} bookOps (test u (polled Out e n (λ s. test (isOn (s .iso)) (take-iso e n) (take-ready e n s))) (ret (Refused 5))) (t, b))
+  named-by : (u : Bool) → Gives
+      (run {i = false} bookOps (test u (polled Out e n (λ s. test (isOn (s .iso)) (take-iso e n) (take-ready e n s))) (ret (Refused 5))) (t, b))
   named-by true = begun-by (isOn (t .kept .requests Out e .begun)) refl
   named-by false = λ bytes q. not-done (Refused 5) bytes refl q
 
-  staged-by : (u : Bool) → Gives (run {i = false} bookOps (test u (named Out e (polled Out e n (λ s. test (isOn (s .iso)) (take-iso e n) (take-ready e n s)))) (ret (Refused 4))) (t, b))
+  staged-by : (u : Bool) → Gives
+      (run {i = false} bookOps
+      (test u (named Out e (polled Out e n (λ s. test (isOn (s .iso)) (take-iso e n) (take-ready e n s)))) (ret (Refused 4))) (t, b))
   staged-by true = named-by (isAllocated (t .kept .allocator) Out e)
   staged-by false = λ bytes q. not-done (Refused 4) bytes refl q
 
@@ -144,12 +157,16 @@ module _ (t : Pages) (b : Buf) (e n : ℕ) (iso : isOn (t .kept .plain Out e .is
   stayed : (k : ℕ) (m : Machine Answer Pages) → Answers (stay calls (book .driver) k m)
   stayed k m bytes q = not-done (Refused k) bytes refl (ap answered q)
 
-  begun-answers : (f : Pages → Pages) (m : Machine Answer Pages) → m .st ≡ t → (w : Way Answer Pages) → Answers (machine.begun calls (book .driver) f (slotted (PollRead e n)) m w b)
-  begun-answers f m h idle = subst (λ (z : Pages). Answers (halt calls (book .driver) f false (run bookOps (pollRead {i = false} e n) (z, b)))) (sym h) (halted f (run bookOps (pollRead {i = false} e n) (t, b)) poll-gives)
+  begun-answers : (f : Pages → Pages) (m : Machine Answer Pages) → m .st ≡ t
+      → (w : Way Answer Pages) → Answers (machine.begun calls (book .driver) f (slotted (PollRead e n)) m w b)
+  begun-answers f m h idle =
+      subst (λ (z : Pages). Answers (halt calls (book .driver) f false (run bookOps (pollRead {i = false} e n) (z, b))))
+      (sym h) (halted f (run bookOps (pollRead {i = false} e n) (t, b)) poll-gives)
   begun-answers f m h (busy true a k) = stayed 3 (machine.lentTo calls (book .driver) m b)
   begun-answers f m h (busy false a k) = stayed 3 (machine.lentTo calls (book .driver) m b)
 
-  call-answers : (f : Pages → Pages) (m : Machine Answer Pages) → m .st ≡ t → (g : Bool) → Answers (cond g (stay calls (book .driver) 1 m) (machine.begun calls (book .driver) f (slotted (PollRead e n)) m (m .way) b))
+  call-answers : (f : Pages → Pages) (m : Machine Answer Pages) → m .st ≡ t → (g : Bool)
+      → Answers (cond g (stay calls (book .driver) 1 m) (machine.begun calls (book .driver) f (slotted (PollRead e n)) m (m .way) b))
   call-answers f m h true = stayed 1 m
   call-answers f m h false = begun-answers f m h (m .way)
 
@@ -166,7 +183,8 @@ module _ {φ : Phase} {b : Buf} {d : Driver} {t : Pages} (R : Coupling φ b d t)
       m : epOn d Out e .«max_len» ≤ n
       m = omega (arith, k .reads e (ap (λ (r : Request). isOn (r .begun)) same-request ∙ f .begun) .1, ap (λ (r : Request). r .length) same-request, f .room)
 
-      by : (w : List Packet) → t .outs e .waiting ≡ w → Short (epOn d Out e .«max_len») w → (q : Packet) × (bytes ≡ q .bytes) × ReadsFirst (t .outs e) (t′ .outs e) q
+      by : (w : List Packet) → t .outs e .waiting ≡ w → Short (epOn d Out e .«max_len») w
+          → (q : Packet) × (bytes ≡ q .bytes) × ReadsFirst (t .outs e) (t′ .outs e) q
       by [] h s = absurd (true≢false (sym (f .one) ∙ ap (λ (w : List Packet). some (bytesOf w)) h))
       by (q ∷ qs) h s = (
         q,
@@ -175,14 +193,16 @@ module _ {φ : Phase} {b : Buf} {d : Driver} {t : Pages} (R : Coupling φ b d t)
       )
 
 -- a call's answer that is a read's poll done
-pub one-call : {φ : Phase} (c : Call Config Op) (l : Buf) (m : Machine Answer Driver) (n : Machine Answer Pages) → Coupling φ (m .buf) (m .st) (n .st) → ReadRoom (m .st)
+pub one-call : {φ : Phase} (c : Call Config Op) (l : Buf) (m : Machine Answer Driver) (n : Machine Answer Pages)
+    → Coupling φ (m .buf) (m .st) (n .st) → ReadRoom (m .st)
     → let x = drive c m l in let y = written (x .0) c n l in After driverOf book agree calls x y → (e len : ℕ) (bytes : List ℕ)
     → c ≡ begin (slotted (PollRead e len)) → x .0 ≡ ended (Done bytes) → isoOf (n .st) Out e ≡ true
     → (q : Packet) × (bytes ≡ q .bytes) × ReadsFirst (n .st .outs e) (y .1 .st .outs e) q
 one-call c l m n R k a e len bytes p q iso =
     let x = drive c m l in
     let s : written (x .0) c n l .0 ≡ ended (Done bytes) = ended-same (written (x .0) c n l .0) (Done bytes) (sym (ap blankA q) ∙ a .same) in
-    let z : (bytes : List ℕ) → written (x .0) (begin (slotted (PollRead e len))) n l .0 ≡ ended (Done bytes) → Facts (n .st) l e len iso bytes (written (x .0) (begin (slotted (PollRead e len))) n l .1 .st)
+    let z : (bytes : List ℕ) → written (x .0) (begin (slotted (PollRead e len))) n l .0 ≡ ended (Done bytes)
+    → Facts (n .st) l e len iso bytes (written (x .0) (begin (slotted (PollRead e len))) n l .1 .st)
     = call-answers (n .st) l e len iso (fed book (x .0)) n refl (misfit calls (book .driver) (n .st) l) in
     subst (λ (c : Call Config Op). (r : Packet) × (bytes ≡ r .bytes) × ReadsFirst (n .st .outs e) (written (x .0) c n l .1 .st .outs e) r) (sym p)
     (whole R k e len (z bytes (subst (λ (c : Call Config Op). written (x .0) c n l .0 ≡ ended (Done bytes)) p s)))

@@ -12,7 +12,9 @@ use Rattle.regs.specs.declared.Token.the-variants as tok
 use Rattle.model.specs.declared.Transfer.{Transfer}
 use Rattle.model.specs.Cells.{Cell, Val}
 use Rattle.model.specs.Every.{sameReg}
-use Rattle.model.specs.Script.{Script, ret, bind, test, read-then, write-then, wait-then, callback-then, get-then, put-then, is-then, look-then, fetch-then, act-then, hand-then, Test, Look, Fetch, complete, no-wakes, waken, send}
+use Rattle.model.specs.Script.{Script, ret, bind, test, read-then, write-then, wait-then, callback-then, get-then}
+use Rattle.model.specs.Script.{put-then, is-then, look-then, fetch-then, act-then, hand-then, Test, Look, Fetch}
+use Rattle.model.specs.Script.{complete, no-wakes, waken, send}
 use Rattle.model.specs.Statics.{modifyIntEn, wakeBus}
 use Rattle.model.specs.IsoIn.{isoInComplete, sofOne, sofWalk, lateOne, lateWalk, onSof}
 use Rattle.model.specs.Handler.{looks, nakNonIso, toggled, dispatch, movedOn, ep0MovedOn, onSetup, keepMicroframe}

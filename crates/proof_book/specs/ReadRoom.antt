@@ -22,7 +22,8 @@ use Rattle.alloc.specs.Outcome.{sameDir, stays, Takes, Outcome, six, seven, eig
 use Rattle.alloc.specs.Run.{endpoint, ep0, Step, kept, gave-ep0, step}
 use Rattle.alloc.specs.Sound.{Sound}
 use Rattle.alloc.specs.SoundLaws.{sound-call}
-use Rattle.model.specs.Script.{Act, complete, reset-ring, set-enabled, fill, fill0, open-oldest, close-oldest, take-oldest, enqueue, allocate, allocate0, no-wakes, waken}
+use Rattle.model.specs.Script.{Act, complete, reset-ring, set-enabled, fill, fill0, open-oldest, close-oldest}
+use Rattle.model.specs.Script.{take-oldest, enqueue, allocate, allocate0, no-wakes, waken}
 use Rattle.model.specs.Statics.{isOn}
 use Rattle.model_ops.specs.Records.{recordGiven, setsGiven, givenTo, allocatedOn, startedWith, allocatedEp0}
 use Rattle.model_ops.specs.Rings.{St}
@@ -32,7 +33,8 @@ use Rattle.proof_book.specs.MaxLens.{Steady, others, act-steady}
 
 pub record ReadRoom (d : Driver) : Type 0 where
   pub sound : Sound (d .allocator)
-  pub reads : (e : ℕ) → isOn (requestOn d Out e .begun) ≡ true → (isSet (takenIn (d .allocator) Out) (e % 16) ≡ true) × (epOn d Out e .«max_len» ≤ requestOn d Out e .length)
+  pub reads : (e : ℕ) → isOn (requestOn d Out e .begun) ≡ true
+      → (isSet (takenIn (d .allocator) Out) (e % 16) ≡ true) × (epOn d Out e .«max_len» ≤ requestOn d Out e .length)
 
 same-request : {d d′ : Driver} → Steady d d′ → (e : ℕ) → requestOn d′ Out e ≡ requestOn d Out e
 unfolding requestOn
@@ -58,7 +60,9 @@ pub off : isOn 0 ≡ false
 unfolding isOn
 off = refl
 
-pub put-out : {d : Driver} (e : ℕ) (v : Request) → (isOn (v .begun) ≡ true → (isSet (takenIn (d .allocator) Out) (e % 16) ≡ true) × (epOn d Out e .«max_len» ≤ v .length)) → ReadRoom d → ReadRoom (withRequestOn d Out e v)
+pub put-out : {d : Driver} (e : ℕ) (v : Request)
+    → (isOn (v .begun) ≡ true → (isSet (takenIn (d .allocator) Out) (e % 16) ≡ true) × (epOn d Out e .«max_len» ≤ v .length))
+    → ReadRoom d → ReadRoom (withRequestOn d Out e v)
 unfolding withRequestOn requestOn epOn
 put-out {d} e v f k = record {
   sound = k .sound;
@@ -84,11 +88,13 @@ put-in {d} e v k = record {
 
 -- ---- allocations
 
-further-room : {d : Driver} → ReadRoom d → (a : Allocator) → Sound a → ((j : ℕ) → isSet (takenIn (d .allocator) Out) j ≡ true → isSet (takenIn a Out) j ≡ true) → ReadRoom (withAllocator d a)
+further-room : {d : Driver} → ReadRoom d → (a : Allocator) → Sound a
+    → ((j : ℕ) → isSet (takenIn (d .allocator) Out) j ≡ true → isSet (takenIn a Out) j ≡ true) → ReadRoom (withAllocator d a)
 unfolding epOn requestOn
 further-room k a s f = record { sound = s; reads = λ e h. (f (e % 16) (k .reads e h .0), k .reads e h .1) }
 
-ep0-room : {d : Driver} → ReadRoom d → (maximum : ℕ) (z : Allocation) → Sound (z .after) → Step (d .allocator) (ep0 maximum) z → ReadRoom (startedWith maximum (z .answer) (withAllocator d (z .after)))
+ep0-room : {d : Driver} → ReadRoom d → (maximum : ℕ) (z : Allocation) → Sound (z .after)
+    → Step (d .allocator) (ep0 maximum) z → ReadRoom (startedWith maximum (z .answer) (withAllocator d (z .after)))
 unfolding startedWith withNext takenIn epOn requestOn
 ep0-room {d = d} k maximum z s (kept c n w full) = further-room k (d .allocator) s (λ j h. h)
 ep0-room {d = d} k maximum z s (gave-ep0 m x small l) =
@@ -110,11 +116,13 @@ module _ {d : Driver} (k : ReadRoom d) (dir : Dir) (kind maximum interval e base
     sound = s;
     reads = λ x h. let z = k .reads x h in (
       t .takes Out (x % 16) ∙ stays (sameDir dir Out) (takenIn (d .allocator) Out) e (x % 16) (z .0),
-      subst (λ (r : EpState). r .«max_len» ≤ requestOn d Out x .length) (sym (getD-set-other (d .eps) (key dir e) (key Out x) _ noEp (not-it dir (t .untaken) x (z .0)))) (z .1),
+      subst (λ (r : EpState). r .«max_len» ≤ requestOn d Out x .length)
+          (sym (getD-set-other (d .eps) (key dir e) (key Out x) _ noEp (not-it dir (t .untaken) x (z .0)))) (z .1),
     );
   }
 
-allocated-room : {d : Driver} → ReadRoom d → (dir : Dir) (kind address maximum interval : ℕ) (z : Allocation) → Sound (z .after) → Outcome (d .allocator) kind address maximum dir z
+allocated-room : {d : Driver} → ReadRoom d → (dir : Dir) (kind address maximum interval : ℕ) (z : Allocation)
+    → Sound (z .after) → Outcome (d .allocator) kind address maximum dir z
     → ReadRoom (givenTo dir kind maximum interval (z .answer) (withAllocator d (z .after)))
 unfolding givenTo
 allocated-room {d = d} k dir kind address maximum interval z s (six l) = further-room k (d .allocator) s (λ j h. h)
@@ -137,7 +145,9 @@ act-room (take-oldest e) s k = steady-room (act-steady (take-oldest e) refl s) k
 act-room (enqueue e bytes) s k = steady-room (act-steady (enqueue e bytes) refl s) k
 act-room (allocate dir kind address maximum interval) s k =
     let a = s .0 .allocator in
-    allocated-room k dir kind address maximum interval (allocateOf a kind address maximum dir) (sound-call a (endpoint kind address maximum dir) (k .sound)) (outcome a kind address maximum dir)
-act-room (allocate0 maximum) s k = let a = s .0 .allocator in ep0-room k maximum (allocateEp0Of a maximum) (sound-call a (ep0 maximum) (k .sound)) (step a (ep0 maximum))
+    allocated-room k dir kind address maximum interval (allocateOf a kind address maximum dir)
+    (sound-call a (endpoint kind address maximum dir) (k .sound)) (outcome a kind address maximum dir)
+act-room (allocate0 maximum) s k = let a = s .0 .allocator in
+    ep0-room k maximum (allocateEp0Of a maximum) (sound-call a (ep0 maximum) (k .sound)) (step a (ep0 maximum))
 act-room no-wakes s k = steady-room (act-steady no-wakes refl s) k
 act-room (waken codes) s k = steady-room (act-steady (waken codes) refl s) k

@@ -23,7 +23,8 @@ use Rattle.model.specs.Script.{Script, run, bind, test, ret, get, put, _>>_}
 use Rattle.model.specs.Statics.{isOn}
 use Rattle.model.specs.Answers.{Answer, Refused, resultless, unless, named, isNumber, isAllocated}
 use Rattle.model.specs.Endpoint.{begun, enabled-else, arm-read, beginRead}
-use Rattle.model.specs.Machine.{Buf, Call, Event, start, begin, go, question, Ans, Way, idle, busy, Machine, misfit, lentTo, beside, over, halt, continued, started}
+use Rattle.model.specs.Machine.{Buf, Call, Event, start, begin, go, question, Ans, Way, idle, busy, Machine, misfit}
+use Rattle.model.specs.Machine.{lentTo, beside, over, halt, continued, started}
 use Rattle.model.specs.Machine as machine
 use Rattle.model_ops.specs.Records.{plainOf}
 use Rattle.model_ops.specs.Rings.{St}
@@ -41,7 +42,12 @@ use Rattle.req_descriptor.specs.declared.Answer as reading-answer
 use Rattle.req_descriptor.specs.declared.Answer.the-variants as reading
 use Rattle.model.specs.Driver.{allocated-as, started-as}
 use Rattle.model.specs.AllocateAll.{allocateEach, announce, beginsAt, announceAfter, announceAll, allocate-read}
-use Rattle.model.specs.Calls.{Config, Slotted, SetEnabled, PollRead, BeginWrite, PollWrite, PollDataOut, BeginDataIn, Other, Allocate, AllocateAll, Start, BusPoll, BusEnable, BusDisable, Microframe, SetStalled, IsStalled, SetPaced, Advance, BeginRead, BeginSetup, PollSetup, PollDataIn, BeginAccept, PollAccept, BeginReject, BeginDataOut, BeginAcceptSetAddress, Aside, Open, Close, Queue, Op, interrupt, slotted, other, aside, slottedCode, otherCode, asideCode, code, starting, calls, startRow}
+use Rattle.model.specs.Calls.{Config, Slotted, SetEnabled, PollRead, BeginWrite, PollWrite, PollDataOut, BeginDataIn}
+use Rattle.model.specs.Calls.{Other, Allocate, AllocateAll, Start, BusPoll, BusEnable, BusDisable, Microframe}
+use Rattle.model.specs.Calls.{SetStalled, IsStalled, SetPaced, Advance, BeginRead, BeginSetup, PollSetup, PollDataIn}
+use Rattle.model.specs.Calls.{BeginAccept, PollAccept, BeginReject, BeginDataOut, BeginAcceptSetAddress, Aside, Open}
+use Rattle.model.specs.Calls.{Close, Queue, Op, interrupt, slotted, other, aside, slottedCode, otherCode, asideCode}
+use Rattle.model.specs.Calls.{code, starting, calls, startRow}
 use Rattle.proof_book.specs.Allocations.{fresh-kept}
 use Rattle.proof_book.specs.ReadRoom.{ReadRoom, put-out, off}
 use Rattle.proof_book.specs.ReadRoomScripts.{Holds, end, ask, Keeps, k-bind, k-test, keeping}
@@ -213,20 +219,27 @@ k-begin-read e n = record { on = λ s b. staged-by s b (eqb (s .0 .globals .stag
     most-by : (s : St) → ReadRoom (s .0) → isSet (takenIn (s .0 .allocator) Out) (e % 16) ≡ true → (u : Bool) → ltb n (epOn (s .0) Out e .«max_len») ≡ u
         → Holds (run {i = false} concrete (unless u 10 (put (request-cell Out e) (begun n) >> resultless (arm-read e (plainOf (epOn (s .0) Out e))))) s)
     most-by s b t true h = end b
-    most-by s b t false h = k-arms e (plainOf (epOn (s .0) Out e)) .on (putOn (request-cell Out e) (begun n) s) (put-out e (begun n) (λ _. (t, ltb-false n (epOn (s .0) Out e .«max_len») h)) b)
+    most-by s b t false h = k-arms e (plainOf (epOn (s .0) Out e)) .on (putOn (request-cell Out e) (begun n) s)
+        (put-out e (begun n) (λ _. (t, ltb-false n (epOn (s .0) Out e .«max_len») h)) b)
 
     enabled-by : (s : St) → ReadRoom (s .0) → isSet (takenIn (s .0 .allocator) Out) (e % 16) ≡ true → (u : Bool)
-        → Holds (run {i = false} concrete (test u (bind (get (ep-cell Out e)) (λ p. unless (ltb n (p .«max_len»)) 10 (put (request-cell Out e) (begun n) >> resultless (arm-read e p)))) (ret (Refused 9))) s)
+        → Holds
+        (run {i = false} concrete (test u (bind (get (ep-cell Out e))
+        (λ p. unless (ltb n (p .«max_len»)) 10 (put (request-cell Out e) (begun n) >> resultless (arm-read e p)))) (ret (Refused 9))) s)
     enabled-by s b t true = most-by s b t (ltb n (epOn (s .0) Out e .«max_len»)) refl
     enabled-by s b t false = end b
 
     named-by : (s : St) → ReadRoom (s .0) → (u : Bool) → isAllocated (s .0 .allocator) Out e ≡ u
-        → Holds (run {i = false} concrete (test u (enabled-else Out e (ret (Refused 9)) (bind (get (ep-cell Out e)) (λ p. unless (ltb n (p .«max_len»)) 10 (put (request-cell Out e) (begun n) >> resultless (arm-read e p))))) (ret (Refused 5))) s)
+        → Holds
+        (run {i = false} concrete (test u (enabled-else Out e (ret (Refused 9)) (bind (get (ep-cell Out e))
+        (λ p. unless (ltb n (p .«max_len»)) 10 (put (request-cell Out e) (begun n) >> resultless (arm-read e p))))) (ret (Refused 5))) s)
     named-by s b true h = enabled-by s b (named-taken e (s .0) (b .sound) h) (enables.isOn (s .0 .globals .«ep_config») Out e)
     named-by s b false h = end b
 
     staged-by : (s : St) → ReadRoom (s .0) → (u : Bool)
-        → Holds (run {i = false} concrete (test u (named Out e (enabled-else Out e (ret (Refused 9)) (bind (get (ep-cell Out e)) (λ p. unless (ltb n (p .«max_len»)) 10 (put (request-cell Out e) (begun n) >> resultless (arm-read e p)))))) (ret (Refused 4))) s)
+        → Holds
+        (run {i = false} concrete (test u (named Out e (enabled-else Out e (ret (Refused 9)) (bind (get (ep-cell Out e))
+        (λ p. unless (ltb n (p .«max_len»)) 10 (put (request-cell Out e) (begun n) >> resultless (arm-read e p)))))) (ret (Refused 4))) s)
     staged-by s b true = named-by s b (isAllocated (s .0 .allocator) Out e) refl
     staged-by s b false = end b
 
@@ -291,7 +304,8 @@ begun-kept : (o : Op) (m : Machine Answer Driver) → Kept m → (w : Way Answer
 begun-kept o m k idle b = halted (calls .irq o) (k-call o .on (m .st, b) (k .room))
 begun-kept o m k (busy i q f) b = either (cond i (calls .aside o) false) _ _ (besided (lent-kept b k) (k-call o .on (m .st, b) (k .room))) (lent-kept b k)
 
-continued-kept : (v : ℕ) (m : Machine Answer Driver) → Kept m → (w : Way Answer Driver) → WayKeeps w → (b : Buf) → Kept (continued calls driverOf (λ s. s) v m w b .1)
+continued-kept : (v : ℕ) (m : Machine Answer Driver)
+    → Kept m → (w : Way Answer Driver) → WayKeeps w → (b : Buf) → Kept (continued calls driverOf (λ s. s) v m w b .1)
 continued-kept v m k idle h b = lent-kept b k
 continued-kept v m k (busy i q f) h b = either (over calls q v) _ _ (lent-kept b k) (halted i (h v (m .st, b) (k .room)))
 

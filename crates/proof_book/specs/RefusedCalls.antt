@@ -7,7 +7,8 @@ use Rattle.model.specs.Tree.{ends, asks}
 use Rattle.model.specs.Script.{run}
 use Rattle.model.specs.Answers.{Answer, Refused}
 use Rattle.model.specs.Calls.{Config, Op, calls, starting, startRow}
-use Rattle.model.specs.Machine.{Buf, Call, start, begin, go, question, Ans, ended, handed, told, blankA, Way, idle, busy, Machine, over, misfit, stay, lentTo, beside, halt, begun, continued, started, fed}
+use Rattle.model.specs.Machine.{Buf, Call, start, begin, go, question, Ans, ended, handed, told, blankA, Way, idle}
+use Rattle.model.specs.Machine.{busy, Machine, over, misfit, stay, lentTo, beside, halt, begun, continued, started, fed}
 use Rattle.proof_book.specs.Pages.{Pages}
 use Rattle.proof_book.specs.Book.{Bk, freshPages, bookOps, book}
 use Rattle.proof_book.specs.FrontPage.{written}
@@ -32,7 +33,8 @@ module _ (a : Ans Answer) (n : Machine Answer Pages) (b : Buf) where
   stays m r h k = record { outs = λ e. ap (λ (t : Pages). t .outs e) h; ins = λ e. ap (λ (t : Pages). t .ins e) h }
 
   halts : (i : Bool) (s : Bk) → s .0 ≡ n .st → (o : tree.Out Bk Answer) → Tells isRefused s o → Leaves (halt calls (book .driver) (fed book a) i o)
-  halts i s g (ends z t) (t-end h) k = let y = h k in record { outs = λ e. y .outs e ∙ ap (λ (t : Pages). t .outs e) g; ins = λ e. y .ins e ∙ ap (λ (t : Pages). t .ins e) g }
+  halts i s g (ends z t) (t-end h) k = let y = h k in
+      record { outs = λ e. y .outs e ∙ ap (λ (t : Pages). t .outs e) g; ins = λ e. y .ins e ∙ ap (λ (t : Pages). t .ins e) g }
   halts i s g (asks q t f) h k = absurd (true≢false (sym k))
 
   besides : (o : tree.Out Bk Answer) → Tells isRefused (n .st, b) o → Leaves (beside calls (book .driver) (lentTo calls (book .driver) n b) o)
@@ -45,11 +47,13 @@ module _ (a : Ans Answer) (n : Machine Answer Pages) (b : Buf) where
 
   begins : (o : Op) (w : Way Answer Pages) → Leaves (begun calls (book .driver) (fed book a) o n w b)
   begins o idle = halts (calls .irq o) (n .st, b) refl (run bookOps (calls .code o) (n .st, b)) (call-tells o (n .st, b))
-  begins o (busy i q k) = either (cond i (calls .aside o) false) _ _ (besides (run bookOps (calls .code o) (n .st, b)) (call-tells o (n .st, b))) (stays (lentTo calls (book .driver) n b) 3 refl)
+  begins o (busy i q k) = either (cond i (calls .aside o) false) _ _
+      (besides (run bookOps (calls .code o) (n .st, b)) (call-tells o (n .st, b))) (stays (lentTo calls (book .driver) n b) 3 refl)
 
   goes : Fine n → (v : ℕ) (w : Way Answer Pages) → WayFine w → Leaves (continued calls (book .driver) (fed book a) v n w b)
   goes h v idle g = stays (lentTo calls (book .driver) n b) 15 refl
-  goes h v (busy i q k) g = either (over calls q v) _ _ (stays (lentTo calls (book .driver) n b) 16 refl) (halts i (n .st, b) refl (k v (n .st, b)) (g v (n .st, b) (h .pages) .2))
+  goes h v (busy i q k) g = either (over calls q v) _ _ (stays (lentTo calls (book .driver) n b) 16 refl)
+      (halts i (n .st, b) refl (k v (n .st, b)) (g v (n .st, b) (h .pages) .2))
 
   starts : (c : Config) (r : ℕ) → Leaves (started calls (book .driver) (fed book a) c r n b)
   starts c zero = halts false (n .st, b) refl (run bookOps (starting c) (freshPages c, b)) (start-tells c (n .st, b) (freshPages c, b))
@@ -79,6 +83,8 @@ no-start a n b (begin o) h = h refl
 no-start a n b (go v) h = h refl
 no-start a n b (question q) h = h refl
 
-pub refusal-leaves : (c : Call Config Op) (a : Ans Answer) (n : Machine Answer Pages) → (isStart c ≡ false → Fine n) → (b : Buf) → blankA a ≡ blankA (written a c n b .0)
+pub refusal-leaves : (c : Call Config Op) (a : Ans Answer) (n : Machine Answer Pages)
+    → (isStart c ≡ false → Fine n) → (b : Buf) → blankA a ≡ blankA (written a c n b .0)
     → (r : ℕ) → a ≡ ended (Refused r) → Same (n .st) (written a c n b .1 .st)
-refusal-leaves c a n h b s r g = call-leaves a n b c (no-start a n b c h) (sym (refused-blank (written a c n b .0)) ∙ ap refused (sym s) ∙ refused-blank a ∙ ap refused g)
+refusal-leaves c a n h b s r g = call-leaves a n b c (no-start a n b c h)
+    (sym (refused-blank (written a c n b .0)) ∙ ap refused (sym s) ∙ refused-blank a ∙ ap refused g)

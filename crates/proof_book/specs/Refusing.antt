@@ -14,11 +14,18 @@ use Rattle.req_descriptor.specs.declared.Answer.the-variants as reading
 use Rattle.model.specs.Tree as tree
 use Rattle.model.specs.Tree.{ends, asks, bindOut}
 use Rattle.model.specs.Cells.{Cell, Val, globals-cell, control-cell, allocator-cell, ep-cell, request-cell, paced-cell}
-use Rattle.model.specs.Script.{Script, run, ret, bind, test, get-then, put-then, is-then, look-then, fetch-then, act-then, Test, Look, Fetch, Act, complete, reset-ring, set-enabled, fill, fill0, open-oldest, close-oldest, take-oldest, enqueue, allocate, allocate0, no-wakes, waken}
+use Rattle.model.specs.Script.{Script, run, ret, bind, test, get-then, put-then, is-then, look-then, fetch-then}
+use Rattle.model.specs.Script.{act-then, Test, Look, Fetch, Act, complete, reset-ring, set-enabled, fill, fill0}
+use Rattle.model.specs.Script.{open-oldest, close-oldest, take-oldest, enqueue, allocate, allocate0, no-wakes, waken}
 use Rattle.model.specs.Answers.{Answer, Refused, End, NotYet, Done, Shown}
 use Rattle.model.specs.Driver.{allocEndpoint, allocated-as, started-as}
 use Rattle.model.specs.AllocateAll.{allocate-read}
-use Rattle.model.specs.Calls.{Config, Op, interrupt, slotted, other, aside, Slotted, SetEnabled, PollRead, BeginWrite, PollWrite, PollDataOut, BeginDataIn, Other, Allocate, AllocateAll, Start, BusPoll, BusEnable, BusDisable, Microframe, SetStalled, IsStalled, SetPaced, Advance, BeginRead, BeginSetup, PollSetup, PollDataIn, BeginAccept, PollAccept, BeginReject, BeginDataOut, BeginAcceptSetAddress, Aside, Open, Close, Queue, irq, code, slottedCode, otherCode, asideCode, interruptCode, starting}
+use Rattle.model.specs.Calls.{Config, Op, interrupt, slotted, other, aside, Slotted, SetEnabled, PollRead, BeginWrite}
+use Rattle.model.specs.Calls.{PollWrite, PollDataOut, BeginDataIn, Other, Allocate, AllocateAll, Start, BusPoll}
+use Rattle.model.specs.Calls.{BusEnable, BusDisable, Microframe, SetStalled, IsStalled, SetPaced, Advance, BeginRead}
+use Rattle.model.specs.Calls.{BeginSetup, PollSetup, PollDataIn, BeginAccept, PollAccept, BeginReject, BeginDataOut}
+use Rattle.model.specs.Calls.{BeginAcceptSetAddress, Aside, Open, Close, Queue, irq, code, slottedCode, otherCode}
+use Rattle.model.specs.Calls.{asideCode, interruptCode, starting}
 use Rattle.proof_book.specs.Pages.{OutPage, InPage, Pages, withKept, keptAllocator}
 use Rattle.proof_book.specs.Book.{Bk, putB, actB, isoOut, givenB, startedB, bookOps}
 
@@ -50,11 +57,13 @@ tells-from : {A : Type 0} {no : A → Bool} {s t : Bk} {o : tree.Out Bk A} → S
 tells-from h (t-end k) = t-end (λ z. let y = k z in record { outs = λ e. y .outs e ∙ h .outs e; ins = λ e. y .ins e ∙ h .ins e })
 tells-from h (t-ask k) = t-ask k
 
-tells-bind : {A B : Type 0} {no : B → Bool} {s : Bk} {o : tree.Out Bk A} {f : A → Bk → tree.Out Bk B} → Tells any s o → ((a : A) (t : Bk) → Tells no t (f a t)) → Tells no s (bindOut o f)
+tells-bind : {A B : Type 0} {no : B → Bool} {s : Bk} {o : tree.Out Bk A} {f : A → Bk → tree.Out Bk B}
+    → Tells any s o → ((a : A) (t : Bk) → Tells no t (f a t)) → Tells no s (bindOut o f)
 tells-bind (t-end h) g = tells-from (h refl) (g _ _)
 tells-bind (t-ask k) g = t-ask (λ v u. tells-bind (k v u) g)
 
-never-bind : {A B : Type 0} {no : B → Bool} (o : tree.Out Bk A) {f : A → Bk → tree.Out Bk B} → ((a : A) (s t : Bk) → Tells no s (f a t)) → (s : Bk) → Tells no s (bindOut o f)
+never-bind : {A B : Type 0} {no : B → Bool} (o : tree.Out Bk A) {f : A → Bk → tree.Out Bk B}
+    → ((a : A) (s t : Bk) → Tells no s (f a t)) → (s : Bk) → Tells no s (bindOut o f)
 never-bind (ends a t) g s = g a s t
 never-bind (asks q t k) g s = t-ask (λ v u. never-bind (k v u) g u)
 
@@ -164,7 +173,8 @@ module _ (d : Dir) (kind address maximum interval : ℕ) (s : Bk) where
   given-never : (e base slots : ℕ) → Never false (allocated-as {i = false} d kind maximum (alloc.Given e base slots))
   given-never e base slots = search fairly depth 20
 
-  by-answer : (z : alloc-answer.Answer) (x : Pages) → Same (s .0) x → Tells isRefused s (run bookOps (allocated-as {i = false} d kind maximum z) (givenB d kind maximum interval z x, s .1))
+  by-answer : (z : alloc-answer.Answer) (x : Pages) → Same (s .0) x
+      → Tells isRefused s (run bookOps (allocated-as {i = false} d kind maximum z) (givenB d kind maximum interval z x, s .1))
   by-answer (alloc.Refused n) x h = t-end (λ _. h)
   by-answer (alloc.Given e base slots) x h = never-run (given-never e base slots) s (givenB d kind maximum interval (alloc.Given e base slots) x, s .1)
 

@@ -18,7 +18,10 @@ use Rattle.req_descriptor.specs.declared.Answer.the-variants as reading
 use Rattle.model.specs.Tree as tree
 use Rattle.model.specs.Tree.{ends, asks}
 use Rattle.model.specs.Cells.{Cell, Val}
-use Rattle.model.specs.Script.{Script, run, rows, ret, bind, test, read-then, write-then, wait-then, callback-then, get-then, put-then, is-then, look-then, fetch-then, act-then, hand-then, row-then, Test, Look, Fetch, Act, DmaStep, dmaStepAsk, arrive, send, place, place0, Burst, switch, bus-reset, lastOf, burstAsk}
+use Rattle.model.specs.Script.{Script, run, rows, ret, bind, test, read-then, write-then, wait-then, callback-then}
+use Rattle.model.specs.Script.{get-then, put-then, is-then, look-then, fetch-then, act-then, hand-then, row-then, Test}
+use Rattle.model.specs.Script.{Look, Fetch, Act, DmaStep, dmaStepAsk, arrive, send, place, place0, Burst, switch}
+use Rattle.model.specs.Script.{bus-reset, lastOf, burstAsk}
 use Rattle.model.specs.Script.{complete, reset-ring, set-enabled, fill, fill0, open-oldest, close-oldest, take-oldest}
 use Rattle.model.specs.Script.{enqueue, allocate, allocate0, no-wakes, waken}
 use Rattle.model.specs.IsoIn.{isoInComplete, isoInCompletions}
@@ -27,7 +30,11 @@ use Rattle.model.specs.Control.{acks}
 use Rattle.model.specs.Driver.{allocated-as, started-as}
 use Rattle.model.specs.AllocateAll.{allocateEach, announce, beginsAt, announceAfter, announceAll, allocate-read}
 use Rattle.model.specs.Answers.{Answer}
-use Rattle.model.specs.Calls.{Config, Slotted, SetEnabled, PollRead, BeginWrite, PollWrite, PollDataOut, BeginDataIn, Other, Allocate, AllocateAll, Start, BusPoll, BusEnable, BusDisable, Microframe, SetStalled, IsStalled, SetPaced, Advance, BeginRead, BeginSetup, PollSetup, PollDataIn, BeginAccept, PollAccept, BeginReject, BeginDataOut, BeginAcceptSetAddress, Aside, Open, Close, Queue, slottedCode, otherCode, asideCode, starting}
+use Rattle.model.specs.Calls.{Config, Slotted, SetEnabled, PollRead, BeginWrite, PollWrite, PollDataOut, BeginDataIn}
+use Rattle.model.specs.Calls.{Other, Allocate, AllocateAll, Start, BusPoll, BusEnable, BusDisable, Microframe}
+use Rattle.model.specs.Calls.{SetStalled, IsStalled, SetPaced, Advance, BeginRead, BeginSetup, PollSetup, PollDataIn}
+use Rattle.model.specs.Calls.{BeginAccept, PollAccept, BeginReject, BeginDataOut, BeginAcceptSetAddress, Aside, Open}
+use Rattle.model.specs.Calls.{Close, Queue, slottedCode, otherCode, asideCode, starting}
 use Rattle.proof_book.specs.Pages.{OutPage, InPage, Pages}
 use Rattle.proof_book.specs.Book.{Bk, rowB, handB, bookOps}
 use Rattle.proof_book.specs.BookTracks.{Tracks, end, ask, earlier, tracks-bind}
@@ -112,7 +119,17 @@ row-cleared (switch e on) zero s h = not-released refl h
 row-cleared (switch e on) (suc zero) s h = not-released refl h
 row-cleared (switch e on) (suc (suc zero)) s h = not-released refl h
 row-cleared (switch e on) (suc (suc (suc n))) s h = not-released refl h
-row-cleared bus-reset zero s h = λ e. record { waiting = refl; opened = refl; admitted = refl; read = refl; waiting-in = refl; sending = refl; queued = refl; sent = refl; passed = refl }
+row-cleared bus-reset zero s h = λ e. record {
+  waiting = refl;
+  opened = refl;
+  admitted = refl;
+  read = refl;
+  waiting-in = refl;
+  sending = refl;
+  queued = refl;
+  sent = refl;
+  passed = refl;
+}
 row-cleared bus-reset (suc zero) s h = not-released refl h
 row-cleared bus-reset (suc (suc zero)) s h = not-released refl h
 row-cleared bus-reset (suc (suc (suc n))) s h = not-released refl h
@@ -189,7 +206,8 @@ of-announce dir e = search inRows depth 20
 of-announce-after : (left total : ℕ) (dir : Dir) (e : ℕ) → Rows (announceAfter {i = false} left total dir e)
 unfolding announceAfter
 of-announce-after zero total dir e = search inRows
-of-announce-after (suc left) total dir e = r-bind (r-bind (r-get (λ _. r-ret)) (λ _. r-bind (r-get (λ _. r-ret)) (λ _. r-ret))) (λ x. r-bind (of-begins-at Out x 15 1) (λ o. r-test
+of-announce-after (suc left) total dir e = r-bind (r-bind (r-get (λ _. r-ret)) (λ _. r-bind (r-get (λ _. r-ret)) (λ _. r-ret)))
+    (λ x. r-bind (of-begins-at Out x 15 1) (λ o. r-test
     (r-bind (of-begins-at In x 15 1) (λ n. r-bind (of-announce In n) (λ _. of-announce-after left total In n)))
     (r-bind (of-announce Out o) (λ _. of-announce-after left total Out o))))
 

@@ -102,8 +102,10 @@ module _ (d : Driver) (z : Sized d) (e : ℕ) where
   pair-same In x h = renewed-same (renewed Out e d) (renewed-sized d z Out e) In e x h ∙ ap resetOf (renewed-other d z Out e In x (λ q. key-apart e x (sym q)))
 
   pair-other : (dir : Dir) (x : ℕ) → x % 16 ≢ e % 16 → epOn (both-renewed e d) dir x ≡ epOn d dir x
-  pair-other Out x n = renewed-other (renewed Out e d) (renewed-sized d z Out e) In e Out x (key-apart x e) ∙ renewed-other d z Out e Out x (key-other Out x e n)
-  pair-other In x n = renewed-other (renewed Out e d) (renewed-sized d z Out e) In e In x (key-other In x e n) ∙ renewed-other d z Out e In x (λ q. key-apart e x (sym q))
+  pair-other Out x n = renewed-other (renewed Out e d) (renewed-sized d z Out e) In e Out x (key-apart x e)
+      ∙ renewed-other d z Out e Out x (key-other Out x e n)
+  pair-other In x n = renewed-other (renewed Out e d) (renewed-sized d z Out e) In e In x (key-other In x e n)
+      ∙ renewed-other d z Out e In x (λ q. key-apart e x (sym q))
 
 -- the records of the endpoints below n reset, and nothing else
 record Below (n : ℕ) (d d′ : Driver) : Type 0 where
@@ -175,7 +177,13 @@ module _ {b : Buf} {d : Driver} {t : Pages} (R : Coupling (mid bus-reset 1) b d 
   all-keeps : Keeps d (resetAll d)
   unfolding resetAll noStamps
   all-keeps = record {
-    sized = record { eps = all-below .sized .eps; lens = all-below .sized .lens; stamps = length-replicate {A = ℕ} 256 0; paced = all-below .sized .paced; requests = all-below .sized .requests };
+    sized = record {
+      eps = all-below .sized .eps;
+      lens = all-below .sized .lens;
+      stamps = length-replicate {A = ℕ} 256 0;
+      paced = all-below .sized .paced;
+      requests = all-below .sized .requests;
+    };
     allocator = all-below .allocator;
     stage = ap (λ (g : Globals). g .stage) (all-below .globals);
     ep0-buf = ap (λ (g : Globals). g .«ep0_buf») (all-below .globals);
@@ -227,5 +235,10 @@ pub reset-next : (n : ℕ) (b : Buf) (d : Driver) (t : Pages) → Coupling (mid 
 unfolding isoOuts
 reset-next zero b d t R = (refl, all-reset R, tt)
 reset-next (suc zero) b d t R = (refl, phase-changed R (omega arith) (R .arming), tt)
-reset-next (suc (suc zero)) b d t R = (refl, globals-changed R (withEpType 0 (d .globals)) (withEpType 0 (t .kept .globals)) (ap (withEpType 0) (R .same .globals)) refl refl refl refl (omega arith) (R .arming), tt)
+reset-next (suc (suc zero)) b d t R = (
+  refl,
+  globals-changed R (withEpType 0 (d .globals)) (withEpType 0 (t .kept .globals))
+      (ap (withEpType 0) (R .same .globals)) refl refl refl refl (omega arith) (R .arming),
+  tt,
+)
 reset-next (suc (suc (suc n))) b d t R = absurd (omega (arith, R .step))

@@ -12,7 +12,8 @@ use Rattle.model.specs.Tree.{ends, asks}
 use Rattle.model.specs.Script.{run}
 use Rattle.model.specs.Answers.{Answer}
 use Rattle.model.specs.Calls.{Config, Op, interrupt, slotted, other, aside, Aside, asideCode, interruptCode, calls, starting, startRow}
-use Rattle.model.specs.Machine.{Buf, Call, start, begin, go, question, Event, Ans, handed, Awaits, awaited, Way, idle, busy, Machine, over, misfit, stay, beside, begun, continued, started}
+use Rattle.model.specs.Machine.{Buf, Call, start, begin, go, question, Event, Ans, handed, Awaits, awaited, Way, idle}
+use Rattle.model.specs.Machine.{busy, Machine, over, misfit, stay, beside, begun, continued, started}
 use Rattle.model.specs.Readings.{Continues, reading, readings}
 use Rattle.model.specs.TransferKinds.{Along}
 use Rattle.model.specs.SortsAside.{Passes, nothing, stored, called}
@@ -53,7 +54,8 @@ here q s k = record { path = []; along = tt; most = omega arith }
 
 -- every list of calls takes such a path from the access q, after which the state became (d, b)
 abbrev Goes : List (Event Config Op) → Type 0
-Goes es = (q : Access) (s : St) (k : ℕ → St → tree.Out St Answer) (a : Awaits) (d : Driver) (b : Buf) → Passes concrete Stores s (d, b) → Path (asks q s k) (reading q + served es (serves a k d b))
+Goes es = (q : Access) (s : St) (k : ℕ → St → tree.Out St Answer) (a : Awaits) (d : Driver) (b : Buf)
+    → Passes concrete Stores s (d, b) → Path (asks q s k) (reading q + served es (serves a k d b))
 
 module _ (es : List (Event Config Op)) (goes : Goes es) (q : Access) (s : St) (k : ℕ → St → tree.Out St Answer) (a : Awaits) (d : Driver) where
   -- the access stays: nothing is handed out
@@ -65,23 +67,28 @@ module _ (es : List (Event Config Op)) (goes : Goes es) (q : Access) (s : St) (k
   replaced (ends x t) = here q s k
   replaced (asks x t j) = here q s k
 
-  starts : (c : Config) (b l : Buf) → Passes concrete Stores s (d, b) → (n : ℕ) → Path (asks q s k) (reading q + counted es (started calls driverOf (λ s. s) c n (serves a k d b) l))
+  starts : (c : Config) (b l : Buf) → Passes concrete Stores s (d, b)
+      → (n : ℕ) → Path (asks q s k) (reading q + counted es (started calls driverOf (λ s. s) c n (serves a k d b) l))
   starts c b l p zero = replaced (run concrete (starting c) (driverOf .fresh c, l))
   starts c b l p (suc n) = waits b p
 
   -- a call that passes
-  passes : (o : Aside) (l : Buf) → Passes concrete Stores s (d, l) → (x : tree.Out St Answer) → run concrete (asideCode o) (d, l) ≡ x → Path (asks q s k) (reading q + counted es (beside calls driverOf (serves a k d l) x))
+  passes : (o : Aside) (l : Buf)
+      → Passes concrete Stores s (d, l) → (x : tree.Out St Answer) → run concrete (asideCode o) (d, l) ≡ x
+      → Path (asks q s k) (reading q + counted es (beside calls driverOf (serves a k d l) x))
   passes o l p (ends y t) h = less (omega arith) (goes q s k a (t .0) (t .1) (called o p h))
   passes o l p (asks y t j) h = waits l p
 
-  begins : (o : Op) (l : Buf) → Passes concrete Stores s (d, l) → (b : Buf) → Path (asks q s k) (reading q + counted es (begun calls driverOf (λ s. s) o (serves a k d b) (busy true a k) l))
+  begins : (o : Op) (l : Buf) → Passes concrete Stores s (d, l) → (b : Buf)
+      → Path (asks q s k) (reading q + counted es (begun calls driverOf (λ s. s) o (serves a k d b) (busy true a k) l))
   begins interrupt l p b = waits l p
   begins (slotted o) l p b = waits l p
   begins (other o) l p b = waits l p
   begins (aside o) l p b = passes o l p (run concrete (asideCode o) (d, l)) refl
 
   -- a continue
-  goes-on : (v : ℕ) (l : Buf) → Passes concrete Stores s (d, l) → (x : tree.Out St Answer) → k v (d, l) ≡ x → Path (asks q s k) (reading q + counted es (haltsAs true x))
+  goes-on : (v : ℕ) (l : Buf) → Passes concrete Stores s (d, l)
+      → (x : tree.Out St Answer) → k v (d, l) ≡ x → Path (asks q s k) (reading q + counted es (haltsAs true x))
   unfolding readings Along
   goes-on v l p (ends y t) h = here q s k
   goes-on v l p (asks y t j) h =
@@ -93,14 +100,16 @@ module _ (es : List (Event Config Op)) (goes : Goes es) (q : Access) (s : St) (k
       }
 
   -- rows 1 and 16
-  unless : (g : Bool) (n : ℕ) (b : Buf) → Passes concrete Stores s (d, b) → (x : Ans Answer × Machine Answer Driver) → Path (asks q s k) (reading q + counted es x)
+  unless : (g : Bool) (n : ℕ) (b : Buf) → Passes concrete Stores s (d, b)
+      → (x : Ans Answer × Machine Answer Driver) → Path (asks q s k) (reading q + counted es x)
       → Path (asks q s k) (reading q + counted es (cond g (stay calls driverOf n (serves a k d b)) x))
   unless true n b p x r = waits b p
   unless false n b p x r = r
 
   one : (c : Call Config Op) (b l : Buf) → Passes concrete Stores s (d, b) → Path (asks q s k) (reading q + counted es (drive c (serves a k d b) l))
   one (start c) b l p = starts c b l p (startRow c l)
-  one (begin o) b l p = unless (cond (calls .slots o) (misfit calls driverOf d l) false) 1 b p (begun calls driverOf (λ s. s) o (serves a k d b) (busy true a k) l) (begins o l (stored p refl) b)
+  one (begin o) b l p = unless (cond (calls .slots o) (misfit calls driverOf d l) false) 1 b p
+      (begun calls driverOf (λ s. s) o (serves a k d b) (busy true a k) l) (begins o l (stored p refl) b)
   one (go v) b l p = unless (misfit calls driverOf d l) 1 b p (continued calls driverOf (λ s. s) v (serves a k d b) (busy true a k) l)
       (unless (over calls a v) 16 l (stored p refl) (haltsAs true (k v (d, l))) (goes-on v l (stored p refl) (k v (d, l)) refl))
   one (question x) b l p = waits l (stored p refl)
@@ -110,15 +119,19 @@ unfolding served
 every [] = λ q s k a d b p. here q s k
 every (e ∷ es) = λ q s k a d b p. one es (every es) q s k a d (e .call) b (e .lent) p
 
-pub sorting-served : (n : Machine Answer Driver) → Sorting (n .st) → n .way ≡ idle → (slots : Buf) (fs : List (Event Config Op)) → served (record { call = begin interrupt; lent = slots } ∷ fs) n ≤ 4056
+pub sorting-served : (n : Machine Answer Driver) → Sorting (n .st) → n .way ≡ idle
+    → (slots : Buf) (fs : List (Event Config Op)) → served (record { call = begin interrupt; lent = slots } ∷ fs) n ≤ 4056
 unfolding served
-sorting-served n k w slots fs = subst (λ y. counted fs (begun calls driverOf (λ s. s) interrupt n y slots) ≤ 4056) (sym w) (by (run concrete interruptCode (n .st, slots)) refl)
+sorting-served n k w slots fs = subst (λ y. counted fs (begun calls driverOf (λ s. s) interrupt n y slots) ≤ 4056)
+    (sym w) (by (run concrete interruptCode (n .st, slots)) refl)
   where
     by : (x : tree.Out St Answer) → run concrete interruptCode (n .st, slots) ≡ x → counted fs (haltsAs true x) ≤ 4056
     by (ends y t) h = omega arith
     by (asks y t j) h =
         let r = every fs y t j (awaited y) (t .0) (t .1) nothing in
-        le-trans (r .most) (subst (λ o. readings o (r .path) ≤ 4056) h (sorting-4056 (n .st) k slots (r .path) (subst (λ o. Along (Passes concrete Stores) o (r .path)) (sym h) (r .along))))
+        le-trans (r .most)
+        (subst (λ o. readings o (r .path) ≤ 4056) h
+        (sorting-4056 (n .st) k slots (r .path) (subst (λ o. Along (Passes concrete Stores) o (r .path)) (sym h) (r .along))))
 
 -- an interrupt that begins where nothing is under way, after any list of calls from an accepted start-up: whatever calls then follow, with whatever
 -- numbers and slot buffers they bring, until it ends they hand out at most 4,056 readings

@@ -27,7 +27,8 @@ use Rattle.alloc.specs.Outcome.{sameDir, stays, Takes, Outcome, six, seven, eig
 use Rattle.alloc.specs.Run.{endpoint, ep0, Step, kept, gave-ep0, step}
 use Rattle.alloc.specs.Sound.{Sound}
 use Rattle.alloc.specs.SoundLaws.{sound-call}
-use Rattle.model.specs.Script.{Act, complete, reset-ring, set-enabled, fill, fill0, open-oldest, close-oldest, take-oldest, enqueue, allocate, allocate0, no-wakes, waken}
+use Rattle.model.specs.Script.{Act, complete, reset-ring, set-enabled, fill, fill0, open-oldest, close-oldest}
+use Rattle.model.specs.Script.{take-oldest, enqueue, allocate, allocate0, no-wakes, waken}
 use Rattle.model.specs.Statics.{isOn}
 use Rattle.model.specs.Simulates.{Phase}
 use Rattle.model.specs.Answers.{Answer}
@@ -67,7 +68,9 @@ steady-sorting p k = record {
 
 -- ---- an allocator by which no more numbers are free
 
-further-sorting : {d : Driver} → Sorting d → (a : Allocator) → Sound a → ((dir : Dir) (j : ℕ) → isSet (takenIn a dir) j ≡ false → isSet (takenIn (d .allocator) dir) j ≡ false) → Sorting (withAllocator d a)
+further-sorting : {d : Driver} → Sorting d → (a : Allocator)
+    → Sound a → ((dir : Dir) (j : ℕ) → isSet (takenIn a dir) j ≡ false → isSet (takenIn (d .allocator) dir) j ≡ false)
+    → Sorting (withAllocator d a)
 unfolding epOn
 further-sorting k a s f = record {
   places = k .places;
@@ -76,7 +79,8 @@ further-sorting k a s f = record {
   has = record { flags = λ dir e. refl; outs = k .has .outs; every = k .has .every };
 }
 
-untaken : {a b : Allocator} {iso : Bool} {dir : Dir} {e : ℕ} → Takes a iso dir e b → (d : Dir) (j : ℕ) → isSet (takenIn b d) j ≡ false → isSet (takenIn a d) j ≡ false
+untaken : {a b : Allocator} {iso : Bool} {dir : Dir} {e : ℕ}
+    → Takes a iso dir e b → (d : Dir) (j : ℕ) → isSet (takenIn b d) j ≡ false → isSet (takenIn a d) j ≡ false
 untaken {a = a} {dir = dir} {e = e} t d j h = by (isSet (takenIn a d) j) refl
   where
     by : (x : Bool) → isSet (takenIn a d) j ≡ x → isSet (takenIn a d) j ≡ false
@@ -85,10 +89,12 @@ untaken {a = a} {dir = dir} {e = e} t d j h = by (isSet (takenIn a d) j) refl
 
 -- ---- EP0's start
 
-ep0-sorting : {d : Driver} → Sorting d → (maximum : ℕ) (z : Allocation) → Sound (z .after) → Step (d .allocator) (ep0 maximum) z → Sorting (startedWith maximum (z .answer) (withAllocator d (z .after)))
+ep0-sorting : {d : Driver} → Sorting d → (maximum : ℕ) (z : Allocation) → Sound (z .after)
+    → Step (d .allocator) (ep0 maximum) z → Sorting (startedWith maximum (z .answer) (withAllocator d (z .after)))
 unfolding startedWith withNext takenIn
 ep0-sorting {d = d} k maximum z s (kept c n w full) = further-sorting k (d .allocator) s (λ dir j h. h)
-ep0-sorting {d = d} k maximum z s (gave-ep0 m x small l) = steady-sorting (others _ _ refl refl refl refl) (further-sorting k (withNext (d .allocator) (d .allocator .next + 1)) s same)
+ep0-sorting {d = d} k maximum z s (gave-ep0 m x small l) = steady-sorting
+    (others _ _ refl refl refl refl) (further-sorting k (withNext (d .allocator) (d .allocator .next + 1)) s same)
   where
     same : (dir : Dir) (j : ℕ) → isSet (takenIn (withNext (d .allocator) (d .allocator .next + 1)) dir) j ≡ false → isSet (takenIn (d .allocator) dir) j ≡ false
     same Out j h = h
@@ -102,18 +108,23 @@ isoSet g Out = g .«iso_out_eps»
 isoSet g In = g .«iso_in_every»
 
 -- a set has the endpoints that it had, but for the one that is given
-sets-there : (dir : Dir) (kind interval e : ℕ) (g : Globals) (dir′ : Dir) (x : ℕ) → x < 16 → key dir′ x ≢ key dir e → isSet (isoSet (withSets dir kind interval e g) dir′) x ≡ isSet (isoSet g dir′) x
+sets-there : (dir : Dir) (kind interval e : ℕ) (g : Globals) (dir′ : Dir) (x : ℕ)
+    → x < 16 → key dir′ x ≢ key dir e → isSet (isoSet (withSets dir kind interval e g) dir′) x ≡ isSet (isoSet g dir′) x
 unfolding withSets key
 sets-there dir kind interval e g dir′ x l q = by (isIso kind) dir dir′ q
   where
     not-it : (w : ℕ) → x % 16 ≢ e % 16 → isSet (withBit w (e % 16) true) x ≡ isSet w x
     not-it w q = set-with w (e % 16) true x ∙ rw (ne-eqb (e % 16) x (λ z. q (omega (arith, z)))) refl
 
-    outs : (often : Bool) → isSet (cond often (withIsoSets (g .«iso_out_eps») (withBit (g .«iso_in_every») (e % 16) true) g) g .«iso_out_eps») x ≡ isSet (g .«iso_out_eps») x
+    outs : (often : Bool)
+        → isSet (cond often (withIsoSets (g .«iso_out_eps») (withBit (g .«iso_in_every») (e % 16) true) g) g .«iso_out_eps») x
+        ≡ isSet (g .«iso_out_eps») x
     outs true = refl
     outs false = refl
 
-    every : (often : Bool) → x % 16 ≢ e % 16 → isSet (cond often (withIsoSets (g .«iso_out_eps») (withBit (g .«iso_in_every») (e % 16) true) g) g .«iso_in_every») x ≡ isSet (g .«iso_in_every») x
+    every : (often : Bool) → x % 16 ≢ e % 16
+        → isSet (cond often (withIsoSets (g .«iso_out_eps») (withBit (g .«iso_in_every») (e % 16) true) g) g .«iso_in_every») x
+        ≡ isSet (g .«iso_in_every») x
     every true q = not-it (g .«iso_in_every») q
     every false q = refl
 
@@ -144,7 +155,9 @@ module _ {d : Driver} (k : Sorting d) (dir : Dir) (kind maximum interval e base 
 
   flag-here : (x : ℕ) → x % 16 ≡ e % 16 → sortsOf taker dir x ≡ isIso kind
   unfolding setsGiven recordGiven epOn withOn allocated
-  flag-here x q = rw (key-by dir x e q) (ap (λ (r : EpState). isOn (r .iso)) (getD-set-same (d .eps) (key dir e) _ noEp (omega (arith, k .places, key-lt dir e))) ∙ flag-says (isIso kind))
+  flag-here x q = rw (key-by dir x e q)
+      (ap (λ (r : EpState). isOn (r .iso)) (getD-set-same (d .eps) (key dir e) _ noEp (omega (arith, k .places, key-lt dir e)))
+      ∙ flag-says (isIso kind))
 
   flag-there : (dir′ : Dir) (x : ℕ) → key dir′ x ≢ key dir e → sortsOf taker dir′ x ≡ sortsOf d dir′ x
   unfolding setsGiven recordGiven epOn withOn
@@ -177,7 +190,9 @@ module _ {d : Driver} (k : Sorting d) (dir : Dir) (kind maximum interval e base 
           absurd (true≢false (sym was ∙ none))
 
   among-after : (dir′ : Dir) → Among (sortsOf taker dir′) (isoSet (withSets dir kind interval e (d .globals)) dir′)
-  among-after = on-key (λ dir′ x. x < 16 → isSet (isoSet (withSets dir kind interval e (d .globals)) dir′) x ≡ true → sortsOf taker dir′ x ≡ true) dir e among-here
+  among-after = on-key
+      (λ dir′ x. x < 16 → isSet (isoSet (withSets dir kind interval e (d .globals)) dir′) x ≡ true
+      → sortsOf taker dir′ x ≡ true) dir e among-here
       (λ dir′ x q l h. flag-there dir′ x q ∙ among-before dir′ x l (sym (sets-there dir kind interval e (d .globals) dir′ x l q) ∙ h))
 
   given-sorting : Sound b → Sorting taker
@@ -189,7 +204,8 @@ module _ {d : Driver} (k : Sorting d) (dir : Dir) (kind maximum interval e base 
     has = record { flags = λ dir e. refl; outs = among-after Out; every = among-after In };
   }
 
-allocated-sorting : {d : Driver} → Sorting d → (dir : Dir) (kind address maximum interval : ℕ) (z : Allocation) → Sound (z .after) → Outcome (d .allocator) kind address maximum dir z
+allocated-sorting : {d : Driver} → Sorting d → (dir : Dir) (kind address maximum interval : ℕ) (z : Allocation)
+    → Sound (z .after) → Outcome (d .allocator) kind address maximum dir z
     → Sorting (givenTo dir kind maximum interval (z .answer) (withAllocator d (z .after)))
 unfolding givenTo
 allocated-sorting {d = d} k dir kind address maximum interval z s (six l) = further-sorting k (d .allocator) s (λ dir j h. h)
@@ -212,10 +228,12 @@ acts (take-oldest e) s k = steady-sorting (act-steady (take-oldest e) refl s) k
 acts (enqueue e bytes) s k = steady-sorting (act-steady (enqueue e bytes) refl s) k
 acts (allocate dir kind address maximum interval) s k =
     let a = s .0 .allocator in
-    allocated-sorting k dir kind address maximum interval (allocateOf a kind address maximum dir) (sound-call a (endpoint kind address maximum dir) (k .sound)) (outcome a kind address maximum dir)
+    allocated-sorting k dir kind address maximum interval (allocateOf a kind address maximum dir)
+    (sound-call a (endpoint kind address maximum dir) (k .sound)) (outcome a kind address maximum dir)
 acts no-wakes s k = steady-sorting (act-steady no-wakes refl s) k
 acts (waken codes) s k = steady-sorting (act-steady (waken codes) refl s) k
-acts (allocate0 maximum) s k = let a = s .0 .allocator in ep0-sorting k maximum (allocateEp0Of a maximum) (sound-call a (ep0 maximum) (k .sound)) (step a (ep0 maximum))
+acts (allocate0 maximum) s k = let a = s .0 .allocator in
+    ep0-sorting k maximum (allocateEp0Of a maximum) (sound-call a (ep0 maximum) (k .sound)) (step a (ep0 maximum))
 
 keeps : Invariant driverOf Sorting
 keeps = record {
@@ -227,7 +245,8 @@ keeps = record {
 
 -- ---- start-up
 
-unshaped : {φ : Phase} {b : Buf} {d : Driver} {t : Pages} → Coupling φ b d t → (dir : Dir) (e : ℕ) → isSet (takenIn (d .allocator) dir) (e % 16) ≡ false → sortsOf d dir e ≡ false
+unshaped : {φ : Phase} {b : Buf} {d : Driver} {t : Pages} → Coupling φ b d t
+    → (dir : Dir) (e : ℕ) → isSet (takenIn (d .allocator) dir) (e % 16) ≡ false → sortsOf d dir e ≡ false
 unfolding isOn
 unshaped {d = d} r dir e h = by (isSet (allocatedIn (d .allocator) dir) (e % 16)) refl (r .shape dir e)
   where
@@ -243,8 +262,14 @@ fresh-sorting : (c : Config) (b : Buf) → startRow c b ≡ zero → Sorting (dr
 unfolding freshDriver
 fresh-sorting c b row =
     let r = fresh-kept c b row in
-    record { places = r .sized .eps; sound = r .sound; free = unshaped r; has = record { flags = λ dir e. refl; outs = λ e l h. none e h; every = λ e l h. none e h } }
+    record {
+      places = r .sized .eps;
+      sound = r .sound;
+      free = unshaped r;
+      has = record { flags = λ dir e. refl; outs = λ e l h. none e h; every = λ e l h. none e h };
+    }
 
 -- after every list of calls from an accepted start-up
-pub after-sorting : (c : Config) (b : Buf) → startRow c b ≡ zero → (es : List (Event Config Op)) (m : Machine Answer Driver) → Sorting (after calls driverOf (record { call = start c; lent = b } ∷ es) m .st)
+pub after-sorting : (c : Config) (b : Buf) → startRow c b ≡ zero → (es : List (Event Config Op)) (m : Machine Answer Driver)
+    → Sorting (after calls driverOf (record { call = start c; lent = b } ∷ es) m .st)
 after-sorting = from-accepted driverOf keeps calls fresh-sorting

@@ -22,7 +22,9 @@ use Rattle.model.specs.Simulates.{Phase}
 use Rattle.model.specs.Answers.{Answer, Refused, resultless}
 use Rattle.model.specs.Calls.{Config, Op, interrupt, slotted, other, aside, Aside, asideCode, code, calls, startRow, interruptCode}
 use Rattle.model.specs.Handler.{onInterrupt, stampedInterrupt}
-use Rattle.model.specs.Machine.{Buf, Call, start, begin, go, question, Event, Ans, ended, handed, told, Awaits, awaited, Way, idle, busy, Machine, fed, blankA, over, misfit, stay, lentTo, beside, halt, begun, started}
+use Rattle.model.specs.Machine.{Buf, Call, start, begin, go, question, Event, Ans, ended, handed, told, Awaits, awaited}
+use Rattle.model.specs.Machine.{Way, idle, busy, Machine, fed, blankA, over, misfit, stay, lentTo, beside, halt, begun}
+use Rattle.model.specs.Machine.{started}
 use Rattle.model.specs.Agree.{Ways, both-idle, both-busy, After, agrees, from-start}
 use Rattle.model_ops.specs.Rings.{St}
 use Rattle.model_ops.specs.Concrete.{concrete}
@@ -107,7 +109,8 @@ kept-of : {φ : Phase} {b : Buf} {d : Driver} {t : Pages} {x : ℕ} → Coupling
 kept-of R h c = record { entered = sym (ap (λ (g : Globals). g .entered) (R .same .globals)) ∙ h; even = even-of R }
 
 -- one more, where it joined
-one-more : {φ ψ : Phase} {b c : Buf} {d d′ : Driver} {t t′ : Pages} (w : ℕ) → Coupling φ b d t → Coupling ψ c d′ t′ → Joins (indexOf w) t t′ → OneMore (brought w) d d′
+one-more : {φ ψ : Phase} {b c : Buf} {d d′ : Driver} {t t′ : Pages} (w : ℕ)
+    → Coupling φ b d t → Coupling ψ c d′ t′ → Joins (indexOf w) t t′ → OneMore (brought w) d d′
 one-more {d = d} {d′ = d′} {t = t} {t′ = t′} w R R′ j e h =
     ⊎-elim
     (λ p. absurd (let z : length (ringStamps d′ e) ≡ length (ringStamps d e) = ap length (R′ .outs e .stamps ∙ p ∙ sym (R .outs e .stamps)) in

@@ -29,7 +29,8 @@ abbrev pub RowStep : Burst → ℕ → Buf → Driver → Pages → Type 0
 RowStep g n b d t =
     let x = rowOn g n (d, b) in
     let t′ = feedB (burstAsk g n (x .0)) (rowB g n (t, b) .1 .0) in
-    (blank (burstAsk g n (x .0)) ≡ blank (burstAsk g n (rowB g n (t, b) .0))) × Coupling (mid g n) (x .1 .1) (x .1 .0) t′ × Good (burstAsk g n (x .0)) (x .1 .1) t′
+    (blank (burstAsk g n (x .0)) ≡ blank (burstAsk g n (rowB g n (t, b) .0)))
+    × Coupling (mid g n) (x .1 .1) (x .1 .0) t′ × Good (burstAsk g n (x .0)) (x .1 .1) t′
 
 -- ---- no record and no byte changed
 
@@ -94,5 +95,6 @@ pub others-enabled : (g : Globals) (e x : ℕ) (onn : Bool) → x % 16 ≢ e % 1
     → isSet (isoOuts (withEpConfig (enables.withOn (g .«ep_config») Out e onn) g)) (x % 16) ≡ isSet (isoOuts g) (x % 16)
 others-enabled g e x onn n =
     receives-is (withEpConfig (enables.withOn (g .«ep_config») Out e onn) g) x
-    ∙ ap (both (isSet (g .«iso_out_eps») (x % 16))) (on-with (g .«ep_config») Out e onn Out x ∙ simp (ne-eqb (16 + e % 16) (16 + x % 16) (λ z. n (omega arith))))
+    ∙ ap (both (isSet (g .«iso_out_eps») (x % 16)))
+    (on-with (g .«ep_config») Out e onn Out x ∙ simp (ne-eqb (16 + e % 16) (16 + x % 16) (λ z. n (omega arith))))
     ∙ sym (receives-is g x)

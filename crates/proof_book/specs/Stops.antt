@@ -5,7 +5,8 @@ use Prim.Native.Nat.{ℕ, zero, suc}
 use lib.Dec.{eqb}
 use Rattle.model.specs.Answers.{Answer}
 use Rattle.model.specs.Calls.{Config, Op, calls, startRow}
-use Rattle.model.specs.Machine.{Buf, Call, start, begin, go, question, Ans, Way, idle, busy, Machine, over, misfit, stay, lentTo, begun, continued, started, fed}
+use Rattle.model.specs.Machine.{Buf, Call, start, begin, go, question, Ans, Way, idle, busy, Machine, over, misfit}
+use Rattle.model.specs.Machine.{stay, lentTo, begun, continued, started, fed}
 use Rattle.proof_book.specs.Pages.{Pages}
 use Rattle.proof_book.specs.Book.{book}
 use Rattle.proof_book.specs.FrontPage.{written, keepsOut, notGoing, stopped}
@@ -31,7 +32,8 @@ module _ (a : Ans Answer) (n : Machine Answer Pages) (b : Buf) where
   goes v idle h = refl
   goes v (busy i q k) h = stops (over calls q v) (stay calls (book .driver) 16 (lentTo calls (book .driver) n b)) _ h refl
 
-  fits : (u g : Bool) (y : Ans Answer × Machine Answer Pages) → cond u true g ≡ true → (g ≡ true → y .1 .st ≡ n .st) → cond u (stay calls (book .driver) 1 n) y .1 .st ≡ n .st
+  fits : (u g : Bool) (y : Ans Answer × Machine Answer Pages)
+      → cond u true g ≡ true → (g ≡ true → y .1 .st ≡ n .st) → cond u (stay calls (book .driver) 1 n) y .1 .st ≡ n .st
   fits true g y h k = refl
   fits false g y h k = k h
 

@@ -41,7 +41,8 @@ use Rattle.proof_book.specs.Book.{emptyOut, slotTold, isoOf, feedB}
 use Rattle.proof_book.specs.Coupling.{SameKept, endOf, lensOf, slotStamps, OutFits, AtRest, Switching, InRow, Arming, Coupling}
 use Rattle.proof_book.specs.Lens.{ep-mod, lens-on, stamps-on, ep-clear, lens-clear}
 use Rattle.proof_book.specs.StampsLaws.{alike-stamps}
-use Rattle.proof_book.specs.Frame.{Changed, changed-not, changed-on, changed-clear, changed-trans, kept-same, kept-plain, out-same, out-twice, out-moved, end-kept, out-changed, only-bytes}
+use Rattle.proof_book.specs.Frame.{Changed, changed-not, changed-on, changed-clear, changed-trans, kept-same}
+use Rattle.proof_book.specs.Frame.{kept-plain, out-same, out-twice, out-moved, end-kept, out-changed, only-bytes}
 use Rattle.proof_book.specs.Held.{iso-used, Words, good-words}
 use Rattle.proof_book.specs.Lies.{received-lies}
 use Rattle.proof_book.specs.Steps.{RowStep, phase-changed, globals-changed, others-enabled}
@@ -138,8 +139,12 @@ config-step e onn b d t R =
 
 -- ep_rx_ctrl
 rx-step : (e : ℕ) (onn : Bool) (b : Buf) (d : Driver) (t : Pages) → Coupling (mid (switch e onn) 3) b d t → RowStep (switch e onn) 2 b d t
-rx-step e onn b d t R =
-    (refl, phase-changed R (omega arith) (λ x. later e onn 2 x (isSet (isoOuts (d .globals)) (x % 16)) (epOn d Out x) (t .outs x) (omega arith) (R .arming x)), tt)
+rx-step e onn b d t R = (
+  refl,
+  phase-changed R (omega arith)
+      (λ x. later e onn 2 x (isSet (isoOuts (d .globals)) (x % 16)) (epOn d Out x) (t .outs x) (omega arith) (R .arming x)),
+  tt,
+)
 
 -- ---- a slot armed, while none wait
 
@@ -216,7 +221,8 @@ module _ (d : Driver) (z : Sized d) (e k : ℕ) where
 module _ {φ : Phase} {b : Buf} {d d₁ : Driver} {t : Pages} (R : Coupling φ b d t) (e : ℕ) (onn : Bool) (k : ℕ) {kept : Kept} {p : OutPage}
     (c : Changed Out e d d₁) (s : SameKept d₁ kept) (f : OutFits b (epOn d₁ Out e) (lensOf d₁ Out e) (slotStamps d₁ e) p) (w : Words (epOn d₁ Out e .stride))
     (i : isOn (epOn d₁ Out e .iso) ≡ true) (none : countOf (epOn d₁ Out e) ≡ 0) (head : epOn d₁ Out e .head ≡ 0) (step : suc (suc (suc k)) ≤ 18)
-    (others : (x : ℕ) (u : Bool) → x % 16 ≢ e % 16 → Arming φ x u (epOn d Out x) (t .outs x) → Arming (mid (switch e onn) (suc (suc (suc k)))) x u (epOn d Out x) (t .outs x)) where
+    (others : (x : ℕ) (u : Bool) → x % 16 ≢ e % 16 → Arming φ x u (epOn d Out x) (t .outs x)
+    → Arming (mid (switch e onn) (suc (suc (suc k)))) x u (epOn d Out x) (t .outs x)) where
   slot-armed : Coupling (mid (switch e onn) (suc (suc (suc k)))) (armed b (slotAddr (epOn d₁ Out e) k) (epOn d₁ Out e .«max_len»)) (armed-on d₁ (c .sized) e k)
       (withOut (withKept t kept) e (slotTold p (slotAddr (epOn d₁ Out e) k)))
   slot-armed =
@@ -235,9 +241,11 @@ module _ {φ : Phase} {b : Buf} {d d₁ : Driver} {t : Pages} (R : Coupling φ b
       (subst (λ y. Switching n y (slotTold p a)) (sym (on-is d₁ (c .sized) e k)) (slot-switching f w k none head)))
 
 -- one that is not isochronous: the address handed out again
-module _ {φ : Phase} {b : Buf} {d : Driver} {t : Pages} (R : Coupling φ b d t) (e : ℕ) (onn : Bool) (n : ℕ) (i : isOn (epOn d Out e .iso) ≡ false) (step : n ≤ 18)
+module _ {φ : Phase} {b : Buf} {d : Driver} {t : Pages}
+    (R : Coupling φ b d t) (e : ℕ) (onn : Bool) (n : ℕ) (i : isOn (epOn d Out e .iso) ≡ false) (step : n ≤ 18)
     (rest : (u : Bool) → Arming φ e u (epOn d Out e) (t .outs e) → AtRest u (epOn d Out e) (t .outs e))
-    (others : (x : ℕ) (u : Bool) → x % 16 ≢ e % 16 → Arming φ x u (epOn d Out x) (t .outs x) → Arming (mid (switch e onn) n) x u (epOn d Out x) (t .outs x)) where
+    (others : (x : ℕ) (u : Bool) → x % 16 ≢ e % 16
+    → Arming φ x u (epOn d Out x) (t .outs x) → Arming (mid (switch e onn) n) x u (epOn d Out x) (t .outs x)) where
   told-again : Coupling (mid (switch e onn) n) b d (withOut t e (slotTold (t .outs e) (epOn d Out e .«armed_slot»)))
   told-again =
       let r = epOn d Out e in
@@ -324,7 +332,9 @@ slot-first e onn b d t R =
         let k = keptPlain (t .kept) Out e (statics.renewed (t .kept .plain Out e)) in
         let p = emptyOut (t .outs e) in
         let a = slotAddr (epOn (renewedOn d e) Out e) 15 in
-        subst (λ y. Coupling (mid (switch e onn) 18) (armed b a (epOn (renewedOn d e) Out e .«max_len»)) (armed-on (renewedOn d e) (fresh-changed R e .sized) e 15) y)
+        subst
+        (λ y. Coupling (mid (switch e onn) 18) (armed b a (epOn (renewedOn d e) Out e .«max_len»))
+        (armed-on (renewedOn d e) (fresh-changed R e .sized) e 15) y)
         (sym (ap (λ q. withOut (withOut (withKept t k) e p) e (slotTold q a)) (out-same (withKept t k) e p) ∙ out-twice (withKept t k) e (slotTold p a) p))
         (slot-armed R e onn 15 (fresh-changed R e) (fresh-kept R e) (fresh-out R e)
         (subst Words (sym (fresh-changed R e .place .stride)) (slot-words R e i))
@@ -334,15 +344,20 @@ slot-first e onn b d t R =
         (omega arith) others)
     go false i = told-again R e onn 18 i (omega arith) (λ u a. a) others
 
-slot-next : (e : ℕ) (onn : Bool) (k : ℕ) (b : Buf) (d : Driver) (t : Pages) → Coupling (mid (switch e onn) (suc (suc (suc (suc k))))) b d t → RowStep (switch e onn) (suc (suc (suc k))) b d t
+slot-next : (e : ℕ) (onn : Bool) (k : ℕ) (b : Buf) (d : Driver) (t : Pages)
+    → Coupling (mid (switch e onn) (suc (suc (suc (suc k))))) b d t → RowStep (switch e onn) (suc (suc (suc k))) b d t
 unfolding slotStep
 slot-next e onn k b d t R =
     let z = subst (λ w. Slotted (isOn (epOn d Out e .iso)) w (eqb k 15) e onn k b d t) (ap isOn (iso-same R e))
-    (subst (λ w. Slotted (isOn (epOn d Out e .iso)) (isOn (epOn d Out e .iso)) w e onn k b d t) (sym (ne-eqb k 15 (λ q. omega (arith, R .step)))) (go (isOn (epOn d Out e .iso)) refl)) in
+    (subst (λ w. Slotted (isOn (epOn d Out e .iso)) (isOn (epOn d Out e .iso)) w e onn k b d t)
+    (sym (ne-eqb k 15 (λ q. omega (arith, R .step)))) (go (isOn (epOn d Out e .iso)) refl)) in
     (refl, z, received-lies (paged (isoOf t Out e) (eqb k 15) e t) e _ z)
   where
-    others : (x : ℕ) (u : Bool) → x % 16 ≢ e % 16 → Arming (mid (switch e onn) (suc (suc (suc (suc k))))) x u (epOn d Out x) (t .outs x) → Arming (mid (switch e onn) (suc (suc (suc k)))) x u (epOn d Out x) (t .outs x)
-    others x u n a = away-in e onn (suc (suc (suc k))) x u (epOn d Out x) (t .outs x) n (away-out e onn (suc (suc (suc (suc k)))) x u (epOn d Out x) (t .outs x) n a)
+    others : (x : ℕ) (u : Bool)
+        → x % 16 ≢ e % 16 → Arming (mid (switch e onn) (suc (suc (suc (suc k))))) x u (epOn d Out x) (t .outs x)
+        → Arming (mid (switch e onn) (suc (suc (suc k)))) x u (epOn d Out x) (t .outs x)
+    others x u n a = away-in e onn (suc (suc (suc k))) x u
+        (epOn d Out x) (t .outs x) n (away-out e onn (suc (suc (suc (suc k)))) x u (epOn d Out x) (t .outs x) n a)
 
     go : (iso : Bool) → isOn (epOn d Out e .iso) ≡ iso → Slotted iso iso false e onn k b d t
     go true i =

@@ -20,11 +20,15 @@ use Rattle.ring.specs.Out.{hasRoomOut, cappedAt, overrunOf, arrivedOf, armedAt,
 use Rattle.ring.specs.In.{completedOf, loadedOf, unloadedOf}
 use Rattle.marks.specs.Copies.{copied}
 use Rattle.model.specs.Cells.{Cell, Val, globals-cell, control-cell, allocator-cell, ep-cell, request-cell, paced-cell}
-use Rattle.model.specs.Script.{Act, complete, reset-ring, set-enabled, fill, fill0, open-oldest, close-oldest, take-oldest, enqueue, allocate, allocate0, no-wakes, waken, DmaStep, arrive, send, place, place0, Burst, switch, bus-reset}
+use Rattle.model.specs.Script.{Act, complete, reset-ring, set-enabled, fill, fill0, open-oldest, close-oldest}
+use Rattle.model.specs.Script.{take-oldest, enqueue, allocate, allocate0, no-wakes, waken, DmaStep, arrive, send, place}
+use Rattle.model.specs.Script.{place0, Burst, switch, bus-reset}
 use Rattle.model.specs.Statics.{isOn, isoOuts}
 use Rattle.model.specs.TransferKinds.{TransferKinds, Among, Shows, allocates, Sorted}
 use Rattle.model_ops.specs.Records.{isoOut, configured, enabledOn}
-use Rattle.model_ops.specs.Rings.{St, completeOn, emptied, emptiedOn, openOn, closeOn, takeOn, roomOn, queuedOn, enqueueOn, recordedOn, admittedOn, arrivedAt, arriveOn, sendOn, placeOn, renewedOn, armAt, slotStep, typeStep, configStep, switchStep, resetBelow, resetAll, resetStep}
+use Rattle.model_ops.specs.Rings.{St, completeOn, emptied, emptiedOn, openOn, closeOn, takeOn, roomOn, queuedOn}
+use Rattle.model_ops.specs.Rings.{enqueueOn, recordedOn, admittedOn, arrivedAt, arriveOn, sendOn, placeOn, renewedOn}
+use Rattle.model_ops.specs.Rings.{armAt, slotStep, typeStep, configStep, switchStep, resetBelow, resetAll, resetStep}
 use Rattle.model_ops.specs.Concrete.{concrete}
 use Rattle.proof_book.specs.TransferKinds.{Steady, Has}
 
@@ -43,7 +47,8 @@ either true p q = p
 either false p q = q
 
 -- a change of other records than the endpoints'
-pub others : (d d′ : Driver) → d′ .eps ≡ d .eps → d′ .globals .«iso_out_eps» ≡ d .globals .«iso_out_eps» → d′ .globals .«iso_in_every» ≡ d .globals .«iso_in_every» → d′ .allocator ≡ d .allocator → Steady d d′
+pub others : (d d′ : Driver) → d′ .eps ≡ d .eps → d′ .globals .«iso_out_eps» ≡ d .globals .«iso_out_eps»
+    → d′ .globals .«iso_in_every» ≡ d .globals .«iso_in_every» → d′ .allocator ≡ d .allocator → Steady d d′
 unfolding epOn
 others d d′ p o i a = record { places = rw p refl; flags = λ dir e. rw p refl; outs = o; every = i; allocator = a }
 
@@ -55,7 +60,9 @@ flag-set : (l : List EpState) (k j : ℕ) (r : EpState) → r .iso ≡ getD l k 
 flag-set l k j r h = elim (ℕ-discrete j k) [
   | yes p ↦ rw p (elim (decLt k (length l)) [
     | yes q ↦ ap (λ (x : EpState). x .iso) (getD-set-same l k r noEp q) ∙ h
-    | no q ↦ ap (λ (x : EpState). x .iso) (List·getD-eq-default (set l k r) noEp {n = k} (omega (arith, length-set l k r)) ∙ sym (List·getD-eq-default l noEp {n = k} (omega arith)))
+    | no q ↦ ap (λ (x : EpState). x .iso)
+        (List·getD-eq-default (set l k r) noEp {n = k} (omega (arith, length-set l k r))
+        ∙ sym (List·getD-eq-default l noEp {n = k} (omega arith)))
   ])
   | no p ↦ ap (λ (x : EpState). x .iso) (getD-set-other l k j r noEp p)
 ]
@@ -63,7 +70,13 @@ flag-set l k j r h = elim (ℕ-discrete j k) [
 -- a change of one endpoint's record that keeps its flag
 record-steady : (d : Driver) (dir : Dir) (e : ℕ) (r : EpState) → r .iso ≡ epOn d dir e .iso → Steady d (withOn d dir e r)
 unfolding epOn withOn
-record-steady d dir e r h = record { places = length-set (d .eps) (key dir e) r; flags = λ dir′ x. flag-set (d .eps) (key dir e) (key dir′ x) r h; outs = refl; every = refl; allocator = refl }
+record-steady d dir e r h = record {
+  places = length-set (d .eps) (key dir e) r;
+  flags = λ dir′ x. flag-set (d .eps) (key dir e) (key dir′ x) r h;
+  outs = refl;
+  every = refl;
+  allocator = refl;
+}
 
 -- ---- the rings' records keep their flag
 
@@ -128,7 +141,8 @@ recorded-steady d e len = either (hasRoomOut (epOn d Out e)) (others d _ refl re
 
 admitted-steady : (d : Driver) (e len : ℕ) → Steady d (admittedOn d e len)
 unfolding admittedOn
-admitted-steady d e len = let p = recorded-steady d e len in then p (record-steady (recordedOn d e len) Out e _ (arrived-flag (epOn d Out e) ∙ sym (p .flags Out e)))
+admitted-steady d e len = let p = recorded-steady d e len in then p
+    (record-steady (recordedOn d e len) Out e _ (arrived-flag (epOn d Out e) ∙ sym (p .flags Out e)))
 
 pub hand-steady : (q : DmaStep) (s : St) → Steady (s .0) (concrete .hand q s .1 .0)
 unfolding arriveOn sendOn loadedOf placeOn
@@ -140,7 +154,10 @@ hand-steady (arrive e n) s = by (isSet (isoOuts (s .0 .globals)) (e % 16))
 hand-steady (send e) s = either (hasWaiting (epOn (s .0) In e)) (record-steady (s .0) In e _ refl) (steady (s .0))
 hand-steady (place Out e) s = by (isSet (isoOuts (s .0 .globals)) (e % 16))
   where
-    by : (b : Bool) → Steady (s .0) (cond {A = ℕ × Driver} b (epOn (s .0) Out e .«armed_slot», s .0) (epOn (s .0) Out e .base, withOn (s .0) Out e (armedAt (epOn (s .0) Out e) (epOn (s .0) Out e .base))) .1)
+    by : (b : Bool) → Steady (s .0) (cond {A = ℕ × Driver} b (epOn (s .0) Out e .«armed_slot», s .0) (
+      epOn (s .0) Out e .base,
+      withOn (s .0) Out e (armedAt (epOn (s .0) Out e) (epOn (s .0) Out e .base)),
+    ) .1)
     by true = steady (s .0)
     by false = armed-steady (s .0) e (epOn (s .0) Out e .base)
 hand-steady (place In e) s = steady (s .0)

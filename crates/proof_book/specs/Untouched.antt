@@ -24,7 +24,9 @@ use Rattle.marks.specs.Stored.{StoredAlone}
 use Rattle.marks.specs.Only as marks
 use Rattle.marks.specs.OnlyLaws as marks-laws
 use Rattle.model.specs.Cells.{Cell, Val, globals-cell, control-cell, allocator-cell, ep-cell, request-cell, paced-cell}
-use Rattle.model.specs.Script.{Act, complete, reset-ring, set-enabled, fill, fill0, open-oldest, close-oldest, take-oldest, enqueue, allocate, allocate0, no-wakes, waken, DmaStep, arrive, send, place, place0, Burst, switch, bus-reset}
+use Rattle.model.specs.Script.{Act, complete, reset-ring, set-enabled, fill, fill0, open-oldest, close-oldest}
+use Rattle.model.specs.Script.{take-oldest, enqueue, allocate, allocate0, no-wakes, waken, DmaStep, arrive, send, place}
+use Rattle.model.specs.Script.{place0, Burst, switch, bus-reset}
 use Rattle.model.specs.Simulates.{Phase, quiet}
 use Rattle.model.specs.Statics.{isOn}
 use Rattle.model.specs.Machine.{Buf}
@@ -47,7 +49,8 @@ module _ {φ : Phase} {b : Buf} {d : Driver} {t : Pages} (R : Coupling φ b d t)
   apart-leaves : {b′ : Buf} (lo hi : ℕ) → marks.Only lo hi b b′ → Apart lo hi (epOn d Out e .base) (endOf (epOn d Out e)) → Untouched b′
   apart-leaves lo hi o a =
       marks-laws.only-apart (t .outs e .slot) (t .outs e .slot + epOn d Out e .stride) o
-      (⊎-elim (λ (h : hi ≤ epOn d Out e .base). inr (omega (arith, R .outs e .from))) (λ (h : endOf (epOn d Out e) ≤ lo). inl (omega (arith, R .outs e .upto))) a)
+      (⊎-elim (λ (h : hi ≤ epOn d Out e .base). inr (omega (arith, R .outs e .from)))
+      (λ (h : endOf (epOn d Out e) ≤ lo). inl (omega (arith, R .outs e .upto))) a)
 
   -- and so one in another endpoint's slot
   slot-leaves : {b′ : Buf} (dir : Dir) (f at n : ℕ) → marks.Only at (at + n) b b′ → epOn d dir f .base ≤ at → at + n ≤ endOf (epOn d dir f)

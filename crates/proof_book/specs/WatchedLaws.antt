@@ -21,13 +21,16 @@ use Rattle.marks.specs.Finds.{LastDiffers}
 use Rattle.marks.specs.Slots.{only-armed, armed-empties, len-is}
 use Rattle.marks.specs.Only as marks
 use Rattle.model.specs.Cells.{EpCore, Cell, Val, globals-cell, control-cell, allocator-cell, ep-cell, request-cell, paced-cell}
-use Rattle.model.specs.Script.{Act, complete, reset-ring, set-enabled, fill, fill0, open-oldest, close-oldest, take-oldest, enqueue, allocate, allocate0, no-wakes, waken, DmaStep, arrive, send, place, place0, dmaStepAsk, Burst, switch, bus-reset, burstAsk}
+use Rattle.model.specs.Script.{Act, complete, reset-ring, set-enabled, fill, fill0, open-oldest, close-oldest}
+use Rattle.model.specs.Script.{take-oldest, enqueue, allocate, allocate0, no-wakes, waken, DmaStep, arrive, send, place}
+use Rattle.model.specs.Script.{place0, dmaStepAsk, Burst, switch, bus-reset, burstAsk}
 use Rattle.model.specs.Simulates.{Phase, quiet, mid}
 use Rattle.model.specs.Statics.{isOn}
 use Rattle.model.specs.Machine.{Buf}
 use Rattle.model_ops.specs.Concrete.{concrete}
 use Rattle.proof_book.specs.Pages.{OutPage, Pages, at, withOut}
-use Rattle.proof_book.specs.Book.{some, waitsOn, openOut, readOut, emptyOut, slotTold, arrived, packetB, roomB, queuedIn, isoOut, putB, actB, handB, rowB, receiving, isoOf, feedB}
+use Rattle.proof_book.specs.Book.{some, waitsOn, openOut, readOut, emptyOut, slotTold, arrived, packetB, roomB}
+use Rattle.proof_book.specs.Book.{queuedIn, isoOut, putB, actB, handB, rowB, receiving, isoOf, feedB}
 use Rattle.proof_book.specs.Coupling.{Coupling}
 use Rattle.proof_book.specs.Lens.{ep-mod}
 use Rattle.proof_book.specs.Held.{Words}

@@ -17,7 +17,9 @@ use Rattle.ring.specs.Out.{cappedAt}
 use Rattle.marks.specs.Marks.{armed}
 use Rattle.model.specs.Answers.{Answer}
 use Rattle.model.specs.Cells.{EpCore}
-use Rattle.model.specs.Script.{Act, complete, reset-ring, set-enabled, fill, fill0, open-oldest, close-oldest, take-oldest, enqueue, allocate, allocate0, no-wakes, waken, DmaStep, arrive, send, place, place0, dmaStepAsk, Burst, switch, bus-reset, burstAsk, lastOf}
+use Rattle.model.specs.Script.{Act, complete, reset-ring, set-enabled, fill, fill0, open-oldest, close-oldest}
+use Rattle.model.specs.Script.{take-oldest, enqueue, allocate, allocate0, no-wakes, waken, DmaStep, arrive, send, place}
+use Rattle.model.specs.Script.{place0, dmaStepAsk, Burst, switch, bus-reset, burstAsk, lastOf}
 use Rattle.model.specs.Simulates.{Phase, quiet, mid}
 use Rattle.model.specs.Statics.{isOn, isoOuts, renewed}
 use Rattle.model.specs.Calls.{Config, Op, calls, startRow}
@@ -39,7 +41,8 @@ use Rattle.proof_book.specs.Untouched.{put-leaves, act-leaves, hand-leav
 use Rattle.proof_book.specs.Agrees.{agree}
 use Rattle.proof_book.specs.FrontPage.{Made, CallStep}
 use Rattle.proof_book.specs.FrontPage as page
-use Rattle.proof_book.specs.Watched.{Watch, Seen, armsBy, watchHand, watchRow, watchAct, watched, Stored, TrueLength, noted, LentBy, AllLent, TrueLengths, RunLent, TrueLengthsMade}
+use Rattle.proof_book.specs.Watched.{Watch, Seen, armsBy, watchHand, watchRow, watchAct, watched, Stored}
+use Rattle.proof_book.specs.Watched.{TrueLength, noted, LentBy, AllLent, TrueLengths, RunLent, TrueLengthsMade}
 use Rattle.proof_book.specs.WatchedLaws.{Clean, clean-stored, Stays, clean-moved, put-stays, act-stays, clean-armed, true-length}
 
 abbrev numberOf : DmaStep → ℕ

@@ -15,7 +15,8 @@ use Rattle.model.specs.Script.{run}
 use Rattle.model.specs.Answers.{Answer, Refused}
 use Rattle.model.specs.Calls as the-calls
 use Rattle.model.specs.Calls.{Config, Op, slots, passes, irq, code, startRow, calls}
-use Rattle.model.specs.Machine.{Buf, Call, start, begin, go, question, Way, idle, busy, Machine, ended, lentTo, misfit, stay, halt, beside, begun, continued, started, over}
+use Rattle.model.specs.Machine.{Buf, Call, start, begin, go, question, Way, idle, busy, Machine, ended, lentTo, misfit}
+use Rattle.model.specs.Machine.{stay, halt, beside, begun, continued, started, over}
 use Rattle.model_ops.specs.Rings.{St}
 use Rattle.model_ops.specs.Concrete.{concrete}
 use Rattle.machine.specs.Suspended.{driverOf, drive}
@@ -47,17 +48,21 @@ besides : (x : Sort) (m : Machine Answer Driver) {o : tree.Out St Answer} → Sa
 besides x m w (to-end p) = (w, λ _. p)
 besides x m w (to-ask p r) = (w, λ _. gave-same (m .st))
 
-begins-at : (o : Op) (m : Machine Answer Driver) (w : Way Answer Driver) (b : Buf) → Sane (m .way) → Went (opSort o) (m .st) (begun calls driverOf (λ s. s) o m w b)
+begins-at : (o : Op) (m : Machine Answer Driver) (w : Way Answer Driver) (b : Buf)
+    → Sane (m .way) → Went (opSort o) (m .st) (begun calls driverOf (λ s. s) o m w b)
 begins-at o m idle b h = halts (opSort o) (m .st) (irq o) (run-moves (code o) (m .st, b))
 begins-at o m (busy i q k) b h =
     let n = lentTo calls driverOf m b in
     let x = run concrete (code o) (m .st, b) in
-    went-cond (opSort o) (m .st) (cond i (passes o) false) (beside calls driverOf n x) (stay calls driverOf 3 n) (besides (opSort o) n h (run-moves (code o) (m .st, b))) (h, λ _. gave-same (m .st))
+    went-cond (opSort o) (m .st) (cond i (passes o) false) (beside calls driverOf n x)
+    (stay calls driverOf 3 n) (besides (opSort o) n h (run-moves (code o) (m .st, b))) (h, λ _. gave-same (m .st))
 
-continues-at : (v : ℕ) (m : Machine Answer Driver) (w : Way Answer Driver) (b : Buf) → Sane (m .way) → Sane w → Went going (m .st) (continued calls driverOf (λ s. s) v m w b)
+continues-at : (v : ℕ) (m : Machine Answer Driver) (w : Way Answer Driver) (b : Buf)
+    → Sane (m .way) → Sane w → Went going (m .st) (continued calls driverOf (λ s. s) v m w b)
 continues-at v m idle b h x = (h, λ _. gave-same (m .st))
 continues-at v m (busy i q k) b h x =
-    went-cond going (m .st) (over calls q v) (stay calls driverOf 16 (lentTo calls driverOf m b)) (halt calls driverOf (λ s. s) i (k v (m .st, b))) (h, λ _. gave-same (m .st)) (halts going (m .st) i (x v (m .st, b)))
+    went-cond going (m .st) (over calls q v) (stay calls driverOf 16 (lentTo calls driverOf m b))
+    (halt calls driverOf (λ s. s) i (k v (m .st, b))) (h, λ _. gave-same (m .st)) (halts going (m .st) i (x v (m .st, b)))
 
 rest-of : {d : Driver} {q : Access} {s : St} {k : ℕ → St → tree.Out St Answer} → Moves d (asks q s k) → (v : ℕ) (t : St) → Moves (t .0) (k v t)
 rest-of (to-ask p r) = r
@@ -69,9 +74,11 @@ starts-at c (suc n) m b h = (h, λ _. gave-same (m .st))
 calls-at : (x : Call Config Op) (m : Machine Answer Driver) (b : Buf) → Sane (m .way) → Went (sortOf x) (m .st) (drive x m b)
 calls-at (start c) m b h = starts-at c (startRow c b) m b h
 calls-at (begin o) m b h =
-    went-cond (opSort o) (m .st) (cond (slots o) (misfit calls driverOf (m .st) b) false) (stay calls driverOf 1 m) (begun calls driverOf (λ s. s) o m (m .way) b) (h, λ _. gave-same (m .st)) (begins-at o m (m .way) b h)
+    went-cond (opSort o) (m .st) (cond (slots o) (misfit calls driverOf (m .st) b) false) (stay calls driverOf 1 m)
+    (begun calls driverOf (λ s. s) o m (m .way) b) (h, λ _. gave-same (m .st)) (begins-at o m (m .way) b h)
 calls-at (go v) m b h =
-    went-cond going (m .st) (misfit calls driverOf (m .st) b) (stay calls driverOf 1 m) (continued calls driverOf (λ s. s) v m (m .way) b) (h, λ _. gave-same (m .st)) (continues-at v m (m .way) b h h)
+    went-cond going (m .st) (misfit calls driverOf (m .st) b) (stay calls driverOf 1 m)
+    (continued calls driverOf (λ s. s) v m (m .way) b) (h, λ _. gave-same (m .st)) (continues-at v m (m .way) b h h)
 calls-at (question q) m b h = (h, λ _. gave-same (m .st))
 
 shared-at : (j : ℕ) (x : Call Config Op) (m : Machine Answer Driver) (t : List ℕ) (b : Buf) → Sane (m .way) → Went (sortOf x) (m .st) (sharedCall j x m t b .0)
@@ -91,7 +98,8 @@ module _ (i : ℕ) where
   abbrev state : Four → Driver
   state f = f .driver i .st
 
-  one : (x : Turn) (f : Four) → Sane (f .driver i .way) → Sane (next x f .driver i .way) × (restartsAt i (lineOf x f) ≡ false → Gave (state f) (state (next x f)))
+  one : (x : Turn) (f : Four) → Sane (f .driver i .way)
+      → Sane (next x f .driver i .way) × (restartsAt i (lineOf x f) ≡ false → Gave (state f) (state (next x f)))
   one x f h = by (eqb (x .who % 4) i) refl (eqb i (x .who % 4)) refl
     where
       y : Called
@@ -128,7 +136,8 @@ module _ (i : ℕ) where
 
 -- after every list of calls from a driver i with nothing under way, and then after every other one without an accepted start-up of it
 pub given-stays : (xs ys : List Turn) (f : Four) (i : ℕ) → f .driver i .way ≡ idle → let g = after xs f in restarted i (history ys g) ≡ false
-    → (dir : Dir) (e : ℕ) → isTaken (g .driver i .st) dir e ≡ true → let r = epOn (g .driver i .st) dir e in let r′ = epOn (after ys g .driver i .st) dir e in (r′ .kind ≡ r .kind) × (r′ .«max_len» ≡ r .«max_len»)
+    → (dir : Dir) (e : ℕ) → isTaken (g .driver i .st) dir e ≡ true → let r = epOn (g .driver i .st) dir e in
+    let r′ = epOn (after ys g .driver i .st) dir e in (r′ .kind ≡ r .kind) × (r′ .«max_len» ≡ r .«max_len»)
 given-stays xs ys f i h z dir e t =
     let p = gave-all i ys (after xs f) (sane-all i xs f (subst Sane (sym h) tt)) z .given dir e t in
     (ap (λ (g : ℕ × ℕ × ℕ). g .1) p, ap (λ (g : ℕ × ℕ × ℕ). g .2) p)

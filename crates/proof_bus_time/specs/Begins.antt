@@ -37,7 +37,8 @@ use Rattle.proof_bus_time.specs.Charged.{givenBack}
 use Rattle.proof_bus_time.specs.Stays.{configOf, Stays, act-stays}
 use Rattle.proof_bus_time.specs.Calm.{Quiet, Calm}
 use Rattle.proof_bus_time.specs.CalmCalls.{Manner, calm, gives, turns, polls, manner, start-up-calm}
-use Rattle.proof_bus_time.specs.Left.{Left, at-end, at-ask, left-bind, left-more, First, none, some, first-bind, first-cond, quiet, keeps, none-keeps, calm-run, calm-first}
+use Rattle.proof_bus_time.specs.Left.{Left, at-end, at-ask, left-bind, left-more, First, none, some, first-bind}
+use Rattle.proof_bus_time.specs.Left.{first-cond, quiet, keeps, none-keeps, calm-run, calm-first}
 use Rattle.proof_bus_time.specs.Switching.{Due, due-stays, Ended, mine, turnsBack, switched}
 use Rattle.proof_bus_time.specs.Polling.{polled}
 
@@ -60,7 +61,9 @@ turn-hands Out e on s = by (isOn (epOn (t .0) Out e .iso))
     turn : Bool → tree.Out St (Unit {0})
     turn b = cond b (run concrete (row (switch e on)) t) (run concrete (bus.setEnabledOut {i = false} e on) t)
 
-    by : (b : Bool) → Hands (bindOut (bindOut (bindOut (turn b) (λ _ u. run concrete (wake {i = false} Out e) u)) (λ _ u. run concrete (ret {i = false} {A = ℕ} 0) u)) (λ n u. run concrete (finish n) u))
+    by : (b : Bool) → Hands
+        (bindOut (bindOut (bindOut (turn b) (λ _ u. run concrete (wake {i = false} Out e) u)) (λ _ u. run concrete (ret {i = false} {A = ℕ} 0) u))
+        (λ n u. run concrete (finish n) u))
     by true = hands tt
     by false = hands tt
 
@@ -176,7 +179,8 @@ module _ (dir : Dir) (e : ℕ) where
   begun-due : (dir′ : Dir) (e′ c : ℕ) (d : Driver) → Rests c d → Due dir e (mine dir e dir′ e′ true) (cond (eqb (place dir′ e′) bit) (chargeOn d dir′ e′) c) d
   begun-due dir′ e′ c d r = by (eqb (place dir′ e′) bit) refl (isEnabled d dir e) refl
     where
-      by : (own : Bool) → eqb (place dir′ e′) bit ≡ own → (b : Bool) → isEnabled d dir e ≡ b → cond own (chargeOn d dir′ e′) c ≡ cond (isEnabled d dir e || own) (chargeOn d dir e) 0
+      by : (own : Bool) → eqb (place dir′ e′) bit ≡ own → (b : Bool) → isEnabled d dir e ≡ b
+          → cond own (chargeOn d dir′ e′) c ≡ cond (isEnabled d dir e || own) (chargeOn d dir e) 0
       by true h true k = rw k (same-charge d dir′ e′ (eqb-true (place dir′ e′) bit h))
       by true h false k = rw k (same-charge d dir′ e′ (eqb-true (place dir′ e′) bit h))
       by false h b k = r .due
@@ -186,7 +190,9 @@ module _ (dir : Dir) (e : ℕ) where
       (run concrete (resultless (bus.setEnabled dir′ e′ on)) s)
   turn-left dir′ e′ on c s due second =
       let x = act-stays no-wakes refl s in
-      left-bind (left-bind (switched dir e dir′ e′ on c (concrete .act no-wakes s) (due-stays dir e (mine dir e dir′ e′ on) c x due) (x .stage ∙ second)) (λ g _ t y. at-end y)) (λ g _ t y. at-end (ended-rests g (t .0) y))
+      left-bind
+      (left-bind (switched dir e dir′ e′ on c (concrete .act no-wakes s) (due-stays dir e (mine dir e dir′ e′ on) c x due) (x .stage ∙ second))
+      (λ g _ t y. at-end y)) (λ g _ t y. at-end (ended-rests g (t .0) y))
 
   opens-turn : (dir′ : Dir) (e′ : ℕ) (on : Bool) (c : ℕ) (was : Bool) (s : St) → Rests c (s .0)
       → Opens (opSort (slotted (SetEnabled dir′ e′ on))) (slottedBegun (SetEnabled dir′ e′ on)) (s .0) c was

@@ -20,7 +20,11 @@ use Rattle.model.specs.Endpoint.{beginRead, pollRead, beginWrite, pollWrite}
 use Rattle.model.specs.Control.{acks, beginDataOut, pollDataOut, beginDataIn, pollDataIn}
 use Rattle.model.specs.Driver.{allocated-as, started-as}
 use Rattle.model.specs.AllocateAll.{allocateEach, announce, beginsAt, announceAfter, announceAll, allocate-read}
-use Rattle.model.specs.Calls.{Config, Op, interrupt, slotted, other, aside, Slotted, SetEnabled, PollRead, BeginWrite, PollWrite, PollDataOut, BeginDataIn, Other, Allocate, AllocateAll, Start, BusPoll, BusEnable, BusDisable, Microframe, SetStalled, IsStalled, SetPaced, Advance, BeginRead, BeginSetup, PollSetup, PollDataIn, BeginAccept, PollAccept, BeginReject, BeginDataOut, BeginAcceptSetAddress, Aside, Open, Close, Queue, otherCode, asideCode, code, starting}
+use Rattle.model.specs.Calls.{Config, Op, interrupt, slotted, other, aside, Slotted, SetEnabled, PollRead, BeginWrite}
+use Rattle.model.specs.Calls.{PollWrite, PollDataOut, BeginDataIn, Other, Allocate, AllocateAll, Start, BusPoll}
+use Rattle.model.specs.Calls.{BusEnable, BusDisable, Microframe, SetStalled, IsStalled, SetPaced, Advance, BeginRead}
+use Rattle.model.specs.Calls.{BeginSetup, PollSetup, PollDataIn, BeginAccept, PollAccept, BeginReject, BeginDataOut}
+use Rattle.model.specs.Calls.{BeginAcceptSetAddress, Aside, Open, Close, Queue, otherCode, asideCode, code, starting}
 use Rattle.model.specs.Bus as bus
 use Rattle.model.specs.Tree.{ends}
 use Rattle.model.specs.Answers.{Refused}
@@ -44,32 +48,242 @@ of-stalled Out e false = (λ _. tt, λ _. (tt, λ _. ((tt, tt), λ _. tt)))
 of-stalled In e false = (λ _. tt, λ _. (tt, λ _. ((tt, tt), λ _. (((λ _. tt, λ _. tt), tt), λ _. tt))))
 
 of-poll-read : (e n : ℕ) → C (pollRead {i = false} e n)
-of-poll-read e n = (λ _. tt, λ _. ((λ _. tt, λ _. ((λ _. tt, λ _. (tt, ((λ _. tt, λ s. ((λ _. tt, λ _. ((λ _. tt, λ _. ((λ _. tt, λ _. (tt, λ _. (tt, λ _. tt))), tt)), (tt, λ _. tt))), (((λ _. tt, λ _. tt), λ _. ((tt, λ _. tt), (λ _. tt, λ _. (tt, λ _. tt)))), (λ _. tt, λ _. (tt, (tt, λ _. tt)))))), ((λ _. tt, λ _. tt), λ _. (tt, λ _. tt))))), tt)), tt))
+of-poll-read e n = (
+  λ _. tt,
+  λ _. (
+    (
+      λ _. tt,
+      λ _. (
+        (
+          λ _. tt,
+          λ _. (
+            tt,
+            (
+              (
+                λ _. tt,
+                λ s. (
+                  (λ _. tt, λ _. ((λ _. tt, λ _. ((λ _. tt, λ _. (tt, λ _. (tt, λ _. tt))), tt)), (tt, λ _. tt))),
+                  (((λ _. tt, λ _. tt), λ _. ((tt, λ _. tt), (λ _. tt, λ _. (tt, λ _. tt)))), (λ _. tt, λ _. (tt, (tt, λ _. tt)))),
+                ),
+              ),
+              ((λ _. tt, λ _. tt), λ _. (tt, λ _. tt)),
+            ),
+          ),
+        ),
+        tt,
+      ),
+    ),
+    tt,
+  ),
+)
 
 of-poll-write : (e : ℕ) (bs : List ℕ) → C (pollWrite {i = false} e bs)
-of-poll-write e bs = (λ _. tt, λ _. ((λ _. tt, λ _. ((λ _. tt, λ _. (tt, ((λ _. tt, λ s. ((λ _. tt, λ _. ((λ _. tt, λ _. ((tt, λ _. (tt, λ _. tt)), tt)), (tt, λ _. tt))), (((λ _. tt, λ _. tt), λ _. (tt, λ _. tt)), (λ _. tt, λ _. (tt, (tt, λ _. tt)))))), ((λ _. tt, λ _. tt), λ _. (tt, λ _. tt))))), tt)), tt))
+of-poll-write e bs = (
+  λ _. tt,
+  λ _. (
+    (
+      λ _. tt,
+      λ _. (
+        (
+          λ _. tt,
+          λ _. (
+            tt,
+            (
+              (
+                λ _. tt,
+                λ s. (
+                  (λ _. tt, λ _. ((λ _. tt, λ _. ((tt, λ _. (tt, λ _. tt)), tt)), (tt, λ _. tt))),
+                  (((λ _. tt, λ _. tt), λ _. (tt, λ _. tt)), (λ _. tt, λ _. (tt, (tt, λ _. tt)))),
+                ),
+              ),
+              ((λ _. tt, λ _. tt), λ _. (tt, λ _. tt)),
+            ),
+          ),
+        ),
+        tt,
+      ),
+    ),
+    tt,
+  ),
+)
 
 of-begin-read : (e n : ℕ) → C (beginRead {i = false} e n)
-of-begin-read e n = (λ _. tt, λ _. ((λ _. tt, λ _. ((λ _. tt, λ _. ((λ _. tt, λ _. (tt, (tt, λ _. (tt, λ _. (((tt, (tt, ((λ _. tt, λ _. tt), λ _. ((tt, λ _. tt), λ _. (tt, tt))))), λ _. tt), λ _. (λ _. tt, λ _. tt)))))), tt)), tt)), tt))
+of-begin-read e n = (
+  λ _. tt,
+  λ _. (
+    (
+      λ _. tt,
+      λ _. (
+        (
+          λ _. tt,
+          λ _. (
+            (
+              λ _. tt,
+              λ _. (
+                tt,
+                (tt, λ _. (tt, λ _. (((tt, (tt, ((λ _. tt, λ _. tt), λ _. ((tt, λ _. tt), λ _. (tt, tt))))), λ _. tt), λ _. (λ _. tt, λ _. tt)))),
+              ),
+            ),
+            tt,
+          ),
+        ),
+        tt,
+      ),
+    ),
+    tt,
+  ),
+)
 
 of-begin-write : (e : ℕ) (bs : List ℕ) → C (beginWrite {i = false} e bs)
-of-begin-write e bs = (λ _. tt, λ _. ((λ _. tt, λ _. ((λ _. tt, λ _. ((λ _. tt, λ _. (tt, (tt, λ _. (tt, λ _. (((tt, (tt, λ _. ((λ _. tt, λ _. tt), λ _. ((tt, tt), λ _. ((tt, λ _. tt), λ _. (tt, tt)))))), λ _. tt), λ _. (λ _. tt, λ _. tt)))))), tt)), tt)), tt))
+of-begin-write e bs = (
+  λ _. tt,
+  λ _. (
+    (
+      λ _. tt,
+      λ _. (
+        (
+          λ _. tt,
+          λ _. (
+            (
+              λ _. tt,
+              λ _. (
+                tt,
+                (
+                  tt,
+                  λ _. (
+                    tt,
+                    λ _. (
+                      ((tt, (tt, λ _. ((λ _. tt, λ _. tt), λ _. ((tt, tt), λ _. ((tt, λ _. tt), λ _. (tt, tt)))))), λ _. tt),
+                      λ _. (λ _. tt, λ _. tt),
+                    ),
+                  ),
+                ),
+              ),
+            ),
+            tt,
+          ),
+        ),
+        tt,
+      ),
+    ),
+    tt,
+  ),
+)
 
 of-acks : (d : Dir) (first : Bool) → C (acks {i = false} d first)
 of-acks d true = (control d, tt)
 of-acks d false = ((tt, λ _. tt), λ _. (control d, tt))
 
 of-begin-data-out : (n : ℕ) (first : Bool) → C (beginDataOut {i = false} n first)
-of-begin-data-out n first = (λ _. tt, λ _. ((λ _. tt, λ _. (tt, (λ _. tt, λ _. (tt, (tt, λ _. (tt, λ _. ((((λ _. tt, λ _. tt), λ _. of-acks Out first), λ _. tt), λ _. (λ _. tt, λ _. tt)))))))), tt))
+of-begin-data-out n first = (
+  λ _. tt,
+  λ _. (
+    (
+      λ _. tt,
+      λ _. (
+        tt,
+        (λ _. tt, λ _. (tt, (tt, λ _. (tt, λ _. ((((λ _. tt, λ _. tt), λ _. of-acks Out first), λ _. tt), λ _. (λ _. tt, λ _. tt)))))),
+      ),
+    ),
+    tt,
+  ),
+)
 
 of-poll-data-out : (n : ℕ) → C (pollDataOut {i = false} n)
-of-poll-data-out n = (λ _. tt, λ _. ((λ _. tt, λ c. (((λ _. tt, λ _. (((λ _. tt, λ _. tt), λ _. ((tt, λ _. tt), (λ _. tt, λ _. (tt, λ _. tt)))), (λ _. tt, λ _. ((tt, λ _. tt), tt)))), ((λ _. tt, λ _. tt), λ _. (tt, λ _. tt))), tt)), tt))
+of-poll-data-out n = (
+  λ _. tt,
+  λ _. (
+    (
+      λ _. tt,
+      λ c. (
+        (
+          (λ _. tt, λ _. (((λ _. tt, λ _. tt), λ _. ((tt, λ _. tt), (λ _. tt, λ _. (tt, λ _. tt)))), (λ _. tt, λ _. ((tt, λ _. tt), tt)))),
+          ((λ _. tt, λ _. tt), λ _. (tt, λ _. tt)),
+        ),
+        tt,
+      ),
+    ),
+    tt,
+  ),
+)
 
 of-begin-data-in : (bs : List ℕ) (first last : Bool) → C (beginDataIn {i = false} bs first last)
-of-begin-data-in bs first last = (λ _. tt, λ _. ((λ _. tt, λ _. (tt, (λ _. tt, λ _. (tt, (tt, λ _. (tt, λ _. (((tt, λ _. ((λ _. tt, λ _. tt), λ _. ((((λ _. tt, λ _. tt), λ _. (tt, tt)), tt), λ _. ((λ _. tt, λ _. tt), λ _. ((tt, tt), λ _. of-acks In first))))), λ _. tt), λ _. (λ _. tt, λ _. tt)))))))), tt))
+of-begin-data-in bs first last = (
+  λ _. tt,
+  λ _. (
+    (
+      λ _. tt,
+      λ _. (
+        tt,
+        (
+          λ _. tt,
+          λ _. (
+            tt,
+            (
+              tt,
+              λ _. (
+                tt,
+                λ _. (
+                  (
+                    (
+                      tt,
+                      λ _. (
+                        (λ _. tt, λ _. tt),
+                        λ _. ((((λ _. tt, λ _. tt), λ _. (tt, tt)), tt), λ _. ((λ _. tt, λ _. tt), λ _. ((tt, tt), λ _. of-acks In first))),
+                      ),
+                    ),
+                    λ _. tt,
+                  ),
+                  λ _. (λ _. tt, λ _. tt),
+                ),
+              ),
+            ),
+          ),
+        ),
+      ),
+    ),
+    tt,
+  ),
+)
 
 of-poll-data-in : C (pollDataIn {i = false})
-of-poll-data-in = (λ _. tt, λ _. ((λ _. tt, λ c. (((λ _. tt, λ _. (((λ _. tt, λ _. tt), λ _. (((λ _. tt, λ _. tt), tt), λ _. (tt, λ _. tt))), (λ _. tt, λ _. ((tt, λ _. tt), ((((λ _. tt, λ _. tt), λ _. tt), tt), λ _. tt))))), (λ _. tt, λ _. (((λ _. tt, λ _. (((λ _. tt, λ _. tt), λ _. (((λ _. tt, λ _. tt), tt), λ _. (tt, λ _. tt))), (λ _. tt, λ _. ((tt, λ _. tt), ((((λ _. tt, λ _. tt), λ _. tt), tt), λ _. tt))))), ((λ _. tt, λ _. tt), λ _. (tt, λ _. tt))), (λ _. tt, λ _. ((tt, λ _. tt), tt))))), tt)), tt))
+of-poll-data-in = (
+  λ _. tt,
+  λ _. (
+    (
+      λ _. tt,
+      λ c. (
+        (
+          (
+            λ _. tt,
+            λ _. (
+              ((λ _. tt, λ _. tt), λ _. (((λ _. tt, λ _. tt), tt), λ _. (tt, λ _. tt))),
+              (λ _. tt, λ _. ((tt, λ _. tt), ((((λ _. tt, λ _. tt), λ _. tt), tt), λ _. tt))),
+            ),
+          ),
+          (
+            λ _. tt,
+            λ _. (
+              (
+                (
+                  λ _. tt,
+                  λ _. (
+                    ((λ _. tt, λ _. tt), λ _. (((λ _. tt, λ _. tt), tt), λ _. (tt, λ _. tt))),
+                    (λ _. tt, λ _. ((tt, λ _. tt), ((((λ _. tt, λ _. tt), λ _. tt), tt), λ _. tt))),
+                  ),
+                ),
+                ((λ _. tt, λ _. tt), λ _. (tt, λ _. tt)),
+              ),
+              (λ _. tt, λ _. ((tt, λ _. tt), tt)),
+            ),
+          ),
+        ),
+        tt,
+      ),
+    ),
+    tt,
+  ),
+)
 
 of-place : (d : Dir) (kind maximum : ℕ) (a : alloc-answer.Answer) → G (allocated-as {i = false} d kind maximum a)
 of-place d kind maximum (alloc.Refused n) = tt
@@ -104,7 +318,10 @@ of-after (suc left) total d e = (
 
 of-announce-all : (es : List Endpoint) → G (announceAll {i = false} es)
 of-announce-all [] = tt
-of-announce-all (e ∷ es) = (of-announce (directionOf (e .address)) (e .address % 128), λ _. of-after (length es) (suc (length es)) (directionOf (e .address)) (e .address % 128))
+of-announce-all (e ∷ es) = (
+  of-announce (directionOf (e .address)) (e .address % 128),
+  λ _. of-after (length es) (suc (length es)) (directionOf (e .address)) (e .address % 128),
+)
 
 of-all : (bytes : List ℕ) (a : reading-answer.Answer) → G (allocate-read {i = false} bytes a)
 of-all bytes (reading.Refused n) = tt
@@ -112,7 +329,10 @@ of-all bytes reading.Listed = (λ _. tt, λ _. ((of-each (listOf bytes), λ _. (
 
 of-started : (maximum : ℕ) (a : alloc-answer.Answer) → G (started-as {i = false} maximum a)
 of-started maximum (alloc.Refused n) = tt
-of-started maximum (alloc.Given ep base slots) = (tt, λ _. ((((λ _. tt, tt), λ _. ((tt, tt), λ _. ((tt, tt), λ _. ((tt, tt), λ _. (tt, tt))))), λ _. tt), λ _. (λ _. tt, λ _. tt)))
+of-started maximum (alloc.Given ep base slots) = (
+  tt,
+  λ _. ((((λ _. tt, tt), λ _. ((tt, tt), λ _. ((tt, tt), λ _. ((tt, tt), λ _. (tt, tt))))), λ _. tt), λ _. (λ _. tt, λ _. tt)),
+)
 
 -- ---- the calls
 
@@ -135,31 +355,118 @@ of-slotted (PollDataOut n) = calm (slotted (PollDataOut n)) refl (of-poll-data-o
 of-slotted (BeginDataIn bs first last) = calm (slotted (BeginDataIn bs first last)) refl (of-begin-data-in bs first last)
 
 of-other : (o : Other) → Manner (other o)
-of-other (Allocate d kind address maximum interval) = gives (Allocate d kind address maximum interval) (λ s h. rw h refl) (λ _. tt, λ _. ((λ _. tt, λ a. (tt, λ _. of-place d kind maximum (allocateOf a kind address maximum d .answer))), tt))
+of-other (Allocate d kind address maximum interval) = gives (Allocate d kind address maximum interval) (λ s h. rw h refl) (
+  λ _. tt,
+  λ _. ((λ _. tt, λ a. (tt, λ _. of-place d kind maximum (allocateOf a kind address maximum d .answer))), tt),
+)
 of-other (AllocateAll bytes) = gives (AllocateAll bytes) (λ s h. rw h refl) (λ _. tt, λ _. (of-all bytes (readingOf bytes .answer), tt))
-of-other (Start maximum) = gives (Start maximum) (λ s h. rw h refl) (λ _. tt, λ _. ((λ _. tt, λ a. (tt, λ _. of-started maximum (allocateEp0Of a maximum .answer))), tt))
+of-other (Start maximum) = gives (Start maximum) (λ s h. rw h refl) (
+  λ _. tt,
+  λ _. ((λ _. tt, λ a. (tt, λ _. of-started maximum (allocateEp0Of a maximum .answer))), tt),
+)
 of-other BusPoll = polls
 of-other BusEnable = calm (other BusEnable) refl (λ _. tt, λ _. ((tt, λ _. ((((tt, λ _. tt), λ _. (tt, tt)), λ _. tt), λ _. (λ _. tt, λ _. tt))), tt))
 of-other BusDisable = calm (other BusDisable) refl (λ _. tt, λ _. ((tt, λ _. ((tt, λ _. tt), λ _. (λ _. tt, λ _. tt))), tt))
 of-other Microframe = calm (other Microframe) refl (λ _. tt, λ _. ((tt, λ _. (((tt, λ _. tt), λ _. tt), λ _. (λ _. tt, λ _. tt))), tt))
-of-other (SetStalled d e on) = calm (other (SetStalled d e on)) refl (λ _. tt, λ _. (((tt, λ _. ((of-stalled d e on, λ _. tt), λ _. (λ _. tt, λ _. tt))), (λ _. tt, λ _. ((tt, λ _. ((of-stalled d e on, λ _. tt), λ _. (λ _. tt, λ _. tt))), tt))), tt))
-of-other (IsStalled d e) = calm (other (IsStalled d e)) refl (λ _. tt, λ _. (((tt, λ _. (((tt, λ _. tt), λ _. tt), λ _. (λ _. tt, λ _. tt))), (λ _. tt, λ _. ((tt, λ _. (((tt, λ _. tt), λ _. tt), λ _. (λ _. tt, λ _. tt))), tt))), tt))
+of-other (SetStalled d e on) = calm (other (SetStalled d e on)) refl (
+  λ _. tt,
+  λ _. (
+    (
+      (tt, λ _. ((of-stalled d e on, λ _. tt), λ _. (λ _. tt, λ _. tt))),
+      (λ _. tt, λ _. ((tt, λ _. ((of-stalled d e on, λ _. tt), λ _. (λ _. tt, λ _. tt))), tt)),
+    ),
+    tt,
+  ),
+)
+of-other (IsStalled d e) = calm (other (IsStalled d e)) refl (
+  λ _. tt,
+  λ _. (
+    (
+      (tt, λ _. (((tt, λ _. tt), λ _. tt), λ _. (λ _. tt, λ _. tt))),
+      (λ _. tt, λ _. ((tt, λ _. (((tt, λ _. tt), λ _. tt), λ _. (λ _. tt, λ _. tt))), tt)),
+    ),
+    tt,
+  ),
+)
 of-other (SetPaced e on) = calm (other (SetPaced e on)) refl (λ _. tt, λ _. ((((λ _. tt, λ _. (tt, λ _. tt)), λ _. tt), tt), tt))
 of-other (Advance e) = calm (other (Advance e)) refl (λ _. tt, λ _. (((tt, λ _. ((of-advance false false e, λ _. tt), λ _. (λ _. tt, λ _. tt))), tt), tt))
 of-other (BeginRead e n) = calm (other (BeginRead e n)) refl (of-begin-read e n)
 of-other BeginSetup = calm (other BeginSetup) refl (λ _. tt, λ _. ((tt, λ _. (tt, λ _. ((tt, λ _. tt), λ _. (λ _. tt, λ _. tt)))), tt))
 of-other PollSetup = calm (other PollSetup) refl (λ _. tt, λ _. ((λ _. tt, λ c. ((λ _. tt, λ _. ((tt, λ _. (tt, λ _. tt)), tt)), tt)), tt))
 of-other PollDataIn = calm (other PollDataIn) refl (of-poll-data-in)
-of-other BeginAccept = calm (other BeginAccept) refl (λ _. tt, λ _. ((λ _. tt, λ _. (tt, (tt, λ _. (tt, λ _. ((((λ _. tt, λ _. tt), λ _. ((tt, tt), λ _. ((tt, λ _. tt), λ _. (tt, tt)))), λ _. tt), λ _. (λ _. tt, λ _. tt)))))), tt))
-of-other PollAccept = calm (other PollAccept) refl (λ _. tt, λ _. ((λ _. tt, λ c. ((λ _. tt, λ _. (((λ _. tt, λ _. tt), λ _. (tt, λ _. ((tt, λ _. (((tt, tt), λ _. tt), λ _. (λ _. tt, λ _. tt))), tt))), (λ _. tt, λ _. ((tt, λ _. tt), tt)))), tt)), tt))
-of-other BeginReject = calm (other BeginReject) refl (λ _. tt, λ _. ((tt, λ _. (tt, λ _. ((((λ _. tt, λ _. tt), λ _. ((λ _. tt, λ _. tt), λ _. (((tt, λ _. tt), λ _. (tt, tt)), λ _. ((tt, λ _. tt), λ _. (tt, tt))))), λ _. tt), λ _. (λ _. tt, λ _. tt)))), tt))
+of-other BeginAccept = calm (other BeginAccept) refl (
+  λ _. tt,
+  λ _. (
+    (
+      λ _. tt,
+      λ _. (
+        tt,
+        (tt, λ _. (tt, λ _. ((((λ _. tt, λ _. tt), λ _. ((tt, tt), λ _. ((tt, λ _. tt), λ _. (tt, tt)))), λ _. tt), λ _. (λ _. tt, λ _. tt)))),
+      ),
+    ),
+    tt,
+  ),
+)
+of-other PollAccept = calm (other PollAccept) refl (
+  λ _. tt,
+  λ _. (
+    (
+      λ _. tt,
+      λ c. (
+        (
+          λ _. tt,
+          λ _. (
+            ((λ _. tt, λ _. tt), λ _. (tt, λ _. ((tt, λ _. (((tt, tt), λ _. tt), λ _. (λ _. tt, λ _. tt))), tt))),
+            (λ _. tt, λ _. ((tt, λ _. tt), tt)),
+          ),
+        ),
+        tt,
+      ),
+    ),
+    tt,
+  ),
+)
+of-other BeginReject = calm (other BeginReject) refl (
+  λ _. tt,
+  λ _. (
+    (
+      tt,
+      λ _. (
+        tt,
+        λ _. (
+          (
+            ((λ _. tt, λ _. tt), λ _. ((λ _. tt, λ _. tt), λ _. (((tt, λ _. tt), λ _. (tt, tt)), λ _. ((tt, λ _. tt), λ _. (tt, tt))))),
+            λ _. tt,
+          ),
+          λ _. (λ _. tt, λ _. tt),
+        ),
+      ),
+    ),
+    tt,
+  ),
+)
 of-other (BeginDataOut n first) = calm (other (BeginDataOut n first)) refl (of-begin-data-out n first)
-of-other (BeginAcceptSetAddress a) = calm (other (BeginAcceptSetAddress a)) refl (λ _. tt, λ _. ((λ _. tt, λ _. (tt, (tt, λ _. (tt, λ _. ((((λ _. tt, λ _. tt), λ _. ((tt, tt), λ _. ((tt, λ _. tt), λ _. (tt, tt)))), λ _. tt), λ _. (λ _. tt, λ _. tt)))))), tt))
+of-other (BeginAcceptSetAddress a) = calm (other (BeginAcceptSetAddress a)) refl (
+  λ _. tt,
+  λ _. (
+    (
+      λ _. tt,
+      λ _. (
+        tt,
+        (tt, λ _. (tt, λ _. ((((λ _. tt, λ _. tt), λ _. ((tt, tt), λ _. ((tt, λ _. tt), λ _. (tt, tt)))), λ _. tt), λ _. (λ _. tt, λ _. tt)))),
+      ),
+    ),
+    tt,
+  ),
+)
 
 pub of-aside : (o : Aside) → C (asideCode o)
 of-aside (Open e) = (λ _. tt, λ _. ((λ _. tt, λ _. ((λ _. tt, λ _. (tt, (λ _. tt, λ _. ((tt, λ _. (λ _. tt, λ _. (λ _. tt, λ _. tt))), tt)))), tt)), tt))
 of-aside (Close e) = (λ _. tt, λ _. ((λ _. tt, λ _. ((λ _. tt, λ _. ((tt, λ _. tt), tt)), tt)), tt))
-of-aside (Queue e bs) = (λ _. tt, λ _. ((λ _. tt, λ _. ((λ _. tt, λ _. ((λ _. tt, λ _. (tt, (λ _. tt, λ _. (tt, (λ _. tt, λ _. ((tt, λ _. tt), tt)))))), tt)), tt)), tt))
+of-aside (Queue e bs) = (
+  λ _. tt,
+  λ _. ((λ _. tt, λ _. ((λ _. tt, λ _. ((λ _. tt, λ _. (tt, (λ _. tt, λ _. (tt, (λ _. tt, λ _. ((tt, λ _. tt), tt)))))), tt)), tt)), tt),
+)
 
 pub manner : (o : Op) → Manner o
 manner interrupt = calm interrupt refl (λ _. tt, λ _. ((tt, λ _. ((of-stamped false true, λ _. tt), λ _. (λ _. tt, λ _. tt))), tt))
@@ -168,4 +475,16 @@ manner (other o) = of-other o
 manner (aside o) = calm (aside o) refl (of-aside o)
 
 pub start-up-calm : (c : Config) → C (starting c)
-start-up-calm c = (tt, λ _. ((((tt, tt), λ _. ((tt, tt), λ _. (((tt, λ _. tt), λ _. (tt, tt)), λ _. ((tt, tt), λ _. ((tt, tt), λ _. (λ _. tt, λ _. (tt, λ _. (tt, tt)))))))), λ _. tt), λ _. (λ _. tt, λ _. tt)))
+start-up-calm c = (
+  tt,
+  λ _. (
+    (
+      (
+        (tt, tt),
+        λ _. ((tt, tt), λ _. (((tt, λ _. tt), λ _. (tt, tt)), λ _. ((tt, tt), λ _. ((tt, tt), λ _. (λ _. tt, λ _. (tt, λ _. (tt, tt))))))),
+      ),
+      λ _. tt,
+    ),
+    λ _. (λ _. tt, λ _. tt),
+  ),
+)

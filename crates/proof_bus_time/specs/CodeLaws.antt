@@ -48,7 +48,8 @@ did-without l x answer bytes slots h did =
 step : (l : Lent) (m : Made) → CallStep l m → fourOf (left l m) ≡ next (m .turn) (fourOf l)
 step l m h = λ i. record { driver = λ j. drivers j i; time = ap (λ (x : Called × List ℕ). x .1) h i }
   where
-    by : (b : Bool) (j : ℕ) → machineOf (cond b (m .bytes) (l .bytes j)) (cond b (m .slots) (l .slots j)) ≡ cond b (called (m .turn) (fourOf l) .0 .1) (machineOf (l .bytes j) (l .slots j))
+    by : (b : Bool) (j : ℕ) → machineOf (cond b (m .bytes) (l .bytes j)) (cond b (m .slots) (l .slots j))
+        ≡ cond b (called (m .turn) (fourOf l) .0 .1) (machineOf (l .bytes j) (l .slots j))
     by true j = ap (λ (x : Called × List ℕ). x .0 .1) h
     by false j = refl
 
@@ -81,12 +82,15 @@ module _ (ms : List Made) (l : Lent) (run : Run l ms) (first : FourAtFirst (four
   made = made-after ms l run
 
   pub code-in-use-now : inUse (last l ms .time) ≡ countedTime (fourOf (last l ms) .driver) (history (turns ms) (fourOf l))
-  code-in-use-now = subst (λ (f : Four). inUse (f .time) ≡ countedTime (f .driver) (history (turns ms) (fourOf l))) (sym made) (in-use-now (turns ms) (fourOf l) first)
+  code-in-use-now = subst (λ (f : Four). inUse (f .time) ≡ countedTime (f .driver) (history (turns ms) (fourOf l)))
+      (sym made) (in-use-now (turns ms) (fourOf l) first)
 
   -- with nothing under way in the four states
-  pub code-in-use-at-rest : ((i : ℕ) → i < 4 → fourOf (last l ms) .driver i .way ≡ idle) → inUse (last l ms .time) ≡ enabledTime (λ i. view (last l ms .bytes i))
+  pub code-in-use-at-rest : ((i : ℕ) → i < 4 → fourOf (last l ms) .driver i .way ≡ idle)
+      → inUse (last l ms .time) ≡ enabledTime (λ i. view (last l ms .bytes i))
   code-in-use-at-rest =
-      subst (λ (f : Four). ((i : ℕ) → i < 4 → f .driver i .way ≡ idle) → inUse (f .time) ≡ enabledTime (λ i. f .driver i .st)) (sym made) (in-use-at-rest (turns ms) (fourOf l) first)
+      subst (λ (f : Four). ((i : ℕ) → i < 4 → f .driver i .way ≡ idle) → inUse (f .time) ≡ enabledTime (λ i. f .driver i .st))
+      (sym made) (in-use-at-rest (turns ms) (fourOf l) first)
 
   -- by the calls alone
   pub code-in-use-charged : inUse (last l ms .time) ≡ chargedTime (history (turns ms) (fourOf l))

@@ -52,6 +52,8 @@ of-start c (suc n) m b = refl
 pub config-in-continues : (x : Call Config Op) (m : Machine Answer Driver) (b : Buf) → handsConfig (drive x m b .0) ≡ true → sortOf x ≡ going
 config-in-continues (start c) m b h = absurd (true≢false (sym h ∙ of-start c (startRow c b) m b))
 config-in-continues (begin o) m b h =
-    absurd (true≢false (sym h ∙ either (cond (slots o) (misfit calls driverOf (m .st) b) false) (stay calls driverOf 1 m) (begun calls driverOf (λ s. s) o m (m .way) b) refl (of-begin o m (m .way) b)))
+    absurd
+    (true≢false (sym h ∙ either (cond (slots o) (misfit calls driverOf (m .st) b) false)
+    (stay calls driverOf 1 m) (begun calls driverOf (λ s. s) o m (m .way) b) refl (of-begin o m (m .way) b)))
 config-in-continues (go v) m b h = refl
 config-in-continues (question q) m b h = absurd (true≢false (sym h))

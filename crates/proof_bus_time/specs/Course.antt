@@ -16,7 +16,8 @@ use Rattle.model.specs.Tree as tree
 use Rattle.model.specs.Answers.{Answer, Refused}
 use Rattle.model.specs.Calls.{Config, Op, interrupt, slotted, other, aside, SetEnabled, PollRead, BeginWrite}
 use Rattle.model.specs.Calls.{PollWrite, PollDataOut, BeginDataIn, asideCode, slots, irq, startRow, calls}
-use Rattle.model.specs.Machine.{Buf, Call, start, begin, go, question, Way, idle, busy, Awaits, Machine, ended, lentTo, misfit, stay, halt, beside, begun, continued, started, over}
+use Rattle.model.specs.Machine.{Buf, Call, start, begin, go, question, Way, idle, busy, Awaits, Machine, ended, lentTo}
+use Rattle.model.specs.Machine.{misfit, stay, halt, beside, begun, continued, started, over}
 use Rattle.model_ops.specs.Rings.{St}
 use Rattle.machine.specs.Suspended.{driverOf, drive}
 use Rattle.machine.specs.Goes.{Called}

@@ -1,5 +1,5 @@
--- What the endpoints are charged that are enabled now, by the drivers' states alone: "the charge is always that of the endpoints now enabled, each counted once"
--- (document 02, request Seven)
+-- What the endpoints are charged that are enabled now, by the drivers' states alone: "the charge is always that of the
+-- endpoints now enabled, each counted once" (document 02, request Seven)
 use mathlib.Core.Bool.{Bool, true, false, cond, _&&_, _||_}
 use mathlib.Core.List.{List, [], _∷_}
 use mathlib.Core.Path.{_≡_}

@@ -18,7 +18,10 @@ use Rattle.alloc.specs.Outcome.{sameDir, Takes, Outcome, six, seven, eight, giv
 use Rattle.alloc.specs.Run.{ep0, Step, kept, gave-ep0, step}
 use Rattle.model.specs.Tree as tree
 use Rattle.model.specs.Tree.{ends, asks, bindOut}
-use Rattle.model.specs.Script.{Script, ret, bind, test, read-then, write-then, wait-then, callback-then, get-then, put-then, is-then, look-then, fetch-then, act-then, hand-then, row-then, run, rows, lastOf, Act, complete, reset-ring, set-enabled, fill, fill0, open-oldest, close-oldest, take-oldest, enqueue, allocate, allocate0, no-wakes, waken, Burst, switch, bus-reset}
+use Rattle.model.specs.Script.{Script, ret, bind, test, read-then, write-then, wait-then, callback-then, get-then}
+use Rattle.model.specs.Script.{put-then, is-then, look-then, fetch-then, act-then, hand-then, row-then, run, rows}
+use Rattle.model.specs.Script.{lastOf, Act, complete, reset-ring, set-enabled, fill, fill0, open-oldest, close-oldest}
+use Rattle.model.specs.Script.{take-oldest, enqueue, allocate, allocate0, no-wakes, waken, Burst, switch, bus-reset}
 use Rattle.model_ops.specs.Records.{isoOut, configured, enabledOn, recordGiven, setsGiven, givenTo, allocatedOn, startedWith, allocatedEp0}
 use Rattle.model_ops.specs.Rings.{St, configStep}
 use Rattle.model_ops.specs.Concrete.{concrete}
@@ -71,14 +74,17 @@ module _ (d : Driver) (dir : Dir) (kind maximum interval e base n : ℕ) (b : Al
     given = on-key (λ dir′ x. isTaken d dir′ x ≡ true → givenOf (epOn taker dir′ x) ≡ givenOf (epOn d dir′ x)) dir e own there;
   }
 
-allocated-gave : (d : Driver) (dir : Dir) (kind address maximum interval : ℕ) (z : Allocation) → Outcome (d .allocator) kind address maximum dir z → Gave d (givenTo dir kind maximum interval (z .answer) (withAllocator d (z .after)))
+allocated-gave : (d : Driver) (dir : Dir) (kind address maximum interval : ℕ) (z : Allocation)
+    → Outcome (d .allocator) kind address maximum dir z
+    → Gave d (givenTo dir kind maximum interval (z .answer) (withAllocator d (z .after)))
 unfolding givenTo
 allocated-gave d dir kind address maximum interval z (six l) = gave-same d
 allocated-gave d dir kind address maximum interval z (seven m q) = gave-same d
 allocated-gave d dir kind address maximum interval z (eight e m q l) = gave-same d
 allocated-gave d dir kind address maximum interval z (given e base n a m q g) = given-gave d dir kind maximum interval e base n a (g .number)
 
-ep0-gave : (d : Driver) (maximum : ℕ) (z : Allocation) → Step (d .allocator) (ep0 maximum) z → Gave d (startedWith maximum (z .answer) (withAllocator d (z .after)))
+ep0-gave : (d : Driver) (maximum : ℕ) (z : Allocation)
+    → Step (d .allocator) (ep0 maximum) z → Gave d (startedWith maximum (z .answer) (withAllocator d (z .after)))
 unfolding startedWith withNext takenIn
 ep0-gave d maximum z (kept c n w full) = gave-same d
 ep0-gave d maximum z (gave-ep0 m x small l) = of-records d _ refl same
@@ -108,7 +114,8 @@ act-gave (open-oldest e) s = of-steady (act-steady (open-oldest e) refl s) (act-
 act-gave (close-oldest e) s = of-steady (act-steady (close-oldest e) refl s) (act-stays (close-oldest e) refl s)
 act-gave (take-oldest e) s = of-steady (act-steady (take-oldest e) refl s) (act-stays (take-oldest e) refl s)
 act-gave (enqueue e bytes) s = of-steady (act-steady (enqueue e bytes) refl s) (act-stays (enqueue e bytes) refl s)
-act-gave (allocate d kind address maximum interval) s = allocated-gave (s .0) d kind address maximum interval _ (outcome (s .0 .allocator) kind address maximum d)
+act-gave (allocate d kind address maximum interval) s =
+    allocated-gave (s .0) d kind address maximum interval _ (outcome (s .0 .allocator) kind address maximum d)
 act-gave (allocate0 maximum) s = ep0-gave (s .0) maximum _ (step (s .0 .allocator) (ep0 maximum))
 act-gave no-wakes s = of-records (s .0) _ refl (λ _ _. refl)
 act-gave (waken codes) s = of-records (s .0) _ refl (λ _ _. refl)
@@ -133,7 +140,8 @@ after : {A : Type 0} {d x : Driver} {o : tree.Out St A} → Gave d x → Moves x
 after p (to-end q) = to-end (gave-then p q)
 after p (to-ask q r) = to-ask (gave-then p q) r
 
-moves-bind : {A B : Type 0} {d : Driver} {o : tree.Out St A} {f : A → St → tree.Out St B} → Moves d o → ((a : A) (s : St) → Moves (s .0) (f a s)) → Moves d (bindOut o f)
+moves-bind : {A B : Type 0} {d : Driver} {o : tree.Out St A} {f : A → St → tree.Out St B}
+    → Moves d o → ((a : A) (s : St) → Moves (s .0) (f a s)) → Moves d (bindOut o f)
 moves-bind (to-end p) k = after p (k _ _)
 moves-bind (to-ask p r) k = to-ask p (λ v t. moves-bind (r v t) k)
 

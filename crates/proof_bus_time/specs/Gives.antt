@@ -35,7 +35,8 @@ unfolding isOut
 own Out = refl
 own In = refl
 
-of-record : (d : Driver) (dir : Dir) (kind maximum interval e base n : ℕ) → length (d .eps) ≡ 32 → let r = epOn (givenTo dir kind maximum interval (Given e base n) d) dir e in (r .kind ≡ kind % 4) × (r .«max_len» ≡ maximum)
+of-record : (d : Driver) (dir : Dir) (kind maximum interval e base n : ℕ) → length (d .eps) ≡ 32 → let r =
+    epOn (givenTo dir kind maximum interval (Given e base n) d) dir e in (r .kind ≡ kind % 4) × (r .«max_len» ≡ maximum)
 unfolding givenTo setsGiven recordGiven epOn withOn allocated
 of-record d dir kind maximum interval e base n l =
     let p = getD-set-same (d .eps) (key dir e) (allocated (epOn d dir e) kind maximum base (d .allocator .size) n) noEp (omega (arith, l, key-lt dir e)) in
@@ -52,8 +53,10 @@ module _ (a : Allocator) (dir : Dir) (kind address maximum e base n : ℕ) where
       let k : x ≡ e % 16 = omega (arith, ap numberIn h, t .high) in
       t .takes dir (e % 16) ∙ rw (own dir, eq-eqb x (e % 16) k) refl
 
-pub allocation-gives : (d : Driver) (dir : Dir) (kind address maximum interval e base n : ℕ) → length (d .eps) ≡ 32 → allocateOf (d .allocator) kind address maximum dir .answer ≡ Given e base n
-    → let d′ = allocatedOn d dir kind address maximum interval in (epOn d′ dir e .kind ≡ kind % 4) × (epOn d′ dir e .«max_len» ≡ maximum) × (isTaken d′ dir e ≡ true)
+pub allocation-gives : (d : Driver) (dir : Dir) (kind address maximum interval e base n : ℕ)
+    → length (d .eps) ≡ 32 → allocateOf (d .allocator) kind address maximum dir .answer ≡ Given e base n
+    → let d′ = allocatedOn d dir kind address maximum interval in (epOn d′ dir e .kind ≡ kind % 4)
+    × (epOn d′ dir e .«max_len» ≡ maximum) × (isTaken d′ dir e ≡ true)
 unfolding allocatedOn givenTo setsGiven recordGiven withOn
 allocation-gives d dir kind address maximum interval e base n l h = (p .0, p .1, t)
   where
@@ -64,7 +67,9 @@ allocation-gives d dir kind address maximum interval e base n l h = (p .0, p .1,
     after x = givenTo dir kind maximum interval x (withAllocator d (z .after))
 
     p : (epOn (after (z .answer)) dir e .kind ≡ kind % 4) × (epOn (after (z .answer)) dir e .«max_len» ≡ maximum)
-    p = subst (λ x. (epOn (after x) dir e .kind ≡ kind % 4) × (epOn (after x) dir e .«max_len» ≡ maximum)) (sym h) (of-record (withAllocator d (z .after)) dir kind maximum interval e base n l)
+    p = subst (λ x. (epOn (after x) dir e .kind ≡ kind % 4) × (epOn (after x) dir e .«max_len» ≡ maximum))
+        (sym h) (of-record (withAllocator d (z .after)) dir kind maximum interval e base n l)
 
     t : isTaken (after (z .answer)) dir e ≡ true
-    t = subst (λ x. isTaken (after x) dir e ≡ true) (sym h) (of-number (d .allocator) dir kind address maximum e base n z (outcome (d .allocator) kind address maximum dir) h)
+    t = subst (λ x. isTaken (after x) dir e ≡ true) (sym h)
+        (of-number (d .allocator) dir kind address maximum e base n z (outcome (d .allocator) kind address maximum dir) h)

@@ -32,7 +32,8 @@ use Rattle.proof_bus_time.specs.History.{lineOf, history, cleared, byAcc
 use Rattle.proof_bus_time.specs.Limit.{Within, always-within, uncharged-within}
 
 -- the answer that was given tells the record after the call: one that was turned down handed nothing out
-told-by : (i : ℕ) (x : Sort) (m : Machine Answer Driver) (t : List ℕ) (b : Buf) (y : Called) → settled i x m t b y .1 ≡ timeAfter i x (settled i x m t b y .0 .0) (m .st) t
+told-by : (i : ℕ) (x : Sort) (m : Machine Answer Driver) (t : List ℕ) (b : Buf) (y : Called)
+    → settled i x m t b y .1 ≡ timeAfter i x (settled i x m t b y .0 .0) (m .st) t
 unfolding settled
 told-by i x m t b y = by (turnedDown i x (y .0) (m .st) t)
   where
@@ -84,17 +85,22 @@ module _ (j i bit : ℕ) (li : i < 4) (lb : bit < 32) where
       by false h = kept-out w (j % 4 * 32) 32 t at (apart-from (eqb-false (j % 4) i h))
 
   -- what an enabling charges
-  charges : (dir : Dir) (e v : ℕ) (t : List ℕ) → length t ≡ 128 → getD (set t (entryOf j dir e) v) at 0 ≡ cond (eqb (j % 4) i) (cond (eqb (place dir e) bit) v (getD t at 0)) (getD t at 0)
+  charges : (dir : Dir) (e v : ℕ) (t : List ℕ) → length t ≡ 128 → getD (set t (entryOf j dir e) v) at 0
+      ≡ cond (eqb (j % 4) i) (cond (eqb (place dir e) bit) v (getD t at 0)) (getD t at 0)
   unfolding entryOf
   charges dir e v t l = by (eqb (j % 4) i) (eqb (place dir e) bit) refl refl
     where
       other : (j % 4 * 32 + place dir e ≡ at → ⊥) → getD (set t (j % 4 * 32 + place dir e) v) at 0 ≡ getD t at 0
       other n = getD-set-other t (j % 4 * 32 + place dir e) at v 0 (λ h. n (sym h))
 
-      by : (a b : Bool) → eqb (j % 4) i ≡ a → eqb (place dir e) bit ≡ b → getD (set t (j % 4 * 32 + place dir e) v) at 0 ≡ cond a (cond b v (getD t at 0)) (getD t at 0)
-      by true true h k = rw (← eqb-true (j % 4) i h, ← eqb-true (place dir e) bit k) (getD-set-same t (j % 4 * 32 + place dir e) v 0 (omega (arith, place-lt dir e)))
+      by : (a b : Bool) → eqb (j % 4) i ≡ a → eqb (place dir e) bit ≡ b
+          → getD (set t (j % 4 * 32 + place dir e) v) at 0 ≡ cond a (cond b v (getD t at 0)) (getD t at 0)
+      by true true h k = rw (← eqb-true (j % 4) i h, ← eqb-true (place dir e) bit k)
+          (getD-set-same t (j % 4 * 32 + place dir e) v 0 (omega (arith, place-lt dir e)))
       by true false h k = other (λ z. eqb-false (place dir e) bit k (omega (arith, eqb-true (j % 4) i h)))
-      by false b h k = other (λ z. ⊎-elim (λ (x : at < j % 4 * 32). omega arith) (λ (x : j % 4 * 32 + 32 ≤ at). omega (arith, place-lt dir e)) (apart-from (eqb-false (j % 4) i h)))
+      by false b h k = other
+          (λ z. ⊎-elim (λ (x : at < j % 4 * 32). omega arith)
+          (λ (x : j % 4 * 32 + 32 ≤ at). omega (arith, place-lt dir e)) (apart-from (eqb-false (j % 4) i h)))
 
   writes : (q : Access) (t : List ℕ) → length t ≡ 128 → getD (written j q t) at 0 ≡ cond (eqb (j % 4) i) (cleared bit q (getD t at 0)) (getD t at 0)
   writes (Write r e w) t l = by (sameReg r EpConfig)
@@ -109,25 +115,31 @@ module _ (j i bit : ℕ) (li : i < 4) (lb : bit < 32) where
   writes (Wait n) t l = same (eqb (j % 4) i) (getD t at 0)
   writes Callback t l = same (eqb (j % 4) i) (getD t at 0)
 
-  by-access : (x : Sort) (q : Access) (d : Driver) (t : List ℕ) → length t ≡ 128 → getD (timeAfter j x (handed q) d t) at 0 ≡ cond (eqb (j % 4) i) (byAccess bit x q d (getD t at 0)) (getD t at 0)
+  by-access : (x : Sort) (q : Access) (d : Driver) (t : List ℕ) → length t ≡ 128
+      → getD (timeAfter j x (handed q) d t) at 0 ≡ cond (eqb (j % 4) i) (byAccess bit x q d (getD t at 0)) (getD t at 0)
   by-access (enabling dir e) q d t l = charges dir e (chargeOn d dir e) t l
   by-access starting q d t l = keeps 0 t l ∙ ap (λ (b : Bool). cond (eqb (j % 4) i) (cond b (getD t at 0) 0) (getD t at 0)) (none-set bit)
   by-access going q d t l = writes q t l
   by-access apart q d t l = same (eqb (j % 4) i) (getD t at 0)
 
-  by-answer : (x : Sort) (a : Ans Answer) (d : Driver) (t : List ℕ) → length t ≡ 128 → getD (timeAfter j x a d t) at 0 ≡ cond (eqb (j % 4) i) (byAnswer bit x a d (getD t at 0)) (getD t at 0)
+  by-answer : (x : Sort) (a : Ans Answer) (d : Driver) (t : List ℕ) → length t ≡ 128
+      → getD (timeAfter j x a d t) at 0 ≡ cond (eqb (j % 4) i) (byAnswer bit x a d (getD t at 0)) (getD t at 0)
   by-answer x (ended a) d t l = same (eqb (j % 4) i) (getD t at 0)
   by-answer x (handed q) d t l = by-access x q d t l
   by-answer x (told n) d t l = same (eqb (j % 4) i) (getD t at 0)
 
 -- one call
-step-charge : (x : Turn) (f : Four) (i bit : ℕ) → i < 4 → bit < 32 → length (f .time) ≡ 128 → getD (next x f .time) (i * 32 + bit) 0 ≡ chargeAfter i bit (lineOf x f) (getD (f .time) (i * 32 + bit) 0)
+step-charge : (x : Turn) (f : Four) (i bit : ℕ) → i < 4 → bit < 32 → length (f .time) ≡ 128
+    → getD (next x f .time) (i * 32 + bit) 0 ≡ chargeAfter i bit (lineOf x f) (getD (f .time) (i * 32 + bit) 0)
 step-charge x f i bit li lb l =
-    ap (λ (t : List ℕ). getD t (i * 32 + bit) 0) (told-by (x .who) (sortOf (x .event .call)) (f .driver (x .who % 4)) (f .time) (x .event .lent) (drive (x .event .call) (f .driver (x .who % 4)) (x .event .lent)))
+    ap (λ (t : List ℕ). getD t (i * 32 + bit) 0)
+    (told-by (x .who) (sortOf (x .event .call)) (f .driver (x .who % 4))
+    (f .time) (x .event .lent) (drive (x .event .call) (f .driver (x .who % 4)) (x .event .lent)))
     ∙ by-answer (x .who) i bit li lb (sortOf (x .event .call)) (called x f .0 .0) (f .driver (x .who % 4) .st) (f .time) l
 
 -- every list of calls: the charge of each endpoint
-pub each-charge : (xs : List Turn) (f : Four) → Within (f .time) → (i bit : ℕ) → i < 4 → bit < 32 → getD (after xs f .time) (i * 32 + bit) 0 ≡ chargeBy i bit (history xs f) (getD (f .time) (i * 32 + bit) 0)
+pub each-charge : (xs : List Turn) (f : Four) → Within (f .time) → (i bit : ℕ) → i < 4 → bit < 32
+    → getD (after xs f .time) (i * 32 + bit) 0 ≡ chargeBy i bit (history xs f) (getD (f .time) (i * 32 + bit) 0)
 each-charge [] f k i bit li lb = refl
 each-charge (x ∷ xs) f k i bit li lb =
     each-charge xs (next x f) (always-within (x ∷ []) f k) i bit li lb
@@ -158,7 +170,15 @@ four-of g = omega arith
 pub by-drivers : (t : List ℕ) → inUse t ≡ sum (λ i. sum (λ bit. getD t (i * 32 + bit) 0) 32) 4
 unfolding inUse
 by-drivers t =
-    omega (arith, four-of (λ i. sum (λ bit. getD t (i * 32 + bit) 0) 32), total-none t, total-from t 96 32, total-from t 64 32, total-from t 32 32, total-from t 0 32)
+    omega (
+      arith,
+      four-of (λ i. sum (λ bit. getD t (i * 32 + bit) 0) 32),
+      total-none t,
+      total-from t 96 32,
+      total-from t 64 32,
+      total-from t 32 32,
+      total-from t 0 32,
+    )
 
 -- an uncharged record
 pub zeros : (n k : ℕ) → _≡_ {A = ℕ} (getD (replicate n 0) k 0) 0
@@ -170,4 +190,6 @@ zeros (suc n) (suc k) = zeros n k
 pub in-use-is : (xs : List Turn) (f : Four) → f .time ≡ uncharged → inUse (after xs f .time) ≡ timeBy (history xs f)
 in-use-is xs f h =
     by-drivers (after xs f .time)
-    ∙ sum-as _ _ 4 (λ i li. sum-as _ _ 32 (λ bit lb. each-charge xs f (rw h uncharged-within) i bit li lb ∙ ap (chargeBy i bit (history xs f)) (ap (λ (t : List ℕ). getD t (i * 32 + bit) 0) h ∙ zeros 128 (i * 32 + bit))))
+    ∙ sum-as _ _ 4
+    (λ i li. sum-as _ _ 32 (λ bit lb. each-charge xs f (rw h uncharged-within) i bit li lb
+    ∙ ap (chargeBy i bit (history xs f)) (ap (λ (t : List ℕ). getD t (i * 32 + bit) 0) h ∙ zeros 128 (i * 32 + bit))))

@@ -10,7 +10,9 @@ use Rattle.state.specs.Driver.{Driver}
 use Rattle.model.specs.Tree as tree
 use Rattle.model.specs.Tree.{ends, asks, bindOut}
 use Rattle.model.specs.Cells.{Cell, Val}
-use Rattle.model.specs.Script.{Script, ret, bind, test, read-then, write-then, wait-then, callback-then, get-then, put-then, is-then, look-then, fetch-then, act-then, hand-then, Act, DmaStep, dmaStepAsk, run}
+use Rattle.model.specs.Script.{Script, ret, bind, test, read-then, write-then, wait-then, callback-then, get-then}
+use Rattle.model.specs.Script.{put-then, is-then, look-then, fetch-then, act-then, hand-then, Act, DmaStep, dmaStepAsk}
+use Rattle.model.specs.Script.{run}
 use Rattle.model.specs.Every.{sameReg}
 use Rattle.model_ops.specs.Rings.{St}
 use Rattle.model_ops.specs.Concrete.{concrete}
@@ -141,7 +143,8 @@ module _ {giving : Bool} {K : Driver → Type 0} (M : Keeps giving K) (bit : ℕ
   calm-run (look-then q f) x s k = calm-run (f (concrete .look q s)) (x (concrete .look q s)) s k
   calm-run (fetch-then q f) x s k = calm-run (f (concrete .fetch q s)) (x (concrete .fetch q s)) s k
   calm-run (act-then q p) x s k = let y = opened (allowed giving q) x in calm-run p (y .1) (concrete .act q s) (M .act q (y .0) s k)
-  calm-run (hand-then q p) x s k = ask (dmaStepAsk q (concrete .hand q s .0)) (concrete .hand q s .1) (x .0 (concrete .hand q s .0)) (M .hand q s k) (λ _ t y. calm-run p (x .1) t y)
+  calm-run (hand-then q p) x s k = ask (dmaStepAsk q (concrete .hand q s .0))
+      (concrete .hand q s .1) (x .0 (concrete .hand q s .0)) (M .hand q s k) (λ _ t y. calm-run p (x .1) t y)
 
   -- a calm part, and the rest
   pub calm-then : {i : Bool} {A B : Type 0} {P : ℕ → Driver → Type 0} {p : Script i A} {f : A → Script i B}

@@ -54,7 +54,8 @@ written-within i (Ep0Dma x) k = k
 written-within i (Wait n) k = k
 written-within i Callback k = k
 
-settled-within : (i : ℕ) (x : Sort) (m : Machine Answer Driver) (t : List ℕ) (b : Buf) (a : Ans Answer) (n : Machine Answer Driver) → Within t → Within (settled i x m t b (a, n) .1)
+settled-within : (i : ℕ) (x : Sort) (m : Machine Answer Driver) (t : List ℕ) (b : Buf) (a : Ans Answer) (n : Machine Answer Driver)
+    → Within t → Within (settled i x m t b (a, n) .1)
 unfolding settled
 settled-within i (enabling dir e) m t b (ended a) n k = k
 settled-within i (enabling dir e) m t b (told v) n k = k

@@ -31,9 +31,11 @@ charge-now xs f z i li dir e =
     (runs-all dir e i li xs f false neither (subst Within (sym (z .time)) uncharged-within) (at-first dir e i li f z))
 
 -- with nothing under way: of the endpoints now enabled, each by the kind and maximum that the state has now
-pub charge-at-rest : (xs : List Turn) (f : Four) → FourAtFirst f → (i : ℕ) → i < 4 → after xs f .driver i .way ≡ idle → (dir : Dir) (e : ℕ) → let d = after xs f .driver i .st in
+pub charge-at-rest : (xs : List Turn) (f : Four) → FourAtFirst f
+    → (i : ℕ) → i < 4 → after xs f .driver i .way ≡ idle → (dir : Dir) (e : ℕ) → let d = after xs f .driver i .st in
     getD (after xs f .time) (i * 32 + place dir e) 0 ≡ cond (isEnabled d dir e) (chargeOn d dir e) 0
-charge-at-rest xs f z i li h dir e = charge-now xs f z i li dir e ∙ ap (λ (b : Bool). cond b (chargeOn (after xs f .driver i .st) dir e) 0) (rests (isEnabled (after xs f .driver i .st) dir e))
+charge-at-rest xs f z i li h dir e = charge-now xs f z i li dir e
+    ∙ ap (λ (b : Bool). cond b (chargeOn (after xs f .driver i .st) dir e) 0) (rests (isEnabled (after xs f .driver i .st) dir e))
   where
     rests : (b : Bool) → (b || isEnabling i (after xs f .driver i) (history xs f) dir e) ≡ b
     rests true = refl
@@ -74,7 +76,8 @@ pub in-use-now : (xs : List Turn) (f : Four) → FourAtFirst f → inUse (after 
 in-use-now xs f z = by-endpoints (after xs f .time) ∙ sums-as _ _ (λ i li dir e. charge-now xs f z i li dir e)
 
 -- with nothing under way: of those now enabled
-pub in-use-at-rest : (xs : List Turn) (f : Four) → FourAtFirst f → ((i : ℕ) → i < 4 → after xs f .driver i .way ≡ idle) → inUse (after xs f .time) ≡ enabledTime (λ i. after xs f .driver i .st)
+pub in-use-at-rest : (xs : List Turn) (f : Four) → FourAtFirst f → ((i : ℕ) → i < 4 → after xs f .driver i .way ≡ idle)
+    → inUse (after xs f .time) ≡ enabledTime (λ i. after xs f .driver i .st)
 in-use-at-rest xs f z h = by-endpoints (after xs f .time) ∙ sums-as _ _ (λ i li dir e. charge-at-rest xs f z i li (h i li) dir e)
 
 -- so what the history works out is the charge of the endpoints now enabled or being enabled

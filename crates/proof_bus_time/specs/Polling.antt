@@ -46,7 +46,8 @@ module _ (dir : Dir) (e : ℕ) where
   unfolding enables.isOn
   none-due c {d′ = d′} x =
       ap (λ (b : Bool). cond b c 0) (none-set bit)
-      ∙ sym (ap (λ (w : ℕ). cond (isSet w bit || false) (chargeOn d′ dir e) 0) (x .config) ∙ ap (λ (b : Bool). cond (b || false) (chargeOn d′ dir e) 0) (none-set bit))
+      ∙ sym (ap (λ (w : ℕ). cond (isSet w bit || false) (chargeOn d′ dir e) 0) (x .config)
+      ∙ ap (λ (b : Bool). cond (b || false) (chargeOn d′ dir e) 0) (none-set bit))
 
   of-row : (c : ℕ) (s : St) → s .0 .globals .stage ≡ 2 → Runs c (rows concrete bus-reset 3 (λ t. ends (tt {0}) t) s)
   of-row c s second =
@@ -68,7 +69,8 @@ module _ (dir : Dir) (e : ℕ) where
     of-reset : Polling bus.busReset
     of-reset = first (tt, tt) (λ _. first (tt, tt) (λ _. first (tt, tt) (λ _. first (naks-calm 15 1) (λ _. record {
       on = λ s k.
-          left-bind {f = λ (_ : Unit {0}) (v : St). run concrete (wakeAll {i = false}) v} (of-row c s (k .1)) (λ g _ t y. at-end (ended-stays dir e g _ _ (act-stays (waken every-endpoint) refl t) y));
+          left-bind {f = λ (_ : Unit {0}) (v : St). run concrete (wakeAll {i = false}) v} (of-row c s (k .1))
+          (λ g _ t y. at-end (ended-stays dir e g _ _ (act-stays (waken every-endpoint) refl t) y));
     }))))
 
     calm-on : {A : Type 0} {p : Script false A} → Calm false p → Polling p

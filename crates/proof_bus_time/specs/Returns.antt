@@ -77,7 +77,8 @@ module _ (e : ℕ) (on : Bool) (charge : ℕ) where
   of-plain s = at-ask tt (λ _ _ _ _. at-ask tt (λ _ _ _ _. at-ask tt (λ _ u _ k. at-ask tt (λ _ _ _ _. at-end (by-word (out-word (u .0) e on k))))))
 
   -- by its sort
-  of-out : (iso : Bool) (s : St) → isOn (epOn (s .0) Out e .iso) ≡ iso → Ends Out e iso Left charge (cond iso (rows concrete (switch e on) 18 (λ t. ends (tt {0}) t) s) (run concrete (setEnabledOut {i = false} e on) s))
+  of-out : (iso : Bool) (s : St) → isOn (epOn (s .0) Out e .iso) ≡ iso → Ends Out e iso Left charge
+      (cond iso (rows concrete (switch e on) 18 (λ t. ends (tt {0}) t) s) (run concrete (setEnabledOut {i = false} e on) s))
   of-out true s h = of-row 18 s h
   of-out false s h = of-plain s
 
@@ -97,9 +98,11 @@ naks bit zero e charge s = at-end refl
 naks bit (suc n) e charge s = at-ask tt (λ _ _ _ _. at-ask tt (λ _ t _ _. naks bit n (suc e) charge t))
 
 reset-row : (bit charge : ℕ) (s : St) → Ends-all bit (λ c. c ≡ 0) charge (rows concrete bus-reset 3 (λ t. ends (tt {0}) t) s)
-reset-row bit charge s = at-ask tt (λ _ _ _ _. at-ask tt (λ _ _ _ _. at-ask tt (λ _ _ _ _. at-ask tt (λ _ _ _ _. at-end (ap (λ (b : Bool). cond b charge 0) (none-set bit))))))
+reset-row bit charge s = at-ask tt
+    (λ _ _ _ _. at-ask tt (λ _ _ _ _. at-ask tt (λ _ _ _ _. at-ask tt (λ _ _ _ _. at-end (ap (λ (b : Bool). cond b charge 0) (none-set bit))))))
 
 pub reset : (bit charge : ℕ) (s : St) → Ends-all bit (λ c. c ≡ 0) charge (run concrete busReset s)
 reset bit charge s =
     at-ask tt (λ _ _ _ _. at-ask tt (λ _ _ _ _. at-ask tt (λ _ t _ _.
-    every-bind (naks bit 15 1 charge t) (λ c _ u p. every-bind {f = λ (_ : Unit {0}) (v : St). run concrete (wakeAll {i = false}) v} (reset-row bit c u) (λ _ _ _ z. at-end z)))))
+    every-bind (naks bit 15 1 charge t)
+    (λ c _ u p. every-bind {f = λ (_ : Unit {0}) (v : St). run concrete (wakeAll {i = false}) v} (reset-row bit c u) (λ _ _ _ z. at-end z)))))

@@ -18,7 +18,8 @@ use Rattle.proof_bus_time.specs.Four.{Four, Turn, changed, next, after}
 
 -- was it turned down?
 abbrev pub isTurnedDown : Turn → Four → Bool
-isTurnedDown x f = let m = f .driver (x .who % 4) in turnedDown (x .who) (sortOf (x .event .call)) (drive (x .event .call) m (x .event .lent) .0) (m .st) (f .time)
+isTurnedDown x f = let m = f .driver (x .who % 4) in
+    turnedDown (x .who) (sortOf (x .event .call)) (drive (x .event .call) m (x .event .lent) .0) (m .st) (f .time)
 
 -- the call as the driver gets it
 abbrev pub passedOn : Turn → Four → Event Config Op
@@ -51,6 +52,9 @@ own-run (x ∷ xs) f i = own-run xs (next x f) i ∙ by (eqb i (x .who % 4)) ref
     m : Machine Answer Driver
     m = sharedCall (x .who) (x .event .call) (f .driver (x .who % 4)) (f .time) (x .event .lent) .0 .1
 
-    by : (b : Bool) → eqb i (x .who % 4) ≡ b → ran (own i xs (next x f)) (cond b m (f .driver i)) ≡ ran (cond b (passedOn x f ∷ own i xs (next x f)) (own i xs (next x f))) (f .driver i)
+    by : (b : Bool) → eqb i (x .who % 4) ≡ b → ran (own i xs (next x f)) (cond b m (f .driver i))
+        ≡ ran (cond b (passedOn x f ∷ own i xs (next x f)) (own i xs (next x f))) (f .driver i)
     by false h = refl
-    by true h = ap (ran (own i xs (next x f))) (one-call (x .who) (x .event .call) (f .driver (x .who % 4)) (f .time) (x .event .lent) ∙ ap (λ (k : ℕ). drive (passedOn x f .call) (f .driver k) (x .event .lent) .1) (sym (eqb-true i (x .who % 4) h)))
+    by true h = ap (ran (own i xs (next x f)))
+        (one-call (x .who) (x .event .call) (f .driver (x .who % 4)) (f .time) (x .event .lent)
+        ∙ ap (λ (k : ℕ). drive (passedOn x f .call) (f .driver k) (x .event .lent) .1) (sym (eqb-true i (x .who % 4) h)))

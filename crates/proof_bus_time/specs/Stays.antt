@@ -25,10 +25,14 @@ use Rattle.alloc.specs.declared.Answer.{Answer}
 use Rattle.alloc.specs.declared.Answer.the-variants.{Refused, Given}
 use Rattle.alloc.specs.Alloc.{isIso}
 use Rattle.model.specs.Cells.{Cell, Val, globals-cell, control-cell, allocator-cell, ep-cell, request-cell, paced-cell}
-use Rattle.model.specs.Script.{Act, complete, reset-ring, set-enabled, fill, fill0, open-oldest, close-oldest, take-oldest, enqueue, allocate, allocate0, no-wakes, waken, DmaStep, arrive, send, place, place0}
+use Rattle.model.specs.Script.{Act, complete, reset-ring, set-enabled, fill, fill0, open-oldest, close-oldest}
+use Rattle.model.specs.Script.{take-oldest, enqueue, allocate, allocate0, no-wakes, waken, DmaStep, arrive, send, place}
+use Rattle.model.specs.Script.{place0}
 use Rattle.model.specs.Statics.{isOn, isoOuts}
 use Rattle.model_ops.specs.Records.{isoOut, configured, enabledOn, isoAdded, withSets, recordGiven, setsGiven, givenTo, allocatedOn, startedWith, allocatedEp0}
-use Rattle.model_ops.specs.Rings.{St, completeOn, emptied, emptiedOn, openOn, closeOn, takeOn, roomOn, queuedOn, enqueueOn, recordedOn, admittedOn, arrivedAt, arriveOn, sendOn, placeOn, renewedOn, armAt, slotStep, typeStep, configStep, switchStep, resetBelow, resetAll, resetStep}
+use Rattle.model_ops.specs.Rings.{St, completeOn, emptied, emptiedOn, openOn, closeOn, takeOn, roomOn, queuedOn}
+use Rattle.model_ops.specs.Rings.{enqueueOn, recordedOn, admittedOn, arrivedAt, arriveOn, sendOn, placeOn, renewedOn}
+use Rattle.model_ops.specs.Rings.{armAt, slotStep, typeStep, configStep, switchStep, resetBelow, resetAll, resetStep}
 use Rattle.model_ops.specs.Concrete.{concrete}
 
 -- ---- what stays
@@ -71,7 +75,9 @@ given-set : (l : List EpState) (k j : ℕ) (r : EpState) → givenOf r ≡ given
 given-set l k j r h = elim (ℕ-discrete j k) [
   | yes p ↦ rw p (elim (decLt k (length l)) [
     | yes q ↦ ap givenOf (getD-set-same l k r noEp q) ∙ h
-    | no q ↦ ap givenOf (List·getD-eq-default (set l k r) noEp {n = k} (omega (arith, length-set l k r)) ∙ sym (List·getD-eq-default l noEp {n = k} (omega arith)))
+    | no q ↦ ap givenOf
+        (List·getD-eq-default (set l k r) noEp {n = k} (omega (arith, length-set l k r))
+        ∙ sym (List·getD-eq-default l noEp {n = k} (omega arith)))
   ])
   | no p ↦ ap givenOf (getD-set-other l k j r noEp p)
 ]
@@ -160,7 +166,8 @@ recorded-stays d e len = either (hasRoomOut (epOn d Out e)) (others d _ refl ref
 
 admitted-stays : (d : Driver) (e len : ℕ) → Stays d (admittedOn d e len)
 unfolding admittedOn
-admitted-stays d e len = let p = recorded-stays d e len in still p (record-stays (recordedOn d e len) Out e _ (arrived-given (epOn d Out e) ∙ sym (p .given Out e)))
+admitted-stays d e len = let p = recorded-stays d e len in
+    still p (record-stays (recordedOn d e len) Out e _ (arrived-given (epOn d Out e) ∙ sym (p .given Out e)))
 
 pub hand-stays : (q : DmaStep) (s : St) → Stays (s .0) (concrete .hand q s .1 .0)
 unfolding arriveOn sendOn loadedOf placeOn
@@ -172,7 +179,10 @@ hand-stays (arrive e n) s = by (isSet (isoOuts (s .0 .globals)) (e % 16))
 hand-stays (send e) s = either (hasWaiting (epOn (s .0) In e)) (record-stays (s .0) In e _ refl) (stays (s .0))
 hand-stays (place Out e) s = by (isSet (isoOuts (s .0 .globals)) (e % 16))
   where
-    by : (b : Bool) → Stays (s .0) (cond {A = ℕ × Driver} b (epOn (s .0) Out e .«armed_slot», s .0) (epOn (s .0) Out e .base, withOn (s .0) Out e (armedAt (epOn (s .0) Out e) (epOn (s .0) Out e .base))) .1)
+    by : (b : Bool) → Stays (s .0) (cond {A = ℕ × Driver} b (epOn (s .0) Out e .«armed_slot», s .0) (
+      epOn (s .0) Out e .base,
+      withOn (s .0) Out e (armedAt (epOn (s .0) Out e) (epOn (s .0) Out e .base)),
+    ) .1)
     by true = stays (s .0)
     by false = armed-stays (s .0) e (epOn (s .0) Out e .base)
 hand-stays (place In e) s = stays (s .0)

@@ -42,7 +42,8 @@ charge-stays dir e x = ap (λ (g : ℕ × ℕ × ℕ). chargeOf (g .1) (g .2)) (
 pub due-stays : {d d′ : Driver} (dir : Dir) (e : ℕ) (u : Bool) (c : ℕ) → Stays d d′ → Due dir e u c d → Due dir e u c d′
 unfolding enables.isOn
 due-stays {d = d} {d′ = d′} dir e u c x h =
-    h ∙ (ap (λ (w : ℕ). cond (isSet w (place dir e) || u) (chargeOn d dir e) 0) (sym (x .config)) ∙ ap (λ (n : ℕ). cond (isSet (configOf d′) (place dir e) || u) n 0) (sym (charge-stays dir e x)))
+    h ∙ (ap (λ (w : ℕ). cond (isSet w (place dir e) || u) (chargeOn d dir e) 0) (sym (x .config))
+    ∙ ap (λ (n : ℕ). cond (isSet (configOf d′) (place dir e) || u) n 0) (sym (charge-stays dir e x)))
 
 iso-stays : {w : ℕ} {d d′ : Driver} (dir : Dir) (e : ℕ) → Turns w d d′ → isoOut d′ dir e ≡ isoOut d dir e
 unfolding isoOut
@@ -108,7 +109,8 @@ module _ (dir : Dir) (e : ℕ) where
     abbrev Both : ℕ → Bool → ℕ → Type 0
     Both c b charge = (cond b c 0 ≡ cond (b || mine) charge 0) × (cond b c 0 ≡ cond (b || false) charge 0)
 
-    turning : (c : ℕ) (d d′ : Driver) → Turns (turned d dir′ e′ on) d d′ → Due dir e mine c d → let g = cond (isSet (configOf d′) bit) c 0 in Due dir e mine g d′ × Due dir e false g d′
+    turning : (c : ℕ) (d d′ : Driver) → Turns (turned d dir′ e′ on) d d′
+        → Due dir e mine c d → let g = cond (isSet (configOf d′) bit) c 0 in Due dir e mine g d′ × Due dir e false g d′
     unfolding enables.isOn
     turning c d d′ x h =
         let word = ap (λ (w : ℕ). isSet w bit) (x .config) ∙ set-with (configOf d) (place dir′ e′) on bit in
@@ -153,7 +155,8 @@ module _ (dir : Dir) (e : ℕ) where
 
 module _ (dir : Dir) (e e′ : ℕ) (on : Bool) (c : ℕ) (d : Driver) (second : d .globals .stage ≡ 2) where
   module _ (due : Due dir e (mine dir e In e′ on) c d) where
-    abbrev thenIn : {A B : Type 0} {p : Script false A} {f : A → Script false B} → Calm false p → ((a : A) → Turning dir e In e′ on c d due second (f a)) → Turning dir e In e′ on c d due second (bind p f)
+    abbrev thenIn : {A B : Type 0} {p : Script false A} {f : A → Script false B} → Calm false p
+        → ((a : A) → Turning dir e In e′ on c d due second (f a)) → Turning dir e In e′ on c d due second (bind p f)
     thenIn x rest = first dir e In e′ on c d due second x rest
 
     of-in : (iso : Bool) → Turning dir e In e′ on c d due second (bus.setEnabledIn {i = false} e′ iso on)
@@ -166,7 +169,8 @@ module _ (dir : Dir) (e e′ : ℕ) (on : Bool) (c : ℕ) (d : Driver) (second :
     abbrev Runs : {A : Type 0} → tree.Out St A → Type 0
     Runs o = Left (place dir e) (turnsBack dir e Out e′ on) (Due dir e (mine dir e Out e′ on)) (Ended dir e) c o
 
-    abbrev thenOut : {A B : Type 0} {p : Script false A} {f : A → Script false B} → Calm false p → ((a : A) → Turning dir e Out e′ on c d due second (f a)) → Turning dir e Out e′ on c d due second (bind p f)
+    abbrev thenOut : {A B : Type 0} {p : Script false A} {f : A → Script false B} → Calm false p
+        → ((a : A) → Turning dir e Out e′ on c d due second (f a)) → Turning dir e Out e′ on c d due second (bind p f)
     thenOut x rest = first dir e Out e′ on c d due second x rest
 
     of-plain : isoOut d Out e′ ≡ false → Turning dir e Out e′ on c d due second (bus.setEnabledOut {i = false} e′ on)
@@ -194,7 +198,8 @@ module _ (dir : Dir) (e e′ : ℕ) (on : Bool) (c : ℕ) (d : Driver) (second :
         let x = still k (switch-stays e′ on (suc (suc n)) s) in at-ask refl (shows _ x)
         (λ _ t w. of-row iso (suc (suc n)) t (still x w))
 
-    of-out : (iso : Bool) → isOn (epOn d Out e′ .iso) ≡ iso → (s : St) → Stays d (s .0) → Runs (cond iso (rows concrete (switch e′ on) 18 (λ t. ends (tt {0}) t) s) (run concrete (bus.setEnabledOut {i = false} e′ on) s))
+    of-out : (iso : Bool) → isOn (epOn d Out e′ .iso) ≡ iso → (s : St) → Stays d (s .0)
+        → Runs (cond iso (rows concrete (switch e′ on) 18 (λ t. ends (tt {0}) t) s) (run concrete (bus.setEnabledOut {i = false} e′ on) s))
     unfolding isoOut
     of-out true h s k = of-row h 18 s k
     of-out false h s k = of-plain h .on s k

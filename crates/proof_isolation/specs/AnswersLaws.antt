@@ -19,7 +19,9 @@ answer-sym (ended n h) = ended n (λ p q. sym (h q p))
 
 module _ {c : Channel} {st : ℕ} {m i : Bool} where
   pub p-operation : {p p′ : Script i ℕ} → PairBy c st m Eq p p′ → PairBy c st m (SameAnswer (c .number)) (operation p) (operation p′)
-  p-operation {p} {p′} h = p-then (p-begins c) (p-before h (λ n n′ e. subst (λ k. Pair c st (SameAnswer (c .number)) (gives n) (gives k)) e (p-bind (p-gathered c) (λ l l′ z. p-ret (ended n z)))))
+  p-operation {p} {p′} h = p-then (p-begins c)
+      (p-before h
+      (λ n n′ e. subst (λ k. Pair c st (SameAnswer (c .number)) (gives n) (gives k)) e (p-bind (p-gathered c) (λ l l′ z. p-ret (ended n z)))))
     where
       gives : ℕ → Script i Answer
       gives n = bind (fetch gathered) (λ l. ret (End n l))
@@ -27,9 +29,11 @@ module _ {c : Channel} {st : ℕ} {m i : Bool} where
   pub p-resultless : {p p′ : Script i Unit} → PairBy c st m Any p p′ → PairBy c st m (SameAnswer (c .number)) (resultless p) (resultless p′)
   p-resultless h = p-operation (p-before-then h (p-ret refl))
 
-  pub p-staged : (n : ℕ) {p p′ : Script i Answer} → PairBy c st m (SameAnswer (c .number)) p p′ → PairBy c st m (SameAnswer (c .number)) (staged n p) (staged n p′)
+  pub p-staged : (n : ℕ) {p p′ : Script i Answer}
+      → PairBy c st m (SameAnswer (c .number)) p p′ → PairBy c st m (SameAnswer (c .number)) (staged n p) (staged n p′)
   p-staged n h = p-globals c (λ g _. p-test _ (λ _. h) (λ _. p-ret (same _)))
 
 module _ {c : Channel} {st : ℕ} {i : Bool} where
-  pub p-named : (dir : Dir) (e : ℕ) {p p′ : Script i Answer} → Pair c st (SameAnswer (c .number)) p p′ → Pair c st (SameAnswer (c .number)) (named dir e p) (named dir e p′)
+  pub p-named : (dir : Dir) (e : ℕ) {p p′ : Script i Answer}
+      → Pair c st (SameAnswer (c .number)) p p′ → Pair c st (SameAnswer (c .number)) (named dir e p) (named dir e p′)
   p-named dir e h = p-same (p-get allocator-cell Eq (λ s t l. l .but .allocator)) (λ a. p-test _ (λ _. h) (λ _. p-ret (same _)))

@@ -6,7 +6,8 @@ use lib.Dec.{eqb}
 use Rattle.regs.specs.declared.Access.{Access}
 use Rattle.regs.specs.declared.Access.the-variants.{Read, Write, Receive, Transmit, Ep0Dma, Wait, Callback}
 use Rattle.regs.specs.declared.Reg.{Reg}
-use Rattle.regs.specs.declared.Reg.the-variants.{IntFg, IntSt, MisSt, RxLen, FrameNo, Ctrl, IntEn, DevAd, HostCtrl, EpConfig, EpType, EpBufMod, EpMaxLen, EpTLen, EpRxCtrl, EpTxCtrl}
+use Rattle.regs.specs.declared.Reg.the-variants.{IntFg, IntSt, MisSt, RxLen, FrameNo, Ctrl, IntEn, DevAd, HostCtrl}
+use Rattle.regs.specs.declared.Reg.the-variants.{EpConfig, EpType, EpBufMod, EpMaxLen, EpTLen, EpRxCtrl, EpTxCtrl}
 use Rattle.model.specs.Tree.{Out, ends, asks}
 use Rattle.model.specs.Script.{Script, run}
 use Rattle.model.specs.IsoOut.{arriving}
@@ -90,14 +91,16 @@ module _ (c : Channel) (st : ℕ) where
   -- any more
   pub data ApartBy (i : Bool) {A B : Type 0} (Q : A → B → Type 0) : Bool → Out St A → Out St B → Type 0 where
     end : {m : Bool} {a : A} {b : B} {s t : St} → Q a b → LowEquiv c quiet s t → ApartBy i Q m (ends a s) (ends b t)
-    both : {m : Bool} {q : Access} {s t : St} {k : ℕ → St → Out St A} {k′ : ℕ → St → Out St B} (φ : Phase) → Fits i φ → Shared i (c .number) q k → Shared i (c .number) q k′ → LowEquiv c φ s t
+    both : {m : Bool} {q : Access} {s t : St} {k : ℕ → St → Out St A} {k′ : ℕ → St → Out St B} (φ : Phase)
+        → Fits i φ → Shared i (c .number) q k → Shared i (c .number) q k′ → LowEquiv c φ s t
         → ((v v′ : ℕ) (s t : St) → Brings (c .number) st q v v′ → LowEquiv c φ s t → ApartBy i Q m (k v s) (k′ v′ t)) → ApartBy i Q m (asks q s k) (asks q t k′)
     left : {q : Access} {s : St} {k : ℕ → St → Out St A} {u : Out St B} → Own i (c .number) q k → Past (c .number) u → Lawful (c .iso) quiet s
         → ((v : ℕ) (s′ : St) → Touched c quiet s s′ → ApartBy i Q true (k v s′) u) → ApartBy i Q true (asks q s k) u
     right : {q : Access} {t : St} {k : ℕ → St → Out St B} {o : Out St A} → Own i (c .number) q k → Past (c .number) o → Lawful (c .iso) quiet t
         → ((v : ℕ) (t′ : St) → Touched c quiet t t′ → ApartBy i Q true o (k v t′)) → ApartBy i Q true o (asks q t k)
     owns : {q q′ : Access} {s t : St} {k : ℕ → St → Out St A} {k′ : ℕ → St → Out St B} → Own i (c .number) q k → Own i (c .number) q′ k′ → LowEquiv c quiet s t
-        → ((v : ℕ) (s t : St) → LowEquiv c quiet s t → ApartBy i Q true (k v s) (asks q′ t k′)) → ((v : ℕ) (s t : St) → LowEquiv c quiet s t → ApartBy i Q true (asks q s k) (k′ v t))
+        → ((v : ℕ) (s t : St) → LowEquiv c quiet s t → ApartBy i Q true (k v s) (asks q′ t k′))
+        → ((v : ℕ) (s t : St) → LowEquiv c quiet s t → ApartBy i Q true (asks q s k) (k′ v t))
         → ApartBy i Q true (asks q s k) (asks q′ t k′)
 
   abbrev pub Apart : (i : Bool) {A B : Type 0} (Q : A → B → Type 0) → Out St A → Out St B → Type 0

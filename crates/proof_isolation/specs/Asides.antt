@@ -54,7 +54,8 @@ stamp-mod d e i = ap (λ j. getD (d .stamps) (e % 16 * 16 + j) 0) (sym (mod-mod 
 
 pub stamp-any : (d d′ : Driver) (e i : ℕ) → slotStamps d e ≡ slotStamps d′ e → stampOn d e i ≡ stampOn d′ e i
 stamp-any d d′ e i h =
-    stamp-mod d e i ∙ sym (stamps-at d e (i % 16) (omega arith)) ∙ ap (λ l. getD l (i % 16) 0) h ∙ stamps-at d′ e (i % 16) (omega arith) ∙ sym (stamp-mod d′ e i)
+    stamp-mod d e i ∙ sym (stamps-at d e (i % 16) (omega arith))
+    ∙ ap (λ l. getD l (i % 16) 0) h ∙ stamps-at d′ e (i % 16) (omega arith) ∙ sym (stamp-mod d′ e i)
 
 pub bytes-same : (b c : List ℕ) (at n : ℕ) → length c ≡ length b → at + n ≤ length b → Same at (at + n) b c → bytesAt b at n ≡ bytesAt c at n
 bytes-same b c at n long fits s = sym (window-is b at n fits) ∙ sym (window-same b c at n s) ∙ window-is c at n (omega (arith, long))
@@ -75,23 +76,28 @@ module _ (c : Channel) (e : ℕ) (n : key Out e ≢ key Out (c .number)) (s t : 
   unfolding nextStamp
   stamp-out =
       ap (λ (r : EpState). cond (hasWaiting r) (stampOn (s .0) e (slotOf r (r .tail))) 0) h
-      ∙ ap (λ k. cond (hasWaiting (epOn (t .0) Out e)) k 0) (stamp-any (s .0) (t .0) e (slotOf (epOn (t .0) Out e) (epOn (t .0) Out e .tail)) (l .but .stamps e n))
+      ∙ ap (λ k. cond (hasWaiting (epOn (t .0) Out e)) k 0)
+      (stamp-any (s .0) (t .0) e (slotOf (epOn (t .0) Out e) (epOn (t .0) Out e .tail)) (l .but .stamps e n))
 
   opens : LowEquiv c quiet (actOn (open-oldest e) s) (actOn (open-oldest e) t)
   unfolding openOn withOn
   opens = like-made l
       (lawful-act c (open-oldest e) refl (l .left))
       (lawful-act c (open-oldest e) refl (l .right))
-      (but-cond _ _ (ap hasWaiting h) (but-on (l .but) (l .left .rest .sized) (l .right .rest .sized) Out e _ _ (λ _. ap openedOf h) (λ p. absurd (n p))) (l .but))
-      (cond-seat (c .number) (epOn (s .0) Out (c .number)) (hasWaiting (epOn (s .0) Out e)) _ _ (on-seat (c .number) (s .0) Out e _ n) (same-place (epOn (s .0) Out (c .number)))) (l .bytes)
+      (but-cond _ _ (ap hasWaiting h)
+      (but-on (l .but) (l .left .rest .sized) (l .right .rest .sized) Out e _ _ (λ _. ap openedOf h) (λ p. absurd (n p))) (l .but))
+      (cond-seat (c .number) (epOn (s .0) Out (c .number)) (hasWaiting (epOn (s .0) Out e)) _ _
+      (on-seat (c .number) (s .0) Out e _ n) (same-place (epOn (s .0) Out (c .number)))) (l .bytes)
 
   closes : LowEquiv c quiet (actOn (close-oldest e) s) (actOn (close-oldest e) t)
   unfolding closeOn withOn
   closes = like-made l
       (lawful-act c (close-oldest e) refl (l .left))
       (lawful-act c (close-oldest e) refl (l .right))
-      (but-cond _ _ (ap (λ (r : EpState). isOn (r .«open»)) h) (but-on (l .but) (l .left .rest .sized) (l .right .rest .sized) Out e _ _ (λ _. ap closedOf h) (λ p. absurd (n p))) (l .but))
-      (cond-seat (c .number) (epOn (s .0) Out (c .number)) (isOn (epOn (s .0) Out e .«open»)) _ _ (on-seat (c .number) (s .0) Out e _ n) (same-place (epOn (s .0) Out (c .number)))) (l .bytes)
+      (but-cond _ _ (ap (λ (r : EpState). isOn (r .«open»)) h)
+      (but-on (l .but) (l .left .rest .sized) (l .right .rest .sized) Out e _ _ (λ _. ap closedOf h) (λ p. absurd (n p))) (l .but))
+      (cond-seat (c .number) (epOn (s .0) Out (c .number)) (isOn (epOn (s .0) Out e .«open»)) _ _
+      (on-seat (c .number) (s .0) Out e _ n) (same-place (epOn (s .0) Out (c .number)))) (l .bytes)
 
 -- the bytes of its oldest packet
 len-capped : (d : Driver) (dir : Dir) (e most : ℕ) (i : ℕ) → Ring most (epOn d dir e) (lensOf d dir e) → lenOn d dir e i ≤ epOn d dir e .stride
@@ -140,13 +146,16 @@ module _ (c : Channel) (e : ℕ) (bytes : List ℕ) (s t : St) (l : LowEquiv c q
       let i = slotOf r (r .head) in
       let z = l .left .rest .sized in
       let z′ = l .right .rest .sized in
-      let lens = lens-set (s .0) In e z i (length bytes) head-in ∙ ap (λ m. set m i (length bytes)) (l .but .lens In e (in-other (c .number) e)) ∙ sym (lens-set (t .0) In e z′ i (length bytes) head-in) in
+      let lens = lens-set (s .0) In e z i (length bytes) head-in
+      ∙ ap (λ m. set m i (length bytes)) (l .but .lens In e (in-other (c .number) e))
+      ∙ sym (lens-set (t .0) In e z′ i (length bytes) head-in) in
       but-changed (l .but) In e (in-other (c .number) e) (changed-len z In e i (length bytes)) (changed-len z′ In e i (length bytes))
       (ep-len (s .0) In e i (length bytes) In e ∙ same-r ∙ sym (ep-len (t .0) In e i (length bytes) In e))
       (λ a f p. by lens a f p) (λ f p. absurd (key-apart f e p))
     where
       by : lensOf (withLenOn (s .0) In e (slotOf r (r .head)) (length bytes)) In e ≡ lensOf (withLenOn (t .0) In e (slotOf r (r .head)) (length bytes)) In e
-          → (a : Dir) (f : ℕ) → key a f ≡ key In e → lensOf (withLenOn (s .0) In e (slotOf r (r .head)) (length bytes)) a f ≡ lensOf (withLenOn (t .0) In e (slotOf r (r .head)) (length bytes)) a f
+          → (a : Dir) (f : ℕ) → key a f ≡ key In e → lensOf (withLenOn (s .0) In e (slotOf r (r .head)) (length bytes)) a f
+          ≡ lensOf (withLenOn (t .0) In e (slotOf r (r .head)) (length bytes)) a f
       by q In f p = lens-mod _ In f e (key-same In f e p) ∙ q ∙ sym (lens-mod _ In f e (key-same In f e p))
       by q Out f p = absurd (key-apart f e p)
 
@@ -154,8 +163,12 @@ module _ (c : Channel) (e : ℕ) (bytes : List ℕ) (s t : St) (l : LowEquiv c q
   unfolding queuedOn
   queued =
       let i = slotOf r (r .head) in
-      subst (λ (q : EpState). EqualExcept (c .number) (withOn (withLenOn (s .0) In e i (length bytes)) In e (joinedOf r)) (withOn (withLenOn (t .0) In e (slotOf q (q .head)) (length bytes)) In e (joinedOf q))) same-r
-      (but-on longer (changed-len (l .left .rest .sized) In e i (length bytes) .sized) (changed-len (l .right .rest .sized) In e i (length bytes) .sized) In e (joinedOf r) (joinedOf r) (λ _. refl) (λ p. absurd (in-other (c .number) e p)))
+      subst
+      (λ (q : EpState). EqualExcept (c .number) (withOn (withLenOn (s .0) In e i (length bytes)) In e (joinedOf r))
+      (withOn (withLenOn (t .0) In e (slotOf q (q .head)) (length bytes)) In e (joinedOf q))) same-r
+      (but-on longer (changed-len (l .left .rest .sized) In e i (length bytes) .sized)
+      (changed-len (l .right .rest .sized) In e i (length bytes) .sized) In e
+      (joinedOf r) (joinedOf r) (λ _. refl) (λ p. absurd (in-other (c .number) e p)))
 
   record Kept (a b : St) : Type 0 where
     but : EqualExcept (c .number) (a .0) (b .0)
@@ -167,18 +180,27 @@ module _ (c : Channel) (e : ℕ) (bytes : List ℕ) (s t : St) (l : LowEquiv c q
   unfolding queuedOn withOn withLenOn
   queued-by true = record {
     but = queued;
-    seat = rw (epOn-other (withLenOn (s .0) In e (slotOf r (r .head)) (length bytes)) In e (joinedOf r) Out (c .number) (key-apart (c .number) e), ep-len (s .0) In e (slotOf r (r .head)) (length bytes) Out (c .number)) (same-place (epOn (s .0) Out (c .number)));
-    lent = subst (λ (q : EpState). Only (epOn (s .0) Out (c .number) .base) (endOf (epOn (s .0) Out (c .number))) (copied (s .1) (slotAddr r (r .head)) bytes) (copied (t .1) (slotAddr q (q .head)) bytes)) same-r
+    seat = rw (
+      epOn-other (withLenOn (s .0) In e (slotOf r (r .head)) (length bytes)) In e (joinedOf r) Out (c .number) (key-apart (c .number) e),
+      ep-len (s .0) In e (slotOf r (r .head)) (length bytes) Out (c .number),
+    ) (same-place (epOn (s .0) Out (c .number)));
+    lent = subst
+        (λ (q : EpState). Only (epOn (s .0) Out (c .number) .base) (endOf (epOn (s .0) Out (c .number)))
+        (copied (s .1) (slotAddr r (r .head)) bytes) (copied (t .1) (slotAddr q (q .head)) bytes)) same-r
         (only-like (l .bytes) (λ k a. copied-like (s .1) (t .1) (slotAddr r (r .head)) bytes k a));
   }
   queued-by false = record { but = l .but; seat = same-place (epOn (s .0) Out (c .number)); lent = l .bytes }
 
   enqueued : Kept (actOn (enqueue e bytes) s) (actOn (enqueue e bytes) t)
   unfolding enqueueOn
-  enqueued = subst (λ u. Kept (enqueueOn e bytes s) (cond u (queuedOn (t .0) e (length bytes), copied (t .1) (slotAddr (epOn (t .0) In e) (epOn (t .0) In e .head)) bytes) t)) (room-in (length bytes)) (queued-by (roomOn (s .0) e (length bytes)))
+  enqueued = subst (λ u. Kept (enqueueOn e bytes s) (cond u (
+    queuedOn (t .0) e (length bytes),
+    copied (t .1) (slotAddr (epOn (t .0) In e) (epOn (t .0) In e .head)) bytes,
+  ) t)) (room-in (length bytes)) (queued-by (roomOn (s .0) e (length bytes)))
 
   pub enqueues : LowEquiv c quiet (actOn (enqueue e bytes) s) (actOn (enqueue e bytes) t)
-  enqueues = let k = enqueued in like-made l (lawful-act c (enqueue e bytes) refl (l .left)) (lawful-act c (enqueue e bytes) refl (l .right)) (k .but) (k .seat) (k .lent)
+  enqueues = let k = enqueued in like-made l (lawful-act c (enqueue e bytes) refl (l .left))
+      (lawful-act c (enqueue e bytes) refl (l .right)) (k .but) (k .seat) (k .lent)
 
 -- ---- the calls
 
@@ -192,7 +214,8 @@ module _ (c : Channel) (st : ℕ) where
   pub p-aside : (o : Aside) → Others (c .number) o → Pair c st (SameAnswer (c .number)) (asideCode o) (asideCode o)
   p-aside (Open e) n = p-staged 2 (p-named Out e (p-plain c Out e n (λ p _. p-test _ (λ _. p-ret (same _))
       (λ _. p-same (p-is (waiting Out e) (waiting-out c e n)) (λ b. p-test b
-      (λ _. p-then (p-act (open-oldest e) (opens c e n)) (p-same (p-fetch (oldest e) (oldest-out c e n)) (λ w. p-same (p-look (next-stamp e) (stamp-out c e n)) (λ k. p-ret (same _)))))
+      (λ _. p-then (p-act (open-oldest e) (opens c e n))
+      (p-same (p-fetch (oldest e) (oldest-out c e n)) (λ w. p-same (p-look (next-stamp e) (stamp-out c e n)) (λ k. p-ret (same _)))))
       (λ _. p-ret (same _)))))))
   p-aside (Close e) n = p-staged 2 (p-named Out e (p-same (p-is (opened e) (opened-out c e n)) (λ b. p-test b
       (λ _. p-then (p-act (close-oldest e) (closes c e n)) (p-ret (same _)))
@@ -212,7 +235,8 @@ module _ (c : Channel) (s : St) (l : Lawful (c .iso) quiet s) where
   x = c .number
 
   own-on : (r : EpState) → Inner (epOn (s .0) Out x) r → Beside x (s .0) (withOn (s .0) Out x r)
-  own-on r k = own-changed (changed-on (l .rest .sized) Out x r (k .place) (ap (λ (q : EpCore). q .iso) (k .plain))) (inner-stays (rw (epOn-same (s .0) Out x r (l .rest .sized)) k))
+  own-on r k = own-changed (changed-on (l .rest .sized) Out x r (k .place) (ap (λ (q : EpCore). q .iso) (k .plain)))
+      (inner-stays (rw (epOn-same (s .0) Out x r (l .rest .sized)) k))
 
   own-cond : (u : Bool) (r : EpState) → Inner (epOn (s .0) Out x) r → Beside x (s .0) (cond u (withOn (s .0) Out x r) (s .0))
   own-cond true r k = own-on r k
@@ -245,11 +269,16 @@ actOf (Close e) = close-oldest e
 actOf (Queue e bytes) = enqueue e bytes
 
 brief : (K : St → Type 0) (o : Aside) → ((s : St) → K s → K (actOn (actOf o) s)) → Brief K (asideCode o)
-brief K (Open e) h = b-bind (b-get globals-cell) (λ g. b-test _ (b-bind (b-get allocator-cell) (λ a. b-test _ (b-bind (b-get (ep-cell Out e)) (λ p. b-test _ (b-ret _)
-    (b-bind (b-is (waiting Out e)) (λ b. b-test b (b-bind (b-act (open-oldest e) h) (λ _. b-bind (b-fetch (oldest e)) (λ w. b-bind (b-look (next-stamp e)) (λ k. b-ret _)))) (b-ret _))))) (b-ret _))) (b-ret _))
-brief K (Close e) h = b-bind (b-get globals-cell) (λ g. b-test _ (b-bind (b-get allocator-cell) (λ a. b-test _ (b-bind (b-is (opened e)) (λ b. b-test b (b-bind (b-act (close-oldest e) h) (λ _. b-ret _)) (b-ret _))) (b-ret _))) (b-ret _))
+brief K (Open e) h = b-bind (b-get globals-cell)
+    (λ g. b-test _ (b-bind (b-get allocator-cell) (λ a. b-test _ (b-bind (b-get (ep-cell Out e)) (λ p. b-test _ (b-ret _)
+    (b-bind (b-is (waiting Out e)) (λ b. b-test b (b-bind (b-act (open-oldest e) h)
+    (λ _. b-bind (b-fetch (oldest e)) (λ w. b-bind (b-look (next-stamp e)) (λ k. b-ret _)))) (b-ret _))))) (b-ret _))) (b-ret _))
+brief K (Close e) h = b-bind (b-get globals-cell)
+    (λ g. b-test _ (b-bind (b-get allocator-cell)
+    (λ a. b-test _ (b-bind (b-is (opened e)) (λ b. b-test b (b-bind (b-act (close-oldest e) h) (λ _. b-ret _)) (b-ret _))) (b-ret _))) (b-ret _))
 brief K (Queue e bytes) h = b-bind (b-get globals-cell) (λ g. b-test _ (b-bind (b-get allocator-cell) (λ a. b-test _ (b-bind (b-get globals-cell) (λ g. b-test _
-    (b-bind (b-get allocator-cell) (λ a. b-test _ (b-ret _) (b-bind (b-get (ep-cell In e)) (λ p. b-test _ (b-ret _) (b-bind (b-is (room e (length bytes))) (λ b. b-test b (b-bind (b-act (enqueue e bytes) h) (λ _. b-ret _)) (b-ret _)))))))
+    (b-bind (b-get allocator-cell) (λ a. b-test _ (b-ret _) (b-bind (b-get (ep-cell In e)) (λ p. b-test _ (b-ret _)
+    (b-bind (b-is (room e (length bytes))) (λ b. b-test b (b-bind (b-act (enqueue e bytes) h) (λ _. b-ret _)) (b-ret _)))))))
     (b-ret _))) (b-ret _))) (b-ret _))
 
 pub finishes : (o : Aside) (K : St → Type 0) → ((s : St) → K s → K (actOn (actOf o) s)) → (s : St) → K s → Finished K (run concrete (asideCode o) s)
@@ -276,5 +305,6 @@ own-act c (Close e) m s t l = subst (λ d. Touched c quiet s (d, t .1)) (sym (cl
 own-act c (Queue e bytes) m s t l = absurd m
 
 -- it leaves a state that is the same but for the channel's data
-pub own-finishes : (c : Channel) (o : Aside) → Mine (c .number) o → (s : St) → Lawful (c .iso) quiet s → Finished (Touched c quiet s) (run concrete (asideCode o) s)
+pub own-finishes : (c : Channel) (o : Aside) → Mine (c .number) o
+    → (s : St) → Lawful (c .iso) quiet s → Finished (Touched c quiet s) (run concrete (asideCode o) s)
 own-finishes c o m s l = finishes o (Touched c quiet s) (own-act c o m s) s (touched-refl l)

@@ -19,7 +19,8 @@ use Rattle.model.specs.Cells.{control-cell, allocator-cell}
 use Rattle.model.specs.Script.{Script, run, bind, test, ret, get, put, act, _>>_, allocate0}
 use Rattle.model.specs.Statics.{isOn, withReady, withArmed, withLen, modifyEp}
 use Rattle.model.specs.Answers.{Answer, Refused, resultless, unless}
-use Rattle.model.specs.Machine.{Buf, Call, Event, start, begin, go, question, Ans, Way, idle, busy, Machine, misfit, lentTo, beside, over, halt, begun, continued, started}
+use Rattle.model.specs.Machine.{Buf, Call, Event, start, begin, go, question, Ans, Way, idle, busy, Machine, misfit}
+use Rattle.model.specs.Machine.{lentTo, beside, over, halt, begun, continued, started}
 use Rattle.model_ops.specs.Records.{startedWith, allocatedEp0}
 use Rattle.model_ops.specs.Rings.{St}
 use Rattle.model_ops.specs.Concrete.{concrete, putOn, actOn}
@@ -39,7 +40,12 @@ use Rattle.req_descriptor.specs.declared.Answer.the-variants as reading
 use Rattle.model.specs.Driver.{allocated-as, started-as}
 use Rattle.model.specs.Driver as driver
 use Rattle.model.specs.AllocateAll.{allocateEach, announce, beginsAt, announceAfter, announceAll, allocate-read}
-use Rattle.model.specs.Calls.{Config, Slotted, SetEnabled, PollRead, BeginWrite, PollWrite, PollDataOut, BeginDataIn, Other, Allocate, AllocateAll, Start, BusPoll, BusEnable, BusDisable, Microframe, SetStalled, IsStalled, SetPaced, Advance, BeginRead, BeginSetup, PollSetup, PollDataIn, BeginAccept, PollAccept, BeginReject, BeginDataOut, BeginAcceptSetAddress, Aside, Open, Close, Queue, Op, interrupt, slotted, other, aside, slottedCode, otherCode, asideCode, code, starting, calls, startRow}
+use Rattle.model.specs.Calls.{Config, Slotted, SetEnabled, PollRead, BeginWrite, PollWrite, PollDataOut, BeginDataIn}
+use Rattle.model.specs.Calls.{Other, Allocate, AllocateAll, Start, BusPoll, BusEnable, BusDisable, Microframe}
+use Rattle.model.specs.Calls.{SetStalled, IsStalled, SetPaced, Advance, BeginRead, BeginSetup, PollSetup, PollDataIn}
+use Rattle.model.specs.Calls.{BeginAccept, PollAccept, BeginReject, BeginDataOut, BeginAcceptSetAddress, Aside, Open}
+use Rattle.model.specs.Calls.{Close, Queue, Op, interrupt, slotted, other, aside, slottedCode, otherCode, asideCode}
+use Rattle.model.specs.Calls.{code, starting, calls, startRow}
 use Rattle.proof_isolation.specs.EqualExcept.{Bounded}
 use Rattle.proof_isolation.specs.Bounding.{Holds, end, ask, Keeps, k-bind, k-test, keeping}
 
@@ -194,9 +200,16 @@ unfolding allocatedEp0
 k-start maximum = record { on = λ s b. by s b (eqb (s .0 .globals .stage) 1) refl }
   where
     by : (s : St) → Bounded (s .0) → (u : Bool) → eqb (s .0 .globals .stage) 1 ≡ u
-        → Holds (run {i = false} concrete (test u (bind (get allocator-cell) (λ a. act (allocate0 maximum) >> started-as maximum (allocateEp0Of a maximum .answer))) (ret (Refused 4))) s)
+        → Holds
+        (run {i = false} concrete
+        (test u (bind (get allocator-cell) (λ a. act (allocate0 maximum) >> started-as maximum (allocateEp0Of a maximum .answer)))
+        (ret (Refused 4))) s)
     by s b true h = k-started maximum (allocateEp0Of (s .0 .allocator) maximum .answer) .on (actOn (allocate0 maximum) s)
-        (λ z. absurd (omega (arith, eqb-true (s .0 .globals .stage) 1 h, b (sym (ap (λ (v : Control). v .sort) (ep0-control maximum (allocateEp0Of (s .0 .allocator) maximum .answer) _)) ∙ z) .0)))
+        (λ z. absurd (omega (
+          arith,
+          eqb-true (s .0 .globals .stage) 1 h,
+          b (sym (ap (λ (v : Control). v .sort) (ep0-control maximum (allocateEp0Of (s .0 .allocator) maximum .answer) _)) ∙ z) .0,
+        )))
     by s b false h = end b
 
 -- a data_out's begin (rows 4, 10 and 9), and what follows its request
@@ -209,15 +222,19 @@ k-arms n first = search (k-acks, keeping) depth 20
 k-begin-out : (n : ℕ) (first : Bool) → Keeps {i = false} (beginDataOut n first)
 k-begin-out n first = record { on = λ s b. staged-by s b (eqb (s .0 .globals .stage) 2) refl }
   where
-    setup-by : (s : St) → Bounded (s .0) → s .0 .globals .stage ≡ 2 → n ≤ s .0 .globals .«ep0_max» → (u : Bool) → Holds (run {i = false} concrete (unless u 9 (put control-cell (requestOf DATA-OUT n) >> arms n first)) s)
+    setup-by : (s : St) → Bounded (s .0) → s .0 .globals .stage ≡ 2 → n ≤ s .0 .globals .«ep0_max» → (u : Bool)
+        → Holds (run {i = false} concrete (unless u 9 (put control-cell (requestOf DATA-OUT n) >> arms n first)) s)
     setup-by s b h k true = end b
     setup-by s b h k false = k-arms n first .on (putOn control-cell (requestOf DATA-OUT n) s) (λ _. (h, k))
 
-    within-by : (s : St) → Bounded (s .0) → s .0 .globals .stage ≡ 2 → (u : Bool) → ltb (s .0 .globals .«ep0_max») n ≡ u → Holds (run {i = false} concrete (unless u 10 (unlessSetup (put control-cell (requestOf DATA-OUT n) >> arms n first))) s)
+    within-by : (s : St) → Bounded (s .0) → s .0 .globals .stage ≡ 2 → (u : Bool) → ltb (s .0 .globals .«ep0_max») n ≡ u
+        → Holds (run {i = false} concrete (unless u 10 (unlessSetup (put control-cell (requestOf DATA-OUT n) >> arms n first))) s)
     within-by s b h true w = end b
     within-by s b h false w = setup-by s b h (ltb-false (s .0 .globals .«ep0_max») n w) (isOn (s .0 .globals .«setup_ready»))
 
-    staged-by : (s : St) → Bounded (s .0) → (u : Bool) → eqb (s .0 .globals .stage) 2 ≡ u → Holds (run {i = false} concrete (test u (withinMaximum n (unlessSetup (put control-cell (requestOf DATA-OUT n) >> arms n first))) (ret (Refused 4))) s)
+    staged-by : (s : St) → Bounded (s .0) → (u : Bool) → eqb (s .0 .globals .stage) 2 ≡ u → Holds
+        (run {i = false} concrete
+        (test u (withinMaximum n (unlessSetup (put control-cell (requestOf DATA-OUT n) >> arms n first))) (ret (Refused 4))) s)
     staged-by s b true h = within-by s b (eqb-true (s .0 .globals .stage) 2 h) (ltb (s .0 .globals .«ep0_max») n) refl
     staged-by s b false h = end b
 
@@ -282,7 +299,8 @@ begun-kept : (o : Op) (m : Machine Answer Driver) → Kept m → (w : Way Answer
 begun-kept o m k idle b = halted (calls .irq o) (k-call o .on (m .st, b) (k .bounded))
 begun-kept o m k (busy i q f) b = either (cond i (calls .aside o) false) _ _ (besided (lent-kept b k) (k-call o .on (m .st, b) (k .bounded))) (lent-kept b k)
 
-continued-kept : (v : ℕ) (m : Machine Answer Driver) → Kept m → (w : Way Answer Driver) → WayKeeps w → (b : Buf) → Kept (continued calls driverOf (λ s. s) v m w b .1)
+continued-kept : (v : ℕ) (m : Machine Answer Driver)
+    → Kept m → (w : Way Answer Driver) → WayKeeps w → (b : Buf) → Kept (continued calls driverOf (λ s. s) v m w b .1)
 continued-kept v m k idle h b = lent-kept b k
 continued-kept v m k (busy i q f) h b = either (over calls q v) _ _ (lent-kept b k) (halted i (h v (m .st, b) (k .bounded)))
 
@@ -305,7 +323,8 @@ always [] m k = k
 always (e ∷ es) m k = always es _ (steps (e .call) m k (e .lent))
 
 -- after every list of calls from an accepted start-up, from whatever was before
-pub after-bounded : (c : Config) (b : Buf) → startRow c b ≡ zero → (es : List (Event Config Op)) (m : Machine Answer Driver) → Bounded (after calls driverOf (record { call = start c; lent = b } ∷ es) m .st)
+pub after-bounded : (c : Config) (b : Buf) → startRow c b ≡ zero → (es : List (Event Config Op)) (m : Machine Answer Driver)
+    → Bounded (after calls driverOf (record { call = start c; lent = b } ∷ es) m .st)
 after-bounded c b row es m = by (startRow c b) row
   where
     by : (n : ℕ) → n ≡ zero → Bounded (after calls driverOf es (started calls driverOf (λ s. s) c n m b .1) .st)

@@ -86,20 +86,25 @@ module _ {x : ℕ} {d d′ : Driver} (h : EqualExcept x d d′) where
       wakes = h .wakes;
       requests = h .requests;
       eps = λ a c n. elim (ℕ-discrete (key a c) (key dir e)) [
-        | yes p ↦ key-ep (withOn d dir e r) a dir c e p ∙ epOn-same d dir e r z ∙ f (λ q. n (p ∙ q)) ∙ sym (epOn-same d′ dir e r′ z′) ∙ sym (key-ep (withOn d′ dir e r′) a dir c e p)
+        | yes p ↦ key-ep (withOn d dir e r) a dir c e p ∙ epOn-same d dir e r z
+            ∙ f (λ q. n (p ∙ q)) ∙ sym (epOn-same d′ dir e r′ z′) ∙ sym (key-ep (withOn d′ dir e r′) a dir c e p)
         | no p ↦ epOn-other d dir e r a c p ∙ h .eps a c n ∙ sym (epOn-other d′ dir e r′ a c p)
       ];
       lens = λ a c n. lens-on d dir e r a c ∙ h .lens a c n ∙ sym (lens-on d′ dir e r′ a c);
       stamps = λ c n. stamps-on d dir e r c ∙ h .stamps c n ∙ sym (stamps-on d′ dir e r′ c);
       own = elim (ℕ-discrete (key Out x) (key dir e)) [
-        | yes p ↦ rw (key-ep (withOn d dir e r) Out dir x e p ∙ epOn-same d dir e r z, key-ep (withOn d′ dir e r′) Out dir x e p ∙ epOn-same d′ dir e r′ z′) (g (sym p))
+        | yes p ↦ rw (
+          key-ep (withOn d dir e r) Out dir x e p ∙ epOn-same d dir e r z,
+          key-ep (withOn d′ dir e r′) Out dir x e p ∙ epOn-same d′ dir e r′ z′,
+        ) (g (sym p))
         | no p ↦ rw (epOn-other d dir e r Out x p, epOn-other d′ dir e r′ Out x p) (h .own)
       ];
     }
 
   -- an endpoint but x
   pub but-changed : {d1 d1′ : Driver} (dir : Dir) (e : ℕ) → key dir e ≢ key Out x → Changed dir e d d1 → Changed dir e d′ d1′
-      → epOn d1 dir e ≡ epOn d1′ dir e → ((a : Dir) (c : ℕ) → key a c ≡ key dir e → lensOf d1 a c ≡ lensOf d1′ a c) → ((c : ℕ) → key Out c ≡ key dir e → slotStamps d1 c ≡ slotStamps d1′ c) → EqualExcept x d1 d1′
+      → epOn d1 dir e ≡ epOn d1′ dir e → ((a : Dir) (c : ℕ) → key a c ≡ key dir e → lensOf d1 a c ≡ lensOf d1′ a c)
+      → ((c : ℕ) → key Out c ≡ key dir e → slotStamps d1 c ≡ slotStamps d1′ c) → EqualExcept x d1 d1′
   unfolding requestOn
   but-changed {d1} {d1′} dir e n u v p l s = record {
     globals = u .globals ∙ h .globals ∙ sym (v .globals);
@@ -153,12 +158,14 @@ module _ {c : Channel} where
   like-made {s1 = s1} {t1 = t1} h l r b p o = record { left = l; right = r; but = b; bytes = rw (p .base, p .slots, p .stride) o }
 
   -- bytes of another endpoint's slots are the same
-  pub others-same : {φ : Phase} {s t : St} → LowEquiv c φ s t → (dir : Dir) (e lo hi : ℕ) → key dir e ≢ key Out (c .number) → epOn (s .0) dir e .base ≤ lo → hi ≤ endOf (epOn (s .0) dir e) → Same lo hi (s .1) (t .1)
+  pub others-same : {φ : Phase} {s t : St} → LowEquiv c φ s t → (dir : Dir) (e lo hi : ℕ) → key dir e ≢ key Out (c .number)
+      → epOn (s .0) dir e .base ≤ lo → hi ≤ endOf (epOn (s .0) dir e) → Same lo hi (s .1) (t .1)
   others-same {s = s} h dir e lo hi n p q =
       only-apart lo hi (h .bytes) (⊎-elim (λ a. inr (omega arith)) (λ a. inl (omega arith)) (h .left .rest .apart Out dir (c .number) e (λ z. n (sym z))))
 
   -- and EP0's
-  pub ep0-same : {φ : Phase} {s t : St} → LowEquiv c φ s t → (lo hi : ℕ) → s .0 .globals .«ep0_buf» ≤ lo → hi ≤ s .0 .globals .«ep0_buf» + s .0 .allocator .size → Same lo hi (s .1) (t .1)
+  pub ep0-same : {φ : Phase} {s t : St} → LowEquiv c φ s t → (lo hi : ℕ)
+      → s .0 .globals .«ep0_buf» ≤ lo → hi ≤ s .0 .globals .«ep0_buf» + s .0 .allocator .size → Same lo hi (s .1) (t .1)
   ep0-same {s = s} h lo hi p q =
       let room : ep0Room (s .0 .globals) (s .0 .allocator) ≡ s .0 .allocator .size = rw (h .left .stage) refl in
       only-apart lo hi (h .bytes) (⊎-elim (λ a. inl (omega (arith, room))) (λ a. inr (omega (arith, room))) (h .left .rest .ep0-apart Out (c .number)))
@@ -175,7 +182,8 @@ module _ (c : Channel) where
   }
 
   -- the control request: of a data_out with a length within EP0's maximum
-  pub lawful-control : (v : Control) {s : St} → (v .sort ≡ DATA-OUT → v .length ≤ s .0 .globals .«ep0_max») → Lawful (c .iso) quiet s → Lawful (c .iso) quiet (putOn control-cell v s)
+  pub lawful-control : (v : Control) {s : St} → (v .sort ≡ DATA-OUT → v .length ≤ s .0 .globals .«ep0_max»)
+      → Lawful (c .iso) quiet s → Lawful (c .iso) quiet (putOn control-cell v s)
   lawful-control v {s} h l = record {
     pages = _;
     rest = agree .put control-cell v (s .1) (s .0) (l .pages) (l .rest) .1;
@@ -226,7 +234,13 @@ module _ (c : Channel) where
     }
 
     lawful-over : {s : St} → Lawful (c .iso) (mid g zero) s → Lawful (c .iso) quiet s
-    lawful-over {s} l = record { pages = l .pages; rest = rows-finish g (s .1) (s .0) (l .pages) (l .rest); has = l .has; stage = l .stage; bounded = l .bounded }
+    lawful-over {s} l = record {
+      pages = l .pages;
+      rest = rows-finish g (s .1) (s .0) (l .pages) (l .rest);
+      has = l .has;
+      stage = l .stage;
+      bounded = l .bounded;
+    }
 
     pub row-over : (s t : St) → LowEquiv c (mid g zero) s t → LowEquiv c quiet s t
     row-over s t l = record { left = lawful-over (l .left); right = lawful-over (l .right); but = l .but; bytes = l .bytes }

@@ -27,7 +27,8 @@ set-like b c i v k (long, e) = (length-set c i v ∙ long ∙ sym (length-set b 
     by = elim (ℕ-discrete k i) [
       | yes p ↦ rw p (elim (decLt i (length b)) [
         | yes q ↦ getD-set-same c i v 0 (omega (arith, long)) ∙ sym (getD-set-same b i v 0 q)
-        | no q ↦ List·getD-eq-default (set c i v) 0 {n = i} (omega (arith, length-set c i v, long)) ∙ sym (List·getD-eq-default (set b i v) 0 {n = i} (omega (arith, length-set b i v)))
+        | no q ↦ List·getD-eq-default (set c i v) 0 {n = i} (omega (arith, length-set c i v, long))
+            ∙ sym (List·getD-eq-default (set b i v) 0 {n = i} (omega (arith, length-set b i v)))
       ])
       | no p ↦ getD-set-other c i k v 0 p ∙ e ∙ sym (getD-set-other b i k v 0 p)
     ]
@@ -50,7 +51,8 @@ unfolding arm
 arm-like maximum b c k h = run-like (armedWords maximum) b c 0 k h
 
 -- a part put back
-back-like : (b c p q : List ℕ) (at k : ℕ) → at ≤ length b → At k b c → (at ≤ k → getD q (k - at) 0 ≡ getD p (k - at) 0) → getD (take at c ++ q) k 0 ≡ getD (take at b ++ p) k 0
+back-like : (b c p q : List ℕ) (at k : ℕ) → at ≤ length b → At k b c
+    → (at ≤ k → getD q (k - at) 0 ≡ getD p (k - at) 0) → getD (take at c ++ q) k 0 ≡ getD (take at b ++ p) k 0
 back-like b c p q at k l (long, e) h = elim (decLt k at) [
   | yes g ↦ back-low c q at k (omega (arith, long)) g ∙ e ∙ sym (back-low b p at k l g)
   | no g ↦ back-high c q at k (omega (arith, long)) (omega arith) ∙ h (omega arith) ∙ sym (back-high b p at k l (omega arith))
@@ -67,7 +69,8 @@ armed-like b c at maximum k h = (only-armed c at maximum .long ∙ h .0 ∙ sym 
     byte = elim (decLt (length b) (at + reach maximum)) [
       | yes g ↦ rw (lt-ltb (length b) (at + reach maximum) g, lt-ltb (length c) (at + reach maximum) (omega (arith, h .0))) (h .1)
       | no g ↦ rw (le-ltb (length b) (at + reach maximum) (omega arith), le-ltb (length c) (at + reach maximum) (omega (arith, h .0)))
-          (back-like b c (arm maximum (drop at b)) (arm maximum (drop at c)) at k (omega arith) h (λ l. arm-like maximum (drop at b) (drop at c) (k - at) (part-at b c at k l h) .1))
+          (back-like b c (arm maximum (drop at b)) (arm maximum (drop at c)) at k
+          (omega arith) h (λ l. arm-like maximum (drop at b) (drop at c) (k - at) (part-at b c at k l h) .1))
     ]
 
 over-like : (v b c : List ℕ) (k : ℕ) → At k b c → getD (over v c) k 0 ≡ getD (over v b) k 0
@@ -84,7 +87,8 @@ copied-like b c at v k h = (only-copied c at v .long ∙ h .0 ∙ sym (only-copi
     byte = elim (decLt (length b) (at + length v)) [
       | yes g ↦ rw (lt-ltb (length b) (at + length v) g, lt-ltb (length c) (at + length v) (omega (arith, h .0))) (h .1)
       | no g ↦ rw (le-ltb (length b) (at + length v) (omega arith), le-ltb (length c) (at + length v) (omega (arith, h .0)))
-          (back-like b c (over v (drop at b)) (over v (drop at c)) at k (omega arith) h (λ l. over-like v (drop at b) (drop at c) (k - at) (part-at b c at k l h)))
+          (back-like b c (over v (drop at b)) (over v (drop at c)) at k
+          (omega arith) h (λ l. over-like v (drop at b) (drop at c) (k - at) (part-at b c at k l h)))
     ]
 
 -- so two buffers that are the same but for some bytes stay so

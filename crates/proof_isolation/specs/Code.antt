@@ -14,7 +14,9 @@ use Rattle.call_bus_time.specs.Sharing.{sharedCall}
 use Rattle.proof_book.specs.MachineRuns.{Premise}
 use Rattle.proof_book.specs.Sorting.{sortsOf}
 use Rattle.proof_isolation.specs.EqualExcept.{Channel}
-use Rattle.proof_isolation.specs.Schedule.{Run, Two, Turn, begins, goes, asked, stores, others-time, first, second, Early, gets, shares, accessOf, runBy, ownBy, statusOf, shared, called, alone, turn, given, heeded, May, After}
+use Rattle.proof_isolation.specs.Schedule.{Run, Two, Turn, begins, goes, asked, stores, others-time, first}
+use Rattle.proof_isolation.specs.Schedule.{second, Early, gets, shares, accessOf, runBy, ownBy, statusOf, shared}
+use Rattle.proof_isolation.specs.Schedule.{called, alone, turn, given, heeded, May, After}
 use Rattle.proof_isolation.specs.Standing.{At}
 use Rattle.proof_isolation.specs.StandingLaws.{at-time}
 use Rattle.proof_isolation.specs.Start.{freshBook}
@@ -241,7 +243,8 @@ module _ (share : Bool) (n : ℕ) where
 
   -- ---- the theorem
 
-  pub code-every : (c : Channel) (ss : List Step) (w : Pair) → At c (twoOf w) → DidSteps share n c ss w → EveryStep share n c ss w × At c (twoOf (afterSteps ss w))
+  pub code-every : (c : Channel) (ss : List Step) (w : Pair)
+      → At c (twoOf w) → DidSteps share n c ss w → EveryStep share n c ss w × At c (twoOf (afterSteps ss w))
   code-every c [] w a d = (tt, a)
   code-every c (s ∷ ss) w a d =
       let y = step c share n (s .turn) a (d .1) in

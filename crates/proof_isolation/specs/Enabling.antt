@@ -37,9 +37,11 @@ module _ (c : Channel) (e : ℕ) where
   configures : (onn : Bool) (s t : St) → LowEquiv c quiet s t → LowEquiv c quiet (actOn (set-enabled In e onn) s) (actOn (set-enabled In e onn) t)
   unfolding enabledOn isoOut configured epOn
   configures onn s t l = like-made l (lawful-act c (set-enabled In e onn) refl (l .left)) (lawful-act c (set-enabled In e onn) refl (l .right))
-      (but-globals (l .but) _ _ (ap (λ (g : Globals). withEpConfig (enables.withOn (g .«ep_config») In e onn) g) (l .but .globals))) (same-place (epOn (s .0) Out (c .number))) (l .bytes)
+      (but-globals (l .but) _ _ (ap (λ (g : Globals). withEpConfig (enables.withOn (g .«ep_config») In e onn) g) (l .but .globals)))
+      (same-place (epOn (s .0) Out (c .number))) (l .bytes)
 
-  places : (s t : St) → LowEquiv c quiet s t → (handOn (place In e) s .0 ≡ handOn (place In e) t .0) × LowEquiv c quiet (handOn (place In e) s .1) (handOn (place In e) t .1)
+  places : (s t : St) → LowEquiv c quiet s t → (handOn (place In e) s .0 ≡ handOn (place In e) t .0)
+      × LowEquiv c quiet (handOn (place In e) s .1) (handOn (place In e) t .1)
   unfolding placeOn
   places s t l = (
     ap (λ (r : EpState). r .base) (l .but .eps In e (in-other (c .number) e)),

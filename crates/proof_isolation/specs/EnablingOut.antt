@@ -34,7 +34,9 @@ use Rattle.proof_isolation.specs.InRings.{on-seat, cond-seat}
 module _ (c : Channel) (e : ℕ) (plain : c .iso Out e ≡ false) where
   -- it is not the channel
   other : {s : St} → Lawful (c .iso) quiet s → key Out e ≢ key Out (c .number)
-  other {s} l p = true≢false (sym (c .receives) ∙ sym (l .has .flags Out (c .number)) ∙ ap (λ (r : EpState). isOn (r .iso)) (sym (key-ep (s .0) Out Out e (c .number) p)) ∙ l .has .flags Out e ∙ plain)
+  other {s} l p = true≢false
+      (sym (c .receives) ∙ sym (l .has .flags Out (c .number))
+      ∙ ap (λ (r : EpState). isOn (r .iso)) (sym (key-ep (s .0) Out Out e (c .number) p)) ∙ l .has .flags Out e ∙ plain)
 
   other-number : eqb e (c .number) ≡ false
   other-number = ne-eqb e (c .number) (λ z. true≢false (sym (c .receives) ∙ ap (λ a. c .iso Out a) (sym z) ∙ plain))
@@ -47,8 +49,10 @@ module _ (c : Channel) (e : ℕ) (plain : c .iso Out e ≡ false) where
       like-made l
       (lawful-act c (reset-ring Out e) refl (l .left))
       (lawful-act c (reset-ring Out e) refl (l .right))
-      (but-cond _ _ (ap (λ (r : EpState). isOn (r .iso)) h) (l .but) (but-on (l .but) (l .left .rest .sized) (l .right .rest .sized) Out e _ _ (λ _. ap emptied h) (λ p. absurd (n p))))
-      (cond-seat (c .number) (epOn (s .0) Out (c .number)) (isOn (epOn (s .0) Out e .iso)) _ _ (same-place (epOn (s .0) Out (c .number))) (on-seat (c .number) (s .0) Out e _ n)) (l .bytes)
+      (but-cond _ _ (ap (λ (r : EpState). isOn (r .iso)) h) (l .but)
+      (but-on (l .but) (l .left .rest .sized) (l .right .rest .sized) Out e _ _ (λ _. ap emptied h) (λ p. absurd (n p))))
+      (cond-seat (c .number) (epOn (s .0) Out (c .number)) (isOn (epOn (s .0) Out e .iso)) _ _
+      (same-place (epOn (s .0) Out (c .number))) (on-seat (c .number) (s .0) Out e _ n)) (l .bytes)
 
   config-seat : (d : Driver) (g : Globals) → SamePlace (epOn d Out (c .number)) (epOn (withGlobals d g) Out (c .number))
   unfolding epOn
@@ -61,8 +65,10 @@ module _ (c : Channel) (e : ℕ) (plain : c .iso Out e ≡ false) where
       like-made l
       (lawful-act c (set-enabled Out e onn) refl (l .left))
       (lawful-act c (set-enabled Out e onn) refl (l .right))
-      (but-cond _ _ (ap (λ (r : EpState). isOn (r .iso)) h) (l .but) (but-globals (l .but) _ _ (ap (λ (g : Globals). withEpConfig (enables.withOn (g .«ep_config») Out e onn) g) (l .but .globals))))
-      (cond-seat (c .number) (epOn (s .0) Out (c .number)) (isOn (epOn (s .0) Out e .iso)) _ _ (same-place (epOn (s .0) Out (c .number))) (config-seat (s .0) _)) (l .bytes)
+      (but-cond _ _ (ap (λ (r : EpState). isOn (r .iso)) h) (l .but)
+      (but-globals (l .but) _ _ (ap (λ (g : Globals). withEpConfig (enables.withOn (g .«ep_config») Out e onn) g) (l .but .globals))))
+      (cond-seat (c .number) (epOn (s .0) Out (c .number)) (isOn (epOn (s .0) Out e .iso)) _ _
+      (same-place (epOn (s .0) Out (c .number))) (config-seat (s .0) _)) (l .bytes)
 
   record Placed (s t : St) (x y : ℕ × Driver) : Type 0 where
     address : x .0 ≡ y .0
@@ -70,10 +76,20 @@ module _ (c : Channel) (e : ℕ) (plain : c .iso Out e ≡ false) where
     seat : SamePlace (epOn (s .0) Out (c .number)) (epOn (x .1) Out (c .number))
 
   placed-by : (u : Bool) (s t : St) → LowEquiv c quiet s t
-      → Placed s t (cond {A = ℕ × Driver} u (epOn (s .0) Out e .«armed_slot», s .0) (epOn (s .0) Out e .base, withOn (s .0) Out e (armedAt (epOn (s .0) Out e) (epOn (s .0) Out e .base))))
-      (cond {A = ℕ × Driver} u (epOn (t .0) Out e .«armed_slot», t .0) (epOn (t .0) Out e .base, withOn (t .0) Out e (armedAt (epOn (t .0) Out e) (epOn (t .0) Out e .base))))
+      → Placed s t (cond {A = ℕ × Driver} u (epOn (s .0) Out e .«armed_slot», s .0) (
+        epOn (s .0) Out e .base,
+        withOn (s .0) Out e (armedAt (epOn (s .0) Out e) (epOn (s .0) Out e .base)),
+      ))
+      (cond {A = ℕ × Driver} u (epOn (t .0) Out e .«armed_slot», t .0) (
+        epOn (t .0) Out e .base,
+        withOn (t .0) Out e (armedAt (epOn (t .0) Out e) (epOn (t .0) Out e .base)),
+      ))
   unfolding withOn
-  placed-by true s t l = record { address = ap (λ (r : EpState). r .«armed_slot») (l .but .eps Out e (other (l .left))); but = l .but; seat = same-place (epOn (s .0) Out (c .number)) }
+  placed-by true s t l = record {
+    address = ap (λ (r : EpState). r .«armed_slot») (l .but .eps Out e (other (l .left)));
+    but = l .but;
+    seat = same-place (epOn (s .0) Out (c .number));
+  }
   placed-by false s t l =
       let n = other (l .left) in
       let h = l .but .eps Out e n in
@@ -85,18 +101,29 @@ module _ (c : Channel) (e : ℕ) (plain : c .iso Out e ≡ false) where
 
   placed : (s t : St) → LowEquiv c quiet s t → Placed s t (placeOn Out e (s .0)) (placeOn Out e (t .0))
   unfolding placeOn
-  placed s t l = subst (λ u. Placed s t (placeOn Out e (s .0)) (cond {A = ℕ × Driver} u (epOn (t .0) Out e .«armed_slot», t .0) (epOn (t .0) Out e .base, withOn (t .0) Out e (armedAt (epOn (t .0) Out e) (epOn (t .0) Out e .base)))))
+  placed s t l = subst (λ u. Placed s t (placeOn Out e (s .0)) (cond {A = ℕ × Driver} u (epOn (t .0) Out e .«armed_slot», t .0) (
+    epOn (t .0) Out e .base,
+    withOn (t .0) Out e (armedAt (epOn (t .0) Out e) (epOn (t .0) Out e .base)),
+  )))
       (ap (λ (g : Globals). isSet (isoOuts g) (e % 16)) (l .but .globals)) (placed-by (isSet (isoOuts (s .0 .globals)) (e % 16)) s t l)
 
-  places : (s t : St) → LowEquiv c quiet s t → (handOn (place Out e) s .0 ≡ handOn (place Out e) t .0) × LowEquiv c quiet (handOn (place Out e) s .1) (handOn (place Out e) t .1)
-  places s t l = let b = placed s t l in (b .address, like-made l (lawful-hand c (place Out e) (l .left)) (lawful-hand c (place Out e) (l .right)) (b .but) (b .seat) (l .bytes))
+  places : (s t : St) → LowEquiv c quiet s t → (handOn (place Out e) s .0 ≡ handOn (place Out e) t .0)
+      × LowEquiv c quiet (handOn (place Out e) s .1) (handOn (place Out e) t .1)
+  places s t l = let b = placed s t l in (
+    b .address,
+    like-made l (lawful-hand c (place Out e) (l .left)) (lawful-hand c (place Out e) (l .right)) (b .but) (b .seat) (l .bytes),
+  )
 
   module _ {st : ℕ} {i : Bool} where
     p-kept : (onn : Bool) → Pair c st {i = i} Any (bus.kept Out e false onn) (bus.kept Out e false onn)
-    p-kept onn = p-then (p-globals c (λ g _. p-then (p-assign c _) (p-write EpType 0 _))) (p-then (p-act (set-enabled Out e onn) (configures onn)) (p-globals c (λ g _. p-write EpConfig 0 _)))
+    p-kept onn = p-then (p-globals c (λ g _. p-then (p-assign c _) (p-write EpType 0 _)))
+        (p-then (p-act (set-enabled Out e onn) (configures onn)) (p-globals c (λ g _. p-write EpConfig 0 _)))
 
     p-enabled-out : (onn : Bool) → Pair c st {i = i} Any (bus.setEnabledOut e onn) (bus.setEnabledOut e onn)
-    p-enabled-out onn = p-then (p-act (reset-ring Out e) resets) (p-then (p-modify-ep c Out e _ (λ _. refl)) (p-then (p-hand (place Out e) (λ _. other-number) places) (p-then (p-write EpRxCtrl e _) (p-kept onn))))
+    p-enabled-out onn = p-then (p-act (reset-ring Out e) resets)
+        (p-then (p-modify-ep c Out e _ (λ _. refl))
+        (p-then (p-hand (place Out e) (λ _. other-number) places) (p-then (p-write EpRxCtrl e _) (p-kept onn))))
 
   pub p-set-enabled : {st : ℕ} (onn : Bool) → Pair c st Any (bus.setEnabled Out e onn) (bus.setEnabled Out e onn)
-  p-set-enabled onn = p-plain-any c Out e (λ s r _ _ f. p-then (p-test _ (λ h. absurd (true≢false (sym h ∙ f ∙ plain))) (λ _. p-enabled-out onn)) (p-wake c Out e))
+  p-set-enabled onn = p-plain-any c Out e
+      (λ s r _ _ f. p-then (p-test _ (λ h. absurd (true≢false (sym h ∙ f ∙ plain))) (λ _. p-enabled-out onn)) (p-wake c Out e))

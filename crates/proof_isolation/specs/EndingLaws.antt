@@ -11,7 +11,8 @@ use Rattle.proof_isolation.specs.Ending.{Finished, fin}
 pub record Brief {A : Type 0} (K : St → Type 0) (p : Script false A) : Type 0 where
   pub on : (s : St) → K s → Finished K (run concrete p s)
 
-fin-bind : {A B : Type 0} {K : St → Type 0} {o : tree.Out St A} {f : A → St → tree.Out St B} → Finished K o → ((a : A) (s : St) → K s → Finished K (f a s)) → Finished K (tree.bindOut o f)
+fin-bind : {A B : Type 0} {K : St → Type 0} {o : tree.Out St A} {f : A → St → tree.Out St B}
+    → Finished K o → ((a : A) (s : St) → K s → Finished K (f a s)) → Finished K (tree.bindOut o f)
 fin-bind (fin a k) h = h a _ k
 
 module _ {K : St → Type 0} where

@@ -40,7 +40,8 @@ len-mod d dir e i = ap (λ j. getD (d .lens) (key dir e * 16 + j) 0) (sym (mod-m
 
 pub len-any : (d d′ : Driver) (dir : Dir) (e i : ℕ) → lensOf d dir e ≡ lensOf d′ dir e → lenOn d dir e i ≡ lenOn d′ dir e i
 len-any d d′ dir e i h =
-    len-mod d dir e i ∙ sym (lens-at d dir e (i % 16) (omega arith)) ∙ ap (λ l. getD l (i % 16) 0) h ∙ lens-at d′ dir e (i % 16) (omega arith) ∙ sym (len-mod d′ dir e i)
+    len-mod d dir e i ∙ sym (lens-at d dir e (i % 16) (omega arith))
+    ∙ ap (λ l. getD l (i % 16) 0) h ∙ lens-at d′ dir e (i % 16) (omega arith) ∙ sym (len-mod d′ dir e i)
 
 pub next-same : (d d′ : Driver) (dir : Dir) (e : ℕ) → epOn d dir e ≡ epOn d′ dir e → lensOf d dir e ≡ lensOf d′ dir e → nextLen d dir e ≡ nextLen d′ dir e
 unfolding nextLen
@@ -51,7 +52,8 @@ next-same d d′ dir e h l =
 pub on-seat : (x : ℕ) (d : Driver) (dir : Dir) (e : ℕ) (r : EpState) → key dir e ≢ key Out x → SamePlace (epOn d Out x) (epOn (withOn d dir e r) Out x)
 on-seat x d dir e r n = rw (epOn-other d dir e r Out x (λ z. n (sym z))) (same-place (epOn d Out x))
 
-pub cond-seat : (x : ℕ) (r : EpState) (u : Bool) (a b : Driver) → SamePlace r (epOn a Out x) → SamePlace r (epOn b Out x) → SamePlace r (epOn (cond u a b) Out x)
+pub cond-seat : (x : ℕ) (r : EpState) (u : Bool) (a b : Driver)
+    → SamePlace r (epOn a Out x) → SamePlace r (epOn b Out x) → SamePlace r (epOn (cond u a b) Out x)
 cond-seat x r true a b p q = p
 cond-seat x r false a b p q = q
 
@@ -59,7 +61,13 @@ cond-seat x r false a b p q = q
 
 word-same : (b c : List ℕ) (at : ℕ) → length c ≡ length b → Same at (at + 4) b c → wordAt c at ≡ wordAt b at
 unfolding wordAt
-word-same b c at long s = rw (long, s at (omega arith) (omega arith), s (at + 1) (omega arith) (omega arith), s (at + 2) (omega arith) (omega arith), s (at + 3) (omega arith) (omega arith)) refl
+word-same b c at long s = rw (
+  long,
+  s at (omega arith) (omega arith),
+  s (at + 1) (omega arith) (omega arith),
+  s (at + 2) (omega arith) (omega arith),
+  s (at + 3) (omega arith) (omega arith),
+) refl
 
 size-least : (n : ℕ) → goodSize n ≡ true → 8 ≤ n
 size-least = each-size (λ n. 8 ≤ n) (omega arith) (omega arith) (omega arith) (omega arith) (omega arith) (omega arith)
@@ -86,16 +94,20 @@ module _ (c : Channel) where
   completes e s t l =
       let n = in-other (c .number) e in
       like-made l (lawful-act c (complete e) refl (l .left)) (lawful-act c (complete e) refl (l .right))
-      (but-on (l .but) (l .left .rest .sized) (l .right .rest .sized) In e _ _ (λ _. ap (λ r. unloadedOf (completedOf r)) (l .but .eps In e n)) (λ p. absurd (n p)))
+      (but-on (l .but) (l .left .rest .sized) (l .right .rest .sized) In e _ _
+      (λ _. ap (λ r. unloadedOf (completedOf r)) (l .but .eps In e n)) (λ p. absurd (n p)))
       (on-seat (c .number) (s .0) In e _ n) (l .bytes)
 
-  pub sends : (e : ℕ) (s t : St) → LowEquiv c quiet s t → (handOn (send e) s .0 ≡ handOn (send e) t .0) × LowEquiv c quiet (handOn (send e) s .1) (handOn (send e) t .1)
+  pub sends : (e : ℕ) (s t : St) → LowEquiv c quiet s t
+      → (handOn (send e) s .0 ≡ handOn (send e) t .0) × LowEquiv c quiet (handOn (send e) s .1) (handOn (send e) t .1)
   unfolding sendAddr sendOn
   sends e s t l =
       let n = in-other (c .number) e in
       let h = l .but .eps In e n in (
         ap (λ (r : EpState). slotAddr r (r .tail)) h,
         like-made l (lawful-hand c (send e) (l .left)) (lawful-hand c (send e) (l .right))
-            (but-cond _ _ (ap hasWaiting h) (but-on (l .but) (l .left .rest .sized) (l .right .rest .sized) In e _ _ (λ _. ap loadedOf h) (λ p. absurd (n p))) (l .but))
-            (cond-seat (c .number) (epOn (s .0) Out (c .number)) (hasWaiting (epOn (s .0) In e)) _ _ (on-seat (c .number) (s .0) In e _ n) (same-place (epOn (s .0) Out (c .number)))) (l .bytes),
+            (but-cond _ _ (ap hasWaiting h)
+            (but-on (l .but) (l .left .rest .sized) (l .right .rest .sized) In e _ _ (λ _. ap loadedOf h) (λ p. absurd (n p))) (l .but))
+            (cond-seat (c .number) (epOn (s .0) Out (c .number)) (hasWaiting (epOn (s .0) In e)) _ _
+            (on-seat (c .number) (s .0) In e _ n) (same-place (epOn (s .0) Out (c .number)))) (l .bytes),
       )

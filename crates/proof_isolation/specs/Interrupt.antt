@@ -26,7 +26,9 @@ use Rattle.model.specs.Cells.{EpCore, globals-cell, ep-cell}
 use Rattle.model.specs.Script.{Script, run, ret, bind, test, done, _>>=_, _>>_, read, get, look, changed, marked, arrive, setup-word}
 use Rattle.model.specs.Statics.{isOn, isoOuts, withReady}
 use Rattle.model.specs.IsoOut.{arriving, entry, arrives, checkOne, checkWalk, isoOutCheck}
-use Rattle.model.specs.Handler.{sieWait, nakNonIso, outNaks, inNaks, sameOut, lateTaken, waited, retaken, released, waitsForIso, waitsForBulk, retake, settle, isoFor, ownIn, received, outArm, inArm, dispatch, served, framed, onTransfer, onSetup, onInterrupt, stampedInterrupt}
+use Rattle.model.specs.Handler.{sieWait, nakNonIso, outNaks, inNaks, sameOut, lateTaken, waited, retaken, released}
+use Rattle.model.specs.Handler.{waitsForIso, waitsForBulk, retake, settle, isoFor, ownIn, received, outArm, inArm}
+use Rattle.model.specs.Handler.{dispatch, served, framed, onTransfer, onSetup, onInterrupt, stampedInterrupt}
 use Rattle.model.specs.Calls.{interruptCode}
 use Rattle.model.specs.SortsWalks.{among-outs}
 use Rattle.model_ops.specs.Rings.{St}
@@ -34,14 +36,16 @@ use Rattle.model_ops.specs.Concrete.{concrete}
 use Rattle.proof_isolation.specs.EqualExcept.{Channel}
 use Rattle.proof_isolation.specs.Whose.{sof}
 use Rattle.proof_isolation.specs.Apart.{Next, next, PairBy, Pair}
-use Rattle.proof_isolation.specs.Pairs.{Any, p-ret, p-bind, p-same, p-then, p-before-then, p-test, p-tests, p-bind-test, p-when, p-read, p-write, p-is, p-look, p-hand}
+use Rattle.proof_isolation.specs.Pairs.{Any, p-ret, p-bind, p-same, p-then, p-before-then, p-test, p-tests}
+use Rattle.proof_isolation.specs.Pairs.{p-bind-test, p-when, p-read, p-write, p-is, p-look, p-hand}
 use Rattle.proof_isolation.specs.Answers.{SameAnswer}
 use Rattle.proof_isolation.specs.AnswersLaws.{p-staged, p-resultless}
 use Rattle.proof_isolation.specs.Values.{p-modify, p-modify-ep, p-wake, p-wake-bus, p-globals, p-plain-in, p-plain-any}
 use Rattle.proof_isolation.specs.InRings.{setup-same}
 use Rattle.proof_isolation.specs.OutRings.{changed-same, marked-len-same, arrives-same}
 use Rattle.proof_isolation.specs.OwnSteps.{p-own-check}
-use Rattle.proof_isolation.specs.Walks.{p-reads, p-status, p-modify-reg, p-int-en, p-sof, p-late-walk, p-sie-wait, p-nak, p-toggled, p-sof-arm, p-iso-in, p-sent, p-ep0-moved}
+use Rattle.proof_isolation.specs.Walks.{p-reads, p-status, p-modify-reg, p-int-en, p-sof, p-late-walk, p-sie-wait}
+use Rattle.proof_isolation.specs.Walks.{p-nak, p-toggled, p-sof-arm, p-iso-in, p-sent, p-ep0-moved}
 
 -- ---- the transfer that is served: its length, and whether it is the packet's, may differ where the status shows OUT for the channel
 
@@ -95,8 +99,10 @@ abbrev Lengths : ℕ → ℕ → ℕ → ℕ → Bool → Bool → Type 0
 Lengths x st n n′ o o′ = arriving st x ≡ false → (n ≡ n′) × (o ≡ o′)
 
 module _ (x st : ℕ) (busy late : Bool) (n n′ : ℕ) (o o′ : Bool) (h : Lengths x st n n′ o o′) where
-  entry-same : (iso : Bool) (e : ℕ) → e ≢ x → (u : Bool) → arriving st x ≡ u → entry (transferOf busy st late n o) iso e ≡ entry (transferOf busy st late n′ o′) iso e
-  entry-same iso e m true w = no-entry (transferOf busy st late n o) iso e (arriving-other st x e m w) ∙ sym (no-entry (transferOf busy st late n′ o′) iso e (arriving-other st x e m w))
+  entry-same : (iso : Bool) (e : ℕ) → e ≢ x → (u : Bool)
+      → arriving st x ≡ u → entry (transferOf busy st late n o) iso e ≡ entry (transferOf busy st late n′ o′) iso e
+  entry-same iso e m true w = no-entry (transferOf busy st late n o) iso e (arriving-other st x e m w)
+      ∙ sym (no-entry (transferOf busy st late n′ o′) iso e (arriving-other st x e m w))
   entry-same iso e m false w = ap (λ k. entry (transferOf busy st late k o) iso e) (h w .0) ∙ ap (λ k. entry (transferOf busy st late n′ k) iso e) (h w .1)
 
   len-used : (iso : Bool) (e : ℕ) → e ≢ x → (u : Bool) → arriving st x ≡ u → entry (transferOf busy st late n o) iso e ≡ true → n ≡ n′
@@ -130,7 +136,8 @@ other-number : (c : Channel) (e : ℕ) → key Out e ≢ key Out (c .number) →
 other-number c e k = ne-eqb e (c .number) (λ z. k (ap (λ a. key Out a) z))
 
 -- with a status that shows no OUT the receive address of another endpoint is next
-check-next : (c : Channel) (e : ℕ) → key Out e ≢ key Out (c .number) → (s : St) → Next (c .number) (run {i = true} concrete (test (arriving sof e) done (look (marked e) >>= λ n. arrives e n)) s)
+check-next : (c : Channel) (e : ℕ) → key Out e ≢ key Out (c .number) → (s : St)
+    → Next (c .number) (run {i = true} concrete (test (arriving sof e) done (look (marked e) >>= λ n. arrives e n)) s)
 unfolding arriving isOut token tokenNumbered
 check-next c e k s = next (other-number c e k)
 
@@ -141,35 +148,44 @@ module _ {c : Channel} {st : ℕ} where
   p-arrives e n k = p-then (p-hand (arrive e n) (λ _. other-number c e k) (arrives-same c e n k)) (p-wake c Out e)
 
   -- of another endpoint
-  p-check : (y y′ : Transfer) (iso : Bool) (e : ℕ) → key Out e ≢ key Out (c .number) → c .iso Out e ≡ true → entry y iso e ≡ entry y′ iso e → (entry y iso e ≡ true → y .len ≡ y′ .len)
+  p-check : (y y′ : Transfer) (iso : Bool) (e : ℕ) → key Out e ≢ key Out (c .number)
+      → c .iso Out e ≡ true → entry y iso e ≡ entry y′ iso e → (entry y iso e ≡ true → y .len ≡ y′ .len)
       → Pair c st {i = true} Any (checkOne y iso e) (checkOne y′ iso e)
   p-check y y′ iso e k f same len = p-same (p-is (changed e) (changed-same c e k f)) (λ b. p-when b (λ _. p-tests same
       (λ w. subst (λ n. Pair c st {i = true} Any (arrives e (y .len)) (arrives e n)) (len w) (p-arrives e (y .len) k))
-      (λ _. p-status (check-next c e k) (check-next c e k) (p-test _ (λ _. p-ret tt) (λ _. p-same (p-look (marked e) (marked-len-same c e k f)) (λ n. p-arrives e n k))))))
+      (λ _. p-status (check-next c e k) (check-next c e k)
+      (p-test _ (λ _. p-ret tt) (λ _. p-same (p-look (marked e) (marked-len-same c e k f)) (λ n. p-arrives e n k))))))
 
   module _ (busy late : Bool) (n n′ : ℕ) (o o′ : Bool) (h : Lengths (c .number) st n n′ o o′) (iso : Bool) where
-    p-check-other : (e : ℕ) → e ≢ c .number → (e < 16) × (c .iso Out e ≡ true) → Pair c st {i = true} Any (checkOne (transferOf busy st late n o) iso e) (checkOne (transferOf busy st late n′ o′) iso e)
+    p-check-other : (e : ℕ) → e ≢ c .number → (e < 16) × (c .iso Out e ≡ true)
+        → Pair c st {i = true} Any (checkOne (transferOf busy st late n o) iso e) (checkOne (transferOf busy st late n′ o′) iso e)
     p-check-other e p z = p-check _ _ iso e (other-key (c .number) e (c .below) (z .0) p) (z .1)
-        (entry-same (c .number) st busy late n n′ o o′ h iso e p (arriving st (c .number)) refl) (len-used (c .number) st busy late n n′ o o′ h iso e p (arriving st (c .number)) refl)
+        (entry-same (c .number) st busy late n n′ o o′ h iso e p (arriving st (c .number)) refl)
+        (len-used (c .number) st busy late n n′ o o′ h iso e p (arriving st (c .number)) refl)
 
     -- past the channel's number
     p-later-walk : (i : ℕ) → c .number < i → (es : List ℕ) → walk-laws.Rising i es → ((e : ℕ) → walk-laws.In e es → (e < 16) × (c .iso Out e ≡ true))
         → Pair c st {i = true} Any (checkWalk (transferOf busy st late n o) iso es) (checkWalk (transferOf busy st late n′ o′) iso es)
     unfolding checkWalk
     p-later-walk i l [] r f = p-ret tt
-    p-later-walk i l (e ∷ es) r f = p-then (p-check-other e (λ z. absurd (omega (arith, l, r .0, z))) (f e (inl refl))) (p-later-walk (suc e) (omega (arith, l, r .0)) es (r .1) (λ a m. f a (inr m)))
+    p-later-walk i l (e ∷ es) r f = p-then (p-check-other e (λ z. absurd (omega (arith, l, r .0, z))) (f e (inl refl)))
+        (p-later-walk (suc e) (omega (arith, l, r .0)) es (r .1) (λ a m. f a (inr m)))
 
     p-check-walk : (i : ℕ) (es : List ℕ) → walk-laws.Rising i es → ((e : ℕ) → walk-laws.In e es → (e < 16) × (c .iso Out e ≡ true))
         → PairBy c st true {i = true} Any (checkWalk (transferOf busy st late n o) iso es) (checkWalk (transferOf busy st late n′ o′) iso es)
     unfolding checkWalk
     p-check-walk i [] r f = p-ret tt
     p-check-walk i (e ∷ es) r f = elim (ℕ-discrete e (c .number)) [
-      | yes p ↦ subst (λ k. PairBy c st true {i = true} Any (checkOne (transferOf busy st late n o) iso k >> checkWalk (transferOf busy st late n o) iso es) (checkOne (transferOf busy st late n′ o′) iso k >> checkWalk (transferOf busy st late n′ o′) iso es)) (sym p)
-          (p-own-check (transferOf busy st late n o) (transferOf busy st late n′ o′) iso (p-later-walk (suc e) (omega (arith, p)) es (r .1) (λ a m. f a (inr m))))
+      | yes p ↦ subst
+          (λ k. PairBy c st true {i = true} Any (checkOne (transferOf busy st late n o) iso k >> checkWalk (transferOf busy st late n o) iso es)
+          (checkOne (transferOf busy st late n′ o′) iso k >> checkWalk (transferOf busy st late n′ o′) iso es)) (sym p)
+          (p-own-check (transferOf busy st late n o) (transferOf busy st late n′ o′) iso
+          (p-later-walk (suc e) (omega (arith, p)) es (r .1) (λ a m. f a (inr m))))
       | no p ↦ p-then (p-check-other e p (f e (inl refl))) (p-check-walk (suc e) es (r .1) (λ a m. f a (inr m)))
     ]
 
-  p-iso-out : (busy late : Bool) (n n′ : ℕ) (o o′ : Bool) → Lengths (c .number) st n n′ o o′ → (iso : Bool) → PairBy c st true {i = true} Any (isoOutCheck (transferOf busy st late n o) iso) (isoOutCheck (transferOf busy st late n′ o′) iso)
+  p-iso-out : (busy late : Bool) (n n′ : ℕ) (o o′ : Bool) → Lengths (c .number) st n n′ o o′ → (iso : Bool)
+      → PairBy c st true {i = true} Any (isoOutCheck (transferOf busy st late n o) iso) (isoOutCheck (transferOf busy st late n′ o′) iso)
   p-iso-out busy late n n′ o o′ h iso = p-globals c (λ g s. p-check-walk busy late n n′ o o′ h iso 0 (setBits (isoOuts g)) (walk-rises (isoOuts g))
       (λ e m. let w = walked-set (isoOuts g) e m in (w .0, among-outs (c .iso Out) g (s .0) e (w .0) (w .1))))
 
@@ -189,20 +205,26 @@ module _ {c : Channel} {st : ℕ} where
       (λ _. p-same (p-toggled In _) (λ b. p-when b (λ _. p-sent _))))
 
   -- where the lengths may differ the endpoint is isochronous, and its length is not used here
-  p-out : (busy late : Bool) (n n′ : ℕ) (o o′ : Bool) → Lengths (c .number) st n n′ o o′ → (iso : Bool) → (u : Bool) → arriving st (c .number) ≡ u → (arriving st (c .number) ≡ true → iso ≡ true)
+  p-out : (busy late : Bool) (n n′ : ℕ) (o o′ : Bool) → Lengths (c .number) st n n′ o o′
+      → (iso : Bool) → (u : Bool) → arriving st (c .number) ≡ u → (arriving st (c .number) ≡ true → iso ≡ true)
       → Pair c st {i = true} Any (outArm (transferOf busy st late n o) iso) (outArm (transferOf busy st late n′ o′) iso)
   p-out busy late n n′ o o′ h iso true w sure =
-      subst (λ z. Pair c st {i = true} Any (outArm (transferOf busy st late n o) z) (outArm (transferOf busy st late n′ o′) z)) (sym (sure w)) (p-test true (λ _. p-ret tt) (λ z. absurd (true≢false z)))
-  p-out busy late n n′ o o′ h iso false w sure = subst (λ k. Pair c st {i = true} Any (outArm (transferOf busy st late n o) iso) (outArm (transferOf busy st late k o′) iso)) (h w .0) (p-out-arm (transferOf busy st late n o) iso)
+      subst (λ z. Pair c st {i = true} Any (outArm (transferOf busy st late n o) z) (outArm (transferOf busy st late n′ o′) z))
+      (sym (sure w)) (p-test true (λ _. p-ret tt) (λ z. absurd (true≢false z)))
+  p-out busy late n n′ o o′ h iso false w sure =
+      subst (λ k. Pair c st {i = true} Any (outArm (transferOf busy st late n o) iso) (outArm (transferOf busy st late k o′) iso))
+      (h w .0) (p-out-arm (transferOf busy st late n o) iso)
 
-  p-dispatch : (t : Token) (busy late : Bool) (n n′ : ℕ) (o o′ : Bool) → Lengths (c .number) st n n′ o o′ → (iso : Bool) → (arriving st (c .number) ≡ true → iso ≡ true) → (frame : ℕ)
+  p-dispatch : (t : Token) (busy late : Bool) (n n′ : ℕ) (o o′ : Bool)
+      → Lengths (c .number) st n n′ o o′ → (iso : Bool) → (arriving st (c .number) ≡ true → iso ≡ true) → (frame : ℕ)
       → Pair c st {i = true} Any (dispatch t (transferOf busy st late n o) iso frame) (dispatch t (transferOf busy st late n′ o′) iso frame)
   p-dispatch tok.Sof busy late n n′ o o′ h iso sure frame = p-sof-arm frame
   p-dispatch tok.Out busy late n n′ o o′ h iso sure frame = p-out busy late n n′ o o′ h iso (arriving st (c .number)) refl sure
   p-dispatch tok.In busy late n n′ o o′ h iso sure frame = p-in-arm (transferOf busy st late n o) iso frame
   p-dispatch tok.Setup busy late n n′ o o′ h iso sure frame = p-ret tt
 
-  p-served : (busy late : Bool) (n n′ : ℕ) (o o′ : Bool) → Lengths (c .number) st n n′ o o′ → (iso : Bool) → (arriving st (c .number) ≡ true → iso ≡ true) → (frame : ℕ)
+  p-served : (busy late : Bool) (n n′ : ℕ) (o o′ : Bool)
+      → Lengths (c .number) st n n′ o o′ → (iso : Bool) → (arriving st (c .number) ≡ true → iso ≡ true) → (frame : ℕ)
       → PairBy c st true {i = true} Any (served (transferOf busy st late n o) iso frame) (served (transferOf busy st late n′ o′) iso frame)
   p-served busy late n n′ o o′ h iso sure frame = p-globals c (λ g _.
       p-then (p-when _ (λ _. p-sof frame))
@@ -211,8 +233,10 @@ module _ {c : Channel} {st : ℕ} where
       (p-before-then (p-when _ (λ _. p-iso-out busy late n n′ o o′ h iso))
       (p-when _ (λ _. p-ep0-moved (token st)))))))
 
-  p-framed : (u : Bool) (busy late : Bool) (n n′ : ℕ) (o o′ : Bool) → Lengths (c .number) st n n′ o o′ → (iso : Bool) → (arriving st (c .number) ≡ true → iso ≡ true) → (frame : ℕ)
-      → PairBy c st true {i = true} Any (served (cond u (released (transferOf busy st late n o)) (transferOf busy st late n o)) iso frame) (served (cond u (released (transferOf busy st late n′ o′)) (transferOf busy st late n′ o′)) iso frame)
+  p-framed : (u : Bool) (busy late : Bool) (n n′ : ℕ) (o o′ : Bool)
+      → Lengths (c .number) st n n′ o o′ → (iso : Bool) → (arriving st (c .number) ≡ true → iso ≡ true) → (frame : ℕ)
+      → PairBy c st true {i = true} Any (served (cond u (released (transferOf busy st late n o)) (transferOf busy st late n o)) iso frame)
+      (served (cond u (released (transferOf busy st late n′ o′)) (transferOf busy st late n′ o′)) iso frame)
   p-framed true busy late n n′ o o′ h iso sure frame = p-served false late n n′ o o′ h iso sure frame
   p-framed false busy late n n′ o o′ h iso sure frame = p-served busy late n n′ o o′ h iso sure frame
 
@@ -221,55 +245,82 @@ module _ {c : Channel} {st : ℕ} where
   -- goes on with two such transfers
   p-transfer : {m : Bool} {C D : Type 0} {Q : C → D → Type 0} {p p′ : Script true Transfer} {f : Transfer → Script true C} {g : Transfer → Script true D}
       → Pair c st (SameTransfer (c .number) st) p p′
-      → ((busy late : Bool) (n n′ : ℕ) (o o′ : Bool) → Lengths (c .number) st n n′ o o′ → PairBy c st m Q (f (transferOf busy st late n o)) (g (transferOf busy st late n′ o′)))
+      → ((busy late : Bool) (n n′ : ℕ) (o o′ : Bool) → Lengths (c .number) st n n′ o o′
+      → PairBy c st m Q (f (transferOf busy st late n o)) (g (transferOf busy st late n′ o′)))
       → PairBy c st m Q (bind p f) (bind p′ g)
   p-transfer {m} {Q = Q} {f = f} {g = g} h k = p-bind h (λ a b e.
       subst (λ w. PairBy c st m Q (f (transferOf (a .busy) w (a .late) (a .len) (a .«len_ok»))) (g b)) (sym (e .status))
-      (subst (λ w. PairBy c st m Q (f (transferOf (a .busy) st (a .late) (a .len) (a .«len_ok»))) (g (transferOf (b .busy) w (b .late) (b .len) (b .«len_ok»)))) (sym (e .status′))
-      (subst (λ w. PairBy c st m Q (f (transferOf (a .busy) st (a .late) (a .len) (a .«len_ok»))) (g (transferOf w st (b .late) (b .len) (b .«len_ok»)))) (e .busy)
-      (subst (λ w. PairBy c st m Q (f (transferOf (a .busy) st (a .late) (a .len) (a .«len_ok»))) (g (transferOf (a .busy) st w (b .len) (b .«len_ok»)))) (e .late)
+      (subst (λ w. PairBy c st m Q (f (transferOf (a .busy) st (a .late) (a .len) (a .«len_ok»)))
+      (g (transferOf (b .busy) w (b .late) (b .len) (b .«len_ok»)))) (sym (e .status′))
+      (subst (λ w. PairBy c st m Q (f (transferOf (a .busy) st (a .late) (a .len) (a .«len_ok»)))
+      (g (transferOf w st (b .late) (b .len) (b .«len_ok»)))) (e .busy)
+      (subst (λ w. PairBy c st m Q (f (transferOf (a .busy) st (a .late) (a .len) (a .«len_ok»)))
+      (g (transferOf (a .busy) st w (b .len) (b .«len_ok»)))) (e .late)
       (k (a .busy) (a .late) (a .len) (b .len) (a .«len_ok») (b .«len_ok») (e .others))))))
 
   p-bind-plain-in : {m : Bool} {T C D : Type 0} {Q : C → D → Type 0} (e : ℕ) {h h′ : EpCore → Script true T} {f : T → Script true C} {g : T → Script true D}
-      → ((p : EpCore) → PairBy c st m Q (bind (h p) f) (bind (h′ p) g)) → PairBy c st m Q (bind (bind (get (ep-cell In e)) h) f) (bind (bind (get (ep-cell In e)) h′) g)
+      → ((p : EpCore) → PairBy c st m Q (bind (h p) f) (bind (h′ p) g))
+      → PairBy c st m Q (bind (bind (get (ep-cell In e)) h) f) (bind (bind (get (ep-cell In e)) h′) g)
   p-bind-plain-in e {h} {h′} {f} {g} k = record { on = λ s t l. p-plain-in c e {f = λ p. bind (h p) f} {g = λ p. bind (h′ p) g} (λ p _. k p) .on s t l }
 
-  p-bind-plain-any : {m : Bool} {T C D : Type 0} {Q : C → D → Type 0} (dir : Dir) (e : ℕ) {h h′ : EpCore → Script true T} {f : T → Script true C} {g : T → Script true D}
-      → ((p : EpCore) (r : ℕ) → PairBy c st m Q (bind (h p) f) (bind (h′ (withReady r p)) g)) → PairBy c st m Q (bind (bind (get (ep-cell dir e)) h) f) (bind (bind (get (ep-cell dir e)) h′) g)
-  p-bind-plain-any dir e {h} {h′} {f} {g} k = record { on = λ s t l. p-plain-any c dir e {f = λ p. bind (h p) f} {g = λ p. bind (h′ p) g} (λ p r _ _ _. k p r) .on s t l }
+  p-bind-plain-any : {m : Bool} {T C D : Type 0} {Q : C → D → Type 0}
+      (dir : Dir) (e : ℕ) {h h′ : EpCore → Script true T} {f : T → Script true C} {g : T → Script true D}
+      → ((p : EpCore) (r : ℕ) → PairBy c st m Q (bind (h p) f) (bind (h′ (withReady r p)) g))
+      → PairBy c st m Q (bind (bind (get (ep-cell dir e)) h) f) (bind (bind (get (ep-cell dir e)) h′) g)
+  p-bind-plain-any dir e {h} {h′} {f} {g} k = record {
+    on = λ s t l. p-plain-any c dir e {f = λ p. bind (h p) f} {g = λ p. bind (h′ p) g} (λ p r _ _ _. k p r) .on s t l;
+  }
 
   -- what goes on after it, f and g: with a status that shows no OUT it does not begin with the channel's receive address
   module _ {m : Bool} {C D : Type 0} {Q : C → D → Type 0} (f : Transfer → Script true C) (g : Transfer → Script true D)
       (nf : (y : Transfer) (s : St) → Next (c .number) (run concrete (f y) s)) (ng : (y : Transfer) (s : St) → Next (c .number) (run concrete (g y) s))
-      (k : (busy late : Bool) (n n′ : ℕ) (o o′ : Bool) → Lengths (c .number) st n n′ o o′ → PairBy c st m Q (f (transferOf busy st late n o)) (g (transferOf busy st late n′ o′))) where
-    p-retake : (busy late : Bool) (n n′ : ℕ) (o o′ : Bool) → Lengths (c .number) st n n′ o o′ → PairBy c st m Q (bind (retake (transferOf busy st late n o)) f) (bind (retake (transferOf busy st late n′ o′)) g)
+      (k : (busy late : Bool) (n n′ : ℕ) (o o′ : Bool) → Lengths (c .number) st n n′ o o′
+      → PairBy c st m Q (f (transferOf busy st late n o)) (g (transferOf busy st late n′ o′))) where
+    p-retake : (busy late : Bool) (n n′ : ℕ) (o o′ : Bool) → Lengths (c .number) st n n′ o o′
+        → PairBy c st m Q (bind (retake (transferOf busy st late n o)) f) (bind (retake (transferOf busy st late n′ o′)) g)
     unfolding outNaks inNaks isOut isIn token tokenNumbered
     p-retake busy late n n′ o o′ h = record { on = λ s t l. free .on s t l }
       where
         served-as : PairBy c st m Q (bind (ret (transferOf busy st late n o)) f) (bind (ret (transferOf busy st late n′ o′)) g)
         served-as = record { on = λ s t l. k busy late n n′ o o′ h .on s t l }
 
-        again : PairBy c st m Q (bind (read IntSt 0) (λ v. bind (nakNonIso v >> ret (retaken (transferOf busy st late n o) v)) f)) (bind (read IntSt 0) (λ v. bind (nakNonIso v >> ret (retaken (transferOf busy st late n′ o′) v)) g))
+        again : PairBy c st m Q (bind (read IntSt 0) (λ v. bind (nakNonIso v >> ret (retaken (transferOf busy st late n o) v)) f))
+            (bind (read IntSt 0) (λ v. bind (nakNonIso v >> ret (retaken (transferOf busy st late n′ o′) v)) g))
         again = p-status (λ s. nf _ s) (λ s. ng _ s)
             (p-transfer (p-then (p-nak st) (p-ret (record { status = refl; status′ = refl; busy = refl; late = refl; others = λ w. (h w .0, refl) }))) k)
 
-        flagged : (v : ℕ) → PairBy c st m Q (bind (test (transfer v) (ret (transferOf busy st late n o)) (read IntSt 0 >>= λ w. nakNonIso w >> ret (retaken (transferOf busy st late n o) w))) f)
-            (bind (test (transfer v) (ret (transferOf busy st late n′ o′)) (read IntSt 0 >>= λ w. nakNonIso w >> ret (retaken (transferOf busy st late n′ o′) w))) g)
+        flagged : (v : ℕ) → PairBy c st m Q
+            (bind (test (transfer v) (ret (transferOf busy st late n o))
+            (read IntSt 0 >>= λ w. nakNonIso w >> ret (retaken (transferOf busy st late n o) w))) f)
+            (bind (test (transfer v) (ret (transferOf busy st late n′ o′))
+            (read IntSt 0 >>= λ w. nakNonIso w >> ret (retaken (transferOf busy st late n′ o′) w))) g)
         flagged v = p-bind-test (transfer v) (λ _. served-as) (λ _. record { on = λ s t l. again .on s t l })
 
-        free : PairBy c st m Q (bind (read MisSt 0) (λ m. bind (test (sieFree m) (read IntFg 0 >>= λ v. test (transfer v) (ret (transferOf busy st late n o)) (read IntSt 0 >>= λ w. nakNonIso w >> ret (retaken (transferOf busy st late n o) w))) (ret (transferOf busy st late n o))) f))
-            (bind (read MisSt 0) (λ m. bind (test (sieFree m) (read IntFg 0 >>= λ v. test (transfer v) (ret (transferOf busy st late n′ o′)) (read IntSt 0 >>= λ w. nakNonIso w >> ret (retaken (transferOf busy st late n′ o′) w))) (ret (transferOf busy st late n′ o′))) g))
-        free = p-reads MisSt 0 (λ v v′ e. e) (λ m. p-bind-test (sieFree m) (λ _. record { on = λ s t l. p-reads IntFg 0 (λ v v′ e. e) flagged .on s t l }) (λ _. served-as))
+        free : PairBy c st m Q
+            (bind (read MisSt 0)
+            (λ m. bind (test (sieFree m) (read IntFg 0 >>= λ v. test (transfer v) (ret (transferOf busy st late n o))
+            (read IntSt 0 >>= λ w. nakNonIso w >> ret (retaken (transferOf busy st late n o) w))) (ret (transferOf busy st late n o))) f))
+            (bind (read MisSt 0)
+            (λ m. bind (test (sieFree m) (read IntFg 0 >>= λ v. test (transfer v) (ret (transferOf busy st late n′ o′)) (read IntSt 0
+            >>= λ w. nakNonIso w >> ret (retaken (transferOf busy st late n′ o′) w))) (ret (transferOf busy st late n′ o′))) g))
+        free = p-reads MisSt 0 (λ v v′ e. e) (λ m. p-bind-test (sieFree m) (λ _. record {
+          on = λ s t l. p-reads IntFg 0 (λ v v′ e. e) flagged .on s t l;
+        }) (λ _. served-as))
 
-    p-settle : (busy late : Bool) (n n′ : ℕ) (o o′ : Bool) → Lengths (c .number) st n n′ o o′ → PairBy c st m Q (bind (settle (transferOf busy st late n o)) f) (bind (settle (transferOf busy st late n′ o′)) g)
+    p-settle : (busy late : Bool) (n n′ : ℕ) (o o′ : Bool) → Lengths (c .number) st n n′ o o′
+        → PairBy c st m Q (bind (settle (transferOf busy st late n o)) f) (bind (settle (transferOf busy st late n′ o′)) g)
     unfolding sameOut waitsForIso waitsForBulk
     p-settle busy late n n′ o o′ h = p-bind-plain-any Out (endpoint st) (λ p r. p-bind-plain-in (endpoint st) (λ q. waits p q))
       where
         waits : (p q : EpCore) → PairBy c st m Q
-            (bind (test (waitsForIso (transferOf busy st late n o) p) (sieWait >> (read IntSt 0 >>= λ now. read RxLen 0 >>= λ len. ret (lateTaken (transferOf busy st late n o) now len)))
-            (test (waitsForBulk (transferOf busy st late n o) q) (sieWait >> (read RxLen 0 >>= λ len. ret (waited (transferOf busy st late n o) len))) (test busy (retake (transferOf busy st late n o)) (ret (transferOf busy st late n o))))) f)
-            (bind (test (waitsForIso (transferOf busy st late n′ o′) p) (sieWait >> (read IntSt 0 >>= λ now. read RxLen 0 >>= λ len. ret (lateTaken (transferOf busy st late n′ o′) now len)))
-            (test (waitsForBulk (transferOf busy st late n′ o′) q) (sieWait >> (read RxLen 0 >>= λ len. ret (waited (transferOf busy st late n′ o′) len))) (test busy (retake (transferOf busy st late n′ o′)) (ret (transferOf busy st late n′ o′))))) g)
+            (bind (test (waitsForIso (transferOf busy st late n o) p)
+            (sieWait >> (read IntSt 0 >>= λ now. read RxLen 0 >>= λ len. ret (lateTaken (transferOf busy st late n o) now len)))
+            (test (waitsForBulk (transferOf busy st late n o) q) (sieWait >> (read RxLen 0 >>= λ len. ret (waited (transferOf busy st late n o) len)))
+            (test busy (retake (transferOf busy st late n o)) (ret (transferOf busy st late n o))))) f)
+            (bind (test (waitsForIso (transferOf busy st late n′ o′) p)
+            (sieWait >> (read IntSt 0 >>= λ now. read RxLen 0 >>= λ len. ret (lateTaken (transferOf busy st late n′ o′) now len)))
+            (test (waitsForBulk (transferOf busy st late n′ o′) q) (sieWait >> (read RxLen 0 >>= λ len. ret (waited (transferOf busy st late n′ o′) len)))
+            (test busy (retake (transferOf busy st late n′ o′)) (ret (transferOf busy st late n′ o′))))) g)
         waits p q = p-bind-test _
             (λ _. p-transfer (p-then p-sie-wait (p-status (λ s. next refl) (λ s. next refl) (p-bind (p-read RxLen 0 refl) (λ v v′ r. p-ret (record {
               status = refl;
@@ -295,15 +346,19 @@ module _ {c : Channel} {st : ℕ} where
       (p-then (p-write IntFg 0 _)
       (p-settle _ _ (λ y s. next refl) (λ y s. next refl) (λ busy late k k′ o o′ l.
       p-plain-any c Out (endpoint st) (λ p r _ _ s. p-plain-in c (endpoint st) (λ q _.
-      subst (λ u. PairBy c st true {i = true} Any (after-plain (transferOf busy st late k o) (isoFor (token st) p q)) (after-plain (transferOf busy st late k′ o′) u)) (sym (iso-ready (token st) p q r))
+      subst
+      (λ u. PairBy c st true {i = true} Any (after-plain (transferOf busy st late k o) (isoFor (token st) p q))
+      (after-plain (transferOf busy st late k′ o′) u)) (sym (iso-ready (token st) p q r))
       (p-reads FrameNo 0 (λ v v′ e. e) (λ frame. p-globals c (λ g _.
-      p-framed (ownIn (transferOf busy st late k o) (isoFor (token st) p q) (g .«sof_frame») frame) busy late k k′ o o′ l (isoFor (token st) p q) (iso-sure c st p q s) frame))))))
+      p-framed (ownIn (transferOf busy st late k o) (isoFor (token st) p q) (g .«sof_frame») frame) busy late k k′ o o′ l
+      (isoFor (token st) p q) (iso-sure c st p q s) frame))))))
       _ false n n′ true true (λ w. (h w, refl)))))))
 
   p-on-setup : Pair c st {i = true} Any onSetup onSetup
   p-on-setup = p-then (p-write EpRxCtrl 0 _) (p-then (p-write EpTxCtrl 0 _)
       (p-same (p-look (setup-word 0) (setup-same c 0 (omega arith))) (λ low. p-same (p-look (setup-word 1) (setup-same c 1 (omega arith))) (λ high.
-      p-then (p-modify-ep c Out 0 _ (λ _. refl)) (p-then (p-modify-ep c In 0 _ (λ _. refl)) (p-then (p-modify c _) (p-then (p-write IntFg 0 _) (p-then (p-wake c Out 0) (p-wake c In 0)))))))))
+      p-then (p-modify-ep c Out 0 _ (λ _. refl)) (p-then (p-modify-ep c In 0 _ (λ _. refl))
+      (p-then (p-modify c _) (p-then (p-write IntFg 0 _) (p-then (p-wake c Out 0) (p-wake c In 0)))))))))
 
   p-on-interrupt : PairBy c st true {i = true} Any onInterrupt onInterrupt
   p-on-interrupt = p-reads IntFg 0 (λ v v′ e. e) (λ flag.

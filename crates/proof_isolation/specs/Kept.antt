@@ -44,11 +44,33 @@ request-key d a dir f e p = ap (λ k. getD (d .requests) k noRequest) p
 module _ {x : ℕ} {d d′ : Driver} (h : EqualExcept x d d′) where
   but-control : (v : Control) → EqualExcept x (withControl d v) (withControl d′ v)
   unfolding epOn lenOn stampOn requestOn
-  but-control v = record { globals = h .globals; allocator = h .allocator; control = refl; paced = h .paced; wakes = h .wakes; requests = h .requests; eps = h .eps; lens = h .lens; stamps = h .stamps; own = h .own }
+  but-control v = record {
+    globals = h .globals;
+    allocator = h .allocator;
+    control = refl;
+    paced = h .paced;
+    wakes = h .wakes;
+    requests = h .requests;
+    eps = h .eps;
+    lens = h .lens;
+    stamps = h .stamps;
+    own = h .own;
+  }
 
   but-paced : (e v : ℕ) → EqualExcept x (withPacedOn d e v) (withPacedOn d′ e v)
   unfolding withPacedOn epOn lenOn stampOn requestOn
-  but-paced e v = record { globals = h .globals; allocator = h .allocator; control = h .control; paced = ap (λ l. set l (e % 16) v) (h .paced); wakes = h .wakes; requests = h .requests; eps = h .eps; lens = h .lens; stamps = h .stamps; own = h .own }
+  but-paced e v = record {
+    globals = h .globals;
+    allocator = h .allocator;
+    control = h .control;
+    paced = ap (λ l. set l (e % 16) v) (h .paced);
+    wakes = h .wakes;
+    requests = h .requests;
+    eps = h .eps;
+    lens = h .lens;
+    stamps = h .stamps;
+    own = h .own;
+  }
 
   but-request : Sized d → Sized d′ → (dir : Dir) (e : ℕ) (v : Request) → EqualExcept x (withRequestOn d dir e v) (withRequestOn d′ dir e v)
   unfolding withRequestOn epOn lenOn stampOn
@@ -59,7 +81,8 @@ module _ {x : ℕ} {d d′ : Driver} (h : EqualExcept x d d′) where
     paced = h .paced;
     wakes = h .wakes;
     requests = λ a f n. elim (ℕ-discrete (key a f) (key dir e)) [
-      | yes p ↦ request-key (withRequestOn d dir e v) a dir f e p ∙ requestOn-same d dir e v z ∙ sym (request-key (withRequestOn d′ dir e v) a dir f e p ∙ requestOn-same d′ dir e v z′)
+      | yes p ↦ request-key (withRequestOn d dir e v) a dir f e p ∙ requestOn-same d dir e v z
+          ∙ sym (request-key (withRequestOn d′ dir e v) a dir f e p ∙ requestOn-same d′ dir e v z′)
       | no p ↦ requestOn-other d dir e v a f p ∙ h .requests a f n ∙ sym (requestOn-other d′ dir e v a f p)
     ];
     eps = h .eps;
@@ -71,16 +94,20 @@ module _ {x : ℕ} {d d′ : Driver} (h : EqualExcept x d d′) where
 -- ---- states
 
 module _ (c : Channel) where
-  pub control-kept : (v : Control) (s t : St) → (v .sort ≡ DATA-OUT → v .length ≤ s .0 .globals .«ep0_max») → LowEquiv c quiet s t → LowEquiv c quiet (putOn control-cell v s) (putOn control-cell v t)
+  pub control-kept : (v : Control) (s t : St) → (v .sort ≡ DATA-OUT → v .length ≤ s .0 .globals .«ep0_max»)
+      → LowEquiv c quiet s t → LowEquiv c quiet (putOn control-cell v s) (putOn control-cell v t)
   unfolding epOn
-  control-kept v s t h l = like-made l (lawful-control c v h (l .left)) (lawful-control c v (λ z. subst (λ (g : Globals). v .length ≤ g .«ep0_max») (l .but .globals) (h z)) (l .right))
+  control-kept v s t h l = like-made l (lawful-control c v h (l .left))
+      (lawful-control c v (λ z. subst (λ (g : Globals). v .length ≤ g .«ep0_max») (l .but .globals) (h z)) (l .right))
       (but-control (l .but) v) (same-place (epOn (s .0) Out (c .number))) (l .bytes)
 
   paced-kept : (e v : ℕ) (s t : St) → LowEquiv c quiet s t → LowEquiv c quiet (putOn (paced-cell e) v s) (putOn (paced-cell e) v t)
   unfolding epOn withPacedOn
-  paced-kept e v s t l = like-made l (lawful-put c (paced-cell e) v (l .left) refl) (lawful-put c (paced-cell e) v (l .right) refl) (but-paced (l .but) e v) (same-place (epOn (s .0) Out (c .number))) (l .bytes)
+  paced-kept e v s t l = like-made l (lawful-put c (paced-cell e) v (l .left) refl) (lawful-put c (paced-cell e) v (l .right) refl)
+      (but-paced (l .but) e v) (same-place (epOn (s .0) Out (c .number))) (l .bytes)
 
-  request-kept : (dir : Dir) (e : ℕ) (v : Request) (s t : St) → LowEquiv c quiet s t → LowEquiv c quiet (putOn (request-cell dir e) v s) (putOn (request-cell dir e) v t)
+  request-kept : (dir : Dir) (e : ℕ) (v : Request) (s t : St)
+      → LowEquiv c quiet s t → LowEquiv c quiet (putOn (request-cell dir e) v s) (putOn (request-cell dir e) v t)
   unfolding epOn withRequestOn
   request-kept dir e v s t l = like-made l (lawful-put c (request-cell dir e) v (l .left) refl) (lawful-put c (request-cell dir e) v (l .right) refl)
       (but-request (l .but) (l .left .rest .sized) (l .right .rest .sized) dir e v) (same-place (epOn (s .0) Out (c .number))) (l .bytes)
@@ -90,7 +117,8 @@ module _ (c : Channel) where
   paced-same e s t l = ap (λ m. getD m (e % 16) 0) (l .but .paced)
 
   -- a packet into IN e's slot
-  fill-by : (u v : Bool) (at : ℕ) (bytes : List ℕ) {lo hi : ℕ} {b b′ : Buf} → Only lo hi b b′ → Only lo hi (cond u b (cond v b (copied b at bytes))) (cond u b′ (cond v b′ (copied b′ at bytes)))
+  fill-by : (u v : Bool) (at : ℕ) (bytes : List ℕ) {lo hi : ℕ} {b b′ : Buf} → Only lo hi b b′
+      → Only lo hi (cond u b (cond v b (copied b at bytes))) (cond u b′ (cond v b′ (copied b′ at bytes)))
   fill-by true v at bytes o = o
   fill-by false true at bytes o = o
   fill-by false false at bytes {b = b} {b′ = b′} o = only-like o (λ k a. copied-like b b′ at bytes k a)
@@ -100,7 +128,8 @@ module _ (c : Channel) where
   fills e bytes s t l =
       let r = epOn (s .0) In e in
       like-made l (lawful-act c (fill e bytes) refl (l .left)) (lawful-act c (fill e bytes) refl (l .right)) (l .but) (same-place (epOn (s .0) Out (c .number)))
-      (subst (λ (q : EpState). Only (epOn (s .0) Out (c .number) .base) (endOf (epOn (s .0) Out (c .number))) (filledOn (s .0) e bytes (s .1)) (cond (isOn (q .iso)) (t .1) (cond (ltb (q .«max_len») (length bytes)) (t .1) (copied (t .1) (q .base) bytes))))
+      (subst (λ (q : EpState). Only (epOn (s .0) Out (c .number) .base) (endOf (epOn (s .0) Out (c .number))) (filledOn (s .0) e bytes (s .1))
+      (cond (isOn (q .iso)) (t .1) (cond (ltb (q .«max_len») (length bytes)) (t .1) (copied (t .1) (q .base) bytes))))
       (l .but .eps In e (in-other (c .number) e)) (fill-by (isOn (r .iso)) (ltb (r .«max_len») (length bytes)) (r .base) bytes (l .bytes)))
 
   -- into EP0's
@@ -109,7 +138,8 @@ module _ (c : Channel) where
   fills0 bytes s t l =
       let g = s .0 .globals in
       like-made l (lawful-act c (fill0 bytes) refl (l .left)) (lawful-act c (fill0 bytes) refl (l .right)) (l .but) (same-place (epOn (s .0) Out (c .number)))
-      (subst (λ (q : Globals). Only (epOn (s .0) Out (c .number) .base) (endOf (epOn (s .0) Out (c .number))) (filledEp0 (s .0) bytes (s .1)) (cond (ltb (q .«ep0_max») (length bytes)) (t .1) (copied (t .1) (q .«ep0_buf») bytes)))
+      (subst (λ (q : Globals). Only (epOn (s .0) Out (c .number) .base) (endOf (epOn (s .0) Out (c .number)))
+      (filledEp0 (s .0) bytes (s .1)) (cond (ltb (q .«ep0_max») (length bytes)) (t .1) (copied (t .1) (q .«ep0_buf») bytes)))
       (l .but .globals) (fill-by false (ltb (g .«ep0_max») (length bytes)) (g .«ep0_buf») bytes (l .bytes)))
 
   -- ---- in scripts

@@ -100,7 +100,8 @@ module _ {W U : Wakes → Wakes → Type 0} {x : ℕ} where
 only-sym : {lo hi : ℕ} {b c : Buf} → Only lo hi b c → Only lo hi c b
 only-sym h = record { long = sym (h .long); below = λ k l. sym (h .below k l); above = λ k l. sym (h .above k l) }
 
-seat : {W : Wakes → Wakes → Type 0} {x : ℕ} {d d′ : Driver} (b c : Buf) → ButBy W x d d′ → Only (epOn d Out x .base) (endOf (epOn d Out x)) b c → Only (epOn d′ Out x .base) (endOf (epOn d′ Out x)) b c
+seat : {W : Wakes → Wakes → Type 0} {x : ℕ} {d d′ : Driver} (b c : Buf) → ButBy W x d d′
+    → Only (epOn d Out x .base) (endOf (epOn d Out x)) b c → Only (epOn d′ Out x .base) (endOf (epOn d′ Out x)) b c
 seat {x = x} {d = d} {d′ = d′} b c h o =
     let p = h .own .place in
     subst (λ hi. Only (epOn d′ Out x .base) hi b c) (sym (end-kept p)) (subst (λ lo. Only lo (endOf (epOn d Out x)) b c) (sym (p .base)) o)
@@ -115,7 +116,12 @@ module _ {c : Channel} {φ : Phase} where
   }
 
   pub like-sym : {s t : St} → LowEquiv c φ s t → LowEquiv c φ t s
-  like-sym {s} {t} h = record { left = h .right; right = h .left; but = but-sym {U = OtherWakes (c .number)} (h .but) (wakes-sym (h .but .wakes)); bytes = seat (t .1) (s .1) (h .but) (only-sym (h .bytes)) }
+  like-sym {s} {t} h = record {
+    left = h .right;
+    right = h .left;
+    but = but-sym {U = OtherWakes (c .number)} (h .but) (wakes-sym (h .but .wakes));
+    bytes = seat (t .1) (s .1) (h .but) (only-sym (h .bytes));
+  }
 
   pub touched-refl : {s : St} → Lawful (c .iso) φ s → Touched c φ s s
   touched-refl {s} l = record { left = l; right = l; but = but-refl (c .number) (s .0); bytes = only-refl _ _ (s .1) }

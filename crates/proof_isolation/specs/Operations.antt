@@ -15,7 +15,11 @@ use Rattle.state.specs.Driver.{key}
 use Rattle.model.specs.Script.{Script}
 use Rattle.model.specs.Answers.{Answer, Refused}
 use Rattle.model.specs.Bus as bus
-use Rattle.model.specs.Calls.{Slotted, SetEnabled, PollRead, BeginWrite, PollWrite, PollDataOut, BeginDataIn, Other, Allocate, AllocateAll, Start, BusPoll, BusEnable, BusDisable, Microframe, SetStalled, IsStalled, SetPaced, Advance, BeginRead, BeginSetup, PollSetup, PollDataIn, BeginAccept, PollAccept, BeginReject, BeginDataOut, BeginAcceptSetAddress, Aside, Open, Close, Queue, Op, interrupt, slotted, other, aside}
+use Rattle.model.specs.Calls.{Slotted, SetEnabled, PollRead, BeginWrite, PollWrite, PollDataOut, BeginDataIn, Other}
+use Rattle.model.specs.Calls.{Allocate, AllocateAll, Start, BusPoll, BusEnable, BusDisable, Microframe, SetStalled}
+use Rattle.model.specs.Calls.{IsStalled, SetPaced, Advance, BeginRead, BeginSetup, PollSetup, PollDataIn, BeginAccept}
+use Rattle.model.specs.Calls.{PollAccept, BeginReject, BeginDataOut, BeginAcceptSetAddress, Aside, Open, Close, Queue}
+use Rattle.model.specs.Calls.{Op, interrupt, slotted, other, aside}
 use Rattle.proof_isolation.specs.EqualExcept.{Channel}
 use Rattle.proof_isolation.specs.Apart.{PairBy, Pair}
 use Rattle.proof_isolation.specs.Pairs.{Any}

@@ -22,7 +22,11 @@ use Rattle.model.specs.IsoIn.{isoInCompletions, isoInAdvance}
 use Rattle.model.specs.Bus as bus
 use Rattle.model.specs.Endpoint.{arm-read, load-write, put-iso, sent-ready}
 use Rattle.model.specs.Control.{acks, closing-out, take-closing, take-in, statusIn}
-use Rattle.model.specs.Calls.{Slotted, SetEnabled, PollRead, BeginWrite, PollWrite, PollDataOut, BeginDataIn, Other, Allocate, AllocateAll, Start, BusPoll, BusEnable, BusDisable, Microframe, SetStalled, IsStalled, SetPaced, Advance, BeginRead, BeginSetup, PollSetup, PollDataIn, BeginAccept, PollAccept, BeginReject, BeginDataOut, BeginAcceptSetAddress, Aside, Open, Close, Queue, Op, interrupt, slotted, other, aside, code}
+use Rattle.model.specs.Calls.{Slotted, SetEnabled, PollRead, BeginWrite, PollWrite, PollDataOut, BeginDataIn, Other}
+use Rattle.model.specs.Calls.{Allocate, AllocateAll, Start, BusPoll, BusEnable, BusDisable, Microframe, SetStalled}
+use Rattle.model.specs.Calls.{IsStalled, SetPaced, Advance, BeginRead, BeginSetup, PollSetup, PollDataIn, BeginAccept}
+use Rattle.model.specs.Calls.{PollAccept, BeginReject, BeginDataOut, BeginAcceptSetAddress, Aside, Open, Close, Queue}
+use Rattle.model.specs.Calls.{Op, interrupt, slotted, other, aside, code}
 use Rattle.proof_isolation.specs.EqualExcept.{Channel}
 use Rattle.proof_isolation.specs.Apart.{PairBy, Pair}
 use Rattle.proof_isolation.specs.Pairs.{Any, p-later, p-ret, p-bind, p-same, p-then, p-test, p-tests, p-when, p-write, p-get, p-is, p-act}
@@ -44,12 +48,16 @@ use Rattle.proof_isolation.specs.Operations.{CommonSlots, Common, OfChan
 
 module _ {c : Channel} {st : ℕ} {i : Bool} where
   -- after EP0's start no allocation and no second start
-  pick-stage : {p : Script i Answer} (n : ℕ) → n ≡ 2 → Pair c st (SameAnswer (c .number)) (test (eqb n 1) p (ret (Refused 4))) (test (eqb n 1) p (ret (Refused 4)))
-  pick-stage {p} n h = subst (λ k. Pair c st (SameAnswer (c .number)) (test (eqb k 1) p (ret (Refused 4))) (test (eqb k 1) p (ret (Refused 4)))) (sym h) (record { on = λ s t l. p-ret {i = i} (same (Refused 4)) .on s t l })
+  pick-stage : {p : Script i Answer} (n : ℕ) → n ≡ 2
+      → Pair c st (SameAnswer (c .number)) (test (eqb n 1) p (ret (Refused 4))) (test (eqb n 1) p (ret (Refused 4)))
+  pick-stage {p} n h =
+      subst (λ k. Pair c st (SameAnswer (c .number)) (test (eqb k 1) p (ret (Refused 4))) (test (eqb k 1) p (ret (Refused 4))))
+      (sym h) (record { on = λ s t l. p-ret {i = i} (same (Refused 4)) .on s t l })
 
   p-early : {p : Script i Answer} → Pair c st (SameAnswer (c .number)) (staged 1 p) (staged 1 p)
   p-early {p} = p-bind (p-get globals-cell (λ v v′. (v ≡ v′) × (v .stage ≡ 2)) (λ s t l. (l .but .globals, l .left .stage)))
-      (λ v v′ e. subst (λ (w : Globals). Pair c st (SameAnswer (c .number)) (test (eqb (v .stage) 1) p (ret (Refused 4))) (test (eqb (w .stage) 1) p (ret (Refused 4)))) (e .0) (pick-stage (v .stage) (e .1)))
+      (λ v v′ e. subst (λ (w : Globals). Pair c st (SameAnswer (c .number)) (test (eqb (v .stage) 1) p (ret (Refused 4)))
+      (test (eqb (w .stage) 1) p (ret (Refused 4)))) (e .0) (pick-stage (v .stage) (e .1)))
 
   -- ---- pacing
 
@@ -69,24 +77,33 @@ module _ {c : Channel} {st : ℕ} {i : Bool} where
   unfolding bus.restartedOut bus.restarted
   p-stalled Out e true = p-then (p-modify-reg EpRxCtrl e _ (λ v v′ h. h)) (p-wake c Out e)
   p-stalled In e true = p-then (p-write EpTLen e 0) (p-then (p-modify-reg EpTxCtrl e _ (λ v v′ h. h)) (p-wake c In e))
-  p-stalled Out e false = p-plain-any c Out e (λ s r n _ _. p-then (p-records c Out e _ _ refl (λ k. ap (λ z. withTog 0 (withReady z s)) (sym (n k)))) (p-then (p-write EpRxCtrl e _) (p-wake c Out e)))
-  p-stalled In e false = p-plain-in c e (λ s _. p-then (p-record c In e _) (p-then (p-write EpTxCtrl e _) (p-then (p-when _ (λ _. p-modify-ep c In e _ (λ _. refl))) (p-wake c In e))))
+  p-stalled Out e false = p-plain-any c Out e
+      (λ s r n _ _. p-then (p-records c Out e _ _ refl (λ k. ap (λ z. withTog 0 (withReady z s)) (sym (n k))))
+      (p-then (p-write EpRxCtrl e _) (p-wake c Out e)))
+  p-stalled In e false = p-plain-in c e
+      (λ s _. p-then (p-record c In e _)
+      (p-then (p-write EpTxCtrl e _) (p-then (p-when _ (λ _. p-modify-ep c In e _ (λ _. refl))) (p-wake c In e))))
 
   -- ---- reads and writes
 
   p-arm-read : (e : ℕ) (s : EpCore) (r : ℕ) → (isOn (s .iso) ≡ false → r ≡ s .ready) → Pair c st {i = i} Any (arm-read e s) (arm-read e (withReady r s))
-  p-arm-read e s r n = p-test _ (λ _. p-ret tt) (λ u. p-tests (ap isOn (sym (n u))) (λ _. p-ret tt) (λ _. p-then (p-modify-ep c Out e _ (λ _. refl)) (p-modify-reg EpRxCtrl e _ (λ v v′ h. h))))
+  p-arm-read e s r n = p-test _ (λ _. p-ret tt)
+      (λ u. p-tests (ap isOn (sym (n u)))
+      (λ _. p-ret tt) (λ _. p-then (p-modify-ep c Out e _ (λ _. refl)) (p-modify-reg EpRxCtrl e _ (λ v v′ h. h))))
 
   p-load-write : (e : ℕ) (bytes : List ℕ) → Pair c st {i = i} Any (load-write e bytes) (load-write e bytes)
-  p-load-write e bytes = p-then (p-fill c e bytes) (p-then (p-modify-ep c In e _ (λ _. refl)) (p-then (p-write EpTLen e _) (p-modify-reg EpTxCtrl e _ (λ v v′ h. h))))
+  p-load-write e bytes = p-then (p-fill c e bytes)
+      (p-then (p-modify-ep c In e _ (λ _. refl)) (p-then (p-write EpTLen e _) (p-modify-reg EpTxCtrl e _ (λ v v′ h. h))))
 
   p-put-iso : (e : ℕ) (bytes : List ℕ) → Pair c st {i = i} (SameAnswer (c .number)) (put-iso e bytes) (put-iso e bytes)
-  p-put-iso e bytes = p-enabled In e (p-ends-request In e _) (p-same (p-is (room e (length bytes)) (λ s t l. room-in c e bytes s t l (length bytes))) (λ b. p-test b
+  p-put-iso e bytes = p-enabled In e (p-ends-request In e _)
+      (p-same (p-is (room e (length bytes)) (λ s t l. room-in c e bytes s t l (length bytes))) (λ b. p-test b
       (λ _. p-then (p-act (enqueue e bytes) (enqueues c e bytes)) (p-ends-request In e _))
       (λ _. p-ret (same _))))
 
   p-sent-ready : (e : ℕ) (s : EpCore) → Pair c st {i = i} (SameAnswer (c .number)) (sent-ready e s) (sent-ready e s)
-  p-sent-ready e s = p-test _ (λ _. p-then (p-modify-ep c In e _ (λ _. refl)) (p-ends-request In e _)) (λ _. p-enabled In e (p-ends-request In e _) (p-ret (same _)))
+  p-sent-ready e s = p-test _ (λ _. p-then (p-modify-ep c In e _ (λ _. refl)) (p-ends-request In e _))
+      (λ _. p-enabled In e (p-ends-request In e _) (p-ret (same _)))
 
   -- ---- the control pipe
 
@@ -124,11 +141,16 @@ module _ (c : Channel) (st : ℕ) where
   p-slotted : (o : Slotted) → CommonSlots (c .number) o → Pair c st (SameAnswer (c .number)) (code (slotted o)) (code (slotted o))
   p-slotted (SetEnabled dir e onn) n = p-staged 2 (p-named dir e (p-resultless (p-enabling dir e onn)))
   p-slotted (PollRead e k) n = p-staged 2 (p-named Out e (p-poll-read c e n k))
-  p-slotted (BeginWrite e bytes) n = p-staged 2 (p-named In e (p-enabled In e (p-ret (same _)) (p-plain-in c e (λ s _. p-unless _ 10 (p-then (p-put-request c In e _) (p-resultless (p-test _ (λ _. p-ret tt) (λ _. p-load-write e bytes))))))))
-  p-slotted (PollWrite e bytes) n = p-staged 2 (p-named In e (p-polled In e (length bytes) (in-other (c .number) e) (p-plain-in c e (λ s _. p-test _ (λ _. p-put-iso e bytes) (λ _. p-sent-ready e s)))))
+  p-slotted (BeginWrite e bytes) n = p-staged 2
+      (p-named In e (p-enabled In e (p-ret (same _)) (p-plain-in c e
+      (λ s _. p-unless _ 10 (p-then (p-put-request c In e _) (p-resultless (p-test _ (λ _. p-ret tt) (λ _. p-load-write e bytes))))))))
+  p-slotted (PollWrite e bytes) n = p-staged 2
+      (p-named In e
+      (p-polled In e (length bytes) (in-other (c .number) e) (p-plain-in c e (λ s _. p-test _ (λ _. p-put-iso e bytes) (λ _. p-sent-ready e s)))))
   p-slotted (PollDataOut k) n = p-staged 2 (p-poll-data-out c k)
   p-slotted (BeginDataIn bytes first last) n = p-staged 2 (p-within _ (p-unless-setup (p-then (p-put-control c _ refl) (p-resultless
-      (p-then (p-fill0 c bytes) (p-then (p-modify-ep c In 0 _ (λ _. refl)) (p-then (p-when last (λ _. p-closing-out)) (p-then (p-modify-ep c In 0 _ (λ _. refl)) (p-then (p-write EpTLen 0 _) (p-acks In first))))))))))
+      (p-then (p-fill0 c bytes) (p-then (p-modify-ep c In 0 _ (λ _. refl)) (p-then (p-when last (λ _. p-closing-out))
+      (p-then (p-modify-ep c In 0 _ (λ _. refl)) (p-then (p-write EpTLen 0 _) (p-acks In first))))))))))
 
   p-other : (o : Other) → Pair c st (SameAnswer (c .number)) (code (other o)) (code (other o))
   p-other (Allocate dir kind address maximum interval) = p-early
@@ -142,16 +164,20 @@ module _ (c : Channel) (st : ℕ) where
   p-other (IsStalled dir e) = p-staged 2 (p-named-or-0 dir e (p-operation (p-reads (ctrlOf dir) e (ctrl-steady c st dir) (λ v. p-ret refl))))
   p-other (SetPaced e onn) = p-staged 2 (p-numbered e (p-then (p-globals c (λ g _. p-then (p-assign c _) (p-put-paced c e _))) (p-ret (same _))))
   p-other (Advance e) = p-staged 2 (p-numbered e (p-resultless (p-advance e)))
-  p-other (BeginRead e k) = p-staged 2 (p-named Out e (p-enabled Out e (p-ret (same _)) (p-plain-any c Out e (λ s r n k _. p-unless _ 10 (p-then (p-put-request c Out e _) (p-resultless (p-arm-read e s r (λ u. n (λ z. true≢false (sym (k z) ∙ u))))))))))
+  p-other (BeginRead e k) = p-staged 2
+      (p-named Out e (p-enabled Out e (p-ret (same _)) (p-plain-any c Out e (λ s r n k _. p-unless _ 10
+      (p-then (p-put-request c Out e _) (p-resultless (p-arm-read e s r (λ u. n (λ z. true≢false (sym (k z) ∙ u))))))))))
   p-other BeginSetup = p-staged 2 (p-then (p-put-control c _ refl) (p-resultless (p-ret tt)))
   p-other PollSetup = p-staged 2 (p-requested _ (λ v. p-globals c (λ g _. p-test _ (λ _. p-then (p-assign c _) (p-ends-control _)) (λ _. p-ret (same _)))))
   p-other PollDataIn = p-staged 2 (p-requested _ (λ v. p-test _ (λ _. p-take-closing false v) (λ _. p-take-in v)))
   p-other BeginAccept = p-staged 2 (p-unless-setup (p-then (p-put-control c _ refl) (p-resultless p-status-in)))
   p-other PollAccept = p-staged 2 (p-requested _ (λ v. p-plain-in c 0 (λ s _. p-test _
-      (λ _. p-then (p-modify-ep c In 0 _ (λ _. refl)) (p-then (p-put-control c _ refl) (p-test _ (λ _. p-resultless (p-write DevAd 0 _)) (λ _. p-ret (same _)))))
+      (λ _. p-then (p-modify-ep c In 0 _ (λ _. refl))
+      (p-then (p-put-control c _ refl) (p-test _ (λ _. p-resultless (p-write DevAd 0 _)) (λ _. p-ret (same _)))))
       (λ _. p-aborted (p-ret (same _))))))
   p-other BeginReject = p-staged 2 (p-then (p-put-control c _ refl) (p-resultless
-      (p-then (p-modify-ep c Out 0 _ (λ _. refl)) (p-then (p-modify-ep c In 0 _ (λ _. refl)) (p-then (p-modify-reg EpTxCtrl 0 _ (λ v v′ h. h)) (p-modify-reg EpRxCtrl 0 _ (λ v v′ h. h)))))))
+      (p-then (p-modify-ep c Out 0 _ (λ _. refl)) (p-then (p-modify-ep c In 0 _ (λ _. refl))
+      (p-then (p-modify-reg EpTxCtrl 0 _ (λ v v′ h. h)) (p-modify-reg EpRxCtrl 0 _ (λ v v′ h. h)))))))
   p-other (BeginDataOut k first) = p-staged 2 (p-begin-data-out c k (p-resultless (p-then (p-modify-ep c Out 0 _ (λ _. refl)) (p-acks Out first))))
   p-other (BeginAcceptSetAddress a) = p-staged 2 (p-unless-setup (p-then (p-put-control c _ refl) (p-resultless p-status-in)))
 

@@ -31,22 +31,26 @@ use Rattle.proof_isolation.specs.Values.{in-other}
 
 module _ {c : Channel} {φ : Phase} {s t : St} (l : LowEquiv c φ s t) where
   -- the packets that wait, tail to head, each with its bytes
-  pub same-queue : (dir : Dir) (e : ℕ) → key dir e ≢ key Out (c .number) → waiting (s .1) (epOn (s .0) dir e) (lensOf (s .0) dir e) ≡ waiting (t .1) (epOn (t .0) dir e) (lensOf (t .0) dir e)
+  pub same-queue : (dir : Dir) (e : ℕ) → key dir e ≢ key Out (c .number)
+      → waiting (s .1) (epOn (s .0) dir e) (lensOf (s .0) dir e) ≡ waiting (t .1) (epOn (t .0) dir e) (lensOf (t .0) dir e)
   same-queue Out e n =
       let f = l .left .rest .outs e .held in
       sym (waiting-outside (f .placed) (f .ring) (s .1) (t .1) (others-same l Out e _ _ n (omega arith) (omega arith)))
-      ∙ ap (λ (r : EpState). waiting (t .1) r (lensOf (s .0) Out e)) (l .but .eps Out e n) ∙ ap (λ m. waiting (t .1) (epOn (t .0) Out e) m) (l .but .lens Out e n)
+      ∙ ap (λ (r : EpState). waiting (t .1) r (lensOf (s .0) Out e)) (l .but .eps Out e n)
+      ∙ ap (λ m. waiting (t .1) (epOn (t .0) Out e) m) (l .but .lens Out e n)
   same-queue In e n =
       let f = l .left .rest .ins e .held in
       sym (waiting-outside (f .placed) (f .ring) (s .1) (t .1) (others-same l In e _ _ n (omega arith) (omega arith)))
       ∙ ap (λ (r : EpState). waiting (t .1) r (lensOf (s .0) In e)) (l .but .eps In e n) ∙ ap (λ m. waiting (t .1) (epOn (t .0) In e) m) (l .but .lens In e n)
 
   -- their stamps
-  pub same-stamps : (e : ℕ) → key Out e ≢ key Out (c .number) → stamped (epOn (s .0) Out e) (slotStamps (s .0) e) ≡ stamped (epOn (t .0) Out e) (slotStamps (t .0) e)
+  pub same-stamps : (e : ℕ) → key Out e ≢ key Out (c .number)
+      → stamped (epOn (s .0) Out e) (slotStamps (s .0) e) ≡ stamped (epOn (t .0) Out e) (slotStamps (t .0) e)
   same-stamps e n = ap (λ (r : EpState). stamped r (slotStamps (s .0) e)) (l .but .eps Out e n) ∙ ap (λ m. stamped (epOn (t .0) Out e) m) (l .but .stamps e n)
 
   -- the bytes of its slots
-  pub same-bytes : (dir : Dir) (e k : ℕ) → key dir e ≢ key Out (c .number) → epOn (s .0) dir e .base ≤ k → k < endOf (epOn (s .0) dir e) → getD (s .1) k 0 ≡ getD (t .1) k 0
+  pub same-bytes : (dir : Dir) (e k : ℕ) → key dir e ≢ key Out (c .number)
+      → epOn (s .0) dir e .base ≤ k → k < endOf (epOn (s .0) dir e) → getD (s .1) k 0 ≡ getD (t .1) k 0
   same-bytes dir e k n p q = sym (others-same l dir e _ _ n (omega arith) (omega arith) k p q)
 
   -- the packets turned away
@@ -64,7 +68,8 @@ module _ {c : Channel} {φ : Phase} {s t : St} (l : LowEquiv c φ s t) where
   same-answers (enabled dir e) n = ap (λ (g : Globals). flag (cond (isNumber e) (enables.isOn (g .«ep_config») dir e) false)) (l .but .globals)
 
 -- the wake-ups without a premise where there is room for more, which there is in every run (`proof_wake_ups`)
-pub same-others : {c : Channel} {φ : Phase} {s t : St} → LowEquiv c φ s t → Short (listed (s .0 .wakes)) → Short (listed (t .0 .wakes)) → {w w′ : Way Answer Driver}
+pub same-others : {c : Channel} {φ : Phase} {s t : St}
+    → LowEquiv c φ s t → Short (listed (s .0 .wakes)) → Short (listed (t .0 .wakes)) → {w w′ : Way Answer Driver}
     → SameOthers c (record { way = w; st = s .0; buf = s .1 }) (record { way = w′; st = t .0; buf = t .1 })
 same-others l p q = record {
   queue = same-queue l;

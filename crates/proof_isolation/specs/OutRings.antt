@@ -79,7 +79,9 @@ module _ {d : Driver} (z : Sized d) (e n : ℕ) where
   pub after-changed : Changed Out e d (after d e n)
   after-changed =
       let r1 = epOn (admits d e n) Out e in
-      changed-trans z Out e given (changed-on (given .sized) Out e (armedAt r1 (headAddr r1)) (armed-alike r1 (headAddr r1) .place) (ap (λ (q : EpCore). q .iso) (armed-plain r1 (headAddr r1))))
+      changed-trans z Out e given
+      (changed-on (given .sized) Out e (armedAt r1 (headAddr r1))
+      (armed-alike r1 (headAddr r1) .place) (ap (λ (q : EpCore). q .iso) (armed-plain r1 (headAddr r1))))
 
   pub after-ep : epOn (after d e n) Out e ≡ arrivedEp (epOn d Out e)
   after-ep =
@@ -141,7 +143,8 @@ module _ (c : Channel) (e n : ℕ) (o : key Out e ≢ key Out (c .number)) (s t 
         by Out f p = lens-mod (after d e n) Out f e (key-same Out f e p) ∙ same-lens ∙ sym (lens-mod (after d′ e n) Out f e (key-same Out f e p))
         by In f p = absurd (key-apart e f (sym p))
 
-    same-marks : Only (epOn d Out (c .number) .base) (endOf (epOn d Out (c .number))) (marks (epOn (admits d e n) Out e) (s .1)) (marks (epOn (admits d′ e n) Out e) (t .1))
+    same-marks : Only (epOn d Out (c .number) .base) (endOf (epOn d Out (c .number)))
+        (marks (epOn (admits d e n) Out e) (s .1)) (marks (epOn (admits d′ e n) Out e) (t .1))
     same-marks =
         let r = epOn (admits d e n) Out e in
         subst (λ q. Only (epOn d Out (c .number) .base) (endOf (epOn d Out (c .number))) (marks r (s .1)) (marks q (t .1))) same-before
@@ -173,7 +176,8 @@ module _ (c : Channel) (e n : ℕ) (o : key Out e ≢ key Out (c .number)) (s t 
   unfolding arriveOn
   arrives-both =
       let g : receives d e ≡ receives d′ e = ap (λ (g : Globals). isSet (isoOuts g) (e % 16)) (l .but .globals) in
-      subst (λ v. Both (handOn (arrive e n) s) (cond v (arrivedAt e (lenOf d′ e n) t) (epOn d′ Out e .«armed_slot», t))) g (arrives-by (receives d e) refl (sym g))
+      subst (λ v. Both (handOn (arrive e n) s) (cond v (arrivedAt e (lenOf d′ e n) t) (epOn d′ Out e .«armed_slot», t))) g
+      (arrives-by (receives d e) refl (sym g))
 
   pub arrives-same : (handOn (arrive e n) s .0 ≡ handOn (arrive e n) t .0) × LowEquiv c quiet (handOn (arrive e n) s .1) (handOn (arrive e n) t .1)
   arrives-same =

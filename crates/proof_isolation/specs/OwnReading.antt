@@ -50,7 +50,10 @@ module _ (c : Channel) (e : ℕ) (p : key Out e ≡ key Out (c .number)) where
   module _ (s : St) (l : Lawful (c .iso) quiet s) where
     own-record : (r : EpState) → Stays (epOn (s .0) Out e) r → Beside (c .number) (s .0) (withOn (s .0) Out e r)
     own-record r k = own-changed (changed-key p (changed-on (l .rest .sized) Out e r (k .place) (ap (λ (q : EpCore). q .iso) (k .plain))))
-        (rw (key-ep (s .0) Out Out (c .number) e (sym p), key-ep (withOn (s .0) Out e r) Out Out (c .number) e (sym p) ∙ epOn-same (s .0) Out e r (l .rest .sized)) k)
+        (rw (
+          key-ep (s .0) Out Out (c .number) e (sym p),
+          key-ep (withOn (s .0) Out e r) Out Out (c .number) e (sym p) ∙ epOn-same (s .0) Out e r (l .rest .sized),
+        ) k)
 
     own-cond : (u : Bool) (r : EpState) → Stays (epOn (s .0) Out e) r → Beside (c .number) (s .0) (cond u (withOn (s .0) Out e r) (s .0))
     own-cond true r k = own-record r k

@@ -50,7 +50,8 @@ module _ (c : Channel) (n : ℕ) (s : St) (l : Lawful (c .iso) quiet s) where
   own-inner =
       let r = epOn d Out x in
       let k = arrived-inner r in
-      subst (λ q. Inner r q) (sym (after-ep (l .rest .sized) x n)) (record { place = place-trans (k .place) (armed-alike _ _ .place); plain = armed-plain _ _ ∙ k .plain })
+      subst (λ q. Inner r q) (sym (after-ep (l .rest .sized) x n))
+      (record { place = place-trans (k .place) (armed-alike _ _ .place); plain = armed-plain _ _ ∙ k .plain })
 
   own-marks : receives d x ≡ true → Only (epOn d Out x .base) (endOf (epOn d Out x)) (s .1) (marks (epOn (admits d x n) Out x) (s .1))
   own-marks u =
@@ -59,7 +60,8 @@ module _ (c : Channel) (n : ℕ) (s : St) (l : Lawful (c .iso) quiet s) where
       let g = given (l .rest .sized) x n .place in
       let a : headAddr r1 ≡ slotAddr r (r1 .head) = place-addr g (r1 .head) in
       let p = l .rest .outs x .held .placed in
-      only-wider (r .base) (endOf r) (omega (arith, a, slot-from p (r1 .head))) (omega (arith, a, g .stride, slot-upto p (r1 .head))) (arrived-words (l .rest) x n u)
+      only-wider (r .base) (endOf r) (omega (arith, a, slot-from p (r1 .head)))
+      (omega (arith, a, g .stride, slot-upto p (r1 .head))) (arrived-words (l .rest) x n u)
 
   record Own (y : ℕ × St) : Type 0 where
     but : Beside x d (y .1 .0)
@@ -108,7 +110,8 @@ unfolding arriving isOut token tokenNumbered
 rest-its x f s = status
 
 -- what follows the check, in the one run and in the other: no access of x's own
-module _ {c : Channel} {st : ℕ} {A B : Type 0} (Q : A → B → Type 0) (f : St → tree.Out St A) (g : St → tree.Out St B) (h : (s t : St) → LowEquiv c quiet s t → Apart c st true Q (f s) (g t)) where
+module _ {c : Channel} {st : ℕ} {A B : Type 0} (Q : A → B → Type 0) (f : St → tree.Out St A)
+    (g : St → tree.Out St B) (h : (s t : St) → LowEquiv c quiet s t → Apart c st true Q (f s) (g t)) where
   arrived : (n : ℕ) {s t : St} → LowEquiv c quiet s t → LowEquiv c quiet (handOn (arrive (c .number) n) s .1) t
   arrived n {s} l = touch (own-arrives c n s (l .left)) l
 
@@ -119,18 +122,22 @@ module _ {c : Channel} {st : ℕ} {A B : Type 0} (Q : A → B → Type 0) (f : S
   receive-past y l = left (refl, λ _. receive) (past-of refl (h _ _ l)) (l .left) (λ v s m. past-past (own-wake c (touch m l)))
 
   -- what the status says decides
-  rest-past : (b : Bool) (n : ℕ) {s t : St} → LowEquiv c quiet s t → ApartBy c st true Q true (bindOut (run {i = true} concrete (test b done (arrives (c .number) n)) s) (λ _ z. f z)) (g t)
+  rest-past : (b : Bool) (n : ℕ) {s t : St} → LowEquiv c quiet s t
+      → ApartBy c st true Q true (bindOut (run {i = true} concrete (test b done (arrives (c .number) n)) s) (λ _ z. f z)) (g t)
   rest-past true n l = past-past l
   rest-past false n l = receive-past _ (arrived n l)
 
   status-past : {s t : St} → LowEquiv c quiet s t → ApartBy c st true Q true (at-status (c .number) f s) (g t)
-  status-past l = left (refl, λ s. rest-its (c .number) f s) (past-of refl (h _ _ l)) (l .left) (λ v s m. rest-past (arriving v (c .number)) (lookOf (marked (c .number)) s) (touch m l))
+  status-past l = left (refl, λ s. rest-its (c .number) f s) (past-of refl (h _ _ l))
+      (l .left) (λ v s m. rest-past (arriving v (c .number)) (lookOf (marked (c .number)) s) (touch m l))
 
-module _ {c : Channel} {st : ℕ} {A B : Type 0} {Q : A → B → Type 0} {f : St → tree.Out St A} {g : St → tree.Out St B} (h : (s t : St) → LowEquiv c quiet s t → Apart c st true Q (f s) (g t)) where
+module _ {c : Channel} {st : ℕ} {A B : Type 0} {Q : A → B → Type 0} {f : St → tree.Out St A} {g : St → tree.Out St B}
+    (h : (s t : St) → LowEquiv c quiet s t → Apart c st true Q (f s) (g t)) where
   flipped : (t s : St) → LowEquiv c quiet t s → Apart c st true (λ b a. Q a b) (g t) (f s)
   flipped t s l = apart-flip (h s t (like-sym l))
 
-module _ {c : Channel} {st : ℕ} {A B : Type 0} (Q : A → B → Type 0) (f : St → tree.Out St A) (g : St → tree.Out St B) (h : (s t : St) → LowEquiv c quiet s t → Apart c st true Q (f s) (g t)) where
+module _ {c : Channel} {st : ℕ} {A B : Type 0} (Q : A → B → Type 0) (f : St → tree.Out St A)
+    (g : St → tree.Out St B) (h : (s t : St) → LowEquiv c quiet s t → Apart c st true Q (f s) (g t)) where
   past-receive : (y : ℕ) {s t : St} → LowEquiv c quiet s t → ApartBy c st true Q true (f s) (at-receive (c .number) g y t)
   past-receive y l = apart-flip (receive-past (λ b a. Q a b) g f (flipped h) y (like-sym l))
 
@@ -138,9 +145,11 @@ module _ {c : Channel} {st : ℕ} {A B : Type 0} (Q : A → B → Type 0) (f : S
   past-status l = apart-flip (status-past (λ b a. Q a b) g f (flipped h) (like-sym l))
 
   receive-receive : (y y′ : ℕ) {s t : St} → LowEquiv c quiet s t → ApartBy c st true Q true (at-receive (c .number) f y s) (at-receive (c .number) g y′ t)
-  receive-receive y y′ l = owns (refl, λ _. receive) (refl, λ _. receive) l (λ v s t m. past-receive y′ (own-wake c m)) (λ v s t m. receive-past Q f g h y (like-sym (own-wake c (like-sym m))))
+  receive-receive y y′ l = owns (refl, λ _. receive) (refl, λ _. receive) l (λ v s t m. past-receive y′ (own-wake c m))
+      (λ v s t m. receive-past Q f g h y (like-sym (own-wake c (like-sym m))))
 
-  rest-receive : (b : Bool) (n y : ℕ) {s t : St} → LowEquiv c quiet s t → ApartBy c st true Q true (bindOut (run {i = true} concrete (test b done (arrives (c .number) n)) s) (λ _ z. f z)) (at-receive (c .number) g y t)
+  rest-receive : (b : Bool) (n y : ℕ) {s t : St} → LowEquiv c quiet s t → ApartBy c st true Q true
+      (bindOut (run {i = true} concrete (test b done (arrives (c .number) n)) s) (λ _ z. f z)) (at-receive (c .number) g y t)
   rest-receive true n y l = past-receive y l
   rest-receive false n y l = receive-receive _ y (arrived Q f g h n l)
 
@@ -149,15 +158,18 @@ module _ {c : Channel} {st : ℕ} {A B : Type 0} (Q : A → B → Type 0) (f : S
       (λ v s t m. rest-receive (arriving v (c .number)) (lookOf (marked (c .number)) s) y m)
       (λ v s t m. status-past Q f g h (like-sym (own-wake c (like-sym m))))
 
-module _ {c : Channel} {st : ℕ} {A B : Type 0} (Q : A → B → Type 0) (f : St → tree.Out St A) (g : St → tree.Out St B) (h : (s t : St) → LowEquiv c quiet s t → Apart c st true Q (f s) (g t)) where
+module _ {c : Channel} {st : ℕ} {A B : Type 0} (Q : A → B → Type 0) (f : St → tree.Out St A)
+    (g : St → tree.Out St B) (h : (s t : St) → LowEquiv c quiet s t → Apart c st true Q (f s) (g t)) where
   receive-status : (y : ℕ) {s t : St} → LowEquiv c quiet s t → ApartBy c st true Q true (at-receive (c .number) f y s) (at-status (c .number) g t)
   receive-status y l = apart-flip (status-receive (λ b a. Q a b) g f (flipped h) y (like-sym l))
 
-  rest-status : (b : Bool) (n : ℕ) {s t : St} → LowEquiv c quiet s t → ApartBy c st true Q true (bindOut (run {i = true} concrete (test b done (arrives (c .number) n)) s) (λ _ z. f z)) (at-status (c .number) g t)
+  rest-status : (b : Bool) (n : ℕ) {s t : St} → LowEquiv c quiet s t → ApartBy c st true Q true
+      (bindOut (run {i = true} concrete (test b done (arrives (c .number) n)) s) (λ _ z. f z)) (at-status (c .number) g t)
   rest-status true n l = past-status Q f g h l
   rest-status false n l = receive-status _ (arrived Q f g h n l)
 
-module _ {c : Channel} {st : ℕ} {A B : Type 0} (Q : A → B → Type 0) (f : St → tree.Out St A) (g : St → tree.Out St B) (h : (s t : St) → LowEquiv c quiet s t → Apart c st true Q (f s) (g t)) where
+module _ {c : Channel} {st : ℕ} {A B : Type 0} (Q : A → B → Type 0) (f : St → tree.Out St A)
+    (g : St → tree.Out St B) (h : (s t : St) → LowEquiv c quiet s t → Apart c st true Q (f s) (g t)) where
   status-status : {s t : St} → LowEquiv c quiet s t → ApartBy c st true Q true (at-status (c .number) f s) (at-status (c .number) g t)
   status-status l = owns (refl, λ s. rest-its (c .number) f s) (refl, λ s. rest-its (c .number) g s) l
       (λ v s t m. rest-status Q f g h (arriving v (c .number)) (lookOf (marked (c .number)) s) m)
@@ -170,7 +182,8 @@ module _ {c : Channel} {st : ℕ} {A B : Type 0} (Q : A → B → Type 0) (f : S
     check-past true true l = receive-past Q f g h _ (arrived Q f g h (y .len) l)
     check-past true false l = status-past Q f g h l
 
-    check-receive : (z : ℕ) (b e : Bool) {s t : St} → LowEquiv c quiet s t → ApartBy c st true Q true (checks (c .number) y f b e s) (at-receive (c .number) g z t)
+    check-receive : (z : ℕ) (b e : Bool) {s t : St}
+        → LowEquiv c quiet s t → ApartBy c st true Q true (checks (c .number) y f b e s) (at-receive (c .number) g z t)
     check-receive z false e l = past-receive Q f g h z l
     check-receive z true true l = receive-receive Q f g h _ z (arrived Q f g h (y .len) l)
     check-receive z true false l = status-receive Q f g h z l
@@ -181,13 +194,17 @@ module _ {c : Channel} {st : ℕ} {A B : Type 0} (Q : A → B → Type 0) (f : S
     check-status true false l = status-status l
 
 -- in both: the two checks need not go alike
-module _ {c : Channel} {st : ℕ} {A B : Type 0} (Q : A → B → Type 0) (f : St → tree.Out St A) (g : St → tree.Out St B) (h : (s t : St) → LowEquiv c quiet s t → Apart c st true Q (f s) (g t)) (y y′ : Transfer) where
+module _ {c : Channel} {st : ℕ} {A B : Type 0} (Q : A → B → Type 0) (f : St → tree.Out St A) (g : St → tree.Out St B)
+    (h : (s t : St) → LowEquiv c quiet s t → Apart c st true Q (f s) (g t)) (y y′ : Transfer) where
   check-check : (b b′ e e′ : Bool) {s t : St} → LowEquiv c quiet s t → ApartBy c st true Q true (checks (c .number) y f b e s) (checks (c .number) y′ g b′ e′ t)
   check-check b false e e′ l = check-past Q f g h y b e l
   check-check b true e true {s} {t} l = check-receive Q f g h y _ b e (like-sym (arrived (λ b a. Q a b) g f (flipped h) (y′ .len) (like-sym l)))
   check-check b true e false l = check-status Q f g h y b e l
 
-pub p-own-check : {c : Channel} {st : ℕ} {A B : Type 0} {Q : A → B → Type 0} (y y′ : Transfer) (iso : Bool) {p : Script true A} {p′ : Script true B} → Pair c st Q p p′ → PairBy c st true Q (checkOne y iso (c .number) >> p) (checkOne y′ iso (c .number) >> p′)
+pub p-own-check : {c : Channel} {st : ℕ} {A B : Type 0} {Q : A → B → Type 0}
+    (y y′ : Transfer) (iso : Bool) {p : Script true A} {p′ : Script true B}
+    → Pair c st Q p p′ → PairBy c st true Q (checkOne y iso (c .number) >> p) (checkOne y′ iso (c .number) >> p′)
 p-own-check {c} {Q = Q} y y′ iso {p} {p′} h = record {
-  on = λ s t l. check-check Q (λ z. run concrete p z) (λ z. run concrete p′ z) (λ s t l. h .on s t l) y y′ (isOf (changed (c .number)) s) (isOf (changed (c .number)) t) (entry y iso (c .number)) (entry y′ iso (c .number)) l;
+  on = λ s t l. check-check Q (λ z. run concrete p z) (λ z. run concrete p′ z) (λ s t l. h .on s t l) y y′
+      (isOf (changed (c .number)) s) (isOf (changed (c .number)) t) (entry y iso (c .number)) (entry y′ iso (c .number)) l;
 }

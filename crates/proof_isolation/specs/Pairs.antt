@@ -3,20 +3,25 @@ use mathlib.Core.Bool.{Bool, true, false, true≢false}
 use mathlib.Core.Path.{_≡_, refl, subst, sym}
 use Prim.Native.Nat.{ℕ, zero, suc}
 use Rattle.regs.specs.declared.Reg.{Reg}
-use Rattle.regs.specs.declared.Reg.the-variants.{IntFg, IntSt, MisSt, RxLen, FrameNo, Ctrl, IntEn, DevAd, HostCtrl, EpConfig, EpType, EpBufMod, EpMaxLen, EpTLen, EpRxCtrl, EpTxCtrl}
+use Rattle.regs.specs.declared.Reg.the-variants.{IntFg, IntSt, MisSt, RxLen, FrameNo, Ctrl, IntEn, DevAd, HostCtrl}
+use Rattle.regs.specs.declared.Reg.the-variants.{EpConfig, EpType, EpBufMod, EpMaxLen, EpTLen, EpRxCtrl, EpTxCtrl}
 use Rattle.regs.specs.declared.Access.{Access}
 use Rattle.regs.specs.declared.Access.the-variants.{Read, Write, Receive, Transmit, Ep0Dma, Wait, Callback}
 use Rattle.model.specs.Tree.{Out, ends, asks, bindOut}
 use Rattle.model.specs.Cells.{Cell, Val}
 use Rattle.model.specs.Every.{sameReg}
-use Rattle.model.specs.Script.{Script, ret, bind, test, _>>_, when, read, write, wait, callback, get, put, is, look, fetch, act, hand, row, rows, Test, Look, Fetch, Act, DmaStep, dmaStepAsk, Burst, lastOf, burstAsk}
+use Rattle.model.specs.Script.{Script, ret, bind, test, _>>_, when, read, write, wait, callback, get, put, is, look}
+use Rattle.model.specs.Script.{fetch, act, hand, row, rows, Test, Look, Fetch, Act, DmaStep, dmaStepAsk, Burst, lastOf}
+use Rattle.model.specs.Script.{burstAsk}
 use Rattle.model.specs.Simulates.{quiet, mid, Fits}
 use Rattle.model_ops.specs.Rings.{St, rowOn}
 use Rattle.model_ops.specs.Concrete.{concrete, getOn, putOn, isOf, lookOf, fetchOf, actOn, handOn}
 use Rattle.proof_isolation.specs.EqualExcept.{Channel, LowEquiv}
 use Rattle.proof_isolation.specs.Likes.{like-sym, touched-refl}
 use Rattle.proof_isolation.specs.Whose.{sof}
-use Rattle.proof_isolation.specs.Apart.{Reads, Brings, ownable, Next, next, Another, never, elsewhere, Its, status, receive, Past, gone, waits, ApartBy, end, both, left, right, owns, Apart, PairBy, Pair}
+use Rattle.proof_isolation.specs.Apart.{Reads, Brings, ownable, Next, next, Another, never, elsewhere, Its}
+use Rattle.proof_isolation.specs.Apart.{status, receive, Past, gone, waits, ApartBy, end, both, left, right, owns}
+use Rattle.proof_isolation.specs.Apart.{Apart, PairBy, Pair}
 
 abbrev pub Eq : {A : Type 0} → A → A → Type 0
 Eq a b = a ≡ b
@@ -91,7 +96,8 @@ record Met (ch : Channel) {A B : Type 0} (P : A → B → Type 0) (b : B) (t : S
 module _ {ch : Channel} {st : ℕ} where
   -- ---- outcomes
 
-  unfoldable pub apart-more : {m i : Bool} {A B : Type 0} {P Q : A → B → Type 0} {o : Out St A} {u : Out St B} → ((a : A) (b : B) → P a b → Q a b) → ApartBy ch st i P m o u → ApartBy ch st i Q m o u
+  unfoldable pub apart-more : {m i : Bool} {A B : Type 0} {P Q : A → B → Type 0} {o : Out St A} {u : Out St B}
+      → ((a : A) (b : B) → P a b → Q a b) → ApartBy ch st i P m o u → ApartBy ch st i Q m o u
   apart-more f (end q l) = end (f _ _ q) l
   apart-more f (both φ w p p′ l k) = both φ w p p′ l (λ v v′ s t b r. apart-more f (k v v′ s t b r))
   apart-more f (left w p z k) = left w p z (λ v s l. apart-more f (k v s l))
@@ -99,9 +105,11 @@ module _ {ch : Channel} {st : ℕ} where
   apart-more f (owns w w′ l k k′) = owns w w′ l (λ v s t r. apart-more f (k v s t r)) (λ v s t r. apart-more f (k′ v s t r))
 
   -- either run may be named first
-  unfoldable pub apart-flip : {m i : Bool} {A B : Type 0} {Q : A → B → Type 0} {o : Out St A} {u : Out St B} → ApartBy ch st i Q m o u → ApartBy ch st i (λ b a. Q a b) m u o
+  unfoldable pub apart-flip : {m i : Bool} {A B : Type 0} {Q : A → B → Type 0} {o : Out St A} {u : Out St B}
+      → ApartBy ch st i Q m o u → ApartBy ch st i (λ b a. Q a b) m u o
   apart-flip (end q l) = end q (like-sym l)
-  apart-flip (both {q = q} φ f p p′ l k) = both φ f p′ p (like-sym l) (λ v v′ s t b r. apart-flip (k v′ v t s (brings-sym (ch .number) st q v v′ b) (like-sym r)))
+  apart-flip (both {q = q} φ f p p′ l k) =
+      both φ f p′ p (like-sym l) (λ v v′ s t b r. apart-flip (k v′ v t s (brings-sym (ch .number) st q v v′ b) (like-sym r)))
   apart-flip (left w p z k) = right w p z (λ v s l. apart-flip (k v s l))
   apart-flip (right w p z k) = left w p z (λ v t l. apart-flip (k v t l))
   apart-flip (owns w w′ l k k′) = owns w′ w (like-sym l) (λ v t s r. apart-flip (k′ v s t (like-sym r))) (λ v t s r. apart-flip (k v s t (like-sym r)))
@@ -119,26 +127,38 @@ module _ {ch : Channel} {st : ℕ} where
   met (end q l) = record { value = _; state = _; holds = q; like = l }
   met (left {s = s} w p z k) = met (k sof s (touched-refl z))
 
-  past-after : {i : Bool} {A B C D : Type 0} {P : A → B → Type 0} {Q : C → D → Type 0} {o : Out St A} {u : Out St B} {f : A → St → Out St C} {g : B → St → Out St D} → i ≡ true
-      → ApartBy ch st i P true o u → Past (ch .number) u → ((a : A) (b : B) (s t : St) → P a b → LowEquiv ch quiet s t → Apart ch st i Q (f a s) (g b t)) → Past (ch .number) (bindOut u g)
+  past-after : {i : Bool} {A B C D : Type 0} {P : A → B → Type 0} {Q : C
+      → D → Type 0} {o : Out St A} {u : Out St B} {f : A → St → Out St C} {g : B → St → Out St D} → i ≡ true
+      → ApartBy ch st i P true o u → Past (ch .number) u
+      → ((a : A) (b : B) (s t : St) → P a b → LowEquiv ch quiet s t → Apart ch st i Q (f a s) (g b t))
+      → Past (ch .number) (bindOut u g)
   past-after e d gone h = let w = met d in past-of e (h _ _ _ _ (w .holds) (w .like))
   past-after {g = g} e d (waits n) h = waits (λ s. another-bind g (n s))
 
   -- x's own accesses come after
-  apart-bind : {m i : Bool} {A B C D : Type 0} {P : A → B → Type 0} {Q : C → D → Type 0} {o : Out St A} {u : Out St B} {f : A → St → Out St C} {g : B → St → Out St D}
-      → Apart ch st i P o u → ((a : A) (b : B) (s t : St) → P a b → LowEquiv ch quiet s t → ApartBy ch st i Q m (f a s) (g b t)) → ApartBy ch st i Q m (bindOut o f) (bindOut u g)
+  apart-bind : {m i : Bool} {A B C D : Type 0} {P : A
+      → B → Type 0} {Q : C → D → Type 0} {o : Out St A} {u : Out St B} {f : A → St → Out St C} {g : B → St → Out St D}
+      → Apart ch st i P o u → ((a : A) (b : B) (s t : St) → P a b → LowEquiv ch quiet s t → ApartBy ch st i Q m (f a s) (g b t))
+      → ApartBy ch st i Q m (bindOut o f) (bindOut u g)
   apart-bind (end q l) h = h _ _ _ _ q l
-  apart-bind {f = f} {g = g} (both φ z p p′ l k) h = both φ z (λ e s. another-bind f (p e s)) (λ e s. another-bind g (p′ e s)) l (λ v v′ s t b r. apart-bind (k v v′ s t b r) h)
+  apart-bind {f = f} {g = g} (both φ z p p′ l k) h = both φ z
+      (λ e s. another-bind f (p e s)) (λ e s. another-bind g (p′ e s)) l (λ v v′ s t b r. apart-bind (k v v′ s t b r) h)
 
   -- or before
-  apart-before : {m i : Bool} {A B C D : Type 0} {P : A → B → Type 0} {Q : C → D → Type 0} {o : Out St A} {u : Out St B} {f : A → St → Out St C} {g : B → St → Out St D}
-      → ApartBy ch st i P m o u → ((a : A) (b : B) (s t : St) → P a b → LowEquiv ch quiet s t → Apart ch st i Q (f a s) (g b t)) → ApartBy ch st i Q m (bindOut o f) (bindOut u g)
+  apart-before : {m i : Bool} {A B C D : Type 0} {P : A
+      → B → Type 0} {Q : C → D → Type 0} {o : Out St A} {u : Out St B} {f : A → St → Out St C} {g : B → St → Out St D}
+      → ApartBy ch st i P m o u → ((a : A) (b : B) (s t : St) → P a b → LowEquiv ch quiet s t → Apart ch st i Q (f a s) (g b t))
+      → ApartBy ch st i Q m (bindOut o f) (bindOut u g)
   apart-before (end q l) h = apart-later (h _ _ _ _ q l)
-  apart-before {f = f} {g = g} (both φ z p p′ l k) h = both φ z (λ e s. another-bind f (p e s)) (λ e s. another-bind g (p′ e s)) l (λ v v′ s t b r. apart-before (k v v′ s t b r) h)
-  apart-before {f = f} (left {s = s} w p z k) h = left (w .0, λ s. its-bind f (w .1 s)) (past-after (w .0) (k sof s (touched-refl z)) p h) z (λ v s l. apart-before (k v s l) h)
-  apart-before {g = g} (right {t = t} w p z k) h = right (w .0, λ s. its-bind g (w .1 s)) (past-after (w .0) (apart-flip (k sof t (touched-refl z))) p (λ b a t s q l. apart-flip (h a b s t q (like-sym l)))) z
+  apart-before {f = f} {g = g} (both φ z p p′ l k) h = both φ z (λ e s. another-bind f (p e s))
+      (λ e s. another-bind g (p′ e s)) l (λ v v′ s t b r. apart-before (k v v′ s t b r) h)
+  apart-before {f = f} (left {s = s} w p z k) h = left (w .0, λ s. its-bind f (w .1 s))
+      (past-after (w .0) (k sof s (touched-refl z)) p h) z (λ v s l. apart-before (k v s l) h)
+  apart-before {g = g} (right {t = t} w p z k) h = right (w .0, λ s. its-bind g (w .1 s))
+      (past-after (w .0) (apart-flip (k sof t (touched-refl z))) p (λ b a t s q l. apart-flip (h a b s t q (like-sym l)))) z
       (λ v t l. apart-before (k v t l) h)
-  apart-before {f = f} {g = g} (owns w w′ l k k′) h = owns (w .0, λ s. its-bind f (w .1 s)) (w′ .0, λ s. its-bind g (w′ .1 s)) l (λ v s t r. apart-before (k v s t r) h) (λ v s t r. apart-before (k′ v s t r) h)
+  apart-before {f = f} {g = g} (owns w w′ l k k′) h = owns (w .0, λ s. its-bind f (w .1 s)) (w′ .0, λ s. its-bind g (w′ .1 s)) l
+      (λ v s t r. apart-before (k v s t r) h) (λ v s t r. apart-before (k′ v s t r) h)
 
   -- ---- composed scripts
 
@@ -171,16 +191,19 @@ module _ {ch : Channel} {st : ℕ} where
         → PairBy ch st m Any p p′ → Pair ch st Q q q′ → PairBy ch st m Q (p >> q) (p′ >> q′)
     p-before-then h k = p-before h (λ _ _ _. k)
 
-    pub p-test : {p q : Script i A} {p′ q′ : Script i B} (b : Bool) → (b ≡ true → PairBy ch st m Q p p′) → (b ≡ false → PairBy ch st m Q q q′) → PairBy ch st m Q (test b p q) (test b p′ q′)
+    pub p-test : {p q : Script i A} {p′ q′ : Script i B} (b : Bool) → (b ≡ true → PairBy ch st m Q p p′)
+        → (b ≡ false → PairBy ch st m Q q q′) → PairBy ch st m Q (test b p q) (test b p′ q′)
     p-test true h k = record { on = λ s t r. h refl .on s t r }
     p-test false h k = record { on = λ s t r. k refl .on s t r }
 
-    pub p-tests : {p q : Script i A} {p′ q′ : Script i B} {b c : Bool} → b ≡ c → (b ≡ true → PairBy ch st m Q p p′) → (b ≡ false → PairBy ch st m Q q q′) → PairBy ch st m Q (test b p q) (test c p′ q′)
+    pub p-tests : {p q : Script i A} {p′ q′ : Script i B} {b c : Bool} → b ≡ c → (b ≡ true → PairBy ch st m Q p p′)
+        → (b ≡ false → PairBy ch st m Q q q′) → PairBy ch st m Q (test b p q) (test c p′ q′)
     p-tests {p = p} {q = q} {p′ = p′} {q′ = q′} {b = b} e h k = subst (λ z. PairBy ch st m Q (test b p q) (test z p′ q′)) e (p-test b h k)
 
     -- a bind's first part by its own parts
     pub p-bind-test : {C D : Type 0} {p q : Script i C} {p′ q′ : Script i D} {f : C → Script i A} {g : D → Script i B} (b : Bool)
-        → (b ≡ true → PairBy ch st m Q (bind p f) (bind p′ g)) → (b ≡ false → PairBy ch st m Q (bind q f) (bind q′ g)) → PairBy ch st m Q (bind (test b p q) f) (bind (test b p′ q′) g)
+        → (b ≡ true → PairBy ch st m Q (bind p f) (bind p′ g)) → (b ≡ false → PairBy ch st m Q (bind q f) (bind q′ g))
+        → PairBy ch st m Q (bind (test b p q) f) (bind (test b p′ q′) g)
     p-bind-test true h k = record { on = λ s t r. h refl .on s t r }
     p-bind-test false h k = record { on = λ s t r. k refl .on s t r }
 
@@ -203,10 +226,12 @@ module _ {ch : Channel} {st : ℕ} where
     pub p-callback : Pair ch st {i = i} Any callback callback
     p-callback = record { on = λ s t l. both quiet (rests i) (λ _ _. never refl) (λ _ _. never refl) l (λ v v′ s t b l. end tt l) }
 
-    pub p-get : (c : Cell) (P : Val c → Val c → Type 0) → ((s t : St) → LowEquiv ch quiet s t → P (getOn c s) (getOn c t)) → Pair ch st {i = i} P (get c) (get c)
+    pub p-get : (c : Cell) (P : Val c → Val c → Type 0)
+        → ((s t : St) → LowEquiv ch quiet s t → P (getOn c s) (getOn c t)) → Pair ch st {i = i} P (get c) (get c)
     p-get c P h = record { on = λ s t l. end (h s t l) l }
 
-    pub p-put : (c : Cell) (v v′ : Val c) → ((s t : St) → LowEquiv ch quiet s t → LowEquiv ch quiet (putOn c v s) (putOn c v′ t)) → Pair ch st {i = i} Any (put c v) (put c v′)
+    pub p-put : (c : Cell) (v v′ : Val c) → ((s t : St) → LowEquiv ch quiet s t → LowEquiv ch quiet (putOn c v s) (putOn c v′ t))
+        → Pair ch st {i = i} Any (put c v) (put c v′)
     p-put c v v′ h = record { on = λ s t l. end tt (h s t l) }
 
     pub p-is : (q : Test) → ((s t : St) → LowEquiv ch quiet s t → isOf q s ≡ isOf q t) → Pair ch st {i = i} Eq (is q) (is q)
@@ -221,19 +246,26 @@ module _ {ch : Channel} {st : ℕ} where
     pub p-act : (q : Act) → ((s t : St) → LowEquiv ch quiet s t → LowEquiv ch quiet (actOn q s) (actOn q t)) → Pair ch st {i = i} Any (act q) (act q)
     p-act q h = record { on = λ s t l. end tt (h s t l) }
 
-    pub p-hand : (q : DmaStep) → ((y : ℕ) → ownable (ch .number) (dmaStepAsk q y) ≡ false) → ((s t : St) → LowEquiv ch quiet s t → (handOn q s .0 ≡ handOn q t .0) × LowEquiv ch quiet (handOn q s .1) (handOn q t .1)) → Pair ch st {i = i} Any (hand q) (hand q)
+    pub p-hand : (q : DmaStep) → ((y : ℕ) → ownable (ch .number) (dmaStepAsk q y) ≡ false)
+        → ((s t : St) → LowEquiv ch quiet s t → (handOn q s .0 ≡ handOn q t .0) × LowEquiv ch quiet (handOn q s .1) (handOn q t .1))
+        → Pair ch st {i = i} Any (hand q) (hand q)
     p-hand q n h = record {
-      on = λ s t l. subst (λ y. Apart ch st i Any (asks (dmaStepAsk q (handOn q s .0)) (handOn q s .1) (λ _ t. ends tt t)) (asks (dmaStepAsk q y) (handOn q t .1) (λ _ t. ends tt t))) (h s t l .0)
+      on = λ s t l. subst
+          (λ y. Apart ch st i Any (asks (dmaStepAsk q (handOn q s .0)) (handOn q s .1) (λ _ t. ends tt t))
+          (asks (dmaStepAsk q y) (handOn q t .1) (λ _ t. ends tt t))) (h s t l .0)
           (both quiet (rests i) (λ _ _. never (n _)) (λ _ _. never (n _)) (h s t l .1) (λ v v′ s t b l. end tt l));
     }
 
   -- ---- a row of accesses
 
-  module _ (g : Burst) (next : (n : ℕ) (s t : St) → LowEquiv ch (mid g (suc n)) s t → Steps ch g n s t) (over : (s t : St) → LowEquiv ch (mid g zero) s t → LowEquiv ch quiet s t) where
+  module _ (g : Burst) (next : (n : ℕ) (s t : St) → LowEquiv ch (mid g (suc n)) s t → Steps ch g n s t)
+      (over : (s t : St) → LowEquiv ch (mid g zero) s t → LowEquiv ch quiet s t) where
     steps : (n : ℕ) (s t : St) → Steps ch g n s t → Apart ch st false Any (rows concrete g n stop s) (rows concrete g n stop t)
     steps zero s t x = subst (λ y. Apart ch st false Any (rows concrete g zero stop s) (asks (burstAsk g zero y) (rowOn g zero t .1) (λ _ t. stop t))) (x .0)
         (both (mid g zero) tt no-interrupt no-interrupt (x .1) (λ v v′ s t b l. end tt (over s t l)))
-    steps (suc n) s t x = subst (λ y. Apart ch st false Any (rows concrete g (suc n) stop s) (asks (burstAsk g (suc n) y) (rowOn g (suc n) t .1) (λ _ t. rows concrete g n stop t))) (x .0)
+    steps (suc n) s t x = subst
+        (λ y. Apart ch st false Any (rows concrete g (suc n) stop s)
+        (asks (burstAsk g (suc n) y) (rowOn g (suc n) t .1) (λ _ t. rows concrete g n stop t))) (x .0)
         (both (mid g (suc n)) tt no-interrupt no-interrupt (x .1) (λ v v′ s t b l. steps n s t (next n s t l)))
 
     pub p-row : ((s t : St) → LowEquiv ch quiet s t → Steps ch g (lastOf g) s t) → Pair ch st Any (row g) (row g)

@@ -56,7 +56,8 @@ below-sized (suc n) z = renewed-sized In n (renewed-sized Out n (below-sized n z
 below-seat : (x n : ℕ) {d : Driver} → Sized d → SamePlace (epOn d Out x) (epOn (resetBelow n d) Out x)
 unfolding resetBelow
 below-seat x zero {d} z = same-place (epOn d Out x)
-below-seat x (suc n) z = let y = below-sized n z in place-trans (below-seat x n z) (place-trans (renewed-seat x Out n y) (renewed-seat x In n (renewed-sized Out n y)))
+below-seat x (suc n) z = let y = below-sized n z in
+    place-trans (below-seat x n z) (place-trans (renewed-seat x Out n y) (renewed-seat x In n (renewed-sized Out n y)))
 
 below-but : {x : ℕ} (n : ℕ) {d d′ : Driver} → Sized d → Sized d′ → EqualExcept x d d′ → EqualExcept x (resetBelow n d) (resetBelow n d′)
 unfolding resetBelow
@@ -86,7 +87,8 @@ none-but h = record {
 module _ (c : Channel) where
   all-but : {d d′ : Driver} → Sized d → Sized d′ → EqualExcept (c .number) d d′ → EqualExcept (c .number) (resetAll d) (resetAll d′)
   unfolding resetAll
-  all-but z z′ h = let k = none-but (below-but 16 z z′ h) in but-globals k _ _ (ap (λ (g : Globals). withSetup 0 (g .«setup_low») (g .«setup_high») g) (k .globals))
+  all-but z z′ h = let k = none-but (below-but 16 z z′ h) in
+      but-globals k _ _ (ap (λ (g : Globals). withSetup 0 (g .«setup_low») (g .«setup_high») g) (k .globals))
 
   all-seat : {d : Driver} → Sized d → SamePlace (epOn d Out (c .number)) (epOn (resetAll d) Out (c .number))
   unfolding resetAll noStamps epOn
@@ -109,7 +111,11 @@ module _ (c : Channel) where
     like-made l (lawful-next c bus-reset zero (l .left)) (lawful-next c bus-reset zero (l .right))
         (all-but (l .left .rest .sized) (l .right .rest .sized) (l .but)) (all-seat (l .left .rest .sized)) (l .bytes),
   )
-  next (suc zero) s t l = (refl, like-made l (lawful-next c bus-reset 1 (l .left)) (lawful-next c bus-reset 1 (l .right)) (l .but) (same-place (epOn (s .0) Out (c .number))) (l .bytes))
+  next (suc zero) s t l = (
+    refl,
+    like-made l (lawful-next c bus-reset 1 (l .left))
+        (lawful-next c bus-reset 1 (l .right)) (l .but) (same-place (epOn (s .0) Out (c .number))) (l .bytes),
+  )
   next (suc (suc zero)) s t l = (
     refl,
     like-made l (lawful-next c bus-reset 2 (l .left)) (lawful-next c bus-reset 2 (l .right))

@@ -63,8 +63,10 @@ module _ (c : Channel) (e : ℕ) (n : key Out e ≢ key Out (c .number)) where
       like-made l
       (lawful-act c (take-oldest e) refl (l .left))
       (lawful-act c (take-oldest e) refl (l .right))
-      (but-cond _ _ (ap hasWaiting h) (but-on (l .but) (l .left .rest .sized) (l .right .rest .sized) Out e _ _ (λ _. ap closedOf h) (λ p. absurd (n p))) (l .but))
-      (cond-seat (c .number) (epOn (s .0) Out (c .number)) (hasWaiting (epOn (s .0) Out e)) _ _ (on-seat (c .number) (s .0) Out e _ n) (same-place (epOn (s .0) Out (c .number)))) (l .bytes)
+      (but-cond _ _ (ap hasWaiting h)
+      (but-on (l .but) (l .left .rest .sized) (l .right .rest .sized) Out e _ _ (λ _. ap closedOf h) (λ p. absurd (n p))) (l .but))
+      (cond-seat (c .number) (epOn (s .0) Out (c .number)) (hasWaiting (epOn (s .0) Out e)) _ _
+      (on-seat (c .number) (s .0) Out e _ n) (same-place (epOn (s .0) Out (c .number)))) (l .bytes)
 
   -- what was received, within the maximum, lies in its own slot
   received-same : (s t : St) → LowEquiv c quiet s t → (k : ℕ) → k ≤ epOn (s .0) Out e .«max_len» → fetchOf (received e k) s ≡ fetchOf (received e k) t
@@ -73,7 +75,8 @@ module _ (c : Channel) (e : ℕ) (n : key Out e ≢ key Out (c .number)) where
       let f = l .left .rest .outs e .held in
       let u = slot-upto (f .placed) 0 in
       let w = slot-from (f .placed) 0 in
-      bytes-same (s .1) (t .1) (r .base) k (l .bytes .long) (omega (arith, f .least, u, w, f .placed .inside)) (others-same l Out e _ _ n (omega arith) (omega (arith, f .least, u, w)))
+      bytes-same (s .1) (t .1) (r .base) k (l .bytes .long) (omega (arith, f .least, u, w, f .placed .inside))
+      (others-same l Out e _ _ n (omega arith) (omega (arith, f .least, u, w)))
       ∙ ap (λ (r : EpState). bytesAt (t .1) (r .base) k) (l .but .eps Out e n)
 
   module _ {st : ℕ} {i : Bool} where
@@ -85,29 +88,41 @@ module _ (c : Channel) (e : ℕ) (n : key Out e ≢ key Out (c .number)) where
   module _ (st : ℕ) (i : Bool) (k : ℕ) where
     -- the packet is taken, its record as it was but for `ready`
     tail : (v : EpCore) (b : Bool) → tooLong k v ≡ b → (s t : St) → LowEquiv c quiet s t → epOn (s .0) Out e .«max_len» ≡ v .«max_len»
-        → Apart c st i (SameAnswer (c .number)) (run {i = i} concrete (test b (ends-request Out e (Refused 10)) (bind (fetch (received e (v .len))) (λ w. ends-request Out e (Done w)))) s)
+        → Apart c st i (SameAnswer (c .number))
+        (run {i = i} concrete
+        (test b (ends-request Out e (Refused 10)) (bind (fetch (received e (v .len))) (λ w. ends-request Out e (Done w)))) s)
         (run {i = i} concrete (test b (ends-request Out e (Refused 10)) (bind (fetch (received e (v .len))) (λ w. ends-request Out e (Done w)))) t)
     tail v true z s t l m = p-ends-request {i = i} Out e (Refused 10) .on s t l
     tail v false z s t l m =
-        subst (λ w. Apart c st i (SameAnswer (c .number)) (run {i = i} concrete (ends-request Out e (Done (fetchOf (received e (v .len)) s))) s) (run {i = i} concrete (ends-request Out e (Done w)) t))
+        subst
+        (λ w. Apart c st i (SameAnswer (c .number)) (run {i = i} concrete (ends-request Out e (Done (fetchOf (received e (v .len)) s))) s)
+        (run {i = i} concrete (ends-request Out e (Done w)) t))
         (received-same s t l (v .len) (omega (arith, m, within k v z))) (p-ends-request {i = i} Out e (Done _) .on s t l)
 
     ready : (v : EpCore) (b : Bool) (s t : St) → LowEquiv c quiet s t → plainOf (epOn (s .0) Out e) ≡ v
-        → Apart c st i (SameAnswer (c .number)) (run {i = i} concrete (test b (readyOut e k v) (notReady e)) s) (run {i = i} concrete (test b (readyOut e k v) (notReady e)) t)
+        → Apart c st i (SameAnswer (c .number)) (run {i = i} concrete (test b (readyOut e k v) (notReady e)) s)
+        (run {i = i} concrete (test b (readyOut e k v) (notReady e)) t)
     ready v true s t l p =
         let r = epOn (s .0) Out e in
         let w = withReady 0 (plainOf r) in
-        subst (λ q. Apart c st i (SameAnswer (c .number)) (run {i = i} concrete (taken e k v) (putOn (ep-cell Out e) w s)) (run {i = i} concrete (taken e k v) (putOn (ep-cell Out e) (withReady 0 q) t))) (plain-other c Out e n s t l)
-        (tail v (tooLong k v) refl _ _ (record-kept c Out e w w refl (λ _. refl) s t l) (ap (λ (q : EpState). q .«max_len») (epOn-same (s .0) Out e (merged r w) (l .left .rest .sized)) ∙ ap (λ (q : EpCore). q .«max_len») p))
+        subst
+        (λ q. Apart c st i (SameAnswer (c .number)) (run {i = i} concrete (taken e k v) (putOn (ep-cell Out e) w s))
+        (run {i = i} concrete (taken e k v) (putOn (ep-cell Out e) (withReady 0 q) t))) (plain-other c Out e n s t l)
+        (tail v (tooLong k v) refl _ _ (record-kept c Out e w w refl (λ _. refl) s t l)
+        (ap (λ (q : EpState). q .«max_len») (epOn-same (s .0) Out e (merged r w) (l .left .rest .sized))
+        ∙ ap (λ (q : EpCore). q .«max_len») p))
     ready v false s t l p = p-enabled {i = i} Out e (p-ends-request Out e (Refused 9)) (p-ret (same NotYet)) .on s t l
 
     chosen : (v : EpCore) (b : Bool) (s t : St) → LowEquiv c quiet s t → plainOf (epOn (s .0) Out e) ≡ v
-        → Apart c st i (SameAnswer (c .number)) (run {i = i} concrete (test b (take-iso e k) (take-ready e k v)) s) (run {i = i} concrete (test b (take-iso e k) (take-ready e k v)) t)
+        → Apart c st i (SameAnswer (c .number)) (run {i = i} concrete (test b (take-iso e k) (take-ready e k v)) s)
+        (run {i = i} concrete (test b (take-iso e k) (take-ready e k v)) t)
     chosen v true s t l p = p-take-iso {i = i} k .on s t l
     chosen v false s t l p = ready v (isOn (v .ready)) s t l p
 
   pub p-poll-read : {st : ℕ} {i : Bool} (k : ℕ) → Pair c st {i = i} (SameAnswer (c .number)) (polled Out e k (taking e k)) (polled Out e k (taking e k))
   p-poll-read {st} {i} k = p-polled Out e k n (record {
-    on = λ s t l. subst (λ q. Apart c st i (SameAnswer (c .number)) (run {i = i} concrete (taking e k (plainOf (epOn (s .0) Out e))) s) (run {i = i} concrete (taking e k q) t)) (plain-other c Out e n s t l)
+    on = λ s t l. subst
+        (λ q. Apart c st i (SameAnswer (c .number)) (run {i = i} concrete (taking e k (plainOf (epOn (s .0) Out e))) s)
+        (run {i = i} concrete (taking e k q) t)) (plain-other c Out e n s t l)
         (chosen st i k (plainOf (epOn (s .0) Out e)) (isOn (epOn (s .0) Out e .iso)) s t l refl);
   })

@@ -13,7 +13,8 @@ use Rattle.state.specs.Wakes.{listed}
 use Rattle.ring.specs.Waiting.{waiting}
 use Rattle.model.specs.Answers.{Answer, Refused, End}
 use Rattle.model.specs.Calls.{Config, Op, interrupt, slotted, other, aside, slots, calls}
-use Rattle.model.specs.Machine.{Buf, Question, pending, overruns, enabled, Call, start, begin, go, question, Event, Ans, ended, handed, told, Way, idle, busy, Machine, over, misfit, lentTo}
+use Rattle.model.specs.Machine.{Buf, Question, pending, overruns, enabled, Call, start, begin, go, question, Event, Ans}
+use Rattle.model.specs.Machine.{ended, handed, told, Way, idle, busy, Machine, over, misfit, lentTo}
 use Rattle.model_ops.specs.Rings.{St}
 use Rattle.machine.specs.Suspended.{driverOf, drive}
 use Rattle.machine.specs.Goes.{Called}
@@ -88,7 +89,10 @@ statusOf (busy i a k) st old = old
 module _ (share : Bool) (n : ℕ) where
   abbrev pub shared : Call Config Op → Machine Answer Driver → List ℕ → Buf → Called × List ℕ
   shared c m t b =
-      cond (turnedDown n (sortOf c) (drive c m b .0) (m .st) t && share) ((ended (Refused 19), lentTo calls driverOf m b), t) (drive c m b, timeAfter n (sortOf c) (drive c m b .0) (m .st) t)
+      cond (turnedDown n (sortOf c) (drive c m b .0) (m .st) t && share) ((ended (Refused 19), lentTo calls driverOf m b), t) (
+        drive c m b,
+        timeAfter n (sortOf c) (drive c m b .0) (m .st) t,
+      )
 
   -- a call whose answer is compared, and one of the channel's own, whose answer is not
   abbrev pub called : Call Config Op → Buf → Run → Run
@@ -105,7 +109,11 @@ module _ (share : Bool) (n : ℕ) where
   alone (question q) b r = apart (question q) b r
 
   abbrev pub turn : Turn → Two → Two
-  turn (begins st o b b′) w = record { first = called (begin o) b (w .first); second = called (begin o) b′ (w .second); status = statusOf (w .first .machine .way) st (w .status) }
+  turn (begins st o b b′) w = record {
+    first = called (begin o) b (w .first);
+    second = called (begin o) b′ (w .second);
+    status = statusOf (w .first .machine .way) st (w .status);
+  }
   turn (goes v v′ b b′) w = record { first = called (go v) b (w .first); second = called (go v′) b′ (w .second); status = w .status }
   turn (asked q b b′) w = record { first = called (question q) b (w .first); second = called (question q) b′ (w .second); status = w .status }
   turn (stores b b′) w = record { first = storedIn b (w .first); second = storedIn b′ (w .second); status = w .status }
@@ -122,7 +130,8 @@ module _ (share : Bool) (n : ℕ) where
   abbrev pub heeded : List Early → Run → List (Event Config Op)
   heeded [] r = []
   heeded (gets e ∷ es) r =
-      cond (turnedDown n (sortOf (e .call)) (drive (e .call) (r .machine) (e .lent) .0) (r .machine .st) (r .time) && share) (record { call = question (pending 0); lent = e .lent }) e ∷ heeded es (called (e .call) (e .lent) r)
+      cond (turnedDown n (sortOf (e .call)) (drive (e .call) (r .machine) (e .lent) .0) (r .machine .st) (r .time) && share)
+      (record { call = question (pending 0); lent = e .lent }) e ∷ heeded es (called (e .call) (e .lent) r)
   heeded (shares f ∷ es) r = heeded es (sharing f r)
 
 -- ---- the premise
@@ -200,7 +209,8 @@ module _ (c : Channel) where
   -- too; the channel's opens, closes and read's polls; stores in the channel's slots. Not allowed: a call of the others where one stands at an access of
   -- the channel's own and the other does not; a start-up (it begins a new session)
   abbrev pub May : Turn → Two → Type 0
-  May (begins st o b b′) w = (atOwn (w .first) ≡ atOwn (w .second)) × Common (c .number) o × Timely (w .first .machine .way) o × BothCall o (w .first) (w .second) b b′
+  May (begins st o b b′) w = (atOwn (w .first) ≡ atOwn (w .second)) × Common (c .number) o
+      × Timely (w .first .machine .way) o × BothCall o (w .first) (w .second) b b′
   May (goes v v′ b b′) w = (atOwn (w .first) ≡ false) × (atOwn (w .second) ≡ false) × BothGo (w .status) v v′ (w .first) (w .second) b b′
   May (asked q b b′) w = (atOwn (w .first) ≡ atOwn (w .second)) × Asked q × Lent c (stateOf (w .first)) (stateOf (w .second)) b b′
   May (stores b b′) w = (atOwn (w .first) ≡ atOwn (w .second)) × Lent c (stateOf (w .first)) (stateOf (w .second)) b b′
@@ -226,10 +236,13 @@ module _ (c : Channel) where
   -- "every other endpoint has the same queue, stamps, bytes, overruns and wake-ups in both"
   pub record SameOthers (m m′ : Machine Answer Driver) : Type 0 where
     -- the packets that wait, tail to head, each with its bytes
-    pub queue : (dir : Dir) (e : ℕ) → key dir e ≢ key Out (c .number) → waiting (m .buf) (epOn (m .st) dir e) (lensOf (m .st) dir e) ≡ waiting (m′ .buf) (epOn (m′ .st) dir e) (lensOf (m′ .st) dir e)
-    pub stamps : (e : ℕ) → key Out e ≢ key Out (c .number) → stamped (epOn (m .st) Out e) (slotStamps (m .st) e) ≡ stamped (epOn (m′ .st) Out e) (slotStamps (m′ .st) e)
+    pub queue : (dir : Dir) (e : ℕ) → key dir e ≢ key Out (c .number) → waiting (m .buf)
+        (epOn (m .st) dir e) (lensOf (m .st) dir e) ≡ waiting (m′ .buf) (epOn (m′ .st) dir e) (lensOf (m′ .st) dir e)
+    pub stamps : (e : ℕ) → key Out e ≢ key Out (c .number)
+        → stamped (epOn (m .st) Out e) (slotStamps (m .st) e) ≡ stamped (epOn (m′ .st) Out e) (slotStamps (m′ .st) e)
     -- of its slots
-    pub bytes : (dir : Dir) (e k : ℕ) → key dir e ≢ key Out (c .number) → epOn (m .st) dir e .base ≤ k → k < endOf (epOn (m .st) dir e) → getD (m .buf) k 0 ≡ getD (m′ .buf) k 0
+    pub bytes : (dir : Dir) (e k : ℕ) → key dir e ≢ key Out (c .number)
+        → epOn (m .st) dir e .base ≤ k → k < endOf (epOn (m .st) dir e) → getD (m .buf) k 0 ≡ getD (m′ .buf) k 0
     pub overrun : (e : ℕ) → key Out e ≢ key Out (c .number) → epOn (m .st) Out e .overruns ≡ epOn (m′ .st) Out e .overruns
     -- gathered so far, "the order in which wake-ups of other endpoints stand to each other"
     pub wakes : others (c .number) (listed (m .st .wakes)) ≡ others (c .number) (listed (m′ .st .wakes))
@@ -254,7 +267,8 @@ module _ (c : Channel) where
   pub record After (t : Turn) (w : Two) : Type 0 where
     pub answers : Answered t w
     -- where neither stands at an access of the channel's own, both stand at the same access or at rest, and were answered the same last
-    pub stands : atOwn c (w .first) ≡ false → atOwn c (w .second) ≡ false → SameStand (w .first .machine .way) (w .second .machine .way) (w .first .access) (w .second .access)
+    pub stands : atOwn c (w .first) ≡ false → atOwn c (w .second) ≡ false
+        → SameStand (w .first .machine .way) (w .second .machine .way) (w .first .access) (w .second .access)
     pub lined : atOwn c (w .first) ≡ false → atOwn c (w .second) ≡ false → SameAns (c .number) (w .first .answer) (w .second .answer)
     -- there, and where both do
     pub alike : atOwn c (w .first) ≡ atOwn c (w .second) → SameOthers (w .first .machine) (w .second .machine)

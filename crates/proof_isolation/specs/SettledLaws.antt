@@ -18,11 +18,15 @@ use Rattle.ring.specs.Slot.{slotAddr, hasWaiting}
 use Rattle.ring.specs.Out.{hasRoomOut, cappedAt, armedAt}
 use Rattle.marks.specs.Copies.{copied}
 use Rattle.model.specs.Cells.{Cell, Val, globals-cell, control-cell, allocator-cell, ep-cell, request-cell, paced-cell}
-use Rattle.model.specs.Script.{Act, complete, reset-ring, set-enabled, fill, fill0, open-oldest, close-oldest, take-oldest, enqueue, allocate, allocate0, no-wakes, waken, DmaStep, arrive, send, place, place0, Burst, switch, bus-reset}
+use Rattle.model.specs.Script.{Act, complete, reset-ring, set-enabled, fill, fill0, open-oldest, close-oldest}
+use Rattle.model.specs.Script.{take-oldest, enqueue, allocate, allocate0, no-wakes, waken, DmaStep, arrive, send, place}
+use Rattle.model.specs.Script.{place0, Burst, switch, bus-reset}
 use Rattle.model.specs.Statics.{isOn, isoOuts}
 use Rattle.model.specs.TransferKinds.{allocates}
 use Rattle.model_ops.specs.Records.{isoOut, configured, enabledOn, isoAdded, withSets, recordGiven, setsGiven, givenTo, allocatedOn}
-use Rattle.model_ops.specs.Rings.{St, completeOn, emptied, emptiedOn, openOn, closeOn, takeOn, roomOn, queuedOn, enqueueOn, recordedOn, admittedOn, arrivedAt, arriveOn, sendOn, placeOn, renewedOn, armAt, slotStep, typeStep, configStep, resetBelow, resetAll, rowOn}
+use Rattle.model_ops.specs.Rings.{St, completeOn, emptied, emptiedOn, openOn, closeOn, takeOn, roomOn, queuedOn}
+use Rattle.model_ops.specs.Rings.{enqueueOn, recordedOn, admittedOn, arrivedAt, arriveOn, sendOn, placeOn, renewedOn}
+use Rattle.model_ops.specs.Rings.{armAt, slotStep, typeStep, configStep, resetBelow, resetAll, rowOn}
 use Rattle.model_ops.specs.Concrete.{putOn, actOn, handOn}
 use Rattle.proof_isolation.specs.EqualExcept.{Bounded}
 use Rattle.proof_isolation.specs.Settled.{isControl}
@@ -83,11 +87,13 @@ no-start (allocate0 maximum) h = absurd (true≢false h)
 no-start no-wakes h = refl
 no-start (waken codes) h = refl
 
-sets-settled : (dir : Dir) (kind interval e : ℕ) (g : Globals) → (withSets dir kind interval e g .stage ≡ g .stage) × (withSets dir kind interval e g .«ep0_max» ≡ g .«ep0_max»)
+sets-settled : (dir : Dir) (kind interval e : ℕ) (g : Globals)
+    → (withSets dir kind interval e g .stage ≡ g .stage) × (withSets dir kind interval e g .«ep0_max» ≡ g .«ep0_max»)
 unfolding withSets
 sets-settled dir kind interval e g = by (isIso kind) dir
   where
-    often : (b : Bool) (x : Globals) → (x .stage ≡ g .stage) × (x .«ep0_max» ≡ g .«ep0_max») → (cond b x g .stage ≡ g .stage) × (cond b x g .«ep0_max» ≡ g .«ep0_max»)
+    often : (b : Bool) (x : Globals) → (x .stage ≡ g .stage)
+        × (x .«ep0_max» ≡ g .«ep0_max») → (cond b x g .stage ≡ g .stage) × (cond b x g .«ep0_max» ≡ g .«ep0_max»)
     often true x h = h
     often false x h = (refl, refl)
 
@@ -99,7 +105,8 @@ sets-settled dir kind interval e g = by (isIso kind) dir
 given-settled : (dir : Dir) (kind maximum interval : ℕ) (a : Answer) (d : Driver) → Settled d (givenTo dir kind maximum interval a d)
 unfolding givenTo setsGiven recordGiven withOn
 given-settled dir kind maximum interval (Refused n) d = same d
-given-settled dir kind maximum interval (Given e base slots) d = let k = sets-settled dir kind interval e (d .globals) in record { control = refl; stage = k .0; most = k .1 }
+given-settled dir kind maximum interval (Given e base slots) d = let k = sets-settled dir kind interval e (d .globals) in
+    record { control = refl; stage = k .0; most = k .1 }
 
 pub act-settled : (q : Act) → starts q ≡ false → (s : St) → Settled (s .0) (actOn q s .0)
 unfolding completeOn emptied emptiedOn enabledOn configured openOn closeOn takeOn enqueueOn queuedOn allocatedOn withOn withLenOn
@@ -113,7 +120,10 @@ act-settled (close-oldest e) h s = either (isOn (epOn (s .0) Out e .«open»)) (
 act-settled (take-oldest e) h s = either (hasWaiting (epOn (s .0) Out e)) (s .0) (record { control = refl; stage = refl; most = refl }) (same (s .0))
 act-settled (enqueue e bytes) h s = by (roomOn (s .0) e (length bytes))
   where
-    by : (b : Bool) → Settled (s .0) (cond b (queuedOn (s .0) e (length bytes), copied (s .1) (slotAddr (epOn (s .0) In e) (epOn (s .0) In e .head)) bytes) s .0)
+    by : (b : Bool) → Settled (s .0) (cond b (
+      queuedOn (s .0) e (length bytes),
+      copied (s .1) (slotAddr (epOn (s .0) In e) (epOn (s .0) In e .head)) bytes,
+    ) s .0)
     by true = record { control = refl; stage = refl; most = refl }
     by false = same (s .0)
 act-settled (allocate d kind address maximum interval) h s =
@@ -137,7 +147,10 @@ hand-settled (arrive e n) s = by (isSet (isoOuts (s .0 .globals)) (e % 16))
 hand-settled (send e) s = either (hasWaiting (epOn (s .0) In e)) (s .0) (record { control = refl; stage = refl; most = refl }) (same (s .0))
 hand-settled (place Out e) s = by (isSet (isoOuts (s .0 .globals)) (e % 16))
   where
-    by : (b : Bool) → Settled (s .0) (cond {A = ℕ × Driver} b (epOn (s .0) Out e .«armed_slot», s .0) (epOn (s .0) Out e .base, withOn (s .0) Out e (armedAt (epOn (s .0) Out e) (epOn (s .0) Out e .base))) .1)
+    by : (b : Bool) → Settled (s .0) (cond {A = ℕ × Driver} b (epOn (s .0) Out e .«armed_slot», s .0) (
+      epOn (s .0) Out e .base,
+      withOn (s .0) Out e (armedAt (epOn (s .0) Out e) (epOn (s .0) Out e .base)),
+    ) .1)
     by true = same (s .0)
     by false = record { control = refl; stage = refl; most = refl }
 hand-settled (place In e) s = same (s .0)

@@ -21,7 +21,8 @@ use Rattle.machine.specs.Goes.{Called}
 use Rattle.proof_wake_ups.specs.Rooms.{Few, Roomy, Rooms}
 use Rattle.proof_isolation.specs.EqualExcept.{Lawful, Channel}
 use Rattle.proof_isolation.specs.Whose.{madeFor, ownWay}
-use Rattle.proof_isolation.specs.Apart.{next, Another, never, elsewhere, ownable, Its, status, receive, Past, waits, Shared, Own, ApartBy, end, both, left, right, owns}
+use Rattle.proof_isolation.specs.Apart.{next, Another, never, elsewhere, ownable, Its, status, receive, Past}
+use Rattle.proof_isolation.specs.Apart.{waits, Shared, Own, ApartBy, end, both, left, right, owns}
 use Rattle.proof_isolation.specs.Pairs.{apart-more, apart-flip}
 use Rattle.proof_isolation.specs.Answers as answer
 use Rattle.proof_isolation.specs.Answers.{SameAnswer}
@@ -91,7 +92,8 @@ module _ {c : Channel} {st : ℕ} {i : Bool} where
   Told (right {o = o} w p z k) a a′ = a ≡ stops i o .0
   Told (owns w w′ l k k′) a a′ = Unit {0}
 
-  pub telling : {o u : tree.Out St Answer} (l : ApartBy c st i (SameAnswer (c .number)) true o u) → Few (stops i o .0) → Few (stops i u .0) → Told l (stops i o .0) (stops i u .0)
+  pub telling : {o u : tree.Out St Answer} (l : ApartBy c st i (SameAnswer (c .number)) true o u)
+      → Few (stops i o .0) → Few (stops i u .0) → Told l (stops i o .0) (stops i u .0)
   telling (end q l) f g = same-ans q f g
   telling (both φ z p p′ l k) f g = same _
   telling (left w p z k) f g = refl
@@ -99,7 +101,9 @@ module _ {c : Channel} {st : ℕ} {i : Bool} where
   telling (owns w w′ l k k′) f g = tt
 
   -- beside a run at an access of the channel's own
-  pub telling-own : {o : tree.Out St Answer} {q : Access} {t : St} {k : ℕ → St → tree.Out St Answer} (l : ApartBy c st i (SameAnswer (c .number)) true o (asks q t k)) → Own i (c .number) q k → (a : Ans Answer) → Told l (stops i o .0) a
+  pub telling-own : {o : tree.Out St Answer} {q : Access} {t : St} {k : ℕ → St → tree.Out St Answer}
+      (l : ApartBy c st i (SameAnswer (c .number)) true o (asks q t k))
+      → Own i (c .number) q k → (a : Ans Answer) → Told l (stops i o .0) a
   telling-own {t = t} {k = g} (both φ z p p′ l k) w a = absurd (true≢false (sym (own-yes (c .number) g t w) ∙ own-no (c .number) g t p′))
   telling-own {t = t} {k = g} (left v (waits n) z k) w a = absurd (true≢false (sym (own-yes (c .number) g t w) ∙ own-no (c .number) g {i = i} t (λ _. n)))
   telling-own (right v p z k) w a = refl

@@ -35,7 +35,8 @@ use Rattle.proof_isolation.specs.Standing.{stops, runOf, own-yes, own-no
 pub fits : (c : Channel) {φ : Phase} {s : St} → Lawful (c .iso) φ s → misfit calls driverOf (s .0) (s .1) ≡ false
 fits c {s = s} l = ap not (eq-eqb (length (s .1)) (s .0 .allocator .count * s .0 .allocator .size) (l .rest .long))
 
-pub past-no : (c : Channel) (i : Bool) {u : tree.Out St Answer} (q : Access) (a : Ans Answer) (t : List ℕ) → Past (c .number) u → atOwn c (runOf i u q a t) ≡ false
+pub past-no : (c : Channel) (i : Bool) {u : tree.Out St Answer} (q : Access) (a : Ans Answer) (t : List ℕ)
+    → Past (c .number) u → atOwn c (runOf i u q a t) ≡ false
 past-no c i q a t gone = refl
 past-no c i q a t (waits {s = s} {k = k} n) = own-no (c .number) k {i = i} s (λ _. n)
 
@@ -58,7 +59,8 @@ pub time-spared : (n : ℕ) (i : Bool) (d : Driver) (t : List ℕ) {o : tree.Out
 time-spared n i d t (at-end x) = refl
 time-spared n i d t (at-ask {q = q} ok k) = spared n q t ok
 
-pub times-on : (n : ℕ) {c : Channel} {st : ℕ} {i : Bool} {o u : tree.Out St Answer} → ApartBy c st i (SameAnswer (c .number)) true o u → (i ≡ true → Sparing o) → (i ≡ true → Sparing u)
+pub times-on : (n : ℕ) {c : Channel} {st : ℕ} {i : Bool} {o u : tree.Out St Answer}
+    → ApartBy c st i (SameAnswer (c .number)) true o u → (i ≡ true → Sparing o) → (i ≡ true → Sparing u)
     → (d d′ : Driver) {t t′ : List ℕ} → t ≡ t′ → timeAfter n going (stops i o .0) d t ≡ timeAfter n going (stops i u .0) d′ t′
 times-on n (end q l) s s′ d d′ e = e
 times-on n (both {q = q} φ z p p′ l k) s s′ d d′ e = ap (λ r. written n q r) e
@@ -71,11 +73,13 @@ pub lands : {c : Channel} (st : ℕ) (i : Bool) {o u : tree.Out St Answer} (l : 
     → (i ≡ true → Sparing o) → (i ≡ true → Sparing u) → Rooms (stops i o) → Rooms (stops i u) → t ≡ t′
     → Both c (record { first = runOf i o q (stops i o .0) t; second = runOf i u q′ (stops i u .0) t′; status = st })
 lands {c} st i {o} {u} l q q′ {t} {t′} s s′ r r′ e = record {
-  stand = at st i l q q′ (telling l (r .answer) (r′ .answer)) (record { spares = s; few = r .answer; room = r .machine }) (record { spares = s′; few = r′ .answer; room = r′ .machine }) e;
+  stand = at st i l q q′ (telling l (r .answer) (r′ .answer)) (record { spares = s; few = r .answer; room = r .machine })
+      (record { spares = s′; few = r′ .answer; room = r′ .machine }) e;
   answers = by l (r .answer) (r′ .answer);
 }
   where
-    by : {o u : tree.Out St Answer} → ApartBy c st i (SameAnswer (c .number)) true o u → Few (stops i o .0) → Few (stops i u .0) → Answers c (runOf i o q (stops i o .0) t) (runOf i u q′ (stops i u .0) t′)
+    by : {o u : tree.Out St Answer} → ApartBy c st i (SameAnswer (c .number)) true o u → Few (stops i o .0)
+        → Few (stops i u .0) → Answers c (runOf i o q (stops i o .0) t) (runOf i u q′ (stops i u .0) t′)
     by (end x l) f g = alike (same-ans x f g)
     by (both φ z p p′ l k) f g = alike (same _)
     by (left {s = s} {k = k} w p z f) m n = own-first (own-yes (c .number) k s w) refl
@@ -96,7 +100,8 @@ module _ {c : Channel} where
   at-lined (at st i (right {t = t} {k = g} w p z f) q q′ h k k′ e) m n = absurd (true≢false (sym (own-yes (c .number) g t w) ∙ n))
   at-lined (at st i (owns {s = s} {k = g} w w′ l f f′) q q′ h k k′ e) m n = absurd (true≢false (sym (own-yes (c .number) g s w) ∙ m))
 
-  pub at-stands : {w : Two} → At c w → atOwn c (w .first) ≡ false → atOwn c (w .second) ≡ false → SameStand (w .first .machine .way) (w .second .machine .way) (w .first .access) (w .second .access)
+  pub at-stands : {w : Two} → At c w → atOwn c (w .first) ≡ false → atOwn c (w .second) ≡ false
+      → SameStand (w .first .machine .way) (w .second .machine .way) (w .first .access) (w .second .access)
   at-stands (at st i (end x l) q q′ h k k′ e) m n = tt
   at-stands (at st i (both φ z p p′ l f) q q′ h k k′ e) m n = refl
   at-stands (at st i (left {s = s} {k = g} w p z f) q q′ h k k′ e) m n = absurd (true≢false (sym (own-yes (c .number) g s w) ∙ m))
@@ -106,8 +111,10 @@ module _ {c : Channel} where
   pub at-alike : {w : Two} → At c w → atOwn c (w .first) ≡ atOwn c (w .second) → SameOthers c (w .first .machine) (w .second .machine)
   at-alike (at st i (end x l) q q′ h k k′ e) m = same-others l (short (k .room)) (short (k′ .room))
   at-alike (at st i (both φ z p p′ l f) q q′ h k k′ e) m = same-others l (short (k .room)) (short (k′ .room))
-  at-alike (at st i (left {s = s} {k = g} w p z f) q q′ {a′ = a′} {t′ = t′} h k k′ e) m = absurd (true≢false (sym (own-yes (c .number) g s w) ∙ m ∙ past-no c i q′ a′ t′ p))
-  at-alike (at st i (right {t = t} {k = g} w p z f) q q′ {a = a} {t = r} h k k′ e) m = absurd (true≢false (sym (own-yes (c .number) g t w) ∙ sym m ∙ past-no c i q a r p))
+  at-alike (at st i (left {s = s} {k = g} w p z f) q q′ {a′ = a′} {t′ = t′} h k k′ e) m =
+      absurd (true≢false (sym (own-yes (c .number) g s w) ∙ m ∙ past-no c i q′ a′ t′ p))
+  at-alike (at st i (right {t = t} {k = g} w p z f) q q′ {a = a} {t = r} h k k′ e) m =
+      absurd (true≢false (sym (own-yes (c .number) g t w) ∙ sym m ∙ past-no c i q a r p))
   at-alike (at st i (owns w w′ l f f′) q q′ h k k′ e) m = same-others l (short (k .room)) (short (k′ .room))
 
   pub at-time : {w : Two} → At c w → w .first .time ≡ w .second .time

@@ -51,17 +51,20 @@ module _ (share : Bool) (n : ℕ) where
   -- a call that is turned down does to the machine what a question does
   turned : (d : Bool) (e : Event Config Op) (m : Machine Answer Driver) (t u : List ℕ)
       → cond {A = Called × List ℕ} d ((ended (Refused 19), lentTo calls driverOf m (e .lent)), t) (drive (e .call) m (e .lent), u) .0 .1
-      ≡ drive (cond d (record { call = question (pending 0); lent = e .lent }) e .call) m (cond d (record { call = question (pending 0); lent = e .lent }) e .lent) .1
+      ≡ drive (cond d (record { call = question (pending 0); lent = e .lent }) e .call) m
+      (cond d (record { call = question (pending 0); lent = e .lent }) e .lent) .1
   turned true e m t u = refl
   turned false e m t u = refl
 
   pub heeds : (es : List Early) (r : Run) → given share n es r .machine ≡ after calls driverOf (heeded share n es r) (r .machine)
   heeds [] r = refl
   heeds (shares f ∷ es) r = heeds es (sharing f r)
-  heeds (gets e ∷ es) r = heeds es (called share n (e .call) (e .lent) r) ∙ ap (λ m. after calls driverOf (heeded share n es (called share n (e .call) (e .lent) r)) m)
+  heeds (gets e ∷ es) r = heeds es (called share n (e .call) (e .lent) r)
+      ∙ ap (λ m. after calls driverOf (heeded share n es (called share n (e .call) (e .lent) r)) m)
       (turned (turnedDown n (sortOf (e .call)) (drive (e .call) (r .machine) (e .lent) .0) (r .machine .st) (r .time) && share) e (r .machine) (r .time) _)
 
-  shared-rooms : (d : Bool) {m : Machine Answer Driver} → Roomy m → (b : Buf) {y : Called} → Rooms y → (t u : List ℕ) → Rooms (cond {A = Called × List ℕ} d ((ended (Refused 19), lentTo calls driverOf m b), t) (y, u) .0)
+  shared-rooms : (d : Bool) {m : Machine Answer Driver} → Roomy m → (b : Buf) {y : Called} → Rooms y → (t u : List ℕ)
+      → Rooms (cond {A = Called × List ℕ} d ((ended (Refused 19), lentTo calls driverOf m b), t) (y, u) .0)
   shared-rooms true k b r t u = record { answer = tt; machine = lent-room k b }
   shared-rooms false k b r t u = r
 
@@ -69,7 +72,8 @@ module _ (share : Bool) (n : ℕ) where
   given-rooms [] r k = k
   given-rooms (shares f ∷ es) r k = given-rooms es (sharing f r) (record { few = k .few; machine = k .machine })
   given-rooms (gets e ∷ es) r k =
-      let x = shared-rooms (turnedDown n (sortOf (e .call)) (drive (e .call) (r .machine) (e .lent) .0) (r .machine .st) (r .time) && share) (k .machine) (e .lent) (rooms (e .call) (k .machine) (e .lent)) (r .time) _ in
+      let x = shared-rooms (turnedDown n (sortOf (e .call)) (drive (e .call) (r .machine) (e .lent) .0) (r .machine .st) (r .time) && share)
+      (k .machine) (e .lent) (rooms (e .call) (k .machine) (e .lent)) (r .time) _ in
       given-rooms es (called share n (e .call) (e .lent) r) (record { few = x .answer; machine = x .machine })
 
 -- ---- with a book
@@ -80,10 +84,12 @@ record Stood (m : Machine Answer Driver) : Type 0 where
   ways : Ways driverOf book agree calls phase (m .way) (pages .way)
   rest : Coupling phase (m .buf) (m .st) (pages .st)
 
-stood : (es : List (Event Config Op)) {φ : Phase} (m : Machine Answer Driver) (d : Machine Answer Pages) → Ways driverOf book agree calls φ (m .way) (d .way) → Coupling φ (m .buf) (m .st) (d .st)
+stood : (es : List (Event Config Op)) {φ : Phase} (m : Machine Answer Driver) (d : Machine Answer Pages)
+    → Ways driverOf book agree calls φ (m .way) (d .way) → Coupling φ (m .buf) (m .st) (d .st)
     → Premise es m d → Stood (after calls driverOf es m)
 stood [] {φ} m d w r l = record { phase = φ; pages = d; ways = w; rest = r }
-stood (e ∷ es) m d w r l = let a = agrees driverOf book agree calls fresh-kept (e .call) (e .lent) m d w r (lent-is m d r (e .lent) (e .call) (l .0)) in stood es _ _ (a .ways) (a .rest) (l .1)
+stood (e ∷ es) m d w r l = let a = agrees driverOf book agree calls fresh-kept
+    (e .call) (e .lent) m d w r (lent-is m d r (e .lent) (e .call) (l .0)) in stood es _ _ (a .ways) (a .rest) (l .1)
 
 abbrev isIdle : {A S : Type 0} → Way A S → Bool
 isIdle idle = true
@@ -104,10 +110,13 @@ channelOf {d} k x small iso = record { number = x; below = small; iso = sortsOf 
 
 -- ---- two runs that are one
 
-stands-idle : (c : Channel) (r : Run) → but.Lawful (c .iso) quiet (r .machine .st, r .machine .buf) → Roomed r → r .machine .way ≡ idle → At c (record { first = r; second = r; status = 0 })
+stands-idle : (c : Channel) (r : Run) → but.Lawful (c .iso) quiet (r .machine .st, r .machine .buf)
+    → Roomed r → r .machine .way ≡ idle → At c (record { first = r; second = r; status = 0 })
 stands-idle c r l k e =
     subst (λ w. Roomy (record { way = w; st = r .machine .st; buf = r .machine .buf }) → At c (twice w)) (sym e)
-    (λ y. at 0 false {o = ends NotYet s} {u = ends NotYet s} (end (answer.same NotYet) (like-refl l (room (k .machine)))) (r .access) (r .access) (same (r .answer)) (record { spares = λ _. at-end tt; few = k .few; room = y }) (record { spares = λ _. at-end tt; few = k .few; room = y }) refl)
+    (λ y. at 0 false {o = ends NotYet s} {u = ends NotYet s} (end (answer.same NotYet) (like-refl l (room (k .machine))))
+    (r .access) (r .access) (same (r .answer)) (record { spares = λ _. at-end tt; few = k .few; room = y })
+    (record { spares = λ _. at-end tt; few = k .few; room = y }) refl)
     (k .machine)
   where
     s : St
@@ -115,7 +124,12 @@ stands-idle c r l k e =
 
     twice : Way Answer Driver → Two
     twice w =
-        let x : Run = record { machine = record { way = w; st = r .machine .st; buf = r .machine .buf }; access = r .access; answer = r .answer; time = r .time } in
+        let x : Run = record {
+          machine = record { way = w; st = r .machine .st; buf = r .machine .buf };
+          access = r .access;
+          answer = r .answer;
+          time = r .time;
+        } in
         record { first = x; second = x; status = 0 }
 
 -- the book after a start-up (demand 3), of whose access it is told
@@ -126,13 +140,16 @@ freshBook k b a = started calls (book .driver) (fed book a) k zero (record { way
 module _ (share : Bool) (n : ℕ) (k : Config) (b : Buf) (row : startRow k b ≡ zero) where
   -- what was before is gone
   abbrev pub anew : List ℕ → Run
-  anew t = let x = started calls driverOf (λ s. s) k zero (record { way = idle; st = driverOf .fresh k; buf = b }) b in runBy (Wait 0) (x, timeAfter n starting (x .0) (driverOf .fresh k) t)
+  anew t = let x = started calls driverOf (λ s. s) k zero (record { way = idle; st = driverOf .fresh k; buf = b }) b in
+      runBy (Wait 0) (x, timeAfter n starting (x .0) (driverOf .fresh k) t)
 
   pub starts : (r : Run) → called share n (start k) b r ≡ anew (r .time)
   starts r = rw row refl
 
   anew-rooms : (t : List ℕ) → Roomed (anew t)
-  anew-rooms t = let x : Rooms (started calls driverOf (λ s. s) k zero (record { way = idle; st = driverOf .fresh k; buf = b }) b) = subst (λ i. Rooms (started calls driverOf (λ s. s) k i (record { way = idle; st = driverOf .fresh k; buf = b }) b)) row (start-rooms k b row (record { way = idle; st = driverOf .fresh k; buf = b })) in
+  anew-rooms t = let x : Rooms (started calls driverOf (λ s. s) k zero (record { way = idle; st = driverOf .fresh k; buf = b }) b) =
+      subst (λ i. Rooms (started calls driverOf (λ s. s) k i (record { way = idle; st = driverOf .fresh k; buf = b }) b)) row
+      (start-rooms k b row (record { way = idle; st = driverOf .fresh k; buf = b })) in
       record { few = x .answer; machine = x .machine }
 
   abbrev Claim : List Early → Run → Type 0
@@ -149,20 +166,36 @@ module _ (share : Bool) (n : ℕ) (k : Config) (b : Buf) (row : startRow k b ≡
 
     met-sorting : Sorting (met .machine .st)
     met-sorting = subst (λ (m : Machine Answer Driver). Sorting (m .st)) (sym (heeds share n es (anew t)))
-        (subst (λ i. Sorting (after calls driverOf heard (started calls driverOf (λ s. s) k i (record { way = idle; st = driverOf .fresh k; buf = b }) b .1) .st)) row
+        (subst (λ i. Sorting (after calls driverOf heard (started calls driverOf (λ s. s) k i (record {
+          way = idle;
+          st = driverOf .fresh k;
+          buf = b;
+        }) b .1) .st)) row
         (after-sorting k b row heard (record { way = idle; st = driverOf .fresh k; buf = b })))
 
     met-bounded : Bounded (met .machine .st)
     met-bounded = subst (λ (m : Machine Answer Driver). Bounded (m .st)) (sym (heeds share n es (anew t)))
-        (subst (λ i. Bounded (after calls driverOf heard (started calls driverOf (λ s. s) k i (record { way = idle; st = driverOf .fresh k; buf = b }) b .1) .st)) row
+        (subst (λ i. Bounded (after calls driverOf heard (started calls driverOf (λ s. s) k i (record {
+          way = idle;
+          st = driverOf .fresh k;
+          buf = b;
+        }) b .1) .st)) row
         (after-bounded k b row heard (record { way = idle; st = driverOf .fresh k; buf = b })))
 
     stands-met : Premise heard (anew t .machine) (freshBook k b (anew t .answer))
-        → met .machine .way ≡ idle → met .machine .st .globals .stage ≡ 2 → (c : Channel) → c .iso ≡ sortsOf (met .machine .st) → At c (record { first = met; second = met; status = 0 })
+        → met .machine .way ≡ idle → met .machine .st .globals .stage ≡ 2 → (c : Channel)
+        → c .iso ≡ sortsOf (met .machine .st) → At c (record { first = met; second = met; status = 0 })
     stands-met l e g c f =
-        let a = from-start driverOf book agree calls fresh-kept k b row [] (record { way = idle; st = driverOf .fresh k; buf = b }) (record { way = idle; st = book .driver .fresh k; buf = b }) tt .0 in
+        let a = from-start driverOf book agree calls fresh-kept k b row [] (record { way = idle; st = driverOf .fresh k; buf = b })
+        (record { way = idle; st = book .driver .fresh k; buf = b }) tt .0 in
         let z : Stood (met .machine) = subst Stood (sym (heeds share n es (anew t))) (stood heard _ _ (a .ways) (a .rest) l) in
-        stands-idle c met (record { pages = z .pages .st; rest = quiet-rest z e; has = subst (λ i. Has i (met .machine .st)) (sym f) (met-sorting .has); stage = g; bounded = met-bounded })
+        stands-idle c met (record {
+          pages = z .pages .st;
+          rest = quiet-rest z e;
+          has = subst (λ i. Has i (met .machine .st)) (sym f) (met-sorting .has);
+          stage = g;
+          bounded = met-bounded;
+        })
         (given-rooms share n es (anew t) (anew-rooms t)) e
 
   pub one-so-far : (es : List Early) (r : Run) → Claim es (called share n (start k) b r)

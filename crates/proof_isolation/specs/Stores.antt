@@ -19,7 +19,8 @@ use Rattle.proof_isolation.specs.EqualExcept.{Lawful, Channel, LowEquiv,
 
 -- demand 3's premise, by the driver: byte k lies outside of the armed slot of every OUT endpoint of this run, and outside of EP0's buffer
 pub record Away (d : Driver) (k : ℕ) : Type 0 where
-  pub outs : (e : ℕ) → isSet (allocatedIn (d .allocator) Out) (e % 16) ≡ true → (k < epOn d Out e .«armed_slot») ⊎ (epOn d Out e .«armed_slot» + d .allocator .size ≤ k)
+  pub outs : (e : ℕ) → isSet (allocatedIn (d .allocator) Out) (e % 16) ≡ true
+      → (k < epOn d Out e .«armed_slot») ⊎ (epOn d Out e .«armed_slot» + d .allocator .size ≤ k)
   pub ep0 : (k < d .globals .«ep0_buf») ⊎ (d .globals .«ep0_buf» + d .allocator .size ≤ k)
 
 -- all such bytes stay

@@ -37,7 +37,8 @@ by-book {d = d} {p = p} R g h = record {
   long = h .long;
   others = λ k w. h .others k (record {
     outs = λ e u.
-        let z : isSet (allocatedIn (p .kept .allocator) Out) (e % 16) ≡ true = sym (ap (λ (a : Allocator). isSet (allocatedIn a Out) (e % 16)) (R .same .allocator)) ∙ u in
+        let z : isSet (allocatedIn (p .kept .allocator) Out) (e % 16)
+        ≡ true = sym (ap (λ (a : Allocator). isSet (allocatedIn a Out) (e % 16)) (R .same .allocator)) ∙ u in
         let s : d .allocator .size ≡ p .kept .allocator .size = ap (λ (a : Allocator). a .size) (R .same .allocator) in
         ⊎-elim (λ y. inl (omega (arith, R .outs e .slot))) (λ y. inr (omega (arith, R .outs e .slot, s))) (w .outs e z);
     ep0 =
@@ -49,7 +50,13 @@ by-book {d = d} {p = p} R g h = record {
 }
 
 lawful-stored : (c : Channel) {φ : Phase} {s : St} {b : Buf} → Lawful (c .iso) φ s → Stored (s .0) (s .1) b → Lawful (c .iso) φ (s .0, b)
-lawful-stored c {φ} {s} {b} l h = record { pages = l .pages; rest = chip (s .1) b φ (s .0) (l .pages) (l .rest) (by-book (l .rest) (l .stage) h); has = l .has; stage = l .stage; bounded = l .bounded }
+lawful-stored c {φ} {s} {b} l h = record {
+  pages = l .pages;
+  rest = chip (s .1) b φ (s .0) (l .pages) (l .rest) (by-book (l .rest) (l .stage) h);
+  has = l .has;
+  stage = l .stage;
+  bounded = l .bounded;
+}
 
 module _ {c : Channel} {φ : Phase} where
   pub lent-like : {s t : St} {b b′ : Buf} → LowEquiv c φ s t → Lent c s t b b′ → LowEquiv c φ (s .0, b) (t .0, b′)

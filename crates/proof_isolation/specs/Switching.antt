@@ -71,11 +71,13 @@ module _ {x : ℕ} {d d′ : Driver} (z : Sized d) (z′ : Sized d′) (h : Equa
 
   renewed-but : EqualExcept x (renewedOn d e) (renewedOn d′ e)
   unfolding renewedOn
-  renewed-but = but-on clear-but (changed-clear z e .sized) (changed-clear z′ e .sized) Out e _ _ (λ n. ap resetOf (h .eps Out e n)) (λ _. reset-stays (stays-any h Out e))
+  renewed-but = but-on clear-but (changed-clear z e .sized)
+      (changed-clear z′ e .sized) Out e _ _ (λ n. ap resetOf (h .eps Out e n)) (λ _. reset-stays (stays-any h Out e))
 
 renewed-changed : {d : Driver} → Sized d → (e : ℕ) → Changed Out e d (renewedOn d e)
 unfolding renewedOn clearStamps epOn
-renewed-changed {d} z e = changed-trans z Out e (changed-clear z e) (changed-on (changed-clear z e .sized) Out e (resetOf (epOn d Out e)) (reset-place (epOn d Out e)) refl)
+renewed-changed {d} z e = changed-trans z Out e (changed-clear z e)
+    (changed-on (changed-clear z e .sized) Out e (resetOf (epOn d Out e)) (reset-place (epOn d Out e)) refl)
 
 -- ---- a slot armed
 
@@ -106,10 +108,12 @@ module _ (c : Channel) (e : ℕ) where
         let m : r′ .«max_len» ≡ r .«max_len» = ap (λ (p : EpCore). p .«max_len») (i .plain) in
         record {
           address = sym a;
-          but = but-on h z z′ Out e _ _ (λ n. ap (λ (r : EpState). armedAt r (slotAddr r k)) (h .eps Out e n)) (λ _. armed-stays (slotAddr r k) (slotAddr r′ k) i);
+          but = but-on h z z′ Out e _ _ (λ n. ap (λ (r : EpState). armedAt r (slotAddr r k)) (h .eps Out e n))
+              (λ _. armed-stays (slotAddr r k) (slotAddr r′ k) i);
           seat = changed-seat (c .number) (armed-changed z e (slotAddr r k));
           bytes = subst (λ n. Only lo hi (armed b (slotAddr r k) (r .«max_len»)) (armed b′ n (r′ .«max_len»))) (sym a)
-              (subst (λ n. Only lo hi (armed b (slotAddr r k) (r .«max_len»)) (armed b′ (slotAddr r k) n)) (sym m) (only-like o (λ j g. armed-like b b′ (slotAddr r k) (r .«max_len») j g)));
+              (subst (λ n. Only lo hi (armed b (slotAddr r k) (r .«max_len»)) (armed b′ (slotAddr r k) n))
+              (sym m) (only-like o (λ j g. armed-like b b′ (slotAddr r k) (r .«max_len») j g)));
         }
 
   -- from the reset record on
@@ -128,9 +132,11 @@ module _ (c : Channel) (e : ℕ) where
     arms-by false = arms z z′ h o k
 
   module _ (iso : c .iso Out e ≡ true) (onn : Bool) where
-    slot-armed : {φ : Phase} (k : ℕ) (s t : St) → LowEquiv c φ s t → Armed (s .0) (epOn (s .0) Out (c .number) .base) (endOf (epOn (s .0) Out (c .number))) (slotStep e k s) (slotStep e k t)
+    slot-armed : {φ : Phase} (k : ℕ) (s t : St) → LowEquiv c φ s t
+        → Armed (s .0) (epOn (s .0) Out (c .number) .base) (endOf (epOn (s .0) Out (c .number))) (slotStep e k s) (slotStep e k t)
     unfolding slotStep
-    slot-armed k s t l = rw (l .left .has .flags Out e ∙ iso, l .right .has .flags Out e ∙ iso) (arms-by (l .left .rest .sized) (l .right .rest .sized) (l .but) (l .bytes) k (eqb k 15))
+    slot-armed k s t l = rw (l .left .has .flags Out e ∙ iso, l .right .has .flags Out e ∙ iso)
+        (arms-by (l .left .rest .sized) (l .right .rest .sized) (l .but) (l .bytes) k (eqb k 15))
 
     first : (s t : St) → LowEquiv c quiet s t → Steps c (switch e onn) 18 s t
     first s t l =
@@ -140,7 +146,8 @@ module _ (c : Channel) (e : ℕ) where
     -- ---- the kind and the enable bit
 
     word-same : {φ : Phase} (s t : St) → LowEquiv c φ s t → (f : Globals → ℕ)
-        → cond (isOn (epOn (s .0) Out e .iso)) (enables.withOn (f (s .0 .globals)) Out e onn) (f (s .0 .globals)) ≡ cond (isOn (epOn (t .0) Out e .iso)) (enables.withOn (f (t .0 .globals)) Out e onn) (f (t .0 .globals))
+        → cond (isOn (epOn (s .0) Out e .iso)) (enables.withOn (f (s .0 .globals)) Out e onn) (f (s .0 .globals))
+        ≡ cond (isOn (epOn (t .0) Out e .iso)) (enables.withOn (f (t .0 .globals)) Out e onn) (f (t .0 .globals))
     word-same s t l f =
         let p : epOn (s .0) Out e .iso ≡ epOn (t .0) Out e .iso = sym (ap (λ (p : EpCore). p .iso) (stays-any (l .but) Out e .plain)) in
         λ i. cond (isOn (p i)) (enables.withOn (f (l .but .globals i)) Out e onn) (f (l .but .globals i))
@@ -159,10 +166,19 @@ module _ (c : Channel) (e : ℕ) where
           like-made l (lawful-next c (switch e onn) 1 (l .left)) (lawful-next c (switch e onn) 1 (l .right))
               (but-globals (l .but) _ _ (λ i. withEpType (v i) (l .but .globals i))) (same-place (epOn (s .0) Out (c .number))) (l .bytes),
         )
-    next (suc (suc zero)) s t l = (refl, like-made l (lawful-next c (switch e onn) 2 (l .left)) (lawful-next c (switch e onn) 2 (l .right)) (l .but) (same-place (epOn (s .0) Out (c .number))) (l .bytes))
+    next (suc (suc zero)) s t l = (
+      refl,
+      like-made l (lawful-next c (switch e onn) 2 (l .left))
+          (lawful-next c (switch e onn) 2 (l .right)) (l .but) (same-place (epOn (s .0) Out (c .number))) (l .bytes),
+    )
     next (suc (suc (suc k))) s t l =
-        let q = slot-armed k s t l in
-        (q .address, like-made l (lawful-next c (switch e onn) (suc (suc (suc k))) (l .left)) (lawful-next c (switch e onn) (suc (suc (suc k))) (l .right)) (q .but) (q .seat) (q .bytes))
+        let q = slot-armed k s t l in (
+          q .address,
+          like-made l (lawful-next c (switch e onn) (suc (suc (suc k))) (l .left))
+              (lawful-next c (switch e onn) (suc (suc (suc k))) (l .right)) (q .but) (q .seat) (q .bytes),
+        )
 
     pub p-set-enabled : {st : ℕ} → Pair c st Any (bus.setEnabled Out e onn) (bus.setEnabled Out e onn)
-    p-set-enabled = p-plain-any c Out e (λ s r _ _ f. p-then (p-test _ (λ _. p-row (switch e onn) next (row-over c (switch e onn)) first) (λ h. absurd (true≢false (sym (f ∙ iso) ∙ h)))) (p-wake c Out e))
+    p-set-enabled = p-plain-any c Out e
+        (λ s r _ _ f. p-then (p-test _ (λ _. p-row (switch e onn) next (row-over c (switch e onn)) first)
+        (λ h. absurd (true≢false (sym (f ∙ iso) ∙ h)))) (p-wake c Out e))

@@ -58,8 +58,14 @@ module _ (n : ℕ) (d : Call Config Op) (m : Machine Answer Driver) (t : List �
   -- of a driver that shares the bus time they are those of request Seven
   pub as-shared : shared true n d m t b ≡ sharedCall n d m t b
   unfolding settled
-  as-shared = ap (λ x. cond {A = Called × List ℕ} x ((ended (Refused 19), lentTo calls driverOf m b), t) (drive d m b, timeAfter n (sortOf d) (drive d m b .0) (m .st) t)) (and-true (turnedDown n (sortOf d) (drive d m b .0) (m .st) t))
+  as-shared = ap (λ x. cond {A = Called × List ℕ} x ((ended (Refused 19), lentTo calls driverOf m b), t) (
+    drive d m b,
+    timeAfter n (sortOf d) (drive d m b .0) (m .st) t,
+  )) (and-true (turnedDown n (sortOf d) (drive d m b .0) (m .st) t))
 
   -- of one that does not, the driver's
   pub as-driver : shared false n d m t b .0 ≡ drive d m b
-  as-driver = ap (λ x. cond {A = Called × List ℕ} x ((ended (Refused 19), lentTo calls driverOf m b), t) (drive d m b, timeAfter n (sortOf d) (drive d m b .0) (m .st) t) .0) (and-false (turnedDown n (sortOf d) (drive d m b .0) (m .st) t))
+  as-driver = ap (λ x. cond {A = Called × List ℕ} x ((ended (Refused 19), lentTo calls driverOf m b), t) (
+    drive d m b,
+    timeAfter n (sortOf d) (drive d m b .0) (m .st) t,
+  ) .0) (and-false (turnedDown n (sortOf d) (drive d m b .0) (m .st) t))

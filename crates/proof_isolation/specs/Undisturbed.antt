@@ -8,7 +8,8 @@ use Rattle.model.specs.Machine.{Buf, start, Event, idle}
 use Rattle.proof_book.specs.MachineRuns.{Premise}
 use Rattle.proof_book.specs.Sorting.{sortsOf}
 use Rattle.proof_isolation.specs.EqualExcept.{Channel}
-use Rattle.proof_isolation.specs.Schedule.{Run, Two, Early, Turn, begins, goes, asked, stores, others-time, first, second, turn, called, given, heeded, after, May, After, Allowed, Every}
+use Rattle.proof_isolation.specs.Schedule.{Run, Two, Early, Turn, begins, goes, asked, stores, others-time, first}
+use Rattle.proof_isolation.specs.Schedule.{second, turn, called, given, heeded, after, May, After, Allowed, Every}
 use Rattle.proof_isolation.specs.Standing.{At, at}
 use Rattle.proof_isolation.specs.StandingLaws.{at-stands, at-lined, at-alike, at-time, at-swap}
 use Rattle.proof_isolation.specs.Runs.{goes-by, begins-by, asked-by, stores-by}
@@ -38,7 +39,8 @@ module _ (share : Bool) (n : ℕ) where
   -- the channel is an isochronous OUT endpoint of the run; and the turns are allowed
   pub record Opens (s : Session) (w : Two) : Type 0 where
     pub accepted : startRow (s .config) (s .lent) ≡ zero
-    pub lawful : Premise (heeded share n (s .before) (started-up s (w .first))) (started-up s (w .first) .machine) (freshBook (s .config) (s .lent) (started-up s (w .first) .answer))
+    pub lawful : Premise (heeded share n (s .before) (started-up s (w .first)))
+        (started-up s (w .first) .machine) (freshBook (s .config) (s .lent) (started-up s (w .first) .answer))
     pub rests : opened s w .first .machine .way ≡ idle
     pub stage : opened s w .first .machine .st .globals .stage ≡ 2
     pub sorts : s .channel .iso ≡ sortsOf (opened s w .first .machine .st)
@@ -66,21 +68,54 @@ module _ (c : Channel) (share : Bool) (n : ℕ) where
   pub step : (t : Turn) {w : Two} → At c w → May c t w → Steps t (turn share n t w)
   step (begins v o b b′) (at st i l q q′ h k k′ e) m =
       let y = begins-by c share n st i l q q′ k k′ e v o b b′ m in
-      record { stand = y .stand; after-it = record { answers = y .answers; stands = at-stands (y .stand); lined = at-lined (y .stand); alike = at-alike (y .stand); time = at-time (y .stand) } }
+      record {
+        stand = y .stand;
+        after-it = record {
+          answers = y .answers;
+          stands = at-stands (y .stand);
+          lined = at-lined (y .stand);
+          alike = at-alike (y .stand);
+          time = at-time (y .stand);
+        };
+      }
   step (goes v v′ b b′) (at st i l q q′ h k k′ e) m =
       let y = goes-by c share n st i l q q′ k k′ e v v′ b b′ m in
-      record { stand = y .stand; after-it = record { answers = y .answers; stands = at-stands (y .stand); lined = at-lined (y .stand); alike = at-alike (y .stand); time = at-time (y .stand) } }
+      record {
+        stand = y .stand;
+        after-it = record {
+          answers = y .answers;
+          stands = at-stands (y .stand);
+          lined = at-lined (y .stand);
+          alike = at-alike (y .stand);
+          time = at-time (y .stand);
+        };
+      }
   step (asked v b b′) (at st i l q q′ h k k′ e) m =
       let y = asked-by c share n st i l q q′ k k′ e v b b′ m in
-      record { stand = y .stand; after-it = record { answers = y .answers; stands = at-stands (y .stand); lined = at-lined (y .stand); alike = at-alike (y .stand); time = at-time (y .stand) } }
+      record {
+        stand = y .stand;
+        after-it = record {
+          answers = y .answers;
+          stands = at-stands (y .stand);
+          lined = at-lined (y .stand);
+          alike = at-alike (y .stand);
+          time = at-time (y .stand);
+        };
+      }
   step (stores b b′) (at st i l q q′ h k k′ e) m =
       let y = stores-by c share n st i l q q′ h k k′ e b b′ m in
       record { stand = y; after-it = record { answers = tt; stands = at-stands y; lined = at-lined y; alike = at-alike y; time = at-time y } }
   step (others-time f) (at st i l q q′ h k k′ e) m =
       let y = at st i l q q′ h k k′ (ap f e) in
       record { stand = y; after-it = record { answers = tt; stands = at-stands y; lined = at-lined y; alike = at-alike y; time = at-time y } }
-  step (first d) a m = let y = first-stands a d m in record { stand = y; after-it = record { answers = tt; stands = at-stands y; lined = at-lined y; alike = at-alike y; time = at-time y } }
-  step (second d) a m = let y = at-swap (first-stands (at-swap a) d m) in record { stand = y; after-it = record { answers = tt; stands = at-stands y; lined = at-lined y; alike = at-alike y; time = at-time y } }
+  step (first d) a m = let y = first-stands a d m in record {
+    stand = y;
+    after-it = record { answers = tt; stands = at-stands y; lined = at-lined y; alike = at-alike y; time = at-time y };
+  }
+  step (second d) a m = let y = at-swap (first-stands (at-swap a) d m) in record {
+    stand = y;
+    after-it = record { answers = tt; stands = at-stands y; lined = at-lined y; alike = at-alike y; time = at-time y };
+  }
 
   -- every list of turns, from where they line up
   pub always : (ts : List Turn) {w : Two} → At c w → Allowed c share n ts w → Every c share n ts w

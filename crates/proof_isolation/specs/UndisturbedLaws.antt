@@ -19,13 +19,20 @@ module _ (share : Bool) (n : ℕ) where
   -- a start-up on whatever was before in each run makes them one
   pub opened-at : (s : Session) (w : Two) → w .first .time ≡ w .second .time → Opens share n s w → At (s .channel) (opened share n s w)
   opened-at s w e o =
-      subst (λ (z : Run). At (s .channel) (record { first = given share n (s .before) (started-up share n s (w .first)); second = given share n (s .before) z; status = 0 }))
-      (starts share n (s .config) (s .lent) (o .accepted) (w .first) ∙ (ap (λ t. anew share n (s .config) (s .lent) (o .accepted) t) e ∙ sym (starts share n (s .config) (s .lent) (o .accepted) (w .second))))
+      subst (λ (z : Run). At (s .channel) (record {
+        first = given share n (s .before) (started-up share n s (w .first));
+        second = given share n (s .before) z;
+        status = 0;
+      }))
+      (starts share n (s .config) (s .lent) (o .accepted) (w .first) ∙ (ap (λ t. anew share n (s .config) (s .lent) (o .accepted) t) e
+      ∙ sym (starts share n (s .config) (s .lent) (o .accepted) (w .second))))
       (one-so-far share n (s .config) (s .lent) (o .accepted) (s .before) (w .first) (o .lawful) (o .rests) (o .stage) (s .channel) (o .sorts))
 
   -- two runs with one record of the bus time, whatever was before
   pub undisturbed : (ss : List Session) (w : Two) → w .first .time ≡ w .second .time → AllOpen share n ss w → Undisturbed share n ss w
   undisturbed [] w e o = tt
   undisturbed (s ∷ ss) w e o =
-      let a = opened-at s w e (o .0) in
-      (always (s .channel) share n (s .turns) a (o .0 .allowed), undisturbed ss _ (at-time (stands-after (s .channel) share n (s .turns) a (o .0 .allowed))) (o .1))
+      let a = opened-at s w e (o .0) in (
+        always (s .channel) share n (s .turns) a (o .0 .allowed),
+        undisturbed ss _ (at-time (stands-after (s .channel) share n (s .turns) a (o .0 .allowed))) (o .1),
+      )

@@ -33,7 +33,10 @@ use Rattle.proof_isolation.specs.Wakes.{all-same, own-woken}
 use Rattle.proof_isolation.specs.Buts.{stays-any, but-globals, but-wakes, but-on, changed-seat, like-made, lawful-put, lawful-act}
 
 merged-stays : {r r′ : EpState} (v v′ : EpCore) → withReady 0 v′ ≡ withReady 0 v → Stays r r′ → Stays (merged r v) (merged r′ v′)
-merged-stays v v′ q h = record { place = record { base = h .place .base; stride = h .place .stride; slots = h .place .slots }; plain = λ i. mergedPlain (h .plain i) (q i) }
+merged-stays v v′ q h = record {
+  place = record { base = h .place .base; stride = h .place .stride; slots = h .place .slots };
+  plain = λ i. mergedPlain (h .plain i) (q i);
+}
 
 -- EP0 is not the channel, nor is an IN endpoint
 pub in-other : (x e : ℕ) → key In e ≢ key Out x
@@ -55,7 +58,9 @@ module _ (c : Channel) where
   -- ---- a record
 
   -- values that are the same, or of the channel the same but for `ready`
-  pub record-kept : (dir : Dir) (e : ℕ) (v v′ : EpCore) → withReady 0 v′ ≡ withReady 0 v → (key dir e ≢ key Out (c .number) → v ≡ v′) → (s t : St) → LowEquiv c quiet s t → LowEquiv c quiet (putOn (ep-cell dir e) v s) (putOn (ep-cell dir e) v′ t)
+  pub record-kept : (dir : Dir) (e : ℕ) (v v′ : EpCore)
+      → withReady 0 v′ ≡ withReady 0 v → (key dir e ≢ key Out (c .number) → v ≡ v′)
+      → (s t : St) → LowEquiv c quiet s t → LowEquiv c quiet (putOn (ep-cell dir e) v s) (putOn (ep-cell dir e) v′ t)
   unfolding withOn
   record-kept dir e v v′ q f s t l =
       let z = l .left .rest .sized in
@@ -68,7 +73,8 @@ module _ (c : Channel) where
       (changed-seat (c .number) (changed-on z dir e (merged r v) (record { base = refl; stride = refl; slots = refl }) refl)) (l .bytes)
 
   -- what scripts see of a record
-  pub plain-other : (dir : Dir) (e : ℕ) → key dir e ≢ key Out (c .number) → (s t : St) → LowEquiv c quiet s t → plainOf (epOn (s .0) dir e) ≡ plainOf (epOn (t .0) dir e)
+  pub plain-other : (dir : Dir) (e : ℕ) → key dir e ≢ key Out (c .number)
+      → (s t : St) → LowEquiv c quiet s t → plainOf (epOn (s .0) dir e) ≡ plainOf (epOn (t .0) dir e)
   plain-other dir e n s t l = ap plainOf (l .but .eps dir e n)
 
   -- and of the channel's
@@ -99,7 +105,8 @@ module _ (c : Channel) where
     pub p-assign : (v : Globals) → Pair c st {i = i} Any (put globals-cell v) (put globals-cell v)
     p-assign v = p-put globals-cell v v (globals-kept v)
 
-    pub p-records : (dir : Dir) (e : ℕ) (v v′ : EpCore) → withReady 0 v′ ≡ withReady 0 v → (key dir e ≢ key Out (c .number) → v ≡ v′) → Pair c st {i = i} Any (put (ep-cell dir e) v) (put (ep-cell dir e) v′)
+    pub p-records : (dir : Dir) (e : ℕ) (v v′ : EpCore) → withReady 0 v′ ≡ withReady 0 v
+        → (key dir e ≢ key Out (c .number) → v ≡ v′) → Pair c st {i = i} Any (put (ep-cell dir e) v) (put (ep-cell dir e) v′)
     p-records dir e v v′ q f = p-put (ep-cell dir e) v v′ (record-kept dir e v v′ q f)
 
     pub p-record : (dir : Dir) (e : ℕ) (v : EpCore) → Pair c st {i = i} Any (put (ep-cell dir e) v) (put (ep-cell dir e) v)
@@ -109,7 +116,9 @@ module _ (c : Channel) where
     p-modify f = p-same (p-get globals-cell Eq (λ s t l. l .but .globals)) (λ g. p-assign (f g))
 
     -- a change that carries no more of `ready` into the other fields
-    pub p-modify-ep : (dir : Dir) (e : ℕ) (f : EpCore → EpCore) → ((p : EpCore) → withReady 0 (f p) ≡ withReady 0 (f (withReady 0 p))) → Pair c st {i = i} Any (modifyEp dir e f) (modifyEp dir e f)
+    pub p-modify-ep : (dir : Dir) (e : ℕ) (f : EpCore → EpCore)
+        → ((p : EpCore) → withReady 0 (f p) ≡ withReady 0 (f (withReady 0 p)))
+        → Pair c st {i = i} Any (modifyEp dir e f) (modifyEp dir e f)
     p-modify-ep dir e f k = record {
       on = λ s t l. end tt (record-kept dir e _ _
           (k _ ∙ ap (λ p. withReady 0 (f p)) (sym (plain-any dir e s t l)) ∙ sym (k _))
@@ -133,23 +142,39 @@ module _ (c : Channel) where
 
     module _ {m : Bool} {A B : Type 0} {Q : A → B → Type 0} where
       -- read with what they say of the sorts, and then the same on both sides
-      pub p-globals : {f : Globals → Script i A} {g : Globals → Script i B} → ((v : Globals) → Shows (c .iso) globals-cell v → PairBy c st m Q (f v) (g v)) → PairBy c st m Q (bind (get globals-cell) f) (bind (get globals-cell) g)
-      p-globals {f} {g} h = p-bind (p-get globals-cell (λ v v′. (v ≡ v′) × Shows (c .iso) globals-cell v) (λ s t l. (l .but .globals, sorted (c .iso) (c .ep0) .shows globals-cell s (l .left .has))))
+      pub p-globals : {f : Globals → Script i A} {g : Globals → Script i B}
+          → ((v : Globals) → Shows (c .iso) globals-cell v → PairBy c st m Q (f v) (g v))
+          → PairBy c st m Q (bind (get globals-cell) f) (bind (get globals-cell) g)
+      p-globals {f} {g} h = p-bind (p-get globals-cell (λ v v′. (v ≡ v′) × Shows (c .iso) globals-cell v) (λ s t l. (
+        l .but .globals,
+        sorted (c .iso) (c .ep0) .shows globals-cell s (l .left .has),
+      )))
           (λ v v′ e. subst (λ z. PairBy c st m Q (f v) (g z)) (e .0) (h v (e .1)))
 
       -- of an endpoint but the channel
-      pub p-plain : (dir : Dir) (e : ℕ) → key dir e ≢ key Out (c .number) → {f : EpCore → Script i A} {g : EpCore → Script i B} → ((v : EpCore) → Shows (c .iso) (ep-cell dir e) v → PairBy c st m Q (f v) (g v)) → PairBy c st m Q (bind (get (ep-cell dir e)) f) (bind (get (ep-cell dir e)) g)
-      p-plain dir e n {f} {g} h = p-bind (p-get (ep-cell dir e) (λ v v′. (v ≡ v′) × Shows (c .iso) (ep-cell dir e) v) (λ s t l. (plain-other dir e n s t l, sorted (c .iso) (c .ep0) .shows (ep-cell dir e) s (l .left .has))))
+      pub p-plain : (dir : Dir) (e : ℕ) → key dir e ≢ key Out (c .number) → {f : EpCore → Script i A} {g : EpCore → Script i B}
+          → ((v : EpCore) → Shows (c .iso) (ep-cell dir e) v → PairBy c st m Q (f v) (g v))
+          → PairBy c st m Q (bind (get (ep-cell dir e)) f) (bind (get (ep-cell dir e)) g)
+      p-plain dir e n {f} {g} h = p-bind (p-get (ep-cell dir e) (λ v v′. (v ≡ v′) × Shows (c .iso) (ep-cell dir e) v) (λ s t l. (
+        plain-other dir e n s t l,
+        sorted (c .iso) (c .ep0) .shows (ep-cell dir e) s (l .left .has),
+      )))
           (λ v v′ e. subst (λ z. PairBy c st m Q (f v) (g z)) (e .0) (h v (e .1)))
 
-      pub p-plain-in : (e : ℕ) {f : EpCore → Script i A} {g : EpCore → Script i B} → ((v : EpCore) → Shows (c .iso) (ep-cell In e) v → PairBy c st m Q (f v) (g v)) → PairBy c st m Q (bind (get (ep-cell In e)) f) (bind (get (ep-cell In e)) g)
+      pub p-plain-in : (e : ℕ) {f : EpCore → Script i A} {g : EpCore → Script i B}
+          → ((v : EpCore) → Shows (c .iso) (ep-cell In e) v → PairBy c st m Q (f v) (g v))
+          → PairBy c st m Q (bind (get (ep-cell In e)) f) (bind (get (ep-cell In e)) g)
       p-plain-in e h = p-plain In e (in-other (c .number) e) h
 
-      pub p-plain-ep0 : (dir : Dir) {f : EpCore → Script i A} {g : EpCore → Script i B} → ((v : EpCore) → Shows (c .iso) (ep-cell dir 0) v → PairBy c st m Q (f v) (g v)) → PairBy c st m Q (bind (get (ep-cell dir 0)) f) (bind (get (ep-cell dir 0)) g)
+      pub p-plain-ep0 : (dir : Dir) {f : EpCore → Script i A} {g : EpCore → Script i B}
+          → ((v : EpCore) → Shows (c .iso) (ep-cell dir 0) v → PairBy c st m Q (f v) (g v))
+          → PairBy c st m Q (bind (get (ep-cell dir 0)) f) (bind (get (ep-cell dir 0)) g)
       p-plain-ep0 dir h = p-plain dir 0 (ep0-other c dir) h
 
       -- of any: the channel's `ready` may be another, and it is isochronous
-      pub p-plain-any : (dir : Dir) (e : ℕ) {f : EpCore → Script i A} {g : EpCore → Script i B} → ((v : EpCore) (r : ℕ) → (key dir e ≢ key Out (c .number) → r ≡ v .ready) → (key dir e ≡ key Out (c .number) → isOn (v .iso) ≡ true) → Shows (c .iso) (ep-cell dir e) v → PairBy c st m Q (f v) (g (withReady r v)))
+      pub p-plain-any : (dir : Dir) (e : ℕ) {f : EpCore → Script i A} {g : EpCore → Script i B} → ((v : EpCore) (r : ℕ)
+          → (key dir e ≢ key Out (c .number) → r ≡ v .ready) → (key dir e ≡ key Out (c .number) → isOn (v .iso) ≡ true)
+          → Shows (c .iso) (ep-cell dir e) v → PairBy c st m Q (f v) (g (withReady r v)))
           → PairBy c st m Q (bind (get (ep-cell dir e)) f) (bind (get (ep-cell dir e)) g)
       p-plain-any dir e {f} {g} h = record {
         on = λ s t l.

@@ -17,7 +17,8 @@ without-append : (o : ℕ) (l m : List ℕ) → without o (l ++ m) ≡ without o
 without-append o [] m = refl
 without-append o (a ∷ l) m = by (eqb a o) (without-append o l m)
   where
-    by : (u : Bool) → without o (l ++ m) ≡ without o l ++ without o m → cond u (without o (l ++ m)) (a ∷ without o (l ++ m)) ≡ cond u (without o l) (a ∷ without o l) ++ without o m
+    by : (u : Bool) → without o (l ++ m) ≡ without o l ++ without o m
+        → cond u (without o (l ++ m)) (a ∷ without o (l ++ m)) ≡ cond u (without o l) (a ∷ without o l) ++ without o m
     by true h = h
     by false h = ap (λ k. a ∷ k) h
 

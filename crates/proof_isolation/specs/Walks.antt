@@ -4,7 +4,8 @@ use mathlib.Core.List.{List, [], _∷_}
 use mathlib.Core.Path.{_≡_, refl, subst, sym}
 use Prim.Native.Nat.{ℕ, zero, suc}
 use Rattle.regs.specs.declared.Reg.{Reg}
-use Rattle.regs.specs.declared.Reg.the-variants.{IntFg, IntSt, MisSt, RxLen, FrameNo, Ctrl, IntEn, DevAd, HostCtrl, EpConfig, EpType, EpBufMod, EpMaxLen, EpTLen, EpRxCtrl, EpTxCtrl}
+use Rattle.regs.specs.declared.Reg.the-variants.{IntFg, IntSt, MisSt, RxLen, FrameNo, Ctrl, IntEn, DevAd, HostCtrl}
+use Rattle.regs.specs.declared.Reg.the-variants.{EpConfig, EpType, EpBufMod, EpMaxLen, EpTLen, EpRxCtrl, EpTxCtrl}
 use Rattle.regs.specs.declared.Access.the-variants.{Read}
 use Rattle.regs.specs.declared.Dir.{Dir}
 use Rattle.regs.specs.declared.Dir.the-variants.{Out, In}
@@ -99,7 +100,9 @@ no-status c st EpTxCtrl z = refl
 load-next : (x : ℕ) (i : Bool) (e : ℕ) (s : St) → Next x (run {i = i} concrete (isoInLoad e >> wake In e) s)
 load-next x i e s = by (isOf (waiting In e) s)
   where
-    by : (b : Bool) → Next x (bindOut (run {i = i} concrete (test b (hand (send e) >> (look (next-len In e) >>= λ n. write EpTLen e n)) (write EpTLen e 0)) s) (λ _ t. run {i = i} concrete (wake In e) t))
+    by : (b : Bool) → Next x
+        (bindOut (run {i = i} concrete (test b (hand (send e) >> (look (next-len In e) >>= λ n. write EpTLen e n)) (write EpTLen e 0)) s)
+        (λ _ t. run {i = i} concrete (wake In e) t))
     by true = next refl
     by false = next refl
 
@@ -112,15 +115,20 @@ sof-next x i frame e s = load-next x i e (run-of frame e s)
     run-of frame e s = actOn (complete e) (putOn (ep-cell In e) (withLastFrame (frameOf (previous (indexOf frame))) (getOn (ep-cell In e) s)) s)
 
 module _ {c : Channel} {st : ℕ} {i : Bool} where
-  pub p-reads : {m : Bool} {A B : Type 0} {Q : A → B → Type 0} (r : Reg) (e : ℕ) → Steady c st r → {f : ℕ → Script i A} {g : ℕ → Script i B} → ((v : ℕ) → PairBy c st m Q (f v) (g v)) → PairBy c st m Q (bind (read r e) f) (bind (read r e) g)
-  p-reads {m} {Q = Q} r e z {f} {g} h = p-bind (p-read r e (no-status c st r z)) (λ v v′ b. subst (λ y. PairBy c st m Q (f v) (g y)) (steady-same c st r z v v′ b) (h v))
+  pub p-reads : {m : Bool} {A B : Type 0} {Q : A → B → Type 0} (r : Reg) (e : ℕ)
+      → Steady c st r → {f : ℕ → Script i A} {g : ℕ → Script i B}
+      → ((v : ℕ) → PairBy c st m Q (f v) (g v)) → PairBy c st m Q (bind (read r e) f) (bind (read r e) g)
+  p-reads {m} {Q = Q} r e z {f} {g} h = p-bind (p-read r e (no-status c st r z))
+      (λ v v′ b. subst (λ y. PairBy c st m Q (f v) (g y)) (steady-same c st r z v v′ b) (h v))
 
   -- the status word is the same throughout the interrupt; one that shows no OUT does not lead to the channel's receive address
   pub p-status : {m : Bool} {A B : Type 0} {Q : A → B → Type 0} {f : ℕ → Script i A} {g : ℕ → Script i B}
-      → ((s : St) → Next (c .number) (run concrete (f sof) s)) → ((s : St) → Next (c .number) (run concrete (g sof) s)) → PairBy c st m Q (f st) (g st) → PairBy c st m Q (bind (read IntSt 0) f) (bind (read IntSt 0) g)
+      → ((s : St) → Next (c .number) (run concrete (f sof) s)) → ((s : St) → Next (c .number) (run concrete (g sof) s))
+      → PairBy c st m Q (f st) (g st) → PairBy c st m Q (bind (read IntSt 0) f) (bind (read IntSt 0) g)
   p-status {m} {Q = Q} {f} {g} n n′ h = record {
     on = λ s t l. both {q = Read IntSt 0} quiet (rests i) (λ _ s. elsewhere (n s)) (λ _ s. elsewhere (n′ s)) l (λ v v′ s t b r.
-        subst (λ y. ApartBy c st i Q m (run concrete (f v) s) (run concrete (g y) t)) (sym (b .1)) (subst (λ y. ApartBy c st i Q m (run concrete (f y) s) (run concrete (g st) t)) (sym (b .0)) (h .on s t r)));
+        subst (λ y. ApartBy c st i Q m (run concrete (f v) s) (run concrete (g y) t)) (sym (b .1))
+        (subst (λ y. ApartBy c st i Q m (run concrete (f y) s) (run concrete (g st) t)) (sym (b .0)) (h .on s t r)));
   }
 
   pub p-modify-reg : (r : Reg) (e : ℕ) (f : ℕ → ℕ) → Steady c st r → Pair c st {i = i} Any (modifyReg r e f) (modifyReg r e f)
@@ -175,7 +183,9 @@ module _ {c : Channel} {st : ℕ} {i : Bool} where
 
   pub p-nak : (w : ℕ) → Pair c st {i = i} Any (nakNonIso w) (nakNonIso w)
   unfolding outNaks
-  p-nak w = p-plain-any c Out _ (λ o r _ _ _. p-plain-in c _ (λ n _. p-test _ (λ _. p-modify-reg EpRxCtrl _ _ (λ v v′ h. h)) (λ _. p-when _ (λ _. p-modify-reg EpTxCtrl _ _ (λ v v′ h. h)))))
+  p-nak w = p-plain-any c Out _
+      (λ o r _ _ _. p-plain-in c _
+      (λ n _. p-test _ (λ _. p-modify-reg EpRxCtrl _ _ (λ v v′ h. h)) (λ _. p-when _ (λ _. p-modify-reg EpTxCtrl _ _ (λ v v′ h. h)))))
 
   pub p-toggled : (dir : Dir) (e : ℕ) → Pair c st {i = i} Eq (toggled dir e) (toggled dir e)
   unfolding repeated
@@ -195,7 +205,9 @@ module _ {c : Channel} {st : ℕ} {i : Bool} where
   p-iso-in e frame = p-globals c (λ g _. p-test _ (λ _. p-ret tt) (λ _. p-same (p-first e frame) (λ b. p-when b (λ _. p-complete e))))
 
   p-moved : (dir : Dir) → Pair c st {i = i} Any (movedOn dir) (movedOn dir)
-  p-moved dir = p-plain-ep0 c dir (λ s _. p-when _ (λ _. p-then (p-modify-reg (ctrlOf dir) 0 _ (ctrl-steady c st dir)) (p-then (p-modify-ep c dir 0 _ (λ _. refl)) (p-wake c dir 0))))
+  p-moved dir = p-plain-ep0 c dir
+      (λ s _. p-when _
+      (λ _. p-then (p-modify-reg (ctrlOf dir) 0 _ (ctrl-steady c st dir)) (p-then (p-modify-ep c dir 0 _ (λ _. refl)) (p-wake c dir 0))))
 
   pub p-ep0-moved : (t : Token) → Pair c st {i = i} Any (ep0MovedOn t) (ep0MovedOn t)
   p-ep0-moved tok.Out = p-moved In

@@ -1,4 +1,5 @@
--- The same of the Rattle code: what its calls make of the lent bytes in two runs (proof_isolation/specs/Code.antt), where some of the others' calls fall late in one
+-- The same of the Rattle code: what its calls make of the lent bytes in two runs (proof_isolation/specs/Code.antt),
+-- where some of the others' calls fall late in one
 use mathlib.Core.Bool.{Bool}
 use mathlib.Core.List.{List, [], _∷_}
 use mathlib.Core.Path.{_≡_, refl, ap, subst, sym, _∙_}

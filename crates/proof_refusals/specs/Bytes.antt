@@ -29,7 +29,8 @@ abbrev pub Spares : Call Config Op → ℕ → Type 0
 Spares c n = (pollIn c ≡ none) ⊎ ((eqb n 9 ≡ false) × (eqb n 10 ≡ false))
 
 other-number : (p : Poll) (n : ℕ) (d : Driver) → eqb n 9 ≡ false → eqb n 10 ≡ false → leftBy p n d ≡ d
-other-number p n d h g = ap (λ (x : Bool). cond x (requestEnded p d) (cond (eqb n 10) (requestEnded p (flagCleared p d)) d)) h ∙ ap (λ (x : Bool). cond x (requestEnded p (flagCleared p d)) d) g
+other-number p n d h g = ap (λ (x : Bool). cond x (requestEnded p d) (cond (eqb n 10) (requestEnded p (flagCleared p d)) d)) h
+    ∙ ap (λ (x : Bool). cond x (requestEnded p (flagCleared p d)) d) g
 
 spared : (c : Call Config Op) (n : ℕ) (d : Driver) → Spares c n → left c n d ≡ d
 spared (start c) n d s = refl
@@ -40,11 +41,16 @@ spared (question q) n d s = refl
 
 module _ (c : Call Config Op) (n : ℕ) (xs ys : List ℕ) where
   -- the driver's part of the state after a call, by its contract: a is the run's slot buffer, b the one lent, b′ the run's afterwards
-  pub view-left : (a b b′ : Buf) → _≡_ {A = Called} (answerOf (step.Refused n) [] (view ys), machineOf ys b′) (drive c (machineOf xs a) b) → view ys ≡ left c n (view xs)
-  view-left a b b′ e = ap (λ (z : Called). z .1 .st) e ∙ ap (λ (z : Machine Answer Driver). z .st) (refusal c (decode (saved xs)) (view xs) a b n (sym (ap (λ (z : Called). z .0) e)))
+  pub view-left : (a b b′ : Buf)
+      → _≡_ {A = Called} (answerOf (step.Refused n) [] (view ys), machineOf ys b′) (drive c (machineOf xs a) b)
+      → view ys ≡ left c n (view xs)
+  view-left a b b′ e = ap (λ (z : Called). z .1 .st) e ∙ ap (λ (z : Machine Answer Driver). z .st)
+      (refusal c (decode (saved xs)) (view xs) a b n (sym (ap (λ (z : Called). z .0) e)))
 
   -- every byte of the state
-  pub bytes-left : (a b b′ : Buf) → _≡_ {A = Called} (answerOf (step.Refused n) [] (view ys), machineOf ys b′) (drive c (machineOf xs a) b) → SavedUnchangedOnRefusal (step.Refused n) xs ys
+  pub bytes-left : (a b b′ : Buf)
+      → _≡_ {A = Called} (answerOf (step.Refused n) [] (view ys), machineOf ys b′) (drive c (machineOf xs a) b)
+      → SavedUnchangedOnRefusal (step.Refused n) xs ys
       → Spares c n → Bytes xs → Bytes ys → ys ≡ xs
   bytes-left a b b′ e k s x y = determined xs ys x y (view-left a b b′ e ∙ spared c n (view xs) s) k
 
@@ -68,7 +74,8 @@ pub slots-left : (c : Call Config Op) (n : ℕ) (xs ys : List ℕ) (b after : Bu
 slots-left c n xs ys b after e l h = by-fit (slotsFit (view xs) b) refl
   where
     run-buffer : lentOr (view xs) b after [] ≡ cond (buffersRow c (view xs) b) [] b
-    run-buffer = ap (λ (z : Called). z .1 .buf) (e []) ∙ ap (λ (z : Machine Answer Driver). z .buf) (refusal c (decode (saved xs)) (view xs) [] b n (sym (ap (λ (z : Called). z .0) (e []))))
+    run-buffer = ap (λ (z : Called). z .1 .buf) (e []) ∙ ap (λ (z : Machine Answer Driver). z .buf)
+        (refusal c (decode (saved xs)) (view xs) [] b n (sym (ap (λ (z : Called). z .0) (e []))))
 
     by-fit : (x : Bool) → slotsFit (view xs) b ≡ x → after ≡ b
     by-fit false f = l f

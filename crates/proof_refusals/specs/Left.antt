@@ -1,5 +1,6 @@
--- Document 01, Refusals: "A refusal returns its number only and leaves state and bytes unchanged, with these exceptions. .. 9 or 10 from a poll ends the request that was
--- begun, and this 10 clears the ready flag." The exception of 8 is no more (request Two): it keeps no number and no buffer
+-- Document 01, Refusals: "A refusal returns its number only and leaves state and bytes unchanged, with these
+-- exceptions. .. 9 or 10 from a poll ends the request that was begun, and this 10 clears the ready flag." The exception
+-- of 8 is no more (request Two): it keeps no number and no buffer
 use mathlib.Core.Bool.{Bool, true, false, not, cond}
 use Prim.Native.Nat.{ℕ}
 use lib.Dec.{eqb}
@@ -9,7 +10,11 @@ use Rattle.state.specs.Driver.{Driver, epOn, withOn, withRequestOn, withControl
 use Rattle.model.specs.Statics.{withReady}
 use Rattle.model.specs.Endpoint.{no-request}
 use Rattle.model.specs.Control.{no-control}
-use Rattle.model.specs.Calls.{Config, Op, interrupt, slotted, other, aside, slots, Slotted, SetEnabled, PollRead, BeginWrite, PollWrite, PollDataOut, BeginDataIn, Other, Allocate, AllocateAll, Start, BusPoll, BusEnable, BusDisable, Microframe, SetStalled, IsStalled, SetPaced, Advance, BeginRead, BeginSetup, PollSetup, PollDataIn, BeginAccept, PollAccept, BeginReject, BeginDataOut, BeginAcceptSetAddress}
+use Rattle.model.specs.Calls.{Config, Op, interrupt, slotted, other, aside, slots, Slotted, SetEnabled, PollRead}
+use Rattle.model.specs.Calls.{BeginWrite, PollWrite, PollDataOut, BeginDataIn, Other, Allocate, AllocateAll, Start}
+use Rattle.model.specs.Calls.{BusPoll, BusEnable, BusDisable, Microframe, SetStalled, IsStalled, SetPaced, Advance}
+use Rattle.model.specs.Calls.{BeginRead, BeginSetup, PollSetup, PollDataIn, BeginAccept, PollAccept, BeginReject}
+use Rattle.model.specs.Calls.{BeginDataOut, BeginAcceptSetAddress}
 use Rattle.model.specs.Machine.{Buf, Call, start, begin, go, question}
 use Rattle.model_ops.specs.Records.{plainOf, merged}
 use Rattle.machine.specs.Suspended.{slotsFit}

@@ -51,7 +51,8 @@ module _ {x : Poll} {s t : St} {i : Bool} where
   each h g = tests (λ _. h) (λ _. g)
 
   -- steps without an access
-  pub after : {A : Type 0} {p : Script i A} {k : A → Script i Answer} {a : A} {u : St} → run concrete p t ≡ ends a u → Leaves x s u (k a) → Leaves x s t (bind p k)
+  pub after : {A : Type 0} {p : Script i A} {k : A → Script i Answer} {a : A} {u : St}
+      → run concrete p t ≡ ends a u → Leaves x s u (k a) → Leaves x s t (bind p k)
   after {k = k} q h = record { leaves = subst (λ o. OutLeaves x s (bindOut o (λ a u. run concrete (k a) u))) (sym q) (h .leaves) }
 
   pub picks : (b : Bool) {y z : Answer} → Leaves x s t {i = i} (ret y) → Leaves x s t {i = i} (ret z) → Leaves x s t {i = i} (ret (cond b y z))

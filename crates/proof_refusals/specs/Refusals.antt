@@ -13,7 +13,8 @@ use Rattle.model.specs.Statics.{flag}
 use Rattle.model.specs.Driver.{new}
 use Rattle.model.specs.Answers.{Answer, Refused, End, NotYet, Done, Shown}
 use Rattle.model.specs.Calls.{Config, Op, calls, startRow, passes, slots, irq, code}
-use Rattle.model.specs.Machine.{Buf, Call, start, begin, go, question, Way, idle, busy, Machine, Awaits, Ans, ended, handed, told, beside, begun, continued, started, stay, lentTo, over}
+use Rattle.model.specs.Machine.{Buf, Call, start, begin, go, question, Way, idle, busy, Machine, Awaits, Ans, ended}
+use Rattle.model.specs.Machine.{handed, told, beside, begun, continued, started, stay, lentTo, over}
 use Rattle.model_ops.specs.Rings.{St}
 use Rattle.model_ops.specs.Concrete.{concrete}
 use Rattle.driver.specs.Points as driver
@@ -66,7 +67,8 @@ halt-is i x d b (ends (Done bs) t) h = tt
 halt-is i x d b (ends (Shown bs k) t) h = tt
 halt-is i x d b (asks q t k) h = tt
 
-beside-is : (w : Way Answer Driver) (x : Poll) (d : Driver) (b : Buf) (o : Out St Answer) → OutLeaves x (d, b) o → Is (λ n. machineIn w (leftBy x n d) b) (beside calls driverOf (machineIn w d b) o)
+beside-is : (w : Way Answer Driver) (x : Poll) (d : Driver) (b : Buf) (o : Out St Answer)
+    → OutLeaves x (d, b) o → Is (λ n. machineIn w (leftBy x n d) b) (beside calls driverOf (machineIn w d b) o)
 beside-is w x d b (ends (Refused n) t) h = ap (λ (u : St). machineIn w (u .0) (u .1)) h
 beside-is w x d b (ends (End n v) t) h = h
 beside-is w x d b (ends NotYet t) h = tt
@@ -74,7 +76,8 @@ beside-is w x d b (ends (Done bs) t) h = tt
 beside-is w x d b (ends (Shown bs k) t) h = tt
 beside-is w x d b (asks q t k) h = refl
 
-begun-is : (o : Op) (w : Way Answer Driver) (d : Driver) (a b : Buf) → Is (λ n. machineIn w (leftBy (pollOf o) n d) b) (begun calls driverOf (λ s. s) o (machineIn w d a) w b)
+begun-is : (o : Op) (w : Way Answer Driver) (d : Driver) (a b : Buf)
+    → Is (λ n. machineIn w (leftBy (pollOf o) n d) b) (begun calls driverOf (λ s. s) o (machineIn w d a) w b)
 begun-is o idle d a b = halt-is (irq o) (pollOf o) d b (run concrete (code o) (d, b)) (code-leaves o (d, b) .leaves)
 begun-is o (busy i q k) d a b = chosen (λ n. machineIn (busy i q k) (leftBy (pollOf o) n d) b) (cond i (passes o) false)
     (beside calls driverOf (machineIn (busy i q k) d b) (run concrete (code o) (d, b)))
@@ -83,7 +86,8 @@ begun-is o (busy i q k) d a b = chosen (λ n. machineIn (busy i q k) (leftBy (po
 
 -- row 1, or the call
 begin-is : (o : Op) (w : Way Answer Driver) (d : Driver) (a b : Buf) (misfits : Bool)
-    → Is (λ n. machineIn w (leftBy (pollOf o) n d) (cond misfits a b)) (cond misfits (stay calls driverOf 1 (machineIn w d a)) (begun calls driverOf (λ s. s) o (machineIn w d a) w b))
+    → Is (λ n. machineIn w (leftBy (pollOf o) n d) (cond misfits a b))
+    (cond misfits (stay calls driverOf 1 (machineIn w d a)) (begun calls driverOf (λ s. s) o (machineIn w d a) w b))
 begin-is o w d a b true = refl
 begin-is o w d a b false = begun-is o w d a b
 
@@ -99,7 +103,8 @@ busy-is : (v : ℕ) (i : Bool) (q : Awaits) (r : ℕ → St → Out St ℕ) (d :
     Is (λ n. machineIn w d b) (continued calls driverOf (λ s. s) v (machineIn w d a) w b)
 busy-is v i q r d a b =
     let w : Way Answer Driver = busy i q (λ v t. bindOut (r v t) (λ n u. run concrete (finish n) u)) in
-    chosen (λ n. machineIn w d b) (over calls q v) (stay calls driverOf 16 (machineIn w d b)) (haltsAs i (bindOut (r v (d, b)) (λ n u. run concrete (finish n) u)))
+    chosen (λ n. machineIn w d b) (over calls q v)
+    (stay calls driverOf 16 (machineIn w d b)) (haltsAs i (bindOut (r v (d, b)) (λ n u. run concrete (finish n) u)))
     refl (finishes (λ n. machineIn w d b) i (r v (d, b)))
 
 goes-on : (v : ℕ) (u : Suspended) (d : Driver) (a b : Buf) → Is (λ n. machineAt u d b) (continued calls driverOf (λ s. s) v (machineAt u d a) (wayOf u) b)
@@ -112,7 +117,8 @@ goes-on v (under.Advance p) d a b = busy-is v false (advance.awaitsAt p) (λ v t
 goes-on v (under.Interrupt p) d a b = busy-is v true (handler.awaitsAt p) (λ v t. handler.denote p v t) d a b
 
 go-is : (v : ℕ) (u : Suspended) (d : Driver) (a b : Buf) (misfits : Bool)
-    → Is (λ n. machineAt u d (cond misfits a b)) (cond misfits (stay calls driverOf 1 (machineAt u d a)) (continued calls driverOf (λ s. s) v (machineAt u d a) (wayOf u) b))
+    → Is (λ n. machineAt u d (cond misfits a b))
+    (cond misfits (stay calls driverOf 1 (machineAt u d a)) (continued calls driverOf (λ s. s) v (machineAt u d a) (wayOf u) b))
 go-is v u d a b true = refl
 go-is v u d a b false = goes-on v u d a b
 
@@ -126,7 +132,8 @@ start-is c (suc n) m b = refl
 
 -- ---- every call
 
-pub call-is : (c : Call Config Op) (u : Suspended) (d : Driver) (a b : Buf) → Is (λ n. machineAt u (left c n d) (cond (buffersRow c d b) a b)) (drive c (machineAt u d a) b)
+pub call-is : (c : Call Config Op) (u : Suspended) (d : Driver) (a b : Buf)
+    → Is (λ n. machineAt u (left c n d) (cond (buffersRow c d b) a b)) (drive c (machineAt u d a) b)
 unfolding slotsFit
 call-is (start c) u d a b = start-is c (startRow c b) (machineAt u d a) b
 call-is (begin o) u d a b = begin-is o (wayOf u) d a b (buffersRow (begin o) d b)
@@ -136,9 +143,13 @@ call-is (question q) u d a b = tt
 -- the state is as it was, or as `left` says; what is under way is as it was; the slot buffer is the one lent, or the run's own
 pub refusal : (c : Call Config Op) (u : Suspended) (d : Driver) (a b : Buf) (n : ℕ) → drive c (machineAt u d a) b .0 ≡ ended (Refused n)
     → drive c (machineAt u d a) b .1 ≡ machineAt u (left c n d) (cond (buffersRow c d b) a b)
-refusal c u d a b n q = subst (λ (x : Ans Answer). AnsIs (λ n. machineAt u (left c n d) (cond (buffersRow c d b) a b)) x (drive c (machineAt u d a) b .1)) q (call-is c u d a b)
+refusal c u d a b n q =
+    subst (λ (x : Ans Answer). AnsIs (λ n. machineAt u (left c n d) (cond (buffersRow c d b) a b)) x (drive c (machineAt u d a) b .1)) q
+    (call-is c u d a b)
 
 -- of the code: a call that did as its contract says, and answered refusal n
 pub code-refusal : (xs : List ℕ) (a : Buf) (m : Made) → CallStep xs a m → (n : ℕ) → m .answer ≡ ended (Refused n)
-    → machineOf (m .bytes) (m .slots) ≡ machineAt (decode (saved xs)) (left (m .event .call) n (view xs)) (cond (buffersRow (m .event .call) (view xs) (m .event .lent)) a (m .event .lent))
-code-refusal xs a m did n q = ap (λ (x : Called). x .1) did ∙ refusal (m .event .call) (decode (saved xs)) (view xs) a (m .event .lent) n (sym (ap (λ (x : Called). x .0) did) ∙ q)
+    → machineOf (m .bytes) (m .slots) ≡ machineAt (decode (saved xs)) (left (m .event .call) n (view xs))
+    (cond (buffersRow (m .event .call) (view xs) (m .event .lent)) a (m .event .lent))
+code-refusal xs a m did n q = ap (λ (x : Called). x .1) did
+    ∙ refusal (m .event .call) (decode (saved xs)) (view xs) a (m .event .lent) n (sym (ap (λ (x : Called). x .0) did) ∙ q)

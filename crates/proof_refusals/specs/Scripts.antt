@@ -20,7 +20,11 @@ use Rattle.model.specs.Script.{ret}
 use Rattle.model.specs.Answers.{Refused}
 use Rattle.model.specs.Driver.{allocated-as, started-as}
 use Rattle.model.specs.AllocateAll.{allocate-read}
-use Rattle.model.specs.Calls.{Op, interrupt, slotted, other, aside, code, Slotted, SetEnabled, PollRead, BeginWrite, PollWrite, PollDataOut, BeginDataIn, slottedCode, Other, Allocate, AllocateAll, Start, BusPoll, BusEnable, BusDisable, Microframe, SetStalled, IsStalled, SetPaced, Advance, BeginRead, BeginSetup, PollSetup, PollDataIn, BeginAccept, PollAccept, BeginReject, BeginDataOut, BeginAcceptSetAddress, otherCode, Aside, Open, Close, Queue, asideCode}
+use Rattle.model.specs.Calls.{Op, interrupt, slotted, other, aside, code, Slotted, SetEnabled, PollRead, BeginWrite}
+use Rattle.model.specs.Calls.{PollWrite, PollDataOut, BeginDataIn, slottedCode, Other, Allocate, AllocateAll, Start}
+use Rattle.model.specs.Calls.{BusPoll, BusEnable, BusDisable, Microframe, SetStalled, IsStalled, SetPaced, Advance}
+use Rattle.model.specs.Calls.{BeginRead, BeginSetup, PollSetup, PollDataIn, BeginAccept, PollAccept, BeginReject}
+use Rattle.model.specs.Calls.{BeginDataOut, BeginAcceptSetAddress, otherCode, Aside, Open, Close, Queue, asideCode}
 use Rattle.model_ops.specs.Rings.{St}
 use Rattle.model_ops.specs.Records.{givenTo, allocatedOn, startedWith, allocatedEp0}
 use Rattle.proof_refusals.specs.Left.{none, data-in, slottedPoll, otherPoll, pollOf, requestEnded, unready, leftBy}
@@ -34,7 +38,9 @@ slotted-leaves (PollRead e n) s = after refl (each (after refl (each (after refl
     (after refl (each (after refl (each (after refl (after refl (after refl (answers tt)))) (answers tt))) (after refl (refuses refl))))
     (each (after refl (each (after refl (refuses refl)) (after refl (after refl (answers tt))))) (after refl (each (answers tt) (after refl (refuses refl)))))))
     (after refl (after refl (refuses refl)))))) (refuses refl))) (refuses refl))
-slotted-leaves (BeginWrite e bs) s = after refl (each (after refl (each (after refl (each (after refl (each (refuses refl) (after refl begins))) (refuses refl))) (refuses refl))) (refuses refl))
+slotted-leaves (BeginWrite e bs) s = after refl
+    (each (after refl (each (after refl (each (after refl (each (refuses refl) (after refl begins))) (refuses refl))) (refuses refl)))
+    (refuses refl))
 slotted-leaves (PollWrite e bs) s = after refl (each (after refl (each (after refl (each (refuses refl) (each (after refl (each
     (after refl (each (after refl (each (after refl (after refl (answers tt))) (answers tt))) (after refl (refuses refl))))
     (each (after refl (after refl (answers tt))) (after refl (each (answers tt) (after refl (refuses refl)))))))
@@ -43,7 +49,8 @@ slotted-leaves (PollDataOut n) s = after refl (each (after refl (each (each (aft
     (after refl (each (after refl (refuses refl)) (after refl (after refl (answers tt)))))
     (after refl (each (after refl (refuses refl)) (answers tt)))))
     (after refl (after refl (refuses refl)))) (refuses refl))) (refuses refl))
-slotted-leaves (BeginDataIn bs first last) s = after refl (each (after refl (each (refuses refl) (after refl (each (refuses refl) (after refl begins))))) (refuses refl))
+slotted-leaves (BeginDataIn bs first last) s =
+    after refl (each (after refl (each (refuses refl) (after refl (each (refuses refl) (after refl begins))))) (refuses refl))
 
 -- ---- allocations
 
@@ -62,15 +69,19 @@ refused-here n s = ap (λ (d : Driver). (d, s .1)) (sym (unpolled n (s .0)))
 refuses-here : {s : St} {n : ℕ} → Leaves none s s {i = false} (ret (Refused n))
 refuses-here {s} {n} = refuses (refused-here n s)
 
-allocated-leaves : {s t : St} (d : Dir) (kind maximum : ℕ) (x : alloc-answer.Answer) → ((n : ℕ) → x ≡ alloc.Refused n → t ≡ s) → Leaves none s t {i = false} (allocated-as d kind maximum x)
+allocated-leaves : {s t : St} (d : Dir) (kind maximum : ℕ) (x : alloc-answer.Answer)
+    → ((n : ℕ) → x ≡ alloc.Refused n → t ≡ s) → Leaves none s t {i = false} (allocated-as d kind maximum x)
 allocated-leaves {s} d kind maximum (alloc.Refused n) h = refuses (h n refl ∙ refused-here n s)
 allocated-leaves d kind maximum (alloc.Given ep base slots) h = begins
 
-started-leaves : {s t : St} (maximum : ℕ) (x : alloc-answer.Answer) → ((n : ℕ) → x ≡ alloc.Refused n → t ≡ s) → Leaves none s t {i = false} (started-as maximum x)
+started-leaves : {s t : St} (maximum : ℕ) (x : alloc-answer.Answer)
+    → ((n : ℕ) → x ≡ alloc.Refused n → t ≡ s) → Leaves none s t {i = false} (started-as maximum x)
 started-leaves {s} maximum (alloc.Refused n) h = refuses (h n refl ∙ refused-here n s)
 started-leaves maximum (alloc.Given ep base slots) h = begins
 
-allocation-kept : (d : Driver) (dir : Dir) (kind address maximum interval n : ℕ) → allocateOf (d .allocator) kind address maximum dir .answer ≡ alloc.Refused n → allocatedOn d dir kind address maximum interval ≡ d
+allocation-kept : (d : Driver) (dir : Dir) (kind address maximum interval n : ℕ)
+    → allocateOf (d .allocator) kind address maximum dir .answer ≡ alloc.Refused n
+    → allocatedOn d dir kind address maximum interval ≡ d
 unfolding allocatedOn givenTo
 allocation-kept d dir kind address maximum interval n q =
     ap (λ (x : alloc-answer.Answer). givenTo dir kind maximum interval x (withAllocator d (allocateOf (d .allocator) kind address maximum dir .after))) q
@@ -90,11 +101,13 @@ read-leaves s bytes reading.Listed = after refl (each (whatever (λ _ _. begins)
 
 pub other-leaves : (o : Other) (s : St) → Leaves (otherPoll o) s s (otherCode o)
 other-leaves (Allocate d kind address maximum interval) s = after refl (each
-    (after refl (after refl (allocated-leaves d kind maximum (allocateOf (s .0 .allocator) kind address maximum d .answer) (λ n q. ap (λ (x : Driver). (x, s .1)) (allocation-kept (s .0) d kind address maximum interval n q)))))
+    (after refl (after refl (allocated-leaves d kind maximum (allocateOf (s .0 .allocator) kind address maximum d .answer)
+    (λ n q. ap (λ (x : Driver). (x, s .1)) (allocation-kept (s .0) d kind address maximum interval n q)))))
     (refuses refl))
 other-leaves (AllocateAll bytes) s = after refl (each (read-leaves s bytes (readingOf bytes .answer)) (refuses refl))
 other-leaves (Start maximum) s = after refl (each
-    (after refl (after refl (started-leaves maximum (allocateEp0Of (s .0 .allocator) maximum .answer) (λ n q. ap (λ (x : Driver). (x, s .1)) (start-kept (s .0) maximum n q)))))
+    (after refl (after refl (started-leaves maximum (allocateEp0Of (s .0 .allocator) maximum .answer)
+    (λ n q. ap (λ (x : Driver). (x, s .1)) (start-kept (s .0) maximum n q)))))
     (refuses refl))
 other-leaves BusPoll s = after refl (each begins (refuses refl))
 other-leaves BusEnable s = after refl (each begins (refuses refl))
@@ -104,9 +117,12 @@ other-leaves (SetStalled d e on) s = after refl (each (each begins (after refl (
 other-leaves (IsStalled d e) s = after refl (each (each begins (after refl (each begins (refuses refl)))) (refuses refl))
 other-leaves (SetPaced e on) s = after refl (each (each (whatever (λ _ _. answers (inl refl))) (refuses refl)) (refuses refl))
 other-leaves (Advance e) s = after refl (each (each begins (refuses refl)) (refuses refl))
-other-leaves (BeginRead e n) s = after refl (each (after refl (each (after refl (each (after refl (each (refuses refl) (after refl begins))) (refuses refl))) (refuses refl))) (refuses refl))
+other-leaves (BeginRead e n) s = after refl
+    (each (after refl (each (after refl (each (after refl (each (refuses refl) (after refl begins))) (refuses refl))) (refuses refl)))
+    (refuses refl))
 other-leaves BeginSetup s = after refl (each (after refl begins) (refuses refl))
-other-leaves PollSetup s = after refl (each (after refl (each (after refl (each (after refl (after refl (answers tt))) (answers tt))) (refuses refl))) (refuses refl))
+other-leaves PollSetup s = after refl
+    (each (after refl (each (after refl (each (after refl (after refl (answers tt))) (answers tt))) (refuses refl))) (refuses refl))
 other-leaves PollDataIn s = after refl (each (after refl (each (tests
     (λ w. after refl (each
     (after refl (after refl (after refl (picks (eqb (epOn (s .0) Out 0 .len) 0) (answers tt) (refuses (ap cleared (sym w)))))))
@@ -128,13 +144,15 @@ other-leaves PollAccept s = after refl (each (after refl (each (after refl (each
     (after refl (each (after refl (refuses refl)) (answers tt)))))
     (refuses refl))) (refuses refl))
 other-leaves BeginReject s = after refl (each (after refl begins) (refuses refl))
-other-leaves (BeginDataOut n first) s = after refl (each (after refl (each (refuses refl) (after refl (each (refuses refl) (after refl begins))))) (refuses refl))
+other-leaves (BeginDataOut n first) s =
+    after refl (each (after refl (each (refuses refl) (after refl (each (refuses refl) (after refl begins))))) (refuses refl))
 other-leaves (BeginAcceptSetAddress a) s = after refl (each (after refl (each (refuses refl) (after refl begins))) (refuses refl))
 
 pub aside-leaves : (o : Aside) (s : St) → Leaves none s s (asideCode o)
 aside-leaves (Open e) s = after refl (each (after refl (each (after refl (each (refuses refl)
     (after refl (each (after refl (after refl (after refl (answers tt)))) (refuses refl))))) (refuses refl))) (refuses refl))
-aside-leaves (Close e) s = after refl (each (after refl (each (after refl (each (after refl (answers (inl refl))) (refuses refl))) (refuses refl))) (refuses refl))
+aside-leaves (Close e) s = after refl
+    (each (after refl (each (after refl (each (after refl (answers (inl refl))) (refuses refl))) (refuses refl))) (refuses refl))
 aside-leaves (Queue e bs) s = after refl (each (after refl (each (after refl (each (after refl (each (refuses refl)
     (after refl (each (refuses refl) (after refl (each (after refl (answers (inl refl))) (refuses refl))))))) (refuses refl))) (refuses refl))) (refuses refl))
 

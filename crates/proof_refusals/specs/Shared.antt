@@ -30,7 +30,8 @@ abbrev Shares : (ℕ → Machine Answer Driver) → List ℕ → Called × List 
 Shares f t z = AnsShares f t (z .0 .0) (z .0 .1) (z .1)
 
 -- not turned down
-passed : (f : ℕ → Machine Answer Driver) (i : ℕ) (x : Sort) (d : Driver) (t : List ℕ) (a : Ans Answer) (m : Machine Answer Driver) → AnsIs f a m → AnsShares f t a m (timeAfter i x a d t)
+passed : (f : ℕ → Machine Answer Driver) (i : ℕ) (x : Sort) (d : Driver) (t : List ℕ) (a : Ans Answer) (m : Machine Answer Driver)
+    → AnsIs f a m → AnsShares f t a m (timeAfter i x a d t)
 passed f i x d t (ended (Refused n)) m h = (h, refl)
 passed f i x d t (ended (End n w)) m h = tt
 passed f i x d t (ended NotYet) m h = tt
@@ -52,7 +53,9 @@ not-down i going a d t = refl
 not-down i apart a d t = refl
 
 fits-first : (i : ℕ) (o : Op) (w : Way Answer Driver) (d : Driver) (a b : Buf) (t : List ℕ) (misfits : Bool)
-    → turnedDown i (opSort o) (cond misfits (stay calls driverOf 1 (machineIn w d a)) (begun calls driverOf (λ s. s) o (machineIn w d a) w b) .0) d t ≡ true → misfits ≡ false
+    → turnedDown i (opSort o)
+    (cond misfits (stay calls driverOf 1 (machineIn w d a)) (begun calls driverOf (λ s. s) o (machineIn w d a) w b) .0) d t
+    ≡ true → misfits ≡ false
 fits-first i o w d a b t true h = absurd (true≢false (sym h ∙ not-down i (opSort o) (Refused 1) d t))
 fits-first i o w d a b t false h = refl
 
@@ -64,11 +67,13 @@ turned i (begin o) u d a b t h = ap (λ (x : Bool). machineAt u d (cond x a b)) 
 turned i (go v) u d a b t h = absurd (true≢false (sym h))
 turned i (question q) u d a b t h = absurd (true≢false (sym h))
 
-pub shared-refusal : (i : ℕ) (c : Call Config Op) (u : Suspended) (d : Driver) (a b : Buf) (t : List ℕ) (n : ℕ) → sharedCall i c (machineAt u d a) t b .0 .0 ≡ ended (Refused n)
+pub shared-refusal : (i : ℕ) (c : Call Config Op) (u : Suspended) (d : Driver) (a b : Buf) (t : List ℕ) (n : ℕ)
+    → sharedCall i c (machineAt u d a) t b .0 .0 ≡ ended (Refused n)
     → (sharedCall i c (machineAt u d a) t b .0 .1 ≡ machineAt u (left c n d) (cond (buffersRow c d b) a b)) × (sharedCall i c (machineAt u d a) t b .1 ≡ t)
 unfolding settled
 shared-refusal i c u d a b t n q =
     let f : ℕ → Machine Answer Driver = λ k. machineAt u (left c k d) (cond (buffersRow c d b) a b) in
     let z : Called × List ℕ = sharedCall i c (machineAt u d a) t b in
     subst (λ (x : Ans Answer). AnsShares f t x (z .0 .1) (z .1)) q
-    (settles-as f i (sortOf c) d (machineAt u d b) t (drive c (machineAt u d a) b) (turnedDown i (sortOf c) (drive c (machineAt u d a) b .0) d t) (λ h. turned i c u d a b t h) (call-is c u d a b))
+    (settles-as f i (sortOf c) d (machineAt u d b) t (drive c (machineAt u d a) b)
+    (turnedDown i (sortOf c) (drive c (machineAt u d a) b .0) d t) (λ h. turned i c u d a b t h) (call-is c u d a b))

@@ -75,13 +75,15 @@ module _ {S : Type 0} (O : Ops S) where
   unfolding restartedOut restartedIn
   cleared i Out e b s = at-ask tt (λ _ t _ _. at-end (own e b _ (restarted-data0 _ e _)))
   cleared i In e b s = at-ask tt (λ _ t _ _. every-bind {P = λ c _ _. IsData0 c}
-      (every-cond (not (isOn (O .get (ep-cell In e) s .iso))) (λ _. at-end (own e b _ (restarted-data0 _ e _))) (λ _. at-end (own e b _ (restarted-data0 _ e _))))
+      (every-cond (not (isOn (O .get (ep-cell In e) s .iso)))
+      (λ _. at-end (own e b _ (restarted-data0 _ e _))) (λ _. at-end (own e b _ (restarted-data0 _ e _))))
       (λ _ _ u x. at-end x))
 
   -- ---- an endpoint is enabled or disabled
 
   of-in : (e : ℕ) (on : Bool) (b : ℕ) (s : S) → Leaves In e IsData0 b (run O (setEnabled In e on) s)
-  of-in e on b s = at-ask tt (λ _ _ _ _. at-ask tt (λ _ _ _ _. at-ask tt (λ _ _ _ _. at-ask tt (λ _ _ _ _. at-ask tt (λ _ _ _ _. at-end (own e b _ (word-data0 _ _)))))))
+  of-in e on b s = at-ask tt
+      (λ _ _ _ _. at-ask tt (λ _ _ _ _. at-ask tt (λ _ _ _ _. at-ask tt (λ _ _ _ _. at-ask tt (λ _ _ _ _. at-end (own e b _ (word-data0 _ _)))))))
 
   of-plain : (e : ℕ) (on : Bool) (b : ℕ) (s : S) → Leaves Out e IsData0 b (run O (setEnabledOut {i = false} e on) s)
   of-plain e on b s = at-ask tt (λ _ _ _ _. at-ask tt (λ _ _ _ _. at-ask tt (λ _ _ _ _. at-ask tt (λ _ _ _ _. at-end (own e b _ (word-data0 _ _))))))
@@ -90,7 +92,8 @@ module _ {S : Type 0} (O : Ops S) where
   of-row e on zero b s = at-ask tt (λ _ _ _ _. at-ask tt (λ _ _ _ _. at-ask tt (λ _ _ _ _. at-end (own e b _ (switched-data0 on)))))
   of-row e on (suc n) b s = at-ask tt (λ _ t _ _. of-row e on n b t)
 
-  of-out : (e : ℕ) (on iso : Bool) (b : ℕ) (s : S) → Leaves Out e IsData0 b (cond iso (rows O (switch e on) 18 (λ t. ends (tt {0}) t) s) (run O (setEnabledOut {i = false} e on) s))
+  of-out : (e : ℕ) (on iso : Bool) (b : ℕ) (s : S) → Leaves Out e IsData0 b
+      (cond iso (rows O (switch e on) 18 (λ t. ends (tt {0}) t) s) (run O (setEnabledOut {i = false} e on) s))
   of-out e on true b s = of-row e on 16 b s
   of-out e on false b s = of-plain e on b s
 
@@ -107,13 +110,15 @@ module _ {S : Type 0} (O : Ops S) where
   naks d e zero f b s (inr h) = absurd (omega (arith, h .0, h .1))
   naks Out e (suc n) f b s h = at-ask tt (λ _ _ _ _. at-ask tt (λ _ t _ _. naks Out e n (suc f) _ t (go h (ℕ-discrete f e))))
     where
-      go : IsData0 b ⊎ ((f ≤ e) × (e < f + suc n)) → Dec (f ≡ e) → IsData0 (cond (eqb f e) (toggle (wordOf word.NAK word.DATA0 false)) b) ⊎ ((suc f ≤ e) × (e < suc f + n))
+      go : IsData0 b ⊎ ((f ≤ e) × (e < f + suc n)) → Dec (f ≡ e)
+          → IsData0 (cond (eqb f e) (toggle (wordOf word.NAK word.DATA0 false)) b) ⊎ ((suc f ≤ e) × (e < suc f + n))
       go (inl k) q = inl (either (eqb f e) b _ (word-data0 _ _) k)
       go (inr k) (yes q) = inl (rw (eq-eqb f e q) (word-data0 _ _))
       go (inr k) (no q) = inr (omega (arith, k .0, k .1), omega (arith, k .0, k .1))
   naks In e (suc n) f b s h = at-ask tt (λ _ _ _ _. at-ask tt (λ _ t _ _. naks In e n (suc f) _ t (go h (ℕ-discrete f e))))
     where
-      go : IsData0 b ⊎ ((f ≤ e) × (e < f + suc n)) → Dec (f ≡ e) → IsData0 (cond (eqb f e) (toggle (wordOf word.NAK word.DATA0 false)) b) ⊎ ((suc f ≤ e) × (e < suc f + n))
+      go : IsData0 b ⊎ ((f ≤ e) × (e < f + suc n)) → Dec (f ≡ e)
+          → IsData0 (cond (eqb f e) (toggle (wordOf word.NAK word.DATA0 false)) b) ⊎ ((suc f ≤ e) × (e < suc f + n))
       go (inl k) q = inl (either (eqb f e) b _ (word-data0 _ _) k)
       go (inr k) (yes q) = inl (rw (eq-eqb f e q) (word-data0 _ _))
       go (inr k) (no q) = inr (omega (arith, k .0, k .1), omega (arith, k .0, k .1))
@@ -132,6 +137,8 @@ module _ {S : Type 0} (O : Ops S) where
 
   pub bus-reset-all : (d : Dir) (e : ℕ) → e ≤ 15 → (b : ℕ) (s : S) → Leaves d e IsData0 b (run O busReset s)
   bus-reset-all Out e l b s = at-ask tt (λ _ _ _ _. at-ask tt (λ _ _ _ _. at-ask tt (λ _ t _ _.
-      every-bind (naks Out e 15 1 _ t (first e b _ l (word-data0 _ _))) (λ c _ u p. every-bind {f = λ (_ : Unit {0}) (v : S). run O (wakeAll {i = false}) v} (ends-row Out e c u p) (λ _ _ _ z. at-end z)))))
+      every-bind (naks Out e 15 1 _ t (first e b _ l (word-data0 _ _)))
+      (λ c _ u p. every-bind {f = λ (_ : Unit {0}) (v : S). run O (wakeAll {i = false}) v} (ends-row Out e c u p) (λ _ _ _ z. at-end z)))))
   bus-reset-all In e l b s = at-ask tt (λ _ _ _ _. at-ask tt (λ _ _ _ _. at-ask tt (λ _ t _ _.
-      every-bind (naks In e 15 1 _ t (first e b _ l (word-data0 _ _))) (λ c _ u p. every-bind {f = λ (_ : Unit {0}) (v : S). run O (wakeAll {i = false}) v} (ends-row In e c u p) (λ _ _ _ z. at-end z)))))
+      every-bind (naks In e 15 1 _ t (first e b _ l (word-data0 _ _)))
+      (λ c _ u p. every-bind {f = λ (_ : Unit {0}) (v : S). run O (wakeAll {i = false}) v} (ends-row In e c u p) (λ _ _ _ z. at-end z)))))

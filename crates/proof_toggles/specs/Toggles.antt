@@ -46,7 +46,9 @@ assigns dir e n s h = ap plainOf (same-ep (s .0) dir e (merged (epOn (s .0) dir 
 
 -- of the driver: whether a new packet passed is answered, the bit recorded, a repeat acknowledged again
 pub driver-toggled : (i : Bool) (dir : Dir) (e : ℕ) (b : Pid) (ts : List (Transaction dir)) → passed b ts ≤ 1 → (s : St) → epOn (s .0) dir e .tog ≡ number b
-    → Every (toggling dir e (bitAfterAll b ts)) (KeepsRecord Whole concrete dir e) (λ _. Unit {0}) (Toggled concrete dir e (plainOf (epOn (s .0) dir e)) (bitAfterAll b ts) (eqb (passed b ts) 1)) [] (run concrete (toggled {i = i} dir e) s)
+    → Every (toggling dir e (bitAfterAll b ts)) (KeepsRecord Whole concrete dir e) (λ _. Unit {0})
+    (Toggled concrete dir e (plainOf (epOn (s .0) dir e)) (bitAfterAll b ts) (eqb (passed b ts) 1)) []
+    (run concrete (toggled {i = i} dir e) s)
 driver-toggled i dir e b ts h s is = toggled-meets i Whole concrete dir e (assigns dir e) b ts h s is
 
 -- ---- DATA0 in the record
@@ -80,7 +82,10 @@ unfolding placeOn armedAt
 place-tog d In e = refl
 place-tog d Out e = by (isSet (isoOuts (d .globals)) (e % 16))
   where
-    by : (t : Bool) → epOn (cond {A = ℕ × Driver} t (epOn d Out e .«armed_slot», d) (epOn d Out e .base, withOn d Out e (armedAt (epOn d Out e) (epOn d Out e .base))) .1) Out e .tog ≡ epOn d Out e .tog
+    by : (t : Bool) → epOn (cond {A = ℕ × Driver} t (epOn d Out e .«armed_slot», d) (
+      epOn d Out e .base,
+      withOn d Out e (armedAt (epOn d Out e) (epOn d Out e .base)),
+    ) .1) Out e .tog ≡ epOn d Out e .tog
     by true = refl
     by false = tog-kept d Out e (armedAt (epOn d Out e) (epOn d Out e .base)) refl
 
@@ -102,5 +107,6 @@ driver-cleared i dir e s z = restart.cleared-recorded Whole concrete i dir e (la
 pub driver-enabled-out : (i : Bool) (e : ℕ) (on : Bool) (s : St) → Sized (s .0) → Restarts Whole concrete Out e (run concrete (setEnabledOut {i = i} e on) s)
 driver-enabled-out i e on s z = restart.enabled-out-recorded Whole concrete i e on (lawful Out e) s (z .eps)
 
-pub driver-enabled-in : (i : Bool) (e : ℕ) (iso on : Bool) (s : St) → Sized (s .0) → Restarts Whole concrete In e (run concrete (setEnabledIn {i = i} e iso on) s)
+pub driver-enabled-in : (i : Bool) (e : ℕ) (iso on : Bool) (s : St)
+    → Sized (s .0) → Restarts Whole concrete In e (run concrete (setEnabledIn {i = i} e iso on) s)
 driver-enabled-in i e iso on s z = restart.enabled-in-recorded Whole concrete i e iso on (lawful In e) s (z .eps)

@@ -42,13 +42,24 @@ module _ (D : Dir) (E : ℕ) where
     pub places : length (y .eps) ≡ length (x .eps)
 
   like-then : {x y z : Driver} → Like x y → Like y z → Like x z
-  like-then p q = record { len = q .len ∙ p .len; tog = λ h. q .tog (p .tog h); ready = λ h. q .ready (p .ready h); armed = λ h. q .armed (p .armed h); places = q .places ∙ p .places }
+  like-then p q = record {
+    len = q .len ∙ p .len;
+    tog = λ h. q .tog (p .tog h);
+    ready = λ h. q .ready (p .ready h);
+    armed = λ h. q .armed (p .armed h);
+    places = q .places ∙ p .places;
+  }
 
   -- a record with no completion and DATA0
-  module _ (x : Driver) (d : Dir) (e : ℕ) (r : EpState) (l : length (x .eps) ≡ 32) (n : r .len ≡ epOn x d e .len) (t : r .tog ≡ 0) (y : isOn (r .ready) ≡ false) (g : isOn (r .armed) ≡ false) where
+  module _ (x : Driver) (d : Dir) (e : ℕ) (r : EpState) (l : length (x .eps) ≡ 32)
+      (n : r .len ≡ epOn x d e .len) (t : r .tog ≡ 0) (y : isOn (r .ready) ≡ false) (g : isOn (r .armed) ≡ false) where
     here : Own D E d e
         → (epOn (withOn x d e r) D E .tog ≡ 0) × (isOn (epOn (withOn x d e r) D E .ready) ≡ false) × (isOn (epOn (withOn x d e r) D E .armed) ≡ false)
-    here o = (ap (λ (q : EpState). q .tog) (own-with D E x d e r o l) ∙ t, ap (λ (q : EpState). isOn (q .ready)) (own-with D E x d e r o l) ∙ y, ap (λ (q : EpState). isOn (q .armed)) (own-with D E x d e r o l) ∙ g)
+    here o = (
+      ap (λ (q : EpState). q .tog) (own-with D E x d e r o l) ∙ t,
+      ap (λ (q : EpState). isOn (q .ready)) (own-with D E x d e r o l) ∙ y,
+      ap (λ (q : EpState). isOn (q .armed)) (own-with D E x d e r o l) ∙ g,
+    )
 
     one : Like x (withOn x d e r)
     unfolding withOn
@@ -99,13 +110,23 @@ module _ (D : Dir) (E : ℕ) where
 
   given : (w : Track) (d : Dir) (kind maximum interval e base slots : ℕ) (x : Driver) → length (x .eps) ≡ 32
       → Fits w (view D E x) → eqb (x .globals .stage) 2 ≡ false
-      → let y = setsGiven d kind interval e (recordGiven d kind maximum e base slots x) in Fits w (view D E y) × (length (y .eps) ≡ 32) × (y .globals .stage ≡ x .globals .stage)
+      → let y = setsGiven d kind interval e (recordGiven d kind maximum e base slots x) in
+      Fits w (view D E y) × (length (y .eps) ≡ 32) × (y .globals .stage ≡ x .globals .stage)
   unfolding setsGiven recordGiven allocated isOn epOn withOn
   given w d kind maximum interval e base slots x l r two =
       let q = one x d e (allocated (epOn x d e) kind maximum base (x .allocator .size) slots) l refl refl refl refl in
       let early = r .early two in
-      let stage = sets-stage d kind interval e (x .globals) in
-      (record { tog = q .tog (r .tog ∙ ap number (early .0)) ∙ sym (ap number (early .0)); ready = q .ready (r .ready ∙ early .1) ∙ sym (early .1); armed = q .armed (r .armed ∙ early .2) ∙ sym (early .2); len = q .len ∙ r .len; early = λ _. early }, q .places ∙ l, stage)
+      let stage = sets-stage d kind interval e (x .globals) in (
+        record {
+          tog = q .tog (r .tog ∙ ap number (early .0)) ∙ sym (ap number (early .0));
+          ready = q .ready (r .ready ∙ early .1) ∙ sym (early .1);
+          armed = q .armed (r .armed ∙ early .2) ∙ sym (early .2);
+          len = q .len ∙ r .len;
+          early = λ _. early;
+        },
+        q .places ∙ l,
+        stage,
+      )
 
   abbrev cleared : Driver → Dir → ℕ → Driver
   cleared x d n = withOn x d n (resetOf (epOn x d n))
@@ -146,7 +167,8 @@ module _ (D : Dir) (E : ℕ) where
   pub reset-fits : (w : Track) (x : Driver) → length (x .eps) ≡ 32 → Fits w (view D E x)
       → eqb (x .globals .stage) 2 ≡ true → FitsAs initial false (w .len) false (view D E (resetAll x))
   unfolding resetAll noStamps epOn
-  reset-fits w x l r two = let h = below 16 x l in let z = h .1 (omega arith) in fits-2 D E (ap (λ (g : Globals). eqb (g .stage) 2) (below-globals 16 x) ∙ two) (z .0) (z .1) (h .0 .len ∙ r .len) (z .2)
+  reset-fits w x l r two = let h = below 16 x l in let z = h .1 (omega arith) in
+      fits-2 D E (ap (λ (g : Globals). eqb (g .stage) 2) (below-globals 16 x) ∙ two) (z .0) (z .1) (h .0 .len ∙ r .len) (z .2)
 
   -- ---- an allocation, before EP0's start
 

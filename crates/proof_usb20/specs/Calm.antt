@@ -25,7 +25,11 @@ use Rattle.proof_wake_ups.specs.Still.{put-still, act-still, hand-still}
 use Rattle.state.specs.Driver.{Driver, key, noEp, epOn, withOn, withRequestOn, withPacedOn}
 use Rattle.model.specs.Tree as tree
 use Rattle.model.specs.Cells.{EpCore, Cell, Val, ep-cell, globals-cell, control-cell, request-cell, paced-cell}
-use Rattle.model.specs.Script.{Script, ret, bind, test, read-then, write-then, wait-then, callback-then, get-then, put-then, is-then, look-then, fetch-then, act-then, hand-then, run, Test, Look, Fetch, Act, complete, reset-ring, set-enabled, fill, fill0, open-oldest, close-oldest, take-oldest, enqueue, allocate, allocate0, waken, DmaStep, dmaStepAsk, arrive, send, place, place0}
+use Rattle.model.specs.Script.{Script, ret, bind, test, read-then, write-then, wait-then, callback-then, get-then}
+use Rattle.model.specs.Script.{put-then, is-then, look-then, fetch-then, act-then, hand-then, run, Test, Look, Fetch}
+use Rattle.model.specs.Script.{Act, complete, reset-ring, set-enabled, fill, fill0, open-oldest, close-oldest}
+use Rattle.model.specs.Script.{take-oldest, enqueue, allocate, allocate0, waken, DmaStep, dmaStepAsk, arrive, send}
+use Rattle.model.specs.Script.{place, place0}
 use Rattle.model.specs.TransferKinds.{allocates}
 use Rattle.model.specs.SortsWalks.{among-ins, among-outs}
 use Rattle.model.specs.Every.{sameReg}
@@ -76,7 +80,8 @@ module _ (D : Dir) (E : ℕ) where
   pub off-hush : (w : Track) → Off w → Hush w
   off-hush w h r e v x = ap (λ p. writes D E p r e v w) h
 
-  -- ---- what stays of a state beside the endpoint's view. Of an interrupt (`m`): the sets of isochronous endpoints, among which it is not, and the list of wake-ups
+  -- ---- what stays of a state beside the endpoint's view. Of an interrupt (`m`): the sets of isochronous endpoints,
+  -- among which it is not, and the list of wake-ups
 
   -- another endpoint
   abbrev pub Else : Dir → ℕ → Type 0
@@ -98,7 +103,10 @@ module _ (D : Dir) (E : ℕ) where
     pub grows : m ≡ true → s .0 .wakes .count ≤ t .0 .wakes .count
 
   pub hears-same : {m : Bool} {s t : St} → t .0 .wakes ≡ s .0 .wakes → Hears m s t
-  hears-same {s = s} {t = t} e = record { same = λ _. ap (λ (w : Wakes). howOften (wakeCode D E) (listed w)) e; grows = λ _. le (ap (λ (w : Wakes). w .count) e) }
+  hears-same {s = s} {t = t} e = record {
+    same = λ _. ap (λ (w : Wakes). howOften (wakeCode D E) (listed w)) e;
+    grows = λ _. le (ap (λ (w : Wakes). w .count) e);
+  }
     where
       le : {x y : ℕ} → y ≡ x → x ≤ y
       le {x = x} {y = y} h = omega (arith, h)
@@ -124,7 +132,12 @@ module _ (D : Dir) (E : ℕ) where
 
   -- between two accesses
   pub kept-by : {m : Bool} {s t : St} → Keeps D E s t → Kept m s → Kept m t
-  kept-by p k = record { whole = p .1 .places; sorts = λ _. p .1 .has; plain = λ h. ap (λ (x : Seen). isOn (x .iso)) (p .0) ∙ k .plain h; room = λ h. subst Room (sym (p .2)) (k .room h) }
+  kept-by p k = record {
+    whole = p .1 .places;
+    sorts = λ _. p .1 .has;
+    plain = λ h. ap (λ (x : Seen). isOn (x .iso)) (p .0) ∙ k .plain h;
+    room = λ h. subst Room (sym (p .2)) (k .room h);
+  }
 
   -- of a call that is no interrupt
   pub loose : {s : St} → Whole s → Kept false s
@@ -151,7 +164,9 @@ module _ (D : Dir) (E : ℕ) where
       → ((v : ℕ) → saw D E w q v ≡ w)
       → ((v : ℕ) (t : St) → Kept m t → Follow D E {A = A} (λ x _ u. Stays m w t x u) w (f v t))
       → Follow D E {A = A} (λ x _ u. Stays m w s x u) w (tree.asks q s f)
-  asked {m = m} {s = s} {f = f} w l e g = at-ask tt (λ v t _ k. subst (λ (u : Track). Follow D E (λ x _ t. Stays m w s x t) u (f v t)) (sym (e v)) (follow.follow-more D E (g v t (kept-by k l)) (λ _ _ _ n. (n .0, n .1 ∙ k .0, n .2, hears-then (hears-same (k .2)) (n .3)))))
+  asked {m = m} {s = s} {f = f} w l e g = at-ask tt
+      (λ v t _ k. subst (λ (u : Track). Follow D E (λ x _ t. Stays m w s x t) u (f v t)) (sym (e v))
+      (follow.follow-more D E (g v t (kept-by k l)) (λ _ _ _ n. (n .0, n .1 ∙ k .0, n .2, hears-then (hears-same (k .2)) (n .3)))))
 
   -- a state that shows the same
   pub onward : {m : Bool} {A : Type 0} {o : tree.Out St A} (w : Track) (s t : St) → view D E (t .0) ≡ view D E (s .0)
@@ -197,7 +212,8 @@ module _ (D : Dir) (E : ℕ) where
   woken-other c w r h = by (decLt (w .count) 64)
     where
       by : Dec (w .count < 64) → howOften (wakeCode D E) (listed (woken c w)) ≡ howOften (wakeCode D E) (listed w)
-      by (yes l) = ap (howOften (wakeCode D E)) (woken-listed c w r l) ∙ (often-last (listed w) c ∙ (ap (λ (b : Bool). howOften (wakeCode D E) (listed w) + cond b 1 0) h ∙ omega arith))
+      by (yes l) = ap (howOften (wakeCode D E)) (woken-listed c w r l)
+          ∙ (often-last (listed w) c ∙ (ap (λ (b : Bool). howOften (wakeCode D E) (listed w) + cond b 1 0) h ∙ omega arith))
       by (no l) = ap (λ (v : Wakes). howOften (wakeCode D E) (listed v)) (woken-full c w (omega (arith, l)))
 
   -- its own code, once more; or the list is full
@@ -207,7 +223,9 @@ module _ (D : Dir) (E : ℕ) where
     where
       by : Dec (w .count < 64)
           → (64 ≤ woken c w .count) ⊎ (howOften (wakeCode D E) (listed (woken c w)) ≡ howOften (wakeCode D E) (listed w) + 1)
-      by (yes l) = inr (ap (howOften (wakeCode D E)) (woken-listed c w r l) ∙ (often-last (listed w) c ∙ ap (λ (b : Bool). howOften (wakeCode D E) (listed w) + cond b 1 0) h))
+      by (yes l) = inr
+          (ap (howOften (wakeCode D E)) (woken-listed c w r l)
+          ∙ (often-last (listed w) c ∙ ap (λ (b : Bool). howOften (wakeCode D E) (listed w) + cond b 1 0) h))
       by (no l) = inl (omega (arith, l, ap (λ (v : Wakes). v .count) (woken-full c w (omega (arith, l)))))
 
   all-others : (cs : List ℕ) (w : Wakes) → Room w → Others cs
@@ -236,7 +254,15 @@ module _ (D : Dir) (E : ℕ) where
   pub act-kept : {m : Bool} (q : Act) → allocates q ≡ false → Silent m q → (s : St) → Kept m s
       → Kept m (concrete .act q s) × Hears m s (concrete .act q s)
   unfolding epOn
-  act-kept no-wakes h o s k = (record { whole = act-steady no-wakes refl s .places ∙ k .whole; sorts = λ q. differ (sym o ∙ q); plain = λ q. differ (sym o ∙ q); room = λ q. differ (sym o ∙ q) }, record { same = λ q. differ (sym o ∙ q); grows = λ q. differ (sym o ∙ q) })
+  act-kept no-wakes h o s k = (
+    record {
+      whole = act-steady no-wakes refl s .places ∙ k .whole;
+      sorts = λ q. differ (sym o ∙ q);
+      plain = λ q. differ (sym o ∙ q);
+      room = λ q. differ (sym o ∙ q);
+    },
+    record { same = λ q. differ (sym o ∙ q); grows = λ q. differ (sym o ∙ q) },
+  )
   act-kept (waken codes) h o s k =
       let p = act-steady (waken codes) refl s in (
         record {
@@ -248,14 +274,32 @@ module _ (D : Dir) (E : ℕ) where
         record { same = λ h. all-others codes (s .0 .wakes) (k .room h) (o h) .1; grows = λ h. all-others codes (s .0 .wakes) (k .room h) (o h) .2 },
       )
   act-kept (complete e) h o s k = (kept-steady (act-steady (complete e) h s) (act-still (complete e) tt s) k, hears-same (act-still (complete e) tt s))
-  act-kept (reset-ring d e) h o s k = (kept-steady (act-steady (reset-ring d e) h s) (act-still (reset-ring d e) tt s) k, hears-same (act-still (reset-ring d e) tt s))
-  act-kept (set-enabled d e on) h o s k = (kept-steady (act-steady (set-enabled d e on) h s) (act-still (set-enabled d e on) tt s) k, hears-same (act-still (set-enabled d e on) tt s))
+  act-kept (reset-ring d e) h o s k = (
+    kept-steady (act-steady (reset-ring d e) h s) (act-still (reset-ring d e) tt s) k,
+    hears-same (act-still (reset-ring d e) tt s),
+  )
+  act-kept (set-enabled d e on) h o s k = (
+    kept-steady (act-steady (set-enabled d e on) h s) (act-still (set-enabled d e on) tt s) k,
+    hears-same (act-still (set-enabled d e on) tt s),
+  )
   act-kept (fill e bytes) h o s k = (kept-steady (act-steady (fill e bytes) h s) (act-still (fill e bytes) tt s) k, hears-same (act-still (fill e bytes) tt s))
   act-kept (fill0 bytes) h o s k = (kept-steady (act-steady (fill0 bytes) h s) (act-still (fill0 bytes) tt s) k, hears-same (act-still (fill0 bytes) tt s))
-  act-kept (open-oldest e) h o s k = (kept-steady (act-steady (open-oldest e) h s) (act-still (open-oldest e) tt s) k, hears-same (act-still (open-oldest e) tt s))
-  act-kept (close-oldest e) h o s k = (kept-steady (act-steady (close-oldest e) h s) (act-still (close-oldest e) tt s) k, hears-same (act-still (close-oldest e) tt s))
-  act-kept (take-oldest e) h o s k = (kept-steady (act-steady (take-oldest e) h s) (act-still (take-oldest e) tt s) k, hears-same (act-still (take-oldest e) tt s))
-  act-kept (enqueue e bytes) h o s k = (kept-steady (act-steady (enqueue e bytes) h s) (act-still (enqueue e bytes) tt s) k, hears-same (act-still (enqueue e bytes) tt s))
+  act-kept (open-oldest e) h o s k = (
+    kept-steady (act-steady (open-oldest e) h s) (act-still (open-oldest e) tt s) k,
+    hears-same (act-still (open-oldest e) tt s),
+  )
+  act-kept (close-oldest e) h o s k = (
+    kept-steady (act-steady (close-oldest e) h s) (act-still (close-oldest e) tt s) k,
+    hears-same (act-still (close-oldest e) tt s),
+  )
+  act-kept (take-oldest e) h o s k = (
+    kept-steady (act-steady (take-oldest e) h s) (act-still (take-oldest e) tt s) k,
+    hears-same (act-still (take-oldest e) tt s),
+  )
+  act-kept (enqueue e bytes) h o s k = (
+    kept-steady (act-steady (enqueue e bytes) h s) (act-still (enqueue e bytes) tt s) k,
+    hears-same (act-still (enqueue e bytes) tt s),
+  )
   act-kept (allocate d kind address maximum interval) h o s k = differ (sym h)
   act-kept (allocate0 maximum) h o s k = differ (sym h)
 
@@ -276,7 +320,11 @@ module _ (D : Dir) (E : ℕ) where
 
     pub q-bind : {i : Bool} {A B : Type 0} {p : Script i A} {f : A → Script i B} → Quiet m P p
         → ((a : A) → Quiet m P (f a)) → Quiet m P (bind p f)
-    q-bind {f = f} x y = record { goes = λ w s z k. follow.follow-bind D E (x .goes w s z k) (λ v a t l. subst (λ (u : Track). Follow D E (λ x _ t. Stays m w s x t) u (run concrete (f a) t)) (sym (l .0)) (follow.follow-more D E (y a .goes w t z (l .2)) (λ _ _ _ n. (n .0, n .1 ∙ l .1, n .2, hears-then (l .3) (n .3))))) }
+    q-bind {f = f} x y = record {
+      goes = λ w s z k. follow.follow-bind D E (x .goes w s z k)
+          (λ v a t l. subst (λ (u : Track). Follow D E (λ x _ t. Stays m w s x t) u (run concrete (f a) t)) (sym (l .0))
+          (follow.follow-more D E (y a .goes w t z (l .2)) (λ _ _ _ n. (n .0, n .1 ∙ l .1, n .2, hears-then (l .3) (n .3)))));
+    }
 
     pub q-test : {i : Bool} {A : Type 0} {b : Bool} {p q : Script i A} → Quiet m P p → Quiet m P q
         → Quiet m P (test b p q)
@@ -309,12 +357,20 @@ module _ (D : Dir) (E : ℕ) where
     pub q-ins : {i : Bool} {A : Type 0} {f : Globals → Script i A}
         → ((g : Globals) → Each (λ e. m ≡ true → Else In e) (setBits (isoInEvery g)) → Quiet m P (f g))
         → Quiet m P (bind (get {i = i} globals-cell) f)
-    q-ins x = record { goes = λ w s z k. x (s .0 .globals) (each-set (isoInEvery (s .0 .globals)) (λ e l h t q. iso-apart s In e (k .plain t) (among-ins (sortsOf (s .0) In) (s .0 .globals) (k .sorts t .every) e l h) q)) .goes w s z k }
+    q-ins x = record {
+      goes = λ w s z k. x (s .0 .globals)
+          (each-set (isoInEvery (s .0 .globals))
+          (λ e l h t q. iso-apart s In e (k .plain t) (among-ins (sortsOf (s .0) In) (s .0 .globals) (k .sorts t .every) e l h) q)) .goes w s z k;
+    }
 
     pub q-outs : {i : Bool} {A : Type 0} {f : Globals → Script i A}
         → ((g : Globals) → Each (λ e. m ≡ true → Else Out e) (setBits (isoOuts g)) → Quiet m P (f g))
         → Quiet m P (bind (get {i = i} globals-cell) f)
-    q-outs x = record { goes = λ w s z k. x (s .0 .globals) (each-set (isoOuts (s .0 .globals)) (λ e l h t q. iso-apart s Out e (k .plain t) (among-outs (sortsOf (s .0) Out) (s .0 .globals) (k .sorts t .outs) e l h) q)) .goes w s z k }
+    q-outs x = record {
+      goes = λ w s z k. x (s .0 .globals)
+          (each-set (isoOuts (s .0 .globals)) (λ e l h t q. iso-apart s Out e
+          (k .plain t) (among-outs (sortsOf (s .0) Out) (s .0 .globals) (k .sorts t .outs) e l h) q)) .goes w s z k;
+    }
 
     pub q-is : {i : Bool} {A : Type 0} {q : Test} {f : Bool → Script i A} → ((b : Bool) → Quiet m P (f b))
         → Quiet m P (is-then q f)
@@ -330,15 +386,23 @@ module _ (D : Dir) (E : ℕ) where
 
     pub q-act-as : {i : Bool} {A : Type 0} {q : Act} {p : Script i A} → allocates q ≡ false → Silent m q → Quiet m P p
         → Quiet m P (act-then q p)
-    q-act-as {q = q} h o x = record { goes = λ w s z k. let n = act-kept q h o s k in onward w s (concrete .act q s) (act-view D E q h s) (n .1) (x .goes w (concrete .act q s) z (n .0)) }
+    q-act-as {q = q} h o x = record {
+      goes = λ w s z k. let n = act-kept q h o s k in
+          onward w s (concrete .act q s) (act-view D E q h s) (n .1) (x .goes w (concrete .act q s) z (n .0));
+    }
 
     pub q-hand : {i : Bool} {A : Type 0} {q : DmaStep} {p : Script i A} → Quiet m P p → Quiet m P (hand-then q p)
-    q-hand {q = q} x = record { goes = λ w s z k. onward w s (concrete .hand q s .1) (hand-view D E q s) (hears-same (hand-still q s)) (asked w (kept-steady (hand-steady q s) (hand-still q s) k) (hand-silent q (concrete .hand q s .0) w) (λ _ t l. x .goes w t z l)) }
+    q-hand {q = q} x = record {
+      goes = λ w s z k. onward w s (concrete .hand q s .1) (hand-view D E q s) (hears-same (hand-still q s))
+          (asked w (kept-steady (hand-steady q s) (hand-still q s) k) (hand-silent q (concrete .hand q s .0) w) (λ _ t l. x .goes w t z l));
+    }
 
     -- an assignment that shows the same
     pub q-put : {i : Bool} {A : Type 0} {c : Cell} {v : Val c} {p : Script i A}
         → ((s : St) → view D E (concrete .put c v s .0) ≡ view D E (s .0)) → Quiet m P p → Quiet m P (put-then c v p)
-    q-put {c = c} {v = v} e x = record { goes = λ w s z k. onward w s (concrete .put c v s) (e s) (put-hears c v s) (x .goes w (concrete .put c v s) z (put-kept c v s k)) }
+    q-put {c = c} {v = v} e x = record {
+      goes = λ w s z k. onward w s (concrete .put c v s) (e s) (put-hears c v s) (x .goes w (concrete .put c v s) z (put-kept c v s k));
+    }
 
     -- a record that is read and changed
     pub q-modify : {i : Bool} (c : Cell) (f : Val c → Val c)

@@ -42,7 +42,8 @@ module _ (O : Observer) where
   -- what is claimed of each call, and of the state where nothing is under way after it
   abbrev pub CodeAll : List Made → Watched O → Type 0
   CodeAll [] x = Unit {0}
-  CodeAll (m ∷ ms) x = Claim O (m .event .call) (m .answer) (serves (left m .way)) x × Standing O (left m .st) (told m x .log) (told m x .under) × CodeAll ms (told m x)
+  CodeAll (m ∷ ms) x = Claim O (m .event .call) (m .answer) (serves (left m .way)) x
+      × Standing O (left m .st) (told m x .log) (told m x .under) × CodeAll ms (told m x)
 
   -- ---- from the machine of calls
 
@@ -53,7 +54,9 @@ module _ (O : Observer) where
       → Reads O (events ms) (machineOf xs a) x
   to-reads [] xs a x h r = tt
   to-reads (m ∷ ms) xs a x h r =
-      subst (λ (z : Answered). Read O (m .event .call) (z .0) (serves (z .1 .way)) x × Reads O (events ms) (z .1) (noted O (m .event .call) (m .event .lent) (z .0) (serves (z .1 .way)) x)) (h .0)
+      subst
+      (λ (z : Answered). Read O (m .event .call) (z .0) (serves (z .1 .way)) x
+      × Reads O (events ms) (z .1) (noted O (m .event .call) (m .event .lent) (z .0) (serves (z .1 .way)) x)) (h .0)
       (r .0, to-reads ms (m .bytes) (m .slots) (told m x) (h .1) (r .1))
 
   to-meaning : (ms : List Made) (xs : List ℕ) (a : Buf) → Steps xs a ms → CodeMeaning (machineOf xs a) ms
@@ -71,7 +74,8 @@ module _ (O : Observer) where
   to-meaning (m ∷ ms) xs a h p [] fs e = p .0
   to-meaning (m ∷ ms) xs a h p (d ∷ ds) fs e =
       subst (λ (c : Event Config Op). O .Meant (O .view (after calls driverOf ds (drive (c .call) (machineOf xs a) (c .lent) .1) .st))) (heads e)
-      (subst (λ (z : Answered). O .Meant (O .view (after calls driverOf ds (z .1) .st))) (h .0) (to-meaning ms (m .bytes) (m .slots) (h .1) (p .1) ds fs (tails e)))
+      (subst (λ (z : Answered). O .Meant (O .view (after calls driverOf ds (z .1) .st)))
+      (h .0) (to-meaning ms (m .bytes) (m .slots) (h .1) (p .1) ds fs (tails e)))
     where
       heads : m .event ∷ events ms ≡ d ∷ (ds ++ fs) → m .event ≡ d
       heads q = ap (λ (l : List (Event Config Op)). first l) q
@@ -91,8 +95,12 @@ module _ (O : Observer) where
       → All O (events ms) (machineOf xs a) x → CodeAll ms x
   to-code [] xs a x h r = tt
   to-code (m ∷ ms) xs a x h r =
-      let p : Claim O (m .event .call) (m .answer) (serves (left m .way)) x × Standing O (left m .st) (told m x .log) (told m x .under) × All O (events ms) (left m) (told m x)
-      = subst (λ (z : Answered). let y = noted O (m .event .call) (m .event .lent) (z .0) (serves (z .1 .way)) x in Claim O (m .event .call) (z .0) (serves (z .1 .way)) x × Standing O (z .1 .st) (y .log) (y .under) × All O (events ms) (z .1) y) (sym (h .0)) r in
+      let p : Claim O (m .event .call) (m .answer) (serves (left m .way)) x
+      × Standing O (left m .st) (told m x .log) (told m x .under) × All O (events ms) (left m) (told m x)
+      = subst
+      (λ (z : Answered). let y = noted O (m .event .call) (m .event .lent) (z .0) (serves (z .1 .way)) x in
+      Claim O (m .event .call) (z .0) (serves (z .1 .way)) x
+      × Standing O (z .1 .st) (y .log) (y .under) × All O (events ms) (z .1) y) (sym (h .0)) r in
       (p .0, p .1, to-code ms (m .bytes) (m .slots) (told m x) (h .1) (p .2))
 
   -- any bytes, a start-up that rows 1 and 2 do not stop, and then any calls whose contracts say what they are steps of
@@ -102,7 +110,9 @@ module _ (O : Observer) where
       → CodeAll ms (startedBy O (first .answer))
   code-from-start L c b row xs a first e ms h p r =
       let q : (first .answer, left first) ≡ started calls driverOf (λ s. s) c zero (machineOf xs a) b
-      = subst (λ (v : Event Config Op). (first .answer, left first) ≡ drive (v .call) (machineOf xs a) (v .lent)) e (h .0) ∙ ap (λ n. started calls driverOf (λ s. s) c n (machineOf xs a) b) row in
+      = subst (λ (v : Event Config Op). (first .answer, left first) ≡ drive (v .call) (machineOf xs a) (v .lent)) e (h .0)
+      ∙ ap (λ n. started calls driverOf (λ s. s) c n (machineOf xs a) b) row in
       to-code ms (first .bytes) (first .slots) (startedBy O (first .answer)) (h .1)
-      (subst (λ (z : Answered). Meaning O (events ms) (z .1) → Reads O (events ms) (z .1) (startedBy O (z .0)) → All O (events ms) (z .1) (startedBy O (z .0))) (sym q) (from-start O L c b row (events ms) (machineOf xs a))
+      (subst (λ (z : Answered). Meaning O (events ms) (z .1) → Reads O (events ms) (z .1) (startedBy O (z .0))
+      → All O (events ms) (z .1) (startedBy O (z .0))) (sym q) (from-start O L c b row (events ms) (machineOf xs a))
       (to-meaning ms (first .bytes) (first .slots) (h .1) p) (to-reads ms (first .bytes) (first .slots) (startedBy O (first .answer)) (h .1) r))

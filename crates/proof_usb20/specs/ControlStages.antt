@@ -8,7 +8,10 @@ use Rattle.model.specs.Every as ways
 use Rattle.model.specs.AddressWrites.{Writes}
 use Rattle.model.specs.AddressCalls.{Addresses}
 use Rattle.model.specs.Answers.{Answer, Refused}
-use Rattle.model.specs.Calls.{Config, Op, Slotted, SetEnabled, PollRead, BeginWrite, PollWrite, PollDataOut, BeginDataIn, Other, Allocate, AllocateAll, Start, BusPoll, BusEnable, BusDisable, Microframe, SetStalled, IsStalled, SetPaced, Advance, BeginRead, BeginSetup, PollSetup, PollDataIn, BeginAccept, PollAccept, BeginReject, BeginDataOut, BeginAcceptSetAddress}
+use Rattle.model.specs.Calls.{Config, Op, Slotted, SetEnabled, PollRead, BeginWrite, PollWrite, PollDataOut}
+use Rattle.model.specs.Calls.{BeginDataIn, Other, Allocate, AllocateAll, Start, BusPoll, BusEnable, BusDisable}
+use Rattle.model.specs.Calls.{Microframe, SetStalled, IsStalled, SetPaced, Advance, BeginRead, BeginSetup, PollSetup}
+use Rattle.model.specs.Calls.{PollDataIn, BeginAccept, PollAccept, BeginReject, BeginDataOut, BeginAcceptSetAddress}
 use Rattle.model.specs.Machine.{Buf, Event, Machine}
 use Rattle.model_ops.specs.Rings.{St}
 use Rattle.proof_usb20.specs.Log.{Log, before, opens, saw, closes, Brings, Armed, Fair, Allowed, Poll, FairPoll}
@@ -52,4 +55,18 @@ use Rattle.ring.specs.Slot as ring-slot
 -- the observer of EP0: by its log EP0's words are as the pipe says, a poll is done exactly after the completion, and an
 -- address is written by an accept's poll alone, after its completion, or is 0 at a bus reset
 abbrev pub control : Observer
-control = record { Log = Log; before = before; opens = opens; saw = saw; closes = closes; Brings = Brings; Fair = Fair; Allowed = Allowed; Asks = λ o q. Writes (Addresses o) q; View = View; view = view; Stands = λ w x. Armed w; Meant = λ x. Unit {0} }
+control = record {
+  Log = Log;
+  before = before;
+  opens = opens;
+  saw = saw;
+  closes = closes;
+  Brings = Brings;
+  Fair = Fair;
+  Allowed = Allowed;
+  Asks = λ o q. Writes (Addresses o) q;
+  View = View;
+  view = view;
+  Stands = λ w x. Armed w;
+  Meant = λ x. Unit {0};
+}

@@ -12,12 +12,17 @@ use Rattle.model.specs.AddressWrites.{Writes}
 use Rattle.model.specs.AddressCalls.{Addresses}
 use Rattle.model.specs.AddressCallsLaws.{address-writes}
 use Rattle.model.specs.Answers.{Answer, Refused}
-use Rattle.model.specs.Calls.{Config, calls, startRow, Op, interrupt, slotted, other, aside, Slotted, SetEnabled, PollRead, BeginWrite, PollWrite, PollDataOut, BeginDataIn, Other, Allocate, AllocateAll, Start, BusPoll, BusEnable, BusDisable, Microframe, SetStalled, IsStalled, SetPaced, Advance, BeginRead, BeginSetup, PollSetup, PollDataIn, BeginAccept, PollAccept, BeginReject, BeginDataOut, BeginAcceptSetAddress, code}
+use Rattle.model.specs.Calls.{Config, calls, startRow, Op, interrupt, slotted, other, aside, Slotted, SetEnabled}
+use Rattle.model.specs.Calls.{PollRead, BeginWrite, PollWrite, PollDataOut, BeginDataIn, Other, Allocate, AllocateAll}
+use Rattle.model.specs.Calls.{Start, BusPoll, BusEnable, BusDisable, Microframe, SetStalled, IsStalled, SetPaced}
+use Rattle.model.specs.Calls.{Advance, BeginRead, BeginSetup, PollSetup, PollDataIn, BeginAccept, PollAccept}
+use Rattle.model.specs.Calls.{BeginReject, BeginDataOut, BeginAcceptSetAddress, code}
 use Rattle.model.specs.Machine.{Buf, Event, Machine, start, started}
 use Rattle.machine.specs.Suspended.{driverOf}
 use Rattle.model_ops.specs.Rings.{St}
 use Rattle.model_ops.specs.Concrete.{concrete}
-use Rattle.proof_usb20.specs.Log.{Log, before, opens, closes, Brings, Armed, Fair, Allowed, Poll, none, begins, pollSetup, pollOut, pollIn, pollStatus, pollOf, FairPoll}
+use Rattle.proof_usb20.specs.Log.{Log, before, opens, closes, Brings, Armed, Fair, Allowed, Poll, none, begins}
+use Rattle.proof_usb20.specs.Log.{pollSetup, pollOut, pollIn, pollStatus, pollOf, FairPoll}
 use Rattle.proof_usb20.specs.Observer.{Observer, startedBy, Reads, All}
 use Rattle.proof_usb20.specs.Exempt.{differ}
 use Rattle.proof_usb20.specs.Watch.{at-end, at-ask}
@@ -32,7 +37,10 @@ use Rattle.proof_usb20.specs.Stages.{law-data-out, law-data-in, law-acce
 use Rattle.proof_usb20.specs.Polls.{law-poll-setup, law-poll-data-out, law-poll-data-in, law-poll-accept}
 use Rattle.proof_usb20.specs.Serving.{law-interrupt}
 use Rattle.proof_usb20.specs.Switching.{law-set-enabled}
-use Rattle.proof_usb20.specs.Tasks.{law-begin-read, law-poll-read, law-begin-write, law-poll-write, law-allocate, law-allocate-all, law-start, law-bus-enable, law-bus-disable, law-microframe, law-is-stalled, law-set-paced, law-advance, law-aside, law-set-stalled, law-bus-poll, aside-view}
+use Rattle.proof_usb20.specs.Tasks.{law-begin-read, law-poll-read, law-begin-write, law-poll-write, law-allocate}
+use Rattle.proof_usb20.specs.Tasks.{law-allocate-all, law-start, law-bus-enable, law-bus-disable, law-microframe}
+use Rattle.proof_usb20.specs.Tasks.{law-is-stalled, law-set-paced, law-advance, law-aside, law-set-stalled}
+use Rattle.proof_usb20.specs.Tasks.{law-bus-poll, aside-view}
 use mathlib.Core.Bool.{Bool, true, false, cond}
 use Rattle.regs.specs.declared.Access.{Access}
 use Rattle.regs.specs.declared.Access.the-variants.{Read, Write, Receive, Transmit, Ep0Dma, Wait, Callback}
@@ -177,7 +185,9 @@ serving f b s = record { op = interrupt; flags = f; free = b; status = s }
 
 -- EP0's control words read back as they were written, the frame is 8
 abbrev reading : Does → Log → Access → ℕ
-reading x w (Read r e) = cond (sameReg r EpRxCtrl) (w .rx) (cond (sameReg r EpTxCtrl) (w .tx) (cond (sameReg r IntFg) (x .flags) (cond (sameReg r MisSt) (x .free) (cond (sameReg r IntSt) (x .status) (cond (sameReg r FrameNo) 8 0)))))
+reading x w (Read r e) = cond (sameReg r EpRxCtrl) (w .rx)
+    (cond (sameReg r EpTxCtrl) (w .tx)
+    (cond (sameReg r IntFg) (x .flags) (cond (sameReg r MisSt) (x .free) (cond (sameReg r IntSt) (x .status) (cond (sameReg r FrameNo) 8 0)))))
 reading x w (Write r e v) = 0
 reading x w (Receive e y) = 0
 reading x w (Transmit e y) = 0
@@ -239,9 +249,15 @@ pub data Transfer : Type 0 where
 -- the status stage's token IN while the bus is busy
 abbrev pub steps : Transfer → List Does
 steps setup-alone = setting []
-steps control-read = setting (does (slotted (BeginDataIn (1 ∷ 2 ∷ []) true true)) ∷ serving 2 1 32 ∷ does (other PollDataIn) ∷ serving 2 1 64 ∷ does (other PollDataIn) ∷ [])
-steps control-write = setting (does (other (BeginDataOut 64 true)) ∷ serving 2 1 64 ∷ does (slotted (PollDataOut 64)) ∷ does (other BeginAccept) ∷ serving 2 1 32 ∷ does (other PollAccept) ∷ [])
-steps hidden-write = setting (does (other (BeginDataOut 64 true)) ∷ serving 2 0 32 ∷ does (slotted (PollDataOut 64)) ∷ does (other BeginAccept) ∷ serving 2 1 32 ∷ does (other PollAccept) ∷ [])
+steps control-read = setting
+    (does (slotted (BeginDataIn (1 ∷ 2 ∷ []) true true)) ∷ serving 2 1 32 ∷ does
+    (other PollDataIn) ∷ serving 2 1 64 ∷ does (other PollDataIn) ∷ [])
+steps control-write = setting
+    (does (other (BeginDataOut 64 true)) ∷ serving 2 1 64 ∷ does
+    (slotted (PollDataOut 64)) ∷ does (other BeginAccept) ∷ serving 2 1 32 ∷ does (other PollAccept) ∷ [])
+steps hidden-write = setting
+    (does (other (BeginDataOut 64 true)) ∷ serving 2 0 32 ∷ does
+    (slotted (PollDataOut 64)) ∷ does (other BeginAccept) ∷ serving 2 1 32 ∷ does (other PollAccept) ∷ [])
 steps set-address = setting (does (other (BeginAcceptSetAddress 5)) ∷ serving 2 1 32 ∷ does (other PollAccept) ∷ [])
 
 abbrev pub none-of : List Does → List Bool

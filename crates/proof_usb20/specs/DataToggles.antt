@@ -8,7 +8,10 @@ use Rattle.regs.specs.declared.Dir.{Dir}
 use Rattle.regs.specs.declared.Dir.the-variants.{Out, In}
 use Rattle.state.specs.Driver.{Driver}
 use Rattle.model.specs.Answers.{Answer}
-use Rattle.model.specs.Calls.{Config, Op, Slotted, SetEnabled, PollRead, BeginWrite, PollWrite, PollDataOut, BeginDataIn, Other, Allocate, AllocateAll, Start, BusPoll, BusEnable, BusDisable, Microframe, SetStalled, IsStalled, SetPaced, Advance, BeginRead, BeginSetup, PollSetup, PollDataIn, BeginAccept, PollAccept, BeginReject, BeginDataOut, BeginAcceptSetAddress}
+use Rattle.model.specs.Calls.{Config, Op, Slotted, SetEnabled, PollRead, BeginWrite, PollWrite, PollDataOut}
+use Rattle.model.specs.Calls.{BeginDataIn, Other, Allocate, AllocateAll, Start, BusPoll, BusEnable, BusDisable}
+use Rattle.model.specs.Calls.{Microframe, SetStalled, IsStalled, SetPaced, Advance, BeginRead, BeginSetup, PollSetup}
+use Rattle.model.specs.Calls.{PollDataIn, BeginAccept, PollAccept, BeginReject, BeginDataOut, BeginAcceptSetAddress}
 use Rattle.model.specs.Machine.{Buf, Event, Machine}
 use Rattle.model.specs.Usb20Toggles.{Pid, DATA0, DATA1}
 use Rattle.proof_usb20.specs.Sequence.{Track}
@@ -42,10 +45,38 @@ use Rattle.proof_usb20.specs.Enabling.{WordLaw}
 -- the observer of an endpoint's data toggle: by its log a poll is done exactly if a completion is there, an interrupt
 -- has looked, and the record has the bit with the last new packet, whether a completion is there, its length
 abbrev pub toggles : Dir → ℕ → Observer
-toggles D E = record { Log = Track; before = before; opens = opens D E; saw = saw D E; closes = closes D E; Brings = λ _ _ _. Unit {0}; Fair = Fair D E; Allowed = λ _ _ _. Unit {0}; Asks = λ _ _. Unit {0}; View = Seen; view = view D E; Stands = Fits; Meant = λ x. isOn (x .iso) ≡ false }
+toggles D E = record {
+  Log = Track;
+  before = before;
+  opens = opens D E;
+  saw = saw D E;
+  closes = closes D E;
+  Brings = λ _ _ _. Unit {0};
+  Fair = Fair D E;
+  Allowed = λ _ _ _. Unit {0};
+  Asks = λ _ _. Unit {0};
+  View = Seen;
+  view = view D E;
+  Stands = Fits;
+  Meant = λ x. isOn (x .iso) ≡ false;
+}
 
 -- ---- the control word that a call leaves
 
 -- the observer of an endpoint's control word: by its log the word that a call has written last
 abbrev pub words : Dir → ℕ → Observer
-words D E = record { Log = Track × Writing; before = (before, unwritten-yet before); opens = λ o x. (opens D E o (x .0), unwritten-yet (x .0)); saw = λ x q v. (saw D E (x .0) q v, wrote D E (x .1) q v); closes = λ o a x. (closes D E o a (x .0), x .1); Brings = λ _ _ _. Unit {0}; Fair = λ o a x. Leaves D E o a (x .1); Allowed = λ _ _ _. Unit {0}; Asks = λ _ _. Unit {0}; View = Seen; view = view D E; Stands = λ _ _. Unit {0}; Meant = λ x. isOn (x .iso) ≡ false }
+words D E = record {
+  Log = Track × Writing;
+  before = (before, unwritten-yet before);
+  opens = λ o x. (opens D E o (x .0), unwritten-yet (x .0));
+  saw = λ x q v. (saw D E (x .0) q v, wrote D E (x .1) q v);
+  closes = λ o a x. (closes D E o a (x .0), x .1);
+  Brings = λ _ _ _. Unit {0};
+  Fair = λ o a x. Leaves D E o a (x .1);
+  Allowed = λ _ _ _. Unit {0};
+  Asks = λ _ _. Unit {0};
+  View = Seen;
+  view = view D E;
+  Stands = λ _ _. Unit {0};
+  Meant = λ x. isOn (x .iso) ≡ false;
+}

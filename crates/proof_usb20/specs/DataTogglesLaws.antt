@@ -8,7 +8,11 @@ use Rattle.regs.specs.declared.Dir.the-variants.{Out, In}
 use Rattle.state.specs.Driver.{Driver, key}
 use Rattle.state.specs.Laws.{key-apart, key-same}
 use Rattle.model.specs.Answers.{Answer}
-use Rattle.model.specs.Calls.{Config, calls, startRow, Op, interrupt, slotted, other, aside, Slotted, SetEnabled, PollRead, BeginWrite, PollWrite, PollDataOut, BeginDataIn, Other, Allocate, AllocateAll, Start, BusPoll, BusEnable, BusDisable, Microframe, SetStalled, IsStalled, SetPaced, Advance, BeginRead, BeginSetup, PollSetup, PollDataIn, BeginAccept, PollAccept, BeginReject, BeginDataOut, BeginAcceptSetAddress}
+use Rattle.model.specs.Calls.{Config, calls, startRow, Op, interrupt, slotted, other, aside, Slotted, SetEnabled}
+use Rattle.model.specs.Calls.{PollRead, BeginWrite, PollWrite, PollDataOut, BeginDataIn, Other, Allocate, AllocateAll}
+use Rattle.model.specs.Calls.{Start, BusPoll, BusEnable, BusDisable, Microframe, SetStalled, IsStalled, SetPaced}
+use Rattle.model.specs.Calls.{Advance, BeginRead, BeginSetup, PollSetup, PollDataIn, BeginAccept, PollAccept}
+use Rattle.model.specs.Calls.{BeginReject, BeginDataOut, BeginAcceptSetAddress}
 use Rattle.model.specs.Machine.{Buf, Event, Machine, started}
 use Rattle.model.specs.TogglesLaws.{number}
 use Rattle.model.specs.Usb20Toggles.{Pid, DATA0, DATA1}
@@ -50,8 +54,12 @@ use Rattle.proof_book.specs.CodeReadings.{Steps}
 use Rattle.proof_usb20.specs.CodeRuns.{left, CodeReads, CodeMeaning, CodeAll, code-from-start}
 use Rattle.proof_usb20.specs.Calm.{Off, Quiet, loose, q-resultless, q-bind, q-ret, q-write, q-wait, q-reg, q-int-en}
 use Rattle.proof_usb20.specs.Reading.{law-begin-read, law-poll-read, law-poll-write, law-begin-write}
-use Rattle.proof_usb20.specs.Enabling.{law-set-enabled, WordLaw, leaves-any, leaves-enabled, leaves-stalled, leaves-read, leaves-write, leaves-poll, among-all, never}
-use Rattle.proof_usb20.specs.Others.{law-bus-enable, law-bus-disable, law-microframe, law-is-stalled, law-set-paced, law-advance, law-aside, aside-view, law-setup, law-poll-setup, law-data-out, law-poll-data-out, law-data-in, law-poll-data-in, law-accept, law-accept-address, law-poll-accept, law-reject}
+use Rattle.proof_usb20.specs.Enabling.{law-set-enabled, WordLaw, leaves-any, leaves-enabled, leaves-stalled}
+use Rattle.proof_usb20.specs.Enabling.{leaves-read, leaves-write, leaves-poll, among-all, never}
+use Rattle.proof_usb20.specs.Others.{law-bus-enable, law-bus-disable, law-microframe, law-is-stalled}
+use Rattle.proof_usb20.specs.Others.{law-set-paced, law-advance, law-aside, aside-view, law-setup, law-poll-setup}
+use Rattle.proof_usb20.specs.Others.{law-data-out, law-poll-data-out, law-data-in, law-poll-data-in, law-accept}
+use Rattle.proof_usb20.specs.Others.{law-accept-address, law-poll-accept, law-reject}
 use Rattle.proof_usb20.specs.Restarting.{law-set-stalled, law-bus-poll, law-allocate, law-allocate-all, law-start}
 use Rattle.proof_usb20.specs.Tokens.{law-interrupt}
 use Rattle.proof_usb20.specs.DataToggles.{toggles, words}
@@ -113,7 +121,9 @@ module _ (D : Dir) (E : ℕ) (z : (d : Dir) → Else D E d 0) where
   any (tree.asks q s k) = ways.at-ask tt (λ v t _ _. any (k v t))
 
   law-new : (c : Config) → Quiet D E false (Off D E) (calls .starts c)
-  law-new c = q-resultless D E (q-bind D E (q-write D E (q-ret D E)) (λ _. q-bind D E (q-wait D E (q-ret D E)) (λ _. q-bind D E (q-reg D E Ctrl 0 _) (λ _. q-bind D E (q-write D E (q-ret D E)) (λ _. q-bind D E (q-write D E (q-ret D E)) (λ _. q-int-en D E _))))))
+  law-new c = q-resultless D E
+      (q-bind D E (q-write D E (q-ret D E)) (λ _. q-bind D E (q-wait D E (q-ret D E)) (λ _. q-bind D E (q-reg D E Ctrl 0 _)
+      (λ _. q-bind D E (q-write D E (q-ret D E)) (λ _. q-bind D E (q-write D E (q-ret D E)) (λ _. q-int-en D E _))))))
 
   -- start-up's own script
   new-fits : (c : Config) → Fits before (view D E (driverOf .fresh c))
@@ -121,7 +131,8 @@ module _ (D : Dir) (E : ℕ) (z : (d : Dir) → Else D E d 0) where
   new-fits c = fresh-fits (key D E) (key-lt D E)
     where
       fresh-fits : (k : ℕ) → k < 32 → Fits before (seenOf (getD (replicate 32 newEp) k noEp) 1)
-      fresh-fits k l = subst (λ (r : EpState). Fits before (seenOf r 1)) (sym (getD-replicate 32 k newEp noEp l)) (record { tog = refl; ready = refl; len = refl; armed = refl; early = λ _. (refl, refl, refl) })
+      fresh-fits k l = subst (λ (r : EpState). Fits before (seenOf r 1)) (sym (getD-replicate 32 k newEp noEp l))
+          (record { tog = refl; ready = refl; len = refl; armed = refl; early = λ _. (refl, refl, refl) })
 
   new-places : (c : Config) → length (driverOf .fresh c .eps) ≡ 32
   unfolding freshDriver
@@ -129,7 +140,8 @@ module _ (D : Dir) (E : ℕ) (z : (d : Dir) → Else D E d 0) where
 
   new : (c : Config) (b : Buf)
       → Follow D E (λ _ _ s. Fits before (view D E (s .0))) before (run concrete (calls .starts c) (driverOf .fresh c, b))
-  new c b = follow.follow-more D E (law-new c .goes before (driverOf .fresh c, b) (refl, λ _ _ _ _. refl) (loose D E (new-places c))) (λ _ _ s m. subst (Fits before) (sym (m .1)) (new-fits c))
+  new c b = follow.follow-more D E (law-new c .goes before (driverOf .fresh c, b) (refl, λ _ _ _ _. refl) (loose D E (new-places c)))
+      (λ _ _ s m. subst (Fits before) (sym (m .1)) (new-fits c))
 
   last : (b : Bool) (x y : Track) → cond (b && false) x y ≡ y
   last true x y = refl
@@ -137,7 +149,8 @@ module _ (D : Dir) (E : ℕ) (z : (d : Dir) → Else D E d 0) where
 
   unlent : (o : Op) (w : Track) (v : Seen) → Fits w v → Fits (log.closes D E o (Refused 1) (log.opens D E o w)) v
   unlent interrupt w v r = r
-  unlent (slotted (SetEnabled d e on)) w v r = rw (last (log.own D E d e) (log.renewed D E (log.armsAt D E d on) (log.withPhase log.off w)) (log.withPhase log.off w)) r
+  unlent (slotted (SetEnabled d e on)) w v r =
+      rw (last (log.own D E d e) (log.renewed D E (log.armsAt D E d on) (log.withPhase log.off w)) (log.withPhase log.off w)) r
   unlent (slotted (PollRead e n)) w v r = rw (last (log.own D E Out e) (log.taken D E (log.withPhase log.off w)) (log.withPhase log.off w)) r
   unlent (slotted (BeginWrite e bs)) w v r = rw (last (log.own D E In e) (log.loaded D E (log.withPhase log.off w)) (log.withPhase log.off w)) r
   unlent (slotted (PollWrite e bs)) w v r = rw (last (log.own D E In e) (log.taken D E (log.withPhase log.off w)) (log.withPhase log.off w)) r
@@ -234,7 +247,8 @@ pub code-data-toggles : (D : Dir) (E : ℕ) → (E % 16 ≡ 0 → ⊥) → (c : 
     → (xs : List ℕ) (a : Buf) (first : Made) → first .event ≡ record { call = start c; lent = b } → (ms : List Made)
     → Steps xs a (first ∷ ms) → CodeMeaning (toggles D E) (left first) ms
     → CodeAll (toggles D E) ms (startedBy (toggles D E) (first .answer))
-code-data-toggles D E h c b row xs a first e ms s p = code-from-start (toggles D E) (laws D E (not-ep0 D E h)) c b row xs a first e ms s p (code-reads-any (toggles D E) (λ _ _ _. tt) ms _)
+code-data-toggles D E h c b row xs a first e ms s p = code-from-start (toggles D E)
+    (laws D E (not-ep0 D E h)) c b row xs a first e ms s p (code-reads-any (toggles D E) (λ _ _ _. tt) ms _)
 
 -- DECISIONS 94, of such an endpoint, where nothing is under way
 pub tog-is-bit : (w : Track) (x : Seen) → Fits w x → (x .tog ≡ 0) ⊎ (x .tog ≡ 1)
@@ -338,4 +352,5 @@ pub code-control-words : (D : Dir) (E : ℕ) → (E % 16 ≡ 0 → ⊥) → (c :
     → (xs : List ℕ) (a : Buf) (first : Made) → first .event ≡ record { call = start c; lent = b } → (ms : List Made)
     → Steps xs a (first ∷ ms) → CodeMeaning (words D E) (left first) ms
     → CodeAll (words D E) ms (startedBy (words D E) (first .answer))
-code-control-words D E h c b row xs a first e ms s p = code-from-start (words D E) (word-laws D E h) c b row xs a first e ms s p (code-reads-any (words D E) (λ _ _ _. tt) ms _)
+code-control-words D E h c b row xs a first e ms s p =
+    code-from-start (words D E) (word-laws D E h) c b row xs a first e ms s p (code-reads-any (words D E) (λ _ _ _. tt) ms _)

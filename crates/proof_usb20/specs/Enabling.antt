@@ -42,7 +42,9 @@ use Rattle.proof_usb20.specs.Exempt.{differ}
 use Rattle.model.specs.TogglesLaws.{number}
 use Rattle.model.specs.Answers.{Answer, isAllocated, resultless}
 use Rattle.proof_usb20.specs.Untouched.{act-view}
-use Rattle.proof_usb20.specs.Calm.{Whole, Off, Else, Hush, Kept, Stays, Quiet, loose, loosely, asked, onward, with-other, put-globals, put-paced, q-act, q-bind, q-ep, q-got, q-hand, q-put, q-resultless, q-ret, q-staged, q-test, q-wake, q-write}
+use Rattle.proof_usb20.specs.Calm.{Whole, Off, Else, Hush, Kept, Stays, Quiet, loose, loosely, asked, onward}
+use Rattle.proof_usb20.specs.Calm.{with-other, put-globals, put-paced, q-act, q-bind, q-ep, q-got, q-hand, q-put}
+use Rattle.proof_usb20.specs.Calm.{q-resultless, q-ret, q-staged, q-test, q-wake, q-write}
 use Rattle.proof_usb20.specs.Reading as reading
 use Rattle.proof_usb20.specs.Reading.{quiet-law, Own, changed, fits-2, whole-put, own-true, own-false, not-and, iso-own}
 
@@ -50,10 +52,12 @@ module _ (D : Dir) (E : ℕ) where
   -- ---- enabled and disabled
 
   q-types : {P : Track → Type 0} (f : ℕ → ℕ) → Quiet D E false P (modifyEpType {i = false} f)
-  q-types f = (q-bind D E) ((q-got D E) globals-cell) (λ g. (q-bind D E) ((q-put D E) (put-globals D E (withEpType (f (g .«ep_type»)) g)) (q-ret D E)) (λ _. (q-write D E) (q-ret D E)))
+  q-types f = (q-bind D E) ((q-got D E) globals-cell)
+      (λ g. (q-bind D E) ((q-put D E) (put-globals D E (withEpType (f (g .«ep_type»)) g)) (q-ret D E)) (λ _. (q-write D E) (q-ret D E)))
 
   q-kept : {P : Track → Type 0} (d : Dir) (e : ℕ) (iso on : Bool) → Quiet D E false P (bus.kept {i = false} d e iso on)
-  q-kept d e iso on = (q-bind D E) (q-types _) (λ _. (q-bind D E) ((q-act D E) refl (q-ret D E)) (λ _. (q-bind D E) ((q-got D E) globals-cell) (λ g. (q-write D E) (q-ret D E))))
+  q-kept d e iso on = (q-bind D E) (q-types _)
+      (λ _. (q-bind D E) ((q-act D E) refl (q-ret D E)) (λ _. (q-bind D E) ((q-got D E) globals-cell) (λ g. (q-write D E) (q-ret D E))))
 
   slot-view : (e k : ℕ) → Else D E Out e → (s : St) → view D E (slotStep e k s .1 .0) ≡ view D E (s .0)
   unfolding slotStep renewedOn clearStamps epOn
@@ -81,16 +85,26 @@ module _ (D : Dir) (E : ℕ) where
 
   in-row : (e : ℕ) (on : Bool) → Else D E Out e → (n : ℕ) (w : Track) (s : St) → Hush D E w → Kept D E false s
       → Follow D E (λ x _ t. Stays D E false w s x t) w (rows concrete (switch e on) n (λ t. tree.ends (tt {0}) t) s)
-  in-row e on m zero w s h k = onward D E w s (concrete .row (switch e on) zero s .1) (switch-view e on zero m s) (loosely D E) (asked D E w (loose D E (row-steady (switch e on) zero s .places ∙ k .whole)) (λ v. silent e on zero (concrete .row (switch e on) zero s .0) w v h) (λ _ t l. at-end (refl, refl, l, loosely D E)))
-  in-row e on m (suc n) w s h k = onward D E w s (concrete .row (switch e on) (suc n) s .1) (switch-view e on (suc n) m s) (loosely D E) (asked D E w (loose D E (row-steady (switch e on) (suc n) s .places ∙ k .whole)) (λ v. silent e on (suc n) (concrete .row (switch e on) (suc n) s .0) w v h) (λ _ t l. in-row e on m n w t h l))
+  in-row e on m zero w s h k = onward D E w s (concrete .row (switch e on) zero s .1) (switch-view e on zero m s) (loosely D E)
+      (asked D E w (loose D E (row-steady (switch e on) zero s .places ∙ k .whole))
+      (λ v. silent e on zero (concrete .row (switch e on) zero s .0) w v h) (λ _ t l. at-end (refl, refl, l, loosely D E)))
+  in-row e on m (suc n) w s h k = onward D E w s (concrete .row (switch e on) (suc n) s .1) (switch-view e on (suc n) m s) (loosely D E)
+      (asked D E w (loose D E (row-steady (switch e on) (suc n) s .places ∙ k .whole))
+      (λ v. silent e on (suc n) (concrete .row (switch e on) (suc n) s .0) w v h) (λ _ t l. in-row e on m n w t h l))
 
   q-row : {P : Track → Type 0} (e : ℕ) (on : Bool) → Else D E Out e → Quiet D E false P (row (switch e on))
   q-row e on m = record { goes = λ w s z k. in-row e on m 18 w s (z .1) k }
 
   q-enabling : (d : Dir) (e : ℕ) (on : Bool) → Else D E d e → Quiet D E false (Off D E) (bus.setEnabled d e on)
   q-enabling Out e on m = (q-bind D E) ((q-got D E) (ep-cell Out e)) (λ s. (q-bind D E) ((q-test D E) (q-row e on m)
-      ((q-bind D E) ((q-act D E) refl (q-ret D E)) (λ _. (q-bind D E) ((q-ep D E) Out e (λ p. withArmed (flag on) (statics.renewed p)) m) (λ _. (q-bind D E) ((q-hand D E) (q-ret D E)) (λ _. (q-bind D E) ((q-write D E) (q-ret D E)) (λ _. q-kept Out e false on)))))) (λ _. (q-wake D E) Out e))
-  q-enabling In e on m = (q-bind D E) ((q-got D E) (ep-cell In e)) (λ s. (q-bind D E) ((q-bind D E) ((q-act D E) refl (q-ret D E)) (λ _. (q-bind D E) ((q-ep D E) In e statics.renewed m) (λ _. (q-bind D E) ((q-put D E) (put-paced D E e NO_FRAME) (q-ret D E)) (λ _. (q-bind D E) ((q-hand D E) (q-ret D E)) (λ _. (q-bind D E) ((q-write D E) (q-ret D E)) (λ _. (q-bind D E) ((q-write D E) (q-ret D E)) (λ _. q-kept In e (isOn (s .iso)) on))))))) (λ _. (q-wake D E) In e))
+      ((q-bind D E) ((q-act D E) refl (q-ret D E)) (λ _. (q-bind D E) ((q-ep D E) Out e (λ p. withArmed (flag on) (statics.renewed p)) m)
+      (λ _. (q-bind D E) ((q-hand D E) (q-ret D E)) (λ _. (q-bind D E) ((q-write D E) (q-ret D E)) (λ _. q-kept Out e false on))))))
+      (λ _. (q-wake D E) Out e))
+  q-enabling In e on m = (q-bind D E) ((q-got D E) (ep-cell In e))
+      (λ s. (q-bind D E) ((q-bind D E) ((q-act D E) refl (q-ret D E)) (λ _. (q-bind D E) ((q-ep D E) In e statics.renewed m)
+      (λ _. (q-bind D E) ((q-put D E) (put-paced D E e NO_FRAME) (q-ret D E)) (λ _. (q-bind D E) ((q-hand D E) (q-ret D E))
+      (λ _. (q-bind D E) ((q-write D E) (q-ret D E)) (λ _. (q-bind D E) ((q-write D E) (q-ret D E)) (λ _. q-kept In e (isOn (s .iso)) on)))))))
+      (λ _. (q-wake D E) In e))
 
   -- the rest, once its record is renewed
   abbrev restOut : ℕ → Bool → Script false Unit
@@ -111,7 +125,9 @@ module _ (D : Dir) (E : ℕ) where
   q-rest-out e on = (q-bind D E) ((q-hand D E) (q-ret D E)) (λ _. (q-bind D E) ((q-write D E) (q-ret D E)) (λ _. q-kept Out e false on))
 
   q-rest-in : (e : ℕ) (iso on : Bool) → Quiet D E false (Off D E) (restIn e iso on)
-  q-rest-in e iso on = (q-bind D E) ((q-put D E) (put-paced D E e NO_FRAME) (q-ret D E)) (λ _. (q-bind D E) ((q-hand D E) (q-ret D E)) (λ _. (q-bind D E) ((q-write D E) (q-ret D E)) (λ _. (q-bind D E) ((q-write D E) (q-ret D E)) (λ _. q-kept In e iso on))))
+  q-rest-in e iso on = (q-bind D E) ((q-put D E) (put-paced D E e NO_FRAME) (q-ret D E))
+      (λ _. (q-bind D E) ((q-hand D E) (q-ret D E))
+      (λ _. (q-bind D E) ((q-write D E) (q-ret D E)) (λ _. (q-bind D E) ((q-write D E) (q-ret D E)) (λ _. q-kept In e iso on))))
 
   -- its record then: DATA0, nothing to be taken
   Renews : Bool → Track → {A : Type 0} → Track → A → St → Type 0
@@ -123,7 +139,8 @@ module _ (D : Dir) (E : ℕ) where
       → ((p : EpCore) → isOn (f p .armed) ≡ g)
       → FitsAs initial false (w .len) g (view D E (concrete .put (ep-cell d e) (f (concrete .get (ep-cell d e) s)) s .0))
   unfolding isOn
-  renews-by d e f g w s o k r two a b c m = subst (FitsAs initial false (w .len) g) (sym (changed D E d e f s o k)) (fits-2 D E two (a _) (ap isOn (b _)) (c _ ∙ r .len) (m _))
+  renews-by d e f g w s o k r two a b c m = subst (FitsAs initial false (w .len) g)
+      (sym (changed D E d e f s o k)) (fits-2 D E two (a _) (ap isOn (b _)) (c _ ∙ r .len) (m _))
 
   flagged : (on : Bool) → isOn (flag on) ≡ on
   unfolding isOn
@@ -140,18 +157,26 @@ module _ (D : Dir) (E : ℕ) where
       let t = concrete .put (ep-cell Out e) (f (concrete .get (ep-cell Out e) a)) a in
       let v = act-view D E (reset-ring Out e) refl s in
       let l : Whole a = act-steady (reset-ring Out e) refl s .places ∙ k in
-      let g = renews-by Out e f on w a o l (subst (Fits w) (sym v) r) (ap (λ (q : Seen). eqb (q .stage) 2) v ∙ two) (λ _. refl) (λ _. refl) (λ _. refl) (λ _. flagged on) in
-      follow.follow-bind D E {P = λ y _ u. Stays D E false (withPhase off w) t y u} (follow.follow-cond D E (isOn (concrete .get (ep-cell Out e) s .iso)) (λ q. iso-own D E Out e s o i q)
-      (λ _. q-rest-out e on .goes (withPhase off w) t (refl, λ _ _ _ _. refl) (loose D E (whole-put D E (ep-cell Out e) (f (concrete .get (ep-cell Out e) a)) a l))))
-      (λ y _ u m. at-end {s = concrete .act (waken (wakeCode Out e ∷ [])) u} (m .0, subst (FitsAs initial false (w .len) on) (sym (act-view D E (waken (wakeCode Out e ∷ [])) refl u ∙ m .1)) g))
+      let g = renews-by Out e f on w a o l (subst (Fits w) (sym v) r)
+      (ap (λ (q : Seen). eqb (q .stage) 2) v ∙ two) (λ _. refl) (λ _. refl) (λ _. refl) (λ _. flagged on) in
+      follow.follow-bind D E {P = λ y _ u. Stays D E false (withPhase off w) t y u}
+      (follow.follow-cond D E (isOn (concrete .get (ep-cell Out e) s .iso)) (λ q. iso-own D E Out e s o i q)
+      (λ _. q-rest-out e on .goes (withPhase off w) t (refl, λ _ _ _ _. refl)
+      (loose D E (whole-put D E (ep-cell Out e) (f (concrete .get (ep-cell Out e) a)) a l))))
+      (λ y _ u m. at-end {s = concrete .act (waken (wakeCode Out e ∷ [])) u} (
+        m .0,
+        subst (FitsAs initial false (w .len) on) (sym (act-view D E (waken (wakeCode Out e ∷ [])) refl u ∙ m .1)) g,
+      ))
   enabling In e on w s o k r two i =
       let a = concrete .act (reset-ring In e) s in
       let t = concrete .put (ep-cell In e) (statics.renewed (concrete .get (ep-cell In e) a)) a in
       let v = act-view D E (reset-ring In e) refl s in
       let l : Whole a = act-steady (reset-ring In e) refl s .places ∙ k in
-      let g = renews-by In e statics.renewed false w a o l (subst (Fits w) (sym v) r) (ap (λ (q : Seen). eqb (q .stage) 2) v ∙ two) (λ _. refl) (λ _. refl) (λ _. refl) (λ _. refl) in
+      let g = renews-by In e statics.renewed false w a o l (subst (Fits w) (sym v) r)
+      (ap (λ (q : Seen). eqb (q .stage) 2) v ∙ two) (λ _. refl) (λ _. refl) (λ _. refl) (λ _. refl) in
       follow.follow-bind D E {P = λ y _ u. Stays D E false (withPhase off w) t y u} {f = λ (_ : Unit {0}) (u : St). run {i = false} concrete (wake In e) u}
-      (q-rest-in e (isOn (concrete .get (ep-cell In e) s .iso)) on .goes (withPhase off w) t (refl, λ _ _ _ _. refl) (loose D E (whole-put D E (ep-cell In e) (statics.renewed (concrete .get (ep-cell In e) a)) a l)))
+      (q-rest-in e (isOn (concrete .get (ep-cell In e) s .iso)) on .goes (withPhase off w) t (refl, λ _ _ _ _. refl)
+      (loose D E (whole-put D E (ep-cell In e) (statics.renewed (concrete .get (ep-cell In e) a)) a l)))
       (λ y _ u m. at-end (m .0, subst (FitsAs initial false (w .len) false) (sym (act-view D E (waken (wakeCode In e ∷ [])) refl u ∙ m .1)) g))
 
   pub law-set-enabled : (d : Dir) (e : ℕ) (on : Bool) → Law D E (slotted (SetEnabled d e on))
@@ -167,12 +192,17 @@ module _ (D : Dir) (E : ℕ) where
 
       by : (b : Bool) → own D E d e ≡ b
           → Follow D E (Ends D E (slotted (SetEnabled d e on))) (withPhase off w) (run concrete (code (slotted (SetEnabled d e on))) s)
-      by false h = quiet-law D E (slotted (SetEnabled d e on)) refl (λ a x. not-and D E (own D E d e) (log.ended D E a) (log.renewed D E (armsAt D E d on) x) x h) (λ _ _. tt) ((q-staged D E) 2 (reading.q-named D E d e ((q-resultless D E) (q-enabling d e on (own-false D E d e h))))) w s r i z
+      by false h = quiet-law D E (slotted (SetEnabled d e on)) refl
+          (λ a x. not-and D E (own D E d e) (log.ended D E a) (log.renewed D E (armsAt D E d on) x) x h) (λ _ _. tt)
+          ((q-staged D E) 2 (reading.q-named D E d e ((q-resultless D E) (q-enabling d e on (own-false D E d e h))))) w s r i z
       by true h = follow.follow-cond D E (eqb (s .0 .globals .stage) 2) (λ two. follow.follow-cond D E (isAllocated (s .0 .allocator) d e)
           (λ _.
           let a = concrete .act no-wakes s in
           let v = act-view D E no-wakes refl s in
-          follow.follow-bind D E {P = Renews (armsAt D E d on) w} (follow.follow-bind D E {P = Renews (armsAt D E d on) w} (enabling d e on w a (own-true D E d e h) (act-steady no-wakes refl s .places ∙ z .places) (subst (Fits w) (sym v) r) two (ap (λ (q : Seen). isOn (q .iso)) v ∙ i)) (λ y _ t m. at-end m))
+          follow.follow-bind D E {P = Renews (armsAt D E d on) w}
+          (follow.follow-bind D E {P = Renews (armsAt D E d on) w}
+          (enabling d e on w a (own-true D E d e h) (act-steady no-wakes refl s .places ∙ z .places)
+          (subst (Fits w) (sym v) r) two (ap (λ (q : Seen). isOn (q .iso)) v ∙ i)) (λ y _ t m. at-end m))
           (λ y _ t m. at-end (rw (m .0) (rw h (m .1)), tt)))
           (λ _. at-end (nothing, tt))) (λ _. at-end (nothing, tt))
 
@@ -205,7 +235,8 @@ module _ (D : Dir) (E : ℕ) where
   Marks P u o = Along (wrote D E) (λ _ _ _. Unit {0}) (follow.Keeps D E) (λ _ _. Unit {0}) P u o
 
   abbrev pub WordLaw : Op → Type 0
-  WordLaw o = (w : Track) (s : St) → Fits w (view D E (s .0)) → isOn (epOn (s .0) D E .iso) ≡ false → Marks (λ u a _. Leaves D E o a u) (unwritten-yet w) (run concrete (code o) s)
+  WordLaw o = (w : Track) (s : St) → Fits w (view D E (s .0)) → isOn (epOn (s .0) D E .iso) ≡ false
+      → Marks (λ u a _. Leaves D E o a u) (unwritten-yet w) (run concrete (code o) s)
 
   -- a call of which nothing is claimed
   pub leaves-any : (o : Op) → ((a : Answer) (u : Writing) → Leaves D E o a u) → WordLaw o
@@ -221,13 +252,16 @@ module _ (D : Dir) (E : ℕ) where
 
   enabled-word : (d : Dir) (e : ℕ) (on : Bool) (u : Writing) (s : St) → own D E d e ≡ true
       → isOn (epOn (s .0) D E .iso) ≡ false → Marks (Word0 (armsAt D E d on)) u (run concrete (bus.setEnabled d e on) s)
-  enabled-word Out e on u s h i = watch-bind {P = Word0 on} (watch-cond (isOn (concrete .get (ep-cell Out e) s .iso)) (λ q. iso-own D E Out e s (own-true D E Out e h) i q)
-      (λ _. at-ask tt (λ _ _ _ _. at-ask tt (λ _ _ _ _. at-ask tt (λ _ _ _ _. at-ask tt (λ _ _ _ _. at-end (own-word on (own D E Out e) _ u h (word-of on true))))))))
+  enabled-word Out e on u s h i = watch-bind {P = Word0 on}
+      (watch-cond (isOn (concrete .get (ep-cell Out e) s .iso)) (λ q. iso-own D E Out e s (own-true D E Out e h) i q)
+      (λ _. at-ask tt (λ _ _ _ _. at-ask tt
+      (λ _ _ _ _. at-ask tt (λ _ _ _ _. at-ask tt (λ _ _ _ _. at-end (own-word on (own D E Out e) _ u h (word-of on true))))))))
       (λ _ _ _ m. at-end m)
   enabled-word In e on u s h i =
       let j : isOn (concrete .get (ep-cell In e) s .iso) ≡ false = ap (λ (p : EpCore). isOn (p .iso)) (reading.got D E In e s (own-true D E In e h)) ∙ i in
       watch-bind {P = Word0 false} {f = λ (_ : Unit {0}) (t : St). run {i = false} concrete (wake In e) t}
-      (at-ask tt (λ _ _ _ _. at-ask tt (λ _ _ _ _. at-ask tt (λ _ _ _ _. at-ask tt (λ _ _ _ _. at-ask tt (λ _ _ _ _. at-end (own-word false (own D E In e) _ u h (word-not-iso (isOn (concrete .get (ep-cell In e) s .iso)) on on _ j refl .1))))))))
+      (at-ask tt (λ _ _ _ _. at-ask tt (λ _ _ _ _. at-ask tt (λ _ _ _ _. at-ask tt (λ _ _ _ _. at-ask tt (λ _ _ _ _. at-end
+      (own-word false (own D E In e) _ u h (word-not-iso (isOn (concrete .get (ep-cell In e) s .iso)) on on _ j refl .1))))))))
       (λ _ _ _ m. at-end m)
 
   pub leaves-enabled : (d : Dir) (e : ℕ) (on : Bool) → WordLaw (slotted (SetEnabled d e on))
@@ -239,7 +273,9 @@ module _ (D : Dir) (E : ℕ) where
       by true h = watch-cond (eqb (s .0 .globals .stage) 2) (λ _. watch-cond (isAllocated (s .0 .allocator) d e)
           (λ _.
           let v = act-view D E no-wakes refl s in
-          watch-bind {P = Word0 (armsAt D E d on)} (watch-bind {P = Word0 (armsAt D E d on)} (enabled-word d e on (unwritten-yet w) (concrete .act no-wakes s) h (ap (λ (q : Seen). isOn (q .iso)) v ∙ i)) (λ _ _ _ m. at-end m)) (λ _ _ _ m. at-end (λ _. m)))
+          watch-bind {P = Word0 (armsAt D E d on)} (watch-bind {P = Word0 (armsAt D E d on)}
+          (enabled-word d e on (unwritten-yet w) (concrete .act no-wakes s) h (ap (λ (q : Seen). isOn (q .iso)) v ∙ i))
+          (λ _ _ _ m. at-end m)) (λ _ _ _ m. at-end (λ _. m)))
           (λ _. at-end (λ k. never (own D E d e) k))) (λ _. at-end (λ k. never (own D E d e) k))
 
   -- ---- a cleared halt
@@ -250,7 +286,10 @@ module _ (D : Dir) (E : ℕ) where
   unfolding bus.restartedOut bus.restartedIn bus.restarted
   cleared-word Out e u s h i k =
       let g = reading.got D E Out e s (own-true D E Out e h) in
-      at-ask tt (λ _ _ _ _. at-end (kept-word (own D E Out e) _ u h (word-not-iso (isOn (concrete .get (ep-cell Out e) s .iso)) true (isOn (concrete .get (ep-cell Out e) s .armed)) _ (ap (λ (p : EpCore). isOn (p .iso)) g ∙ i) (ap (λ (p : EpCore). isOn (p .armed)) g ∙ k) .0)))
+      at-ask tt
+      (λ _ _ _ _. at-end (kept-word (own D E Out e) _ u h
+      (word-not-iso (isOn (concrete .get (ep-cell Out e) s .iso)) true (isOn (concrete .get (ep-cell Out e) s .armed)) _
+      (ap (λ (p : EpCore). isOn (p .iso)) g ∙ i) (ap (λ (p : EpCore). isOn (p .armed)) g ∙ k) .0)))
     where
       kept-word : (c : Bool) (v : ℕ) (u : Writing) → c ≡ true → Restarts (u .waited) (written v)
           → Restarts (cond c (withWord v u) u .waited) (cond c (withWord v u) u .word)
@@ -258,8 +297,11 @@ module _ (D : Dir) (E : ℕ) where
       kept-word false v u h r = differ h
   cleared-word In e u s h i k =
       let g = reading.got D E In e s (own-true D E In e h) in
-      let m = own-word false (own D E In e) _ u h (word-not-iso (isOn (concrete .get (ep-cell In e) s .iso)) true false _ (ap (λ (p : EpCore). isOn (p .iso)) g ∙ i) refl .0) in
-      at-ask tt (λ _ _ _ _. watch-bind {P = Word0 false} {f = λ (_ : Unit {0}) (t : St). run {i = false} concrete (wake In e) t} (watch-cond (not (isOn (concrete .get (ep-cell In e) s .iso))) (λ _. at-end m) (λ _. at-end m)) (λ _ _ _ n. at-end n))
+      let m = own-word false (own D E In e) _ u h
+      (word-not-iso (isOn (concrete .get (ep-cell In e) s .iso)) true false _ (ap (λ (p : EpCore). isOn (p .iso)) g ∙ i) refl .0) in
+      at-ask tt
+      (λ _ _ _ _. watch-bind {P = Word0 false} {f = λ (_ : Unit {0}) (t : St). run {i = false} concrete (wake In e) t}
+      (watch-cond (not (isOn (concrete .get (ep-cell In e) s .iso))) (λ _. at-end m) (λ _. at-end m)) (λ _ _ _ n. at-end n))
 
   pub leaves-stalled : (d : Dir) (e : ℕ) (on : Bool) → WordLaw (other (SetStalled d e on))
   leaves-stalled d e true w s r i = leaves-any (other (SetStalled d e true)) (λ a u k. never (own D E d e) k) w s r i
@@ -268,12 +310,19 @@ module _ (D : Dir) (E : ℕ) where
       by : (b : Bool) → own D E d e ≡ b
           → Marks (λ u a _. Leaves D E (other (SetStalled d e false)) a u) (unwritten-yet w) (run concrete (code (other (SetStalled d e false))) s)
       by false h = leaves-any (other (SetStalled d e false)) (λ a u k. not-own (own D E d e) (log.ended D E a) h k) w s r i
-      by true h = watch-cond (eqb (s .0 .globals .stage) 2) (λ _. watch-cond (eqb e 0) (λ _. goes) (λ _. watch-cond (isAllocated (s .0 .allocator) d e) (λ _. goes) (λ _. at-end (λ k. never (own D E d e) k)))) (λ _. at-end (λ k. never (own D E d e) k))
+      by true h = watch-cond (eqb (s .0 .globals .stage) 2)
+          (λ _. watch-cond (eqb e 0) (λ _. goes)
+          (λ _. watch-cond (isAllocated (s .0 .allocator) d e) (λ _. goes) (λ _. at-end (λ k. never (own D E d e) k))))
+          (λ _. at-end (λ k. never (own D E d e) k))
         where
-          goes : Marks (λ u a _. Leaves D E (other (SetStalled d e false)) a u) (unwritten-yet w) (run {i = false} concrete (resultless (bus.setStalled d e false)) s)
+          goes : Marks (λ u a _. Leaves D E (other (SetStalled d e false)) a u)
+              (unwritten-yet w) (run {i = false} concrete (resultless (bus.setStalled d e false)) s)
           goes =
               let v = act-view D E no-wakes refl s in
-              watch-bind {P = λ x _ _. Restarts (armsAt D E d (x .waited)) (x .word)} (watch-bind {P = λ x _ _. Restarts (armsAt D E d (x .waited)) (x .word)} (cleared-word d e (unwritten-yet w) (concrete .act no-wakes s) h (ap (λ (q : Seen). isOn (q .iso)) v ∙ i) (ap (λ (q : Seen). isOn (q .armed)) v ∙ r .armed)) (λ _ _ _ m. at-end m)) (λ _ _ _ m. at-end (λ _. m))
+              watch-bind {P = λ x _ _. Restarts (armsAt D E d (x .waited)) (x .word)}
+              (watch-bind {P = λ x _ _. Restarts (armsAt D E d (x .waited)) (x .word)}
+              (cleared-word d e (unwritten-yet w) (concrete .act no-wakes s) h (ap (λ (q : Seen). isOn (q .iso)) v ∙ i)
+              (ap (λ (q : Seen). isOn (q .armed)) v ∙ r .armed)) (λ _ _ _ m. at-end m)) (λ _ _ _ m. at-end (λ _. m))
 
   -- ---- reads and writes
 
@@ -289,9 +338,12 @@ module _ (D : Dir) (E : ℕ) where
       by false h = leaves-any (other (BeginRead e n)) (λ a u k. not-own (own D E Out e) (log.ended D E a) h k) w s r i
       by true h =
           let o = own-true D E Out e h in
-          watch-cond (eqb (s .0 .globals .stage) 2) (λ _. watch-cond (isAllocated (s .0 .allocator) Out e) (λ _. watch-cond (enables.isOn (s .0 .globals .«ep_config») Out e)
+          watch-cond (eqb (s .0 .globals .stage) 2)
+          (λ _. watch-cond (isAllocated (s .0 .allocator) Out e) (λ _. watch-cond (enables.isOn (s .0 .globals .«ep_config») Out e)
           (λ _. watch-cond (ltb n (concrete .get (ep-cell Out e) s .«max_len»)) (λ _. at-end (λ k. never (own D E Out e) k))
-          (λ _. watch-bind {P = λ x _ _. (x .there ≡ false → Acks (x .word))} (watch-bind {P = λ x _ _. (x .there ≡ false → Acks (x .word))} (watch-cond (isOn (concrete .get (ep-cell Out e) s .iso)) (λ q. iso-own D E Out e s o i q)
+          (λ _. watch-bind {P = λ x _ _. (x .there ≡ false → Acks (x .word))}
+          (watch-bind {P = λ x _ _. (x .there ≡ false → Acks (x .word))}
+          (watch-cond (isOn (concrete .get (ep-cell Out e) s .iso)) (λ q. iso-own D E Out e s o i q)
           (λ _. watch-cond (isOn (concrete .get (ep-cell Out e) s .ready))
           (λ q. at-end (λ f. differ (sym f ∙ (sym (r .ready) ∙ (sym (ap (λ (p : EpCore). isOn (p .ready)) (reading.got D E Out e s o)) ∙ q)))))
           (λ _. at-ask tt (λ v _ _ _. at-ask tt (λ _ _ _ _. at-end (λ _. acked (own D E Out e) v (unwritten-yet w) h)))))) (λ _ _ _ m. at-end m))
@@ -305,10 +357,13 @@ module _ (D : Dir) (E : ℕ) where
           → Marks (λ u a _. Leaves D E (slotted (BeginWrite e bytes)) a u) (unwritten-yet w) (run concrete (code (slotted (BeginWrite e bytes))) s)
       by false h = leaves-any (slotted (BeginWrite e bytes)) (λ a u k. not-own (own D E In e) (log.ended D E a) h k) w s r i
       by true h =
-          watch-cond (eqb (s .0 .globals .stage) 2) (λ _. watch-cond (isAllocated (s .0 .allocator) In e) (λ _. watch-cond (enables.isOn (s .0 .globals .«ep_config») In e)
+          watch-cond (eqb (s .0 .globals .stage) 2)
+          (λ _. watch-cond (isAllocated (s .0 .allocator) In e) (λ _. watch-cond (enables.isOn (s .0 .globals .«ep_config») In e)
           (λ _. watch-cond (ltb (concrete .get (ep-cell In e) s .«max_len») (length bytes)) (λ _. at-end (λ k. never (own D E In e) k))
-          (λ _. watch-bind {P = λ x _ _. Acks (x .word)} (watch-bind {P = λ x _ _. Acks (x .word)} (watch-cond (isOn (concrete .get (ep-cell In e) s .iso)) (λ q. iso-own D E In e s (own-true D E In e h) i q)
-          (λ _. at-ask tt (λ _ _ _ _. at-ask tt (λ v _ _ _. at-ask tt (λ _ _ _ _. at-end (acked (own D E In e) v (unwritten-yet w) h)))))) (λ _ _ _ m. at-end m))
+          (λ _. watch-bind {P = λ x _ _. Acks (x .word)} (watch-bind {P = λ x _ _. Acks (x .word)}
+          (watch-cond (isOn (concrete .get (ep-cell In e) s .iso)) (λ q. iso-own D E In e s (own-true D E In e h) i q)
+          (λ _. at-ask tt (λ _ _ _ _. at-ask tt (λ v _ _ _. at-ask tt (λ _ _ _ _. at-end (acked (own D E In e) v (unwritten-yet w) h))))))
+          (λ _ _ _ m. at-end m))
           (λ _ _ _ m. at-end (λ _. m))))
           (λ _. at-end (λ k. never (own D E In e) k))) (λ _. at-end (λ k. never (own D E In e) k))) (λ _. at-end (λ k. never (own D E In e) k))
 
@@ -342,7 +397,9 @@ module _ (D : Dir) (E : ℕ) where
       nak = wordOf NAK DATA0 false
 
       next : Restarts false (u .word) ⊎ ((own D E D e ≡ true) ⊎ Among n (suc e))
-          → Restarts false (cond (own D E Out e) (withWord nak (cond (own D E In e) (withWord nak u) u)) (cond (own D E In e) (withWord nak u) u) .word) ⊎ Among n (suc e)
+          → Restarts false
+          (cond (own D E Out e) (withWord nak (cond (own D E In e) (withWord nak u) u)) (cond (own D E In e) (withWord nak u) u) .word)
+          ⊎ Among n (suc e)
       next (inl r) = inl (naked (own D E In e) (own D E Out e) nak u (word-of false false) (inl r))
       next (inr (inl k)) = inl (naked (own D E In e) (own D E Out e) nak u (word-of false false) (inr (side D e k)))
       next (inr (inr k)) = inr k
@@ -366,7 +423,8 @@ module _ (D : Dir) (E : ℕ) where
 
   reset-word : (u : Writing) (s : St) → Among 15 1 → Marks (Word0 false) u (run concrete bus.busReset s)
   reset-word u s m = at-ask tt (λ _ _ _ _. at-ask tt (λ _ _ _ _. at-ask tt (λ _ a _ _. watch-bind {P = Word0 false} (naks 15 1 _ a (inr m)) (λ _ _ b r.
-      watch-bind {P = Word0 false} {f = λ (_ : Unit {0}) (t : St). run {i = false} concrete wakeAll t} (at-ask tt (λ _ _ _ _. at-ask tt (λ _ _ _ _. at-ask tt (λ _ _ _ _. at-ask tt (λ _ _ _ _. at-end r))))) (λ _ _ _ q. at-end q)))))
+      watch-bind {P = Word0 false} {f = λ (_ : Unit {0}) (t : St). run {i = false} concrete wakeAll t}
+      (at-ask tt (λ _ _ _ _. at-ask tt (λ _ _ _ _. at-ask tt (λ _ _ _ _. at-ask tt (λ _ _ _ _. at-end r))))) (λ _ _ _ q. at-end q)))))
 
   pub leaves-poll : Among 15 1 → WordLaw (other BusPoll)
   leaves-poll m w s r i = watch-cond (eqb (s .0 .globals .stage) 2)

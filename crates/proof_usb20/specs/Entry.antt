@@ -71,17 +71,27 @@ module _ (w : Log) (b : Bool) (shown : ℕ) (s : St) (k : Plainly s) where
       → Watch Keeps Any (Exactly (L (naked t false ok w)) (view (s .0))) (L w) (run concrete (nakNonIso {i = true} st) s)
   nak-own st h tok.Out e true o =
       watch-cond (outNaks st (concrete .get (ep-cell Out (endpoint st)) s))
-      (λ _. at-ask {q = Read EpRxCtrl (endpoint st)} tt (λ v t c i. at-ask tt (λ _ u _ j. at-end (own-rx (endpoint st) (nak v) h (L w) ∙ ap (λ n. L (withRx (nak n) w)) (c .0 h), j .0 ∙ i .0, plainly (j .1)))))
+      (λ _. at-ask {q = Read EpRxCtrl (endpoint st)} tt (λ v t c i. at-ask tt (λ _ u _ j. at-end (
+        own-rx (endpoint st) (nak v) h (L w) ∙ ap (λ n. L (withRx (nak n) w)) (c .0 h),
+        j .0 ∙ i .0,
+        plainly (j .1),
+      ))))
       (λ q. differ (sym q ∙ (out-naks st (concrete .get (ep-cell Out (endpoint st)) s) tok.Out e h ∙ o)))
   nak-own st h tok.Out e false o =
       watch-cond (outNaks st (concrete .get (ep-cell Out (endpoint st)) s))
       (λ q. differ (sym (out-naks st (concrete .get (ep-cell Out (endpoint st)) s) tok.Out e h ∙ o) ∙ q))
-      (λ _. watch-cond (inNaks st (concrete .get (ep-cell In (endpoint st)) s)) (λ q. differ (sym (in-naks st (concrete .get (ep-cell In (endpoint st)) s) tok.Out e (not-iso st h)) ∙ q)) (λ _. at-end (refl, refl, k)))
+      (λ _. watch-cond (inNaks st (concrete .get (ep-cell In (endpoint st)) s))
+      (λ q. differ (sym (in-naks st (concrete .get (ep-cell In (endpoint st)) s) tok.Out e (not-iso st h)) ∙ q))
+      (λ _. at-end (refl, refl, k)))
   nak-own st h tok.In e ok o =
       watch-cond (outNaks st (concrete .get (ep-cell Out (endpoint st)) s))
       (λ q. differ (sym (out-naks st (concrete .get (ep-cell Out (endpoint st)) s) tok.In e h) ∙ q))
       (λ _. watch-cond (inNaks st (concrete .get (ep-cell In (endpoint st)) s))
-      (λ _. at-ask {q = Read EpTxCtrl (endpoint st)} tt (λ v t c i. at-ask tt (λ _ u _ j. at-end (own-tx (endpoint st) (nak v) h (L w) ∙ ap (λ n. L (withTx (nak n) w)) (c .1 h), j .0 ∙ i .0, plainly (j .1)))))
+      (λ _. at-ask {q = Read EpTxCtrl (endpoint st)} tt (λ v t c i. at-ask tt (λ _ u _ j. at-end (
+        own-tx (endpoint st) (nak v) h (L w) ∙ ap (λ n. L (withTx (nak n) w)) (c .1 h),
+        j .0 ∙ i .0,
+        plainly (j .1),
+      ))))
       (λ q. differ (sym q ∙ in-naks st (concrete .get (ep-cell In (endpoint st)) s) tok.In e (not-iso st h))))
   nak-own st h tok.Sof e ok o = neither tok.Sof e refl refl
     where
@@ -90,7 +100,9 @@ module _ (w : Log) (b : Bool) (shown : ℕ) (s : St) (k : Plainly s) where
       neither t e a c =
           watch-cond (outNaks st (concrete .get (ep-cell Out (endpoint st)) s))
           (λ q. differ (sym (out-naks st (concrete .get (ep-cell Out (endpoint st)) s) t e h ∙ ap (λ (z : Bool). z && togOk st) a) ∙ q))
-          (λ _. watch-cond (inNaks st (concrete .get (ep-cell In (endpoint st)) s)) (λ q. differ (sym (in-naks st (concrete .get (ep-cell In (endpoint st)) s) t e (not-iso st h) ∙ c) ∙ q)) (λ _. at-end (refl, refl, k)))
+          (λ _. watch-cond (inNaks st (concrete .get (ep-cell In (endpoint st)) s))
+          (λ q. differ (sym (in-naks st (concrete .get (ep-cell In (endpoint st)) s) t e (not-iso st h) ∙ c) ∙ q))
+          (λ _. at-end (refl, refl, k)))
   nak-own st h tok.Setup e ok o = neither tok.Setup e refl refl
     where
       neither : (t : Token) → token st ≡ t → outToken t ≡ false → inToken t ≡ false
@@ -98,7 +110,9 @@ module _ (w : Log) (b : Bool) (shown : ℕ) (s : St) (k : Plainly s) where
       neither t e a c =
           watch-cond (outNaks st (concrete .get (ep-cell Out (endpoint st)) s))
           (λ q. differ (sym (out-naks st (concrete .get (ep-cell Out (endpoint st)) s) t e h ∙ ap (λ (z : Bool). z && togOk st) a) ∙ q))
-          (λ _. watch-cond (inNaks st (concrete .get (ep-cell In (endpoint st)) s)) (λ q. differ (sym (in-naks st (concrete .get (ep-cell In (endpoint st)) s) t e (not-iso st h) ∙ c) ∙ q)) (λ _. at-end (refl, refl, k)))
+          (λ _. watch-cond (inNaks st (concrete .get (ep-cell In (endpoint st)) s))
+          (λ q. differ (sym (in-naks st (concrete .get (ep-cell In (endpoint st)) s) t e (not-iso st h) ∙ c) ∙ q))
+          (λ _. at-end (refl, refl, k)))
 
 -- ---- the transfer settles
 
@@ -120,7 +134,9 @@ looked : (w : Log) (b : Bool) (st n : ℕ) (s : St) → Plainly s
     → Watch Keeps Any (Exactly (withPhase (shows b st) w) (view (s .0))) (withPhase (shows b st) w) (run concrete (looks {i = true} n) s)
 unfolding looks
 looked w b st zero s k = at-end (refl, refl, k)
-looked w b st (suc n) s k = at-ask tt (λ v t _ i. watch-cond (sieFree v) (λ _. at-end (refl, i .0, plainly (i .1))) (λ _. watch-more (looked w b st n t (plainly (i .1))) (λ _ _ _ m. (m .0, m .1 ∙ i .0, m .2))))
+looked w b st (suc n) s k = at-ask tt
+    (λ v t _ i. watch-cond (sieFree v) (λ _. at-end (refl, i .0, plainly (i .1)))
+    (λ _. watch-more (looked w b st n t (plainly (i .1))) (λ _ _ _ m. (m .0, m .1 ∙ i .0, m .2))))
 
 -- it is busy still, as it was
 stays : (w : Log) (s t : St) (x : Transfer) → x .busy ≡ true → view (t .0) ≡ view (s .0) → Plainly t
@@ -144,15 +160,18 @@ retakes : (w : Log) (s : St) (x : Transfer) → x .busy ≡ true → Plainly s
 retakes w s x b k = at-ask tt (λ m t _ i. watch-cond (sieFree m)
     (λ _. at-ask {q = Read IntFg 0} tt (λ f u _ j. watch-cond (transfer f)
     (λ q. back (flag-kept (x .st) f w q) (at-end (stays w s u x b (j .0 ∙ i .0) (plainly (j .1)))))
-    (λ q. back (flag-taken (x .st) f w q) (at-ask {w = withPhase again w} {q = Read IntSt 0} tt (λ st o _ l. named st o (l .0 ∙ (j .0 ∙ i .0)) (plainly (l .1)))))))
+    (λ q. back (flag-taken (x .st) f w q)
+    (at-ask {w = withPhase again w} {q = Read IntSt 0} tt (λ st o _ l. named st o (l .0 ∙ (j .0 ∙ i .0)) (plainly (l .1)))))))
     (λ _. at-end (stays w s t x b (i .0) (plainly (i .1)))))
   where
     named : (st : ℕ) (o : St) → view (o .0) ≡ view (s .0) → Plainly o
-        → Watch Keeps Any (λ l y t. Settled w (view (s .0)) l y t) (withPhase (shows false st) w) (run {i = true} concrete (bind (nakNonIso st) (λ _. ret (retaken x st))) o)
+        → Watch Keeps Any (λ l y t. Settled w (view (s .0)) l y t)
+        (withPhase (shows false st) w) (run {i = true} concrete (bind (nakNonIso st) (λ _. ret (retaken x st))) o)
     named st o e n = by (eqb (endpoint st) 0) refl
       where
         by : (z : Bool) → eqb (endpoint st) 0 ≡ z
-            → Watch Keeps Any (λ l y t. Settled w (view (s .0)) l y t) (withPhase (shows false st) w) (run {i = true} concrete (bind (nakNonIso st) (λ _. ret (retaken x st))) o)
+            → Watch Keeps Any (λ l y t. Settled w (view (s .0)) l y t) (withPhase (shows false st) w)
+            (run {i = true} concrete (bind (nakNonIso st) (λ _. ret (retaken x st))) o)
         by true h = watch-bind (nak-own w false st o n st h (token st) refl (togOk st) refl) (λ y _ u m. at-end (mine h (m .0) (m .1 ∙ e) (m .2)))
         by false h = watch-bind (nak-other w false st o n st h) (λ y _ u m. at-end (others h false (m .0) (m .1 ∙ e) (m .2)))
 
@@ -165,7 +184,12 @@ iso-waits x o h = let a = both (x .busy) (isOut (x .st) && isOn (o .iso)) h in (
 bulk-waits : (x : Transfer) (n : EpCore) → waitsForBulk x n ≡ true
     → (x .busy ≡ true) × (eqb (endpoint (x .st)) 0 ≡ false)
 unfolding waitsForBulk
-bulk-waits x n h = let a = both (x .busy) (not (eqb (endpoint (x .st)) 0) && (isOut (x .st) || (isIn (x .st) && not (isOn (n .iso))))) h in (a .0, negated (eqb (endpoint (x .st)) 0) (both (not (eqb (endpoint (x .st)) 0)) (isOut (x .st) || (isIn (x .st) && not (isOn (n .iso)))) (a .1) .0))
+bulk-waits x n h = let a =
+    both (x .busy) (not (eqb (endpoint (x .st)) 0) && (isOut (x .st) || (isIn (x .st) && not (isOn (n .iso))))) h in (
+      a .0,
+      negated (eqb (endpoint (x .st)) 0)
+          (both (not (eqb (endpoint (x .st)) 0)) (isOut (x .st) || (isIn (x .st) && not (isOn (n .iso)))) (a .1) .0),
+    )
 
 -- the log then: EP0's free transaction has its NAK already
 abbrev pub entry : Log → Transfer → Log
@@ -192,14 +216,17 @@ settles w s x k = by (eqb (endpoint (x .st)) 0) refl (x .busy) refl
         (λ _. watch-cond (x .busy) (λ q. differ (sym b ∙ q)) (λ _. at-end (mine h (rw h refl) refl k))))
     -- EP0, busy
     by true h true b =
-        watch-cond (waitsForIso x O) (λ q. differ (sym (plain-out h) ∙ iso-waits x O q .1)) (λ _. watch-cond (waitsForBulk x N) (λ q. differ (sym (bulk-waits x N q .1) ∙ h))
+        watch-cond (waitsForIso x O) (λ q. differ (sym (plain-out h) ∙ iso-waits x O q .1))
+        (λ _. watch-cond (waitsForBulk x N) (λ q. differ (sym (bulk-waits x N q .1) ∙ h))
         (λ _. watch-cond (x .busy) (λ _. back (rw (h, b, naked-busy (token (x .st)) (togOk (x .st)) w) refl) (retakes w s x b k)) (λ q. differ (sym q ∙ b))))
     -- another
     by false h true b = back (rw (h, b) refl) (
         watch-cond (waitsForIso x O)
-        (λ _. watch-bind (looked w true (x .st) 2001 s k) (λ y _ t m. back (m .0) (at-ask tt (λ now u _ i. at-ask tt (λ n o _ j. at-end (others h true refl (j .0 ∙ (i .0 ∙ m .1)) (plainly (j .1))))))))
+        (λ _. watch-bind (looked w true (x .st) 2001 s k) (λ y _ t m. back (m .0)
+        (at-ask tt (λ now u _ i. at-ask tt (λ n o _ j. at-end (others h true refl (j .0 ∙ (i .0 ∙ m .1)) (plainly (j .1))))))))
         (λ _. watch-cond (waitsForBulk x N)
-        (λ _. watch-bind (looked w true (x .st) 2001 s k) (λ y _ t m. back (m .0) (at-ask tt (λ n o _ j. at-end (others h true refl (j .0 ∙ m .1) (plainly (j .1)))))))
+        (λ _. watch-bind (looked w true (x .st) 2001 s k)
+        (λ y _ t m. back (m .0) (at-ask tt (λ n o _ j. at-end (others h true refl (j .0 ∙ m .1) (plainly (j .1)))))))
         (λ _. watch-cond (x .busy) (λ _. retakes w s x b k) (λ q. differ (sym q ∙ b)))))
     by false h false b = back (rw (h, b) refl) (
         watch-cond (waitsForIso x O) (λ q. differ (sym b ∙ iso-waits x O q .0)) (λ _. watch-cond (waitsForBulk x N) (λ q. differ (sym b ∙ bulk-waits x N q .0))

@@ -38,7 +38,13 @@ abbrev pub recOf : EpState → Rec
 recOf r = record { ready = r .ready; armed = r .armed }
 
 abbrev pub view : Driver → View
-view d = record { out = recOf (epOn d Out 0); inn = recOf (epOn d In 0); control = d .control; setup-ready = d .globals .«setup_ready»; stage = d .globals .stage }
+view d = record {
+  out = recOf (epOn d Out 0);
+  inn = recOf (epOn d In 0);
+  control = d .control;
+  setup-ready = d .globals .«setup_ready»;
+  stage = d .globals .stage;
+}
 
 -- ---- it fits
 

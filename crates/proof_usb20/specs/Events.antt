@@ -8,7 +8,9 @@ use Rattle.regs.specs.ControlWord as word
 use Rattle.regs.specs.ControlWord.{response, toggle, withToggle, nak, flip, nakflip}
 use Rattle.model.specs.Statics.{isOn}
 use Rattle.model.specs.ControlLaws.{nak-keeps, flips}
-use Rattle.proof_usb20.specs.Pipe.{data-stage, status-stage, Answers, naks, stalls, acks, Half, gone, renewed, isReady, dataReady, Pipe, with, setup, packet, token, after, Awaited, nothing, taken, given, confirmed}
+use Rattle.proof_usb20.specs.Pipe.{data-stage, status-stage, Answers, naks, stalls, acks, Half, gone, renewed}
+use Rattle.proof_usb20.specs.Pipe.{isReady, dataReady, Pipe, with, setup, packet, token, after, Awaited, nothing}
+use Rattle.proof_usb20.specs.Pipe.{taken, given, confirmed}
 use Rattle.proof_usb20.specs.Ep0.{Rec, View, Fits, Rests, no-request, set-up, Gives, first-wait, second-wait, Waits, Rel}
 use Rattle.proof_usb20.specs.Views.{setOut, setIn, setReady}
 use Rattle.proof_usb20.specs.Exempt.{differ}
@@ -60,7 +62,14 @@ waits-out (confirmed s) p x h w = w
 
 pub packet-out : {rx tx l : ℕ} {p : Pipe} {a : Awaited} {u : Bool} {x : View} → isReady (p .out .answers) ≡ true
     → Rel rx tx l p a u x → Rel (flip (nak rx)) tx l (after (packet Out) p) a u (setOut completed x)
-packet-out {rx = rx} {p = p} {a = a} {x = x} h r = record { stage = r .stage; out = went rx (p .out) (x .out) (r .out); inn = r .inn; waits = waits-out a p x h (r .waits); size = r .size; setup = r .setup }
+packet-out {rx = rx} {p = p} {a = a} {x = x} h r = record {
+  stage = r .stage;
+  out = went rx (p .out) (x .out) (r .out);
+  inn = r .inn;
+  waits = waits-out a p x h (r .waits);
+  size = r .size;
+  setup = r .setup;
+}
 
 -- ---- a packet IN
 
@@ -82,7 +91,14 @@ waits-in (confirmed s) p x h w = (w .0, on, w .2)
 
 pub packet-in : {rx tx l : ℕ} {p : Pipe} {a : Awaited} {u : Bool} {x : View} → isReady (p .inn .answers) ≡ true
     → Rel rx tx l p a u x → Rel rx (flip (nak tx)) l (after (packet In) p) a u (setIn completed x)
-packet-in {tx = tx} {p = p} {a = a} {x = x} h r = record { stage = r .stage; out = r .out; inn = went tx (p .inn) (x .inn) (r .inn); waits = waits-in a p x h (r .waits); size = λ z. differ z; setup = r .setup }
+packet-in {tx = tx} {p = p} {a = a} {x = x} h r = record {
+  stage = r .stage;
+  out = r .out;
+  inn = went tx (p .inn) (x .inn) (r .inn);
+  waits = waits-in a p x h (r .waits);
+  size = λ z. differ z;
+  setup = r .setup;
+}
 
 -- ---- the token OUT: the last packet IN went through, if it was ready still
 
@@ -98,7 +114,14 @@ token-out {rx = rx} {tx = tx} {l = l} {p = p} {a = a} {u = u} {x = x} m e r = by
   where
     by : (m d : Bool) → dataReady (p .inn .answers) ≡ d → isOn (x .inn .armed) ≡ m
         → Rel rx (cond m (nakflip tx) tx) l (with In (cond d (gone (p .inn)) (p .inn)) p) a u (cond m (setIn completed x) x)
-    by true true h e = let q = packet-in (data-is-ready (p .inn .answers) h) r in record { stage = r .stage; out = r .out; inn = went-hidden tx (p .inn) (x .inn) (r .inn); waits = q .waits; size = λ z. differ z; setup = r .setup }
+    by true true h e = let q = packet-in (data-is-ready (p .inn .answers) h) r in record {
+      stage = r .stage;
+      out = r .out;
+      inn = went-hidden tx (p .inn) (x .inn) (r .inn);
+      waits = q .waits;
+      size = λ z. differ z;
+      setup = r .setup;
+    }
     by false false h e = r
     by true false h e = differ (sym h ∙ (sym (r .inn .armed) ∙ e))
     by false true h e = differ (sym e ∙ (r .inn .armed ∙ h))
@@ -111,7 +134,14 @@ token-in {rx = rx} {tx = tx} {l = l} {p = p} {a = a} {u = u} {x = x} m e r = by 
   where
     by : (m d : Bool) → dataReady (p .out .answers) ≡ d → isOn (x .out .armed) ≡ m
         → Rel (cond m (nakflip rx) rx) tx l (with Out (cond d (gone (p .out)) (p .out)) p) a u (cond m (setOut completed x) x)
-    by true true h e = let q = packet-out (data-is-ready (p .out .answers) h) r in record { stage = r .stage; out = went-hidden rx (p .out) (x .out) (r .out); inn = r .inn; waits = q .waits; size = r .size; setup = r .setup }
+    by true true h e = let q = packet-out (data-is-ready (p .out .answers) h) r in record {
+      stage = r .stage;
+      out = went-hidden rx (p .out) (x .out) (r .out);
+      inn = r .inn;
+      waits = q .waits;
+      size = r .size;
+      setup = r .setup;
+    }
     by false false h e = r
     by true false h e = differ (sym h ∙ (sym (r .out .armed) ∙ e))
     by false true h e = differ (sym e ∙ (r .out .armed ∙ h))

@@ -16,12 +16,20 @@ use Rattle.regs.specs.Status as status
 use Rattle.regs.specs.Status.{endpoint, togOk}
 use Rattle.model.specs.Script.{run}
 use Rattle.model.specs.Answers.{Answer, Refused, End, NotYet, Done, Shown}
-use Rattle.model.specs.Calls.{Op, interrupt, slotted, other, aside, Slotted, SetEnabled, PollRead, BeginWrite, PollWrite, PollDataOut, BeginDataIn, Other, Allocate, AllocateAll, Start, BusPoll, BusEnable, BusDisable, Microframe, SetStalled, IsStalled, SetPaced, Advance, BeginRead, BeginSetup, PollSetup, PollDataIn, BeginAccept, PollAccept, BeginReject, BeginDataOut, BeginAcceptSetAddress, code}
+use Rattle.model.specs.Calls.{Op, interrupt, slotted, other, aside, Slotted, SetEnabled, PollRead, BeginWrite}
+use Rattle.model.specs.Calls.{PollWrite, PollDataOut, BeginDataIn, Other, Allocate, AllocateAll, Start, BusPoll}
+use Rattle.model.specs.Calls.{BusEnable, BusDisable, Microframe, SetStalled, IsStalled, SetPaced, Advance, BeginRead}
+use Rattle.model.specs.Calls.{BeginSetup, PollSetup, PollDataIn, BeginAccept, PollAccept, BeginReject, BeginDataOut}
+use Rattle.model.specs.Calls.{BeginAcceptSetAddress, code}
 use Rattle.model.specs.Every.{sameReg}
 use Rattle.model_ops.specs.Rings.{St}
 use Rattle.model_ops.specs.Concrete.{concrete}
 use Rattle.proof_usb20.specs.Pipe.{Event, packet, token}
-use Rattle.proof_usb20.specs.Log.{Phase, off, entered, flagged, again, timed, shows, Log, withPhase, happens, ofToken, seen, reads, saw, opens, endsOther, endsSlotted, ends, Poll, none, pollSetup, pollOut, pollIn, pollStatus, pollOf, settled, done, closes, Unfinished, Begins, begins, Completes, Wrote, GivesSetup, FairPoll, AllowedTo, Allowed}
+use Rattle.proof_usb20.specs.Log.{Phase, off, entered, flagged, again, timed, shows, Log, withPhase, happens}
+use Rattle.proof_usb20.specs.Log.{ofToken, seen, reads, saw, opens, endsOther, endsSlotted, ends, Poll, none}
+use Rattle.proof_usb20.specs.Log.{pollSetup, pollOut, pollIn, pollStatus, pollOf, settled, done, closes}
+use Rattle.proof_usb20.specs.Log.{Unfinished, Begins, begins, Completes, Wrote, GivesSetup, FairPoll, AllowedTo}
+use Rattle.proof_usb20.specs.Log.{Allowed}
 use Rattle.proof_usb20.specs.WatchLaws.{watch-any}
 use Rattle.proof_usb20.specs.Ep0.{Watch, Keeps, Ends}
 
@@ -56,12 +64,15 @@ reads-exempt off r v w h = h
 reads-exempt entered r v w h = either (sameReg r IntFg) (it (h .is)) h
 reads-exempt flagged r v w h = either (sameReg r MisSt) (it (h .is)) h
 reads-exempt (timed b) r v w h = either (sameReg r IntSt) (it (h .is)) h
-reads-exempt (shows b st) r v w h = either (sameReg r IntFg) (either (transfer v) h (it (h .is))) (either (sameReg r FrameNo) (seen-exempt b st (withPhase off w) (it (h .is))) h)
+reads-exempt (shows b st) r v w h = either (sameReg r IntFg) (either (transfer v) h (it (h .is)))
+    (either (sameReg r FrameNo) (seen-exempt b st (withPhase off w) (it (h .is))) h)
 reads-exempt again r v w h = either (sameReg r IntSt) (it (h .is)) h
 
 saw-exempt : (w : Log) (q : Access) (v : ℕ) → Is w → Is (saw w q v)
 saw-exempt w (Read r e) v h = reads-exempt (w .phase) r v w h
-saw-exempt w (Write r e v) x h = either (sameReg r EpRxCtrl) (either (eqb e 0) (it (h .is)) h) (either (sameReg r EpTxCtrl) (either (eqb e 0) (it (h .is)) h) (either (sameReg r EpTLen) (either (eqb e 0) (it (h .is)) h) (either (sameReg r DevAd) (it (h .is)) h)))
+saw-exempt w (Write r e v) x h = either (sameReg r EpRxCtrl) (either (eqb e 0) (it (h .is)) h)
+    (either (sameReg r EpTxCtrl) (either (eqb e 0) (it (h .is)) h)
+    (either (sameReg r EpTLen) (either (eqb e 0) (it (h .is)) h) (either (sameReg r DevAd) (it (h .is)) h)))
 saw-exempt w (Receive e y) x h = h
 saw-exempt w (Transmit e y) x h = h
 saw-exempt w (Ep0Dma y) x h = h
@@ -196,4 +207,6 @@ opens-exempt (aside o) w h = h
 -- a task's call, whatever it does
 pub exempt-law : (o : Op) → Task o → (w : Log) (s : St) → w .exempt ≡ true
     → Watch Keeps (Allowed o) (Ends o) (opens o w) (run concrete (code o) s)
-exempt-law o t w s h = watch-any (λ x. x .exempt ≡ true) (λ x q g. allowed-exempt (pollOf o) x q g) (λ x q v g. saw-exempt x q v (it g) .is) (λ x a u g. (inl (closes-exempt o t a x g), fair-exempt (pollOf o) a x g)) (opens o w) (opens-exempt o w h) (run concrete (code o) s)
+exempt-law o t w s h = watch-any (λ x. x .exempt ≡ true) (λ x q g. allowed-exempt (pollOf o) x q g)
+    (λ x q v g. saw-exempt x q v (it g) .is) (λ x a u g. (inl (closes-exempt o t a x g), fair-exempt (pollOf o) a x g))
+    (opens o w) (opens-exempt o w h) (run concrete (code o) s)

@@ -12,7 +12,8 @@ use Rattle.model.specs.Control.{DATA-OUT, ACCEPT, requestOf, no-control, dataIn
 use Rattle.model.specs.ToggledLaws.{ack-keeps, ack-acks}
 use Rattle.model.specs.ControlLaws.{toggle-with}
 use Rattle.model.specs.Usb20Toggles.{DATA1}
-use Rattle.proof_usb20.specs.Pipe.{Stage, data-stage, status-stage, acks, Half, readied, halted, dataReady, Setting, Choice, takes, gives, confirms, rejects, chosen, orderly}
+use Rattle.proof_usb20.specs.Pipe.{Stage, data-stage, status-stage, acks, Half, readied, halted, dataReady}
+use Rattle.proof_usb20.specs.Pipe.{Setting, Choice, takes, gives, confirms, rejects, chosen, orderly}
 use Rattle.proof_usb20.specs.Log.{Log, withRx, withTx, withLen, choose}
 use Rattle.proof_usb20.specs.Ep0.{Rec, View, Fits, no-request, first-wait, Confirms, Rel, R}
 use Rattle.proof_usb20.specs.Views.{setOut, setIn, setControl}
@@ -109,12 +110,14 @@ last-flag false = off
 pub fits-gives-last : (first : Bool) (w : Log) (x : View) (u v n : ℕ)
     → Rel (w .rx) (w .tx) (w .len) (w .pipe) (w .awaits) (w .untaken) x → response u ≡ word.ACK → toggle u ≡ 1
     → response v ≡ word.ACK → toggle v ≡ cond first 1 (toggle (w .tx))
-    → R (choose (gives n first true) (withTx v (withLen n (withRx u w)))) (setIn (record { ready = 0; armed = 1 }) (setOut (record { ready = 0; armed = x .out .armed }) (setControl (dataInOf n 1 1) x)))
+    → R (choose (gives n first true) (withTx v (withLen n (withRx u w))))
+    (setIn (record { ready = 0; armed = 1 }) (setOut (record { ready = 0; armed = x .out .armed }) (setControl (dataInOf n 1 1) x)))
 fits-gives-last first w x u v n r b i a t = chooses (gives n first true) (withTx v (withLen n (withRx u w))) _ (λ o.
     let z = both (first || w .pipe .inn .begun) (not (true && dataReady (w .pipe .out .answers))) o in
     record {
       stage = r .stage;
-      out = made-ready status-stage true u (w .rx) (w .pipe .out) (x .out) _ (r .out) b i refl (r .out .armed ∙ negated (dataReady (w .pipe .out .answers)) (z .1));
+      out = made-ready status-stage true u (w .rx) (w .pipe .out)
+          (x .out) _ (r .out) b i refl (r .out .armed ∙ negated (dataReady (w .pipe .out .answers)) (z .1));
       inn = made-ready data-stage first v (w .tx) (w .pipe .inn) (x .inn) _ (r .inn) a t (z .0) on;
       waits = (refl, on, first-wait refl off (λ _. off));
       size = λ _. refl;
@@ -154,7 +157,8 @@ halts v old h r f s t = record { shows = s; toggles = λ b. t ∙ f .toggles b; 
 
 pub fits-rejects : (w : Log) (x : View) (u v : ℕ) → Rel (w .rx) (w .tx) (w .len) (w .pipe) (w .awaits) (w .untaken) x
     → response u ≡ word.STALL → toggle u ≡ toggle (w .rx) → response v ≡ word.STALL → toggle v ≡ toggle (w .tx)
-    → R (choose rejects (withRx u (withTx v w))) (setIn (record { ready = x .inn .ready; armed = 0 }) (setOut (record { ready = x .out .ready; armed = 0 }) (setControl no-control x)))
+    → R (choose rejects (withRx u (withTx v w)))
+    (setIn (record { ready = x .inn .ready; armed = 0 }) (setOut (record { ready = x .out .ready; armed = 0 }) (setControl no-control x)))
 fits-rejects w x u v r a b c d = chooses rejects (withRx u (withTx v w)) _ (λ o. record {
   stage = r .stage;
   out = halts u (w .rx) (w .pipe .out) (x .out) (r .out) a b;

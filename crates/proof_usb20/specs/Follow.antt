@@ -85,4 +85,5 @@ module _ (D : Dir) (E : ℕ) where
 
   -- `iso`: the endpoint is not isochronous when the call begins
   abbrev pub Law : Op → Type 0
-  Law o = (w : Track) (s : St) → Fits w (view (s .0)) → isOn (epOn (s .0) D E .iso) ≡ false → Sorting (s .0) → Follow (Ends o) (opens D E o w) (run concrete (code o) s)
+  Law o = (w : Track) (s : St) → Fits w (view (s .0))
+      → isOn (epOn (s .0) D E .iso) ≡ false → Sorting (s .0) → Follow (Ends o) (opens D E o w) (run concrete (code o) s)

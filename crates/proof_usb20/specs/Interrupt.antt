@@ -45,12 +45,15 @@ use Rattle.proof_usb20.specs.Events.{completed, packet-out, packet-in, t
 
 -- a packet OUT, then the token
 pub r-out : (w : Log) (x : View) (m : Bool) → isOn (x .inn .armed) ≡ m → R w x
-    → R (withTx (cond m (nakflip (w .tx)) (w .tx)) (withRx (flip (nak (w .rx))) (happens (pipe.token Out) (happens (packet Out) w)))) (cond m (setIn completed (setOut completed x)) (setOut completed x))
+    → R (withTx (cond m (nakflip (w .tx)) (w .tx)) (withRx (flip (nak (w .rx))) (happens (pipe.token Out) (happens (packet Out) w))))
+    (cond m (setIn completed (setOut completed x)) (setOut completed x))
 r-out w x m h (inl e) = inl (rw e refl)
 r-out w x m h (inr r) = by (w .exempt) (isReady (w .pipe .out .answers)) refl
   where
     by : (e b : Bool) → isReady (w .pipe .out .answers) ≡ b
-        → ((e || not b) || false ≡ true) ⊎ Rel (flip (nak (w .rx))) (cond m (nakflip (w .tx)) (w .tx)) (w .len) (pipe.after (pipe.token Out) (pipe.after (packet Out) (w .pipe))) (w .awaits) (w .untaken) (cond m (setIn completed (setOut completed x)) (setOut completed x))
+        → ((e || not b) || false ≡ true) ⊎ Rel (flip (nak (w .rx))) (cond m (nakflip (w .tx)) (w .tx))
+        (w .len) (pipe.after (pipe.token Out) (pipe.after (packet Out) (w .pipe)))
+        (w .awaits) (w .untaken) (cond m (setIn completed (setOut completed x)) (setOut completed x))
     by e true q = inr (token-out m h (packet-out q r))
     by true false q = inl refl
     by false false q = inl refl
@@ -63,12 +66,15 @@ r-token-out w x m h (inr r) = inr (token-out m h r)
 
 -- a packet IN, then the token
 pub r-in : (w : Log) (x : View) (m : Bool) → isOn (x .out .armed) ≡ m → R w x
-    → R (withRx (cond m (nakflip (w .rx)) (w .rx)) (withTx (flip (nak (w .tx))) (happens (pipe.token In) (happens (packet In) w)))) (cond m (setOut completed (setIn completed x)) (setIn completed x))
+    → R (withRx (cond m (nakflip (w .rx)) (w .rx)) (withTx (flip (nak (w .tx))) (happens (pipe.token In) (happens (packet In) w))))
+    (cond m (setOut completed (setIn completed x)) (setIn completed x))
 r-in w x m h (inl e) = inl (rw e refl)
 r-in w x m h (inr r) = by (w .exempt) (isReady (w .pipe .inn .answers)) refl
   where
     by : (e b : Bool) → isReady (w .pipe .inn .answers) ≡ b
-        → ((e || not b) || false ≡ true) ⊎ Rel (cond m (nakflip (w .rx)) (w .rx)) (flip (nak (w .tx))) (w .len) (pipe.after (pipe.token In) (pipe.after (packet In) (w .pipe))) (w .awaits) (w .untaken) (cond m (setOut completed (setIn completed x)) (setIn completed x))
+        → ((e || not b) || false ≡ true) ⊎ Rel (cond m (nakflip (w .rx)) (w .rx))
+        (flip (nak (w .tx))) (w .len) (pipe.after (pipe.token In) (pipe.after (packet In) (w .pipe)))
+        (w .awaits) (w .untaken) (cond m (setOut completed (setIn completed x)) (setIn completed x))
     by e true q = inr (token-in m h (packet-in q r))
     by true false q = inl refl
     by false false q = inl refl
@@ -127,8 +133,11 @@ flipped-out f g w s c z = at-ask {q = Read EpRxCtrl 0} tt (λ v t b k. back (rea
     let o = outWith g u in
     at-end (
       ap (λ n. withRx (f n) w) (b .0 refl),
-      act-view (waken (wakeCode Out 0 ∷ [])) refl o ∙ (out-view g u h ∙ (ap (λ (r : Rec). setOut r (view (u .0))) (made (g (concrete .get (ep-cell Out 0) u)) (c (concrete .get (ep-cell Out 0) u))) ∙ ap (setOut completed) (l .0 ∙ k .0))),
-      steadily (act-steady (waken (wakeCode Out 0 ∷ [])) refl o) (steadily (put-steady (ep-cell Out 0) (g (concrete .get (ep-cell Out 0) u)) u) (plainly (l .1))),
+      act-view (waken (wakeCode Out 0 ∷ [])) refl o ∙ (out-view g u h
+          ∙ (ap (λ (r : Rec). setOut r (view (u .0))) (made (g (concrete .get (ep-cell Out 0) u)) (c (concrete .get (ep-cell Out 0) u)))
+          ∙ ap (setOut completed) (l .0 ∙ k .0))),
+      steadily (act-steady (waken (wakeCode Out 0 ∷ [])) refl o)
+          (steadily (put-steady (ep-cell Out 0) (g (concrete .get (ep-cell Out 0) u)) u) (plainly (l .1))),
     ))))
   where
     made : (p : EpCore) → (p .ready ≡ 1) × (p .armed ≡ 0)
@@ -146,7 +155,9 @@ flipped-in f g w s c z = at-ask {q = Read EpTxCtrl 0} tt (λ v t b k. back (read
     let o = inWith g u in
     at-end (
       ap (λ n. withTx (f n) w) (b .1 refl),
-      act-view (waken (wakeCode In 0 ∷ [])) refl o ∙ (in-view g u h ∙ (ap (λ (r : Rec). setIn r (view (u .0))) (made (g (concrete .get (ep-cell In 0) u)) (c (concrete .get (ep-cell In 0) u))) ∙ ap (setIn completed) (l .0 ∙ k .0))),
+      act-view (waken (wakeCode In 0 ∷ [])) refl o ∙ (in-view g u h
+          ∙ (ap (λ (r : Rec). setIn r (view (u .0))) (made (g (concrete .get (ep-cell In 0) u)) (c (concrete .get (ep-cell In 0) u)))
+          ∙ ap (setIn completed) (l .0 ∙ k .0))),
       steadily (act-steady (waken (wakeCode In 0 ∷ [])) refl o) (steadily (put-steady (ep-cell In 0) (g (concrete .get (ep-cell In 0) u)) u) (plainly (l .1))),
     ))))
   where
@@ -166,19 +177,27 @@ sent-in w s z = at-ask {q = Read EpTxCtrl 0} tt (λ v t b k. back (read-off w Ep
     let o = inWith (withReady 1) m in
     at-end (
       ap (λ n. withTx (flip n) w) (b .1 refl),
-      act-view (waken (wakeCode In 0 ∷ [])) refl o ∙ (in-view (withReady 1) m (in-whole (withArmed 0) u h) ∙ (ap (λ (y : View). setIn (record { ready = 1; armed = y .inn .armed }) y) (in-view (withArmed 0) u h) ∙ ap (setIn completed) (l .0 ∙ k .0))),
-      steadily (act-steady (waken (wakeCode In 0 ∷ [])) refl o) (steadily (put-steady (ep-cell In 0) (withReady 1 (concrete .get (ep-cell In 0) m)) m) (steadily (put-steady (ep-cell In 0) (withArmed 0 (concrete .get (ep-cell In 0) u)) u) (plainly (l .1)))),
+      act-view (waken (wakeCode In 0 ∷ [])) refl o ∙ (in-view (withReady 1) m (in-whole (withArmed 0) u h)
+          ∙ (ap (λ (y : View). setIn (record { ready = 1; armed = y .inn .armed }) y) (in-view (withArmed 0) u h)
+          ∙ ap (setIn completed) (l .0 ∙ k .0))),
+      steadily (act-steady (waken (wakeCode In 0 ∷ [])) refl o)
+          (steadily (put-steady (ep-cell In 0) (withReady 1 (concrete .get (ep-cell In 0) m)) m)
+          (steadily (put-steady (ep-cell In 0) (withArmed 0 (concrete .get (ep-cell In 0) u)) u) (plainly (l .1)))),
     ))))
 
 -- a hidden stage
 moved-in : (w : Log) (s : St) → w .phase ≡ off → Plainly s → (m : Bool) → isOn (view (s .0) .inn .armed) ≡ m
-    → Watch Keeps Any (Exactly (withTx (cond m (nakflip (w .tx)) (w .tx)) w) (cond m (setIn completed (view (s .0))) (view (s .0)))) w (run concrete (movedOn {i = true} In) s)
-moved-in w s z k true h = watch-cond (isOn (concrete .get (ep-cell In 0) s .armed)) (λ _. flipped-in nakflip statics.completed w s (λ _. (refl, refl)) z) (λ q. differ (sym q ∙ h))
+    → Watch Keeps Any (Exactly (withTx (cond m (nakflip (w .tx)) (w .tx)) w) (cond m (setIn completed (view (s .0))) (view (s .0)))) w
+    (run concrete (movedOn {i = true} In) s)
+moved-in w s z k true h = watch-cond (isOn (concrete .get (ep-cell In 0) s .armed))
+    (λ _. flipped-in nakflip statics.completed w s (λ _. (refl, refl)) z) (λ q. differ (sym q ∙ h))
 moved-in w s z k false h = watch-cond (isOn (concrete .get (ep-cell In 0) s .armed)) (λ q. differ (sym h ∙ q)) (λ _. at-end (refl, refl, k))
 
 moved-out : (w : Log) (s : St) → w .phase ≡ off → Plainly s → (m : Bool) → isOn (view (s .0) .out .armed) ≡ m
-    → Watch Keeps Any (Exactly (withRx (cond m (nakflip (w .rx)) (w .rx)) w) (cond m (setOut completed (view (s .0))) (view (s .0)))) w (run concrete (movedOn {i = true} Out) s)
-moved-out w s z k true h = watch-cond (isOn (concrete .get (ep-cell Out 0) s .armed)) (λ _. flipped-out nakflip statics.completed w s (λ _. (refl, refl)) z) (λ q. differ (sym q ∙ h))
+    → Watch Keeps Any (Exactly (withRx (cond m (nakflip (w .rx)) (w .rx)) w) (cond m (setOut completed (view (s .0))) (view (s .0)))) w
+    (run concrete (movedOn {i = true} Out) s)
+moved-out w s z k true h = watch-cond (isOn (concrete .get (ep-cell Out 0) s .armed))
+    (λ _. flipped-out nakflip statics.completed w s (λ _. (refl, refl)) z) (λ q. differ (sym q ∙ h))
 moved-out w s z k false h = watch-cond (isOn (concrete .get (ep-cell Out 0) s .armed)) (λ q. differ (sym h ∙ q)) (λ _. at-end (refl, refl, k))
 
 -- ---- `served`, its token apart
@@ -197,7 +216,10 @@ servedAs tk x iso frame = do
 -- of another endpoint
 pub q-served : (tk : Token) (x : Transfer) (iso : Bool) (frame : ℕ) → eqb (endpoint (x .st)) 0 ≡ false
     → Quiet (servedAs tk x iso frame)
-q-served tk x iso frame h = q-bind (q-got globals-cell) (λ g. q-bind (q-when (q-sof frame)) (λ _. q-bind (q-when (q-every (λ g m. q-late frame (setBits (isoInEvery g)) m))) (λ _. q-bind (q-when (q-dispatch tk x iso frame h)) (λ _. q-bind (q-when (q-check x iso)) (λ _. q-if (eqb (endpoint (x .st)) 0) (λ z. differ (sym h ∙ z)) (λ _. q-ret))))))
+q-served tk x iso frame h = q-bind (q-got globals-cell)
+    (λ g. q-bind (q-when (q-sof frame))
+    (λ _. q-bind (q-when (q-every (λ g m. q-late frame (setBits (isoInEvery g)) m))) (λ _. q-bind (q-when (q-dispatch tk x iso frame h))
+    (λ _. q-bind (q-when (q-check x iso)) (λ _. q-if (eqb (endpoint (x .st)) 0) (λ z. differ (sym h ∙ z)) (λ _. q-ret))))))
 
 -- what is known at its end
 abbrev pub Served : Bool → {A : Type 0} → Log → A → St → Type 0
@@ -223,7 +245,11 @@ made x = record { ok = x }
 
 conclude : {su : Bool} (y w : Log) (u : St) (v : View) → y ≡ w → view (u .0) ≡ v → R w v → v .stage ≡ 2
     → w .setup-seen ≡ su → Served su y (tt {0}) u
-conclude {su = su} y w u v e h r t f = (subst (λ (q : Log). R q (view (u .0))) (sym e) (subst (R w) (sym h) r), ap (λ (q : View). q .stage) h ∙ t, ap (λ (q : Log). q .setup-seen) e ∙ f)
+conclude {su = su} y w u v e h r t f = (
+  subst (λ (q : Log). R q (view (u .0))) (sym e) (subst (R w) (sym h) r),
+  ap (λ (q : View). q .stage) h ∙ t,
+  ap (λ (q : Log). q .setup-seen) e ∙ f,
+)
 
 same-stage : (m : Bool) (x y : View) → x .stage ≡ 2 → y .stage ≡ 2 → cond m x y .stage ≡ 2
 same-stage true x y p q = p
@@ -241,7 +267,8 @@ NotIso tok.In iso = iso ≡ false
 NotIso tok.Sof iso = Unit {0}
 NotIso tok.Setup iso = Unit {0}
 
-module _ (x : Transfer) (frame : ℕ) (mine : eqb (endpoint (x .st)) 0 ≡ true) (w : Log) (s : St) (k : Plainly s) (r : R w (view (s .0))) (two : view (s .0) .stage ≡ 2) {su : Bool} (seen-su : w .setup-seen ≡ su) where
+module _ (x : Transfer) (frame : ℕ) (mine : eqb (endpoint (x .st)) 0 ≡ true) (w : Log) (s : St) (k : Plainly s)
+    (r : R w (view (s .0))) (two : view (s .0) .stage ≡ 2) {su : Bool} (seen-su : w .setup-seen ≡ su) where
   abbrev armedIn : Bool
   armedIn = isOn (view (s .0) .inn .armed)
 
@@ -254,8 +281,15 @@ module _ (x : Transfer) (frame : ℕ) (mine : eqb (endpoint (x .st)) 0 ≡ true)
       let u = ofToken tok.Out false true (withPhase off (withRx (nak (w .rx)) w)) in
       let v = withRx (flip (u .rx)) u in
       (framing x frame mine u refl s k tok.Out false v (setOut completed (view (s .0))) refl
-      (λ t e l. made (watch-cond (not (x .busy)) (λ _. watch-cond (eqb (endpoint (x .st)) 0) (λ _. watch-cond (togOk (x .st)) (λ _. watch-more (flipped-out flip (λ p. statics.completed (withLen (x .len) p)) u t (λ _. (refl, refl)) refl) (λ _ _ _ m. (m .0, m .1 ∙ ap (setOut completed) e, m .2))) (λ q. differ (sym q ∙ ok))) (λ q. differ (sym q ∙ mine))) (λ q. differ (sym q ∙ ap not b))))
-      (λ t e l. made (watch-more (moved-in v t refl l armedIn (ap (λ (y : View). isOn (y .inn .armed)) e)) (λ y _ o m. conclude y _ o _ (m .0) (m .1 ∙ ap (λ (q : View). cond armedIn (setIn completed q) q) e) (r-out w (view (s .0)) armedIn refl r) (same-stage armedIn _ _ two two) seen-su)))) .ok
+      (λ t e l. made (watch-cond (not (x .busy)) (λ _. watch-cond (eqb (endpoint (x .st)) 0) (λ _. watch-cond (togOk (x .st))
+      (λ _. watch-more (flipped-out flip (λ p. statics.completed (withLen (x .len) p)) u t (λ _. (refl, refl)) refl) (λ _ _ _ m. (
+        m .0,
+        m .1 ∙ ap (setOut completed) e,
+        m .2,
+      ))) (λ q. differ (sym q ∙ ok))) (λ q. differ (sym q ∙ mine))) (λ q. differ (sym q ∙ ap not b))))
+      (λ t e l. made (watch-more (moved-in v t refl l armedIn (ap (λ (y : View). isOn (y .inn .armed)) e))
+      (λ y _ o m. conclude y _ o _ (m .0) (m .1 ∙ ap (λ (q : View). cond armedIn (setIn completed q) q) e)
+      (r-out w (view (s .0)) armedIn refl r) (same-stage armedIn _ _ two two) seen-su)))) .ok
 
   -- the token OUT alone: a repeat, or a transaction that is not complete
   out-token : (busy ok : Bool) → not busy && ok ≡ false → x .busy ≡ busy → togOk (x .st) ≡ ok
@@ -263,8 +297,12 @@ module _ (x : Transfer) (frame : ℕ) (mine : eqb (endpoint (x .st)) 0 ≡ true)
   out-token busy ok none b o =
       let u = happens (pipe.token Out) (withPhase off w) in
       (framing x frame mine u refl s k tok.Out false u (view (s .0)) refl
-      (λ t e l. made (watch-cond (not (x .busy)) (λ f. watch-cond (eqb (endpoint (x .st)) 0) (λ _. watch-cond (togOk (x .st)) (λ g. differ (sym none ∙ both (sym b) (sym o) f g)) (λ _. at-end (refl, e, l))) (λ q. differ (sym q ∙ mine))) (λ _. at-end (refl, e, l))))
-      (λ t e l. made (watch-more (moved-in u t refl l armedIn (ap (λ (y : View). isOn (y .inn .armed)) e)) (λ y _ o m. conclude y _ o _ (m .0) (m .1 ∙ ap (λ (q : View). cond armedIn (setIn completed q) q) e) (r-token-out w (view (s .0)) armedIn refl r) (same-stage armedIn _ _ two two) seen-su)))) .ok
+      (λ t e l. made (watch-cond (not (x .busy)) (λ f. watch-cond (eqb (endpoint (x .st)) 0)
+      (λ _. watch-cond (togOk (x .st)) (λ g. differ (sym none ∙ both (sym b) (sym o) f g)) (λ _. at-end (refl, e, l)))
+      (λ q. differ (sym q ∙ mine))) (λ _. at-end (refl, e, l))))
+      (λ t e l. made (watch-more (moved-in u t refl l armedIn (ap (λ (y : View). isOn (y .inn .armed)) e))
+      (λ y _ o m. conclude y _ o _ (m .0) (m .1 ∙ ap (λ (q : View). cond armedIn (setIn completed q) q) e)
+      (r-token-out w (view (s .0)) armedIn refl r) (same-stage armedIn _ _ two two) seen-su)))) .ok
     where
       both : busy ≡ x .busy → ok ≡ togOk (x .st) → not (x .busy) ≡ true → togOk (x .st) ≡ true → not busy && ok ≡ true
       both p q f g = rw (p, q, f, g) refl
@@ -275,8 +313,14 @@ module _ (x : Transfer) (frame : ℕ) (mine : eqb (endpoint (x .st)) 0 ≡ true)
       let u = ofToken tok.In false true (withPhase off (withTx (nak (w .tx)) w)) in
       let v = withTx (flip (u .tx)) u in
       (framing x frame mine u refl s k tok.In false v (setIn completed (view (s .0))) refl
-      (λ t e l. made (watch-cond (not (x .busy)) (λ _. watch-cond (eqb (endpoint (x .st)) 0) (λ _. watch-more (sent-in u t refl) (λ _ _ _ m. (m .0, m .1 ∙ ap (setIn completed) e, m .2))) (λ q. differ (sym q ∙ mine))) (λ q. differ (sym q ∙ ap not b))))
-      (λ t e l. made (watch-more (moved-out v t refl l armedOut (ap (λ (y : View). isOn (y .out .armed)) e)) (λ y _ o m. conclude y _ o _ (m .0) (m .1 ∙ ap (λ (q : View). cond armedOut (setOut completed q) q) e) (r-in w (view (s .0)) armedOut refl r) (same-stage armedOut _ _ two two) seen-su)))) .ok
+      (λ t e l. made (watch-cond (not (x .busy)) (λ _. watch-cond (eqb (endpoint (x .st)) 0) (λ _. watch-more (sent-in u t refl) (λ _ _ _ m. (
+        m .0,
+        m .1 ∙ ap (setIn completed) e,
+        m .2,
+      ))) (λ q. differ (sym q ∙ mine))) (λ q. differ (sym q ∙ ap not b))))
+      (λ t e l. made (watch-more (moved-out v t refl l armedOut (ap (λ (y : View). isOn (y .out .armed)) e))
+      (λ y _ o m. conclude y _ o _ (m .0) (m .1 ∙ ap (λ (q : View). cond armedOut (setOut completed q) q) e)
+      (r-in w (view (s .0)) armedOut refl r) (same-stage armedOut _ _ two two) seen-su)))) .ok
 
   in-token : x .busy ≡ true
       → Watch Keeps Any (Served su) (happens (pipe.token In) (withPhase off w)) (run concrete (servedAs tok.In x false frame) s)
@@ -284,7 +328,9 @@ module _ (x : Transfer) (frame : ℕ) (mine : eqb (endpoint (x .st)) 0 ≡ true)
       let u = happens (pipe.token In) (withPhase off w) in
       (framing x frame mine u refl s k tok.In false u (view (s .0)) refl
       (λ t e l. made (watch-cond (not (x .busy)) (λ f. differ (ap not (sym b) ∙ f)) (λ _. at-end (refl, e, l))))
-      (λ t e l. made (watch-more (moved-out u t refl l armedOut (ap (λ (y : View). isOn (y .out .armed)) e)) (λ y _ o m. conclude y _ o _ (m .0) (m .1 ∙ ap (λ (q : View). cond armedOut (setOut completed q) q) e) (r-token-in w (view (s .0)) armedOut refl r) (same-stage armedOut _ _ two two) seen-su)))) .ok
+      (λ t e l. made (watch-more (moved-out u t refl l armedOut (ap (λ (y : View). isOn (y .out .armed)) e))
+      (λ y _ o m. conclude y _ o _ (m .0) (m .1 ∙ ap (λ (q : View). cond armedOut (setOut completed q) q) e)
+      (r-token-in w (view (s .0)) armedOut refl r) (same-stage armedOut _ _ two two) seen-su)))) .ok
 
   plain-token : (tk : Token) (iso : Bool) → Quiet {i = true} (dispatch tk x iso frame)
       → Quiet {i = true} (ep0MovedOn tk)
@@ -292,7 +338,8 @@ module _ (x : Transfer) (frame : ℕ) (mine : eqb (endpoint (x .st)) 0 ≡ true)
   plain-token tk iso q p =
       (framing x frame mine (withPhase off w) refl s k tk iso (withPhase off w) (view (s .0)) refl
       (λ t e l. made (watch-more (q-when {b = not (x .busy)} q .goes (withPhase off w) t refl l) (λ _ _ _ m. (m .0, m .1 ∙ e, m .2))))
-      (λ t e l. made (watch-more (p .goes (withPhase off w) t refl l) (λ y _ o m. conclude y (withPhase off w) o (view (s .0)) (m .0) (m .1 ∙ e) r two seen-su)))) .ok
+      (λ t e l. made (watch-more (p .goes (withPhase off w) t refl l)
+      (λ y _ o m. conclude y (withPhase off w) o (view (s .0)) (m .0) (m .1 ∙ e) r two seen-su)))) .ok
 
   pub served-ep0 : (tk : Token) (iso busy ok : Bool) → x .busy ≡ busy → togOk (x .st) ≡ ok → NotIso tk iso
       → Watch Keeps Any (Served su) (ofToken tk busy ok (withPhase off (naked tk busy ok w))) (run concrete (servedAs tk x iso frame) s)

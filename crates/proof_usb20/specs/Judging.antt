@@ -113,7 +113,9 @@ module _ (D : Dir) (E : ℕ) where
     -- a repeat: acknowledged again where a packet is waited for
     again : (s t : St) (v : ℕ) (b : Bool) → isOn (concrete .get (ep-cell D e) t .armed) ≡ b
         → view D E (t .0) ≡ view D E (s .0) → Kept D E true t → Hears D E true s t
-        → Follow D E (λ y _ u. (y ≡ withPhase off w) × (view D E (u .0) ≡ view D E (s .0)) × Kept D E true u × Hears D E true s u) (withPhase (cond b (owes v) off) w) (run {i = true} concrete (when (isOn (concrete .get (ep-cell D e) t .armed)) (modifyReg (ctrlOf D) e ack)) t)
+        → Follow D E (λ y _ u. (y ≡ withPhase off w) × (view D E (u .0) ≡ view D E (s .0)) × Kept D E true u × Hears D E true s u)
+        (withPhase (cond b (owes v) off) w)
+        (run {i = true} concrete (when (isOn (concrete .get (ep-cell D e) t .armed)) (modifyReg (ctrlOf D) e ack)) t)
     again s t v true h z l f = follow.follow-cond D E (isOn (concrete .get (ep-cell D e) t .armed))
         (λ _. at-ask tt (λ n u _ p. back D E (read-again v n) (at-ask tt (λ x a _ q. back D E (acked n x) (
         let ku : Kept D E true u = kept-by D E {s = t} {t = u} p l in
@@ -127,22 +129,28 @@ module _ (D : Dir) (E : ℕ) where
     pub toggles-own : (s : St) → Kept D E true s → Fits w (view D E (s .0)) → eqb (s .0 .globals .stage) 2 ≡ true
         → Follow D E (Told s w k) (withPhase (due k) w) (run concrete (toggled {i = true} D e) s)
     unfolding repeated withOn isOn
-    toggles-own s l r two = follow.follow-bind D E ((q-looks D E) 2001 .goes (withPhase (due k) w) s (due-idle k w, λ _ _ _ _. refl) l) (λ y _ a m. back D E (m .0) (at-ask tt (λ v t _ p.
+    toggles-own s l r two = follow.follow-bind D E ((q-looks D E) 2001 .goes (withPhase (due k) w) s (due-idle k w, λ _ _ _ _. refl) l)
+        (λ y _ a m. back D E (m .0) (at-ask tt (λ v t _ p.
         let z : view D E (t .0) ≡ view D E (s .0) = p .0 ∙ m .1 in
         let q : Own D E D e = own-true D E D e o in
         let kt : Kept D E true t = kept-by D E {s = a} {t = t} p (m .2) in
         let at : Hears D E true a t = hears-same D E {s = a} {t = t} (p .2) in
         let hs : Hears D E true s t = hears-then D E (m .3) at in
-        let g : repeated (concrete .get (ep-cell D e) t) v ≡ same (w .bit) (shown v) = ap (λ (x : EpCore). eqb (x .tog) (flag (isData1 v))) (got D E D e t q) ∙ (ap (λ (x : Seen). eqb (x .tog) (flag (isData1 v))) z ∙ (ap (λ n. eqb n (flag (isData1 v))) (r .tog) ∙ agree (w .bit) v)) in
+        let g : repeated (concrete .get (ep-cell D e) t) v
+        ≡ same (w .bit) (shown v) = ap (λ (x : EpCore). eqb (x .tog) (flag (isData1 v))) (got D E D e t q)
+        ∙ (ap (λ (x : Seen). eqb (x .tog) (flag (isData1 v))) z ∙ (ap (λ n. eqb n (flag (isData1 v))) (r .tog) ∙ agree (w .bit) v)) in
         let st2 : eqb (t .0 .globals .stage) 2 ≡ true = ap (λ (x : Seen). eqb (x .stage) 2) z ∙ two in
-        let ar : isOn (concrete .get (ep-cell D e) t .armed) ≡ w .armed = ap (λ (x : EpCore). isOn (x .armed)) (got D E D e t q) ∙ (ap (λ (x : Seen). isOn (x .armed)) z ∙ r .armed) in
+        let ar : isOn (concrete .get (ep-cell D e) t .armed) ≡ w .armed =
+        ap (λ (x : EpCore). isOn (x .armed)) (got D E D e t q) ∙ (ap (λ (x : Seen). isOn (x .armed)) z ∙ r .armed) in
         back D E (read-word v) (follow.follow-cond D E (repeated (concrete .get (ep-cell D e) t) v)
         (λ h. back D E (same-bit v (w .armed) refl (sym g ∙ h)) (follow.follow-bind D E (again s t v (w .armed) ar z kt hs)
         (λ y _ u x. at-end (repeat refl (x .0) (subst (Fits w) (sym (x .1)) r) (x .2) (ap (λ (x : Seen). eqb (x .stage) 2) (x .1) ∙ two) (x .3)))))
         (λ h. back D E (other-bit v (sym g ∙ h))
         (let f : EpCore → EpCore = λ p. withArmed 0 (withTog (flag (isData1 v)) p) in
         let c = changed D E D e f t q (kt .whole) in
-        at-end (new v refl refl (ap (λ (x : Seen). x .tog) c ∙ numbers v) (ap (λ (x : Seen). x .len) (c) ∙ (ap (λ (x : Seen). x .len) z ∙ r .len)) (ap (λ (x : Seen). isOn (x .armed)) c) (put-kept D E (ep-cell D e) (f (concrete .get (ep-cell D e) t)) t kt) st2
+        at-end
+        (new v refl refl (ap (λ (x : Seen). x .tog) c ∙ numbers v) (ap (λ (x : Seen). x .len) (c) ∙ (ap (λ (x : Seen). x .len) z ∙ r .len))
+        (ap (λ (x : Seen). isOn (x .armed)) c) (put-kept D E (ep-cell D e) (f (concrete .get (ep-cell D e) t)) t kt) st2
         (hears-then D E hs (put-hears D E (ep-cell D e) (f (concrete .get (ep-cell D e) t)) t)))))))))
 
 -- ---- the arms
@@ -156,7 +164,13 @@ Done D E y _ t = (y .phase ≡ off) × Fits y (view D E (t .0)) × Kept D E true
 
 pub done-as : (D : Dir) (E : ℕ) (y z : Track) (t : St) → y ≡ z → z .phase ≡ off → Fits z (view D E (t .0))
     → Kept D E true t → eqb (t .0 .globals .stage) 2 ≡ true → Heard D E z t → Done D E {A = Unit {0}} y tt t
-done-as D E y z t h p f l two n = (ap (λ (x : Track). x .phase) h ∙ p, subst (λ (x : Track). Fits x (view D E (t .0))) (sym h) f, l, two, subst (λ (x : Track). Heard D E x t) (sym h) n)
+done-as D E y z t h p f l two n = (
+  ap (λ (x : Track). x .phase) h ∙ p,
+  subst (λ (x : Track). Fits x (view D E (t .0))) (sym h) f,
+  l,
+  two,
+  subst (λ (x : Track). Heard D E x t) (sym h) n,
+)
 
 -- it goes on without a wake-up of its task
 pub heard-on : (D : Dir) (E : ℕ) (y : Track) (s t : St) → Hears D E true s t → Heard D E y s → Heard D E y t
@@ -193,11 +207,13 @@ module _ (E : ℕ) (x : Transfer) (k : ℕ) (w : Track) (s : St) (quiet : w .new
       → Follow Out E (Done Out E) (withPhase (due k) w) (run concrete (outArm {i = true} x false) s)
   unfolding withOn isOn
   arm-out o nz e l r two =
-      follow.follow-cond Out E (eqb (endpoint (x .st)) 0) (λ z. differ (sym nz ∙ z)) (λ _. follow.follow-bind Out E (toggles-own Out E (endpoint (x .st)) k w o s l r two) (λ y b t m. go y b t m))
+      follow.follow-cond Out E (eqb (endpoint (x .st)) 0) (λ z. differ (sym nz ∙ z))
+      (λ _. follow.follow-bind Out E (toggles-own Out E (endpoint (x .st)) k w o s l r two) (λ y b t m. go y b t m))
     where
       go : (y : Track) (b : Bool) (t : St) → Told Out E s w k y b t
           → Follow Out E (Done Out E) y (run {i = true} concrete (when b (received (endpoint (x .st)) (x .len))) t)
-      go y b t (repeat h p f l two m) = follow.follow-cond Out E b (λ z. differ (sym h ∙ z)) (λ _. at-end (done-as Out E y (withPhase off w) t p refl f l two (inr (m .same refl ∙ (none ∙ sym (ap flag quiet))))))
+      go y b t (repeat h p f l two m) = follow.follow-cond Out E b (λ z. differ (sym h ∙ z))
+          (λ _. at-end (done-as Out E y (withPhase off w) t p refl f l two (inr (m .same refl ∙ (none ∙ sym (ap flag quiet))))))
       go y b t (new v h p g n a l two m) = follow.follow-cond Out E b
           (λ _.
           let q = own-true Out E Out (endpoint (x .st)) o in
@@ -206,8 +222,12 @@ module _ (E : ℕ) (x : Transfer) (k : ℕ) (w : Track) (s : St) (quiet : w .new
           let c = changed Out E Out (endpoint (x .st)) f t q (l .whole) in
           let i = waken (wakeCode Out (endpoint (x .st)) ∷ []) in
           let ku = put-kept Out E (ep-cell Out (endpoint (x .st))) (f (concrete .get (ep-cell Out (endpoint (x .st))) t)) t l in
-          at-end (done-as Out E y (newly Out v k w) (concrete .act i u) p refl (subst (Fits (newly Out v k w)) (sym (act-view Out E i refl u ∙ c)) (fits-2 Out E two g refl e refl)) (woken-kept Out E (endpoint (x .st)) q u ku) two
-          (woken-heard Out E (endpoint (x .st)) q u ku (newly Out v k w) refl (put-hears Out E {m = true} (ep-cell Out (endpoint (x .st))) (f (concrete .get (ep-cell Out (endpoint (x .st))) t)) t .same refl ∙ (m .same refl ∙ none)))))
+          at-end
+          (done-as Out E y (newly Out v k w) (concrete .act i u) p refl
+          (subst (Fits (newly Out v k w)) (sym (act-view Out E i refl u ∙ c)) (fits-2 Out E two g refl e refl))
+          (woken-kept Out E (endpoint (x .st)) q u ku) two
+          (woken-heard Out E (endpoint (x .st)) q u ku (newly Out v k w) refl (put-hears Out E {m = true} (ep-cell Out (endpoint (x .st)))
+          (f (concrete .get (ep-cell Out (endpoint (x .st))) t)) t .same refl ∙ (m .same refl ∙ none)))))
           (λ z. differ (sym z ∙ h))
 
 module _ (E : ℕ) (x : Transfer) (frame k : ℕ) (w : Track) (s : St) (quiet : w .new ≡ false) (none : heard In E s ≡ 0) where
@@ -216,11 +236,13 @@ module _ (E : ℕ) (x : Transfer) (frame k : ℕ) (w : Track) (s : St) (quiet : 
       → Follow In E (Done In E) (withPhase (due k) w) (run concrete (inArm {i = true} x false frame) s)
   unfolding withOn isOn
   arm-in o nz e l r two =
-      follow.follow-cond In E (eqb (endpoint (x .st)) 0) (λ z. differ (sym nz ∙ z)) (λ _. follow.follow-bind In E (toggles-own In E (endpoint (x .st)) k w o s l r two) (λ y b t m. go y b t m))
+      follow.follow-cond In E (eqb (endpoint (x .st)) 0) (λ z. differ (sym nz ∙ z))
+      (λ _. follow.follow-bind In E (toggles-own In E (endpoint (x .st)) k w o s l r two) (λ y b t m. go y b t m))
     where
       go : (y : Track) (b : Bool) (t : St) → Told In E s w k y b t
           → Follow In E (Done In E) y (run {i = true} concrete (when b (sent (endpoint (x .st)))) t)
-      go y b t (repeat h p f l two m) = follow.follow-cond In E b (λ z. differ (sym h ∙ z)) (λ _. at-end (done-as In E y (withPhase off w) t p refl f l two (inr (m .same refl ∙ (none ∙ sym (ap flag quiet))))))
+      go y b t (repeat h p f l two m) = follow.follow-cond In E b (λ z. differ (sym h ∙ z))
+          (λ _. at-end (done-as In E y (withPhase off w) t p refl f l two (inr (m .same refl ∙ (none ∙ sym (ap flag quiet))))))
       go y b t (new v h p g n a l two m) = follow.follow-cond In E b
           (λ _.
           let q = own-true In E In (endpoint (x .st)) o in
@@ -228,6 +250,10 @@ module _ (E : ℕ) (x : Transfer) (frame k : ℕ) (w : Track) (s : St) (quiet : 
           let c = changed In E In (endpoint (x .st)) (withReady 1) t q (l .whole) in
           let i = waken (wakeCode In (endpoint (x .st)) ∷ []) in
           let ku = put-kept In E (ep-cell In (endpoint (x .st))) (withReady 1 (concrete .get (ep-cell In (endpoint (x .st))) t)) t l in
-          at-end (done-as In E y (newly In v k w) (concrete .act i u) p refl (subst (Fits (newly In v k w)) (sym (act-view In E i refl u ∙ c)) (fits-2 In E two g refl n a)) (woken-kept In E (endpoint (x .st)) q u ku) two
-          (woken-heard In E (endpoint (x .st)) q u ku (newly In v k w) refl (put-hears In E {m = true} (ep-cell In (endpoint (x .st))) (withReady 1 (concrete .get (ep-cell In (endpoint (x .st))) t)) t .same refl ∙ (m .same refl ∙ none)))))
+          at-end
+          (done-as In E y (newly In v k w) (concrete .act i u) p refl
+          (subst (Fits (newly In v k w)) (sym (act-view In E i refl u ∙ c)) (fits-2 In E two g refl n a))
+          (woken-kept In E (endpoint (x .st)) q u ku) two
+          (woken-heard In E (endpoint (x .st)) q u ku (newly In v k w) refl (put-hears In E {m = true} (ep-cell In (endpoint (x .st)))
+          (withReady 1 (concrete .get (ep-cell In (endpoint (x .st))) t)) t .same refl ∙ (m .same refl ∙ none)))))
           (λ z. differ (sym z ∙ h))

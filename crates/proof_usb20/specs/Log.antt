@@ -20,11 +20,18 @@ use Rattle.regs.specs.Status as status
 use Rattle.regs.specs.Status.{endpoint, togOk}
 use Rattle.regs.specs.MisStatus.{sieFree}
 use Rattle.model.specs.Answers.{Answer, Refused, End, NotYet, Done, Shown}
-use Rattle.model.specs.Calls.{Op, interrupt, slotted, other, aside, Slotted, SetEnabled, PollRead, BeginWrite, PollWrite, PollDataOut, BeginDataIn, Other, Allocate, AllocateAll, Start, BusPoll, BusEnable, BusDisable, Microframe, SetStalled, IsStalled, SetPaced, Advance, BeginRead, BeginSetup, PollSetup, PollDataIn, BeginAccept, PollAccept, BeginReject, BeginDataOut, BeginAcceptSetAddress}
+use Rattle.model.specs.Calls.{Op, interrupt, slotted, other, aside, Slotted, SetEnabled, PollRead, BeginWrite}
+use Rattle.model.specs.Calls.{PollWrite, PollDataOut, BeginDataIn, Other, Allocate, AllocateAll, Start, BusPoll}
+use Rattle.model.specs.Calls.{BusEnable, BusDisable, Microframe, SetStalled, IsStalled, SetPaced, Advance, BeginRead}
+use Rattle.model.specs.Calls.{BeginSetup, PollSetup, PollDataIn, BeginAccept, PollAccept, BeginReject, BeginDataOut}
+use Rattle.model.specs.Calls.{BeginAcceptSetAddress}
 use Rattle.model.specs.Every.{sameReg}
 use Rattle.model.specs.AddressWrites.{Writes}
 use Rattle.model.specs.TogglesLaws.{number}
-use Rattle.proof_usb20.specs.Pipe.{Answers, naks, stalls, acks, Half, renewed, isReady, Pipe, Event, setup, packet, token, possible, after, Choice, takes, gives, confirms, rejects, chosen, orderly, Awaited, nothing, awaitedBy, over, taken, given, confirmed, Setting, keeps, sets}
+use Rattle.proof_usb20.specs.Pipe.{Answers, naks, stalls, acks, Half, renewed, isReady, Pipe, Event, setup}
+use Rattle.proof_usb20.specs.Pipe.{packet, token, possible, after, Choice, takes, gives, confirms, rejects}
+use Rattle.proof_usb20.specs.Pipe.{chosen, orderly, Awaited, nothing, awaitedBy, over, taken, given, confirmed}
+use Rattle.proof_usb20.specs.Pipe.{Setting, keeps, sets}
 
 -- how far an interrupt's readings are: none of them concerns endpoint 0, its flags are to come, they are read, the
 -- bus's state (`true`: busy), the status it shows, the flag found taken by the release so that the status is read again
@@ -49,36 +56,146 @@ pub record Log : Type 0 where
   pub wrote : Setting  -- the address that the call under way wrote to dev_ad, or none
 
 abbrev pub before : Log
-before = record { rx = 0; tx = 0; len = 0; pipe = record { out = renewed; inn = renewed; size = 0 }; awaits = nothing; untaken = false; exempt = true; phase = off; setup-seen = false; wrote = keeps }
+before = record {
+  rx = 0;
+  tx = 0;
+  len = 0;
+  pipe = record { out = renewed; inn = renewed; size = 0 };
+  awaits = nothing;
+  untaken = false;
+  exempt = true;
+  phase = off;
+  setup-seen = false;
+  wrote = keeps;
+}
 
 abbrev pub withRx : ℕ → Log → Log
-withRx v w = record { rx = v; tx = w .tx; len = w .len; pipe = w .pipe; awaits = w .awaits; untaken = w .untaken; exempt = w .exempt; phase = w .phase; setup-seen = w .setup-seen; wrote = w .wrote }
+withRx v w = record {
+  rx = v;
+  tx = w .tx;
+  len = w .len;
+  pipe = w .pipe;
+  awaits = w .awaits;
+  untaken = w .untaken;
+  exempt = w .exempt;
+  phase = w .phase;
+  setup-seen = w .setup-seen;
+  wrote = w .wrote;
+}
 
 abbrev pub withTx : ℕ → Log → Log
-withTx v w = record { rx = w .rx; tx = v; len = w .len; pipe = w .pipe; awaits = w .awaits; untaken = w .untaken; exempt = w .exempt; phase = w .phase; setup-seen = w .setup-seen; wrote = w .wrote }
+withTx v w = record {
+  rx = w .rx;
+  tx = v;
+  len = w .len;
+  pipe = w .pipe;
+  awaits = w .awaits;
+  untaken = w .untaken;
+  exempt = w .exempt;
+  phase = w .phase;
+  setup-seen = w .setup-seen;
+  wrote = w .wrote;
+}
 
 abbrev pub withLen : ℕ → Log → Log
-withLen n w = record { rx = w .rx; tx = w .tx; len = n; pipe = w .pipe; awaits = w .awaits; untaken = w .untaken; exempt = w .exempt; phase = w .phase; setup-seen = w .setup-seen; wrote = w .wrote }
+withLen n w = record {
+  rx = w .rx;
+  tx = w .tx;
+  len = n;
+  pipe = w .pipe;
+  awaits = w .awaits;
+  untaken = w .untaken;
+  exempt = w .exempt;
+  phase = w .phase;
+  setup-seen = w .setup-seen;
+  wrote = w .wrote;
+}
 
 abbrev pub withPhase : Phase → Log → Log
-withPhase p w = record { rx = w .rx; tx = w .tx; len = w .len; pipe = w .pipe; awaits = w .awaits; untaken = w .untaken; exempt = w .exempt; phase = p; setup-seen = w .setup-seen; wrote = w .wrote }
+withPhase p w = record {
+  rx = w .rx;
+  tx = w .tx;
+  len = w .len;
+  pipe = w .pipe;
+  awaits = w .awaits;
+  untaken = w .untaken;
+  exempt = w .exempt;
+  phase = p;
+  setup-seen = w .setup-seen;
+  wrote = w .wrote;
+}
 
 abbrev pub withFlags : Bool → Log → Log
-withFlags s w = record { rx = w .rx; tx = w .tx; len = w .len; pipe = w .pipe; awaits = w .awaits; untaken = w .untaken; exempt = w .exempt; phase = flagged; setup-seen = s; wrote = w .wrote }
+withFlags s w = record {
+  rx = w .rx;
+  tx = w .tx;
+  len = w .len;
+  pipe = w .pipe;
+  awaits = w .awaits;
+  untaken = w .untaken;
+  exempt = w .exempt;
+  phase = flagged;
+  setup-seen = s;
+  wrote = w .wrote;
+}
 
 abbrev pub withAwaits : Awaited → Log → Log
-withAwaits a w = record { rx = w .rx; tx = w .tx; len = w .len; pipe = w .pipe; awaits = a; untaken = w .untaken; exempt = w .exempt; phase = w .phase; setup-seen = w .setup-seen; wrote = w .wrote }
+withAwaits a w = record {
+  rx = w .rx;
+  tx = w .tx;
+  len = w .len;
+  pipe = w .pipe;
+  awaits = a;
+  untaken = w .untaken;
+  exempt = w .exempt;
+  phase = w .phase;
+  setup-seen = w .setup-seen;
+  wrote = w .wrote;
+}
 
 abbrev pub withTaken : Log → Log
-withTaken w = record { rx = w .rx; tx = w .tx; len = w .len; pipe = w .pipe; awaits = w .awaits; untaken = false; exempt = w .exempt; phase = w .phase; setup-seen = w .setup-seen; wrote = w .wrote }
+withTaken w = record {
+  rx = w .rx;
+  tx = w .tx;
+  len = w .len;
+  pipe = w .pipe;
+  awaits = w .awaits;
+  untaken = false;
+  exempt = w .exempt;
+  phase = w .phase;
+  setup-seen = w .setup-seen;
+  wrote = w .wrote;
+}
 
 abbrev pub withWrote : Setting → Log → Log
-withWrote s w = record { rx = w .rx; tx = w .tx; len = w .len; pipe = w .pipe; awaits = w .awaits; untaken = w .untaken; exempt = w .exempt; phase = w .phase; setup-seen = w .setup-seen; wrote = s }
+withWrote s w = record {
+  rx = w .rx;
+  tx = w .tx;
+  len = w .len;
+  pipe = w .pipe;
+  awaits = w .awaits;
+  untaken = w .untaken;
+  exempt = w .exempt;
+  phase = w .phase;
+  setup-seen = w .setup-seen;
+  wrote = s;
+}
 
 -- ---- the bus's events
 
 abbrev pub happens : Event → Log → Log
-happens e w = record { rx = w .rx; tx = w .tx; len = w .len; pipe = after e (w .pipe); awaits = w .awaits; untaken = w .untaken; exempt = w .exempt || not (possible e (w .pipe)); phase = w .phase; setup-seen = w .setup-seen; wrote = w .wrote }
+happens e w = record {
+  rx = w .rx;
+  tx = w .tx;
+  len = w .len;
+  pipe = after e (w .pipe);
+  awaits = w .awaits;
+  untaken = w .untaken;
+  exempt = w .exempt || not (possible e (w .pipe));
+  phase = w .phase;
+  setup-seen = w .setup-seen;
+  wrote = w .wrote;
+}
 
 -- a setup packet ends what the function waits for, and all exemption
 abbrev pub set-up : Log → Log
@@ -140,17 +257,50 @@ Brings w Callback x = Unit {0}
 -- ---- the function's choices
 
 abbrev pub choose : Choice → Log → Log
-choose c w = record { rx = w .rx; tx = w .tx; len = w .len; pipe = chosen c (w .pipe); awaits = awaitedBy c; untaken = w .untaken; exempt = w .exempt || not (orderly c (w .pipe)); phase = w .phase; setup-seen = w .setup-seen; wrote = w .wrote }
+choose c w = record {
+  rx = w .rx;
+  tx = w .tx;
+  len = w .len;
+  pipe = chosen c (w .pipe);
+  awaits = awaitedBy c;
+  untaken = w .untaken;
+  exempt = w .exempt || not (orderly c (w .pipe));
+  phase = w .phase;
+  setup-seen = w .setup-seen;
+  wrote = w .wrote;
+}
 
 abbrev pub exempted : Log → Log
-exempted w = record { rx = w .rx; tx = w .tx; len = w .len; pipe = w .pipe; awaits = w .awaits; untaken = w .untaken; exempt = true; phase = w .phase; setup-seen = w .setup-seen; wrote = w .wrote }
+exempted w = record {
+  rx = w .rx;
+  tx = w .tx;
+  len = w .len;
+  pipe = w .pipe;
+  awaits = w .awaits;
+  untaken = w .untaken;
+  exempt = true;
+  phase = w .phase;
+  setup-seen = w .setup-seen;
+  wrote = w .wrote;
+}
 
 -- an operation begins: it has written no address
 abbrev pub afresh : Log → Log
 afresh w = withPhase off (withWrote keeps w)
 
 abbrev pub opens : Op → Log → Log
-opens interrupt w = record { rx = w .rx; tx = w .tx; len = w .len; pipe = w .pipe; awaits = w .awaits; untaken = w .untaken; exempt = w .exempt; phase = entered; setup-seen = false; wrote = keeps }
+opens interrupt w = record {
+  rx = w .rx;
+  tx = w .tx;
+  len = w .len;
+  pipe = w .pipe;
+  awaits = w .awaits;
+  untaken = w .untaken;
+  exempt = w .exempt;
+  phase = entered;
+  setup-seen = false;
+  wrote = keeps;
+}
 opens (slotted o) w = afresh w
 opens (other o) w = afresh w
 opens (aside o) w = afresh w

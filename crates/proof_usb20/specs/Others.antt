@@ -19,8 +19,12 @@ use Rattle.model.specs.Cells.{ep-cell, globals-cell, allocator-cell, control-ce
 use Rattle.model.specs.Script.{Script, bind, run, put}
 use Rattle.model.specs.Statics.{flag, withPaced, withSetup}
 use Rattle.model.specs.Answers.{Answer, Refused, Done, resultless}
-use Rattle.model.specs.Control.{SETUP, DATA-OUT, DATA-IN, ACCEPT, requestOf, no-control, dataInOf, addressOf, ends-control, unlessSetup, withinMaximum, requested, aborted-else, acks, take-closing, statusIn}
-use Rattle.model.specs.Calls.{slotted, other, aside, PollDataOut, BeginDataIn, BusEnable, BusDisable, Microframe, IsStalled, SetPaced, Advance, BeginSetup, PollSetup, PollDataIn, BeginAccept, PollAccept, BeginReject, BeginDataOut, BeginAcceptSetAddress, Aside, Open, Close, Queue, asideCode}
+use Rattle.model.specs.Control.{SETUP, DATA-OUT, DATA-IN, ACCEPT, requestOf, no-control, dataInOf, addressOf}
+use Rattle.model.specs.Control.{ends-control, unlessSetup, withinMaximum, requested, aborted-else, acks, take-closing}
+use Rattle.model.specs.Control.{statusIn}
+use Rattle.model.specs.Calls.{slotted, other, aside, PollDataOut, BeginDataIn, BusEnable, BusDisable, Microframe}
+use Rattle.model.specs.Calls.{IsStalled, SetPaced, Advance, BeginSetup, PollSetup, PollDataIn, BeginAccept, PollAccept}
+use Rattle.model.specs.Calls.{BeginReject, BeginDataOut, BeginAcceptSetAddress, Aside, Open, Close, Queue, asideCode}
 use Rattle.model_ops.specs.Rings.{St}
 use Rattle.model_ops.specs.Concrete.{concrete}
 use Rattle.proof_book.specs.Sorting.{Sorting}
@@ -28,7 +32,10 @@ use Rattle.proof_usb20.specs.Sequence.{Track, before}
 use Rattle.proof_usb20.specs.Follow as follow
 use Rattle.proof_usb20.specs.Follow.{Seen, view, Follow, Law}
 use Rattle.proof_usb20.specs.Watch.{at-end}
-use Rattle.proof_usb20.specs.Calm.{Off, Else, Quiet, loose, only, off-idle, off-read, put-globals, put-control, put-paced, q-act, q-bind, q-enabled, q-ep, q-fetch, q-got, q-is, q-look, q-operation, q-put, q-reg, q-resultless, q-ret, q-staged, q-test, q-when, q-write}
+use Rattle.proof_usb20.specs.Calm.{Off, Else, Quiet, loose, only, off-idle, off-read, put-globals, put-control}
+use Rattle.proof_usb20.specs.Calm.{put-paced, q-act, q-bind, q-enabled, q-ep, q-fetch, q-got, q-is, q-look}
+use Rattle.proof_usb20.specs.Calm.{q-operation, q-put, q-reg, q-resultless, q-ret, q-staged, q-test, q-when}
+use Rattle.proof_usb20.specs.Calm.{q-write}
 use Rattle.proof_usb20.specs.CalmParts.{q-completions}
 use Rattle.proof_usb20.specs.Exempt.{differ}
 use Rattle.proof_usb20.specs.Reading as reading
@@ -39,31 +46,49 @@ module _ (D : Dir) (E : ℕ) where
   Q p = Quiet D E false (Off D E) p
 
   pub law-bus-enable : Law D E (other BusEnable)
-  law-bus-enable = quiet-law D E (other BusEnable) refl (λ _ _. refl) (λ _ _. tt) ((q-staged D E) 2 ((q-resultless D E) ((q-bind D E) (off-read D E (λ _. (q-ret D E))) (λ v. (q-write D E) (q-ret D E)))))
+  law-bus-enable = quiet-law D E (other BusEnable) refl (λ _ _. refl) (λ _ _. tt)
+      ((q-staged D E) 2 ((q-resultless D E) ((q-bind D E) (off-read D E (λ _. (q-ret D E))) (λ v. (q-write D E) (q-ret D E)))))
 
   pub law-bus-disable : Law D E (other BusDisable)
   law-bus-disable = quiet-law D E (other BusDisable) refl (λ _ _. refl) (λ _ _. tt) ((q-staged D E) 2 ((q-resultless D E) (q-ret D E)))
 
   pub law-microframe : Law D E (other Microframe)
-  law-microframe = quiet-law D E (other Microframe) refl (λ _ _. refl) (λ _ _. tt) ((q-staged D E) 2 ((q-operation D E) ((q-bind D E) (off-read D E (λ _. (q-ret D E))) (λ v. (q-ret D E)))))
+  law-microframe = quiet-law D E (other Microframe) refl (λ _ _. refl) (λ _ _. tt)
+      ((q-staged D E) 2 ((q-operation D E) ((q-bind D E) (off-read D E (λ _. (q-ret D E))) (λ v. (q-ret D E)))))
 
   pub law-is-stalled : (d : Dir) (e : ℕ) → Law D E (other (IsStalled d e))
-  law-is-stalled d e = quiet-law D E (other (IsStalled d e)) refl (λ _ _. refl) (λ _ _. tt) ((q-staged D E) 2 ((q-test D E) ((q-operation D E) ((q-bind D E) (off-read D E (λ _. (q-ret D E))) (λ v. (q-ret D E)))) (reading.q-named D E d e ((q-operation D E) ((q-bind D E) (off-read D E (λ _. (q-ret D E))) (λ v. (q-ret D E)))))))
+  law-is-stalled d e = quiet-law D E (other (IsStalled d e)) refl (λ _ _. refl) (λ _ _. tt)
+      ((q-staged D E) 2 ((q-test D E) ((q-operation D E) ((q-bind D E) (off-read D E (λ _. (q-ret D E))) (λ v. (q-ret D E))))
+      (reading.q-named D E d e ((q-operation D E) ((q-bind D E) (off-read D E (λ _. (q-ret D E))) (λ v. (q-ret D E)))))))
 
   pub law-set-paced : (e : ℕ) (on : Bool) → Law D E (other (SetPaced e on))
-  law-set-paced e on = quiet-law D E (other (SetPaced e on)) refl (λ _ _. refl) (λ _ _. tt) ((q-staged D E) 2 ((q-test D E) ((q-bind D E) ((q-bind D E) ((q-got D E) globals-cell) (λ g. (q-bind D E) ((q-put D E) (put-globals D E (withPaced (withBit (g .«iso_in_paced») e on) g)) (q-ret D E)) (λ _. (q-put D E) (put-paced D E e NO_FRAME) (q-ret D E)))) (λ _. (q-ret D E))) (q-ret D E)))
+  law-set-paced e on = quiet-law D E (other (SetPaced e on)) refl (λ _ _. refl) (λ _ _. tt)
+      ((q-staged D E) 2 ((q-test D E) ((q-bind D E) ((q-bind D E) ((q-got D E) globals-cell)
+      (λ g. (q-bind D E) ((q-put D E) (put-globals D E (withPaced (withBit (g .«iso_in_paced») e on) g)) (q-ret D E))
+      (λ _. (q-put D E) (put-paced D E e NO_FRAME) (q-ret D E)))) (λ _. (q-ret D E))) (q-ret D E)))
 
   pub law-advance : (e : ℕ) → Law D E (other (Advance e))
-  law-advance e = quiet-law D E (other (Advance e)) refl (λ _ _. refl) (λ _ _. tt) ((q-staged D E) 2 ((q-test D E) ((q-resultless D E) ((q-bind D E) ((q-got D E) globals-cell) (λ g. (q-when D E) ((q-test D E)
-      ((q-bind D E) (off-read D E (λ _. (q-ret D E))) (λ frame. (q-bind D E) ((q-got D E) (paced-cell e)) (λ last. (q-bind D E) (only D E (off-idle D E) ((q-completions D E) (completions last (indexOf frame)) e (λ h. differ h))) (λ _. (q-put D E) (put-paced D E e (frameOf (indexOf frame))) (q-ret D E)))))
+  law-advance e = quiet-law D E (other (Advance e)) refl (λ _ _. refl) (λ _ _. tt)
+      ((q-staged D E) 2 ((q-test D E) ((q-resultless D E) ((q-bind D E) ((q-got D E) globals-cell) (λ g. (q-when D E) ((q-test D E)
+      ((q-bind D E) (off-read D E (λ _. (q-ret D E))) (λ frame. (q-bind D E) ((q-got D E) (paced-cell e))
+      (λ last. (q-bind D E) (only D E (off-idle D E) ((q-completions D E) (completions last (indexOf frame)) e (λ h. differ h)))
+      (λ _. (q-put D E) (put-paced D E e (frameOf (indexOf frame))) (q-ret D E)))))
       ((q-put D E) (put-paced D E e NO_FRAME) (q-ret D E)))))) (q-ret D E)))
 
   -- ---- those that pass during an interrupt
 
   q-aside : (o : Aside) → Q (asideCode o)
-  q-aside (Open e) = (q-staged D E) 2 (reading.q-named D E Out e ((q-bind D E) ((q-got D E) (ep-cell Out e)) (λ s. (q-test D E) (q-ret D E) ((q-bind D E) ((q-is D E) (λ _. (q-ret D E))) (λ b. (q-test D E) ((q-bind D E) ((q-act D E) refl (q-ret D E)) (λ _. (q-bind D E) ((q-fetch D E) (λ _. (q-ret D E))) (λ bytes. (q-bind D E) ((q-look D E) (λ _. (q-ret D E))) (λ stamp. (q-ret D E))))) (q-ret D E))))))
-  q-aside (Close e) = (q-staged D E) 2 (reading.q-named D E Out e ((q-bind D E) ((q-is D E) (λ _. (q-ret D E))) (λ b. (q-test D E) ((q-bind D E) ((q-act D E) refl (q-ret D E)) (λ _. (q-ret D E))) (q-ret D E))))
-  q-aside (Queue e bytes) = (q-staged D E) 2 (reading.q-named D E In e ((q-enabled D E) In e (q-ret D E) ((q-bind D E) ((q-got D E) allocator-cell) (λ a. (q-test D E) (q-ret D E) ((q-bind D E) ((q-got D E) (ep-cell In e)) (λ s. (q-test D E) (q-ret D E) ((q-bind D E) ((q-is D E) (λ _. (q-ret D E))) (λ b. (q-test D E) ((q-bind D E) ((q-act D E) refl (q-ret D E)) (λ _. (q-ret D E))) (q-ret D E)))))))))
+  q-aside (Open e) = (q-staged D E) 2
+      (reading.q-named D E Out e ((q-bind D E) ((q-got D E) (ep-cell Out e)) (λ s. (q-test D E) (q-ret D E)
+      ((q-bind D E) ((q-is D E) (λ _. (q-ret D E))) (λ b. (q-test D E) ((q-bind D E) ((q-act D E) refl (q-ret D E)) (λ _. (q-bind D E)
+      ((q-fetch D E) (λ _. (q-ret D E))) (λ bytes. (q-bind D E) ((q-look D E) (λ _. (q-ret D E))) (λ stamp. (q-ret D E))))) (q-ret D E))))))
+  q-aside (Close e) = (q-staged D E) 2
+      (reading.q-named D E Out e ((q-bind D E) ((q-is D E) (λ _. (q-ret D E)))
+      (λ b. (q-test D E) ((q-bind D E) ((q-act D E) refl (q-ret D E)) (λ _. (q-ret D E))) (q-ret D E))))
+  q-aside (Queue e bytes) = (q-staged D E) 2
+      (reading.q-named D E In e ((q-enabled D E) In e (q-ret D E) ((q-bind D E) ((q-got D E) allocator-cell)
+      (λ a. (q-test D E) (q-ret D E) ((q-bind D E) ((q-got D E) (ep-cell In e)) (λ s. (q-test D E) (q-ret D E) ((q-bind D E)
+      ((q-is D E) (λ _. (q-ret D E))) (λ b. (q-test D E) ((q-bind D E) ((q-act D E) refl (q-ret D E)) (λ _. (q-ret D E))) (q-ret D E)))))))))
 
   pub law-aside : (o : Aside) → Law D E (aside o)
   law-aside o = quiet-law D E (aside o) refl (λ _ _. refl) (λ _ _. tt) (q-aside o)
@@ -74,7 +99,9 @@ module _ (D : Dir) (E : ℕ) where
 
   pub aside-view : (o : Aside) (d : Driver) (b : Buf) (a : Answer) (t : St) → Sorting d
       → run concrete (asideCode o) (d, b) ≡ tree.ends a t → view D E (t .0) ≡ view D E d
-  aside-view o d b a t z h = ended-view (subst (Follow D E (λ _ _ t. view D E (t .0) ≡ view D E d) before) h (follow.follow-more D E (q-aside o .goes before (d, b) (refl, λ _ _ _ _. refl) (loose D E (z .places))) (λ _ _ _ m. m .1)))
+  aside-view o d b a t z h = ended-view
+      (subst (Follow D E (λ _ _ t. view D E (t .0) ≡ view D E d) before) h
+      (follow.follow-more D E (q-aside o .goes before (d, b) (refl, λ _ _ _ _. refl) (loose D E (z .places))) (λ _ _ _ m. m .1)))
 
   -- ---- EP0's
 
@@ -105,27 +132,41 @@ module _ (D : Dir) (E : ℕ) where
     law-setup = quiet-law D E (other BeginSetup) refl (λ _ _. refl) (λ _ _. tt) ((q-staged D E) 2 (q-begins (requestOf SETUP 0) (q-ret D E)))
 
     pub law-poll-setup : Law D E (other PollSetup)
-    law-poll-setup = quiet-law D E (other PollSetup) refl (λ _ _. refl) (λ _ _. tt) ((q-staged D E) 2 (q-requested SETUP (λ c. (q-bind D E) ((q-got D E) globals-cell) (λ g. (q-test D E) ((q-bind D E) ((q-put D E) (put-globals D E (withSetup 0 (g .«setup_low») (g .«setup_high») g)) (q-ret D E)) (λ _. q-over _)) (q-ret D E)))))
+    law-poll-setup = quiet-law D E (other PollSetup) refl (λ _ _. refl) (λ _ _. tt)
+        ((q-staged D E) 2 (q-requested SETUP (λ c. (q-bind D E) ((q-got D E) globals-cell) (λ g. (q-test D E)
+        ((q-bind D E) ((q-put D E) (put-globals D E (withSetup 0 (g .«setup_low») (g .«setup_high») g)) (q-ret D E)) (λ _. q-over _)) (q-ret D E)))))
 
     pub law-data-out : (n : ℕ) (first : Bool) → Law D E (other (BeginDataOut n first))
-    law-data-out n first = quiet-law D E (other (BeginDataOut n first)) refl (λ _ _. refl) (λ _ _. tt) ((q-staged D E) 2 (q-within n (q-setup-else (q-begins (requestOf DATA-OUT n) ((q-bind D E) ((q-ep D E) Out 0 _ (o Out)) (λ _. q-acks Out first))))))
+    law-data-out n first = quiet-law D E (other (BeginDataOut n first)) refl (λ _ _. refl) (λ _ _. tt)
+        ((q-staged D E) 2
+        (q-within n (q-setup-else (q-begins (requestOf DATA-OUT n) ((q-bind D E) ((q-ep D E) Out 0 _ (o Out)) (λ _. q-acks Out first))))))
 
     pub law-poll-data-out : (n : ℕ) → Law D E (slotted (PollDataOut n))
     law-poll-data-out n = quiet-law D E (slotted (PollDataOut n)) refl (λ _ _. refl) (λ _ _. tt) ((q-staged D E) 2 (q-requested DATA-OUT (λ c. (q-test D E)
-        ((q-bind D E) ((q-got D E) (ep-cell Out 0)) (λ s. (q-test D E) ((q-bind D E) ((q-ep D E) Out 0 _ (o Out)) (λ _. (q-test D E) (q-over (Refused 10)) ((q-bind D E) ((q-fetch D E) (λ _. (q-ret D E))) (λ bytes. q-over (Done bytes))))) (q-aborted (q-ret D E))))
+        ((q-bind D E) ((q-got D E) (ep-cell Out 0))
+        (λ s. (q-test D E) ((q-bind D E) ((q-ep D E) Out 0 _ (o Out)) (λ _. (q-test D E) (q-over (Refused 10))
+        ((q-bind D E) ((q-fetch D E) (λ _. (q-ret D E))) (λ bytes. q-over (Done bytes))))) (q-aborted (q-ret D E))))
         ((q-bind D E) ((q-ep D E) Out 0 _ (o Out)) (λ _. q-over (Refused 10))))))
 
     pub law-data-in : (bytes : List ℕ) (first last : Bool) → Law D E (slotted (BeginDataIn bytes first last))
-    law-data-in bytes first last = quiet-law D E (slotted (BeginDataIn bytes first last)) refl (λ _ _. refl) (λ _ _. tt) ((q-staged D E) 2 (q-within (length bytes) (q-setup-else (q-begins (dataInOf (length bytes) (flag last) 1)
-        ((q-bind D E) ((q-act D E) refl (q-ret D E)) (λ _. (q-bind D E) ((q-ep D E) In 0 _ (o In)) (λ _. (q-bind D E) ((q-when D E) ((q-bind D E) ((q-ep D E) Out 0 _ (o Out)) (λ _. (q-write D E) (q-ret D E)))) (λ _. (q-bind D E) ((q-ep D E) In 0 _ (o In)) (λ _. (q-bind D E) ((q-write D E) (q-ret D E)) (λ _. q-acks In first))))))))))
+    law-data-in bytes first last = quiet-law D E (slotted (BeginDataIn bytes first last)) refl (λ _ _. refl) (λ _ _. tt)
+        ((q-staged D E) 2 (q-within (length bytes) (q-setup-else (q-begins (dataInOf (length bytes) (flag last) 1)
+        ((q-bind D E) ((q-act D E) refl (q-ret D E)) (λ _. (q-bind D E) ((q-ep D E) In 0 _ (o In))
+        (λ _. (q-bind D E) ((q-when D E) ((q-bind D E) ((q-ep D E) Out 0 _ (o Out)) (λ _. (q-write D E) (q-ret D E))))
+        (λ _. (q-bind D E) ((q-ep D E) In 0 _ (o In)) (λ _. (q-bind D E) ((q-write D E) (q-ret D E)) (λ _. q-acks In first))))))))))
 
     q-closing : {i : Bool} (now : Bool) (c : Control) → Q (take-closing {i = i} now c)
-    q-closing now c = (q-bind D E) ((q-got D E) (ep-cell Out 0)) (λ s. (q-test D E) ((q-bind D E) ((q-ep D E) Out 0 _ (o Out)) (λ _. (q-bind D E) ((q-when D E) ((q-ep D E) In 0 _ (o In))) (λ _. q-over _)))
-        (q-aborted ((q-bind D E) ((q-when D E) ((q-bind D E) ((q-ep D E) In 0 _ (o In)) (λ _. (q-put D E) (put-control D E (dataInOf (c .length) (c .last) 2)) (q-ret D E)))) (λ _. (q-ret D E)))))
+    q-closing now c = (q-bind D E) ((q-got D E) (ep-cell Out 0))
+        (λ s. (q-test D E)
+        ((q-bind D E) ((q-ep D E) Out 0 _ (o Out)) (λ _. (q-bind D E) ((q-when D E) ((q-ep D E) In 0 _ (o In))) (λ _. q-over _)))
+        (q-aborted ((q-bind D E) ((q-when D E) ((q-bind D E) ((q-ep D E) In 0 _ (o In))
+        (λ _. (q-put D E) (put-control D E (dataInOf (c .length) (c .last) 2)) (q-ret D E)))) (λ _. (q-ret D E)))))
 
     pub law-poll-data-in : Law D E (other PollDataIn)
-    law-poll-data-in = quiet-law D E (other PollDataIn) refl (λ _ _. refl) (λ _ _. tt) ((q-staged D E) 2 (q-requested DATA-IN (λ c. (q-test D E) (q-closing false c)
-        ((q-bind D E) ((q-got D E) (ep-cell In 0)) (λ s. (q-test D E) ((q-test D E) (q-closing true c) ((q-bind D E) ((q-ep D E) In 0 _ (o In)) (λ _. q-over (Done [])))) (q-aborted (q-ret D E)))))))
+    law-poll-data-in = quiet-law D E (other PollDataIn) refl
+        (λ _ _. refl) (λ _ _. tt) ((q-staged D E) 2 (q-requested DATA-IN (λ c. (q-test D E) (q-closing false c)
+        ((q-bind D E) ((q-got D E) (ep-cell In 0)) (λ s. (q-test D E)
+        ((q-test D E) (q-closing true c) ((q-bind D E) ((q-ep D E) In 0 _ (o In)) (λ _. q-over (Done [])))) (q-aborted (q-ret D E)))))))
 
     q-status : {i : Bool} → Q (statusIn {i = i})
     q-status = (q-bind D E) ((q-ep D E) In 0 _ (o In)) (λ _. (q-bind D E) ((q-write D E) (q-ret D E)) (λ _. (q-reg D E) EpTxCtrl 0 _))
@@ -134,11 +175,16 @@ module _ (D : Dir) (E : ℕ) where
     law-accept = quiet-law D E (other BeginAccept) refl (λ _ _. refl) (λ _ _. tt) ((q-staged D E) 2 (q-setup-else (q-begins (requestOf ACCEPT 0) q-status)))
 
     pub law-accept-address : (a : ℕ) → Law D E (other (BeginAcceptSetAddress a))
-    law-accept-address a = quiet-law D E (other (BeginAcceptSetAddress a)) refl (λ _ _. refl) (λ _ _. tt) ((q-staged D E) 2 (q-setup-else (q-begins (addressOf (a % 256)) q-status)))
+    law-accept-address a = quiet-law D E (other (BeginAcceptSetAddress a)) refl
+        (λ _ _. refl) (λ _ _. tt) ((q-staged D E) 2 (q-setup-else (q-begins (addressOf (a % 256)) q-status)))
 
     pub law-poll-accept : Law D E (other PollAccept)
-    law-poll-accept = quiet-law D E (other PollAccept) refl (λ _ _. refl) (λ _ _. tt) ((q-staged D E) 2 (q-requested ACCEPT (λ c. (q-bind D E) ((q-got D E) (ep-cell In 0)) (λ s. (q-test D E)
-        ((q-bind D E) ((q-ep D E) In 0 _ (o In)) (λ _. (q-bind D E) ((q-put D E) (put-control D E no-control) (q-ret D E)) (λ _. (q-test D E) ((q-resultless D E) ((q-write D E) (q-ret D E))) (q-ret D E)))) (q-aborted (q-ret D E))))))
+    law-poll-accept = quiet-law D E (other PollAccept) refl (λ _ _. refl) (λ _ _. tt)
+        ((q-staged D E) 2 (q-requested ACCEPT (λ c. (q-bind D E) ((q-got D E) (ep-cell In 0)) (λ s. (q-test D E)
+        ((q-bind D E) ((q-ep D E) In 0 _ (o In)) (λ _. (q-bind D E) ((q-put D E) (put-control D E no-control) (q-ret D E))
+        (λ _. (q-test D E) ((q-resultless D E) ((q-write D E) (q-ret D E))) (q-ret D E)))) (q-aborted (q-ret D E))))))
 
     pub law-reject : Law D E (other BeginReject)
-    law-reject = quiet-law D E (other BeginReject) refl (λ _ _. refl) (λ _ _. tt) ((q-staged D E) 2 (q-begins no-control ((q-bind D E) ((q-ep D E) Out 0 _ (o Out)) (λ _. (q-bind D E) ((q-ep D E) In 0 _ (o In)) (λ _. (q-bind D E) ((q-reg D E) EpTxCtrl 0 _) (λ _. (q-reg D E) EpRxCtrl 0 _))))))
+    law-reject = quiet-law D E (other BeginReject) refl (λ _ _. refl) (λ _ _. tt)
+        ((q-staged D E) 2 (q-begins no-control ((q-bind D E) ((q-ep D E) Out 0 _ (o Out))
+        (λ _. (q-bind D E) ((q-ep D E) In 0 _ (o In)) (λ _. (q-bind D E) ((q-reg D E) EpTxCtrl 0 _) (λ _. (q-reg D E) EpRxCtrl 0 _))))))

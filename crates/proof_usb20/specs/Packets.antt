@@ -88,18 +88,35 @@ module _ (d : Dir) (e : ℕ) (r : EpCore) (k : Wakes) (p : Pid) where
       (λ x. differ (sym y ∙ (ap (λ (q : EpCore). repeated q word) (sym (h .0)) ∙ x)))
       (λ _.
       let v = withArmed 0 (withTog (flag (isData1 word)) (concrete .get (ep-cell d e) u)) in
-      at-end (refl, put-get v u (h .1 .0) refl ∙ (ap (λ (q : EpCore). withArmed 0 (withTog (flag (isData1 word)) q)) (h .0) ∙ ap (λ (m : ℕ). withArmed 0 (withTog m r)) (shown p word b)), n, put-steady (ep-cell d e) v u .places ∙ h .1 .0, h .1 .1))
+      at-end (
+        refl,
+        put-get v u (h .1 .0) refl ∙ (ap (λ (q : EpCore). withArmed 0 (withTog (flag (isData1 word)) q)) (h .0)
+            ∙ ap (λ (m : ℕ). withArmed 0 (withTog m r)) (shown p word b)),
+        n,
+        put-steady (ep-cell d e) v u .places ∙ h .1 .0,
+        h .1 .1,
+      ))
   judged i false ws n u word h b y = every-cond (repeated (concrete .get (ep-cell d e) u) word)
       (λ _. every-bind {P = λ ws _ t. (concrete .get (ep-cell d e) t ≡ r) × Answered d e p (isOn (r .armed)) ws × (t .0 .wakes ≡ k)}
       (every-cond (isOn (concrete .get (ep-cell d e) u .armed))
-      (λ a. at-ask tt (λ w t c q. at-ask tt (λ _ t′ _ q′. at-end (q′ .0 ∙ (q .0 ∙ h .0), rw (sym (ap (λ (z : EpCore). isOn (z .armed)) (h .0)) ∙ a) (record { word = ack w; writes = ap (λ l. Write (ctrlOf d) e (ack w) ∷ l) n; acks = ack-acks w; keeps = ack-keeps w ∙ c refl }), q′ .1 .1))))
+      (λ a. at-ask tt (λ w t c q. at-ask tt (λ _ t′ _ q′. at-end (
+        q′ .0 ∙ (q .0 ∙ h .0),
+        rw (sym (ap (λ (z : EpCore). isOn (z .armed)) (h .0)) ∙ a) (record {
+          word = ack w;
+          writes = ap (λ l. Write (ctrlOf d) e (ack w) ∷ l) n;
+          acks = ack-acks w;
+          keeps = ack-keeps w ∙ c refl;
+        }),
+        q′ .1 .1,
+      ))))
       (λ a. at-end (h .0, rw (sym (ap (λ (z : EpCore). isOn (z .armed)) (h .0)) ∙ a) n, h .1 .1)))
       (λ g _ t x. at-end (refl, x .0, x .1, x .2)))
       (λ x. differ (sym x ∙ (ap (λ (q : EpCore). repeated q word) (h .0) ∙ y)))
 
   pub told : (i new : Bool) (s : St) → Same s → ((word : ℕ) → toggle word ≡ number p → repeated r word ≡ not new)
       → Runs (Judged new) [] (run concrete (toggled {i = i} d e) s)
-  told i new s h y = every-bind (looked i 2001 s h) (λ g _ t x. at-ask tt (λ word u c q. judged i new g (x .0) u word (q .0 ∙ x .1 .0, q .1) (c refl) (y word (c refl))))
+  told i new s h y = every-bind (looked i 2001 s h)
+      (λ g _ t x. at-ask tt (λ word u c q. judged i new g (x .0) u word (q .0 ∙ x .1 .0, q .1) (c refl) (y word (c refl))))
 
 wake-leaves : (d : Dir) (e : ℕ) (cs : List ℕ) (s : St)
     → concrete .get (ep-cell d e) (concrete .act (waken cs) s) ≡ concrete .get (ep-cell d e) s
@@ -115,19 +132,29 @@ judges r p new h word b = ap (eqb (r .tog)) (shown p word b) ∙ h
 pub out-packet : (x : Transfer) (s : St) (p : Pid) (new : Bool) → eqb (endpoint (x .st)) 0 ≡ false → Whole s
     → let e = endpoint (x .st) in let r = concrete .get (ep-cell Out e) s in
     eqb (r .tog) (number p) ≡ not new
-    → Every (toggling Out e p) (Stay Out e (s .0 .wakes)) (λ _. Unit {0}) (λ ws _ t. Passed Out e r (s .0 .wakes) p (x .len) new ws t) [] (run concrete (outArm {i = true} x false) s)
+    → Every (toggling Out e p) (Stay Out e (s .0 .wakes)) (λ _. Unit {0})
+    (λ ws _ t. Passed Out e r (s .0 .wakes) p (x .len) new ws t) [] (run concrete (outArm {i = true} x false) s)
 unfolding withOn
 out-packet x s p new o h y =
     let e = endpoint (x .st) in let r = concrete .get (ep-cell Out e) s in let k = s .0 .wakes in
-    every-cond (eqb e 0) (λ z. differ (sym o ∙ z)) (λ _. every-bind (told Out e r k p true new s (refl, (h, refl)) (judges r p new y)) (λ ws b t j. go new ws b t j))
+    every-cond (eqb e 0) (λ z. differ (sym o ∙ z))
+    (λ _. every-bind (told Out e r k p true new s (refl, (h, refl)) (judges r p new y)) (λ ws b t j. go new ws b t j))
   where
     go : (new : Bool) (ws : List Access) (b : Bool) (t : St)
         → Judged Out (endpoint (x .st)) (concrete .get (ep-cell Out (endpoint (x .st))) s) (s .0 .wakes) p new ws b t
-        → Every (toggling Out (endpoint (x .st)) p) (Stay Out (endpoint (x .st)) (s .0 .wakes)) (λ _. Unit {0}) (λ ws _ t. Passed Out (endpoint (x .st)) (concrete .get (ep-cell Out (endpoint (x .st))) s) (s .0 .wakes) p (x .len) new ws t) ws (run {i = true} concrete (when b (received (endpoint (x .st)) (x .len))) t)
+        → Every (toggling Out (endpoint (x .st)) p) (Stay Out (endpoint (x .st)) (s .0 .wakes)) (λ _. Unit {0})
+        (λ ws _ t. Passed Out (endpoint (x .st)) (concrete .get (ep-cell Out (endpoint (x .st))) s) (s .0 .wakes) p
+        (x .len) new ws t) ws (run {i = true} concrete (when b (received (endpoint (x .st)) (x .len))) t)
     go true ws b t j = every-cond b
         (λ _.
         let e = endpoint (x .st) in let v = completed (withLen (x .len) (concrete .get (ep-cell Out e) t)) in
-        at-end (wake-leaves Out e (wakeCode Out e ∷ []) (concrete .put (ep-cell Out e) v t) ∙ (put-get Out e (concrete .get (ep-cell Out e) s) (s .0 .wakes) p v t (j .3) refl ∙ ap (λ (q : EpCore). completed (withLen (x .len) q)) (j .1)), ap (all-woken (wakeCode Out e ∷ [])) (j .4), j .2))
+        at-end (
+          wake-leaves Out e (wakeCode Out e ∷ []) (concrete .put (ep-cell Out e) v t)
+              ∙ (put-get Out e (concrete .get (ep-cell Out e) s) (s .0 .wakes) p v t (j .3) refl
+              ∙ ap (λ (q : EpCore). completed (withLen (x .len) q)) (j .1)),
+          ap (all-woken (wakeCode Out e ∷ [])) (j .4),
+          j .2,
+        ))
         (λ z. differ (sym z ∙ j .0))
     go false ws b t j = every-cond b (λ z. differ (sym (j .0) ∙ z)) (λ _. at-end (j .1, j .3, j .2))
 
@@ -135,19 +162,28 @@ out-packet x s p new o h y =
 pub in-packet : (x : Transfer) (s : St) (frame : ℕ) (p : Pid) (new : Bool) → eqb (endpoint (x .st)) 0 ≡ false → Whole s
     → let e = endpoint (x .st) in let r = concrete .get (ep-cell In e) s in
     eqb (r .tog) (number p) ≡ not new
-    → Every (toggling In e p) (Stay In e (s .0 .wakes)) (λ _. Unit {0}) (λ ws _ t. Passed In e r (s .0 .wakes) p (x .len) new ws t) [] (run concrete (inArm {i = true} x false frame) s)
+    → Every (toggling In e p) (Stay In e (s .0 .wakes)) (λ _. Unit {0})
+    (λ ws _ t. Passed In e r (s .0 .wakes) p (x .len) new ws t) [] (run concrete (inArm {i = true} x false frame) s)
 unfolding withOn
 in-packet x s frame p new o h y =
     let e = endpoint (x .st) in let r = concrete .get (ep-cell In e) s in let k = s .0 .wakes in
-    every-cond (eqb e 0) (λ z. differ (sym o ∙ z)) (λ _. every-bind (told In e r k p true new s (refl, (h, refl)) (judges r p new y)) (λ ws b t j. go new ws b t j))
+    every-cond (eqb e 0) (λ z. differ (sym o ∙ z))
+    (λ _. every-bind (told In e r k p true new s (refl, (h, refl)) (judges r p new y)) (λ ws b t j. go new ws b t j))
   where
     go : (new : Bool) (ws : List Access) (b : Bool) (t : St)
         → Judged In (endpoint (x .st)) (concrete .get (ep-cell In (endpoint (x .st))) s) (s .0 .wakes) p new ws b t
-        → Every (toggling In (endpoint (x .st)) p) (Stay In (endpoint (x .st)) (s .0 .wakes)) (λ _. Unit {0}) (λ ws _ t. Passed In (endpoint (x .st)) (concrete .get (ep-cell In (endpoint (x .st))) s) (s .0 .wakes) p (x .len) new ws t) ws (run {i = true} concrete (when b (sent (endpoint (x .st)))) t)
+        → Every (toggling In (endpoint (x .st)) p) (Stay In (endpoint (x .st)) (s .0 .wakes)) (λ _. Unit {0})
+        (λ ws _ t. Passed In (endpoint (x .st)) (concrete .get (ep-cell In (endpoint (x .st))) s) (s .0 .wakes) p (x .len) new ws t) ws
+        (run {i = true} concrete (when b (sent (endpoint (x .st)))) t)
     go true ws b t j = every-cond b
         (λ _.
         let e = endpoint (x .st) in let v = withReady 1 (concrete .get (ep-cell In e) t) in
-        at-end (wake-leaves In e (wakeCode In e ∷ []) (concrete .put (ep-cell In e) v t) ∙ (put-get In e (concrete .get (ep-cell In e) s) (s .0 .wakes) p v t (j .3) refl ∙ ap (withReady 1) (j .1)), ap (all-woken (wakeCode In e ∷ [])) (j .4), j .2))
+        at-end (
+          wake-leaves In e (wakeCode In e ∷ []) (concrete .put (ep-cell In e) v t)
+              ∙ (put-get In e (concrete .get (ep-cell In e) s) (s .0 .wakes) p v t (j .3) refl ∙ ap (withReady 1) (j .1)),
+          ap (all-woken (wakeCode In e ∷ [])) (j .4),
+          j .2,
+        ))
         (λ z. differ (sym z ∙ j .0))
     go false ws b t j = every-cond b (λ z. differ (sym (j .0) ∙ z)) (λ _. at-end (j .1, j .3, j .2))
 

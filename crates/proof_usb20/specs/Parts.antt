@@ -18,7 +18,8 @@ use Rattle.state.specs.declared.Globals.{Globals}
 use Rattle.model.specs.declared.Transfer.{Transfer}
 use Rattle.model.specs.Cells.{EpCore, Cell, ep-cell, globals-cell}
 use Rattle.model.specs.Script.{Script, when, get}
-use Rattle.model.specs.Statics.{wake, completed, withLen, withReady, withTog, withArmed, withSofFrame, withLastFrame, flag, isoInEvery, isoOuts, modify, modifyEp, modifyReg}
+use Rattle.model.specs.Statics.{wake, completed, withLen, withReady, withTog, withArmed, withSofFrame, withLastFrame}
+use Rattle.model.specs.Statics.{flag, isoInEvery, isoOuts, modify, modifyEp, modifyReg}
 use Rattle.model.specs.IsoIn.{firstInFrame, isoInComplete, unseen, sofOne, sofWalk, onSof, lateWalk}
 use Rattle.model.specs.IsoOut.{arrives, checkWalk, isoOutCheck}
 use Rattle.model.specs.Handler.{looks, toggled, received, sent, sofArm, dispatch}
@@ -28,7 +29,9 @@ use Rattle.proof_book.specs.TransferKindsLaws.{put-steady}
 use Rattle.frame.specs.Usb20.{indexOf, frameOf}
 use Rattle.frame.specs.Advance.{previous}
 use Rattle.proof_usb20.specs.Watch.{at-end}
-use Rattle.proof_usb20.specs.Quiet.{Quiet, steadily, q-ret, q-bind, q-test, q-if, q-read, q-write, q-callback, q-get, q-is, q-look, q-act, q-hand, q-modify, Other, put-other, put-frame, put-kept, other-word, other-length, q-every}
+use Rattle.proof_usb20.specs.Quiet.{Quiet, steadily, q-ret, q-bind, q-test, q-if, q-read, q-write, q-callback}
+use Rattle.proof_usb20.specs.Quiet.{q-get, q-is, q-look, q-act, q-hand, q-modify, Other, put-other, put-frame}
+use Rattle.proof_usb20.specs.Quiet.{put-kept, other-word, other-length, q-every}
 use Rattle.proof_usb20.specs.Walks.{Each}
 
 -- ---- small ones
@@ -80,16 +83,29 @@ q-sent e o = q-bind (q-ep In e (withReady 1) o) (λ _. q-wake In e)
 -- ---- isochronous IN
 
 pub q-complete : {i : Bool} (e : ℕ) → eqb e 0 ≡ false → Quiet (isoInComplete {i = i} e)
-q-complete e h = q-bind (q-act refl q-ret) (λ _. q-bind (q-bind (q-is (λ _. q-ret)) (λ b. q-test (q-bind (q-hand q-ret) (λ _. q-bind (q-look (λ _. q-ret)) (λ n. q-write (other-length e n h) q-ret))) (q-write (other-length e 0 h) q-ret))) (λ _. q-wake In e))
+q-complete e h = q-bind (q-act refl q-ret)
+    (λ _. q-bind (q-bind (q-is (λ _. q-ret))
+    (λ b. q-test (q-bind (q-hand q-ret) (λ _. q-bind (q-look (λ _. q-ret)) (λ n. q-write (other-length e n h) q-ret)))
+    (q-write (other-length e 0 h) q-ret))) (λ _. q-wake In e))
 
 q-first : {i : Bool} (e frame : ℕ) → Quiet (firstInFrame {i = i} e frame)
-q-first e frame = record { goes = λ w s z k. at-end (refl, put-frame In e frame s, steadily (put-steady (ep-cell In e) (withLastFrame frame (concrete .get (ep-cell In e) s)) s) k) }
+q-first e frame = record {
+  goes = λ w s z k. at-end (
+    refl,
+    put-frame In e frame s,
+    steadily (put-steady (ep-cell In e) (withLastFrame frame (concrete .get (ep-cell In e) s)) s) k,
+  );
+}
 
 q-unseen : {i : Bool} (frame e : ℕ) → eqb e 0 ≡ false → Quiet (unseen {i = i} frame e)
-q-unseen frame e h = q-bind (q-modify (ep-cell In e) (withLastFrame (frameOf (previous (indexOf frame)))) (λ s. put-frame In e (frameOf (previous (indexOf frame))) s)) (λ _. q-complete e h)
+q-unseen frame e h = q-bind
+    (q-modify (ep-cell In e) (withLastFrame (frameOf (previous (indexOf frame))))
+    (λ s. put-frame In e (frameOf (previous (indexOf frame))) s)) (λ _. q-complete e h)
 
 q-sof-one : {i : Bool} (frame e : ℕ) → eqb e 0 ≡ false → Quiet (sofOne {i = i} frame e)
-q-sof-one frame e h = q-bind (q-got (ep-cell In e)) (λ s. q-test q-ret (q-bind (q-read (λ _. q-ret)) (λ m. q-test (q-unseen frame e h) (q-bind (q-read (λ _. q-ret)) (λ st. q-test q-ret (q-unseen frame e h))))))
+q-sof-one frame e h = q-bind (q-got (ep-cell In e))
+    (λ s. q-test q-ret
+    (q-bind (q-read (λ _. q-ret)) (λ m. q-test (q-unseen frame e h) (q-bind (q-read (λ _. q-ret)) (λ st. q-test q-ret (q-unseen frame e h))))))
 
 q-sof-walk : {i : Bool} (frame : ℕ) (es : List ℕ) → Each (λ e. eqb e 0 ≡ false) es → Quiet (sofWalk {i = i} frame es)
 unfolding sofWalk
@@ -97,7 +113,8 @@ q-sof-walk frame [] h = q-ret
 q-sof-walk frame (e ∷ es) h = q-bind (q-sof-one frame e (h .0)) (λ _. q-sof-walk frame es (h .1))
 
 pub q-sof : {i : Bool} (frame : ℕ) → Quiet (onSof {i = i} frame)
-q-sof frame = q-bind (q-globals (withSofFrame frame) (λ _. refl)) (λ _. q-every (λ g m. q-bind (q-sof-walk frame (setBits (isoInEvery g)) m) (λ _. q-bind (q-got globals-cell) (λ g. q-when (q-callback q-ret)))))
+q-sof frame = q-bind (q-globals (withSofFrame frame) (λ _. refl))
+    (λ _. q-every (λ g m. q-bind (q-sof-walk frame (setBits (isoInEvery g)) m) (λ _. q-bind (q-got globals-cell) (λ g. q-when (q-callback q-ret)))))
 
 pub q-late : {i : Bool} (frame : ℕ) (es : List ℕ) → Each (λ e. eqb e 0 ≡ false) es → Quiet (lateWalk {i = i} frame es)
 unfolding lateWalk
@@ -112,7 +129,9 @@ q-arrives e n = q-bind (q-hand q-ret) (λ _. q-wake Out e)
 q-walk : {i : Bool} (x : Transfer) (iso : Bool) (es : List ℕ) → Quiet (checkWalk {i = i} x iso es)
 unfolding checkWalk
 q-walk x iso [] = q-ret
-q-walk x iso (e ∷ es) = q-bind (q-bind (q-is (λ _. q-ret)) (λ b. q-when (q-test (q-arrives e (x .len)) (q-bind (q-read (λ _. q-ret)) (λ st. q-test q-ret (q-bind (q-look (λ _. q-ret)) (λ n. q-arrives e n))))))) (λ _. q-walk x iso es)
+q-walk x iso (e ∷ es) = q-bind
+    (q-bind (q-is (λ _. q-ret)) (λ b. q-when (q-test (q-arrives e (x .len))
+    (q-bind (q-read (λ _. q-ret)) (λ st. q-test q-ret (q-bind (q-look (λ _. q-ret)) (λ n. q-arrives e n))))))) (λ _. q-walk x iso es)
 
 pub q-check : {i : Bool} (x : Transfer) (iso : Bool) → Quiet (isoOutCheck {i = i} x iso)
 q-check x iso = q-bind (q-got globals-cell) (λ g. q-walk x iso (setBits (isoOuts g)))
@@ -125,7 +144,11 @@ q-sof-arm frame = q-bind (q-got globals-cell) (λ g. q-when (q-sof frame))
 pub q-dispatch : {i : Bool} (t : Token) (x : Transfer) (iso : Bool) (frame : ℕ) → eqb (endpoint (x .st)) 0 ≡ false
     → Quiet (dispatch {i = i} t x iso frame)
 q-dispatch tok.Sof x iso frame h = q-sof-arm frame
-q-dispatch tok.Out x iso frame h = q-test q-ret (q-if (eqb (endpoint (x .st)) 0) (λ z. differ (sym h ∙ z)) (λ _. q-bind (q-toggled Out (endpoint (x .st)) h (not-0 (x .st) h)) (λ b. q-when (q-received (endpoint (x .st)) (x .len) (not-0 (x .st) h)))))
-q-dispatch tok.In x iso frame h = q-test (q-bind (q-got globals-cell) (λ g. q-test q-ret (q-bind (q-first (endpoint (x .st)) frame) (λ b. q-when (q-complete (endpoint (x .st)) h)))))
-    (q-if (eqb (endpoint (x .st)) 0) (λ z. differ (sym h ∙ z)) (λ _. q-bind (q-toggled In (endpoint (x .st)) h (not-0 (x .st) h)) (λ b. q-when (q-sent (endpoint (x .st)) (not-0 (x .st) h)))))
+q-dispatch tok.Out x iso frame h = q-test q-ret
+    (q-if (eqb (endpoint (x .st)) 0) (λ z. differ (sym h ∙ z))
+    (λ _. q-bind (q-toggled Out (endpoint (x .st)) h (not-0 (x .st) h)) (λ b. q-when (q-received (endpoint (x .st)) (x .len) (not-0 (x .st) h)))))
+q-dispatch tok.In x iso frame h = q-test
+    (q-bind (q-got globals-cell) (λ g. q-test q-ret (q-bind (q-first (endpoint (x .st)) frame) (λ b. q-when (q-complete (endpoint (x .st)) h)))))
+    (q-if (eqb (endpoint (x .st)) 0) (λ z. differ (sym h ∙ z))
+    (λ _. q-bind (q-toggled In (endpoint (x .st)) h (not-0 (x .st) h)) (λ b. q-when (q-sent (endpoint (x .st)) (not-0 (x .st) h)))))
 q-dispatch tok.Setup x iso frame h = q-ret

@@ -36,7 +36,8 @@ use Rattle.proof_usb20.specs.Stages.{outWith, inWith, Whole, out-view, i
 -- ---- a request that is over
 
 pub rested : {p : Pipe} {x : View} → x .control ≡ no-control → Rests p x
-rested e = no-request (λ q. absurd (omega (arith, q, ap (λ (c : Control). c .sort) e))) (λ q. absurd (omega (arith, q, ap (λ (c : Control). c .sort) e))) (λ q. absurd (omega (arith, q, ap (λ (c : Control). c .sort) e)))
+rested e = no-request (λ q. absurd (omega (arith, q, ap (λ (c : Control). c .sort) e)))
+    (λ q. absurd (omega (arith, q, ap (λ (c : Control). c .sort) e))) (λ q. absurd (omega (arith, q, ap (λ (c : Control). c .sort) e)))
 
 -- records whose `ready` alone changed
 pub record Kin (x y : View) : Type 0 where
@@ -50,7 +51,14 @@ refit e f = record { shows = f .shows; toggles = f .toggles; armed = ap isOn e �
 
 pub over-now : {ex : Bool} {rx tx l : ℕ} {p : Pipe} {a : Awaited} {u : Bool} {x y : View} → Rel rx tx l p a u x
     → Kin x y → y .control ≡ no-control → (ex ≡ true) ⊎ Rel rx tx l p nothing u y
-over-now r k c = inr (record { stage = k .stage ∙ r .stage; out = refit (k .out) (r .out); inn = refit (k .inn) (r .inn); waits = rested c; size = r .size; setup = ap isOn (k .setup) ∙ r .setup })
+over-now r k c = inr (record {
+  stage = k .stage ∙ r .stage;
+  out = refit (k .out) (r .out);
+  inn = refit (k .inn) (r .inn);
+  waits = rested c;
+  size = r .size;
+  setup = ap isOn (k .setup) ∙ r .setup;
+})
 
 -- ---- the states
 
@@ -67,13 +75,19 @@ kin-none : (s : St) → Kin (view (s .0)) (view (none s .0))
 kin-none s = kin-by (view (s .0)) (none-view s) (record { out = refl; inn = refl; stage = refl; setup = refl })
 
 kin-out : (s : St) → Whole s → Kin (view (s .0)) (view (none (outWith (withReady 0) s) .0))
-kin-out s h = kin-by (view (s .0)) (none-view (outWith (withReady 0) s) ∙ ap (setControl no-control) (out-view (withReady 0) s h)) (record { out = refl; inn = refl; stage = refl; setup = refl })
+kin-out s h = kin-by (view (s .0)) (none-view (outWith (withReady 0) s) ∙ ap (setControl no-control) (out-view (withReady 0) s h))
+    (record { out = refl; inn = refl; stage = refl; setup = refl })
 
 kin-in : (s : St) → Whole s → Kin (view (s .0)) (view (none (inWith (withReady 0) s) .0))
-kin-in s h = kin-by (view (s .0)) (none-view (inWith (withReady 0) s) ∙ ap (setControl no-control) (in-view (withReady 0) s h)) (record { out = refl; inn = refl; stage = refl; setup = refl })
+kin-in s h = kin-by (view (s .0)) (none-view (inWith (withReady 0) s) ∙ ap (setControl no-control) (in-view (withReady 0) s h))
+    (record { out = refl; inn = refl; stage = refl; setup = refl })
 
 kin-both : (s : St) → Whole s → Kin (view (s .0)) (view (none (inWith (withReady 0) (outWith (withReady 0) s)) .0))
-kin-both s h = kin-by (view (s .0)) (none-view (inWith (withReady 0) (outWith (withReady 0) s)) ∙ ap (setControl no-control) (in-view (withReady 0) (outWith (withReady 0) s) (out-whole (withReady 0) s h) ∙ ap (λ (y : View). setIn (record { ready = 0; armed = y .inn .armed }) y) (out-view (withReady 0) s h))) (record { out = refl; inn = refl; stage = refl; setup = refl })
+kin-both s h = kin-by (view (s .0))
+    (none-view (inWith (withReady 0) (outWith (withReady 0) s)) ∙ ap (setControl no-control)
+    (in-view (withReady 0) (outWith (withReady 0) s) (out-whole (withReady 0) s h)
+    ∙ ap (λ (y : View). setIn (record { ready = 0; armed = y .inn .armed }) y) (out-view (withReady 0) s h)))
+    (record { out = refl; inn = refl; stage = refl; setup = refl })
 
 done-none : (s : St) → view (none s .0) .control ≡ no-control
 done-none s = ap (λ (x : View). x .control) (none-view s)
@@ -88,7 +102,10 @@ pub law-poll-setup : Law (other PollSetup)
 law-poll-setup w s (inl e) z = exempt-law (other PollSetup) tt w s e
 law-poll-setup w s (inr r) z =
     watch-cond (eqb (s .0 .globals .stage) 2)
-    (λ _. watch-cond (eqb (s .0 .control .sort) SETUP) (λ q. watch-cond (isOn (s .0 .globals .«setup_ready»)) (λ o. at-end (taken-setup (w .awaits) r (eqb-true (s .0 .control .sort) SETUP q), (λ _. sym (r .setup) ∙ o, λ _. eight (s .0 .globals)))) (λ o. at-end (inr r, λ _. sym (r .setup) ∙ o))) (λ _. at-end (inr r, tt)))
+    (λ _. watch-cond (eqb (s .0 .control .sort) SETUP) (λ q. watch-cond (isOn (s .0 .globals .«setup_ready»)) (λ o. at-end (
+      taken-setup (w .awaits) r (eqb-true (s .0 .control .sort) SETUP q),
+      (λ _. sym (r .setup) ∙ o, λ _. eight (s .0 .globals)),
+    )) (λ o. at-end (inr r, λ _. sym (r .setup) ∙ o))) (λ _. at-end (inr r, tt)))
     (λ _. at-end (inr r, tt))
   where
     x : St
@@ -100,7 +117,8 @@ law-poll-setup w s (inr r) z =
     taken-setup : (a : Awaited) → Rel (w .rx) (w .tx) (w .len) (w .pipe) a (w .untaken) (view (s .0))
         → s .0 .control .sort ≡ 1
         → (w .exempt ≡ true) ⊎ Rel (w .rx) (w .tx) (w .len) (w .pipe) a false (view (none x .0))
-    taken-setup nothing r q = moved seen (inr (record { stage = r .stage; out = r .out; inn = r .inn; waits = rested refl; size = r .size; setup = fitting.off }))
+    taken-setup nothing r q = moved seen
+        (inr (record { stage = r .stage; out = r .out; inn = r .inn; waits = rested refl; size = r .size; setup = fitting.off }))
     taken-setup taken r q = absurd (omega (arith, q, r .waits .0))
     taken-setup (given last) r q = absurd (omega (arith, q, r .waits .0))
     taken-setup (confirmed s) r q = absurd (omega (arith, q, r .waits .0))
@@ -213,8 +231,15 @@ law-poll-accept w s (inr r) z =
     watch-cond (isOn (concrete .get (ep-cell In 0) s .ready))
     (λ o. watch-cond (isOn (s .0 .control .«sets_address»))
     (λ h. at-ask (λ _. ready-status (w .awaits) r four o, λ _. address-written (w .awaits) r four o h .0) (λ v t b k.
-    at-end (moved (k .0 ∙ act-view no-wakes refl (none (inWith (withReady 0) s))) (over-now r (kin-in s (z .places)) (done-none (inWith (withReady 0) s))), (tt, λ _. ready-status (w .awaits) r four o, λ _. address-written (w .awaits) r four o h .1))))
-    (λ h. at-end (over-now r (kin-in s (z .places)) (done-none (inWith (withReady 0) s)), (tt, λ _. ready-status (w .awaits) r four o, λ _. none-written (w .awaits) r four o h))))
+    at-end (
+      moved (k .0 ∙ act-view no-wakes refl (none (inWith (withReady 0) s)))
+          (over-now r (kin-in s (z .places)) (done-none (inWith (withReady 0) s))),
+      (tt, λ _. ready-status (w .awaits) r four o, λ _. address-written (w .awaits) r four o h .1),
+    )))
+    (λ h. at-end (
+      over-now r (kin-in s (z .places)) (done-none (inWith (withReady 0) s)),
+      (tt, λ _. ready-status (w .awaits) r four o, λ _. none-written (w .awaits) r four o h),
+    )))
     (λ o. watch-cond (isOn (s .0 .globals .«setup_ready»))
     (λ g. at-end (over-now r (kin-none s) (done-none s), ((λ _ _. sym (r .setup) ∙ g, λ h. differ h), tt, tt)))
     (λ g. at-end (inr r, ((λ _. unready-status (w .awaits) r four o, λ _. sym (r .setup) ∙ g), tt, tt)))))
@@ -260,8 +285,10 @@ abbrev second : St → St
 second s = concrete .put control-cell (dataInOf (s .0 .control .length) (s .0 .control .last) 2) (inWith (withReady 0) s)
 
 second-view : (s : St) → Whole s
-    → view (second s .0) ≡ setControl (dataInOf (s .0 .control .length) (s .0 .control .last) 2) (setIn (record { ready = 0; armed = view (s .0) .inn .armed }) (view (s .0)))
-second-view s h = put-control (dataInOf (s .0 .control .length) (s .0 .control .last) 2) (inWith (withReady 0) s) ∙ ap (setControl (dataInOf (s .0 .control .length) (s .0 .control .last) 2)) (in-view (withReady 0) s h)
+    → view (second s .0) ≡ setControl (dataInOf (s .0 .control .length) (s .0 .control .last) 2)
+    (setIn (record { ready = 0; armed = view (s .0) .inn .armed }) (view (s .0)))
+second-view s h = put-control (dataInOf (s .0 .control .length) (s .0 .control .last) 2) (inWith (withReady 0) s)
+    ∙ ap (setControl (dataInOf (s .0 .control .length) (s .0 .control .last) 2)) (in-view (withReady 0) s h)
 
 abbrev Polled : Log → St → tree.Out St Answer → Type 0
 Polled w s o = Watch Keeps (Allowed (other PollDataIn)) (Ends (other PollDataIn)) (afresh w) o
@@ -279,15 +306,26 @@ module _ (w : Log) (s : St) (r : Rel (w .rx) (w .tx) (w .len) (w .pipe) (w .awai
   -- the data packet went through, the closing OUT is awaited
   goes-on : w .awaits ≡ given true → isOn (s .0 .control .last) ≡ true → w .pipe .inn .through ≡ true
       → isOn (view (s .0) .out .ready) ≡ w .pipe .out .through → R (afresh w) (view (second s .0))
-  goes-on a l i o = inr (subst (λ (x : Awaited). Rel (w .rx) (w .tx) (w .len) (w .pipe) x (w .untaken) (view (second s .0))) (sym a) (subst (Rel (w .rx) (w .tx) (w .len) (w .pipe) (given true) (w .untaken)) (sym (second-view s (z .places))) (record { stage = r .stage; out = r .out; inn = refit refl (r .inn); waits = (refl, l, second-wait refl refl i o); size = r .size; setup = r .setup })))
+  goes-on a l i o = inr
+      (subst (λ (x : Awaited). Rel (w .rx) (w .tx) (w .len) (w .pipe) x (w .untaken) (view (second s .0))) (sym a)
+      (subst (Rel (w .rx) (w .tx) (w .len) (w .pipe) (given true) (w .untaken)) (sym (second-view s (z .places))) (record {
+        stage = r .stage;
+        out = r .out;
+        inn = refit refl (r .inn);
+        waits = (refl, l, second-wait refl refl i o);
+        size = r .size;
+        setup = r .setup;
+      })))
 
   polled-in : Waiting (w .awaits) (w .pipe) (view (s .0)) → Polled w s (run concrete (code (other PollDataIn)) s)
   polled-in (aborted e f g) =
       watch-cond (eqb (s .0 .globals .stage) 2)
       (λ _. watch-cond (eqb (s .0 .control .sort) DATA-IN)
       (λ _. watch-cond (eqb (s .0 .control .wait) 2)
-      (λ _. watch-cond (isOn (concrete .get (ep-cell Out 0) s .ready)) (λ b. differ (sym f ∙ b)) (λ _. watch-cond (isOn (s .0 .globals .«setup_ready»)) (λ g. refused g) (λ b. differ (sym b ∙ e))))
-      (λ _. watch-cond (isOn (concrete .get (ep-cell In 0) s .ready)) (λ b. differ (sym g ∙ b)) (λ _. watch-cond (isOn (s .0 .globals .«setup_ready»)) (λ g. refused g) (λ b. differ (sym b ∙ e)))))
+      (λ _. watch-cond (isOn (concrete .get (ep-cell Out 0) s .ready)) (λ b. differ (sym f ∙ b))
+      (λ _. watch-cond (isOn (s .0 .globals .«setup_ready»)) (λ g. refused g) (λ b. differ (sym b ∙ e))))
+      (λ _. watch-cond (isOn (concrete .get (ep-cell In 0) s .ready)) (λ b. differ (sym g ∙ b))
+      (λ _. watch-cond (isOn (s .0 .globals .«setup_ready»)) (λ g. refused g) (λ b. differ (sym b ∙ e)))))
       (λ k. at-end (inr r, ((λ h. differ h, λ _ _. other-in (w .awaits) r k), tt))))
       (λ _. at-end (inr r, ((λ h. differ h, λ h. differ h), tt)))
   polled-in (closing-of a l n i o) =
@@ -295,8 +333,18 @@ module _ (w : Log) (s : St) (r : Rel (w .rx) (w .tx) (w .len) (w .pipe) (w .awai
       (λ _. watch-cond (eqb (s .0 .control .sort) DATA-IN)
       (λ _. watch-cond (eqb (s .0 .control .wait) 2)
       (λ _. watch-cond (isOn (concrete .get (ep-cell Out 0) s .ready))
-      (λ b. closed (outWith (withReady 0) s) (kin-out s (z .places)) (ap (λ (x : Awaited). asksAfter pollIn x && over x (w .pipe)) a ∙ (over-last (w .pipe) i ∙ (sym o ∙ b))) (eqb (concrete .get (ep-cell Out 0) s .len) 0))
-      (λ b. watch-cond (isOn (s .0 .globals .«setup_ready»)) (λ g. refused g) (λ g. at-end {a = NotYet} (inr r, ((λ _. ap (λ (x : Awaited). asksAfter pollIn x && over x (w .pipe)) a ∙ (over-last (w .pipe) i ∙ (sym o ∙ b)), λ _. sym (r .setup) ∙ g), tt)))))
+      (λ b. closed (outWith (withReady 0) s) (kin-out s (z .places)) (ap (λ (x : Awaited). asksAfter pollIn x && over x (w .pipe)) a
+      ∙ (over-last (w .pipe) i ∙ (sym o ∙ b))) (eqb (concrete .get (ep-cell Out 0) s .len) 0))
+      (λ b. watch-cond (isOn (s .0 .globals .«setup_ready»)) (λ g. refused g) (λ g. at-end {a = NotYet} (
+        inr r,
+        (
+          (
+            λ _. ap (λ (x : Awaited). asksAfter pollIn x && over x (w .pipe)) a ∙ (over-last (w .pipe) i ∙ (sym o ∙ b)),
+            λ _. sym (r .setup) ∙ g,
+          ),
+          tt,
+        ),
+      ))))
       (λ two. differ (sym two ∙ ap (λ (k : ℕ). eqb k 2) n)))
       (λ k. at-end (inr r, ((λ h. differ h, λ _ _. other-in (w .awaits) r k), tt))))
       (λ _. at-end (inr r, ((λ h. differ h, λ h. differ h), tt)))
@@ -311,10 +359,33 @@ module _ (w : Log) (s : St) (r : Rel (w .rx) (w .tx) (w .len) (w .pipe) (w .awai
       let gives : w .awaits ≡ given true = a ∙ ap given it in
       let sent : w .pipe .inn .through ≡ true = sym i ∙ b in
       watch-cond (isOn (concrete .get (ep-cell Out 0) s .ready))
-      (λ y. closed (inWith (withReady 0) (outWith (withReady 0) s)) (kin-both s (z .places)) (ap (λ (x : Awaited). asksAfter pollIn x && over x (w .pipe)) gives ∙ (over-last (w .pipe) sent ∙ (sym (o it) ∙ y))) (eqb (concrete .get (ep-cell Out 0) s .len) 0))
-      (λ y. watch-cond (isOn (s .0 .globals .«setup_ready»)) (λ g. refused g) (λ g. at-end {a = NotYet} (goes-on gives x sent (o it), ((λ _. ap (λ (x : Awaited). asksAfter pollIn x && over x (w .pipe)) gives ∙ (over-last (w .pipe) sent ∙ (sym (o it) ∙ y)), λ _. sym (r .setup) ∙ g), tt)))))
-      (λ x. at-end {a = Done []} (over-now r (kin-in s (z .places)) (done-none (inWith (withReady 0) s)), (tt, λ _. ap (λ (x : Awaited). asksAfter pollIn x && over x (w .pipe)) (a ∙ ap given (sym l ∙ x)) ∙ (sym i ∙ b)))))
-      (λ b. watch-cond (isOn (s .0 .globals .«setup_ready»)) (λ g. refused g) (λ g. at-end {a = NotYet} (inr r, ((λ _. ap (λ (x : Awaited). asksAfter pollIn x && over x (w .pipe)) a ∙ not-sent last (w .pipe) (sym i ∙ b), λ _. sym (r .setup) ∙ g), tt))))))
+      (λ y. closed (inWith (withReady 0) (outWith (withReady 0) s)) (kin-both s (z .places))
+      (ap (λ (x : Awaited). asksAfter pollIn x && over x (w .pipe)) gives
+      ∙ (over-last (w .pipe) sent ∙ (sym (o it) ∙ y))) (eqb (concrete .get (ep-cell Out 0) s .len) 0))
+      (λ y. watch-cond (isOn (s .0 .globals .«setup_ready»)) (λ g. refused g) (λ g. at-end {a = NotYet} (
+        goes-on gives x sent (o it),
+        (
+          (
+            λ _. ap (λ (x : Awaited). asksAfter pollIn x && over x (w .pipe)) gives ∙ (over-last (w .pipe) sent ∙ (sym (o it) ∙ y)),
+            λ _. sym (r .setup) ∙ g,
+          ),
+          tt,
+        ),
+      ))))
+      (λ x. at-end {a = Done []} (
+        over-now r (kin-in s (z .places)) (done-none (inWith (withReady 0) s)),
+        (tt, λ _. ap (λ (x : Awaited). asksAfter pollIn x && over x (w .pipe)) (a ∙ ap given (sym l ∙ x)) ∙ (sym i ∙ b)),
+      )))
+      (λ b. watch-cond (isOn (s .0 .globals .«setup_ready»)) (λ g. refused g) (λ g. at-end {a = NotYet} (
+        inr r,
+        (
+          (
+            λ _. ap (λ (x : Awaited). asksAfter pollIn x && over x (w .pipe)) a ∙ not-sent last (w .pipe) (sym i ∙ b),
+            λ _. sym (r .setup) ∙ g,
+          ),
+          tt,
+        ),
+      )))))
       (λ k. at-end (inr r, ((λ h. differ h, λ _ _. other-in (w .awaits) r k), tt))))
       (λ _. at-end (inr r, ((λ h. differ h, λ h. differ h), tt)))
 
@@ -325,4 +396,8 @@ law-poll-data-in w s (inr r) z = by (eqb (s .0 .control .sort) DATA-IN) refl
     by : (t : Bool) → eqb (s .0 .control .sort) DATA-IN ≡ t
         → Watch Keeps (Allowed (other PollDataIn)) (Ends (other PollDataIn)) (afresh w) (run concrete (code (other PollDataIn)) s)
     by true q = polled-in w s r z (waiting (w .awaits) r (eqb-true (s .0 .control .sort) DATA-IN q))
-    by false q = watch-cond (eqb (s .0 .globals .stage) 2) (λ _. watch-cond (eqb (s .0 .control .sort) DATA-IN) (λ y. differ (sym q ∙ y)) (λ k. at-end (inr r, ((λ h. differ h, λ _ _. other-in (w .awaits) r k), tt)))) (λ _. at-end (inr r, ((λ h. differ h, λ h. differ h), tt)))
+    by false q = watch-cond (eqb (s .0 .globals .stage) 2)
+        (λ _. watch-cond (eqb (s .0 .control .sort) DATA-IN) (λ y. differ (sym q ∙ y)) (λ k. at-end (
+          inr r,
+          ((λ h. differ h, λ _ _. other-in (w .awaits) r k), tt),
+        ))) (λ _. at-end (inr r, ((λ h. differ h, λ h. differ h), tt)))

@@ -18,7 +18,9 @@ use Rattle.state.specs.Driver.{Driver, key, epOn, withOn}
 use Rattle.state.specs.Laws.{key-apart, key-same}
 use Rattle.model.specs.Tree as tree
 use Rattle.model.specs.Cells.{EpCore, Cell, Val, ep-cell, globals-cell}
-use Rattle.model.specs.Script.{Script, get, ret, bind, test, read-then, write-then, callback-then, get-then, put-then, is-then, look-then, fetch-then, act-then, hand-then, run, Test, Look, Fetch, Act, DmaStep, dmaStepAsk, arrive, send, place, place0}
+use Rattle.model.specs.Script.{Script, get, ret, bind, test, read-then, write-then, callback-then, get-then, put-then}
+use Rattle.model.specs.Script.{is-then, look-then, fetch-then, act-then, hand-then, run, Test, Look, Fetch, Act}
+use Rattle.model.specs.Script.{DmaStep, dmaStepAsk, arrive, send, place, place0}
 use Rattle.model.specs.TransferKinds.{Among, allocates}
 use Rattle.model.specs.SortsWalks.{among-ins}
 use Rattle.model.specs.Statics.{isOn, withLastFrame, isoInEvery}
@@ -57,7 +59,11 @@ plainly {d = d} z = record { whole = z .places; plain = λ dir. ep0-plain z dir;
     by e true q h = differ (sym (ep0-plain z In) ∙ subst (λ (n : ℕ). isOn (epOn d In n .iso) ≡ true) (eqb-true e 0 q) h)
 
 pub steadily : {d d′ : Driver} → Steady d d′ → Plain0 d → Plain0 d′
-steadily p k = record { whole = p .places ∙ k .whole; plain = λ dir. ap isOn (p .flags dir 0) ∙ k .plain dir; every = λ e l h. k .every e l (rw (p .every) at h) }
+steadily p k = record {
+  whole = p .places ∙ k .whole;
+  plain = λ dir. ap isOn (p .flags dir 0) ∙ k .plain dir;
+  every = λ e l h. k .every e l (rw (p .every) at h);
+}
 
 abbrev pub Stays : Log → St → Log → St → Type 0
 Stays w s x t = (x ≡ w) × (view (t .0) ≡ view (s .0)) × Plainly t
@@ -76,7 +82,11 @@ q-ret = record { goes = λ w s z k. at-end (refl, refl, k) }
 
 pub q-bind : {i : Bool} {A B : Type 0} {p : Script i A} {f : A → Script i B} → Quiet p → ((a : A) → Quiet (f a))
     → Quiet (bind p f)
-q-bind {f = f} x y = record { goes = λ w s z k. watch-bind (x .goes w s z k) (λ v a t l. subst (λ (u : Log). Watch Keeps Any (λ x _ t. Stays w s x t) u (run concrete (f a) t)) (sym (l .0)) (watch-more (y a .goes w t z (l .2)) (λ _ _ _ m. (m .0, m .1 ∙ l .1, m .2)))) }
+q-bind {f = f} x y = record {
+  goes = λ w s z k. watch-bind (x .goes w s z k)
+      (λ v a t l. subst (λ (u : Log). Watch Keeps Any (λ x _ t. Stays w s x t) u (run concrete (f a) t))
+      (sym (l .0)) (watch-more (y a .goes w t z (l .2)) (λ _ _ _ m. (m .0, m .1 ∙ l .1, m .2))));
+}
 
 pub q-test : {i : Bool} {A : Type 0} {b : Bool} {p q : Script i A} → Quiet p → Quiet q → Quiet (test b p q)
 q-test {b = b} x y = record { goes = λ w s z k. watch-cond b (λ _. x .goes w s z k) (λ _. y .goes w s z k) }
@@ -90,7 +100,9 @@ q-if b x y = record { goes = λ w s z k. watch-cond b (λ h. x h .goes w s z k) 
 pub asked : {A : Type 0} {q : Access} {s : St} {f : ℕ → St → tree.Out St A} (w : Log) → ((v : ℕ) → saw w q v ≡ w)
     → ((v : ℕ) (t : St) → Plainly t → Watch Keeps Any {A = A} (λ x _ u. Stays w t x u) w (f v t))
     → Watch Keeps Any {A = A} (λ x _ u. Stays w s x u) w (tree.asks q s f)
-asked {s = s} {f = f} w e g = at-ask tt (λ v t b k. subst (λ (u : Log). Watch Keeps Any (λ x _ t. Stays w s x t) u (f v t)) (sym (e v)) (watch-more (g v t (plainly (k .1))) (λ _ _ _ m. (m .0, m .1 ∙ k .0, m .2))))
+asked {s = s} {f = f} w e g = at-ask tt
+    (λ v t b k. subst (λ (u : Log). Watch Keeps Any (λ x _ t. Stays w s x t) u (f v t))
+    (sym (e v)) (watch-more (g v t (plainly (k .1))) (λ _ _ _ m. (m .0, m .1 ∙ k .0, m .2))))
 
 pub q-read : {i : Bool} {A : Type 0} {r : Reg} {e : ℕ} {f : ℕ → Script i A} → ((v : ℕ) → Quiet (f v))
     → Quiet (read-then r e f)
@@ -112,7 +124,11 @@ q-get {c = c} x = record { goes = λ w s z k. x (concrete .get c s) .goes w s z 
 pub q-every : {i : Bool} {A : Type 0} {f : Globals → Script i A}
     → ((g : Globals) → Each (λ e. eqb e 0 ≡ false) (setBits (isoInEvery g)) → Quiet (f g))
     → Quiet (bind (get {i = i} globals-cell) f)
-q-every {f = f} x = record { goes = λ w s z k. x (s .0 .globals) (each-set (isoInEvery (s .0 .globals)) (λ e l h. negated (eqb e 0) (among-ins (λ e. not (eqb e 0)) (s .0 .globals) (k .every) e l h))) .goes w s z k }
+q-every {f = f} x = record {
+  goes = λ w s z k. x (s .0 .globals)
+      (each-set (isoInEvery (s .0 .globals))
+      (λ e l h. negated (eqb e 0) (among-ins (λ e. not (eqb e 0)) (s .0 .globals) (k .every) e l h))) .goes w s z k;
+}
 
 pub q-is : {i : Bool} {A : Type 0} {q : Test} {f : Bool → Script i A} → ((b : Bool) → Quiet (f b)) → Quiet (is-then q f)
 q-is {q = q} x = record { goes = λ w s z k. x (concrete .is q s) .goes w s z k }
@@ -130,7 +146,9 @@ pub onward : {A : Type 0} {o : tree.Out St A} (w : Log) (s t : St) → view (t .
 onward w s t e x = watch-more x (λ _ _ _ m. (m .0, m .1 ∙ e, m .2))
 
 pub q-act : {i : Bool} {A : Type 0} {q : Act} {p : Script i A} → allocates q ≡ false → Quiet p → Quiet (act-then q p)
-q-act {q = q} h x = record { goes = λ w s z k. onward w s (concrete .act q s) (act-view q h s) (x .goes w (concrete .act q s) z (steadily (act-steady q h s) k)) }
+q-act {q = q} h x = record {
+  goes = λ w s z k. onward w s (concrete .act q s) (act-view q h s) (x .goes w (concrete .act q s) z (steadily (act-steady q h s) k));
+}
 
 hand-silent : (q : DmaStep) (x : ℕ) (w : Log) (v : ℕ) → saw w (dmaStepAsk q x) v ≡ w
 hand-silent (arrive e n) x w v = refl
@@ -140,18 +158,26 @@ hand-silent (place In e) x w v = refl
 hand-silent place0 x w v = refl
 
 pub q-hand : {i : Bool} {A : Type 0} {q : DmaStep} {p : Script i A} → Quiet p → Quiet (hand-then q p)
-q-hand {q = q} x = record { goes = λ w s z k. onward w s (concrete .hand q s .1) (hand-view q s) (asked w (hand-silent q (concrete .hand q s .0) w) (λ _ t l. x .goes w t z l)) }
+q-hand {q = q} x = record {
+  goes = λ w s z k. onward w s (concrete .hand q s .1)
+      (hand-view q s) (asked w (hand-silent q (concrete .hand q s .0) w) (λ _ t l. x .goes w t z l));
+}
 
 -- an assignment that shows the same
 pub q-put : {i : Bool} {A : Type 0} {c : Cell} {v : Val c} {p : Script i A}
     → ((s : St) → view (concrete .put c v s .0) ≡ view (s .0)) → Quiet p → Quiet (put-then c v p)
-q-put {c = c} {v = v} e x = record { goes = λ w s z k. onward w s (concrete .put c v s) (e s) (x .goes w (concrete .put c v s) z (steadily (put-steady c v s) k)) }
+q-put {c = c} {v = v} e x = record {
+  goes = λ w s z k. onward w s (concrete .put c v s) (e s) (x .goes w (concrete .put c v s) z (steadily (put-steady c v s) k));
+}
 
 -- a record that is read and changed
 pub q-modify : {i : Bool} (c : Cell) (f : Val c → Val c)
     → ((s : St) → view (concrete .put c (f (concrete .get c s)) s .0) ≡ view (s .0))
     → Quiet (bind {i = i} (get-then c ret) (λ p. put-then c (f p) (ret (tt {0}))))
-q-modify c f e = record { goes = λ w s z k. onward w s (concrete .put c (f (concrete .get c s)) s) (e s) (at-end (refl, refl, steadily (put-steady c (f (concrete .get c s)) s) k)) }
+q-modify c f e = record {
+  goes = λ w s z k. onward w s (concrete .put c (f (concrete .get c s)) s)
+      (e s) (at-end (refl, refl, steadily (put-steady c (f (concrete .get c s)) s) k));
+}
 
 -- ---- assignments
 
@@ -167,7 +193,8 @@ apart In Out e o q = key-apart 0 e q
 -- another endpoint's record
 pub put-other : (d : Dir) (e : ℕ) → Other e → (v : EpCore) (s : St) → view (concrete .put (ep-cell d e) v s .0) ≡ view (s .0)
 unfolding withOn
-put-other d e o v s = made _ _ (ap recOf (ep-other (s .0) d e (merged (epOn (s .0) d e) v) Out 0 (apart d Out e o))) (ap recOf (ep-other (s .0) d e (merged (epOn (s .0) d e) v) In 0 (apart d In e o))) refl refl refl
+put-other d e o v s = made _ _ (ap recOf (ep-other (s .0) d e (merged (epOn (s .0) d e) v) Out 0 (apart d Out e o)))
+    (ap recOf (ep-other (s .0) d e (merged (epOn (s .0) d e) v) In 0 (apart d In e o))) refl refl refl
 
 -- `last_frame` of any
 pub put-frame : (d : Dir) (e frame : ℕ) (s : St)
@@ -177,7 +204,13 @@ put-frame d e frame s = same-view (record-same (s .0) d e (merged (epOn (s .0) d
 -- the globals but for the setup packet
 pub put-kept : (f : Globals → Globals) → ((g : Globals) → f g .«setup_ready» ≡ g .«setup_ready») → (s : St)
     → view (concrete .put globals-cell (f (concrete .get globals-cell s)) s .0) ≡ view (s .0)
-put-kept f h s = put-globals (f (s .0 .globals)) s ∙ ap (λ n. record { out = view (s .0) .out; inn = view (s .0) .inn; control = view (s .0) .control; setup-ready = n; stage = view (s .0) .stage }) (h (s .0 .globals))
+put-kept f h s = put-globals (f (s .0 .globals)) s ∙ ap (λ n. record {
+  out = view (s .0) .out;
+  inn = view (s .0) .inn;
+  control = view (s .0) .control;
+  setup-ready = n;
+  stage = view (s .0) .stage;
+}) (h (s .0 .globals))
 
 -- a control word of another endpoint's
 pub other-word : (d : Dir) (e v : ℕ) → eqb e 0 ≡ false → (w : Log) → writes (ctrlOf d) e v w ≡ w

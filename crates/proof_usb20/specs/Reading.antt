@@ -34,7 +34,9 @@ use Rattle.proof_usb20.specs.Follow as follow
 use Rattle.proof_usb20.specs.Follow.{Seen, seenOf, FitsAs, Fits, view, Follow, Ends, Law}
 use Rattle.proof_usb20.specs.Watch.{at-end, at-ask}
 use Rattle.proof_usb20.specs.Untouched.{act-view}
-use Rattle.proof_usb20.specs.Calm.{Whole, Off, Else, Quiet, loose, put-request, q-act, q-bind, q-enabled, q-ends, q-ep, q-fetch, q-got, q-is, q-put, q-reg, q-resultless, q-ret, q-staged, q-test, q-write}
+use Rattle.proof_usb20.specs.Calm.{Whole, Off, Else, Quiet, loose, put-request, q-act, q-bind, q-enabled, q-ends}
+use Rattle.proof_usb20.specs.Calm.{q-ep, q-fetch, q-got, q-is, q-put, q-reg, q-resultless, q-ret, q-staged}
+use Rattle.proof_usb20.specs.Calm.{q-test, q-write}
 
 module _ (D : Dir) (E : ℕ) where
   -- ---- a call that tells the log nothing
@@ -42,7 +44,10 @@ module _ (D : Dir) (E : ℕ) where
   pub quiet-law : (o : Op) → (opens D E o ≡ withPhase off) → ((a : Answer) (x : Track) → closes D E o a x ≡ x)
       → ((a : Answer) (x : Track) → Fair D E o a x) → Quiet D E false (Off D E) (code o) → Law D E o
   quiet-law o p c f q w s r i z = subst (λ (u : Track). Follow D E (Ends D E o) u (run concrete (code o) s)) (sym (ap (λ (g : Track → Track). g w) p))
-      (follow.follow-more D E (q .goes (withPhase off w) s (refl, λ _ _ _ _. refl) (loose D E (z .places))) (λ x a u m. (subst (λ (y : Track). Fits y (view D E (u .0))) (sym (c a x ∙ m .0)) (subst (Fits w) (sym (m .1)) r), f a x)))
+      (follow.follow-more D E (q .goes (withPhase off w) s (refl, λ _ _ _ _. refl) (loose D E (z .places))) (λ x a u m. (
+        subst (λ (y : Track). Fits y (view D E (u .0))) (sym (c a x ∙ m .0)) (subst (Fits w) (sym (m .1)) r),
+        f a x,
+      )))
 
   -- ---- the endpoint's own record
 
@@ -64,7 +69,8 @@ module _ (D : Dir) (E : ℕ) where
   pub put-own : (d : Dir) (e : ℕ) (v : EpCore) (s : St) → Own d e → Whole s
       → view D E (concrete .put (ep-cell d e) v s .0) ≡ written v (view D E (s .0))
   unfolding withOn
-  put-own d e v s h l = ap (λ q. seenOf q (s .0 .globals .stage)) (own-with (s .0) d e (merged (epOn (s .0) d e) v) h l) ∙ ap (λ (q : EpState). seenOf (merged q v) (s .0 .globals .stage)) (own-ep (s .0) d e h)
+  put-own d e v s h l = ap (λ q. seenOf q (s .0 .globals .stage)) (own-with (s .0) d e (merged (epOn (s .0) d e) v) h l)
+      ∙ ap (λ (q : EpState). seenOf (merged q v) (s .0 .globals .stage)) (own-ep (s .0) d e h)
 
   pub got : (d : Dir) (e : ℕ) (s : St) → Own d e → concrete .get (ep-cell d e) s ≡ plainOf (epOn (s .0) D E)
   got d e s h = ap plainOf (own-ep (s .0) d e h)
@@ -100,25 +106,39 @@ module _ (D : Dir) (E : ℕ) where
 
   q-polled : {i : Bool} (d : Dir) (e n : ℕ) → Else D E d e → {p : EpCore → Script i Answer}
       → ((s : EpCore) → Quiet D E false (Off D E) (p s)) → Quiet D E false (Off D E) (polled d e n p)
-  q-polled d e n m x = (q-bind D E) ((q-got D E) (request-cell d e)) (λ r. (q-test D E) (q-ret D E) ((q-test D E) ((q-bind D E) ((q-got D E) (ep-cell d e)) (λ s. x s)) ((q-bind D E) ((q-ep D E) d e (withReady 0) m) (λ _. (q-ends D E) d e (Refused 10)))))
+  q-polled d e n m x = (q-bind D E) ((q-got D E) (request-cell d e))
+      (λ r. (q-test D E) (q-ret D E) ((q-test D E) ((q-bind D E) ((q-got D E) (ep-cell d e)) (λ s. x s))
+      ((q-bind D E) ((q-ep D E) d e (withReady 0) m) (λ _. (q-ends D E) d e (Refused 10)))))
 
   -- ---- reads and writes
 
   off-begin-read : (e n : ℕ) → own D E Out e ≡ false → Law D E (other (BeginRead e n))
-  off-begin-read e n h = quiet-law (other (BeginRead e n)) refl (λ a x. not-and (own D E Out e) (log.ended D E a) (awaits D E x) x h) (λ _ _. tt) ((q-staged D E) 2 (q-named Out e ((q-enabled D E) Out e (q-ret D E) ((q-bind D E) ((q-got D E) (ep-cell Out e)) (λ s. (q-test D E) (q-ret D E)
-      ((q-bind D E) ((q-put D E) (put-request D E Out e (begun n)) (q-ret D E)) (λ _. (q-resultless D E) ((q-test D E) (q-ret D E) ((q-test D E) (q-ret D E) ((q-bind D E) ((q-ep D E) Out e (withArmed 1) (own-false Out e h)) (λ _. (q-reg D E) EpRxCtrl e _)))))))))))
+  off-begin-read e n h =
+      quiet-law (other (BeginRead e n)) refl (λ a x. not-and (own D E Out e) (log.ended D E a) (awaits D E x) x h) (λ _ _. tt)
+      ((q-staged D E) 2
+      (q-named Out e ((q-enabled D E) Out e (q-ret D E) ((q-bind D E) ((q-got D E) (ep-cell Out e)) (λ s. (q-test D E) (q-ret D E)
+      ((q-bind D E) ((q-put D E) (put-request D E Out e (begun n)) (q-ret D E)) (λ _. (q-resultless D E) ((q-test D E) (q-ret D E)
+      ((q-test D E) (q-ret D E) ((q-bind D E) ((q-ep D E) Out e (withArmed 1) (own-false Out e h)) (λ _. (q-reg D E) EpRxCtrl e _)))))))))))
 
   off-poll-read : (e n : ℕ) → own D E Out e ≡ false → Law D E (slotted (PollRead e n))
-  off-poll-read e n h = quiet-law (slotted (PollRead e n)) refl (λ a x. not-and (own D E Out e) (takes D E a) (taken D E x) x h) (λ a x k. differ (sym h ∙ k)) ((q-staged D E) 2 (q-named Out e (q-polled Out e n (own-false Out e h) (λ s. (q-test D E)
-      ((q-enabled D E) Out e ((q-ends D E) Out e (Refused 9)) ((q-bind D E) ((q-is D E) (λ _. (q-ret D E))) (λ b. (q-test D E) ((q-bind D E) ((q-fetch D E) (λ _. (q-ret D E))) (λ bytes. (q-bind D E) ((q-act D E) refl (q-ret D E)) (λ _. (q-ends D E) Out e _))) (q-ret D E))))
-      ((q-test D E) ((q-bind D E) ((q-ep D E) Out e (withReady 0) (own-false Out e h)) (λ _. (q-test D E) ((q-ends D E) Out e (Refused 10)) ((q-bind D E) ((q-fetch D E) (λ _. (q-ret D E))) (λ bytes. (q-ends D E) Out e (Done bytes))))) ((q-enabled D E) Out e ((q-ends D E) Out e (Refused 9)) (q-ret D E)))))))
+  off-poll-read e n h = quiet-law (slotted (PollRead e n)) refl (λ a x. not-and (own D E Out e) (takes D E a) (taken D E x) x h)
+      (λ a x k. differ (sym h ∙ k)) ((q-staged D E) 2 (q-named Out e (q-polled Out e n (own-false Out e h) (λ s. (q-test D E)
+      ((q-enabled D E) Out e ((q-ends D E) Out e (Refused 9))
+      ((q-bind D E) ((q-is D E) (λ _. (q-ret D E))) (λ b. (q-test D E) ((q-bind D E) ((q-fetch D E) (λ _. (q-ret D E)))
+      (λ bytes. (q-bind D E) ((q-act D E) refl (q-ret D E)) (λ _. (q-ends D E) Out e _))) (q-ret D E))))
+      ((q-test D E) ((q-bind D E) ((q-ep D E) Out e (withReady 0) (own-false Out e h)) (λ _. (q-test D E)
+      ((q-ends D E) Out e (Refused 10)) ((q-bind D E) ((q-fetch D E) (λ _. (q-ret D E))) (λ bytes. (q-ends D E) Out e (Done bytes)))))
+      ((q-enabled D E) Out e ((q-ends D E) Out e (Refused 9)) (q-ret D E)))))))
 
   -- what a poll leaves that takes the completion
   took : (d : Dir) (e : ℕ) (w : Track) (s : St) → Own d e → Fits w (view D E (s .0))
       → eqb (s .0 .globals .stage) 2 ≡ true → Whole s
-      → FitsAs (w .bit) false (w .len) (w .armed) (view D E (concrete .put (request-cell d e) no-request (concrete .put (ep-cell d e) (withReady 0 (concrete .get (ep-cell d e) s)) s) .0))
+      → FitsAs (w .bit) false (w .len) (w .armed)
+      (view D E (concrete .put (request-cell d e) no-request (concrete .put (ep-cell d e) (withReady 0 (concrete .get (ep-cell d e) s)) s) .0))
   unfolding isOn
-  took d e w s h r q l = subst (FitsAs (w .bit) false (w .len) (w .armed)) (sym (put-request D E d e no-request (concrete .put (ep-cell d e) (withReady 0 (concrete .get (ep-cell d e) s)) s) ∙ changed d e (withReady 0) s h l)) (fits-2 q (r .tog) refl (r .len) (r .armed))
+  took d e w s h r q l = subst (FitsAs (w .bit) false (w .len) (w .armed))
+      (sym (put-request D E d e no-request (concrete .put (ep-cell d e) (withReady 0 (concrete .get (ep-cell d e) s)) s)
+      ∙ changed d e (withReady 0) s h l)) (fits-2 q (r .tog) refl (r .len) (r .armed))
 
   ready-own : (d : Dir) (e : ℕ) (w : Track) (s : St) {b : Bool} → Own d e → Fits w (view D E (s .0))
       → isOn (concrete .get (ep-cell d e) s .ready) ≡ b → w .through ≡ b
@@ -167,11 +187,21 @@ module _ (D : Dir) (E : ℕ) where
           let s2 = concrete .act no-wakes s1 in
           let k : Whole s2 = act-steady no-wakes refl s1 .places ∙ whole-put (request-cell Out e) (begun n) s (z .places) in
           let v : view D E (s2 .0) ≡ view D E (s .0) = act-view D E no-wakes refl s1 ∙ put-request D E Out e (begun n) s in
-          follow.follow-cond D E (eqb (s .0 .globals .stage) 2) (λ two. follow.follow-cond D E (isAllocated (s .0 .allocator) Out e) (λ _. follow.follow-cond D E (enables.isOn (s .0 .globals .«ep_config») Out e)
+          follow.follow-cond D E (eqb (s .0 .globals .stage) 2)
+          (λ two. follow.follow-cond D E (isAllocated (s .0 .allocator) Out e)
+          (λ _. follow.follow-cond D E (enables.isOn (s .0 .globals .«ep_config») Out e)
           (λ _. follow.follow-cond D E (ltb n (concrete .get (ep-cell Out e) s .«max_len»)) (λ _. at-end (nothing, tt))
-          (λ _. follow.follow-bind D E {P = λ y _ a. (y ≡ withPhase off w) × FitsAs (w .bit) (w .through) (w .len) (cond (w .through) (w .armed) true) (view D E (a .0))} (follow.follow-bind D E {P = λ y _ a. (y ≡ withPhase off w) × FitsAs (w .bit) (w .through) (w .len) (cond (w .through) (w .armed) true) (view D E (a .0))} (follow.follow-cond D E (isOn (concrete .get (ep-cell Out e) s .iso)) (λ q. iso-own Out e s o i q)
+          (λ _. follow.follow-bind D E {P = λ y _ a. (y ≡ withPhase off w)
+          × FitsAs (w .bit) (w .through) (w .len) (cond (w .through) (w .armed) true) (view D E (a .0))}
+          (follow.follow-bind D E {P = λ y _ a. (y ≡ withPhase off w)
+          × FitsAs (w .bit) (w .through) (w .len) (cond (w .through) (w .armed) true) (view D E (a .0))}
+          (follow.follow-cond D E (isOn (concrete .get (ep-cell Out e) s .iso)) (λ q. iso-own Out e s o i q)
           (λ _. follow.follow-cond D E (isOn (concrete .get (ep-cell Out e) s .ready))
-          (λ q. let g = there (w .through) refl (ready-own Out e w s o r q) in at-end (refl, subst (FitsAs (w .bit) (w .through) (w .len) (cond (w .through) (w .armed) true)) (sym v) (fits-2 two (r .tog) (r .ready) (r .len) (r .armed ∙ sym g))))
+          (λ q. let g = there (w .through) refl (ready-own Out e w s o r q) in at-end (
+            refl,
+            subst (FitsAs (w .bit) (w .through) (w .len) (cond (w .through) (w .armed) true))
+                (sym v) (fits-2 two (r .tog) (r .ready) (r .len) (r .armed ∙ sym g)),
+          ))
           (λ q. let g = not-there (ready-own Out e w s o r q) in
           let t = concrete .put (ep-cell Out e) (withArmed 1 (concrete .get (ep-cell Out e) s2)) s2 in
           at-ask tt (λ _ a _ p. at-ask tt (λ _ c _ m. at-end (
@@ -190,19 +220,32 @@ module _ (D : Dir) (E : ℕ) where
       by false h = off-poll-read e n h w s r i z
       by true h =
           let o = own-true Out e h in
-          follow.follow-cond D E (eqb (s .0 .globals .stage) 2) (λ two. follow.follow-cond D E (isAllocated (s .0 .allocator) Out e) (λ _. follow.follow-cond D E (not (isOn (concrete .get (request-cell Out e) s .begun))) (λ _. at-end (stay Out e (Refused 15) w _ refl r, λ _. tt))
+          follow.follow-cond D E (eqb (s .0 .globals .stage) 2)
+          (λ two. follow.follow-cond D E (isAllocated (s .0 .allocator) Out e) (λ _. follow.follow-cond D E
+          (not (isOn (concrete .get (request-cell Out e) s .begun))) (λ _. at-end (stay Out e (Refused 15) w _ refl r, λ _. tt))
           (λ _. follow.follow-cond D E (eqb (concrete .get (request-cell Out e) s .length) n)
-          (λ _. follow.follow-cond D E (isOn (concrete .get (ep-cell Out e) s .iso)) (λ q. iso-own Out e s o i q) (λ _. follow.follow-cond D E (isOn (concrete .get (ep-cell Out e) s .ready))
-          (λ q. follow.follow-cond D E (tooLong n (concrete .get (ep-cell Out e) s)) (λ _. at-end (gone Out e (Refused 10) w _ h refl (took Out e w s o r two (z .places)), λ _. tt))
+          (λ _. follow.follow-cond D E (isOn (concrete .get (ep-cell Out e) s .iso))
+          (λ q. iso-own Out e s o i q) (λ _. follow.follow-cond D E (isOn (concrete .get (ep-cell Out e) s .ready))
+          (λ q. follow.follow-cond D E (tooLong n (concrete .get (ep-cell Out e) s)) (λ _. at-end (
+            gone Out e (Refused 10) w _ h refl (took Out e w s o r two (z .places)),
+            λ _. tt,
+          ))
           (λ _. at-end (gone Out e (Done []) w _ h refl (took Out e w s o r two (z .places)), λ _. ready-own Out e w s o r q)))
-          (λ q. follow.follow-cond D E (enables.isOn (s .0 .globals .«ep_config») Out e) (λ _. at-end (stay Out e NotYet w _ refl r, λ _. ready-own Out e w s o r q)) (λ _. at-end (stay Out e (Refused 9) w _ refl (subst (Fits w) (sym (put-request D E Out e no-request s)) r), λ _. tt)))))
+          (λ q. follow.follow-cond D E (enables.isOn (s .0 .globals .«ep_config») Out e) (λ _. at-end (
+            stay Out e NotYet w _ refl r,
+            λ _. ready-own Out e w s o r q,
+          )) (λ _. at-end (stay Out e (Refused 9) w _ refl (subst (Fits w) (sym (put-request D E Out e no-request s)) r), λ _. tt)))))
           (λ _. at-end (gone Out e (Refused 10) w _ h refl (took Out e w s o r two (z .places)), λ _. tt))))
           (λ _. at-end (stay Out e (Refused 5) w _ refl r, λ _. tt))) (λ _. at-end (stay Out e (Refused 4) w _ refl r, λ _. tt))
 
   off-poll-write : (e : ℕ) (bytes : List ℕ) → own D E In e ≡ false → Law D E (slotted (PollWrite e bytes))
-  off-poll-write e bytes h = quiet-law (slotted (PollWrite e bytes)) refl (λ a x. not-and (own D E In e) (takes D E a) (taken D E x) x h) (λ a x k. differ (sym h ∙ k)) ((q-staged D E) 2 (q-named In e (q-polled In e (length bytes) (own-false In e h) (λ s. (q-test D E)
-      ((q-enabled D E) In e ((q-ends D E) In e (Refused 9)) ((q-bind D E) ((q-is D E) (λ _. (q-ret D E))) (λ b. (q-test D E) ((q-bind D E) ((q-act D E) refl (q-ret D E)) (λ _. (q-ends D E) In e (Done []))) (q-ret D E))))
-      ((q-test D E) ((q-bind D E) ((q-ep D E) In e (withReady 0) (own-false In e h)) (λ _. (q-ends D E) In e (Done []))) ((q-enabled D E) In e ((q-ends D E) In e (Refused 9)) (q-ret D E)))))))
+  off-poll-write e bytes h = quiet-law (slotted (PollWrite e bytes)) refl
+      (λ a x. not-and (own D E In e) (takes D E a) (taken D E x) x h) (λ a x k. differ (sym h ∙ k))
+      ((q-staged D E) 2 (q-named In e (q-polled In e (length bytes) (own-false In e h) (λ s. (q-test D E)
+      ((q-enabled D E) In e ((q-ends D E) In e (Refused 9)) ((q-bind D E) ((q-is D E) (λ _. (q-ret D E)))
+      (λ b. (q-test D E) ((q-bind D E) ((q-act D E) refl (q-ret D E)) (λ _. (q-ends D E) In e (Done []))) (q-ret D E))))
+      ((q-test D E) ((q-bind D E) ((q-ep D E) In e (withReady 0) (own-false In e h)) (λ _. (q-ends D E) In e (Done [])))
+      ((q-enabled D E) In e ((q-ends D E) In e (Refused 9)) (q-ret D E)))))))
 
   pub law-poll-write : (e : ℕ) (bytes : List ℕ) → Law D E (slotted (PollWrite e bytes))
   law-poll-write e bytes w s r i z = by (own D E In e) refl
@@ -212,17 +255,27 @@ module _ (D : Dir) (E : ℕ) where
       by false h = off-poll-write e bytes h w s r i z
       by true h =
           let o = own-true In e h in
-          follow.follow-cond D E (eqb (s .0 .globals .stage) 2) (λ two. follow.follow-cond D E (isAllocated (s .0 .allocator) In e) (λ _. follow.follow-cond D E (not (isOn (concrete .get (request-cell In e) s .begun))) (λ _. at-end (stay In e (Refused 15) w _ refl r, λ _. tt))
+          follow.follow-cond D E (eqb (s .0 .globals .stage) 2)
+          (λ two. follow.follow-cond D E (isAllocated (s .0 .allocator) In e) (λ _. follow.follow-cond D E
+          (not (isOn (concrete .get (request-cell In e) s .begun))) (λ _. at-end (stay In e (Refused 15) w _ refl r, λ _. tt))
           (λ _. follow.follow-cond D E (eqb (concrete .get (request-cell In e) s .length) (length bytes))
-          (λ _. follow.follow-cond D E (isOn (concrete .get (ep-cell In e) s .iso)) (λ q. iso-own In e s o i q) (λ _. follow.follow-cond D E (isOn (concrete .get (ep-cell In e) s .ready))
+          (λ _. follow.follow-cond D E (isOn (concrete .get (ep-cell In e) s .iso))
+          (λ q. iso-own In e s o i q) (λ _. follow.follow-cond D E (isOn (concrete .get (ep-cell In e) s .ready))
           (λ q. at-end (gone In e (Done []) w _ h refl (took In e w s o r two (z .places)), λ _. ready-own In e w s o r q))
-          (λ q. follow.follow-cond D E (enables.isOn (s .0 .globals .«ep_config») In e) (λ _. at-end (stay In e NotYet w _ refl r, λ _. ready-own In e w s o r q)) (λ _. at-end (stay In e (Refused 9) w _ refl (subst (Fits w) (sym (put-request D E In e no-request s)) r), λ _. tt)))))
+          (λ q. follow.follow-cond D E (enables.isOn (s .0 .globals .«ep_config») In e) (λ _. at-end (
+            stay In e NotYet w _ refl r,
+            λ _. ready-own In e w s o r q,
+          )) (λ _. at-end (stay In e (Refused 9) w _ refl (subst (Fits w) (sym (put-request D E In e no-request s)) r), λ _. tt)))))
           (λ _. at-end (gone In e (Refused 10) w _ h refl (took In e w s o r two (z .places)), λ _. tt))))
           (λ _. at-end (stay In e (Refused 5) w _ refl r, λ _. tt))) (λ _. at-end (stay In e (Refused 4) w _ refl r, λ _. tt))
 
   off-begin-write : (e : ℕ) (bytes : List ℕ) → own D E In e ≡ false → Law D E (slotted (BeginWrite e bytes))
-  off-begin-write e bytes h = quiet-law (slotted (BeginWrite e bytes)) refl (λ a x. not-and (own D E In e) (log.ended D E a) (loaded D E x) x h) (λ _ _. tt) ((q-staged D E) 2 (q-named In e ((q-enabled D E) In e (q-ret D E) ((q-bind D E) ((q-got D E) (ep-cell In e)) (λ s. (q-test D E) (q-ret D E)
-      ((q-bind D E) ((q-put D E) (put-request D E In e (begun (length bytes))) (q-ret D E)) (λ _. (q-resultless D E) ((q-test D E) (q-ret D E) ((q-bind D E) ((q-act D E) refl (q-ret D E)) (λ _. (q-bind D E) ((q-ep D E) In e (λ s. withArmed 1 (withReady 0 s)) (own-false In e h)) (λ _. (q-bind D E) ((q-write D E) (q-ret D E)) (λ _. (q-reg D E) EpTxCtrl e _))))))))))))
+  off-begin-write e bytes h = quiet-law (slotted (BeginWrite e bytes)) refl
+      (λ a x. not-and (own D E In e) (log.ended D E a) (loaded D E x) x h) (λ _ _. tt)
+      ((q-staged D E) 2 (q-named In e ((q-enabled D E) In e (q-ret D E) ((q-bind D E) ((q-got D E) (ep-cell In e)) (λ s. (q-test D E) (q-ret D E)
+      ((q-bind D E) ((q-put D E) (put-request D E In e (begun (length bytes))) (q-ret D E)) (λ _. (q-resultless D E) ((q-test D E) (q-ret D E)
+      ((q-bind D E) ((q-act D E) refl (q-ret D E)) (λ _. (q-bind D E) ((q-ep D E) In e (λ s. withArmed 1 (withReady 0 s)) (own-false In e h))
+      (λ _. (q-bind D E) ((q-write D E) (q-ret D E)) (λ _. (q-reg D E) EpTxCtrl e _))))))))))))
 
   pub law-begin-write : (e : ℕ) (bytes : List ℕ) → Law D E (slotted (BeginWrite e bytes))
   unfolding isOn
@@ -245,11 +298,17 @@ module _ (D : Dir) (E : ℕ) where
           let s2 = concrete .act no-wakes s1 in
           let u = concrete .act (fill e bytes) s2 in
           let t = concrete .put (ep-cell In e) (withArmed 1 (withReady 0 (concrete .get (ep-cell In e) u))) u in
-          let k : Whole u = act-steady (fill e bytes) refl s2 .places ∙ (act-steady no-wakes refl s1 .places ∙ whole-put (request-cell In e) (begun (length bytes)) s (z .places)) in
-          let v : view D E (u .0) ≡ view D E (s .0) = act-view D E (fill e bytes) refl s2 ∙ (act-view D E no-wakes refl s1 ∙ put-request D E In e (begun (length bytes)) s) in
-          follow.follow-cond D E (eqb (s .0 .globals .stage) 2) (λ two. follow.follow-cond D E (isAllocated (s .0 .allocator) In e) (λ _. follow.follow-cond D E (enables.isOn (s .0 .globals .«ep_config») In e)
+          let k : Whole u = act-steady (fill e bytes) refl s2 .places
+          ∙ (act-steady no-wakes refl s1 .places ∙ whole-put (request-cell In e) (begun (length bytes)) s (z .places)) in
+          let v : view D E (u .0) ≡ view D E (s .0) = act-view D E (fill e bytes) refl s2
+          ∙ (act-view D E no-wakes refl s1 ∙ put-request D E In e (begun (length bytes)) s) in
+          follow.follow-cond D E (eqb (s .0 .globals .stage) 2)
+          (λ two. follow.follow-cond D E (isAllocated (s .0 .allocator) In e)
+          (λ _. follow.follow-cond D E (enables.isOn (s .0 .globals .«ep_config») In e)
           (λ _. follow.follow-cond D E (ltb (concrete .get (ep-cell In e) s .«max_len») (length bytes)) (λ _. at-end (nothing 10, tt))
-          (λ _. follow.follow-bind D E {P = λ y _ a. (y ≡ withPhase off w) × (view D E (a .0) ≡ view D E (t .0))} (follow.follow-bind D E {P = λ y _ a. (y ≡ withPhase off w) × (view D E (a .0) ≡ view D E (t .0))} (follow.follow-cond D E (isOn (concrete .get (ep-cell In e) s .iso)) (λ q. iso-own In e s o i q)
+          (λ _. follow.follow-bind D E {P = λ y _ a. (y ≡ withPhase off w) × (view D E (a .0) ≡ view D E (t .0))}
+          (follow.follow-bind D E {P = λ y _ a. (y ≡ withPhase off w) × (view D E (a .0) ≡ view D E (t .0))}
+          (follow.follow-cond D E (isOn (concrete .get (ep-cell In e) s .iso)) (λ q. iso-own In e s o i q)
           (λ _. at-ask tt (λ _ a _ p. at-ask tt (λ _ b _ q. at-ask tt (λ _ c _ m. at-end (refl, m .0 ∙ (q .0 ∙ p .0))))))) (λ y _ a m. at-end m))
           (λ y n a m. at-end (
             rw (m .0) (rw h (subst (FitsAs (w .bit) false (w .len) true) (sym (m .1 ∙ changed In e (λ p. withArmed 1 (withReady 0 p)) u o k))

@@ -46,7 +46,9 @@ use Rattle.proof_usb20.specs.Follow as follow
 use Rattle.proof_usb20.specs.Follow.{Seen, FitsAs, Fits, view, Follow, Ends, Law}
 use Rattle.proof_usb20.specs.Watch.{at-end, at-ask}
 use Rattle.proof_usb20.specs.Untouched.{act-view}
-use Rattle.proof_usb20.specs.Calm.{Whole, Off, Else, Quiet, loose, put-other, put-globals, q-bind, q-ep, q-got, q-hand, q-operation, q-put, q-reg, q-resultless, q-ret, q-staged, q-test, q-wake, q-when, q-write}
+use Rattle.proof_usb20.specs.Calm.{Whole, Off, Else, Quiet, loose, put-other, put-globals, q-bind, q-ep, q-got}
+use Rattle.proof_usb20.specs.Calm.{q-hand, q-operation, q-put, q-reg, q-resultless, q-ret, q-staged, q-test}
+use Rattle.proof_usb20.specs.Calm.{q-wake, q-when, q-write}
 use Rattle.proof_usb20.specs.Reading as reading
 use Rattle.proof_usb20.specs.Reading.{quiet-law, Own, written, changed, fits-2, own-true, own-false, not-and, iso-own}
 use Rattle.proof_usb20.specs.Anew.{reset-fits, alloc-fits}
@@ -75,8 +77,12 @@ module _ (D : Dir) (E : ℕ) where
       → Quiet D E false (Off D E) (bus.setStalled {i = i} d e on)
   q-stalled Out e true m = (q-bind D E) ((q-reg D E) EpRxCtrl e _) (λ _. (q-wake D E) Out e)
   q-stalled In e true m = (q-bind D E) ((q-write D E) (q-ret D E)) (λ _. (q-bind D E) ((q-reg D E) EpTxCtrl e _) (λ _. (q-wake D E) In e))
-  q-stalled Out e false m = (q-bind D E) ((q-got D E) (ep-cell Out e)) (λ s. (q-bind D E) ((q-put D E) (put-other D E Out e m (withTog 0 s)) (q-ret D E)) (λ _. (q-bind D E) ((q-write D E) (q-ret D E)) (λ _. (q-wake D E) Out e)))
-  q-stalled In e false m = (q-bind D E) ((q-got D E) (ep-cell In e)) (λ s. (q-bind D E) ((q-put D E) (put-other D E In e m (withTog 0 s)) (q-ret D E)) (λ _. (q-bind D E) ((q-write D E) (q-ret D E)) (λ _. (q-bind D E) ((q-when D E) ((q-ep D E) In e _ m)) (λ _. (q-wake D E) In e))))
+  q-stalled Out e false m = (q-bind D E) ((q-got D E) (ep-cell Out e))
+      (λ s. (q-bind D E) ((q-put D E) (put-other D E Out e m (withTog 0 s)) (q-ret D E))
+      (λ _. (q-bind D E) ((q-write D E) (q-ret D E)) (λ _. (q-wake D E) Out e)))
+  q-stalled In e false m = (q-bind D E) ((q-got D E) (ep-cell In e))
+      (λ s. (q-bind D E) ((q-put D E) (put-other D E In e m (withTog 0 s)) (q-ret D E))
+      (λ _. (q-bind D E) ((q-write D E) (q-ret D E)) (λ _. (q-bind D E) ((q-when D E) ((q-ep D E) In e _ m)) (λ _. (q-wake D E) In e))))
 
   -- a halt that is set changes no record
   q-halted : {i : Bool} (d : Dir) (e : ℕ) → Quiet D E false (Off D E) (bus.setStalled {i = i} d e true)
@@ -118,17 +124,30 @@ module _ (D : Dir) (E : ℕ) where
       → eqb (s .0 .globals .stage) 2 ≡ true → isOn (epOn (s .0) D E .iso) ≡ false
       → Follow D E (Clears w) (withPhase off w) (run {i = false} concrete (bus.setStalled d e false) s)
   unfolding Clears isOn
-  clearing Out e w s o k r two i = at-ask tt (λ _ u _ p. at-end (refl, subst (FitsAs initial (log.finishes D E D (w .through)) (w .len) (log.staysArmed D E D (w .armed))) (sym (act-view D E (waken (wakeCode Out e ∷ [])) refl u ∙ (p .0 ∙ changed D E Out e (withTog 0) s o k))) (fits-2 D E two refl (r .ready ∙ sym (keeps-out e (w .through) o)) (r .len) (r .armed ∙ sym (stays-out e (w .armed) o)))))
+  clearing Out e w s o k r two i = at-ask tt (λ _ u _ p. at-end (
+    refl,
+    subst (FitsAs initial (log.finishes D E D (w .through)) (w .len) (log.staysArmed D E D (w .armed)))
+        (sym (act-view D E (waken (wakeCode Out e ∷ [])) refl u ∙ (p .0 ∙ changed D E Out e (withTog 0) s o k)))
+        (fits-2 D E two refl (r .ready ∙ sym (keeps-out e (w .through) o)) (r .len) (r .armed ∙ sym (stays-out e (w .armed) o))),
+  ))
   clearing In e w s o k r two i =
       let t = concrete .put (ep-cell In e) (withTog 0 (concrete .get (ep-cell In e) s)) s in
       let v = changed D E In e (withTog 0) s o k in
       at-ask tt (λ _ u _ p.
       let b = concrete .put (ep-cell In e) (completed (concrete .get (ep-cell In e) u)) u in
       let x : view D E (b .0) ≡ written D E (completed (plainOf (epOn (u .0) D E))) (view D E (u .0)) = changed D E In e completed u o (p .1 .places) in
-      let y : FitsAs initial (log.finishes D E D (w .through)) (w .len) (log.staysArmed D E D (w .armed)) (view D E (b .0)) = subst (FitsAs initial (log.finishes D E D (w .through)) (w .len) (log.staysArmed D E D (w .armed))) (sym x)
-      (fits-2 D E (ap (λ (q : Seen). eqb (q .stage) 2) (p .0 ∙ v) ∙ two) (ap (λ (q : Seen). q .tog) (p .0 ∙ v)) (sym (ends-in e (w .through) o)) (ap (λ (q : Seen). q .len) (p .0 ∙ v) ∙ r .len) (sym (ends-armed e (w .armed) o))) in
-      follow.follow-bind D E {P = Clears w} {f = λ (_ : Unit {0}) (u : St). run {i = false} concrete (wake In e) u} (follow.follow-cond D E (not (isOn (concrete .get (ep-cell In e) s .iso))) (λ _. at-end (refl, y)) (λ q. iso-own D E In e s o i (turned (isOn (concrete .get (ep-cell In e) s .iso)) q)))
-      (λ z _ a m. at-end {s = concrete .act (waken (wakeCode In e ∷ [])) a} (m .0, subst (FitsAs initial (log.finishes D E D (w .through)) (w .len) (log.staysArmed D E D (w .armed))) (sym (act-view D E (waken (wakeCode In e ∷ [])) refl a)) (m .1))))
+      let y : FitsAs initial (log.finishes D E D (w .through)) (w .len) (log.staysArmed D E D (w .armed)) (view D E (b .0)) =
+      subst (FitsAs initial (log.finishes D E D (w .through)) (w .len) (log.staysArmed D E D (w .armed))) (sym x)
+      (fits-2 D E (ap (λ (q : Seen). eqb (q .stage) 2) (p .0 ∙ v) ∙ two) (ap (λ (q : Seen). q .tog) (p .0 ∙ v))
+      (sym (ends-in e (w .through) o)) (ap (λ (q : Seen). q .len) (p .0 ∙ v) ∙ r .len) (sym (ends-armed e (w .armed) o))) in
+      follow.follow-bind D E {P = Clears w} {f = λ (_ : Unit {0}) (u : St). run {i = false} concrete (wake In e) u}
+      (follow.follow-cond D E (not (isOn (concrete .get (ep-cell In e) s .iso)))
+      (λ _. at-end (refl, y)) (λ q. iso-own D E In e s o i (turned (isOn (concrete .get (ep-cell In e) s .iso)) q)))
+      (λ z _ a m. at-end {s = concrete .act (waken (wakeCode In e ∷ [])) a} (
+        m .0,
+        subst (FitsAs initial (log.finishes D E D (w .through)) (w .len) (log.staysArmed D E D (w .armed)))
+            (sym (act-view D E (waken (wakeCode In e ∷ [])) refl a)) (m .1),
+      )))
     where
       turned : (b : Bool) → not b ≡ false → b ≡ true
       turned true h = refl
@@ -136,7 +155,10 @@ module _ (D : Dir) (E : ℕ) where
 
   pub law-set-stalled : (d : Dir) (e : ℕ) (on : Bool) → Law D E (other (SetStalled d e on))
   unfolding Clears
-  law-set-stalled d e true w s r i z = quiet-law D E (other (SetStalled d e true)) refl (λ a x. last (own D E d e) (log.cleared D E x) x) (λ _ _. tt) ((q-staged D E) 2 ((q-test D E) ((q-resultless D E) (q-halted d e)) (reading.q-named D E d e ((q-resultless D E) (q-halted d e))))) w s r i z
+  law-set-stalled d e true w s r i z =
+      quiet-law D E (other (SetStalled d e true)) refl (λ a x. last (own D E d e) (log.cleared D E x) x) (λ _ _. tt)
+      ((q-staged D E) 2 ((q-test D E) ((q-resultless D E) (q-halted d e)) (reading.q-named D E d e ((q-resultless D E) (q-halted d e)))))
+      w s r i z
     where
       last : (b : Bool) (x y : Track) → cond (b && false) x y ≡ y
       last true x y = refl
@@ -153,15 +175,22 @@ module _ (D : Dir) (E : ℕ) where
       by : (b : Bool) → own D E d e ≡ b
           → Follow D E (Ends D E (other (SetStalled d e false))) (withPhase off w) (run concrete (code (other (SetStalled d e false))) s)
       by false h = quiet-law D E (other (SetStalled d e false)) refl (λ a x. not-and D E (own D E d e) (log.ended D E a) (log.cleared D E x) x h) (λ _ _. tt)
-          (let q = q-stalled d e false (own-false D E d e h) in (q-staged D E) 2 ((q-test D E) ((q-resultless D E) q) (reading.q-named D E d e ((q-resultless D E) q)))) w s r i z
-      by true h = follow.follow-cond D E (eqb (s .0 .globals .stage) 2) (λ two. follow.follow-cond D E (eqb e 0) (λ _. goes two) (λ _. follow.follow-cond D E (isAllocated (s .0 .allocator) d e) (λ _. goes two) (λ _. at-end (nothing, tt)))) (λ _. at-end (nothing, tt))
+          (let q = q-stalled d e false (own-false D E d e h) in
+          (q-staged D E) 2 ((q-test D E) ((q-resultless D E) q) (reading.q-named D E d e ((q-resultless D E) q)))) w s r i z
+      by true h = follow.follow-cond D E (eqb (s .0 .globals .stage) 2)
+          (λ two. follow.follow-cond D E (eqb e 0) (λ _. goes two)
+          (λ _. follow.follow-cond D E (isAllocated (s .0 .allocator) d e) (λ _. goes two) (λ _. at-end (nothing, tt))))
+          (λ _. at-end (nothing, tt))
         where
           goes : eqb (s .0 .globals .stage) 2 ≡ true
               → Follow D E (Ends D E (other (SetStalled d e false))) (withPhase off w) (run {i = false} concrete (resultless (bus.setStalled d e false)) s)
           goes two =
               let a = concrete .act no-wakes s in
               let v = act-view D E no-wakes refl s in
-              follow.follow-bind D E {P = Clears w} (follow.follow-bind D E {P = Clears w} (clearing d e w a (own-true D E d e h) (act-steady no-wakes refl s .places ∙ z .places) (subst (Fits w) (sym v) r) two (ap (λ (q : Seen). isOn (q .iso)) v ∙ i)) (λ y _ t m. at-end m))
+              follow.follow-bind D E {P = Clears w}
+              (follow.follow-bind D E {P = Clears w}
+              (clearing d e w a (own-true D E d e h) (act-steady no-wakes refl s .places ∙ z .places)
+              (subst (Fits w) (sym v) r) two (ap (λ (q : Seen). isOn (q .iso)) v ∙ i)) (λ y _ t m. at-end m))
               (λ y _ t m. at-end (rw (m .0) (rw h (m .1)), tt))
 
   -- ---- a bus reset
@@ -196,11 +225,20 @@ module _ (D : Dir) (E : ℕ) where
 
   resets : (w : Track) (s : St) → Whole s → Fits w (view D E (s .0)) → eqb (s .0 .globals .stage) 2 ≡ true
       → Follow D E (Restarted w) (withPhase off w) (run concrete bus.busReset s)
-  resets w s k r two = at-ask tt (λ _ a1 _ p1. at-ask tt (λ _ a2 _ p2. at-ask tt (λ _ a3 _ p3. follow.follow-bind D E (q-naks 15 1 .goes (withPhase off w) a3 (refl, λ _ _ _ _. refl) (loose D E (p3 .1 .places))) (λ y _ a m.
+  resets w s k r two = at-ask tt
+      (λ _ a1 _ p1. at-ask tt (λ _ a2 _ p2. at-ask tt (λ _ a3 _ p3. follow.follow-bind D E (q-naks 15 1 .goes (withPhase off w) a3 (
+        refl,
+        λ _ _ _ _. refl,
+      ) (loose D E (p3 .1 .places))) (λ y _ a m.
       let v : view D E (a .0) ≡ view D E (s .0) = m .1 ∙ (p3 .0 ∙ (p2 .0 ∙ p1 .0)) in
       subst (λ (u : Track). Follow D E (Restarted w) u (run concrete (bind (row bus-reset) (λ _. wakeAll)) a)) (sym (m .0))
-      (follow.follow-bind D E {f = λ (_ : Unit {0}) (u : St). run {i = false} concrete wakeAll u} (rests w a (m .2 .whole) (subst (Fits w) (sym v) r) (ap (λ (x : Seen). eqb (x .stage) 2) v ∙ two))
-      (λ y _ t x. at-end {s = concrete .act (waken every-endpoint) t} (x .0, subst (FitsAs initial false (w .len) false) (sym (act-view D E (waken every-endpoint) refl t)) (x .1), act-steady (waken every-endpoint) refl t .places ∙ x .2)))))))
+      (follow.follow-bind D E {f = λ (_ : Unit {0}) (u : St). run {i = false} concrete wakeAll u}
+      (rests w a (m .2 .whole) (subst (Fits w) (sym v) r) (ap (λ (x : Seen). eqb (x .stage) 2) v ∙ two))
+      (λ y _ t x. at-end {s = concrete .act (waken every-endpoint) t} (
+        x .0,
+        subst (FitsAs initial false (w .len) false) (sym (act-view D E (waken every-endpoint) refl t)) (x .1),
+        act-steady (waken every-endpoint) refl t .places ∙ x .2,
+      )))))))
 
   pub law-bus-poll : Law D E (other BusPoll)
   law-bus-poll w s r i z = follow.follow-cond D E (eqb (s .0 .globals .stage) 2)
@@ -213,9 +251,12 @@ module _ (D : Dir) (E : ℕ) where
       follow.follow-cond D E (busRst f)
       (λ _. follow.follow-bind D E (resets w a (p .1 .places) (subst (Fits w) (sym v) r) (ap (λ (x : Seen). eqb (x .stage) 2) v ∙ two)) (λ y _ t m.
       let g = withIntEn (withBusRst (t .0 .globals .«int_en») true) (t .0 .globals) in
-      follow.follow-at D E (m .0) (at-ask tt (λ _ u _ q. at-end (reset refl refl (subst (FitsAs initial false (w .len) false) (sym (q .0 ∙ put-globals D E g t)) (m .1)))))))
+      follow.follow-at D E (m .0)
+      (at-ask tt (λ _ u _ q. at-end (reset refl refl (subst (FitsAs initial false (w .len) false) (sym (q .0 ∙ put-globals D E g t)) (m .1)))))))
       (λ _. follow.follow-cond D E (suspend f)
-      (λ _. at-ask tt (λ m b _ q. at-ask tt (λ _ c _ l. at-ask tt (λ _ u _ n. at-end (kept (not-2 (suspended m)) refl (subst (Fits w) (sym (n .0 ∙ (put-globals D E (withIntEn (withSuspend (c .0 .globals .«int_en») true) (c .0 .globals)) c ∙ (l .0 ∙ (q .0 ∙ v))))) r))))))
+      (λ _. at-ask tt
+      (λ m b _ q. at-ask tt (λ _ c _ l. at-ask tt (λ _ u _ n. at-end (kept (not-2 (suspended m)) refl (subst (Fits w) (sym (n .0
+      ∙ (put-globals D E (withIntEn (withSuspend (c .0 .globals .«int_en») true) (c .0 .globals)) c ∙ (l .0 ∙ (q .0 ∙ v))))) r))))))
       (λ _. at-end (kept refl refl (subst (Fits w) (sym v) r))))))
       (λ _. at-end (kept refl refl (subst (Fits w) (sym (put-globals D E (withPower 1 (s .0 .globals)) a0 ∙ v0)) r))))
       (λ y n t p. at-end (after n y t p, tt)))
@@ -248,9 +289,12 @@ module _ (D : Dir) (E : ℕ) where
       q-new e = (q-bind D E) ((q-write D E) (q-ret D E)) (λ _. (q-bind D E) ((q-when D E) ((q-hand D E) (q-ret D E))) (λ _. (q-ret D E)))
 
       by : (a : alloc.Answer) (t : St) → Fits w (view D E (t .0)) → Whole t
-          → Follow D E (Ends D E (other (Allocate d kind address maximum interval))) (withPhase off w) (run {i = false} concrete (allocated-as d kind maximum a) t)
+          → Follow D E (Ends D E (other (Allocate d kind address maximum interval)))
+          (withPhase off w) (run {i = false} concrete (allocated-as d kind maximum a) t)
       by (variant.Refused n) t f l = at-end (f, tt)
-      by (variant.Given e base slots) t f l = follow.follow-more D E ((q-operation D E) (q-new {i = false} e) .goes (withPhase off w) t (refl, λ _ _ _ _. refl) (loose D E l)) (λ y a u m. (rw (m .0) (subst (Fits w) (sym (m .1)) f), tt))
+      by (variant.Given e base slots) t f l = follow.follow-more D E
+          ((q-operation D E) (q-new {i = false} e) .goes (withPhase off w) t (refl, λ _ _ _ _. refl) (loose D E l))
+          (λ y a u m. (rw (m .0) (subst (Fits w) (sym (m .1)) f), tt))
 
   each : (es : List Endpoint) (w : Track) (s : St) → Whole s → Fits w (view D E (s .0))
       → eqb (s .0 .globals .stage) 2 ≡ false
@@ -259,26 +303,32 @@ module _ (D : Dir) (E : ℕ) where
   each [] w s l r two = at-end (refl, r, l)
   each (e ∷ es) w s l r two =
       let f = alloc-fits D E w s (directionOf (e .address)) (e .kind) (e .address) (e .maximum) (e .interval) l r two in
-      each es w (concrete .act (allocate (directionOf (e .address)) (e .kind) (e .address) (e .maximum) (e .interval)) s) (f .1) (f .0) (ap (λ n. eqb n 2) (f .2) ∙ two)
+      each es w (concrete .act (allocate (directionOf (e .address)) (e .kind) (e .address) (e .maximum) (e .interval)) s)
+      (f .1) (f .0) (ap (λ n. eqb n 2) (f .2) ∙ two)
 
   q-announce : {i : Bool} (d : Dir) (e : ℕ) → Quiet D E false (Off D E) (announce {i = i} d e)
-  q-announce d e = (q-bind D E) ((q-got D E) (ep-cell d e)) (λ s. (q-bind D E) ((q-write D E) (q-ret D E)) (λ _. (q-bind D E) ((q-when D E) ((q-hand D E) (q-ret D E))) (λ _. (q-ret D E))))
+  q-announce d e = (q-bind D E) ((q-got D E) (ep-cell d e))
+      (λ s. (q-bind D E) ((q-write D E) (q-ret D E)) (λ _. (q-bind D E) ((q-when D E) ((q-hand D E) (q-ret D E))) (λ _. (q-ret D E))))
 
   q-begins-at : {i : Bool} (d : Dir) (x n e : ℕ) → Quiet D E false (Off D E) (beginsAt {i = i} d x n e)
   unfolding beginsAt
   q-begins-at d x zero e = (q-ret D E)
-  q-begins-at d x (suc n) e = (q-bind D E) ((q-got D E) allocator-cell) (λ a. (q-bind D E) ((q-got D E) (ep-cell d e)) (λ s. (q-test D E) (q-ret D E) (q-begins-at d x n (suc e))))
+  q-begins-at d x (suc n) e = (q-bind D E) ((q-got D E) allocator-cell)
+      (λ a. (q-bind D E) ((q-got D E) (ep-cell d e)) (λ s. (q-test D E) (q-ret D E) (q-begins-at d x n (suc e))))
 
   q-after : {i : Bool} (n total : ℕ) (d : Dir) (e : ℕ) → Quiet D E false (Off D E) (announceAfter {i = i} n total d e)
   unfolding announceAfter
   q-after zero total d e = (q-ret D E)
-  q-after (suc n) total d e = (q-bind D E) ((q-bind D E) ((q-got D E) allocator-cell) (λ a. (q-bind D E) ((q-got D E) (ep-cell d e)) (λ s. (q-ret D E)))) (λ x. (q-bind D E) (q-begins-at Out x 15 1) (λ o. (q-test D E)
+  q-after (suc n) total d e = (q-bind D E)
+      ((q-bind D E) ((q-got D E) allocator-cell) (λ a. (q-bind D E) ((q-got D E) (ep-cell d e)) (λ s. (q-ret D E))))
+      (λ x. (q-bind D E) (q-begins-at Out x 15 1) (λ o. (q-test D E)
       ((q-bind D E) (q-begins-at In x 15 1) (λ m. (q-bind D E) (q-announce In m) (λ _. q-after n total In m)))
       ((q-bind D E) (q-announce Out o) (λ _. q-after n total Out o))))
 
   q-announces : {i : Bool} (es : List Endpoint) → Quiet D E false (Off D E) (announceAll {i = i} es)
   q-announces [] = (q-ret D E)
-  q-announces (e ∷ es) = (q-bind D E) (q-announce (directionOf (e .address)) (e .address % 128)) (λ _. q-after (length es) (suc (length es)) (directionOf (e .address)) (e .address % 128))
+  q-announces (e ∷ es) = (q-bind D E) (q-announce (directionOf (e .address)) (e .address % 128))
+      (λ _. q-after (length es) (suc (length es)) (directionOf (e .address)) (e .address % 128))
 
   pub law-allocate-all : (bytes : List ℕ) → Law D E (other (AllocateAll bytes))
   law-allocate-all bytes w s r i z = follow.follow-cond D E (eqb (s .0 .globals .stage) 1)
@@ -292,19 +342,29 @@ module _ (D : Dir) (E : ℕ) where
           → Follow D E (Ends D E (other (AllocateAll bytes))) (withPhase off w) (run {i = false} concrete (allocate-read bytes a) s)
       by (listed.Refused n) two = at-end (r, tt)
       by listed.Listed two = follow.follow-cond D E (eqb (trialOf (s .0 .allocator) (listOf bytes) .refusal) 0)
-          (λ _. follow.follow-bind D E (each (listOf bytes) w s (z .places) r two) (λ y _ t m. subst (λ (u : Track). Follow D E (Ends D E (other (AllocateAll bytes))) u (run {i = false} concrete (operation (announceAll (listOf bytes))) t)) (sym (m .0))
-          (follow.follow-more D E ((q-operation D E) (q-announces (listOf bytes)) .goes (withPhase off w) t (refl, λ _ _ _ _. refl) (loose D E (m .2))) (λ x a u n. (rw (n .0) (subst (Fits w) (sym (n .1)) (m .1)), tt)))))
+          (λ _. follow.follow-bind D E (each (listOf bytes) w s (z .places) r two)
+          (λ y _ t m. subst (λ (u : Track). Follow D E (Ends D E (other (AllocateAll bytes))) u
+          (run {i = false} concrete (operation (announceAll (listOf bytes))) t)) (sym (m .0))
+          (follow.follow-more D E ((q-operation D E) (q-announces (listOf bytes)) .goes (withPhase off w) t (
+            refl,
+            λ _ _ _ _. refl,
+          ) (loose D E (m .2))) (λ x a u n. (rw (n .0) (subst (Fits w) (sym (n .1)) (m .1)), tt)))))
           (λ _. at-end (r, tt))
 
   pub law-start : (maximum : ℕ) → Law D E (other (Start maximum))
   law-start maximum w s r i z = follow.follow-cond D E (eqb (s .0 .globals .stage) 1)
-      (λ _. by (allocateEp0Of (s .0 .allocator) maximum .answer) (concrete .act (allocate0 maximum) s) (started D E w maximum (s .0) r) (started-places maximum (s .0) (z .places)))
+      (λ _. by (allocateEp0Of (s .0 .allocator) maximum .answer) (concrete .act (allocate0 maximum) s)
+      (started D E w maximum (s .0) r) (started-places maximum (s .0) (z .places)))
       (λ _. at-end (r, tt))
     where
       q-start : {i : Bool} → Quiet D E false (Off D E) (startEp0 {i = i} maximum)
-      q-start = (q-bind D E) ((q-hand D E) (q-ret D E)) (λ _. (q-bind D E) ((q-write D E) (q-ret D E)) (λ _. (q-bind D E) ((q-write D E) (q-ret D E)) (λ _. (q-bind D E) ((q-write D E) (q-ret D E)) (λ _. (q-write D E) (q-ret D E)))))
+      q-start = (q-bind D E) ((q-hand D E) (q-ret D E))
+          (λ _. (q-bind D E) ((q-write D E) (q-ret D E))
+          (λ _. (q-bind D E) ((q-write D E) (q-ret D E)) (λ _. (q-bind D E) ((q-write D E) (q-ret D E)) (λ _. (q-write D E) (q-ret D E)))))
 
       by : (a : alloc.Answer) (t : St) → Fits w (view D E (t .0)) → Whole t
           → Follow D E (Ends D E (other (Start maximum))) (withPhase off w) (run {i = false} concrete (started-as maximum a) t)
       by (variant.Refused n) t f l = at-end (f, tt)
-      by (variant.Given e base slots) t f l = follow.follow-more D E ((q-resultless D E) (q-start {i = false}) .goes (withPhase off w) t (refl, λ _ _ _ _. refl) (loose D E l)) (λ y a u m. (rw (m .0) (subst (Fits w) (sym (m .1)) f), tt))
+      by (variant.Given e base slots) t f l = follow.follow-more D E
+          ((q-resultless D E) (q-start {i = false}) .goes (withPhase off w) t (refl, λ _ _ _ _. refl) (loose D E l))
+          (λ y a u m. (rw (m .0) (subst (Fits w) (sym (m .1)) f), tt))

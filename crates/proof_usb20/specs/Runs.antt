@@ -11,7 +11,8 @@ use Rattle.model.specs.Every as ways
 use Rattle.model.specs.Answers.{Answer, Refused}
 use Rattle.model.specs.Calls.{Config, Op, interrupt, slotted, other, aside, Aside, asideCode, code, calls, startRow}
 use Rattle.model.specs.Machine as machine
-use Rattle.model.specs.Machine.{Buf, Call, start, begin, go, question, Event, Ans, ended, Awaits, Way, idle, busy, Machine, misfit, beside, begun, continued, started, stay}
+use Rattle.model.specs.Machine.{Buf, Call, start, begin, go, question, Event, Ans, ended, Awaits, Way, idle, busy}
+use Rattle.model.specs.Machine.{Machine, misfit, beside, begun, continued, started, stay}
 use Rattle.model_ops.specs.Rings.{St}
 use Rattle.model_ops.specs.Concrete.{concrete}
 use Rattle.machine.specs.Suspended.{driverOf, drive, haltsAs}
@@ -21,7 +22,9 @@ use Rattle.proof_book.specs.SortingLaws.{after-sorting}
 use Rattle.proof_wake_ups.specs.Rooms.{Few, Roomy}
 use Rattle.proof_wake_ups.specs.RoomsLaws.{rooms, start-rooms}
 use Rattle.proof_usb20.specs.Watch.{Along, at-end, at-ask}
-use Rattle.proof_usb20.specs.Observer.{Observer, Under, at-rest, doing, starting, serves, Watched, watched, startedBy, beginsBy, noted, ClaimBegun, Claim, Standing, ReadAt, Read, Reads, All, Meaning}
+use Rattle.proof_usb20.specs.Observer.{Observer, Under, at-rest, doing, starting, serves, Watched, watched}
+use Rattle.proof_usb20.specs.Observer.{startedBy, beginsBy, noted, ClaimBegun, Claim, Standing, ReadAt, Read}
+use Rattle.proof_usb20.specs.Observer.{Reads, All, Meaning}
 
 -- a chip that may bring anything
 abbrev pub anyChip : ways.Chip
@@ -109,7 +112,8 @@ module _ (O : Observer) where
     -- a start-up's own script
     starts : (i : Bool) (v : ℕ) (b : Buf) (w : O .Log) → w ≡ O .before → {out : tree.Out St Answer}
         → Ups (λ s. R (O .before) (O .view (s .0))) out → Step (go v) b (haltsAs i out) (watched O w starting)
-    starts i v b w e (at-end {s = s} f) = let r = subst (λ (x : O .Log). R x (O .view (s .0))) (sym e) f in record { claim = tt; standing = L .stands w (O .view (s .0)) r; next = r }
+    starts i v b w e (at-end {s = s} f) = let r = subst (λ (x : O .Log). R x (O .view (s .0))) (sym e) f in
+        record { claim = tt; standing = L .stands w (O .view (s .0)) r; next = r }
     starts i v b w e (at-ask _ k) = record { claim = tt; standing = tt; next = (e, λ v t h. k v t tt h) }
 
     started-up : (c : Config) (b : Buf) (n : ℕ) → startRow c b ≡ n → (m : Machine Answer Driver) (x : Watched O)
@@ -169,14 +173,19 @@ module _ (O : Observer) where
     -- at rest, with row 1
     afresh : (o : Op) (b : Buf) (g : Bool) (d : Driver) (l : Buf) (w : O .Log) → R w (O .view d) → O .Meant (O .view d)
         → Sorting d
-        → Steps (begin o) b (cond g (stay calls driverOf 1 (record { way = idle; st = d; buf = l })) (begun calls driverOf (λ s. s) o (record { way = idle; st = d; buf = l }) idle b)) (watched O w at-rest)
-    afresh o b true d l w r p z few = let n = L .unlent o w (O .view d) r in record { claim = L .fair-1 o (O .opens o w); standing = L .stands _ (O .view d) n; next = n }
+        → Steps (begin o) b
+        (cond g (stay calls driverOf 1 (record { way = idle; st = d; buf = l }))
+        (begun calls driverOf (λ s. s) o (record { way = idle; st = d; buf = l }) idle b)) (watched O w at-rest)
+    afresh o b true d l w r p z few = let n = L .unlent o w (O .view d) r in
+        record { claim = L .fair-1 o (O .opens o w); standing = L .stands _ (O .view d) n; next = n }
     afresh o b false d l w r p z few = begins o (calls .irq o) b w (L .call o w (d, b) r p z) (L .asks o (d, b)) few
 
     -- row 1 of a call in the midst of an operation
     row-1 : (o : Op) (b : Buf) (g : Bool) (i : Bool) (y : Awaits) (k : ℕ → St → tree.Out St Answer) (d : Driver) (l : Buf) (x : Watched O)
         → Sorting d → J (busy i y k) d (x .log) (x .under)
-        → Step (begin o) b (cond g (stay calls driverOf 1 (record { way = busy i y k; st = d; buf = l })) (begun calls driverOf (λ s. s) o (record { way = busy i y k; st = d; buf = l }) (busy i y k) b)) x
+        → Step (begin o) b
+        (cond g (stay calls driverOf 1 (record { way = busy i y k; st = d; buf = l }))
+        (begun calls driverOf (λ s. s) o (record { way = busy i y k; st = d; buf = l }) (busy i y k) b)) x
     row-1 o b true i y k d l x z j = stepped o b i y k x (ended (Refused 1)) d l j
     row-1 o b false i y k d l x z j = during o b i y k d l x z j
 
@@ -209,7 +218,8 @@ module _ (O : Observer) where
 
     continues : (v : ℕ) (b : Buf) (g : Bool) (y : Way Answer Driver) (d : Driver) (l : Buf) (w : O .Log) (u : Under)
         → J y d w u → Sorting d
-        → let c = cond g (stay calls driverOf 1 (record { way = y; st = d; buf = l })) (continued calls driverOf (λ s. s) v (record { way = y; st = d; buf = l }) y b) in
+        → let c = cond g (stay calls driverOf 1 (record { way = y; st = d; buf = l }))
+        (continued calls driverOf (λ s. s) v (record { way = y; st = d; buf = l }) y b) in
         ReadAt O v (c .0) (serves (c .1 .way)) w u → Steps (go v) b c (watched O w u)
     continues v b true idle d l w at-rest j z r few = record { claim = tt; standing = L .stands w (O .view d) j; next = j }
     continues v b false idle d l w at-rest j z r few = record { claim = tt; standing = L .stands w (O .view d) j; next = j }
@@ -227,7 +237,9 @@ module _ (O : Observer) where
         g = cond (calls .slots o) (misfit calls driverOf (m .st) b) false
 
         by : (y : Way Answer Driver) (u : Under) → J y (m .st) (x .log) u
-            → Steps (begin o) b (cond g (stay calls driverOf 1 (record { way = y; st = m .st; buf = m .buf })) (begun calls driverOf (λ s. s) o (record { way = y; st = m .st; buf = m .buf }) y b)) (watched O (x .log) u)
+            → Steps (begin o) b
+            (cond g (stay calls driverOf 1 (record { way = y; st = m .st; buf = m .buf }))
+            (begun calls driverOf (λ s. s) o (record { way = y; st = m .st; buf = m .buf }) y b)) (watched O (x .log) u)
         by idle at-rest i few = afresh o b g (m .st) (m .buf) (x .log) i p z few
         by (busy h a k) u i few = row-1 o b g h a k (m .st) (m .buf) (watched O (x .log) u) z i
     step (go v) b m x j z p r few = continues v b (misfit calls driverOf (m .st) b) (m .way) (m .st) (m .buf) (x .log) (x .under) j z r few
@@ -244,8 +256,12 @@ module _ (O : Observer) where
     each (e ∷ es) m x j z p k r =
         let y = drive (e .call) m (e .lent) in
         let f = rooms (e .call) k (e .lent) in
-        let a = step (e .call) (e .lent) m x j (z [] (e ∷ es) refl) (p [] (e ∷ es) refl) (r .0) (f .answer) in
-        (a .claim, a .standing, each es (y .1) (noted O (e .call) (e .lent) (y .0) (serves (y .1 .way)) x) (a .next) (λ ds fs h. z (e ∷ ds) fs (ap (e ∷_) h)) (λ ds fs h. p (e ∷ ds) fs (ap (e ∷_) h)) (f .machine) (r .1))
+        let a = step (e .call) (e .lent) m x j (z [] (e ∷ es) refl) (p [] (e ∷ es) refl) (r .0) (f .answer) in (
+          a .claim,
+          a .standing,
+          each es (y .1) (noted O (e .call) (e .lent) (y .0) (serves (y .1 .way)) x) (a .next)
+              (λ ds fs h. z (e ∷ ds) fs (ap (e ∷_) h)) (λ ds fs h. p (e ∷ ds) fs (ap (e ∷_) h)) (f .machine) (r .1),
+        )
 
     fresh : {out : tree.Out St Answer} → Ups (λ s. R (O .before) (O .view (s .0))) out
         → let y = haltsAs false out in J (y .1 .way) (y .1 .st) (startedBy O (y .0) .log) (startedBy O (y .0) .under)

@@ -17,11 +17,14 @@ use Rattle.ring.specs.Slot.{slotAddr, joinedOf, passedOf, hasWaiting}
 use Rattle.ring.specs.Out.{hasRoomOut, cappedAt, overrunOf, arrivedOf, armedAt, openedOf, closedOf}
 use Rattle.ring.specs.In.{completedOf, loadedOf, unloadedOf}
 use Rattle.marks.specs.Copies.{copied}
-use Rattle.model.specs.Script.{Act, complete, reset-ring, set-enabled, fill, fill0, open-oldest, close-oldest, take-oldest, enqueue, allocate, allocate0, no-wakes, waken, DmaStep, arrive, send, place, place0}
+use Rattle.model.specs.Script.{Act, complete, reset-ring, set-enabled, fill, fill0, open-oldest, close-oldest}
+use Rattle.model.specs.Script.{take-oldest, enqueue, allocate, allocate0, no-wakes, waken, DmaStep, arrive, send, place}
+use Rattle.model.specs.Script.{place0}
 use Rattle.model.specs.Statics.{isOn, isoOuts}
 use Rattle.model.specs.TransferKinds.{allocates}
 use Rattle.model_ops.specs.Records.{isoOut, configured, enabledOn}
-use Rattle.model_ops.specs.Rings.{St, completeOn, emptied, emptiedOn, openOn, closeOn, takeOn, roomOn, queuedOn, enqueueOn, recordedOn, admittedOn, arrivedAt, arriveOn, sendOn, placeOn}
+use Rattle.model_ops.specs.Rings.{St, completeOn, emptied, emptiedOn, openOn, closeOn, takeOn, roomOn, queuedOn}
+use Rattle.model_ops.specs.Rings.{enqueueOn, recordedOn, admittedOn, arrivedAt, arriveOn, sendOn, placeOn}
 use Rattle.model_ops.specs.Concrete.{concrete}
 use Rattle.proof_usb20.specs.Ep0.{recOf, view}
 
@@ -61,7 +64,9 @@ flag-set : (l : List EpState) (k j : ℕ) (r : EpState) → recOf r ≡ recOf (g
 flag-set l k j r h = elim (ℕ-discrete j k) [
   | yes p ↦ rw p (elim (decLt k (length l)) [
     | yes q ↦ ap recOf (getD-set-same l k r noEp q) ∙ h
-    | no q ↦ ap recOf (List·getD-eq-default (set l k r) noEp {n = k} (omega (arith, length-set l k r)) ∙ sym (List·getD-eq-default l noEp {n = k} (omega arith)))
+    | no q ↦ ap recOf
+        (List·getD-eq-default (set l k r) noEp {n = k} (omega (arith, length-set l k r))
+        ∙ sym (List·getD-eq-default l noEp {n = k} (omega arith)))
   ])
   | no p ↦ ap recOf (getD-set-other l k j r noEp p)
 ]
@@ -141,7 +146,10 @@ hand-same (send e) s = either (hasWaiting (epOn (s .0) In e)) (record-same (s .0
 hand-same (place Out e) s = by (isSet (isoOuts (s .0 .globals)) (e % 16))
   where
     by : (b : Bool)
-        → Same (s .0) (cond {A = ℕ × Driver} b (epOn (s .0) Out e .«armed_slot», s .0) (epOn (s .0) Out e .base, withOn (s .0) Out e (armedAt (epOn (s .0) Out e) (epOn (s .0) Out e .base))) .1)
+        → Same (s .0) (cond {A = ℕ × Driver} b (epOn (s .0) Out e .«armed_slot», s .0) (
+          epOn (s .0) Out e .base,
+          withOn (s .0) Out e (armedAt (epOn (s .0) Out e) (epOn (s .0) Out e .base)),
+        ) .1)
     by true = same (s .0)
     by false = armed-same (s .0) e (epOn (s .0) Out e .base)
 hand-same (place In e) s = same (s .0)

@@ -59,7 +59,8 @@ entry-other : (w : Log) (x : Transfer) → eqb (endpoint (x .st)) 0 ≡ false
 entry-other w x h = rw h refl
 
 naks-first : (w : Log) (s : St) (x : Transfer) → Plainly s
-    → Watch Keeps Any (Exactly (entry w x) (view (s .0))) (withPhase (shows (x .busy) (x .st)) w) (run {i = true} concrete (when (not (x .busy) || (not (isSof (x .st)) && not (eqb (endpoint (x .st)) 0))) (nakNonIso (x .st))) s)
+    → Watch Keeps Any (Exactly (entry w x) (view (s .0))) (withPhase (shows (x .busy) (x .st)) w)
+    (run {i = true} concrete (when (not (x .busy) || (not (isSof (x .st)) && not (eqb (endpoint (x .st)) 0))) (nakNonIso (x .st))) s)
 naks-first w s x k = by (eqb (endpoint (x .st)) 0) refl (x .busy) refl
   where
     C : Bool
@@ -77,9 +78,13 @@ naks-first w s x k = by (eqb (endpoint (x .st)) 0) refl (x .busy) refl
 
     by : (m : Bool) → eqb (endpoint (x .st)) 0 ≡ m → (b : Bool) → x .busy ≡ b
         → Watch Keeps Any (Exactly (entry w x) (view (s .0))) (withPhase (shows (x .busy) (x .st)) w) (run {i = true} concrete (when C (nakNonIso (x .st))) s)
-    by true h false b = watch-cond C (λ _. watch-more (nak-own w (x .busy) (x .st) s k (x .st) h (token (x .st)) refl (togOk (x .st)) refl) (λ y _ t m. (m .0 ∙ entry-free w x h b, m .1, m .2))) (λ q. differ (sym q ∙ free b))
+    by true h false b = watch-cond C
+        (λ _. watch-more (nak-own w (x .busy) (x .st) s k (x .st) h (token (x .st)) refl (togOk (x .st)) refl)
+        (λ y _ t m. (m .0 ∙ entry-free w x h b, m .1, m .2))) (λ q. differ (sym q ∙ free b))
     by true h true b = watch-cond C (λ q. differ (sym (shut b h) ∙ q)) (λ _. at-end (entry-busy w x h b, refl, k))
-    by false h c b = watch-cond C (λ _. watch-more (nak-other w (x .busy) (x .st) s k (x .st) h) (λ y _ t m. (m .0 ∙ entry-other w x h, m .1, m .2))) (λ _. at-end (entry-other w x h, refl, k))
+    by false h c b = watch-cond C
+        (λ _. watch-more (nak-other w (x .busy) (x .st) s k (x .st) h) (λ y _ t m. (m .0 ∙ entry-other w x h, m .1, m .2)))
+        (λ _. at-end (entry-other w x h, refl, k))
 
 -- ---- served
 
@@ -132,8 +137,15 @@ serves : (w : Log) (v : View) (x : Transfer) (l : Log) (t : St) {su : Bool} → 
 serves w v x l t {su = su} r two e (others h b m q k) = back m (at-ask {q = Read FrameNo 0} tt (λ frame u _ i.
     let iso = isoFor (token (x .st)) (concrete .get (ep-cell Out (endpoint (x .st))) t) (concrete .get (ep-cell In (endpoint (x .st))) t) in
     let y = framed x iso (u .0 .globals .«sof_frame») frame in
-    back (elsewhere b (x .st) w h) (watch-more (q-served (token (y .st)) y iso frame (ap (λ (n : ℕ). eqb (endpoint n) 0) (framed-st x iso (u .0 .globals .«sof_frame») frame) ∙ h) .goes (withPhase off w) u refl (plainly (i .1)))
-    (λ z _ o j. (subst (λ (z : Log). R z (view (o .0))) (sym (j .0)) (subst (R w) (sym (j .1 ∙ (i .0 ∙ q))) r), ap (λ (a : View). a .stage) (j .1 ∙ (i .0 ∙ q)) ∙ two, ap (λ (z : Log). z .setup-seen) (j .0) ∙ e)))))
+    back (elsewhere b (x .st) w h)
+    (watch-more
+    (q-served (token (y .st)) y iso frame (ap (λ (n : ℕ). eqb (endpoint n) 0) (framed-st x iso (u .0 .globals .«sof_frame») frame)
+    ∙ h) .goes (withPhase off w) u refl (plainly (i .1)))
+    (λ z _ o j. (
+      subst (λ (z : Log). R z (view (o .0))) (sym (j .0)) (subst (R w) (sym (j .1 ∙ (i .0 ∙ q))) r),
+      ap (λ (a : View). a .stage) (j .1 ∙ (i .0 ∙ q)) ∙ two,
+      ap (λ (z : Log). z .setup-seen) (j .0) ∙ e,
+    )))))
   where
     elsewhere : (b : Bool) (st : ℕ) (w : Log) → eqb (endpoint st) 0 ≡ false
         → seen b st (withPhase off w) ≡ withPhase off w
@@ -143,10 +155,16 @@ serves w v x l t {su = su} r two e (mine h m q k) = back m (at-ask {q = Read Fra
     let n = concrete .get (ep-cell In (endpoint (x .st))) t in
     let iso = isoFor (token (x .st)) o n in
     let zero-ep = eqb-true (endpoint (x .st)) 0 h in
-    let not-iso = not-iso-for (token (x .st)) o n (ap (λ (e : ℕ). isOn (concrete .get (ep-cell Out e) t .iso)) zero-ep ∙ k .plain Out) (ap (λ (e : ℕ). isOn (concrete .get (ep-cell In e) t .iso)) zero-ep ∙ k .plain In) in
-    let same : framed x iso (u .0 .globals .«sof_frame») frame ≡ x = ap (λ (b : Bool). cond b (released x) x) (not-own x (token (x .st)) iso (u .0 .globals .«sof_frame») frame refl not-iso) in
-    back (here (x .busy) (x .st) (naked (token (x .st)) (x .busy) (togOk (x .st)) w) h) (subst (λ (y : Transfer). Watch Keeps Any (Served su) (log.ofToken (token (x .st)) (x .busy) (togOk (x .st)) (withPhase off (naked (token (x .st)) (x .busy) (togOk (x .st)) w))) (run concrete (servedAs (token (y .st)) y iso frame) u)) (sym same)
-    (served-ep0 x frame h w u (plainly (i .1)) (subst (R w) (sym (i .0 ∙ q)) r) (ap (λ (a : View). a .stage) (i .0 ∙ q) ∙ two) e (token (x .st)) iso (x .busy) (togOk (x .st)) refl refl not-iso))))
+    let not-iso = not-iso-for (token (x .st)) o n (ap (λ (e : ℕ). isOn (concrete .get (ep-cell Out e) t .iso)) zero-ep ∙ k .plain Out)
+    (ap (λ (e : ℕ). isOn (concrete .get (ep-cell In e) t .iso)) zero-ep ∙ k .plain In) in
+    let same : framed x iso (u .0 .globals .«sof_frame») frame ≡ x = ap (λ (b : Bool). cond b (released x) x)
+    (not-own x (token (x .st)) iso (u .0 .globals .«sof_frame») frame refl not-iso) in
+    back (here (x .busy) (x .st) (naked (token (x .st)) (x .busy) (togOk (x .st)) w) h)
+    (subst (λ (y : Transfer). Watch Keeps Any (Served su)
+    (log.ofToken (token (x .st)) (x .busy) (togOk (x .st)) (withPhase off (naked (token (x .st)) (x .busy) (togOk (x .st)) w)))
+    (run concrete (servedAs (token (y .st)) y iso frame) u)) (sym same)
+    (served-ep0 x frame h w u (plainly (i .1)) (subst (R w) (sym (i .0 ∙ q)) r) (ap (λ (a : View). a .stage) (i .0 ∙ q)
+    ∙ two) e (token (x .st)) iso (x .busy) (togOk (x .st)) refl refl not-iso))))
   where
     here : (b : Bool) (st : ℕ) (w : Log) → eqb (endpoint st) 0 ≡ true
         → seen b st (withPhase off w) ≡ log.ofToken (token st) b (togOk st) (withPhase off w)
@@ -159,7 +177,8 @@ transfers : (w : Log) (s : St) {su : Bool} → R w (view (s .0)) → view (s .0)
 transfers w s r two e = at-ask tt (λ m a _ i. at-ask tt (λ st b _ j. at-ask tt (λ n c _ l.
     let v = l .0 ∙ (j .0 ∙ i .0) in
     watch-bind (naks-first w c (entered m st n) (plainly (l .1))) (λ y _ o q. back (q .0) (at-ask tt (λ _ u _ p.
-    watch-bind (settles w u (entered m st n) (plainly (p .1))) (λ z x t k. serves w (view (s .0)) x z t r two e (subst (λ (y : View). Settled w y z x t) (p .0 ∙ (q .1 ∙ v)) k))))))))
+    watch-bind (settles w u (entered m st n) (plainly (p .1)))
+    (λ z x t k. serves w (view (s .0)) x z t r two e (subst (λ (y : View). Settled w y z x t) (p .0 ∙ (q .1 ∙ v)) k))))))))
 
 -- ---- the setup packet
 
@@ -173,7 +192,8 @@ cleared p = withArmed 0 (withReady 0 p)
 ready-setup : (x : Log) → x .setup-seen ≡ true → {v y : View} → y ≡ v
     → Rel (x .rx) (x .tx) (x .len) (pipe.after pipe.setup (x .pipe)) pipe.nothing true v
     → R (cond (x .setup-seen) (set-up x) x) y
-ready-setup x e {v = v} {y = y} h r = subst (λ (b : Bool). R (cond b (set-up x) x) y) (sym e) (inr (subst (Rel (x .rx) (x .tx) (x .len) (pipe.after pipe.setup (x .pipe)) pipe.nothing true) (sym h) r))
+ready-setup x e {v = v} {y = y} h r = subst (λ (b : Bool). R (cond b (set-up x) x) y)
+    (sym e) (inr (subst (Rel (x .rx) (x .tx) (x .len) (pipe.after pipe.setup (x .pipe)) pipe.nothing true) (sym h) r))
 
 sets-up : (w : Log) (s : St) → view (s .0) .stage ≡ 2 → w .setup-seen ≡ true
     → Watch Keeps Any (λ x _ t. R (cond (x .setup-seen) (set-up x) x) (view (t .0))) w (run concrete (onSetup {i = true}) s)
@@ -183,9 +203,12 @@ sets-up w s two e = at-ask tt (λ _ a _ i. at-ask tt (λ _ b _ j. at-ask tt (λ 
     let n = inWith cleared o in
     let g = withSetup 1 (concrete .look (setup-word 0) b) (concrete .look (setup-word 1) b) (concrete .get globals-cell n) in
     let p = concrete .put globals-cell g n in
-    let seen-p : view (p .0) ≡ setReady 1 (setIn aborted (setOut aborted (view (s .0)))) = put-globals g n ∙ ap (setReady 1) (in-view cleared o (out-whole cleared b h) ∙ ap (setIn aborted) (out-view cleared b h ∙ ap (setOut aborted) (j .0 ∙ i .0))) in
+    let seen-p : view (p .0) ≡ setReady 1 (setIn aborted (setOut aborted (view (s .0)))) = put-globals g n ∙ ap (setReady 1)
+    (in-view cleared o (out-whole cleared b h) ∙ ap (setIn aborted) (out-view cleared b h ∙ ap (setOut aborted) (j .0 ∙ i .0))) in
     let c′ = concrete .act (waken (wakeCode Out 0 ∷ [])) c in
-    at-end (ready-setup (withTx (wordOf word.NAK word.DATA0 false) (withRx (wordOf word.NAK word.DATA0 false) w)) e (act-view (waken (wakeCode In 0 ∷ [])) refl c′ ∙ (act-view (waken (wakeCode Out 0 ∷ [])) refl c ∙ (l .0 ∙ seen-p))) (set-up-fits _ _ _ (w .pipe) (view (s .0)) two nak-word nak-word)))))
+    at-end (ready-setup (withTx (wordOf word.NAK word.DATA0 false) (withRx (wordOf word.NAK word.DATA0 false) w)) e
+    (act-view (waken (wakeCode In 0 ∷ [])) refl c′ ∙ (act-view (waken (wakeCode Out 0 ∷ [])) refl c
+    ∙ (l .0 ∙ seen-p))) (set-up-fits _ _ _ (w .pipe) (view (s .0)) two nak-word nak-word)))))
 
 -- ---- the flags
 
@@ -195,7 +218,11 @@ masks : (f : ℕ → ℕ) (w : Log) (s : St) → Plainly s
       wakeBus) s)
 masks f w s k =
     let h : Globals → Globals = λ g. withIntEn (f (g .«int_en»)) g in
-    at-ask tt (λ _ t _ i. at-end (refl, act-view (waken (busCode ∷ [])) refl t ∙ (i .0 ∙ put-kept h (λ _. refl) s), steadily (act-steady (waken (busCode ∷ [])) refl t) (plainly (i .1))))
+    at-ask tt (λ _ t _ i. at-end (
+      refl,
+      act-view (waken (busCode ∷ [])) refl t ∙ (i .0 ∙ put-kept h (λ _. refl) s),
+      steadily (act-steady (waken (busCode ∷ [])) refl t) (plainly (i .1)),
+    ))
 
 -- at its end
 abbrev Over : {A : Type 0} → Log → A → St → Type 0
@@ -208,11 +235,21 @@ on-interrupt : (w : Log) (s : St) → R w (view (s .0)) → view (s .0) .stage �
     → Watch Keeps Any Over (opens interrupt w) (run concrete (onInterrupt {i = true}) s)
 on-interrupt w s r two = at-ask tt (λ f b _ j.
     let u = withFlags (setupAct f) (opens interrupt w) in
-    watch-bind {P = Exactly u (view (s .0))} (watch-cond (busRst f) (λ _. watch-more (masks (λ w. withBusRst w false) u b (plainly (j .1))) (λ _ _ _ m. (m .0, m .1 ∙ j .0, m .2))) (λ _. at-end (refl, j .0, plainly (j .1)))) (λ x _ c m. back (m .0) (
-    watch-bind {P = Exactly u (view (s .0))} (watch-cond (suspend f) (λ _. watch-more (masks (λ w. withSuspend w false) u c (m .2)) (λ _ _ _ n. (n .0, n .1 ∙ m .1, n .2))) (λ _. at-end (refl, m .1, m .2))) (λ x _ d n. back (n .0) (
-    watch-bind {P = Exactly u (view (s .0))} (watch-cond (fifoOv f) (λ _. at-ask tt (λ _ t _ l. at-end (refl, l .0 ∙ n .1, plainly (l .1)))) (λ _. at-end (refl, n .1, n .2))) (λ x _ e o. back (o .0) (
-    watch-bind {P = Exactly u (view (s .0))} (watch-cond (hstSof f) (λ _. at-ask tt (λ _ t _ l. at-end (refl, l .0 ∙ o .1, plainly (l .1)))) (λ _. at-end (refl, o .1, o .2))) (λ x _ g p. back (p .0) (
-    watch-bind {P = Served (setupAct f)} (watch-cond (transfer f) (λ _. transfers u g (subst (R u) (sym (p .1)) r) (ap (λ (y : View). y .stage) (p .1) ∙ two) refl) (λ _. at-end (subst (R u) (sym (p .1)) r, ap (λ (y : View). y .stage) (p .1) ∙ two, refl))) (λ x _ t k.
+    watch-bind {P = Exactly u (view (s .0))}
+    (watch-cond (busRst f) (λ _. watch-more (masks (λ w. withBusRst w false) u b (plainly (j .1))) (λ _ _ _ m. (m .0, m .1 ∙ j .0, m .2)))
+    (λ _. at-end (refl, j .0, plainly (j .1)))) (λ x _ c m. back (m .0) (
+    watch-bind {P = Exactly u (view (s .0))}
+    (watch-cond (suspend f) (λ _. watch-more (masks (λ w. withSuspend w false) u c (m .2)) (λ _ _ _ n. (n .0, n .1 ∙ m .1, n .2)))
+    (λ _. at-end (refl, m .1, m .2))) (λ x _ d n. back (n .0) (
+    watch-bind {P = Exactly u (view (s .0))}
+    (watch-cond (fifoOv f) (λ _. at-ask tt (λ _ t _ l. at-end (refl, l .0 ∙ n .1, plainly (l .1)))) (λ _. at-end (refl, n .1, n .2)))
+    (λ x _ e o. back (o .0) (
+    watch-bind {P = Exactly u (view (s .0))}
+    (watch-cond (hstSof f) (λ _. at-ask tt (λ _ t _ l. at-end (refl, l .0 ∙ o .1, plainly (l .1)))) (λ _. at-end (refl, o .1, o .2)))
+    (λ x _ g p. back (p .0) (
+    watch-bind {P = Served (setupAct f)}
+    (watch-cond (transfer f) (λ _. transfers u g (subst (R u) (sym (p .1)) r) (ap (λ (y : View). y .stage) (p .1) ∙ two) refl)
+    (λ _. at-end (subst (R u) (sym (p .1)) r, ap (λ (y : View). y .stage) (p .1) ∙ two, refl))) (λ x _ t k.
     watch-cond (setupAct f) (λ h. sets-up x t (k .1) (k .2 ∙ h)) (λ h. at-end (none x (view (t .0)) (k .2 ∙ h) (k .0)))))))))))))
 
 pub law-interrupt : Law interrupt
@@ -221,7 +258,9 @@ law-interrupt w s r z =
     (λ q.
     let two : view (s .0) .stage ≡ 2 = eqb-true (s .0 .globals .stage) 2 q in
     watch-bind {P = Over} (watch-bind {P = Over} (at-ask tt (λ frame a _ i.
-    let v : view (concrete .put globals-cell (withEntered (indexOf frame) (concrete .get globals-cell a)) a .0) ≡ view (s .0) = put-kept (withEntered (indexOf frame)) (λ _. refl) a ∙ (i .0 ∙ act-view no-wakes refl s) in
-    on-interrupt w (concrete .put globals-cell (withEntered (indexOf frame) (concrete .get globals-cell a)) a) (subst (R w) (sym v) r) (ap (λ (y : View). y .stage) v ∙ two)))
+    let v : view (concrete .put globals-cell (withEntered (indexOf frame) (concrete .get globals-cell a)) a .0)
+    ≡ view (s .0) = put-kept (withEntered (indexOf frame)) (λ _. refl) a ∙ (i .0 ∙ act-view no-wakes refl s) in
+    on-interrupt w (concrete .put globals-cell (withEntered (indexOf frame) (concrete .get globals-cell a)) a)
+    (subst (R w) (sym v) r) (ap (λ (y : View). y .stage) v ∙ two)))
     (λ y _ o l. at-end l)) (λ y n o l. at-end (l, tt)))
     (λ _. at-end (r, tt))

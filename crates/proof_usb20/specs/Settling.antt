@@ -48,7 +48,8 @@ module _ (D : Dir) (E : ℕ) where
 
   pub q-nak : {i : Bool} (st : ℕ) → Quiet D E true Deaf (nakNonIso {i = i} st)
   q-nak st = (q-bind D E) ((q-got D E) (ep-cell Out (endpoint st))) (λ o. (q-bind D E) ((q-got D E) (ep-cell In (endpoint st))) (λ n. (q-test D E)
-      ((q-bind D E) (deaf-read refl refl refl (λ _. (q-ret D E))) (λ v. (q-write D E) (q-ret D E))) ((q-when D E) ((q-bind D E) (deaf-read refl refl refl (λ _. (q-ret D E))) (λ v. (q-write D E) (q-ret D E))))))
+      ((q-bind D E) (deaf-read refl refl refl (λ _. (q-ret D E))) (λ v. (q-write D E) (q-ret D E)))
+      ((q-when D E) ((q-bind D E) (deaf-read refl refl refl (λ _. (q-ret D E))) (λ v. (q-write D E) (q-ret D E))))))
 
   q-waits : {i : Bool} (n : ℕ) → Quiet D E true Deaf (looks {i = i} n)
   unfolding looks
@@ -162,11 +163,27 @@ module _ (D : Dir) (E : ℕ) where
     pub settles : (w : Track) (s : St) (x : Transfer) → isOn (epOn (s .0) D E .iso) ≡ false → Kept D E true s
         → Follow D E (λ l y t. Settled s w (view D E (s .0)) l y t) (withPhase (shows (x .st) (x .len)) w) (run concrete (settle {i = true} x) s)
     settles w s x i k = follow.follow-cond D E (waitsForIso x (concrete .get (ep-cell Out (endpoint (x .st))) s))
-        (λ q. follow.follow-bind D E (q-waits 2001 .goes (withPhase (shows (x .st) (x .len)) w) s (deaf (x .st) (x .len) w, λ _ _ _ _. refl) k) (λ y _ a m. back D E (m .0) (at-ask tt (λ now b _ p. at-ask tt (λ n c _ r.
-        at-end (record { len = cond (eqb n 0) (x .len) n; log = refl; its = λ h. not-mine-iso s i x q h; view = r .0 ∙ (p .0 ∙ m .1); kept = kept-by D E {s = b} {t = c} r (kept-by D E {s = a} {t = b} p (m .2)); hears = after s b c (after s a b (m .3) p) r }))))))
+        (λ q. follow.follow-bind D E (q-waits 2001 .goes (withPhase (shows (x .st) (x .len)) w) s (deaf (x .st) (x .len) w, λ _ _ _ _. refl) k)
+        (λ y _ a m. back D E (m .0) (at-ask tt (λ now b _ p. at-ask tt (λ n c _ r.
+        at-end (record {
+          len = cond (eqb n 0) (x .len) n;
+          log = refl;
+          its = λ h. not-mine-iso s i x q h;
+          view = r .0 ∙ (p .0 ∙ m .1);
+          kept = kept-by D E {s = b} {t = c} r (kept-by D E {s = a} {t = b} p (m .2));
+          hears = after s b c (after s a b (m .3) p) r;
+        }))))))
         (λ _. follow.follow-cond D E (waitsForBulk x (concrete .get (ep-cell In (endpoint (x .st))) s))
-        (λ _. follow.follow-bind D E (q-waits 2001 .goes (withPhase (shows (x .st) (x .len)) w) s (deaf (x .st) (x .len) w, λ _ _ _ _. refl) k) (λ y _ a m. back D E (m .0) (at-ask tt (λ n c _ r.
-        at-end (record { len = cond (eqb n 0) (x .len) n; log = refl; its = λ _. (refl, refl); view = r .0 ∙ m .1; kept = kept-by D E {s = a} {t = c} r (m .2); hears = after s a c (m .3) r })))))
+        (λ _. follow.follow-bind D E (q-waits 2001 .goes (withPhase (shows (x .st) (x .len)) w) s (deaf (x .st) (x .len) w, λ _ _ _ _. refl) k)
+        (λ y _ a m. back D E (m .0) (at-ask tt (λ n c _ r.
+        at-end (record {
+          len = cond (eqb n 0) (x .len) n;
+          log = refl;
+          its = λ _. (refl, refl);
+          view = r .0 ∙ m .1;
+          kept = kept-by D E {s = a} {t = c} r (m .2);
+          hears = after s a c (m .3) r;
+        })))))
         (λ q. follow.follow-cond D E (x .busy)
         (λ b. at-ask tt (λ m a _ p. follow.follow-cond D E (sieFree m)
         (λ _. at-ask tt (λ f c _ r.
@@ -175,9 +192,27 @@ module _ (D : Dir) (E : ℕ) where
         let hc = after s a c (after s s a (same s) p) r in
         follow.follow-cond D E (transfer f)
         (λ t. back D E (kept f w t) (at-end (record { len = x .len; log = refl; its = λ h. not-mine s i x q b h; view = r .0 ∙ p .0; kept = kc; hears = hc })))
-        (λ t. back D E (taken f w t) (at-ask tt (λ st e _ g. follow.follow-bind D E (q-nak {i = true} st .goes (withPhase (shows st (x .len)) w) e (deaf st (x .len) w, λ _ _ _ _. refl) (kept-by D E {s = c} {t = e} g kc)) (λ y _ u n.
-        at-end (record { len = x .len; log = n .0; its = λ _. (refl, refl); view = n .1 ∙ (g .0 ∙ (r .0 ∙ p .0)); kept = n .2; hears = hears-then D E (after s c e hc g) (n .3) })))))))
-        (λ _. at-end (record { len = x .len; log = refl; its = λ h. not-mine s i x q b h; view = p .0; kept = kept-by D E {s = s} {t = a} p k; hears = after s s a (same s) p }))))
+        (λ t. back D E (taken f w t)
+        (at-ask tt (λ st e _ g. follow.follow-bind D E (q-nak {i = true} st .goes (withPhase (shows st (x .len)) w) e (
+          deaf st (x .len) w,
+          λ _ _ _ _. refl,
+        ) (kept-by D E {s = c} {t = e} g kc)) (λ y _ u n.
+        at-end (record {
+          len = x .len;
+          log = n .0;
+          its = λ _. (refl, refl);
+          view = n .1 ∙ (g .0 ∙ (r .0 ∙ p .0));
+          kept = n .2;
+          hears = hears-then D E (after s c e hc g) (n .3);
+        })))))))
+        (λ _. at-end (record {
+          len = x .len;
+          log = refl;
+          its = λ h. not-mine s i x q b h;
+          view = p .0;
+          kept = kept-by D E {s = s} {t = a} p k;
+          hears = after s s a (same s) p;
+        }))))
         (λ b. at-end (record { len = x .len; log = refl; its = λ _. (refl, b); view = refl; kept = k; hears = same s }))))
       where
         kept : (f : ℕ) (w : Track) → transfer f ≡ true

@@ -27,7 +27,9 @@ use Rattle.proof_usb20.specs.Ep0.{View, view, no-request, Rel, Law}
 use Rattle.proof_usb20.specs.Exempt.{differ, exempt-law}
 use Rattle.proof_usb20.specs.Views.{rec, setOut, setIn, setControl, put-out, put-in, put-control}
 use Rattle.proof_usb20.specs.Same.{act-view}
-use Rattle.proof_usb20.specs.Fitting.{acked-ack, acked-one, stall-stalls, stall-keeps, status-acks, status-one, fits-takes, fits-gives, fits-gives-last, fits-confirms, fits-rejects, on, off}
+use Rattle.proof_usb20.specs.Fitting.{acked-ack, acked-one, stall-stalls, stall-keeps, status-acks, status-one}
+use Rattle.proof_usb20.specs.Fitting.{fits-takes, fits-gives, fits-gives-last, fits-confirms, fits-rejects, on}
+use Rattle.proof_usb20.specs.Fitting.{off}
 
 -- ---- states
 
@@ -73,20 +75,28 @@ moved {ex = ex} {rx = rx} {tx = tx} {l = l} {p = p} {a = a} {u = u} e r = subst 
 
 -- the state before its access
 armed-out : (n : ℕ) (s : St) → Whole s
-    → view (outWith (λ p. withArmed 1 (withLen n (withReady 0 p))) (noted (requestOf DATA-OUT n) s) .0) ≡ setOut (record { ready = 0; armed = 1 }) (setControl (requestOf DATA-OUT n) (view (s .0)))
-armed-out n s h = out-view (λ p. withArmed 1 (withLen n (withReady 0 p))) (noted (requestOf DATA-OUT n) s) (noted-whole (requestOf DATA-OUT n) s h) ∙ ap (setOut (record { ready = 0; armed = 1 })) (noted-view (requestOf DATA-OUT n) s)
+    → view (outWith (λ p. withArmed 1 (withLen n (withReady 0 p))) (noted (requestOf DATA-OUT n) s) .0)
+    ≡ setOut (record { ready = 0; armed = 1 }) (setControl (requestOf DATA-OUT n) (view (s .0)))
+armed-out n s h = out-view (λ p. withArmed 1 (withLen n (withReady 0 p))) (noted (requestOf DATA-OUT n) s)
+    (noted-whole (requestOf DATA-OUT n) s h) ∙ ap (setOut (record { ready = 0; armed = 1 })) (noted-view (requestOf DATA-OUT n) s)
 
 pub law-data-out : (n : ℕ) (first : Bool) → Law (other (BeginDataOut n first))
 law-data-out n first w s (inl e) z = exempt-law (other (BeginDataOut n first)) tt w s e
 law-data-out n true w s (inr r) z =
     watch-cond (eqb (s .0 .globals .stage) 2)
-    (λ _. watch-cond (ltb (s .0 .globals .«ep0_max») n) (λ _. at-end (inr r, λ h. differ h)) (λ _. watch-cond (isOn (s .0 .globals .«setup_ready»)) (λ g. at-end (inr r, λ _ _. sym (r .setup) ∙ g))
+    (λ _. watch-cond (ltb (s .0 .globals .«ep0_max») n) (λ _. at-end (inr r, λ h. differ h))
+    (λ _. watch-cond (isOn (s .0 .globals .«setup_ready»)) (λ g. at-end (inr r, λ _ _. sym (r .setup) ∙ g))
     (λ _. at-ask tt (λ v t b k. at-end (moved (k .0 ∙ armed-out n s (z .places)) (fits-takes true (afresh w) (view (s .0)) _ n r acked-ack acked-one), tt)))))
     (λ _. at-end (inr r, λ h. differ h))
 law-data-out n false w s (inr r) z =
     watch-cond (eqb (s .0 .globals .stage) 2)
-    (λ _. watch-cond (ltb (s .0 .globals .«ep0_max») n) (λ _. at-end (inr r, λ h. differ h)) (λ _. watch-cond (isOn (s .0 .globals .«setup_ready»)) (λ g. at-end (inr r, λ _ _. sym (r .setup) ∙ g))
-    (λ _. at-ask tt (λ v t b k. at-ask tt (λ _ u _ l. at-end (moved (l .0 ∙ (k .0 ∙ armed-out n s (z .places))) (fits-takes false (afresh w) (view (s .0)) (ack v) n r (ack-acks v) (ack-keeps v ∙ ap toggle (b .0 refl))), tt))))))
+    (λ _. watch-cond (ltb (s .0 .globals .«ep0_max») n) (λ _. at-end (inr r, λ h. differ h))
+    (λ _. watch-cond (isOn (s .0 .globals .«setup_ready»)) (λ g. at-end (inr r, λ _ _. sym (r .setup) ∙ g))
+    (λ _. at-ask tt (λ v t b k. at-ask tt (λ _ u _ l. at-end (
+      moved (l .0 ∙ (k .0 ∙ armed-out n s (z .places)))
+          (fits-takes false (afresh w) (view (s .0)) (ack v) n r (ack-acks v) (ack-keeps v ∙ ap toggle (b .0 refl))),
+      tt,
+    ))))))
     (λ _. at-end (inr r, λ h. differ h))
 
 -- ---- data_in
@@ -94,14 +104,17 @@ law-data-out n false w s (inr r) z =
 -- the last packet: before the closing OUT's access, and the next
 closing : (n : ℕ) (bytes : List ℕ) (s : St) → Whole s
     → let x = concrete .act (fill0 bytes) (noted (dataInOf n 1 1) s) in
-    view (outWith (λ p. withLen 0 (withReady 0 p)) (inWith (withReady 0) x) .0) ≡ setOut (record { ready = 0; armed = view (s .0) .out .armed }) (setIn (record { ready = 0; armed = view (s .0) .inn .armed }) (setControl (dataInOf n 1 1) (view (s .0))))
+    view (outWith (λ p. withLen 0 (withReady 0 p)) (inWith (withReady 0) x) .0)
+    ≡ setOut (record { ready = 0; armed = view (s .0) .out .armed })
+    (setIn (record { ready = 0; armed = view (s .0) .inn .armed }) (setControl (dataInOf n 1 1) (view (s .0))))
 closing n bytes s h =
     let c = dataInOf n 1 1 in
     let x = concrete .act (fill0 bytes) (noted c s) in
     let hx = act-steady (fill0 bytes) refl (noted c s) .places ∙ noted-whole c s h in
     let vx = act-view (fill0 bytes) refl (noted c s) ∙ noted-view c s in
     out-view (λ p. withLen 0 (withReady 0 p)) (inWith (withReady 0) x) (in-whole (withReady 0) x hx)
-    ∙ ap (λ (y : View). setOut (record { ready = 0; armed = y .out .armed }) y) (in-view (withReady 0) x hx ∙ ap (λ (y : View). setIn (record { ready = 0; armed = y .inn .armed }) y) vx)
+    ∙ ap (λ (y : View). setOut (record { ready = 0; armed = y .out .armed }) y)
+    (in-view (withReady 0) x hx ∙ ap (λ (y : View). setIn (record { ready = 0; armed = y .inn .armed }) y) vx)
 
 -- armed after it
 armed-in : (t : St) (y : View) → Whole t → view (t .0) ≡ y
@@ -118,43 +131,70 @@ opening n bytes s h =
     let hx = act-steady (fill0 bytes) refl (noted c s) .places ∙ noted-whole c s h in
     let vx = act-view (fill0 bytes) refl (noted c s) ∙ noted-view c s in
     in-view (withArmed 1) (inWith (withReady 0) x) (in-whole (withReady 0) x hx)
-    ∙ ap (λ (y : View). setIn (record { ready = y .inn .ready; armed = 1 }) y) (in-view (withReady 0) x hx ∙ ap (λ (y : View). setIn (record { ready = 0; armed = y .inn .armed }) y) vx)
+    ∙ ap (λ (y : View). setIn (record { ready = y .inn .ready; armed = 1 }) y)
+    (in-view (withReady 0) x hx ∙ ap (λ (y : View). setIn (record { ready = 0; armed = y .inn .armed }) y) vx)
 
 pub law-data-in : (bytes : List ℕ) (first last : Bool) → Law (slotted (BeginDataIn bytes first last))
 law-data-in bytes first last w s (inl e) z = exempt-law (slotted (BeginDataIn bytes first last)) tt w s e
 law-data-in bytes true true w s (inr r) z =
     watch-cond (eqb (s .0 .globals .stage) 2)
-    (λ _. watch-cond (ltb (s .0 .globals .«ep0_max») (length bytes)) (λ _. at-end (inr r, λ h. differ h)) (λ _. watch-cond (isOn (s .0 .globals .«setup_ready»)) (λ g. at-end (inr r, λ _ _. sym (r .setup) ∙ g))
-    (λ _. at-ask tt (λ _ t _ k. at-ask tt (λ _ t′ _ k′. at-ask tt (λ _ u _ l. at-end (moved (l .0 ∙ (k′ .0 ∙ armed-in t _ (k .1 .places) (k .0 ∙ closing (length bytes) bytes s (z .places)))) (fits-gives-last true (afresh w) (view (s .0)) _ _ (length bytes) r acked-ack acked-one acked-ack acked-one), tt)))))))
+    (λ _. watch-cond (ltb (s .0 .globals .«ep0_max») (length bytes)) (λ _. at-end (inr r, λ h. differ h))
+    (λ _. watch-cond (isOn (s .0 .globals .«setup_ready»)) (λ g. at-end (inr r, λ _ _. sym (r .setup) ∙ g))
+    (λ _. at-ask tt (λ _ t _ k. at-ask tt (λ _ t′ _ k′. at-ask tt (λ _ u _ l. at-end (
+      moved (l .0 ∙ (k′ .0 ∙ armed-in t _ (k .1 .places) (k .0 ∙ closing (length bytes) bytes s (z .places))))
+          (fits-gives-last true (afresh w) (view (s .0)) _ _ (length bytes) r acked-ack acked-one acked-ack acked-one),
+      tt,
+    )))))))
     (λ _. at-end (inr r, λ h. differ h))
 law-data-in bytes false true w s (inr r) z =
     watch-cond (eqb (s .0 .globals .stage) 2)
-    (λ _. watch-cond (ltb (s .0 .globals .«ep0_max») (length bytes)) (λ _. at-end (inr r, λ h. differ h)) (λ _. watch-cond (isOn (s .0 .globals .«setup_ready»)) (λ g. at-end (inr r, λ _ _. sym (r .setup) ∙ g))
-    (λ _. at-ask tt (λ _ t _ k. at-ask tt (λ _ t′ _ k′. at-ask tt (λ v t″ b k″. at-ask tt (λ _ u _ l. at-end (moved (l .0 ∙ (k″ .0 ∙ (k′ .0 ∙ armed-in t _ (k .1 .places) (k .0 ∙ closing (length bytes) bytes s (z .places))))) (fits-gives-last false (afresh w) (view (s .0)) _ (ack v) (length bytes) r acked-ack acked-one (ack-acks v) (ack-keeps v ∙ ap toggle (b .1 refl))), tt))))))))
+    (λ _. watch-cond (ltb (s .0 .globals .«ep0_max») (length bytes)) (λ _. at-end (inr r, λ h. differ h))
+    (λ _. watch-cond (isOn (s .0 .globals .«setup_ready»)) (λ g. at-end (inr r, λ _ _. sym (r .setup) ∙ g))
+    (λ _. at-ask tt (λ _ t _ k. at-ask tt (λ _ t′ _ k′. at-ask tt (λ v t″ b k″. at-ask tt (λ _ u _ l. at-end (
+      moved (l .0 ∙ (k″ .0 ∙ (k′ .0 ∙ armed-in t _ (k .1 .places) (k .0 ∙ closing (length bytes) bytes s (z .places)))))
+          (fits-gives-last false (afresh w) (view (s .0)) _
+          (ack v) (length bytes) r acked-ack acked-one (ack-acks v) (ack-keeps v ∙ ap toggle (b .1 refl))),
+      tt,
+    ))))))))
     (λ _. at-end (inr r, λ h. differ h))
 law-data-in bytes true false w s (inr r) z =
     watch-cond (eqb (s .0 .globals .stage) 2)
-    (λ _. watch-cond (ltb (s .0 .globals .«ep0_max») (length bytes)) (λ _. at-end (inr r, λ h. differ h)) (λ _. watch-cond (isOn (s .0 .globals .«setup_ready»)) (λ g. at-end (inr r, λ _ _. sym (r .setup) ∙ g))
-    (λ _. at-ask tt (λ _ t _ k. at-ask tt (λ _ u _ l. at-end (moved (l .0 ∙ (k .0 ∙ opening (length bytes) bytes s (z .places))) (fits-gives true (afresh w) (view (s .0)) _ (length bytes) r acked-ack acked-one), tt))))))
+    (λ _. watch-cond (ltb (s .0 .globals .«ep0_max») (length bytes)) (λ _. at-end (inr r, λ h. differ h))
+    (λ _. watch-cond (isOn (s .0 .globals .«setup_ready»)) (λ g. at-end (inr r, λ _ _. sym (r .setup) ∙ g))
+    (λ _. at-ask tt (λ _ t _ k. at-ask tt (λ _ u _ l. at-end (
+      moved (l .0 ∙ (k .0 ∙ opening (length bytes) bytes s (z .places)))
+          (fits-gives true (afresh w) (view (s .0)) _ (length bytes) r acked-ack acked-one),
+      tt,
+    ))))))
     (λ _. at-end (inr r, λ h. differ h))
 law-data-in bytes false false w s (inr r) z =
     watch-cond (eqb (s .0 .globals .stage) 2)
-    (λ _. watch-cond (ltb (s .0 .globals .«ep0_max») (length bytes)) (λ _. at-end (inr r, λ h. differ h)) (λ _. watch-cond (isOn (s .0 .globals .«setup_ready»)) (λ g. at-end (inr r, λ _ _. sym (r .setup) ∙ g))
-    (λ _. at-ask tt (λ _ t _ k. at-ask tt (λ v t′ b k′. at-ask tt (λ _ u _ l. at-end (moved (l .0 ∙ (k′ .0 ∙ (k .0 ∙ opening (length bytes) bytes s (z .places)))) (fits-gives false (afresh w) (view (s .0)) (ack v) (length bytes) r (ack-acks v) (ack-keeps v ∙ ap toggle (b .1 refl))), tt)))))))
+    (λ _. watch-cond (ltb (s .0 .globals .«ep0_max») (length bytes)) (λ _. at-end (inr r, λ h. differ h))
+    (λ _. watch-cond (isOn (s .0 .globals .«setup_ready»)) (λ g. at-end (inr r, λ _ _. sym (r .setup) ∙ g))
+    (λ _. at-ask tt (λ _ t _ k. at-ask tt (λ v t′ b k′. at-ask tt (λ _ u _ l. at-end (
+      moved (l .0 ∙ (k′ .0 ∙ (k .0 ∙ opening (length bytes) bytes s (z .places))))
+          (fits-gives false (afresh w) (view (s .0)) (ack v) (length bytes) r (ack-acks v) (ack-keeps v ∙ ap toggle (b .1 refl))),
+      tt,
+    )))))))
     (λ _. at-end (inr r, λ h. differ h))
 
 -- ---- accept
 
 cleared : (c : Control) (s : St) → Whole s
     → view (inWith (withReady 0) (noted c s) .0) ≡ setIn (record { ready = 0; armed = view (s .0) .inn .armed }) (setControl c (view (s .0)))
-cleared c s h = in-view (withReady 0) (noted c s) (noted-whole c s h) ∙ ap (λ (y : View). setIn (record { ready = 0; armed = y .inn .armed }) y) (noted-view c s)
+cleared c s h = in-view (withReady 0) (noted c s) (noted-whole c s h)
+    ∙ ap (λ (y : View). setIn (record { ready = 0; armed = y .inn .armed }) y) (noted-view c s)
 
 pub law-accept : Law (other BeginAccept)
 law-accept w s (inl e) z = exempt-law (other BeginAccept) tt w s e
 law-accept w s (inr r) z =
     watch-cond (eqb (s .0 .globals .stage) 2)
     (λ _. watch-cond (isOn (s .0 .globals .«setup_ready»)) (λ g. at-end (inr r, λ _ _. sym (r .setup) ∙ g))
-    (λ _. at-ask tt (λ _ t _ k. at-ask tt (λ v t′ b k′. at-ask tt (λ _ u _ l. at-end (moved (l .0 ∙ (k′ .0 ∙ (k .0 ∙ cleared (requestOf ACCEPT 0) s (z .places)))) (fits-confirms keeps (afresh w) (view (s .0)) (status v) (requestOf ACCEPT 0) refl off r (status-acks v) (status-one v)), tt))))))
+    (λ _. at-ask tt (λ _ t _ k. at-ask tt (λ v t′ b k′. at-ask tt (λ _ u _ l. at-end (
+      moved (l .0 ∙ (k′ .0 ∙ (k .0 ∙ cleared (requestOf ACCEPT 0) s (z .places))))
+          (fits-confirms keeps (afresh w) (view (s .0)) (status v) (requestOf ACCEPT 0) refl off r (status-acks v) (status-one v)),
+      tt,
+    ))))))
     (λ _. at-end (inr r, λ h. differ h))
 
 pub law-accept-address : (a : ℕ) → Law (other (BeginAcceptSetAddress a))
@@ -162,24 +202,36 @@ law-accept-address a w s (inl e) z = exempt-law (other (BeginAcceptSetAddress a)
 law-accept-address a w s (inr r) z =
     watch-cond (eqb (s .0 .globals .stage) 2)
     (λ _. watch-cond (isOn (s .0 .globals .«setup_ready»)) (λ g. at-end (inr r, λ _ _. sym (r .setup) ∙ g))
-    (λ _. at-ask tt (λ _ t _ k. at-ask tt (λ v t′ b k′. at-ask tt (λ _ u _ l. at-end (moved (l .0 ∙ (k′ .0 ∙ (k .0 ∙ cleared (addressOf (a % 256)) s (z .places)))) (fits-confirms (sets (a % 128)) (afresh w) (view (s .0)) (status v) (addressOf (a % 256)) refl (on, omega arith) r (status-acks v) (status-one v)), tt))))))
+    (λ _. at-ask tt (λ _ t _ k. at-ask tt (λ v t′ b k′. at-ask tt (λ _ u _ l. at-end (
+      moved (l .0 ∙ (k′ .0 ∙ (k .0 ∙ cleared (addressOf (a % 256)) s (z .places))))
+          (fits-confirms (sets (a % 128)) (afresh w)
+          (view (s .0)) (status v) (addressOf (a % 256)) refl (on, omega arith) r (status-acks v) (status-one v)),
+      tt,
+    ))))))
     (λ _. at-end (inr r, λ h. differ h))
 
 -- ---- reject
 
 disarmed : (s : St) → Whole s → view (inWith (withArmed 0) (outWith (withArmed 0) (noted no-control s)) .0)
-    ≡ setIn (record { ready = view (s .0) .inn .ready; armed = 0 }) (setOut (record { ready = view (s .0) .out .ready; armed = 0 }) (setControl no-control (view (s .0))))
+    ≡ setIn (record { ready = view (s .0) .inn .ready; armed = 0 })
+    (setOut (record { ready = view (s .0) .out .ready; armed = 0 }) (setControl no-control (view (s .0))))
 disarmed s h =
     let x = noted no-control s in
     let hx = noted-whole no-control s h in
     in-view (withArmed 0) (outWith (withArmed 0) x) (out-whole (withArmed 0) x hx)
-    ∙ ap (λ (y : View). setIn (record { ready = y .inn .ready; armed = 0 }) y) (out-view (withArmed 0) x hx ∙ ap (λ (y : View). setOut (record { ready = y .out .ready; armed = 0 }) y) (noted-view no-control s))
+    ∙ ap (λ (y : View). setIn (record { ready = y .inn .ready; armed = 0 }) y)
+    (out-view (withArmed 0) x hx ∙ ap (λ (y : View). setOut (record { ready = y .out .ready; armed = 0 }) y) (noted-view no-control s))
 
 pub law-reject : Law (other BeginReject)
 law-reject w s (inl e) z = exempt-law (other BeginReject) tt w s e
 law-reject w s (inr r) z =
     watch-cond (eqb (s .0 .globals .stage) 2)
-    (λ _. at-ask tt (λ v t b k. at-ask tt (λ _ t′ _ k′. at-ask tt (λ u t″ c k″. at-ask tt (λ _ t‴ _ l. at-end (moved (l .0 ∙ (k″ .0 ∙ (k′ .0 ∙ (k .0 ∙ disarmed s (z .places))))) (fits-rejects (afresh w) (view (s .0)) (stall u) (stall v) r (stall-stalls u) (stall-keeps u ∙ ap toggle (c .0 refl)) (stall-stalls v) (stall-keeps v ∙ ap toggle (b .1 refl))), tt))))))
+    (λ _. at-ask tt (λ v t b k. at-ask tt (λ _ t′ _ k′. at-ask tt (λ u t″ c k″. at-ask tt (λ _ t‴ _ l. at-end (
+      moved (l .0 ∙ (k″ .0 ∙ (k′ .0 ∙ (k .0 ∙ disarmed s (z .places)))))
+          (fits-rejects (afresh w) (view (s .0)) (stall u) (stall v) r (stall-stalls u)
+          (stall-keeps u ∙ ap toggle (c .0 refl)) (stall-stalls v) (stall-keeps v ∙ ap toggle (b .1 refl))),
+      tt,
+    ))))))
     (λ _. at-end (inr r, tt))
 
 -- ---- setup
@@ -188,5 +240,15 @@ pub law-setup : Law (other BeginSetup)
 law-setup w s (inl e) z = exempt-law (other BeginSetup) tt w s e
 law-setup w s (inr r) z =
     watch-cond (eqb (s .0 .globals .stage) 2)
-    (λ _. at-end (moved (noted-view (requestOf SETUP 0) s) (inr (record { stage = r .stage; out = r .out; inn = r .inn; size = r .size; setup = r .setup; waits = no-request (λ q. absurd (omega (arith, q))) (λ q. absurd (omega (arith, q))) (λ q. absurd (omega (arith, q))) })), tt))
+    (λ _. at-end (
+      moved (noted-view (requestOf SETUP 0) s) (inr (record {
+        stage = r .stage;
+        out = r .out;
+        inn = r .inn;
+        size = r .size;
+        setup = r .setup;
+        waits = no-request (λ q. absurd (omega (arith, q))) (λ q. absurd (omega (arith, q))) (λ q. absurd (omega (arith, q)));
+      })),
+      tt,
+    ))
     (λ _. at-end (inr r, tt))

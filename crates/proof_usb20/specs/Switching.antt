@@ -23,7 +23,8 @@ use Rattle.proof_usb20.specs.Log.{Log, saw}
 use Rattle.proof_usb20.specs.Watch.{at-end}
 use Rattle.proof_usb20.specs.Ep0.{Watch, view, recOf, Keeps, Law}
 use Rattle.proof_usb20.specs.Views.{made, ep-other}
-use Rattle.proof_usb20.specs.Quiet.{Plainly, Stays, Any, Quiet, asked, onward, apart, q-ret, q-bind, q-test, q-write, q-act, q-hand, q-put, Other, put-kept, other-word, other-length}
+use Rattle.proof_usb20.specs.Quiet.{Plainly, Stays, Any, Quiet, asked, onward, apart, q-ret, q-bind, q-test}
+use Rattle.proof_usb20.specs.Quiet.{q-write, q-act, q-hand, q-put, Other, put-kept, other-word, other-length}
 use Rattle.proof_usb20.specs.Parts.{q-got, q-wake, q-ep}
 use Rattle.proof_usb20.specs.Tasks.{Numbered, quiet-law, q-staged, q-named, q-resultless, put-paced}
 
@@ -65,8 +66,10 @@ silent e on (suc (suc (suc n))) x h w v = refl
 
 in-row : (e : ℕ) (on : Bool) → Numbered e → (n : ℕ) (w : Log) (s : St) → Plainly s
     → Watch Keeps Any (λ x _ t. Stays w s x t) w (rows concrete (switch e on) n (λ t. tree.ends (tt {0}) t) s)
-in-row e on m zero w s k = onward w s (concrete .row (switch e on) zero s .1) (switch-view e on zero (m .apart) s) (asked w (silent e on zero (concrete .row (switch e on) zero s .0) (m .zero-not) w) (λ _ t l. at-end (refl, refl, l)))
-in-row e on m (suc n) w s k = onward w s (concrete .row (switch e on) (suc n) s .1) (switch-view e on (suc n) (m .apart) s) (asked w (silent e on (suc n) (concrete .row (switch e on) (suc n) s .0) (m .zero-not) w) (λ _ t l. in-row e on m n w t l))
+in-row e on m zero w s k = onward w s (concrete .row (switch e on) zero s .1) (switch-view e on zero (m .apart) s)
+    (asked w (silent e on zero (concrete .row (switch e on) zero s .0) (m .zero-not) w) (λ _ t l. at-end (refl, refl, l)))
+in-row e on m (suc n) w s k = onward w s (concrete .row (switch e on) (suc n) s .1) (switch-view e on (suc n) (m .apart) s)
+    (asked w (silent e on (suc n) (concrete .row (switch e on) (suc n) s .0) (m .zero-not) w) (λ _ t l. in-row e on m n w t l))
 
 q-row : (e : ℕ) (on : Bool) → Numbered e → Quiet (row (switch e on))
 q-row e on m = record { goes = λ w s z k. in-row e on m 18 w s k }
@@ -75,7 +78,8 @@ q-types : (f : ℕ → ℕ) → Quiet (modifyEpType {i = false} f)
 q-types f = record {
   goes = λ w s z k.
       let h : Globals → Globals = λ g. withEpType (f (g .«ep_type»)) g in
-      onward w s (concrete .put globals-cell (h (concrete .get globals-cell s)) s) (put-kept h (λ _. refl) s) (asked w (λ _. refl) (λ _ t l. at-end (refl, refl, l)));
+      onward w s (concrete .put globals-cell (h (concrete .get globals-cell s)) s)
+      (put-kept h (λ _. refl) s) (asked w (λ _. refl) (λ _ t l. at-end (refl, refl, l)));
 }
 
 q-kept : (d : Dir) (e : ℕ) (iso on : Bool) → Quiet (bus.kept {i = false} d e iso on)
@@ -83,8 +87,13 @@ q-kept d e iso on = q-bind (q-types _) (λ _. q-bind (q-act refl q-ret) (λ _. q
 
 q-enabling : (d : Dir) (e : ℕ) (on : Bool) → Numbered e → Quiet (bus.setEnabled d e on)
 q-enabling Out e on m = q-bind (q-got (ep-cell Out e)) (λ s. q-bind (q-test (q-row e on m)
-    (q-bind (q-act refl q-ret) (λ _. q-bind (q-ep Out e (λ p. withArmed (flag on) (renewed p)) (m .apart)) (λ _. q-bind (q-hand q-ret) (λ _. q-bind (q-write (other-word Out e _ (m .zero-not)) q-ret) (λ _. q-kept Out e false on)))))) (λ _. q-wake Out e))
-q-enabling In e on m = q-bind (q-got (ep-cell In e)) (λ s. q-bind (q-bind (q-act refl q-ret) (λ _. q-bind (q-ep In e renewed (m .apart)) (λ _. q-bind (q-put (put-paced e NO_FRAME) q-ret) (λ _. q-bind (q-hand q-ret) (λ _. q-bind (q-write (other-length e 0 (m .zero-not)) q-ret) (λ _. q-bind (q-write (other-word In e _ (m .zero-not)) q-ret) (λ _. q-kept In e (isOn (s .iso)) on))))))) (λ _. q-wake In e))
+    (q-bind (q-act refl q-ret) (λ _. q-bind (q-ep Out e (λ p. withArmed (flag on) (renewed p)) (m .apart))
+    (λ _. q-bind (q-hand q-ret) (λ _. q-bind (q-write (other-word Out e _ (m .zero-not)) q-ret) (λ _. q-kept Out e false on))))))
+    (λ _. q-wake Out e))
+q-enabling In e on m = q-bind (q-got (ep-cell In e))
+    (λ s. q-bind (q-bind (q-act refl q-ret) (λ _. q-bind (q-ep In e renewed (m .apart))
+    (λ _. q-bind (q-put (put-paced e NO_FRAME) q-ret) (λ _. q-bind (q-hand q-ret) (λ _. q-bind (q-write (other-length e 0 (m .zero-not)) q-ret)
+    (λ _. q-bind (q-write (other-word In e _ (m .zero-not)) q-ret) (λ _. q-kept In e (isOn (s .iso)) on))))))) (λ _. q-wake In e))
 
 pub law-set-enabled : (d : Dir) (e : ℕ) (on : Bool) → Law (slotted (SetEnabled d e on))
 law-set-enabled d e on = quiet-law (slotted (SetEnabled d e on)) tt refl (λ _ _. refl) (q-staged 2 (q-named d e (λ m. q-resultless (q-enabling d e on m))))

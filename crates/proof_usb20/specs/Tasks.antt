@@ -32,7 +32,9 @@ use Rattle.model.specs.Answers.{Answer, Refused, End, NotYet, Done, Shown, oper
 use Rattle.model.specs.IsoIn.{isoInCompletions, isoInSetPaced}
 use Rattle.model.specs.Bus as bus
 use Rattle.model.specs.Endpoint.{enabled-else, ends-request, polled, no-request, begun}
-use Rattle.model.specs.Calls.{Op, slotted, other, aside, PollRead, BeginWrite, PollWrite, Other, Allocate, AllocateAll, Start, BusPoll, BusEnable, BusDisable, Microframe, SetStalled, IsStalled, SetPaced, Advance, BeginRead, Aside, Open, Close, Queue, asideCode, code}
+use Rattle.model.specs.Calls.{Op, slotted, other, aside, PollRead, BeginWrite, PollWrite, Other, Allocate, AllocateAll}
+use Rattle.model.specs.Calls.{Start, BusPoll, BusEnable, BusDisable, Microframe, SetStalled, IsStalled, SetPaced}
+use Rattle.model.specs.Calls.{Advance, BeginRead, Aside, Open, Close, Queue, asideCode, code}
 use Rattle.model_ops.specs.Rings.{St}
 use Rattle.model_ops.specs.Concrete.{concrete}
 use Rattle.regs.specs.declared.Access.{Access}
@@ -45,7 +47,9 @@ use Rattle.proof_usb20.specs.Exempt.{differ, Task, exempt-law}
 use Rattle.proof_usb20.specs.Same.{act-view}
 use Rattle.proof_usb20.specs.Fitting.{both}
 use Rattle.proof_usb20.specs.Quiet as quiet
-use Rattle.proof_usb20.specs.Quiet.{plainly, steadily, Any, Quiet, Stays, q-ret, q-bind, q-test, q-if, q-read, q-write, q-is, q-look, q-fetch, q-act, q-put, put-other, put-kept, other-word, other-length}
+use Rattle.proof_usb20.specs.Quiet.{plainly, steadily, Any, Quiet, Stays, q-ret, q-bind, q-test, q-if, q-read}
+use Rattle.proof_usb20.specs.Quiet.{q-write, q-is, q-look, q-fetch, q-act, q-put, put-other, put-kept, other-word}
+use Rattle.proof_usb20.specs.Quiet.{other-length}
 use Rattle.proof_usb20.specs.Parts.{q-got, q-wake, q-when, q-reg, q-ep, q-complete}
 
 -- ---- a quiet call
@@ -74,7 +78,10 @@ opened (aside o) t w = refl
 pub quiet-law : (o : Op) → Task o → pollOf o ≡ none → ((n : ℕ) (x : Log) → ends o n x ≡ x) → Quiet (code o) → Law o
 quiet-law o t p e q w s r z = subst (λ (u : Log). Watch Keeps (Allowed o) (Ends o) u (run concrete (code o) s)) (sym (opened o t w))
     (allows (λ x q. subst (λ (a : Poll). AllowedTo a x q) (sym p) tt) (watch-more (q .goes (afresh w) s refl (plainly z))
-    (λ x a u m. (subst (λ (y : Log). R y (view (u .0))) (sym (closed o p e a x ∙ m .0)) (subst (R w) (sym (m .1)) r), subst (λ (y : Poll). FairPoll y a x) (sym p) tt))))
+    (λ x a u m. (
+      subst (λ (y : Log). R y (view (u .0))) (sym (closed o p e a x ∙ m .0)) (subst (R w) (sym (m .1)) r),
+      subst (λ (y : Poll). FairPoll y a x) (sym p) tt,
+    ))))
 
 -- ---- the rows
 
@@ -128,24 +135,34 @@ q-enabled d e x y = q-bind (q-got globals-cell) (λ g. q-test y x)
 -- ---- reads and writes
 
 pub law-begin-read : (e n : ℕ) → Law (other (BeginRead e n))
-law-begin-read e n = quiet-law (other (BeginRead e n)) tt refl (λ _ _. refl) (q-staged 2 (q-named Out e (λ m. q-enabled Out e q-ret (q-bind (q-got (ep-cell Out e)) (λ s. q-unless _ 10
-    (q-bind (q-put (put-request Out e (begun n)) q-ret) (λ _. q-resultless (q-test q-ret (q-test q-ret (q-bind (q-ep Out e (withArmed 1) (m .apart)) (λ _. q-reg Out e _ (m .zero-not))))))))))))
+law-begin-read e n = quiet-law (other (BeginRead e n)) tt refl (λ _ _. refl)
+    (q-staged 2 (q-named Out e (λ m. q-enabled Out e q-ret (q-bind (q-got (ep-cell Out e)) (λ s. q-unless _ 10
+    (q-bind (q-put (put-request Out e (begun n)) q-ret)
+    (λ _. q-resultless (q-test q-ret (q-test q-ret (q-bind (q-ep Out e (withArmed 1) (m .apart)) (λ _. q-reg Out e _ (m .zero-not))))))))))))
 
 q-polled : {i : Bool} (d : Dir) (e n : ℕ) → Numbered e → {p : EpCore → Script i Answer} → ((s : EpCore) → Quiet (p s))
     → Quiet (polled d e n p)
-q-polled d e n m x = q-bind (q-got (request-cell d e)) (λ r. q-unless _ 15 (q-test (q-bind (q-got (ep-cell d e)) (λ s. x s)) (q-bind (q-ep d e (withReady 0) (m .apart)) (λ _. q-ends d e (Refused 10)))))
+q-polled d e n m x = q-bind (q-got (request-cell d e))
+    (λ r. q-unless _ 15
+    (q-test (q-bind (q-got (ep-cell d e)) (λ s. x s)) (q-bind (q-ep d e (withReady 0) (m .apart)) (λ _. q-ends d e (Refused 10)))))
 
 pub law-poll-read : (e n : ℕ) → Law (slotted (PollRead e n))
 law-poll-read e n = quiet-law (slotted (PollRead e n)) tt refl (λ _ _. refl) (q-staged 2 (q-named Out e (λ m. q-polled Out e n m (λ s. q-test
-    (q-enabled Out e (q-ends Out e (Refused 9)) (q-bind (q-is (λ _. q-ret)) (λ b. q-test (q-bind (q-fetch (λ _. q-ret)) (λ bytes. q-bind (q-act refl q-ret) (λ _. q-ends Out e _))) q-ret)))
-    (q-test (q-bind (q-ep Out e (withReady 0) (m .apart)) (λ _. q-test (q-ends Out e (Refused 10)) (q-bind (q-fetch (λ _. q-ret)) (λ bytes. q-ends Out e (Done bytes))))) (q-enabled Out e (q-ends Out e (Refused 9)) q-ret))))))
+    (q-enabled Out e (q-ends Out e (Refused 9)) (q-bind (q-is (λ _. q-ret))
+    (λ b. q-test (q-bind (q-fetch (λ _. q-ret)) (λ bytes. q-bind (q-act refl q-ret) (λ _. q-ends Out e _))) q-ret)))
+    (q-test (q-bind (q-ep Out e (withReady 0) (m .apart)) (λ _. q-test (q-ends Out e (Refused 10))
+    (q-bind (q-fetch (λ _. q-ret)) (λ bytes. q-ends Out e (Done bytes))))) (q-enabled Out e (q-ends Out e (Refused 9)) q-ret))))))
 
 pub law-begin-write : (e : ℕ) (bytes : List ℕ) → Law (slotted (BeginWrite e bytes))
-law-begin-write e bytes = quiet-law (slotted (BeginWrite e bytes)) tt refl (λ _ _. refl) (q-staged 2 (q-named In e (λ m. q-enabled In e q-ret (q-bind (q-got (ep-cell In e)) (λ s. q-unless _ 10
-    (q-bind (q-put (put-request In e (begun (length bytes))) q-ret) (λ _. q-resultless (q-test q-ret (q-bind (q-act refl q-ret) (λ _. q-bind (q-ep In e (λ s. withArmed 1 (withReady 0 s)) (m .apart)) (λ _. q-bind (q-write (other-length e _ (m .zero-not)) q-ret) (λ _. q-reg In e _ (m .zero-not)))))))))))))
+law-begin-write e bytes = quiet-law (slotted (BeginWrite e bytes)) tt refl (λ _ _. refl)
+    (q-staged 2 (q-named In e (λ m. q-enabled In e q-ret (q-bind (q-got (ep-cell In e)) (λ s. q-unless _ 10
+    (q-bind (q-put (put-request In e (begun (length bytes))) q-ret)
+    (λ _. q-resultless (q-test q-ret (q-bind (q-act refl q-ret) (λ _. q-bind (q-ep In e (λ s. withArmed 1 (withReady 0 s)) (m .apart))
+    (λ _. q-bind (q-write (other-length e _ (m .zero-not)) q-ret) (λ _. q-reg In e _ (m .zero-not)))))))))))))
 
 pub law-poll-write : (e : ℕ) (bytes : List ℕ) → Law (slotted (PollWrite e bytes))
-law-poll-write e bytes = quiet-law (slotted (PollWrite e bytes)) tt refl (λ _ _. refl) (q-staged 2 (q-named In e (λ m. q-polled In e (length bytes) m (λ s. q-test
+law-poll-write e bytes = quiet-law (slotted (PollWrite e bytes)) tt refl
+    (λ _ _. refl) (q-staged 2 (q-named In e (λ m. q-polled In e (length bytes) m (λ s. q-test
     (q-enabled In e (q-ends In e (Refused 9)) (q-bind (q-is (λ _. q-ret)) (λ b. q-test (q-bind (q-act refl q-ret) (λ _. q-ends In e (Done []))) q-ret)))
     (q-test (q-bind (q-ep In e (withReady 0) (m .apart)) (λ _. q-ends In e (Done []))) (q-enabled In e (q-ends In e (Refused 9)) q-ret))))))
 
@@ -157,7 +174,8 @@ unstarted n h q = absurd (omega (arith, h, eqb-true n 1 q))
 pub law-allocate : (d : Dir) (kind address maximum interval : ℕ)
     → Law (other (Allocate d kind address maximum interval))
 law-allocate d kind address maximum interval w s (inl e) z = exempt-law (other (Allocate d kind address maximum interval)) tt w s e
-law-allocate d kind address maximum interval w s (inr r) z = watch-cond (eqb (s .0 .globals .stage) 1) (λ q. unstarted (s .0 .globals .stage) (r .stage) q) (λ _. at-end (inr r, tt))
+law-allocate d kind address maximum interval w s (inr r) z =
+    watch-cond (eqb (s .0 .globals .stage) 1) (λ q. unstarted (s .0 .globals .stage) (r .stage) q) (λ _. at-end (inr r, tt))
 
 pub law-allocate-all : (bytes : List ℕ) → Law (other (AllocateAll bytes))
 law-allocate-all bytes w s (inl e) z = exempt-law (other (AllocateAll bytes)) tt w s e
@@ -179,14 +197,20 @@ pub law-microframe : Law (other Microframe)
 law-microframe = quiet-law (other Microframe) tt refl (λ _ _. refl) (q-staged 2 (q-operation (q-bind (q-read (λ _. q-ret)) (λ v. q-ret))))
 
 pub law-is-stalled : (d : Dir) (e : ℕ) → Law (other (IsStalled d e))
-law-is-stalled d e = quiet-law (other (IsStalled d e)) tt refl (λ _ _. refl) (q-staged 2 (q-test (q-operation (q-bind (q-read (λ _. q-ret)) (λ v. q-ret))) (q-named d e (λ _. q-operation (q-bind (q-read (λ _. q-ret)) (λ v. q-ret))))))
+law-is-stalled d e = quiet-law (other (IsStalled d e)) tt refl (λ _ _. refl)
+    (q-staged 2 (q-test (q-operation (q-bind (q-read (λ _. q-ret)) (λ v. q-ret)))
+    (q-named d e (λ _. q-operation (q-bind (q-read (λ _. q-ret)) (λ v. q-ret))))))
 
 q-paced : {i : Bool} (e : ℕ) (on : Bool) → Quiet (isoInSetPaced {i = i} e on)
 q-paced e on = record {
   goes = λ w s z k.
       let f : Globals → Globals = λ g. withPaced (withBit (g .«iso_in_paced») e on) g in
       let t = concrete .put globals-cell (f (concrete .get globals-cell s)) s in
-      at-end (refl, put-paced e NO_FRAME t ∙ put-kept f (λ _. refl) s, steadily (put-steady (paced-cell e) NO_FRAME t) (steadily (put-steady globals-cell (f (concrete .get globals-cell s)) s) k));
+      at-end (
+        refl,
+        put-paced e NO_FRAME t ∙ put-kept f (λ _. refl) s,
+        steadily (put-steady (paced-cell e) NO_FRAME t) (steadily (put-steady globals-cell (f (concrete .get globals-cell s)) s) k),
+      );
 }
 
 pub law-set-paced : (e : ℕ) (on : Bool) → Law (other (SetPaced e on))
@@ -198,16 +222,23 @@ q-completions zero e h = q-ret
 q-completions (suc n) e h = q-bind (q-complete e h) (λ _. q-completions n e h)
 
 pub law-advance : (e : ℕ) → Law (other (Advance e))
-law-advance e = quiet-law (other (Advance e)) tt refl (λ _ _. refl) (q-staged 2 (q-if (isNumber e) (λ h. q-resultless (q-bind (q-got globals-cell) (λ g. q-when (q-test
-    (q-bind (q-read (λ _. q-ret)) (λ frame. q-bind (q-got (paced-cell e)) (λ last. q-bind (q-completions (completions last (indexOf frame)) e (numbered e h .zero-not)) (λ _. q-put (put-paced e (frameOf (indexOf frame))) q-ret))))
+law-advance e = quiet-law (other (Advance e)) tt refl
+    (λ _ _. refl) (q-staged 2 (q-if (isNumber e) (λ h. q-resultless (q-bind (q-got globals-cell) (λ g. q-when (q-test
+    (q-bind (q-read (λ _. q-ret)) (λ frame. q-bind (q-got (paced-cell e))
+    (λ last. q-bind (q-completions (completions last (indexOf frame)) e (numbered e h .zero-not))
+    (λ _. q-put (put-paced e (frameOf (indexOf frame))) q-ret))))
     (q-put (put-paced e NO_FRAME) q-ret))))) (λ _. q-ret)))
 
 -- ---- those that pass during an interrupt
 
 q-aside : (o : Aside) → Quiet (asideCode o)
-q-aside (Open e) = q-staged 2 (q-named Out e (λ _. q-bind (q-got (ep-cell Out e)) (λ s. q-unless _ 11 (q-bind (q-is (λ _. q-ret)) (λ b. q-test (q-bind (q-act refl q-ret) (λ _. q-bind (q-fetch (λ _. q-ret)) (λ bytes. q-bind (q-look (λ _. q-ret)) (λ stamp. q-ret)))) q-ret)))))
+q-aside (Open e) = q-staged 2
+    (q-named Out e (λ _. q-bind (q-got (ep-cell Out e)) (λ s. q-unless _ 11 (q-bind (q-is (λ _. q-ret))
+    (λ b. q-test (q-bind (q-act refl q-ret) (λ _. q-bind (q-fetch (λ _. q-ret)) (λ bytes. q-bind (q-look (λ _. q-ret)) (λ stamp. q-ret)))) q-ret)))))
 q-aside (Close e) = q-staged 2 (q-named Out e (λ _. q-bind (q-is (λ _. q-ret)) (λ b. q-test (q-bind (q-act refl q-ret) (λ _. q-ret)) q-ret)))
-q-aside (Queue e bytes) = q-staged 2 (q-named In e (λ _. q-enabled In e q-ret (q-bind (q-got allocator-cell) (λ a. q-unless _ 10 (q-bind (q-got (ep-cell In e)) (λ s. q-unless _ 11 (q-bind (q-is (λ _. q-ret)) (λ b. q-test (q-bind (q-act refl q-ret) (λ _. q-ret)) q-ret))))))))
+q-aside (Queue e bytes) = q-staged 2
+    (q-named In e (λ _. q-enabled In e q-ret (q-bind (q-got allocator-cell) (λ a. q-unless _ 10 (q-bind (q-got (ep-cell In e))
+    (λ s. q-unless _ 11 (q-bind (q-is (λ _. q-ret)) (λ b. q-test (q-bind (q-act refl q-ret) (λ _. q-ret)) q-ret))))))))
 
 pub law-aside : (o : Aside) → Law (aside o)
 law-aside o = quiet-law (aside o) tt refl (λ _ _. refl) (q-aside o)
@@ -218,7 +249,9 @@ ended-view (at-end p) = p
 
 pub aside-view : (o : Aside) (d : Driver) (b : Buf) (a : Answer) (t : St) → Sorting d
     → run concrete (asideCode o) (d, b) ≡ tree.ends a t → view (t .0) ≡ view d
-aside-view o d b a t z h = ended-view (subst (Watch Keeps Any (λ _ _ t. (view (t .0) ≡ view d)) before) h (watch-more (q-aside o .goes before (d, b) refl (plainly z)) (λ _ _ _ m. m .1)))
+aside-view o d b a t z h = ended-view
+    (subst (Watch Keeps Any (λ _ _ t. (view (t .0) ≡ view d)) before) h
+    (watch-more (q-aside o .goes before (d, b) refl (plainly z)) (λ _ _ _ m. m .1)))
 
 -- ---- halts
 
@@ -228,8 +261,12 @@ any-end w o = watch-any (λ _. Unit {0}) (λ _ _ _. tt) (λ _ _ _ _. tt) (λ _ _
 q-stalled : {i : Bool} (d : Dir) (e : ℕ) (on : Bool) → Numbered e → Quiet (bus.setStalled {i = i} d e on)
 q-stalled Out e true m = q-bind (q-reg Out e _ (m .zero-not)) (λ _. q-wake Out e)
 q-stalled In e true m = q-bind (q-write (other-length e 0 (m .zero-not)) q-ret) (λ _. q-bind (q-reg In e _ (m .zero-not)) (λ _. q-wake In e))
-q-stalled Out e false m = q-bind (q-got (ep-cell Out e)) (λ s. q-bind (q-put (put-other Out e (m .apart) (withTog 0 s)) q-ret) (λ _. q-bind (q-write (other-word Out e _ (m .zero-not)) q-ret) (λ _. q-wake Out e)))
-q-stalled In e false m = q-bind (q-got (ep-cell In e)) (λ s. q-bind (q-put (put-other In e (m .apart) (withTog 0 s)) q-ret) (λ _. q-bind (q-write (other-word In e _ (m .zero-not)) q-ret) (λ _. q-bind (q-when (q-ep In e _ (m .apart))) (λ _. q-wake In e))))
+q-stalled Out e false m = q-bind (q-got (ep-cell Out e))
+    (λ s. q-bind (q-put (put-other Out e (m .apart) (withTog 0 s)) q-ret)
+    (λ _. q-bind (q-write (other-word Out e _ (m .zero-not)) q-ret) (λ _. q-wake Out e)))
+q-stalled In e false m = q-bind (q-got (ep-cell In e))
+    (λ s. q-bind (q-put (put-other In e (m .apart) (withTog 0 s)) q-ret)
+    (λ _. q-bind (q-write (other-word In e _ (m .zero-not)) q-ret) (λ _. q-bind (q-when (q-ep In e _ (m .apart))) (λ _. q-wake In e))))
 
 exempts : (e : ℕ) (x : Log) → eqb e 0 ≡ true → cond (eqb e 0) (exempted x) x .exempt ≡ true
 exempts e x h = rw h refl
@@ -242,10 +279,14 @@ law-set-stalled d e on w s r z = by (eqb e 0) refl
         → Watch Keeps (Allowed (other (SetStalled d e on))) (Ends (other (SetStalled d e on))) (afresh w) (run concrete (code (other (SetStalled d e on))) s)
     by false h = quiet-part
       where
-        quiet-part : Watch Keeps (Allowed (other (SetStalled d e on))) (Ends (other (SetStalled d e on))) (afresh w) (run concrete (code (other (SetStalled d e on))) s)
-        quiet-part = quiet-law (other (SetStalled d e on)) tt refl (λ _ x. ap (λ (b : Bool). cond b (exempted x) x) h) (q-staged 2 (q-if (eqb e 0) (λ q. differ (sym h ∙ q)) (λ _. q-named d e (λ m. q-resultless (q-stalled d e on m))))) w s r z
+        quiet-part : Watch Keeps (Allowed (other (SetStalled d e on)))
+            (Ends (other (SetStalled d e on))) (afresh w) (run concrete (code (other (SetStalled d e on))) s)
+        quiet-part = quiet-law (other (SetStalled d e on)) tt refl (λ _ x. ap (λ (b : Bool). cond b (exempted x) x) h)
+            (q-staged 2 (q-if (eqb e 0) (λ q. differ (sym h ∙ q)) (λ _. q-named d e (λ m. q-resultless (q-stalled d e on m))))) w s r z
     by true h = watch-cond (eqb (s .0 .globals .stage) 2)
-        (λ _. watch-cond (eqb e 0) (λ _. watch-bind {P = λ _ _ _. Unit {0}} (any-end (afresh w) (run {i = false} concrete (bind (bus.setStalled d e on) (λ _. ret 0)) _)) (λ x n t _. at-end (inl (exempts e x h), tt))) (λ q. differ (sym q ∙ h)))
+        (λ _. watch-cond (eqb e 0)
+        (λ _. watch-bind {P = λ _ _ _. Unit {0}} (any-end (afresh w) (run {i = false} concrete (bind (bus.setStalled d e on) (λ _. ret 0)) _))
+        (λ x n t _. at-end (inl (exempts e x h), tt))) (λ q. differ (sym q ∙ h)))
         (λ _. at-end (r, tt))
 
 -- a bus reset exempts; the rest of a poll is quiet
@@ -253,11 +294,22 @@ pub law-bus-poll : Law (other BusPoll)
 law-bus-poll w s r z = watch-cond (eqb (s .0 .globals .stage) 2)
     (λ _. watch-bind {P = λ x n t. (n ≡ 2) ⊎ Stays (afresh w) s x t} (watch-cond (isOn (s .0 .globals .power))
     (λ _. at-ask tt (λ f a _ i. watch-cond (busRst f)
-    (λ _. watch-bind {P = λ _ _ _. Unit {0}} (any-end (afresh w) (run concrete bus.busReset a)) (λ x _ t _. watch-bind {P = λ _ _ _. Unit {0}} (any-end x (run {i = false} concrete (modifyIntEn (λ v. withBusRst v true)) t)) (λ y _ u _. at-end {s = u} (inl refl))))
+    (λ _. watch-bind {P = λ _ _ _. Unit {0}} (any-end (afresh w) (run concrete bus.busReset a))
+    (λ x _ t _. watch-bind {P = λ _ _ _. Unit {0}}
+    (any-end x (run {i = false} concrete (modifyIntEn (λ v. withBusRst v true)) t)) (λ y _ u _. at-end {s = u} (inl refl))))
     (λ _. watch-cond (suspend f)
-    (λ _. at-ask tt (λ m b _ j. at-ask tt (λ _ c _ l. at-ask tt (λ _ u _ n. at-end (inr (refl, n .0 ∙ (put-kept (λ g. withIntEn (withSuspend (g .«int_en») true) g) (λ _. refl) c ∙ (l .0 ∙ (j .0 ∙ (i .0 ∙ act-view no-wakes refl s)))), plainly (n .1)))))))
+    (λ _. at-ask tt (λ m b _ j. at-ask tt (λ _ c _ l. at-ask tt (λ _ u _ n. at-end (inr (
+      refl,
+      n .0 ∙ (put-kept (λ g. withIntEn (withSuspend (g .«int_en») true) g) (λ _. refl) c ∙ (l .0 ∙ (j .0 ∙ (i .0 ∙ act-view no-wakes refl s)))),
+      plainly (n .1),
+    ))))))
     (λ _. at-end (inr (refl, i .0 ∙ act-view no-wakes refl s, plainly (i .1)))))))
-    (λ _. at-end (inr (refl, put-kept (withPower 1) (λ _. refl) (concrete .act no-wakes s) ∙ act-view no-wakes refl s, steadily (put-steady globals-cell (withPower 1 (s .0 .globals)) (concrete .act no-wakes s)) (steadily (act-steady no-wakes refl s) (plainly z))))))
+    (λ _. at-end (inr (
+      refl,
+      put-kept (withPower 1) (λ _. refl) (concrete .act no-wakes s) ∙ act-view no-wakes refl s,
+      steadily (put-steady globals-cell (withPower 1 (s .0 .globals)) (concrete .act no-wakes s))
+          (steadily (act-steady no-wakes refl s) (plainly z)),
+    ))))
     (λ x n t p. at-end (after n x t p, tt)))
     (λ _. at-end (r, tt))
   where

@@ -19,7 +19,12 @@ use Rattle.model.specs.Bus as bus
 use Rattle.model.specs.Control.{acks}
 use Rattle.model.specs.Driver.{allocated-as, started-as}
 use Rattle.model.specs.AllocateAll.{allocateEach, announce, beginsAt, announceAfter, announceAll, allocate-read}
-use Rattle.model.specs.Calls.{Config, Slotted, SetEnabled, PollRead, BeginWrite, PollWrite, PollDataOut, BeginDataIn, Other, Allocate, AllocateAll, Start, BusPoll, BusEnable, BusDisable, Microframe, SetStalled, IsStalled, SetPaced, Advance, BeginRead, BeginSetup, PollSetup, PollDataIn, BeginAccept, PollAccept, BeginReject, BeginDataOut, BeginAcceptSetAddress, Aside, Open, Close, Queue, Op, interrupt, slotted, other, aside, slottedCode, otherCode, asideCode, code, starting}
+use Rattle.model.specs.Calls.{Config, Slotted, SetEnabled, PollRead, BeginWrite, PollWrite, PollDataOut, BeginDataIn}
+use Rattle.model.specs.Calls.{Other, Allocate, AllocateAll, Start, BusPoll, BusEnable, BusDisable, Microframe}
+use Rattle.model.specs.Calls.{SetStalled, IsStalled, SetPaced, Advance, BeginRead, BeginSetup, PollSetup, PollDataIn}
+use Rattle.model.specs.Calls.{BeginAccept, PollAccept, BeginReject, BeginDataOut, BeginAcceptSetAddress, Aside, Open}
+use Rattle.model.specs.Calls.{Close, Queue, Op, interrupt, slotted, other, aside, slottedCode, otherCode, asideCode}
+use Rattle.model.specs.Calls.{code, starting}
 use Rattle.proof_usb20.specs.TogBitsLaws.{Keeps, k-bind, k-test, keeping}
 
 module _ {i : Bool} where

@@ -12,7 +12,8 @@ use Rattle.state.specs.State.{view}
 use Rattle.model.specs.Tree as tree
 use Rattle.model.specs.Answers.{Answer}
 use Rattle.model.specs.Calls.{Config, Op, calls, startRow}
-use Rattle.model.specs.Machine.{Buf, Call, Event, start, begin, go, question, Ans, Way, idle, busy, Machine, misfit, lentTo, beside, over, halt, begun, continued, started}
+use Rattle.model.specs.Machine.{Buf, Call, Event, start, begin, go, question, Ans, Way, idle, busy, Machine, misfit}
+use Rattle.model.specs.Machine.{lentTo, beside, over, halt, begun, continued, started}
 use Rattle.model_ops.specs.Rings.{St}
 use Rattle.machine.specs.Suspended.{driverOf, drive, machineOf}
 use Rattle.proof_book.specs.Always.{after}

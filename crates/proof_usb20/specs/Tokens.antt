@@ -45,7 +45,9 @@ use Rattle.proof_usb20.specs.Follow as follow
 use Rattle.proof_usb20.specs.Follow.{Seen, Fits, view, Follow, EndsFew}
 use Rattle.proof_usb20.specs.Watch.{at-end, at-ask}
 use Rattle.proof_usb20.specs.Untouched.{act-view}
-use Rattle.proof_usb20.specs.Calm.{Idle, Off, Hush, Else, Kept, Stays, Quiet, kept-by, hears-same, heard, put-kept, put-hears, only, off-idle, off-hush, put-globals, q-bind, q-ins, q-wake-bus, q-got, q-int-en, q-ret, q-when, q-write}
+use Rattle.proof_usb20.specs.Calm.{Idle, Off, Hush, Else, Kept, Stays, Quiet, kept-by, hears-same, heard}
+use Rattle.proof_usb20.specs.Calm.{put-kept, put-hears, only, off-idle, off-hush, put-globals, q-bind, q-ins}
+use Rattle.proof_usb20.specs.Calm.{q-wake-bus, q-got, q-int-en, q-ret, q-when, q-write}
 use Rattle.proof_usb20.specs.CalmParts.{q-check, q-dispatch, q-ep0-moved, q-late, q-setup, q-sof}
 use Rattle.proof_usb20.specs.Judging.{back, Heard, heard-on, Done, arm-out, arm-in, due-idle}
 use Rattle.proof_usb20.specs.Settling.{Settled, deaf, settles, its-token, not-zero, not-iso, q-nak}
@@ -53,7 +55,9 @@ use Rattle.proof_usb20.specs.Settling.{Settled, deaf, settles, its-token
 -- ---- the endpoint's token is served
 
 Arms : Dir → ℕ → Type 0
-Arms D E = (x : Transfer) (frame k : ℕ) (w : Track) (s : St) → w .new ≡ false → heard D E s ≡ 0 → tokenFor D (token (x .st)) ≡ true → own D E D (endpoint (x .st)) ≡ true → eqb (endpoint (x .st)) 0 ≡ false → x .len ≡ k → Kept D E true s → Fits w (view D E (s .0)) → eqb (s .0 .globals .stage) 2 ≡ true
+Arms D E = (x : Transfer) (frame k : ℕ) (w : Track) (s : St) → w .new ≡ false → heard D E s ≡ 0
+    → tokenFor D (token (x .st)) ≡ true → own D E D (endpoint (x .st)) ≡ true → eqb (endpoint (x .st)) 0 ≡ false
+    → x .len ≡ k → Kept D E true s → Fits w (view D E (s .0)) → eqb (s .0 .globals .stage) 2 ≡ true
     → Follow D E (Done D E) (withPhase (due k) w) (run concrete (dispatch {i = true} (token (x .st)) x false frame) s)
 
 arms : (D : Dir) (E : ℕ) → Arms D E
@@ -129,18 +133,26 @@ module _ (D : Dir) (E : ℕ) (z : (d : Dir) → Else D E d 0) where
       → Follow D E (Done D E) (withPhase (due k) w) (run concrete (served {i = true} y false frame) s)
   unfolding Arms
   ours w y k frame s q j t o nz l b h r two =
-      follow.follow-bind D E {P = λ x _ a. Stays D E true (withPhase (due k) w) s x a} (follow.follow-cond D E (not (isSof (y .st)) && not (eqb (s .0 .globals .«sof_frame») frame)) (λ _. (q-sof D E) frame .goes (withPhase (due k) w) s (due-idle D E k w, λ _ _ _ _. refl) h) (λ _. at-end (refl, refl, h, hears-same D E {s = s} {t = s} refl))) (λ x _ a m. back D E (m .0)
-      (follow.follow-bind D E {P = λ x _ c. Stays D E true (withPhase (due k) w) a x c} (q-lates y frame .goes (withPhase (due k) w) a (due-idle D E k w, λ _ _ _ _. refl) (m .2)) (λ x _ c n. back D E (n .0)
+      follow.follow-bind D E {P = λ x _ a. Stays D E true (withPhase (due k) w) s x a}
+      (follow.follow-cond D E (not (isSof (y .st)) && not (eqb (s .0 .globals .«sof_frame») frame))
+      (λ _. (q-sof D E) frame .goes (withPhase (due k) w) s (due-idle D E k w, λ _ _ _ _. refl) h)
+      (λ _. at-end (refl, refl, h, hears-same D E {s = s} {t = s} refl))) (λ x _ a m. back D E (m .0)
+      (follow.follow-bind D E {P = λ x _ c. Stays D E true (withPhase (due k) w) a x c}
+      (q-lates y frame .goes (withPhase (due k) w) a (due-idle D E k w, λ _ _ _ _. refl) (m .2)) (λ x _ c n. back D E (n .0)
       (let v : view D E (c .0) ≡ view D E (s .0) = n .1 ∙ m .1 in
       follow.follow-bind D E {P = Done D E} (follow.follow-cond D E (not (y .busy))
-      (λ _. arms D E y frame k w c q (n .3 .same refl ∙ (m .3 .same refl ∙ j)) t o nz l (n .2) (subst (Fits w) (sym v) r) (ap (λ (x : Seen). eqb (x .stage) 2) v ∙ two)) (λ q. differ (sym q ∙ ap not b))) (λ x _ e f.
+      (λ _. arms D E y frame k w c q (n .3 .same refl ∙ (m .3 .same refl ∙ j)) t o nz l (n .2) (subst (Fits w) (sym v) r)
+      (ap (λ (x : Seen). eqb (x .stage) 2) v ∙ two)) (λ q. differ (sym q ∙ ap not b))) (λ x _ e f.
       follow.follow-more D E (q-rest y false frame .goes x e (f .0, off-hush D E x (f .0)) (f .2)) (λ x′ _ u g. went x x′ e u f g))))))
 
   -- another's
   q-served : (y : Transfer) (iso : Bool) (frame : ℕ) → (token (y .st) ≡ tok.Out → Else D E Out (endpoint (y .st)))
       → (token (y .st) ≡ tok.In → Else D E In (endpoint (y .st)))
       → Quiet D E true (Off D E) (served {i = true} y iso frame)
-  q-served y iso frame p q = (q-bind D E) ((q-got D E) globals-cell) (λ g. (q-bind D E) ((q-when D E) (only D E (off-idle D E) ((q-sof D E) frame))) (λ _. (q-bind D E) (only D E (off-idle D E) (q-lates y frame)) (λ _. (q-bind D E) ((q-when D E) ((q-dispatch D E) z (token (y .st)) y iso frame p q)) (λ _. q-rest y iso frame))))
+  q-served y iso frame p q = (q-bind D E) ((q-got D E) globals-cell)
+      (λ g. (q-bind D E) ((q-when D E) (only D E (off-idle D E) ((q-sof D E) frame)))
+      (λ _. (q-bind D E) (only D E (off-idle D E) (q-lates y frame))
+      (λ _. (q-bind D E) ((q-when D E) ((q-dispatch D E) z (token (y .st)) y iso frame p q)) (λ _. q-rest y iso frame))))
 
   others : (st : ℕ) → mine D E st ≡ false → (d : Dir) → tokenFor d (token st) ≡ true → Else D E d (endpoint st)
   others st h d t q = by D refl
@@ -148,14 +160,19 @@ module _ (D : Dir) (E : ℕ) (z : (d : Dir) → Else D E d 0) where
       same-dir : (a : Dir) → D ≡ a → (b : Dir) → d ≡ b → D ≡ d
       same-dir Out g Out e = g ∙ sym e
       same-dir In g In e = g ∙ sym e
-      same-dir Out g In e = absurd (key-apart E (endpoint st) (subst (λ (x : Dir). key x E ≡ key In (endpoint st)) g (subst (λ (x : Dir). key D E ≡ key x (endpoint st)) e q)))
-      same-dir In g Out e = absurd (key-apart (endpoint st) E (sym (subst (λ (x : Dir). key x E ≡ key Out (endpoint st)) g (subst (λ (x : Dir). key D E ≡ key x (endpoint st)) e q))))
+      same-dir Out g In e = absurd
+          (key-apart E (endpoint st)
+          (subst (λ (x : Dir). key x E ≡ key In (endpoint st)) g (subst (λ (x : Dir). key D E ≡ key x (endpoint st)) e q)))
+      same-dir In g Out e = absurd
+          (key-apart (endpoint st) E
+          (sym (subst (λ (x : Dir). key x E ≡ key Out (endpoint st)) g (subst (λ (x : Dir). key D E ≡ key x (endpoint st)) e q))))
 
       by : (a : Dir) → D ≡ a → ⊥
       by a g =
           let e : D ≡ d = same-dir D refl d refl in
           let u : tokenFor D (token st) ≡ true = subst (λ (x : Dir). tokenFor x (token st) ≡ true) (sym e) t in
-          let k : own D E D (endpoint st) ≡ true = eq-eqb (key D (endpoint st)) (key D E) (sym (subst (λ (x : Dir). key D E ≡ key x (endpoint st)) (sym e) q)) in
+          let k : own D E D (endpoint st) ≡ true =
+          eq-eqb (key D (endpoint st)) (key D E) (sym (subst (λ (x : Dir). key D E ≡ key x (endpoint st)) (sym e) q)) in
           differ (sym h ∙ rw (u, k) refl)
 
   token-is : (d : Dir) (t u : Token) → t ≡ u → tokenFor d u ≡ true → tokenFor d t ≡ true
@@ -203,17 +220,31 @@ module _ (D : Dir) (E : ℕ) (z : (d : Dir) → Else D E d 0) where
           (let q = m .its h in
           let g : view D E (u .0) ≡ v = p .0 ∙ m .view in
           let iso = not-iso D E t i-here z (x .st) h in
-          subst (λ (c : Bool). Follow D E (Done D E) (withPhase (due (m .len)) w) (run concrete (served {i = true} (framed x c (u .0 .globals .«sof_frame») frame) c frame) u)) (sym iso)
-          (subst (λ (y : Transfer). Follow D E (Done D E) (withPhase (due (m .len)) w) (run concrete (served {i = true} y false frame) u)) (sym (not-framed x false (u .0 .globals .«sof_frame») frame (q .1)))
-          (ours w x (m .len) frame u quiet (heard-here u p) (its-token D E t i-here z (x .st) h) (both (tokenFor D (token (x .st))) (own D E D (endpoint (x .st))) h .1) (not-zero D E t i-here z (x .st) h) (sym (q .0)) (q .1) (kept-by D E {s = t} {t = u} p (m .kept)) (subst (Fits w) (sym g) r) (ap (λ (a : Seen). eqb (a .stage) 2) g ∙ two)))))
+          subst
+          (λ (c : Bool). Follow D E (Done D E) (withPhase (due (m .len)) w)
+          (run concrete (served {i = true} (framed x c (u .0 .globals .«sof_frame») frame) c frame) u)) (sym iso)
+          (subst (λ (y : Transfer). Follow D E (Done D E) (withPhase (due (m .len)) w) (run concrete (served {i = true} y false frame) u))
+          (sym (not-framed x false (u .0 .globals .«sof_frame») frame (q .1)))
+          (ours w x (m .len) frame u quiet (heard-here u p) (its-token D E t i-here z (x .st) h)
+          (both (tokenFor D (token (x .st))) (own D E D (endpoint (x .st))) h .1) (not-zero D E t i-here z (x .st) h) (sym (q .0))
+          (q .1) (kept-by D E {s = t} {t = u} p (m .kept)) (subst (Fits w) (sym g) r) (ap (λ (a : Seen). eqb (a .stage) 2) g ∙ two)))))
       by false h = at-ask tt (λ frame u _ p. back D E (due-now (x .st) (m .len) w false h frame)
           (let g : view D E (u .0) ≡ v = p .0 ∙ m .view in
           let iso = isoFor (token (x .st)) (concrete .get (ep-cell Out (endpoint (x .st))) t) (concrete .get (ep-cell In (endpoint (x .st))) t) in
           let y = framed x iso (u .0 .globals .«sof_frame») frame in
           let e : y .st ≡ x .st = framed-st x iso (u .0 .globals .«sof_frame») frame in
           let k : mine D E (y .st) ≡ false = ap (mine D E) e ∙ h in
-          follow.follow-more D E (q-served y iso frame (λ a. others (y .st) k Out (token-is Out (token (y .st)) tok.Out a refl)) (λ a. others (y .st) k In (token-is In (token (y .st)) tok.In a refl)) .goes (withPhase off w) u (refl, λ _ _ _ _. refl) (kept-by D E {s = t} {t = u} p (m .kept)))
-          (λ a _ c f. went (withPhase off w) a u c (refl, subst (Fits w) (sym g) r, kept-by D E {s = t} {t = u} p (m .kept), ap (λ (q : Seen). eqb (q .stage) 2) g ∙ two, inr (heard-here u p ∙ sym (ap flag quiet))) f)))
+          follow.follow-more D E
+          (q-served y iso frame (λ a. others (y .st) k Out (token-is Out (token (y .st)) tok.Out a refl))
+          (λ a. others (y .st) k In (token-is In (token (y .st)) tok.In a refl)) .goes
+          (withPhase off w) u (refl, λ _ _ _ _. refl) (kept-by D E {s = t} {t = u} p (m .kept)))
+          (λ a _ c f. went (withPhase off w) a u c (
+            refl,
+            subst (Fits w) (sym g) r,
+            kept-by D E {s = t} {t = u} p (m .kept),
+            ap (λ (q : Seen). eqb (q .stage) 2) g ∙ two,
+            inr (heard-here u p ∙ sym (ap flag quiet)),
+          ) f)))
 
   -- ---- the transfer
 
@@ -232,12 +263,18 @@ module _ (D : Dir) (E : ℕ) (z : (d : Dir) → Else D E d 0) where
       let kc = kept-by D E {s = b} {t = c} f (kept-by D E {s = a} {t = b} q (kept-by D E {s = s} {t = a} p ks)) in
       let wc : c .0 .wakes ≡ s .0 .wakes = f .2 ∙ (q .2 ∙ p .2) in
       back D E (ap (λ k. withPhase (shows st k) w) (zero-len n))
-      (follow.follow-bind D E {P = λ x _ e. Stays D E true (withPhase (shows st n) w) c x e} (follow.follow-cond D E (not (not (sieFree m)) || (not (isSof st) && not (eqb (endpoint st) 0))) (λ _. q-nak D E {i = true} st .goes (withPhase (shows st n) w) c (deaf D E st n w, λ _ _ _ _. refl) kc) (λ _. at-end (refl, refl, kc, hears-same D E {s = c} {t = c} refl))) (λ x _ e g. back D E (g .0)
+      (follow.follow-bind D E {P = λ x _ e. Stays D E true (withPhase (shows st n) w) c x e}
+      (follow.follow-cond D E (not (not (sieFree m)) || (not (isSof st) && not (eqb (endpoint st) 0)))
+      (λ _. q-nak D E {i = true} st .goes (withPhase (shows st n) w) c (deaf D E st n w, λ _ _ _ _. refl) kc)
+      (λ _. at-end (refl, refl, kc, hears-same D E {s = c} {t = c} refl))) (λ x _ e g. back D E (g .0)
       (at-ask tt (λ _ u _ h.
       let k : view D E (u .0) ≡ view D E (s .0) = h .0 ∙ (g .1 ∙ v) in
       let ku = kept-by D E {s = e} {t = u} h (g .2) in
-      let nu : heard D E u ≡ 0 = hears-same D E {m = true} {s = e} {t = u} (h .2) .same refl ∙ (g .3 .same refl ∙ (hears-same D E {m = true} {s = s} {t = c} wc .same refl ∙ none)) in
-      follow.follow-bind D E (settles D E z w u (entered m st n) (ap (λ (a : Seen). isOn (a .iso)) k ∙ i) ku) (λ l y t d. framing w (view D E (u .0)) y l u t quiet nu (subst (Fits w) (sym k) r) (ap (λ (a : Seen). isOn (a .iso)) k ∙ i) (ap (λ (a : Seen). eqb (a .stage) 2) k ∙ two) d))))))))
+      let nu : heard D E u ≡ 0 = hears-same D E {m = true} {s = e} {t = u} (h .2) .same refl
+      ∙ (g .3 .same refl ∙ (hears-same D E {m = true} {s = s} {t = c} wc .same refl ∙ none)) in
+      follow.follow-bind D E (settles D E z w u (entered m st n) (ap (λ (a : Seen). isOn (a .iso)) k ∙ i) ku)
+      (λ l y t d. framing w (view D E (u .0)) y l u t quiet nu (subst (Fits w) (sym k) r) (ap (λ (a : Seen). isOn (a .iso)) k
+      ∙ i) (ap (λ (a : Seen). eqb (a .stage) 2) k ∙ two) d))))))))
 
   -- ---- the interrupt
 
@@ -272,18 +309,30 @@ module _ (D : Dir) (E : ℕ) (z : (d : Dir) → Else D E d 0) where
   on-interrupt w s quiet none ks r i two = at-ask tt (λ f a _ p. by f a p (transfer f) refl)
     where
       by : (f : ℕ) (a : St) → follow.Keeps D E s a → (b : Bool) → transfer f ≡ b
-          → Follow D E (Done D E) (saw D E (withPhase log.entered w) (Read IntFg 0) f) (run concrete (bind (when {i = true} (busRst f) (bind (modifyIntEn (λ w. withBusRst w false)) (λ _. wakeBus))) (λ _. bind (when (suspend f) (bind (modifyIntEn (λ w. withSuspend w false)) (λ _. wakeBus))) (λ _. bind (when (fifoOv f) (write IntFg 0 FIFO_OV)) (λ _. bind (when (hstSof f) (write IntFg 0 HST_SOF)) (λ _. bind (when (transfer f) onTransfer) (λ _. when (setupAct f) onSetup)))))) a)
+          → Follow D E (Done D E) (saw D E (withPhase log.entered w) (Read IntFg 0) f)
+          (run concrete (bind (when {i = true} (busRst f) (bind (modifyIntEn (λ w. withBusRst w false)) (λ _. wakeBus)))
+          (λ _. bind (when (suspend f) (bind (modifyIntEn (λ w. withSuspend w false)) (λ _. wakeBus)))
+          (λ _. bind (when (fifoOv f) (write IntFg 0 FIFO_OV)) (λ _. bind (when (hstSof f) (write IntFg 0 HST_SOF))
+          (λ _. bind (when (transfer f) onTransfer) (λ _. when (setupAct f) onSetup)))))) a)
       by f a p b h = back D E (on-flag w f b h)
           (let L = withPhase (cond b flagged off) w in
           let hush = flags-hush w b in
-          follow.follow-bind D E ((q-when D E) {m = true} {P = Any} {i = true} {b = busRst f} (q-masks (λ w. withBusRst w false)) .goes L a (tt, hush) (kept-by D E {s = s} {t = a} p ks)) (λ x _ a1 m1. back D E (m1 .0)
-          (follow.follow-bind D E ((q-when D E) {m = true} {P = Any} {i = true} {b = suspend f} (q-masks (λ w. withSuspend w false)) .goes L a1 (tt, hush) (m1 .2)) (λ x _ a2 m2. back D E (m2 .0)
-          (follow.follow-bind D E ((q-when D E) {m = true} {P = Any} {i = true} {b = fifoOv f} ((q-write D E) {r = IntFg} {e = 0} {v = FIFO_OV} ((q-ret D E) {a = tt {0}})) .goes L a2 (tt, hush) (m2 .2)) (λ x _ a3 m3. back D E (m3 .0)
-          (follow.follow-bind D E ((q-when D E) {m = true} {P = Any} {i = true} {b = hstSof f} ((q-write D E) {r = IntFg} {e = 0} {v = HST_SOF} ((q-ret D E) {a = tt {0}})) .goes L a3 (tt, hush) (m3 .2)) (λ x _ a4 m4. back D E (m4 .0)
+          follow.follow-bind D E
+          ((q-when D E) {m = true} {P = Any} {i = true} {b = busRst f} (q-masks (λ w. withBusRst w false)) .goes L a (tt, hush)
+          (kept-by D E {s = s} {t = a} p ks)) (λ x _ a1 m1. back D E (m1 .0)
+          (follow.follow-bind D E ((q-when D E) {m = true} {P = Any} {i = true} {b = suspend f}
+          (q-masks (λ w. withSuspend w false)) .goes L a1 (tt, hush) (m1 .2)) (λ x _ a2 m2. back D E (m2 .0)
+          (follow.follow-bind D E ((q-when D E) {m = true} {P = Any} {i = true} {b = fifoOv f}
+          ((q-write D E) {r = IntFg} {e = 0} {v = FIFO_OV} ((q-ret D E) {a = tt {0}})) .goes L a2 (tt, hush)
+          (m2 .2)) (λ x _ a3 m3. back D E (m3 .0)
+          (follow.follow-bind D E ((q-when D E) {m = true} {P = Any} {i = true} {b = hstSof f}
+          ((q-write D E) {r = IntFg} {e = 0} {v = HST_SOF} ((q-ret D E) {a = tt {0}})) .goes L a3 (tt, hush)
+          (m3 .2)) (λ x _ a4 m4. back D E (m4 .0)
           (let v : view D E (a4 .0) ≡ view D E (s .0) = m4 .1 ∙ (m3 .1 ∙ (m2 .1 ∙ (m1 .1 ∙ p .0))) in
           let r4 = subst (Fits w) (sym v) r in
           let two4 = ap (λ (q : Seen). eqb (q .stage) 2) v ∙ two in
-          let n4 : heard D E a4 ≡ 0 = m4 .3 .same refl ∙ (m3 .3 .same refl ∙ (m2 .3 .same refl ∙ (m1 .3 .same refl ∙ (hears-same D E {m = true} {s = s} {t = a} (p .2) .same refl ∙ none)))) in
+          let n4 : heard D E a4 ≡ 0 = m4 .3 .same refl ∙ (m3 .3 .same refl
+          ∙ (m2 .3 .same refl ∙ (m1 .3 .same refl ∙ (hears-same D E {m = true} {s = s} {t = a} (p .2) .same refl ∙ none)))) in
           follow.follow-bind D E {P = Done D E} (moves f a4 n4 (m4 .2) b h r4 (ap (λ (q : Seen). isOn (q .iso)) v ∙ i) two4) (λ x _ c n.
           follow.follow-cond D E (setupAct f)
           (λ _. follow.follow-more D E ((q-setup D E) z {i = true} .goes x c (n .0, off-hush D E x (n .0)) (n .2)) (λ y _ u g. went x y c u n g))
@@ -293,12 +342,18 @@ module _ (D : Dir) (E : ℕ) (z : (d : Dir) → Else D E d 0) where
               → Fits w (view D E (c .0)) → isOn (epOn (c .0) D E .iso) ≡ false → eqb (c .0 .globals .stage) 2 ≡ true
               → Follow D E (Done D E) (withPhase (cond b flagged off) w) (run {i = true} concrete (when (transfer f) onTransfer) c)
           moves f c nc k true h r i two = follow.follow-cond D E (transfer f) (λ _. transfers w c quiet nc k r i two) (λ q. differ (sym q ∙ h))
-          moves f c nc k false h r i two = follow.follow-cond D E (transfer f) (λ q. differ (sym h ∙ q)) (λ _. at-end (refl, r, k, two, inr (nc ∙ sym (ap flag quiet))))
+          moves f c nc k false h r i two = follow.follow-cond D E
+              (transfer f) (λ q. differ (sym h ∙ q)) (λ _. at-end (refl, r, k, two, inr (nc ∙ sym (ap flag quiet))))
 
   -- its wake-ups are gathered from none
   gathers : (s : St) → isOn (epOn (s .0) D E .iso) ≡ false → Sorting (s .0) → Kept D E true (concrete .act no-wakes s)
   unfolding epOn
-  gathers s i k = record { whole = k .places; sorts = λ _. record { flags = λ dir e. refl; outs = λ e l h. k .has .outs e l h; every = λ e l h. k .has .every e l h }; plain = λ _. i; room = λ _. none-room }
+  gathers s i k = record {
+    whole = k .places;
+    sorts = λ _. record { flags = λ dir e. refl; outs = λ e l h. k .has .outs e l h; every = λ e l h. k .has .every e l h };
+    plain = λ _. i;
+    room = λ _. none-room;
+  }
 
   heard-none : (s : St) → heard D E (concrete .act no-wakes s) ≡ 0
   heard-none s = ap (howOften (wakeCode D E)) none-listed
@@ -320,7 +375,9 @@ module _ (D : Dir) (E : ℕ) (z : (d : Dir) → Else D E d 0) where
       let g = withEntered (indexOf frame) (concrete .get globals-cell a) in
       let v : view D E (concrete .put globals-cell g a .0) ≡ view D E (s .0) = put-globals D E g a ∙ (p .0 ∙ act-view D E no-wakes refl s) in
       let ka = kept-by D E {s = s0} {t = a} p (gathers s i k) in
-      let na : heard D E (concrete .put globals-cell g a) ≡ 0 = put-hears D E {m = true} globals-cell g a .same refl ∙ (hears-same D E {m = true} {s = s0} {t = a} (p .2) .same refl ∙ heard-none s) in
-      on-interrupt (begun w) (concrete .put globals-cell g a) refl na (put-kept D E globals-cell g a ka) (subst (Fits w) (sym v) r) (ap (λ (q : Seen). isOn (q .iso)) v ∙ i) (ap (λ (q : Seen). eqb (q .stage) 2) v ∙ two)))
+      let na : heard D E (concrete .put globals-cell g a) ≡ 0 = put-hears D E {m = true} globals-cell g a .same refl
+      ∙ (hears-same D E {m = true} {s = s0} {t = a} (p .2) .same refl ∙ heard-none s) in
+      on-interrupt (begun w) (concrete .put globals-cell g a) refl na (put-kept D E globals-cell g a ka)
+      (subst (Fits w) (sym v) r) (ap (λ (q : Seen). isOn (q .iso)) v ∙ i) (ap (λ (q : Seen). eqb (q .stage) 2) v ∙ two)))
       (λ y _ t m. at-end m)) (λ y _ t m. at-end (m .1, λ few. (m .0, ends-few y t (m .2) (m .4) few))))
       (λ _. at-end (r, λ _. tt))

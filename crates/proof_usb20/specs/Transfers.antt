@@ -7,7 +7,9 @@ use Rattle.regs.specs.declared.Dir.{Dir}
 use Rattle.regs.specs.declared.Dir.the-variants.{Out, In}
 use Rattle.model.specs.Usb20Toggles.{other}
 use Rattle.model.specs.Usb20Control.{dataPid, statusPid}
-use Rattle.proof_usb20.specs.Pipe.{data-stage, status-stage, naks, stalls, acks, half, Pipe, Setting, setup, packet, token, possible, after, Choice, takes, gives, confirms, rejects, chosen, orderly, given, confirmed, over}
+use Rattle.proof_usb20.specs.Pipe.{data-stage, status-stage, naks, stalls, acks, half, Pipe, Setting, setup}
+use Rattle.proof_usb20.specs.Pipe.{packet, token, possible, after, Choice, takes, gives, confirms, rejects}
+use Rattle.proof_usb20.specs.Pipe.{chosen, orderly, given, confirmed, over}
 
 -- packet k of a data stage is ready, the k before it went through
 abbrev pub stage : (Bool → Choice) → Dir → Pipe → ℕ → Pipe
@@ -54,7 +56,8 @@ module _ (p : Pipe) (n : ℕ) where
   accepted s k = chosen (confirms s) (after (packet Out) (stage takes Out p k))
 
   pub write-status : (s : Setting) (k : ℕ)
-      → (accepted s k .inn .answers ≡ acks status-stage) × (accepted s k .inn .bit ≡ statusPid) × (over (confirmed s) (accepted s k) ≡ false) × (over (confirmed s) (after (packet In) (accepted s k)) ≡ true)
+      → (accepted s k .inn .answers ≡ acks status-stage) × (accepted s k .inn .bit ≡ statusPid)
+      × (over (confirmed s) (accepted s k) ≡ false) × (over (confirmed s) (after (packet In) (accepted s k)) ≡ true)
   write-status s k = (refl, refl, refl, refl)
 
   -- none
@@ -64,12 +67,14 @@ module _ (p : Pipe) (n : ℕ) where
 
   -- all in order and possible: nothing of it is exempt
   pub read-orderly : (k : ℕ)
-      → (orderly (gives n true false) (after setup p) ≡ true) × (possible (packet In) (stage (reads n) In p k) ≡ true) × (orderly (gives n false false) (after (packet In) (stage (reads n) In p k)) ≡ true)
+      → (orderly (gives n true false) (after setup p) ≡ true) × (possible (packet In) (stage (reads n) In p k) ≡ true)
+      × (orderly (gives n false false) (after (packet In) (stage (reads n) In p k)) ≡ true)
   read-orderly zero = (refl, refl, refl)
   read-orderly (suc k) = (refl, refl, refl)
 
   pub write-orderly : (k : ℕ)
-      → (orderly (takes true) (after setup p) ≡ true) × (possible (packet Out) (stage takes Out p k) ≡ true) × (orderly (takes false) (after (packet Out) (stage takes Out p k)) ≡ true)
+      → (orderly (takes true) (after setup p) ≡ true) × (possible (packet Out) (stage takes Out p k) ≡ true)
+      × (orderly (takes false) (after (packet Out) (stage takes Out p k)) ≡ true)
   write-orderly zero = (refl, refl, refl)
   write-orderly (suc k) = (refl, refl, refl)
 

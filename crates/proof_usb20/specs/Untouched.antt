@@ -18,11 +18,14 @@ use Rattle.ring.specs.Slot.{slotAddr, joinedOf, passedOf, hasWaiting}
 use Rattle.ring.specs.Out.{hasRoomOut, cappedAt, overrunOf, arrivedOf, armedAt, openedOf, closedOf}
 use Rattle.ring.specs.In.{completedOf, loadedOf, unloadedOf}
 use Rattle.marks.specs.Copies.{copied}
-use Rattle.model.specs.Script.{Act, complete, reset-ring, set-enabled, fill, fill0, open-oldest, close-oldest, take-oldest, enqueue, allocate, allocate0, no-wakes, waken, DmaStep, arrive, send, place, place0}
+use Rattle.model.specs.Script.{Act, complete, reset-ring, set-enabled, fill, fill0, open-oldest, close-oldest}
+use Rattle.model.specs.Script.{take-oldest, enqueue, allocate, allocate0, no-wakes, waken, DmaStep, arrive, send, place}
+use Rattle.model.specs.Script.{place0}
 use Rattle.model.specs.Statics.{isOn, isoOuts}
 use Rattle.model.specs.TransferKinds.{allocates}
 use Rattle.model_ops.specs.Records.{isoOut, configured, enabledOn}
-use Rattle.model_ops.specs.Rings.{St, completeOn, emptied, emptiedOn, openOn, closeOn, takeOn, roomOn, queuedOn, enqueueOn, recordedOn, admittedOn, arrivedAt, arriveOn, sendOn, placeOn}
+use Rattle.model_ops.specs.Rings.{St, completeOn, emptied, emptiedOn, openOn, closeOn, takeOn, roomOn, queuedOn}
+use Rattle.model_ops.specs.Rings.{enqueueOn, recordedOn, admittedOn, arrivedAt, arriveOn, sendOn, placeOn}
 use Rattle.model_ops.specs.Concrete.{concrete}
 use Rattle.proof_usb20.specs.Follow.{Seen, seenOf, view}
 
@@ -137,7 +140,10 @@ hand-same (send e) s = either (hasWaiting (epOn (s .0) In e)) (record-same (s .0
 hand-same (place Out e) s = by (isSet (isoOuts (s .0 .globals)) (e % 16))
   where
     by : (b : Bool)
-        → Same (s .0) (cond {A = ℕ × Driver} b (epOn (s .0) Out e .«armed_slot», s .0) (epOn (s .0) Out e .base, withOn (s .0) Out e (armedAt (epOn (s .0) Out e) (epOn (s .0) Out e .base))) .1)
+        → Same (s .0) (cond {A = ℕ × Driver} b (epOn (s .0) Out e .«armed_slot», s .0) (
+          epOn (s .0) Out e .base,
+          withOn (s .0) Out e (armedAt (epOn (s .0) Out e) (epOn (s .0) Out e .base)),
+        ) .1)
     by true = same (s .0)
     by false = armed-same (s .0) e (epOn (s .0) Out e .base)
 hand-same (place In e) s = same (s .0)
@@ -147,7 +153,8 @@ pub same-view : (D : Dir) (E : ℕ) {d d′ : Driver} → Same d d′ → view D
 same-view D E {d = d} {d′ = d′} p = with (epOn d D E) (epOn d′ D E) (p .flags D E) (p .stage)
   where
     with : (r q : EpState) → core q ≡ core r → {m n : ℕ} → m ≡ n → seenOf q m ≡ seenOf r n
-    with r q h {m = m} {n = n} e = rw e (ap (λ (x : Seen). record { ready = x .ready; len = x .len; armed = x .armed; tog = x .tog; iso = x .iso; stage = n }) h)
+    with r q h {m = m} {n = n} e =
+        rw e (ap (λ (x : Seen). record { ready = x .ready; len = x .len; armed = x .armed; tog = x .tog; iso = x .iso; stage = n }) h)
 
 pub act-view : (D : Dir) (E : ℕ) (q : Act) → allocates q ≡ false → (s : St)
     → view D E (concrete .act q s .0) ≡ view D E (s .0)

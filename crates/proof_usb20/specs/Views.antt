@@ -50,12 +50,14 @@ made d x p q c g t = rw (p, q, c, g, t) refl
 pub put-out : (v : EpCore) (s : St) → length (s .0 .eps) ≡ 32
     → view (concrete .put (ep-cell Out 0) v s .0) ≡ setOut (rec v) (view (s .0))
 unfolding withOn
-put-out v s h = made _ _ (ap recOf (ep-same (s .0) Out 0 (merged (epOn (s .0) Out 0) v) h)) (ap recOf (ep-other (s .0) Out 0 (merged (epOn (s .0) Out 0) v) In 0 (λ z. key-apart 0 0 (sym z)))) refl refl refl
+put-out v s h = made _ _ (ap recOf (ep-same (s .0) Out 0 (merged (epOn (s .0) Out 0) v) h))
+    (ap recOf (ep-other (s .0) Out 0 (merged (epOn (s .0) Out 0) v) In 0 (λ z. key-apart 0 0 (sym z)))) refl refl refl
 
 pub put-in : (v : EpCore) (s : St) → length (s .0 .eps) ≡ 32
     → view (concrete .put (ep-cell In 0) v s .0) ≡ setIn (rec v) (view (s .0))
 unfolding withOn
-put-in v s h = made _ _ (ap recOf (ep-other (s .0) In 0 (merged (epOn (s .0) In 0) v) Out 0 (λ z. key-apart 0 0 z))) (ap recOf (ep-same (s .0) In 0 (merged (epOn (s .0) In 0) v) h)) refl refl refl
+put-in v s h = made _ _ (ap recOf (ep-other (s .0) In 0 (merged (epOn (s .0) In 0) v) Out 0 (λ z. key-apart 0 0 z)))
+    (ap recOf (ep-same (s .0) In 0 (merged (epOn (s .0) In 0) v) h)) refl refl refl
 
 pub put-control : (c : Control) (s : St) → view (concrete .put control-cell c s .0) ≡ setControl c (view (s .0))
 unfolding epOn

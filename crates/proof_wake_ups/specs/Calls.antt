@@ -26,8 +26,17 @@ use Rattle.req_descriptor.specs.Reading.{readingOf, listOf}
 use Rattle.req_preview.specs.Trial.{directionOf}
 use Rattle.model.specs.Driver.{allocated-as, started-as}
 use Rattle.model.specs.AllocateAll.{allocateEach, announce, beginsAt, announceAfter, announceAll, allocate-read}
-use Rattle.model.specs.Calls.{Config, Slotted, SetEnabled, PollRead, BeginWrite, PollWrite, PollDataOut, BeginDataIn, Other, Allocate, AllocateAll, Start, BusPoll, BusEnable, BusDisable, Microframe, SetStalled, IsStalled, SetPaced, Advance, BeginRead, BeginSetup, PollSetup, PollDataIn, BeginAccept, PollAccept, BeginReject, BeginDataOut, BeginAcceptSetAddress, Aside, Open, Close, Queue, Op, interrupt, slotted, other, aside, numbered, named-or-0, slottedCode, otherCode, asideCode, code, starting}
-use Rattle.proof_wake_ups.specs.TwinsLaws.{Wakes≤, wakes-more, wakes-ret, wakes-waken, wakes-row, wakes-wait, free, once, then-free, either, no-read, no-write, no-get, no-put, no-is, no-look, no-fetch, no-act, one-wake, no-hand, when-wakes, assign, assign-write, modifyReg-wakes, Within, within-quiet, within-bind, within-test, within-ret, within-operation}
+use Rattle.model.specs.Calls.{Config, Slotted, SetEnabled, PollRead, BeginWrite, PollWrite, PollDataOut, BeginDataIn}
+use Rattle.model.specs.Calls.{Other, Allocate, AllocateAll, Start, BusPoll, BusEnable, BusDisable, Microframe}
+use Rattle.model.specs.Calls.{SetStalled, IsStalled, SetPaced, Advance, BeginRead, BeginSetup, PollSetup, PollDataIn}
+use Rattle.model.specs.Calls.{BeginAccept, PollAccept, BeginReject, BeginDataOut, BeginAcceptSetAddress, Aside, Open}
+use Rattle.model.specs.Calls.{Close, Queue, Op, interrupt, slotted, other, aside, numbered, named-or-0, slottedCode}
+use Rattle.model.specs.Calls.{otherCode, asideCode, code, starting}
+use Rattle.proof_wake_ups.specs.TwinsLaws.{Wakes≤, wakes-more, wakes-ret, wakes-waken, wakes-row, wakes-wait}
+use Rattle.proof_wake_ups.specs.TwinsLaws.{free, once, then-free, either, no-read, no-write, no-get, no-put}
+use Rattle.proof_wake_ups.specs.TwinsLaws.{no-is, no-look, no-fetch, no-act, one-wake, no-hand, when-wakes}
+use Rattle.proof_wake_ups.specs.TwinsLaws.{assign, assign-write, modifyReg-wakes, Within, within-quiet}
+use Rattle.proof_wake_ups.specs.TwinsLaws.{within-bind, within-test, within-ret, within-operation}
 use Rattle.proof_wake_ups.specs.Interrupt.{isoInComplete-wakes, stamped-wakes}
 
 -- ---- the checks that stand before a call
@@ -91,7 +100,8 @@ module _ {i : Bool} {n : ℕ} where
   aborted-wakes x = free (no-get globals-cell) (λ _. either ends-control-wakes x)
 
   polled-wakes : (d : Dir) (e m : ℕ) {p : EpCore → Script i Answer} → ((s : EpCore) → Wakes≤ n (p s)) → Wakes≤ n (polled d e m p)
-  polled-wakes d e m x = free (no-get (request-cell _ _)) (λ _. unless-wakes (either (free (no-get (ep-cell _ _)) x) (free (assign (ep-cell _ _)) (λ _. ends-request-wakes))))
+  polled-wakes d e m x = free (no-get (request-cell _ _))
+      (λ _. unless-wakes (either (free (no-get (ep-cell _ _)) x) (free (assign (ep-cell _ _)) (λ _. ends-request-wakes))))
 
 -- ---- the bus
 
@@ -108,7 +118,8 @@ module _ {i : Bool} where
   stall-wakes Out e true = free modifyReg-wakes (λ _. one-wake)
   stall-wakes In e true = free no-write (λ _. free modifyReg-wakes (λ _. one-wake))
   stall-wakes Out e false = free (no-get (ep-cell _ _)) (λ _. free (no-put (ep-cell _ _)) (λ _. free no-write (λ _. one-wake)))
-  stall-wakes In e false = free (no-get (ep-cell _ _)) (λ _. free (no-put (ep-cell _ _)) (λ _. free no-write (λ _. free (when-wakes (assign (ep-cell _ _))) (λ _. one-wake))))
+  stall-wakes In e false = free (no-get (ep-cell _ _))
+      (λ _. free (no-put (ep-cell _ _)) (λ _. free no-write (λ _. free (when-wakes (assign (ep-cell _ _))) (λ _. one-wake))))
 
   completions-wakes : (n e : ℕ) → Wakes≤ {i = i} n (isoInCompletions n e)
   unfolding isoInCompletions
@@ -142,7 +153,8 @@ enabling-wakes Out e on = free (no-get (ep-cell _ _)) (λ _. free (either (wakes
     (free (no-act (reset-ring Out e) tt) (λ _. free (assign (ep-cell _ _)) (λ _. free no-hand (λ _. free no-write (λ _. kept-wakes Out e false on))))))
     (λ _. one-wake))
 enabling-wakes In e on = free (no-get (ep-cell _ _)) (λ s. free
-    (free (no-act (reset-ring In e) tt) (λ _. free (assign (ep-cell _ _)) (λ _. free (no-put (paced-cell _)) (λ _. free no-hand (λ _. free no-write (λ _. free no-write (λ _. kept-wakes In e (isOn (s .iso)) on)))))))
+    (free (no-act (reset-ring In e) tt) (λ _. free (assign (ep-cell _ _)) (λ _. free (no-put (paced-cell _))
+    (λ _. free no-hand (λ _. free no-write (λ _. free no-write (λ _. kept-wakes In e (isOn (s .iso)) on)))))))
     (λ _. one-wake))
 
 -- ---- control
@@ -158,7 +170,8 @@ module _ {i : Bool} where
       (aborted-wakes (free (when-wakes (free (assign (ep-cell _ _)) (λ _. no-put control-cell))) (λ _. wakes-ret))))
 
   take-in-wakes : (c : Control) → Wakes≤ {i = i} 0 (take-in c)
-  take-in-wakes c = free (no-get (ep-cell _ _)) (λ _. either (either (take-closing-wakes true c) (free (assign (ep-cell _ _)) (λ _. ends-control-wakes))) (aborted-wakes wakes-ret))
+  take-in-wakes c = free (no-get (ep-cell _ _))
+      (λ _. either (either (take-closing-wakes true c) (free (assign (ep-cell _ _)) (λ _. ends-control-wakes))) (aborted-wakes wakes-ret))
 
   take-out-wakes : (n : ℕ) → Wakes≤ {i = i} 0 (take-out n)
   take-out-wakes n = free (no-get (ep-cell _ _)) (λ _. either
@@ -169,7 +182,9 @@ module _ {i : Bool} where
   statusIn-wakes = free (assign (ep-cell _ _)) (λ _. free no-write (λ _. modifyReg-wakes))
 
   dataIn-within : (bs : List ℕ) (first last : Bool) → Within {i = i} (beginDataIn bs first last)
-  dataIn-within bs first last = staged-within 2 (withinMaximum-within _ (unlessSetup-within (within-bind (no-put control-cell) (λ _. resultless-within {n = 0} (omega arith) (free (no-act (fill0 bs) tt) (λ _. free (assign (ep-cell _ _)) (λ _.
+  dataIn-within bs first last = staged-within 2
+      (withinMaximum-within _ (unlessSetup-within (within-bind (no-put control-cell)
+      (λ _. resultless-within {n = 0} (omega arith) (free (no-act (fill0 bs) tt) (λ _. free (assign (ep-cell _ _)) (λ _.
       free (when-wakes (free (assign (ep-cell _ _)) (λ _. no-write))) (λ _. free (assign (ep-cell _ _)) (λ _. free no-write (λ _. acks-wakes In first))))))))))
 
   -- ---- reads and writes
@@ -199,11 +214,13 @@ module _ {i : Bool} where
 
   allocated-within : (d : Dir) (kind maximum : ℕ) (a : alloc-answer.Answer) → Within {i = i} (allocated-as d kind maximum a)
   allocated-within d kind maximum (alloc.Refused n) = within-ret
-  allocated-within d kind maximum (alloc.Given ep base slots) = within-operation {n = 0} (omega arith) (free no-write (λ _. free (when-wakes no-hand) (λ _. wakes-ret)))
+  allocated-within d kind maximum (alloc.Given ep base slots) =
+      within-operation {n = 0} (omega arith) (free no-write (λ _. free (when-wakes no-hand) (λ _. wakes-ret)))
 
   started-within : (maximum : ℕ) (a : alloc-answer.Answer) → Within {i = i} (started-as maximum a)
   started-within maximum (alloc.Refused n) = within-ret
-  started-within maximum (alloc.Given ep base slots) = resultless-within {n = 0} (omega arith) (free no-hand (λ _. free no-write (λ _. free no-write (λ _. free no-write (λ _. no-write)))))
+  started-within maximum (alloc.Given ep base slots) = resultless-within {n = 0}
+      (omega arith) (free no-hand (λ _. free no-write (λ _. free no-write (λ _. free no-write (λ _. no-write)))))
 
 -- ---- a list's allocation
 
@@ -224,7 +241,8 @@ module _ {i : Bool} where
   after-wakes : (left total : ℕ) (d : Dir) (e : ℕ) → Wakes≤ {i = i} 0 (announceAfter left total d e)
   unfolding announceAfter
   after-wakes zero total d e = wakes-ret
-  after-wakes (suc left) total d e = free (free (no-get allocator-cell) (λ _. free (no-get (ep-cell _ _)) (λ _. wakes-ret))) (λ x. free (beginsAt-wakes Out x 15 1) (λ o. either
+  after-wakes (suc left) total d e = free (free (no-get allocator-cell) (λ _. free (no-get (ep-cell _ _)) (λ _. wakes-ret)))
+      (λ x. free (beginsAt-wakes Out x 15 1) (λ o. either
       (free (beginsAt-wakes In x 15 1) (λ n. free (announce-wakes In n) (λ _. after-wakes left total In n)))
       (free (announce-wakes Out o) (λ _. after-wakes left total Out o))))
 
@@ -234,47 +252,75 @@ module _ {i : Bool} where
 
   all-within : (bytes : List ℕ) (a : reading-answer.Answer) → Within {i = i} (allocate-read bytes a)
   all-within bytes (reading.Refused n) = within-ret
-  all-within bytes reading.Listed = within-bind (no-get allocator-cell) (λ _. within-test (within-bind (each-wakes (listOf bytes)) (λ _. within-operation {n = 0} (omega arith) (announceAll-wakes (listOf bytes)))) within-ret)
+  all-within bytes reading.Listed = within-bind (no-get allocator-cell)
+      (λ _. within-test
+      (within-bind (each-wakes (listOf bytes)) (λ _. within-operation {n = 0} (omega arith) (announceAll-wakes (listOf bytes)))) within-ret)
 
 -- ---- every call
 
 slotted-within : (o : Slotted) → Within (slottedCode o)
 slotted-within (SetEnabled d e on) = staged-within 2 (named-within d e (resultless-within {n = 1} (omega arith) (enabling-wakes d e on)))
-slotted-within (PollRead e n) = within-quiet (staged-wakes 2 (named-wakes Out e (polled-wakes Out e n (λ s. either (take-iso-wakes e n) (take-ready-wakes e n s)))))
-slotted-within (BeginWrite e bs) = staged-within 2 (named-within In e (enabled-within In e within-ret (within-bind (no-get (ep-cell _ _)) (λ _. unless-within (within-bind (no-put (request-cell _ _)) (λ _. resultless-within {n = 0} (omega arith) (either wakes-ret (load-write-wakes e bs))))))))
-slotted-within (PollWrite e bs) = within-quiet (staged-wakes 2 (named-wakes In e (polled-wakes In e _ (λ s. either (put-iso-wakes e bs) (sent-ready-wakes e s)))))
-slotted-within (PollDataOut n) = within-quiet (staged-wakes 2 (requested-wakes _ (λ c. either (take-out-wakes n) (free (assign (ep-cell _ _)) (λ _. ends-control-wakes)))))
+slotted-within (PollRead e n) = within-quiet
+    (staged-wakes 2 (named-wakes Out e (polled-wakes Out e n (λ s. either (take-iso-wakes e n) (take-ready-wakes e n s)))))
+slotted-within (BeginWrite e bs) = staged-within 2
+    (named-within In e (enabled-within In e within-ret (within-bind (no-get (ep-cell _ _)) (λ _. unless-within
+    (within-bind (no-put (request-cell _ _)) (λ _. resultless-within {n = 0} (omega arith) (either wakes-ret (load-write-wakes e bs))))))))
+slotted-within (PollWrite e bs) = within-quiet
+    (staged-wakes 2 (named-wakes In e (polled-wakes In e _ (λ s. either (put-iso-wakes e bs) (sent-ready-wakes e s)))))
+slotted-within (PollDataOut n) = within-quiet
+    (staged-wakes 2 (requested-wakes _ (λ c. either (take-out-wakes n) (free (assign (ep-cell _ _)) (λ _. ends-control-wakes)))))
 slotted-within (BeginDataIn bs first last) = dataIn-within bs first last
 
 other-within : (o : Other) → Within (otherCode o)
-other-within (Allocate d kind address maximum interval) = staged-within 1 (within-bind (no-get allocator-cell) (λ a. within-bind (no-act (allocate d kind address maximum interval) tt) (λ _. allocated-within d kind maximum (allocateOf a kind address maximum d .answer))))
+other-within (Allocate d kind address maximum interval) = staged-within 1
+    (within-bind (no-get allocator-cell) (λ a. within-bind (no-act (allocate d kind address maximum interval) tt)
+    (λ _. allocated-within d kind maximum (allocateOf a kind address maximum d .answer))))
 other-within (AllocateAll bytes) = staged-within 1 (all-within bytes (readingOf bytes .answer))
-other-within (Start maximum) = staged-within 1 (within-bind (no-get allocator-cell) (λ a. within-bind (no-act (allocate0 maximum) tt) (λ _. started-within maximum (allocateEp0Of a maximum .answer))))
+other-within (Start maximum) = staged-within 1
+    (within-bind (no-get allocator-cell)
+    (λ a. within-bind (no-act (allocate0 maximum) tt) (λ _. started-within maximum (allocateEp0Of a maximum .answer))))
 other-within BusPoll = staged-within 2 (within-operation (omega arith) poll-wakes)
 other-within BusEnable = staged-within 2 (resultless-within {n = 0} (omega arith) modifyReg-wakes)
 other-within BusDisable = staged-within 2 (resultless-within {n = 0} (omega arith) wakes-ret)
 other-within Microframe = staged-within 2 (within-operation {n = 0} (omega arith) (free no-read (λ _. wakes-ret)))
 other-within (SetStalled d e on) = staged-within 2 (named-or-0-within d e (resultless-within {n = 1} (omega arith) (stall-wakes d e on)))
 other-within (IsStalled d e) = staged-within 2 (named-or-0-within d e (within-operation {n = 0} (omega arith) (free no-read (λ _. wakes-ret))))
-other-within (SetPaced e on) = within-quiet (staged-wakes 2 (numbered-wakes e (free (free (no-get globals-cell) (λ _. free (no-put globals-cell) (λ _. no-put (paced-cell _)))) (λ _. wakes-ret))))
+other-within (SetPaced e on) = within-quiet
+    (staged-wakes 2
+    (numbered-wakes e (free (free (no-get globals-cell) (λ _. free (no-put globals-cell) (λ _. no-put (paced-cell _)))) (λ _. wakes-ret))))
 other-within (Advance e) = staged-within 2 (numbered-within e (resultless-within {n = 3} (omega arith) (advance-wakes e)))
-other-within (BeginRead e n) = staged-within 2 (named-within Out e (enabled-within Out e within-ret (within-bind (no-get (ep-cell _ _)) (λ s. unless-within (within-bind (no-put (request-cell _ _)) (λ _. resultless-within {n = 0} (omega arith) (arm-read-wakes e s)))))))
+other-within (BeginRead e n) = staged-within 2
+    (named-within Out e (enabled-within Out e within-ret (within-bind (no-get (ep-cell _ _))
+    (λ s. unless-within (within-bind (no-put (request-cell _ _)) (λ _. resultless-within {n = 0} (omega arith) (arm-read-wakes e s)))))))
 other-within BeginSetup = staged-within 2 (within-bind (no-put control-cell) (λ _. resultless-within {n = 0} (omega arith) wakes-ret))
-other-within PollSetup = within-quiet (staged-wakes 2 (requested-wakes _ (λ c. free (no-get globals-cell) (λ _. either (free (no-put globals-cell) (λ _. ends-control-wakes)) wakes-ret))))
+other-within PollSetup = within-quiet
+    (staged-wakes 2
+    (requested-wakes _ (λ c. free (no-get globals-cell) (λ _. either (free (no-put globals-cell) (λ _. ends-control-wakes)) wakes-ret))))
 other-within PollDataIn = within-quiet (staged-wakes 2 (requested-wakes _ (λ c. either (take-closing-wakes false c) (take-in-wakes c))))
-other-within BeginAccept = staged-within 2 (unlessSetup-within (within-bind (no-put control-cell) (λ _. resultless-within {n = 0} (omega arith) statusIn-wakes)))
+other-within BeginAccept = staged-within 2
+    (unlessSetup-within (within-bind (no-put control-cell) (λ _. resultless-within {n = 0} (omega arith) statusIn-wakes)))
 other-within PollAccept = staged-within 2 (within-bind (no-get control-cell) (λ c. within-test (within-bind (no-get (ep-cell _ _)) (λ _. within-test
-    (within-bind (assign (ep-cell _ _)) (λ _. within-bind (no-put control-cell) (λ _. within-test (resultless-within {n = 0} (omega arith) no-write) within-ret)))
+    (within-bind (assign (ep-cell _ _))
+    (λ _. within-bind (no-put control-cell) (λ _. within-test (resultless-within {n = 0} (omega arith) no-write) within-ret)))
     (within-quiet (aborted-wakes wakes-ret)))) within-ret))
-other-within BeginReject = staged-within 2 (within-bind (no-put control-cell) (λ _. resultless-within {n = 0} (omega arith) (free (assign (ep-cell _ _)) (λ _. free (assign (ep-cell _ _)) (λ _. free modifyReg-wakes (λ _. modifyReg-wakes))))))
-other-within (BeginDataOut n first) = staged-within 2 (withinMaximum-within n (unlessSetup-within (within-bind (no-put control-cell) (λ _. resultless-within {n = 0} (omega arith) (free (assign (ep-cell _ _)) (λ _. acks-wakes Out first))))))
-other-within (BeginAcceptSetAddress a) = staged-within 2 (unlessSetup-within (within-bind (no-put control-cell) (λ _. resultless-within {n = 0} (omega arith) statusIn-wakes)))
+other-within BeginReject = staged-within 2
+    (within-bind (no-put control-cell) (λ _. resultless-within {n = 0} (omega arith)
+    (free (assign (ep-cell _ _)) (λ _. free (assign (ep-cell _ _)) (λ _. free modifyReg-wakes (λ _. modifyReg-wakes))))))
+other-within (BeginDataOut n first) = staged-within 2
+    (withinMaximum-within n (unlessSetup-within
+    (within-bind (no-put control-cell) (λ _. resultless-within {n = 0} (omega arith) (free (assign (ep-cell _ _)) (λ _. acks-wakes Out first))))))
+other-within (BeginAcceptSetAddress a) = staged-within 2
+    (unlessSetup-within (within-bind (no-put control-cell) (λ _. resultless-within {n = 0} (omega arith) statusIn-wakes)))
 
 -- these pass during an interrupt, and leave its wake-ups
 pub aside-wakes : (o : Aside) → Wakes≤ 0 (asideCode o)
-aside-wakes (Open e) = staged-wakes 2 (named-wakes Out e (free (no-get (ep-cell _ _)) (λ _. unless-wakes (free no-is (λ _. either (free (no-act (open-oldest e) tt) (λ _. free no-fetch (λ _. free no-look (λ _. wakes-ret)))) wakes-ret)))))
+aside-wakes (Open e) = staged-wakes 2
+    (named-wakes Out e (free (no-get (ep-cell _ _)) (λ _. unless-wakes
+    (free no-is (λ _. either (free (no-act (open-oldest e) tt) (λ _. free no-fetch (λ _. free no-look (λ _. wakes-ret)))) wakes-ret)))))
 aside-wakes (Close e) = staged-wakes 2 (named-wakes Out e (free no-is (λ _. either (free (no-act (close-oldest e) tt) (λ _. wakes-ret)) wakes-ret)))
-aside-wakes (Queue e bs) = staged-wakes 2 (named-wakes In e (enabled-wakes In e wakes-ret (free (no-get allocator-cell) (λ _. unless-wakes (free (no-get (ep-cell _ _)) (λ _. unless-wakes (free no-is (λ _. either (free (no-act (enqueue e bs) tt) (λ _. wakes-ret)) wakes-ret))))))))
+aside-wakes (Queue e bs) = staged-wakes 2
+    (named-wakes In e (enabled-wakes In e wakes-ret (free (no-get allocator-cell) (λ _. unless-wakes
+    (free (no-get (ep-cell _ _)) (λ _. unless-wakes (free no-is (λ _. either (free (no-act (enqueue e bs) tt) (λ _. wakes-ret)) wakes-ret))))))))
 
 pub call-within : (o : Op) → Within (code o)
 call-within interrupt = staged-within 2 (resultless-within {n = 54} (omega arith) stamped-wakes)
@@ -283,4 +329,6 @@ call-within (other o) = other-within o
 call-within (aside o) = within-quiet (aside-wakes o)
 
 pub start-up-within : (c : Config) → Within (starting c)
-start-up-within c = resultless-within {n = 0} (omega arith) (free no-write (λ _. free (wakes-wait wakes-ret) (λ _. free modifyReg-wakes (λ _. free no-write (λ _. free no-write (λ _. assign-write globals-cell))))))
+start-up-within c = resultless-within {n = 0} (omega arith)
+    (free no-write
+    (λ _. free (wakes-wait wakes-ret) (λ _. free modifyReg-wakes (λ _. free no-write (λ _. free no-write (λ _. assign-write globals-cell))))))

@@ -15,7 +15,8 @@ use Rattle.proof_wake_ups.specs.Machines.{Told, hear, Pair}
 use Rattle.proof_wake_ups.specs.MachinesLaws.{Alike, steps, from-start}
 use Rattle.proof_wake_ups.specs.Code.{AsHeard}
 
-made : (m : Made) (xs : List ℕ) (a : Buf) (n : Machine Answer Heard) → CallStep xs a m → Alike (drive (m .event .call) (machineOf xs a) (m .event .lent)) (hear (m .event .call) n (m .event .lent))
+made : (m : Made) (xs : List ℕ) (a : Buf) (n : Machine Answer Heard) → CallStep xs a m
+    → Alike (drive (m .event .call) (machineOf xs a) (m .event .lent)) (hear (m .event .call) n (m .event .lent))
     → Alike (m .answer, machineOf (m .bytes) (m .slots)) (hear (m .event .call) n (m .event .lent))
 made m xs a n d s = subst (λ (z : Told). Alike z (hear (m .event .call) n (m .event .lent))) (sym d) s
 
@@ -27,9 +28,11 @@ code-always (m ∷ ms) xs a n p h =
 
 -- any bytes, a start-up that rows 1 and 2 do not stop, and then any calls, each as its contract says: every end gives every wake-up since its
 -- operation's begin, in order
-pub code-wake-ups : (c : Config) (b : Buf) → startRow c b ≡ zero → (xs : List ℕ) (a : Buf) (n : Machine Answer Heard) (first : Made) → first .event ≡ record { call = start c; lent = b } → (ms : List Made)
+pub code-wake-ups : (c : Config) (b : Buf) → startRow c b ≡ zero → (xs : List ℕ) (a : Buf) (n : Machine Answer Heard) (first : Made)
+    → first .event ≡ record { call = start c; lent = b } → (ms : List Made)
     → Steps xs a (first ∷ ms) → AsHeard n (first ∷ ms)
 code-wake-ups c b row xs a n first e ms h =
     let s = made first xs a n (h .0)
-    (subst (λ (v : Event Config Op). Alike (drive (v .call) (machineOf xs a) (v .lent)) (hear (v .call) n (v .lent))) (sym e) (from-start c b row (machineOf xs a) n)) in
+    (subst (λ (v : Event Config Op). Alike (drive (v .call) (machineOf xs a) (v .lent)) (hear (v .call) n (v .lent)))
+    (sym e) (from-start c b row (machineOf xs a) n)) in
     (s .answer, code-always ms (first .bytes) (first .slots) _ (s .pair) (h .1))

@@ -23,7 +23,12 @@ use Rattle.model.specs.Endpoint.{enabled-else, ends-request, polled}
 use Rattle.model.specs.Control.{unlessSetup, withinMaximum, requested, ends-control, aborted-else, take-closing}
 use Rattle.model.specs.Driver.{allocated-as, started-as}
 use Rattle.model.specs.AllocateAll.{allocate-read}
-use Rattle.model.specs.Calls.{Config, Slotted, SetEnabled, PollRead, BeginWrite, PollWrite, PollDataOut, BeginDataIn, Other, Allocate, AllocateAll, Start, BusPoll, BusEnable, BusDisable, Microframe, SetStalled, IsStalled, SetPaced, Advance, BeginRead, BeginSetup, PollSetup, PollDataIn, BeginAccept, PollAccept, BeginReject, BeginDataOut, BeginAcceptSetAddress, Aside, Open, Close, Queue, Op, interrupt, slotted, other, aside, slottedCode, otherCode, asideCode, code, starting}
+use Rattle.model.specs.Calls.{Config, Slotted, SetEnabled, PollRead, BeginWrite, PollWrite, PollDataOut, BeginDataIn}
+use Rattle.model.specs.Calls.{Other, Allocate, AllocateAll, Start, BusPoll, BusEnable, BusDisable, Microframe}
+use Rattle.model.specs.Calls.{SetStalled, IsStalled, SetPaced, Advance, BeginRead, BeginSetup, PollSetup, PollDataIn}
+use Rattle.model.specs.Calls.{BeginAccept, PollAccept, BeginReject, BeginDataOut, BeginAcceptSetAddress, Aside, Open}
+use Rattle.model.specs.Calls.{Close, Queue, Op, interrupt, slotted, other, aside, slottedCode, otherCode, asideCode}
+use Rattle.model.specs.Calls.{code, starting}
 use Rattle.model_ops.specs.Rings.{St}
 use Rattle.model_ops.specs.Concrete.{concrete}
 use Rattle.proof_wake_ups.specs.Ends.{Lists, Ends, end, ask}
@@ -113,7 +118,8 @@ g-slotted : (o : Slotted) → Gives (slottedCode o)
 g-slotted (SetEnabled d e on) = g-staged (g-named g-operation d e) 2
 g-slotted (PollRead e n) = g-staged (g-named (g-polled Out e n (λ s. g-test
     (g-enabled (g-bind (λ _. g-test (g-bind (λ _. g-bind (λ _. g-ends-request (λ w. tt)))) (g-ret (λ w. tt)))) Out e (g-ends-request (λ w. tt)))
-    (g-test (g-bind (λ _. g-test (g-ends-request (λ w. tt)) (g-bind (λ _. g-ends-request (λ w. tt))))) (g-enabled (g-ret (λ w. tt)) Out e (g-ends-request (λ w. tt)))))) Out e) 2
+    (g-test (g-bind (λ _. g-test (g-ends-request (λ w. tt)) (g-bind (λ _. g-ends-request (λ w. tt)))))
+    (g-enabled (g-ret (λ w. tt)) Out e (g-ends-request (λ w. tt)))))) Out e) 2
 g-slotted (BeginWrite e bs) = g-staged (g-named (g-enabled (g-bind (λ _. g-unless (g-bind (λ _. g-operation)))) In e g-refused) In e) 2
 g-slotted (PollWrite e bs) = g-staged (g-named (g-polled In e _ (λ s. g-test
     (g-enabled (g-bind (λ _. g-test (g-bind (λ _. g-ends-request (λ w. tt))) (g-ret (λ w. tt)))) In e (g-ends-request (λ w. tt)))
@@ -124,7 +130,8 @@ g-slotted (PollDataOut n) = g-staged (g-requested _ (λ c. g-test
 g-slotted (BeginDataIn bs first last) = g-staged (g-within (g-unless-setup (g-bind (λ _. g-operation))) _) 2
 
 g-other : (o : Other) → Gives (otherCode o)
-g-other (Allocate d kind address maximum interval) = g-staged (g-bind (λ a. g-bind (λ _. g-allocated d kind maximum (allocateOf a kind address maximum d .answer)))) 1
+g-other (Allocate d kind address maximum interval) =
+    g-staged (g-bind (λ a. g-bind (λ _. g-allocated d kind maximum (allocateOf a kind address maximum d .answer)))) 1
 g-other (AllocateAll bytes) = g-staged (g-read bytes (readingOf bytes .answer)) 1
 g-other (Start maximum) = g-staged (g-bind (λ a. g-bind (λ _. g-started maximum (allocateEp0Of a maximum .answer)))) 1
 g-other BusPoll = g-staged g-operation 2
@@ -141,15 +148,20 @@ g-other PollSetup = g-staged (g-requested _ (λ c. g-bind (λ _. g-test (g-bind 
 g-other PollDataIn = g-staged (g-requested _ (λ c. g-test (g-take-closing false c)
     (g-bind (λ _. g-test (g-test (g-take-closing true c) (g-bind (λ _. g-ends-control (λ w. tt)))) (g-aborted (g-ret (λ w. tt))))))) 2
 g-other BeginAccept = g-staged (g-unless-setup (g-bind (λ _. g-operation))) 2
-g-other PollAccept = g-staged (g-requested _ (λ c. g-bind (λ _. g-test (g-bind (λ _. g-bind (λ _. g-test g-operation (g-ret (λ w. tt))))) (g-aborted (g-ret (λ w. tt)))))) 2
+g-other PollAccept = g-staged
+    (g-requested _ (λ c. g-bind (λ _. g-test (g-bind (λ _. g-bind (λ _. g-test g-operation (g-ret (λ w. tt))))) (g-aborted (g-ret (λ w. tt)))))) 2
 g-other BeginReject = g-staged (g-bind (λ _. g-operation)) 2
 g-other (BeginDataOut n first) = g-staged (g-within (g-unless-setup (g-bind (λ _. g-operation))) n) 2
 g-other (BeginAcceptSetAddress a) = g-staged (g-unless-setup (g-bind (λ _. g-operation))) 2
 
 pub g-aside : (o : Aside) → Gives (asideCode o)
-g-aside (Open e) = g-staged (g-named (g-bind (λ _. g-unless (g-bind (λ _. g-test (g-bind (λ _. g-bind (λ _. g-bind (λ _. g-ret (λ w. tt))))) g-refused)))) Out e) 2
+g-aside (Open e) = g-staged
+    (g-named (g-bind (λ _. g-unless (g-bind (λ _. g-test (g-bind (λ _. g-bind (λ _. g-bind (λ _. g-ret (λ w. tt))))) g-refused)))) Out e) 2
 g-aside (Close e) = g-staged (g-named (g-bind (λ _. g-test (g-bind (λ _. g-ret (λ w. omega arith))) g-refused)) Out e) 2
-g-aside (Queue e bs) = g-staged (g-named (g-enabled (g-bind (λ _. g-unless (g-bind (λ _. g-unless (g-bind (λ _. g-test (g-bind (λ _. g-ret (λ w. omega arith))) g-refused)))))) In e g-refused) In e) 2
+g-aside (Queue e bs) = g-staged
+    (g-named
+    (g-enabled (g-bind (λ _. g-unless (g-bind (λ _. g-unless (g-bind (λ _. g-test (g-bind (λ _. g-ret (λ w. omega arith))) g-refused))))))
+    In e g-refused) In e) 2
 
 pub gives : (o : Op) → Gives (code o)
 gives interrupt = g-staged g-operation 2

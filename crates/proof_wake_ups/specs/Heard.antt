@@ -3,7 +3,9 @@
 use mathlib.Core.List.{List, [], _++_}
 use Prim.Native.Nat.{ℕ}
 use Rattle.state.specs.Driver.{Driver}
-use Rattle.model.specs.Script.{Ops, Fetch, oldest, received, received0, gathered, Act, complete, reset-ring, set-enabled, fill, fill0, open-oldest, close-oldest, take-oldest, enqueue, allocate, allocate0, no-wakes, waken}
+use Rattle.model.specs.Script.{Ops, Fetch, oldest, received, received0, gathered, Act, complete, reset-ring}
+use Rattle.model.specs.Script.{set-enabled, fill, fill0, open-oldest, close-oldest, take-oldest, enqueue, allocate}
+use Rattle.model.specs.Script.{allocate0, no-wakes, waken}
 use Rattle.model.specs.Machine.{Buf}
 use Rattle.model_ops.specs.Rings.{St}
 use Rattle.model_ops.specs.Concrete.{concrete}

@@ -15,8 +15,13 @@ use Rattle.model.specs.Cells.{globals-cell, ep-cell}
 use Rattle.model.specs.Script.{complete, when}
 use Rattle.model.specs.IsoIn.{firstInFrame, isoInLoad, isoInComplete, unseen, sofOne, sofWalk, onSof, lateOne, lateWalk}
 use Rattle.model.specs.IsoOut.{arrives, checkOne, checkWalk, isoOutCheck}
-use Rattle.model.specs.Handler.{looks, nakNonIso, toggled, retake, settle, received, sent, sofArm, outArm, isoInArm, inArm, dispatch, movedOn, ep0MovedOn, isoFor, framed, served, onTransfer, onSetup, onInterrupt, stampedInterrupt}
-use Rattle.proof_wake_ups.specs.TwinsLaws.{Wakes≤, wakes-more, wakes-ret, wakes-bind, wakes-cond, wakes-mask, free, once, then-free, either, no-read, no-write, no-get, no-put, no-is, no-look, no-act, one-wake, no-hand, no-callback, when-wakes, assign, assign-write, modifyReg-wakes}
+use Rattle.model.specs.Handler.{looks, nakNonIso, toggled, retake, settle, received, sent, sofArm, outArm, isoInArm}
+use Rattle.model.specs.Handler.{inArm, dispatch, movedOn, ep0MovedOn, isoFor, framed, served, onTransfer, onSetup}
+use Rattle.model.specs.Handler.{onInterrupt, stampedInterrupt}
+use Rattle.proof_wake_ups.specs.TwinsLaws.{Wakes≤, wakes-more, wakes-ret, wakes-bind, wakes-cond, wakes-mask}
+use Rattle.proof_wake_ups.specs.TwinsLaws.{free, once, then-free, either, no-read, no-write, no-get, no-put}
+use Rattle.proof_wake_ups.specs.TwinsLaws.{no-is, no-look, no-act, one-wake, no-hand, no-callback, when-wakes}
+use Rattle.proof_wake_ups.specs.TwinsLaws.{assign, assign-write, modifyReg-wakes}
 
 -- of a token, by whether it is a start of frame
 abbrev tokenMost : Bool → ℕ
@@ -50,7 +55,8 @@ module _ {i : Bool} where
   sofWalk-wakes frame = wakes-mask (sofWalk frame) (sofOne frame) refl (λ e es. refl) (sofOne-wakes frame)
 
   onSof-wakes : (frame : ℕ) → Wakes≤ {i = i} 16 (onSof frame)
-  onSof-wakes frame = free (assign globals-cell) (λ _. free (no-get globals-cell) (λ _. then-free (sofWalk-wakes frame _) (λ _. free (no-get globals-cell) (λ _. when-wakes no-callback))))
+  onSof-wakes frame = free (assign globals-cell)
+      (λ _. free (no-get globals-cell) (λ _. then-free (sofWalk-wakes frame _) (λ _. free (no-get globals-cell) (λ _. when-wakes no-callback))))
 
   firstInFrame-wakes : {n : ℕ} (e frame : ℕ) → Wakes≤ {i = i} n (firstInFrame e frame)
   firstInFrame-wakes e frame = free (no-get (ep-cell _ _)) (λ _. free (no-put (ep-cell _ _)) (λ _. wakes-ret))

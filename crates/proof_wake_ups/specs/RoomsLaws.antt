@@ -11,7 +11,8 @@ use Rattle.state.specs.WakesLaws.{Room}
 use Rattle.model.specs.Tree as tree
 use Rattle.model.specs.Answers.{Answer, Refused, End, NotYet, Done, Shown}
 use Rattle.model.specs.Calls.{Config, Op, aside, calls, startRow}
-use Rattle.model.specs.Machine.{Buf, Event, Call, start, begin, go, question, Ans, ended, handed, told, Awaits, Way, idle, Machine, over, halt, stay, lentTo, beside, begun, continued, started, misfit}
+use Rattle.model.specs.Machine.{Buf, Event, Call, start, begin, go, question, Ans, ended, handed, told, Awaits, Way}
+use Rattle.model.specs.Machine.{idle, Machine, over, halt, stay, lentTo, beside, begun, continued, started, misfit}
 use Rattle.model_ops.specs.Rings.{St}
 use Rattle.machine.specs.Suspended.{driverOf, drive}
 use Rattle.proof_book.specs.Always.{after}
@@ -40,7 +41,8 @@ either false p q = q
 
 begins : (o : Op) (m : Machine Answer Driver) {w : Way Answer Driver} → Goes (m .way) → Goes w → (b : Buf) → Kept (begun calls driverOf (λ s. s) o m w b)
 begins o m g rests b = halts (calls .irq o) (gives o .on (m .st, b))
-begins o m g (works {i = i} k) b = either (cond i (calls .aside o) false) (besides (lentTo calls driverOf m b) g (gives o .on (m .st, b))) (stays 3 (lentTo calls driverOf m b) g)
+begins o m g (works {i = i} k) b = either (cond i (calls .aside o) false)
+    (besides (lentTo calls driverOf m b) g (gives o .on (m .st, b))) (stays 3 (lentTo calls driverOf m b) g)
 
 continues : (v : ℕ) (m : Machine Answer Driver) {w : Way Answer Driver} → Goes (m .way) → Goes w → (b : Buf) → Kept (continued calls driverOf (λ s. s) v m w b)
 continues v m g rests b = stays 15 (lentTo calls driverOf m b) g
@@ -96,5 +98,6 @@ later : (es : List (Event Config Op)) {m : Machine Answer Driver} → Roomy m �
 later [] r = r
 later (e ∷ es) r = later es (rooms (e .call) r (e .lent) .machine)
 
-pub after-rooms : (c : Config) (b : Buf) → startRow c b ≡ zero → (es : List (Event Config Op)) (m : Machine Answer Driver) → Roomy (after calls driverOf (record { call = start c; lent = b } ∷ es) m)
+pub after-rooms : (c : Config) (b : Buf) → startRow c b ≡ zero → (es : List (Event Config Op)) (m : Machine Answer Driver)
+    → Roomy (after calls driverOf (record { call = start c; lent = b } ∷ es) m)
 after-rooms c b row es m = later es (start-rooms c b row m .machine)

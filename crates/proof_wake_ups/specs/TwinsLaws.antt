@@ -16,7 +16,12 @@ use Rattle.state.specs.WakesLaws.{Room, none-room, none-listed, all-room, all-l
 use Rattle.model.specs.Tree as tree
 use Rattle.model.specs.Tree.{Prog, bindOut}
 use Rattle.model.specs.Cells.{Cell, Val}
-use Rattle.model.specs.Script.{Script, run, rows, Test, Look, Fetch, oldest, received, received0, gathered, Act, complete, reset-ring, set-enabled, fill, fill0, open-oldest, close-oldest, take-oldest, enqueue, allocate, allocate0, no-wakes, waken, DmaStep, Burst, lastOf, ret, bind, test, read-then, write-then, wait-then, callback-then, get-then, put-then, is-then, look-then, fetch-then, act-then, hand-then, row-then, _>>=_, _>>_, done, when, read, write, callback, get, put, is, look, fetch, act, hand}
+use Rattle.model.specs.Script.{Script, run, rows, Test, Look, Fetch, oldest, received, received0, gathered, Act}
+use Rattle.model.specs.Script.{complete, reset-ring, set-enabled, fill, fill0, open-oldest, close-oldest, take-oldest}
+use Rattle.model.specs.Script.{enqueue, allocate, allocate0, no-wakes, waken, DmaStep, Burst, lastOf, ret, bind, test}
+use Rattle.model.specs.Script.{read-then, write-then, wait-then, callback-then, get-then, put-then, is-then, look-then}
+use Rattle.model.specs.Script.{fetch-then, act-then, hand-then, row-then, _>>=_, _>>_, done, when, read, write}
+use Rattle.model.specs.Script.{callback, get, put, is, look, fetch, act, hand}
 use Rattle.model.specs.Statics.{modifyReg}
 use Rattle.model.specs.Answers.{Answer, End, operation}
 use Rattle.model_ops.specs.Rings.{St}
@@ -29,7 +34,8 @@ pub twin-more : {A : Type 0} {P Q : List ℕ → Type 0} {o : tree.Out St A} {u 
 twin-more (end t f p) g = end t f (g _ p)
 twin-more (ask t f p k) g = ask t f (g _ p) (λ v u h e. twin-more (k v u h e) g)
 
-pub twin-bind : {A B : Type 0} {P Q : List ℕ → Type 0} {o : tree.Out St A} {u : tree.Out Hst A} (f : A → Prog St B) (g : A → Prog Hst B) → Twin P o u → ((l : List ℕ) → P l → Q l)
+pub twin-bind : {A B : Type 0} {P Q : List ℕ → Type 0} {o : tree.Out St A} {u : tree.Out Hst A}
+    (f : A → Prog St B) (g : A → Prog Hst B) → Twin P o u → ((l : List ℕ) → P l → Q l)
     → ((a : A) (t : Hst) → Fits (t .0) → P (t .0 .1) → Twin Q (f a (bare t)) (g a t)) → Twin Q (bindOut o f) (bindOut u g)
 twin-bind f g (end t x p) w h = h _ t x p
 twin-bind f g (ask t x p k) w h = ask t x (w _ p) (λ v u y e. twin-bind f g (k v u y e) w h)
@@ -151,8 +157,10 @@ module _ {i : Bool} {A : Type 0} where
   pub wakes-fetch : {n : ℕ} {q : Fetch} {k : List ℕ → Script i A} → ((v : List ℕ) → Wakes≤ n (k v)) → Wakes≤ n (fetch-then q k)
   wakes-fetch {n = n} {q = q} {k = k} x = record { on = λ t f r. of q t f r }
     where
-      of : (q : Fetch) (t : Hst) → Fits (t .0) → length (t .0 .1) + n ≤ 64 → Twin (Grown (t .0 .1) n) (run concrete (fetch-then q k) (bare t)) (run heardOps (fetch-then q k) t)
-      of gathered t f r = subst (λ (l : List ℕ). Twin (Grown (t .0 .1) n) (run concrete (k l) (bare t)) (run heardOps (k (t .0 .1)) t)) (sym (f .list)) (x (t .0 .1) .on t f r)
+      of : (q : Fetch) (t : Hst) → Fits (t .0) → length (t .0 .1) + n ≤ 64
+          → Twin (Grown (t .0 .1) n) (run concrete (fetch-then q k) (bare t)) (run heardOps (fetch-then q k) t)
+      of gathered t f r = subst (λ (l : List ℕ). Twin (Grown (t .0 .1) n) (run concrete (k l) (bare t)) (run heardOps (k (t .0 .1)) t))
+          (sym (f .list)) (x (t .0 .1) .on t f r)
       of (oldest e) t f r = x _ .on t f r
       of (received e m) t f r = x _ .on t f r
       of (received0 m) t f r = x _ .on t f r
@@ -242,14 +250,16 @@ module _ {i : Bool} where
   pub assign : {n : ℕ} (c : Cell) {f : Val c → Val c} → Wakes≤ {i = i} n (bind (get c) (λ v. put c (f v)))
   assign c = free (no-get c) (λ _. no-put c)
 
-  pub assign-write : {n : ℕ} (c : Cell) {f : Val c → Val c} {r : Reg} {e : ℕ} {h : Val c → ℕ} → Wakes≤ {i = i} n (bind (get c) (λ v. bind (put c (f v)) (λ _. write r e (h v))))
+  pub assign-write : {n : ℕ} (c : Cell) {f : Val c → Val c} {r : Reg} {e : ℕ} {h : Val c → ℕ}
+      → Wakes≤ {i = i} n (bind (get c) (λ v. bind (put c (f v)) (λ _. write r e (h v))))
   assign-write c = free (no-get c) (λ _. free (no-put c) (λ _. no-write))
 
   pub modifyReg-wakes : {n : ℕ} {r : Reg} {e : ℕ} {f : ℕ → ℕ} → Wakes≤ {i = i} n (modifyReg r e f)
   modifyReg-wakes = free no-read (λ _. no-write)
 
 -- a walk over a list: one endpoint's for each
-module _ {i : Bool} (W : List ℕ → Script i Unit) (one : ℕ → Script i Unit) (none : W [] ≡ done) (step : (e : ℕ) (es : List ℕ) → W (e ∷ es) ≡ (one e >> W es)) where
+module _ {i : Bool} (W : List ℕ → Script i Unit)
+    (one : ℕ → Script i Unit) (none : W [] ≡ done) (step : (e : ℕ) (es : List ℕ) → W (e ∷ es) ≡ (one e >> W es)) where
   wakes-walk : {n : ℕ} → ((e : ℕ) → Wakes≤ n (one e)) → (k : ℕ) (es : List ℕ) → length es ≤ k → Wakes≤ (k * n) (W es)
   wakes-walk x k [] h = rw none wakes-ret
   wakes-walk x zero (e ∷ es) h = absurd (omega (arith, h))
@@ -269,7 +279,10 @@ module _ {i : Bool} where
   within-quiet x = record { on = λ t f s. twin-more (x .on t f (omega (arith, s))) (λ l g. omega (arith, grown-length g, s)) }
 
   pub within-bind : {B : Type 0} {p : Script i B} {f : B → Script i Answer} → Wakes≤ 0 p → ((b : B) → Within (f b)) → Within (bind p f)
-  within-bind x y = record { on = λ t f s. twin-bind _ _ (x .on t f (omega (arith, s))) (λ l g. omega (arith, grown-length g, s)) (λ a u h g. y a .on u h (omega (arith, grown-length g, s))) }
+  within-bind x y = record {
+    on = λ t f s. twin-bind _ _ (x .on t f (omega (arith, s)))
+        (λ l g. omega (arith, grown-length g, s)) (λ a u h g. y a .on u h (omega (arith, grown-length g, s)));
+  }
 
   pub within-test : {b : Bool} {p q : Script i Answer} → Within p → Within q → Within (test b p q)
   within-test {b = true} x y = record { on = λ t f s. x .on t f s }

@@ -3,7 +3,9 @@ use mathlib.Core.Bool.{Bool}
 use Prim.Native.Nat.{ℕ, _^_}
 use lib.Dec.{ltb}
 use Rattle.regs.specs.declared.Reg.{Reg}
-use Rattle.regs.specs.declared.Reg.the-variants.{IntFg, IntSt, MisSt, RxLen, FrameNo, Ctrl, IntEn, DevAd, HostCtrl, EpConfig, EpType, EpBufMod, EpMaxLen, EpTLen, EpRxCtrl, EpTxCtrl}
+use Rattle.regs.specs.declared.Reg.the-variants.{IntFg, IntSt, MisSt, RxLen, FrameNo, Ctrl, IntEn, DevAd}
+use Rattle.regs.specs.declared.Reg.the-variants.{HostCtrl, EpConfig, EpType, EpBufMod, EpMaxLen, EpTLen, EpRxCtrl}
+use Rattle.regs.specs.declared.Reg.the-variants.{EpTxCtrl}
 use Rattle.regs.specs.declared.Dir.{Dir}
 use Rattle.regs.specs.declared.Dir.the-variants.{Out, In}
 

@@ -28,7 +28,8 @@ pub kept-none : (config first : ℕ) (t : List ℕ) → kept config first 0 t �
 unfolding kept
 kept-none config first t = refl
 
-pub kept-more : (config first n : ℕ) (t : List ℕ) → kept config first (n + 1) t ≡ set (kept config first n t) (first + n) (entryKept config n (getD (kept config first n t) (first + n) 0))
+pub kept-more : (config first n : ℕ) (t : List ℕ) → kept config first (n + 1) t
+    ≡ set (kept config first n t) (first + n) (entryKept config n (getD (kept config first n t) (first + n) 0))
 unfolding kept
 kept-more config first n t = rw (add-one n) refl
 
@@ -93,12 +94,14 @@ kept-out config first (suc n) t k h =
     getD-set-other (kept config first n t) (first + n) k _ 0 (λ e. ⊎-elim (λ (l : k < first). omega arith) (λ (l : first + suc n ≤ k). omega arith) h)
     ∙ kept-out config first n t k (⊎-elim (λ (l : k < first). inl l) (λ (l : first + suc n ≤ k). inr (omega arith)) h)
 
-pub kept-in : (config first n : ℕ) (t : List ℕ) (p : ℕ) → first + n ≤ length t → p < n → getD (kept config first n t) (first + p) 0 ≡ entryKept config p (getD t (first + p) 0)
+pub kept-in : (config first n : ℕ) (t : List ℕ) (p : ℕ) → first + n ≤ length t
+    → p < n → getD (kept config first n t) (first + p) 0 ≡ entryKept config p (getD t (first + p) 0)
 unfolding kept
 kept-in config first (suc n) t p l h =
     ⊎-elim
     (λ (e : p < n). getD-set-other (kept config first n t) (first + n) (first + p) _ 0 (λ z. omega arith) ∙ kept-in config first n t p (omega arith) e)
-    (λ (e : p ≡ n). rw e (getD-set-same (kept config first n t) (first + n) _ 0 (omega (arith, length-kept config first n t)) ∙ ap (entryKept config n) (kept-out config first n t (first + n) (inr (omega arith)))))
+    (λ (e : p ≡ n). rw e (getD-set-same (kept config first n t) (first + n) _ 0 (omega (arith, length-kept config first n t))
+    ∙ ap (entryKept config n) (kept-out config first n t (first + n) (inr (omega arith)))))
     (either p n h)
 
 entry-le : (config bit charge : ℕ) → entryKept config bit charge ≤ charge

@@ -9,10 +9,12 @@ use borrow.Author.Tests.{le-leb, lt-leb, eq-eqb, ne-eqb}
 use lib.ListN.{length, getD, List·getD-append}
 use lib.Seq.{getD-append-add}
 use Rattle.req_card.specs.Packet.{Packet, Writable, All, none, more, packetBytes, size, dataOf}
-use Rattle.req_card.specs.Reading.{View, total, begins, seek, seekFrom, blockEnd, cleanUpTo, lengthAt, endpointAt, bytesFrom, packetFrom, packetAt, stepAt, readFrom, readAll}
+use Rattle.req_card.specs.Reading.{View, total, begins, seek, seekFrom, blockEnd, cleanUpTo, lengthAt, endpointAt}
+use Rattle.req_card.specs.Reading.{bytesFrom, packetFrom, packetAt, stepAt, readFrom, readAll}
 use Rattle.req_card.specs.declared.Step.the-variants.{Gives}
 use Rattle.req_card.specs.Kept.{wholly, keptFrom, firstIn, AsWritten}
-use Rattle.req_card.specs.Steps.{intact-good, intact-cut, packet-in, packet-past, begin-filler, begin-packet, step-short, step-begin, read-ends, read-goes, read-gives}
+use Rattle.req_card.specs.Steps.{intact-good, intact-cut, packet-in, packet-past, begin-filler, begin-packet}
+use Rattle.req_card.specs.Steps.{step-short, step-begin, read-ends, read-goes, read-gives}
 use Rattle.req_card.specs.Clean.{clean-low, clean-bad, clean-good, all-false, all-true}
 
 -- ---- begins
@@ -123,7 +125,8 @@ module _ (v : View) (ps : List Packet) (w : AsWritten v ps) where
       let z : d + 0 ≡ d = omega arith in
       let b0 : v .byte d ≡ length (q .bytes) % 256 =
       rw z at (byte-is q qs d r 0 (omega arith) (omega arith) (good-up-to d (d + 3) (d + 0) c (omega arith) (omega arith))) in
-      let b1 : v .byte (d + 1) ≡ length (q .bytes) / 256 = byte-is q qs d r 1 (omega arith) (omega arith) (good-up-to d (d + 3) (d + 1) c (omega arith) (omega arith)) in
+      let b1 : v .byte (d + 1) ≡ length (q .bytes) / 256 =
+      byte-is q qs d r 1 (omega arith) (omega arith) (good-up-to d (d + 3) (d + 1) c (omega arith) (omega arith)) in
       (byte-is q qs d r 2 (omega arith) (omega arith) (good-up-to d (d + 3) (d + 2) c (omega arith) (omega arith)), omega arith)
 
   gives-it : (q : Packet) (qs : List Packet) → At qs → (d : ℕ) → Rest ps d (q ∷ qs) → Names ps (blockEnd d) d (q ∷ qs) → (f : ℕ)

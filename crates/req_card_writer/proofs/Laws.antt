@@ -42,7 +42,9 @@ zeros-more d at n i h g =
 -- ---- a block's head and check
 
 pub head-stores : (l : List ℕ) (number first : ℕ) → 6 ≤ length l
-    → set (set (set (set (set (set l 0 (number % 256)) 1 (number / 256 % 256)) 2 (number / 65536 % 256)) 3 (number / 16777216 % 256)) 4 (first % 256)) 5 (first / 256)
+    → set
+    (set (set (set (set (set l 0 (number % 256)) 1 (number / 256 % 256)) 2 (number / 65536 % 256)) 3 (number / 16777216 % 256)) 4
+    (first % 256)) 5 (first / 256)
     ≡ body number first (drop 6 l)
 unfolding body
 head-stores l number first h =

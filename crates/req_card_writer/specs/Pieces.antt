@@ -10,7 +10,9 @@ use Rattle.req_card.specs.Packet.{Packet, packetBytes}
 use Rattle.req_card_writer.specs.declared.Writer.{Writer}
 use Rattle.req_card_writer.specs.declared.Wrote.the-variants as wrote
 use Rattle.req_card_writer.specs.declared.Finished.the-variants as finished
-use Rattle.req_card_writer.specs.Writing.{usedOf, doneOf, pieceOf, firstOf, fullOf, wholeOf, doneAfter, writerOf, closed, pieceIn, blockOfPiece, unfit, writeOf, writtenOf, finishOf, lastOf}
+use Rattle.req_card_writer.specs.Writing.{usedOf, doneOf, pieceOf, firstOf, fullOf, wholeOf, doneAfter, writerOf}
+use Rattle.req_card_writer.specs.Writing.{closed, pieceIn, blockOfPiece, unfit, writeOf, writtenOf, finishOf}
+use Rattle.req_card_writer.specs.Writing.{lastOf}
 
 -- ---- the first packet that begins in the block
 

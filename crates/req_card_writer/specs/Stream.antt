@@ -17,7 +17,9 @@ use Rattle.req_card.specs.Turns.{byCalls, calls-back}
 use Rattle.req_card_writer.specs.declared.Writer.{Writer}
 use Rattle.req_card_writer.specs.Writing.{newWriter, usedOf, doneOf, pieceOf, firstOf, fullOf, wholeOf, doneAfter, writerOf, closed, pieceIn}
 use Rattle.req_card_writer.specs.Writing.{blockOfPiece}
-use Rattle.req_card_writer.specs.Pieces.{first-under-way, first-named, first-here as first-begins, done-whole, done-part, writer-full, writer-part, block-full, block-part, fit, write-answer, write-block, finish-nothing, finish-last}
+use Rattle.req_card_writer.specs.Pieces.{first-under-way, first-named, first-here as first-begins, done-whole}
+use Rattle.req_card_writer.specs.Pieces.{done-part, writer-full, writer-part, block-full, block-part, fit}
+use Rattle.req_card_writer.specs.Pieces.{write-answer, write-block, finish-nothing, finish-last}
 use Rattle.req_card_writer.specs.Runs.{Desk, Lends, after, packetRun, packetsRun, lastRun, streamRun}
 use Rattle.req_card_writer.specs.Begins.{data-append, data-at, first-append, first-before, first-settled, paste-before, paste-inside, blocks-snoc}
 use Rattle.req_card_writer.specs.Begins.{closed-is}

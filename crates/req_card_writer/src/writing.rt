@@ -9,7 +9,9 @@ ghost use mathlib.Core.Path.{_≡_};
 ghost use Prim.Native.Nat.{_≤_, min};
 ghost use lib.ListN.{length};
 ghost use Rattle.req_card.specs.Packet.{packetOf};
-ghost use Rattle.req_card_writer.specs.Writing.{newWriter, usedOf, doneOf, pieceOf, fullOf, wholeOf, doneAfter, firstOf, writerOf, blockOfPiece, writeOf, writtenOf, finishOf, lastOf};
+ghost use Rattle.req_card_writer.specs.Writing.{newWriter, usedOf, doneOf, pieceOf, fullOf, wholeOf, doneAfter};
+ghost use Rattle.req_card_writer.specs.Writing.{firstOf, writerOf, blockOfPiece, writeOf, writtenOf, finishOf};
+ghost use Rattle.req_card_writer.specs.Writing.{lastOf};
 
 // A writer at the start of a stream.
 pub fn new() -> Writer

@@ -45,4 +45,5 @@ again cs inUse budget inUse′ budget′ = go (isRefused (length cs) budget′)
 
     go : (r : Bool) → answerOf (cond r cs (flagged cs (choiceIn cs inUse′ budget′ .set) (length cs))) inUse budget ≡ answerOf cs inUse budget
     go true = refl
-    go false = alike cs (flagged cs (choiceIn cs inUse′ budget′ .set) (length cs)) inUse budget (length-flagged cs _ (length cs)) (maxima-stay cs _) (charges-stay cs _)
+    go false = alike cs (flagged cs (choiceIn cs inUse′ budget′ .set) (length cs)) inUse budget
+        (length-flagged cs _ (length cs)) (maxima-stay cs _) (charges-stay cs _)

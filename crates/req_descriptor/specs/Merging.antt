@@ -32,7 +32,8 @@ module _ (op : ℕ → ℕ → ℕ) (f : Endpoint → ℕ) (a : ℕ) (swap : (x 
       go i true = rw (swap u y (f e)) (i (op u (f e)))
       go i false = i u
 
-  over-noted : (u : ℕ) (e : Endpoint) (es : List Endpoint) → over op f a u (noted e es) ≡ cond (eqb (e .address) a) (op (over op f a u es) (f e)) (over op f a u es)
+  over-noted : (u : ℕ) (e : Endpoint) (es : List Endpoint)
+      → over op f a u (noted e es) ≡ cond (eqb (e .address) a) (op (over op f a u es) (f e)) (over op f a u es)
   unfolding over noted merged
   over-noted u e [] = refl
   over-noted u e (x ∷ xs) = go (λ v. over-noted v e xs) (eqb (x .address) (e .address)) refl
@@ -45,7 +46,8 @@ module _ (op : ℕ → ℕ → ℕ) (f : Endpoint → ℕ) (a : ℕ) (swap : (x 
       go : ((v : ℕ) → over op f a v (noted e xs) ≡ cond (eqb (e .address) a) (op (over op f a v xs) (f e)) (over op f a v xs)) → (t : Bool)
           → eqb (x .address) (e .address) ≡ t
           → over op f a u (cond t (merged x e ∷ xs) (x ∷ noted e xs))
-          ≡ cond (eqb (e .address) a) (op (over op f a (cond (eqb (x .address) a) (op u (f x)) u) xs) (f e)) (over op f a (cond (eqb (x .address) a) (op u (f x)) u) xs)
+          ≡ cond (eqb (e .address) a) (op (over op f a (cond (eqb (x .address) a) (op u (f x)) u) xs) (f e))
+          (over op f a (cond (eqb (x .address) a) (op u (f x)) u) xs)
       go i true q =
           let w = over op f a (cond (eqb (x .address) a) (op u (f x)) u) xs in
           same (eqb (x .address) a) ∙ ap (λ (b : ℕ). cond (eqb b a) (op w (f e)) w) (eqb-true (x .address) (e .address) q)

@@ -10,7 +10,8 @@ use lib.Seq.{getD-drop, append-snoc, take-suc, take-append-seam, take-at}
 use borrow.Author.Tests.{eqb-true, eqb-false, eq-eqb, ne-eqb, le-leb, le-ltb}
 use Rattle.req_descriptor.specs.declared.Endpoint.{Endpoint}
 use Rattle.req_descriptor.specs.declared.Answer.the-variants.{Listed}
-use Rattle.req_descriptor.specs.Row.{lengthOf, kindOf, next, least, whole, allowed, entered, isRow, totalOf, isConfiguration, endpointOf, settingOf, isMeant, endpointsOf}
+use Rattle.req_descriptor.specs.Row.{lengthOf, kindOf, next, least, whole, allowed, entered, isRow, totalOf}
+use Rattle.req_descriptor.specs.Row.{isConfiguration, endpointOf, settingOf, isMeant, endpointsOf}
 use Rattle.req_descriptor.specs.Endpoints.{none, ofList, merged, noted, gathered}
 use Rattle.req_descriptor.specs.Reading.{inOrder, listOf, clashes, twoTypes, refusedBy, readingOf}
 use Rattle.req_descriptor.specs.Writing.{low, high, totalFor, interface, endpoint, endpoints, written, upTo, stored, roomAfter}
@@ -55,7 +56,9 @@ fines (suc n) inside z t (c ∷ d) b h =
   where
     go : Fines (endpointsOf n z (settingOf t (c ∷ d)) (next (c ∷ d))) → (eqb (kindOf (c ∷ d)) 5 ≡ true → Fine (endpointOf (c ∷ d))) → (u v : Bool)
         → eqb (kindOf (c ∷ d)) 5 ≡ u
-        → Fines (cond (u && v) (endpointOf (c ∷ d) ∷ endpointsOf n z (settingOf t (c ∷ d)) (next (c ∷ d))) (endpointsOf n z (settingOf t (c ∷ d)) (next (c ∷ d))))
+        → Fines
+        (cond (u && v) (endpointOf (c ∷ d) ∷ endpointsOf n z (settingOf t (c ∷ d)) (next (c ∷ d)))
+        (endpointsOf n z (settingOf t (c ∷ d)) (next (c ∷ d))))
     go i f true true q = (f q, i)
     go i f true false q = i
     go i f false v q = i

@@ -9,7 +9,8 @@ use lib.Dec.{eqb, leb}
 use lib.ListN.{length, getD, drop, length-drop}
 use lib.Seq.{getD-drop, drop-drop}
 use borrow.Author.Tests.{leb-true, eqb-true, eq-eqb}
-use Rattle.req_descriptor.specs.Row.{lengthOf, kindOf, next, least, whole, isClear, allowed, entered, isRow, totalOf, isConfiguration, endpointOf, settingOf, isMeant, endpointsOf}
+use Rattle.req_descriptor.specs.Row.{lengthOf, kindOf, next, least, whole, isClear, allowed, entered, isRow}
+use Rattle.req_descriptor.specs.Row.{totalOf, isConfiguration, endpointOf, settingOf, isMeant, endpointsOf}
 
 pub both-true : (a b : Bool) → (a && b) ≡ true → (a ≡ true) × (b ≡ true)
 both-true true b h = (refl, h)
@@ -23,7 +24,8 @@ first-at s at = getD-drop at s 0 0 ∙ ap (λ (k : ℕ). getD s k 0) (add-zero a
 pub next-at : (s : List ℕ) (at : ℕ) → next (drop at s) ≡ drop (at + getD s at 0) s
 next-at s at = rw (first-at s at) (drop-drop (getD s at 0) at s)
 
-pub whole-at : (s : List ℕ) (at : ℕ) → whole (drop at s) ≡ (leb 2 (length s - at) && leb (least (getD s (at + 1) 0)) (getD s at 0) && leb (getD s at 0) (length s - at))
+pub whole-at : (s : List ℕ) (at : ℕ) → whole (drop at s)
+    ≡ (leb 2 (length s - at) && leb (least (getD s (at + 1) 0)) (getD s at 0) && leb (getD s at 0) (length s - at))
 unfolding whole
 whole-at s at = rw (length-drop at s, first-at s at, getD-drop at s 1 0)
 

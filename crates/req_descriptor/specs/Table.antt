@@ -38,7 +38,8 @@ pub listed :
     × (readingOf two .answer ≡ Listed)
     × (written (record { address = 0x81; kind = 1; maximum = 512; interval = 4 } ∷ [])
     ≡ 9 ∷ 2 ∷ 25 ∷ 0 ∷ 1 ∷ 0 ∷ 0 ∷ 0 ∷ 0 ∷ 9 ∷ 4 ∷ 0 ∷ 0 ∷ 1 ∷ 0 ∷ 0 ∷ 0 ∷ 0 ∷ 7 ∷ 5 ∷ 0x81 ∷ 1 ∷ 0 ∷ 2 ∷ 4 ∷ [])
-unfolding least whole isClear allowed entered isRow totalOf isConfiguration endpointOf settingOf isMeant endpointsOf merged noted gathered clashes twoTypes readingOf endpoints written
+unfolding least whole isClear allowed entered isRow totalOf isConfiguration
+    endpointOf settingOf isMeant endpointsOf merged noted gathered clashes twoTypes readingOf endpoints written
 listed = (refl, refl, refl)
 
 -- No bytes; a total length that is not theirs; a length byte of 1, below its kind's, past the end; a second configuration; an endpoint before every
@@ -55,7 +56,8 @@ pub errors :
     × (readingOf (conf 32 ++ face 0 ++ end 0x81 2 64 0 0 ++ end 0x81 3 64 0 0) .answer ≡ Refused 18)
     × (readingOf (conf 33 ++ face 0 ++ end 0x81 2 64 0 0 ++ end 0x81 3 64 0 0 ++ 2 ∷ []) .answer ≡ Refused 17)
     × (readingOf (conf 25 ++ face 0 ++ end 0x80 0 64 0 0) .answer ≡ Listed)
-unfolding least whole isClear allowed entered isRow totalOf isConfiguration endpointOf settingOf isMeant endpointsOf merged noted gathered clashes twoTypes readingOf
+unfolding least whole isClear allowed entered isRow
+    totalOf isConfiguration endpointOf settingOf isMeant endpointsOf merged noted gathered clashes twoTypes readingOf
 errors = (refl, refl, refl, refl, refl, refl, refl, refl, refl, refl, refl)
 
 -- Two types, rewritten: 17 in a room too short for the one address, 18 in one that is long enough. Neither writes.
@@ -66,5 +68,6 @@ pub rewritten :
     (rewrittenOf clashing (replicate 24 7) ≡ written′.Refused 17)
     × (rewrittenOf clashing (replicate 25 7) ≡ written′.Refused 18)
     × (roomRewritten clashing (replicate 25 7) ≡ replicate 25 7)
-unfolding least whole isClear allowed entered isRow totalOf isConfiguration endpointOf settingOf isMeant endpointsOf merged noted gathered clashes twoTypes rewrittenOf roomRewritten
+unfolding least whole isClear allowed entered isRow totalOf isConfiguration
+    endpointOf settingOf isMeant endpointsOf merged noted gathered clashes twoTypes rewrittenOf roomRewritten
 rewritten = (refl, refl, refl)

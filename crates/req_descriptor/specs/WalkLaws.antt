@@ -12,7 +12,8 @@ use Rattle.req_descriptor.specs.declared.Endpoint.{Endpoint}
 use Rattle.req_descriptor.specs.declared.Endpoints.{Endpoints}
 use Rattle.req_descriptor.specs.Row.{kindOf, entered, isRow, isConfiguration, endpointOf, settingOf, isMeant, endpointsOf}
 use Rattle.req_descriptor.specs.Endpoints.{ofList, listed, noted, gathered, agrees, agree}
-use Rattle.req_descriptor.specs.RowLaws.{whole-is, both-true, clear-endpoint, next-at, Here, here, step, endpoints-none, endpoints-more, configuration-is, least-configuration}
+use Rattle.req_descriptor.specs.RowLaws.{whole-is, both-true, clear-endpoint, next-at, Here, here, step}
+use Rattle.req_descriptor.specs.RowLaws.{endpoints-none, endpoints-more, configuration-is, least-configuration}
 use Rattle.req_descriptor.specs.Lists.{Fine, Tidy}
 use Rattle.req_descriptor.specs.ListsLaws.{tidy-of, listed-of, good-noted}
 use Rattle.req_descriptor.specs.Walk.{Sound}
@@ -131,7 +132,8 @@ module _ (n : ℕ) (s : List ℕ) (at : ℕ) (z : Bool) (t : ℕ) (o : On n s at
   rest = endpointsOf (o .left) z (settingOf t (drop at s)) (drop (at + getD s at 0) s)
 
   pub gather-at : (list : Endpoints)
-      → gathered (listed list) (endpointsOf n z t (drop at s)) ≡ gathered (listed (cond meant (ofList (noted (endpointOf (drop at s)) (listed list))) list)) rest
+      → gathered (listed list) (endpointsOf n z t (drop at s))
+      ≡ gathered (listed (cond meant (ofList (noted (endpointOf (drop at s)) (listed list))) list)) rest
   gather-at list =
       ap (λ (es : List Endpoint). gathered (listed list) es) (o .found) ∙ gather-on list meant (endpointOf (drop at s)) rest
 

@@ -57,7 +57,8 @@ fn is_meant(bytes: &[u8], at: usize, zeroth: bool, setting: u8) -> bool
 fn taken(bytes: &[u8], at: usize, zeroth: bool, setting: u8, list: Endpoints) -> Endpoints
     requires { ⌜ Sound (now bytes) at ⌝ }
     requires { ⌜ Tidy list ⌝ }
-    ensures { λ r. ⌜ r ≡ cond (isMeant zeroth setting (drop at (now (bytes .entry)))) (ofList (noted (endpointOf (drop at (now (bytes .entry)))) (listed list))) list ⌝ }
+    ensures { λ r. ⌜ r ≡ cond (isMeant zeroth setting (drop at (now (bytes .entry))))
+        (ofList (noted (endpointOf (drop at (now (bytes .entry)))) (listed list))) list ⌝ }
 {
     if is_meant(bytes, at, zeroth, setting) {
         return list::noted(list, endpoint(bytes, at));
@@ -87,7 +88,8 @@ pub fn gather(bytes: &[u8], zeroth: bool, list: Endpoints) -> Endpoints
 fn agrees(bytes: &[u8], at: usize, zeroth: bool, setting: u8, list: Endpoints) -> bool
     requires { ⌜ Sound (now bytes) at ⌝ }
     requires { ⌜ Tidy list ⌝ }
-    ensures { λ r. ⌜ r ≡ cond (isMeant zeroth setting (drop at (now (bytes .entry)))) (agrees (endpointOf (drop at (now (bytes .entry)))) (listed list)) true ⌝ }
+    ensures { λ r. ⌜ r ≡ cond (isMeant zeroth setting (drop at (now (bytes .entry))))
+        (agrees (endpointOf (drop at (now (bytes .entry)))) (listed list)) true ⌝ }
 {
     if is_meant(bytes, at, zeroth, setting) {
         return list::agrees(list, endpoint(bytes, at));

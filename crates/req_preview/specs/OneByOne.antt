@@ -105,7 +105,8 @@ rest-given a ns buffers e es k base slots q h j = record {
       ap (λ (x : Trial). tried x es) (step-given a ns buffers e k base slots q h)
       ∙ j .same
       ∙ ap (λ (x : List ℕ). under (j .after) x (buffers + slots + j .slots) (j .refusal)) (append-snoc ns k (j .more))
-      ∙ ap (λ (x : ℕ). under (j .after) (ns ++ k ∷ j .more) x (j .refusal)) (let z : buffers + slots + j .slots ≡ buffers + (slots + j .slots) = omega arith in z);
+      ∙ ap (λ (x : ℕ). under (j .after) (ns ++ k ∷ j .more) x (j .refusal))
+      (let z : buffers + slots + j .slots ≡ buffers + (slots + j .slots) = omega arith in z);
 }
 
 rest : (es : List Endpoint) (a : Allocator) (ns : List ℕ) (buffers : ℕ) → length ns + length es ≤ 32 → Rest a ns buffers es

@@ -4,7 +4,8 @@ use mathlib.Core.List.{List, [], _∷_}
 use Prim.Native.Nat.{ℕ}
 use lib.ListN.{take}
 use Rattle.bits.specs.Bit.{isSet, withBit}
-use Rattle.alloc.specs.Alloc.{fresh, takenIn, numsOf, addTo, isOut, taken, withAllocated, withNext, isIso, isFree, askedOf, numberOf, slotsOf, bufferedOf, numberedOf, allocateOf}
+use Rattle.alloc.specs.Alloc.{fresh, takenIn, numsOf, addTo, isOut, taken, withAllocated, withNext, isIso, isFree}
+use Rattle.alloc.specs.Alloc.{askedOf, numberOf, slotsOf, bufferedOf, numberedOf, allocateOf}
 use Rattle.req_descriptor.specs.declared.Endpoint.{Endpoint}
 use Rattle.req_preview.specs.declared.Trial.{Trial}
 use Rattle.req_preview.specs.Trial.{asked, given, answered, step, tried, trialOf}
@@ -25,5 +26,6 @@ pub table :
     × (says (trialOf (fresh 512 3) (three 64)) ≡ (1 ∷ 2 ∷ [], 3, 8))
     × (says (trialOf (fresh 512 4) (three 513)) ≡ (1 ∷ [], 2, 6))
     × (says (trialOf (fresh 512 4) (record { address = 0x80; kind = 2; maximum = 64; interval = 0 } ∷ three 64)) ≡ ([], 0, 7))
-unfolding isSet withBit fresh takenIn numsOf addTo isOut taken withAllocated withNext isIso isFree askedOf numberOf slotsOf bufferedOf numberedOf allocateOf asked given answered step tried
+unfolding isSet withBit fresh takenIn numsOf addTo isOut taken withAllocated
+    withNext isIso isFree askedOf numberOf slotsOf bufferedOf numberedOf allocateOf asked given answered step tried
 table = (refl, refl, refl, refl)

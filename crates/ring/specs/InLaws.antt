@@ -16,7 +16,8 @@ use Rattle.ring.specs.In.{hasRoomIn, completedOf, nextLoad, loadedOf, un
 use Rattle.ring.specs.Waiting.{waiting, Away, Same, Only, Sends, Placed, InRing, SamePlace, Alike}
 use Rattle.ring.specs.Window.{window-sets, only-sets, only-wider, only-apart}
 use Rattle.ring.specs.Slots.{slot-upto, slots-apart}
-use Rattle.ring.specs.Laws.{waiting-length, alike-count, head-away, waiting-head, slot-region, join-count, join-waits, join-ring, pass-place, pass-waits, pass-ring, first-count}
+use Rattle.ring.specs.Laws.{waiting-length, alike-count, head-away, waiting-head, slot-region, join-count}
+use Rattle.ring.specs.Laws.{join-waits, join-ring, pass-place, pass-waits, pass-ring, first-count}
 
 pub loaded-alike : (s : EpState) → Alike s (loadedOf s)
 unfolding loadedOf

@@ -12,7 +12,9 @@ use Rattle.ring.specs.Slot.{slotOf, slotAddr, countOf, joinedOf, passedO
 use Rattle.ring.specs.Out.{hasRoomOut, cappedAt, overrunOf, arrivedOf, arrivedLens, armedAt, openedOf, closedOf}
 use Rattle.ring.specs.Waiting.{window, waiting, join, Away, Only, Shows, Placed, OutRing, SamePlace, Alike}
 use Rattle.ring.specs.Slots.{slots-some}
-use Rattle.ring.specs.Laws.{waiting-length, alike-count, alike-waits, alike-out, alike-away, head-away, waiting-head, join-place, join-count, join-waits, join-ring, pass-waits, pass-ring, pass-away}
+use Rattle.ring.specs.Laws.{waiting-length, alike-count, alike-waits, alike-out, alike-away, head-away}
+use Rattle.ring.specs.Laws.{waiting-head, join-place, join-count, join-waits, join-ring, pass-waits, pass-ring}
+use Rattle.ring.specs.Laws.{pass-away}
 
 -- ---- what touches neither place, head nor tail
 

@@ -13,9 +13,14 @@ use Rattle.state.specs.declared.Request.{Request}
 use Rattle.state.specs.declared.Control.{Control}
 use Rattle.state.specs.declared.Saved.{Saved}
 use Rattle.le_bytes.specs.Bytes.{gets, puts, number, digits, numbers, bytes, Each}
-use Rattle.state.specs.Codec.{epWidths, epAs, epOf, allocatorWidths, allocatorAs, allocatorOf, globalsWidths, globalsAs, globalsOf, requestWidths, requestAs, requestOf, controlWidths, controlAs, controlOf, savedWidths, savedAs, savedOf}
+use Rattle.state.specs.Codec.{epWidths, epAs, epOf, allocatorWidths, allocatorAs, allocatorOf, globalsWidths}
+use Rattle.state.specs.Codec.{globalsAs, globalsOf, requestWidths, requestAs, requestOf, controlWidths, controlAs}
+use Rattle.state.specs.Codec.{controlOf, savedWidths, savedAs, savedOf}
 use Rattle.state.specs.Wakes.{Wakes, withCount, withCodes}
-use Rattle.state.specs.Driver.{Driver, key, lenKey, stampKey, noEp, noRequest, withEps, withLens, withStamps, withPaced, withRequests, withGlobals, withAllocator, withControl, withWakes, epOn, withOn, lenOn, withLenOn, stampOn, withStampOn, pacedOn, withPacedOn, requestOn, withRequestOn}
+use Rattle.state.specs.Driver.{Driver, key, lenKey, stampKey, noEp, noRequest, withEps, withLens, withStamps}
+use Rattle.state.specs.Driver.{withPaced, withRequests, withGlobals, withAllocator, withControl, withWakes, epOn}
+use Rattle.state.specs.Driver.{withOn, lenOn, withLenOn, stampOn, withStampOn, pacedOn, withPacedOn, requestOn}
+use Rattle.state.specs.Driver.{withRequestOn}
 use Rattle.state.specs.State.{epIn, allocatorIn, globalsIn, wakesIn, requestIn, controlIn, savedIn, view, saved}
 use Rattle.le_bytes.specs.Runs.{Same, puts-same, gets-same, gets-puts}
 use Rattle.le_bytes.specs.Numbers.{number-digits, numbers-bytes, each-eq}
@@ -79,7 +84,8 @@ module _ (xs : List ℕ) (o : ℕ) (bs : List ℕ) where
   saved-off h = one savedIn 2817 22 (inr h)
 
 -- a record on its own, read back
-back : {A : Type 0} (f : List ℕ → A) (xs : List ℕ) (o : ℕ) (bs : List ℕ) (r : A) → o + length bs ≤ length xs → f bs ≡ r → f (gets (puts xs o 0 bs) o 0 (length bs)) ≡ r
+back : {A : Type 0} (f : List ℕ → A) (xs : List ℕ) (o : ℕ) (bs : List ℕ) (r : A)
+    → o + length bs ≤ length xs → f bs ≡ r → f (gets (puts xs o 0 bs) o 0 (length bs)) ≡ r
 back f xs o bs r h p = ap f (gets-puts xs o bs h) ∙ p
 
 module _ (xs : List ℕ) (sized : length xs ≡ 2839) where
@@ -185,7 +191,8 @@ module _ (xs : List ℕ) (sized : length xs ≡ 2839) where
         wakes = wakes-off xs o bs (inr (omega arith)) i;
       }
 
-  pub view-requests : (k : ℕ) (r : Request) → k < 32 → view (puts xs (2583 + k * 5) 0 (bytes requestWidths (requestAs r))) ≡ withRequests (view xs) (set (view xs .requests) k r)
+  pub view-requests : (k : ℕ) (r : Request) → k < 32 → view (puts xs (2583 + k * 5) 0 (bytes requestWidths (requestAs r)))
+      ≡ withRequests (view xs) (set (view xs .requests) k r)
   unfolding view
   view-requests k r l =
       let o = 2583 + k * 5 in
@@ -236,7 +243,8 @@ module _ (xs : List ℕ) (sized : length xs ≡ 2839) where
         wakes = record { count = back number xs o bs v (omega arith) (number-digits 0 v) i; codes = codes-off xs o bs (inr (omega arith)) i };
       }
 
-  pub view-codes : (k v : ℕ) → k < 64 → view (puts xs (2753 + k * 1) 0 (digits 1 v)) ≡ withWakes (view xs) (withCodes (view xs .wakes) (set (view xs .wakes .codes) k v))
+  pub view-codes : (k v : ℕ) → k < 64 → view (puts xs (2753 + k * 1) 0 (digits 1 v))
+      ≡ withWakes (view xs) (withCodes (view xs .wakes) (set (view xs .wakes .codes) k v))
   unfolding view
   view-codes k v l =
       let o = 2753 + k * 1 in
@@ -250,7 +258,10 @@ module _ (xs : List ℕ) (sized : length xs ≡ 2839) where
         paced = paced-off xs o bs (inl (omega arith)) i;
         requests = requests-off xs o bs (inl (omega arith)) i;
         control = control-off xs o bs (inl (omega arith)) i;
-        wakes = record { count = count-off xs o bs (inl (omega arith)) i; codes = table-set number 2753 64 1 xs k bs v l (omega arith) refl (number-digits 0 v) i };
+        wakes = record {
+          count = count-off xs o bs (inl (omega arith)) i;
+          codes = table-set number 2753 64 1 xs k bs v l (omega arith) refl (number-digits 0 v) i;
+        };
       }
 
   pub view-saved : (r : Saved) → view (puts xs 2817 0 (bytes savedWidths (savedAs r))) ≡ view xs
@@ -275,7 +286,8 @@ module _ (xs : List ℕ) (sized : length xs ≡ 2839) where
   saved-saved r = back savedIn xs 2817 (bytes savedWidths (savedAs r)) r (omega arith) (ap savedOf (numbers-bytes savedWidths (savedAs r) tt))
 
   -- a record of a table, at the place of an endpoint
-  pub view-ep : (dir : Dir) (e k : ℕ) (r : EpState) → k ≡ key dir e → k < 32 → view (puts xs (0 + k * 30) 0 (bytes epWidths (epAs r))) ≡ withOn (view xs) dir e r
+  pub view-ep : (dir : Dir) (e k : ℕ) (r : EpState)
+      → k ≡ key dir e → k < 32 → view (puts xs (0 + k * 30) 0 (bytes epWidths (epAs r))) ≡ withOn (view xs) dir e r
   unfolding withOn
   view-ep dir e k r p l = view-eps k r l ∙ ap (λ (j : ℕ). withEps (view xs) (set (view xs .eps) j r)) p
 
@@ -291,15 +303,18 @@ module _ (xs : List ℕ) (sized : length xs ≡ 2839) where
   unfolding withPacedOn
   view-paced e v = view-paceds (e % 16) v (omega arith)
 
-  pub view-request : (dir : Dir) (e k : ℕ) (r : Request) → k ≡ key dir e → k < 32 → view (puts xs (2583 + k * 5) 0 (bytes requestWidths (requestAs r))) ≡ withRequestOn (view xs) dir e r
+  pub view-request : (dir : Dir) (e k : ℕ) (r : Request) → k ≡ key dir e
+      → k < 32 → view (puts xs (2583 + k * 5) 0 (bytes requestWidths (requestAs r))) ≡ withRequestOn (view xs) dir e r
   unfolding withRequestOn
   view-request dir e k r p l = view-requests k r l ∙ ap (λ (j : ℕ). withRequests (view xs) (set (view xs .requests) j r)) p
 
 -- what is loaded
 module _ (xs : List ℕ) where
-  pub ep-at : (dir : Dir) (e k : ℕ) (r : EpState) → k ≡ key dir e → k < 32 → Each (epAs r) (numbers epWidths (gets xs (0 + k * 30) 0 30)) → r ≡ epOn (view xs) dir e
+  pub ep-at : (dir : Dir) (e k : ℕ) (r : EpState)
+      → k ≡ key dir e → k < 32 → Each (epAs r) (numbers epWidths (gets xs (0 + k * 30) 0 30)) → r ≡ epOn (view xs) dir e
   unfolding view epOn
-  ep-at dir e k r p l h = ap epOf (each-eq (epAs r) (numbers epWidths (gets xs (0 + k * 30) 0 30)) h) ∙ table-at epIn 0 32 30 xs k noEp l ∙ ap (λ (j : ℕ). getD (view xs .eps) j noEp) p
+  ep-at dir e k r p l h = ap epOf (each-eq (epAs r) (numbers epWidths (gets xs (0 + k * 30) 0 30)) h)
+      ∙ table-at epIn 0 32 30 xs k noEp l ∙ ap (λ (j : ℕ). getD (view xs .eps) j noEp) p
 
   pub len-at : (dir : Dir) (e i k : ℕ) → k ≡ lenKey dir e i → k < 512 → number (gets xs (960 + k * 2) 0 2) ≡ lenOn (view xs) dir e i
   unfolding view lenOn
@@ -317,6 +332,8 @@ module _ (xs : List ℕ) where
   unfolding view
   code-at k = table-at number 2753 64 1 xs (k % 64) 0 (omega arith)
 
-  pub request-at : (dir : Dir) (e k : ℕ) (r : Request) → k ≡ key dir e → k < 32 → Each (requestAs r) (numbers requestWidths (gets xs (2583 + k * 5) 0 5)) → r ≡ requestOn (view xs) dir e
+  pub request-at : (dir : Dir) (e k : ℕ) (r : Request) → k ≡ key dir e
+      → k < 32 → Each (requestAs r) (numbers requestWidths (gets xs (2583 + k * 5) 0 5)) → r ≡ requestOn (view xs) dir e
   unfolding view requestOn
-  request-at dir e k r p l h = ap requestOf (each-eq (requestAs r) (numbers requestWidths (gets xs (2583 + k * 5) 0 5)) h) ∙ table-at requestIn 2583 32 5 xs k noRequest l ∙ ap (λ (j : ℕ). getD (view xs .requests) j noRequest) p
+  request-at dir e k r p l h = ap requestOf (each-eq (requestAs r) (numbers requestWidths (gets xs (2583 + k * 5) 0 5)) h)
+      ∙ table-at requestIn 2583 32 5 xs k noRequest l ∙ ap (λ (j : ℕ). getD (view xs .requests) j noRequest) p

@@ -12,7 +12,9 @@ use Rattle.regs.specs.declared.Dir.{Dir}
 use Rattle.regs.specs.declared.Dir.the-variants.{Out, In}
 use Rattle.state.specs.declared.EpState.{EpState}
 use Rattle.state.specs.declared.Request.{Request}
-use Rattle.state.specs.Driver.{Driver, key, lenKey, stampKey, noEp, noRequest, withEps, withLens, withStamps, withPaced, withRequests, epOn, withOn, lenOn, withLenOn, stampOn, withStampOn, pacedOn, withPacedOn, requestOn, withRequestOn}
+use Rattle.state.specs.Driver.{Driver, key, lenKey, stampKey, noEp, noRequest, withEps, withLens, withStamps}
+use Rattle.state.specs.Driver.{withPaced, withRequests, epOn, withOn, lenOn, withLenOn, stampOn, withStampOn}
+use Rattle.state.specs.Driver.{pacedOn, withPacedOn, requestOn, withRequestOn}
 use Rattle.state.specs.State.{view, saved, epIn, requestIn}
 
 -- every endpoint has its place

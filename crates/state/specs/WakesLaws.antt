@@ -71,4 +71,5 @@ all-woken-append (c ∷ cs) ds w = all-woken-append cs ds (woken c w)
 
 pub codes-next : (a n : ℕ) → codesFrom a (suc n) ≡ codesFrom a n ++ ((a + n) ∷ [])
 codes-next a zero = ap (λ (x : ℕ). x ∷ []) (sym (add-zero a))
-codes-next a (suc n) = let e : a + 1 + n ≡ a + suc n = omega arith in ap (λ (l : List ℕ). a ∷ l) (codes-next (a + 1) n ∙ ap (λ (x : ℕ). codesFrom (a + 1) n ++ (x ∷ [])) e)
+codes-next a (suc n) = let e : a + 1 + n ≡ a + suc n = omega arith in
+    ap (λ (l : List ℕ). a ∷ l) (codes-next (a + 1) n ∙ ap (λ (x : ℕ). codesFrom (a + 1) n ++ (x ∷ [])) e)

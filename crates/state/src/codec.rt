@@ -19,7 +19,8 @@ use le_bytes::put32;
 ghost use mathlib.Core.Path.{_≡_};
 ghost use Prim.Native.Nat.{_+_, _≤_};
 ghost use Rattle.le_bytes.specs.Bytes.{gets, puts, numbers, bytes, Each};
-ghost use Rattle.state.specs.Codec.{epWidths, epAs, allocatorWidths, allocatorAs, globalsWidths, globalsAs, requestWidths, requestAs, controlWidths, controlAs, savedWidths, savedAs};
+ghost use Rattle.state.specs.Codec.{epWidths, epAs, allocatorWidths, allocatorAs, globalsWidths, globalsAs};
+ghost use Rattle.state.specs.Codec.{requestWidths, requestAs, controlWidths, controlAs, savedWidths, savedAs};
 
 pub fn read_ep(s: &[u8; STATE_LEN], o: usize) -> EpState
     requires { ⌜ o + 30 ≤ 2839 ⌝ }

@@ -38,7 +38,8 @@ pub use wakes::woken_at;
 pub use wakes::woken_count;
 ghost use mathlib.Core.Path.{_≡_};
 ghost use Prim.Native.Nat.{_<_};
-ghost use Rattle.state.specs.Driver.{key, lenKey, epOn, withOn, lenOn, withLenOn, pacedOn, withPacedOn, requestOn, withRequestOn, withGlobals, withAllocator, withControl};
+ghost use Rattle.state.specs.Driver.{key, lenKey, epOn, withOn, lenOn, withLenOn, pacedOn, withPacedOn};
+ghost use Rattle.state.specs.Driver.{requestOn, withRequestOn, withGlobals, withAllocator, withControl};
 ghost use Rattle.state.specs.Ep.{newEp, resetOf, countOf};
 ghost use Rattle.state.specs.State.{view, saved};
 

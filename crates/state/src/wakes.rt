@@ -48,7 +48,8 @@ fn store_count(s: &mut [u8; STATE_LEN], n: u8)
 
 fn store_code(s: &mut [u8; STATE_LEN], i: u8, code: u8)
     requires { ⌜ i ≤ 63 ⌝ }
-    ensures { λ _. ⌜ view (now (s .exit)) ≡ withWakes (view (now (s .entry))) (withCodes (view (now (s .entry)) .wakes) (set (view (now (s .entry)) .wakes .codes) i code)) ⌝ }
+    ensures { λ _. ⌜ view (now (s .exit)) ≡ withWakes (view (now (s .entry)))
+        (withCodes (view (now (s .entry)) .wakes) (set (view (now (s .entry)) .wakes .codes) i code)) ⌝ }
     ensures { λ _. ⌜ saved (now (s .exit)) ≡ saved (now (s .entry)) ⌝ }
 {
     sized(s);
@@ -68,7 +69,8 @@ pub fn wake(s: &mut [u8; STATE_LEN], code: u8)
 }
 
 fn clear_codes(s: &mut [u8; STATE_LEN])
-    ensures { λ _. ⌜ view (now (s .exit)) ≡ withWakes (view (now (s .entry))) (withCodes (view (now (s .entry)) .wakes) (filled (view (now (s .entry)) .wakes .codes) 0 64 0)) ⌝ }
+    ensures { λ _. ⌜ view (now (s .exit)) ≡ withWakes (view (now (s .entry)))
+        (withCodes (view (now (s .entry)) .wakes) (filled (view (now (s .entry)) .wakes .codes) 0 64 0)) ⌝ }
     ensures { λ _. ⌜ saved (now (s .exit)) ≡ saved (now (s .entry)) ⌝ }
 {
     let mut k: u8 = 0;

@@ -106,7 +106,8 @@ module _ (lend : Lends) where
       by l true u =
           let q = wrote-by (e .writer) p (e .block) true u in
           record {
-            is = calls-step n p (seen e) (wrote.Refused 21) (e .block) (same-write ∙ q) (same-block ∙ block-by (e .writer) p (e .block) true u) ∙ ap seen (sym (run-refused n p e q));
+            is = calls-step n p (seen e) (wrote.Refused 21) (e .block) (same-write ∙ q)
+                (same-block ∙ block-by (e .writer) p (e .block) true u) ∙ ap seen (sym (run-refused n p e q));
             short = subst (λ (d : Desk). Short (d .writer)) (sym (run-refused n p e q)) h;
           }
       by l false u =

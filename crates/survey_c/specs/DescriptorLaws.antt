@@ -14,7 +14,8 @@ pub bytes-few : (s room : List ℕ) (n : ℕ) → rewrittenOf s room ≡ written
 unfolding rewrittenOf writtenOf
 bytes-few s room n h = go (seventeen s room) (twoTypes (inOrder s)) (isShort (listIn s) room) h
   where
-    go : (t u v : Bool) → cond t (written.Refused 17) (cond u (written.Refused 18) (cond v (written.Refused 17) (written.Bytes (totalFor (countOf (listIn s))))))
+    go : (t u v : Bool) → cond t (written.Refused 17)
+        (cond u (written.Refused 18) (cond v (written.Refused 17) (written.Bytes (totalFor (countOf (listIn s))))))
         ≡ written.Bytes n → n ≤ 242
     go true u v h = let z : _≡_ {A = ℕ} 0 1 = cc in absurd (omega arith)
     go false true v h = let z : _≡_ {A = ℕ} 0 1 = cc in absurd (omega arith)

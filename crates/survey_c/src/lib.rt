@@ -37,8 +37,8 @@ ghost use Rattle.req_card_reader.specs.Batches.{batchOf, batchRoomOf};
 ghost use Rattle.survey_c.specs.Card.{batchWord, batchPlaceBy, countBy, usedBy};
 ghost use Rattle.survey_c.specs.Card.{writerIn, numbersOf, wroteWord, writerBy, finishedWord, startedWord, startBy, nextWord, endpointBy, placeBy};
 
-// The best set of the channels in the list, with the bus time that is in use: its count is the end's result; beside it the total of its maxima, a figure that no fitting set exceeds
-// and how many sets were looked at.
+// The best set of the channels in the list, with the bus time that is in use: its count is the end's result; beside it
+// the total of its maxima, a figure that no fitting set exceeds and how many sets were looked at.
 #[no_mangle]
 pub extern "C" fn usbhs_best_set(
     list: &mut [Channel],
@@ -48,7 +48,8 @@ pub extern "C" fn usbhs_best_set(
     figure: &mut u32,
     looked: &mut u32,
 ) -> u64
-    ensures { λ r. ⌜ BestSet (now (list .entry)) (inUse (now (time .entry))) budget (now (total .entry)) (now (figure .entry)) (now (looked .entry)) r (now (list .exit)) (now (total .exit)) (now (figure .exit)) (now (looked .exit)) ⌝ }
+    ensures { λ r. ⌜ BestSet (now (list .entry)) (inUse (now (time .entry))) budget (now (total .entry)) (now (figure .entry))
+        (now (looked .entry)) r (now (list .exit)) (now (total .exit)) (now (figure .exit)) (now (looked .exit)) ⌝ }
 {
     let in_use = req_bus_time::in_use(time);
     let answer = req_channels::best_set(list, in_use, budget);
@@ -107,7 +108,8 @@ pub extern "C" fn usbhs_card_write(
     bytes: &[u8],
 ) -> u64
     ensures { λ r. ⌜ r ≡ wroteWord (writeOf (writerIn (now (writer .entry))) (packetOf endpoint (now (bytes .entry))) (now (block .entry))) ⌝ }
-    ensures { λ _. ⌜ now (writer .exit) ≡ writerBy (writeOf (writerIn (now (writer .entry))) (packetOf endpoint (now (bytes .entry))) (now (block .entry))) (now (writer .entry)) ⌝ }
+    ensures { λ _. ⌜ now (writer .exit) ≡ writerBy
+        (writeOf (writerIn (now (writer .entry))) (packetOf endpoint (now (bytes .entry))) (now (block .entry))) (now (writer .entry)) ⌝ }
     ensures { λ _. ⌜ now (block .exit) ≡ writtenOf (writerIn (now (writer .entry))) (packetOf endpoint (now (bytes .entry))) (now (block .entry)) ⌝ }
 {
     let w = writer_in(writer);
@@ -159,7 +161,8 @@ pub extern "C" fn usbhs_card_next(
 ) -> u64
     ensures { λ r. ⌜ r ≡ nextWord (nextOf (now (stream .entry)) (now (place .entry)) (length (now (room .entry)))) ⌝ }
     ensures { λ _. ⌜ now (place .exit) ≡ placeBy (nextOf (now (stream .entry)) (now (place .entry)) (length (now (room .entry)))) (now (place .entry)) ⌝ }
-    ensures { λ _. ⌜ now (endpoint .exit) ≡ endpointBy (nextOf (now (stream .entry)) (now (place .entry)) (length (now (room .entry)))) (now (endpoint .entry)) ⌝ }
+    ensures { λ _. ⌜ now (endpoint .exit)
+        ≡ endpointBy (nextOf (now (stream .entry)) (now (place .entry)) (length (now (room .entry)))) (now (endpoint .entry)) ⌝ }
     ensures { λ _. ⌜ now (room .exit) ≡ roomOf (now (stream .entry)) (now (place .entry)) (now (room .entry)) ⌝ }
 {
     let reader = Reader { at: *place };

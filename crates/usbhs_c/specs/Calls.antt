@@ -79,7 +79,10 @@ AnswersShown r c before after slots slots′ =
 abbrev pub AnswersOpen : ℕ → ℕ → List ℕ → List ℕ → Buf → ℕ → ℕ → Type 0
 AnswersOpen r e before after slots stamp stamp′ =
     Worded r
-    (λ step. ((a : Buf) → (answerOf step slots (view after), machineOf after (lentOr (view before) slots slots a)) ≡ drive (begin (aside (Open e))) (machineOf before a) slots)
+    (λ step. ((a : Buf) → (
+      answerOf step slots (view after),
+      machineOf after (lentOr (view before) slots slots a),
+    ) ≡ drive (begin (aside (Open e))) (machineOf before a) slots)
     × (ShownAt step (view after) e × (saved after ≡ saved before)))
     × ((a : Buf) → stamp′ ≡ stampBy (drive (begin (aside (Open e))) (machineOf before a) slots .0) stamp)
 
@@ -87,12 +90,18 @@ AnswersOpen r e before after slots stamp stamp′ =
 abbrev pub AnswersStart : ℕ → ℕ → Config → List ℕ → List ℕ → Buf → List ℕ → List ℕ → Type 0
 AnswersStart r i c before after slots time time′ =
     Worded r
-    (λ step. ((a : Buf) → ((answerOf step [] (view after), machineOf after (cond (eqb (startRow c slots) 0) slots a)), time′) ≡ sharedCall i (start c) (machineOf before a) time slots)
+    (λ step. ((a : Buf) → (
+      (answerOf step [] (view after), machineOf after (cond (eqb (startRow c slots) 0) slots a)),
+      time′,
+    ) ≡ sharedCall i (start c) (machineOf before a) time slots)
     × SavedUnchangedOnRefusal step before after)
 
 -- a call that brings the slots and the record of bus time
 abbrev pub AnswersCharged : ℕ → ℕ → Call Config Op → List ℕ → List ℕ → Buf → Buf → List ℕ → List ℕ → Type 0
 AnswersCharged r i c before after slots slots′ time time′ =
     Worded r
-    (λ step. ((a : Buf) → ((answerOf step [] (view after), machineOf after (lentOr (view before) slots slots′ a)), time′) ≡ sharedCall i c (machineOf before a) time slots)
+    (λ step. ((a : Buf) → (
+      (answerOf step [] (view after), machineOf after (lentOr (view before) slots slots′ a)),
+      time′,
+    ) ≡ sharedCall i c (machineOf before a) time slots)
     × (BufferUnchangedOnRow1 (view before) slots slots′ × SavedUnchangedOnRefusal step before after))

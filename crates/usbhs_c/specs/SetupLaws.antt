@@ -62,7 +62,9 @@ ByteFirst (told n) = Unit {0}
 
 -- where nothing is under way (x), EP0 is started (y), setup was begun (z) and a packet is there (w)
 by-rows : (x y z w : Bool) (g : Globals) (s1 s2 s3 s4 : Driver × Buf) (m : Machine Answer Driver)
-    → ByteFirst (cond x (halts (cond y (cond z (cond w (ends (Done (setupBytes g)) s1) (ends NotYet s2)) (ends (Refused 15) s3)) (ends (Refused 4) s4))) (ended (Refused 3), m) .0)
+    → ByteFirst
+    (cond x (halts (cond y (cond z (cond w (ends (Done (setupBytes g)) s1) (ends NotYet s2)) (ends (Refused 15) s3)) (ends (Refused 4) s4)))
+    (ended (Refused 3), m) .0)
 unfolding setupBytes
 by-rows true true true true g s1 s2 s3 s4 m = omega arith
 by-rows true true true false g s1 s2 s3 s4 m = tt
@@ -85,5 +87,6 @@ no-slice (step.Done (suc n)) x h = omega arith
 no-slice (step.Setup low high) x h = tt
 no-slice (step.Shown at n stamp) x h = tt
 
-pub setup-no-slice : (t : Step) (x : Driver) (u : Suspended) (d : Driver) (a b : Buf) → answerOf t [] x ≡ drive (begin (other PollSetup)) (machineAt u d a) b .0 → NoSlice t
+pub setup-no-slice : (t : Step) (x : Driver) (u : Suspended) (d : Driver) (a b : Buf)
+    → answerOf t [] x ≡ drive (begin (other PollSetup)) (machineAt u d a) b .0 → NoSlice t
 setup-no-slice t x u d a b e = no-slice t x (subst ByteFirst (sym e) (setup-first u d a b))

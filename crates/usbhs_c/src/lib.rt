@@ -22,13 +22,19 @@ ghost use Rattle.state.specs.State.{view};
 ghost use Rattle.state.specs.Wakes.{listed};
 ghost use Rattle.model.specs.Statics.{flag};
 ghost use Rattle.model.specs.Machine.{begin, go, start};
-ghost use Rattle.model.specs.Calls.{other, slotted, aside, interrupt, Microframe, Allocate, Start, SetPaced, BusEnable, BusDisable, BusPoll, IsStalled, SetStalled, SetEnabled, BeginSetup, PollSetup, BeginDataOut, PollDataOut, BeginDataIn, PollDataIn, BeginAccept, BeginAcceptSetAddress, PollAccept, BeginReject, Advance, BeginRead, PollRead, BeginWrite, PollWrite, Close, Queue};
+ghost use Rattle.model.specs.Calls.{other, slotted, aside, interrupt, Microframe, Allocate, Start, SetPaced, BusEnable};
+ghost use Rattle.model.specs.Calls.{BusDisable, BusPoll, IsStalled, SetStalled, SetEnabled, BeginSetup, PollSetup};
+ghost use Rattle.model.specs.Calls.{BeginDataOut, PollDataOut, BeginDataIn, PollDataIn, BeginAccept};
+ghost use Rattle.model.specs.Calls.{BeginAcceptSetAddress, PollAccept, BeginReject, Advance, BeginRead, PollRead};
+ghost use Rattle.model.specs.Calls.{BeginWrite, PollWrite, Close, Queue};
 ghost use Prim.Native.Nat.{_%_};
 ghost use lib.ListN.{length};
 ghost use Rattle.req_bus_time.specs.Time.{inUse};
 ghost use Rattle.machine.specs.Suspended.{configOf};
 ghost use Rattle.machine.specs.Questions.{pendingOn, overrunsOn, enabledAsked};
-ghost use Rattle.usbhs_c.specs.Calls.{Answers, AnswersAtOnce, AnswersLent, AnswersInto, AnswersOutOf, AnswersStart, AnswersCharged, AnswersBeside, AnswersShown, AnswersOpen, dirOf, flagOf};
+ghost use Rattle.usbhs_c.specs.Calls.{Answers, AnswersAtOnce, AnswersLent, AnswersInto, AnswersOutOf};
+ghost use Rattle.usbhs_c.specs.Calls.{AnswersStart, AnswersCharged, AnswersBeside, AnswersShown, AnswersOpen};
+ghost use Rattle.usbhs_c.specs.Calls.{dirOf, flagOf};
 
 // Start-up on any state, with the buffer's size and count and whether there is a start-of-frame callback.
 #[no_mangle]
@@ -41,7 +47,8 @@ pub extern "C" fn usbhs_start_up(
     count: u32,
     callback: u32,
 ) -> u64
-    ensures { λ r. ⌜ AnswersStart r driver (configOf size count (flagOf callback)) (now (s .entry)) (now (s .exit)) (now (slots .entry)) (now (time .entry)) (now (time .exit)) ⌝ }
+    ensures { λ r. ⌜ AnswersStart r driver (configOf size count (flagOf callback))
+        (now (s .entry)) (now (s .exit)) (now (slots .entry)) (now (time .entry)) (now (time .exit)) ⌝ }
 {
     word_of(usbhs::starting::start_up(s, slots, time, driver, size, count, flag_of(callback)))
 }
@@ -78,7 +85,8 @@ pub extern "C" fn usbhs_continue(
     driver: u32,
     value: u32,
 ) -> u64
-    ensures { λ r. ⌜ AnswersCharged r driver (go value) (now (s .entry)) (now (s .exit)) (now (slots .entry)) (now (slots .exit)) (now (time .entry)) (now (time .exit)) ⌝ }
+    ensures { λ r. ⌜ AnswersCharged r driver (go value) (now (s .entry))
+        (now (s .exit)) (now (slots .entry)) (now (slots .exit)) (now (time .entry)) (now (time .exit)) ⌝ }
 {
     continue_word(usbhs::proceeds::proceed(s, slots, time, driver, value))
 }
@@ -171,7 +179,8 @@ pub extern "C" fn usbhs_begin_set_enabled(
     dir: u32,
     enabled: u32,
 ) -> u64
-    ensures { λ r. ⌜ AnswersCharged r driver (begin (slotted (SetEnabled (dirOf dir) endpoint (flagOf enabled)))) (now (s .entry)) (now (s .exit)) (now (slots .entry)) (now (slots .exit)) (now (time .entry)) (now (time .exit)) ⌝ }
+    ensures { λ r. ⌜ AnswersCharged r driver (begin (slotted (SetEnabled (dirOf dir) endpoint (flagOf enabled))))
+        (now (s .entry)) (now (s .exit)) (now (slots .entry)) (now (slots .exit)) (now (time .entry)) (now (time .exit)) ⌝ }
 {
     word_of(usbhs::bus_begins::begin_set_enabled(
         s,
@@ -200,7 +209,8 @@ pub extern "C" fn usbhs_poll_read(
     endpoint: u32,
     slice: &mut [u8],
 ) -> u64
-    ensures { λ r. ⌜ AnswersOutOf r (begin (slotted (PollRead endpoint (length (now (slice .entry)))))) (now (s .entry)) (now (s .exit)) (now (slots .entry)) (now (slice .entry)) (now (slice .exit)) ⌝ }
+    ensures { λ r. ⌜ AnswersOutOf r (begin (slotted (PollRead endpoint (length (now (slice .entry))))))
+        (now (s .entry)) (now (s .exit)) (now (slots .entry)) (now (slice .entry)) (now (slice .exit)) ⌝ }
 {
     word_of(usbhs::requests::poll_read(s, slots, endpoint, slice))
 }
@@ -213,7 +223,8 @@ pub extern "C" fn usbhs_begin_write(
     endpoint: u32,
     bytes: &[u8],
 ) -> u64
-    ensures { λ r. ⌜ AnswersLent r (begin (slotted (BeginWrite endpoint (now (bytes .entry))))) (now (s .entry)) (now (s .exit)) (now (slots .entry)) (now (slots .exit)) ⌝ }
+    ensures { λ r. ⌜ AnswersLent r (begin (slotted (BeginWrite endpoint (now (bytes .entry)))))
+        (now (s .entry)) (now (s .exit)) (now (slots .entry)) (now (slots .exit)) ⌝ }
 {
     word_of(usbhs::requests::begin_write(s, slots, endpoint, bytes))
 }
@@ -226,7 +237,8 @@ pub extern "C" fn usbhs_poll_write(
     endpoint: u32,
     bytes: &[u8],
 ) -> u64
-    ensures { λ r. ⌜ AnswersLent r (begin (slotted (PollWrite endpoint (now (bytes .entry))))) (now (s .entry)) (now (s .exit)) (now (slots .entry)) (now (slots .exit)) ⌝ }
+    ensures { λ r. ⌜ AnswersLent r (begin (slotted (PollWrite endpoint (now (bytes .entry)))))
+        (now (s .entry)) (now (s .exit)) (now (slots .entry)) (now (slots .exit)) ⌝ }
 {
     word_of(usbhs::requests::poll_write(s, slots, endpoint, bytes))
 }
@@ -262,7 +274,8 @@ pub extern "C" fn usbhs_poll_data_out(
     slots: &[u8],
     slice: &mut [u8],
 ) -> u64
-    ensures { λ r. ⌜ AnswersOutOf r (begin (slotted (PollDataOut (length (now (slice .entry)))))) (now (s .entry)) (now (s .exit)) (now (slots .entry)) (now (slice .entry)) (now (slice .exit)) ⌝ }
+    ensures { λ r. ⌜ AnswersOutOf r (begin (slotted (PollDataOut (length (now (slice .entry))))))
+        (now (s .entry)) (now (s .exit)) (now (slots .entry)) (now (slice .entry)) (now (slice .exit)) ⌝ }
 {
     word_of(usbhs::control_polls::poll_data_out(s, slots, slice))
 }
@@ -276,7 +289,8 @@ pub extern "C" fn usbhs_begin_data_in(
     first: u32,
     last: u32,
 ) -> u64
-    ensures { λ r. ⌜ AnswersLent r (begin (slotted (BeginDataIn (now (bytes .entry)) (flagOf first) (flagOf last)))) (now (s .entry)) (now (s .exit)) (now (slots .entry)) (now (slots .exit)) ⌝ }
+    ensures { λ r. ⌜ AnswersLent r (begin (slotted (BeginDataIn (now (bytes .entry)) (flagOf first) (flagOf last))))
+        (now (s .entry)) (now (s .exit)) (now (slots .entry)) (now (slots .exit)) ⌝ }
 {
     word_of(usbhs::control_begins::begin_data_in(s, slots, bytes, flag_of(first), flag_of(last)))
 }
@@ -352,7 +366,8 @@ pub extern "C" fn usbhs_queue(
     endpoint: u32,
     bytes: &[u8],
 ) -> u64
-    ensures { λ r. ⌜ AnswersShown r (begin (aside (Queue endpoint (now (bytes .entry))))) (now (s .entry)) (now (s .exit)) (now (slots .entry)) (now (slots .exit)) ⌝ }
+    ensures { λ r. ⌜ AnswersShown r (begin (aside (Queue endpoint (now (bytes .entry)))))
+        (now (s .entry)) (now (s .exit)) (now (slots .entry)) (now (slots .exit)) ⌝ }
 {
     word_of(usbhs::in_place::queue(s, slots, endpoint, bytes))
 }

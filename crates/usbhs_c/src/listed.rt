@@ -26,9 +26,12 @@ pub extern "C" fn usbhs_preview(
     refusal: &mut u32,
 ) -> u64
     ensures { λ r. ⌜ r ≡ wordBy (shownBy (now (s .entry)) (now (bytes .entry)) .said) (shownBy (now (s .entry)) (now (bytes .entry))) ⌝ }
-    ensures { λ _. ⌜ now (numbers .exit) ≡ numbersBy (shownBy (now (s .entry)) (now (bytes .entry)) .said) (shownBy (now (s .entry)) (now (bytes .entry))) (now (numbers .entry)) ⌝ }
-    ensures { λ _. ⌜ now (buffers .exit) ≡ buffersBy (shownBy (now (s .entry)) (now (bytes .entry)) .said) (shownBy (now (s .entry)) (now (bytes .entry))) (now (buffers .entry)) ⌝ }
-    ensures { λ _. ⌜ now (refusal .exit) ≡ refusalBy (shownBy (now (s .entry)) (now (bytes .entry)) .said) (shownBy (now (s .entry)) (now (bytes .entry))) (now (refusal .entry)) ⌝ }
+    ensures { λ _. ⌜ now (numbers .exit) ≡ numbersBy (shownBy (now (s .entry)) (now (bytes .entry)) .said)
+        (shownBy (now (s .entry)) (now (bytes .entry))) (now (numbers .entry)) ⌝ }
+    ensures { λ _. ⌜ now (buffers .exit) ≡ buffersBy (shownBy (now (s .entry)) (now (bytes .entry)) .said)
+        (shownBy (now (s .entry)) (now (bytes .entry))) (now (buffers .entry)) ⌝ }
+    ensures { λ _. ⌜ now (refusal .exit) ≡ refusalBy (shownBy (now (s .entry)) (now (bytes .entry)) .said)
+        (shownBy (now (s .entry)) (now (bytes .entry))) (now (refusal .entry)) ⌝ }
 {
     let x = usbhs::listed_calls::preview(s, bytes);
     let said = x.said;

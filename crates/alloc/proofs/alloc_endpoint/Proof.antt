@@ -41,11 +41,23 @@ buffered-requires c κs =
 
 returns-2 : tie.Need-returns-2
 unfolding allocateOf numberedOf
-returns-2 c = simp (c .refused2 .ensures, le-ltb _ _ (c .before .before .before .before .before .if1 .left), ← c .before .before .before .before .is-iso .ensures, ← c .before .before .before .find .ensures, c .before .enum-told .given .1)
+returns-2 c = simp (
+  c .refused2 .ensures,
+  le-ltb _ _ (c .before .before .before .before .before .if1 .left),
+  ← c .before .before .before .before .is-iso .ensures,
+  ← c .before .before .before .find .ensures,
+  c .before .enum-told .given .1,
+)
 
 returns-3 : tie.Need-returns-3
 unfolding allocateOf numberedOf
-returns-3 c = simp (c .buffered .ensures, le-ltb _ _ (c .before .before .before .before .before .before .if1 .left), ← c .before .before .before .before .before .is-iso .ensures, ← c .before .before .before .before .find .ensures, c .before .before .found .given .1)
+returns-3 c = simp (
+  c .buffered .ensures,
+  le-ltb _ _ (c .before .before .before .before .before .before .if1 .left),
+  ← c .before .before .before .before .before .is-iso .ensures,
+  ← c .before .before .before .before .find .ensures,
+  c .before .before .found .given .1,
+)
 
 pub alloc-endpoint-spec : {M : Type 1} → statement M
 alloc-endpoint-spec =

@@ -27,7 +27,12 @@ refused-requires-3 c κs = search needs
 
 returns-3 : tie.Need-returns-3
 unfolding allocateEp0Of
-returns-3 c = simp (c .refused3 .ensures, le-leb _ _ (c .before .if3 .taken), le-ltb _ _ (c .before .before .before .if2 .left), eq-eqb _ _ (c .before .before .before .before .before .if1 .left))
+returns-3 c = simp (
+  c .refused3 .ensures,
+  le-leb _ _ (c .before .if3 .taken),
+  le-ltb _ _ (c .before .before .before .if2 .left),
+  eq-eqb _ _ (c .before .before .before .before .before .if1 .left),
+)
 
 cast-base : tie.Need-cast-base
 cast-base c = search needs
@@ -46,7 +51,12 @@ with-next-requires c κs = search needs
 
 returns-4 : tie.Need-returns-4
 unfolding allocateEp0Of
-returns-4 c = simp (c .with-next .ensures, lt-leb _ _ (c .before .before .before .before .if3 .left), le-ltb _ _ (c .before .before .before .before .before .before .if2 .left), eq-eqb _ _ (c .before .before .before .before .before .before .before .before .if1 .left))
+returns-4 c = simp (
+  c .with-next .ensures,
+  lt-leb _ _ (c .before .before .before .before .if3 .left),
+  le-ltb _ _ (c .before .before .before .before .before .before .if2 .left),
+  eq-eqb _ _ (c .before .before .before .before .before .before .before .before .if1 .left),
+)
 
 pub allocate-ep0-spec : {M : Type 1} → statement M
 allocate-ep0-spec =

@@ -54,7 +54,8 @@ loop-again c =
       (
         v .1 .0,
         (
-          c .allocate-one .ensures .0 ∙ ap (λ (d : Driver). oneOn d (getD (l .entries) (k .loop .i) none)) (v .1 .1 .0) ∙ sym (each-more _ (l .entries) (k .loop .i)),
+          c .allocate-one .ensures .0 ∙ ap (λ (d : Driver). oneOn d (getD (l .entries) (k .loop .i) none)) (v .1 .1 .0)
+              ∙ sym (each-more _ (l .entries) (k .loop .i)),
           c .allocate-one .ensures .1 ∙ v .1 .1 .1,
         ),
       ),

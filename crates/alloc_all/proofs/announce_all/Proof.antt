@@ -20,8 +20,12 @@ count-requires c κs = search needs
 
 returns : tie.Need-returns
 returns c =
-    let a = c .before .before .args in
-    (λ b. sym (announce-none (a .t2 .entries) (view (now (a .s))) b) ∙ ap (λ (n : ℕ). go (announceAll (upTo n (a .t2 .entries))) (view (now (a .s))) b) (sym (c .if1 .taken) ∙ c .before .count .ensures), tt)
+    let a = c .before .before .args in (
+      λ b. sym (announce-none (a .t2 .entries) (view (now (a .s))) b)
+          ∙ ap (λ (n : ℕ). go (announceAll (upTo n (a .t2 .entries))) (view (now (a .s))) b)
+          (sym (c .if1 .taken) ∙ c .before .count .ensures),
+      tt,
+    )
 
 element-copy-out-e : tie.Need-element-copy-out-e
 element-copy-out-e c = search needs
@@ -44,8 +48,12 @@ first-requires c κs = search needs
 returns-2 : tie.Need-returns-2
 returns-2 c =
     let k = c .before .before .before .before in
-    let a = k .before .before .args in
-    (λ b. c .first .ensures .0 b ∙ simp (c .before .before .direction .ensures) (announce-first _ (a .t2 .entries) (view (now (a .s))) b (k .if1 .left) ∙ ap (λ (n : ℕ). go (announceAll (upTo n (a .t2 .entries))) (view (now (a .s))) b) (k .before .count .ensures)), c .first .ensures .1)
+    let a = k .before .before .args in (
+      λ b. c .first .ensures .0 b ∙ simp (c .before .before .direction .ensures)
+          (announce-first _ (a .t2 .entries) (view (now (a .s))) b (k .if1 .left)
+          ∙ ap (λ (n : ℕ). go (announceAll (upTo n (a .t2 .entries))) (view (now (a .s))) b) (k .before .count .ensures)),
+      c .first .ensures .1,
+    )
 
 pub announce-all-spec : {M : Type 1} → statement M
 announce-all-spec =

@@ -21,16 +21,21 @@ use Rattle.survey_c.proofs.usbhs_card_new.Reads as usbhs-card-new-reads
 use Rattle.print_access.proofs.text.print.Reads as print-reads
 
 abbrev Inv-loop2 : tie.InvT-loop2
-Inv-loop2 list len s₀ time₀ slots₀ writer₀ block₀ card₀ rust-slots rust-writer₀ rust-block₀ rust-card₀ stores answers₀ differing₀ at left e times₀ t22 t23 t24 t25 t26 s time slots writer block card rust-writer rust-block rust-card answers differing times = times ≡ times
+Inv-loop2 list len s₀ time₀ slots₀ writer₀ block₀ card₀ rust-slots rust-writer₀ rust-block₀ rust-card₀ stores answers₀ differing₀ at left
+    e times₀ t22 t23 t24 t25 t26 s time slots writer block card rust-writer rust-block rust-card answers differing times = times ≡ times
 
 abbrev μ-loop2 : tie.MeasureT-loop2
-μ-loop2 list len s₀ time₀ slots₀ writer₀ block₀ card₀ rust-slots rust-writer₀ rust-block₀ rust-card₀ stores answers₀ differing₀ at left e times₀ t22 t23 t24 t25 t26 s time slots writer block card rust-writer rust-block rust-card answers differing times = times
+μ-loop2 list len s₀ time₀ slots₀ writer₀ block₀ card₀ rust-slots rust-writer₀ rust-block₀ rust-card₀ stores answers₀ differing₀
+    at left e times₀ t22 t23 t24 t25 t26 s time slots writer block card rust-writer rust-block rust-card answers differing times = times
 
 abbrev Inv-loop : tie.InvT-loop
-Inv-loop list len s₀ time₀ slots₀ writer₀ block₀ card₀ rust-slots₀ rust-writer₀ rust-block₀ rust-card₀ stores₀ answers₀ differing₀ at₀ left₀ t22 t23 t24 t25 t26 s time slots writer block card rust-slots rust-writer rust-block rust-card stores answers differing at left = left ≤ 4096
+Inv-loop list len s₀ time₀ slots₀ writer₀ block₀ card₀ rust-slots₀ rust-writer₀ rust-block₀ rust-card₀ stores₀ answers₀ differing₀ at₀ left₀
+    t22 t23 t24 t25 t26 s time slots writer block card rust-slots rust-writer rust-block rust-card stores answers differing at left =
+    left ≤ 4096
 
 abbrev μ-loop : tie.MeasureT-loop
-μ-loop list len s₀ time₀ slots₀ writer₀ block₀ card₀ rust-slots₀ rust-writer₀ rust-block₀ rust-card₀ stores₀ answers₀ differing₀ at₀ left₀ t22 t23 t24 t25 t26 s time slots writer block card rust-slots rust-writer rust-block rust-card stores answers differing at left = left
+μ-loop list len s₀ time₀ slots₀ writer₀ block₀ card₀ rust-slots₀ rust-writer₀ rust-block₀ rust-card₀ stores₀ answers₀ differing₀ at₀ left₀
+    t22 t23 t24 t25 t26 s time slots writer block card rust-slots rust-writer rust-block rust-card stores answers differing at left = left
 
 usbhs-card-new-requires : tie.Need-usbhs-card-new-requires Inv-loop2 μ-loop2 Inv-loop μ-loop
 usbhs-card-new-requires c κs = search needs

@@ -60,13 +60,15 @@ enum-told-2 : tie.Need-enum-told-2
 enum-told-2 c = search needs
 
 after-flags-requires : tie.Need-after-flags-requires
-after-flags-requires c κs = fits-flags (c .before .before .before .args .p) (c .before .before .before .args .v) (c .enum-told2 .given .1) (c .before .before .before .pre)
+after-flags-requires c κs = fits-flags (c .before .before .before .args .p)
+    (c .before .before .before .args .v) (c .enum-told2 .given .1) (c .before .before .before .pre)
 
 enum-told-3 : tie.Need-enum-told-3
 enum-told-3 c = search needs
 
 after-status-requires : tie.Need-after-status-requires
-after-status-requires c κs = fits-status (c .before .before .before .args .p) (c .before .before .before .args .v) (c .enum-told3 .given .1) (c .before .before .before .pre)
+after-status-requires c κs = fits-status (c .before .before .before .args .p)
+    (c .before .before .before .args .v) (c .enum-told3 .given .1) (c .before .before .before .pre)
 
 enum-known-p-2 : tie.Need-enum-known-p-2
 enum-known-p-2 c = search needs
@@ -126,43 +128,88 @@ resume-requires : tie.Need-resume-requires
 resume-requires c κs = (c .before .before .before .before .pre, later _ (c .before .before .match .keys14))
 
 returns : tie.Need-returns
-returns c = (stands _ _ _ (c .before .before .before .before .args .v) _ (c .before .enum-told .given .1) (c .after-enable .ensures .0 _ _), (refl, c .after-enable .ensures .1))
+returns c = (
+  stands _ _ _ (c .before .before .before .before .args .v) _ (c .before .enum-told .given .1) (c .after-enable .ensures .0 _ _),
+  (refl, c .after-enable .ensures .1),
+)
 
 returns-2 : tie.Need-returns-2
 returns-2 c = (stands _ _ _ (c .before .before .before .before .args .v) _ (c .before .p .given .1) refl, (refl, tt))
 
 returns-3 : tie.Need-returns-3
-returns-3 c = (stands _ _ _ (c .before .before .before .before .args .v) _ (c .before .enum-told2 .given .1) (c .after-flags .ensures .0 _ _), (refl, c .after-flags .ensures .1))
+returns-3 c = (
+  stands _ _ _ (c .before .before .before .before .args .v) _ (c .before .enum-told2 .given .1) (c .after-flags .ensures .0 _ _),
+  (refl, c .after-flags .ensures .1),
+)
 
 returns-4 : tie.Need-returns-4
-returns-4 c = (stands _ _ _ (c .before .before .before .before .args .v) _ (c .before .enum-told3 .given .1) (c .after-status .ensures .0 _ _), (refl, c .after-status .ensures .1))
+returns-4 c = (
+  stands _ _ _ (c .before .before .before .before .args .v) _ (c .before .enum-told3 .given .1) (c .after-status .ensures .0 _ _),
+  (refl, c .after-status .ensures .1),
+)
 
 returns-5 : tie.Need-returns-5
-returns-5 c = (stands _ _ _ (c .before .before .before .before .before .before .args .v) _ (c .before .before .before .p2 .given .1) (c .after-released .ensures .0 _), (c .after-released .ensures .1 .0, c .after-released .ensures .1 .1))
+returns-5 c = (
+  stands _ _ _ (c .before .before .before .before .before .before .args .v) _
+      (c .before .before .before .p2 .given .1) (c .after-released .ensures .0 _),
+  (c .after-released .ensures .1 .0, c .after-released .ensures .1 .1),
+)
 
 returns-6 : tie.Need-returns-6
-returns-6 c = (stands _ _ _ (c .before .before .before .before .args .v) _ (c .before .enum-told4 .given .1) (c .after-address .ensures .0 (c .before .before .before .before .args .v) _ _), (refl, c .after-address .ensures .1))
+returns-6 c = (
+  stands _ _ _ (c .before .before .before .before .args .v) _
+      (c .before .enum-told4 .given .1) (c .after-address .ensures .0 (c .before .before .before .before .args .v) _ _),
+  (refl, c .after-address .ensures .1),
+)
 
 returns-7 : tie.Need-returns-7
-returns-7 c = (stands _ _ _ (c .before .before .before .before .args .v) _ (c .before .enum-told5 .given .1) (c .after-ep0-out .ensures .0 (c .before .before .before .before .args .v) _ _), (refl, c .after-ep0-out .ensures .1))
+returns-7 c = (
+  stands _ _ _ (c .before .before .before .before .args .v) _
+      (c .before .enum-told5 .given .1) (c .after-ep0-out .ensures .0 (c .before .before .before .before .args .v) _ _),
+  (refl, c .after-ep0-out .ensures .1),
+)
 
 returns-8 : tie.Need-returns-8
-returns-8 c = (stands _ _ _ (c .before .before .before .before .before .args .v) _ (c .before .before .p3 .given .1) (c .after-nak-in .ensures .0 (c .before .before .before .before .before .args .v) _ _), (refl, c .after-nak-in .ensures .1))
+returns-8 c = (
+  stands _ _ _ (c .before .before .before .before .before .args .v) _ (c .before .before .p3 .given .1)
+      (c .after-nak-in .ensures .0 (c .before .before .before .before .before .args .v) _ _),
+  (refl, c .after-nak-in .ensures .1),
+)
 
 returns-9 : tie.Need-returns-9
-returns-9 c = (stands _ _ _ (c .before .before .before .before .before .before .args .v) _ (c .before .before .before .p4 .given .1) (c .after-naked .ensures .0 _), (c .after-naked .ensures .1 .0, c .after-naked .ensures .1 .1))
+returns-9 c = (
+  stands _ _ _ (c .before .before .before .before .before .before .args .v) _
+      (c .before .before .before .p4 .given .1) (c .after-naked .ensures .0 _),
+  (c .after-naked .ensures .1 .0, c .after-naked .ensures .1 .1),
+)
 
 returns-10 : tie.Need-returns-10
-returns-10 c = (stands _ _ _ (c .before .before .before .before .before .args .v) _ (c .before .before .enum-told6 .given .1) (c .after-disabled .ensures .0 (c .before .before .before .before .before .args .v) _), (c .after-disabled .ensures .1 .0, c .after-disabled .ensures .1 .1))
+returns-10 c = (
+  stands _ _ _ (c .before .before .before .before .before .args .v) _ (c .before .before .enum-told6 .given .1)
+      (c .after-disabled .ensures .0 (c .before .before .before .before .before .args .v) _),
+  (c .after-disabled .ensures .1 .0, c .after-disabled .ensures .1 .1),
+)
 
 returns-11 : tie.Need-returns-11
-returns-11 c = (stands _ _ _ (c .before .before .before .before .args .v) _ (c .before .enum-told7 .given .1) (c .after-untyped .ensures .0 (c .before .before .before .before .args .v) _ _), (refl, c .after-untyped .ensures .1))
+returns-11 c = (
+  stands _ _ _ (c .before .before .before .before .args .v) _
+      (c .before .enum-told7 .given .1) (c .after-untyped .ensures .0 (c .before .before .before .before .args .v) _ _),
+  (refl, c .after-untyped .ensures .1),
+)
 
 returns-12 : tie.Need-returns-12
-returns-12 c = (stands _ _ _ (c .before .before .before .before .before .args .v) _ (c .before .before .enum-told8 .given .1) (c .after-single .ensures .0 (c .before .before .before .before .before .args .v) _), (c .after-single .ensures .1 .0, c .after-single .ensures .1 .1))
+returns-12 c = (
+  stands _ _ _ (c .before .before .before .before .before .args .v) _ (c .before .before .enum-told8 .given .1)
+      (c .after-single .ensures .0 (c .before .before .before .before .before .args .v) _),
+  (c .after-single .ensures .1 .0, c .after-single .ensures .1 .1),
+)
 
 returns-13 : tie.Need-returns-13
-returns-13 c = (stands _ _ _ (c .before .before .before .before .before .args .v) _ (c .before .before .enum-told9 .given .1) (c .after-reset .ensures .0 _), (c .after-reset .ensures .1 .0, c .after-reset .ensures .1 .1))
+returns-13 c = (
+  stands _ _ _ (c .before .before .before .before .before .args .v) _
+      (c .before .before .enum-told9 .given .1) (c .after-reset .ensures .0 _),
+  (c .after-reset .ensures .1 .0, c .after-reset .ensures .1 .1),
+)
 
 same-length : tie.Need-same-length
 same-length c = search needs

@@ -18,7 +18,15 @@ set-ep-type-requires c κs = search needs
 
 returns : tie.Need-returns
 unfolding afterWords afterType
-returns c = (λ b. simp (c .set-ep-type .ensures .0, c .before .before .with-on .ensures, c .before .before .before .both .ensures, c .before .before .before .before .load-globals .ensures), (c .set-ep-type .ensures .1, refl))
+returns c = (
+  λ b. simp (
+    c .set-ep-type .ensures .0,
+    c .before .before .with-on .ensures,
+    c .before .before .before .both .ensures,
+    c .before .before .before .before .load-globals .ensures,
+  ),
+  (c .set-ep-type .ensures .1, refl),
+)
 
 pub after-words-spec : {M : Type 1} → statement M
 after-words-spec =

@@ -14,7 +14,16 @@ store-ep-requires : tie.Need-store-ep-requires
 store-ep-requires c κs = search needs
 
 returns : tie.Need-returns
-returns c = (simp (c .store-ep .ensures .0, c .before .before .reset .ensures, c .before .before .before .load-ep .ensures, renew-both _ (view-sized _) _ _ (c .before .before .before .before .before .args .armed) (c .before .before .before .before .before .pre)), c .store-ep .ensures .1)
+returns c = (
+  simp (
+    c .store-ep .ensures .0,
+    c .before .before .reset .ensures,
+    c .before .before .before .load-ep .ensures,
+    renew-both _ (view-sized _) _ _
+        (c .before .before .before .before .before .args .armed) (c .before .before .before .before .before .pre),
+  ),
+  c .store-ep .ensures .1,
+)
 
 pub renew-spec : {M : Type 1} → statement M
 renew-spec = tie.close (tie.spec load-ep-requires reset-requires store-ep-requires returns)

@@ -84,25 +84,49 @@ resume-requires : tie.Need-resume-requires
 resume-requires c κs = (c .before .before .before .pre .0, later _ (c .before .match .keys7) (c .before .before .before .pre .1))
 
 returns : tie.Need-returns
-returns c = (stands _ _ _ (c .before .before .before .before .before .args .v) _ (c .before .before .p .given .1) (c .after-placed-out .ensures .0 (c .before .before .before .before .before .args .v) _ _), (refl, c .after-placed-out .ensures .1))
+returns c = (
+  stands _ _ _ (c .before .before .before .before .before .args .v) _ (c .before .before .p .given .1)
+      (c .after-placed-out .ensures .0 (c .before .before .before .before .before .args .v) _ _),
+  (refl, c .after-placed-out .ensures .1),
+)
 
 returns-2 : tie.Need-returns-2
-returns-2 c = (stands _ _ _ (c .before .before .before .before .before .args .v) _ (c .before .before .p2 .given .1) (c .after-placed-in .ensures .0 (c .before .before .before .before .before .args .v) _ _), (refl, c .after-placed-in .ensures .1))
+returns-2 c = (
+  stands _ _ _ (c .before .before .before .before .before .args .v) _ (c .before .before .p2 .given .1)
+      (c .after-placed-in .ensures .0 (c .before .before .before .before .before .args .v) _ _),
+  (refl, c .after-placed-in .ensures .1),
+)
 
 returns-3 : tie.Need-returns-3
-returns-3 c = (stands _ _ _ (c .before .before .before .before .before .args .v) _ (c .before .before .p3 .given .1) (c .after-no-length .ensures .0 _ _), (refl, c .after-no-length .ensures .1))
+returns-3 c = (
+  stands _ _ _ (c .before .before .before .before .before .args .v) _
+      (c .before .before .p3 .given .1) (c .after-no-length .ensures .0 _ _),
+  (refl, c .after-no-length .ensures .1),
+)
 
 returns-4 : tie.Need-returns-4
-returns-4 c = (stands _ _ _ (c .before .before .before .before .before .before .args .v) _ (c .before .before .before .p4 .given .1) (c .after-words .ensures .0 _), (c .after-words .ensures .1 .0, c .after-words .ensures .1 .1))
+returns-4 c = (
+  stands _ _ _ (c .before .before .before .before .before .before .args .v) _
+      (c .before .before .before .p4 .given .1) (c .after-words .ensures .0 _),
+  (c .after-words .ensures .1 .0, c .after-words .ensures .1 .1),
+)
 
 returns-5 : tie.Need-returns-5
-returns-5 c = (stands _ _ _ (c .before .before .before .before .before .before .args .v) _ (c .before .before .before .p5 .given .1) (c .after-type .ensures .0 _), (c .after-type .ensures .1 .0, c .after-type .ensures .1 .1))
+returns-5 c = (
+  stands _ _ _ (c .before .before .before .before .before .before .args .v) _
+      (c .before .before .before .p5 .given .1) (c .after-type .ensures .0 _),
+  (c .after-type .ensures .1 .0, c .after-type .ensures .1 .1),
+)
 
 same-length : tie.Need-same-length
 same-length c = search needs
 
 returns-6 : tie.Need-returns-6
-returns-6 c = (stands _ _ _ (c .before .before .before .before .before .before .before .before .before .args .v) _ (c .before .before .before .before .before .before .p6 .given .1) (c .before .before .after-switch .ensures .0), (c .before .before .after-switch .ensures .1 .0, c .before .before .after-switch .ensures .1 .1))
+returns-6 c = (
+  stands _ _ _ (c .before .before .before .before .before .before .before .before .before .args .v) _
+      (c .before .before .before .before .before .before .p6 .given .1) (c .before .before .after-switch .ensures .0),
+  (c .before .before .after-switch .ensures .1 .0, c .before .before .after-switch .ensures .1 .1),
+)
 
 returns-7 : tie.Need-returns-7
 returns-7 c = (c .resume .ensures .0 _, (c .resume .ensures .1 .0, c .resume .ensures .1 .1))

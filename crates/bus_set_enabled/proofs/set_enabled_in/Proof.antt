@@ -27,7 +27,17 @@ place-requires : tie.Need-place-requires
 place-requires c κs = search needs
 
 returns : tie.Need-returns
-returns c = (λ b. enable-in (c .before .before .before .before .before .before .before .before .before .args .e) (c .before .before .before .before .before .before .before .before .before .args .on) (view (now (c .before .before .before .before .before .before .before .before .before .args .s))) _ _ _ _ b (c .before .before .before .before .before .before .is-on .ensures ∙ ap (λ (r : EpState). isOn (r .iso)) (c .before .before .before .before .before .before .before .load-ep .ensures)) (c .before .before .store-paced .ensures .0 ∙ ap (λ (x : Driver). withPacedOn x (c .before .before .before .before .before .before .before .before .before .args .e) 0x1800) (c .before .before .before .before .renew .ensures .0)) (c .place .ensures .0) (c .place .ensures .1 .0), (c .place .ensures .1 .1 ∙ (c .before .before .store-paced .ensures .1 ∙ c .before .before .before .before .renew .ensures .1), refl))
+returns c = (
+  λ b. enable-in (c .before .before .before .before .before .before .before .before .before .args .e)
+      (c .before .before .before .before .before .before .before .before .before .args .on)
+      (view (now (c .before .before .before .before .before .before .before .before .before .args .s))) _ _ _ _ b
+      (c .before .before .before .before .before .before .is-on .ensures
+      ∙ ap (λ (r : EpState). isOn (r .iso)) (c .before .before .before .before .before .before .before .load-ep .ensures))
+      (c .before .before .store-paced .ensures .0
+      ∙ ap (λ (x : Driver). withPacedOn x (c .before .before .before .before .before .before .before .before .before .args .e) 0x1800)
+      (c .before .before .before .before .renew .ensures .0)) (c .place .ensures .0) (c .place .ensures .1 .0),
+  (c .place .ensures .1 .1 ∙ (c .before .before .store-paced .ensures .1 ∙ c .before .before .before .before .renew .ensures .1), refl),
+)
 
 pub set-enabled-in-spec : {M : Type 1} → statement M
 set-enabled-in-spec =

@@ -22,7 +22,15 @@ after-woken-requires-2 c κs = search needs
 
 returns-2 : tie.Need-returns-2
 unfolding afterRestart woken
-returns-2 c = (λ b. simp (c .after-woken2 .ensures .0, c .before .before .store-ep .ensures .0, c .before .before .before .before .load-ep .ensures, c .before .before .before .before .before .before .if1 .left), (c .after-woken2 .ensures .1 .0 ∙ c .before .before .store-ep .ensures .1, c .after-woken2 .ensures .1 .1))
+returns-2 c = (
+  λ b. simp (
+    c .after-woken2 .ensures .0,
+    c .before .before .store-ep .ensures .0,
+    c .before .before .before .before .load-ep .ensures,
+    c .before .before .before .before .before .before .if1 .left,
+  ),
+  (c .after-woken2 .ensures .1 .0 ∙ c .before .before .store-ep .ensures .1, c .after-woken2 .ensures .1 .1),
+)
 
 pub after-restart-spec : {M : Type 1} → statement M
 after-restart-spec =

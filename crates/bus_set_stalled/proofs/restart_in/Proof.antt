@@ -21,7 +21,15 @@ cast-t12 c = search needs
 
 returns : tie.Need-returns
 unfolding woken afterRestart
-returns c = (λ b. simp (c .store-ep .ensures .0, c .before .before .before .restarted-in .ensures, c .before .before .is-on .ensures, c .before .before .before .before .load-ep .ensures), (c .store-ep .ensures .1, refl))
+returns c = (
+  λ b. simp (
+    c .store-ep .ensures .0,
+    c .before .before .before .restarted-in .ensures,
+    c .before .before .is-on .ensures,
+    c .before .before .before .before .load-ep .ensures,
+  ),
+  (c .store-ep .ensures .1, refl),
+)
 
 pub restart-in-spec : {M : Type 1} → statement M
 restart-in-spec =

@@ -18,7 +18,10 @@ cast-t11 c = search needs
 
 returns : tie.Need-returns
 unfolding woken
-returns c = (λ b. simp (c .store-ep .ensures .0, c .before .before .restarted-out .ensures, c .before .before .before .load-ep .ensures), (c .store-ep .ensures .1, refl))
+returns c = (
+  λ b. simp (c .store-ep .ensures .0, c .before .before .restarted-out .ensures, c .before .before .before .load-ep .ensures),
+  (c .store-ep .ensures .1, refl),
+)
 
 pub restart-out-spec : {M : Type 1} → statement M
 restart-out-spec =

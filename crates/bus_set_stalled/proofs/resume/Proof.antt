@@ -60,7 +60,8 @@ enum-known-p-2 : tie.Need-enum-known-p-2
 enum-known-p-2 c = search needs
 
 after-stall-word-requires : tie.Need-after-stall-word-requires
-after-stall-word-requires c κs = fits-word (c .before .before .before .args .p) (c .before .before .before .args .v) _ _ (c .before .p2 .given .1) (c .before .before .before .pre .0)
+after-stall-word-requires c κs = fits-word (c .before .before .before .args .p)
+    (c .before .before .before .args .v) _ _ (c .before .p2 .given .1) (c .before .before .before .pre .0)
 
 enum-known-p-3 : tie.Need-enum-known-p-3
 enum-known-p-3 c = search needs
@@ -78,13 +79,19 @@ returns : tie.Need-returns
 returns c = (λ b. simp (c .after-stalled .ensures .0, c .before .enum-told .given .1), (refl, c .after-stalled .ensures .1))
 
 returns-2 : tie.Need-returns-2
-returns-2 c = (λ b. simp (c .after-stall-len .ensures .0 (c .before .before .before .before .args .v), c .before .before .p .given .1), (refl, c .after-stall-len .ensures .1))
+returns-2 c = (
+  λ b. simp (c .after-stall-len .ensures .0 (c .before .before .before .before .args .v), c .before .before .p .given .1),
+  (refl, c .after-stall-len .ensures .1),
+)
 
 returns-3 : tie.Need-returns-3
 returns-3 c = (λ b. simp (c .after-stall-word .ensures .0, c .before .before .p2 .given .1), (refl, c .after-stall-word .ensures .1))
 
 returns-4 : tie.Need-returns-4
-returns-4 c = (λ b. simp (c .after-restart .ensures .0, c .before .before .before .p3 .given .1), (c .after-restart .ensures .1 .0, c .after-restart .ensures .1 .1))
+returns-4 c = (
+  λ b. simp (c .after-restart .ensures .0, c .before .before .before .p3 .given .1),
+  (c .after-restart .ensures .1 .0, c .after-restart .ensures .1 .1),
+)
 
 returns-5 : tie.Need-returns-5
 returns-5 c = (λ b. simp (c .after-woken .ensures .0, c .before .before .before .p4 .given .1), (c .after-woken .ensures .1 .0, c .after-woken .ensures .1 .1))

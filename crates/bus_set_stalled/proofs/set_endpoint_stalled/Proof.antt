@@ -25,10 +25,16 @@ restart-in-requires : tie.Need-restart-in-requires
 restart-in-requires c κs = search needs
 
 returns-3 : tie.Need-returns-3
-returns-3 c = (λ b. simp (c .restart-out .ensures .0, c .before .before .before .enum-told .given .1, c .before .before .if1 .left), (c .restart-out .ensures .1 .0, c .restart-out .ensures .1 .1))
+returns-3 c = (
+  λ b. simp (c .restart-out .ensures .0, c .before .before .before .enum-told .given .1, c .before .before .if1 .left),
+  (c .restart-out .ensures .1 .0, c .restart-out .ensures .1 .1),
+)
 
 returns-4 : tie.Need-returns-4
-returns-4 c = (λ b. simp (c .restart-in .ensures .0, c .before .before .before .enum-told2 .given .1, c .before .before .if2 .left), (c .restart-in .ensures .1 .0, c .restart-in .ensures .1 .1))
+returns-4 c = (
+  λ b. simp (c .restart-in .ensures .0, c .before .before .before .enum-told2 .given .1, c .before .before .if2 .left),
+  (c .restart-in .ensures .1 .0, c .restart-in .ensures .1 .1),
+)
 
 pub set-endpoint-stalled-spec : {M : Type 1} → statement M
 set-endpoint-stalled-spec =

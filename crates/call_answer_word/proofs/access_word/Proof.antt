@@ -63,19 +63,31 @@ enum-told c = search needs
 
 returns : tie.Need-returns
 unfolding accessWord
-returns c = (simp (c .read-word .ensures, c .before .number .ensures, c .before .before .before .q .given .1), subst AccessFits (sym (c .before .before .before .q .given .1)) (search needs))
+returns c = (
+  simp (c .read-word .ensures, c .before .number .ensures, c .before .before .before .q .given .1),
+  subst AccessFits (sym (c .before .before .before .q .given .1)) (search needs),
+)
 
 returns-2 : tie.Need-returns-2
 unfolding accessWord
-returns-2 c = (simp (c .write-word .ensures, c .before .number2 .ensures, c .before .before .before .q2 .given .1), subst AccessFits (sym (c .before .before .before .q2 .given .1)) (search needs, search needs))
+returns-2 c = (
+  simp (c .write-word .ensures, c .before .number2 .ensures, c .before .before .before .q2 .given .1),
+  subst AccessFits (sym (c .before .before .before .q2 .given .1)) (search needs, search needs),
+)
 
 returns-3 : tie.Need-returns-3
 unfolding accessWord
-returns-3 c = (simp (c .write-word2 .ensures, c .before .before .q3 .given .1), subst AccessFits (sym (c .before .before .q3 .given .1)) (search needs, search needs))
+returns-3 c = (
+  simp (c .write-word2 .ensures, c .before .before .q3 .given .1),
+  subst AccessFits (sym (c .before .before .q3 .given .1)) (search needs, search needs),
+)
 
 returns-4 : tie.Need-returns-4
 unfolding accessWord
-returns-4 c = (simp (c .write-word3 .ensures, c .before .before .q4 .given .1), subst AccessFits (sym (c .before .before .q4 .given .1)) (search needs, search needs))
+returns-4 c = (
+  simp (c .write-word3 .ensures, c .before .before .q4 .given .1),
+  subst AccessFits (sym (c .before .before .q4 .given .1)) (search needs, search needs),
+)
 
 returns-5 : tie.Need-returns-5
 unfolding accessWord

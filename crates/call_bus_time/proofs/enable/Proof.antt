@@ -34,8 +34,14 @@ same-length c = search needs
 
 returns : tie.Need-returns
 returns c =
-    let x = c .before .before .before .before .before .before .before .before .before .before .before .args in
-    (λ a. turned (x .driver) (x .dir) (x .e) (decode (saved (now (x .s)))) (view (now (x .s))) a (now (x .slots)) (now (x .time)) (sym (c .before .is-accepted .ensures) ∙ c .if2 .taken) (rw (← c .before .before .before .before .before .before .before .before .before .entry .ensures .0, ← c .before .before .before .before .before .before .before .charge-on .ensures .0) (sym (c .before .before .before .before .before .passes .ensures) ∙ c .before .before .before .before .if1 .taken)), (λ h. refl, refl))
+    let x = c .before .before .before .before .before .before .before .before .before .before .before .args in (
+      λ a. turned (x .driver) (x .dir) (x .e) (decode (saved (now (x .s)))) (view (now (x .s))) a
+          (now (x .slots)) (now (x .time)) (sym (c .before .is-accepted .ensures) ∙ c .if2 .taken) (rw (
+            ← c .before .before .before .before .before .before .before .before .before .entry .ensures .0,
+            ← c .before .before .before .before .before .before .before .charge-on .ensures .0,
+          ) (sym (c .before .before .before .before .before .passes .ensures) ∙ c .before .before .before .before .if1 .taken)),
+      (λ h. refl, refl),
+    )
 
 begin-set-enabled-requires : tie.Need-begin-set-enabled-requires
 begin-set-enabled-requires c κs = search needs
@@ -45,16 +51,27 @@ same-length-2 c = search needs
 
 returns-2 : tie.Need-returns-2
 returns-2 c =
-    let x = c .before .before .before .before .before .before .before .before .before .before .before .before .before .before .before .before .args in
-    (λ a. stopped (x .driver) (x .dir) (x .e) (decode (saved (now (x .s)))) (view (now (x .s))) a (now (x .slots)) (now (x .time)) _ (sym (c .before .before .before .before .before .before .is-accepted .ensures) ∙ c .before .before .before .before .before .if2 .left) (c .before .before .begin-set-enabled .ensures .0 a), c .before .before .begin-set-enabled .ensures .1)
+    let x = c .before .before .before .before .before .before .before .before .before .before .before .before .before .before .before .before .args in (
+      λ a. stopped (x .driver) (x .dir) (x .e) (decode (saved (now (x .s)))) (view (now (x .s))) a (now (x .slots)) (now (x .time)) _
+          (sym (c .before .before .before .before .before .before .is-accepted .ensures)
+          ∙ c .before .before .before .before .before .if2 .left) (c .before .before .begin-set-enabled .ensures .0 a),
+      c .before .before .begin-set-enabled .ensures .1,
+    )
 
 begin-set-enabled-requires-2 : tie.Need-begin-set-enabled-requires-2
 begin-set-enabled-requires-2 c κs = search needs
 
 charged-requires : tie.Need-charged-requires
 charged-requires c κs =
-    let l = c .before .before .before .before .before .before .before .before .before .before .before .entry .ensures .1 in
-    (l, omega (arith, within _ _ _ l (sym (c .before .before .before .before .before .before .before .passes .ensures) ∙ c .before .before .before .before .before .before .if1 .left)))
+    let l = c .before .before .before .before .before .before .before .before .before .before .before .entry .ensures .1 in (
+      l,
+      omega (
+        arith,
+        within _ _ _ l
+            (sym (c .before .before .before .before .before .before .before .passes .ensures)
+            ∙ c .before .before .before .before .before .before .if1 .left),
+      ),
+    )
 
 same-length-3 : tie.Need-same-length-3
 same-length-3 c = search needs
@@ -63,8 +80,10 @@ returns-3 : tie.Need-returns-3
 returns-3 c =
     let k = c .before .before .before .before .before .before .before .before .before .before in
     let x = k .before .before .before .before .args in (
-      λ a. begun (x .driver) (x .dir) (x .e) (decode (saved (now (x .s)))) (view (now (x .s))) a (now (x .slots)) (now (x .time)) _ _ _ _ (k .before .before .entry .ensures .0) (k .charge-on .ensures .0)
-          (sym (c .before .before .before .before .before .before .before .before .passes .ensures) ∙ c .before .before .before .before .before .before .before .if1 .left)
+      λ a. begun (x .driver) (x .dir) (x .e) (decode (saved (now (x .s)))) (view (now (x .s))) a
+          (now (x .slots)) (now (x .time)) _ _ _ _ (k .before .before .entry .ensures .0) (k .charge-on .ensures .0)
+          (sym (c .before .before .before .before .before .before .before .before .passes .ensures)
+          ∙ c .before .before .before .before .before .before .before .if1 .left)
           (c .before .before .before .before .begin-set-enabled2 .ensures .0 a) (c .charged .ensures _),
       c .before .before .before .before .begin-set-enabled2 .ensures .1,
     )

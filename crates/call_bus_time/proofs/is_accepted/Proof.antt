@@ -20,7 +20,12 @@ is-allocated-requires c κs = search needs
 
 returns : tie.Need-returns
 unfolding accepts
-returns c = simp (← c .before .before .before .before .slots-fit .ensures, c .before .before .before .if1 .taken, ← c .before .before .stop .ensures, eq-eqb _ _ (c .before .if2 .taken)) (c .is-allocated .ensures)
+returns c = simp (
+  ← c .before .before .before .before .slots-fit .ensures,
+  c .before .before .before .if1 .taken,
+  ← c .before .before .stop .ensures,
+  eq-eqb _ _ (c .before .if2 .taken),
+) (c .is-allocated .ensures)
 
 returns-2 : tie.Need-returns-2
 unfolding accepts

@@ -19,8 +19,11 @@ started-requires c κs = search needs
 
 returns : tie.Need-returns
 returns c =
-    let x = c .before .before .before .before .before .args in
-    (λ a. settles (x .driver) (start (configOf (x .size) (x .count) (x .callback))) (machineOf (now (x .s)) a) (now (x .time)) (now (x .slots)) _ _ refl (c .before .before .start-up .ensures .0 a) (c .started .ensures _ _), c .before .before .start-up .ensures .1)
+    let x = c .before .before .before .before .before .args in (
+      λ a. settles (x .driver) (start (configOf (x .size) (x .count) (x .callback))) (machineOf (now (x .s)) a)
+          (now (x .time)) (now (x .slots)) _ _ refl (c .before .before .start-up .ensures .0 a) (c .started .ensures _ _),
+      c .before .before .start-up .ensures .1,
+    )
 
 pub start-up-spec : {M : Type 1} → statement M
 start-up-spec = tie.close (tie.spec start-up-requires started-requires returns)

@@ -43,7 +43,20 @@ suspend-or-end-requires c κs = c .start-up .ensures .1
 
 returns : tie.Need-returns
 unfolding startRow
-returns c = (λ a. simp (← c .before .before .before .before .before .before .before .before .before .good-buffer .ensures, c .before .before .before .before .before .before .before .before .if2 .taken, ← c .before .before .before .before .before .before .before .before .before .before .before .fits2 .ensures, c .before .before .before .before .before .before .before .before .before .before .if1 .taken) (c .suspend-or-end .ensures .0 _ ∙ simp (c .before .start-up .ensures .0, c .before .before .before .clear-wakes .ensures .0, c .before .before .before .before .before .fresh .ensures .0, c .before .before .before .before .before .before .flag-of .ensures)), c .suspend-or-end .ensures .1 _)
+returns c = (
+  λ a. simp (
+    ← c .before .before .before .before .before .before .before .before .before .good-buffer .ensures,
+    c .before .before .before .before .before .before .before .before .if2 .taken,
+    ← c .before .before .before .before .before .before .before .before .before .before .before .fits2 .ensures,
+    c .before .before .before .before .before .before .before .before .before .before .if1 .taken,
+  ) (c .suspend-or-end .ensures .0 _ ∙ simp (
+    c .before .start-up .ensures .0,
+    c .before .before .before .clear-wakes .ensures .0,
+    c .before .before .before .before .before .fresh .ensures .0,
+    c .before .before .before .before .before .before .flag-of .ensures,
+  )),
+  c .suspend-or-end .ensures .1 _,
+)
 
 returns-2 : tie.Need-returns-2
 unfolding startRow

@@ -21,7 +21,8 @@ enum-known-p : tie.Need-enum-known-p
 enum-known-p c = search needs
 
 byte-requires : tie.Need-byte-requires
-byte-requires c κs = ack-fits _ (c .before .before .before .args .v) (told-fits (c .before .before .before .args .v) (c .before .p .given .1) (c .before .before .before .pre))
+byte-requires c κs = ack-fits _ (c .before .before .before .args .v)
+    (told-fits (c .before .before .before .args .v) (c .before .p .given .1) (c .before .before .before .pre))
 
 ack-requires : tie.Need-ack-requires
 ack-requires c κs = search needs
@@ -96,7 +97,10 @@ returns : tie.Need-returns
 returns c = (λ b. simp (c .enum-told .given .1), (refl, tt))
 
 returns-2 : tie.Need-returns-2
-returns-2 c = (λ b. simp (c .ctrl-of .ensures, c .before .ack .ensures, c .before .before .byte .ensures, c .before .before .before .before .p .given .1), (refl, refl))
+returns-2 c = (
+  λ b. simp (c .ctrl-of .ensures, c .before .ack .ensures, c .before .before .byte .ensures, c .before .before .before .before .p .given .1),
+  (refl, refl),
+)
 
 returns-3 : tie.Need-returns-3
 returns-3 c = (λ b. simp (c .enum-told2 .given .1), (refl, refl))

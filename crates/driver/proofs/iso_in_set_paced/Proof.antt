@@ -22,7 +22,16 @@ store-paced-requires : tie.Need-store-paced-requires
 store-paced-requires c κs = search needs
 
 returns : tie.Need-returns
-returns c = (λ b. simp (c .store-paced .ensures .0, c .before .before .store-globals .ensures .0, c .before .before .before .before .mask-with .ensures, mod-eq-of-lt (c .before .before .before .before .before .before .before .pre), c .before .before .before .before .before .load-globals .ensures), simp (c .store-paced .ensures .1, c .before .before .store-globals .ensures .1))
+returns c = (
+  λ b. simp (
+    c .store-paced .ensures .0,
+    c .before .before .store-globals .ensures .0,
+    c .before .before .before .before .mask-with .ensures,
+    mod-eq-of-lt (c .before .before .before .before .before .before .before .pre),
+    c .before .before .before .before .before .load-globals .ensures,
+  ),
+  simp (c .store-paced .ensures .1, c .before .before .store-globals .ensures .1),
+)
 
 pub iso-in-set-paced-spec : {M : Type 1} → statement M
 iso-in-set-paced-spec =

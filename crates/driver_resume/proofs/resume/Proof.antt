@@ -120,7 +120,10 @@ returns-7 : tie.Need-returns-7
 returns-7 c = (λ b. simp (c .enum-told .given .1), (refl, tt))
 
 returns-8 : tie.Need-returns-8
-returns-8 c = (λ b. simp (c .after-max-len .ensures .0, c .before .before .before .p7 .given .1), (c .after-max-len .ensures .1 .0, c .after-max-len .ensures .1 .1))
+returns-8 c = (
+  λ b. simp (c .after-max-len .ensures .0, c .before .before .before .p7 .given .1),
+  (c .after-max-len .ensures .1 .0, c .after-max-len .ensures .1 .1),
+)
 
 returns-9 : tie.Need-returns-9
 returns-9 c = (λ b. simp (c .before .p8 .given .1), (refl, tt))
@@ -144,7 +147,10 @@ returns-15 : tie.Need-returns-15
 returns-15 c = (λ b. simp (c .after-frame-no .ensures .0, c .before .enum-told6 .given .1), (refl, c .after-frame-no .ensures .1))
 
 returns-16 : tie.Need-returns-16
-returns-16 c = (λ b. simp (c .after-max-len2 .ensures .0, c .before .before .before .p10 .given .1), (c .after-max-len2 .ensures .1 .0, c .after-max-len2 .ensures .1 .1))
+returns-16 c = (
+  λ b. simp (c .after-max-len2 .ensures .0, c .before .before .before .p10 .given .1),
+  (c .after-max-len2 .ensures .1 .0, c .after-max-len2 .ensures .1 .1),
+)
 
 returns-17 : tie.Need-returns-17
 returns-17 c = (λ b. simp (c .after .ensures .0, c .before .before .before .p11 .given .1), (refl, c .after .ensures .1))

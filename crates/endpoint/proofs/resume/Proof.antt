@@ -10,7 +10,8 @@ enum-known-p : tie.Need-enum-known-p
 enum-known-p c = search needs
 
 byte-requires : tie.Need-byte-requires
-byte-requires c κs = ack-fits (c .before .before .before .args .p) _ _ (c .before .before .before .args .v) (c .before .p .given .1) (c .before .before .before .pre)
+byte-requires c κs = ack-fits (c .before .before .before .args .p) _ _
+    (c .before .before .before .args .v) (c .before .p .given .1) (c .before .before .before .pre)
 
 ack-requires : tie.Need-ack-requires
 ack-requires c κs = search needs

@@ -20,8 +20,11 @@ same-length c = search needs
 returns : tie.Need-returns
 returns c =
     let s = c .before .before .before .before .before .before .before .args in
-    let k = c .before .before .before .before .available in
-    (k .ensures ∙ fetched-length (s .buf .now) (s .at) (s .n), c .before .before .copy-out .ensures ∙ fetched (s .buf .now) (s .out .now) (s .at) (s .n) (k .result) (k .ensures) (c .before .before .before .before .before .before .before .pre))
+    let k = c .before .before .before .before .available in (
+      k .ensures ∙ fetched-length (s .buf .now) (s .at) (s .n),
+      c .before .before .copy-out .ensures ∙ fetched (s .buf .now) (s .out .now)
+          (s .at) (s .n) (k .result) (k .ensures) (c .before .before .before .before .before .before .before .pre),
+    )
 
 pub fetch-spec : {M : Type 1} → statement M
 fetch-spec = tie.close (tie.spec available-requires copy-out-requires same-length returns)

@@ -29,7 +29,17 @@ mask-has-requires c κs = search needs
 
 returns : tie.Need-returns
 unfolding isAllocated
-returns c = simp (c .mask-has .ensures, c .before .before .before .low .ensures, mod-eq-of-lt (number-lt (c .before .before .before .before .before .before .before .args .e) (sym (c .before .before .before .before .before .before .is-number .ensures) ∙ c .before .before .before .before .before .if1 .taken)), c .before .before .before .before .load-allocator .ensures, c .before .enum-told .given .1, ← c .before .before .before .before .before .before .is-number .ensures, c .before .before .before .before .before .if1 .taken)
+returns c = simp (
+  c .mask-has .ensures,
+  c .before .before .before .low .ensures,
+  mod-eq-of-lt
+      (number-lt (c .before .before .before .before .before .before .before .args .e)
+      (sym (c .before .before .before .before .before .before .is-number .ensures) ∙ c .before .before .before .before .before .if1 .taken)),
+  c .before .before .before .before .load-allocator .ensures,
+  c .before .enum-told .given .1,
+  ← c .before .before .before .before .before .before .is-number .ensures,
+  c .before .before .before .before .before .if1 .taken,
+)
 
 enum-told-2 : tie.Need-enum-told-2
 enum-told-2 c = search needs
@@ -39,7 +49,17 @@ mask-has-requires-2 c κs = search needs
 
 returns-2 : tie.Need-returns-2
 unfolding isAllocated
-returns-2 c = simp (c .mask-has2 .ensures, c .before .before .before .low .ensures, mod-eq-of-lt (number-lt (c .before .before .before .before .before .before .before .args .e) (sym (c .before .before .before .before .before .before .is-number .ensures) ∙ c .before .before .before .before .before .if1 .taken)), c .before .before .before .before .load-allocator .ensures, c .before .enum-told2 .given .1, ← c .before .before .before .before .before .before .is-number .ensures, c .before .before .before .before .before .if1 .taken)
+returns-2 c = simp (
+  c .mask-has2 .ensures,
+  c .before .before .before .low .ensures,
+  mod-eq-of-lt
+      (number-lt (c .before .before .before .before .before .before .before .args .e)
+      (sym (c .before .before .before .before .before .before .is-number .ensures) ∙ c .before .before .before .before .before .if1 .taken)),
+  c .before .before .before .before .load-allocator .ensures,
+  c .before .enum-told2 .given .1,
+  ← c .before .before .before .before .before .before .is-number .ensures,
+  c .before .before .before .before .before .if1 .taken,
+)
 
 returns-3 : tie.Need-returns-3
 returns-3 c = sym (no-number _ _ _ (sym (c .before .is-number .ensures) ∙ c .if1 .left))

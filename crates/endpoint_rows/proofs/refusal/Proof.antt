@@ -12,11 +12,21 @@ is-allocated-requires c κs = search needs
 
 returns : tie.Need-returns
 unfolding refusalOf
-returns c = simp (← c .before .before .before .before .load-globals .ensures, eq-eqb _ _ (c .before .before .if1 .taken), ← c .before .is-allocated .ensures, c .if2 .taken)
+returns c = simp (
+  ← c .before .before .before .before .load-globals .ensures,
+  eq-eqb _ _ (c .before .before .if1 .taken),
+  ← c .before .is-allocated .ensures,
+  c .if2 .taken,
+)
 
 returns-2 : tie.Need-returns-2
 unfolding refusalOf
-returns-2 c = simp (← c .before .before .before .before .load-globals .ensures, eq-eqb _ _ (c .before .before .if1 .taken), ← c .before .is-allocated .ensures, c .if2 .left)
+returns-2 c = simp (
+  ← c .before .before .before .before .load-globals .ensures,
+  eq-eqb _ _ (c .before .before .if1 .taken),
+  ← c .before .is-allocated .ensures,
+  c .if2 .left,
+)
 
 returns-3 : tie.Need-returns-3
 unfolding refusalOf

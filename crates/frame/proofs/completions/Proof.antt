@@ -25,12 +25,22 @@ distance-requires c κs = search needs
 returns-2 : tie.Need-returns-2
 unfolding completions
 returns-2 c =
-    simp (← c .before .before .before .before .is-none .ensures, c .before .before .before .if1 .left, ← c .before .before .microframe-index .ensures, ← c .before .distance .ensures) (omega arith)
+    simp (
+      ← c .before .before .before .before .is-none .ensures,
+      c .before .before .before .if1 .left,
+      ← c .before .before .microframe-index .ensures,
+      ← c .before .distance .ensures,
+    ) (omega arith)
 
 returns-3 : tie.Need-returns-3
 unfolding completions
 returns-3 c =
-    simp (← c .before .before .before .before .is-none .ensures, c .before .before .before .if1 .left, ← c .before .before .microframe-index .ensures, ← c .before .distance .ensures) (omega arith)
+    simp (
+      ← c .before .before .before .before .is-none .ensures,
+      c .before .before .before .if1 .left,
+      ← c .before .before .microframe-index .ensures,
+      ← c .before .distance .ensures,
+    ) (omega arith)
 
 pub completions-spec : {M : Type 1} → statement M
 completions-spec =

@@ -21,8 +21,12 @@ returns c =
     let the-after-check = c .ep0-moved-on in
     let a = c .before .before .before .before .before .args in
     let the-is-sof = c .before .before .before .is-sof in
-    let the-if1 = c .before .before .if1 in
-    (then-on (the-after-check .ensures .0 _) (when-no (a .setup) (isoOutCheck (a .x) (a .iso)) (λ _ u. run concrete (afterCheck (a .x)) u) _ _ (tells-not _ _ _ (the-is-sof .ensures) (the-if1 .taken))), the-after-check .ensures .1)
+    let the-if1 = c .before .before .if1 in (
+      then-on (the-after-check .ensures .0 _)
+          (when-no (a .setup) (isoOutCheck (a .x) (a .iso))
+          (λ _ u. run concrete (afterCheck (a .x)) u) _ _ (tells-not _ _ _ (the-is-sof .ensures) (the-if1 .taken))),
+      the-after-check .ensures .1,
+    )
 
 iso-out-check-requires : tie.Need-iso-out-check-requires
 iso-out-check-requires c κs = search needs
@@ -42,8 +46,13 @@ returns-2 c =
     let a = c .before .before .before .before .before .before .before .before .before .before .before .args in
     let the-begin = c .before .before .before .before .before .iso-out-check in
     let the-is-sof = c .before .before .before .before .before .before .before .before .before .is-sof in
-    let the-if1 = c .before .before .before .before .before .before .before .before .if1 in
-    (then-on (the-checked .ensures .0) (after (a .setup) (λ _ u. run concrete (afterCheck (a .x)) u) _ _ (the-begin .ensures .0) ∙ when-yes (a .setup) (isoOutCheck (a .x) (a .iso)) (λ _ u. run concrete (afterCheck (a .x)) u) _ _ (tells-not _ _ _ (the-is-sof .ensures) (the-if1 .left))), the-checked .ensures .1)
+    let the-if1 = c .before .before .before .before .before .before .before .before .if1 in (
+      then-on (the-checked .ensures .0)
+          (after (a .setup) (λ _ u. run concrete (afterCheck (a .x)) u) _ _ (the-begin .ensures .0)
+          ∙ when-yes (a .setup) (isoOutCheck (a .x) (a .iso))
+          (λ _ u. run concrete (afterCheck (a .x)) u) _ _ (tells-not _ _ _ (the-is-sof .ensures) (the-if1 .left))),
+      the-checked .ensures .1,
+    )
 
 pub after-dispatch-spec : {M : Type 1} → statement M
 after-dispatch-spec =

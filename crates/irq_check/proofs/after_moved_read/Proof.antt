@@ -23,8 +23,10 @@ returns : tie.Need-returns
 returns c =
     let the-stand-moved-wrote = c .stand-moved-wrote in
     let the-nakflip = c .before .before .before .nakflip in
-    let the-byte = c .before .before .before .before .byte in
-    (λ b. stops-at (the-stand-moved-wrote .ensures) (refl) b (simp (c .before .ctrl-of .ensures, the-nakflip .ensures, the-byte .ensures)), stored-at (the-stand-moved-wrote .ensures))
+    let the-byte = c .before .before .before .before .byte in (
+      λ b. stops-at (the-stand-moved-wrote .ensures) (refl) b (simp (c .before .ctrl-of .ensures, the-nakflip .ensures, the-byte .ensures)),
+      stored-at (the-stand-moved-wrote .ensures),
+    )
 
 pub after-moved-read-spec : {M : Type 1} → statement M
 after-moved-read-spec =

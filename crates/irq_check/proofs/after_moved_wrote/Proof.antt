@@ -20,8 +20,10 @@ returns c =
     let the-after-transfer = c .after-transfer in
     let the-wake = c .before .before .wake in
     let the-store-ep = c .before .before .before .before .store-ep in
-    let the-load-ep = c .before .before .before .before .before .before .load-ep in
-    (λ v b. then-on (the-after-transfer .ensures .0 b) (simp (the-wake .ensures .0, the-store-ep .ensures .0, the-load-ep .ensures)), the-after-transfer .ensures .1)
+    let the-load-ep = c .before .before .before .before .before .before .load-ep in (
+      λ v b. then-on (the-after-transfer .ensures .0 b) (simp (the-wake .ensures .0, the-store-ep .ensures .0, the-load-ep .ensures)),
+      the-after-transfer .ensures .1,
+    )
 
 pub after-moved-wrote-spec : {M : Type 1} → statement M
 after-moved-wrote-spec =

@@ -45,8 +45,11 @@ returns c =
     let the-endpoint = c .before .before .before .before .before .before .endpoint in
     let the-if1 = c .before .before .before .before .before .if1 in
     let the-token = c .before .before .before .before .token in
-    let the-enum-told = c .before .before .enum-told in
-    (λ b. then-on (the-moved-on .ensures .0 b) (simp (← the-endpoint .ensures, eq-eqb _ _ (the-if1 .taken), ← the-token .ensures, the-enum-told .given .1)), the-moved-on .ensures .1)
+    let the-enum-told = c .before .before .enum-told in (
+      λ b. then-on (the-moved-on .ensures .0 b)
+          (simp (← the-endpoint .ensures, eq-eqb _ _ (the-if1 .taken), ← the-token .ensures, the-enum-told .given .1)),
+      the-moved-on .ensures .1,
+    )
 
 returns-2 : tie.Need-returns-2
 unfolding afterCheck
@@ -55,8 +58,11 @@ returns-2 c =
     let the-endpoint = c .before .before .before .before .before .before .endpoint in
     let the-if1 = c .before .before .before .before .before .if1 in
     let the-token = c .before .before .before .before .token in
-    let the-enum-told2 = c .before .before .enum-told2 in
-    (λ b. then-on (the-moved-on2 .ensures .0 b) (simp (← the-endpoint .ensures, eq-eqb _ _ (the-if1 .taken), ← the-token .ensures, the-enum-told2 .given .1)), the-moved-on2 .ensures .1)
+    let the-enum-told2 = c .before .before .enum-told2 in (
+      λ b. then-on (the-moved-on2 .ensures .0 b)
+          (simp (← the-endpoint .ensures, eq-eqb _ _ (the-if1 .taken), ← the-token .ensures, the-enum-told2 .given .1)),
+      the-moved-on2 .ensures .1,
+    )
 
 returns-3 : tie.Need-returns-3
 unfolding afterCheck
@@ -65,8 +71,11 @@ returns-3 c =
     let the-endpoint = c .before .before .before .before .before .before .endpoint in
     let the-if1 = c .before .before .before .before .before .if1 in
     let the-token = c .before .before .before .before .token in
-    let the-enum-told3 = c .before .before .enum-told3 in
-    (λ b. then-on (the-after-transfer .ensures .0 b) (simp (← the-endpoint .ensures, eq-eqb _ _ (the-if1 .taken), ← the-token .ensures, the-enum-told3 .given .1)), the-after-transfer .ensures .1)
+    let the-enum-told3 = c .before .before .enum-told3 in (
+      λ b. then-on (the-after-transfer .ensures .0 b)
+          (simp (← the-endpoint .ensures, eq-eqb _ _ (the-if1 .taken), ← the-token .ensures, the-enum-told3 .given .1)),
+      the-after-transfer .ensures .1,
+    )
 
 returns-4 : tie.Need-returns-4
 unfolding afterCheck
@@ -75,8 +84,11 @@ returns-4 c =
     let the-endpoint = c .before .before .before .before .before .before .endpoint in
     let the-if1 = c .before .before .before .before .before .if1 in
     let the-token = c .before .before .before .before .token in
-    let the-enum-told4 = c .before .before .enum-told4 in
-    (λ b. then-on (the-after-transfer2 .ensures .0 b) (simp (← the-endpoint .ensures, eq-eqb _ _ (the-if1 .taken), ← the-token .ensures, the-enum-told4 .given .1)), the-after-transfer2 .ensures .1)
+    let the-enum-told4 = c .before .before .enum-told4 in (
+      λ b. then-on (the-after-transfer2 .ensures .0 b)
+          (simp (← the-endpoint .ensures, eq-eqb _ _ (the-if1 .taken), ← the-token .ensures, the-enum-told4 .given .1)),
+      the-after-transfer2 .ensures .1,
+    )
 
 returns-5 : tie.Need-returns-5
 unfolding afterCheck

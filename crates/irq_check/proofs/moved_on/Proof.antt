@@ -22,8 +22,11 @@ returns c =
     let the-ctrl-of = c .before .ctrl-of in
     let the-load-ep = c .before .before .before .before .before .load-ep in
     let the-is-on = c .before .before .before .before .is-on in
-    let the-if1 = c .before .before .before .if1 in
-    (λ b. stops-at (the-stand-moved-read .ensures) (simp (the-ctrl-of .ensures, word-width)) b (simp (the-ctrl-of .ensures, ← the-load-ep .ensures, ← the-is-on .ensures, the-if1 .taken)), stored-at (the-stand-moved-read .ensures))
+    let the-if1 = c .before .before .before .if1 in (
+      λ b. stops-at (the-stand-moved-read .ensures) (simp (the-ctrl-of .ensures, word-width)) b
+          (simp (the-ctrl-of .ensures, ← the-load-ep .ensures, ← the-is-on .ensures, the-if1 .taken)),
+      stored-at (the-stand-moved-read .ensures),
+    )
 
 after-transfer-requires : tie.Need-after-transfer-requires
 after-transfer-requires c κs = search needs

@@ -30,8 +30,13 @@ returns c =
     let the-short = c .before .before .before .before .before .before .before .short in
     let the-begin = c .before .before .nak-non-iso in
     let the-naks-first = c .before .before .before .before .before .naks-first in
-    let the-if1 = c .before .before .before .before .if1 in
-    (λ b. then-on (the-then-nak .ensures .0 b) (entered-nak (a .setup) (a .busy) (a .st) _ _ _ b (the-entered .ensures ∙ ap (λ (z : ℕ). enteredAs (a .busy) (a .st) z) (the-short .ensures)) (the-begin .result) (the-begin .ensures .0 b) (tells _ _ _ (the-naks-first .ensures) (the-if1 .taken))), the-then-nak .ensures .1)
+    let the-if1 = c .before .before .before .before .if1 in (
+      λ b. then-on (the-then-nak .ensures .0 b)
+          (entered-nak (a .setup) (a .busy)
+          (a .st) _ _ _ b (the-entered .ensures ∙ ap (λ (z : ℕ). enteredAs (a .busy) (a .st) z) (the-short .ensures))
+          (the-begin .result) (the-begin .ensures .0 b) (tells _ _ _ (the-naks-first .ensures) (the-if1 .taken))),
+      the-then-nak .ensures .1,
+    )
 
 release-requires : tie.Need-release-requires
 release-requires c κs = search needs
@@ -43,8 +48,12 @@ returns-2 c =
     let the-entered = c .before .before .before .before .entered in
     let the-short = c .before .before .before .before .before .short in
     let the-naks-first = c .before .before .before .naks-first in
-    let the-if1 = c .before .before .if1 in
-    (λ b. then-on (the-release .ensures .0 b) (entered-free (a .setup) (a .busy) (a .st) _ _ _ b (the-entered .ensures ∙ ap (λ (z : ℕ). enteredAs (a .busy) (a .st) z) (the-short .ensures)) (tells _ _ _ (the-naks-first .ensures) (the-if1 .left))), the-release .ensures .1)
+    let the-if1 = c .before .before .if1 in (
+      λ b. then-on (the-release .ensures .0 b)
+          (entered-free (a .setup) (a .busy) (a .st) _ _ _ b (the-entered .ensures
+          ∙ ap (λ (z : ℕ). enteredAs (a .busy) (a .st) z) (the-short .ensures)) (tells _ _ _ (the-naks-first .ensures) (the-if1 .left))),
+      the-release .ensures .1,
+    )
 
 pub after-len-spec : {M : Type 1} → statement M
 after-len-spec =

@@ -17,8 +17,11 @@ returns : tie.Need-returns
 returns c =
     let the-then-nak = c .then-nak in
     let a = c .before .before .before .args in
-    let the-resume = c .before .before .nak-non-iso-resume in
-    (λ b. then-on (the-then-nak .ensures .0 b) (after (a .setup) (λ _ u. run concrete (afterNak (a .x)) u) _ _ (the-resume .ensures .0 _ b)), the-then-nak .ensures .1)
+    let the-resume = c .before .before .nak-non-iso-resume in (
+      λ b. then-on (the-then-nak .ensures .0 b)
+          (after (a .setup) (λ _ u. run concrete (afterNak (a .x)) u) _ _ (the-resume .ensures .0 _ b)),
+      the-then-nak .ensures .1,
+    )
 
 pub after-naking-spec : {M : Type 1} → statement M
 after-naking-spec =

@@ -18,8 +18,10 @@ unfolding afterRelease
 returns c =
     let the-then-settle = c .then-settle in
     let a = c .before .before .before .before .args in
-    let the-begin = c .before .before .begin in
-    (λ b. then-on (the-then-settle .ensures .0 b) (after (a .setup) (λ y u. run concrete (afterSettle y) u) _ _ (the-begin .ensures .0 b)), the-then-settle .ensures .1)
+    let the-begin = c .before .before .begin in (
+      λ b. then-on (the-then-settle .ensures .0 b) (after (a .setup) (λ y u. run concrete (afterSettle y) u) _ _ (the-begin .ensures .0 b)),
+      the-then-settle .ensures .1,
+    )
 
 pub after-released-spec : {M : Type 1} → statement M
 after-released-spec =

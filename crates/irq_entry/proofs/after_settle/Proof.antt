@@ -27,8 +27,11 @@ returns c =
     let the-iso-for = c .before .before .iso-for in
     let the-load-ep2 = c .before .before .before .load-ep2 in
     let the-load-ep = c .before .before .before .before .before .load-ep in
-    let the-endpoint = c .before .before .before .before .before .before .before .endpoint in
-    (λ b. stops-at (the-stand-frame-no .ensures) (refl) b (simp (the-iso-for .ensures, the-load-ep2 .ensures, the-load-ep .ensures, the-endpoint .ensures)), stored-at (the-stand-frame-no .ensures))
+    let the-endpoint = c .before .before .before .before .before .before .before .endpoint in (
+      λ b. stops-at (the-stand-frame-no .ensures)
+          (refl) b (simp (the-iso-for .ensures, the-load-ep2 .ensures, the-load-ep .ensures, the-endpoint .ensures)),
+      stored-at (the-stand-frame-no .ensures),
+    )
 
 pub after-settle-spec : {M : Type 1} → statement M
 after-settle-spec =

@@ -17,8 +17,11 @@ returns : tie.Need-returns
 returns c =
     let the-then-settle = c .then-settle in
     let a = c .before .before .before .before .args in
-    let the-resume = c .before .before .resume in
-    (λ b. then-on (the-then-settle .ensures .0 b) (after (a .setup) (λ y u. run concrete (afterSettle y) u) _ _ (the-resume .ensures .0 b)), the-then-settle .ensures .1)
+    let the-resume = c .before .before .resume in (
+      λ b. then-on (the-then-settle .ensures .0 b)
+          (after (a .setup) (λ y u. run concrete (afterSettle y) u) _ _ (the-resume .ensures .0 b)),
+      the-then-settle .ensures .1,
+    )
 
 pub after-settling-spec : {M : Type 1} → statement M
 after-settling-spec =

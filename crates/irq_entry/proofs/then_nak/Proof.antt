@@ -23,15 +23,21 @@ returns : tie.Need-returns
 returns c =
     let the-stand-nak = c .stand-nak in
     let the-n = c .before .before .before .n in
-    let a = c .before .before .before .before .before .args in
-    (λ b. stops-at (the-stand-nak .ensures) (nak-linked _ _ _ (the-n .given .1) ((c .before .before .before .before .before .pre))) b (nak-asks (a .setup) (λ _ u. run concrete (afterNak (a .x)) u) _ _ b ((a .x) .st) _ _ (the-n .given .1)), stored-at (the-stand-nak .ensures))
+    let a = c .before .before .before .before .before .args in (
+      λ b. stops-at (the-stand-nak .ensures) (nak-linked _ _ _ (the-n .given .1) ((c .before .before .before .before .before .pre))) b
+          (nak-asks (a .setup) (λ _ u. run concrete (afterNak (a .x)) u) _ _ b ((a .x) .st) _ _ (the-n .given .1)),
+      stored-at (the-stand-nak .ensures),
+    )
 
 returns-2 : tie.Need-returns-2
 returns-2 c =
     let the-release = c .release in
     let a = c .before .before .before .before .args in
-    let the-enum-told = c .before .before .enum-told in
-    (λ b. then-on (the-release .ensures .0 b) (nak-ends (a .setup) (λ _ u. run concrete (afterNak (a .x)) u) _ b ((a .x) .st) _ (the-enum-told .given .1)), the-release .ensures .1)
+    let the-enum-told = c .before .before .enum-told in (
+      λ b. then-on (the-release .ensures .0 b)
+          (nak-ends (a .setup) (λ _ u. run concrete (afterNak (a .x)) u) _ b ((a .x) .st) _ (the-enum-told .given .1)),
+      the-release .ensures .1,
+    )
 
 pub then-nak-spec : {M : Type 1} → statement M
 then-nak-spec =

@@ -23,15 +23,21 @@ returns : tie.Need-returns
 returns c =
     let the-stand-settle = c .stand-settle in
     let the-n = c .before .before .before .n in
-    let a = c .before .before .before .before .before .args in
-    (λ b. stops-at (the-stand-settle .ensures) (settle-linked _ _ _ (the-n .given .1) ((c .before .before .before .before .before .pre))) b (settle-asks (a .setup) (λ y u. run concrete (afterSettle y) u) _ b (a .x) _ _ _ (the-n .given .1)), stored-at (the-stand-settle .ensures))
+    let a = c .before .before .before .before .before .args in (
+      λ b. stops-at (the-stand-settle .ensures) (settle-linked _ _ _ (the-n .given .1) ((c .before .before .before .before .before .pre))) b
+          (settle-asks (a .setup) (λ y u. run concrete (afterSettle y) u) _ b (a .x) _ _ _ (the-n .given .1)),
+      stored-at (the-stand-settle .ensures),
+    )
 
 returns-2 : tie.Need-returns-2
 returns-2 c =
     let the-after-settle = c .after-settle in
     let a = c .before .before .before .before .before .args in
-    let the-n2 = c .before .before .before .n2 in
-    (λ b. then-on (the-after-settle .ensures .0 b) (settle-ends (a .setup) (λ y u. run concrete (afterSettle y) u) _ b (a .x) _ _ (the-n2 .given .1)), the-after-settle .ensures .1)
+    let the-n2 = c .before .before .before .n2 in (
+      λ b. then-on (the-after-settle .ensures .0 b)
+          (settle-ends (a .setup) (λ y u. run concrete (afterSettle y) u) _ b (a .x) _ _ (the-n2 .given .1)),
+      the-after-settle .ensures .1,
+    )
 
 pub then-settle-spec : {M : Type 1} → statement M
 then-settle-spec =

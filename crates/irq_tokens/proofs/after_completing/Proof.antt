@@ -22,8 +22,11 @@ returns : tie.Need-returns
 returns c =
     let the-then-complete = c .before .before .then-complete in
     let a = c .before .before .before .before .before .before .before .before .args in
-    let the-resume = c .before .before .before .before .before .iso-in-complete-resume in
-    (λ v. then-on (the-then-complete .ensures .0) (after (a .setup) (λ _ u. run concrete (afterDispatch (a .x) (a .iso)) u) _ _ (the-resume .ensures .0 _)), the-then-complete .ensures .1)
+    let the-resume = c .before .before .before .before .before .iso-in-complete-resume in (
+      λ v. then-on (the-then-complete .ensures .0)
+          (after (a .setup) (λ _ u. run concrete (afterDispatch (a .x) (a .iso)) u) _ _ (the-resume .ensures .0 _)),
+      the-then-complete .ensures .1,
+    )
 
 pub after-completing-spec : {M : Type 1} → statement M
 after-completing-spec =

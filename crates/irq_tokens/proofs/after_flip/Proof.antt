@@ -23,8 +23,10 @@ returns : tie.Need-returns
 returns c =
     let the-stand-flipped = c .stand-flipped in
     let the-flip = c .before .before .before .flip in
-    let the-byte = c .before .before .before .before .byte in
-    (λ b. stops-at (the-stand-flipped .ensures) (refl) b (simp (c .before .ctrl-of .ensures, the-flip .ensures, the-byte .ensures)), stored-at (the-stand-flipped .ensures))
+    let the-byte = c .before .before .before .before .byte in (
+      λ b. stops-at (the-stand-flipped .ensures) (refl) b (simp (c .before .ctrl-of .ensures, the-flip .ensures, the-byte .ensures)),
+      stored-at (the-stand-flipped .ensures),
+    )
 
 pub after-flip-spec : {M : Type 1} → statement M
 after-flip-spec =

@@ -20,8 +20,11 @@ returns : tie.Need-returns
 returns c =
     let the-after-dispatch = c .before .before .after-dispatch in
     let a = c .before .before .before .before .before .before .before .before .args in
-    let the-flip-done = c .before .before .before .before .before .flip-done in
-    (λ v. then-on (the-after-dispatch .ensures .0) (after (a .setup) (λ _ u. run concrete (afterDispatch (a .x) (a .iso)) u) _ _ (the-flip-done .ensures .0 _)), the-after-dispatch .ensures .1)
+    let the-flip-done = c .before .before .before .before .before .flip-done in (
+      λ v. then-on (the-after-dispatch .ensures .0)
+          (after (a .setup) (λ _ u. run concrete (afterDispatch (a .x) (a .iso)) u) _ _ (the-flip-done .ensures .0 _)),
+      the-after-dispatch .ensures .1,
+    )
 
 pub after-flipped-spec : {M : Type 1} → statement M
 after-flipped-spec =

@@ -22,8 +22,11 @@ returns : tie.Need-returns
 returns c =
     let the-then-sof-arm = c .before .before .then-sof-arm in
     let a = c .before .before .before .before .before .before .before .before .args in
-    let the-resume = c .before .before .before .before .before .on-sof-resume in
-    (then-on (the-then-sof-arm .ensures .0) (after (a .setup) (λ _ u. run concrete (afterDispatch (a .x) (a .iso)) u) _ _ (the-resume .ensures .0 _)), the-then-sof-arm .ensures .1)
+    let the-resume = c .before .before .before .before .before .on-sof-resume in (
+      then-on (the-then-sof-arm .ensures .0)
+          (after (a .setup) (λ _ u. run concrete (afterDispatch (a .x) (a .iso)) u) _ _ (the-resume .ensures .0 _)),
+      the-then-sof-arm .ensures .1,
+    )
 
 pub after-sof-arm-spec : {M : Type 1} → statement M
 after-sof-arm-spec =

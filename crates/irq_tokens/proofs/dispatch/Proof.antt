@@ -40,8 +40,11 @@ returns c =
     let the-sof-arm = c .before .before .sof-arm in
     let a = c .before .before .before .before .before .before .before .before .before .args in
     let the-enum-told = c .before .before .before .before .before .enum-told in
-    let the-token = c .before .before .before .before .before .before .before .token in
-    (then-on (the-sof-arm .ensures .0) (dispatched (thenCheck (a .setup) (a .x) (a .iso)) (a .x) (a .iso) (a .frame) _ _ _ _ (the-enum-told .given .1) (the-token .ensures)), the-sof-arm .ensures .1)
+    let the-token = c .before .before .before .before .before .before .before .token in (
+      then-on (the-sof-arm .ensures .0)
+          (dispatched (thenCheck (a .setup) (a .x) (a .iso)) (a .x) (a .iso) (a .frame) _ _ _ _ (the-enum-told .given .1) (the-token .ensures)),
+      the-sof-arm .ensures .1,
+    )
 
 same-length-2 : tie.Need-same-length-2
 same-length-2 c = search needs
@@ -51,8 +54,11 @@ returns-2 c =
     let the-out-arm = c .before .before .out-arm in
     let a = c .before .before .before .before .before .before .before .before .before .args in
     let the-enum-told2 = c .before .before .before .before .before .enum-told2 in
-    let the-token = c .before .before .before .before .before .before .before .token in
-    (then-on (the-out-arm .ensures .0) (dispatched (thenCheck (a .setup) (a .x) (a .iso)) (a .x) (a .iso) (a .frame) _ _ _ _ (the-enum-told2 .given .1) (the-token .ensures)), the-out-arm .ensures .1)
+    let the-token = c .before .before .before .before .before .before .before .token in (
+      then-on (the-out-arm .ensures .0)
+          (dispatched (thenCheck (a .setup) (a .x) (a .iso)) (a .x) (a .iso) (a .frame) _ _ _ _ (the-enum-told2 .given .1) (the-token .ensures)),
+      the-out-arm .ensures .1,
+    )
 
 same-length-3 : tie.Need-same-length-3
 same-length-3 c = search needs
@@ -62,8 +68,11 @@ returns-3 c =
     let the-in-arm = c .before .before .in-arm in
     let a = c .before .before .before .before .before .before .before .before .before .args in
     let the-enum-told3 = c .before .before .before .before .before .enum-told3 in
-    let the-token = c .before .before .before .before .before .before .before .token in
-    (then-on (the-in-arm .ensures .0) (dispatched (thenCheck (a .setup) (a .x) (a .iso)) (a .x) (a .iso) (a .frame) _ _ _ _ (the-enum-told3 .given .1) (the-token .ensures)), the-in-arm .ensures .1)
+    let the-token = c .before .before .before .before .before .before .before .token in (
+      then-on (the-in-arm .ensures .0)
+          (dispatched (thenCheck (a .setup) (a .x) (a .iso)) (a .x) (a .iso) (a .frame) _ _ _ _ (the-enum-told3 .given .1) (the-token .ensures)),
+      the-in-arm .ensures .1,
+    )
 
 same-length-4 : tie.Need-same-length-4
 same-length-4 c = search needs
@@ -73,8 +82,11 @@ returns-4 c =
     let the-after-dispatch = c .before .before .after-dispatch in
     let a = c .before .before .before .before .before .before .before .before .before .args in
     let the-enum-told4 = c .before .before .before .before .before .enum-told4 in
-    let the-token = c .before .before .before .before .before .before .before .token in
-    (then-on (the-after-dispatch .ensures .0) (dispatched (thenCheck (a .setup) (a .x) (a .iso)) (a .x) (a .iso) (a .frame) _ _ _ _ (the-enum-told4 .given .1) (the-token .ensures)), the-after-dispatch .ensures .1)
+    let the-token = c .before .before .before .before .before .before .before .token in (
+      then-on (the-after-dispatch .ensures .0)
+          (dispatched (thenCheck (a .setup) (a .x) (a .iso)) (a .x) (a .iso) (a .frame) _ _ _ _ (the-enum-told4 .given .1) (the-token .ensures)),
+      the-after-dispatch .ensures .1,
+    )
 
 pub dispatch-spec : {M : Type 1} → statement M
 dispatch-spec =

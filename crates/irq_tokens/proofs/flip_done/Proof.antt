@@ -26,7 +26,11 @@ returns : tie.Need-returns
 returns c = (λ b. flipped-known _ _ _ _ _ (c .before .before .enum-told .given .1) (c .received .ensures .0 b), c .received .ensures .1)
 
 returns-2 : tie.Need-returns-2
-returns-2 c = (λ b. c .sent .ensures .0 b ∙ flip-in _ _ b _ _ _ (c .before .before .before .before .load-ep .ensures) (c .before .before .store-ep .ensures .0) (c .before .before .before .before .before .before .enum-told2 .given .1), c .sent .ensures .1 ∙ c .before .before .store-ep .ensures .1)
+returns-2 c = (
+  λ b. c .sent .ensures .0 b ∙ flip-in _ _ b _ _ _ (c .before .before .before .before .load-ep .ensures)
+      (c .before .before .store-ep .ensures .0) (c .before .before .before .before .before .before .enum-told2 .given .1),
+  c .sent .ensures .1 ∙ c .before .before .store-ep .ensures .1,
+)
 
 pub flip-done-spec : {M : Type 1} → statement M
 flip-done-spec =

@@ -32,8 +32,12 @@ returns-2 c =
     let a = c .before .before .before .before .before .before .args in
     let the-endpoint = c .before .before .before .endpoint in
     let the-if2 = c .before .before .if2 in
-    let the-if1 = c .before .before .before .before .if1 in
-    (stops-at (the-stand-flip .ensures) (refl) _ (test-yes (thenCheck (a .setup) (a .x) (a .iso)) _ _ _ (at-zero _ _ _ (the-endpoint .ensures) (eq-eqb _ _ (the-if2 .taken))) ∙ test-no (thenCheck (a .setup) (a .x) (a .iso)) (a .iso) _ _ (the-if1 .left)), stored-at (the-stand-flip .ensures))
+    let the-if1 = c .before .before .before .before .if1 in (
+      stops-at (the-stand-flip .ensures) (refl) _
+          (test-yes (thenCheck (a .setup) (a .x) (a .iso)) _ _ _ (at-zero _ _ _ (the-endpoint .ensures) (eq-eqb _ _ (the-if2 .taken)))
+          ∙ test-no (thenCheck (a .setup) (a .x) (a .iso)) (a .iso) _ _ (the-if1 .left)),
+      stored-at (the-stand-flip .ensures),
+    )
 
 toggled-arm-requires : tie.Need-toggled-arm-requires
 toggled-arm-requires c κs = search needs
@@ -47,8 +51,12 @@ returns-3 c =
     let a = c .before .before .before .before .before .before .before .before .before .args in
     let the-endpoint = c .before .before .before .before .before .before .endpoint in
     let the-if2 = c .before .before .before .before .before .if2 in
-    let the-if1 = c .before .before .before .before .before .before .before .if1 in
-    (then-on (the-toggled-arm .ensures .0) (test-no (thenCheck (a .setup) (a .x) (a .iso)) _ _ _ (at-zero _ _ _ (the-endpoint .ensures) (ne-eqb _ _ (the-if2 .left))) ∙ test-no (thenCheck (a .setup) (a .x) (a .iso)) (a .iso) _ _ (the-if1 .left)), the-toggled-arm .ensures .1)
+    let the-if1 = c .before .before .before .before .before .before .before .if1 in (
+      then-on (the-toggled-arm .ensures .0)
+          (test-no (thenCheck (a .setup) (a .x) (a .iso)) _ _ _ (at-zero _ _ _ (the-endpoint .ensures) (ne-eqb _ _ (the-if2 .left)))
+          ∙ test-no (thenCheck (a .setup) (a .x) (a .iso)) (a .iso) _ _ (the-if1 .left)),
+      the-toggled-arm .ensures .1,
+    )
 
 pub in-arm-spec : {M : Type 1} → statement M
 in-arm-spec =

@@ -31,8 +31,12 @@ returns c =
     let the-mask-has = c .before .before .before .before .before .before .mask-has in
     let the-load-globals = c .before .before .before .before .before .before .before .load-globals in
     let the-endpoint = c .before .before .before .before .before .before .before .before .before .endpoint in
-    let the-if1 = c .before .before .before .before .before .if1 in
-    (then-on (the-after-dispatch .ensures .0) (test-yes (thenCheck (a .setup) (a .x) (a .iso)) _ _ _ (paced-told _ _ _ _ _ _ (the-mask-has .ensures) (the-load-globals .ensures) (the-endpoint .ensures) (the-if1 .taken))), the-after-dispatch .ensures .1)
+    let the-if1 = c .before .before .before .before .before .if1 in (
+      then-on (the-after-dispatch .ensures .0)
+          (test-yes (thenCheck (a .setup) (a .x) (a .iso)) _ _ _
+          (paced-told _ _ _ _ _ _ (the-mask-has .ensures) (the-load-globals .ensures) (the-endpoint .ensures) (the-if1 .taken))),
+      the-after-dispatch .ensures .1,
+    )
 
 first-in-frame-requires : tie.Need-first-in-frame-requires
 first-in-frame-requires c κs = search needs
@@ -58,8 +62,14 @@ returns-2 c =
     let the-if2 = c .before .before .before .before .before .before .before .if2 in
     let the-mask-has = c .before .before .before .before .before .before .before .before .before .before .before .mask-has in
     let the-load-globals = c .before .before .before .before .before .before .before .before .before .before .before .before .load-globals in
-    let the-if1 = c .before .before .before .before .before .before .before .before .before .before .if1 in
-    (then-on (the-then-complete .ensures .0) (after (a .setup) (λ _ u. run concrete (afterDispatch (a .x) (a .iso)) u) _ _ (the-begin .ensures .0 _) ∙ in-frame (thenCheck (a .setup) (a .x) (a .iso)) _ _ _ _ _ ((a .x) .st) true (the-endpoint .ensures) (the-first-in-frame .ensures .1 .0) (tells _ _ _ (the-first-in-frame .ensures .0) (the-if2 .taken)) (paced-told _ _ _ _ _ _ (the-mask-has .ensures) (the-load-globals .ensures) (the-endpoint .ensures) (the-if1 .left))), the-then-complete .ensures .1)
+    let the-if1 = c .before .before .before .before .before .before .before .before .before .before .if1 in (
+      then-on (the-then-complete .ensures .0)
+          (after (a .setup) (λ _ u. run concrete (afterDispatch (a .x) (a .iso)) u) _ _ (the-begin .ensures .0 _)
+          ∙ in-frame (thenCheck (a .setup) (a .x) (a .iso)) _ _ _ _ _ ((a .x) .st) true (the-endpoint .ensures)
+          (the-first-in-frame .ensures .1 .0) (tells _ _ _ (the-first-in-frame .ensures .0) (the-if2 .taken))
+          (paced-told _ _ _ _ _ _ (the-mask-has .ensures) (the-load-globals .ensures) (the-endpoint .ensures) (the-if1 .left))),
+      the-then-complete .ensures .1,
+    )
 
 after-dispatch-requires-2 : tie.Need-after-dispatch-requires-2
 after-dispatch-requires-2 c κs = search needs
@@ -76,8 +86,13 @@ returns-3 c =
     let the-if2 = c .before .before .before .before .before .if2 in
     let the-mask-has = c .before .before .before .before .before .before .before .before .before .mask-has in
     let the-load-globals = c .before .before .before .before .before .before .before .before .before .before .load-globals in
-    let the-if1 = c .before .before .before .before .before .before .before .before .if1 in
-    (then-on (the-after-dispatch2 .ensures .0) (in-frame (thenCheck (a .setup) (a .x) (a .iso)) _ _ _ _ _ ((a .x) .st) false (the-endpoint .ensures) (the-first-in-frame .ensures .1 .0) (tells _ _ _ (the-first-in-frame .ensures .0) (the-if2 .left)) (paced-told _ _ _ _ _ _ (the-mask-has .ensures) (the-load-globals .ensures) (the-endpoint .ensures) (the-if1 .left))), the-after-dispatch2 .ensures .1)
+    let the-if1 = c .before .before .before .before .before .before .before .before .if1 in (
+      then-on (the-after-dispatch2 .ensures .0)
+          (in-frame (thenCheck (a .setup) (a .x) (a .iso)) _ _ _ _ _ ((a .x) .st) false (the-endpoint .ensures)
+          (the-first-in-frame .ensures .1 .0) (tells _ _ _ (the-first-in-frame .ensures .0) (the-if2 .left))
+          (paced-told _ _ _ _ _ _ (the-mask-has .ensures) (the-load-globals .ensures) (the-endpoint .ensures) (the-if1 .left))),
+      the-after-dispatch2 .ensures .1,
+    )
 
 pub iso-in-arm-spec : {M : Type 1} → statement M
 iso-in-arm-spec =

@@ -37,8 +37,13 @@ returns-2 c =
     let the-if3 = c .before .before .if3 in
     let the-endpoint = c .before .before .before .before .before .endpoint in
     let the-if2 = c .before .before .before .before .if2 in
-    let the-if1 = c .before .before .before .before .before .before .if1 in
-    (stops-at (the-stand-flip .ensures) (refl) _ (test-yes (thenCheck (a .setup) (a .x) (a .iso)) _ _ _ (tells _ _ _ (the-tog-ok .ensures) (the-if3 .taken)) ∙ (test-yes (thenCheck (a .setup) (a .x) (a .iso)) _ _ _ (at-zero _ _ _ (the-endpoint .ensures) (eq-eqb _ _ (the-if2 .taken))) ∙ test-no (thenCheck (a .setup) (a .x) (a .iso)) (a .iso) _ _ (the-if1 .left))), stored-at (the-stand-flip .ensures))
+    let the-if1 = c .before .before .before .before .before .before .if1 in (
+      stops-at (the-stand-flip .ensures) (refl) _
+          (test-yes (thenCheck (a .setup) (a .x) (a .iso)) _ _ _ (tells _ _ _ (the-tog-ok .ensures) (the-if3 .taken))
+          ∙ (test-yes (thenCheck (a .setup) (a .x) (a .iso)) _ _ _ (at-zero _ _ _ (the-endpoint .ensures) (eq-eqb _ _ (the-if2 .taken)))
+          ∙ test-no (thenCheck (a .setup) (a .x) (a .iso)) (a .iso) _ _ (the-if1 .left))),
+      stored-at (the-stand-flip .ensures),
+    )
 
 after-dispatch-requires-2 : tie.Need-after-dispatch-requires-2
 after-dispatch-requires-2 c κs = search needs
@@ -54,8 +59,13 @@ returns-3 c =
     let the-if3 = c .before .before .before .before .before .if3 in
     let the-endpoint = c .before .before .before .before .before .before .before .before .endpoint in
     let the-if2 = c .before .before .before .before .before .before .before .if2 in
-    let the-if1 = c .before .before .before .before .before .before .before .before .before .if1 in
-    (then-on (the-after-dispatch2 .ensures .0) (test-no (thenCheck (a .setup) (a .x) (a .iso)) _ _ _ (tells _ _ _ (the-tog-ok .ensures) (the-if3 .left)) ∙ (test-yes (thenCheck (a .setup) (a .x) (a .iso)) _ _ _ (at-zero _ _ _ (the-endpoint .ensures) (eq-eqb _ _ (the-if2 .taken))) ∙ test-no (thenCheck (a .setup) (a .x) (a .iso)) (a .iso) _ _ (the-if1 .left))), the-after-dispatch2 .ensures .1)
+    let the-if1 = c .before .before .before .before .before .before .before .before .before .if1 in (
+      then-on (the-after-dispatch2 .ensures .0)
+          (test-no (thenCheck (a .setup) (a .x) (a .iso)) _ _ _ (tells _ _ _ (the-tog-ok .ensures) (the-if3 .left))
+          ∙ (test-yes (thenCheck (a .setup) (a .x) (a .iso)) _ _ _ (at-zero _ _ _ (the-endpoint .ensures) (eq-eqb _ _ (the-if2 .taken)))
+          ∙ test-no (thenCheck (a .setup) (a .x) (a .iso)) (a .iso) _ _ (the-if1 .left))),
+      the-after-dispatch2 .ensures .1,
+    )
 
 toggled-arm-requires : tie.Need-toggled-arm-requires
 toggled-arm-requires c κs = search needs
@@ -69,8 +79,12 @@ returns-4 c =
     let a = c .before .before .before .before .before .before .before .before .before .args in
     let the-endpoint = c .before .before .before .before .before .before .endpoint in
     let the-if2 = c .before .before .before .before .before .if2 in
-    let the-if1 = c .before .before .before .before .before .before .before .if1 in
-    (then-on (the-toggled-arm .ensures .0) (test-no (thenCheck (a .setup) (a .x) (a .iso)) _ _ _ (at-zero _ _ _ (the-endpoint .ensures) (ne-eqb _ _ (the-if2 .left))) ∙ test-no (thenCheck (a .setup) (a .x) (a .iso)) (a .iso) _ _ (the-if1 .left)), the-toggled-arm .ensures .1)
+    let the-if1 = c .before .before .before .before .before .before .before .if1 in (
+      then-on (the-toggled-arm .ensures .0)
+          (test-no (thenCheck (a .setup) (a .x) (a .iso)) _ _ _ (at-zero _ _ _ (the-endpoint .ensures) (ne-eqb _ _ (the-if2 .left)))
+          ∙ test-no (thenCheck (a .setup) (a .x) (a .iso)) (a .iso) _ _ (the-if1 .left)),
+      the-toggled-arm .ensures .1,
+    )
 
 pub out-arm-spec : {M : Type 1} → statement M
 out-arm-spec =

@@ -13,7 +13,10 @@ wake-requires : tie.Need-wake-requires
 wake-requires c κs = search needs
 
 returns : tie.Need-returns
-returns c = (λ b. simp (c .wake .ensures .0, c .before .before .store-ep .ensures .0, c .before .before .before .before .load-ep .ensures), c .wake .ensures .1 ∙ c .before .before .store-ep .ensures .1)
+returns c = (
+  λ b. simp (c .wake .ensures .0, c .before .before .store-ep .ensures .0, c .before .before .before .before .load-ep .ensures),
+  c .wake .ensures .1 ∙ c .before .before .store-ep .ensures .1,
+)
 
 pub sent-spec : {M : Type 1} → statement M
 sent-spec =

@@ -24,8 +24,12 @@ returns c =
     let the-after-dispatch = c .before .before .after-dispatch in
     let a = c .before .before .before .before .before .before .before .before .before .before .args in
     let the-load-globals = c .before .before .before .before .before .before .before .load-globals in
-    let the-if1 = c .before .before .before .before .before .if1 in
-    (then-on (the-after-dispatch .ensures .0) (when-no (a .setup) (onSof (a .frame)) (λ _ u. run concrete (afterDispatch (a .x) (a .iso)) u) _ _ (sof-handled _ _ _ _ (the-load-globals .ensures) (eq-eqb _ _ (the-if1 .taken)))), the-after-dispatch .ensures .1)
+    let the-if1 = c .before .before .before .before .before .if1 in (
+      then-on (the-after-dispatch .ensures .0)
+          (when-no (a .setup) (onSof (a .frame)) (λ _ u. run concrete (afterDispatch (a .x) (a .iso)) u) _ _
+          (sof-handled _ _ _ _ (the-load-globals .ensures) (eq-eqb _ _ (the-if1 .taken)))),
+      the-after-dispatch .ensures .1,
+    )
 
 on-sof-requires : tie.Need-on-sof-requires
 on-sof-requires c κs = search needs
@@ -44,8 +48,13 @@ returns-2 c =
     let a = c .before .before .before .before .before .before .before .before .before .before .before .before .args in
     let the-begin = c .before .before .before .before .before .on-sof in
     let the-load-globals = c .before .before .before .before .before .before .before .before .before .load-globals in
-    let the-if1 = c .before .before .before .before .before .before .before .if1 in
-    (then-on (the-then-sof-arm .ensures .0) (after (a .setup) (λ _ u. run concrete (afterDispatch (a .x) (a .iso)) u) _ _ (the-begin .ensures .0 _) ∙ when-yes (a .setup) (onSof (a .frame)) (λ _ u. run concrete (afterDispatch (a .x) (a .iso)) u) _ _ (sof-handled _ _ _ _ (the-load-globals .ensures) (ne-eqb _ _ (the-if1 .left)))), the-then-sof-arm .ensures .1)
+    let the-if1 = c .before .before .before .before .before .before .before .if1 in (
+      then-on (the-then-sof-arm .ensures .0)
+          (after (a .setup) (λ _ u. run concrete (afterDispatch (a .x) (a .iso)) u) _ _ (the-begin .ensures .0 _)
+          ∙ when-yes (a .setup) (onSof (a .frame)) (λ _ u. run concrete (afterDispatch (a .x) (a .iso)) u) _ _
+          (sof-handled _ _ _ _ (the-load-globals .ensures) (ne-eqb _ _ (the-if1 .left)))),
+      the-then-sof-arm .ensures .1,
+    )
 
 pub sof-arm-spec : {M : Type 1} → statement M
 sof-arm-spec =

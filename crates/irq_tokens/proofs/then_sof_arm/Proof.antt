@@ -23,8 +23,12 @@ returns : tie.Need-returns
 returns c =
     let the-stand-sof-arm = c .stand-sof-arm in
     let the-n = c .before .before .before .n in
-    let a = c .before .before .before .before .before .before .args in
-    (stops-at (the-stand-sof-arm .ensures) (sof-linked _ _ _ (the-n .given .1) ((c .before .before .before .before .before .before .pre))) _ (sof-asks (a .setup) (λ _ u. run concrete (afterDispatch (a .x) (a .iso)) u) _ _ _ (a .frame) _ _ (the-n .given .1)), stored-at (the-stand-sof-arm .ensures))
+    let a = c .before .before .before .before .before .before .args in (
+      stops-at (the-stand-sof-arm .ensures)
+          (sof-linked _ _ _ (the-n .given .1) ((c .before .before .before .before .before .before .pre))) _
+          (sof-asks (a .setup) (λ _ u. run concrete (afterDispatch (a .x) (a .iso)) u) _ _ _ (a .frame) _ _ (the-n .given .1)),
+      stored-at (the-stand-sof-arm .ensures),
+    )
 
 same-length : tie.Need-same-length
 same-length c = search needs
@@ -33,8 +37,11 @@ returns-2 : tie.Need-returns-2
 returns-2 c =
     let the-after-dispatch = c .before .before .after-dispatch in
     let a = c .before .before .before .before .before .before .before .before .args in
-    let the-enum-told = c .before .before .before .before .before .enum-told in
-    (then-on (the-after-dispatch .ensures .0) (sof-ends (a .setup) (λ _ u. run concrete (afterDispatch (a .x) (a .iso)) u) _ _ (a .frame) _ (the-enum-told .given .1)), the-after-dispatch .ensures .1)
+    let the-enum-told = c .before .before .before .before .before .enum-told in (
+      then-on (the-after-dispatch .ensures .0)
+          (sof-ends (a .setup) (λ _ u. run concrete (afterDispatch (a .x) (a .iso)) u) _ _ (a .frame) _ (the-enum-told .given .1)),
+      the-after-dispatch .ensures .1,
+    )
 
 pub then-sof-arm-spec : {M : Type 1} → statement M
 then-sof-arm-spec =

@@ -26,8 +26,12 @@ returns c =
     let the-then-toggled = c .before .before .then-toggled in
     let a = c .before .before .before .before .before .before .before .before .args in
     let the-begin = c .before .before .before .before .before .begin in
-    let the-endpoint = c .before .before .before .before .before .before .endpoint in
-    (then-on (the-then-toggled .ensures .0) (toggled-from (a .setup) (λ _ u. run concrete (afterDispatch (a .x) (a .iso)) u) (λ z u. run concrete (afterToggled (a .d) (a .x) z) u) (a .d) _ _ (the-begin .result) _ _ (the-endpoint .ensures) (the-begin .ensures .0 _ _)), the-then-toggled .ensures .1)
+    let the-endpoint = c .before .before .before .before .before .before .endpoint in (
+      then-on (the-then-toggled .ensures .0)
+          (toggled-from (a .setup) (λ _ u. run concrete (afterDispatch (a .x) (a .iso)) u) (λ z u. run concrete (afterToggled (a .d) (a .x) z) u)
+          (a .d) _ _ (the-begin .result) _ _ (the-endpoint .ensures) (the-begin .ensures .0 _ _)),
+      the-then-toggled .ensures .1,
+    )
 
 pub toggled-arm-spec : {M : Type 1} → statement M
 toggled-arm-spec =

@@ -14,7 +14,9 @@ refusal-requires : tie.Need-refusal-requires
 refusal-requires c κs = search needs
 
 low-requires : tie.Need-low-requires
-low-requires c κs = passed-number (view (now (c .before .before .before .before .before .before .before .args .s))) In (c .before .before .before .before .before .before .before .args .e) _ (c .before .before .before .refusal .ensures) (c .before .before .if1 .taken)
+low-requires c κs = passed-number (view (now (c .before .before .before .before .before .before .before .args .s))) In
+    (c .before .before .before .before .before .before .before .args .e) _
+    (c .before .before .before .refusal .ensures) (c .before .before .if1 .taken)
 
 queue-at-requires : tie.Need-queue-at-requires
 queue-at-requires c κs = search needs
@@ -26,8 +28,13 @@ returns : tie.Need-returns
 returns c =
     let a = c .before .before .before .before .before .before .before .before .before .before .before .args in
     let l = c .before .before .before .low in
-    let r = c .before .before .queue-at in
-    (r .ensures .0 ∙ (ap (λ (n : ℕ). go (queueing n (now (a .bytes))) (view (now (a .s))) (now (a .buf))) (l .ensures) ∙ passed In (a .e) _ (queueing (a .e) (now (a .bytes))) (view (now (a .s))) (now (a .buf)) (c .before .before .before .before .before .before .before .refusal .ensures) (c .before .before .before .before .before .before .if1 .taken)), r .ensures .1)
+    let r = c .before .before .queue-at in (
+      r .ensures .0 ∙ (ap (λ (n : ℕ). go (queueing n (now (a .bytes))) (view (now (a .s))) (now (a .buf))) (l .ensures)
+          ∙ passed In (a .e) _ (queueing (a .e) (now (a .bytes))) (view (now (a .s)))
+          (now (a .buf)) (c .before .before .before .before .before .before .before .refusal .ensures)
+          (c .before .before .before .before .before .before .if1 .taken)),
+      r .ensures .1,
+    )
 
 returns-2 : tie.Need-returns-2
 returns-2 c =

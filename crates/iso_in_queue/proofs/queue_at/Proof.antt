@@ -30,8 +30,15 @@ cast-if2 c = search needs
 
 returns : tie.Need-returns
 returns c =
-    let a = c .before .before .before .before .before .before .before .before .before .before .args in
-    (queue-by (a .e) (now (a .bytes)) (view (now (a .s))) (now (a .buf)) true true _ _ (ap (λ (g : Globals). enables.isOn (g .«ep_config») In (a .e)) (sym (c .before .before .before .before .before .before .load-globals .ensures)) ∙ (sym (c .before .before .before .before .before .is-on .ensures) ∙ c .before .before .before .before .if1 .taken)) (ap (λ (x : Allocator). ltb (x .size) (length (now (a .bytes)))) (sym (c .before .before .load-allocator .ensures)) ∙ lt-ltb _ _ (c .if2 .taken)) refl refl, refl)
+    let a = c .before .before .before .before .before .before .before .before .before .before .args in (
+      queue-by (a .e) (now (a .bytes)) (view (now (a .s))) (now (a .buf)) true true _ _
+          (ap (λ (g : Globals). enables.isOn (g .«ep_config») In (a .e))
+          (sym (c .before .before .before .before .before .before .load-globals .ensures))
+          ∙ (sym (c .before .before .before .before .before .is-on .ensures) ∙ c .before .before .before .before .if1 .taken))
+          (ap (λ (x : Allocator). ltb (x .size) (length (now (a .bytes)))) (sym (c .before .before .load-allocator .ensures))
+          ∙ lt-ltb _ _ (c .if2 .taken)) refl refl,
+      refl,
+    )
 
 load-ep-requires : tie.Need-load-ep-requires
 load-ep-requires c κs = search needs
@@ -50,24 +57,71 @@ same-length c = search needs
 
 returns-2 : tie.Need-returns-2
 returns-2 c =
-    let a = c .before .before .before .before .before .before .before .before .before .before .before .before .before .before .before .before .before .before .before .before .before .before .args in
-    let q = c .before .before .iso-in-enqueue in
-    (queue-ok (a .e) (now (a .bytes)) (view (now (a .s))) _ (now (a .buf)) _ (ap (λ (g : Globals). enables.isOn (g .«ep_config») In (a .e)) (sym (c .before .before .before .before .before .before .before .before .before .before .before .before .before .before .before .before .before .before .load-globals .ensures)) ∙ (sym (c .before .before .before .before .before .before .before .before .before .before .before .before .before .before .before .before .before .is-on .ensures) ∙ c .before .before .before .before .before .before .before .before .before .before .before .before .before .before .before .before .if1 .taken)) (ap (λ (x : Allocator). ltb (x .size) (length (now (a .bytes)))) (sym (c .before .before .before .before .before .before .before .before .before .before .before .before .before .before .load-allocator .ensures)) ∙ le-ltb _ _ (c .before .before .before .before .before .before .before .before .before .before .before .before .if2 .left)) (ap (λ (r : EpState). isOn (r .iso)) (sym (c .before .before .before .before .before .before .before .before .before .before .load-ep .ensures)) ∙ (sym (c .before .before .before .before .before .before .before .before .before .is-on2 .ensures) ∙ c .before .before .before .before .before .before .before .before .if3 .taken)) (sym (c .before .before .before .before .before .before .room .ensures) ∙ c .before .before .before .before .before .if4 .taken) (q .ensures .0) (q .ensures .1 .0), q .ensures .1 .1)
+    let a = c .before .before .before .before .before .before .before .before .before
+    .before .before .before .before .before .before .before .before .before .before .before .before .before .args in
+    let q = c .before .before .iso-in-enqueue in (
+      queue-ok (a .e) (now (a .bytes)) (view (now (a .s))) _ (now (a .buf)) _
+          (ap (λ (g : Globals). enables.isOn (g .«ep_config») In (a .e)) (sym
+          (c .before .before .before .before .before .before .before .before .before .before .before .before .before .before .before .before .before .before
+          .load-globals .ensures))
+          ∙ (sym (c .before .before .before .before .before .before .before .before .before .before .before .before .before .before .before .before .before
+          .is-on .ensures)
+          ∙ c .before .before .before .before .before .before .before .before .before .before .before .before .before .before .before .before .if1 .taken))
+          (ap (λ (x : Allocator). ltb (x .size) (length (now (a .bytes))))
+          (sym (c .before .before .before .before .before .before .before .before .before .before .before .before .before .before .load-allocator .ensures))
+          ∙ le-ltb _ _ (c .before .before .before .before .before .before .before .before .before .before .before .before .if2 .left))
+          (ap (λ (r : EpState). isOn (r .iso))
+          (sym (c .before .before .before .before .before .before .before .before .before .before .load-ep .ensures))
+          ∙ (sym (c .before .before .before .before .before .before .before .before .before .is-on2 .ensures)
+          ∙ c .before .before .before .before .before .before .before .before .if3 .taken))
+          (sym (c .before .before .before .before .before .before .room .ensures)
+          ∙ c .before .before .before .before .before .if4 .taken) (q .ensures .0) (q .ensures .1 .0),
+      q .ensures .1 .1,
+    )
 
 returns-3 : tie.Need-returns-3
 returns-3 c =
-    let a = c .before .before .before .before .before .before .before .before .before .before .before .before .before .before .before .before .before .args in
-    (queue-by (a .e) (now (a .bytes)) (view (now (a .s))) (now (a .buf)) true false true false (ap (λ (g : Globals). enables.isOn (g .«ep_config») In (a .e)) (sym (c .before .before .before .before .before .before .before .before .before .before .before .before .before .load-globals .ensures)) ∙ (sym (c .before .before .before .before .before .before .before .before .before .before .before .before .is-on .ensures) ∙ c .before .before .before .before .before .before .before .before .before .before .before .if1 .taken)) (ap (λ (x : Allocator). ltb (x .size) (length (now (a .bytes)))) (sym (c .before .before .before .before .before .before .before .before .before .load-allocator .ensures)) ∙ le-ltb _ _ (c .before .before .before .before .before .before .before .if2 .left)) (ap (λ (r : EpState). isOn (r .iso)) (sym (c .before .before .before .before .before .load-ep .ensures)) ∙ (sym (c .before .before .before .before .is-on2 .ensures) ∙ c .before .before .before .if3 .taken)) (sym (c .before .room .ensures) ∙ c .if4 .left), refl)
+    let a = c .before .before .before .before .before .before .before .before .before .before .before .before .before .before .before .before .before .args in (
+      queue-by (a .e) (now (a .bytes)) (view (now (a .s))) (now (a .buf)) true false true false
+          (ap (λ (g : Globals). enables.isOn (g .«ep_config») In (a .e))
+          (sym (c .before .before .before .before .before .before .before .before .before .before .before .before .before .load-globals .ensures))
+          ∙ (sym (c .before .before .before .before .before .before .before .before .before .before .before .before .is-on .ensures)
+          ∙ c .before .before .before .before .before .before .before .before .before .before .before .if1 .taken))
+          (ap (λ (x : Allocator). ltb (x .size) (length (now (a .bytes))))
+          (sym (c .before .before .before .before .before .before .before .before .before .load-allocator .ensures))
+          ∙ le-ltb _ _ (c .before .before .before .before .before .before .before .if2 .left))
+          (ap (λ (r : EpState). isOn (r .iso)) (sym (c .before .before .before .before .before .load-ep .ensures))
+          ∙ (sym (c .before .before .before .before .is-on2 .ensures) ∙ c .before .before .before .if3 .taken))
+          (sym (c .before .room .ensures) ∙ c .if4 .left),
+      refl,
+    )
 
 returns-4 : tie.Need-returns-4
 returns-4 c =
-    let a = c .before .before .before .before .before .before .before .before .before .before .before .before .before .before .args in
-    (queue-by (a .e) (now (a .bytes)) (view (now (a .s))) (now (a .buf)) true false false _ (ap (λ (g : Globals). enables.isOn (g .«ep_config») In (a .e)) (sym (c .before .before .before .before .before .before .before .before .before .before .load-globals .ensures)) ∙ (sym (c .before .before .before .before .before .before .before .before .before .is-on .ensures) ∙ c .before .before .before .before .before .before .before .before .if1 .taken)) (ap (λ (x : Allocator). ltb (x .size) (length (now (a .bytes)))) (sym (c .before .before .before .before .before .before .load-allocator .ensures)) ∙ le-ltb _ _ (c .before .before .before .before .if2 .left)) (ap (λ (r : EpState). isOn (r .iso)) (sym (c .before .before .load-ep .ensures)) ∙ (sym (c .before .is-on2 .ensures) ∙ c .if3 .left)) refl, refl)
+    let a = c .before .before .before .before .before .before .before .before .before .before .before .before .before .before .args in (
+      queue-by (a .e) (now (a .bytes)) (view (now (a .s))) (now (a .buf)) true false false _
+          (ap (λ (g : Globals). enables.isOn (g .«ep_config») In (a .e))
+          (sym (c .before .before .before .before .before .before .before .before .before .before .load-globals .ensures))
+          ∙ (sym (c .before .before .before .before .before .before .before .before .before .is-on .ensures)
+          ∙ c .before .before .before .before .before .before .before .before .if1 .taken))
+          (ap (λ (x : Allocator). ltb (x .size) (length (now (a .bytes))))
+          (sym (c .before .before .before .before .before .before .load-allocator .ensures))
+          ∙ le-ltb _ _ (c .before .before .before .before .if2 .left))
+          (ap (λ (r : EpState). isOn (r .iso)) (sym (c .before .before .load-ep .ensures))
+          ∙ (sym (c .before .is-on2 .ensures) ∙ c .if3 .left)) refl,
+      refl,
+    )
 
 returns-5 : tie.Need-returns-5
 returns-5 c =
-    let a = c .before .before .before .before .before .before .args in
-    (queue-by (a .e) (now (a .bytes)) (view (now (a .s))) (now (a .buf)) false _ _ _ (ap (λ (g : Globals). enables.isOn (g .«ep_config») In (a .e)) (sym (c .before .before .load-globals .ensures)) ∙ (sym (c .before .is-on .ensures) ∙ c .if1 .left)) refl refl refl, refl)
+    let a = c .before .before .before .before .before .before .args in (
+      queue-by (a .e) (now (a .bytes)) (view (now (a .s))) (now (a .buf)) false _ _ _
+          (ap (λ (g : Globals). enables.isOn (g .«ep_config») In (a .e)) (sym (c .before .before .load-globals .ensures))
+          ∙ (sym (c .before .is-on .ensures) ∙ c .if1 .left)) refl refl refl,
+      refl,
+    )
 
 pub queue-at-spec : {M : Type 1} → statement M
-queue-at-spec = tie.close (tie.spec load-globals-requires is-on-requires load-allocator-requires cast-if2 returns load-ep-requires is-on-requires-2 room-requires iso-in-enqueue-requires same-length returns-2 returns-3 returns-4 returns-5)
+queue-at-spec = tie.close
+    (tie.spec load-globals-requires is-on-requires load-allocator-requires cast-if2 returns load-ep-requires
+    is-on-requires-2 room-requires iso-in-enqueue-requires same-length returns-2 returns-3 returns-4 returns-5)

@@ -21,8 +21,10 @@ returns : tie.Need-returns
 returns c =
     let a = c .before .before .before .before .before .before .before .before .args in
     let r = c .before .before .walk-on in
-    let k = c .before .before .before .before .before .wake in
-    (λ v. r .ensures .0 ∙ ap (λ (d : Driver). go (walk (a .x) (a .iso) (a .m)) d (now (a .buf))) (k .ensures .0), (r .ensures .1 .0 ∙ k .ensures .1, r .ensures .1 .1))
+    let k = c .before .before .before .before .before .wake in (
+      λ v. r .ensures .0 ∙ ap (λ (d : Driver). go (walk (a .x) (a .iso) (a .m)) d (now (a .buf))) (k .ensures .0),
+      (r .ensures .1 .0 ∙ k .ensures .1, r .ensures .1 .1),
+    )
 
 pub after-armed-spec : {M : Type 1} → statement M
 after-armed-spec = tie.close (tie.spec wake-requires walk-on-requires same-length returns)

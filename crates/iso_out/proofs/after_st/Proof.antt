@@ -21,8 +21,12 @@ same-length c = search needs
 returns : tie.Need-returns
 returns c =
     let a = c .before .before .before .before .before .before .before .before .before .args in
-    let r = c .before .before .walk-on in
-    (r .ensures .0 ∙ sym (status-out (a .x) (a .iso) (a .e) (a .m) (a .v) (view (now (a .s)), now (a .buf)) (rw (c .before .before .before .before .before .before .before .byte .ensures) at (sym (c .before .before .before .before .before .before .arriving .ensures) ∙ c .before .before .before .before .before .if1 .taken))), (r .ensures .1 .0, r .ensures .1 .1))
+    let r = c .before .before .walk-on in (
+      r .ensures .0 ∙ sym (status-out (a .x) (a .iso) (a .e) (a .m) (a .v) (view (now (a .s)), now (a .buf))
+          (rw (c .before .before .before .before .before .before .before .byte .ensures) at
+          (sym (c .before .before .before .before .before .before .arriving .ensures) ∙ c .before .before .before .before .before .if1 .taken))),
+      (r .ensures .1 .0, r .ensures .1 .1),
+    )
 
 marked-requires : tie.Need-marked-requires
 marked-requires c κs = search needs
@@ -36,8 +40,14 @@ same-length-2 c = search needs
 returns-2 : tie.Need-returns-2
 returns-2 c =
     let a = c .before .before .before .before .before .before .before .before .before .before .before .before .args in
-    let r = c .before .before .arm in
-    (r .ensures .0 (a .x) (a .iso) ∙ sym (status-marked (a .x) (a .iso) (a .e) (a .m) (a .v) _ (view (now (a .s)), now (a .buf)) (rw (c .before .before .before .before .before .before .before .before .before .before .byte .ensures) at (sym (c .before .before .before .before .before .before .before .before .before .arriving .ensures) ∙ c .before .before .before .before .before .before .before .before .if1 .left)) (c .before .before .before .before .before .marked .ensures)), (r .ensures .1 .0, r .ensures .1 .1))
+    let r = c .before .before .arm in (
+      r .ensures .0 (a .x) (a .iso) ∙ sym (status-marked (a .x) (a .iso) (a .e) (a .m) (a .v) _ (view (now (a .s)), now (a .buf))
+          (rw (c .before .before .before .before .before .before .before .before .before .before .byte .ensures) at
+          (sym (c .before .before .before .before .before .before .before .before .before .arriving .ensures)
+          ∙ c .before .before .before .before .before .before .before .before .if1 .left))
+          (c .before .before .before .before .before .marked .ensures)),
+      (r .ensures .1 .0, r .ensures .1 .1),
+    )
 
 pub after-st-spec : {M : Type 1} → statement M
 after-st-spec = tie.close (tie.spec byte-requires arriving-requires walk-on-requires same-length returns marked-requires arm-requires same-length-2 returns-2)

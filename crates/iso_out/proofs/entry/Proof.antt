@@ -18,11 +18,19 @@ arriving-requires c κs = search needs
 returns-2 : tie.Need-returns-2
 returns-2 c =
     let a = c .before .before .before .before .before .before .args in
-    entry-as (a .x) (a .iso) (a .e) _ (c .before .before .before .before .before .if1 .left) (c .before .before .before .before .if2 .taken) (c .before .before .before .if3 .taken) (sym (c .before .before .tog-ok .ensures) ∙ c .before .if4 .taken) (c .arriving .ensures)
+    entry-as (a .x) (a .iso) (a .e) _ (c .before .before .before .before .before .if1 .left)
+    (c .before .before .before .before .if2 .taken) (c .before .before .before .if3 .taken)
+    (sym (c .before .before .tog-ok .ensures) ∙ c .before .if4 .taken) (c .arriving .ensures)
 
 returns-3 : tie.Need-returns-3
 unfolding entry
-returns-3 c = simp (← c .before .tog-ok .ensures, c .if4 .left, c .before .before .if3 .taken, c .before .before .before .if2 .taken, c .before .before .before .before .if1 .left)
+returns-3 c = simp (
+  ← c .before .tog-ok .ensures,
+  c .if4 .left,
+  c .before .before .if3 .taken,
+  c .before .before .before .if2 .taken,
+  c .before .before .before .before .if1 .left,
+)
 
 returns-4 : tie.Need-returns-4
 unfolding entry

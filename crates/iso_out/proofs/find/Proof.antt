@@ -34,7 +34,9 @@ returns : tie.Need-returns Inv-loop μ-loop
 returns c =
     let at = c .before .before .before .before .before .loop in
     let a = c .before .before .before .before .before .before .before .args in
-    λ x iso. at .inv .1 x iso ∙ walk-at x iso (at .m) _ _ (view (now (a .s)), now (a .buf)) (c .before .before .before .before .loop-test .taken) (at .inv .0) (c .before .before .before .next-endpoint .ensures) (c .before .before .rest-of .ensures) (sym (c .before .changed .ensures) ∙ c .if1 .taken)
+    λ x iso. at .inv .1 x iso ∙ walk-at x iso (at .m) _ _ (view (now (a .s)), now (a .buf))
+    (c .before .before .before .before .loop-test .taken) (at .inv .0) (c .before .before .before .next-endpoint .ensures)
+    (c .before .before .rest-of .ensures) (sym (c .before .changed .ensures) ∙ c .if1 .taken)
 
 loop-less : tie.Need-loop-less Inv-loop μ-loop
 loop-less c =
@@ -45,8 +47,12 @@ loop-again : tie.Need-loop-again Inv-loop μ-loop
 loop-again c =
     let at = c .before .before .before .before .before .loop in
     let a = c .before .before .before .before .before .before .before .args in
-    let less = rest-less (at .m) _ (c .before .before .before .before .loop-test .taken) (at .inv .0) (c .before .before .rest-of .ensures) in
-    (omega arith, λ x iso. at .inv .1 x iso ∙ walk-over x iso (at .m) _ _ (view (now (a .s)), now (a .buf)) (c .before .before .before .before .loop-test .taken) (at .inv .0) (c .before .before .before .next-endpoint .ensures) (c .before .before .rest-of .ensures) (sym (c .before .changed .ensures) ∙ c .if1 .left))
+    let less = rest-less (at .m) _ (c .before .before .before .before .loop-test .taken) (at .inv .0) (c .before .before .rest-of .ensures) in (
+      omega arith,
+      λ x iso. at .inv .1 x iso ∙ walk-over x iso (at .m) _ _ (view (now (a .s)), now (a .buf))
+          (c .before .before .before .before .loop-test .taken) (at .inv .0) (c .before .before .before .next-endpoint .ensures)
+          (c .before .before .rest-of .ensures) (sym (c .before .changed .ensures) ∙ c .if1 .left),
+    )
 
 returns-2 : tie.Need-returns-2 Inv-loop μ-loop
 returns-2 c =

@@ -25,8 +25,13 @@ returns : tie.Need-returns
 unfolding isoOuts
 returns c =
     let a = c .before .before .before .before .before .before .before .before .before .args in
-    let r = c .before .before .walk-on in
-    (r .ensures .0 ∙ begun (a .x) (a .iso) _ (view (now (a .s))) (now (a .buf)) (c .before .before .before .before .before .out-enabled .ensures ∙ ap (λ (g : Globals). outEnabled (g .«ep_config») (g .«iso_out_eps»)) (c .before .before .before .before .before .before .load-globals .ensures)), (r .ensures .1 .0, r .ensures .1 .1))
+    let r = c .before .before .walk-on in (
+      r .ensures .0 ∙ begun (a .x) (a .iso) _ (view (now (a .s))) (now (a .buf))
+          (c .before .before .before .before .before .out-enabled .ensures
+          ∙ ap (λ (g : Globals). outEnabled (g .«ep_config») (g .«iso_out_eps»))
+          (c .before .before .before .before .before .before .load-globals .ensures)),
+      (r .ensures .1 .0, r .ensures .1 .1),
+    )
 
 pub iso-out-check-spec : {M : Type 1} → statement M
 iso-out-check-spec = tie.close (tie.spec load-globals-requires out-enabled-requires walk-on-requires same-length returns)

@@ -25,8 +25,13 @@ returns : tie.Need-returns
 returns c =
     let a = c .before .before .before .before .before .before .before .before .before .before .before .before .before .before .args in
     let f = c .before .before .before .before .before .before .before .before .before .before .find in
-    let r = c .before .before .arm in
-    (r .ensures .0 (a .x) (a .iso) ∙ sym (f .ensures (a .x) (a .iso) ∙ found-entry (a .x) (a .iso) (f .result) _ _ (view (now (a .s)), now (a .buf)) (c .before .before .before .before .before .before .before .before .f .given .1) (sym (c .before .before .before .before .before .before .entry .ensures) ∙ c .before .before .before .before .before .if1 .taken)), (r .ensures .1 .0, r .ensures .1 .1))
+    let r = c .before .before .arm in (
+      r .ensures .0 (a .x) (a .iso)
+          ∙ sym (f .ensures (a .x) (a .iso) ∙ found-entry (a .x) (a .iso) (f .result) _ _ (view (now (a .s)), now (a .buf))
+          (c .before .before .before .before .before .before .before .before .f .given .1)
+          (sym (c .before .before .before .before .before .before .entry .ensures) ∙ c .before .before .before .before .before .if1 .taken)),
+      (r .ensures .1 .0, r .ensures .1 .1),
+    )
 
 enum-told : tie.Need-enum-told
 enum-told c = search needs
@@ -37,8 +42,11 @@ same-length-2 c = search needs
 returns-2 : tie.Need-returns-2
 returns-2 c =
     let a = c .before .before .before .before .before .before .before .before .before .args in
-    let f = c .before .before .before .before .before .find in
-    (sym (f .ensures (a .x) (a .iso) ∙ found-status (a .x) (a .iso) (f .result) _ _ (view (now (a .s)), now (a .buf)) (c .before .before .before .f .given .1) (sym (c .before .entry .ensures) ∙ c .if1 .left)), (refl, refl))
+    let f = c .before .before .before .before .before .find in (
+      sym (f .ensures (a .x) (a .iso) ∙ found-status (a .x) (a .iso) (f .result) _ _ (view (now (a .s)), now (a .buf))
+          (c .before .before .before .f .given .1) (sym (c .before .entry .ensures) ∙ c .if1 .left)),
+      (refl, refl),
+    )
 
 same-length-3 : tie.Need-same-length-3
 same-length-3 c = search needs
@@ -50,4 +58,5 @@ returns-3 c =
     (sym (f .ensures (a .x) (a .iso) ∙ found-nothing (a .x) (a .iso) (f .result) (view (now (a .s)), now (a .buf)) (c .enum-told .given .1)), (refl, tt))
 
 pub walk-on-spec : {M : Type 1} → statement M
-walk-on-spec = tie.close (tie.spec find-requires enum-known-f entry-requires arm-requires same-length returns enum-told same-length-2 returns-2 same-length-3 returns-3)
+walk-on-spec = tie.close
+    (tie.spec find-requires enum-known-f entry-requires arm-requires same-length returns enum-told same-length-2 returns-2 same-length-3 returns-3)

@@ -17,7 +17,16 @@ same-length : tie.Need-same-length
 same-length c = search needs
 
 returns : tie.Need-returns
-returns c = (simp (c .before .before .slot-step .ensures .0, c .before .before .slot-step .ensures .1 .0, c .before .before .slot-step .ensures .1 .1 .0, switch-slot (c .before .before .before .before .before .before .before .args .e) (c .before .before .before .before .before .before .before .args .on) _ (c .before .before .before .before .before .if1 .taken)), (c .before .before .slot-step .ensures .1 .1 .1, refl))
+returns c = (
+  simp (
+    c .before .before .slot-step .ensures .0,
+    c .before .before .slot-step .ensures .1 .0,
+    c .before .before .slot-step .ensures .1 .1 .0,
+    switch-slot (c .before .before .before .before .before .before .before .args .e)
+        (c .before .before .before .before .before .before .before .args .on) _ (c .before .before .before .before .before .if1 .taken),
+  ),
+  (c .before .before .slot-step .ensures .1 .1 .1, refl),
+)
 
 switch-word-requires : tie.Need-switch-word-requires
 switch-word-requires c κs = search needs
@@ -35,7 +44,16 @@ row-write-requires-2 : tie.Need-row-write-requires-2
 row-write-requires-2 c κs = search needs
 
 returns-3 : tie.Need-returns-3
-returns-3 c = (simp (c .row-write2 .ensures .0, c .before .type-step .ensures .0, c .before .type-step .ensures .1 .0, c .before .before .before .if3 .taken, switch-type), (c .before .type-step .ensures .1 .1, c .row-write2 .ensures .1))
+returns-3 c = (
+  simp (
+    c .row-write2 .ensures .0,
+    c .before .type-step .ensures .0,
+    c .before .type-step .ensures .1 .0,
+    c .before .before .before .if3 .taken,
+    switch-type,
+  ),
+  (c .before .type-step .ensures .1 .1, c .row-write2 .ensures .1),
+)
 
 config-step-requires : tie.Need-config-step-requires
 config-step-requires c κs = search needs
@@ -44,13 +62,30 @@ row-write-requires-3 : tie.Need-row-write-requires-3
 row-write-requires-3 c κs = search needs
 
 returns-4 : tie.Need-returns-4
-returns-4 c = (simp (c .row-write3 .ensures .0, c .before .config-step .ensures .0, c .before .config-step .ensures .1 .0, c .before .before .before .if4 .taken, switch-config), (c .before .config-step .ensures .1 .1, c .row-write3 .ensures .1))
+returns-4 c = (
+  simp (
+    c .row-write3 .ensures .0,
+    c .before .config-step .ensures .0,
+    c .before .config-step .ensures .1 .0,
+    c .before .before .before .if4 .taken,
+    switch-config,
+  ),
+  (c .before .config-step .ensures .1 .1, c .row-write3 .ensures .1),
+)
 
 after-woken-requires : tie.Need-after-woken-requires
 after-woken-requires c κs = search needs
 
 returns-5 : tie.Need-returns-5
-returns-5 c = (simp (c .after-woken .ensures .0, switch-end (c .before .before .before .before .before .before .before .args .e) (c .before .before .before .before .before .before .before .args .on) _ (c .before .before .before .before .before .if1 .left) (c .before .before .before .before .if2 .left) (c .before .before .before .if3 .left) (c .before .before .if4 .left)), (c .after-woken .ensures .1 .0, c .after-woken .ensures .1 .1))
+returns-5 c = (
+  simp (
+    c .after-woken .ensures .0,
+    switch-end (c .before .before .before .before .before .before .before .args .e)
+        (c .before .before .before .before .before .before .before .args .on) _ (c .before .before .before .before .before .if1 .left)
+        (c .before .before .before .before .if2 .left) (c .before .before .before .if3 .left) (c .before .before .if4 .left),
+  ),
+  (c .after-woken .ensures .1 .0, c .after-woken .ensures .1 .1),
+)
 
 pub after-switch-spec : {M : Type 1} → statement M
 after-switch-spec =

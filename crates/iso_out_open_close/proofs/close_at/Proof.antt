@@ -15,8 +15,11 @@ close-oldest-requires c κs = search needs
 returns : tie.Need-returns
 returns c =
     let a = c .before .before .before .before .before .args in
-    let o = c .close-oldest in
-    (λ b. close-open (a .e) (view (now (a .s))) _ b (sym (c .before .before .before .opened .ensures) ∙ c .before .before .if1 .taken) (o .ensures .0), o .ensures .1)
+    let o = c .close-oldest in (
+      λ b. close-open (a .e) (view (now (a .s))) _ b
+          (sym (c .before .before .before .opened .ensures) ∙ c .before .before .if1 .taken) (o .ensures .0),
+      o .ensures .1,
+    )
 
 returns-2 : tie.Need-returns-2
 returns-2 c =

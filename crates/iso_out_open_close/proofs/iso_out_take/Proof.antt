@@ -15,7 +15,8 @@ refusal-requires : tie.Need-refusal-requires
 refusal-requires c κs = search needs
 
 low-requires : tie.Need-low-requires
-low-requires c κs = passed-number (view (now (c .before .before .before .before .before .args .s))) Out (c .before .before .before .before .before .args .e) _ (c .before .before .refusal .ensures) (c .before .if1 .taken)
+low-requires c κs = passed-number (view (now (c .before .before .before .before .before .args .s))) Out
+    (c .before .before .before .before .before .args .e) _ (c .before .before .refusal .ensures) (c .before .if1 .taken)
 
 open-at-requires : tie.Need-open-at-requires
 open-at-requires c κs = search needs
@@ -24,8 +25,12 @@ returns : tie.Need-returns
 returns c =
     let a = c .before .before .before .before .before .before .before .args in
     let l = c .before .low in
-    let r = c .open-at in
-    (r .ensures .0 (now (a .buf)) ∙ (ap (λ (n : ℕ). go (opening n) (view (now (a .s))) (now (a .buf))) (l .ensures) ∙ passed Out (a .e) _ (opening (a .e)) (view (now (a .s))) (now (a .buf)) (c .before .before .before .before .refusal .ensures) (c .before .before .before .if1 .taken)), (r .ensures .1 .0, rw (l .ensures) at (r .ensures .1 .1)))
+    let r = c .open-at in (
+      r .ensures .0 (now (a .buf)) ∙ (ap (λ (n : ℕ). go (opening n) (view (now (a .s))) (now (a .buf))) (l .ensures)
+          ∙ passed Out (a .e) _ (opening (a .e)) (view (now (a .s)))
+          (now (a .buf)) (c .before .before .before .before .refusal .ensures) (c .before .before .before .if1 .taken)),
+      (r .ensures .1 .0, rw (l .ensures) at (r .ensures .1 .1)),
+    )
 
 returns-2 : tie.Need-returns-2
 returns-2 c =

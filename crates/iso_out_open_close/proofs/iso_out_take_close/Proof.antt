@@ -14,7 +14,8 @@ refusal-requires : tie.Need-refusal-requires
 refusal-requires c κs = search needs
 
 low-requires : tie.Need-low-requires
-low-requires c κs = passed-number (view (now (c .before .before .before .before .args .s))) Out (c .before .before .before .before .args .e) _ (c .before .before .refusal .ensures) (c .before .if1 .taken)
+low-requires c κs = passed-number (view (now (c .before .before .before .before .args .s))) Out
+    (c .before .before .before .before .args .e) _ (c .before .before .refusal .ensures) (c .before .if1 .taken)
 
 close-at-requires : tie.Need-close-at-requires
 close-at-requires c κs = search needs
@@ -23,8 +24,12 @@ returns : tie.Need-returns
 returns c =
     let a = c .before .before .before .before .before .before .args in
     let l = c .before .low in
-    let r = c .close-at in
-    (λ b. r .ensures .0 b ∙ (ap (λ (n : ℕ). go (closing n) (view (now (a .s))) b) (l .ensures) ∙ passed Out (a .e) _ (closing (a .e)) (view (now (a .s))) b (c .before .before .before .before .refusal .ensures) (c .before .before .before .if1 .taken)), r .ensures .1)
+    let r = c .close-at in (
+      λ b. r .ensures .0 b
+          ∙ (ap (λ (n : ℕ). go (closing n) (view (now (a .s))) b) (l .ensures) ∙ passed Out (a .e) _ (closing (a .e))
+          (view (now (a .s))) b (c .before .before .before .before .refusal .ensures) (c .before .before .before .if1 .taken)),
+      r .ensures .1,
+    )
 
 returns-2 : tie.Need-returns-2
 returns-2 c =

@@ -23,13 +23,34 @@ same-length : tie.Need-same-length
 same-length c = search needs
 
 returns : tie.Need-returns
-returns c = (λ a. back (proceeds (c .before .before .before .before .before .before .before .before .before .before .args .v) (decode (saved (now (c .before .before .before .before .before .before .before .before .before .before .args .s)))) (view (now (c .before .before .before .before .before .before .before .before .before .before .args .s))) a (now (c .before .before .before .before .before .before .before .before .before .before .args .slots))) (simp (← c .before .before .before .before .before .before .slots-fit .ensures, c .before .before .before .before .before .if1 .taken) (c .before .before .resume-at .ensures .0)), (as-lent _ _ _ (sym (c .before .before .before .before .before .before .slots-fit .ensures) ∙ c .before .before .before .before .before .if1 .taken), c .before .before .resume-at .ensures .1))
+returns c = (
+  λ a. back
+      (proceeds (c .before .before .before .before .before .before .before .before .before .before .args .v)
+      (decode (saved (now (c .before .before .before .before .before .before .before .before .before .before .args .s))))
+      (view (now (c .before .before .before .before .before .before .before .before .before .before .args .s))) a
+      (now (c .before .before .before .before .before .before .before .before .before .before .args .slots))) (simp (
+        ← c .before .before .before .before .before .before .slots-fit .ensures,
+        c .before .before .before .before .before .if1 .taken,
+      ) (c .before .before .resume-at .ensures .0)),
+  (
+    as-lent _ _ _
+        (sym (c .before .before .before .before .before .before .slots-fit .ensures)
+        ∙ c .before .before .before .before .before .if1 .taken),
+    c .before .before .resume-at .ensures .1,
+  ),
+)
 
 same-length-2 : tie.Need-same-length-2
 same-length-2 c = search needs
 
 returns-2 : tie.Need-returns-2
-returns-2 c = (λ a. back (proceeds (c .before .before .before .before .before .args .v) (decode (saved (now (c .before .before .before .before .before .args .s)))) (view (now (c .before .before .before .before .before .args .s))) a (now (c .before .before .before .before .before .args .slots))) (simp (← c .before .slots-fit .ensures, c .if1 .left)), (λ h. refl, refl))
+returns-2 c = (
+  λ a. back
+      (proceeds (c .before .before .before .before .before .args .v) (decode (saved (now (c .before .before .before .before .before .args .s))))
+      (view (now (c .before .before .before .before .before .args .s))) a (now (c .before .before .before .before .before .args .slots)))
+      (simp (← c .before .slots-fit .ensures, c .if1 .left)),
+  (λ h. refl, refl),
+)
 
 pub resume-spec : {M : Type 1} → statement M
 resume-spec =

@@ -61,7 +61,11 @@ returns-6 : tie.Need-returns-6
 returns-6 c = search needs
 
 returns-7 : tie.Need-returns-7
-returns-7 c = (simp (at-none (saved (now (c .before .before .before .before .args .s))) _ (c .before .tag .ensures) (c .match .rest .0 .0 .0 .0 .0 .1) (c .match .rest .0 .0 .0 .0 .1) (c .match .rest .0 .0 .0 .1) (c .match .rest .0 .0 .1) (c .match .rest .0 .1) (c .match .rest .1)), refl)
+returns-7 c = (
+  simp (at-none (saved (now (c .before .before .before .before .args .s))) _ (c .before .tag .ensures) (c .match .rest .0 .0 .0 .0 .0 .1)
+      (c .match .rest .0 .0 .0 .0 .1) (c .match .rest .0 .0 .0 .1) (c .match .rest .0 .0 .1) (c .match .rest .0 .1) (c .match .rest .1)),
+  refl,
+)
 
 pub resume-at-spec : {M : Type 1} → statement M
 resume-at-spec =

@@ -1,4 +1,7 @@
-use Rattle.irq_resume.specs.Sites.{on-bus-rst, on-check, on-completing, on-fifo, on-flags, on-flip, on-flipped, on-frame-no, on-host, on-late, on-len, on-mis, on-moved-read, on-moved-wrote, on-nak, on-released, on-settle, on-setup-released, on-setup-rx, on-setup-tx, on-sof, on-sof-arm, on-st, on-suspend, on-toggled, on-frame}
+use Rattle.irq_resume.specs.Sites.{on-bus-rst, on-check, on-completing, on-fifo, on-flags, on-flip, on-flipped}
+use Rattle.irq_resume.specs.Sites.{on-frame-no, on-host, on-late, on-len, on-mis, on-moved-read, on-moved-wrote, on-nak}
+use Rattle.irq_resume.specs.Sites.{on-released, on-settle, on-setup-released, on-setup-rx, on-setup-tx, on-sof}
+use Rattle.irq_resume.specs.Sites.{on-sof-arm, on-st, on-suspend, on-toggled, on-frame}
 use Rattle.machine.specs.Suspended.{decode}
 use Rattle.machine.specs.declared.Suspended.the-variants as under
 use Rattle.irq.specs.declared.Point.the-variants as point
@@ -195,10 +198,21 @@ resume-frame-requires c κs =
     let the-site-byte = c .before .before .site-byte in
     let the-match = c .before .match in
     unknown _ (saved (now (a .s))) (the-site-byte .ensures) (c .before .before .before .before .before .pre)
-    (the-match .rest .0 .0 .0 .0 .0 .0 .0 .0 .0 .0 .0 .0 .0 .0 .0 .0 .0 .0 .0 .0 .0 .0 .0 .0 .1) (the-match .rest .0 .0 .0 .0 .0 .0 .0 .0 .0 .0 .0 .0 .0 .0 .0 .0 .0 .0 .0 .0 .0 .0 .0 .1) (the-match .rest .0 .0 .0 .0 .0 .0 .0 .0 .0 .0 .0 .0 .0 .0 .0 .0 .0 .0 .0 .0 .0 .0 .1) (the-match .rest .0 .0 .0 .0 .0 .0 .0 .0 .0 .0 .0 .0 .0 .0 .0 .0 .0 .0 .0 .0 .0 .1) (the-match .rest .0 .0 .0 .0 .0 .0 .0 .0 .0 .0 .0 .0 .0 .0 .0 .0 .0 .0 .0 .0 .1)
-    (the-match .rest .0 .0 .0 .0 .0 .0 .0 .0 .0 .0 .0 .0 .0 .0 .0 .0 .0 .0 .0 .1) (the-match .rest .0 .0 .0 .0 .0 .0 .0 .0 .0 .0 .0 .0 .0 .0 .0 .0 .0 .0 .1) (the-match .rest .0 .0 .0 .0 .0 .0 .0 .0 .0 .0 .0 .0 .0 .0 .0 .0 .0 .1) (the-match .rest .0 .0 .0 .0 .0 .0 .0 .0 .0 .0 .0 .0 .0 .0 .0 .0 .1) (the-match .rest .0 .0 .0 .0 .0 .0 .0 .0 .0 .0 .0 .0 .0 .0 .0 .1)
-    (the-match .rest .0 .0 .0 .0 .0 .0 .0 .0 .0 .0 .0 .0 .0 .0 .1) (the-match .rest .0 .0 .0 .0 .0 .0 .0 .0 .0 .0 .0 .0 .0 .1) (the-match .rest .0 .0 .0 .0 .0 .0 .0 .0 .0 .0 .0 .0 .1) (the-match .rest .0 .0 .0 .0 .0 .0 .0 .0 .0 .0 .0 .1) (the-match .rest .0 .0 .0 .0 .0 .0 .0 .0 .0 .0 .1)
-    (the-match .rest .0 .0 .0 .0 .0 .0 .0 .0 .0 .1) (the-match .rest .0 .0 .0 .0 .0 .0 .0 .0 .1) (the-match .rest .0 .0 .0 .0 .0 .0 .0 .1) (the-match .rest .0 .0 .0 .0 .0 .0 .1) (the-match .rest .0 .0 .0 .0 .0 .1)
+    (the-match .rest .0 .0 .0 .0 .0 .0 .0 .0 .0 .0 .0 .0 .0 .0 .0 .0 .0 .0 .0 .0 .0 .0 .0 .0 .1)
+    (the-match .rest .0 .0 .0 .0 .0 .0 .0 .0 .0 .0 .0 .0 .0 .0 .0 .0 .0 .0 .0 .0 .0 .0 .0 .1)
+    (the-match .rest .0 .0 .0 .0 .0 .0 .0 .0 .0 .0 .0 .0 .0 .0 .0 .0 .0 .0 .0 .0 .0 .0 .1)
+    (the-match .rest .0 .0 .0 .0 .0 .0 .0 .0 .0 .0 .0 .0 .0 .0 .0 .0 .0 .0 .0 .0 .0 .1)
+    (the-match .rest .0 .0 .0 .0 .0 .0 .0 .0 .0 .0 .0 .0 .0 .0 .0 .0 .0 .0 .0 .0 .1)
+    (the-match .rest .0 .0 .0 .0 .0 .0 .0 .0 .0 .0 .0 .0 .0 .0 .0 .0 .0 .0 .0 .1)
+    (the-match .rest .0 .0 .0 .0 .0 .0 .0 .0 .0 .0 .0 .0 .0 .0 .0 .0 .0 .0 .1)
+    (the-match .rest .0 .0 .0 .0 .0 .0 .0 .0 .0 .0 .0 .0 .0 .0 .0 .0 .0 .1)
+    (the-match .rest .0 .0 .0 .0 .0 .0 .0 .0 .0 .0 .0 .0 .0 .0 .0 .0 .1)
+    (the-match .rest .0 .0 .0 .0 .0 .0 .0 .0 .0 .0 .0 .0 .0 .0 .0 .1)
+    (the-match .rest .0 .0 .0 .0 .0 .0 .0 .0 .0 .0 .0 .0 .0 .0 .1)
+    (the-match .rest .0 .0 .0 .0 .0 .0 .0 .0 .0 .0 .0 .0 .0 .1) (the-match .rest .0 .0 .0 .0 .0 .0 .0 .0 .0 .0 .0 .0 .1)
+    (the-match .rest .0 .0 .0 .0 .0 .0 .0 .0 .0 .0 .0 .1) (the-match .rest .0 .0 .0 .0 .0 .0 .0 .0 .0 .0 .1)
+    (the-match .rest .0 .0 .0 .0 .0 .0 .0 .0 .0 .1) (the-match .rest .0 .0 .0 .0 .0 .0 .0 .0 .1)
+    (the-match .rest .0 .0 .0 .0 .0 .0 .0 .1) (the-match .rest .0 .0 .0 .0 .0 .0 .1) (the-match .rest .0 .0 .0 .0 .0 .1)
     (the-match .rest .0 .0 .0 .0 .1) (the-match .rest .0 .0 .0 .1) (the-match .rest .0 .0 .1) (the-match .rest .0 .1) (the-match .rest .1)
 
 returns : tie.Need-returns

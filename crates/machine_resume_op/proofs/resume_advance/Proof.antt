@@ -32,10 +32,31 @@ suspend-or-end-advance-requires : tie.Need-suspend-or-end-advance-requires
 suspend-or-end-advance-requires c κs = search needs
 
 returns : tie.Need-returns
-returns c = (λ b. going (saved (now (c .before .before .before .before .before .before .before .before .before .args .s))) _ (c .before .before .before .before .before .before .before .before .before .args .v) (view (now (c .before .before .before .before .before .before .before .before .before .args .s))) b (at-advance (saved (now (c .before .before .before .before .before .before .before .before .before .args .s))) _ (c .before .before .before .before .before .before .before .before .before .pre) (c .before .before .before .before .before .before .decode .ensures ∙ ap decode (c .before .before .before .before .before .before .before .load-saved .ensures))) (gone-advance _ (c .before .before .before .before .before .before .before .before .before .args .v) (view (now (c .before .before .before .before .before .before .before .before .before .args .s))) b (sym (c .before .before .before .before .before .fits-at .ensures) ∙ c .before .before .before .before .if1 .taken)) (c .suspend-or-end-advance .ensures .0 b ∙ simp (c .before .before .iso-in-advance-resume .ensures .0)), c .suspend-or-end-advance .ensures .1 _)
+returns c = (
+  λ b. going (saved (now (c .before .before .before .before .before .before .before .before .before .args .s))) _
+      (c .before .before .before .before .before .before .before .before .before .args .v)
+      (view (now (c .before .before .before .before .before .before .before .before .before .args .s))) b
+      (at-advance (saved (now (c .before .before .before .before .before .before .before .before .before .args .s))) _
+      (c .before .before .before .before .before .before .before .before .before .pre)
+      (c .before .before .before .before .before .before .decode .ensures
+      ∙ ap decode (c .before .before .before .before .before .before .before .load-saved .ensures)))
+      (gone-advance _ (c .before .before .before .before .before .before .before .before .before .args .v)
+      (view (now (c .before .before .before .before .before .before .before .before .before .args .s))) b
+      (sym (c .before .before .before .before .before .fits-at .ensures) ∙ c .before .before .before .before .if1 .taken))
+      (c .suspend-or-end-advance .ensures .0 b ∙ simp (c .before .before .iso-in-advance-resume .ensures .0)),
+  c .suspend-or-end-advance .ensures .1 _,
+)
 
 returns-2 : tie.Need-returns-2
-returns-2 c = (λ b. staying (saved (now (c .before .before .before .before .before .args .s))) _ (c .before .before .before .before .before .args .v) (view (now (c .before .before .before .before .before .args .s))) b (at-advance (saved (now (c .before .before .before .before .before .args .s))) _ (c .before .before .before .before .before .pre) (c .before .before .decode .ensures ∙ ap decode (c .before .before .before .load-saved .ensures))) (stay-advance _ (c .before .before .before .before .before .args .v) (view (now (c .before .before .before .before .before .args .s))) b (sym (c .before .fits-at .ensures) ∙ c .if1 .left)), refl)
+returns-2 c = (
+  λ b. staying (saved (now (c .before .before .before .before .before .args .s))) _
+      (c .before .before .before .before .before .args .v) (view (now (c .before .before .before .before .before .args .s))) b
+      (at-advance (saved (now (c .before .before .before .before .before .args .s))) _ (c .before .before .before .before .before .pre)
+      (c .before .before .decode .ensures ∙ ap decode (c .before .before .before .load-saved .ensures)))
+      (stay-advance _ (c .before .before .before .before .before .args .v)
+      (view (now (c .before .before .before .before .before .args .s))) b (sym (c .before .fits-at .ensures) ∙ c .if1 .left)),
+  refl,
+)
 
 pub resume-advance-spec : {M : Type 1} → statement M
 resume-advance-spec =

@@ -35,10 +35,37 @@ same-length : tie.Need-same-length
 same-length c = search needs
 
 returns : tie.Need-returns
-returns c = (going (saved (now (c .before .before .before .before .before .before .before .before .before .before .before .before .before .args .s))) _ (c .before .before .before .before .before .before .before .before .before .before .before .before .before .args .v) (view (now (c .before .before .before .before .before .before .before .before .before .before .before .before .before .args .s))) (now (c .before .before .before .before .before .before .before .before .before .before .before .before .before .args .slots)) (at-bus (saved (now (c .before .before .before .before .before .before .before .before .before .before .before .before .before .args .s))) _ (c .before .before .before .before .before .before .before .before .before .before .before .before .before .pre) (c .before .before .before .before .before .before .before .before .before .decode .ensures ∙ ap decode (c .before .before .before .before .before .before .before .before .before .before .load-saved .ensures))) (gone-bus _ (c .before .before .before .before .before .before .before .before .before .before .before .before .before .args .v) (view (now (c .before .before .before .before .before .before .before .before .before .before .before .before .before .args .s))) (now (c .before .before .before .before .before .before .before .before .before .before .before .before .before .args .slots)) (sym (c .before .before .before .before .before .before .before .before .fits-at .ensures) ∙ c .before .before .before .before .before .before .before .if1 .taken)) (c .suspend-or-end-bus .ensures .0 _ ∙ simp (c .before .before .before .before .resume .ensures .0)), c .suspend-or-end-bus .ensures .1 _)
+returns c = (
+  going (saved (now (c .before .before .before .before .before .before .before .before .before .before .before .before .before .args .s))) _
+      (c .before .before .before .before .before .before .before .before .before .before .before .before .before .args .v)
+      (view (now (c .before .before .before .before .before .before .before .before .before .before .before .before .before .args .s)))
+      (now (c .before .before .before .before .before .before .before .before .before .before .before .before .before .args .slots))
+      (at-bus (saved (now (c .before .before .before .before .before .before .before .before .before .before .before .before .before .args .s))) _
+      (c .before .before .before .before .before .before .before .before .before .before .before .before .before .pre)
+      (c .before .before .before .before .before .before .before .before .before .decode .ensures
+      ∙ ap decode (c .before .before .before .before .before .before .before .before .before .before .load-saved .ensures)))
+      (gone-bus _ (c .before .before .before .before .before .before .before .before .before .before .before .before .before .args .v)
+      (view (now (c .before .before .before .before .before .before .before .before .before .before .before .before .before .args .s)))
+      (now (c .before .before .before .before .before .before .before .before .before .before .before .before .before .args .slots))
+      (sym (c .before .before .before .before .before .before .before .before .fits-at .ensures)
+      ∙ c .before .before .before .before .before .before .before .if1 .taken))
+      (c .suspend-or-end-bus .ensures .0 _ ∙ simp (c .before .before .before .before .resume .ensures .0)),
+  c .suspend-or-end-bus .ensures .1 _,
+)
 
 returns-2 : tie.Need-returns-2
-returns-2 c = (staying (saved (now (c .before .before .before .before .before .before .args .s))) _ (c .before .before .before .before .before .before .args .v) (view (now (c .before .before .before .before .before .before .args .s))) (now (c .before .before .before .before .before .before .args .slots)) (at-bus (saved (now (c .before .before .before .before .before .before .args .s))) _ (c .before .before .before .before .before .before .pre) (c .before .before .decode .ensures ∙ ap decode (c .before .before .before .load-saved .ensures))) (stay-bus _ (c .before .before .before .before .before .before .args .v) (view (now (c .before .before .before .before .before .before .args .s))) (now (c .before .before .before .before .before .before .args .slots)) (sym (c .before .fits-at .ensures) ∙ c .if1 .left)), refl)
+returns-2 c = (
+  staying (saved (now (c .before .before .before .before .before .before .args .s))) _
+      (c .before .before .before .before .before .before .args .v) (view (now (c .before .before .before .before .before .before .args .s)))
+      (now (c .before .before .before .before .before .before .args .slots))
+      (at-bus (saved (now (c .before .before .before .before .before .before .args .s))) _
+      (c .before .before .before .before .before .before .pre)
+      (c .before .before .decode .ensures ∙ ap decode (c .before .before .before .load-saved .ensures)))
+      (stay-bus _ (c .before .before .before .before .before .before .args .v)
+      (view (now (c .before .before .before .before .before .before .args .s)))
+      (now (c .before .before .before .before .before .before .args .slots)) (sym (c .before .fits-at .ensures) ∙ c .if1 .left)),
+  refl,
+)
 
 pub resume-bus-spec : {M : Type 1} → statement M
 resume-bus-spec =

@@ -32,10 +32,31 @@ suspend-or-end-control-requires : tie.Need-suspend-or-end-control-requires
 suspend-or-end-control-requires c κs = search needs
 
 returns : tie.Need-returns
-returns c = (λ b. going (saved (now (c .before .before .before .before .before .before .before .before .before .args .s))) _ (c .before .before .before .before .before .before .before .before .before .args .v) (view (now (c .before .before .before .before .before .before .before .before .before .args .s))) b (at-control (saved (now (c .before .before .before .before .before .before .before .before .before .args .s))) _ (c .before .before .before .before .before .before .before .before .before .pre) (c .before .before .before .before .before .before .decode .ensures ∙ ap decode (c .before .before .before .before .before .before .before .load-saved .ensures))) (gone-control _ (c .before .before .before .before .before .before .before .before .before .args .v) (view (now (c .before .before .before .before .before .before .before .before .before .args .s))) b (sym (c .before .before .before .before .before .fits-at .ensures) ∙ c .before .before .before .before .if1 .taken)) (c .suspend-or-end-control .ensures .0 b ∙ simp (c .before .before .resume .ensures .0)), c .suspend-or-end-control .ensures .1 _)
+returns c = (
+  λ b. going (saved (now (c .before .before .before .before .before .before .before .before .before .args .s))) _
+      (c .before .before .before .before .before .before .before .before .before .args .v)
+      (view (now (c .before .before .before .before .before .before .before .before .before .args .s))) b
+      (at-control (saved (now (c .before .before .before .before .before .before .before .before .before .args .s))) _
+      (c .before .before .before .before .before .before .before .before .before .pre)
+      (c .before .before .before .before .before .before .decode .ensures
+      ∙ ap decode (c .before .before .before .before .before .before .before .load-saved .ensures)))
+      (gone-control _ (c .before .before .before .before .before .before .before .before .before .args .v)
+      (view (now (c .before .before .before .before .before .before .before .before .before .args .s))) b
+      (sym (c .before .before .before .before .before .fits-at .ensures) ∙ c .before .before .before .before .if1 .taken))
+      (c .suspend-or-end-control .ensures .0 b ∙ simp (c .before .before .resume .ensures .0)),
+  c .suspend-or-end-control .ensures .1 _,
+)
 
 returns-2 : tie.Need-returns-2
-returns-2 c = (λ b. staying (saved (now (c .before .before .before .before .before .args .s))) _ (c .before .before .before .before .before .args .v) (view (now (c .before .before .before .before .before .args .s))) b (at-control (saved (now (c .before .before .before .before .before .args .s))) _ (c .before .before .before .before .before .pre) (c .before .before .decode .ensures ∙ ap decode (c .before .before .before .load-saved .ensures))) (stay-control _ (c .before .before .before .before .before .args .v) (view (now (c .before .before .before .before .before .args .s))) b (sym (c .before .fits-at .ensures) ∙ c .if1 .left)), refl)
+returns-2 c = (
+  λ b. staying (saved (now (c .before .before .before .before .before .args .s))) _
+      (c .before .before .before .before .before .args .v) (view (now (c .before .before .before .before .before .args .s))) b
+      (at-control (saved (now (c .before .before .before .before .before .args .s))) _ (c .before .before .before .before .before .pre)
+      (c .before .before .decode .ensures ∙ ap decode (c .before .before .before .load-saved .ensures)))
+      (stay-control _ (c .before .before .before .before .before .args .v)
+      (view (now (c .before .before .before .before .before .args .s))) b (sym (c .before .fits-at .ensures) ∙ c .if1 .left)),
+  refl,
+)
 
 pub resume-control-spec : {M : Type 1} → statement M
 resume-control-spec =

@@ -32,10 +32,31 @@ suspend-or-end-endpoint-requires : tie.Need-suspend-or-end-endpoint-requires
 suspend-or-end-endpoint-requires c κs = search needs
 
 returns : tie.Need-returns
-returns c = (λ b. going (saved (now (c .before .before .before .before .before .before .before .before .args .s))) _ (c .before .before .before .before .before .before .before .before .args .v) (view (now (c .before .before .before .before .before .before .before .before .args .s))) b (at-endpoint (saved (now (c .before .before .before .before .before .before .before .before .args .s))) _ (c .before .before .before .before .before .before .before .before .pre) (c .before .before .before .before .before .decode .ensures ∙ ap decode (c .before .before .before .before .before .before .load-saved .ensures))) (gone-endpoint _ (c .before .before .before .before .before .before .before .before .args .v) (view (now (c .before .before .before .before .before .before .before .before .args .s))) b (sym (c .before .before .before .before .fits-at .ensures) ∙ c .before .before .before .if1 .taken)) (c .suspend-or-end-endpoint .ensures .0 b ∙ simp (c .before .before .resume .ensures .0)), c .suspend-or-end-endpoint .ensures .1 _)
+returns c = (
+  λ b. going (saved (now (c .before .before .before .before .before .before .before .before .args .s))) _
+      (c .before .before .before .before .before .before .before .before .args .v)
+      (view (now (c .before .before .before .before .before .before .before .before .args .s))) b
+      (at-endpoint (saved (now (c .before .before .before .before .before .before .before .before .args .s))) _
+      (c .before .before .before .before .before .before .before .before .pre)
+      (c .before .before .before .before .before .decode .ensures
+      ∙ ap decode (c .before .before .before .before .before .before .load-saved .ensures)))
+      (gone-endpoint _ (c .before .before .before .before .before .before .before .before .args .v)
+      (view (now (c .before .before .before .before .before .before .before .before .args .s))) b
+      (sym (c .before .before .before .before .fits-at .ensures) ∙ c .before .before .before .if1 .taken))
+      (c .suspend-or-end-endpoint .ensures .0 b ∙ simp (c .before .before .resume .ensures .0)),
+  c .suspend-or-end-endpoint .ensures .1 _,
+)
 
 returns-2 : tie.Need-returns-2
-returns-2 c = (λ b. staying (saved (now (c .before .before .before .before .before .args .s))) _ (c .before .before .before .before .before .args .v) (view (now (c .before .before .before .before .before .args .s))) b (at-endpoint (saved (now (c .before .before .before .before .before .args .s))) _ (c .before .before .before .before .before .pre) (c .before .before .decode .ensures ∙ ap decode (c .before .before .before .load-saved .ensures))) (stay-endpoint _ (c .before .before .before .before .before .args .v) (view (now (c .before .before .before .before .before .args .s))) b (sym (c .before .fits-at .ensures) ∙ c .if1 .left)), refl)
+returns-2 c = (
+  λ b. staying (saved (now (c .before .before .before .before .before .args .s))) _
+      (c .before .before .before .before .before .args .v) (view (now (c .before .before .before .before .before .args .s))) b
+      (at-endpoint (saved (now (c .before .before .before .before .before .args .s))) _ (c .before .before .before .before .before .pre)
+      (c .before .before .decode .ensures ∙ ap decode (c .before .before .before .load-saved .ensures)))
+      (stay-endpoint _ (c .before .before .before .before .before .args .v)
+      (view (now (c .before .before .before .before .before .args .s))) b (sym (c .before .fits-at .ensures) ∙ c .if1 .left)),
+  refl,
+)
 
 pub resume-endpoint-spec : {M : Type 1} → statement M
 resume-endpoint-spec =

@@ -23,7 +23,11 @@ shared-slice-read-part c = omega arith
 slice-write-part : tie.Need-slice-write-part Inv-loop μ-loop
 slice-write-part c =
     let v = c .before .before .loop .inv in
-    rw (v .2, length-copy (c .before .before .before .args .part .now) (c .before .before .before .args .packet .now) (c .before .before .loop .i) (omega arith) (omega arith)) (omega arith)
+    rw (
+      v .2,
+      length-copy (c .before .before .before .args .part .now)
+          (c .before .before .before .args .packet .now) (c .before .before .loop .i) (omega arith) (omega arith),
+    ) (omega arith)
 
 add-i : tie.Need-add-i Inv-loop μ-loop
 add-i c = omega arith
@@ -33,8 +37,13 @@ loop-less c = omega arith
 
 loop-again : tie.Need-loop-again Inv-loop μ-loop
 loop-again c =
-    let v = c .before .before .loop .inv in
-    (omega arith, v .1, rw (v .2) (copy-more (c .before .before .before .args .part .now) (c .before .before .before .args .packet .now) (c .before .before .loop .i) (omega arith) (omega arith)))
+    let v = c .before .before .loop .inv in (
+      omega arith,
+      v .1,
+      rw (v .2)
+          (copy-more (c .before .before .before .args .part .now)
+          (c .before .before .before .args .packet .now) (c .before .before .loop .i) (omega arith) (omega arith)),
+    )
 
 same-length : tie.Need-same-length Inv-loop μ-loop
 same-length c =

@@ -36,7 +36,8 @@ same-length c = search needs
 returns-3 : tie.Need-returns-3
 returns-3 c =
     let s = c .before .before .before .before .before .before .before .before .before .args in
-    out-fits (s .buf .now) (s .at) (s .out .now) (s .n) (s .at + s .n - s .at) (c .before .before .copy .last .0) (omega arith) (omega arith) (omega arith) (c .before .before .copy .ensures)
+    out-fits (s .buf .now) (s .at) (s .out .now) (s .n) (s .at + s .n - s .at)
+    (c .before .before .copy .last .0) (omega arith) (omega arith) (omega arith) (c .before .before .copy .ensures)
 
 pub copy-out-spec : {M : Type 1} → statement M
 copy-out-spec =

@@ -18,7 +18,15 @@ store-ep-requires c κs = search needs
 
 returns : tie.Need-returns
 unfolding admittedOn
-returns c = (simp (c .store-ep .ensures .0, c .before .arrived .ensures, c .before .before .before .record .ensures .0, c .before .before .before .before .before .load-ep .ensures), c .store-ep .ensures .1 ∙ c .before .before .before .record .ensures .1)
+returns c = (
+  simp (
+    c .store-ep .ensures .0,
+    c .before .arrived .ensures,
+    c .before .before .before .record .ensures .0,
+    c .before .before .before .before .before .load-ep .ensures,
+  ),
+  c .store-ep .ensures .1 ∙ c .before .before .before .record .ensures .1,
+)
 
 pub admit-spec : {M : Type 1} → statement M
 admit-spec = tie.close (tie.spec load-ep-requires record-requires arrived-requires store-ep-requires returns)

@@ -22,10 +22,25 @@ same-length c = search needs
 
 returns : tie.Need-returns
 returns c = (
-  simp (c .before .before .before .before .before .before .before .slot-addr .ensures, c .before .before .before .before .before .before .before .before .load-ep .ensures),
+  simp (
+    c .before .before .before .before .before .before .before .slot-addr .ensures,
+    c .before .before .before .before .before .before .before .before .load-ep .ensures,
+  ),
   (
-    simp (c .before .before .before .before .store-ep .ensures .0, c .before .before .before .before .before .armed .ensures, c .before .before .before .before .before .before .before .slot-addr .ensures, c .before .before .before .before .before .before .before .before .load-ep .ensures),
-    (simp (c .before .before .iso-out-arm .ensures, c .before .before .before .before .before .before .before .slot-addr .ensures, c .before .before .before .before .before .before .before .before .load-ep .ensures), c .before .before .before .before .store-ep .ensures .1),
+    simp (
+      c .before .before .before .before .store-ep .ensures .0,
+      c .before .before .before .before .before .armed .ensures,
+      c .before .before .before .before .before .before .before .slot-addr .ensures,
+      c .before .before .before .before .before .before .before .before .load-ep .ensures,
+    ),
+    (
+      simp (
+        c .before .before .iso-out-arm .ensures,
+        c .before .before .before .before .before .before .before .slot-addr .ensures,
+        c .before .before .before .before .before .before .before .before .load-ep .ensures,
+      ),
+      c .before .before .before .before .store-ep .ensures .1,
+    ),
   ),
 )
 

@@ -22,16 +22,40 @@ same-length c = search needs
 returns : tie.Need-returns
 unfolding arriveOn
 returns c = (
-  simp (c .before .before .arrived .ensures .0, c .before .before .before .before .before .capped .ensures, c .before .before .before .before .before .before .before .before .before .load-ep .ensures, c .before .before .before .before .before .before .if1 .taken, ← c .before .before .before .before .before .before .before .receiving .ensures),
+  simp (
+    c .before .before .arrived .ensures .0,
+    c .before .before .before .before .before .capped .ensures,
+    c .before .before .before .before .before .before .before .before .before .load-ep .ensures,
+    c .before .before .before .before .before .before .if1 .taken,
+    ← c .before .before .before .before .before .before .before .receiving .ensures,
+  ),
   (
-    simp (c .before .before .arrived .ensures .1 .0, c .before .before .before .before .before .capped .ensures, c .before .before .before .before .before .before .before .before .before .load-ep .ensures, c .before .before .before .before .before .before .if1 .taken, ← c .before .before .before .before .before .before .before .receiving .ensures),
-    (simp (c .before .before .arrived .ensures .1 .1 .0, c .before .before .before .before .before .capped .ensures, c .before .before .before .before .before .before .before .before .before .load-ep .ensures, c .before .before .before .before .before .before .if1 .taken, ← c .before .before .before .before .before .before .before .receiving .ensures), c .before .before .arrived .ensures .1 .1 .1),
+    simp (
+      c .before .before .arrived .ensures .1 .0,
+      c .before .before .before .before .before .capped .ensures,
+      c .before .before .before .before .before .before .before .before .before .load-ep .ensures,
+      c .before .before .before .before .before .before .if1 .taken,
+      ← c .before .before .before .before .before .before .before .receiving .ensures,
+    ),
+    (
+      simp (
+        c .before .before .arrived .ensures .1 .1 .0,
+        c .before .before .before .before .before .capped .ensures,
+        c .before .before .before .before .before .before .before .before .before .load-ep .ensures,
+        c .before .before .before .before .before .before .if1 .taken,
+        ← c .before .before .before .before .before .before .before .receiving .ensures,
+      ),
+      c .before .before .arrived .ensures .1 .1 .1,
+    ),
   ),
 )
 
 returns-2 : tie.Need-returns-2
 unfolding arriveOn
-returns-2 c = (simp (c .before .before .before .load-ep .ensures, c .if1 .left, ← c .before .receiving .ensures), (simp (c .if1 .left, ← c .before .receiving .ensures), (simp (c .if1 .left, ← c .before .receiving .ensures), refl)))
+returns-2 c = (
+  simp (c .before .before .before .load-ep .ensures, c .if1 .left, ← c .before .receiving .ensures),
+  (simp (c .if1 .left, ← c .before .receiving .ensures), (simp (c .if1 .left, ← c .before .receiving .ensures), refl)),
+)
 
 pub arrive-spec : {M : Type 1} → statement M
 arrive-spec = tie.close (tie.spec load-ep-requires receiving-requires capped-requires arrived-requires same-length returns returns-2)

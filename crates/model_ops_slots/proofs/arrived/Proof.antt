@@ -30,11 +30,16 @@ same-length c = search needs
 returns : tie.Need-returns
 returns c =
     let a = c .before .before .before .before .before .before .before .before .before .before .args in
-    let h = stages (a .e) (a .len) (view (a .s .now)) (a .buf .now) (c .before .before .before .before .before .before .before .admit .ensures .0) (c .before .before .before .before .before .load-ep .ensures) in (
+    let h = stages (a .e) (a .len)
+    (view (a .s .now)) (a .buf .now) (c .before .before .before .before .before .before .before .admit .ensures .0)
+    (c .before .before .before .before .before .load-ep .ensures) in (
       c .before .before .arm .ensures .0 ∙ ap (λ (x : ℕ × St). x .0) h,
       (
         c .before .before .arm .ensures .1 .0 ∙ ap (λ (x : ℕ × St). x .1 .0) h,
-        (c .before .before .arm .ensures .1 .1 .0 ∙ ap (λ (x : ℕ × St). x .1 .1) h, c .before .before .arm .ensures .1 .1 .1 ∙ c .before .before .before .before .before .before .before .admit .ensures .1),
+        (
+          c .before .before .arm .ensures .1 .1 .0 ∙ ap (λ (x : ℕ × St). x .1 .1) h,
+          c .before .before .arm .ensures .1 .1 .1 ∙ c .before .before .before .before .before .before .before .admit .ensures .1,
+        ),
       ),
     )
 

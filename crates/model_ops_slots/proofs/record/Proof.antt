@@ -18,7 +18,16 @@ write-packet-requires c κs = search needs
 
 returns : tie.Need-returns
 unfolding recordedOn
-returns c = (simp (c .write-packet .ensures .0, ← c .before .slot-index .ensures, c .before .before .before .if1 .taken, ← c .before .before .before .before .has-room-out .ensures, ← c .before .before .before .before .before .load-ep .ensures), c .write-packet .ensures .1)
+returns c = (
+  simp (
+    c .write-packet .ensures .0,
+    ← c .before .slot-index .ensures,
+    c .before .before .before .if1 .taken,
+    ← c .before .before .before .before .has-room-out .ensures,
+    ← c .before .before .before .before .before .load-ep .ensures,
+  ),
+  c .write-packet .ensures .1,
+)
 
 returns-2 : tie.Need-returns-2
 unfolding recordedOn

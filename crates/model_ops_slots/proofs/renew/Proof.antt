@@ -18,7 +18,15 @@ store-ep-requires c κs = search needs
 
 returns : tie.Need-returns
 unfolding renewedOn
-returns c = (simp (c .store-ep .ensures .0, c .before .by-loan .ensures, c .before .before .before .clear-stamps .ensures .0, c .before .before .before .before .before .load-ep .ensures), c .store-ep .ensures .1 ∙ c .before .before .before .clear-stamps .ensures .1)
+returns c = (
+  simp (
+    c .store-ep .ensures .0,
+    c .before .by-loan .ensures,
+    c .before .before .before .clear-stamps .ensures .0,
+    c .before .before .before .before .before .load-ep .ensures,
+  ),
+  c .store-ep .ensures .1 ∙ c .before .before .before .clear-stamps .ensures .1,
+)
 
 pub renew-spec : {M : Type 1} → statement M
 renew-spec = tie.close (tie.spec load-ep-requires clear-stamps-requires by-loan-requires store-ep-requires returns)

@@ -22,7 +22,8 @@ store-globals-requires : tie.Need-store-globals-requires
 store-globals-requires c κs = search needs
 
 -- the code's steps, each by its result
-stages : (d : Driver) {x y z : Driver} {g : Globals} → x ≡ resetBelow 16 d → y ≡ noStamps x → g ≡ y .globals → z ≡ withGlobals y (withSetup 0 (g .«setup_low») (g .«setup_high») g) → z ≡ resetAll d
+stages : (d : Driver) {x y z : Driver} {g : Globals} → x ≡ resetBelow 16 d → y ≡ noStamps x
+    → g ≡ y .globals → z ≡ withGlobals y (withSetup 0 (g .«setup_low») (g .«setup_high») g) → z ≡ resetAll d
 unfolding resetAll
 stages d {y = y} h₁ h₂ h₃ h₄ =
     h₄ ∙ ap (λ (g : Globals). withGlobals y (withSetup 0 (g .«setup_low») (g .«setup_high») g)) h₃
@@ -31,8 +32,11 @@ stages d {y = y} h₁ h₂ h₃ h₄ =
 returns : tie.Need-returns
 returns c =
     let a = c .before .before .before .before .before .before .before .before .args in (
-      stages (view (a .s .now)) (c .before .before .before .before .before .before .reset-eps .ensures .0) (c .before .before .before .before .clear-all-stamps .ensures .0) (c .before .before .load-globals .ensures) (c .store-globals .ensures .0),
-      c .store-globals .ensures .1 ∙ c .before .before .before .before .clear-all-stamps .ensures .1 ∙ c .before .before .before .before .before .before .reset-eps .ensures .1,
+      stages (view (a .s .now)) (c .before .before .before .before .before .before .reset-eps .ensures .0)
+          (c .before .before .before .before .clear-all-stamps .ensures .0)
+          (c .before .before .load-globals .ensures) (c .store-globals .ensures .0),
+      c .store-globals .ensures .1 ∙ c .before .before .before .before .clear-all-stamps .ensures .1
+          ∙ c .before .before .before .before .before .before .reset-eps .ensures .1,
     )
 
 pub reset-all-spec : {M : Type 1} → statement M

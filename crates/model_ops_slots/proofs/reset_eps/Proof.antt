@@ -36,7 +36,8 @@ loop-again c =
     let at = c .before .before .before .before .before .loop in (
       omega arith,
       (
-        c .reset-one2 .ensures .0 ∙ ap (renewed In (at .e)) (c .before .before .reset-one .ensures .0) ∙ reset-next (at .e) (view (c .before .before .before .before .before .before .args .s .now)) (view (at .s)) (at .inv .1 .0),
+        c .reset-one2 .ensures .0 ∙ ap (renewed In (at .e)) (c .before .before .reset-one .ensures .0) ∙ reset-next (at .e)
+            (view (c .before .before .before .before .before .before .args .s .now)) (view (at .s)) (at .inv .1 .0),
         c .reset-one2 .ensures .1 ∙ c .before .before .reset-one .ensures .1 ∙ at .inv .1 .1,
       ),
     )

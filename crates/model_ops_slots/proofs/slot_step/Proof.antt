@@ -40,17 +40,30 @@ same-length c = search needs
 returns : tie.Need-returns
 returns c =
     let a = c .before .before .before .before .before .before .before .before .before .before .before .before .args in
-    let h = stages (a .e) (a .k) (view (a .s .now)) (a .buf .now) (c .before .before .before .before .before .before .before .before .before .load-ep .ensures) (c .before .before .before .before .before .before .before .before .is-on .ensures) (c .before .before .before .before .before .before .before .if1 .taken) (c .before .before .before .before .before .renew-first .ensures .0) in (
+    let h = stages (a .e) (a .k) (view (a .s .now))
+    (a .buf .now) (c .before .before .before .before .before .before .before .before .before .load-ep .ensures)
+    (c .before .before .before .before .before .before .before .before .is-on .ensures)
+    (c .before .before .before .before .before .before .before .if1 .taken)
+    (c .before .before .before .before .before .renew-first .ensures .0) in (
       c .before .before .arm .ensures .0 ∙ ap (λ (x : ℕ × St). x .0) h,
       (
         c .before .before .arm .ensures .1 .0 ∙ ap (λ (x : ℕ × St). x .1 .0) h,
-        (c .before .before .arm .ensures .1 .1 .0 ∙ ap (λ (x : ℕ × St). x .1 .1) h, c .before .before .arm .ensures .1 .1 .1 ∙ c .before .before .before .before .before .renew-first .ensures .1),
+        (
+          c .before .before .arm .ensures .1 .1 .0 ∙ ap (λ (x : ℕ × St). x .1 .1) h,
+          c .before .before .arm .ensures .1 .1 .1 ∙ c .before .before .before .before .before .renew-first .ensures .1,
+        ),
       ),
     )
 
 returns-2 : tie.Need-returns-2
 unfolding slotStep
-returns-2 c = (simp (c .if1 .left, ← c .before .is-on .ensures, ← c .before .before .load-ep .ensures), (simp (c .if1 .left, ← c .before .is-on .ensures, ← c .before .before .load-ep .ensures), (simp (c .if1 .left, ← c .before .is-on .ensures, ← c .before .before .load-ep .ensures), refl)))
+returns-2 c = (
+  simp (c .if1 .left, ← c .before .is-on .ensures, ← c .before .before .load-ep .ensures),
+  (
+    simp (c .if1 .left, ← c .before .is-on .ensures, ← c .before .before .load-ep .ensures),
+    (simp (c .if1 .left, ← c .before .is-on .ensures, ← c .before .before .load-ep .ensures), refl),
+  ),
+)
 
 pub slot-step-spec : {M : Type 1} → statement M
 slot-step-spec = tie.close (tie.spec load-ep-requires is-on-requires renew-first-requires arm-requires same-length returns returns-2)

@@ -13,7 +13,10 @@ store-stamp-requires : tie.Need-store-stamp-requires
 store-stamp-requires c κs = search needs
 
 returns : tie.Need-returns
-returns c = (simp (c .store-stamp .ensures .0, c .before .before .store-len .ensures .0, c .before .before .before .before .load-globals .ensures), c .store-stamp .ensures .1 ∙ c .before .before .store-len .ensures .1)
+returns c = (
+  simp (c .store-stamp .ensures .0, c .before .before .store-len .ensures .0, c .before .before .before .before .load-globals .ensures),
+  c .store-stamp .ensures .1 ∙ c .before .before .store-len .ensures .1,
+)
 
 pub write-packet-spec : {M : Type 1} → statement M
 write-packet-spec = tie.close (tie.spec load-globals-requires store-len-requires store-stamp-requires returns)

@@ -61,7 +61,8 @@ loop-again c =
     let first = a .driver % 4 * 32 in (
       omega arith,
       ap (set (at .time) (first + at .bit)) (c .entry-kept .ensures)
-          ∙ (ap (λ (t : List ℕ). set t (first + at .bit) (entryKept (a .config) (at .bit) (getD t (first + at .bit) 0))) (at .inv .1) ∙ sym (kept-more (a .config) first (at .bit) (a .time .now))),
+          ∙ (ap (λ (t : List ℕ). set t (first + at .bit) (entryKept (a .config) (at .bit) (getD t (first + at .bit) 0))) (at .inv .1)
+          ∙ sym (kept-more (a .config) first (at .bit) (a .time .now))),
     )
 
 returns : tie.Need-returns Inv-loop μ-loop

@@ -19,9 +19,13 @@ use ghost.Atoms.{Atoms, sem}
 use contract.Monad.{Fun, fact}
 use contract.Running.{givenOf, tables, tablesOf}
 use sound.WpLaws.{WpFn-mono, FmC, fmOf}
-use types.Kit.{Given, Item, ‵, raw, _⊛_, some, later, ⋆, prop, runs, frees, atRet, Sq, _$_, _∵_, !, qed, by, move, keep, drop, use1, use2, split, join, pick, rewrite, fsplit, fjoin, feqL, feqI, suffices, frame, await, updating, now as at-once, show, done}
+use types.Kit.{Given, Item, ‵, raw, _⊛_, some, later, ⋆, prop, runs, frees, atRet, Sq, _$_, _∵_, !, qed, by, move, keep}
+use types.Kit.{drop, use1, use2, split, join, pick, rewrite, fsplit, fjoin, feqL, feqI, suffices, frame, await}
+use types.Kit.{updating, now as at-once, show, done}
 use types.Part.{agg, whole, sub, look-in}
-use types.Run.{look, store, init, forget, stop, hop, fld, from, load, addr, of-opd, and-then, no-more, assigns, land, first, skips, branches, returns-within, returns, enter, alloc1, alloc0, params1, pass1, pass0, free1, free0, exec}
+use types.Run.{look, store, init, forget, stop, hop, fld, from, load, addr, of-opd, and-then, no-more, assigns, land}
+use types.Run.{first, skips, branches, returns-within, returns, enter, alloc1, alloc0, params1, pass1, pass0, free1}
+use types.Run.{free0, exec}
 use types.Tokens.{lft-new, lft-end, lent-back}
 use types.Share.{arr-parts}
 use denote.Exit.{yes}
@@ -338,7 +342,8 @@ module _ {M : Type 1} (𝓤 : URA M) (H : Heap 𝓤) (A : Atoms 𝓤) (W : Given
   again-type = sliceTy (tyRef erased mut record-type)
 
   module _ (C : Calls 𝓤 H) (Λ : Loops 𝓤 H) (fm : FmC 𝓤 H (W .laws) C)
-      (known-asks : Triple 𝓤 (C #req-channels·is-refused) (Asks 𝓤 H A at-mem run)) (known-refuses : Triple 𝓤 (C #req-channels·refusal) (Refuses 𝓤 H A at-mem run))
+      (known-asks : Triple 𝓤 (C #req-channels·is-refused) (Asks 𝓤 H A at-mem run))
+      (known-refuses : Triple 𝓤 (C #req-channels·refusal) (Refuses 𝓤 H A at-mem run))
       (known-read : Triple 𝓤 (C #req-channels·list·read) (Read 𝓤 H A at-mem run)) (known-best : Triple 𝓤 (C #req-channels·best) (Chooses 𝓤 H A at-mem run))
       (known-set : Triple 𝓤 (C #req-channels·set-in) (SetIn 𝓤 H A at-mem run)) (known-mark : Triple 𝓤 (C #req-channels·list·mark) (Mark 𝓤 H A at-mem run)) where
     module _ (gn : Room T.the-row n) (gu : u < 2 ^ 32) (gg : g < 2 ^ 32) (l₀ l₁ l₂ l₃ l₄ l₅ l₆ l₇ l₈ l₉ m₀ m₁ m₂ m₃ : ℕ) where
@@ -557,9 +562,14 @@ best-set-spec 𝓤 H 𝓜 𝓖 𝓡 =
     entered 𝓤 H (tripleOf 𝓤 H (𝓖 .A) f.signature (f.spec 𝓤 H (𝓖 .A) (𝓜 .mem) (𝓡 .run)))
     (tables 𝓤 H 𝓜 𝓡 code.env .C) (tables 𝓤 H 𝓜 𝓡 code.env .Λ) #f code.function (code.unfolded 𝓤 H 𝓜 𝓡)
     (f-meets 𝓤 H (𝓖 .A) (givenOf 𝓤 H 𝓜 𝓖) (𝓜 .mem) (𝓡 .run) (tablesOf 𝓤 H 𝓜 (tables 𝓤 H 𝓜 𝓡 code.env))
-    (cited 𝓤 H (Asks 𝓤 H (𝓖 .A) (𝓜 .mem) (𝓡 .run)) 𝓜 𝓡 code.env #req-channels·is-refused asks-def.routine code.calls-req-channels·is-refused (asks-thm.met 𝓤 H 𝓜 𝓖 𝓡))
-    (cited 𝓤 H (Refuses 𝓤 H (𝓖 .A) (𝓜 .mem) (𝓡 .run)) 𝓜 𝓡 code.env #req-channels·refusal refuses-def.routine code.calls-req-channels·refusal (refuses-thm.met 𝓤 H 𝓜 𝓖 𝓡))
-    (cited 𝓤 H (Read 𝓤 H (𝓖 .A) (𝓜 .mem) (𝓡 .run)) 𝓜 𝓡 code.env #req-channels·list·read read-def.routine code.calls-req-channels·list·read (read-thm.met 𝓤 H 𝓜 𝓖 𝓡))
+    (cited 𝓤 H (Asks 𝓤 H (𝓖 .A) (𝓜 .mem) (𝓡 .run)) 𝓜 𝓡 code.env #req-channels·is-refused asks-def.routine code.calls-req-channels·is-refused
+    (asks-thm.met 𝓤 H 𝓜 𝓖 𝓡))
+    (cited 𝓤 H (Refuses 𝓤 H (𝓖 .A) (𝓜 .mem) (𝓡 .run)) 𝓜 𝓡 code.env #req-channels·refusal refuses-def.routine code.calls-req-channels·refusal
+    (refuses-thm.met 𝓤 H 𝓜 𝓖 𝓡))
+    (cited 𝓤 H (Read 𝓤 H (𝓖 .A) (𝓜 .mem) (𝓡 .run)) 𝓜 𝓡 code.env #req-channels·list·read read-def.routine code.calls-req-channels·list·read
+    (read-thm.met 𝓤 H 𝓜 𝓖 𝓡))
     (cited 𝓤 H (Chooses 𝓤 H (𝓖 .A) (𝓜 .mem) (𝓡 .run)) 𝓜 𝓡 code.env #req-channels·best best-def.routine code.calls-req-channels·best (best-thm.met 𝓤 H 𝓜 𝓖 𝓡))
-    (cited 𝓤 H (SetIn 𝓤 H (𝓖 .A) (𝓜 .mem) (𝓡 .run)) 𝓜 𝓡 code.env #req-channels·set-in set-in-def.routine code.calls-req-channels·set-in (set-in-thm.met 𝓤 H 𝓜 𝓖 𝓡))
-    (cited 𝓤 H (Mark 𝓤 H (𝓖 .A) (𝓜 .mem) (𝓡 .run)) 𝓜 𝓡 code.env #req-channels·list·mark mark-def.routine code.calls-req-channels·list·mark (mark-thm.met 𝓤 H 𝓜 𝓖 𝓡)))
+    (cited 𝓤 H (SetIn 𝓤 H (𝓖 .A) (𝓜 .mem) (𝓡 .run)) 𝓜 𝓡 code.env #req-channels·set-in set-in-def.routine code.calls-req-channels·set-in
+    (set-in-thm.met 𝓤 H 𝓜 𝓖 𝓡))
+    (cited 𝓤 H (Mark 𝓤 H (𝓖 .A) (𝓜 .mem) (𝓡 .run)) 𝓜 𝓡 code.env #req-channels·list·mark mark-def.routine code.calls-req-channels·list·mark
+    (mark-thm.met 𝓤 H 𝓜 𝓖 𝓡)))

@@ -43,7 +43,10 @@ returns-2 c =
     c .refused2 .ensures ∙ rw (h, two-in-first s a)
 
 agree-requires-2 : tie.Need-agree-requires-2
-agree-requires-2 c κs = (sym (c .before .before .before .before .is-configuration .ensures) ∙ not-false _ (c .before .before .before .if1 .left), c .before .before .gathered .ensures .1)
+agree-requires-2 c κs = (
+  sym (c .before .before .before .before .is-configuration .ensures) ∙ not-false _ (c .before .before .before .if1 .left),
+  c .before .before .gathered .ensures .1,
+)
 
 refused-requires-3 : tie.Need-refused-requires-3
 refused-requires-3 c κs = search needs
@@ -52,10 +55,12 @@ returns-3 : tie.Need-returns-3
 unfolding readingOf
 returns-3 c =
     let s = c .before .before .before .before .before .before .before .before .before .args .bytes .now in
-    let h = sym (c .before .before .before .before .before .before .before .is-configuration .ensures) ∙ not-false _ (c .before .before .before .before .before .before .if1 .left) in
+    let h = sym (c .before .before .before .before .before .before .before .is-configuration .ensures)
+    ∙ not-false _ (c .before .before .before .before .before .before .if1 .left) in
     let g = c .before .before .before .before .before .gathered .ensures .0 in
     let l : listed (c .before .before .before .before .before .gathered .result) ≡ listOf s = rw g (listed-of (listOf s)) in
-    let a = ap (λ (x : List Endpoint). agree x (endpoints true s)) (sym l) ∙ sym (c .before .before .before .before .agree .ensures) ∙ not-false _ (c .before .before .before .if2 .left) in
+    let a = ap (λ (x : List Endpoint). agree x (endpoints true s)) (sym l)
+    ∙ sym (c .before .before .before .before .agree .ensures) ∙ not-false _ (c .before .before .before .if2 .left) in
     let b = ap (λ (x : List Endpoint). agree x (endpoints false s)) (sym l) ∙ sym (c .before .before .agree2 .ensures) ∙ not-true _ (c .before .if3 .taken) in
     c .refused3 .ensures ∙ rw (h, two-in-others s a b)
 
@@ -63,10 +68,12 @@ returns-4 : tie.Need-returns-4
 unfolding readingOf
 returns-4 c =
     let s = c .before .before .before .before .before .before .before .before .args .bytes .now in
-    let h = sym (c .before .before .before .before .before .before .is-configuration .ensures) ∙ not-false _ (c .before .before .before .before .before .if1 .left) in
+    let h = sym (c .before .before .before .before .before .before .is-configuration .ensures)
+    ∙ not-false _ (c .before .before .before .before .before .if1 .left) in
     let g = c .before .before .before .before .gathered .ensures .0 in
     let l : listed (c .before .before .before .before .gathered .result) ≡ listOf s = rw g (listed-of (listOf s)) in
-    let a = ap (λ (x : List Endpoint). agree x (endpoints true s)) (sym l) ∙ sym (c .before .before .before .agree .ensures) ∙ not-false _ (c .before .before .if2 .left) in
+    let a = ap (λ (x : List Endpoint). agree x (endpoints true s)) (sym l)
+    ∙ sym (c .before .before .before .agree .ensures) ∙ not-false _ (c .before .before .if2 .left) in
     let b = ap (λ (x : List Endpoint). agree x (endpoints false s)) (sym l) ∙ sym (c .before .agree2 .ensures) ∙ not-false _ (c .if3 .left) in
     rw (h, one-each s a b, g)
 

@@ -44,7 +44,10 @@ returns-2 c =
     let h = le-ltb _ _ (c .before .before .before .before .before .before .before .before .before .before .before .before .if1 .left) in
     let l = laid-all (a .room .now) (k .count .result) (a .list .entries) (omega arith) in (
       rw (← n, h),
-      rw (← n, h) (c .before .before .endpoints .ensures ∙ rw (c .before .before .before .before .before .before .interface .ensures, c .before .before .before .before .before .before .before .before .before .before .configuration .ensures) l),
+      rw (← n, h) (c .before .before .endpoints .ensures ∙ rw (
+        c .before .before .before .before .before .before .interface .ensures,
+        c .before .before .before .before .before .before .before .before .before .before .configuration .ensures,
+      ) l),
     )
 
 pub write-spec : {M : Type 1} → statement M

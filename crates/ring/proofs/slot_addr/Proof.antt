@@ -15,7 +15,9 @@ cast-offset-2 : tie.Need-cast-offset-2
 cast-offset-2 c = search needs
 
 mul-offset : tie.Need-mul-offset
-mul-offset c = record { fits = omega (arith, mul-le-mul-right {m = c .before .slot-index .result} {n = 255} (c .before .before .args .s .stride) (omega arith)) }
+mul-offset c = record {
+  fits = omega (arith, mul-le-mul-right {m = c .before .slot-index .result} {n = 255} (c .before .before .args .s .stride) (omega arith));
+}
 
 wrapping-add-u32-requires : tie.Need-wrapping-add-u32-requires
 wrapping-add-u32-requires c κs = search needs

@@ -20,7 +20,8 @@ returns : tie.Need-returns
 returns c =
     let st = c .before .before in
     let k = c .before .key-of in
-    request-at (now (st .args .s)) (st .args .dir) (st .args .e) (k .result) (c .read-request .result) (k .ensures .0) (k .ensures .1) (c .read-request .ensures)
+    request-at (now (st .args .s)) (st .args .dir)
+    (st .args .e) (k .result) (c .read-request .result) (k .ensures .0) (k .ensures .1) (c .read-request .ensures)
 
 pub load-request-spec : {M : Type 1} → statement M
 load-request-spec =

@@ -30,7 +30,8 @@ returns c =
     let st = c .before .before .before .before .before .before in
     let k = c .before .before .key-of in (
       ap view (c .write-ep .ensures)
-          ∙ view-ep (now (st .args .s)) (c .before .before .before .before .sized-arg2 .given .0) (st .args .dir) (st .args .e) (k .result) (st .args .r) (k .ensures .0) (k .ensures .1),
+          ∙ view-ep (now (st .args .s)) (c .before .before .before .before .sized-arg2 .given .0)
+          (st .args .dir) (st .args .e) (k .result) (st .args .r) (k .ensures .0) (k .ensures .1),
       ap saved (c .write-ep .ensures) ∙ saved-off (now (st .args .s)) (0 + k .result * 30) (bytes epWidths (epAs (st .args .r))) (omega (arith, k .ensures .1)),
     )
 

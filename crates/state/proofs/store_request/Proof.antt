@@ -30,8 +30,10 @@ returns c =
     let st = c .before .before .before .before .before .before in
     let k = c .before .before .key-of in (
       ap view (c .write-request .ensures)
-          ∙ view-request (now (st .args .s)) (c .before .before .before .before .sized-arg2 .given .0) (st .args .dir) (st .args .e) (k .result) (st .args .r) (k .ensures .0) (k .ensures .1),
-      ap saved (c .write-request .ensures) ∙ saved-off (now (st .args .s)) (2583 + k .result * 5) (bytes requestWidths (requestAs (st .args .r))) (omega (arith, k .ensures .1)),
+          ∙ view-request (now (st .args .s)) (c .before .before .before .before .sized-arg2 .given .0)
+          (st .args .dir) (st .args .e) (k .result) (st .args .r) (k .ensures .0) (k .ensures .1),
+      ap saved (c .write-request .ensures) ∙ saved-off (now (st .args .s))
+          (2583 + k .result * 5) (bytes requestWidths (requestAs (st .args .r))) (omega (arith, k .ensures .1)),
     )
 
 pub store-request-spec : {M : Type 1} → statement M

@@ -16,7 +16,12 @@ store-ep-requires c κs = search needs
 
 returns : tie.Need-returns
 returns c =
-    simp (c .store-ep .ensures .0, c .before .before .wrapping-add-u8 .ensures, c .before .before .before .store-len .ensures .0, c .before .before .before .before .before .load-ep .ensures)
+    simp (
+      c .store-ep .ensures .0,
+      c .before .before .wrapping-add-u8 .ensures,
+      c .before .before .before .store-len .ensures .0,
+      c .before .before .before .before .before .load-ep .ensures,
+    )
 
 pub state-bench-push-spec : {M : Type 1} → statement M
 state-bench-push-spec =

@@ -18,9 +18,11 @@ use ghost.Atoms.{Atoms, sem}
 use contract.Monad.{Fun, fact}
 use contract.Running.{givenOf, tables, tablesOf}
 use sound.WpLaws.{WpFn-mono, FmC, fmOf}
-use types.Kit.{Given, Item, ‵, raw, _⊛_, some, later, ⋆, runs, atRet, Sq, _$_, _∵_, !, qed, by, move, keep, drop, use1, use2, split, join, pick, rewrite, fsplit, fjoin, feqL, suffices, frame, await, done}
+use types.Kit.{Given, Item, ‵, raw, _⊛_, some, later, ⋆, runs, atRet, Sq, _$_, _∵_, !, qed, by, move, keep, drop, use1}
+use types.Kit.{use2, split, join, pick, rewrite, fsplit, fjoin, feqL, suffices, frame, await, done}
 use types.Part.{agg, whole, sub, look-in}
-use types.Run.{look, init, forget, stop, hop, fld, from, load, addr, and-then, no-more, assigns, land, returns, enter, alloc1, alloc0, params1, pass1, pass0, free1, free0}
+use types.Run.{look, init, forget, stop, hop, fld, from, load, addr, and-then, no-more, assigns, land, returns, enter}
+use types.Run.{alloc1, alloc0, params1, pass1, pass0, free1, free0}
 use denote.Exit.{yes}
 use denote.RattleType.{RattleType, owns}
 use denote.Laws.{Is, shows}
@@ -38,7 +40,8 @@ use denote.Triple.Entry.{onEntry}
 use denote.Triple.Spec.{Meets, tripleOf}
 use denote.Triple.Table.{entered, cited}
 use denote.Triple.Clauses.{ensured, lasts}
-use denote.Triple.Walked.{says, Stays, gave-slice, gave-ref, stay-none, stay-dropped, walkOf, Walks, ends-at, walked, goes-gave-slice, goes-gave-ref, goes-none, goes-dropped, walk-meets}
+use denote.Triple.Walked.{says, Stays, gave-slice, gave-ref, stay-none, stay-dropped, walkOf, Walks, ends-at, walked}
+use denote.Triple.Walked.{goes-gave-slice, goes-gave-ref, goes-none, goes-dropped, walk-meets}
 use Rattle.req_channels.specs.declared.Channel.{Channel}
 use Rattle.req_channels.specs.declared.Answer.{Answer}
 use Rattle.req_channels.specs.Answers.{answerOf, listAfter}
@@ -260,7 +263,8 @@ module _ {M : Type 1} (𝓤 : URA M) (H : Heap 𝓤) (A : Atoms 𝓤) (W : Given
   -- ---- the walk
 
   module _ (C : Calls 𝓤 H) (Λ : Loops 𝓤 H) (fm : FmC 𝓤 H (W .laws) C) (known-time : Triple 𝓤 (C #req-bus-time·in-use) (Asks 𝓤 H A at-mem run))
-      (known-best : Triple 𝓤 (C #req-channels·best-set) (Best 𝓤 H A at-mem run)) (known-into : Triple 𝓤 (C #survey-c·rooms·best-into) (Into 𝓤 H A at-mem run)) where
+      (known-best : Triple 𝓤 (C #req-channels·best-set) (Best 𝓤 H A at-mem run))
+      (known-into : Triple 𝓤 (C #survey-c·rooms·best-into) (Into 𝓤 H A at-mem run)) where
     module _ (gn : Room T.the-row n) (gg : g < 2 ^ 32) (l₀ l₁ l₂ l₃ l₄ l₅ l₆ l₇ l₈ l₉ m₀ m₁ m₂ m₃ : ℕ) where
       abbrev En : Env 𝓤 H
       En =
@@ -431,6 +435,7 @@ usbhs-best-set-spec 𝓤 H 𝓜 𝓖 𝓡 =
     (tables 𝓤 H 𝓜 𝓡 code.env .C) (tables 𝓤 H 𝓜 𝓡 code.env .Λ) #f code.function (code.unfolded 𝓤 H 𝓜 𝓡)
     (f-meets 𝓤 H (𝓖 .A) (givenOf 𝓤 H 𝓜 𝓖) (𝓜 .mem) (𝓡 .run) (tablesOf 𝓤 H 𝓜 (tables 𝓤 H 𝓜 𝓡 code.env))
     (cited 𝓤 H (Asks 𝓤 H (𝓖 .A) (𝓜 .mem) (𝓡 .run)) 𝓜 𝓡 code.env #req-bus-time·in-use time-def.routine code.calls-req-bus-time·in-use (time-thm.met 𝓤 H 𝓜 𝓖 𝓡))
-    (cited 𝓤 H (Best 𝓤 H (𝓖 .A) (𝓜 .mem) (𝓡 .run)) 𝓜 𝓡 code.env #req-channels·best-set best-def.routine code.calls-req-channels·best-set (best-thm.met 𝓤 H 𝓜 𝓖 𝓡))
+    (cited 𝓤 H (Best 𝓤 H (𝓖 .A) (𝓜 .mem) (𝓡 .run)) 𝓜 𝓡 code.env #req-channels·best-set best-def.routine code.calls-req-channels·best-set
+    (best-thm.met 𝓤 H 𝓜 𝓖 𝓡))
     (cited 𝓤 H (Into 𝓤 H (𝓖 .A) (𝓜 .mem) (𝓡 .run)) 𝓜 𝓡 code.env #survey-c·rooms·best-into into-def.routine code.calls-survey-c·rooms·best-into
     (into-thm.met 𝓤 H 𝓜 𝓖 𝓡)))

@@ -54,7 +54,10 @@ returns-2 c =
     let n = c .before .before .before .before .before .before .before .before .before .endpoint-of .ensures in
     let a = c .before .before .before .before .before .before .before .before .write .ensures in
     let e = sym (write-any _ (s .endpoint) (now (s .bytes)) (now (s .block)) _ n) ∙ (sym (a .0) ∙ c .before .before .before .before .next .given .1) in
-    rw (← w) (rw e (c .ended .ensures ∙ rw (c .before .result-of .ensures)), (rw e (c .before .before .numbers-of .ensures), a .1 ∙ written-any _ (s .endpoint) (now (s .bytes)) (now (s .block)) _ n))
+    rw (← w) (
+      rw e (c .ended .ensures ∙ rw (c .before .result-of .ensures)),
+      (rw e (c .before .before .numbers-of .ensures), a .1 ∙ written-any _ (s .endpoint) (now (s .bytes)) (now (s .block)) _ n),
+    )
 
 pub usbhs-card-write-spec : {M : Type 1} → statement M
 usbhs-card-write-spec =

@@ -20,7 +20,11 @@ word-of-requires : tie.Need-word-of-requires
 word-of-requires c κs = search needs
 
 returns : tie.Need-returns
-returns c = (_, c .word-of .ensures, (λ a b. simp (← c .before .before .dir-of .ensures) (c .before .allocate .ensures .0 a b), c .before .allocate .ensures .1))
+returns c = (
+  _,
+  c .word-of .ensures,
+  (λ a b. simp (← c .before .before .dir-of .ensures) (c .before .allocate .ensures .0 a b), c .before .allocate .ensures .1),
+)
 
 pub usbhs-allocate-spec : {M : Type 1} → statement M
 usbhs-allocate-spec =

@@ -17,7 +17,11 @@ word-of-requires : tie.Need-word-of-requires
 word-of-requires c κs = search needs
 
 returns : tie.Need-returns
-returns c = (_, c .word-of .ensures, (λ a b. simp (← c .before .before .flag-of .ensures) (c .before .begin-data-out .ensures .0 a b), c .before .begin-data-out .ensures .1))
+returns c = (
+  _,
+  c .word-of .ensures,
+  (λ a b. simp (← c .before .before .flag-of .ensures) (c .before .begin-data-out .ensures .0 a b), c .before .begin-data-out .ensures .1),
+)
 
 pub usbhs-begin-data-out-spec : {M : Type 1} → statement M
 usbhs-begin-data-out-spec =

@@ -21,7 +21,17 @@ word-of-requires : tie.Need-word-of-requires
 word-of-requires c κs = search needs
 
 returns : tie.Need-returns
-returns c = (_, c .word-of .ensures, (λ a b. simp (← c .before .before .flag-of .ensures, ← c .before .before .before .dir-of .ensures) (c .before .begin-set-stalled .ensures .0 a b), c .before .begin-set-stalled .ensures .1))
+returns c = (
+  _,
+  c .word-of .ensures,
+  (
+    λ a b. simp (
+      ← c .before .before .flag-of .ensures,
+      ← c .before .before .before .dir-of .ensures,
+    ) (c .before .begin-set-stalled .ensures .0 a b),
+    c .before .begin-set-stalled .ensures .1,
+  ),
+)
 
 pub usbhs-begin-set-stalled-spec : {M : Type 1} → statement M
 usbhs-begin-set-stalled-spec =

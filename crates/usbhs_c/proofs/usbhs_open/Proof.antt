@@ -23,8 +23,10 @@ word-of-requires c κs = search needs
 returns : tie.Need-returns
 returns c =
     let a = c .before .before .before .before .before .before .args in
-    let o = c .before .before .before .«open» in
-    ((_, c .word-of .ensures, (o .ensures .0, o .ensures .1)), λ b. c .before .stamp-by .ensures (now (a .slots)) _ ∙ ap (λ (x : Called). stampBy (x .0) (now (a .stamp))) (o .ensures .0 b))
+    let o = c .before .before .before .«open» in (
+      (_, c .word-of .ensures, (o .ensures .0, o .ensures .1)),
+      λ b. c .before .stamp-by .ensures (now (a .slots)) _ ∙ ap (λ (x : Called). stampBy (x .0) (now (a .stamp))) (o .ensures .0 b),
+    )
 
 pub usbhs-open-spec : {M : Type 1} → statement M
 usbhs-open-spec = tie.close (tie.spec open-requires stamp-by-requires word-of-requires returns)

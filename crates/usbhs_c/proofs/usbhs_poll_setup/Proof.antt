@@ -23,7 +23,20 @@ setup-word-requires c κs =
     (ap (λ (x : Called). x .0) (c .poll-setup .ensures .0 [] []))
 
 returns : tie.Need-returns
-returns c = ((c .setup-word .ensures .0 .0, c .setup-word .ensures .0 .1, (λ a b. told-by (c .setup-word .ensures .0 .2 _) (c .before .poll-setup .ensures .0 a b), kept-told (c .before .poll-setup .result) (c .setup-word .ensures .0 .0) [] _ (view (now (c .before .before .before .before .args .s))) _ _ (c .setup-word .ensures .0 .2 _) (c .before .poll-setup .ensures .1))), λ a b. c .setup-word .ensures .1 _ ∙ ap (λ (x : Called). lentBy (x .0) (now (c .before .before .before .before .args .packet))) (c .before .poll-setup .ensures .0 a b))
+returns c = (
+  (
+    c .setup-word .ensures .0 .0,
+    c .setup-word .ensures .0 .1,
+    (
+      λ a b. told-by (c .setup-word .ensures .0 .2 _) (c .before .poll-setup .ensures .0 a b),
+      kept-told (c .before .poll-setup .result)
+          (c .setup-word .ensures .0 .0) [] _ (view (now (c .before .before .before .before .args .s))) _ _
+          (c .setup-word .ensures .0 .2 _) (c .before .poll-setup .ensures .1),
+    ),
+  ),
+  λ a b. c .setup-word .ensures .1 _
+      ∙ ap (λ (x : Called). lentBy (x .0) (now (c .before .before .before .before .args .packet))) (c .before .poll-setup .ensures .0 a b),
+)
 
 pub usbhs-poll-setup-spec : {M : Type 1} → statement M
 usbhs-poll-setup-spec =

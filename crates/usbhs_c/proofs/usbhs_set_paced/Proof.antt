@@ -17,7 +17,11 @@ word-of-requires : tie.Need-word-of-requires
 word-of-requires c κs = search needs
 
 returns : tie.Need-returns
-returns c = (_, c .word-of .ensures, (λ a b. simp (← c .before .before .flag-of .ensures) (c .before .set-paced .ensures .0 a b), c .before .set-paced .ensures .1))
+returns c = (
+  _,
+  c .word-of .ensures,
+  (λ a b. simp (← c .before .before .flag-of .ensures) (c .before .set-paced .ensures .0 a b), c .before .set-paced .ensures .1),
+)
 
 pub usbhs-set-paced-spec : {M : Type 1} → statement M
 usbhs-set-paced-spec =

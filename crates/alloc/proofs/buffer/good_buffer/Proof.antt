@@ -14,14 +14,23 @@ returns c = simp (not-true (c .before .validate-buffer-size .result) (c .if1 .ta
 
 returns-2 : tie.Need-returns-2
 unfolding goodBuffer
-returns-2 c = simp (eq-eqb _ _ (c .if2 .taken), not-false (c .before .before .validate-buffer-size .result) (c .before .if1 .left), ← c .before .before .validate-buffer-size .ensures)
+returns-2 c = simp (
+  eq-eqb _ _ (c .if2 .taken),
+  not-false (c .before .before .validate-buffer-size .result) (c .before .if1 .left),
+  ← c .before .before .validate-buffer-size .ensures,
+)
 
 product-requires : tie.Need-product-requires
 product-requires c κs = search needs
 
 returns-3 : tie.Need-returns-3
 unfolding goodBuffer
-returns-3 c = simp (c .product .ensures, ne-eqb _ _ (c .before .if2 .left), not-false (c .before .before .before .validate-buffer-size .result) (c .before .before .if1 .left), ← c .before .before .before .validate-buffer-size .ensures)
+returns-3 c = simp (
+  c .product .ensures,
+  ne-eqb _ _ (c .before .if2 .left),
+  not-false (c .before .before .before .validate-buffer-size .result) (c .before .before .if1 .left),
+  ← c .before .before .before .validate-buffer-size .ensures,
+)
 
 pub good-buffer-spec : {M : Type 1} → statement M
 good-buffer-spec =

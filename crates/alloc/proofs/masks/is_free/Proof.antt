@@ -21,7 +21,13 @@ has-requires-2 c κs = search needs
 
 returns-2 : tie.Need-returns-2
 unfolding isFree
-returns-2 c = simp (c .has2 .ensures, ← c .before .nums .ensures, c .before .before .if1 .left, ← c .before .before .before .has .ensures, ← c .before .before .before .before .taken-in .ensures)
+returns-2 c = simp (
+  c .has2 .ensures,
+  ← c .before .nums .ensures,
+  c .before .before .if1 .left,
+  ← c .before .before .before .has .ensures,
+  ← c .before .before .before .before .taken-in .ensures,
+)
 
 pub is-free-spec : {M : Type 1} → statement M
 is-free-spec =

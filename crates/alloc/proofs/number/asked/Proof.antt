@@ -17,7 +17,8 @@ returns c = simp (ne-eqb _ _ (c .if1 .taken), ← c .before .dir-bit .ensures)
 returns-2 : tie.Need-returns-2
 unfolding askedOf
 returns-2 c =
-    let index : bitAnd (c .before .before .before .args .address) 127 ≡ c .before .before .before .args .address % 128 = and-mask (c .before .before .before .args .address) 7 in
+    let index : bitAnd (c .before .before .before .args .address) 127
+    ≡ c .before .before .before .args .address % 128 = and-mask (c .before .before .before .args .address) 7 in
     simp (← index, eq-eqb _ _ (c .if2 .taken), eq-eqb _ _ (c .before .if1 .left), ← c .before .before .dir-bit .ensures)
 
 cast-if3 : tie.Need-cast-if3
@@ -26,8 +27,15 @@ cast-if3 c = search needs
 returns-3 : tie.Need-returns-3
 unfolding askedOf
 returns-3 c =
-    let index : bitAnd (c .before .before .before .before .args .address) 127 ≡ c .before .before .before .before .args .address % 128 = and-mask (c .before .before .before .before .args .address) 7 in
-    simp (← index, le-leb _ _ (c .if3 .taken), ne-eqb _ _ (c .before .if2 .left), eq-eqb _ _ (c .before .before .if1 .left), ← c .before .before .before .dir-bit .ensures)
+    let index : bitAnd (c .before .before .before .before .args .address) 127
+    ≡ c .before .before .before .before .args .address % 128 = and-mask (c .before .before .before .before .args .address) 7 in
+    simp (
+      ← index,
+      le-leb _ _ (c .if3 .taken),
+      ne-eqb _ _ (c .before .if2 .left),
+      eq-eqb _ _ (c .before .before .if1 .left),
+      ← c .before .before .before .dir-bit .ensures,
+    )
 
 cast-e : tie.Need-cast-e
 cast-e c = search needs
@@ -38,14 +46,34 @@ is-free-requires c κs = search needs
 returns-4 : tie.Need-returns-4
 unfolding askedOf
 returns-4 c =
-    let index : bitAnd (c .before .before .before .before .before .before .args .address) 127 ≡ c .before .before .before .before .before .before .args .address % 128 = and-mask (c .before .before .before .before .before .before .args .address) 7 in
-    simp (← index, c .if4 .taken, ← c .before .is-free .ensures, lt-leb _ _ (c .before .before .if3 .left), ne-eqb _ _ (c .before .before .before .if2 .left), eq-eqb _ _ (c .before .before .before .before .if1 .left), ← c .before .before .before .before .before .dir-bit .ensures)
+    let index : bitAnd (c .before .before .before .before .before .before .args .address) 127
+    ≡ c .before .before .before .before .before .before .args .address % 128 =
+    and-mask (c .before .before .before .before .before .before .args .address) 7 in
+    simp (
+      ← index,
+      c .if4 .taken,
+      ← c .before .is-free .ensures,
+      lt-leb _ _ (c .before .before .if3 .left),
+      ne-eqb _ _ (c .before .before .before .if2 .left),
+      eq-eqb _ _ (c .before .before .before .before .if1 .left),
+      ← c .before .before .before .before .before .dir-bit .ensures,
+    )
 
 returns-5 : tie.Need-returns-5
 unfolding askedOf
 returns-5 c =
-    let index : bitAnd (c .before .before .before .before .before .before .args .address) 127 ≡ c .before .before .before .before .before .before .args .address % 128 = and-mask (c .before .before .before .before .before .before .args .address) 7 in
-    simp (← index, c .if4 .left, ← c .before .is-free .ensures, lt-leb _ _ (c .before .before .if3 .left), ne-eqb _ _ (c .before .before .before .if2 .left), eq-eqb _ _ (c .before .before .before .before .if1 .left), ← c .before .before .before .before .before .dir-bit .ensures)
+    let index : bitAnd (c .before .before .before .before .before .before .args .address) 127
+    ≡ c .before .before .before .before .before .before .args .address % 128 =
+    and-mask (c .before .before .before .before .before .before .args .address) 7 in
+    simp (
+      ← index,
+      c .if4 .left,
+      ← c .before .is-free .ensures,
+      lt-leb _ _ (c .before .before .if3 .left),
+      ne-eqb _ _ (c .before .before .before .if2 .left),
+      eq-eqb _ _ (c .before .before .before .before .if1 .left),
+      ← c .before .before .before .before .before .dir-bit .ensures,
+    )
 
 pub asked-spec : {M : Type 1} → statement M
 asked-spec =

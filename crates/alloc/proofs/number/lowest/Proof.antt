@@ -38,7 +38,8 @@ returns : tie.Need-returns Inv-loop μ-loop
 returns c =
     let i = c .before .before .before .loop .inv .1 in
     let e = c .before .before .before .loop .e in
-    let s = step (c .before .before .before .before .args .a) (c .before .before .before .before .args .iso) (c .before .before .before .before .args .dir) (16 - e) e (omega arith) in
+    let s = step (c .before .before .before .before .args .a) (c .before .before .before .before .args .iso)
+    (c .before .before .before .before .args .dir) (16 - e) e (omega arith) in
     rw (i, s, ← c .before .is-free .ensures, c .if1 .taken)
 
 add-e : tie.Need-add-e Inv-loop μ-loop
@@ -51,7 +52,8 @@ loop-again : tie.Need-loop-again Inv-loop μ-loop
 loop-again c =
     let i = c .before .before .before .loop .inv .1 in
     let e = c .before .before .before .loop .e in
-    let s = step (c .before .before .before .before .args .a) (c .before .before .before .before .args .iso) (c .before .before .before .before .args .dir) (16 - e) e (omega arith) in
+    let s = step (c .before .before .before .before .args .a) (c .before .before .before .before .args .iso)
+    (c .before .before .before .before .args .dir) (16 - e) e (omega arith) in
     let l : 16 - (e + 1) ≡ 16 - e - 1 = omega arith in
     (omega arith, rw (i, s, ← c .before .is-free .ensures, c .if1 .left, l))
 

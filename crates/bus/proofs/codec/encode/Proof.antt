@@ -275,19 +275,40 @@ returns-19 c = simp (← c .code19 .ensures, ← c .before .flag-of3 .ensures, c
 
 returns-20 : tie.Need-returns-20
 unfolding encode
-returns-20 c = simp (← c .code20 .ensures, ← c .before .before .flag-of4 .ensures, ← c .before .flag-of5 .ensures, c .before .before .before .before .p10 .given .1)
+returns-20 c = simp (
+  ← c .code20 .ensures,
+  ← c .before .before .flag-of4 .ensures,
+  ← c .before .flag-of5 .ensures,
+  c .before .before .before .before .p10 .given .1,
+)
 
 returns-21 : tie.Need-returns-21
 unfolding encode
-returns-21 c = simp (← c .code21 .ensures, ← c .before .before .flag-of6 .ensures, ← c .before .flag-of7 .ensures, c .before .before .before .before .p11 .given .1)
+returns-21 c = simp (
+  ← c .code21 .ensures,
+  ← c .before .before .flag-of6 .ensures,
+  ← c .before .flag-of7 .ensures,
+  c .before .before .before .before .p11 .given .1,
+)
 
 returns-22 : tie.Need-returns-22
 unfolding encode
-returns-22 c = simp (← c .code22 .ensures, ← c .before .before .before .dir-as3 .ensures, ← c .before .before .flag-of8 .ensures, ← c .before .flag-of9 .ensures, c .before .before .before .before .before .p12 .given .1)
+returns-22 c = simp (
+  ← c .code22 .ensures,
+  ← c .before .before .before .dir-as3 .ensures,
+  ← c .before .before .flag-of8 .ensures,
+  ← c .before .flag-of9 .ensures,
+  c .before .before .before .before .before .p12 .given .1,
+)
 
 returns-23 : tie.Need-returns-23
 unfolding encode
-returns-23 c = simp (← c .code23 .ensures, ← c .before .before .dir-as4 .ensures, ← c .before .flag-of10 .ensures, c .before .before .before .before .p13 .given .1)
+returns-23 c = simp (
+  ← c .code23 .ensures,
+  ← c .before .before .dir-as4 .ensures,
+  ← c .before .flag-of10 .ensures,
+  c .before .before .before .before .p13 .given .1,
+)
 
 returns-24 : tie.Need-returns-24
 unfolding encode

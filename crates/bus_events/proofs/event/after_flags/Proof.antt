@@ -19,11 +19,29 @@ suspend-requires c κs = search needs
 
 returns-2 : tie.Need-returns-2
 unfolding afterFlags
-returns-2 c = (λ d b. simp (← c .before .before .before .before .byte .ensures, ← c .before .before .before .bus-rst .ensures, c .before .before .if1 .left, ← c .before .suspend .ensures, c .if2 .taken), refl)
+returns-2 c = (
+  λ d b. simp (
+    ← c .before .before .before .before .byte .ensures,
+    ← c .before .before .before .bus-rst .ensures,
+    c .before .before .if1 .left,
+    ← c .before .suspend .ensures,
+    c .if2 .taken,
+  ),
+  refl,
+)
 
 returns-3 : tie.Need-returns-3
 unfolding afterFlags
-returns-3 c = (λ d b. simp (← c .before .before .before .before .byte .ensures, ← c .before .before .before .bus-rst .ensures, c .before .before .if1 .left, ← c .before .suspend .ensures, c .if2 .left), tt)
+returns-3 c = (
+  λ d b. simp (
+    ← c .before .before .before .before .byte .ensures,
+    ← c .before .before .before .bus-rst .ensures,
+    c .before .before .if1 .left,
+    ← c .before .suspend .ensures,
+    c .if2 .left,
+  ),
+  tt,
+)
 
 pub after-flags-spec : {M : Type 1} → statement M
 after-flags-spec =

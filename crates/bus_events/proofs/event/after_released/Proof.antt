@@ -18,14 +18,30 @@ cast-t10 c = search needs
 
 returns : tie.Need-returns
 unfolding afterReleased
-returns c = (λ b. simp (c .before .set-int-en .ensures .0, c .before .before .before .with-suspend .ensures, c .before .before .before .before .load-globals .ensures, c .if1 .taken), (c .before .set-int-en .ensures .1, refl))
+returns c = (
+  λ b. simp (
+    c .before .set-int-en .ensures .0,
+    c .before .before .before .with-suspend .ensures,
+    c .before .before .before .before .load-globals .ensures,
+    c .if1 .taken,
+  ),
+  (c .before .set-int-en .ensures .1, refl),
+)
 
 cast-t14 : tie.Need-cast-t14
 cast-t14 c = search needs
 
 returns-2 : tie.Need-returns-2
 unfolding afterReleased
-returns-2 c = (λ b. simp (c .before .set-int-en .ensures .0, c .before .before .before .with-suspend .ensures, c .before .before .before .before .load-globals .ensures, c .if1 .left), (c .before .set-int-en .ensures .1, refl))
+returns-2 c = (
+  λ b. simp (
+    c .before .set-int-en .ensures .0,
+    c .before .before .before .with-suspend .ensures,
+    c .before .before .before .before .load-globals .ensures,
+    c .if1 .left,
+  ),
+  (c .before .set-int-en .ensures .1, refl),
+)
 
 pub after-released-spec : {M : Type 1} → statement M
 after-released-spec =

@@ -21,7 +21,15 @@ cast-t9 c = search needs
 
 returns : tie.Need-returns
 unfolding afterReset
-returns c = (λ b. simp (c .set-int-en .ensures .0, c .before .before .with-bus-rst .ensures, c .before .before .before .load-globals .ensures, c .before .before .before .before .before .wake-all .ensures .0), (c .set-int-en .ensures .1 ∙ c .before .before .before .before .before .wake-all .ensures .1, refl))
+returns c = (
+  λ b. simp (
+    c .set-int-en .ensures .0,
+    c .before .before .with-bus-rst .ensures,
+    c .before .before .before .load-globals .ensures,
+    c .before .before .before .before .before .wake-all .ensures .0,
+  ),
+  (c .set-int-en .ensures .1 ∙ c .before .before .before .before .before .wake-all .ensures .1, refl),
+)
 
 pub after-reset-spec : {M : Type 1} → statement M
 after-reset-spec =

@@ -19,7 +19,15 @@ store-globals-requires c κs = search needs
 
 returns-2 : tie.Need-returns-2
 unfolding afterFlags afterStatus afterReleased
-returns-2 c = (λ b. simp (c .store-globals .ensures .0, ← c .before .before .before .is-on .ensures, c .before .before .if1 .left, ← c .before .before .before .before .load-globals .ensures), (c .store-globals .ensures .1, tt))
+returns-2 c = (
+  λ b. simp (
+    c .store-globals .ensures .0,
+    ← c .before .before .before .is-on .ensures,
+    c .before .before .if1 .left,
+    ← c .before .before .before .before .load-globals .ensures,
+  ),
+  (c .store-globals .ensures .1, tt),
+)
 
 pub poll-spec : {M : Type 1} → statement M
 poll-spec =

@@ -26,10 +26,25 @@ suspend-or-end-bus-requires : tie.Need-suspend-or-end-bus-requires
 suspend-or-end-bus-requires c κs = tt
 
 returns : tie.Need-returns
-returns c = (λ a b. back (other-call calls.BusDisable 2 (resultless done) (decode (saved (now (c .before .before .before .before .before .before .before .args .s)))) (view (now (c .before .before .before .before .before .before .before .args .s))) a b refl) (c .suspend-or-end-bus .ensures .0 b ∙ simp (c .before .before .clear-wakes .ensures .0, ← c .before .before .before .before .before .stop .ensures, eq-eqb _ _ (c .before .before .before .before .if1 .taken))), c .suspend-or-end-bus .ensures .1 _)
+returns c = (
+  λ a b. back
+      (other-call calls.BusDisable 2
+      (resultless done) (decode (saved (now (c .before .before .before .before .before .before .before .args .s))))
+      (view (now (c .before .before .before .before .before .before .before .args .s))) a b refl) (c .suspend-or-end-bus .ensures .0 b ∙ simp (
+        c .before .before .clear-wakes .ensures .0,
+        ← c .before .before .before .before .before .stop .ensures,
+        eq-eqb _ _ (c .before .before .before .before .if1 .taken),
+      )),
+  c .suspend-or-end-bus .ensures .1 _,
+)
 
 returns-2 : tie.Need-returns-2
-returns-2 c = (λ a b. back (other-call calls.BusDisable 2 (resultless done) (decode (saved (now (c .before .before .before .args .s)))) (view (now (c .before .before .before .args .s))) a b refl) (simp (← c .before .stop .ensures, ne-eqb _ _ (c .if1 .left))), refl)
+returns-2 c = (
+  λ a b. back
+      (other-call calls.BusDisable 2 (resultless done) (decode (saved (now (c .before .before .before .args .s))))
+      (view (now (c .before .before .before .args .s))) a b refl) (simp (← c .before .stop .ensures, ne-eqb _ _ (c .if1 .left))),
+  refl,
+)
 
 pub begin-bus-disable-spec : {M : Type 1} → statement M
 begin-bus-disable-spec =

@@ -40,13 +40,57 @@ suspend-or-end-bus-requires : tie.Need-suspend-or-end-bus-requires
 suspend-or-end-bus-requires c κs = c .before .is-endpoint-stalled .ensures .1
 
 returns : tie.Need-returns
-returns c = (λ a b. back (stall-call (calls.IsStalled (c .before .before .before .before .before .before .before .before .before .before .before .before .args .dir) (c .before .before .before .before .before .before .before .before .before .before .before .before .args .e)) (c .before .before .before .before .before .before .before .before .before .before .before .before .args .dir) (c .before .before .before .before .before .before .before .before .before .before .before .before .args .e) (operation (script.isEndpointStalled (c .before .before .before .before .before .before .before .before .before .before .before .before .args .dir) (c .before .before .before .before .before .before .before .before .before .before .before .before .args .e))) (decode (saved (now (c .before .before .before .before .before .before .before .before .before .before .before .before .args .s)))) (view (now (c .before .before .before .before .before .before .before .before .before .before .before .before .args .s))) a b refl) (c .suspend-or-end-bus .ensures .0 b ∙ simp (c .before .before .is-endpoint-stalled .ensures .0, c .before .before .before .endpoint .ensures, c .before .before .before .before .clear-wakes .ensures .0, ← c .before .before .before .before .before .before .before .before .before .before .stop .ensures, eq-eqb _ _ (c .before .before .before .before .before .before .before .before .before .if1 .taken), ← c .before .before .before .before .before .before .before .is-stallable .ensures, c .before .before .before .before .before .before .if2 .taken)), c .suspend-or-end-bus .ensures .1 _)
+returns c = (
+  λ a b. back
+      (stall-call
+      (calls.IsStalled (c .before .before .before .before .before .before .before .before .before .before .before .before .args .dir)
+      (c .before .before .before .before .before .before .before .before .before .before .before .before .args .e))
+      (c .before .before .before .before .before .before .before .before .before .before .before .before .args .dir)
+      (c .before .before .before .before .before .before .before .before .before .before .before .before .args .e) (operation
+      (script.isEndpointStalled (c .before .before .before .before .before .before .before .before .before .before .before .before .args .dir)
+      (c .before .before .before .before .before .before .before .before .before .before .before .before .args .e)))
+      (decode (saved (now (c .before .before .before .before .before .before .before .before .before .before .before .before .args .s))))
+      (view (now (c .before .before .before .before .before .before .before .before .before .before .before .before .args .s))) a b refl)
+      (c .suspend-or-end-bus .ensures .0 b ∙ simp (
+        c .before .before .is-endpoint-stalled .ensures .0,
+        c .before .before .before .endpoint .ensures,
+        c .before .before .before .before .clear-wakes .ensures .0,
+        ← c .before .before .before .before .before .before .before .before .before .before .stop .ensures,
+        eq-eqb _ _ (c .before .before .before .before .before .before .before .before .before .if1 .taken),
+        ← c .before .before .before .before .before .before .before .is-stallable .ensures,
+        c .before .before .before .before .before .before .if2 .taken,
+      )),
+  c .suspend-or-end-bus .ensures .1 _,
+)
 
 returns-2 : tie.Need-returns-2
-returns-2 c = (λ a b. back (stall-call (calls.IsStalled (c .before .before .before .before .before .before .args .dir) (c .before .before .before .before .before .before .args .e)) (c .before .before .before .before .before .before .args .dir) (c .before .before .before .before .before .before .args .e) (operation (script.isEndpointStalled (c .before .before .before .before .before .before .args .dir) (c .before .before .before .before .before .before .args .e))) (decode (saved (now (c .before .before .before .before .before .before .args .s)))) (view (now (c .before .before .before .before .before .before .args .s))) a b refl) (simp (← c .before .before .before .before .stop .ensures, eq-eqb _ _ (c .before .before .before .if1 .taken), ← c .before .is-stallable .ensures, c .if2 .left)), refl)
+returns-2 c = (
+  λ a b. back
+      (stall-call
+      (calls.IsStalled (c .before .before .before .before .before .before .args .dir) (c .before .before .before .before .before .before .args .e))
+      (c .before .before .before .before .before .before .args .dir) (c .before .before .before .before .before .before .args .e)
+      (operation (script.isEndpointStalled (c .before .before .before .before .before .before .args .dir)
+      (c .before .before .before .before .before .before .args .e)))
+      (decode (saved (now (c .before .before .before .before .before .before .args .s))))
+      (view (now (c .before .before .before .before .before .before .args .s))) a b refl) (simp (
+        ← c .before .before .before .before .stop .ensures,
+        eq-eqb _ _ (c .before .before .before .if1 .taken),
+        ← c .before .is-stallable .ensures,
+        c .if2 .left,
+      )),
+  refl,
+)
 
 returns-3 : tie.Need-returns-3
-returns-3 c = (λ a b. back (stall-call (calls.IsStalled (c .before .before .before .args .dir) (c .before .before .before .args .e)) (c .before .before .before .args .dir) (c .before .before .before .args .e) (operation (script.isEndpointStalled (c .before .before .before .args .dir) (c .before .before .before .args .e))) (decode (saved (now (c .before .before .before .args .s)))) (view (now (c .before .before .before .args .s))) a b refl) (simp (← c .before .stop .ensures, ne-eqb _ _ (c .if1 .left))), refl)
+returns-3 c = (
+  λ a b. back
+      (stall-call (calls.IsStalled (c .before .before .before .args .dir) (c .before .before .before .args .e))
+      (c .before .before .before .args .dir) (c .before .before .before .args .e)
+      (operation (script.isEndpointStalled (c .before .before .before .args .dir) (c .before .before .before .args .e)))
+      (decode (saved (now (c .before .before .before .args .s)))) (view (now (c .before .before .before .args .s))) a b refl)
+      (simp (← c .before .stop .ensures, ne-eqb _ _ (c .if1 .left))),
+  refl,
+)
 
 pub begin-is-stalled-spec : {M : Type 1} → statement M
 begin-is-stalled-spec =

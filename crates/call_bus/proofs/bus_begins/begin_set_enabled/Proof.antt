@@ -35,7 +35,8 @@ clear-wakes-requires : tie.Need-clear-wakes-requires
 clear-wakes-requires c κs = search needs
 
 low-requires : tie.Need-low-requires
-low-requires c κs = allocated-number _ _ _ (sym (c .before .before .before .before .before .is-allocated .ensures) ∙ c .before .before .before .before .if3 .taken)
+low-requires c κs = allocated-number _ _ _
+    (sym (c .before .before .before .before .before .is-allocated .ensures) ∙ c .before .before .before .before .if3 .taken)
 
 endpoint-set-enabled-requires : tie.Need-endpoint-set-enabled-requires
 endpoint-set-enabled-requires c κs = search needs
@@ -47,25 +48,120 @@ same-length : tie.Need-same-length
 same-length c = search needs
 
 returns : tie.Need-returns
-returns c = (λ a. back (named-call (calls.SetEnabled (c .before .before .before .before .before .before .before .before .before .before .before .before .before .before .before .before .before .before .before .before .before .args .dir) (c .before .before .before .before .before .before .before .before .before .before .before .before .before .before .before .before .before .before .before .before .before .args .e) (c .before .before .before .before .before .before .before .before .before .before .before .before .before .before .before .before .before .before .before .before .before .args .on)) (c .before .before .before .before .before .before .before .before .before .before .before .before .before .before .before .before .before .before .before .before .before .args .dir) (c .before .before .before .before .before .before .before .before .before .before .before .before .before .before .before .before .before .before .before .before .before .args .e) (resultless (script.setEnabled (c .before .before .before .before .before .before .before .before .before .before .before .before .before .before .before .before .before .before .before .before .before .args .dir) (c .before .before .before .before .before .before .before .before .before .before .before .before .before .before .before .before .before .before .before .before .before .args .e) (c .before .before .before .before .before .before .before .before .before .before .before .before .before .before .before .before .before .before .before .before .before .args .on))) (decode (saved (now (c .before .before .before .before .before .before .before .before .before .before .before .before .before .before .before .before .before .before .before .before .before .args .s)))) (view (now (c .before .before .before .before .before .before .before .before .before .before .before .before .before .before .before .before .before .before .before .before .before .args .s))) a (now (c .before .before .before .before .before .before .before .before .before .before .before .before .before .before .before .before .before .before .before .before .before .args .slots)) refl) (simp (← c .before .before .before .before .before .before .before .before .before .before .before .before .before .before .before .before .before .slots-fit .ensures, c .before .before .before .before .before .before .before .before .before .before .before .before .before .before .before .before .if1 .taken) (c .suspend-or-end-bus .ensures .0 _ ∙ simp (c .before .before .before .before .endpoint-set-enabled .ensures .0, c .before .before .before .before .before .low .ensures, c .before .before .before .before .before .before .before .before .clear-wakes .ensures .0, ← c .before .before .before .before .before .before .before .before .before .before .before .before .before .before .stop .ensures, eq-eqb _ _ (c .before .before .before .before .before .before .before .before .before .before .before .before .before .if2 .taken), ← c .before .before .before .before .before .before .before .before .before .before .before .is-allocated .ensures, c .before .before .before .before .before .before .before .before .before .before .if3 .taken))), (as-lent _ _ _ (sym (c .before .before .before .before .before .before .before .before .before .before .before .before .before .before .before .before .before .slots-fit .ensures) ∙ c .before .before .before .before .before .before .before .before .before .before .before .before .before .before .before .before .if1 .taken), c .suspend-or-end-bus .ensures .1 _))
+returns c = (
+  λ a. back
+      (named-call (calls.SetEnabled (c .before .before .before .before .before .before .before .before .before
+      .before .before .before .before .before .before .before .before .before .before .before .before .args .dir)
+      (c .before .before .before .before .before .before .before .before .before .before .before .before .before .before
+      .before .before .before .before .before .before .before .args .e) (c .before .before .before .before .before .before
+      .before .before .before .before .before .before .before .before .before .before .before .before .before .before .before .args .on))
+      (c .before .before .before .before .before .before .before .before .before
+      .before .before .before .before .before .before .before .before .before .before .before .before .args .dir)
+      (c .before .before .before .before .before .before .before .before
+      .before .before .before .before .before .before .before .before .before .before .before .before .before .args .e)
+      (resultless (script.setEnabled (c .before .before .before .before .before .before .before .before .before
+      .before .before .before .before .before .before .before .before .before .before .before .before .args .dir)
+      (c .before .before .before .before .before .before .before .before .before .before .before .before .before .before
+      .before .before .before .before .before .before .before .args .e) (c .before .before .before .before .before .before .before .before
+      .before .before .before .before .before .before .before .before .before .before .before .before .before .args .on)))
+      (decode (saved (now (c .before .before .before .before .before .before .before .before .before
+      .before .before .before .before .before .before .before .before .before .before .before .before .args .s))))
+      (view (now (c .before .before .before .before .before .before .before .before .before
+      .before .before .before .before .before .before .before .before .before .before .before .before .args .s))) a
+      (now (c .before .before .before .before .before .before .before .before .before .before .before
+      .before .before .before .before .before .before .before .before .before .before .args .slots)) refl) (simp (
+        ← c .before .before .before .before .before .before .before .before .before .before .before .before .before .before .before .before .before
+            .slots-fit .ensures,
+        c .before .before .before .before .before .before .before .before .before .before .before .before .before .before .before .before .if1 .taken,
+      ) (c .suspend-or-end-bus .ensures .0 _ ∙ simp (
+        c .before .before .before .before .endpoint-set-enabled .ensures .0,
+        c .before .before .before .before .before .low .ensures,
+        c .before .before .before .before .before .before .before .before .clear-wakes .ensures .0,
+        ← c .before .before .before .before .before .before .before .before .before .before .before .before .before .before .stop .ensures,
+        eq-eqb _ _ (c .before .before .before .before .before .before .before .before .before .before .before .before .before .if2 .taken),
+        ← c .before .before .before .before .before .before .before .before .before .before .before .is-allocated .ensures,
+        c .before .before .before .before .before .before .before .before .before .before .if3 .taken,
+      ))),
+  (
+    as-lent _ _ _
+        (sym (c .before .before .before .before .before .before .before .before .before .before .before .before .before .before .before .before .before
+        .slots-fit .ensures)
+        ∙ c .before .before .before .before .before .before .before .before .before .before .before .before .before .before .before .before .if1 .taken),
+    c .suspend-or-end-bus .ensures .1 _,
+  ),
+)
 
 same-length-2 : tie.Need-same-length-2
 same-length-2 c = search needs
 
 returns-2 : tie.Need-returns-2
-returns-2 c = (λ a. back (named-call (calls.SetEnabled (c .before .before .before .before .before .before .before .before .before .before .before .args .dir) (c .before .before .before .before .before .before .before .before .before .before .before .args .e) (c .before .before .before .before .before .before .before .before .before .before .before .args .on)) (c .before .before .before .before .before .before .before .before .before .before .before .args .dir) (c .before .before .before .before .before .before .before .before .before .before .before .args .e) (resultless (script.setEnabled (c .before .before .before .before .before .before .before .before .before .before .before .args .dir) (c .before .before .before .before .before .before .before .before .before .before .before .args .e) (c .before .before .before .before .before .before .before .before .before .before .before .args .on))) (decode (saved (now (c .before .before .before .before .before .before .before .before .before .before .before .args .s)))) (view (now (c .before .before .before .before .before .before .before .before .before .before .before .args .s))) a (now (c .before .before .before .before .before .before .before .before .before .before .before .args .slots)) refl) (simp (← c .before .before .before .before .before .before .before .slots-fit .ensures, c .before .before .before .before .before .before .if1 .taken, ← c .before .before .before .before .stop .ensures, eq-eqb _ _ (c .before .before .before .if2 .taken), ← c .before .is-allocated .ensures, c .if3 .left)), (as-lent _ _ _ (sym (c .before .before .before .before .before .before .before .slots-fit .ensures) ∙ c .before .before .before .before .before .before .if1 .taken), refl))
+returns-2 c = (
+  λ a. back
+      (named-call (calls.SetEnabled (c .before .before .before .before .before .before .before .before .before .before .before .args .dir)
+      (c .before .before .before .before .before .before .before .before .before .before .before .args .e)
+      (c .before .before .before .before .before .before .before .before .before .before .before .args .on))
+      (c .before .before .before .before .before .before .before .before .before .before .before .args .dir)
+      (c .before .before .before .before .before .before .before .before .before .before .before .args .e)
+      (resultless (script.setEnabled (c .before .before .before .before .before .before .before .before .before .before .before .args .dir)
+      (c .before .before .before .before .before .before .before .before .before .before .before .args .e)
+      (c .before .before .before .before .before .before .before .before .before .before .before .args .on)))
+      (decode (saved (now (c .before .before .before .before .before .before .before .before .before .before .before .args .s))))
+      (view (now (c .before .before .before .before .before .before .before .before .before .before .before .args .s))) a
+      (now (c .before .before .before .before .before .before .before .before .before .before .before .args .slots)) refl) (simp (
+        ← c .before .before .before .before .before .before .before .slots-fit .ensures,
+        c .before .before .before .before .before .before .if1 .taken,
+        ← c .before .before .before .before .stop .ensures,
+        eq-eqb _ _ (c .before .before .before .if2 .taken),
+        ← c .before .is-allocated .ensures,
+        c .if3 .left,
+      )),
+  (
+    as-lent _ _ _
+        (sym (c .before .before .before .before .before .before .before .slots-fit .ensures)
+        ∙ c .before .before .before .before .before .before .if1 .taken),
+    refl,
+  ),
+)
 
 same-length-3 : tie.Need-same-length-3
 same-length-3 c = search needs
 
 returns-3 : tie.Need-returns-3
-returns-3 c = (λ a. back (named-call (calls.SetEnabled (c .before .before .before .before .before .before .before .before .args .dir) (c .before .before .before .before .before .before .before .before .args .e) (c .before .before .before .before .before .before .before .before .args .on)) (c .before .before .before .before .before .before .before .before .args .dir) (c .before .before .before .before .before .before .before .before .args .e) (resultless (script.setEnabled (c .before .before .before .before .before .before .before .before .args .dir) (c .before .before .before .before .before .before .before .before .args .e) (c .before .before .before .before .before .before .before .before .args .on))) (decode (saved (now (c .before .before .before .before .before .before .before .before .args .s)))) (view (now (c .before .before .before .before .before .before .before .before .args .s))) a (now (c .before .before .before .before .before .before .before .before .args .slots)) refl) (simp (← c .before .before .before .before .slots-fit .ensures, c .before .before .before .if1 .taken, ← c .before .stop .ensures, ne-eqb _ _ (c .if2 .left))), (as-lent _ _ _ (sym (c .before .before .before .before .slots-fit .ensures) ∙ c .before .before .before .if1 .taken), refl))
+returns-3 c = (
+  λ a. back
+      (named-call (calls.SetEnabled (c .before .before .before .before .before .before .before .before .args .dir)
+      (c .before .before .before .before .before .before .before .before .args .e)
+      (c .before .before .before .before .before .before .before .before .args .on))
+      (c .before .before .before .before .before .before .before .before .args .dir)
+      (c .before .before .before .before .before .before .before .before .args .e)
+      (resultless (script.setEnabled (c .before .before .before .before .before .before .before .before .args .dir)
+      (c .before .before .before .before .before .before .before .before .args .e)
+      (c .before .before .before .before .before .before .before .before .args .on)))
+      (decode (saved (now (c .before .before .before .before .before .before .before .before .args .s))))
+      (view (now (c .before .before .before .before .before .before .before .before .args .s))) a
+      (now (c .before .before .before .before .before .before .before .before .args .slots)) refl) (simp (
+        ← c .before .before .before .before .slots-fit .ensures,
+        c .before .before .before .if1 .taken,
+        ← c .before .stop .ensures,
+        ne-eqb _ _ (c .if2 .left),
+      )),
+  (as-lent _ _ _ (sym (c .before .before .before .before .slots-fit .ensures) ∙ c .before .before .before .if1 .taken), refl),
+)
 
 same-length-4 : tie.Need-same-length-4
 same-length-4 c = search needs
 
 returns-4 : tie.Need-returns-4
-returns-4 c = (λ a. back (named-call (calls.SetEnabled (c .before .before .before .before .before .args .dir) (c .before .before .before .before .before .args .e) (c .before .before .before .before .before .args .on)) (c .before .before .before .before .before .args .dir) (c .before .before .before .before .before .args .e) (resultless (script.setEnabled (c .before .before .before .before .before .args .dir) (c .before .before .before .before .before .args .e) (c .before .before .before .before .before .args .on))) (decode (saved (now (c .before .before .before .before .before .args .s)))) (view (now (c .before .before .before .before .before .args .s))) a (now (c .before .before .before .before .before .args .slots)) refl) (simp (← c .before .slots-fit .ensures, c .if1 .left)), (λ h. refl, refl))
+returns-4 c = (
+  λ a. back (named-call (calls.SetEnabled (c .before .before .before .before .before .args .dir)
+      (c .before .before .before .before .before .args .e) (c .before .before .before .before .before .args .on))
+      (c .before .before .before .before .before .args .dir) (c .before .before .before .before .before .args .e)
+      (resultless (script.setEnabled (c .before .before .before .before .before .args .dir) (c .before .before .before .before .before .args .e)
+      (c .before .before .before .before .before .args .on))) (decode (saved (now (c .before .before .before .before .before .args .s))))
+      (view (now (c .before .before .before .before .before .args .s))) a (now (c .before .before .before .before .before .args .slots)) refl)
+      (simp (← c .before .slots-fit .ensures, c .if1 .left)),
+  (λ h. refl, refl),
+)
 
 pub begin-set-enabled-spec : {M : Type 1} → statement M
 begin-set-enabled-spec =

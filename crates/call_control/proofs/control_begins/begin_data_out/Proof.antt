@@ -21,13 +21,34 @@ data-out-requires : tie.Need-data-out-requires
 data-out-requires c κs = search needs
 
 begun-control-requires : tie.Need-begun-control-requires
-begun-control-requires c κs = (c .before .data-out .ensures .1 .1, simp (c .before .data-out .ensures .1 .0) (sym (c .before .before .before .before .is-idle .ensures) ∙ c .before .before .before .if1 .taken))
+begun-control-requires c κs = (
+  c .before .data-out .ensures .1 .1,
+  simp (c .before .data-out .ensures .1 .0)
+      (sym (c .before .before .before .before .is-idle .ensures) ∙ c .before .before .before .if1 .taken),
+)
 
 returns : tie.Need-returns
-returns c = (λ a b. back (other-idle (calls.BeginDataOut (c .before .before .before .before .before .before .before .args .n) (c .before .before .before .before .before .before .before .args .first)) (decode (saved (now (c .before .before .before .before .before .before .before .args .s)))) (view (now (c .before .before .before .before .before .before .before .args .s))) a b) (c .begun-control .ensures .0 b ∙ simp (c .before .before .data-out .ensures .0, ← c .before .before .before .before .before .is-idle .ensures, c .before .before .before .before .if1 .taken)), kept-from (c .begun-control .result) _ _ _ (c .before .before .data-out .ensures .1 .0) (c .begun-control .ensures .1))
+returns c = (
+  λ a b. back
+      (other-idle (calls.BeginDataOut (c .before .before .before .before .before .before .before .args .n)
+      (c .before .before .before .before .before .before .before .args .first))
+      (decode (saved (now (c .before .before .before .before .before .before .before .args .s))))
+      (view (now (c .before .before .before .before .before .before .before .args .s))) a b) (c .begun-control .ensures .0 b ∙ simp (
+        c .before .before .data-out .ensures .0,
+        ← c .before .before .before .before .before .is-idle .ensures,
+        c .before .before .before .before .if1 .taken,
+      )),
+  kept-from (c .begun-control .result) _ _ _ (c .before .before .data-out .ensures .1 .0) (c .begun-control .ensures .1),
+)
 
 returns-2 : tie.Need-returns-2
-returns-2 c = (λ a b. back (other-idle (calls.BeginDataOut (c .before .before .before .args .n) (c .before .before .before .args .first)) (decode (saved (now (c .before .before .before .args .s)))) (view (now (c .before .before .before .args .s))) a b) (simp (← c .before .is-idle .ensures, c .if1 .left)), refl)
+returns-2 c = (
+  λ a b. back
+      (other-idle (calls.BeginDataOut (c .before .before .before .args .n) (c .before .before .before .args .first))
+      (decode (saved (now (c .before .before .before .args .s))))
+      (view (now (c .before .before .before .args .s))) a b) (simp (← c .before .is-idle .ensures, c .if1 .left)),
+  refl,
+)
 
 pub begin-data-out-spec : {M : Type 1} → statement M
 begin-data-out-spec =

@@ -27,19 +27,90 @@ poll-data-out-requires : tie.Need-poll-data-out-requires
 poll-data-out-requires c κs = search needs
 
 polled-control-requires : tie.Need-polled-control-requires
-polled-control-requires c κs = (c .before .before .before .poll-data-out .ensures .1 .1 .1, simp (c .before .before .before .poll-data-out .ensures .1 .1 .0) (sym (c .before .before .before .before .before .before .before .is-idle .ensures) ∙ c .before .before .before .before .before .before .if2 .taken))
+polled-control-requires c κs = (
+  c .before .before .before .poll-data-out .ensures .1 .1 .1,
+  simp (c .before .before .before .poll-data-out .ensures .1 .1 .0)
+      (sym (c .before .before .before .before .before .before .before .is-idle .ensures)
+      ∙ c .before .before .before .before .before .before .if2 .taken),
+)
 
 same-length : tie.Need-same-length
 same-length c = search needs
 
 returns : tie.Need-returns
-returns c = (λ a. back (slotted-idle (calls.PollDataOut (length (now (c .before .before .before .before .before .before .before .before .before .before .before .before .before .before .before .args .out)))) (decode (saved (now (c .before .before .before .before .before .before .before .before .before .before .before .before .before .before .before .args .s)))) (view (now (c .before .before .before .before .before .before .before .before .before .before .before .before .before .before .before .args .s))) a (now (c .before .before .before .before .before .before .before .before .before .before .before .before .before .before .before .args .slots))) (simp (← c .before .before .before .before .before .before .before .before .before .before .before .slots-fit .ensures, c .before .before .before .before .before .before .before .before .before .before .if1 .taken) (at-out _ _ (c .before .before .before .before .poll-data-out .ensures .1 .0) (λ o. c .polled-control .ensures .0 o (now (c .before .before .before .before .before .before .before .before .before .before .before .before .before .before .before .args .slots))) ∙ simp (c .before .before .before .before .poll-data-out .ensures .0, ← c .before .before .before .before .before .before .before .before .is-idle .ensures, c .before .before .before .before .before .before .before .if2 .taken))), (λ a. c .before .before .before .before .poll-data-out .ensures .1 .0 ∙ sym (lent-done (calls.PollDataOut (length (now (c .before .before .before .before .before .before .before .before .before .before .before .before .before .before .before .args .out)))) (decode (saved (now (c .before .before .before .before .before .before .before .before .before .before .before .before .before .before .before .args .s)))) (view (now (c .before .before .before .before .before .before .before .before .before .before .before .before .before .before .before .args .s))) a (now (c .before .before .before .before .before .before .before .before .before .before .before .before .before .before .before .args .slots)) (now (c .before .before .before .before .before .before .before .before .before .before .before .before .before .before .before .args .out)) (sym (c .before .before .before .before .before .before .before .before .before .before .before .slots-fit .ensures) ∙ c .before .before .before .before .before .before .before .before .before .before .if1 .taken) (sym (c .before .before .before .before .before .before .before .before .is-idle .ensures) ∙ c .before .before .before .before .before .before .before .if2 .taken)), kept-from (c .polled-control .result) _ _ _ (c .before .before .before .before .poll-data-out .ensures .1 .1 .0) (c .polled-control .ensures .1)))
+returns c = (
+  λ a. back
+      (slotted-idle (calls.PollDataOut
+      (length (now (c .before .before .before .before .before .before .before .before .before .before .before .before .before .before .before .args .out))))
+      (decode
+      (saved (now (c .before .before .before .before .before .before .before .before .before .before .before .before .before .before .before .args .s))))
+      (view (now (c .before .before .before .before .before .before .before .before .before .before .before .before .before .before .before .args .s))) a
+      (now (c .before .before .before .before .before .before .before .before .before .before .before .before .before .before .before .args .slots))) (simp (
+        ← c .before .before .before .before .before .before .before .before .before .before .before .slots-fit .ensures,
+        c .before .before .before .before .before .before .before .before .before .before .if1 .taken,
+      ) (at-out _ _ (c .before .before .before .before .poll-data-out .ensures .1 .0) (λ o. c .polled-control .ensures .0 o
+      (now (c .before .before .before .before .before .before .before .before .before .before .before .before .before .before .before .args .slots)))
+      ∙ simp (
+        c .before .before .before .before .poll-data-out .ensures .0,
+        ← c .before .before .before .before .before .before .before .before .is-idle .ensures,
+        c .before .before .before .before .before .before .before .if2 .taken,
+      ))),
+  (
+    λ a. c .before .before .before .before .poll-data-out .ensures .1 .0 ∙ sym (lent-done (calls.PollDataOut
+        (length (now (c .before .before .before .before .before .before .before .before .before .before .before .before .before .before .before .args .out))))
+        (decode
+        (saved (now (c .before .before .before .before .before .before .before .before .before .before .before .before .before .before .before .args .s))))
+        (view (now (c .before .before .before .before .before .before .before .before .before .before .before .before .before .before .before .args .s))) a
+        (now (c .before .before .before .before .before .before .before .before .before .before .before .before .before .before .before .args .slots))
+        (now (c .before .before .before .before .before .before .before .before .before .before .before .before .before .before .before .args .out))
+        (sym (c .before .before .before .before .before .before .before .before .before .before .before .slots-fit .ensures)
+        ∙ c .before .before .before .before .before .before .before .before .before .before .if1 .taken)
+        (sym (c .before .before .before .before .before .before .before .before .is-idle .ensures)
+        ∙ c .before .before .before .before .before .before .before .if2 .taken)),
+    kept-from (c .polled-control .result) _ _ _
+        (c .before .before .before .before .poll-data-out .ensures .1 .1 .0) (c .polled-control .ensures .1),
+  ),
+)
 
 returns-2 : tie.Need-returns-2
-returns-2 c = (λ a. back (slotted-idle (calls.PollDataOut (length (now (c .before .before .before .before .before .before .before .before .args .out)))) (decode (saved (now (c .before .before .before .before .before .before .before .before .args .s)))) (view (now (c .before .before .before .before .before .before .before .before .args .s))) a (now (c .before .before .before .before .before .before .before .before .args .slots))) (simp (← c .before .before .before .before .slots-fit .ensures, c .before .before .before .if1 .taken, ← c .before .is-idle .ensures, c .if2 .left)), (λ a. sym (lent-busy (calls.PollDataOut (length (now (c .before .before .before .before .before .before .before .before .args .out)))) (decode (saved (now (c .before .before .before .before .before .before .before .before .args .s)))) (view (now (c .before .before .before .before .before .before .before .before .args .s))) a (now (c .before .before .before .before .before .before .before .before .args .slots)) (now (c .before .before .before .before .before .before .before .before .args .out)) (sym (c .before .before .before .before .slots-fit .ensures) ∙ c .before .before .before .if1 .taken) (sym (c .before .is-idle .ensures) ∙ c .if2 .left)), refl))
+returns-2 c = (
+  λ a. back
+      (slotted-idle (calls.PollDataOut (length (now (c .before .before .before .before .before .before .before .before .args .out))))
+      (decode (saved (now (c .before .before .before .before .before .before .before .before .args .s))))
+      (view (now (c .before .before .before .before .before .before .before .before .args .s))) a
+      (now (c .before .before .before .before .before .before .before .before .args .slots))) (simp (
+        ← c .before .before .before .before .slots-fit .ensures,
+        c .before .before .before .if1 .taken,
+        ← c .before .is-idle .ensures,
+        c .if2 .left,
+      )),
+  (
+    λ a. sym (lent-busy (calls.PollDataOut (length (now (c .before .before .before .before .before .before .before .before .args .out))))
+        (decode (saved (now (c .before .before .before .before .before .before .before .before .args .s))))
+        (view (now (c .before .before .before .before .before .before .before .before .args .s))) a
+        (now (c .before .before .before .before .before .before .before .before .args .slots))
+        (now (c .before .before .before .before .before .before .before .before .args .out))
+        (sym (c .before .before .before .before .slots-fit .ensures)
+        ∙ c .before .before .before .if1 .taken) (sym (c .before .is-idle .ensures) ∙ c .if2 .left)),
+    refl,
+  ),
+)
 
 returns-3 : tie.Need-returns-3
-returns-3 c = (λ a. back (slotted-idle (calls.PollDataOut (length (now (c .before .before .before .before .before .args .out)))) (decode (saved (now (c .before .before .before .before .before .args .s)))) (view (now (c .before .before .before .before .before .args .s))) a (now (c .before .before .before .before .before .args .slots))) (simp (← c .before .slots-fit .ensures, c .if1 .left)), (λ a. sym (lent-misfit (calls.PollDataOut (length (now (c .before .before .before .before .before .args .out)))) (decode (saved (now (c .before .before .before .before .before .args .s)))) (view (now (c .before .before .before .before .before .args .s))) a (now (c .before .before .before .before .before .args .slots)) (now (c .before .before .before .before .before .args .out)) (sym (c .before .slots-fit .ensures) ∙ c .if1 .left)), refl))
+returns-3 c = (
+  λ a. back
+      (slotted-idle (calls.PollDataOut (length (now (c .before .before .before .before .before .args .out))))
+      (decode (saved (now (c .before .before .before .before .before .args .s))))
+      (view (now (c .before .before .before .before .before .args .s))) a
+      (now (c .before .before .before .before .before .args .slots))) (simp (← c .before .slots-fit .ensures, c .if1 .left)),
+  (
+    λ a. sym (lent-misfit (calls.PollDataOut (length (now (c .before .before .before .before .before .args .out))))
+        (decode (saved (now (c .before .before .before .before .before .args .s))))
+        (view (now (c .before .before .before .before .before .args .s))) a (now (c .before .before .before .before .before .args .slots))
+        (now (c .before .before .before .before .before .args .out)) (sym (c .before .slots-fit .ensures) ∙ c .if1 .left)),
+    refl,
+  ),
+)
 
 pub poll-data-out-spec : {M : Type 1} → statement M
 poll-data-out-spec =

@@ -38,13 +38,48 @@ suspend-or-end-advance-requires : tie.Need-suspend-or-end-advance-requires
 suspend-or-end-advance-requires c κs = c .before .iso-in-advance .ensures .1 .1
 
 returns : tie.Need-returns
-returns c = (λ a b. back (numbered-call (calls.Advance (c .before .before .before .before .before .before .before .before .before .before .before .before .args .e)) (c .before .before .before .before .before .before .before .before .before .before .before .before .args .e) (resultless (script.isoInAdvance (c .before .before .before .before .before .before .before .before .before .before .before .before .args .e))) (decode (saved (now (c .before .before .before .before .before .before .before .before .before .before .before .before .args .s)))) (view (now (c .before .before .before .before .before .before .before .before .before .before .before .before .args .s))) a b refl) (c .suspend-or-end-advance .ensures .0 b ∙ simp (c .before .before .iso-in-advance .ensures .0, c .before .before .before .low .ensures, c .before .before .before .before .before .clear-wakes .ensures .0, ← c .before .before .before .before .before .before .before .before .before .before .stop .ensures, eq-eqb _ _ (c .before .before .before .before .before .before .before .before .before .if1 .taken), ← c .before .before .before .before .before .before .before .before .is-number .ensures, c .before .before .before .before .before .before .before .if2 .taken)), c .suspend-or-end-advance .ensures .1 _)
+returns c = (
+  λ a b. back
+      (numbered-call (calls.Advance (c .before .before .before .before .before .before .before .before .before .before .before .before .args .e))
+      (c .before .before .before .before .before .before .before .before .before .before .before .before .args .e)
+      (resultless (script.isoInAdvance (c .before .before .before .before .before .before .before .before .before .before .before .before .args .e)))
+      (decode (saved (now (c .before .before .before .before .before .before .before .before .before .before .before .before .args .s))))
+      (view (now (c .before .before .before .before .before .before .before .before .before .before .before .before .args .s))) a b refl)
+      (c .suspend-or-end-advance .ensures .0 b ∙ simp (
+        c .before .before .iso-in-advance .ensures .0,
+        c .before .before .before .low .ensures,
+        c .before .before .before .before .before .clear-wakes .ensures .0,
+        ← c .before .before .before .before .before .before .before .before .before .before .stop .ensures,
+        eq-eqb _ _ (c .before .before .before .before .before .before .before .before .before .if1 .taken),
+        ← c .before .before .before .before .before .before .before .before .is-number .ensures,
+        c .before .before .before .before .before .before .before .if2 .taken,
+      )),
+  c .suspend-or-end-advance .ensures .1 _,
+)
 
 returns-2 : tie.Need-returns-2
-returns-2 c = (λ a b. back (numbered-call (calls.Advance (c .before .before .before .before .before .args .e)) (c .before .before .before .before .before .args .e) (resultless (script.isoInAdvance (c .before .before .before .before .before .args .e))) (decode (saved (now (c .before .before .before .before .before .args .s)))) (view (now (c .before .before .before .before .before .args .s))) a b refl) (simp (← c .before .before .before .stop .ensures, eq-eqb _ _ (c .before .before .if1 .taken), ← c .before .is-number .ensures, c .if2 .left)), refl)
+returns-2 c = (
+  λ a b. back
+      (numbered-call (calls.Advance (c .before .before .before .before .before .args .e)) (c .before .before .before .before .before .args .e)
+      (resultless (script.isoInAdvance (c .before .before .before .before .before .args .e)))
+      (decode (saved (now (c .before .before .before .before .before .args .s))))
+      (view (now (c .before .before .before .before .before .args .s))) a b refl) (simp (
+        ← c .before .before .before .stop .ensures,
+        eq-eqb _ _ (c .before .before .if1 .taken),
+        ← c .before .is-number .ensures,
+        c .if2 .left,
+      )),
+  refl,
+)
 
 returns-3 : tie.Need-returns-3
-returns-3 c = (λ a b. back (numbered-call (calls.Advance (c .before .before .before .args .e)) (c .before .before .before .args .e) (resultless (script.isoInAdvance (c .before .before .before .args .e))) (decode (saved (now (c .before .before .before .args .s)))) (view (now (c .before .before .before .args .s))) a b refl) (simp (← c .before .stop .ensures, ne-eqb _ _ (c .if1 .left))), refl)
+returns-3 c = (
+  λ a b. back
+      (numbered-call (calls.Advance (c .before .before .before .args .e)) (c .before .before .before .args .e)
+      (resultless (script.isoInAdvance (c .before .before .before .args .e))) (decode (saved (now (c .before .before .before .args .s))))
+      (view (now (c .before .before .before .args .s))) a b refl) (simp (← c .before .stop .ensures, ne-eqb _ _ (c .if1 .left))),
+  refl,
+)
 
 pub begin-advance-spec : {M : Type 1} → statement M
 begin-advance-spec =

@@ -27,10 +27,25 @@ suspend-or-end-interrupt-requires : tie.Need-suspend-or-end-interrupt-requires
 suspend-or-end-interrupt-requires c κs = c .on-interrupt .ensures .1
 
 returns : tie.Need-returns
-returns c = (λ a b. back (interrupt-call (decode (saved (now (c .before .before .before .before .before .before .before .before .args .s)))) (view (now (c .before .before .before .before .before .before .before .before .args .s))) a b) (c .suspend-or-end-interrupt .ensures .0 b ∙ simp (c .before .on-interrupt .ensures .0, c .before .before .before .clear-wakes .ensures .0, ← c .before .before .before .before .before .before .stop .ensures, eq-eqb _ _ (c .before .before .before .before .before .if1 .taken))), c .suspend-or-end-interrupt .ensures .1 _)
+returns c = (
+  λ a b. back
+      (interrupt-call (decode (saved (now (c .before .before .before .before .before .before .before .before .args .s))))
+      (view (now (c .before .before .before .before .before .before .before .before .args .s))) a b)
+      (c .suspend-or-end-interrupt .ensures .0 b ∙ simp (
+        c .before .on-interrupt .ensures .0,
+        c .before .before .before .clear-wakes .ensures .0,
+        ← c .before .before .before .before .before .before .stop .ensures,
+        eq-eqb _ _ (c .before .before .before .before .before .if1 .taken),
+      )),
+  c .suspend-or-end-interrupt .ensures .1 _,
+)
 
 returns-2 : tie.Need-returns-2
-returns-2 c = (λ a b. back (interrupt-call (decode (saved (now (c .before .before .before .args .s)))) (view (now (c .before .before .before .args .s))) a b) (simp (← c .before .stop .ensures, ne-eqb _ _ (c .if1 .left))), refl)
+returns-2 c = (
+  λ a b. back (interrupt-call (decode (saved (now (c .before .before .before .args .s)))) (view (now (c .before .before .before .args .s))) a b)
+      (simp (← c .before .stop .ensures, ne-eqb _ _ (c .if1 .left))),
+  refl,
+)
 
 pub begin-interrupt-spec : {M : Type 1} → statement M
 begin-interrupt-spec =

@@ -30,10 +30,27 @@ suspend-or-end-requires : tie.Need-suspend-or-end-requires
 suspend-or-end-requires c κs = c .microframe .ensures .1
 
 returns : tie.Need-returns
-returns c = (λ a b. back (other-call calls.Microframe 2 (operation script.microframe) (decode (saved (now (c .before .before .before .before .before .before .before .before .args .s)))) (view (now (c .before .before .before .before .before .before .before .before .args .s))) a b refl) (c .suspend-or-end .ensures .0 b ∙ simp (c .before .microframe .ensures .0, c .before .before .before .clear-wakes .ensures .0, ← c .before .before .before .before .before .before .stop .ensures, eq-eqb _ _ (c .before .before .before .before .before .if1 .taken))), c .suspend-or-end .ensures .1 _)
+returns c = (
+  λ a b. back
+      (other-call calls.Microframe 2 (operation script.microframe)
+      (decode (saved (now (c .before .before .before .before .before .before .before .before .args .s))))
+      (view (now (c .before .before .before .before .before .before .before .before .args .s))) a b refl)
+      (c .suspend-or-end .ensures .0 b ∙ simp (
+        c .before .microframe .ensures .0,
+        c .before .before .before .clear-wakes .ensures .0,
+        ← c .before .before .before .before .before .before .stop .ensures,
+        eq-eqb _ _ (c .before .before .before .before .before .if1 .taken),
+      )),
+  c .suspend-or-end .ensures .1 _,
+)
 
 returns-2 : tie.Need-returns-2
-returns-2 c = (λ a b. back (other-call calls.Microframe 2 (operation script.microframe) (decode (saved (now (c .before .before .before .args .s)))) (view (now (c .before .before .before .args .s))) a b refl) (simp (← c .before .stop .ensures, ne-eqb _ _ (c .if1 .left))), refl)
+returns-2 c = (
+  λ a b. back
+      (other-call calls.Microframe 2 (operation script.microframe) (decode (saved (now (c .before .before .before .args .s))))
+      (view (now (c .before .before .before .args .s))) a b refl) (simp (← c .before .stop .ensures, ne-eqb _ _ (c .if1 .left))),
+  refl,
+)
 
 pub begin-microframe-spec : {M : Type 1} → statement M
 begin-microframe-spec =

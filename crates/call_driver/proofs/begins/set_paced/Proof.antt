@@ -30,13 +30,43 @@ iso-in-set-paced-requires : tie.Need-iso-in-set-paced-requires
 iso-in-set-paced-requires c κs = simp (c .low .ensures) (number-lt _ (sym (c .before .before .before .is-number .ensures) ∙ c .before .before .if2 .taken))
 
 returns : tie.Need-returns
-returns c = (λ a b. simp (c .iso-in-set-paced .ensures .1) (set-paced-begins (decode (saved (now (c .before .before .before .before .before .before .before .before .args .s)))) (view (now (c .before .before .before .before .before .before .before .before .args .s))) _ a b (c .before .before .before .before .before .before .before .before .args .e) _ (c .before .before .before .before .before .before .before .before .args .on) (eq-eqb _ _ (sym (c .before .before .before .before .before .before .stop .ensures) ∙ c .before .before .before .before .before .if1 .taken)) (sym (c .before .before .before .before .is-number .ensures) ∙ c .before .before .before .if2 .taken) (c .before .low .ensures) (c .iso-in-set-paced .ensures .0 b)), c .iso-in-set-paced .ensures .1)
+returns c = (
+  λ a b. simp (c .iso-in-set-paced .ensures .1)
+      (set-paced-begins (decode (saved (now (c .before .before .before .before .before .before .before .before .args .s))))
+      (view (now (c .before .before .before .before .before .before .before .before .args .s))) _ a b
+      (c .before .before .before .before .before .before .before .before .args .e) _
+      (c .before .before .before .before .before .before .before .before .args .on)
+      (eq-eqb _ _ (sym (c .before .before .before .before .before .before .stop .ensures) ∙ c .before .before .before .before .before .if1 .taken))
+      (sym (c .before .before .before .before .is-number .ensures)
+      ∙ c .before .before .before .if2 .taken) (c .before .low .ensures) (c .iso-in-set-paced .ensures .0 b)),
+  c .iso-in-set-paced .ensures .1,
+)
 
 returns-2 : tie.Need-returns-2
-returns-2 c = (λ a b. back (numbered-call (calls.SetPaced (c .before .before .before .before .before .args .e) (c .before .before .before .before .before .args .on)) (c .before .before .before .before .before .args .e) (pacing (c .before .before .before .before .before .args .e) (c .before .before .before .before .before .args .on)) (decode (saved (now (c .before .before .before .before .before .args .s)))) (view (now (c .before .before .before .before .before .args .s))) a b refl) (simp (← c .before .before .before .stop .ensures, eq-eqb _ _ (c .before .before .if1 .taken), ← c .before .is-number .ensures, c .if2 .left)), refl)
+returns-2 c = (
+  λ a b. back
+      (numbered-call (calls.SetPaced (c .before .before .before .before .before .args .e) (c .before .before .before .before .before .args .on))
+      (c .before .before .before .before .before .args .e)
+      (pacing (c .before .before .before .before .before .args .e) (c .before .before .before .before .before .args .on))
+      (decode (saved (now (c .before .before .before .before .before .args .s))))
+      (view (now (c .before .before .before .before .before .args .s))) a b refl) (simp (
+        ← c .before .before .before .stop .ensures,
+        eq-eqb _ _ (c .before .before .if1 .taken),
+        ← c .before .is-number .ensures,
+        c .if2 .left,
+      )),
+  refl,
+)
 
 returns-3 : tie.Need-returns-3
-returns-3 c = (λ a b. back (numbered-call (calls.SetPaced (c .before .before .before .args .e) (c .before .before .before .args .on)) (c .before .before .before .args .e) (pacing (c .before .before .before .args .e) (c .before .before .before .args .on)) (decode (saved (now (c .before .before .before .args .s)))) (view (now (c .before .before .before .args .s))) a b refl) (simp (← c .before .stop .ensures, ne-eqb _ _ (c .if1 .left))), refl)
+returns-3 c = (
+  λ a b. back
+      (numbered-call (calls.SetPaced (c .before .before .before .args .e) (c .before .before .before .args .on))
+      (c .before .before .before .args .e) (pacing (c .before .before .before .args .e) (c .before .before .before .args .on))
+      (decode (saved (now (c .before .before .before .args .s)))) (view (now (c .before .before .before .args .s))) a b refl)
+      (simp (← c .before .stop .ensures, ne-eqb _ _ (c .if1 .left))),
+  refl,
+)
 
 pub set-paced-spec : {M : Type 1} → statement M
 set-paced-spec =

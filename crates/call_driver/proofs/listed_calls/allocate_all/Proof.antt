@@ -35,8 +35,12 @@ enum-known-answer c = search needs
 returns : tie.Need-returns
 returns c =
     let k = c .before .before .before in
-    let x = k .before .before .before .before .before .args in
-    (λ a b. all-unread (decode (saved (now (x .s)))) (view (now (x .s))) a b (now (x .bytes)) _ (eq-eqb _ _ (sym (k .before .before .stop .ensures) ∙ k .before .if1 .taken)) (sym (ap (λ (r : Reading). r .answer) (k .read .ensures)) ∙ c .before .answer .given .1), refl)
+    let x = k .before .before .before .before .before .args in (
+      λ a b. all-unread (decode (saved (now (x .s)))) (view (now (x .s))) a b
+          (now (x .bytes)) _ (eq-eqb _ _ (sym (k .before .before .stop .ensures) ∙ k .before .if1 .taken))
+          (sym (ap (λ (r : Reading). r .answer) (k .read .ensures)) ∙ c .before .answer .given .1),
+      refl,
+    )
 
 enum-told : tie.Need-enum-told
 enum-told c = search needs
@@ -57,13 +61,20 @@ returns-2 c =
     let e = ap (λ (z : Reading). z .answer) (sym r) ∙ c .before .before .before .enum-told .given .1 in
     let l = accepted s y e in
     let w : stored (k .read .result .list) ≡ listOf s =
-    ap (λ (z : Reading). stored (z .list)) r ∙ ap (λ (z : Endpoints). stored z) (l .list) ∙ stored-of (listOf s) (l .good) in
-    (λ a b. c .allocate-listed .ensures .0 b ∙ all-read (decode (saved (now (x .s)))) (view (now (x .s))) a b s (stored (k .read .result .list)) (eq-eqb _ _ (sym (k .before .before .stop .ensures) ∙ k .before .if1 .taken)) e w, c .allocate-listed .ensures .1)
+    ap (λ (z : Reading). stored (z .list)) r ∙ ap (λ (z : Endpoints). stored z) (l .list) ∙ stored-of (listOf s) (l .good) in (
+      λ a b. c .allocate-listed .ensures .0 b ∙ all-read (decode (saved (now (x .s)))) (view (now (x .s))) a b s
+          (stored (k .read .result .list)) (eq-eqb _ _ (sym (k .before .before .stop .ensures) ∙ k .before .if1 .taken)) e w,
+      c .allocate-listed .ensures .1,
+    )
 
 returns-3 : tie.Need-returns-3
 returns-3 c =
-    let x = c .before .before .before .before .args in
-    (λ a b. back (other-call (calls.AllocateAll (now (x .bytes))) 1 (reading-all (now (x .bytes))) (decode (saved (now (x .s)))) (view (now (x .s))) a b refl) (simp (← c .before .stop .ensures, ne-eqb _ _ (c .if1 .left))), refl)
+    let x = c .before .before .before .before .args in (
+      λ a b. back
+          (other-call (calls.AllocateAll (now (x .bytes))) 1 (reading-all (now (x .bytes))) (decode (saved (now (x .s))))
+          (view (now (x .s))) a b refl) (simp (← c .before .stop .ensures, ne-eqb _ _ (c .if1 .left))),
+      refl,
+    )
 
 pub allocate-all-spec : {M : Type 1} → statement M
 allocate-all-spec =

@@ -41,8 +41,14 @@ returns : tie.Need-returns
 returns c =
     let k = c .before .before .before .before .before .before .before .before .before in
     let a = k .before .before .before .args in
-    let t = ap (λ (x : Trial). x .refusal) (k .try-all .ensures ∙ ap (λ (x : Allocator). trialOf x (stored (a .list))) (k .before .load-allocator .ensures)) in
-    (λ b. c .suspend-or-end .ensures .0 b ∙ all-given (stored (a .list)) (view (now (a .s))) b _ t _ _ _ (c .before .before .before .before .before .before .before .before .if1 .taken) (c .before .announce-all .ensures .0 b) (c .before .before .before .before .clear-wakes .ensures .0) (c .before .before .before .before .before .before .allocate-each .ensures .0), c .suspend-or-end .ensures .1 _)
+    let t = ap (λ (x : Trial). x .refusal)
+    (k .try-all .ensures ∙ ap (λ (x : Allocator). trialOf x (stored (a .list))) (k .before .load-allocator .ensures)) in (
+      λ b. c .suspend-or-end .ensures .0 b ∙ all-given (stored (a .list)) (view (now (a .s))) b _ t _ _ _
+          (c .before .before .before .before .before .before .before .before .if1 .taken)
+          (c .before .announce-all .ensures .0 b) (c .before .before .before .before .clear-wakes .ensures .0)
+          (c .before .before .before .before .before .before .allocate-each .ensures .0),
+      c .suspend-or-end .ensures .1 _,
+    )
 
 returns-2 : tie.Need-returns-2
 returns-2 c =

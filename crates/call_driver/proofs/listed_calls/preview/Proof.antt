@@ -20,7 +20,8 @@ preview-requires : tie.Need-preview-requires
 preview-requires c κs = search needs
 
 returns : tie.Need-returns
-returns c = c .preview .ensures ∙ simp (c .before .load-allocator .ensures, ← c .before .before .before .stop .ensures, eq-eqb _ _ (c .before .before .if1 .taken))
+returns c = c .preview .ensures
+    ∙ simp (c .before .load-allocator .ensures, ← c .before .before .before .stop .ensures, eq-eqb _ _ (c .before .before .if1 .taken))
 
 unshown-requires : tie.Need-unshown-requires
 unshown-requires c κs = search needs

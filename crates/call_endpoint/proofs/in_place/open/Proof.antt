@@ -28,13 +28,45 @@ told-requires : tie.Need-told-requires
 told-requires c κs = search needs
 
 returns : tie.Need-returns
-returns c = (λ a. back (aside-call (calls.Open (c .before .before .before .before .before .before .before .before .before .before .args .e)) (decode (saved (now (c .before .before .before .before .before .before .before .before .before .before .args .s)))) (view (now (c .before .before .before .before .before .before .before .before .before .before .args .s))) a (now (c .before .before .before .before .before .before .before .before .before .before .args .slots))) (simp (← c .before .before .before .before .before .before .before .slots-fit .ensures, c .before .before .before .before .before .before .if1 .taken) (told-beside _ _ (view (now (c .before .before .before .before .before .before .before .before .before .before .args .s))) (now (c .before .before .before .before .before .before .before .before .before .before .args .slots)) _ _ _ (c .told .result) (c .before .iso-out-take .result) (c .told .ensures .0) (c .before .iso-out-take .ensures .1 .0) (sym (c .before .before .before .before .may-pass .ensures) ∙ c .before .before .before .if2 .taken) (c .before .iso-out-take .ensures .0))), (c .told .ensures .1 _ _ (c .before .iso-out-take .ensures .1 .1), c .before .iso-out-take .ensures .1 .0))
+returns c = (
+  λ a. back
+      (aside-call (calls.Open (c .before .before .before .before .before .before .before .before .before .before .args .e))
+      (decode (saved (now (c .before .before .before .before .before .before .before .before .before .before .args .s))))
+      (view (now (c .before .before .before .before .before .before .before .before .before .before .args .s))) a
+      (now (c .before .before .before .before .before .before .before .before .before .before .args .slots))) (simp (
+        ← c .before .before .before .before .before .before .before .slots-fit .ensures,
+        c .before .before .before .before .before .before .if1 .taken,
+      ) (told-beside _ _ (view (now (c .before .before .before .before .before .before .before .before .before .before .args .s)))
+      (now (c .before .before .before .before .before .before .before .before .before .before .args .slots)) _ _ _
+      (c .told .result) (c .before .iso-out-take .result) (c .told .ensures .0) (c .before .iso-out-take .ensures .1 .0)
+      (sym (c .before .before .before .before .may-pass .ensures)
+      ∙ c .before .before .before .if2 .taken) (c .before .iso-out-take .ensures .0))),
+  (c .told .ensures .1 _ _ (c .before .iso-out-take .ensures .1 .1), c .before .iso-out-take .ensures .1 .0),
+)
 
 returns-2 : tie.Need-returns-2
-returns-2 c = (λ a. back (aside-call (calls.Open (c .before .before .before .before .before .before .before .args .e)) (decode (saved (now (c .before .before .before .before .before .before .before .args .s)))) (view (now (c .before .before .before .before .before .before .before .args .s))) a (now (c .before .before .before .before .before .before .before .args .slots))) (simp (← c .before .before .before .before .slots-fit .ensures, c .before .before .before .if1 .taken, ← c .before .may-pass .ensures, c .if2 .left)), (tt, refl))
+returns-2 c = (
+  λ a. back
+      (aside-call (calls.Open (c .before .before .before .before .before .before .before .args .e))
+      (decode (saved (now (c .before .before .before .before .before .before .before .args .s))))
+      (view (now (c .before .before .before .before .before .before .before .args .s))) a
+      (now (c .before .before .before .before .before .before .before .args .slots))) (simp (
+        ← c .before .before .before .before .slots-fit .ensures,
+        c .before .before .before .if1 .taken,
+        ← c .before .may-pass .ensures,
+        c .if2 .left,
+      )),
+  (tt, refl),
+)
 
 returns-3 : tie.Need-returns-3
-returns-3 c = (λ a. back (aside-call (calls.Open (c .before .before .before .before .args .e)) (decode (saved (now (c .before .before .before .before .args .s)))) (view (now (c .before .before .before .before .args .s))) a (now (c .before .before .before .before .args .slots))) (simp (← c .before .slots-fit .ensures, c .if1 .left)), (tt, refl))
+returns-3 c = (
+  λ a. back
+      (aside-call (calls.Open (c .before .before .before .before .args .e))
+      (decode (saved (now (c .before .before .before .before .args .s)))) (view (now (c .before .before .before .before .args .s))) a
+      (now (c .before .before .before .before .args .slots))) (simp (← c .before .slots-fit .ensures, c .if1 .left)),
+  (tt, refl),
+)
 
 pub open-spec : {M : Type 1} → statement M
 open-spec =

@@ -23,7 +23,13 @@ is-on-requires c κs = search needs
 
 returns : tie.Need-returns
 unfolding enabledAsked
-returns c = simp (c .is-on .ensures, c .before .low .ensures, c .before .before .load-globals .ensures, ← c .before .before .before .before .is-number .ensures, c .before .before .before .if1 .taken)
+returns c = simp (
+  c .is-on .ensures,
+  c .before .low .ensures,
+  c .before .before .load-globals .ensures,
+  ← c .before .before .before .before .is-number .ensures,
+  c .before .before .before .if1 .taken,
+)
 
 returns-2 : tie.Need-returns-2
 unfolding enabledAsked

@@ -23,7 +23,13 @@ iso-out-overruns-requires c κs = search needs
 
 returns : tie.Need-returns
 unfolding overrunsOn
-returns c = simp (c .iso-out-overruns .ensures, c .before .load-ep .ensures, c .before .before .low .ensures, ← c .before .before .before .before .is-number .ensures, c .before .before .before .if1 .taken)
+returns c = simp (
+  c .iso-out-overruns .ensures,
+  c .before .load-ep .ensures,
+  c .before .before .low .ensures,
+  ← c .before .before .before .before .is-number .ensures,
+  c .before .before .before .if1 .taken,
+)
 
 returns-2 : tie.Need-returns-2
 unfolding overrunsOn

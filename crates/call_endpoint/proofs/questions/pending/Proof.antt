@@ -26,7 +26,13 @@ cast-result c = search needs
 
 returns : tie.Need-returns
 unfolding countOf pendingOn
-returns c = simp (c .count .ensures, c .before .load-ep .ensures, c .before .before .low .ensures, ← c .before .before .before .before .is-number .ensures, c .before .before .before .if1 .taken)
+returns c = simp (
+  c .count .ensures,
+  c .before .load-ep .ensures,
+  c .before .before .low .ensures,
+  ← c .before .before .before .before .is-number .ensures,
+  c .before .before .before .if1 .taken,
+)
 
 returns-2 : tie.Need-returns-2
 unfolding pendingOn

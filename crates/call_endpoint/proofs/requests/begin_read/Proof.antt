@@ -21,13 +21,34 @@ begin-read-requires : tie.Need-begin-read-requires
 begin-read-requires c κs = search needs
 
 begun-endpoint-requires : tie.Need-begun-endpoint-requires
-begun-endpoint-requires c κs = (c .before .begin-read .ensures .1 .1, simp (c .before .begin-read .ensures .1 .0) (sym (c .before .before .before .before .is-idle .ensures) ∙ c .before .before .before .if1 .taken))
+begun-endpoint-requires c κs = (
+  c .before .begin-read .ensures .1 .1,
+  simp (c .before .begin-read .ensures .1 .0)
+      (sym (c .before .before .before .before .is-idle .ensures) ∙ c .before .before .before .if1 .taken),
+)
 
 returns : tie.Need-returns
-returns c = (λ a b. back (other-idle (calls.BeginRead (c .before .before .before .before .before .before .before .args .e) (c .before .before .before .before .before .before .before .args .n)) (decode (saved (now (c .before .before .before .before .before .before .before .args .s)))) (view (now (c .before .before .before .before .before .before .before .args .s))) a b) (c .begun-endpoint .ensures .0 b ∙ simp (c .before .before .begin-read .ensures .0, ← c .before .before .before .before .before .is-idle .ensures, c .before .before .before .before .if1 .taken)), kept-from (c .begun-endpoint .result) _ _ _ (c .before .before .begin-read .ensures .1 .0) (c .begun-endpoint .ensures .1))
+returns c = (
+  λ a b. back
+      (other-idle (calls.BeginRead (c .before .before .before .before .before .before .before .args .e)
+      (c .before .before .before .before .before .before .before .args .n))
+      (decode (saved (now (c .before .before .before .before .before .before .before .args .s))))
+      (view (now (c .before .before .before .before .before .before .before .args .s))) a b) (c .begun-endpoint .ensures .0 b ∙ simp (
+        c .before .before .begin-read .ensures .0,
+        ← c .before .before .before .before .before .is-idle .ensures,
+        c .before .before .before .before .if1 .taken,
+      )),
+  kept-from (c .begun-endpoint .result) _ _ _ (c .before .before .begin-read .ensures .1 .0) (c .begun-endpoint .ensures .1),
+)
 
 returns-2 : tie.Need-returns-2
-returns-2 c = (λ a b. back (other-idle (calls.BeginRead (c .before .before .before .args .e) (c .before .before .before .args .n)) (decode (saved (now (c .before .before .before .args .s)))) (view (now (c .before .before .before .args .s))) a b) (simp (← c .before .is-idle .ensures, c .if1 .left)), refl)
+returns-2 c = (
+  λ a b. back
+      (other-idle (calls.BeginRead (c .before .before .before .args .e) (c .before .before .before .args .n))
+      (decode (saved (now (c .before .before .before .args .s))))
+      (view (now (c .before .before .before .args .s))) a b) (simp (← c .before .is-idle .ensures, c .if1 .left)),
+  refl,
+)
 
 pub begin-read-spec : {M : Type 1} → statement M
 begin-read-spec =

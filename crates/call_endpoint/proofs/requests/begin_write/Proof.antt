@@ -26,25 +26,75 @@ begin-write-requires : tie.Need-begin-write-requires
 begin-write-requires c κs = search needs
 
 begun-endpoint-requires : tie.Need-begun-endpoint-requires
-begun-endpoint-requires c κs = (c .before .before .before .begin-write .ensures .1 .1, simp (c .before .before .before .begin-write .ensures .1 .0) (sym (c .before .before .before .before .before .before .before .is-idle .ensures) ∙ c .before .before .before .before .before .before .if2 .taken))
+begun-endpoint-requires c κs = (
+  c .before .before .before .begin-write .ensures .1 .1,
+  simp (c .before .before .before .begin-write .ensures .1 .0)
+      (sym (c .before .before .before .before .before .before .before .is-idle .ensures)
+      ∙ c .before .before .before .before .before .before .if2 .taken),
+)
 
 same-length : tie.Need-same-length
 same-length c = search needs
 
 returns : tie.Need-returns
-returns c = (λ a. back (slotted-idle (calls.BeginWrite (c .before .before .before .before .before .before .before .before .before .before .before .before .before .before .before .before .args .e) (now (c .before .before .before .before .before .before .before .before .before .before .before .before .before .before .before .before .args .bytes))) (decode (saved (now (c .before .before .before .before .before .before .before .before .before .before .before .before .before .before .before .before .args .s)))) (view (now (c .before .before .before .before .before .before .before .before .before .before .before .before .before .before .before .before .args .s))) a (now (c .before .before .before .before .before .before .before .before .before .before .before .before .before .before .before .before .args .slots))) (simp (← c .before .before .before .before .before .before .before .before .before .before .before .slots-fit .ensures, c .before .before .before .before .before .before .before .before .before .before .if1 .taken) (c .begun-endpoint .ensures .0 _ ∙ simp (c .before .before .before .before .begin-write .ensures .0, ← c .before .before .before .before .before .before .before .before .is-idle .ensures, c .before .before .before .before .before .before .before .if2 .taken))), (as-lent _ _ _ (sym (c .before .before .before .before .before .before .before .before .before .before .before .slots-fit .ensures) ∙ c .before .before .before .before .before .before .before .before .before .before .if1 .taken), kept-from (c .begun-endpoint .result) _ _ _ (c .before .before .before .before .begin-write .ensures .1 .0) (c .begun-endpoint .ensures .1)))
+returns c = (
+  λ a. back
+      (slotted-idle (calls.BeginWrite
+      (c .before .before .before .before .before .before .before .before .before .before .before .before .before .before .before .before .args .e)
+      (now (c .before .before .before .before .before .before .before .before .before .before .before .before .before .before .before .before .args .bytes)))
+      (decode (saved
+      (now (c .before .before .before .before .before .before .before .before .before .before .before .before .before .before .before .before .args .s))))
+      (view (now (c .before .before .before .before .before .before .before .before .before .before .before .before .before .before .before .before .args .s)))
+      a (now (c .before .before .before .before .before .before .before .before .before .before .before .before .before .before .before .before .args .slots)))
+      (simp (
+        ← c .before .before .before .before .before .before .before .before .before .before .before .slots-fit .ensures,
+        c .before .before .before .before .before .before .before .before .before .before .if1 .taken,
+      ) (c .begun-endpoint .ensures .0 _ ∙ simp (
+        c .before .before .before .before .begin-write .ensures .0,
+        ← c .before .before .before .before .before .before .before .before .is-idle .ensures,
+        c .before .before .before .before .before .before .before .if2 .taken,
+      ))),
+  (
+    as-lent _ _ _
+        (sym (c .before .before .before .before .before .before .before .before .before .before .before .slots-fit .ensures)
+        ∙ c .before .before .before .before .before .before .before .before .before .before .if1 .taken),
+    kept-from (c .begun-endpoint .result) _ _ _
+        (c .before .before .before .before .begin-write .ensures .1 .0) (c .begun-endpoint .ensures .1),
+  ),
+)
 
 same-length-2 : tie.Need-same-length-2
 same-length-2 c = search needs
 
 returns-2 : tie.Need-returns-2
-returns-2 c = (λ a. back (slotted-idle (calls.BeginWrite (c .before .before .before .before .before .before .before .before .before .args .e) (now (c .before .before .before .before .before .before .before .before .before .args .bytes))) (decode (saved (now (c .before .before .before .before .before .before .before .before .before .args .s)))) (view (now (c .before .before .before .before .before .before .before .before .before .args .s))) a (now (c .before .before .before .before .before .before .before .before .before .args .slots))) (simp (← c .before .before .before .before .slots-fit .ensures, c .before .before .before .if1 .taken, ← c .before .is-idle .ensures, c .if2 .left)), (as-lent _ _ _ (sym (c .before .before .before .before .slots-fit .ensures) ∙ c .before .before .before .if1 .taken), refl))
+returns-2 c = (
+  λ a. back
+      (slotted-idle (calls.BeginWrite (c .before .before .before .before .before .before .before .before .before .args .e)
+      (now (c .before .before .before .before .before .before .before .before .before .args .bytes)))
+      (decode (saved (now (c .before .before .before .before .before .before .before .before .before .args .s))))
+      (view (now (c .before .before .before .before .before .before .before .before .before .args .s))) a
+      (now (c .before .before .before .before .before .before .before .before .before .args .slots))) (simp (
+        ← c .before .before .before .before .slots-fit .ensures,
+        c .before .before .before .if1 .taken,
+        ← c .before .is-idle .ensures,
+        c .if2 .left,
+      )),
+  (as-lent _ _ _ (sym (c .before .before .before .before .slots-fit .ensures) ∙ c .before .before .before .if1 .taken), refl),
+)
 
 same-length-3 : tie.Need-same-length-3
 same-length-3 c = search needs
 
 returns-3 : tie.Need-returns-3
-returns-3 c = (λ a. back (slotted-idle (calls.BeginWrite (c .before .before .before .before .before .before .args .e) (now (c .before .before .before .before .before .before .args .bytes))) (decode (saved (now (c .before .before .before .before .before .before .args .s)))) (view (now (c .before .before .before .before .before .before .args .s))) a (now (c .before .before .before .before .before .before .args .slots))) (simp (← c .before .slots-fit .ensures, c .if1 .left)), (λ h. refl, refl))
+returns-3 c = (
+  λ a. back
+      (slotted-idle (calls.BeginWrite (c .before .before .before .before .before .before .args .e)
+      (now (c .before .before .before .before .before .before .args .bytes)))
+      (decode (saved (now (c .before .before .before .before .before .before .args .s))))
+      (view (now (c .before .before .before .before .before .before .args .s))) a
+      (now (c .before .before .before .before .before .before .args .slots))) (simp (← c .before .slots-fit .ensures, c .if1 .left)),
+  (λ h. refl, refl),
+)
 
 pub begin-write-spec : {M : Type 1} → statement M
 begin-write-spec =

@@ -33,13 +33,79 @@ same-length : tie.Need-same-length
 same-length c = search needs
 
 returns : tie.Need-returns
-returns c = (λ a. back (slotted-idle (calls.PollRead (c .before .before .before .before .before .before .before .before .before .before .before .before .before .before .args .e) (length (now (c .before .before .before .before .before .before .before .before .before .before .before .before .before .before .args .out)))) (decode (saved (now (c .before .before .before .before .before .before .before .before .before .before .before .before .before .before .args .s)))) (view (now (c .before .before .before .before .before .before .before .before .before .before .before .before .before .before .args .s))) a (now (c .before .before .before .before .before .before .before .before .before .before .before .before .before .before .args .slots))) (simp (← c .before .before .before .before .before .before .before .before .before .before .slots-fit .ensures, c .before .before .before .before .before .before .before .before .before .if1 .taken) (polled-idle _ _ _ _ _ (c .polled-endpoint .result) (c .before .before .before .poll-read .result) _ (c .polled-endpoint .ensures .0) (c .before .before .before .poll-read .ensures .1 .1) (sym (c .before .before .before .before .before .before .before .is-idle .ensures) ∙ c .before .before .before .before .before .before .if2 .taken) (c .before .before .before .poll-read .ensures .0))), (λ a. c .before .before .before .poll-read .ensures .1 .0 ∙ sym (lent-done (calls.PollRead (c .before .before .before .before .before .before .before .before .before .before .before .before .before .before .args .e) (length (now (c .before .before .before .before .before .before .before .before .before .before .before .before .before .before .args .out)))) (decode (saved (now (c .before .before .before .before .before .before .before .before .before .before .before .before .before .before .args .s)))) (view (now (c .before .before .before .before .before .before .before .before .before .before .before .before .before .before .args .s))) a (now (c .before .before .before .before .before .before .before .before .before .before .before .before .before .before .args .slots)) (now (c .before .before .before .before .before .before .before .before .before .before .before .before .before .before .args .out)) (sym (c .before .before .before .before .before .before .before .before .before .before .slots-fit .ensures) ∙ c .before .before .before .before .before .before .before .before .before .if1 .taken) (sym (c .before .before .before .before .before .before .before .is-idle .ensures) ∙ c .before .before .before .before .before .before .if2 .taken)), c .polled-endpoint .ensures .1 _ _ (c .before .before .before .poll-read .ensures .1 .1)))
+returns c = (
+  λ a. back
+      (slotted-idle
+      (calls.PollRead (c .before .before .before .before .before .before .before .before .before .before .before .before .before .before .args .e)
+      (length (now (c .before .before .before .before .before .before .before .before .before .before .before .before .before .before .args .out))))
+      (decode (saved (now (c .before .before .before .before .before .before .before .before .before .before .before .before .before .before .args .s))))
+      (view (now (c .before .before .before .before .before .before .before .before .before .before .before .before .before .before .args .s))) a
+      (now (c .before .before .before .before .before .before .before .before .before .before .before .before .before .before .args .slots))) (simp (
+        ← c .before .before .before .before .before .before .before .before .before .before .slots-fit .ensures,
+        c .before .before .before .before .before .before .before .before .before .if1 .taken,
+      ) (polled-idle _ _ _ _ _ (c .polled-endpoint .result) (c .before .before .before .poll-read .result) _
+      (c .polled-endpoint .ensures .0) (c .before .before .before .poll-read .ensures .1 .1)
+      (sym (c .before .before .before .before .before .before .before .is-idle .ensures)
+      ∙ c .before .before .before .before .before .before .if2 .taken) (c .before .before .before .poll-read .ensures .0))),
+  (
+    λ a. c .before .before .before .poll-read .ensures .1 .0 ∙ sym (lent-done
+        (calls.PollRead (c .before .before .before .before .before .before .before .before .before .before .before .before .before .before .args .e)
+        (length (now (c .before .before .before .before .before .before .before .before .before .before .before .before .before .before .args .out))))
+        (decode (saved (now (c .before .before .before .before .before .before .before .before .before .before .before .before .before .before .args .s))))
+        (view (now (c .before .before .before .before .before .before .before .before .before .before .before .before .before .before .args .s))) a
+        (now (c .before .before .before .before .before .before .before .before .before .before .before .before .before .before .args .slots))
+        (now (c .before .before .before .before .before .before .before .before .before .before .before .before .before .before .args .out))
+        (sym (c .before .before .before .before .before .before .before .before .before .before .slots-fit .ensures)
+        ∙ c .before .before .before .before .before .before .before .before .before .if1 .taken)
+        (sym (c .before .before .before .before .before .before .before .is-idle .ensures)
+        ∙ c .before .before .before .before .before .before .if2 .taken)),
+    c .polled-endpoint .ensures .1 _ _ (c .before .before .before .poll-read .ensures .1 .1),
+  ),
+)
 
 returns-2 : tie.Need-returns-2
-returns-2 c = (λ a. back (slotted-idle (calls.PollRead (c .before .before .before .before .before .before .before .before .args .e) (length (now (c .before .before .before .before .before .before .before .before .args .out)))) (decode (saved (now (c .before .before .before .before .before .before .before .before .args .s)))) (view (now (c .before .before .before .before .before .before .before .before .args .s))) a (now (c .before .before .before .before .before .before .before .before .args .slots))) (simp (← c .before .before .before .before .slots-fit .ensures, c .before .before .before .if1 .taken, ← c .before .is-idle .ensures, c .if2 .left)), (λ a. sym (lent-busy (calls.PollRead (c .before .before .before .before .before .before .before .before .args .e) (length (now (c .before .before .before .before .before .before .before .before .args .out)))) (decode (saved (now (c .before .before .before .before .before .before .before .before .args .s)))) (view (now (c .before .before .before .before .before .before .before .before .args .s))) a (now (c .before .before .before .before .before .before .before .before .args .slots)) (now (c .before .before .before .before .before .before .before .before .args .out)) (sym (c .before .before .before .before .slots-fit .ensures) ∙ c .before .before .before .if1 .taken) (sym (c .before .is-idle .ensures) ∙ c .if2 .left)), refl))
+returns-2 c = (
+  λ a. back
+      (slotted-idle (calls.PollRead (c .before .before .before .before .before .before .before .before .args .e)
+      (length (now (c .before .before .before .before .before .before .before .before .args .out))))
+      (decode (saved (now (c .before .before .before .before .before .before .before .before .args .s))))
+      (view (now (c .before .before .before .before .before .before .before .before .args .s))) a
+      (now (c .before .before .before .before .before .before .before .before .args .slots))) (simp (
+        ← c .before .before .before .before .slots-fit .ensures,
+        c .before .before .before .if1 .taken,
+        ← c .before .is-idle .ensures,
+        c .if2 .left,
+      )),
+  (
+    λ a. sym (lent-busy (calls.PollRead (c .before .before .before .before .before .before .before .before .args .e)
+        (length (now (c .before .before .before .before .before .before .before .before .args .out))))
+        (decode (saved (now (c .before .before .before .before .before .before .before .before .args .s))))
+        (view (now (c .before .before .before .before .before .before .before .before .args .s))) a
+        (now (c .before .before .before .before .before .before .before .before .args .slots))
+        (now (c .before .before .before .before .before .before .before .before .args .out))
+        (sym (c .before .before .before .before .slots-fit .ensures)
+        ∙ c .before .before .before .if1 .taken) (sym (c .before .is-idle .ensures) ∙ c .if2 .left)),
+    refl,
+  ),
+)
 
 returns-3 : tie.Need-returns-3
-returns-3 c = (λ a. back (slotted-idle (calls.PollRead (c .before .before .before .before .before .args .e) (length (now (c .before .before .before .before .before .args .out)))) (decode (saved (now (c .before .before .before .before .before .args .s)))) (view (now (c .before .before .before .before .before .args .s))) a (now (c .before .before .before .before .before .args .slots))) (simp (← c .before .slots-fit .ensures, c .if1 .left)), (λ a. sym (lent-misfit (calls.PollRead (c .before .before .before .before .before .args .e) (length (now (c .before .before .before .before .before .args .out)))) (decode (saved (now (c .before .before .before .before .before .args .s)))) (view (now (c .before .before .before .before .before .args .s))) a (now (c .before .before .before .before .before .args .slots)) (now (c .before .before .before .before .before .args .out)) (sym (c .before .slots-fit .ensures) ∙ c .if1 .left)), refl))
+returns-3 c = (
+  λ a. back
+      (slotted-idle
+      (calls.PollRead (c .before .before .before .before .before .args .e) (length (now (c .before .before .before .before .before .args .out))))
+      (decode (saved (now (c .before .before .before .before .before .args .s))))
+      (view (now (c .before .before .before .before .before .args .s))) a
+      (now (c .before .before .before .before .before .args .slots))) (simp (← c .before .slots-fit .ensures, c .if1 .left)),
+  (
+    λ a. sym (lent-misfit
+        (calls.PollRead (c .before .before .before .before .before .args .e) (length (now (c .before .before .before .before .before .args .out))))
+        (decode (saved (now (c .before .before .before .before .before .args .s))))
+        (view (now (c .before .before .before .before .before .args .s))) a (now (c .before .before .before .before .before .args .slots))
+        (now (c .before .before .before .before .before .args .out)) (sym (c .before .slots-fit .ensures) ∙ c .if1 .left)),
+    refl,
+  ),
+)
 
 pub poll-read-spec : {M : Type 1} → statement M
 poll-read-spec =

@@ -34,19 +34,46 @@ is-started-requires : tie.Need-is-started-requires
 is-started-requires c κs = search needs
 
 returns : tie.Need-returns
-returns c = (simp (not-true (c .before .is-started .result) (c .if1 .taken), ← c .before .is-started .ensures, ← c .before .before .load-globals .ensures), (refl, tt))
+returns c = (
+  simp (
+    not-true (c .before .is-started .result) (c .if1 .taken),
+    ← c .before .is-started .ensures,
+    ← c .before .before .load-globals .ensures,
+  ),
+  (refl, tt),
+)
 
 is-above-requires : tie.Need-is-above-requires
 is-above-requires c κs = search needs
 
 returns-2 : tie.Need-returns-2
-returns-2 c = (simp (c .if2 .taken, ← c .before .is-above .ensures, not-false (c .before .before .before .is-started .result) (c .before .before .if1 .left), ← c .before .before .before .is-started .ensures, ← c .before .before .before .before .load-globals .ensures), (refl, tt))
+returns-2 c = (
+  simp (
+    c .if2 .taken,
+    ← c .before .is-above .ensures,
+    not-false (c .before .before .before .is-started .result) (c .before .before .if1 .left),
+    ← c .before .before .before .is-started .ensures,
+    ← c .before .before .before .before .load-globals .ensures,
+  ),
+  (refl, tt),
+)
 
 is-on-requires : tie.Need-is-on-requires
 is-on-requires c κs = search needs
 
 returns-3 : tie.Need-returns-3
-returns-3 c = (simp (c .if3 .taken, ← c .before .is-on .ensures, c .before .before .if2 .left, ← c .before .before .before .is-above .ensures, not-false (c .before .before .before .before .before .is-started .result) (c .before .before .before .before .if1 .left), ← c .before .before .before .before .before .is-started .ensures, ← c .before .before .before .before .before .before .load-globals .ensures), (refl, tt))
+returns-3 c = (
+  simp (
+    c .if3 .taken,
+    ← c .before .is-on .ensures,
+    c .before .before .if2 .left,
+    ← c .before .before .before .is-above .ensures,
+    not-false (c .before .before .before .before .before .is-started .result) (c .before .before .before .before .if1 .left),
+    ← c .before .before .before .before .before .is-started .ensures,
+    ← c .before .before .before .before .before .before .load-globals .ensures,
+  ),
+  (refl, tt),
+)
 
 length16-requires : tie.Need-length16-requires
 length16-requires c κs = ltb-false _ _ (sym (c .before .before .before .is-above .ensures) ∙ c .before .before .if2 .left)
@@ -82,7 +109,54 @@ same-length : tie.Need-same-length
 same-length c = search needs
 
 returns-4 : tie.Need-returns-4
-returns-4 c = (in-last (view (now (c .before .before .before .before .before .before .before .before .before .before .before .before .before .before .before .before .before .before .before .before .before .before .before .before .before .before .before .args .s))) _ _ _ _ _ _ (c .before .before .before .before .before .before .before .before .before .before .before .before .before .before .before .before .before .before .before .before .before .before .before .before .before .before .before .args .bytes .now) _ (c .before .before .before .before .before .before .before .before .before .before .before .before .before .before .before .before .before .before .before .before .before .before .before .before .before .before .before .args .first) (c .before .before .before .before .before .before .before .before .before .before .before .before .before .before .before .before .length16 .ensures) (c .before .before .before .before .before .before .before .before .before .before .before .clear-wakes .ensures .0) (c .before .before .before .before .before .before .before .before .fill0 .ensures) (c .before .before .before .before .unready .ensures .0) (on-driver (λ x. eqb (x .stage) 2) (c .before .before .before .before .before .before .before .before .before .before .before .before .before .before .before .before .before .before .before .before .before .before .before .load-globals .ensures) (c .before .before .before .before .before .before .before .before .before .before .before .before .before .before .before .before .before .before .before .before .before .before .is-started .ensures) (not-false (c .before .before .before .before .before .before .before .before .before .before .before .before .before .before .before .before .before .before .before .before .before .before .is-started .result) (c .before .before .before .before .before .before .before .before .before .before .before .before .before .before .before .before .before .before .before .before .before .if1 .left))) (on-driver (λ x. ltb (x .«ep0_max») (length (c .before .before .before .before .before .before .before .before .before .before .before .before .before .before .before .before .before .before .before .before .before .before .before .before .before .before .before .args .bytes .now))) (c .before .before .before .before .before .before .before .before .before .before .before .before .before .before .before .before .before .before .before .before .before .before .before .load-globals .ensures) (c .before .before .before .before .before .before .before .before .before .before .before .before .before .before .before .before .before .before .before .before .is-above .ensures) (c .before .before .before .before .before .before .before .before .before .before .before .before .before .before .before .before .before .before .before .if2 .left)) (on-driver (λ x. isOn (x .«setup_ready»)) (c .before .before .before .before .before .before .before .before .before .before .before .before .before .before .before .before .before .before .before .before .before .before .before .load-globals .ensures) (c .before .before .before .before .before .before .before .before .before .before .before .before .before .before .before .before .before .before .is-on .ensures) (c .before .before .before .before .before .before .before .before .before .before .before .before .before .before .before .before .before .if3 .left)) (c .before .before .before .before .before .before .before .before .before .before .before .before .before .before .before .before .before .before .before .before .before .before .before .before .before .before .before .args .last) _ _ (c .before .before .before .if4 .taken) (c .word-of .ensures) (c .before .before .before .before .before .before .before .before .before .before .before .before .before .before .flag-as .ensures) (c .before .before .before .before .before .before .before .before .before .before .before .before .before .set-data-in .ensures .0) (c .before .close-out .ensures .0), (c .before .close-out .ensures .1 ∙ c .before .before .before .before .unready .ensures .1 ∙ c .before .before .before .before .before .before .before .before .before .before .before .clear-wakes .ensures .1 ∙ c .before .before .before .before .before .before .before .before .before .before .before .before .before .set-data-in .ensures .1, refl))
+returns-4 c = (
+  in-last
+      (view (now (c .before .before .before .before .before .before .before .before .before .before .before .before .before .before
+      .before .before .before .before .before .before .before .before .before .before .before .before .before .args .s))) _ _ _ _ _ _
+      (c .before .before .before .before .before .before .before .before .before .before .before .before .before .before
+      .before .before .before .before .before .before .before .before .before .before .before .before .before .args .bytes .now) _
+      (c .before .before .before .before .before .before .before .before .before .before .before .before .before .before
+      .before .before .before .before .before .before .before .before .before .before .before .before .before .args .first)
+      (c .before .before .before .before .before .before .before .before .before .before .before .before .before .before .before .before .length16 .ensures)
+      (c .before .before .before .before .before .before .before .before .before .before .before .clear-wakes .ensures .0)
+      (c .before .before .before .before .before .before .before .before .fill0 .ensures)
+      (c .before .before .before .before .unready .ensures .0)
+      (on-driver (λ x. eqb (x .stage) 2) (c .before .before .before .before .before .before .before .before .before .before
+      .before .before .before .before .before .before .before .before .before .before .before .before .before .load-globals .ensures)
+      (c .before .before .before .before .before .before .before .before .before .before .before
+      .before .before .before .before .before .before .before .before .before .before .before .is-started .ensures)
+      (not-false (c .before .before .before .before .before .before .before .before .before .before .before
+      .before .before .before .before .before .before .before .before .before .before .before .is-started .result)
+      (c .before .before .before .before .before .before .before .before .before
+      .before .before .before .before .before .before .before .before .before .before .before .before .if1 .left)))
+      (on-driver (λ x. ltb (x .«ep0_max»)
+      (length (c .before .before .before .before .before .before .before .before .before .before .before .before .before
+      .before .before .before .before .before .before .before .before .before .before .before .before .before .before .args .bytes .now)))
+      (c .before .before .before .before .before .before .before .before .before .before .before .before
+      .before .before .before .before .before .before .before .before .before .before .before .load-globals .ensures)
+      (c .before .before .before .before .before .before .before .before .before
+      .before .before .before .before .before .before .before .before .before .before .before .is-above .ensures)
+      (c .before .before .before .before .before .before .before .before .before .before .before .before .before .before .before .before .before .before .before
+      .if2 .left))
+      (on-driver (λ x. isOn (x .«setup_ready»))
+      (c .before .before .before .before .before .before .before .before .before .before .before .before
+      .before .before .before .before .before .before .before .before .before .before .before .load-globals .ensures)
+      (c .before .before .before .before .before .before .before .before .before .before .before .before .before .before .before .before .before .before
+      .is-on .ensures)
+      (c .before .before .before .before .before .before .before .before .before .before .before .before .before .before .before .before .before .if3 .left))
+      (c .before .before .before .before .before .before .before .before .before .before .before .before .before .before
+      .before .before .before .before .before .before .before .before .before .before .before .before .before .args .last) _ _
+      (c .before .before .before .if4 .taken) (c .word-of .ensures)
+      (c .before .before .before .before .before .before .before .before .before .before .before .before .before .before .flag-as .ensures)
+      (c .before .before .before .before .before .before .before .before .before .before .before .before .before .set-data-in .ensures .0)
+      (c .before .close-out .ensures .0),
+  (
+    c .before .close-out .ensures .1 ∙ c .before .before .before .before .unready .ensures .1
+        ∙ c .before .before .before .before .before .before .before .before .before .before .before .clear-wakes .ensures .1
+        ∙ c .before .before .before .before .before .before .before .before .before .before .before .before .before .set-data-in .ensures .1,
+    refl,
+  ),
+)
 
 set-armed-requires : tie.Need-set-armed-requires
 set-armed-requires c κs = search needs
@@ -94,7 +168,51 @@ same-length-2 : tie.Need-same-length-2
 same-length-2 c = search needs
 
 returns-5 : tie.Need-returns-5
-returns-5 c = (in-more (view (now (c .before .before .before .before .before .before .before .before .before .before .before .before .before .before .before .before .before .before .before .before .before .before .before .before .before .before .args .s))) _ _ _ _ _ _ (c .before .before .before .before .before .before .before .before .before .before .before .before .before .before .before .before .before .before .before .before .before .before .before .before .before .before .args .bytes .now) _ (c .before .before .before .before .before .before .before .before .before .before .before .before .before .before .before .before .before .before .before .before .before .before .before .before .before .before .args .first) (c .before .before .before .before .before .before .before .before .before .before .before .before .before .before .before .length16 .ensures) (c .before .before .before .before .before .before .before .before .before .before .clear-wakes .ensures .0) (c .before .before .before .before .before .before .before .fill0 .ensures) (c .before .before .before .unready .ensures .0) (on-driver (λ x. eqb (x .stage) 2) (c .before .before .before .before .before .before .before .before .before .before .before .before .before .before .before .before .before .before .before .before .before .before .load-globals .ensures) (c .before .before .before .before .before .before .before .before .before .before .before .before .before .before .before .before .before .before .before .before .before .is-started .ensures) (not-false (c .before .before .before .before .before .before .before .before .before .before .before .before .before .before .before .before .before .before .before .before .before .is-started .result) (c .before .before .before .before .before .before .before .before .before .before .before .before .before .before .before .before .before .before .before .before .if1 .left))) (on-driver (λ x. ltb (x .«ep0_max») (length (c .before .before .before .before .before .before .before .before .before .before .before .before .before .before .before .before .before .before .before .before .before .before .before .before .before .before .args .bytes .now))) (c .before .before .before .before .before .before .before .before .before .before .before .before .before .before .before .before .before .before .before .before .before .before .load-globals .ensures) (c .before .before .before .before .before .before .before .before .before .before .before .before .before .before .before .before .before .before .before .is-above .ensures) (c .before .before .before .before .before .before .before .before .before .before .before .before .before .before .before .before .before .before .if2 .left)) (on-driver (λ x. isOn (x .«setup_ready»)) (c .before .before .before .before .before .before .before .before .before .before .before .before .before .before .before .before .before .before .before .before .before .before .load-globals .ensures) (c .before .before .before .before .before .before .before .before .before .before .before .before .before .before .before .before .before .is-on .ensures) (c .before .before .before .before .before .before .before .before .before .before .before .before .before .before .before .before .if3 .left)) (c .before .before .before .before .before .before .before .before .before .before .before .before .before .before .before .before .before .before .before .before .before .before .before .before .before .before .args .last) _ (c .before .before .if4 .left) (c .before .before .before .before .before .before .before .before .before .before .before .before .before .flag-as .ensures) (c .before .before .before .before .before .before .before .before .before .before .before .before .set-data-in .ensures .0) (c .set-armed .ensures .0), (c .set-armed .ensures .1 ∙ c .before .before .before .unready .ensures .1 ∙ c .before .before .before .before .before .before .before .before .before .before .clear-wakes .ensures .1 ∙ c .before .before .before .before .before .before .before .before .before .before .before .before .set-data-in .ensures .1, refl))
+returns-5 c = (
+  in-more
+      (view (now (c .before .before .before .before .before .before .before .before .before .before .before .before .before
+      .before .before .before .before .before .before .before .before .before .before .before .before .before .args .s))) _ _ _ _ _ _
+      (c .before .before .before .before .before .before .before .before .before .before .before .before .before .before
+      .before .before .before .before .before .before .before .before .before .before .before .before .args .bytes .now) _
+      (c .before .before .before .before .before .before .before .before .before .before .before .before .before .before
+      .before .before .before .before .before .before .before .before .before .before .before .before .args .first)
+      (c .before .before .before .before .before .before .before .before .before .before .before .before .before .before .before .length16 .ensures)
+      (c .before .before .before .before .before .before .before .before .before .before .clear-wakes .ensures .0)
+      (c .before .before .before .before .before .before .before .fill0 .ensures) (c .before .before .before .unready .ensures .0)
+      (on-driver (λ x. eqb (x .stage) 2) (c .before .before .before .before .before .before .before .before .before .before
+      .before .before .before .before .before .before .before .before .before .before .before .before .load-globals .ensures)
+      (c .before .before .before .before .before .before .before .before .before .before
+      .before .before .before .before .before .before .before .before .before .before .before .is-started .ensures)
+      (not-false (c .before .before .before .before .before .before .before .before .before .before .before .before .before
+      .before .before .before .before .before .before .before .before .is-started .result) (c .before .before .before .before .before
+      .before .before .before .before .before .before .before .before .before .before .before .before .before .before .before .if1 .left)))
+      (on-driver (λ x. ltb (x .«ep0_max»)
+      (length (c .before .before .before .before .before .before .before .before .before .before .before .before .before .before
+      .before .before .before .before .before .before .before .before .before .before .before .before .args .bytes .now)))
+      (c .before .before .before .before .before .before .before .before .before .before .before
+      .before .before .before .before .before .before .before .before .before .before .before .load-globals .ensures)
+      (c .before .before .before .before .before .before .before .before .before .before .before .before .before .before .before .before .before .before .before
+      .is-above .ensures)
+      (c .before .before .before .before .before .before .before .before .before .before .before .before .before .before .before .before .before .before
+      .if2 .left))
+      (on-driver (λ x. isOn (x .«setup_ready»)) (c .before .before .before .before .before .before .before .before .before
+      .before .before .before .before .before .before .before .before .before .before .before .before .before .load-globals .ensures)
+      (c .before .before .before .before .before .before .before .before .before .before .before .before .before .before .before .before .before
+      .is-on .ensures)
+      (c .before .before .before .before .before .before .before .before .before .before .before .before .before .before .before .before .if3 .left))
+      (c .before .before .before .before .before .before .before .before .before .before .before .before .before .before
+      .before .before .before .before .before .before .before .before .before .before .before .before .args .last) _
+      (c .before .before .if4 .left)
+      (c .before .before .before .before .before .before .before .before .before .before .before .before .before .flag-as .ensures)
+      (c .before .before .before .before .before .before .before .before .before .before .before .before .set-data-in .ensures .0)
+      (c .set-armed .ensures .0),
+  (
+    c .set-armed .ensures .1 ∙ c .before .before .before .unready .ensures .1
+        ∙ c .before .before .before .before .before .before .before .before .before .before .clear-wakes .ensures .1
+        ∙ c .before .before .before .before .before .before .before .before .before .before .before .before .set-data-in .ensures .1,
+    refl,
+  ),
+)
 
 pub data-in-spec : {M : Type 1} → statement M
 data-in-spec =

@@ -29,19 +29,46 @@ is-started-requires : tie.Need-is-started-requires
 is-started-requires c κs = search needs
 
 returns : tie.Need-returns
-returns c = (λ b. simp (not-true (c .before .is-started .result) (c .if1 .taken), ← c .before .is-started .ensures, ← c .before .before .load-globals .ensures), (refl, tt))
+returns c = (
+  λ b. simp (
+    not-true (c .before .is-started .result) (c .if1 .taken),
+    ← c .before .is-started .ensures,
+    ← c .before .before .load-globals .ensures,
+  ),
+  (refl, tt),
+)
 
 is-above-requires : tie.Need-is-above-requires
 is-above-requires c κs = search needs
 
 returns-2 : tie.Need-returns-2
-returns-2 c = (λ b. simp (c .if2 .taken, ← c .before .is-above .ensures, not-false (c .before .before .before .is-started .result) (c .before .before .if1 .left), ← c .before .before .before .is-started .ensures, ← c .before .before .before .before .load-globals .ensures), (refl, tt))
+returns-2 c = (
+  λ b. simp (
+    c .if2 .taken,
+    ← c .before .is-above .ensures,
+    not-false (c .before .before .before .is-started .result) (c .before .before .if1 .left),
+    ← c .before .before .before .is-started .ensures,
+    ← c .before .before .before .before .load-globals .ensures,
+  ),
+  (refl, tt),
+)
 
 is-on-requires : tie.Need-is-on-requires
 is-on-requires c κs = search needs
 
 returns-3 : tie.Need-returns-3
-returns-3 c = (λ b. simp (c .if3 .taken, ← c .before .is-on .ensures, c .before .before .if2 .left, ← c .before .before .before .is-above .ensures, not-false (c .before .before .before .before .before .is-started .result) (c .before .before .before .before .if1 .left), ← c .before .before .before .before .before .is-started .ensures, ← c .before .before .before .before .before .before .load-globals .ensures), (refl, tt))
+returns-3 c = (
+  λ b. simp (
+    c .if3 .taken,
+    ← c .before .is-on .ensures,
+    c .before .before .if2 .left,
+    ← c .before .before .before .is-above .ensures,
+    not-false (c .before .before .before .before .before .is-started .result) (c .before .before .before .before .if1 .left),
+    ← c .before .before .before .before .before .is-started .ensures,
+    ← c .before .before .before .before .before .before .load-globals .ensures,
+  ),
+  (refl, tt),
+)
 
 length16-requires : tie.Need-length16-requires
 length16-requires c κs = ltb-false _ _ (sym (c .before .before .before .is-above .ensures) ∙ c .before .before .if2 .left)
@@ -62,10 +89,61 @@ cast-t18 : tie.Need-cast-t18
 cast-t18 c = search needs
 
 returns-4 : tie.Need-returns-4
-returns-4 c = (λ b. rw (c .before .if4 .taken, c .word-of .ensures) (out-first (view (now (c .before .before .before .before .before .before .before .before .before .before .before .before .before .before .before .before .before .args .s))) _ _ _ b _ (c .before .before .before .before .before .before .set-request .ensures .0) (c .before .before .before .before .clear-wakes .ensures .0) (c .before .before .arm-out .ensures .0 ∙ rw (c .before .before .before .before .before .before .before .before .length16 .ensures)) (on-driver (λ x. eqb (x .stage) 2) (c .before .before .before .before .before .before .before .before .before .before .before .before .before .before .before .load-globals .ensures) (c .before .before .before .before .before .before .before .before .before .before .before .before .before .before .is-started .ensures) (not-false (c .before .before .before .before .before .before .before .before .before .before .before .before .before .before .is-started .result) (c .before .before .before .before .before .before .before .before .before .before .before .before .before .if1 .left))) (on-driver (λ x. ltb (x .«ep0_max») (c .before .before .before .before .before .before .before .before .before .before .before .before .before .before .before .before .before .args .n)) (c .before .before .before .before .before .before .before .before .before .before .before .before .before .before .before .load-globals .ensures) (c .before .before .before .before .before .before .before .before .before .before .before .before .is-above .ensures) (c .before .before .before .before .before .before .before .before .before .before .before .if2 .left)) (on-driver (λ x. isOn (x .«setup_ready»)) (c .before .before .before .before .before .before .before .before .before .before .before .before .before .before .before .load-globals .ensures) (c .before .before .before .before .before .before .before .before .before .before .is-on .ensures) (c .before .before .before .before .before .before .before .before .before .if3 .left))), (c .before .before .arm-out .ensures .1 ∙ c .before .before .before .before .clear-wakes .ensures .1 ∙ c .before .before .before .before .before .before .set-request .ensures .1, refl))
+returns-4 c = (
+  λ b. rw (c .before .if4 .taken, c .word-of .ensures)
+      (out-first (view (now
+      (c .before .before .before .before .before .before .before .before .before .before .before .before .before .before .before .before .before .args .s)))
+      _ _ _ b _ (c .before .before .before .before .before .before .set-request .ensures .0)
+      (c .before .before .before .before .clear-wakes .ensures .0)
+      (c .before .before .arm-out .ensures .0 ∙ rw (c .before .before .before .before .before .before .before .before .length16 .ensures))
+      (on-driver (λ x. eqb (x .stage) 2)
+      (c .before .before .before .before .before .before .before .before .before .before .before .before .before .before .before .load-globals .ensures)
+      (c .before .before .before .before .before .before .before .before .before .before .before .before .before .before .is-started .ensures)
+      (not-false (c .before .before .before .before .before .before .before .before .before .before .before .before .before .before .is-started .result)
+      (c .before .before .before .before .before .before .before .before .before .before .before .before .before .if1 .left)))
+      (on-driver (λ x. ltb (x .«ep0_max»)
+      (c .before .before .before .before .before .before .before .before .before .before .before .before .before .before .before .before .before .args .n))
+      (c .before .before .before .before .before .before .before .before .before .before .before .before .before .before .before .load-globals .ensures)
+      (c .before .before .before .before .before .before .before .before .before .before .before .before .is-above .ensures)
+      (c .before .before .before .before .before .before .before .before .before .before .before .if2 .left))
+      (on-driver (λ x. isOn (x .«setup_ready»))
+      (c .before .before .before .before .before .before .before .before .before .before .before .before .before .before .before .load-globals .ensures)
+      (c .before .before .before .before .before .before .before .before .before .before .is-on .ensures)
+      (c .before .before .before .before .before .before .before .before .before .if3 .left))),
+  (
+    c .before .before .arm-out .ensures .1 ∙ c .before .before .before .before .clear-wakes .ensures .1
+        ∙ c .before .before .before .before .before .before .set-request .ensures .1,
+    refl,
+  ),
+)
 
 returns-5 : tie.Need-returns-5
-returns-5 c = (λ b. rw (c .if4 .left) (out-later (view (now (c .before .before .before .before .before .before .before .before .before .before .before .before .before .before .before .before .args .s))) _ _ _ b _ (c .before .before .before .before .before .set-request .ensures .0) (c .before .before .before .clear-wakes .ensures .0) (c .before .arm-out .ensures .0 ∙ rw (c .before .before .before .before .before .before .before .length16 .ensures)) (on-driver (λ x. eqb (x .stage) 2) (c .before .before .before .before .before .before .before .before .before .before .before .before .before .before .load-globals .ensures) (c .before .before .before .before .before .before .before .before .before .before .before .before .before .is-started .ensures) (not-false (c .before .before .before .before .before .before .before .before .before .before .before .before .before .is-started .result) (c .before .before .before .before .before .before .before .before .before .before .before .before .if1 .left))) (on-driver (λ x. ltb (x .«ep0_max») (c .before .before .before .before .before .before .before .before .before .before .before .before .before .before .before .before .args .n)) (c .before .before .before .before .before .before .before .before .before .before .before .before .before .before .load-globals .ensures) (c .before .before .before .before .before .before .before .before .before .before .before .is-above .ensures) (c .before .before .before .before .before .before .before .before .before .before .if2 .left)) (on-driver (λ x. isOn (x .«setup_ready»)) (c .before .before .before .before .before .before .before .before .before .before .before .before .before .before .load-globals .ensures) (c .before .before .before .before .before .before .before .before .before .is-on .ensures) (c .before .before .before .before .before .before .before .before .if3 .left))), (c .before .arm-out .ensures .1 ∙ c .before .before .before .clear-wakes .ensures .1 ∙ c .before .before .before .before .before .set-request .ensures .1, refl))
+returns-5 c = (
+  λ b. rw (c .if4 .left)
+      (out-later
+      (view (now (c .before .before .before .before .before .before .before .before .before .before .before .before .before .before .before .before .args .s)))
+      _ _ _ b _ (c .before .before .before .before .before .set-request .ensures .0) (c .before .before .before .clear-wakes .ensures .0)
+      (c .before .arm-out .ensures .0 ∙ rw (c .before .before .before .before .before .before .before .length16 .ensures))
+      (on-driver (λ x. eqb (x .stage) 2)
+      (c .before .before .before .before .before .before .before .before .before .before .before .before .before .before .load-globals .ensures)
+      (c .before .before .before .before .before .before .before .before .before .before .before .before .before .is-started .ensures)
+      (not-false (c .before .before .before .before .before .before .before .before .before .before .before .before .before .is-started .result)
+      (c .before .before .before .before .before .before .before .before .before .before .before .before .if1 .left)))
+      (on-driver (λ x. ltb (x .«ep0_max»)
+      (c .before .before .before .before .before .before .before .before .before .before .before .before .before .before .before .before .args .n))
+      (c .before .before .before .before .before .before .before .before .before .before .before .before .before .before .load-globals .ensures)
+      (c .before .before .before .before .before .before .before .before .before .before .before .is-above .ensures)
+      (c .before .before .before .before .before .before .before .before .before .before .if2 .left))
+      (on-driver (λ x. isOn (x .«setup_ready»))
+      (c .before .before .before .before .before .before .before .before .before .before .before .before .before .before .load-globals .ensures)
+      (c .before .before .before .before .before .before .before .before .before .is-on .ensures)
+      (c .before .before .before .before .before .before .before .before .if3 .left))),
+  (
+    c .before .arm-out .ensures .1 ∙ c .before .before .before .clear-wakes .ensures .1
+        ∙ c .before .before .before .before .before .set-request .ensures .1,
+    refl,
+  ),
+)
 
 pub data-out-spec : {M : Type 1} → statement M
 data-out-spec =

@@ -34,10 +34,28 @@ set-armed-requires-2 : tie.Need-set-armed-requires-2
 set-armed-requires-2 c κs = search needs
 
 returns : tie.Need-returns
-returns c = (reject-asks (view (now (c .before .before .before .before .before .before .before .before .before .before .before .before .args .s))) _ _ _ _ (c .before .before .before .before .before .before .set-request .ensures .0) (c .before .before .before .before .clear-wakes .ensures .0) (c .before .before .set-armed .ensures .0) (c .set-armed2 .ensures .0) (on-driver (λ x. eqb (x .stage) 2) (c .before .before .before .before .before .before .before .before .before .before .load-globals .ensures) (c .before .before .before .before .before .before .before .before .before .is-started .ensures) (c .before .before .before .before .before .before .before .before .if1 .taken)), (c .set-armed2 .ensures .1 ∙ c .before .before .set-armed .ensures .1 ∙ c .before .before .before .before .clear-wakes .ensures .1 ∙ c .before .before .before .before .before .before .set-request .ensures .1, refl))
+returns c = (
+  reject-asks (view (now (c .before .before .before .before .before .before .before .before .before .before .before .before .args .s)))
+      _ _ _ _ (c .before .before .before .before .before .before .set-request .ensures .0)
+      (c .before .before .before .before .clear-wakes .ensures .0) (c .before .before .set-armed .ensures .0) (c .set-armed2 .ensures .0)
+      (on-driver (λ x. eqb (x .stage) 2)
+      (c .before .before .before .before .before .before .before .before .before .before .load-globals .ensures)
+      (c .before .before .before .before .before .before .before .before .before .is-started .ensures)
+      (c .before .before .before .before .before .before .before .before .if1 .taken)),
+  (
+    c .set-armed2 .ensures .1
+        ∙ c .before .before .set-armed .ensures .1 ∙ c .before .before .before .before .clear-wakes .ensures .1
+        ∙ c .before .before .before .before .before .before .set-request .ensures .1,
+    refl,
+  ),
+)
 
 returns-2 : tie.Need-returns-2
-returns-2 c = (reject-refused (view (now (c .before .before .before .before .args .s))) (on-driver (λ x. eqb (x .stage) 2) (c .before .before .load-globals .ensures) (c .before .is-started .ensures) (c .if1 .left)), (refl, tt))
+returns-2 c = (
+  reject-refused (view (now (c .before .before .before .before .args .s)))
+      (on-driver (λ x. eqb (x .stage) 2) (c .before .before .load-globals .ensures) (c .before .is-started .ensures) (c .if1 .left)),
+  (refl, tt),
+)
 
 pub reject-spec : {M : Type 1} → statement M
 reject-spec =

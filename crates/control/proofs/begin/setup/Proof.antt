@@ -22,7 +22,16 @@ clear-wakes-requires : tie.Need-clear-wakes-requires
 clear-wakes-requires c κs = search needs
 
 returns : tie.Need-returns
-returns c = (λ b. simp (c .clear-wakes .ensures .0, c .before .before .set-request .ensures .0, c .before .before .before .before .if1 .taken, ← c .before .before .before .before .before .is-started .ensures, ← c .before .before .before .before .before .before .load-globals .ensures), (c .clear-wakes .ensures .1 ∙ c .before .before .set-request .ensures .1, tt))
+returns c = (
+  λ b. simp (
+    c .clear-wakes .ensures .0,
+    c .before .before .set-request .ensures .0,
+    c .before .before .before .before .if1 .taken,
+    ← c .before .before .before .before .before .is-started .ensures,
+    ← c .before .before .before .before .before .before .load-globals .ensures,
+  ),
+  (c .clear-wakes .ensures .1 ∙ c .before .before .set-request .ensures .1, tt),
+)
 
 returns-2 : tie.Need-returns-2
 returns-2 c = (λ b. simp (c .if1 .left, ← c .before .is-started .ensures, ← c .before .before .load-globals .ensures), (refl, tt))

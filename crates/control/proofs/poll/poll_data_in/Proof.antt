@@ -24,7 +24,14 @@ is-started-requires : tie.Need-is-started-requires
 is-started-requires c κs = search needs
 
 returns : tie.Need-returns
-returns c = (λ b. simp (not-true (c .before .is-started .result) (c .if1 .taken), ← c .before .is-started .ensures, ← c .before .before .load-globals .ensures), (refl, tt))
+returns c = (
+  λ b. simp (
+    not-true (c .before .is-started .result) (c .if1 .taken),
+    ← c .before .is-started .ensures,
+    ← c .before .before .load-globals .ensures,
+  ),
+  (refl, tt),
+)
 
 load-control-requires : tie.Need-load-control-requires
 load-control-requires c κs = search needs
@@ -33,19 +40,59 @@ is-sort-requires : tie.Need-is-sort-requires
 is-sort-requires c κs = search needs
 
 returns-2 : tie.Need-returns-2
-returns-2 c = (λ b. simp (not-true (c .before .is-sort .result) (c .if2 .taken), ← c .before .is-sort .ensures, ← c .before .before .load-control .ensures, not-false (c .before .before .before .before .before .is-started .result) (c .before .before .before .before .if1 .left), ← c .before .before .before .before .before .is-started .ensures, ← c .before .before .before .before .before .before .load-globals .ensures), (refl, tt))
+returns-2 c = (
+  λ b. simp (
+    not-true (c .before .is-sort .result) (c .if2 .taken),
+    ← c .before .is-sort .ensures,
+    ← c .before .before .load-control .ensures,
+    not-false (c .before .before .before .before .before .is-started .result) (c .before .before .before .before .if1 .left),
+    ← c .before .before .before .before .before .is-started .ensures,
+    ← c .before .before .before .before .before .before .load-globals .ensures,
+  ),
+  (refl, tt),
+)
 
 take-closing-requires : tie.Need-take-closing-requires
 take-closing-requires c κs = search needs
 
 returns-3 : tie.Need-returns-3
-returns-3 c = (λ b. c .take-closing .ensures .0 b ∙ in-second (view (now (c .before .before .before .before .before .before .before .before .before .before .before .before .args .s))) _ (c .before .before .before .before .before .before .load-control .ensures) (on-driver (λ x. eqb (x .stage) 2) (c .before .before .before .before .before .before .before .before .before .before .load-globals .ensures) (c .before .before .before .before .before .before .before .before .before .is-started .ensures) (not-false (c .before .before .before .before .before .before .before .before .before .is-started .result) (c .before .before .before .before .before .before .before .before .if1 .left))) (on-driver (λ x. eqb (x .sort) 3) (c .before .before .before .before .before .before .load-control .ensures) (c .before .before .before .before .before .is-sort .ensures) (not-false (c .before .before .before .before .before .is-sort .result) (c .before .before .before .before .if2 .left))) (on-driver (λ x. eqb (x .wait) 2) (c .before .before .before .before .before .before .load-control .ensures) refl (eq-eqb _ _ (c .before .before .if3 .taken))) b, (c .take-closing .ensures .1 .0, c .take-closing .ensures .1 .1))
+returns-3 c = (
+  λ b. c .take-closing .ensures .0 b ∙ in-second
+      (view (now (c .before .before .before .before .before .before .before .before .before .before .before .before .args .s))) _
+      (c .before .before .before .before .before .before .load-control .ensures)
+      (on-driver (λ x. eqb (x .stage) 2)
+      (c .before .before .before .before .before .before .before .before .before .before .load-globals .ensures)
+      (c .before .before .before .before .before .before .before .before .before .is-started .ensures)
+      (not-false (c .before .before .before .before .before .before .before .before .before .is-started .result)
+      (c .before .before .before .before .before .before .before .before .if1 .left)))
+      (on-driver (λ x. eqb (x .sort) 3) (c .before .before .before .before .before .before .load-control .ensures)
+      (c .before .before .before .before .before .is-sort .ensures)
+      (not-false (c .before .before .before .before .before .is-sort .result) (c .before .before .before .before .if2 .left)))
+      (on-driver (λ x. eqb (x .wait) 2) (c .before .before .before .before .before .before .load-control .ensures) refl
+      (eq-eqb _ _ (c .before .before .if3 .taken))) b,
+  (c .take-closing .ensures .1 .0, c .take-closing .ensures .1 .1),
+)
 
 take-in-requires : tie.Need-take-in-requires
 take-in-requires c κs = search needs
 
 returns-4 : tie.Need-returns-4
-returns-4 c = (λ b. c .take-in .ensures .0 b ∙ in-first (view (now (c .before .before .before .before .before .before .before .before .before .before .before .before .args .s))) _ (c .before .before .before .before .before .before .load-control .ensures) (on-driver (λ x. eqb (x .stage) 2) (c .before .before .before .before .before .before .before .before .before .before .load-globals .ensures) (c .before .before .before .before .before .before .before .before .before .is-started .ensures) (not-false (c .before .before .before .before .before .before .before .before .before .is-started .result) (c .before .before .before .before .before .before .before .before .if1 .left))) (on-driver (λ x. eqb (x .sort) 3) (c .before .before .before .before .before .before .load-control .ensures) (c .before .before .before .before .before .is-sort .ensures) (not-false (c .before .before .before .before .before .is-sort .result) (c .before .before .before .before .if2 .left))) (on-driver (λ x. eqb (x .wait) 2) (c .before .before .before .before .before .before .load-control .ensures) refl (ne-eqb _ _ (c .before .before .if3 .left))) b, (c .take-in .ensures .1 .0, c .take-in .ensures .1 .1))
+returns-4 c = (
+  λ b. c .take-in .ensures .0 b
+      ∙ in-first (view (now (c .before .before .before .before .before .before .before .before .before .before .before .before .args .s))) _
+      (c .before .before .before .before .before .before .load-control .ensures)
+      (on-driver (λ x. eqb (x .stage) 2)
+      (c .before .before .before .before .before .before .before .before .before .before .load-globals .ensures)
+      (c .before .before .before .before .before .before .before .before .before .is-started .ensures)
+      (not-false (c .before .before .before .before .before .before .before .before .before .is-started .result)
+      (c .before .before .before .before .before .before .before .before .if1 .left)))
+      (on-driver (λ x. eqb (x .sort) 3) (c .before .before .before .before .before .before .load-control .ensures)
+      (c .before .before .before .before .before .is-sort .ensures)
+      (not-false (c .before .before .before .before .before .is-sort .result) (c .before .before .before .before .if2 .left)))
+      (on-driver (λ x. eqb (x .wait) 2) (c .before .before .before .before .before .before .load-control .ensures) refl
+      (ne-eqb _ _ (c .before .before .if3 .left))) b,
+  (c .take-in .ensures .1 .0, c .take-in .ensures .1 .1),
+)
 
 pub poll-data-in-spec : {M : Type 1} → statement M
 poll-data-in-spec =

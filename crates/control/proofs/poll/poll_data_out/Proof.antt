@@ -25,7 +25,23 @@ is-started-requires : tie.Need-is-started-requires
 is-started-requires c κs = search needs
 
 returns : tie.Need-returns
-returns c = (stage-told (view (c .before .before .before .before .before .before .args .s .now)) (c .before .before .before .before .before .before .args .buf .now) (c .before .before .before .before .before .before .args .out .now) (length (c .before .before .before .before .before .before .args .out .now)) (on-driver (λ y. eqb (y .stage) 2) (c .before .before .load-globals .ensures) (c .before .is-started .ensures) (not-true (c .before .is-started .result) (c .if1 .taken))), (stage-lends (view (c .before .before .before .before .before .before .args .s .now)) (c .before .before .before .before .before .before .args .buf .now) (c .before .before .before .before .before .before .args .out .now) (length (c .before .before .before .before .before .before .args .out .now)) (on-driver (λ y. eqb (y .stage) 2) (c .before .before .load-globals .ensures) (c .before .is-started .ensures) (not-true (c .before .is-started .result) (c .if1 .taken))), (refl, tt)))
+returns c = (
+  stage-told (view (c .before .before .before .before .before .before .args .s .now))
+      (c .before .before .before .before .before .before .args .buf .now)
+      (c .before .before .before .before .before .before .args .out .now)
+      (length (c .before .before .before .before .before .before .args .out .now))
+      (on-driver (λ y. eqb (y .stage) 2) (c .before .before .load-globals .ensures)
+      (c .before .is-started .ensures) (not-true (c .before .is-started .result) (c .if1 .taken))),
+  (
+    stage-lends (view (c .before .before .before .before .before .before .args .s .now))
+        (c .before .before .before .before .before .before .args .buf .now)
+        (c .before .before .before .before .before .before .args .out .now)
+        (length (c .before .before .before .before .before .before .args .out .now))
+        (on-driver (λ y. eqb (y .stage) 2) (c .before .before .load-globals .ensures)
+        (c .before .is-started .ensures) (not-true (c .before .is-started .result) (c .if1 .taken))),
+    (refl, tt),
+  ),
+)
 
 load-control-requires : tie.Need-load-control-requires
 load-control-requires c κs = search needs
@@ -34,7 +50,29 @@ is-sort-requires : tie.Need-is-sort-requires
 is-sort-requires c κs = search needs
 
 returns-2 : tie.Need-returns-2
-returns-2 c = (sort-told (view (c .before .before .before .before .before .before .before .before .before .before .args .s .now)) (c .before .before .before .before .before .before .before .before .before .before .args .buf .now) (c .before .before .before .before .before .before .before .before .before .before .args .out .now) (length (c .before .before .before .before .before .before .before .before .before .before .args .out .now)) (on-driver (λ y. eqb (y .stage) 2) (c .before .before .before .before .before .before .load-globals .ensures) (c .before .before .before .before .before .is-started .ensures) (not-false (c .before .before .before .before .before .is-started .result) (c .before .before .before .before .if1 .left))) (on-driver (λ y. eqb (y .sort) 2) (c .before .before .load-control .ensures) (c .before .is-sort .ensures) (not-true (c .before .is-sort .result) (c .if2 .taken))), (sort-lends (view (c .before .before .before .before .before .before .before .before .before .before .args .s .now)) (c .before .before .before .before .before .before .before .before .before .before .args .buf .now) (c .before .before .before .before .before .before .before .before .before .before .args .out .now) (length (c .before .before .before .before .before .before .before .before .before .before .args .out .now)) (on-driver (λ y. eqb (y .stage) 2) (c .before .before .before .before .before .before .load-globals .ensures) (c .before .before .before .before .before .is-started .ensures) (not-false (c .before .before .before .before .before .is-started .result) (c .before .before .before .before .if1 .left))) (on-driver (λ y. eqb (y .sort) 2) (c .before .before .load-control .ensures) (c .before .is-sort .ensures) (not-true (c .before .is-sort .result) (c .if2 .taken))), (refl, tt)))
+returns-2 c = (
+  sort-told (view (c .before .before .before .before .before .before .before .before .before .before .args .s .now))
+      (c .before .before .before .before .before .before .before .before .before .before .args .buf .now)
+      (c .before .before .before .before .before .before .before .before .before .before .args .out .now)
+      (length (c .before .before .before .before .before .before .before .before .before .before .args .out .now))
+      (on-driver (λ y. eqb (y .stage) 2) (c .before .before .before .before .before .before .load-globals .ensures)
+      (c .before .before .before .before .before .is-started .ensures)
+      (not-false (c .before .before .before .before .before .is-started .result) (c .before .before .before .before .if1 .left)))
+      (on-driver (λ y. eqb (y .sort) 2) (c .before .before .load-control .ensures)
+      (c .before .is-sort .ensures) (not-true (c .before .is-sort .result) (c .if2 .taken))),
+  (
+    sort-lends (view (c .before .before .before .before .before .before .before .before .before .before .args .s .now))
+        (c .before .before .before .before .before .before .before .before .before .before .args .buf .now)
+        (c .before .before .before .before .before .before .before .before .before .before .args .out .now)
+        (length (c .before .before .before .before .before .before .before .before .before .before .args .out .now))
+        (on-driver (λ y. eqb (y .stage) 2) (c .before .before .before .before .before .before .load-globals .ensures)
+        (c .before .before .before .before .before .is-started .ensures)
+        (not-false (c .before .before .before .before .before .is-started .result) (c .before .before .before .before .if1 .left)))
+        (on-driver (λ y. eqb (y .sort) 2) (c .before .before .load-control .ensures)
+        (c .before .is-sort .ensures) (not-true (c .before .is-sort .result) (c .if2 .taken))),
+    (refl, tt),
+  ),
+)
 
 cast-if3 : tie.Need-cast-if3
 cast-if3 c = search needs
@@ -46,7 +84,58 @@ same-length : tie.Need-same-length
 same-length c = search needs
 
 returns-3 : tie.Need-returns-3
-returns-3 c = (c .before .before .take-out .ensures .0 ∙ take-is (view (c .before .before .before .before .before .before .before .before .before .before .before .before .before .before .before .before .before .args .s .now)) (c .before .before .before .before .before .before .before .before .before .before .before .before .before .before .before .before .before .args .buf .now) (c .before .before .before .before .before .before .before .before .before .before .before .before .before .before .before .before .before .args .out .now) (length (c .before .before .before .before .before .before .before .before .before .before .before .before .before .before .before .before .before .args .out .now)) (on-driver (λ y. eqb (y .stage) 2) (c .before .before .before .before .before .before .before .before .before .before .before .before .before .load-globals .ensures) (c .before .before .before .before .before .before .before .before .before .before .before .before .is-started .ensures) (not-false (c .before .before .before .before .before .before .before .before .before .before .before .before .is-started .result) (c .before .before .before .before .before .before .before .before .before .before .before .if1 .left))) (on-driver (λ y. eqb (y .sort) 2) (c .before .before .before .before .before .before .before .before .before .load-control .ensures) (c .before .before .before .before .before .before .before .before .is-sort .ensures) (not-false (c .before .before .before .before .before .before .before .before .is-sort .result) (c .before .before .before .before .before .before .before .if2 .left))) (on-driver (λ y. eqb (y .length) (length (c .before .before .before .before .before .before .before .before .before .before .before .before .before .before .before .before .before .args .out .now))) (c .before .before .before .before .before .before .before .before .before .load-control .ensures) refl (eq-eqb _ _ (c .before .before .before .before .before .if3 .taken))), (c .before .before .take-out .ensures .1 .0 ∙ take-lends (view (c .before .before .before .before .before .before .before .before .before .before .before .before .before .before .before .before .before .args .s .now)) (c .before .before .before .before .before .before .before .before .before .before .before .before .before .before .before .before .before .args .buf .now) (c .before .before .before .before .before .before .before .before .before .before .before .before .before .before .before .before .before .args .out .now) (length (c .before .before .before .before .before .before .before .before .before .before .before .before .before .before .before .before .before .args .out .now)) (on-driver (λ y. eqb (y .stage) 2) (c .before .before .before .before .before .before .before .before .before .before .before .before .before .load-globals .ensures) (c .before .before .before .before .before .before .before .before .before .before .before .before .is-started .ensures) (not-false (c .before .before .before .before .before .before .before .before .before .before .before .before .is-started .result) (c .before .before .before .before .before .before .before .before .before .before .before .if1 .left))) (on-driver (λ y. eqb (y .sort) 2) (c .before .before .before .before .before .before .before .before .before .load-control .ensures) (c .before .before .before .before .before .before .before .before .is-sort .ensures) (not-false (c .before .before .before .before .before .before .before .before .is-sort .result) (c .before .before .before .before .before .before .before .if2 .left))) (on-driver (λ y. eqb (y .length) (length (c .before .before .before .before .before .before .before .before .before .before .before .before .before .before .before .before .before .args .out .now))) (c .before .before .before .before .before .before .before .before .before .load-control .ensures) refl (eq-eqb _ _ (c .before .before .before .before .before .if3 .taken))), (c .before .before .take-out .ensures .1 .1 .0, c .before .before .take-out .ensures .1 .1 .1)))
+returns-3 c = (
+  c .before .before .take-out .ensures .0 ∙ take-is
+      (view
+      (c .before .before .before .before .before .before .before .before .before .before .before .before .before .before .before .before .before .args .s .now))
+      (c .before .before .before .before .before .before .before .before .before .before .before .before .before .before .before .before .before
+      .args .buf .now)
+      (c .before .before .before .before .before .before .before .before .before .before .before .before .before .before .before .before .before
+      .args .out .now)
+      (length
+      (c .before .before .before .before .before .before .before .before .before .before .before .before .before .before .before .before .before
+      .args .out .now))
+      (on-driver (λ y. eqb (y .stage) 2)
+      (c .before .before .before .before .before .before .before .before .before .before .before .before .before .load-globals .ensures)
+      (c .before .before .before .before .before .before .before .before .before .before .before .before .is-started .ensures)
+      (not-false (c .before .before .before .before .before .before .before .before .before .before .before .before .is-started .result)
+      (c .before .before .before .before .before .before .before .before .before .before .before .if1 .left)))
+      (on-driver (λ y. eqb (y .sort) 2) (c .before .before .before .before .before .before .before .before .before .load-control .ensures)
+      (c .before .before .before .before .before .before .before .before .is-sort .ensures)
+      (not-false (c .before .before .before .before .before .before .before .before .is-sort .result)
+      (c .before .before .before .before .before .before .before .if2 .left)))
+      (on-driver (λ y. eqb (y .length) (length
+      (c .before .before .before .before .before .before .before .before .before .before .before .before .before .before .before .before .before
+      .args .out .now))) (c .before .before .before .before .before .before .before .before .before .load-control .ensures) refl
+      (eq-eqb _ _ (c .before .before .before .before .before .if3 .taken))),
+  (
+    c .before .before .take-out .ensures .1 .0 ∙ take-lends
+        (view
+        (c .before .before .before .before .before .before .before .before .before .before .before .before .before .before .before .before .before
+        .args .s .now))
+        (c .before .before .before .before .before .before .before .before .before .before .before .before .before .before .before .before .before
+        .args .buf .now)
+        (c .before .before .before .before .before .before .before .before .before .before .before .before .before .before .before .before .before
+        .args .out .now)
+        (length
+        (c .before .before .before .before .before .before .before .before .before .before .before .before .before .before .before .before .before
+        .args .out .now))
+        (on-driver (λ y. eqb (y .stage) 2)
+        (c .before .before .before .before .before .before .before .before .before .before .before .before .before .load-globals .ensures)
+        (c .before .before .before .before .before .before .before .before .before .before .before .before .is-started .ensures)
+        (not-false (c .before .before .before .before .before .before .before .before .before .before .before .before .is-started .result)
+        (c .before .before .before .before .before .before .before .before .before .before .before .if1 .left)))
+        (on-driver (λ y. eqb (y .sort) 2) (c .before .before .before .before .before .before .before .before .before .load-control .ensures)
+        (c .before .before .before .before .before .before .before .before .is-sort .ensures)
+        (not-false (c .before .before .before .before .before .before .before .before .is-sort .result)
+        (c .before .before .before .before .before .before .before .if2 .left)))
+        (on-driver (λ y. eqb (y .length) (length
+        (c .before .before .before .before .before .before .before .before .before .before .before .before .before .before .before .before .before
+        .args .out .now))) (c .before .before .before .before .before .before .before .before .before .load-control .ensures) refl
+        (eq-eqb _ _ (c .before .before .before .before .before .if3 .taken))),
+    (c .before .before .take-out .ensures .1 .1 .0, c .before .before .take-out .ensures .1 .1 .1),
+  ),
+)
 
 unready-requires : tie.Need-unready-requires
 unready-requires c κs = search needs
@@ -55,7 +144,49 @@ set-request-requires : tie.Need-set-request-requires
 set-request-requires c κs = search needs
 
 returns-4 : tie.Need-returns-4
-returns-4 c = (other-told (view (c .before .before .before .before .before .before .before .before .before .before .before .before .before .before .before .before .args .s .now)) (c .before .before .before .before .before .before .before .before .before .before .before .before .before .before .before .before .args .buf .now) (c .before .before .before .before .before .before .before .before .before .before .before .before .before .before .before .before .args .out .now) (length (c .before .before .before .before .before .before .before .before .before .before .before .before .before .before .before .before .args .out .now)) (on-driver (λ y. eqb (y .stage) 2) (c .before .before .before .before .before .before .before .before .before .before .before .before .load-globals .ensures) (c .before .before .before .before .before .before .before .before .before .before .before .is-started .ensures) (not-false (c .before .before .before .before .before .before .before .before .before .before .before .is-started .result) (c .before .before .before .before .before .before .before .before .before .before .if1 .left))) (on-driver (λ y. eqb (y .sort) 2) (c .before .before .before .before .before .before .before .before .load-control .ensures) (c .before .before .before .before .before .before .before .is-sort .ensures) (not-false (c .before .before .before .before .before .before .before .is-sort .result) (c .before .before .before .before .before .before .if2 .left))) (on-driver (λ y. eqb (y .length) (length (c .before .before .before .before .before .before .before .before .before .before .before .before .before .before .before .before .args .out .now))) (c .before .before .before .before .before .before .before .before .load-control .ensures) refl (ne-eqb _ _ (c .before .before .before .before .if3 .left))) _ _ (c .before .before .unready .ensures .0) (c .set-request .ensures .0), (other-lends (view (c .before .before .before .before .before .before .before .before .before .before .before .before .before .before .before .before .args .s .now)) (c .before .before .before .before .before .before .before .before .before .before .before .before .before .before .before .before .args .buf .now) (c .before .before .before .before .before .before .before .before .before .before .before .before .before .before .before .before .args .out .now) (length (c .before .before .before .before .before .before .before .before .before .before .before .before .before .before .before .before .args .out .now)) (on-driver (λ y. eqb (y .stage) 2) (c .before .before .before .before .before .before .before .before .before .before .before .before .load-globals .ensures) (c .before .before .before .before .before .before .before .before .before .before .before .is-started .ensures) (not-false (c .before .before .before .before .before .before .before .before .before .before .before .is-started .result) (c .before .before .before .before .before .before .before .before .before .before .if1 .left))) (on-driver (λ y. eqb (y .sort) 2) (c .before .before .before .before .before .before .before .before .load-control .ensures) (c .before .before .before .before .before .before .before .is-sort .ensures) (not-false (c .before .before .before .before .before .before .before .is-sort .result) (c .before .before .before .before .before .before .if2 .left))) (on-driver (λ y. eqb (y .length) (length (c .before .before .before .before .before .before .before .before .before .before .before .before .before .before .before .before .args .out .now))) (c .before .before .before .before .before .before .before .before .load-control .ensures) refl (ne-eqb _ _ (c .before .before .before .before .if3 .left))), (c .set-request .ensures .1 ∙ c .before .before .unready .ensures .1, tt)))
+returns-4 c = (
+  other-told
+      (view (c .before .before .before .before .before .before .before .before .before .before .before .before .before .before .before .before .args .s .now))
+      (c .before .before .before .before .before .before .before .before .before .before .before .before .before .before .before .before .args .buf .now)
+      (c .before .before .before .before .before .before .before .before .before .before .before .before .before .before .before .before .args .out .now)
+      (length
+      (c .before .before .before .before .before .before .before .before .before .before .before .before .before .before .before .before .args .out .now))
+      (on-driver (λ y. eqb (y .stage) 2)
+      (c .before .before .before .before .before .before .before .before .before .before .before .before .load-globals .ensures)
+      (c .before .before .before .before .before .before .before .before .before .before .before .is-started .ensures)
+      (not-false (c .before .before .before .before .before .before .before .before .before .before .before .is-started .result)
+      (c .before .before .before .before .before .before .before .before .before .before .if1 .left)))
+      (on-driver (λ y. eqb (y .sort) 2) (c .before .before .before .before .before .before .before .before .load-control .ensures)
+      (c .before .before .before .before .before .before .before .is-sort .ensures)
+      (not-false (c .before .before .before .before .before .before .before .is-sort .result)
+      (c .before .before .before .before .before .before .if2 .left)))
+      (on-driver (λ y. eqb (y .length) (length
+      (c .before .before .before .before .before .before .before .before .before .before .before .before .before .before .before .before .args .out .now)))
+      (c .before .before .before .before .before .before .before .before .load-control .ensures) refl
+      (ne-eqb _ _ (c .before .before .before .before .if3 .left))) _ _ (c .before .before .unready .ensures .0) (c .set-request .ensures .0),
+  (
+    other-lends
+        (view (c .before .before .before .before .before .before .before .before .before .before .before .before .before .before .before .before .args .s .now))
+        (c .before .before .before .before .before .before .before .before .before .before .before .before .before .before .before .before .args .buf .now)
+        (c .before .before .before .before .before .before .before .before .before .before .before .before .before .before .before .before .args .out .now)
+        (length
+        (c .before .before .before .before .before .before .before .before .before .before .before .before .before .before .before .before .args .out .now))
+        (on-driver (λ y. eqb (y .stage) 2)
+        (c .before .before .before .before .before .before .before .before .before .before .before .before .load-globals .ensures)
+        (c .before .before .before .before .before .before .before .before .before .before .before .is-started .ensures)
+        (not-false (c .before .before .before .before .before .before .before .before .before .before .before .is-started .result)
+        (c .before .before .before .before .before .before .before .before .before .before .if1 .left)))
+        (on-driver (λ y. eqb (y .sort) 2) (c .before .before .before .before .before .before .before .before .load-control .ensures)
+        (c .before .before .before .before .before .before .before .is-sort .ensures)
+        (not-false (c .before .before .before .before .before .before .before .is-sort .result)
+        (c .before .before .before .before .before .before .if2 .left)))
+        (on-driver (λ y. eqb (y .length) (length
+        (c .before .before .before .before .before .before .before .before .before .before .before .before .before .before .before .before .args .out .now)))
+        (c .before .before .before .before .before .before .before .before .load-control .ensures) refl
+        (ne-eqb _ _ (c .before .before .before .before .if3 .left))),
+    (c .set-request .ensures .1 ∙ c .before .before .unready .ensures .1, tt),
+  ),
+)
 
 pub poll-data-out-spec : {M : Type 1} → statement M
 poll-data-out-spec =

@@ -36,7 +36,22 @@ closed-requires : tie.Need-closed-requires
 closed-requires c κs = search needs
 
 returns : tie.Need-returns
-returns c = (λ b. rw (c .before .before .before .before .before .if2 .taken) (closing-now (view (now (c .before .before .before .before .before .before .before .before .before .before .before .before .args .s))) _ _ _ (c .before .before .before .before .before .before .before .before .before .before .before .before .args .c) _ (c .closed .result) b (c .before .before .before .before .before .before .before .before .before .before .load-ep .ensures) (c .before .before .before .before .before .before .unready .ensures .0) (c .before .before .before .unready2 .ensures .0) (c .before .set-request .ensures .0) (on-driver (λ x. isOn (x .ready)) (c .before .before .before .before .before .before .before .before .before .before .load-ep .ensures) (c .before .before .before .before .before .before .before .before .before .is-on .ensures) (c .before .before .before .before .before .before .before .before .if1 .taken)) (c .closed .ensures .0)), (c .before .set-request .ensures .1 ∙ c .before .before .before .unready2 .ensures .1 ∙ c .before .before .before .before .before .before .unready .ensures .1, c .closed .ensures .1))
+returns c = (
+  λ b. rw (c .before .before .before .before .before .if2 .taken)
+      (closing-now (view (now (c .before .before .before .before .before .before .before .before .before .before .before .before .args .s)))
+      _ _ _ (c .before .before .before .before .before .before .before .before .before .before .before .before .args .c) _
+      (c .closed .result) b (c .before .before .before .before .before .before .before .before .before .before .load-ep .ensures)
+      (c .before .before .before .before .before .before .unready .ensures .0)
+      (c .before .before .before .unready2 .ensures .0) (c .before .set-request .ensures .0)
+      (on-driver (λ x. isOn (x .ready)) (c .before .before .before .before .before .before .before .before .before .before .load-ep .ensures)
+      (c .before .before .before .before .before .before .before .before .before .is-on .ensures)
+      (c .before .before .before .before .before .before .before .before .if1 .taken)) (c .closed .ensures .0)),
+  (
+    c .before .set-request .ensures .1 ∙ c .before .before .before .unready2 .ensures .1
+        ∙ c .before .before .before .before .before .before .unready .ensures .1,
+    c .closed .ensures .1,
+  ),
+)
 
 set-request-requires-2 : tie.Need-set-request-requires-2
 set-request-requires-2 c κs = search needs
@@ -45,7 +60,18 @@ closed-requires-2 : tie.Need-closed-requires-2
 closed-requires-2 c κs = search needs
 
 returns-2 : tie.Need-returns-2
-returns-2 c = (λ b. simp (c .closed2 .ensures .0, c .before .set-request2 .ensures .0, c .before .before .before .if2 .left, c .before .before .before .before .unready .ensures .0, c .before .before .before .before .before .before .if1 .taken, ← c .before .before .before .before .before .before .before .is-on .ensures, ← c .before .before .before .before .before .before .before .before .load-ep .ensures), (c .before .set-request2 .ensures .1 ∙ c .before .before .before .before .unready .ensures .1, c .closed2 .ensures .1))
+returns-2 c = (
+  λ b. simp (
+    c .closed2 .ensures .0,
+    c .before .set-request2 .ensures .0,
+    c .before .before .before .if2 .left,
+    c .before .before .before .before .unready .ensures .0,
+    c .before .before .before .before .before .before .if1 .taken,
+    ← c .before .before .before .before .before .before .before .is-on .ensures,
+    ← c .before .before .before .before .before .before .before .before .load-ep .ensures,
+  ),
+  (c .before .set-request2 .ensures .1 ∙ c .before .before .before .before .unready .ensures .1, c .closed2 .ensures .1),
+)
 
 load-globals-requires : tie.Need-load-globals-requires
 load-globals-requires c κs = search needs
@@ -57,7 +83,18 @@ set-request-requires-3 : tie.Need-set-request-requires-3
 set-request-requires-3 c κs = search needs
 
 returns-3 : tie.Need-returns-3
-returns-3 c = (λ b. simp (c .set-request3 .ensures .0, c .before .before .if3 .taken, ← c .before .before .before .is-on2 .ensures, ← c .before .before .before .before .load-globals .ensures, c .before .before .before .before .before .before .if1 .left, ← c .before .before .before .before .before .before .before .is-on .ensures, ← c .before .before .before .before .before .before .before .before .load-ep .ensures), (c .set-request3 .ensures .1, tt))
+returns-3 c = (
+  λ b. simp (
+    c .set-request3 .ensures .0,
+    c .before .before .if3 .taken,
+    ← c .before .before .before .is-on2 .ensures,
+    ← c .before .before .before .before .load-globals .ensures,
+    c .before .before .before .before .before .before .if1 .left,
+    ← c .before .before .before .before .before .before .before .is-on .ensures,
+    ← c .before .before .before .before .before .before .before .before .load-ep .ensures,
+  ),
+  (c .set-request3 .ensures .1, tt),
+)
 
 unready-requires-3 : tie.Need-unready-requires-3
 unready-requires-3 c κs = search needs
@@ -66,10 +103,33 @@ set-data-in-requires : tie.Need-set-data-in-requires
 set-data-in-requires c κs = search needs
 
 returns-4 : tie.Need-returns-4
-returns-4 c = (λ b. rw (c .before .before .before .before .if4 .taken) (closing-waits (view (now (c .before .before .before .before .before .before .before .before .before .before .before .before .before .args .s))) _ _ (c .before .before .before .before .before .before .before .before .before .before .before .before .before .args .c) b (c .before .before .unready3 .ensures .0) (c .set-data-in .ensures .0) (on-driver (λ x. isOn (x .ready)) (c .before .before .before .before .before .before .before .before .before .before .before .load-ep .ensures) (c .before .before .before .before .before .before .before .before .before .before .is-on .ensures) (c .before .before .before .before .before .before .before .before .before .if1 .left)) (on-driver (λ x. isOn (x .«setup_ready»)) (c .before .before .before .before .before .before .before .load-globals .ensures) (c .before .before .before .before .before .before .is-on2 .ensures) (c .before .before .before .before .before .if3 .left))), (c .set-data-in .ensures .1 ∙ c .before .before .unready3 .ensures .1, tt))
+returns-4 c = (
+  λ b. rw (c .before .before .before .before .if4 .taken)
+      (closing-waits
+      (view (now (c .before .before .before .before .before .before .before .before .before .before .before .before .before .args .s))) _ _
+      (c .before .before .before .before .before .before .before .before .before .before .before .before .before .args .c) b
+      (c .before .before .unready3 .ensures .0) (c .set-data-in .ensures .0) (on-driver (λ x. isOn (x .ready))
+      (c .before .before .before .before .before .before .before .before .before .before .before .load-ep .ensures)
+      (c .before .before .before .before .before .before .before .before .before .before .is-on .ensures)
+      (c .before .before .before .before .before .before .before .before .before .if1 .left))
+      (on-driver (λ x. isOn (x .«setup_ready»)) (c .before .before .before .before .before .before .before .load-globals .ensures)
+      (c .before .before .before .before .before .before .is-on2 .ensures) (c .before .before .before .before .before .if3 .left))),
+  (c .set-data-in .ensures .1 ∙ c .before .before .unready3 .ensures .1, tt),
+)
 
 returns-5 : tie.Need-returns-5
-returns-5 c = (λ b. simp (c .if4 .left, c .before .if3 .left, ← c .before .before .is-on2 .ensures, ← c .before .before .before .load-globals .ensures, c .before .before .before .before .before .if1 .left, ← c .before .before .before .before .before .before .is-on .ensures, ← c .before .before .before .before .before .before .before .load-ep .ensures), (refl, tt))
+returns-5 c = (
+  λ b. simp (
+    c .if4 .left,
+    c .before .if3 .left,
+    ← c .before .before .is-on2 .ensures,
+    ← c .before .before .before .load-globals .ensures,
+    c .before .before .before .before .before .if1 .left,
+    ← c .before .before .before .before .before .before .is-on .ensures,
+    ← c .before .before .before .before .before .before .before .load-ep .ensures,
+  ),
+  (refl, tt),
+)
 
 pub take-closing-spec : {M : Type 1} → statement M
 take-closing-spec =

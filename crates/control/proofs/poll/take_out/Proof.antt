@@ -35,7 +35,34 @@ set-request-requires : tie.Need-set-request-requires
 set-request-requires c κs = search needs
 
 returns : tie.Need-returns
-returns c = (long-told (view (c .before .before .before .before .before .before .before .before .before .before .before .before .args .s .now)) _ _ (c .before .before .before .before .before .before .before .before .before .before .before .before .args .buf .now) (c .before .before .before .before .before .before .before .before .before .before .before .before .args .out .now) (length (c .before .before .before .before .before .before .before .before .before .before .before .before .args .out .now)) (c .before .before .before .before .unready .ensures .0) (on-driver (λ y. isOn (y .ready)) (c .before .before .before .before .before .before .before .before .load-ep .ensures) (c .before .before .before .before .before .before .before .is-on .ensures) (c .before .before .before .before .before .before .if1 .taken)) (c .set-request .ensures .0) (on-driver (λ y. ltb (length (c .before .before .before .before .before .before .before .before .before .before .before .before .args .out .now)) (y .len)) (c .before .before .before .before .before .before .before .before .load-ep .ensures) refl (lt-ltb _ _ (c .before .before .if2 .taken))), (long-lends (view (c .before .before .before .before .before .before .before .before .before .before .before .before .args .s .now)) _ (view (c .before .before .before .before .before .before .before .before .before .before .before .before .args .s .now)) (c .before .before .before .before .before .before .before .before .before .before .before .before .args .buf .now) (c .before .before .before .before .before .before .before .before .before .before .before .before .args .out .now) (length (c .before .before .before .before .before .before .before .before .before .before .before .before .args .out .now)) (c .before .before .before .before .unready .ensures .0) (on-driver (λ y. isOn (y .ready)) (c .before .before .before .before .before .before .before .before .load-ep .ensures) (c .before .before .before .before .before .before .before .is-on .ensures) (c .before .before .before .before .before .before .if1 .taken)) (on-driver (λ y. ltb (length (c .before .before .before .before .before .before .before .before .before .before .before .before .args .out .now)) (y .len)) (c .before .before .before .before .before .before .before .before .load-ep .ensures) refl (lt-ltb _ _ (c .before .before .if2 .taken))), (c .set-request .ensures .1 ∙ c .before .before .before .before .unready .ensures .1, tt)))
+returns c = (
+  long-told (view (c .before .before .before .before .before .before .before .before .before .before .before .before .args .s .now)) _ _
+      (c .before .before .before .before .before .before .before .before .before .before .before .before .args .buf .now)
+      (c .before .before .before .before .before .before .before .before .before .before .before .before .args .out .now)
+      (length (c .before .before .before .before .before .before .before .before .before .before .before .before .args .out .now))
+      (c .before .before .before .before .unready .ensures .0)
+      (on-driver (λ y. isOn (y .ready)) (c .before .before .before .before .before .before .before .before .load-ep .ensures)
+      (c .before .before .before .before .before .before .before .is-on .ensures)
+      (c .before .before .before .before .before .before .if1 .taken)) (c .set-request .ensures .0)
+      (on-driver
+      (λ y. ltb (length (c .before .before .before .before .before .before .before .before .before .before .before .before .args .out .now)) (y .len))
+      (c .before .before .before .before .before .before .before .before .load-ep .ensures) refl (lt-ltb _ _ (c .before .before .if2 .taken))),
+  (
+    long-lends (view (c .before .before .before .before .before .before .before .before .before .before .before .before .args .s .now)) _
+        (view (c .before .before .before .before .before .before .before .before .before .before .before .before .args .s .now))
+        (c .before .before .before .before .before .before .before .before .before .before .before .before .args .buf .now)
+        (c .before .before .before .before .before .before .before .before .before .before .before .before .args .out .now)
+        (length (c .before .before .before .before .before .before .before .before .before .before .before .before .args .out .now))
+        (c .before .before .before .before .unready .ensures .0)
+        (on-driver (λ y. isOn (y .ready)) (c .before .before .before .before .before .before .before .before .load-ep .ensures)
+        (c .before .before .before .before .before .before .before .is-on .ensures)
+        (c .before .before .before .before .before .before .if1 .taken))
+        (on-driver
+        (λ y. ltb (length (c .before .before .before .before .before .before .before .before .before .before .before .before .args .out .now)) (y .len))
+        (c .before .before .before .before .before .before .before .before .load-ep .ensures) refl (lt-ltb _ _ (c .before .before .if2 .taken))),
+    (c .set-request .ensures .1 ∙ c .before .before .before .before .unready .ensures .1, tt),
+  ),
+)
 
 load-globals-requires : tie.Need-load-globals-requires
 load-globals-requires c κs = search needs
@@ -50,13 +77,83 @@ same-length : tie.Need-same-length
 same-length c = search needs
 
 returns-2 : tie.Need-returns-2
-returns-2 c = (done-told (view (c .before .before .before .before .before .before .before .before .before .before .before .before .before .before .before .before .before .before .args .s .now)) _ _ (c .before .before .before .before .before .before .before .before .before .before .before .before .before .before .before .before .before .before .args .buf .now) (c .before .before .before .before .before .before .before .before .before .before .before .before .before .before .before .before .before .before .args .out .now) (length (c .before .before .before .before .before .before .before .before .before .before .before .before .before .before .before .before .before .before .args .out .now)) (c .before .before .before .before .before .before .before .before .before .before .unready .ensures .0) (on-driver (λ y. isOn (y .ready)) (c .before .before .before .before .before .before .before .before .before .before .before .before .before .before .load-ep .ensures) (c .before .before .before .before .before .before .before .before .before .before .before .before .before .is-on .ensures) (c .before .before .before .before .before .before .before .before .before .before .before .before .if1 .taken)) (c .before .before .before .before .before .before .load-globals .result) (c .before .before .before .before .before .before .before .before .before .before .before .before .before .before .load-ep .result) _ (c .before .before .before .before .before .before .before .before .before .before .before .before .before .before .load-ep .ensures) (c .before .before .before .before .before .before .load-globals .ensures) (c .before .before .before .before .fetch .ensures .1) (on-driver (λ y. ltb (length (c .before .before .before .before .before .before .before .before .before .before .before .before .before .before .before .before .before .before .args .out .now)) (y .len)) (c .before .before .before .before .before .before .before .before .before .before .before .before .before .before .load-ep .ensures) refl (le-ltb _ _ (c .before .before .before .before .before .before .before .before .if2 .left))) _ (c .before .before .before .before .fetch .ensures .0) (c .set-request2 .ensures .0), (done-lends (view (c .before .before .before .before .before .before .before .before .before .before .before .before .before .before .before .before .before .before .args .s .now)) _ (view (c .before .before .before .before .before .before .before .before .before .before .before .before .before .before .before .before .before .before .args .s .now)) (c .before .before .before .before .before .before .before .before .before .before .before .before .before .before .before .before .before .before .args .buf .now) (c .before .before .before .before .before .before .before .before .before .before .before .before .before .before .before .before .before .before .args .out .now) (length (c .before .before .before .before .before .before .before .before .before .before .before .before .before .before .before .before .before .before .args .out .now)) (c .before .before .before .before .before .before .before .before .before .before .unready .ensures .0) (on-driver (λ y. isOn (y .ready)) (c .before .before .before .before .before .before .before .before .before .before .before .before .before .before .load-ep .ensures) (c .before .before .before .before .before .before .before .before .before .before .before .before .before .is-on .ensures) (c .before .before .before .before .before .before .before .before .before .before .before .before .if1 .taken)) (c .before .before .before .before .before .before .load-globals .result) (c .before .before .before .before .before .before .before .before .before .before .before .before .before .before .load-ep .result) _ (c .before .before .before .before .before .before .before .before .before .before .before .before .before .before .load-ep .ensures) (c .before .before .before .before .before .before .load-globals .ensures) (c .before .before .before .before .fetch .ensures .1) (on-driver (λ y. ltb (length (c .before .before .before .before .before .before .before .before .before .before .before .before .before .before .before .before .before .before .args .out .now)) (y .len)) (c .before .before .before .before .before .before .before .before .before .before .before .before .before .before .load-ep .ensures) refl (le-ltb _ _ (c .before .before .before .before .before .before .before .before .if2 .left))), (c .set-request2 .ensures .1 ∙ c .before .before .before .before .before .before .before .before .before .before .unready .ensures .1, tt)))
+returns-2 c = (
+  done-told
+      (view
+      (c .before .before .before .before .before .before .before .before .before .before .before .before .before .before .before .before .before .before
+      .args .s .now)) _ _
+      (c .before .before .before .before .before .before .before .before .before .before .before .before .before .before .before .before .before .before
+      .args .buf .now)
+      (c .before .before .before .before .before .before .before .before .before .before .before .before .before .before .before .before .before .before
+      .args .out .now)
+      (length
+      (c .before .before .before .before .before .before .before .before .before .before .before .before .before .before .before .before .before .before
+      .args .out .now)) (c .before .before .before .before .before .before .before .before .before .before .unready .ensures .0)
+      (on-driver (λ y. isOn (y .ready))
+      (c .before .before .before .before .before .before .before .before .before .before .before .before .before .before .load-ep .ensures)
+      (c .before .before .before .before .before .before .before .before .before .before .before .before .before .is-on .ensures)
+      (c .before .before .before .before .before .before .before .before .before .before .before .before .if1 .taken))
+      (c .before .before .before .before .before .before .load-globals .result)
+      (c .before .before .before .before .before .before .before .before .before .before .before .before .before .before .load-ep .result) _
+      (c .before .before .before .before .before .before .before .before .before .before .before .before .before .before .load-ep .ensures)
+      (c .before .before .before .before .before .before .load-globals .ensures) (c .before .before .before .before .fetch .ensures .1)
+      (on-driver (λ y. ltb (length
+      (c .before .before .before .before .before .before .before .before .before .before .before .before .before .before .before .before .before .before
+      .args .out .now)) (y .len))
+      (c .before .before .before .before .before .before .before .before .before .before .before .before .before .before .load-ep .ensures) refl
+      (le-ltb _ _ (c .before .before .before .before .before .before .before .before .if2 .left))) _
+      (c .before .before .before .before .fetch .ensures .0) (c .set-request2 .ensures .0),
+  (
+    done-lends
+        (view
+        (c .before .before .before .before .before .before .before .before .before .before .before .before .before .before .before .before .before .before
+        .args .s .now)) _
+        (view
+        (c .before .before .before .before .before .before .before .before .before .before .before .before .before .before .before .before .before .before
+        .args .s .now))
+        (c .before .before .before .before .before .before .before .before .before .before .before .before .before .before .before .before .before .before
+        .args .buf .now)
+        (c .before .before .before .before .before .before .before .before .before .before .before .before .before .before .before .before .before .before
+        .args .out .now)
+        (length
+        (c .before .before .before .before .before .before .before .before .before .before .before .before .before .before .before .before .before .before
+        .args .out .now)) (c .before .before .before .before .before .before .before .before .before .before .unready .ensures .0)
+        (on-driver (λ y. isOn (y .ready))
+        (c .before .before .before .before .before .before .before .before .before .before .before .before .before .before .load-ep .ensures)
+        (c .before .before .before .before .before .before .before .before .before .before .before .before .before .is-on .ensures)
+        (c .before .before .before .before .before .before .before .before .before .before .before .before .if1 .taken))
+        (c .before .before .before .before .before .before .load-globals .result)
+        (c .before .before .before .before .before .before .before .before .before .before .before .before .before .before .load-ep .result) _
+        (c .before .before .before .before .before .before .before .before .before .before .before .before .before .before .load-ep .ensures)
+        (c .before .before .before .before .before .before .load-globals .ensures) (c .before .before .before .before .fetch .ensures .1)
+        (on-driver (λ y. ltb (length
+        (c .before .before .before .before .before .before .before .before .before .before .before .before .before .before .before .before .before .before
+        .args .out .now)) (y .len))
+        (c .before .before .before .before .before .before .before .before .before .before .before .before .before .before .load-ep .ensures)
+        refl (le-ltb _ _ (c .before .before .before .before .before .before .before .before .if2 .left))),
+    (c .set-request2 .ensures .1 ∙ c .before .before .before .before .before .before .before .before .before .before .unready .ensures .1, tt),
+  ),
+)
 
 wait-on-requires : tie.Need-wait-on-requires
 wait-on-requires c κs = search needs
 
 returns-3 : tie.Need-returns-3
-returns-3 c = (c .wait-on .ensures .0 _ _ ∙ wait-is (view (c .before .before .before .before .before .before .before .before .args .s .now)) (c .before .before .before .before .before .before .before .before .args .buf .now) (length (c .before .before .before .before .before .before .before .before .args .out .now)) (on-driver (λ y. isOn (y .ready)) (c .before .before .before .before .load-ep .ensures) (c .before .before .before .is-on .ensures) (c .before .before .if1 .left)), (wait-lends (view (c .before .before .before .before .before .before .before .before .args .s .now)) (c .before .before .before .before .before .before .before .before .args .buf .now) (length (c .before .before .before .before .before .before .before .before .args .out .now)) (on-driver (λ y. isOn (y .ready)) (c .before .before .before .before .load-ep .ensures) (c .before .before .before .is-on .ensures) (c .before .before .if1 .left)) _, (c .wait-on .ensures .1 .0, c .wait-on .ensures .1 .1)))
+returns-3 c = (
+  c .wait-on .ensures .0 _ _ ∙ wait-is (view (c .before .before .before .before .before .before .before .before .args .s .now))
+      (c .before .before .before .before .before .before .before .before .args .buf .now)
+      (length (c .before .before .before .before .before .before .before .before .args .out .now))
+      (on-driver (λ y. isOn (y .ready)) (c .before .before .before .before .load-ep .ensures)
+      (c .before .before .before .is-on .ensures) (c .before .before .if1 .left)),
+  (
+    wait-lends (view (c .before .before .before .before .before .before .before .before .args .s .now))
+        (c .before .before .before .before .before .before .before .before .args .buf .now)
+        (length (c .before .before .before .before .before .before .before .before .args .out .now))
+        (on-driver (λ y. isOn (y .ready)) (c .before .before .before .before .load-ep .ensures)
+        (c .before .before .before .is-on .ensures) (c .before .before .if1 .left)) _,
+    (c .wait-on .ensures .1 .0, c .wait-on .ensures .1 .1),
+  ),
+)
 
 pub take-out-spec : {M : Type 1} → statement M
 take-out-spec =

@@ -18,7 +18,15 @@ set-request-requires : tie.Need-set-request-requires
 set-request-requires c κs = search needs
 
 returns : tie.Need-returns
-returns c = (λ out b. simp (c .set-request .ensures .0, c .before .before .if1 .taken, ← c .before .before .before .is-on .ensures, ← c .before .before .before .before .load-globals .ensures), (c .set-request .ensures .1, tt))
+returns c = (
+  λ out b. simp (
+    c .set-request .ensures .0,
+    c .before .before .if1 .taken,
+    ← c .before .before .before .is-on .ensures,
+    ← c .before .before .before .before .load-globals .ensures,
+  ),
+  (c .set-request .ensures .1, tt),
+)
 
 returns-2 : tie.Need-returns-2
 returns-2 c = (λ out b. simp (c .if1 .left, ← c .before .is-on .ensures, ← c .before .before .load-globals .ensures), (refl, tt))

@@ -32,8 +32,12 @@ first-requires c κs = search needs
 returns-2 : tie.Need-returns-2
 returns-2 c =
     let k = c .before .before in
-    let a = k .before .before .before .before .args in
-    (λ b. c .first .ensures .0 b ∙ after-in (a .left) (a .total) (view (now (a .s))) b (a .dir) (a .e) _ _ (k .before .before .before .if1 .left) (k .before .before .end-of .ensures) (k .before .found-at .ensures) _ (k .if2 .taken) (c .before .found-at2 .ensures), c .first .ensures .1)
+    let a = k .before .before .before .before .args in (
+      λ b. c .first .ensures .0 b
+          ∙ after-in (a .left) (a .total) (view (now (a .s))) b (a .dir) (a .e) _ _ (k .before .before .before .if1 .left)
+          (k .before .before .end-of .ensures) (k .before .found-at .ensures) _ (k .if2 .taken) (c .before .found-at2 .ensures),
+      c .first .ensures .1,
+    )
 
 sub-first-2 : tie.Need-sub-first-2
 sub-first-2 c = search needs
@@ -44,8 +48,11 @@ first-requires-2 c κs = search needs
 returns-3 : tie.Need-returns-3
 returns-3 c =
     let k = c .before in
-    let a = k .before .before .before .before .args in
-    (λ b. c .first2 .ensures .0 b ∙ after-out (a .left) (a .total) (view (now (a .s))) b (a .dir) (a .e) _ _ (k .before .before .before .if1 .left) (k .before .before .end-of .ensures) (k .before .found-at .ensures) (k .if2 .left), c .first2 .ensures .1)
+    let a = k .before .before .before .before .args in (
+      λ b. c .first2 .ensures .0 b ∙ after-out (a .left) (a .total) (view (now (a .s))) b (a .dir) (a .e) _ _
+          (k .before .before .before .if1 .left) (k .before .before .end-of .ensures) (k .before .found-at .ensures) (k .if2 .left),
+      c .first2 .ensures .1,
+    )
 
 pub after-spec : {M : Type 1} → statement M
 after-spec =

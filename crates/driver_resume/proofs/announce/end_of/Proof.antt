@@ -36,7 +36,13 @@ add-result c = search needs
 
 returns : tie.Need-returns
 unfolding endOn
-returns c = simp (c .room .ensures, ← c .before .before .slots .ensures, ← c .before .before .before .is-iso .ensures, ← c .before .before .before .before .load-ep .ensures, ← c .before .before .before .before .before .load-allocator .ensures)
+returns c = simp (
+  c .room .ensures,
+  ← c .before .before .slots .ensures,
+  ← c .before .before .before .is-iso .ensures,
+  ← c .before .before .before .before .load-ep .ensures,
+  ← c .before .before .before .before .before .load-allocator .ensures,
+)
 
 pub end-of-spec : {M : Type 1} → statement M
 end-of-spec =

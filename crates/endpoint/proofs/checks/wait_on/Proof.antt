@@ -15,7 +15,10 @@ end-request-requires : tie.Need-end-request-requires
 end-request-requires c κs = search needs
 
 returns-2 : tie.Need-returns-2
-returns-2 c = (λ out b. rw (c .end-request .ensures .0, sym (c .before .before .before .is-enabled .ensures) ∙ c .before .before .if1 .left), c .end-request .ensures .1)
+returns-2 c = (
+  λ out b. rw (c .end-request .ensures .0, sym (c .before .before .before .is-enabled .ensures) ∙ c .before .before .if1 .left),
+  c .end-request .ensures .1,
+)
 
 pub wait-on-spec : {M : Type 1} → statement M
 wait-on-spec = tie.close (tie.spec is-enabled-requires returns end-request-requires returns-2)

@@ -19,19 +19,41 @@ refusal-requires : tie.Need-refusal-requires
 refusal-requires c κs = search needs
 
 low-requires : tie.Need-low-requires
-low-requires c κs = numbered (view (c .before .before .before .before .before .before .args .s .now)) Out (c .before .before .before .before .before .before .args .e) (eq-eqb _ _ (sym (c .before .before .refusal .ensures) ∙ c .before .if1 .taken))
+low-requires c κs = numbered (view (c .before .before .before .before .before .before .args .s .now)) Out
+    (c .before .before .before .before .before .before .args .e)
+    (eq-eqb _ _ (sym (c .before .before .refusal .ensures) ∙ c .before .if1 .taken))
 
 take-read-requires : tie.Need-take-read-requires
-take-read-requires c κs = rw (c .before .low .ensures) (eq-eqb _ _ (sym (c .before .before .before .before .refusal .ensures) ∙ c .before .before .before .if1 .taken))
+take-read-requires c κs = rw (c .before .low .ensures)
+    (eq-eqb _ _ (sym (c .before .before .before .before .refusal .ensures) ∙ c .before .before .before .if1 .taken))
 
 same-length : tie.Need-same-length
 same-length c = search needs
 
 returns : tie.Need-returns
-returns c = (c .before .before .take-read .ensures .0 ∙ (ap (λ (x : ℕ). go {i = false} (pollRead x (length (c .before .before .before .before .before .before .before .before .before .before .before .args .out .now))) (view (c .before .before .before .before .before .before .before .before .before .before .before .args .s .now)) (c .before .before .before .before .before .before .before .before .before .before .before .args .buf .now)) (c .before .before .before .before .low .ensures)), (c .before .before .take-read .ensures .1 .0 ∙ lends (c .before .before .before .before .before .before .before .before .before .before .before .args .out .now) (ap (λ (x : ℕ). go {i = false} (pollRead x (length (c .before .before .before .before .before .before .before .before .before .before .before .args .out .now))) (view (c .before .before .before .before .before .before .before .before .before .before .before .args .s .now)) (c .before .before .before .before .before .before .before .before .before .before .before .args .buf .now)) (c .before .before .before .before .low .ensures)), c .before .before .take-read .ensures .1 .1))
+returns c = (
+  c .before .before .take-read .ensures .0 ∙ (ap (λ (x : ℕ). go {i = false}
+      (pollRead x (length (c .before .before .before .before .before .before .before .before .before .before .before .args .out .now)))
+      (view (c .before .before .before .before .before .before .before .before .before .before .before .args .s .now))
+      (c .before .before .before .before .before .before .before .before .before .before .before .args .buf .now))
+      (c .before .before .before .before .low .ensures)),
+  (
+    c .before .before .take-read .ensures .1 .0
+        ∙ lends (c .before .before .before .before .before .before .before .before .before .before .before .args .out .now)
+        (ap (λ (x : ℕ). go {i = false}
+        (pollRead x (length (c .before .before .before .before .before .before .before .before .before .before .before .args .out .now)))
+        (view (c .before .before .before .before .before .before .before .before .before .before .before .args .s .now))
+        (c .before .before .before .before .before .before .before .before .before .before .before .args .buf .now))
+        (c .before .before .before .before .low .ensures)),
+    c .before .before .take-read .ensures .1 .1,
+  ),
+)
 
 returns-2 : tie.Need-returns-2
-returns-2 c = let p = read-refused (view (c .before .before .before .before .before .args .s .now)) (c .before .before .before .before .before .args .buf .now) (c .before .before .before .before .before .args .out .now) (c .before .before .before .before .before .args .e) (length (c .before .before .before .before .before .args .out .now)) (c .before .refusal .result) (c .before .refusal .ensures) (ne-eqb _ _ (c .if1 .left)) in (p .0, (p .1, refl))
+returns-2 c = let p = read-refused (view (c .before .before .before .before .before .args .s .now))
+    (c .before .before .before .before .before .args .buf .now) (c .before .before .before .before .before .args .out .now)
+    (c .before .before .before .before .before .args .e) (length (c .before .before .before .before .before .args .out .now))
+    (c .before .refusal .result) (c .before .refusal .ensures) (ne-eqb _ _ (c .if1 .left)) in (p .0, (p .1, refl))
 
 pub poll-read-spec : {M : Type 1} → statement M
 poll-read-spec =

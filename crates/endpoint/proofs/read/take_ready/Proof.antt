@@ -21,7 +21,16 @@ end-request-requires : tie.Need-end-request-requires
 end-request-requires c κs = search needs
 
 returns : tie.Need-returns
-returns c = let p = ready-long (view (c .before .before .before .before .before .before .before .before .before .before .args .s .now)) (c .before .before .before .before .before .before .before .before .before .before .args .buf .now) (c .before .before .before .before .before .before .before .before .before .before .args .out .now) (c .before .before .before .before .before .before .before .before .before .before .args .e) (length (c .before .before .before .before .before .before .before .before .before .before .args .out .now)) (c .before .before .before .before .before .before .before .before .before .before .args .r) (sym (c .before .before .before .before .before .before .before .is-on .ensures) ∙ c .before .before .before .before .before .before .if1 .taken) _ _ (c .before .before .before .before .unready .ensures .0) (c .end-request .ensures .0) (sym (c .before .before .before .too-long .ensures) ∙ c .before .before .if2 .taken) in (p .0, (p .1, c .end-request .ensures .1 ∙ c .before .before .before .before .unready .ensures .1))
+returns c = let p = ready-long (view (c .before .before .before .before .before .before .before .before .before .before .args .s .now))
+    (c .before .before .before .before .before .before .before .before .before .before .args .buf .now)
+    (c .before .before .before .before .before .before .before .before .before .before .args .out .now)
+    (c .before .before .before .before .before .before .before .before .before .before .args .e)
+    (length (c .before .before .before .before .before .before .before .before .before .before .args .out .now))
+    (c .before .before .before .before .before .before .before .before .before .before .args .r)
+    (sym (c .before .before .before .before .before .before .before .is-on .ensures)
+    ∙ c .before .before .before .before .before .before .if1 .taken) _ _ (c .before .before .before .before .unready .ensures .0)
+    (c .end-request .ensures .0) (sym (c .before .before .before .too-long .ensures) ∙ c .before .before .if2 .taken) in
+    (p .0, (p .1, c .end-request .ensures .1 ∙ c .before .before .before .before .unready .ensures .1))
 
 load-ep-requires : tie.Need-load-ep-requires
 load-ep-requires c κs = search needs
@@ -36,13 +45,40 @@ same-length : tie.Need-same-length
 same-length c = search needs
 
 returns-2 : tie.Need-returns-2
-returns-2 c = let p = ready-taken (view (c .before .before .before .before .before .before .before .before .before .before .before .before .before .before .before .before .args .s .now)) (c .before .before .before .before .before .before .before .before .before .before .before .before .before .before .before .before .args .buf .now) (c .before .before .before .before .before .before .before .before .before .before .before .before .before .before .before .before .args .out .now) (c .before .before .before .before .before .before .before .before .before .before .before .before .before .before .before .before .args .e) (length (c .before .before .before .before .before .before .before .before .before .before .before .before .before .before .before .before .args .out .now)) (c .before .before .before .before .before .before .before .before .before .before .before .before .before .before .before .before .args .r) (sym (c .before .before .before .before .before .before .before .before .before .before .before .before .before .is-on .ensures) ∙ c .before .before .before .before .before .before .before .before .before .before .before .before .if1 .taken) _ _ (c .before .before .before .before .before .before .before .before .before .before .unready .ensures .0) (c .end-request2 .ensures .0) (sym (c .before .before .before .before .before .before .before .before .before .too-long .ensures) ∙ c .before .before .before .before .before .before .before .before .if2 .left) (c .before .before .before .before .before .before .load-ep .result) _ _ (c .before .before .before .before .before .before .load-ep .ensures) (c .before .before .before .before .fetch .ensures .0) (c .before .before .before .before .fetch .ensures .1) in (p .0, (p .1, c .end-request2 .ensures .1 ∙ c .before .before .before .before .before .before .before .before .before .before .unready .ensures .1))
+returns-2 c = let p = ready-taken
+    (view (c .before .before .before .before .before .before .before .before .before .before .before .before .before .before .before .before .args .s .now))
+    (c .before .before .before .before .before .before .before .before .before .before .before .before .before .before .before .before .args .buf .now)
+    (c .before .before .before .before .before .before .before .before .before .before .before .before .before .before .before .before .args .out .now)
+    (c .before .before .before .before .before .before .before .before .before .before .before .before .before .before .before .before .args .e)
+    (length (c .before .before .before .before .before .before .before .before .before .before .before .before .before .before .before .before .args .out .now))
+    (c .before .before .before .before .before .before .before .before .before .before .before .before .before .before .before .before .args .r)
+    (sym (c .before .before .before .before .before .before .before .before .before .before .before .before .before .is-on .ensures)
+    ∙ c .before .before .before .before .before .before .before .before .before .before .before .before .if1 .taken) _ _
+    (c .before .before .before .before .before .before .before .before .before .before .unready .ensures .0) (c .end-request2 .ensures .0)
+    (sym (c .before .before .before .before .before .before .before .before .before .too-long .ensures)
+    ∙ c .before .before .before .before .before .before .before .before .if2 .left)
+    (c .before .before .before .before .before .before .load-ep .result) _ _
+    (c .before .before .before .before .before .before .load-ep .ensures)
+    (c .before .before .before .before .fetch .ensures .0) (c .before .before .before .before .fetch .ensures .1) in (
+      p .0,
+      (
+        p .1,
+        c .end-request2 .ensures .1
+            ∙ c .before .before .before .before .before .before .before .before .before .before .unready .ensures .1,
+      ),
+    )
 
 wait-on-requires : tie.Need-wait-on-requires
 wait-on-requires c κs = search needs
 
 returns-3 : tie.Need-returns-3
-returns-3 c = let p = ready-waits (view (c .before .before .before .before .before .before .args .s .now)) (c .before .before .before .before .before .before .args .buf .now) (c .before .before .before .before .before .before .args .out .now) (c .before .before .before .before .before .before .args .e) (length (c .before .before .before .before .before .before .args .out .now)) (c .before .before .before .before .before .before .args .r) (sym (c .before .before .before .is-on .ensures) ∙ c .before .before .if1 .left) (c .wait-on .result) _ (c .wait-on .ensures .0 _ _) in (p .0, (p .1, c .wait-on .ensures .1))
+returns-3 c = let p = ready-waits (view (c .before .before .before .before .before .before .args .s .now))
+    (c .before .before .before .before .before .before .args .buf .now)
+    (c .before .before .before .before .before .before .args .out .now) (c .before .before .before .before .before .before .args .e)
+    (length (c .before .before .before .before .before .before .args .out .now))
+    (c .before .before .before .before .before .before .args .r)
+    (sym (c .before .before .before .is-on .ensures) ∙ c .before .before .if1 .left)
+    (c .wait-on .result) _ (c .wait-on .ensures .0 _ _) in (p .0, (p .1, c .wait-on .ensures .1))
 
 pub take-ready-spec : {M : Type 1} → statement M
 take-ready-spec =

@@ -15,13 +15,30 @@ end-request-requires : tie.Need-end-request-requires
 end-request-requires c κs = search needs
 
 returns : tie.Need-returns
-returns c = (put-disabled (view (c .before .before .before .before .before .before .before .args .s .now)) (c .before .before .before .before .before .before .before .args .buf .now) (c .before .before .before .before .before .before .before .args .bytes .now) (c .before .before .before .before .before .before .before .args .e) (sym (c .before .before .before .is-enabled .ensures) ∙ not-true (c .before .before .before .is-enabled .result) (c .before .before .if1 .taken)) _ (c .end-request .ensures .0), c .end-request .ensures .1)
+returns c = (
+  put-disabled (view (c .before .before .before .before .before .before .before .args .s .now))
+      (c .before .before .before .before .before .before .before .args .buf .now)
+      (c .before .before .before .before .before .before .before .args .bytes .now)
+      (c .before .before .before .before .before .before .before .args .e)
+      (sym (c .before .before .before .is-enabled .ensures)
+      ∙ not-true (c .before .before .before .is-enabled .result) (c .before .before .if1 .taken)) _ (c .end-request .ensures .0),
+  c .end-request .ensures .1,
+)
 
 room-requires : tie.Need-room-requires
 room-requires c κs = search needs
 
 returns-2 : tie.Need-returns-2
-returns-2 c = (put-full (view (c .before .before .before .before .before .before .before .before .args .s .now)) (c .before .before .before .before .before .before .before .before .args .buf .now) (c .before .before .before .before .before .before .before .before .args .bytes .now) (c .before .before .before .before .before .before .before .before .args .e) (sym (c .before .before .before .before .is-enabled .ensures) ∙ not-false (c .before .before .before .before .is-enabled .result) (c .before .before .before .if1 .left)) (sym (c .before .room .ensures) ∙ not-true (c .before .room .result) (c .if2 .taken)), refl)
+returns-2 c = (
+  put-full (view (c .before .before .before .before .before .before .before .before .args .s .now))
+      (c .before .before .before .before .before .before .before .before .args .buf .now)
+      (c .before .before .before .before .before .before .before .before .args .bytes .now)
+      (c .before .before .before .before .before .before .before .before .args .e)
+      (sym (c .before .before .before .before .is-enabled .ensures)
+      ∙ not-false (c .before .before .before .before .is-enabled .result) (c .before .before .before .if1 .left))
+      (sym (c .before .room .ensures) ∙ not-true (c .before .room .result) (c .if2 .taken)),
+  refl,
+)
 
 iso-in-enqueue-requires : tie.Need-iso-in-enqueue-requires
 iso-in-enqueue-requires c κs = search needs
@@ -33,7 +50,22 @@ same-length : tie.Need-same-length
 same-length c = search needs
 
 returns-3 : tie.Need-returns-3
-returns-3 c = (put-done (view (c .before .before .before .before .before .before .before .before .before .before .before .before .before .before .before .args .s .now)) (c .before .before .before .before .before .before .before .before .before .before .before .before .before .before .before .args .buf .now) (c .before .before .before .before .before .before .before .before .before .before .before .before .before .before .before .args .bytes .now) (c .before .before .before .before .before .before .before .before .before .before .before .before .before .before .before .args .e) (sym (c .before .before .before .before .before .before .before .before .before .before .before .is-enabled .ensures) ∙ not-false (c .before .before .before .before .before .before .before .before .before .before .before .is-enabled .result) (c .before .before .before .before .before .before .before .before .before .before .if1 .left)) (sym (c .before .before .before .before .before .before .before .before .room .ensures) ∙ not-false (c .before .before .before .before .before .before .before .before .room .result) (c .before .before .before .before .before .before .before .if2 .left)) _ _ _ (c .before .before .before .before .iso-in-enqueue .ensures .0) (c .before .before .before .before .iso-in-enqueue .ensures .1 .0) (c .end-request2 .ensures .0), c .end-request2 .ensures .1 ∙ c .before .before .before .before .iso-in-enqueue .ensures .1 .1)
+returns-3 c = (
+  put-done
+      (view (c .before .before .before .before .before .before .before .before .before .before .before .before .before .before .before .args .s .now))
+      (c .before .before .before .before .before .before .before .before .before .before .before .before .before .before .before .args .buf .now)
+      (c .before .before .before .before .before .before .before .before .before .before .before .before .before .before .before .args .bytes .now)
+      (c .before .before .before .before .before .before .before .before .before .before .before .before .before .before .before .args .e)
+      (sym (c .before .before .before .before .before .before .before .before .before .before .before .is-enabled .ensures)
+      ∙ not-false (c .before .before .before .before .before .before .before .before .before .before .before .is-enabled .result)
+      (c .before .before .before .before .before .before .before .before .before .before .if1 .left))
+      (sym (c .before .before .before .before .before .before .before .before .room .ensures)
+      ∙ not-false (c .before .before .before .before .before .before .before .before .room .result)
+      (c .before .before .before .before .before .before .before .if2 .left)) _ _ _
+      (c .before .before .before .before .iso-in-enqueue .ensures .0)
+      (c .before .before .before .before .iso-in-enqueue .ensures .1 .0) (c .end-request2 .ensures .0),
+  c .end-request2 .ensures .1 ∙ c .before .before .before .before .iso-in-enqueue .ensures .1 .1,
+)
 
 pub put-iso-spec : {M : Type 1} → statement M
 put-iso-spec =

@@ -19,7 +19,15 @@ is-on-requires : tie.Need-is-on-requires
 is-on-requires c κs = search needs
 
 returns : tie.Need-returns
-returns c = (write-none (view (c .before .before .before .before .before .before .args .s .now)) (c .before .before .before .before .before .before .args .buf .now) (c .before .before .before .before .before .before .args .bytes .now) (c .before .before .before .before .before .before .args .e) (c .before .before .before .before .before .before .pre) (on-driver (λ y. isOn (y .begun)) (c .before .before .load-request .ensures) (c .before .is-on .ensures) (not-true (c .before .is-on .result) (c .if1 .taken))), refl)
+returns c = (
+  write-none (view (c .before .before .before .before .before .before .args .s .now))
+      (c .before .before .before .before .before .before .args .buf .now)
+      (c .before .before .before .before .before .before .args .bytes .now)
+      (c .before .before .before .before .before .before .args .e) (c .before .before .before .before .before .before .pre)
+      (on-driver (λ y. isOn (y .begun)) (c .before .before .load-request .ensures)
+      (c .before .is-on .ensures) (not-true (c .before .is-on .result) (c .if1 .taken))),
+  refl,
+)
 
 cast-if2 : tie.Need-cast-if2
 cast-if2 c = search needs
@@ -37,13 +45,58 @@ same-length : tie.Need-same-length
 same-length c = search needs
 
 returns-2 : tie.Need-returns-2
-returns-2 c = (c .before .before .put-iso .ensures .0 ∙ write-is-iso (view (c .before .before .before .before .before .before .before .before .before .before .before .before .before .before .before .before .before .args .s .now)) (c .before .before .before .before .before .before .before .before .before .before .before .before .before .before .before .before .before .args .buf .now) (c .before .before .before .before .before .before .before .before .before .before .before .before .before .before .before .before .before .args .bytes .now) (c .before .before .before .before .before .before .before .before .before .before .before .before .before .before .before .before .before .args .e) (c .before .before .before .before .before .before .before .before .before .before .before .before .before .before .before .before .before .pre) (on-driver (λ y. isOn (y .begun)) (c .before .before .before .before .before .before .before .before .before .before .before .before .before .load-request .ensures) (c .before .before .before .before .before .before .before .before .before .before .before .before .is-on .ensures) (not-false (c .before .before .before .before .before .before .before .before .before .before .before .before .is-on .result) (c .before .before .before .before .before .before .before .before .before .before .before .if1 .left))) (on-driver (λ y. eqb (y .length) (length (c .before .before .before .before .before .before .before .before .before .before .before .before .before .before .before .before .before .args .bytes .now))) (c .before .before .before .before .before .before .before .before .before .before .before .before .before .load-request .ensures) refl (eq-eqb _ _ (c .before .before .before .before .before .before .before .before .before .if2 .taken))) (on-driver (λ y. isOn (y .iso)) (c .before .before .before .before .before .before .before .load-ep .ensures) (c .before .before .before .before .before .before .is-on2 .ensures) (c .before .before .before .before .before .if3 .taken)), c .before .before .put-iso .ensures .1)
+returns-2 c = (
+  c .before .before .put-iso .ensures .0 ∙ write-is-iso
+      (view
+      (c .before .before .before .before .before .before .before .before .before .before .before .before .before .before .before .before .before .args .s .now))
+      (c .before .before .before .before .before .before .before .before .before .before .before .before .before .before .before .before .before
+      .args .buf .now)
+      (c .before .before .before .before .before .before .before .before .before .before .before .before .before .before .before .before .before
+      .args .bytes .now)
+      (c .before .before .before .before .before .before .before .before .before .before .before .before .before .before .before .before .before .args .e)
+      (c .before .before .before .before .before .before .before .before .before .before .before .before .before .before .before .before .before .pre)
+      (on-driver (λ y. isOn (y .begun))
+      (c .before .before .before .before .before .before .before .before .before .before .before .before .before .load-request .ensures)
+      (c .before .before .before .before .before .before .before .before .before .before .before .before .is-on .ensures)
+      (not-false (c .before .before .before .before .before .before .before .before .before .before .before .before .is-on .result)
+      (c .before .before .before .before .before .before .before .before .before .before .before .if1 .left)))
+      (on-driver (λ y. eqb (y .length) (length
+      (c .before .before .before .before .before .before .before .before .before .before .before .before .before .before .before .before .before
+      .args .bytes .now)))
+      (c .before .before .before .before .before .before .before .before .before .before .before .before .before .load-request .ensures) refl
+      (eq-eqb _ _ (c .before .before .before .before .before .before .before .before .before .if2 .taken)))
+      (on-driver (λ y. isOn (y .iso)) (c .before .before .before .before .before .before .before .load-ep .ensures)
+      (c .before .before .before .before .before .before .is-on2 .ensures) (c .before .before .before .before .before .if3 .taken)),
+  c .before .before .put-iso .ensures .1,
+)
 
 sent-ready-requires : tie.Need-sent-ready-requires
 sent-ready-requires c κs = search needs
 
 returns-3 : tie.Need-returns-3
-returns-3 c = (c .sent-ready .ensures .0 (c .before .before .before .before .before .before .before .before .before .before .before .before .before .before .args .buf .now) ∙ write-is-ready (view (c .before .before .before .before .before .before .before .before .before .before .before .before .before .before .args .s .now)) (c .before .before .before .before .before .before .before .before .before .before .before .before .before .before .args .buf .now) (c .before .before .before .before .before .before .before .before .before .before .before .before .before .before .args .bytes .now) (c .before .before .before .before .before .before .before .before .before .before .before .before .before .before .args .e) (c .before .before .before .before .before .before .before .before .before .before .before .before .before .before .pre) (on-driver (λ y. isOn (y .begun)) (c .before .before .before .before .before .before .before .before .before .before .load-request .ensures) (c .before .before .before .before .before .before .before .before .before .is-on .ensures) (not-false (c .before .before .before .before .before .before .before .before .before .is-on .result) (c .before .before .before .before .before .before .before .before .if1 .left))) (on-driver (λ y. eqb (y .length) (length (c .before .before .before .before .before .before .before .before .before .before .before .before .before .before .args .bytes .now))) (c .before .before .before .before .before .before .before .before .before .before .load-request .ensures) refl (eq-eqb _ _ (c .before .before .before .before .before .before .if2 .taken))) (on-driver (λ y. isOn (y .iso)) (c .before .before .before .before .load-ep .ensures) (c .before .before .before .is-on2 .ensures) (c .before .before .if3 .left)) (c .before .before .before .before .load-ep .result) (c .before .before .before .before .load-ep .ensures), c .sent-ready .ensures .1)
+returns-3 c = (
+  c .sent-ready .ensures .0
+      (c .before .before .before .before .before .before .before .before .before .before .before .before .before .before .args .buf .now)
+      ∙ write-is-ready
+      (view (c .before .before .before .before .before .before .before .before .before .before .before .before .before .before .args .s .now))
+      (c .before .before .before .before .before .before .before .before .before .before .before .before .before .before .args .buf .now)
+      (c .before .before .before .before .before .before .before .before .before .before .before .before .before .before .args .bytes .now)
+      (c .before .before .before .before .before .before .before .before .before .before .before .before .before .before .args .e)
+      (c .before .before .before .before .before .before .before .before .before .before .before .before .before .before .pre)
+      (on-driver (λ y. isOn (y .begun))
+      (c .before .before .before .before .before .before .before .before .before .before .load-request .ensures)
+      (c .before .before .before .before .before .before .before .before .before .is-on .ensures)
+      (not-false (c .before .before .before .before .before .before .before .before .before .is-on .result)
+      (c .before .before .before .before .before .before .before .before .if1 .left)))
+      (on-driver (λ y. eqb (y .length)
+      (length (c .before .before .before .before .before .before .before .before .before .before .before .before .before .before .args .bytes .now)))
+      (c .before .before .before .before .before .before .before .before .before .before .load-request .ensures) refl
+      (eq-eqb _ _ (c .before .before .before .before .before .before .if2 .taken)))
+      (on-driver (λ y. isOn (y .iso)) (c .before .before .before .before .load-ep .ensures)
+      (c .before .before .before .is-on2 .ensures) (c .before .before .if3 .left))
+      (c .before .before .before .before .load-ep .result) (c .before .before .before .before .load-ep .ensures),
+  c .sent-ready .ensures .1,
+)
 
 unready-requires : tie.Need-unready-requires
 unready-requires c κs = search needs
@@ -52,7 +105,22 @@ end-request-requires : tie.Need-end-request-requires
 end-request-requires c κs = search needs
 
 returns-4 : tie.Need-returns-4
-returns-4 c = (write-other (view (c .before .before .before .before .before .before .before .before .before .before .before .before .args .s .now)) (c .before .before .before .before .before .before .before .before .before .before .before .before .args .buf .now) (c .before .before .before .before .before .before .before .before .before .before .before .before .args .bytes .now) (c .before .before .before .before .before .before .before .before .before .before .before .before .args .e) (c .before .before .before .before .before .before .before .before .before .before .before .before .pre) (on-driver (λ y. isOn (y .begun)) (c .before .before .before .before .before .before .before .before .load-request .ensures) (c .before .before .before .before .before .before .before .is-on .ensures) (not-false (c .before .before .before .before .before .before .before .is-on .result) (c .before .before .before .before .before .before .if1 .left))) (on-driver (λ y. eqb (y .length) (length (c .before .before .before .before .before .before .before .before .before .before .before .before .args .bytes .now))) (c .before .before .before .before .before .before .before .before .load-request .ensures) refl (ne-eqb _ _ (c .before .before .before .before .if2 .left))) _ _ (c .before .before .unready .ensures .0) (c .end-request .ensures .0), c .end-request .ensures .1 ∙ c .before .before .unready .ensures .1)
+returns-4 c = (
+  write-other (view (c .before .before .before .before .before .before .before .before .before .before .before .before .args .s .now))
+      (c .before .before .before .before .before .before .before .before .before .before .before .before .args .buf .now)
+      (c .before .before .before .before .before .before .before .before .before .before .before .before .args .bytes .now)
+      (c .before .before .before .before .before .before .before .before .before .before .before .before .args .e)
+      (c .before .before .before .before .before .before .before .before .before .before .before .before .pre)
+      (on-driver (λ y. isOn (y .begun)) (c .before .before .before .before .before .before .before .before .load-request .ensures)
+      (c .before .before .before .before .before .before .before .is-on .ensures)
+      (not-false (c .before .before .before .before .before .before .before .is-on .result)
+      (c .before .before .before .before .before .before .if1 .left)))
+      (on-driver (λ y. eqb (y .length)
+      (length (c .before .before .before .before .before .before .before .before .before .before .before .before .args .bytes .now)))
+      (c .before .before .before .before .before .before .before .before .load-request .ensures) refl
+      (ne-eqb _ _ (c .before .before .before .before .if2 .left))) _ _ (c .before .before .unready .ensures .0) (c .end-request .ensures .0),
+  c .end-request .ensures .1 ∙ c .before .before .unready .ensures .1,
+)
 
 pub take-write-spec : {M : Type 1} → statement M
 take-write-spec =

@@ -20,7 +20,12 @@ keep-requires : tie.Need-keep-requires
 keep-requires c κs = search needs
 
 returns : tie.Need-returns
-returns c = (setup-taken _ _ _ _ _ _ _ (c .before .before .before .before .before .before .before .before .setup-word .ensures) (c .before .before .before .before .before .before .setup-word2 .ensures) (c .before .before .before .before .clear .ensures .0) (c .before .before .clear2 .ensures .0) (c .keep .ensures .0), c .keep .ensures .1 ∙ (c .before .before .clear2 .ensures .1 ∙ c .before .before .before .before .clear .ensures .1))
+returns c = (
+  setup-taken _ _ _ _ _ _ _ (c .before .before .before .before .before .before .before .before .setup-word .ensures)
+      (c .before .before .before .before .before .before .setup-word2 .ensures)
+      (c .before .before .before .before .clear .ensures .0) (c .before .before .clear2 .ensures .0) (c .keep .ensures .0),
+  c .keep .ensures .1 ∙ (c .before .before .clear2 .ensures .1 ∙ c .before .before .before .before .clear .ensures .1),
+)
 
 pub take-spec : {M : Type 1} → statement M
 take-spec =

@@ -35,8 +35,17 @@ returns c =
     let the-load-globals = c .before .before .before .before .before .load-globals in
     let the-bus-rst = c .before .before .before .before .before .before .before .before .bus-rst in
     let the-if1 = c .before .before .before .before .before .before .before .if1 in
-    let the-byte = c .before .before .before .before .before .before .before .before .before .byte in
-    (λ b. stops-at (the-stand-bus-rst .ensures) (refl) b (simp (the-set-int-en .ensures .0, the-with-bus-rst .ensures, the-load-globals .ensures, ← the-bus-rst .ensures, the-if1 .taken, ← the-byte .ensures)), stored-at (the-stand-bus-rst .ensures))
+    let the-byte = c .before .before .before .before .before .before .before .before .before .byte in (
+      λ b. stops-at (the-stand-bus-rst .ensures) (refl) b (simp (
+        the-set-int-en .ensures .0,
+        the-with-bus-rst .ensures,
+        the-load-globals .ensures,
+        ← the-bus-rst .ensures,
+        the-if1 .taken,
+        ← the-byte .ensures,
+      )),
+      stored-at (the-stand-bus-rst .ensures),
+    )
 
 suspend-requires : tie.Need-suspend-requires
 suspend-requires c κs = search needs

@@ -27,8 +27,12 @@ returns c =
     let the-load-globals = c .before .before .before .before .load-globals in
     let the-short = c .before .before .before .before .before .before .before .short in
     let the-microframe-index = c .before .before .before .before .before .before .microframe-index in
-    let the-store-globals = c .before .before .store-globals in
-    (λ b. stops-at (the-stand-flags .ensures) (refl) b (microframe-kept (a .v) _ _ (the-load-globals .result) _ _ b (the-short .ensures) (the-microframe-index .ensures) (the-load-globals .ensures) (the-store-globals .ensures .0)), stored-at (the-stand-flags .ensures))
+    let the-store-globals = c .before .before .store-globals in (
+      λ b. stops-at (the-stand-flags .ensures) (refl) b
+          (microframe-kept (a .v) _ _ (the-load-globals .result) _ _ b (the-short .ensures)
+          (the-microframe-index .ensures) (the-load-globals .ensures) (the-store-globals .ensures .0)),
+      stored-at (the-stand-flags .ensures),
+    )
 
 pub after-frame-spec : {M : Type 1} → statement M
 after-frame-spec =

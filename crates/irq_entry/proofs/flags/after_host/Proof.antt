@@ -19,8 +19,11 @@ returns c =
     let the-stand-mis = c .stand-mis in
     let the-setup-act = c .before .before .before .before .setup-act in
     let the-transfer = c .before .before .before .transfer in
-    let the-if1 = c .before .before .if1 in
-    (λ b. stops-at (the-stand-mis .ensures) (refl) b (host-transfer _ _ _ b (the-setup-act .ensures) (tells _ _ _ (the-transfer .ensures) (the-if1 .taken))), stored-at (the-stand-mis .ensures))
+    let the-if1 = c .before .before .if1 in (
+      λ b. stops-at (the-stand-mis .ensures) (refl) b
+          (host-transfer _ _ _ b (the-setup-act .ensures) (tells _ _ _ (the-transfer .ensures) (the-if1 .taken))),
+      stored-at (the-stand-mis .ensures),
+    )
 
 after-transfer-requires : tie.Need-after-transfer-requires
 after-transfer-requires c κs = search needs
@@ -30,8 +33,11 @@ returns-2 c =
     let the-after-transfer = c .after-transfer in
     let the-setup-act = c .before .before .before .before .setup-act in
     let the-transfer = c .before .before .before .transfer in
-    let the-if1 = c .before .before .if1 in
-    (λ b. then-on (the-after-transfer .ensures .0 b) (host-other _ _ _ b (the-setup-act .ensures) (tells _ _ _ (the-transfer .ensures) (the-if1 .left))), the-after-transfer .ensures .1)
+    let the-if1 = c .before .before .if1 in (
+      λ b. then-on (the-after-transfer .ensures .0 b)
+          (host-other _ _ _ b (the-setup-act .ensures) (tells _ _ _ (the-transfer .ensures) (the-if1 .left))),
+      the-after-transfer .ensures .1,
+    )
 
 pub after-host-spec : {M : Type 1} → statement M
 after-host-spec =

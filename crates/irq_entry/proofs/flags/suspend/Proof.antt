@@ -31,8 +31,16 @@ returns c =
     let the-with-suspend = c .before .before .before .before .with-suspend in
     let the-load-globals = c .before .before .before .before .before .load-globals in
     let the-suspend = c .before .before .before .before .before .before .before .before .suspend in
-    let the-if1 = c .before .before .before .before .before .before .before .if1 in
-    (λ b. stops-at (the-stand-suspend .ensures) (refl) b (simp (the-set-int-en .ensures .0, the-with-suspend .ensures, the-load-globals .ensures, ← the-suspend .ensures, the-if1 .taken)), stored-at (the-stand-suspend .ensures))
+    let the-if1 = c .before .before .before .before .before .before .before .if1 in (
+      λ b. stops-at (the-stand-suspend .ensures) (refl) b (simp (
+        the-set-int-en .ensures .0,
+        the-with-suspend .ensures,
+        the-load-globals .ensures,
+        ← the-suspend .ensures,
+        the-if1 .taken,
+      )),
+      stored-at (the-stand-suspend .ensures),
+    )
 
 fifo-requires : tie.Need-fifo-requires
 fifo-requires c κs = search needs

@@ -34,7 +34,16 @@ returns c =
     let the-len-word = c .before .before .before .before .len-word in
     let the-is-on2 = c .before .before .is-on2 in
     let the-late-byte = c .before .before .before .late-byte in
-    simp (the-is-on .ensures, the-busy-byte .ensures, the-st-byte .ensures, the-len-word .ensures, the-is-on2 .ensures, the-late-byte .ensures, c .is-on3 .ensures, c .before .len-ok-byte .ensures)
+    simp (
+      the-is-on .ensures,
+      the-busy-byte .ensures,
+      the-st-byte .ensures,
+      the-len-word .ensures,
+      the-is-on2 .ensures,
+      the-late-byte .ensures,
+      c .is-on3 .ensures,
+      c .before .len-ok-byte .ensures,
+    )
 
 pub transfer-at-spec : {M : Type 1} → statement M
 transfer-at-spec =

@@ -41,7 +41,17 @@ returns-8 c = simp (c .match .keys8)
 
 returns-9 : tie.Need-returns-9
 unfolding settleOf
-returns-9 c = simp (c .nak-of .ensures, ne-eqb _ _ (c .before .match .rest .1), ne-eqb _ _ (c .before .match .rest .0 .1), ne-eqb _ _ (c .before .match .rest .0 .0 .1), ne-eqb _ _ (c .before .match .rest .0 .0 .0 .1), ne-eqb _ _ (c .before .match .rest .0 .0 .0 .0 .1), ne-eqb _ _ (c .before .match .rest .0 .0 .0 .0 .0 .1), ne-eqb _ _ (c .before .match .rest .0 .0 .0 .0 .0 .0 .1), ne-eqb _ _ (c .before .match .rest .0 .0 .0 .0 .0 .0 .0 .1))
+returns-9 c = simp (
+  c .nak-of .ensures,
+  ne-eqb _ _ (c .before .match .rest .1),
+  ne-eqb _ _ (c .before .match .rest .0 .1),
+  ne-eqb _ _ (c .before .match .rest .0 .0 .1),
+  ne-eqb _ _ (c .before .match .rest .0 .0 .0 .1),
+  ne-eqb _ _ (c .before .match .rest .0 .0 .0 .0 .1),
+  ne-eqb _ _ (c .before .match .rest .0 .0 .0 .0 .0 .1),
+  ne-eqb _ _ (c .before .match .rest .0 .0 .0 .0 .0 .0 .1),
+  ne-eqb _ _ (c .before .match .rest .0 .0 .0 .0 .0 .0 .0 .1),
+)
 
 pub settle-of-spec : {M : Type 1} → statement M
 settle-of-spec =

@@ -21,7 +21,12 @@ returns-3 c = simp (c .match .keys3)
 
 returns-4 : tie.Need-returns-4
 unfolding sofOf
-returns-4 c = simp (c .complete-of .ensures, ne-eqb _ _ (c .before .match .rest .1), ne-eqb _ _ (c .before .match .rest .0 .1), ne-eqb _ _ (c .before .match .rest .0 .0 .1))
+returns-4 c = simp (
+  c .complete-of .ensures,
+  ne-eqb _ _ (c .before .match .rest .1),
+  ne-eqb _ _ (c .before .match .rest .0 .1),
+  ne-eqb _ _ (c .before .match .rest .0 .0 .1),
+)
 
 pub sof-of-spec : {M : Type 1} → statement M
 sof-of-spec = tie.close (tie.spec complete-of-requires returns returns-2 returns-3 returns-4)

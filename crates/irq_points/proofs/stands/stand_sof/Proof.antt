@@ -19,7 +19,11 @@ unfolding encode codec.encode
 returns c =
     let the-stand = c .stand in
     let the-sof-as = c .before .before .sof-as in
-    record { answered = the-stand .ensures .0; viewed = the-stand .ensures .1 .0; stored = the-stand .ensures .1 .1 ∙ simp (c .before .code .ensures, the-sof-as .ensures) }
+    record {
+      answered = the-stand .ensures .0;
+      viewed = the-stand .ensures .1 .0;
+      stored = the-stand .ensures .1 .1 ∙ simp (c .before .code .ensures, the-sof-as .ensures);
+    }
 
 pub stand-sof-spec : {M : Type 1} → statement M
 stand-sof-spec =

@@ -19,7 +19,11 @@ unfolding encode codec.encode
 returns c =
     let the-stand = c .stand in
     let the-toggled-as = c .before .before .toggled-as in
-    record { answered = the-stand .ensures .0; viewed = the-stand .ensures .1 .0; stored = the-stand .ensures .1 .1 ∙ simp (c .before .code .ensures, the-toggled-as .ensures) }
+    record {
+      answered = the-stand .ensures .0;
+      viewed = the-stand .ensures .1 .0;
+      stored = the-stand .ensures .1 .1 ∙ simp (c .before .code .ensures, the-toggled-as .ensures);
+    }
 
 pub stand-toggled-spec : {M : Type 1} → statement M
 stand-toggled-spec =

@@ -20,8 +20,12 @@ returns : tie.Need-returns
 unfolding halted decode listed
 returns c =
     let the-store-saved = c .before .before .store-saved in
-    let the-nothing = c .before .before .before .nothing in
-    (λ b. record { there = simp (c .how-many .ensures .0, front-take, the-store-saved .ensures .0, the-store-saved .ensures .1, the-nothing .ensures) }, λ xs. the-store-saved .ensures .1 ∙ the-nothing .ensures)
+    let the-nothing = c .before .before .before .nothing in (
+      λ b. record {
+        there = simp (c .how-many .ensures .0, front-take, the-store-saved .ensures .0, the-store-saved .ensures .1, the-nothing .ensures);
+      },
+      λ xs. the-store-saved .ensures .1 ∙ the-nothing .ensures,
+    )
 
 pub stop-spec : {M : Type 1} → statement M
 stop-spec =

@@ -35,8 +35,13 @@ returns c =
     let the-st-byte = c .before .before .st-byte in
     let the-fits2 = c .before .before .before .before .before .before .before .before .before .fits2 in
     let the-if1 = c .before .before .before .before .before .before .before .before .if1 in
-    let the-after-len = c .after-len in
-    (λ b. went-on (saved (now (a .s))) _ (a .v) (view (now (a .s))) b (loaded-len _ _ _ _ (the-setup-at .ensures) (the-busy-at .ensures) (the-st-byte .ensures) (c .before .before .before .before .before .before .before .before .before .before .pre)) (sym (the-fits2 .ensures) ∙ the-if1 .taken) (the-after-len .ensures .0 b), the-after-len .ensures .1 _)
+    let the-after-len = c .after-len in (
+      λ b. went-on (saved (now (a .s))) _ (a .v) (view (now (a .s))) b
+          (loaded-len _ _ _ _ (the-setup-at .ensures) (the-busy-at .ensures) (the-st-byte .ensures)
+          (c .before .before .before .before .before .before .before .before .before .before .pre))
+          (sym (the-fits2 .ensures) ∙ the-if1 .taken) (the-after-len .ensures .0 b),
+      the-after-len .ensures .1 _,
+    )
 
 returns-2 : tie.Need-returns-2
 unfolding fitsAt

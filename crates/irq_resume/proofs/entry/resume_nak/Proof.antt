@@ -37,15 +37,23 @@ returns c =
     let the-nak-at = c .before .before .before .before .before .before .before .before .nak-at in
     let the-fits-at = c .before .before .before .before .before .before .before .fits-at in
     let the-if1 = c .before .before .before .before .before .before .if1 in
-    let the-after-naking = c .after-naking in
-    (λ b. went-on (saved (now (a .s))) _ (a .v) (view (now (a .s))) b (loaded-nak _ _ _ _ (the-setup-at .ensures) (the-transfer-at .ensures) (the-nak-at .ensures) (c .before .before .before .before .before .before .before .before .before .before .pre)) (sym (the-fits-at .ensures) ∙ the-if1 .taken) (the-after-naking .ensures .0 b), the-after-naking .ensures .1 _)
+    let the-after-naking = c .after-naking in (
+      λ b. went-on (saved (now (a .s))) _ (a .v) (view (now (a .s))) b
+          (loaded-nak _ _ _ _ (the-setup-at .ensures) (the-transfer-at .ensures) (the-nak-at .ensures)
+          (c .before .before .before .before .before .before .before .before .before .before .pre))
+          (sym (the-fits-at .ensures) ∙ the-if1 .taken) (the-after-naking .ensures .0 b),
+      the-after-naking .ensures .1 _,
+    )
 
 returns-2 : tie.Need-returns-2
 unfolding fitsAt
 returns-2 c =
     let a = c .before .before .before .before .args in
-    let the-nak-at = c .before .before .nak-at in
-    (λ b. stays-on (saved (now (a .s))) _ (a .v) (view (now (a .s))) b (c .before .before .before .before .pre) (ap (λ (z : Nak). naks.fitsAt z (a .v)) (sym (the-nak-at .ensures)) ∙ (sym (c .before .fits-at .ensures) ∙ c .if1 .left)), refl)
+    let the-nak-at = c .before .before .nak-at in (
+      λ b. stays-on (saved (now (a .s))) _ (a .v) (view (now (a .s))) b (c .before .before .before .before .pre)
+          (ap (λ (z : Nak). naks.fitsAt z (a .v)) (sym (the-nak-at .ensures)) ∙ (sym (c .before .fits-at .ensures) ∙ c .if1 .left)),
+      refl,
+    )
 
 pub resume-nak-spec : {M : Type 1} → statement M
 resume-nak-spec =

@@ -23,8 +23,12 @@ returns c =
     let a = c .before .before .before .before .before .before .args in
     let the-setup-at = c .before .before .before .before .setup-at in
     let the-transfer-at = c .before .before .transfer-at in
-    let the-after-released = c .after-released in
-    (λ v b. went-on (saved (now (a .s))) _ v (view (now (a .s))) b (loaded-released _ _ _ (the-setup-at .ensures) (the-transfer-at .ensures) (c .before .before .before .before .before .before .pre)) refl (the-after-released .ensures .0 b), the-after-released .ensures .1 _)
+    let the-after-released = c .after-released in (
+      λ v b. went-on (saved (now (a .s))) _ v (view (now (a .s))) b
+          (loaded-released _ _ _ (the-setup-at .ensures) (the-transfer-at .ensures)
+          (c .before .before .before .before .before .before .pre)) refl (the-after-released .ensures .0 b),
+      the-after-released .ensures .1 _,
+    )
 
 pub resume-released-spec : {M : Type 1} → statement M
 resume-released-spec =

@@ -37,15 +37,24 @@ returns c =
     let the-settle-at = c .before .before .before .before .before .before .before .before .settle-at in
     let the-fits-at = c .before .before .before .before .before .before .before .fits-at in
     let the-if1 = c .before .before .before .before .before .before .if1 in
-    let the-after-settling = c .after-settling in
-    (λ b. went-on (saved (now (a .s))) _ (a .v) (view (now (a .s))) b (loaded-settle _ _ _ _ (the-setup-at .ensures) (the-transfer-at .ensures) (the-settle-at .ensures) (c .before .before .before .before .before .before .before .before .before .before .pre)) (sym (the-fits-at .ensures) ∙ the-if1 .taken) (the-after-settling .ensures .0 b), the-after-settling .ensures .1 _)
+    let the-after-settling = c .after-settling in (
+      λ b. went-on (saved (now (a .s))) _ (a .v) (view (now (a .s))) b
+          (loaded-settle _ _ _ _ (the-setup-at .ensures) (the-transfer-at .ensures) (the-settle-at .ensures)
+          (c .before .before .before .before .before .before .before .before .before .before .pre))
+          (sym (the-fits-at .ensures) ∙ the-if1 .taken) (the-after-settling .ensures .0 b),
+      the-after-settling .ensures .1 _,
+    )
 
 returns-2 : tie.Need-returns-2
 unfolding fitsAt
 returns-2 c =
     let a = c .before .before .before .before .args in
-    let the-settle-at = c .before .before .settle-at in
-    (λ b. stays-on (saved (now (a .s))) _ (a .v) (view (now (a .s))) b (c .before .before .before .before .pre) (ap (λ (z : Settle). settles.fitsAt z (a .v)) (sym (the-settle-at .ensures)) ∙ (sym (c .before .fits-at .ensures) ∙ c .if1 .left)), refl)
+    let the-settle-at = c .before .before .settle-at in (
+      λ b. stays-on (saved (now (a .s))) _ (a .v) (view (now (a .s))) b (c .before .before .before .before .pre)
+          (ap (λ (z : Settle). settles.fitsAt z (a .v)) (sym (the-settle-at .ensures))
+          ∙ (sym (c .before .fits-at .ensures) ∙ c .if1 .left)),
+      refl,
+    )
 
 pub resume-settle-spec : {M : Type 1} → statement M
 resume-settle-spec =

@@ -33,8 +33,12 @@ returns c =
     let the-busy-at = c .before .before .busy-at in
     let the-fits2 = c .before .before .before .before .before .before .before .fits2 in
     let the-if1 = c .before .before .before .before .before .before .if1 in
-    let the-after-st = c .after-st in
-    (λ b. went-on (saved (now (a .s))) _ (a .v) (view (now (a .s))) b (loaded-st _ _ _ (the-setup-at .ensures) (the-busy-at .ensures) (c .before .before .before .before .before .before .before .before .pre)) (sym (the-fits2 .ensures) ∙ the-if1 .taken) (the-after-st .ensures .0 b), the-after-st .ensures .1 _)
+    let the-after-st = c .after-st in (
+      λ b. went-on (saved (now (a .s))) _ (a .v) (view (now (a .s))) b
+          (loaded-st _ _ _ (the-setup-at .ensures) (the-busy-at .ensures) (c .before .before .before .before .before .before .before .before .pre))
+          (sym (the-fits2 .ensures) ∙ the-if1 .taken) (the-after-st .ensures .0 b),
+      the-after-st .ensures .1 _,
+    )
 
 returns-2 : tie.Need-returns-2
 unfolding fitsAt

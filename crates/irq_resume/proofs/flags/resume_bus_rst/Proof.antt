@@ -19,8 +19,11 @@ unfolding fitsAt
 returns c =
     let a = c .before .before .before .before .args in
     let the-st-byte = c .before .before .st-byte in
-    let the-after-bus-rst = c .after-bus-rst in
-    (λ v b. went-on (saved (now (a .s))) _ v (view (now (a .s))) b (loaded-bus-rst _ _ (the-st-byte .ensures) (c .before .before .before .before .pre)) refl (the-after-bus-rst .ensures .0 v b), the-after-bus-rst .ensures .1 _)
+    let the-after-bus-rst = c .after-bus-rst in (
+      λ v b. went-on (saved (now (a .s))) _ v (view (now (a .s))) b
+          (loaded-bus-rst _ _ (the-st-byte .ensures) (c .before .before .before .before .pre)) refl (the-after-bus-rst .ensures .0 v b),
+      the-after-bus-rst .ensures .1 _,
+    )
 
 pub resume-bus-rst-spec : {M : Type 1} → statement M
 resume-bus-rst-spec =

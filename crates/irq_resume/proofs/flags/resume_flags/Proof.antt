@@ -23,8 +23,11 @@ returns c =
     let a = c .before .before .before .before .args in
     let the-fits2 = c .before .before .before .fits2 in
     let the-if1 = c .before .before .if1 in
-    let the-after-flags = c .after-flags in
-    (λ b. went-on (saved (now (a .s))) _ (a .v) (view (now (a .s))) b (c .before .before .before .before .pre) (sym (the-fits2 .ensures) ∙ the-if1 .taken) (the-after-flags .ensures .0 b), the-after-flags .ensures .1 _)
+    let the-after-flags = c .after-flags in (
+      λ b. went-on (saved (now (a .s))) _ (a .v) (view (now (a .s))) b (c .before .before .before .before .pre)
+          (sym (the-fits2 .ensures) ∙ the-if1 .taken) (the-after-flags .ensures .0 b),
+      the-after-flags .ensures .1 _,
+    )
 
 returns-2 : tie.Need-returns-2
 unfolding fitsAt

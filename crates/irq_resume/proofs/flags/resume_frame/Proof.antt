@@ -21,8 +21,11 @@ returns c =
     let a = c .before .before .before .before .args in
     let the-fits2 = c .before .before .before .fits2 in
     let the-if1 = c .before .before .if1 in
-    let the-after-frame = c .after-frame in
-    (λ b. went-on (saved (now (a .s))) _ (a .v) (view (now (a .s))) b (c .before .before .before .before .pre) (sym (the-fits2 .ensures) ∙ the-if1 .taken) (the-after-frame .ensures .0 b), the-after-frame .ensures .1 _)
+    let the-after-frame = c .after-frame in (
+      λ b. went-on (saved (now (a .s))) _ (a .v) (view (now (a .s))) b (c .before .before .before .before .pre)
+          (sym (the-fits2 .ensures) ∙ the-if1 .taken) (the-after-frame .ensures .0 b),
+      the-after-frame .ensures .1 _,
+    )
 
 returns-2 : tie.Need-returns-2
 unfolding fitsAt

@@ -19,8 +19,11 @@ unfolding fitsAt
 returns c =
     let a = c .before .before .before .before .args in
     let the-st-byte = c .before .before .st-byte in
-    let the-after-suspend = c .after-suspend in
-    (λ v b. went-on (saved (now (a .s))) _ v (view (now (a .s))) b (loaded-suspend _ _ (the-st-byte .ensures) (c .before .before .before .before .pre)) refl (the-after-suspend .ensures .0 v b), the-after-suspend .ensures .1 _)
+    let the-after-suspend = c .after-suspend in (
+      λ v b. went-on (saved (now (a .s))) _ v (view (now (a .s))) b
+          (loaded-suspend _ _ (the-st-byte .ensures) (c .before .before .before .before .pre)) refl (the-after-suspend .ensures .0 v b),
+      the-after-suspend .ensures .1 _,
+    )
 
 pub resume-suspend-spec : {M : Type 1} → statement M
 resume-suspend-spec =

@@ -44,15 +44,23 @@ returns c =
     let the-check-at = c .before .before .before .before .before .before .before .before .before .before .before .before .before .check-at in
     let the-fits-at = c .before .before .before .before .before .before .before .before .before .before .before .before .fits-at in
     let the-if1 = c .before .before .before .before .before .before .before .before .before .before .before .if1 in
-    let the-after-checking = c .before .before .after-checking in
-    (went-on (saved (now (a .s))) _ (a .v) (view (now (a .s))) (now (a .slots)) (loaded-check _ _ _ _ _ (the-setup-at .ensures) (the-transfer-at .ensures) (the-iso-at .ensures) (the-check-at .ensures) (c .before .before .before .before .before .before .before .before .before .before .before .before .before .before .before .before .pre)) (sym (the-fits-at .ensures) ∙ the-if1 .taken) (the-after-checking .ensures .0), the-after-checking .ensures .1 _)
+    let the-after-checking = c .before .before .after-checking in (
+      went-on (saved (now (a .s))) _ (a .v) (view (now (a .s))) (now (a .slots))
+          (loaded-check _ _ _ _ _ (the-setup-at .ensures) (the-transfer-at .ensures) (the-iso-at .ensures) (the-check-at .ensures)
+          (c .before .before .before .before .before .before .before .before .before .before .before .before .before .before .before .before .pre))
+          (sym (the-fits-at .ensures) ∙ the-if1 .taken) (the-after-checking .ensures .0),
+      the-after-checking .ensures .1 _,
+    )
 
 returns-2 : tie.Need-returns-2
 unfolding fitsAt
 returns-2 c =
     let a = c .before .before .before .before .before .args in
-    let the-check-at = c .before .before .check-at in
-    (stays-on (saved (now (a .s))) _ (a .v) (view (now (a .s))) (now (a .slots)) (c .before .before .before .before .before .pre) (ap (λ (z : Check). checks.fitsAt z (a .v)) (sym (the-check-at .ensures)) ∙ (sym (c .before .fits-at .ensures) ∙ c .if1 .left)), refl)
+    let the-check-at = c .before .before .check-at in (
+      stays-on (saved (now (a .s))) _ (a .v) (view (now (a .s))) (now (a .slots)) (c .before .before .before .before .before .pre)
+          (ap (λ (z : Check). checks.fitsAt z (a .v)) (sym (the-check-at .ensures)) ∙ (sym (c .before .fits-at .ensures) ∙ c .if1 .left)),
+      refl,
+    )
 
 pub resume-check-spec : {M : Type 1} → statement M
 resume-check-spec =

@@ -31,8 +31,13 @@ returns c =
     let the-setup-at = c .before .before .setup-at in
     let the-fits2 = c .before .before .before .before .before .before .before .fits2 in
     let the-if1 = c .before .before .before .before .before .before .if1 in
-    let the-after-moved-read = c .after-moved-read in
-    (λ b. went-on (saved (now (a .s))) _ (a .v) (view (now (a .s))) b (loaded-moved-read _ _ _ (the-dir-at .ensures) (the-setup-at .ensures) (c .before .before .before .before .before .before .before .before .pre)) (sym (the-fits2 .ensures) ∙ the-if1 .taken) (the-after-moved-read .ensures .0 b), the-after-moved-read .ensures .1 _)
+    let the-after-moved-read = c .after-moved-read in (
+      λ b. went-on (saved (now (a .s))) _ (a .v) (view (now (a .s))) b
+          (loaded-moved-read _ _ _ (the-dir-at .ensures)
+          (the-setup-at .ensures) (c .before .before .before .before .before .before .before .before .pre))
+          (sym (the-fits2 .ensures) ∙ the-if1 .taken) (the-after-moved-read .ensures .0 b),
+      the-after-moved-read .ensures .1 _,
+    )
 
 returns-2 : tie.Need-returns-2
 unfolding fitsAt

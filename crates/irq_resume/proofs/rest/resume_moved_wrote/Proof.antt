@@ -23,8 +23,12 @@ returns c =
     let a = c .before .before .before .before .before .before .args in
     let the-dir-at = c .before .before .before .before .dir-at in
     let the-setup-at = c .before .before .setup-at in
-    let the-after-moved-wrote = c .after-moved-wrote in
-    (λ v b. went-on (saved (now (a .s))) _ v (view (now (a .s))) b (loaded-moved-wrote _ _ _ (the-dir-at .ensures) (the-setup-at .ensures) (c .before .before .before .before .before .before .pre)) refl (the-after-moved-wrote .ensures .0 v b), the-after-moved-wrote .ensures .1 _)
+    let the-after-moved-wrote = c .after-moved-wrote in (
+      λ v b. went-on (saved (now (a .s))) _ v (view (now (a .s))) b
+          (loaded-moved-wrote _ _ _ (the-dir-at .ensures) (the-setup-at .ensures)
+          (c .before .before .before .before .before .before .pre)) refl (the-after-moved-wrote .ensures .0 v b),
+      the-after-moved-wrote .ensures .1 _,
+    )
 
 pub resume-moved-wrote-spec : {M : Type 1} → statement M
 resume-moved-wrote-spec =

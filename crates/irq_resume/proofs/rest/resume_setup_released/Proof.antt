@@ -14,8 +14,11 @@ returns : tie.Need-returns
 unfolding fitsAt
 returns c =
     let a = c .before .before .args in
-    let the-after-setup-released = c .after-setup-released in
-    (λ v b. went-on (saved (now (a .s))) _ v (view (now (a .s))) b (c .before .before .pre) refl (the-after-setup-released .ensures .0 v b), the-after-setup-released .ensures .1 _)
+    let the-after-setup-released = c .after-setup-released in (
+      λ v b. went-on (saved (now (a .s))) _ v
+          (view (now (a .s))) b (c .before .before .pre) refl (the-after-setup-released .ensures .0 v b),
+      the-after-setup-released .ensures .1 _,
+    )
 
 pub resume-setup-released-spec : {M : Type 1} → statement M
 resume-setup-released-spec =

@@ -14,8 +14,10 @@ returns : tie.Need-returns
 unfolding fitsAt
 returns c =
     let a = c .before .before .args in
-    let the-after-setup-rx = c .after-setup-rx in
-    (λ v b. went-on (saved (now (a .s))) _ v (view (now (a .s))) b (c .before .before .pre) refl (the-after-setup-rx .ensures .0 v b), the-after-setup-rx .ensures .1 _)
+    let the-after-setup-rx = c .after-setup-rx in (
+      λ v b. went-on (saved (now (a .s))) _ v (view (now (a .s))) b (c .before .before .pre) refl (the-after-setup-rx .ensures .0 v b),
+      the-after-setup-rx .ensures .1 _,
+    )
 
 pub resume-setup-rx-spec : {M : Type 1} → statement M
 resume-setup-rx-spec =

@@ -38,14 +38,22 @@ returns c =
     let the-iso-at = c .before .before .before .before .before .iso-at in
     let the-fits2 = c .before .before .before .before .before .before .before .before .before .before .before .before .fits2 in
     let the-if1 = c .before .before .before .before .before .before .before .before .before .before .before .if1 in
-    let the-after-frame-no = c .before .before .after-frame-no in
-    (went-on (saved (now (a .s))) _ (a .v) (view (now (a .s))) (now (a .slots)) (loaded-frame-no _ _ _ _ (the-setup-at .ensures) (the-transfer-at .ensures) (the-iso-at .ensures) (c .before .before .before .before .before .before .before .before .before .before .before .before .before .before .pre)) (sym (the-fits2 .ensures) ∙ the-if1 .taken) (the-after-frame-no .ensures .0), the-after-frame-no .ensures .1 _)
+    let the-after-frame-no = c .before .before .after-frame-no in (
+      went-on (saved (now (a .s))) _ (a .v) (view (now (a .s))) (now (a .slots))
+          (loaded-frame-no _ _ _ _ (the-setup-at .ensures) (the-transfer-at .ensures) (the-iso-at .ensures)
+          (c .before .before .before .before .before .before .before .before .before .before .before .before .before .before .pre))
+          (sym (the-fits2 .ensures) ∙ the-if1 .taken) (the-after-frame-no .ensures .0),
+      the-after-frame-no .ensures .1 _,
+    )
 
 returns-2 : tie.Need-returns-2
 unfolding fitsAt
 returns-2 c =
-    let a = c .before .before .before .args in
-    (stays-on (saved (now (a .s))) _ (a .v) (view (now (a .s))) (now (a .slots)) (c .before .before .before .pre) (sym (c .before .fits2 .ensures) ∙ c .if1 .left), refl)
+    let a = c .before .before .before .args in (
+      stays-on (saved (now (a .s))) _ (a .v) (view (now (a .s)))
+          (now (a .slots)) (c .before .before .before .pre) (sym (c .before .fits2 .ensures) ∙ c .if1 .left),
+      refl,
+    )
 
 pub resume-frame-no-spec : {M : Type 1} → statement M
 resume-frame-no-spec =

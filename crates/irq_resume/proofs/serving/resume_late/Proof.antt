@@ -38,8 +38,14 @@ returns c =
     let the-iso-at = c .before .before .before .before .before .before .before .before .before .iso-at in
     let the-frame-word = c .before .before .before .before .before .before .before .frame-word in
     let the-late-at = c .before .before .before .before .before .late-at in
-    let the-after-completions = c .before .before .after-completions in
-    (λ v. went-on (saved (now (a .s))) _ v (view (now (a .s))) (now (a .slots)) (loaded-late _ _ _ _ _ _ (the-setup-at .ensures) (the-transfer-at .ensures) (the-iso-at .ensures) (the-frame-word .ensures) (the-late-at .ensures) (c .before .before .before .before .before .before .before .before .before .before .before .before .before .before .before .before .pre)) refl (the-after-completions .ensures .0 v), the-after-completions .ensures .1 _)
+    let the-after-completions = c .before .before .after-completions in (
+      λ v. went-on (saved (now (a .s))) _ v (view (now (a .s))) (now (a .slots))
+          (loaded-late _ _ _ _ _ _ (the-setup-at .ensures)
+          (the-transfer-at .ensures) (the-iso-at .ensures) (the-frame-word .ensures) (the-late-at .ensures)
+          (c .before .before .before .before .before .before .before .before .before .before .before .before .before .before .before .before .pre))
+          refl (the-after-completions .ensures .0 v),
+      the-after-completions .ensures .1 _,
+    )
 
 pub resume-late-spec : {M : Type 1} → statement M
 resume-late-spec =

@@ -34,8 +34,13 @@ returns c =
     let the-transfer-at = c .before .before .before .before .before .before .before .before .before .transfer-at in
     let the-iso-at = c .before .before .before .before .before .before .before .iso-at in
     let the-complete-at = c .before .before .before .before .before .complete-at in
-    let the-after-completing = c .before .before .after-completing in
-    (λ v. went-on (saved (now (a .s))) _ v (view (now (a .s))) (now (a .slots)) (loaded-completing _ _ _ _ _ (the-setup-at .ensures) (the-transfer-at .ensures) (the-iso-at .ensures) (the-complete-at .ensures) (c .before .before .before .before .before .before .before .before .before .before .before .before .before .before .pre)) refl (the-after-completing .ensures .0 v), the-after-completing .ensures .1 _)
+    let the-after-completing = c .before .before .after-completing in (
+      λ v. went-on (saved (now (a .s))) _ v (view (now (a .s))) (now (a .slots))
+          (loaded-completing _ _ _ _ _ (the-setup-at .ensures) (the-transfer-at .ensures) (the-iso-at .ensures) (the-complete-at .ensures)
+          (c .before .before .before .before .before .before .before .before .before .before .before .before .before .before .pre)) refl
+          (the-after-completing .ensures .0 v),
+      the-after-completing .ensures .1 _,
+    )
 
 pub resume-completing-spec : {M : Type 1} → statement M
 resume-completing-spec =

@@ -39,8 +39,13 @@ returns c =
     let the-iso-at = c .before .before .iso-at in
     let the-fits2 = c .before .before .before .before .before .before .before .before .before .before .before .fits2 in
     let the-if1 = c .before .before .before .before .before .before .before .before .before .before .if1 in
-    let the-after-flip = c .after-flip in
-    (λ b. went-on (saved (now (a .s))) _ (a .v) (view (now (a .s))) b (loaded-flip _ _ _ _ _ (the-dir-at .ensures) (the-setup-at .ensures) (the-transfer-at .ensures) (the-iso-at .ensures) (c .before .before .before .before .before .before .before .before .before .before .before .before .pre)) (sym (the-fits2 .ensures) ∙ the-if1 .taken) (the-after-flip .ensures .0 b), the-after-flip .ensures .1 _)
+    let the-after-flip = c .after-flip in (
+      λ b. went-on (saved (now (a .s))) _ (a .v) (view (now (a .s))) b
+          (loaded-flip _ _ _ _ _ (the-dir-at .ensures) (the-setup-at .ensures) (the-transfer-at .ensures) (the-iso-at .ensures)
+          (c .before .before .before .before .before .before .before .before .before .before .before .before .pre))
+          (sym (the-fits2 .ensures) ∙ the-if1 .taken) (the-after-flip .ensures .0 b),
+      the-after-flip .ensures .1 _,
+    )
 
 returns-2 : tie.Need-returns-2
 unfolding fitsAt

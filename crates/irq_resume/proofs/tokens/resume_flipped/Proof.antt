@@ -34,8 +34,13 @@ returns c =
     let the-setup-at = c .before .before .before .before .before .before .before .before .before .setup-at in
     let the-transfer-at = c .before .before .before .before .before .before .before .transfer-at in
     let the-iso-at = c .before .before .before .before .before .iso-at in
-    let the-after-flipped = c .before .before .after-flipped in
-    (λ v. went-on (saved (now (a .s))) _ v (view (now (a .s))) (now (a .slots)) (loaded-flipped _ _ _ _ _ (the-dir-at .ensures) (the-setup-at .ensures) (the-transfer-at .ensures) (the-iso-at .ensures) (c .before .before .before .before .before .before .before .before .before .before .before .before .before .before .pre)) refl (the-after-flipped .ensures .0 v), the-after-flipped .ensures .1 _)
+    let the-after-flipped = c .before .before .after-flipped in (
+      λ v. went-on (saved (now (a .s))) _ v (view (now (a .s))) (now (a .slots))
+          (loaded-flipped _ _ _ _ _ (the-dir-at .ensures) (the-setup-at .ensures) (the-transfer-at .ensures) (the-iso-at .ensures)
+          (c .before .before .before .before .before .before .before .before .before .before .before .before .before .before .pre)) refl
+          (the-after-flipped .ensures .0 v),
+      the-after-flipped .ensures .1 _,
+    )
 
 pub resume-flipped-spec : {M : Type 1} → statement M
 resume-flipped-spec =

@@ -40,23 +40,36 @@ same-length c = search needs
 returns : tie.Need-returns
 unfolding fitsAt
 returns c =
-    let a = c .before .before .before .before .before .before .before .before .before .before .before .before .before .before .before .before .before .before .args in
+    let a =
+    c .before .before .before .before .before .before .before .before .before .before .before .before .before .before .before .before .before .before
+    .args in
     let the-dir-at = c .before .before .before .before .before .before .before .before .before .before .before .dir-at in
     let the-setup-at = c .before .before .before .before .before .before .before .before .before .setup-at in
     let the-transfer-at = c .before .before .before .before .before .before .before .transfer-at in
     let the-iso-at = c .before .before .before .before .before .iso-at in
-    let the-toggled-at = c .before .before .before .before .before .before .before .before .before .before .before .before .before .before .before .toggled-at in
+    let the-toggled-at =
+    c .before .before .before .before .before .before .before .before .before .before .before .before .before .before .before .toggled-at in
     let the-fits-at = c .before .before .before .before .before .before .before .before .before .before .before .before .before .before .fits-at in
     let the-if1 = c .before .before .before .before .before .before .before .before .before .before .before .before .before .if1 in
-    let the-after-toggled = c .before .before .after-toggled in
-    (went-on (saved (now (a .s))) _ (a .v) (view (now (a .s))) (now (a .slots)) (loaded-toggled _ _ _ _ _ _ (the-dir-at .ensures) (the-setup-at .ensures) (the-transfer-at .ensures) (the-iso-at .ensures) (the-toggled-at .ensures) (c .before .before .before .before .before .before .before .before .before .before .before .before .before .before .before .before .before .before .pre)) (sym (the-fits-at .ensures) ∙ the-if1 .taken) (the-after-toggled .ensures .0), the-after-toggled .ensures .1 _)
+    let the-after-toggled = c .before .before .after-toggled in (
+      went-on (saved (now (a .s))) _ (a .v) (view (now (a .s))) (now (a .slots))
+          (loaded-toggled _ _ _ _ _ _ (the-dir-at .ensures)
+          (the-setup-at .ensures) (the-transfer-at .ensures) (the-iso-at .ensures) (the-toggled-at .ensures)
+          (c .before .before .before .before .before .before .before .before .before .before .before .before .before .before .before .before .before .before
+          .pre)) (sym (the-fits-at .ensures) ∙ the-if1 .taken) (the-after-toggled .ensures .0),
+      the-after-toggled .ensures .1 _,
+    )
 
 returns-2 : tie.Need-returns-2
 unfolding fitsAt
 returns-2 c =
     let a = c .before .before .before .before .before .args in
-    let the-toggled-at = c .before .before .toggled-at in
-    (stays-on (saved (now (a .s))) _ (a .v) (view (now (a .s))) (now (a .slots)) (c .before .before .before .before .before .pre) (ap (λ (z : Toggled). toggleds.fitsAt z (a .v)) (sym (the-toggled-at .ensures)) ∙ (sym (c .before .fits-at .ensures) ∙ c .if1 .left)), refl)
+    let the-toggled-at = c .before .before .toggled-at in (
+      stays-on (saved (now (a .s))) _ (a .v) (view (now (a .s))) (now (a .slots)) (c .before .before .before .before .before .pre)
+          (ap (λ (z : Toggled). toggleds.fitsAt z (a .v)) (sym (the-toggled-at .ensures))
+          ∙ (sym (c .before .fits-at .ensures) ∙ c .if1 .left)),
+      refl,
+    )
 
 pub resume-toggled-spec : {M : Type 1} → statement M
 resume-toggled-spec =

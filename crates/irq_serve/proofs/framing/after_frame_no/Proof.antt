@@ -25,8 +25,11 @@ returns c =
     let a = c .before .before .before .before .before .before .before .before .before .before .args in
     let the-framed = c .before .before .before .before .before .framed in
     let the-load-globals = c .before .before .before .before .before .before .load-globals in
-    let the-short = c .before .before .before .before .before .before .before .before .short in
-    (then-on (the-serve .ensures .0) (frame-read (a .setup) (a .x) _ (a .iso) _ _ _ _ _ (the-framed .ensures) (the-load-globals .ensures) (the-short .ensures)), the-serve .ensures .1)
+    let the-short = c .before .before .before .before .before .before .before .before .short in (
+      then-on (the-serve .ensures .0)
+          (frame-read (a .setup) (a .x) _ (a .iso) _ _ _ _ _ (the-framed .ensures) (the-load-globals .ensures) (the-short .ensures)),
+      the-serve .ensures .1,
+    )
 
 pub after-frame-no-spec : {M : Type 1} → statement M
 after-frame-no-spec =

@@ -22,8 +22,11 @@ returns : tie.Need-returns
 returns c =
     let the-then-late = c .before .before .then-late in
     let a = c .before .before .before .before .before .before .before .before .args in
-    let the-resume = c .before .before .before .before .before .resume in
-    (λ v. then-on (the-then-late .ensures .0) (after (a .setup) (λ _ u. run concrete (afterLate (a .x) (a .iso) (a .frame)) u) _ _ (the-resume .ensures .0 _)), the-then-late .ensures .1)
+    let the-resume = c .before .before .before .before .before .resume in (
+      λ v. then-on (the-then-late .ensures .0)
+          (after (a .setup) (λ _ u. run concrete (afterLate (a .x) (a .iso) (a .frame)) u) _ _ (the-resume .ensures .0 _)),
+      the-then-late .ensures .1,
+    )
 
 pub after-completions-spec : {M : Type 1} → statement M
 after-completions-spec =

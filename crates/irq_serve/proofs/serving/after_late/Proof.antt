@@ -22,8 +22,12 @@ unfolding afterLate
 returns c =
     let the-after-dispatch = c .before .before .after-dispatch in
     let a = c .before .before .before .before .before .before .before .args in
-    let the-if1 = c .before .before .before .before .before .if1 in
-    (then-on (the-after-dispatch .ensures .0) (when-no (a .setup) (script.dispatch {i = true} (token ((a .x) .st)) (a .x) (a .iso) (a .frame)) (λ _ u. run concrete (afterDispatch (a .x) (a .iso)) u) _ _ (ap not (the-if1 .taken))), the-after-dispatch .ensures .1)
+    let the-if1 = c .before .before .before .before .before .if1 in (
+      then-on (the-after-dispatch .ensures .0)
+          (when-no (a .setup) (script.dispatch {i = true} (token ((a .x) .st)) (a .x) (a .iso) (a .frame))
+          (λ _ u. run concrete (afterDispatch (a .x) (a .iso)) u) _ _ (ap not (the-if1 .taken))),
+      the-after-dispatch .ensures .1,
+    )
 
 dispatch-requires : tie.Need-dispatch-requires
 dispatch-requires c κs = search needs
@@ -36,8 +40,12 @@ unfolding afterLate
 returns-2 c =
     let the-dispatch = c .before .before .dispatch in
     let a = c .before .before .before .before .before .before .before .args in
-    let the-if1 = c .before .before .before .before .before .if1 in
-    (then-on (the-dispatch .ensures .0) (when-yes (a .setup) (script.dispatch {i = true} (token ((a .x) .st)) (a .x) (a .iso) (a .frame)) (λ _ u. run concrete (afterDispatch (a .x) (a .iso)) u) _ _ (ap not (the-if1 .left))), the-dispatch .ensures .1)
+    let the-if1 = c .before .before .before .before .before .if1 in (
+      then-on (the-dispatch .ensures .0)
+          (when-yes (a .setup) (script.dispatch {i = true} (token ((a .x) .st)) (a .x) (a .iso) (a .frame))
+          (λ _ u. run concrete (afterDispatch (a .x) (a .iso)) u) _ _ (ap not (the-if1 .left))),
+      the-dispatch .ensures .1,
+    )
 
 pub after-late-spec : {M : Type 1} → statement M
 after-late-spec =

@@ -22,8 +22,11 @@ returns : tie.Need-returns
 returns c =
     let the-then-sof = c .before .before .then-sof in
     let a = c .before .before .before .before .before .before .before .before .args in
-    let the-resume = c .before .before .before .before .before .on-sof-resume in
-    (then-on (the-then-sof .ensures .0) (after (a .setup) (λ _ u. run concrete (afterSof (a .x) (a .iso) (a .frame)) u) _ _ (the-resume .ensures .0 _)), the-then-sof .ensures .1)
+    let the-resume = c .before .before .before .before .before .on-sof-resume in (
+      then-on (the-then-sof .ensures .0)
+          (after (a .setup) (λ _ u. run concrete (afterSof (a .x) (a .iso) (a .frame)) u) _ _ (the-resume .ensures .0 _)),
+      the-then-sof .ensures .1,
+    )
 
 pub after-on-sof-spec : {M : Type 1} → statement M
 after-on-sof-spec =

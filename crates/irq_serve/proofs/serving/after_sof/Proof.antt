@@ -26,8 +26,12 @@ returns c =
     let the-then-late = c .before .before .then-late in
     let a = c .before .before .before .before .before .before .before .before .before .args in
     let the-begin = c .before .before .before .before .before .begin in
-    let the-if1 = c .before .before .before .before .before .before .before .if1 in
-    (then-on (the-then-late .ensures .0) (after (a .setup) (λ _ u. run concrete (afterLate (a .x) (a .iso) (a .frame)) u) _ _ (the-begin .ensures .0 _) ∙ when-yes (a .setup) (lateAll (a .frame)) (λ _ u. run concrete (afterLate (a .x) (a .iso) (a .frame)) u) _ _ (the-if1 .taken)), the-then-late .ensures .1)
+    let the-if1 = c .before .before .before .before .before .before .before .if1 in (
+      then-on (the-then-late .ensures .0)
+          (after (a .setup) (λ _ u. run concrete (afterLate (a .x) (a .iso) (a .frame)) u) _ _ (the-begin .ensures .0 _)
+          ∙ when-yes (a .setup) (lateAll (a .frame)) (λ _ u. run concrete (afterLate (a .x) (a .iso) (a .frame)) u) _ _ (the-if1 .taken)),
+      the-then-late .ensures .1,
+    )
 
 after-late-requires : tie.Need-after-late-requires
 after-late-requires c κs = search needs
@@ -40,8 +44,11 @@ unfolding afterSof
 returns-2 c =
     let the-after-late = c .before .before .after-late in
     let a = c .before .before .before .before .before .before .before .args in
-    let the-if1 = c .before .before .before .before .before .if1 in
-    (then-on (the-after-late .ensures .0) (when-no (a .setup) (lateAll (a .frame)) (λ _ u. run concrete (afterLate (a .x) (a .iso) (a .frame)) u) _ _ (the-if1 .left)), the-after-late .ensures .1)
+    let the-if1 = c .before .before .before .before .before .if1 in (
+      then-on (the-after-late .ensures .0)
+          (when-no (a .setup) (lateAll (a .frame)) (λ _ u. run concrete (afterLate (a .x) (a .iso) (a .frame)) u) _ _ (the-if1 .left)),
+      the-after-late .ensures .1,
+    )
 
 pub after-sof-spec : {M : Type 1} → statement M
 after-sof-spec =

@@ -35,8 +35,14 @@ returns c =
     let the-begin = c .before .before .before .before .before .on-sof in
     let the-sof-due = c .before .before .before .before .before .before .before .before .sof-due in
     let the-load-globals = c .before .before .before .before .before .before .before .before .before .load-globals in
-    let the-if1 = c .before .before .before .before .before .before .before .if1 in
-    (then-on (the-then-sof .ensures .0) (after (a .setup) (λ _ u. run concrete (afterSof (a .x) (a .iso) (a .frame)) u) _ _ (the-begin .ensures .0 _) ∙ when-yes (a .setup) (onSof (a .frame)) (λ _ u. run concrete (afterSof (a .x) (a .iso) (a .frame)) u) _ _ (tells-of (λ (z : Globals). sofDue (a .x) (z .«sof_frame») (a .frame)) _ _ _ _ (the-sof-due .ensures) (the-load-globals .ensures) (the-if1 .taken))), the-then-sof .ensures .1)
+    let the-if1 = c .before .before .before .before .before .before .before .if1 in (
+      then-on (the-then-sof .ensures .0)
+          (after (a .setup) (λ _ u. run concrete (afterSof (a .x) (a .iso) (a .frame)) u) _ _ (the-begin .ensures .0 _)
+          ∙ when-yes (a .setup) (onSof (a .frame)) (λ _ u. run concrete (afterSof (a .x) (a .iso) (a .frame)) u) _ _
+          (tells-of (λ (z : Globals). sofDue (a .x) (z .«sof_frame») (a .frame)) _ _ _ _
+          (the-sof-due .ensures) (the-load-globals .ensures) (the-if1 .taken))),
+      the-then-sof .ensures .1,
+    )
 
 after-sof-requires : tie.Need-after-sof-requires
 after-sof-requires c κs = search needs
@@ -51,8 +57,13 @@ returns-2 c =
     let a = c .before .before .before .before .before .before .before .before .before .before .args in
     let the-sof-due = c .before .before .before .before .before .before .sof-due in
     let the-load-globals = c .before .before .before .before .before .before .before .load-globals in
-    let the-if1 = c .before .before .before .before .before .if1 in
-    (then-on (the-after-sof .ensures .0) (when-no (a .setup) (onSof (a .frame)) (λ _ u. run concrete (afterSof (a .x) (a .iso) (a .frame)) u) _ _ (tells-of (λ (z : Globals). sofDue (a .x) (z .«sof_frame») (a .frame)) _ _ _ _ (the-sof-due .ensures) (the-load-globals .ensures) (the-if1 .left))), the-after-sof .ensures .1)
+    let the-if1 = c .before .before .before .before .before .if1 in (
+      then-on (the-after-sof .ensures .0)
+          (when-no (a .setup) (onSof (a .frame)) (λ _ u. run concrete (afterSof (a .x) (a .iso) (a .frame)) u) _ _
+          (tells-of (λ (z : Globals). sofDue (a .x) (z .«sof_frame») (a .frame)) _ _ _ _
+          (the-sof-due .ensures) (the-load-globals .ensures) (the-if1 .left))),
+      the-after-sof .ensures .1,
+    )
 
 pub serve-spec : {M : Type 1} → statement M
 serve-spec =

@@ -15,7 +15,15 @@ out-naks-requires : tie.Need-out-naks-requires
 out-naks-requires c κs = search needs
 
 returns : tie.Need-returns
-returns c = (λ b. simp (← c .before .before .before .endpoint .ensures, ← c .before .before .load-ep .ensures, ← c .before .out-naks .ensures, c .if1 .taken), refl)
+returns c = (
+  λ b. simp (
+    ← c .before .before .before .endpoint .ensures,
+    ← c .before .before .load-ep .ensures,
+    ← c .before .out-naks .ensures,
+    c .if1 .taken,
+  ),
+  refl,
+)
 
 load-ep-requires-2 : tie.Need-load-ep-requires-2
 load-ep-requires-2 c κs = search needs
@@ -24,10 +32,32 @@ in-naks-requires : tie.Need-in-naks-requires
 in-naks-requires c κs = search needs
 
 returns-2 : tie.Need-returns-2
-returns-2 c = (λ b. simp (← c .before .before .before .before .before .before .endpoint .ensures, ← c .before .before .before .before .before .load-ep .ensures, ← c .before .before .load-ep2 .ensures, ← c .before .before .before .before .out-naks .ensures, c .before .before .before .if1 .left, ← c .before .in-naks .ensures, c .if2 .taken), refl)
+returns-2 c = (
+  λ b. simp (
+    ← c .before .before .before .before .before .before .endpoint .ensures,
+    ← c .before .before .before .before .before .load-ep .ensures,
+    ← c .before .before .load-ep2 .ensures,
+    ← c .before .before .before .before .out-naks .ensures,
+    c .before .before .before .if1 .left,
+    ← c .before .in-naks .ensures,
+    c .if2 .taken,
+  ),
+  refl,
+)
 
 returns-3 : tie.Need-returns-3
-returns-3 c = (λ b. simp (← c .before .before .before .before .before .before .endpoint .ensures, ← c .before .before .before .before .before .load-ep .ensures, ← c .before .before .load-ep2 .ensures, ← c .before .before .before .before .out-naks .ensures, c .before .before .before .if1 .left, ← c .before .in-naks .ensures, c .if2 .left), tt)
+returns-3 c = (
+  λ b. simp (
+    ← c .before .before .before .before .before .before .endpoint .ensures,
+    ← c .before .before .before .before .before .load-ep .ensures,
+    ← c .before .before .load-ep2 .ensures,
+    ← c .before .before .before .before .out-naks .ensures,
+    c .before .before .before .if1 .left,
+    ← c .before .in-naks .ensures,
+    c .if2 .left,
+  ),
+  tt,
+)
 
 pub nak-non-iso-spec : {M : Type 1} → statement M
 nak-non-iso-spec =

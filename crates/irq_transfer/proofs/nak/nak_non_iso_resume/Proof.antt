@@ -30,7 +30,16 @@ enum-told : tie.Need-enum-told
 enum-told c = search needs
 
 returns : tie.Need-returns
-returns c = (λ d b. simp (c .endpoint .ensures, c .before .ctrl-of .ensures, c .before .before .nak .ensures, c .before .before .before .byte .ensures, c .before .before .before .before .before .p .given .1), refl)
+returns c = (
+  λ d b. simp (
+    c .endpoint .ensures,
+    c .before .ctrl-of .ensures,
+    c .before .before .nak .ensures,
+    c .before .before .before .byte .ensures,
+    c .before .before .before .before .before .p .given .1,
+  ),
+  refl,
+)
 
 returns-2 : tie.Need-returns-2
 returns-2 c = (λ d b. simp (c .enum-told .given .1), tt)

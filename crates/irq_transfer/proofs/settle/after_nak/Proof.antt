@@ -24,10 +24,21 @@ retaken-requires : tie.Need-retaken-requires
 retaken-requires c κs = search needs
 
 returns : tie.Need-returns
-returns c = (λ d b. nak-asks (λ _ u. ends (retaken (c .before .before .before .before .args .x) (c .before .before .before .before .args .st)) u) (c .before .before .before .before .args .st) _ _ _ d b _ (c .before .n .given .1) (c .before .before .before .nak-non-iso-resume .ensures .0 d b), nak-linked _ _ _ (c .before .n .given .1) (c .before .before .before .nak-non-iso-resume .ensures .1))
+returns c = (
+  λ d b. nak-asks (λ _ u. ends (retaken (c .before .before .before .before .args .x) (c .before .before .before .before .args .st)) u)
+      (c .before .before .before .before .args .st) _ _ _ d b _
+      (c .before .n .given .1) (c .before .before .before .nak-non-iso-resume .ensures .0 d b),
+  nak-linked _ _ _ (c .before .n .given .1) (c .before .before .before .nak-non-iso-resume .ensures .1),
+)
 
 returns-2 : tie.Need-returns-2
-returns-2 c = (λ d b. ap (λ (y : Transfer). ends y (d, b)) (c .retaken .ensures) ∙ nak-ends (λ _ u. ends (retaken (c .before .before .before .before .args .x) (c .before .before .before .before .args .st)) u) (c .before .before .before .before .args .st) _ d b _ (c .before .enum-told .given .1) (c .before .before .before .nak-non-iso-resume .ensures .0 d b), tt)
+returns-2 c = (
+  λ d b. ap (λ (y : Transfer). ends y (d, b)) (c .retaken .ensures)
+      ∙ nak-ends (λ _ u. ends (retaken (c .before .before .before .before .args .x) (c .before .before .before .before .args .st)) u)
+      (c .before .before .before .before .args .st) _ d b _
+      (c .before .enum-told .given .1) (c .before .before .before .nak-non-iso-resume .ensures .0 d b),
+  tt,
+)
 
 pub after-nak-spec : {M : Type 1} → statement M
 after-nak-spec =

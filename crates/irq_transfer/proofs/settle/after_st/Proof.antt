@@ -19,10 +19,18 @@ retaken-requires : tie.Need-retaken-requires
 retaken-requires c κs = search needs
 
 returns : tie.Need-returns
-returns c = (λ b. st-asks (c .before .before .before .before .before .args .x) _ _ _ _ b (c .before .before .before .before .byte .ensures) (c .before .before .before .nak-non-iso .ensures .0 b) _ _ (c .before .n .given .1), nak-linked _ _ _ (c .before .n .given .1) (c .before .before .before .nak-non-iso .ensures .1))
+returns c = (
+  λ b. st-asks (c .before .before .before .before .before .args .x) _ _ _ _ b (c .before .before .before .before .byte .ensures)
+      (c .before .before .before .nak-non-iso .ensures .0 b) _ _ (c .before .n .given .1),
+  nak-linked _ _ _ (c .before .n .given .1) (c .before .before .before .nak-non-iso .ensures .1),
+)
 
 returns-2 : tie.Need-returns-2
-returns-2 c = (λ b. st-ends (c .before .before .before .before .before .args .x) _ _ _ _ b (c .before .before .before .before .byte .ensures) (c .before .before .before .nak-non-iso .ensures .0 b) _ (c .retaken .ensures) (c .before .enum-told .given .1), tt)
+returns-2 c = (
+  λ b. st-ends (c .before .before .before .before .before .args .x) _ _ _ _ b (c .before .before .before .before .byte .ensures)
+      (c .before .before .before .nak-non-iso .ensures .0 b) _ (c .retaken .ensures) (c .before .enum-told .given .1),
+  tt,
+)
 
 pub after-st-spec : {M : Type 1} → statement M
 after-st-spec =

@@ -17,7 +17,16 @@ waits-for-iso-requires : tie.Need-waits-for-iso-requires
 waits-for-iso-requires c κs = search needs
 
 returns : tie.Need-returns
-returns c = (λ b. simp (← c .before .before .before .endpoint .ensures, ← c .before .before .load-ep .ensures, ← c .before .waits-for-iso .ensures, c .if1 .taken, wait-begun), refl)
+returns c = (
+  λ b. simp (
+    ← c .before .before .before .endpoint .ensures,
+    ← c .before .before .load-ep .ensures,
+    ← c .before .waits-for-iso .ensures,
+    c .if1 .taken,
+    wait-begun,
+  ),
+  refl,
+)
 
 load-ep-requires-2 : tie.Need-load-ep-requires-2
 load-ep-requires-2 c κs = search needs
@@ -26,14 +35,50 @@ waits-for-bulk-requires : tie.Need-waits-for-bulk-requires
 waits-for-bulk-requires c κs = search needs
 
 returns-2 : tie.Need-returns-2
-returns-2 c = (λ b. simp (← c .before .before .before .before .before .before .endpoint .ensures, ← c .before .before .before .before .before .load-ep .ensures, ← c .before .before .before .before .waits-for-iso .ensures, c .before .before .before .if1 .left, ← c .before .before .load-ep2 .ensures, ← c .before .waits-for-bulk .ensures, c .if2 .taken, wait-begun), refl)
+returns-2 c = (
+  λ b. simp (
+    ← c .before .before .before .before .before .before .endpoint .ensures,
+    ← c .before .before .before .before .before .load-ep .ensures,
+    ← c .before .before .before .before .waits-for-iso .ensures,
+    c .before .before .before .if1 .left,
+    ← c .before .before .load-ep2 .ensures,
+    ← c .before .waits-for-bulk .ensures,
+    c .if2 .taken,
+    wait-begun,
+  ),
+  refl,
+)
 
 returns-3 : tie.Need-returns-3
 unfolding afterMis afterFlags afterSt
-returns-3 c = (λ b. simp (← c .before .before .before .before .before .before .before .endpoint .ensures, ← c .before .before .before .before .before .before .load-ep .ensures, ← c .before .before .before .before .before .waits-for-iso .ensures, c .before .before .before .before .if1 .left, ← c .before .before .before .load-ep2 .ensures, ← c .before .before .waits-for-bulk .ensures, c .before .if2 .left, c .if3 .taken), refl)
+returns-3 c = (
+  λ b. simp (
+    ← c .before .before .before .before .before .before .before .endpoint .ensures,
+    ← c .before .before .before .before .before .before .load-ep .ensures,
+    ← c .before .before .before .before .before .waits-for-iso .ensures,
+    c .before .before .before .before .if1 .left,
+    ← c .before .before .before .load-ep2 .ensures,
+    ← c .before .before .waits-for-bulk .ensures,
+    c .before .if2 .left,
+    c .if3 .taken,
+  ),
+  refl,
+)
 
 returns-4 : tie.Need-returns-4
-returns-4 c = (λ b. simp (← c .before .before .before .before .before .before .before .endpoint .ensures, ← c .before .before .before .before .before .before .load-ep .ensures, ← c .before .before .before .before .before .waits-for-iso .ensures, c .before .before .before .before .if1 .left, ← c .before .before .before .load-ep2 .ensures, ← c .before .before .waits-for-bulk .ensures, c .before .if2 .left, c .if3 .left), tt)
+returns-4 c = (
+  λ b. simp (
+    ← c .before .before .before .before .before .before .before .endpoint .ensures,
+    ← c .before .before .before .before .before .before .load-ep .ensures,
+    ← c .before .before .before .before .before .waits-for-iso .ensures,
+    c .before .before .before .before .if1 .left,
+    ← c .before .before .before .load-ep2 .ensures,
+    ← c .before .before .waits-for-bulk .ensures,
+    c .before .if2 .left,
+    c .if3 .left,
+  ),
+  tt,
+)
 
 pub begin-spec : {M : Type 1} → statement M
 begin-spec =

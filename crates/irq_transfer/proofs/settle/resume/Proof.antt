@@ -13,7 +13,8 @@ enum-known-p c = search needs
 
 after-iso-look-requires : tie.Need-after-iso-look-requires
 unfolding fitsAt
-after-iso-look-requires c κs = wider _ 2 (omega arith) (settle-told _ _ (c .before .before .before .args .v) (c .before .p .given .1) (c .before .before .before .pre))
+after-iso-look-requires c κs = wider _ 2 (omega arith)
+    (settle-told _ _ (c .before .before .before .args .v) (c .before .p .given .1) (c .before .before .before .pre))
 
 enum-told : tie.Need-enum-told
 enum-told c = search needs
@@ -37,7 +38,8 @@ enum-known-p-3 c = search needs
 
 after-bulk-look-requires : tie.Need-after-bulk-look-requires
 unfolding fitsAt
-after-bulk-look-requires c κs = wider _ 2 (omega arith) (settle-told _ _ (c .before .before .before .args .v) (c .before .p3 .given .1) (c .before .before .before .pre))
+after-bulk-look-requires c κs = wider _ 2 (omega arith)
+    (settle-told _ _ (c .before .before .before .args .v) (c .before .p3 .given .1) (c .before .before .before .pre))
 
 enum-told-2 : tie.Need-enum-told-2
 enum-told-2 c = search needs

@@ -25,7 +25,13 @@ endpoint-requires-2 c κs = search needs
 
 returns-3 : tie.Need-returns-3
 unfolding sameOut
-returns-3 c = simp (ne-eqb _ _ (c .before .before .before .before .if1 .left), ← c .before .before .before .is-out .ensures, not-false (c .before .before .before .is-out .result) (c .before .before .if2 .left), c .before .endpoint .ensures, c .endpoint2 .ensures)
+returns-3 c = simp (
+  ne-eqb _ _ (c .before .before .before .before .if1 .left),
+  ← c .before .before .before .is-out .ensures,
+  not-false (c .before .before .before .is-out .result) (c .before .before .if2 .left),
+  c .before .endpoint .ensures,
+  c .endpoint2 .ensures,
+)
 
 pub same-out-spec : {M : Type 1} → statement M
 same-out-spec =

@@ -15,14 +15,23 @@ is-out-requires c κs = search needs
 
 returns-2 : tie.Need-returns-2
 unfolding waitsForIso
-returns-2 c = simp (not-false (c .before .before .before .before .args .x .busy) (c .before .before .if1 .left), ← c .before .is-out .ensures, not-true (c .before .is-out .result) (c .if2 .taken))
+returns-2 c = simp (
+  not-false (c .before .before .before .before .args .x .busy) (c .before .before .if1 .left),
+  ← c .before .is-out .ensures,
+  not-true (c .before .is-out .result) (c .if2 .taken),
+)
 
 is-on-requires : tie.Need-is-on-requires
 is-on-requires c κs = search needs
 
 returns-3 : tie.Need-returns-3
 unfolding waitsForIso
-returns-3 c = simp (not-false (c .before .before .before .before .before .args .x .busy) (c .before .before .before .if1 .left), ← c .before .before .is-out .ensures, not-false (c .before .before .is-out .result) (c .before .if2 .left), ← c .is-on .ensures)
+returns-3 c = simp (
+  not-false (c .before .before .before .before .before .args .x .busy) (c .before .before .before .if1 .left),
+  ← c .before .before .is-out .ensures,
+  not-false (c .before .before .is-out .result) (c .before .if2 .left),
+  ← c .is-on .ensures,
+)
 
 pub waits-for-iso-spec : {M : Type 1} → statement M
 waits-for-iso-spec =

@@ -20,7 +20,13 @@ ctrl-of-requires c κs = search needs
 
 returns : tie.Need-returns
 unfolding afterWait
-returns c = (λ d b. simp (c .ctrl-of .ensures, wait-over _ _ (over-told _ _ _ _ _ (c .before .before .before .byte .ensures) (c .before .before .over .ensures) (c .before .if1 .taken))), simp (c .ctrl-of .ensures, word-width))
+returns c = (
+  λ d b. simp (
+    c .ctrl-of .ensures,
+    wait-over _ _ (over-told _ _ _ _ _ (c .before .before .before .byte .ensures) (c .before .before .over .ensures) (c .before .if1 .taken)),
+  ),
+  simp (c .ctrl-of .ensures, word-width),
+)
 
 sub-t12 : tie.Need-sub-t12
 sub-t12 c = let h = some-left _ _ (over-told _ _ _ _ _ (c .before .before .byte .ensures) (c .before .over .ensures) (c .if1 .left)) in omega (arith, h)

@@ -24,11 +24,32 @@ ctrl-of-requires c κs = search needs
 
 returns : tie.Need-returns
 unfolding afterWord
-returns c = (λ b. simp (c .ctrl-of .ensures, ← c .before .before .is-on .ensures, c .before .if2 .taken, ← c .before .before .before .before .repeated .ensures, c .before .before .before .if1 .taken, ← c .before .before .before .before .before .load-ep .ensures, ← c .before .before .before .before .before .before .before .byte .ensures), (refl, simp (c .ctrl-of .ensures, word-width)))
+returns c = (
+  λ b. simp (
+    c .ctrl-of .ensures,
+    ← c .before .before .is-on .ensures,
+    c .before .if2 .taken,
+    ← c .before .before .before .before .repeated .ensures,
+    c .before .before .before .if1 .taken,
+    ← c .before .before .before .before .before .load-ep .ensures,
+    ← c .before .before .before .before .before .before .before .byte .ensures,
+  ),
+  (refl, simp (c .ctrl-of .ensures, word-width)),
+)
 
 returns-2 : tie.Need-returns-2
 unfolding afterWord
-returns-2 c = (λ b. simp (← c .before .is-on .ensures, c .if2 .left, ← c .before .before .before .repeated .ensures, c .before .before .if1 .taken, ← c .before .before .before .before .load-ep .ensures, ← c .before .before .before .before .before .before .byte .ensures), (refl, tt))
+returns-2 c = (
+  λ b. simp (
+    ← c .before .is-on .ensures,
+    c .if2 .left,
+    ← c .before .before .before .repeated .ensures,
+    c .before .before .if1 .taken,
+    ← c .before .before .before .before .load-ep .ensures,
+    ← c .before .before .before .before .before .before .byte .ensures,
+  ),
+  (refl, tt),
+)
 
 data1-requires : tie.Need-data1-requires
 data1-requires c κs = search needs
@@ -38,7 +59,17 @@ store-ep-requires c κs = search needs
 
 returns-3 : tie.Need-returns-3
 unfolding afterWord
-returns-3 c = (λ b. simp (c .store-ep .ensures .0, ← c .before .before .data1 .ensures, ← c .before .before .before .before .repeated .ensures, c .before .before .before .if1 .left, ← c .before .before .before .before .before .load-ep .ensures, ← c .before .before .before .before .before .before .before .byte .ensures), (c .store-ep .ensures .1, tt))
+returns-3 c = (
+  λ b. simp (
+    c .store-ep .ensures .0,
+    ← c .before .before .data1 .ensures,
+    ← c .before .before .before .before .repeated .ensures,
+    c .before .before .before .if1 .left,
+    ← c .before .before .before .before .before .load-ep .ensures,
+    ← c .before .before .before .before .before .before .before .byte .ensures,
+  ),
+  (c .store-ep .ensures .1, tt),
+)
 
 pub after-word-spec : {M : Type 1} → statement M
 after-word-spec =

@@ -13,7 +13,8 @@ enum-known-p c = search needs
 
 after-look-requires : tie.Need-after-look-requires
 unfolding fitsAt
-after-look-requires c κs = wider _ 2 (omega arith) (toggled-told _ _ (c .before .before .before .args .v) (c .before .p .given .1) (c .before .before .before .pre))
+after-look-requires c κs = wider _ 2 (omega arith)
+    (toggled-told _ _ (c .before .before .before .args .v) (c .before .p .given .1) (c .before .before .before .pre))
 
 enum-told : tie.Need-enum-told
 enum-told c = search needs

@@ -26,7 +26,19 @@ go-on-requires : tie.Need-go-on-requires
 go-on-requires c κs = search needs
 
 returns : tie.Need-returns
-returns c = (λ b. simp (c .go-on .ensures .0, c .before .before .frame-of-index .ensures, c .before .before .before .completions .ensures, c .before .before .before .before .load-paced .ensures, c .before .before .before .before .before .before .microframe-index .ensures, c .before .before .before .before .before .before .before .half .ensures), (c .go-on .ensures .1 .0, c .go-on .ensures .1 .1))
+returns c = (
+  λ b. simp (
+    c .go-on .ensures .0,
+    c .before .before .frame-of-index .ensures,
+    c .before .before .before .completions .ensures,
+    c .before .before .before .before .load-paced .ensures,
+    c .before .before .before .before .before .before .microframe-index .ensures,
+    c .before .before .before .before .before .before .before .half .ensures,
+  ),
+  (c .go-on .ensures .1 .0, c .go-on .ensures .1 .1),
+)
 
 pub after-frame-no-spec : {M : Type 1} → statement M
-after-frame-no-spec = tie.close (tie.spec half-requires microframe-index-requires load-paced-requires completions-requires frame-of-index-requires cast-go-on go-on-requires returns)
+after-frame-no-spec = tie.close
+    (tie.spec half-requires microframe-index-requires
+    load-paced-requires completions-requires frame-of-index-requires cast-go-on go-on-requires returns)

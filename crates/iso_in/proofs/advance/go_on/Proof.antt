@@ -10,7 +10,10 @@ store-paced-requires : tie.Need-store-paced-requires
 store-paced-requires c κs = search needs
 
 returns : tie.Need-returns
-returns c = (λ b. ap (λ (d : Driver). ends 0 (d, b)) (c .store-paced .ensures .0) ∙ sym (paced-none _ _ _ _ b (c .before .before .if1 .taken)), (c .store-paced .ensures .1, tt))
+returns c = (
+  λ b. ap (λ (d : Driver). ends 0 (d, b)) (c .store-paced .ensures .0) ∙ sym (paced-none _ _ _ _ b (c .before .before .if1 .taken)),
+  (c .store-paced .ensures .1, tt),
+)
 
 sub-more : tie.Need-sub-more
 sub-more c = search needs
@@ -19,7 +22,10 @@ start-requires : tie.Need-start-requires
 start-requires c κs = search needs
 
 returns-2 : tie.Need-returns-2
-returns-2 c = (λ b. paced-begun _ _ _ (c .start .result .access) (c .start .result .point) _ _ b (c .before .before .if1 .left) (c .start .ensures .0 b), (c .start .ensures .1 .0, c .start .ensures .1 .1))
+returns-2 c = (
+  λ b. paced-begun _ _ _ (c .start .result .access) (c .start .result .point) _ _ b (c .before .before .if1 .left) (c .start .ensures .0 b),
+  (c .start .ensures .1 .0, c .start .ensures .1 .1),
+)
 
 pub go-on-spec : {M : Type 1} → statement M
 go-on-spec = tie.close (tie.spec store-paced-requires returns sub-more start-requires returns-2)

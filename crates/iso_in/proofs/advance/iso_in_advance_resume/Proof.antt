@@ -16,10 +16,16 @@ after-completing-requires : tie.Need-after-completing-requires
 after-completing-requires c κs = search needs
 
 returns : tie.Need-returns
-returns c = (λ b. simp (c .after-frame-no .ensures .0, c .before .before .before .p .given .1), (c .after-frame-no .ensures .1 .0, c .after-frame-no .ensures .1 .1))
+returns c = (
+  λ b. simp (c .after-frame-no .ensures .0, c .before .before .before .p .given .1),
+  (c .after-frame-no .ensures .1 .0, c .after-frame-no .ensures .1 .1),
+)
 
 returns-2 : tie.Need-returns-2
-returns-2 c = (λ b. simp (c .after-completing .ensures .0 (c .before .before .before .before .before .args .v), c .before .before .before .p2 .given .1), (c .after-completing .ensures .1 .0, c .after-completing .ensures .1 .1))
+returns-2 c = (
+  λ b. simp (c .after-completing .ensures .0 (c .before .before .before .before .before .args .v), c .before .before .before .p2 .given .1),
+  (c .after-completing .ensures .1 .0, c .after-completing .ensures .1 .1),
+)
 
 pub iso-in-advance-resume-spec : {M : Type 1} → statement M
 iso-in-advance-resume-spec = tie.close (tie.spec enum-known-p after-frame-no-requires enum-known-p-2 after-completing-requires returns returns-2)

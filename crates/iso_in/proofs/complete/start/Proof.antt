@@ -13,10 +13,22 @@ send-requires : tie.Need-send-requires
 send-requires c κs = search needs
 
 returns : tie.Need-returns
-returns c = (λ b. simp (← c .before .before .before .before .before .complete .ensures .0, ← c .before .before .before .waiting .ensures, c .before .before .if1 .taken, c .send .ensures .0, c .send .ensures .1 .0), (c .send .ensures .1 .1 ∙ c .before .before .before .before .before .complete .ensures .1, refl))
+returns c = (
+  λ b. simp (
+    ← c .before .before .before .before .before .complete .ensures .0,
+    ← c .before .before .before .waiting .ensures,
+    c .before .before .if1 .taken,
+    c .send .ensures .0,
+    c .send .ensures .1 .0,
+  ),
+  (c .send .ensures .1 .1 ∙ c .before .before .before .before .before .complete .ensures .1, refl),
+)
 
 returns-2 : tie.Need-returns-2
-returns-2 c = (λ b. simp (← c .before .before .before .complete .ensures .0, ← c .before .waiting .ensures, c .if1 .left), (c .before .before .before .complete .ensures .1, refl))
+returns-2 c = (
+  λ b. simp (← c .before .before .before .complete .ensures .0, ← c .before .waiting .ensures, c .if1 .left),
+  (c .before .before .before .complete .ensures .1, refl),
+)
 
 pub start-spec : {M : Type 1} → statement M
 start-spec = tie.close (tie.spec complete-requires waiting-requires send-requires returns returns-2)

@@ -14,7 +14,10 @@ walk-requires c κs = search needs
 
 returns : tie.Need-returns
 unfolding walking
-returns c = (λ b. simp (c .walk .ensures .0, c .before .iso-in-every .ensures, c .before .before .before .load-globals .ensures), (c .walk .ensures .1 .0, c .walk .ensures .1 .1))
+returns c = (
+  λ b. simp (c .walk .ensures .0, c .before .iso-in-every .ensures, c .before .before .before .load-globals .ensures),
+  (c .walk .ensures .1 .0, c .walk .ensures .1 .1),
+)
 
 pub begin-spec : {M : Type 1} → statement M
 begin-spec = tie.close (tie.spec load-globals-requires iso-in-every-requires walk-requires returns)

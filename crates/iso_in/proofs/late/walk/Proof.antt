@@ -17,7 +17,11 @@ enum-told : tie.Need-enum-told
 enum-told c = search needs
 
 returns : tie.Need-returns
-returns c = (λ b. late-at _ _ _ _ (c .start .result .access) (c .start .result .point) _ _ b _ (c .before .before .before .f .given .1) (c .before .before .before .before .before .find .ensures .0 b) (c .start .ensures .0 b), (c .start .ensures .1 .0 ∙ c .before .before .before .before .before .find .ensures .1, c .start .ensures .1 .1))
+returns c = (
+  λ b. late-at _ _ _ _ (c .start .result .access) (c .start .result .point) _ _ b _ (c .before .before .before .f .given .1)
+      (c .before .before .before .before .before .find .ensures .0 b) (c .start .ensures .0 b),
+  (c .start .ensures .1 .0 ∙ c .before .before .before .before .before .find .ensures .1, c .start .ensures .1 .1),
+)
 
 returns-2 : tie.Need-returns-2
 returns-2 c = (λ b. simp (← c .before .before .find .ensures .0, c .enum-told .given .1), (c .before .before .find .ensures .1, tt))

@@ -13,7 +13,15 @@ unseen-requires : tie.Need-unseen-requires
 unseen-requires c κs = search needs
 
 returns : tie.Need-returns
-returns c = (λ b. simp (c .unseen .ensures .0, ← c .before .before .before .before .byte .ensures, ← c .before .before .before .sie-free .ensures, c .before .before .if1 .taken), (c .unseen .ensures .1 .0, c .unseen .ensures .1 .1))
+returns c = (
+  λ b. simp (
+    c .unseen .ensures .0,
+    ← c .before .before .before .before .byte .ensures,
+    ← c .before .before .before .sie-free .ensures,
+    c .before .before .if1 .taken,
+  ),
+  (c .unseen .ensures .1 .0, c .unseen .ensures .1 .1),
+)
 
 returns-2 : tie.Need-returns-2
 returns-2 c = (λ b. simp (← c .before .before .byte .ensures, ← c .before .sie-free .ensures, c .if1 .left), (refl, refl))

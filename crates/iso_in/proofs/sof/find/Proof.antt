@@ -33,18 +33,40 @@ in-previous-requires : tie.Need-in-previous-requires Inv-loop μ-loop
 in-previous-requires c κs = search needs
 
 returns : tie.Need-returns Inv-loop μ-loop
-returns c = λ b. sym (sof-step (c .before .before .before .before .before .before .before .args .frame) (c .before .before .before .before .before .before .loop .eps) _ _ (view (c .before .before .before .before .before .before .before .args .s .now), b) _ _ false (omega arith) (c .before .before .before .before .before .before .loop .inv .0) (c .before .before .before .before .next-endpoint .ensures) (c .before .before .before .rest-of .ensures) (c .before .before .load-ep .ensures) (c .before .in-previous .ensures) (not-true (c .before .in-previous .result) (c .if1 .taken))) ∙ c .before .before .before .before .before .before .loop .inv .1 b
+returns c = λ b. sym (sof-step (c .before .before .before .before .before .before .before .args .frame)
+    (c .before .before .before .before .before .before .loop .eps) _ _ (
+      view (c .before .before .before .before .before .before .before .args .s .now),
+      b,
+    ) _ _ false (omega arith) (c .before .before .before .before .before .before .loop .inv .0)
+    (c .before .before .before .before .next-endpoint .ensures) (c .before .before .before .rest-of .ensures)
+    (c .before .before .load-ep .ensures) (c .before .in-previous .ensures) (not-true (c .before .in-previous .result) (c .if1 .taken)))
+    ∙ c .before .before .before .before .before .before .loop .inv .1 b
 
 loop-less : tie.Need-loop-less Inv-loop μ-loop
-loop-less c = rest-less (c .before .before .before .before .before .before .loop .eps) _ (omega arith) (c .before .before .before .before .before .before .loop .inv .0) (c .before .before .before .rest-of .ensures)
+loop-less c = rest-less (c .before .before .before .before .before .before .loop .eps) _ (omega arith)
+    (c .before .before .before .before .before .before .loop .inv .0) (c .before .before .before .rest-of .ensures)
 
 loop-again : tie.Need-loop-again Inv-loop μ-loop
 loop-again c =
-    let h = rest-less (c .before .before .before .before .before .before .loop .eps) _ (omega arith) (c .before .before .before .before .before .before .loop .inv .0) (c .before .before .before .rest-of .ensures) in
-    (omega (arith, h, c .before .before .before .before .before .before .loop .inv .0), λ b. sym (sof-step (c .before .before .before .before .before .before .before .args .frame) (c .before .before .before .before .before .before .loop .eps) _ _ (view (c .before .before .before .before .before .before .before .args .s .now), b) _ _ true (omega arith) (c .before .before .before .before .before .before .loop .inv .0) (c .before .before .before .before .next-endpoint .ensures) (c .before .before .before .rest-of .ensures) (c .before .before .load-ep .ensures) (c .before .in-previous .ensures) (not-false (c .before .in-previous .result) (c .if1 .left))) ∙ c .before .before .before .before .before .before .loop .inv .1 b)
+    let h = rest-less (c .before .before .before .before .before .before .loop .eps) _ (omega arith)
+    (c .before .before .before .before .before .before .loop .inv .0) (c .before .before .before .rest-of .ensures) in (
+      omega (arith, h, c .before .before .before .before .before .before .loop .inv .0),
+      λ b. sym (sof-step (c .before .before .before .before .before .before .before .args .frame)
+          (c .before .before .before .before .before .before .loop .eps) _ _ (
+            view (c .before .before .before .before .before .before .before .args .s .now),
+            b,
+          ) _ _ true (omega arith) (c .before .before .before .before .before .before .loop .inv .0)
+          (c .before .before .before .before .next-endpoint .ensures) (c .before .before .before .rest-of .ensures)
+          (c .before .before .load-ep .ensures) (c .before .in-previous .ensures) (not-false (c .before .in-previous .result) (c .if1 .left)))
+          ∙ c .before .before .before .before .before .before .loop .inv .1 b,
+    )
 
 returns-2 : tie.Need-returns-2 Inv-loop μ-loop
-returns-2 c = λ b. sym (sof-none (c .before .before .args .frame) (c .before .loop .eps) (view (c .before .before .args .s .now), b) (c .loop-test .left)) ∙ c .before .loop .inv .1 b
+returns-2 c = λ b.
+    sym (sof-none (c .before .before .args .frame) (c .before .loop .eps) (view (c .before .before .args .s .now), b) (c .loop-test .left))
+    ∙ c .before .loop .inv .1 b
 
 pub find-spec : {M : Type 1} → statement M
-find-spec = tie.close (tie.spec Inv-loop μ-loop loop-holds next-endpoint-requires rest-of-requires load-ep-requires in-previous-requires returns loop-less loop-again returns-2)
+find-spec = tie.close
+    (tie.spec Inv-loop μ-loop loop-holds next-endpoint-requires
+    rest-of-requires load-ep-requires in-previous-requires returns loop-less loop-again returns-2)

@@ -14,7 +14,12 @@ start-requires : tie.Need-start-requires
 start-requires c κs = search needs
 
 returns : tie.Need-returns
-returns c = (λ b. sof-begun (c .before .before .before .before .before .args .frame) (c .before .before .before .before .before .args .e) (c .before .before .before .before .before .args .m) _ (c .start .result .access) (c .start .result .point) _ _ _ b (c .start .ensures .0 b) (c .before .before .record-frame .ensures .0) (c .before .before .before .frame-before .ensures), (c .start .ensures .1 .0 ∙ c .before .before .record-frame .ensures .1, c .start .ensures .1 .1))
+returns c = (
+  λ b. sof-begun (c .before .before .before .before .before .args .frame) (c .before .before .before .before .before .args .e)
+      (c .before .before .before .before .before .args .m) _ (c .start .result .access) (c .start .result .point) _ _ _ b
+      (c .start .ensures .0 b) (c .before .before .record-frame .ensures .0) (c .before .before .before .frame-before .ensures),
+  (c .start .ensures .1 .0 ∙ c .before .before .record-frame .ensures .1, c .start .ensures .1 .1),
+)
 
 pub unseen-spec : {M : Type 1} → statement M
 unseen-spec = tie.close (tie.spec frame-before-requires record-frame-requires start-requires returns)

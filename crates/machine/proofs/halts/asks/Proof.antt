@@ -13,7 +13,10 @@ store-saved-requires : tie.Need-store-saved-requires
 store-saved-requires c κs = search needs
 
 returns : tie.Need-returns
-returns c = (λ u e out b. simp (c .store-saved .ensures .0, c .store-saved .ensures .1, ap decode (sym e) ∙ decode-encode u), λ u e xs. canonical u _ (c .store-saved .ensures .1 ∙ sym e))
+returns c = (
+  λ u e out b. simp (c .store-saved .ensures .0, c .store-saved .ensures .1, ap decode (sym e) ∙ decode-encode u),
+  λ u e xs. canonical u _ (c .store-saved .ensures .1 ∙ sym e),
+)
 
 pub asks-spec : {M : Type 1} → statement M
 asks-spec =

@@ -35,19 +35,41 @@ asks-requires : tie.Need-asks-requires
 asks-requires c κs = search needs
 
 returns : tie.Need-returns
-returns c = (λ out b. ends-idle (decode (saved (now (c .before .before .before .args .s)))) (view (now (c .before .before .before .args .s))) b _ (c .before .before .before .pre .1) ∙ simp (c .before .n .given .1), refl)
+returns c = (
+  λ out b. ends-idle (decode (saved (now (c .before .before .before .args .s))))
+      (view (now (c .before .before .before .args .s))) b _ (c .before .before .before .pre .1) ∙ simp (c .before .n .given .1),
+  refl,
+)
 
 returns-2 : tie.Need-returns-2
-returns-2 c = (λ out b. ends-idle (decode (saved (now (c .before .before .args .s)))) (view (now (c .before .before .args .s))) b _ (c .before .before .pre .1) ∙ simp (c .enum-told .given .1), refl)
+returns-2 c = (
+  λ out b. ends-idle (decode (saved (now (c .before .before .args .s))))
+      (view (now (c .before .before .args .s))) b _ (c .before .before .pre .1) ∙ simp (c .enum-told .given .1),
+  refl,
+)
 
 returns-3 : tie.Need-returns-3
-returns-3 c = (λ out b. ends-idle (decode (saved (now (c .before .before .before .args .s)))) (view (now (c .before .before .before .args .s))) b _ (c .before .before .before .pre .1) ∙ simp (c .before .n2 .given .1), refl)
+returns-3 c = (
+  λ out b. ends-idle (decode (saved (now (c .before .before .before .args .s))))
+      (view (now (c .before .before .before .args .s))) b _ (c .before .before .before .pre .1) ∙ simp (c .before .n2 .given .1),
+  refl,
+)
 
 returns-4 : tie.Need-returns-4
-returns-4 c = (λ out b. ends-idle (decode (saved (now (c .before .before .before .args .s)))) (view (now (c .before .before .before .args .s))) b _ (c .before .before .before .pre .1) ∙ simp (c .before .n3 .given .1), refl)
+returns-4 c = (
+  λ out b. ends-idle (decode (saved (now (c .before .before .before .args .s))))
+      (view (now (c .before .before .before .args .s))) b _ (c .before .before .before .pre .1) ∙ simp (c .before .n3 .given .1),
+  refl,
+)
 
 returns-5 : tie.Need-returns-5
-returns-5 c = (λ out b. c .asks .ensures .0 _ (as-control _ _ (c .before .encode .ensures)) out b ∙ simp (c .before .before .before .before .n4 .given .1, linked-polled _ _ _ (c .before .before .before .before .n4 .given .1) (c .before .before .before .before .before .before .pre .0)), c .asks .ensures .1 _ (as-control _ _ (c .before .encode .ensures)) _)
+returns-5 c = (
+  λ out b. c .asks .ensures .0 _ (as-control _ _ (c .before .encode .ensures)) out b ∙ simp (
+    c .before .before .before .before .n4 .given .1,
+    linked-polled _ _ _ (c .before .before .before .before .n4 .given .1) (c .before .before .before .before .before .before .pre .0),
+  ),
+  c .asks .ensures .1 _ (as-control _ _ (c .before .encode .ensures)) _,
+)
 
 pub polled-control-spec : {M : Type 1} → statement M
 polled-control-spec =

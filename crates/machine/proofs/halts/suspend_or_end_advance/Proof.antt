@@ -26,7 +26,13 @@ ended-requires : tie.Need-ended-requires
 ended-requires c κs = search needs
 
 returns : tie.Need-returns
-returns c = (λ b. c .asks .ensures .0 _ (as-advance _ _ (c .before .encode .ensures)) [] b ∙ simp (c .before .before .before .before .n .given .1, linked-advance _ _ _ (c .before .before .before .before .n .given .1) (c .before .before .before .before .before .before .pre)), c .asks .ensures .1 _ (as-advance _ _ (c .before .encode .ensures)))
+returns c = (
+  λ b. c .asks .ensures .0 _ (as-advance _ _ (c .before .encode .ensures)) [] b ∙ simp (
+    c .before .before .before .before .n .given .1,
+    linked-advance _ _ _ (c .before .before .before .before .n .given .1) (c .before .before .before .before .before .before .pre),
+  ),
+  c .asks .ensures .1 _ (as-advance _ _ (c .before .encode .ensures)),
+)
 
 returns-2 : tie.Need-returns-2
 returns-2 c = (λ b. simp (c .ended .ensures .0, c .before .before .before .n2 .given .1), c .ended .ensures .1)

@@ -16,11 +16,21 @@ load-globals-requires c κs = search needs
 
 returns : tie.Need-returns
 unfolding stopOf
-returns c = simp (← c .before .before .before .before .is-idle .ensures, c .before .before .before .if1 .taken, ← c .before .before .load-globals .ensures, eq-eqb _ _ (c .if2 .taken))
+returns c = simp (
+  ← c .before .before .before .before .is-idle .ensures,
+  c .before .before .before .if1 .taken,
+  ← c .before .before .load-globals .ensures,
+  eq-eqb _ _ (c .if2 .taken),
+)
 
 returns-2 : tie.Need-returns-2
 unfolding stopOf
-returns-2 c = simp (← c .before .before .before .before .is-idle .ensures, c .before .before .before .if1 .taken, ← c .before .before .load-globals .ensures, ne-eqb _ _ (c .if2 .left))
+returns-2 c = simp (
+  ← c .before .before .before .before .is-idle .ensures,
+  c .before .before .before .if1 .taken,
+  ← c .before .before .load-globals .ensures,
+  ne-eqb _ _ (c .if2 .left),
+)
 
 returns-3 : tie.Need-returns-3
 unfolding stopOf

@@ -17,8 +17,15 @@ returns : tie.Need-returns
 unfolding listed
 returns c =
     let w = view (now (c .before .before .args .s)) .wakes in
-    let n = c .before .woken-count in
-    (n .ensures ∙ sym (length-take-le (w .count) (w .codes) (omega (arith, sym (n .ensures), c .if1 .taken, view-codes (now (c .before .before .args .s))))), omega (arith, c .if1 .taken))
+    let n = c .before .woken-count in (
+      n .ensures ∙ sym (length-take-le (w .count) (w .codes) (omega (
+        arith,
+        sym (n .ensures),
+        c .if1 .taken,
+        view-codes (now (c .before .before .args .s)),
+      ))),
+      omega (arith, c .if1 .taken),
+    )
 
 returns-2 : tie.Need-returns-2
 unfolding listed

@@ -25,7 +25,15 @@ cast-if1 : tie.Need-cast-if1
 cast-if1 c = search needs
 
 returns : tie.Need-returns
-returns c = (simp (c .before .before .before .alloc-endpoint .ensures, c .before .before .before .before .load-allocator .ensures), (c .before .store-allocator .ensures .0 ∙ allocated-large _ (c .before .before .before .alloc-endpoint .result) (c .before .before .before .before .load-allocator .result) _ _ _ _ _ (c .before .before .before .alloc-endpoint .ensures) (c .before .before .before .before .load-allocator .ensures) (c .if1 .taken), c .before .store-allocator .ensures .1))
+returns c = (
+  simp (c .before .before .before .alloc-endpoint .ensures, c .before .before .before .before .load-allocator .ensures),
+  (
+    c .before .store-allocator .ensures .0 ∙ allocated-large _ (c .before .before .before .alloc-endpoint .result)
+        (c .before .before .before .before .load-allocator .result) _ _ _ _ _ (c .before .before .before .alloc-endpoint .ensures)
+        (c .before .before .before .before .load-allocator .ensures) (c .if1 .taken),
+    c .before .store-allocator .ensures .1,
+  ),
+)
 
 maximum16-requires : tie.Need-maximum16-requires
 maximum16-requires c κs = search needs
@@ -35,7 +43,22 @@ given-requires c κs = search needs
 
 returns-2 : tie.Need-returns-2
 unfolding allocatedOn
-returns-2 c = (simp (c .before .before .before .before .before .before .alloc-endpoint .ensures, c .before .before .before .before .before .before .before .load-allocator .ensures), (simp (c .given .ensures .0, c .before .before .before .before .store-allocator .ensures .0, c .before .before .maximum16 .ensures, c .before .before .before .before .before .before .alloc-endpoint .ensures, c .before .before .before .before .before .before .before .load-allocator .ensures), c .given .ensures .1 ∙ c .before .before .before .before .store-allocator .ensures .1))
+returns-2 c = (
+  simp (
+    c .before .before .before .before .before .before .alloc-endpoint .ensures,
+    c .before .before .before .before .before .before .before .load-allocator .ensures,
+  ),
+  (
+    simp (
+      c .given .ensures .0,
+      c .before .before .before .before .store-allocator .ensures .0,
+      c .before .before .maximum16 .ensures,
+      c .before .before .before .before .before .before .alloc-endpoint .ensures,
+      c .before .before .before .before .before .before .before .load-allocator .ensures,
+    ),
+    c .given .ensures .1 ∙ c .before .before .before .before .store-allocator .ensures .1,
+  ),
+)
 
 pub allocate-spec : {M : Type 1} → statement M
 allocate-spec =

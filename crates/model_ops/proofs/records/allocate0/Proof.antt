@@ -25,7 +25,15 @@ cast-if1 : tie.Need-cast-if1
 cast-if1 c = search needs
 
 returns : tie.Need-returns
-returns c = (simp (c .before .before .before .allocate-ep0 .ensures, c .before .before .before .before .load-allocator .ensures), (c .before .store-allocator .ensures .0 ∙ started-large _ (c .before .before .before .allocate-ep0 .result) (c .before .before .before .before .load-allocator .result) _ (c .before .before .before .allocate-ep0 .ensures) (c .before .before .before .before .load-allocator .ensures) (c .if1 .taken), c .before .store-allocator .ensures .1))
+returns c = (
+  simp (c .before .before .before .allocate-ep0 .ensures, c .before .before .before .before .load-allocator .ensures),
+  (
+    c .before .store-allocator .ensures .0 ∙ started-large _ (c .before .before .before .allocate-ep0 .result)
+        (c .before .before .before .before .load-allocator .result) _ (c .before .before .before .allocate-ep0 .ensures)
+        (c .before .before .before .before .load-allocator .ensures) (c .if1 .taken),
+    c .before .store-allocator .ensures .1,
+  ),
+)
 
 maximum16-requires : tie.Need-maximum16-requires
 maximum16-requires c κs = search needs
@@ -35,7 +43,22 @@ started-requires c κs = search needs
 
 returns-2 : tie.Need-returns-2
 unfolding allocatedEp0
-returns-2 c = (simp (c .before .before .before .before .before .before .allocate-ep0 .ensures, c .before .before .before .before .before .before .before .load-allocator .ensures), (simp (c .started .ensures .0, c .before .before .before .before .store-allocator .ensures .0, c .before .before .maximum16 .ensures, c .before .before .before .before .before .before .allocate-ep0 .ensures, c .before .before .before .before .before .before .before .load-allocator .ensures), c .started .ensures .1 ∙ c .before .before .before .before .store-allocator .ensures .1))
+returns-2 c = (
+  simp (
+    c .before .before .before .before .before .before .allocate-ep0 .ensures,
+    c .before .before .before .before .before .before .before .load-allocator .ensures,
+  ),
+  (
+    simp (
+      c .started .ensures .0,
+      c .before .before .before .before .store-allocator .ensures .0,
+      c .before .before .maximum16 .ensures,
+      c .before .before .before .before .before .before .allocate-ep0 .ensures,
+      c .before .before .before .before .before .before .before .load-allocator .ensures,
+    ),
+    c .started .ensures .1 ∙ c .before .before .before .before .store-allocator .ensures .1,
+  ),
+)
 
 pub allocate0-spec : {M : Type 1} → statement M
 allocate0-spec =

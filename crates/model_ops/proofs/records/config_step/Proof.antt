@@ -27,14 +27,50 @@ set-ep-config-requires c κs = search needs
 
 returns : tie.Need-returns
 unfolding configStep
-returns c = (simp (c .before .before .with-on .ensures, ← c .before .before .before .before .before .load-globals .ensures, ← c .before .before .before .before .before .before .before .load-ep .ensures, ← c .before .before .before .before .is-on .ensures, c .before .before .before .if1 .taken), (simp (c .set-ep-config .ensures .0, c .before .before .with-on .ensures, ← c .before .before .before .before .before .load-globals .ensures, ← c .before .before .before .before .before .before .before .load-ep .ensures, ← c .before .before .before .before .is-on .ensures, c .before .before .before .if1 .taken), c .set-ep-config .ensures .1))
+returns c = (
+  simp (
+    c .before .before .with-on .ensures,
+    ← c .before .before .before .before .before .load-globals .ensures,
+    ← c .before .before .before .before .before .before .before .load-ep .ensures,
+    ← c .before .before .before .before .is-on .ensures,
+    c .before .before .before .if1 .taken,
+  ),
+  (
+    simp (
+      c .set-ep-config .ensures .0,
+      c .before .before .with-on .ensures,
+      ← c .before .before .before .before .before .load-globals .ensures,
+      ← c .before .before .before .before .before .before .before .load-ep .ensures,
+      ← c .before .before .before .before .is-on .ensures,
+      c .before .before .before .if1 .taken,
+    ),
+    c .set-ep-config .ensures .1,
+  ),
+)
 
 set-ep-config-requires-2 : tie.Need-set-ep-config-requires-2
 set-ep-config-requires-2 c κs = search needs
 
 returns-2 : tie.Need-returns-2
 unfolding configStep
-returns-2 c = (simp (← c .before .before .before .before .load-globals .ensures, ← c .before .before .before .before .before .before .load-ep .ensures, ← c .before .before .before .is-on .ensures, c .before .before .if1 .left), (simp (c .set-ep-config2 .ensures .0, ← c .before .before .before .before .load-globals .ensures, ← c .before .before .before .before .before .before .load-ep .ensures, ← c .before .before .before .is-on .ensures, c .before .before .if1 .left), c .set-ep-config2 .ensures .1))
+returns-2 c = (
+  simp (
+    ← c .before .before .before .before .load-globals .ensures,
+    ← c .before .before .before .before .before .before .load-ep .ensures,
+    ← c .before .before .before .is-on .ensures,
+    c .before .before .if1 .left,
+  ),
+  (
+    simp (
+      c .set-ep-config2 .ensures .0,
+      ← c .before .before .before .before .load-globals .ensures,
+      ← c .before .before .before .before .before .before .load-ep .ensures,
+      ← c .before .before .before .is-on .ensures,
+      c .before .before .if1 .left,
+    ),
+    c .set-ep-config2 .ensures .1,
+  ),
+)
 
 pub config-step-spec : {M : Type 1} → statement M
 config-step-spec =

@@ -23,7 +23,15 @@ store-ep-requires c κs = search needs
 
 returns : tie.Need-returns
 unfolding recordGiven
-returns c = (simp (c .store-ep .ensures .0, c .before .endpoint .ensures, c .before .before .before .load-allocator .ensures, c .before .before .before .before .before .load-ep .ensures), c .store-ep .ensures .1)
+returns c = (
+  simp (
+    c .store-ep .ensures .0,
+    c .before .endpoint .ensures,
+    c .before .before .before .load-allocator .ensures,
+    c .before .before .before .before .before .load-ep .ensures,
+  ),
+  c .store-ep .ensures .1,
+)
 
 pub give-record-spec : {M : Type 1} → statement M
 give-record-spec =

@@ -26,7 +26,10 @@ returns c = (simp (c .before .a .given .1), refl)
 
 returns-2 : tie.Need-returns-2
 unfolding givenTo
-returns-2 c = (simp (c .give-sets .ensures .0, c .before .before .give-record .ensures .0, c .before .before .before .before .before .a2 .given .1), c .give-sets .ensures .1 ∙ c .before .before .give-record .ensures .1)
+returns-2 c = (
+  simp (c .give-sets .ensures .0, c .before .before .give-record .ensures .0, c .before .before .before .before .before .a2 .given .1),
+  c .give-sets .ensures .1 ∙ c .before .before .give-record .ensures .1,
+)
 
 pub given-spec : {M : Type 1} → statement M
 given-spec =

@@ -24,7 +24,15 @@ receiving-requires c κs = search needs
 
 returns : tie.Need-returns
 unfolding placeOn
-returns c = (simp (c .before .before .before .before .before .load-ep .ensures, c .before .before .before .enum-told2 .given .1, ← c .before .receiving .ensures, c .if1 .taken), (simp (c .before .before .before .enum-told2 .given .1, ← c .before .receiving .ensures, c .if1 .taken), refl))
+returns c = (
+  simp (
+    c .before .before .before .before .before .load-ep .ensures,
+    c .before .before .before .enum-told2 .given .1,
+    ← c .before .receiving .ensures,
+    c .if1 .taken,
+  ),
+  (simp (c .before .before .before .enum-told2 .given .1, ← c .before .receiving .ensures, c .if1 .taken), refl),
+)
 
 armed-requires : tie.Need-armed-requires
 armed-requires c κs = search needs
@@ -38,7 +46,25 @@ returns-2 c = (simp (c .enum-told .given .1, c .before .before .load-ep .ensures
 
 returns-3 : tie.Need-returns-3
 unfolding placeOn
-returns-3 c = (simp (c .before .before .before .before .before .before .before .before .load-ep .ensures, c .before .before .before .before .before .before .enum-told2 .given .1, ← c .before .before .before .before .receiving .ensures, c .before .before .before .if1 .left), (simp (c .store-ep .ensures .0, c .before .armed .ensures, c .before .before .before .before .before .before .enum-told2 .given .1, ← c .before .before .before .before .receiving .ensures, c .before .before .before .if1 .left, c .before .before .before .before .before .before .before .before .load-ep .ensures), c .store-ep .ensures .1))
+returns-3 c = (
+  simp (
+    c .before .before .before .before .before .before .before .before .load-ep .ensures,
+    c .before .before .before .before .before .before .enum-told2 .given .1,
+    ← c .before .before .before .before .receiving .ensures,
+    c .before .before .before .if1 .left,
+  ),
+  (
+    simp (
+      c .store-ep .ensures .0,
+      c .before .armed .ensures,
+      c .before .before .before .before .before .before .enum-told2 .given .1,
+      ← c .before .before .before .before .receiving .ensures,
+      c .before .before .before .if1 .left,
+      c .before .before .before .before .before .before .before .before .load-ep .ensures,
+    ),
+    c .store-ep .ensures .1,
+  ),
+)
 
 pub place-spec : {M : Type 1} → statement M
 place-spec =

@@ -29,7 +29,16 @@ set-ep-config-requires c κs = search needs
 
 returns-2 : tie.Need-returns-2
 unfolding enabledOn configured
-returns-2 c = (simp (c .set-ep-config .ensures .0, c .before .with-on .ensures, c .before .before .before .load-globals .ensures, ← c .before .before .before .before .before .before .iso-out .ensures, c .before .before .before .before .before .if1 .left), c .set-ep-config .ensures .1)
+returns-2 c = (
+  simp (
+    c .set-ep-config .ensures .0,
+    c .before .with-on .ensures,
+    c .before .before .before .load-globals .ensures,
+    ← c .before .before .before .before .before .before .iso-out .ensures,
+    c .before .before .before .before .before .if1 .left,
+  ),
+  c .set-ep-config .ensures .1,
+)
 
 pub set-enabled-spec : {M : Type 1} → statement M
 set-enabled-spec =

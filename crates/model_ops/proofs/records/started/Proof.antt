@@ -26,7 +26,10 @@ returns c = (simp (c .before .a .given .1), refl)
 
 returns-2 : tie.Need-returns-2
 unfolding startedWith
-returns-2 c = (simp (c .store-globals .ensures .0, c .before .before .load-globals .ensures, c .before .before .before .before .before .a2 .given .1), c .store-globals .ensures .1)
+returns-2 c = (
+  simp (c .store-globals .ensures .0, c .before .before .load-globals .ensures, c .before .before .before .before .before .a2 .given .1),
+  c .store-globals .ensures .1,
+)
 
 pub started-spec : {M : Type 1} → statement M
 started-spec =

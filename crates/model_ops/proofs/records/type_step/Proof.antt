@@ -27,14 +27,50 @@ set-ep-type-requires c κs = search needs
 
 returns : tie.Need-returns
 unfolding typeStep
-returns c = (simp (c .before .before .with-on .ensures, ← c .before .before .before .before .before .load-globals .ensures, ← c .before .before .before .before .before .before .before .load-ep .ensures, ← c .before .before .before .before .is-on .ensures, c .before .before .before .if1 .taken), (simp (c .set-ep-type .ensures .0, c .before .before .with-on .ensures, ← c .before .before .before .before .before .load-globals .ensures, ← c .before .before .before .before .before .before .before .load-ep .ensures, ← c .before .before .before .before .is-on .ensures, c .before .before .before .if1 .taken), c .set-ep-type .ensures .1))
+returns c = (
+  simp (
+    c .before .before .with-on .ensures,
+    ← c .before .before .before .before .before .load-globals .ensures,
+    ← c .before .before .before .before .before .before .before .load-ep .ensures,
+    ← c .before .before .before .before .is-on .ensures,
+    c .before .before .before .if1 .taken,
+  ),
+  (
+    simp (
+      c .set-ep-type .ensures .0,
+      c .before .before .with-on .ensures,
+      ← c .before .before .before .before .before .load-globals .ensures,
+      ← c .before .before .before .before .before .before .before .load-ep .ensures,
+      ← c .before .before .before .before .is-on .ensures,
+      c .before .before .before .if1 .taken,
+    ),
+    c .set-ep-type .ensures .1,
+  ),
+)
 
 set-ep-type-requires-2 : tie.Need-set-ep-type-requires-2
 set-ep-type-requires-2 c κs = search needs
 
 returns-2 : tie.Need-returns-2
 unfolding typeStep
-returns-2 c = (simp (← c .before .before .before .before .load-globals .ensures, ← c .before .before .before .before .before .before .load-ep .ensures, ← c .before .before .before .is-on .ensures, c .before .before .if1 .left), (simp (c .set-ep-type2 .ensures .0, ← c .before .before .before .before .load-globals .ensures, ← c .before .before .before .before .before .before .load-ep .ensures, ← c .before .before .before .is-on .ensures, c .before .before .if1 .left), c .set-ep-type2 .ensures .1))
+returns-2 c = (
+  simp (
+    ← c .before .before .before .before .load-globals .ensures,
+    ← c .before .before .before .before .before .before .load-ep .ensures,
+    ← c .before .before .before .is-on .ensures,
+    c .before .before .if1 .left,
+  ),
+  (
+    simp (
+      c .set-ep-type2 .ensures .0,
+      ← c .before .before .before .before .load-globals .ensures,
+      ← c .before .before .before .before .before .before .load-ep .ensures,
+      ← c .before .before .before .is-on .ensures,
+      c .before .before .if1 .left,
+    ),
+    c .set-ep-type2 .ensures .1,
+  ),
+)
 
 pub type-step-spec : {M : Type 1} → statement M
 type-step-spec =

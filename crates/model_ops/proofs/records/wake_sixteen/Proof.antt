@@ -42,7 +42,10 @@ loop-again c =
       omega arith,
       (
         e .0 ∙ ap (λ (d : Driver). withWakes d (woken (a + at .k) (d .wakes))) (at .inv .1 .0)
-            ∙ ap (withWakes w) (sym (all-woken-append (codesFrom a (at .k)) _ (w .wakes)) ∙ ap (λ (l : List ℕ). all-woken l (w .wakes)) (sym (codes-next a (at .k))) ∙ ap (λ (n : ℕ). all-woken (codesFrom a n) (w .wakes)) (sym (add-one (at .k)))),
+            ∙ ap (withWakes w)
+            (sym (all-woken-append (codesFrom a (at .k)) _ (w .wakes))
+            ∙ ap (λ (l : List ℕ). all-woken l (w .wakes)) (sym (codes-next a (at .k)))
+            ∙ ap (λ (n : ℕ). all-woken (codesFrom a n) (w .wakes)) (sym (add-one (at .k)))),
         e .1 ∙ at .inv .1 .1,
       ),
     )

@@ -25,15 +25,31 @@ mask-with-requires-2 c κs = search needs
 
 returns : tie.Need-returns
 unfolding withSets
-returns c = simp (← c .before .before .before .before .before .is-iso .ensures, c .before .before .before .before .if1 .taken, c .before .before .enum-told2 .given .1, c .mask-with2 .ensures, lt-ltb _ _ (c .before .if2 .taken))
+returns c = simp (
+  ← c .before .before .before .before .before .is-iso .ensures,
+  c .before .before .before .before .if1 .taken,
+  c .before .before .enum-told2 .given .1,
+  c .mask-with2 .ensures,
+  lt-ltb _ _ (c .before .if2 .taken),
+)
 
 returns-2 : tie.Need-returns-2
 unfolding withSets
-returns-2 c = simp (← c .before .before .before .before .is-iso .ensures, c .before .before .before .if1 .taken, c .before .enum-told .given .1, c .mask-with .ensures)
+returns-2 c = simp (
+  ← c .before .before .before .before .is-iso .ensures,
+  c .before .before .before .if1 .taken,
+  c .before .enum-told .given .1,
+  c .mask-with .ensures,
+)
 
 returns-3 : tie.Need-returns-3
 unfolding withSets
-returns-3 c = simp (← c .before .before .before .before .is-iso .ensures, c .before .before .before .if1 .taken, c .before .enum-told2 .given .1, le-ltb _ _ (c .if2 .left))
+returns-3 c = simp (
+  ← c .before .before .before .before .is-iso .ensures,
+  c .before .before .before .if1 .taken,
+  c .before .enum-told2 .given .1,
+  le-ltb _ _ (c .if2 .left),
+)
 
 returns-4 : tie.Need-returns-4
 unfolding withSets

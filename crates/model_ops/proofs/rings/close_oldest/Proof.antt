@@ -18,7 +18,16 @@ store-ep-requires c κs = search needs
 
 returns : tie.Need-returns
 unfolding closeOn
-returns c = (simp (c .store-ep .ensures .0, ← c .before .closed .ensures, c .before .before .before .if1 .taken, ← c .before .before .before .before .is-on .ensures, ← c .before .before .before .before .before .load-ep .ensures), c .store-ep .ensures .1)
+returns c = (
+  simp (
+    c .store-ep .ensures .0,
+    ← c .before .closed .ensures,
+    c .before .before .before .if1 .taken,
+    ← c .before .before .before .before .is-on .ensures,
+    ← c .before .before .before .before .before .load-ep .ensures,
+  ),
+  c .store-ep .ensures .1,
+)
 
 returns-2 : tie.Need-returns-2
 unfolding closeOn

@@ -19,7 +19,12 @@ cast-if2 c = search needs
 
 returns-2 : tie.Need-returns-2
 unfolding filledOn
-returns-2 c = simp (lt-ltb _ _ (c .if2 .taken), c .before .before .if1 .left, ← c .before .before .before .is-on .ensures, ← c .before .before .before .before .load-ep .ensures)
+returns-2 c = simp (
+  lt-ltb _ _ (c .if2 .taken),
+  c .before .before .if1 .left,
+  ← c .before .before .before .is-on .ensures,
+  ← c .before .before .before .before .load-ep .ensures,
+)
 
 copy-in-requires : tie.Need-copy-in-requires
 copy-in-requires c κs = search needs
@@ -29,7 +34,13 @@ same-length c = search needs
 
 returns-3 : tie.Need-returns-3
 unfolding filledOn
-returns-3 c = simp (c .before .before .copy-in .ensures, le-ltb _ _ (c .before .before .before .before .if2 .left), c .before .before .before .before .before .before .if1 .left, ← c .before .before .before .before .before .before .before .is-on .ensures, ← c .before .before .before .before .before .before .before .before .load-ep .ensures)
+returns-3 c = simp (
+  c .before .before .copy-in .ensures,
+  le-ltb _ _ (c .before .before .before .before .if2 .left),
+  c .before .before .before .before .before .before .if1 .left,
+  ← c .before .before .before .before .before .before .before .is-on .ensures,
+  ← c .before .before .before .before .before .before .before .before .load-ep .ensures,
+)
 
 pub fill-spec : {M : Type 1} → statement M
 fill-spec = tie.close (tie.spec load-ep-requires is-on-requires returns cast-if2 returns-2 copy-in-requires same-length returns-3)

@@ -22,7 +22,11 @@ same-length c = search needs
 
 returns-2 : tie.Need-returns-2
 unfolding filledEp0
-returns-2 c = simp (c .before .before .copy-in .ensures, le-ltb _ _ (c .before .before .before .before .if1 .left), ← c .before .before .before .before .before .before .load-globals .ensures)
+returns-2 c = simp (
+  c .before .before .copy-in .ensures,
+  le-ltb _ _ (c .before .before .before .before .if1 .left),
+  ← c .before .before .before .before .before .before .load-globals .ensures,
+)
 
 pub fill0-spec : {M : Type 1} → statement M
 fill0-spec = tie.close (tie.spec load-globals-requires cast-if1 returns copy-in-requires same-length returns-2)

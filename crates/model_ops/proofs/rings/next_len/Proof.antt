@@ -23,7 +23,13 @@ load-len-requires c κs = search needs
 
 returns : tie.Need-returns
 unfolding nextLen
-returns c = simp (c .load-len .ensures, c .before .slot-index .ensures, ← c .before .before .before .before .load-ep .ensures, ← c .before .before .before .has-waiting .ensures, c .before .before .if1 .taken)
+returns c = simp (
+  c .load-len .ensures,
+  c .before .slot-index .ensures,
+  ← c .before .before .before .before .load-ep .ensures,
+  ← c .before .before .before .has-waiting .ensures,
+  c .before .before .if1 .taken,
+)
 
 returns-2 : tie.Need-returns-2
 unfolding nextLen

@@ -23,7 +23,13 @@ load-stamp-requires c κs = search needs
 
 returns : tie.Need-returns
 unfolding nextStamp
-returns c = simp (c .load-stamp .ensures, c .before .slot-index .ensures, ← c .before .before .before .before .load-ep .ensures, ← c .before .before .before .has-waiting .ensures, c .before .before .if1 .taken)
+returns c = simp (
+  c .load-stamp .ensures,
+  c .before .slot-index .ensures,
+  ← c .before .before .before .before .load-ep .ensures,
+  ← c .before .before .before .has-waiting .ensures,
+  c .before .before .if1 .taken,
+)
 
 returns-2 : tie.Need-returns-2
 unfolding nextStamp

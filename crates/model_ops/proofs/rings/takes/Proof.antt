@@ -16,18 +16,35 @@ has-room-in-requires c κs = search needs
 
 returns-2 : tie.Need-returns-2
 unfolding roomIn
-returns-2 c = simp (← c .before .has-room-in .ensures, not-true (c .before .has-room-in .result) (c .if2 .taken), ← c .before .before .before .is-on .ensures, not-false (c .before .before .before .is-on .result) (c .before .before .if1 .left))
+returns-2 c = simp (
+  ← c .before .has-room-in .ensures,
+  not-true (c .before .has-room-in .result) (c .if2 .taken),
+  ← c .before .before .before .is-on .ensures,
+  not-false (c .before .before .before .is-on .result) (c .before .before .if1 .left),
+)
 
 cast-if3 : tie.Need-cast-if3
 cast-if3 c = search needs
 
 returns-3 : tie.Need-returns-3
 unfolding roomIn
-returns-3 c = simp (lt-ltb _ _ (c .if3 .taken), ← c .before .before .before .has-room-in .ensures, not-false (c .before .before .before .has-room-in .result) (c .before .before .if2 .left), ← c .before .before .before .before .before .is-on .ensures, not-false (c .before .before .before .before .before .is-on .result) (c .before .before .before .before .if1 .left))
+returns-3 c = simp (
+  lt-ltb _ _ (c .if3 .taken),
+  ← c .before .before .before .has-room-in .ensures,
+  not-false (c .before .before .before .has-room-in .result) (c .before .before .if2 .left),
+  ← c .before .before .before .before .before .is-on .ensures,
+  not-false (c .before .before .before .before .before .is-on .result) (c .before .before .before .before .if1 .left),
+)
 
 returns-4 : tie.Need-returns-4
 unfolding roomIn
-returns-4 c = simp (le-ltb _ _ (c .if3 .left), ← c .before .before .before .has-room-in .ensures, not-false (c .before .before .before .has-room-in .result) (c .before .before .if2 .left), ← c .before .before .before .before .before .is-on .ensures, not-false (c .before .before .before .before .before .is-on .result) (c .before .before .before .before .if1 .left))
+returns-4 c = simp (
+  le-ltb _ _ (c .if3 .left),
+  ← c .before .before .before .has-room-in .ensures,
+  not-false (c .before .before .before .has-room-in .result) (c .before .before .if2 .left),
+  ← c .before .before .before .before .before .is-on .ensures,
+  not-false (c .before .before .before .before .before .is-on .result) (c .before .before .before .before .if1 .left),
+)
 
 pub takes-spec : {M : Type 1} → statement M
 takes-spec = tie.close (tie.spec is-on-requires returns has-room-in-requires returns-2 cast-if3 returns-3 returns-4)

@@ -44,7 +44,13 @@ word-requires c κs = search needs
 
 returns-3 : tie.Need-returns-3
 unfolding wordAt
-returns-3 c = simp (c .word .ensures, le-ltb (length (c .before .before .before .before .before .before .before .before .args .buf .now)) (c .before .before .before .before .before .before .before .before .args .at + 4) (omega arith))
+returns-3 c = simp (
+  c .word .ensures,
+  le-ltb (length (c .before .before .before .before .before .before .before .before .args .buf .now))
+      (c .before .before .before .before .before .before .before .before .args .at + 4) (omega arith),
+)
 
 pub word-at-spec : {M : Type 1} → statement M
-word-at-spec = tie.close (tie.spec returns sub-if2 returns-2 shared-slice-read-word add-word shared-slice-read-word-2 add-word-2 shared-slice-read-word-3 add-word-3 shared-slice-read-word-4 word-requires returns-3)
+word-at-spec = tie.close
+    (tie.spec returns sub-if2 returns-2 shared-slice-read-word add-word shared-slice-read-word-2
+    add-word-2 shared-slice-read-word-3 add-word-3 shared-slice-read-word-4 word-requires returns-3)

@@ -15,11 +15,13 @@ toggle-requires c κs = search needs
 
 returns : tie.Need-returns
 unfolding flip
-returns c = simp (eq-eqb _ _ (sym (c .before .toggle .ensures) ∙ c .if1 .taken)) (toggles (c .before .before .args .word) 1 (c .before .before .fits .word .fits) (omega arith))
+returns c = simp (eq-eqb _ _ (sym (c .before .toggle .ensures) ∙ c .if1 .taken))
+    (toggles (c .before .before .args .word) 1 (c .before .before .fits .word .fits) (omega arith))
 
 returns-2 : tie.Need-returns-2
 unfolding flip
-returns-2 c = simp (ne-eqb _ _ (λ z. c .if1 .left (c .before .toggle .ensures ∙ z))) (toggles-back (c .before .before .args .word) (c .before .before .fits .word .fits))
+returns-2 c = simp (ne-eqb _ _ (λ z. c .if1 .left (c .before .toggle .ensures ∙ z)))
+    (toggles-back (c .before .before .args .word) (c .before .before .fits .word .fits))
 
 pub flip-spec : {M : Type 1} → statement M
 flip-spec = tie.close (tie.spec toggle-requires returns returns-2)

@@ -19,7 +19,8 @@ with-bit-requires c κs = search needs
 
 returns : tie.Need-returns
 unfolding withOn
-returns c = c .with-bit .ensures ∙ ap (λ (x : ℕ). withBit (c .before .before .args .word) x (c .before .before .args .on)) (ap (λ (x : ℕ). x % 32) (c .before .place .ensures) ∙ place-mod (c .before .before .args .dir) (c .before .before .args .endpoint))
+returns c = c .with-bit .ensures ∙ ap (λ (x : ℕ). withBit (c .before .before .args .word) x (c .before .before .args .on))
+    (ap (λ (x : ℕ). x % 32) (c .before .place .ensures) ∙ place-mod (c .before .before .args .dir) (c .before .before .args .endpoint))
 
 pub with-on-spec : {M : Type 1} → statement M
 with-on-spec = tie.close (tie.spec place-requires with-bit-requires returns)

@@ -21,7 +21,11 @@ returns-3 c = ap tokenNumbered (sym (c .match .keys3) ∙ reads-field (c .before
 
 returns-4 : tie.Need-returns-4
 unfolding token tokenNumbered
-returns-4 c = simp (ne-eqb _ _ (λ z. c .match .rest .0 .0 .1 (reads-field (c .before .args .status) 4 2 ∙ z)), ne-eqb _ _ (λ z. c .match .rest .0 .1 (reads-field (c .before .args .status) 4 2 ∙ z)), ne-eqb _ _ (λ z. c .match .rest .1 (reads-field (c .before .args .status) 4 2 ∙ z)))
+returns-4 c = simp (
+  ne-eqb _ _ (λ z. c .match .rest .0 .0 .1 (reads-field (c .before .args .status) 4 2 ∙ z)),
+  ne-eqb _ _ (λ z. c .match .rest .0 .1 (reads-field (c .before .args .status) 4 2 ∙ z)),
+  ne-eqb _ _ (λ z. c .match .rest .1 (reads-field (c .before .args .status) 4 2 ∙ z)),
+)
 
 pub token-spec : {M : Type 1} → statement M
 token-spec = tie.close (tie.spec returns returns-2 returns-3 returns-4)

@@ -57,7 +57,8 @@ returns-2 : tie.Need-returns-2 Inv-loop μ-loop
 returns-2 c =
     let s = c .before .before .before .before .before .before .args in
     let v = c .before .before .before .before .loop in
-    find-gives (view (s .stream .now)) (v .inv .0 .0) (v .at) _ _ _ (v .inv .0 .1) (v .inv .0 .2) (sym (c .before .before .before .step .ensures) ∙ c .before .endpoint .given .1)
+    find-gives (view (s .stream .now)) (v .inv .0 .0) (v .at) _ _ _
+    (v .inv .0 .1) (v .inv .0 .2) (sym (c .before .before .before .step .ensures) ∙ c .before .endpoint .given .1)
 
 pub find-from-spec : {M : Type 1} → statement M
 find-from-spec =

@@ -34,7 +34,8 @@ returns-2 : tie.Need-returns-2
 returns-2 c =
     let s = c .before .before .before .before .before .before .before .args in (
       given-fits (s .at) (s .endpoint) (s .len) (length (s .room .now)) (omega arith),
-      put-fits (view (s .stream .now)) (s .at) (s .endpoint) (s .len) (s .room .now) _ (omega arith) (c .before .before .copy-data .ensures ∙ paste-front (view (s .stream .now)) (s .at + 3) (s .len) (s .room .now)),
+      put-fits (view (s .stream .now)) (s .at) (s .endpoint) (s .len) (s .room .now) _ (omega arith)
+          (c .before .before .copy-data .ensures ∙ paste-front (view (s .stream .now)) (s .at + 3) (s .len) (s .room .now)),
     )
 
 pub give-spec : {M : Type 1} → statement M

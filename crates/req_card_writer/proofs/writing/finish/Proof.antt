@@ -36,7 +36,9 @@ same-length c = search needs
 returns-3 : tie.Need-returns-3
 returns-3 c =
     let s = c .before .before .before .before .before .before .before .before .before .before .before .before .args in
-    finish-last (s .w) (s .block .now) _ _ _ (c .before .before .before .before .before .before .before .before .before .before .if1 .left) (c .before .before .before .before .before .before .before .before .before .used-of .ensures) (c .before .before .before .before .before .before .before .before .if2 .left)
+    finish-last (s .w) (s .block .now) _ _ _ (c .before .before .before .before .before .before .before .before .before .before .if1 .left)
+    (c .before .before .before .before .before .before .before .before .before .used-of .ensures)
+    (c .before .before .before .before .before .before .before .before .if2 .left)
     (c .before .before .before .before .before .before .put-zeros .ensures) (c .before .before .close .ensures)
 
 pub finish-spec : {M : Type 1} → statement M

@@ -29,12 +29,16 @@ returns-3 : tie.Need-returns-3
 returns-3 c =
     let s = c .before .before .before .before .before .before .args in
     ap (λ (u : ℕ). 6 + u) (c .before .used-of .ensures)
-    ∙ first-here (s .w) (s .n) (sym (c .before .before .before .before .before .done-of .ensures) ∙ c .before .before .before .before .if1 .left) (c .before .before .if2 .left) (omega (arith, c .before .used-of .ensures))
+    ∙ first-here (s .w) (s .n)
+    (sym (c .before .before .before .before .before .done-of .ensures) ∙ c .before .before .before .before .if1 .left)
+    (c .before .before .if2 .left) (omega (arith, c .before .used-of .ensures))
 
 returns-4 : tie.Need-returns-4
 returns-4 c =
     let s = c .before .before .before .before .before .before .args in
-    first-full (s .w) (s .n) (sym (c .before .before .before .before .before .done-of .ensures) ∙ c .before .before .before .before .if1 .left) (c .before .before .if2 .left) (omega (arith, c .before .used-of .ensures))
+    first-full (s .w) (s .n)
+    (sym (c .before .before .before .before .before .done-of .ensures) ∙ c .before .before .before .before .if1 .left)
+    (c .before .before .if2 .left) (omega (arith, c .before .used-of .ensures))
 
 pub first-of-spec : {M : Type 1} → statement M
 first-of-spec =

@@ -48,8 +48,12 @@ returns : tie.Need-returns
 returns c =
     let s = c .before .before .before .before .before .before .before .before .before .before .before .before .before .before .before .before .args in
     let p = packetOf (s .endpoint) (s .bytes .now) in
-    block-full (s .w) p (s .block .now) _ _ _ (sym (c .before .before .before .before .before .before .is-full .ensures) ∙ c .before .before .before .before .before .if1 .taken)
-    (piece-in (s .w) p (s .block .now) _ _ _ _ (c .before .before .before .before .before .before .before .before .before .before .before .before .before .used-of .ensures) (c .before .before .before .before .before .before .before .before .before .before .before .before .done-of .ensures) (c .before .before .before .before .before .before .before .before .before .before .before .piece-of .ensures)
+    block-full (s .w) p (s .block .now) _ _ _
+    (sym (c .before .before .before .before .before .before .is-full .ensures) ∙ c .before .before .before .before .before .if1 .taken)
+    (piece-in (s .w) p (s .block .now) _ _ _ _
+    (c .before .before .before .before .before .before .before .before .before .before .before .before .before .used-of .ensures)
+    (c .before .before .before .before .before .before .before .before .before .before .before .before .done-of .ensures)
+    (c .before .before .before .before .before .before .before .before .before .before .before .piece-of .ensures)
     (c .before .before .before .before .before .before .before .before .before .put-piece .ensures))
     (c .before .before .before .before .first-of .ensures) (c .before .before .close .ensures)
 
@@ -61,7 +65,9 @@ returns-2 c =
     let s = c .before .before .before .before .before .before .before .before .before .before .before .args in
     let p = packetOf (s .endpoint) (s .bytes .now) in
     block-part (s .w) p (s .block .now) _ (sym (c .before .is-full .ensures) ∙ c .if1 .left)
-    (piece-in (s .w) p (s .block .now) _ _ _ _ (c .before .before .before .before .before .before .before .before .used-of .ensures) (c .before .before .before .before .before .before .before .done-of .ensures) (c .before .before .before .before .before .before .piece-of .ensures)
+    (piece-in (s .w) p (s .block .now) _ _ _ _ (c .before .before .before .before .before .before .before .before .used-of .ensures)
+    (c .before .before .before .before .before .before .before .done-of .ensures)
+    (c .before .before .before .before .before .before .piece-of .ensures)
     (c .before .before .before .before .put-piece .ensures))
 
 pub put-spec : {M : Type 1} → statement M

@@ -27,7 +27,8 @@ returns-4 : tie.Need-returns-4
 returns-4 c =
     let s = c .before .before .before .before .before .before .args in
     let p = packetOf (s .endpoint) (s .bytes .now) in
-    write-unfit (s .w) p (s .block .now) (unfit-high p (s .block .now) (c .before .before .before .if1 .left) (omega arith) (c .before .if3 .left) (omega arith))
+    write-unfit (s .w) p (s .block .now)
+    (unfit-high p (s .block .now) (c .before .before .before .if1 .left) (omega arith) (c .before .if3 .left) (omega arith))
 
 put-requires : tie.Need-put-requires
 put-requires c κs = search needs
@@ -51,7 +52,8 @@ returns-5 : tie.Need-returns-5
 returns-5 c =
     let s = c .before .before .before .before .before .before .before .before .before .before .before .before .before .args in
     let p = packetOf (s .endpoint) (s .bytes .now) in
-    let f = fit p (s .block .now) (c .before .before .before .before .before .before .before .before .before .before .if1 .left) (omega arith) (c .before .before .before .before .before .before .before .before .if3 .left) (omega arith) in (
+    let f = fit p (s .block .now) (c .before .before .before .before .before .before .before .before .before .before .if1 .left)
+    (omega arith) (c .before .before .before .before .before .before .before .before .if3 .left) (omega arith) in (
       write-answer (s .w) p (s .block .now) _ _ _ f (c .before .before .writer-of .ensures) (c .before .is-full .ensures) (c .is-whole .ensures),
       write-block (s .w) p (s .block .now) _ f (c .before .before .before .before .before .put .ensures),
     )

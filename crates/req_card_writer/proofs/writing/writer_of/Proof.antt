@@ -17,7 +17,8 @@ wrapping-add-u32-requires c κs = search needs
 returns : tie.Need-returns
 returns c =
     let s = c .before .before .before .before .args in
-    writer-full (s .w) (s .n) _ _ (sym (c .before .before .is-full .ensures) ∙ c .before .if1 .taken) (c .wrapping-add-u32 .ensures) (c .before .before .before .done-after .ensures)
+    writer-full (s .w) (s .n) _ _ (sym (c .before .before .is-full .ensures) ∙ c .before .if1 .taken)
+    (c .wrapping-add-u32 .ensures) (c .before .before .before .done-after .ensures)
 
 used-of-requires : tie.Need-used-of-requires
 used-of-requires c κs = search needs
@@ -35,7 +36,8 @@ returns-2 : tie.Need-returns-2
 returns-2 c =
     let s = c .before .before .before .before .before .before .args in
     writer-part (s .w) (s .n) _ _ _ (sym (c .before .before .before .before .is-full .ensures) ∙ c .before .before .before .if1 .left)
-    (ap₂ (λ (a b : ℕ). a + b) (c .before .before .used-of .ensures) (c .before .piece-of .ensures)) (c .first-of .ensures) (c .before .before .before .before .before .done-after .ensures)
+    (ap₂ (λ (a b : ℕ). a + b) (c .before .before .used-of .ensures) (c .before .piece-of .ensures))
+    (c .first-of .ensures) (c .before .before .before .before .before .done-after .ensures)
 
 pub writer-of-spec : {M : Type 1} → statement M
 writer-of-spec =

@@ -25,7 +25,9 @@ element-set-from-list c = search needs
 returns : tie.Need-returns
 returns c =
     let a = c .before .before .before .before .args in
-    rw (c .merged .ensures) (noted-there (a .t1) (a .e) (c .before .before .before .place .result) (c .before .before .before .before .pre .0) (c .before .before .before .place .ensures) (c .before .before .if1 .taken))
+    rw (c .merged .ensures)
+    (noted-there (a .t1) (a .e) (c .before .before .before .place .result) (c .before .before .before .before .pre .0)
+    (c .before .before .before .place .ensures) (c .before .before .if1 .taken))
 
 mul-e : tie.Need-mul-e
 mul-e c = search needs

@@ -22,7 +22,10 @@ same-length : tie.Need-same-length
 same-length c = search needs
 
 returns : tie.Need-returns
-returns c = c .before .before .put .ensures ∙ rw (c .before .before .before .before .before .before .low .ensures, c .before .before .before .before .before .high .ensures)
+returns c = c .before .before .put .ensures ∙ rw (
+  c .before .before .before .before .before .before .low .ensures,
+  c .before .before .before .before .before .high .ensures,
+)
 
 pub endpoint-spec : {M : Type 1} → statement M
 endpoint-spec =

@@ -15,7 +15,12 @@ returns : tie.Need-returns
 returns c = rw (allowed-at, eq-eqb _ _ (c .if1 .taken))
 
 returns-2 : tie.Need-returns-2
-returns-2 c = rw (allowed-at, ne-eqb _ _ (c .before .before .if1 .left), eq-eqb _ _ (c .before .if2 .taken), not-true (c .before .before .before .before .before .args .inside) (c .if3 .taken))
+returns-2 c = rw (
+  allowed-at,
+  ne-eqb _ _ (c .before .before .if1 .left),
+  eq-eqb _ _ (c .before .if2 .taken),
+  not-true (c .before .before .before .before .before .args .inside) (c .if3 .taken),
+)
 
 add-is-clear : tie.Need-add-is-clear
 add-is-clear c = search needs
@@ -29,7 +34,13 @@ is-clear-requires : tie.Need-is-clear-requires
 is-clear-requires c κs = search needs
 
 returns-3 : tie.Need-returns-3
-returns-3 c = rw (allowed-at, ne-eqb _ _ (c .before .before .before .before .if1 .left), eq-eqb _ _ (c .before .before .before .if2 .taken), not-false (c .before .before .before .before .before .before .before .args .inside) (c .before .before .if3 .left), c .is-clear .ensures)
+returns-3 c = rw (
+  allowed-at,
+  ne-eqb _ _ (c .before .before .before .before .if1 .left),
+  eq-eqb _ _ (c .before .before .before .if2 .taken),
+  not-false (c .before .before .before .before .before .before .before .args .inside) (c .before .before .if3 .left),
+  c .is-clear .ensures,
+)
 
 returns-4 : tie.Need-returns-4
 returns-4 c = rw (allowed-at, ne-eqb _ _ (c .before .if1 .left), ne-eqb _ _ (c .if2 .left))

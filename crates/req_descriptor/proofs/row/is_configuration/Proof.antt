@@ -23,7 +23,12 @@ shared-slice-read-if3 c = omega (arith, whole-is _ (sym (c .before .before .is-w
 
 returns-3 : tie.Need-returns-3
 unfolding isConfiguration
-returns-3 c = rw (le-leb _ _ (c .before .before .before .before .if1 .left), ← c .before .before .before .is-whole .ensures, not-false (c .before .before .before .is-whole .result) (c .before .before .if2 .left), ne-eqb _ _ (c .if3 .taken))
+returns-3 c = rw (
+  le-leb _ _ (c .before .before .before .before .if1 .left),
+  ← c .before .before .before .is-whole .ensures,
+  not-false (c .before .before .before .is-whole .result) (c .before .before .if2 .left),
+  ne-eqb _ _ (c .if3 .taken),
+)
 
 total-requires : tie.Need-total-requires
 total-requires c κs =
@@ -34,23 +39,47 @@ total-requires c κs =
 
 returns-4 : tie.Need-returns-4
 unfolding isConfiguration
-returns-4 c = rw (le-leb _ _ (c .before .before .before .before .before .before .if1 .left), ← c .before .before .before .before .before .is-whole .ensures, not-false (c .before .before .before .before .before .is-whole .result) (c .before .before .before .before .if2 .left), eq-eqb _ _ (c .before .before .if3 .left), ← c .before .total .ensures, ne-eqb _ _ (c .if4 .taken))
+returns-4 c = rw (
+  le-leb _ _ (c .before .before .before .before .before .before .if1 .left),
+  ← c .before .before .before .before .before .is-whole .ensures,
+  not-false (c .before .before .before .before .before .is-whole .result) (c .before .before .before .before .if2 .left),
+  eq-eqb _ _ (c .before .before .if3 .left),
+  ← c .before .total .ensures,
+  ne-eqb _ _ (c .if4 .taken),
+)
 
 shared-slice-read-wide : tie.Need-shared-slice-read-wide
-shared-slice-read-wide c = omega (arith, whole-is _ (sym (c .before .before .before .before .before .before .is-whole .ensures) ∙ not-false _ (c .before .before .before .before .before .if2 .left)) .two)
+shared-slice-read-wide c = omega (
+  arith,
+  whole-is _
+      (sym (c .before .before .before .before .before .before .is-whole .ensures)
+      ∙ not-false _ (c .before .before .before .before .before .if2 .left)) .two,
+)
 
 wide-requires : tie.Need-wide-requires
 wide-requires c κs = search needs
 
 is-row-requires : tie.Need-is-row-requires
 is-row-requires c κs =
-    let w = whole-is _ (sym (c .before .before .before .before .before .before .before .is-whole .ensures) ∙ not-false _ (c .before .before .before .before .before .before .if2 .left)) .fits in
+    let w = whole-is _
+    (sym (c .before .before .before .before .before .before .before .is-whole .ensures)
+    ∙ not-false _ (c .before .before .before .before .before .before .if2 .left)) .fits in
     let e = c .wide .ensures in
     omega arith
 
 returns-5 : tie.Need-returns-5
 unfolding isConfiguration
-returns-5 c = rw (le-leb _ _ (c .before .before .before .before .before .before .before .before .before .if1 .left), ← c .before .before .before .before .before .before .before .before .is-whole .ensures, not-false (c .before .before .before .before .before .before .before .before .is-whole .result) (c .before .before .before .before .before .before .before .if2 .left), eq-eqb _ _ (c .before .before .before .before .before .if3 .left), ← c .before .before .before .before .total .ensures, eq-eqb _ _ (c .before .before .before .if4 .left), c .is-row .ensures, c .before .wide .ensures)
+returns-5 c = rw (
+  le-leb _ _ (c .before .before .before .before .before .before .before .before .before .if1 .left),
+  ← c .before .before .before .before .before .before .before .before .is-whole .ensures,
+  not-false (c .before .before .before .before .before .before .before .before .is-whole .result)
+      (c .before .before .before .before .before .before .before .if2 .left),
+  eq-eqb _ _ (c .before .before .before .before .before .if3 .left),
+  ← c .before .before .before .before .total .ensures,
+  eq-eqb _ _ (c .before .before .before .if4 .left),
+  c .is-row .ensures,
+  c .before .wide .ensures,
+)
 
 pub is-configuration-spec : {M : Type 1} → statement M
 is-configuration-spec =

@@ -33,8 +33,19 @@ get32-requires-3 c κs = search needs
 returns : tie.Need-returns
 returns c =
     five (c .before .before .before .before .before .before .before .before .get8x5 .ensures)
-    (five (c .before .before .before .before .before .before .before .get8x52 .ensures)
-    (c .before .before .before .before .before .before .get16 .ensures, (c .before .before .before .before .before .get162 .ensures, (c .before .before .before .before .get163 .ensures, (c .before .before .before .get164 .ensures, (c .before .before .get32 .ensures, (c .before .get322 .ensures, (c .get323 .ensures, tt))))))))
+    (five (c .before .before .before .before .before .before .before .get8x52 .ensures) (
+      c .before .before .before .before .before .before .get16 .ensures,
+      (
+        c .before .before .before .before .before .get162 .ensures,
+        (
+          c .before .before .before .before .get163 .ensures,
+          (
+            c .before .before .before .get164 .ensures,
+            (c .before .before .get32 .ensures, (c .before .get322 .ensures, (c .get323 .ensures, tt))),
+          ),
+        ),
+      ),
+    ))
 
 pub read-ep-spec : {M : Type 1} → statement M
 read-ep-spec =

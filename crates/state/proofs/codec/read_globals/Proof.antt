@@ -31,7 +31,16 @@ returns : tie.Need-returns
 returns c =
     five (c .before .before .before .before .before .before .before .get8x5 .ensures)
     (five (c .before .before .before .before .before .before .get16x5 .ensures)
-    ((c .before .before .before .before .before .get16 .ensures, (c .before .before .before .before .get32 .ensures, (c .before .before .before .get322 .ensures, (c .before .before .get323 .ensures, (c .before .get324 .ensures, (c .get325 .ensures, tt))))))))
+    ((
+      c .before .before .before .before .before .get16 .ensures,
+      (
+        c .before .before .before .before .get32 .ensures,
+        (
+          c .before .before .before .get322 .ensures,
+          (c .before .before .get323 .ensures, (c .before .get324 .ensures, (c .get325 .ensures, tt))),
+        ),
+      ),
+    )))
 
 pub read-globals-spec : {M : Type 1} → statement M
 read-globals-spec =

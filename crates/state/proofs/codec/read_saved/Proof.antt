@@ -28,7 +28,13 @@ returns : tie.Need-returns
 returns c =
     five (c .before .before .before .before .before .before .get8x5 .ensures)
     (five (c .before .before .before .before .before .get8x52 .ensures)
-    ((c .before .before .before .before .get16 .ensures, (c .before .before .before .get162 .ensures, (c .before .before .get163 .ensures, (c .before .get164 .ensures, (c .get32 .ensures, tt)))))))
+    ((
+      c .before .before .before .before .get16 .ensures,
+      (
+        c .before .before .before .get162 .ensures,
+        (c .before .before .get163 .ensures, (c .before .get164 .ensures, (c .get32 .ensures, tt))),
+      ),
+    )))
 
 pub read-saved-spec : {M : Type 1} → statement M
 read-saved-spec =

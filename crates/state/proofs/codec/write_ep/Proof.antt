@@ -35,7 +35,8 @@ put32-requires-3 c κs = search needs
 
 returns : tie.Need-returns
 returns c =
-    let st = c .before .before .before .before .before .before .before .before .before .before .before .before .before .before .before .before .before .before in
+    let st =
+    c .before .before .before .before .before .before .before .before .before .before .before .before .before .before .before .before .before .before in
     let left = rest (st .args .o) (bytes epWidths (epAs (st .args .r))) in
     c .put323 .ensures
     ∙ ap (left 26) (c .before .before .put322 .ensures)
@@ -45,7 +46,8 @@ returns c =
     ∙ ap (left 14) (c .before .before .before .before .before .before .before .before .before .before .put162 .ensures)
     ∙ ap (left 12) (c .before .before .before .before .before .before .before .before .before .before .before .before .put16 .ensures)
     ∙ ap (left 10) (c .before .before .before .before .before .before .before .before .before .before .before .before .before .before .put8x52 .ensures)
-    ∙ ap (left 5) (c .before .before .before .before .before .before .before .before .before .before .before .before .before .before .before .before .put8x5 .ensures)
+    ∙ ap (left 5)
+    (c .before .before .before .before .before .before .before .before .before .before .before .before .before .before .before .before .put8x5 .ensures)
 
 pub write-ep-spec : {M : Type 1} → statement M
 write-ep-spec =

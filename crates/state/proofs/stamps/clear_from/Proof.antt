@@ -51,9 +51,13 @@ loop-again c =
     let e = c .put16 .ensures in (
       omega arith,
       (
-        ap view e ∙ view-stamps (at .s) (c .before .before .before .sized-arg2 .given .0) (c .before .before .before .before .before .before .before .args .a + at .k) 0 (omega arith)
-            ∙ ap (λ (d : Driver). withStamps d (set (d .stamps) (c .before .before .before .before .before .before .before .args .a + at .k) 0)) (at .inv .1 .0) ∙ ap (withStamps w) (filled-next (w .stamps) (c .before .before .before .before .before .before .before .args .a) (at .k) 0),
-        ap saved e ∙ saved-off (at .s) (1984 + (c .before .before .before .before .before .before .before .args .a + at .k) * 2) (digits 2 0) (omega arith) ∙ at .inv .1 .1,
+        ap view e ∙ view-stamps (at .s) (c .before .before .before .sized-arg2 .given .0)
+            (c .before .before .before .before .before .before .before .args .a + at .k) 0 (omega arith)
+            ∙ ap (λ (d : Driver). withStamps d (set (d .stamps) (c .before .before .before .before .before .before .before .args .a + at .k) 0))
+            (at .inv .1 .0) ∙ ap (withStamps w)
+            (filled-next (w .stamps) (c .before .before .before .before .before .before .before .args .a) (at .k) 0),
+        ap saved e ∙ saved-off (at .s) (1984 + (c .before .before .before .before .before .before .before .args .a + at .k) * 2)
+            (digits 2 0) (omega arith) ∙ at .inv .1 .1,
       ),
     )
 

@@ -52,7 +52,9 @@ loop-again : tie.Need-loop-again Inv-loop μ-loop
 loop-again c =
     let at = c .before .before .before .before .before .before .before .loop in
     let w = view (c .before .before .before .before .before .before .before .before .args .s .now) in
-    let e = c .write-ep .ensures ∙ ap (λ (r : EpState). puts (c .before .before .before .before .before .before .before .loop .s) (0 + c .before .before .before .before .before .before .before .loop .k * 30) 0 (bytes epWidths (epAs r))) (c .before .new .ensures) in (
+    let e = c .write-ep .ensures ∙ ap (λ (r : EpState). puts (c .before .before .before .before .before .before .before .loop .s)
+    (0 + c .before .before .before .before .before .before .before .loop .k
+    * 30) 0 (bytes epWidths (epAs r))) (c .before .new .ensures) in (
       omega arith,
       (
         ap view e ∙ view-eps (at .s) (c .before .before .before .before .sized-arg2 .given .0) (at .k) newEp (omega arith)

@@ -51,9 +51,15 @@ loop-again c =
     let e = c .put16 .ensures in (
       omega arith,
       (
-        ap view e ∙ view-lens (at .s) (c .before .before .before .sized-arg2 .given .0) (c .before .before .before .before .before .before .before .args .a + at .k) (c .before .before .before .before .before .before .before .args .v) (omega arith)
-            ∙ ap (λ (d : Driver). withLens d (set (d .lens) (c .before .before .before .before .before .before .before .args .a + at .k) (c .before .before .before .before .before .before .before .args .v))) (at .inv .1 .0) ∙ ap (withLens w) (filled-next (w .lens) (c .before .before .before .before .before .before .before .args .a) (at .k) (c .before .before .before .before .before .before .before .args .v)),
-        ap saved e ∙ saved-off (at .s) (960 + (c .before .before .before .before .before .before .before .args .a + at .k) * 2) (digits 2 (c .before .before .before .before .before .before .before .args .v)) (omega arith) ∙ at .inv .1 .1,
+        ap view e ∙ view-lens (at .s) (c .before .before .before .sized-arg2 .given .0)
+            (c .before .before .before .before .before .before .before .args .a + at .k)
+            (c .before .before .before .before .before .before .before .args .v) (omega arith)
+            ∙ ap (λ (d : Driver). withLens d (set (d .lens) (c .before .before .before .before .before .before .before .args .a + at .k)
+            (c .before .before .before .before .before .before .before .args .v))) (at .inv .1 .0) ∙ ap (withLens w)
+            (filled-next (w .lens) (c .before .before .before .before .before .before .before .args .a)
+            (at .k) (c .before .before .before .before .before .before .before .args .v)),
+        ap saved e ∙ saved-off (at .s) (960 + (c .before .before .before .before .before .before .before .args .a + at .k) * 2)
+            (digits 2 (c .before .before .before .before .before .before .before .args .v)) (omega arith) ∙ at .inv .1 .1,
       ),
     )
 

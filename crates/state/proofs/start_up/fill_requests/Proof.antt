@@ -51,7 +51,8 @@ loop-again c =
       omega arith,
       (
         ap view e ∙ view-requests (at .s) (c .before .before .before .sized-arg2 .given .0) (at .k) noRequest (omega arith)
-            ∙ ap (λ (d : Driver). withRequests d (set (d .requests) (at .k) noRequest)) (at .inv .1 .0) ∙ ap (withRequests w) (filled-first (w .requests) (at .k) noRequest),
+            ∙ ap (λ (d : Driver). withRequests d (set (d .requests) (at .k) noRequest)) (at .inv .1 .0)
+            ∙ ap (withRequests w) (filled-first (w .requests) (at .k) noRequest),
         ap saved e ∙ saved-off (at .s) (2583 + (at .k) * 5) (bytes requestWidths (requestAs noRequest)) (omega arith) ∙ at .inv .1 .1,
       ),
     )

@@ -40,16 +40,25 @@ fresh-saved-requires c κs = search needs
 returns : tie.Need-returns
 unfolding noStamps
 returns c =
-    let st = c .before .before .before .before .before .before .before .before .before .before .before .before .before .before .before .before .before .before .before .before in (
+    let st = c .before .before .before .before .before .before .before
+    .before .before .before .before .before .before .before .before .before .before .before .before .before in (
       c .fresh-saved .ensures .0 ∙ c .before .before .clear-wakes .ensures .0
           ∙ ap (λ (d : Driver). withWakes d none-woken) (c .before .before .before .before .fresh-control .ensures
           ∙ ap (λ (d : Driver). withControl d noControl) (c .before .before .before .before .before .before .fresh-allocator .ensures
-          ∙ ap (λ (d : Driver). withAllocator d (freshAllocator (st .args .size) (st .args .count))) (c .before .before .before .before .before .before .before .before .fresh-globals .ensures
-          ∙ ap (λ (d : Driver). withGlobals d (freshGlobals (st .args .callback))) (c .before .before .before .before .before .before .before .before .before .before .fill-requests .ensures .0
-          ∙ ap (λ (d : Driver). withRequests d (filled (d .requests) 0 32 noRequest)) (c .before .before .before .before .before .before .before .before .before .before .before .before .fill-paced .ensures .0
-          ∙ ap (λ (d : Driver). withPaced d (filled (d .paced) 0 16 0x1800)) (c .before .before .before .before .before .before .before .before .before .before .before .before .before .before .clear-all-stamps .ensures .0
-          ∙ ap noStamps (c .before .before .before .before .before .before .before .before .before .before .before .before .before .before .before .before .fill-lengths .ensures .0
-          ∙ ap (λ (d : Driver). withLens d (filled (d .lens) 0 512 0)) (c .before .before .before .before .before .before .before .before .before .before .before .before .before .before .before .before .before .before .fill-eps .ensures .0))))))))
+          ∙ ap (λ (d : Driver). withAllocator d (freshAllocator (st .args .size) (st .args .count)))
+          (c .before .before .before .before .before .before .before .before .fresh-globals .ensures
+          ∙ ap (λ (d : Driver). withGlobals d (freshGlobals (st .args .callback)))
+          (c .before .before .before .before .before .before .before .before .before .before .fill-requests .ensures .0
+          ∙ ap (λ (d : Driver). withRequests d (filled (d .requests) 0 32 noRequest))
+          (c .before .before .before .before .before .before .before .before .before .before .before .before .fill-paced .ensures .0
+          ∙ ap (λ (d : Driver). withPaced d (filled (d .paced) 0 16 0x1800))
+          (c .before .before .before .before .before .before .before .before .before .before .before .before .before .before .clear-all-stamps .ensures .0
+          ∙ ap noStamps
+          (c .before .before .before .before .before .before .before .before .before .before .before .before .before .before .before .before
+          .fill-lengths .ensures .0
+          ∙ ap (λ (d : Driver). withLens d (filled (d .lens) 0 512 0))
+          (c .before .before .before .before .before .before .before .before .before .before .before .before .before .before .before .before .before .before
+          .fill-eps .ensures .0))))))))
           ∙ made-afresh (st .args .s .now) (st .args .size) (st .args .count) (st .args .callback),
       c .fresh-saved .ensures .1,
     )

@@ -24,7 +24,8 @@ put8-requires c κs = search needs
 returns : tie.Need-returns
 returns c =
     let st = c .before .before .before .before .before in (
-      ap view (c .put8 .ensures) ∙ view-codes (now (st .args .s)) (c .before .before .before .sized-arg2 .given .0) (st .args .i) (st .args .code) (omega (arith, st .pre)),
+      ap view (c .put8 .ensures) ∙ view-codes (now (st .args .s))
+          (c .before .before .before .sized-arg2 .given .0) (st .args .i) (st .args .code) (omega (arith, st .pre)),
       ap saved (c .put8 .ensures) ∙ saved-off (now (st .args .s)) (2753 + st .args .i * 1) (digits 1 (st .args .code)) (omega (arith, st .pre)),
     )
 

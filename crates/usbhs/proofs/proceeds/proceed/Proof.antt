@@ -22,8 +22,11 @@ same-length c = search needs
 
 returns : tie.Need-returns
 returns c =
-    let x = c .before .before .before .before .before .before .before .before .args in
-    (λ a. settles (x .driver) (go (x .v)) (machineOf (now (x .s)) a) (now (x .time)) (now (x .slots)) _ _ refl (c .before .before .before .before .resume .ensures .0 a) (c .gone-on .ensures _ _), c .before .before .before .before .resume .ensures .1)
+    let x = c .before .before .before .before .before .before .before .before .args in (
+      λ a. settles (x .driver) (go (x .v)) (machineOf (now (x .s)) a) (now (x .time))
+          (now (x .slots)) _ _ refl (c .before .before .before .before .resume .ensures .0 a) (c .gone-on .ensures _ _),
+      c .before .before .before .before .resume .ensures .1,
+    )
 
 pub proceed-spec : {M : Type 1} → statement M
 proceed-spec = tie.close (tie.spec resume-requires gone-on-requires same-length returns)

@@ -40,8 +40,10 @@ returns c =
 returns-2 : tie.Need-returns-2
 returns-2 c =
     let p = c .before .before .before .before .before .preview .ensures in
-    let e = ap (λ (x : Shown). x .said) (sym p) ∙ c .before .before .before .enum-told .given .1 in
-    (rw e (ap (λ (x : Shown). 5 + x .count % 256 * 2 ^ 8) p), (rw e (ap (λ (x : Shown). x .numbers) p), (rw e (ap (λ (x : Shown). x .buffers) p), rw e (ap (λ (x : Shown). x .refusal) p))))
+    let e = ap (λ (x : Shown). x .said) (sym p) ∙ c .before .before .before .enum-told .given .1 in (
+      rw e (ap (λ (x : Shown). 5 + x .count % 256 * 2 ^ 8) p),
+      (rw e (ap (λ (x : Shown). x .numbers) p), (rw e (ap (λ (x : Shown). x .buffers) p), rw e (ap (λ (x : Shown). x .refusal) p))),
+    )
 
 pub usbhs-preview-spec : {M : Type 1} → statement M
 usbhs-preview-spec =

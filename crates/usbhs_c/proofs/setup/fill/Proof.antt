@@ -16,7 +16,11 @@ bytes-of-requires : tie.Need-bytes-of-requires
 bytes-of-requires c κs = search needs
 
 returns : tie.Need-returns
-returns c = (c .bytes-of .ensures, c .bytes-of .ensures ∙ over-all (c .before .before .before .before .args .low) (c .before .before .before .before .args .high) (now (c .before .before .before .before .args .packet)) (c .before .before .sized-arg2 .given .0))
+returns c = (
+  c .bytes-of .ensures,
+  c .bytes-of .ensures ∙ over-all (c .before .before .before .before .args .low) (c .before .before .before .before .args .high)
+      (now (c .before .before .before .before .args .packet)) (c .before .before .sized-arg2 .given .0),
+)
 
 pub fill-spec : {M : Type 1} → statement M
 fill-spec =

@@ -55,13 +55,19 @@ word-of-requires-7 : tie.Need-word-of-requires-7
 word-of-requires-7 c κs = search needs
 
 returns : tie.Need-returns
-returns c = ((_, c .word-of .ensures, λ d. simp (c .before .fill .ensures .0, c .before .before .before .before .step .given .1)), λ d. c .before .fill .ensures .1 ∙ simp (c .before .before .before .before .step .given .1))
+returns c = (
+  (_, c .word-of .ensures, λ d. simp (c .before .fill .ensures .0, c .before .before .before .before .step .given .1)),
+  λ d. c .before .fill .ensures .1 ∙ simp (c .before .before .before .before .step .given .1),
+)
 
 returns-2 : tie.Need-returns-2
 returns-2 c = absurd (subst NoSlice (c .before .before .step2 .given .1) (c .before .before .before .before .pre))
 
 returns-3 : tie.Need-returns-3
-returns-3 c = ((_, c .word-of3 .ensures, λ d. simp (take-nil, drop-nil, c .before .before .step3 .given .1)), λ d. simp (take-nil, drop-nil, c .before .before .step3 .given .1))
+returns-3 c = (
+  (_, c .word-of3 .ensures, λ d. simp (take-nil, drop-nil, c .before .before .step3 .given .1)),
+  λ d. simp (take-nil, drop-nil, c .before .before .step3 .given .1),
+)
 
 returns-4 : tie.Need-returns-4
 returns-4 c = ((_, c .word-of4 .ensures, λ d. simp (c .before .before .step4 .given .1)), λ d. simp (c .before .before .step4 .given .1))

@@ -43,7 +43,12 @@ element-write-room c =
     let st = c .before .before .before .before .before .before .before in
     let at = c .before .before .loop in
     let h : at .k < 64 = omega (arith, c .before .loop-test .taken, c .before .before .before .before .before .before .how-many .ensures .1) in
-    omega (arith, h, within (at .k) (now (st .args .s)) (now (st .args .room)) (at .room) h (c .before .before .before .before .sized-arg2 .given .0) (at .inv .1))
+    omega (
+      arith,
+      h,
+      within (at .k) (now (st .args .s))
+          (now (st .args .room)) (at .room) h (c .before .before .before .before .sized-arg2 .given .0) (at .inv .1),
+    )
 
 add-k : tie.Need-add-k Inv-loop μ-loop
 add-k c = search needs
@@ -62,7 +67,8 @@ loop-again c =
       omega arith,
       ap (λ (v : ℕ). set (at .room) (at .k) v) (c .woken-at .ensures ∙ ap (λ (j : ℕ). getD (view xs .wakes .codes) j 0) m)
           ∙ ap (λ (r : List ℕ). set r (at .k) (getD (view xs .wakes .codes) (at .k) 0)) (at .inv .1)
-          ∙ written-next (at .k) (view xs .wakes .codes) room₀ (omega (arith, h, view-codes xs)) (omega (arith, h, c .before .before .before .before .sized-arg2 .given .0))
+          ∙ written-next (at .k) (view xs .wakes .codes) room₀ (omega (arith, h, view-codes xs))
+          (omega (arith, h, c .before .before .before .before .sized-arg2 .given .0))
           ∙ ap (λ (j : ℕ). written j (view xs .wakes .codes) room₀) (sym (add-one (at .k))),
     )
 
