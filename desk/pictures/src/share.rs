@@ -39,10 +39,10 @@ struct Row {
     rust: Option<f64>,
 }
 
-/// What stands last in an operation's line of a table, a number of percents.
+/// The last number of percents in an operation's line of a table.
 fn share_in(table: &str, operation: &str) -> Option<f64> {
     let line = table.lines().find(|l| l.starts_with(&format!("| {operation} |")))?;
-    line.trim_end_matches([' ', '|']).strip_suffix('%')?.rsplit(' ').next()?.parse().ok()
+    line.split('|').filter_map(|cell| cell.trim().strip_suffix('%')).next_back()?.trim().parse().ok()
 }
 
 fn read(text: &str, folder: &Path) -> Result<Data, String> {
