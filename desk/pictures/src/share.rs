@@ -42,7 +42,7 @@ struct Row {
 /// The last number of percents in an operation's line of a table.
 fn share_in(table: &str, operation: &str) -> Option<f64> {
     let line = table.lines().find(|l| l.starts_with(&format!("| {operation} |")))?;
-    line.split('|').filter_map(|cell| cell.trim().strip_suffix('%')).next_back()?.trim().parse().ok()
+    line.split('|').filter_map(|cell| cell.trim().strip_suffix('%')).next_back()?.trim().rsplit(' ').next()?.parse().ok()
 }
 
 fn read(text: &str, folder: &Path) -> Result<Data, String> {
