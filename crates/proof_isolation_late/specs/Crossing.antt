@@ -31,7 +31,8 @@ use Rattle.proof_isolation.specs.Standing.{machineOf, stops, runOf, never-made}
 use Rattle.proof_isolation.specs.Runs.{go-busy, aside-busy}
 use Rattle.proof_isolation_late.specs.Late.{Light, opens, closes, asks-of, callOf, Item, gets, goes-own, lightsOf, lit, gone, lits}
 use Rattle.proof_isolation_late.specs.Late.{items, litAnswers, itemAnswers, Other, AtOwn}
-use Rattle.proof_isolation_late.specs.Lights.{done-by, Seen, seen, Shows}
+use Rattle.proof_isolation_late.specs.Lights.{done-by, Seen, seen}
+use Rattle.proof_isolation_late.specs.LightsLaws.{Shows}
 use Rattle.proof_isolation_late.specs.LightsLaws.{open-is, close-is, oldest-opening, stamp-opening}
 use Rattle.proof_isolation_late.specs.Slides.{Slid, slid-end, slid-ask, slid-lost, Free, FreeWay, halt-free}
 

@@ -46,9 +46,10 @@ use Rattle.proof_isolation.specs.Settled.{isControl}
 use Rattle.proof_isolation.specs.Buts.{lawful-put, lawful-act, lawful-hand}
 use Rattle.proof_isolation_late.specs.Late.{Light, Other}
 use Rattle.proof_isolation.specs.Standing.{stops}
-use Rattle.proof_isolation_late.specs.Lights.{done-by, Seen, Shows, seen-arrive, get-done, put-done}
+use Rattle.proof_isolation_late.specs.Lights.{done-by, Seen}
+use Rattle.proof_isolation_late.specs.LightsLaws.{Shows, seen-arrive, get-done, put-done}
 use Rattle.proof_isolation_late.specs.LightsLaws.{seen-put, seen-wakes}
-use Rattle.proof_isolation_late.specs.Lights.{changed-done, marked-done, setup-done, wakes-same, wakes-done, arrive-done}
+use Rattle.proof_isolation_late.specs.LightsLaws.{changed-done, marked-done, setup-done, wakes-same, wakes-done, arrive-done}
 
 module _ (c : Channel) where
   -- one script's outcomes from a state in which o sees z, and from that state with o done: both end or hand out the same access and go on alike, and
