@@ -1,9 +1,10 @@
-/* The survey's calls, which take no driver: the best set of channels, the arrivals between a reader's visits, packets on the card, a configuration
- * descriptor's endpoints. The library
+/* The survey's calls, which take no driver: the best set of channels, the arrivals between a
+ * reader's visits, packets on the card, a configuration descriptor's endpoints. The library
  * (libsurvey_c.a) has no state of its own, and links with or without the driver's.
  *
- * A slice is a pointer and a length, of the list of channels how many they are; what one call is lent must not overlap. Any numbers and bytes are safe:
- * a call touches nothing outside of what it is lent, does not trap and returns.
+ * A slice is a pointer and a length, of the list of channels how many they are; what one call is
+ * lent must not overlap. Any numbers and bytes are safe: a call touches nothing outside of what
+ * it is lent, does not trap and returns.
  *
  * Each call answers one word, as those of usbhs.h do:
  *
@@ -21,13 +22,16 @@
 extern "C" {
 #endif
 
-/* The best set of up to 16 optional channels: it fits the bus time that is left of 6,000 byte-times, and its maxima total the most. Above 6,000 in
- * use none is left: then only channels of charge 0 fit.
+/* The best set of up to 16 optional channels: it fits the bus time that is left of 6,000
+ * byte-times, and its maxima total the most. Above 6,000 in use none is left: then only channels
+ * of charge 0 fit.
  *
- * time: the record of bus time that the drivers share. budget: how many sets may be looked at; 65,536 are always all.
+ * time: the record of bus time that the drivers share. budget: how many sets may be looked at;
+ * 65,536 are always all.
  *
- * Ends with the set: bit i says whether channel i is in. *total: of its maxima. *figure: no fitting set has a greater total; if all sets were
- * looked at it is *total, else the total of all maxima. *looked: how many sets were looked at. Of equal sets the one with the smaller number.
+ * Ends with the set: bit i says whether channel i is in. *total: of its maxima. *figure: no
+ * fitting set has a greater total; if all sets were looked at it is *total, else the total of all
+ * maxima. *looked: how many sets were looked at. Of equal sets the one with the smaller number.
  *
  * Row 20, before any look: more than 16 channels, or a budget of 0. */
 struct usbhs_channel {
@@ -35,16 +39,19 @@ struct usbhs_channel {
     uint16_t charge; /* in byte-times of a microframe */
     uint8_t chosen;  /* becomes 1 if the channel is chosen, 0 if not; any byte before */
 };
-uint64_t usbhs_best_set(struct usbhs_channel *list, usbhs_length channels, const uint16_t time[USBHS_TIME_LEN], uint32_t budget,
-                        uint32_t *total, uint32_t *figure, uint32_t *looked);
+uint64_t usbhs_best_set(struct usbhs_channel *list, usbhs_length channels,
+    const uint16_t time[USBHS_TIME_LEN], uint32_t budget, uint32_t *total, uint32_t *figure,
+    uint32_t *looked);
 
-/* How many packets may arrive between two visits of a reader. In microframes: from a visit to the next it is at least a and at most b, from an
- * arrival to the next at least c and at most d. The arrival on the second visit's microframe counts, the one on the first's does not.
+/* How many packets may arrive between two visits of a reader. In microframes: from a visit to the
+ * next it is at least a and at most b, from an arrival to the next at least c and at most d. The
+ * arrival on the second visit's microframe counts, the one on the first's does not.
  *
- * Ends with 0. least and greatest have three numbers each: how many arrive, and times that reach it, the first arrival after the visit and the
- * distance from each to the next: d and d in a span of a for the least, 1 and c in a span of b for the greatest. A ring of 16 slots, which holds
- * 15 packets, has no overrun after the first visit, however the times fall, exactly if greatest[USBHS_ARRIVALS] is at most 15 and each visit
- * empties it.
+ * Ends with 0. least and greatest have three numbers each: how many arrive, and times that reach
+ * it, the first arrival after the visit and the distance from each to the next: d and d in a span
+ * of a for the least, 1 and c in a span of b for the greatest. A ring of 16 slots, which holds 15
+ * packets, has no overrun after the first visit, however the times fall, exactly if
+ * greatest[USBHS_ARRIVALS] is at most 15 and each visit empties it.
  *
  * Row 23: one of the four is 0 or above 16,383, a is above b, or c is above d. */
 #define USBHS_REACHED_LEN 3
@@ -54,18 +61,22 @@ uint64_t usbhs_best_set(struct usbhs_channel *list, usbhs_length channels, const
 uint64_t usbhs_between_visits(uint32_t a, uint32_t b, uint32_t c, uint32_t d,
                               uint32_t least[USBHS_REACHED_LEN], uint32_t greatest[USBHS_REACHED_LEN]);
 
-/* The data CRC of USB 2.0, 8.3.5, over these bytes, 16 bits, the first bit sent being bit 0: 0xB4C8 for "123456789". */
+/* The data CRC of USB 2.0, 8.3.5, over these bytes, 16 bits, the first bit sent being bit 0:
+ * 0xB4C8 for "123456789". */
 uint32_t usbhs_data_crc(const uint8_t *bytes, usbhs_length length);
 
 /* Packets on the card: a stream of blocks of USBHS_BLOCK_LEN bytes.
  *
  *   0-3      the block's number from 0, lowest byte first
  *   4-5      the offset of the first packet that begins in it, likewise; 65,535 if none
- *   6-509    packet data: two bytes of length, lowest first, one byte of endpoint, its bytes; packets run on over block ends
+ *   6-509    packet data: two bytes of length, lowest first, one byte of endpoint, its bytes;
+ *            packets run on over block ends
  *   510-511  usbhs_data_crc of bytes 0-509, lowest byte first
  *
- * The writer fills one block at a time. Its state is four numbers of the caller's, which usbhs_card_new sets: the block's number, the bytes of packet
- * data in it, the offset of the first packet that begins in it, the bytes written of the packet under way. The last three count modulo 65,536.
+ * The writer fills one block at a time. Its state is four numbers of the caller's, which
+ * usbhs_card_new sets: the block's number, the bytes of packet data in it, the offset of the
+ * first packet that begins in it, the bytes written of the packet under way. The last three count
+ * modulo 65,536.
  *
  *     usbhs_card_new(writer);
  *     for each packet
@@ -78,13 +89,14 @@ uint32_t usbhs_data_crc(const uint8_t *bytes, usbhs_length length);
  *     if (USBHS_KIND(word) == USBHS_REFUSED) ...
  *     if (USBHS_RESULT(word) & USBHS_BLOCK_FULL) store the block;
  *
- * Between the calls the block stays as it is until it is stored; what the next one holds before its first call does not matter. */
+ * Between the calls the block stays as it is until it is stored; what the next one holds before
+ * its first call does not matter. */
 #define USBHS_BLOCK_LEN 512
 #define USBHS_WRITER_LEN 4
 
 /* The result's bits. */
 #define USBHS_BLOCK_FULL 1u     /* the block is to be stored, and the next one lent */
-#define USBHS_PACKET_WRITTEN 2u /* the packet is written whole; else it is brought again with the next block */
+#define USBHS_PACKET_WRITTEN 2u /* the packet is written whole; else bring it again with the next */
 
 void usbhs_card_new(uint32_t writer[USBHS_WRITER_LEN]);
 
@@ -92,16 +104,20 @@ void usbhs_card_new(uint32_t writer[USBHS_WRITER_LEN]);
 uint64_t usbhs_card_write(uint32_t writer[USBHS_WRITER_LEN], uint8_t *block, usbhs_length block_length,
     uint32_t endpoint, const uint8_t *data, usbhs_length data_length);
 
-/* Fills the last block with zeros, after the last packet. Ends with USBHS_BLOCK_FULL, or with 0 where the last block is stored already.
+/* Fills the last block with zeros, after the last packet. Ends with USBHS_BLOCK_FULL, or with 0
+ * where the last block is stored already.
  * Row 21: a block that is not 512 bytes. */
 uint64_t usbhs_card_finish(const uint32_t writer[USBHS_WRITER_LEN], uint8_t *block, usbhs_length block_length);
 
-/* The reader, over the whole stream. *place, a usbhs_length, is where it goes on; usbhs_card_start sets it. A block whose check fails or whose number is not its place is
- * dropped with the packet that it cuts; every packet that lies wholly in blocks as they were written is given, in order.
+/* The reader, over the whole stream. *place, a usbhs_length, is where it goes on;
+ * usbhs_card_start sets it. A block whose check fails or whose number is not its place is dropped
+ * with the packet that it cuts; every packet that lies wholly in blocks as they were written is
+ * given, in order.
  *
- * usbhs_card_start ends with 0. usbhs_card_next is done with the packet's length, its bytes at the room's front and its endpoint in *endpoint, or
- * ends where there is no more packet.
- * Row 21: a stream that is not whole blocks; a room shorter than the packet, which a longer one then gets. */
+ * usbhs_card_start ends with 0. usbhs_card_next is done with the packet's length, its bytes at
+ * the room's front and its endpoint in *endpoint, or ends where there is no more packet.
+ * Row 21: a stream that is not whole blocks; a room shorter than the packet, which a longer one
+ * then gets. */
 uint64_t usbhs_card_start(const uint8_t *stream, usbhs_length stream_length, usbhs_length *place);
 uint64_t usbhs_card_next(const uint8_t *stream, usbhs_length stream_length, usbhs_length *place, uint32_t *endpoint,
     uint8_t *room, usbhs_length room_length);
@@ -112,20 +128,26 @@ uint64_t usbhs_card_next(const uint8_t *stream, usbhs_length stream_length, usbh
 #define usbhs_card_next(stream, stream_length, place, endpoint, room, room_length) \
     (usbhs_card_next)(stream, stream_length, USBHS_LENGTH_AT(place), endpoint, room, room_length)
 
-/* Many packets at once: as many as the room holds, what as many calls of usbhs_card_next give, one behind the other as they stand on the card: two bytes of
- * length, lowest first, one of the endpoint, the packet's bytes. It checks each block once where usbhs_card_next checks it again for every packet.
+/* Many packets at once: as many as the room holds, what as many calls of usbhs_card_next give,
+ * one behind the other as they stand on the card: two bytes of length, lowest first, one of the
+ * endpoint, the packet's bytes. It checks each block once where usbhs_card_next checks it again
+ * for every packet.
  *
- * Ends with 1: *count packets in the first *used bytes of the room, and *place behind them; or with 0, both 0, where there is no more packet.
+ * Ends with 1: *count packets in the first *used bytes of the room, and *place behind them; or
+ * with 0, both 0, where there is no more packet.
  * Row 21: as usbhs_card_next; the room needs three bytes beside the packet's. */
 uint64_t usbhs_card_read(const uint8_t *stream, usbhs_length stream_length, usbhs_length *place,
                          uint8_t *room, usbhs_length room_length, usbhs_length *count, usbhs_length *used);
 #define usbhs_card_read(stream, stream_length, place, room, room_length, count, used) \
-    (usbhs_card_read)(stream, stream_length, USBHS_LENGTH_AT(place), room, room_length, USBHS_LENGTH_AT(count), USBHS_LENGTH_AT(used))
+    (usbhs_card_read)(stream, stream_length, USBHS_LENGTH_AT(place), room, room_length, \
+        USBHS_LENGTH_AT(count), USBHS_LENGTH_AT(used))
 
-/* The endpoints of a configuration descriptor written into the room as one interface, alternate setting 0: done with 18 bytes and 7 for each, of which
- * there are at most 32. Read again they are the same endpoints.
- * Row 17, first: the bytes are no configuration descriptor (usbhs.h has the conditions in full), or the room is too short for the list, also where
- * two types clash. Row 18: one address has two transfer types. */
+/* The endpoints of a configuration descriptor written into the room as one interface, alternate
+ * setting 0: done with 18 bytes and 7 for each, of which there are at most 32. Read again they
+ * are the same endpoints.
+ * Row 17, first: the bytes are no configuration descriptor (usbhs.h has the conditions in full),
+ * or the room is too short for the list, also where two types clash. Row 18: one address has two
+ * transfer types. */
 uint64_t usbhs_write_descriptor(const uint8_t *bytes, usbhs_length length, uint8_t *room, usbhs_length room_length);
 
 #ifdef __cplusplus
