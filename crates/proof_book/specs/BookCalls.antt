@@ -371,7 +371,7 @@ module _ (a : Ans Answer) (e v : ℕ) (n : Machine Answer Pages) (h : Fine n) (b
   Stays y = addressed (y .0) e ≡ false → y .1 .st .outs e ≡ n .st .outs e
 
   stays-at : (o : tree.Out Bk Answer) → Watched (n .st, b) o → Stays (halt calls (book .driver) (fed book a) true o)
-  stays-at (ends z t) (end j q) k = q .outs e
+  stays-at (ends z t) (end j q) k = q .rest .outs e
   stays-at (asks q t g) (ask j m f) k = fed-away a away (t .0) ∙ m .leaves e k
 
   stays-wide : (u : Bool) (y : Ans Answer × Machine Answer Pages) → Stays y → Stays (cond u (stay calls (book .driver) 16 (lentTo calls (book .driver) n b)) y)

@@ -1,8 +1,8 @@
 -- Demand 3, to be read alone: what a list of calls is, what each call is lent, what document 01 compares after each call, and demand 3's own
 -- sentences. Definitions only. `demand-3` (FrontPageProved.antt) says that `AfterCall` holds after every call of every list that an accepted start-up
 -- begins. The calls are in model/specs/Calls.antt, the book in Book.antt over Pages.antt: what waits, was admitted, read, queued, sent
-use mathlib.Core.Bool.{Bool, true, false, cond}
-use mathlib.Core.List.{List, [], _∷_, _++_}
+use mathlib.Core.Bool.{Bool, true, false, cond, _&&_}
+use mathlib.Core.List.{List, [], _∷_, _++_, tail}
 use mathlib.Core.Logic.{_⊎_}
 use mathlib.Core.Path.{_≡_}
 use Prim.Native.Nat.{ℕ, zero, _+_, _%_, _^_, _≤_, _<_}
@@ -10,7 +10,7 @@ use lib.ListN.{length, getD}
 use lib.Dec.{eqb}
 use Rattle.regs.specs.declared.Access.{Access}
 use Rattle.regs.specs.declared.Access.the-variants.{Read, Write, Receive, Transmit, Ep0Dma, Wait, Callback}
-use Rattle.regs.specs.declared.Reg.the-variants.{IntFg}
+use Rattle.regs.specs.declared.Reg.the-variants.{IntFg, EpTLen}
 use Rattle.regs.specs.declared.Dir.{Dir}
 use Rattle.regs.specs.declared.Dir.the-variants.{Out, In}
 use Rattle.state.specs.Driver.{Driver, epOn, lenOn, stampOn}
@@ -20,6 +20,7 @@ use Rattle.le_bytes.specs.Tables.{tab}
 use Rattle.state.specs.State.{view}
 use Rattle.ring.specs.Waiting.{waiting, Same}
 use Rattle.marks.specs.Copies.{bytesAt}
+use Rattle.model.specs.Every.{sameReg}
 use Rattle.model.specs.Answers.{Answer, Refused, Done, Shown, ok, isNumber}
 use Rattle.model.specs.Calls.{Config, Op, slotted, aside, SetEnabled, PollRead, Aside, Open, Close, Queue, calls, startRow}
 use Rattle.model.specs.Machine.{Buf, Call, start, begin, go, question, overruns, Event, Ans, ended, handed, told, Way}
@@ -196,6 +197,26 @@ addressed (ended z) e = false
 addressed (handed q) e = givesTo q e
 addressed (told k) e = false
 
+-- one that loads IN e: its transmit address, or its length 0 where none waits
+abbrev pub loads : Access → ℕ → Bool
+loads (Read r f) e = false
+loads (Write r f v) e = sameReg r EpTLen && (eqb v 0 && eqb (e % 16) (f % 16))
+loads (Receive f x) e = false
+loads (Transmit f x) e = eqb (e % 16) (f % 16)
+loads (Ep0Dma x) e = false
+loads (Wait n) e = false
+loads Callback e = false
+
+abbrev pub loading : Ans Answer → ℕ → Bool
+loading (ended z) e = false
+loading (handed q) e = loads q e
+loading (told k) e = false
+
+-- "Load: what the Rust's tail passes waits no more": the one being sent may pass; all others wait on, and none is queued
+pub record PassesOn (p p′ : InPage) : Type 0 where
+  pub waiting : (p′ .waiting ≡ p .waiting) ⊎ ((p .sending ≡ true) × (p′ .waiting ≡ tail (p .waiting)))
+  pub queued : p′ .queued ≡ p .queued
+
 -- a call that rows 1, 2, 3, 15 or 16 stop, or a question
 abbrev pub keepsOut : Way Answer Pages → Op → Bool
 keepsOut idle o = false
@@ -262,6 +283,9 @@ pub record Sentences (c : Call Config Op) (lent : Buf) (n : Machine Answer Pages
   pub decided : (e : ℕ) → Decides c n a e → Decided lent (n .st .outs e) (t′ .outs e)
   -- "All else, refusals too: no change": an interrupt changes the page of an OUT at its receive address alone
   pub unmoved : (e v : ℕ) → c ≡ go v → inInterrupt (n .way) ≡ true → addressed a e ≡ false → t′ .outs e ≡ n .st .outs e
+  -- and that of an IN at a load alone, where no packet but the one being sent ceases to wait
+  pub unmoved-in : (e v : ℕ) → c ≡ go v → inInterrupt (n .way) ≡ true → loading a e ≡ false → t′ .ins e ≡ n .st .ins e
+  pub load-passes : (e v : ℕ) → c ≡ go v → inInterrupt (n .way) ≡ true → PassesOn (n .st .ins e) (t′ .ins e)
   -- a call that any row refuses leaves the pages of all endpoints
   pub refusal-leaves : (r : ℕ) → a ≡ ended (Refused r) → (e : ℕ) → (t′ .outs e ≡ n .st .outs e) × (t′ .ins e ≡ n .st .ins e)
   -- a question and a call that rows 1, 2, 3, 15 or 16 stop leave the book; so does an open, close or queue that any row refuses

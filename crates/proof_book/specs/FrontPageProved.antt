@@ -45,6 +45,7 @@ use Rattle.proof_book.specs.RefusedCalls.{isStart, refusal-leaves}
 use Rattle.proof_book.specs.Enabling.{enabling-resets}
 use Rattle.proof_book.specs.BusResets.{bus-reset-empties}
 use Rattle.proof_book.specs.SendingCalls.{Sending, SendingAfter, after-call, start-after, start-emptied, sends-of, told-source}
+use Rattle.proof_book.specs.LoadCalls.{loads-of}
 use Rattle.proof_book.specs.Lengths.{Known, learnt}
 use Rattle.proof_book.specs.LengthCalls.{WayTold, regular, told-on, start-told, length-is}
 use Rattle.proof_book.specs.Others.{releasing, Names, underWay, callNames, Away, SamePage}
@@ -182,6 +183,8 @@ module _ (c : Call Config Op) (l : Buf) (m : Machine Answer Driver)
     open-waits = open-there (a .rest);
     decided = λ e d. let h = ap isStart (d .continues) in steps-of.decided c (x .0) e n (before h .fine) l (a .same) (most-15 h e) d;
     unmoved = λ e v p i g. let k = before (ap isStart p) in steps-of.unmoved c (x .0) e v n (k .fine) l (a .same) p i g;
+    unmoved-in = λ e v p i g. let k = before (ap isStart p) in loads-of c (x .0) e v n (k .fine) (k .sending) l p i .spares (a .same) g;
+    load-passes = λ e v p i. let k = before (ap isStart p) in loads-of c (x .0) e v n (k .fine) (k .sending) l p i .passes;
     refusal-leaves = λ r g e. let z = refusal-leaves c (x .0) n (λ h. before h .fine) l (a .same) r g in (z .outs e, z .ins e);
     stopped-leaves = stopped-leaves (x .0) n l c;
     refused-leaves = refused-leaves;

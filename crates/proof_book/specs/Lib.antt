@@ -35,6 +35,7 @@ pub mod Demand3
 pub mod MachineRuns
 pub mod SlotsKept
 pub mod InterruptParts
+pub mod Refusing
 pub mod BookTracks
 pub mod BookCounts
 pub mod BookDecides
@@ -42,7 +43,6 @@ pub mod QuietParts
 pub mod LengthScripts
 pub mod LengthInterrupt
 pub mod Releases
-pub mod Refusing
 pub mod BookCalls
 pub mod LengthCalls
 pub mod OthersStay
@@ -54,6 +54,7 @@ pub mod BusResets
 pub mod Asides
 pub mod SendingSteps
 pub mod SendingCalls
+pub mod LoadCalls
 pub mod PollsWhole
 pub mod Lent
 pub mod Code

@@ -75,7 +75,7 @@ stays-put : {t : Pages} → Fates t t
 stays-put e s = goes (record { sending = s; shown = refl; place = refl; size = refl })
 
 -- the access told changes a source alone
-fed-alike : (a : Ans Answer) (t : Pages) → Orderly t → (e : ℕ) → Alike (t .ins e) (fed book a t .ins e)
+pub fed-alike : (a : Ans Answer) (t : Pages) → Orderly t → (e : ℕ) → Alike (t .ins e) (fed book a t .ins e)
 fed-alike (ended z) t i e = alike-refl
 fed-alike (handed (Read r f)) t i e = alike-refl
 fed-alike (handed (Write r f v)) t i e = alike-refl
@@ -121,7 +121,7 @@ fate-alike h k (anew a) = anew (alike-empty h a)
 
 -- ---- a call
 
-abbrev WayFollowed : Way Answer Pages → Type 0
+abbrev pub WayFollowed : Way Answer Pages → Type 0
 WayFollowed idle = Unit {0}
 WayFollowed (busy i q k) = (u : Bool) × ((v : ℕ) (s : Bk) → Orderly (s .0) → Followed u s (k v s))
 

@@ -10,9 +10,11 @@ use lib.Dec.{eqb, leb, ltb}
 use lib.ListN.{length, length-append}
 use Rattle.regs.specs.declared.Access.{Access}
 use Rattle.regs.specs.declared.Access.the-variants.{Read, Write, Receive, Transmit, Ep0Dma, Wait, Callback}
+use Rattle.regs.specs.declared.Reg.the-variants.{EpTLen}
 use Rattle.regs.specs.declared.Dir.{Dir}
 use Rattle.regs.specs.declared.Dir.the-variants.{Out, In}
 use Rattle.state.specs.declared.Allocator.{Allocator}
+use Rattle.state.specs.Wakes.{wakeCode}
 use Rattle.alloc.specs.declared.Answer as alloc-answer
 use Rattle.alloc.specs.declared.Answer.the-variants as alloc
 use Rattle.alloc.specs.declared.Allocation.{Allocation}
@@ -20,11 +22,13 @@ use Rattle.alloc.specs.Alloc.{if, refused, allocateOf, allocateEp0Of, withNext}
 use Rattle.alloc.specs.Outcome.{Outcome, six, seven, eight, given, outcome}
 use Rattle.marks.specs.Copies.{copied}
 use Rattle.model.specs.Tree as tree
+use Rattle.model.specs.Tree.{ends, asks, bindOut}
 use Rattle.model.specs.Cells.{EpCore, Cell, Val, globals-cell, control-cell, allocator-cell, ep-cell, request-cell}
 use Rattle.model.specs.Cells.{paced-cell}
-use Rattle.model.specs.Script.{Script, run, rows, Act, complete, reset-ring, set-enabled, fill, fill0, open-oldest}
+use Rattle.model.specs.Script.{Script, bind, look, write, next-len, run, rows, Act, complete, reset-ring, set-enabled, fill, fill0, open-oldest}
 use Rattle.model.specs.Script.{close-oldest, take-oldest, enqueue, allocate, allocate0, no-wakes, waken, DmaStep}
 use Rattle.model.specs.Script.{arrive, send, place, place0, Burst, switch, bus-reset, lastOf}
+use Rattle.model.specs.Statics.{wake}
 use Rattle.model.specs.Machine.{Buf}
 use Rattle.proof_book.specs.Pages.{InPage, Pages, withIn, withKept, keptAllocator, keptPlain}
 use Rattle.proof_book.specs.Book.{Bk, some, front, mergedPlain, shapedPlain, emptyIn, passedIn, sentIn, sourceTold}
@@ -34,8 +38,7 @@ use Rattle.proof_book.specs.Frame.{at-elim}
 use Rattle.proof_book.specs.FrontPage.{EmptiedIn, slotSize}
 use Rattle.proof_book.specs.BookTracks.{Tracks, end, ask, earlier, tracks-bind}
 use Rattle.proof_book.specs.InterruptParts.{Parts, p-ret, p-bind, p-test, p-read, p-write, p-wait, p-callback, p-get}
-use Rattle.proof_book.specs.InterruptParts.{p-put, p-is, p-look, p-fetch, p-complete, p-no-wakes, p-waken, p-arrive}
-use Rattle.proof_book.specs.InterruptParts.{p-send}
+use Rattle.proof_book.specs.InterruptParts.{p-put, p-is, p-look, p-fetch, p-load, p-no-wakes, p-waken, p-arrive}
 use Rattle.proof_book.specs.Releases.{suits, InRows, r-ret, r-bind, r-test, r-read, r-write, r-wait, r-callback}
 use Rattle.proof_book.specs.Releases.{r-get, r-put, r-is, r-look, r-fetch, r-act, r-hand, r-row}
 
@@ -547,6 +550,19 @@ follow true (r-hand k h) s i = never k
 follow false (r-row {g = g} k h) s i = follow-rows g (lastOf g) (λ t j. follow false h t j) s i
 follow true (r-row k h) s i = never k
 
+woken : (e : ℕ) (s : Bk) → Orderly (s .0) → Followed false s (run bookOps (wake {i = true} In e) s)
+woken e s i = let m = acts false (waken (wakeCode In e ∷ [])) refl s i in end (m .orderly) (m .within)
+
+-- a load, by whether one waits
+load-followed : (e : ℕ) (s : Bk) → Orderly (s .0) → (u : Bool)
+    → let next : Script true Unit = bind (look (next-len In e)) (λ n. write EpTLen e n) in Followed false s
+    (bindOut (cond u (asks (Transmit e 0) (handB (send e) s .1) (λ _ t. run bookOps next t)) (asks (Write EpTLen e 0) s (λ _ t. ends tt t)))
+    (λ _ t. run bookOps (wake {i = true} In e) t))
+load-followed e s i true =
+    let m = hands (send e) s i in
+    ask (m .orderly) (m .follows) (λ _ t j. ask j (asks-quietly false t j (Write EpTLen e 0)) (λ _ u k. woken e u k))
+load-followed e s i false = ask i (asks-quietly false s i (Write EpTLen e 0)) (λ _ t j. woken e t j)
+
 pub follow-parts : {A : Type 0} {p : Script true A} → Parts A p → (s : Bk) → Orderly (s .0) → Followed false s (run bookOps p s)
 follow-parts p-ret s i = end i (calm-done i calm .follows)
 follow-parts (p-bind h g) s i =
@@ -562,9 +578,9 @@ follow-parts (p-put {c = c} {v = v} u h) s i = let m = calm-step false i (puts c
 follow-parts (p-is h) s i = follow-parts (h _) s i
 follow-parts (p-look h) s i = follow-parts (h _) s i
 follow-parts (p-fetch h) s i = follow-parts (h _) s i
-follow-parts (p-complete {e = e} h) s i =
-    let m = acts false (complete e) refl s i in after false (m .within) (follow-parts h (actB (complete e) s) (m .orderly))
+follow-parts (p-load {e = e}) s i =
+    let m = acts false (complete e) refl s i in
+    after false (m .within) (load-followed e (actB (complete e) s) (m .orderly) (some (actB (complete e) s .0 .ins e .waiting)))
 follow-parts (p-no-wakes h) s i = let m = acts false no-wakes refl s i in after false (m .within) (follow-parts h (actB no-wakes s) (m .orderly))
 follow-parts (p-waken {codes = c} h) s i = let m = acts false (waken c) refl s i in after false (m .within) (follow-parts h (actB (waken c) s) (m .orderly))
 follow-parts (p-arrive {e = e} {n = n} h) s i = let m = hands (arrive e n) s i in ask (m .orderly) (m .follows) (λ _ t j. follow-parts h t j)
-follow-parts (p-send {e = e} h) s i = let m = hands (send e) s i in ask (m .orderly) (m .follows) (λ _ t j. follow-parts h t j)
