@@ -3,7 +3,7 @@
 -- begins. The calls are in model/specs/Calls.antt, the book in Book.antt over Pages.antt: what waits, was admitted, read, queued, sent
 use mathlib.Core.Bool.{Bool, true, false, cond, _&&_}
 use mathlib.Core.List.{List, [], _∷_, _++_, tail}
-use mathlib.Core.Logic.{_⊎_}
+use mathlib.Core.Logic.{_⊎_, _≢_}
 use mathlib.Core.Path.{_≡_}
 use Prim.Native.Nat.{ℕ, zero, _+_, _%_, _^_, _≤_, _<_}
 use lib.ListN.{length, getD}
@@ -22,12 +22,13 @@ use Rattle.ring.specs.Waiting.{waiting, Same}
 use Rattle.marks.specs.Copies.{bytesAt}
 use Rattle.model.specs.Every.{sameReg}
 use Rattle.model.specs.Answers.{Answer, Refused, Done, Shown, ok, isNumber}
-use Rattle.model.specs.Calls.{Config, Op, slotted, aside, SetEnabled, PollRead, Aside, Open, Close, Queue, calls, startRow}
+use Rattle.model.specs.Calls.{Config, Op, slotted, other, aside, SetEnabled, PollRead, Allocate, AllocateAll, Aside, Open}
+use Rattle.model.specs.Calls.{Close, Queue, calls, startRow}
 use Rattle.model.specs.Machine.{Buf, Call, start, begin, go, question, overruns, Event, Ans, ended, handed, told, Way}
 use Rattle.model.specs.Machine.{idle, busy, Machine, over, misfit, fed, call, started}
 use Rattle.machine.specs.Suspended.{drive, machineOf}
 use Rattle.proof_book.specs.Pages.{Packet, bytesOf, stampsOf, OutPage, InPage, Pages}
-use Rattle.proof_book.specs.Book.{isoOf, receiving, front, book}
+use Rattle.proof_book.specs.Book.{isoOf, receiving, front, slotTold, book}
 use Rattle.proof_book.specs.Stamps.{stamped}
 use Rattle.proof_book.specs.Lengths.{Known, learnt, lengthAt}
 use Rattle.proof_book.specs.Others.{releasing, Names, underWay, callNames, Away, SamePage}
@@ -232,6 +233,18 @@ stopped (begin o) n b = cond (cond (calls .slots o) (misfit calls (book .driver)
 stopped (go v) n b = cond (misfit calls (book .driver) (n .st) b) true (notGoing (n .way) v)
 stopped (question q) n b = true
 
+-- the packets of endpoint e, IN and OUT, are as before, and all that is known of them; the slot of an OUT that was given may be another
+pub record SamePackets (e : ℕ) (t t′ : Pages) : Type 0 where
+  pub outs : t′ .outs e ≡ slotTold (t .outs e) (t′ .outs e .slot)
+  pub ins : t′ .ins e ≡ t .ins e
+
+-- an allocation, at any time; and before EP0's start, from which on the stage is 2, all that is begun and continued
+pub data BeforeStart (t : Pages) : Call Config Op → Type 0 where
+  allocation : (d : Dir) (kind address maximum interval : ℕ) → BeforeStart t (begin (other (Allocate d kind address maximum interval)))
+  allocations : (bytes : List ℕ) → BeforeStart t (begin (other (AllocateAll bytes)))
+  begun : (o : Op) → t .kept .globals .stage ≢ 2 → BeforeStart t (begin o)
+  continued : (v : ℕ) → t .kept .globals .stage ≢ 2 → BeforeStart t (go v)
+
 -- the length of a slot
 abbrev pub slotSize : Pages → ℕ
 slotSize t = t .kept .allocator .size
@@ -286,6 +299,8 @@ pub record Sentences (c : Call Config Op) (lent : Buf) (n : Machine Answer Pages
   -- and that of an IN at a load alone, where no packet but the one being sent ceases to wait
   pub unmoved-in : (e v : ℕ) → c ≡ go v → inInterrupt (n .way) ≡ true → loading a e ≡ false → t′ .ins e ≡ n .st .ins e
   pub load-passes : (e v : ℕ) → c ≡ go v → inInterrupt (n .way) ≡ true → PassesOn (n .st .ins e) (t′ .ins e)
+  -- an allocation changes no packet of any endpoint, nor does any call but a start-up before EP0's start
+  pub early-leaves : BeforeStart (n .st) c → (e : ℕ) → SamePackets e (n .st) t′
   -- a call that any row refuses leaves the pages of all endpoints
   pub refusal-leaves : (r : ℕ) → a ≡ ended (Refused r) → (e : ℕ) → (t′ .outs e ≡ n .st .outs e) × (t′ .ins e ≡ n .st .ins e)
   -- a question and a call that rows 1, 2, 3, 15 or 16 stop leave the book; so does an open, close or queue that any row refuses

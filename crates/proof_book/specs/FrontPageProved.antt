@@ -46,6 +46,7 @@ use Rattle.proof_book.specs.Enabling.{enabling-resets}
 use Rattle.proof_book.specs.BusResets.{bus-reset-empties}
 use Rattle.proof_book.specs.SendingCalls.{Sending, SendingAfter, after-call, start-after, start-emptied, sends-of, told-source}
 use Rattle.proof_book.specs.LoadCalls.{loads-of}
+use Rattle.proof_book.specs.EarlyCalls.{Early, no-start, start-early, early-call}
 use Rattle.proof_book.specs.Lengths.{Known, learnt}
 use Rattle.proof_book.specs.LengthCalls.{WayTold, regular, told-on, start-told, length-is}
 use Rattle.proof_book.specs.Others.{releasing, Names, underWay, callNames, Away, SamePage}
@@ -94,6 +95,7 @@ record Before (m : Machine Answer Driver) (n : Machine Answer Pages) : Type 0 wh
   room : Kept m
   fine : Fine n
   sending : Sending n
+  early : Early n
 
 abbrev isTold : Ans Answer → Bool
 isTold (ended a) = false
@@ -185,6 +187,7 @@ module _ (c : Call Config Op) (l : Buf) (m : Machine Answer Driver)
     unmoved = λ e v p i g. let k = before (ap isStart p) in steps-of.unmoved c (x .0) e v n (k .fine) l (a .same) p i g;
     unmoved-in = λ e v p i g. let k = before (ap isStart p) in loads-of c (x .0) e v n (k .fine) (k .sending) l p i .spares (a .same) g;
     load-passes = λ e v p i. let k = before (ap isStart p) in loads-of c (x .0) e v n (k .fine) (k .sending) l p i .passes;
+    early-leaves = λ g. early-call (x .0) c n (before (no-start g) .early) l .leaves g;
     refusal-leaves = λ r g e. let z = refusal-leaves c (x .0) n (λ h. before h .fine) l (a .same) r g in (z .outs e, z .ins e);
     stopped-leaves = stopped-leaves (x .0) n l c;
     refused-leaves = refused-leaves;
@@ -253,9 +256,10 @@ record Agreeing (m : Machine Answer Driver) (n : Machine Answer Pages) : Type 0 
   room : Kept m
   fine : Fine n
   sending : Sending n
+  early : Early n
 
 before-of : {m : Machine Answer Driver} {n : Machine Answer Pages} → Agreeing m n → Before m n
-before-of k = record { phase = k .phase; rest = k .rest; room = k .room; fine = k .fine; sending = k .sending }
+before-of k = record { phase = k .phase; rest = k .rest; room = k .room; fine = k .fine; sending = k .sending; early = k .early }
 
 one : (c : Call Config Op) (l : Buf) (m : Machine Answer Driver) (n : Machine Answer Pages) → Agreeing m n → LentAsLeft c n (m .buf) l
     → let x = drive c m l in Holds-after c l m n × Agreeing (x .1) (written (x .0) c n l .1)
@@ -269,6 +273,7 @@ one c l m n k p =
         room = steps c m (k .room) l;
         fine = call-fine (drive c m l .0) c n (k .fine) l;
         sending = sent-after c l m n (before-of k) .machine;
+        early = early-call (drive c m l .0) c n (k .early) l .machine;
       },
     )
 
@@ -292,6 +297,8 @@ module _ (c : Config) (b : Buf) (row : startRow c b ≡ zero) (m : Machine Answe
           fine = subst (λ (r : ℕ). Fine (started calls (book .driver) (fed book (drive (start c) m b .0)) c r n b .1))
               (sym row) (start-fine (drive (start c) m b .0) c n b);
           sending = start-sent c b row m n .machine;
+          early = subst (λ (r : ℕ). Early (started calls (book .driver) (fed book (drive (start c) m b .0)) c r n b .1))
+              (sym row) (start-early (drive (start c) m b .0) c n b);
         },
       )
 

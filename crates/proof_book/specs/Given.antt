@@ -194,6 +194,9 @@ sets-only dir kind interval e g = by-sort (isIso kind) dir
     by-sort true In = by-every (ltb interval 2)
     by-sort false dir = record { config = refl; stage = refl; ep0-buf = refl; ep0-max = refl; isos = refl }
 
+pub sets-stage : (dir : Dir) (kind interval e : ℕ) (g : Globals) → withSets dir kind interval e g .stage ≡ g .stage
+sets-stage dir kind interval e g = sets-only dir kind interval e g .stage
+
 -- the number's own bit, and the others
 outs-here : (i : Bool) (e x w : ℕ) → x % 16 ≡ e % 16 → isSet w (e % 16) ≡ false → isSet (outsAfter i Out e w) (x % 16) ≡ i
 unfolding outsAfter

@@ -55,6 +55,8 @@ pub mod Asides
 pub mod SendingSteps
 pub mod SendingCalls
 pub mod LoadCalls
+pub mod EarlyScripts
+pub mod EarlyCalls
 pub mod PollsWhole
 pub mod Lent
 pub mod Code

@@ -87,7 +87,7 @@ fed-alike (handed (Wait n)) t i e = alike-refl
 fed-alike (handed Callback) t i e = alike-refl
 fed-alike (told n) t i e = alike-refl
 
-fed-kept : (a : Ans Answer) (t : Pages) → fed book a t .kept ≡ t .kept
+pub fed-kept : (a : Ans Answer) (t : Pages) → fed book a t .kept ≡ t .kept
 fed-kept (ended z) t = refl
 fed-kept (handed (Read r f)) t = refl
 fed-kept (handed (Write r f v)) t = refl
