@@ -21,7 +21,7 @@ use Rattle.state.specs.State.{view}
 use Rattle.ring.specs.Waiting.{waiting, Same}
 use Rattle.marks.specs.Copies.{bytesAt}
 use Rattle.model.specs.Every.{sameReg}
-use Rattle.model.specs.Answers.{Answer, Refused, Done, Shown, ok, isNumber}
+use Rattle.model.specs.Answers.{Answer, Refused, NotYet, Done, Shown, ok, isNumber}
 use Rattle.model.specs.Calls.{Config, Op, slotted, other, aside, SetEnabled, PollRead, Allocate, AllocateAll, Aside, Open}
 use Rattle.model.specs.Calls.{Close, Queue, calls, startRow}
 use Rattle.model.specs.Machine.{Buf, Call, start, begin, go, question, overruns, Event, Ans, ended, handed, told, Way}
@@ -301,8 +301,9 @@ pub record Sentences (c : Call Config Op) (lent : Buf) (n : Machine Answer Pages
   pub load-passes : (e v : ℕ) → c ≡ go v → inInterrupt (n .way) ≡ true → PassesOn (n .st .ins e) (t′ .ins e)
   -- an allocation changes no packet of any endpoint, nor does any call but a start-up before EP0's start
   pub early-leaves : BeforeStart (n .st) c → (e : ℕ) → SamePackets e (n .st) t′
-  -- a call that any row refuses leaves the pages of all endpoints
+  -- a call that any row refuses leaves the pages of all endpoints; so does a poll that is not done yet
   pub refusal-leaves : (r : ℕ) → a ≡ ended (Refused r) → (e : ℕ) → (t′ .outs e ≡ n .st .outs e) × (t′ .ins e ≡ n .st .ins e)
+  pub not-yet-leaves : a ≡ ended NotYet → (e : ℕ) → (t′ .outs e ≡ n .st .outs e) × (t′ .ins e ≡ n .st .ins e)
   -- a question and a call that rows 1, 2, 3, 15 or 16 stop leave the book; so does an open, close or queue that any row refuses
   pub stopped-leaves : stopped c n lent ≡ true → t′ ≡ n .st
   pub refused-leaves : (o : Aside) (r : ℕ) → c ≡ begin (aside o) → a ≡ ended (Refused r) → t′ ≡ n .st

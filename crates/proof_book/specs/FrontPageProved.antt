@@ -18,7 +18,7 @@ use Rattle.ring.specs.Laws.{waiting-length}
 use Rattle.model.specs.Simulates.{Phase}
 use Rattle.model.specs.Statics.{flag}
 use Rattle.model.specs.Cells.{EpCore}
-use Rattle.model.specs.Answers.{Answer, Refused, Shown, ok}
+use Rattle.model.specs.Answers.{Answer, Refused, NotYet, Shown, ok}
 use Rattle.model.specs.Calls.{Config, Op, aside, Aside, Open, Close, Queue, calls, startRow}
 use Rattle.model.specs.Machine.{Buf, Call, start, begin, go, question, overruns, Event, Ans, ended, handed, told, blankA, Machine, fed, started}
 use Rattle.model.specs.Agree.{After, Ways, GoodA, agrees, from-start}
@@ -188,7 +188,8 @@ module _ (c : Call Config Op) (l : Buf) (m : Machine Answer Driver)
     unmoved-in = λ e v p i g. let k = before (ap isStart p) in loads-of c (x .0) e v n (k .fine) (k .sending) l p i .spares (a .same) g;
     load-passes = λ e v p i. let k = before (ap isStart p) in loads-of c (x .0) e v n (k .fine) (k .sending) l p i .passes;
     early-leaves = λ g. early-call (x .0) c n (before (no-start g) .early) l .leaves g;
-    refusal-leaves = λ r g e. let z = refusal-leaves c (x .0) n (λ h. before h .fine) l (a .same) r g in (z .outs e, z .ins e);
+    refusal-leaves = λ r g e. let z = refusal-leaves c (x .0) n (λ h. before h .fine) l (a .same) (Refused r) refl g in (z .outs e, z .ins e);
+    not-yet-leaves = λ g e. let z = refusal-leaves c (x .0) n (λ h. before h .fine) l (a .same) NotYet refl g in (z .outs e, z .ins e);
     stopped-leaves = stopped-leaves (x .0) n l c;
     refused-leaves = refused-leaves;
     counted = counted;

@@ -57,6 +57,7 @@ module _ (dir : Dir) (e : ℕ) (lent b : Buf) (n : Machine Answer Pages) (d : Dr
     load-passes = λ e v p i. let z : _≡_ {A = ℕ} 0 1 = cc in absurd (omega arith);
     early-leaves = λ g e. record { outs = refl; ins = refl };
     refusal-leaves = λ r q e. (refl, refl);
+    not-yet-leaves = λ q e. let z : _≡_ {A = ℕ} 0 1 = cc in absurd (omega arith);
     stopped-leaves = λ h. refl;
     refused-leaves = λ o r p q. refl;
     counted = λ e. same refl;
