@@ -168,10 +168,10 @@ leaves f n s e g = by (receiving (s .0) f)
     by false = refl
 
 -- no IN page changed
-waits-on : {p : InPage} → PassesOn p p
+pub waits-on : {p : InPage} → PassesOn p p
 waits-on = record { waiting = inl refl; queued = refl }
 
-still-in : {s t : Bk} (q : Access) → ((e : ℕ) → t .0 .ins e ≡ s .0 .ins e) → Passing s q t
+pub still-in : {s t : Bk} (q : Access) → ((e : ℕ) → t .0 .ins e ≡ s .0 .ins e) → Passing s q t
 still-in {s} q h = record { spares = λ e g. h e; passes = λ i e. subst (λ (p : InPage). PassesOn (s .0 .ins e) p) (sym (h e)) waits-on }
 
 arrive-still : (f n : ℕ) (s : Bk) → Passing s (Receive f 0) (handB (arrive f n) s .1)
@@ -222,7 +222,7 @@ loaded-on p b = by (some (passedIn p .waiting))
     by false = record { waiting = passed-on p .waiting; queued = refl }
 
 module _ (f : ℕ) (s : Bk) where
-  abbrev passed : Bk
+  abbrev pub passed : Bk
   passed = actB (complete f) s
 
   -- the page of IN f is one to which its tail has passed on
@@ -230,7 +230,7 @@ module _ (f : ℕ) (s : Bk) where
   at-page i e h p k = subst (λ (q : InPage). PassesOn q p) (i f e (sym h)) k
 
   -- where none waits
-  empty-load : Passing s (Write EpTLen f 0) passed
+  pub empty-load : Passing s (Write EpTLen f 0) passed
   empty-load = record {
     spares = λ e g. ap (λ (u : Bool). cond u (passedIn (s .0 .ins f)) (s .0 .ins e)) g;
     passes = λ i e. at-elim (λ (p : InPage). PassesOn (s .0 .ins e) p) f e (passedIn (s .0 .ins f)) (s .0 .ins)
@@ -238,7 +238,7 @@ module _ (f : ℕ) (s : Bk) where
   }
 
   -- where one does
-  packet-load : Passing s (Transmit f 0) (handB (send f) passed .1)
+  pub packet-load : Passing s (Transmit f 0) (handB (send f) passed .1)
   packet-load = record {
     spares = λ e g. ap (λ (u : Bool). cond u (loadedIn (passed .0 .ins f) (s .1)) (cond u (passedIn (s .0 .ins f)) (s .0 .ins e))) g;
     passes = λ i e. at-elim (λ (p : InPage). PassesOn (s .0 .ins e) p) f e (loadedIn (passed .0 .ins f) (s .1)) (passed .0 .ins)

@@ -41,13 +41,17 @@ no-start (allocations bytes) = refl
 no-start (page.begun o g) = refl
 no-start (page.continued v g) = refl
 
-packets : {t : Pages} (e : ℕ) → SamePackets e t t
-packets e = record { outs = refl; ins = refl }
+-- no packet of endpoint e changed
+abbrev Packets : ℕ → Pages → Pages → Type 0
+Packets e t t′ = SamePackets (t .outs e) (t′ .outs e) × (t′ .ins e ≡ t .ins e)
+
+packets : (t : Pages) (e : ℕ) → Packets e t t
+packets t e = (refl, refl)
 
 -- after a call c, from pages t
 pub record EarlyAfter (c : Call Config Op) (t : Pages) (y : Ans Answer × Machine Answer Pages) : Type 0 where
   pub machine : Early (y .1)
-  pub leaves : BeforeStart t c → (e : ℕ) → SamePackets e t (y .1 .st)
+  pub leaves : BeforeStart t c → (e : ℕ) → Packets e t (y .1 .st)
 
 module _ (a : Ans Answer) where
   abbrev halts : Bool → tree.Out Bk Answer → Ans Answer × Machine Answer Pages
@@ -76,8 +80,8 @@ module _ (a : Ans Answer) where
 
   -- a row stops it
   stays : (c : Call Config Op) (n : Machine Answer Pages) (b : Buf) (k : ℕ) → Early n → EarlyAfter c (n .st) (stay calls (book .driver) k (lentTo calls (book .driver) n b))
-  stays c n b k (started-up h w) = record { machine = started-up h w; leaves = λ _. packets }
-  stays c n b k (blank h w) = record { machine = blank h w; leaves = λ _. packets }
+  stays c n b k (started-up h w) = record { machine = started-up h w; leaves = λ _. packets (n .st) }
+  stays c n b k (blank h w) = record { machine = blank h w; leaves = λ _. packets (n .st) }
 
   either : {c : Call Config Op} {t : Pages} (u : Bool) (x y : Ans Answer × Machine Answer Pages) → EarlyAfter c t x → EarlyAfter c t y → EarlyAfter c t (cond u x y)
   either true x y h k = h
@@ -94,7 +98,7 @@ module _ (a : Ans Answer) where
   begun-started : (o : Op) (t : Pages) (b : Buf) → Started t → EarlyAfter (begin o) t (halts (calls .irq o) (run bookOps (code o) (t, b)))
   begun-started o t b h = record {
     machine = halted-started (calls .irq o) (t, b) (run bookOps (code o) (t, b)) (stays-started (code o) (t, b) h);
-    leaves = λ g e. subst (λ (z : tree.Out Bk Answer). SamePackets e t (halts (calls .irq o) z .1 .st)) (sym (refused b h g)) (packets e);
+    leaves = λ g e. subst (λ (z : tree.Out Bk Answer). Packets e t (halts (calls .irq o) z .1 .st)) (sym (refused b h g)) (packets t e);
   }
 
   -- ---- begun on blank pages
@@ -125,8 +129,8 @@ module _ (a : Ans Answer) where
     beside-after : (o : Op) → Started (n .st) → WayStarted (n .way) → EarlyAfter (begin o) (n .st) (besides (run bookOps (code o) (n .st, b)))
     beside-after o h w = record {
       machine = beside-early h w (run bookOps (code o) (n .st, b)) (stays-started (code o) (n .st, b) h);
-      leaves = λ g e. subst (λ (z : tree.Out Bk Answer). SamePackets e (n .st) (besides z .1 .st))
-          (sym (refused b h g)) (packets e);
+      leaves = λ g e. subst (λ (z : tree.Out Bk Answer). Packets e (n .st) (besides z .1 .st))
+          (sym (refused b h g)) (packets (n .st) e);
     }
 
     begun-after : (o : Op) → Early n → (w : Way Answer Pages) → n .way ≡ w → EarlyAfter (begin o) (n .st) (begun calls (book .driver) (fed book a) o n w b)
@@ -161,11 +165,11 @@ module _ (a : Ans Answer) where
   started-after c (suc r) n b h = h
 
   stays-put : (c : Call Config Op) (n : Machine Answer Pages) (k : ℕ) → Early n → EarlyAfter c (n .st) (stay calls (book .driver) k n)
-  stays-put c n k h = record { machine = h; leaves = λ _. packets }
+  stays-put c n k h = record { machine = h; leaves = λ _. packets (n .st) }
 
   pub early-call : (c : Call Config Op) (n : Machine Answer Pages) → Early n → (b : Buf) → EarlyAfter c (n .st) (written a c n b)
   early-call (start c) n h b = record { machine = started-after c (startRow c b) n b h; leaves = λ g e. absurd (true≢false (no-start g)) }
   early-call (begin o) n h b = either (cond (calls .slots o) (misfit calls (book .driver) (n .st) b) false) _ _
       (stays-put (begin o) n 1 h) (begun-after n b o h (n .way) refl)
   early-call (go v) n h b = either (misfit calls (book .driver) (n .st) b) _ _ (stays-put (go v) n 1 h) (continued-after n b v h (n .way) refl)
-  early-call (question q) n h b = record { machine = stays (question q) n b 0 h .machine; leaves = λ _. packets }
+  early-call (question q) n h b = record { machine = stays (question q) n b 0 h .machine; leaves = λ _. packets (n .st) }

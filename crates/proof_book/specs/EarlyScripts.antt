@@ -74,11 +74,9 @@ pub record Blank (t : Pages) : Type 0 where
   pub outs : (e : ℕ) → BlankOut (t .outs e)
   pub ins : (e : ℕ) → t .ins e ≡ emptyIn
 
-pub blank-packets : {t t′ : Pages} → Blank t → Blank t′ → (e : ℕ) → SamePackets e t t′
-blank-packets {t} {t′} h k e = record {
-  outs = k .outs e ∙ ap (λ (p : OutPage). slotTold p (t′ .outs e .slot)) (sym (h .outs e));
-  ins = k .ins e ∙ sym (h .ins e);
-}
+pub blank-packets : {t t′ : Pages} → Blank t → Blank t′ → (e : ℕ) → SamePackets (t .outs e) (t′ .outs e) × (t′ .ins e ≡ t .ins e)
+blank-packets {t} {t′} h k e =
+    (k .outs e ∙ ap (λ (p : OutPage). slotTold p (t′ .outs e .slot)) (sym (h .outs e)), k .ins e ∙ sym (h .ins e))
 
 blank-same : {t t′ : Pages} → Same t t′ → Blank t → Blank t′
 blank-same h i = record { outs = λ e. subst BlankOut (sym (h .outs e)) (i .outs e); ins = λ e. h .ins e ∙ i .ins e }

@@ -198,6 +198,14 @@ addressed (ended z) e = false
 addressed (handed q) e = givesTo q e
 addressed (told k) e = false
 
+-- an OUT's page is as before but for its slot, that of the last receive address
+abbrev pub SamePackets : OutPage → OutPage → Type 0
+SamePackets p p′ = p′ ≡ slotTold p (p′ .slot)
+
+-- one that releases a bus reset's flag, which empties all; no interrupt's does
+abbrev pub emptying : Way Answer Pages → Ans Answer → Bool
+emptying w a = cond (inInterrupt w) false (releasing a)
+
 -- one that loads IN e: its transmit address, or its length 0 where none waits
 abbrev pub loads : Access → ℕ → Bool
 loads (Read r f) e = false
@@ -232,11 +240,6 @@ stopped (start g) n b = cond (eqb (startRow g b) zero) false true
 stopped (begin o) n b = cond (cond (calls .slots o) (misfit calls (book .driver) (n .st) b) false) true (keepsOut (n .way) o)
 stopped (go v) n b = cond (misfit calls (book .driver) (n .st) b) true (notGoing (n .way) v)
 stopped (question q) n b = true
-
--- the packets of endpoint e, IN and OUT, are as before, and all that is known of them; the slot of an OUT that was given may be another
-pub record SamePackets (e : ℕ) (t t′ : Pages) : Type 0 where
-  pub outs : t′ .outs e ≡ slotTold (t .outs e) (t′ .outs e .slot)
-  pub ins : t′ .ins e ≡ t .ins e
 
 -- an allocation, at any time; and before EP0's start, from which on the stage is 2, all that is begun and continued
 pub data BeforeStart (t : Pages) : Call Config Op → Type 0 where
@@ -294,13 +297,15 @@ pub record Sentences (c : Call Config Op) (lent : Buf) (n : Machine Answer Pages
   pub open-waits : (e : ℕ) → t′ .outs e .opened ≡ true → 0 < length (ringBytes d b e)
   -- "an arrival is turned away exactly when 15 do"
   pub decided : (e : ℕ) → Decides c n a e → Decided lent (n .st .outs e) (t′ .outs e)
-  -- "All else, refusals too: no change": an interrupt changes the page of an OUT at its receive address alone
+  -- "All else, refusals too: no change": a continue of an interrupt changes the page of an OUT at its receive address alone, one of another operation
+  -- no packet of an OUT
   pub unmoved : (e v : ℕ) → c ≡ go v → inInterrupt (n .way) ≡ true → addressed a e ≡ false → t′ .outs e ≡ n .st .outs e
-  -- and that of an IN at a load alone, where no packet but the one being sent ceases to wait
-  pub unmoved-in : (e v : ℕ) → c ≡ go v → inInterrupt (n .way) ≡ true → loading a e ≡ false → t′ .ins e ≡ n .st .ins e
-  pub load-passes : (e v : ℕ) → c ≡ go v → inInterrupt (n .way) ≡ true → PassesOn (n .st .ins e) (t′ .ins e)
+  pub unmoved-out : (e v : ℕ) → c ≡ go v → inInterrupt (n .way) ≡ false → releasing a ≡ false → SamePackets (n .st .outs e) (t′ .outs e)
+  -- a continue changes the page of an IN at a load alone, where no packet but the one being sent ceases to wait
+  pub unmoved-in : (e v : ℕ) → c ≡ go v → emptying (n .way) a ≡ false → loading a e ≡ false → t′ .ins e ≡ n .st .ins e
+  pub load-passes : (e v : ℕ) → c ≡ go v → emptying (n .way) a ≡ false → PassesOn (n .st .ins e) (t′ .ins e)
   -- an allocation changes no packet of any endpoint, nor does any call but a start-up before EP0's start
-  pub early-leaves : BeforeStart (n .st) c → (e : ℕ) → SamePackets e (n .st) t′
+  pub early-leaves : BeforeStart (n .st) c → (e : ℕ) → SamePackets (n .st .outs e) (t′ .outs e) × (t′ .ins e ≡ n .st .ins e)
   -- a call that any row refuses leaves the pages of all endpoints; so does a poll that is not done yet
   pub refusal-leaves : (r : ℕ) → a ≡ ended (Refused r) → (e : ℕ) → (t′ .outs e ≡ n .st .outs e) × (t′ .ins e ≡ n .st .ins e)
   pub not-yet-leaves : a ≡ ended NotYet → (e : ℕ) → (t′ .outs e ≡ n .st .outs e) × (t′ .ins e ≡ n .st .ins e)

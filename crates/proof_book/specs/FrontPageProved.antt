@@ -45,7 +45,7 @@ use Rattle.proof_book.specs.RefusedCalls.{isStart, refusal-leaves}
 use Rattle.proof_book.specs.Enabling.{enabling-resets}
 use Rattle.proof_book.specs.BusResets.{bus-reset-empties}
 use Rattle.proof_book.specs.SendingCalls.{Sending, SendingAfter, after-call, start-after, start-emptied, sends-of, told-source}
-use Rattle.proof_book.specs.LoadCalls.{loads-of}
+use Rattle.proof_book.specs.ContinueCalls.{WayOnto, start-onto, goes-on, continues-of}
 use Rattle.proof_book.specs.EarlyCalls.{Early, no-start, start-early, early-call}
 use Rattle.proof_book.specs.Lengths.{Known, learnt}
 use Rattle.proof_book.specs.LengthCalls.{WayTold, regular, told-on, start-told, length-is}
@@ -95,6 +95,7 @@ record Before (m : Machine Answer Driver) (n : Machine Answer Pages) : Type 0 wh
   room : Kept m
   fine : Fine n
   sending : Sending n
+  onto : WayOnto (n .way)
   early : Early n
 
 abbrev isTold : Ans Answer → Bool
@@ -185,8 +186,9 @@ module _ (c : Call Config Op) (l : Buf) (m : Machine Answer Driver)
     open-waits = open-there (a .rest);
     decided = λ e d. let h = ap isStart (d .continues) in steps-of.decided c (x .0) e n (before h .fine) l (a .same) (most-15 h e) d;
     unmoved = λ e v p i g. let k = before (ap isStart p) in steps-of.unmoved c (x .0) e v n (k .fine) l (a .same) p i g;
-    unmoved-in = λ e v p i g. let k = before (ap isStart p) in loads-of c (x .0) e v n (k .fine) (k .sending) l p i .spares (a .same) g;
-    load-passes = λ e v p i. let k = before (ap isStart p) in loads-of c (x .0) e v n (k .fine) (k .sending) l p i .passes;
+    unmoved-out = λ e v p i g. let k = before (ap isStart p) in continues-of c (x .0) e v n (k .fine) (k .sending) (k .onto) l p .outs (a .same) i g;
+    unmoved-in = λ e v p i g. let k = before (ap isStart p) in continues-of c (x .0) e v n (k .fine) (k .sending) (k .onto) l p .spares (a .same) i g;
+    load-passes = λ e v p i. let k = before (ap isStart p) in continues-of c (x .0) e v n (k .fine) (k .sending) (k .onto) l p .passes (a .same) i;
     early-leaves = λ g. early-call (x .0) c n (before (no-start g) .early) l .leaves g;
     refusal-leaves = λ r g e. let z = refusal-leaves c (x .0) n (λ h. before h .fine) l (a .same) (Refused r) refl g in (z .outs e, z .ins e);
     not-yet-leaves = λ g e. let z = refusal-leaves c (x .0) n (λ h. before h .fine) l (a .same) NotYet refl g in (z .outs e, z .ins e);
@@ -257,10 +259,11 @@ record Agreeing (m : Machine Answer Driver) (n : Machine Answer Pages) : Type 0 
   room : Kept m
   fine : Fine n
   sending : Sending n
+  onto : WayOnto (n .way)
   early : Early n
 
 before-of : {m : Machine Answer Driver} {n : Machine Answer Pages} → Agreeing m n → Before m n
-before-of k = record { phase = k .phase; rest = k .rest; room = k .room; fine = k .fine; sending = k .sending; early = k .early }
+before-of k = record { phase = k .phase; rest = k .rest; room = k .room; fine = k .fine; sending = k .sending; onto = k .onto; early = k .early }
 
 one : (c : Call Config Op) (l : Buf) (m : Machine Answer Driver) (n : Machine Answer Pages) → Agreeing m n → LentAsLeft c n (m .buf) l
     → let x = drive c m l in Holds-after c l m n × Agreeing (x .1) (written (x .0) c n l .1)
@@ -274,6 +277,7 @@ one c l m n k p =
         room = steps c m (k .room) l;
         fine = call-fine (drive c m l .0) c n (k .fine) l;
         sending = sent-after c l m n (before-of k) .machine;
+        onto = goes-on (drive c m l .0) c n (k .onto) l;
         early = early-call (drive c m l .0) c n (k .early) l .machine;
       },
     )
@@ -298,6 +302,8 @@ module _ (c : Config) (b : Buf) (row : startRow c b ≡ zero) (m : Machine Answe
           fine = subst (λ (r : ℕ). Fine (started calls (book .driver) (fed book (drive (start c) m b .0)) c r n b .1))
               (sym row) (start-fine (drive (start c) m b .0) c n b);
           sending = start-sent c b row m n .machine;
+          onto = subst (λ (r : ℕ). WayOnto (started calls (book .driver) (fed book (drive (start c) m b .0)) c r n b .1 .way))
+              (sym row) (start-onto (drive (start c) m b .0) c n b);
           early = subst (λ (r : ℕ). Early (started calls (book .driver) (fed book (drive (start c) m b .0)) c r n b .1))
               (sym row) (start-early (drive (start c) m b .0) c n b);
         },

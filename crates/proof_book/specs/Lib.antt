@@ -54,7 +54,8 @@ pub mod BusResets
 pub mod Asides
 pub mod SendingSteps
 pub mod SendingCalls
-pub mod LoadCalls
+pub mod Onward
+pub mod ContinueCalls
 pub mod EarlyScripts
 pub mod EarlyCalls
 pub mod PollsWhole
