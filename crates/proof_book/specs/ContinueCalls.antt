@@ -23,7 +23,8 @@ use Rattle.proof_book.specs.BookTracks.{end, ask}
 use Rattle.proof_book.specs.BookCounts.{Periodic}
 use Rattle.proof_book.specs.BookDecides.{Watched, waits-on}
 use Rattle.proof_book.specs.BookCalls.{WayFine, Fine, sending}
-use Rattle.proof_book.specs.SendingSteps.{Alike, Followed}
+use Rattle.proof_book.specs.SendingSteps.{Followed}
+use Rattle.proof_book.specs.SendingPages.{Alike}
 use Rattle.proof_book.specs.SendingCalls.{WayFollowed, Sending, fed-alike}
 use Rattle.proof_book.specs.OthersCalls.{fed-in}
 use Rattle.proof_book.specs.BusResets.{releasing-blank}

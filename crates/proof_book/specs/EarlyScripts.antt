@@ -38,7 +38,7 @@ use Rattle.proof_book.specs.Book.{Bk, some, emptyOut, slotTold, emptyIn,
 use Rattle.proof_book.specs.Book.{handB, rowB, isoOf, isoOut, receiving, waitsOn, givenB, startedB, switchB}
 use Rattle.proof_book.specs.Book.{busResetB, feedB, bookOps}
 use Rattle.proof_book.specs.Frame.{at-elim}
-use Rattle.proof_book.specs.Given.{sets-stage}
+use Rattle.proof_book.specs.GivenParts.{sets-stage}
 use Rattle.proof_book.specs.FrontPage.{SamePackets}
 use Rattle.proof_book.specs.BookTracks.{Tracks, end, ask, earlier, tracks-bind}
 use Rattle.proof_book.specs.Refusing.{Same, leavesPages, put-same, act-same}

@@ -7,11 +7,13 @@ pub mod Others
 pub mod FrontPage
 pub mod Coupling
 pub mod Cells
+pub mod GivenParts
 pub mod Given
 pub mod Allocations
 pub mod AllocationsLaws
 pub mod Lens
 pub mod Frame
+pub mod FrameBytes
 pub mod Held
 pub mod Lies
 pub mod Chips
@@ -52,6 +54,7 @@ pub mod RefusedCalls
 pub mod Enabling
 pub mod BusResets
 pub mod Asides
+pub mod SendingPages
 pub mod SendingSteps
 pub mod SendingCalls
 pub mod Onward

@@ -38,10 +38,10 @@ use Rattle.proof_book.specs.FrontPage.{written, EmptiedIn, slotSize, Bei
 use Rattle.proof_book.specs.BookTracks.{end, ask}
 use Rattle.proof_book.specs.InterruptParts.{of-interrupt}
 use Rattle.proof_book.specs.Releases.{mayQueue, of-slotted, of-other, of-aside, of-starting}
-use Rattle.proof_book.specs.SendingSteps.{Orderly, Alike, alike-refl, alike-empty, told-alike, Going, keeps, empties}
-use Rattle.proof_book.specs.SendingSteps.{Follows, spot, Goes, Within, Asked, orderly-with, never, none-left}
-use Rattle.proof_book.specs.SendingSteps.{Followed, follow, follow-parts}
-use Rattle.proof_book.specs.SendingSteps as steps
+use Rattle.proof_book.specs.SendingPages.{Orderly, Alike, alike-refl, alike-empty, told-alike, Going, keeps, empties}
+use Rattle.proof_book.specs.SendingPages.{Follows, orderly-with, never, none-left}
+use Rattle.proof_book.specs.SendingPages as pages-of
+use Rattle.proof_book.specs.SendingSteps.{spot, Goes, Within, Asked, Followed, follow, follow-parts}
 use Rattle.proof_book.specs.SlotsKept.{sent-used, sent-size}
 
 -- ---- in the book alone
@@ -60,7 +60,7 @@ of-follows {P} {t} {t′} f e s = by (f .base e) (f .pages e .going s)
     by : (t′ .kept .plain In e .base ≡ t .kept .plain In e .base) ⊎ EmptiedIn (t′ .ins e) → Going P (t .ins e) (t′ .ins e) → Fate e t t′
     by (inl b) (keeps k) = goes (record { sending = k .sending; shown = k .shown; place = rw (b, k .turn, k .waiting, f .size) refl; size = f .size })
     by (inr x) (keeps k) = anew x
-    by z (steps.passes p q) = passes p
+    by z (pages-of.passes p q) = passes p
     by z (empties x) = anew x
 
 of-within : (u : Bool) {t t′ : Pages} → Within u t t′ → Fates t t′
