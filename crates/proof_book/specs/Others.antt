@@ -48,7 +48,7 @@ slottedNames (PollWrite e bytes) = only In e
 slottedNames (PollDataOut n) = none
 slottedNames (BeginDataIn bytes first last) = none
 
--- an allocation gives a number of its own choice, before EP0's start, where none wait yet
+-- an allocation gives a number of its own choice; it changes no packet (`early-leaves` of FrontPage.antt)
 abbrev pub otherNames : Other → Names
 otherNames (Allocate d kind address maximum interval) = any
 otherNames (AllocateAll bytes) = any
@@ -76,13 +76,14 @@ asideNames (Open e) = only Out e
 asideNames (Close e) = only Out e
 asideNames (Queue e bytes) = only In e
 
+-- in its begin
 abbrev pub opNames : Op → Names
 opNames interrupt = none
 opNames (slotted o) = slottedNames o
 opNames (other o) = otherNames o
 opNames (aside o) = asideNames o
 
--- its continues: those of an interrupt go by their accesses (`unmoved`, `unmoved-in` of FrontPage.antt)
+-- and in its continues; those of an interrupt go by their accesses (`unmoved`, `unmoved-in`)
 abbrev pub onNames : Op → Names
 onNames interrupt = any
 onNames (slotted o) = slottedNames o
