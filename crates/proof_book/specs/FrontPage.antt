@@ -22,7 +22,7 @@ use Rattle.ring.specs.Waiting.{waiting, Same}
 use Rattle.marks.specs.Copies.{bytesAt}
 use Rattle.model.specs.Every.{sameReg}
 use Rattle.model.specs.Answers.{Answer, Refused, NotYet, Done, Shown, ok, isNumber}
-use Rattle.model.specs.Calls.{Config, Op, slotted, other, aside, SetEnabled, PollRead, Allocate, AllocateAll, Aside, Open}
+use Rattle.model.specs.Calls.{Config, Op, slotted, other, aside, SetEnabled, PollRead, Allocate, AllocateAll, Advance, Aside, Open}
 use Rattle.model.specs.Calls.{Close, Queue, calls, startRow}
 use Rattle.model.specs.Machine.{Buf, Call, start, begin, go, question, overruns, Event, Ans, ended, handed, told, Way}
 use Rattle.model.specs.Machine.{idle, busy, Machine, over, misfit, fed, call, started}
@@ -304,6 +304,8 @@ pub record Sentences (c : Call Config Op) (lent : Buf) (n : Machine Answer Pages
   -- a continue changes the page of an IN at a load alone, where no packet but the one being sent ceases to wait
   pub unmoved-in : (e v : ℕ) → c ≡ go v → emptying (n .way) a ≡ false → loading a e ≡ false → t′ .ins e ≡ n .st .ins e
   pub load-passes : (e v : ℕ) → c ≡ go v → emptying (n .way) a ≡ false → PassesOn (n .st .ins e) (t′ .ins e)
+  -- the begin of an advance changes none
+  pub advance-begins : (e f : ℕ) → c ≡ begin (other (Advance e)) → t′ .ins f ≡ n .st .ins f
   -- an allocation changes no packet of any endpoint, nor does any call but a start-up before EP0's start
   pub early-leaves : BeforeStart (n .st) c → (e : ℕ) → SamePackets (n .st .outs e) (t′ .outs e) × (t′ .ins e ≡ n .st .ins e)
   -- a call that any row refuses leaves the pages of all endpoints; so does a poll that is not done yet

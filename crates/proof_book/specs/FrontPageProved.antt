@@ -46,6 +46,7 @@ use Rattle.proof_book.specs.Enabling.{enabling-resets}
 use Rattle.proof_book.specs.BusResets.{bus-reset-empties}
 use Rattle.proof_book.specs.SendingCalls.{Sending, SendingAfter, after-call, start-after, start-emptied, sends-of, told-source}
 use Rattle.proof_book.specs.ContinueCalls.{WayOnto, start-onto, goes-on, continues-of}
+use Rattle.proof_book.specs.AdvanceBegins.{advance-begins}
 use Rattle.proof_book.specs.EarlyCalls.{Early, no-start, start-early, early-call}
 use Rattle.proof_book.specs.Lengths.{Known, learnt}
 use Rattle.proof_book.specs.LengthCalls.{WayTold, regular, told-on, start-told, length-is}
@@ -189,6 +190,7 @@ module _ (c : Call Config Op) (l : Buf) (m : Machine Answer Driver)
     unmoved-out = λ e v p i g. let k = before (ap isStart p) in continues-of c (x .0) e v n (k .fine) (k .sending) (k .onto) l p .outs (a .same) i g;
     unmoved-in = λ e v p i g. let k = before (ap isStart p) in continues-of c (x .0) e v n (k .fine) (k .sending) (k .onto) l p .spares (a .same) i g;
     load-passes = λ e v p i. let k = before (ap isStart p) in continues-of c (x .0) e v n (k .fine) (k .sending) (k .onto) l p .passes (a .same) i;
+    advance-begins = λ e f p. advance-begins c (x .0) e f n l (a .same) p;
     early-leaves = λ g. early-call (x .0) c n (before (no-start g) .early) l .leaves g;
     refusal-leaves = λ r g e. let z = refusal-leaves c (x .0) n (λ h. before h .fine) l (a .same) (Refused r) refl g in (z .outs e, z .ins e);
     not-yet-leaves = λ g e. let z = refusal-leaves c (x .0) n (λ h. before h .fine) l (a .same) NotYet refl g in (z .outs e, z .ins e);

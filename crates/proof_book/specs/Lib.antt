@@ -59,6 +59,7 @@ pub mod SendingSteps
 pub mod SendingCalls
 pub mod Onward
 pub mod ContinueCalls
+pub mod AdvanceBegins
 pub mod EarlyScripts
 pub mod EarlyCalls
 pub mod PollsWhole
