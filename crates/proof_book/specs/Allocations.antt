@@ -47,7 +47,7 @@ use Rattle.proof_book.specs.Book.{freshPages}
 use Rattle.proof_book.specs.Coupling.{Coupling, Shape, Used, Unused, Held, OutFits, InFits, AtRest, SameKept, lensOf, slotStamps}
 use Rattle.proof_book.specs.Frame.{none-stands}
 use Rattle.proof_book.specs.StampsLaws.{none-stamps}
-use Rattle.proof_book.specs.Given.{Further, zero-addr}
+use Rattle.proof_book.specs.GivenParts.{Further, zero-addr}
 
 -- ---- start-up
 

@@ -39,7 +39,8 @@ use Rattle.proof_book.specs.Cells.{epOn-by}
 use Rattle.proof_book.specs.Pages.{OutPage, Kept, Pages, withKept, keptAllocator}
 use Rattle.proof_book.specs.Book.{globalsBy, enableB, givenB, allocateB, startedB, allocateB0}
 use Rattle.proof_book.specs.Coupling.{Coupling, Shape, Used, Unused, Held, OutFits, InFits, AtRest, SameKept, endOf}
-use Rattle.proof_book.specs.Given.{Further, further, gives, receives, receives-by}
+use Rattle.proof_book.specs.Given.{gives}
+use Rattle.proof_book.specs.GivenParts.{Further, further, receives, receives-by}
 
 same-further : (a : Allocator) → Sound a → Further a a
 same-further a s = record { size = refl; count = refl; next = omega arith; sound = s; allocated = λ dir j. refl }

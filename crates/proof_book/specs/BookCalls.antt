@@ -27,7 +27,7 @@ use Rattle.proof_book.specs.BookTracks.{Tracks, end, ask}
 use Rattle.proof_book.specs.InterruptParts.{of-interrupt}
 use Rattle.proof_book.specs.BookCounts.{Periodic, Uncounted, Counts, Turned, Followed, follow}
 use Rattle.proof_book.specs.Releases.{Clears, clears, of-slotted, of-other, of-aside, of-starting}
-use Rattle.proof_book.specs.Refusing.{isRefused, Tells, t-ask, call-tells, start-tells}
+use Rattle.proof_book.specs.Refusing.{isNo, Tells, t-ask, call-tells, start-tells}
 use Rattle.proof_book.specs.BookDecides.{Idle, Arrives, sendsTo, Watched, watch}
 
 -- ---- what is under way
@@ -38,7 +38,7 @@ Watches false s o = Clears s o
 
 abbrev pub WayFine : Way Answer Pages → Type 0
 WayFine idle = Unit {0}
-WayFine (busy i q k) = (v : ℕ) (s : Bk) → Periodic (s .0) → Followed s (k v s) × Watches i s (k v s) × Tells isRefused s (k v s)
+WayFine (busy i q k) = (v : ℕ) (s : Bk) → Periodic (s .0) → Followed s (k v s) × Watches i s (k v s) × Tells isNo s (k v s)
 
 pub record Fine (n : Machine Answer Pages) : Type 0 where
   pub pages : Periodic (n .st)
@@ -96,7 +96,7 @@ module _ (a : Ans Answer) where
   later true s t q k (ask j m h) v u = h v u tt
   later false s t q k (ask j m h) v u = h v u tt
 
-  halted-fine : (i : Bool) (s r : Bk) (o : tree.Out Bk Answer) → Followed s o → Watches i s o → Tells isRefused r o → Fine (halts i o .1)
+  halted-fine : (i : Bool) (s r : Bk) (o : tree.Out Bk Answer) → Followed s o → Watches i s o → Tells isNo r o → Fine (halts i o .1)
   halted-fine i s r (ends z t) (end j q) w x = record { pages = j; way = tt }
   halted-fine i s r (asks q t k) (ask j m g) w (t-ask x) = record { pages = fed-periodic a (t .0) j; way = λ v u l. (g v u l, later i s t q k w v u, x v u) }
 
@@ -371,7 +371,7 @@ module _ (a : Ans Answer) (e v : ℕ) (n : Machine Answer Pages) (h : Fine n) (b
   Stays y = addressed (y .0) e ≡ false → y .1 .st .outs e ≡ n .st .outs e
 
   stays-at : (o : tree.Out Bk Answer) → Watched (n .st, b) o → Stays (halt calls (book .driver) (fed book a) true o)
-  stays-at (ends z t) (end j q) k = q .outs e
+  stays-at (ends z t) (end j q) k = q .rest .outs e
   stays-at (asks q t g) (ask j m f) k = fed-away a away (t .0) ∙ m .leaves e k
 
   stays-wide : (u : Bool) (y : Ans Answer × Machine Answer Pages) → Stays y → Stays (cond u (stay calls (book .driver) 16 (lentTo calls (book .driver) n b)) y)

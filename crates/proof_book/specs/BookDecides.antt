@@ -1,6 +1,7 @@
--- In an interrupt the book's OUT pages change at one access alone: a receive address, where an arrival is decided
+-- In an interrupt the book's OUT pages change at one access alone: a receive address, where an arrival is decided; its IN pages at a load alone
 use mathlib.Core.Bool.{Bool, true, false, cond, true≢false}
-use mathlib.Core.List.{List, [], _∷_}
+use mathlib.Core.List.{List, [], _∷_, tail}
+use mathlib.Core.Logic.{_⊎_, inl, inr}
 use mathlib.Core.Path.{_≡_, refl, ap, subst, sym, _∙_}
 use Prim.Native.Nat.{ℕ, _%_, _<_, min}
 use native.Mathlib.Omega.{arith}
@@ -8,22 +9,28 @@ use lib.ListN.{length}
 use Rattle.bits.specs.Bit.{isSet}
 use Rattle.regs.specs.declared.Access.{Access}
 use Rattle.regs.specs.declared.Access.the-variants.{Read, Write, Receive, Transmit, Ep0Dma, Wait, Callback}
-use Rattle.regs.specs.declared.Dir.the-variants.{Out}
+use Rattle.regs.specs.declared.Reg.the-variants.{EpTLen}
+use Rattle.regs.specs.declared.Dir.the-variants.{Out, In}
+use Rattle.state.specs.Wakes.{wakeCode}
 use Rattle.marks.specs.Copies.{bytesAt}
 use Rattle.model.specs.Tree as tree
+use Rattle.model.specs.Tree.{ends, asks, bindOut}
 use Rattle.model.specs.Cells.{Cell, Val, globals-cell, control-cell, allocator-cell, ep-cell, request-cell, paced-cell}
-use Rattle.model.specs.Script.{Script, run, arrive, send}
-use Rattle.model.specs.Statics.{isoOuts}
+use Rattle.model.specs.Script.{Script, run, bind, look, write, next-len, complete, waken, arrive, send}
+use Rattle.model.specs.Statics.{isoOuts, wake}
+use Rattle.model.specs.Machine.{Buf}
 use Rattle.proof_book.specs.Pages.{Packet, OutPage, InPage, Pages, withOut}
-use Rattle.proof_book.specs.Book.{Bk, putB, some, receiving, arrived, packetB, loadedIn, sentIn, placedIn, handB, bookOps}
-use Rattle.proof_book.specs.Frame.{out-same, at-elim}
-use Rattle.proof_book.specs.FrontPage.{givesTo}
+use Rattle.proof_book.specs.Book.{Bk, putB, actB, handB, some, receiving, arrived, packetB, passedIn, loadedIn, sentIn, placedIn, bookOps}
+use Rattle.proof_book.specs.Frame.{out-same, in-same, at-elim}
+use Rattle.proof_book.specs.FrontPage.{givesTo, PassesOn}
+use Rattle.proof_book.specs.FrontPage as page
 use borrow.Author.Tests.{eq-eqb}
 use lib.Dec.{eqb}
+use Rattle.proof_book.specs.Refusing.{put-same}
 use Rattle.proof_book.specs.BookTracks.{Tracks, end, ask, earlier, tracks-bind}
 use Rattle.proof_book.specs.InterruptParts.{Parts, p-ret, p-bind, p-test, p-read, p-write, p-wait, p-callback}
-use Rattle.proof_book.specs.InterruptParts.{p-get, p-put, p-is, p-look, p-fetch, p-complete, p-no-wakes, p-waken}
-use Rattle.proof_book.specs.InterruptParts.{p-arrive, p-send}
+use Rattle.proof_book.specs.InterruptParts.{p-get, p-put, p-is, p-look, p-fetch, p-load, p-no-wakes, p-waken}
+use Rattle.proof_book.specs.InterruptParts.{p-arrive}
 
 abbrev pub Any : Pages → Type 0
 Any t = Unit {0}
@@ -33,6 +40,11 @@ pub record Idle (s t : Bk) : Type 0 where
   pub outs : (e : ℕ) → t .0 .outs e ≡ s .0 .outs e
   pub sets : isoOuts (t .0 .kept .globals) ≡ isoOuts (s .0 .kept .globals)
   pub bytes : t .1 ≡ s .1
+
+-- and so do the IN pages
+pub record Still (s t : Bk) : Type 0 where
+  pub rest : Idle s t
+  pub ins : (e : ℕ) → t .0 .ins e ≡ s .0 .ins e
 
 -- at a receive address: the endpoint's page with a packet that has arrived, with its slot's bytes
 abbrev pub Arrives : Bk → Access → Bk → Type 0
@@ -57,10 +69,20 @@ sendsTo Callback e = false
 abbrev pub Loads : Access → Bk → Type 0
 Loads q t = (e : ℕ) → sendsTo q e ≡ true → 0 < length (t .0 .ins e .waiting) → (t .0 .ins e .sending ≡ true) × (t .0 .ins e .load ≡ true)
 
+-- numbers count modulo 16
+abbrev pub InPeriodic : Pages → Type 0
+InPeriodic t = (x y : ℕ) → x % 16 ≡ y % 16 → t .ins x ≡ t .ins y
+
+-- where the access does not load IN e, its page stays; where it does, the one being sent may pass
+pub record Passing (s : Bk) (q : Access) (t : Bk) : Type 0 where
+  pub spares : (e : ℕ) → page.loads q e ≡ false → t .0 .ins e ≡ s .0 .ins e
+  pub passes : InPeriodic (s .0) → (e : ℕ) → PassesOn (s .0 .ins e) (t .0 .ins e)
+
 pub record Moves (s : Bk) (q : Access) (t : Bk) : Type 0 where
   pub arrives : Arrives s q t
   pub leaves : Leaves s q t
   pub loads : Loads q t
+  pub passing : Passing s q t
 
 pub idle-then : (s t u : Bk) → Idle s t → Idle t u → Idle s u
 idle-then s t u h k = record { outs = λ e. k .outs e ∙ h .outs e; sets = k .sets ∙ h .sets; bytes = k .bytes ∙ h .bytes }
@@ -74,8 +96,22 @@ arrives-then s t u q h k e x a r =
       z .3 ∙ ap (λ (p : OutPage). arrived p (z .1)) (h .outs e),
     )
 
-moves-then : (s t u : Bk) (q : Access) → Idle s t → Moves t q u → Moves s q u
-moves-then s t u q h k = record { arrives = arrives-then s t u q h (k .arrives); leaves = λ e g. k .leaves e g ∙ h .outs e; loads = k .loads }
+still-then : (s t u : Bk) → Still s t → Still t u → Still s u
+still-then s t u h k = record { rest = idle-then s t u (h .rest) (k .rest); ins = λ e. k .ins e ∙ h .ins e }
+
+passing-then : (s t u : Bk) (q : Access) → Still s t → Passing t q u → Passing s q u
+passing-then s t u q h k = record {
+  spares = λ e g. k .spares e g ∙ h .ins e;
+  passes = λ i e. subst (λ (p : InPage). PassesOn p (u .0 .ins e)) (h .ins e) (k .passes (λ x y m. h .ins x ∙ i x y m ∙ sym (h .ins y)) e);
+}
+
+moves-then : (s t u : Bk) (q : Access) → Still s t → Moves t q u → Moves s q u
+moves-then s t u q h k = record {
+  arrives = arrives-then s t u q (h .rest) (k .arrives);
+  leaves = λ e g. k .leaves e g ∙ h .rest .outs e;
+  loads = k .loads;
+  passing = passing-then s t u q h (k .passing);
+}
 
 pub idle : {s : Bk} → Idle s s
 idle = record { outs = λ e. refl; sets = refl; bytes = refl }
@@ -131,9 +167,28 @@ leaves f n s e g = by (receiving (s .0) f)
         (λ h. absurd (true≢false (sym (ap (λ (k : ℕ). eqb (f % 16) k) h ∙ eq-eqb (f % 16) (f % 16) refl) ∙ g))) (λ _. refl)
     by false = refl
 
+-- no IN page changed
+pub waits-on : {p : InPage} → PassesOn p p
+waits-on = record { waiting = inl refl; queued = refl }
+
+pub still-in : {s t : Bk} (q : Access) → ((e : ℕ) → t .0 .ins e ≡ s .0 .ins e) → Passing s q t
+still-in {s} q h = record { spares = λ e g. h e; passes = λ i e. subst (λ (p : InPage). PassesOn (s .0 .ins e) p) (sym (h e)) waits-on }
+
+arrive-still : (f n : ℕ) (s : Bk) → Passing s (Receive f 0) (handB (arrive f n) s .1)
+arrive-still f n s = still-in (Receive f 0) (λ e. by e (receiving (s .0) f))
+  where
+    by : (e : ℕ) (u : Bool) → cond u (withOut (s .0) f (arrived (s .0 .outs f) (packetB f n s))) (s .0) .ins e ≡ s .0 .ins e
+    by e true = refl
+    by e false = refl
+
 -- an access that is no address
 unmoved : {s : Bk} {q : Access} → isReceive q ≡ false → ((e : ℕ) → sendsTo q e ≡ false) → Moves s q s
-unmoved h g = record { arrives = λ e x a r. no-receive h a; leaves = λ e g. refl; loads = λ e k. absurd (true≢false (sym k ∙ g e)) }
+unmoved {q = q} h g = record {
+  arrives = λ e x a r. no-receive h a;
+  leaves = λ e g. refl;
+  loads = λ e k. absurd (true≢false (sym k ∙ g e));
+  passing = still-in q (λ e. refl);
+}
 
 sends : (f : ℕ) (s : Bk) → Loads (Transmit f 0) (handB (send f) s .1)
 sends f s e = at-page (eqb (e % 16) (f % 16))
@@ -148,15 +203,76 @@ sends f s e = at-page (eqb (e % 16) (f % 16))
     at-page true h = loaded (s .0 .ins f .waiting) refl
     at-page false h = absurd (true≢false (sym h))
 
-abbrev pub Watched : {A : Type 0} → Bk → tree.Out Bk A → Type 0
-Watched s o = Tracks Any Idle Moves s o
+-- ---- a load
 
-after : {A : Type 0} {s t : Bk} {o : tree.Out Bk A} → Idle s t → Watched t o → Watched s o
-after h w = earlier Any Idle Moves idle-then moves-then h w
+-- the tail passes
+passed-on : (p : InPage) → PassesOn p (passedIn p)
+passed-on p = record { waiting = by (p .sending) refl; queued = refl }
+  where
+    by : (u : Bool) → p .sending ≡ u → let w = cond u (tail (p .waiting)) (p .waiting) in
+        (w ≡ p .waiting) ⊎ ((p .sending ≡ true) × (w ≡ tail (p .waiting)))
+    by true h = inr (h, refl)
+    by false h = inl refl
+
+loaded-on : (p : InPage) (b : Buf) → PassesOn p (loadedIn (passedIn p) b)
+loaded-on p b = by (some (passedIn p .waiting))
+  where
+    by : (u : Bool) → PassesOn p (cond u (sentIn (passedIn p) b) (placedIn (passedIn p)))
+    by true = record { waiting = passed-on p .waiting; queued = refl }
+    by false = record { waiting = passed-on p .waiting; queued = refl }
+
+module _ (f : ℕ) (s : Bk) where
+  abbrev pub passed : Bk
+  passed = actB (complete f) s
+
+  -- the page of IN f is one to which its tail has passed on
+  at-page : (i : InPeriodic (s .0)) (e : ℕ) → e % 16 ≡ f % 16 → (p : InPage) → PassesOn (s .0 .ins f) p → PassesOn (s .0 .ins e) p
+  at-page i e h p k = subst (λ (q : InPage). PassesOn q p) (i f e (sym h)) k
+
+  -- where none waits
+  pub empty-load : Passing s (Write EpTLen f 0) passed
+  empty-load = record {
+    spares = λ e g. ap (λ (u : Bool). cond u (passedIn (s .0 .ins f)) (s .0 .ins e)) g;
+    passes = λ i e. at-elim (λ (p : InPage). PassesOn (s .0 .ins e) p) f e (passedIn (s .0 .ins f)) (s .0 .ins)
+        (λ h. at-page i e h (passedIn (s .0 .ins f)) (passed-on (s .0 .ins f))) (λ _. waits-on);
+  }
+
+  -- where one does
+  pub packet-load : Passing s (Transmit f 0) (handB (send f) passed .1)
+  packet-load = record {
+    spares = λ e g. ap (λ (u : Bool). cond u (loadedIn (passed .0 .ins f) (s .1)) (cond u (passedIn (s .0 .ins f)) (s .0 .ins e))) g;
+    passes = λ i e. at-elim (λ (p : InPage). PassesOn (s .0 .ins e) p) f e (loadedIn (passed .0 .ins f) (s .1)) (passed .0 .ins)
+        (λ h. at-page i e h (loadedIn (passed .0 .ins f) (s .1)) own)
+        (λ h. at-elim (λ (p : InPage). PassesOn (s .0 .ins e) p) f e (passedIn (s .0 .ins f)) (s .0 .ins) (λ k. absurd (h k)) (λ _. waits-on));
+  }
+    where
+      own : PassesOn (s .0 .ins f) (loadedIn (passed .0 .ins f) (s .1))
+      own = subst (λ (p : InPage). PassesOn (s .0 .ins f) (loadedIn p (s .1))) (sym (in-same (s .0) f (passedIn (s .0 .ins f)))) (loaded-on (s .0 .ins f) (s .1))
+
+abbrev pub Watched : {A : Type 0} → Bk → tree.Out Bk A → Type 0
+Watched s o = Tracks Any Still Moves s o
+
+after : {A : Type 0} {s t : Bk} {o : tree.Out Bk A} → Still s t → Watched t o → Watched s o
+after h w = earlier Any Still Moves still-then moves-then h w
+
+-- wake-ups alone changed
+woken : (codes : List ℕ) (s : Bk) → Still s (actB (waken codes) s)
+woken codes s = record { rest = record { outs = λ e. refl; sets = refl; bytes = refl }; ins = λ e. refl }
+
+-- `iso_in_complete`, by whether one waits then
+load-watched : (e : ℕ) (s : Bk) (u : Bool) → let next : Script true Unit = bind (look (next-len In e)) (λ n. write EpTLen e n) in Watched s
+    (bindOut (cond u (asks (Transmit e 0) (handB (send e) (passed e s) .1) (λ _ t. run bookOps next t))
+    (asks (Write EpTLen e 0) (passed e s) (λ _ t. ends tt t))) (λ _ t. run bookOps (wake {i = true} In e) t))
+load-watched e s true = ask tt
+    (record { arrives = λ e x a r. no-receive refl a; leaves = λ e g. refl; loads = sends e (passed e s); passing = packet-load e s })
+    (λ v t _. ask tt (unmoved refl (λ e. refl)) (λ v t _. end tt (woken (wakeCode In e ∷ []) t)))
+load-watched e s false = ask tt
+    (record { arrives = λ e x a r. no-receive refl a; leaves = λ e g. refl; loads = λ e k. absurd (true≢false (sym k)); passing = empty-load e s })
+    (λ v t _. end tt (woken (wakeCode In e ∷ []) t))
 
 pub watch : {A : Type 0} {p : Script true A} → Parts A p → (s : Bk) → Watched s (run bookOps p s)
-watch p-ret s = end tt idle
-watch (p-bind h g) s = tracks-bind Any Idle Moves idle-then moves-then (watch h s) (λ a t _. watch (g a) t)
+watch p-ret s = end tt (record { rest = idle; ins = λ e. refl })
+watch (p-bind h g) s = tracks-bind Any Still Moves still-then moves-then (watch h s) (λ a t _. watch (g a) t)
 watch (p-test {b = true} h g) s = watch h s
 watch (p-test {b = false} h g) s = watch g s
 watch (p-read h) s = ask tt (unmoved refl (λ e. refl)) (λ v t _. watch (h v) t)
@@ -164,13 +280,13 @@ watch (p-write h) s = ask tt (unmoved refl (λ e. refl)) (λ v t _. watch h t)
 watch (p-wait h) s = ask tt (unmoved refl (λ e. refl)) (λ v t _. watch h t)
 watch (p-callback h) s = ask tt (unmoved refl (λ e. refl)) (λ v t _. watch h t)
 watch (p-get h) s = watch (h _) s
-watch (p-put {c = c} {v = v} e h) s = after (puts c v s) (watch h _)
+watch (p-put {c = c} {v = v} e h) s = after (record { rest = puts c v s; ins = put-same c v s .ins }) (watch h _)
 watch (p-is h) s = watch (h _) s
 watch (p-look h) s = watch (h _) s
 watch (p-fetch h) s = watch (h _) s
-watch (p-complete h) s = after (record { outs = λ e. refl; sets = refl; bytes = refl }) (watch h _)
-watch (p-no-wakes h) s = after (record { outs = λ e. refl; sets = refl; bytes = refl }) (watch h _)
-watch (p-waken h) s = after (record { outs = λ e. refl; sets = refl; bytes = refl }) (watch h _)
-watch (p-arrive {e = e} {n = n} h) s =
-    ask tt (record { arrives = arrives e n s; leaves = leaves e n s; loads = λ e k. absurd (true≢false (sym k)) }) (λ v t _. watch h t)
-watch (p-send {e = e} h) s = ask tt (record { arrives = λ e x a r. no-receive refl a; leaves = λ e g. refl; loads = sends e s }) (λ v t _. watch h t)
+watch (p-load {e = e}) s = load-watched e s (some (passed e s .0 .ins e .waiting))
+watch (p-no-wakes h) s = after (record { rest = record { outs = λ e. refl; sets = refl; bytes = refl }; ins = λ e. refl }) (watch h _)
+watch (p-waken {codes = codes} h) s = after (woken codes s) (watch h _)
+watch (p-arrive {e = e} {n = n} h) s = ask tt
+    (record { arrives = arrives e n s; leaves = leaves e n s; loads = λ e k. absurd (true≢false (sym k)); passing = arrive-still e n s })
+    (λ v t _. watch h t)

@@ -26,7 +26,8 @@ use Rattle.model_ops.specs.Rings.{wordAt, filledOn, filledEp0}
 use Rattle.proof_book.specs.Pages.{Pages}
 use Rattle.proof_book.specs.Coupling.{endOf, Apart, Coupling}
 use Rattle.proof_book.specs.Lens.{key-ep}
-use Rattle.proof_book.specs.Frame.{bytes-region, only-bytes}
+use Rattle.proof_book.specs.Frame.{only-bytes}
+use Rattle.proof_book.specs.FrameBytes.{bytes-region}
 use Rattle.proof_book.specs.Lies.{ep0-lies}
 use Rattle.proof_book.specs.Held.{LookAgrees, FetchAgrees, ActAgrees, HandAgrees}
 

@@ -27,7 +27,7 @@ use Rattle.model.specs.Machine.{Buf}
 use Rattle.proof_book.specs.Pages.{OutPage, Pages}
 use Rattle.proof_book.specs.Coupling.{endOf, Used, Shape, Apart, ep0Room, lensOf, Armed, AtRest, InRow, Arming, Coupling, Elsewhere, Chip}
 use Rattle.proof_book.specs.Lens.{ep-mod}
-use Rattle.proof_book.specs.Frame.{TailsStay, bytes-changed}
+use Rattle.proof_book.specs.FrameBytes.{TailsStay, bytes-changed}
 
 -- ---- the armed slot is the head's, or none wait
 

@@ -22,7 +22,7 @@ use Rattle.alloc.specs.Alloc.{allocatedIn, slotsOf}
 use Rattle.ring.specs.Slot.{slotAddr, countOf}
 use Rattle.ring.specs.Slots.{slot-from, slot-upto}
 use Rattle.ring.specs.Waiting.{waiting, Same, Only, Placed, SamePlace, Alike}
-use Rattle.ring.specs.Laws.{waiting-foreign, waiting-none, place-trans, place-addr}
+use Rattle.ring.specs.Laws.{waiting-foreign, place-trans, place-addr}
 use Rattle.marks.specs.Only as marks
 use Rattle.model.specs.Cells.{EpCore}
 use Rattle.model.specs.Script.{switch, bus-reset}
@@ -397,7 +397,7 @@ keeps-changed {dir} {e} {d} {d′} c = record {
     place-by {r} {r′} {s} {s′} p q k = subst (λ z. SamePlace z r′) (sym p) (subst (λ z. SamePlace s z) (sym q) k)
 
 -- a slot of a ring, and bytes in a region apart from the ring's
-slot-foreign : {n lo hi : ℕ} {r : EpState} (i : ℕ) (b b′ : Buf) → Placed n r
+pub slot-foreign : {n lo hi : ℕ} {r : EpState} (i : ℕ) (b b′ : Buf) → Placed n r
     → Only lo hi b b′ → (endOf r ≤ lo) ⊎ (hi ≤ r .base) → Same (slotAddr r i) (slotAddr r i + r .stride) b b′
 slot-foreign i b b′ g o (inl a) = λ k l h. o k (inl (omega (arith, slot-upto g i)))
 slot-foreign i b b′ g o (inr a) = λ k l h. o k (inr (omega (arith, slot-from g i)))
@@ -457,48 +457,6 @@ module _ {φ : Phase} {b b′ : Buf} {d d′ : Driver} {t : Pages} (R : Coupling
     arming = λ x. subst (λ g. Arming φ x (isSet (isoOuts g) (x % 16)) (epOn d′ Out x) (t .outs x)) (sym (c .globals))
         (subst (λ r. Arming φ x (isSet (isoOuts (d .globals)) (x % 16)) r (t .outs x)) (sym (c .eps Out x (key-apart x e))) (R .arming x));
   })
-
--- ---- no record changed, bytes of none that wait
-
--- the tail's slot of every IN ring in which some wait is as it was, whole
-abbrev pub TailsStay : Driver → Buf → Buf → Type 0
-TailsStay d b b′ = (x : ℕ) → 0 < countOf (epOn d In x)
-    → Same (slotAddr (epOn d In x) (epOn d In x .tail)) (slotAddr (epOn d In x) (epOn d In x .tail) + epOn d In x .stride) b b′
-
-module _ {φ : Phase} {b b′ : Buf} {d : Driver} {t : Pages} (R : Coupling φ b d t) (long : length b′ ≡ length b) where
-  pub bytes-changed : ((dir : Dir) (x : ℕ) → waiting b′ (epOn d dir x) (lensOf d dir x) ≡ waiting b (epOn d dir x) (lensOf d dir x))
-      → TailsStay d b b′ → Coupling φ b′ d t
-  bytes-changed w s = rebuilt R (keeps-changed (changed-not (R .sized) Out 0)) long (record {
-    step = R .step;
-    same = R .same;
-    outs = λ x. out-bytes long (w Out x) (R .outs x);
-    ins = λ x. in-bytes long (w In x) (s x) (R .ins x);
-    arming = R .arming;
-  })
-
-  -- in a region apart from every ring in which some wait
-  pub bytes-region : (lo hi : ℕ) → Only lo hi b b′
-      → ((dir : Dir) (x : ℕ) → Apart lo hi (epOn d dir x .base) (endOf (epOn d dir x)) ⊎ (countOf (epOn d dir x) ≡ 0)) → Coupling φ b′ d t
-  bytes-region lo hi o away = bytes-changed kept tails
-    where
-      swap : {x y : ℕ} → Apart lo hi x y → (y ≤ lo) ⊎ (hi ≤ x)
-      swap (inl h) = inr h
-      swap (inr h) = inl h
-
-      by : {most : ℕ} {r : EpState} {ls : List ℕ} {ws : List (List ℕ)} → Held most b r ls ws → Apart lo hi (r .base) (endOf r) ⊎ (countOf r ≡ 0)
-          → waiting b′ r ls ≡ waiting b r ls
-      by h (inl a) = waiting-foreign (h .placed) (h .ring) lo hi b b′ o (swap a)
-      by {r = r} {ls = ls} h (inr z) = waiting-none b′ r ls z ∙ sym (waiting-none b r ls z)
-
-      kept : (dir : Dir) (x : ℕ) → waiting b′ (epOn d dir x) (lensOf d dir x) ≡ waiting b (epOn d dir x) (lensOf d dir x)
-      kept Out x = by (R .outs x .held) (away Out x)
-      kept In x = by (R .ins x .held) (away In x)
-
-      tails : TailsStay d b b′
-      tails x w = elim (away In x) [
-        | inl a ↦ slot-foreign (epOn d In x .tail) b b′ (R .ins x .held .placed) o (swap a)
-        | inr z ↦ absurd (omega (arith, z))
-      ]
 
 -- a change of marks or of a copy
 pub only-bytes : {lo hi : ℕ} {b b′ : Buf} → marks.Only lo hi b b′ → Only lo hi b b′

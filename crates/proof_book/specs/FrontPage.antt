@@ -1,16 +1,16 @@
 -- Demand 3, to be read alone: what a list of calls is, what each call is lent, what document 01 compares after each call, and demand 3's own
 -- sentences. Definitions only. `demand-3` (FrontPageProved.antt) says that `AfterCall` holds after every call of every list that an accepted start-up
 -- begins. The calls are in model/specs/Calls.antt, the book in Book.antt over Pages.antt: what waits, was admitted, read, queued, sent
-use mathlib.Core.Bool.{Bool, true, false, cond}
-use mathlib.Core.List.{List, [], _∷_, _++_}
-use mathlib.Core.Logic.{_⊎_}
+use mathlib.Core.Bool.{Bool, true, false, cond, _&&_}
+use mathlib.Core.List.{List, [], _∷_, _++_, tail}
+use mathlib.Core.Logic.{_⊎_, _≢_}
 use mathlib.Core.Path.{_≡_}
 use Prim.Native.Nat.{ℕ, zero, _+_, _%_, _^_, _≤_, _<_}
 use lib.ListN.{length, getD}
 use lib.Dec.{eqb}
 use Rattle.regs.specs.declared.Access.{Access}
 use Rattle.regs.specs.declared.Access.the-variants.{Read, Write, Receive, Transmit, Ep0Dma, Wait, Callback}
-use Rattle.regs.specs.declared.Reg.the-variants.{IntFg}
+use Rattle.regs.specs.declared.Reg.the-variants.{IntFg, EpTLen}
 use Rattle.regs.specs.declared.Dir.{Dir}
 use Rattle.regs.specs.declared.Dir.the-variants.{Out, In}
 use Rattle.state.specs.Driver.{Driver, epOn, lenOn, stampOn}
@@ -20,13 +20,15 @@ use Rattle.le_bytes.specs.Tables.{tab}
 use Rattle.state.specs.State.{view}
 use Rattle.ring.specs.Waiting.{waiting, Same}
 use Rattle.marks.specs.Copies.{bytesAt}
-use Rattle.model.specs.Answers.{Answer, Refused, Done, Shown, ok, isNumber}
-use Rattle.model.specs.Calls.{Config, Op, slotted, aside, SetEnabled, PollRead, Aside, Open, Close, Queue, calls, startRow}
+use Rattle.model.specs.Every.{sameReg}
+use Rattle.model.specs.Answers.{Answer, Refused, NotYet, Done, Shown, ok, isNumber}
+use Rattle.model.specs.Calls.{Config, Op, slotted, other, aside, SetEnabled, PollRead, Allocate, AllocateAll, Advance, Aside, Open}
+use Rattle.model.specs.Calls.{Close, Queue, calls, startRow}
 use Rattle.model.specs.Machine.{Buf, Call, start, begin, go, question, overruns, Event, Ans, ended, handed, told, Way}
 use Rattle.model.specs.Machine.{idle, busy, Machine, over, misfit, fed, call, started}
 use Rattle.machine.specs.Suspended.{drive, machineOf}
 use Rattle.proof_book.specs.Pages.{Packet, bytesOf, stampsOf, OutPage, InPage, Pages}
-use Rattle.proof_book.specs.Book.{isoOf, receiving, front, book}
+use Rattle.proof_book.specs.Book.{isoOf, receiving, front, slotTold, book}
 use Rattle.proof_book.specs.Stamps.{stamped}
 use Rattle.proof_book.specs.Lengths.{Known, learnt, lengthAt}
 use Rattle.proof_book.specs.Others.{releasing, Names, underWay, callNames, Away, SamePage}
@@ -196,6 +198,34 @@ addressed (ended z) e = false
 addressed (handed q) e = givesTo q e
 addressed (told k) e = false
 
+-- an OUT's page is as before but for its slot, that of the last receive address
+abbrev pub SamePackets : OutPage → OutPage → Type 0
+SamePackets p p′ = p′ ≡ slotTold p (p′ .slot)
+
+-- one that releases a bus reset's flag, which empties all; no interrupt's does
+abbrev pub emptying : Way Answer Pages → Ans Answer → Bool
+emptying w a = cond (inInterrupt w) false (releasing a)
+
+-- one that loads IN e: its transmit address, or its length 0 where none waits
+abbrev pub loads : Access → ℕ → Bool
+loads (Read r f) e = false
+loads (Write r f v) e = sameReg r EpTLen && (eqb v 0 && eqb (e % 16) (f % 16))
+loads (Receive f x) e = false
+loads (Transmit f x) e = eqb (e % 16) (f % 16)
+loads (Ep0Dma x) e = false
+loads (Wait n) e = false
+loads Callback e = false
+
+abbrev pub loading : Ans Answer → ℕ → Bool
+loading (ended z) e = false
+loading (handed q) e = loads q e
+loading (told k) e = false
+
+-- "Load: what the Rust's tail passes waits no more": the one being sent may pass; all others wait on, and none is queued
+pub record PassesOn (p p′ : InPage) : Type 0 where
+  pub waiting : (p′ .waiting ≡ p .waiting) ⊎ ((p .sending ≡ true) × (p′ .waiting ≡ tail (p .waiting)))
+  pub queued : p′ .queued ≡ p .queued
+
 -- a call that rows 1, 2, 3, 15 or 16 stop, or a question
 abbrev pub keepsOut : Way Answer Pages → Op → Bool
 keepsOut idle o = false
@@ -210,6 +240,13 @@ stopped (start g) n b = cond (eqb (startRow g b) zero) false true
 stopped (begin o) n b = cond (cond (calls .slots o) (misfit calls (book .driver) (n .st) b) false) true (keepsOut (n .way) o)
 stopped (go v) n b = cond (misfit calls (book .driver) (n .st) b) true (notGoing (n .way) v)
 stopped (question q) n b = true
+
+-- an allocation, at any time; and before EP0's start, from which on the stage is 2, all that is begun and continued
+pub data BeforeStart (t : Pages) : Call Config Op → Type 0 where
+  allocation : (d : Dir) (kind address maximum interval : ℕ) → BeforeStart t (begin (other (Allocate d kind address maximum interval)))
+  allocations : (bytes : List ℕ) → BeforeStart t (begin (other (AllocateAll bytes)))
+  begun : (o : Op) → t .kept .globals .stage ≢ 2 → BeforeStart t (begin o)
+  continued : (v : ℕ) → t .kept .globals .stage ≢ 2 → BeforeStart t (go v)
 
 -- the length of a slot
 abbrev pub slotSize : Pages → ℕ
@@ -260,10 +297,20 @@ pub record Sentences (c : Call Config Op) (lent : Buf) (n : Machine Answer Pages
   pub open-waits : (e : ℕ) → t′ .outs e .opened ≡ true → 0 < length (ringBytes d b e)
   -- "an arrival is turned away exactly when 15 do"
   pub decided : (e : ℕ) → Decides c n a e → Decided lent (n .st .outs e) (t′ .outs e)
-  -- "All else, refusals too: no change": an interrupt changes the page of an OUT at its receive address alone
+  -- "All else, refusals too: no change": a continue of an interrupt changes the page of an OUT at its receive address alone, one of another operation
+  -- no packet of an OUT
   pub unmoved : (e v : ℕ) → c ≡ go v → inInterrupt (n .way) ≡ true → addressed a e ≡ false → t′ .outs e ≡ n .st .outs e
-  -- a call that any row refuses leaves the pages of all endpoints
+  pub unmoved-out : (e v : ℕ) → c ≡ go v → inInterrupt (n .way) ≡ false → releasing a ≡ false → SamePackets (n .st .outs e) (t′ .outs e)
+  -- a continue changes the page of an IN at a load alone, where no packet but the one being sent ceases to wait
+  pub unmoved-in : (e v : ℕ) → c ≡ go v → emptying (n .way) a ≡ false → loading a e ≡ false → t′ .ins e ≡ n .st .ins e
+  pub load-passes : (e v : ℕ) → c ≡ go v → emptying (n .way) a ≡ false → PassesOn (n .st .ins e) (t′ .ins e)
+  -- the begin of an advance changes none
+  pub advance-begins : (e f : ℕ) → c ≡ begin (other (Advance e)) → t′ .ins f ≡ n .st .ins f
+  -- an allocation changes no packet of any endpoint, nor does any call but a start-up before EP0's start
+  pub early-leaves : BeforeStart (n .st) c → (e : ℕ) → SamePackets (n .st .outs e) (t′ .outs e) × (t′ .ins e ≡ n .st .ins e)
+  -- a call that any row refuses leaves the pages of all endpoints; so does a poll that is not done yet
   pub refusal-leaves : (r : ℕ) → a ≡ ended (Refused r) → (e : ℕ) → (t′ .outs e ≡ n .st .outs e) × (t′ .ins e ≡ n .st .ins e)
+  pub not-yet-leaves : a ≡ ended NotYet → (e : ℕ) → (t′ .outs e ≡ n .st .outs e) × (t′ .ins e ≡ n .st .ins e)
   -- a question and a call that rows 1, 2, 3, 15 or 16 stop leave the book; so does an open, close or queue that any row refuses
   pub stopped-leaves : stopped c n lent ≡ true → t′ ≡ n .st
   pub refused-leaves : (o : Aside) (r : ℕ) → c ≡ begin (aside o) → a ≡ ended (Refused r) → t′ ≡ n .st

@@ -18,7 +18,7 @@ use Rattle.ring.specs.Laws.{waiting-length}
 use Rattle.model.specs.Simulates.{Phase}
 use Rattle.model.specs.Statics.{flag}
 use Rattle.model.specs.Cells.{EpCore}
-use Rattle.model.specs.Answers.{Answer, Refused, Shown, ok}
+use Rattle.model.specs.Answers.{Answer, Refused, NotYet, Shown, ok}
 use Rattle.model.specs.Calls.{Config, Op, aside, Aside, Open, Close, Queue, calls, startRow}
 use Rattle.model.specs.Machine.{Buf, Call, start, begin, go, question, overruns, Event, Ans, ended, handed, told, blankA, Machine, fed, started}
 use Rattle.model.specs.Agree.{After, Ways, GoodA, agrees, from-start}
@@ -45,6 +45,9 @@ use Rattle.proof_book.specs.RefusedCalls.{isStart, refusal-leaves}
 use Rattle.proof_book.specs.Enabling.{enabling-resets}
 use Rattle.proof_book.specs.BusResets.{bus-reset-empties}
 use Rattle.proof_book.specs.SendingCalls.{Sending, SendingAfter, after-call, start-after, start-emptied, sends-of, told-source}
+use Rattle.proof_book.specs.ContinueCalls.{WayOnto, start-onto, goes-on, continues-of}
+use Rattle.proof_book.specs.AdvanceBegins.{advance-begins}
+use Rattle.proof_book.specs.EarlyCalls.{Early, no-start, start-early, early-call}
 use Rattle.proof_book.specs.Lengths.{Known, learnt}
 use Rattle.proof_book.specs.LengthCalls.{WayTold, regular, told-on, start-told, length-is}
 use Rattle.proof_book.specs.Others.{releasing, Names, underWay, callNames, Away, SamePage}
@@ -93,6 +96,8 @@ record Before (m : Machine Answer Driver) (n : Machine Answer Pages) : Type 0 wh
   room : Kept m
   fine : Fine n
   sending : Sending n
+  onto : WayOnto (n .way)
+  early : Early n
 
 abbrev isTold : Ans Answer → Bool
 isTold (ended a) = false
@@ -182,7 +187,13 @@ module _ (c : Call Config Op) (l : Buf) (m : Machine Answer Driver)
     open-waits = open-there (a .rest);
     decided = λ e d. let h = ap isStart (d .continues) in steps-of.decided c (x .0) e n (before h .fine) l (a .same) (most-15 h e) d;
     unmoved = λ e v p i g. let k = before (ap isStart p) in steps-of.unmoved c (x .0) e v n (k .fine) l (a .same) p i g;
-    refusal-leaves = λ r g e. let z = refusal-leaves c (x .0) n (λ h. before h .fine) l (a .same) r g in (z .outs e, z .ins e);
+    unmoved-out = λ e v p i g. let k = before (ap isStart p) in continues-of c (x .0) e v n (k .fine) (k .sending) (k .onto) l p .outs (a .same) i g;
+    unmoved-in = λ e v p i g. let k = before (ap isStart p) in continues-of c (x .0) e v n (k .fine) (k .sending) (k .onto) l p .spares (a .same) i g;
+    load-passes = λ e v p i. let k = before (ap isStart p) in continues-of c (x .0) e v n (k .fine) (k .sending) (k .onto) l p .passes (a .same) i;
+    advance-begins = λ e f p. advance-begins c (x .0) e f n l (a .same) p;
+    early-leaves = λ g. early-call (x .0) c n (before (no-start g) .early) l .leaves g;
+    refusal-leaves = λ r g e. let z = refusal-leaves c (x .0) n (λ h. before h .fine) l (a .same) (Refused r) refl g in (z .outs e, z .ins e);
+    not-yet-leaves = λ g e. let z = refusal-leaves c (x .0) n (λ h. before h .fine) l (a .same) NotYet refl g in (z .outs e, z .ins e);
     stopped-leaves = stopped-leaves (x .0) n l c;
     refused-leaves = refused-leaves;
     counted = counted;
@@ -250,9 +261,11 @@ record Agreeing (m : Machine Answer Driver) (n : Machine Answer Pages) : Type 0 
   room : Kept m
   fine : Fine n
   sending : Sending n
+  onto : WayOnto (n .way)
+  early : Early n
 
 before-of : {m : Machine Answer Driver} {n : Machine Answer Pages} → Agreeing m n → Before m n
-before-of k = record { phase = k .phase; rest = k .rest; room = k .room; fine = k .fine; sending = k .sending }
+before-of k = record { phase = k .phase; rest = k .rest; room = k .room; fine = k .fine; sending = k .sending; onto = k .onto; early = k .early }
 
 one : (c : Call Config Op) (l : Buf) (m : Machine Answer Driver) (n : Machine Answer Pages) → Agreeing m n → LentAsLeft c n (m .buf) l
     → let x = drive c m l in Holds-after c l m n × Agreeing (x .1) (written (x .0) c n l .1)
@@ -266,6 +279,8 @@ one c l m n k p =
         room = steps c m (k .room) l;
         fine = call-fine (drive c m l .0) c n (k .fine) l;
         sending = sent-after c l m n (before-of k) .machine;
+        onto = goes-on (drive c m l .0) c n (k .onto) l;
+        early = early-call (drive c m l .0) c n (k .early) l .machine;
       },
     )
 
@@ -289,6 +304,10 @@ module _ (c : Config) (b : Buf) (row : startRow c b ≡ zero) (m : Machine Answe
           fine = subst (λ (r : ℕ). Fine (started calls (book .driver) (fed book (drive (start c) m b .0)) c r n b .1))
               (sym row) (start-fine (drive (start c) m b .0) c n b);
           sending = start-sent c b row m n .machine;
+          onto = subst (λ (r : ℕ). WayOnto (started calls (book .driver) (fed book (drive (start c) m b .0)) c r n b .1 .way))
+              (sym row) (start-onto (drive (start c) m b .0) c n b);
+          early = subst (λ (r : ℕ). Early (started calls (book .driver) (fed book (drive (start c) m b .0)) c r n b .1))
+              (sym row) (start-early (drive (start c) m b .0) c n b);
         },
       )
 

@@ -1,4 +1,4 @@
--- The interrupt's script taken apart: the changes it makes are completions, wake-ups, arrivals and loads, and it assigns no request
+-- The interrupt's script taken apart: the changes it makes are completions each with its load, wake-ups and arrivals, and it assigns no request
 use mathlib.Core.Bool.{Bool, true, false}
 use mathlib.Core.List.{List, [], _∷_}
 use mathlib.Core.Path.{_≡_}
@@ -12,7 +12,7 @@ use Rattle.model.specs.declared.Transfer.{Transfer}
 use Rattle.model.specs.Cells.{Cell, Val}
 use Rattle.model.specs.Script.{Script, ret, bind, test, read-then, write-then, wait-then, callback-then, get-then}
 use Rattle.model.specs.Script.{put-then, is-then, look-then, fetch-then, act-then, hand-then, Test, Look, Fetch}
-use Rattle.model.specs.Script.{complete, no-wakes, waken, arrive, send}
+use Rattle.model.specs.Script.{no-wakes, waken, arrive}
 use Rattle.model.specs.Answers.{Answer}
 use Rattle.model.specs.Calls.{interruptCode}
 use Rattle.model.specs.IsoIn.{isoInComplete, sofOne, sofWalk, lateOne, lateWalk, onSof}
@@ -34,14 +34,15 @@ pub data Parts : (A : Type 0) → Script true A → Type 1 where
   p-is : {A : Type 0} {q : Test} {k : Bool → Script true A} → ((b : Bool) → Parts A (k b)) → Parts A (is-then q k)
   p-look : {A : Type 0} {q : Look} {k : ℕ → Script true A} → ((n : ℕ) → Parts A (k n)) → Parts A (look-then q k)
   p-fetch : {A : Type 0} {q : Fetch} {k : List ℕ → Script true A} → ((l : List ℕ) → Parts A (k l)) → Parts A (fetch-then q k)
-  p-complete : {A : Type 0} {e : ℕ} {p : Script true A} → Parts A p → Parts A (act-then (complete e) p)
+  -- the tail passes, and IN e is loaded at the next access
+  p-load : {e : ℕ} → Parts Unit (isoInComplete e)
   p-no-wakes : {A : Type 0} {p : Script true A} → Parts A p → Parts A (act-then no-wakes p)
   p-waken : {A : Type 0} {codes : List ℕ} {p : Script true A} → Parts A p → Parts A (act-then (waken codes) p)
   p-arrive : {A : Type 0} {e n : ℕ} {p : Script true A} → Parts A p → Parts A (hand-then (arrive e n) p)
-  p-send : {A : Type 0} {e : ℕ} {p : Script true A} → Parts A p → Parts A (hand-then (send e) p)
 
 ruleset apart = (
   p-ret,
+  p-load,
   p-bind,
   p-test,
   p-read,
@@ -53,11 +54,9 @@ ruleset apart = (
   p-is,
   p-look,
   p-fetch,
-  p-complete,
   p-no-wakes,
   p-waken,
   p-arrive,
-  p-send,
 )
 
 of-looks : (n : ℕ) → Parts Unit (looks {i = true} n)
@@ -65,11 +64,8 @@ unfolding looks
 of-looks zero = search apart
 of-looks (suc n) = p-bind (p-read (λ v. p-ret)) (λ m. p-test p-ret (of-looks n))
 
-of-complete : (e : ℕ) → Parts Unit (isoInComplete {i = true} e)
-of-complete e = search apart depth 30
-
 of-sof-one : (frame e : ℕ) → Parts Unit (sofOne {i = true} frame e)
-of-sof-one frame e = search (of-complete, apart) depth 30
+of-sof-one frame e = search apart depth 30
 
 of-sof-walk : (frame : ℕ) (es : List ℕ) → Parts Unit (sofWalk {i = true} frame es)
 unfolding sofWalk
@@ -80,7 +76,7 @@ of-sof : (frame : ℕ) → Parts Unit (onSof {i = true} frame)
 of-sof frame = search (of-sof-walk, apart) depth 30
 
 of-late-one : (frame e : ℕ) → Parts Unit (lateOne {i = true} frame e)
-of-late-one frame e = search (of-complete, apart) depth 30
+of-late-one frame e = search apart depth 30
 
 of-late-walk : (frame : ℕ) (es : List ℕ) → Parts Unit (lateWalk {i = true} frame es)
 unfolding lateWalk
@@ -104,7 +100,7 @@ of-settle y = search (of-looks, apart) depth 40
 of-dispatch : (t : Token) (y : Transfer) (iso : Bool) (frame : ℕ) → Parts Unit (dispatch {i = true} t y iso frame)
 of-dispatch tok.Sof y iso frame = search (of-sof, apart) depth 30
 of-dispatch tok.Out y iso frame = search (of-toggled, apart) depth 30
-of-dispatch tok.In y iso frame = search (of-toggled, of-complete, apart) depth 30
+of-dispatch tok.In y iso frame = search (of-toggled, apart) depth 30
 of-dispatch tok.Setup y iso frame = search apart
 
 of-moved : (dir : Dir) → Parts Unit (movedOn {i = true} dir)

@@ -7,11 +7,13 @@ pub mod Others
 pub mod FrontPage
 pub mod Coupling
 pub mod Cells
+pub mod GivenParts
 pub mod Given
 pub mod Allocations
 pub mod AllocationsLaws
 pub mod Lens
 pub mod Frame
+pub mod FrameBytes
 pub mod Held
 pub mod Lies
 pub mod Chips
@@ -35,6 +37,7 @@ pub mod Demand3
 pub mod MachineRuns
 pub mod SlotsKept
 pub mod InterruptParts
+pub mod Refusing
 pub mod BookTracks
 pub mod BookCounts
 pub mod BookDecides
@@ -42,7 +45,6 @@ pub mod QuietParts
 pub mod LengthScripts
 pub mod LengthInterrupt
 pub mod Releases
-pub mod Refusing
 pub mod BookCalls
 pub mod LengthCalls
 pub mod OthersStay
@@ -52,8 +54,14 @@ pub mod RefusedCalls
 pub mod Enabling
 pub mod BusResets
 pub mod Asides
+pub mod SendingPages
 pub mod SendingSteps
 pub mod SendingCalls
+pub mod Onward
+pub mod ContinueCalls
+pub mod AdvanceBegins
+pub mod EarlyScripts
+pub mod EarlyCalls
 pub mod PollsWhole
 pub mod Lent
 pub mod Code

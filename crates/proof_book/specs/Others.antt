@@ -43,12 +43,12 @@ pub data Names : Type 0 where
 abbrev pub slottedNames : Slotted → Names
 slottedNames (SetEnabled d e on) = only d e
 slottedNames (PollRead e n) = only Out e
-slottedNames (BeginWrite e bytes) = only In e
+slottedNames (BeginWrite e bytes) = none
 slottedNames (PollWrite e bytes) = only In e
 slottedNames (PollDataOut n) = none
 slottedNames (BeginDataIn bytes first last) = none
 
--- an allocation gives a number of its own choice, before EP0's start, where none wait yet
+-- an allocation gives a number of its own choice; it changes no packet (`early-leaves` of FrontPage.antt)
 abbrev pub otherNames : Other → Names
 otherNames (Allocate d kind address maximum interval) = any
 otherNames (AllocateAll bytes) = any
@@ -57,11 +57,11 @@ otherNames BusPoll = none
 otherNames BusEnable = none
 otherNames BusDisable = none
 otherNames Microframe = none
-otherNames (SetStalled d e on) = only d e
-otherNames (IsStalled d e) = only d e
-otherNames (SetPaced e on) = only In e
+otherNames (SetStalled d e on) = none
+otherNames (IsStalled d e) = none
+otherNames (SetPaced e on) = none
 otherNames (Advance e) = only In e
-otherNames (BeginRead e n) = only Out e
+otherNames (BeginRead e n) = none
 otherNames BeginSetup = none
 otherNames PollSetup = none
 otherNames PollDataIn = none
@@ -76,19 +76,26 @@ asideNames (Open e) = only Out e
 asideNames (Close e) = only Out e
 asideNames (Queue e bytes) = only In e
 
--- an interrupt goes by its accesses (`unmoved` of FrontPage.antt)
+-- in its begin
 abbrev pub opNames : Op → Names
-opNames interrupt = any
+opNames interrupt = none
 opNames (slotted o) = slottedNames o
 opNames (other o) = otherNames o
 opNames (aside o) = asideNames o
+
+-- and in its continues; those of an interrupt go by their accesses (`unmoved`, `unmoved-in`)
+abbrev pub onNames : Op → Names
+onNames interrupt = any
+onNames (slotted o) = slottedNames o
+onNames (other o) = otherNames o
+onNames (aside o) = asideNames o
 
 -- the operation under way, after a call, by what it was answered: that of a begin that is handed an access. A start-up names none
 abbrev pub underWay : Call Config Op → Ans Answer → Names → Names
 underWay (start c) (handed q) m = none
 underWay (start c) (ended a) m = m
 underWay (start c) (told n) m = m
-underWay (begin o) (handed q) m = opNames o
+underWay (begin o) (handed q) m = onNames o
 underWay (begin o) (ended a) m = m
 underWay (begin o) (told n) m = m
 underWay (go v) a m = m

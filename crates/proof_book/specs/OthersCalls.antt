@@ -6,24 +6,26 @@ use lib.Dec.{eqb}
 use borrow.Author.Tests.{eq-eqb}
 use Rattle.regs.specs.declared.Access.{Access}
 use Rattle.regs.specs.declared.Access.the-variants.{Read, Write, Receive, Transmit, Ep0Dma, Wait, Callback}
+use Rattle.regs.specs.declared.Reg.the-variants.{FrameNo}
 use Rattle.regs.specs.declared.Dir.{Dir}
 use Rattle.regs.specs.declared.Dir.the-variants.{Out, In}
 use Rattle.model.specs.Tree as tree
 use Rattle.model.specs.Tree.{ends, asks}
-use Rattle.model.specs.Script.{run}
-use Rattle.model.specs.Answers.{Answer}
+use Rattle.model.specs.Script.{run, no-wakes}
+use Rattle.model.specs.Answers.{Answer, Refused}
 use Rattle.model.specs.Calls.{Config, Op, interrupt, slotted, other, aside, calls, code, starting, startRow}
 use Rattle.model.specs.Machine.{Buf, Call, start, begin, go, question, Ans, ended, handed, told, blankA, Way, idle}
 use Rattle.model.specs.Machine.{busy, Machine, over, misfit, stay, lentTo, beside, halt, begun, continued, started, fed}
 use Rattle.proof_book.specs.Pages.{OutPage, InPage, Pages}
-use Rattle.proof_book.specs.Book.{Bk, slotTold, sourceTold, freshPages, bookOps, book}
+use Rattle.proof_book.specs.Book.{Bk, slotTold, sourceTold, actB, freshPages, bookOps, book}
 use Rattle.proof_book.specs.Frame.{at-elim}
 use Rattle.proof_book.specs.FrontPage.{written, addressed}
-use Rattle.proof_book.specs.Others.{releases, releasing, Names, none, opNames, underWay, callNames, Away, SamePage}
+use Rattle.proof_book.specs.Others.{releases, releasing, Names, none, opNames, onNames, slottedNames, otherNames, asideNames, underWay}
+use Rattle.proof_book.specs.Others.{callNames, Away, SamePage}
 use Rattle.proof_book.specs.BookTracks.{end, ask}
 use Rattle.proof_book.specs.BookCalls.{addressed-blank, sending, sending-blank}
 use Rattle.proof_book.specs.BusResets.{releasing-blank}
-use Rattle.proof_book.specs.OthersStay.{Spared, spare, spared-any, of-slotted, of-other, of-aside, of-starting}
+use Rattle.proof_book.specs.OthersStay.{SparesAt, Spared, spare, spared-any, of-slotted, of-other, of-aside, of-starting}
 
 -- what is left of the operation under way
 abbrev pub WaySpared : Names → Way Answer Pages → Type 0
@@ -47,7 +49,7 @@ fed-out (handed (Wait k)) t e g = refl
 fed-out (handed Callback) t e g = refl
 fed-out (told k) t e g = refl
 
-fed-in : (z : Ans Answer) (t : Pages) (e : ℕ) → sending z e ≡ false → fed book z t .ins e ≡ t .ins e
+pub fed-in : (z : Ans Answer) (t : Pages) (e : ℕ) → sending z e ≡ false → fed book z t .ins e ≡ t .ins e
 fed-in (ended z) t e g = refl
 fed-in (handed (Read r f)) t e g = refl
 fed-in (handed (Write r f w)) t e g = refl
@@ -61,7 +63,7 @@ fed-in (told k) t e g = refl
 
 -- ---- one call; x: the driver's answer, of which the book is told
 
-spared : (o : Op) (s : Bk) → Spared (opNames o) s (run bookOps (code o) s)
+spared : (o : Op) (s : Bk) → Spared (onNames o) s (run bookOps (code o) s)
 spared interrupt s = spared-any s (run bookOps (code interrupt) s)
 spared (slotted o) s = spare (of-slotted o) s
 spared (other o) s = spare (of-other o) s
@@ -79,15 +81,19 @@ module _ (x : Ans Answer) where
   unchanged m t y h s r Out e a = ap (λ (t : Pages). t .outs e) h
   unchanged m t y h s r In e a = ap (λ (t : Pages). t .ins e) h
 
+  halted-at : (m : Names) (i : Bool) (s : Bk) (q : Access) (t : Bk) (k : ℕ → Bk → tree.Out Bk Answer) → SparesAt m s q t
+      → Leaves m (s .0) (halts i (asks q t k))
+  halted-at m i s q t k w same r Out e a =
+      fed-out x (t .0) e (sym (addressed-blank x e) ∙ ap (λ (z : Ans Answer). addressed z e) same ∙ addressed-blank (handed q) e ∙ w .receives e a)
+      ∙ w .pages (sym (releasing-blank (handed q)) ∙ ap releasing (sym same) ∙ releasing-blank x ∙ r) .outs e a
+  halted-at m i s q t k w same r In e a =
+      fed-in x (t .0) e (sym (sending-blank x e) ∙ ap (λ (z : Ans Answer). sending z e) same ∙ sending-blank (handed q) e ∙ w .transmits e a)
+      ∙ w .pages (sym (releasing-blank (handed q)) ∙ ap releasing (sym same) ∙ releasing-blank x ∙ r) .ins e a
+
   halted : (m : Names) (i : Bool) (s : Bk) (o : tree.Out Bk Answer) → Spared m s o → Leaves m (s .0) (halts i o)
   halted m i s (ends z t) (end j q) same r Out e a = q .outs e a
   halted m i s (ends z t) (end j q) same r In e a = q .ins e a
-  halted m i s (asks q t k) (ask j w g) same r Out e a =
-      fed-out x (t .0) e (sym (addressed-blank x e) ∙ ap (λ (z : Ans Answer). addressed z e) same ∙ addressed-blank (handed q) e ∙ w .receives e a)
-      ∙ w .pages (sym (releasing-blank (handed q)) ∙ ap releasing (sym same) ∙ releasing-blank x ∙ r) .outs e a
-  halted m i s (asks q t k) (ask j w g) same r In e a =
-      fed-in x (t .0) e (sym (sending-blank x e) ∙ ap (λ (z : Ans Answer). sending z e) same ∙ sending-blank (handed q) e ∙ w .transmits e a)
-      ∙ w .pages (sym (releasing-blank (handed q)) ∙ ap releasing (sym same) ∙ releasing-blank x ∙ r) .ins e a
+  halted m i s (asks q t k) (ask j w g) same r d e a = halted-at m i s q t k w same r d e a
 
   halted-way : (m : Names) (i : Bool) {s : Bk} (o : tree.Out Bk Answer) → Spared m s o → WaySpared m (halts i o .1 .way)
   halted-way m i (ends z t) w = tt
@@ -103,33 +109,58 @@ module _ (x : Ans Answer) where
   either c m t false y z p q = q
 
   -- begun where nothing is under way
-  begun-way : (o : Op) (m : Names) {s : Bk} (z : tree.Out Bk Answer) → Spared (opNames o) s z
+  begun-way : (o : Op) (m : Names) {s : Bk} (z : tree.Out Bk Answer) → Spared (onNames o) s z
       → let y = halts (calls .irq o) z in WaySpared (underWay (begin o) (y .0) m) (y .1 .way)
   begun-way o m (ends a t) w = tt
   begun-way o m (asks q t k) (ask j w g) = λ v u. g v u tt
 
-  -- that falls in an interrupt
-  passing : (o : Op) (m : Names) (n : Machine Answer Pages) (b : Buf) → WaySpared m (n .way) → (z : tree.Out Bk Answer) → Spared (opNames o) (n .st, b) z
-      → Goes (begin o) m (n .st) (beside calls (book .driver) (lentTo calls (book .driver) n b) z)
-  passing o m n b h (ends a t) (end j q) = record { way = h; pages = ended-pages }
-    where
-      ended-pages : Leaves (opNames o) (n .st) (ended a, record { way = n .way; st = t .0; buf = t .1 })
-      ended-pages s r Out e f = q .outs e f
-      ended-pages s r In e f = q .ins e f
-  passing o m n b h (asks q t k) w = record {
-    way = h;
-    pages = unchanged (opNames o) (n .st) (stay calls (book .driver) 3 (lentTo calls
-        (book .driver) n b)) refl;
-  }
+  -- an interrupt's first access, or row 4: no page changed
+  abbrev entry : Bk → (ℕ → Bk → tree.Out Bk Answer) → Bool → tree.Out Bk Answer
+  entry s k u = cond u (asks (Read FrameNo 0) (actB no-wakes s) k) (ends (Refused 4) s)
+
+  entry-leaves : (s : Bk) (k : ℕ → Bk → tree.Out Bk Answer) (u : Bool) → Leaves none (s .0) (halts true (entry s k u))
+  entry-leaves s k true = halted-at none true s (Read FrameNo 0) (actB no-wakes s) k
+      (record { pages = λ _. record { outs = λ e a. refl; ins = λ e a. refl }; receives = λ e a. refl; transmits = λ e a. refl })
+  entry-leaves s k false = unchanged none (s .0) (halts true (ends (Refused 4) s)) refl
+
+  begun-pages : (o : Op) (s : Bk) → Leaves (opNames o) (s .0) (halts (calls .irq o) (run bookOps (code o) s))
+  begun-pages interrupt s = entry-leaves s _ (eqb (s .0 .kept .globals .stage) 2)
+  begun-pages (slotted o) s = halted (slottedNames o) false s (run bookOps (code (slotted o)) s) (spare (of-slotted o) s)
+  begun-pages (other o) s = halted (otherNames o) false s (run bookOps (code (other o)) s) (spare (of-other o) s)
+  begun-pages (aside o) s = halted (asideNames o) false s (run bookOps (code (aside o)) s) (spare (of-aside o) s)
+
+  -- begun while another one is under way: it ends at once, or row 3 stops it
+  module _ (n : Machine Answer Pages) (b : Buf) where
+    abbrev besides : tree.Out Bk Answer → Ans Answer × Machine Answer Pages
+    besides z = beside calls (book .driver) (lentTo calls (book .driver) n b) z
+
+    beside-leaves : (m : Names) (z : tree.Out Bk Answer) → Spared m (n .st, b) z → Leaves m (n .st) (besides z)
+    beside-leaves m (ends a t) (end j q) s r Out e f = q .outs e f
+    beside-leaves m (ends a t) (end j q) s r In e f = q .ins e f
+    beside-leaves m (asks q t k) w s r d e f = unchanged m (n .st) (besides (asks q t k)) refl s r d e f
+
+    beside-entry : (k : ℕ → Bk → tree.Out Bk Answer) (u : Bool) → Leaves none (n .st) (besides (entry (n .st, b) k u))
+    beside-entry k true = unchanged none (n .st) (besides (entry (n .st, b) k true)) refl
+    beside-entry k false = unchanged none (n .st) (besides (entry (n .st, b) k false)) refl
+
+    beside-pages : (o : Op) → Leaves (opNames o) (n .st) (besides (run bookOps (code o) (n .st, b)))
+    beside-pages interrupt = beside-entry _ (eqb (n .st .kept .globals .stage) 2)
+    beside-pages (slotted o) = beside-leaves (slottedNames o) (run bookOps (code (slotted o)) (n .st, b)) (spare (of-slotted o) (n .st, b))
+    beside-pages (other o) = beside-leaves (otherNames o) (run bookOps (code (other o)) (n .st, b)) (spare (of-other o) (n .st, b))
+    beside-pages (aside o) = beside-leaves (asideNames o) (run bookOps (code (aside o)) (n .st, b)) (spare (of-aside o) (n .st, b))
+
+    beside-way : (o : Op) (m : Names) (z : tree.Out Bk Answer) → WaySpared m (n .way) → WaySpared (underWay (begin o) (besides z .0) m) (besides z .1 .way)
+    beside-way o m (ends a t) h = h
+    beside-way o m (asks q t k) h = h
 
   begun-goes : (o : Op) (m : Names) (n : Machine Answer Pages) (b : Buf) → WaySpared m (n .way) → (w : Way Answer Pages)
       → Goes (begin o) m (n .st) (begun calls (book .driver) (fed book x) o n w b)
   begun-goes o m n b h idle = record {
     way = begun-way o m (run bookOps (code o) (n .st, b)) (spared o (n .st, b));
-    pages = halted (opNames o) (calls .irq o) (n .st, b) (run bookOps (code o) (n .st, b)) (spared o (n .st, b));
+    pages = begun-pages o (n .st, b);
   }
-  begun-goes o m n b h (busy i q k) = either (begin o) m (n .st) (cond i (calls .aside o) false) _ _ (passing o m n b h (run bookOps (code o)
-      (n .st, b)) (spared o (n .st, b)))
+  begun-goes o m n b h (busy i q k) = either (begin o) m (n .st) (cond i (calls .aside o) false) _ _
+      (record { way = beside-way n b o m (run bookOps (code o) (n .st, b)) h; pages = beside-pages n b o })
       (record { way = h; pages = unchanged (opNames o) (n .st) (stay calls (book .driver) 3 (lentTo calls (book .driver) n b)) refl })
 
   continued-goes : (v : ℕ) (m : Names) (n : Machine Answer Pages) (b : Buf) → WaySpared m (n .way) → (w : Way Answer Pages) → WaySpared m w

@@ -270,7 +270,7 @@ of-acks Out false = search minding
 of-acks In true = search minding
 of-acks In false = search minding
 
-of-stalled : (dir : Dir) (e : ℕ) (onn : Bool) → Minds (only dir e) Unit (bus.setStalled dir e onn)
+of-stalled : (dir : Dir) (e : ℕ) (onn : Bool) → Minds none Unit (bus.setStalled dir e onn)
 of-stalled Out e true = search minding depth 20
 of-stalled In e true = search minding depth 20
 of-stalled Out e false = search minding depth 20

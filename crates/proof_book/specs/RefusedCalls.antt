@@ -1,4 +1,4 @@
--- A call that any row refuses leaves the pages of all endpoints
+-- A call that any row refuses, and a poll that is not done yet, leave the pages of all endpoints
 use mathlib.Core.Bool.{Bool, true, false, cond, true≢false}
 use mathlib.Core.Path.{_≡_, refl, ap, sym, _∙_}
 use Prim.Native.Nat.{ℕ, zero, suc}
@@ -13,10 +13,10 @@ use Rattle.proof_book.specs.Pages.{Pages}
 use Rattle.proof_book.specs.Book.{Bk, freshPages, bookOps, book}
 use Rattle.proof_book.specs.FrontPage.{written}
 use Rattle.proof_book.specs.BookCalls.{Fine, WayFine}
-use Rattle.proof_book.specs.Refusing.{isRefused, Same, Tells, t-end, t-ask, call-tells, start-tells}
+use Rattle.proof_book.specs.Refusing.{isNo, Same, Tells, t-end, t-ask, call-tells, start-tells}
 
 abbrev refused : Ans Answer → Bool
-refused (ended z) = isRefused z
+refused (ended z) = isNo z
 refused (handed q) = false
 refused (told k) = false
 
@@ -32,12 +32,12 @@ module _ (a : Ans Answer) (n : Machine Answer Pages) (b : Buf) where
   stays : (m : Machine Answer Pages) (r : ℕ) → m .st ≡ n .st → Leaves (stay calls (book .driver) r m)
   stays m r h k = record { outs = λ e. ap (λ (t : Pages). t .outs e) h; ins = λ e. ap (λ (t : Pages). t .ins e) h }
 
-  halts : (i : Bool) (s : Bk) → s .0 ≡ n .st → (o : tree.Out Bk Answer) → Tells isRefused s o → Leaves (halt calls (book .driver) (fed book a) i o)
+  halts : (i : Bool) (s : Bk) → s .0 ≡ n .st → (o : tree.Out Bk Answer) → Tells isNo s o → Leaves (halt calls (book .driver) (fed book a) i o)
   halts i s g (ends z t) (t-end h) k = let y = h k in
       record { outs = λ e. y .outs e ∙ ap (λ (t : Pages). t .outs e) g; ins = λ e. y .ins e ∙ ap (λ (t : Pages). t .ins e) g }
   halts i s g (asks q t f) h k = absurd (true≢false (sym k))
 
-  besides : (o : tree.Out Bk Answer) → Tells isRefused (n .st, b) o → Leaves (beside calls (book .driver) (lentTo calls (book .driver) n b) o)
+  besides : (o : tree.Out Bk Answer) → Tells isNo (n .st, b) o → Leaves (beside calls (book .driver) (lentTo calls (book .driver) n b) o)
   besides (ends z t) (t-end h) k = h k
   besides (asks q t f) h k = stays (lentTo calls (book .driver) n b) 3 refl k
 
@@ -85,6 +85,6 @@ no-start a n b (question q) h = h refl
 
 pub refusal-leaves : (c : Call Config Op) (a : Ans Answer) (n : Machine Answer Pages)
     → (isStart c ≡ false → Fine n) → (b : Buf) → blankA a ≡ blankA (written a c n b .0)
-    → (r : ℕ) → a ≡ ended (Refused r) → Same (n .st) (written a c n b .1 .st)
-refusal-leaves c a n h b s r g = call-leaves a n b c (no-start a n b c h)
-    (sym (refused-blank (written a c n b .0)) ∙ ap refused (sym s) ∙ refused-blank a ∙ ap refused g)
+    → (z : Answer) → isNo z ≡ true → a ≡ ended z → Same (n .st) (written a c n b .1 .st)
+refusal-leaves c a n h b s z k g = call-leaves a n b c (no-start a n b c h)
+    (sym (refused-blank (written a c n b .0)) ∙ ap refused (sym s) ∙ refused-blank a ∙ ap refused g ∙ k)

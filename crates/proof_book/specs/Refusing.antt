@@ -1,4 +1,4 @@
--- Scripts that leave every page where they end with a refusal, and the scripts of all calls: they are such
+-- Scripts that leave every page where they end with a refusal or a poll's "not yet", and the scripts of all calls: they are such
 use mathlib.Core.Bool.{Bool, true, false, cond, true≢false}
 use mathlib.Core.List.{List, [], _∷_}
 use mathlib.Core.Path.{_≡_, refl, ap, sym, _∙_}
@@ -29,12 +29,13 @@ use Rattle.model.specs.Calls.{asideCode, interruptCode, starting}
 use Rattle.proof_book.specs.Pages.{OutPage, InPage, Pages, withKept, keptAllocator}
 use Rattle.proof_book.specs.Book.{Bk, putB, actB, isoOut, givenB, startedB, bookOps}
 
-abbrev pub isRefused : Answer → Bool
-isRefused (Refused n) = true
-isRefused (End n w) = false
-isRefused NotYet = false
-isRefused (Done bytes) = false
-isRefused (Shown bytes n) = false
+-- a refusal, or "not yet"
+abbrev pub isNo : Answer → Bool
+isNo (Refused n) = true
+isNo (End n w) = false
+isNo NotYet = true
+isNo (Done bytes) = false
+isNo (Shown bytes n) = false
 
 -- all pages are as they were
 pub record Same (s t : Pages) : Type 0 where
@@ -73,9 +74,9 @@ tells-test false h g = g
 
 -- ---- scripts
 
--- it ends with no refusal
+-- it ends with neither
 pub data Never : (i : Bool) → Script i Answer → Type 1 where
-  n-ret : {i : Bool} {a : Answer} → isRefused a ≡ false → Never i (ret a)
+  n-ret : {i : Bool} {a : Answer} → isNo a ≡ false → Never i (ret a)
   n-bind : {i : Bool} {A : Type 0} {p : Script i A} {f : A → Script i Answer} → ((a : A) → Never i (f a)) → Never i (bind p f)
   n-test : {i : Bool} {b : Bool} {p q : Script i Answer} → Never i p → Never i q → Never i (test b p q)
 
@@ -107,7 +108,7 @@ pub data Calm : (i : Bool) (A : Type 0) → Script i A → Type 1 where
   c-fetch : {i : Bool} {A : Type 0} {q : Fetch} {k : List ℕ → Script i A} → ((l : List ℕ) → Calm i A (k l)) → Calm i A (fetch-then q k)
   c-act : {i : Bool} {A : Type 0} {q : Act} {p : Script i A} → leavesPages q ≡ true → Calm i A p → Calm i A (act-then q p)
 
--- it ends with no refusal from its first change of a page on
+-- it ends with neither from its first change of a page on
 pub data Fair : (i : Bool) → Script i Answer → Type 1 where
   f-never : {i : Bool} {p : Script i Answer} → Never i p → Fair i p
   f-ret : {i : Bool} {a : Answer} → Fair i (ret a)
@@ -150,7 +151,7 @@ act-same (allocate0 maximum) h s = started-same maximum (allocateEp0Of (s .0 .ke
 act-same no-wakes h s = record { outs = λ e. refl; ins = λ e. refl }
 act-same (waken codes) h s = record { outs = λ e. refl; ins = λ e. refl }
 
-pub never-run : {i : Bool} {p : Script i Answer} → Never i p → (s t : Bk) → Tells isRefused s (run bookOps p t)
+pub never-run : {i : Bool} {p : Script i Answer} → Never i p → (s t : Bk) → Tells isNo s (run bookOps p t)
 never-run (n-ret h) s t = t-end (λ k. absurd (true≢false (sym k ∙ h)))
 never-run (n-bind {p = p} g) s t = never-bind (run bookOps p t) (λ a s t. never-run (g a) s t) s
 never-run (n-test {b = true} h g) s t = never-run h s t
@@ -174,16 +175,16 @@ module _ (d : Dir) (kind address maximum interval : ℕ) (s : Bk) where
   given-never e base slots = search fairly depth 20
 
   by-answer : (z : alloc-answer.Answer) (x : Pages) → Same (s .0) x
-      → Tells isRefused s (run bookOps (allocated-as {i = false} d kind maximum z) (givenB d kind maximum interval z x, s .1))
+      → Tells isNo s (run bookOps (allocated-as {i = false} d kind maximum z) (givenB d kind maximum interval z x, s .1))
   by-answer (alloc.Refused n) x h = t-end (λ _. h)
   by-answer (alloc.Given e base slots) x h = never-run (given-never e base slots) s (givenB d kind maximum interval (alloc.Given e base slots) x, s .1)
 
-  allocate-tells : Tells isRefused s (run bookOps (allocEndpoint {i = false} d kind address maximum interval) s)
+  allocate-tells : Tells isNo s (run bookOps (allocEndpoint {i = false} d kind address maximum interval) s)
   allocate-tells = tells-test (eqb (s .0 .kept .globals .stage) 1)
       (by-answer (allocateOf (s .0 .kept .allocator) kind address maximum d .answer) _ (record { outs = λ e. refl; ins = λ e. refl }))
       (t-end (λ _. same))
 
-fair-run : {i : Bool} {p : Script i Answer} → Fair i p → (s : Bk) → Tells isRefused s (run bookOps p s)
+fair-run : {i : Bool} {p : Script i Answer} → Fair i p → (s : Bk) → Tells isNo s (run bookOps p s)
 fair-run (f-never h) s = never-run h s s
 fair-run f-ret s = t-end (λ _. same)
 fair-run (f-bind h g) s = tells-bind (calm-run h s) (λ a t. fair-run (g a) t)
@@ -239,7 +240,7 @@ fair-other (BeginAcceptSetAddress a) = search fairly depth 40 fits 100000
 fair-interrupt : Fair true interruptCode
 fair-interrupt = search fairly depth 20
 
-pub call-tells : (o : Op) (s : Bk) → Tells isRefused s (run bookOps (code o) s)
+pub call-tells : (o : Op) (s : Bk) → Tells isNo s (run bookOps (code o) s)
 call-tells interrupt s = fair-run fair-interrupt s
 call-tells (slotted o) s = fair-run (fair-slotted o) s
 call-tells (other o) s = fair-run (fair-other o) s
@@ -248,5 +249,5 @@ call-tells (aside o) s = fair-run (fair-aside o) s
 never-starting : (c : Config) → Never false (starting c)
 never-starting c = search fairly depth 20
 
-pub start-tells : (c : Config) (s t : Bk) → Tells isRefused s (run bookOps (starting c) t)
+pub start-tells : (c : Config) (s t : Bk) → Tells isNo s (run bookOps (starting c) t)
 start-tells c s t = never-run (never-starting c) s t

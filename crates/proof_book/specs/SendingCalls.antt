@@ -38,10 +38,10 @@ use Rattle.proof_book.specs.FrontPage.{written, EmptiedIn, slotSize, Bei
 use Rattle.proof_book.specs.BookTracks.{end, ask}
 use Rattle.proof_book.specs.InterruptParts.{of-interrupt}
 use Rattle.proof_book.specs.Releases.{mayQueue, of-slotted, of-other, of-aside, of-starting}
-use Rattle.proof_book.specs.SendingSteps.{Orderly, Alike, alike-refl, alike-empty, told-alike, Going, keeps, empties}
-use Rattle.proof_book.specs.SendingSteps.{Follows, spot, Goes, Within, Asked, orderly-with, never, none-left}
-use Rattle.proof_book.specs.SendingSteps.{Followed, follow, follow-parts}
-use Rattle.proof_book.specs.SendingSteps as steps
+use Rattle.proof_book.specs.SendingPages.{Orderly, Alike, alike-refl, alike-empty, told-alike, Going, keeps, empties}
+use Rattle.proof_book.specs.SendingPages.{Follows, orderly-with, never, none-left}
+use Rattle.proof_book.specs.SendingPages as pages-of
+use Rattle.proof_book.specs.SendingSteps.{spot, Goes, Within, Asked, Followed, follow, follow-parts}
 use Rattle.proof_book.specs.SlotsKept.{sent-used, sent-size}
 
 -- ---- in the book alone
@@ -60,7 +60,7 @@ of-follows {P} {t} {t′} f e s = by (f .base e) (f .pages e .going s)
     by : (t′ .kept .plain In e .base ≡ t .kept .plain In e .base) ⊎ EmptiedIn (t′ .ins e) → Going P (t .ins e) (t′ .ins e) → Fate e t t′
     by (inl b) (keeps k) = goes (record { sending = k .sending; shown = k .shown; place = rw (b, k .turn, k .waiting, f .size) refl; size = f .size })
     by (inr x) (keeps k) = anew x
-    by z (steps.passes p q) = passes p
+    by z (pages-of.passes p q) = passes p
     by z (empties x) = anew x
 
 of-within : (u : Bool) {t t′ : Pages} → Within u t t′ → Fates t t′
@@ -75,7 +75,7 @@ stays-put : {t : Pages} → Fates t t
 stays-put e s = goes (record { sending = s; shown = refl; place = refl; size = refl })
 
 -- the access told changes a source alone
-fed-alike : (a : Ans Answer) (t : Pages) → Orderly t → (e : ℕ) → Alike (t .ins e) (fed book a t .ins e)
+pub fed-alike : (a : Ans Answer) (t : Pages) → Orderly t → (e : ℕ) → Alike (t .ins e) (fed book a t .ins e)
 fed-alike (ended z) t i e = alike-refl
 fed-alike (handed (Read r f)) t i e = alike-refl
 fed-alike (handed (Write r f v)) t i e = alike-refl
@@ -87,7 +87,7 @@ fed-alike (handed (Wait n)) t i e = alike-refl
 fed-alike (handed Callback) t i e = alike-refl
 fed-alike (told n) t i e = alike-refl
 
-fed-kept : (a : Ans Answer) (t : Pages) → fed book a t .kept ≡ t .kept
+pub fed-kept : (a : Ans Answer) (t : Pages) → fed book a t .kept ≡ t .kept
 fed-kept (ended z) t = refl
 fed-kept (handed (Read r f)) t = refl
 fed-kept (handed (Write r f v)) t = refl
@@ -121,7 +121,7 @@ fate-alike h k (anew a) = anew (alike-empty h a)
 
 -- ---- a call
 
-abbrev WayFollowed : Way Answer Pages → Type 0
+abbrev pub WayFollowed : Way Answer Pages → Type 0
 WayFollowed idle = Unit {0}
 WayFollowed (busy i q k) = (u : Bool) × ((v : ℕ) (s : Bk) → Orderly (s .0) → Followed u s (k v s))
 

