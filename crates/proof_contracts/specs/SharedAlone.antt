@@ -19,7 +19,8 @@ use Rattle.proof_book.specs.Agrees.{agree}
 use Rattle.proof_book.specs.FrontPage.{LentAsLeft}
 use Rattle.proof_book.specs.FrontPage as page
 use Rattle.proof_contracts.specs.SharedPage.{Made, outcomeOf, noted, Calls}
-use Rattle.proof_contracts.specs.SharedCall.{isStopped, callAlone, answerAlone, lent-alone, noted-alone, did-alone}
+use Rattle.proof_contracts.specs.SharedCall.{isStopped, callAlone, answerAlone}
+use Rattle.proof_contracts.specs.SharedCall.{lent-alone, noted-alone, did-alone}
 use Rattle.proof_contracts.specs.SharedRuns.{AgreedAll, agreed-all}
 
 -- row 19 stops it
@@ -45,7 +46,8 @@ allAlone i xs a (m ∷ ms) = madeAlone i xs a m ∷ allAlone i (m .bytes) (m .sl
 abbrev pub NotedAll : ℕ → List ℕ → Buf → Machine Answer Pages → List Made → Type 0
 NotedAll i xs a n [] = Unit {0}
 NotedAll i xs a n (m ∷ ms) = (noted i m n .1 ≡ page.noted (madeAlone i xs a m) n .1)
-    × LentAsLeft (madeAlone i xs a m .event .call) n a (m .event .lent) × NotedAll i (m .bytes) (m .slots) (noted i m n .1) ms
+    × LentAsLeft (madeAlone i xs a m .event .call) n a (m .event .lent)
+    × NotedAll i (m .bytes) (m .slots) (noted i m n .1) ms
 
 noted-all : (i : ℕ) (ms : List Made) {φ : Phase} (xs : List ℕ) (a : Buf) (n : Machine Answer Pages)
     → Ways driverOf book agree calls φ (machineOf xs a .way) (n .way) → Coupling φ a (view xs) (n .st) → Calls i xs a n ms

@@ -66,7 +66,8 @@ module _ (i : ℕ) (c : Call Config Op) (b : Buf) (time : List ℕ) (m : Machine
   unfolding settled
   outcome-is = refl
 
-  pub lent-alone : {φ : Phase} (n : Machine Answer Pages) → Coupling φ (m .buf) (m .st) (n .st) → LentAsLeft c n (m .buf) b
+  pub lent-alone : {φ : Phase} (n : Machine Answer Pages) → Coupling φ (m .buf) (m .st) (n .st)
+      → LentAsLeft c n (m .buf) b
       → LentAsLeft (callAlone stops c) n (m .buf) b
   lent-alone n r l = by stops refl
     where

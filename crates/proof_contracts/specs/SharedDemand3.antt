@@ -107,7 +107,8 @@ module _ (i : ℕ) (xs : List ℕ) (a : Buf) (m : Made) (n : Machine Answer Page
   learnt-same k = as-made (λ c x t. learnt (alone .event .call) (alone .answer) k ≡ learnt c x k) (λ dir e j y. y) refl
 
   named-same : (k : Names) → underWay (alone .event .call) (alone .answer) k ≡ underWay (m .event .call) (m .answer) k
-  named-same k = as-made (λ c x t. underWay (alone .event .call) (alone .answer) k ≡ underWay c x k) (λ dir e j y. y) refl
+  named-same k =
+      as-made (λ c x t. underWay (alone .event .call) (alone .answer) k ≡ underWay c x k) (λ dir e j y. y) refl
 
   length-made : (k : Known) → page.LengthIs alone n (learnt (alone .event .call) (alone .answer) k)
       → LengthIs i m n (learnt (m .event .call) (m .answer) k)
@@ -137,8 +138,8 @@ after-each i (m ∷ ms) xs a n run goes k y = (
       (y .1)),
 )
 
-lengths-each : (i : ℕ) (ms : List Made) (xs : List ℕ) (a : Buf) (n : Machine Answer Pages) (k : Known) → Calls i xs a n ms
-    → NotedAll i xs a n ms → page.LengthsEach n k (allAlone i xs a ms) → LengthsEach i n k ms
+lengths-each : (i : ℕ) (ms : List Made) (xs : List ℕ) (a : Buf) (n : Machine Answer Pages) (k : Known)
+    → Calls i xs a n ms → NotedAll i xs a n ms → page.LengthsEach n k (allAlone i xs a ms) → LengthsEach i n k ms
 lengths-each i [] xs a n k run goes y = tt
 lengths-each i (m ∷ ms) xs a n k run goes y = (
   length-made i xs a m n (run .0) (goes .0) k (y .0),
@@ -147,8 +148,8 @@ lengths-each i (m ∷ ms) xs a n k run goes y = (
       (sym (goes .0)) (learnt-same i xs a m n (run .0) (goes .0) k) (y .1)),
 )
 
-others-each : (i : ℕ) (ms : List Made) (xs : List ℕ) (a : Buf) (n : Machine Answer Pages) (k : Names) → Calls i xs a n ms
-    → NotedAll i xs a n ms → page.OthersEach n k (allAlone i xs a ms) → OthersEach i n k ms
+others-each : (i : ℕ) (ms : List Made) (xs : List ℕ) (a : Buf) (n : Machine Answer Pages) (k : Names)
+    → Calls i xs a n ms → NotedAll i xs a n ms → page.OthersEach n k (allAlone i xs a ms) → OthersEach i n k ms
 others-each i [] xs a n k run goes y = tt
 others-each i (m ∷ ms) xs a n k run goes y = (
   others-made i xs a m n (run .0) (goes .0) k (y .0),

@@ -66,8 +66,8 @@ abbrev pub AfterEach : ℕ → Machine Answer Pages → List Made → Type 0
 AfterEach i n [] = Unit {0}
 AfterEach i n (m ∷ ms) = AfterShared i (m .event) (m .before) (outcomeOf m) n × AfterEach i (noted i m n .1) ms
 
--- the lengths of those that arrive (LengthIs of FrontPage.antt). A call that row 19 stops leaves what the operation under
--- way was brought
+-- the lengths of those that arrive (LengthIs of FrontPage.antt). A call that row 19 stops leaves what the operation
+-- under way was brought
 abbrev pub LengthIs : ℕ → Made → Machine Answer Pages → Known → Type 0
 LengthIs i m n k = (e : ℕ) → Decides (m .event .call) n (m .answer) e → (q : Packet)
     → noted i m n .1 .st .outs e .waiting ≡ n .st .outs e .waiting ++ (q ∷ [])

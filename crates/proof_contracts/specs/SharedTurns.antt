@@ -21,8 +21,8 @@ use Rattle.proof_book.specs.FrontPageProved.{machine-demand-3}
 use Rattle.proof_contracts.specs.SharedPage.{AfterShared}
 use Rattle.proof_contracts.specs.SharedAgrees.{Agreed, shared-agrees}
 use Rattle.proof_contracts.specs.SharedRuns.{shared-start}
-use Rattle.proof_contracts.specs.SharedCall.{isStopped, callAlone, answerAlone, lent-alone, noted-alone, did-alone}
-use Rattle.proof_contracts.specs.SharedCall.{as-shared}
+use Rattle.proof_contracts.specs.SharedCall.{isStopped, callAlone, answerAlone}
+use Rattle.proof_contracts.specs.SharedCall.{lent-alone, noted-alone, did-alone, as-shared}
 use Rattle.proof_contracts.specs.SharedDemand3.{stopped-after}
 use Rattle.proof_contracts.specs.SharedMachine.{Turn, starting, comesTo, bookAfter, Premise, AfterTurns}
 

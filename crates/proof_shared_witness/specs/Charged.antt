@@ -1,5 +1,5 @@
--- Lists of calls with the record of bus time made from what is done, each lent the slot buffer and the record as the last
--- one left them, but for the chip's stores and the other drivers' charges: every such list meets the premise of
+-- Lists of calls with the record of bus time made from what is done, each lent the slot buffer and the record as the
+-- last one left them, but for the chip's stores and the other driver's charges: every such list meets the premise of
 -- demand 3 with the record
 use mathlib.Core.Bool.{Bool}
 use mathlib.Core.List.{List, [], _∷_, _++_}

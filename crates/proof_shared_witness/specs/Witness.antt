@@ -1,7 +1,7 @@
--- A run with row 19 in it, computed by the check: driver 0's IN 2 is refused with 19 while driver 1 is charged with 5,909
--- byte-times, and is enabled once driver 1 has given them back. Packets arrive before the refusal and after it; one is
--- queued and sent. It meets the premise of demand 3 with the record of bus time (`meets`), and so what SharedPage.antt says
--- holds after each of its calls (`holds`)
+-- A run with row 19 in it, computed by the check: driver 0's IN 2 is refused with 19 while driver 1 is charged with
+-- 5,909 byte-times, and is enabled once driver 1 has given them back. Packets arrive before the refusal and after it;
+-- one is queued and sent. It meets the premise of demand 3 with the record of bus time (`meets`), and so what
+-- SharedPage.antt says holds after each of its calls (`holds`)
 use mathlib.Core.Bool.{Bool, true}
 use mathlib.Core.List.{List, [], _∷_, _++_}
 use mathlib.Core.Path.{_≡_, refl, ap, sym, _∙_}
@@ -25,8 +25,8 @@ use Rattle.proof_book_witness.specs.Witness.{config, buffer, driver, pages, acc
 use Rattle.proof_book_witness.specs.Witness.{continues, arrivals, lateArrival, asks, noting}
 use Rattle.proof_contracts.specs.SharedMachine.{Turn, starting, comesTo, bookAfter, Premise, AfterTurns}
 use Rattle.proof_contracts.specs.SharedTurns.{machine-shared-demand-3}
-use Rattle.proof_shared_witness.specs.Charged.{Charged, Standing, lentTime, outcomeOf, next, afterAll, at-end, at-end-is}
-use Rattle.proof_shared_witness.specs.Charged.{turnsOf, lawful, at-last}
+use Rattle.proof_shared_witness.specs.Charged.{Charged, Standing, lentTime, outcomeOf, next, afterAll}
+use Rattle.proof_shared_witness.specs.Charged.{at-end, at-end-is, turnsOf, lawful, at-last}
 
 -- what the record is computed with
 unfoldable counting : Unit {0}
@@ -56,13 +56,14 @@ enabling = tells (begin (slotted (SetEnabled In 2 true)))
 
 -- OUT 1 and IN 2 allocated and EP0 started; OUT 1 enabled; two arrivals
 abbrev pub before-it : List Charged
-before-it = with-others much (allocated (does (begin (slotted (SetEnabled Out 1 true))) ∷ continues 20 (arrivals 2 (asks ∷ []))))
+before-it = with-others much
+    (allocated (does (begin (slotted (SetEnabled Out 1 true))) ∷ continues 20 (arrivals 2 (asks ∷ []))))
 
 abbrev pub refused : Charged
 refused = record { input = enabling; others = much }
 
--- an arrival; IN 2's enabling refused once more, and begun where driver 1 has none; a packet queued, and loaded while one
--- arrives late
+-- an arrival; IN 2's enabling refused once more, and begun where driver 1 has none; a packet queued, and loaded while
+-- one arrives late
 abbrev pub after-it : List Charged
 after-it = with-others much (arrivals 1 (asks ∷ enabling ∷ [])) ++ with-others none
     (enabling ∷ continues 7 (does (begin (aside (Queue 2 (7 ∷ 7 ∷ [])))) ∷ lateArrival (asks ∷ [])))
@@ -144,5 +145,6 @@ nineteen = sym (refuses 0 In 2 (at-it .driver) (lentTime much (at-it .time)) (at
 -- demand 3 says of it that what waited waits still, on every endpoint
 pub still-waits : (e : ℕ) → let t = at-it .book .st in let t′ = next refused at-it .book .st in
     (t′ .outs e ≡ t .outs e) × (t′ .ins e ≡ t .ins e)
-still-waits e = at-last before-it refused begun (holds (before-it ++ (refused ∷ [])) .1) .call .sentences .refusal-leaves 19
+still-waits e =
+    at-last before-it refused begun (holds (before-it ++ (refused ∷ [])) .1) .call .sentences .refusal-leaves 19
     (ap (λ (x : Called × List ℕ). x .0 .0) nineteen) e
