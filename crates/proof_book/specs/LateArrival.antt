@@ -1,6 +1,7 @@
--- Request Eight in the call that decides an arrival: a packet that was stored alone since its slot was armed joins those waiting as it was received, where
--- this interrupt does not tell its length. The length that the call records (LengthIs, FrontPage.antt) is the one that the history of stores tells
--- (TrueLength, Watched.antt). Definitions; the theorem is `late-arrivals` (LateArrivalLaws.antt)
+-- Request Eight in the call that decides an arrival: a packet that was stored alone since its slot was armed joins
+-- those waiting as it was received, where this interrupt does not tell its length. The length that the call records
+-- (LengthIs, FrontPage.antt) is the one that the history of stores tells (TrueLength, Watched.antt). Definitions; the
+-- theorem is `late-arrivals` (LateArrivalLaws.antt)
 use mathlib.Core.Bool.{true}
 use mathlib.Core.List.{List, [], _∷_, _++_}
 use mathlib.Core.Path.{_≡_}
@@ -20,8 +21,8 @@ use Rattle.proof_book.specs.Watched as watched
 abbrev pub ByMarks : Readings → ℕ → Type 0
 ByMarks h e = (m : ℕ) → lengthOf h e m ≡ m
 
--- OUT e's slot was armed for the k-th time, and no receive address was handed out since; the packet lies in it whole, within the maximum, and its last
--- byte, if it has one, differs from the mark's byte at its place
+-- OUT e's slot was armed for the k-th time, and no receive address was handed out since; the packet lies in it whole,
+-- within the maximum, and its last byte, if it has one, differs from the mark's byte at its place
 pub record StoredWhole (e k : ℕ) (packet : List ℕ) (w : Watch) (t : Pages) (lent : Buf) : Type 0 where
   pub armed : w .armed ≡ true
   pub armings : w .armings ≡ k

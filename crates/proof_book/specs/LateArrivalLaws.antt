@@ -1,5 +1,5 @@
--- Request Eight in the call that decides an arrival, over every list of calls (LateArrival.antt): two books are kept of the same driver, so they have the
--- same slots and maxima, and the marks tell the length of Eight's history
+-- Request Eight in the call that decides an arrival, over every list of calls (LateArrival.antt): two books are kept of
+-- the same driver, so they have the same slots and maxima, and the marks tell the length of Eight's history
 use mathlib.Core.Bool.{Bool, true, false, cond}
 use mathlib.Core.List.{List, [], _∷_, _++_}
 use mathlib.Core.Path.{_≡_, refl, ap, subst, sym, _∙_}
