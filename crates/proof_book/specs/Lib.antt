@@ -30,6 +30,8 @@ pub mod Untouched
 pub mod Watched
 pub mod WatchedLaws
 pub mod WatchedRuns
+pub mod LateArrival
+pub mod LateArrivalLaws
 pub mod Rows
 pub mod LedgerLaws
 pub mod Agrees

@@ -101,7 +101,7 @@ module _ (e n : ℕ) (packet : List ℕ) where
   act-watch no-wakes w h = refl
   act-watch (waken codes) w h = refl
 
-  act-claims : (q : Act) (b : Buf) (d : Driver) (t : Pages) (w : Watch) → Coupling quiet b d t → Claim w t b
+  pub act-claims : (q : Act) (b : Buf) (d : Driver) (t : Pages) (w : Watch) → Coupling quiet b d t → Claim w t b
       → Claim (watchAct q w) (actB q (t, b) .0) (concrete .act q (d, b) .1)
   act-claims q b d t w R c a m =
       let h = act-watch q w a in
@@ -151,7 +151,7 @@ module _ (e n : ℕ) (packet : List ℕ) where
     abbrev handed : DmaStep → Pages
     handed q = feedB (dmaStepAsk q (concrete .hand q (d, b) .0)) (handB q (t, b) .1 .0)
 
-    hand-claims : (q : DmaStep) → let x = concrete .hand q (d, b) in let u = feedB (dmaStepAsk q (x .0)) (handB q (t, b) .1 .0) in
+    pub hand-claims : (q : DmaStep) → let x = concrete .hand q (d, b) in let u = feedB (dmaStepAsk q (x .0)) (handB q (t, b) .1 .0) in
         Coupling quiet (x .1 .1) (x .1 .0) u → Claim (watchHand e q t w) u (x .1 .1)
     hand-claims (arrive f k) R′ = arrive-claims f k R′
     hand-claims (send f) R′ = λ a m. clean-moved e packet R (handed (send f)) b (record { slot = refl; size = refl }) (λ k l h. refl) (c a m)
@@ -196,7 +196,7 @@ module _ (e n : ℕ) (packet : List ℕ) where
     abbrev stepped : Burst → ℕ → Pages
     stepped g k = feedB (burstAsk g k (concrete .row g k (d, b) .0)) (rowB g k (t, b) .1 .0)
 
-    row-claims : {ψ : Phase} (g : Burst) (k : ℕ) → let x = concrete .row g k (d, b) in let u = feedB (burstAsk g k (x .0)) (rowB g k (t, b) .1 .0) in
+    pub row-claims : {ψ : Phase} (g : Burst) (k : ℕ) → let x = concrete .row g k (d, b) in let u = feedB (burstAsk g k (x .0)) (rowB g k (t, b) .1 .0) in
         Coupling ψ (x .1 .1) (x .1 .0) u → Claim (watchRow e g k t w) u (x .1 .1)
     row-claims (switch f onn) zero R′ =
         λ a m. clean-moved e packet R (stepped (switch f onn) zero) b (record { slot = refl; size = refl }) (λ k l h. refl) (c a m)
@@ -209,10 +209,10 @@ module _ (e n : ℕ) (packet : List ℕ) where
 
   -- ---- driver and watched book agree
 
-  abbrev Claims : Phase → Buf → Driver → Seen → Type 0
+  abbrev pub Claims : Phase → Buf → Driver → Seen → Type 0
   Claims φ b d s = Coupling φ b d (s .pages) × Claim (s .watch) (s .pages) b
 
-  abbrev agreed : Agree driverOf (watched e)
+  abbrev pub agreed : Agree driverOf (watched e)
   agreed = record {
     Coupling = Claims;
     Good = λ q b s. Good q b (s .pages);
@@ -284,17 +284,35 @@ module _ (e n : ℕ) (packet : List ℕ) where
 
   -- ---- of the code
 
+  pub made-agrees : (m : Made) {φ : Phase} (xs : List ℕ) (a : Buf) (y : Machine Answer Seen)
+      → Ways driverOf (watched e) agreed calls φ (machineOf xs a .way) (y .way) → Claims φ a (view xs) (y .st) → CallStep xs a m
+      → LentBy e n packet (m .event .call) (machineOf xs a) y (m .event .lent)
+      → After driverOf (watched e) agreed calls (m .answer, machineOf (m .bytes) (m .slots)) (noted e (m .answer) (m .event .call) y (m .event .lent))
+  made-agrees m xs a y w r did l =
+      subst (λ (z : Ans Answer × Machine Answer Driver). After driverOf (watched e) agreed calls z
+      (noted e (z .0) (m .event .call) y (m .event .lent))) (sym did)
+      (agrees driverOf (watched e) agreed calls fresh-claims (m .event .call) (m .event .lent) (machineOf xs a) y w r
+      (lent-is (m .event .call) (machineOf xs a) y (m .event .lent) l))
+
   made-each : (ms : List Made) {φ : Phase} (xs : List ℕ) (a : Buf) (y : Machine Answer Seen)
       → Ways driverOf (watched e) agreed calls φ (machineOf xs a .way) (y .way) → Claims φ a (view xs) (y .st) → RunLent e n packet xs a y ms
       → TrueLengthsMade e n packet y ms
   made-each [] xs a y w r h = tt
   made-each (m ∷ ms) xs a y w r h =
-      let k : After driverOf (watched e) agreed calls (m .answer, machineOf (m .bytes) (m .slots)) (noted e (m .answer) (m .event .call) y (m .event .lent))
-      = subst (λ (z : Ans Answer × Machine Answer Driver). After driverOf (watched e) agreed calls z
-      (noted e (z .0) (m .event .call) y (m .event .lent))) (sym (h .0))
-      (agrees driverOf (watched e) agreed calls fresh-claims (m .event .call) (m .event .lent) (machineOf xs a) y w r
-      (lent-is (m .event .call) (machineOf xs a) y (m .event .lent) (h .1))) in
+      let k = made-agrees m xs a y w r (h .0) (h .1) in
       (found k, made-each ms (m .bytes) (m .slots) _ (k .ways) (k .rest) (h .2))
+
+  pub start-agrees : (c : Config) (b : Buf) → startRow c b ≡ zero → (xs : List ℕ) (a : Buf) (y : Machine Answer Seen) (first : Made)
+      → first .event ≡ record { call = start c; lent = b } → CallStep xs a first
+      → After driverOf (watched e) agreed calls (first .answer, machineOf (first .bytes) (first .slots))
+      (started calls (watched e .driver) (fed (watched e) (first .answer)) c zero y b)
+  start-agrees c b row xs a y first v did =
+      let q : (first .answer, machineOf (first .bytes) (first .slots)) ≡ started calls driverOf (λ s. s) c zero (machineOf xs a) b
+      = subst (λ (v : Event Config Op). (first .answer, machineOf (first .bytes) (first .slots)) ≡ drive (v .call) (machineOf xs a) (v .lent)) v did
+      ∙ ap (λ k. started calls driverOf (λ s. s) c k (machineOf xs a) b) row in
+      subst (λ (z : Ans Answer × Machine Answer Driver). After driverOf (watched e) agreed calls z
+      (started calls (watched e .driver) (fed (watched e) (z .0)) c zero y b)) (sym q)
+      (from-start driverOf (watched e) agreed calls fresh-claims c b row [] (machineOf xs a) y tt .0)
 
   -- any bytes, a start-up that rows 1 and 2 do not stop, and then any calls whose contracts say what they are steps of
   pub code-true-lengths : (c : Config) (b : Buf) → startRow c b ≡ zero → (xs : List ℕ) (a : Buf) (y : Machine Answer Seen) (first : Made)
@@ -302,12 +320,5 @@ module _ (e n : ℕ) (packet : List ℕ) where
       → let z = started calls (watched e .driver) (fed (watched e) (first .answer)) c zero y b in
       RunLent e n packet (first .bytes) (first .slots) (z .1) ms → TrueLengthsMade e n packet (z .1) ms
   code-true-lengths c b row xs a y first v did ms h =
-      let q : (first .answer, machineOf (first .bytes) (first .slots)) ≡ started calls driverOf (λ s. s) c zero (machineOf xs a) b
-      = subst (λ (v : Event Config Op). (first .answer, machineOf (first .bytes) (first .slots)) ≡ drive (v .call) (machineOf xs a) (v .lent)) v did
-      ∙ ap (λ k. started calls driverOf (λ s. s) c k (machineOf xs a) b) row in
-      let k : After driverOf (watched e) agreed calls (first .answer, machineOf (first .bytes) (first .slots))
-      (started calls (watched e .driver) (fed (watched e) (first .answer)) c zero y b)
-      = subst (λ (z : Ans Answer × Machine Answer Driver). After driverOf (watched e) agreed calls z
-      (started calls (watched e .driver) (fed (watched e) (z .0)) c zero y b)) (sym q)
-      (from-start driverOf (watched e) agreed calls fresh-claims c b row [] (machineOf xs a) y tt .0) in
+      let k = start-agrees c b row xs a y first v did in
       made-each ms (first .bytes) (first .slots) _ (k .ways) (k .rest) h

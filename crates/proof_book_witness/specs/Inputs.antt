@@ -81,7 +81,7 @@ given : (u : Bool) {X : Type 0} → X → unless u X
 given true x = tt
 given false x = x
 
-lent : (c : Call Config Op) (n : Machine Answer Pages) (a : Buf) (bytes : List ℕ) → LentAsLeft c n a (storedIn (n .st) a bytes)
+pub lent : (c : Call Config Op) (n : Machine Answer Pages) (a : Buf) (bytes : List ℕ) → LentAsLeft c n a (storedIn (n .st) a bytes)
 lent (start c) n a bytes = tt
 lent (begin o) n a bytes = given (cond (calls .slots o) (misfit calls (book .driver) (n .st) (storedIn (n .st) a bytes)) false) (chip-stores (n .st) a bytes)
 lent (go v) n a bytes = given (misfit calls (book .driver) (n .st) (storedIn (n .st) a bytes)) (chip-stores (n .st) a bytes)

@@ -22,7 +22,7 @@ use Rattle.proof_book_witness.specs.Computing.{computing}
 
 -- ---- what is done
 
-abbrev does : Call Config Op → Input
+abbrev pub does : Call Config Op → Input
 does c = record { stored = []; call = c; tell = false }
 
 abbrev brings : ℕ → Input
@@ -32,37 +32,40 @@ abbrev stores : List ℕ → Call Config Op → Input
 stores bytes c = record { stored = bytes; call = c; tell = false }
 
 -- a question, after which the book is told
-abbrev asks : Input
+abbrev pub asks : Input
 asks = record { stored = []; call = question (overruns 1); tell = true }
 
 -- n continues that bring 0; those after the operation's end are refused by row 15
-abbrev continues : ℕ → List Input → List Input
+abbrev pub continues : ℕ → List Input → List Input
 continues zero is = is
 continues (suc n) is = brings 0 ∷ continues n is
 
 -- size 64, which EP0 needs; 16 slots for OUT 1, 2 for IN 2, one for EP0
-abbrev config : Config
+abbrev pub config : Config
 config = record { size = 64; count = 19; callback = false }
 
--- start-up; OUT 1 and IN 2 (address 0x82), isochronous, of at most 8 bytes; EP0; both enabled
-abbrev setting : List Input → List Input
-setting is =
+-- start-up; OUT 1 and IN 2 (address 0x82), isochronous, of at most 8 bytes; EP0
+abbrev pub allocated : List Input → List Input
+allocated is =
     continues 8 (does (begin (other (Allocate Out 1 1 8 1))) ∷
     continues 3 (does (begin (other (Allocate In 1 130 8 4))) ∷
-    continues 3 (does (begin (other (Start 64))) ∷
-    continues 6 (does (begin (slotted (SetEnabled Out 1 true))) ∷
-    continues 20 (does (begin (slotted (SetEnabled In 2 true))) ∷ continues 7 is)))))
+    continues 3 (does (begin (other (Start 64))) ∷ continues 6 is)))
+
+-- both enabled
+abbrev setting : List Input → List Input
+setting is = allocated (does (begin (slotted (SetEnabled Out 1 true))) ∷
+    continues 20 (does (begin (slotted (SetEnabled In 2 true))) ∷ continues 7 is))
 
 -- an interrupt with a packet in OUT 1's slot: frame 8; a transfer; the SIE free; status OUT 1, tog_ok; its length; frame 8
 abbrev arrival : List Input → List Input
 arrival is = stores (1 ∷ 2 ∷ 3 ∷ 4 ∷ []) (begin interrupt) ∷ brings 8 ∷ brings 2 ∷ brings 1 ∷ brings 65 ∷ brings 4 ∷ brings 0 ∷ brings 8 ∷ brings 0 ∷ is
 
-abbrev arrivals : ℕ → List Input → List Input
+abbrev pub arrivals : ℕ → List Input → List Input
 arrivals zero is = is
 arrivals (suc n) is = arrival (arrivals n is)
 
 -- one for IN 2, which loads its next packet, while a packet of 5 bytes is in OUT 1's slot: its length is by the marks
-abbrev lateArrival : List Input → List Input
+abbrev pub lateArrival : List Input → List Input
 lateArrival is =
     stores (1 ∷ 2 ∷ 3 ∷ 4 ∷ 5 ∷ []) (begin interrupt) ∷ brings 8 ∷ brings 2 ∷ brings 1 ∷ brings 34 ∷ brings 0 ∷ brings 0 ∷ brings 8 ∷
     brings 0 ∷ brings 0 ∷ brings 34 ∷ brings 0 ∷ is
@@ -90,7 +93,7 @@ told t =
     let q = t .ins 2 in
     length (p .waiting) ∷ length (p .admitted) ∷ length (p .read) ∷ p .lost ∷ flag (p .opened) ∷ length (q .waiting) ∷ length (q .sent) ∷ flag (q .sending) ∷ []
 
-abbrev noting : Bool → List ℕ → List (List ℕ) → List (List ℕ)
+abbrev pub noting : Bool → List ℕ → List (List ℕ) → List (List ℕ)
 noting true x xs = x ∷ xs
 noting false x xs = xs
 
@@ -126,7 +129,7 @@ startedDriver = drive (start config) driver buffer .1
 abbrev pub startedPages : Machine Answer Pages
 startedPages = written (drive (start config) driver buffer .0) (start config) pages buffer .1
 
-accepted : startRow config buffer ≡ zero
+pub accepted : startRow config buffer ≡ zero
 unfolding computing
 accepted = refl
 

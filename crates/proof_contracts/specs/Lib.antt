@@ -1,9 +1,12 @@
 pub mod SharedBook
 pub mod SharedPage
+pub mod SharedMachine
 pub mod SharedAgrees
+pub mod SharedCall
 pub mod SharedRuns
 pub mod SharedAlone
 pub mod SharedDemand3
+pub mod SharedTurns
 pub mod SavedPage
 pub mod SavedRuns
 pub mod Steps

@@ -1,47 +1,37 @@
 -- A list of calls with the record of bus time is one of the driver alone, in which a call that row 19 stops is a
 -- question: so what is proved of the
 -- code over every list of calls without the record (Calls in proof_book/specs/FrontPage.antt) holds of it too
-use mathlib.Core.Bool.{Bool, true, false, cond}
+use mathlib.Core.Bool.{Bool}
 use mathlib.Core.List.{List, [], _∷_}
-use mathlib.Core.Path.{_≡_, refl, ap, subst, sym, _∙_}
+use mathlib.Core.Path.{_≡_, refl, subst, sym}
 use Prim.Native.Nat.{ℕ, zero}
 use Rattle.state.specs.State.{view}
 use Rattle.model.specs.Simulates.{Phase}
-use Rattle.model.specs.Answers.{Answer, Refused}
+use Rattle.model.specs.Answers.{Answer}
 use Rattle.model.specs.Calls.{Config, Op, calls, startRow}
-use Rattle.model.specs.Machine.{Buf, Event, Call, start, question, pending, Machine, Ans, ended, told, lentTo}
+use Rattle.model.specs.Machine.{Buf, Event, start, Machine}
 use Rattle.model.specs.Agree.{Ways}
-use Rattle.machine.specs.Questions.{questionOf}
-use Rattle.machine.specs.Suspended.{driverOf, drive, machineOf}
-use Rattle.machine.specs.Goes.{Called}
-use Rattle.call_bus_time.specs.Sharing.{sortOf, turnedDown, timeAfter, settled}
+use Rattle.machine.specs.Suspended.{driverOf, machineOf}
 use Rattle.proof_book.specs.Pages.{Pages}
 use Rattle.proof_book.specs.Book.{book}
 use Rattle.proof_book.specs.Coupling.{Coupling}
 use Rattle.proof_book.specs.Agrees.{agree}
-use Rattle.proof_book.specs.FrontPage.{written, LentAsLeft}
+use Rattle.proof_book.specs.FrontPage.{LentAsLeft}
 use Rattle.proof_book.specs.FrontPage as page
-use Rattle.proof_book.specs.SlotsKept.{lent-is}
-use Rattle.proof_contracts.specs.SharedPage.{Made, CallStep, noted, Calls}
-use Rattle.proof_contracts.specs.SharedAgrees.{down-chip, down-same}
+use Rattle.proof_contracts.specs.SharedPage.{Made, outcomeOf, noted, Calls}
+use Rattle.proof_contracts.specs.SharedCall.{isStopped, callAlone, answerAlone}
+use Rattle.proof_contracts.specs.SharedCall.{lent-alone, noted-alone, did-alone}
 use Rattle.proof_contracts.specs.SharedRuns.{AgreedAll, agreed-all}
 
 -- row 19 stops it
-abbrev pub isStopped : ℕ → List ℕ → Buf → Made → Bool
-isStopped i xs a m = turnedDown i (sortOf (m .event .call)) (drive (m .event .call) (machineOf xs a) (m .event .lent)
-    .0) (view xs) (m .before)
+abbrev pub isDown : ℕ → List ℕ → Buf → Made → Bool
+isDown i xs a m = isStopped i (m .event .call) (machineOf xs a) (m .before) (m .event .lent)
 
--- the call as the driver alone gets it, and as it answers then
-abbrev pub callAlone : Bool → Call Config Op → Call Config Op
-callAlone stopped c = cond stopped (question (pending 0)) c
-
-abbrev pub answerAlone : Bool → List ℕ → Ans Answer → Ans Answer
-answerAlone stopped xs x = cond stopped (told (questionOf (pending 0) (view xs))) x
-
+-- the call as the driver alone gets it
 abbrev pub madeAlone : ℕ → List ℕ → Buf → Made → page.Made
 madeAlone i xs a m = record {
-  event = record { call = callAlone (isStopped i xs a m) (m .event .call); lent = m .event .lent };
-  answer = answerAlone (isStopped i xs a m) xs (m .answer);
+  event = record { call = callAlone (isDown i xs a m) (m .event .call); lent = m .event .lent };
+  answer = answerAlone (isDown i xs a m) (view xs) (m .answer);
   bytes = m .bytes;
   slots = m .slots;
 }
@@ -50,70 +40,22 @@ abbrev pub allAlone : ℕ → List ℕ → Buf → List Made → List page.Made
 allAlone i xs a [] = []
 allAlone i xs a (m ∷ ms) = madeAlone i xs a m ∷ allAlone i (m .bytes) (m .slots) ms
 
--- ---- one call
-
-module _ (i : ℕ) (xs : List ℕ) (a : Buf) (m : Made) where
-  abbrev c : Call Config Op
-  c = m .event .call
-
-  abbrev b : Buf
-  b = m .event .lent
-
-  abbrev outcome : Bool → Called × List ℕ
-  outcome u = cond u ((ended (Refused 19), lentTo calls driverOf (machineOf xs a) b), m .before)
-      (drive c (machineOf xs a) b, timeAfter i (sortOf c) (drive c (machineOf xs a) b .0) (view xs) (m .before))
-
-  pub did-as : CallStep i xs a m → ((m .answer, machineOf (m .bytes) (m .slots)), m .time) ≡ outcome (isStopped i xs a m)
-  unfolding settled
-  did-as h = h
-
-  pub did-alone : CallStep i xs a m → page.CallStep xs a (madeAlone i xs a m)
-  did-alone h = by (isStopped i xs a m) (did-as h)
-    where
-      by : (u : Bool) → ((m .answer, machineOf (m .bytes) (m .slots)), m .time) ≡ outcome u
-          → (answerAlone u xs (m .answer), machineOf (m .bytes) (m .slots)) ≡ drive (callAlone u c) (machineOf xs a) b
-      by true h = ap (λ (z : Called × List ℕ). (told (questionOf (pending 0) (view xs)), z .0 .1)) h
-      by false h = ap (λ (z : Called × List ℕ). z .0) h
-
-  lent-alone : {φ : Phase} (n : Machine Answer Pages) → Coupling φ a (view xs) (n .st) → LentAsLeft c n a b
-      → LentAsLeft (callAlone (isStopped i xs a m) c) n a b
-  lent-alone n r l = by (isStopped i xs a m) refl
-    where
-      by : (u : Bool) → isStopped i xs a m ≡ u → LentAsLeft (callAlone u c) n a b
-      by true h = down-chip i c (machineOf xs a) n (m .before) b h (lent-is (machineOf xs a) n r b c l)
-      by false h = l
-
-  noted-alone : {φ : Phase} (n : Machine Answer Pages)
-      → Ways driverOf book agree calls φ (machineOf xs a .way) (n .way) → Coupling φ a (view xs) (n .st)
-      → LentAsLeft c n a b
-      → noted i m n .1 ≡ page.noted (madeAlone i xs a m) n .1
-  noted-alone n w r l =
-      subst (λ (u : Bool). cond u stopped (written (m .answer) c n b) .1 ≡ page.noted (madeAlone i xs a m) n .1)
-      (down-same i c b (m .before) (machineOf xs a) n w r l (m .answer)) (by (isStopped i xs a m))
-    where
-      stopped : Ans Answer × Machine Answer Pages
-      stopped = (ended (Refused 19), lentTo calls (book .driver) n b)
-
-      by : (u : Bool) → cond u stopped (written (m .answer) c n b) .1 ≡ written (answerAlone u xs (m .answer))
-          (callAlone u c) n b .1
-      by true = refl
-      by false = refl
-
 -- ---- every list of calls
 
 -- the book goes the same way, and is lent the same
 abbrev pub NotedAll : ℕ → List ℕ → Buf → Machine Answer Pages → List Made → Type 0
 NotedAll i xs a n [] = Unit {0}
 NotedAll i xs a n (m ∷ ms) = (noted i m n .1 ≡ page.noted (madeAlone i xs a m) n .1)
-    × LentAsLeft (madeAlone i xs a m .event .call) n a (m .event .lent) × NotedAll i (m .bytes) (m .slots) (noted i m n .1) ms
+    × LentAsLeft (madeAlone i xs a m .event .call) n a (m .event .lent)
+    × NotedAll i (m .bytes) (m .slots) (noted i m n .1) ms
 
 noted-all : (i : ℕ) (ms : List Made) {φ : Phase} (xs : List ℕ) (a : Buf) (n : Machine Answer Pages)
     → Ways driverOf book agree calls φ (machineOf xs a .way) (n .way) → Coupling φ a (view xs) (n .st) → Calls i xs a n ms
     → AgreedAll i n ms → NotedAll i xs a n ms
 noted-all i [] xs a n w r h k = tt
 noted-all i (m ∷ ms) xs a n w r h k = (
-  noted-alone i xs a m n w r (h .1),
-  lent-alone i xs a m n r (h .1),
+  noted-alone i (m .event .call) (m .event .lent) (m .before) (machineOf xs a) n w r (h .1) (m .answer),
+  lent-alone i (m .event .call) (m .event .lent) (m .before) (machineOf xs a) n r (h .1),
   noted-all i ms (m .bytes) (m .slots) (noted i m n .1) (k .0 .both .ways)
       (k .0 .both .rest) (h .2) (k .1),
 )
@@ -122,7 +64,7 @@ calls-alone : (i : ℕ) (ms : List Made) (xs : List ℕ) (a : Buf) (n : Machine 
     → NotedAll i xs a n ms → page.Calls xs a n (allAlone i xs a ms)
 calls-alone i [] xs a n h k = tt
 calls-alone i (m ∷ ms) xs a n h k = (
-  did-alone i xs a m (h .0),
+  did-alone i (m .event .call) (m .event .lent) (m .before) (machineOf xs a) (outcomeOf m) (h .0),
   k .1,
   subst (λ (z : Machine Answer Pages). page.Calls (m .bytes) (m .slots) z (allAlone i (m .bytes) (m .slots) ms)) (k .0)
       (calls-alone i ms (m .bytes) (m .slots) (noted i m n .1) (h .2) (k .2)),

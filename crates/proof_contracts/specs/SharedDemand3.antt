@@ -1,28 +1,29 @@
 -- Demand 3 with the record of bus time, proved: SharedPage.antt has the statement
-use mathlib.Core.Bool.{Bool, true, false, cond, true≢false}
-use mathlib.Core.List.{List, [], _∷_}
-use mathlib.Core.Path.{_≡_, refl, ap, subst, sym}
+use mathlib.Core.Bool.{true, false}
+use mathlib.Core.List.{List, [], _∷_, _++_}
+use mathlib.Core.Path.{_≡_, refl, subst, subst₂, sym}
 use Prim.Native.Nat.{ℕ}
 use native.Mathlib.Omega.{arith}
+use lib.ListN.{length}
 use Rattle.regs.specs.declared.Dir.{Dir}
+use Rattle.regs.specs.declared.Dir.the-variants.{Out, In}
 use Rattle.state.specs.State.{view}
 use Rattle.state.specs.Driver.{Driver}
 use Rattle.model.specs.Answers.{Answer, Refused}
-use Rattle.model.specs.Calls.{Config, Op, interrupt, slotted, other, aside, SetEnabled, PollRead, BeginWrite}
-use Rattle.model.specs.Calls.{PollWrite, PollDataOut, BeginDataIn, calls}
-use Rattle.model.specs.Machine.{Buf, Call, start, begin, go, question, pending, Machine, Ans, ended, told, lentTo}
-use Rattle.machine.specs.Questions.{questionOf}
-use Rattle.machine.specs.Suspended.{driverOf, drive, machineOf}
-use Rattle.machine.specs.Goes.{Called}
-use Rattle.call_bus_time.specs.Sharing.{sortOf, turnedDown, timeAfter}
-use Rattle.proof_book.specs.Pages.{Pages}
-use Rattle.proof_book.specs.FrontPage.{written, Compared, Sentences, same, AfterCall}
+use Rattle.model.specs.Calls.{Config, Op, slotted, SetEnabled}
+use Rattle.model.specs.Machine.{Buf, Call, begin, question, pending, Machine, Ans, ended, told}
+use Rattle.machine.specs.Suspended.{machineOf}
+use Rattle.proof_book.specs.Pages.{Packet, Pages}
+use Rattle.proof_book.specs.Lengths.{Known, learnt, lengthAt}
+use Rattle.proof_book.specs.Others.{releasing, Names, underWay, callNames, Away, SamePage}
+use Rattle.proof_book.specs.FrontPage.{Decides, Compared, Sentences, same, AfterCall}
 use Rattle.proof_book.specs.FrontPage as page
 use Rattle.proof_book.specs.FrontPageProved.{demand-3}
-use Rattle.proof_contracts.specs.SharedPage.{Made, CallStep, Calls, noted, AfterEach, SharedDemand3}
+use Rattle.proof_contracts.specs.SharedPage.{Made, outcomeOf, CallStep, Calls, noted, AfterEach}
+use Rattle.proof_contracts.specs.SharedPage.{LengthIs, LengthsEach, OthersStay, OthersEach, SharedDemand3}
+use Rattle.proof_contracts.specs.SharedCall.{as-shared}
 use Rattle.proof_contracts.specs.SharedRuns.{AgreedAll, agreed-all}
-use Rattle.proof_contracts.specs.SharedAlone.{isStopped, callAlone, answerAlone, madeAlone, allAlone, did-as}
-use Rattle.proof_contracts.specs.SharedAlone.{NotedAll, start-alone, all-noted, code-alone}
+use Rattle.proof_contracts.specs.SharedAlone.{madeAlone, allAlone, NotedAll, start-alone, all-noted, code-alone}
 
 -- ---- a call that row 19 stops: nothing changes, so what holds after a question holds after it
 
@@ -77,7 +78,7 @@ module _ (dir : Dir) (e : ℕ) (lent b : Buf) (n : Machine Answer Pages) (d : Dr
     inside = tt;
   }
 
-  stopped-after : (k : ℕ) → AfterCall (question (pending 0)) lent n (told k) d b (n .st)
+  pub stopped-after : (k : ℕ) → AfterCall (question (pending 0)) lent n (told k) d b (n .st)
       → AfterCall (begin (slotted (SetEnabled dir e true))) lent n (ended (Refused 19)) d b (n .st)
   stopped-after k x = record {
     compared = stopped-compared k (x .compared);
@@ -85,58 +86,50 @@ module _ (dir : Dir) (e : ℕ) (lent b : Buf) (n : Machine Answer Pages) (d : Dr
         (x .sentences);
   }
 
--- it is an enabling
-stopped-is : (i : ℕ) (c : Call Config Op) (x : Ans Answer) (s : Driver) (time : List ℕ)
-    → turnedDown i (sortOf c) x s time ≡ true
-    → (lent b : Buf) (n : Machine Answer Pages) (d : Driver) (k : ℕ)
-    → AfterCall (question (pending 0)) lent n (told k) d b (n .st) → AfterCall c lent n (ended (Refused 19)) d b (n .st)
-stopped-is i (start g) x s time h lent b n d k y = absurd (true≢false (sym h))
-stopped-is i (begin interrupt) x s time h lent b n d k y = absurd (true≢false (sym h))
-stopped-is i (begin (slotted (SetEnabled dir e true))) x s time h lent b n d k y = stopped-after dir e lent b n d k y
-stopped-is i (begin (slotted (SetEnabled dir e false))) x s time h lent b n d k y = absurd (true≢false (sym h))
-stopped-is i (begin (slotted (PollRead e m))) x s time h lent b n d k y = absurd (true≢false (sym h))
-stopped-is i (begin (slotted (BeginWrite e bs))) x s time h lent b n d k y = absurd (true≢false (sym h))
-stopped-is i (begin (slotted (PollWrite e bs))) x s time h lent b n d k y = absurd (true≢false (sym h))
-stopped-is i (begin (slotted (PollDataOut m))) x s time h lent b n d k y = absurd (true≢false (sym h))
-stopped-is i (begin (slotted (BeginDataIn bs first last))) x s time h lent b n d k y = absurd (true≢false (sym h))
-stopped-is i (begin (other o)) x s time h lent b n d k y = absurd (true≢false (sym h))
-stopped-is i (begin (aside o)) x s time h lent b n d k y = absurd (true≢false (sym h))
-stopped-is i (go v) x s time h lent b n d k y = absurd (true≢false (sym h))
-stopped-is i (question q) x s time h lent b n d k y = absurd (true≢false (sym h))
+-- ---- one call, by what the driver alone does
 
--- ---- one call
+module _ (i : ℕ) (xs : List ℕ) (a : Buf) (m : Made) (n : Machine Answer Pages) (did : CallStep i xs a m)
+    (goes : noted i m n .1 ≡ page.noted (madeAlone i xs a m) n .1) where
+  abbrev alone : page.Made
+  alone = madeAlone i xs a m
 
-after-made : (i : ℕ) (xs : List ℕ) (a : Buf) (m : Made) (n : Machine Answer Pages) → CallStep i xs a m
-    → noted i m n .1 ≡ page.noted (madeAlone i xs a m) n .1
-    → AfterCall (madeAlone i xs a m .event .call) (m .event .lent) n (madeAlone i xs a m .answer) (view (m .bytes))
-    (m .slots) (page.noted (madeAlone i xs a m) n .1 .st)
-    → AfterCall (m .event .call) (m .event .lent) n (m .answer) (view (m .bytes)) (m .slots) (noted i m n .1 .st)
-after-made i xs a m n did goes y =
-    subst (λ (z : Machine Answer Pages). AfterCall c l n (m .answer) (view (m .bytes)) (m .slots) (z .st)) (sym goes)
-    (by (isStopped i xs a m) refl (did-as i xs a m did) y)
-  where
-    c : Call Config Op
-    c = m .event .call
+  -- what is said of the call, its answer and the pages after it
+  as-made : (P : Call Config Op → Ans Answer → Pages → Type 0)
+      → ((dir : Dir) (e k : ℕ) → P (question (pending 0)) (told k) (n .st)
+      → P (begin (slotted (SetEnabled dir e true))) (ended (Refused 19)) (n .st))
+      → P (alone .event .call) (alone .answer) (page.noted alone n .1 .st)
+      → P (m .event .call) (m .answer) (noted i m n .1 .st)
+  as-made P stopped y =
+      as-shared i (m .event .call) (m .event .lent) (m .before) (machineOf xs a) (outcomeOf m) did n P stopped goes y
 
-    l : Buf
-    l = m .event .lent
+  after-made : AfterCall (alone .event .call) (m .event .lent) n (alone .answer) (view (m .bytes)) (m .slots)
+      (page.noted alone n .1 .st)
+      → AfterCall (m .event .call) (m .event .lent) n (m .answer) (view (m .bytes)) (m .slots) (noted i m n .1 .st)
+  after-made = as-made (λ c x t. AfterCall c (m .event .lent) n x (view (m .bytes)) (m .slots) t)
+      (λ dir e k y. stopped-after dir e (m .event .lent) (m .slots) n (view (m .bytes)) k y)
 
-    outcome : Bool → Called × List ℕ
-    outcome u = cond u ((ended (Refused 19), lentTo calls driverOf (machineOf xs a) l), m .before)
-        (drive c (machineOf xs a) l, timeAfter i (sortOf c) (drive c (machineOf xs a) l .0) (view xs) (m .before))
+  -- what was brought, and what is named
+  learnt-same : (k : Known) → learnt (alone .event .call) (alone .answer) k ≡ learnt (m .event .call) (m .answer) k
+  learnt-same k = as-made (λ c x t. learnt (alone .event .call) (alone .answer) k ≡ learnt c x k) (λ dir e j y. y) refl
 
-    then : Bool → Machine Answer Pages
-    then u = written (answerAlone u xs (m .answer)) (callAlone u c) n l .1
+  named-same : (k : Names) → underWay (alone .event .call) (alone .answer) k ≡ underWay (m .event .call) (m .answer) k
+  named-same k =
+      as-made (λ c x t. underWay (alone .event .call) (alone .answer) k ≡ underWay c x k) (λ dir e j y. y) refl
 
-    by : (u : Bool) → isStopped i xs a m ≡ u → ((m .answer, machineOf (m .bytes) (m .slots)), m .time) ≡ outcome u
-        → AfterCall (callAlone u c) l n (answerAlone u xs (m .answer)) (view (m .bytes)) (m .slots) (then u .st)
-        → AfterCall c l n (m .answer) (view (m .bytes)) (m .slots) (then u .st)
-    by true h did y =
-        subst (λ (x : Ans Answer). AfterCall c l n x (view (m .bytes)) (m .slots) (n .st))
-        (sym (ap (λ (z : Called × List ℕ). z .0 .0) did))
-        (stopped-is i c (drive c (machineOf xs a) l .0) (view xs) (m .before) h l (m .slots) n (view (m .bytes))
-        (questionOf (pending 0) (view xs)) y)
-    by false h did y = y
+  length-made : (k : Known) → page.LengthIs alone n (learnt (alone .event .call) (alone .answer) k)
+      → LengthIs i m n (learnt (m .event .call) (m .answer) k)
+  length-made k = as-made (λ c x t. (e : ℕ) → Decides c n x e → (q : Packet)
+      → t .outs e .waiting ≡ n .st .outs e .waiting ++ (q ∷ [])
+      → length (q .bytes) ≡ lengthAt (learnt c x k .readings) (m .event .lent) (n .st) e)
+      (λ dir e j y f d. let p = d .continues in let z : _≡_ {A = ℕ} 0 1 = cc in absurd (omega arith))
+
+  others-made : (k : Names) → page.OthersStay alone n k → OthersStay i m n k
+  others-made k = as-made (λ c x t. releasing x ≡ false → (d : Dir) (e : ℕ) → Away (callNames c k) d e
+      → SamePage d e (n .st) t) (λ dir e j y r d f h. leaves d f)
+    where
+      leaves : (d : Dir) (e : ℕ) → SamePage d e (n .st) (n .st)
+      leaves Out e = refl
+      leaves In e = refl
 
 -- ---- every list of calls
 
@@ -151,10 +144,32 @@ after-each i (m ∷ ms) xs a n run goes k y = (
       (y .1)),
 )
 
+lengths-each : (i : ℕ) (ms : List Made) (xs : List ℕ) (a : Buf) (n : Machine Answer Pages) (k : Known)
+    → Calls i xs a n ms → NotedAll i xs a n ms → page.LengthsEach n k (allAlone i xs a ms) → LengthsEach i n k ms
+lengths-each i [] xs a n k run goes y = tt
+lengths-each i (m ∷ ms) xs a n k run goes y = (
+  length-made i xs a m n (run .0) (goes .0) k (y .0),
+  lengths-each i ms (m .bytes) (m .slots) (noted i m n .1) (learnt (m .event .call) (m .answer) k) (run .2) (goes .2)
+      (subst₂ (λ (z : Machine Answer Pages) (l : Known). page.LengthsEach z l (allAlone i (m .bytes) (m .slots) ms))
+      (sym (goes .0)) (learnt-same i xs a m n (run .0) (goes .0) k) (y .1)),
+)
+
+others-each : (i : ℕ) (ms : List Made) (xs : List ℕ) (a : Buf) (n : Machine Answer Pages) (k : Names)
+    → Calls i xs a n ms → NotedAll i xs a n ms → page.OthersEach n k (allAlone i xs a ms) → OthersEach i n k ms
+others-each i [] xs a n k run goes y = tt
+others-each i (m ∷ ms) xs a n k run goes y = (
+  others-made i xs a m n (run .0) (goes .0) k (y .0),
+  others-each i ms (m .bytes) (m .slots) (noted i m n .1) (underWay (m .event .call) (m .answer) k) (run .2) (goes .2)
+      (subst₂ (λ (z : Machine Answer Pages) (l : Names). page.OthersEach z l (allAlone i (m .bytes) (m .slots) ms))
+      (sym (goes .0)) (named-same i xs a m n (run .0) (goes .0) k) (y .1)),
+)
+
 pub shared-demand-3 : SharedDemand3
 shared-demand-3 i c b row xs a n first is-start ms run =
-    let alone = code-alone i c b row xs a n first is-start ms run in
-    after-each i (first ∷ ms) xs a n run (all-noted i c b row xs a n first is-start ms run)
-    (agreed-all i c b row xs a n first is-start ms run)
-    (demand-3 c b row xs a n (madeAlone i xs a first) (start-alone i c b xs a first is-start)
-    (allAlone i (first .bytes) (first .slots) ms) alone .0)
+    let goes = all-noted i c b row xs a n first is-start ms run in
+    let alone = demand-3 c b row xs a n (madeAlone i xs a first) (start-alone i c b xs a first is-start)
+    (allAlone i (first .bytes) (first .slots) ms) (code-alone i c b row xs a n first is-start ms run) in (
+      after-each i (first ∷ ms) xs a n run goes (agreed-all i c b row xs a n first is-start ms run) (alone .0),
+      λ k. lengths-each i (first ∷ ms) xs a n k run goes (alone .1 k),
+      λ k. others-each i (first ∷ ms) xs a n k run goes (alone .2 k),
+    )

@@ -1,18 +1,22 @@
 -- Demand 3 with the record of bus time, to be read beside proof_book/specs/FrontPage.antt: every public call is in its
 -- lists, those that bring the record and an
 -- enabling that row 19 stops too. Definitions only. `shared-demand-3` (SharedDemand3.antt) is the theorem
-use mathlib.Core.Bool.{Bool, cond}
-use mathlib.Core.List.{List, [], _∷_}
+use mathlib.Core.Bool.{false}
+use mathlib.Core.List.{List, [], _∷_, _++_}
 use mathlib.Core.Path.{_≡_}
 use Prim.Native.Nat.{ℕ, zero}
-use Rattle.state.specs.State.{view}
+use lib.ListN.{length}
+use Rattle.regs.specs.declared.Dir.{Dir}
 use Rattle.model.specs.Answers.{Answer}
 use Rattle.model.specs.Calls.{Config, Op, startRow}
 use Rattle.model.specs.Machine.{Buf, Event, start, Machine, Ans, blankA}
 use Rattle.machine.specs.Suspended.{machineOf}
+use Rattle.machine.specs.Goes.{Called}
 use Rattle.call_bus_time.specs.Sharing.{sortOf, sharedCall}
-use Rattle.proof_book.specs.Pages.{Pages}
-use Rattle.proof_book.specs.FrontPage.{LentAsLeft, AfterCall}
+use Rattle.proof_book.specs.Pages.{Packet, Pages}
+use Rattle.proof_book.specs.Lengths.{Known, learnt, lengthAt}
+use Rattle.proof_book.specs.Others.{releasing, Names, underWay, callNames, Away, SamePage}
+use Rattle.proof_book.specs.FrontPage.{LentAsLeft, Decides, AfterCall}
 use Rattle.proof_contracts.specs.SharedBook.{sharedStep, timeIn}
 
 -- a call that was made: the call and the slot buffer it was lent; the record before it; its answer; the state's
@@ -26,10 +30,13 @@ pub record Made : Type 0 where
   pub slots : Buf
   pub time : List ℕ
 
+-- what it came to
+abbrev pub outcomeOf : Made → Called × List ℕ
+outcomeOf m = ((m .answer, machineOf (m .bytes) (m .slots)), m .time)
+
 -- its contract, by driver i, where the state's bytes were xs and the slot buffer a (call_bus_time/specs/Sharing.antt)
 abbrev pub CallStep : ℕ → List ℕ → Buf → Made → Type 0
-CallStep i xs a m = ((m .answer, machineOf (m .bytes) (m .slots)), m .time) ≡ sharedCall i (m .event .call)
-    (machineOf xs a) (m .before) (m .event .lent)
+CallStep i xs a m = outcomeOf m ≡ sharedCall i (m .event .call) (machineOf xs a) (m .before) (m .event .lent)
 
 abbrev pub noted : ℕ → Made → Machine Answer Pages → Ans Answer × Machine Answer Pages
 noted i m n = sharedStep i (m .answer) (m .event .call) n (m .before) (m .event .lent)
@@ -43,21 +50,49 @@ Calls i xs a n (m ∷ ms) =
     CallStep i xs a m × LentAsLeft (m .event .call) n a (m .event .lent)
     × Calls i (m .bytes) (m .slots) (noted i m n .1) ms
 
-pub record AfterShared (i : ℕ) (m : Made) (n : Machine Answer Pages) : Type 0 where
+-- after call v, with the record before it; x: its answer, the driver and the slot buffer after it, and the record; the
+-- book n before it
+pub record AfterShared (i : ℕ) (v : Event Config Op) (before : List ℕ) (x : Called × List ℕ)
+    (n : Machine Answer Pages) : Type 0 where
   -- all that demand 3 says after a call without the record
-  pub call : AfterCall (m .event .call) (m .event .lent) n (m .answer) (view (m .bytes)) (m .slots) (noted i m n .1 .st)
+  pub call : AfterCall (v .call) (v .lent) n (x .0 .0) (x .0 .1 .st) (x .0 .1 .buf)
+      (sharedStep i (x .0 .0) (v .call) n before (v .lent) .1 .st)
   -- row 19 goes by the book, and so do all: it answers the same, but for the addresses of accesses
-  pub answers : blankA (m .answer) ≡ blankA (noted i m n .0)
+  pub answers : blankA (x .0 .0) ≡ blankA (sharedStep i (x .0 .0) (v .call) n before (v .lent) .0)
   -- the record is what the book works out
-  pub time : m .time ≡ timeIn i (sortOf (m .event .call)) (m .answer) (n .st) (m .before)
+  pub time : x .1 ≡ timeIn i (sortOf (v .call)) (x .0 .0) (n .st) before
 
 abbrev pub AfterEach : ℕ → Machine Answer Pages → List Made → Type 0
 AfterEach i n [] = Unit {0}
-AfterEach i n (m ∷ ms) = AfterShared i m n × AfterEach i (noted i m n .1) ms
+AfterEach i n (m ∷ ms) = AfterShared i (m .event) (m .before) (outcomeOf m) n × AfterEach i (noted i m n .1) ms
+
+-- the lengths of those that arrive (LengthIs of FrontPage.antt). A call that row 19 stops leaves what the operation
+-- under way was brought
+abbrev pub LengthIs : ℕ → Made → Machine Answer Pages → Known → Type 0
+LengthIs i m n k = (e : ℕ) → Decides (m .event .call) n (m .answer) e → (q : Packet)
+    → noted i m n .1 .st .outs e .waiting ≡ n .st .outs e .waiting ++ (q ∷ [])
+    → length (q .bytes) ≡ lengthAt (k .readings) (m .event .lent) (n .st) e
+
+abbrev pub LengthsEach : ℕ → Machine Answer Pages → Known → List Made → Type 0
+LengthsEach i n k [] = Unit {0}
+LengthsEach i n k (m ∷ ms) =
+    let l = learnt (m .event .call) (m .answer) k in LengthIs i m n l × LengthsEach i (noted i m n .1) l ms
+
+-- the pages of the endpoints that are not named stay (OthersStay of FrontPage.antt). A call that row 19 stops leaves
+-- what the operation under way names
+abbrev pub OthersStay : ℕ → Made → Machine Answer Pages → Names → Type 0
+OthersStay i m n k = releasing (m .answer) ≡ false → (d : Dir) (e : ℕ) → Away (callNames (m .event .call) k) d e
+    → SamePage d e (n .st) (noted i m n .1 .st)
+
+abbrev pub OthersEach : ℕ → Machine Answer Pages → Names → List Made → Type 0
+OthersEach i n k [] = Unit {0}
+OthersEach i n k (m ∷ ms) =
+    OthersStay i m n k × OthersEach i (noted i m n .1) (underWay (m .event .call) (m .answer) k) ms
 
 -- as Demand3 of FrontPage.antt, for each of the four drivers
 abbrev pub SharedDemand3 : Type 0
 SharedDemand3 = (i : ℕ) (c : Config) (b : Buf) → startRow c b ≡ zero
     → (xs : List ℕ) (a : Buf) (n : Machine Answer Pages) (first : Made)
     → first .event ≡ record { call = start c; lent = b } → (ms : List Made) → Calls i xs a n (first ∷ ms)
-    → AfterEach i n (first ∷ ms)
+    → AfterEach i n (first ∷ ms) × ((k : Known) → LengthsEach i n k (first ∷ ms))
+    × ((k : Names) → OthersEach i n k (first ∷ ms))

@@ -47,7 +47,7 @@ always i (m ∷ ms) xs a n w r h =
 
 -- ---- an accepted start-up of driver i, from whatever was before
 
-shared-start : (i : ℕ) (c : Config) (b : Buf) → startRow c b ≡ zero
+pub shared-start : (i : ℕ) (c : Config) (b : Buf) → startRow c b ≡ zero
     → (m : Machine Answer Driver) (n : Machine Answer Pages) (time : List ℕ)
     → Agreed i (start c) (sharedCall i (start c) m time b .0) time (sharedCall i (start c) m time b .1) b n
 unfolding settled

@@ -1,0 +1,2 @@
+pub mod Charged
+pub mod Witness
