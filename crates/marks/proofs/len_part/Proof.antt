@@ -1,4 +1,4 @@
-use mathlib.Core.Path.{_≡_, refl, sym, _∙_}
+use mathlib.Core.Path.{_≡_, sym, _∙_}
 use Prim.Native.Nat.{_≤_}
 use native.Mathlib.Omega.{arith}
 use lib.ListN.{length}
@@ -14,8 +14,11 @@ Inv-loop part max n₀ n = (n ≤ max) × (max ≤ length part) × (found n part
 abbrev μ-loop : tie.MeasureT-loop
 μ-loop part max n₀ n = n
 
+skip-words-requires : tie.Need-skip-words-requires Inv-loop μ-loop
+skip-words-requires c κs = omega arith
+
 loop-holds : tie.Need-loop-holds Inv-loop μ-loop
-loop-holds c = (omega arith, c .before .pre, refl)
+loop-holds c = (c .skip-words .ensures .0, c .before .before .pre, c .skip-words .ensures .1)
 
 cast-k : tie.Need-cast-k Inv-loop μ-loop
 cast-k c = search needs
@@ -34,16 +37,20 @@ returns c =
     let at = c .before .before .before .before .loop in
     sym (found-here _ (at .n) (omega arith) (λ e. c .if1 .taken (e ∙ sym (c .before .mark-byte .ensures)))) ∙ at .inv .2
 
-sub-n : tie.Need-sub-n Inv-loop μ-loop
-sub-n c = omega arith
+sub-skip-words : tie.Need-sub-skip-words Inv-loop μ-loop
+sub-skip-words c = omega arith
+
+skip-words-requires-2 : tie.Need-skip-words-requires-2 Inv-loop μ-loop
+skip-words-requires-2 c κs = omega arith
 
 loop-less : tie.Need-loop-less Inv-loop μ-loop
 loop-less c = omega arith
 
 loop-again : tie.Need-loop-again Inv-loop μ-loop
 loop-again c =
-    let at = c .before .before .before .before .loop in
-    (omega arith, at .inv .1, sym (found-below _ (at .n) (omega arith) (c .if1 .left ∙ c .before .mark-byte .ensures)) ∙ at .inv .2)
+    let at = c .before .before .before .before .before .loop in
+    let e = found-below _ (at .n) (omega arith) (c .before .if1 .left ∙ c .before .before .mark-byte .ensures) in
+    (omega arith, at .inv .1, c .skip-words2 .ensures .1 ∙ sym e ∙ at .inv .2)
 
 returns-2 : tie.Need-returns-2 Inv-loop μ-loop
 returns-2 c = sym (found-none _ _ (omega arith)) ∙ c .before .loop .inv .2
@@ -54,13 +61,15 @@ len-part-spec =
     (tie.spec
     Inv-loop
     μ-loop
+    skip-words-requires
     loop-holds
     cast-k
     sub-k
     shared-slice-read-if1
     mark-byte-requires
     returns
-    sub-n
+    sub-skip-words
+    skip-words-requires-2
     loop-less
     loop-again
     returns-2)
