@@ -31,8 +31,12 @@ fn is_mark(part: &[u8], i: usize) -> bool
 fn mark_byte(k: usize) -> u8
     ensures { λ r. ⌜ r ≡ markByte k ⌝ }
 {
-    let mark: [u8; 4] = [0xC3, 0xA5, 0x3C, 0x5A];
-    mark[k % 4]
+    match k % 4 {
+        0 => 0xC3,
+        1 => 0xA5,
+        2 => 0x3C,
+        _ => 0x5A,
+    }
 }
 
 // How many of the first n words are left without the marked ones at their end.
@@ -67,7 +71,7 @@ fn len_part(part: &[u8], max: u16) -> u16
     requires { ⌜ max ≤ length (now part) ⌝ }
     ensures { λ r. ⌜ r ≡ found max (now (part .entry)) ⌝ }
 {
-    let mut n = skip_words(part, max);
+    let mut n = max;
     while 0 < n {
         let k = n as usize - 1;
         if part[k] != mark_byte(k) {

@@ -1,4 +1,4 @@
-use mathlib.Core.Path.{_≡_, sym, _∙_}
+use mathlib.Core.Path.{_≡_, refl, sym, _∙_}
 use Prim.Native.Nat.{_≤_}
 use native.Mathlib.Omega.{arith}
 use lib.ListN.{length}
@@ -14,11 +14,8 @@ Inv-loop part max n₀ n = (n ≤ max) × (max ≤ length part) × (found n part
 abbrev μ-loop : tie.MeasureT-loop
 μ-loop part max n₀ n = n
 
-skip-words-requires : tie.Need-skip-words-requires Inv-loop μ-loop
-skip-words-requires c κs = omega arith
-
 loop-holds : tie.Need-loop-holds Inv-loop μ-loop
-loop-holds c = (c .skip-words .ensures .0, c .before .before .pre, c .skip-words .ensures .1)
+loop-holds c = (omega arith, c .before .pre, refl)
 
 cast-k : tie.Need-cast-k Inv-loop μ-loop
 cast-k c = search needs
@@ -40,8 +37,8 @@ returns c =
 sub-skip-words : tie.Need-sub-skip-words Inv-loop μ-loop
 sub-skip-words c = omega arith
 
-skip-words-requires-2 : tie.Need-skip-words-requires-2 Inv-loop μ-loop
-skip-words-requires-2 c κs = omega arith
+skip-words-requires : tie.Need-skip-words-requires Inv-loop μ-loop
+skip-words-requires c κs = omega arith
 
 loop-less : tie.Need-loop-less Inv-loop μ-loop
 loop-less c = omega arith
@@ -50,7 +47,7 @@ loop-again : tie.Need-loop-again Inv-loop μ-loop
 loop-again c =
     let at = c .before .before .before .before .before .loop in
     let e = found-below _ (at .n) (omega arith) (c .before .if1 .left ∙ c .before .before .mark-byte .ensures) in
-    (omega arith, at .inv .1, c .skip-words2 .ensures .1 ∙ sym e ∙ at .inv .2)
+    (omega arith, at .inv .1, c .skip-words .ensures .1 ∙ sym e ∙ at .inv .2)
 
 returns-2 : tie.Need-returns-2 Inv-loop μ-loop
 returns-2 c = sym (found-none _ _ (omega arith)) ∙ c .before .loop .inv .2
@@ -61,7 +58,6 @@ len-part-spec =
     (tie.spec
     Inv-loop
     μ-loop
-    skip-words-requires
     loop-holds
     cast-k
     sub-k
@@ -69,7 +65,7 @@ len-part-spec =
     mark-byte-requires
     returns
     sub-skip-words
-    skip-words-requires-2
+    skip-words-requires
     loop-less
     loop-again
     returns-2)
