@@ -5,22 +5,22 @@ use Rattle.marks.proofs.mark_byte.Statement.{statement}
 use Rattle.marks.proofs.mark_byte.Tie as tie
 
 returns : tie.Need-returns
-returns c = 
+returns c =
     let e : c .before .args .k % 4 ≡ 0 = omega arith in
     rw e
 
 returns-2 : tie.Need-returns-2
-returns-2 c = 
+returns-2 c =
     let e : c .before .args .k % 4 ≡ 1 = omega arith in
     rw e
 
 returns-3 : tie.Need-returns-3
-returns-3 c = 
+returns-3 c =
     let e : c .before .args .k % 4 ≡ 2 = omega arith in
     rw e
 
 returns-4 : tie.Need-returns-4
-returns-4 c = 
+returns-4 c =
     let e : c .before .args .k % 4 ≡ 3 = omega arith in
     rw e
 
