@@ -105,7 +105,8 @@ fn mark_four(part: &mut [u8], i: usize)
     mark_word(part, i + 3);
 }
 
-// Marks the first n words: those that do not make four, then the others four at a time. A counter of 16 bits is one register on RV32.
+// Marks the first n words: those that do not make four, then the others four at a time. A counter of 16 bits is one
+// register on RV32.
 fn mark_words(part: &mut [u8], n: u16)
     requires { ⌜ n * 4 ≤ length (now part) ⌝ }
     ensures { λ r. ⌜ now (part .exit) ≡ markedRun (now (part .entry)) 0 n ⌝ }
@@ -149,7 +150,8 @@ fn put4(s: &mut [u8], i: usize, b: Bytes4)
     s[i + 3] = b.3;
 }
 
-// Copies sixteen bytes from place i on, all read before the first is stored: by two instructions a byte on RV32, by two in all on x86-64.
+// Copies sixteen bytes from place i on, all read before the first is stored: by two instructions a byte on RV32, by two
+// in all on x86-64.
 fn copy16(part: &mut [u8], packet: &[u8], i: usize)
     requires { ⌜ i + 16 ≤ length (now packet) ⌝ }
     requires { ⌜ i + 16 ≤ length (now part) ⌝ }
