@@ -19,9 +19,20 @@ void *memcpy(void *restrict to, const void *restrict from, size_t length)
     uint8_t *t = to;
     const uint8_t *f = from;
 
-    if (aligned(t, f))
+    if (aligned(t, f)) {
+        for (; length >= 4 * WORD; length -= 4 * WORD, t += 4 * WORD, f += 4 * WORD) {
+            word *w = (word *)t;
+            const word *v = (const word *)f;
+            word a = v[0], b = v[1], c = v[2], d = v[3];
+
+            w[0] = a;
+            w[1] = b;
+            w[2] = c;
+            w[3] = d;
+        }
         for (; length >= WORD; length -= WORD, t += WORD, f += WORD)
             *(word *)t = *(const word *)f;
+    }
     for (; length > 0; length--)
         *t++ = *f++;
     return to;
@@ -34,26 +45,43 @@ void *memcpy(void *restrict to, const void *restrict from, size_t length)
 void *memset(void *to, int byte, size_t length)
 {
     uint8_t *t = to;
-    uint32_t four = (uint8_t)byte * 0x01010101u;
 
     if (length > SHORT) {
+        uint32_t four = (uint8_t)byte * 0x01010101u;
+
         for (; !aligned(t, t); length--)
             *t++ = (uint8_t)byte;
-        for (; length >= 4 * WORD; length -= 4 * WORD, t += 4 * WORD) {
+        for (; length >= 8 * WORD; length -= 8 * WORD, t += 8 * WORD) {
             word *w = (word *)t;
 
             w[0] = four;
             w[1] = four;
             w[2] = four;
             w[3] = four;
+            w[4] = four;
+            w[5] = four;
+            w[6] = four;
+            w[7] = four;
+        }
+        if (length >= 4 * WORD) {
+            word *w = (word *)t;
+
+            w[0] = four;
+            w[1] = four;
+            w[2] = four;
+            w[3] = four;
+            length -= 4 * WORD;
+            t += 4 * WORD;
         }
     }
     switch (length) {
     LAST(24) LAST(23) LAST(22) LAST(21) LAST(20) LAST(19) LAST(18) LAST(17)
     LAST(16) LAST(15) LAST(14) LAST(13) LAST(12) LAST(11) LAST(10) LAST(9)
     LAST(8) LAST(7) LAST(6) LAST(5) LAST(4) LAST(3) LAST(2) LAST(1)
-    default:
+    case 0:
         return to;
+    default: /* no length is left above SHORT */
+        __builtin_unreachable();
     }
 }
 

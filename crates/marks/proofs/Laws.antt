@@ -1,14 +1,17 @@
 -- What the loops of marking, of the search and of copying keep.
-use mathlib.Core.Path.{_≡_, refl, sym, _∙_}
+use mathlib.Core.Path.{_≡_, refl, sym, ap, _∙_}
 use mathlib.Core.Bool.{Bool, true, false, _&&_}
 use mathlib.Core.List.{List, _++_}
-use Prim.Native.Nat.{ℕ, zero, suc, _+_, _-_, _*_, _≤_, _<_}
+use Prim.Native.Nat.{ℕ, zero, suc, _+_, _-_, _*_, _/_, _≤_, _<_}
+use native.Mathlib.Nat.{add-zero, zero-add, suc-add}
 use native.Mathlib.Numerals.{add-one}
 use borrow.Author.Tests.{eq-eqb, ne-eqb}
 use native.Mathlib.Omega.{arith}
-use lib.ListN.{length, take, drop, set, getD, length-append, length-drop}
-use lib.Seq.{length-sets, length-take-le, drop-cons, take-suc, set-at, append-snoc}
-use Rattle.marks.specs.Marks.{mark, markByte, marked, markedRun, found}
+use lib.ListN.{length, take, drop, set, getD, length-append, length-drop, length-set}
+use lib.Seq.{sets, length-sets, length-take-le, drop-cons, take-suc, take-length, set-at, append-snoc}
+use Rattle.marks.specs.Marks.{mark, markByte, isMark, marked, markedRun, found}
+use Rattle.marks.specs.Copies.{over, four, copiedRun}
+use Rattle.marks.specs.Words.{mark-byte}
 
 -- ---- marks
 
@@ -34,6 +37,29 @@ pub run-more : (p : List ℕ) (i n : ℕ) → i < n → markedRun p i (n - i) �
 unfolding markedRun
 run-more p i n h = let e : n - i ≡ suc (n - (i + 1)) = omega arith in rw e
 
+pub run-four : (p : List ℕ) (i : ℕ) → marked (marked (marked (marked p i) (i + 1)) (i + 2)) (i + 3) ≡ markedRun p i 4
+unfolding markedRun
+run-four p i =
+    let e2 : i + 1 + 1 ≡ i + 2 = omega arith in
+    let e3 : i + 2 + 1 ≡ i + 3 = omega arith in
+    rw (e2, e3)
+
+pub length-run : (n : ℕ) (p : List ℕ) (i : ℕ) → length (markedRun p i n) ≡ length p
+unfolding markedRun
+length-run zero p i = refl
+length-run (suc n) p i = length-run n (marked p i) (i + 1) ∙ length-marked p i
+
+run-add : (m k : ℕ) (p : List ℕ) (i : ℕ) → markedRun p i (m + k) ≡ markedRun (markedRun p i m) (i + m) k
+unfolding markedRun
+run-add zero k p i = rw (zero-add k, add-zero i)
+run-add (suc m) k p i =
+    let e : i + 1 + m ≡ i + suc m = omega arith in
+    rw (suc-add m k) (rw e at (run-add m k (marked p i) (i + 1)))
+
+-- m words more
+pub run-step : (p : List ℕ) (i n m : ℕ) → i + m ≤ n → markedRun p i (n - i) ≡ markedRun (markedRun p i m) (i + m) (n - (i + m))
+run-step p i n m h = let e : n - i ≡ m + (n - (i + m)) = omega arith in rw e (run-add m (n - (i + m)) p i)
+
 pub run-none : (p : List ℕ) (i n : ℕ) → n ≤ i → markedRun p i (n - i) ≡ p
 unfolding markedRun
 run-none p i n h = let e : n - i ≡ 0 = omega arith in rw e
@@ -57,6 +83,15 @@ pub found-none : (p : List ℕ) (n : ℕ) → n ≤ 0 → found n p ≡ 0
 unfolding found
 found-none p n h = let e : n ≡ 0 = omega arith in rw e
 
+-- a marked word is passed over
+pub found-word : (m : ℕ) (p : List ℕ) (i : ℕ) → m ≤ 4 → isMark p i ≡ true → found (i * 4 + m) p ≡ found (i * 4) p
+found-word zero p i h d = rw (add-zero (i * 4))
+found-word (suc m) p i h d =
+    let e : i * 4 + suc m - 1 ≡ i * 4 + m = omega arith in
+    let w : (i * 4 + suc m - 1) / 4 ≡ i = omega arith in
+    found-below p (i * 4 + suc m) (omega arith) (mark-byte p (i * 4 + suc m - 1) (rw w d))
+    ∙ rw e (found-word m p i (omega arith) d)
+
 -- ---- copies
 
 pub copy-more : (d s : List ℕ) (j : ℕ) → j < length s → length s ≤ length d
@@ -69,3 +104,60 @@ copy-more d s j h g =
 
 pub length-copy : (d s : List ℕ) (j : ℕ) → j ≤ length s → length s ≤ length d → length (take j s ++ drop j d) ≡ length d
 length-copy d s j h g = simp (length-append, length-take-le j s h, length-drop) (omega arith)
+
+pub four-stores : (s p : List ℕ) (i : ℕ) {q : List ℕ} → q ≡ four s i → sets p i q ≡ copiedRun s p i 4
+unfolding copiedRun
+four-stores s p i e =
+    let e1 : suc i ≡ i + 1 = omega arith in
+    let e2 : i + 1 + 1 ≡ i + 2 = omega arith in
+    let e3 : i + 2 + 1 ≡ i + 3 = omega arith in
+    let f2 : suc (i + 1) ≡ i + 2 = omega arith in
+    let f3 : suc (i + 2) ≡ i + 3 = omega arith in
+    ap (sets p i) e ∙ rw (e1, e2, e3, f2, f3)
+
+pub length-copied : (n : ℕ) (s p : List ℕ) (i : ℕ) → length (copiedRun s p i n) ≡ length p
+unfolding copiedRun
+length-copied zero s p i = refl
+length-copied (suc n) s p i = length-copied n s (set p i (getD s i 0)) (i + 1) ∙ length-set p i (getD s i 0)
+
+copied-add : (m k : ℕ) (s p : List ℕ) (i : ℕ) → copiedRun s p i (m + k) ≡ copiedRun s (copiedRun s p i m) (i + m) k
+unfolding copiedRun
+copied-add zero k s p i = rw (zero-add k, add-zero i)
+copied-add (suc m) k s p i =
+    let e : i + 1 + m ≡ i + suc m = omega arith in
+    rw (suc-add m k) (rw e at (copied-add m k s (set p i (getD s i 0)) (i + 1)))
+
+-- four times four bytes
+pub sixteen : (s p : List ℕ) (i : ℕ)
+    → copiedRun s (copiedRun s (copiedRun s (copiedRun s p i 4) (i + 4) 4) (i + 8) 4) (i + 12) 4 ≡ copiedRun s p i 16
+sixteen s p i =
+    let e8 : i + 4 + 4 ≡ i + 8 = omega arith in
+    let e12 : i + 8 + 4 ≡ i + 12 = omega arith in
+    sym
+    (copied-add 4 12 s p i
+    ∙ (rw e8 at (copied-add 4 8 s (copiedRun s p i 4) (i + 4)))
+    ∙ (rw e12 at (copied-add 4 4 s (copiedRun s (copiedRun s p i 4) (i + 4) 4) (i + 8))))
+
+-- m bytes more
+pub copied-step : (s p : List ℕ) (i n m : ℕ) → i + m ≤ n → copiedRun s p i (n - i) ≡ copiedRun s (copiedRun s p i m) (i + m) (n - (i + m))
+copied-step s p i n m h = let e : n - i ≡ m + (n - (i + m)) = omega arith in rw e (copied-add m (n - (i + m)) s p i)
+
+pub copied-one : (s p : List ℕ) (i : ℕ) → set p i (getD s i 0) ≡ copiedRun s p i 1
+unfolding copiedRun
+copied-one s p i = refl
+
+pub copied-none : (s p : List ℕ) (i n : ℕ) → n ≤ i → copiedRun s p i (n - i) ≡ p
+unfolding copiedRun
+copied-none s p i n h = let e : n - i ≡ 0 = omega arith in rw e
+
+run-copy : (m : ℕ) (d s : List ℕ) (j : ℕ) → j + m ≤ length s → length s ≤ length d
+    → copiedRun s (take j s ++ drop j d) j m ≡ take (j + m) s ++ drop (j + m) d
+unfolding copiedRun
+run-copy zero d s j h g = rw (add-zero j)
+run-copy (suc m) d s j h g =
+    let e : j + 1 + m ≡ j + suc m = omega arith in
+    rw (copy-more d s j (omega arith) g) (rw e at (run-copy m d s (j + 1) (omega arith) g))
+
+-- all its bytes
+pub copied-all : (s d : List ℕ) → length s ≤ length d → copiedRun s d 0 (length s) ≡ over s d
+copied-all s d h = rw (zero-add, take-length) at (run-copy (length s) d s 0 (omega arith) h)

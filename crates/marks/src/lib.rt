@@ -3,9 +3,11 @@
 // start. What would reach past the buffer's end touches nothing.
 ghost use mathlib.Core.Path.{_≡_};
 ghost use Prim.Native.Nat.{_+_, _*_, _≤_};
+ghost use mathlib.Core.List.{[], _∷_};
 ghost use lib.ListN.{length};
+ghost use lib.Seq.{sets};
 ghost use Rattle.marks.specs.Marks.{isMark, markByte, marked, markedRun, armedWords, found, isMarked, armed, markedLen};
-ghost use Rattle.marks.specs.Copies.{over, copied, copiedOut};
+ghost use Rattle.marks.specs.Copies.{over, four, copiedRun, copied, copiedOut};
 
 // Is word i of the part the mark, 0x5A3CA5C3 in bytes lowest first?
 fn is_mark(part: &[u8], i: usize) -> bool
@@ -29,8 +31,39 @@ fn is_mark(part: &[u8], i: usize) -> bool
 fn mark_byte(k: usize) -> u8
     ensures { λ r. ⌜ r ≡ markByte k ⌝ }
 {
-    let mark: [u8; 4] = [0xC3, 0xA5, 0x3C, 0x5A];
-    mark[k % 4]
+    match k % 4 {
+        0 => 0xC3,
+        1 => 0xA5,
+        2 => 0x3C,
+        _ => 0x5A,
+    }
+}
+
+// How many of the first n words are left without the marked ones at their end.
+fn unmarked_words(part: &[u8], n: u32) -> u32
+    requires { ⌜ n * 4 ≤ length (now part) ⌝ }
+    ensures { λ r. ⌜ (r ≤ n) × (found (r * 4) (now (part .entry)) ≡ found (n * 4) (now (part .entry))) ⌝ }
+{
+    let mut i = n;
+    while 0 < i {
+        let is_empty = is_mark(part, i as usize - 1);
+        if !is_empty {
+            return i;
+        }
+        i -= 1;
+    }
+    0
+}
+
+// The first n bytes, where they are whole words, without the marked words at their end: 11 instructions a word on RV32.
+fn skip_words(part: &[u8], n: u16) -> u16
+    requires { ⌜ n ≤ length (now part) ⌝ }
+    ensures { λ r. ⌜ (r ≤ n) × (found r (now (part .entry)) ≡ found n (now (part .entry))) ⌝ }
+{
+    if n % 4 == 0 {
+        return (unmarked_words(part, (n / 4) as u32) * 4) as u16;
+    }
+    n
 }
 
 // The length of the packet in the part: down from max, up to the last byte that differs from the mark's.
@@ -44,7 +77,7 @@ fn len_part(part: &[u8], max: u16) -> u16
         if part[k] != mark_byte(k) {
             return n;
         }
-        n -= 1;
+        n = skip_words(part, n - 1);
     }
     0
 }
@@ -61,35 +94,107 @@ fn mark_word(part: &mut [u8], i: usize)
     part[a + 3] = 0x5A;
 }
 
-// Marks the first n words.
-fn mark_words(part: &mut [u8], n: usize)
+// Marks four words from word i on.
+fn mark_four(part: &mut [u8], i: usize)
+    requires { ⌜ i * 4 + 16 ≤ length (now part) ⌝ }
+    ensures { λ r. ⌜ now (part .exit) ≡ markedRun (now (part .entry)) i 4 ⌝ }
+{
+    mark_word(part, i);
+    mark_word(part, i + 1);
+    mark_word(part, i + 2);
+    mark_word(part, i + 3);
+}
+
+// Marks the first n words: those that do not make four, then the others four at a time. A counter of 16 bits is one
+// register on RV32.
+fn mark_words(part: &mut [u8], n: u16)
     requires { ⌜ n * 4 ≤ length (now part) ⌝ }
     ensures { λ r. ⌜ now (part .exit) ≡ markedRun (now (part .entry)) 0 n ⌝ }
 {
     let mut i = 0;
-    while i < n {
-        mark_word(part, i);
+    while i < n % 4 {
+        mark_word(part, i as usize);
         i += 1;
+    }
+    while i < n {
+        mark_four(part, i as usize);
+        i += 4;
     }
 }
 
 // How many words arming marks.
-fn armed_words(max: u16) -> usize
+fn armed_words(max: u16) -> u16
     ensures { λ r. ⌜ r ≡ armedWords max ⌝ }
 {
-    let n = (max as usize + 3) / 4;
+    let n = ((max as usize + 3) / 4) as u16;
     if n < 1 { 1 } else { n }
 }
 
-// Copies the packet to the part's start.
+struct Bytes4(u8, u8, u8, u8);
+
+// The four bytes from place i on.
+fn get4(s: &[u8], i: usize) -> Bytes4
+    requires { ⌜ i + 4 ≤ length (now s) ⌝ }
+    ensures { λ r. ⌜ r .0 ∷ r .1 ∷ r .2 ∷ r .3 ∷ [] ≡ four (now (s .entry)) i ⌝ }
+{
+    Bytes4(s[i], s[i + 1], s[i + 2], s[i + 3])
+}
+
+fn put4(s: &mut [u8], i: usize, b: Bytes4)
+    requires { ⌜ i + 4 ≤ length (now s) ⌝ }
+    ensures { λ _. ⌜ now (s .exit) ≡ sets (now (s .entry)) i (b .0 ∷ b .1 ∷ b .2 ∷ b .3 ∷ []) ⌝ }
+{
+    s[i] = b.0;
+    s[i + 1] = b.1;
+    s[i + 2] = b.2;
+    s[i + 3] = b.3;
+}
+
+// Copies sixteen bytes from place i on, all read before the first is stored: by two instructions a byte on RV32, by two
+// in all on x86-64.
+fn copy16(part: &mut [u8], packet: &[u8], i: usize)
+    requires { ⌜ i + 16 ≤ length (now packet) ⌝ }
+    requires { ⌜ i + 16 ≤ length (now part) ⌝ }
+    ensures { λ _. ⌜ now (part .exit) ≡ copiedRun (now (packet .entry)) (now (part .entry)) i 16 ⌝ }
+{
+    let j = i + 4;
+    let k = i + 8;
+    let l = i + 12;
+    let a = get4(packet, i);
+    let b = get4(packet, j);
+    let c = get4(packet, k);
+    let d = get4(packet, l);
+    put4(part, i, a);
+    put4(part, j, b);
+    put4(part, k, c);
+    put4(part, l, d);
+}
+
+// Copies the packet's first n bytes, one by one.
+fn copy_few(part: &mut [u8], packet: &[u8], n: u8)
+    requires { ⌜ n ≤ length (now packet) ⌝ }
+    requires { ⌜ n ≤ length (now part) ⌝ }
+    ensures { λ _. ⌜ now (part .exit) ≡ copiedRun (now (packet .entry)) (now (part .entry)) 0 n ⌝ }
+{
+    let mut i = 0;
+    while i < n {
+        part[i as usize] = packet[i as usize];
+        i += 1;
+    }
+}
+
+// Copies the packet to the part's start: the bytes that do not make 32, then the others 32 at a time.
 fn copy(part: &mut [u8], packet: &[u8])
     requires { ⌜ length (now packet) ≤ length (now part) ⌝ }
     ensures { λ r. ⌜ now (part .exit) ≡ over (now (packet .entry)) (now (part .entry)) ⌝ }
 {
-    let mut i = 0;
-    while i < packet.len() {
-        part[i] = packet[i];
-        i += 1;
+    let n = packet.len();
+    copy_few(part, packet, (n % 32) as u8);
+    let mut i = n % 32;
+    while i < n {
+        copy16(part, packet, i);
+        copy16(part, packet, i + 16);
+        i += 32;
     }
 }
 
@@ -122,7 +227,7 @@ pub fn iso_out_arm(buf: &mut [u8], at: u32, max: u16)
 {
     let a = at as usize;
     let n = armed_words(max);
-    if buf.len() < a + n * 4 {
+    if buf.len() < a + n as usize * 4 {
         return;
     }
     mark_words(&mut buf[a..], n);

@@ -310,11 +310,15 @@ module _ (xs : List ℕ) (sized : length xs ≡ 2839) where
 
 -- what is loaded
 module _ (xs : List ℕ) where
+  pub ep-there : (k : ℕ) (r : EpState)
+      → k < 32 → Each (epAs r) (numbers epWidths (gets xs (0 + k * 30) 0 30)) → r ≡ getD (view xs .eps) k noEp
+  unfolding view
+  ep-there k r l h = ap epOf (each-eq (epAs r) (numbers epWidths (gets xs (0 + k * 30) 0 30)) h) ∙ table-at epIn 0 32 30 xs k noEp l
+
   pub ep-at : (dir : Dir) (e k : ℕ) (r : EpState)
       → k ≡ key dir e → k < 32 → Each (epAs r) (numbers epWidths (gets xs (0 + k * 30) 0 30)) → r ≡ epOn (view xs) dir e
-  unfolding view epOn
-  ep-at dir e k r p l h = ap epOf (each-eq (epAs r) (numbers epWidths (gets xs (0 + k * 30) 0 30)) h)
-      ∙ table-at epIn 0 32 30 xs k noEp l ∙ ap (λ (j : ℕ). getD (view xs .eps) j noEp) p
+  unfolding epOn
+  ep-at dir e k r p l h = ep-there k r l h ∙ ap (λ (j : ℕ). getD (view xs .eps) j noEp) p
 
   pub len-at : (dir : Dir) (e i k : ℕ) → k ≡ lenKey dir e i → k < 512 → number (gets xs (960 + k * 2) 0 2) ≡ lenOn (view xs) dir e i
   unfolding view lenOn

@@ -1,33 +1,37 @@
-use mathlib.Core.List.{_++_}
-use mathlib.Core.Path.{_≡_, refl, ap, _∙_}
-use Prim.Native.Nat.{_-_, _≤_, zero-le}
+use mathlib.Core.Path.{_≡_, refl, sym, ap, _∙_}
+use Prim.Native.Nat.{_+_, _-_, _%_, _≤_}
 use native.Mathlib.Omega.{arith}
-use lib.ListN.{length, take, drop}
-use lib.Seq.{take-length}
-use Rattle.marks.proofs.Laws.{copy-more, length-copy}
+use lib.ListN.{length}
+use Rattle.marks.specs.Copies.{copiedRun}
+use Rattle.marks.proofs.Laws.{length-copied, copied-step, copied-none, copied-all}
 use Rattle.marks.proofs.copy.Statement.{statement}
 use Rattle.marks.proofs.copy.Tie as tie
 
 abbrev Inv-loop : tie.InvT-loop
-Inv-loop part₀ packet i₀ part i = (i ≤ length packet) × (length packet ≤ length part₀) × (part ≡ take i packet ++ drop i part₀)
+Inv-loop part₀ packet n i₀ part i =
+    (length part ≡ length part₀) × (n ≡ length packet) × (n ≤ length part₀) × (i ≤ n) × ((n - i) % 32 ≡ 0)
+    × (copiedRun packet part i (n - i) ≡ copiedRun packet part₀ i₀ (n - i₀))
 
 abbrev μ-loop : tie.MeasureT-loop
-μ-loop part₀ packet i₀ part i = length packet - i
+μ-loop part₀ packet n i₀ part i = n - i
+
+cast-copy-few : tie.Need-cast-copy-few Inv-loop μ-loop
+cast-copy-few c = omega arith
+
+copy-few-requires : tie.Need-copy-few-requires Inv-loop μ-loop
+copy-few-requires c κs = omega arith
 
 loop-holds : tie.Need-loop-holds Inv-loop μ-loop
-loop-holds c = (zero-le, c .pre, refl)
+loop-holds c = (refl, refl, omega arith, omega arith, omega arith, refl)
 
-shared-slice-read-part : tie.Need-shared-slice-read-part Inv-loop μ-loop
-shared-slice-read-part c = omega arith
+copy16-requires : tie.Need-copy16-requires Inv-loop μ-loop
+copy16-requires c κs = omega arith
 
-slice-write-part : tie.Need-slice-write-part Inv-loop μ-loop
-slice-write-part c =
-    let v = c .before .before .loop .inv in
-    rw (
-      v .2,
-      length-copy (c .before .before .before .args .part .now)
-          (c .before .before .before .args .packet .now) (c .before .before .loop .i) (omega arith) (omega arith),
-    ) (omega arith)
+add-copy16 : tie.Need-add-copy16 Inv-loop μ-loop
+add-copy16 c = omega arith
+
+copy16-requires-2 : tie.Need-copy16-requires-2 Inv-loop μ-loop
+copy16-requires-2 c κs = omega arith
 
 add-i : tie.Need-add-i Inv-loop μ-loop
 add-i c = omega arith
@@ -37,24 +41,38 @@ loop-less c = omega arith
 
 loop-again : tie.Need-loop-again Inv-loop μ-loop
 loop-again c =
-    let v = c .before .before .loop .inv in (
-      omega arith,
-      v .1,
-      rw (v .2)
-          (copy-more (c .before .before .before .args .part .now)
-          (c .before .before .before .args .packet .now) (c .before .before .loop .i) (omega arith) (omega arith)),
-    )
+    let second = c .before .before .copy162 in
+    let first = c .before .before .before .before .before .before .copy16 in
+    let at = c .before .before .before .before .before .before .before .before .before .loop in
+    let t = c .before .before .before .before .before .before .before .before .before .before .before .before
+    .before .before .before .before .args .packet .now in
+    let i = at .i in
+    let g : i + 16 + 16 ≡ i + 32 = omega arith in
+    let once = copiedRun t (at .part) i 16 in
+    let long = ap length (first .ensures) ∙ length-copied 16 t (at .part) i in
+    let longer = ap length (second .ensures) ∙ length-copied 16 t (first .last .0) (i + 16) in
+    let step = copied-step t (at .part) i (length t) 16 (omega arith) in
+    let more = copied-step t once (i + 16) (length t) 16 (omega arith) in
+    let all = sym (rw g at (step ∙ more)) ∙ at .inv .5 in
+    (longer ∙ long ∙ at .inv .0, at .inv .1, at .inv .2, omega arith, omega arith, rw (second .ensures, first .ensures) all)
 
 same-length : tie.Need-same-length Inv-loop μ-loop
 same-length c =
-    let v = c .before .loop .inv in
-    ap length (v .2) ∙ length-copy (c .before .before .args .part .now) (c .before .before .args .packet .now) (c .before .loop .i) (omega arith) (omega arith)
+    let s = c .before .before .before .before .before .before .before .before .args in
+    let few = c .before .before .before .before .copy-few in
+    c .before .loop .inv .0 ∙ ap length (few .ensures) ∙ length-copied _ (s .packet .now) (s .part .now) 0
 
 returns : tie.Need-returns Inv-loop μ-loop
 returns c =
-    let v = c .before .loop .inv in
-    let e : c .before .loop .i ≡ length (c .before .before .args .packet .now) = omega arith in
-    v .2 ∙ rw (e, take-length)
+    let s = c .before .before .before .before .before .before .before .before .args in
+    let few = c .before .before .before .before .copy-few in
+    let t = s .packet .now in
+    let d = s .part .now in
+    let n = length t in
+    let done = sym (copied-none t (c .before .loop .part) (c .before .loop .i) n (omega arith)) ∙ c .before .loop .inv .5 in
+    let e : 0 + n % 32 ≡ n % 32 = omega arith in
+    let z : n - 0 ≡ n = omega arith in
+    done ∙ rw (few .ensures) (sym (rw (e, z) at (copied-step t d 0 n (n % 32) (omega arith)))) ∙ copied-all t d (omega arith)
 
 pub copy-spec : {M : Type 1} → statement M
 copy-spec =
@@ -62,9 +80,12 @@ copy-spec =
     (tie.spec
     Inv-loop
     μ-loop
+    cast-copy-few
+    copy-few-requires
     loop-holds
-    shared-slice-read-part
-    slice-write-part
+    copy16-requires
+    add-copy16
+    copy16-requires-2
     add-i
     loop-less
     loop-again

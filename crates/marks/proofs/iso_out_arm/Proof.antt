@@ -7,6 +7,9 @@ use Rattle.marks.proofs.iso_out_arm.Tie as tie
 armed-words-requires : tie.Need-armed-words-requires
 armed-words-requires c κs = search needs
 
+cast-if1 : tie.Need-cast-if1
+cast-if1 c = search needs
+
 mul-if1 : tie.Need-mul-if1
 mul-if1 c = search needs
 
@@ -44,6 +47,7 @@ iso-out-arm-spec =
     tie.close
     (tie.spec
     armed-words-requires
+    cast-if1
     mul-if1
     add-if1
     returns

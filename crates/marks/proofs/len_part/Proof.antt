@@ -34,16 +34,20 @@ returns c =
     let at = c .before .before .before .before .loop in
     sym (found-here _ (at .n) (omega arith) (λ e. c .if1 .taken (e ∙ sym (c .before .mark-byte .ensures)))) ∙ at .inv .2
 
-sub-n : tie.Need-sub-n Inv-loop μ-loop
-sub-n c = omega arith
+sub-skip-words : tie.Need-sub-skip-words Inv-loop μ-loop
+sub-skip-words c = omega arith
+
+skip-words-requires : tie.Need-skip-words-requires Inv-loop μ-loop
+skip-words-requires c κs = omega arith
 
 loop-less : tie.Need-loop-less Inv-loop μ-loop
 loop-less c = omega arith
 
 loop-again : tie.Need-loop-again Inv-loop μ-loop
 loop-again c =
-    let at = c .before .before .before .before .loop in
-    (omega arith, at .inv .1, sym (found-below _ (at .n) (omega arith) (c .if1 .left ∙ c .before .mark-byte .ensures)) ∙ at .inv .2)
+    let at = c .before .before .before .before .before .loop in
+    let e = found-below _ (at .n) (omega arith) (c .before .if1 .left ∙ c .before .before .mark-byte .ensures) in
+    (omega arith, at .inv .1, c .skip-words .ensures .1 ∙ sym e ∙ at .inv .2)
 
 returns-2 : tie.Need-returns-2 Inv-loop μ-loop
 returns-2 c = sym (found-none _ _ (omega arith)) ∙ c .before .loop .inv .2
@@ -60,7 +64,8 @@ len-part-spec =
     shared-slice-read-if1
     mark-byte-requires
     returns
-    sub-n
+    sub-skip-words
+    skip-words-requires
     loop-less
     loop-again
     returns-2)
