@@ -64,7 +64,7 @@ void *memset(void *to, int byte, size_t length)
     case 0:
         return to;
     default:
-        return set_many(to, byte, length);
+        __attribute__((musttail)) return set_many(to, byte, length); /* else it keeps a frame */
     }
 }
 
