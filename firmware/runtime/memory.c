@@ -38,50 +38,58 @@ void *memcpy(void *restrict to, const void *restrict from, size_t length)
     return to;
 }
 
-/* The last bytes that are set, one store for each: a jump into them costs less than a loop. */
-#define SHORT 24
+/* A few bytes, one store for each: one jump into them costs less than a loop. Nearly every call is of a few. */
 #define LAST(n) case n: t[(n) - 1] = (uint8_t)byte; /* falls through */
+#define LAST_15 LAST(15) LAST(14) LAST(13) LAST(12) LAST(11) LAST(10) LAST(9) LAST(8) \
+    LAST(7) LAST(6) LAST(5) LAST(4) LAST(3) LAST(2) LAST(1)
+
+/* More: by words, eight at a time, then those that are left. Not in line: the few would save registers for it. */
+static __attribute__((noinline)) void *set_many(void *to, int byte, size_t length)
+{
+    uint8_t *t = to;
+    uint32_t four = (uint8_t)byte * 0x01010101u;
+
+    for (; !aligned(t, t); length--)
+        *t++ = (uint8_t)byte;
+    for (; length >= 8 * WORD; length -= 8 * WORD, t += 8 * WORD) {
+        word *w = (word *)t;
+
+        w[0] = four;
+        w[1] = four;
+        w[2] = four;
+        w[3] = four;
+        w[4] = four;
+        w[5] = four;
+        w[6] = four;
+        w[7] = four;
+    }
+    if (length >= 4 * WORD) {
+        word *w = (word *)t;
+
+        w[0] = four;
+        w[1] = four;
+        w[2] = four;
+        w[3] = four;
+        length -= 4 * WORD;
+        t += 4 * WORD;
+    }
+    switch (length) {
+    LAST_15
+    default:
+        return to;
+    }
+}
 
 void *memset(void *to, int byte, size_t length)
 {
     uint8_t *t = to;
 
-    if (length > SHORT) {
-        uint32_t four = (uint8_t)byte * 0x01010101u;
-
-        for (; !aligned(t, t); length--)
-            *t++ = (uint8_t)byte;
-        for (; length >= 8 * WORD; length -= 8 * WORD, t += 8 * WORD) {
-            word *w = (word *)t;
-
-            w[0] = four;
-            w[1] = four;
-            w[2] = four;
-            w[3] = four;
-            w[4] = four;
-            w[5] = four;
-            w[6] = four;
-            w[7] = four;
-        }
-        if (length >= 4 * WORD) {
-            word *w = (word *)t;
-
-            w[0] = four;
-            w[1] = four;
-            w[2] = four;
-            w[3] = four;
-            length -= 4 * WORD;
-            t += 4 * WORD;
-        }
-    }
     switch (length) {
-    LAST(24) LAST(23) LAST(22) LAST(21) LAST(20) LAST(19) LAST(18) LAST(17)
-    LAST(16) LAST(15) LAST(14) LAST(13) LAST(12) LAST(11) LAST(10) LAST(9)
-    LAST(8) LAST(7) LAST(6) LAST(5) LAST(4) LAST(3) LAST(2) LAST(1)
+    LAST(24) LAST(23) LAST(22) LAST(21) LAST(20) LAST(19) LAST(18) LAST(17) LAST(16) LAST_15
     case 0:
         return to;
-    default: /* no length is left above SHORT */
-        __builtin_unreachable();
+    default:
+        __attribute__((musttail)) return set_many(to, byte, length); /* else it keeps a frame */
     }
 }
 

@@ -5,3 +5,7 @@ pub mod AcceptsLaws
 pub mod Charging
 pub mod ChargingLaws
 pub mod Enabling
+pub mod Spares
+pub mod SparesLaws
+pub mod SparesPoints
+pub mod StaysLaws

@@ -82,8 +82,9 @@ fn resume_interrupt(s: &mut [u8; STATE_LEN], slots: &mut [u8], v: u32) -> Step
     }
 }
 
-// With the slots: as long as the driver's buffers.
+// Goes on at any other operation's point.
 fn resume_at(s: &mut [u8; STATE_LEN], slots: &mut [u8], v: u32) -> Step
+    requires { ⌜ (saved (now s) .tag ≡ 6 → ⊥) ⌝ }
     ensures { λ r. ⌜ (
       answerOf r [] (view (now (s .exit))),
       machineOf (now (s .exit)) (now (slots .exit)),
@@ -96,13 +97,29 @@ fn resume_at(s: &mut [u8; STATE_LEN], slots: &mut [u8], v: u32) -> Step
         3 => resume_control(s, v),
         4 => resume_endpoint(s, v),
         5 => resume_advance(s, v),
-        6 => resume_interrupt(s, slots, v),
         _ => Step::Refused(15),
     }
 }
 
-// Goes on with the operation under way, with the number brought.
-pub fn resume(s: &mut [u8; STATE_LEN], slots: &mut [u8], v: u32) -> Step
+// Goes on with the interrupt under way, with the number brought; the slots are as long as the driver's buffers.
+pub fn interrupt(s: &mut [u8; STATE_LEN], slots: &mut [u8], v: u32) -> Step
+    requires { ⌜ saved (now s) .tag ≡ 6 ⌝ }
+    ensures { λ r. ⌜ ((a : List ℕ) → (
+      answerOf r [] (view (now (s .exit))),
+      machineOf (now (s .exit)) (lentOr (view (now (s .entry))) (now (slots .entry)) (now (slots .exit)) a),
+    ) ≡ drive (go v) (machineOf (now (s .entry)) a) (now (slots .entry))) ⌝ }
+    ensures { λ _. ⌜ BufferUnchangedOnRow1 (view (now (s .entry))) (now (slots .entry)) (now (slots .exit)) ⌝ }
+    ensures { λ r. ⌜ SavedUnchangedOnRefusal r (now (s .entry)) (now (s .exit)) ⌝ }
+{
+    if slots_fit(s, slots) {
+        return resume_interrupt(s, slots, v);
+    }
+    Step::Refused(1) // whatever is saved
+}
+
+// Goes on with any other operation, or with none.
+pub fn operation(s: &mut [u8; STATE_LEN], slots: &mut [u8], v: u32) -> Step
+    requires { ⌜ (saved (now s) .tag ≡ 6 → ⊥) ⌝ }
     ensures { λ r. ⌜ ((a : List ℕ) → (
       answerOf r [] (view (now (s .exit))),
       machineOf (now (s .exit)) (lentOr (view (now (s .entry))) (now (slots .entry)) (now (slots .exit)) a),

@@ -1,7 +1,9 @@
 // An operation under way goes on at its point, with the number brought: the driver's, the bus's, the control pipe's, a read's or write's, a paced advance's.
+pub mod halts; // halts.rt: the driver's own operations suspended or ended
+
+use halts::suspend_or_end_driver;
 use iso_in::advance;
 use machine::Step;
-use machine::halts::suspend_or_end;
 use machine::halts::suspend_or_end_advance;
 use machine::halts::suspend_or_end_bus;
 use machine::halts::suspend_or_end_control;
@@ -25,7 +27,7 @@ pub fn resume_driver(s: &mut [u8; STATE_LEN], v: u32) -> Step
     let p = driver_codec::decode(state::load_saved(s));
     if driver_codec::fits_at(p, v) {
         let n = driver_resume::resume(s, p, v);
-        return suspend_or_end(s, n);
+        return suspend_or_end_driver(s, n);
     }
     Step::Refused(16)
 }

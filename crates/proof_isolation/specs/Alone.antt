@@ -30,7 +30,7 @@ use Rattle.proof_isolation.specs.Operations.{OfChannel, polls, passes}
 use Rattle.proof_isolation.specs.OwnReading.{own-polls}
 use Rattle.proof_isolation.specs.Stores.{OwnLent}
 use Rattle.proof_isolation.specs.StoresLaws.{own-like}
-use Rattle.proof_isolation.specs.SparesLaws.{spares-on}
+use Rattle.call_bus_time.specs.SparesLaws.{spares-on}
 use Rattle.proof_isolation.specs.Schedule.{Run, Two, accessOf, runBy, ownBy, alone, stateOf, Timely, wide, atOwn, OwnCall, own-row1, own-lent, Alone}
 use Rattle.proof_isolation.specs.Standing.{machineOf, stops, runOf, own-no, Told, telling, telling-own, Keeps, At, at}
 use Rattle.proof_isolation.specs.StandingLaws.{past-no, time-spared}

@@ -34,8 +34,6 @@ pub mod Operations
 pub mod OperationsLaws
 pub mod Stores
 pub mod StoresLaws
-pub mod Spares
-pub mod SparesLaws
 pub mod Schedule
 pub mod Others
 pub mod Standing

@@ -33,8 +33,8 @@ use Rattle.proof_isolation.specs.Stores.{Lent}
 use Rattle.proof_isolation.specs.StoresLaws.{lent-like}
 use Rattle.proof_isolation.specs.Time.{same-record, same-turned-down}
 use Rattle.proof_isolation.specs.Others.{same-answers}
-use Rattle.proof_isolation.specs.Spares.{Sparing}
-use Rattle.proof_isolation.specs.SparesLaws.{interrupt-spares, spares-on}
+use Rattle.call_bus_time.specs.Spares.{Sparing}
+use Rattle.call_bus_time.specs.SparesLaws.{interrupt-spares, spares-on}
 use Rattle.proof_isolation.specs.Schedule.{Run, Two, begins, goes, asked, stores, accessOf, runBy, statusOf}
 use Rattle.proof_isolation.specs.Schedule.{shared, called, turn, stateOf, Timely, atOwn, unfit, wide, BringsAt}
 use Rattle.proof_isolation.specs.Schedule.{BothCall, call-row1, call-lent, BothGo, go-row1, go-row16, go-on, May}

@@ -22,7 +22,7 @@ use Rattle.proof_isolation.specs.Ending.{Finished}
 use Rattle.proof_isolation.specs.Asides.{Others}
 use Rattle.proof_isolation.specs.Operations.{Common}
 use Rattle.proof_isolation.specs.Stores.{Lent}
-use Rattle.proof_isolation.specs.Spares.{Sparing}
+use Rattle.call_bus_time.specs.Spares.{Sparing}
 use Rattle.proof_isolation.specs.Schedule.{Run, Two, Timely, BringsAt, BothCall, BothGo, May, SameAns}
 use Rattle.proof_isolation.specs.Standing.{Told, Keeps, At, Both}
 

@@ -25,7 +25,7 @@ use Rattle.proof_isolation.specs.EqualExcept.{Lawful, Channel}
 use Rattle.proof_isolation.specs.Apart.{Another, Its, status, Past, gone, waits, Shared, Own, ApartBy, end, both, left, right, owns}
 use Rattle.proof_isolation.specs.Answers as answer
 use Rattle.proof_isolation.specs.Answers.{SameAnswer}
-use Rattle.proof_isolation.specs.Spares.{Spares, Sparing}
+use Rattle.call_bus_time.specs.Spares.{Spares, Sparing}
 use Rattle.proof_isolation.specs.Others.{same-others}
 use Rattle.proof_isolation.specs.Schedule.{Run, Two, atOwn, SameAns, same, SameStand, SameOthers, Answers, alike, own-first}
 use Rattle.proof_isolation.specs.Schedule.{own-second}

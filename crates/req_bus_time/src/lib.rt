@@ -54,9 +54,10 @@ pub fn in_use(time: &[u16; TIME_LEN]) -> u32
     ensures { λ r. ⌜ r ≤ 8388480 ⌝ }
 {
     let mut sum: u32 = 0;
-    let mut k: usize = 0;
-    while k < TIME_LEN {
-        sum += wide(time[k]);
+    let mut k: u32 = 0; // half as wide as an index
+    while k < 128 {
+        let at = k as usize;
+        sum += wide(time[at]);
         k += 1;
     }
     sum

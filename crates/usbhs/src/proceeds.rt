@@ -1,5 +1,6 @@
 use call_bus_time::charges::gone_on;
 use machine::Step;
+use machine::saved::tag;
 use req_bus_time::TIME_LEN;
 use state::STATE_LEN;
 ghost use mathlib.Core.Path.{_≡_};
@@ -10,7 +11,11 @@ ghost use Rattle.model.specs.Machine.{go};
 ghost use Rattle.machine.specs.Suspended.{machineOf, answerOf, lentOr, BufferUnchangedOnRow1, SavedUnchangedOnRefusal};
 ghost use Rattle.call_bus_time.specs.Sharing.{sharedCall};
 
-// Goes on with the operation under way: a write of ep_config gives back what it clears.
+// The tag of an interrupt's point.
+const INTERRUPT: u8 = 6;
+
+// Goes on with the operation under way: a write of ep_config gives back what it clears. An interrupt writes none, so the
+// record is not looked at.
 pub fn proceed(
     s: &mut [u8; STATE_LEN],
     slots: &mut [u8],
@@ -28,7 +33,10 @@ pub fn proceed(
     ensures { λ _. ⌜ BufferUnchangedOnRow1 (view (now (s .entry))) (now (slots .entry)) (now (slots .exit)) ⌝ }
     ensures { λ r. ⌜ SavedUnchangedOnRefusal r (now (s .entry)) (now (s .exit)) ⌝ }
 {
-    let step = machine_resume::resume(s, slots, v);
+    if tag(s) == INTERRUPT {
+        return machine_resume::interrupt(s, slots, v);
+    }
+    let step = machine_resume::operation(s, slots, v);
     gone_on(time, driver, step);
     step
 }

@@ -7,8 +7,8 @@ use Rattle.call_answer_word.proofs.continue_word.Tie as tie
 enum-known-step : tie.Need-enum-known-step
 enum-known-step c = search needs
 
-access-word-requires : tie.Need-access-word-requires
-access-word-requires c κs = search needs
+continue-access-word-requires : tie.Need-continue-access-word-requires
+continue-access-word-requires c κs = search needs
 
 enum-known-step-2 : tie.Need-enum-known-step-2
 enum-known-step-2 c = search needs
@@ -21,7 +21,7 @@ word-of-requires c κs = search needs
 
 returns : tie.Need-returns
 unfolding wordOf
-returns c = says _ _ _ (c .before .before .step .given .1) (c .access-word .ensures .1) (c .access-word .ensures .0)
+returns c = says _ _ _ (c .before .before .step .given .1) (c .continue-access-word .ensures .1) (c .continue-access-word .ensures .0)
 
 returns-2 : tie.Need-returns-2
 unfolding wordOf
@@ -35,7 +35,7 @@ continue-word-spec =
     tie.close
     (tie.spec
     enum-known-step
-    access-word-requires
+    continue-access-word-requires
     enum-known-step-2
     end-word-requires
     word-of-requires

@@ -1,7 +1,7 @@
 use Rattle.machine.specs.Tags.{at-none}
 use Rattle.state.specs.State.{saved}
 use denote.Ref.{now}
-use mathlib.Core.Path.{refl}
+use mathlib.Core.Path.{refl, sym, _∙_}
 use borrow.Author.Needs.{needs}
 use Rattle.machine_resume.proofs.resume_at.Statement.{statement}
 use Rattle.machine_resume.proofs.resume_at.Tie as tie
@@ -12,7 +12,6 @@ use Rattle.machine_resume_op.proofs.resume_bus.Reads as resume-bus-reads
 use Rattle.machine_resume_op.proofs.resume_control.Reads as resume-control-reads
 use Rattle.machine_resume_op.proofs.resume_driver.Reads as resume-driver-reads
 use Rattle.machine_resume_op.proofs.resume_endpoint.Reads as resume-endpoint-reads
-use Rattle.machine_resume.proofs.resume_interrupt.Reads as resume-interrupt-reads
 use Rattle.machine.proofs.saved.tag.Reads as tag-reads
 
 tag-requires : tie.Need-tag-requires
@@ -33,9 +32,6 @@ resume-endpoint-requires c κs = search needs
 resume-advance-requires : tie.Need-resume-advance-requires
 resume-advance-requires c κs = search needs
 
-resume-interrupt-requires : tie.Need-resume-interrupt-requires
-resume-interrupt-requires c κs = search needs
-
 returns : tie.Need-returns
 returns c = (c .resume-driver .ensures .0 _, c .resume-driver .ensures .1)
 
@@ -54,16 +50,11 @@ returns-4 c = (c .resume-endpoint .ensures .0 _, c .resume-endpoint .ensures .1)
 returns-5 : tie.Need-returns-5
 returns-5 c = (c .resume-advance .ensures .0 _, c .resume-advance .ensures .1)
 
-same-length-2 : tie.Need-same-length-2
-same-length-2 c = search needs
-
 returns-6 : tie.Need-returns-6
-returns-6 c = search needs
-
-returns-7 : tie.Need-returns-7
-returns-7 c = (
-  simp (at-none (saved (now (c .before .before .before .before .args .s))) _ (c .before .tag .ensures) (c .match .rest .0 .0 .0 .0 .0 .1)
-      (c .match .rest .0 .0 .0 .0 .1) (c .match .rest .0 .0 .0 .1) (c .match .rest .0 .0 .1) (c .match .rest .0 .1) (c .match .rest .1)),
+returns-6 c = (
+  simp (at-none (saved (now (c .before .before .before .before .args .s))) _ (c .before .tag .ensures) (c .match .rest .0 .0 .0 .0 .1)
+      (c .match .rest .0 .0 .0 .1) (c .match .rest .0 .0 .1) (c .match .rest .0 .1) (c .match .rest .1)
+      (λ h. c .before .before .before .before .pre (sym (c .before .tag .ensures) ∙ h))),
   refl,
 )
 
@@ -77,13 +68,10 @@ resume-at-spec =
     resume-control-requires
     resume-endpoint-requires
     resume-advance-requires
-    resume-interrupt-requires
     returns
     same-length
     returns-2
     returns-3
     returns-4
     returns-5
-    same-length-2
-    returns-6
-    returns-7)
+    returns-6)

@@ -14,7 +14,7 @@ use Rattle.driver_codec.proofs.decode.Reads as decode-reads
 use Rattle.driver_codec.proofs.fits_at.Reads as fits-at-reads
 use Rattle.driver_resume.proofs.resume.Reads as resume-reads
 use Rattle.state.proofs.load_saved.Reads as load-saved-reads
-use Rattle.machine.proofs.halts.suspend_or_end.Reads as suspend-or-end-reads
+use Rattle.machine_resume_op.proofs.halts.suspend_or_end_driver.Reads as suspend-or-end-driver-reads
 
 load-saved-requires : tie.Need-load-saved-requires
 load-saved-requires c κs = search needs
@@ -28,8 +28,8 @@ fits-at-requires c κs = search needs
 resume-requires : tie.Need-resume-requires
 resume-requires c κs = simp (← c .before .before .fits-at .ensures, c .before .if1 .taken)
 
-suspend-or-end-requires : tie.Need-suspend-or-end-requires
-suspend-or-end-requires c κs = search needs
+suspend-or-end-driver-requires : tie.Need-suspend-or-end-driver-requires
+suspend-or-end-driver-requires c κs = search needs
 
 returns : tie.Need-returns
 returns c = (
@@ -43,8 +43,8 @@ returns c = (
       (gone-driver _ (c .before .before .before .before .before .before .before .before .before .args .v)
       (view (now (c .before .before .before .before .before .before .before .before .before .args .s))) b
       (sym (c .before .before .before .before .before .fits-at .ensures)
-      ∙ c .before .before .before .before .if1 .taken)) (c .suspend-or-end .ensures .0 b ∙ simp (c .before .before .resume .ensures .0)),
-  c .suspend-or-end .ensures .1 _,
+      ∙ c .before .before .before .before .if1 .taken)) (c .suspend-or-end-driver .ensures .0 b ∙ simp (c .before .before .resume .ensures .0)),
+  c .suspend-or-end-driver .ensures .1 _,
 )
 
 returns-2 : tie.Need-returns-2
@@ -66,6 +66,6 @@ resume-driver-spec =
     decode-requires
     fits-at-requires
     resume-requires
-    suspend-or-end-requires
+    suspend-or-end-driver-requires
     returns
     returns-2)

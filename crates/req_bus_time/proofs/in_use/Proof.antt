@@ -19,6 +19,9 @@ abbrev μ-loop : tie.MeasureT-loop
 loop-holds : tie.Need-loop-holds Inv-loop μ-loop
 loop-holds c = (omega arith, omega arith, sym (total-none _))
 
+cast-at : tie.Need-cast-at Inv-loop μ-loop
+cast-at c = search needs
+
 mul-wide : tie.Need-mul-wide Inv-loop μ-loop
 mul-wide c = search needs
 
@@ -55,6 +58,7 @@ in-use-spec =
     Inv-loop
     μ-loop
     loop-holds
+    cast-at
     mul-wide
     element-copy-out-wide
     wide-requires

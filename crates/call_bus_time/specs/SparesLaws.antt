@@ -28,33 +28,33 @@ use Rattle.model.specs.Every.{Chip, at-ask, All, Where, sameReg}
 use Rattle.model.specs.EveryLaws.{only-run, Only}
 use Rattle.model_ops.specs.Rings.{St}
 use Rattle.model_ops.specs.Concrete.{concrete}
-use Rattle.proof_isolation.specs.Spares.{Spares, Sparing}
+use Rattle.call_bus_time.specs.Spares.{Spares, Sparing}
 
-abbrev N : {i : Bool} {A : Type 0} → Script i A → Type 0
+abbrev pub N : {i : Bool} {A : Type 0} → Script i A → Type 0
 N p = Only (Spares) p
 
-control : (d : Dir) → Where (sameReg (ctrlOf d) EpConfig) ⊥
+pub control : (d : Dir) → Where (sameReg (ctrlOf d) EpConfig) ⊥
 control Out = tt
 control In = tt
 
-of-looks : (i : Bool) (n : ℕ) → N (looks {i = i} n)
+pub of-looks : (i : Bool) (n : ℕ) → N (looks {i = i} n)
 unfolding looks
 of-looks i zero = tt
 of-looks i (suc n) = ((tt, λ _. tt), λ _. (tt, of-looks i n))
 
-of-nak : (i : Bool) (st : ℕ) → N (nakNonIso {i = i} st)
+pub of-nak : (i : Bool) (st : ℕ) → N (nakNonIso {i = i} st)
 of-nak i st = (λ _. tt, λ _. (λ _. tt, λ _. (((tt, λ _. tt), λ _. (tt, tt)), (((tt, λ _. tt), λ _. (tt, tt)), tt))))
 
-of-toggled : (i : Bool) (d : Dir) (e : ℕ) → N (toggled {i = i} d e)
+pub of-toggled : (i : Bool) (d : Dir) (e : ℕ) → N (toggled {i = i} d e)
 of-toggled i d e = (
   of-looks i 2001,
   λ _. ((tt, λ _. tt), λ _. (λ _. tt, λ _. (((((tt, λ _. tt), λ _. (control d, tt)), tt), λ _. tt), ((λ _. tt, λ _. tt), λ _. tt)))),
 )
 
-of-retake : (i : Bool) (x : Transfer) → N (retake {i = i} x)
+pub of-retake : (i : Bool) (x : Transfer) → N (retake {i = i} x)
 of-retake i x = ((tt, λ _. tt), λ _. (((tt, λ _. tt), λ _. (tt, ((tt, λ _. tt), λ st. (of-nak i st, λ _. tt)))), tt))
 
-of-settle : (i : Bool) (x : Transfer) → N (settle {i = i} x)
+pub of-settle : (i : Bool) (x : Transfer) → N (settle {i = i} x)
 of-settle i x = (
   λ _. tt,
   λ _. (
@@ -66,10 +66,10 @@ of-settle i x = (
   ),
 )
 
-of-complete : (i : Bool) (e : ℕ) → N (isoInComplete {i = i} e)
+pub of-complete : (i : Bool) (e : ℕ) → N (isoInComplete {i = i} e)
 of-complete i e = (tt, λ _. ((λ _. tt, λ _. (((λ _. tt, tt), λ _. (λ _. tt, λ _. (tt, tt))), (tt, tt))), λ _. tt))
 
-of-sof-one : (i : Bool) (frame e : ℕ) → N (sofOne {i = i} frame e)
+pub of-sof-one : (i : Bool) (frame e : ℕ) → N (sofOne {i = i} frame e)
 of-sof-one i frame e = (
   λ _. tt,
   λ _. (
@@ -81,20 +81,20 @@ of-sof-one i frame e = (
   ),
 )
 
-of-sof-walk : (i : Bool) (frame : ℕ) (es : List ℕ) → N (sofWalk {i = i} frame es)
+pub of-sof-walk : (i : Bool) (frame : ℕ) (es : List ℕ) → N (sofWalk {i = i} frame es)
 unfolding sofWalk
 of-sof-walk i frame [] = tt
 of-sof-walk i frame (e ∷ es) = (of-sof-one i frame e, λ _. of-sof-walk i frame es)
 
-of-sof : (i : Bool) (frame : ℕ) → N (onSof {i = i} frame)
+pub of-sof : (i : Bool) (frame : ℕ) → N (onSof {i = i} frame)
 of-sof i frame = ((λ _. tt, λ _. tt), λ _. (λ _. tt, λ g. (of-sof-walk i frame (setBits (isoInEvery g)), λ _. (λ _. tt, λ _. ((tt, tt), tt)))))
 
-of-late-walk : (i : Bool) (frame : ℕ) (es : List ℕ) → N (lateWalk {i = i} frame es)
+pub of-late-walk : (i : Bool) (frame : ℕ) (es : List ℕ) → N (lateWalk {i = i} frame es)
 unfolding lateWalk
 of-late-walk i frame [] = tt
 of-late-walk i frame (e ∷ es) = (((λ _. tt, λ _. (tt, λ _. tt)), λ _. (of-complete i e, tt)), λ _. of-late-walk i frame es)
 
-of-check-walk : (i : Bool) (x : Transfer) (iso : Bool) (es : List ℕ) → N (checkWalk {i = i} x iso es)
+pub of-check-walk : (i : Bool) (x : Transfer) (iso : Bool) (es : List ℕ) → N (checkWalk {i = i} x iso es)
 unfolding checkWalk
 of-check-walk i x iso [] = tt
 of-check-walk i x iso (e ∷ es) = (
@@ -102,7 +102,7 @@ of-check-walk i x iso (e ∷ es) = (
   λ _. of-check-walk i x iso es,
 )
 
-of-out : (i : Bool) (x : Transfer) (iso : Bool) → N (outArm {i = i} x iso)
+pub of-out : (i : Bool) (x : Transfer) (iso : Bool) → N (outArm {i = i} x iso)
 of-out i x iso = (
   tt,
   (
@@ -111,7 +111,7 @@ of-out i x iso = (
   ),
 )
 
-of-in : (i : Bool) (x : Transfer) (iso : Bool) (frame : ℕ) → N (inArm {i = i} x iso frame)
+pub of-in : (i : Bool) (x : Transfer) (iso : Bool) (frame : ℕ) → N (inArm {i = i} x iso frame)
 of-in i x iso frame = (
   (λ _. tt, λ _. (tt, ((λ _. tt, λ _. (tt, λ _. tt)), λ _. (of-complete i (endpoint (x .st)), tt)))),
   (
@@ -120,22 +120,22 @@ of-in i x iso frame = (
   ),
 )
 
-of-dispatch : (i : Bool) (t : Token) (x : Transfer) (iso : Bool) (frame : ℕ) → N (dispatch {i = i} t x iso frame)
+pub of-dispatch : (i : Bool) (t : Token) (x : Transfer) (iso : Bool) (frame : ℕ) → N (dispatch {i = i} t x iso frame)
 of-dispatch i tok.Sof x iso frame = (λ _. tt, λ _. (of-sof i frame, tt))
 of-dispatch i tok.Out x iso frame = of-out i x iso
 of-dispatch i tok.In x iso frame = of-in i x iso frame
 of-dispatch i tok.Setup x iso frame = tt
 
-of-moved : (i : Bool) (d : Dir) → N (movedOn {i = i} d)
+pub of-moved : (i : Bool) (d : Dir) → N (movedOn {i = i} d)
 of-moved i d = (λ _. tt, λ _. ((((tt, λ _. tt), λ _. (control d, tt)), λ _. ((λ _. tt, λ _. tt), λ _. tt)), tt))
 
-of-moved-on : (i : Bool) (t : Token) → N (ep0MovedOn {i = i} t)
+pub of-moved-on : (i : Bool) (t : Token) → N (ep0MovedOn {i = i} t)
 of-moved-on i tok.Out = of-moved i In
 of-moved-on i tok.In = of-moved i Out
 of-moved-on i tok.Sof = tt
 of-moved-on i tok.Setup = tt
 
-of-served : (i : Bool) (x : Transfer) (iso : Bool) (frame : ℕ) → N (served {i = i} x iso frame)
+pub of-served : (i : Bool) (x : Transfer) (iso : Bool) (frame : ℕ) → N (served {i = i} x iso frame)
 of-served i x iso frame = (
   λ _. tt,
   λ _. (
@@ -150,7 +150,7 @@ of-served i x iso frame = (
   ),
 )
 
-of-transfer : (i : Bool) → N (onTransfer {i = i})
+pub of-transfer : (i : Bool) → N (onTransfer {i = i})
 of-transfer i = (
   (tt, λ _. tt),
   λ m. (
@@ -183,7 +183,7 @@ of-transfer i = (
   ),
 )
 
-of-setup : (i : Bool) → N (onSetup {i = i})
+pub of-setup : (i : Bool) → N (onSetup {i = i})
 of-setup i = (
   (tt, tt),
   λ _. (
@@ -195,7 +195,7 @@ of-setup i = (
   ),
 )
 
-of-interrupt : (i : Bool) → N (onInterrupt {i = i})
+pub of-interrupt : (i : Bool) → N (onInterrupt {i = i})
 of-interrupt i = (
   (tt, λ _. tt),
   λ _. (
@@ -207,7 +207,7 @@ of-interrupt i = (
   ),
 )
 
-of-stamped : (i : Bool) → N (stampedInterrupt {i = i})
+pub of-stamped : (i : Bool) → N (stampedInterrupt {i = i})
 of-stamped i = (((tt, λ _. tt), λ _. (λ _. tt, λ _. tt)), λ _. of-interrupt i)
 
 pub interrupt-spares : (s : St) → Sparing (run concrete interruptCode s)

@@ -12,7 +12,6 @@ use Rattle.regs.specs.declared.Token.the-variants as tok
 use Rattle.model.specs.declared.Transfer.{Transfer}
 use Rattle.model.specs.Tree as tree
 use Rattle.model.specs.Script.{Script}
-use Rattle.model.specs.Answers.{Answer}
 use Rattle.model.specs.Every.{Chip, All, Where, sameReg}
 use Rattle.model.specs.EveryLaws.{Only}
 use Rattle.model_ops.specs.Rings.{St}
@@ -29,8 +28,8 @@ Spares Callback = Unit {0}
 
 -- ---- over its run, whatever is read and whatever becomes of the state
 
-abbrev any : Chip
+abbrev pub any : Chip
 any = record { Holds = Unit {0}; Brings = λ _ _ _. Unit {0}; after = λ h _. h }
 
-abbrev pub Sparing : tree.Out St Answer → Type 0
+abbrev pub Sparing : {A : Type 0} → tree.Out St A → Type 0
 Sparing o = All any (λ _ _. Unit {0}) Spares tt o

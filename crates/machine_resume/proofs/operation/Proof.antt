@@ -6,10 +6,10 @@ use Rattle.state.specs.State.{view, saved}
 use denote.Ref.{now}
 use mathlib.Core.Path.{refl, sym, _∙_}
 use borrow.Author.Needs.{needs}
-use Rattle.machine_resume.proofs.resume.Statement.{statement}
-use Rattle.machine_resume.proofs.resume.Tie as tie
-use Rattle.machine_resume.proofs.resume.Reads as reads
-use Rattle.machine_resume.proofs.resume.Lts as lts
+use Rattle.machine_resume.proofs.operation.Statement.{statement}
+use Rattle.machine_resume.proofs.operation.Tie as tie
+use Rattle.machine_resume.proofs.operation.Reads as reads
+use Rattle.machine_resume.proofs.operation.Lts as lts
 use Rattle.machine_resume.proofs.resume_at.Reads as resume-at-reads
 use Rattle.machine.proofs.stops.slots_fit.Reads as slots-fit-reads
 
@@ -52,7 +52,7 @@ returns-2 c = (
   (λ h. refl, refl),
 )
 
-pub resume-spec : {M : Type 1} → statement M
-resume-spec =
+pub operation-spec : {M : Type 1} → statement M
+operation-spec =
     tie.close
     (tie.spec slots-fit-requires resume-at-requires same-length returns same-length-2 returns-2)

@@ -1,0 +1,58 @@
+use Rattle.machine.specs.RowsLaws.{back}
+use Rattle.machine.specs.GoesLaws.{proceeds}
+use Rattle.machine.specs.Suspended.{decode}
+use Rattle.machine.specs.Lent.{as-lent}
+use Rattle.state.specs.State.{view, saved}
+use denote.Ref.{now}
+use mathlib.Core.Path.{refl, sym, _∙_}
+use borrow.Author.Needs.{needs}
+use Rattle.machine_resume.proofs.interrupt.Statement.{statement}
+use Rattle.machine_resume.proofs.interrupt.Tie as tie
+use Rattle.machine_resume.proofs.interrupt.Reads as reads
+use Rattle.machine_resume.proofs.interrupt.Lts as lts
+use Rattle.machine_resume.proofs.resume_interrupt.Reads as resume-interrupt-reads
+use Rattle.machine.proofs.stops.slots_fit.Reads as slots-fit-reads
+
+slots-fit-requires : tie.Need-slots-fit-requires
+slots-fit-requires c κs = search needs
+
+resume-interrupt-requires : tie.Need-resume-interrupt-requires
+resume-interrupt-requires c κs = search needs
+
+same-length : tie.Need-same-length
+same-length c = search needs
+
+returns : tie.Need-returns
+returns c = (
+  λ a. back
+      (proceeds (c .before .before .before .before .before .before .before .before .before .before .args .v)
+      (decode (saved (now (c .before .before .before .before .before .before .before .before .before .before .args .s))))
+      (view (now (c .before .before .before .before .before .before .before .before .before .before .args .s))) a
+      (now (c .before .before .before .before .before .before .before .before .before .before .args .slots))) (simp (
+        ← c .before .before .before .before .before .before .slots-fit .ensures,
+        c .before .before .before .before .before .if1 .taken,
+      ) (c .before .before .resume-interrupt .ensures .0)),
+  (
+    as-lent _ _ _
+        (sym (c .before .before .before .before .before .before .slots-fit .ensures)
+        ∙ c .before .before .before .before .before .if1 .taken),
+    c .before .before .resume-interrupt .ensures .1,
+  ),
+)
+
+same-length-2 : tie.Need-same-length-2
+same-length-2 c = search needs
+
+returns-2 : tie.Need-returns-2
+returns-2 c = (
+  λ a. back
+      (proceeds (c .before .before .before .before .before .args .v) (decode (saved (now (c .before .before .before .before .before .args .s))))
+      (view (now (c .before .before .before .before .before .args .s))) a (now (c .before .before .before .before .before .args .slots)))
+      (simp (← c .before .slots-fit .ensures, c .if1 .left)),
+  (λ h. refl, refl),
+)
+
+pub interrupt-spec : {M : Type 1} → statement M
+interrupt-spec =
+    tie.close
+    (tie.spec slots-fit-requires resume-interrupt-requires same-length returns same-length-2 returns-2)

@@ -1,0 +1,57 @@
+// A continue's own: what `machine::halts` has for begins too, each with one caller, so that it is compiled in line.
+use machine::Step;
+use machine::saved::nothing;
+use machine::woken::how_many;
+use regs::Access;
+use state::STATE_LEN;
+ghost use mathlib.Core.Path.{_≡_};
+ghost use mathlib.Core.List.{List, []};
+ghost use Prim.Native.Nat.{ℕ};
+ghost use Rattle.state.specs.State.{view};
+ghost use Rattle.model.specs.Tree.{bindOut};
+ghost use Rattle.model.specs.Script.{run};
+ghost use Rattle.model_ops.specs.Concrete.{concrete};
+ghost use Rattle.driver.specs.Points as driver;
+ghost use Rattle.machine.specs.declared.Suspended.the-variants as under;
+ghost use Rattle.machine.specs.Suspended.{finish, machineOf, halts, handedOut, answerOf, Stored};
+
+// The operation stands where it handed out the access.
+fn suspends(s: &mut [u8; STATE_LEN], q: Access, p: driver::Point) -> Step
+    ensures { λ r. ⌜ ((b : List ℕ) → (
+      answerOf r [] (view (now (s .exit))),
+      machineOf (now (s .exit)) b,
+    ) ≡ handedOut q (under.Driver p) (view (now (s .entry))) b) ⌝ }
+    ensures { λ r. ⌜ Stored r (now (s .exit)) ⌝ }
+{
+    let mut c = driver_codec::encode(p);
+    c.tag = 1;
+    state::store_saved(s, c);
+    Step::Asks(q)
+}
+
+// It has ended with its result: its wake-ups are answered.
+fn ends(s: &mut [u8; STATE_LEN], n: u16) -> Step
+    ensures { λ r. ⌜ ((b : List ℕ) → (
+      answerOf r [] (view (now (s .exit))),
+      machineOf (now (s .exit)) b,
+    ) ≡ halts (run concrete (finish n) (view (now (s .entry)), b))) ⌝ }
+    ensures { λ r. ⌜ Stored r (now (s .exit)) ⌝ }
+{
+    state::store_saved(s, nothing());
+    let k = how_many(s);
+    Step::Ends(n, k)
+}
+
+pub fn suspend_or_end_driver(s: &mut [u8; STATE_LEN], n: driver::Next) -> Step
+    requires { ⌜ driver.Linked n ⌝ }
+    ensures { λ r. ⌜ ((b : List ℕ) → (
+      answerOf r [] (view (now (s .exit))),
+      machineOf (now (s .exit)) b,
+    ) ≡ halts (bindOut (driver.meaning n (view (now (s .entry))) b) (λ k t. run concrete (finish k) t))) ⌝ }
+    ensures { λ r. ⌜ Stored r (now (s .exit)) ⌝ }
+{
+    match n {
+        driver::Next::Asks(q, p) => suspends(s, q, p),
+        driver::Next::Ends(k) => ends(s, k),
+    }
+}
