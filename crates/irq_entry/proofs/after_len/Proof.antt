@@ -38,41 +38,54 @@ release-requires-2 c κs = search needs
 
 returns : tie.Need-returns
 returns c =
-    let a = (c .before .before .before .before .before .before .before .before .before .before .before .args) in
-    let the-n = (c .before .before .before .n) in
-    let x = (c .before .before .before .before .before .before .before .before .before .entered) .result in
-    let the-begin = (c .before .before .before .before .before .nak-non-iso) in
-    let the-stand-nak = (c .stand-nak) in (
+    let the-entered = c .before .before .before .before .before .before .before .before .before .entered in
+    let the-short = c .before .before .before .before .before .before .before .before .before .before .short in
+    let the-naks-first = c .before .before .before .before .before .before .before .before .naks-first in
+    let the-if1 = c .before .before .before .before .before .before .before .if1 in
+    let a = c .before .before .before .before .before .before .before .before .before .before .before .args in
+    let the-n = c .before .before .before .n in
+    let x = the-entered .result in
+    let the-begin = c .before .before .before .before .before .nak-non-iso in
+    let the-stand-nak = c .stand-nak in (
       λ b. stops-at (the-stand-nak .ensures) (nak-linked _ _ _ (the-n .given .1) (the-begin .ensures .1)) b
           (nak-asks (a .setup) (λ _ u. run concrete (afterNak x) u) _ _ b (x .st) _ _ (the-n .given .1)
           ∙ entered-nak (a .setup) (a .busy) (a .st) _ _ _ b
-          ((c .before .before .before .before .before .before .before .before .before .entered) .ensures ∙ ap (λ (z : ℕ). enteredAs (a .busy) (a .st) z) ((c .before .before .before .before .before .before .before .before .before .before .short) .ensures))
-          (the-begin .result) (the-begin .ensures .0 b) (tells _ _ _ ((c .before .before .before .before .before .before .before .before .naks-first) .ensures) ((c .before .before .before .before .before .before .before .if1) .taken))),
+          (the-entered .ensures ∙ ap (λ (z : ℕ). enteredAs (a .busy) (a .st) z) (the-short .ensures))
+          (the-begin .result) (the-begin .ensures .0 b) (tells _ _ _ (the-naks-first .ensures) (the-if1 .taken))),
       stored-at (the-stand-nak .ensures),
     )
 
 returns-2 : tie.Need-returns-2
 returns-2 c =
-    let a = (c .before .before .before .before .before .before .before .before .before .before .args) in
-    let x = (c .before .before .before .before .before .before .before .before .entered) .result in
-    let the-begin = (c .before .before .before .before .nak-non-iso) in
-    let the-release = (c .release) in (
+    let the-entered = c .before .before .before .before .before .before .before .before .entered in
+    let the-enum-told = c .before .before .enum-told in
+    let the-short = c .before .before .before .before .before .before .before .before .before .short in
+    let the-naks-first = c .before .before .before .before .before .before .before .naks-first in
+    let the-if1 = c .before .before .before .before .before .before .if1 in
+    let a = c .before .before .before .before .before .before .before .before .before .before .args in
+    let x = the-entered .result in
+    let the-begin = c .before .before .before .before .nak-non-iso in
+    let the-release = c .release in (
       λ b. then-on (the-release .ensures .0 b)
-          (nak-ends (a .setup) (λ _ u. run concrete (afterNak x) u) _ b (x .st) _ ((c .before .before .enum-told) .given .1)
+          (nak-ends (a .setup) (λ _ u. run concrete (afterNak x) u) _ b (x .st) _ (the-enum-told .given .1)
           ∙ entered-nak (a .setup) (a .busy) (a .st) _ _ _ b
-          ((c .before .before .before .before .before .before .before .before .entered) .ensures ∙ ap (λ (z : ℕ). enteredAs (a .busy) (a .st) z) ((c .before .before .before .before .before .before .before .before .before .short) .ensures))
-          (the-begin .result) (the-begin .ensures .0 b) (tells _ _ _ ((c .before .before .before .before .before .before .before .naks-first) .ensures) ((c .before .before .before .before .before .before .if1) .taken))),
+          (the-entered .ensures ∙ ap (λ (z : ℕ). enteredAs (a .busy) (a .st) z) (the-short .ensures))
+          (the-begin .result) (the-begin .ensures .0 b) (tells _ _ _ (the-naks-first .ensures) (the-if1 .taken))),
       the-release .ensures .1,
     )
 
 returns-3 : tie.Need-returns-3
 returns-3 c =
-    let a = (c .before .before .before .before .before .before .args) in
-    let the-release = (c .release2) in (
+    let the-entered = c .before .before .before .before .entered in
+    let the-short = c .before .before .before .before .before .short in
+    let the-naks-first = c .before .before .before .naks-first in
+    let the-if1 = c .before .before .if1 in
+    let a = c .before .before .before .before .before .before .args in
+    let the-release = c .release2 in (
       λ b. then-on (the-release .ensures .0 b)
           (entered-free (a .setup) (a .busy) (a .st) _ _ _ b
-          ((c .before .before .before .before .entered) .ensures ∙ ap (λ (z : ℕ). enteredAs (a .busy) (a .st) z) ((c .before .before .before .before .before .short) .ensures))
-          (tells _ _ _ ((c .before .before .before .naks-first) .ensures) ((c .before .before .if1) .left))),
+          (the-entered .ensures ∙ ap (λ (z : ℕ). enteredAs (a .busy) (a .st) z) (the-short .ensures))
+          (tells _ _ _ (the-naks-first .ensures) (the-if1 .left))),
       the-release .ensures .1,
     )
 

@@ -26,10 +26,10 @@ after-settle-requires c κs = search needs
 returns : tie.Need-returns
 unfolding afterRelease
 returns c =
-    let a = (c .before .before .before .before .before .before .before .args) in
-    let the-n = (c .before .before .before .n) in
-    let the-begin = (c .before .before .before .before .before .begin) in
-    let the-stand-settle = (c .stand-settle) in (
+    let a = c .before .before .before .before .before .before .before .args in
+    let the-n = c .before .before .before .n in
+    let the-begin = c .before .before .before .before .before .begin in
+    let the-stand-settle = c .stand-settle in (
       λ b. stops-at (the-stand-settle .ensures) (settle-linked _ _ _ (the-n .given .1) (the-begin .ensures .1)) b
           (settle-asks (a .setup) (λ y u. run concrete (afterSettle y) u) _ b (a .x) _ _ _ (the-n .given .1)
           ∙ after (a .setup) (λ y u. run concrete (afterSettle y) u) _ _ (the-begin .ensures .0 b)),
@@ -39,11 +39,13 @@ returns c =
 returns-2 : tie.Need-returns-2
 unfolding afterRelease
 returns-2 c =
-    let a = (c .before .before .before .before .before .before .before .args) in
-    let the-after-settle = (c .after-settle) in (
+    let the-n2 = c .before .before .before .n2 in
+    let the-begin = c .before .before .before .before .before .begin in
+    let a = c .before .before .before .before .before .before .before .args in
+    let the-after-settle = c .after-settle in (
       λ b. then-on (the-after-settle .ensures .0 b)
-          (settle-ends (a .setup) (λ y u. run concrete (afterSettle y) u) _ b (a .x) _ _ ((c .before .before .before .n2) .given .1)
-          ∙ after (a .setup) (λ y u. run concrete (afterSettle y) u) _ _ ((c .before .before .before .before .before .begin) .ensures .0 b)),
+          (settle-ends (a .setup) (λ y u. run concrete (afterSettle y) u) _ b (a .x) _ _ (the-n2 .given .1)
+          ∙ after (a .setup) (λ y u. run concrete (afterSettle y) u) _ _ (the-begin .ensures .0 b)),
       the-after-settle .ensures .1,
     )
 

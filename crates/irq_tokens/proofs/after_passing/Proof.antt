@@ -23,13 +23,16 @@ same-length c = search needs
 
 returns : tie.Need-returns
 returns c =
-    let a = (c .before .before .before .before .before .before .before .before .before .before .args) in
-    let the-after-dispatch = (c .before .before .after-dispatch) in (
+    let the-passed = c .before .before .before .before .before .passed in
+    let the-endpoint = c .before .before .before .before .before .before .endpoint in
+    let the-if1 = c .before .before .before .before .before .before .before .before .if1 in
+    let a = c .before .before .before .before .before .before .before .before .before .before .args in
+    let the-after-dispatch = c .before .before .after-dispatch in (
       then-on (the-after-dispatch .ensures .0)
-          (after (a .setup) (λ _ u. run concrete (afterDispatch (a .x) (a .iso)) u) _ _ ((c .before .before .before .before .before .passed) .ensures .0 _)
-          ∙ (passed-at (thenCheck (a .setup) (a .x) (a .iso)) (a .d) _ _ _ _ ((c .before .before .before .before .before .before .endpoint) .ensures)
+          (after (a .setup) (λ _ u. run concrete (afterDispatch (a .x) (a .iso)) u) _ _ (the-passed .ensures .0 _)
+          ∙ (passed-at (thenCheck (a .setup) (a .x) (a .iso)) (a .d) _ _ _ _ (the-endpoint .ensures)
           ∙ when-yes (a .setup) (passed (a .d) (endpoint ((a .x) .st)) ((a .x) .len))
-          (λ _ u. run concrete (afterDispatch (a .x) (a .iso)) u) _ _ ((c .before .before .before .before .before .before .before .before .if1) .taken))),
+          (λ _ u. run concrete (afterDispatch (a .x) (a .iso)) u) _ _ (the-if1 .taken))),
       the-after-dispatch .ensures .1,
     )
 
@@ -41,11 +44,12 @@ same-length-2 c = search needs
 
 returns-2 : tie.Need-returns-2
 returns-2 c =
-    let a = (c .before .before .before .before .before .before .before .args) in
-    let the-after-dispatch = (c .before .before .after-dispatch2) in (
+    let the-if1 = c .before .before .before .before .before .if1 in
+    let a = c .before .before .before .before .before .before .before .args in
+    let the-after-dispatch = c .before .before .after-dispatch2 in (
       then-on (the-after-dispatch .ensures .0)
           (when-no (a .setup) (passed (a .d) (endpoint ((a .x) .st)) ((a .x) .len))
-          (λ _ u. run concrete (afterDispatch (a .x) (a .iso)) u) _ _ ((c .before .before .before .before .before .if1) .left)),
+          (λ _ u. run concrete (afterDispatch (a .x) (a .iso)) u) _ _ (the-if1 .left)),
       the-after-dispatch .ensures .1,
     )
 

@@ -44,10 +44,12 @@ after-dispatch-requires c κs = search needs
 
 returns : tie.Need-returns
 returns c =
-    let a = (c .before .before .before .before .before .before .args) in
-    let the-sof-arm = (c .sof-arm) in (
+    let the-enum-told = c .before .before .enum-told in
+    let the-token = c .before .before .before .before .token in
+    let a = c .before .before .before .before .before .before .args in
+    let the-sof-arm = c .sof-arm in (
       then-on (the-sof-arm .ensures .0 _)
-          (dispatched (thenCheck (a .setup) (a .x) (a .iso)) (a .x) (a .iso) (a .frame) _ _ _ _ ((c .before .before .enum-told) .given .1) ((c .before .before .before .before .token) .ensures)),
+          (dispatched (thenCheck (a .setup) (a .x) (a .iso)) (a .x) (a .iso) (a .frame) _ _ _ _ (the-enum-told .given .1) (the-token .ensures)),
       the-sof-arm .ensures .1,
     )
 
@@ -56,10 +58,12 @@ same-length c = search needs
 
 returns-2 : tie.Need-returns-2
 returns-2 c =
-    let a = (c .before .before .before .before .before .before .before .before .before .args) in
-    let the-out-arm = (c .before .before .out-arm) in (
+    let the-enum-told2 = c .before .before .before .before .before .enum-told2 in
+    let the-token = c .before .before .before .before .before .before .before .token in
+    let a = c .before .before .before .before .before .before .before .before .before .args in
+    let the-out-arm = c .before .before .out-arm in (
       then-on (the-out-arm .ensures .0)
-          (dispatched (thenCheck (a .setup) (a .x) (a .iso)) (a .x) (a .iso) (a .frame) _ _ _ _ ((c .before .before .before .before .before .enum-told2) .given .1) ((c .before .before .before .before .before .before .before .token) .ensures)),
+          (dispatched (thenCheck (a .setup) (a .x) (a .iso)) (a .x) (a .iso) (a .frame) _ _ _ _ (the-enum-told2 .given .1) (the-token .ensures)),
       the-out-arm .ensures .1,
     )
 
@@ -68,10 +72,12 @@ same-length-2 c = search needs
 
 returns-3 : tie.Need-returns-3
 returns-3 c =
-    let a = (c .before .before .before .before .before .before .before .before .before .args) in
-    let the-in-arm = (c .before .before .in-arm) in (
+    let the-enum-told3 = c .before .before .before .before .before .enum-told3 in
+    let the-token = c .before .before .before .before .before .before .before .token in
+    let a = c .before .before .before .before .before .before .before .before .before .args in
+    let the-in-arm = c .before .before .in-arm in (
       then-on (the-in-arm .ensures .0)
-          (dispatched (thenCheck (a .setup) (a .x) (a .iso)) (a .x) (a .iso) (a .frame) _ _ _ _ ((c .before .before .before .before .before .enum-told3) .given .1) ((c .before .before .before .before .before .before .before .token) .ensures)),
+          (dispatched (thenCheck (a .setup) (a .x) (a .iso)) (a .x) (a .iso) (a .frame) _ _ _ _ (the-enum-told3 .given .1) (the-token .ensures)),
       the-in-arm .ensures .1,
     )
 
@@ -80,10 +86,12 @@ same-length-3 c = search needs
 
 returns-4 : tie.Need-returns-4
 returns-4 c =
-    let a = (c .before .before .before .before .before .before .before .before .before .args) in
-    let the-after-dispatch = (c .before .before .after-dispatch) in (
+    let the-enum-told4 = c .before .before .before .before .before .enum-told4 in
+    let the-token = c .before .before .before .before .before .before .before .token in
+    let a = c .before .before .before .before .before .before .before .before .before .args in
+    let the-after-dispatch = c .before .before .after-dispatch in (
       then-on (the-after-dispatch .ensures .0)
-          (dispatched (thenCheck (a .setup) (a .x) (a .iso)) (a .x) (a .iso) (a .frame) _ _ _ _ ((c .before .before .before .before .before .enum-told4) .given .1) ((c .before .before .before .before .before .before .before .token) .ensures)),
+          (dispatched (thenCheck (a .setup) (a .x) (a .iso)) (a .x) (a .iso) (a .frame) _ _ _ _ (the-enum-told4 .given .1) (the-token .ensures)),
       the-after-dispatch .ensures .1,
     )
 

@@ -26,11 +26,15 @@ same-length c = search needs
 
 returns : tie.Need-returns
 returns c =
-    let a = (c .before .before .before .before .before .before .before .before .before .before .before .args) in
-    let the-after-dispatch = (c .before .before .after-dispatch) in (
+    let the-mask-has = c .before .before .before .before .before .before .mask-has in
+    let the-load-globals = c .before .before .before .before .before .before .before .load-globals in
+    let the-endpoint = c .before .before .before .before .before .before .before .before .before .endpoint in
+    let the-if1 = c .before .before .before .before .before .if1 in
+    let a = c .before .before .before .before .before .before .before .before .before .before .before .args in
+    let the-after-dispatch = c .before .before .after-dispatch in (
       then-on (the-after-dispatch .ensures .0)
           (test-yes (thenCheck (a .setup) (a .x) (a .iso)) _ _ _
-          (paced-told _ _ _ _ _ _ ((c .before .before .before .before .before .before .mask-has) .ensures) ((c .before .before .before .before .before .before .before .load-globals) .ensures) ((c .before .before .before .before .before .before .before .before .before .endpoint) .ensures) ((c .before .before .before .before .before .if1) .taken))),
+          (paced-told _ _ _ _ _ _ (the-mask-has .ensures) (the-load-globals .ensures) (the-endpoint .ensures) (the-if1 .taken))),
       the-after-dispatch .ensures .1,
     )
 
@@ -57,18 +61,23 @@ after-dispatch-requires-3 c κs = search needs
 
 returns-2 : tie.Need-returns-2
 returns-2 c =
-    let a = (c .before .before .before .before .before .before .before .before .before .before .before .before .before .before .before .before .args) in
-    let the-n = (c .before .before .before .n) in
-    let the-begin = (c .before .before .before .before .before .iso-in-complete) in
-    let the-endpoint = (c .before .before .before .before .before .before .before .before .before .before .before .before .before .before .endpoint) in
-    let the-first-in-frame = (c .before .before .before .before .before .before .before .before .first-in-frame) in
-    let the-stand-completing = (c .stand-completing) in (
+    let early = c .before .before .before .before .before .before .before .before .before in
+    let the-if2 = c .before .before .before .before .before .before .before .if2 in
+    let the-mask-has = c .before .before .before .before .before .before .before .before .before .before .before .mask-has in
+    let the-load-globals = early .before .before .before .load-globals in
+    let the-if1 = c .before .before .before .before .before .before .before .before .before .before .if1 in
+    let a = early .before .before .before .before .before .before .before .args in
+    let the-n = c .before .before .before .n in
+    let the-begin = c .before .before .before .before .before .iso-in-complete in
+    let the-endpoint = early .before .before .before .before .before .endpoint in
+    let the-first-in-frame = c .before .before .before .before .before .before .before .before .first-in-frame in
+    let the-stand-completing = c .stand-completing in (
       stops-at (the-stand-completing .ensures) (complete-linked _ _ _ (the-n .given .1) (the-begin .ensures .1 .1)) _
           (complete-asks (a .setup) (λ _ u. run concrete (afterDispatch (a .x) (a .iso)) u) _ _ _ _ _ (the-n .given .1)
           ∙ (after (a .setup) (λ _ u. run concrete (afterDispatch (a .x) (a .iso)) u) _ _ (the-begin .ensures .0 _)
           ∙ in-frame (thenCheck (a .setup) (a .x) (a .iso)) _ _ _ _ _ ((a .x) .st) true (the-endpoint .ensures)
-          (the-first-in-frame .ensures .1 .0) (tells _ _ _ (the-first-in-frame .ensures .0) ((c .before .before .before .before .before .before .before .if2) .taken))
-          (paced-told _ _ _ _ _ _ ((c .before .before .before .before .before .before .before .before .before .before .before .mask-has) .ensures) ((c .before .before .before .before .before .before .before .before .before .before .before .before .load-globals) .ensures) (the-endpoint .ensures) ((c .before .before .before .before .before .before .before .before .before .before .if1) .left)))),
+          (the-first-in-frame .ensures .1 .0) (tells _ _ _ (the-first-in-frame .ensures .0) (the-if2 .taken))
+          (paced-told _ _ _ _ _ _ (the-mask-has .ensures) (the-load-globals .ensures) (the-endpoint .ensures) (the-if1 .left)))),
       stored-at (the-stand-completing .ensures),
     )
 
@@ -77,17 +86,23 @@ same-length-2 c = search needs
 
 returns-3 : tie.Need-returns-3
 returns-3 c =
-    let a = (c .before .before .before .before .before .before .before .before .before .before .before .before .before .before .before .before .before .before .args) in
-    let the-begin = (c .before .before .before .before .before .before .before .iso-in-complete) in
-    let the-endpoint = (c .before .before .before .before .before .before .before .before .before .before .before .before .before .before .before .before .endpoint) in
-    let the-first-in-frame = (c .before .before .before .before .before .before .before .before .before .before .first-in-frame) in
-    let the-after-dispatch = (c .before .before .after-dispatch2) in (
+    let early = c .before .before .before .before .before .before .before .before .before in
+    let the-enum-told = c .before .before .before .before .before .enum-told in
+    let the-if2 = c .before .before .before .before .before .before .before .before .before .if2 in
+    let the-mask-has = early .before .before .before .before .mask-has in
+    let the-load-globals = early .before .before .before .before .before .load-globals in
+    let the-if1 = early .before .before .before .if1 in
+    let a = early .before .before .before .before .before .before .before .before .before .args in
+    let the-begin = c .before .before .before .before .before .before .before .iso-in-complete in
+    let the-endpoint = early .before .before .before .before .before .before .before .endpoint in
+    let the-first-in-frame = c .before .before .before .before .before .before .before .before .before .before .first-in-frame in
+    let the-after-dispatch = c .before .before .after-dispatch2 in (
       then-on (the-after-dispatch .ensures .0)
-          (complete-ends (a .setup) (λ _ u. run concrete (afterDispatch (a .x) (a .iso)) u) _ _ _ ((c .before .before .before .before .before .enum-told) .given .1)
+          (complete-ends (a .setup) (λ _ u. run concrete (afterDispatch (a .x) (a .iso)) u) _ _ _ (the-enum-told .given .1)
           ∙ (after (a .setup) (λ _ u. run concrete (afterDispatch (a .x) (a .iso)) u) _ _ (the-begin .ensures .0 _)
           ∙ in-frame (thenCheck (a .setup) (a .x) (a .iso)) _ _ _ _ _ ((a .x) .st) true (the-endpoint .ensures)
-          (the-first-in-frame .ensures .1 .0) (tells _ _ _ (the-first-in-frame .ensures .0) ((c .before .before .before .before .before .before .before .before .before .if2) .taken))
-          (paced-told _ _ _ _ _ _ ((c .before .before .before .before .before .before .before .before .before .before .before .before .before .mask-has) .ensures) ((c .before .before .before .before .before .before .before .before .before .before .before .before .before .before .load-globals) .ensures) (the-endpoint .ensures) ((c .before .before .before .before .before .before .before .before .before .before .before .before .if1) .left)))),
+          (the-first-in-frame .ensures .1 .0) (tells _ _ _ (the-first-in-frame .ensures .0) (the-if2 .taken))
+          (paced-told _ _ _ _ _ _ (the-mask-has .ensures) (the-load-globals .ensures) (the-endpoint .ensures) (the-if1 .left)))),
       the-after-dispatch .ensures .1,
     )
 
@@ -96,14 +111,18 @@ same-length-3 c = search needs
 
 returns-4 : tie.Need-returns-4
 returns-4 c =
-    let a = (c .before .before .before .before .before .before .before .before .before .before .before .before .before .before .args) in
-    let the-endpoint = (c .before .before .before .before .before .before .before .before .before .before .before .before .endpoint) in
-    let the-first-in-frame = (c .before .before .before .before .before .before .first-in-frame) in
-    let the-after-dispatch = (c .before .before .after-dispatch3) in (
+    let the-if2 = c .before .before .before .before .before .if2 in
+    let the-mask-has = c .before .before .before .before .before .before .before .before .before .mask-has in
+    let the-load-globals = c .before .before .before .before .before .before .before .before .before .before .load-globals in
+    let the-if1 = c .before .before .before .before .before .before .before .before .if1 in
+    let a = c .before .before .before .before .before .before .before .before .before .before .before .before .before .before .args in
+    let the-endpoint = c .before .before .before .before .before .before .before .before .before .before .before .before .endpoint in
+    let the-first-in-frame = c .before .before .before .before .before .before .first-in-frame in
+    let the-after-dispatch = c .before .before .after-dispatch3 in (
       then-on (the-after-dispatch .ensures .0)
           (in-frame (thenCheck (a .setup) (a .x) (a .iso)) _ _ _ _ _ ((a .x) .st) false (the-endpoint .ensures)
-          (the-first-in-frame .ensures .1 .0) (tells _ _ _ (the-first-in-frame .ensures .0) ((c .before .before .before .before .before .if2) .left))
-          (paced-told _ _ _ _ _ _ ((c .before .before .before .before .before .before .before .before .before .mask-has) .ensures) ((c .before .before .before .before .before .before .before .before .before .before .load-globals) .ensures) (the-endpoint .ensures) ((c .before .before .before .before .before .before .before .before .if1) .left))),
+          (the-first-in-frame .ensures .1 .0) (tells _ _ _ (the-first-in-frame .ensures .0) (the-if2 .left))
+          (paced-told _ _ _ _ _ _ (the-mask-has .ensures) (the-load-globals .ensures) (the-endpoint .ensures) (the-if1 .left))),
       the-after-dispatch .ensures .1,
     )
 

@@ -19,12 +19,15 @@ after-transfer-requires c κs = search needs
 
 returns : tie.Need-returns
 returns c =
-    let a = (c .before .before .before .before .before .before .args) in
-    let the-after-transfer = (c .after-transfer) in (
+    let the-pre = c .before .before .before .before .before .before .pre in
+    let the-load-globals = c .before .before .before .before .load-globals in
+    let the-if1 = c .before .before .if1 in
+    let a = c .before .before .before .before .before .before .args in
+    let the-after-transfer = c .after-transfer in (
       λ b. then-on (the-after-transfer .ensures .0 b)
-          (sof-over (a .setup) (a .x) (a .iso) _ ((c .before .before .before .before .before .before .pre))
+          (sof-over (a .setup) (a .x) (a .iso) _ (the-pre)
           ∙ when-no (a .setup) (onSof (a .frame)) (λ _ u. run concrete (afterDispatch (a .x) (a .iso)) u) _ _
-          (sof-handled _ _ _ _ ((c .before .before .before .before .load-globals) .ensures) (eq-eqb _ _ ((c .before .before .if1) .taken)))),
+          (sof-handled _ _ _ _ (the-load-globals .ensures) (eq-eqb _ _ (the-if1 .taken)))),
       the-after-transfer .ensures .1,
     )
 
@@ -45,29 +48,35 @@ after-transfer-requires-2 c κs = search needs
 
 returns-2 : tie.Need-returns-2
 returns-2 c =
-    let a = (c .before .before .before .before .before .before .before .before .before .before .before .args) in
-    let the-n = (c .before .before .before .n) in
-    let the-begin = (c .before .before .before .before .before .on-sof) in
-    let the-stand-sof-arm = (c .stand-sof-arm) in (
+    let the-load-globals = c .before .before .before .before .before .before .before .before .before .load-globals in
+    let the-if1 = c .before .before .before .before .before .before .before .if1 in
+    let a = c .before .before .before .before .before .before .before .before .before .before .before .args in
+    let the-n = c .before .before .before .n in
+    let the-begin = c .before .before .before .before .before .on-sof in
+    let the-stand-sof-arm = c .stand-sof-arm in (
       λ b. stops-at (the-stand-sof-arm .ensures) (sof-linked _ _ _ (the-n .given .1) (the-begin .ensures .1 .1)) b
           (sof-asks (a .setup) (λ _ u. run concrete (afterDispatch (a .x) (a .iso)) u) _ _ b (a .frame) _ _ (the-n .given .1)
           ∙ (after (a .setup) (λ _ u. run concrete (afterDispatch (a .x) (a .iso)) u) _ _ (the-begin .ensures .0 b)
           ∙ when-yes (a .setup) (onSof (a .frame)) (λ _ u. run concrete (afterDispatch (a .x) (a .iso)) u) _ _
-          (sof-handled _ _ _ _ ((c .before .before .before .before .before .before .before .before .before .load-globals) .ensures) (ne-eqb _ _ ((c .before .before .before .before .before .before .before .if1) .left))))),
+          (sof-handled _ _ _ _ (the-load-globals .ensures) (ne-eqb _ _ (the-if1 .left))))),
       stored-at (the-stand-sof-arm .ensures),
     )
 
 returns-3 : tie.Need-returns-3
 returns-3 c =
-    let a = (c .before .before .before .before .before .before .before .before .before .before .args) in
-    let the-begin = (c .before .before .before .before .on-sof) in
-    let the-after-transfer = (c .after-transfer2) in (
+    let the-pre = c .before .before .before .before .before .before .before .before .before .before .pre in
+    let the-enum-told = c .before .before .enum-told in
+    let the-load-globals = c .before .before .before .before .before .before .before .before .load-globals in
+    let the-if1 = c .before .before .before .before .before .before .if1 in
+    let a = c .before .before .before .before .before .before .before .before .before .before .args in
+    let the-begin = c .before .before .before .before .on-sof in
+    let the-after-transfer = c .after-transfer2 in (
       λ b. then-on (the-after-transfer .ensures .0 b)
-          (sof-over (a .setup) (a .x) (a .iso) _ ((c .before .before .before .before .before .before .before .before .before .before .pre))
-          ∙ (sof-ends (a .setup) (λ _ u. run concrete (afterDispatch (a .x) (a .iso)) u) _ b (a .frame) _ ((c .before .before .enum-told) .given .1)
+          (sof-over (a .setup) (a .x) (a .iso) _ (the-pre)
+          ∙ (sof-ends (a .setup) (λ _ u. run concrete (afterDispatch (a .x) (a .iso)) u) _ b (a .frame) _ (the-enum-told .given .1)
           ∙ (after (a .setup) (λ _ u. run concrete (afterDispatch (a .x) (a .iso)) u) _ _ (the-begin .ensures .0 b)
           ∙ when-yes (a .setup) (onSof (a .frame)) (λ _ u. run concrete (afterDispatch (a .x) (a .iso)) u) _ _
-          (sof-handled _ _ _ _ ((c .before .before .before .before .before .before .before .before .load-globals) .ensures) (ne-eqb _ _ ((c .before .before .before .before .before .before .if1) .left)))))),
+          (sof-handled _ _ _ _ (the-load-globals .ensures) (ne-eqb _ _ (the-if1 .left)))))),
       the-after-transfer .ensures .1,
     )
 

@@ -26,11 +26,14 @@ after-transfer-requires c κs = search needs
 
 returns : tie.Need-returns
 returns c =
-    let a = (c .before .before .before .before .before .before .before .args) in
-    let the-after-transfer = (c .after-transfer) in (
+    let the-is-sof = c .before .before .before .is-sof in
+    let the-if1 = c .before .before .if1 in
+    let the-enum-told = c .before .before .before .before .enum-told in
+    let a = c .before .before .before .before .before .before .before .args in
+    let the-after-transfer = c .after-transfer in (
       then-on (the-after-transfer .ensures .0 _)
-          (sof-over (a .setup) (a .x) (a .iso) _ (tells _ _ _ ((c .before .before .before .is-sof) .ensures) ((c .before .before .if1) .taken))
-          ∙ sof-ends (a .setup) (λ _ u. run concrete (afterDispatch (a .x) (a .iso)) u) _ _ (a .frame) _ ((c .before .before .before .before .enum-told) .given .1)),
+          (sof-over (a .setup) (a .x) (a .iso) _ (tells _ _ _ (the-is-sof .ensures) (the-if1 .taken))
+          ∙ sof-ends (a .setup) (λ _ u. run concrete (afterDispatch (a .x) (a .iso)) u) _ _ (a .frame) _ (the-enum-told .given .1)),
       the-after-transfer .ensures .1,
     )
 
@@ -39,10 +42,11 @@ after-dispatch-requires c κs = search needs
 
 returns-2 : tie.Need-returns-2
 returns-2 c =
-    let a = (c .before .before .before .before .before .before .args) in
-    let the-n = (c .before .before .before .n) in
-    let the-stand-sof-arm = (c .stand-sof-arm) in (
-      stops-at (the-stand-sof-arm .ensures) (sof-linked _ _ _ (the-n .given .1) ((c .before .before .before .before .before .before .pre))) _
+    let the-pre = c .before .before .before .before .before .before .pre in
+    let a = c .before .before .before .before .before .before .args in
+    let the-n = c .before .before .before .n in
+    let the-stand-sof-arm = c .stand-sof-arm in (
+      stops-at (the-stand-sof-arm .ensures) (sof-linked _ _ _ (the-n .given .1) (the-pre)) _
           (sof-asks (a .setup) (λ _ u. run concrete (afterDispatch (a .x) (a .iso)) u) _ _ _ (a .frame) _ _ (the-n .given .1)),
       stored-at (the-stand-sof-arm .ensures),
     )
@@ -52,10 +56,11 @@ same-length c = search needs
 
 returns-3 : tie.Need-returns-3
 returns-3 c =
-    let a = (c .before .before .before .before .before .before .before .before .before .before .args) in
-    let the-after-dispatch = (c .before .before .after-dispatch) in (
+    let the-enum-told = c .before .before .before .before .before .before .before .enum-told in
+    let a = c .before .before .before .before .before .before .before .before .before .before .args in
+    let the-after-dispatch = c .before .before .after-dispatch in (
       then-on (the-after-dispatch .ensures .0)
-          (sof-ends (a .setup) (λ _ u. run concrete (afterDispatch (a .x) (a .iso)) u) _ _ (a .frame) _ ((c .before .before .before .before .before .before .before .enum-told) .given .1)),
+          (sof-ends (a .setup) (λ _ u. run concrete (afterDispatch (a .x) (a .iso)) u) _ _ (a .frame) _ (the-enum-told .given .1)),
       the-after-dispatch .ensures .1,
     )
 

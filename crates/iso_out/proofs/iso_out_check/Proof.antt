@@ -33,15 +33,21 @@ same-length c = search needs
 returns : tie.Need-returns
 unfolding isoOuts
 returns c =
-    let a = (c .before .before .before .before .before .before .before .before .before .before .before .before .before .before .before .before .before .args) in
-    let f = (c .before .before .before .before .before .before .before .before .before .before .find) in
-    let r = (c .before .before .arm) in (
+    let early = c .before .before .before .before .before .before .before .before .before in
+    let the-f = c .before .before .before .before .before .before .before .before .f in
+    let the-entry = c .before .before .before .before .before .before .entry in
+    let the-if1 = c .before .before .before .before .before .if1 in
+    let the-out-enabled = early .before .before .before .before .out-enabled in
+    let the-load-globals = early .before .before .before .before .before .load-globals in
+    let a = early .before .before .before .before .before .before .before .before .args in
+    let f = c .before .before .before .before .before .before .before .before .before .before .find in
+    let r = c .before .before .arm in (
       r .ensures .0 (a .x) (a .iso)
           ∙ (sym (f .ensures (a .x) (a .iso) ∙ found-entry (a .x) (a .iso) (f .result) _ _ (view (now (a .s)), now (a .buf))
-          ((c .before .before .before .before .before .before .before .before .f) .given .1) (sym ((c .before .before .before .before .before .before .entry) .ensures) ∙ (c .before .before .before .before .before .if1) .taken))
+          (the-f .given .1) (sym (the-entry .ensures) ∙ the-if1 .taken))
           ∙ begun (a .x) (a .iso) _ (view (now (a .s))) (now (a .buf))
-          ((c .before .before .before .before .before .before .before .before .before .before .before .before .before .out-enabled) .ensures
-          ∙ ap (λ (g : Globals). outEnabled (g .«ep_config») (g .«iso_out_eps»)) ((c .before .before .before .before .before .before .before .before .before .before .before .before .before .before .load-globals) .ensures))),
+          (the-out-enabled .ensures
+          ∙ ap (λ (g : Globals). outEnabled (g .«ep_config») (g .«iso_out_eps»)) (the-load-globals .ensures))),
       (r .ensures .1 .0, r .ensures .1 .1),
     )
 
@@ -54,13 +60,18 @@ same-length-2 c = search needs
 returns-2 : tie.Need-returns-2
 unfolding isoOuts
 returns-2 c =
-    let a = (c .before .before .before .before .before .before .before .before .before .before .before .before .args) in
-    let f = (c .before .before .before .before .before .find) in (
+    let the-f = c .before .before .before .f in
+    let the-entry = c .before .entry in
+    let the-if1 = c .if1 in
+    let the-out-enabled = c .before .before .before .before .before .before .before .before .out-enabled in
+    let the-load-globals = c .before .before .before .before .before .before .before .before .before .load-globals in
+    let a = c .before .before .before .before .before .before .before .before .before .before .before .before .args in
+    let f = c .before .before .before .before .before .find in (
       sym (f .ensures (a .x) (a .iso) ∙ found-status (a .x) (a .iso) (f .result) _ _ (view (now (a .s)), now (a .buf))
-          ((c .before .before .before .f) .given .1) (sym ((c .before .entry) .ensures) ∙ (c .if1) .left))
+          (the-f .given .1) (sym (the-entry .ensures) ∙ the-if1 .left))
           ∙ begun (a .x) (a .iso) _ (view (now (a .s))) (now (a .buf))
-          ((c .before .before .before .before .before .before .before .before .out-enabled) .ensures
-          ∙ ap (λ (g : Globals). outEnabled (g .«ep_config») (g .«iso_out_eps»)) ((c .before .before .before .before .before .before .before .before .before .load-globals) .ensures)),
+          (the-out-enabled .ensures
+          ∙ ap (λ (g : Globals). outEnabled (g .«ep_config») (g .«iso_out_eps»)) (the-load-globals .ensures)),
       (refl, refl),
     )
 
@@ -70,13 +81,16 @@ same-length-3 c = search needs
 returns-3 : tie.Need-returns-3
 unfolding isoOuts
 returns-3 c =
-    let a = (c .before .before .before .before .before .before .before .before .before .args) in
-    let f = (c .before .before .find) in (
+    let the-enum-told = c .enum-told in
+    let the-out-enabled = c .before .before .before .before .before .out-enabled in
+    let the-load-globals = c .before .before .before .before .before .before .load-globals in
+    let a = c .before .before .before .before .before .before .before .before .before .args in
+    let f = c .before .before .find in (
       sym (f .ensures (a .x) (a .iso)
-          ∙ found-nothing (a .x) (a .iso) (f .result) (view (now (a .s)), now (a .buf)) ((c .enum-told) .given .1))
+          ∙ found-nothing (a .x) (a .iso) (f .result) (view (now (a .s)), now (a .buf)) (the-enum-told .given .1))
           ∙ begun (a .x) (a .iso) _ (view (now (a .s))) (now (a .buf))
-          ((c .before .before .before .before .before .out-enabled) .ensures
-          ∙ ap (λ (g : Globals). outEnabled (g .«ep_config») (g .«iso_out_eps»)) ((c .before .before .before .before .before .before .load-globals) .ensures)),
+          (the-out-enabled .ensures
+          ∙ ap (λ (g : Globals). outEnabled (g .«ep_config») (g .«iso_out_eps»)) (the-load-globals .ensures)),
       (refl, tt),
     )
 

@@ -21,7 +21,7 @@ on-sof-requires : tie.Need-on-sof-requires
 on-sof-requires c κs = search needs
 
 then-sof-requires : tie.Need-then-sof-requires
-then-sof-requires c κs = (c .before .before .on-sof) .ensures .1 .1
+then-sof-requires c κs = c .before .before .on-sof .ensures .1 .1
 
 same-length : tie.Need-same-length
 same-length c = search needs
@@ -29,13 +29,17 @@ same-length c = search needs
 returns : tie.Need-returns
 unfolding serving
 returns c =
-    let a = (c .before .before .before .before .before .before .before .before .before .before .before .before .args) in
-    let the-then-sof = (c .before .before .then-sof) in (
+    let the-on-sof = c .before .before .before .before .before .on-sof in
+    let the-sof-due = c .before .before .before .before .before .before .before .before .sof-due in
+    let the-load-globals = c .before .before .before .before .before .before .before .before .before .load-globals in
+    let the-if1 = c .before .before .before .before .before .before .before .if1 in
+    let a = c .before .before .before .before .before .before .before .before .before .before .before .before .args in
+    let the-then-sof = c .before .before .then-sof in (
       then-on (the-then-sof .ensures .0)
-          (after (a .setup) (λ _ u. run concrete (afterSof (a .x) (a .iso) (a .frame)) u) _ _ ((c .before .before .before .before .before .on-sof) .ensures .0 _)
+          (after (a .setup) (λ _ u. run concrete (afterSof (a .x) (a .iso) (a .frame)) u) _ _ (the-on-sof .ensures .0 _)
           ∙ when-yes (a .setup) (onSof (a .frame)) (λ _ u. run concrete (afterSof (a .x) (a .iso) (a .frame)) u) _ _
           (tells-of (λ (z : Globals). sofDue (a .x) (z .«sof_frame») (a .frame)) _ _ _ _
-          ((c .before .before .before .before .before .before .before .before .sof-due) .ensures) ((c .before .before .before .before .before .before .before .before .before .load-globals) .ensures) ((c .before .before .before .before .before .before .before .if1) .taken))),
+          (the-sof-due .ensures) (the-load-globals .ensures) (the-if1 .taken))),
       the-then-sof .ensures .1,
     )
 
@@ -43,7 +47,7 @@ begin-requires : tie.Need-begin-requires
 begin-requires c κs = search needs
 
 then-late-requires : tie.Need-then-late-requires
-then-late-requires c κs = (c .before .before .begin) .ensures .1 .1
+then-late-requires c κs = c .before .before .begin .ensures .1 .1
 
 same-length-2 : tie.Need-same-length-2
 same-length-2 c = search needs
@@ -51,14 +55,19 @@ same-length-2 c = search needs
 returns-2 : tie.Need-returns-2
 unfolding serving afterSof
 returns-2 c =
-    let a = (c .before .before .before .before .before .before .before .before .before .before .before .before .before .args) in
-    let the-then-late = (c .before .before .then-late) in (
+    let the-begin = c .before .before .before .before .before .begin in
+    let the-if2 = c .before .before .before .before .before .before .before .if2 in
+    let the-sof-due = c .before .before .before .before .before .before .before .before .before .sof-due in
+    let the-load-globals = c .before .before .before .before .before .before .before .before .before .before .load-globals in
+    let the-if1 = c .before .before .before .before .before .before .before .before .if1 in
+    let a = c .before .before .before .before .before .before .before .before .before .before .before .before .before .args in
+    let the-then-late = c .before .before .then-late in (
       then-on (the-then-late .ensures .0)
-          (after (a .setup) (λ _ u. run concrete (afterLate (a .x) (a .iso) (a .frame)) u) _ _ ((c .before .before .before .before .before .begin) .ensures .0 _)
-          ∙ (when-yes (a .setup) (lateAll (a .frame)) (λ _ u. run concrete (afterLate (a .x) (a .iso) (a .frame)) u) _ _ ((c .before .before .before .before .before .before .before .if2) .taken)
+          (after (a .setup) (λ _ u. run concrete (afterLate (a .x) (a .iso) (a .frame)) u) _ _ (the-begin .ensures .0 _)
+          ∙ (when-yes (a .setup) (lateAll (a .frame)) (λ _ u. run concrete (afterLate (a .x) (a .iso) (a .frame)) u) _ _ (the-if2 .taken)
           ∙ when-no (a .setup) (onSof (a .frame)) (λ _ u. run concrete (afterSof (a .x) (a .iso) (a .frame)) u) _ _
           (tells-of (λ (z : Globals). sofDue (a .x) (z .«sof_frame») (a .frame)) _ _ _ _
-          ((c .before .before .before .before .before .before .before .before .before .sof-due) .ensures) ((c .before .before .before .before .before .before .before .before .before .before .load-globals) .ensures) ((c .before .before .before .before .before .before .before .before .if1) .left)))),
+          (the-sof-due .ensures) (the-load-globals .ensures) (the-if1 .left)))),
       the-then-late .ensures .1,
     )
 
@@ -71,13 +80,17 @@ same-length-3 c = search needs
 returns-3 : tie.Need-returns-3
 unfolding serving afterSof
 returns-3 c =
-    let a = (c .before .before .before .before .before .before .before .before .before .before .before .args) in
-    let the-after-late = (c .before .before .after-late) in (
+    let the-if2 = c .before .before .before .before .before .if2 in
+    let the-sof-due = c .before .before .before .before .before .before .before .sof-due in
+    let the-load-globals = c .before .before .before .before .before .before .before .before .load-globals in
+    let the-if1 = c .before .before .before .before .before .before .if1 in
+    let a = c .before .before .before .before .before .before .before .before .before .before .before .args in
+    let the-after-late = c .before .before .after-late in (
       then-on (the-after-late .ensures .0)
-          (when-no (a .setup) (lateAll (a .frame)) (λ _ u. run concrete (afterLate (a .x) (a .iso) (a .frame)) u) _ _ ((c .before .before .before .before .before .if2) .left)
+          (when-no (a .setup) (lateAll (a .frame)) (λ _ u. run concrete (afterLate (a .x) (a .iso) (a .frame)) u) _ _ (the-if2 .left)
           ∙ when-no (a .setup) (onSof (a .frame)) (λ _ u. run concrete (afterSof (a .x) (a .iso) (a .frame)) u) _ _
           (tells-of (λ (z : Globals). sofDue (a .x) (z .«sof_frame») (a .frame)) _ _ _ _
-          ((c .before .before .before .before .before .before .before .sof-due) .ensures) ((c .before .before .before .before .before .before .before .before .load-globals) .ensures) ((c .before .before .before .before .before .before .if1) .left))),
+          (the-sof-due .ensures) (the-load-globals .ensures) (the-if1 .left))),
       the-after-late .ensures .1,
     )
 
