@@ -1,4 +1,3 @@
 pub mod Continuations
 pub mod Points
-pub mod Stages
 pub mod Laws

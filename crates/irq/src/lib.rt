@@ -1,26 +1,21 @@
 // The interrupt (`on_interrupt`, mod.rs 634-852) one access at a time. Every function is total: any number is safe.
-use irq_transfer::nak;
 use irq_transfer::nak::Nak;
-use irq_transfer::settle;
 use irq_transfer::settle::Settle;
-use irq_transfer::toggled;
 use irq_transfer::toggled::Toggled;
 use iso_in::complete::Complete;
 use iso_in::late::Late;
-use iso_in::sof;
 use iso_in::sof::Sof;
 use iso_out::Check;
 use model::Transfer;
 use regs::Access;
 use regs::Dir;
 use regs::Reg;
-use regs::registers::fits;
 ghost use mathlib.Core.Path.{_≡_};
 ghost use mathlib.Core.List.{List};
 ghost use Prim.Native.Nat.{ℕ};
 ghost use Rattle.state.specs.Driver.{Driver};
 ghost use Rattle.model_ops.specs.Concrete.{go};
-ghost use Rattle.irq.specs.Points.{interrupt, meaning, Linked, fitsAt};
+ghost use Rattle.irq.specs.Points.{interrupt, meaning, Linked};
 
 // Where the interrupt stands: what it handed out last, with what the rest of it needs. First, of a transfer, comes whether the setup flag is
 // set, then the transfer, whether its endpoint is isochronous, the frame.
@@ -65,27 +60,4 @@ pub fn on_interrupt() -> Next
     ensures { λ r. ⌜ Linked r ⌝ }
 {
     Next::Asks(Access::Read(Reg::FrameNo, 0), Point::Frame)
-}
-
-// Row 16 turned round: where a reading is awaited, has it no bit above its register's width?
-pub fn fits_at(p: Point, v: u32) -> bool
-    ensures { λ r. ⌜ r ≡ fitsAt p v ⌝ }
-{
-    match p {
-        Point::Frame => fits(v, 16),
-        Point::Flags => fits(v, 6),
-        Point::Mis(_) => fits(v, 2),
-        Point::St(_, _) => fits(v, 7),
-        Point::Len(_, _, _) => fits(v, 16),
-        Point::Nak(_, _, q) => nak::fits_at(q, v),
-        Point::Settle(_, _, q) => settle::fits_at(q, v),
-        Point::FrameNo(_, _, _) => fits(v, 16),
-        Point::Sof(_, _, _, _, q) => sof::fits_at(q, v),
-        Point::SofArm(_, _, _, _, q) => sof::fits_at(q, v),
-        Point::Flip(_, _, _, _) => fits(v, 8),
-        Point::Toggled(_, _, _, _, q) => toggled::fits_at(q, v),
-        Point::Check(_, _, _, q) => iso_out::fits_at(q, v),
-        Point::MovedRead(_, _) => fits(v, 8),
-        _ => true, // a write
-    }
 }

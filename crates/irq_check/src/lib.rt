@@ -138,8 +138,11 @@ pub fn after_dispatch(
     ensures { λ r. ⌜ Stored r (now (s .exit)) ⌝ }
 {
     if status::is_sof(x.st) {
-        return ep0_moved_on(s, setup, x);
+        return after_transfer(s, setup);
     }
     let n = iso_out::iso_out_check(s, buf, x, iso);
-    checked(s, buf, setup, x, iso, n)
+    match n {
+        CheckNext::Asks(q, p) => stand_check(s, q, setup, x, iso, p),
+        CheckNext::Ends => ep0_moved_on(s, setup, x),
+    }
 }

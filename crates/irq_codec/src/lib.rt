@@ -1,4 +1,4 @@
-// A point of the interrupt as numbers, and back.
+// A point of the interrupt as numbers, and what it has from them.
 use irq::Point;
 use irq_transfer::nak::Nak;
 use irq_transfer::settle::Settle;
@@ -8,14 +8,13 @@ use iso_in::late::Late;
 use iso_in::sof::Sof;
 use iso_out::Check;
 use model::Transfer;
-use model_ops::rings::is_on;
 use regs::Dir;
 use state::Saved;
 ghost use mathlib.Core.Path.{_≡_};
 ghost use Rattle.model.specs.Statics.{flag};
 ghost use Rattle.irq_codec.specs.Codec.{dirAs, dirOf, inner, none, onDir, nakAs, nakOf, settleAs, settleOf};
 ghost use Rattle.irq_codec.specs.Codec.{toggledAs, toggledOf, completeAs, completeOf, sofAs, sofOf, lateAs};
-ghost use Rattle.irq_codec.specs.Codec.{lateOf, checkAs, checkOf, code, early, bare, transferOf, encode, decode};
+ghost use Rattle.irq_codec.specs.Codec.{lateOf, checkAs, checkOf, code, early, bare, encode};
 
 // An inner point's numbers, with the isochronous flag or a status.
 pub struct Numbers {
@@ -35,7 +34,7 @@ fn dir_as(d: Dir) -> u8
     }
 }
 
-fn dir_of(n: u8) -> Dir
+pub fn dir_of(n: u8) -> Dir
     ensures { λ r. ⌜ r ≡ dirOf n ⌝ }
 {
     if n == 0 { Dir::Out } else { Dir::In }
@@ -62,19 +61,19 @@ fn inner(sub: u8, now: u8, ep: u8, eps: u16, n: u16) -> Numbers
     }
 }
 
-fn none(iso: bool) -> Numbers
+pub fn none(iso: bool) -> Numbers
     ensures { λ r. ⌜ r ≡ none iso ⌝ }
 {
     inner(0, flag_of(iso), 0, 0, 0)
 }
 
-fn on_dir(d: Dir, iso: bool) -> Numbers
+pub fn on_dir(d: Dir, iso: bool) -> Numbers
     ensures { λ r. ⌜ r ≡ onDir d iso ⌝ }
 {
     inner(0, flag_of(iso), dir_as(d), 0, 0)
 }
 
-fn nak_as(st: u8, p: Nak) -> Numbers
+pub fn nak_as(st: u8, p: Nak) -> Numbers
     ensures { λ r. ⌜ r ≡ nakAs st p ⌝ }
 {
     match p {
@@ -86,7 +85,7 @@ fn nak_as(st: u8, p: Nak) -> Numbers
     }
 }
 
-fn nak_of(sub: u8) -> Nak
+pub fn nak_of(sub: u8) -> Nak
     ensures { λ r. ⌜ r ≡ nakOf sub ⌝ }
 {
     match sub {
@@ -96,7 +95,7 @@ fn nak_of(sub: u8) -> Nak
     }
 }
 
-fn settle_as(p: Settle) -> Numbers
+pub fn settle_as(p: Settle) -> Numbers
     ensures { λ r. ⌜ r ≡ settleAs p ⌝ }
 {
     match p {
@@ -112,7 +111,7 @@ fn settle_as(p: Settle) -> Numbers
     }
 }
 
-fn settle_of(sub: u8, now: u8, n: u16) -> Settle
+pub fn settle_of(sub: u8, now: u8, n: u16) -> Settle
     ensures { λ r. ⌜ r ≡ settleOf sub now n ⌝ }
 {
     match sub {
@@ -128,7 +127,7 @@ fn settle_of(sub: u8, now: u8, n: u16) -> Settle
     }
 }
 
-fn toggled_as(d: Dir, iso: bool, p: Toggled) -> Numbers
+pub fn toggled_as(d: Dir, iso: bool, p: Toggled) -> Numbers
     ensures { λ r. ⌜ r ≡ toggledAs d iso p ⌝ }
 {
     let ep = dir_as(d);
@@ -141,7 +140,7 @@ fn toggled_as(d: Dir, iso: bool, p: Toggled) -> Numbers
     }
 }
 
-fn toggled_of(sub: u8, n: u16) -> Toggled
+pub fn toggled_of(sub: u8, n: u16) -> Toggled
     ensures { λ r. ⌜ r ≡ toggledOf sub n ⌝ }
 {
     match sub {
@@ -152,7 +151,7 @@ fn toggled_of(sub: u8, n: u16) -> Toggled
     }
 }
 
-fn complete_as(iso: bool, m: u16, p: Complete) -> Numbers
+pub fn complete_as(iso: bool, m: u16, p: Complete) -> Numbers
     ensures { λ r. ⌜ r ≡ completeAs iso m p ⌝ }
 {
     let now = flag_of(iso);
@@ -162,7 +161,7 @@ fn complete_as(iso: bool, m: u16, p: Complete) -> Numbers
     }
 }
 
-fn complete_of(sub: u8, e: u8) -> Complete
+pub fn complete_of(sub: u8, e: u8) -> Complete
     ensures { λ r. ⌜ r ≡ completeOf sub e ⌝ }
 {
     if sub == 0 {
@@ -172,7 +171,7 @@ fn complete_of(sub: u8, e: u8) -> Complete
     }
 }
 
-fn sof_as(iso: bool, p: Sof) -> Numbers
+pub fn sof_as(iso: bool, p: Sof) -> Numbers
     ensures { λ r. ⌜ r ≡ sofAs iso p ⌝ }
 {
     let now = flag_of(iso);
@@ -184,7 +183,7 @@ fn sof_as(iso: bool, p: Sof) -> Numbers
     }
 }
 
-fn sof_of(sub: u8, e: u8, m: u16) -> Sof
+pub fn sof_of(sub: u8, e: u8, m: u16) -> Sof
     ensures { λ r. ⌜ r ≡ sofOf sub e m ⌝ }
 {
     match sub {
@@ -195,7 +194,7 @@ fn sof_of(sub: u8, e: u8, m: u16) -> Sof
     }
 }
 
-fn late_as(iso: bool, p: Late) -> Numbers
+pub fn late_as(iso: bool, p: Late) -> Numbers
     ensures { λ r. ⌜ r ≡ lateAs iso p ⌝ }
 {
     let m = p.rest;
@@ -203,7 +202,7 @@ fn late_as(iso: bool, p: Late) -> Numbers
     complete_as(iso, m, q)
 }
 
-fn late_of(sub: u8, e: u8, m: u16) -> Late
+pub fn late_of(sub: u8, e: u8, m: u16) -> Late
     ensures { λ r. ⌜ r ≡ lateOf sub e m ⌝ }
 {
     let completing = complete_of(sub, e);
@@ -213,7 +212,7 @@ fn late_of(sub: u8, e: u8, m: u16) -> Late
     }
 }
 
-fn check_as(iso: bool, p: Check) -> Numbers
+pub fn check_as(iso: bool, p: Check) -> Numbers
     ensures { λ r. ⌜ r ≡ checkAs iso p ⌝ }
 {
     let now = flag_of(iso);
@@ -223,7 +222,7 @@ fn check_as(iso: bool, p: Check) -> Numbers
     }
 }
 
-fn check_of(sub: u8, e: u8, m: u16) -> Check
+pub fn check_of(sub: u8, e: u8, m: u16) -> Check
     ensures { λ r. ⌜ r ≡ checkOf sub e m ⌝ }
 {
     if sub == 0 {
@@ -233,7 +232,7 @@ fn check_of(sub: u8, e: u8, m: u16) -> Check
     }
 }
 
-fn code(site: u8, setup: bool, x: Transfer, frame: u16, i: Numbers) -> Saved
+pub fn code(site: u8, setup: bool, x: Transfer, frame: u16, i: Numbers) -> Saved
     ensures { λ r. ⌜ r ≡ code site setup x frame i ⌝ }
 {
     Saved {
@@ -256,7 +255,7 @@ fn code(site: u8, setup: bool, x: Transfer, frame: u16, i: Numbers) -> Saved
 }
 
 // Before there is a transfer: the flags or the status, and busy.
-fn early(busy: bool, st: u8) -> Transfer
+pub fn early(busy: bool, st: u8) -> Transfer
     ensures { λ r. ⌜ r ≡ early busy st ⌝ }
 {
     Transfer {
@@ -304,56 +303,5 @@ pub fn encode(p: Point) -> Saved
         Point::SetupRx => bare(23),
         Point::SetupTx => bare(24),
         Point::SetupReleased => bare(25),
-    }
-}
-
-fn transfer_of(c: Saved) -> Transfer
-    ensures { λ r. ⌜ r ≡ transferOf c ⌝ }
-{
-    Transfer {
-        busy: is_on(c.busy),
-        st: c.st,
-        len: c.len,
-        late: is_on(c.late),
-        len_ok: is_on(c.len_ok),
-    }
-}
-
-// Any numbers are a point: an unknown one is the first.
-pub fn decode(c: Saved) -> Point
-    ensures { λ r. ⌜ r ≡ decode c ⌝ }
-{
-    let setup = is_on(c.flag);
-    let x = transfer_of(c);
-    let iso = is_on(c.now);
-    let d = dir_of(c.ep);
-    let site = c.site;
-    match site {
-        1 => Point::Flags,
-        2 => Point::BusRst(c.st),
-        3 => Point::Suspend(c.st),
-        4 => Point::Fifo(c.st),
-        5 => Point::Host(c.st),
-        6 => Point::Mis(setup),
-        7 => Point::St(setup, x.busy),
-        8 => Point::Len(setup, x.busy, c.st),
-        9 => Point::Nak(setup, x, nak_of(c.sub)),
-        10 => Point::Released(setup, x),
-        11 => Point::Settle(setup, x, settle_of(c.sub, c.now, c.n)),
-        12 => Point::FrameNo(setup, x, iso),
-        13 => Point::Sof(setup, x, iso, c.frame, sof_of(c.sub, c.ep, c.eps)),
-        14 => Point::Late(setup, x, iso, c.frame, late_of(c.sub, c.ep, c.eps)),
-        15 => Point::SofArm(setup, x, iso, c.frame, sof_of(c.sub, c.ep, c.eps)),
-        16 => Point::Flip(d, setup, x, iso),
-        17 => Point::Flipped(d, setup, x, iso),
-        18 => Point::Toggled(d, setup, x, iso, toggled_of(c.sub, c.n)),
-        19 => Point::Completing(setup, x, iso, complete_of(c.sub, c.ep)),
-        20 => Point::Check(setup, x, iso, check_of(c.sub, c.ep, c.eps)),
-        21 => Point::MovedRead(d, setup),
-        22 => Point::MovedWrote(d, setup),
-        23 => Point::SetupRx,
-        24 => Point::SetupTx,
-        25 => Point::SetupReleased,
-        _ => Point::Frame,
     }
 }

@@ -99,7 +99,10 @@ pub fn after_released(s: &mut [u8; STATE_LEN], setup: bool, x: Transfer) -> Step
     ensures { λ r. ⌜ Stored r (now (s .exit)) ⌝ }
 {
     let n = settle::begin(s, x);
-    then_settle(s, setup, x, n)
+    match n {
+        SettleNext::Asks(q, p) => stand_settle(s, q, setup, x, p),
+        SettleNext::Ends(y) => after_settle(s, setup, y),
+    }
 }
 
 // Released early: int_st and rx_len are read (mod.rs 666-667).
@@ -164,9 +167,13 @@ pub fn after_len(s: &mut [u8; STATE_LEN], setup: bool, busy: bool, st: u8, v: u3
     let x = entered(busy, st, short(v));
     if naks_first(busy, st) {
         let n = nak::nak_non_iso(s, st);
-        return then_nak(s, setup, x, n);
+        match n {
+            NakNext::Asks(q, p) => stand_nak(s, q, setup, x, p),
+            NakNext::Ends => release(s, setup, x),
+        }
+    } else {
+        release(s, setup, x)
     }
-    release(s, setup, x)
 }
 
 pub fn after_st(s: &mut [u8; STATE_LEN], setup: bool, busy: bool, v: u32) -> Step

@@ -1,12 +1,12 @@
 // What a point of the interrupt has: each part is loaded alone from the saved record's bytes. Any bytes are a point.
-use crate::numbers::check_of;
-use crate::numbers::complete_of;
-use crate::numbers::dir_of;
-use crate::numbers::late_of;
-use crate::numbers::nak_of;
-use crate::numbers::settle_of;
-use crate::numbers::sof_of;
-use crate::numbers::toggled_of;
+use irq_codec::check_of;
+use irq_codec::complete_of;
+use irq_codec::dir_of;
+use irq_codec::late_of;
+use irq_codec::nak_of;
+use irq_codec::settle_of;
+use irq_codec::sof_of;
+use irq_codec::toggled_of;
 use irq_transfer::nak::Nak;
 use irq_transfer::settle::Settle;
 use irq_transfer::toggled::Toggled;

@@ -1,16 +1,16 @@
 // The interrupt stands at a point, or ends: the saved record's 22 bytes are stored where the point is made, and its access is the
 // answer.
-use crate::numbers::check_as;
-use crate::numbers::code;
-use crate::numbers::complete_as;
-use crate::numbers::early;
-use crate::numbers::late_as;
-use crate::numbers::nak_as;
-use crate::numbers::none;
-use crate::numbers::on_dir;
-use crate::numbers::settle_as;
-use crate::numbers::sof_as;
-use crate::numbers::toggled_as;
+use irq_codec::check_as;
+use irq_codec::code;
+use irq_codec::complete_as;
+use irq_codec::early;
+use irq_codec::late_as;
+use irq_codec::nak_as;
+use irq_codec::none;
+use irq_codec::on_dir;
+use irq_codec::settle_as;
+use irq_codec::sof_as;
+use irq_codec::toggled_as;
 use irq_transfer::nak::Nak;
 use irq_transfer::settle::Settle;
 use irq_transfer::toggled::Toggled;

@@ -175,5 +175,9 @@ pub fn serve(
         let n = sof::on_sof(s, frame);
         return then_sof(s, buf, setup, x, iso, frame, n);
     }
-    after_sof(s, buf, setup, x, iso, frame)
+    if x.late {
+        let n = late::begin(s, frame);
+        return then_late(s, buf, setup, x, iso, frame, n);
+    }
+    after_late(s, buf, setup, x, iso, frame)
 }

@@ -1,6 +1,7 @@
 // What a token completes (mod.rs 748-790), one access at a time. Every function is total: any number is safe.
 use bits::mask_has;
 use irq_check::after_dispatch;
+use irq_check::setup::after_transfer;
 use irq_points::stands::stand_completing;
 use irq_points::stands::stand_flip;
 use irq_points::stands::stand_flipped;
@@ -36,7 +37,7 @@ ghost use mathlib.Core.Bool.{true};
 ghost use mathlib.Core.List.{List};
 ghost use Prim.Native.Nat.{ℕ};
 ghost use Rattle.regs.specs.Registers.{fitsIn};
-ghost use Rattle.regs.specs.Status.{endpoint, token};
+ghost use Rattle.regs.specs.Status.{endpoint, token, isSof};
 ghost use Rattle.state.specs.State.{view, saved};
 ghost use Rattle.model.specs.Tree.{ends, bindOut};
 ghost use Rattle.model.specs.Script.{run};
@@ -141,7 +142,28 @@ pub fn after_flip(
     )
 }
 
-// Where `toggled` stops, or what follows it: no new packet, and the endpoint stays as it is.
+// What follows `toggled`: a packet went through, or the endpoint stays as it is.
+fn after_passing(
+    s: &mut [u8; STATE_LEN],
+    buf: &mut [u8],
+    d: Dir,
+    setup: bool,
+    x: Transfer,
+    iso: bool,
+    b: bool,
+) -> Step
+    ensures { λ r. ⌜ Stops r (now (s .exit)) (now (buf .exit))
+        (thenCheck setup x iso (run concrete (afterToggled d x b) (view (now (s .entry)), now (buf .entry)))) ⌝ }
+    ensures { λ r. ⌜ Stored r (now (s .exit)) ⌝ }
+{
+    if b {
+        passed(s, d, status::endpoint(x.st), x.len);
+        return after_dispatch(s, buf, setup, x, iso);
+    }
+    after_dispatch(s, buf, setup, x, iso)
+}
+
+// Where `toggled` stops, or what follows it.
 fn then_toggled(
     s: &mut [u8; STATE_LEN],
     buf: &mut [u8],
@@ -158,13 +180,7 @@ fn then_toggled(
 {
     match n {
         ToggledNext::Asks(q, p) => stand_toggled(s, q, d, setup, x, iso, p),
-        ToggledNext::Ends(b) => {
-            if b {
-                passed(s, d, status::endpoint(x.st), x.len);
-                return after_dispatch(s, buf, setup, x, iso);
-            }
-            after_dispatch(s, buf, setup, x, iso)
-        }
+        ToggledNext::Ends(b) => after_passing(s, buf, d, setup, x, iso, b),
     }
 }
 
@@ -202,7 +218,10 @@ fn toggled_arm(
     ensures { λ r. ⌜ Stored r (now (s .exit)) ⌝ }
 {
     let n = toggled::begin(d, status::endpoint(x.st));
-    then_toggled(s, buf, d, setup, x, iso, n)
+    match n {
+        ToggledNext::Asks(q, p) => stand_toggled(s, q, d, setup, x, iso, p),
+        ToggledNext::Ends(b) => after_passing(s, buf, d, setup, x, iso, b),
+    }
 }
 
 // The arms of OUT (mod.rs 755-771).
@@ -281,9 +300,13 @@ fn iso_in_arm(
     }
     if first_in_frame(s, ep, frame) {
         let n = complete::iso_in_complete(s, ep);
-        return then_complete(s, buf, setup, x, iso, n);
+        match n {
+            CompleteNext::Asks(q, p) => stand_completing(s, q, setup, x, iso, p),
+            CompleteNext::Ends => after_dispatch(s, buf, setup, x, iso),
+        }
+    } else {
+        after_dispatch(s, buf, setup, x, iso)
     }
-    after_dispatch(s, buf, setup, x, iso)
 }
 
 // The arms of IN (mod.rs 772-788).
@@ -325,7 +348,12 @@ fn then_sof_arm(
 {
     match n {
         SofNext::Asks(q, p) => stand_sof_arm(s, q, setup, x, iso, frame, p),
-        SofNext::Ends => after_dispatch(s, buf, setup, x, iso),
+        SofNext::Ends => {
+            if status::is_sof(x.st) {
+                return after_transfer(s, setup);
+            }
+            after_dispatch(s, buf, setup, x, iso)
+        }
     }
 }
 
@@ -347,27 +375,22 @@ pub fn after_sof_arm(
     then_sof_arm(s, buf, setup, x, iso, frame, n)
 }
 
-// SOF's own (mod.rs 750-754).
-fn sof_arm(
-    s: &mut [u8; STATE_LEN],
-    buf: &mut [u8],
-    setup: bool,
-    x: Transfer,
-    iso: bool,
-    frame: u16,
-) -> Step
-    ensures { λ r. ⌜ Stops r (now (s .exit)) (now (buf .exit)) (thenCheck setup x iso (run concrete (script.sofArm {i = true} frame) (
-      view (now (s .entry)),
-      now (buf .entry),
-    ))) ⌝ }
+// SOF's own (mod.rs 750-754), after which nothing of the transfer is left.
+fn sof_arm(s: &mut [u8; STATE_LEN], setup: bool, x: Transfer, iso: bool, frame: u16) -> Step
+    requires { ⌜ isSof (x .st) ≡ true ⌝ }
+    ensures { λ r. ⌜ ((b : List ℕ) → Stops r (now (s .exit)) b
+        (thenCheck setup x iso (run concrete (script.sofArm {i = true} frame) (view (now (s .entry)), b)))) ⌝ }
     ensures { λ r. ⌜ Stored r (now (s .exit)) ⌝ }
 {
     let g = load_globals(s);
     if g.sof_frame == frame {
-        return after_dispatch(s, buf, setup, x, iso);
+        return after_transfer(s, setup);
     }
     let n = sof::on_sof(s, frame);
-    then_sof_arm(s, buf, setup, x, iso, frame, n)
+    match n {
+        SofNext::Asks(q, p) => stand_sof_arm(s, q, setup, x, iso, frame, p),
+        SofNext::Ends => after_transfer(s, setup),
+    }
 }
 
 pub fn dispatch(
@@ -384,7 +407,7 @@ pub fn dispatch(
 {
     let t = status::token(x.st);
     match t {
-        Token::Sof => sof_arm(s, buf, setup, x, iso, frame),
+        Token::Sof => sof_arm(s, setup, x, iso, frame),
         Token::Out => out_arm(s, buf, setup, x, iso),
         Token::In => in_arm(s, buf, setup, x, iso, frame),
         Token::Setup => after_dispatch(s, buf, setup, x, iso),

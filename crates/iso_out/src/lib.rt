@@ -128,7 +128,16 @@ pub fn iso_out_check(s: &mut [u8; STATE_LEN], buf: &mut [u8], x: Transfer, iso: 
 {
     let g = load_globals(s);
     let mask = out_enabled(g.ep_config, g.iso_out_eps);
-    walk_on(s, buf, x, iso, mask)
+    let f = find(s, buf, mask);
+    match f {
+        Found::At(e, rest) => {
+            if entry(x, iso, e) {
+                return arm(s, buf, e, rest, x.len);
+            }
+            CheckNext::Asks(Access::Read(Reg::IntSt, 0), Check::St(e, rest))
+        }
+        Found::Nothing => CheckNext::Ends,
+    }
 }
 
 // A reading of a byte or less.

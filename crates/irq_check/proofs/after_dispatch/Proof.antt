@@ -1,6 +1,7 @@
-use Rattle.irq_points.specs.StandsLaws.{then-on}
-use Rattle.irq.specs.Laws.{after, tells-not, when-no, when-yes}
+use Rattle.irq_points.specs.StandsLaws.{stops-at, stored-at, then-on}
+use Rattle.irq.specs.Laws.{after, check-asks, check-ends, check-linked, tells, tells-not, when-yes}
 use Rattle.irq.specs.Continuations.{afterCheck, afterDispatch}
+use Rattle.irq_check.specs.SofLaws.{sof-over}
 use Rattle.model_ops.specs.Concrete.{concrete}
 use Rattle.model.specs.IsoOut.{isoOutCheck}
 use Rattle.model.specs.Script.{run}
@@ -12,29 +13,34 @@ use Rattle.irq_check.proofs.after_dispatch.Tie as tie
 is-sof-requires : tie.Need-is-sof-requires
 is-sof-requires c κs = search needs
 
-ep0-moved-on-requires : tie.Need-ep0-moved-on-requires
-ep0-moved-on-requires c κs = search needs
+after-transfer-requires : tie.Need-after-transfer-requires
+after-transfer-requires c κs = search needs
 
 returns : tie.Need-returns
-unfolding afterDispatch
 returns c =
-    let the-after-check = c .ep0-moved-on in
+    let the-after-transfer = c .after-transfer in
     let a = c .before .before .before .before .before .args in
     let the-is-sof = c .before .before .before .is-sof in
     let the-if1 = c .before .before .if1 in (
-      then-on (the-after-check .ensures .0 _)
-          (when-no (a .setup) (isoOutCheck (a .x) (a .iso))
-          (λ _ u. run concrete (afterCheck (a .x)) u) _ _ (tells-not _ _ _ (the-is-sof .ensures) (the-if1 .taken))),
-      the-after-check .ensures .1,
+      then-on (the-after-transfer .ensures .0 _)
+          (sof-over (a .setup) (a .x) (a .iso) _ (tells _ _ _ (the-is-sof .ensures) (the-if1 .taken))),
+      the-after-transfer .ensures .1,
     )
 
 iso-out-check-requires : tie.Need-iso-out-check-requires
 iso-out-check-requires c κs = search needs
 
-checked-requires : tie.Need-checked-requires
-checked-requires c κs =
-    let the-begin = c .before .before .before .before .iso-out-check in
-    the-begin .ensures .1 .1
+enum-known-n : tie.Need-enum-known-n
+enum-known-n c = search needs
+
+stand-check-requires : tie.Need-stand-check-requires
+stand-check-requires c κs = search needs
+
+enum-told : tie.Need-enum-told
+enum-told c = search needs
+
+ep0-moved-on-requires : tie.Need-ep0-moved-on-requires
+ep0-moved-on-requires c κs = search needs
 
 same-length : tie.Need-same-length
 same-length c = search needs
@@ -42,16 +48,38 @@ same-length c = search needs
 returns-2 : tie.Need-returns-2
 unfolding afterDispatch
 returns-2 c =
-    let the-checked = c .checked in
-    let a = c .before .before .before .before .before .before .before .before .before .before .before .args in
-    let the-begin = c .before .before .before .before .before .iso-out-check in
-    let the-is-sof = c .before .before .before .before .before .before .before .before .before .is-sof in
-    let the-if1 = c .before .before .before .before .before .before .before .before .if1 in (
-      then-on (the-checked .ensures .0)
-          (after (a .setup) (λ _ u. run concrete (afterCheck (a .x)) u) _ _ (the-begin .ensures .0)
+    let the-stand-check = c .stand-check in
+    let the-n = c .before .before .before .n in
+    let a = c .before .before .before .before .before .before .before .before .before .before .before .before .before .args in
+    let the-begin = c .before .before .before .before .before .before .before .iso-out-check in
+    let the-is-sof = c .before .before .before .before .before .before .before .before .before .before .before .is-sof in
+    let the-if1 = c .before .before .before .before .before .before .before .before .before .before .if1 in (
+      stops-at (the-stand-check .ensures) (check-linked _ _ _ (the-n .given .1) (the-begin .ensures .1 .1)) _
+          (check-asks (a .setup) (λ _ u. run concrete (afterCheck (a .x)) u) _ _ _ (a .x) (a .iso) _ _ (the-n .given .1)
+          ∙ (after (a .setup) (λ _ u. run concrete (afterCheck (a .x)) u) _ _ (the-begin .ensures .0)
           ∙ when-yes (a .setup) (isoOutCheck (a .x) (a .iso))
-          (λ _ u. run concrete (afterCheck (a .x)) u) _ _ (tells-not _ _ _ (the-is-sof .ensures) (the-if1 .left))),
-      the-checked .ensures .1,
+          (λ _ u. run concrete (afterCheck (a .x)) u) _ _ (tells-not _ _ _ (the-is-sof .ensures) (the-if1 .left)))),
+      stored-at (the-stand-check .ensures),
+    )
+
+same-length-2 : tie.Need-same-length-2
+same-length-2 c = search needs
+
+returns-3 : tie.Need-returns-3
+unfolding afterDispatch
+returns-3 c =
+    let the-after-check = c .ep0-moved-on in
+    let the-enum-told = c .before .before .enum-told in
+    let a = c .before .before .before .before .before .before .before .before .before .before .before .before .args in
+    let the-begin = c .before .before .before .before .before .before .iso-out-check in
+    let the-is-sof = c .before .before .before .before .before .before .before .before .before .before .is-sof in
+    let the-if1 = c .before .before .before .before .before .before .before .before .before .if1 in (
+      then-on (the-after-check .ensures .0 _)
+          (check-ends (a .setup) (λ _ u. run concrete (afterCheck (a .x)) u) _ _ (a .x) (a .iso) _ (the-enum-told .given .1)
+          ∙ (after (a .setup) (λ _ u. run concrete (afterCheck (a .x)) u) _ _ (the-begin .ensures .0)
+          ∙ when-yes (a .setup) (isoOutCheck (a .x) (a .iso))
+          (λ _ u. run concrete (afterCheck (a .x)) u) _ _ (tells-not _ _ _ (the-is-sof .ensures) (the-if1 .left)))),
+      the-after-check .ensures .1,
     )
 
 pub after-dispatch-spec : {M : Type 1} → statement M
@@ -59,9 +87,14 @@ after-dispatch-spec =
     tie.close
     (tie.spec
     is-sof-requires
-    ep0-moved-on-requires
+    after-transfer-requires
     returns
     iso-out-check-requires
-    checked-requires
+    enum-known-n
+    stand-check-requires
+    enum-told
+    ep0-moved-on-requires
     same-length
-    returns-2)
+    returns-2
+    same-length-2
+    returns-3)

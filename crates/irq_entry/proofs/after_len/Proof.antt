@@ -1,7 +1,9 @@
-use Rattle.irq_points.specs.StandsLaws.{then-on}
+use Rattle.irq_points.specs.StandsLaws.{stops-at, stored-at, then-on}
+use Rattle.irq.specs.Laws.{entered-free, entered-nak, nak-asks, nak-ends, nak-linked, tells}
+use Rattle.irq.specs.Continuations.{afterNak, enteredAs}
+use Rattle.model_ops.specs.Concrete.{concrete}
+use Rattle.model.specs.Script.{run}
 use Prim.Native.Nat.{ℕ}
-use Rattle.irq.specs.Laws.{entered-free, entered-nak, tells}
-use Rattle.irq.specs.Continuations.{enteredAs}
 use mathlib.Core.Path.{_∙_, ap}
 use borrow.Author.Needs.{needs}
 use Rattle.irq_entry.proofs.after_len.Statement.{statement}
@@ -19,39 +21,71 @@ naks-first-requires c κs = search needs
 nak-non-iso-requires : tie.Need-nak-non-iso-requires
 nak-non-iso-requires c κs = search needs
 
-then-nak-requires : tie.Need-then-nak-requires
-then-nak-requires c κs = c .before .nak-non-iso .ensures .1
+enum-known-n : tie.Need-enum-known-n
+enum-known-n c = search needs
 
-returns : tie.Need-returns
-returns c =
-    let the-then-nak = c .then-nak in
-    let a = c .before .before .before .before .before .before .before .before .args in
-    let the-entered = c .before .before .before .before .before .before .entered in
-    let the-short = c .before .before .before .before .before .before .before .short in
-    let the-begin = c .before .before .nak-non-iso in
-    let the-naks-first = c .before .before .before .before .before .naks-first in
-    let the-if1 = c .before .before .before .before .if1 in (
-      λ b. then-on (the-then-nak .ensures .0 b)
-          (entered-nak (a .setup) (a .busy)
-          (a .st) _ _ _ b (the-entered .ensures ∙ ap (λ (z : ℕ). enteredAs (a .busy) (a .st) z) (the-short .ensures))
-          (the-begin .result) (the-begin .ensures .0 b) (tells _ _ _ (the-naks-first .ensures) (the-if1 .taken))),
-      the-then-nak .ensures .1,
-    )
+stand-nak-requires : tie.Need-stand-nak-requires
+stand-nak-requires c κs = search needs
+
+enum-told : tie.Need-enum-told
+enum-told c = search needs
 
 release-requires : tie.Need-release-requires
 release-requires c κs = search needs
 
+release-requires-2 : tie.Need-release-requires-2
+release-requires-2 c κs = search needs
+
+returns : tie.Need-returns
+returns c =
+    let the-entered = c .before .before .before .before .before .before .before .before .before .entered in
+    let the-short = c .before .before .before .before .before .before .before .before .before .before .short in
+    let the-naks-first = c .before .before .before .before .before .before .before .before .naks-first in
+    let the-if1 = c .before .before .before .before .before .before .before .if1 in
+    let a = c .before .before .before .before .before .before .before .before .before .before .before .args in
+    let the-n = c .before .before .before .n in
+    let x = the-entered .result in
+    let the-begin = c .before .before .before .before .before .nak-non-iso in
+    let the-stand-nak = c .stand-nak in (
+      λ b. stops-at (the-stand-nak .ensures) (nak-linked _ _ _ (the-n .given .1) (the-begin .ensures .1)) b
+          (nak-asks (a .setup) (λ _ u. run concrete (afterNak x) u) _ _ b (x .st) _ _ (the-n .given .1)
+          ∙ entered-nak (a .setup) (a .busy) (a .st) _ _ _ b
+          (the-entered .ensures ∙ ap (λ (z : ℕ). enteredAs (a .busy) (a .st) z) (the-short .ensures))
+          (the-begin .result) (the-begin .ensures .0 b) (tells _ _ _ (the-naks-first .ensures) (the-if1 .taken))),
+      stored-at (the-stand-nak .ensures),
+    )
+
 returns-2 : tie.Need-returns-2
 returns-2 c =
-    let the-release = c .release in
-    let a = c .before .before .before .before .before .before .args in
+    let the-entered = c .before .before .before .before .before .before .before .before .entered in
+    let the-enum-told = c .before .before .enum-told in
+    let the-short = c .before .before .before .before .before .before .before .before .before .short in
+    let the-naks-first = c .before .before .before .before .before .before .before .naks-first in
+    let the-if1 = c .before .before .before .before .before .before .if1 in
+    let a = c .before .before .before .before .before .before .before .before .before .before .args in
+    let x = the-entered .result in
+    let the-begin = c .before .before .before .before .nak-non-iso in
+    let the-release = c .release in (
+      λ b. then-on (the-release .ensures .0 b)
+          (nak-ends (a .setup) (λ _ u. run concrete (afterNak x) u) _ b (x .st) _ (the-enum-told .given .1)
+          ∙ entered-nak (a .setup) (a .busy) (a .st) _ _ _ b
+          (the-entered .ensures ∙ ap (λ (z : ℕ). enteredAs (a .busy) (a .st) z) (the-short .ensures))
+          (the-begin .result) (the-begin .ensures .0 b) (tells _ _ _ (the-naks-first .ensures) (the-if1 .taken))),
+      the-release .ensures .1,
+    )
+
+returns-3 : tie.Need-returns-3
+returns-3 c =
     let the-entered = c .before .before .before .before .entered in
     let the-short = c .before .before .before .before .before .short in
     let the-naks-first = c .before .before .before .naks-first in
-    let the-if1 = c .before .before .if1 in (
+    let the-if1 = c .before .before .if1 in
+    let a = c .before .before .before .before .before .before .args in
+    let the-release = c .release2 in (
       λ b. then-on (the-release .ensures .0 b)
-          (entered-free (a .setup) (a .busy) (a .st) _ _ _ b (the-entered .ensures
-          ∙ ap (λ (z : ℕ). enteredAs (a .busy) (a .st) z) (the-short .ensures)) (tells _ _ _ (the-naks-first .ensures) (the-if1 .left))),
+          (entered-free (a .setup) (a .busy) (a .st) _ _ _ b
+          (the-entered .ensures ∙ ap (λ (z : ℕ). enteredAs (a .busy) (a .st) z) (the-short .ensures))
+          (tells _ _ _ (the-naks-first .ensures) (the-if1 .left))),
       the-release .ensures .1,
     )
 
@@ -63,7 +97,11 @@ after-len-spec =
     entered-requires
     naks-first-requires
     nak-non-iso-requires
-    then-nak-requires
-    returns
+    enum-known-n
+    stand-nak-requires
+    enum-told
     release-requires
-    returns-2)
+    release-requires-2
+    returns
+    returns-2
+    returns-3)

@@ -1,8 +1,9 @@
-use Rattle.irq_points.specs.StandsLaws.{then-on}
-use Rattle.irq.specs.Laws.{after}
+use Rattle.irq_points.specs.StandsLaws.{stops-at, stored-at, then-on}
+use Rattle.irq.specs.Laws.{after, settle-asks, settle-ends, settle-linked}
 use Rattle.irq.specs.Continuations.{afterRelease, afterSettle}
 use Rattle.model_ops.specs.Concrete.{concrete}
 use Rattle.model.specs.Script.{run}
+use mathlib.Core.Path.{_∙_}
 use borrow.Author.Needs.{needs}
 use Rattle.irq_entry.proofs.after_released.Statement.{statement}
 use Rattle.irq_entry.proofs.after_released.Tie as tie
@@ -10,17 +11,42 @@ use Rattle.irq_entry.proofs.after_released.Tie as tie
 begin-requires : tie.Need-begin-requires
 begin-requires c κs = search needs
 
-then-settle-requires : tie.Need-then-settle-requires
-then-settle-requires c κs = c .before .begin .ensures .1
+enum-known-n : tie.Need-enum-known-n
+enum-known-n c = search needs
+
+stand-settle-requires : tie.Need-stand-settle-requires
+stand-settle-requires c κs = search needs
+
+enum-known-n-2 : tie.Need-enum-known-n-2
+enum-known-n-2 c = search needs
+
+after-settle-requires : tie.Need-after-settle-requires
+after-settle-requires c κs = search needs
 
 returns : tie.Need-returns
 unfolding afterRelease
 returns c =
-    let the-then-settle = c .then-settle in
-    let a = c .before .before .before .before .args in
-    let the-begin = c .before .before .begin in (
-      λ b. then-on (the-then-settle .ensures .0 b) (after (a .setup) (λ y u. run concrete (afterSettle y) u) _ _ (the-begin .ensures .0 b)),
-      the-then-settle .ensures .1,
+    let a = c .before .before .before .before .before .before .before .args in
+    let the-n = c .before .before .before .n in
+    let the-begin = c .before .before .before .before .before .begin in
+    let the-stand-settle = c .stand-settle in (
+      λ b. stops-at (the-stand-settle .ensures) (settle-linked _ _ _ (the-n .given .1) (the-begin .ensures .1)) b
+          (settle-asks (a .setup) (λ y u. run concrete (afterSettle y) u) _ b (a .x) _ _ _ (the-n .given .1)
+          ∙ after (a .setup) (λ y u. run concrete (afterSettle y) u) _ _ (the-begin .ensures .0 b)),
+      stored-at (the-stand-settle .ensures),
+    )
+
+returns-2 : tie.Need-returns-2
+unfolding afterRelease
+returns-2 c =
+    let the-n2 = c .before .before .before .n2 in
+    let the-begin = c .before .before .before .before .before .begin in
+    let a = c .before .before .before .before .before .before .before .args in
+    let the-after-settle = c .after-settle in (
+      λ b. then-on (the-after-settle .ensures .0 b)
+          (settle-ends (a .setup) (λ y u. run concrete (afterSettle y) u) _ b (a .x) _ _ (the-n2 .given .1)
+          ∙ after (a .setup) (λ y u. run concrete (afterSettle y) u) _ _ (the-begin .ensures .0 b)),
+      the-after-settle .ensures .1,
     )
 
 pub after-released-spec : {M : Type 1} → statement M
@@ -28,5 +54,9 @@ after-released-spec =
     tie.close
     (tie.spec
     begin-requires
-    then-settle-requires
-    returns)
+    enum-known-n
+    stand-settle-requires
+    enum-known-n-2
+    after-settle-requires
+    returns
+    returns-2)

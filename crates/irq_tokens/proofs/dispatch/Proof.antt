@@ -1,9 +1,19 @@
 use Rattle.irq_points.specs.StandsLaws.{then-on}
 use Rattle.irq.specs.Laws.{dispatched}
 use Rattle.irq.specs.Continuations.{thenCheck}
+use Rattle.regs.specs.declared.Token.{Token}
+use Rattle.regs.specs.declared.Token.the-variants as tok
+use Rattle.regs.specs.Status.{isSof, sofToken, token}
+use Prim.Native.Nat.{ℕ}
+use mathlib.Core.Bool.{true}
+use mathlib.Core.Path.{_≡_, _∙_, ap, sym}
 use borrow.Author.Needs.{needs}
 use Rattle.irq_tokens.proofs.dispatch.Statement.{statement}
 use Rattle.irq_tokens.proofs.dispatch.Tie as tie
+
+sof-told : (k : Token) (st : ℕ) → k ≡ tok.Sof → k ≡ token st → isSof st ≡ true
+unfolding isSof
+sof-told k st h l = ap sofToken (sym l ∙ h)
 
 token-requires : tie.Need-token-requires
 token-requires c κs = search needs
@@ -12,7 +22,7 @@ enum-told : tie.Need-enum-told
 enum-told c = search needs
 
 sof-arm-requires : tie.Need-sof-arm-requires
-sof-arm-requires c κs = search needs
+sof-arm-requires c κs = sof-told _ _ ((c .before .enum-told) .given .1) ((c .before .before .before .token) .ensures)
 
 enum-told-2 : tie.Need-enum-told-2
 enum-told-2 c = search needs
@@ -32,57 +42,54 @@ enum-told-4 c = search needs
 after-dispatch-requires : tie.Need-after-dispatch-requires
 after-dispatch-requires c κs = search needs
 
-same-length : tie.Need-same-length
-same-length c = search needs
-
 returns : tie.Need-returns
 returns c =
-    let the-sof-arm = c .before .before .sof-arm in
-    let a = c .before .before .before .before .before .before .before .before .before .args in
-    let the-enum-told = c .before .before .before .before .before .enum-told in
-    let the-token = c .before .before .before .before .before .before .before .token in (
-      then-on (the-sof-arm .ensures .0)
+    let the-enum-told = c .before .before .enum-told in
+    let the-token = c .before .before .before .before .token in
+    let a = c .before .before .before .before .before .before .args in
+    let the-sof-arm = c .sof-arm in (
+      then-on (the-sof-arm .ensures .0 _)
           (dispatched (thenCheck (a .setup) (a .x) (a .iso)) (a .x) (a .iso) (a .frame) _ _ _ _ (the-enum-told .given .1) (the-token .ensures)),
       the-sof-arm .ensures .1,
     )
 
-same-length-2 : tie.Need-same-length-2
-same-length-2 c = search needs
+same-length : tie.Need-same-length
+same-length c = search needs
 
 returns-2 : tie.Need-returns-2
 returns-2 c =
-    let the-out-arm = c .before .before .out-arm in
-    let a = c .before .before .before .before .before .before .before .before .before .args in
     let the-enum-told2 = c .before .before .before .before .before .enum-told2 in
-    let the-token = c .before .before .before .before .before .before .before .token in (
+    let the-token = c .before .before .before .before .before .before .before .token in
+    let a = c .before .before .before .before .before .before .before .before .before .args in
+    let the-out-arm = c .before .before .out-arm in (
       then-on (the-out-arm .ensures .0)
           (dispatched (thenCheck (a .setup) (a .x) (a .iso)) (a .x) (a .iso) (a .frame) _ _ _ _ (the-enum-told2 .given .1) (the-token .ensures)),
       the-out-arm .ensures .1,
     )
 
-same-length-3 : tie.Need-same-length-3
-same-length-3 c = search needs
+same-length-2 : tie.Need-same-length-2
+same-length-2 c = search needs
 
 returns-3 : tie.Need-returns-3
 returns-3 c =
-    let the-in-arm = c .before .before .in-arm in
-    let a = c .before .before .before .before .before .before .before .before .before .args in
     let the-enum-told3 = c .before .before .before .before .before .enum-told3 in
-    let the-token = c .before .before .before .before .before .before .before .token in (
+    let the-token = c .before .before .before .before .before .before .before .token in
+    let a = c .before .before .before .before .before .before .before .before .before .args in
+    let the-in-arm = c .before .before .in-arm in (
       then-on (the-in-arm .ensures .0)
           (dispatched (thenCheck (a .setup) (a .x) (a .iso)) (a .x) (a .iso) (a .frame) _ _ _ _ (the-enum-told3 .given .1) (the-token .ensures)),
       the-in-arm .ensures .1,
     )
 
-same-length-4 : tie.Need-same-length-4
-same-length-4 c = search needs
+same-length-3 : tie.Need-same-length-3
+same-length-3 c = search needs
 
 returns-4 : tie.Need-returns-4
 returns-4 c =
-    let the-after-dispatch = c .before .before .after-dispatch in
-    let a = c .before .before .before .before .before .before .before .before .before .args in
     let the-enum-told4 = c .before .before .before .before .before .enum-told4 in
-    let the-token = c .before .before .before .before .before .before .before .token in (
+    let the-token = c .before .before .before .before .before .before .before .token in
+    let a = c .before .before .before .before .before .before .before .before .before .args in
+    let the-after-dispatch = c .before .before .after-dispatch in (
       then-on (the-after-dispatch .ensures .0)
           (dispatched (thenCheck (a .setup) (a .x) (a .iso)) (a .x) (a .iso) (a .frame) _ _ _ _ (the-enum-told4 .given .1) (the-token .ensures)),
       the-after-dispatch .ensures .1,
@@ -101,11 +108,10 @@ dispatch-spec =
     in-arm-requires
     enum-told-4
     after-dispatch-requires
-    same-length
     returns
-    same-length-2
+    same-length
     returns-2
-    same-length-3
+    same-length-2
     returns-3
-    same-length-4
+    same-length-3
     returns-4)

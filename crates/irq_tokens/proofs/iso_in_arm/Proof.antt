@@ -1,5 +1,5 @@
-use Rattle.irq_points.specs.StandsLaws.{then-on}
-use Rattle.irq.specs.Laws.{after, in-frame, paced-told, tells, test-yes}
+use Rattle.irq_points.specs.StandsLaws.{stops-at, stored-at, then-on}
+use Rattle.irq.specs.Laws.{after, complete-asks, complete-ends, complete-linked, in-frame, paced-told, tells, test-yes}
 use Rattle.irq.specs.Continuations.{afterDispatch, thenCheck}
 use Rattle.model_ops.specs.Concrete.{concrete}
 use Rattle.model.specs.Script.{run}
@@ -26,12 +26,12 @@ same-length c = search needs
 
 returns : tie.Need-returns
 returns c =
-    let the-after-dispatch = c .before .before .after-dispatch in
-    let a = c .before .before .before .before .before .before .before .before .before .before .before .args in
     let the-mask-has = c .before .before .before .before .before .before .mask-has in
     let the-load-globals = c .before .before .before .before .before .before .before .load-globals in
     let the-endpoint = c .before .before .before .before .before .before .before .before .before .endpoint in
-    let the-if1 = c .before .before .before .before .before .if1 in (
+    let the-if1 = c .before .before .before .before .before .if1 in
+    let a = c .before .before .before .before .before .before .before .before .before .before .before .args in
+    let the-after-dispatch = c .before .before .after-dispatch in (
       then-on (the-after-dispatch .ensures .0)
           (test-yes (thenCheck (a .setup) (a .x) (a .iso)) _ _ _
           (paced-told _ _ _ _ _ _ (the-mask-has .ensures) (the-load-globals .ensures) (the-endpoint .ensures) (the-if1 .taken))),
@@ -44,54 +44,86 @@ first-in-frame-requires c κs = search needs
 iso-in-complete-requires : tie.Need-iso-in-complete-requires
 iso-in-complete-requires c κs = search needs
 
-then-complete-requires : tie.Need-then-complete-requires
-then-complete-requires c κs =
-    let the-begin = c .before .before .iso-in-complete in
-    the-begin .ensures .1 .1
+enum-known-n : tie.Need-enum-known-n
+enum-known-n c = search needs
 
-same-length-2 : tie.Need-same-length-2
-same-length-2 c = search needs
+stand-completing-requires : tie.Need-stand-completing-requires
+stand-completing-requires c κs = search needs
 
-returns-2 : tie.Need-returns-2
-returns-2 c =
-    let the-then-complete = c .before .before .then-complete in
-    let a = c .before .before .before .before .before .before .before .before .before .before .before .before .before .before .before .before .args in
-    let the-begin = c .before .before .before .before .before .iso-in-complete in
-    let the-endpoint = c .before .before .before .before .before .before .before .before .before .before .before .before .before .before .endpoint in
-    let the-first-in-frame = c .before .before .before .before .before .before .before .before .first-in-frame in
-    let the-if2 = c .before .before .before .before .before .before .before .if2 in
-    let the-mask-has = c .before .before .before .before .before .before .before .before .before .before .before .mask-has in
-    let the-load-globals = c .before .before .before .before .before .before .before .before .before .before .before .before .load-globals in
-    let the-if1 = c .before .before .before .before .before .before .before .before .before .before .if1 in (
-      then-on (the-then-complete .ensures .0)
-          (after (a .setup) (λ _ u. run concrete (afterDispatch (a .x) (a .iso)) u) _ _ (the-begin .ensures .0 _)
-          ∙ in-frame (thenCheck (a .setup) (a .x) (a .iso)) _ _ _ _ _ ((a .x) .st) true (the-endpoint .ensures)
-          (the-first-in-frame .ensures .1 .0) (tells _ _ _ (the-first-in-frame .ensures .0) (the-if2 .taken))
-          (paced-told _ _ _ _ _ _ (the-mask-has .ensures) (the-load-globals .ensures) (the-endpoint .ensures) (the-if1 .left))),
-      the-then-complete .ensures .1,
-    )
+enum-told : tie.Need-enum-told
+enum-told c = search needs
 
 after-dispatch-requires-2 : tie.Need-after-dispatch-requires-2
 after-dispatch-requires-2 c κs = search needs
 
-same-length-3 : tie.Need-same-length-3
-same-length-3 c = search needs
+after-dispatch-requires-3 : tie.Need-after-dispatch-requires-3
+after-dispatch-requires-3 c κs = search needs
+
+returns-2 : tie.Need-returns-2
+returns-2 c =
+    let early = c .before .before .before .before .before .before .before .before .before in
+    let the-if2 = c .before .before .before .before .before .before .before .if2 in
+    let the-mask-has = c .before .before .before .before .before .before .before .before .before .before .before .mask-has in
+    let the-load-globals = early .before .before .before .load-globals in
+    let the-if1 = c .before .before .before .before .before .before .before .before .before .before .if1 in
+    let a = early .before .before .before .before .before .before .before .args in
+    let the-n = c .before .before .before .n in
+    let the-begin = c .before .before .before .before .before .iso-in-complete in
+    let the-endpoint = early .before .before .before .before .before .endpoint in
+    let the-first-in-frame = c .before .before .before .before .before .before .before .before .first-in-frame in
+    let the-stand-completing = c .stand-completing in (
+      stops-at (the-stand-completing .ensures) (complete-linked _ _ _ (the-n .given .1) (the-begin .ensures .1 .1)) _
+          (complete-asks (a .setup) (λ _ u. run concrete (afterDispatch (a .x) (a .iso)) u) _ _ _ _ _ (the-n .given .1)
+          ∙ (after (a .setup) (λ _ u. run concrete (afterDispatch (a .x) (a .iso)) u) _ _ (the-begin .ensures .0 _)
+          ∙ in-frame (thenCheck (a .setup) (a .x) (a .iso)) _ _ _ _ _ ((a .x) .st) true (the-endpoint .ensures)
+          (the-first-in-frame .ensures .1 .0) (tells _ _ _ (the-first-in-frame .ensures .0) (the-if2 .taken))
+          (paced-told _ _ _ _ _ _ (the-mask-has .ensures) (the-load-globals .ensures) (the-endpoint .ensures) (the-if1 .left)))),
+      stored-at (the-stand-completing .ensures),
+    )
+
+same-length-2 : tie.Need-same-length-2
+same-length-2 c = search needs
 
 returns-3 : tie.Need-returns-3
 returns-3 c =
-    let the-after-dispatch2 = c .before .before .after-dispatch2 in
-    let a = c .before .before .before .before .before .before .before .before .before .before .before .before .before .before .args in
-    let the-endpoint = c .before .before .before .before .before .before .before .before .before .before .before .before .endpoint in
-    let the-first-in-frame = c .before .before .before .before .before .before .first-in-frame in
+    let early = c .before .before .before .before .before .before .before .before .before in
+    let the-enum-told = c .before .before .before .before .before .enum-told in
+    let the-if2 = c .before .before .before .before .before .before .before .before .before .if2 in
+    let the-mask-has = early .before .before .before .before .mask-has in
+    let the-load-globals = early .before .before .before .before .before .load-globals in
+    let the-if1 = early .before .before .before .if1 in
+    let a = early .before .before .before .before .before .before .before .before .before .args in
+    let the-begin = c .before .before .before .before .before .before .before .iso-in-complete in
+    let the-endpoint = early .before .before .before .before .before .before .before .endpoint in
+    let the-first-in-frame = c .before .before .before .before .before .before .before .before .before .before .first-in-frame in
+    let the-after-dispatch = c .before .before .after-dispatch2 in (
+      then-on (the-after-dispatch .ensures .0)
+          (complete-ends (a .setup) (λ _ u. run concrete (afterDispatch (a .x) (a .iso)) u) _ _ _ (the-enum-told .given .1)
+          ∙ (after (a .setup) (λ _ u. run concrete (afterDispatch (a .x) (a .iso)) u) _ _ (the-begin .ensures .0 _)
+          ∙ in-frame (thenCheck (a .setup) (a .x) (a .iso)) _ _ _ _ _ ((a .x) .st) true (the-endpoint .ensures)
+          (the-first-in-frame .ensures .1 .0) (tells _ _ _ (the-first-in-frame .ensures .0) (the-if2 .taken))
+          (paced-told _ _ _ _ _ _ (the-mask-has .ensures) (the-load-globals .ensures) (the-endpoint .ensures) (the-if1 .left)))),
+      the-after-dispatch .ensures .1,
+    )
+
+same-length-3 : tie.Need-same-length-3
+same-length-3 c = search needs
+
+returns-4 : tie.Need-returns-4
+returns-4 c =
     let the-if2 = c .before .before .before .before .before .if2 in
     let the-mask-has = c .before .before .before .before .before .before .before .before .before .mask-has in
     let the-load-globals = c .before .before .before .before .before .before .before .before .before .before .load-globals in
-    let the-if1 = c .before .before .before .before .before .before .before .before .if1 in (
-      then-on (the-after-dispatch2 .ensures .0)
+    let the-if1 = c .before .before .before .before .before .before .before .before .if1 in
+    let a = c .before .before .before .before .before .before .before .before .before .before .before .before .before .before .args in
+    let the-endpoint = c .before .before .before .before .before .before .before .before .before .before .before .before .endpoint in
+    let the-first-in-frame = c .before .before .before .before .before .before .first-in-frame in
+    let the-after-dispatch = c .before .before .after-dispatch3 in (
+      then-on (the-after-dispatch .ensures .0)
           (in-frame (thenCheck (a .setup) (a .x) (a .iso)) _ _ _ _ _ ((a .x) .st) false (the-endpoint .ensures)
           (the-first-in-frame .ensures .1 .0) (tells _ _ _ (the-first-in-frame .ensures .0) (the-if2 .left))
           (paced-told _ _ _ _ _ _ (the-mask-has .ensures) (the-load-globals .ensures) (the-endpoint .ensures) (the-if1 .left))),
-      the-after-dispatch2 .ensures .1,
+      the-after-dispatch .ensures .1,
     )
 
 pub iso-in-arm-spec : {M : Type 1} → statement M
@@ -106,9 +138,13 @@ iso-in-arm-spec =
     returns
     first-in-frame-requires
     iso-in-complete-requires
-    then-complete-requires
-    same-length-2
-    returns-2
+    enum-known-n
+    stand-completing-requires
+    enum-told
     after-dispatch-requires-2
+    after-dispatch-requires-3
+    returns-2
+    same-length-2
+    returns-3
     same-length-3
-    returns-3)
+    returns-4)

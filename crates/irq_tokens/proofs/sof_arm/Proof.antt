@@ -1,6 +1,7 @@
-use Rattle.irq_points.specs.StandsLaws.{then-on}
-use Rattle.irq.specs.Laws.{after, sof-handled, when-no, when-yes}
+use Rattle.irq_points.specs.StandsLaws.{stops-at, stored-at, then-on}
+use Rattle.irq.specs.Laws.{after, sof-asks, sof-ends, sof-handled, sof-linked, when-no, when-yes}
 use Rattle.irq.specs.Continuations.{afterDispatch}
+use Rattle.irq_check.specs.SofLaws.{sof-over}
 use Rattle.model_ops.specs.Concrete.{concrete}
 use Rattle.model.specs.IsoIn.{onSof}
 use Rattle.model.specs.Script.{run}
@@ -13,47 +14,70 @@ use Rattle.irq_tokens.proofs.sof_arm.Tie as tie
 load-globals-requires : tie.Need-load-globals-requires
 load-globals-requires c κs = search needs
 
-after-dispatch-requires : tie.Need-after-dispatch-requires
-after-dispatch-requires c κs = search needs
-
-same-length : tie.Need-same-length
-same-length c = search needs
+after-transfer-requires : tie.Need-after-transfer-requires
+after-transfer-requires c κs = search needs
 
 returns : tie.Need-returns
 returns c =
-    let the-after-dispatch = c .before .before .after-dispatch in
-    let a = c .before .before .before .before .before .before .before .before .before .before .args in
-    let the-load-globals = c .before .before .before .before .before .before .before .load-globals in
-    let the-if1 = c .before .before .before .before .before .if1 in (
-      then-on (the-after-dispatch .ensures .0)
-          (when-no (a .setup) (onSof (a .frame)) (λ _ u. run concrete (afterDispatch (a .x) (a .iso)) u) _ _
+    let the-pre = c .before .before .before .before .before .before .pre in
+    let the-load-globals = c .before .before .before .before .load-globals in
+    let the-if1 = c .before .before .if1 in
+    let a = c .before .before .before .before .before .before .args in
+    let the-after-transfer = c .after-transfer in (
+      λ b. then-on (the-after-transfer .ensures .0 b)
+          (sof-over (a .setup) (a .x) (a .iso) _ (the-pre)
+          ∙ when-no (a .setup) (onSof (a .frame)) (λ _ u. run concrete (afterDispatch (a .x) (a .iso)) u) _ _
           (sof-handled _ _ _ _ (the-load-globals .ensures) (eq-eqb _ _ (the-if1 .taken)))),
-      the-after-dispatch .ensures .1,
+      the-after-transfer .ensures .1,
     )
 
 on-sof-requires : tie.Need-on-sof-requires
 on-sof-requires c κs = search needs
 
-then-sof-arm-requires : tie.Need-then-sof-arm-requires
-then-sof-arm-requires c κs =
-    let the-begin = c .before .before .on-sof in
-    the-begin .ensures .1 .1
+enum-known-n : tie.Need-enum-known-n
+enum-known-n c = search needs
 
-same-length-2 : tie.Need-same-length-2
-same-length-2 c = search needs
+stand-sof-arm-requires : tie.Need-stand-sof-arm-requires
+stand-sof-arm-requires c κs = search needs
+
+enum-told : tie.Need-enum-told
+enum-told c = search needs
+
+after-transfer-requires-2 : tie.Need-after-transfer-requires-2
+after-transfer-requires-2 c κs = search needs
 
 returns-2 : tie.Need-returns-2
 returns-2 c =
-    let the-then-sof-arm = c .before .before .then-sof-arm in
-    let a = c .before .before .before .before .before .before .before .before .before .before .before .before .args in
-    let the-begin = c .before .before .before .before .before .on-sof in
     let the-load-globals = c .before .before .before .before .before .before .before .before .before .load-globals in
-    let the-if1 = c .before .before .before .before .before .before .before .if1 in (
-      then-on (the-then-sof-arm .ensures .0)
-          (after (a .setup) (λ _ u. run concrete (afterDispatch (a .x) (a .iso)) u) _ _ (the-begin .ensures .0 _)
+    let the-if1 = c .before .before .before .before .before .before .before .if1 in
+    let a = c .before .before .before .before .before .before .before .before .before .before .before .args in
+    let the-n = c .before .before .before .n in
+    let the-begin = c .before .before .before .before .before .on-sof in
+    let the-stand-sof-arm = c .stand-sof-arm in (
+      λ b. stops-at (the-stand-sof-arm .ensures) (sof-linked _ _ _ (the-n .given .1) (the-begin .ensures .1 .1)) b
+          (sof-asks (a .setup) (λ _ u. run concrete (afterDispatch (a .x) (a .iso)) u) _ _ b (a .frame) _ _ (the-n .given .1)
+          ∙ (after (a .setup) (λ _ u. run concrete (afterDispatch (a .x) (a .iso)) u) _ _ (the-begin .ensures .0 b)
           ∙ when-yes (a .setup) (onSof (a .frame)) (λ _ u. run concrete (afterDispatch (a .x) (a .iso)) u) _ _
-          (sof-handled _ _ _ _ (the-load-globals .ensures) (ne-eqb _ _ (the-if1 .left)))),
-      the-then-sof-arm .ensures .1,
+          (sof-handled _ _ _ _ (the-load-globals .ensures) (ne-eqb _ _ (the-if1 .left))))),
+      stored-at (the-stand-sof-arm .ensures),
+    )
+
+returns-3 : tie.Need-returns-3
+returns-3 c =
+    let the-pre = c .before .before .before .before .before .before .before .before .before .before .pre in
+    let the-enum-told = c .before .before .enum-told in
+    let the-load-globals = c .before .before .before .before .before .before .before .before .load-globals in
+    let the-if1 = c .before .before .before .before .before .before .if1 in
+    let a = c .before .before .before .before .before .before .before .before .before .before .args in
+    let the-begin = c .before .before .before .before .on-sof in
+    let the-after-transfer = c .after-transfer2 in (
+      λ b. then-on (the-after-transfer .ensures .0 b)
+          (sof-over (a .setup) (a .x) (a .iso) _ (the-pre)
+          ∙ (sof-ends (a .setup) (λ _ u. run concrete (afterDispatch (a .x) (a .iso)) u) _ b (a .frame) _ (the-enum-told .given .1)
+          ∙ (after (a .setup) (λ _ u. run concrete (afterDispatch (a .x) (a .iso)) u) _ _ (the-begin .ensures .0 b)
+          ∙ when-yes (a .setup) (onSof (a .frame)) (λ _ u. run concrete (afterDispatch (a .x) (a .iso)) u) _ _
+          (sof-handled _ _ _ _ (the-load-globals .ensures) (ne-eqb _ _ (the-if1 .left)))))),
+      the-after-transfer .ensures .1,
     )
 
 pub sof-arm-spec : {M : Type 1} → statement M
@@ -61,10 +85,12 @@ sof-arm-spec =
     tie.close
     (tie.spec
     load-globals-requires
-    after-dispatch-requires
-    same-length
+    after-transfer-requires
     returns
     on-sof-requires
-    then-sof-arm-requires
-    same-length-2
-    returns-2)
+    enum-known-n
+    stand-sof-arm-requires
+    enum-told
+    after-transfer-requires-2
+    returns-2
+    returns-3)

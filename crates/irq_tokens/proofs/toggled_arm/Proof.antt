@@ -1,8 +1,10 @@
-use Rattle.irq_points.specs.StandsLaws.{then-on}
-use Rattle.irq.specs.Laws.{toggled-from}
+use Rattle.irq_points.specs.StandsLaws.{stops-at, stored-at, then-on}
+use Rattle.irq.specs.Laws.{toggled-asks, toggled-ends, toggled-from, toggled-linked}
 use Rattle.irq.specs.Continuations.{afterDispatch, afterToggled}
 use Rattle.model_ops.specs.Concrete.{concrete}
+use Rattle.regs.specs.Status.{endpoint}
 use Rattle.model.specs.Script.{run}
+use mathlib.Core.Path.{_∙_}
 use borrow.Author.Needs.{needs}
 use Rattle.irq_tokens.proofs.toggled_arm.Statement.{statement}
 use Rattle.irq_tokens.proofs.toggled_arm.Tie as tie
@@ -13,24 +15,51 @@ endpoint-requires c κs = search needs
 begin-requires : tie.Need-begin-requires
 begin-requires c κs = search needs
 
-then-toggled-requires : tie.Need-then-toggled-requires
-then-toggled-requires c κs =
-    let the-begin = c .before .before .begin in
-    the-begin .ensures .1
+enum-known-n : tie.Need-enum-known-n
+enum-known-n c = search needs
+
+stand-toggled-requires : tie.Need-stand-toggled-requires
+stand-toggled-requires c κs = search needs
+
+enum-known-n-2 : tie.Need-enum-known-n-2
+enum-known-n-2 c = search needs
+
+after-passing-requires : tie.Need-after-passing-requires
+after-passing-requires c κs = search needs
+
+returns : tie.Need-returns
+returns c =
+    let the-endpoint = c .before .before .before .before .before .before .endpoint in
+    let a = c .before .before .before .before .before .before .before .before .args in
+    let the-n = c .before .before .before .n in
+    let the-begin = c .before .before .before .before .before .begin in
+    let the-stand-toggled = c .stand-toggled in (
+      stops-at (the-stand-toggled .ensures) (toggled-linked _ _ _ (the-n .given .1) (the-begin .ensures .1)) _
+          (toggled-asks (a .setup) (λ _ u. run concrete (afterDispatch (a .x) (a .iso)) u)
+          (λ z u. run concrete (afterToggled (a .d) (a .x) z) u) _ _ (a .d) (endpoint ((a .x) .st)) _ _ _ (the-n .given .1)
+          ∙ toggled-from (a .setup) (λ _ u. run concrete (afterDispatch (a .x) (a .iso)) u)
+          (λ z u. run concrete (afterToggled (a .d) (a .x) z) u)
+          (a .d) _ _ (the-begin .result) _ _ (the-endpoint .ensures) (the-begin .ensures .0 _ _)),
+      stored-at (the-stand-toggled .ensures),
+    )
 
 same-length : tie.Need-same-length
 same-length c = search needs
 
-returns : tie.Need-returns
-returns c =
-    let the-then-toggled = c .before .before .then-toggled in
-    let a = c .before .before .before .before .before .before .before .before .args in
-    let the-begin = c .before .before .before .before .before .begin in
-    let the-endpoint = c .before .before .before .before .before .before .endpoint in (
-      then-on (the-then-toggled .ensures .0)
-          (toggled-from (a .setup) (λ _ u. run concrete (afterDispatch (a .x) (a .iso)) u) (λ z u. run concrete (afterToggled (a .d) (a .x) z) u)
+returns-2 : tie.Need-returns-2
+returns-2 c =
+    let the-n2 = c .before .before .before .before .before .before .n2 in
+    let the-endpoint = c .before .before .before .before .before .before .before .before .before .endpoint in
+    let a = c .before .before .before .before .before .before .before .before .before .before .before .args in
+    let the-begin = c .before .before .before .before .before .before .before .before .begin in
+    let the-after-passing = c .before .before .after-passing in (
+      then-on (the-after-passing .ensures .0)
+          (toggled-ends (a .setup) (λ _ u. run concrete (afterDispatch (a .x) (a .iso)) u)
+          (λ z u. run concrete (afterToggled (a .d) (a .x) z) u) _ _ (a .d) (endpoint ((a .x) .st)) _ _ (the-n2 .given .1)
+          ∙ toggled-from (a .setup) (λ _ u. run concrete (afterDispatch (a .x) (a .iso)) u)
+          (λ z u. run concrete (afterToggled (a .d) (a .x) z) u)
           (a .d) _ _ (the-begin .result) _ _ (the-endpoint .ensures) (the-begin .ensures .0 _ _)),
-      the-then-toggled .ensures .1,
+      the-after-passing .ensures .1,
     )
 
 pub toggled-arm-spec : {M : Type 1} → statement M
@@ -39,6 +68,10 @@ toggled-arm-spec =
     (tie.spec
     endpoint-requires
     begin-requires
-    then-toggled-requires
+    enum-known-n
+    stand-toggled-requires
+    enum-known-n-2
+    after-passing-requires
+    returns
     same-length
-    returns)
+    returns-2)

@@ -1,6 +1,7 @@
 use Rattle.irq_points.specs.StandsLaws.{then-on}
 use Rattle.irq.specs.Laws.{after, tells-of, when-no, when-yes}
-use Rattle.irq.specs.Continuations.{afterSof, serving, sofDue}
+use Rattle.irq.specs.Continuations.{afterLate, afterSof, serving, sofDue}
+use Rattle.iso_in.specs.Late.{lateAll}
 use Rattle.model_ops.specs.Concrete.{concrete}
 use Rattle.model.specs.IsoIn.{onSof}
 use Rattle.model.specs.Script.{run}
@@ -20,9 +21,7 @@ on-sof-requires : tie.Need-on-sof-requires
 on-sof-requires c κs = search needs
 
 then-sof-requires : tie.Need-then-sof-requires
-then-sof-requires c κs =
-    let the-begin = c .before .before .on-sof in
-    the-begin .ensures .1 .1
+then-sof-requires c κs = c .before .before .on-sof .ensures .1 .1
 
 same-length : tie.Need-same-length
 same-length c = search needs
@@ -30,39 +29,69 @@ same-length c = search needs
 returns : tie.Need-returns
 unfolding serving
 returns c =
-    let the-then-sof = c .before .before .then-sof in
-    let a = c .before .before .before .before .before .before .before .before .before .before .before .before .args in
-    let the-begin = c .before .before .before .before .before .on-sof in
+    let the-on-sof = c .before .before .before .before .before .on-sof in
     let the-sof-due = c .before .before .before .before .before .before .before .before .sof-due in
     let the-load-globals = c .before .before .before .before .before .before .before .before .before .load-globals in
-    let the-if1 = c .before .before .before .before .before .before .before .if1 in (
+    let the-if1 = c .before .before .before .before .before .before .before .if1 in
+    let a = c .before .before .before .before .before .before .before .before .before .before .before .before .args in
+    let the-then-sof = c .before .before .then-sof in (
       then-on (the-then-sof .ensures .0)
-          (after (a .setup) (λ _ u. run concrete (afterSof (a .x) (a .iso) (a .frame)) u) _ _ (the-begin .ensures .0 _)
+          (after (a .setup) (λ _ u. run concrete (afterSof (a .x) (a .iso) (a .frame)) u) _ _ (the-on-sof .ensures .0 _)
           ∙ when-yes (a .setup) (onSof (a .frame)) (λ _ u. run concrete (afterSof (a .x) (a .iso) (a .frame)) u) _ _
           (tells-of (λ (z : Globals). sofDue (a .x) (z .«sof_frame») (a .frame)) _ _ _ _
           (the-sof-due .ensures) (the-load-globals .ensures) (the-if1 .taken))),
       the-then-sof .ensures .1,
     )
 
-after-sof-requires : tie.Need-after-sof-requires
-after-sof-requires c κs = search needs
+begin-requires : tie.Need-begin-requires
+begin-requires c κs = search needs
+
+then-late-requires : tie.Need-then-late-requires
+then-late-requires c κs = c .before .before .begin .ensures .1 .1
 
 same-length-2 : tie.Need-same-length-2
 same-length-2 c = search needs
 
 returns-2 : tie.Need-returns-2
-unfolding serving
+unfolding serving afterSof
 returns-2 c =
-    let the-after-sof = c .before .before .after-sof in
-    let a = c .before .before .before .before .before .before .before .before .before .before .args in
-    let the-sof-due = c .before .before .before .before .before .before .sof-due in
-    let the-load-globals = c .before .before .before .before .before .before .before .load-globals in
-    let the-if1 = c .before .before .before .before .before .if1 in (
-      then-on (the-after-sof .ensures .0)
-          (when-no (a .setup) (onSof (a .frame)) (λ _ u. run concrete (afterSof (a .x) (a .iso) (a .frame)) u) _ _
+    let the-begin = c .before .before .before .before .before .begin in
+    let the-if2 = c .before .before .before .before .before .before .before .if2 in
+    let the-sof-due = c .before .before .before .before .before .before .before .before .before .sof-due in
+    let the-load-globals = c .before .before .before .before .before .before .before .before .before .before .load-globals in
+    let the-if1 = c .before .before .before .before .before .before .before .before .if1 in
+    let a = c .before .before .before .before .before .before .before .before .before .before .before .before .before .args in
+    let the-then-late = c .before .before .then-late in (
+      then-on (the-then-late .ensures .0)
+          (after (a .setup) (λ _ u. run concrete (afterLate (a .x) (a .iso) (a .frame)) u) _ _ (the-begin .ensures .0 _)
+          ∙ (when-yes (a .setup) (lateAll (a .frame)) (λ _ u. run concrete (afterLate (a .x) (a .iso) (a .frame)) u) _ _ (the-if2 .taken)
+          ∙ when-no (a .setup) (onSof (a .frame)) (λ _ u. run concrete (afterSof (a .x) (a .iso) (a .frame)) u) _ _
+          (tells-of (λ (z : Globals). sofDue (a .x) (z .«sof_frame») (a .frame)) _ _ _ _
+          (the-sof-due .ensures) (the-load-globals .ensures) (the-if1 .left)))),
+      the-then-late .ensures .1,
+    )
+
+after-late-requires : tie.Need-after-late-requires
+after-late-requires c κs = search needs
+
+same-length-3 : tie.Need-same-length-3
+same-length-3 c = search needs
+
+returns-3 : tie.Need-returns-3
+unfolding serving afterSof
+returns-3 c =
+    let the-if2 = c .before .before .before .before .before .if2 in
+    let the-sof-due = c .before .before .before .before .before .before .before .sof-due in
+    let the-load-globals = c .before .before .before .before .before .before .before .before .load-globals in
+    let the-if1 = c .before .before .before .before .before .before .if1 in
+    let a = c .before .before .before .before .before .before .before .before .before .before .before .args in
+    let the-after-late = c .before .before .after-late in (
+      then-on (the-after-late .ensures .0)
+          (when-no (a .setup) (lateAll (a .frame)) (λ _ u. run concrete (afterLate (a .x) (a .iso) (a .frame)) u) _ _ (the-if2 .left)
+          ∙ when-no (a .setup) (onSof (a .frame)) (λ _ u. run concrete (afterSof (a .x) (a .iso) (a .frame)) u) _ _
           (tells-of (λ (z : Globals). sofDue (a .x) (z .«sof_frame») (a .frame)) _ _ _ _
           (the-sof-due .ensures) (the-load-globals .ensures) (the-if1 .left))),
-      the-after-sof .ensures .1,
+      the-after-late .ensures .1,
     )
 
 pub serve-spec : {M : Type 1} → statement M
@@ -75,6 +104,10 @@ serve-spec =
     then-sof-requires
     same-length
     returns
-    after-sof-requires
+    begin-requires
+    then-late-requires
     same-length-2
-    returns-2)
+    returns-2
+    after-late-requires
+    same-length-3
+    returns-3)
