@@ -33,6 +33,7 @@ pub mod Steps
 pub mod StepsInterrupt
 pub mod StepsRequests
 pub mod StepsCalls
+pub mod StepsKinds
 pub mod StepsRuns
 pub mod StepsRunsLaws
 pub mod MachineKept

@@ -1,7 +1,6 @@
 -- Laws on the definitions of MachineKept.antt: each call keeps what each script keeps
 use mathlib.Core.Bool.{Bool, true, false, cond}
-use mathlib.Core.List.{List, [], _∷_}
-use mathlib.Core.Path.{_≡_, refl, subst, sym}
+use mathlib.Core.Path.{_≡_, refl}
 use Prim.Native.Nat.{ℕ, zero, suc}
 use Rattle.model.specs.Tree as tree
 use Rattle.model.specs.Machine.{Buf, Call, start, begin, go, question, Ans, Way, idle, busy, Machine, Calls}
@@ -34,8 +33,12 @@ module _ {C Op A S : Type 0} {L : Calls C Op A} {D : Instance C S} {K : S → Ty
   continued-kept v m k idle h b = lent-kept b k
   continued-kept v m k (busy i q f) h b = either (over L q v) _ _ (lent-kept b k) (halted i (h v (m .st, b) (k .state)))
 
+  -- an accepted start-up, on whatever was before
+  pub start-kept : (c : C) (m : Machine A S) (b : Buf) → L .refuses c b ≡ zero → Kept K (started L D (λ s. s) c zero m b .1)
+  start-kept c m b row = halted false (p .starts c (D .fresh c, b) (p .fresh c b row))
+
   started-kept : (c : C) (n : ℕ) (m : Machine A S) → Kept K m → (b : Buf) → L .refuses c b ≡ n → Kept K (started L D (λ s. s) c n m b .1)
-  started-kept c zero m k b row = halted false (p .starts c (D .fresh c, b) (p .fresh c b row))
+  started-kept c zero m k b row = start-kept c m b row
   started-kept c (suc n) m k b row = k
 
   pub call-kept : (c : Call C Op) (m : Machine A S) → Kept K m → (b : Buf) → Kept K (call L D (λ s. s) c m b .1)
@@ -43,8 +46,3 @@ module _ {C Op A S : Type 0} {L : Calls C Op A} {D : Instance C S} {K : S → Ty
   call-kept (begin o) m k b = either (cond (L .slots o) (misfit L D (m .st) b) false) _ _ k (begun-kept o m k (m .way) b)
   call-kept (go v) m k b = either (misfit L D (m .st) b) _ _ k (continued-kept v m k (m .way) (k .way) b)
   call-kept (question q) m k b = lent-kept b k
-
-  -- an accepted start-up, on whatever was before
-  pub accepted : (c : C) (m : Machine A S) (b : Buf) → L .refuses c b ≡ zero → Kept K (call L D (λ s. s) (start c) m b .1)
-  accepted c m b row = subst (λ n. Kept K (started L D (λ s. s) c n m b .1)) (sym row)
-      (halted false (p .starts c (D .fresh c, b) (p .fresh c b row)))

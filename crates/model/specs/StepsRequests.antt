@@ -133,7 +133,7 @@ of-begin-write e bs = (
   ),
 )
 
-of-acks : (k : Kind) (d : Dir) (first : Bool) → Steps k (acks {i = false} d first)
+pub of-acks : (k : Kind) (d : Dir) (first : Bool) → Steps k (acks {i = false} d first)
 of-acks k d true = (control k d (wordOf ACK DATA1 false), tt)
 of-acks k d false = ((tt, λ _. tt), λ w. (control k d (ack w), tt))
 

@@ -2,10 +2,11 @@
 use mathlib.Core.Bool.{Bool, true, false, not, _||_, true≢false}
 use mathlib.Core.Path.{_≡_, refl, subst, sym}
 use Prim.Native.Nat.{ℕ, zero, suc}
+use lib.Dec.{eqb}
 use borrow.Author.Tests.{eqb-true}
 use Rattle.regs.specs.declared.Access.{Access}
 use Rattle.regs.specs.declared.Reg.{Reg}
-use Rattle.regs.specs.declared.Reg.the-variants.{DevAd, EpConfig}
+use Rattle.regs.specs.declared.Reg.the-variants.{IntFg, DevAd, EpConfig}
 use Rattle.regs.specs.Registers.{numberOf}
 use Rattle.model.specs.Tree as tree
 use Rattle.model.specs.Tree.{bindOut}
@@ -14,7 +15,7 @@ use Rattle.model.specs.Script.{put-then, is-then, look-then, fetch-then,
 use Rattle.model.specs.Script.{rows, DmaStep, dmaStepAsk, Burst, burstAsk, switch, bus-reset, lastOf}
 use Rattle.model.specs.Every.{sameReg}
 use Rattle.model.specs.EveryLaws.{Only}
-use Rattle.model.specs.Steps.{Kind, turning, resetting, queueing, is, mayAddress, mayWrite, mayAsk}
+use Rattle.model.specs.Steps.{Kind, turning, resetting, queueing, codeOf, is, mayAddress, mayWrite, mayAsk}
 use Rattle.model.specs.Steps.{mayPut, mayAct, mayRow, If, Asks, Steps}
 use Rattle.model.specs.StepsRuns.{Holds, end, ask, Keeps}
 
@@ -39,6 +40,14 @@ or-right : (a b : Bool) → b ≡ true → (a || b) ≡ true
 or-right true b h = refl
 or-right false b h = h
 
+pub or-else : (a b : Bool) → a ≡ false → (a || b) ≡ true → b ≡ true
+or-else true b h g = absurd (true≢false h)
+or-else false b h g = g
+
+-- a call is of one kind
+pub kinds-apart : (k j l : Kind) → eqb (codeOf j) (codeOf l) ≡ false → is k j ≡ true → is k l ≡ false
+kinds-apart k j l g h = subst (λ (n : ℕ). eqb n (codeOf l) ≡ false) (sym (eqb-true (codeOf k) (codeOf j) h)) g
+
 -- the registers that not any call may write
 module _ (k : Kind) (r : Reg) (v : ℕ) (h : mayWrite k (numberOf r) v ≡ true) where
   by-number : (q : Reg) → sameReg r q ≡ true → mayWrite k (numberOf q) v ≡ true
@@ -46,6 +55,9 @@ module _ (k : Kind) (r : Reg) (v : ℕ) (h : mayWrite k (numberOf r) v ≡ true)
 
   pub writes-address : sameReg r DevAd ≡ true → mayAddress k v ≡ true
   writes-address g = by-number DevAd g
+
+  pub writes-flag : sameReg r IntFg ≡ true → (not (eqb v 1) || is k resetting) ≡ true
+  writes-flag g = by-number IntFg g
 
   pub writes-config : sameReg r EpConfig ≡ true → (is k turning || is k resetting) ≡ true
   writes-config g = by-number EpConfig g
@@ -87,17 +99,18 @@ module _ {Ok : Access → Type 0} (k : Kind) (ok : (q : Access) → mayAsk k q �
 
 -- ---- states
 
-module _ {S : Type 0} {O : Ops S} {K : S → Type 0} {k : Kind} (m : Keeps O K k) where
-  holds-bind : {A B : Type 0} {o : tree.Out S A} {f : A → S → tree.Out S B}
+module _ {S : Type 0} {K : S → Type 0} where
+  pub holds-bind : {A B : Type 0} {o : tree.Out S A} {f : A → S → tree.Out S B}
       → Holds K o → ((a : A) (s : S) → K s → Holds K (f a s)) → Holds K (bindOut o f)
   holds-bind (end h) g = g _ _ h
   holds-bind (ask h x) g = ask h (λ v t j. holds-bind (x v t j) g)
 
-  holds-rows : {A : Type 0} (g : Burst) → mayRow k g ≡ true → (n : ℕ) {f : S → tree.Out S A}
+  pub holds-rows : {A : Type 0} (O : Ops S) (g : Burst) → ((n : ℕ) (s : S) → K s → K (O .row g n s .1)) → (n : ℕ) {f : S → tree.Out S A}
       → ((t : S) → K t → Holds K (f t)) → (s : S) → K s → Holds K (rows O g n f s)
-  holds-rows g h zero x s j = ask (m .row g h zero s j) (λ v t l. x t l)
-  holds-rows g h (suc n) x s j = ask (m .row g h (suc n) s j) (λ v t l. holds-rows g h n x t l)
+  holds-rows O g m zero x s j = ask (m zero s j) (λ v t l. x t l)
+  holds-rows O g m (suc n) x s j = ask (m (suc n) s j) (λ v t l. holds-rows O g m n x t l)
 
+module _ {S : Type 0} {O : Ops S} {K : S → Type 0} {k : Kind} (m : Keeps O K k) where
   -- a script like a call of that kind, run from K
   pub holds-run : {i : Bool} {A : Type 0} (p : Script i A) → Steps k p → (s : S) → K s → Holds K (run O p s)
   holds-run (ret a) x s j = end j
@@ -118,4 +131,4 @@ module _ {S : Type 0} {O : Ops S} {K : S → Type 0} {k : Kind} (m : Keeps O K k
       let y : Handed k q p = if-so (not (is k queueing)) x in
       ask (m .hand q (if-true (not (is k queueing)) (Handed k q p) x) s j) (λ _ t l. holds-run p (y .1) t l)
   holds-run (row-then g p) x s j =
-      holds-rows g (if-true (mayRow k g) (Steps k p) x) (lastOf g) (λ t l. holds-run p (if-so (mayRow k g) x) t l) s j
+      holds-rows O g (m .row g (if-true (mayRow k g) (Steps k p) x)) (lastOf g) (λ t l. holds-run p (if-so (mayRow k g) x) t l) s j
