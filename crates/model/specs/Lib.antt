@@ -29,8 +29,16 @@ pub mod ToggledLaws
 pub mod Data0Laws
 pub mod RestartLaws
 pub mod ControlLaws
+pub mod Steps
+pub mod StepsInterrupt
+pub mod StepsRequests
+pub mod StepsCalls
+pub mod StepsKinds
+pub mod StepsRuns
+pub mod StepsRunsLaws
+pub mod MachineKept
+pub mod MachineKeptLaws
 pub mod AddressWrites
-pub mod AddressWritesLaws
 pub mod AddressCalls
 pub mod AddressCallsLaws
 pub mod AddressLaws

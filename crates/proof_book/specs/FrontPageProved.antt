@@ -161,7 +161,7 @@ module _ (c : Call Config Op) (l : Buf) (m : Machine Answer Driver)
     ring = λ e. a .rest .outs e .held .waits;
     stamps = λ e. a .rest .outs e .stamps;
     open-shows = λ e stamp bytes p q. of-open e (Shown bytes stamp) p q .shows stamp bytes refl;
-    poll-gives = λ e len bytes p q iso. let k = before (ap isStart p) in one-call c l m n (k .rest) (k .room .room) a e len bytes p q iso;
+    poll-gives = λ e len bytes p q iso. let k = before (ap isStart p) in one-call c l m n (k .rest) (k .room .state) a e len bytes p q iso;
     row-12 = λ e p q. of-open e (Refused 12) p q .none refl;
     row-14 = λ e p q. of-close e p (Refused 14) q .none refl;
     close-reads = λ e p q. of-close e p ok q .reads refl;

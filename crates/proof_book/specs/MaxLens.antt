@@ -1,4 +1,5 @@
--- No operation but an allocation and an assignment of a request changes an endpoint's maximum, a read's or write's request or the allocator
+-- No operation but an allocation and an assignment of a request changes what an allocation gave an endpoint (its flag, its maximum), the two sets
+-- of isochronous endpoints, the stage, a read's or write's request or the allocator
 use mathlib.Core.Bool.{Bool, true, false, cond, true≢false}
 use mathlib.Core.List.{List}
 use mathlib.Core.Path.{_≡_, refl, ap, sym, _∙_}
@@ -31,22 +32,33 @@ use Rattle.model_ops.specs.Rings.{enqueueOn, recordedOn, admittedOn, arrivedAt,
 use Rattle.model_ops.specs.Rings.{armAt, slotStep, typeStep, configStep, switchStep, resetBelow, resetAll, resetStep}
 use Rattle.model_ops.specs.Concrete.{concrete}
 
--- ---- what leaves the maximums, the requests and the allocator
+-- ---- what leaves all that an allocation gave, and the requests
+
+-- its flag and its maximum
+abbrev pub givenOf : EpState → ℕ × ℕ
+givenOf r = (r .iso, r .«max_len»)
 
 pub record Steady (d d′ : Driver) : Type 0 where
   pub places : length (d′ .eps) ≡ length (d .eps)
-  pub maximums : (dir : Dir) (e : ℕ) → epOn d′ dir e .«max_len» ≡ epOn d dir e .«max_len»
+  pub given : (dir : Dir) (e : ℕ) → givenOf (epOn d′ dir e) ≡ givenOf (epOn d dir e)
   pub requests : d′ .requests ≡ d .requests
   pub stage : d′ .globals .stage ≡ d .globals .stage
   pub allocator : d′ .allocator ≡ d .allocator
+  pub outs : d′ .globals .«iso_out_eps» ≡ d .globals .«iso_out_eps»
+  pub every : d′ .globals .«iso_in_every» ≡ d .globals .«iso_in_every»
+
+pub maximums : {d d′ : Driver} → Steady d d′ → (dir : Dir) (e : ℕ) → epOn d′ dir e .«max_len» ≡ epOn d dir e .«max_len»
+maximums p dir e = ap (λ (g : ℕ × ℕ). g .1) (p .given dir e)
 
 then : {d x y : Driver} → Steady d x → Steady x y → Steady d y
 then p q = record {
   places = q .places ∙ p .places;
-  maximums = λ dir e. q .maximums dir e ∙ p .maximums dir e;
+  given = λ dir e. q .given dir e ∙ p .given dir e;
   requests = q .requests ∙ p .requests;
   stage = q .stage ∙ p .stage;
   allocator = q .allocator ∙ p .allocator;
+  outs = q .outs ∙ p .outs;
+  every = q .every ∙ p .every;
 }
 
 -- either answer of a test
@@ -55,52 +67,57 @@ either true p q = p
 either false p q = q
 
 -- a change of other records than the endpoints'
-pub others : (d d′ : Driver) → d′ .eps ≡ d .eps
-    → d′ .requests ≡ d .requests → d′ .globals .stage ≡ d .globals .stage → d′ .allocator ≡ d .allocator → Steady d d′
+others : (d d′ : Driver) → d′ .eps ≡ d .eps → d′ .requests ≡ d .requests → d′ .globals .stage ≡ d .globals .stage
+    → d′ .allocator ≡ d .allocator → d′ .globals .«iso_out_eps» ≡ d .globals .«iso_out_eps»
+    → d′ .globals .«iso_in_every» ≡ d .globals .«iso_in_every» → Steady d d′
 unfolding epOn
-others d d′ p o i a = record { places = rw p refl; maximums = λ dir e. rw p refl; requests = o; stage = i; allocator = a }
+others d d′ p r i a o v =
+    record { places = rw p refl; given = λ dir e. rw p refl; requests = r; stage = i; allocator = a; outs = o; every = v }
 
 steady : (d : Driver) → Steady d d
-steady d = others d d refl refl refl refl
+steady d = others d d refl refl refl refl refl refl
 
 -- the record at one place of a list, and at the others
-flag-set : (l : List EpState) (k j : ℕ) (r : EpState) → r .«max_len» ≡ getD l k noEp .«max_len» → getD (set l k r) j noEp .«max_len» ≡ getD l j noEp .«max_len»
-flag-set l k j r h = elim (ℕ-discrete j k) [
+given-set : (l : List EpState) (k j : ℕ) (r : EpState) → givenOf r ≡ givenOf (getD l k noEp)
+    → givenOf (getD (set l k r) j noEp) ≡ givenOf (getD l j noEp)
+given-set l k j r h = elim (ℕ-discrete j k) [
   | yes p ↦ rw p (elim (decLt k (length l)) [
-    | yes q ↦ ap (λ (x : EpState). x .«max_len») (getD-set-same l k r noEp q) ∙ h
-    | no q ↦ ap (λ (x : EpState). x .«max_len»)
+    | yes q ↦ ap givenOf (getD-set-same l k r noEp q) ∙ h
+    | no q ↦ ap givenOf
         (List·getD-eq-default (set l k r) noEp {n = k} (omega (arith, length-set l k r))
         ∙ sym (List·getD-eq-default l noEp {n = k} (omega arith)))
   ])
-  | no p ↦ ap (λ (x : EpState). x .«max_len») (getD-set-other l k j r noEp p)
+  | no p ↦ ap givenOf (getD-set-other l k j r noEp p)
 ]
 
--- a change of one endpoint's record that keeps its flag
-record-steady : (d : Driver) (dir : Dir) (e : ℕ) (r : EpState) → r .«max_len» ≡ epOn d dir e .«max_len» → Steady d (withOn d dir e r)
+-- a change of one endpoint's record that keeps what was given
+record-steady : (d : Driver) (dir : Dir) (e : ℕ) (r : EpState) → givenOf r ≡ givenOf (epOn d dir e) → Steady d (withOn d dir e r)
 unfolding epOn withOn
 record-steady d dir e r h = record {
   places = length-set (d .eps) (key dir e) r;
-  maximums = λ dir′ x. flag-set (d .eps) (key dir e) (key dir′ x) r h;
+  given = λ dir′ x. given-set (d .eps) (key dir e) (key dir′ x) r h;
   requests = refl;
   stage = refl;
   allocator = refl;
+  outs = refl;
+  every = refl;
 }
 
--- ---- the rings' records keep their flag
+-- ---- the rings' records keep it
 
-completed-flag : (r : EpState) → unloadedOf (completedOf r) .«max_len» ≡ r .«max_len»
+completed-given : (r : EpState) → givenOf (unloadedOf (completedOf r)) ≡ givenOf r
 unfolding unloadedOf completedOf passedOf
-completed-flag r = by (eqb (r .loaded) 0)
+completed-given r = by (eqb (r .loaded) 0)
   where
-    by : (b : Bool) → unloadedOf (cond b r (passedOf r)) .«max_len» ≡ r .«max_len»
+    by : (b : Bool) → givenOf (unloadedOf (cond b r (passedOf r))) ≡ givenOf r
     by true = refl
     by false = refl
 
-arrived-flag : (r : EpState) → arrivedOf r .«max_len» ≡ r .«max_len»
+arrived-given : (r : EpState) → givenOf (arrivedOf r) ≡ givenOf r
 unfolding arrivedOf joinedOf overrunOf
-arrived-flag r = by (hasRoomOut r)
+arrived-given r = by (hasRoomOut r)
   where
-    by : (b : Bool) → cond b (joinedOf r) (overrunOf r) .«max_len» ≡ r .«max_len»
+    by : (b : Bool) → givenOf (cond b (joinedOf r) (overrunOf r)) ≡ givenOf r
     by true = refl
     by false = refl
 
@@ -116,22 +133,22 @@ isRequest (paced-cell e) = false
 
 pub put-steady : (c : Cell) → isRequest c ≡ false → (v : Val c) (s : St) → Steady (s .0) (concrete .put c v s .0)
 unfolding withPacedOn
-put-steady globals-cell h v s = others (s .0) _ refl refl refl refl
-put-steady control-cell h v s = others (s .0) _ refl refl refl refl
+put-steady globals-cell h v s = others (s .0) _ refl refl refl refl refl refl
+put-steady control-cell h v s = others (s .0) _ refl refl refl refl refl refl
 put-steady allocator-cell h v s = steady (s .0)
 put-steady (ep-cell d e) h v s = record-steady (s .0) d e _ refl
 put-steady (request-cell d e) h v s = absurd (true≢false h)
-put-steady (paced-cell e) h v s = others (s .0) _ refl refl refl refl
+put-steady (paced-cell e) h v s = others (s .0) _ refl refl refl refl refl refl
 
 queued-steady : (d : Driver) (e n : ℕ) → Steady d (queuedOn d e n)
 unfolding queuedOn withLenOn joinedOf epOn
-queued-steady d e n = then (others d (withLenOn d In e _ n) refl refl refl refl) (record-steady (withLenOn d In e _ n) In e (joinedOf (epOn d In e)) refl)
+queued-steady d e n = then (others d (withLenOn d In e _ n) refl refl refl refl refl refl) (record-steady (withLenOn d In e _ n) In e (joinedOf (epOn d In e)) refl)
 
 pub act-steady : (q : Act) → allocates q ≡ false → (s : St) → Steady (s .0) (concrete .act q s .0)
 unfolding completeOn emptiedOn emptied enabledOn configured openOn openedOf closeOn takeOn closedOf passedOf enqueueOn
-act-steady (complete e) h s = record-steady (s .0) In e _ (completed-flag (epOn (s .0) In e))
+act-steady (complete e) h s = record-steady (s .0) In e _ (completed-given (epOn (s .0) In e))
 act-steady (reset-ring d e) h s = either (isoOut (s .0) d e) (steady (s .0)) (record-steady (s .0) d e _ refl)
-act-steady (set-enabled d e on) h s = either (isoOut (s .0) d e) (steady (s .0)) (others (s .0) _ refl refl refl refl)
+act-steady (set-enabled d e on) h s = either (isoOut (s .0) d e) (steady (s .0)) (others (s .0) _ refl refl refl refl refl refl)
 act-steady (fill e bytes) h s = steady (s .0)
 act-steady (fill0 bytes) h s = steady (s .0)
 act-steady (open-oldest e) h s = either (hasWaiting (epOn (s .0) Out e)) (record-steady (s .0) Out e _ refl) (steady (s .0))
@@ -144,8 +161,8 @@ act-steady (enqueue e bytes) h s = by (roomOn (s .0) e (length bytes))
     by false = steady (s .0)
 act-steady (allocate d kind address maximum interval) h s = absurd (true≢false h)
 act-steady (allocate0 maximum) h s = absurd (true≢false h)
-act-steady no-wakes h s = others (s .0) _ refl refl refl refl
-act-steady (waken codes) h s = others (s .0) _ refl refl refl refl
+act-steady no-wakes h s = others (s .0) _ refl refl refl refl refl refl
+act-steady (waken codes) h s = others (s .0) _ refl refl refl refl refl refl
 
 armed-steady : (d : Driver) (e a : ℕ) → Steady d (withOn d Out e (armedAt (epOn d Out e) a))
 unfolding armedAt
@@ -153,12 +170,12 @@ armed-steady d e a = record-steady d Out e _ refl
 
 recorded-steady : (d : Driver) (e len : ℕ) → Steady d (recordedOn d e len)
 unfolding recordedOn withLenOn withStampOn
-recorded-steady d e len = either (hasRoomOut (epOn d Out e)) (others d _ refl refl refl refl) (steady d)
+recorded-steady d e len = either (hasRoomOut (epOn d Out e)) (others d _ refl refl refl refl refl refl) (steady d)
 
 admitted-steady : (d : Driver) (e len : ℕ) → Steady d (admittedOn d e len)
 unfolding admittedOn
 admitted-steady d e len = let p = recorded-steady d e len in then p
-    (record-steady (recordedOn d e len) Out e _ (arrived-flag (epOn d Out e) ∙ sym (p .maximums Out e)))
+    (record-steady (recordedOn d e len) Out e _ (arrived-given (epOn d Out e) ∙ sym (p .given Out e)))
 
 pub hand-steady : (q : DmaStep) (s : St) → Steady (s .0) (concrete .hand q s .1 .0)
 unfolding arriveOn sendOn loadedOf placeOn
@@ -183,7 +200,7 @@ hand-steady place0 s = steady (s .0)
 
 renewed-steady : (d : Driver) (e : ℕ) → Steady d (renewedOn d e)
 unfolding renewedOn clearStamps epOn
-renewed-steady d e = let x = clearStamps d e in then (others d x refl refl refl refl) (record-steady x Out e _ refl)
+renewed-steady d e = let x = clearStamps d e in then (others d x refl refl refl refl refl refl) (record-steady x Out e _ refl)
 
 slot-steady : (e k : ℕ) (s : St) → Steady (s .0) (slotStep e k s .1 .0)
 unfolding slotStep
@@ -195,8 +212,8 @@ slot-steady e k s = by (isOn (epOn (s .0) Out e .iso)) (eqb k 15)
 
 switch-steady : (e : ℕ) (on : Bool) (n : ℕ) (s : St) → Steady (s .0) (switchStep e on n s .1 .0)
 unfolding configStep typeStep
-switch-steady e on zero s = others (s .0) _ refl refl refl refl
-switch-steady e on (suc zero) s = others (s .0) _ refl refl refl refl
+switch-steady e on zero s = others (s .0) _ refl refl refl refl refl refl
+switch-steady e on (suc zero) s = others (s .0) _ refl refl refl refl refl refl
 switch-steady e on (suc (suc zero)) s = steady (s .0)
 switch-steady e on (suc (suc (suc k))) s = slot-steady e k s
 
@@ -210,13 +227,13 @@ below-steady (suc n) d =
 
 all-steady : (d : Driver) → Steady d (resetAll d)
 unfolding resetAll noStamps
-all-steady d = then (below-steady 16 d) (others (resetBelow 16 d) _ refl refl refl refl)
+all-steady d = then (below-steady 16 d) (others (resetBelow 16 d) _ refl refl refl refl refl refl)
 
 reset-steady : (n : ℕ) (s : St) → Steady (s .0) (resetStep n s .1 .0)
 reset-steady zero s = all-steady (s .0)
 reset-steady (suc zero) s = steady (s .0)
-reset-steady (suc (suc zero)) s = others (s .0) _ refl refl refl refl
-reset-steady (suc (suc (suc k))) s = others (s .0) _ refl refl refl refl
+reset-steady (suc (suc zero)) s = others (s .0) _ refl refl refl refl refl refl
+reset-steady (suc (suc (suc k))) s = others (s .0) _ refl refl refl refl refl refl
 
 pub row-steady : (g : Burst) (n : ℕ) (s : St) → Steady (s .0) (concrete .row g n s .1 .0)
 row-steady (switch e on) n s = switch-steady e on n s

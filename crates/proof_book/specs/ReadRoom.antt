@@ -29,7 +29,7 @@ use Rattle.model_ops.specs.Records.{recordGiven, setsGiven, givenTo, allocatedO
 use Rattle.model_ops.specs.Rings.{St}
 use Rattle.model_ops.specs.Concrete.{concrete}
 use Rattle.proof_book.specs.Cells.{epOn-by}
-use Rattle.proof_book.specs.MaxLens.{Steady, others, act-steady}
+use Rattle.proof_book.specs.MaxLens.{Steady, maximums, act-steady}
 
 pub record ReadRoom (d : Driver) : Type 0 where
   pub sound : Sound (d .allocator)
@@ -44,7 +44,7 @@ pub steady-room : {d d′ : Driver} → Steady d d′ → ReadRoom d → ReadRoo
 steady-room p k = record {
   sound = rw (p .allocator) (k .sound);
   reads = λ e h. let z = k .reads e (sym (ap (λ (r : Request). isOn (r .begun)) (same-request p e)) ∙ h) in
-      (rw (p .allocator) (z .0), rw (p .maximums Out e, same-request p e) (z .1));
+      (rw (p .allocator) (z .0), rw (maximums p Out e, same-request p e) (z .1));
 }
 
 -- ---- a request assigned

@@ -1,20 +1,16 @@
 -- The scripts of all calls but the interrupt: `Write IntFg 0 1`, the release of the bus reset's flag, is handed out in a bus reset's row alone,
 -- with none waiting on any endpoint in the book
-use mathlib.Core.Bool.{Bool, true, false, cond, not, true≢false}
+use mathlib.Core.Bool.{Bool, true, false, cond, not, _&&_, _||_, true≢false}
 use mathlib.Core.List.{List, [], _∷_}
-use mathlib.Core.Path.{_≡_, refl, sym, _∙_}
-use Prim.Native.Nat.{ℕ, zero, suc, _%_}
-use lib.ListN.{length}
+use mathlib.Core.Path.{_≡_, refl, ap, sym, _∙_}
+use Prim.Native.Nat.{ℕ, zero, suc}
+use lib.Dec.{eqb}
 use Rattle.regs.specs.declared.Access.{Access}
 use Rattle.regs.specs.declared.Access.the-variants.{Read, Write, Receive, Transmit, Ep0Dma, Wait, Callback}
 use Rattle.regs.specs.declared.Reg.{Reg}
+use Rattle.regs.specs.declared.Reg.the-variants.{IntFg}
 use Rattle.regs.specs.declared.Dir.{Dir}
 use Rattle.regs.specs.declared.Dir.the-variants.{Out, In}
-use Rattle.alloc.specs.declared.Answer as alloc-answer
-use Rattle.alloc.specs.declared.Answer.the-variants as alloc
-use Rattle.req_descriptor.specs.declared.Endpoint.{Endpoint}
-use Rattle.req_descriptor.specs.declared.Answer as reading-answer
-use Rattle.req_descriptor.specs.declared.Answer.the-variants as reading
 use Rattle.model.specs.Tree as tree
 use Rattle.model.specs.Tree.{ends, asks}
 use Rattle.model.specs.Cells.{Cell, Val}
@@ -24,17 +20,19 @@ use Rattle.model.specs.Script.{Look, Fetch, Act, DmaStep, dmaStepAsk, arrive, s
 use Rattle.model.specs.Script.{bus-reset, lastOf, burstAsk}
 use Rattle.model.specs.Script.{complete, reset-ring, set-enabled, fill, fill0, open-oldest, close-oldest, take-oldest}
 use Rattle.model.specs.Script.{enqueue, allocate, allocate0, no-wakes, waken}
-use Rattle.model.specs.IsoIn.{isoInComplete, isoInCompletions}
 use Rattle.model.specs.Bus as bus
-use Rattle.model.specs.Control.{acks}
-use Rattle.model.specs.Driver.{allocated-as, started-as}
-use Rattle.model.specs.AllocateAll.{allocateEach, announce, beginsAt, announceAfter, announceAll, allocate-read}
 use Rattle.model.specs.Answers.{Answer}
 use Rattle.model.specs.Calls.{Config, Slotted, SetEnabled, PollRead, BeginWrite, PollWrite, PollDataOut, BeginDataIn}
 use Rattle.model.specs.Calls.{Other, Allocate, AllocateAll, Start, BusPoll, BusEnable, BusDisable, Microframe}
 use Rattle.model.specs.Calls.{SetStalled, IsStalled, SetPaced, Advance, BeginRead, BeginSetup, PollSetup, PollDataIn}
-use Rattle.model.specs.Calls.{BeginAccept, PollAccept, BeginReject, BeginDataOut, BeginAcceptSetAddress, Aside, Open}
-use Rattle.model.specs.Calls.{Close, Queue, slottedCode, otherCode, asideCode, starting}
+use Rattle.model.specs.Calls.{BeginAccept, PollAccept, BeginReject, BeginDataOut, BeginAcceptSetAddress, Aside}
+use Rattle.model.specs.Calls.{slotted, other, aside, slottedCode, otherCode, asideCode}
+use Rattle.model.specs.Calls as the-calls
+use Rattle.model.specs.Every.{sameReg}
+use Rattle.model.specs.Steps.{Kind, plain, turning, resetting, giving, queueing, kindOf, codeOf, is, mayAsk, mayPut, mayAct}
+use Rattle.model.specs.Steps.{mayRow, Asks, Steps}
+use Rattle.model.specs.StepsCalls.{call-steps, start-up-steps}
+use Rattle.model.specs.StepsRunsLaws.{if-true, if-so, Handed, kinds-apart, writes-flag}
 use Rattle.proof_book.specs.Pages.{OutPage, InPage, Pages}
 use Rattle.proof_book.specs.Book.{Bk, rowB, handB, bookOps}
 use Rattle.proof_book.specs.BookTracks.{Tracks, end, ask, earlier, tracks-bind}
@@ -161,67 +159,62 @@ clears (r-row {g = g} m h) s = clear-rows g (lastOf g) (λ t. clears h t) s
 
 -- ---- the calls
 
-of-complete : (e : ℕ) → Rows (isoInComplete {i = false} e)
-of-complete e = search inRows depth 30
+not-released-by : (k : Kind) → is k resetting ≡ false → (r : Reg) (e v : ℕ) → Asks k (Write r e v) → releases (Write r e v) ≡ false
+not-released-by k h r e v x = by (sameReg r IntFg) (eqb v 1) (λ g. writes-flag k r v (if-true (mayAsk k (Write r e v)) (Unit {0}) x) g)
+  where
+    by : (a b : Bool) → (a ≡ true → (not b || is k resetting) ≡ true) → (a && b) ≡ false
+    by false b f = refl
+    by true false f = refl
+    by true true f = absurd (true≢false (sym (f refl) ∙ h))
 
+no-queue : (k j : Kind) → eqb (codeOf j) (codeOf queueing) ≡ false → is k j ≡ true → not (is k queueing) ≡ true
+no-queue k j g h = ap not (kinds-apart k j queueing g h)
+
+kind-suits : (k : Kind) (q : Act) → mayAct k q ≡ true → suits (is k queueing) q ≡ true
+kind-suits k (complete e) h = h
+kind-suits k (reset-ring d e) h = no-queue k turning refl h
+kind-suits k (set-enabled d e on) h = refl
+kind-suits k (fill e bytes) h = refl
+kind-suits k (fill0 bytes) h = refl
+kind-suits k (open-oldest e) h = refl
+kind-suits k (close-oldest e) h = refl
+kind-suits k (take-oldest e) h = refl
+kind-suits k (enqueue e bytes) h = h
+kind-suits k (allocate d kind address maximum interval) h = no-queue k giving refl h
+kind-suits k (allocate0 maximum) h = refl
+kind-suits k no-wakes h = refl
+kind-suits k (waken codes) h = refl
+
+kind-rows : (k : Kind) (g : Burst) → mayRow k g ≡ true → not (is k queueing) ≡ true
+kind-rows k (switch e on) h = no-queue k turning refl h
+kind-rows k bus-reset h = no-queue k resetting refl h
+
+-- a script like a call of a kind, but for the bus' poll
+module _ (k : Kind) (other : is k resetting ≡ false) where
+  in-rows : {A : Type 0} (p : Script false A) → Steps k p → InRows (is k queueing) A p
+  in-rows (ret a) x = r-ret
+  in-rows (bind p f) x = r-bind (in-rows p (x .0)) (λ a. in-rows (f a) (x .1 a))
+  in-rows (test b p q) x = r-test (in-rows p (x .0)) (in-rows q (x .1))
+  in-rows (read-then r e f) x = r-read (λ v. in-rows (f v) (x .1 v))
+  in-rows (write-then r e v p) x = r-write (not-released-by k other r e v (x .0)) (in-rows p (x .1))
+  in-rows (wait-then n p) x = r-wait (in-rows p (x .1))
+  in-rows (callback-then p) x = r-callback (in-rows p (x .1))
+  in-rows (get-then c f) x = r-get (λ v. in-rows (f v) (x v))
+  in-rows (put-then c v p) x = r-put (in-rows p (if-so (mayPut k c v) x))
+  in-rows (is-then q f) x = r-is (λ b. in-rows (f b) (x b))
+  in-rows (look-then q f) x = r-look (λ n. in-rows (f n) (x n))
+  in-rows (fetch-then q f) x = r-fetch (λ l. in-rows (f l) (x l))
+  in-rows (act-then q p) x = r-act (kind-suits k q (if-true (mayAct k q) (Steps k p) x)) (in-rows p (if-so (mayAct k q) x))
+  in-rows (hand-then q p) x =
+      let y : Handed k q p = if-so (not (is k queueing)) x in
+      r-hand (if-true (not (is k queueing)) (Handed k q p) x) (in-rows p (y .1))
+  in-rows (row-then g p) x = r-row (kind-rows k g (if-true (mayRow k g) (Steps k p) x)) (in-rows p (if-so (mayRow k g) x))
+
+-- the bus' poll releases it in its row
 of-nak-all : (n e : ℕ) → Rows (bus.nakAll {i = false} n e)
 unfolding bus.nakAll
 of-nak-all zero e = search inRows
 of-nak-all (suc n) e = r-bind (r-write refl r-ret) (λ _. r-bind (r-write refl r-ret) (λ _. of-nak-all n (suc e)))
-
-of-completions : (n e : ℕ) → Rows (isoInCompletions {i = false} n e)
-unfolding isoInCompletions
-of-completions zero e = search inRows
-of-completions (suc n) e = r-bind (of-complete e) (λ _. of-completions n e)
-
-of-acks : (dir : Dir) (first : Bool) → Rows (acks {i = false} dir first)
-of-acks Out true = search inRows
-of-acks Out false = search inRows
-of-acks In true = search inRows
-of-acks In false = search inRows
-
-of-stalled : (dir : Dir) (e : ℕ) (onn : Bool) → Rows (bus.setStalled {i = false} dir e onn)
-of-stalled Out e true = search inRows depth 20
-of-stalled In e true = search inRows depth 20
-of-stalled Out e false = search inRows depth 20
-of-stalled In e false = search inRows depth 30
-
-of-allocated : (dir : Dir) (kind maximum : ℕ) (a : alloc-answer.Answer) → Rows (allocated-as {i = false} dir kind maximum a)
-of-allocated dir kind maximum (alloc.Refused n) = search inRows
-of-allocated dir kind maximum (alloc.Given e base slots) = search inRows depth 20
-
-of-each : (es : List Endpoint) → Rows (allocateEach {i = false} es)
-unfolding allocateEach
-of-each [] = search inRows
-of-each (e ∷ es) = r-bind (r-act refl r-ret) (λ _. of-each es)
-
-of-begins-at : (dir : Dir) (x left e : ℕ) → Rows (beginsAt {i = false} dir x left e)
-unfolding beginsAt
-of-begins-at dir x zero e = search inRows
-of-begins-at dir x (suc left) e = r-bind (r-get (λ _. r-ret)) (λ a. r-bind (r-get (λ _. r-ret)) (λ s. r-test r-ret (of-begins-at dir x left (suc e))))
-
-of-announce : (dir : Dir) (e : ℕ) → Rows (announce {i = false} dir e)
-of-announce dir e = search inRows depth 20
-
-of-announce-after : (left total : ℕ) (dir : Dir) (e : ℕ) → Rows (announceAfter {i = false} left total dir e)
-unfolding announceAfter
-of-announce-after zero total dir e = search inRows
-of-announce-after (suc left) total dir e = r-bind (r-bind (r-get (λ _. r-ret)) (λ _. r-bind (r-get (λ _. r-ret)) (λ _. r-ret)))
-    (λ x. r-bind (of-begins-at Out x 15 1) (λ o. r-test
-    (r-bind (of-begins-at In x 15 1) (λ n. r-bind (of-announce In n) (λ _. of-announce-after left total In n)))
-    (r-bind (of-announce Out o) (λ _. of-announce-after left total Out o))))
-
-of-announce-all : (es : List Endpoint) → Rows (announceAll {i = false} es)
-of-announce-all [] = search inRows
-of-announce-all (e ∷ es) = search (of-announce, of-announce-after, inRows)
-
-of-allocate-read : (bytes : List ℕ) (a : reading-answer.Answer) → Rows (allocate-read {i = false} bytes a)
-of-allocate-read bytes (reading.Refused n) = search inRows
-of-allocate-read bytes reading.Listed = search (of-each, of-announce-all, inRows) depth 20
-
-of-enabling : (dir : Dir) (e : ℕ) (onn : Bool) → Rows (bus.setEnabled dir e onn)
-of-enabling Out e onn = search inRows depth 40
-of-enabling In e onn = search inRows depth 40
 
 -- a write's poll queues a packet
 abbrev pub mayQueue : Slotted → Bool
@@ -232,45 +225,44 @@ mayQueue (PollWrite e bytes) = true
 mayQueue (PollDataOut n) = false
 mayQueue (BeginDataIn bytes first last) = false
 
+of-kind : (o : Slotted) → is (kindOf (slotted o)) resetting ≡ false → InRows (is (kindOf (slotted o)) queueing) Answer (slottedCode o)
+of-kind o h = in-rows (kindOf (slotted o)) h (slottedCode o) (call-steps (slotted o))
+
 pub of-slotted : (o : Slotted) → InRows (mayQueue o) Answer (slottedCode o)
-of-slotted (SetEnabled dir e onn) = search (of-enabling, inRows) depth 20
-of-slotted (PollRead e n) = search inRows depth 40
-of-slotted (BeginWrite e bytes) = search inRows depth 40
-of-slotted (PollWrite e bytes) = search inRows depth 40
-of-slotted (PollDataOut n) = search inRows depth 40
-of-slotted (BeginDataIn bytes first true) = search (of-acks, inRows) depth 60
-of-slotted (BeginDataIn bytes first false) = search (of-acks, inRows) depth 60
+of-slotted (SetEnabled dir e onn) = of-kind (SetEnabled dir e onn) refl
+of-slotted (PollRead e n) = of-kind (PollRead e n) refl
+of-slotted (BeginWrite e bytes) = of-kind (BeginWrite e bytes) refl
+of-slotted (PollWrite e bytes) = of-kind (PollWrite e bytes) refl
+of-slotted (PollDataOut n) = of-kind (PollDataOut n) refl
+of-slotted (BeginDataIn bytes first last) = of-kind (BeginDataIn bytes first last) refl
 
 pub of-aside : (o : Aside) → InRows true Answer (asideCode o)
-of-aside (Open e) = search inRows depth 40
-of-aside (Close e) = search inRows depth 40
-of-aside (Queue e bytes) = search inRows depth 40
+of-aside o = in-rows queueing refl (asideCode o) (call-steps (aside o))
 
-of-started : (maximum : ℕ) (a : alloc-answer.Answer) → Rows (started-as {i = false} maximum a)
-of-started maximum (alloc.Refused n) = search inRows
-of-started maximum (alloc.Given e base slots) = search inRows depth 20
+of-kind-other : (o : Other) → is (kindOf (other o)) resetting ≡ false → InRows (is (kindOf (other o)) queueing) Answer (otherCode o)
+of-kind-other o h = in-rows (kindOf (other o)) h (otherCode o) (call-steps (other o))
 
 pub of-other : (o : Other) → Rows (otherCode o)
-of-other (Allocate dir kind address maximum interval) = search (of-allocated, inRows) depth 20
-of-other (AllocateAll bytes) = search (of-allocate-read, inRows) depth 20
-of-other (Start maximum) = search (of-started, inRows) depth 20
+of-other (Allocate dir kind address maximum interval) = of-kind-other (Allocate dir kind address maximum interval) refl
+of-other (AllocateAll bytes) = of-kind-other (AllocateAll bytes) refl
+of-other (Start maximum) = of-kind-other (Start maximum) refl
 of-other BusPoll = search (of-nak-all, inRows) depth 60
-of-other BusEnable = search inRows depth 20
-of-other BusDisable = search inRows depth 20
-of-other Microframe = search inRows depth 20
-of-other (SetStalled dir e onn) = search (of-stalled, inRows) depth 20
-of-other (IsStalled dir e) = search inRows depth 20
-of-other (SetPaced e onn) = search inRows depth 20
-of-other (Advance e) = search (of-completions, inRows) depth 40
-of-other (BeginRead e n) = search inRows depth 60
-of-other BeginSetup = search inRows depth 20
-of-other PollSetup = search inRows depth 20
-of-other PollDataIn = search inRows depth 40
-of-other BeginAccept = search inRows depth 40
-of-other PollAccept = search inRows depth 40
-of-other BeginReject = search inRows depth 40
-of-other (BeginDataOut n first) = search (of-acks, inRows) depth 60
-of-other (BeginAcceptSetAddress a) = search inRows depth 40
+of-other BusEnable = of-kind-other BusEnable refl
+of-other BusDisable = of-kind-other BusDisable refl
+of-other Microframe = of-kind-other Microframe refl
+of-other (SetStalled dir e onn) = of-kind-other (SetStalled dir e onn) refl
+of-other (IsStalled dir e) = of-kind-other (IsStalled dir e) refl
+of-other (SetPaced e onn) = of-kind-other (SetPaced e onn) refl
+of-other (Advance e) = of-kind-other (Advance e) refl
+of-other (BeginRead e n) = of-kind-other (BeginRead e n) refl
+of-other BeginSetup = of-kind-other BeginSetup refl
+of-other PollSetup = of-kind-other PollSetup refl
+of-other PollDataIn = of-kind-other PollDataIn refl
+of-other BeginAccept = of-kind-other BeginAccept refl
+of-other PollAccept = of-kind-other PollAccept refl
+of-other BeginReject = of-kind-other BeginReject refl
+of-other (BeginDataOut n first) = of-kind-other (BeginDataOut n first) refl
+of-other (BeginAcceptSetAddress a) = of-kind-other (BeginAcceptSetAddress a) refl
 
-pub of-starting : (c : Config) → Rows (starting c)
-of-starting c = search inRows depth 30
+pub of-starting : (c : Config) → Rows (the-calls.starting c)
+of-starting c = in-rows plain refl (the-calls.starting c) (start-up-steps plain c)

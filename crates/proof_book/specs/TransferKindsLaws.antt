@@ -1,50 +1,18 @@
 -- Laws on the definitions of TransferKinds.antt
-use mathlib.Core.Bool.{Bool, true, false, cond, true≢false}
-use mathlib.Core.List.{List}
-use mathlib.Core.Path.{_≡_, refl, ap, sym, _∙_}
-use Prim.Native.Nat.{ℕ, zero, suc, _%_}
-use native.Mathlib.Omega.{arith}
-use native.Mathlib.Decide.{ℕ-discrete, decLt}
-use lib.Dec.{eqb}
-use lib.ListN.{length, getD, set, length-set, List·getD-eq-default}
-use lib.Seq.{getD-set-same, getD-set-other}
-use Rattle.bits.specs.Bit.{isSet}
+use mathlib.Core.Bool.{Bool, false}
+use mathlib.Core.Path.{_≡_, refl, ap, _∙_}
+use Prim.Native.Nat.{ℕ}
 use Rattle.regs.specs.declared.Dir.{Dir}
 use Rattle.regs.specs.declared.Dir.the-variants.{Out, In}
-use Rattle.state.specs.declared.EpState.{EpState}
-use Rattle.state.specs.Ep.{resetOf}
-use Rattle.state.specs.Fresh.{clearStamps, noStamps}
-use Rattle.state.specs.Driver.{Driver, key, noEp, epOn, withOn, withLenOn, withStampOn, withPacedOn, withRequestOn}
-use Rattle.ring.specs.Slot.{slotAddr, joinedOf, passedOf, hasWaiting}
-use Rattle.ring.specs.Out.{hasRoomOut, cappedAt, overrunOf, arrivedOf, armedAt, openedOf, closedOf}
-use Rattle.ring.specs.In.{completedOf, loadedOf, unloadedOf}
-use Rattle.marks.specs.Copies.{copied}
+use Rattle.state.specs.Driver.{Driver, epOn, withRequestOn}
 use Rattle.model.specs.Cells.{Cell, Val, globals-cell, control-cell, allocator-cell, ep-cell, request-cell, paced-cell}
-use Rattle.model.specs.Script.{Act, complete, reset-ring, set-enabled, fill, fill0, open-oldest, close-oldest}
-use Rattle.model.specs.Script.{take-oldest, enqueue, allocate, allocate0, no-wakes, waken, DmaStep, arrive, send, place}
-use Rattle.model.specs.Script.{place0, Burst, switch, bus-reset}
-use Rattle.model.specs.Statics.{isOn, isoOuts}
+use Rattle.model.specs.Script.{Act, DmaStep, Burst}
+use Rattle.model.specs.Statics.{isOn}
 use Rattle.model.specs.TransferKinds.{TransferKinds, Among, Shows, allocates, Sorted}
-use Rattle.model_ops.specs.Records.{isoOut, configured, enabledOn}
-use Rattle.model_ops.specs.Rings.{St, completeOn, emptied, emptiedOn, openOn, closeOn, takeOn, roomOn, queuedOn}
-use Rattle.model_ops.specs.Rings.{enqueueOn, recordedOn, admittedOn, arrivedAt, arriveOn, sendOn, placeOn, renewedOn}
-use Rattle.model_ops.specs.Rings.{armAt, slotStep, typeStep, configStep, switchStep, resetBelow, resetAll, resetStep}
+use Rattle.model_ops.specs.Rings.{St}
 use Rattle.model_ops.specs.Concrete.{concrete}
+use Rattle.proof_book.specs.MaxLens as given
 use Rattle.proof_book.specs.TransferKinds.{Steady, Has}
-
-then : {d x y : Driver} → Steady d x → Steady x y → Steady d y
-then p q = record {
-  places = q .places ∙ p .places;
-  flags = λ dir e. q .flags dir e ∙ p .flags dir e;
-  outs = q .outs ∙ p .outs;
-  every = q .every ∙ p .every;
-  allocator = q .allocator ∙ p .allocator;
-}
-
--- either answer of a test
-either : {d x y : Driver} (b : Bool) → Steady d x → Steady d y → Steady d (cond b x y)
-either true p q = p
-either false p q = q
 
 -- a change of other records than the endpoints'
 pub others : (d d′ : Driver) → d′ .eps ≡ d .eps → d′ .globals .«iso_out_eps» ≡ d .globals .«iso_out_eps»
@@ -52,159 +20,35 @@ pub others : (d d′ : Driver) → d′ .eps ≡ d .eps → d′ .globals .«iso
 unfolding epOn
 others d d′ p o i a = record { places = rw p refl; flags = λ dir e. rw p refl; outs = o; every = i; allocator = a }
 
-steady : (d : Driver) → Steady d d
-steady d = others d d refl refl refl refl
-
--- the record at one place of a list, and at the others
-flag-set : (l : List EpState) (k j : ℕ) (r : EpState) → r .iso ≡ getD l k noEp .iso → getD (set l k r) j noEp .iso ≡ getD l j noEp .iso
-flag-set l k j r h = elim (ℕ-discrete j k) [
-  | yes p ↦ rw p (elim (decLt k (length l)) [
-    | yes q ↦ ap (λ (x : EpState). x .iso) (getD-set-same l k r noEp q) ∙ h
-    | no q ↦ ap (λ (x : EpState). x .iso)
-        (List·getD-eq-default (set l k r) noEp {n = k} (omega (arith, length-set l k r))
-        ∙ sym (List·getD-eq-default l noEp {n = k} (omega arith)))
-  ])
-  | no p ↦ ap (λ (x : EpState). x .iso) (getD-set-other l k j r noEp p)
-]
-
--- a change of one endpoint's record that keeps its flag
-record-steady : (d : Driver) (dir : Dir) (e : ℕ) (r : EpState) → r .iso ≡ epOn d dir e .iso → Steady d (withOn d dir e r)
-unfolding epOn withOn
-record-steady d dir e r h = record {
-  places = length-set (d .eps) (key dir e) r;
-  flags = λ dir′ x. flag-set (d .eps) (key dir e) (key dir′ x) r h;
-  outs = refl;
-  every = refl;
-  allocator = refl;
+-- what an allocation gave has the flag
+sorts-stay : {d d′ : Driver} → given.Steady d d′ → Steady d d′
+sorts-stay p = record {
+  places = p .places;
+  flags = λ dir e. ap (λ (g : ℕ × ℕ). g .0) (p .given dir e);
+  outs = p .outs;
+  every = p .every;
+  allocator = p .allocator;
 }
-
--- ---- the rings' records keep their flag
-
-completed-flag : (r : EpState) → unloadedOf (completedOf r) .iso ≡ r .iso
-unfolding unloadedOf completedOf passedOf
-completed-flag r = by (eqb (r .loaded) 0)
-  where
-    by : (b : Bool) → unloadedOf (cond b r (passedOf r)) .iso ≡ r .iso
-    by true = refl
-    by false = refl
-
-arrived-flag : (r : EpState) → arrivedOf r .iso ≡ r .iso
-unfolding arrivedOf joinedOf overrunOf
-arrived-flag r = by (hasRoomOut r)
-  where
-    by : (b : Bool) → cond b (joinedOf r) (overrunOf r) .iso ≡ r .iso
-    by true = refl
-    by false = refl
 
 -- ---- each operation
 
 pub put-steady : (c : Cell) (v : Val c) (s : St) → Steady (s .0) (concrete .put c v s .0)
-unfolding withRequestOn withPacedOn
-put-steady globals-cell v s = others (s .0) _ refl refl refl refl
-put-steady control-cell v s = others (s .0) _ refl refl refl refl
-put-steady allocator-cell v s = steady (s .0)
-put-steady (ep-cell d e) v s = record-steady (s .0) d e _ refl
+unfolding withRequestOn
+put-steady globals-cell v s = sorts-stay (given.put-steady globals-cell refl v s)
+put-steady control-cell v s = sorts-stay (given.put-steady control-cell refl v s)
+put-steady allocator-cell v s = sorts-stay (given.put-steady allocator-cell refl v s)
+put-steady (ep-cell d e) v s = sorts-stay (given.put-steady (ep-cell d e) refl v s)
 put-steady (request-cell d e) v s = others (s .0) _ refl refl refl refl
-put-steady (paced-cell e) v s = others (s .0) _ refl refl refl refl
-
-queued-steady : (d : Driver) (e n : ℕ) → Steady d (queuedOn d e n)
-unfolding queuedOn withLenOn joinedOf epOn
-queued-steady d e n = then (others d (withLenOn d In e _ n) refl refl refl refl) (record-steady (withLenOn d In e _ n) In e (joinedOf (epOn d In e)) refl)
+put-steady (paced-cell e) v s = sorts-stay (given.put-steady (paced-cell e) refl v s)
 
 pub act-steady : (q : Act) → allocates q ≡ false → (s : St) → Steady (s .0) (concrete .act q s .0)
-unfolding completeOn emptiedOn emptied enabledOn configured openOn openedOf closeOn takeOn closedOf passedOf enqueueOn
-act-steady (complete e) h s = record-steady (s .0) In e _ (completed-flag (epOn (s .0) In e))
-act-steady (reset-ring d e) h s = either (isoOut (s .0) d e) (steady (s .0)) (record-steady (s .0) d e _ refl)
-act-steady (set-enabled d e on) h s = either (isoOut (s .0) d e) (steady (s .0)) (others (s .0) _ refl refl refl refl)
-act-steady (fill e bytes) h s = steady (s .0)
-act-steady (fill0 bytes) h s = steady (s .0)
-act-steady (open-oldest e) h s = either (hasWaiting (epOn (s .0) Out e)) (record-steady (s .0) Out e _ refl) (steady (s .0))
-act-steady (close-oldest e) h s = either (isOn (epOn (s .0) Out e .«open»)) (record-steady (s .0) Out e _ refl) (steady (s .0))
-act-steady (take-oldest e) h s = either (hasWaiting (epOn (s .0) Out e)) (record-steady (s .0) Out e _ refl) (steady (s .0))
-act-steady (enqueue e bytes) h s = by (roomOn (s .0) e (length bytes))
-  where
-    by : (b : Bool) → Steady (s .0) (cond b (queuedOn (s .0) e (length bytes), copied (s .1) (slotAddr (epOn (s .0) In e) (epOn (s .0) In e .head)) bytes) s .0)
-    by true = queued-steady (s .0) e (length bytes)
-    by false = steady (s .0)
-act-steady (allocate d kind address maximum interval) h s = absurd (true≢false h)
-act-steady (allocate0 maximum) h s = absurd (true≢false h)
-act-steady no-wakes h s = others (s .0) _ refl refl refl refl
-act-steady (waken codes) h s = others (s .0) _ refl refl refl refl
-
-armed-steady : (d : Driver) (e a : ℕ) → Steady d (withOn d Out e (armedAt (epOn d Out e) a))
-unfolding armedAt
-armed-steady d e a = record-steady d Out e _ refl
-
-recorded-steady : (d : Driver) (e len : ℕ) → Steady d (recordedOn d e len)
-unfolding recordedOn withLenOn withStampOn
-recorded-steady d e len = either (hasRoomOut (epOn d Out e)) (others d _ refl refl refl refl) (steady d)
-
-admitted-steady : (d : Driver) (e len : ℕ) → Steady d (admittedOn d e len)
-unfolding admittedOn
-admitted-steady d e len = let p = recorded-steady d e len in then p
-    (record-steady (recordedOn d e len) Out e _ (arrived-flag (epOn d Out e) ∙ sym (p .flags Out e)))
+act-steady q h s = sorts-stay (given.act-steady q h s)
 
 pub hand-steady : (q : DmaStep) (s : St) → Steady (s .0) (concrete .hand q s .1 .0)
-unfolding arriveOn sendOn loadedOf placeOn
-hand-steady (arrive e n) s = by (isSet (isoOuts (s .0 .globals)) (e % 16))
-  where
-    by : (b : Bool) → Steady (s .0) (cond b (arrivedAt e (cappedAt (epOn (s .0) Out e) n) s) (epOn (s .0) Out e .«armed_slot», s) .1 .0)
-    by true = let len = cappedAt (epOn (s .0) Out e) n in then (admitted-steady (s .0) e len) (armed-steady (admittedOn (s .0) e len) e _)
-    by false = steady (s .0)
-hand-steady (send e) s = either (hasWaiting (epOn (s .0) In e)) (record-steady (s .0) In e _ refl) (steady (s .0))
-hand-steady (place Out e) s = by (isSet (isoOuts (s .0 .globals)) (e % 16))
-  where
-    by : (b : Bool) → Steady (s .0) (cond {A = ℕ × Driver} b (epOn (s .0) Out e .«armed_slot», s .0) (
-      epOn (s .0) Out e .base,
-      withOn (s .0) Out e (armedAt (epOn (s .0) Out e) (epOn (s .0) Out e .base)),
-    ) .1)
-    by true = steady (s .0)
-    by false = armed-steady (s .0) e (epOn (s .0) Out e .base)
-hand-steady (place In e) s = steady (s .0)
-hand-steady place0 s = steady (s .0)
-
--- ---- rows
-
-renewed-steady : (d : Driver) (e : ℕ) → Steady d (renewedOn d e)
-unfolding renewedOn clearStamps epOn
-renewed-steady d e = let x = clearStamps d e in then (others d x refl refl refl refl) (record-steady x Out e _ refl)
-
-slot-steady : (e k : ℕ) (s : St) → Steady (s .0) (slotStep e k s .1 .0)
-unfolding slotStep
-slot-steady e k s = by (isOn (epOn (s .0) Out e .iso)) (eqb k 15)
-  where
-    by : (b c : Bool) → Steady (s .0) (cond b (armAt e k (cond c (renewedOn (s .0) e) (s .0), s .1)) (epOn (s .0) Out e .«armed_slot», s) .1 .0)
-    by true c = then (either c (renewed-steady (s .0) e) (steady (s .0))) (armed-steady (cond c (renewedOn (s .0) e) (s .0)) e _)
-    by false c = steady (s .0)
-
-switch-steady : (e : ℕ) (on : Bool) (n : ℕ) (s : St) → Steady (s .0) (switchStep e on n s .1 .0)
-unfolding configStep typeStep
-switch-steady e on zero s = others (s .0) _ refl refl refl refl
-switch-steady e on (suc zero) s = others (s .0) _ refl refl refl refl
-switch-steady e on (suc (suc zero)) s = steady (s .0)
-switch-steady e on (suc (suc (suc k))) s = slot-steady e k s
-
-below-steady : (n : ℕ) (d : Driver) → Steady d (resetBelow n d)
-unfolding resetBelow
-below-steady zero d = steady d
-below-steady (suc n) d =
-    let x = resetBelow n d in
-    let y = withOn x Out n (resetOf (epOn x Out n)) in
-    then (below-steady n d) (then (record-steady x Out n (resetOf (epOn x Out n)) refl) (record-steady y In n (resetOf (epOn y In n)) refl))
-
-all-steady : (d : Driver) → Steady d (resetAll d)
-unfolding resetAll noStamps
-all-steady d = then (below-steady 16 d) (others (resetBelow 16 d) _ refl refl refl refl)
-
-reset-steady : (n : ℕ) (s : St) → Steady (s .0) (resetStep n s .1 .0)
-reset-steady zero s = all-steady (s .0)
-reset-steady (suc zero) s = steady (s .0)
-reset-steady (suc (suc zero)) s = others (s .0) _ refl refl refl refl
-reset-steady (suc (suc (suc k))) s = others (s .0) _ refl refl refl refl
+hand-steady q s = sorts-stay (given.hand-steady q s)
 
 pub row-steady : (g : Burst) (n : ℕ) (s : St) → Steady (s .0) (concrete .row g n s .1 .0)
-row-steady (switch e on) n s = switch-steady e on n s
-row-steady bus-reset n s = reset-steady n s
+row-steady g n s = sorts-stay (given.row-steady g n s)
 
 has-steady : {iso : TransferKinds} {d d′ : Driver} → Steady d d′ → Has iso d → Has iso d′
 has-steady p k = record { flags = λ dir e. ap isOn (p .flags dir e) ∙ k .flags dir e; outs = rw (p .outs) (k .outs); every = rw (p .every) (k .every) }

@@ -5,13 +5,9 @@ use Rattle.regs.specs.declared.Access.{Access}
 use Rattle.regs.specs.declared.Access.the-variants.{Read, Write, Wait, Callback}
 use Rattle.model.specs.Script.{Script, ret, bind, test, read-then, write-then, wait-then, callback-then, get-then}
 use Rattle.model.specs.Script.{put-then, is-then, look-then, fetch-then, act-then, hand-then, row-then, dmaStepAsk}
+pub use Rattle.model.specs.Steps.{If}
 use Rattle.proof_bus_time.specs.Enabled.{writesConfig}
 use Rattle.proof_bus_time.specs.Stays.{allowed}
-
--- a type where a test holds, else none
-abbrev pub If : Bool → Type 0 → Type 0
-If true X = X
-If false X = ⊥
 
 abbrev pub Quiet : Access → Type 0
 Quiet q = If (not (writesConfig q)) (Unit {0})

@@ -1,38 +1,34 @@
--- Which calls are calm: all but the enabling and disabling of an endpoint, the bus' poll and, in stage 1, allocations. Proofs as in CalmInterrupt
-use mathlib.Core.Bool.{Bool, true, false}
-use mathlib.Core.List.{List, [], _∷_}
-use mathlib.Core.Path.{_≡_, refl}
-use Prim.Native.Nat.{ℕ, zero, suc, _%_}
+-- Which calls are calm: all but the enabling and disabling of an endpoint, the bus' poll and, in stage 1, allocations. Each by the steps of its kind
+use mathlib.Core.Bool.{Bool, true, false, not, _&&_, _||_, true≢false}
+use mathlib.Core.Path.{_≡_, refl, sym, _∙_}
+use Prim.Native.Nat.{ℕ}
 use lib.Dec.{eqb}
-use lib.ListN.{length}
+use Rattle.regs.specs.declared.Access.{Access}
+use Rattle.regs.specs.declared.Access.the-variants.{Read, Write, Receive, Transmit, Ep0Dma, Wait, Callback}
+use Rattle.regs.specs.declared.Reg.the-variants.{EpConfig}
 use Rattle.regs.specs.declared.Dir.{Dir}
-use Rattle.regs.specs.declared.Dir.the-variants.{Out, In}
-use Rattle.alloc.specs.declared.Answer as alloc-answer
-use Rattle.alloc.specs.declared.Answer.the-variants as alloc
-use Rattle.alloc.specs.Alloc.{allocateOf, allocateEp0Of}
-use Rattle.req_descriptor.specs.declared.Endpoint.{Endpoint}
-use Rattle.req_descriptor.specs.declared.Answer as reading-answer
-use Rattle.req_descriptor.specs.declared.Answer.the-variants as reading
-use Rattle.req_descriptor.specs.Reading.{readingOf, listOf}
-use Rattle.req_preview.specs.Trial.{directionOf}
-use Rattle.model.specs.Script.{Script, run}
-use Rattle.model.specs.Endpoint.{beginRead, pollRead, beginWrite, pollWrite}
-use Rattle.model.specs.Control.{acks, beginDataOut, pollDataOut, beginDataIn, pollDataIn}
-use Rattle.model.specs.Driver.{allocated-as, started-as}
-use Rattle.model.specs.AllocateAll.{allocateEach, announce, beginsAt, announceAfter, announceAll, allocate-read}
+use Rattle.model.specs.Script.{Script, run, ret, bind, test, read-then, write-then, wait-then, callback-then, get-then}
+use Rattle.model.specs.Script.{put-then, is-then, look-then, fetch-then, act-then, hand-then, row-then, Act, complete}
+use Rattle.model.specs.Script.{reset-ring, set-enabled, fill, fill0, open-oldest, close-oldest, take-oldest, enqueue}
+use Rattle.model.specs.Script.{allocate, allocate0, no-wakes, waken, dmaStepAsk, Burst, switch, bus-reset}
 use Rattle.model.specs.Calls.{Config, Op, interrupt, slotted, other, aside, Slotted, SetEnabled, PollRead, BeginWrite}
 use Rattle.model.specs.Calls.{PollWrite, PollDataOut, BeginDataIn, Other, Allocate, AllocateAll, Start, BusPoll}
 use Rattle.model.specs.Calls.{BusEnable, BusDisable, Microframe, SetStalled, IsStalled, SetPaced, Advance, BeginRead}
 use Rattle.model.specs.Calls.{BeginSetup, PollSetup, PollDataIn, BeginAccept, PollAccept, BeginReject, BeginDataOut}
-use Rattle.model.specs.Calls.{BeginAcceptSetAddress, Aside, Open, Close, Queue, otherCode, asideCode, code, starting}
-use Rattle.model.specs.Bus as bus
+use Rattle.model.specs.Calls.{BeginAcceptSetAddress, Aside, otherCode, asideCode, code}
+use Rattle.model.specs.Calls as the-calls
 use Rattle.model.specs.Tree.{ends}
 use Rattle.model.specs.Answers.{Refused}
+use Rattle.model.specs.Every.{sameReg}
+use Rattle.model.specs.Steps.{Kind, plain, turning, resetting, giving, starting, queueing, kindOf, is, mayAsk, mayPut}
+use Rattle.model.specs.Steps.{mayAct, mayRow, Asks, Steps}
+use Rattle.model.specs.StepsCalls.{call-steps, start-up-steps}
+use Rattle.model.specs.StepsRunsLaws.{if-true, if-so, Handed, writes-config}
 use Rattle.model_ops.specs.Rings.{St}
 use Rattle.model_ops.specs.Concrete.{concrete}
 use Rattle.call_bus_time.specs.Sharing.{opSort, apart}
-use Rattle.proof_bus_time.specs.Calm.{Calm}
-use Rattle.proof_bus_time.specs.CalmInterrupt.{control, placed, of-stamped, of-advance}
+use Rattle.proof_bus_time.specs.Stays.{allowed}
+use Rattle.proof_bus_time.specs.Calm.{If, Quiet, Calm}
 
 -- calm, or calm but for allocations
 abbrev C : {i : Bool} {A : Type 0} → Script i A → Type 0
@@ -41,298 +37,103 @@ C p = Calm false p
 abbrev G : {i : Bool} {A : Type 0} → Script i A → Type 0
 G p = Calm true p
 
-of-stalled : (d : Dir) (e : ℕ) (on : Bool) → C (bus.setStalled {i = false} d e on)
-of-stalled Out e true = (((tt, λ _. tt), λ _. (tt, tt)), λ _. tt)
-of-stalled In e true = ((tt, tt), λ _. (((tt, λ _. tt), λ _. (tt, tt)), λ _. tt))
-of-stalled Out e false = (λ _. tt, λ _. (tt, λ _. ((tt, tt), λ _. tt)))
-of-stalled In e false = (λ _. tt, λ _. (tt, λ _. ((tt, tt), λ _. (((λ _. tt, λ _. tt), tt), λ _. tt))))
+-- ---- the kinds of calls that are calm, or calm but for allocations
 
-of-poll-read : (e n : ℕ) → C (pollRead {i = false} e n)
-of-poll-read e n = (
-  λ _. tt,
-  λ _. (
-    (
-      λ _. tt,
-      λ _. (
-        (
-          λ _. tt,
-          λ _. (
-            tt,
-            (
-              (
-                λ _. tt,
-                λ s. (
-                  (λ _. tt, λ _. ((λ _. tt, λ _. ((λ _. tt, λ _. (tt, λ _. (tt, λ _. tt))), tt)), (tt, λ _. tt))),
-                  (((λ _. tt, λ _. tt), λ _. ((tt, λ _. tt), (λ _. tt, λ _. (tt, λ _. tt)))), (λ _. tt, λ _. (tt, (tt, λ _. tt)))),
-                ),
-              ),
-              ((λ _. tt, λ _. tt), λ _. (tt, λ _. tt)),
-            ),
-          ),
-        ),
-        tt,
-      ),
-    ),
-    tt,
-  ),
-)
+abbrev calmly : Bool → Kind → Bool
+calmly gives k = not (is k turning || is k resetting) && (gives || not (is k giving || is k starting))
 
-of-poll-write : (e : ℕ) (bs : List ℕ) → C (pollWrite {i = false} e bs)
-of-poll-write e bs = (
-  λ _. tt,
-  λ _. (
-    (
-      λ _. tt,
-      λ _. (
-        (
-          λ _. tt,
-          λ _. (
-            tt,
-            (
-              (
-                λ _. tt,
-                λ s. (
-                  (λ _. tt, λ _. ((λ _. tt, λ _. ((tt, λ _. (tt, λ _. tt)), tt)), (tt, λ _. tt))),
-                  (((λ _. tt, λ _. tt), λ _. (tt, λ _. tt)), (λ _. tt, λ _. (tt, (tt, λ _. tt)))),
-                ),
-              ),
-              ((λ _. tt, λ _. tt), λ _. (tt, λ _. tt)),
-            ),
-          ),
-        ),
-        tt,
-      ),
-    ),
-    tt,
-  ),
-)
+record Calmly (gives : Bool) (k : Kind) : Type 0 where
+  turns : is k turning ≡ false
+  resets : is k resetting ≡ false
+  allocates : is k giving ≡ true → gives ≡ true
+  starts : is k starting ≡ true → gives ≡ true
 
-of-begin-read : (e n : ℕ) → C (beginRead {i = false} e n)
-of-begin-read e n = (
-  λ _. tt,
-  λ _. (
-    (
-      λ _. tt,
-      λ _. (
-        (
-          λ _. tt,
-          λ _. (
-            (
-              λ _. tt,
-              λ _. (
-                tt,
-                (tt, λ _. (tt, λ _. (((tt, (tt, ((λ _. tt, λ _. tt), λ _. ((tt, λ _. tt), λ _. (tt, tt))))), λ _. tt), λ _. (λ _. tt, λ _. tt)))),
-              ),
-            ),
-            tt,
-          ),
-        ),
-        tt,
-      ),
-    ),
-    tt,
-  ),
-)
+never : {X : Type 0} {b : Bool} → b ≡ false → b ≡ true → X
+never h k = absurd (true≢false (sym k ∙ h))
 
-of-begin-write : (e : ℕ) (bs : List ℕ) → C (beginWrite {i = false} e bs)
-of-begin-write e bs = (
-  λ _. tt,
-  λ _. (
-    (
-      λ _. tt,
-      λ _. (
-        (
-          λ _. tt,
-          λ _. (
-            (
-              λ _. tt,
-              λ _. (
-                tt,
-                (
-                  tt,
-                  λ _. (
-                    tt,
-                    λ _. (
-                      ((tt, (tt, λ _. ((λ _. tt, λ _. tt), λ _. ((tt, tt), λ _. ((tt, λ _. tt), λ _. (tt, tt)))))), λ _. tt),
-                      λ _. (λ _. tt, λ _. tt),
-                    ),
-                  ),
-                ),
-              ),
-            ),
-            tt,
-          ),
-        ),
-        tt,
-      ),
-    ),
-    tt,
-  ),
-)
+calm-kind : (gives : Bool) (k : Kind) → calmly gives k ≡ true → Calmly gives k
+calm-kind gives k h = let z = by (is k turning) (is k resetting) gives (is k giving) (is k starting) h in
+    record { turns = z .0; resets = z .1; allocates = z .2; starts = z .3 }
+  where
+    by : (t r v g s : Bool) → (not (t || r) && (v || not (g || s))) ≡ true
+        → (t ≡ false) × (r ≡ false) × (g ≡ true → v ≡ true) × (s ≡ true → v ≡ true)
+    by true r v g s h = never refl h
+    by false true v g s h = never refl h
+    by false false true g s h = (refl, refl, λ _. refl, λ _. refl)
+    by false false false true s h = never refl h
+    by false false false false true h = never refl h
+    by false false false false false h = (refl, refl, λ z. z, λ z. z)
 
-of-acks : (d : Dir) (first : Bool) → C (acks {i = false} d first)
-of-acks d true = (control d, tt)
-of-acks d false = ((tt, λ _. tt), λ _. (control d, tt))
+module _ {gives : Bool} {k : Kind} (c : Calmly gives k) where
+  -- no write of ep_config
+  still : {X : Type 0} → (is k turning || is k resetting) ≡ true → X
+  still h = by (is k turning) (is k resetting) (c .turns) (c .resets) h
+    where
+      by : {X : Type 0} (t r : Bool) → t ≡ false → r ≡ false → (t || r) ≡ true → X
+      by true r p q h = never p refl
+      by false r p q h = never q h
 
-of-begin-data-out : (n : ℕ) (first : Bool) → C (beginDataOut {i = false} n first)
-of-begin-data-out n first = (
-  λ _. tt,
-  λ _. (
-    (
-      λ _. tt,
-      λ _. (
-        tt,
-        (λ _. tt, λ _. (tt, (tt, λ _. (tt, λ _. ((((λ _. tt, λ _. tt), λ _. of-acks Out first), λ _. tt), λ _. (λ _. tt, λ _. tt)))))),
-      ),
-    ),
-    tt,
-  ),
-)
+  quiet-write : (b : Bool) → (b ≡ true → ⊥) → If (not b) (Unit {0})
+  quiet-write true f = f refl
+  quiet-write false f = tt
 
-of-poll-data-out : (n : ℕ) → C (pollDataOut {i = false} n)
-of-poll-data-out n = (
-  λ _. tt,
-  λ _. (
-    (
-      λ _. tt,
-      λ c. (
-        (
-          (λ _. tt, λ _. (((λ _. tt, λ _. tt), λ _. ((tt, λ _. tt), (λ _. tt, λ _. (tt, λ _. tt)))), (λ _. tt, λ _. ((tt, λ _. tt), tt)))),
-          ((λ _. tt, λ _. tt), λ _. (tt, λ _. tt)),
-        ),
-        tt,
-      ),
-    ),
-    tt,
-  ),
-)
+  quiet : (q : Access) → mayAsk k q ≡ true → Quiet q
+  quiet (Write r e v) h = quiet-write (sameReg r EpConfig) (λ g. still (writes-config k r v h g))
+  quiet (Read r e) h = tt
+  quiet (Receive e x) h = tt
+  quiet (Transmit e x) h = tt
+  quiet (Ep0Dma x) h = tt
+  quiet (Wait n) h = tt
+  quiet Callback h = tt
 
-of-begin-data-in : (bs : List ℕ) (first last : Bool) → C (beginDataIn {i = false} bs first last)
-of-begin-data-in bs first last = (
-  λ _. tt,
-  λ _. (
-    (
-      λ _. tt,
-      λ _. (
-        tt,
-        (
-          λ _. tt,
-          λ _. (
-            tt,
-            (
-              tt,
-              λ _. (
-                tt,
-                λ _. (
-                  (
-                    (
-                      tt,
-                      λ _. (
-                        (λ _. tt, λ _. tt),
-                        λ _. ((((λ _. tt, λ _. tt), λ _. (tt, tt)), tt), λ _. ((λ _. tt, λ _. tt), λ _. ((tt, tt), λ _. of-acks In first))),
-                      ),
-                    ),
-                    λ _. tt,
-                  ),
-                  λ _. (λ _. tt, λ _. tt),
-                ),
-              ),
-            ),
-          ),
-        ),
-      ),
-    ),
-    tt,
-  ),
-)
+  quietly : (q : Access) → Asks k q → Quiet q
+  quietly q x = quiet q (if-true (mayAsk k q) (Unit {0}) x)
 
-of-poll-data-in : C (pollDataIn {i = false})
-of-poll-data-in = (
-  λ _. tt,
-  λ _. (
-    (
-      λ _. tt,
-      λ c. (
-        (
-          (
-            λ _. tt,
-            λ _. (
-              ((λ _. tt, λ _. tt), λ _. (((λ _. tt, λ _. tt), tt), λ _. (tt, λ _. tt))),
-              (λ _. tt, λ _. ((tt, λ _. tt), ((((λ _. tt, λ _. tt), λ _. tt), tt), λ _. tt))),
-            ),
-          ),
-          (
-            λ _. tt,
-            λ _. (
-              (
-                (
-                  λ _. tt,
-                  λ _. (
-                    ((λ _. tt, λ _. tt), λ _. (((λ _. tt, λ _. tt), tt), λ _. (tt, λ _. tt))),
-                    (λ _. tt, λ _. ((tt, λ _. tt), ((((λ _. tt, λ _. tt), λ _. tt), tt), λ _. tt))),
-                  ),
-                ),
-                ((λ _. tt, λ _. tt), λ _. (tt, λ _. tt)),
-              ),
-              (λ _. tt, λ _. ((tt, λ _. tt), tt)),
-            ),
-          ),
-        ),
-        tt,
-      ),
-    ),
-    tt,
-  ),
-)
+  acts : (q : Act) → mayAct k q ≡ true → allowed gives q ≡ true
+  acts (complete e) h = refl
+  acts (reset-ring d e) h = refl
+  acts (set-enabled d e on) h = never (c .turns) h
+  acts (fill e bytes) h = refl
+  acts (fill0 bytes) h = refl
+  acts (open-oldest e) h = refl
+  acts (close-oldest e) h = refl
+  acts (take-oldest e) h = refl
+  acts (enqueue e bytes) h = refl
+  acts (allocate d kind address maximum interval) h = c .allocates h
+  acts (allocate0 maximum) h = c .starts h
+  acts no-wakes h = refl
+  acts (waken codes) h = refl
 
-of-place : (d : Dir) (kind maximum : ℕ) (a : alloc-answer.Answer) → G (allocated-as {i = false} d kind maximum a)
-of-place d kind maximum (alloc.Refused n) = tt
-of-place d kind maximum (alloc.Given ep base slots) = (tt, λ _. (((tt, tt), λ _. (((placed d ep, tt), tt), λ _. tt)), λ _. (λ _. tt, λ _. tt)))
+  no-row : {X : Type 0} (g : Burst) → mayRow k g ≡ true → X
+  no-row (switch e on) h = never (c .turns) h
+  no-row bus-reset h = never (c .resets) h
 
-of-each : (es : List Endpoint) → G (allocateEach {i = false} es)
-unfolding allocateEach
-of-each [] = tt
-of-each (e ∷ es) = (tt, λ _. of-each es)
+  then-so : {X : Type 0} (b : Bool) → b ≡ true → X → If b X
+  then-so true h x = x
+  then-so false h x = absurd (true≢false (sym h))
 
-of-announce : (d : Dir) (e : ℕ) → G (announce {i = false} d e)
-of-announce d e = (λ _. tt, λ _. ((tt, tt), λ _. (((placed d e, tt), tt), λ _. tt)))
+  -- a script like a call of such a kind
+  steps-calm : {i : Bool} {A : Type 0} (p : Script i A) → Steps k p → Calm gives p
+  steps-calm (ret a) x = tt
+  steps-calm (bind p f) x = (steps-calm p (x .0), λ a. steps-calm (f a) (x .1 a))
+  steps-calm (test b p q) x = (steps-calm p (x .0), steps-calm q (x .1))
+  steps-calm (read-then r e f) x = (quietly (Read r e) (x .0), λ v. steps-calm (f v) (x .1 v))
+  steps-calm (write-then r e v p) x = (quietly (Write r e v) (x .0), steps-calm p (x .1))
+  steps-calm (wait-then n p) x = (quietly (Wait n) (x .0), steps-calm p (x .1))
+  steps-calm (callback-then p) x = (quietly Callback (x .0), steps-calm p (x .1))
+  steps-calm (get-then s f) x = λ v. steps-calm (f v) (x v)
+  steps-calm (put-then s v p) x = steps-calm p (if-so (mayPut k s v) x)
+  steps-calm (is-then q f) x = λ b. steps-calm (f b) (x b)
+  steps-calm (look-then q f) x = λ n. steps-calm (f n) (x n)
+  steps-calm (fetch-then q f) x = λ l. steps-calm (f l) (x l)
+  steps-calm (act-then q p) x =
+      then-so (allowed gives q) (acts q (if-true (mayAct k q) (Steps k p) x)) (steps-calm p (if-so (mayAct k q) x))
+  steps-calm (hand-then q p) x =
+      let y : Handed k q p = if-so (not (is k queueing)) x in (λ n. quietly (dmaStepAsk q n) (y .0 n), steps-calm p (y .1))
+  steps-calm (row-then g p) x = no-row g (if-true (mayRow k g) (Steps k p) x)
 
-of-begins-at : (d : Dir) (x left e : ℕ) → G (beginsAt {i = false} d x left e)
-unfolding beginsAt
-of-begins-at d x zero e = tt
-of-begins-at d x (suc left) e = (λ _. tt, λ _. (λ _. tt, λ _. (tt, of-begins-at d x left (suc e))))
-
-of-after : (left total : ℕ) (d : Dir) (e : ℕ) → G (announceAfter {i = false} left total d e)
-unfolding announceAfter
-of-after zero total d e = tt
-of-after (suc left) total d e = (
-  (λ _. tt, λ _. (λ _. tt, λ _. tt)),
-  λ x. (
-    of-begins-at Out x 15 1,
-    λ o. (
-      (of-begins-at In x 15 1, λ n. (of-announce In n, λ _. of-after left total In n)),
-      (of-announce Out o, λ _. of-after left total Out o),
-    ),
-  ),
-)
-
-of-announce-all : (es : List Endpoint) → G (announceAll {i = false} es)
-of-announce-all [] = tt
-of-announce-all (e ∷ es) = (
-  of-announce (directionOf (e .address)) (e .address % 128),
-  λ _. of-after (length es) (suc (length es)) (directionOf (e .address)) (e .address % 128),
-)
-
-of-all : (bytes : List ℕ) (a : reading-answer.Answer) → G (allocate-read {i = false} bytes a)
-of-all bytes (reading.Refused n) = tt
-of-all bytes reading.Listed = (λ _. tt, λ _. ((of-each (listOf bytes), λ _. (tt, λ _. (of-announce-all (listOf bytes), λ _. (λ _. tt, λ _. tt)))), tt))
-
-of-started : (maximum : ℕ) (a : alloc-answer.Answer) → G (started-as {i = false} maximum a)
-of-started maximum (alloc.Refused n) = tt
-of-started maximum (alloc.Given ep base slots) = (
-  tt,
-  λ _. ((((λ _. tt, tt), λ _. ((tt, tt), λ _. ((tt, tt), λ _. ((tt, tt), λ _. (tt, tt))))), λ _. tt), λ _. (λ _. tt, λ _. tt)),
-)
+call-calm : (gives : Bool) (o : Op) → calmly gives (kindOf o) ≡ true → Calm gives (code o)
+call-calm gives o h = steps-calm (calm-kind gives (kindOf o) h) (code o) (call-steps o)
 
 -- ---- the calls
 
@@ -346,145 +147,50 @@ pub data Manner : Op → Type 0 where
   turns : (d : Dir) (e : ℕ) (on : Bool) → Manner (slotted (SetEnabled d e on))
   polls : Manner (other BusPoll)
 
+as-apart : (o : Op) → opSort o ≡ apart → calmly false (kindOf o) ≡ true → Manner o
+as-apart o s h = calm o s (call-calm false o h)
+
+as-given : (o : Other) → Early o → calmly true (kindOf (other o)) ≡ true → Manner (other o)
+as-given o s h = gives o s (call-calm true (other o) h)
+
 of-slotted : (o : Slotted) → Manner (slotted o)
 of-slotted (SetEnabled d e on) = turns d e on
-of-slotted (PollRead e n) = calm (slotted (PollRead e n)) refl (of-poll-read e n)
-of-slotted (BeginWrite e bs) = calm (slotted (BeginWrite e bs)) refl (of-begin-write e bs)
-of-slotted (PollWrite e bs) = calm (slotted (PollWrite e bs)) refl (of-poll-write e bs)
-of-slotted (PollDataOut n) = calm (slotted (PollDataOut n)) refl (of-poll-data-out n)
-of-slotted (BeginDataIn bs first last) = calm (slotted (BeginDataIn bs first last)) refl (of-begin-data-in bs first last)
+of-slotted (PollRead e n) = as-apart (slotted (PollRead e n)) refl refl
+of-slotted (BeginWrite e bs) = as-apart (slotted (BeginWrite e bs)) refl refl
+of-slotted (PollWrite e bs) = as-apart (slotted (PollWrite e bs)) refl refl
+of-slotted (PollDataOut n) = as-apart (slotted (PollDataOut n)) refl refl
+of-slotted (BeginDataIn bs first last) = as-apart (slotted (BeginDataIn bs first last)) refl refl
 
 of-other : (o : Other) → Manner (other o)
-of-other (Allocate d kind address maximum interval) = gives (Allocate d kind address maximum interval) (λ s h. rw h refl) (
-  λ _. tt,
-  λ _. ((λ _. tt, λ a. (tt, λ _. of-place d kind maximum (allocateOf a kind address maximum d .answer))), tt),
-)
-of-other (AllocateAll bytes) = gives (AllocateAll bytes) (λ s h. rw h refl) (λ _. tt, λ _. (of-all bytes (readingOf bytes .answer), tt))
-of-other (Start maximum) = gives (Start maximum) (λ s h. rw h refl) (
-  λ _. tt,
-  λ _. ((λ _. tt, λ a. (tt, λ _. of-started maximum (allocateEp0Of a maximum .answer))), tt),
-)
+of-other (Allocate d kind address maximum interval) = as-given (Allocate d kind address maximum interval) (λ s h. rw h refl) refl
+of-other (AllocateAll bytes) = as-given (AllocateAll bytes) (λ s h. rw h refl) refl
+of-other (Start maximum) = as-given (Start maximum) (λ s h. rw h refl) refl
 of-other BusPoll = polls
-of-other BusEnable = calm (other BusEnable) refl (λ _. tt, λ _. ((tt, λ _. ((((tt, λ _. tt), λ _. (tt, tt)), λ _. tt), λ _. (λ _. tt, λ _. tt))), tt))
-of-other BusDisable = calm (other BusDisable) refl (λ _. tt, λ _. ((tt, λ _. ((tt, λ _. tt), λ _. (λ _. tt, λ _. tt))), tt))
-of-other Microframe = calm (other Microframe) refl (λ _. tt, λ _. ((tt, λ _. (((tt, λ _. tt), λ _. tt), λ _. (λ _. tt, λ _. tt))), tt))
-of-other (SetStalled d e on) = calm (other (SetStalled d e on)) refl (
-  λ _. tt,
-  λ _. (
-    (
-      (tt, λ _. ((of-stalled d e on, λ _. tt), λ _. (λ _. tt, λ _. tt))),
-      (λ _. tt, λ _. ((tt, λ _. ((of-stalled d e on, λ _. tt), λ _. (λ _. tt, λ _. tt))), tt)),
-    ),
-    tt,
-  ),
-)
-of-other (IsStalled d e) = calm (other (IsStalled d e)) refl (
-  λ _. tt,
-  λ _. (
-    (
-      (tt, λ _. (((tt, λ _. tt), λ _. tt), λ _. (λ _. tt, λ _. tt))),
-      (λ _. tt, λ _. ((tt, λ _. (((tt, λ _. tt), λ _. tt), λ _. (λ _. tt, λ _. tt))), tt)),
-    ),
-    tt,
-  ),
-)
-of-other (SetPaced e on) = calm (other (SetPaced e on)) refl (λ _. tt, λ _. ((((λ _. tt, λ _. (tt, λ _. tt)), λ _. tt), tt), tt))
-of-other (Advance e) = calm (other (Advance e)) refl (λ _. tt, λ _. (((tt, λ _. ((of-advance false false e, λ _. tt), λ _. (λ _. tt, λ _. tt))), tt), tt))
-of-other (BeginRead e n) = calm (other (BeginRead e n)) refl (of-begin-read e n)
-of-other BeginSetup = calm (other BeginSetup) refl (λ _. tt, λ _. ((tt, λ _. (tt, λ _. ((tt, λ _. tt), λ _. (λ _. tt, λ _. tt)))), tt))
-of-other PollSetup = calm (other PollSetup) refl (λ _. tt, λ _. ((λ _. tt, λ c. ((λ _. tt, λ _. ((tt, λ _. (tt, λ _. tt)), tt)), tt)), tt))
-of-other PollDataIn = calm (other PollDataIn) refl (of-poll-data-in)
-of-other BeginAccept = calm (other BeginAccept) refl (
-  λ _. tt,
-  λ _. (
-    (
-      λ _. tt,
-      λ _. (
-        tt,
-        (tt, λ _. (tt, λ _. ((((λ _. tt, λ _. tt), λ _. ((tt, tt), λ _. ((tt, λ _. tt), λ _. (tt, tt)))), λ _. tt), λ _. (λ _. tt, λ _. tt)))),
-      ),
-    ),
-    tt,
-  ),
-)
-of-other PollAccept = calm (other PollAccept) refl (
-  λ _. tt,
-  λ _. (
-    (
-      λ _. tt,
-      λ c. (
-        (
-          λ _. tt,
-          λ _. (
-            ((λ _. tt, λ _. tt), λ _. (tt, λ _. ((tt, λ _. (((tt, tt), λ _. tt), λ _. (λ _. tt, λ _. tt))), tt))),
-            (λ _. tt, λ _. ((tt, λ _. tt), tt)),
-          ),
-        ),
-        tt,
-      ),
-    ),
-    tt,
-  ),
-)
-of-other BeginReject = calm (other BeginReject) refl (
-  λ _. tt,
-  λ _. (
-    (
-      tt,
-      λ _. (
-        tt,
-        λ _. (
-          (
-            ((λ _. tt, λ _. tt), λ _. ((λ _. tt, λ _. tt), λ _. (((tt, λ _. tt), λ _. (tt, tt)), λ _. ((tt, λ _. tt), λ _. (tt, tt))))),
-            λ _. tt,
-          ),
-          λ _. (λ _. tt, λ _. tt),
-        ),
-      ),
-    ),
-    tt,
-  ),
-)
-of-other (BeginDataOut n first) = calm (other (BeginDataOut n first)) refl (of-begin-data-out n first)
-of-other (BeginAcceptSetAddress a) = calm (other (BeginAcceptSetAddress a)) refl (
-  λ _. tt,
-  λ _. (
-    (
-      λ _. tt,
-      λ _. (
-        tt,
-        (tt, λ _. (tt, λ _. ((((λ _. tt, λ _. tt), λ _. ((tt, tt), λ _. ((tt, λ _. tt), λ _. (tt, tt)))), λ _. tt), λ _. (λ _. tt, λ _. tt)))),
-      ),
-    ),
-    tt,
-  ),
-)
+of-other BusEnable = as-apart (other BusEnable) refl refl
+of-other BusDisable = as-apart (other BusDisable) refl refl
+of-other Microframe = as-apart (other Microframe) refl refl
+of-other (SetStalled d e on) = as-apart (other (SetStalled d e on)) refl refl
+of-other (IsStalled d e) = as-apart (other (IsStalled d e)) refl refl
+of-other (SetPaced e on) = as-apart (other (SetPaced e on)) refl refl
+of-other (Advance e) = as-apart (other (Advance e)) refl refl
+of-other (BeginRead e n) = as-apart (other (BeginRead e n)) refl refl
+of-other BeginSetup = as-apart (other BeginSetup) refl refl
+of-other PollSetup = as-apart (other PollSetup) refl refl
+of-other PollDataIn = as-apart (other PollDataIn) refl refl
+of-other BeginAccept = as-apart (other BeginAccept) refl refl
+of-other PollAccept = as-apart (other PollAccept) refl refl
+of-other BeginReject = as-apart (other BeginReject) refl refl
+of-other (BeginDataOut n first) = as-apart (other (BeginDataOut n first)) refl refl
+of-other (BeginAcceptSetAddress a) = as-apart (other (BeginAcceptSetAddress a)) refl refl
 
 pub of-aside : (o : Aside) → C (asideCode o)
-of-aside (Open e) = (λ _. tt, λ _. ((λ _. tt, λ _. ((λ _. tt, λ _. (tt, (λ _. tt, λ _. ((tt, λ _. (λ _. tt, λ _. (λ _. tt, λ _. tt))), tt)))), tt)), tt))
-of-aside (Close e) = (λ _. tt, λ _. ((λ _. tt, λ _. ((λ _. tt, λ _. ((tt, λ _. tt), tt)), tt)), tt))
-of-aside (Queue e bs) = (
-  λ _. tt,
-  λ _. ((λ _. tt, λ _. ((λ _. tt, λ _. ((λ _. tt, λ _. (tt, (λ _. tt, λ _. (tt, (λ _. tt, λ _. ((tt, λ _. tt), tt)))))), tt)), tt)), tt),
-)
+of-aside o = call-calm false (aside o) refl
 
 pub manner : (o : Op) → Manner o
-manner interrupt = calm interrupt refl (λ _. tt, λ _. ((tt, λ _. ((of-stamped false true, λ _. tt), λ _. (λ _. tt, λ _. tt))), tt))
+manner interrupt = as-apart interrupt refl refl
 manner (slotted o) = of-slotted o
 manner (other o) = of-other o
 manner (aside o) = calm (aside o) refl (of-aside o)
 
-pub start-up-calm : (c : Config) → C (starting c)
-start-up-calm c = (
-  tt,
-  λ _. (
-    (
-      (
-        (tt, tt),
-        λ _. ((tt, tt), λ _. (((tt, λ _. tt), λ _. (tt, tt)), λ _. ((tt, tt), λ _. ((tt, tt), λ _. (λ _. tt, λ _. (tt, λ _. (tt, tt))))))),
-      ),
-      λ _. tt,
-    ),
-    λ _. (λ _. tt, λ _. tt),
-  ),
-)
+pub start-up-calm : (c : Config) → C (the-calls.starting c)
+start-up-calm c = steps-calm (calm-kind false plain refl) (the-calls.starting c) (start-up-steps plain c)

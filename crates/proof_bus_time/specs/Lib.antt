@@ -8,7 +8,6 @@ pub mod Runs
 pub mod Returns
 pub mod Stays
 pub mod Calm
-pub mod CalmInterrupt
 pub mod CalmCalls
 pub mod Left
 pub mod Switching

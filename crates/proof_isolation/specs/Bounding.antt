@@ -1,97 +1,55 @@
--- Scripts that keep a data_out's length within EP0's maximum
-use mathlib.Core.Bool.{Bool, true, false}
-use mathlib.Core.List.{List}
-use mathlib.Core.Path.{_≡_}
-use Prim.Native.Nat.{ℕ, zero, suc}
+-- Each step of a call but a data_out's begin and EP0's start keeps a data_out's length within EP0's maximum
+use mathlib.Core.Bool.{Bool, true, false, not, true≢false}
+use mathlib.Core.Path.{_≡_, refl, sym, _∙_}
 use lib.Dec.{eqb}
 use borrow.Author.Tests.{eqb-false}
-use Rattle.regs.specs.declared.Access.{Access}
-use Rattle.regs.specs.declared.Reg.{Reg}
-use Rattle.state.specs.declared.Control.{Control}
-use Rattle.model.specs.Cells.{Cell, Val, control-cell}
-use Rattle.model.specs.Tree as tree
-use Rattle.model.specs.Tree.{ends, asks, bindOut}
-use Rattle.model.specs.Script.{Script, run, rows, ret, bind, test, read-then, write-then, wait-then, callback-then}
-use Rattle.model.specs.Script.{get-then, put-then, is-then, look-then, fetch-then, act-then, hand-then, row-then, Test}
-use Rattle.model.specs.Script.{Look, Fetch, Act, DmaStep, Burst, lastOf}
+use Rattle.model.specs.Cells.{Cell, Val, globals-cell, control-cell, allocator-cell, ep-cell, request-cell, paced-cell}
+use Rattle.model.specs.Script.{Act, complete, reset-ring, set-enabled, fill, fill0, open-oldest, close-oldest}
+use Rattle.model.specs.Script.{take-oldest, enqueue, allocate, allocate0, no-wakes, waken}
 use Rattle.model.specs.Control.{DATA-OUT}
+use Rattle.model.specs.Steps.{Kind, receiving, starting, is, mayPut, mayAct}
+use Rattle.model.specs.StepsRuns.{Keeps}
+use Rattle.model.specs.StepsRunsLaws.{or-else}
+use Rattle.model.specs.MachineKept.{Lent}
 use Rattle.model_ops.specs.Rings.{St}
 use Rattle.model_ops.specs.Concrete.{concrete}
 use Rattle.proof_isolation.specs.EqualExcept.{Bounded}
-use Rattle.proof_isolation.specs.Settled.{isControl}
 use Rattle.proof_isolation.specs.SettledLaws.{settled-bounded, put-settled, starts, act-settled, hand-settled, row-settled}
 
--- at each access and at each end, whatever is read and whatever such state the next call finds
-pub data Holds {A : Type 0} : tree.Out St A → Type 0 where
-  end : {a : A} {s : St} → Bounded (s .0) → Holds (ends a s)
-  ask : {q : Access} {s : St} {k : ℕ → St → tree.Out St A} → Bounded (s .0) → ((v : ℕ) (t : St) → Bounded (t .0) → Holds (k v t)) → Holds (asks q s k)
+not-true : (b : Bool) → not b ≡ true → b ≡ false
+not-true true h = absurd (true≢false (sym h))
+not-true false h = refl
 
-pub record Keeps {i : Bool} {A : Type 0} (p : Script i A) : Type 0 where
-  pub on : (s : St) → Bounded (s .0) → Holds (run concrete p s)
-
-holds-bind : {A B : Type 0} {o : tree.Out St A} {f : A → St → tree.Out St B}
-    → Holds o → ((a : A) (s : St) → Bounded (s .0) → Holds (f a s)) → Holds (bindOut o f)
-holds-bind (end b) h = h _ _ b
-holds-bind (ask b k) h = ask b (λ v t c. holds-bind (k v t c) h)
-
-holds-rows : {A : Type 0} (g : Burst) (n : ℕ) {k : St → tree.Out St A}
-    → ((t : St) → Bounded (t .0) → Holds (k t)) → (s : St) → Bounded (s .0) → Holds (rows concrete g n k s)
-holds-rows g zero h s b = ask (settled-bounded (row-settled g zero s) b) (λ v t c. h t c)
-holds-rows g (suc n) h s b = ask (settled-bounded (row-settled g (suc n) s) b) (λ v t c. holds-rows g n h t c)
-
-module _ {i : Bool} {A : Type 0} where
-  pub k-ret : {a : A} → Keeps {i = i} (ret a)
-  k-ret = record { on = λ s b. end b }
-
-  pub k-bind : {B : Type 0} {p : Script i B} {f : B → Script i A} → Keeps p → ((b : B) → Keeps (f b)) → Keeps (bind p f)
-  k-bind h g = record { on = λ s b. holds-bind (h .on s b) (λ a t c. g a .on t c) }
-
-  pub k-test : {b : Bool} {p q : Script i A} → Keeps p → Keeps q → Keeps (test b p q)
-  k-test {b} {p} {q} h g = by b
-    where
-      by : (b : Bool) → Keeps (test b p q)
-      by true = record { on = λ s c. h .on s c }
-      by false = record { on = λ s c. g .on s c }
-
-  pub k-read : {r : Reg} {e : ℕ} {k : ℕ → Script i A} → ((v : ℕ) → Keeps (k v)) → Keeps (read-then r e k)
-  k-read h = record { on = λ s b. ask b (λ v t c. h v .on t c) }
-
-  pub k-write : {r : Reg} {e v : ℕ} {p : Script i A} → Keeps p → Keeps (write-then r e v p)
-  k-write h = record { on = λ s b. ask b (λ v t c. h .on t c) }
-
-  pub k-wait : {n : ℕ} {p : Script i A} → Keeps p → Keeps (wait-then n p)
-  k-wait h = record { on = λ s b. ask b (λ v t c. h .on t c) }
-
-  pub k-callback : {p : Script i A} → Keeps p → Keeps (callback-then p)
-  k-callback h = record { on = λ s b. ask b (λ v t c. h .on t c) }
-
-  pub k-get : {c : Cell} {k : Val c → Script i A} → ((v : Val c) → Keeps (k v)) → Keeps (get-then c k)
-  k-get h = record { on = λ s b. h _ .on s b }
-
-  pub k-put : {c : Cell} {v : Val c} {p : Script i A} → isControl c ≡ false → Keeps p → Keeps (put-then c v p)
-  k-put {c} {v} e h = record { on = λ s b. h .on _ (settled-bounded (put-settled c e v s) b) }
-
+module _ (k : Kind) (no-out : is k receiving ≡ false) (no-start : is k starting ≡ false) where
+  puts : (c : Cell) (v : Val c) → mayPut k c v ≡ true → (s : St) → Bounded (s .0) → Bounded (concrete .put c v s .0)
+  puts globals-cell v h s b = settled-bounded (put-settled globals-cell refl v s) b
+  puts allocator-cell v h s b = settled-bounded (put-settled allocator-cell refl v s) b
+  puts (ep-cell d e) v h s b = settled-bounded (put-settled (ep-cell d e) refl v s) b
+  puts (request-cell d e) v h s b = settled-bounded (put-settled (request-cell d e) refl v s) b
+  puts (paced-cell e) v h s b = settled-bounded (put-settled (paced-cell e) refl v s) b
   -- a request that is no data_out's
-  pub k-control : {v : Control} {p : Script i A} → eqb (v .sort) DATA-OUT ≡ false → Keeps p → Keeps (put-then control-cell v p)
-  k-control {v} e h = record { on = λ s b. h .on _ (λ z. absurd (eqb-false (v .sort) DATA-OUT e z)) }
+  puts control-cell v h s b = λ z. absurd (eqb-false (v .sort) DATA-OUT
+      (not-true (eqb (v .sort) DATA-OUT) (or-else (is k receiving) (not (eqb (v .sort) DATA-OUT)) no-out h)) z)
 
-  pub k-is : {q : Test} {k : Bool → Script i A} → ((b : Bool) → Keeps (k b)) → Keeps (is-then q k)
-  k-is h = record { on = λ s b. h _ .on s b }
+  none-starts : (q : Act) → mayAct k q ≡ true → starts q ≡ false
+  none-starts (complete e) h = refl
+  none-starts (reset-ring d e) h = refl
+  none-starts (set-enabled d e on) h = refl
+  none-starts (fill e bytes) h = refl
+  none-starts (fill0 bytes) h = refl
+  none-starts (open-oldest e) h = refl
+  none-starts (close-oldest e) h = refl
+  none-starts (take-oldest e) h = refl
+  none-starts (enqueue e bytes) h = refl
+  none-starts (allocate d kind address maximum interval) h = refl
+  none-starts (allocate0 maximum) h = absurd (true≢false (sym h ∙ no-start))
+  none-starts no-wakes h = refl
+  none-starts (waken codes) h = refl
 
-  pub k-look : {q : Look} {k : ℕ → Script i A} → ((n : ℕ) → Keeps (k n)) → Keeps (look-then q k)
-  k-look h = record { on = λ s b. h _ .on s b }
-
-  pub k-fetch : {q : Fetch} {k : List ℕ → Script i A} → ((l : List ℕ) → Keeps (k l)) → Keeps (fetch-then q k)
-  k-fetch h = record { on = λ s b. h _ .on s b }
-
-  pub k-act : {q : Act} {p : Script i A} → starts q ≡ false → Keeps p → Keeps (act-then q p)
-  k-act {q} e h = record { on = λ s b. h .on _ (settled-bounded (act-settled q e s) b) }
-
-  pub k-hand : {q : DmaStep} {p : Script i A} → Keeps p → Keeps (hand-then q p)
-  k-hand {q} h = record { on = λ s b. ask (settled-bounded (hand-settled q s) b) (λ v t c. h .on t c) }
-
-pub k-row : {A : Type 0} {g : Burst} {p : Script false A} → Keeps p → Keeps (row-then g p)
-k-row {g = g} h = record { on = λ s b. holds-rows g (lastOf g) (λ t c. h .on t c) s b }
-
--- rules by which a script is taken apart
-pub ruleset keeping = (k-ret, k-bind, k-test, k-read, k-write, k-wait, k-callback, k-get, k-put, k-control, k-is, k-look, k-fetch, k-act, k-hand, k-row)
+  pub bounds-keep : Keeps concrete (Lent Bounded) k
+  bounds-keep = record {
+    put = puts;
+    act = λ q h s b. settled-bounded (act-settled q (none-starts q h) s) b;
+    hand = λ q _ s b. settled-bounded (hand-settled q s) b;
+    row = λ g _ n s b. settled-bounded (row-settled g n s) b;
+  }

@@ -10,7 +10,6 @@ use native.Mathlib.Decide.{ℕ-discrete, decLt}
 use lib.Dec.{eqb}
 use lib.ListN.{length, getD, set, length-set, List·getD-eq-default}
 use lib.Seq.{getD-set-same, getD-set-other}
-use Rattle.regs.specs.declared.Access.{Access}
 use Rattle.regs.specs.declared.Reg.{Reg}
 use Rattle.regs.specs.declared.Dir.{Dir}
 use Rattle.regs.specs.declared.Dir.the-variants.{Out, In}
@@ -22,15 +21,16 @@ use Rattle.ring.specs.Out.{armedAt}
 use Rattle.alloc.specs.Alloc.{allocateOf, allocateEp0Of, allocated}
 use Rattle.alloc.specs.declared.Answer as alloc-answer
 use Rattle.alloc.specs.declared.Answer.the-variants as alloc
-use Rattle.model.specs.Tree as tree
-use Rattle.model.specs.Tree.{ends, asks, bindOut}
 use Rattle.model.specs.Cells.{EpCore, Cell, Val, globals-cell, control-cell, allocator-cell, ep-cell, request-cell, paced-cell}
-use Rattle.model.specs.Script.{Script, run, rows, ret, bind, test, read-then, write-then, wait-then, callback-then}
+use Rattle.model.specs.Script.{Script, run, ret, bind, test, read-then, write-then, wait-then, callback-then}
 use Rattle.model.specs.Script.{get-then, put-then, is-then, look-then, fetch-then, act-then, hand-then, row-then, Test}
 use Rattle.model.specs.Script.{Look, Fetch, Act, complete, reset-ring, set-enabled, fill, fill0, open-oldest}
 use Rattle.model.specs.Script.{close-oldest, take-oldest, enqueue, allocate, allocate0, no-wakes, waken, DmaStep, Burst}
 use Rattle.model.specs.Script.{switch, bus-reset, lastOf}
 use Rattle.model.specs.Statics.{isOn, flag}
+use Rattle.model.specs.StepsRuns.{Holds, end, ask}
+use Rattle.model.specs.StepsRunsLaws.{holds-bind, holds-rows}
+use Rattle.model.specs.MachineKept.{Lent}
 use Rattle.model_ops.specs.Records.{merged, recordGiven, setsGiven, givenTo, allocatedOn, startedWith, allocatedEp0}
 use Rattle.model_ops.specs.Rings.{St, renewedOn, armAt, slotStep, typeStep, configStep, resetBelow, resetAll}
 use Rattle.model_ops.specs.Concrete.{concrete}
@@ -163,24 +163,8 @@ row-bits bus-reset (suc (suc (suc n))) s k = else-bits refl k
 
 -- ---- scripts
 
--- at each access and at each end, whatever is read and whatever such state the next call finds
-pub data Holds {A : Type 0} : tree.Out St A → Type 0 where
-  end : {a : A} {s : St} → TogBits (s .0) → Holds (ends a s)
-  ask : {q : Access} {s : St} {k : ℕ → St → tree.Out St A} → TogBits (s .0)
-      → ((v : ℕ) (t : St) → TogBits (t .0) → Holds (k v t)) → Holds (asks q s k)
-
 pub record Keeps {i : Bool} {A : Type 0} (p : Script i A) : Type 0 where
-  pub on : (s : St) → TogBits (s .0) → Holds (run concrete p s)
-
-holds-bind : {A B : Type 0} {o : tree.Out St A} {f : A → St → tree.Out St B} → Holds o
-    → ((a : A) (s : St) → TogBits (s .0) → Holds (f a s)) → Holds (bindOut o f)
-holds-bind (end b) h = h _ _ b
-holds-bind (ask b k) h = ask b (λ v t c. holds-bind (k v t c) h)
-
-holds-rows : {A : Type 0} (g : Burst) (n : ℕ) {k : St → tree.Out St A} → ((t : St) → TogBits (t .0) → Holds (k t))
-    → (s : St) → TogBits (s .0) → Holds (rows concrete g n k s)
-holds-rows g zero h s b = ask (row-bits g zero s b) (λ v t c. h t c)
-holds-rows g (suc n) h s b = ask (row-bits g (suc n) s b) (λ v t c. holds-rows g n h t c)
+  pub on : (s : St) → TogBits (s .0) → Holds (Lent TogBits) (run concrete p s)
 
 -- the chip's bit, and DATA0
 pub bit-read : (b : Bool) → IsBit (flag b)
@@ -247,7 +231,7 @@ module _ {i : Bool} {A : Type 0} where
   k-hand {q} h = record { on = λ s b. ask (same-bits (hand-same q s) b) (λ v t c. h .on t c) }
 
 pub k-row : {A : Type 0} {g : Burst} {p : Script false A} → Keeps p → Keeps (row-then g p)
-k-row {g = g} h = record { on = λ s b. holds-rows g (lastOf g) (λ t c. h .on t c) s b }
+k-row {g = g} h = record { on = λ s b. holds-rows concrete g (row-bits g) (lastOf g) (λ t c. h .on t c) s b }
 
 -- rules by which a script is taken apart: what it got and assigns, and the rest
 pub ruleset assigning = (k-got, k-get, k-put, k-assigned, bit-read, bit-0)
