@@ -1,4 +1,5 @@
--- A bit of a word, whether it is set, and the word with it set or cleared; what `|`, `&`, `!` and `<<` do to them, over the width. Assumes nothing.
+-- A bit of a word, whether it is set, and the word with it set or cleared. BitLaws.antt proves what `|`, `&`, `!` and
+-- `<<` do to them, over the width. Assumes nothing.
 use mathlib.Core.Path.{_≡_, _∙_}
 use mathlib.Core.Bool.{Bool, true, false}
 use mathlib.Core.Logic.{_⊎_, ⊎-elim}

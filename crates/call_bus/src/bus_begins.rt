@@ -14,7 +14,7 @@ ghost use Prim.Native.Nat.{ℕ};
 ghost use Rattle.state.specs.State.{view};
 ghost use Rattle.model.specs.Machine.{begin};
 ghost use Rattle.model.specs.Calls.{other, slotted, BusEnable, BusDisable, BusPoll, IsStalled, SetStalled, SetEnabled};
-ghost use Rattle.machine.specs.Suspended.{machineOf, drive, answerOf, lentOr, BufferUnchangedOnRow1, SavedUnchangedOnRefusal};
+ghost use Rattle.machine.specs.Suspended.{machineOf, drive, answerOf, lentOr, BufferUnchangedOnRow1, SavedByAnswer};
 
 // `enable` (mod.rs 1225-1227).
 pub fn begin_bus_enable(s: &mut [u8; STATE_LEN]) -> Step
@@ -22,7 +22,7 @@ pub fn begin_bus_enable(s: &mut [u8; STATE_LEN]) -> Step
       answerOf r [] (view (now (s .exit))),
       machineOf (now (s .exit)) b,
     ) ≡ drive (begin (other BusEnable)) (machineOf (now (s .entry)) a) b) ⌝ }
-    ensures { λ r. ⌜ SavedUnchangedOnRefusal r (now (s .entry)) (now (s .exit)) ⌝ }
+    ensures { λ r. ⌜ SavedByAnswer r (now (s .entry)) (now (s .exit)) ⌝ }
 {
     let n = stop(s, 2);
     if n == 0 {
@@ -38,7 +38,7 @@ pub fn begin_bus_disable(s: &mut [u8; STATE_LEN]) -> Step
       answerOf r [] (view (now (s .exit))),
       machineOf (now (s .exit)) b,
     ) ≡ drive (begin (other BusDisable)) (machineOf (now (s .entry)) a) b) ⌝ }
-    ensures { λ r. ⌜ SavedUnchangedOnRefusal r (now (s .entry)) (now (s .exit)) ⌝ }
+    ensures { λ r. ⌜ SavedByAnswer r (now (s .entry)) (now (s .exit)) ⌝ }
 {
     let n = stop(s, 2);
     if n == 0 {
@@ -54,7 +54,7 @@ pub fn begin_bus_poll(s: &mut [u8; STATE_LEN]) -> Step
       answerOf r [] (view (now (s .exit))),
       machineOf (now (s .exit)) b,
     ) ≡ drive (begin (other BusPoll)) (machineOf (now (s .entry)) a) b) ⌝ }
-    ensures { λ r. ⌜ SavedUnchangedOnRefusal r (now (s .entry)) (now (s .exit)) ⌝ }
+    ensures { λ r. ⌜ SavedByAnswer r (now (s .entry)) (now (s .exit)) ⌝ }
 {
     let n = stop(s, 2);
     if n == 0 {
@@ -71,7 +71,7 @@ pub fn begin_is_stalled(s: &mut [u8; STATE_LEN], dir: Dir, e: u32) -> Step
       answerOf r [] (view (now (s .exit))),
       machineOf (now (s .exit)) b,
     ) ≡ drive (begin (other (IsStalled dir e))) (machineOf (now (s .entry)) a) b) ⌝ }
-    ensures { λ r. ⌜ SavedUnchangedOnRefusal r (now (s .entry)) (now (s .exit)) ⌝ }
+    ensures { λ r. ⌜ SavedByAnswer r (now (s .entry)) (now (s .exit)) ⌝ }
 {
     let n = stop(s, 2);
     if n == 0 {
@@ -91,7 +91,7 @@ pub fn begin_set_stalled(s: &mut [u8; STATE_LEN], dir: Dir, e: u32, on: bool) ->
       answerOf r [] (view (now (s .exit))),
       machineOf (now (s .exit)) b,
     ) ≡ drive (begin (other (SetStalled dir e on))) (machineOf (now (s .entry)) a) b) ⌝ }
-    ensures { λ r. ⌜ SavedUnchangedOnRefusal r (now (s .entry)) (now (s .exit)) ⌝ }
+    ensures { λ r. ⌜ SavedByAnswer r (now (s .entry)) (now (s .exit)) ⌝ }
 {
     let n = stop(s, 2);
     if n == 0 {
@@ -118,7 +118,7 @@ pub fn begin_set_enabled(
       machineOf (now (s .exit)) (lentOr (view (now (s .entry))) (now (slots .entry)) (now (slots .exit)) a),
     ) ≡ drive (begin (slotted (SetEnabled dir e on))) (machineOf (now (s .entry)) a) (now (slots .entry))) ⌝ }
     ensures { λ _. ⌜ BufferUnchangedOnRow1 (view (now (s .entry))) (now (slots .entry)) (now (slots .exit)) ⌝ }
-    ensures { λ r. ⌜ SavedUnchangedOnRefusal r (now (s .entry)) (now (s .exit)) ⌝ }
+    ensures { λ r. ⌜ SavedByAnswer r (now (s .entry)) (now (s .exit)) ⌝ }
 {
     if slots_fit(s, slots) {
         let n = stop(s, 2);

@@ -22,7 +22,7 @@ ghost use lib.Dec.{eqb};
 ghost use Rattle.state.specs.State.{view, saved};
 ghost use Rattle.model.specs.Machine.{start, begin};
 ghost use Rattle.model.specs.Calls.{slotted, SetEnabled, startRow};
-ghost use Rattle.machine.specs.Suspended.{decode, machineOf, answerOf, configOf, lentOr, BufferUnchangedOnRow1, SavedUnchangedOnRefusal};
+ghost use Rattle.machine.specs.Suspended.{decode, machineOf, answerOf, configOf, lentOr, BufferUnchangedOnRow1, SavedByAnswer};
 ghost use Rattle.call_bus_time.specs.Sharing.{sharedCall};
 ghost use Rattle.call_bus_time.specs.Accepts.{accepts};
 
@@ -43,7 +43,7 @@ pub fn start_up(
       ),
       now (time .exit),
     ) ≡ sharedCall driver (start (configOf size count callback)) (machineOf (now (s .entry)) a) (now (time .entry)) (now (slots .entry))) ⌝ }
-    ensures { λ r. ⌜ SavedUnchangedOnRefusal r (now (s .entry)) (now (s .exit)) ⌝ }
+    ensures { λ r. ⌜ SavedByAnswer r (now (s .entry)) (now (s .exit)) ⌝ }
 {
     let step = call_start::start_up(s, slots, size, count, callback);
     started(time, driver, step);
@@ -80,7 +80,7 @@ fn enable(
       now (time .exit),
     ) ≡ sharedCall driver (begin (slotted (SetEnabled dir e true))) (machineOf (now (s .entry)) a) (now (time .entry)) (now (slots .entry))) ⌝ }
     ensures { λ _. ⌜ BufferUnchangedOnRow1 (view (now (s .entry))) (now (slots .entry)) (now (slots .exit)) ⌝ }
-    ensures { λ r. ⌜ SavedUnchangedOnRefusal r (now (s .entry)) (now (s .exit)) ⌝ }
+    ensures { λ r. ⌜ SavedByAnswer r (now (s .entry)) (now (s .exit)) ⌝ }
 {
     let at = entry(driver, dir, e);
     let charge = charge_on(s, dir, e);
@@ -113,7 +113,7 @@ pub fn begin_set_enabled(
       now (time .exit),
     ) ≡ sharedCall driver (begin (slotted (SetEnabled dir e on))) (machineOf (now (s .entry)) a) (now (time .entry)) (now (slots .entry))) ⌝ }
     ensures { λ _. ⌜ BufferUnchangedOnRow1 (view (now (s .entry))) (now (slots .entry)) (now (slots .exit)) ⌝ }
-    ensures { λ r. ⌜ SavedUnchangedOnRefusal r (now (s .entry)) (now (s .exit)) ⌝ }
+    ensures { λ r. ⌜ SavedByAnswer r (now (s .entry)) (now (s .exit)) ⌝ }
 {
     if on {
         return enable(s, slots, time, driver, dir, e);

@@ -10,7 +10,7 @@ ghost use Prim.Native.Nat.{ℕ};
 ghost use Rattle.state.specs.State.{view};
 ghost use Rattle.model.specs.Machine.{begin};
 ghost use Rattle.model.specs.Calls.{other, slotted, BeginSetup, BeginDataOut, BeginDataIn, BeginAccept, BeginAcceptSetAddress, BeginReject};
-ghost use Rattle.machine.specs.Suspended.{machineOf, drive, answerOf, lentOr, BufferUnchangedOnRow1, SavedUnchangedOnRefusal};
+ghost use Rattle.machine.specs.Suspended.{machineOf, drive, answerOf, lentOr, BufferUnchangedOnRow1, SavedByAnswer};
 
 // `setup` (control.rs 70-80).
 pub fn begin_setup(s: &mut [u8; STATE_LEN]) -> Step
@@ -18,7 +18,7 @@ pub fn begin_setup(s: &mut [u8; STATE_LEN]) -> Step
       answerOf r [] (view (now (s .exit))),
       machineOf (now (s .exit)) b,
     ) ≡ drive (begin (other BeginSetup)) (machineOf (now (s .entry)) a) b) ⌝ }
-    ensures { λ r. ⌜ SavedUnchangedOnRefusal r (now (s .entry)) (now (s .exit)) ⌝ }
+    ensures { λ r. ⌜ SavedByAnswer r (now (s .entry)) (now (s .exit)) ⌝ }
 {
     if is_idle(s) {
         let x = control::setup(s);
@@ -33,7 +33,7 @@ pub fn begin_data_out(s: &mut [u8; STATE_LEN], n: u32, first: bool) -> Step
       answerOf r [] (view (now (s .exit))),
       machineOf (now (s .exit)) b,
     ) ≡ drive (begin (other (BeginDataOut n first))) (machineOf (now (s .entry)) a) b) ⌝ }
-    ensures { λ r. ⌜ SavedUnchangedOnRefusal r (now (s .entry)) (now (s .exit)) ⌝ }
+    ensures { λ r. ⌜ SavedByAnswer r (now (s .entry)) (now (s .exit)) ⌝ }
 {
     if is_idle(s) {
         let x = control::data_out(s, n, first);
@@ -55,7 +55,7 @@ pub fn begin_data_in(
       machineOf (now (s .exit)) (lentOr (view (now (s .entry))) (now (slots .entry)) (now (slots .exit)) a),
     ) ≡ drive (begin (slotted (BeginDataIn (now (bytes .entry)) first last))) (machineOf (now (s .entry)) a) (now (slots .entry))) ⌝ }
     ensures { λ _. ⌜ BufferUnchangedOnRow1 (view (now (s .entry))) (now (slots .entry)) (now (slots .exit)) ⌝ }
-    ensures { λ r. ⌜ SavedUnchangedOnRefusal r (now (s .entry)) (now (s .exit)) ⌝ }
+    ensures { λ r. ⌜ SavedByAnswer r (now (s .entry)) (now (s .exit)) ⌝ }
 {
     if slots_fit(s, slots) {
         if is_idle(s) {
@@ -73,7 +73,7 @@ pub fn begin_accept(s: &mut [u8; STATE_LEN]) -> Step
       answerOf r [] (view (now (s .exit))),
       machineOf (now (s .exit)) b,
     ) ≡ drive (begin (other BeginAccept)) (machineOf (now (s .entry)) a) b) ⌝ }
-    ensures { λ r. ⌜ SavedUnchangedOnRefusal r (now (s .entry)) (now (s .exit)) ⌝ }
+    ensures { λ r. ⌜ SavedByAnswer r (now (s .entry)) (now (s .exit)) ⌝ }
 {
     if is_idle(s) {
         let x = control::accept(s);
@@ -88,7 +88,7 @@ pub fn begin_accept_set_address(s: &mut [u8; STATE_LEN], address: u32) -> Step
       answerOf r [] (view (now (s .exit))),
       machineOf (now (s .exit)) b,
     ) ≡ drive (begin (other (BeginAcceptSetAddress address))) (machineOf (now (s .entry)) a) b) ⌝ }
-    ensures { λ r. ⌜ SavedUnchangedOnRefusal r (now (s .entry)) (now (s .exit)) ⌝ }
+    ensures { λ r. ⌜ SavedByAnswer r (now (s .entry)) (now (s .exit)) ⌝ }
 {
     if is_idle(s) {
         let x = control::accept_set_address(s, address);
@@ -103,7 +103,7 @@ pub fn begin_reject(s: &mut [u8; STATE_LEN]) -> Step
       answerOf r [] (view (now (s .exit))),
       machineOf (now (s .exit)) b,
     ) ≡ drive (begin (other BeginReject)) (machineOf (now (s .entry)) a) b) ⌝ }
-    ensures { λ r. ⌜ SavedUnchangedOnRefusal r (now (s .entry)) (now (s .exit)) ⌝ }
+    ensures { λ r. ⌜ SavedByAnswer r (now (s .entry)) (now (s .exit)) ⌝ }
 {
     if is_idle(s) {
         let x = control::reject(s);

@@ -11,7 +11,7 @@ ghost use lib.ListN.{length};
 ghost use Rattle.state.specs.State.{view};
 ghost use Rattle.model.specs.Machine.{begin};
 ghost use Rattle.model.specs.Calls.{other, slotted, PollSetup, PollDataOut, PollDataIn, PollAccept};
-ghost use Rattle.machine.specs.Suspended.{machineOf, drive, answerOf, lentOr, lentBy, SavedUnchangedOnRefusal};
+ghost use Rattle.machine.specs.Suspended.{machineOf, drive, answerOf, lentOr, lentBy, SavedByAnswer};
 
 // `setup` (control.rs 70-80).
 pub fn poll_setup(s: &mut [u8; STATE_LEN]) -> Step
@@ -19,7 +19,7 @@ pub fn poll_setup(s: &mut [u8; STATE_LEN]) -> Step
       answerOf r [] (view (now (s .exit))),
       machineOf (now (s .exit)) b,
     ) ≡ drive (begin (other PollSetup)) (machineOf (now (s .entry)) a) b) ⌝ }
-    ensures { λ r. ⌜ SavedUnchangedOnRefusal r (now (s .entry)) (now (s .exit)) ⌝ }
+    ensures { λ r. ⌜ SavedByAnswer r (now (s .entry)) (now (s .exit)) ⌝ }
 {
     if is_idle(s) {
         let x = control::poll_setup(s);
@@ -36,7 +36,7 @@ pub fn poll_data_out(s: &mut [u8; STATE_LEN], slots: &[u8], out: &mut [u8]) -> S
     ) ≡ drive (begin (slotted (PollDataOut (length (now (out .entry)))))) (machineOf (now (s .entry)) a) (now (slots .entry))) ⌝ }
     ensures { λ _. ⌜ ((a : List ℕ) → now (out .exit) ≡ lentBy (drive (begin (slotted (PollDataOut (length (now (out .entry))))))
         (machineOf (now (s .entry)) a) (now (slots .entry)) .0) (now (out .entry))) ⌝ }
-    ensures { λ r. ⌜ SavedUnchangedOnRefusal r (now (s .entry)) (now (s .exit)) ⌝ }
+    ensures { λ r. ⌜ SavedByAnswer r (now (s .entry)) (now (s .exit)) ⌝ }
 {
     if slots_fit(s, slots) {
         if is_idle(s) {
@@ -54,7 +54,7 @@ pub fn poll_data_in(s: &mut [u8; STATE_LEN]) -> Step
       answerOf r [] (view (now (s .exit))),
       machineOf (now (s .exit)) b,
     ) ≡ drive (begin (other PollDataIn)) (machineOf (now (s .entry)) a) b) ⌝ }
-    ensures { λ r. ⌜ SavedUnchangedOnRefusal r (now (s .entry)) (now (s .exit)) ⌝ }
+    ensures { λ r. ⌜ SavedByAnswer r (now (s .entry)) (now (s .exit)) ⌝ }
 {
     if is_idle(s) {
         let x = control::poll_data_in(s);
@@ -69,7 +69,7 @@ pub fn poll_accept(s: &mut [u8; STATE_LEN]) -> Step
       answerOf r [] (view (now (s .exit))),
       machineOf (now (s .exit)) b,
     ) ≡ drive (begin (other PollAccept)) (machineOf (now (s .entry)) a) b) ⌝ }
-    ensures { λ r. ⌜ SavedUnchangedOnRefusal r (now (s .entry)) (now (s .exit)) ⌝ }
+    ensures { λ r. ⌜ SavedByAnswer r (now (s .entry)) (now (s .exit)) ⌝ }
 {
     if is_idle(s) {
         let x = control::poll_accept(s);

@@ -15,7 +15,7 @@ ghost use Rattle.req_descriptor.specs.Writing.{stored};
 ghost use Rattle.state.specs.State.{view, saved};
 ghost use Rattle.model.specs.Machine.{begin};
 ghost use Rattle.model.specs.Calls.{other, AllocateAll};
-ghost use Rattle.machine.specs.Suspended.{decode, machineOf, drive, answerOf, SavedUnchangedOnRefusal};
+ghost use Rattle.machine.specs.Suspended.{decode, machineOf, drive, answerOf, SavedByAnswer};
 ghost use Rattle.req_preview.specs.Preview.{refusedBy};
 ghost use Rattle.machine.specs.Rows.{isIdle, stopOf};
 ghost use Rattle.call_driver.specs.Listed.{allocatedAll, previewed};
@@ -27,7 +27,7 @@ fn allocate_listed(s: &mut [u8; STATE_LEN], list: Endpoints) -> Step
       answerOf r [] (view (now (s .exit))),
       machineOf (now (s .exit)) b,
     ) ≡ allocatedAll (stored list) (view (now (s .entry))) b) ⌝ }
-    ensures { λ r. ⌜ SavedUnchangedOnRefusal r (now (s .entry)) (now (s .exit)) ⌝ }
+    ensures { λ r. ⌜ SavedByAnswer r (now (s .entry)) (now (s .exit)) ⌝ }
 {
     let t = req_preview::try_all(state::load_allocator(s), list);
     let row = t.refusal;
@@ -45,7 +45,7 @@ pub fn allocate_all(s: &mut [u8; STATE_LEN], bytes: &[u8]) -> Step
       answerOf r [] (view (now (s .exit))),
       machineOf (now (s .exit)) b,
     ) ≡ drive (begin (other (AllocateAll (now (bytes .entry))))) (machineOf (now (s .entry)) a) b) ⌝ }
-    ensures { λ r. ⌜ SavedUnchangedOnRefusal r (now (s .entry)) (now (s .exit)) ⌝ }
+    ensures { λ r. ⌜ SavedByAnswer r (now (s .entry)) (now (s .exit)) ⌝ }
 {
     let n = stop(s, 1);
     if n == 0 {

@@ -12,7 +12,7 @@ ghost use lib.ListN.{length};
 ghost use Rattle.state.specs.State.{view};
 ghost use Rattle.model.specs.Machine.{begin};
 ghost use Rattle.model.specs.Calls.{other, slotted, BeginRead, PollRead, BeginWrite, PollWrite};
-ghost use Rattle.machine.specs.Suspended.{machineOf, drive, answerOf, lentOr, BufferUnchangedOnRow1, lentBy, SavedUnchangedOnRefusal};
+ghost use Rattle.machine.specs.Suspended.{machineOf, drive, answerOf, lentOr, BufferUnchangedOnRow1, lentBy, SavedByAnswer};
 
 // `read` (endpoint.rs 83-142), into a slice of n bytes.
 pub fn begin_read(s: &mut [u8; STATE_LEN], e: u32, n: u32) -> Step
@@ -20,7 +20,7 @@ pub fn begin_read(s: &mut [u8; STATE_LEN], e: u32, n: u32) -> Step
       answerOf r [] (view (now (s .exit))),
       machineOf (now (s .exit)) b,
     ) ≡ drive (begin (other (BeginRead e n))) (machineOf (now (s .entry)) a) b) ⌝ }
-    ensures { λ r. ⌜ SavedUnchangedOnRefusal r (now (s .entry)) (now (s .exit)) ⌝ }
+    ensures { λ r. ⌜ SavedByAnswer r (now (s .entry)) (now (s .exit)) ⌝ }
 {
     if is_idle(s) {
         let x = endpoint::begin_read(s, e, n);
@@ -37,7 +37,7 @@ pub fn poll_read(s: &mut [u8; STATE_LEN], slots: &[u8], e: u32, out: &mut [u8]) 
     ) ≡ drive (begin (slotted (PollRead e (length (now (out .entry)))))) (machineOf (now (s .entry)) a) (now (slots .entry))) ⌝ }
     ensures { λ _. ⌜ ((a : List ℕ) → now (out .exit) ≡ lentBy (drive (begin (slotted (PollRead e (length (now (out .entry))))))
         (machineOf (now (s .entry)) a) (now (slots .entry)) .0) (now (out .entry))) ⌝ }
-    ensures { λ r. ⌜ SavedUnchangedOnRefusal r (now (s .entry)) (now (s .exit)) ⌝ }
+    ensures { λ r. ⌜ SavedByAnswer r (now (s .entry)) (now (s .exit)) ⌝ }
 {
     if slots_fit(s, slots) {
         if is_idle(s) {
@@ -56,7 +56,7 @@ pub fn begin_write(s: &mut [u8; STATE_LEN], slots: &mut [u8], e: u32, bytes: &[u
       machineOf (now (s .exit)) (lentOr (view (now (s .entry))) (now (slots .entry)) (now (slots .exit)) a),
     ) ≡ drive (begin (slotted (BeginWrite e (now (bytes .entry))))) (machineOf (now (s .entry)) a) (now (slots .entry))) ⌝ }
     ensures { λ _. ⌜ BufferUnchangedOnRow1 (view (now (s .entry))) (now (slots .entry)) (now (slots .exit)) ⌝ }
-    ensures { λ r. ⌜ SavedUnchangedOnRefusal r (now (s .entry)) (now (s .exit)) ⌝ }
+    ensures { λ r. ⌜ SavedByAnswer r (now (s .entry)) (now (s .exit)) ⌝ }
 {
     if slots_fit(s, slots) {
         if is_idle(s) {
@@ -74,7 +74,7 @@ pub fn poll_write(s: &mut [u8; STATE_LEN], slots: &mut [u8], e: u32, bytes: &[u8
       machineOf (now (s .exit)) (lentOr (view (now (s .entry))) (now (slots .entry)) (now (slots .exit)) a),
     ) ≡ drive (begin (slotted (PollWrite e (now (bytes .entry))))) (machineOf (now (s .entry)) a) (now (slots .entry))) ⌝ }
     ensures { λ _. ⌜ BufferUnchangedOnRow1 (view (now (s .entry))) (now (slots .entry)) (now (slots .exit)) ⌝ }
-    ensures { λ r. ⌜ SavedUnchangedOnRefusal r (now (s .entry)) (now (s .exit)) ⌝ }
+    ensures { λ r. ⌜ SavedByAnswer r (now (s .entry)) (now (s .exit)) ⌝ }
 {
     if slots_fit(s, slots) {
         if is_idle(s) {

@@ -14,7 +14,7 @@ ghost use Rattle.state.specs.State.{view};
 ghost use Rattle.model.specs.Machine.{begin, start};
 ghost use Rattle.model.specs.Calls.{other, Allocate, Start, startRow};
 ghost use Rattle.model.specs.Statics.{flag};
-ghost use Rattle.machine.specs.Suspended.{machineOf, drive, answerOf, configOf, SavedUnchangedOnRefusal};
+ghost use Rattle.machine.specs.Suspended.{machineOf, drive, answerOf, configOf, SavedByAnswer};
 
 // Allocation (mod.rs 953-1043, endpoint.rs 18-36): rows 6, 7, 8 are the allocator's answer.
 pub fn allocate(
@@ -29,7 +29,7 @@ pub fn allocate(
       answerOf r [] (view (now (s .exit))),
       machineOf (now (s .exit)) b,
     ) ≡ drive (begin (other (Allocate dir kind address maximum interval))) (machineOf (now (s .entry)) a) b) ⌝ }
-    ensures { λ r. ⌜ SavedUnchangedOnRefusal r (now (s .entry)) (now (s .exit)) ⌝ }
+    ensures { λ r. ⌜ SavedByAnswer r (now (s .entry)) (now (s .exit)) ⌝ }
 {
     let n = stop(s, 1);
     if n == 0 {
@@ -53,7 +53,7 @@ pub fn start(s: &mut [u8; STATE_LEN], maximum: u32) -> Step
       answerOf r [] (view (now (s .exit))),
       machineOf (now (s .exit)) b,
     ) ≡ drive (begin (other (Start maximum))) (machineOf (now (s .entry)) a) b) ⌝ }
-    ensures { λ r. ⌜ SavedUnchangedOnRefusal r (now (s .entry)) (now (s .exit)) ⌝ }
+    ensures { λ r. ⌜ SavedByAnswer r (now (s .entry)) (now (s .exit)) ⌝ }
 {
     let n = stop(s, 1);
     if n == 0 {
@@ -92,7 +92,7 @@ pub fn start_up(
       answerOf r [] (view (now (s .exit))),
       machineOf (now (s .exit)) (cond (eqb (startRow (configOf size count callback) (now (slots .entry))) 0) (now (slots .entry)) a),
     ) ≡ drive (start (configOf size count callback)) (machineOf (now (s .entry)) a) (now (slots .entry))) ⌝ }
-    ensures { λ r. ⌜ SavedUnchangedOnRefusal r (now (s .entry)) (now (s .exit)) ⌝ }
+    ensures { λ r. ⌜ SavedByAnswer r (now (s .entry)) (now (s .exit)) ⌝ }
 {
     if alloc::buffer::fits(slots.len() as u64, size, count) {
         if alloc::buffer::good_buffer(size, count) {

@@ -1,4 +1,4 @@
--- Laws: what several bytes at a step make of the remainder.
+-- What the remainder is after several bytes at a step. Definitions; BytewiseLaws.antt has the laws.
 use mathlib.Core.Path.{_≡_, ap₂, _∙_}
 use mathlib.Core.Bool.{Bool}
 use mathlib.Core.List.{List, [], _∷_}

@@ -13,7 +13,7 @@ use Rattle.irq.specs.declared.Next.the-variants as next
 use Rattle.irq.specs.Points.{meaning, awaitsAt}
 use Rattle.machine.specs.declared.Suspended.the-variants as under
 use Rattle.machine.specs.declared.Step.{Step}
-use Rattle.machine.specs.Suspended.{decode, machineOf, handedOut, answerOf, SavedUnchangedOnRefusal, Stored}
+use Rattle.machine.specs.Suspended.{decode, machineOf, handedOut, answerOf, SavedByAnswer, Stored}
 use Rattle.machine.specs.SuspendedLaws.{decode-encode}
 use Rattle.machine.specs.Goes.{Called}
 use Rattle.machine.specs.KeepsLaws.{canonical}
@@ -22,7 +22,7 @@ use Rattle.irq_points.specs.Stands.{Stands, halted, Stops}
 -- all 22 bytes are pinned
 pub stored-at : {r : Step} {q : Access} {p : Point} {xs ys : List ℕ} → Stands r q p xs ys → Stored r ys
 stored-at {r} {q} {p} {xs} {ys} h zs =
-    subst (λ (z : Step). SavedUnchangedOnRefusal z zs ys) (sym (h .answered)) (canonical (under.Interrupt p) ys (h .stored))
+    subst (λ (z : Step). SavedByAnswer z zs ys) (sym (h .answered)) (canonical (under.Interrupt p) ys (h .stored))
 
 stood : (q : Access) (p : Point) (d : Driver) (b : Buf) → awaited q ≡ awaitsAt p
     → handedOut q (under.Interrupt p) d b ≡ halted (meaning (next.Asks q p) d b)

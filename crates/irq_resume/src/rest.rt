@@ -21,7 +21,7 @@ ghost use Rattle.state.specs.State.{view, saved};
 ghost use Rattle.irq.specs.declared.Point.the-variants as Point;
 ghost use Rattle.irq_codec.specs.Codec.{checkOf, dirOf, transferOf};
 ghost use Rattle.machine.specs.declared.Suspended.the-variants as Under;
-ghost use Rattle.machine.specs.Suspended.{decode, machineOf, resumed, answerOf, SavedUnchangedOnRefusal};
+ghost use Rattle.machine.specs.Suspended.{decode, machineOf, resumed, answerOf, SavedByAnswer};
 
 // isochronous OUTs are looked at (`iso_out_check`).
 pub fn resume_check(s: &mut [u8; STATE_LEN], slots: &mut [u8], v: u32) -> Step
@@ -31,7 +31,7 @@ pub fn resume_check(s: &mut [u8; STATE_LEN], slots: &mut [u8], v: u32) -> Step
       answerOf r [] (view (now (s .exit))),
       machineOf (now (s .exit)) (now (slots .exit)),
     ) ≡ resumed v (decode (saved (now (s .entry)))) (view (now (s .entry))) (now (slots .entry)) ⌝ }
-    ensures { λ r. ⌜ SavedUnchangedOnRefusal r (now (s .entry)) (now (s .exit)) ⌝ }
+    ensures { λ r. ⌜ SavedByAnswer r (now (s .entry)) (now (s .exit)) ⌝ }
 {
     let q = check_at(s);
     if iso_out::fits_at(q, v) {
@@ -50,7 +50,7 @@ pub fn resume_moved_read(s: &mut [u8; STATE_LEN], v: u32) -> Step
       answerOf r [] (view (now (s .exit))),
       machineOf (now (s .exit)) b,
     ) ≡ resumed v (decode (saved (now (s .entry)))) (view (now (s .entry))) b) ⌝ }
-    ensures { λ r. ⌜ SavedUnchangedOnRefusal r (now (s .entry)) (now (s .exit)) ⌝ }
+    ensures { λ r. ⌜ SavedByAnswer r (now (s .entry)) (now (s .exit)) ⌝ }
 {
     if fits(v, 8) {
         let d = dir_at(s);
@@ -67,7 +67,7 @@ pub fn resume_moved_wrote(s: &mut [u8; STATE_LEN]) -> Step
       answerOf r [] (view (now (s .exit))),
       machineOf (now (s .exit)) b,
     ) ≡ resumed v (decode (saved (now (s .entry)))) (view (now (s .entry))) b) ⌝ }
-    ensures { λ r. ⌜ SavedUnchangedOnRefusal r (now (s .entry)) (now (s .exit)) ⌝ }
+    ensures { λ r. ⌜ SavedByAnswer r (now (s .entry)) (now (s .exit)) ⌝ }
 {
     let d = dir_at(s);
     let setup = setup_at(s);
@@ -81,7 +81,7 @@ pub fn resume_setup_rx(s: &mut [u8; STATE_LEN]) -> Step
       answerOf r [] (view (now (s .exit))),
       machineOf (now (s .exit)) b,
     ) ≡ resumed v (decode (saved (now (s .entry)))) (view (now (s .entry))) b) ⌝ }
-    ensures { λ r. ⌜ SavedUnchangedOnRefusal r (now (s .entry)) (now (s .exit)) ⌝ }
+    ensures { λ r. ⌜ SavedByAnswer r (now (s .entry)) (now (s .exit)) ⌝ }
 {
     after_setup_rx(s)
 }
@@ -93,7 +93,7 @@ pub fn resume_setup_tx(s: &mut [u8; STATE_LEN], slots: &mut [u8]) -> Step
       answerOf r [] (view (now (s .exit))),
       machineOf (now (s .exit)) (now (slots .exit)),
     ) ≡ resumed v (decode (saved (now (s .entry)))) (view (now (s .entry))) (now (slots .entry))) ⌝ }
-    ensures { λ r. ⌜ SavedUnchangedOnRefusal r (now (s .entry)) (now (s .exit)) ⌝ }
+    ensures { λ r. ⌜ SavedByAnswer r (now (s .entry)) (now (s .exit)) ⌝ }
 {
     after_setup_tx(s, slots)
 }
@@ -105,7 +105,7 @@ pub fn resume_setup_released(s: &mut [u8; STATE_LEN]) -> Step
       answerOf r [] (view (now (s .exit))),
       machineOf (now (s .exit)) b,
     ) ≡ resumed v (decode (saved (now (s .entry)))) (view (now (s .entry))) b) ⌝ }
-    ensures { λ r. ⌜ SavedUnchangedOnRefusal r (now (s .entry)) (now (s .exit)) ⌝ }
+    ensures { λ r. ⌜ SavedByAnswer r (now (s .entry)) (now (s .exit)) ⌝ }
 {
     after_setup_released(s)
 }

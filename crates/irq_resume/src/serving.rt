@@ -20,7 +20,7 @@ ghost use Rattle.state.specs.State.{view, saved};
 ghost use Rattle.irq.specs.declared.Point.the-variants as Point;
 ghost use Rattle.irq_codec.specs.Codec.{lateOf, sofOf, transferOf};
 ghost use Rattle.machine.specs.declared.Suspended.the-variants as Under;
-ghost use Rattle.machine.specs.Suspended.{decode, machineOf, resumed, answerOf, SavedUnchangedOnRefusal};
+ghost use Rattle.machine.specs.Suspended.{decode, machineOf, resumed, answerOf, SavedByAnswer};
 
 // frame_no (mod.rs 724-728).
 pub fn resume_frame_no(s: &mut [u8; STATE_LEN], slots: &mut [u8], v: u32) -> Step
@@ -30,7 +30,7 @@ pub fn resume_frame_no(s: &mut [u8; STATE_LEN], slots: &mut [u8], v: u32) -> Ste
       answerOf r [] (view (now (s .exit))),
       machineOf (now (s .exit)) (now (slots .exit)),
     ) ≡ resumed v (decode (saved (now (s .entry)))) (view (now (s .entry))) (now (slots .entry)) ⌝ }
-    ensures { λ r. ⌜ SavedUnchangedOnRefusal r (now (s .entry)) (now (s .exit)) ⌝ }
+    ensures { λ r. ⌜ SavedByAnswer r (now (s .entry)) (now (s .exit)) ⌝ }
 {
     if fits(v, 16) {
         let setup = setup_at(s);
@@ -50,7 +50,7 @@ pub fn resume_sof(s: &mut [u8; STATE_LEN], slots: &mut [u8], v: u32) -> Step
       answerOf r [] (view (now (s .exit))),
       machineOf (now (s .exit)) (now (slots .exit)),
     ) ≡ resumed v (decode (saved (now (s .entry)))) (view (now (s .entry))) (now (slots .entry)) ⌝ }
-    ensures { λ r. ⌜ SavedUnchangedOnRefusal r (now (s .entry)) (now (s .exit)) ⌝ }
+    ensures { λ r. ⌜ SavedByAnswer r (now (s .entry)) (now (s .exit)) ⌝ }
 {
     let q = sof_at(s);
     if sof::fits_at(q, v) {
@@ -72,7 +72,7 @@ pub fn resume_late(s: &mut [u8; STATE_LEN], slots: &mut [u8]) -> Step
       answerOf r [] (view (now (s .exit))),
       machineOf (now (s .exit)) (now (slots .exit)),
     ) ≡ resumed v (decode (saved (now (s .entry)))) (view (now (s .entry))) (now (slots .entry))) ⌝ }
-    ensures { λ r. ⌜ SavedUnchangedOnRefusal r (now (s .entry)) (now (s .exit)) ⌝ }
+    ensures { λ r. ⌜ SavedByAnswer r (now (s .entry)) (now (s .exit)) ⌝ }
 {
     let setup = setup_at(s);
     let x = transfer_at(s);

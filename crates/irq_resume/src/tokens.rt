@@ -25,7 +25,7 @@ ghost use Rattle.state.specs.State.{view, saved};
 ghost use Rattle.irq.specs.declared.Point.the-variants as Point;
 ghost use Rattle.irq_codec.specs.Codec.{completeOf, dirOf, sofOf, toggledOf, transferOf};
 ghost use Rattle.machine.specs.declared.Suspended.the-variants as Under;
-ghost use Rattle.machine.specs.Suspended.{decode, machineOf, resumed, answerOf, SavedUnchangedOnRefusal};
+ghost use Rattle.machine.specs.Suspended.{decode, machineOf, resumed, answerOf, SavedByAnswer};
 
 // the arm of SOF (mod.rs 750-754).
 pub fn resume_sof_arm(s: &mut [u8; STATE_LEN], slots: &mut [u8], v: u32) -> Step
@@ -36,7 +36,7 @@ pub fn resume_sof_arm(s: &mut [u8; STATE_LEN], slots: &mut [u8], v: u32) -> Step
       answerOf r [] (view (now (s .exit))),
       machineOf (now (s .exit)) (now (slots .exit)),
     ) ≡ resumed v (decode (saved (now (s .entry)))) (view (now (s .entry))) (now (slots .entry)) ⌝ }
-    ensures { λ r. ⌜ SavedUnchangedOnRefusal r (now (s .entry)) (now (s .exit)) ⌝ }
+    ensures { λ r. ⌜ SavedByAnswer r (now (s .entry)) (now (s .exit)) ⌝ }
 {
     let q = sof_at(s);
     if sof::fits_at(q, v) {
@@ -57,7 +57,7 @@ pub fn resume_flip(s: &mut [u8; STATE_LEN], v: u32) -> Step
       answerOf r [] (view (now (s .exit))),
       machineOf (now (s .exit)) b,
     ) ≡ resumed v (decode (saved (now (s .entry)))) (view (now (s .entry))) b) ⌝ }
-    ensures { λ r. ⌜ SavedUnchangedOnRefusal r (now (s .entry)) (now (s .exit)) ⌝ }
+    ensures { λ r. ⌜ SavedByAnswer r (now (s .entry)) (now (s .exit)) ⌝ }
 {
     if fits(v, 8) {
         let d = dir_at(s);
@@ -77,7 +77,7 @@ pub fn resume_flipped(s: &mut [u8; STATE_LEN], slots: &mut [u8]) -> Step
       answerOf r [] (view (now (s .exit))),
       machineOf (now (s .exit)) (now (slots .exit)),
     ) ≡ resumed v (decode (saved (now (s .entry)))) (view (now (s .entry))) (now (slots .entry))) ⌝ }
-    ensures { λ r. ⌜ SavedUnchangedOnRefusal r (now (s .entry)) (now (s .exit)) ⌝ }
+    ensures { λ r. ⌜ SavedByAnswer r (now (s .entry)) (now (s .exit)) ⌝ }
 {
     let d = dir_at(s);
     let setup = setup_at(s);
@@ -94,7 +94,7 @@ pub fn resume_toggled(s: &mut [u8; STATE_LEN], slots: &mut [u8], v: u32) -> Step
       answerOf r [] (view (now (s .exit))),
       machineOf (now (s .exit)) (now (slots .exit)),
     ) ≡ resumed v (decode (saved (now (s .entry)))) (view (now (s .entry))) (now (slots .entry)) ⌝ }
-    ensures { λ r. ⌜ SavedUnchangedOnRefusal r (now (s .entry)) (now (s .exit)) ⌝ }
+    ensures { λ r. ⌜ SavedByAnswer r (now (s .entry)) (now (s .exit)) ⌝ }
 {
     let q = toggled_at(s);
     if toggled::fits_at(q, v) {
@@ -115,7 +115,7 @@ pub fn resume_completing(s: &mut [u8; STATE_LEN], slots: &mut [u8]) -> Step
       answerOf r [] (view (now (s .exit))),
       machineOf (now (s .exit)) (now (slots .exit)),
     ) ≡ resumed v (decode (saved (now (s .entry)))) (view (now (s .entry))) (now (slots .entry))) ⌝ }
-    ensures { λ r. ⌜ SavedUnchangedOnRefusal r (now (s .entry)) (now (s .exit)) ⌝ }
+    ensures { λ r. ⌜ SavedByAnswer r (now (s .entry)) (now (s .exit)) ⌝ }
 {
     let setup = setup_at(s);
     let x = transfer_at(s);

@@ -1,4 +1,5 @@
-// The row of an isochronous OUT that is enabled or disabled (mod.rs 1285-1311) one access at a time. Every function is total: any number is safe.
+// The burst of accesses of an isochronous OUT that is enabled or disabled (mod.rs 1285-1311), one at a time. Every
+// function is total: any number is safe.
 use bus::Next;
 use bus::Point;
 use bus_set_stalled::after_woken;

@@ -11,7 +11,7 @@ use Rattle.model.specs.Machine.{Ans, ended, handed, told}
 use Rattle.machine.specs.declared.Step.{Step}
 use Rattle.machine.specs.declared.Step.the-variants as step
 use Rattle.machine.specs.declared.Suspended.{Suspended}
-use Rattle.machine.specs.Suspended.{Canonical, SavedUnchangedOnRefusal}
+use Rattle.machine.specs.Suspended.{Canonical, SavedByAnswer}
 
 -- ---- the same by an answer of the machine of calls: after a question they stay
 

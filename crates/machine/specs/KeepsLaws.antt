@@ -10,7 +10,7 @@ use Rattle.model.specs.Machine.{Ans}
 use Rattle.machine.specs.declared.Step.{Step}
 use Rattle.machine.specs.declared.Step.the-variants as step
 use Rattle.machine.specs.declared.Suspended.{Suspended}
-use Rattle.machine.specs.Suspended.{encode, decode, answerOf, Canonical, SavedUnchangedOnRefusal}
+use Rattle.machine.specs.Suspended.{encode, decode, answerOf, Canonical, SavedByAnswer}
 use Rattle.machine.specs.SuspendedLaws.{decode-encode}
 use Rattle.machine.specs.Keeps.{KeptBy}
 
@@ -22,7 +22,7 @@ pub canonical : (u : Suspended) (xs : List ℕ) → saved xs ≡ encode u → Ca
 canonical u xs e = encoded u (saved xs) e
 
 -- what was saved before, where the state changed first and what is saved did not
-pub kept-from : (r : Step) (xs ys zs : List ℕ) → saved ys ≡ saved xs → SavedUnchangedOnRefusal r ys zs → SavedUnchangedOnRefusal r xs zs
+pub kept-from : (r : Step) (xs ys zs : List ℕ) → saved ys ≡ saved xs → SavedByAnswer r ys zs → SavedByAnswer r xs zs
 kept-from (step.Refused n) xs ys zs e h = h ∙ e
 kept-from (step.Asks q) xs ys zs e h = h
 kept-from (step.Ends n k) xs ys zs e h = h
@@ -31,7 +31,7 @@ kept-from (step.Done n) xs ys zs e h = h ∙ e
 kept-from (step.Setup low high) xs ys zs e h = h ∙ e
 kept-from (step.Shown at n stamp) xs ys zs e h = h ∙ e
 
-pub kept-by : (r : Step) (out : List ℕ) (d : Driver) (xs ys : List ℕ) → SavedUnchangedOnRefusal r xs ys → KeptBy (answerOf r out d) xs ys
+pub kept-by : (r : Step) (out : List ℕ) (d : Driver) (xs ys : List ℕ) → SavedByAnswer r xs ys → KeptBy (answerOf r out d) xs ys
 kept-by (step.Refused n) out d xs ys h = h
 kept-by (step.Asks q) out d xs ys h = h
 kept-by (step.Ends n k) out d xs ys h = h
@@ -40,7 +40,7 @@ kept-by (step.Done n) out d xs ys h = h
 kept-by (step.Setup low high) out d xs ys h = h
 kept-by (step.Shown at n stamp) out d xs ys h = h
 
-of-answer : (r : Step) (out : List ℕ) (d : Driver) (xs ys : List ℕ) → KeptBy (answerOf r out d) xs ys → SavedUnchangedOnRefusal r xs ys
+of-answer : (r : Step) (out : List ℕ) (d : Driver) (xs ys : List ℕ) → KeptBy (answerOf r out d) xs ys → SavedByAnswer r xs ys
 of-answer (step.Refused n) out d xs ys h = h
 of-answer (step.Asks q) out d xs ys h = h
 of-answer (step.Ends n k) out d xs ys h = h
@@ -51,6 +51,6 @@ of-answer (step.Shown at n stamp) out d xs ys h = h
 
 -- two answers that the machine of calls does not tell apart
 pub kept-told : (r t : Step) (out out′ : List ℕ) (d : Driver) (xs ys : List ℕ)
-    → answerOf t out′ d ≡ answerOf r out d → SavedUnchangedOnRefusal r xs ys → SavedUnchangedOnRefusal t xs ys
+    → answerOf t out′ d ≡ answerOf r out d → SavedByAnswer r xs ys → SavedByAnswer t xs ys
 kept-told r t out out′ d xs ys e h =
     of-answer t out′ d xs ys (subst (λ (a : Ans Answer). KeptBy a xs ys) (sym e) (kept-by r out d xs ys h))

@@ -169,19 +169,19 @@ Canonical xs = saved xs ≡ encode (decode (saved xs))
 
 -- the 22 saved bytes after a call that begins an operation, goes on with one or polls, by its answer: where it hands
 -- out an access they are canonical, where an operation has ended all are zero; after all else, a refusal, they stay
-abbrev pub SavedUnchangedOnRefusal : Step → List ℕ → List ℕ → Type 0
-SavedUnchangedOnRefusal (step.Refused n) xs ys = saved ys ≡ saved xs
-SavedUnchangedOnRefusal (step.Asks q) xs ys = Canonical ys
-SavedUnchangedOnRefusal (step.Ends n k) xs ys = saved ys ≡ fresh.nothing
-SavedUnchangedOnRefusal step.NotYet xs ys = saved ys ≡ saved xs
-SavedUnchangedOnRefusal (step.Done n) xs ys = saved ys ≡ saved xs
-SavedUnchangedOnRefusal (step.Setup low high) xs ys = saved ys ≡ saved xs
-SavedUnchangedOnRefusal (step.Shown at n stamp) xs ys = saved ys ≡ saved xs
+abbrev pub SavedByAnswer : Step → List ℕ → List ℕ → Type 0
+SavedByAnswer (step.Refused n) xs ys = saved ys ≡ saved xs
+SavedByAnswer (step.Asks q) xs ys = Canonical ys
+SavedByAnswer (step.Ends n k) xs ys = saved ys ≡ fresh.nothing
+SavedByAnswer step.NotYet xs ys = saved ys ≡ saved xs
+SavedByAnswer (step.Done n) xs ys = saved ys ≡ saved xs
+SavedByAnswer (step.Setup low high) xs ys = saved ys ≡ saved xs
+SavedByAnswer (step.Shown at n stamp) xs ys = saved ys ≡ saved xs
 
 -- of an access handed out or an end: whatever was saved before
 abbrev pub Stored : Step → List ℕ → Type 0
-Stored r ys = (xs : List ℕ) → SavedUnchangedOnRefusal r xs ys
+Stored r ys = (xs : List ℕ) → SavedByAnswer r xs ys
 
 -- of an answer that comes with what was saved before
 abbrev pub Leaves : Step → Type 0
-Leaves r = (xs ys : List ℕ) → saved ys ≡ saved xs → SavedUnchangedOnRefusal r xs ys
+Leaves r = (xs ys : List ℕ) → saved ys ≡ saved xs → SavedByAnswer r xs ys

@@ -22,7 +22,7 @@ ghost use Rattle.endpoint.specs.Points as endpoint;
 ghost use Rattle.iso_in.specs.Advance as advance;
 ghost use Rattle.irq.specs.Points as handler;
 ghost use Rattle.machine.specs.Suspended.{withTag, encode, decode, finish, machineAt, machineOf, haltsAs, halts};
-ghost use Rattle.machine.specs.Suspended.{handedOut, answerOf, SavedUnchangedOnRefusal, Stored, Leaves};
+ghost use Rattle.machine.specs.Suspended.{handedOut, answerOf, SavedByAnswer, Stored, Leaves};
 ghost use Rattle.machine.specs.Rows.{isIdle};
 
 // The operation is under way: it stands where it handed out the access, at a point that is saved with its tag.
@@ -104,7 +104,7 @@ pub fn begun_control(s: &mut [u8; STATE_LEN], n: control::Begun) -> Step
       answerOf r [] (view (now (s .exit))),
       machineOf (now (s .exit)) b,
     ) ≡ halts (control.begunAs n (view (now (s .entry))) b)) ⌝ }
-    ensures { λ r. ⌜ SavedUnchangedOnRefusal r (now (s .entry)) (now (s .exit)) ⌝ }
+    ensures { λ r. ⌜ SavedByAnswer r (now (s .entry)) (now (s .exit)) ⌝ }
 {
     match n {
         control::Begun::Refused(k) => Step::Refused(k),
@@ -120,7 +120,7 @@ pub fn polled_control(s: &mut [u8; STATE_LEN], n: control::Polled) -> Step
       answerOf r out (view (now (s .exit))),
       machineOf (now (s .exit)) b,
     ) ≡ halts (control.polledAs n out (view (now (s .entry))) b)) ⌝ }
-    ensures { λ r. ⌜ SavedUnchangedOnRefusal r (now (s .entry)) (now (s .exit)) ⌝ }
+    ensures { λ r. ⌜ SavedByAnswer r (now (s .entry)) (now (s .exit)) ⌝ }
 {
     match n {
         control::Polled::Refused(k) => Step::Refused(k),
@@ -183,7 +183,7 @@ pub fn begun_endpoint(s: &mut [u8; STATE_LEN], n: endpoint::Begun) -> Step
       answerOf r [] (view (now (s .exit))),
       machineOf (now (s .exit)) b,
     ) ≡ halts (endpoint.begunAs n (view (now (s .entry))) b)) ⌝ }
-    ensures { λ r. ⌜ SavedUnchangedOnRefusal r (now (s .entry)) (now (s .exit)) ⌝ }
+    ensures { λ r. ⌜ SavedByAnswer r (now (s .entry)) (now (s .exit)) ⌝ }
 {
     match n {
         endpoint::Begun::Refused(k) => Step::Refused(k),

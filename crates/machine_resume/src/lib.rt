@@ -40,7 +40,7 @@ ghost use mathlib.Core.List.{List, []};
 ghost use Prim.Native.Nat.{ℕ};
 ghost use Rattle.state.specs.State.{view, saved};
 ghost use Rattle.model.specs.Machine.{go};
-ghost use Rattle.machine.specs.Suspended.{decode, machineOf, drive, resumed, answerOf, lentOr, BufferUnchangedOnRow1, SavedUnchangedOnRefusal};
+ghost use Rattle.machine.specs.Suspended.{decode, machineOf, drive, resumed, answerOf, lentOr, BufferUnchangedOnRow1, SavedByAnswer};
 
 // Goes on at an interrupt's point: the one dispatch on what is saved.
 fn resume_interrupt(s: &mut [u8; STATE_LEN], slots: &mut [u8], v: u32) -> Step
@@ -49,7 +49,7 @@ fn resume_interrupt(s: &mut [u8; STATE_LEN], slots: &mut [u8], v: u32) -> Step
       answerOf r [] (view (now (s .exit))),
       machineOf (now (s .exit)) (now (slots .exit)),
     ) ≡ resumed v (decode (saved (now (s .entry)))) (view (now (s .entry))) (now (slots .entry)) ⌝ }
-    ensures { λ r. ⌜ SavedUnchangedOnRefusal r (now (s .entry)) (now (s .exit)) ⌝ }
+    ensures { λ r. ⌜ SavedByAnswer r (now (s .entry)) (now (s .exit)) ⌝ }
 {
     let site = site_byte(s);
     match site {
@@ -89,7 +89,7 @@ fn resume_at(s: &mut [u8; STATE_LEN], slots: &mut [u8], v: u32) -> Step
       answerOf r [] (view (now (s .exit))),
       machineOf (now (s .exit)) (now (slots .exit)),
     ) ≡ resumed v (decode (saved (now (s .entry)))) (view (now (s .entry))) (now (slots .entry)) ⌝ }
-    ensures { λ r. ⌜ SavedUnchangedOnRefusal r (now (s .entry)) (now (s .exit)) ⌝ }
+    ensures { λ r. ⌜ SavedByAnswer r (now (s .entry)) (now (s .exit)) ⌝ }
 {
     match tag(s) {
         1 => resume_driver(s, v),
@@ -109,7 +109,7 @@ pub fn interrupt(s: &mut [u8; STATE_LEN], slots: &mut [u8], v: u32) -> Step
       machineOf (now (s .exit)) (lentOr (view (now (s .entry))) (now (slots .entry)) (now (slots .exit)) a),
     ) ≡ drive (go v) (machineOf (now (s .entry)) a) (now (slots .entry))) ⌝ }
     ensures { λ _. ⌜ BufferUnchangedOnRow1 (view (now (s .entry))) (now (slots .entry)) (now (slots .exit)) ⌝ }
-    ensures { λ r. ⌜ SavedUnchangedOnRefusal r (now (s .entry)) (now (s .exit)) ⌝ }
+    ensures { λ r. ⌜ SavedByAnswer r (now (s .entry)) (now (s .exit)) ⌝ }
 {
     if slots_fit(s, slots) {
         return resume_interrupt(s, slots, v);
@@ -125,7 +125,7 @@ pub fn operation(s: &mut [u8; STATE_LEN], slots: &mut [u8], v: u32) -> Step
       machineOf (now (s .exit)) (lentOr (view (now (s .entry))) (now (slots .entry)) (now (slots .exit)) a),
     ) ≡ drive (go v) (machineOf (now (s .entry)) a) (now (slots .entry))) ⌝ }
     ensures { λ _. ⌜ BufferUnchangedOnRow1 (view (now (s .entry))) (now (slots .entry)) (now (slots .exit)) ⌝ }
-    ensures { λ r. ⌜ SavedUnchangedOnRefusal r (now (s .entry)) (now (s .exit)) ⌝ }
+    ensures { λ r. ⌜ SavedByAnswer r (now (s .entry)) (now (s .exit)) ⌝ }
 {
     if slots_fit(s, slots) {
         return resume_at(s, slots, v);

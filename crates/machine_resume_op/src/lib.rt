@@ -13,7 +13,7 @@ ghost use mathlib.Core.Path.{_≡_};
 ghost use mathlib.Core.List.{List, []};
 ghost use Prim.Native.Nat.{ℕ};
 ghost use Rattle.state.specs.State.{view, saved};
-ghost use Rattle.machine.specs.Suspended.{decode, machineOf, resumed, answerOf, SavedUnchangedOnRefusal};
+ghost use Rattle.machine.specs.Suspended.{decode, machineOf, resumed, answerOf, SavedByAnswer};
 
 // Goes on at the driver's own point.
 pub fn resume_driver(s: &mut [u8; STATE_LEN], v: u32) -> Step
@@ -22,7 +22,7 @@ pub fn resume_driver(s: &mut [u8; STATE_LEN], v: u32) -> Step
       answerOf r [] (view (now (s .exit))),
       machineOf (now (s .exit)) b,
     ) ≡ resumed v (decode (saved (now (s .entry)))) (view (now (s .entry))) b) ⌝ }
-    ensures { λ r. ⌜ SavedUnchangedOnRefusal r (now (s .entry)) (now (s .exit)) ⌝ }
+    ensures { λ r. ⌜ SavedByAnswer r (now (s .entry)) (now (s .exit)) ⌝ }
 {
     let p = driver_codec::decode(state::load_saved(s));
     if driver_codec::fits_at(p, v) {
@@ -39,7 +39,7 @@ pub fn resume_bus(s: &mut [u8; STATE_LEN], slots: &mut [u8], v: u32) -> Step
       answerOf r [] (view (now (s .exit))),
       machineOf (now (s .exit)) (now (slots .exit)),
     ) ≡ resumed v (decode (saved (now (s .entry)))) (view (now (s .entry))) (now (slots .entry)) ⌝ }
-    ensures { λ r. ⌜ SavedUnchangedOnRefusal r (now (s .entry)) (now (s .exit)) ⌝ }
+    ensures { λ r. ⌜ SavedByAnswer r (now (s .entry)) (now (s .exit)) ⌝ }
 {
     let p = bus::decode(state::load_saved(s));
     if bus::fits_at(p, v) {
@@ -56,7 +56,7 @@ pub fn resume_control(s: &mut [u8; STATE_LEN], v: u32) -> Step
       answerOf r [] (view (now (s .exit))),
       machineOf (now (s .exit)) b,
     ) ≡ resumed v (decode (saved (now (s .entry)))) (view (now (s .entry))) b) ⌝ }
-    ensures { λ r. ⌜ SavedUnchangedOnRefusal r (now (s .entry)) (now (s .exit)) ⌝ }
+    ensures { λ r. ⌜ SavedByAnswer r (now (s .entry)) (now (s .exit)) ⌝ }
 {
     let p = control::decode(state::load_saved(s));
     if control::fits_at(p, v) {
@@ -73,7 +73,7 @@ pub fn resume_endpoint(s: &mut [u8; STATE_LEN], v: u32) -> Step
       answerOf r [] (view (now (s .exit))),
       machineOf (now (s .exit)) b,
     ) ≡ resumed v (decode (saved (now (s .entry)))) (view (now (s .entry))) b) ⌝ }
-    ensures { λ r. ⌜ SavedUnchangedOnRefusal r (now (s .entry)) (now (s .exit)) ⌝ }
+    ensures { λ r. ⌜ SavedByAnswer r (now (s .entry)) (now (s .exit)) ⌝ }
 {
     let p = endpoint::decode(state::load_saved(s));
     if endpoint::fits_at(p, v) {
@@ -90,7 +90,7 @@ pub fn resume_advance(s: &mut [u8; STATE_LEN], v: u32) -> Step
       answerOf r [] (view (now (s .exit))),
       machineOf (now (s .exit)) b,
     ) ≡ resumed v (decode (saved (now (s .entry)))) (view (now (s .entry))) b) ⌝ }
-    ensures { λ r. ⌜ SavedUnchangedOnRefusal r (now (s .entry)) (now (s .exit)) ⌝ }
+    ensures { λ r. ⌜ SavedByAnswer r (now (s .entry)) (now (s .exit)) ⌝ }
 {
     let p = iso_in::codec::decode(state::load_saved(s));
     if advance::fits_at(p, v) {

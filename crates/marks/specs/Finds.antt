@@ -1,4 +1,5 @@
--- The length by the marks is the packet's, for every maximum, where its last byte differs from the mark's there and marks follow.
+-- What FindsLaws.antt speaks of. It proves: the length by the marks is the packet's, for every maximum, where its last
+-- byte differs from the mark's there and marks follow.
 use mathlib.Core.Path.{_≡_}
 use mathlib.Core.Bool.{Bool}
 use mathlib.Core.List.{List}

@@ -1,4 +1,4 @@
--- A packet stored in an armed slot: its length is found.
+-- What StoredLaws.antt speaks of. It proves: a packet stored in an armed slot: its length is found.
 use mathlib.Core.Path.{_≡_, _∙_}
 use mathlib.Core.List.{List}
 use Prim.Native.Nat.{ℕ, _+_, _≤_, _<_}

@@ -1,4 +1,5 @@
--- Which addresses each call writes to dev_ad: none but a bus reset's 0 and the one accepted. Proofs as in AddressWrites
+-- What AddressCallsLaws.antt speaks of. It proves: which addresses each call writes to dev_ad: none but a bus reset's 0
+-- and the one accepted
 use mathlib.Core.Bool.{Bool}
 use mathlib.Core.List.{List, [], _∷_}
 use mathlib.Core.Path.{_≡_}

@@ -44,8 +44,13 @@ of-nak : (i : Bool) (st : ℕ) → N (nakNonIso {i = i} st)
 of-nak i st = (λ _. tt, λ _. (λ _. tt, λ _. (((tt, λ _. tt), λ _. (tt, tt)), (((tt, λ _. tt), λ _. (tt, tt)), tt))))
 
 of-toggled : (i : Bool) (d : Dir) (e : ℕ) → N (toggled {i = i} d e)
-of-toggled i d e =
-    (of-looks i 2001, λ _. ((tt, λ _. tt), λ _. (λ _. tt, λ _. (((((tt, λ _. tt), λ w. (control moving d (ack w), tt)), tt), λ _. tt), ((λ _. tt, λ _. tt), λ _. tt)))))
+of-toggled i d e = (
+  of-looks i 2001,
+  λ _. (
+    (tt, λ _. tt),
+    λ _. (λ _. tt, λ _. (((((tt, λ _. tt), λ w. (control moving d (ack w), tt)), tt), λ _. tt), ((λ _. tt, λ _. tt), λ _. tt))),
+  ),
+)
 
 of-retake : (i : Bool) (x : Transfer) → N (retake {i = i} x)
 of-retake i x = ((tt, λ _. tt), λ _. (((tt, λ _. tt), λ _. (tt, ((tt, λ _. tt), λ st. (of-nak i st, λ _. tt)))), tt))

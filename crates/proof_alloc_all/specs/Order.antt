@@ -1,4 +1,5 @@
--- Allocating a descriptor's endpoints as one operation hands out what allocating them one by one hands out, and leaves the same state
+-- What OrderLaws.antt speaks of. It proves: allocating a descriptor's endpoints as one operation hands out what
+-- allocating them one by one hands out, and leaves the same state
 use mathlib.Core.Bool.{Bool}
 use mathlib.Core.List.{List, [], _∷_, _++_}
 use mathlib.Core.Path.{_≡_, _∙_}

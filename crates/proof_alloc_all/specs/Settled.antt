@@ -1,4 +1,5 @@
--- States in which the buffers tell the order of the endpoints; every allocation keeps them so
+-- What SettledLaws.antt speaks of. It proves: states in which the buffers tell the order of the endpoints; every
+-- allocation keeps them so
 use mathlib.Core.Bool.{Bool, true, true≢false}
 use mathlib.Core.Logic.{_≢_}
 use mathlib.Core.Path.{_≡_, _∙_}

@@ -1,4 +1,5 @@
--- The walk over the records announces the endpoints in the order of their buffers
+-- What WalkLaws.antt speaks of. It proves: the walk over the records announces the endpoints in the order of their
+-- buffers
 use mathlib.Core.Bool.{Bool, _&&_}
 use mathlib.Core.List.{List, [], _∷_, _++_}
 use mathlib.Core.Logic.{_≢_}

@@ -1,5 +1,6 @@
--- What holds of a started driver's state and every operation keeps, holds after each call of every list, whatever is lent and whatever the chip
--- answers: the driver agrees with itself by the relation that the states are one and it holds of this one
+-- What AlwaysLaws.antt speaks of. It proves: what holds of a started driver's state and every operation keeps, holds
+-- after each call of every list, whatever is lent and whatever the chip answers: the driver agrees with itself by the
+-- relation that the states are one and it holds of this one
 use mathlib.Core.Bool.{Bool}
 use mathlib.Core.List.{List, [], _∷_}
 use mathlib.Core.Path.{_≡_}

@@ -247,7 +247,9 @@ module _ (f : ℕ) (s : Bk) where
   }
     where
       own : PassesOn (s .0 .ins f) (loadedIn (passed .0 .ins f) (s .1))
-      own = subst (λ (p : InPage). PassesOn (s .0 .ins f) (loadedIn p (s .1))) (sym (in-same (s .0) f (passedIn (s .0 .ins f)))) (loaded-on (s .0 .ins f) (s .1))
+      own =
+          subst (λ (p : InPage). PassesOn (s .0 .ins f) (loadedIn p (s .1))) (sym (in-same (s .0) f (passedIn (s .0 .ins f))))
+          (loaded-on (s .0 .ins f) (s .1))
 
 abbrev pub Watched : {A : Type 0} → Bk → tree.Out Bk A → Type 0
 Watched s o = Tracks Any Still Moves s o

@@ -79,11 +79,13 @@ module _ (a : Ans Answer) where
     halted-blank i f b (asks q u k) (ask j m g) = stays-blank (halts i (asks q u k)) (fed-blank a (u .0) j) (f, g)
 
   -- a row stops it
-  stays : (c : Call Config Op) (n : Machine Answer Pages) (b : Buf) (k : ℕ) → Early n → EarlyAfter c (n .st) (stay calls (book .driver) k (lentTo calls (book .driver) n b))
+  stays : (c : Call Config Op) (n : Machine Answer Pages) (b : Buf) (k : ℕ)
+      → Early n → EarlyAfter c (n .st) (stay calls (book .driver) k (lentTo calls (book .driver) n b))
   stays c n b k (started-up h w) = record { machine = started-up h w; leaves = λ _. packets (n .st) }
   stays c n b k (blank h w) = record { machine = blank h w; leaves = λ _. packets (n .st) }
 
-  either : {c : Call Config Op} {t : Pages} (u : Bool) (x y : Ans Answer × Machine Answer Pages) → EarlyAfter c t x → EarlyAfter c t y → EarlyAfter c t (cond u x y)
+  either : {c : Call Config Op} {t : Pages} (u : Bool) (x y : Ans Answer × Machine Answer Pages)
+      → EarlyAfter c t x → EarlyAfter c t y → EarlyAfter c t (cond u x y)
   either true x y h k = h
   either false x y h k = k
 

@@ -142,7 +142,9 @@ put-steady (paced-cell e) h v s = others (s .0) _ refl refl refl refl refl refl
 
 queued-steady : (d : Driver) (e n : ℕ) → Steady d (queuedOn d e n)
 unfolding queuedOn withLenOn joinedOf epOn
-queued-steady d e n = then (others d (withLenOn d In e _ n) refl refl refl refl refl refl) (record-steady (withLenOn d In e _ n) In e (joinedOf (epOn d In e)) refl)
+queued-steady d e n =
+    then (others d (withLenOn d In e _ n) refl refl refl refl refl refl)
+    (record-steady (withLenOn d In e _ n) In e (joinedOf (epOn d In e)) refl)
 
 pub act-steady : (q : Act) → allocates q ≡ false → (s : St) → Steady (s .0) (concrete .act q s .0)
 unfolding completeOn emptiedOn emptied enabledOn configured openOn openedOf closeOn takeOn closedOf passedOf enqueueOn

@@ -1,4 +1,5 @@
--- The readings of an interrupt counted in the answers of the calls: at most 4,056, whatever calls fall between
+-- What ServedLaws.antt speaks of. It proves: the readings of an interrupt counted in the answers of the calls: at most
+-- 4,056, whatever calls fall between
 use mathlib.Core.Bool.{Bool, false, cond}
 use mathlib.Core.List.{List, [], _∷_}
 use mathlib.Core.Path.{_≡_}

@@ -1,5 +1,5 @@
--- From start-up on the flags and the two sets tell one sort of each endpoint: an allocation gives a number from 1 to 15 that had no sort, and adds it
--- to a set where it is isochronous
+-- What SortingLaws.antt speaks of. It proves: from start-up on the flags and the two sets tell one sort of each
+-- endpoint: an allocation gives a number from 1 to 15 that had no sort, and adds it to a set where it is isochronous
 use mathlib.Core.Bool.{Bool, false, true≢false}
 use mathlib.Core.List.{List, _∷_}
 use mathlib.Core.Logic.{_≢_}

@@ -1,5 +1,6 @@
--- The sorts of the driver's endpoints are the flags of their records. No operation but an allocation changes a flag or one of the two sets of
--- isochronous endpoints, so the driver's own operations leave the sorts
+-- What TransferKindsLaws.antt speaks of. It proves: the sorts of the driver's endpoints are the flags of their records.
+-- No operation but an allocation changes a flag or one of the two sets of isochronous endpoints, so the driver's own
+-- operations leave the sorts
 use mathlib.Core.Bool.{Bool, true≢false}
 use mathlib.Core.List.{List}
 use mathlib.Core.Path.{_≡_, _∙_}

@@ -1,4 +1,5 @@
--- The calls of document 01 that both runs get: each answers the same but for the channel's wake-ups and lines up
+-- What OperationsLaws.antt speaks of. It proves: the calls of document 01 that both runs get: each answers the same but
+-- for the channel's wake-ups and lines up
 use mathlib.Core.Bool.{Bool, true≢false}
 use mathlib.Core.List.{List}
 use mathlib.Core.Logic.{_≢_, _⊎_}

@@ -1,4 +1,4 @@
--- Each turn leaves two runs standing so that they line up
+-- What RunsLaws.antt speaks of. It proves: each turn leaves two runs standing so that they line up
 use mathlib.Core.Bool.{Bool, true, false, cond, _&&_, true≢false}
 use mathlib.Core.List.{List}
 use mathlib.Core.Path.{_≡_, refl, ap, subst, sym, _∙_}

@@ -1,4 +1,5 @@
--- What no operation changes but an assignment of the control request and EP0's start: that request, the stage, EP0's maximum
+-- What SettledLaws.antt speaks of. It proves: what no operation changes but an assignment of the control request and
+-- EP0's start: that request, the stage, EP0's maximum
 use mathlib.Core.Bool.{Bool, true, false, true≢false}
 use mathlib.Core.Path.{_≡_, _∙_}
 use Prim.Native.Nat.{ℕ, _%_}

@@ -1,4 +1,4 @@
--- Where two runs stand: they line up from there on
+-- What StandingLaws.antt speaks of. It proves: where two runs stand: they line up from there on
 use mathlib.Core.Bool.{Bool, true, false, _&&_, true≢false}
 use mathlib.Core.List.{List}
 use mathlib.Core.Path.{_≡_, refl, ap, subst, sym, _∙_}

@@ -37,7 +37,7 @@ lightsOf [] = []
 lightsOf (gets o ∷ is) = o ∷ lightsOf is
 lightsOf (goes-own v ∷ is) = lightsOf is
 
--- a turn (Turns.antt); or both continue an access that is not made for the channel, and one of them is late: it gets the others' calls after that
+-- a turn (Schedule.antt); or both continue an access that is not made for the channel, and one of them is late: it gets the others' calls after that
 -- continue, at the channel's own accesses, where the other got them, in the same order, before it. The numbers are what the two continues bring
 pub data Later : Type 0 where
   timely : Turn → Later
@@ -141,7 +141,7 @@ module _ (c : Channel) (share : Bool) (n : ℕ) where
   Heard (first-late v v′ is) w = AllSame (c .number) (itemAnswers share n is (gone share n v (w .first))) (litAnswers share n (lightsOf is) (w .second))
   Heard (second-late v v′ is) w = AllSame (c .number) (litAnswers share n (lightsOf is) (w .first)) (itemAnswers share n is (gone share n v′ (w .second)))
 
-  -- after a turn what Turns.antt says; after a late one the same but for the last answers: `stands`, `lined`, `alike`, `time`
+  -- after a turn what Schedule.antt says; after a late one the same but for the last answers: `stands`, `lined`, `alike`, `time`
   abbrev pub AfterLate : Later → Two → Type 0
   AfterLate (timely t) w = After c t w
   AfterLate (first-late v v′ is) w = After c (others-time (λ t. t)) w

@@ -12,7 +12,7 @@ use Rattle.model.specs.Answers.{Answer, Refused}
 use Rattle.model.specs.Calls.{Config, Op, slots}
 use Rattle.model.specs.Machine.{Buf, Call, start, begin, go, question, Machine, Ans, ended}
 use Rattle.machine.specs.declared.Step.the-variants as step
-use Rattle.machine.specs.Suspended.{decode, machineAt, machineOf, drive, answerOf, slotsFit, lentOr, BufferUnchangedOnRow1, SavedUnchangedOnRefusal}
+use Rattle.machine.specs.Suspended.{decode, machineAt, machineOf, drive, answerOf, slotsFit, lentOr, BufferUnchangedOnRow1, SavedByAnswer}
 use Rattle.machine.specs.Goes.{Called}
 use Rattle.proof_refusals.specs.Left.{Poll, none, pollOf, requestEnded, flagCleared, leftBy, left, buffersRow}
 use Rattle.proof_refusals.specs.Scripts.{unpolled}
@@ -50,7 +50,7 @@ module _ (c : Call Config Op) (n : ℕ) (xs ys : List ℕ) where
   -- every byte of the state
   pub bytes-left : (a b b′ : Buf)
       → _≡_ {A = Called} (answerOf (step.Refused n) [] (view ys), machineOf ys b′) (drive c (machineOf xs a) b)
-      → SavedUnchangedOnRefusal (step.Refused n) xs ys
+      → SavedByAnswer (step.Refused n) xs ys
       → Spares c n → Bytes xs → Bytes ys → ys ≡ xs
   bytes-left a b b′ e k s x y = determined xs ys x y (view-left a b b′ e ∙ spared c n (view xs) s) k
 

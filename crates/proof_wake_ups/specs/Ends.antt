@@ -1,4 +1,4 @@
--- The list that an end gives: no longer than the one gathered
+-- What EndsLaws.antt speaks of. It proves: the list that an end gives: no longer than the one gathered
 use mathlib.Core.Bool.{Bool}
 use mathlib.Core.List.{List, []}
 use Prim.Native.Nat.{ℕ, _≤_}

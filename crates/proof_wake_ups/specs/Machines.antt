@@ -1,5 +1,5 @@
--- The driver and the driver beside the record answer every call alike (request Nine): the list that an end gives has every wake-up since the
--- operation's begin, in order, and none is lost
+-- What MachinesLaws.antt speaks of. It proves: the driver and the driver beside the record answer every call alike
+-- (request Nine): the list that an end gives has every wake-up since the operation's begin, in order, and none is lost
 use mathlib.Core.Bool.{Bool}
 use mathlib.Core.List.{List, [], _∷_}
 use mathlib.Core.Path.{_≡_}

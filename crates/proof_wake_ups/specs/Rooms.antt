@@ -1,4 +1,5 @@
--- In every run from an accepted start-up the wake-ups gathered, and those that an end gives, are fewer than 64 at each moment
+-- What RoomsLaws.antt speaks of. It proves: in every run from an accepted start-up the wake-ups gathered, and those
+-- that an end gives, are fewer than 64 at each moment
 use mathlib.Core.Bool.{Bool}
 use mathlib.Core.List.{List, [], _∷_}
 use mathlib.Core.Path.{_≡_}

@@ -1,4 +1,5 @@
--- A reader of any stream whose good blocks are as written gives exactly the written packets that lie wholly in good blocks, in order.
+-- What WholeLaws.antt speaks of. It proves: a reader of any stream whose good blocks are as written gives exactly the
+-- written packets that lie wholly in good blocks, in order.
 use mathlib.Core.Path.{_≡_, ap₂, _∙_}
 use mathlib.Core.Bool.{true, false≢true}
 use mathlib.Core.List.{List, [], _∷_}

@@ -1,4 +1,5 @@
--- The reader's calls in turn, with one lent room, give exactly the written packets that lie wholly in good blocks.
+-- What RunsLaws.antt speaks of. It proves: the reader's calls in turn, with one lent room, give exactly the written
+-- packets that lie wholly in good blocks.
 use mathlib.Core.Path.{_≡_, ap₂, _∙_}
 use mathlib.Core.Bool.{Bool}
 use mathlib.Core.List.{List, [], _∷_, _++_}

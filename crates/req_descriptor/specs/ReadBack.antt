@@ -1,4 +1,5 @@
--- Reading gives good lists only, and a good list that is written reads back as itself. Assumes nothing.
+-- What ReadBackLaws.antt speaks of. It proves: reading gives good lists only, and a good list that is written reads
+-- back as itself. Assumes nothing.
 use mathlib.Core.Path.{_≡_, _∙_}
 use mathlib.Core.Bool.{Bool, true, false, _&&_, _||_}
 use mathlib.Core.List.{List, [], _∷_, _++_}

@@ -1,4 +1,5 @@
--- The bounds are reached, by the first arrival and the distance that the answer gives beside each. Assumes nothing.
+-- What ReachesLaws.antt speaks of. It proves: the bounds are reached, by the first arrival and the distance that the
+-- answer gives beside each. Assumes nothing.
 use mathlib.Core.Path.{_≡_}
 use Prim.Native.Nat.{ℕ, _+_, _*_, _/_, _≤_, _<_}
 use Rattle.req_visits.specs.declared.Reached.{Reached}

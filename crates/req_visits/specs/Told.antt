@@ -1,4 +1,5 @@
--- What the answer tells: request Thirteen's sentences in one theorem, `told`. Assumes nothing.
+-- What ToldLaws.antt speaks of. It proves: what the answer tells: request Thirteen's sentences in one theorem, `told`.
+-- Assumes nothing.
 use mathlib.Core.Logic.{_↔_}
 use mathlib.Core.Path.{_≡_}
 use mathlib.Core.Bool.{Bool}

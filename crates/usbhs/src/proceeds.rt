@@ -8,7 +8,7 @@ ghost use mathlib.Core.List.{List, []};
 ghost use Prim.Native.Nat.{ℕ};
 ghost use Rattle.state.specs.State.{view};
 ghost use Rattle.model.specs.Machine.{go};
-ghost use Rattle.machine.specs.Suspended.{machineOf, answerOf, lentOr, BufferUnchangedOnRow1, SavedUnchangedOnRefusal};
+ghost use Rattle.machine.specs.Suspended.{machineOf, answerOf, lentOr, BufferUnchangedOnRow1, SavedByAnswer};
 ghost use Rattle.call_bus_time.specs.Sharing.{sharedCall};
 
 // The tag of an interrupt's point.
@@ -31,7 +31,7 @@ pub fn proceed(
       now (time .exit),
     ) ≡ sharedCall driver (go v) (machineOf (now (s .entry)) a) (now (time .entry)) (now (slots .entry))) ⌝ }
     ensures { λ _. ⌜ BufferUnchangedOnRow1 (view (now (s .entry))) (now (slots .entry)) (now (slots .exit)) ⌝ }
-    ensures { λ r. ⌜ SavedUnchangedOnRefusal r (now (s .entry)) (now (s .exit)) ⌝ }
+    ensures { λ r. ⌜ SavedByAnswer r (now (s .entry)) (now (s .exit)) ⌝ }
 {
     if tag(s) == INTERRUPT {
         return machine_resume::interrupt(s, slots, v);

@@ -1,5 +1,5 @@
 -- What an exported call says: its word is that of the answer which the machine of calls gives; the 22 bytes that are saved of an operation under way
--- are canonical, all zero or as they were, by the answer (`SavedUnchangedOnRefusal`)
+-- are canonical, all zero or as they were, by the answer (`SavedByAnswer`)
 use mathlib.Core.Bool.{Bool, true, false, not, cond}
 use mathlib.Core.List.{List, []}
 use mathlib.Core.Path.{_≡_}
@@ -10,7 +10,7 @@ use Rattle.regs.specs.declared.Dir.the-variants.{Out, In}
 use Rattle.state.specs.State.{view, saved}
 use Rattle.model.specs.Calls.{Config, Op, aside, Open, startRow}
 use Rattle.model.specs.Machine.{Buf, Call, begin, start}
-use Rattle.machine.specs.Suspended.{machineOf, drive, answerOf, lentOr, BufferUnchangedOnRow1, lentBy, SavedUnchangedOnRefusal}
+use Rattle.machine.specs.Suspended.{machineOf, drive, answerOf, lentOr, BufferUnchangedOnRow1, lentBy, SavedByAnswer}
 use Rattle.call_endpoint.specs.Shown.{ShownAt}
 use Rattle.call_bus_time.specs.Sharing.{sharedCall}
 use Rattle.call_answer_word.specs.Word.{Worded}
@@ -29,7 +29,7 @@ abbrev pub Answers : ℕ → Call Config Op → List ℕ → List ℕ → Type 0
 Answers r c before after =
     Worded r
     (λ step. ((a b : Buf) → (answerOf step [] (view after), machineOf after b) ≡ drive c (machineOf before a) b)
-    × SavedUnchangedOnRefusal step before after)
+    × SavedByAnswer step before after)
 
 -- pacing, which is no operation: what is saved stays
 abbrev pub AnswersAtOnce : ℕ → Call Config Op → List ℕ → List ℕ → Type 0
@@ -43,14 +43,14 @@ abbrev pub AnswersLent : ℕ → Call Config Op → List ℕ → List ℕ → Bu
 AnswersLent r c before after slots slots′ =
     Worded r
     (λ step. ((a : Buf) → (answerOf step [] (view after), machineOf after (lentOr (view before) slots slots′ a)) ≡ drive c (machineOf before a) slots)
-    × (BufferUnchangedOnRow1 (view before) slots slots′ × SavedUnchangedOnRefusal step before after))
+    × (BufferUnchangedOnRow1 (view before) slots slots′ × SavedByAnswer step before after))
 
 -- a poll that fills a slice: its bytes after the call are those that the answer brings, or they stay
 abbrev pub AnswersInto : ℕ → Call Config Op → List ℕ → List ℕ → List ℕ → List ℕ → Type 0
 AnswersInto r c before after out out′ =
     Worded r
     (λ step. ((a b : Buf) → (answerOf step out′ (view after), machineOf after b) ≡ drive c (machineOf before a) b)
-    × SavedUnchangedOnRefusal step before after)
+    × SavedByAnswer step before after)
     × ((a b : Buf) → out′ ≡ lentBy (drive c (machineOf before a) b .0) out)
 
 -- the same with the slots, which it reads
@@ -58,7 +58,7 @@ abbrev pub AnswersOutOf : ℕ → Call Config Op → List ℕ → List ℕ → B
 AnswersOutOf r c before after slots out out′ =
     Worded r
     (λ step. ((a : Buf) → (answerOf step out′ (view after), machineOf after (lentOr (view before) slots slots a)) ≡ drive c (machineOf before a) slots)
-    × SavedUnchangedOnRefusal step before after)
+    × SavedByAnswer step before after)
     × ((a : Buf) → out′ ≡ lentBy (drive c (machineOf before a) slots .0) out)
 
 -- packets in place: of one that is shown, the bytes are the slots'; what is saved stays
@@ -94,7 +94,7 @@ AnswersStart r i c before after slots time time′ =
       (answerOf step [] (view after), machineOf after (cond (eqb (startRow c slots) 0) slots a)),
       time′,
     ) ≡ sharedCall i (start c) (machineOf before a) time slots)
-    × SavedUnchangedOnRefusal step before after)
+    × SavedByAnswer step before after)
 
 -- a call that brings the slots and the record of bus time
 abbrev pub AnswersCharged : ℕ → ℕ → Call Config Op → List ℕ → List ℕ → Buf → Buf → List ℕ → List ℕ → Type 0
@@ -104,4 +104,4 @@ AnswersCharged r i c before after slots slots′ time time′ =
       (answerOf step [] (view after), machineOf after (lentOr (view before) slots slots′ a)),
       time′,
     ) ≡ sharedCall i c (machineOf before a) time slots)
-    × (BufferUnchangedOnRow1 (view before) slots slots′ × SavedUnchangedOnRefusal step before after))
+    × (BufferUnchangedOnRow1 (view before) slots slots′ × SavedByAnswer step before after))
