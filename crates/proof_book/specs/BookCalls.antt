@@ -351,25 +351,25 @@ decided c a e n h b s l d = subst
 
 -- ---- no arrival
 
-module _ (a : Ans Answer) (e v : ℕ) (n : Machine Answer Pages) (h : Fine n) (b : Buf) (away : addressed a e ≡ false) where
-  fed-away : (z : Ans Answer) → addressed z e ≡ false → (t : Pages) → fed book z t .outs e ≡ t .outs e
-  fed-away (ended z) g t = refl
-  fed-away (handed (Read r f)) g t = refl
-  fed-away (handed (Write r f w)) g t = refl
-  fed-away (handed (Receive f x)) g t = at-elim (λ (p : OutPage). p ≡ t .outs e) f e (slotTold (t .outs f) x) (t .outs)
-      (λ k. absurd (true≢false (sym (ap (λ (m : ℕ). eqb (f % 16) m) k ∙ eq-eqb (f % 16) (f % 16) refl) ∙ g))) (λ _. refl)
-  fed-away (handed (Transmit f x)) g t = refl
-  fed-away (handed (Ep0Dma x)) g t = refl
-  fed-away (handed (Wait k)) g t = refl
-  fed-away (handed Callback) g t = refl
-  fed-away (told k) g t = refl
+pub fed-away : (z : Ans Answer) (e : ℕ) → addressed z e ≡ false → (t : Pages) → fed book z t .outs e ≡ t .outs e
+fed-away (ended z) e g t = refl
+fed-away (handed (Read r f)) e g t = refl
+fed-away (handed (Write r f w)) e g t = refl
+fed-away (handed (Receive f x)) e g t = at-elim (λ (p : OutPage). p ≡ t .outs e) f e (slotTold (t .outs f) x) (t .outs)
+    (λ k. absurd (true≢false (sym (ap (λ (m : ℕ). eqb (f % 16) m) k ∙ eq-eqb (f % 16) (f % 16) refl) ∙ g))) (λ _. refl)
+fed-away (handed (Transmit f x)) e g t = refl
+fed-away (handed (Ep0Dma x)) e g t = refl
+fed-away (handed (Wait k)) e g t = refl
+fed-away (handed Callback) e g t = refl
+fed-away (told k) e g t = refl
 
+module _ (a : Ans Answer) (e v : ℕ) (n : Machine Answer Pages) (h : Fine n) (b : Buf) (away : addressed a e ≡ false) where
   abbrev Stays : Ans Answer × Machine Answer Pages → Type 0
   Stays y = addressed (y .0) e ≡ false → y .1 .st .outs e ≡ n .st .outs e
 
   stays-at : (o : tree.Out Bk Answer) → Watched (n .st, b) o → Stays (halt calls (book .driver) (fed book a) true o)
   stays-at (ends z t) (end j q) k = q .rest .outs e
-  stays-at (asks q t g) (ask j m f) k = fed-away a away (t .0) ∙ m .leaves e (ap (λ (u : Bool). u && receiving (n .st) e) k)
+  stays-at (asks q t g) (ask j m f) k = fed-away a e away (t .0) ∙ m .leaves e (ap (λ (u : Bool). u && receiving (n .st) e) k)
 
   stays-wide : (u : Bool) (y : Ans Answer × Machine Answer Pages) → Stays y → Stays (cond u (stay calls (book .driver) 16 (lentTo calls (book .driver) n b)) y)
   stays-wide true y s k = refl

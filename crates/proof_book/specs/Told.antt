@@ -34,13 +34,16 @@ use Rattle.proof_book.specs.Pages.{bytesOf, OutPage, Pages}
 use Rattle.proof_book.specs.Book.{Bk, some, isoOf, roomB, receiving, slotTold, freshPages, bookOps, book}
 use Rattle.proof_book.specs.Coupling.{Shape, Coupling}
 use Rattle.proof_book.specs.Frame.{out-same}
-use Rattle.proof_book.specs.FrontPage.{written, inInterrupt, givesTo, SamePackets, EndsWith, by-row, opens, closes}
-use Rattle.proof_book.specs.FrontPage.{queues, waits, gives, AtOnce}
+use Rattle.proof_book.specs.FrontPage.{written, inInterrupt, addressed, givesTo, SamePackets, EndsWith, by-row}
+use Rattle.proof_book.specs.FrontPage.{opens, closes, queues, waits, gives, AtOnce}
 use Rattle.proof_book.specs.BookTracks.{end, ask}
 use Rattle.proof_book.specs.BookCounts.{Followed}
 use Rattle.proof_book.specs.BookDecides.{Watched}
-use Rattle.proof_book.specs.BookCalls.{Fine, WayFine}
-use Rattle.proof_book.specs.ContinueCalls.{fed-packets}
+use Rattle.proof_book.specs.BookCalls.{Fine, WayFine, fed-away}
+use Rattle.proof_book.specs.ContinueCalls.{WayOnto, fed-packets}
+use Rattle.proof_book.specs.Onward.{Onto}
+use Rattle.proof_book.specs.Others.{releasing}
+use Rattle.proof_book.specs.BusResets.{releasing-blank}
 use Rattle.proof_book.specs.Enabling.{Asks, Empty, first-access}
 use Rattle.proof_book.specs.PollsWhole.{ended-same}
 
@@ -153,6 +156,36 @@ pub disabled-leaves : (c : Call Config Op) (a : Ans Answer) (e v : ℕ) (n : Mac
 disabled-leaves c a e v n h b p i g =
     subst (λ (c : Call Config Op). SamePackets (n .st .outs e) (written a c n b .1 .st .outs e)) (sym p)
     (either a e v n h b g (misfit calls (book .driver) (n .st) b) _ _ refl (stays-way a e v n h b g (n .way) (h .way) i))
+
+-- ---- a continue that is no interrupt's changes no slot but at a receive address
+
+module _ (a : Ans Answer) (e v : ℕ) (n : Machine Answer Pages) (b : Buf)
+    (kept : releasing a ≡ false) (away : addressed a e ≡ false) where
+  abbrev Same : Ans Answer × Machine Answer Pages → Type 0
+  Same y = blankA a ≡ blankA (y .0) → y .1 .st .outs e ≡ n .st .outs e
+
+  same-at : (o : tree.Out Bk Answer) → Onto (n .st, b) o → Same (halt calls (book .driver) (fed book a) false o)
+  same-at (ends z t) (end j w) s = w .outs e
+  same-at (asks q t k) (ask j w g) s = fed-away a e away (t .0)
+      ∙ w (sym (releasing-blank (handed q)) ∙ ap releasing (sym s) ∙ releasing-blank a ∙ kept) .outs e
+
+  either-same : (u : Bool) (x y : Ans Answer × Machine Answer Pages) → Same x → Same y → Same (cond u x y)
+  either-same true x y p q = p
+  either-same false x y p q = q
+
+  same-way : (w : Way Answer Pages) → WayOnto w → inInterrupt w ≡ false
+      → Same (continued calls (book .driver) (fed book a) v n w b)
+  same-way idle x i = λ _. refl
+  same-way (busy true q f) x i = absurd (true≢false i)
+  same-way (busy false q f) x i = either-same (over calls q v) _ _ (λ _. refl) (same-at (f v (n .st, b)) (x v (n .st, b)))
+
+pub unmoved-slot : (c : Call Config Op) (a : Ans Answer) (e v : ℕ) (n : Machine Answer Pages) → WayOnto (n .way) → (b : Buf)
+    → blankA a ≡ blankA (written a c n b .0) → c ≡ go v → inInterrupt (n .way) ≡ false → releasing a ≡ false
+    → addressed a e ≡ false → written a c n b .1 .st .outs e ≡ n .st .outs e
+unmoved-slot c a e v n x b s p i r g = subst
+    (λ (c : Call Config Op). blankA a ≡ blankA (written a c n b .0) → written a c n b .1 .st .outs e ≡ n .st .outs e) (sym p)
+    (either-same a e v n b r g (misfit calls (book .driver) (n .st) b) _ _ (λ _. refl)
+    (same-way a e v n b r g (n .way) x i)) s
 
 -- ---- calls that end at once
 
