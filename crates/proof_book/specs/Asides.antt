@@ -112,7 +112,6 @@ module _ (t : Pages) (e : ℕ) where
         → (q : Packet) × (rest : List Packet) × (t .outs e .waiting ≡ q ∷ rest) × (bytes ≡ q .bytes)
         × (stamp ≡ q .stamp) × (t′ .outs e .opened ≡ true) × (t′ .outs e .waiting ≡ t .outs e .waiting)
         × (t′ .outs e .admitted ≡ t .outs e .admitted) × (t′ .outs e .read ≡ t .outs e .read)
-        × (t′ .outs e .slot ≡ t .outs e .slot)
 
   not-opened : (k : ℕ) → (k ≡ 12 → ⊥) → Opened (Refused k) t
   not-opened k h = record { leaves = λ r q. refl; none = λ q. absurd (h (ap row q)); shows = λ stamp bytes q. absurd (true≢false (ap isRefused q)) }
@@ -138,7 +137,6 @@ module _ (t : Pages) (e : ℕ) where
       ap (λ (p : OutPage). p .waiting) (out-same t e (openOut (t .outs e))),
       ap (λ (p : OutPage). p .admitted) (out-same t e (openOut (t .outs e))),
       ap (λ (p : OutPage). p .read) (out-same t e (openOut (t .outs e))),
-      ap (λ (p : OutPage). p .slot) (out-same t e (openOut (t .outs e))),
     );
   }
   opens (q ∷ w) h false g k = absurd (true≢false (sym k))
@@ -172,7 +170,6 @@ reads-first {p} {p′} {q} {w} h k = record {
   read = ap (λ (p : OutPage). p .read) k ∙ ap (λ (w : List Packet). p .read ++ front w) h;
   admitted = ap (λ (p : OutPage). p .admitted) k;
   closed = ap (λ (p : OutPage). p .opened) k;
-  slot = ap (λ (p : OutPage). p .slot) k;
 }
 
 module _ (t : Pages) (e : ℕ) (some-open : t .outs e .opened ≡ true → (q : Packet) × (w : List Packet) × (t .outs e .waiting ≡ q ∷ w)) where

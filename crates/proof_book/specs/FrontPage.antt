@@ -104,7 +104,6 @@ pub record ReadsFirst (p p′ : OutPage) (q : Packet) : Type 0 where
   pub read : p′ .read ≡ p .read ++ (q ∷ [])
   pub admitted : p′ .admitted ≡ p .admitted
   pub closed : p′ .opened ≡ false
-  pub slot : p′ .slot ≡ p .slot
 
 -- where the transmit address x is a load's: the slot there holds the bytes of the first waiting
 abbrev pub Holds : InPage → Buf → ℕ → Type 0
@@ -120,7 +119,6 @@ pub record Compared (c : Call Config Op) (t : Pages) (a : Ans Answer) (d : Drive
       → (q : Packet) × (rest : List Packet) × (t .outs e .waiting ≡ q ∷ rest) × (bytes ≡ q .bytes)
       × (stamp ≡ q .stamp) × (t′ .outs e .opened ≡ true) × (t′ .outs e .waiting ≡ t .outs e .waiting)
       × (t′ .outs e .admitted ≡ t .outs e .admitted) × (t′ .outs e .read ≡ t .outs e .read)
-      × (t′ .outs e .slot ≡ t .outs e .slot)
   -- "… and a read's poll gives the first", whole; it is read
   pub poll-gives : (e n : ℕ) (bytes : List ℕ) → c ≡ begin (slotted (PollRead e n)) → a ≡ ended (Done bytes) → isoOf t Out e ≡ true
       → (q : Packet) × (bytes ≡ q .bytes) × ReadsFirst (t .outs e) (t′ .outs e) q
@@ -331,9 +329,11 @@ pub record Sentences (c : Call Config Op) (lent : Buf) (n : Machine Answer Pages
   -- no packet of an OUT
   pub unmoved : (e v : ℕ) → c ≡ go v → inInterrupt (n .way) ≡ true → addressed a e ≡ false → t′ .outs e ≡ n .st .outs e
   pub unmoved-out : (e v : ℕ) → c ≡ go v → inInterrupt (n .way) ≡ false → releasing a ≡ false → SamePackets (n .st .outs e) (t′ .outs e)
-  -- nor its slot, but at a receive address of it
+  -- nor its slot, but at a receive address of it; no more does a begin, but for those before EP0's start
   pub unmoved-slot : (e v : ℕ) → c ≡ go v → inInterrupt (n .way) ≡ false → releasing a ≡ false → addressed a e ≡ false
       → t′ .outs e ≡ n .st .outs e
+  pub begin-slot : (o : Op) (e : ℕ) → c ≡ begin o → (BeforeStart (n .st) (begin o) → ⊥) → addressed a e ≡ false
+      → t′ .outs e .slot ≡ n .st .outs e .slot
   -- a continue changes the page of an IN at a load alone, where no packet but the one being sent ceases to wait
   pub unmoved-in : (e v : ℕ) → c ≡ go v → emptying (n .way) a ≡ false → loading a e ≡ false → t′ .ins e ≡ n .st .ins e
   pub load-passes : (e v : ℕ) → c ≡ go v → emptying (n .way) a ≡ false → PassesOn (n .st .ins e) (t′ .ins e)

@@ -47,6 +47,7 @@ use Rattle.proof_book.specs.BusResets.{bus-reset-empties, begin-empties}
 use Rattle.proof_book.specs.SendingCalls.{Sending, SendingAfter, after-call, start-after, start-emptied, sends-of, told-source}
 use Rattle.proof_book.specs.ContinueCalls.{WayOnto, start-onto, goes-on, continues-of}
 use Rattle.proof_book.specs.AdvanceBegins.{advance-begins}
+use Rattle.proof_book.specs.SlotsTold.{begin-slot}
 use Rattle.proof_book.specs.Told.{disabled-leaves, enabled-is, slot-told, unmoved-slot, asides-end, polls-end, enabling-ends}
 use Rattle.proof_book.specs.EarlyCalls.{Early, no-start, start-early, early-call}
 use Rattle.proof_book.specs.Lengths.{Known, learnt}
@@ -193,6 +194,7 @@ module _ (c : Call Config Op) (l : Buf) (m : Machine Answer Driver)
     open-waits = open-there (a .rest);
     decided = λ e d. let h = ap isStart (d .continues) in steps-of.decided c (x .0) e n (before h .fine) l (a .same) (most-15 h e) d;
     unmoved-slot = λ e v p i r g. unmoved-slot c (x .0) e v n (before (ap isStart p) .onto) l (a .same) p i r g;
+    begin-slot = λ o e p w g. begin-slot c (x .0) o e n (before (ap isStart p) .fine) l p w g;
     disabled-leaves = λ e v p i g. disabled-leaves c (x .0) e v n (before (ap isStart p) .fine) l p i g;
     enabled-is = enabled-is (a .rest);
     slot-told = slot-told c (x .0) n l (a .same);

@@ -66,6 +66,7 @@ pub mod EarlyScripts
 pub mod EarlyCalls
 pub mod PollsWhole
 pub mod Told
+pub mod SlotsTold
 pub mod Lent
 pub mod Code
 pub mod FrontPageProved

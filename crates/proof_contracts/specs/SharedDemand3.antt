@@ -54,6 +54,7 @@ module _ (dir : Dir) (e : ℕ) (lent b : Buf) (n : Machine Answer Pages) (d : Dr
     open-waits = x .open-waits;
     decided = λ e y. let p = y .continues in let z : _≡_ {A = ℕ} 0 1 = cc in absurd (omega arith);
     unmoved-slot = λ e v p i r g. let z : _≡_ {A = ℕ} 0 1 = cc in absurd (omega arith);
+    begin-slot = λ o e p w g. refl;
     disabled-leaves = λ e v p i g. let z : _≡_ {A = ℕ} 0 1 = cc in absurd (omega arith);
     enabled-is = x .enabled-is;
     slot-told = λ e y q. let z : _≡_ {A = ℕ} 0 1 = cc in absurd (omega arith);
