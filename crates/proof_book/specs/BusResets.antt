@@ -64,7 +64,8 @@ module _ (a : Ans Answer) (n : Machine Answer Pages) (h : Fine n) (b : Buf) (dir
   wide-by true y s k = absurd (true≢false (sym k))
   wide-by false y s k = s k
 
-  way-by : (v : ℕ) (w : Way Answer Pages) → WayFine w → inInterrupt w ≡ false → Resets (continued calls (book .driver) (fed book a) v n w b)
+  way-by : (v : ℕ) (w : Way Answer Pages) → WayFine w → inInterrupt w ≡ false
+      → Resets (continued calls (book .driver) (fed book a) v n w b)
   way-by v idle g i k = absurd (true≢false (sym k))
   way-by v (busy true q f) g i k = absurd (true≢false i)
   way-by v (busy false q f) g i k = wide-by (over calls q v) _ (at-access (f v (n .st, b)) (g v (n .st, b) (h .pages) .0) (g v (n .st, b) (h .pages) .1)) k
@@ -79,7 +80,8 @@ module _ (a : Ans Answer) (n : Machine Answer Pages) (h : Fine n) (b : Buf) (dir
   either true x y p q = p
   either false x y p q = q
 
-  reads-first : (u : Bool) (x y : tree.Out Bk Answer) → opening x ≡ false → opening y ≡ false → opening (cond u x y) ≡ false
+  reads-first : (u : Bool) (x y : tree.Out Bk Answer) → opening x ≡ false → opening y ≡ false
+      → opening (cond u x y) ≡ false
   reads-first true x y p q = p
   reads-first false x y p q = q
 
@@ -107,7 +109,8 @@ module _ (a : Ans Answer) (n : Machine Answer Pages) (h : Fine n) (b : Buf) (dir
       (λ k. absurd (true≢false (sym k))) (begun-by o (n .way))
 
 pub bus-reset-empties : (c : Call Config Op) (a : Ans Answer) (v : ℕ) (n : Machine Answer Pages) → Fine n → (b : Buf) → blankA a ≡ blankA (written a c n b .0)
-    → c ≡ go v → inInterrupt (n .way) ≡ false → releasing a ≡ true → (dir : Dir) (e : ℕ) → Emptied dir e (n .st) (written a c n b .1 .st)
+    → c ≡ go v → inInterrupt (n .way) ≡ false → releasing a ≡ true → (dir : Dir) (e : ℕ)
+    → Emptied dir e (n .st) (written a c n b .1 .st)
 bus-reset-empties c a v n h b s p i g dir e =
     subst (λ (c : Call Config Op). blankA a ≡ blankA (written a c n b .0) → Emptied dir e (n .st) (written a c n b .1 .st)) (sym p)
     (λ s. fits-by a n h b dir e v (misfit calls (book .driver) (n .st) b) i

@@ -318,6 +318,12 @@ pub record Sentences (c : Call Config Op) (lent : Buf) (n : Machine Answer Pages
   -- "the armed slot is that of the endpoint's last receive address": the address itself; so EP0's buffer
   pub slot-told : (e x : ℕ) → a ≡ handed (Receive e x) → t′ .outs e .slot ≡ x
   pub ep0-told : (x : ℕ) → a ≡ handed (Ep0Dma x) → x ≡ t′ .kept .globals .«ep0_buf»
+  -- and it changes at such an address alone: of an interrupt's continue `unmoved` says so; of another's, but for the
+  -- release of a bus reset's flag; of a begin, but for those before EP0's start
+  pub unmoved-slot : (e v : ℕ) → c ≡ go v → inInterrupt (n .way) ≡ false → releasing a ≡ false → addressed a e ≡ false
+      → t′ .outs e ≡ n .st .outs e
+  pub begin-slot : (o : Op) (e : ℕ) → c ≡ begin o → (BeforeStart (n .st) (begin o) → ⊥) → addressed a e ≡ false
+      → t′ .outs e .slot ≡ n .st .outs e .slot
   -- "Close with one open, or a read's poll that takes a packet: the first waiting is read": open, close, queue and that
   -- poll end at once, with an answer of which `Compared` speaks or that leaves the pages. An enabling that ends at once
   -- is refused, else it resets
@@ -329,11 +335,6 @@ pub record Sentences (c : Call Config Op) (lent : Buf) (n : Machine Answer Pages
   -- no packet of an OUT
   pub unmoved : (e v : ℕ) → c ≡ go v → inInterrupt (n .way) ≡ true → addressed a e ≡ false → t′ .outs e ≡ n .st .outs e
   pub unmoved-out : (e v : ℕ) → c ≡ go v → inInterrupt (n .way) ≡ false → releasing a ≡ false → SamePackets (n .st .outs e) (t′ .outs e)
-  -- nor its slot, but at a receive address of it; no more does a begin, but for those before EP0's start
-  pub unmoved-slot : (e v : ℕ) → c ≡ go v → inInterrupt (n .way) ≡ false → releasing a ≡ false → addressed a e ≡ false
-      → t′ .outs e ≡ n .st .outs e
-  pub begin-slot : (o : Op) (e : ℕ) → c ≡ begin o → (BeforeStart (n .st) (begin o) → ⊥) → addressed a e ≡ false
-      → t′ .outs e .slot ≡ n .st .outs e .slot
   -- a continue changes the page of an IN at a load alone, where no packet but the one being sent ceases to wait
   pub unmoved-in : (e v : ℕ) → c ≡ go v → emptying (n .way) a ≡ false → loading a e ≡ false → t′ .ins e ≡ n .st .ins e
   pub load-passes : (e v : ℕ) → c ≡ go v → emptying (n .way) a ≡ false → PassesOn (n .st .ins e) (t′ .ins e)

@@ -4,7 +4,6 @@ use mathlib.Core.Path.{_≡_, refl, ap, subst, sym, _∙_}
 use Prim.Native.Nat.{ℕ, zero, suc, _%_}
 use lib.Dec.{eqb, ltb}
 use lib.ListN.{length}
-use Rattle.regs.specs.declared.Access.{Access}
 use Rattle.regs.specs.declared.Dir.the-variants.{Out, In}
 use Rattle.alloc.specs.declared.Answer as alloc-answer
 use Rattle.alloc.specs.declared.Answer.the-variants as alloc
@@ -25,12 +24,12 @@ use Rattle.model.specs.Calls.{PollWrite, PollDataOut, BeginDataIn, Other, Alloc
 use Rattle.model.specs.Calls.{BusEnable, BusDisable, Microframe, SetStalled, IsStalled, SetPaced, Advance, BeginRead}
 use Rattle.model.specs.Calls.{BeginSetup, PollSetup, PollDataIn, BeginAccept, PollAccept, BeginReject, BeginDataOut}
 use Rattle.model.specs.Calls.{BeginAcceptSetAddress, Aside, calls, code}
-use Rattle.model.specs.Machine.{Buf, Call, begin, Ans, ended, handed, told, Way, idle, busy, Machine, misfit, stay, lentTo}
+use Rattle.model.specs.Machine.{Buf, Call, begin, Ans, ended, handed, told, Way, idle, busy, Machine, misfit, lentTo}
 use Rattle.model.specs.Machine.{beside, halt, begun, fed}
 use Rattle.proof_book.specs.Pages.{Packet, OutPage, Pages, withOut}
 use Rattle.proof_book.specs.Book.{Bk, putB, actB, handB, rowB, some, waitsOn, roomB, isoOf, isoOut, receiving}
-use Rattle.proof_book.specs.Book.{emptyOut, openOut, readOut, arrived, joined, overrun, packetB, startedB, bookOps}
-use Rattle.proof_book.specs.Book.{book}
+use Rattle.proof_book.specs.Book.{emptyOut, openOut, readOut, arrived, joined, overrun, packetB, startedB}
+use Rattle.proof_book.specs.Book.{bookOps, book}
 use Rattle.proof_book.specs.Frame.{at-elim}
 use Rattle.proof_book.specs.FrontPage.{written, addressed, BeforeStart, allocation, allocations}
 use Rattle.proof_book.specs.BookCalls.{Fine, fed-away}

@@ -1,5 +1,5 @@
--- What one call tells: an address that is handed out is the book's own, no endpoint that is not enabled gets a packet by
--- it, and the calls that end at once end with their own answers
+-- What one call tells: an address that is handed out is the book's own, no endpoint that is not enabled gets a packet
+-- by it, and the calls that end at once end with their own answers
 use mathlib.Core.Bool.{Bool, true, false, not, cond, _&&_, true≢false}
 use mathlib.Core.List.{List, []}
 use mathlib.Core.Path.{_≡_, refl, ap, subst, sym, _∙_}
@@ -100,16 +100,19 @@ module _ (a : Ans Answer) where
   either-told true x y p q = p
   either-told false x y p q = q
 
-  told-start : (c : Config) (r : ℕ) (n : Machine Answer Pages) (b : Buf) → Told (started calls (book .driver) (fed book a) c r n b)
+  told-start : (c : Config) (r : ℕ) (n : Machine Answer Pages) (b : Buf)
+      → Told (started calls (book .driver) (fed book a) c r n b)
   told-start c zero n b = told-at false (run bookOps (starting c) (freshPages c, b))
   told-start c (suc r) n b = not-told (suc r) n
 
-  told-begun : (o : Op) (n : Machine Answer Pages) (w : Way Answer Pages) (b : Buf) → Told (begun calls (book .driver) (fed book a) o n w b)
+  told-begun : (o : Op) (n : Machine Answer Pages) (w : Way Answer Pages) (b : Buf)
+      → Told (begun calls (book .driver) (fed book a) o n w b)
   told-begun o n idle b = told-at (calls .irq o) (run bookOps (code o) (n .st, b))
   told-begun o n (busy i q k) b = either-told (cond i (calls .aside o) false) _ _
       (told-beside (lentTo calls (book .driver) n b) (run bookOps (code o) (n .st, b))) (not-told 3 (lentTo calls (book .driver) n b))
 
-  told-continued : (v : ℕ) (n : Machine Answer Pages) (w : Way Answer Pages) (b : Buf) → Told (continued calls (book .driver) (fed book a) v n w b)
+  told-continued : (v : ℕ) (n : Machine Answer Pages) (w : Way Answer Pages) (b : Buf)
+      → Told (continued calls (book .driver) (fed book a) v n w b)
   told-continued v n idle b = not-told 15 (lentTo calls (book .driver) n b)
   told-continued v n (busy i q k) b = either-told (over calls q v) _ _ (not-told 16 (lentTo calls (book .driver) n b)) (told-at i (k v (n .st, b)))
 
@@ -119,7 +122,8 @@ module _ (a : Ans Answer) where
   told-by (go v) n b = either-told (misfit calls (book .driver) (n .st) b) _ _ (not-told 1 n) (told-continued v n (n .way) b)
   told-by (question q) n b = λ k. absurd (true≢false (sym k))
 
-pub slot-told : (c : Call Config Op) (a : Ans Answer) (n : Machine Answer Pages) (b : Buf) → blankA a ≡ blankA (written a c n b .0)
+pub slot-told : (c : Call Config Op) (a : Ans Answer) (n : Machine Answer Pages) (b : Buf)
+    → blankA a ≡ blankA (written a c n b .0)
     → (e x : ℕ) → a ≡ handed (Receive e x) → written a c n b .1 .st .outs e .slot ≡ x
 slot-told c a n b s e x g =
     let z = told-by a c n b (sym (handed-blank (written a c n b .0)) ∙ ap isHanded (sym s) ∙ handed-blank a ∙ ap isHanded g) in
@@ -136,7 +140,8 @@ module _ (a : Ans Answer) (e v : ℕ) (n : Machine Answer Pages) (h : Fine n) (b
   abbrev Stays : Ans Answer × Machine Answer Pages → Type 0
   Stays y = SamePackets (n .st .outs e) (y .1 .st .outs e)
 
-  stays-at : (o : tree.Out Bk Answer) → Followed (n .st, b) o → Watched (n .st, b) o → Stays (halt calls (book .driver) (fed book a) true o)
+  stays-at : (o : tree.Out Bk Answer) → Followed (n .st, b) o → Watched (n .st, b) o
+      → Stays (halt calls (book .driver) (fed book a) true o)
   stays-at (ends z t) f (end j w) = subst (λ (p : OutPage). SamePackets (n .st .outs e) p) (sym (w .rest .outs e)) refl
   stays-at (asks q t k) (ask i c g) (ask j w f) = subst (λ (p : OutPage). SamePackets p (fed book a (t .0) .outs e))
       (w .leaves e (both-false (givesTo q e) (receiving (n .st) e) off)) (fed-packets a (t .0) i e)
@@ -145,14 +150,16 @@ module _ (a : Ans Answer) (e v : ℕ) (n : Machine Answer Pages) (h : Fine n) (b
   either true x y p q = p
   either false x y p q = q
 
-  stays-way : (w : Way Answer Pages) → WayFine w → inInterrupt w ≡ true → Stays (continued calls (book .driver) (fed book a) v n w b)
+  stays-way : (w : Way Answer Pages) → WayFine w → inInterrupt w ≡ true
+      → Stays (continued calls (book .driver) (fed book a) v n w b)
   stays-way idle g i = absurd (true≢false (sym i))
   stays-way (busy true q f) g i =
       let z = g v (n .st, b) (h .pages) in either (over calls q v) _ _ refl (stays-at (f v (n .st, b)) (z .0) (z .1))
   stays-way (busy false q f) g i = absurd (true≢false (sym i))
 
 pub disabled-leaves : (c : Call Config Op) (a : Ans Answer) (e v : ℕ) (n : Machine Answer Pages) → Fine n → (b : Buf)
-    → c ≡ go v → inInterrupt (n .way) ≡ true → receiving (n .st) e ≡ false → SamePackets (n .st .outs e) (written a c n b .1 .st .outs e)
+    → c ≡ go v → inInterrupt (n .way) ≡ true → receiving (n .st) e ≡ false
+    → SamePackets (n .st .outs e) (written a c n b .1 .st .outs e)
 disabled-leaves c a e v n h b p i g =
     subst (λ (c : Call Config Op). SamePackets (n .st .outs e) (written a c n b .1 .st .outs e)) (sym p)
     (either a e v n h b g (misfit calls (book .driver) (n .st) b) _ _ refl (stays-way a e v n h b g (n .way) (h .way) i))
@@ -179,7 +186,8 @@ module _ (a : Ans Answer) (e v : ℕ) (n : Machine Answer Pages) (b : Buf)
   same-way (busy true q f) x i = absurd (true≢false i)
   same-way (busy false q f) x i = either-same (over calls q v) _ _ (λ _. refl) (same-at (f v (n .st, b)) (x v (n .st, b)))
 
-pub unmoved-slot : (c : Call Config Op) (a : Ans Answer) (e v : ℕ) (n : Machine Answer Pages) → WayOnto (n .way) → (b : Buf)
+pub unmoved-slot : (c : Call Config Op) (a : Ans Answer) (e v : ℕ) (n : Machine Answer Pages) → WayOnto (n .way)
+    → (b : Buf)
     → blankA a ≡ blankA (written a c n b .0) → c ≡ go v → inInterrupt (n .way) ≡ false → releasing a ≡ false
     → addressed a e ≡ false → written a c n b .1 .st .outs e ≡ n .st .outs e
 unmoved-slot c a e v n x b s p i r g = subst
@@ -203,21 +211,25 @@ AtEnd Q (ended z) = Q z
 AtEnd Q (handed q) = ⊥
 AtEnd Q (told k) = ⊥
 
-same-end : (Q : Answer → Type 0) (a y : Ans Answer) → blankA a ≡ blankA y → AtEnd Q y → (z : Answer) × (a ≡ ended z) × Q z
+same-end : (Q : Answer → Type 0) (a y : Ans Answer) → blankA a ≡ blankA y → AtEnd Q y
+    → (z : Answer) × (a ≡ ended z) × Q z
 same-end Q a (ended z) h q = (z, ended-same a z (sym h), q)
 same-end Q a (handed r) h q = absurd q
 same-end Q a (told k) h q = absurd q
 
 module _ (a : Ans Answer) (o : Op) (n : Machine Answer Pages) (b : Buf) (h : Ends (EndsWith o) (run bookOps (code o) (n .st, b))) where
-  alone : (i : Bool) (x : tree.Out Bk Answer) → Ends (EndsWith o) x → AtEnd (EndsWith o) (halt calls (book .driver) (fed book a) i x .0)
+  alone : (i : Bool) (x : tree.Out Bk Answer) → Ends (EndsWith o) x
+      → AtEnd (EndsWith o) (halt calls (book .driver) (fed book a) i x .0)
   alone i (ends z s) p = p
   alone i (asks q s k) p = absurd p
 
-  passing : (m : Machine Answer Pages) (x : tree.Out Bk Answer) → Ends (EndsWith o) x → AtEnd (EndsWith o) (beside calls (book .driver) m x .0)
+  passing : (m : Machine Answer Pages) (x : tree.Out Bk Answer) → Ends (EndsWith o) x
+      → AtEnd (EndsWith o) (beside calls (book .driver) m x .0)
   passing m (ends z s) p = p
   passing m (asks q s k) p = absurd p
 
-  one-of : (u : Bool) (x y : Ans Answer × Machine Answer Pages) → AtEnd (EndsWith o) (x .0) → AtEnd (EndsWith o) (y .0) → AtEnd (EndsWith o) (cond u x y .0)
+  one-of : (u : Bool) (x y : Ans Answer × Machine Answer Pages) → AtEnd (EndsWith o) (x .0)
+      → AtEnd (EndsWith o) (y .0) → AtEnd (EndsWith o) (cond u x y .0)
   one-of true x y p q = p
   one-of false x y p q = q
 
@@ -247,7 +259,8 @@ module _ (t : Pages) (b : Buf) (e : ℕ) where
       (by-test Q (t .outs e .opened) _ _ closes (by-row 14))
       (by-row 5)) (by-row 4)
 
-  queue-ends : (bytes : List ℕ) → Ends (EndsWith (aside (Queue e bytes))) (run bookOps (code (aside (Queue e bytes))) (t, b))
+  queue-ends : (bytes : List ℕ)
+      → Ends (EndsWith (aside (Queue e bytes))) (run bookOps (code (aside (Queue e bytes))) (t, b))
   queue-ends bytes = let Q = EndsWith (aside (Queue e bytes)) in
       by-test Q (eqb (t .kept .globals .stage) 2) _ _
       (by-test Q (isAllocated (t .kept .allocator) In e) _ _
@@ -272,13 +285,15 @@ module _ (t : Pages) (b : Buf) (e : ℕ) where
       (by-test Q (enables.isOn (t .kept .globals .«ep_config») Out e) _ _ waits (by-row 9))))
       (by-row 10))) (by-row 5)) (by-row 4)
 
-pub asides-end : (c : Call Config Op) (a : Ans Answer) (n : Machine Answer Pages) (b : Buf) → blankA a ≡ blankA (written a c n b .0)
+pub asides-end : (c : Call Config Op) (a : Ans Answer) (n : Machine Answer Pages) (b : Buf)
+    → blankA a ≡ blankA (written a c n b .0)
     → (o : Aside) → c ≡ begin (aside o) → AtOnce (aside o) a
 asides-end c a n b s (Open e) p = at-once a (aside (Open e)) n b (open-ends (n .st) b e) c s p
 asides-end c a n b s (Close e) p = at-once a (aside (Close e)) n b (close-ends (n .st) b e) c s p
 asides-end c a n b s (Queue e bytes) p = at-once a (aside (Queue e bytes)) n b (queue-ends (n .st) b e bytes) c s p
 
-pub polls-end : (c : Call Config Op) (a : Ans Answer) (n : Machine Answer Pages) (b : Buf) → blankA a ≡ blankA (written a c n b .0)
+pub polls-end : (c : Call Config Op) (a : Ans Answer) (n : Machine Answer Pages) (b : Buf)
+    → blankA a ≡ blankA (written a c n b .0)
     → (e k : ℕ) → c ≡ begin (slotted (PollRead e k)) → AtOnce (slotted (PollRead e k)) a
 polls-end c a n b s e k p = at-once a (slotted (PollRead e k)) n b (poll-ends (n .st) b e k) c s p
 
@@ -290,11 +305,13 @@ Stops (handed q) = Unit {0}
 Stops (told k) = Unit {0}
 
 module _ (a : Ans Answer) (dir : Dir) (e : ℕ) (on : Bool) (n : Machine Answer Pages) (b : Buf) where
-  stops-at : (o : tree.Out Bk Answer) → Asks (Empty dir e (n .st)) o → Stops (halt calls (book .driver) (fed book a) false o .0)
+  stops-at : (o : tree.Out Bk Answer) → Asks (Empty dir e (n .st)) o
+      → Stops (halt calls (book .driver) (fed book a) false o .0)
   stops-at (ends z t) w = w
   stops-at (asks q t k) w = tt
 
-  stops-way : (w : Way Answer Pages) → Stops (begun calls (book .driver) (fed book a) (slotted (SetEnabled dir e on)) n w b .0)
+  stops-way : (w : Way Answer Pages)
+      → Stops (begun calls (book .driver) (fed book a) (slotted (SetEnabled dir e on)) n w b .0)
   stops-way idle = stops-at (run bookOps (setEnabled dir e on) (n .st, b)) (first-access (n .st) e dir on b)
   stops-way (busy true q k) = (3, refl)
   stops-way (busy false q k) = (3, refl)
@@ -304,7 +321,9 @@ module _ (a : Ans Answer) (dir : Dir) (e : ℕ) (on : Bool) (n : Machine Answer 
   stops-fits true = (1, refl)
   stops-fits false = stops-way (n .way)
 
-pub enabling-ends : (c : Call Config Op) (a : Ans Answer) (n : Machine Answer Pages) (b : Buf) → blankA a ≡ blankA (written a c n b .0)
-    → (dir : Dir) (e : ℕ) (on : Bool) (z : Answer) → c ≡ begin (slotted (SetEnabled dir e on)) → a ≡ ended z → (r : ℕ) × (z ≡ Refused r)
+pub enabling-ends : (c : Call Config Op) (a : Ans Answer) (n : Machine Answer Pages) (b : Buf)
+    → blankA a ≡ blankA (written a c n b .0)
+    → (dir : Dir) (e : ℕ) (on : Bool) (z : Answer) → c ≡ begin (slotted (SetEnabled dir e on)) → a ≡ ended z
+    → (r : ℕ) × (z ≡ Refused r)
 enabling-ends c a n b s dir e on z p g = subst Stops (ended-same (written a c n b .0) z (sym (ap blankA g) ∙ s))
     (subst (λ (c : Call Config Op). Stops (written a c n b .0)) (sym p) (stops-fits a dir e on n b (misfit calls (book .driver) (n .st) b)))
