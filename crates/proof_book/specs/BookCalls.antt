@@ -1,5 +1,5 @@
 -- What one call makes of the book's count of those turned away, and of an arrival, over every list of calls
-use mathlib.Core.Bool.{Bool, true, false, cond, true≢false}
+use mathlib.Core.Bool.{Bool, true, false, cond, _&&_, true≢false}
 use mathlib.Core.List.{List, [], _∷_, _++_}
 use mathlib.Core.Logic.{_⊎_, inl, inr}
 use mathlib.Core.Path.{_≡_, refl, ap, ap₂, subst, sym, _∙_}
@@ -180,20 +180,15 @@ module _ (a : Ans Answer) where
   pub start-lost : (c : Config) (n : Machine Answer Pages) (b : Buf) (e : ℕ) → started calls (book .driver) (fed book a) c zero n b .1 .st .outs e .lost ≡ 0
   start-lost c n b e = fed-page (λ p. p .lost) (λ p x. refl) a _ (fresh-periodic c) e
 
-  fed-ins : (b : Ans Answer) (t : Pages) → ((x : ℕ) → t .ins x .waiting ≡ []) → (e : ℕ) → fed book b t .ins e .waiting ≡ []
-  fed-ins (ended z) t h e = h e
-  fed-ins (handed (Transmit f x)) t h e = at-elim (λ (p : InPage). p .waiting ≡ []) f e (sourceTold (t .ins f) x) (t .ins) (λ _. h f) (λ _. h e)
-  fed-ins (handed (Read r f)) t h e = h e
-  fed-ins (handed (Write r f v)) t h e = h e
-  fed-ins (handed (Receive f x)) t h e = h e
-  fed-ins (handed (Ep0Dma x)) t h e = h e
-  fed-ins (handed (Wait k)) t h e = h e
-  fed-ins (handed Callback) t h e = h e
-  fed-ins (told k) t h e = h e
-
   pub start-anew : (c : Config) (n : Machine Answer Pages) (b : Buf) (e : ℕ) → let t = started calls (book .driver) (fed book a) c zero n b .1 .st in
-      (t .outs e .lost ≡ 0) × (t .outs e .waiting ≡ []) × (t .ins e .waiting ≡ [])
-  start-anew c n b e = (start-lost c n b e, fed-page (λ p. p .waiting) (λ p x. refl) a _ (fresh-periodic c) e, fed-ins a _ (λ _. refl) e)
+      (t .outs e .lost ≡ 0) × (t .outs e .waiting ≡ []) × (t .outs e .opened ≡ false) × (t .outs e .admitted ≡ []) × (t .outs e .read ≡ [])
+  start-anew c n b e = (
+    start-lost c n b e,
+    fed-page (λ p. p .waiting) (λ p x. refl) a _ (fresh-periodic c) e,
+    fed-page (λ p. p .opened) (λ p x. refl) a _ (fresh-periodic c) e,
+    fed-page (λ p. p .admitted) (λ p x. refl) a _ (fresh-periodic c) e,
+    fed-page (λ p. p .read) (λ p x. refl) a _ (fresh-periodic c) e,
+  )
 
   pub call-fine : (c : Call Config Op) (n : Machine Answer Pages) → Fine n → (b : Buf) → Fine (written a c n b .1)
   call-fine (start c) n h b = started-fine c (startRow c b) n b h
@@ -296,16 +291,17 @@ take-whole (suc n) [] = refl
 take-whole (suc n) (x ∷ l) = ap (λ (k : List ℕ). x ∷ k) (take-whole n l)
 
 decided-by : (b : Buf) (p p′ : OutPage) (q : Packet) (n : ℕ) → length (p .waiting) ≤ 15 → q .bytes ≡ bytesAt b (p .slot) n
-    → p′ .waiting ≡ arrived p q .waiting → p′ .admitted ≡ arrived p q .admitted → p′ .read ≡ arrived p q .read → p′ .lost ≡ arrived p q .lost → Decided b p p′
+    → p′ .waiting ≡ arrived p q .waiting → p′ .admitted ≡ arrived p q .admitted → p′ .read ≡ arrived p q .read → p′ .lost ≡ arrived p q .lost
+    → p′ .opened ≡ arrived p q .opened → Decided b p p′
 decided-by b p p′ q n l h = by (ltb (length (p .waiting)) 15) refl
   where
     by : (u : Bool) → ltb (length (p .waiting)) 15 ≡ u → let z = cond u (joined p q) (overrun p) in
-        p′ .waiting ≡ z .waiting → p′ .admitted ≡ z .admitted → p′ .read ≡ z .read → p′ .lost ≡ z .lost → Decided b p p′
-    by true m w x y z = admitted q (ltb-true (length (p .waiting)) 15 m)
-        (h ∙ take-whole n (drop (p .slot) b) ∙ ap (λ (k : List ℕ). bytesAt b (p .slot) (length k)) (sym h)) w x y z
-    by false m w x y z =
+        p′ .waiting ≡ z .waiting → p′ .admitted ≡ z .admitted → p′ .read ≡ z .read → p′ .lost ≡ z .lost → p′ .opened ≡ z .opened → Decided b p p′
+    by true m w x y z o = admitted q (ltb-true (length (p .waiting)) 15 m)
+        (h ∙ take-whole n (drop (p .slot) b) ∙ ap (λ (k : List ℕ). bytesAt b (p .slot) (length k)) (sym h)) w x y z o
+    by false m w x y z o =
         let full : length (p .waiting) ≡ 15 = omega (arith, l, ltb-false (length (p .waiting)) 15 m) in
-        turned-away full w x y z
+        turned-away full w x y z o
 
 module _ (a : Ans Answer) (e x v : ℕ) (n : Machine Answer Pages)
     (h : Fine n) (b : Buf) (l : length (n .st .outs e .waiting) ≤ 15) (on : receiving (n .st) e ≡ true) where
@@ -324,6 +320,7 @@ module _ (a : Ans Answer) (e x v : ℕ) (n : Machine Answer Pages)
       (fed-page (λ p. p .admitted) (λ p x. refl) a (t .0) j e ∙ ap (λ (p : OutPage). p .admitted) (z .3))
       (fed-page (λ p. p .read) (λ p x. refl) a (t .0) j e ∙ ap (λ (p : OutPage). p .read) (z .3))
       (fed-page (λ p. p .lost) (λ p x. refl) a (t .0) j e ∙ ap (λ (p : OutPage). p .lost) (z .3))
+      (fed-page (λ p. p .opened) (λ p x. refl) a (t .0) j e ∙ ap (λ (p : OutPage). p .opened) (z .3))
     where
       accessOf : Ans Answer → Access
       accessOf (ended z) = Callback
@@ -354,25 +351,25 @@ decided c a e n h b s l d = subst
 
 -- ---- no arrival
 
-module _ (a : Ans Answer) (e v : ℕ) (n : Machine Answer Pages) (h : Fine n) (b : Buf) (away : addressed a e ≡ false) where
-  fed-away : (z : Ans Answer) → addressed z e ≡ false → (t : Pages) → fed book z t .outs e ≡ t .outs e
-  fed-away (ended z) g t = refl
-  fed-away (handed (Read r f)) g t = refl
-  fed-away (handed (Write r f w)) g t = refl
-  fed-away (handed (Receive f x)) g t = at-elim (λ (p : OutPage). p ≡ t .outs e) f e (slotTold (t .outs f) x) (t .outs)
-      (λ k. absurd (true≢false (sym (ap (λ (m : ℕ). eqb (f % 16) m) k ∙ eq-eqb (f % 16) (f % 16) refl) ∙ g))) (λ _. refl)
-  fed-away (handed (Transmit f x)) g t = refl
-  fed-away (handed (Ep0Dma x)) g t = refl
-  fed-away (handed (Wait k)) g t = refl
-  fed-away (handed Callback) g t = refl
-  fed-away (told k) g t = refl
+pub fed-away : (z : Ans Answer) (e : ℕ) → addressed z e ≡ false → (t : Pages) → fed book z t .outs e ≡ t .outs e
+fed-away (ended z) e g t = refl
+fed-away (handed (Read r f)) e g t = refl
+fed-away (handed (Write r f w)) e g t = refl
+fed-away (handed (Receive f x)) e g t = at-elim (λ (p : OutPage). p ≡ t .outs e) f e (slotTold (t .outs f) x) (t .outs)
+    (λ k. absurd (true≢false (sym (ap (λ (m : ℕ). eqb (f % 16) m) k ∙ eq-eqb (f % 16) (f % 16) refl) ∙ g))) (λ _. refl)
+fed-away (handed (Transmit f x)) e g t = refl
+fed-away (handed (Ep0Dma x)) e g t = refl
+fed-away (handed (Wait k)) e g t = refl
+fed-away (handed Callback) e g t = refl
+fed-away (told k) e g t = refl
 
+module _ (a : Ans Answer) (e v : ℕ) (n : Machine Answer Pages) (h : Fine n) (b : Buf) (away : addressed a e ≡ false) where
   abbrev Stays : Ans Answer × Machine Answer Pages → Type 0
   Stays y = addressed (y .0) e ≡ false → y .1 .st .outs e ≡ n .st .outs e
 
   stays-at : (o : tree.Out Bk Answer) → Watched (n .st, b) o → Stays (halt calls (book .driver) (fed book a) true o)
   stays-at (ends z t) (end j q) k = q .rest .outs e
-  stays-at (asks q t g) (ask j m f) k = fed-away a away (t .0) ∙ m .leaves e k
+  stays-at (asks q t g) (ask j m f) k = fed-away a e away (t .0) ∙ m .leaves e (ap (λ (u : Bool). u && receiving (n .st) e) k)
 
   stays-wide : (u : Bool) (y : Ans Answer × Machine Answer Pages) → Stays y → Stays (cond u (stay calls (book .driver) 16 (lentTo calls (book .driver) n b)) y)
   stays-wide true y s k = refl

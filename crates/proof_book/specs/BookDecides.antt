@@ -1,5 +1,5 @@
 -- In an interrupt the book's OUT pages change at one access alone: a receive address, where an arrival is decided; its IN pages at a load alone
-use mathlib.Core.Bool.{Bool, true, false, cond, true≢false}
+use mathlib.Core.Bool.{Bool, true, false, cond, _&&_, true≢false}
 use mathlib.Core.List.{List, [], _∷_, tail}
 use mathlib.Core.Logic.{_⊎_, inl, inr}
 use mathlib.Core.Path.{_≡_, refl, ap, subst, sym, _∙_}
@@ -51,9 +51,9 @@ abbrev pub Arrives : Bk → Access → Bk → Type 0
 Arrives s q t = (e x : ℕ) → q ≡ Receive e x → receiving (s .0) e ≡ true
     → (n : ℕ) × (k : Packet) × (k .bytes ≡ bytesAt (s .1) (s .0 .outs e .slot) n) × (t .0 .outs e ≡ arrived (s .0 .outs e) k)
 
--- where the access is not a receive address of OUT e, its page stays
+-- where the access is not a receive address of OUT e, or OUT e is not enabled as isochronous, its page stays
 abbrev pub Leaves : Bk → Access → Bk → Type 0
-Leaves s q t = (e : ℕ) → givesTo q e ≡ false → t .0 .outs e ≡ s .0 .outs e
+Leaves s q t = (e : ℕ) → (givesTo q e && receiving (s .0) e) ≡ false → t .0 .outs e ≡ s .0 .outs e
 
 -- a transmit address of IN e
 abbrev pub sendsTo : Access → ℕ → Bool
@@ -108,7 +108,7 @@ passing-then s t u q h k = record {
 moves-then : (s t u : Bk) (q : Access) → Still s t → Moves t q u → Moves s q u
 moves-then s t u q h k = record {
   arrives = arrives-then s t u q (h .rest) (k .arrives);
-  leaves = λ e g. k .leaves e g ∙ h .rest .outs e;
+  leaves = λ e g. k .leaves e (ap (λ (n : ℕ). givesTo q e && isSet n (e % 16)) (h .rest .sets) ∙ g) ∙ h .rest .outs e;
   loads = k .loads;
   passing = passing-then s t u q h (k .passing);
 }
@@ -157,15 +157,19 @@ arrives f n s e x a r = subst
     by false h = absurd (true≢false (sym h))
 
 leaves : (f n : ℕ) (s : Bk) → Leaves s (Receive f 0) (handB (arrive f n) s .1)
-leaves f n s e g = by (receiving (s .0) f)
+leaves f n s e g = by (receiving (s .0) f) refl
   where
     page : OutPage
     page = arrived (s .0 .outs f) (packetB f n s)
 
-    by : (u : Bool) → cond u (withOut (s .0) f page) (s .0) .outs e ≡ s .0 .outs e
-    by true = at-elim (λ (p : OutPage). p ≡ s .0 .outs e) f e page (s .0 .outs)
-        (λ h. absurd (true≢false (sym (ap (λ (k : ℕ). eqb (f % 16) k) h ∙ eq-eqb (f % 16) (f % 16) refl) ∙ g))) (λ _. refl)
-    by false = refl
+    on : ℕ → Bool
+    on k = isSet (isoOuts (s .0 .kept .globals)) k
+
+    by : (u : Bool) → receiving (s .0) f ≡ u → cond u (withOut (s .0) f page) (s .0) .outs e ≡ s .0 .outs e
+    by true r = at-elim (λ (p : OutPage). p ≡ s .0 .outs e) f e page (s .0 .outs)
+        (λ h. absurd (true≢false (sym (ap (λ (k : ℕ). eqb (f % 16) k && on k) h
+        ∙ ap (λ (u : Bool). u && on (f % 16)) (eq-eqb (f % 16) (f % 16) refl) ∙ r) ∙ g))) (λ _. refl)
+    by false r = refl
 
 -- no IN page changed
 pub waits-on : {p : InPage} → PassesOn p p

@@ -125,7 +125,7 @@ module _ (a : Ans Answer) where
 -- ---- a continue
 
 -- an address that is told changes an OUT's slot alone
-fed-packets : (z : Ans Answer) (t : Pages) → Periodic t → (e : ℕ) → SamePackets (t .outs e) (fed book z t .outs e)
+pub fed-packets : (z : Ans Answer) (t : Pages) → Periodic t → (e : ℕ) → SamePackets (t .outs e) (fed book z t .outs e)
 fed-packets (ended z) t i e = refl
 fed-packets (handed (Read r f)) t i e = refl
 fed-packets (handed (Write r f w)) t i e = refl

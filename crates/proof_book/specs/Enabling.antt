@@ -12,7 +12,7 @@ use Rattle.model.specs.Tree as tree
 use Rattle.model.specs.Tree.{ends, asks, bindOut}
 use Rattle.model.specs.Script.{Script, ret, bind, test, fetch, row, gathered, no-wakes, switch, run}
 use Rattle.model.specs.Statics.{isOn, wake}
-use Rattle.model.specs.Answers.{Answer, End, isAllocated}
+use Rattle.model.specs.Answers.{Answer, Refused, End, isAllocated}
 use Rattle.model.specs.Bus as bus
 use Rattle.model.specs.Calls.{Config, Op, slotted, SetEnabled, setEnabled, calls}
 use Rattle.model.specs.Machine.{Buf, Call, begin, Ans, ended, handed, told, blankA, Way, idle, busy, Machine, misfit, stay, lentTo, halt, begun, fed}
@@ -42,13 +42,13 @@ now-test : {A : Type 0} (Q : Pages → Type 0) (u : Bool) (x y : tree.Out Bk A) 
 now-test Q true x y f g = f refl
 now-test Q false x y f g = g refl
 
--- or ends at once
-abbrev Asks : (Pages → Type 0) → tree.Out Bk Answer → Type 0
-Asks Q (ends a s) = Unit {0}
+-- or ends at once, with a row's refusal
+abbrev pub Asks : (Pages → Type 0) → tree.Out Bk Answer → Type 0
+Asks Q (ends a s) = (r : ℕ) × (a ≡ Refused r)
 Asks Q (asks q s k) = Q (s .0)
 
 of-now : (Q : Pages → Type 0) (o : tree.Out Bk Answer) → Now Q o → Asks Q o
-of-now Q (ends a s) h = tt
+of-now Q (ends a s) h = absurd h
 of-now Q (asks q s k) h = h
 
 asks-test : (Q : Pages → Type 0) (u : Bool) (x y : tree.Out Bk Answer) → (u ≡ true → Asks Q x) → (u ≡ false → Asks Q y) → Asks Q (cond u x y)
@@ -86,7 +86,7 @@ module _ (t : Pages) (e : ℕ) where
   ring-in : (x : ℕ) → x % 16 ≡ e % 16 → EmptiedIn (withIn (withIn t e emptyIn) e (placedIn (withIn t e emptyIn .ins e)) .ins x)
   ring-in x h = at-elim EmptiedIn e x (placedIn (withIn t e emptyIn .ins e)) (withIn t e emptyIn .ins) (λ _. placed-in) (λ n. absurd (n h))
 
-  first-access : (dir : Dir) (on : Bool) (b : Buf) → Asks (Empty dir e t) (run bookOps (setEnabled dir e on) (t, b))
+  pub first-access : (dir : Dir) (on : Bool) (b : Buf) → Asks (Empty dir e t) (run bookOps (setEnabled dir e on) (t, b))
   first-access Out on b =
       asks-test Q (eqb (t .kept .globals .stage) 2) _ _
       (λ _. asks-test Q (isAllocated (t .kept .allocator) Out e) _ _
@@ -95,8 +95,8 @@ module _ (t : Pages) (e : ℕ) where
       (now-test Q (isOn (t .kept .plain Out e .iso)) (run bookOps (row (switch e on)) s) (run {i = false} bookOps (bus.setEnabledOut e on) s)
       (λ h. row-out (isoOf t Out e) h (s .0) _ (out-same t e (emptyOut (t .outs e))))
       (λ h. ring-out (isoOf t Out e) h (s .0) (withOut (s .0) e (emptyOut (t .outs e))) (out-same (s .0) e (emptyOut (t .outs e)))))))))
-      (λ _. tt))
-      (λ _. tt)
+      (λ _. (5, refl)))
+      (λ _. (4, refl))
     where
       Q : Pages → Type 0
       Q = Empty Out e t
@@ -116,8 +116,8 @@ module _ (t : Pages) (e : ℕ) where
       asks-test Q (eqb (t .kept .globals .stage) 2) _ _
       (λ _. asks-test Q (isAllocated (t .kept .allocator) In e) _ _
       (λ _. ring-in)
-      (λ _. tt))
-      (λ _. tt)
+      (λ _. (5, refl)))
+      (λ _. (4, refl))
 
 -- ---- its address told
 

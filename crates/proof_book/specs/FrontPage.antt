@@ -10,7 +10,7 @@ use lib.ListN.{length, getD}
 use lib.Dec.{eqb}
 use Rattle.regs.specs.declared.Access.{Access}
 use Rattle.regs.specs.declared.Access.the-variants.{Read, Write, Receive, Transmit, Ep0Dma, Wait, Callback}
-use Rattle.regs.specs.declared.Reg.the-variants.{IntFg, EpTLen}
+use Rattle.regs.specs.declared.Reg.the-variants.{EpTLen}
 use Rattle.regs.specs.declared.Dir.{Dir}
 use Rattle.regs.specs.declared.Dir.the-variants.{Out, In}
 use Rattle.state.specs.Driver.{Driver, epOn, lenOn, stampOn}
@@ -53,8 +53,8 @@ written a c n b = call calls (book .driver) (fed book a) c n b
 abbrev pub noted : Made → Machine Answer Pages → Ans Answer × Machine Answer Pages
 noted m n = written (m .answer) (m .event .call) n (m .event .lent)
 
--- "A receive address counts from the call that hands it out": byte k lies outside of the slot of every OUT endpoint's last receive address in this
--- run, and outside of EP0's buffer
+-- "A receive address counts from the call that hands it out": byte k lies outside of the slot of every allocated OUT
+-- endpoint's last receive address in this run, and outside of EP0's buffer
 pub record Elsewhere (t : Pages) (k : ℕ) : Type 0 where
   pub outs : (e : ℕ) → isSet (allocatedIn (t .kept .allocator) Out) (e % 16) ≡ true → (k < t .outs e .slot) ⊎ (t .outs e .slot + t .kept .allocator .size ≤ k)
   pub ep0 : t .kept .globals .stage ≡ 2 → (k < t .kept .globals .«ep0_buf») ⊎ (t .kept .globals .«ep0_buf» + t .kept .allocator .size ≤ k)
@@ -151,12 +151,12 @@ pub record Decides (c : Call Config Op) (n : Machine Answer Pages) (a : Ans Answ
   pub hands : a ≡ handed (Receive e address)
 
 -- "it joins those waiting, last, with its slot's bytes in that call up to its length; with 15 waiting it is turned away and the endpoint's count
--- rises": the one or the other, by whether 15 wait
+-- rises": the one or the other, by whether 15 wait. An open packet stays open: "until it is read or a reset"
 pub data Decided (lent : Buf) (p p′ : OutPage) : Type 0 where
   admitted : (q : Packet) → length (p .waiting) < 15 → q .bytes ≡ bytesAt lent (p .slot) (length (q .bytes)) → p′ .waiting ≡ p .waiting ++ (q ∷ [])
-      → p′ .admitted ≡ p .admitted ++ (q ∷ []) → p′ .read ≡ p .read → p′ .lost ≡ p .lost → Decided lent p p′
+      → p′ .admitted ≡ p .admitted ++ (q ∷ []) → p′ .read ≡ p .read → p′ .lost ≡ p .lost → p′ .opened ≡ p .opened → Decided lent p p′
   turned-away : length (p .waiting) ≡ 15 → p′ .waiting ≡ p .waiting → p′ .admitted ≡ p .admitted → p′ .read ≡ p .read → p′ .lost ≡ p .lost + 1
-      → Decided lent p p′
+      → p′ .opened ≡ p .opened → Decided lent p p′
 
 -- the count of those turned away rises in no other call, and an accepted start-up alone takes it back, to 0
 pub data Counted (c : Call Config Op) (lent : Buf) (a : Ans Answer) (e : ℕ) (p p′ : OutPage) : Type 0 where
@@ -283,6 +283,18 @@ Inside (ended a) b t = Unit {0}
 Inside (handed q) b t = LiesIn q b t
 Inside (told n) b t = Unit {0}
 
+-- what a call that ends at once ends with: a row's refusal, or what its own answer is
+pub data EndsWith : Op → Answer → Type 0 where
+  by-row : {o : Op} (r : ℕ) → EndsWith o (Refused r)
+  opens : {e : ℕ} (bytes : List ℕ) (stamp : ℕ) → EndsWith (aside (Open e)) (Shown bytes stamp)
+  closes : {e : ℕ} → EndsWith (aside (Close e)) ok
+  queues : {e : ℕ} {bytes : List ℕ} → EndsWith (aside (Queue e bytes)) ok
+  waits : {e k : ℕ} → EndsWith (slotted (PollRead e k)) NotYet
+  gives : {e k : ℕ} (bytes : List ℕ) → EndsWith (slotted (PollRead e k)) (Done bytes)
+
+abbrev pub AtOnce : Op → Ans Answer → Type 0
+AtOnce o a = (z : Answer) × (a ≡ ended z) × EndsWith o z
+
 -- a call c, lent a slot buffer; the book before it; its answer, the driver's state, the slot buffer and the book after it
 pub record Sentences (c : Call Config Op) (lent : Buf) (n : Machine Answer Pages) (a : Ans Answer) (d : Driver) (b : Buf) (t′ : Pages) : Type 0 where
   -- "the packets read in its stretch, then those queued, are exactly that stretch's admitted arrivals, in order": bytes and stamps as at admission
@@ -297,6 +309,28 @@ pub record Sentences (c : Call Config Op) (lent : Buf) (n : Machine Answer Pages
   pub open-waits : (e : ℕ) → t′ .outs e .opened ≡ true → 0 < length (ringBytes d b e)
   -- "an arrival is turned away exactly when 15 do"
   pub decided : (e : ℕ) → Decides c n a e → Decided lent (n .st .outs e) (t′ .outs e)
+  -- "An arrival is an enabled isochronous OUT endpoint": at a receive address of any other no packet changes. One that
+  -- is enabled is isochronous, so that overruns answers its count, and allocated, so that the chip may store in its slot
+  pub disabled-leaves : (e v : ℕ) → c ≡ go v → inInterrupt (n .way) ≡ true → receiving (n .st) e ≡ false
+      → SamePackets (n .st .outs e) (t′ .outs e)
+  pub enabled-is : (e : ℕ) → receiving t′ e ≡ true
+      → (isoOf t′ Out e ≡ true) × (isSet (allocatedIn (t′ .kept .allocator) Out) (e % 16) ≡ true)
+  -- "the armed slot is that of the endpoint's last receive address": the address itself; so EP0's buffer
+  pub slot-told : (e x : ℕ) → a ≡ handed (Receive e x) → t′ .outs e .slot ≡ x
+  pub ep0-told : (x : ℕ) → a ≡ handed (Ep0Dma x) → x ≡ t′ .kept .globals .«ep0_buf»
+  -- and it changes at such an address alone: of an interrupt's continue `unmoved` says so; of another's, but for the
+  -- release of a bus reset's flag; of a begin, but for those before EP0's start
+  pub unmoved-slot : (e v : ℕ) → c ≡ go v → inInterrupt (n .way) ≡ false → releasing a ≡ false → addressed a e ≡ false
+      → t′ .outs e ≡ n .st .outs e
+  pub begin-slot : (o : Op) (e : ℕ) → c ≡ begin o → (BeforeStart (n .st) (begin o) → ⊥) → addressed a e ≡ false
+      → t′ .outs e .slot ≡ n .st .outs e .slot
+  -- "Close with one open, or a read's poll that takes a packet: the first waiting is read": open, close, queue and that
+  -- poll end at once, with an answer of which `Compared` speaks or that leaves the pages. An enabling that ends at once
+  -- is refused, else it resets
+  pub asides-end : (o : Aside) → c ≡ begin (aside o) → AtOnce (aside o) a
+  pub polls-end : (e k : ℕ) → c ≡ begin (slotted (PollRead e k)) → AtOnce (slotted (PollRead e k)) a
+  pub enabling-ends : (dir : Dir) (e : ℕ) (on : Bool) (z : Answer)
+      → c ≡ begin (slotted (SetEnabled dir e on)) → a ≡ ended z → (r : ℕ) × (z ≡ Refused r)
   -- "All else, refusals too: no change": a continue of an interrupt changes the page of an OUT at its receive address alone, one of another operation
   -- no packet of an OUT
   pub unmoved : (e v : ℕ) → c ≡ go v → inInterrupt (n .way) ≡ true → addressed a e ≡ false → t′ .outs e ≡ n .st .outs e
@@ -316,13 +350,16 @@ pub record Sentences (c : Call Config Op) (lent : Buf) (n : Machine Answer Pages
   pub refused-leaves : (o : Aside) (r : ℕ) → c ≡ begin (aside o) → a ≡ ended (Refused r) → t′ ≡ n .st
   -- "overruns": the count of Compared is that of the arrivals turned away since the start-up
   pub counted : (e : ℕ) → Counted c lent a e (n .st .outs e) (t′ .outs e)
-  -- "Start-up: none wait, counts 0"
+  -- "Start-up: none wait, counts 0", none is open, and every stretch begins anew
   pub starts-anew : (g : Config) → c ≡ start g → startRow g lent ≡ zero → (e : ℕ)
-      → (t′ .outs e .lost ≡ 0) × (t′ .outs e .waiting ≡ []) × (t′ .ins e .waiting ≡ [])
+      → (t′ .outs e .lost ≡ 0) × (t′ .outs e .waiting ≡ []) × (t′ .outs e .opened ≡ false)
+      × (t′ .outs e .admitted ≡ []) × (t′ .outs e .read ≡ []) × EmptiedIn (t′ .ins e)
   -- "Reset: none wait on that endpoint": an endpoint that is enabled or disabled, in the call that hands out the first access
   pub enabling-resets : (dir : Dir) (e : ℕ) (on : Bool) (q : Access) → c ≡ begin (slotted (SetEnabled dir e on)) → a ≡ handed q → Emptied dir e (n .st) t′
-  -- every endpoint, in the call in which a bus reset releases its flag
-  pub bus-reset-empties : (v : ℕ) → c ≡ go v → inInterrupt (n .way) ≡ false → a ≡ handed (Write IntFg 0 1) → (dir : Dir) (e : ℕ) → Emptied dir e (n .st) t′
+  -- every endpoint, in the call in which a bus reset releases its flag; so would a begin that did
+  pub bus-reset-empties : (v : ℕ) → c ≡ go v → inInterrupt (n .way) ≡ false → releasing a ≡ true
+      → (dir : Dir) (e : ℕ) → Emptied dir e (n .st) t′
+  pub begin-empties : (o : Op) → c ≡ begin o → releasing a ≡ true → (dir : Dir) (e : ℕ) → Emptied dir e (n .st) t′
   -- IN: "at most 2 wait"
   pub at-most-2 : (e : ℕ) → length (t′ .ins e .waiting) ≤ 2
   -- "each reaches the chip at most once and in order": those handed to the chip are a beginning of those queued

@@ -43,10 +43,12 @@ use Rattle.proof_book.specs.BookCalls as steps-of
 use Rattle.proof_book.specs.Stops.{stopped-leaves}
 use Rattle.proof_book.specs.RefusedCalls.{isStart, refusal-leaves}
 use Rattle.proof_book.specs.Enabling.{enabling-resets}
-use Rattle.proof_book.specs.BusResets.{bus-reset-empties}
+use Rattle.proof_book.specs.BusResets.{bus-reset-empties, begin-empties}
 use Rattle.proof_book.specs.SendingCalls.{Sending, SendingAfter, after-call, start-after, start-emptied, sends-of, told-source}
 use Rattle.proof_book.specs.ContinueCalls.{WayOnto, start-onto, goes-on, continues-of}
 use Rattle.proof_book.specs.AdvanceBegins.{advance-begins}
+use Rattle.proof_book.specs.SlotsTold.{begin-slot}
+use Rattle.proof_book.specs.Told.{disabled-leaves, enabled-is, slot-told, unmoved-slot, asides-end, polls-end, enabling-ends}
 use Rattle.proof_book.specs.EarlyCalls.{Early, no-start, start-early, early-call}
 use Rattle.proof_book.specs.Lengths.{Known, learnt}
 use Rattle.proof_book.specs.LengthCalls.{WayTold, regular, told-on, start-told, length-is}
@@ -88,6 +90,11 @@ module _ {φ : Phase} {b : Buf} {d : Driver} {t : Pages} (R : Coupling φ b d t)
       short-each (t .kept .plain Out e .«max_len») earlier later q (subst (λ (w : List Packet). Short (t .kept .plain Out e .«max_len») w) k s)
 
 -- ---- one call
+
+-- after an accepted start-up
+abbrev Anew : Pages → ℕ → Type 0
+Anew t e = (t .outs e .lost ≡ 0) × (t .outs e .waiting ≡ []) × (t .outs e .opened ≡ false) × (t .outs e .admitted ≡ [])
+    × (t .outs e .read ≡ []) × EmptiedIn (t .ins e)
 
 -- before a call that is no first start-up
 record Before (m : Machine Answer Driver) (n : Machine Answer Pages) : Type 0 where
@@ -186,6 +193,15 @@ module _ (c : Call Config Op) (l : Buf) (m : Machine Answer Driver)
     capped = λ e. within (a .rest) e;
     open-waits = open-there (a .rest);
     decided = λ e d. let h = ap isStart (d .continues) in steps-of.decided c (x .0) e n (before h .fine) l (a .same) (most-15 h e) d;
+    unmoved-slot = λ e v p i r g. unmoved-slot c (x .0) e v n (before (ap isStart p) .onto) l (a .same) p i r g;
+    begin-slot = λ o e p w g. begin-slot c (x .0) o e n (before (ap isStart p) .fine) l p w g;
+    disabled-leaves = λ e v p i g. disabled-leaves c (x .0) e v n (before (ap isStart p) .fine) l p i g;
+    enabled-is = enabled-is (a .rest);
+    slot-told = slot-told c (x .0) n l (a .same);
+    ep0-told = λ z q. subst (λ (w : Ans Answer). GoodA driverOf book agree calls w (x .1 .buf) (y .1 .st)) q (a .good) .0;
+    asides-end = asides-end c (x .0) n l (a .same);
+    polls-end = polls-end c (x .0) n l (a .same);
+    enabling-ends = enabling-ends c (x .0) n l (a .same);
     unmoved = λ e v p i g. let k = before (ap isStart p) in steps-of.unmoved c (x .0) e v n (k .fine) l (a .same) p i g;
     unmoved-out = λ e v p i g. let k = before (ap isStart p) in continues-of c (x .0) e v n (k .fine) (k .sending) (k .onto) l p .outs (a .same) i g;
     unmoved-in = λ e v p i g. let k = before (ap isStart p) in continues-of c (x .0) e v n (k .fine) (k .sending) (k .onto) l p .spares (a .same) i g;
@@ -201,13 +217,12 @@ module _ (c : Call Config Op) (l : Buf) (m : Machine Answer Driver)
     sent-in-order = ledger.once-in-order (a .rest);
     passed-then-waiting = λ e. a .rest .ins e .ledger;
     sent-is = λ e. a .rest .ins e .reached;
-    starts-anew = λ g p row e. subst
-        (λ (c : Call Config Op). let t = written (x .0) c n l .1 .st in
-        (t .outs e .lost ≡ 0) × (t .outs e .waiting ≡ []) × (t .ins e .waiting ≡ [])) (sym p)
-        (subst (λ (r : ℕ). let t = started calls (book .driver) (fed book (x .0)) g r n l .1 .st in
-        (t .outs e .lost ≡ 0) × (t .outs e .waiting ≡ []) × (t .ins e .waiting ≡ [])) (sym row) (start-anew (x .0) g n l e));
+    starts-anew = λ g p row e. subst (λ (c : Call Config Op). Anew (written (x .0) c n l .1 .st) e) (sym p)
+        (subst (λ (r : ℕ). Anew (started calls (book .driver) (fed book (x .0)) g r n l .1 .st) e) (sym row)
+        (let z = start-anew (x .0) g n l e in (z .0, z .1, z .2, z .3, z .4, start-emptied (x .0) g n l e)));
     enabling-resets = λ dir e on q p g. let k = before (ap isStart p) in enabling-resets c (x .0) dir e on q n (k .fine) l (a .same) p g;
     bus-reset-empties = λ v p i g. let k = before (ap isStart p) in bus-reset-empties c (x .0) v n (k .fine) l (a .same) p i g;
+    begin-empties = λ o p g. begin-empties c (x .0) o n (before (ap isStart p) .fine) l (a .same) p g;
     load-sends = λ e z v p i g w. let k = before (ap isStart p) in steps-of.load-sends c (x .0) e z v n (k .fine) l (a .same) p i g w;
     sending-ends = ends;
     load-tells = told-source sent (a .same);

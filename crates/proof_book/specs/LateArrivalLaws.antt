@@ -113,11 +113,11 @@ module _ (e k : ℕ) (packet : List ℕ) where
             omega (arith, u, s .small)
 
         joins : Decided l (n .st .outs e) (page.noted m n .1 .st .outs e) → q .bytes ≡ packet
-        joins (admitted q′ few is w g i j) =
+        joins (admitted q′ few is w g i j k) =
             let same : q′ ≡ q = last-same (n .st .outs e .waiting) q′ q (sym w ∙ h) in
             subst (λ (x : Packet). x .bytes ≡ bytesAt l (slotAt e (n .st)) (length (x .bytes))) same is
             ∙ ap (bytesAt l (slotAt e (n .st))) recorded ∙ by-history .1
-        joins (turned-away full w g i j) =
+        joins (turned-away full w g i j k) =
             absurd (omega (arith, ap (λ (x : List Packet). length x) (sym w ∙ h), length-append (n .st .outs e .waiting) (q ∷ [])))
 
   -- ---- every list of calls

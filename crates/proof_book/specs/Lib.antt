@@ -65,6 +65,8 @@ pub mod AdvanceBegins
 pub mod EarlyScripts
 pub mod EarlyCalls
 pub mod PollsWhole
+pub mod Told
+pub mod SlotsTold
 pub mod Lent
 pub mod Code
 pub mod FrontPageProved

