@@ -21,7 +21,7 @@ use Rattle.model.specs.Machine.{Buf, begin, Ans, ended, handed, told, Way, idle
 use Rattle.proof_book.specs.Pages.{Packet, bytesOf, OutPage, InPage, Pages, withOut, withIn}
 use Rattle.proof_book.specs.Book.{Bk, some, first, firstStamp, front, isoOf, roomB, waitsOn, openOut, readOut, queuedIn, openB, bookOps, book}
 use Rattle.proof_book.specs.Frame.{out-same, in-same}
-use Rattle.proof_book.specs.FrontPage.{ReadsFirst, written}
+use Rattle.proof_book.specs.FrontPage.{ReadsFirst, Joins, written}
 
 -- ---- answers told apart
 
@@ -214,8 +214,7 @@ module _ (t : Pages) (e : ℕ) (bytes : List ℕ) (most : length (t .ins e .wait
   pub record Queued (z : Answer) (t′ : Pages) : Type 0 where
     pub leaves : (r : ℕ) → z ≡ Refused r → t′ ≡ t
     pub full : z ≡ Refused 13 → length (t .ins e .waiting) ≡ 2
-    pub joins : z ≡ ok → (length (t .ins e .waiting) < 2) × (t′ .ins e .waiting ≡ t .ins e .waiting ++ (bytes ∷ []))
-        × (t′ .ins e .queued ≡ t .ins e .queued ++ (bytes ∷ []))
+    pub joins : z ≡ ok → Joins (t .ins e) (t′ .ins e) bytes
 
   not-queued : (k : ℕ) → (k ≡ 13 → ⊥) → Queued (Refused k) t
   not-queued k h = record { leaves = λ r q. refl; full = λ q. absurd (h (ap row q)); joins = λ q. absurd (true≢false (ap isRefused q)) }
@@ -248,6 +247,7 @@ module _ (t : Pages) (e : ℕ) (bytes : List ℕ) (most : length (t .ins e .wait
           (left (isoOf t In e) (ltb (length (t .ins e .waiting)) 2) (not (ltb (t .kept .allocator .size) (length bytes))) h),
       ap (λ (p : InPage). p .waiting) (in-same t e (queuedIn (t .ins e) bytes)),
       ap (λ (p : InPage). p .queued) (in-same t e (queuedIn (t .ins e) bytes)),
+      ap (λ (p : InPage). p .sending) (in-same t e (queuedIn (t .ins e) bytes)),
     );
   }
   joined false h k b = absurd (true≢false (sym k))

@@ -45,7 +45,7 @@ use Rattle.proof_book.specs.RefusedCalls.{isStart, refusal-leaves}
 use Rattle.proof_book.specs.Enabling.{enabling-resets}
 use Rattle.proof_book.specs.BusResets.{bus-reset-empties}
 use Rattle.proof_book.specs.SendingCalls.{Sending, SendingAfter, after-call, start-after, start-emptied, sends-of, told-source}
-use Rattle.proof_book.specs.ContinueCalls.{WayOnto, start-onto, goes-on, continues-of}
+use Rattle.proof_book.specs.ContinueCalls.{GoesOn, start-onto, goes-on, continues-of}
 use Rattle.proof_book.specs.AdvanceBegins.{advance-begins}
 use Rattle.proof_book.specs.EarlyCalls.{Early, no-start, start-early, early-call}
 use Rattle.proof_book.specs.Lengths.{Known, learnt}
@@ -96,7 +96,7 @@ record Before (m : Machine Answer Driver) (n : Machine Answer Pages) : Type 0 wh
   room : Kept m
   fine : Fine n
   sending : Sending n
-  onto : WayOnto (n .way)
+  onto : GoesOn n
   early : Early n
 
 abbrev isTold : Ans Answer → Bool
@@ -190,6 +190,7 @@ module _ (c : Call Config Op) (l : Buf) (m : Machine Answer Driver)
     unmoved-out = λ e v p i g. let k = before (ap isStart p) in continues-of c (x .0) e v n (k .fine) (k .sending) (k .onto) l p .outs (a .same) i g;
     unmoved-in = λ e v p i g. let k = before (ap isStart p) in continues-of c (x .0) e v n (k .fine) (k .sending) (k .onto) l p .spares (a .same) i g;
     load-passes = λ e v p i. let k = before (ap isStart p) in continues-of c (x .0) e v n (k .fine) (k .sending) (k .onto) l p .passes (a .same) i;
+    length-0 = λ e v p i g. let k = before (ap isStart p) in continues-of c (x .0) e v n (k .fine) (k .sending) (k .onto) l p .empties (a .same) i g;
     advance-begins = λ e f p. advance-begins c (x .0) e f n l (a .same) p;
     early-leaves = λ g. early-call (x .0) c n (before (no-start g) .early) l .leaves g;
     refusal-leaves = λ r g e. let z = refusal-leaves c (x .0) n (λ h. before h .fine) l (a .same) (Refused r) refl g in (z .outs e, z .ins e);
@@ -208,7 +209,7 @@ module _ (c : Call Config Op) (l : Buf) (m : Machine Answer Driver)
         (t .outs e .lost ≡ 0) × (t .outs e .waiting ≡ []) × (t .ins e .waiting ≡ [])) (sym row) (start-anew (x .0) g n l e));
     enabling-resets = λ dir e on q p g. let k = before (ap isStart p) in enabling-resets c (x .0) dir e on q n (k .fine) l (a .same) p g;
     bus-reset-empties = λ v p i g. let k = before (ap isStart p) in bus-reset-empties c (x .0) v n (k .fine) l (a .same) p i g;
-    load-sends = λ e z v p i g w. let k = before (ap isStart p) in steps-of.load-sends c (x .0) e z v n (k .fine) l (a .same) p i g w;
+    load-sends = λ e z v p i g. let k = before (ap isStart p) in continues-of c (x .0) e v n (k .fine) (k .sending) (k .onto) l p .sends z (a .same) i g;
     sending-ends = ends;
     load-tells = told-source sent (a .same);
     unwritten = kept-unwritten a;
@@ -261,7 +262,7 @@ record Agreeing (m : Machine Answer Driver) (n : Machine Answer Pages) : Type 0 
   room : Kept m
   fine : Fine n
   sending : Sending n
-  onto : WayOnto (n .way)
+  onto : GoesOn n
   early : Early n
 
 before-of : {m : Machine Answer Driver} {n : Machine Answer Pages} → Agreeing m n → Before m n
@@ -304,7 +305,7 @@ module _ (c : Config) (b : Buf) (row : startRow c b ≡ zero) (m : Machine Answe
           fine = subst (λ (r : ℕ). Fine (started calls (book .driver) (fed book (drive (start c) m b .0)) c r n b .1))
               (sym row) (start-fine (drive (start c) m b .0) c n b);
           sending = start-sent c b row m n .machine;
-          onto = subst (λ (r : ℕ). WayOnto (started calls (book .driver) (fed book (drive (start c) m b .0)) c r n b .1 .way))
+          onto = subst (λ (r : ℕ). GoesOn (started calls (book .driver) (fed book (drive (start c) m b .0)) c r n b .1))
               (sym row) (start-onto (drive (start c) m b .0) c n b);
           early = subst (λ (r : ℕ). Early (started calls (book .driver) (fed book (drive (start c) m b .0)) c r n b .1))
               (sym row) (start-early (drive (start c) m b .0) c n b);

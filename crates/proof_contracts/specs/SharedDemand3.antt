@@ -57,6 +57,7 @@ module _ (dir : Dir) (e : ℕ) (lent b : Buf) (n : Machine Answer Pages) (d : Dr
     unmoved-out = λ e v p i g. let z : _≡_ {A = ℕ} 0 1 = cc in absurd (omega arith);
     unmoved-in = λ e v p i g. let z : _≡_ {A = ℕ} 0 1 = cc in absurd (omega arith);
     load-passes = λ e v p i. let z : _≡_ {A = ℕ} 0 1 = cc in absurd (omega arith);
+    length-0 = λ e v p i g. let z : _≡_ {A = ℕ} 0 1 = cc in absurd (omega arith);
     advance-begins = λ e f p. let z : _≡_ {A = ℕ} 0 1 = cc in absurd (omega arith);
     early-leaves = λ g e. (refl, refl);
     refusal-leaves = λ r q e. (refl, refl);
@@ -71,7 +72,7 @@ module _ (dir : Dir) (e : ℕ) (lent b : Buf) (n : Machine Answer Pages) (d : Dr
     sent-in-order = x .sent-in-order;
     passed-then-waiting = x .passed-then-waiting;
     sent-is = x .sent-is;
-    load-sends = λ e y v p i g w. let z : _≡_ {A = ℕ} 0 1 = cc in absurd (omega arith);
+    load-sends = λ e y v p i g. let z : _≡_ {A = ℕ} 0 1 = cc in absurd (omega arith);
     sending-ends = x .sending-ends;
     load-tells = λ e y g l. let z : _≡_ {A = ℕ} 0 1 = cc in absurd (omega arith);
     unwritten = x .unwritten;
