@@ -25,7 +25,7 @@ use Rattle.proof_book.specs.FrontPage.{ReadsFirst, Joins, written}
 
 -- ---- answers told apart
 
-abbrev isRefused : Answer → Bool
+abbrev pub isRefused : Answer → Bool
 isRefused (Refused n) = true
 isRefused (End n w) = false
 isRefused NotYet = false
@@ -61,23 +61,22 @@ answered (told n) = NotYet
 -- ---- the call, of the script's end
 
 -- Q of the answer and the pages where it ends
-abbrev Ends : (Answer → Pages → Type 0) → tree.Out Bk Answer → Type 0
+abbrev pub Ends : (Answer → Pages → Type 0) → tree.Out Bk Answer → Type 0
 Ends Q (ends a s) = Q a (s .0)
 Ends Q (asks q s k) = Unit {0}
 
-by-test : (Q : Answer → Pages → Type 0) (u : Bool) (x y : tree.Out Bk Answer) → (u ≡ true → Ends Q x) → (u ≡ false → Ends Q y) → Ends Q (cond u x y)
+pub by-test : (Q : Answer → Pages → Type 0) (u : Bool) (x y : tree.Out Bk Answer) → (u ≡ true → Ends Q x) → (u ≡ false → Ends Q y) → Ends Q (cond u x y)
 by-test Q true x y f g = f refl
 by-test Q false x y f g = g refl
 
-abbrev Says : (Answer → Pages → Type 0) → Ans Answer × Machine Answer Pages → Type 0
+abbrev pub Says : (Answer → Pages → Type 0) → Ans Answer × Machine Answer Pages → Type 0
 Says Q y = (z : Answer) → y .0 ≡ ended z → Q z (y .1 .st)
 
-module _ (Q : Answer → Pages → Type 0) (a : Ans Answer) (o : Aside) (n : Machine Answer Pages) (b : Buf)
-    (r1 : Q (Refused 1) (n .st)) (r3 : Q (Refused 3) (n .st)) (h : Ends Q (run bookOps (asideCode o) (n .st, b))) where
-  refused : (k : ℕ) (m : Machine Answer Pages) → Q (Refused k) (m .st) → Says Q (stay calls (book .driver) k m)
+module _ (Q : Answer → Pages → Type 0) (a : Ans Answer) where
+  pub refused : (k : ℕ) (m : Machine Answer Pages) → Q (Refused k) (m .st) → Says Q (stay calls (book .driver) k m)
   refused k m q z e = subst (λ (z : Answer). Q z (m .st)) (ap answered e) q
 
-  alone : (x : tree.Out Bk Answer) → Ends Q x → Says Q (halt calls (book .driver) (fed book a) false x)
+  pub alone : (x : tree.Out Bk Answer) → Ends Q x → Says Q (halt calls (book .driver) (fed book a) false x)
   alone (ends z s) q y e = subst (λ (z : Answer). Q z (s .0)) (ap answered e) q
   alone (asks q s k) u y e = absurd (true≢false (ap asked e))
     where
@@ -86,17 +85,19 @@ module _ (Q : Answer → Pages → Type 0) (a : Ans Answer) (o : Aside) (n : Mac
       asked (handed q) = true
       asked (told n) = true
 
+module _ (Q : Answer → Pages → Type 0) (a : Ans Answer) (o : Aside) (n : Machine Answer Pages) (b : Buf)
+    (r1 : Q (Refused 1) (n .st)) (r3 : Q (Refused 3) (n .st)) (h : Ends Q (run bookOps (asideCode o) (n .st, b))) where
   passing : (x : tree.Out Bk Answer) → Ends Q x → Says Q (beside calls (book .driver) (lentTo calls (book .driver) n b) x)
   passing (ends z s) q y e = subst (λ (z : Answer). Q z (s .0)) (ap answered e) q
-  passing (asks q s k) u y e = refused 3 (lentTo calls (book .driver) n b) r3 y e
+  passing (asks q s k) u y e = refused Q a 3 (lentTo calls (book .driver) n b) r3 y e
 
   begins : (w : Way Answer Pages) → Says Q (begun calls (book .driver) (fed book a) (aside o) n w b)
-  begins idle = alone (run bookOps (asideCode o) (n .st, b)) h
+  begins idle = alone Q a (run bookOps (asideCode o) (n .st, b)) h
   begins (busy true q k) = passing (run bookOps (asideCode o) (n .st, b)) h
-  begins (busy false q k) = refused 3 (lentTo calls (book .driver) n b) r3
+  begins (busy false q k) = refused Q a 3 (lentTo calls (book .driver) n b) r3
 
   fits : (u : Bool) → Says Q (cond u (stay calls (book .driver) 1 n) (begun calls (book .driver) (fed book a) (aside o) n (n .way) b))
-  fits true = refused 1 n r1
+  fits true = refused Q a 1 n r1
   fits false = begins (n .way)
 
   says : Says Q (written a (begin (aside o)) n b)
@@ -210,6 +211,26 @@ closed-by a e n b o = says (Closed (n .st) e o) a (Close e) n b (not-closed (n .
 
 -- ---- queue
 
+module _ (t : Pages) (e : ℕ) (bytes : List ℕ) where
+  left : (x y z : Bool) → (x && (y && z)) ≡ true → y ≡ true
+  left true true z h = refl
+  left true false z h = absurd (true≢false (sym h))
+  left false y z h = absurd (true≢false (sym h))
+
+  pub room-joins : (u : Bool) → roomB t e (length bytes) ≡ u → u ≡ true → (b : Buf)
+      → Joins (t .ins e) (cond {A = Bk} u (
+        withIn t e (queuedIn (t .ins e) bytes),
+        copied b (t .kept .plain In e .base + t .ins e .turn * t .kept .allocator .size) bytes,
+      ) (t, b) .0 .ins e) bytes
+  room-joins true h k b = (
+    ltb-true (length (t .ins e .waiting)) 2
+        (left (isoOf t In e) (ltb (length (t .ins e .waiting)) 2) (not (ltb (t .kept .allocator .size) (length bytes))) h),
+    ap (λ (p : InPage). p .waiting) (in-same t e (queuedIn (t .ins e) bytes)),
+    ap (λ (p : InPage). p .queued) (in-same t e (queuedIn (t .ins e) bytes)),
+    ap (λ (p : InPage). p .sending) (in-same t e (queuedIn (t .ins e) bytes)),
+  )
+  room-joins false h k b = absurd (true≢false (sym k))
+
 module _ (t : Pages) (e : ℕ) (bytes : List ℕ) (most : length (t .ins e .waiting) ≤ 2) where
   pub record Queued (z : Answer) (t′ : Pages) : Type 0 where
     pub leaves : (r : ℕ) → z ≡ Refused r → t′ ≡ t
@@ -225,11 +246,6 @@ module _ (t : Pages) (e : ℕ) (bytes : List ℕ) (most : length (t .ins e .wait
   room-by true false z h k l = refl
   room-by false y z h k l = absurd (true≢false (sym h))
 
-  left : (x y z : Bool) → (x && (y && z)) ≡ true → y ≡ true
-  left true true z h = refl
-  left true false z h = absurd (true≢false (sym h))
-  left false y z h = absurd (true≢false (sym h))
-
   not-false : (x : Bool) → not x ≡ false → x ≡ true
   not-false true h = refl
   not-false false h = absurd (true≢false h)
@@ -242,13 +258,7 @@ module _ (t : Pages) (e : ℕ) (bytes : List ℕ) (most : length (t .ins e .wait
   joined true h k b = record {
     leaves = λ r z. absurd (true≢false (sym (ap isRefused z)));
     full = λ z. absurd (true≢false (sym (ap isRefused z)));
-    joins = λ _. (
-      ltb-true (length (t .ins e .waiting)) 2
-          (left (isoOf t In e) (ltb (length (t .ins e .waiting)) 2) (not (ltb (t .kept .allocator .size) (length bytes))) h),
-      ap (λ (p : InPage). p .waiting) (in-same t e (queuedIn (t .ins e) bytes)),
-      ap (λ (p : InPage). p .queued) (in-same t e (queuedIn (t .ins e) bytes)),
-      ap (λ (p : InPage). p .sending) (in-same t e (queuedIn (t .ins e) bytes)),
-    );
+    joins = λ _. room-joins t e bytes true h k b;
   }
   joined false h k b = absurd (true≢false (sym k))
 

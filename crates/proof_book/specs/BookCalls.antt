@@ -21,7 +21,7 @@ use Rattle.model.specs.Machine.{idle, busy, Machine, over, misfit, stay, lentTo
 use Rattle.model.specs.Machine.{started, call, fed}
 use Rattle.proof_book.specs.Pages.{Packet, OutPage, InPage, Pages, withOut}
 use Rattle.proof_book.specs.Book.{Bk, receiving, slotTold, sourceTold, arrived, joined, overrun, feedB, freshPages, bookOps, book}
-use Rattle.proof_book.specs.Frame.{at-elim, out-same, in-same}
+use Rattle.proof_book.specs.Frame.{at-elim}
 use Rattle.proof_book.specs.FrontPage.{written, inInterrupt, Decides, Decided, admitted, turned-away, Counted, same, one-more, none, addressed}
 use Rattle.proof_book.specs.BookTracks.{Tracks, end, ask}
 use Rattle.proof_book.specs.InterruptParts.{of-interrupt}

@@ -283,7 +283,8 @@ woken : (codes : List ℕ) (s : Bk) → Still s (actB (waken codes) s)
 woken codes s = record { rest = record { outs = λ e. refl; sets = refl; bytes = refl }; ins = λ e. refl }
 
 -- `iso_in_complete`, by whether one waits then
-load-watched : (e : ℕ) (s : Bk) (u : Bool) → some (passed e s .0 .ins e .waiting) ≡ u → let next : Script true Unit = bind (look (next-len In e)) (λ n. write EpTLen e n) in Watched s
+load-watched : (e : ℕ) (s : Bk) (u : Bool) → some (passed e s .0 .ins e .waiting) ≡ u
+    → let next : Script true Unit = bind (look (next-len In e)) (λ n. write EpTLen e n) in Watched s
     (bindOut (cond u (asks (Transmit e 0) (handB (send e) (passed e s) .1) (λ _ t. run bookOps next t))
     (asks (Write EpTLen e 0) (passed e s) (λ _ t. ends tt t))) (λ _ t. run bookOps (wake {i = true} In e) t))
 load-watched e s true one = ask tt

@@ -22,7 +22,7 @@ use Rattle.ring.specs.Waiting.{waiting, Same}
 use Rattle.marks.specs.Copies.{bytesAt}
 use Rattle.model.specs.Every.{sameReg}
 use Rattle.model.specs.Answers.{Answer, Refused, NotYet, Done, Shown, ok, isNumber}
-use Rattle.model.specs.Calls.{Config, Op, slotted, other, aside, SetEnabled, PollRead, Allocate, AllocateAll, Advance, Aside, Open}
+use Rattle.model.specs.Calls.{Config, Op, slotted, other, aside, SetEnabled, PollRead, PollWrite, Allocate, AllocateAll, Advance, Aside, Open}
 use Rattle.model.specs.Calls.{Close, Queue, calls, startRow}
 use Rattle.model.specs.Machine.{Buf, Call, start, begin, go, question, overruns, Event, Ans, ended, handed, told, Way}
 use Rattle.model.specs.Machine.{idle, busy, Machine, over, misfit, fed, call, started}
@@ -137,6 +137,11 @@ pub record Compared (c : Call Config Op) (t : Pages) (a : Ans Answer) (d : Drive
   pub row-13 : (e : ℕ) (bytes : List ℕ) → c ≡ begin (aside (Queue e bytes)) → a ≡ ended (Refused 13) → length (t .ins e .waiting) ≡ 2
   pub queue-joins : (e : ℕ) (bytes : List ℕ) → c ≡ begin (aside (Queue e bytes)) → a ≡ ended ok
       → Joins (t .ins e) (t′ .ins e) bytes
+  -- so does a write's poll that is done, on an isochronous IN; on any other it leaves the page
+  pub write-joins : (e : ℕ) (bytes given : List ℕ) → c ≡ begin (slotted (PollWrite e bytes)) → a ≡ ended (Done given) → isoOf t In e ≡ true
+      → Joins (t .ins e) (t′ .ins e) bytes
+  pub write-leaves : (e : ℕ) (bytes given : List ℕ) → c ≡ begin (slotted (PollWrite e bytes)) → a ≡ ended (Done given) → isoOf t In e ≡ false
+      → t′ .ins e ≡ t .ins e
   -- "the slot whose address a load hands out holds the bytes of the first then waiting"
   pub load-holds : (e x : ℕ) → a ≡ handed (Transmit e x) → Holds (t′ .ins e) b x
 

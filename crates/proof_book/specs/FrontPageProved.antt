@@ -18,8 +18,8 @@ use Rattle.ring.specs.Laws.{waiting-length}
 use Rattle.model.specs.Simulates.{Phase}
 use Rattle.model.specs.Statics.{flag}
 use Rattle.model.specs.Cells.{EpCore}
-use Rattle.model.specs.Answers.{Answer, Refused, NotYet, Shown, ok}
-use Rattle.model.specs.Calls.{Config, Op, aside, Aside, Open, Close, Queue, calls, startRow}
+use Rattle.model.specs.Answers.{Answer, Refused, NotYet, Done, Shown, ok}
+use Rattle.model.specs.Calls.{Config, Op, slotted, PollWrite, aside, Aside, Open, Close, Queue, calls, startRow}
 use Rattle.model.specs.Machine.{Buf, Call, start, begin, go, question, overruns, Event, Ans, ended, handed, told, blankA, Machine, fed, started}
 use Rattle.model.specs.Agree.{After, Ways, GoodA, agrees, from-start}
 use Rattle.machine.specs.Suspended.{driverOf, drive, machineOf}
@@ -37,6 +37,7 @@ use Rattle.proof_book.specs.FrontPage as page
 use Rattle.proof_book.specs.MachineRuns.{Premise, AfterEvents}
 use Rattle.proof_book.specs.SlotsKept.{kept-unwritten, lies-inside, lent-is}
 use Rattle.proof_book.specs.Asides.{Opened, opened-by, Closed, closed-by, Queued, queued-by}
+use Rattle.proof_book.specs.WritePolls.{Wrote, wrote-by}
 use Rattle.proof_book.specs.PollsWhole.{ended-same, one-call}
 use Rattle.proof_book.specs.BookCalls.{Fine, start-fine, start-lost, start-anew, call-fine}
 use Rattle.proof_book.specs.BookCalls as steps-of
@@ -156,6 +157,10 @@ module _ (c : Call Config Op) (l : Buf) (m : Machine Answer Driver)
     of-queue z q = subst (λ (c : Call Config Op). written (x .0) c n l .0 ≡ ended z → Queued (n .st) e bytes most-2 z (written (x .0) c n l .1 .st)) (sym p)
         (queued-by (x .0) e bytes n l most-2 z) (same-end z q)
 
+  of-write : (e : ℕ) (bytes : List ℕ) (z : Answer) → c ≡ begin (slotted (PollWrite e bytes)) → x .0 ≡ ended z → Wrote (n .st) e bytes z (y .1 .st)
+  of-write e bytes z p q = subst (λ (c : Call Config Op). written (x .0) c n l .0 ≡ ended z → Wrote (n .st) e bytes z (written (x .0) c n l .1 .st)) (sym p)
+      (wrote-by (x .0) e bytes n l z) (same-end z q)
+
   compared : Compared c (n .st) (x .0) (x .1 .st) (x .1 .buf) (y .1 .st)
   compared = record {
     ring = λ e. a .rest .outs e .held .waits;
@@ -168,6 +173,8 @@ module _ (c : Call Config Op) (l : Buf) (m : Machine Answer Driver)
     overruns-answers = λ e p. told-same (x .0) _ (a .same ∙ ap (λ (c : Call Config Op). blankA (written (x .0) c n l .0)) p);
     row-13 = λ e bytes p q. of-queue e bytes p (Refused 13) q .full refl;
     queue-joins = λ e bytes p q. of-queue e bytes p ok q .joins refl;
+    write-joins = λ e bytes given p q. of-write e bytes (Done given) p q .joins given refl;
+    write-leaves = λ e bytes given p q. of-write e bytes (Done given) p q .leaves given refl;
     load-holds = λ e z q. subst (λ (w : Ans Answer). GoodA driverOf book agree calls w (x .1 .buf) (y .1 .st)) q (a .good) .0;
   }
 

@@ -56,6 +56,7 @@ pub mod RefusedCalls
 pub mod Enabling
 pub mod BusResets
 pub mod Asides
+pub mod WritePolls
 pub mod SendingPages
 pub mod SendingSteps
 pub mod SendingCalls

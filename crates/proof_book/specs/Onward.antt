@@ -170,7 +170,8 @@ places f s = record {
     apart : (e : ℕ) → eqb (e % 16) (f % 16) ≡ false → handB (place In f) s .1 .0 .ins e ≡ s .0 .ins e
     apart e g = ap (λ (u : Bool). cond u (placedIn (s .0 .ins f)) (s .0 .ins e)) g
 
-load-onto : {z : Bool} (e : ℕ) (s : Bk) (u : Bool) → some (passed e s .0 .ins e .waiting) ≡ u → let next : Script false Unit = bind (look (next-len In e)) (λ n. write EpTLen e n) in Onto z s
+load-onto : {z : Bool} (e : ℕ) (s : Bk) (u : Bool) → some (passed e s .0 .ins e .waiting) ≡ u
+    → let next : Script false Unit = bind (look (next-len In e)) (λ n. write EpTLen e n) in Onto z s
     (bindOut (cond u (asks (Transmit e 0) (handB (send e) (passed e s) .1) (λ _ t. run bookOps next t))
     (asks (Write EpTLen e 0) (passed e s) (λ _ t. ends tt t))) (λ _ t. run bookOps (wake {i = false} In e) t))
 load-onto e s true one = ask tt (λ _. record { outs = λ e. refl; passing = packet-load e s; loads = λ _. sends e (passed e s) one })
@@ -370,7 +371,8 @@ pub data Goes (o : Other) : Type 1 where
       → ((s : Bk) → stage (s .0) ≡ 2 → run bookOps (otherCode o) s ≡ ends (Refused 4) s) → Goes o
 
 pub of-other : (o : Other) → Goes o
-of-other (Allocate dir kind address maximum interval) = gives (search (of-allocated, heading, later, free) depth 30 fits 100000) (call-steps (other (Allocate dir kind address maximum interval)))
+of-other (Allocate dir kind address maximum interval) = gives (search (of-allocated, heading, later, free) depth 30 fits 100000)
+    (call-steps (other (Allocate dir kind address maximum interval)))
     (λ s h. row-4 (eqb (stage (s .0)) 1) _ _ (ap (λ (n : ℕ). eqb n 1) h))
 of-other (AllocateAll bytes) = gives (search (of-allocate-read, heading, free) depth 20) (call-steps (other (AllocateAll bytes)))
     (λ s h. row-4 (eqb (stage (s .0)) 1) _ _ (ap (λ (n : ℕ). eqb n 1) h))

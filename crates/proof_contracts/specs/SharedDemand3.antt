@@ -41,6 +41,8 @@ module _ (dir : Dir) (e : ℕ) (lent b : Buf) (n : Machine Answer Pages) (d : Dr
     overruns-answers = λ e p. let z : _≡_ {A = ℕ} 0 1 = cc in absurd (omega arith);
     row-13 = λ e bytes p q. let z : _≡_ {A = ℕ} 0 1 = cc in absurd (omega arith);
     queue-joins = λ e bytes p q. let z : _≡_ {A = ℕ} 0 1 = cc in absurd (omega arith);
+    write-joins = λ e bytes given p q i. let z : _≡_ {A = ℕ} 0 1 = cc in absurd (omega arith);
+    write-leaves = λ e bytes given p q i. let z : _≡_ {A = ℕ} 0 1 = cc in absurd (omega arith);
     load-holds = λ e y q. let z : _≡_ {A = ℕ} 0 1 = cc in absurd (omega arith);
   }
 
