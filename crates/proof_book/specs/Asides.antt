@@ -25,7 +25,7 @@ use Rattle.proof_book.specs.FrontPage.{ReadsFirst, Joins, written}
 
 -- ---- answers told apart
 
-abbrev pub isRefused : Answer → Bool
+abbrev isRefused : Answer → Bool
 isRefused (Refused n) = true
 isRefused (End n w) = false
 isRefused NotYet = false
@@ -69,14 +69,15 @@ pub by-test : (Q : Answer → Pages → Type 0) (u : Bool) (x y : tree.Out Bk An
 by-test Q true x y f g = f refl
 by-test Q false x y f g = g refl
 
-abbrev pub Says : (Answer → Pages → Type 0) → Ans Answer × Machine Answer Pages → Type 0
+abbrev Says : (Answer → Pages → Type 0) → Ans Answer × Machine Answer Pages → Type 0
 Says Q y = (z : Answer) → y .0 ≡ ended z → Q z (y .1 .st)
 
-module _ (Q : Answer → Pages → Type 0) (a : Ans Answer) where
-  pub refused : (k : ℕ) (m : Machine Answer Pages) → Q (Refused k) (m .st) → Says Q (stay calls (book .driver) k m)
+module _ (Q : Answer → Pages → Type 0) (a : Ans Answer) (o : Aside) (n : Machine Answer Pages) (b : Buf)
+    (r1 : Q (Refused 1) (n .st)) (r3 : Q (Refused 3) (n .st)) (h : Ends Q (run bookOps (asideCode o) (n .st, b))) where
+  refused : (k : ℕ) (m : Machine Answer Pages) → Q (Refused k) (m .st) → Says Q (stay calls (book .driver) k m)
   refused k m q z e = subst (λ (z : Answer). Q z (m .st)) (ap answered e) q
 
-  pub alone : (x : tree.Out Bk Answer) → Ends Q x → Says Q (halt calls (book .driver) (fed book a) false x)
+  alone : (x : tree.Out Bk Answer) → Ends Q x → Says Q (halt calls (book .driver) (fed book a) false x)
   alone (ends z s) q y e = subst (λ (z : Answer). Q z (s .0)) (ap answered e) q
   alone (asks q s k) u y e = absurd (true≢false (ap asked e))
     where
@@ -85,19 +86,17 @@ module _ (Q : Answer → Pages → Type 0) (a : Ans Answer) where
       asked (handed q) = true
       asked (told n) = true
 
-module _ (Q : Answer → Pages → Type 0) (a : Ans Answer) (o : Aside) (n : Machine Answer Pages) (b : Buf)
-    (r1 : Q (Refused 1) (n .st)) (r3 : Q (Refused 3) (n .st)) (h : Ends Q (run bookOps (asideCode o) (n .st, b))) where
   passing : (x : tree.Out Bk Answer) → Ends Q x → Says Q (beside calls (book .driver) (lentTo calls (book .driver) n b) x)
   passing (ends z s) q y e = subst (λ (z : Answer). Q z (s .0)) (ap answered e) q
-  passing (asks q s k) u y e = refused Q a 3 (lentTo calls (book .driver) n b) r3 y e
+  passing (asks q s k) u y e = refused 3 (lentTo calls (book .driver) n b) r3 y e
 
   begins : (w : Way Answer Pages) → Says Q (begun calls (book .driver) (fed book a) (aside o) n w b)
-  begins idle = alone Q a (run bookOps (asideCode o) (n .st, b)) h
+  begins idle = alone (run bookOps (asideCode o) (n .st, b)) h
   begins (busy true q k) = passing (run bookOps (asideCode o) (n .st, b)) h
-  begins (busy false q k) = refused Q a 3 (lentTo calls (book .driver) n b) r3
+  begins (busy false q k) = refused 3 (lentTo calls (book .driver) n b) r3
 
   fits : (u : Bool) → Says Q (cond u (stay calls (book .driver) 1 n) (begun calls (book .driver) (fed book a) (aside o) n (n .way) b))
-  fits true = refused Q a 1 n r1
+  fits true = refused 1 n r1
   fits false = begins (n .way)
 
   says : Says Q (written a (begin (aside o)) n b)

@@ -21,7 +21,7 @@ use Rattle.state.specs.State.{view}
 use Rattle.ring.specs.Waiting.{waiting, Same}
 use Rattle.marks.specs.Copies.{bytesAt}
 use Rattle.model.specs.Every.{sameReg}
-use Rattle.model.specs.Answers.{Answer, Refused, NotYet, Done, Shown, ok, isNumber}
+use Rattle.model.specs.Answers.{Answer, Refused, End, NotYet, Done, Shown, ok, isNumber}
 use Rattle.model.specs.Calls.{Config, Op, slotted, other, aside, SetEnabled, PollRead, PollWrite, Allocate, AllocateAll, Advance, Aside, Open}
 use Rattle.model.specs.Calls.{Close, Queue, calls, startRow}
 use Rattle.model.specs.Machine.{Buf, Call, start, begin, go, question, overruns, Event, Ans, ended, handed, told, Way}
@@ -109,6 +109,19 @@ pub record ReadsFirst (p p′ : OutPage) (q : Packet) : Type 0 where
 abbrev pub Holds : InPage → Buf → ℕ → Type 0
 Holds p b x = (bytes : List ℕ) (rest : List (List ℕ)) → p .load ≡ true → p .waiting ≡ bytes ∷ rest → bytesAt b x (length bytes) ≡ bytes
 
+-- a poll that is done
+abbrev pub isDone : Answer → Bool
+isDone (Refused r) = false
+isDone (End r w) = false
+isDone NotYet = false
+isDone (Done bytes) = true
+isDone (Shown bytes s) = false
+
+abbrev pub done : Ans Answer → Bool
+done (ended z) = isDone z
+done (handed q) = false
+done (told k) = false
+
 -- "Queue: its bytes wait, last", where fewer than 2 wait; none comes to be sent
 abbrev pub Joins : InPage → InPage → List ℕ → Type 0
 Joins p p′ bytes = (length (p .waiting) < 2) × (p′ .waiting ≡ p .waiting ++ (bytes ∷ [])) × (p′ .queued ≡ p .queued ++ (bytes ∷ []))
@@ -137,11 +150,10 @@ pub record Compared (c : Call Config Op) (t : Pages) (a : Ans Answer) (d : Drive
   pub row-13 : (e : ℕ) (bytes : List ℕ) → c ≡ begin (aside (Queue e bytes)) → a ≡ ended (Refused 13) → length (t .ins e .waiting) ≡ 2
   pub queue-joins : (e : ℕ) (bytes : List ℕ) → c ≡ begin (aside (Queue e bytes)) → a ≡ ended ok
       → Joins (t .ins e) (t′ .ins e) bytes
-  -- so does a write's poll that is done, on an isochronous IN; on any other it leaves the page
-  pub write-joins : (e : ℕ) (bytes given : List ℕ) → c ≡ begin (slotted (PollWrite e bytes)) → a ≡ ended (Done given) → isoOf t In e ≡ true
+  -- so do those of a write's poll that is done on an isochronous IN; with any other answer, and on any other endpoint, it leaves the page
+  pub write-joins : (e : ℕ) (bytes : List ℕ) → c ≡ begin (slotted (PollWrite e bytes)) → done a ≡ true → isoOf t In e ≡ true
       → Joins (t .ins e) (t′ .ins e) bytes
-  pub write-leaves : (e : ℕ) (bytes given : List ℕ) → c ≡ begin (slotted (PollWrite e bytes)) → a ≡ ended (Done given) → isoOf t In e ≡ false
-      → t′ .ins e ≡ t .ins e
+  pub write-leaves : (e : ℕ) (bytes : List ℕ) → c ≡ begin (slotted (PollWrite e bytes)) → (done a && isoOf t In e) ≡ false → t′ .ins e ≡ t .ins e
   -- "the slot whose address a load hands out holds the bytes of the first then waiting"
   pub load-holds : (e x : ℕ) → a ≡ handed (Transmit e x) → Holds (t′ .ins e) b x
 
@@ -336,6 +348,8 @@ pub record Sentences (c : Call Config Op) (lent : Buf) (n : Machine Answer Pages
   -- "Start-up: none wait, counts 0"
   pub starts-anew : (g : Config) → c ≡ start g → startRow g lent ≡ zero → (e : ℕ)
       → (t′ .outs e .lost ≡ 0) × (t′ .outs e .waiting ≡ []) × (t′ .ins e .waiting ≡ [])
+  -- and nothing is queued or sent on any IN
+  pub starts-empty : (g : Config) → c ≡ start g → startRow g lent ≡ zero → (e : ℕ) → EmptiedIn (t′ .ins e)
   -- "Reset: none wait on that endpoint": an endpoint that is enabled or disabled, in the call that hands out the first access
   pub enabling-resets : (dir : Dir) (e : ℕ) (on : Bool) (q : Access) → c ≡ begin (slotted (SetEnabled dir e on)) → a ≡ handed q → Emptied dir e (n .st) t′
   -- every endpoint, in the call in which a bus reset releases its flag

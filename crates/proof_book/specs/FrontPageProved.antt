@@ -1,6 +1,6 @@
 -- Demand 3: what FrontPage.antt says holds after every call of every list that an accepted start-up begins, of the Rattle code (`demand-3`) and of the
 -- machine of calls that the state's bytes are (`machine-demand-3`)
-use mathlib.Core.Bool.{Bool, true, false, cond, true≢false}
+use mathlib.Core.Bool.{Bool, true, false, cond, _&&_, true≢false}
 use mathlib.Core.List.{List, [], _∷_, _++_, map-append}
 use mathlib.Core.Path.{_≡_, refl, ap, subst, sym, _∙_}
 use Prim.Native.Nat.{ℕ, zero, suc, _≤_, _<_}
@@ -10,7 +10,7 @@ use lib.ListN.{length, length-map}
 use Rattle.regs.specs.declared.Access.{Access}
 use Rattle.regs.specs.declared.Access.the-variants.{Transmit}
 use Rattle.regs.specs.declared.Dir.{Dir}
-use Rattle.regs.specs.declared.Dir.the-variants.{Out}
+use Rattle.regs.specs.declared.Dir.the-variants.{Out, In}
 use Rattle.state.specs.State.{view}
 use Rattle.state.specs.Driver.{Driver, epOn}
 use Rattle.ring.specs.Slot.{countOf}
@@ -18,13 +18,13 @@ use Rattle.ring.specs.Laws.{waiting-length}
 use Rattle.model.specs.Simulates.{Phase}
 use Rattle.model.specs.Statics.{flag}
 use Rattle.model.specs.Cells.{EpCore}
-use Rattle.model.specs.Answers.{Answer, Refused, NotYet, Done, Shown, ok}
+use Rattle.model.specs.Answers.{Answer, Refused, NotYet, Shown, ok}
 use Rattle.model.specs.Calls.{Config, Op, slotted, PollWrite, aside, Aside, Open, Close, Queue, calls, startRow}
 use Rattle.model.specs.Machine.{Buf, Call, start, begin, go, question, overruns, Event, Ans, ended, handed, told, blankA, Machine, fed, started}
 use Rattle.model.specs.Agree.{After, Ways, GoodA, agrees, from-start}
 use Rattle.machine.specs.Suspended.{driverOf, drive, machineOf}
 use Rattle.proof_book.specs.Pages.{Packet, bytesOf, stampsOf, OutPage, Pages}
-use Rattle.proof_book.specs.Book.{book}
+use Rattle.proof_book.specs.Book.{isoOf, book}
 use Rattle.proof_book.specs.Coupling.{Coupling, Short, Holds, lensOf}
 use Rattle.proof_book.specs.Held.{held-length}
 use Rattle.proof_book.specs.Allocations.{fresh-kept}
@@ -32,12 +32,12 @@ use Rattle.proof_book.specs.Agrees.{agree}
 use Rattle.proof_book.specs.LedgerLaws as ledger
 use Rattle.proof_book.specs.ReadRoomCalls.{Kept, steps, start-kept}
 use Rattle.proof_book.specs.FrontPage.{Made, CallStep, noted, written, LentAsLeft, ringBytes, ringStamps, EmptiedIn, BeingSent, Sends, emptied, Compared}
-use Rattle.proof_book.specs.FrontPage.{Sentences, AfterCall, Counted, none, AfterEach, LengthsEach, OthersEach, Demand3}
+use Rattle.proof_book.specs.FrontPage.{done, Sentences, AfterCall, Counted, none, AfterEach, LengthsEach, OthersEach, Demand3}
 use Rattle.proof_book.specs.FrontPage as page
 use Rattle.proof_book.specs.MachineRuns.{Premise, AfterEvents}
 use Rattle.proof_book.specs.SlotsKept.{kept-unwritten, lies-inside, lent-is}
 use Rattle.proof_book.specs.Asides.{Opened, opened-by, Closed, closed-by, Queued, queued-by}
-use Rattle.proof_book.specs.WritePolls.{Wrote, wrote-by}
+use Rattle.proof_book.specs.WritePolls.{Polled, write-polled}
 use Rattle.proof_book.specs.PollsWhole.{ended-same, one-call}
 use Rattle.proof_book.specs.BookCalls.{Fine, start-fine, start-lost, start-anew, call-fine}
 use Rattle.proof_book.specs.BookCalls as steps-of
@@ -157,9 +157,13 @@ module _ (c : Call Config Op) (l : Buf) (m : Machine Answer Driver)
     of-queue z q = subst (λ (c : Call Config Op). written (x .0) c n l .0 ≡ ended z → Queued (n .st) e bytes most-2 z (written (x .0) c n l .1 .st)) (sym p)
         (queued-by (x .0) e bytes n l most-2 z) (same-end z q)
 
-  of-write : (e : ℕ) (bytes : List ℕ) (z : Answer) → c ≡ begin (slotted (PollWrite e bytes)) → x .0 ≡ ended z → Wrote (n .st) e bytes z (y .1 .st)
-  of-write e bytes z p q = subst (λ (c : Call Config Op). written (x .0) c n l .0 ≡ ended z → Wrote (n .st) e bytes z (written (x .0) c n l .1 .st)) (sym p)
-      (wrote-by (x .0) e bytes n l z) (same-end z q)
+  -- a write's poll: its answer is the book's
+  module _ (e : ℕ) (bytes : List ℕ) (p : c ≡ begin (slotted (PollWrite e bytes))) where
+    of-write : Polled (x .0) e bytes n l y
+    of-write = subst (λ (c : Call Config Op). Polled (x .0) e bytes n l (written (x .0) c n l)) (sym p) (write-polled (x .0) e bytes n l)
+
+    same-poll : x .0 ≡ ended (of-write .answer)
+    same-poll = ended-same (x .0) (of-write .answer) (sym (ap blankA (of-write .ends-with)) ∙ sym (a .same))
 
   compared : Compared c (n .st) (x .0) (x .1 .st) (x .1 .buf) (y .1 .st)
   compared = record {
@@ -173,8 +177,9 @@ module _ (c : Call Config Op) (l : Buf) (m : Machine Answer Driver)
     overruns-answers = λ e p. told-same (x .0) _ (a .same ∙ ap (λ (c : Call Config Op). blankA (written (x .0) c n l .0)) p);
     row-13 = λ e bytes p q. of-queue e bytes p (Refused 13) q .full refl;
     queue-joins = λ e bytes p q. of-queue e bytes p ok q .joins refl;
-    write-joins = λ e bytes given p q. of-write e bytes (Done given) p q .joins given refl;
-    write-leaves = λ e bytes given p q. of-write e bytes (Done given) p q .leaves given refl;
+    write-joins = λ e bytes p q. of-write e bytes p .wrote .joins (sym (ap done (same-poll e bytes p)) ∙ q);
+    write-leaves = λ e bytes p q. of-write e bytes p .wrote .leaves
+        (sym (ap (λ (z : Ans Answer). done z && isoOf (n .st) In e) (same-poll e bytes p)) ∙ q);
     load-holds = λ e z q. subst (λ (w : Ans Answer). GoodA driverOf book agree calls w (x .1 .buf) (y .1 .st)) q (a .good) .0;
   }
 
@@ -214,6 +219,9 @@ module _ (c : Call Config Op) (l : Buf) (m : Machine Answer Driver)
         (t .outs e .lost ≡ 0) × (t .outs e .waiting ≡ []) × (t .ins e .waiting ≡ [])) (sym p)
         (subst (λ (r : ℕ). let t = started calls (book .driver) (fed book (x .0)) g r n l .1 .st in
         (t .outs e .lost ≡ 0) × (t .outs e .waiting ≡ []) × (t .ins e .waiting ≡ [])) (sym row) (start-anew (x .0) g n l e));
+    starts-empty = λ g p row e. subst (λ (c : Call Config Op). EmptiedIn (written (x .0) c n l .1 .st .ins e)) (sym p)
+        (subst (λ (r : ℕ). EmptiedIn (started calls (book .driver) (fed book (x .0)) g r n l .1 .st .ins e)) (sym row)
+        (start-emptied (x .0) g n l e));
     enabling-resets = λ dir e on q p g. let k = before (ap isStart p) in enabling-resets c (x .0) dir e on q n (k .fine) l (a .same) p g;
     bus-reset-empties = λ v p i g. let k = before (ap isStart p) in bus-reset-empties c (x .0) v n (k .fine) l (a .same) p i g;
     load-sends = λ e z v p i g. let k = before (ap isStart p) in continues-of c (x .0) e v n (k .fine) (k .sending) (k .onto) l p .sends z (a .same) i g;

@@ -56,12 +56,12 @@ pub mod RefusedCalls
 pub mod Enabling
 pub mod BusResets
 pub mod Asides
-pub mod WritePolls
 pub mod SendingPages
 pub mod SendingSteps
 pub mod SendingCalls
 pub mod Onward
 pub mod ContinueCalls
+pub mod WritePolls
 pub mod AdvanceBegins
 pub mod EarlyScripts
 pub mod EarlyCalls

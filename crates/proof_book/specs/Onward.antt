@@ -211,7 +211,7 @@ onward (k-place {d = In} {e = e} m h) s = ask tt (λ _. record {
 onward (k-place0 h) s = ask tt (kept-at (Ep0Dma 0) (λ _. refl) (still s)) (λ _ t _. onward h t)
 onward (k-bus-reset h) s = resets 3 (λ t. onward h t) s
 
-free-ends : {A : Type 0} {p : Script false A} → Free A p → (s : Bk) → (a : A) × (t : Bk) × (run bookOps p s ≡ ends a t)
+pub free-ends : {A : Type 0} {p : Script false A} → Free A p → (s : Bk) → (a : A) × (t : Bk) × (run bookOps p s ≡ ends a t)
 free-ends (x-ret {a = a}) s = (a, s, refl)
 free-ends (x-bind {f = f} h g) s =
     let z = free-ends h s in
@@ -347,11 +347,14 @@ of-enabling : (dir : Dir) (e : ℕ) (onn : Bool) → Heads false Unit (bus.setEn
 of-enabling Out e onn = search (heading, later, free) depth 40 fits 100000
 of-enabling In e onn = search (heading, later, free) depth 40 fits 100000
 
+pub of-write-poll : (e : ℕ) (bytes : List ℕ) → Free Answer (slottedCode (PollWrite e bytes))
+of-write-poll e bytes = search free depth 40
+
 pub of-slotted : (o : Slotted) → Heads false Answer (slottedCode o)
 of-slotted (SetEnabled dir e onn) = search (of-enabling, heading, later, free) depth 30 fits 100000
 of-slotted (PollRead e n) = search (h-free, free) depth 40
 of-slotted (BeginWrite e bytes) = search (h-later, later) depth 40
-of-slotted (PollWrite e bytes) = search (h-free, free) depth 40
+of-slotted (PollWrite e bytes) = h-free (of-write-poll e bytes)
 of-slotted (PollDataOut n) = search (h-later, later) depth 40
 of-slotted (BeginDataIn bytes first true) = search (h-later, of-acks, later) depth 60
 of-slotted (BeginDataIn bytes first false) = search (h-later, of-acks, later) depth 60

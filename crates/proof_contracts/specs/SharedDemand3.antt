@@ -41,8 +41,8 @@ module _ (dir : Dir) (e : ℕ) (lent b : Buf) (n : Machine Answer Pages) (d : Dr
     overruns-answers = λ e p. let z : _≡_ {A = ℕ} 0 1 = cc in absurd (omega arith);
     row-13 = λ e bytes p q. let z : _≡_ {A = ℕ} 0 1 = cc in absurd (omega arith);
     queue-joins = λ e bytes p q. let z : _≡_ {A = ℕ} 0 1 = cc in absurd (omega arith);
-    write-joins = λ e bytes given p q i. let z : _≡_ {A = ℕ} 0 1 = cc in absurd (omega arith);
-    write-leaves = λ e bytes given p q i. let z : _≡_ {A = ℕ} 0 1 = cc in absurd (omega arith);
+    write-joins = λ e bytes p q i. let z : _≡_ {A = ℕ} 0 1 = cc in absurd (omega arith);
+    write-leaves = λ e bytes p q. let z : _≡_ {A = ℕ} 0 1 = cc in absurd (omega arith);
     load-holds = λ e y q. let z : _≡_ {A = ℕ} 0 1 = cc in absurd (omega arith);
   }
 
@@ -68,6 +68,7 @@ module _ (dir : Dir) (e : ℕ) (lent b : Buf) (n : Machine Answer Pages) (d : Dr
     refused-leaves = λ o r p q. refl;
     counted = λ e. same refl;
     starts-anew = λ g p row e. let z : _≡_ {A = ℕ} 0 1 = cc in absurd (omega arith);
+    starts-empty = λ g p row e. let z : _≡_ {A = ℕ} 0 1 = cc in absurd (omega arith);
     enabling-resets = λ dir e on q p g. let z : _≡_ {A = ℕ} 0 1 = cc in absurd (omega arith);
     bus-reset-empties = λ v p i g dir e. let z : _≡_ {A = ℕ} 0 1 = cc in absurd (omega arith);
     at-most-2 = x .at-most-2;
