@@ -23,7 +23,7 @@ use Rattle.model.specs.Machine.{stay, lentTo, beside, halt, begun, continued, s
 use Rattle.proof_book.specs.Pages.{OutPage, InPage, Kept, Pages}
 use Rattle.proof_book.specs.Book.{Bk, slotTold, sourceTold, freshPages, bookOps, book}
 use Rattle.proof_book.specs.Frame.{at-elim, in-same}
-use Rattle.proof_book.specs.FrontPage.{written, inInterrupt, SamePackets, emptying, loading, PassesOn, NoneLeft}
+use Rattle.proof_book.specs.FrontPage.{written, inInterrupt, SamePackets, emptying, loading, PassesOn, SentFrom, enabling, NoneLeft}
 use Rattle.proof_book.specs.FrontPage as page
 use Rattle.proof_book.specs.Others.{releases, releasing}
 use Rattle.proof_book.specs.BookTracks.{end, ask}
@@ -99,24 +99,24 @@ module _ (a : Ans Answer) where
   lays : {q : Access} {t : Bk} {k : ℕ → Bk → tree.Out Bk Answer} → runs.Holds Unstarted (asks q t k) → Laying (fed book a (t .0)) k
   lays {t = t} (runs.ask j x) = (λ m. j (sym (ap (λ (k : Kept). k .globals .stage) (fed-kept a (t .0))) ∙ m), x)
 
-  heads : (z : Bool) (o : tree.Out Bk Answer) → Head z o → (z ≡ true → runs.Holds Unstarted o) → GoesOn (halts false o .1)
-  heads z (ends r t) h g = tt
-  heads z (asks q t k) h g = (z, λ i. lays (g i), h)
+  heads : (y z : Bool) (o : tree.Out Bk Answer) → Head y z o → (z ≡ true → runs.Holds Unstarted o) → GoesOn (halts false o .1)
+  heads y z (ends r t) h g = tt
+  heads y z (asks q t k) h g = (z, λ i. lays (g i), h .1)
 
   others : (o : Other) (s : Bk) → Goes o → GoesOn (halts false (run bookOps (otherCode o) s) .1)
-  others o s (plainly h) = heads false (run bookOps (otherCode o) s) (heads-run h s) no-allocation
+  others o s (plainly h) = heads false false (run bookOps (otherCode o) s) (heads-run h s) no-allocation
   others o s (gives h x refused) = by (eqb (stage (s .0)) 2) refl
     where
       by : (u : Bool) → eqb (stage (s .0)) 2 ≡ u → GoesOn (halts false (run bookOps (otherCode o) s) .1)
       by true m = subst (λ (y : tree.Out Bk Answer). GoesOn (halts false y .1)) (sym (refused s (eqb-true (stage (s .0)) 2 m))) tt
-      by false m = heads true (run bookOps (otherCode o) s) (heads-run h s)
+      by false m = heads false true (run bookOps (otherCode o) s) (heads-run h s)
           (λ _. holds-run giving-keeps (otherCode o) x s (λ k. absurd (true≢false (sym (ap (λ (n : ℕ). eqb n 2) k) ∙ m))))
 
   begins : (o : Op) (s : Bk) → GoesOn (halts (calls .irq o) (run bookOps (code o) s) .1)
   begins interrupt s = interrupts (run bookOps (code interrupt) s)
-  begins (slotted o) s = heads false (run bookOps (code (slotted o)) s) (heads-run (of-slotted o) s) no-allocation
+  begins (slotted o) s = heads (enabling (slotted o)) false (run bookOps (code (slotted o)) s) (heads-run (of-slotted o) s) no-allocation
   begins (other o) s = others o s (of-other o)
-  begins (aside o) s = heads false (run bookOps (code (aside o)) s) (heads-run (of-aside o) s) no-allocation
+  begins (aside o) s = heads false false (run bookOps (code (aside o)) s) (heads-run (of-aside o) s) no-allocation
 
   either : (u : Bool) (x y : Ans Answer × Machine Answer Pages) → GoesOn (x .1) → GoesOn (y .1) → GoesOn (cond u x y .1)
   either true x y h k = h
@@ -138,10 +138,10 @@ module _ (a : Ans Answer) where
   continued-onto v n h idle g b = h
   continued-onto v n h (busy true q k) g b = either (over calls q v) _ _ h (interrupts (k v (n .st, b)))
   continued-onto v n h (busy false q k) g b = either (over calls q v) _ _ h
-      (heads (g .0) (k v (n .st, b)) (of-onto (g .2 v (n .st, b))) (λ i. let l = g .1 i in l .1 v (n .st, b) (l .0)))
+      (heads false (g .0) (k v (n .st, b)) (of-onto false (g .2 v (n .st, b))) (λ i. let l = g .1 i in l .1 v (n .st, b) (l .0)))
 
   pub start-onto : (c : Config) (n : Machine Answer Pages) (b : Buf) → GoesOn (started calls (book .driver) (fed book a) c zero n b .1)
-  start-onto c n b = heads false (run bookOps (starting c) (freshPages c, b)) (heads-run (of-starting c) (freshPages c, b)) no-allocation
+  start-onto c n b = heads false false (run bookOps (starting c) (freshPages c, b)) (heads-run (of-starting c) (freshPages c, b)) no-allocation
 
   started-onto : (c : Config) (r : ℕ) (n : Machine Answer Pages) (b : Buf) → GoesOn n → GoesOn (started calls (book .driver) (fed book a) c r n b .1)
   started-onto c zero n b h = start-onto c n b
@@ -168,10 +168,6 @@ fed-packets (handed (Wait k)) t i e = refl
 fed-packets (handed Callback) t i e = refl
 fed-packets (told k) t i e = refl
 
--- one waits, and the first is being sent, from address x
-abbrev pub Loaded : ℕ → InPage → Type 0
-Loaded x p = (0 < length (p .waiting)) × (p .sending ≡ true) × (p .source ≡ x) × (p .load ≡ true)
-
 module _ (a : Ans Answer) (e : ℕ) (n : Machine Answer Pages) where
   -- the call's outcome y
   pub record Continued (y : Ans Answer × Machine Answer Pages) : Type 0 where
@@ -181,14 +177,17 @@ module _ (a : Ans Answer) (e : ℕ) (n : Machine Answer Pages) where
     pub empties : blankA a ≡ blankA (y .0) → emptying (n .way) a ≡ false → a ≡ handed (Write EpTLen e 0)
         → (y .1 .st .ins e ≡ n .st .ins e) ⊎ NoneLeft (y .1 .st .ins e)
     pub sends : (x : ℕ) → blankA a ≡ blankA (y .0) → (inInterrupt (n .way) ≡ false → stage (n .st) ≡ 2) → a ≡ handed (Transmit e x)
-        → Loaded x (y .1 .st .ins e)
+        → SentFrom x (y .1 .st .ins e)
 
   -- what the book is told is the driver's answer, but for an address
-  told-sends : (y : Ans Answer) → blankA a ≡ blankA y → sending y e ≡ sending a e
+  pub told-sends : (y : Ans Answer) → blankA a ≡ blankA y → sending y e ≡ sending a e
   told-sends y s = sym (sending-blank y e) ∙ ap (λ (z : Ans Answer). sending z e) (sym s) ∙ sending-blank a e
 
-  own-address : (x : ℕ) → a ≡ handed (Transmit e x) → sending a e ≡ true
+  pub own-address : (x : ℕ) → a ≡ handed (Transmit e x) → sending a e ≡ true
   own-address x g = ap (λ (z : Ans Answer). sending z e) g ∙ eq-eqb (e % 16) (e % 16) refl
+
+  pub told-releases : (q : Access) → blankA a ≡ blankA (handed q) → releasing a ≡ false → releases q ≡ false
+  told-releases q s r = sym (releasing-blank (handed q)) ∙ ap releasing (sym s) ∙ releasing-blank a ∙ r
 
   -- no page changed, and no address handed out
   unchanged : (y : Ans Answer × Machine Answer Pages) → sending (y .0) e ≡ false
@@ -202,9 +201,9 @@ module _ (a : Ans Answer) (e : ℕ) (n : Machine Answer Pages) where
   }
 
   -- at a load's address, which is told
-  fed-loaded : (t : Pages) (x : ℕ) → a ≡ handed (Transmit e x)
-      → (0 < length (t .ins e .waiting)) × (t .ins e .sending ≡ true) × (t .ins e .load ≡ true) → Loaded x (fed book a t .ins e)
-  fed-loaded t x g z = subst (Loaded x)
+  pub fed-loaded : (t : Pages) (x : ℕ) → a ≡ handed (Transmit e x)
+      → (0 < length (t .ins e .waiting)) × (t .ins e .sending ≡ true) × (t .ins e .load ≡ true) → SentFrom x (fed book a t .ins e)
+  fed-loaded t x g z = subst (SentFrom x)
       (sym (ap (λ (a : Ans Answer). fed book a t .ins e) g ∙ in-same t e (sourceTold (t .ins e) x)))
       (z .0, z .1, ap (λ (u : Bool). cond u x (t .ins e .source)) (z .2), z .2)
 
@@ -216,9 +215,6 @@ module _ (a : Ans Answer) (e : ℕ) (n : Machine Answer Pages) where
   module _ (v : ℕ) (h : Fine n) (o : Sending n) (b : Buf) where
     told-loads : (q : Access) → blankA a ≡ blankA (handed q) → loading a e ≡ false → page.loads q e ≡ false
     told-loads q s l = sym (loading-blank (handed q) e) ∙ ap (λ (z : Ans Answer). loading z e) (sym s) ∙ loading-blank a e ∙ l
-
-    told-releases : (q : Access) → blankA a ≡ blankA (handed q) → releasing a ≡ false → releases q ≡ false
-    told-releases q s r = sym (releasing-blank (handed q)) ∙ ap releasing (sym s) ∙ releasing-blank a ∙ r
 
     -- of an interrupt
     of-interrupt : (u : Bool) (z : tree.Out Bk Answer) → inInterrupt (n .way) ≡ true → Followed u (n .st, b) z → Watched (n .st, b) z

@@ -22,7 +22,7 @@ use Rattle.ring.specs.Waiting.{waiting, Same}
 use Rattle.marks.specs.Copies.{bytesAt}
 use Rattle.model.specs.Every.{sameReg}
 use Rattle.model.specs.Answers.{Answer, Refused, End, NotYet, Done, Shown, ok, isNumber}
-use Rattle.model.specs.Calls.{Config, Op, slotted, other, aside, SetEnabled, PollRead, PollWrite, Allocate, AllocateAll, Advance, Aside, Open}
+use Rattle.model.specs.Calls.{Config, Op, interrupt, slotted, other, aside, SetEnabled, PollRead, BeginWrite, PollWrite, PollDataOut, BeginDataIn, Allocate, AllocateAll, Advance, Aside, Open}
 use Rattle.model.specs.Calls.{Close, Queue, calls, startRow}
 use Rattle.model.specs.Machine.{Buf, Call, start, begin, go, question, overruns, Event, Ans, ended, handed, told, Way}
 use Rattle.model.specs.Machine.{idle, busy, Machine, over, misfit, fed, call, started}
@@ -249,6 +249,22 @@ pub record PassesOn (p p′ : InPage) : Type 0 where
   pub waiting : (p′ .waiting ≡ p .waiting) ⊎ ((p .sending ≡ true) × (p′ .waiting ≡ tail (p .waiting)))
   pub queued : p′ .queued ≡ p .queued
 
+-- one waits, and the first is being sent, from address x
+abbrev pub SentFrom : ℕ → InPage → Type 0
+SentFrom x p = (0 < length (p .waiting)) × (p .sending ≡ true) × (p .source ≡ x) × (p .load ≡ true)
+
+-- an endpoint is enabled or disabled
+abbrev pub enabling : Op → Bool
+enabling (slotted (SetEnabled d e on)) = true
+enabling (slotted (PollRead e k)) = false
+enabling (slotted (BeginWrite e bytes)) = false
+enabling (slotted (PollWrite e bytes)) = false
+enabling (slotted (PollDataOut k)) = false
+enabling (slotted (BeginDataIn bytes first last)) = false
+enabling interrupt = false
+enabling (other o) = false
+enabling (aside o) = false
+
 -- none waits, and none is being sent
 abbrev pub NoneLeft : InPage → Type 0
 NoneLeft p = (p .waiting ≡ []) × (p .sending ≡ false)
@@ -361,9 +377,11 @@ pub record Sentences (c : Call Config Op) (lent : Buf) (n : Machine Answer Pages
   pub passed-then-waiting : (e : ℕ) → t′ .ins e .passed ++ t′ .ins e .waiting ≡ t′ .ins e .queued
   pub sent-is : (e : ℕ) → t′ .ins e .sent ≡ t′ .ins e .passed ++ cond (t′ .ins e .sending) (front (t′ .ins e .waiting)) []
   -- "a slot is being sent from the call of iso_in_load that hands out its address": where an interrupt goes on and hands out a transmit address, or
-  -- any other operation does after EP0's start, one waits, and the first is being sent, from that address
+  -- any other operation does after EP0's start, one waits, and the first is being sent, from that address; a begin's likewise, but an enabling's
   pub load-sends : (e x v : ℕ) → c ≡ go v → (inInterrupt (n .way) ≡ false → n .st .kept .globals .stage ≡ 2) → a ≡ handed (Transmit e x)
-      → (0 < length (t′ .ins e .waiting)) × BeingSent t′ e × (t′ .ins e .source ≡ x) × (t′ .ins e .load ≡ true)
+      → SentFrom x (t′ .ins e)
+  pub begin-sends : (o : Op) (e x : ℕ) → c ≡ begin o → enabling o ≡ false → n .st .kept .globals .stage ≡ 2 → a ≡ handed (Transmit e x)
+      → SentFrom x (t′ .ins e)
   -- "until the tail passes it, a reset or a start-up": nothing else ends a sending. A transmit address that is a load's is that of the slot being sent
   pub sending-ends : (e : ℕ) → BeingSent (n .st) e → Sends e (n .st) t′
   pub load-tells : (e x : ℕ) → a ≡ handed (Transmit e x) → t′ .ins e .load ≡ true → BeingSent t′ e × (t′ .ins e .source ≡ x)

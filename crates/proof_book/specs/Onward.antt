@@ -37,13 +37,13 @@ use Rattle.model.specs.Calls.{Config, Slotted, SetEnabled, PollRead, BeginWrite
 use Rattle.model.specs.Calls.{Other, Allocate, AllocateAll, Start, BusPoll, BusEnable, BusDisable, Microframe}
 use Rattle.model.specs.Calls.{SetStalled, IsStalled, SetPaced, Advance, BeginRead, BeginSetup, PollSetup, PollDataIn}
 use Rattle.model.specs.Calls.{BeginAccept, PollAccept, BeginReject, BeginDataOut, BeginAcceptSetAddress, Aside, Open}
-use Rattle.model.specs.Calls.{Close, Queue, other, slottedCode, otherCode, asideCode, starting}
+use Rattle.model.specs.Calls.{Close, Queue, slotted, other, slottedCode, otherCode, asideCode, starting}
 use Rattle.model.specs.Steps.{giving, Steps}
 use Rattle.model.specs.StepsCalls.{call-steps}
 use Rattle.proof_book.specs.Pages.{OutPage, InPage, Pages, withIn}
 use Rattle.proof_book.specs.Book.{Bk, some, placedIn, putB, actB, handB, rowB, isoOf, switchB, bookOps}
 use Rattle.proof_book.specs.Frame.{at-elim}
-use Rattle.proof_book.specs.FrontPage.{PassesOn}
+use Rattle.proof_book.specs.FrontPage.{PassesOn, enabling}
 use Rattle.proof_book.specs.Others.{releases}
 use Rattle.proof_book.specs.BookTracks.{Tracks, end, ask, earlier, tracks-bind}
 use Rattle.proof_book.specs.BookDecides.{Any, Passing, Loads, sendsTo, passing-then, waits-on, still-in, sends, passed}
@@ -123,15 +123,15 @@ pub data Free : (A : Type 0) → Script false A → Type 1 where
   x-fetch : {A : Type 0} {q : Fetch} {k : List ℕ → Script false A} → ((l : List ℕ) → Free A (k l)) → Free A (fetch-then q k)
   x-act : {A : Type 0} {q : Act} {p : Script false A} → Free A p → Free A (act-then q p)
 
--- one that does so from its first access on
-pub data Heads (z : Bool) : (A : Type 0) → Script false A → Type 1 where
-  h-later : {A : Type 0} {p : Script false A} → Later z A p → Heads z A p
-  h-free : {A : Type 0} {p : Script false A} → Free A p → Heads z A p
-  h-then : {A B : Type 0} {p : Script false B} {f : B → Script false A} → Free B p → ((b : B) → Heads z A (f b)) → Heads z A (bind p f)
-  h-bind : {A B : Type 0} {p : Script false B} {f : B → Script false A} → Heads z B p → ((b : B) → Later z A (f b)) → Heads z A (bind p f)
-  h-test : {A : Type 0} {b : Bool} {p q : Script false A} → Heads z A p → Heads z A q → Heads z A (test b p q)
-  h-switch : {A : Type 0} {e : ℕ} {on : Bool} {p : Script false A} → Later z A p → Heads z A (row-then (switch e on) p)
-  h-place : {A : Type 0} {d : Dir} {e : ℕ} {p : Script false A} → Later z A p → Heads z A (hand-then (place d e) p)
+-- one that does so from its first access on; y: which may be an address that sends nothing
+pub data Heads (y z : Bool) : (A : Type 0) → Script false A → Type 1 where
+  h-later : {A : Type 0} {p : Script false A} → Later z A p → Heads y z A p
+  h-free : {A : Type 0} {p : Script false A} → Free A p → Heads y z A p
+  h-then : {A B : Type 0} {p : Script false B} {f : B → Script false A} → Free B p → ((b : B) → Heads y z A (f b)) → Heads y z A (bind p f)
+  h-bind : {A B : Type 0} {p : Script false B} {f : B → Script false A} → Heads y z B p → ((b : B) → Later z A (f b)) → Heads y z A (bind p f)
+  h-test : {A : Type 0} {b : Bool} {p q : Script false A} → Heads y z A p → Heads y z A q → Heads y z A (test b p q)
+  h-switch : {A : Type 0} {e : ℕ} {on : Bool} {p : Script false A} → Later z A p → Heads y z A (row-then (switch e on) p)
+  h-place : {A : Type 0} {d : Dir} {e : ℕ} {p : Script false A} → y ≡ true → Later z A p → Heads y z A (hand-then (place d e) p)
 
 ruleset later = (
   k-ret,
@@ -227,18 +227,18 @@ free-ends (x-fetch h) s = free-ends (h _) s
 free-ends (x-act h) s = free-ends h _
 
 -- what comes after the first access
-abbrev pub Head : {A : Type 0} → Bool → tree.Out Bk A → Type 0
-Head z (ends a t) = Unit {0}
-Head z (asks q t k) = (v : ℕ) (u : Bk) → Onto z u (k v u)
+abbrev pub Head : {A : Type 0} → Bool → Bool → tree.Out Bk A → Type 0
+Head y z (ends a t) = Unit {0}
+Head y z (asks q t k) = (y ≡ false → z ≡ false → releases q ≡ false → Loads q t) × ((v : ℕ) (u : Bk) → Onto z u (k v u))
 
-pub of-onto : {z : Bool} {A : Type 0} {s : Bk} {o : tree.Out Bk A} → Onto z s o → Head z o
-of-onto (end i q) = tt
-of-onto (ask i m k) = λ v u. k v u tt
+pub of-onto : (y : Bool) {z : Bool} {A : Type 0} {s : Bk} {o : tree.Out Bk A} → Onto z s o → Head y z o
+of-onto y (end i q) = tt
+of-onto y (ask i m k) = (λ _ h r. m r .loads h, λ v u. k v u tt)
 
-head-bind : {z : Bool} {A B : Type 0} (o : tree.Out Bk B) {f : B → Bk → tree.Out Bk A} → Head z o → ((b : B) (t : Bk) → Onto z t (f b t))
-    → Head z (bindOut o f)
-head-bind (ends a t) h g = of-onto (g a t)
-head-bind {z} (asks q t k) h g = λ v u. tracks-bind Any Kept (KeptAt z) kept-then at-then (h v u) (λ a t _. g a t)
+head-bind : (y : Bool) {z : Bool} {A B : Type 0} (o : tree.Out Bk B) {f : B → Bk → tree.Out Bk A} → Head y z o → ((b : B) (t : Bk) → Onto z t (f b t))
+    → Head y z (bindOut o f)
+head-bind y (ends a t) h g = of-onto y (g a t)
+head-bind y {z} (asks q t k) h g = (h .0, λ v u. tracks-bind Any Kept (KeptAt z) kept-then at-then (h .1 v u) (λ a t _. g a t))
 
 -- the row of a switch after its first access
 module _ (f : ℕ) (on : Bool) where
@@ -270,17 +270,20 @@ module _ (f : ℕ) (on : Bool) where
   switch-rows zero l h s = ask tt (switch-at zero s l) (λ v t _. h t)
   switch-rows (suc n) l h s = ask tt (switch-at (suc n) s l) (λ v t _. switch-rows n (omega (arith, l)) h t)
 
-pub heads-run : {z : Bool} {A : Type 0} {p : Script false A} → Heads z A p → (s : Bk) → Head z (run bookOps p s)
-heads-run (h-later h) s = of-onto (onward h s)
-heads-run {z} (h-free h) s = let x = free-ends h s in subst (Head z) (sym (x .2)) tt
-heads-run {z} (h-then {f = f} h g) s =
+pub heads-run : {y z : Bool} {A : Type 0} {p : Script false A} → Heads y z A p → (s : Bk) → Head y z (run bookOps p s)
+heads-run {y} (h-later h) s = of-onto y (onward h s)
+heads-run {y} {z} (h-free h) s = let x = free-ends h s in subst (Head y z) (sym (x .2)) tt
+heads-run {y} {z} (h-then {f = f} h g) s =
     let x = free-ends h s in
-    subst (λ (o : tree.Out Bk _). Head z (bindOut o (λ a t. run bookOps (f a) t))) (sym (x .2)) (heads-run (g (x .0)) (x .1))
-heads-run (h-bind {p = p} h g) s = head-bind (run bookOps p s) (heads-run h s) (λ b t. onward (g b) t)
+    subst (λ (o : tree.Out Bk _). Head y z (bindOut o (λ a t. run bookOps (f a) t))) (sym (x .2)) (heads-run (g (x .0)) (x .1))
+heads-run {y} (h-bind {p = p} h g) s = head-bind y (run bookOps p s) (heads-run h s) (λ b t. onward (g b) t)
 heads-run (h-test {b = true} h g) s = heads-run h s
 heads-run (h-test {b = false} h g) s = heads-run g s
-heads-run (h-switch {e = e} {on = on} h) s = λ v u. switch-rows e on 17 (omega arith) (λ t. onward h t) u
-heads-run (h-place h) s = λ v u. onward h u
+heads-run (h-switch {e = e} {on = on} h) s = (
+  λ _ _ _ f k. absurd (true≢false (sym k ∙ switch-quiet e on 18 (rowB (switch e on) 18 s .0) f)),
+  λ v u. switch-rows e on 17 (omega arith) (λ t. onward h t) u,
+)
+heads-run (h-place i h) s = (λ j. absurd (true≢false (sym i ∙ j)), λ v u. onward h u)
 
 -- ---- the calls
 
@@ -339,18 +342,18 @@ of-announce-all : (es : List Endpoint) → Later true ℕ (announceAll es)
 of-announce-all [] = search later
 of-announce-all (e ∷ es) = search (of-announce, of-announce-after, later)
 
-of-allocate-read : (bytes : List ℕ) (a : reading-answer.Answer) → Heads true Answer (allocate-read bytes a)
+of-allocate-read : (bytes : List ℕ) (a : reading-answer.Answer) → Heads false true Answer (allocate-read bytes a)
 of-allocate-read bytes (reading.Refused n) = h-free x-ret
 of-allocate-read bytes reading.Listed = search (of-each, of-announce-all, heading, later, free) depth 30 fits 100000
 
-of-enabling : (dir : Dir) (e : ℕ) (onn : Bool) → Heads false Unit (bus.setEnabled dir e onn)
+of-enabling : (dir : Dir) (e : ℕ) (onn : Bool) → Heads true false Unit (bus.setEnabled dir e onn)
 of-enabling Out e onn = search (heading, later, free) depth 40 fits 100000
 of-enabling In e onn = search (heading, later, free) depth 40 fits 100000
 
 pub of-write-poll : (e : ℕ) (bytes : List ℕ) → Free Answer (slottedCode (PollWrite e bytes))
 of-write-poll e bytes = search free depth 40
 
-pub of-slotted : (o : Slotted) → Heads false Answer (slottedCode o)
+pub of-slotted : (o : Slotted) → Heads (enabling (slotted o)) false Answer (slottedCode o)
 of-slotted (SetEnabled dir e onn) = search (of-enabling, heading, later, free) depth 30 fits 100000
 of-slotted (PollRead e n) = search (h-free, free) depth 40
 of-slotted (BeginWrite e bytes) = search (h-later, later) depth 40
@@ -359,18 +362,18 @@ of-slotted (PollDataOut n) = search (h-later, later) depth 40
 of-slotted (BeginDataIn bytes first true) = search (h-later, of-acks, later) depth 60
 of-slotted (BeginDataIn bytes first false) = search (h-later, of-acks, later) depth 60
 
-pub of-aside : (o : Aside) → Heads false Answer (asideCode o)
+pub of-aside : (o : Aside) → Heads false false Answer (asideCode o)
 of-aside (Open e) = search (h-free, free) depth 40
 of-aside (Close e) = search (h-free, free) depth 40
 of-aside (Queue e bytes) = search (h-free, free) depth 40
 
-pub of-starting : (c : Config) → Heads false Answer (starting c)
+pub of-starting : (c : Config) → Heads false false Answer (starting c)
 of-starting c = search (h-later, later) depth 30
 
 -- an allocation, which row 4 stops after EP0's start, or another
 pub data Goes (o : Other) : Type 1 where
-  plainly : Heads false Answer (otherCode o) → Goes o
-  gives : Heads true Answer (otherCode o) → Steps giving (otherCode o)
+  plainly : Heads false false Answer (otherCode o) → Goes o
+  gives : Heads false true Answer (otherCode o) → Steps giving (otherCode o)
       → ((s : Bk) → stage (s .0) ≡ 2 → run bookOps (otherCode o) s ≡ ends (Refused 4) s) → Goes o
 
 pub of-other : (o : Other) → Goes o
