@@ -21,7 +21,7 @@ use Rattle.model.specs.Machine.{Buf, begin, Ans, ended, handed, told, Way, idle
 use Rattle.proof_book.specs.Pages.{Packet, bytesOf, OutPage, InPage, Pages, withOut, withIn}
 use Rattle.proof_book.specs.Book.{Bk, some, first, firstStamp, front, isoOf, roomB, waitsOn, openOut, readOut, queuedIn, openB, bookOps, book}
 use Rattle.proof_book.specs.Frame.{out-same, in-same}
-use Rattle.proof_book.specs.FrontPage.{ReadsFirst, written}
+use Rattle.proof_book.specs.FrontPage.{ReadsFirst, Joins, written}
 
 -- ---- answers told apart
 
@@ -61,11 +61,11 @@ answered (told n) = NotYet
 -- ---- the call, of the script's end
 
 -- Q of the answer and the pages where it ends
-abbrev Ends : (Answer → Pages → Type 0) → tree.Out Bk Answer → Type 0
+abbrev pub Ends : (Answer → Pages → Type 0) → tree.Out Bk Answer → Type 0
 Ends Q (ends a s) = Q a (s .0)
 Ends Q (asks q s k) = Unit {0}
 
-by-test : (Q : Answer → Pages → Type 0) (u : Bool) (x y : tree.Out Bk Answer) → (u ≡ true → Ends Q x) → (u ≡ false → Ends Q y) → Ends Q (cond u x y)
+pub by-test : (Q : Answer → Pages → Type 0) (u : Bool) (x y : tree.Out Bk Answer) → (u ≡ true → Ends Q x) → (u ≡ false → Ends Q y) → Ends Q (cond u x y)
 by-test Q true x y f g = f refl
 by-test Q false x y f g = g refl
 
@@ -210,12 +210,31 @@ closed-by a e n b o = says (Closed (n .st) e o) a (Close e) n b (not-closed (n .
 
 -- ---- queue
 
+module _ (t : Pages) (e : ℕ) (bytes : List ℕ) where
+  left : (x y z : Bool) → (x && (y && z)) ≡ true → y ≡ true
+  left true true z h = refl
+  left true false z h = absurd (true≢false (sym h))
+  left false y z h = absurd (true≢false (sym h))
+
+  pub room-joins : (u : Bool) → roomB t e (length bytes) ≡ u → u ≡ true → (b : Buf)
+      → Joins (t .ins e) (cond {A = Bk} u (
+        withIn t e (queuedIn (t .ins e) bytes),
+        copied b (t .kept .plain In e .base + t .ins e .turn * t .kept .allocator .size) bytes,
+      ) (t, b) .0 .ins e) bytes
+  room-joins true h k b = (
+    ltb-true (length (t .ins e .waiting)) 2
+        (left (isoOf t In e) (ltb (length (t .ins e .waiting)) 2) (not (ltb (t .kept .allocator .size) (length bytes))) h),
+    ap (λ (p : InPage). p .waiting) (in-same t e (queuedIn (t .ins e) bytes)),
+    ap (λ (p : InPage). p .queued) (in-same t e (queuedIn (t .ins e) bytes)),
+    ap (λ (p : InPage). p .sending) (in-same t e (queuedIn (t .ins e) bytes)),
+  )
+  room-joins false h k b = absurd (true≢false (sym k))
+
 module _ (t : Pages) (e : ℕ) (bytes : List ℕ) (most : length (t .ins e .waiting) ≤ 2) where
   pub record Queued (z : Answer) (t′ : Pages) : Type 0 where
     pub leaves : (r : ℕ) → z ≡ Refused r → t′ ≡ t
     pub full : z ≡ Refused 13 → length (t .ins e .waiting) ≡ 2
-    pub joins : z ≡ ok → (length (t .ins e .waiting) < 2) × (t′ .ins e .waiting ≡ t .ins e .waiting ++ (bytes ∷ []))
-        × (t′ .ins e .queued ≡ t .ins e .queued ++ (bytes ∷ []))
+    pub joins : z ≡ ok → Joins (t .ins e) (t′ .ins e) bytes
 
   not-queued : (k : ℕ) → (k ≡ 13 → ⊥) → Queued (Refused k) t
   not-queued k h = record { leaves = λ r q. refl; full = λ q. absurd (h (ap row q)); joins = λ q. absurd (true≢false (ap isRefused q)) }
@@ -225,11 +244,6 @@ module _ (t : Pages) (e : ℕ) (bytes : List ℕ) (most : length (t .ins e .wait
   room-by true true true h k l = absurd (true≢false k)
   room-by true false z h k l = refl
   room-by false y z h k l = absurd (true≢false (sym h))
-
-  left : (x y z : Bool) → (x && (y && z)) ≡ true → y ≡ true
-  left true true z h = refl
-  left true false z h = absurd (true≢false (sym h))
-  left false y z h = absurd (true≢false (sym h))
 
   not-false : (x : Bool) → not x ≡ false → x ≡ true
   not-false true h = refl
@@ -243,12 +257,7 @@ module _ (t : Pages) (e : ℕ) (bytes : List ℕ) (most : length (t .ins e .wait
   joined true h k b = record {
     leaves = λ r z. absurd (true≢false (sym (ap isRefused z)));
     full = λ z. absurd (true≢false (sym (ap isRefused z)));
-    joins = λ _. (
-      ltb-true (length (t .ins e .waiting)) 2
-          (left (isoOf t In e) (ltb (length (t .ins e .waiting)) 2) (not (ltb (t .kept .allocator .size) (length bytes))) h),
-      ap (λ (p : InPage). p .waiting) (in-same t e (queuedIn (t .ins e) bytes)),
-      ap (λ (p : InPage). p .queued) (in-same t e (queuedIn (t .ins e) bytes)),
-    );
+    joins = λ _. room-joins t e bytes true h k b;
   }
   joined false h k b = absurd (true≢false (sym k))
 

@@ -21,7 +21,7 @@ use Rattle.model.specs.Machine.{idle, busy, Machine, over, misfit, stay, lentTo
 use Rattle.model.specs.Machine.{started, call, fed}
 use Rattle.proof_book.specs.Pages.{Packet, OutPage, InPage, Pages, withOut}
 use Rattle.proof_book.specs.Book.{Bk, receiving, slotTold, sourceTold, arrived, joined, overrun, feedB, freshPages, bookOps, book}
-use Rattle.proof_book.specs.Frame.{at-elim, out-same, in-same}
+use Rattle.proof_book.specs.Frame.{at-elim}
 use Rattle.proof_book.specs.FrontPage.{written, inInterrupt, Decides, Decided, admitted, turned-away, Counted, same, one-more, none, addressed}
 use Rattle.proof_book.specs.BookTracks.{Tracks, end, ask}
 use Rattle.proof_book.specs.InterruptParts.{of-interrupt}
@@ -419,40 +419,3 @@ sending-blank (handed (Ep0Dma x)) e = refl
 sending-blank (handed (Wait k)) e = refl
 sending-blank (handed Callback) e = refl
 sending-blank (told k) e = refl
-
-abbrev Loaded : ℕ → InPage → Type 0
-Loaded x p = 0 < length (p .waiting) → (p .sending ≡ true) × (p .source ≡ x) × (p .load ≡ true)
-
-module _ (e x v : ℕ) (n : Machine Answer Pages) (h : Fine n) (b : Buf) where
-  abbrev Sends : Ans Answer × Machine Answer Pages → Type 0
-  Sends y = sending (y .0) e ≡ true → Loaded x (y .1 .st .ins e)
-
-  told-source : (p : InPage) → (0 < length (p .waiting) → (p .sending ≡ true) × (p .load ≡ true)) → Loaded x (sourceTold p x)
-  told-source p g l = let z = g l in (z .0, ap (λ (u : Bool). cond u x (p .source)) (z .1), z .1)
-
-  sends-at : (o : tree.Out Bk Answer) → Watched (n .st, b) o → Sends (halt calls (book .driver) (fed {A = Answer} book (handed (Transmit e x))) true o)
-  sends-at (ends z t) w k = absurd (true≢false (sym k))
-  sends-at (asks q t g) (ask j m f) k = subst (Loaded x) (sym (in-same (t .0) e (sourceTold (t .0 .ins e) x))) (told-source (t .0 .ins e) (m .loads e k))
-
-  sends-wide : (u : Bool) (y : Ans Answer × Machine Answer Pages) → Sends y → Sends (cond u (stay calls (book .driver) 16 (lentTo calls (book .driver) n b)) y)
-  sends-wide true y s k = absurd (true≢false (sym k))
-  sends-wide false y s k = s k
-
-  sends-way : (w : Way Answer Pages) → WayFine w → inInterrupt w ≡ true
-      → Sends (continued calls (book .driver) (fed {A = Answer} book (handed (Transmit e x))) v n w b)
-  sends-way idle g i k = absurd (true≢false (sym i))
-  sends-way (busy true q f) g i k = sends-wide (over calls q v) _ (sends-at (f v (n .st, b)) (g v (n .st, b) (h .pages) .1)) k
-  sends-way (busy false q f) g i k = absurd (true≢false (sym i))
-
-  sends-fits : (u : Bool) → inInterrupt (n .way) ≡ true → Sends
-      (cond u (stay calls (book .driver) 1 n) (continued calls (book .driver) (fed {A = Answer} book (handed (Transmit e x))) v n (n .way) b))
-  sends-fits true i k = absurd (true≢false (sym k))
-  sends-fits false i k = sends-way (n .way) (h .way) i k
-
-pub load-sends : (c : Call Config Op) (a : Ans Answer) (e x v : ℕ) (n : Machine Answer Pages) → Fine n → (b : Buf) → blankA a ≡ blankA (written a c n b .0)
-    → c ≡ go v → inInterrupt (n .way) ≡ true → a ≡ handed (Transmit e x) → Loaded x (written a c n b .1 .st .ins e)
-load-sends c a e x v n h b s p i g = subst
-    (λ (z : Call Config Op × Ans Answer). let y = written (z .1) (z .0) n b in blankA (z .1) ≡ blankA (y .0)
-    → Loaded x (y .1 .st .ins e)) (sym (ap₂ (λ (c : Call Config Op) (a : Ans Answer). (c, a)) p g))
-    (λ s. sends-fits e x v n h b (misfit calls (book .driver) (n .st) b) i
-    (sym (sending-blank (written (handed (Transmit e x)) (go v) n b .0) e) ∙ ap (λ (z : Ans Answer). sending z e) (sym s) ∙ eq-eqb (e % 16) (e % 16) refl)) s

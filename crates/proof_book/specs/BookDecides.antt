@@ -22,7 +22,7 @@ use Rattle.model.specs.Machine.{Buf}
 use Rattle.proof_book.specs.Pages.{Packet, OutPage, InPage, Pages, withOut}
 use Rattle.proof_book.specs.Book.{Bk, putB, actB, handB, some, receiving, arrived, packetB, passedIn, loadedIn, sentIn, placedIn, bookOps}
 use Rattle.proof_book.specs.Frame.{out-same, in-same, at-elim}
-use Rattle.proof_book.specs.FrontPage.{givesTo, PassesOn}
+use Rattle.proof_book.specs.FrontPage.{givesTo, PassesOn, NoneLeft}
 use Rattle.proof_book.specs.FrontPage as page
 use borrow.Author.Tests.{eq-eqb}
 use lib.Dec.{eqb}
@@ -65,9 +65,9 @@ sendsTo (Ep0Dma x) e = false
 sendsTo (Wait n) e = false
 sendsTo Callback e = false
 
--- at a transmit address: the first waiting, if there is one, is being sent
+-- at a transmit address: one waits, and the first is being sent
 abbrev pub Loads : Access → Bk → Type 0
-Loads q t = (e : ℕ) → sendsTo q e ≡ true → 0 < length (t .0 .ins e .waiting) → (t .0 .ins e .sending ≡ true) × (t .0 .ins e .load ≡ true)
+Loads q t = (e : ℕ) → sendsTo q e ≡ true → (0 < length (t .0 .ins e .waiting)) × (t .0 .ins e .sending ≡ true) × (t .0 .ins e .load ≡ true)
 
 -- numbers count modulo 16
 abbrev pub InPeriodic : Pages → Type 0
@@ -77,6 +77,8 @@ InPeriodic t = (x y : ℕ) → x % 16 ≡ y % 16 → t .ins x ≡ t .ins y
 pub record Passing (s : Bk) (q : Access) (t : Bk) : Type 0 where
   pub spares : (e : ℕ) → page.loads q e ≡ false → t .0 .ins e ≡ s .0 .ins e
   pub passes : InPeriodic (s .0) → (e : ℕ) → PassesOn (s .0 .ins e) (t .0 .ins e)
+  -- with no transmit address none is left there
+  pub empties : (e : ℕ) → sendsTo q e ≡ false → (t .0 .ins e ≡ s .0 .ins e) ⊎ NoneLeft (t .0 .ins e)
 
 pub record Moves (s : Bk) (q : Access) (t : Bk) : Type 0 where
   pub arrives : Arrives s q t
@@ -99,10 +101,11 @@ arrives-then s t u q h k e x a r =
 still-then : (s t u : Bk) → Still s t → Still t u → Still s u
 still-then s t u h k = record { rest = idle-then s t u (h .rest) (k .rest); ins = λ e. k .ins e ∙ h .ins e }
 
-passing-then : (s t u : Bk) (q : Access) → Still s t → Passing t q u → Passing s q u
+pub passing-then : (s t u : Bk) (q : Access) → ((e : ℕ) → t .0 .ins e ≡ s .0 .ins e) → Passing t q u → Passing s q u
 passing-then s t u q h k = record {
-  spares = λ e g. k .spares e g ∙ h .ins e;
-  passes = λ i e. subst (λ (p : InPage). PassesOn p (u .0 .ins e)) (h .ins e) (k .passes (λ x y m. h .ins x ∙ i x y m ∙ sym (h .ins y)) e);
+  spares = λ e g. k .spares e g ∙ h e;
+  passes = λ i e. subst (λ (p : InPage). PassesOn p (u .0 .ins e)) (h e) (k .passes (λ x y m. h x ∙ i x y m ∙ sym (h y)) e);
+  empties = λ e g. subst (λ (p : InPage). (u .0 .ins e ≡ p) ⊎ NoneLeft (u .0 .ins e)) (h e) (k .empties e g);
 }
 
 moves-then : (s t u : Bk) (q : Access) → Still s t → Moves t q u → Moves s q u
@@ -110,7 +113,7 @@ moves-then s t u q h k = record {
   arrives = arrives-then s t u q (h .rest) (k .arrives);
   leaves = λ e g. k .leaves e (ap (λ (n : ℕ). givesTo q e && isSet n (e % 16)) (h .rest .sets) ∙ g) ∙ h .rest .outs e;
   loads = k .loads;
-  passing = passing-then s t u q h (k .passing);
+  passing = passing-then s t u q (h .ins) (k .passing);
 }
 
 pub idle : {s : Bk} → Idle s s
@@ -176,7 +179,11 @@ pub waits-on : {p : InPage} → PassesOn p p
 waits-on = record { waiting = inl refl; queued = refl }
 
 pub still-in : {s t : Bk} (q : Access) → ((e : ℕ) → t .0 .ins e ≡ s .0 .ins e) → Passing s q t
-still-in {s} q h = record { spares = λ e g. h e; passes = λ i e. subst (λ (p : InPage). PassesOn (s .0 .ins e) p) (sym (h e)) waits-on }
+still-in {s} q h = record {
+  spares = λ e g. h e;
+  passes = λ i e. subst (λ (p : InPage). PassesOn (s .0 .ins e) p) (sym (h e)) waits-on;
+  empties = λ e g. inl (h e);
+}
 
 arrive-still : (f n : ℕ) (s : Bk) → Passing s (Receive f 0) (handB (arrive f n) s .1)
 arrive-still f n s = still-in (Receive f 0) (λ e. by e (receiving (s .0) f))
@@ -194,17 +201,17 @@ unmoved {q = q} h g = record {
   passing = still-in q (λ e. refl);
 }
 
-sends : (f : ℕ) (s : Bk) → Loads (Transmit f 0) (handB (send f) s .1)
-sends f s e = at-page (eqb (e % 16) (f % 16))
+pub sends : (f : ℕ) (s : Bk) → some (s .0 .ins f .waiting) ≡ true → Loads (Transmit f 0) (handB (send f) s .1)
+sends f s one e = at-page (eqb (e % 16) (f % 16))
   where
     loaded : (w : List (List ℕ)) → let p = cond (some w) (sentIn (s .0 .ins f) (s .1)) (placedIn (s .0 .ins f)) in
-        s .0 .ins f .waiting ≡ w → 0 < length (p .waiting) → (p .sending ≡ true) × (p .load ≡ true)
-    loaded [] h l = absurd (omega (arith, l, ap (λ (w : List (List ℕ)). length w) h))
-    loaded (b ∷ w) h l = (refl, refl)
+        s .0 .ins f .waiting ≡ w → some w ≡ true → (0 < length (p .waiting)) × (p .sending ≡ true) × (p .load ≡ true)
+    loaded [] h l = absurd (true≢false (sym l))
+    loaded (b ∷ w) h l = (omega (arith, ap (λ (w : List (List ℕ)). length w) h), refl, refl)
 
     at-page : (u : Bool) → u ≡ true → let p = cond u (loadedIn (s .0 .ins f) (s .1)) (s .0 .ins e) in
-        0 < length (p .waiting) → (p .sending ≡ true) × (p .load ≡ true)
-    at-page true h = loaded (s .0 .ins f .waiting) refl
+        (0 < length (p .waiting)) × (p .sending ≡ true) × (p .load ≡ true)
+    at-page true h = loaded (s .0 .ins f .waiting) refl one
     at-page false h = absurd (true≢false (sym h))
 
 -- ---- a load
@@ -225,6 +232,10 @@ loaded-on p b = by (some (passedIn p .waiting))
     by true = record { waiting = passed-on p .waiting; queued = refl }
     by false = record { waiting = passed-on p .waiting; queued = refl }
 
+none-waits : (w : List (List ℕ)) → some w ≡ false → w ≡ []
+none-waits [] h = refl
+none-waits (b ∷ w) h = absurd (true≢false h)
+
 module _ (f : ℕ) (s : Bk) where
   abbrev pub passed : Bk
   passed = actB (complete f) s
@@ -234,22 +245,32 @@ module _ (f : ℕ) (s : Bk) where
   at-page i e h p k = subst (λ (q : InPage). PassesOn q p) (i f e (sym h)) k
 
   -- where none waits
-  pub empty-load : Passing s (Write EpTLen f 0) passed
-  empty-load = record {
+  pub empty-load : some (passed .0 .ins f .waiting) ≡ false → Passing s (Write EpTLen f 0) passed
+  empty-load none = record {
     spares = λ e g. ap (λ (u : Bool). cond u (passedIn (s .0 .ins f)) (s .0 .ins e)) g;
     passes = λ i e. at-elim (λ (p : InPage). PassesOn (s .0 .ins e) p) f e (passedIn (s .0 .ins f)) (s .0 .ins)
         (λ h. at-page i e h (passedIn (s .0 .ins f)) (passed-on (s .0 .ins f))) (λ _. waits-on);
+    empties = λ e g. at-elim (λ (p : InPage). (p ≡ s .0 .ins e) ⊎ NoneLeft p) f e (passedIn (s .0 .ins f)) (s .0 .ins)
+        (λ _. inr (all-passed, refl)) (λ _. inl refl);
   }
+    where
+      all-passed : passedIn (s .0 .ins f) .waiting ≡ []
+      all-passed = none-waits (passedIn (s .0 .ins f) .waiting)
+          (sym (ap (λ (p : InPage). some (p .waiting)) (in-same (s .0) f (passedIn (s .0 .ins f)))) ∙ none)
 
   -- where one does
   pub packet-load : Passing s (Transmit f 0) (handB (send f) passed .1)
   packet-load = record {
-    spares = λ e g. ap (λ (u : Bool). cond u (loadedIn (passed .0 .ins f) (s .1)) (cond u (passedIn (s .0 .ins f)) (s .0 .ins e))) g;
+    spares = apart;
     passes = λ i e. at-elim (λ (p : InPage). PassesOn (s .0 .ins e) p) f e (loadedIn (passed .0 .ins f) (s .1)) (passed .0 .ins)
         (λ h. at-page i e h (loadedIn (passed .0 .ins f) (s .1)) own)
         (λ h. at-elim (λ (p : InPage). PassesOn (s .0 .ins e) p) f e (passedIn (s .0 .ins f)) (s .0 .ins) (λ k. absurd (h k)) (λ _. waits-on));
+    empties = λ e g. inl (apart e g);
   }
     where
+      apart : (e : ℕ) → eqb (e % 16) (f % 16) ≡ false → handB (send f) passed .1 .0 .ins e ≡ s .0 .ins e
+      apart e g = ap (λ (u : Bool). cond u (loadedIn (passed .0 .ins f) (s .1)) (cond u (passedIn (s .0 .ins f)) (s .0 .ins e))) g
+
       own : PassesOn (s .0 .ins f) (loadedIn (passed .0 .ins f) (s .1))
       own =
           subst (λ (p : InPage). PassesOn (s .0 .ins f) (loadedIn p (s .1))) (sym (in-same (s .0) f (passedIn (s .0 .ins f))))
@@ -266,14 +287,15 @@ woken : (codes : List ℕ) (s : Bk) → Still s (actB (waken codes) s)
 woken codes s = record { rest = record { outs = λ e. refl; sets = refl; bytes = refl }; ins = λ e. refl }
 
 -- `iso_in_complete`, by whether one waits then
-load-watched : (e : ℕ) (s : Bk) (u : Bool) → let next : Script true Unit = bind (look (next-len In e)) (λ n. write EpTLen e n) in Watched s
+load-watched : (e : ℕ) (s : Bk) (u : Bool) → some (passed e s .0 .ins e .waiting) ≡ u
+    → let next : Script true Unit = bind (look (next-len In e)) (λ n. write EpTLen e n) in Watched s
     (bindOut (cond u (asks (Transmit e 0) (handB (send e) (passed e s) .1) (λ _ t. run bookOps next t))
     (asks (Write EpTLen e 0) (passed e s) (λ _ t. ends tt t))) (λ _ t. run bookOps (wake {i = true} In e) t))
-load-watched e s true = ask tt
-    (record { arrives = λ e x a r. no-receive refl a; leaves = λ e g. refl; loads = sends e (passed e s); passing = packet-load e s })
+load-watched e s true one = ask tt
+    (record { arrives = λ e x a r. no-receive refl a; leaves = λ e g. refl; loads = sends e (passed e s) one; passing = packet-load e s })
     (λ v t _. ask tt (unmoved refl (λ e. refl)) (λ v t _. end tt (woken (wakeCode In e ∷ []) t)))
-load-watched e s false = ask tt
-    (record { arrives = λ e x a r. no-receive refl a; leaves = λ e g. refl; loads = λ e k. absurd (true≢false (sym k)); passing = empty-load e s })
+load-watched e s false none = ask tt
+    (record { arrives = λ e x a r. no-receive refl a; leaves = λ e g. refl; loads = λ e k. absurd (true≢false (sym k)); passing = empty-load e s none })
     (λ v t _. end tt (woken (wakeCode In e ∷ []) t))
 
 pub watch : {A : Type 0} {p : Script true A} → Parts A p → (s : Bk) → Watched s (run bookOps p s)
@@ -290,7 +312,7 @@ watch (p-put {c = c} {v = v} e h) s = after (record { rest = puts c v s; ins = p
 watch (p-is h) s = watch (h _) s
 watch (p-look h) s = watch (h _) s
 watch (p-fetch h) s = watch (h _) s
-watch (p-load {e = e}) s = load-watched e s (some (passed e s .0 .ins e .waiting))
+watch (p-load {e = e}) s = load-watched e s (some (passed e s .0 .ins e .waiting)) refl
 watch (p-no-wakes h) s = after (record { rest = record { outs = λ e. refl; sets = refl; bytes = refl }; ins = λ e. refl }) (watch h _)
 watch (p-waken {codes = codes} h) s = after (woken codes s) (watch h _)
 watch (p-arrive {e = e} {n = n} h) s = ask tt

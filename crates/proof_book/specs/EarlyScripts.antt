@@ -2,6 +2,7 @@
 -- others. After it no script takes the stage back
 use mathlib.Core.Bool.{Bool, true, false, cond, _&&_, true≢false}
 use mathlib.Core.List.{List, [], _∷_}
+use mathlib.Core.Logic.{_≢_}
 use mathlib.Core.Path.{_≡_, refl, ap, subst, sym, _∙_}
 use Prim.Native.Nat.{ℕ, zero, suc, _%_}
 use lib.Dec.{eqb}
@@ -33,6 +34,8 @@ use Rattle.model.specs.Calls.{PollWrite, PollDataOut, BeginDataIn, Other, Alloc
 use Rattle.model.specs.Calls.{BusEnable, BusDisable, Microframe, SetStalled, IsStalled, SetPaced, Advance, BeginRead}
 use Rattle.model.specs.Calls.{BeginSetup, PollSetup, PollDataIn, BeginAccept, PollAccept, BeginReject, BeginDataOut}
 use Rattle.model.specs.Calls.{BeginAcceptSetAddress, Aside, Open, Close, Queue, code, otherCode, starting}
+use Rattle.model.specs.Steps.{giving, mayAct}
+use Rattle.model.specs.StepsRuns.{Keeps}
 use Rattle.proof_book.specs.Pages.{OutPage, InPage, Pages, withOut, withIn}
 use Rattle.proof_book.specs.Book.{Bk, some, emptyOut, slotTold, emptyIn, sourceTold, placedIn, roomB, putB, actB}
 use Rattle.proof_book.specs.Book.{handB, rowB, isoOf, isoOut, receiving, waitsOn, givenB, startedB, switchB}
@@ -251,74 +254,94 @@ begins (slotted o) = begins-slotted o
 begins (other o) = begins-other o
 begins (aside o) = begins-aside o
 
+-- ---- the stage
+
+-- what is said of it: EP0's start alone changes it
+module _ (P : ℕ → Type 0) where
+  abbrev pub Stands : Pages → Type 0
+  Stands t = P (stage t)
+
+  either : (u : Bool) (x y : Pages) → Stands x → Stands y → Stands (cond u x y)
+  either true x y h k = h
+  either false x y h k = k
+
+  either-of : (u : Bool) (x y : Bk) → Stands (x .0) → Stands (y .0) → Stands (cond u x y .0)
+  either-of true x y h k = h
+  either-of false x y h k = k
+
+  pub puts : (c : Cell) (v : Val c) (s : Bk) → Stands (s .0) → Stands (putB c v s .0)
+  puts globals-cell v s i = i
+  puts control-cell v s i = i
+  puts allocator-cell v s i = i
+  puts (ep-cell d e) v s i = i
+  puts (request-cell d e) v s i = i
+  puts (paced-cell e) v s i = i
+
+  given : (d : Dir) (kind maximum interval : ℕ) (z : alloc-answer.Answer) (t : Pages) → Stands t → Stands (givenB d kind maximum interval z t)
+  given d kind maximum interval (alloc.Refused n) t i = i
+  given Out kind maximum interval (alloc.Given e base slots) t i = subst P (sym (sets-stage Out kind interval e (t .kept .globals))) i
+  given In kind maximum interval (alloc.Given e base slots) t i = subst P (sym (sets-stage In kind interval e (t .kept .globals))) i
+
+  begun : (maximum : ℕ) (z : alloc-answer.Answer) (t : Pages) → P 2 → Stands t → Stands (startedB maximum z t)
+  begun maximum (alloc.Refused n) t p i = i
+  begun maximum (alloc.Given e base slots) t p i = p
+
+  pub acts : (q : Act) → ((maximum : ℕ) → q ≡ allocate0 maximum → P 2) → (s : Bk) → Stands (s .0) → Stands (actB q s .0)
+  acts (complete e) p s i = i
+  acts (reset-ring Out e) p s i = either (isoOf (s .0) Out e) _ _ i i
+  acts (reset-ring In e) p s i = i
+  acts (set-enabled d e onn) p s i = either (isoOut (s .0) d e) _ _ i i
+  acts (fill e bytes) p s i = i
+  acts (fill0 bytes) p s i = i
+  acts (open-oldest e) p s i = either (some (waitsOn (s .0) Out e)) _ _ i i
+  acts (close-oldest e) p s i = either (s .0 .outs e .opened) _ _ i i
+  acts (take-oldest e) p s i = either (some (waitsOn (s .0) Out e)) _ _ i i
+  acts (enqueue e bytes) p s i = either-of (roomB (s .0) e (length bytes)) _ _ i i
+  acts (allocate d kind address maximum interval) p s i =
+      given d kind maximum interval (allocateOf (s .0 .kept .allocator) kind address maximum d .answer) _ i
+  acts (allocate0 maximum) p s i = begun maximum (allocateEp0Of (s .0 .kept .allocator) maximum .answer) _ (p maximum refl) i
+  acts no-wakes p s i = i
+  acts (waken codes) p s i = i
+
+  pub hands : (q : DmaStep) (s : Bk) → Stands (s .0) → Stands (handB q s .1 .0)
+  hands (arrive e n) s i = either (receiving (s .0) e) _ _ i i
+  hands (send e) s i = i
+  hands (place Out e) s i = i
+  hands (place In e) s i = i
+  hands place0 s i = i
+
+  pub row-steps : (g : Burst) (n : ℕ) (s : Bk) → Stands (s .0) → Stands (rowB g n s .1 .0)
+  row-steps (switch e onn) zero s i = i
+  row-steps (switch e onn) (suc zero) s i = i
+  row-steps (switch e onn) (suc (suc zero)) s i = i
+  row-steps (switch e onn) (suc (suc (suc k))) s i = either (isoOf (s .0) Out e && eqb k 15) _ _ i i
+  row-steps bus-reset zero s i = i
+  row-steps bus-reset (suc zero) s i = i
+  row-steps bus-reset (suc (suc zero)) s i = i
+  row-steps bus-reset (suc (suc (suc k))) s i = i
+
+-- ---- before EP0's start: an allocation keeps the stage
+
+abbrev pub Unstarted : Bk → Type 0
+Unstarted s = stage (s .0) ≢ 2
+
+pub giving-keeps : Keeps bookOps Unstarted giving
+giving-keeps = record {
+  put = λ c v m s i. puts (λ n. n ≢ 2) c v s i;
+  act = λ q m s i. acts (λ n. n ≢ 2) q (λ maximum h. absurd (true≢false (sym m ∙ ap (mayAct giving) h))) s i;
+  hand = λ q m s i. hands (λ n. n ≢ 2) q s i;
+  row = λ g m n s i. row-steps (λ n. n ≢ 2) g n s i;
+}
+
 -- ---- after EP0's start
 
 abbrev pub Started : Pages → Type 0
 Started t = stage t ≡ 2
 
-either : (u : Bool) (x y : Pages) → Started x → Started y → Started (cond u x y)
-either true x y h k = h
-either false x y h k = k
-
-either-of : (u : Bool) (x y : Bk) → Started (x .0) → Started (y .0) → Started (cond u x y .0)
-either-of true x y h k = h
-either-of false x y h k = k
-
-puts : (c : Cell) (v : Val c) (s : Bk) → Started (s .0) → Started (putB c v s .0)
-puts globals-cell v s i = i
-puts control-cell v s i = i
-puts allocator-cell v s i = i
-puts (ep-cell d e) v s i = i
-puts (request-cell d e) v s i = i
-puts (paced-cell e) v s i = i
-
-given : (d : Dir) (kind maximum interval : ℕ) (z : alloc-answer.Answer) (t : Pages) → Started t → Started (givenB d kind maximum interval z t)
-given d kind maximum interval (alloc.Refused n) t i = i
-given Out kind maximum interval (alloc.Given e base slots) t i = sets-stage Out kind interval e (t .kept .globals) ∙ i
-given In kind maximum interval (alloc.Given e base slots) t i = sets-stage In kind interval e (t .kept .globals) ∙ i
-
-begun : (maximum : ℕ) (z : alloc-answer.Answer) (t : Pages) → Started t → Started (startedB maximum z t)
-begun maximum (alloc.Refused n) t i = i
-begun maximum (alloc.Given e base slots) t i = refl
-
-acts : (q : Act) (s : Bk) → Started (s .0) → Started (actB q s .0)
-acts (complete e) s i = i
-acts (reset-ring Out e) s i = either (isoOf (s .0) Out e) _ _ i i
-acts (reset-ring In e) s i = i
-acts (set-enabled d e onn) s i = either (isoOut (s .0) d e) _ _ i i
-acts (fill e bytes) s i = i
-acts (fill0 bytes) s i = i
-acts (open-oldest e) s i = either (some (waitsOn (s .0) Out e)) _ _ i i
-acts (close-oldest e) s i = either (s .0 .outs e .opened) _ _ i i
-acts (take-oldest e) s i = either (some (waitsOn (s .0) Out e)) _ _ i i
-acts (enqueue e bytes) s i = either-of (roomB (s .0) e (length bytes)) _ _ i i
-acts (allocate d kind address maximum interval) s i =
-    given d kind maximum interval (allocateOf (s .0 .kept .allocator) kind address maximum d .answer) _ i
-acts (allocate0 maximum) s i = begun maximum (allocateEp0Of (s .0 .kept .allocator) maximum .answer) _ i
-acts no-wakes s i = i
-acts (waken codes) s i = i
-
-hands : (q : DmaStep) (s : Bk) → Started (s .0) → Started (handB q s .1 .0)
-hands (arrive e n) s i = either (receiving (s .0) e) _ _ i i
-hands (send e) s i = i
-hands (place Out e) s i = i
-hands (place In e) s i = i
-hands place0 s i = i
-
-row-steps : (g : Burst) (n : ℕ) (s : Bk) → Started (s .0) → Started (rowB g n s .1 .0)
-row-steps (switch e onn) zero s i = i
-row-steps (switch e onn) (suc zero) s i = i
-row-steps (switch e onn) (suc (suc zero)) s i = i
-row-steps (switch e onn) (suc (suc (suc k))) s i = either (isoOf (s .0) Out e && eqb k 15) _ _ i i
-row-steps bus-reset zero s i = i
-row-steps bus-reset (suc zero) s i = i
-row-steps bus-reset (suc (suc zero)) s i = i
-row-steps bus-reset (suc (suc (suc k))) s i = i
-
 follow-rows : {A : Type 0} (g : Burst) (n : ℕ) {k : Bk → tree.Out Bk A} → ((t : Bk) → Started (t .0) → Along Started t (k t)) → (s : Bk) → Started (s .0)
     → Along Started s (rows bookOps g n k s)
-follow-rows g zero h s i = ask (row-steps g zero s i) tt (λ v t j. h t j)
-follow-rows g (suc n) h s i = ask (row-steps g (suc n) s i) tt (λ v t j. follow-rows g n h t j)
+follow-rows g zero h s i = ask (row-steps (λ n. n ≡ 2) g zero s i) tt (λ v t j. h t j)
+follow-rows g (suc n) h s i = ask (row-steps (λ n. n ≡ 2) g (suc n) s i) tt (λ v t j. follow-rows g n h t j)
 
 pub stays-started : {i : Bool} {A : Type 0} (p : Script i A) (s : Bk) → Started (s .0) → Along Started s (run bookOps p s)
 stays-started (ret a) s i = end i tt
@@ -330,10 +353,10 @@ stays-started (write-then r e v p) s i = ask i tt (λ _ t j. stays-started p t j
 stays-started (wait-then n p) s i = ask i tt (λ _ t j. stays-started p t j)
 stays-started (callback-then p) s i = ask i tt (λ _ t j. stays-started p t j)
 stays-started (get-then c k) s i = stays-started (k _) s i
-stays-started (put-then c v p) s i = after (stays-started p (putB c v s) (puts c v s i))
+stays-started (put-then c v p) s i = after (stays-started p (putB c v s) (puts (λ n. n ≡ 2) c v s i))
 stays-started (is-then q k) s i = stays-started (k _) s i
 stays-started (look-then q k) s i = stays-started (k _) s i
 stays-started (fetch-then q k) s i = stays-started (k _) s i
-stays-started (act-then q p) s i = after (stays-started p (actB q s) (acts q s i))
-stays-started (hand-then q p) s i = ask (hands q s i) tt (λ _ t j. stays-started p t j)
+stays-started (act-then q p) s i = after (stays-started p (actB q s) (acts (λ n. n ≡ 2) q (λ _ _. refl) s i))
+stays-started (hand-then q p) s i = ask (hands (λ n. n ≡ 2) q s i) tt (λ _ t j. stays-started p t j)
 stays-started (row-then g p) s i = follow-rows g (lastOf g) (λ t j. stays-started p t j) s i

@@ -21,8 +21,8 @@ use Rattle.state.specs.State.{view}
 use Rattle.ring.specs.Waiting.{waiting, Same}
 use Rattle.marks.specs.Copies.{bytesAt}
 use Rattle.model.specs.Every.{sameReg}
-use Rattle.model.specs.Answers.{Answer, Refused, NotYet, Done, Shown, ok, isNumber}
-use Rattle.model.specs.Calls.{Config, Op, slotted, other, aside, SetEnabled, PollRead, Allocate, AllocateAll, Advance, Aside, Open}
+use Rattle.model.specs.Answers.{Answer, Refused, End, NotYet, Done, Shown, ok, isNumber}
+use Rattle.model.specs.Calls.{Config, Op, interrupt, slotted, other, aside, SetEnabled, PollRead, BeginWrite, PollWrite, PollDataOut, BeginDataIn, Allocate, AllocateAll, Advance, Aside, Open}
 use Rattle.model.specs.Calls.{Close, Queue, calls, startRow}
 use Rattle.model.specs.Machine.{Buf, Call, start, begin, go, question, overruns, Event, Ans, ended, handed, told, Way}
 use Rattle.model.specs.Machine.{idle, busy, Machine, over, misfit, fed, call, started}
@@ -109,6 +109,24 @@ pub record ReadsFirst (p p′ : OutPage) (q : Packet) : Type 0 where
 abbrev pub Holds : InPage → Buf → ℕ → Type 0
 Holds p b x = (bytes : List ℕ) (rest : List (List ℕ)) → p .load ≡ true → p .waiting ≡ bytes ∷ rest → bytesAt b x (length bytes) ≡ bytes
 
+-- a poll that is done
+abbrev pub isDone : Answer → Bool
+isDone (Refused r) = false
+isDone (End r w) = false
+isDone NotYet = false
+isDone (Done bytes) = true
+isDone (Shown bytes s) = false
+
+abbrev pub done : Ans Answer → Bool
+done (ended z) = isDone z
+done (handed q) = false
+done (told k) = false
+
+-- "Queue: its bytes wait, last", where fewer than 2 wait; none comes to be sent
+abbrev pub Joins : InPage → InPage → List ℕ → Type 0
+Joins p p′ bytes = (length (p .waiting) < 2) × (p′ .waiting ≡ p .waiting ++ (bytes ∷ [])) × (p′ .queued ≡ p .queued ++ (bytes ∷ []))
+    × (p′ .sending ≡ p .sending)
+
 -- document 01, "Compared after each call". A call c, the book before it, its answer, the driver's state and the slot buffer after it, the book after it
 pub record Compared (c : Call Config Op) (t : Pages) (a : Ans Answer) (d : Driver) (b : Buf) (t′ : Pages) : Type 0 where
   -- "the bytes of the OUT ring's slots, tail to head, each up to its recorded length, equal those waiting, in order", with their stamps
@@ -131,7 +149,11 @@ pub record Compared (c : Call Config Op) (t : Pages) (a : Ans Answer) (d : Drive
   -- "row 13 goes by the book": 2 wait. A queue that is not refused finds fewer, and its bytes wait, last
   pub row-13 : (e : ℕ) (bytes : List ℕ) → c ≡ begin (aside (Queue e bytes)) → a ≡ ended (Refused 13) → length (t .ins e .waiting) ≡ 2
   pub queue-joins : (e : ℕ) (bytes : List ℕ) → c ≡ begin (aside (Queue e bytes)) → a ≡ ended ok
-      → (length (t .ins e .waiting) < 2) × (t′ .ins e .waiting ≡ t .ins e .waiting ++ (bytes ∷ [])) × (t′ .ins e .queued ≡ t .ins e .queued ++ (bytes ∷ []))
+      → Joins (t .ins e) (t′ .ins e) bytes
+  -- so do those of a write's poll that is done on an isochronous IN; with any other answer, and on any other endpoint, it leaves the page
+  pub write-joins : (e : ℕ) (bytes : List ℕ) → c ≡ begin (slotted (PollWrite e bytes)) → done a ≡ true → isoOf t In e ≡ true
+      → Joins (t .ins e) (t′ .ins e) bytes
+  pub write-leaves : (e : ℕ) (bytes : List ℕ) → c ≡ begin (slotted (PollWrite e bytes)) → (done a && isoOf t In e) ≡ false → t′ .ins e ≡ t .ins e
   -- "the slot whose address a load hands out holds the bytes of the first then waiting"
   pub load-holds : (e x : ℕ) → a ≡ handed (Transmit e x) → Holds (t′ .ins e) b x
 
@@ -206,7 +228,8 @@ SamePackets p p′ = p′ ≡ slotTold p (p′ .slot)
 abbrev pub emptying : Way Answer Pages → Ans Answer → Bool
 emptying w a = cond (inInterrupt w) false (releasing a)
 
--- one that loads IN e: its transmit address, or its length 0 where none waits
+-- one with which IN e may be loaded: its transmit address, or a length 0 for it. Not every length 0 is a load's: after an empty packet's address its own
+-- length is 0 too
 abbrev pub loads : Access → ℕ → Bool
 loads (Read r f) e = false
 loads (Write r f v) e = sameReg r EpTLen && (eqb v 0 && eqb (e % 16) (f % 16))
@@ -225,6 +248,26 @@ loading (told k) e = false
 pub record PassesOn (p p′ : InPage) : Type 0 where
   pub waiting : (p′ .waiting ≡ p .waiting) ⊎ ((p .sending ≡ true) × (p′ .waiting ≡ tail (p .waiting)))
   pub queued : p′ .queued ≡ p .queued
+
+-- one waits, and the first is being sent, from address x
+abbrev pub SentFrom : ℕ → InPage → Type 0
+SentFrom x p = (0 < length (p .waiting)) × (p .sending ≡ true) × (p .source ≡ x) × (p .load ≡ true)
+
+-- an endpoint is enabled or disabled
+abbrev pub enabling : Op → Bool
+enabling (slotted (SetEnabled d e on)) = true
+enabling (slotted (PollRead e k)) = false
+enabling (slotted (BeginWrite e bytes)) = false
+enabling (slotted (PollWrite e bytes)) = false
+enabling (slotted (PollDataOut k)) = false
+enabling (slotted (BeginDataIn bytes first last)) = false
+enabling interrupt = false
+enabling (other o) = false
+enabling (aside o) = false
+
+-- none waits, and none is being sent
+abbrev pub NoneLeft : InPage → Type 0
+NoneLeft p = (p .waiting ≡ []) × (p .sending ≡ false)
 
 -- a call that rows 1, 2, 3, 15 or 16 stop, or a question
 abbrev pub keepsOut : Way Answer Pages → Op → Bool
@@ -338,6 +381,8 @@ pub record Sentences (c : Call Config Op) (lent : Buf) (n : Machine Answer Pages
   -- a continue changes the page of an IN at a load alone, where no packet but the one being sent ceases to wait
   pub unmoved-in : (e v : ℕ) → c ≡ go v → emptying (n .way) a ≡ false → loading a e ≡ false → t′ .ins e ≡ n .st .ins e
   pub load-passes : (e v : ℕ) → c ≡ go v → emptying (n .way) a ≡ false → PassesOn (n .st .ins e) (t′ .ins e)
+  -- "or the length 0 where none is left": with a length 0 the page stays, as with an empty packet's own, or none is left
+  pub length-0 : (e v : ℕ) → c ≡ go v → emptying (n .way) a ≡ false → a ≡ handed (Write EpTLen e 0) → (t′ .ins e ≡ n .st .ins e) ⊎ NoneLeft (t′ .ins e)
   -- the begin of an advance changes none
   pub advance-begins : (e f : ℕ) → c ≡ begin (other (Advance e)) → t′ .ins f ≡ n .st .ins f
   -- an allocation changes no packet of any endpoint, nor does any call but a start-up before EP0's start
@@ -366,9 +411,12 @@ pub record Sentences (c : Call Config Op) (lent : Buf) (n : Machine Answer Pages
   pub sent-in-order : (e : ℕ) → (later : List (List ℕ)) × (t′ .ins e .sent ++ later ≡ t′ .ins e .queued)
   pub passed-then-waiting : (e : ℕ) → t′ .ins e .passed ++ t′ .ins e .waiting ≡ t′ .ins e .queued
   pub sent-is : (e : ℕ) → t′ .ins e .sent ≡ t′ .ins e .passed ++ cond (t′ .ins e .sending) (front (t′ .ins e .waiting)) []
-  -- where an interrupt hands out a transmit address and one waits then, that one is being sent, from that address
-  pub load-sends : (e x v : ℕ) → c ≡ go v → inInterrupt (n .way) ≡ true → a ≡ handed (Transmit e x) → 0 < length (t′ .ins e .waiting)
-      → BeingSent t′ e × (t′ .ins e .source ≡ x) × (t′ .ins e .load ≡ true)
+  -- "a slot is being sent from the call of iso_in_load that hands out its address": where an interrupt goes on and hands out a transmit address, or
+  -- any other operation does after EP0's start, one waits, and the first is being sent, from that address; a begin's likewise, but an enabling's
+  pub load-sends : (e x v : ℕ) → c ≡ go v → (inInterrupt (n .way) ≡ false → n .st .kept .globals .stage ≡ 2) → a ≡ handed (Transmit e x)
+      → SentFrom x (t′ .ins e)
+  pub begin-sends : (o : Op) (e x : ℕ) → c ≡ begin o → enabling o ≡ false → n .st .kept .globals .stage ≡ 2 → a ≡ handed (Transmit e x)
+      → SentFrom x (t′ .ins e)
   -- "until the tail passes it, a reset or a start-up": nothing else ends a sending. A transmit address that is a load's is that of the slot being sent
   pub sending-ends : (e : ℕ) → BeingSent (n .st) e → Sends e (n .st) t′
   pub load-tells : (e x : ℕ) → a ≡ handed (Transmit e x) → t′ .ins e .load ≡ true → BeingSent t′ e × (t′ .ins e .source ≡ x)

@@ -1,6 +1,6 @@
 -- Demand 3: what FrontPage.antt says holds after every call of every list that an accepted start-up begins, of the Rattle code (`demand-3`) and of the
 -- machine of calls that the state's bytes are (`machine-demand-3`)
-use mathlib.Core.Bool.{Bool, true, false, cond, true≢false}
+use mathlib.Core.Bool.{Bool, true, false, cond, _&&_, true≢false}
 use mathlib.Core.List.{List, [], _∷_, _++_, map-append}
 use mathlib.Core.Path.{_≡_, refl, ap, subst, sym, _∙_}
 use Prim.Native.Nat.{ℕ, zero, suc, _≤_, _<_}
@@ -10,7 +10,7 @@ use lib.ListN.{length, length-map}
 use Rattle.regs.specs.declared.Access.{Access}
 use Rattle.regs.specs.declared.Access.the-variants.{Transmit}
 use Rattle.regs.specs.declared.Dir.{Dir}
-use Rattle.regs.specs.declared.Dir.the-variants.{Out}
+use Rattle.regs.specs.declared.Dir.the-variants.{Out, In}
 use Rattle.state.specs.State.{view}
 use Rattle.state.specs.Driver.{Driver, epOn}
 use Rattle.ring.specs.Slot.{countOf}
@@ -19,12 +19,12 @@ use Rattle.model.specs.Simulates.{Phase}
 use Rattle.model.specs.Statics.{flag}
 use Rattle.model.specs.Cells.{EpCore}
 use Rattle.model.specs.Answers.{Answer, Refused, NotYet, Shown, ok}
-use Rattle.model.specs.Calls.{Config, Op, aside, Aside, Open, Close, Queue, calls, startRow}
+use Rattle.model.specs.Calls.{Config, Op, slotted, PollWrite, aside, Aside, Open, Close, Queue, calls, startRow}
 use Rattle.model.specs.Machine.{Buf, Call, start, begin, go, question, overruns, Event, Ans, ended, handed, told, blankA, Machine, fed, started}
 use Rattle.model.specs.Agree.{After, Ways, GoodA, agrees, from-start}
 use Rattle.machine.specs.Suspended.{driverOf, drive, machineOf}
 use Rattle.proof_book.specs.Pages.{Packet, bytesOf, stampsOf, OutPage, Pages}
-use Rattle.proof_book.specs.Book.{book}
+use Rattle.proof_book.specs.Book.{isoOf, book}
 use Rattle.proof_book.specs.Coupling.{Coupling, Short, Holds, lensOf}
 use Rattle.proof_book.specs.Held.{held-length}
 use Rattle.proof_book.specs.Allocations.{fresh-kept}
@@ -32,11 +32,12 @@ use Rattle.proof_book.specs.Agrees.{agree}
 use Rattle.proof_book.specs.LedgerLaws as ledger
 use Rattle.proof_book.specs.ReadRoomCalls.{Kept, steps, start-kept}
 use Rattle.proof_book.specs.FrontPage.{Made, CallStep, noted, written, LentAsLeft, ringBytes, ringStamps, EmptiedIn, BeingSent, Sends, emptied, Compared}
-use Rattle.proof_book.specs.FrontPage.{Sentences, AfterCall, Counted, none, AfterEach, LengthsEach, OthersEach, Demand3}
+use Rattle.proof_book.specs.FrontPage.{done, Sentences, AfterCall, Counted, none, AfterEach, LengthsEach, OthersEach, Demand3}
 use Rattle.proof_book.specs.FrontPage as page
 use Rattle.proof_book.specs.MachineRuns.{Premise, AfterEvents}
 use Rattle.proof_book.specs.SlotsKept.{kept-unwritten, lies-inside, lent-is}
 use Rattle.proof_book.specs.Asides.{Opened, opened-by, Closed, closed-by, Queued, queued-by}
+use Rattle.proof_book.specs.WritePolls.{Polled, write-polled}
 use Rattle.proof_book.specs.PollsWhole.{ended-same, one-call}
 use Rattle.proof_book.specs.BookCalls.{Fine, start-fine, start-lost, start-anew, call-fine}
 use Rattle.proof_book.specs.BookCalls as steps-of
@@ -45,10 +46,11 @@ use Rattle.proof_book.specs.RefusedCalls.{isStart, refusal-leaves}
 use Rattle.proof_book.specs.Enabling.{enabling-resets}
 use Rattle.proof_book.specs.BusResets.{bus-reset-empties, begin-empties}
 use Rattle.proof_book.specs.SendingCalls.{Sending, SendingAfter, after-call, start-after, start-emptied, sends-of, told-source}
-use Rattle.proof_book.specs.ContinueCalls.{WayOnto, start-onto, goes-on, continues-of}
+use Rattle.proof_book.specs.ContinueCalls.{GoesOn, start-onto, goes-on, continues-of}
 use Rattle.proof_book.specs.AdvanceBegins.{advance-begins}
 use Rattle.proof_book.specs.SlotsTold.{begin-slot}
 use Rattle.proof_book.specs.Told.{disabled-leaves, enabled-is, slot-told, unmoved-slot, asides-end, polls-end, enabling-ends}
+use Rattle.proof_book.specs.BeginSends.{begin-sends}
 use Rattle.proof_book.specs.EarlyCalls.{Early, no-start, start-early, early-call}
 use Rattle.proof_book.specs.Lengths.{Known, learnt}
 use Rattle.proof_book.specs.LengthCalls.{WayTold, regular, told-on, start-told, length-is}
@@ -103,7 +105,7 @@ record Before (m : Machine Answer Driver) (n : Machine Answer Pages) : Type 0 wh
   room : Kept m
   fine : Fine n
   sending : Sending n
-  onto : WayOnto (n .way)
+  onto : GoesOn n
   early : Early n
 
 abbrev isTold : Ans Answer → Bool
@@ -163,6 +165,14 @@ module _ (c : Call Config Op) (l : Buf) (m : Machine Answer Driver)
     of-queue z q = subst (λ (c : Call Config Op). written (x .0) c n l .0 ≡ ended z → Queued (n .st) e bytes most-2 z (written (x .0) c n l .1 .st)) (sym p)
         (queued-by (x .0) e bytes n l most-2 z) (same-end z q)
 
+  -- a write's poll: its answer is the book's
+  module _ (e : ℕ) (bytes : List ℕ) (p : c ≡ begin (slotted (PollWrite e bytes))) where
+    of-write : Polled (x .0) e bytes n l y
+    of-write = subst (λ (c : Call Config Op). Polled (x .0) e bytes n l (written (x .0) c n l)) (sym p) (write-polled (x .0) e bytes n l)
+
+    same-poll : x .0 ≡ ended (of-write .answer)
+    same-poll = ended-same (x .0) (of-write .answer) (sym (ap blankA (of-write .ends-with)) ∙ sym (a .same))
+
   compared : Compared c (n .st) (x .0) (x .1 .st) (x .1 .buf) (y .1 .st)
   compared = record {
     ring = λ e. a .rest .outs e .held .waits;
@@ -175,6 +185,9 @@ module _ (c : Call Config Op) (l : Buf) (m : Machine Answer Driver)
     overruns-answers = λ e p. told-same (x .0) _ (a .same ∙ ap (λ (c : Call Config Op). blankA (written (x .0) c n l .0)) p);
     row-13 = λ e bytes p q. of-queue e bytes p (Refused 13) q .full refl;
     queue-joins = λ e bytes p q. of-queue e bytes p ok q .joins refl;
+    write-joins = λ e bytes p q. of-write e bytes p .wrote .joins (sym (ap done (same-poll e bytes p)) ∙ q);
+    write-leaves = λ e bytes p q. of-write e bytes p .wrote .leaves
+        (sym (ap (λ (z : Ans Answer). done z && isoOf (n .st) In e) (same-poll e bytes p)) ∙ q);
     load-holds = λ e z q. subst (λ (w : Ans Answer). GoodA driverOf book agree calls w (x .1 .buf) (y .1 .st)) q (a .good) .0;
   }
 
@@ -206,6 +219,7 @@ module _ (c : Call Config Op) (l : Buf) (m : Machine Answer Driver)
     unmoved-out = λ e v p i g. let k = before (ap isStart p) in continues-of c (x .0) e v n (k .fine) (k .sending) (k .onto) l p .outs (a .same) i g;
     unmoved-in = λ e v p i g. let k = before (ap isStart p) in continues-of c (x .0) e v n (k .fine) (k .sending) (k .onto) l p .spares (a .same) i g;
     load-passes = λ e v p i. let k = before (ap isStart p) in continues-of c (x .0) e v n (k .fine) (k .sending) (k .onto) l p .passes (a .same) i;
+    length-0 = λ e v p i g. let k = before (ap isStart p) in continues-of c (x .0) e v n (k .fine) (k .sending) (k .onto) l p .empties (a .same) i g;
     advance-begins = λ e f p. advance-begins c (x .0) e f n l (a .same) p;
     early-leaves = λ g. early-call (x .0) c n (before (no-start g) .early) l .leaves g;
     refusal-leaves = λ r g e. let z = refusal-leaves c (x .0) n (λ h. before h .fine) l (a .same) (Refused r) refl g in (z .outs e, z .ins e);
@@ -223,7 +237,8 @@ module _ (c : Call Config Op) (l : Buf) (m : Machine Answer Driver)
     enabling-resets = λ dir e on q p g. let k = before (ap isStart p) in enabling-resets c (x .0) dir e on q n (k .fine) l (a .same) p g;
     bus-reset-empties = λ v p i g. let k = before (ap isStart p) in bus-reset-empties c (x .0) v n (k .fine) l (a .same) p i g;
     begin-empties = λ o p g. begin-empties c (x .0) o n (before (ap isStart p) .fine) l (a .same) p g;
-    load-sends = λ e z v p i g w. let k = before (ap isStart p) in steps-of.load-sends c (x .0) e z v n (k .fine) l (a .same) p i g w;
+    load-sends = λ e z v p i g. let k = before (ap isStart p) in continues-of c (x .0) e v n (k .fine) (k .sending) (k .onto) l p .sends z (a .same) i g;
+    begin-sends = λ o e z p f m g. begin-sends c (x .0) o e z n l (a .same) p f m g;
     sending-ends = ends;
     load-tells = told-source sent (a .same);
     unwritten = kept-unwritten a;
@@ -276,7 +291,7 @@ record Agreeing (m : Machine Answer Driver) (n : Machine Answer Pages) : Type 0 
   room : Kept m
   fine : Fine n
   sending : Sending n
-  onto : WayOnto (n .way)
+  onto : GoesOn n
   early : Early n
 
 before-of : {m : Machine Answer Driver} {n : Machine Answer Pages} → Agreeing m n → Before m n
@@ -319,7 +334,7 @@ module _ (c : Config) (b : Buf) (row : startRow c b ≡ zero) (m : Machine Answe
           fine = subst (λ (r : ℕ). Fine (started calls (book .driver) (fed book (drive (start c) m b .0)) c r n b .1))
               (sym row) (start-fine (drive (start c) m b .0) c n b);
           sending = start-sent c b row m n .machine;
-          onto = subst (λ (r : ℕ). WayOnto (started calls (book .driver) (fed book (drive (start c) m b .0)) c r n b .1 .way))
+          onto = subst (λ (r : ℕ). GoesOn (started calls (book .driver) (fed book (drive (start c) m b .0)) c r n b .1))
               (sym row) (start-onto (drive (start c) m b .0) c n b);
           early = subst (λ (r : ℕ). Early (started calls (book .driver) (fed book (drive (start c) m b .0)) c r n b .1))
               (sym row) (start-early (drive (start c) m b .0) c n b);

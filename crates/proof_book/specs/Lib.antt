@@ -61,6 +61,8 @@ pub mod SendingSteps
 pub mod SendingCalls
 pub mod Onward
 pub mod ContinueCalls
+pub mod WritePolls
+pub mod BeginSends
 pub mod AdvanceBegins
 pub mod EarlyScripts
 pub mod EarlyCalls

@@ -41,6 +41,8 @@ module _ (dir : Dir) (e : ℕ) (lent b : Buf) (n : Machine Answer Pages) (d : Dr
     overruns-answers = λ e p. let z : _≡_ {A = ℕ} 0 1 = cc in absurd (omega arith);
     row-13 = λ e bytes p q. let z : _≡_ {A = ℕ} 0 1 = cc in absurd (omega arith);
     queue-joins = λ e bytes p q. let z : _≡_ {A = ℕ} 0 1 = cc in absurd (omega arith);
+    write-joins = λ e bytes p q i. let z : _≡_ {A = ℕ} 0 1 = cc in absurd (omega arith);
+    write-leaves = λ e bytes p q. let z : _≡_ {A = ℕ} 0 1 = cc in absurd (omega arith);
     load-holds = λ e y q. let z : _≡_ {A = ℕ} 0 1 = cc in absurd (omega arith);
   }
 
@@ -66,6 +68,7 @@ module _ (dir : Dir) (e : ℕ) (lent b : Buf) (n : Machine Answer Pages) (d : Dr
     unmoved-out = λ e v p i g. let z : _≡_ {A = ℕ} 0 1 = cc in absurd (omega arith);
     unmoved-in = λ e v p i g. let z : _≡_ {A = ℕ} 0 1 = cc in absurd (omega arith);
     load-passes = λ e v p i. let z : _≡_ {A = ℕ} 0 1 = cc in absurd (omega arith);
+    length-0 = λ e v p i g. let z : _≡_ {A = ℕ} 0 1 = cc in absurd (omega arith);
     advance-begins = λ e f p. let z : _≡_ {A = ℕ} 0 1 = cc in absurd (omega arith);
     early-leaves = λ g e. (refl, refl);
     refusal-leaves = λ r q e. (refl, refl);
@@ -81,7 +84,8 @@ module _ (dir : Dir) (e : ℕ) (lent b : Buf) (n : Machine Answer Pages) (d : Dr
     sent-in-order = x .sent-in-order;
     passed-then-waiting = x .passed-then-waiting;
     sent-is = x .sent-is;
-    load-sends = λ e y v p i g w. let z : _≡_ {A = ℕ} 0 1 = cc in absurd (omega arith);
+    load-sends = λ e y v p i g. let z : _≡_ {A = ℕ} 0 1 = cc in absurd (omega arith);
+    begin-sends = λ o e y p f m g. let z : _≡_ {A = ℕ} 0 1 = cc in absurd (omega arith);
     sending-ends = x .sending-ends;
     load-tells = λ e y g l. let z : _≡_ {A = ℕ} 0 1 = cc in absurd (omega arith);
     unwritten = x .unwritten;

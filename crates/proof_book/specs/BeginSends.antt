@@ -1,0 +1,76 @@
+-- After EP0's start no begin but an enabling hands out a transmit address that sends nothing
+use mathlib.Core.Bool.{Bool, true, false, cond, true≢false}
+use mathlib.Core.Path.{_≡_, refl, ap, subst, sym, _∙_}
+use Prim.Native.Nat.{ℕ}
+use Rattle.regs.specs.declared.Access.the-variants.{Transmit}
+use Rattle.model.specs.Tree as tree
+use Rattle.model.specs.Tree.{ends, asks}
+use Rattle.model.specs.Script.{run}
+use Rattle.model.specs.Answers.{Answer}
+use Rattle.model.specs.Calls.{Config, Op, interrupt, slotted, other, aside, Other, calls, code, otherCode}
+use Rattle.model.specs.Machine.{Buf, Call, begin, Ans, ended, handed, blankA, Way, idle, busy, Machine, misfit, stay, lentTo, beside}
+use Rattle.model.specs.Machine.{halt, begun, fed}
+use Rattle.proof_book.specs.Pages.{Pages}
+use Rattle.proof_book.specs.Book.{Bk, bookOps, book}
+use Rattle.proof_book.specs.FrontPage.{written, enabling, SentFrom}
+use Rattle.proof_book.specs.Others.{releasing}
+use Rattle.proof_book.specs.BookTracks.{ask}
+use Rattle.proof_book.specs.InterruptParts.{of-interrupt}
+use Rattle.proof_book.specs.BookDecides.{Watched, watch}
+use Rattle.proof_book.specs.BookCalls.{sending}
+use Rattle.proof_book.specs.EarlyScripts.{stage}
+use Rattle.proof_book.specs.Onward.{Head, Heads, heads-run, Goes, plainly, gives, of-slotted, of-other, of-aside}
+use Rattle.proof_book.specs.ContinueCalls.{told-sends, own-address, told-releases, fed-loaded}
+
+module _ (a : Ans Answer) (e : ℕ) (n : Machine Answer Pages) (b : Buf) where
+  abbrev Sends : Ans Answer × Machine Answer Pages → Type 0
+  Sends y = (x : ℕ) → blankA a ≡ blankA (y .0) → a ≡ handed (Transmit e x) → SentFrom x (y .1 .st .ins e)
+
+  -- no address is handed out
+  none : (y : Ans Answer × Machine Answer Pages) → sending (y .0) e ≡ false → Sends y
+  none y f x s g = absurd (true≢false (sym (own-address a e n x g) ∙ sym (told-sends a e n (y .0) s) ∙ f))
+
+  abbrev halts : Bool → tree.Out Bk Answer → Ans Answer × Machine Answer Pages
+  halts i o = halt calls (book .driver) (fed book a) i o
+
+  heads : (o : tree.Out Bk Answer) → Head false false o → Sends (halts false o)
+  heads (ends z t) h = none (halts false (ends z t)) refl
+  heads (asks q t k) h = λ x s g. fed-loaded a e n (t .0) x g
+      (h .0 refl refl (told-releases a e n q s (ap releasing g)) e (told-sends a e n (handed q) s ∙ own-address a e n x g))
+
+  watched : (o : tree.Out Bk Answer) → Watched (n .st, b) o → Sends (halts true o)
+  watched (ends z t) w = none (halts true (ends z t)) refl
+  watched (asks q t k) (ask j m f) = λ x s g. fed-loaded a e n (t .0) x g (m .loads e (told-sends a e n (handed q) s ∙ own-address a e n x g))
+
+  others : (o : Other) → Goes o → stage (n .st) ≡ 2 → Sends (halts false (run bookOps (otherCode o) (n .st, b)))
+  others o (plainly h) m = heads (run bookOps (otherCode o) (n .st, b)) (heads-run h (n .st, b))
+  others o (gives h x refused) m = subst (λ (y : tree.Out Bk Answer). Sends (halts false y)) (sym (refused (n .st, b) m))
+      (none (halts false (ends _ (n .st, b))) refl)
+
+  alone : (o : Op) → enabling o ≡ false → stage (n .st) ≡ 2 → Sends (halts (calls .irq o) (run bookOps (code o) (n .st, b)))
+  alone interrupt f m = watched (run bookOps (code interrupt) (n .st, b)) (watch of-interrupt (n .st, b))
+  alone (slotted o) f m = heads (run bookOps (code (slotted o)) (n .st, b))
+      (subst (λ (y : Bool). Head y false (run bookOps (code (slotted o)) (n .st, b))) f (heads-run (of-slotted o) (n .st, b)))
+  alone (other o) f m = others o (of-other o) m
+  alone (aside o) f m = heads (run bookOps (code (aside o)) (n .st, b)) (heads-run (of-aside o) (n .st, b))
+
+  besides : (m : Machine Answer Pages) (o : tree.Out Bk Answer) → Sends (beside calls (book .driver) m o)
+  besides m (ends z t) = none (beside calls (book .driver) m (ends z t)) refl
+  besides m (asks q t k) = none (beside calls (book .driver) m (asks q t k)) refl
+
+  either : (u : Bool) (x y : Ans Answer × Machine Answer Pages) → Sends x → Sends y → Sends (cond u x y)
+  either true x y h k = h
+  either false x y h k = k
+
+  begins : (o : Op) → enabling o ≡ false → stage (n .st) ≡ 2 → (w : Way Answer Pages) → Sends (begun calls (book .driver) (fed book a) o n w b)
+  begins o f m idle = alone o f m
+  begins o f m (busy i q k) = either (cond i (calls .aside o) false) _ _
+      (besides (lentTo calls (book .driver) n b) (run bookOps (code o) (n .st, b)))
+      (none (stay calls (book .driver) 3 (lentTo calls (book .driver) n b)) refl)
+
+pub begin-sends : (c : Call Config Op) (a : Ans Answer) (o : Op) (e x : ℕ) (n : Machine Answer Pages) (b : Buf) → blankA a ≡ blankA (written a c n b .0)
+    → c ≡ begin o → enabling o ≡ false → stage (n .st) ≡ 2 → a ≡ handed (Transmit e x) → SentFrom x (written a c n b .1 .st .ins e)
+begin-sends c a o e x n b s p f m g = subst
+    (λ (c : Call Config Op). blankA a ≡ blankA (written a c n b .0) → SentFrom x (written a c n b .1 .st .ins e)) (sym p)
+    (λ s. either a e n b (cond (calls .slots o) (misfit calls (book .driver) (n .st) b) false) _ _
+    (none a e n b (stay calls (book .driver) 1 n) refl) (begins a e n b o f m (n .way)) x s g) s
