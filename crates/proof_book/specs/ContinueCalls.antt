@@ -77,7 +77,7 @@ alike-passes k x = record {
 abbrev Laying : Pages → (ℕ → Bk → tree.Out Bk Answer) → Type 0
 Laying t k = (stage t ≢ 2) × ((v : ℕ) (u : Bk) → Unstarted u → runs.Holds Unstarted (k v u))
 
-abbrev WayOnto : Pages → Way Answer Pages → Type 0
+abbrev pub WayOnto : Pages → Way Answer Pages → Type 0
 WayOnto t idle = Unit {0}
 WayOnto t (busy true q k) = Unit {0}
 WayOnto t (busy false q k) = (z : Bool) × (z ≡ true → Laying t k) × ((v : ℕ) (u : Bk) → Onto z u (k v u))

@@ -40,7 +40,7 @@ use Rattle.proof_book.specs.BookTracks.{end, ask}
 use Rattle.proof_book.specs.BookCounts.{Followed}
 use Rattle.proof_book.specs.BookDecides.{Watched}
 use Rattle.proof_book.specs.BookCalls.{Fine, WayFine, fed-away}
-use Rattle.proof_book.specs.ContinueCalls.{WayOnto, fed-packets}
+use Rattle.proof_book.specs.ContinueCalls.{WayOnto, GoesOn, fed-packets}
 use Rattle.proof_book.specs.Onward.{Onto}
 use Rattle.proof_book.specs.Others.{releasing}
 use Rattle.proof_book.specs.BusResets.{releasing-blank}
@@ -171,22 +171,22 @@ module _ (a : Ans Answer) (e v : ℕ) (n : Machine Answer Pages) (b : Buf)
   abbrev Same : Ans Answer × Machine Answer Pages → Type 0
   Same y = blankA a ≡ blankA (y .0) → y .1 .st .outs e ≡ n .st .outs e
 
-  same-at : (o : tree.Out Bk Answer) → Onto (n .st, b) o → Same (halt calls (book .driver) (fed book a) false o)
-  same-at (ends z t) (end j w) s = w .outs e
-  same-at (asks q t k) (ask j w g) s = fed-away a e away (t .0)
+  same-at : (z : Bool) (o : tree.Out Bk Answer) → Onto z (n .st, b) o → Same (halt calls (book .driver) (fed book a) false o)
+  same-at y (ends z t) (end j w) s = w .outs e
+  same-at y (asks q t k) (ask j w g) s = fed-away a e away (t .0)
       ∙ w (sym (releasing-blank (handed q)) ∙ ap releasing (sym s) ∙ releasing-blank a ∙ kept) .outs e
 
   either-same : (u : Bool) (x y : Ans Answer × Machine Answer Pages) → Same x → Same y → Same (cond u x y)
   either-same true x y p q = p
   either-same false x y p q = q
 
-  same-way : (w : Way Answer Pages) → WayOnto w → inInterrupt w ≡ false
+  same-way : (w : Way Answer Pages) → WayOnto (n .st) w → inInterrupt w ≡ false
       → Same (continued calls (book .driver) (fed book a) v n w b)
   same-way idle x i = λ _. refl
   same-way (busy true q f) x i = absurd (true≢false i)
-  same-way (busy false q f) x i = either-same (over calls q v) _ _ (λ _. refl) (same-at (f v (n .st, b)) (x v (n .st, b)))
+  same-way (busy false q f) x i = either-same (over calls q v) _ _ (λ _. refl) (same-at (x .0) (f v (n .st, b)) (x .2 v (n .st, b)))
 
-pub unmoved-slot : (c : Call Config Op) (a : Ans Answer) (e v : ℕ) (n : Machine Answer Pages) → WayOnto (n .way)
+pub unmoved-slot : (c : Call Config Op) (a : Ans Answer) (e v : ℕ) (n : Machine Answer Pages) → GoesOn n
     → (b : Buf)
     → blankA a ≡ blankA (written a c n b .0) → c ≡ go v → inInterrupt (n .way) ≡ false → releasing a ≡ false
     → addressed a e ≡ false → written a c n b .1 .st .outs e ≡ n .st .outs e
