@@ -1,13 +1,16 @@
--- After EP0's start no begin but an enabling hands out a transmit address that sends nothing
+-- After EP0's start no begin but that of an enabling or disabling of an IN hands out a transmit address that sends nothing; and that is its own
 use mathlib.Core.Bool.{Bool, true, false, cond, true≢false}
 use mathlib.Core.Path.{_≡_, refl, ap, subst, sym, _∙_}
-use Prim.Native.Nat.{ℕ}
+use Prim.Native.Nat.{ℕ, _%_}
+use lib.Dec.{eqb}
+use borrow.Author.Tests.{eqb-true}
 use Rattle.regs.specs.declared.Access.the-variants.{Transmit}
+use Rattle.regs.specs.declared.Dir.the-variants.{In}
 use Rattle.model.specs.Tree as tree
 use Rattle.model.specs.Tree.{ends, asks}
 use Rattle.model.specs.Script.{run}
-use Rattle.model.specs.Answers.{Answer}
-use Rattle.model.specs.Calls.{Config, Op, interrupt, slotted, other, aside, Other, calls, code, otherCode}
+use Rattle.model.specs.Answers.{Answer, isAllocated}
+use Rattle.model.specs.Calls.{Config, Op, interrupt, slotted, other, aside, SetEnabled, Other, calls, code, otherCode, setEnabled}
 use Rattle.model.specs.Machine.{Buf, Call, begin, Ans, ended, handed, blankA, Way, idle, busy, Machine, misfit, stay, lentTo, beside}
 use Rattle.model.specs.Machine.{halt, begun, fed}
 use Rattle.proof_book.specs.Pages.{Pages}
@@ -16,7 +19,7 @@ use Rattle.proof_book.specs.FrontPage.{written, enabling, SentFrom}
 use Rattle.proof_book.specs.Others.{releasing}
 use Rattle.proof_book.specs.BookTracks.{ask}
 use Rattle.proof_book.specs.InterruptParts.{of-interrupt}
-use Rattle.proof_book.specs.BookDecides.{Watched, watch}
+use Rattle.proof_book.specs.BookDecides.{sendsTo, Watched, watch}
 use Rattle.proof_book.specs.BookCalls.{sending}
 use Rattle.proof_book.specs.EarlyScripts.{stage}
 use Rattle.proof_book.specs.Onward.{Head, Heads, heads-run, Goes, plainly, gives, of-slotted, of-other, of-aside}
@@ -74,3 +77,40 @@ begin-sends c a o e x n b s p f m g = subst
     (λ (c : Call Config Op). blankA a ≡ blankA (written a c n b .0) → SentFrom x (written a c n b .1 .st .ins e)) (sym p)
     (λ s. either a e n b (cond (calls .slots o) (misfit calls (book .driver) (n .st) b) false) _ _
     (none a e n b (stay calls (book .driver) 1 n) refl) (begins a e n b o f m (n .way)) x s g) s
+
+-- ---- an IN that is enabled or disabled
+
+-- at its first access
+abbrev Own : ℕ → tree.Out Bk Answer → Type 0
+Own f (ends z t) = Unit {0}
+Own f (asks q t k) = (e : ℕ) → sendsTo q e ≡ true → e % 16 ≡ f % 16
+
+own-test : (f : ℕ) (u : Bool) (x y : tree.Out Bk Answer) → Own f x → Own f y → Own f (cond u x y)
+own-test f true x y h k = h
+own-test f false x y h k = k
+
+own-first : (f : ℕ) (on : Bool) (t : Pages) (b : Buf) → Own f (run bookOps (setEnabled In f on) (t, b))
+own-first f on t b = own-test f (eqb (stage t) 2) _ _ (own-test f (isAllocated (t .kept .allocator) In f) _ _ (λ e h. eqb-true (e % 16) (f % 16) h) tt) tt
+
+module _ (a : Ans Answer) (e f : ℕ) (on : Bool) (n : Machine Answer Pages) (b : Buf) where
+  abbrev Places : Ans Answer × Machine Answer Pages → Type 0
+  Places y = sending (y .0) e ≡ true → e % 16 ≡ f % 16
+
+  placed : (o : tree.Out Bk Answer) → Own f o → Places (halt calls (book .driver) (fed book a) false o)
+  placed (ends z t) h k = absurd (true≢false (sym k))
+  placed (asks q t k) h l = h e l
+
+  places : (w : Way Answer Pages) → Places (begun calls (book .driver) (fed book a) (slotted (SetEnabled In f on)) n w b)
+  places idle k = placed (run bookOps (setEnabled In f on) (n .st, b)) (own-first f on (n .st) b) k
+  places (busy true q g) k = absurd (true≢false (sym k))
+  places (busy false q g) k = absurd (true≢false (sym k))
+
+  places-fit : (u : Bool) → Places (cond u (stay calls (book .driver) 1 n) (begun calls (book .driver) (fed book a) (slotted (SetEnabled In f on)) n (n .way) b))
+  places-fit true k = absurd (true≢false (sym k))
+  places-fit false k = places (n .way) k
+
+pub enabling-places : (c : Call Config Op) (a : Ans Answer) (e f x : ℕ) (on : Bool) (n : Machine Answer Pages) (b : Buf)
+    → blankA a ≡ blankA (written a c n b .0) → c ≡ begin (slotted (SetEnabled In f on)) → a ≡ handed (Transmit e x) → e % 16 ≡ f % 16
+enabling-places c a e f x on n b s p g = places-fit a e f on n b (misfit calls (book .driver) (n .st) b)
+    (told-sends a e n (written a (begin (slotted (SetEnabled In f on))) n b .0)
+    (s ∙ ap (λ (c : Call Config Op). blankA (written a c n b .0)) p) ∙ own-address a e n x g)

@@ -253,9 +253,10 @@ pub record PassesOn (p p′ : InPage) : Type 0 where
 abbrev pub SentFrom : ℕ → InPage → Type 0
 SentFrom x p = (0 < length (p .waiting)) × (p .sending ≡ true) × (p .source ≡ x) × (p .load ≡ true)
 
--- an endpoint is enabled or disabled
+-- an IN is enabled or disabled
 abbrev pub enabling : Op → Bool
-enabling (slotted (SetEnabled d e on)) = true
+enabling (slotted (SetEnabled In e on)) = true
+enabling (slotted (SetEnabled Out e on)) = false
 enabling (slotted (PollRead e k)) = false
 enabling (slotted (BeginWrite e bytes)) = false
 enabling (slotted (PollWrite e bytes)) = false
@@ -412,11 +413,13 @@ pub record Sentences (c : Call Config Op) (lent : Buf) (n : Machine Answer Pages
   pub passed-then-waiting : (e : ℕ) → t′ .ins e .passed ++ t′ .ins e .waiting ≡ t′ .ins e .queued
   pub sent-is : (e : ℕ) → t′ .ins e .sent ≡ t′ .ins e .passed ++ cond (t′ .ins e .sending) (front (t′ .ins e .waiting)) []
   -- "a slot is being sent from the call of iso_in_load that hands out its address": where an interrupt goes on and hands out a transmit address, or
-  -- any other operation does after EP0's start, one waits, and the first is being sent, from that address; a begin's likewise, but an enabling's
+  -- any other operation does after EP0's start, one waits, and the first is being sent, from that address; a begin's likewise, but of an
+  -- IN that is enabled or disabled: its own, and its page is empty then
   pub load-sends : (e x v : ℕ) → c ≡ go v → (inInterrupt (n .way) ≡ false → n .st .kept .globals .stage ≡ 2) → a ≡ handed (Transmit e x)
       → SentFrom x (t′ .ins e)
   pub begin-sends : (o : Op) (e x : ℕ) → c ≡ begin o → enabling o ≡ false → n .st .kept .globals .stage ≡ 2 → a ≡ handed (Transmit e x)
       → SentFrom x (t′ .ins e)
+  pub enabling-places : (e f x : ℕ) (on : Bool) → c ≡ begin (slotted (SetEnabled In f on)) → a ≡ handed (Transmit e x) → e % 16 ≡ f % 16
   -- "until the tail passes it, a reset or a start-up": nothing else ends a sending. A transmit address that is a load's is that of the slot being sent
   pub sending-ends : (e : ℕ) → BeingSent (n .st) e → Sends e (n .st) t′
   pub load-tells : (e x : ℕ) → a ≡ handed (Transmit e x) → t′ .ins e .load ≡ true → BeingSent t′ e × (t′ .ins e .source ≡ x)

@@ -50,7 +50,7 @@ use Rattle.proof_book.specs.ContinueCalls.{GoesOn, start-onto, goes-on, 
 use Rattle.proof_book.specs.AdvanceBegins.{advance-begins}
 use Rattle.proof_book.specs.SlotsTold.{begin-slot}
 use Rattle.proof_book.specs.Told.{disabled-leaves, enabled-is, slot-told, unmoved-slot, asides-end, polls-end, enabling-ends}
-use Rattle.proof_book.specs.BeginSends.{begin-sends}
+use Rattle.proof_book.specs.BeginSends.{begin-sends, enabling-places}
 use Rattle.proof_book.specs.EarlyCalls.{Early, no-start, start-early, early-call}
 use Rattle.proof_book.specs.Lengths.{Known, learnt}
 use Rattle.proof_book.specs.LengthCalls.{WayTold, regular, told-on, start-told, length-is}
@@ -239,6 +239,7 @@ module _ (c : Call Config Op) (l : Buf) (m : Machine Answer Driver)
     begin-empties = λ o p g. begin-empties c (x .0) o n (before (ap isStart p) .fine) l (a .same) p g;
     load-sends = λ e z v p i g. let k = before (ap isStart p) in continues-of c (x .0) e v n (k .fine) (k .sending) (k .onto) l p .sends z (a .same) i g;
     begin-sends = λ o e z p f m g. begin-sends c (x .0) o e z n l (a .same) p f m g;
+    enabling-places = λ e f z on p g. enabling-places c (x .0) e f z on n l (a .same) p g;
     sending-ends = ends;
     load-tells = told-source sent (a .same);
     unwritten = kept-unwritten a;

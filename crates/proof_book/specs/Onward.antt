@@ -346,7 +346,7 @@ of-allocate-read : (bytes : List ℕ) (a : reading-answer.Answer) → Heads fals
 of-allocate-read bytes (reading.Refused n) = h-free x-ret
 of-allocate-read bytes reading.Listed = search (of-each, of-announce-all, heading, later, free) depth 30 fits 100000
 
-of-enabling : (dir : Dir) (e : ℕ) (onn : Bool) → Heads true false Unit (bus.setEnabled dir e onn)
+of-enabling : (dir : Dir) (e : ℕ) (onn : Bool) → Heads (enabling (slotted (SetEnabled dir e onn))) false Unit (bus.setEnabled dir e onn)
 of-enabling Out e onn = search (heading, later, free) depth 40 fits 100000
 of-enabling In e onn = search (heading, later, free) depth 40 fits 100000
 
@@ -354,7 +354,8 @@ pub of-write-poll : (e : ℕ) (bytes : List ℕ) → Free Answer (slottedCode (P
 of-write-poll e bytes = search free depth 40
 
 pub of-slotted : (o : Slotted) → Heads (enabling (slotted o)) false Answer (slottedCode o)
-of-slotted (SetEnabled dir e onn) = search (of-enabling, heading, later, free) depth 30 fits 100000
+of-slotted (SetEnabled Out e onn) = search (of-enabling, heading, later, free) depth 30 fits 100000
+of-slotted (SetEnabled In e onn) = search (of-enabling, heading, later, free) depth 30 fits 100000
 of-slotted (PollRead e n) = search (h-free, free) depth 40
 of-slotted (BeginWrite e bytes) = search (h-later, later) depth 40
 of-slotted (PollWrite e bytes) = h-free (of-write-poll e bytes)

@@ -86,6 +86,7 @@ module _ (dir : Dir) (e : ℕ) (lent b : Buf) (n : Machine Answer Pages) (d : Dr
     sent-is = x .sent-is;
     load-sends = λ e y v p i g. let z : _≡_ {A = ℕ} 0 1 = cc in absurd (omega arith);
     begin-sends = λ o e y p f m g. let z : _≡_ {A = ℕ} 0 1 = cc in absurd (omega arith);
+    enabling-places = λ e f y on p g. let z : _≡_ {A = ℕ} 0 1 = cc in absurd (omega arith);
     sending-ends = x .sending-ends;
     load-tells = λ e y g l. let z : _≡_ {A = ℕ} 0 1 = cc in absurd (omega arith);
     unwritten = x .unwritten;
