@@ -11,7 +11,7 @@ use Rattle.model.specs.Tree.{ends, asks}
 use Rattle.model.specs.Script.{run}
 use Rattle.model.specs.Answers.{Answer, isAllocated}
 use Rattle.model.specs.Calls.{Config, Op, interrupt, slotted, other, aside, SetEnabled, Other, calls, code, otherCode, setEnabled}
-use Rattle.model.specs.Machine.{Buf, Call, begin, Ans, ended, handed, blankA, Way, idle, busy, Machine, misfit, stay, lentTo, beside}
+use Rattle.model.specs.Machine.{Buf, Call, begin, Ans, handed, blankA, Way, idle, busy, Machine, misfit, stay, lentTo, beside}
 use Rattle.model.specs.Machine.{halt, begun, fed}
 use Rattle.proof_book.specs.Pages.{Pages}
 use Rattle.proof_book.specs.Book.{Bk, bookOps, book}
@@ -22,7 +22,7 @@ use Rattle.proof_book.specs.InterruptParts.{of-interrupt}
 use Rattle.proof_book.specs.BookDecides.{sendsTo, Watched, watch}
 use Rattle.proof_book.specs.BookCalls.{sending}
 use Rattle.proof_book.specs.EarlyScripts.{stage}
-use Rattle.proof_book.specs.Onward.{Head, Heads, heads-run, Goes, plainly, gives, of-slotted, of-other, of-aside}
+use Rattle.proof_book.specs.Onward.{Head, heads-run, Goes, plainly, gives, of-slotted, of-other, of-aside}
 use Rattle.proof_book.specs.ContinueCalls.{told-sends, own-address, told-releases, fed-loaded}
 
 module _ (a : Ans Answer) (e : ℕ) (n : Machine Answer Pages) (b : Buf) where
@@ -105,7 +105,8 @@ module _ (a : Ans Answer) (e f : ℕ) (on : Bool) (n : Machine Answer Pages) (b 
   places (busy true q g) k = absurd (true≢false (sym k))
   places (busy false q g) k = absurd (true≢false (sym k))
 
-  places-fit : (u : Bool) → Places (cond u (stay calls (book .driver) 1 n) (begun calls (book .driver) (fed book a) (slotted (SetEnabled In f on)) n (n .way) b))
+  places-fit : (u : Bool) → Places
+      (cond u (stay calls (book .driver) 1 n) (begun calls (book .driver) (fed book a) (slotted (SetEnabled In f on)) n (n .way) b))
   places-fit true k = absurd (true≢false (sym k))
   places-fit false k = places (n .way) k
 
