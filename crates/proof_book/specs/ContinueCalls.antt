@@ -258,7 +258,8 @@ module _ (a : Ans Answer) (e : ℕ) (n : Machine Answer Pages) where
     unlaid true h m = absurd (h refl .0 m)
     unlaid false h m = refl
 
-    by-way : (w : Way Answer Pages) → n .way ≡ w → WayFine w → WayFollowed w → WayOnto (n .st) w → Continued (continued calls (book .driver) (fed book a) v n w b)
+    by-way : (w : Way Answer Pages) → n .way ≡ w → WayFine w → WayFollowed w → WayOnto (n .st) w
+        → Continued (continued calls (book .driver) (fed book a) v n w b)
     by-way idle p g k x = unchanged (stay calls (book .driver) 15 (lentTo calls (book .driver) n b)) refl refl refl
     by-way (busy true q f) p g k x = wide (over calls q v) _
         (of-interrupt (k .0) (f v (n .st, b)) (ap inInterrupt p) (k .1 v (n .st, b) (o .pages)) (g v (n .st, b) (h .pages) .1))

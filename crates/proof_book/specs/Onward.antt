@@ -183,7 +183,8 @@ load-onto e s false none = ask tt
 resets : {z : Bool} {A : Type 0} (n : ℕ) {k : Bk → tree.Out Bk A} → ((t : Bk) → Onto z t (k t)) → (s : Bk) → Onto z s (rows bookOps bus-reset n k s)
 resets zero h s = ask tt (λ r. absurd (true≢false r)) (λ v t _. h t)
 resets (suc zero) h s = ask tt (kept-at (burstAsk bus-reset 1 0) (λ _. refl) (still s)) (λ v t _. resets zero h t)
-resets (suc (suc zero)) h s = ask tt (kept-at (burstAsk bus-reset 2 0) (λ _. refl) (record { outs = λ e. refl; ins = λ e. refl })) (λ v t _. resets (suc zero) h t)
+resets (suc (suc zero)) h s =
+    ask tt (kept-at (burstAsk bus-reset 2 0) (λ _. refl) (record { outs = λ e. refl; ins = λ e. refl })) (λ v t _. resets (suc zero) h t)
 resets (suc (suc (suc n))) h s =
     ask tt (kept-at (burstAsk bus-reset (suc (suc (suc n))) 0) (λ _. refl) (record { outs = λ e. refl; ins = λ e. refl })) (λ v t _. resets (suc (suc n)) h t)
 
