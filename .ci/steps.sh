@@ -1,6 +1,22 @@
 # What .ci/run is written with. To be sourced at the repository's root, under set -euo pipefail.
 
 exec </dev/null
+
+# roomy FOLDER: may temporary files stand there? It has room, and what stands there can be run
+roomy() {
+    local try=$1/dichaloq.$$ free
+    free=$(df --output=avail -k "$1" 2>/dev/null | tail -n 1) || return 1
+    [ "$free" -ge 4194304 ] && cp /bin/true "$try" 2>/dev/null || return 1
+    "$try" && rm "$try" || { rm -f "$try"; return 1; }
+}
+# each check copies the logic, five thousand files, to a temporary folder: on a disk that is a third of what a small
+# check takes (docs/DECISIONS.md 294)
+if [ -z "${TMPDIR:-}" ] && roomy /dev/shm; then
+    TMPDIR=$(mktemp -d /dev/shm/dichaloq.XXXXXX)
+    chmod 711 "$TMPDIR"
+    export TMPDIR
+    memory=$TMPDIR
+fi
 logs=$(mktemp -d)
 pids=() names=()
 # each step is a group of processes, which is ended with this one
@@ -8,7 +24,7 @@ set -m
 ended() {
     local pid
     for pid in ${pids[@]+"${pids[@]}"}; do kill -- "-$pid" 2>/dev/null || true; done
-    rm -rf "$logs"
+    rm -rf "$logs" ${memory:+"$memory"}
 }
 trap ended EXIT
 
