@@ -1,6 +1,21 @@
 # What .ci/run is written with. To be sourced at the repository's root, under set -euo pipefail.
 
 exec </dev/null
+
+# in_memory: a folder that programs may be run from, in memory, if there is enough of it: a check copies what it uses,
+# half a gigabyte, to a temporary folder and removes it at its end
+in_memory() {
+    local folder
+    [ "$(awk '/^MemAvailable:/ { print int($2 / 1048576) }' /proc/meminfo)" -ge 16 ] || return
+    [ "$(df -Pk /dev/shm | awk 'NR == 2 { print int($4 / 1048576) }')" -ge 10 ] || return
+    folder=$(mktemp -d -p /dev/shm) || return
+    # rt runs programs as nobody
+    chmod 711 "$folder"
+    printf '#!/bin/sh\n' >"$folder/program" && chmod +x "$folder/program"
+    if "$folder/program"; then echo "$folder"; else rm -rf "$folder"; fi
+}
+memory=$(in_memory 2>/dev/null || true)
+[ -z "$memory" ] || export TMPDIR=$memory
 logs=$(mktemp -d)
 pids=() names=()
 # each step is a group of processes, which is ended with this one
@@ -8,7 +23,7 @@ set -m
 ended() {
     local pid
     for pid in ${pids[@]+"${pids[@]}"}; do kill -- "-$pid" 2>/dev/null || true; done
-    rm -rf "$logs"
+    rm -rf "$logs" ${memory:+"$memory"}
 }
 trap ended EXIT
 
