@@ -2,21 +2,20 @@
 
 exec </dev/null
 
-# roomy FOLDER: may temporary files stand there? It has room, and what stands there can be run
-roomy() {
-    local try=$1/dichaloq.$$ free
-    free=$(df --output=avail -k "$1" 2>/dev/null | tail -n 1) || return 1
-    [ "$free" -ge 4194304 ] && cp /bin/true "$try" 2>/dev/null || return 1
-    "$try" && rm "$try" || { rm -f "$try"; return 1; }
+# in_memory: a folder that programs may be run from, in memory, if there is enough of it: a check copies what it uses,
+# half a gigabyte, to a temporary folder and removes it at its end
+in_memory() {
+    local folder
+    [ "$(awk '/^MemAvailable:/ { print int($2 / 1048576) }' /proc/meminfo)" -ge 16 ] || return
+    [ "$(df -Pk /dev/shm | awk 'NR == 2 { print int($4 / 1048576) }')" -ge 10 ] || return
+    folder=$(mktemp -d -p /dev/shm) || return
+    # rt runs programs as nobody
+    chmod 711 "$folder"
+    printf '#!/bin/sh\n' >"$folder/program" && chmod +x "$folder/program"
+    if "$folder/program"; then echo "$folder"; else rm -rf "$folder"; fi
 }
-# each check copies the logic, five thousand files, to a temporary folder: on a disk that is a third of what a small
-# check takes (docs/DECISIONS.md 294)
-if [ -z "${TMPDIR:-}" ] && roomy /dev/shm; then
-    TMPDIR=$(mktemp -d /dev/shm/dichaloq.XXXXXX)
-    chmod 711 "$TMPDIR"
-    export TMPDIR
-    memory=$TMPDIR
-fi
+memory=$(in_memory 2>/dev/null || true)
+[ -z "$memory" ] || export TMPDIR=$memory
 logs=$(mktemp -d)
 pids=() names=()
 # each step is a group of processes, which is ended with this one

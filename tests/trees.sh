@@ -1,5 +1,5 @@
-# Shared by tests/edits and tests/wrong-drivers/run: trees over what the check left, and the names of facts. To be
-# sourced at the repository's root, under set -euo pipefail.
+# Shared by tests/edits, tests/wrong-drivers/run, tests/wrong-scripts/run and .ci/run: trees over what the check left,
+# and the names of facts. To be sourced at the repository's root, under set -euo pipefail.
 
 # how many checks at a time: RT_JOBS, but no more than the processors
 jobs=$(nproc 2>/dev/null || echo 2)
@@ -50,6 +50,35 @@ users_of() {
 forget() {
     local crate
     for crate in "$@"; do rm -rf "target/rlib/$crate.rlib" "target/stamp/$crate"; done
+}
+
+# words_of_rt CRATE: in a tree, the command by which rt dev checks the crate, a word a line. rt looks first whether all
+# that the crate uses is proved
+words_of_rt() {
+    local kit ours own folder file
+    own=on/$(uname -m)
+    kit=${RATTLE_HOME:-$(cd "$(dirname "$(readlink -f "$(command -v rt)")")/.." && pwd)}
+    # a kit of links, but for a rattle that says what it is called with
+    ours=$(mktemp -d)
+    mkdir -p "$ours/$own/bin"
+    printf '#!/bin/sh\nprintf "%%s\\n" "$0" "$@"\n' >"$ours/$own/bin/rattle"
+    chmod +x "$ours/$own/bin/rattle"
+    for folder in . "$own" "$own/bin"; do
+        for file in "$kit/$folder"/*; do
+            [ -e "$ours/$folder/${file##*/}" ] || ln -s "$file" "$ours/$folder/"
+        done
+    done
+    RATTLE_HOME=$ours rt dev "$1" 2>/dev/null | sed "s|$ours/|$kit/|"
+    rm -rf "$ours"
+}
+
+# keep_checked FOLDER LIBRARY: the modules of a library as its check left them, where a check with --incremental FOLDER
+# looks for them: below the name of the prover's build
+keep_checked() {
+    local build
+    build=$(sed -n 's/^rattle-build //p' "$2/format")
+    mkdir -p "$1/${build//\//_}"
+    cp -R "$2/toolchain/checked/." "$1/${build//\//_}"
 }
 
 # first_error LOG: FILE:LINE of the first place that the check names, from the crate's folder on
