@@ -41,7 +41,7 @@ use Rattle.proof_usb20.specs.WatchLaws.{watch-bind, watch-cond, watch-an
 use Rattle.proof_usb20.specs.Exempt.{differ}
 use Rattle.model.specs.TogglesLaws.{number}
 use Rattle.model.specs.Answers.{Answer, isAllocated, resultless}
-use Rattle.proof_usb20.specs.Untouched.{act-view}
+use Rattle.proof_usb20.specs.FollowLaws.{act-view}
 use Rattle.proof_usb20.specs.Calm.{Whole, Off, Else, Hush, Kept, Stays, Quiet, loose, loosely, asked, onward}
 use Rattle.proof_usb20.specs.Calm.{with-other, put-globals, put-paced, q-act, q-bind, q-ep, q-got, q-hand, q-put}
 use Rattle.proof_usb20.specs.Calm.{q-resultless, q-ret, q-staged, q-test, q-wake, q-write}

@@ -35,7 +35,7 @@ use Rattle.proof_usb20.specs.WatchLaws.{watch-bind, watch-more, watch-co
 use Rattle.proof_usb20.specs.Ep0.{Watch, Rec, View, view, Rel, R, Keeps}
 use Rattle.proof_usb20.specs.Exempt.{differ}
 use Rattle.proof_usb20.specs.Views.{setOut, setIn}
-use Rattle.proof_usb20.specs.Same.{act-view}
+use Rattle.proof_usb20.specs.Ep0Laws.{act-view}
 use Rattle.proof_usb20.specs.Stages.{outWith, inWith, out-view, in-view, in-whole}
 use Rattle.proof_usb20.specs.Quiet.{Plainly, plainly, steadily, Any, Quiet, q-ret, q-bind, q-if, q-every}
 use Rattle.proof_usb20.specs.Parts.{q-got, q-when, q-sof, q-late, q-check, q-sof-arm, q-dispatch}

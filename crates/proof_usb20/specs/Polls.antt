@@ -30,7 +30,7 @@ use Rattle.proof_usb20.specs.Ep0.{Watch, Rec, View, view, Fits, Rests, n
 use Rattle.proof_usb20.specs.Exempt.{exempt-law, differ}
 use Rattle.proof_usb20.specs.Fitting as fitting
 use Rattle.proof_usb20.specs.Views.{setIn, setControl, setReady, put-control, put-globals}
-use Rattle.proof_usb20.specs.Same.{act-view}
+use Rattle.proof_usb20.specs.Ep0Laws.{act-view}
 use Rattle.proof_usb20.specs.Stages.{outWith, inWith, Whole, out-view, in-view, out-whole, moved}
 
 -- ---- a request that is over

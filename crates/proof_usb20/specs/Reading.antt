@@ -33,7 +33,7 @@ use Rattle.proof_usb20.specs.Sequence.{Track, off, withPhase, own, opens
 use Rattle.proof_usb20.specs.Follow as follow
 use Rattle.proof_usb20.specs.Follow.{Seen, seenOf, FitsAs, Fits, view, Follow, Ends, Law}
 use Rattle.proof_usb20.specs.Watch.{at-end, at-ask}
-use Rattle.proof_usb20.specs.Untouched.{act-view}
+use Rattle.proof_usb20.specs.FollowLaws.{act-view}
 use Rattle.proof_usb20.specs.Calm.{Whole, Off, Else, Quiet, loose, put-request, q-act, q-bind, q-enabled, q-ends}
 use Rattle.proof_usb20.specs.Calm.{q-ep, q-fetch, q-got, q-is, q-put, q-reg, q-resultless, q-ret, q-staged}
 use Rattle.proof_usb20.specs.Calm.{q-test, q-write}

@@ -45,7 +45,7 @@ use Rattle.proof_usb20.specs.Sequence.{Track, off, withPhase, own}
 use Rattle.proof_usb20.specs.Follow as follow
 use Rattle.proof_usb20.specs.Follow.{Seen, FitsAs, Fits, view, Follow, Ends, Law}
 use Rattle.proof_usb20.specs.Watch.{at-end, at-ask}
-use Rattle.proof_usb20.specs.Untouched.{act-view}
+use Rattle.proof_usb20.specs.FollowLaws.{act-view}
 use Rattle.proof_usb20.specs.Calm.{Whole, Off, Else, Quiet, loose, put-other, put-globals, q-bind, q-ep, q-got}
 use Rattle.proof_usb20.specs.Calm.{q-hand, q-operation, q-put, q-reg, q-resultless, q-ret, q-staged, q-test}
 use Rattle.proof_usb20.specs.Calm.{q-wake, q-when, q-write}

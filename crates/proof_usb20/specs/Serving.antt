@@ -37,7 +37,7 @@ use Rattle.proof_usb20.specs.WatchLaws.{watch-bind, watch-more, watch-co
 use Rattle.proof_usb20.specs.Ep0.{Watch, View, view, Rel, R, Keeps, Law}
 use Rattle.proof_usb20.specs.Exempt.{differ}
 use Rattle.proof_usb20.specs.Views.{setOut, setIn, setReady, put-globals}
-use Rattle.proof_usb20.specs.Same.{act-view}
+use Rattle.proof_usb20.specs.Ep0Laws.{act-view}
 use Rattle.proof_usb20.specs.Stages.{outWith, inWith, out-view, in-view, out-whole}
 use Rattle.proof_usb20.specs.Quiet.{Plainly, plainly, steadily, Any, put-kept}
 use Rattle.proof_usb20.specs.Events.{aborted, set-up-fits}

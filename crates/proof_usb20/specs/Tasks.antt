@@ -44,7 +44,7 @@ use Rattle.proof_usb20.specs.Watch.{at-end, at-ask}
 use Rattle.proof_usb20.specs.WatchLaws.{watch-bind, watch-more, watch-cond, watch-any}
 use Rattle.proof_usb20.specs.Ep0.{Watch, View, view, R, Keeps, Ends, Law}
 use Rattle.proof_usb20.specs.Exempt.{differ, Task, exempt-law}
-use Rattle.proof_usb20.specs.Same.{act-view}
+use Rattle.proof_usb20.specs.Ep0Laws.{act-view}
 use Rattle.proof_usb20.specs.Fitting.{both}
 use Rattle.proof_usb20.specs.Quiet as quiet
 use Rattle.proof_usb20.specs.Quiet.{plainly, steadily, Any, Quiet, Stays, q-ret, q-bind, q-test, q-if, q-read}

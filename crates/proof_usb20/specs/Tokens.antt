@@ -44,7 +44,7 @@ use Rattle.proof_usb20.specs.Sequence.{Track, off, flagged, shows, due, 
 use Rattle.proof_usb20.specs.Follow as follow
 use Rattle.proof_usb20.specs.Follow.{Seen, Fits, view, Follow, EndsFew}
 use Rattle.proof_usb20.specs.Watch.{at-end, at-ask}
-use Rattle.proof_usb20.specs.Untouched.{act-view}
+use Rattle.proof_usb20.specs.FollowLaws.{act-view}
 use Rattle.proof_usb20.specs.Calm.{Idle, Off, Hush, Else, Kept, Stays, Quiet, kept-by, hears-same, heard}
 use Rattle.proof_usb20.specs.Calm.{put-kept, put-hears, only, off-idle, off-hush, put-globals, q-bind, q-ins}
 use Rattle.proof_usb20.specs.Calm.{q-wake-bus, q-got, q-int-en, q-ret, q-when, q-write}
