@@ -143,4 +143,5 @@ pub gives-config : (q : Act) → allowed true q ≡ true → (s : St) → config
 unfolding allocatedOn allocatedEp0
 gives-config q h s = by-act {K = λ q d. turns q ≡ false → configOf d ≡ configOf (s .0)} s
     (λ q d p z. config-of (subst (λ (t : Bool). RingsOnly t (s .0) d) z p))
-    (λ dir kind address maximum interval _. given-config dir kind maximum interval _ _) (λ maximum _. started-config maximum _ _) q (unturned (turns q) (not (allocates q) || true) h)
+    (λ dir kind address maximum interval _. given-config dir kind maximum interval _ _) (λ maximum _. started-config maximum _ _) q
+    (unturned (turns q) (not (allocates q) || true) h)

@@ -9,7 +9,7 @@ use native.Mathlib.Omega.{arith}
 use lib.Dec.{eqb}
 use Rattle.state.specs.Wakes.{Wakes, listed, woken, all-woken}
 use Rattle.state.specs.WakesLaws.{Room, woken-keeps, woken-full, woken-count, woken-listed}
-use Rattle.proof_usb20.specs.Walks.{Each}
+use Rattle.proof_usb20.specs.WalksLaws.{Each}
 use Rattle.proof_usb20.specs.Sequence.{howOften}
 
 -- one more, in a list with room or full

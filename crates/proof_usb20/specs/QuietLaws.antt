@@ -31,15 +31,15 @@ use Rattle.proof_book.specs.TransferKinds.{Steady}
 use Rattle.proof_book.specs.TransferKindsLaws.{put-steady, act-steady}
 use Rattle.proof_book.specs.Sorting.{Sorting}
 use Rattle.proof_book.specs.SortingLaws.{ep0-plain}
-use Rattle.proof_usb20.specs.Exempt.{differ}
-use Rattle.proof_usb20.specs.Fitting.{negated}
-use Rattle.proof_usb20.specs.Walks.{Each, each-set}
+use Rattle.proof_usb20.specs.ExemptLaws.{differ}
+use Rattle.proof_usb20.specs.FittingLaws.{negated}
+use Rattle.proof_usb20.specs.WalksLaws.{Each, each-set}
 use Rattle.proof_usb20.specs.Log.{Log, off, reads, writes, saw}
 use Rattle.proof_usb20.specs.Watch.{at-end, at-ask}
 use Rattle.proof_usb20.specs.WatchLaws.{watch-bind, watch-more, watch-cond}
 use Rattle.proof_usb20.specs.Ep0.{Watch, view, recOf, Keeps}
 use Rattle.proof_usb20.specs.Ep0Laws.{record-view, act-view, hand-view}
-use Rattle.proof_usb20.specs.Views.{made, ep-other, put-globals}
+use Rattle.proof_usb20.specs.ViewsLaws.{made, ep-other, put-globals}
 
 -- what stays of a state beside EP0's view: the records' places, and EP0 is not isochronous, nor among the isochronous
 -- IN

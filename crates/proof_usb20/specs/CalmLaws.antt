@@ -38,9 +38,9 @@ use Rattle.model_ops.specs.Concrete.{concrete}
 use Rattle.proof_book.specs.TransferKinds.{Steady, Has}
 use Rattle.proof_book.specs.TransferKindsLaws.{put-steady, act-steady, hand-steady}
 use Rattle.proof_book.specs.Sorting.{sortsOf}
-use Rattle.proof_usb20.specs.Walks.{Each, each-set}
+use Rattle.proof_usb20.specs.WalksLaws.{Each, each-set}
 use Rattle.proof_usb20.specs.Sequence.{off, Track, howOften, reads, writes, saw}
-use Rattle.proof_usb20.specs.Follow as follow
+use Rattle.proof_usb20.specs.FollowLaws as follow
 use Rattle.proof_usb20.specs.Follow.{Seen, seenOf, view, Keeps, Follow}
 use Rattle.proof_usb20.specs.Watch.{at-end, at-ask}
 use Rattle.proof_usb20.specs.WokenLaws.{Others, all-others}
@@ -51,8 +51,8 @@ use Rattle.model.specs.Statics.{wake, wakeBus, isoInEvery, isoOuts, modify, mod
 use Rattle.model.specs.Answers.{Answer, staged, operation, resultless}
 use Rattle.model.specs.Handler.{looks}
 use Rattle.model.specs.Endpoint.{enabled-else, ends-request, no-request}
-use Rattle.proof_usb20.specs.Exempt.{differ}
-use Rattle.proof_usb20.specs.Views.{ep-other}
+use Rattle.proof_usb20.specs.ExemptLaws.{differ}
+use Rattle.proof_usb20.specs.ViewsLaws.{ep-other}
 
 -- the records' places
 abbrev pub Whole : St → Type 0
@@ -198,7 +198,8 @@ module _ (D : Dir) (E : ℕ) where
   Silent m (allocate d kind address maximum interval) = Unit {0}
   Silent m (allocate0 maximum) = Unit {0}
 
-  still-kept : {m : Bool} (q : Act) → allocates q ≡ false → Other q → (s : St) → Kept m s → Kept m (concrete .act q s) × Hears m s (concrete .act q s)
+  still-kept : {m : Bool} (q : Act) → allocates q ≡ false → Other q → (s : St) → Kept m s
+      → Kept m (concrete .act q s) × Hears m s (concrete .act q s)
   still-kept q h o s k = let e = act-still q o s in (kept-steady (act-steady q h s) e k, hears-same e)
 
   pub act-kept : {m : Bool} (q : Act) → allocates q ≡ false → Silent m q → (s : St) → Kept m s
@@ -221,7 +222,10 @@ module _ (D : Dir) (E : ℕ) where
           plain = λ h. k .plain h;
           room = λ h. all-others (wakeCode D E) codes (s .0 .wakes) (k .room h) (o h) .0;
         },
-        record { same = λ h. all-others (wakeCode D E) codes (s .0 .wakes) (k .room h) (o h) .1; grows = λ h. all-others (wakeCode D E) codes (s .0 .wakes) (k .room h) (o h) .2 },
+        record {
+          same = λ h. all-others (wakeCode D E) codes (s .0 .wakes) (k .room h) (o h) .1;
+          grows = λ h. all-others (wakeCode D E) codes (s .0 .wakes) (k .room h) (o h) .2;
+        },
       )
   act-kept (complete e) h o s k = still-kept (complete e) h tt s k
   act-kept (reset-ring d e) h o s k = still-kept (reset-ring d e) h tt s k

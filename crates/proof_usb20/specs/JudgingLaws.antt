@@ -29,15 +29,15 @@ use Rattle.model.specs.Usb20Toggles.{Pid, DATA0, DATA1, same}
 use Rattle.model_ops.specs.Rings.{St}
 use Rattle.model_ops.specs.Concrete.{concrete}
 use Rattle.proof_book.specs.TransferKindsLaws.{act-steady}
-use Rattle.proof_usb20.specs.Exempt.{differ}
+use Rattle.proof_usb20.specs.ExemptLaws.{differ}
 use Rattle.proof_usb20.specs.Sequence.{Track, off, due, owes, withPhase, own, shown, lengthOf, judged, acksAs, howOften, reads, saw}
-use Rattle.proof_usb20.specs.Follow as follow
+use Rattle.proof_usb20.specs.FollowLaws as follow
 use Rattle.proof_usb20.specs.Follow.{Seen, Fits, view, Follow}
 use Rattle.proof_usb20.specs.Watch.{at-end, at-ask}
 use Rattle.proof_usb20.specs.FollowLaws.{act-view}
-use Rattle.proof_usb20.specs.Calm.{Idle, Kept, Hears, kept-by, hears-same, hears-then, heard, put-kept, put-hears, q-looks}
+use Rattle.proof_usb20.specs.CalmLaws.{Idle, Kept, Hears, kept-by, hears-same, hears-then, heard, put-kept, put-hears, q-looks}
 use Rattle.proof_usb20.specs.WokenLaws.{woken-room, woken-own}
-use Rattle.proof_usb20.specs.Reading.{Own, own-true, got, changed, fits-2}
+use Rattle.proof_usb20.specs.ReadingLaws.{Own, own-true, got, changed, fits-2}
 
 pub back : (D : Dir) (E : ℕ) {A : Type 0} {P : Track → A → St → Type 0} {x y : Track} {o : tree.Out St A} → x ≡ y
     → Follow D E P y o → Follow D E P x o
