@@ -18,7 +18,7 @@ use Rattle.model.specs.Calls.{interruptCode}
 use Rattle.model.specs.IsoIn.{isoInComplete, sofOne, sofWalk, lateOne, lateWalk, onSof}
 use Rattle.model.specs.IsoOut.{checkOne, checkWalk}
 use Rattle.model.specs.Handler.{looks, toggled, settle, dispatch, movedOn, ep0MovedOn, served, onTransfer, onSetup, stampedInterrupt}
-use Rattle.proof_book.specs.MaxLens.{isRequest}
+use Rattle.proof_book.specs.LeavesLaws.{isRequest}
 
 -- a script made of such parts
 pub data Parts : (A : Type 0) → Script true A → Type 1 where

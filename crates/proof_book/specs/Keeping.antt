@@ -3,29 +3,22 @@
 use mathlib.Core.Bool.{Bool, true, false, not, cond, true≢false}
 use mathlib.Core.List.{List}
 use mathlib.Core.Path.{_≡_, refl, sym, ap, _∙_}
-use Prim.Native.Nat.{ℕ, _%_}
-use lib.ListN.{length}
-use Rattle.bits.specs.Bit.{isSet}
+use Prim.Native.Nat.{ℕ}
 use Rattle.regs.specs.declared.Access.{Access}
-use Rattle.regs.specs.declared.Dir.the-variants.{Out, In}
+use Rattle.regs.specs.declared.Dir.the-variants.{Out}
 use Rattle.state.specs.declared.Globals.{Globals}
-use Rattle.state.specs.Driver.{Driver, epOn, withOn, withLenOn, withStampOn, withPacedOn, withRequestOn}
-use Rattle.ring.specs.Slot.{slotAddr, hasWaiting}
-use Rattle.ring.specs.Out.{hasRoomOut, cappedAt, armedAt}
-use Rattle.marks.specs.Copies.{copied}
+use Rattle.state.specs.Driver.{withOn, withPacedOn, withRequestOn}
 use Rattle.model.specs.Tree as tree
 use Rattle.model.specs.Tree.{ends, asks, bindOut}
 use Rattle.model.specs.Cells.{Cell, Val, globals-cell, control-cell, allocator-cell, ep-cell, request-cell, paced-cell}
 use Rattle.model.specs.Script.{Script, ret, bind, test, read-then, write-then, wait-then, callback-then, get-then}
 use Rattle.model.specs.Script.{put-then, is-then, look-then, fetch-then, act-then, hand-then, row-then, run, get, Act}
 use Rattle.model.specs.Script.{complete, reset-ring, set-enabled, fill, fill0, open-oldest, close-oldest, take-oldest}
-use Rattle.model.specs.Script.{enqueue, allocate, allocate0, no-wakes, waken, DmaStep, arrive, send, place, place0}
-use Rattle.model.specs.Statics.{isOn, isoOuts}
+use Rattle.model.specs.Script.{enqueue, allocate, allocate0, no-wakes, waken, DmaStep}
 use Rattle.model.specs.TransferKinds.{allocates}
-use Rattle.model_ops.specs.Records.{isoOut, configured, enabledOn}
-use Rattle.model_ops.specs.Rings.{St, completeOn, emptied, emptiedOn, openOn, closeOn, takeOn, roomOn, queuedOn}
-use Rattle.model_ops.specs.Rings.{enqueueOn, recordedOn, admittedOn, arrivedAt, arriveOn, sendOn, placeOn}
+use Rattle.model_ops.specs.Rings.{St}
 use Rattle.model_ops.specs.Concrete.{concrete}
+use Rattle.proof_book.specs.LeavesLaws.{act-leaves, hand-leaves}
 
 -- ---- on every way through an outcome
 
@@ -127,11 +120,6 @@ Keeps ok x (row-then g p) = ⊥
 abbrev pub At : ℕ → St → Type 0
 At x s = s .0 .globals .entered ≡ x
 
-either : {A : Type 0} (f : Globals → A) (b : Bool) (d x y : Driver)
-    → f (x .globals) ≡ f (d .globals) → f (y .globals) ≡ f (d .globals) → f (cond b x y .globals) ≡ f (d .globals)
-either f true d x y p q = p
-either f false d x y p q = q
-
 pub get-says : (x : ℕ) (c : Cell) (s : St) → At x s → Says x c (concrete .get c s)
 get-says x globals-cell s k = k
 get-says x control-cell s k = tt
@@ -150,51 +138,10 @@ put-at x (request-cell d e) v s h k = k
 put-at x (paced-cell e) v s h k = k
 
 pub act-at : (q : Act) → allocates q ≡ false → (s : St) → concrete .act q s .0 .globals .entered ≡ s .0 .globals .entered
-unfolding completeOn emptied emptiedOn enabledOn configured openOn closeOn takeOn enqueueOn queuedOn withOn withLenOn
-act-at (complete e) h s = refl
-act-at (reset-ring d e) h s = either (λ g. g .entered) (isoOut (s .0) d e) (s .0) (s .0) _ refl refl
-act-at (set-enabled d e on) h s = either (λ g. g .entered) (isoOut (s .0) d e) (s .0) (s .0) _ refl refl
-act-at (fill e bytes) h s = refl
-act-at (fill0 bytes) h s = refl
-act-at (open-oldest e) h s = either (λ g. g .entered) (hasWaiting (epOn (s .0) Out e)) (s .0) _ (s .0) refl refl
-act-at (close-oldest e) h s = either (λ g. g .entered) (isOn (epOn (s .0) Out e .«open»)) (s .0) _ (s .0) refl refl
-act-at (take-oldest e) h s = either (λ g. g .entered) (hasWaiting (epOn (s .0) Out e)) (s .0) _ (s .0) refl refl
-act-at (enqueue e bytes) h s = by (roomOn (s .0) e (length bytes))
-  where
-    by : (b : Bool) → cond b (
-      queuedOn (s .0) e (length bytes),
-      copied (s .1) (slotAddr (epOn (s .0) In e) (epOn (s .0) In e .head)) bytes,
-    ) s .0 .globals .entered ≡ s .0 .globals .entered
-    by true = refl
-    by false = refl
-act-at (allocate d kind address maximum interval) h s = absurd (true≢false h)
-act-at (allocate0 maximum) h s = absurd (true≢false h)
-act-at no-wakes h s = refl
-act-at (waken codes) h s = refl
-
-recorded-at : (d : Driver) (e len : ℕ) → recordedOn d e len .globals .entered ≡ d .globals .entered
-unfolding recordedOn withLenOn withStampOn
-recorded-at d e len = either (λ g. g .entered) (hasRoomOut (epOn d Out e)) d _ d refl refl
+act-at q h s = λ i. act-leaves q h s .rest i .0 .entered
 
 pub hand-at : (q : DmaStep) (s : St) → concrete .hand q s .1 .0 .globals .entered ≡ s .0 .globals .entered
-unfolding arriveOn admittedOn sendOn placeOn withOn
-hand-at (arrive e n) s = by (isSet (isoOuts (s .0 .globals)) (e % 16))
-  where
-    by : (b : Bool) → cond b (arrivedAt e (cappedAt (epOn (s .0) Out e) n) s) (epOn (s .0) Out e .«armed_slot», s) .1 .0 .globals .entered
-        ≡ s .0 .globals .entered
-    by true = recorded-at (s .0) e (cappedAt (epOn (s .0) Out e) n)
-    by false = refl
-hand-at (send e) s = either (λ g. g .entered) (hasWaiting (epOn (s .0) In e)) (s .0) _ (s .0) refl refl
-hand-at (place Out e) s = by (isSet (isoOuts (s .0 .globals)) (e % 16))
-  where
-    by : (b : Bool) → cond {A = ℕ × Driver} b (epOn (s .0) Out e .«armed_slot», s .0) (
-      epOn (s .0) Out e .base,
-      withOn (s .0) Out e (armedAt (epOn (s .0) Out e) (epOn (s .0) Out e .base)),
-    ) .1 .globals .entered ≡ s .0 .globals .entered
-    by true = refl
-    by false = refl
-hand-at (place In e) s = refl
-hand-at place0 s = refl
+hand-at q s = λ i. hand-leaves q s .rest i .0 .entered
 
 -- ---- its run
 

@@ -73,13 +73,13 @@ pub mod Lent
 pub mod Code
 pub mod FrontPageProved
 pub mod SlotsStay
+pub mod LeavesLaws
 pub mod TransferKinds
 pub mod TransferKindsLaws
 pub mod Always
 pub mod AlwaysLaws
 pub mod Sorting
 pub mod SortingLaws
-pub mod MaxLens
 pub mod ReadRoom
 pub mod ReadRoomScripts
 pub mod ReadRoomCalls

@@ -84,79 +84,47 @@ withOut t e p = record { kept = t .kept; outs = at e p (t .outs); ins = t .ins }
 abbrev pub withIn : Pages → ℕ → InPage → Pages
 withIn t e p = record { kept = t .kept; outs = t .outs; ins = at e p (t .ins) }
 
-abbrev pub keptGlobals : Kept → Globals → Kept
-keptGlobals k v = record {
-  globals = v;
-  wakes = k .wakes;
-  control = k .control;
-  allocator = k .allocator;
+-- the values that are one for all endpoints
+abbrev pub keptValues : Kept → Globals → Wakes → Control → Allocator → Kept
+keptValues k g w c a = record {
+  globals = g;
+  wakes = w;
+  control = c;
+  allocator = a;
   paced = k .paced;
   requests = k .requests;
   plain = k .plain;
 }
+
+-- those of each endpoint
+abbrev pub keptTables : Kept → (ℕ → ℕ) → (Dir → ℕ → Request) → (Dir → ℕ → EpCore) → Kept
+keptTables k p r x = record {
+  globals = k .globals;
+  wakes = k .wakes;
+  control = k .control;
+  allocator = k .allocator;
+  paced = p;
+  requests = r;
+  plain = x;
+}
+
+abbrev pub keptGlobals : Kept → Globals → Kept
+keptGlobals k v = keptValues k v (k .wakes) (k .control) (k .allocator)
 
 abbrev pub keptWakes : Kept → Wakes → Kept
-keptWakes k v = record {
-  globals = k .globals;
-  wakes = v;
-  control = k .control;
-  allocator = k .allocator;
-  paced = k .paced;
-  requests = k .requests;
-  plain = k .plain;
-}
+keptWakes k v = keptValues k (k .globals) v (k .control) (k .allocator)
 
 abbrev pub keptControl : Kept → Control → Kept
-keptControl k v = record {
-  globals = k .globals;
-  wakes = k .wakes;
-  control = v;
-  allocator = k .allocator;
-  paced = k .paced;
-  requests = k .requests;
-  plain = k .plain;
-}
+keptControl k v = keptValues k (k .globals) (k .wakes) v (k .allocator)
 
 abbrev pub keptAllocator : Kept → Allocator → Kept
-keptAllocator k v = record {
-  globals = k .globals;
-  wakes = k .wakes;
-  control = k .control;
-  allocator = v;
-  paced = k .paced;
-  requests = k .requests;
-  plain = k .plain;
-}
+keptAllocator k v = keptValues k (k .globals) (k .wakes) (k .control) v
 
 abbrev pub keptPaced : Kept → ℕ → ℕ → Kept
-keptPaced k e v = record {
-  globals = k .globals;
-  wakes = k .wakes;
-  control = k .control;
-  allocator = k .allocator;
-  paced = at e v (k .paced);
-  requests = k .requests;
-  plain = k .plain;
-}
+keptPaced k e v = keptTables k (at e v (k .paced)) (k .requests) (k .plain)
 
 abbrev pub keptRequest : Kept → Dir → ℕ → Request → Kept
-keptRequest k d e v = record {
-  globals = k .globals;
-  wakes = k .wakes;
-  control = k .control;
-  allocator = k .allocator;
-  paced = k .paced;
-  requests = on d e v (k .requests);
-  plain = k .plain;
-}
+keptRequest k d e v = keptTables k (k .paced) (on d e v (k .requests)) (k .plain)
 
 abbrev pub keptPlain : Kept → Dir → ℕ → EpCore → Kept
-keptPlain k d e v = record {
-  globals = k .globals;
-  wakes = k .wakes;
-  control = k .control;
-  allocator = k .allocator;
-  paced = k .paced;
-  requests = k .requests;
-  plain = on d e v (k .plain);
-}
+keptPlain k d e v = keptTables k (k .paced) (k .requests) (on d e v (k .plain))

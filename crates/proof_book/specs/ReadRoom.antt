@@ -1,5 +1,5 @@
 -- A read that is begun has room for a packet of its endpoint's maximum: each operation of a script but the assignment of its request keeps it
-use mathlib.Core.Bool.{Bool, true, false, cond, true≢false}
+use mathlib.Core.Bool.{Bool, true, false, true≢false}
 use mathlib.Core.List.{List}
 use mathlib.Core.Logic.{_≢_}
 use mathlib.Core.Path.{_≡_, refl, ap, subst, sym, _∙_}
@@ -22,29 +22,34 @@ use Rattle.alloc.specs.Outcome.{sameDir, stays, Takes, Outcome, six, seven, eig
 use Rattle.alloc.specs.Run.{endpoint, ep0, Step, kept, gave-ep0, step}
 use Rattle.alloc.specs.Sound.{Sound}
 use Rattle.alloc.specs.SoundLaws.{sound-call}
-use Rattle.model.specs.Script.{Act, complete, reset-ring, set-enabled, fill, fill0, open-oldest, close-oldest}
-use Rattle.model.specs.Script.{take-oldest, enqueue, allocate, allocate0, no-wakes, waken}
+use Rattle.model.specs.Script.{Act}
 use Rattle.model.specs.Statics.{isOn}
 use Rattle.model_ops.specs.Records.{recordGiven, setsGiven, givenTo, allocatedOn, startedWith, allocatedEp0}
 use Rattle.model_ops.specs.Rings.{St}
 use Rattle.model_ops.specs.Concrete.{concrete}
 use Rattle.proof_book.specs.Cells.{epOn-by}
-use Rattle.proof_book.specs.MaxLens.{Steady, maximums, act-steady}
+use Rattle.proof_book.specs.LeavesLaws.{RequestsStay, turns, rings-stay, by-act}
 
 pub record ReadRoom (d : Driver) : Type 0 where
   pub sound : Sound (d .allocator)
   pub reads : (e : ℕ) → isOn (requestOn d Out e .begun) ≡ true
       → (isSet (takenIn (d .allocator) Out) (e % 16) ≡ true) × (epOn d Out e .«max_len» ≤ requestOn d Out e .length)
 
-same-request : {d d′ : Driver} → Steady d d′ → (e : ℕ) → requestOn d′ Out e ≡ requestOn d Out e
+same-request : (t : Bool) {d d′ : Driver} → RequestsStay t d d′ → (e : ℕ) → requestOn d′ Out e ≡ requestOn d Out e
 unfolding requestOn
-same-request p e = ap (λ (l : List Request). getD l (key Out e) noRequest) (p .requests)
+same-request t p e = λ i. getD (p .rest i .1) (key Out e) noRequest
 
-pub steady-room : {d d′ : Driver} → Steady d d′ → ReadRoom d → ReadRoom d′
-steady-room p k = record {
-  sound = rw (p .allocator) (k .sound);
-  reads = λ e h. let z = k .reads e (sym (ap (λ (r : Request). isOn (r .begun)) (same-request p e)) ∙ h) in
-      (rw (p .allocator) (z .0), rw (maximums p Out e, same-request p e) (z .1));
+same-allocator : (t : Bool) {d d′ : Driver} → RequestsStay t d d′ → d′ .allocator ≡ d .allocator
+same-allocator t p = λ i. p .rest i .0 .4
+
+same-maximum : (t : Bool) {d d′ : Driver} → RequestsStay t d d′ → (e : ℕ) → epOn d′ Out e .«max_len» ≡ epOn d Out e .«max_len»
+same-maximum t p e = λ i. p .each Out e i .2
+
+pub room-stays : (t : Bool) {d d′ : Driver} → RequestsStay t d d′ → ReadRoom d → ReadRoom d′
+room-stays t p k = record {
+  sound = rw (same-allocator t p) (k .sound);
+  reads = λ e h. let z = k .reads e (sym (ap (λ (r : Request). isOn (r .begun)) (same-request t p e)) ∙ h) in
+      (rw (same-allocator t p) (z .0), rw (same-maximum t p e, same-request t p e) (z .1));
 }
 
 -- ---- a request assigned
@@ -134,20 +139,9 @@ allocated-room {d = d} k dir kind address maximum interval z s (given e base n a
 
 pub act-room : (q : Act) (s : St) → ReadRoom (s .0) → ReadRoom (concrete .act q s .0)
 unfolding allocatedOn allocatedEp0
-act-room (complete e) s k = steady-room (act-steady (complete e) refl s) k
-act-room (reset-ring dir e) s k = steady-room (act-steady (reset-ring dir e) refl s) k
-act-room (set-enabled dir e on) s k = steady-room (act-steady (set-enabled dir e on) refl s) k
-act-room (fill e bytes) s k = k
-act-room (fill0 bytes) s k = k
-act-room (open-oldest e) s k = steady-room (act-steady (open-oldest e) refl s) k
-act-room (close-oldest e) s k = steady-room (act-steady (close-oldest e) refl s) k
-act-room (take-oldest e) s k = steady-room (act-steady (take-oldest e) refl s) k
-act-room (enqueue e bytes) s k = steady-room (act-steady (enqueue e bytes) refl s) k
-act-room (allocate dir kind address maximum interval) s k =
+act-room q s k =
     let a = s .0 .allocator in
-    allocated-room k dir kind address maximum interval (allocateOf a kind address maximum dir)
-    (sound-call a (endpoint kind address maximum dir) (k .sound)) (outcome a kind address maximum dir)
-act-room (allocate0 maximum) s k = let a = s .0 .allocator in
-    ep0-room k maximum (allocateEp0Of a maximum) (sound-call a (ep0 maximum) (k .sound)) (step a (ep0 maximum))
-act-room no-wakes s k = steady-room (act-steady no-wakes refl s) k
-act-room (waken codes) s k = steady-room (act-steady (waken codes) refl s) k
+    by-act {K = λ _ d. ReadRoom d} s (λ q _ p. room-stays (turns q) (rings-stay (turns q) p) k)
+    (λ dir kind address maximum interval. allocated-room k dir kind address maximum interval (allocateOf a kind address maximum dir)
+    (sound-call a (endpoint kind address maximum dir) (k .sound)) (outcome a kind address maximum dir))
+    (λ maximum. ep0-room k maximum (allocateEp0Of a maximum) (sound-call a (ep0 maximum) (k .sound)) (step a (ep0 maximum))) q

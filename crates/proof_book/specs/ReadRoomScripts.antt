@@ -12,26 +12,26 @@ use Rattle.model.specs.StepsRunsLaws.{or-else}
 use Rattle.model.specs.MachineKept.{Lent}
 use Rattle.model_ops.specs.Rings.{St}
 use Rattle.model_ops.specs.Concrete.{concrete}
-use Rattle.proof_book.specs.MaxLens.{put-steady, hand-steady, row-steady}
-use Rattle.proof_book.specs.ReadRoom.{ReadRoom, steady-room, put-out, put-in, act-room, off}
+use Rattle.proof_book.specs.LeavesLaws.{hand-leaves, rings-stay, put-stays, turnsRow, row-stays}
+use Rattle.proof_book.specs.ReadRoom.{ReadRoom, room-stays, put-out, put-in, act-room, off}
 
 module _ (k : Kind) (other : is k reading ≡ false) where
   puts : (c : Cell) (v : Val c) → mayPut k c v ≡ true → (s : St) → ReadRoom (s .0) → ReadRoom (concrete .put c v s .0)
-  puts globals-cell v h s b = steady-room (put-steady globals-cell refl v s) b
-  puts control-cell v h s b = steady-room (put-steady control-cell refl v s) b
-  puts allocator-cell v h s b = steady-room (put-steady allocator-cell refl v s) b
-  puts (ep-cell d e) v h s b = steady-room (put-steady (ep-cell d e) refl v s) b
+  puts globals-cell v h s b = room-stays false (put-stays globals-cell refl v s) b
+  puts control-cell v h s b = room-stays false (put-stays control-cell refl v s) b
+  puts allocator-cell v h s b = room-stays false (put-stays allocator-cell refl v s) b
+  puts (ep-cell d e) v h s b = room-stays false (put-stays (ep-cell d e) refl v s) b
   -- a write's request, and a read's that ends
   puts (request-cell In e) v h s b = put-in e v b
   puts (request-cell Out e) v h s b =
       let ended = eqb-true (v .begun) 0 (or-else (is k reading) (eqb (v .begun) 0) other h) in
       put-out e v (λ z. absurd (true≢false (sym z ∙ ap isOn ended ∙ off))) b
-  puts (paced-cell e) v h s b = steady-room (put-steady (paced-cell e) refl v s) b
+  puts (paced-cell e) v h s b = room-stays false (put-stays (paced-cell e) refl v s) b
 
   pub room-keeps : Keeps concrete (Lent ReadRoom) k
   room-keeps = record {
     put = puts;
     act = λ q _ s b. act-room q s b;
-    hand = λ q _ s b. steady-room (hand-steady q s) b;
-    row = λ g _ n s b. steady-room (row-steady g n s) b;
+    hand = λ q _ s b. room-stays false (rings-stay false (hand-leaves q s)) b;
+    row = λ g _ n s b. room-stays (turnsRow g n) (row-stays g n s) b;
   }

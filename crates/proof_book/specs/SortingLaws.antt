@@ -27,14 +27,13 @@ use Rattle.alloc.specs.Outcome.{sameDir, stays, Takes, Outcome, six, seven, eig
 use Rattle.alloc.specs.Run.{endpoint, ep0, Step, kept, gave-ep0, step}
 use Rattle.alloc.specs.Sound.{Sound}
 use Rattle.alloc.specs.SoundLaws.{sound-call}
-use Rattle.model.specs.Script.{Act, complete, reset-ring, set-enabled, fill, fill0, open-oldest, close-oldest}
-use Rattle.model.specs.Script.{take-oldest, enqueue, allocate, allocate0, no-wakes, waken}
+use Rattle.model.specs.Script.{Act}
 use Rattle.model.specs.Statics.{isOn}
 use Rattle.model.specs.Simulates.{Phase}
 use Rattle.model.specs.Answers.{Answer}
 use Rattle.model.specs.Machine.{Buf, Event, Machine, start}
 use Rattle.model.specs.Calls.{Config, Op, calls, startRow}
-use Rattle.model.specs.TransferKinds.{TransferKinds, Among}
+use Rattle.model.specs.TransferKinds.{Among}
 use Rattle.model_ops.specs.Records.{withIsoSets, isoAdded, withSets, recordGiven, setsGiven, givenTo, allocatedOn, startedWith, allocatedEp0}
 use Rattle.model_ops.specs.Rings.{St}
 use Rattle.model_ops.specs.Concrete.{concrete}
@@ -43,8 +42,9 @@ use Rattle.proof_book.specs.Pages.{Pages}
 use Rattle.proof_book.specs.Coupling.{Coupling, Shape}
 use Rattle.proof_book.specs.Cells.{key-by, on-key}
 use Rattle.proof_book.specs.Allocations.{fresh-kept}
-use Rattle.proof_book.specs.TransferKinds.{Steady, Has}
-use Rattle.proof_book.specs.TransferKindsLaws.{others, put-steady, act-steady, hand-steady, row-steady}
+use Rattle.proof_book.specs.TransferKinds.{Steady}
+use Rattle.proof_book.specs.TransferKindsLaws.{others, put-steady, rings-steady, hand-steady, row-steady}
+use Rattle.proof_book.specs.LeavesLaws.{turns, by-act}
 use Rattle.proof_book.specs.Always.{after}
 use Rattle.proof_book.specs.AlwaysLaws.{Invariant, from-accepted}
 use Rattle.proof_book.specs.Sorting.{sortsOf, Sorting}
@@ -217,23 +217,12 @@ allocated-sorting {d = d} k dir kind address maximum interval z s (given e base 
 
 acts : (q : Act) (s : St) → Sorting (s .0) → Sorting (concrete .act q s .0)
 unfolding allocatedOn allocatedEp0
-acts (complete e) s k = steady-sorting (act-steady (complete e) refl s) k
-acts (reset-ring dir e) s k = steady-sorting (act-steady (reset-ring dir e) refl s) k
-acts (set-enabled dir e on) s k = steady-sorting (act-steady (set-enabled dir e on) refl s) k
-acts (fill e bytes) s k = k
-acts (fill0 bytes) s k = k
-acts (open-oldest e) s k = steady-sorting (act-steady (open-oldest e) refl s) k
-acts (close-oldest e) s k = steady-sorting (act-steady (close-oldest e) refl s) k
-acts (take-oldest e) s k = steady-sorting (act-steady (take-oldest e) refl s) k
-acts (enqueue e bytes) s k = steady-sorting (act-steady (enqueue e bytes) refl s) k
-acts (allocate dir kind address maximum interval) s k =
+acts q s k =
     let a = s .0 .allocator in
-    allocated-sorting k dir kind address maximum interval (allocateOf a kind address maximum dir)
-    (sound-call a (endpoint kind address maximum dir) (k .sound)) (outcome a kind address maximum dir)
-acts no-wakes s k = steady-sorting (act-steady no-wakes refl s) k
-acts (waken codes) s k = steady-sorting (act-steady (waken codes) refl s) k
-acts (allocate0 maximum) s k = let a = s .0 .allocator in
-    ep0-sorting k maximum (allocateEp0Of a maximum) (sound-call a (ep0 maximum) (k .sound)) (step a (ep0 maximum))
+    by-act {K = λ _ d. Sorting d} s (λ q _ p. steady-sorting (rings-steady (turns q) p) k)
+    (λ dir kind address maximum interval. allocated-sorting k dir kind address maximum interval (allocateOf a kind address maximum dir)
+    (sound-call a (endpoint kind address maximum dir) (k .sound)) (outcome a kind address maximum dir))
+    (λ maximum. ep0-sorting k maximum (allocateEp0Of a maximum) (sound-call a (ep0 maximum) (k .sound)) (step a (ep0 maximum))) q
 
 keeps : Invariant driverOf Sorting
 keeps = record {

@@ -3,15 +3,14 @@ use mathlib.Core.Bool.{Bool, false}
 use mathlib.Core.Path.{_≡_, refl, ap, _∙_}
 use Prim.Native.Nat.{ℕ}
 use Rattle.regs.specs.declared.Dir.{Dir}
-use Rattle.regs.specs.declared.Dir.the-variants.{Out, In}
-use Rattle.state.specs.Driver.{Driver, epOn, withRequestOn}
+use Rattle.state.specs.Driver.{Driver, epOn}
 use Rattle.model.specs.Cells.{Cell, Val, globals-cell, control-cell, allocator-cell, ep-cell, request-cell, paced-cell}
 use Rattle.model.specs.Script.{Act, DmaStep, Burst}
 use Rattle.model.specs.Statics.{isOn}
-use Rattle.model.specs.TransferKinds.{TransferKinds, Among, Shows, allocates, Sorted}
+use Rattle.model.specs.TransferKinds.{TransferKinds, Shows, allocates, Sorted}
 use Rattle.model_ops.specs.Rings.{St}
 use Rattle.model_ops.specs.Concrete.{concrete}
-use Rattle.proof_book.specs.MaxLens as given
+use Rattle.proof_book.specs.LeavesLaws.{RingsOnly, GivenStays, given-stays, rings-stay, put-given, turns, act-leaves, hand-leaves, turnsRow, row-stays}
 use Rattle.proof_book.specs.TransferKinds.{Steady, Has}
 
 -- a change of other records than the endpoints'
@@ -21,34 +20,31 @@ unfolding epOn
 others d d′ p o i a = record { places = rw p refl; flags = λ dir e. rw p refl; outs = o; every = i; allocator = a }
 
 -- what an allocation gave has the flag
-sorts-stay : {d d′ : Driver} → given.Steady d d′ → Steady d d′
-sorts-stay p = record {
+sorts-stay : (t : Bool) {d d′ : Driver} → GivenStays t d d′ → Steady d d′
+sorts-stay t p = record {
   places = p .places;
-  flags = λ dir e. ap (λ (g : ℕ × ℕ). g .0) (p .given dir e);
-  outs = p .outs;
-  every = p .every;
-  allocator = p .allocator;
+  flags = λ dir e. λ i. p .each dir e i .0;
+  outs = λ i. p .rest i .1;
+  every = λ i. p .rest i .2;
+  allocator = λ i. p .rest i .4;
 }
 
 -- ---- each operation
 
 pub put-steady : (c : Cell) (v : Val c) (s : St) → Steady (s .0) (concrete .put c v s .0)
-unfolding withRequestOn
-put-steady globals-cell v s = sorts-stay (given.put-steady globals-cell refl v s)
-put-steady control-cell v s = sorts-stay (given.put-steady control-cell refl v s)
-put-steady allocator-cell v s = sorts-stay (given.put-steady allocator-cell refl v s)
-put-steady (ep-cell d e) v s = sorts-stay (given.put-steady (ep-cell d e) refl v s)
-put-steady (request-cell d e) v s = others (s .0) _ refl refl refl refl
-put-steady (paced-cell e) v s = sorts-stay (given.put-steady (paced-cell e) refl v s)
+put-steady c v s = sorts-stay false (put-given c v s)
+
+pub rings-steady : (t : Bool) {d d′ : Driver} → RingsOnly t d d′ → Steady d d′
+rings-steady t p = sorts-stay t (given-stays t (rings-stay t p))
 
 pub act-steady : (q : Act) → allocates q ≡ false → (s : St) → Steady (s .0) (concrete .act q s .0)
-act-steady q h s = sorts-stay (given.act-steady q h s)
+act-steady q h s = rings-steady (turns q) (act-leaves q h s)
 
 pub hand-steady : (q : DmaStep) (s : St) → Steady (s .0) (concrete .hand q s .1 .0)
-hand-steady q s = sorts-stay (given.hand-steady q s)
+hand-steady q s = rings-steady false (hand-leaves q s)
 
 pub row-steady : (g : Burst) (n : ℕ) (s : St) → Steady (s .0) (concrete .row g n s .1 .0)
-row-steady g n s = sorts-stay (given.row-steady g n s)
+row-steady g n s = sorts-stay (turnsRow g n) (given-stays (turnsRow g n) (row-stays g n s))
 
 has-steady : {iso : TransferKinds} {d d′ : Driver} → Steady d d′ → Has iso d → Has iso d′
 has-steady p k = record { flags = λ dir e. ap isOn (p .flags dir e) ∙ k .flags dir e; outs = rw (p .outs) (k .outs); every = rw (p .every) (k .every) }

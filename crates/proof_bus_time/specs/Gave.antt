@@ -20,16 +20,14 @@ use Rattle.model.specs.Tree as tree
 use Rattle.model.specs.Tree.{ends, asks, bindOut}
 use Rattle.model.specs.Script.{Script, ret, bind, test, read-then, write-then, wait-then, callback-then, get-then}
 use Rattle.model.specs.Script.{put-then, is-then, look-then, fetch-then, act-then, hand-then, row-then, run, rows}
-use Rattle.model.specs.Script.{lastOf, Act, complete, reset-ring, set-enabled, fill, fill0, open-oldest, close-oldest}
-use Rattle.model.specs.Script.{take-oldest, enqueue, allocate, allocate0, no-wakes, waken, Burst, switch, bus-reset}
-use Rattle.model_ops.specs.Records.{isoOut, configured, enabledOn, recordGiven, setsGiven, givenTo, allocatedOn, startedWith, allocatedEp0}
-use Rattle.model_ops.specs.Rings.{St, configStep}
+use Rattle.model.specs.Script.{lastOf, Act}
+use Rattle.model.specs.Script.{Burst}
+use Rattle.model_ops.specs.Records.{recordGiven, setsGiven, givenTo, allocatedOn, startedWith, allocatedEp0}
+use Rattle.model_ops.specs.Rings.{St}
 use Rattle.model_ops.specs.Concrete.{concrete}
 use Rattle.proof_book.specs.Cells.{on-key}
-use Rattle.proof_book.specs.TransferKinds.{Steady}
-use Rattle.proof_book.specs.TransferKindsLaws.{put-steady, act-steady, hand-steady, row-steady}
+use Rattle.proof_book.specs.LeavesLaws.{RingsOnly, turns, by-act, hand-leaves, givenOf, GivenStays, given-stays, rings-stay, put-given, turnsRow, row-stays}
 use Rattle.proof_bus_time.specs.Enabled.{isTaken}
-use Rattle.proof_bus_time.specs.Stays.{givenOf, Turns, put-stays, act-stays, hand-stays, switch-stays, reset-stays}
 
 pub record Gave (d d′ : Driver) : Type 0 where
   pub taken : (dir : Dir) (e : ℕ) → isTaken d dir e ≡ true → isTaken d′ dir e ≡ true
@@ -42,8 +40,14 @@ pub gave-same : (d : Driver) → Gave d d
 gave-same d = record { taken = λ dir e h. h; given = λ dir e h. refl }
 
 -- with the allocator as it was
-of-steady : {w : ℕ} {d d′ : Driver} → Steady d d′ → Turns w d d′ → Gave d d′
-of-steady p q = record { taken = λ dir e h. rw (p .allocator) h; given = λ dir e h. q .given dir e }
+of-given : (t : Bool) {d d′ : Driver} → GivenStays t d d′ → Gave d d′
+of-given t p = record { taken = λ dir e h. rw (allocators p) h; given = λ dir e h. p .each dir e }
+  where
+    allocators : {d d′ : Driver} → GivenStays t d d′ → d′ .allocator ≡ d .allocator
+    allocators p = λ i. p .rest i .4
+
+of-rings : (t : Bool) {d d′ : Driver} → RingsOnly t d d′ → Gave d d′
+of-rings t p = of-given t (given-stays t (rings-stay t p))
 
 -- the endpoints' records too
 of-records : (d d′ : Driver) → d′ .eps ≡ d .eps → ((dir : Dir) (e : ℕ) → isTaken d′ dir e ≡ isTaken d dir e) → Gave d d′
@@ -95,39 +99,14 @@ ep0-gave d maximum z (gave-ep0 m x small l) = of-records d _ refl same
 
 -- ---- each operation
 
-enabled-gave : (d : Driver) (dir : Dir) (e : ℕ) (on : Bool) → Gave d (enabledOn d dir e on)
-unfolding enabledOn configured
-enabled-gave d dir e on = by (isoOut d dir e)
-  where
-    by : (b : Bool) → Gave d (cond b d (configured d dir e on))
-    by true = gave-same d
-    by false = of-records d _ refl (λ _ _. refl)
-
 act-gave : (q : Act) (s : St) → Gave (s .0) (concrete .act q s .0)
 unfolding allocatedOn allocatedEp0
-act-gave (complete e) s = of-steady (act-steady (complete e) refl s) (act-stays (complete e) refl s)
-act-gave (reset-ring d e) s = of-steady (act-steady (reset-ring d e) refl s) (act-stays (reset-ring d e) refl s)
-act-gave (set-enabled d e on) s = enabled-gave (s .0) d e on
-act-gave (fill e bytes) s = gave-same (s .0)
-act-gave (fill0 bytes) s = gave-same (s .0)
-act-gave (open-oldest e) s = of-steady (act-steady (open-oldest e) refl s) (act-stays (open-oldest e) refl s)
-act-gave (close-oldest e) s = of-steady (act-steady (close-oldest e) refl s) (act-stays (close-oldest e) refl s)
-act-gave (take-oldest e) s = of-steady (act-steady (take-oldest e) refl s) (act-stays (take-oldest e) refl s)
-act-gave (enqueue e bytes) s = of-steady (act-steady (enqueue e bytes) refl s) (act-stays (enqueue e bytes) refl s)
-act-gave (allocate d kind address maximum interval) s =
-    allocated-gave (s .0) d kind address maximum interval _ (outcome (s .0 .allocator) kind address maximum d)
-act-gave (allocate0 maximum) s = ep0-gave (s .0) maximum _ (step (s .0 .allocator) (ep0 maximum))
-act-gave no-wakes s = of-records (s .0) _ refl (λ _ _. refl)
-act-gave (waken codes) s = of-records (s .0) _ refl (λ _ _. refl)
+act-gave q s = by-act {K = λ _ d. Gave (s .0) d} s (λ q _ p. of-rings (turns q) p)
+    (λ dir kind address maximum interval. allocated-gave (s .0) dir kind address maximum interval _ (outcome (s .0 .allocator) kind address maximum dir))
+    (λ maximum. ep0-gave (s .0) maximum _ (step (s .0 .allocator) (ep0 maximum))) q
 
 row-gave : (g : Burst) (n : ℕ) (s : St) → Gave (s .0) (concrete .row g n s .1 .0)
-unfolding configStep
-row-gave (switch e on) zero s = of-records (s .0) _ refl (λ _ _. refl)
-row-gave (switch e on) (suc n) s = of-steady (row-steady (switch e on) (suc n) s) (switch-stays e on n s)
-row-gave bus-reset zero s = of-steady (row-steady bus-reset 0 s) (reset-stays s .0)
-row-gave bus-reset (suc zero) s = gave-same (s .0)
-row-gave bus-reset (suc (suc zero)) s = of-records (s .0) _ refl (λ _ _. refl)
-row-gave bus-reset (suc (suc (suc k))) s = of-records (s .0) _ refl (λ _ _. refl)
+row-gave g n s = of-given (turnsRow g n) (given-stays (turnsRow g n) (row-stays g n s))
 
 -- ---- every script
 
@@ -162,10 +141,10 @@ run-moves (write-then r e v p) s = to-ask (gave-same (s .0)) (λ _ t. run-moves 
 run-moves (wait-then n p) s = to-ask (gave-same (s .0)) (λ _ t. run-moves p t)
 run-moves (callback-then p) s = to-ask (gave-same (s .0)) (λ _ t. run-moves p t)
 run-moves (get-then c k) s = run-moves (k (concrete .get c s)) s
-run-moves (put-then c v p) s = after (of-steady (put-steady c v s) (put-stays c v s)) (run-moves p (concrete .put c v s))
+run-moves (put-then c v p) s = after (of-given false (put-given c v s)) (run-moves p (concrete .put c v s))
 run-moves (is-then q k) s = run-moves (k (concrete .is q s)) s
 run-moves (look-then q k) s = run-moves (k (concrete .look q s)) s
 run-moves (fetch-then q k) s = run-moves (k (concrete .fetch q s)) s
 run-moves (act-then q p) s = after (act-gave q s) (run-moves p (concrete .act q s))
-run-moves (hand-then q p) s = to-ask (of-steady (hand-steady q s) (hand-stays q s)) (λ _ t. run-moves p t)
+run-moves (hand-then q p) s = to-ask (of-rings false (hand-leaves q s)) (λ _ t. run-moves p t)
 run-moves (row-then g p) s = rows-move g (lastOf g) (run-moves p) s

@@ -24,23 +24,24 @@ use Rattle.model_ops.specs.Concrete.{concrete}
 use Rattle.proof_usb20.specs.Log.{Log, before, opens, closes, Brings, Armed, Fair, Allowed, Poll, none, begins}
 use Rattle.proof_usb20.specs.Log.{pollSetup, pollOut, pollIn, pollStatus, pollOf, FairPoll}
 use Rattle.proof_usb20.specs.Observer.{Observer, startedBy, Reads, All}
-use Rattle.proof_usb20.specs.Exempt.{differ}
+use Rattle.proof_usb20.specs.ExemptLaws.{differ}
 use Rattle.proof_usb20.specs.Watch.{at-end, at-ask}
 use Rattle.proof_usb20.specs.WatchLaws.{watch-more}
 use Rattle.proof_usb20.specs.Ep0.{View, view, R, Law}
-use Rattle.proof_usb20.specs.Runs.{Laws, Ups, from-start}
-use Rattle.proof_usb20.specs.Besides.{aside-wakes}
+use Rattle.proof_usb20.specs.RunsLaws.{Laws, Ups, from-start}
+use Rattle.proof_usb20.specs.BesidesLaws.{aside-wakes}
 use Rattle.proof_book.specs.Code.{Made}
 use Rattle.proof_book.specs.CodeReadings.{Steps}
-use Rattle.proof_usb20.specs.CodeRuns.{left, CodeReads, CodeMeaning, CodeAll, code-from-start}
-use Rattle.proof_usb20.specs.Stages.{law-data-out, law-data-in, law-accept, law-accept-address, law-reject, law-setup}
-use Rattle.proof_usb20.specs.Polls.{law-poll-setup, law-poll-data-out, law-poll-data-in, law-poll-accept}
-use Rattle.proof_usb20.specs.Serving.{law-interrupt}
-use Rattle.proof_usb20.specs.Switching.{law-set-enabled}
-use Rattle.proof_usb20.specs.Tasks.{law-begin-read, law-poll-read, law-begin-write, law-poll-write, law-allocate}
-use Rattle.proof_usb20.specs.Tasks.{law-allocate-all, law-start, law-bus-enable, law-bus-disable, law-microframe}
-use Rattle.proof_usb20.specs.Tasks.{law-is-stalled, law-set-paced, law-advance, law-aside, law-set-stalled}
-use Rattle.proof_usb20.specs.Tasks.{law-bus-poll, aside-view}
+use Rattle.proof_usb20.specs.CodeRuns.{left, CodeReads, CodeMeaning, CodeAll}
+use Rattle.proof_usb20.specs.CodeRunsLaws.{code-from-start}
+use Rattle.proof_usb20.specs.StagesLaws.{law-data-out, law-data-in, law-accept, law-accept-address, law-reject, law-setup}
+use Rattle.proof_usb20.specs.PollsLaws.{law-poll-setup, law-poll-data-out, law-poll-data-in, law-poll-accept}
+use Rattle.proof_usb20.specs.ServingLaws.{law-interrupt}
+use Rattle.proof_usb20.specs.SwitchingLaws.{law-set-enabled}
+use Rattle.proof_usb20.specs.TasksLaws.{law-begin-read, law-poll-read, law-begin-write, law-poll-write, law-allocate}
+use Rattle.proof_usb20.specs.TasksLaws.{law-allocate-all, law-start, law-bus-enable, law-bus-disable, law-microframe}
+use Rattle.proof_usb20.specs.TasksLaws.{law-is-stalled, law-set-paced, law-advance, law-aside, law-set-stalled}
+use Rattle.proof_usb20.specs.TasksLaws.{law-bus-poll, aside-view}
 use mathlib.Core.Bool.{Bool, true, false, cond}
 use Rattle.regs.specs.declared.Access.{Access}
 use Rattle.regs.specs.declared.Access.the-variants.{Read, Write, Receive, Transmit, Ep0Dma, Wait, Callback}

@@ -19,7 +19,7 @@ use Rattle.model.specs.Usb20Toggles.{Pid, DATA0, DATA1}
 use Rattle.machine.specs.Suspended.{driverOf}
 use Rattle.proof_usb20.specs.Sequence.{Track}
 use Rattle.proof_usb20.specs.Follow.{Seen, Fits, Law}
-use Rattle.proof_usb20.specs.Calm.{Else}
+use Rattle.proof_usb20.specs.CalmLaws.{Else}
 use mathlib.Core.Bool.{Bool, true, false, cond, _&&_}
 use lib.ListN.{length, getD, replicate, getD-replicate}
 use Prim.Native.Nat.{_<_}
@@ -45,23 +45,25 @@ use Rattle.proof_usb20.specs.Observer.{Observer, Under, at-rest, doing, 
 use Rattle.proof_usb20.specs.Watch.{Along, at-end, at-ask}
 use Rattle.proof_usb20.specs.WatchLaws.{watch-more}
 use Rattle.regs.specs.declared.Access.{Access}
-use Rattle.proof_usb20.specs.Runs.{Laws, Sees, Ups, Only, from-start}
-use Rattle.proof_usb20.specs.Follow as follow
+use Rattle.proof_usb20.specs.RunsLaws.{Laws, Sees, Ups, Only, from-start}
+use Rattle.proof_usb20.specs.FollowLaws as follow
+use Rattle.proof_usb20.specs.Follow as following
 use Rattle.proof_usb20.specs.Follow.{seenOf, view, Follow}
-use Rattle.proof_usb20.specs.Besides.{aside-wakes}
+use Rattle.proof_usb20.specs.BesidesLaws.{aside-wakes}
 use Rattle.proof_book.specs.Code.{Made}
 use Rattle.proof_book.specs.CodeReadings.{Steps}
-use Rattle.proof_usb20.specs.CodeRuns.{left, CodeReads, CodeMeaning, CodeAll, code-from-start}
-use Rattle.proof_usb20.specs.Calm.{Off, Quiet, loose, q-resultless, q-bind, q-ret, q-write, q-wait, q-reg, q-int-en}
-use Rattle.proof_usb20.specs.Reading.{law-begin-read, law-poll-read, law-poll-write, law-begin-write}
-use Rattle.proof_usb20.specs.Enabling.{law-set-enabled, WordLaw, leaves-any, leaves-enabled, leaves-stalled}
-use Rattle.proof_usb20.specs.Enabling.{leaves-read, leaves-write, leaves-poll, among-all, never}
-use Rattle.proof_usb20.specs.Others.{law-bus-enable, law-bus-disable, law-microframe, law-is-stalled}
-use Rattle.proof_usb20.specs.Others.{law-set-paced, law-advance, law-aside, aside-view, law-setup, law-poll-setup}
-use Rattle.proof_usb20.specs.Others.{law-data-out, law-poll-data-out, law-data-in, law-poll-data-in, law-accept}
-use Rattle.proof_usb20.specs.Others.{law-accept-address, law-poll-accept, law-reject}
-use Rattle.proof_usb20.specs.Restarting.{law-set-stalled, law-bus-poll, law-allocate, law-allocate-all, law-start}
-use Rattle.proof_usb20.specs.Tokens.{law-interrupt}
+use Rattle.proof_usb20.specs.CodeRuns.{left, CodeReads, CodeMeaning, CodeAll}
+use Rattle.proof_usb20.specs.CodeRunsLaws.{code-from-start}
+use Rattle.proof_usb20.specs.CalmLaws.{Off, Quiet, loose, q-resultless, q-bind, q-ret, q-write, q-wait, q-reg, q-int-en}
+use Rattle.proof_usb20.specs.ReadingLaws.{law-begin-read, law-poll-read, law-poll-write, law-begin-write}
+use Rattle.proof_usb20.specs.EnablingLaws.{law-set-enabled, WordLaw, leaves-any, leaves-enabled, leaves-stalled}
+use Rattle.proof_usb20.specs.EnablingLaws.{leaves-read, leaves-write, leaves-poll, among-all, never}
+use Rattle.proof_usb20.specs.OthersLaws.{law-bus-enable, law-bus-disable, law-microframe, law-is-stalled}
+use Rattle.proof_usb20.specs.OthersLaws.{law-set-paced, law-advance, law-aside, aside-view, law-setup, law-poll-setup}
+use Rattle.proof_usb20.specs.OthersLaws.{law-data-out, law-poll-data-out, law-data-in, law-poll-data-in, law-accept}
+use Rattle.proof_usb20.specs.OthersLaws.{law-accept-address, law-poll-accept, law-reject}
+use Rattle.proof_usb20.specs.RestartingLaws.{law-set-stalled, law-bus-poll, law-allocate, law-allocate-all, law-start}
+use Rattle.proof_usb20.specs.TokensLaws.{law-interrupt}
 use Rattle.proof_usb20.specs.DataToggles.{toggles, words}
 
 not-ep0 : (D : Dir) (E : ℕ) → (E % 16 ≡ 0 → ⊥) → (d : Dir) → Else D E d 0
@@ -105,12 +107,12 @@ module _ (D : Dir) (E : ℕ) (z : (d : Dir) → Else D E d 0) where
   ups (at-end p) = at-end p
   ups (at-ask _ k) = at-ask tt (λ v t _ h. ups (k v t tt h))
 
-  few : (o : Op) {w : Track} {out : tree.Out St Answer} → Follow D E (follow.Ends D E o) w out
-      → Sees (toggles D E) (λ _ _. Unit {0}) (follow.EndsFew D E o) w out
+  few : (o : Op) {w : Track} {out : tree.Out St Answer} → Follow D E (following.Ends D E o) w out
+      → Sees (toggles D E) (λ _ _. Unit {0}) (following.EndsFew D E o) w out
   few o x = watch-more x (λ x a t p. (p .0, λ _. p .1))
 
   law-of : (o : Op) (w : Track) (s : St) → Fits w (view D E (s .0)) → isOn (epOn (s .0) D E .iso) ≡ false
-      → Sorting (s .0) → Sees (toggles D E) (λ _ _. Unit {0}) (follow.EndsFew D E o) (opens D E o w) (run concrete (code o) s)
+      → Sorting (s .0) → Sees (toggles D E) (λ _ _. Unit {0}) (following.EndsFew D E o) (opens D E o w) (run concrete (code o) s)
   law-of interrupt w s r i k = law-interrupt D E z w s r i k
   law-of (slotted o) w s r i k = few (slotted o) (of-slotted o w s r i k)
   law-of (other o) w s r i k = few (other o) (of-other o w s r i k)
@@ -292,7 +294,7 @@ module _ (D : Dir) (E : ℕ) (h : E % 16 ≡ 0 → ⊥) where
   -- two logs of one outcome
   together : {A : Type 0} {P : Track → A → St → Type 0} {Q : Writing → A → St → Type 0} {w : Track} {u : Writing} {o : tree.Out St A}
       → Sees (toggles D E) (λ _ _. Unit {0}) P w o
-      → Along (wrote D E) (λ _ _ _. Unit {0}) (follow.Keeps D E) (λ _ _. Unit {0}) Q u o
+      → Along (wrote D E) (λ _ _ _. Unit {0}) (following.Keeps D E) (λ _ _. Unit {0}) Q u o
       → Sees (words D E) (λ _ _. Unit {0}) (λ x a t. P (x .0) a t × Q (x .1) a t) (w, u) o
   together (at-end p) (at-end q) = at-end (p, q)
   together (at-ask _ f) (at-ask _ g) = at-ask tt (λ v t b k. together (f v t tt k) (g v t tt k))

@@ -1,14 +1,12 @@
 -- What the driver's state says of the endpoint, when that fits the log, and the law of a call
-use mathlib.Core.Bool.{Bool, true, false, cond}
-use mathlib.Core.Path.{_≡_, refl, subst, sym}
+use mathlib.Core.Bool.{Bool, false}
+use mathlib.Core.Path.{_≡_}
 use Prim.Native.Nat.{ℕ}
 use lib.Dec.{eqb}
-use Rattle.regs.specs.declared.Access.{Access}
 use Rattle.regs.specs.declared.Dir.{Dir}
 use Rattle.state.specs.declared.EpState.{EpState}
 use Rattle.state.specs.Driver.{Driver, epOn}
 use Rattle.model.specs.Tree as tree
-use Rattle.model.specs.Tree.{bindOut}
 use Rattle.model.specs.Answers.{Answer}
 use Rattle.model.specs.Calls.{Op, code}
 use Rattle.model.specs.Script.{run}
@@ -21,7 +19,6 @@ use Rattle.proof_book.specs.Sorting.{Sorting}
 use Rattle.model.specs.Machine.{ended}
 use Rattle.proof_wake_ups.specs.Rooms.{Few}
 use Rattle.proof_usb20.specs.Watch.{Along}
-use Rattle.proof_usb20.specs.WatchLaws.{watch-bind, watch-more, watch-cond}
 use Rattle.proof_usb20.specs.Sequence.{Track, saw, opens, closes, Fair}
 
 pub record Seen : Type 0 where
@@ -57,24 +54,6 @@ module _ (D : Dir) (E : ℕ) where
   -- `P` at each end, of what the log is then: nothing is asked of the chip, and any access is allowed
   abbrev pub Follow : {A : Type 0} → (Track → A → St → Type 0) → Track → tree.Out St A → Type 0
   Follow P w o = Along (saw D E) (λ _ _ _. Unit {0}) Keeps (λ _ _. Unit {0}) P w o
-
-  pub follow-bind : {A B : Type 0} {P : Track → A → St → Type 0} {Q : Track → B → St → Type 0} {w : Track}
-      {o : tree.Out St A} {f : A → St → tree.Out St B}
-      → Follow P w o → ((x : Track) (a : A) (s : St) → P x a s → Follow Q x (f a s)) → Follow Q w (bindOut o f)
-  follow-bind x k = watch-bind x k
-
-  pub follow-more : {A : Type 0} {P Q : Track → A → St → Type 0} {w : Track} {o : tree.Out St A}
-      → Follow P w o → ((x : Track) (a : A) (s : St) → P x a s → Q x a s) → Follow Q w o
-  follow-more x f = watch-more x f
-
-  pub follow-cond : {A : Type 0} {P : Track → A → St → Type 0} {w : Track} (b : Bool) {o u : tree.Out St A}
-      → (b ≡ true → Follow P w o) → (b ≡ false → Follow P w u) → Follow P w (cond b o u)
-  follow-cond b x y = watch-cond b x y
-
-  -- a log that is another's
-  pub follow-at : {A : Type 0} {P : Track → A → St → Type 0} {x y : Track} {o : tree.Out St A} → x ≡ y → Follow P y o
-      → Follow P x o
-  follow-at {P = P} {o = o} h f = subst (λ (u : Track). Follow P u o) (sym h) f
 
   abbrev pub Ends : Op → Track → Answer → St → Type 0
   Ends o w a s = Fits (closes D E o a w) (view (s .0)) × Fair D E o a w

@@ -69,38 +69,11 @@ before = record {
   wrote = keeps;
 }
 
-abbrev pub withRx : ℕ → Log → Log
-withRx v w = record {
-  rx = v;
-  tx = w .tx;
-  len = w .len;
-  pipe = w .pipe;
-  awaits = w .awaits;
-  untaken = w .untaken;
-  exempt = w .exempt;
-  phase = w .phase;
-  setup-seen = w .setup-seen;
-  wrote = w .wrote;
-}
-
-abbrev pub withTx : ℕ → Log → Log
-withTx v w = record {
-  rx = w .rx;
-  tx = v;
-  len = w .len;
-  pipe = w .pipe;
-  awaits = w .awaits;
-  untaken = w .untaken;
-  exempt = w .exempt;
-  phase = w .phase;
-  setup-seen = w .setup-seen;
-  wrote = w .wrote;
-}
-
-abbrev pub withLen : ℕ → Log → Log
-withLen n w = record {
-  rx = w .rx;
-  tx = w .tx;
+-- EP0's words
+abbrev pub withWords : ℕ → ℕ → ℕ → Log → Log
+withWords rx tx n w = record {
+  rx = rx;
+  tx = tx;
   len = n;
   pipe = w .pipe;
   awaits = w .awaits;
@@ -111,8 +84,24 @@ withLen n w = record {
   wrote = w .wrote;
 }
 
-abbrev pub withPhase : Phase → Log → Log
-withPhase p w = record {
+-- the pipe, what is waited for, whether a setup packet is untaken, and whether the log is exempt
+abbrev pub withPipe : Pipe → Awaited → Bool → Bool → Log → Log
+withPipe p a untaken exempt w = record {
+  rx = w .rx;
+  tx = w .tx;
+  len = w .len;
+  pipe = p;
+  awaits = a;
+  untaken = untaken;
+  exempt = exempt;
+  phase = w .phase;
+  setup-seen = w .setup-seen;
+  wrote = w .wrote;
+}
+
+-- what was seen of the call under way
+abbrev pub withSight : Phase → Bool → Setting → Log → Log
+withSight p s a w = record {
   rx = w .rx;
   tx = w .tx;
   len = w .len;
@@ -121,96 +110,42 @@ withPhase p w = record {
   untaken = w .untaken;
   exempt = w .exempt;
   phase = p;
-  setup-seen = w .setup-seen;
-  wrote = w .wrote;
+  setup-seen = s;
+  wrote = a;
 }
+
+abbrev pub withRx : ℕ → Log → Log
+withRx v w = withWords v (w .tx) (w .len) w
+
+abbrev pub withTx : ℕ → Log → Log
+withTx v w = withWords (w .rx) v (w .len) w
+
+abbrev pub withLen : ℕ → Log → Log
+withLen n w = withWords (w .rx) (w .tx) n w
+
+abbrev pub withPhase : Phase → Log → Log
+withPhase p w = withSight p (w .setup-seen) (w .wrote) w
 
 abbrev pub withFlags : Bool → Log → Log
-withFlags s w = record {
-  rx = w .rx;
-  tx = w .tx;
-  len = w .len;
-  pipe = w .pipe;
-  awaits = w .awaits;
-  untaken = w .untaken;
-  exempt = w .exempt;
-  phase = flagged;
-  setup-seen = s;
-  wrote = w .wrote;
-}
-
-abbrev pub withAwaits : Awaited → Log → Log
-withAwaits a w = record {
-  rx = w .rx;
-  tx = w .tx;
-  len = w .len;
-  pipe = w .pipe;
-  awaits = a;
-  untaken = w .untaken;
-  exempt = w .exempt;
-  phase = w .phase;
-  setup-seen = w .setup-seen;
-  wrote = w .wrote;
-}
-
-abbrev pub withTaken : Log → Log
-withTaken w = record {
-  rx = w .rx;
-  tx = w .tx;
-  len = w .len;
-  pipe = w .pipe;
-  awaits = w .awaits;
-  untaken = false;
-  exempt = w .exempt;
-  phase = w .phase;
-  setup-seen = w .setup-seen;
-  wrote = w .wrote;
-}
+withFlags s w = withSight flagged s (w .wrote) w
 
 abbrev pub withWrote : Setting → Log → Log
-withWrote s w = record {
-  rx = w .rx;
-  tx = w .tx;
-  len = w .len;
-  pipe = w .pipe;
-  awaits = w .awaits;
-  untaken = w .untaken;
-  exempt = w .exempt;
-  phase = w .phase;
-  setup-seen = w .setup-seen;
-  wrote = s;
-}
+withWrote a w = withSight (w .phase) (w .setup-seen) a w
+
+abbrev pub withAwaits : Awaited → Log → Log
+withAwaits a w = withPipe (w .pipe) a (w .untaken) (w .exempt) w
+
+abbrev pub withTaken : Log → Log
+withTaken w = withPipe (w .pipe) (w .awaits) false (w .exempt) w
 
 -- ---- the bus's events
 
 abbrev pub happens : Event → Log → Log
-happens e w = record {
-  rx = w .rx;
-  tx = w .tx;
-  len = w .len;
-  pipe = after e (w .pipe);
-  awaits = w .awaits;
-  untaken = w .untaken;
-  exempt = w .exempt || not (possible e (w .pipe));
-  phase = w .phase;
-  setup-seen = w .setup-seen;
-  wrote = w .wrote;
-}
+happens e w = withPipe (after e (w .pipe)) (w .awaits) (w .untaken) (w .exempt || not (possible e (w .pipe))) w
 
 -- a setup packet ends what the function waits for, and all exemption
 abbrev pub set-up : Log → Log
-set-up w = record {
-  rx = w .rx;
-  tx = w .tx;
-  len = w .len;
-  pipe = after setup (w .pipe);
-  awaits = nothing;  -- what was waited for is over
-  untaken = true;
-  exempt = false;
-  phase = w .phase;
-  setup-seen = w .setup-seen;
-  wrote = w .wrote;
-}
+set-up w = withPipe (after setup (w .pipe)) nothing true false w
 
 -- what the status shows of endpoint 0: a transaction that is complete, if the bus was free; the token in any case
 abbrev pub ofToken : tokens.Token → Bool → Bool → Log → Log
@@ -257,50 +192,17 @@ Brings w Callback x = Unit {0}
 -- ---- the function's choices
 
 abbrev pub choose : Choice → Log → Log
-choose c w = record {
-  rx = w .rx;
-  tx = w .tx;
-  len = w .len;
-  pipe = chosen c (w .pipe);
-  awaits = awaitedBy c;
-  untaken = w .untaken;
-  exempt = w .exempt || not (orderly c (w .pipe));
-  phase = w .phase;
-  setup-seen = w .setup-seen;
-  wrote = w .wrote;
-}
+choose c w = withPipe (chosen c (w .pipe)) (awaitedBy c) (w .untaken) (w .exempt || not (orderly c (w .pipe))) w
 
 abbrev pub exempted : Log → Log
-exempted w = record {
-  rx = w .rx;
-  tx = w .tx;
-  len = w .len;
-  pipe = w .pipe;
-  awaits = w .awaits;
-  untaken = w .untaken;
-  exempt = true;
-  phase = w .phase;
-  setup-seen = w .setup-seen;
-  wrote = w .wrote;
-}
+exempted w = withPipe (w .pipe) (w .awaits) (w .untaken) true w
 
 -- an operation begins: it has written no address
 abbrev pub afresh : Log → Log
 afresh w = withPhase off (withWrote keeps w)
 
 abbrev pub opens : Op → Log → Log
-opens interrupt w = record {
-  rx = w .rx;
-  tx = w .tx;
-  len = w .len;
-  pipe = w .pipe;
-  awaits = w .awaits;
-  untaken = w .untaken;
-  exempt = w .exempt;
-  phase = entered;
-  setup-seen = false;
-  wrote = keeps;
-}
+opens interrupt w = withSight entered false keeps w
 opens (slotted o) w = afresh w
 opens (other o) w = afresh w
 opens (aside o) w = afresh w

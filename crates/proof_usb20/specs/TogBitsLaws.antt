@@ -24,8 +24,8 @@ use Rattle.alloc.specs.declared.Answer.the-variants as alloc
 use Rattle.model.specs.Cells.{EpCore, Cell, Val, globals-cell, control-cell, allocator-cell, ep-cell, request-cell, paced-cell}
 use Rattle.model.specs.Script.{Script, run, ret, bind, test, read-then, write-then, wait-then, callback-then}
 use Rattle.model.specs.Script.{get-then, put-then, is-then, look-then, fetch-then, act-then, hand-then, row-then, Test}
-use Rattle.model.specs.Script.{Look, Fetch, Act, complete, reset-ring, set-enabled, fill, fill0, open-oldest}
-use Rattle.model.specs.Script.{close-oldest, take-oldest, enqueue, allocate, allocate0, no-wakes, waken, DmaStep, Burst}
+use Rattle.model.specs.Script.{Look, Fetch, Act}
+use Rattle.model.specs.Script.{DmaStep, Burst}
 use Rattle.model.specs.Script.{switch, bus-reset, lastOf}
 use Rattle.model.specs.Statics.{isOn, flag}
 use Rattle.model.specs.StepsRuns.{Holds, end, ask}
@@ -34,16 +34,13 @@ use Rattle.model.specs.MachineKept.{Lent}
 use Rattle.model_ops.specs.Records.{merged, recordGiven, setsGiven, givenTo, allocatedOn, startedWith, allocatedEp0}
 use Rattle.model_ops.specs.Rings.{St, renewedOn, armAt, slotStep, typeStep, configStep, resetBelow, resetAll}
 use Rattle.model_ops.specs.Concrete.{concrete}
-use Rattle.proof_usb20.specs.Follow.{Seen}
-use Rattle.proof_usb20.specs.Untouched.{Same, act-same, hand-same}
+use Rattle.proof_book.specs.LeavesLaws.{RingsOnly, turns, by-act, hand-leaves}
 use Rattle.proof_usb20.specs.TogBits.{IsBit, TogBits}
 
 -- ---- states
 
-same-bits : {d d′ : Driver} → Same d d′ → TogBits d → TogBits d′
-same-bits p k = record {
-  bits = λ dir e. subst IsBit (sym (ap (λ (x : Seen). x .tog) (p .flags dir e))) (k .bits dir e);
-}
+rings-bits : (t : Bool) {d d′ : Driver} → RingsOnly t d d′ → TogBits d → TogBits d′
+rings-bits t p k = record { bits = λ dir e. subst IsBit (sym (ap (λ (x : EpCore). x .tog) (p .each dir e))) (k .bits dir e) }
 
 else-bits : {d d′ : Driver} → d′ .eps ≡ d .eps → TogBits d → TogBits d′
 unfolding epOn
@@ -101,23 +98,11 @@ started-bits maximum (alloc.Given e base slots) k = else-bits refl k
 
 act-bits : (q : Act) (s : St) → TogBits (s .0) → TogBits (concrete .act q s .0)
 unfolding allocatedOn allocatedEp0
-act-bits (complete e) s k = same-bits (act-same (complete e) refl s) k
-act-bits (reset-ring dir e) s k = same-bits (act-same (reset-ring dir e) refl s) k
-act-bits (set-enabled dir e on) s k = same-bits (act-same (set-enabled dir e on) refl s) k
-act-bits (fill e bytes) s k = k
-act-bits (fill0 bytes) s k = k
-act-bits (open-oldest e) s k = same-bits (act-same (open-oldest e) refl s) k
-act-bits (close-oldest e) s k = same-bits (act-same (close-oldest e) refl s) k
-act-bits (take-oldest e) s k = same-bits (act-same (take-oldest e) refl s) k
-act-bits (enqueue e bytes) s k = same-bits (act-same (enqueue e bytes) refl s) k
-act-bits (allocate dir kind address maximum interval) s k =
-    let z = allocateOf (s .0 .allocator) kind address maximum dir in
-    given-bits dir kind maximum interval (z .answer) (else-bits refl k)
-act-bits (allocate0 maximum) s k =
-    let z = allocateEp0Of (s .0 .allocator) maximum in
-    started-bits maximum (z .answer) (else-bits refl k)
-act-bits no-wakes s k = else-bits refl k
-act-bits (waken codes) s k = else-bits refl k
+act-bits q s k =
+    let a = s .0 .allocator in
+    by-act {K = λ _ d. TogBits d} s (λ q _ p. rings-bits (turns q) p k)
+    (λ dir kind address maximum interval. given-bits dir kind maximum interval (allocateOf a kind address maximum dir .answer) (else-bits refl k))
+    (λ maximum. started-bits maximum (allocateEp0Of a maximum .answer) (else-bits refl k)) q
 
 -- ---- rows
 
@@ -228,7 +213,7 @@ module _ {i : Bool} {A : Type 0} where
   k-act {q} h = record { on = λ s b. h .on _ (act-bits q s b) }
 
   pub k-hand : {q : DmaStep} {p : Script i A} → Keeps p → Keeps (hand-then q p)
-  k-hand {q} h = record { on = λ s b. ask (same-bits (hand-same q s) b) (λ v t c. h .on t c) }
+  k-hand {q} h = record { on = λ s b. ask (rings-bits false (hand-leaves q s) b) (λ v t c. h .on t c) }
 
 pub k-row : {A : Type 0} {g : Burst} {p : Script false A} → Keeps p → Keeps (row-then g p)
 k-row {g = g} h = record { on = λ s b. holds-rows concrete g (row-bits g) (lastOf g) (λ t c. h .on t c) s b }

@@ -1,7 +1,5 @@
 -- What holds on every way through an outcome, as a log of it sees it: as `Every` of model/specs, whose chip is told
 -- the accesses alone, but told the numbers brought too
-use mathlib.Core.Bool.{Bool}
-use mathlib.Core.Path.{_≡_}
 use Prim.Native.Nat.{ℕ}
 use Rattle.regs.specs.declared.Access.{Access}
 use Rattle.model.specs.Tree as tree

@@ -3,6 +3,7 @@ pub mod Sets
 pub mod Answers
 pub mod ChannelsLaws
 pub mod SetsLaws
+pub mod AnswersLaws
 pub mod BestLaws
 pub mod Promises
 pub mod Alike

@@ -27,16 +27,16 @@ use Rattle.model_ops.specs.Records.{plainOf, merged}
 use Rattle.model_ops.specs.Rings.{St}
 use Rattle.model_ops.specs.Concrete.{concrete}
 use Rattle.proof_book.specs.TransferKindsLaws.{put-steady, act-steady}
-use Rattle.proof_usb20.specs.Exempt.{differ}
+use Rattle.proof_usb20.specs.ExemptLaws.{differ}
 use Rattle.proof_usb20.specs.Sequence as log
 use Rattle.proof_usb20.specs.Sequence.{Track, off, withPhase, own, opens, closes, takes, taken, awaits, loaded, Fair}
-use Rattle.proof_usb20.specs.Follow as follow
+use Rattle.proof_usb20.specs.FollowLaws as follow
 use Rattle.proof_usb20.specs.Follow.{Seen, seenOf, FitsAs, Fits, view, Follow, Ends, Law}
 use Rattle.proof_usb20.specs.Watch.{at-end, at-ask}
-use Rattle.proof_usb20.specs.Untouched.{act-view}
-use Rattle.proof_usb20.specs.Calm.{Whole, Off, Else, Quiet, loose, put-request, q-act, q-bind, q-enabled, q-ends}
-use Rattle.proof_usb20.specs.Calm.{q-ep, q-fetch, q-got, q-is, q-put, q-reg, q-resultless, q-ret, q-staged}
-use Rattle.proof_usb20.specs.Calm.{q-test, q-write}
+use Rattle.proof_usb20.specs.FollowLaws.{act-view}
+use Rattle.proof_usb20.specs.CalmLaws.{Whole, Off, Else, Quiet, loose, put-request, q-act, q-bind, q-enabled, q-ends}
+use Rattle.proof_usb20.specs.CalmLaws.{q-ep, q-fetch, q-got, q-is, q-put, q-reg, q-resultless, q-ret, q-staged}
+use Rattle.proof_usb20.specs.CalmLaws.{q-test, q-write}
 
 module _ (D : Dir) (E : ℕ) where
   -- ---- a call that tells the log nothing

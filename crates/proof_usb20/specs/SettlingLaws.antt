@@ -23,15 +23,27 @@ use Rattle.model.specs.Every.{sameReg}
 use Rattle.model.specs.Handler.{looks, nakNonIso, settle, waitsForIso, waitsForBulk, isoFor}
 use Rattle.model_ops.specs.Rings.{St}
 use Rattle.model_ops.specs.Concrete.{concrete}
-use Rattle.proof_usb20.specs.Exempt.{differ}
-use Rattle.proof_usb20.specs.Fitting.{both}
+use Rattle.proof_usb20.specs.ExemptLaws.{differ}
+use Rattle.proof_usb20.specs.FittingLaws.{both}
 use Rattle.proof_usb20.specs.Sequence.{Track, shows, again, withPhase, own, mine, tokenFor, saw}
-use Rattle.proof_usb20.specs.Follow as follow
+use Rattle.proof_usb20.specs.FollowLaws as follow
+use Rattle.proof_usb20.specs.Follow as following
 use Rattle.proof_usb20.specs.Follow.{Seen, view, Follow}
 use Rattle.proof_usb20.specs.Watch.{at-end, at-ask}
-use Rattle.proof_usb20.specs.Calm.{Else, Kept, Hears, kept-by, hears-same, hears-then, Quiet, q-bind, q-got, q-read, q-ret, q-test, q-when, q-write}
-use Rattle.proof_usb20.specs.Reading.{Own, own-true, got}
-use Rattle.proof_usb20.specs.Judging.{back}
+use Rattle.proof_usb20.specs.CalmLaws.{Else, Kept, Hears, kept-by, hears-same, hears-then, Quiet, q-bind, q-got, q-read, q-ret, q-test, q-when, q-write}
+use Rattle.proof_usb20.specs.ReadingLaws.{Own, own-true, got}
+use Rattle.proof_usb20.specs.JudgingLaws.{back}
+
+-- a token of a direction's: one of two
+by-token : (d : Dir) (t : Token) → tokenFor d t ≡ true → (P : Dir → Token → Type 0) → (d ≡ Out → P Out tok.Out) → (d ≡ In → P In tok.In) → P d t
+by-token Out tok.Out h P o i = o refl
+by-token In tok.In h P o i = i refl
+by-token Out tok.In h P o i = differ h
+by-token Out tok.Sof h P o i = differ h
+by-token Out tok.Setup h P o i = differ h
+by-token In tok.Out h P o i = differ h
+by-token In tok.Sof h P o i = differ h
+by-token In tok.Setup h P o i = differ h
 
 module _ (D : Dir) (E : ℕ) where
   -- the phase in which the status is known: control words and the bus's state tell the log nothing
@@ -93,54 +105,27 @@ module _ (D : Dir) (E : ℕ) where
 
     pub not-iso : isoFor (token st) O N ≡ false
     unfolding isoFor
-    not-iso = by D refl (token st) its-token
-      where
-        by : (d : Dir) → D ≡ d → (t : Token) → tokenFor d t ≡ true → isoFor t O N ≡ false
-        by Out g tok.Out h = plain Out g
-        by In g tok.In h = plain In g
-        by Out g tok.In h = differ h
-        by Out g tok.Sof h = differ h
-        by Out g tok.Setup h = differ h
-        by In g tok.Out h = differ h
-        by In g tok.Sof h = differ h
-        by In g tok.Setup h = differ h
+    not-iso = by-token D (token st) its-token (λ _ t. isoFor t O N ≡ false) (λ g. plain Out g) (λ g. plain In g)
 
     pub no-iso-wait : (x : Transfer) → x .st ≡ st → waitsForIso x O ≡ false
     unfolding waitsForIso isOut
-    no-iso-wait x e = rw e (by D refl (token st) its-token)
+    no-iso-wait x e = rw e
+        (by-token D (token st) its-token (λ _ t. x .busy && (outToken t && isOn (O .iso)) ≡ false)
+        (λ g. rw (plain Out g) (last (x .busy))) (λ g. last (x .busy)))
       where
         last : (b : Bool) → b && false ≡ false
         last true = refl
         last false = refl
 
-        by : (d : Dir) → D ≡ d → (t : Token) → tokenFor d t ≡ true → x .busy && (outToken t && isOn (O .iso)) ≡ false
-        by Out g tok.Out h = rw (plain Out g) (last (x .busy))
-        by In g tok.In h = last (x .busy)
-        by Out g tok.In h = differ h
-        by Out g tok.Sof h = differ h
-        by Out g tok.Setup h = differ h
-        by In g tok.Out h = differ h
-        by In g tok.Sof h = differ h
-        by In g tok.Setup h = differ h
-
     pub bulk-wait : (x : Transfer) → x .st ≡ st → waitsForBulk x N ≡ x .busy
     unfolding waitsForBulk isOut isIn
-    bulk-wait x e = rw (e, not-zero) (by D refl (token st) its-token)
+    bulk-wait x e = rw (e, not-zero)
+        (by-token D (token st) its-token (λ _ t. x .busy && (outToken t || (inToken t && not (isOn (N .iso)))) ≡ x .busy)
+        (λ g. last (x .busy)) (λ g. rw (plain In g) (last (x .busy))))
       where
         last : (b : Bool) → b && true ≡ b
         last true = refl
         last false = refl
-
-        by : (d : Dir) → D ≡ d → (t : Token) → tokenFor d t ≡ true
-            → x .busy && (outToken t || (inToken t && not (isOn (N .iso)))) ≡ x .busy
-        by Out g tok.Out h = last (x .busy)
-        by In g tok.In h = rw (plain In g) (last (x .busy))
-        by Out g tok.In h = differ h
-        by Out g tok.Sof h = differ h
-        by Out g tok.Setup h = differ h
-        by In g tok.Out h = differ h
-        by In g tok.Sof h = differ h
-        by In g tok.Setup h = differ h
 
   module _ (z : (d : Dir) → Else D E d 0) where
     -- an answer of a wait that a token of the endpoint would not give
@@ -154,7 +139,7 @@ module _ (D : Dir) (E : ℕ) where
     not-mine-iso s i x q h = differ (sym (no-iso-wait s i z (x .st) h x refl) ∙ q)
 
     -- after one access more
-    after : (s a t : St) → Hears D E true s a → follow.Keeps D E a t → Hears D E true s t
+    after : (s a t : St) → Hears D E true s a → following.Keeps D E a t → Hears D E true s t
     after s a t h p = hears-then D E h (hears-same D E {s = a} {t = t} (p .2))
 
     abbrev same : (s : St) → Hears D E true s s

@@ -16,8 +16,8 @@ use Rattle.proof_usb20.specs.Pipe.{Stage, data-stage, status-stage, acks
 use Rattle.proof_usb20.specs.Pipe.{Setting, Choice, takes, gives, confirms, rejects, chosen, orderly}
 use Rattle.proof_usb20.specs.Log.{Log, withRx, withTx, withLen, choose}
 use Rattle.proof_usb20.specs.Ep0.{Rec, View, Fits, no-request, first-wait, Confirms, Rel, R}
-use Rattle.proof_usb20.specs.Views.{setOut, setIn, setControl}
-use Rattle.proof_usb20.specs.Exempt.{differ}
+use Rattle.proof_usb20.specs.ViewsLaws.{setOut, setIn, setControl}
+use Rattle.proof_usb20.specs.ExemptLaws.{differ}
 
 -- ---- words
 

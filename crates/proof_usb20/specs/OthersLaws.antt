@@ -29,17 +29,17 @@ use Rattle.model_ops.specs.Rings.{St}
 use Rattle.model_ops.specs.Concrete.{concrete}
 use Rattle.proof_book.specs.Sorting.{Sorting}
 use Rattle.proof_usb20.specs.Sequence.{Track, before}
-use Rattle.proof_usb20.specs.Follow as follow
+use Rattle.proof_usb20.specs.FollowLaws as follow
 use Rattle.proof_usb20.specs.Follow.{Seen, view, Follow, Law}
 use Rattle.proof_usb20.specs.Watch.{at-end}
-use Rattle.proof_usb20.specs.Calm.{Off, Else, Quiet, loose, only, off-idle, off-read, put-globals, put-control}
-use Rattle.proof_usb20.specs.Calm.{put-paced, q-act, q-bind, q-enabled, q-ep, q-fetch, q-got, q-is, q-look}
-use Rattle.proof_usb20.specs.Calm.{q-operation, q-put, q-reg, q-resultless, q-ret, q-staged, q-test, q-when}
-use Rattle.proof_usb20.specs.Calm.{q-write}
-use Rattle.proof_usb20.specs.CalmParts.{q-completions}
-use Rattle.proof_usb20.specs.Exempt.{differ}
-use Rattle.proof_usb20.specs.Reading as reading
-use Rattle.proof_usb20.specs.Reading.{quiet-law}
+use Rattle.proof_usb20.specs.CalmLaws.{Off, Else, Quiet, loose, only, off-idle, off-read, put-globals, put-control}
+use Rattle.proof_usb20.specs.CalmLaws.{put-paced, q-act, q-bind, q-enabled, q-ep, q-fetch, q-got, q-is, q-look}
+use Rattle.proof_usb20.specs.CalmLaws.{q-operation, q-put, q-reg, q-resultless, q-ret, q-staged, q-test, q-when}
+use Rattle.proof_usb20.specs.CalmLaws.{q-write}
+use Rattle.proof_usb20.specs.CalmPartsLaws.{q-completions}
+use Rattle.proof_usb20.specs.ExemptLaws.{differ}
+use Rattle.proof_usb20.specs.ReadingLaws as reading
+use Rattle.proof_usb20.specs.ReadingLaws.{quiet-law}
 
 module _ (D : Dir) (E : ℕ) where
   abbrev Q : {i : Bool} {A : Type 0} → Script i A → Type 0

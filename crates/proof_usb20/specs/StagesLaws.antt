@@ -24,12 +24,12 @@ use Rattle.proof_usb20.specs.Log.{afresh}
 use Rattle.proof_usb20.specs.Watch.{at-end, at-ask}
 use Rattle.proof_usb20.specs.WatchLaws.{watch-cond}
 use Rattle.proof_usb20.specs.Ep0.{View, view, no-request, Rel, Law}
-use Rattle.proof_usb20.specs.Exempt.{differ, exempt-law}
-use Rattle.proof_usb20.specs.Views.{rec, setOut, setIn, setControl, put-out, put-in, put-control}
-use Rattle.proof_usb20.specs.Same.{act-view}
-use Rattle.proof_usb20.specs.Fitting.{acked-ack, acked-one, stall-stalls, stall-keeps, status-acks, status-one}
-use Rattle.proof_usb20.specs.Fitting.{fits-takes, fits-gives, fits-gives-last, fits-confirms, fits-rejects, on}
-use Rattle.proof_usb20.specs.Fitting.{off}
+use Rattle.proof_usb20.specs.ExemptLaws.{differ, exempt-law}
+use Rattle.proof_usb20.specs.ViewsLaws.{rec, setOut, setIn, setControl, put-out, put-in, put-control}
+use Rattle.proof_usb20.specs.Ep0Laws.{act-view}
+use Rattle.proof_usb20.specs.FittingLaws.{acked-ack, acked-one, stall-stalls, stall-keeps, status-acks, status-one}
+use Rattle.proof_usb20.specs.FittingLaws.{fits-takes, fits-gives, fits-gives-last, fits-confirms, fits-rejects, on}
+use Rattle.proof_usb20.specs.FittingLaws.{off}
 
 -- ---- states
 

@@ -22,12 +22,13 @@ use Rattle.state.specs.Kept.{withIntEn}
 use Rattle.frame.specs.Usb20.{indexOf}
 use Rattle.model.specs.declared.Transfer.{Transfer}
 use Rattle.model.specs.Cells.{EpCore, ep-cell, globals-cell}
-use Rattle.model.specs.Script.{Script, read, get, when, run, waken, no-wakes, setup-word, _>>=_, _>>_}
+use Rattle.model.specs.Script.{get, when, run, waken, no-wakes, setup-word, _>>=_, _>>_}
 use Rattle.model.specs.Statics.{isOn, withReady, withArmed, withSetup, withEntered, modifyIntEn, wakeBus}
 use Rattle.model.specs.Calls.{interrupt}
-use Rattle.model.specs.Handler.{entered, nakNonIso, isoFor, ownIn, framed, released, served, onTransfer, onSetup, onInterrupt}
+use Rattle.model.specs.Handler.{entered, nakNonIso, isoFor, ownIn, framed, released, onTransfer, onSetup, onInterrupt}
 use Rattle.model_ops.specs.Rings.{St}
 use Rattle.model_ops.specs.Concrete.{concrete}
+use Rattle.proof_usb20.specs.FramesLaws.{framed-st, frames}
 use Rattle.proof_book.specs.TransferKindsLaws.{act-steady}
 use Rattle.proof_usb20.specs.Log.{Log, off, flagged, shows, withRx, withTx, withPhase, withFlags, seen, opens, set-up}
 use Rattle.proof_usb20.specs.Pipe as pipe
@@ -35,14 +36,14 @@ use Rattle.proof_usb20.specs.Log as log
 use Rattle.proof_usb20.specs.Watch.{at-end, at-ask}
 use Rattle.proof_usb20.specs.WatchLaws.{watch-bind, watch-more, watch-cond}
 use Rattle.proof_usb20.specs.Ep0.{Watch, View, view, Rel, R, Keeps, Law}
-use Rattle.proof_usb20.specs.Exempt.{differ}
-use Rattle.proof_usb20.specs.Views.{setOut, setIn, setReady, put-globals}
-use Rattle.proof_usb20.specs.Same.{act-view}
-use Rattle.proof_usb20.specs.Stages.{outWith, inWith, out-view, in-view, out-whole}
-use Rattle.proof_usb20.specs.Quiet.{Plainly, plainly, steadily, Any, put-kept}
-use Rattle.proof_usb20.specs.Events.{aborted, set-up-fits}
-use Rattle.proof_usb20.specs.Interrupt.{back, Exactly, Served, naked, NotIso, servedAs, q-served, served-ep0}
-use Rattle.proof_usb20.specs.Entry.{Settled, others, mine, entry, settles, nak-other, nak-own, naked-busy}
+use Rattle.proof_usb20.specs.ExemptLaws.{differ}
+use Rattle.proof_usb20.specs.ViewsLaws.{setOut, setIn, setReady, put-globals}
+use Rattle.proof_usb20.specs.Ep0Laws.{act-view}
+use Rattle.proof_usb20.specs.StagesLaws.{outWith, inWith, out-view, in-view, out-whole}
+use Rattle.proof_usb20.specs.QuietLaws.{Plainly, plainly, steadily, Any, put-kept}
+use Rattle.proof_usb20.specs.EventsLaws.{aborted, set-up-fits}
+use Rattle.proof_usb20.specs.InterruptLaws.{back, Exactly, Served, naked, NotIso, servedAs, q-served, served-ep0}
+use Rattle.proof_usb20.specs.EntryLaws.{Settled, others, mine, entry, settles, nak-other, nak-own, naked-busy}
 
 -- ---- the NAK before the release
 
@@ -116,24 +117,8 @@ not-own x t iso sof frame e i = by t e i
     by tok.Sof e i = rw e (nothing (x .busy) iso)
     by tok.Setup e i = rw e (nothing (x .busy) iso)
 
-framed-st : (x : Transfer) (iso : Bool) (sof frame : ℕ) → framed x iso sof frame .st ≡ x .st
-framed-st x iso sof frame = by (ownIn x iso sof frame)
-  where
-    by : (b : Bool) → cond b (released x) x .st ≡ x .st
-    by true = refl
-    by false = refl
-
-abbrev rest : Transfer → Script true Unit
-rest x = do
-  o ← get (ep-cell Out (endpoint (x .st)))
-  n ← get (ep-cell In (endpoint (x .st)))
-  let iso = isoFor (token (x .st)) o n
-  frame ← read FrameNo 0
-  g ← get globals-cell
-  served (framed x iso (g .«sof_frame») frame) iso frame
-
 serves : (w : Log) (v : View) (x : Transfer) (l : Log) (t : St) {su : Bool} → R w v → v .stage ≡ 2 → w .setup-seen ≡ su
-    → Settled w v l x t → Watch Keeps Any (Served su) l (run concrete (rest x) t)
+    → Settled w v l x t → Watch Keeps Any (Served su) l (run concrete (frames x) t)
 serves w v x l t {su = su} r two e (others h b m q k) = back m (at-ask {q = Read FrameNo 0} tt (λ frame u _ i.
     let iso = isoFor (token (x .st)) (concrete .get (ep-cell Out (endpoint (x .st))) t) (concrete .get (ep-cell In (endpoint (x .st))) t) in
     let y = framed x iso (u .0 .globals .«sof_frame») frame in

@@ -23,7 +23,7 @@ use Rattle.state.specs.Laws.{key-apart}
 use Rattle.frame.specs.Usb20.{indexOf}
 use Rattle.model.specs.declared.Transfer.{Transfer}
 use Rattle.model.specs.Cells.{ep-cell, globals-cell}
-use Rattle.model.specs.Script.{Script, bind, run, when, get, read, write, no-wakes, _>>=_, _>>_}
+use Rattle.model.specs.Script.{Script, bind, run, when, get, write, no-wakes, _>>=_, _>>_}
 use Rattle.model.specs.Statics.{isOn, flag, isoInEvery, withEntered, modifyIntEn, wakeBus}
 use Rattle.model.specs.IsoIn.{onSof, lateWalk}
 use Rattle.model.specs.IsoOut.{isoOutCheck}
@@ -37,20 +37,22 @@ use Rattle.proof_wake_ups.specs.Rooms.{Few}
 use Rattle.proof_book.specs.Sorting.{Sorting}
 use Rattle.model_ops.specs.Rings.{St}
 use Rattle.model_ops.specs.Concrete.{concrete}
-use Rattle.proof_usb20.specs.Exempt.{differ}
-use Rattle.proof_usb20.specs.Fitting.{both}
+use Rattle.proof_usb20.specs.ExemptLaws.{differ}
+use Rattle.proof_usb20.specs.FittingLaws.{both}
 use Rattle.proof_usb20.specs.Sequence as log
 use Rattle.proof_usb20.specs.Sequence.{Track, off, flagged, shows, due, withPhase, own, mine, tokenFor, howOften, saw}
-use Rattle.proof_usb20.specs.Follow as follow
+use Rattle.proof_usb20.specs.FollowLaws as follow
+use Rattle.proof_usb20.specs.Follow as following
 use Rattle.proof_usb20.specs.Follow.{Seen, Fits, view, Follow, EndsFew}
 use Rattle.proof_usb20.specs.Watch.{at-end, at-ask}
-use Rattle.proof_usb20.specs.Untouched.{act-view}
-use Rattle.proof_usb20.specs.Calm.{Idle, Off, Hush, Else, Kept, Stays, Quiet, kept-by, hears-same, heard}
-use Rattle.proof_usb20.specs.Calm.{put-kept, put-hears, only, off-idle, off-hush, put-globals, q-bind, q-ins}
-use Rattle.proof_usb20.specs.Calm.{q-wake-bus, q-got, q-int-en, q-ret, q-when, q-write}
-use Rattle.proof_usb20.specs.CalmParts.{q-check, q-dispatch, q-ep0-moved, q-late, q-setup, q-sof}
-use Rattle.proof_usb20.specs.Judging.{back, Heard, heard-on, Done, arm-out, arm-in, due-idle}
-use Rattle.proof_usb20.specs.Settling.{Settled, deaf, settles, its-token, not-zero, not-iso, q-nak}
+use Rattle.proof_usb20.specs.FollowLaws.{act-view}
+use Rattle.proof_usb20.specs.CalmLaws.{Idle, Off, Hush, Else, Kept, Stays, Quiet, kept-by, hears-same, heard}
+use Rattle.proof_usb20.specs.CalmLaws.{put-kept, put-hears, only, off-idle, off-hush, put-globals, q-bind, q-ins}
+use Rattle.proof_usb20.specs.CalmLaws.{q-wake-bus, q-got, q-int-en, q-ret, q-when, q-write}
+use Rattle.proof_usb20.specs.CalmPartsLaws.{q-check, q-dispatch, q-ep0-moved, q-late, q-setup, q-sof}
+use Rattle.proof_usb20.specs.JudgingLaws.{back, Heard, heard-on, Done, arm-out, arm-in, due-idle}
+use Rattle.proof_usb20.specs.FramesLaws.{framed-st, frames}
+use Rattle.proof_usb20.specs.SettlingLaws.{Settled, deaf, settles, its-token, not-zero, not-iso, q-nak}
 
 -- ---- the endpoint's token is served
 
@@ -178,26 +180,9 @@ module _ (D : Dir) (E : ℕ) (z : (d : Dir) → Else D E d 0) where
   token-is : (d : Dir) (t u : Token) → t ≡ u → tokenFor d u ≡ true → tokenFor d t ≡ true
   token-is d t u e h = ap (tokenFor d) e ∙ h
 
-  -- the frame is read
-  framed-st : (x : Transfer) (iso : Bool) (sof frame : ℕ) → framed x iso sof frame .st ≡ x .st
-  framed-st x iso sof frame = by (ownIn x iso sof frame)
-    where
-      by : (b : Bool) → cond b (released x) x .st ≡ x .st
-      by true = refl
-      by false = refl
-
   not-framed : (x : Transfer) (iso : Bool) (sof frame : ℕ) → x .busy ≡ false → framed x iso sof frame ≡ x
   unfolding ownIn
   not-framed x iso sof frame b = ap (λ (c : Bool). cond (c && (iso && (isIn (x .st) && eqb sof frame))) (released x) x) b
-
-  abbrev frames : Transfer → Script true Unit
-  frames x = do
-    o ← get (ep-cell Out (endpoint (x .st)))
-    n ← get (ep-cell In (endpoint (x .st)))
-    let iso = isoFor (token (x .st)) o n
-    frame ← read FrameNo 0
-    g ← get globals-cell
-    served (framed x iso (g .«sof_frame») frame) iso frame
 
   due-now : (st n : ℕ) (w : Track) (b : Bool) → mine D E st ≡ b → (v : ℕ)
       → saw D E (withPhase (shows st n) w) (Read FrameNo 0) v ≡ withPhase (cond b (due n) off) w
@@ -211,7 +196,7 @@ module _ (D : Dir) (E : ℕ) (z : (d : Dir) → Else D E d 0) where
       i-here : isOn (epOn (t .0) D E .iso) ≡ false
       i-here = ap (λ (q : Seen). isOn (q .iso)) (m .view) ∙ i
 
-      heard-here : (u : St) → follow.Keeps D E t u → heard D E u ≡ 0
+      heard-here : (u : St) → following.Keeps D E t u → heard D E u ≡ 0
       heard-here u p = hears-same D E {m = true} {s = t} {t = u} (p .2) .same refl ∙ (m .hears .same refl ∙ none)
 
       by : (b : Bool) → mine D E (x .st) ≡ b
@@ -308,7 +293,7 @@ module _ (D : Dir) (E : ℕ) (z : (d : Dir) → Else D E d 0) where
       → Follow D E (Done D E) (withPhase log.entered w) (run concrete (onInterrupt {i = true}) s)
   on-interrupt w s quiet none ks r i two = at-ask tt (λ f a _ p. by f a p (transfer f) refl)
     where
-      by : (f : ℕ) (a : St) → follow.Keeps D E s a → (b : Bool) → transfer f ≡ b
+      by : (f : ℕ) (a : St) → following.Keeps D E s a → (b : Bool) → transfer f ≡ b
           → Follow D E (Done D E) (saw D E (withPhase log.entered w) (Read IntFg 0) f)
           (run concrete (bind (when {i = true} (busRst f) (bind (modifyIntEn (λ w. withBusRst w false)) (λ _. wakeBus)))
           (λ _. bind (when (suspend f) (bind (modifyIntEn (λ w. withSuspend w false)) (λ _. wakeBus)))

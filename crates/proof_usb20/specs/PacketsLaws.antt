@@ -32,7 +32,7 @@ use Rattle.model_ops.specs.Rings.{St}
 use Rattle.model_ops.specs.Concrete.{concrete}
 use Rattle.proof_book.specs.TransferKindsLaws.{put-steady}
 use Rattle.proof_toggles.specs.Toggles.{Whole, same-ep}
-use Rattle.proof_usb20.specs.Exempt.{differ}
+use Rattle.proof_usb20.specs.ExemptLaws.{differ}
 
 -- the record of a new packet: taken (OUT) with its length, or sent (IN); the bit as it is now
 abbrev pub delivered : Dir → Pid → ℕ → EpCore → EpCore

@@ -1,10 +1,8 @@
 -- Scripts that leave the endpoint's record and the log alone, and how they are put together
-use mathlib.Core.Bool.{Bool, true, false, cond}
-use mathlib.Core.List.{List, [], _∷_, _++_}
-use mathlib.Core.Logic.{_⊎_, inl, inr}
+use mathlib.Core.Bool.{Bool, true, false}
+use mathlib.Core.List.{List}
 use mathlib.Core.Path.{_≡_, refl, ap, subst, sym, _∙_}
-use Prim.Native.Nat.{ℕ, zero, suc, _+_, _%_, _≤_, _<_}
-use native.Mathlib.Decide.{decLt}
+use Prim.Native.Nat.{ℕ, zero, suc, _+_, _%_, _≤_}
 use borrow.Author.Tests.{ne-eqb}
 use native.Mathlib.Omega.{arith}
 use lib.Dec.{eqb}
@@ -19,9 +17,9 @@ use Rattle.state.specs.declared.Globals.{Globals}
 use Rattle.state.specs.declared.Request.{Request}
 use Rattle.state.specs.declared.Control.{Control}
 use Rattle.state.specs.Kept.{withIntEn}
-use Rattle.state.specs.Wakes.{Wakes, wakeCode, busCode, listed, woken, all-woken}
-use Rattle.state.specs.WakesLaws.{Room, woken-keeps, woken-full, woken-count, woken-listed}
-use Rattle.proof_wake_ups.specs.Still.{put-still, act-still, hand-still}
+use Rattle.state.specs.Wakes.{Wakes, wakeCode, busCode, listed}
+use Rattle.state.specs.WakesLaws.{Room}
+use Rattle.proof_wake_ups.specs.Still.{Other, put-still, act-still, hand-still}
 use Rattle.state.specs.Driver.{Driver, key, noEp, epOn, withOn, withRequestOn, withPacedOn}
 use Rattle.model.specs.Tree as tree
 use Rattle.model.specs.Cells.{EpCore, Cell, Val, ep-cell, globals-cell, control-cell, request-cell, paced-cell}
@@ -40,20 +38,21 @@ use Rattle.model_ops.specs.Concrete.{concrete}
 use Rattle.proof_book.specs.TransferKinds.{Steady, Has}
 use Rattle.proof_book.specs.TransferKindsLaws.{put-steady, act-steady, hand-steady}
 use Rattle.proof_book.specs.Sorting.{sortsOf}
-use Rattle.proof_usb20.specs.Walks.{Each, each-set}
+use Rattle.proof_usb20.specs.WalksLaws.{Each, each-set}
 use Rattle.proof_usb20.specs.Sequence.{off, Track, howOften, reads, writes, saw}
-use Rattle.proof_usb20.specs.Follow as follow
+use Rattle.proof_usb20.specs.FollowLaws as follow
 use Rattle.proof_usb20.specs.Follow.{Seen, seenOf, view, Keeps, Follow}
 use Rattle.proof_usb20.specs.Watch.{at-end, at-ask}
-use Rattle.proof_usb20.specs.Untouched.{same-view, record-same, act-view, hand-view}
+use Rattle.proof_usb20.specs.WokenLaws.{Others, all-others}
+use Rattle.proof_usb20.specs.FollowLaws.{record-view, act-view, hand-view}
 use Rattle.bits.specs.Walk.{setBits}
 use Rattle.model.specs.Script.{when, get, act, no-wakes}
 use Rattle.model.specs.Statics.{wake, wakeBus, isoInEvery, isoOuts, modify, modifyEp, modifyReg, modifyIntEn}
 use Rattle.model.specs.Answers.{Answer, staged, operation, resultless}
 use Rattle.model.specs.Handler.{looks}
 use Rattle.model.specs.Endpoint.{enabled-else, ends-request, no-request}
-use Rattle.proof_usb20.specs.Exempt.{differ}
-use Rattle.proof_usb20.specs.Views.{ep-other}
+use Rattle.proof_usb20.specs.ExemptLaws.{differ}
+use Rattle.proof_usb20.specs.ViewsLaws.{ep-other}
 
 -- the records' places
 abbrev pub Whole : St → Type 0
@@ -183,62 +182,10 @@ module _ (D : Dir) (E : ℕ) where
 
   -- ---- wake-ups
 
-  -- codes of others
-  abbrev pub Others : List ℕ → Type 0
-  Others codes = Each (λ c. eqb c (wakeCode D E) ≡ false) codes
-
-  often-last : (l : List ℕ) (c : ℕ)
-      → howOften (wakeCode D E) (l ++ (c ∷ [])) ≡ howOften (wakeCode D E) l + cond (eqb c (wakeCode D E)) 1 0
-  often-last [] c = omega arith
-  often-last (x ∷ l) c = omega (arith, often-last l c)
-
-  -- one more, in a list with room or full
-  pub woken-room : (c : ℕ) (w : Wakes) → Room w → Room (woken c w)
-  woken-room c w r = by (decLt (w .count) 64)
-    where
-      by : Dec (w .count < 64) → Room (woken c w)
-      by (yes h) = woken-keeps c w r h
-      by (no h) = subst Room (sym (woken-full c w (omega (arith, h)))) r
-
-  pub woken-grows : (c : ℕ) (w : Wakes) → w .count ≤ woken c w .count
-  woken-grows c w = by (decLt (w .count) 64)
-    where
-      by : Dec (w .count < 64) → w .count ≤ woken c w .count
-      by (yes h) = omega (arith, woken-count c w h)
-      by (no h) = omega (arith, ap (λ (v : Wakes). v .count) (woken-full c w (omega (arith, h))))
-
-  woken-other : (c : ℕ) (w : Wakes) → Room w → eqb c (wakeCode D E) ≡ false
-      → howOften (wakeCode D E) (listed (woken c w)) ≡ howOften (wakeCode D E) (listed w)
-  woken-other c w r h = by (decLt (w .count) 64)
-    where
-      by : Dec (w .count < 64) → howOften (wakeCode D E) (listed (woken c w)) ≡ howOften (wakeCode D E) (listed w)
-      by (yes l) = ap (howOften (wakeCode D E)) (woken-listed c w r l)
-          ∙ (often-last (listed w) c ∙ (ap (λ (b : Bool). howOften (wakeCode D E) (listed w) + cond b 1 0) h ∙ omega arith))
-      by (no l) = ap (λ (v : Wakes). howOften (wakeCode D E) (listed v)) (woken-full c w (omega (arith, l)))
-
-  -- its own code, once more; or the list is full
-  pub woken-own : (c : ℕ) (w : Wakes) → Room w → eqb c (wakeCode D E) ≡ true
-      → (64 ≤ woken c w .count) ⊎ (howOften (wakeCode D E) (listed (woken c w)) ≡ howOften (wakeCode D E) (listed w) + 1)
-  woken-own c w r h = by (decLt (w .count) 64)
-    where
-      by : Dec (w .count < 64)
-          → (64 ≤ woken c w .count) ⊎ (howOften (wakeCode D E) (listed (woken c w)) ≡ howOften (wakeCode D E) (listed w) + 1)
-      by (yes l) = inr
-          (ap (howOften (wakeCode D E)) (woken-listed c w r l)
-          ∙ (often-last (listed w) c ∙ ap (λ (b : Bool). howOften (wakeCode D E) (listed w) + cond b 1 0) h))
-      by (no l) = inl (omega (arith, l, ap (λ (v : Wakes). v .count) (woken-full c w (omega (arith, l)))))
-
-  all-others : (cs : List ℕ) (w : Wakes) → Room w → Others cs
-      → Room (all-woken cs w) × (howOften (wakeCode D E) (listed (all-woken cs w)) ≡ howOften (wakeCode D E) (listed w)) × (w .count ≤ all-woken cs w .count)
-  all-others [] w r o = (r, refl, omega arith)
-  all-others (c ∷ cs) w r o =
-      let n = all-others cs (woken c w) (woken-room c w r) (o .1) in
-      (n .0, n .1 ∙ woken-other c w r (o .0), omega (arith, n .2, woken-grows c w))
-
   -- which operations leave them
   abbrev pub Silent : Bool → Act → Type 0
   Silent m no-wakes = m ≡ false
-  Silent m (waken codes) = m ≡ true → Others codes
+  Silent m (waken codes) = m ≡ true → Others (wakeCode D E) codes
   Silent m (complete e) = Unit {0}
   Silent m (reset-ring d e) = Unit {0}
   Silent m (set-enabled d e on) = Unit {0}
@@ -250,6 +197,10 @@ module _ (D : Dir) (E : ℕ) where
   Silent m (enqueue e bytes) = Unit {0}
   Silent m (allocate d kind address maximum interval) = Unit {0}
   Silent m (allocate0 maximum) = Unit {0}
+
+  still-kept : {m : Bool} (q : Act) → allocates q ≡ false → Other q → (s : St) → Kept m s
+      → Kept m (concrete .act q s) × Hears m s (concrete .act q s)
+  still-kept q h o s k = let e = act-still q o s in (kept-steady (act-steady q h s) e k, hears-same e)
 
   pub act-kept : {m : Bool} (q : Act) → allocates q ≡ false → Silent m q → (s : St) → Kept m s
       → Kept m (concrete .act q s) × Hears m s (concrete .act q s)
@@ -269,37 +220,22 @@ module _ (D : Dir) (E : ℕ) where
           whole = p .places ∙ k .whole;
           sorts = λ h. record { flags = λ dir e. refl; outs = λ e l g. k .sorts h .outs e l g; every = λ e l g. k .sorts h .every e l g };
           plain = λ h. k .plain h;
-          room = λ h. all-others codes (s .0 .wakes) (k .room h) (o h) .0;
+          room = λ h. all-others (wakeCode D E) codes (s .0 .wakes) (k .room h) (o h) .0;
         },
-        record { same = λ h. all-others codes (s .0 .wakes) (k .room h) (o h) .1; grows = λ h. all-others codes (s .0 .wakes) (k .room h) (o h) .2 },
+        record {
+          same = λ h. all-others (wakeCode D E) codes (s .0 .wakes) (k .room h) (o h) .1;
+          grows = λ h. all-others (wakeCode D E) codes (s .0 .wakes) (k .room h) (o h) .2;
+        },
       )
-  act-kept (complete e) h o s k = (kept-steady (act-steady (complete e) h s) (act-still (complete e) tt s) k, hears-same (act-still (complete e) tt s))
-  act-kept (reset-ring d e) h o s k = (
-    kept-steady (act-steady (reset-ring d e) h s) (act-still (reset-ring d e) tt s) k,
-    hears-same (act-still (reset-ring d e) tt s),
-  )
-  act-kept (set-enabled d e on) h o s k = (
-    kept-steady (act-steady (set-enabled d e on) h s) (act-still (set-enabled d e on) tt s) k,
-    hears-same (act-still (set-enabled d e on) tt s),
-  )
-  act-kept (fill e bytes) h o s k = (kept-steady (act-steady (fill e bytes) h s) (act-still (fill e bytes) tt s) k, hears-same (act-still (fill e bytes) tt s))
-  act-kept (fill0 bytes) h o s k = (kept-steady (act-steady (fill0 bytes) h s) (act-still (fill0 bytes) tt s) k, hears-same (act-still (fill0 bytes) tt s))
-  act-kept (open-oldest e) h o s k = (
-    kept-steady (act-steady (open-oldest e) h s) (act-still (open-oldest e) tt s) k,
-    hears-same (act-still (open-oldest e) tt s),
-  )
-  act-kept (close-oldest e) h o s k = (
-    kept-steady (act-steady (close-oldest e) h s) (act-still (close-oldest e) tt s) k,
-    hears-same (act-still (close-oldest e) tt s),
-  )
-  act-kept (take-oldest e) h o s k = (
-    kept-steady (act-steady (take-oldest e) h s) (act-still (take-oldest e) tt s) k,
-    hears-same (act-still (take-oldest e) tt s),
-  )
-  act-kept (enqueue e bytes) h o s k = (
-    kept-steady (act-steady (enqueue e bytes) h s) (act-still (enqueue e bytes) tt s) k,
-    hears-same (act-still (enqueue e bytes) tt s),
-  )
+  act-kept (complete e) h o s k = still-kept (complete e) h tt s k
+  act-kept (reset-ring d e) h o s k = still-kept (reset-ring d e) h tt s k
+  act-kept (set-enabled d e on) h o s k = still-kept (set-enabled d e on) h tt s k
+  act-kept (fill e bytes) h o s k = still-kept (fill e bytes) h tt s k
+  act-kept (fill0 bytes) h o s k = still-kept (fill0 bytes) h tt s k
+  act-kept (open-oldest e) h o s k = still-kept (open-oldest e) h tt s k
+  act-kept (close-oldest e) h o s k = still-kept (close-oldest e) h tt s k
+  act-kept (take-oldest e) h o s k = still-kept (take-oldest e) h tt s k
+  act-kept (enqueue e bytes) h o s k = still-kept (enqueue e bytes) h tt s k
   act-kept (allocate d kind address maximum interval) h o s k = differ (sym h)
   act-kept (allocate0 maximum) h o s k = differ (sym h)
 
@@ -445,7 +381,7 @@ module _ (D : Dir) (E : ℕ) where
   -- `last_frame` of any
   pub put-frame : (d : Dir) (e frame : ℕ) (s : St)
       → view D E (concrete .put (ep-cell d e) (withLastFrame frame (concrete .get (ep-cell d e) s)) s .0) ≡ view D E (s .0)
-  put-frame d e frame s = same-view D E (record-same (s .0) d e (merged (epOn (s .0) d e) (withLastFrame frame (concrete .get (ep-cell d e) s))) refl)
+  put-frame d e frame s = record-view D E (s .0) d e (merged (epOn (s .0) d e) (withLastFrame frame (concrete .get (ep-cell d e) s))) refl
 
   pub put-globals : (g : Globals) (s : St) → view D E (concrete .put globals-cell g s .0) ≡ view D E (s .0)
   unfolding epOn

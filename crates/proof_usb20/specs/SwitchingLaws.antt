@@ -22,11 +22,11 @@ use Rattle.model_ops.specs.Concrete.{concrete}
 use Rattle.proof_usb20.specs.Log.{Log, saw}
 use Rattle.proof_usb20.specs.Watch.{at-end}
 use Rattle.proof_usb20.specs.Ep0.{Watch, view, recOf, Keeps, Law}
-use Rattle.proof_usb20.specs.Views.{made, ep-other}
-use Rattle.proof_usb20.specs.Quiet.{Plainly, Stays, Any, Quiet, asked, onward, apart, q-ret, q-bind, q-test}
-use Rattle.proof_usb20.specs.Quiet.{q-write, q-act, q-hand, q-put, Other, put-kept, other-word, other-length}
-use Rattle.proof_usb20.specs.Parts.{q-got, q-wake, q-ep}
-use Rattle.proof_usb20.specs.Tasks.{Numbered, quiet-law, q-staged, q-named, q-resultless, put-paced}
+use Rattle.proof_usb20.specs.ViewsLaws.{made, ep-other}
+use Rattle.proof_usb20.specs.QuietLaws.{Plainly, Stays, Any, Quiet, asked, onward, apart, q-ret, q-bind, q-test}
+use Rattle.proof_usb20.specs.QuietLaws.{q-write, q-act, q-hand, q-put, Other, put-kept, other-word, other-length}
+use Rattle.proof_usb20.specs.PartsLaws.{q-got, q-wake, q-ep}
+use Rattle.proof_usb20.specs.TasksLaws.{Numbered, quiet-law, q-staged, q-named, q-resultless, put-paced}
 
 -- another endpoint's record
 with-other : (d : Driver) (e : ℕ) (r : EpState) → Other e → view (withOn d Out e r) ≡ view d

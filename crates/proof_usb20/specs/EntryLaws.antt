@@ -24,10 +24,10 @@ use Rattle.proof_usb20.specs.Log.{Log, shows, again, writes, saw, withRx
 use Rattle.proof_usb20.specs.Watch.{at-end, at-ask}
 use Rattle.proof_usb20.specs.WatchLaws.{watch-bind, watch-more, watch-cond}
 use Rattle.proof_usb20.specs.Ep0.{Watch, View, view, Keeps}
-use Rattle.proof_usb20.specs.Exempt.{differ}
-use Rattle.proof_usb20.specs.Fitting.{both, negated}
-use Rattle.proof_usb20.specs.Quiet.{Plainly, plainly, Any, other-word}
-use Rattle.proof_usb20.specs.Interrupt.{back, Exactly, naked}
+use Rattle.proof_usb20.specs.ExemptLaws.{differ}
+use Rattle.proof_usb20.specs.FittingLaws.{both, negated}
+use Rattle.proof_usb20.specs.QuietLaws.{Plainly, plainly, Any, other-word}
+use Rattle.proof_usb20.specs.InterruptLaws.{back, Exactly, naked}
 
 -- ---- NAK before the release
 
@@ -66,6 +66,15 @@ module _ (w : Log) (b : Bool) (shown : ℕ) (s : St) (k : Plainly s) where
   not-iso : (st : ℕ) → eqb (endpoint st) 0 ≡ true → isOn (concrete .get (ep-cell In (endpoint st)) s .iso) ≡ false
   not-iso st h = ap (λ (e : ℕ). isOn (concrete .get (ep-cell In e) s .iso)) (eqb-true (endpoint st) 0 h) ∙ k .plain In
 
+  neither : (st : ℕ) → eqb (endpoint st) 0 ≡ true → (t : Token) → token st ≡ t → outToken t ≡ false → inToken t ≡ false
+      → Watch Keeps Any (Exactly (L w) (view (s .0))) (L w) (run concrete (nakNonIso {i = true} st) s)
+  neither st h t e a c =
+      watch-cond (outNaks st (concrete .get (ep-cell Out (endpoint st)) s))
+      (λ q. differ (sym (out-naks st (concrete .get (ep-cell Out (endpoint st)) s) t e h ∙ ap (λ (z : Bool). z && togOk st) a) ∙ q))
+      (λ _. watch-cond (inNaks st (concrete .get (ep-cell In (endpoint st)) s))
+      (λ q. differ (sym (in-naks st (concrete .get (ep-cell In (endpoint st)) s) t e (not-iso st h) ∙ c) ∙ q))
+      (λ _. at-end (refl, refl, k)))
+
   -- EP0's
   pub nak-own : (st : ℕ) → eqb (endpoint st) 0 ≡ true → (t : Token) → token st ≡ t → (ok : Bool) → togOk st ≡ ok
       → Watch Keeps Any (Exactly (L (naked t false ok w)) (view (s .0))) (L w) (run concrete (nakNonIso {i = true} st) s)
@@ -93,26 +102,8 @@ module _ (w : Log) (b : Bool) (shown : ℕ) (s : St) (k : Plainly s) where
         plainly (j .1),
       ))))
       (λ q. differ (sym q ∙ in-naks st (concrete .get (ep-cell In (endpoint st)) s) tok.In e (not-iso st h))))
-  nak-own st h tok.Sof e ok o = neither tok.Sof e refl refl
-    where
-      neither : (t : Token) → token st ≡ t → outToken t ≡ false → inToken t ≡ false
-          → Watch Keeps Any (Exactly (L w) (view (s .0))) (L w) (run concrete (nakNonIso {i = true} st) s)
-      neither t e a c =
-          watch-cond (outNaks st (concrete .get (ep-cell Out (endpoint st)) s))
-          (λ q. differ (sym (out-naks st (concrete .get (ep-cell Out (endpoint st)) s) t e h ∙ ap (λ (z : Bool). z && togOk st) a) ∙ q))
-          (λ _. watch-cond (inNaks st (concrete .get (ep-cell In (endpoint st)) s))
-          (λ q. differ (sym (in-naks st (concrete .get (ep-cell In (endpoint st)) s) t e (not-iso st h) ∙ c) ∙ q))
-          (λ _. at-end (refl, refl, k)))
-  nak-own st h tok.Setup e ok o = neither tok.Setup e refl refl
-    where
-      neither : (t : Token) → token st ≡ t → outToken t ≡ false → inToken t ≡ false
-          → Watch Keeps Any (Exactly (L w) (view (s .0))) (L w) (run concrete (nakNonIso {i = true} st) s)
-      neither t e a c =
-          watch-cond (outNaks st (concrete .get (ep-cell Out (endpoint st)) s))
-          (λ q. differ (sym (out-naks st (concrete .get (ep-cell Out (endpoint st)) s) t e h ∙ ap (λ (z : Bool). z && togOk st) a) ∙ q))
-          (λ _. watch-cond (inNaks st (concrete .get (ep-cell In (endpoint st)) s))
-          (λ q. differ (sym (in-naks st (concrete .get (ep-cell In (endpoint st)) s) t e (not-iso st h) ∙ c) ∙ q))
-          (λ _. at-end (refl, refl, k)))
+  nak-own st h tok.Sof e ok o = neither st h tok.Sof e refl refl
+  nak-own st h tok.Setup e ok o = neither st h tok.Setup e refl refl
 
 -- ---- the transfer settles
 

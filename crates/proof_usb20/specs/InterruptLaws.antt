@@ -33,13 +33,13 @@ use Rattle.proof_usb20.specs.Log.{Log, off, reads, withRx, withTx, withP
 use Rattle.proof_usb20.specs.Watch.{at-end, at-ask}
 use Rattle.proof_usb20.specs.WatchLaws.{watch-bind, watch-more, watch-cond}
 use Rattle.proof_usb20.specs.Ep0.{Watch, Rec, View, view, Rel, R, Keeps}
-use Rattle.proof_usb20.specs.Exempt.{differ}
-use Rattle.proof_usb20.specs.Views.{setOut, setIn}
-use Rattle.proof_usb20.specs.Same.{act-view}
-use Rattle.proof_usb20.specs.Stages.{outWith, inWith, out-view, in-view, in-whole}
-use Rattle.proof_usb20.specs.Quiet.{Plainly, plainly, steadily, Any, Quiet, q-ret, q-bind, q-if, q-every}
-use Rattle.proof_usb20.specs.Parts.{q-got, q-when, q-sof, q-late, q-check, q-sof-arm, q-dispatch}
-use Rattle.proof_usb20.specs.Events.{completed, packet-out, packet-in, token-out, token-in}
+use Rattle.proof_usb20.specs.ExemptLaws.{differ}
+use Rattle.proof_usb20.specs.ViewsLaws.{setOut, setIn}
+use Rattle.proof_usb20.specs.Ep0Laws.{act-view}
+use Rattle.proof_usb20.specs.StagesLaws.{outWith, inWith, out-view, in-view, in-whole}
+use Rattle.proof_usb20.specs.QuietLaws.{Plainly, plainly, steadily, Any, Quiet, q-ret, q-bind, q-if, q-every}
+use Rattle.proof_usb20.specs.PartsLaws.{q-got, q-when, q-sof, q-late, q-check, q-sof-arm, q-dispatch}
+use Rattle.proof_usb20.specs.EventsLaws.{completed, packet-out, packet-in, token-out, token-in}
 
 -- ---- the events, of a log that may be exempt
 
@@ -121,6 +121,9 @@ Exactly w v x a t = (x ≡ w) × (view (t .0) ≡ v) × Plainly t
 read-off : (w : Log) (r : Reg) (v : ℕ) → w .phase ≡ off → reads (w .phase) r v w ≡ w
 read-off w r v z = ap (λ p. reads p r v w) z
 
+flags : (p : EpCore) → (p .ready ≡ 1) × (p .armed ≡ 0) → _≡_ {A = Rec} (record { ready = p .ready; armed = p .armed }) completed
+flags p q = rw (q .0, q .1) refl
+
 -- EP0's word of a direction is read, changed and written; then its record completed
 flipped-out : (f : ℕ → ℕ) (g : EpCore → EpCore) (w : Log) (s : St) → ((p : EpCore) → (g p .ready ≡ 1) × (g p .armed ≡ 0))
     → w .phase ≡ off
@@ -134,15 +137,11 @@ flipped-out f g w s c z = at-ask {q = Read EpRxCtrl 0} tt (λ v t b k. back (rea
     at-end (
       ap (λ n. withRx (f n) w) (b .0 refl),
       act-view (waken (wakeCode Out 0 ∷ [])) refl o ∙ (out-view g u h
-          ∙ (ap (λ (r : Rec). setOut r (view (u .0))) (made (g (concrete .get (ep-cell Out 0) u)) (c (concrete .get (ep-cell Out 0) u)))
+          ∙ (ap (λ (r : Rec). setOut r (view (u .0))) (flags (g (concrete .get (ep-cell Out 0) u)) (c (concrete .get (ep-cell Out 0) u)))
           ∙ ap (setOut completed) (l .0 ∙ k .0))),
       steadily (act-steady (waken (wakeCode Out 0 ∷ [])) refl o)
           (steadily (put-steady (ep-cell Out 0) (g (concrete .get (ep-cell Out 0) u)) u) (plainly (l .1))),
     ))))
-  where
-    made : (p : EpCore) → (p .ready ≡ 1) × (p .armed ≡ 0)
-        → _≡_ {A = Rec} (record { ready = p .ready; armed = p .armed }) completed
-    made p q = rw (q .0, q .1) refl
 
 flipped-in : (f : ℕ → ℕ) (g : EpCore → EpCore) (w : Log) (s : St) → ((p : EpCore) → (g p .ready ≡ 1) × (g p .armed ≡ 0))
     → w .phase ≡ off
@@ -156,14 +155,10 @@ flipped-in f g w s c z = at-ask {q = Read EpTxCtrl 0} tt (λ v t b k. back (read
     at-end (
       ap (λ n. withTx (f n) w) (b .1 refl),
       act-view (waken (wakeCode In 0 ∷ [])) refl o ∙ (in-view g u h
-          ∙ (ap (λ (r : Rec). setIn r (view (u .0))) (made (g (concrete .get (ep-cell In 0) u)) (c (concrete .get (ep-cell In 0) u)))
+          ∙ (ap (λ (r : Rec). setIn r (view (u .0))) (flags (g (concrete .get (ep-cell In 0) u)) (c (concrete .get (ep-cell In 0) u)))
           ∙ ap (setIn completed) (l .0 ∙ k .0))),
       steadily (act-steady (waken (wakeCode In 0 ∷ [])) refl o) (steadily (put-steady (ep-cell In 0) (g (concrete .get (ep-cell In 0) u)) u) (plainly (l .1))),
     ))))
-  where
-    made : (p : EpCore) → (p .ready ≡ 1) × (p .armed ≡ 0)
-        → _≡_ {A = Rec} (record { ready = p .ready; armed = p .armed }) completed
-    made p q = rw (q .0, q .1) refl
 
 -- a packet IN
 sent-in : (w : Log) (s : St) → w .phase ≡ off

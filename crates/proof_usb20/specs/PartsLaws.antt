@@ -24,15 +24,15 @@ use Rattle.model.specs.IsoIn.{firstInFrame, isoInComplete, unseen, sofOne, sofW
 use Rattle.model.specs.IsoOut.{arrives, checkWalk, isoOutCheck}
 use Rattle.model.specs.Handler.{looks, toggled, received, sent, sofArm, dispatch}
 use Rattle.model_ops.specs.Concrete.{concrete}
-use Rattle.proof_usb20.specs.Exempt.{differ}
+use Rattle.proof_usb20.specs.ExemptLaws.{differ}
 use Rattle.proof_book.specs.TransferKindsLaws.{put-steady}
 use Rattle.frame.specs.Usb20.{indexOf, frameOf}
 use Rattle.frame.specs.Advance.{previous}
 use Rattle.proof_usb20.specs.Watch.{at-end}
-use Rattle.proof_usb20.specs.Quiet.{Quiet, steadily, q-ret, q-bind, q-test, q-if, q-read, q-write, q-callback}
-use Rattle.proof_usb20.specs.Quiet.{q-get, q-is, q-look, q-act, q-hand, q-modify, Other, put-other, put-frame}
-use Rattle.proof_usb20.specs.Quiet.{put-kept, other-word, other-length, q-every}
-use Rattle.proof_usb20.specs.Walks.{Each}
+use Rattle.proof_usb20.specs.QuietLaws.{Quiet, steadily, q-ret, q-bind, q-test, q-if, q-read, q-write, q-callback}
+use Rattle.proof_usb20.specs.QuietLaws.{q-get, q-is, q-look, q-act, q-hand, q-modify, Other, put-other, put-frame}
+use Rattle.proof_usb20.specs.QuietLaws.{put-kept, other-word, other-length, q-every}
+use Rattle.proof_usb20.specs.WalksLaws.{Each}
 
 -- ---- small ones
 

@@ -27,9 +27,9 @@ use Rattle.model_ops.specs.Records.{withIsoSets, isoAdded, withSets, recordGive
 use Rattle.model_ops.specs.Concrete.{concrete}
 use Rattle.proof_usb20.specs.Sequence.{Track}
 use Rattle.proof_usb20.specs.Follow.{FitsAs, Fits, view}
-use Rattle.proof_usb20.specs.Calm.{Whole}
-use Rattle.proof_usb20.specs.Views.{ep-other}
-use Rattle.proof_usb20.specs.Reading.{Own, own-ep, own-with, fits-2}
+use Rattle.proof_usb20.specs.CalmLaws.{Whole}
+use Rattle.proof_usb20.specs.ViewsLaws.{ep-other}
+use Rattle.proof_usb20.specs.ReadingLaws.{Own, own-ep, own-with, fits-2}
 
 module _ (D : Dir) (E : ℕ) where
   -- ---- what becomes of the endpoint's record where one is written anew

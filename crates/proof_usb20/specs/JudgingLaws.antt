@@ -29,14 +29,15 @@ use Rattle.model.specs.Usb20Toggles.{Pid, DATA0, DATA1, same}
 use Rattle.model_ops.specs.Rings.{St}
 use Rattle.model_ops.specs.Concrete.{concrete}
 use Rattle.proof_book.specs.TransferKindsLaws.{act-steady}
-use Rattle.proof_usb20.specs.Exempt.{differ}
+use Rattle.proof_usb20.specs.ExemptLaws.{differ}
 use Rattle.proof_usb20.specs.Sequence.{Track, off, due, owes, withPhase, own, shown, lengthOf, judged, acksAs, howOften, reads, saw}
-use Rattle.proof_usb20.specs.Follow as follow
+use Rattle.proof_usb20.specs.FollowLaws as follow
 use Rattle.proof_usb20.specs.Follow.{Seen, Fits, view, Follow}
 use Rattle.proof_usb20.specs.Watch.{at-end, at-ask}
-use Rattle.proof_usb20.specs.Untouched.{act-view}
-use Rattle.proof_usb20.specs.Calm.{Idle, Kept, Hears, kept-by, hears-same, hears-then, heard, put-kept, put-hears, woken-room, woken-own, q-looks}
-use Rattle.proof_usb20.specs.Reading.{Own, own-true, got, changed, fits-2}
+use Rattle.proof_usb20.specs.FollowLaws.{act-view}
+use Rattle.proof_usb20.specs.CalmLaws.{Idle, Kept, Hears, kept-by, hears-same, hears-then, heard, put-kept, put-hears, q-looks}
+use Rattle.proof_usb20.specs.WokenLaws.{woken-room, woken-own}
+use Rattle.proof_usb20.specs.ReadingLaws.{Own, own-true, got, changed, fits-2}
 
 pub back : (D : Dir) (E : ℕ) {A : Type 0} {P : Track → A → St → Type 0} {x y : Track} {o : tree.Out St A} → x ≡ y
     → Follow D E P y o → Follow D E P x o
@@ -190,11 +191,11 @@ module _ (D : Dir) (E e : ℕ) (o : Own D E D e) (u : St) (l : Kept D E true u) 
     whole = act-steady (waken (wakeCode D e ∷ [])) refl u .places ∙ l .whole;
     sorts = λ h. record { flags = λ dir e. refl; outs = λ e n g. l .sorts h .outs e n g; every = λ e n g. l .sorts h .every e n g };
     plain = λ h. l .plain h;
-    room = λ h. woken-room D E (wakeCode D e) (u .0 .wakes) (l .room h);
+    room = λ h. woken-room (wakeCode D e) (u .0 .wakes) (l .room h);
   }
 
   woken-heard : (y : Track) → y .new ≡ true → heard D E u ≡ 0 → Heard D E y (concrete .act (waken (wakeCode D e ∷ [])) u)
-  woken-heard y n h = by (woken-own D E (wakeCode D e) (u .0 .wakes) (l .room refl) (code-own D E e o))
+  woken-heard y n h = by (woken-own (wakeCode D E) (wakeCode D e) (u .0 .wakes) (l .room refl) (code-own D E e o))
     where
       by : (64 ≤ woken (wakeCode D e) (u .0 .wakes) .count) ⊎ (howOften (wakeCode D E) (listed (woken (wakeCode D e) (u .0 .wakes))) ≡ heard D E u + 1)
           → Heard D E y (concrete .act (waken (wakeCode D e ∷ [])) u)

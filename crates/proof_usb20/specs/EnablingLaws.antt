@@ -34,19 +34,20 @@ use Rattle.model_ops.specs.Concrete.{concrete}
 use Rattle.proof_book.specs.TransferKindsLaws.{act-steady, row-steady}
 use Rattle.proof_usb20.specs.Sequence as log
 use Rattle.proof_usb20.specs.Sequence.{Track, off, withPhase, own, saw, armsAt, Writing, written, withWord, unwritten-yet, Restarts, Acks, wrote, Leaves}
-use Rattle.proof_usb20.specs.Follow as follow
+use Rattle.proof_usb20.specs.FollowLaws as follow
+use Rattle.proof_usb20.specs.Follow as following
 use Rattle.proof_usb20.specs.Follow.{Seen, FitsAs, Fits, view, Follow, Ends, Law}
 use Rattle.proof_usb20.specs.Watch.{Along, at-end, at-ask}
 use Rattle.proof_usb20.specs.WatchLaws.{watch-bind, watch-cond, watch-any}
-use Rattle.proof_usb20.specs.Exempt.{differ}
+use Rattle.proof_usb20.specs.ExemptLaws.{differ}
 use Rattle.model.specs.TogglesLaws.{number}
 use Rattle.model.specs.Answers.{Answer, isAllocated, resultless}
-use Rattle.proof_usb20.specs.Untouched.{act-view}
-use Rattle.proof_usb20.specs.Calm.{Whole, Off, Else, Hush, Kept, Stays, Quiet, loose, loosely, asked, onward}
-use Rattle.proof_usb20.specs.Calm.{with-other, put-globals, put-paced, q-act, q-bind, q-ep, q-got, q-hand, q-put}
-use Rattle.proof_usb20.specs.Calm.{q-resultless, q-ret, q-staged, q-test, q-wake, q-write}
-use Rattle.proof_usb20.specs.Reading as reading
-use Rattle.proof_usb20.specs.Reading.{quiet-law, Own, changed, fits-2, whole-put, own-true, own-false, not-and, iso-own}
+use Rattle.proof_usb20.specs.FollowLaws.{act-view}
+use Rattle.proof_usb20.specs.CalmLaws.{Whole, Off, Else, Hush, Kept, Stays, Quiet, loose, loosely, asked, onward}
+use Rattle.proof_usb20.specs.CalmLaws.{with-other, put-globals, put-paced, q-act, q-bind, q-ep, q-got, q-hand, q-put}
+use Rattle.proof_usb20.specs.CalmLaws.{q-resultless, q-ret, q-staged, q-test, q-wake, q-write}
+use Rattle.proof_usb20.specs.ReadingLaws as reading
+use Rattle.proof_usb20.specs.ReadingLaws.{quiet-law, Own, changed, fits-2, whole-put, own-true, own-false, not-and, iso-own}
 
 module _ (D : Dir) (E : ℕ) where
   -- ---- enabled and disabled
@@ -232,7 +233,7 @@ not-own false c h k = differ k
 
 module _ (D : Dir) (E : ℕ) where
   abbrev pub Marks : {A : Type 0} → (Writing → A → St → Type 0) → Writing → tree.Out St A → Type 0
-  Marks P u o = Along (wrote D E) (λ _ _ _. Unit {0}) (follow.Keeps D E) (λ _ _. Unit {0}) P u o
+  Marks P u o = Along (wrote D E) (λ _ _ _. Unit {0}) (following.Keeps D E) (λ _ _. Unit {0}) P u o
 
   abbrev pub WordLaw : Op → Type 0
   WordLaw o = (w : Track) (s : St) → Fits w (view D E (s .0)) → isOn (epOn (s .0) D E .iso) ≡ false

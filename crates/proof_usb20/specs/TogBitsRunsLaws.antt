@@ -19,7 +19,7 @@ use Rattle.proof_book.specs.Code.{Made, CallStep}
 use Rattle.proof_book.specs.CodeReadings.{Steps, bytesAfter, slotsAfter}
 use Rattle.proof_usb20.specs.TogBits.{TogBits}
 use Rattle.proof_usb20.specs.TogBitsLaws.{bit-0}
-use Rattle.proof_usb20.specs.TogBitsCalls.{k-call, k-starting}
+use Rattle.proof_usb20.specs.TogBitsCallsLaws.{k-call, k-starting}
 
 fresh-bits : (c : Config) → TogBits (driverOf .fresh c)
 unfolding freshDriver epOn

@@ -12,9 +12,9 @@ use Rattle.proof_usb20.specs.Pipe.{data-stage, status-stage, Answers, na
 use Rattle.proof_usb20.specs.Pipe.{isReady, dataReady, Pipe, with, setup, packet, token, after, Awaited, nothing}
 use Rattle.proof_usb20.specs.Pipe.{taken, given, confirmed}
 use Rattle.proof_usb20.specs.Ep0.{Rec, View, Fits, Rests, no-request, set-up, Gives, first-wait, second-wait, Waits, Rel}
-use Rattle.proof_usb20.specs.Views.{setOut, setIn, setReady}
-use Rattle.proof_usb20.specs.Exempt.{differ}
-use Rattle.proof_usb20.specs.Fitting.{on, off, nak-naks}
+use Rattle.proof_usb20.specs.ViewsLaws.{setOut, setIn, setReady}
+use Rattle.proof_usb20.specs.ExemptLaws.{differ}
+use Rattle.proof_usb20.specs.FittingLaws.{on, off, nak-naks}
 
 abbrev pub completed : Rec
 completed = record { ready = 1; armed = 0 }

@@ -43,14 +43,14 @@ use Rattle.proof_usb20.specs.Log.{Log, before, exempted, afresh, opens, 
 use Rattle.proof_usb20.specs.Watch.{at-end, at-ask}
 use Rattle.proof_usb20.specs.WatchLaws.{watch-bind, watch-more, watch-cond, watch-any}
 use Rattle.proof_usb20.specs.Ep0.{Watch, View, view, R, Keeps, Ends, Law}
-use Rattle.proof_usb20.specs.Exempt.{differ, Task, exempt-law}
-use Rattle.proof_usb20.specs.Same.{act-view}
-use Rattle.proof_usb20.specs.Fitting.{both}
-use Rattle.proof_usb20.specs.Quiet as quiet
-use Rattle.proof_usb20.specs.Quiet.{plainly, steadily, Any, Quiet, Stays, q-ret, q-bind, q-test, q-if, q-read}
-use Rattle.proof_usb20.specs.Quiet.{q-write, q-is, q-look, q-fetch, q-act, q-put, put-other, put-kept, other-word}
-use Rattle.proof_usb20.specs.Quiet.{other-length}
-use Rattle.proof_usb20.specs.Parts.{q-got, q-wake, q-when, q-reg, q-ep, q-complete}
+use Rattle.proof_usb20.specs.ExemptLaws.{differ, Task, exempt-law}
+use Rattle.proof_usb20.specs.Ep0Laws.{act-view}
+use Rattle.proof_usb20.specs.FittingLaws.{both}
+use Rattle.proof_usb20.specs.QuietLaws as quiet
+use Rattle.proof_usb20.specs.QuietLaws.{plainly, steadily, Any, Quiet, Stays, q-ret, q-bind, q-test, q-if, q-read}
+use Rattle.proof_usb20.specs.QuietLaws.{q-write, q-is, q-look, q-fetch, q-act, q-put, put-other, put-kept, other-word}
+use Rattle.proof_usb20.specs.QuietLaws.{other-length}
+use Rattle.proof_usb20.specs.PartsLaws.{q-got, q-wake, q-when, q-reg, q-ep, q-complete}
 
 -- ---- a quiet call
 

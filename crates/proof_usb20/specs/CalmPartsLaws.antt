@@ -11,7 +11,7 @@ use Rattle.regs.specs.Registers.{ctrlOf}
 use Rattle.model.specs.Cells.{ep-cell, globals-cell}
 use Rattle.model.specs.Statics.{withLastFrame, withArmed}
 use Rattle.model_ops.specs.Concrete.{concrete}
-use Rattle.proof_usb20.specs.Walks.{Each}
+use Rattle.proof_usb20.specs.WalksLaws.{Each}
 use Rattle.proof_usb20.specs.Watch.{at-end}
 use Rattle.bits.specs.Walk.{setBits}
 use Rattle.regs.specs.declared.Token.{Token}
@@ -26,10 +26,10 @@ use Rattle.model.specs.Statics.{completed, withLen, withReady, withTog, withSof
 use Rattle.model.specs.IsoIn.{firstInFrame, isoInComplete, unseen, sofOne, sofWalk, onSof, lateWalk, isoInCompletions}
 use Rattle.model.specs.IsoOut.{arrives, checkWalk, isoOutCheck}
 use Rattle.model.specs.Handler.{toggled, received, sent, sofArm, dispatch, movedOn, ep0MovedOn, onSetup, isoInArm}
-use Rattle.proof_usb20.specs.Calm.{Quiet, Else, Idle, Off, idle-read, off-idle, off-read, only, put-frame}
-use Rattle.proof_usb20.specs.Calm.{put-hears, put-kept, q-act-as, q-bind, q-callback, q-ep, q-globals, q-got}
-use Rattle.proof_usb20.specs.Calm.{q-hand, q-if, q-ins, q-is, q-look, q-looks, q-modify, q-outs, q-reg, q-ret}
-use Rattle.proof_usb20.specs.Calm.{q-test, q-wakes, q-when, q-write}
+use Rattle.proof_usb20.specs.CalmLaws.{Quiet, Else, Idle, Off, idle-read, off-idle, off-read, only, put-frame}
+use Rattle.proof_usb20.specs.CalmLaws.{put-hears, put-kept, q-act-as, q-bind, q-callback, q-ep, q-globals, q-got}
+use Rattle.proof_usb20.specs.CalmLaws.{q-hand, q-if, q-ins, q-is, q-look, q-looks, q-modify, q-outs, q-reg, q-ret}
+use Rattle.proof_usb20.specs.CalmLaws.{q-test, q-wakes, q-when, q-write}
 
 module _ (D : Dir) (E : ℕ) where
   -- ---- isochronous IN

@@ -27,11 +27,11 @@ use Rattle.proof_usb20.specs.Log.{Log, afresh, Accepted, Allowed, asksAf
 use Rattle.proof_usb20.specs.Watch.{at-end, at-ask}
 use Rattle.proof_usb20.specs.WatchLaws.{watch-cond}
 use Rattle.proof_usb20.specs.Ep0.{Watch, Rec, View, view, Fits, Rests, no-request, set-up, Gives, first-wait, second-wait, Rel, R, Keeps, Ends, Law}
-use Rattle.proof_usb20.specs.Exempt.{exempt-law, differ}
-use Rattle.proof_usb20.specs.Fitting as fitting
-use Rattle.proof_usb20.specs.Views.{setIn, setControl, setReady, put-control, put-globals}
-use Rattle.proof_usb20.specs.Same.{act-view}
-use Rattle.proof_usb20.specs.Stages.{outWith, inWith, Whole, out-view, in-view, out-whole, moved}
+use Rattle.proof_usb20.specs.ExemptLaws.{exempt-law, differ}
+use Rattle.proof_usb20.specs.FittingLaws as fitting
+use Rattle.proof_usb20.specs.ViewsLaws.{setIn, setControl, setReady, put-control, put-globals}
+use Rattle.proof_usb20.specs.Ep0Laws.{act-view}
+use Rattle.proof_usb20.specs.StagesLaws.{outWith, inWith, Whole, out-view, in-view, out-whole, moved}
 
 -- ---- a request that is over
 

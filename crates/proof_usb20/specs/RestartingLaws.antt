@@ -39,19 +39,19 @@ use Rattle.model_ops.specs.Records.{plainOf, startedWith, allocatedEp0}
 use Rattle.model_ops.specs.Rings.{St}
 use Rattle.model_ops.specs.Concrete.{concrete}
 use Rattle.proof_book.specs.TransferKindsLaws.{act-steady}
-use Rattle.proof_usb20.specs.Exempt.{differ}
+use Rattle.proof_usb20.specs.ExemptLaws.{differ}
 use Rattle.proof_usb20.specs.Sequence as log
 use Rattle.proof_usb20.specs.Sequence.{Track, off, withPhase, own}
-use Rattle.proof_usb20.specs.Follow as follow
+use Rattle.proof_usb20.specs.FollowLaws as follow
 use Rattle.proof_usb20.specs.Follow.{Seen, FitsAs, Fits, view, Follow, Ends, Law}
 use Rattle.proof_usb20.specs.Watch.{at-end, at-ask}
-use Rattle.proof_usb20.specs.Untouched.{act-view}
-use Rattle.proof_usb20.specs.Calm.{Whole, Off, Else, Quiet, loose, put-other, put-globals, q-bind, q-ep, q-got}
-use Rattle.proof_usb20.specs.Calm.{q-hand, q-operation, q-put, q-reg, q-resultless, q-ret, q-staged, q-test}
-use Rattle.proof_usb20.specs.Calm.{q-wake, q-when, q-write}
-use Rattle.proof_usb20.specs.Reading as reading
-use Rattle.proof_usb20.specs.Reading.{quiet-law, Own, written, changed, fits-2, own-true, own-false, not-and, iso-own}
-use Rattle.proof_usb20.specs.Anew.{reset-fits, alloc-fits}
+use Rattle.proof_usb20.specs.FollowLaws.{act-view}
+use Rattle.proof_usb20.specs.CalmLaws.{Whole, Off, Else, Quiet, loose, put-other, put-globals, q-bind, q-ep, q-got}
+use Rattle.proof_usb20.specs.CalmLaws.{q-hand, q-operation, q-put, q-reg, q-resultless, q-ret, q-staged, q-test}
+use Rattle.proof_usb20.specs.CalmLaws.{q-wake, q-when, q-write}
+use Rattle.proof_usb20.specs.ReadingLaws as reading
+use Rattle.proof_usb20.specs.ReadingLaws.{quiet-law, Own, written, changed, fits-2, own-true, own-false, not-and, iso-own}
+use Rattle.proof_usb20.specs.AnewLaws.{reset-fits, alloc-fits}
 
 started-places : (maximum : ℕ) (x : Driver) → length (x .eps) ≡ 32 → length (allocatedEp0 x maximum .eps) ≡ 32
 unfolding allocatedEp0 startedWith
@@ -89,33 +89,31 @@ module _ (D : Dir) (E : ℕ) where
   q-halted Out e = (q-bind D E) ((q-reg D E) EpRxCtrl e _) (λ _. (q-wake D E) Out e)
   q-halted In e = (q-bind D E) ((q-write D E) (q-ret D E)) (λ _. (q-bind D E) ((q-reg D E) EpTxCtrl e _) (λ _. (q-wake D E) In e))
 
-  keeps-out : (e : ℕ) (b : Bool) → Own D E Out e → log.finishes D E D b ≡ b
-  keeps-out e b o = by D refl
+  own-out : (e : ℕ) → Own D E Out e → D ≡ Out
+  own-out e o = by D refl
     where
-      by : (d : Dir) → D ≡ d → log.finishes D E d b ≡ b
-      by Out g = refl
+      by : (d : Dir) → D ≡ d → D ≡ Out
+      by Out g = g
       by In g = absurd (key-apart e E (subst (λ (d : Dir). key Out e ≡ key d E) g o))
+
+  own-in : (e : ℕ) → Own D E In e → D ≡ In
+  own-in e o = by D refl
+    where
+      by : (d : Dir) → D ≡ d → D ≡ In
+      by In g = g
+      by Out g = absurd (key-apart E e (sym (subst (λ (d : Dir). key In e ≡ key d E) g o)))
+
+  keeps-out : (e : ℕ) (b : Bool) → Own D E Out e → log.finishes D E D b ≡ b
+  keeps-out e b o = ap (λ (d : Dir). log.finishes D E d b) (own-out e o)
 
   ends-in : (e : ℕ) (b : Bool) → Own D E In e → log.finishes D E D b ≡ true
-  ends-in e b o = by D refl
-    where
-      by : (d : Dir) → D ≡ d → log.finishes D E d b ≡ true
-      by In g = refl
-      by Out g = absurd (key-apart E e (sym (subst (λ (d : Dir). key In e ≡ key d E) g o)))
+  ends-in e b o = ap (λ (d : Dir). log.finishes D E d b) (own-in e o)
 
   stays-out : (e : ℕ) (b : Bool) → Own D E Out e → log.staysArmed D E D b ≡ b
-  stays-out e b o = by D refl
-    where
-      by : (d : Dir) → D ≡ d → log.staysArmed D E d b ≡ b
-      by Out g = refl
-      by In g = absurd (key-apart e E (subst (λ (d : Dir). key Out e ≡ key d E) g o))
+  stays-out e b o = ap (λ (d : Dir). log.staysArmed D E d b) (own-out e o)
 
   ends-armed : (e : ℕ) (b : Bool) → Own D E In e → log.staysArmed D E D b ≡ false
-  ends-armed e b o = by D refl
-    where
-      by : (d : Dir) → D ≡ d → log.staysArmed D E d b ≡ false
-      by In g = refl
-      by Out g = absurd (key-apart E e (sym (subst (λ (d : Dir). key In e ≡ key d E) g o)))
+  ends-armed e b o = ap (λ (d : Dir). log.staysArmed D E d b) (own-in e o)
 
   Clears : Track → {A : Type 0} → Track → A → St → Type 0
   Clears w y _ t = (y ≡ withPhase off w) × FitsAs initial (log.finishes D E D (w .through)) (w .len) (log.staysArmed D E D (w .armed)) (view D E (t .0))
