@@ -1,0 +1,74 @@
+use mathlib.Core.Bool.{false, true, true≢false}
+use mathlib.Core.Path.{_≡_, sym, subst, _∙_}
+use Prim.Native.Nat.{ℕ}
+use native.Mathlib.Omega.{arith}
+use Rattle.regs.specs.Flags.{busRst, transfer, suspend, hstSof, fifoOv}
+use Rattle.irq_transfer.specs.Laws.{wider}
+use borrow.Author.Needs.{needs}
+use Rattle.call_readings.proofs.is_transfer.Statement.{statement}
+use Rattle.call_readings.proofs.is_transfer.Tie as tie
+
+fits-requires : tie.Need-fits-requires
+fits-requires c κs = search needs
+
+byte-requires : tie.Need-byte-requires
+byte-requires c κs = wider _ 6 (omega arith) (sym (c .before .fits2 .ensures) ∙ c .if1 .taken)
+
+bus-rst-requires : tie.Need-bus-rst-requires
+bus-rst-requires c κs = search needs
+
+returns : tie.Need-returns
+returns c h = absurd (true≢false (sym h))
+
+suspend-requires : tie.Need-suspend-requires
+suspend-requires c κs = search needs
+
+returns-2 : tie.Need-returns-2
+returns-2 c h = absurd (true≢false (sym h))
+
+fifo-ov-requires : tie.Need-fifo-ov-requires
+fifo-ov-requires c κs = search needs
+
+returns-3 : tie.Need-returns-3
+returns-3 c h = absurd (true≢false (sym h))
+
+hst-sof-requires : tie.Need-hst-sof-requires
+hst-sof-requires c κs = search needs
+
+returns-4 : tie.Need-returns-4
+returns-4 c h = absurd (true≢false (sym h))
+
+transfer-requires : tie.Need-transfer-requires
+transfer-requires c κs = search needs
+
+returns-5 : tie.Need-returns-5
+returns-5 c h =
+    let is = c .before .before .before .before .before .before .before .before .before .byte .ensures in (
+      sym (c .before .before .before .before .before .before .before .before .before .before .before .fits2 .ensures) ∙ c .before .before .before .before .before .before .before .before .before .before .if1 .taken,
+      subst (λ (w : ℕ). busRst w ≡ false) is (sym (c .before .before .before .before .before .before .before .before .bus-rst .ensures) ∙ c .before .before .before .before .before .before .before .if2 .left),
+      subst (λ (w : ℕ). suspend w ≡ false) is (sym (c .before .before .before .before .before .before .suspend .ensures) ∙ c .before .before .before .before .before .if3 .left),
+      subst (λ (w : ℕ). fifoOv w ≡ false) is (sym (c .before .before .before .before .fifo-ov .ensures) ∙ c .before .before .before .if4 .left),
+      subst (λ (w : ℕ). hstSof w ≡ false) is (sym (c .before .before .hst-sof .ensures) ∙ c .before .if5 .left),
+      subst (λ (w : ℕ). transfer w ≡ true) is (sym (c .transfer .ensures) ∙ h),
+    )
+
+returns-6 : tie.Need-returns-6
+returns-6 c h = absurd (true≢false (sym h))
+
+pub is-transfer-spec : {M : Type 1} → statement M
+is-transfer-spec =
+    tie.close
+    (tie.spec
+    fits-requires
+    byte-requires
+    bus-rst-requires
+    returns
+    suspend-requires
+    returns-2
+    fifo-ov-requires
+    returns-3
+    hst-sof-requires
+    returns-4
+    transfer-requires
+    returns-5
+    returns-6)
