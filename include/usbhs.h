@@ -243,7 +243,7 @@ uint64_t usbhs_begin_interrupt(uint8_t state[USBHS_STATE_LEN]);
  *     }
  *     to_end(word);    the loop with usbhs_continue
  */
-#define USBHS_ASKS(word, reg) (USBHS_KIND(word) == USBHS_READ && USBHS_REGISTER(word) == (unsigned)(reg))
+#define USBHS_ASKS(word, reg) ((unsigned)((word) & 0xFFFF) == ((unsigned)(reg) << 8 | USBHS_READ))
 uint64_t usbhs_interrupt(uint8_t state[USBHS_STATE_LEN], uint8_t *slots, usbhs_length slots_length,
     uint16_t time[USBHS_TIME_LEN], uint32_t driver, uint32_t frame_no, uint32_t int_fg);
 uint64_t usbhs_continue_transfer(uint8_t state[USBHS_STATE_LEN], uint8_t *slots, usbhs_length slots_length,
