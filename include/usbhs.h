@@ -225,12 +225,12 @@ uint64_t usbhs_continue(uint8_t state[USBHS_STATE_LEN], uint8_t *slots, usbhs_le
  * packets may be opened, closed and queued. */
 uint64_t usbhs_begin_interrupt(uint8_t state[USBHS_STATE_LEN]);
 
-/* Readings that come in a row, brought by one call, for those who count instructions. Each is as
+/* Readings that follow each other, brought by one call, for those who count instructions. Each is as
  * many of the calls above, made in turn as long as the answer asks for the reading that is brought
  * next: usbhs_interrupt the begin, a continue with frame_no, one with int_fg;
  * usbhs_continue_transfer a continue with mis_st, one with int_st, one with rx_len. The first other
- * answer ends the row and is the answer, a refusal too; the numbers left over are not looked at.
- * What is lent is then as those calls leave it.
+ * answer, a refusal too, is the answer of the whole; the numbers left over are not looked at. What is
+ * lent is then as those calls leave it.
  *
  *     uint32_t frame = block_read(USBHS_FRAME_NO, 0), flags, status, transfer;
  *     flags = block_read(USBHS_INT_FG, 0);

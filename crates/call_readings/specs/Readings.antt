@@ -1,6 +1,6 @@
--- Readings that come in a row, brought by one call: what that is in calls of one access each. The calls are made in turn, as long as the answer hands out
--- a reading of the register that the next number was read from; the first other answer (a write, an end, a refusal) ends the row and is the answer.
--- Definitions only
+-- Readings that follow each other, brought by one call: what that is in calls of one access each. The calls are made in turn, as long as the answer hands
+-- out a reading of the register that the next number was read from; the first other answer (a write, an end, a refusal) is the last, and the answer of
+-- the whole. Definitions only
 use mathlib.Core.Bool.{Bool, true, false, _&&_}
 use mathlib.Core.List.{List, [], _∷_}
 use mathlib.Core.Path.{_≡_}

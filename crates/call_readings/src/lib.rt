@@ -1,5 +1,5 @@
-// Readings that come in a row, brought by one call: the points in between are neither stored nor loaded, row 1 is tested once and no answer is made
-// for them. Where the row may end early nothing is changed, and the calls are made one by one (crate `usbhs_c`, readings.rt).
+// Readings that follow each other, brought by one call: the points in between are neither stored nor loaded, row 1 is tested once and no answer is made
+// for them. Where another answer may come before the last reading nothing is changed, and the calls are made one by one (crate `usbhs_c`, readings.rt).
 use frame::Frame;
 use frame::microframe_index;
 use irq_points::loads::setup_at;

@@ -191,7 +191,7 @@ module _ (w i frame flags : ℕ) (n : Entered) (l m : Lent) (h : EntersAs n i fr
       let same : m ≡ l = subst EnteredAs e h in
       let k = f (b .0) (b .1) in
       let did = subst (λ (z : Lent). ((a c : Buf) → (answerOf (b .0) [] (view ys), machineOf ys c) ≡ drive (begin interrupt) (machineOf (z .bytes) a) c))
-          same (b .2 .0) in
+      same (b .2 .0) in
       let saves = subst (λ (z : Lent). SavedByAnswer (b .0) (z .bytes) ys) same (b .2 .1) in
       (k .0, k .1, (b .0, lent ys (l .slots) (l .time), record { did = did; saves = saves; slots = refl; time = refl }, k .2))
 

@@ -1,4 +1,4 @@
-// Readings that come in a row, brought by one call: it comes to as many calls of one access each, as long as the answer asks for the next of them.
+// Readings that follow each other, brought by one call: it comes to as many calls of one access each, as long as the answer asks for the next of them.
 use crate::usbhs_begin_interrupt;
 use crate::usbhs_continue;
 use call_answer_word::word_of;
@@ -97,7 +97,17 @@ pub extern "C" fn usbhs_interrupt(
         Entered::Flags => usbhs_continue(s, slots, time, driver, flags),
         Entered::No => {
             let word = usbhs_begin_interrupt(s);
-            bring(s, slots, time, driver, word, Reg::FrameNo, frame, Reg::IntFg, flags)
+            bring(
+                s,
+                slots,
+                time,
+                driver,
+                word,
+                Reg::FrameNo,
+                frame,
+                Reg::IntFg,
+                flags,
+            )
         }
     }
 }
@@ -122,7 +132,17 @@ pub extern "C" fn usbhs_continue_transfer(
         Passed::Nak(q) => nak_word(q),
         Passed::No => {
             let word = usbhs_continue(s, slots, time, driver, mis);
-            bring(s, slots, time, driver, word, Reg::IntSt, st, Reg::RxLen, len)
+            bring(
+                s,
+                slots,
+                time,
+                driver,
+                word,
+                Reg::IntSt,
+                st,
+                Reg::RxLen,
+                len,
+            )
         }
     }
 }

@@ -18,7 +18,10 @@ sized-requires : tie.Need-sized-requires
 sized-requires c κs = search needs
 
 keep-frame-requires : tie.Need-keep-frame-requires
-keep-frame-requires c κs = c .before .before .before .before .before .before .before .may-enter .ensures (c .before .before .before .before .before .before .if1 .taken) .2
+keep-frame-requires c κs =
+    let at-if1 = c .before .before .before .before .before .before in
+    let at-may-enter = at-if1 .before in
+    at-may-enter .may-enter .ensures (at-if1 .if1 .taken) .2
 
 sized-requires-2 : tie.Need-sized-requires-2
 sized-requires-2 c κs = search needs
@@ -37,13 +40,22 @@ stand-mis-requires c κs = search needs
 
 returns : tie.Need-returns
 returns c i time =
-    let a = c .before .before .before .before .before .before .before .before .before .before .before .before .before .before .before .before .before .before .before .before .args in
-    let may = c .before .before .before .before .before .before .before .before .before .before .before .before .before .before .before .before .before .may-enter .ensures (c .before .before .before .before .before .before .before .before .before .before .before .before .before .before .before .before .if1 .taken) in
-    let told = c .before .before .before .before .before .is-transfer .ensures (c .before .before .before .before .if2 .taken) in
-    let kept = c .before .before .before .before .before .before .before .before .before .keep-frame .ensures in
+    let at-if2 = c .before .before .before .before in
+    let at-is-transfer = at-if2 .before in
+    let at-sized-arg4 = at-is-transfer .before .before in
+    let at-keep-frame = at-sized-arg4 .before .before in
+    let at-sized-arg2 = at-keep-frame .before .before .before in
+    let at-clear-wakes = at-sized-arg2 .before .before in
+    let at-if1 = at-clear-wakes .before .before in
+    let at-may-enter = at-if1 .before in
+    let at-entry = at-may-enter .before .before .before in
+    let a = at-entry .args in
+    let may = at-may-enter .may-enter .ensures (at-if1 .if1 .taken) in
+    let told = at-is-transfer .is-transfer .ensures (at-if2 .if2 .taken) in
+    let kept = at-keep-frame .keep-frame .ensures in
     let setup = c .before .setup-act .ensures ∙ ap setupAct (c .before .before .byte .ensures) in
     flagged i (a .frame) (now (a .s)) _ _ (now (a .slots)) time (may .0) (may .1) (may .2)
-    (c .before .before .before .before .before .before .before .before .before .before .before .before .before .before .clear-wakes .ensures .0) (c .before .before .before .before .before .before .before .before .before .before .before .before .sized-arg2 .given .0) (kept .0) (a .word) _ (c .before .before .before .before .before .before .before .sized-arg4 .given .0)
+    (at-clear-wakes .clear-wakes .ensures .0) (at-sized-arg2 .sized-arg2 .given .0) (kept .0) (a .word) _ (at-sized-arg4 .sized-arg4 .given .0)
     (told .0) setup (told .1) (told .2) (told .3) (told .4) (told .5) _ (kept .1) (asked (c .stand-mis .ensures))
 
 stand-flags-requires : tie.Need-stand-flags-requires
@@ -51,11 +63,17 @@ stand-flags-requires c κs = search needs
 
 returns-2 : tie.Need-returns-2
 returns-2 c i time =
-    let a = c .before .before .before .before .before .before .before .before .before .before .before .before .before .before .before .before .before .before .args in
-    let may = c .before .before .before .before .before .before .before .before .before .before .before .before .before .before .before .may-enter .ensures (c .before .before .before .before .before .before .before .before .before .before .before .before .before .before .if1 .taken) in
-    let kept = c .before .before .before .before .before .before .before .keep-frame .ensures in
+    let at-keep-frame = c .before .before .before .before .before .before .before in
+    let at-sized-arg2 = at-keep-frame .before .before .before in
+    let at-clear-wakes = at-sized-arg2 .before .before in
+    let at-if1 = at-clear-wakes .before .before in
+    let at-may-enter = at-if1 .before in
+    let at-entry = at-may-enter .before .before .before in
+    let a = at-entry .args in
+    let may = at-may-enter .may-enter .ensures (at-if1 .if1 .taken) in
+    let kept = at-keep-frame .keep-frame .ensures in
     framed i (a .frame) (now (a .s)) _ _ (now (a .slots)) time (may .0) (may .1) (may .2)
-    (c .before .before .before .before .before .before .before .before .before .before .before .before .clear-wakes .ensures .0) (c .before .before .before .before .before .before .before .before .before .before .sized-arg2 .given .0) (kept .0) _ (asked (c .stand-flags .ensures))
+    (at-clear-wakes .clear-wakes .ensures .0) (at-sized-arg2 .sized-arg2 .given .0) (kept .0) _ (asked (c .stand-flags .ensures))
 
 returns-3 : tie.Need-returns-3
 returns-3 c = search needs

@@ -43,11 +43,19 @@ transfer-requires c κs = search needs
 
 returns-5 : tie.Need-returns-5
 returns-5 c h =
-    let is = c .before .before .before .before .before .before .before .before .before .byte .ensures in (
-      sym (c .before .before .before .before .before .before .before .before .before .before .before .fits2 .ensures) ∙ c .before .before .before .before .before .before .before .before .before .before .if1 .taken,
-      subst (λ (w : ℕ). busRst w ≡ false) is (sym (c .before .before .before .before .before .before .before .before .bus-rst .ensures) ∙ c .before .before .before .before .before .before .before .if2 .left),
-      subst (λ (w : ℕ). suspend w ≡ false) is (sym (c .before .before .before .before .before .before .suspend .ensures) ∙ c .before .before .before .before .before .if3 .left),
-      subst (λ (w : ℕ). fifoOv w ≡ false) is (sym (c .before .before .before .before .fifo-ov .ensures) ∙ c .before .before .before .if4 .left),
+    let at-fifo-ov = c .before .before .before .before in
+    let at-if3 = at-fifo-ov .before in
+    let at-suspend = at-if3 .before in
+    let at-if2 = at-suspend .before in
+    let at-bus-rst = at-if2 .before in
+    let at-byte = at-bus-rst .before in
+    let at-if1 = at-byte .before in
+    let at-fits2 = at-if1 .before in
+    let is = at-byte .byte .ensures in (
+      sym (at-fits2 .fits2 .ensures) ∙ at-if1 .if1 .taken,
+      subst (λ (w : ℕ). busRst w ≡ false) is (sym (at-bus-rst .bus-rst .ensures) ∙ at-if2 .if2 .left),
+      subst (λ (w : ℕ). suspend w ≡ false) is (sym (at-suspend .suspend .ensures) ∙ at-if3 .if3 .left),
+      subst (λ (w : ℕ). fifoOv w ≡ false) is (sym (at-fifo-ov .fifo-ov .ensures) ∙ c .before .before .before .if4 .left),
       subst (λ (w : ℕ). hstSof w ≡ false) is (sym (c .before .before .hst-sof .ensures) ∙ c .before .if5 .left),
       subst (λ (w : ℕ). transfer w ≡ true) is (sym (c .transfer .ensures) ∙ h),
     )

@@ -23,11 +23,17 @@ same-length c = search needs
 
 returns : tie.Need-returns
 returns c x says =
-    let a = c .before .before .before .before .before .before .before .before .before .before .before .before .before .before .before .before .before .args in
-    let yes = c .before .before .before .before .before .before .before .before .before .before .before .before .before .before .if1 .taken ∙ c .before .before .before .before .before .before .before .before .before .before .before .before .before .before .before .read-word .ensures in
-    let next = c .before .before .before .before .before .before .if2 .taken ∙ c .before .before .before .before .before .before .before .read-word2 .ensures in
+    let at-if2 = c .before .before .before .before .before .before in
+    let at-read-word2 = at-if2 .before in
+    let at-usbhs-continue = at-read-word2 .before .before .before in
+    let at-if1 = at-usbhs-continue .before .before .before .before in
+    let at-read-word = at-if1 .before in
+    let at-entry = at-read-word .before .before in
+    let a = at-entry .args in
+    let yes = at-if1 .if1 .taken ∙ at-read-word .read-word .ensures in
+    let next = at-if2 .if2 .taken ∙ at-read-word2 .read-word2 .ensures in
     both-brought (a .driver) (a .first) (a .second) (a .a) (a .b) (a .word) x says yes _ (lent (now (a .s)) (now (a .slots)) (now (a .time))) _
-    (continued _ (a .driver) (a .a) (lent (now (a .s)) (now (a .slots)) (now (a .time))) (lent _ _ _) (c .before .before .before .before .before .before .before .before .before .before .usbhs-continue .ensures))
+    (continued _ (a .driver) (a .a) (lent (now (a .s)) (now (a .slots)) (now (a .time))) (lent _ _ _) (at-usbhs-continue .usbhs-continue .ensures))
     next _ (lent _ _ _) (continued _ (a .driver) (a .b) (lent _ _ _) (lent _ _ _) (c .before .before .usbhs-continue2 .ensures))
 
 same-length-2 : tie.Need-same-length-2
@@ -35,11 +41,15 @@ same-length-2 c = search needs
 
 returns-2 : tie.Need-returns-2
 returns-2 c x says =
-    let a = c .before .before .before .before .before .before .before .before .before .before .before .args in
-    let yes = c .before .before .before .before .before .before .before .before .if1 .taken ∙ c .before .before .before .before .before .before .before .before .before .read-word .ensures in
+    let at-usbhs-continue = c .before .before .before .before in
+    let at-if1 = at-usbhs-continue .before .before .before .before in
+    let at-read-word = at-if1 .before in
+    let at-entry = at-read-word .before .before in
+    let a = at-entry .args in
+    let yes = at-if1 .if1 .taken ∙ at-read-word .read-word .ensures in
     let none = c .before .read-word2 .ensures in
     one-brought (a .driver) (a .first) (a .second) (a .a) (a .b) (a .word) x says yes _ (lent (now (a .s)) (now (a .slots)) (now (a .time))) _
-    (continued _ (a .driver) (a .a) (lent (now (a .s)) (now (a .slots)) (now (a .time))) (lent _ _ _) (c .before .before .before .before .usbhs-continue .ensures))
+    (continued _ (a .driver) (a .a) (lent (now (a .s)) (now (a .slots)) (now (a .time))) (lent _ _ _) (at-usbhs-continue .usbhs-continue .ensures))
     (λ e. c .if2 .left (e ∙ sym none))
 
 returns-3 : tie.Need-returns-3

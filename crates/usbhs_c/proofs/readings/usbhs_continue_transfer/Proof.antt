@@ -58,13 +58,17 @@ same-length-3 c = search needs
 
 returns-3 : tie.Need-returns-3
 returns-3 c =
-    let a = c .before .before .before .before .before .before .before .before .before .before .before .before .before .before .before .before .before .before .args in
-    let the-pass = c .before .before .before .before .before .before .before .before .before .before .before .before .before .before .pass in
+    let at-usbhs-continue = c .before .before .before .before .before .before .before .before in
+    let at-enum-told2 = at-usbhs-continue .before .before .before .before in
+    let at-pass = at-enum-told2 .before .before in
+    let at-entry = at-pass .before .before .before .before in
+    let a = at-entry .args in
+    let the-pass = at-pass .pass in
     let l = lent (now (a .s)) (now (a .slots)) (now (a .time)) in
     let m = lent (the-pass .last .0) (now (a .slots)) (now (a .time)) in
     gone-on _ (a .driver) (a .mis) (a .st) (a .len) (the-pass .result) l m (the-pass .ensures (a .driver) (now (a .time)))
-    (c .before .before .before .before .before .before .before .before .before .before .before .before .enum-told2 .given .1) _ (lent _ _ _) (lent _ _ _)
-    (continued _ (a .driver) (a .mis) m (lent _ _ _) (c .before .before .before .before .before .before .before .before .usbhs-continue .ensures)) (c .before .before .bring .ensures)
+    (at-enum-told2 .enum-told2 .given .1) _ (lent _ _ _) (lent _ _ _)
+    (continued _ (a .driver) (a .mis) m (lent _ _ _) (at-usbhs-continue .usbhs-continue .ensures)) (c .before .before .bring .ensures)
 
 pub usbhs-continue-transfer-spec : {M : Type 1} → statement M
 usbhs-continue-transfer-spec =

@@ -46,24 +46,32 @@ same-length-2 c = search needs
 
 returns-2 : tie.Need-returns-2
 returns-2 c =
-    let a = c .before .before .before .before .before .before .before .before .before .before .before .before .args in
-    let the-enter = c .before .before .before .before .before .before .before .before .enter in
+    let at-enum-told2 = c .before .before .before .before .before .before in
+    let at-enter = at-enum-told2 .before .before in
+    let at-entry = at-enter .before .before .before .before in
+    let a = at-entry .args in
+    let the-enter = at-enter .enter in
     let l = lent (now (a .s)) (now (a .slots)) (now (a .time)) in
     let m = lent (the-enter .last .0) (now (a .slots)) (now (a .time)) in
     at-flags _ (a .driver) (a .frame) (a .flags) (the-enter .result) l m (the-enter .ensures (a .driver) (now (a .time)))
-    (c .before .before .before .before .before .before .enum-told2 .given .1) (lent _ _ _) (continued _ (a .driver) (a .flags) m (lent _ _ _) (c .before .before .usbhs-continue .ensures))
+    (at-enum-told2 .enum-told2 .given .1) (lent _ _ _) (continued _ (a .driver) (a .flags) m (lent _ _ _) (c .before .before .usbhs-continue .ensures))
 
 same-length-3 : tie.Need-same-length-3
 same-length-3 c = search needs
 
 returns-3 : tie.Need-returns-3
 returns-3 c =
-    let a = c .before .before .before .before .before .before .before .before .before .before .before .before .before .before .args in
-    let the-enter = c .before .before .before .before .before .before .before .before .before .before .enter in
+    let at-usbhs-begin-interrupt = c .before .before .before .before .before .before in
+    let at-enum-told3 = at-usbhs-begin-interrupt .before .before in
+    let at-enter = at-enum-told3 .before .before in
+    let at-entry = at-enter .before .before .before .before in
+    let a = at-entry .args in
+    let the-enter = at-enter .enter in
     let l = lent (now (a .s)) (now (a .slots)) (now (a .time)) in
     let m = lent (the-enter .last .0) (now (a .slots)) (now (a .time)) in
+    let the-begin = at-usbhs-begin-interrupt .usbhs-begin-interrupt in
     begun _ (a .driver) (a .frame) (a .flags) (the-enter .result) l m (the-enter .ensures (a .driver) (now (a .time)))
-    (c .before .before .before .before .before .before .before .before .enum-told3 .given .1) _ (c .before .before .before .before .before .before .usbhs-begin-interrupt .last .0) (lent _ _ _) (c .before .before .before .before .before .before .usbhs-begin-interrupt .ensures) (c .before .before .bring .ensures)
+    (at-enum-told3 .enum-told3 .given .1) _ (the-begin .last .0) (lent _ _ _) (the-begin .ensures) (c .before .before .bring .ensures)
 
 pub usbhs-interrupt-spec : {M : Type 1} → statement M
 usbhs-interrupt-spec =
