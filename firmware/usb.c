@@ -46,9 +46,19 @@ uint64_t usb_to_end(uint64_t word)
     return word;
 }
 
+/* With the readings that come in a row brought by one call. */
 void usb_interrupt(void)
 {
-    usb_to_end(usbhs_begin_interrupt(usb_state));
+    uint32_t frame = register_read(USBHS_FRAME_NO, 0), flags = register_read(USBHS_INT_FG, 0), mis, status;
+    uint64_t word = usbhs_interrupt(usb_state, usb_slots, sizeof usb_slots, usb_time, 0, frame, flags);
+
+    if (USBHS_ASKS(word, USBHS_MIS_ST)) {
+        mis = register_read(USBHS_MIS_ST, 0);
+        status = register_read(USBHS_INT_ST, 0);
+        word = usbhs_continue_transfer(usb_state, usb_slots, sizeof usb_slots, usb_time, 0, mis, status,
+            register_read(USBHS_RX_LEN, 0));
+    }
+    usb_to_end(word);
 }
 
 /* 0, or the row of a refusal. */

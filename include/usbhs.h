@@ -225,6 +225,30 @@ uint64_t usbhs_continue(uint8_t state[USBHS_STATE_LEN], uint8_t *slots, usbhs_le
  * packets may be opened, closed and queued. */
 uint64_t usbhs_begin_interrupt(uint8_t state[USBHS_STATE_LEN]);
 
+/* Readings that follow each other, brought by one call, for those who count instructions. Each is as
+ * many of the calls above, made in turn as long as the answer asks for the reading that is brought
+ * next: usbhs_interrupt the begin, a continue with frame_no, one with int_fg;
+ * usbhs_continue_transfer a continue with mis_st, one with int_st, one with rx_len. The first other
+ * answer, a refusal too, is the answer of the whole; the numbers left over are not looked at. What is
+ * lent is then as those calls leave it.
+ *
+ *     uint32_t frame = block_read(USBHS_FRAME_NO, 0), flags, status, transfer;
+ *     flags = block_read(USBHS_INT_FG, 0);
+ *     word = usbhs_interrupt(state, slots, sizeof slots, bus_time, 0, frame, flags);
+ *     if (USBHS_ASKS(word, USBHS_MIS_ST)) {
+ *         status = block_read(USBHS_MIS_ST, 0);
+ *         transfer = block_read(USBHS_INT_ST, 0);
+ *         word = usbhs_continue_transfer(state, slots, sizeof slots, bus_time, 0, status, transfer,
+ *             block_read(USBHS_RX_LEN, 0));
+ *     }
+ *     to_end(word);    the loop with usbhs_continue
+ */
+#define USBHS_ASKS(word, reg) ((unsigned)((word) & 0xFFFF) == ((unsigned)(reg) << 8 | USBHS_READ))
+uint64_t usbhs_interrupt(uint8_t state[USBHS_STATE_LEN], uint8_t *slots, usbhs_length slots_length,
+    uint16_t time[USBHS_TIME_LEN], uint32_t driver, uint32_t frame_no, uint32_t int_fg);
+uint64_t usbhs_continue_transfer(uint8_t state[USBHS_STATE_LEN], uint8_t *slots, usbhs_length slots_length,
+    uint16_t time[USBHS_TIME_LEN], uint32_t driver, uint32_t mis_st, uint32_t int_st, uint32_t rx_len);
+
 /* The operations. Ends' results: of a bus poll the event, enum usbhs_event; of
  * usbhs_begin_is_stalled 1 or 0; of usbhs_begin_microframe the microframe index, frame times 8
  * plus microframe; of all others 0. The first bus poll after EP0's start ends at once with

@@ -4,7 +4,8 @@
  * Each call is made twice, at different addresses: all that it is lent ends at an unmapped page, then begins behind
  * one. The two must answer the same and leave the same bytes; nothing outside may be touched (it would end the
  * program); what is lent to be read, and all that a refused call is lent, must stay as it was. Only a poll's refusals
- * 9 and 10 may change the state.
+ * 9 and 10 may change the state. A call that brings several readings is held against the calls of one access each: at
+ * one of the two places these are made.
  *
  * Random state bytes are random throughout; for every second call a run's registers and allocator stand among them, so
  * that rows 1 and 4 let it pass, and for every fourth its suspended operation, for a continue. A corrupted state is one
@@ -73,6 +74,20 @@ F(allocate_all, usbhs_allocate_all(S, P(DATA), L(DATA)))
 F(preview, usbhs_preview(S, P(DATA), L(DATA), P(FIRST), W32(SECOND), W32(THIRD)))
 F(continue, usbhs_continue(S, SL, T, n[0], n[1]))
 F(begin_interrupt, usbhs_begin_interrupt(S))
+
+/* Calls that bring several readings: at one of the two places the calls of one access each that they stand for. */
+static uint64_t bring(int k, uint32_t driver, uint64_t word, int first, uint32_t a, int second, uint32_t b) {
+    if (word != (uint64_t)(USBHS_READ | first << 8)) return word;
+    word = usbhs_continue(S, SL, T, driver, a);
+    if (word != (uint64_t)(USBHS_READ | second << 8)) return word;
+    return usbhs_continue(S, SL, T, driver, b);
+}
+
+#define AT_ONCE(k) (((unsigned)(k) ^ n[4]) & 1)
+F(interrupt, AT_ONCE(k) ? usbhs_interrupt(S, SL, T, n[0], n[1], n[2])
+                        : bring(k, n[0], usbhs_begin_interrupt(S), USBHS_FRAME_NO, n[1], USBHS_INT_FG, n[2]))
+F(continue_transfer, AT_ONCE(k) ? usbhs_continue_transfer(S, SL, T, n[0], n[1], n[2], n[3])
+                                : bring(k, n[0], usbhs_continue(S, SL, T, n[0], n[1]), USBHS_INT_ST, n[2], USBHS_RX_LEN, n[3]))
 F(begin_bus_poll, usbhs_begin_bus_poll(S))
 F(begin_bus_enable, usbhs_begin_bus_enable(S))
 F(begin_bus_disable, usbhs_begin_bus_disable(S))
@@ -124,7 +139,7 @@ static const struct function {
     uint64_t (*call)(int, const uint32_t *);
     unsigned uses, reads; /* pieces that are lent, and of these the ones to be read only */
     unsigned first;       /* the length of the room FIRST */
-    int poll;             /* its refusals 9 and 10 end a request */
+    int poll;             /* 1: its refusals 9 and 10 end a request; 2: several calls, of which the last may be refused */
     enum filling filling;
 } functions[] = {
 #define SS (U(STATE) | U(SLOTS))
@@ -137,6 +152,8 @@ static const struct function {
      DESCRIPTOR},
     {"usbhs_continue", f_continue, SS | U(TIME), 0, 0, 0, PLAIN},
     ALONE(begin_interrupt),
+    {"usbhs_interrupt", f_interrupt, SS | U(TIME), 0, 0, 2, PLAIN},
+    {"usbhs_continue_transfer", f_continue_transfer, SS | U(TIME), 0, 0, 2, PLAIN},
     ALONE(begin_bus_poll),
     ALONE(begin_bus_enable),
     ALONE(begin_bus_disable),
@@ -305,7 +322,7 @@ static void fill(const struct function *f, int wild, uint32_t n[5]) {
     for (i = 1; i < 5; i++) n[i] = chance(70) ? below(4) : chance(60) ? below(300) : (uint32_t)number();
     if (f->uses & (SS | U(TIME))) {
         if (wild) wild_state(f->uses);
-        else corrupted_state(f->uses, f->call == f_continue);
+        else corrupted_state(f->uses, f->call == f_continue || f->call == f_continue_transfer);
     }
     if (f->first) any_bytes(lent[FIRST].as, f->first), lend(FIRST, f->first);
     any_bytes(lent[SECOND].as, 12);
@@ -339,6 +356,15 @@ static void fill(const struct function *f, int wild, uint32_t n[5]) {
     case PLAIN:
         if (f->call == f_start && chance(80)) n[0] = 64;
         if (f->call == f_allocate) n[0] = below(4), n[1] = chance(60) ? 256 : n[1], n[2] = below(80), n[4] = below(2);
+        if (f->poll == 2) {
+            n[1] = f->call == f_interrupt ? (uint32_t)number() >> 16 : below(4);
+            n[2] = below(f->call == f_interrupt ? 64 : 128);
+            n[3] = (uint32_t)number() >> 16;
+            n[4] = below(2);
+            if (chance(10)) n[1 + below(3)] = (uint32_t)number() >> below(32);
+        }
+        /* most stand where a transfer's readings are asked for */
+        if (f->call == f_continue_transfer && chance(60)) lent[STATE].as[SAVED] = lent[STATE].as[SAVED + 2] = 6;
         if (f->call == f_continue) n[1] = (uint32_t)number() >> (chance(90) ? 16 + below(16) : 0);
     }
 }
@@ -360,13 +386,13 @@ static void once(const struct function *f, int wild) {
     if (word[0] != word[1]) fail(f->name, "two answers");
     last = word[0];
     refused = USBHS_KIND(word[0]) == USBHS_REFUSED;
-    ends = f->poll && refused && (USBHS_ROW(word[0]) == 9 || USBHS_ROW(word[0]) == 10);
+    ends = f->poll == 1 && refused && (USBHS_ROW(word[0]) == 9 || USBHS_ROW(word[0]) == 10);
     refusals += (unsigned long)refused;
     if (refused) rows[USBHS_ROW(word[0])]++;
     for (p = 0; p < PIECES; p++) {
         if (!(f->uses & U(p))) continue;
         if (memcmp(lent[p].at[0], lent[p].at[1], L(p))) fail(f->name, "different bytes");
-        if (((f->reads & U(p)) || (refused && !(ends && p == STATE))) && memcmp(lent[p].at[0], lent[p].as, L(p)))
+        if (((f->reads & U(p)) || (refused && f->poll != 2 && !(ends && p == STATE))) && memcmp(lent[p].at[0], lent[p].as, L(p)))
             fail(f->name, refused ? "a refusal changed something" : "what is to be read was changed");
         if (p <= TIME) memcpy(lent[p].as, lent[p].at[0], L(p));
     }

@@ -1,5 +1,5 @@
 /* The driver's exported calls from C, on the proved archive: a state before start-up; bus time that four drivers share;
-   the parts of an answer's word; the tasks that an end wakes; a board's endpoints allocated as one operation. */
+   the parts of an answer's word; the tasks that an end wakes; a board's endpoints allocated as one operation; readings brought by one call. */
 #include <stdio.h>
 #include <string.h>
 #include "usbhs.h"
@@ -198,6 +198,53 @@ static void listed(unsigned count)
     previewed("preview, all taken", state, 0, 0, 7);
 }
 
+/* Readings brought by one call, and by calls of one access each on a copy of the state: a SOF; a reading too wide, which
+   leaves the interrupt where it is asked for. */
+static void together(uint8_t *state, uint8_t *slots, uint16_t *time)
+{
+    static uint8_t copy[USBHS_STATE_LEN];
+    uint64_t word;
+    unsigned wide;
+
+    for (wide = 0; wide < 4; wide++) {
+        memcpy(copy, state, sizeof copy);
+        word = usbhs_begin_interrupt(copy);
+        word = usbhs_continue(copy, slots, 64, time, 0, wide == 1 ? 0x10000 : 0x2001);
+        if (wide != 1)
+            word = usbhs_continue(copy, slots, 64, time, 0, wide == 2 ? 64 : 2);
+        expect("together: answer", usbhs_interrupt(state, slots, 64, time, 0, wide == 1 ? 0x10000 : 0x2001, wide == 2 ? 64 : 2), word);
+        expect("together: state", memcmp(state, copy, sizeof copy) != 0, 0);
+        if (wide == 1 || wide == 2) {
+            refused("together: too wide", word, 16);
+            word = usbhs_continue(state, slots, 64, time, 0, wide == 1 ? 0x2001 : 2);
+            if (wide == 1)
+                word = usbhs_continue(state, slots, 64, time, 0, 2);
+            memcpy(copy, state, sizeof copy);
+        }
+        expect("together: a transfer", USBHS_ASKS(word, USBHS_MIS_ST), 1);
+        refused("together: slots too short", usbhs_continue_transfer(state, slots, 63, time, 0, 1, 0x10, 0), 1);
+        word = usbhs_continue(copy, slots, 64, time, 0, 1);
+        word = usbhs_continue(copy, slots, 64, time, 0, wide == 3 ? 128 : 0x10);
+        if (wide != 3)
+            word = usbhs_continue(copy, slots, 64, time, 0, 0);
+        expect("together: transfer", usbhs_continue_transfer(state, slots, 64, time, 0, 1, wide == 3 ? 128 : 0x10, 0), word);
+        expect("together: transfer, state", memcmp(state, copy, sizeof copy) != 0, 0);
+        if (wide == 3) {
+            refused("together: a status too wide", word, 16);
+            word = usbhs_continue(state, slots, 64, time, 0, 0x10);
+            word = usbhs_continue(state, slots, 64, time, 0, 0);
+        }
+        wrote("together: released", word, USBHS_INT_FG, 0, 2);
+        while (USBHS_KIND(word) != USBHS_END && USBHS_KIND(word) != USBHS_REFUSED)
+            word = usbhs_continue(state, slots, 64, time, 0, 0x2001);
+        expect("together: end", USBHS_KIND(word), USBHS_END);
+    }
+    refused("together: another length, after the begin", usbhs_interrupt(state, slots, 63, time, 0, 0, 0), 1);
+    refused("together: under way", usbhs_interrupt(state, slots, 64, time, 0, 0, 0), 3);
+    expect("together: frame_no is asked for", USBHS_ASKS(usbhs_continue(state, slots, 64, time, 0, 0), USBHS_INT_FG), 1);
+    expect("together: nothing else", USBHS_KIND(usbhs_continue_transfer(state, slots, 64, time, 0, 0, 0, 0)), USBHS_END);
+}
+
 int main(void)
 {
     static uint8_t state[USBHS_STATE_LEN];
@@ -240,6 +287,7 @@ int main(void)
     expect("write: value", USBHS_VALUE(word), 0xFFFFFFFFu);
 
     wake_ups(state, slots, time);
+    together(state, slots, time);
     listed(4);
     listed(3);
 

@@ -107,6 +107,22 @@ static uint64_t to_end(uint64_t word)
     return word;
 }
 
+/* The interrupt with the calls that bring several readings. */
+static uint64_t at_once(void)
+{
+    uint64_t word;
+    uint32_t frame = registers[USBHS_FRAME_NO][0], flags = registers[USBHS_INT_FG][0];
+
+    CALL("usbhs_interrupt", word, usbhs_interrupt(state, slots, slots_length, bus_time, 0, frame, flags));
+    if (USBHS_ASKS(word, USBHS_MIS_ST)) {
+        uint32_t mis = registers[USBHS_MIS_ST][0], st = registers[USBHS_INT_ST][0], len = registers[USBHS_RX_LEN][0];
+
+        CALL("usbhs_continue_transfer", word,
+            usbhs_continue_transfer(state, slots, slots_length, bus_time, 0, mis, st, len));
+    }
+    return to_end(word);
+}
+
 static void tell(const char *name, uint64_t word)
 {
     if (USBHS_KIND(word) == USBHS_REFUSED) {
@@ -270,6 +286,38 @@ static void interrupts(void)
     OPERATE("interrupt-sof-callback", usbhs_begin_interrupt, (state));
 }
 
+#define TOGETHER(name) tell(name, at_once())
+
+/* The same, readings that come in a row brought by one call. */
+static void together(void)
+{
+    static const uint8_t packet[64] = {1, 2, 3};
+
+    prepare(64, 0);
+    sof_handled();
+    shows(0, 0, 0);
+    TOGETHER("together-none");
+    shows(TRANSFER, SOF, 0);
+    TOGETHER("together-sof-again");
+    next_microframe();
+    TOGETHER("together-sof");
+    PREPARE(usbhs_queue, (state, slots, slots_length, 2, packet, 64));
+    sof_handled();
+    shows(TRANSFER, IN | 2, 0);
+    TOGETHER("together-iso-in");
+    registers[USBHS_EP_RX_CTRL][3] ^= 4;
+    shows(TRANSFER, OUT | 3 | OK, 64);
+    TOGETHER("together-bulk-out");
+    shows(SETUP, 0x30, 8);
+    TOGETHER("together-setup");
+    prepare(64, 0);
+    sof_handled();
+    arrives();
+    shows(TRANSFER, OUT | 1 | OK, 64);
+    TOGETHER("together-iso-out-64");
+    close_all();
+}
+
 /* The costs of a packet depend on the maximum: a slot is armed up to it. */
 static void isochronous_out(uint32_t of, const char *on_time, const char *late, const char *full)
 {
@@ -376,6 +424,7 @@ int main(void)
     starting();
     bus();
     interrupts();
+    together();
     isochronous_out(64, "interrupt-iso-out-64", "interrupt-iso-out-64-late", "interrupt-iso-out-64-overrun");
     isochronous_out(512, "interrupt-iso-out-512", "interrupt-iso-out-512-late", "interrupt-iso-out-512-overrun");
     isochronous_out(1024, "interrupt-iso-out-1024", "interrupt-iso-out-1024-late", "interrupt-iso-out-1024-overrun");

@@ -14,3 +14,5 @@ pub mod StepsLaws
 pub mod Calls
 pub mod Exported
 pub mod FourDrivers
+pub mod Together
+pub mod TogetherLaws

@@ -4,3 +4,5 @@ pub mod Setup
 pub mod SetupLaws
 pub mod Woken
 pub mod Preview
+pub mod Readings
+pub mod ReadingsLaws

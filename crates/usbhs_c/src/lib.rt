@@ -3,6 +3,7 @@
 // share, `driver` the caller's number in it, modulo 4.
 pub mod inputs; // inputs.rt: directions and flags as numbers
 pub mod listed; // listed.rt: endpoints from a configuration descriptor
+pub mod readings; // readings.rt: readings that come in a row, brought by one call
 pub mod setup; // setup.rt: a setup packet's bytes
 pub mod stamp; // stamp.rt: the stamp of a packet that is shown
 pub mod woken; // woken.rt: the wake-ups of the last end

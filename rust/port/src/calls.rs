@@ -218,6 +218,22 @@ impl Port<'_> {
         Answer::of(unsafe { usbhs_continue(s, b, n, self.time.0.as_mut_ptr(), self.driver, reading) })
     }
 
+    /// The chip's interrupt with its first two readings: [`Port::begin_interrupt`], then a [`Port::go_on`] with each, as
+    /// long as it is asked for.
+    pub fn interrupt(&mut self, frame_no: u32, int_fg: u32) -> Answer {
+        let (s, b, n) = (self.state.0.as_mut_ptr(), self.slots.as_mut_ptr(), length(self.slots));
+        // SAFETY: as in `start_up`
+        Answer::of(unsafe { usbhs_interrupt(s, b, n, self.time.0.as_mut_ptr(), self.driver, frame_no, int_fg) })
+    }
+
+    /// Goes on with a transfer's three readings: a [`Port::go_on`] with each, as long as it is asked for.
+    pub fn go_on_transfer(&mut self, mis_st: u32, int_st: u32, rx_len: u32) -> Answer {
+        let (s, b, n, t) =
+            (self.state.0.as_mut_ptr(), self.slots.as_mut_ptr(), length(self.slots), self.time.0.as_mut_ptr());
+        // SAFETY: as in `start_up`
+        Answer::of(unsafe { usbhs_continue_transfer(s, b, n, t, self.driver, mis_st, int_st, rx_len) })
+    }
+
     /// Enables or disables an endpoint; refused with 19 where there is no bus time for it.
     pub fn begin_set_enabled(&mut self, endpoint: u8, direction: Direction, enabled: bool) -> Answer {
         let (s, b, n, t) =
@@ -350,6 +366,8 @@ extern "C" {
     fn usbhs_preview(s: Bytes, bytes: Bytes, n: Length, numbers: *mut u8, buffers: *mut U, refusal: *mut U) -> u64;
     fn usbhs_continue(s: S, slots: Slots, n: Length, t: Time, driver: U, value: U) -> u64;
     fn usbhs_begin_interrupt(s: S) -> u64;
+    fn usbhs_interrupt(s: S, slots: Slots, n: Length, t: Time, driver: U, frame: U, flags: U) -> u64;
+    fn usbhs_continue_transfer(s: S, slots: Slots, n: Length, t: Time, driver: U, mis: U, st: U, len: U) -> u64;
     fn usbhs_begin_bus_poll(s: S) -> u64;
     fn usbhs_begin_bus_enable(s: S) -> u64;
     fn usbhs_begin_bus_disable(s: S) -> u64;

@@ -61,11 +61,25 @@ impl Device<'_> {
         self.chip.woken.clone()
     }
 
+    /// The same, its readings that come in a row brought by one call.
+    fn interrupt_together(&mut self, flags: u32) -> Vec<Task> {
+        self.set(Register::IntFg, flags);
+        self.chip.woken.clear();
+        let reading = |r: Register| self.chip.read[r as usize][0];
+        let (frame, mis, st, len) =
+            (reading(Register::FrameNo), reading(Register::MisSt), reading(Register::IntSt), reading(Register::RxLen));
+        self.ok(|p| match p.interrupt(frame, flags) {
+            Answer::Read { register: Register::MisSt, .. } => p.go_on_transfer(mis, st, len),
+            other => other,
+        });
+        self.chip.woken.clone()
+    }
+
     /// A transfer's: status as packed by the header, and how much was received.
     fn transfer(&mut self, status: u32, received: usize) -> Vec<Task> {
         self.set(Register::IntSt, status);
         self.set(Register::RxLen, received as u32);
-        self.interrupt(2)
+        self.interrupt_together(2)
     }
 
     /// What the chip stores where it was told to.

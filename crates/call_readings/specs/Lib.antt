@@ -1,0 +1,4 @@
+pub mod Readings
+pub mod Passing
+pub mod Standing
+pub mod PassingLaws

@@ -1,0 +1,69 @@
+-- The bytes of a state that stands at a point of the interrupt: as they were but for the 22 saved ones. What a call of one access would have stored and one
+-- that brings several readings passes over
+use mathlib.Core.Path.{_≡_, refl, ap, subst, _∙_}
+use mathlib.Core.Logic.{_⊎_, inl, inr}
+use mathlib.Core.List.{List}
+use Prim.Native.Nat.{ℕ, _+_, _*_, _≤_}
+use native.Mathlib.Omega.{arith}
+use lib.ListN.{length}
+use Rattle.le_bytes.specs.Bytes.{gets, puts, number, bytes}
+use Rattle.le_bytes.specs.Runs.{Same, puts-same, gets-same, gets-puts}
+use Rattle.le_bytes.specs.Numbers.{numbers-bytes}
+use Rattle.le_bytes.specs.Tables.{table}
+use Rattle.le_bytes.specs.TablesLaws.{table-same}
+use Rattle.regs.specs.declared.Access.{Access}
+use Rattle.state.specs.declared.Saved.{Saved}
+use Rattle.state.specs.Codec.{savedWidths, savedAs, savedOf}
+use Rattle.state.specs.State.{epIn, allocatorIn, globalsIn, wakesIn, requestIn, controlIn, savedIn, view, saved}
+use Rattle.irq.specs.declared.Point.{Point}
+use Rattle.irq_points.specs.Stands.{Stands}
+use Rattle.machine.specs.declared.Suspended.the-variants as under
+use Rattle.machine.specs.declared.Step.the-variants as step
+use Rattle.machine.specs.Suspended.{encode}
+
+abbrev savedBytes : Saved → List ℕ
+savedBytes c = bytes savedWidths (savedAs c)
+
+unfoldable pub standing : List ℕ → Point → List ℕ
+standing xs p = puts xs 2817 0 (savedBytes (encode (under.Interrupt p)))
+
+module _ (xs : List ℕ) (c : Saved) where
+  abbrev ys : List ℕ
+  ys = puts xs 2817 0 (savedBytes c)
+
+  below : (p q : ℕ) → q ≤ 2817 → Same xs ys p q
+  below p q h = puts-same xs 2817 (savedBytes c) p q (inl h)
+
+  one : {A : Type 0} (f : List ℕ → A) (p n : ℕ) → p + n ≤ 2817 → f (gets ys p 0 n) ≡ f (gets xs p 0 n)
+  one f p n h = ap f (gets-same xs ys p n (below p (p + n) h))
+
+  many : {A : Type 0} (f : List ℕ → A) (p n z : ℕ) → p + n * z ≤ 2817 → table ys p n z f ≡ table xs p n z f
+  many f p n z h = table-same f p n z xs ys (below p (p + n * z) h)
+
+  view-stays : view ys ≡ view xs
+  unfolding view
+  view-stays = λ i. record {
+    eps = many epIn 0 32 30 (omega arith) i;
+    lens = many number 960 512 2 (omega arith) i;
+    stamps = many number 1984 256 2 (omega arith) i;
+    globals = one globalsIn 2496 37 (omega arith) i;
+    allocator = one allocatorIn 2533 18 (omega arith) i;
+    paced = many number 2551 16 2 (omega arith) i;
+    requests = many requestIn 2583 32 5 (omega arith) i;
+    control = one controlIn 2743 9 (omega arith) i;
+    wakes = record { count = one number 2752 1 (omega arith) i; codes = many number 2753 64 1 (omega arith) i };
+  }
+
+  saved-is : length xs ≡ 2839 → saved ys ≡ c
+  unfolding saved
+  saved-is long =
+      ap savedIn (gets-puts xs 2817 (savedBytes c) (omega (arith, long))) ∙ ap savedOf (numbers-bytes savedWidths (savedAs c) tt)
+
+-- it stands there: its access is the answer
+pub stands : (xs : List ℕ) → length xs ≡ 2839 → (q : Access) (p : Point) → Stands (step.Asks q) q p xs (standing xs p)
+unfolding standing
+stands xs long q p = record {
+  answered = refl;
+  viewed = view-stays xs (encode (under.Interrupt p));
+  stored = saved-is xs (encode (under.Interrupt p)) long;
+}
