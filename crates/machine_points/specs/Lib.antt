@@ -1,0 +1,3 @@
+pub mod Stands
+pub mod StandsLaws
+pub mod BusLaws
