@@ -43,7 +43,7 @@ pub fn poll(s: &mut [u8; STATE_LEN]) -> Next
 // The suspend interrupt is enabled again (mod.rs 1254); the event is by the status.
 pub fn after_released(s: &mut [u8; STATE_LEN]) -> Access
     ensures { λ r. ⌜ ((down : Bool) (b : List ℕ) →
-      meaning (Next.Asks r (Point.Event (cond down 3 4))) (view (now (s .exit))) b ≡ go (afterReleased down) (view (now (s .entry))) b) ⌝ }
+        meaning (Next.Asks r (Point.Event (cond down 3 4))) (view (now (s .exit))) b ≡ go (afterReleased down) (view (now (s .entry))) b) ⌝ }
     ensures { λ _. ⌜ saved (now (s .exit)) ≡ saved (now (s .entry)) ⌝ }
     ensures { λ r. ⌜ ((n : ℕ) → Linked (Next.Asks r (Point.Event n))) ⌝ }
 {
@@ -95,7 +95,7 @@ pub fn after_naked(e: u8) -> Access
 // After the last, the row that disables them all.
 pub fn after_last(s: &mut [u8; STATE_LEN]) -> Access
     ensures { λ r. ⌜ ((e : ℕ) → 15 ≤ e → (b : List ℕ) →
-      meaning (Next.Asks r Point.Disabled) (view (now (s .exit))) b ≡ go (afterNaked e) (view (now (s .entry))) b) ⌝ }
+        meaning (Next.Asks r Point.Disabled) (view (now (s .exit))) b ≡ go (afterNaked e) (view (now (s .entry))) b) ⌝ }
     ensures { λ _. ⌜ saved (now (s .exit)) ≡ saved (now (s .entry)) ⌝ }
     ensures { λ r. ⌜ Linked (Next.Asks r Point.Disabled) ⌝ }
 {
@@ -104,7 +104,8 @@ pub fn after_last(s: &mut [u8; STATE_LEN]) -> Access
 }
 
 pub fn after_disabled(s: &mut [u8; STATE_LEN]) -> Access
-    ensures { λ r. ⌜ ((v : ℕ) (b : List ℕ) → meaning (Next.Asks r Point.Untyped) (view (now (s .exit))) b ≡ denote Point.Disabled v (view (now (s .entry)), b)) ⌝ }
+    ensures { λ r. ⌜ ((v : ℕ) (b : List ℕ) → meaning (Next.Asks r Point.Untyped) (view (now (s .exit))) b
+        ≡ denote Point.Disabled v (view (now (s .entry)), b)) ⌝ }
     ensures { λ _. ⌜ saved (now (s .exit)) ≡ saved (now (s .entry)) ⌝ }
     ensures { λ r. ⌜ Linked (Next.Asks r Point.Untyped) ⌝ }
 {
@@ -121,7 +122,8 @@ pub fn after_untyped() -> Access
 
 // Every record is reset in the call that clears the flag (mod.rs 1213-1216, 1245).
 pub fn after_single(s: &mut [u8; STATE_LEN]) -> Access
-    ensures { λ r. ⌜ ((v : ℕ) (b : List ℕ) → meaning (Next.Asks r Point.Reset) (view (now (s .exit))) b ≡ denote Point.Single v (view (now (s .entry)), b)) ⌝ }
+    ensures { λ r. ⌜ ((v : ℕ) (b : List ℕ) → meaning (Next.Asks r Point.Reset) (view (now (s .exit))) b
+        ≡ denote Point.Single v (view (now (s .entry)), b)) ⌝ }
     ensures { λ _. ⌜ saved (now (s .exit)) ≡ saved (now (s .entry)) ⌝ }
     ensures { λ r. ⌜ Linked (Next.Asks r Point.Reset) ⌝ }
 {

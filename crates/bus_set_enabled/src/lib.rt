@@ -103,7 +103,8 @@ fn out_word(on: bool) -> u8
 }
 
 pub fn after_placed_out(e: u8, on: bool) -> Access
-    ensures { λ r. ⌜ ((v : ℕ) (d : Driver) (b : List ℕ) → meaning (Next.Asks r (Point.Words Dir.Out e false on)) d b ≡ denote (Point.PlacedOut e on) v (d, b)) ⌝ }
+    ensures { λ r. ⌜ ((v : ℕ) (d : Driver) (b : List ℕ) → meaning (Next.Asks r (Point.Words Dir.Out e false on)) d b
+        ≡ denote (Point.PlacedOut e on) v (d, b)) ⌝ }
     ensures { λ r. ⌜ Linked (Next.Asks r (Point.Words Dir.Out e false on)) ⌝ }
 {
     let word = out_word(on);
@@ -111,7 +112,8 @@ pub fn after_placed_out(e: u8, on: bool) -> Access
 }
 
 pub fn after_placed_in(e: u8) -> Access
-    ensures { λ r. ⌜ ((iso on : Bool) (v : ℕ) (d : Driver) (b : List ℕ) → meaning (Next.Asks r (Point.NoLength e iso on)) d b ≡ denote (Point.PlacedIn e iso on) v (d, b)) ⌝ }
+    ensures { λ r. ⌜ ((iso on : Bool) (v : ℕ) (d : Driver) (b : List ℕ) → meaning (Next.Asks r (Point.NoLength e iso on)) d b
+        ≡ denote (Point.PlacedIn e iso on) v (d, b)) ⌝ }
     ensures { λ r. ⌜ ((iso on : Bool) → Linked (Next.Asks r (Point.NoLength e iso on))) ⌝ }
 {
     Access::Write(Reg::EpTLen, e, 0)
@@ -146,7 +148,8 @@ pub fn after_no_length(e: u8, iso: bool, on: bool) -> Access
 
 // ep_type's bit, then ep_config's (mod.rs 1310-1311, 1324-1325).
 pub fn after_words(s: &mut [u8; STATE_LEN], dir: Dir, e: u8, iso: bool, on: bool) -> Access
-    ensures { λ r. ⌜ ((b : List ℕ) → meaning (Next.Asks r (Point.Type dir e on)) (view (now (s .exit))) b ≡ go (afterWords dir e iso on) (view (now (s .entry))) b) ⌝ }
+    ensures { λ r. ⌜ ((b : List ℕ) → meaning (Next.Asks r (Point.Type dir e on)) (view (now (s .exit))) b
+        ≡ go (afterWords dir e iso on) (view (now (s .entry))) b) ⌝ }
     ensures { λ _. ⌜ saved (now (s .exit)) ≡ saved (now (s .entry)) ⌝ }
     ensures { λ r. ⌜ Linked (Next.Asks r (Point.Type dir e on)) ⌝ }
 {
@@ -158,7 +161,8 @@ pub fn after_words(s: &mut [u8; STATE_LEN], dir: Dir, e: u8, iso: bool, on: bool
 }
 
 pub fn after_type(s: &mut [u8; STATE_LEN], dir: Dir, e: u8, on: bool) -> Access
-    ensures { λ r. ⌜ ((b : List ℕ) → meaning (Next.Asks r (Point.Woken dir e)) (view (now (s .exit))) b ≡ go (afterType dir e on) (view (now (s .entry))) b) ⌝ }
+    ensures { λ r. ⌜ ((b : List ℕ) → meaning (Next.Asks r (Point.Woken dir e)) (view (now (s .exit))) b
+        ≡ go (afterType dir e on) (view (now (s .entry))) b) ⌝ }
     ensures { λ _. ⌜ saved (now (s .exit)) ≡ saved (now (s .entry)) ⌝ }
     ensures { λ r. ⌜ Linked (Next.Asks r (Point.Woken dir e)) ⌝ }
 {

@@ -49,6 +49,11 @@ comes-to {r} {n} {v} {u} {xs} {ys} {zs} {b} {after} {o} g h k = record {
   kept = h .stored xs;
 }
 
+-- either, by a function that suspends or ends it
+pub follows : {r : Step} {v : ℕ} {u : Suspended} {xs zs : List ℕ} {b after : Buf} (o : Out St ℕ) → resumed v u (view xs) b ≡ halted o
+    → _≡_ {A = Called} (answerOf r [] (view zs), machineOf zs after) (halted o) → Stored r zs → Resumes r v u xs b zs after
+follows {r} {v} {u} {xs} {zs} {b} {after} o g h k = record { called = h ∙ sym g; kept = k xs }
+
 -- row 16: it stays where it is
 pub stays-at : {v : ℕ} {u : Suspended} {xs : List ℕ} {b : Buf} → decode (saved xs) ≡ u → resumed v u (view xs) b ≡ stayed u (view xs) b
     → Resumes (step.Refused 16) v u xs b xs b
@@ -66,7 +71,15 @@ pub decoded : {r : Step} {v : ℕ} {u : Suspended} {xs ys : List ℕ} {b after :
     → Resumes r v (decode (saved xs)) xs b ys after
 decoded e h = loaded (sym e) h
 
--- what has two parts, three or four
+-- both sentences of it, at the point that is saved
+pub called-at : {r : Step} {v : ℕ} {u : Suspended} {xs ys : List ℕ} {b after : Buf} → decode (saved xs) ≡ u → Resumes r v u xs b ys after
+    → _≡_ {A = Called} (answerOf r [] (view ys), machineOf ys after) (resumed v (decode (saved xs)) (view xs) b)
+called-at {r} {v} {u} {xs} {ys} {b} {after} e h = decoded {u = u} e h .called
+
+pub kept-at : {r : Step} {v : ℕ} {u : Suspended} {xs ys : List ℕ} {b after : Buf} → Resumes r v u xs b ys after → SavedByAnswer r xs ys
+kept-at h = h .kept
+
+-- what has two parts, three, four or five
 pub parts2 : {A B C : Type 0} (f : A → B → C) {a x : A} {b y : B} → a ≡ x → b ≡ y → f a b ≡ f x y
 parts2 f p q = λ i. f (p i) (q i)
 
@@ -76,3 +89,7 @@ parts3 f p q r = λ i. f (p i) (q i) (r i)
 pub parts4 : {A B C D E : Type 0} (f : A → B → C → D → E) {a x : A} {b y : B} {c z : C} {d w : D}
     → a ≡ x → b ≡ y → c ≡ z → d ≡ w → f a b c d ≡ f x y z w
 parts4 f p q r s = λ i. f (p i) (q i) (r i) (s i)
+
+pub parts5 : {A B C D E F : Type 0} (f : A → B → C → D → E → F) {a x : A} {b y : B} {c z : C} {d w : D} {e v : E}
+    → a ≡ x → b ≡ y → c ≡ z → d ≡ w → e ≡ v → f a b c d e ≡ f x y z w v
+parts5 f p q r s t = λ i. f (p i) (q i) (r i) (s i) (t i)

@@ -110,7 +110,8 @@ pub fn resume_stall_len(s: &mut [u8; STATE_LEN]) -> Step
 // A control word is read, to be stalled.
 pub fn resume_stall_word(s: &mut [u8; STATE_LEN], v: u32) -> Step
     requires { ⌜ decode (saved (now s)) ≡ Under.Bus (Point.StallWord (dirOf ((saved (now s)) .site)) ((saved (now s)) .ep)) ⌝ }
-    ensures { λ r. ⌜ ((b : List ℕ) → Resumes r v (Under.Bus (Point.StallWord (dirOf (saved (now (s .entry)) .site)) (saved (now (s .entry)) .ep))) (now (s .entry)) b (now (s .exit)) b) ⌝ }
+    ensures { λ r. ⌜ ((b : List ℕ) → Resumes r v (Under.Bus (Point.StallWord (dirOf (saved (now (s .entry)) .site))
+        (saved (now (s .entry)) .ep))) (now (s .entry)) b (now (s .exit)) b) ⌝ }
 {
     if fits(v, 8) {
         let d = dir_at(s);
@@ -277,7 +278,8 @@ pub fn resume_placed_out(s: &mut [u8; STATE_LEN]) -> Step
 
 // An IN's.
 pub fn resume_placed_in(s: &mut [u8; STATE_LEN]) -> Step
-    ensures { λ r. ⌜ ((v : ℕ) (b : List ℕ) → Resumes r v (Under.Bus (Point.PlacedIn (saved (now (s .entry)) .ep) (isOn (saved (now (s .entry)) .busy)) (isOn (saved (now (s .entry)) .flag))))
+    ensures { λ r. ⌜ ((v : ℕ) (b : List ℕ) → Resumes r v (Under.Bus (Point.PlacedIn (saved (now (s .entry)) .ep) (isOn
+        (saved (now (s .entry)) .busy)) (isOn (saved (now (s .entry)) .flag))))
         (now (s .entry)) b (now (s .exit)) b) ⌝ }
 {
     let e = ep_byte(s);
@@ -289,7 +291,8 @@ pub fn resume_placed_in(s: &mut [u8; STATE_LEN]) -> Step
 
 // Ep_t_len is 0.
 pub fn resume_no_length(s: &mut [u8; STATE_LEN]) -> Step
-    ensures { λ r. ⌜ ((v : ℕ) (b : List ℕ) → Resumes r v (Under.Bus (Point.NoLength (saved (now (s .entry)) .ep) (isOn (saved (now (s .entry)) .busy)) (isOn (saved (now (s .entry)) .flag))))
+    ensures { λ r. ⌜ ((v : ℕ) (b : List ℕ) → Resumes r v (Under.Bus (Point.NoLength (saved (now (s .entry)) .ep) (isOn
+        (saved (now (s .entry)) .busy)) (isOn (saved (now (s .entry)) .flag))))
         (now (s .entry)) b (now (s .exit)) b) ⌝ }
 {
     let e = ep_byte(s);
@@ -301,7 +304,8 @@ pub fn resume_no_length(s: &mut [u8; STATE_LEN]) -> Step
 
 // The control word is set.
 pub fn resume_words(s: &mut [u8; STATE_LEN]) -> Step
-    ensures { λ r. ⌜ ((v : ℕ) (b : List ℕ) → Resumes r v (Under.Bus (Point.Words (dirOf (saved (now (s .entry)) .site)) (saved (now (s .entry)) .ep) (isOn (saved (now (s .entry)) .busy)) (isOn (saved (now (s .entry)) .flag))))
+    ensures { λ r. ⌜ ((v : ℕ) (b : List ℕ) → Resumes r v (Under.Bus (Point.Words (dirOf (saved (now (s .entry)) .site))
+        (saved (now (s .entry)) .ep) (isOn (saved (now (s .entry)) .busy)) (isOn (saved (now (s .entry)) .flag))))
         (now (s .entry)) b (now (s .exit)) b) ⌝ }
 {
     let d = dir_at(s);
@@ -314,7 +318,8 @@ pub fn resume_words(s: &mut [u8; STATE_LEN]) -> Step
 
 // Ep_type is set.
 pub fn resume_typed(s: &mut [u8; STATE_LEN]) -> Step
-    ensures { λ r. ⌜ ((v : ℕ) (b : List ℕ) → Resumes r v (Under.Bus (Point.Type (dirOf (saved (now (s .entry)) .site)) (saved (now (s .entry)) .ep) (isOn (saved (now (s .entry)) .flag))))
+    ensures { λ r. ⌜ ((v : ℕ) (b : List ℕ) → Resumes r v (Under.Bus (Point.Type (dirOf (saved (now (s .entry)) .site))
+        (saved (now (s .entry)) .ep) (isOn (saved (now (s .entry)) .flag))))
         (now (s .entry)) b (now (s .exit)) b) ⌝ }
 {
     let d = dir_at(s);
@@ -326,7 +331,8 @@ pub fn resume_typed(s: &mut [u8; STATE_LEN]) -> Step
 
 // In the row of an isochronous OUT.
 pub fn resume_switch(s: &mut [u8; STATE_LEN], slots: &mut [u8]) -> Step
-    ensures { λ r. ⌜ ((v : ℕ) → Resumes r v (Under.Bus (Point.Switch (saved (now (s .entry)) .ep) (isOn (saved (now (s .entry)) .flag)) (saved (now (s .entry)) .st)))
+    ensures { λ r. ⌜ ((v : ℕ) → Resumes r v (Under.Bus (Point.Switch (saved (now (s .entry)) .ep) (isOn (saved (now (s .entry)) .flag))
+        (saved (now (s .entry)) .st)))
         (now (s .entry)) (now (slots .entry)) (now (s .exit)) (now (slots .exit))) ⌝ }
 {
     let e = ep_byte(s);

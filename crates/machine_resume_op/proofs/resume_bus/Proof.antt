@@ -108,154 +108,176 @@ resume-enable-requires c κs =
 returns : tie.Need-returns
 returns c =
     let a = c .before .before .before .before .before .before .args in
-    let here = at-number (saved (now (a .s))) 1 (c .before .before .before .before .before .before .pre) (sym (c .before .before .before .sub-byte .ensures) ∙ c .before .before .match .keys1) in
+    let here = at-number (saved (now (a .s))) 1 (c .before .before .before .before .before .before .pre)
+    (sym (c .before .before .before .sub-byte .ensures) ∙ c .before .before .match .keys1) in
     let went = decoded here (c .resume-event .ensures (a .v) (now (a .slots))) in
     (went .called, went .kept)
 
 returns-2 : tie.Need-returns-2
 returns-2 c =
     let a = c .before .before .before .before .before .before .args in
-    let here = at-number (saved (now (a .s))) 2 (c .before .before .before .before .before .before .pre) (sym (c .before .before .before .sub-byte .ensures) ∙ c .before .before .match .keys2) in
+    let here = at-number (saved (now (a .s))) 2 (c .before .before .before .before .before .before .pre)
+    (sym (c .before .before .before .sub-byte .ensures) ∙ c .before .before .match .keys2) in
     let went = decoded here (c .resume-stalled .ensures (now (a .slots))) in
     (went .called, went .kept)
 
 returns-3 : tie.Need-returns-3
 returns-3 c =
     let a = c .before .before .before .before .before .before .args in
-    let here = at-number (saved (now (a .s))) 3 (c .before .before .before .before .before .before .pre) (sym (c .before .before .before .sub-byte .ensures) ∙ c .before .before .match .keys3) in
+    let here = at-number (saved (now (a .s))) 3 (c .before .before .before .before .before .before .pre)
+    (sym (c .before .before .before .sub-byte .ensures) ∙ c .before .before .match .keys3) in
     let went = decoded here (c .resume-stall-len .ensures (a .v) (now (a .slots))) in
     (went .called, went .kept)
 
 returns-4 : tie.Need-returns-4
 returns-4 c =
     let a = c .before .before .before .before .before .before .args in
-    let here = at-number (saved (now (a .s))) 4 (c .before .before .before .before .before .before .pre) (sym (c .before .before .before .sub-byte .ensures) ∙ c .before .before .match .keys4) in
+    let here = at-number (saved (now (a .s))) 4 (c .before .before .before .before .before .before .pre)
+    (sym (c .before .before .before .sub-byte .ensures) ∙ c .before .before .match .keys4) in
     let went = decoded here (c .resume-stall-word .ensures (now (a .slots))) in
     (went .called, went .kept)
 
 returns-5 : tie.Need-returns-5
 returns-5 c =
     let a = c .before .before .before .before .before .before .args in
-    let here = at-number (saved (now (a .s))) 5 (c .before .before .before .before .before .before .pre) (sym (c .before .before .before .sub-byte .ensures) ∙ c .before .before .match .keys5) in
+    let here = at-number (saved (now (a .s))) 5 (c .before .before .before .before .before .before .pre)
+    (sym (c .before .before .before .sub-byte .ensures) ∙ c .before .before .match .keys5) in
     let went = decoded here (c .resume-restarted .ensures (a .v) (now (a .slots))) in
     (went .called, went .kept)
 
 returns-6 : tie.Need-returns-6
 returns-6 c =
     let a = c .before .before .before .before .before .before .args in
-    let here = at-number (saved (now (a .s))) 6 (c .before .before .before .before .before .before .pre) (sym (c .before .before .before .sub-byte .ensures) ∙ c .before .before .match .keys6) in
+    let here = at-number (saved (now (a .s))) 6 (c .before .before .before .before .before .before .pre)
+    (sym (c .before .before .before .sub-byte .ensures) ∙ c .before .before .match .keys6) in
     let went = decoded here (c .resume-woken .ensures (a .v) (now (a .slots))) in
     (went .called, went .kept)
 
 returns-7 : tie.Need-returns-7
 returns-7 c =
     let a = c .before .before .before .before .before .before .args in
-    let here = at-number (saved (now (a .s))) 7 (c .before .before .before .before .before .before .pre) (sym (c .before .before .before .sub-byte .ensures) ∙ c .before .before .match .keys7) in
+    let here = at-number (saved (now (a .s))) 7 (c .before .before .before .before .before .before .pre)
+    (sym (c .before .before .before .sub-byte .ensures) ∙ c .before .before .match .keys7) in
     let went = decoded here (c .resume-flags .ensures (now (a .slots))) in
     (went .called, went .kept)
 
 returns-8 : tie.Need-returns-8
 returns-8 c =
     let a = c .before .before .before .before .before .before .args in
-    let here = at-number (saved (now (a .s))) 8 (c .before .before .before .before .before .before .pre) (sym (c .before .before .before .sub-byte .ensures) ∙ c .before .before .match .keys8) in
+    let here = at-number (saved (now (a .s))) 8 (c .before .before .before .before .before .before .pre)
+    (sym (c .before .before .before .sub-byte .ensures) ∙ c .before .before .match .keys8) in
     let went = decoded here (c .resume-status .ensures (now (a .slots))) in
     (went .called, went .kept)
 
 returns-9 : tie.Need-returns-9
 returns-9 c =
     let a = c .before .before .before .before .before .before .args in
-    let here = at-number (saved (now (a .s))) 9 (c .before .before .before .before .before .before .pre) (sym (c .before .before .before .sub-byte .ensures) ∙ c .before .before .match .keys9) in
+    let here = at-number (saved (now (a .s))) 9 (c .before .before .before .before .before .before .pre)
+    (sym (c .before .before .before .sub-byte .ensures) ∙ c .before .before .match .keys9) in
     let went = decoded here (c .resume-released .ensures (a .v) (now (a .slots))) in
     (went .called, went .kept)
 
 returns-10 : tie.Need-returns-10
 returns-10 c =
     let a = c .before .before .before .before .before .before .args in
-    let here = at-number (saved (now (a .s))) 10 (c .before .before .before .before .before .before .pre) (sym (c .before .before .before .sub-byte .ensures) ∙ c .before .before .match .keys10) in
+    let here = at-number (saved (now (a .s))) 10 (c .before .before .before .before .before .before .pre)
+    (sym (c .before .before .before .sub-byte .ensures) ∙ c .before .before .match .keys10) in
     let went = decoded here (c .resume-address .ensures (a .v) (now (a .slots))) in
     (went .called, went .kept)
 
 returns-11 : tie.Need-returns-11
 returns-11 c =
     let a = c .before .before .before .before .before .before .args in
-    let here = at-number (saved (now (a .s))) 11 (c .before .before .before .before .before .before .pre) (sym (c .before .before .before .sub-byte .ensures) ∙ c .before .before .match .keys11) in
+    let here = at-number (saved (now (a .s))) 11 (c .before .before .before .before .before .before .pre)
+    (sym (c .before .before .before .sub-byte .ensures) ∙ c .before .before .match .keys11) in
     let went = decoded here (c .resume-ep0-out .ensures (a .v) (now (a .slots))) in
     (went .called, went .kept)
 
 returns-12 : tie.Need-returns-12
 returns-12 c =
     let a = c .before .before .before .before .before .before .args in
-    let here = at-number (saved (now (a .s))) 12 (c .before .before .before .before .before .before .pre) (sym (c .before .before .before .sub-byte .ensures) ∙ c .before .before .match .keys12) in
+    let here = at-number (saved (now (a .s))) 12 (c .before .before .before .before .before .before .pre)
+    (sym (c .before .before .before .sub-byte .ensures) ∙ c .before .before .match .keys12) in
     let went = decoded here (c .resume-nak-in .ensures (a .v) (now (a .slots))) in
     (went .called, went .kept)
 
 returns-13 : tie.Need-returns-13
 returns-13 c =
     let a = c .before .before .before .before .before .before .args in
-    let here = at-number (saved (now (a .s))) 13 (c .before .before .before .before .before .before .pre) (sym (c .before .before .before .sub-byte .ensures) ∙ c .before .before .match .keys13) in
+    let here = at-number (saved (now (a .s))) 13 (c .before .before .before .before .before .before .pre)
+    (sym (c .before .before .before .sub-byte .ensures) ∙ c .before .before .match .keys13) in
     let went = decoded here (c .resume-naked .ensures (a .v) (now (a .slots))) in
     (went .called, went .kept)
 
 returns-14 : tie.Need-returns-14
 returns-14 c =
     let a = c .before .before .before .before .before .before .args in
-    let here = at-number (saved (now (a .s))) 14 (c .before .before .before .before .before .before .pre) (sym (c .before .before .before .sub-byte .ensures) ∙ c .before .before .match .keys14) in
+    let here = at-number (saved (now (a .s))) 14 (c .before .before .before .before .before .before .pre)
+    (sym (c .before .before .before .sub-byte .ensures) ∙ c .before .before .match .keys14) in
     let went = decoded here (c .resume-disabled .ensures (a .v) (now (a .slots))) in
     (went .called, went .kept)
 
 returns-15 : tie.Need-returns-15
 returns-15 c =
     let a = c .before .before .before .before .before .before .args in
-    let here = at-number (saved (now (a .s))) 15 (c .before .before .before .before .before .before .pre) (sym (c .before .before .before .sub-byte .ensures) ∙ c .before .before .match .keys15) in
+    let here = at-number (saved (now (a .s))) 15 (c .before .before .before .before .before .before .pre)
+    (sym (c .before .before .before .sub-byte .ensures) ∙ c .before .before .match .keys15) in
     let went = decoded here (c .resume-untyped .ensures (a .v) (now (a .slots))) in
     (went .called, went .kept)
 
 returns-16 : tie.Need-returns-16
 returns-16 c =
     let a = c .before .before .before .before .before .before .args in
-    let here = at-number (saved (now (a .s))) 16 (c .before .before .before .before .before .before .pre) (sym (c .before .before .before .sub-byte .ensures) ∙ c .before .before .match .keys16) in
+    let here = at-number (saved (now (a .s))) 16 (c .before .before .before .before .before .before .pre)
+    (sym (c .before .before .before .sub-byte .ensures) ∙ c .before .before .match .keys16) in
     let went = decoded here (c .resume-single .ensures (a .v) (now (a .slots))) in
     (went .called, went .kept)
 
 returns-17 : tie.Need-returns-17
 returns-17 c =
     let a = c .before .before .before .before .before .before .args in
-    let here = at-number (saved (now (a .s))) 17 (c .before .before .before .before .before .before .pre) (sym (c .before .before .before .sub-byte .ensures) ∙ c .before .before .match .keys17) in
+    let here = at-number (saved (now (a .s))) 17 (c .before .before .before .before .before .before .pre)
+    (sym (c .before .before .before .sub-byte .ensures) ∙ c .before .before .match .keys17) in
     let went = decoded here (c .resume-reset .ensures (a .v) (now (a .slots))) in
     (went .called, went .kept)
 
 returns-18 : tie.Need-returns-18
 returns-18 c =
     let a = c .before .before .before .before .before .before .args in
-    let here = at-number (saved (now (a .s))) 18 (c .before .before .before .before .before .before .pre) (sym (c .before .before .before .sub-byte .ensures) ∙ c .before .before .match .keys18) in
+    let here = at-number (saved (now (a .s))) 18 (c .before .before .before .before .before .before .pre)
+    (sym (c .before .before .before .sub-byte .ensures) ∙ c .before .before .match .keys18) in
     let went = decoded here (c .resume-placed-out .ensures (a .v) (now (a .slots))) in
     (went .called, went .kept)
 
 returns-19 : tie.Need-returns-19
 returns-19 c =
     let a = c .before .before .before .before .before .before .args in
-    let here = at-number (saved (now (a .s))) 19 (c .before .before .before .before .before .before .pre) (sym (c .before .before .before .sub-byte .ensures) ∙ c .before .before .match .keys19) in
+    let here = at-number (saved (now (a .s))) 19 (c .before .before .before .before .before .before .pre)
+    (sym (c .before .before .before .sub-byte .ensures) ∙ c .before .before .match .keys19) in
     let went = decoded here (c .resume-placed-in .ensures (a .v) (now (a .slots))) in
     (went .called, went .kept)
 
 returns-20 : tie.Need-returns-20
 returns-20 c =
     let a = c .before .before .before .before .before .before .args in
-    let here = at-number (saved (now (a .s))) 20 (c .before .before .before .before .before .before .pre) (sym (c .before .before .before .sub-byte .ensures) ∙ c .before .before .match .keys20) in
+    let here = at-number (saved (now (a .s))) 20 (c .before .before .before .before .before .before .pre)
+    (sym (c .before .before .before .sub-byte .ensures) ∙ c .before .before .match .keys20) in
     let went = decoded here (c .resume-no-length .ensures (a .v) (now (a .slots))) in
     (went .called, went .kept)
 
 returns-21 : tie.Need-returns-21
 returns-21 c =
     let a = c .before .before .before .before .before .before .args in
-    let here = at-number (saved (now (a .s))) 21 (c .before .before .before .before .before .before .pre) (sym (c .before .before .before .sub-byte .ensures) ∙ c .before .before .match .keys21) in
+    let here = at-number (saved (now (a .s))) 21 (c .before .before .before .before .before .before .pre)
+    (sym (c .before .before .before .sub-byte .ensures) ∙ c .before .before .match .keys21) in
     let went = decoded here (c .resume-words .ensures (a .v) (now (a .slots))) in
     (went .called, went .kept)
 
 returns-22 : tie.Need-returns-22
 returns-22 c =
     let a = c .before .before .before .before .before .before .args in
-    let here = at-number (saved (now (a .s))) 22 (c .before .before .before .before .before .before .pre) (sym (c .before .before .before .sub-byte .ensures) ∙ c .before .before .match .keys22) in
+    let here = at-number (saved (now (a .s))) 22 (c .before .before .before .before .before .before .pre)
+    (sym (c .before .before .before .sub-byte .ensures) ∙ c .before .before .match .keys22) in
     let went = decoded here (c .resume-typed .ensures (a .v) (now (a .slots))) in
     (went .called, went .kept)
 
@@ -265,7 +287,8 @@ same-length c = search needs
 returns-23 : tie.Need-returns-23
 returns-23 c =
     let a = c .before .before .before .before .before .before .before .before .before .args in
-    let here = at-number (saved (now (a .s))) 23 (c .before .before .before .before .before .before .before .before .before .pre) (sym (c .before .before .before .before .before .before .sub-byte .ensures) ∙ c .before .before .before .before .before .match .keys23) in
+    let here = at-number (saved (now (a .s))) 23 (c .before .before .before .before .before .before .before .before .before .pre)
+    (sym (c .before .before .before .before .before .before .sub-byte .ensures) ∙ c .before .before .before .before .before .match .keys23) in
     let went = decoded here (c .before .before .resume-switch .ensures (a .v)) in
     (went .called, went .kept)
 

@@ -24,10 +24,14 @@ returns : tie.Need-returns
 unfolding encode codec.encode
 returns c =
     let the-stand = c .stand in
+    let the-code = c .before .code in
+    let the-flag-of2 = c .before .before .flag-of2 in
+    let the-flag-of = c .before .before .before .flag-of in
+    let the-dir-as = c .before .before .before .before .dir-as in
     record {
       answered = the-stand .ensures .0;
       viewed = the-stand .ensures .1 .0;
-      stored = the-stand .ensures .1 .1 ∙ simp (c .before .code .ensures, c .before .before .flag-of2 .ensures, c .before .before .before .flag-of .ensures, c .before .before .before .before .dir-as .ensures);
+      stored = the-stand .ensures .1 .1 ∙ simp (the-code .ensures, the-flag-of2 .ensures, the-flag-of .ensures, the-dir-as .ensures);
     }
 
 pub stand-words-spec : {M : Type 1} → statement M

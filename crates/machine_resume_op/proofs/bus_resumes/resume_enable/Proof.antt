@@ -21,7 +21,7 @@ returns c =
     let stood = c .stand-event in
     let next = c .before .before .after-enable in
     λ b. bus-goes {p = point.Enable} (sym (c .before .before .before .before .fits2 .ensures) ∙ c .before .before .before .if1 .taken)
-        (stood .ensures) (next .ensures .1) (next .ensures .0 _ b)
+    (stood .ensures) (next .ensures .1) (next .ensures .0 _ b)
 
 returns-2 : tie.Need-returns-2
 unfolding fitsAt

@@ -28,7 +28,7 @@ returns c =
     let the-byte = c .before .before .before .before .byte in
     let fitted = sym (c .before .before .before .before .before .before .fits2 .ensures) ∙ c .before .before .before .before .before .if1 .taken in
     λ b. bus-goes {p = point.Flags} fitted (c .stand-address .ensures) refl
-        (simp (← the-byte .ensures, ← the-bus-rst .ensures, the-if2 .taken))
+    (simp (← the-byte .ensures, ← the-bus-rst .ensures, the-if2 .taken))
 
 suspend-requires : tie.Need-suspend-requires
 suspend-requires c κs = search needs
@@ -45,9 +45,9 @@ returns-2 c =
     let the-bus-rst = c .before .before .before .before .before .bus-rst in
     let the-byte = c .before .before .before .before .before .before .byte in
     let fitted = sym (c .before .before .before .before .before .before .before .before .fits2 .ensures)
-        ∙ c .before .before .before .before .before .before .before .if1 .taken in
+    ∙ c .before .before .before .before .before .before .before .if1 .taken in
     λ b. bus-goes {p = point.Flags} fitted (c .stand-status .ensures) refl
-        (simp (← the-byte .ensures, ← the-bus-rst .ensures, the-if2 .left, ← the-suspend .ensures, the-if3 .taken))
+    (simp (← the-byte .ensures, ← the-bus-rst .ensures, the-if2 .left, ← the-suspend .ensures, the-if3 .taken))
 
 stop-requires : tie.Need-stop-requires
 stop-requires c κs = search needs
@@ -61,9 +61,9 @@ returns-3 c =
     let the-bus-rst = c .before .before .before .before .before .bus-rst in
     let the-byte = c .before .before .before .before .before .before .byte in
     let fitted = sym (c .before .before .before .before .before .before .before .before .fits2 .ensures)
-        ∙ c .before .before .before .before .before .before .before .if1 .taken in
+    ∙ c .before .before .before .before .before .before .before .if1 .taken in
     λ b. bus-ends {p = point.Flags} fitted (c .stop .ensures)
-        (simp (← the-byte .ensures, ← the-bus-rst .ensures, the-if2 .left, ← the-suspend .ensures, the-if3 .left))
+    (simp (← the-byte .ensures, ← the-bus-rst .ensures, the-if2 .left, ← the-suspend .ensures, the-if3 .left))
 
 returns-4 : tie.Need-returns-4
 unfolding fitsAt afterFlags afterNaked

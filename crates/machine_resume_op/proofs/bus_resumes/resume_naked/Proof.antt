@@ -27,7 +27,7 @@ returns c =
     let next = c .before .before .after-naked in
     let the-ep-byte = c .before .before .before .before .ep-byte in
     λ v b. loaded (ap (λ (e : ℕ). under.Bus (point.Naked e)) (the-ep-byte .ensures))
-        (bus-goes refl (c .stand-nak-in .ensures) (next .ensures .1) (next .ensures .0 _ b))
+    (bus-goes refl (c .stand-nak-in .ensures) (next .ensures .1) (next .ensures .0 _ b))
 
 after-last-requires : tie.Need-after-last-requires
 after-last-requires c κs = search needs
@@ -42,7 +42,7 @@ returns-2 c =
     let the-if1 = c .before .before .before .before .if1 in
     let the-ep-byte = c .before .before .before .before .before .ep-byte in
     λ v b. loaded (ap (λ (e : ℕ). under.Bus (point.Naked e)) (the-ep-byte .ensures))
-        (bus-goes refl (c .stand-disabled .ensures) (next .ensures .1 .1) (next .ensures .0 _ (the-if1 .left) b))
+    (bus-goes refl (c .stand-disabled .ensures) (next .ensures .1 .1) (next .ensures .0 _ (the-if1 .left) b))
 
 pub resume-naked-spec : {M : Type 1} → statement M
 resume-naked-spec =

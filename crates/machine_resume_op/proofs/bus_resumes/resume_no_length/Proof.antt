@@ -30,8 +30,12 @@ unfolding fitsAt
 returns c =
     let stood = c .stand-words in
     let next = c .before .before .after-no-length in
-    λ v b. loaded (parts3 (λ (e : ℕ) (iso : Bool) (on : Bool). under.Bus (point.NoLength e iso on)) (c .before .before .before .before .before .before .before .ep-byte .ensures) (c .before .before .before .before .before .iso-at .ensures) (c .before .before .before .on-at .ensures))
-        (bus-goes refl (stood .ensures) (next .ensures .1) (next .ensures .0 _ b))
+    let the-ep-byte = c .before .before .before .before .before .before .before .ep-byte in
+    let the-iso-at = c .before .before .before .before .before .iso-at in
+    let the-on-at = c .before .before .before .on-at in
+    λ v b. loaded (parts3 (λ (e : ℕ) (iso : Bool) (on : Bool). under.Bus (point.NoLength e iso on)) (the-ep-byte .ensures)
+    (the-iso-at .ensures) (the-on-at .ensures))
+    (bus-goes refl (stood .ensures) (next .ensures .1) (next .ensures .0 _ b))
 
 pub resume-no-length-spec : {M : Type 1} → statement M
 resume-no-length-spec =

@@ -30,8 +30,12 @@ unfolding fitsAt
 returns c =
     let stood = c .stand-no-length in
     let next = c .before .before .after-placed-in in
-    λ v b. loaded (parts3 (λ (e : ℕ) (iso : Bool) (on : Bool). under.Bus (point.PlacedIn e iso on)) (c .before .before .before .before .before .before .before .ep-byte .ensures) (c .before .before .before .before .before .iso-at .ensures) (c .before .before .before .on-at .ensures))
-        (bus-goes refl (stood .ensures) (next .ensures .1 true true) (next .ensures .0 _ _ v _ b))
+    let the-ep-byte = c .before .before .before .before .before .before .before .ep-byte in
+    let the-iso-at = c .before .before .before .before .before .iso-at in
+    let the-on-at = c .before .before .before .on-at in
+    λ v b. loaded (parts3 (λ (e : ℕ) (iso : Bool) (on : Bool). under.Bus (point.PlacedIn e iso on)) (the-ep-byte .ensures)
+    (the-iso-at .ensures) (the-on-at .ensures))
+    (bus-goes refl (stood .ensures) (next .ensures .1 true true) (next .ensures .0 _ _ v _ b))
 
 pub resume-placed-in-spec : {M : Type 1} → statement M
 resume-placed-in-spec =

@@ -27,8 +27,10 @@ unfolding fitsAt
 returns c =
     let stood = c .stand-words in
     let next = c .before .before .after-placed-out in
-    λ v b. loaded (parts2 (λ (e : ℕ) (on : Bool). under.Bus (point.PlacedOut e on)) (c .before .before .before .before .before .ep-byte .ensures) (c .before .before .before .on-at .ensures))
-        (bus-goes refl (stood .ensures) (next .ensures .1) (next .ensures .0 v _ b))
+    let the-ep-byte = c .before .before .before .before .before .ep-byte in
+    let the-on-at = c .before .before .before .on-at in
+    λ v b. loaded (parts2 (λ (e : ℕ) (on : Bool). under.Bus (point.PlacedOut e on)) (the-ep-byte .ensures) (the-on-at .ensures))
+    (bus-goes refl (stood .ensures) (next .ensures .1) (next .ensures .0 v _ b))
 
 pub resume-placed-out-spec : {M : Type 1} → statement M
 resume-placed-out-spec =

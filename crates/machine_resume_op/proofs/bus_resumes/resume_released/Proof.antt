@@ -25,7 +25,7 @@ returns c =
     let next = c .before .before .before .after-released in
     let the-iso-at = c .before .before .before .before .before .iso-at in
     λ v b. loaded (ap (λ (down : Bool). under.Bus (point.Released down)) (sym (the-if1 .taken) ∙ the-iso-at .ensures))
-        (bus-goes refl (c .stand-event .ensures) (next .ensures .1 .1 3) (next .ensures .0 true b))
+    (bus-goes refl (c .stand-event .ensures) (next .ensures .1 .1 3) (next .ensures .0 true b))
 
 stand-event-requires-2 : tie.Need-stand-event-requires-2
 stand-event-requires-2 c κs = search needs
@@ -37,7 +37,7 @@ returns-2 c =
     let next = c .before .before .before .after-released in
     let the-iso-at = c .before .before .before .before .before .iso-at in
     λ v b. loaded (ap (λ (down : Bool). under.Bus (point.Released down)) (sym (the-if1 .left) ∙ the-iso-at .ensures))
-        (bus-goes refl (c .stand-event2 .ensures) (next .ensures .1 .1 4) (next .ensures .0 false b))
+    (bus-goes refl (c .stand-event2 .ensures) (next .ensures .1 .1 4) (next .ensures .0 false b))
 
 pub resume-released-spec : {M : Type 1} → statement M
 resume-released-spec =

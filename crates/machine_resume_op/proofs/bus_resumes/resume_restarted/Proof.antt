@@ -29,7 +29,7 @@ returns c =
     let the-iso-at = c .before .before .before .before .iso-at in
     let the-ep-byte = c .before .before .before .before .before .before .ep-byte in
     λ v b. loaded (parts2 (λ (e : ℕ) (iso : Bool). under.Bus (point.Restarted e iso)) (the-ep-byte .ensures) (the-iso-at .ensures))
-        (bus-ends refl (c .stop .ensures) (the-after-restart .ensures .0 b))
+    (bus-ends refl (c .stop .ensures) (the-after-restart .ensures .0 b))
 
 pub resume-restarted-spec : {M : Type 1} → statement M
 resume-restarted-spec =

@@ -24,7 +24,7 @@ returns c =
     let stood = c .stand-stall-word in
     let next = c .before .before .after-stall-len in
     λ v b. loaded (ap (λ (e : ℕ). under.Bus (point.StallLen e)) (c .before .before .before .ep-byte .ensures))
-        (bus-goes refl (stood .ensures) (next .ensures .1) (next .ensures .0 v _ b))
+    (bus-goes refl (stood .ensures) (next .ensures .1) (next .ensures .0 v _ b))
 
 pub resume-stall-len-spec : {M : Type 1} → statement M
 resume-stall-len-spec =

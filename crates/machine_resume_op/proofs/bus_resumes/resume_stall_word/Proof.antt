@@ -32,9 +32,9 @@ returns c =
     let the-ep-byte = c .before .before .before .ep-byte in
     let the-dir-at = c .before .before .before .before .before .dir-at in
     let fitted = sym (c .before .before .before .before .before .before .before .before .fits2 .ensures)
-        ∙ c .before .before .before .before .before .before .before .if1 .taken in
+    ∙ c .before .before .before .before .before .before .before .if1 .taken in
     λ b. loaded (parts2 (λ (d : Dir) (e : ℕ). under.Bus (point.StallWord d e)) (the-dir-at .ensures) (the-ep-byte .ensures))
-        (bus-goes (fits-word _ _ _ fitted) (stood .ensures) (next .ensures .1) (next .ensures .0 _ b))
+    (bus-goes (fits-word _ _ _ fitted) (stood .ensures) (next .ensures .1) (next .ensures .0 _ b))
 
 returns-2 : tie.Need-returns-2
 returns-2 c =

@@ -27,7 +27,7 @@ returns c =
     let the-byte = c .before .before .before .byte in
     let fitted = sym (c .before .before .before .before .before .fits2 .ensures) ∙ c .before .before .before .before .if1 .taken in
     λ b. bus-goes {p = point.Status} fitted (c .stand-released .ensures) refl
-        (simp (← the-byte .ensures, ← the-suspended .ensures))
+    (simp (← the-byte .ensures, ← the-suspended .ensures))
 
 returns-2 : tie.Need-returns-2
 unfolding fitsAt afterStatus

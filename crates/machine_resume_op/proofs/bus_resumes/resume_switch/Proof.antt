@@ -33,8 +33,8 @@ returns c =
     let the-on-at = c .before .before .before .before .before .before .before .on-at in
     let the-ep-byte = c .before .before .before .before .before .before .before .before .before .ep-byte in
     λ v. loaded (parts3 (λ (e : ℕ) (on : Bool) (n : ℕ). under.Bus (point.Switch e on n))
-        (the-ep-byte .ensures) (the-on-at .ensures) (sym (the-if1 .taken) ∙ the-st-byte .ensures))
-        (bus-ends refl (c .stop .ensures) (simp (c .before .before .wake .ensures .0)))
+    (the-ep-byte .ensures) (the-on-at .ensures) (sym (the-if1 .taken) ∙ the-st-byte .ensures))
+    (bus-ends refl (c .stop .ensures) (simp (c .before .before .wake .ensures .0)))
 
 after-switch-requires : tie.Need-after-switch-requires
 after-switch-requires c κs = search needs
@@ -57,8 +57,8 @@ returns-2 c =
     let the-on-at = c .before .before .before .before .before .before .before .before .before .before .on-at in
     let the-ep-byte = c .before .before .before .before .before .before .before .before .before .before .before .before .ep-byte in
     λ v. loaded (parts3 (λ (e : ℕ) (on : Bool) (n : ℕ). under.Bus (point.Switch e on n))
-        (the-ep-byte .ensures) (the-on-at .ensures) (the-st-byte .ensures))
-        (bus-goes refl (stood .ensures) (next .ensures .1 .1) (next .ensures .0))
+    (the-ep-byte .ensures) (the-on-at .ensures) (the-st-byte .ensures))
+    (bus-goes refl (stood .ensures) (next .ensures .1 .1) (next .ensures .0))
 
 pub resume-switch-spec : {M : Type 1} → statement M
 resume-switch-spec =

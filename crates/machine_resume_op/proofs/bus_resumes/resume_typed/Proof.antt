@@ -31,8 +31,11 @@ unfolding fitsAt
 returns c =
     let stood = c .stand-woken in
     let next = c .before .before .after-type in
-    λ v b. loaded (parts3 (λ (d : Dir) (e : ℕ) (on : Bool). under.Bus (point.Type d e on)) (c .before .before .before .before .before .before .before .before .dir-at .ensures) (c .before .before .before .before .before .before .ep-byte .ensures) (c .before .before .before .before .on-at .ensures))
-        (bus-goes refl (stood .ensures) (next .ensures .1 .1) (next .ensures .0 b))
+    let the-dir-at = c .before .before .before .before .before .before .before .before .dir-at in
+    let the-ep-byte = c .before .before .before .before .before .before .ep-byte in
+    let the-on-at = c .before .before .before .before .on-at in
+    λ v b. loaded (parts3 (λ (d : Dir) (e : ℕ) (on : Bool). under.Bus (point.Type d e on)) (the-dir-at .ensures) (the-ep-byte .ensures) (the-on-at .ensures))
+    (bus-goes refl (stood .ensures) (next .ensures .1 .1) (next .ensures .0 b))
 
 pub resume-typed-spec : {M : Type 1} → statement M
 resume-typed-spec =

@@ -29,7 +29,7 @@ returns c =
     let the-ep-byte = c .before .before .before .before .ep-byte in
     let the-dir-at = c .before .before .before .before .before .before .dir-at in
     λ v b. loaded (parts2 (λ (d : Dir) (e : ℕ). under.Bus (point.Woken d e)) (the-dir-at .ensures) (the-ep-byte .ensures))
-        (bus-ends refl (c .stop .ensures) (simp (the-wake .ensures .0)))
+    (bus-ends refl (c .stop .ensures) (simp (the-wake .ensures .0)))
 
 pub resume-woken-spec : {M : Type 1} → statement M
 resume-woken-spec =

@@ -34,8 +34,13 @@ unfolding fitsAt
 returns c =
     let stood = c .stand-typed in
     let next = c .before .before .after-words in
-    λ v b. loaded (parts4 (λ (d : Dir) (e : ℕ) (iso : Bool) (on : Bool). under.Bus (point.Words d e iso on)) (c .before .before .before .before .before .before .before .before .before .before .dir-at .ensures) (c .before .before .before .before .before .before .before .before .ep-byte .ensures) (c .before .before .before .before .before .before .iso-at .ensures) (c .before .before .before .before .on-at .ensures))
-        (bus-goes refl (stood .ensures) (next .ensures .1 .1) (next .ensures .0 b))
+    let the-dir-at = c .before .before .before .before .before .before .before .before .before .before .dir-at in
+    let the-ep-byte = c .before .before .before .before .before .before .before .before .ep-byte in
+    let the-iso-at = c .before .before .before .before .before .before .iso-at in
+    let the-on-at = c .before .before .before .before .on-at in
+    λ v b. loaded (parts4 (λ (d : Dir) (e : ℕ) (iso : Bool) (on : Bool). under.Bus (point.Words d e iso on)) (the-dir-at .ensures)
+    (the-ep-byte .ensures) (the-iso-at .ensures) (the-on-at .ensures))
+    (bus-goes refl (stood .ensures) (next .ensures .1 .1) (next .ensures .0 b))
 
 pub resume-words-spec : {M : Type 1} → statement M
 resume-words-spec =
