@@ -1,6 +1,5 @@
 use bus::Next;
 use bus::Point;
-use bus::byte;
 use model_ops::records::wake_all;
 use model_ops::rings::is_on;
 use model_ops_slots::reset_all;
@@ -9,7 +8,6 @@ use regs::Reg;
 use regs::control_word;
 use regs::flags;
 use regs::int_en;
-use regs::mis_status;
 use state::STATE_LEN;
 use state::load_globals;
 use state::set_ep_config;
@@ -17,16 +15,15 @@ use state::set_ep_type;
 use state::set_int_en;
 use state::store_globals;
 ghost use mathlib.Core.Path.{_≡_};
-ghost use mathlib.Core.Bool.{true, false};
+ghost use mathlib.Core.Bool.{Bool, false, cond};
 ghost use mathlib.Core.List.{List};
-ghost use Prim.Native.Nat.{ℕ};
-ghost use Rattle.regs.specs.Registers.{fitsIn};
+ghost use Prim.Native.Nat.{ℕ, _+_, _<_, _≤_};
 ghost use Rattle.regs.specs.ControlWord.{NAK, DATA0, wordOf};
 ghost use Rattle.state.specs.Driver.{Driver};
 ghost use Rattle.state.specs.State.{view, saved};
 ghost use Rattle.model.specs.Bus as script;
 ghost use Rattle.model_ops.specs.Concrete.{go};
-ghost use Rattle.bus.specs.Points.{afterReset, afterNaked, afterStatus, afterReleased, afterFlags, denote, meaning, Linked};
+ghost use Rattle.bus.specs.Points.{afterReset, afterNaked, afterReleased, denote, meaning, Linked};
 
 // `poll` (mod.rs 1231-1266).
 pub fn poll(s: &mut [u8; STATE_LEN]) -> Next
@@ -43,46 +40,17 @@ pub fn poll(s: &mut [u8; STATE_LEN]) -> Next
     Next::Ends(1)
 }
 
-pub fn after_flags(v: u32) -> Next
-    requires { ⌜ fitsIn v 8 ≡ true ⌝ }
-    ensures { λ r. ⌜ ((d : Driver) (b : List ℕ) → meaning r d b ≡ go (afterFlags v) d b) ⌝ }
-    ensures { λ r. ⌜ Linked r ⌝ }
-{
-    let word = byte(v);
-    if flags::bus_rst(word) {
-        return Next::Asks(Access::Write(Reg::DevAd, 0, 0), Point::Address);
-    }
-    if flags::suspend(word) {
-        return Next::Asks(Access::Read(Reg::MisSt, 0), Point::Status);
-    }
-    Next::Ends(0)
-}
-
-pub fn after_status(v: u32) -> Next
-    requires { ⌜ fitsIn v 8 ≡ true ⌝ }
-    ensures { λ r. ⌜ ((d : Driver) (b : List ℕ) → meaning r d b ≡ go (afterStatus v) d b) ⌝ }
-    ensures { λ r. ⌜ Linked r ⌝ }
-{
-    let down = mis_status::suspended(byte(v));
-    Next::Asks(
-        Access::Write(Reg::IntFg, 0, flags::SUSPEND),
-        Point::Released(down),
-    )
-}
-
-// The suspend interrupt is enabled again (mod.rs 1254), and the event is by the status.
-pub fn after_released(s: &mut [u8; STATE_LEN], down: bool) -> Next
-    ensures { λ r. ⌜ ((b : List ℕ) → meaning r (view (now (s .exit))) b ≡ go (afterReleased down) (view (now (s .entry))) b) ⌝ }
+// The suspend interrupt is enabled again (mod.rs 1254); the event is by the status.
+pub fn after_released(s: &mut [u8; STATE_LEN]) -> Access
+    ensures { λ r. ⌜ ((down : Bool) (b : List ℕ) →
+        meaning (Next.Asks r (Point.Event (cond down 3 4))) (view (now (s .exit))) b ≡ go (afterReleased down) (view (now (s .entry))) b) ⌝ }
     ensures { λ _. ⌜ saved (now (s .exit)) ≡ saved (now (s .entry)) ⌝ }
-    ensures { λ r. ⌜ Linked r ⌝ }
+    ensures { λ r. ⌜ ((n : ℕ) → Linked (Next.Asks r (Point.Event n))) ⌝ }
 {
     let g = load_globals(s);
     let word = int_en::with_suspend(g.int_en, true);
     set_int_en(s, word);
-    if down {
-        return Next::Asks(Access::Write(Reg::IntEn, 0, word as u32), Point::Event(3));
-    }
-    Next::Asks(Access::Write(Reg::IntEn, 0, word as u32), Point::Event(4))
+    Access::Write(Reg::IntEn, 0, word as u32)
 }
 
 // NAK, DATA0.
@@ -93,79 +61,85 @@ fn nak_word() -> u32
 }
 
 // `bus_reset` (mod.rs 1187-1221): EP0's OUT answers ACK, all else NAK.
-pub fn after_address() -> Next
-    ensures { λ r. ⌜ ((v : ℕ) (d : Driver) (b : List ℕ) → meaning r d b ≡ denote Point.Address v (d, b)) ⌝ }
-    ensures { λ r. ⌜ Linked r ⌝ }
+pub fn after_address() -> Access
+    ensures { λ r. ⌜ ((v : ℕ) (d : Driver) (b : List ℕ) → meaning (Next.Asks r Point.Ep0Out) d b ≡ denote Point.Address v (d, b)) ⌝ }
+    ensures { λ r. ⌜ Linked (Next.Asks r Point.Ep0Out) ⌝ }
 {
     let word = control_word::word_of(control_word::ACK, control_word::DATA0, false);
-    Next::Asks(Access::Write(Reg::EpRxCtrl, 0, word as u32), Point::Ep0Out)
+    Access::Write(Reg::EpRxCtrl, 0, word as u32)
 }
 
-pub fn after_ep0_out() -> Next
-    ensures { λ r. ⌜ ((v : ℕ) (d : Driver) (b : List ℕ) → meaning r d b ≡ denote Point.Ep0Out v (d, b)) ⌝ }
-    ensures { λ r. ⌜ Linked r ⌝ }
+pub fn after_ep0_out() -> Access
+    ensures { λ r. ⌜ ((v : ℕ) (d : Driver) (b : List ℕ) → meaning (Next.Asks r (Point.Naked 0)) d b ≡ denote Point.Ep0Out v (d, b)) ⌝ }
+    ensures { λ r. ⌜ Linked (Next.Asks r (Point.Naked 0)) ⌝ }
 {
-    Next::Asks(Access::Write(Reg::EpTxCtrl, 0, nak_word()), Point::Naked(0))
+    Access::Write(Reg::EpTxCtrl, 0, nak_word())
 }
 
-pub fn after_nak_in(e: u8) -> Next
-    ensures { λ r. ⌜ ((v : ℕ) (d : Driver) (b : List ℕ) → meaning r d b ≡ denote (Point.NakIn e) v (d, b)) ⌝ }
-    ensures { λ r. ⌜ Linked r ⌝ }
+pub fn after_nak_in(e: u8) -> Access
+    ensures { λ r. ⌜ ((v : ℕ) (d : Driver) (b : List ℕ) → meaning (Next.Asks r (Point.Naked e)) d b ≡ denote (Point.NakIn e) v (d, b)) ⌝ }
+    ensures { λ r. ⌜ Linked (Next.Asks r (Point.Naked e)) ⌝ }
 {
-    Next::Asks(Access::Write(Reg::EpRxCtrl, e, nak_word()), Point::Naked(e))
+    Access::Write(Reg::EpRxCtrl, e, nak_word())
 }
 
-// The next endpoint; after the last, the row that disables them all.
-pub fn after_naked(s: &mut [u8; STATE_LEN], e: u8) -> Next
-    ensures { λ r. ⌜ ((b : List ℕ) → meaning r (view (now (s .exit))) b ≡ go (afterNaked e) (view (now (s .entry))) b) ⌝ }
+// The next endpoint.
+pub fn after_naked(e: u8) -> Access
+    requires { ⌜ e < 15 ⌝ }
+    ensures { λ r. ⌜ ((d : Driver) (b : List ℕ) → meaning (Next.Asks r (Point.NakIn (e + 1))) d b ≡ go (afterNaked e) d b) ⌝ }
+    ensures { λ r. ⌜ Linked (Next.Asks r (Point.NakIn (e + 1))) ⌝ }
+{
+    Access::Write(Reg::EpTxCtrl, e + 1, nak_word())
+}
+
+// After the last, the row that disables them all.
+pub fn after_last(s: &mut [u8; STATE_LEN]) -> Access
+    ensures { λ r. ⌜ ((e : ℕ) → 15 ≤ e → (b : List ℕ) →
+        meaning (Next.Asks r Point.Disabled) (view (now (s .exit))) b ≡ go (afterNaked e) (view (now (s .entry))) b) ⌝ }
     ensures { λ _. ⌜ saved (now (s .exit)) ≡ saved (now (s .entry)) ⌝ }
-    ensures { λ r. ⌜ Linked r ⌝ }
+    ensures { λ r. ⌜ Linked (Next.Asks r Point.Disabled) ⌝ }
 {
-    if e < 15 {
-        return Next::Asks(
-            Access::Write(Reg::EpTxCtrl, e + 1, nak_word()),
-            Point::NakIn(e + 1),
-        );
-    }
     set_ep_config(s, 0);
-    Next::Asks(Access::Write(Reg::EpConfig, 0, 0), Point::Disabled)
+    Access::Write(Reg::EpConfig, 0, 0)
 }
 
-pub fn after_disabled(s: &mut [u8; STATE_LEN]) -> Next
-    ensures { λ r. ⌜ ((v : ℕ) (b : List ℕ) → meaning r (view (now (s .exit))) b ≡ denote Point.Disabled v (view (now (s .entry)), b)) ⌝ }
+pub fn after_disabled(s: &mut [u8; STATE_LEN]) -> Access
+    ensures { λ r. ⌜ ((v : ℕ) (b : List ℕ) → meaning (Next.Asks r Point.Untyped) (view (now (s .exit))) b
+        ≡ denote Point.Disabled v (view (now (s .entry)), b)) ⌝ }
     ensures { λ _. ⌜ saved (now (s .exit)) ≡ saved (now (s .entry)) ⌝ }
-    ensures { λ r. ⌜ Linked r ⌝ }
+    ensures { λ r. ⌜ Linked (Next.Asks r Point.Untyped) ⌝ }
 {
     set_ep_type(s, 0);
-    Next::Asks(Access::Write(Reg::EpType, 0, 0), Point::Untyped)
+    Access::Write(Reg::EpType, 0, 0)
 }
 
-pub fn after_untyped() -> Next
-    ensures { λ r. ⌜ ((v : ℕ) (d : Driver) (b : List ℕ) → meaning r d b ≡ denote Point.Untyped v (d, b)) ⌝ }
-    ensures { λ r. ⌜ Linked r ⌝ }
+pub fn after_untyped() -> Access
+    ensures { λ r. ⌜ ((v : ℕ) (d : Driver) (b : List ℕ) → meaning (Next.Asks r Point.Single) d b ≡ denote Point.Untyped v (d, b)) ⌝ }
+    ensures { λ r. ⌜ Linked (Next.Asks r Point.Single) ⌝ }
 {
-    Next::Asks(Access::Write(Reg::EpBufMod, 0, 0), Point::Single)
+    Access::Write(Reg::EpBufMod, 0, 0)
 }
 
 // Every record is reset in the call that clears the flag (mod.rs 1213-1216, 1245).
-pub fn after_single(s: &mut [u8; STATE_LEN]) -> Next
-    ensures { λ r. ⌜ ((v : ℕ) (b : List ℕ) → meaning r (view (now (s .exit))) b ≡ denote Point.Single v (view (now (s .entry)), b)) ⌝ }
+pub fn after_single(s: &mut [u8; STATE_LEN]) -> Access
+    ensures { λ r. ⌜ ((v : ℕ) (b : List ℕ) → meaning (Next.Asks r Point.Reset) (view (now (s .exit))) b
+        ≡ denote Point.Single v (view (now (s .entry)), b)) ⌝ }
     ensures { λ _. ⌜ saved (now (s .exit)) ≡ saved (now (s .entry)) ⌝ }
-    ensures { λ r. ⌜ Linked r ⌝ }
+    ensures { λ r. ⌜ Linked (Next.Asks r Point.Reset) ⌝ }
 {
     reset_all(s);
-    Next::Asks(Access::Write(Reg::IntFg, 0, flags::BUS_RST), Point::Reset)
+    Access::Write(Reg::IntFg, 0, flags::BUS_RST)
 }
 
 // All are woken, and the reset interrupt is enabled again (mod.rs 1218-1220, 1247).
-pub fn after_reset(s: &mut [u8; STATE_LEN]) -> Next
-    ensures { λ r. ⌜ ((b : List ℕ) → meaning r (view (now (s .exit))) b ≡ go afterReset (view (now (s .entry))) b) ⌝ }
+pub fn after_reset(s: &mut [u8; STATE_LEN]) -> Access
+    ensures { λ r. ⌜ ((b : List ℕ) → meaning (Next.Asks r (Point.Event 2)) (view (now (s .exit))) b ≡ go afterReset (view (now (s .entry))) b) ⌝ }
     ensures { λ _. ⌜ saved (now (s .exit)) ≡ saved (now (s .entry)) ⌝ }
-    ensures { λ r. ⌜ Linked r ⌝ }
+    ensures { λ r. ⌜ Linked (Next.Asks r (Point.Event 2)) ⌝ }
 {
     wake_all(s);
     let g = load_globals(s);
     let word = int_en::with_bus_rst(g.int_en, true);
     set_int_en(s, word);
-    Next::Asks(Access::Write(Reg::IntEn, 0, word as u32), Point::Event(2))
+    Access::Write(Reg::IntEn, 0, word as u32)
 }

@@ -19,7 +19,7 @@ use state::set_ep_type;
 use state::store_ep;
 use state::store_paced;
 ghost use mathlib.Core.Path.{_≡_};
-ghost use mathlib.Core.Bool.{true, false, cond, not, _&&_};
+ghost use mathlib.Core.Bool.{Bool, true, false, cond, not, _&&_};
 ghost use mathlib.Core.List.{List};
 ghost use Prim.Native.Nat.{ℕ};
 ghost use Rattle.regs.specs.ControlWord.{ACK, NYET, NAK, DATA0, wordOf};
@@ -28,8 +28,7 @@ ghost use Rattle.state.specs.State.{view, saved};
 ghost use Rattle.model.specs.Bus as script;
 ghost use Rattle.model_ops.specs.Concrete.{go};
 ghost use Rattle.model_ops.specs.Records.{isoOut};
-ghost use Rattle.bus.specs.Points.{resultless, renewedAs, enabledOut, afterType, afterWords, afterPlaced, denote, meaning, Linked, fitsAt};
-ghost use Rattle.bus.specs.Stages.{ofEndpoint};
+ghost use Rattle.bus.specs.Points.{resultless, renewedAs, enabledOut, afterType, afterWords, afterPlaced, denote, meaning, Linked};
 
 // The record reset, and armed or not.
 fn renew(s: &mut [u8; STATE_LEN], dir: Dir, e: u8, armed: u8)
@@ -84,7 +83,8 @@ pub fn endpoint_set_enabled(
     match dir {
         Dir::Out => {
             if iso_out(s, Dir::Out, e) {
-                return after_switch(s, buf, e, on, 19);
+                let q = after_switch(s, buf, e, on, 19);
+                return Next::Asks(q, Point::Switch(e, on, 18));
             }
             set_enabled_out(s, e, on)
         }
@@ -102,25 +102,21 @@ fn out_word(on: bool) -> u8
     control_word::word_of(control_word::NAK, control_word::DATA0, true)
 }
 
-fn after_placed_out(e: u8, on: bool) -> Next
-    ensures { λ r. ⌜ ((v : ℕ) (d : Driver) (b : List ℕ) → meaning r d b ≡ denote (Point.PlacedOut e on) v (d, b)) ⌝ }
-    ensures { λ r. ⌜ Linked r ⌝ }
+pub fn after_placed_out(e: u8, on: bool) -> Access
+    ensures { λ r. ⌜ ((v : ℕ) (d : Driver) (b : List ℕ) → meaning (Next.Asks r (Point.Words Dir.Out e false on)) d b
+        ≡ denote (Point.PlacedOut e on) v (d, b)) ⌝ }
+    ensures { λ r. ⌜ Linked (Next.Asks r (Point.Words Dir.Out e false on)) ⌝ }
 {
     let word = out_word(on);
-    Next::Asks(
-        Access::Write(Reg::EpRxCtrl, e, word as u32),
-        Point::Words(Dir::Out, e, false, on),
-    )
+    Access::Write(Reg::EpRxCtrl, e, word as u32)
 }
 
-fn after_placed_in(e: u8, iso: bool, on: bool) -> Next
-    ensures { λ r. ⌜ ((v : ℕ) (d : Driver) (b : List ℕ) → meaning r d b ≡ denote (Point.PlacedIn e iso on) v (d, b)) ⌝ }
-    ensures { λ r. ⌜ Linked r ⌝ }
+pub fn after_placed_in(e: u8) -> Access
+    ensures { λ r. ⌜ ((iso on : Bool) (v : ℕ) (d : Driver) (b : List ℕ) → meaning (Next.Asks r (Point.NoLength e iso on)) d b
+        ≡ denote (Point.PlacedIn e iso on) v (d, b)) ⌝ }
+    ensures { λ r. ⌜ ((iso on : Bool) → Linked (Next.Asks r (Point.NoLength e iso on))) ⌝ }
 {
-    Next::Asks(
-        Access::Write(Reg::EpTLen, e, 0),
-        Point::NoLength(e, iso, on),
-    )
+    Access::Write(Reg::EpTLen, e, 0)
 }
 
 fn both(iso: bool, on: bool) -> bool
@@ -142,58 +138,35 @@ fn in_word(iso: bool, on: bool) -> u8
     control_word::word_of(control_word::NAK, control_word::DATA0, !iso)
 }
 
-fn after_no_length(e: u8, iso: bool, on: bool) -> Next
-    ensures { λ r. ⌜ ((d : Driver) (b : List ℕ) → meaning r d b ≡ go (afterPlaced e iso on) d b) ⌝ }
-    ensures { λ r. ⌜ Linked r ⌝ }
+pub fn after_no_length(e: u8, iso: bool, on: bool) -> Access
+    ensures { λ r. ⌜ ((d : Driver) (b : List ℕ) → meaning (Next.Asks r (Point.Words Dir.In e iso on)) d b ≡ go (afterPlaced e iso on) d b) ⌝ }
+    ensures { λ r. ⌜ Linked (Next.Asks r (Point.Words Dir.In e iso on)) ⌝ }
 {
     let word = in_word(iso, on);
-    Next::Asks(
-        Access::Write(Reg::EpTxCtrl, e, word as u32),
-        Point::Words(Dir::In, e, iso, on),
-    )
+    Access::Write(Reg::EpTxCtrl, e, word as u32)
 }
 
 // ep_type's bit, then ep_config's (mod.rs 1310-1311, 1324-1325).
-fn after_words(s: &mut [u8; STATE_LEN], dir: Dir, e: u8, iso: bool, on: bool) -> Next
-    ensures { λ r. ⌜ ((b : List ℕ) → meaning r (view (now (s .exit))) b ≡ go (afterWords dir e iso on) (view (now (s .entry))) b) ⌝ }
+pub fn after_words(s: &mut [u8; STATE_LEN], dir: Dir, e: u8, iso: bool, on: bool) -> Access
+    ensures { λ r. ⌜ ((b : List ℕ) → meaning (Next.Asks r (Point.Type dir e on)) (view (now (s .exit))) b
+        ≡ go (afterWords dir e iso on) (view (now (s .entry))) b) ⌝ }
     ensures { λ _. ⌜ saved (now (s .exit)) ≡ saved (now (s .entry)) ⌝ }
-    ensures { λ r. ⌜ Linked r ⌝ }
+    ensures { λ r. ⌜ Linked (Next.Asks r (Point.Type dir e on)) ⌝ }
 {
     let g = load_globals(s);
     let bit = both(iso, on);
     let word = enables::with_on(g.ep_type, dir, e, bit);
     set_ep_type(s, word);
-    Next::Asks(Access::Write(Reg::EpType, 0, word), Point::Type(dir, e, on))
+    Access::Write(Reg::EpType, 0, word)
 }
 
-fn after_type(s: &mut [u8; STATE_LEN], dir: Dir, e: u8, on: bool) -> Next
-    ensures { λ r. ⌜ ((b : List ℕ) → meaning r (view (now (s .exit))) b ≡ go (afterType dir e on) (view (now (s .entry))) b) ⌝ }
+pub fn after_type(s: &mut [u8; STATE_LEN], dir: Dir, e: u8, on: bool) -> Access
+    ensures { λ r. ⌜ ((b : List ℕ) → meaning (Next.Asks r (Point.Woken dir e)) (view (now (s .exit))) b
+        ≡ go (afterType dir e on) (view (now (s .entry))) b) ⌝ }
     ensures { λ _. ⌜ saved (now (s .exit)) ≡ saved (now (s .entry)) ⌝ }
-    ensures { λ r. ⌜ Linked r ⌝ }
+    ensures { λ r. ⌜ Linked (Next.Asks r (Point.Woken dir e)) ⌝ }
 {
     model_ops::records::set_enabled(s, dir, e, on);
     let g = load_globals(s);
-    Next::Asks(
-        Access::Write(Reg::EpConfig, 0, g.ep_config),
-        Point::Woken(dir, e),
-    )
-}
-
-// The next access of the operation that stands at `p`, of an endpoint, now that `v` was brought.
-pub fn resume(s: &mut [u8; STATE_LEN], buf: &mut [u8], p: Point, v: u32) -> Next
-    requires { ⌜ fitsAt p v ≡ true ⌝ }
-    requires { ⌜ ofEndpoint p ≡ true ⌝ }
-    ensures { λ r. ⌜ meaning r (view (now (s .exit))) (now (buf .exit)) ≡ denote p v (view (now (s .entry)), now (buf .entry)) ⌝ }
-    ensures { λ _. ⌜ saved (now (s .exit)) ≡ saved (now (s .entry)) ⌝ }
-    ensures { λ r. ⌜ Linked r ⌝ }
-{
-    match p {
-        Point::PlacedOut(e, on) => after_placed_out(e, on),
-        Point::PlacedIn(e, iso, on) => after_placed_in(e, iso, on),
-        Point::NoLength(e, iso, on) => after_no_length(e, iso, on),
-        Point::Words(d, e, iso, on) => after_words(s, d, e, iso, on),
-        Point::Type(d, e, on) => after_type(s, d, e, on),
-        Point::Switch(e, on, n) => after_switch(s, buf, e, on, n),
-        _ => bus_set_stalled::resume(s, p, v),
-    }
+    Access::Write(Reg::EpConfig, 0, g.ep_config)
 }

@@ -23,8 +23,8 @@ ghost use Rattle.state.specs.State.{view, saved};
 ghost use Rattle.model.specs.Bus as script;
 ghost use Rattle.model_ops.specs.Concrete.{go};
 ghost use Rattle.model_ops.specs.Records.{plainOf};
-ghost use Rattle.bus.specs.Points.{resultless, woken, afterStallWord, afterRestart, denote, meaning, Linked, fitsAt};
-ghost use Rattle.bus.specs.Stages.{ofStall};
+ghost use Rattle.model.specs.Tree.{ends};
+ghost use Rattle.bus.specs.Points.{resultless, afterStallWord, afterRestart, denote, meaning, Linked};
 
 // `is_endpoint_stalled` (mod.rs 1101-1106).
 pub fn is_endpoint_stalled(dir: Dir, e: u8) -> Next
@@ -34,15 +34,15 @@ pub fn is_endpoint_stalled(dir: Dir, e: u8) -> Next
     Next::Asks(Access::Read(ctrl_of(dir), e), Point::Stalled)
 }
 
-fn after_stalled(v: u32) -> Next
+// What was asked: is it?
+pub fn after_stalled(v: u32) -> u16
     requires { ⌜ fitsIn v 8 ≡ true ⌝ }
-    ensures { λ r. ⌜ ((d : Driver) (b : List ℕ) → meaning r d b ≡ denote Point.Stalled v (d, b)) ⌝ }
-    ensures { λ r. ⌜ Linked r ⌝ }
+    ensures { λ r. ⌜ ((d : Driver) (b : List ℕ) → ends r (d, b) ≡ denote Point.Stalled v (d, b)) ⌝ }
 {
     if control_word::is_stalled(byte(v)) {
-        return Next::Ends(1);
+        return 1;
     }
-    Next::Ends(0)
+    0
 }
 
 // Un-stalled: DATA0, automatic but for EP0 and isochronous endpoints (mod.rs 1069-1091).
@@ -131,65 +131,34 @@ pub fn set_endpoint_stalled(s: &mut [u8; STATE_LEN], dir: Dir, e: u8, on: bool) 
     }
 }
 
-fn after_stall_len(e: u8) -> Next
-    ensures { λ r. ⌜ ((v : ℕ) (d : Driver) (b : List ℕ) → meaning r d b ≡ denote (Point.StallLen e) v (d, b)) ⌝ }
-    ensures { λ r. ⌜ Linked r ⌝ }
+pub fn after_stall_len(e: u8) -> Access
+    ensures { λ r. ⌜ ((v : ℕ) (d : Driver) (b : List ℕ) → meaning (Next.Asks r (Point.StallWord Dir.In e)) d b ≡ denote (Point.StallLen e) v (d, b)) ⌝ }
+    ensures { λ r. ⌜ Linked (Next.Asks r (Point.StallWord Dir.In e)) ⌝ }
 {
-    Next::Asks(Access::Read(Reg::EpTxCtrl, e), Point::StallWord(Dir::In, e))
+    Access::Read(Reg::EpTxCtrl, e)
 }
 
-fn after_stall_word(dir: Dir, e: u8, v: u32) -> Next
+pub fn after_stall_word(dir: Dir, e: u8, v: u32) -> Access
     requires { ⌜ fitsIn v 8 ≡ true ⌝ }
-    ensures { λ r. ⌜ ((d : Driver) (b : List ℕ) → meaning r d b ≡ go (afterStallWord dir e v) d b) ⌝ }
-    ensures { λ r. ⌜ Linked r ⌝ }
+    ensures { λ r. ⌜ ((d : Driver) (b : List ℕ) → meaning (Next.Asks r (Point.Woken dir e)) d b ≡ go (afterStallWord dir e v) d b) ⌝ }
+    ensures { λ r. ⌜ Linked (Next.Asks r (Point.Woken dir e)) ⌝ }
 {
     let word = control_word::stall(byte(v));
-    Next::Asks(
-        Access::Write(ctrl_of(dir), e, word as u32),
-        Point::Woken(dir, e),
-    )
+    Access::Write(ctrl_of(dir), e, word as u32)
 }
 
-// The endpoint is woken, and the operation ends.
-pub fn after_woken(s: &mut [u8; STATE_LEN], dir: Dir, e: u8) -> Next
-    ensures { λ r. ⌜ ((b : List ℕ) → meaning r (view (now (s .exit))) b ≡ go (woken dir e) (view (now (s .entry))) b) ⌝ }
+// A write waiting on the stalled endpoint finishes; its data is dropped (mod.rs 1093-1098). The endpoint is woken.
+pub fn after_restart(s: &mut [u8; STATE_LEN], e: u8, iso: bool)
+    ensures { λ _. ⌜ ((b : List ℕ) → ends 0 (view (now (s .exit)), b) ≡ go (afterRestart e iso) (view (now (s .entry))) b) ⌝ }
     ensures { λ _. ⌜ saved (now (s .exit)) ≡ saved (now (s .entry)) ⌝ }
-    ensures { λ r. ⌜ Linked r ⌝ }
-{
-    wake(s, dir, e);
-    Next::Ends(0)
-}
-
-// A write waiting on the stalled endpoint finishes; its data is dropped (mod.rs 1093-1098).
-fn after_restart(s: &mut [u8; STATE_LEN], e: u8, iso: bool) -> Next
-    ensures { λ r. ⌜ ((b : List ℕ) → meaning r (view (now (s .exit))) b ≡ go (afterRestart e iso) (view (now (s .entry))) b) ⌝ }
-    ensures { λ _. ⌜ saved (now (s .exit)) ≡ saved (now (s .entry)) ⌝ }
-    ensures { λ r. ⌜ Linked r ⌝ }
 {
     if iso {
-        return after_woken(s, Dir::In, e);
+        wake(s, Dir::In, e);
+        return;
     }
     let mut r = load_ep(s, Dir::In, e);
     r.ready = 1;
     r.armed = 0;
     store_ep(s, Dir::In, e, r);
-    after_woken(s, Dir::In, e)
-}
-
-// The next access of the operation that stands at `p`, in a stall or later, now that `v` was brought.
-pub fn resume(s: &mut [u8; STATE_LEN], p: Point, v: u32) -> Next
-    requires { ⌜ fitsAt p v ≡ true ⌝ }
-    requires { ⌜ ofStall p ≡ true ⌝ }
-    ensures { λ r. ⌜ ((b : List ℕ) → meaning r (view (now (s .exit))) b ≡ denote p v (view (now (s .entry)), b)) ⌝ }
-    ensures { λ _. ⌜ saved (now (s .exit)) ≡ saved (now (s .entry)) ⌝ }
-    ensures { λ r. ⌜ Linked r ⌝ }
-{
-    match p {
-        Point::Stalled => after_stalled(v),
-        Point::StallLen(e) => after_stall_len(e),
-        Point::StallWord(d, e) => after_stall_word(d, e, v),
-        Point::Restarted(e, iso) => after_restart(s, e, iso),
-        Point::Woken(d, e) => after_woken(s, d, e),
-        _ => Next::Ends(0), // no point of a stall
-    }
+    wake(s, Dir::In, e);
 }

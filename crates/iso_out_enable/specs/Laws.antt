@@ -1,31 +1,21 @@
 -- The row of an isochronous OUT, by how many of its accesses are left. Assumes nothing.
-use mathlib.Core.Path.{_≡_, refl, ap, _∙_}
+use mathlib.Core.Path.{_≡_, refl}
 use mathlib.Core.Logic.{_≢_}
 use mathlib.Core.Bool.{Bool, cond}
 use Prim.Native.Nat.{ℕ, zero, suc, _-_, _<_, _≤_}
 use native.Mathlib.Omega.{arith}
 use Rattle.regs.specs.declared.Access.the-variants.{Write, Receive}
 use Rattle.regs.specs.declared.Reg.the-variants.{EpConfig, EpType, EpRxCtrl}
-use Rattle.regs.specs.declared.Dir.the-variants.{Out}
 use Rattle.model.specs.Tree.{asks}
-use Rattle.model.specs.Script.{run}
 use Rattle.model_ops.specs.Rings.{St, slotStep, typeStep, configStep}
-use Rattle.model_ops.specs.Concrete.{concrete}
 use Rattle.bus.specs.Points.{woken, switching}
 
-none-left : (n : ℕ) → n ≤ 3 → n ≢ 3 → n ≢ 2 → n ≢ 1 → n ≡ 0
-none-left zero h three two one = refl
-none-left (suc zero) h three two one = absurd (one refl)
-none-left (suc (suc zero)) h three two one = absurd (two refl)
-none-left (suc (suc (suc zero))) h three two one = absurd (three refl)
-none-left (suc (suc (suc (suc n)))) h three two one = absurd (omega arith)
-
-end : (e : ℕ) (on : Bool) (t : St) → switching e on 0 t ≡ run concrete (woken Out e) t
-unfolding switching
-end e on t = refl
-
-pub switch-end : (e : ℕ) (on : Bool) (n : ℕ) → n ≤ 3 → n ≢ 3 → n ≢ 2 → n ≢ 1 → (t : St) → switching e on n t ≡ run concrete (woken Out e) t
-switch-end e on n h three two one t = ap (λ (k : ℕ). switching e on k t) (none-left n h three two one) ∙ end e on t
+pub one-left : (n : ℕ) → 0 < n → n ≤ 3 → n ≢ 3 → n ≢ 2 → n ≡ 1
+one-left zero l h three two = absurd (omega arith)
+one-left (suc zero) l h three two = refl
+one-left (suc (suc zero)) l h three two = absurd (two refl)
+one-left (suc (suc (suc zero))) l h three two = absurd (three refl)
+one-left (suc (suc (suc (suc n)))) l h three two = absurd (omega arith)
 
 pub switch-config : (e : ℕ) (on : Bool) (t : St) → switching e on 1 t
     ≡ asks (Write EpConfig 0 (configStep e on (t .0) .0)) (configStep e on (t .0) .1, t .1) (λ _ u. switching e on 0 u)

@@ -1,13 +1,15 @@
 // An operation under way goes on at its point, with the number brought: the driver's, the bus's, the control pipe's, a read's or write's, a paced advance's.
-pub mod halts; // halts.rt: the driver's own operations suspended or ended
+// One dispatch on the point's number reaches its function.
+mod bus_resumes; // bus_resumes.rt: the bus's points, one function each
+mod control_resumes; // control_resumes.rt: the control pipe's
+mod driver_resumes; // driver_resumes.rt: the driver's own
+mod endpoint_resumes; // endpoint_resumes.rt: a read's or write's
+mod halts; // halts.rt: the driver's own operations suspended or ended
 
-use halts::suspend_or_end_driver;
 use iso_in::advance;
 use machine::Step;
 use machine::halts::suspend_or_end_advance;
-use machine::halts::suspend_or_end_bus;
-use machine::halts::suspend_or_end_control;
-use machine::halts::suspend_or_end_endpoint;
+use machine_points::loads::sub_byte;
 use state::STATE_LEN;
 ghost use mathlib.Core.Path.{_≡_};
 ghost use mathlib.Core.List.{List, []};
@@ -24,12 +26,26 @@ pub fn resume_driver(s: &mut [u8; STATE_LEN], v: u32) -> Step
     ) ≡ resumed v (decode (saved (now (s .entry)))) (view (now (s .entry))) b) ⌝ }
     ensures { λ r. ⌜ SavedByAnswer r (now (s .entry)) (now (s .exit)) ⌝ }
 {
-    let p = driver_codec::decode(state::load_saved(s));
-    if driver_codec::fits_at(p, v) {
-        let n = driver_resume::resume(s, p, v);
-        return suspend_or_end_driver(s, n);
+    let k = sub_byte(s);
+    match k {
+        1 => driver_resumes::resume_wait(s),
+        2 => driver_resumes::resume_reset(s, v),
+        3 => driver_resumes::resume_reset_end(s),
+        4 => driver_resumes::resume_host(s),
+        5 => driver_resumes::resume_run(s),
+        6 => driver_resumes::resume_int_en(s),
+        7 => driver_resumes::resume_max_len(s),
+        8 => driver_resumes::resume_place(s),
+        9 => driver_resumes::resume_ep0_place(s),
+        10 => driver_resumes::resume_ep0_max_len(s),
+        11 => driver_resumes::resume_ep0_rx(s),
+        12 => driver_resumes::resume_ep0_tx(s),
+        13 => driver_resumes::resume_ep0_packet(s),
+        14 => driver_resumes::resume_frame_no(s, v),
+        15 => driver_resumes::resume_list_max_len(s),
+        16 => driver_resumes::resume_list_place(s),
+        _ => driver_resumes::resume_clear(s), // 0, or an unknown one
     }
-    Step::Refused(16)
 }
 
 // At the bus's.
@@ -41,12 +57,33 @@ pub fn resume_bus(s: &mut [u8; STATE_LEN], slots: &mut [u8], v: u32) -> Step
     ) ≡ resumed v (decode (saved (now (s .entry)))) (view (now (s .entry))) (now (slots .entry)) ⌝ }
     ensures { λ r. ⌜ SavedByAnswer r (now (s .entry)) (now (s .exit)) ⌝ }
 {
-    let p = bus::decode(state::load_saved(s));
-    if bus::fits_at(p, v) {
-        let n = bus_events::resume(s, slots, p, v);
-        return suspend_or_end_bus(s, n);
+    let k = sub_byte(s);
+    match k {
+        1 => bus_resumes::resume_event(s),
+        2 => bus_resumes::resume_stalled(s, v),
+        3 => bus_resumes::resume_stall_len(s),
+        4 => bus_resumes::resume_stall_word(s, v),
+        5 => bus_resumes::resume_restarted(s),
+        6 => bus_resumes::resume_woken(s),
+        7 => bus_resumes::resume_flags(s, v),
+        8 => bus_resumes::resume_status(s, v),
+        9 => bus_resumes::resume_released(s),
+        10 => bus_resumes::resume_address(s),
+        11 => bus_resumes::resume_ep0_out(s),
+        12 => bus_resumes::resume_nak_in(s),
+        13 => bus_resumes::resume_naked(s),
+        14 => bus_resumes::resume_disabled(s),
+        15 => bus_resumes::resume_untyped(s),
+        16 => bus_resumes::resume_single(s),
+        17 => bus_resumes::resume_reset(s),
+        18 => bus_resumes::resume_placed_out(s),
+        19 => bus_resumes::resume_placed_in(s),
+        20 => bus_resumes::resume_no_length(s),
+        21 => bus_resumes::resume_words(s),
+        22 => bus_resumes::resume_typed(s),
+        23 => bus_resumes::resume_switch(s, slots),
+        _ => bus_resumes::resume_enable(s, v), // 0, or an unknown one
     }
-    Step::Refused(16)
 }
 
 // At the control pipe's.
@@ -58,12 +95,18 @@ pub fn resume_control(s: &mut [u8; STATE_LEN], v: u32) -> Step
     ) ≡ resumed v (decode (saved (now (s .entry)))) (view (now (s .entry))) b) ⌝ }
     ensures { λ r. ⌜ SavedByAnswer r (now (s .entry)) (now (s .exit)) ⌝ }
 {
-    let p = control::decode(state::load_saved(s));
-    if control::fits_at(p, v) {
-        let n = control::resume(s, p, v);
-        return suspend_or_end_control(s, n);
+    let k = sub_byte(s);
+    match k {
+        1 => control_resumes::resume_ack(s, v),
+        2 => control_resumes::resume_status_len(s),
+        3 => control_resumes::resume_status(s, v),
+        4 => control_resumes::resume_stall_in(s, v),
+        5 => control_resumes::resume_stalled_in(s),
+        6 => control_resumes::resume_stall_out(s, v),
+        7 => control_resumes::resume_closing(s),
+        8 => control_resumes::resume_loaded(s),
+        _ => control_resumes::resume_wrote(s), // 0, or an unknown one
     }
-    Step::Refused(16)
 }
 
 // At a read's or write's.
@@ -75,12 +118,12 @@ pub fn resume_endpoint(s: &mut [u8; STATE_LEN], v: u32) -> Step
     ) ≡ resumed v (decode (saved (now (s .entry)))) (view (now (s .entry))) b) ⌝ }
     ensures { λ r. ⌜ SavedByAnswer r (now (s .entry)) (now (s .exit)) ⌝ }
 {
-    let p = endpoint::decode(state::load_saved(s));
-    if endpoint::fits_at(p, v) {
-        let n = endpoint::resume(p, v);
-        return suspend_or_end_endpoint(s, n);
+    let k = sub_byte(s);
+    match k {
+        1 => endpoint_resumes::resume_ack(s, v),
+        2 => endpoint_resumes::resume_loaded(s),
+        _ => endpoint_resumes::resume_wrote(s), // 0, or an unknown one
     }
-    Step::Refused(16)
 }
 
 // At a paced advance's.

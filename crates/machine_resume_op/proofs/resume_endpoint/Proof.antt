@@ -1,71 +1,57 @@
-use Rattle.machine_resume_op.specs.Going.{going, staying}
-use Rattle.machine.specs.Tags.{at-endpoint}
-use Rattle.machine.specs.Fits.{gone-endpoint, stay-endpoint}
-use Rattle.endpoint.specs.Codec.{decode}
-use Rattle.state.specs.State.{view, saved}
+use Rattle.machine_points.specs.StandsLaws.{called-at, kept-at}
+use Rattle.machine_points.specs.EndpointLaws.{at-number, at-first}
+use Rattle.state.specs.State.{saved}
 use denote.Ref.{now}
-use mathlib.Core.Path.{_∙_, sym, ap, refl}
+use mathlib.Core.List.{[]}
+use mathlib.Core.Path.{_∙_, sym}
 use borrow.Author.Needs.{needs}
 use Rattle.machine_resume_op.proofs.resume_endpoint.Statement.{statement}
 use Rattle.machine_resume_op.proofs.resume_endpoint.Tie as tie
-use Rattle.machine_resume_op.proofs.resume_endpoint.Reads as reads
-use Rattle.machine_resume_op.proofs.resume_endpoint.Lts as lts
-use Rattle.endpoint.proofs.decode.Reads as decode-reads
-use Rattle.endpoint.proofs.fits_at.Reads as fits-at-reads
-use Rattle.endpoint.proofs.resume.Reads as resume-reads
-use Rattle.state.proofs.load_saved.Reads as load-saved-reads
-use Rattle.machine.proofs.halts.suspend_or_end_endpoint.Reads as suspend-or-end-endpoint-reads
 
-load-saved-requires : tie.Need-load-saved-requires
-load-saved-requires c κs = search needs
+sub-byte-requires : tie.Need-sub-byte-requires
+sub-byte-requires c κs = search needs
 
-decode-requires : tie.Need-decode-requires
-decode-requires c κs = search needs
+resume-ack-requires : tie.Need-resume-ack-requires
+resume-ack-requires c κs =
+    let a = c .before .before .before .before .args in
+    at-number (saved (now (a .s))) 1 (c .before .before .before .before .pre) (sym (c .before .before .sub-byte .ensures) ∙ c .before .match .keys1)
 
-fits-at-requires : tie.Need-fits-at-requires
-fits-at-requires c κs = search needs
+resume-loaded-requires : tie.Need-resume-loaded-requires
+resume-loaded-requires c κs = search needs
 
-resume-requires : tie.Need-resume-requires
-resume-requires c κs = simp (← c .before .fits-at .ensures, c .if1 .taken)
-
-suspend-or-end-endpoint-requires : tie.Need-suspend-or-end-endpoint-requires
-suspend-or-end-endpoint-requires c κs = search needs
+resume-wrote-requires : tie.Need-resume-wrote-requires
+resume-wrote-requires c κs = search needs
 
 returns : tie.Need-returns
-returns c = (
-  λ b. going (saved (now (c .before .before .before .before .before .before .before .before .args .s))) _
-      (c .before .before .before .before .before .before .before .before .args .v)
-      (view (now (c .before .before .before .before .before .before .before .before .args .s))) b
-      (at-endpoint (saved (now (c .before .before .before .before .before .before .before .before .args .s))) _
-      (c .before .before .before .before .before .before .before .before .pre)
-      (c .before .before .before .before .before .decode .ensures
-      ∙ ap decode (c .before .before .before .before .before .before .load-saved .ensures)))
-      (gone-endpoint _ (c .before .before .before .before .before .before .before .before .args .v)
-      (view (now (c .before .before .before .before .before .before .before .before .args .s))) b
-      (sym (c .before .before .before .before .fits-at .ensures) ∙ c .before .before .before .if1 .taken))
-      (c .suspend-or-end-endpoint .ensures .0 b ∙ simp (c .before .before .resume .ensures .0)),
-  c .suspend-or-end-endpoint .ensures .1 _,
-)
+returns c =
+    let a = c .before .before .before .before .before .args in
+    let here = at-number (saved (now (a .s))) 1 (c .before .before .before .before .before .pre)
+    (sym (c .before .before .before .sub-byte .ensures) ∙ c .before .before .match .keys1) in
+    (λ b. called-at here (c .resume-ack .ensures b), kept-at (c .resume-ack .ensures []))
 
 returns-2 : tie.Need-returns-2
-returns-2 c = (
-  λ b. staying (saved (now (c .before .before .before .before .before .args .s))) _
-      (c .before .before .before .before .before .args .v) (view (now (c .before .before .before .before .before .args .s))) b
-      (at-endpoint (saved (now (c .before .before .before .before .before .args .s))) _ (c .before .before .before .before .before .pre)
-      (c .before .before .decode .ensures ∙ ap decode (c .before .before .before .load-saved .ensures)))
-      (stay-endpoint _ (c .before .before .before .before .before .args .v)
-      (view (now (c .before .before .before .before .before .args .s))) b (sym (c .before .fits-at .ensures) ∙ c .if1 .left)),
-  refl,
-)
+returns-2 c =
+    let a = c .before .before .before .before .before .args in
+    let here = at-number (saved (now (a .s))) 2 (c .before .before .before .before .before .pre)
+    (sym (c .before .before .before .sub-byte .ensures) ∙ c .before .before .match .keys2) in
+    (λ b. called-at here (c .resume-loaded .ensures (a .v) b), kept-at (c .resume-loaded .ensures (a .v) []))
+
+returns-3 : tie.Need-returns-3
+returns-3 c =
+    let a = c .before .before .before .before .before .args in
+    let the-match = c .before .before .match in
+    let here = at-first (saved (now (a .s))) _ (c .before .before .before .before .before .pre) (sym (c .before .before .before .sub-byte .ensures))
+    (the-match .rest .0 .1) (the-match .rest .1) in
+    (λ b. called-at here (c .resume-wrote .ensures (a .v) b), kept-at (c .resume-wrote .ensures (a .v) []))
 
 pub resume-endpoint-spec : {M : Type 1} → statement M
 resume-endpoint-spec =
     tie.close
     (tie.spec
-    load-saved-requires
-    decode-requires
-    fits-at-requires
-    resume-requires
-    suspend-or-end-endpoint-requires
+    sub-byte-requires
+    resume-ack-requires
+    resume-loaded-requires
+    resume-wrote-requires
     returns
-    returns-2)
+    returns-2
+    returns-3)

@@ -13,35 +13,17 @@ with-suspend-requires c κs = search needs
 set-int-en-requires : tie.Need-set-int-en-requires
 set-int-en-requires c κs = search needs
 
-cast-t10 : tie.Need-cast-t10
-cast-t10 c = search needs
+cast-t8 : tie.Need-cast-t8
+cast-t8 c = search needs
 
 returns : tie.Need-returns
 unfolding afterReleased
-returns c = (
-  λ b. simp (
-    c .before .set-int-en .ensures .0,
-    c .before .before .before .with-suspend .ensures,
-    c .before .before .before .before .load-globals .ensures,
-    c .if1 .taken,
-  ),
-  (c .before .set-int-en .ensures .1, refl),
-)
-
-cast-t14 : tie.Need-cast-t14
-cast-t14 c = search needs
-
-returns-2 : tie.Need-returns-2
-unfolding afterReleased
-returns-2 c = (
-  λ b. simp (
-    c .before .set-int-en .ensures .0,
-    c .before .before .before .with-suspend .ensures,
-    c .before .before .before .before .load-globals .ensures,
-    c .if1 .left,
-  ),
-  (c .before .set-int-en .ensures .1, refl),
-)
+returns c =
+    let the-with-suspend = c .before .before .with-suspend in
+    let the-load-globals = c .before .before .before .load-globals in (
+      λ down b. simp (c .set-int-en .ensures .0, the-with-suspend .ensures, the-load-globals .ensures),
+      (c .set-int-en .ensures .1, λ n. refl),
+    )
 
 pub after-released-spec : {M : Type 1} → statement M
 after-released-spec =
@@ -50,7 +32,5 @@ after-released-spec =
     load-globals-requires
     with-suspend-requires
     set-int-en-requires
-    cast-t10
-    returns
-    cast-t14
-    returns-2)
+    cast-t8
+    returns)

@@ -1,0 +1,6 @@
+pub mod Stands
+pub mod StandsLaws
+pub mod BusLaws
+pub mod ControlLaws
+pub mod DriverLaws
+pub mod EndpointLaws

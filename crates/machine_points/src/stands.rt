@@ -1,0 +1,32 @@
+// An operation stands at a point, or ends: the saved record's 22 bytes are stored where the point is made, and its access is the
+// answer.
+use machine::Step;
+use machine::saved::nothing;
+use machine::woken::how_many;
+use regs::Access;
+use state::STATE_LEN;
+use state::Saved;
+use state::store_saved;
+ghost use mathlib.Core.Path.{_≡_};
+ghost use mathlib.Core.List.{List};
+ghost use Prim.Native.Nat.{ℕ};
+ghost use Rattle.state.specs.State.{view, saved};
+ghost use Rattle.machine.specs.declared.Step.the-variants as Step;
+ghost use Rattle.machine_points.specs.Stands.{Stops};
+
+// What is saved of a point, with its tag.
+pub fn stand(s: &mut [u8; STATE_LEN], q: Access, c: Saved) -> Step
+    ensures { λ r. ⌜ (r ≡ Step.Asks q) × ((view (now (s .exit)) ≡ view (now (s .entry))) × (saved (now (s .exit)) ≡ c)) ⌝ }
+{
+    store_saved(s, c);
+    Step::Asks(q)
+}
+
+// The operation has ended with its result: nothing is under way, and its wake-ups are answered.
+pub fn stop(s: &mut [u8; STATE_LEN], n: u16) -> Step
+    ensures { λ r. ⌜ Stops r n (now (s .entry)) (now (s .exit)) ⌝ }
+{
+    store_saved(s, nothing());
+    let k = how_many(s);
+    Step::Ends(n, k)
+}

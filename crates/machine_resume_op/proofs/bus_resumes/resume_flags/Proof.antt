@@ -1,0 +1,87 @@
+use Rattle.machine_points.specs.BusLaws.{bus-goes, bus-ends, bus-stays}
+use Rattle.bus.specs.Points.{fitsAt, afterFlags, afterNaked}
+use Rattle.bus.specs.declared.Point.the-variants as point
+use mathlib.Core.Path.{refl, sym, _∙_}
+use Rattle.bus.specs.Laws.{fits-flags}
+use borrow.Author.Needs.{needs}
+use Rattle.machine_resume_op.proofs.bus_resumes.resume_flags.Statement.{statement}
+use Rattle.machine_resume_op.proofs.bus_resumes.resume_flags.Tie as tie
+
+fits-requires : tie.Need-fits-requires
+fits-requires c κs = search needs
+
+byte-requires : tie.Need-byte-requires
+unfolding fitsAt
+byte-requires c κs = fits-flags point.Flags _ refl (sym (c .before .fits2 .ensures) ∙ c .if1 .taken)
+
+bus-rst-requires : tie.Need-bus-rst-requires
+bus-rst-requires c κs = search needs
+
+stand-address-requires : tie.Need-stand-address-requires
+stand-address-requires c κs = search needs
+
+returns : tie.Need-returns
+unfolding fitsAt afterFlags afterNaked
+returns c =
+    let the-if2 = c .before .before .if2 in
+    let the-bus-rst = c .before .before .before .bus-rst in
+    let the-byte = c .before .before .before .before .byte in
+    let fitted = sym (c .before .before .before .before .before .before .fits2 .ensures) ∙ c .before .before .before .before .before .if1 .taken in
+    λ b. bus-goes {p = point.Flags} fitted (c .stand-address .ensures) refl
+    (simp (← the-byte .ensures, ← the-bus-rst .ensures, the-if2 .taken))
+
+suspend-requires : tie.Need-suspend-requires
+suspend-requires c κs = search needs
+
+stand-status-requires : tie.Need-stand-status-requires
+stand-status-requires c κs = search needs
+
+returns-2 : tie.Need-returns-2
+unfolding fitsAt afterFlags afterNaked
+returns-2 c =
+    let the-if3 = c .before .before .if3 in
+    let the-suspend = c .before .before .before .suspend in
+    let the-if2 = c .before .before .before .before .if2 in
+    let the-bus-rst = c .before .before .before .before .before .bus-rst in
+    let the-byte = c .before .before .before .before .before .before .byte in
+    let fitted = sym (c .before .before .before .before .before .before .before .before .fits2 .ensures)
+    ∙ c .before .before .before .before .before .before .before .if1 .taken in
+    λ b. bus-goes {p = point.Flags} fitted (c .stand-status .ensures) refl
+    (simp (← the-byte .ensures, ← the-bus-rst .ensures, the-if2 .left, ← the-suspend .ensures, the-if3 .taken))
+
+stop-requires : tie.Need-stop-requires
+stop-requires c κs = search needs
+
+returns-3 : tie.Need-returns-3
+unfolding fitsAt afterFlags afterNaked
+returns-3 c =
+    let the-if3 = c .before .before .if3 in
+    let the-suspend = c .before .before .before .suspend in
+    let the-if2 = c .before .before .before .before .if2 in
+    let the-bus-rst = c .before .before .before .before .before .bus-rst in
+    let the-byte = c .before .before .before .before .before .before .byte in
+    let fitted = sym (c .before .before .before .before .before .before .before .before .fits2 .ensures)
+    ∙ c .before .before .before .before .before .before .before .if1 .taken in
+    λ b. bus-ends {p = point.Flags} fitted (c .stop .ensures)
+    (simp (← the-byte .ensures, ← the-bus-rst .ensures, the-if2 .left, ← the-suspend .ensures, the-if3 .left))
+
+returns-4 : tie.Need-returns-4
+unfolding fitsAt afterFlags afterNaked
+returns-4 c =
+    λ b. bus-stays {p = point.Flags} (c .before .before .pre) (sym (c .before .fits2 .ensures) ∙ c .if1 .left)
+
+pub resume-flags-spec : {M : Type 1} → statement M
+resume-flags-spec =
+    tie.close
+    (tie.spec
+    fits-requires
+    byte-requires
+    bus-rst-requires
+    stand-address-requires
+    returns
+    suspend-requires
+    stand-status-requires
+    returns-2
+    stop-requires
+    returns-3
+    returns-4)

@@ -1,0 +1,36 @@
+use Rattle.machine_points.specs.StandsLaws.{loaded}
+use Rattle.machine_points.specs.BusLaws.{bus-goes}
+use Rattle.bus.specs.Points.{fitsAt}
+use Rattle.bus.specs.declared.Point.the-variants as point
+use Rattle.machine.specs.declared.Suspended.the-variants as under
+use Prim.Native.Nat.{ℕ}
+use mathlib.Core.Path.{refl, ap}
+use borrow.Author.Needs.{needs}
+use Rattle.machine_resume_op.proofs.bus_resumes.resume_stall_len.Statement.{statement}
+use Rattle.machine_resume_op.proofs.bus_resumes.resume_stall_len.Tie as tie
+
+ep-byte-requires : tie.Need-ep-byte-requires
+ep-byte-requires c κs = search needs
+
+after-stall-len-requires : tie.Need-after-stall-len-requires
+after-stall-len-requires c κs = search needs
+
+stand-stall-word-requires : tie.Need-stand-stall-word-requires
+stand-stall-word-requires c κs = search needs
+
+returns : tie.Need-returns
+unfolding fitsAt
+returns c =
+    let stood = c .stand-stall-word in
+    let next = c .before .before .after-stall-len in
+    λ v b. loaded (ap (λ (e : ℕ). under.Bus (point.StallLen e)) (c .before .before .before .ep-byte .ensures))
+    (bus-goes refl (stood .ensures) (next .ensures .1) (next .ensures .0 v _ b))
+
+pub resume-stall-len-spec : {M : Type 1} → statement M
+resume-stall-len-spec =
+    tie.close
+    (tie.spec
+    ep-byte-requires
+    after-stall-len-requires
+    stand-stall-word-requires
+    returns)

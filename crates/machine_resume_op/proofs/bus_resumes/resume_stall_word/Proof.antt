@@ -1,0 +1,53 @@
+use Rattle.machine_points.specs.StandsLaws.{loaded, parts2}
+use Rattle.machine_points.specs.BusLaws.{bus-goes, bus-stays, fits-word}
+use Rattle.bus.specs.declared.Point.the-variants as point
+use Rattle.machine.specs.declared.Suspended.the-variants as under
+use Rattle.regs.specs.declared.Dir.{Dir}
+use Prim.Native.Nat.{ℕ}
+use mathlib.Core.Path.{sym, _∙_}
+use borrow.Author.Needs.{needs}
+use Rattle.machine_resume_op.proofs.bus_resumes.resume_stall_word.Statement.{statement}
+use Rattle.machine_resume_op.proofs.bus_resumes.resume_stall_word.Tie as tie
+
+fits-requires : tie.Need-fits-requires
+fits-requires c κs = search needs
+
+dir-at-requires : tie.Need-dir-at-requires
+dir-at-requires c κs = search needs
+
+ep-byte-requires : tie.Need-ep-byte-requires
+ep-byte-requires c κs = search needs
+
+after-stall-word-requires : tie.Need-after-stall-word-requires
+after-stall-word-requires c κs =
+    sym (c .before .before .before .before .before .fits2 .ensures) ∙ c .before .before .before .before .if1 .taken
+
+stand-woken-requires : tie.Need-stand-woken-requires
+stand-woken-requires c κs = search needs
+
+returns : tie.Need-returns
+returns c =
+    let stood = c .stand-woken in
+    let next = c .before .before .after-stall-word in
+    let the-ep-byte = c .before .before .before .ep-byte in
+    let the-dir-at = c .before .before .before .before .before .dir-at in
+    let fitted = sym (c .before .before .before .before .before .before .before .before .fits2 .ensures)
+    ∙ c .before .before .before .before .before .before .before .if1 .taken in
+    λ b. loaded (parts2 (λ (d : Dir) (e : ℕ). under.Bus (point.StallWord d e)) (the-dir-at .ensures) (the-ep-byte .ensures))
+    (bus-goes (fits-word _ _ _ fitted) (stood .ensures) (next .ensures .1) (next .ensures .0 _ b))
+
+returns-2 : tie.Need-returns-2
+returns-2 c =
+    λ b. bus-stays (c .before .before .pre) (fits-word _ _ _ (sym (c .before .fits2 .ensures) ∙ c .if1 .left))
+
+pub resume-stall-word-spec : {M : Type 1} → statement M
+resume-stall-word-spec =
+    tie.close
+    (tie.spec
+    fits-requires
+    dir-at-requires
+    ep-byte-requires
+    after-stall-word-requires
+    stand-woken-requires
+    returns
+    returns-2)

@@ -1,0 +1,46 @@
+use Rattle.machine_points.specs.BusLaws.{bus-goes, bus-stays}
+use Rattle.bus.specs.Points.{fitsAt, afterStatus}
+use Rattle.bus.specs.declared.Point.the-variants as point
+use mathlib.Core.Path.{refl, sym, _∙_}
+use Rattle.bus.specs.Laws.{fits-status}
+use borrow.Author.Needs.{needs}
+use Rattle.machine_resume_op.proofs.bus_resumes.resume_status.Statement.{statement}
+use Rattle.machine_resume_op.proofs.bus_resumes.resume_status.Tie as tie
+
+fits-requires : tie.Need-fits-requires
+fits-requires c κs = search needs
+
+byte-requires : tie.Need-byte-requires
+unfolding fitsAt
+byte-requires c κs = fits-status point.Status _ refl (sym (c .before .fits2 .ensures) ∙ c .if1 .taken)
+
+suspended-requires : tie.Need-suspended-requires
+suspended-requires c κs = search needs
+
+stand-released-requires : tie.Need-stand-released-requires
+stand-released-requires c κs = search needs
+
+returns : tie.Need-returns
+unfolding fitsAt afterStatus
+returns c =
+    let the-suspended = c .before .before .suspended in
+    let the-byte = c .before .before .before .byte in
+    let fitted = sym (c .before .before .before .before .before .fits2 .ensures) ∙ c .before .before .before .before .if1 .taken in
+    λ b. bus-goes {p = point.Status} fitted (c .stand-released .ensures) refl
+    (simp (← the-byte .ensures, ← the-suspended .ensures))
+
+returns-2 : tie.Need-returns-2
+unfolding fitsAt afterStatus
+returns-2 c =
+    λ b. bus-stays {p = point.Status} (c .before .before .pre) (sym (c .before .fits2 .ensures) ∙ c .if1 .left)
+
+pub resume-status-spec : {M : Type 1} → statement M
+resume-status-spec =
+    tie.close
+    (tie.spec
+    fits-requires
+    byte-requires
+    suspended-requires
+    stand-released-requires
+    returns
+    returns-2)

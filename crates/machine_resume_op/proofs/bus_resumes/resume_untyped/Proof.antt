@@ -1,0 +1,28 @@
+use Rattle.machine_points.specs.BusLaws.{bus-goes}
+use Rattle.bus.specs.Points.{fitsAt}
+use Rattle.bus.specs.declared.Point.the-variants as point
+use mathlib.Core.Path.{refl}
+use borrow.Author.Needs.{needs}
+use Rattle.machine_resume_op.proofs.bus_resumes.resume_untyped.Statement.{statement}
+use Rattle.machine_resume_op.proofs.bus_resumes.resume_untyped.Tie as tie
+
+after-untyped-requires : tie.Need-after-untyped-requires
+after-untyped-requires c κs = search needs
+
+stand-single-requires : tie.Need-stand-single-requires
+stand-single-requires c κs = search needs
+
+returns : tie.Need-returns
+unfolding fitsAt
+returns c =
+    let stood = c .stand-single in
+    let next = c .before .before .after-untyped in
+    λ v b. bus-goes {p = point.Untyped} refl (stood .ensures) (next .ensures .1) (next .ensures .0 v _ b)
+
+pub resume-untyped-spec : {M : Type 1} → statement M
+resume-untyped-spec =
+    tie.close
+    (tie.spec
+    after-untyped-requires
+    stand-single-requires
+    returns)

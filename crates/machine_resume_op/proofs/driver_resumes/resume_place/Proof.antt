@@ -1,0 +1,34 @@
+use Rattle.machine_points.specs.StandsLaws.{loaded}
+use Rattle.machine_points.specs.DriverLaws.{driver-ends}
+use Rattle.driver.specs.Points.{fitsAt}
+use Rattle.driver.specs.declared.Point.the-variants as point
+use Rattle.machine.specs.declared.Suspended.the-variants as under
+use Prim.Native.Nat.{ℕ}
+use mathlib.Core.Path.{refl, ap}
+use borrow.Author.Needs.{needs}
+use Rattle.machine_resume_op.proofs.driver_resumes.resume_place.Statement.{statement}
+use Rattle.machine_resume_op.proofs.driver_resumes.resume_place.Tie as tie
+
+ep-byte-requires : tie.Need-ep-byte-requires
+ep-byte-requires c κs = search needs
+
+cast-stop : tie.Need-cast-stop
+cast-stop c = search needs
+
+stop-requires : tie.Need-stop-requires
+stop-requires c κs = search needs
+
+returns : tie.Need-returns
+unfolding fitsAt
+returns c =
+    λ v b. loaded (ap (λ (e : ℕ). under.Driver (point.Place e)) (c .before .before .ep-byte .ensures))
+    (driver-ends refl (c .stop .ensures) refl)
+
+pub resume-place-spec : {M : Type 1} → statement M
+resume-place-spec =
+    tie.close
+    (tie.spec
+    ep-byte-requires
+    cast-stop
+    stop-requires
+    returns)

@@ -1,0 +1,34 @@
+use Rattle.machine_points.specs.StandsLaws.{loaded}
+use Rattle.machine_points.specs.DriverLaws.{driver-goes}
+use Rattle.driver.specs.Points.{fitsAt}
+use Rattle.driver.specs.declared.Point.the-variants as point
+use Rattle.machine.specs.declared.Suspended.the-variants as under
+use mathlib.Core.Bool.{Bool}
+use mathlib.Core.Path.{refl, ap}
+use borrow.Author.Needs.{needs}
+use Rattle.machine_resume_op.proofs.driver_resumes.resume_reset_end.Statement.{statement}
+use Rattle.machine_resume_op.proofs.driver_resumes.resume_reset_end.Tie as tie
+
+on-at-requires : tie.Need-on-at-requires
+on-at-requires c κs = search needs
+
+phy-suspendm-requires : tie.Need-phy-suspendm-requires
+phy-suspendm-requires c κs = search needs
+
+stand-host-requires : tie.Need-stand-host-requires
+stand-host-requires c κs = search needs
+
+returns : tie.Need-returns
+unfolding fitsAt
+returns c =
+    λ v b. loaded (ap (λ (on : Bool). under.Driver (point.ResetEnd on)) (c .before .before .before .on-at .ensures))
+    (driver-goes refl (c .stand-host .ensures) refl (simp (c .before .before .phy-suspendm .ensures)))
+
+pub resume-reset-end-spec : {M : Type 1} → statement M
+resume-reset-end-spec =
+    tie.close
+    (tie.spec
+    on-at-requires
+    phy-suspendm-requires
+    stand-host-requires
+    returns)

@@ -1,0 +1,45 @@
+use Rattle.machine_points.specs.StandsLaws.{loaded}
+use Rattle.machine_points.specs.DriverLaws.{driver-goes}
+use Rattle.driver.specs.Points.{fitsAt}
+use Rattle.driver.specs.declared.Point.the-variants as point
+use Rattle.machine.specs.declared.Suspended.the-variants as under
+use mathlib.Core.Bool.{Bool}
+use mathlib.Core.Path.{refl, ap}
+use borrow.Author.Needs.{needs}
+use Rattle.machine_resume_op.proofs.driver_resumes.resume_run.Statement.{statement}
+use Rattle.machine_resume_op.proofs.driver_resumes.resume_run.Tie as tie
+
+on-at-requires : tie.Need-on-at-requires
+on-at-requires c κs = search needs
+
+at-start-requires : tie.Need-at-start-requires
+at-start-requires c κs = search needs
+
+set-int-en-requires : tie.Need-set-int-en-requires
+set-int-en-requires c κs = search needs
+
+cast-t9 : tie.Need-cast-t9
+cast-t9 c = search needs
+
+stand-int-en-requires : tie.Need-stand-int-en-requires
+stand-int-en-requires c κs = search needs
+
+returns : tie.Need-returns
+unfolding fitsAt
+returns c =
+    let the-on-at = c .before .before .before .before .before .on-at in
+    let the-set-int-en = c .before .before .set-int-en in
+    let the-at-start = c .before .before .before .before .at-start in
+    λ v b. loaded (ap (λ (on : Bool). under.Driver (point.Run on)) (the-on-at .ensures))
+    (driver-goes refl (c .stand-int-en .ensures) refl (simp (the-set-int-en .ensures .0, the-at-start .ensures)))
+
+pub resume-run-spec : {M : Type 1} → statement M
+resume-run-spec =
+    tie.close
+    (tie.spec
+    on-at-requires
+    at-start-requires
+    set-int-en-requires
+    cast-t9
+    stand-int-en-requires
+    returns)

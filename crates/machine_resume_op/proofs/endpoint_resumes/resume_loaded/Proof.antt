@@ -1,0 +1,30 @@
+use Rattle.machine_points.specs.StandsLaws.{loaded}
+use Rattle.machine_points.specs.EndpointLaws.{endpoint-goes}
+use Rattle.endpoint.specs.Points.{fitsAt}
+use Rattle.endpoint.specs.declared.Point.the-variants as point
+use Rattle.machine.specs.declared.Suspended.the-variants as under
+use Prim.Native.Nat.{ℕ}
+use mathlib.Core.Path.{refl, ap}
+use borrow.Author.Needs.{needs}
+use Rattle.machine_resume_op.proofs.endpoint_resumes.resume_loaded.Statement.{statement}
+use Rattle.machine_resume_op.proofs.endpoint_resumes.resume_loaded.Tie as tie
+
+ep-byte-requires : tie.Need-ep-byte-requires
+ep-byte-requires c κs = search needs
+
+stand-ack-in-requires : tie.Need-stand-ack-in-requires
+stand-ack-in-requires c κs = search needs
+
+returns : tie.Need-returns
+unfolding fitsAt
+returns c =
+    λ v b. loaded (ap (λ (e : ℕ). under.Endpoint (point.Loaded e)) (c .before .before .ep-byte .ensures))
+    (endpoint-goes refl (c .stand-ack-in .ensures) refl refl)
+
+pub resume-loaded-spec : {M : Type 1} → statement M
+resume-loaded-spec =
+    tie.close
+    (tie.spec
+    ep-byte-requires
+    stand-ack-in-requires
+    returns)

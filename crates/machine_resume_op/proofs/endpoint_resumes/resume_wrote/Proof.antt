@@ -1,0 +1,22 @@
+use Rattle.machine_points.specs.EndpointLaws.{endpoint-ends}
+use Rattle.endpoint.specs.Points.{fitsAt}
+use Rattle.endpoint.specs.declared.Point.the-variants as point
+use mathlib.Core.Path.{refl}
+use borrow.Author.Needs.{needs}
+use Rattle.machine_resume_op.proofs.endpoint_resumes.resume_wrote.Statement.{statement}
+use Rattle.machine_resume_op.proofs.endpoint_resumes.resume_wrote.Tie as tie
+
+stop-requires : tie.Need-stop-requires
+stop-requires c κs = search needs
+
+returns : tie.Need-returns
+unfolding fitsAt
+returns c =
+    λ v b. endpoint-ends {p = point.Wrote} refl (c .stop .ensures) refl
+
+pub resume-wrote-spec : {M : Type 1} → statement M
+resume-wrote-spec =
+    tie.close
+    (tie.spec
+    stop-requires
+    returns)

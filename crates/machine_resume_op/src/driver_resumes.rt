@@ -1,0 +1,242 @@
+// Start-up (mod.rs 886-951), new endpoints (endpoint.rs 18-36), EP0's start (mod.rs 1144-1178) and the microframe go on: one function for each of
+// their points, which loads its own parts and stores the next point's bytes.
+use crate::halts::suspend_or_end_driver;
+use driver_resume::announce;
+use frame::Frame;
+use frame::microframe_index;
+use machine::Step;
+use machine_points::driver_stands::stand_ep0_max_len;
+use machine_points::driver_stands::stand_ep0_packet;
+use machine_points::driver_stands::stand_ep0_rx;
+use machine_points::driver_stands::stand_ep0_tx;
+use machine_points::driver_stands::stand_host;
+use machine_points::driver_stands::stand_int_en;
+use machine_points::driver_stands::stand_place;
+use machine_points::driver_stands::stand_reset;
+use machine_points::driver_stands::stand_reset_end;
+use machine_points::driver_stands::stand_run;
+use machine_points::driver_stands::stand_wait;
+use machine_points::loads::busy_byte;
+use machine_points::loads::ep_byte;
+use machine_points::loads::flag_dir_at;
+use machine_points::loads::late_byte;
+use machine_points::loads::on_at;
+use machine_points::loads::st_byte;
+use machine_points::loads::value_word;
+use machine_points::stands::stop;
+use model_ops::records::place;
+use regs::Access;
+use regs::Dir;
+use regs::Reg;
+use regs::control_word::DATA0;
+use regs::control_word::NAK;
+use regs::control_word::word_of;
+use regs::ctrl;
+use regs::int_en::at_start;
+use regs::registers::fits;
+use state::STATE_LEN;
+use state::set_int_en;
+ghost use mathlib.Core.Path.{_≡_};
+ghost use mathlib.Core.Bool.{true, false};
+ghost use mathlib.Core.List.{List};
+ghost use Prim.Native.Nat.{ℕ};
+ghost use Rattle.regs.specs.ControlWord.{wordOf};
+ghost use Rattle.regs.specs.Registers.{fitsIn};
+ghost use Rattle.model.specs.Statics.{isOn};
+ghost use Rattle.state.specs.State.{saved};
+ghost use Rattle.driver.specs.declared.Point.the-variants as Point;
+ghost use Rattle.driver_codec.specs.Codec.{dirOf};
+ghost use Rattle.machine.specs.declared.Suspended.the-variants as Under;
+ghost use Rattle.machine.specs.Suspended.{decode};
+ghost use Rattle.machine_points.specs.Stands.{Resumes};
+
+// A reading of 16 bits.
+fn half(v: u32) -> u16
+    requires { ⌜ fitsIn v 16 ≡ true ⌝ }
+    ensures { λ r. ⌜ r ≡ v ⌝ }
+{
+    v as u16
+}
+
+// EP0 answers NAK, from DATA0 on.
+fn ep0_word() -> u32
+    ensures { λ r. ⌜ r ≡ wordOf 2 0 false ⌝ }
+{
+    word_of(NAK, DATA0, false) as u32
+}
+
+// Ctrl is cleared: start-up.
+pub fn resume_clear(s: &mut [u8; STATE_LEN]) -> Step
+    ensures { λ r. ⌜ ((v : ℕ) (b : List ℕ) → Resumes r v (Under.Driver (Point.Clear (isOn (saved (now (s .entry)) .flag))))
+        (now (s .entry)) b (now (s .exit)) b) ⌝ }
+{
+    let on = on_at(s);
+    stand_wait(s, Access::Wait(10), on)
+}
+
+// The wait is over.
+pub fn resume_wait(s: &mut [u8; STATE_LEN]) -> Step
+    ensures { λ r. ⌜ ((v : ℕ) (b : List ℕ) → Resumes r v (Under.Driver (Point.Wait (isOn (saved (now (s .entry)) .flag))))
+        (now (s .entry)) b (now (s .exit)) b) ⌝ }
+{
+    let on = on_at(s);
+    stand_reset(s, Access::Read(Reg::Ctrl, 0), on)
+}
+
+// Ctrl is read.
+pub fn resume_reset(s: &mut [u8; STATE_LEN], v: u32) -> Step
+    requires { ⌜ decode (saved (now s)) ≡ Under.Driver (Point.Reset (isOn (saved (now s) .flag))) ⌝ }
+    ensures { λ r. ⌜ ((b : List ℕ) → Resumes r v (Under.Driver (Point.Reset (isOn (saved (now (s .entry)) .flag)))) (now (s .entry)) b (now (s .exit)) b) ⌝ }
+{
+    if fits(v, 6) {
+        let on = on_at(s);
+        let w = ctrl::reset_ended(v);
+        return stand_reset_end(s, Access::Write(Reg::Ctrl, 0, w), on);
+    }
+    Step::Refused(16)
+}
+
+// The reset is ended.
+pub fn resume_reset_end(s: &mut [u8; STATE_LEN]) -> Step
+    ensures { λ r. ⌜ ((v : ℕ) (b : List ℕ) → Resumes r v (Under.Driver (Point.ResetEnd (isOn (saved (now (s .entry)) .flag))))
+        (now (s .entry)) b (now (s .exit)) b) ⌝ }
+{
+    let on = on_at(s);
+    let w = ctrl::phy_suspendm();
+    stand_host(s, Access::Write(Reg::HostCtrl, 0, w), on)
+}
+
+// Host_ctrl is written.
+pub fn resume_host(s: &mut [u8; STATE_LEN]) -> Step
+    ensures { λ r. ⌜ ((v : ℕ) (b : List ℕ) → Resumes r v (Under.Driver (Point.Host (isOn (saved (now (s .entry)) .flag))))
+        (now (s .entry)) b (now (s .exit)) b) ⌝ }
+{
+    let on = on_at(s);
+    let w = ctrl::run();
+    stand_run(s, Access::Write(Reg::Ctrl, 0, w), on)
+}
+
+// Ctrl is: the interrupt enables are kept, then written.
+pub fn resume_run(s: &mut [u8; STATE_LEN]) -> Step
+    ensures { λ r. ⌜ ((v : ℕ) (b : List ℕ) → Resumes r v (Under.Driver (Point.Run (isOn (saved (now (s .entry)) .flag))))
+        (now (s .entry)) b (now (s .exit)) b) ⌝ }
+{
+    let on = on_at(s);
+    let enables = at_start(on);
+    set_int_en(s, enables);
+    stand_int_en(s, Access::Write(Reg::IntEn, 0, enables as u32))
+}
+
+// Int_en is.
+pub fn resume_int_en(s: &mut [u8; STATE_LEN]) -> Step
+    ensures { λ r. ⌜ ((v : ℕ) (b : List ℕ) → Resumes r v (Under.Driver Point.IntEn) (now (s .entry)) b (now (s .exit)) b) ⌝ }
+{
+    stop(s, 0)
+}
+
+// A new endpoint's maximum is: its buffer's address, unless it is a control endpoint.
+pub fn resume_max_len(s: &mut [u8; STATE_LEN]) -> Step
+    ensures { λ r. ⌜ ((v : ℕ) (b : List ℕ) → Resumes r v (Under.Driver (Point.MaxLen (dirOf (saved (now (s .entry)) .flag))
+        (saved (now (s .entry)) .st) (saved (now (s .entry)) .ep)))
+        (now (s .entry)) b (now (s .exit)) b) ⌝ }
+{
+    let ep = ep_byte(s);
+    let kind = st_byte(s);
+    if kind % 4 == 0 {
+        return stop(s, ep as u16);
+    }
+    let dir = flag_dir_at(s);
+    let at = place(s, dir, ep);
+    match dir {
+        Dir::Out => stand_place(s, Access::Receive(ep, at), ep),
+        Dir::In => stand_place(s, Access::Transmit(ep, at), ep),
+    }
+}
+
+// Its address is.
+pub fn resume_place(s: &mut [u8; STATE_LEN]) -> Step
+    ensures { λ r. ⌜ ((v : ℕ) (b : List ℕ) → Resumes r v (Under.Driver (Point.Place (saved (now (s .entry)) .ep))) (now (s .entry)) b (now (s .exit)) b) ⌝ }
+{
+    let ep = ep_byte(s);
+    stop(s, ep as u16)
+}
+
+// EP0's buffer is told: its start.
+pub fn resume_ep0_place(s: &mut [u8; STATE_LEN]) -> Step
+    ensures { λ r. ⌜ ((v : ℕ) (b : List ℕ) → Resumes r v (Under.Driver (Point.Ep0Place (saved (now (s .entry)) .value)))
+        (now (s .entry)) b (now (s .exit)) b) ⌝ }
+{
+    let maximum = value_word(s);
+    stand_ep0_max_len(s, Access::Write(Reg::EpMaxLen, 0, maximum))
+}
+
+// Its maximum is written.
+pub fn resume_ep0_max_len(s: &mut [u8; STATE_LEN]) -> Step
+    ensures { λ r. ⌜ ((v : ℕ) (b : List ℕ) → Resumes r v (Under.Driver Point.Ep0MaxLen) (now (s .entry)) b (now (s .exit)) b) ⌝ }
+{
+    let w = ep0_word();
+    stand_ep0_rx(s, Access::Write(Reg::EpRxCtrl, 0, w))
+}
+
+// Its OUT answers NAK.
+pub fn resume_ep0_rx(s: &mut [u8; STATE_LEN]) -> Step
+    ensures { λ r. ⌜ ((v : ℕ) (b : List ℕ) → Resumes r v (Under.Driver Point.Ep0Rx) (now (s .entry)) b (now (s .exit)) b) ⌝ }
+{
+    let w = ep0_word();
+    stand_ep0_tx(s, Access::Write(Reg::EpTxCtrl, 0, w))
+}
+
+// Its IN does.
+pub fn resume_ep0_tx(s: &mut [u8; STATE_LEN]) -> Step
+    ensures { λ r. ⌜ ((v : ℕ) (b : List ℕ) → Resumes r v (Under.Driver Point.Ep0Tx) (now (s .entry)) b (now (s .exit)) b) ⌝ }
+{
+    stand_ep0_packet(s, Access::Write(Reg::EpMaxLen, 0, 64))
+}
+
+// Its packet's maximum is written.
+pub fn resume_ep0_packet(s: &mut [u8; STATE_LEN]) -> Step
+    ensures { λ r. ⌜ ((v : ℕ) (b : List ℕ) → Resumes r v (Under.Driver Point.Ep0Packet) (now (s .entry)) b (now (s .exit)) b) ⌝ }
+{
+    stop(s, 0)
+}
+
+// Frame_no is read: its index.
+pub fn resume_frame_no(s: &mut [u8; STATE_LEN], v: u32) -> Step
+    requires { ⌜ decode (saved (now s)) ≡ Under.Driver Point.FrameNo ⌝ }
+    ensures { λ r. ⌜ ((b : List ℕ) → Resumes r v (Under.Driver Point.FrameNo) (now (s .entry)) b (now (s .exit)) b) ⌝ }
+{
+    if fits(v, 16) {
+        let i = microframe_index(Frame(half(v)));
+        return stop(s, i.0);
+    }
+    Step::Refused(16)
+}
+
+// Of a list's endpoint the maximum is written: its address, or its successor.
+pub fn resume_list_max_len(s: &mut [u8; STATE_LEN]) -> Step
+    ensures { λ r. ⌜ ((v : ℕ) (b : List ℕ) → Resumes r v (Under.Driver (Point.ListMaxLen (dirOf (saved (now (s .entry)) .flag))
+        (saved (now (s .entry)) .st) (saved (now (s .entry)) .ep) (saved (now (s .entry)) .busy) (saved (now (s .entry)) .late)))
+        (now (s .entry)) b (now (s .exit)) b) ⌝ }
+{
+    let dir = flag_dir_at(s);
+    let kind = st_byte(s);
+    let ep = ep_byte(s);
+    let left = busy_byte(s);
+    let total = late_byte(s);
+    let n = announce::after_max_len(s, dir, kind, ep, left, total);
+    suspend_or_end_driver(s, n)
+}
+
+// Its address is: its successor.
+pub fn resume_list_place(s: &mut [u8; STATE_LEN]) -> Step
+    ensures { λ r. ⌜ ((v : ℕ) (b : List ℕ) → Resumes r v (Under.Driver (Point.ListPlace (dirOf (saved (now (s .entry)) .flag))
+        (saved (now (s .entry)) .ep) (saved (now (s .entry)) .busy) (saved (now (s .entry)) .late)))
+        (now (s .entry)) b (now (s .exit)) b) ⌝ }
+{
+    let dir = flag_dir_at(s);
+    let ep = ep_byte(s);
+    let left = busy_byte(s);
+    let total = late_byte(s);
+    let n = announce::after(s, left, total, dir, ep);
+    suspend_or_end_driver(s, n)
+}
