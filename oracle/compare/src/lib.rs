@@ -11,6 +11,7 @@ mod seen;
 mod stamps;
 pub mod table;
 mod time;
+mod together;
 
 use oracle::replay::Session;
 use oracle::text::{print, Entry};
