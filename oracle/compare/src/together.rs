@@ -69,7 +69,7 @@ pub struct Together {
     interrupts: u64,
     row: Option<Row>,
     /// How many were compared.
-    pub compared: u64,
+    pub compared: usize,
 }
 
 impl Together {
