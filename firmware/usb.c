@@ -46,7 +46,7 @@ uint64_t usb_to_end(uint64_t word)
     return word;
 }
 
-/* With the readings that come in a row brought by one call. */
+/* With the readings that follow each other brought by one call. */
 void usb_interrupt(void)
 {
     uint32_t frame = register_read(USBHS_FRAME_NO, 0), flags = register_read(USBHS_INT_FG, 0), mis, status;

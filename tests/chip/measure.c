@@ -288,7 +288,7 @@ static void interrupts(void)
 
 #define TOGETHER(name) tell(name, at_once())
 
-/* The same, readings that come in a row brought by one call. */
+/* The same, readings that follow each other brought by one call. */
 static void together(void)
 {
     static const uint8_t packet[64] = {1, 2, 3};

@@ -11,6 +11,7 @@ mod seen;
 mod stamps;
 pub mod table;
 mod time;
+mod together;
 
 use oracle::replay::Session;
 use oracle::text::{print, Entry};
@@ -32,6 +33,8 @@ pub struct Compared {
     pub late: usize,
     pub otherwise: usize,
     pub turned_down: usize,
+    /// Readings that were also brought by one call.
+    pub together: usize,
     /// Calls that the Rust does not have, by the row that refused them.
     pub rows: misplaced::Rows,
     pub seen: seen::Seen,
@@ -102,6 +105,7 @@ impl Compared {
         self.stamps += stamps.iter().filter(|s| s.1 != stamps::NONE).count();
         self.late += lengths.late;
         self.otherwise += lengths.otherwise;
+        self.together += std::mem::take(&mut port.together.compared);
         self.turned_down += entries.iter().filter(|e| e.answer == Answer::Refused(19)).count();
         if let Some(lists) = &mut self.chip {
             lists.add(port, &entries);

@@ -67,11 +67,12 @@ fn main() -> ExitCode {
         print!("{}", lists.lines);
         return ExitCode::SUCCESS;
     }
-    let Compared { lists, entries, answers, stamps, late, otherwise, turned_down, rows, .. } = compared;
+    let Compared { lists, entries, answers, stamps, late, otherwise, turned_down, together, rows, .. } = compared;
     println!(
         "{lists} runs, {entries} entries, {answers} answers and {stamps} stamps compared, and the bus time after each \
          call ({turned_down} enablings turned down): no difference"
     );
+    println!("{together} times readings that follow each other were also brought by one call: no difference");
     println!("{late} lengths told by the marks, {otherwise} of them not the Rust's");
     let refused: Vec<String> = (0..).zip(rows).filter(|r| r.1 > 0).map(|(row, n)| format!("{row}: {n}")).collect();
     println!("calls that the Rust does not have, by the row that refused them: {}", refused.join(", "));

@@ -4,6 +4,7 @@ use oracle::number::{decode, wake};
 use oracle::{Answer, Call, Dir, Driver, Wake};
 
 use crate::stamps;
+use crate::together::Together;
 
 macro_rules! exported {
     ($(fn $name:ident($($arg:ident: $type:ty),*) -> $answer:ty;)*) => {
@@ -60,7 +61,7 @@ const STATE: usize = 4096;
 
 /// The length of the record of bus time, and this driver's number in it.
 pub const TIME: usize = 128;
-const DRIVER: u32 = 2;
+pub const DRIVER: u32 = 2;
 
 pub struct Port {
     pub state: Vec<u8>,
@@ -77,6 +78,8 @@ pub struct Port {
     /// The record of bus time, and the time in use after each call.
     pub time: [u16; TIME],
     pub times: Vec<u32>,
+    /// Readings that are also brought by one call.
+    pub together: Together,
 }
 
 impl Default for Port {
@@ -98,6 +101,7 @@ impl Port {
             stamps: vec![],
             time: [0; TIME],
             times: vec![],
+            together: Together::default(),
         }
     }
 }
@@ -277,7 +281,9 @@ impl Port {
         let (p, n) = (self.slots.as_mut_ptr(), self.slots.len());
         let mut slice = self.slice(call);
         let mut stamp = stamps::NONE;
+        self.together.before(call, &self.state, &self.slots, &self.time);
         let a = self.lent(call, p, n, &mut slice, &mut stamp);
+        self.together.after(call, a, &self.state, &self.slots, &self.time);
         if let (Some(before), false) = (before, accepted(a)) {
             (self.geometry, self.slots) = before;
         }
@@ -285,7 +291,10 @@ impl Port {
             Call::Interrupt if accepted(a) => {
                 self.interrupts = self.interrupts.wrapping_add(1);
                 let frame = stamps::frame(self.interrupts).into();
-                let a = self.lent(&Call::Continue(frame), p, n, &mut [], &mut stamp);
+                let call = Call::Continue(frame);
+                self.together.before(&call, &self.state, &self.slots, &self.time);
+                let a = self.lent(&call, p, n, &mut [], &mut stamp);
+                self.together.after(&call, a, &self.state, &self.slots, &self.time);
                 return decode(a, none);
             }
             Call::Read { ep, length } if accepted(a) => self.read[ep as usize & 15] = length as usize,

@@ -61,7 +61,7 @@ impl Device<'_> {
         self.chip.woken.clone()
     }
 
-    /// The same, its readings that come in a row brought by one call.
+    /// The same, its readings that follow each other brought by one call.
     fn interrupt_together(&mut self, flags: u32) -> Vec<Task> {
         self.set(Register::IntFg, flags);
         self.chip.woken.clear();
