@@ -1,4 +1,4 @@
--- An interrupt writes no ep_config, with which bus time comes back (request Seven)
+-- No write of ep_config, with which bus time comes back (request Seven). SparesLaws.antt proves it of every access of an interrupt
 use mathlib.Core.Bool.{Bool}
 use mathlib.Core.List.{List, [], _∷_}
 use Prim.Native.Nat.{ℕ}

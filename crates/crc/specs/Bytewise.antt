@@ -1,4 +1,4 @@
--- What the remainder is after several bytes at a step. Definitions; BytewiseLaws.antt has the laws.
+-- Four bytes as one word. BytewiseLaws.antt proves what the remainder is after several bytes at a step.
 use mathlib.Core.Path.{_≡_, ap₂, _∙_}
 use mathlib.Core.Bool.{Bool}
 use mathlib.Core.List.{List, [], _∷_}

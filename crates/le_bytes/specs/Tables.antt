@@ -1,5 +1,5 @@
--- A table of records in a list of bytes. TablesLaws.antt proves: one is stored and all others are as they were; bytes
--- that did not change. Assumes nothing.
+-- A table of records in a list of bytes. TablesLaws.antt proves: where one record is stored all others are as they were,
+-- and a table whose bytes did not change is the same. Assumes nothing.
 use mathlib.Core.Path.{_≡_, _∙_}
 use mathlib.Core.Logic.{_≢_, _⊎_, ⊎-elim}
 use mathlib.Core.List.{List, [], _∷_}

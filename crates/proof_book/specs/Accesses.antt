@@ -1,6 +1,6 @@
 -- How many accesses a script hands out, of every kind, on every path: an operation under way takes as many continues until it ends, at most
 use mathlib.Core.Bool.{Bool}
-use mathlib.Core.List.{List, [], _∷_}
+use mathlib.Core.List.{[], _∷_}
 use Prim.Native.Nat.{ℕ, _+_, _≤_}
 use Rattle.model.specs.Tree.{Out, ends, asks}
 use Rattle.model.specs.Script.{Script, Ops, run}

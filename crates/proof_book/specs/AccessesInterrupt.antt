@@ -1,11 +1,10 @@
 -- The interrupt hands out at most 4,154 accesses, whatever is read and whatever becomes of the state between two of them
-use mathlib.Core.Bool.{Bool, true, false, cond}
+use mathlib.Core.Bool.{Bool, true, false}
 use mathlib.Core.List.{List, [], _∷_}
 use mathlib.Core.Path.{_≡_, refl}
 use Prim.Native.Nat.{ℕ, zero, suc, _+_, _-_, _*_, _≤_}
 use native.Mathlib.Nat.{suc-mul}
 use native.Mathlib.Omega.{arith}
-use lib.Dec.{eqb}
 use lib.ListN.{length}
 use Rattle.bits.specs.Walk.{setBits}
 use Rattle.bits.specs.WalkLaws.{walk-length}
@@ -15,13 +14,12 @@ use Rattle.regs.specs.declared.Dir.{Dir}
 use Rattle.regs.specs.declared.Dir.the-variants.{Out, In}
 use Rattle.regs.specs.declared.Token.{Token}
 use Rattle.regs.specs.declared.Token.the-variants as tok
-use Rattle.regs.specs.Status.{endpoint, token}
+use Rattle.regs.specs.Status.{token}
 use Rattle.model.specs.declared.Transfer.{Transfer}
 use Rattle.model.specs.Tree as tree
 use Rattle.model.specs.Tree.{ends, asks, Prog, bindOut}
 use Rattle.model.specs.Cells.{Cell, Val, globals-cell, ep-cell}
-use Rattle.model.specs.Script.{Script, Ops, Test, Look, Fetch, Act, DmaStep, ret, bind, test, read-then, write-then}
-use Rattle.model.specs.Script.{callback-then, hand-then, get-then, put-then, is-then, look-then, fetch-then, act-then}
+use Rattle.model.specs.Script.{Script, Test, Look, Fetch, Act, DmaStep, ret, bind, test}
 use Rattle.model.specs.Script.{_>>_, done, when, read, write, callback, get, put, is, look, fetch, act, hand}
 use Rattle.model.specs.Statics.{modifyReg}
 use Rattle.model.specs.IsoIn.{firstInFrame, isoInLoad, isoInComplete, unseen, sofOne, sofWalk, onSof, lateOne, lateWalk}

@@ -1,9 +1,8 @@
 -- The begin of an advance changes no page of an IN: its completions come after its first access
-use mathlib.Core.Bool.{Bool, true, false, cond}
+use mathlib.Core.Bool.{Bool, true, false}
 use mathlib.Core.List.{List}
 use mathlib.Core.Path.{_≡_, refl, ap, subst, sym, _∙_}
 use Prim.Native.Nat.{ℕ}
-use Rattle.regs.specs.declared.Access.{Access}
 use Rattle.regs.specs.declared.Reg.{Reg}
 use Rattle.model.specs.Tree as tree
 use Rattle.model.specs.Tree.{ends, asks, bindOut}
@@ -12,7 +11,7 @@ use Rattle.model.specs.Script.{Script, run, ret, bind, test, read-then, get-the
 use Rattle.model.specs.Answers.{Answer}
 use Rattle.model.specs.Calls.{Config, Op, other, Advance, calls, otherCode}
 use Rattle.model.specs.Machine.{Buf, Call, begin, Ans, handed, blankA, Way, idle, busy, Machine, halt, begun, fed}
-use Rattle.proof_book.specs.Pages.{InPage, Pages}
+use Rattle.proof_book.specs.Pages.{Pages}
 use Rattle.proof_book.specs.Book.{Bk, putB, actB, bookOps, book}
 use Rattle.proof_book.specs.FrontPage.{written}
 use Rattle.proof_book.specs.BookDecides.{sendsTo}

@@ -1,18 +1,13 @@
 -- Driver and book agree, operation by operation
-use mathlib.Core.Bool.{Bool, true, false, cond}
-use mathlib.Core.List.{List}
-use mathlib.Core.Path.{_≡_, refl, ap, sym, _∙_}
+use mathlib.Core.Bool.{Bool, false, cond}
+use mathlib.Core.Path.{_≡_, refl, ap}
 use Prim.Native.Nat.{ℕ, _*_, _%_, _^_}
-use lib.ListN.{length}
-use Rattle.regs.specs.declared.Dir.{Dir}
 use Rattle.regs.specs.declared.Dir.the-variants.{Out, In}
 use Rattle.regs.specs.Enables as enables
 use Rattle.state.specs.declared.Globals.{Globals}
 use Rattle.state.specs.declared.Allocator.{Allocator}
-use Rattle.state.specs.declared.EpState.{EpState}
 use Rattle.state.specs.Wakes.{none-woken, listed, all-woken}
 use Rattle.state.specs.Driver.{Driver, epOn}
-use Rattle.ring.specs.Slot.{countOf}
 use Rattle.model.specs.Cells.{EpCore}
 use Rattle.model.specs.Script.{Test, changed, waiting, room, opened, Look, marked, next-len, next-stamp, setup-word}
 use Rattle.model.specs.Script.{Fetch, oldest, received, received0, gathered, Act, complete, reset-ring, set-enabled}

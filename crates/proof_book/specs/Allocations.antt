@@ -1,11 +1,11 @@
 -- Allocation, EP0's start, enabling and start-up agree
 use mathlib.Core.Bool.{Bool, true, false, cond, not, true≢false}
-use mathlib.Core.List.{List, []}
-use mathlib.Core.Logic.{_≢_, _⊎_, inl, ⊎-elim}
+use mathlib.Core.List.{[]}
+use mathlib.Core.Logic.{_≢_, inl}
 use mathlib.Core.Path.{_≡_, refl, ap, sym, _∙_}
-use Prim.Native.Nat.{ℕ, _+_, _-_, _*_, _%_, _^_, _≤_, _<_}
+use Prim.Native.Nat.{ℕ, _*_, _%_, _≤_}
 use native.Mathlib.Omega.{arith}
-use native.Mathlib.Decide.{ℕ-discrete, decLt}
+use native.Mathlib.Decide.{decLt}
 use native.Mathlib.Nat.{zero-div, mod-lt, mul-le-mul-right}
 use lib.Dec.{eqb, leb}
 use lib.ListN.{length, getD, getD-replicate, length-replicate, List·getD-eq-default}
@@ -13,17 +13,10 @@ use borrow.Author.Tests.{eqb-false, eqb-true}
 use Rattle.bits.specs.Bit.{isSet}
 use Rattle.regs.specs.declared.Dir.{Dir}
 use Rattle.regs.specs.declared.Dir.the-variants.{Out, In}
-use Rattle.regs.specs.Enables as enables
 use Rattle.state.specs.declared.EpState.{EpState}
-use Rattle.state.specs.declared.Globals.{Globals}
-use Rattle.state.specs.declared.Allocator.{Allocator}
 use Rattle.state.specs.Driver.{Driver, key, epOn, lenOn, pacedOn, requestOn}
-use Rattle.alloc.specs.declared.Answer.{Answer}
-use Rattle.alloc.specs.declared.Answer.the-variants.{Refused, Given}
-use Rattle.alloc.specs.declared.Allocation.{Allocation}
 use Rattle.alloc.specs.Alloc.{allocatedIn}
-use Rattle.alloc.specs.Outcome.{Gives, Outcome}
-use Rattle.alloc.specs.Run.{Call, Step, step}
+use Rattle.alloc.specs.Run.{step}
 use Rattle.alloc.specs.Sound.{Sound}
 use Rattle.model.specs.Simulates.{quiet}
 use Rattle.model.specs.Machine.{Buf}
@@ -37,17 +30,15 @@ use Rattle.alloc.specs.Alloc.{if}
 use Rattle.alloc.specs.SoundLaws.{sound-fresh}
 use Rattle.le_bytes.specs.TablesLaws.{getD-tab, length-tab}
 use Rattle.ring.specs.Laws.{reset-count, reset-waits, reset-ring}
-use Rattle.model.specs.Cells.{EpCore}
 use Rattle.model.specs.Statics.{isOn, flag}
 use Rattle.model.specs.Calls.{Config, startRow}
 use Rattle.model_ops.specs.Records.{plainOf}
-use Rattle.proof_book.specs.Book as book
-use Rattle.proof_book.specs.Pages.{OutPage, Kept, Pages}
+use Rattle.proof_book.specs.Pages.{OutPage}
 use Rattle.proof_book.specs.Book.{freshPages}
-use Rattle.proof_book.specs.Coupling.{Coupling, Shape, Used, Unused, Held, OutFits, InFits, AtRest, SameKept, lensOf, slotStamps}
+use Rattle.proof_book.specs.Coupling.{Coupling, Held, AtRest, lensOf, slotStamps}
 use Rattle.proof_book.specs.Frame.{none-stands}
 use Rattle.proof_book.specs.StampsLaws.{none-stamps}
-use Rattle.proof_book.specs.GivenParts.{Further, zero-addr}
+use Rattle.proof_book.specs.GivenParts.{zero-addr}
 
 -- ---- start-up
 

@@ -1,13 +1,11 @@
 -- Laws on the definitions of Allocations.antt
-use mathlib.Core.Bool.{Bool, true, false, cond, not, true≢false}
-use mathlib.Core.List.{List, []}
-use mathlib.Core.Logic.{_≢_, _⊎_, inr, ⊎-elim}
+use mathlib.Core.Bool.{Bool, true, false, cond}
+use mathlib.Core.Logic.{inr}
 use mathlib.Core.Path.{_≡_, refl, ap, subst, sym, _∙_}
-use Prim.Native.Nat.{ℕ, _+_, _-_, _*_, _%_, _^_, _≤_, _<_}
+use Prim.Native.Nat.{ℕ, _+_, _*_, _%_, _≤_}
 use native.Mathlib.Omega.{arith}
 use native.Mathlib.Decide.{ℕ-discrete}
 use native.Mathlib.Nat.{add-mul, mul-le-mul-right}
-use lib.ListN.{List·getD-eq-default}
 use borrow.Author.Tests.{ne-eqb}
 use Rattle.bits.specs.Bit.{isSet, both}
 use Rattle.regs.specs.declared.Dir.{Dir}
@@ -17,28 +15,24 @@ use Rattle.state.specs.declared.EpState.{EpState}
 use Rattle.state.specs.declared.Globals.{Globals}
 use Rattle.state.specs.declared.Allocator.{Allocator}
 use Rattle.state.specs.Driver.{Driver, epOn, withOn, lenOn, stampOn, pacedOn, requestOn, withAllocator}
-use Rattle.alloc.specs.declared.Answer.{Answer}
-use Rattle.alloc.specs.declared.Answer.the-variants.{Refused, Given}
 use Rattle.alloc.specs.declared.Allocation.{Allocation}
 use Rattle.alloc.specs.Alloc.{allocatedIn, allocateOf, allocateEp0Of, withNext}
-use Rattle.alloc.specs.Outcome.{Gives, Outcome, six, seven, eight, given, outcome}
-use Rattle.alloc.specs.Run.{Call, endpoint, ep0, Step, kept, gave-ep0, step}
+use Rattle.alloc.specs.Outcome.{Outcome, six, seven, eight, given, outcome}
+use Rattle.alloc.specs.Run.{endpoint, ep0, Step, kept, gave-ep0, step}
 use Rattle.alloc.specs.Sound.{Sound}
 use Rattle.alloc.specs.SoundLaws.{sound-call}
 use Rattle.model.specs.Simulates.{quiet}
 use Rattle.model.specs.Machine.{Buf}
 use Rattle.state.specs.Kept.{withEpConfig}
-use Rattle.alloc.specs.Alloc as alloc
 use Rattle.regs.specs.EnablesLaws.{out-kept, on-with}
 use Rattle.model.specs.Cells.{EpCore}
 use Rattle.model.specs.Statics.{isOn, isoOuts}
-use Rattle.model.specs.Calls.{Config}
 use Rattle.model_ops.specs.Records.{isoOut, configured, enabledOn, givenTo, allocatedOn, withEp0, startedWith, allocatedEp0}
 use Rattle.proof_book.specs.Book as book
 use Rattle.proof_book.specs.Cells.{epOn-by}
-use Rattle.proof_book.specs.Pages.{OutPage, Kept, Pages, withKept, keptAllocator}
+use Rattle.proof_book.specs.Pages.{Pages, withKept, keptAllocator}
 use Rattle.proof_book.specs.Book.{globalsBy, enableB, givenB, allocateB, startedB, allocateB0}
-use Rattle.proof_book.specs.Coupling.{Coupling, Shape, Used, Unused, Held, OutFits, InFits, AtRest, SameKept, endOf}
+use Rattle.proof_book.specs.Coupling.{Coupling, Shape, endOf}
 use Rattle.proof_book.specs.Given.{gives}
 use Rattle.proof_book.specs.GivenParts.{Further, further, receives, receives-by}
 

@@ -1,15 +1,8 @@
 -- What AlwaysLaws.antt speaks of. It proves: what holds of a started driver's state and every operation keeps, holds
 -- after each call of every list, whatever is lent and whatever the chip answers: the driver agrees with itself by the
 -- relation that the states are one and it holds of this one
-use mathlib.Core.Bool.{Bool}
 use mathlib.Core.List.{List, [], _∷_}
-use mathlib.Core.Path.{_≡_}
-use Prim.Native.Nat.{ℕ}
-use Rattle.model.specs.Cells.{Cell, Val}
-use Rattle.model.specs.Script.{Test, Look, Fetch, Act, DmaStep, Burst}
-use Rattle.model.specs.Simulates.{Phase}
-use Rattle.model.specs.Machine.{Buf, Question, Call, Event, Machine, Calls, Instance, Book, call}
-use Rattle.model.specs.Agree.{Agree, Ways, Lent}
+use Rattle.model.specs.Machine.{Event, Machine, Calls, Instance, call}
 
 -- the driver's machine after a list of calls
 abbrev pub after : {C Op A S : Type 0} → Calls C Op A → Instance C S → List (Event C Op) → Machine A S → Machine A S

@@ -2,7 +2,7 @@
 use mathlib.Core.Bool.{Bool, true, false, not, cond, _&&_, true≢false}
 use mathlib.Core.List.{List, [], _∷_, _++_, tail}
 use mathlib.Core.Path.{_≡_, refl, ap, subst, sym, _∙_}
-use Prim.Native.Nat.{ℕ, zero, _+_, _*_, _≤_, _<_}
+use Prim.Native.Nat.{ℕ, _+_, _*_, _≤_}
 use native.Mathlib.Omega.{arith}
 use lib.Dec.{eqb, ltb}
 use borrow.Author.Tests.{ltb-true, ltb-false}
@@ -12,14 +12,14 @@ use Rattle.regs.specs.Enables as enables
 use Rattle.marks.specs.Copies.{copied}
 use Rattle.model.specs.Tree as tree
 use Rattle.model.specs.Tree.{ends, asks}
-use Rattle.model.specs.Script.{Script, run, ret, test}
+use Rattle.model.specs.Script.{run}
 use Rattle.model.specs.Statics.{isOn}
 use Rattle.model.specs.Answers.{Answer, Refused, End, NotYet, Done, Shown, ok, isAllocated}
 use Rattle.model.specs.Driver.{openPacket, closePacket, queuePacket}
-use Rattle.model.specs.Calls.{Config, Op, aside, Aside, Open, Close, Queue, asideCode, calls}
+use Rattle.model.specs.Calls.{aside, Aside, Open, Close, Queue, asideCode, calls}
 use Rattle.model.specs.Machine.{Buf, begin, Ans, ended, handed, told, Way, idle, busy, Machine, misfit, stay, lentTo, beside, halt, begun, fed}
 use Rattle.proof_book.specs.Pages.{Packet, bytesOf, OutPage, InPage, Pages, withOut, withIn}
-use Rattle.proof_book.specs.Book.{Bk, some, first, firstStamp, front, isoOf, roomB, waitsOn, openOut, readOut, queuedIn, openB, bookOps, book}
+use Rattle.proof_book.specs.Book.{Bk, some, first, firstStamp, front, isoOf, roomB, waitsOn, openOut, readOut, queuedIn, bookOps, book}
 use Rattle.proof_book.specs.Frame.{out-same, in-same}
 use Rattle.proof_book.specs.FrontPage.{ReadsFirst, Joins, written}
 

@@ -22,7 +22,6 @@ use Rattle.alloc.specs.declared.Answer.the-variants.{Refused, Given}
 use Rattle.alloc.specs.Alloc.{allocateOf, allocateEp0Of, isIso}
 use Rattle.marks.specs.Marks.{isMarked, markedLen}
 use Rattle.marks.specs.Copies.{copied, bytesAt}
-use Rattle.frame.specs.Advance.{NO_FRAME}
 use Rattle.model.specs.Cells.{EpCore, Cell, Val, globals-cell, control-cell, allocator-cell, ep-cell, request-cell, paced-cell}
 use Rattle.model.specs.Script.{Ops, Test, changed, waiting, room, opened, Look, marked, next-len, next-stamp}
 use Rattle.model.specs.Script.{setup-word, Fetch, oldest, received, received0, gathered, Act, complete, reset-ring}
@@ -36,7 +35,7 @@ use Rattle.model.specs.Machine as machine
 use Rattle.model.specs.Machine.{Buf, Question, pending, overruns, enabled}
 use Rattle.model_ops.specs.Records.{plainOf, mergedGlobals, withSets, withEp0}
 use Rattle.model_ops.specs.Rings.{wordAt}
-use Rattle.proof_book.specs.Pages.{Packet, bytesOf, OutPage, InPage, Kept, Pages, at, on, withKept, withOut}
+use Rattle.proof_book.specs.Pages.{Packet, bytesOf, OutPage, InPage, Pages, withKept, withOut}
 use Rattle.proof_book.specs.Pages.{withIn, keptGlobals, keptWakes, keptControl, keptAllocator, keptPaced}
 use Rattle.proof_book.specs.Pages.{keptRequest, keptPlain}
 

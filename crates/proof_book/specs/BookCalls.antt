@@ -1,9 +1,9 @@
 -- What one call makes of the book's count of those turned away, and of an arrival, over every list of calls
 use mathlib.Core.Bool.{Bool, true, false, cond, _&&_, true≢false}
-use mathlib.Core.List.{List, [], _∷_, _++_}
-use mathlib.Core.Logic.{_⊎_, inl, inr}
+use mathlib.Core.List.{List, [], _∷_}
+use mathlib.Core.Logic.{inl, inr}
 use mathlib.Core.Path.{_≡_, refl, ap, ap₂, subst, sym, _∙_}
-use Prim.Native.Nat.{ℕ, zero, suc, _+_, _%_, _≤_, _<_}
+use Prim.Native.Nat.{ℕ, zero, suc, _+_, _%_, _≤_}
 use native.Mathlib.Omega.{arith}
 use lib.Dec.{eqb, ltb}
 use borrow.Author.Tests.{ltb-true, ltb-false, eq-eqb}
@@ -16,19 +16,19 @@ use Rattle.model.specs.Tree.{ends, asks}
 use Rattle.model.specs.Script.{run}
 use Rattle.model.specs.Answers.{Answer, Refused}
 use Rattle.model.specs.Calls.{Config, Op, interrupt, slotted, other, aside, calls, code, starting, startRow}
-use Rattle.model.specs.Machine.{Buf, Call, start, begin, go, question, Ans, ended, handed, told, blank, blankA, Way}
+use Rattle.model.specs.Machine.{Buf, Call, start, begin, go, question, Ans, ended, handed, told, blankA, Way}
 use Rattle.model.specs.Machine.{idle, busy, Machine, over, misfit, stay, lentTo, beside, halt, begun, continued}
-use Rattle.model.specs.Machine.{started, call, fed}
-use Rattle.proof_book.specs.Pages.{Packet, OutPage, InPage, Pages, withOut}
-use Rattle.proof_book.specs.Book.{Bk, receiving, slotTold, sourceTold, arrived, joined, overrun, feedB, freshPages, bookOps, book}
+use Rattle.model.specs.Machine.{started, fed}
+use Rattle.proof_book.specs.Pages.{Packet, OutPage, Pages}
+use Rattle.proof_book.specs.Book.{Bk, receiving, slotTold, arrived, joined, overrun, feedB, freshPages, bookOps, book}
 use Rattle.proof_book.specs.Frame.{at-elim}
 use Rattle.proof_book.specs.FrontPage.{written, inInterrupt, Decides, Decided, admitted, turned-away, Counted, same, one-more, none, addressed}
-use Rattle.proof_book.specs.BookTracks.{Tracks, end, ask}
+use Rattle.proof_book.specs.BookTracks.{end, ask}
 use Rattle.proof_book.specs.InterruptParts.{of-interrupt}
-use Rattle.proof_book.specs.BookCounts.{Periodic, Uncounted, Counts, Turned, Followed, follow}
+use Rattle.proof_book.specs.BookCounts.{Periodic, Followed, follow}
 use Rattle.proof_book.specs.Releases.{Clears, clears, of-slotted, of-other, of-aside, of-starting}
 use Rattle.proof_book.specs.Refusing.{isNo, Tells, t-ask, call-tells, start-tells}
-use Rattle.proof_book.specs.BookDecides.{Idle, Arrives, sendsTo, Watched, watch}
+use Rattle.proof_book.specs.BookDecides.{isReceive, sendsTo, Watched, watch}
 
 -- ---- what is under way
 
@@ -197,15 +197,6 @@ module _ (a : Ans Answer) where
   call-fine (question q) n h b = lent-fine b h
 
 -- ---- the count
-
-abbrev isReceive : Access → Bool
-isReceive (Read r e) = false
-isReceive (Write r e v) = false
-isReceive (Receive e x) = true
-isReceive (Transmit e x) = false
-isReceive (Ep0Dma x) = false
-isReceive (Wait n) = false
-isReceive Callback = false
 
 abbrev receives : Ans Answer → Bool
 receives (ended z) = false

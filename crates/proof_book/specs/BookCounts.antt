@@ -1,15 +1,14 @@
 -- Over every script the book's count of those turned away rises at one access alone: a receive address, where 15 wait
 use mathlib.Core.Bool.{Bool, true, false, cond, _&&_}
-use mathlib.Core.List.{List, [], _∷_, _++_}
+use mathlib.Core.List.{List}
 use mathlib.Core.Logic.{_⊎_, inl, inr}
 use mathlib.Core.Path.{_≡_, refl, ap, ap₂, sym, _∙_}
 use Prim.Native.Nat.{ℕ, zero, suc, _+_, _%_, _≤_}
-use native.Mathlib.Omega.{arith}
 use lib.Dec.{eqb, ltb}
 use borrow.Author.Tests.{ltb-false}
 use lib.ListN.{length}
 use Rattle.regs.specs.declared.Access.{Access}
-use Rattle.regs.specs.declared.Access.the-variants.{Read, Write, Receive, Transmit, Ep0Dma, Wait, Callback}
+use Rattle.regs.specs.declared.Access.the-variants.{Receive}
 use Rattle.regs.specs.declared.Dir.{Dir}
 use Rattle.regs.specs.declared.Dir.the-variants.{Out, In}
 use Rattle.alloc.specs.declared.Answer as alloc-answer
@@ -25,7 +24,7 @@ use Rattle.model.specs.Script.{place0, Burst, switch, bus-reset, lastOf, burstA
 use Rattle.proof_book.specs.Pages.{Packet, OutPage, Pages, withOut}
 use Rattle.proof_book.specs.Book.{Bk, putB, actB, handB, rowB, some, waitsOn, roomB, isoOf, isoOut, receiving}
 use Rattle.proof_book.specs.Book.{emptyOut, openOut, readOut, slotTold, arrived, joined, overrun, packetB, givenB}
-use Rattle.proof_book.specs.Book.{startedB, switchB, busResetB, feedB, bookOps}
+use Rattle.proof_book.specs.Book.{startedB, switchB, busResetB, bookOps}
 use Rattle.proof_book.specs.Frame.{at-elim}
 use Rattle.proof_book.specs.BookTracks.{Tracks, end, ask, earlier, tracks-bind}
 

@@ -1,5 +1,4 @@
 -- What a call makes of the book's pages, access by access: definitions and laws over any relations
-use mathlib.Core.Bool.{Bool, true, false, cond}
 use Prim.Native.Nat.{ℕ}
 use Rattle.regs.specs.declared.Access.{Access}
 use Rattle.model.specs.Tree as tree

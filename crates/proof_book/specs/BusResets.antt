@@ -1,6 +1,6 @@
 -- A bus reset by the book: none wait on any endpoint after the call that releases its flag, be it a continue or a begin
 use mathlib.Core.Bool.{Bool, true, false, cond, true≢false}
-use mathlib.Core.Logic.{_⊎_, inl, inr}
+use mathlib.Core.Logic.{inl, inr}
 use mathlib.Core.Path.{_≡_, refl, ap, subst, sym, _∙_}
 use Prim.Native.Nat.{ℕ}
 use lib.Dec.{eqb}
@@ -18,8 +18,8 @@ use Rattle.model.specs.Machine.{misfit, stay, lentTo, beside, halt, begun, cont
 use Rattle.proof_book.specs.Pages.{Pages}
 use Rattle.proof_book.specs.Book.{Bk, bookOps, book}
 use Rattle.proof_book.specs.FrontPage.{written, inInterrupt, Emptied}
-use Rattle.proof_book.specs.BookTracks.{end, ask}
-use Rattle.proof_book.specs.BookCounts.{Followed, Counts, Turned, follow}
+use Rattle.proof_book.specs.BookTracks.{ask}
+use Rattle.proof_book.specs.BookCounts.{Followed, Counts, follow}
 use Rattle.proof_book.specs.BookCalls.{Fine, WayFine}
 use Rattle.proof_book.specs.Others.{releases, releasing}
 use Rattle.proof_book.specs.Releases.{Clear, Clears, clears, of-slotted, of-other, of-aside}

@@ -1,21 +1,17 @@
 -- What is read and assigned agrees, and so do the questions
-use mathlib.Core.Bool.{Bool, true, false, cond, _&&_}
+use mathlib.Core.Bool.{Bool, true, false}
 use mathlib.Core.List.{List}
-use mathlib.Core.Logic.{_≢_, _⊎_}
+use mathlib.Core.Logic.{_≢_}
 use mathlib.Core.Path.{_≡_, refl, ap, subst, sym, _∙_}
-use Prim.Native.Nat.{ℕ, zero, suc, _+_, _-_, _*_, _%_, _^_, _≤_, _<_}
-use native.Mathlib.Omega.{arith}
+use Prim.Native.Nat.{ℕ, _+_, _-_, _%_}
 use native.Mathlib.Decide.{ℕ-discrete}
-use lib.Dec.{eqb}
 use borrow.Author.Tests.{eq-eqb, ne-eqb}
-use lib.ListN.{length, length-set}
+use lib.ListN.{length-set}
 use Rattle.bits.specs.Bit.{isSet}
-use Rattle.le_bytes.specs.Tables.{tab}
 use Rattle.regs.specs.declared.Access.{Access}
 use Rattle.regs.specs.declared.Access.the-variants.{Read, Write, Receive, Transmit, Ep0Dma, Wait, Callback}
 use Rattle.regs.specs.declared.Dir.{Dir}
 use Rattle.regs.specs.declared.Dir.the-variants.{Out, In}
-use Rattle.regs.specs.Enables as enables
 use Rattle.state.specs.declared.EpState.{EpState}
 use Rattle.state.specs.declared.Globals.{Globals}
 use Rattle.state.specs.declared.Allocator.{Allocator}
@@ -23,19 +19,19 @@ use Rattle.state.specs.Driver.{Driver, key, epOn, withOn, lenOn, stampOn, paced
 use Rattle.state.specs.Wakes.{Wakes}
 use Rattle.state.specs.Laws.{Sized, epOn-same, epOn-other, pacedOn-same, pacedOn-other, requestOn-same, requestOn-other, key-same, key-apart}
 use Rattle.alloc.specs.Alloc.{allocatedIn}
-use Rattle.ring.specs.Slot.{slotAddr, countOf}
-use Rattle.ring.specs.Waiting.{waiting, Placed, Ring, Sends, Shows, Alike, SamePlace}
+use Rattle.ring.specs.Slot.{slotAddr}
+use Rattle.ring.specs.Waiting.{waiting, Alike}
 use Rattle.ring.specs.Laws.{place-placed, place-addr, alike-count, alike-waits, alike-ring}
-use Rattle.model.specs.Simulates.{Phase, quiet, mid, Bare}
+use Rattle.model.specs.Simulates.{quiet, Bare}
 use Rattle.model.specs.Cells.{EpCore, Cell, Val, globals-cell, control-cell, allocator-cell, ep-cell, request-cell, paced-cell}
-use Rattle.model.specs.Statics.{isOn, flag, isoOuts}
+use Rattle.model.specs.Statics.{isoOuts}
 use Rattle.model.specs.Machine.{Buf}
 use Rattle.model_ops.specs.Records.{plainOf, merged, mergedGlobals}
 use Rattle.model_ops.specs.Concrete.{concrete}
 use Rattle.proof_book.specs.Pages.{bytesOf, OutPage, InPage, Kept, Pages, at, on, withKept, keptWakes}
 use Rattle.proof_book.specs.Book.{bookOps, feedB, mergedPlain}
-use Rattle.proof_book.specs.Coupling.{Short, SameKept, Used, Unused, Shape, Held, OutFits, InFits, AtRest, Arming}
-use Rattle.proof_book.specs.Coupling.{Coupling, Good, lensOf, slotStamps, endOf}
+use Rattle.proof_book.specs.Coupling.{Short, SameKept, Shape, Held, OutFits, InFits, AtRest}
+use Rattle.proof_book.specs.Coupling.{Coupling, Good, lensOf, slotStamps}
 use Rattle.proof_book.specs.Frame.{alike-tail, stands-moved}
 use Rattle.proof_book.specs.StampsLaws.{alike-stamps}
 

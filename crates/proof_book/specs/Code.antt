@@ -1,13 +1,13 @@
 -- Demand 3 of the Rattle code: what its calls make of the lent bytes. The contract of each call says that it is one step of the machine of calls
 -- that the bytes are (machine/specs/Suspended.antt)
 use mathlib.Core.List.{List, [], _∷_}
-use mathlib.Core.Path.{_≡_, refl, sym, subst, _∙_, ap}
+use mathlib.Core.Path.{_≡_, sym, subst, _∙_, ap}
 use Prim.Native.Nat.{ℕ, zero}
 use Rattle.state.specs.State.{view}
 use Rattle.model.specs.Simulates.{Phase}
 use Rattle.model.specs.Answers.{Answer}
 use Rattle.model.specs.Calls.{Config, Op, calls, startRow}
-use Rattle.model.specs.Machine.{Buf, Event, Machine, Ans, start, fed, started}
+use Rattle.model.specs.Machine.{Buf, Event, Machine, start, fed, started}
 use Rattle.model.specs.Agree.{After, Ways, Lent, agrees, write-up, from-start}
 use Rattle.machine.specs.Suspended.{driverOf, drive, machineOf}
 use Rattle.proof_book.specs.Pages.{Pages}

@@ -8,7 +8,7 @@ use Rattle.model.specs.Answers.{Answer}
 use Rattle.model.specs.Calls.{Config, Op, interrupt}
 use Rattle.model.specs.Machine.{Buf, Event, Machine, Ans, begin, idle}
 use Rattle.machine.specs.Suspended.{drive, machineOf}
-use Rattle.proof_book.specs.FrontPage.{Made, CallStep}
+use Rattle.proof_book.specs.FrontPage.{Made}
 use Rattle.proof_book.specs.Served.{serving}
 use Rattle.proof_book.specs.CodeReadings.{Steps, events}
 use Rattle.proof_book.specs.Continues.{continues, interruptContinues, madeContinues}

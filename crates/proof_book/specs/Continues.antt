@@ -1,5 +1,5 @@
 -- The continues that an interrupt takes, in a list of calls: definitions. The theorems are in InterruptEnds and CodeContinues
-use mathlib.Core.Bool.{Bool, true, false, cond}
+use mathlib.Core.Bool.{cond}
 use mathlib.Core.List.{List, [], _∷_}
 use Prim.Native.Nat.{ℕ, _+_}
 use Rattle.state.specs.Driver.{Driver}

@@ -3,11 +3,10 @@ use mathlib.Core.Bool.{Bool, true, false, cond, _&&_}
 use mathlib.Core.List.{List, [], _∷_, _++_}
 use mathlib.Core.Logic.{_≢_, _⊎_}
 use mathlib.Core.Path.{_≡_}
-use Prim.Native.Nat.{ℕ, zero, suc, _+_, _-_, _*_, _%_, _^_, _≤_, _<_}
+use Prim.Native.Nat.{ℕ, zero, suc, _+_, _-_, _*_, _%_, _^_, _≤_}
 use lib.Dec.{eqb}
-use lib.ListN.{length, getD}
+use lib.ListN.{length}
 use Rattle.bits.specs.Bit.{isSet}
-use Rattle.le_bytes.specs.Tables.{tab}
 use Rattle.regs.specs.declared.Access.{Access}
 use Rattle.regs.specs.declared.Access.the-variants.{Read, Write, Receive, Transmit, Ep0Dma, Wait, Callback}
 use Rattle.regs.specs.declared.Dir.{Dir}
@@ -15,15 +14,14 @@ use Rattle.regs.specs.declared.Dir.the-variants.{Out, In}
 use Rattle.state.specs.declared.EpState.{EpState}
 use Rattle.state.specs.declared.Allocator.{Allocator}
 use Rattle.state.specs.declared.Globals.{Globals}
-use Rattle.state.specs.Driver.{Driver, key, epOn, lenOn, stampOn, pacedOn, requestOn}
+use Rattle.state.specs.Driver.{Driver, key, epOn, pacedOn, requestOn}
 use Rattle.state.specs.Laws.{Sized}
 use Rattle.alloc.specs.Alloc.{allocatedIn, slotsOf}
 use Rattle.alloc.specs.Buffer.{goodSize}
 use Rattle.alloc.specs.Sound.{Sound}
 use Rattle.ring.specs.Slot.{slotAddr, countOf}
 use Rattle.ring.specs.Waiting.{waiting, Same, Placed, Ring, Sends, Shows}
-use Rattle.marks.specs.Copies.{bytesAt}
-use Rattle.model.specs.Script.{Burst, switch, bus-reset, lastOf}
+use Rattle.model.specs.Script.{switch, bus-reset, lastOf}
 use Rattle.model.specs.Simulates.{Phase, quiet, mid}
 use Rattle.model.specs.Statics.{isOn, flag, isoOuts}
 use Rattle.model.specs.Machine.{Buf}

@@ -1,12 +1,12 @@
 -- Demand 3: for every list of calls from an accepted start-up, refused ones included, ending anywhere, whatever the chip answers, driver and book
 -- agree after each call
-use mathlib.Core.List.{List, [], _∷_}
+use mathlib.Core.List.{List}
 use mathlib.Core.Path.{_≡_}
-use Prim.Native.Nat.{ℕ, zero}
+use Prim.Native.Nat.{zero}
 use Rattle.state.specs.Driver.{Driver}
 use Rattle.model.specs.Answers.{Answer}
 use Rattle.model.specs.Calls.{Config, Op, calls, startRow}
-use Rattle.model.specs.Machine.{Buf, Event, Machine, Ans, fed, started}
+use Rattle.model.specs.Machine.{Buf, Event, Machine, fed, started}
 use Rattle.model.specs.Agree.{After, All, Lawful, from-start}
 use Rattle.machine.specs.Suspended.{driverOf}
 use Rattle.proof_book.specs.Pages.{Pages}

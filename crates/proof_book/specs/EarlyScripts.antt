@@ -4,7 +4,7 @@ use mathlib.Core.Bool.{Bool, true, false, cond, _&&_, true≢false}
 use mathlib.Core.List.{List, [], _∷_}
 use mathlib.Core.Logic.{_≢_}
 use mathlib.Core.Path.{_≡_, refl, ap, subst, sym, _∙_}
-use Prim.Native.Nat.{ℕ, zero, suc, _%_}
+use Prim.Native.Nat.{ℕ, zero, suc}
 use lib.Dec.{eqb}
 use lib.ListN.{length}
 use Rattle.regs.specs.declared.Access.{Access}
@@ -19,7 +19,7 @@ use Rattle.req_descriptor.specs.declared.Endpoint.{Endpoint}
 use Rattle.req_descriptor.specs.declared.Answer as reading-answer
 use Rattle.req_descriptor.specs.declared.Answer.the-variants as reading
 use Rattle.model.specs.Tree as tree
-use Rattle.model.specs.Tree.{ends, asks}
+use Rattle.model.specs.Tree.{ends}
 use Rattle.model.specs.Cells.{Cell, Val, globals-cell, control-cell, allocator-cell, ep-cell, request-cell, paced-cell}
 use Rattle.model.specs.Script.{Script, run, rows, ret, bind, test, read-then, write-then, wait-then, callback-then}
 use Rattle.model.specs.Script.{get-then, put-then, is-then, look-then, fetch-then, act-then, hand-then, row-then, Fetch}
@@ -38,8 +38,8 @@ use Rattle.model.specs.Steps.{giving, mayAct}
 use Rattle.model.specs.StepsRuns.{Keeps}
 use Rattle.proof_book.specs.Pages.{OutPage, InPage, Pages, withOut, withIn}
 use Rattle.proof_book.specs.Book.{Bk, some, emptyOut, slotTold, emptyIn, sourceTold, placedIn, roomB, putB, actB}
-use Rattle.proof_book.specs.Book.{handB, rowB, isoOf, isoOut, receiving, waitsOn, givenB, startedB, switchB}
-use Rattle.proof_book.specs.Book.{busResetB, feedB, bookOps}
+use Rattle.proof_book.specs.Book.{handB, rowB, isoOf, isoOut, receiving, waitsOn, givenB, startedB}
+use Rattle.proof_book.specs.Book.{feedB, bookOps}
 use Rattle.proof_book.specs.Frame.{at-elim}
 use Rattle.proof_book.specs.GivenParts.{sets-stage}
 use Rattle.proof_book.specs.FrontPage.{SamePackets}

@@ -1,8 +1,7 @@
 -- Enabling and disabling by the book: none wait on that endpoint, from the call that hands out the first access on
 use mathlib.Core.Bool.{Bool, true, false, cond, _&&_, true≢false}
-use mathlib.Core.List.{List, []}
 use mathlib.Core.Path.{_≡_, refl, ap, subst, sym, _∙_}
-use Prim.Native.Nat.{ℕ, zero, suc, _%_}
+use Prim.Native.Nat.{ℕ, _%_}
 use lib.Dec.{eqb}
 use Rattle.regs.specs.declared.Access.{Access}
 use Rattle.regs.specs.declared.Access.the-variants.{Read, Write, Receive, Transmit, Ep0Dma, Wait, Callback}
@@ -15,12 +14,12 @@ use Rattle.model.specs.Statics.{isOn, wake}
 use Rattle.model.specs.Answers.{Answer, Refused, End, isAllocated}
 use Rattle.model.specs.Bus as bus
 use Rattle.model.specs.Calls.{Config, Op, slotted, SetEnabled, setEnabled, calls}
-use Rattle.model.specs.Machine.{Buf, Call, begin, Ans, ended, handed, told, blankA, Way, idle, busy, Machine, misfit, stay, lentTo, halt, begun, fed}
-use Rattle.proof_book.specs.Pages.{Packet, OutPage, InPage, Pages, withOut, withIn}
+use Rattle.model.specs.Machine.{Buf, Call, begin, Ans, ended, handed, told, blankA, Way, idle, busy, Machine, misfit, stay, halt, begun, fed}
+use Rattle.proof_book.specs.Pages.{OutPage, InPage, Pages, withOut, withIn}
 use Rattle.proof_book.specs.Book.{Bk, isoOf, emptyOut, emptyIn, placedIn, sourceTold, actB, bookOps, book}
 use Rattle.proof_book.specs.Frame.{at-elim, out-same, in-same}
 use Rattle.proof_book.specs.FrontPage.{written, EmptiedOut, EmptiedIn, Emptied}
-use Rattle.proof_book.specs.BookTracks.{end, ask}
+use Rattle.proof_book.specs.BookTracks.{ask}
 use Rattle.proof_book.specs.BookCounts.{Periodic, Followed, follow}
 use Rattle.proof_book.specs.BookCalls.{Fine, fed-page}
 

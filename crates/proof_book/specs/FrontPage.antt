@@ -26,7 +26,7 @@ use Rattle.model.specs.Calls.{Config, Op, interrupt, slotted, other, aside, Set
 use Rattle.model.specs.Calls.{PollDataOut, BeginDataIn, Allocate, AllocateAll, Advance, Aside, Open}
 use Rattle.model.specs.Calls.{Close, Queue, calls, startRow}
 use Rattle.model.specs.Machine.{Buf, Call, start, begin, go, question, overruns, Event, Ans, ended, handed, told, Way}
-use Rattle.model.specs.Machine.{idle, busy, Machine, over, misfit, fed, call, started}
+use Rattle.model.specs.Machine.{idle, busy, Machine, over, misfit, fed, call}
 use Rattle.machine.specs.Suspended.{drive, machineOf}
 use Rattle.proof_book.specs.Pages.{Packet, bytesOf, stampsOf, OutPage, InPage, Pages}
 use Rattle.proof_book.specs.Book.{isoOf, receiving, front, slotTold, book}

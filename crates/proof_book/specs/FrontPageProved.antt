@@ -1,14 +1,12 @@
 -- Demand 3: what FrontPage.antt says holds after every call of every list that an accepted start-up begins, of the Rattle code (`demand-3`) and of the
 -- machine of calls that the state's bytes are (`machine-demand-3`)
-use mathlib.Core.Bool.{Bool, true, false, cond, _&&_, true≢false}
+use mathlib.Core.Bool.{Bool, true, false, _&&_, true≢false}
 use mathlib.Core.List.{List, [], _∷_, _++_, map-append}
 use mathlib.Core.Path.{_≡_, refl, ap, subst, sym, _∙_}
-use Prim.Native.Nat.{ℕ, zero, suc, _≤_, _<_}
+use Prim.Native.Nat.{ℕ, zero, _≤_, _<_}
 use native.Mathlib.Omega.{arith}
 use lib.Dec.{eqb}
 use lib.ListN.{length, length-map}
-use Rattle.regs.specs.declared.Access.{Access}
-use Rattle.regs.specs.declared.Access.the-variants.{Transmit}
 use Rattle.regs.specs.declared.Dir.{Dir}
 use Rattle.regs.specs.declared.Dir.the-variants.{Out, In}
 use Rattle.state.specs.State.{view}
@@ -20,12 +18,12 @@ use Rattle.model.specs.Statics.{flag}
 use Rattle.model.specs.Cells.{EpCore}
 use Rattle.model.specs.Answers.{Answer, Refused, NotYet, Shown, ok}
 use Rattle.model.specs.Calls.{Config, Op, slotted, PollWrite, aside, Aside, Open, Close, Queue, calls, startRow}
-use Rattle.model.specs.Machine.{Buf, Call, start, begin, go, question, overruns, Event, Ans, ended, handed, told, blankA, Machine, fed, started}
+use Rattle.model.specs.Machine.{Buf, Call, start, begin, Event, Ans, ended, handed, told, blankA, Machine, fed, started}
 use Rattle.model.specs.Agree.{After, Ways, GoodA, agrees, from-start}
 use Rattle.machine.specs.Suspended.{driverOf, drive, machineOf}
-use Rattle.proof_book.specs.Pages.{Packet, bytesOf, stampsOf, OutPage, Pages}
+use Rattle.proof_book.specs.Pages.{Packet, bytesOf, stampsOf, Pages}
 use Rattle.proof_book.specs.Book.{isoOf, book}
-use Rattle.proof_book.specs.Coupling.{Coupling, Short, Holds, lensOf}
+use Rattle.proof_book.specs.Coupling.{Coupling, Short, lensOf}
 use Rattle.proof_book.specs.Held.{held-length}
 use Rattle.proof_book.specs.Allocations.{fresh-kept}
 use Rattle.proof_book.specs.Agrees.{agree}

@@ -1,11 +1,11 @@
 -- What an operation of driver and book has to show, and what a ring's record says of those that wait
 use mathlib.Core.Bool.{Bool, true, false, cond, true≢false}
 use mathlib.Core.List.{List, [], _∷_}
-use mathlib.Core.Path.{_≡_, refl, ap, subst, sym, _∙_}
+use mathlib.Core.Path.{_≡_, refl, ap, sym, _∙_}
 use Prim.Native.Nat.{ℕ, _+_, _*_, _/_, _%_, _≤_, _<_}
 use native.Mathlib.Omega.{arith}
-use lib.Dec.{eqb, ltb}
-use borrow.Author.Tests.{ltb-true, lt-ltb, eqb-true}
+use lib.Dec.{ltb}
+use borrow.Author.Tests.{ltb-true, lt-ltb}
 use lib.ListN.{length, getD}
 use Rattle.bits.specs.Bit.{isSet, both}
 use Rattle.regs.specs.declared.Dir.{Dir}
@@ -15,7 +15,7 @@ use Rattle.regs.specs.EnablesLaws.{out-enabled-set}
 use Rattle.state.specs.declared.EpState.{EpState}
 use Rattle.state.specs.declared.Globals.{Globals}
 use Rattle.state.specs.Driver.{Driver, epOn, lenOn, stampOn}
-use Rattle.alloc.specs.Alloc.{if, allocatedIn, slotsOf}
+use Rattle.alloc.specs.Alloc.{allocatedIn, slotsOf}
 use Rattle.alloc.specs.Buffer.{goodSize}
 use Rattle.alloc.specs.BufferLaws.{each-size}
 use Rattle.ring.specs.Slot.{slotOf, slotAddr, countOf, hasWaiting}

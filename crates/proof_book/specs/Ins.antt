@@ -27,7 +27,6 @@ use Rattle.ring.specs.Laws.{waiting-length, waiting-head, slot-region, join-pla
 use Rattle.ring.specs.Laws.{reset-count, reset-waits, reset-ring, first-part}
 use Rattle.ring.specs.InLaws as ring-in
 use Rattle.marks.specs.Copies.{copied}
-use Rattle.marks.specs.Only as marks
 use Rattle.marks.specs.OnlyLaws as marks-laws
 use Rattle.marks.specs.Slots.{only-copied, copied-bytes}
 use Rattle.model.specs.Cells.{EpCore}
@@ -292,17 +291,17 @@ record Room (r : EpState) (n : ℕ) : Type 0 where
   few : countOf r < r .slots
   small : n ≤ r .stride
 
+pub left : (x y : Bool) → (x && y) ≡ true → x ≡ true
+left true y h = refl
+left false y h = absurd (true≢false (sym h))
+
+pub right : (x y : Bool) → (x && y) ≡ true → y ≡ true
+right true y h = h
+right false y h = absurd (true≢false (sym h))
+
 room-is : (r : EpState) (n : ℕ) → roomIn r n ≡ true → Room r n
 unfolding roomIn hasRoomIn
 room-is r n h = record { iso = left _ _ h; few = ltb-true _ _ (left _ _ (right (isOn (r .iso)) _ h)); small = room-fits r n h }
-  where
-    left : (x y : Bool) → (x && y) ≡ true → x ≡ true
-    left true y h = refl
-    left false y h = absurd (true≢false (sym h))
-
-    right : (x y : Bool) → (x && y) ≡ true → y ≡ true
-    right true y h = h
-    right false y h = absurd (true≢false (sym h))
 
 joined-plain : (r : EpState) → plainOf (joinedOf r) ≡ plainOf r
 unfolding joinedOf

@@ -12,9 +12,9 @@ use Rattle.model.specs.Tree as tree
 use Rattle.model.specs.Tree.{ends, asks}
 use Rattle.model.specs.Script.{run}
 use Rattle.model.specs.Answers.{Answer}
-use Rattle.model.specs.Calls.{Config, Op, interrupt, slotted, other, aside, Aside, asideCode, interruptCode, calls, starting, startRow}
+use Rattle.model.specs.Calls.{Config, Op, interrupt, slotted, other, aside, asideCode, interruptCode, calls, starting, startRow}
 use Rattle.model.specs.Machine.{Buf, Call, start, begin, go, question, Event, Awaits, awaited, idle, busy, Machine}
-use Rattle.model.specs.Machine.{over, misfit, stay, beside, begun, continued, started}
+use Rattle.model.specs.Machine.{over, misfit, stay, beside, begun, started}
 use Rattle.model.specs.Readings.{Continues}
 use Rattle.model_ops.specs.Rings.{St}
 use Rattle.model_ops.specs.Concrete.{concrete}

@@ -2,8 +2,8 @@
 -- the same driver, so they have the same slots and maxima, and the marks tell the length of Eight's history
 use mathlib.Core.Bool.{Bool, true, false, cond}
 use mathlib.Core.List.{List, [], _∷_, _++_}
-use mathlib.Core.Path.{_≡_, refl, ap, subst, sym, _∙_}
-use Prim.Native.Nat.{ℕ, zero, _+_, _≤_, _<_, min}
+use mathlib.Core.Path.{_≡_, ap, subst, sym, _∙_}
+use Prim.Native.Nat.{ℕ, zero, _+_, min}
 use native.Mathlib.Omega.{arith}
 use lib.ListN.{length, getD, length-append}
 use Rattle.regs.specs.declared.Access.{Access}
@@ -16,10 +16,10 @@ use Rattle.model.specs.Cells.{EpCore}
 use Rattle.model.specs.Simulates.{Phase}
 use Rattle.model.specs.Answers.{Answer}
 use Rattle.model.specs.Calls.{Config, Op, calls, startRow}
-use Rattle.model.specs.Machine.{Buf, Event, Call, start, go, Machine, Ans, ended, handed, misfit, stay, continued, fed, started}
+use Rattle.model.specs.Machine.{Buf, Event, Call, start, go, Machine, Ans, handed, misfit, stay, continued, fed, started}
 use Rattle.model.specs.Agree.{After, Ways, agrees, from-start}
 use Rattle.machine.specs.Suspended.{driverOf, drive, machineOf}
-use Rattle.proof_book.specs.Pages.{Packet, OutPage, Pages}
+use Rattle.proof_book.specs.Pages.{Packet, Pages}
 use Rattle.proof_book.specs.Book.{book}
 use Rattle.proof_book.specs.Coupling.{Coupling}
 use Rattle.proof_book.specs.Allocations.{fresh-kept}
@@ -30,11 +30,11 @@ use Rattle.proof_book.specs.FrontPage.{Made, CallStep, written, Decides,
 use Rattle.proof_book.specs.FrontPage as page
 use Rattle.proof_book.specs.FrontPageProved.{demand-3}
 use Rattle.proof_book.specs.SlotsKept.{lent-is}
-use Rattle.proof_book.specs.Watched.{Seen, watched, slotAt, most, Stored, Whole, LentBy, RunLent}
+use Rattle.proof_book.specs.Watched.{Seen, watched, slotAt, most, Stored, LentBy, RunLent}
 use Rattle.proof_book.specs.Watched as watch
 use Rattle.proof_book.specs.WatchedLaws.{clean-stored, true-length}
 use Rattle.proof_book.specs.WatchedRuns.{Claims, agreed, made-agrees, start-agrees}
-use Rattle.proof_book.specs.LateArrival.{ByMarks, StoredWhole, JoinsAsReceived, JoinEach}
+use Rattle.proof_book.specs.LateArrival.{ByMarks, StoredWhole, JoinEach}
 
 -- two books of one driver
 same-slot : (e : ℕ) {φ ψ : Phase} {b b′ : Buf} {d : Driver} {t t′ : Pages} → Coupling φ b d t → Coupling ψ b′ d t′ → slotAt e t′ ≡ slotAt e t

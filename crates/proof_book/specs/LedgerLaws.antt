@@ -1,12 +1,11 @@
 -- Demand 3's sentences on packets, of the driver's rings and the book's history of the stretch, as they hold after each call
 use mathlib.Core.Bool.{Bool, true, false, cond}
-use mathlib.Core.List.{List, [], _∷_, _++_, map, map-append, append-assoc}
-use mathlib.Core.Path.{_≡_, refl, ap, subst, sym, _∙_}
-use Prim.Native.Nat.{ℕ, _-_, _≤_}
+use mathlib.Core.List.{List, [], _∷_, _++_, map-append, append-assoc}
+use mathlib.Core.Path.{_≡_, refl, ap, sym, _∙_}
+use Prim.Native.Nat.{ℕ, _≤_}
 use native.Mathlib.Omega.{arith}
 use lib.ListN.{length, length-map}
 use Rattle.bits.specs.Bit.{isSet}
-use Rattle.regs.specs.declared.Dir.{Dir}
 use Rattle.regs.specs.declared.Dir.the-variants.{Out, In}
 use Rattle.state.specs.Driver.{Driver, epOn}
 use Rattle.alloc.specs.Alloc.{allocatedIn, slotsOf}
@@ -16,7 +15,7 @@ use Rattle.model.specs.Statics.{isOn}
 use Rattle.model.specs.Machine.{Buf}
 use Rattle.proof_book.specs.Pages.{Packet, bytesOf, Pages}
 use Rattle.proof_book.specs.Book.{front}
-use Rattle.proof_book.specs.Coupling.{Used, Unused, Shape, lensOf, Coupling}
+use Rattle.proof_book.specs.Coupling.{Shape, lensOf, Coupling}
 use Rattle.proof_book.specs.Held.{held-length}
 
 slots-out : (i : Bool) → slotsOf i Out ≤ 16

@@ -7,14 +7,13 @@ use Prim.Native.Nat.{ℕ, zero, suc, _+_, _*_, _%_, _≤_, min}
 use native.Mathlib.Omega.{arith}
 use borrow.Author.Tests.{eqb-true}
 use lib.Dec.{eqb, ltb}
-use lib.ListN.{length, getD, take, drop, length-take, length-drop}
+use lib.ListN.{length, getD, drop, length-take, length-drop}
 use Rattle.regs.specs.declared.Access.{Access}
 use Rattle.regs.specs.declared.Access.the-variants.{Read, Write, Receive, Transmit, Ep0Dma, Wait, Callback}
 use Rattle.regs.specs.declared.Dir.the-variants.{Out, In}
 use Rattle.regs.specs.Enables as enables
 use Rattle.bits.specs.Bit.{isSet}
 use Rattle.state.specs.declared.Allocator.{Allocator}
-use Rattle.state.specs.declared.EpState.{EpState}
 use Rattle.state.specs.declared.Globals.{Globals}
 use Rattle.state.specs.Driver.{Driver, key, noEp, epOn}
 use Rattle.marks.specs.Marks.{markedLen}
@@ -26,21 +25,20 @@ use Rattle.model.specs.Script.{run}
 use Rattle.model.specs.Simulates.{Phase}
 use Rattle.model.specs.Statics.{isOn, isoOuts}
 use Rattle.model.specs.Answers.{Answer, Refused, isAllocated}
-use Rattle.model.specs.Driver.{openPacket, closePacket, queuePacket}
 use Rattle.model.specs.Calls.{Config, Op, interrupt, slotted, other, aside, Aside, Open, Close, Queue, asideCode}
 use Rattle.model.specs.Calls.{interruptCode, calls, code, starting, startRow}
 use Rattle.model.specs.Machine.{Buf, Call, start, begin, go, question, Ans, ended, handed, told, blank, blankA, Awaits}
 use Rattle.model.specs.Machine.{Way, idle, busy, Machine, over, misfit, stay, lentTo, beside, halt, begun, continued}
 use Rattle.model.specs.Machine.{started, fed}
 use Rattle.model_ops.specs.Records.{plainOf}
-use Rattle.proof_book.specs.Pages.{Packet, OutPage, InPage, Kept, Pages, withOut, withIn}
+use Rattle.proof_book.specs.Pages.{Packet, OutPage, Kept, Pages, withOut, withIn}
 use Rattle.proof_book.specs.Book.{Bk, isoOf, receiving, some, waitsOn, roomB, openOut, readOut, queuedIn, arrived}
-use Rattle.proof_book.specs.Book.{joined, overrun, feedB, freshPages, bookOps, book}
+use Rattle.proof_book.specs.Book.{joined, overrun, freshPages, bookOps, book}
 use Rattle.proof_book.specs.Coupling.{Coupling}
 use Rattle.proof_book.specs.Held.{receives-iso}
 use Rattle.proof_book.specs.FrontPage.{written, inInterrupt, Decides}
 use Rattle.proof_book.specs.Lengths.{Readings, Known, nothing-read, bringing, learnt, lengthOf, lengthAt}
-use Rattle.proof_book.specs.LengthScripts.{Evens, Fixed, arriving-bytes, Measures, Told, t-end, t-ask}
+use Rattle.proof_book.specs.LengthScripts.{Evens, Fixed, Told, t-ask}
 use Rattle.proof_book.specs.LengthInterrupt.{interrupt-told}
 use Rattle.proof_book.specs.BookTracks.{ask}
 use Rattle.proof_book.specs.BookCounts.{Followed}

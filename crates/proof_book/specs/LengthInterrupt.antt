@@ -2,7 +2,7 @@
 use mathlib.Core.Bool.{Bool, true, false, not, cond, _&&_, _||_, true≢false}
 use mathlib.Core.List.{List, [], _∷_, _++_}
 use mathlib.Core.Logic.{_⊎_, inl, inr}
-use mathlib.Core.Path.{_≡_, refl, ap, ap₂, subst, sym, _∙_}
+use mathlib.Core.Path.{_≡_, refl, ap, ap₂, sym, _∙_}
 use Prim.Native.Nat.{ℕ}
 use lib.Dec.{eqb}
 use borrow.Author.Tests.{eqb-true}
@@ -20,16 +20,14 @@ use Rattle.regs.specs.IntEn.{withBusRst, withSuspend}
 use Rattle.marks.specs.Marks.{markedLen}
 use Rattle.model.specs.declared.Transfer.{Transfer}
 use Rattle.model.specs.Tree as tree
-use Rattle.model.specs.Tree.{ends, asks}
 use Rattle.model.specs.Cells.{EpCore, ep-cell}
 use Rattle.model.specs.Every.{sameReg}
 use Rattle.model.specs.Script.{run, write, when, changed, marked, no-wakes}
 use Rattle.model.specs.Calls.{interruptCode}
 use Rattle.model.specs.Statics.{isOn, isoOuts, isoInEvery}
-use Rattle.model.specs.IsoOut.{arriving, entry, arrives, checkOne, checkWalk, isoOutCheck}
+use Rattle.model.specs.IsoOut.{arriving, entry, arrives, checkOne, checkWalk}
 use Rattle.model.specs.Handler.{entered, sameOut, lateTaken, waited, retaken, released, waitsForIso, waitsForBulk}
-use Rattle.model.specs.Handler.{retake, settle, isoFor, ownIn, framed, served, onTransfer, onSetup, onInterrupt}
-use Rattle.model.specs.Handler.{stampedInterrupt}
+use Rattle.model.specs.Handler.{settle, isoFor, ownIn, framed, served, onTransfer, onInterrupt}
 use Rattle.proof_book.specs.Book.{Bk, getB, bookOps}
 use Rattle.proof_book.specs.Lengths.{Readings, nothing-read, one-more, bringing, first, second, itsOwn, lengthOf}
 use Rattle.proof_book.specs.BookDecides.{idle}

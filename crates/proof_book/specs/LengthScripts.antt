@@ -1,7 +1,7 @@
 -- The length with which a packet arrives, by the readings that the interrupt was brought: what each part of its script makes of them, up to a call's
 -- next access or end
 use mathlib.Core.Bool.{Bool, true, false, cond, true≢false}
-use mathlib.Core.List.{List, [], _∷_}
+use mathlib.Core.List.{List}
 use mathlib.Core.Path.{_≡_, refl, ap, ap₂, subst, sym, _∙_}
 use Prim.Native.Nat.{ℕ, _%_, min}
 use Rattle.bits.specs.Bit.{isSet}

@@ -4,12 +4,12 @@ use mathlib.Core.Bool.{Bool, true, false, cond, _&&_, true≢false}
 use mathlib.Core.List.{List, [], _∷_}
 use mathlib.Core.Logic.{inl}
 use mathlib.Core.Path.{_≡_, refl, ap, subst, sym, _∙_}
-use Prim.Native.Nat.{ℕ, zero, suc, _+_, _%_, _<_}
+use Prim.Native.Nat.{ℕ, zero, suc, _%_, _<_}
 use native.Mathlib.Omega.{arith}
 use borrow.Author.Tests.{ne-eqb}
 use lib.Dec.{eqb}
 use Rattle.regs.specs.declared.Access.{Access}
-use Rattle.regs.specs.declared.Access.the-variants.{Read, Write, Receive, Transmit, Ep0Dma, Wait, Callback}
+use Rattle.regs.specs.declared.Access.the-variants.{Read, Write, Receive, Transmit, Ep0Dma, Wait}
 use Rattle.regs.specs.declared.Reg.{Reg}
 use Rattle.regs.specs.declared.Reg.the-variants.{EpTLen}
 use Rattle.regs.specs.declared.Dir.{Dir}
@@ -24,7 +24,7 @@ use Rattle.model.specs.Tree as tree
 use Rattle.model.specs.Tree.{ends, asks, bindOut}
 use Rattle.model.specs.Cells.{Cell, Val}
 use Rattle.model.specs.Script.{Script, run, rows, ret, bind, test, look, write, next-len, read-then, write-then, wait-then}
-use Rattle.model.specs.Script.{callback-then, get-then, put-then, is-then, look-then, fetch-then, act-then, hand-then}
+use Rattle.model.specs.Script.{get-then, put-then, is-then, look-then, fetch-then, act-then, hand-then}
 use Rattle.model.specs.Script.{row-then, Test, Look, Fetch, Act, waken, send, place, place0, switch, bus-reset, switchAsk, burstAsk}
 use Rattle.model.specs.Statics.{wake}
 use Rattle.model.specs.IsoIn.{isoInComplete, isoInCompletions}
@@ -40,8 +40,8 @@ use Rattle.model.specs.Calls.{BeginAccept, PollAccept, BeginReject, BeginDataOu
 use Rattle.model.specs.Calls.{Close, Queue, slotted, other, slottedCode, otherCode, asideCode, starting}
 use Rattle.model.specs.Steps.{giving, Steps}
 use Rattle.model.specs.StepsCalls.{call-steps}
-use Rattle.proof_book.specs.Pages.{OutPage, InPage, Pages, withIn}
-use Rattle.proof_book.specs.Book.{Bk, some, placedIn, putB, actB, handB, rowB, isoOf, switchB, bookOps}
+use Rattle.proof_book.specs.Pages.{InPage, Pages}
+use Rattle.proof_book.specs.Book.{Bk, some, placedIn, handB, rowB, isoOf, switchB, bookOps}
 use Rattle.proof_book.specs.Frame.{at-elim}
 use Rattle.proof_book.specs.FrontPage.{PassesOn, enabling}
 use Rattle.proof_book.specs.Others.{releases}

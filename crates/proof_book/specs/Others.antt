@@ -1,6 +1,6 @@
 -- Document 01: "All else, refusals too: no change". Which endpoint each call names; the pages of all others stay. Definitions; FrontPage.antt says it of
 -- every call
-use mathlib.Core.Bool.{Bool, true, false, _&&_}
+use mathlib.Core.Bool.{Bool, false, _&&_}
 use mathlib.Core.Logic.{_≢_}
 use mathlib.Core.Path.{_≡_}
 use Prim.Native.Nat.{ℕ, _%_}

@@ -20,7 +20,7 @@ use Rattle.proof_book.specs.Pages.{OutPage, InPage, Pages}
 use Rattle.proof_book.specs.Book.{Bk, slotTold, sourceTold, actB, freshPages, bookOps, book}
 use Rattle.proof_book.specs.Frame.{at-elim}
 use Rattle.proof_book.specs.FrontPage.{written, addressed}
-use Rattle.proof_book.specs.Others.{releases, releasing, Names, none, opNames, onNames, slottedNames, otherNames, asideNames, underWay}
+use Rattle.proof_book.specs.Others.{releasing, Names, none, opNames, onNames, slottedNames, otherNames, asideNames, underWay}
 use Rattle.proof_book.specs.Others.{callNames, Away, SamePage}
 use Rattle.proof_book.specs.BookTracks.{end, ask}
 use Rattle.proof_book.specs.BookCalls.{addressed-blank, sending, sending-blank}

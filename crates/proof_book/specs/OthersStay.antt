@@ -1,7 +1,7 @@
 -- A call leaves the pages of the endpoints that it does not name (Others.antt), but for the release of a bus reset's flag: the scripts of all calls but the
 -- interrupt and the allocations, taken apart, and their runs
 use mathlib.Core.Bool.{Bool, true, false, cond, _&&_, true≢false}
-use mathlib.Core.List.{List, [], _∷_}
+use mathlib.Core.List.{List}
 use mathlib.Core.Path.{_≡_, refl, sym, _∙_}
 use Prim.Native.Nat.{ℕ, zero, suc, _+_, _*_, _%_}
 use borrow.Author.Tests.{eqb-true}
@@ -20,7 +20,7 @@ use Rattle.model.specs.Cells.{Cell, Val}
 use Rattle.model.specs.Script.{Script, run, rows, ret, bind, test, read-then, write-then, wait-then, callback-then}
 use Rattle.model.specs.Script.{get-then, put-then, is-then, look-then, fetch-then, act-then, hand-then, row-then, Test}
 use Rattle.model.specs.Script.{Look, Fetch, Act, complete, reset-ring, open-oldest, close-oldest, take-oldest, enqueue}
-use Rattle.model.specs.Script.{DmaStep, dmaStepAsk, send, place, place0, Burst, switch, bus-reset, lastOf, burstAsk}
+use Rattle.model.specs.Script.{dmaStepAsk, send, place, place0, Burst, switch, bus-reset, burstAsk}
 use Rattle.marks.specs.Copies.{copied}
 use Rattle.model.specs.Statics.{renewed}
 use Rattle.model.specs.IsoIn.{isoInComplete, isoInCompletions}

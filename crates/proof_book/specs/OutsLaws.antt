@@ -12,7 +12,7 @@ use Rattle.state.specs.Driver.{Driver, epOn, withOn}
 use Rattle.state.specs.Laws.{epOn-same}
 use Rattle.ring.specs.Slot.{countOf, hasWaiting, passedOf}
 use Rattle.ring.specs.Out.{openedOf, closedOf}
-use Rattle.ring.specs.Waiting.{waiting, SamePlace, Shows}
+use Rattle.ring.specs.Waiting.{waiting, Shows}
 use Rattle.ring.specs.Laws.{place-placed, place-addr, alike-count, alike-waits, alike-out, reset-count, reset-waits, reset-ring}
 use Rattle.ring.specs.OutLaws.{opened-alike, opened-shows, closed-place, closed-shows, close-waits, close-ring}
 use Rattle.marks.specs.Marks.{isMarked, markedLen}

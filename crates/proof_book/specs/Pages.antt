@@ -1,5 +1,5 @@
 -- The book's state: what waits on each endpoint, beside the kept values that scripts read and assign
-use mathlib.Core.Bool.{Bool, true, false, cond}
+use mathlib.Core.Bool.{Bool, cond}
 use mathlib.Core.List.{List, map}
 use Prim.Native.Nat.{ℕ, _%_}
 use lib.Dec.{eqb}

@@ -9,7 +9,6 @@ use lib.Dec.{eqb}
 use borrow.Author.Tests.{eqb-true}
 use lib.ListN.{length, take}
 use lib.Seq.{take-all}
-use Rattle.regs.specs.declared.Access.{Access}
 use Rattle.regs.specs.declared.Dir.the-variants.{Out}
 use Rattle.regs.specs.Enables as enables
 use Rattle.state.specs.declared.Request.{Request}
@@ -17,18 +16,18 @@ use Rattle.state.specs.Driver.{Driver, epOn, requestOn}
 use Rattle.model.specs.Tree as tree
 use Rattle.model.specs.Tree.{ends, asks}
 use Rattle.model.specs.Simulates.{Phase}
-use Rattle.model.specs.Cells.{EpCore, request-cell, ep-cell}
-use Rattle.model.specs.Script.{Script, run, ret, bind, test, get, put, is, act, fetch, waiting, oldest, take-oldest, _>>_}
+use Rattle.model.specs.Cells.{ep-cell}
+use Rattle.model.specs.Script.{run, ret, bind, test, get, is, act, fetch, waiting, oldest, take-oldest, _>>_}
 use Rattle.model.specs.Statics.{isOn, withReady, modifyEp}
 use Rattle.model.specs.Answers.{Answer, Refused, End, NotYet, Done, Shown, named, unless, isAllocated}
-use Rattle.model.specs.Endpoint.{ends-request, enabled-else, take-iso, take-ready, polled, pollRead}
+use Rattle.model.specs.Endpoint.{ends-request, take-iso, take-ready, polled, pollRead}
 use Rattle.model.specs.Calls.{Config, Op, slotted, PollRead, calls}
 use Rattle.model.specs.Machine.{Buf, Call, begin, Ans, ended, handed, told, blankA, Way, idle, busy, Machine, misfit, stay, fed, halt}
 use Rattle.model.specs.Machine as machine
 use Rattle.model.specs.Agree.{After}
 use Rattle.machine.specs.Suspended.{driverOf, drive}
-use Rattle.proof_book.specs.Pages.{Packet, bytesOf, OutPage, Pages, withOut}
-use Rattle.proof_book.specs.Book.{Bk, some, first, isoOf, readOut, takeB, bookOps, book}
+use Rattle.proof_book.specs.Pages.{Packet, bytesOf, Pages, withOut}
+use Rattle.proof_book.specs.Book.{Bk, some, first, isoOf, readOut, bookOps, book}
 use Rattle.proof_book.specs.Coupling.{Short, Coupling}
 use Rattle.proof_book.specs.Frame.{out-same}
 use Rattle.proof_book.specs.Agrees.{agree}

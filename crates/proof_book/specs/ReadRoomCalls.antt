@@ -1,7 +1,7 @@
 -- After every list of calls from an accepted start-up a read that is begun has room for a packet of its endpoint's maximum
 use mathlib.Core.Bool.{Bool, true, false, _&&_, true≢false}
 use mathlib.Core.Path.{_≡_, refl, ap, sym, _∙_}
-use Prim.Native.Nat.{ℕ, zero, _%_, _≤_}
+use Prim.Native.Nat.{ℕ, zero, _%_}
 use native.Mathlib.Omega.{arith}
 use lib.Dec.{eqb, ltb}
 use borrow.Author.Tests.{ltb-true, ltb-false}
@@ -33,6 +33,7 @@ use Rattle.model_ops.specs.Rings.{St}
 use Rattle.model_ops.specs.Concrete.{concrete, putOn}
 use Rattle.machine.specs.Suspended.{driverOf, drive}
 use Rattle.proof_book.specs.Allocations.{fresh-kept}
+use Rattle.proof_book.specs.Ins.{left, right}
 use Rattle.proof_book.specs.ReadRoom.{ReadRoom, put-out, off}
 use Rattle.proof_book.specs.ReadRoomScripts.{room-keeps}
 
@@ -50,14 +51,6 @@ named-taken e d s h =
     let y = ltb-true e 16 (right (ltb 0 e) (ltb e 16) x) in
     let z : e % 16 ≡ e = omega (arith, y) in
     rw z (s .taken Out e ∙ right (ltb 0 e && ltb e 16) (isSet (d .allocator .«allocated_out») e) h)
-  where
-    left : (x y : Bool) → (x && y) ≡ true → x ≡ true
-    left true y h = refl
-    left false y h = absurd (true≢false (sym h))
-
-    right : (x y : Bool) → (x && y) ≡ true → y ≡ true
-    right true y h = h
-    right false y h = absurd (true≢false (sym h))
 
 -- a read's begin (rows 4, 5, 9 and 10)
 begin-read : (e n : ℕ) (s : St) → ReadRoom (s .0) → Holds (Lent ReadRoom) (run {i = false} concrete (beginRead e n) s)

@@ -5,7 +5,7 @@ use Prim.Native.Nat.{ℕ, zero, suc}
 use Rattle.model.specs.Tree as tree
 use Rattle.model.specs.Tree.{ends, asks}
 use Rattle.model.specs.Script.{run}
-use Rattle.model.specs.Answers.{Answer, Refused}
+use Rattle.model.specs.Answers.{Answer}
 use Rattle.model.specs.Calls.{Config, Op, calls, starting, startRow}
 use Rattle.model.specs.Machine.{Buf, Call, start, begin, go, question, Ans, ended, handed, told, blankA, Way, idle}
 use Rattle.model.specs.Machine.{busy, Machine, over, misfit, stay, lentTo, beside, halt, begun, continued, started, fed}
@@ -13,7 +13,7 @@ use Rattle.proof_book.specs.Pages.{Pages}
 use Rattle.proof_book.specs.Book.{Bk, freshPages, bookOps, book}
 use Rattle.proof_book.specs.FrontPage.{written}
 use Rattle.proof_book.specs.BookCalls.{Fine, WayFine}
-use Rattle.proof_book.specs.Refusing.{isNo, Same, Tells, t-end, t-ask, call-tells, start-tells}
+use Rattle.proof_book.specs.Refusing.{isNo, Same, Tells, t-end, call-tells, start-tells}
 
 abbrev refused : Ans Answer → Bool
 refused (ended z) = isNo z

@@ -1,8 +1,8 @@
 -- Scripts that leave every page where they end with a refusal or a poll's "not yet", and the scripts of all calls: they are such
 use mathlib.Core.Bool.{Bool, true, false, cond, true≢false}
-use mathlib.Core.List.{List, [], _∷_}
-use mathlib.Core.Path.{_≡_, refl, ap, sym, _∙_}
-use Prim.Native.Nat.{ℕ, zero, suc}
+use mathlib.Core.List.{List}
+use mathlib.Core.Path.{_≡_, refl, sym, _∙_}
+use Prim.Native.Nat.{ℕ}
 use lib.Dec.{eqb}
 use Rattle.regs.specs.declared.Access.{Access}
 use Rattle.regs.specs.declared.Dir.{Dir}
@@ -24,9 +24,9 @@ use Rattle.model.specs.Calls.{Config, Op, interrupt, slotted, other, aside, Slo
 use Rattle.model.specs.Calls.{PollWrite, PollDataOut, BeginDataIn, Other, Allocate, AllocateAll, Start, BusPoll}
 use Rattle.model.specs.Calls.{BusEnable, BusDisable, Microframe, SetStalled, IsStalled, SetPaced, Advance, BeginRead}
 use Rattle.model.specs.Calls.{BeginSetup, PollSetup, PollDataIn, BeginAccept, PollAccept, BeginReject, BeginDataOut}
-use Rattle.model.specs.Calls.{BeginAcceptSetAddress, Aside, Open, Close, Queue, irq, code, slottedCode, otherCode}
+use Rattle.model.specs.Calls.{BeginAcceptSetAddress, Aside, Open, Close, Queue, code, slottedCode, otherCode}
 use Rattle.model.specs.Calls.{asideCode, interruptCode, starting}
-use Rattle.proof_book.specs.Pages.{OutPage, InPage, Pages, withKept, keptAllocator}
+use Rattle.proof_book.specs.Pages.{Pages}
 use Rattle.proof_book.specs.Book.{Bk, putB, actB, isoOut, givenB, startedB, bookOps}
 
 -- a refusal, or "not yet"

@@ -1,18 +1,16 @@
 -- The scripts of all calls but the interrupt: `Write IntFg 0 1`, the release of the bus reset's flag, is handed out in a bus reset's row alone,
 -- with none waiting on any endpoint in the book
-use mathlib.Core.Bool.{Bool, true, false, cond, not, _&&_, _||_, true≢false}
-use mathlib.Core.List.{List, [], _∷_}
+use mathlib.Core.Bool.{Bool, true, false, not, _&&_, _||_, true≢false}
+use mathlib.Core.List.{List, []}
 use mathlib.Core.Path.{_≡_, refl, ap, sym, _∙_}
 use Prim.Native.Nat.{ℕ, zero, suc}
 use lib.Dec.{eqb}
 use Rattle.regs.specs.declared.Access.{Access}
-use Rattle.regs.specs.declared.Access.the-variants.{Read, Write, Receive, Transmit, Ep0Dma, Wait, Callback}
+use Rattle.regs.specs.declared.Access.the-variants.{Write}
 use Rattle.regs.specs.declared.Reg.{Reg}
 use Rattle.regs.specs.declared.Reg.the-variants.{IntFg}
-use Rattle.regs.specs.declared.Dir.{Dir}
 use Rattle.regs.specs.declared.Dir.the-variants.{Out, In}
 use Rattle.model.specs.Tree as tree
-use Rattle.model.specs.Tree.{ends, asks}
 use Rattle.model.specs.Cells.{Cell, Val}
 use Rattle.model.specs.Script.{Script, run, rows, ret, bind, test, read-then, write-then, wait-then, callback-then}
 use Rattle.model.specs.Script.{get-then, put-then, is-then, look-then, fetch-then, act-then, hand-then, row-then, Test}
@@ -33,7 +31,7 @@ use Rattle.model.specs.Steps.{Kind, plain, turning, resetting, giving, queueing
 use Rattle.model.specs.Steps.{mayRow, Asks, Steps}
 use Rattle.model.specs.StepsCalls.{call-steps, start-up-steps}
 use Rattle.model.specs.StepsRunsLaws.{if-true, if-so, Handed, kinds-apart, writes-flag}
-use Rattle.proof_book.specs.Pages.{OutPage, InPage, Pages}
+use Rattle.proof_book.specs.Pages.{OutPage, InPage}
 use Rattle.proof_book.specs.Book.{Bk, rowB, handB, bookOps}
 use Rattle.proof_book.specs.BookTracks.{Tracks, end, ask, earlier, tracks-bind}
 use Rattle.proof_book.specs.BookDecides.{Any}

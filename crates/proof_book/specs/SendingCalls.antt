@@ -1,39 +1,35 @@
 -- What each call makes of the packet that is being sent on an isochronous IN: it is being sent still, from the same slot, or the tail has passed it, or its
 -- endpoint was reset or given by an allocation, or a start-up was accepted
-use mathlib.Core.Bool.{Bool, true, false, not, cond, true≢false}
+use mathlib.Core.Bool.{Bool, true, false, cond}
 use mathlib.Core.List.{List, [], _∷_, _++_}
 use mathlib.Core.Logic.{_⊎_, inl, inr}
 use mathlib.Core.Path.{_≡_, refl, ap, subst, sym, _∙_}
 use Prim.Native.Nat.{ℕ, zero, suc, _+_, _-_, _*_, _%_, _^_, _<_}
 use native.Mathlib.Omega.{arith}
-use lib.Dec.{eqb, ltb}
+use lib.Dec.{eqb}
 use lib.ListN.{length}
-use Rattle.regs.specs.declared.Access.{Access}
 use Rattle.regs.specs.declared.Access.the-variants.{Read, Write, Receive, Transmit, Ep0Dma, Wait, Callback}
 use Rattle.regs.specs.declared.Dir.the-variants.{Out, In}
 use Rattle.state.specs.declared.EpState.{EpState}
-use Rattle.state.specs.declared.Allocator.{Allocator}
 use Rattle.state.specs.Driver.{Driver, epOn}
-use Rattle.alloc.specs.Alloc.{allocatedIn, slotsOf}
-use Rattle.bits.specs.Bit.{isSet}
+use Rattle.alloc.specs.Alloc.{slotsOf}
 use Rattle.ring.specs.Slot.{slotOf, slotAddr, countOf}
 use Rattle.model.specs.Tree as tree
 use Rattle.model.specs.Tree.{ends, asks}
 use Rattle.model.specs.Cells.{EpCore}
 use Rattle.model.specs.Script.{run}
 use Rattle.model.specs.Simulates as phases
-use Rattle.model.specs.Statics.{isOn}
 use Rattle.model.specs.Answers.{Answer}
 use Rattle.model.specs.Calls.{Config, Op, interrupt, slotted, other, aside, calls, starting, startRow}
 use Rattle.model.specs.Machine.{Buf, Call, start, begin, go, question, Ans, ended, handed, told, blankA, Way, idle}
 use Rattle.model.specs.Machine.{busy, Machine, over, misfit, stay, lentTo, beside, halt, begun, continued, started}
 use Rattle.model.specs.Machine.{fed}
 use Rattle.proof_book.specs.Pages.{InPage, Kept, Pages, withIn}
-use Rattle.proof_book.specs.Book.{Bk, some, front, roomB, waitsOn, queuedIn, sourceTold, feedB, freshPages, bookOps}
+use Rattle.proof_book.specs.Book.{Bk, front, sourceTold, freshPages, bookOps}
 use Rattle.proof_book.specs.Book.{book}
 use Rattle.proof_book.specs.Frame.{at-elim, in-same, sending-count}
 use Rattle.proof_book.specs.Held.{held-length}
-use Rattle.proof_book.specs.Coupling.{Shape, Coupling}
+use Rattle.proof_book.specs.Coupling.{Coupling}
 use Rattle.proof_book.specs.FrontPage.{written, EmptiedIn, slotSize, BeingSent, Sends, still, passed-by, emptied}
 use Rattle.proof_book.specs.BookTracks.{end, ask}
 use Rattle.proof_book.specs.InterruptParts.{of-interrupt}

@@ -1,21 +1,11 @@
 -- What ServedLaws.antt speaks of. It proves: the readings of an interrupt counted in the answers of the calls: at most
 -- 4,056, whatever calls fall between
 use mathlib.Core.Bool.{Bool, false, cond}
-use mathlib.Core.List.{List, [], _∷_}
-use mathlib.Core.Path.{_≡_}
-use Prim.Native.Nat.{ℕ, _+_, _≤_}
-use Rattle.regs.specs.declared.Access.{Access}
+use Prim.Native.Nat.{ℕ, _+_}
 use Rattle.state.specs.Driver.{Driver}
-use Rattle.model.specs.Tree as tree
 use Rattle.model.specs.Answers.{Answer}
-use Rattle.model.specs.Calls.{Config, Op, Aside}
-use Rattle.model.specs.Machine.{Buf, Call, Event, Ans, ended, handed, told, Awaits, Way, idle, busy, Machine}
-use Rattle.model.specs.Readings.{Continues, reading}
-use Rattle.model.specs.TransferKinds.{Along}
-use Rattle.model.specs.SortsAside.{Passes}
-use Rattle.model_ops.specs.Rings.{St}
-use Rattle.proof_book.specs.Sorting.{Sorting}
-use Rattle.proof_book.specs.Readings.{Stores}
+use Rattle.model.specs.Machine.{Ans, ended, handed, told, Way, idle, busy, Machine}
+use Rattle.model.specs.Readings.{reading}
 
 -- is an interrupt under way?
 abbrev pub serving : Way Answer Driver → Bool

@@ -12,7 +12,7 @@ use Rattle.model.specs.Tree.{ends, asks}
 use Rattle.model.specs.Script.{run}
 use Rattle.model.specs.Answers.{Answer}
 use Rattle.model.specs.Calls.{Config, Op, interrupt, slotted, other, aside, Aside, asideCode, interruptCode, calls, starting, startRow}
-use Rattle.model.specs.Machine.{Buf, Call, start, begin, go, question, Event, Ans, handed, Awaits, awaited, Way, idle}
+use Rattle.model.specs.Machine.{Buf, Call, start, begin, go, question, Event, Ans, Awaits, awaited, idle}
 use Rattle.model.specs.Machine.{busy, Machine, over, misfit, stay, beside, begun, continued, started}
 use Rattle.model.specs.Readings.{Continues, reading, readings}
 use Rattle.model.specs.TransferKinds.{Along}

@@ -2,7 +2,7 @@
 -- of FrontPage.antt is the one of Agree.antt
 use mathlib.Core.Bool.{Bool, true, false, not, cond, true≢false}
 use mathlib.Core.Path.{_≡_, refl, ap, sym, _∙_}
-use Prim.Native.Nat.{ℕ, zero, _%_}
+use Prim.Native.Nat.{ℕ, _%_}
 use native.Mathlib.Omega.{arith}
 use lib.Dec.{eqb}
 use lib.ListN.{length}
@@ -13,7 +13,6 @@ use Rattle.regs.specs.declared.Dir.the-variants.{In}
 use Rattle.state.specs.declared.Allocator.{Allocator}
 use Rattle.state.specs.Driver.{Driver, epOn}
 use Rattle.alloc.specs.Alloc.{allocatedIn}
-use Rattle.ring.specs.Slot.{countOf}
 use Rattle.model.specs.Simulates.{Phase}
 use Rattle.model.specs.Statics.{isOn}
 use Rattle.model.specs.Answers.{Answer}

@@ -23,8 +23,8 @@ use Rattle.model.specs.Calls.{Config, Op, interrupt, slotted, other, aside, Slo
 use Rattle.model.specs.Calls.{PollWrite, PollDataOut, BeginDataIn, Other, Allocate, AllocateAll, Start, BusPoll}
 use Rattle.model.specs.Calls.{BusEnable, BusDisable, Microframe, SetStalled, IsStalled, SetPaced, Advance, BeginRead}
 use Rattle.model.specs.Calls.{BeginSetup, PollSetup, PollDataIn, BeginAccept, PollAccept, BeginReject, BeginDataOut}
-use Rattle.model.specs.Calls.{BeginAcceptSetAddress, Aside, calls, code}
-use Rattle.model.specs.Machine.{Buf, Call, begin, Ans, ended, handed, told, Way, idle, busy, Machine, misfit, lentTo}
+use Rattle.model.specs.Calls.{BeginAcceptSetAddress, calls, code}
+use Rattle.model.specs.Machine.{Buf, Call, begin, Ans, Way, idle, busy, Machine, misfit, lentTo}
 use Rattle.model.specs.Machine.{beside, halt, begun, fed}
 use Rattle.proof_book.specs.Pages.{Packet, OutPage, Pages, withOut}
 use Rattle.proof_book.specs.Book.{Bk, putB, actB, handB, rowB, some, waitsOn, roomB, isoOf, isoOut, receiving}

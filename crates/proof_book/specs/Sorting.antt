@@ -1,36 +1,17 @@
 -- What SortingLaws.antt speaks of. It proves: from start-up on the flags and the two sets tell one sort of each
 -- endpoint: an allocation gives a number from 1 to 15 that had no sort, and adds it to a set where it is isochronous
-use mathlib.Core.Bool.{Bool, false, true≢false}
-use mathlib.Core.List.{List, _∷_}
-use mathlib.Core.Logic.{_≢_}
-use mathlib.Core.Path.{_≡_, _∙_}
-use Prim.Native.Nat.{ℕ, _+_, _%_, _<_}
+use mathlib.Core.Bool.{false}
+use mathlib.Core.Path.{_≡_}
+use Prim.Native.Nat.{ℕ, _%_}
 use lib.ListN.{length}
 use Rattle.bits.specs.Bit.{isSet}
 use Rattle.regs.specs.declared.Dir.{Dir}
-use Rattle.regs.specs.declared.Dir.the-variants.{Out, In}
-use Rattle.state.specs.declared.EpState.{EpState}
-use Rattle.state.specs.declared.Globals.{Globals}
-use Rattle.state.specs.declared.Allocator.{Allocator}
 use Rattle.state.specs.Driver.{Driver, epOn}
-use Rattle.alloc.specs.declared.Allocation.{Allocation}
-use Rattle.alloc.specs.Alloc as alloc
 use Rattle.alloc.specs.Alloc.{takenIn}
-use Rattle.alloc.specs.Outcome.{Takes, Outcome}
-use Rattle.alloc.specs.Run.{Step}
 use Rattle.alloc.specs.Sound.{Sound}
-use Rattle.model.specs.Script.{Act}
 use Rattle.model.specs.Statics.{isOn}
-use Rattle.model.specs.Simulates.{Phase}
-use Rattle.model.specs.Answers.{Answer}
-use Rattle.model.specs.Machine.{Buf, Event, Machine}
-use Rattle.model.specs.Calls.{Config, Op}
-use Rattle.model.specs.TransferKinds.{TransferKinds, Among}
-use Rattle.model_ops.specs.Rings.{St}
-use Rattle.proof_book.specs.Pages.{Pages}
-use Rattle.proof_book.specs.Coupling.{Coupling, Shape}
-use Rattle.proof_book.specs.TransferKinds.{Steady, Has}
-use Rattle.proof_book.specs.AlwaysLaws.{Invariant}
+use Rattle.model.specs.TransferKinds.{TransferKinds}
+use Rattle.proof_book.specs.TransferKinds.{Has}
 
 -- an endpoint's sort is its record's flag
 abbrev pub sortsOf : Driver → TransferKinds

@@ -2,7 +2,7 @@
 -- this interrupt's first continue brought (`Stamping`). By the book: an interrupt keeps that index, and an arrival joins those waiting with it
 use mathlib.Core.Bool.{Bool, true, false, cond}
 use mathlib.Core.List.{List, [], _∷_, _++_}
-use mathlib.Core.Logic.{_⊎_, inl, inr, ⊎-elim}
+use mathlib.Core.Logic.{inl, inr, ⊎-elim}
 use mathlib.Core.Path.{_≡_, refl, ap, subst, sym, _∙_}
 use Prim.Native.Nat.{ℕ, zero, suc, _+_, _*_, _%_}
 use native.Mathlib.Omega.{arith}
@@ -32,7 +32,7 @@ use Rattle.state.specs.State.{view}
 use Rattle.machine.specs.Suspended.{driverOf, drive, machineOf}
 use Rattle.proof_book.specs.Pages.{stampsOf, Pages}
 use Rattle.proof_book.specs.Stamps.{stamped}
-use Rattle.proof_book.specs.Book.{Bk, joined, slotTold, bookOps, book}
+use Rattle.proof_book.specs.Book.{Bk, slotTold, bookOps, book}
 use Rattle.proof_book.specs.Coupling.{Coupling}
 use Rattle.proof_book.specs.Allocations.{fresh-kept}
 use Rattle.proof_book.specs.Agrees.{agree}
@@ -42,7 +42,7 @@ use Rattle.proof_book.specs.SlotsKept.{lent-is}
 use Rattle.proof_book.specs.Keeping.{Throughout, at-end, at-ask, At, keeps-run}
 use Rattle.proof_book.specs.Entered.{of-interrupt, of-aside}
 use Rattle.proof_book.specs.Stamping.{First, not-yet, brought, firstOf, noticed, OneMore, Stamping, StampsEach, StampsMade}
-use Rattle.proof_book.specs.StampingScripts.{stampsB, Even, Kept, Stays, Joins, Either, Grows, ends-so, asks-so, grows-from, grows-bind, grows-run}
+use Rattle.proof_book.specs.StampingScripts.{Even, Kept, Stays, Joins, Either, Grows, ends-so, asks-so, grows-from, grows-bind, grows-run}
 
 abbrev Any : Answer → Type 0
 Any a = Unit {0}

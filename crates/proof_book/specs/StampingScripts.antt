@@ -4,7 +4,7 @@ use mathlib.Core.Bool.{Bool, true, false, cond, true≢false}
 use mathlib.Core.List.{List, [], _∷_, _++_, map-append}
 use mathlib.Core.Logic.{_⊎_, inl, inr, ⊎-elim}
 use mathlib.Core.Path.{_≡_, refl, ap, sym, _∙_}
-use Prim.Native.Nat.{ℕ, _+_, _%_}
+use Prim.Native.Nat.{ℕ, _%_}
 use borrow.Author.Tests.{eqb-true}
 use lib.Dec.{eqb, ltb}
 use lib.ListN.{length}
@@ -17,9 +17,8 @@ use Rattle.model.specs.Script.{Script, ret, bind, test, read-then, write-then, 
 use Rattle.model.specs.Script.{put-then, is-then, look-then, fetch-then, act-then, hand-then, row-then, run, Act}
 use Rattle.model.specs.Script.{complete, reset-ring, set-enabled, fill, fill0, open-oldest, close-oldest, take-oldest}
 use Rattle.model.specs.Script.{enqueue, allocate, allocate0, no-wakes, waken, DmaStep, arrive, send, place, place0}
-use Rattle.model.specs.Calls.{interrupt}
 use Rattle.proof_book.specs.Pages.{Packet, stampsOf, OutPage, Pages, withOut}
-use Rattle.proof_book.specs.Book.{Bk, joined, overrun, arrived, packetB, getB, putB, actB, handB, arriveB, receiving, bookOps, book}
+use Rattle.proof_book.specs.Book.{Bk, joined, overrun, arrived, packetB, getB, putB, actB, handB, arriveB, receiving, bookOps}
 use Rattle.proof_book.specs.Keeping.{Says, Gives, Keeps, calm}
 
 -- ---- the book, from a call's beginning to its next access or its end

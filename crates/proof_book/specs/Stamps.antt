@@ -1,12 +1,9 @@
 -- The stamps of an OUT ring (request One): of its slots, tail to head, those of the packets that wait. `ss` has one for each slot. Assumes nothing.
-use mathlib.Core.Bool.{Bool}
-use mathlib.Core.List.{List, [], _∷_, _++_, tail}
-use mathlib.Core.Path.{_≡_, ap₂, _∙_}
-use Prim.Native.Nat.{ℕ, zero, suc, _≤_, _<_}
+use mathlib.Core.List.{List, [], _∷_, tail}
+use Prim.Native.Nat.{ℕ, zero, suc}
 use lib.ListN.{getD}
 use Rattle.state.specs.declared.EpState.{EpState}
 use Rattle.ring.specs.Slot.{after, slotOf, countOf}
-use Rattle.ring.specs.Waiting.{Placed, OutRing, Alike}
 
 -- `n` stamps from counter `i` on
 unfoldable pub stampsFrom : EpState → List ℕ → ℕ → ℕ → List ℕ

@@ -1,14 +1,13 @@
 -- What one call tells: an address that is handed out is the book's own, no endpoint that is not enabled gets a packet
 -- by it, and the calls that end at once end with their own answers
 use mathlib.Core.Bool.{Bool, true, false, not, cond, _&&_, true≢false}
-use mathlib.Core.List.{List, []}
+use mathlib.Core.List.{List}
 use mathlib.Core.Path.{_≡_, refl, ap, subst, sym, _∙_}
 use Prim.Native.Nat.{ℕ, zero, suc, _%_}
 use native.Mathlib.Omega.{arith}
 use lib.Dec.{eqb, ltb}
 use lib.ListN.{length}
 use Rattle.bits.specs.Bit.{isSet}
-use Rattle.regs.specs.declared.Access.{Access}
 use Rattle.regs.specs.declared.Access.the-variants.{Receive}
 use Rattle.regs.specs.declared.Dir.{Dir}
 use Rattle.regs.specs.declared.Dir.the-variants.{Out, In}
@@ -24,7 +23,7 @@ use Rattle.model.specs.Script.{run}
 use Rattle.model.specs.SortsWalks.{among-outs}
 use Rattle.model.specs.Simulates.{Phase}
 use Rattle.model.specs.Statics.{isOn, isoOuts}
-use Rattle.model.specs.Answers.{Answer, Refused, NotYet, isAllocated}
+use Rattle.model.specs.Answers.{Answer, Refused, isAllocated}
 use Rattle.model.specs.Endpoint.{tooLong}
 use Rattle.model.specs.Calls.{Config, Op, slotted, aside, Aside, Open, Close, Queue, SetEnabled, PollRead, setEnabled}
 use Rattle.model.specs.Calls.{calls, code, starting, startRow}

@@ -1,21 +1,14 @@
 -- What TransferKindsLaws.antt speaks of. It proves: the sorts of the driver's endpoints are the flags of their records.
 -- No operation but an allocation changes a flag or one of the two sets of isochronous endpoints, so the driver's own
 -- operations leave the sorts
-use mathlib.Core.Bool.{Bool, true≢false}
-use mathlib.Core.List.{List}
-use mathlib.Core.Path.{_≡_, _∙_}
-use Prim.Native.Nat.{ℕ, _%_}
-use native.Mathlib.Decide.{ℕ-discrete}
-use lib.ListN.{length, List·getD-eq-default}
+use mathlib.Core.Path.{_≡_}
+use Prim.Native.Nat.{ℕ}
+use lib.ListN.{length}
 use Rattle.regs.specs.declared.Dir.{Dir}
 use Rattle.regs.specs.declared.Dir.the-variants.{Out, In}
-use Rattle.state.specs.declared.EpState.{EpState}
 use Rattle.state.specs.Driver.{Driver, epOn}
-use Rattle.model.specs.Cells.{Cell, Val}
-use Rattle.model.specs.Script.{Act, DmaStep, Burst}
 use Rattle.model.specs.Statics.{isOn}
-use Rattle.model.specs.TransferKinds.{TransferKinds, Among, Shows, Sorted}
-use Rattle.model_ops.specs.Rings.{St}
+use Rattle.model.specs.TransferKinds.{TransferKinds, Among}
 
 -- ---- what leaves the flags and the sets
 

@@ -1,42 +1,37 @@
 -- Request Eight over every list of calls: nothing but its own arming and the chip changes an armed slot, so a packet stored alone since its slot was armed
 -- is found with its length and its bytes. Driver and watched book agree (`Agree`) by a relation that says so of the slot
-use mathlib.Core.Bool.{Bool, true, false, cond, _&&_, true≢false}
-use mathlib.Core.List.{List, [], _∷_}
-use mathlib.Core.Logic.{_≢_, _⊎_, inl, inr, ⊎-elim}
+use mathlib.Core.Bool.{Bool, true, false, cond, true≢false}
+use mathlib.Core.List.{List}
+use mathlib.Core.Logic.{_⊎_, inl, inr, ⊎-elim}
 use mathlib.Core.Path.{_≡_, refl, ap, subst, sym, _∙_}
-use Prim.Native.Nat.{ℕ, zero, suc, _+_, _%_, _≤_, _<_}
+use Prim.Native.Nat.{ℕ, _+_, _%_, _≤_, _<_}
 use native.Mathlib.Omega.{arith}
-use borrow.Author.Tests.{eqb-true, eqb-false}
+use borrow.Author.Tests.{eqb-true}
 use lib.Dec.{eqb}
-use lib.ListN.{length, getD, take, drop, length-take, length-drop}
+use lib.ListN.{length, getD, drop, length-take, length-drop}
 use lib.Seq.{getD-drop, getD-take, ext-getD}
-use Rattle.regs.specs.declared.Access.{Access}
 use Rattle.regs.specs.declared.Dir.the-variants.{Out, In}
 use Rattle.state.specs.declared.EpState.{EpState}
 use Rattle.state.specs.Driver.{Driver, epOn}
-use Rattle.ring.specs.Slot.{slotOf, slotAddr}
 use Rattle.marks.specs.Marks.{markByte, reach, armed, markedLen}
 use Rattle.marks.specs.Copies.{bytesAt}
 use Rattle.marks.specs.Finds.{LastDiffers}
 use Rattle.marks.specs.Slots.{only-armed, armed-empties, len-is}
-use Rattle.marks.specs.Only as marks
 use Rattle.model.specs.Cells.{EpCore, Cell, Val, globals-cell, control-cell, allocator-cell, ep-cell, request-cell, paced-cell}
 use Rattle.model.specs.Script.{Act, complete, reset-ring, set-enabled, fill, fill0, open-oldest, close-oldest}
-use Rattle.model.specs.Script.{take-oldest, enqueue, allocate, allocate0, no-wakes, waken, DmaStep, arrive, send, place}
-use Rattle.model.specs.Script.{place0, dmaStepAsk, Burst, switch, bus-reset, burstAsk}
-use Rattle.model.specs.Simulates.{Phase, quiet, mid}
+use Rattle.model.specs.Script.{take-oldest, enqueue, allocate, allocate0, no-wakes, waken}
+use Rattle.model.specs.Simulates.{Phase}
 use Rattle.model.specs.Statics.{isOn}
 use Rattle.model.specs.Machine.{Buf}
-use Rattle.model_ops.specs.Concrete.{concrete}
 use Rattle.proof_book.specs.Pages.{OutPage, Pages, at, withOut}
-use Rattle.proof_book.specs.Book.{some, waitsOn, openOut, readOut, emptyOut, slotTold, arrived, packetB, roomB}
-use Rattle.proof_book.specs.Book.{queuedIn, isoOut, putB, actB, handB, rowB, receiving, isoOf, feedB}
+use Rattle.proof_book.specs.Book.{some, waitsOn, openOut, readOut, roomB}
+use Rattle.proof_book.specs.Book.{isoOut, putB, actB, isoOf}
 use Rattle.proof_book.specs.Coupling.{Coupling}
 use Rattle.proof_book.specs.Lens.{ep-mod}
 use Rattle.proof_book.specs.Held.{Words}
 use Rattle.proof_book.specs.Switches.{slot-words}
-use Rattle.proof_book.specs.Untouched.{Untouched, put-leaves, act-leaves, hand-leaves, row-leaves}
-use Rattle.proof_book.specs.Watched.{Watch, Seen, armsBy, watchHand, watchRow, watchAct, slotAt, most, Alone, Stored, Whole}
+use Rattle.proof_book.specs.Untouched.{Untouched}
+use Rattle.proof_book.specs.Watched.{Watch, watchAct, slotAt, most, Alone, Whole}
 
 module _ (e : ℕ) (packet : List ℕ) where
   -- each byte of the slot up to the maximum is the mark's, or the packet's at its place

@@ -20,17 +20,17 @@ use Rattle.model.specs.Cells.{EpCore}
 use Rattle.model.specs.Script.{Act, complete, reset-ring, set-enabled, fill, fill0, open-oldest, close-oldest}
 use Rattle.model.specs.Script.{take-oldest, enqueue, allocate, allocate0, no-wakes, waken, DmaStep, arrive, send, place}
 use Rattle.model.specs.Script.{place0, dmaStepAsk, Burst, switch, bus-reset, burstAsk, lastOf}
-use Rattle.model.specs.Simulates.{Phase, quiet, mid}
+use Rattle.model.specs.Simulates.{Phase, quiet}
 use Rattle.model.specs.Statics.{isOn, isoOuts, renewed}
 use Rattle.model.specs.Calls.{Config, Op, calls, startRow}
 use Rattle.model.specs.Machine.{Buf, Call, start, begin, go, question, Event, Ans, Machine, misfit, fed, started}
 use Rattle.model.specs.Agree.{Agree, After, All, Lawful, Lent, Ways, unless, agrees, from-start}
 use Rattle.model_ops.specs.Concrete.{concrete}
-use Rattle.model_ops.specs.Rings.{St, armAt, arriveOn, renewedOn, slotStep}
+use Rattle.model_ops.specs.Rings.{St, renewedOn, slotStep}
 use Rattle.model_ops.specs.Late.{arms-slot, arrive-arms, slot-arms}
 use Rattle.machine.specs.Suspended.{driverOf, drive, machineOf}
 use Rattle.proof_book.specs.Pages.{OutPage, Pages, withOut, withKept, keptPlain}
-use Rattle.proof_book.specs.Book.{Bk, emptyOut, slotTold, arrived, packetB, receiving, isoOf, putB, actB, handB, rowB, feedB}
+use Rattle.proof_book.specs.Book.{emptyOut, slotTold, arrived, packetB, receiving, isoOf, putB, actB, handB, rowB, feedB}
 use Rattle.proof_book.specs.Coupling.{Coupling, Good}
 use Rattle.proof_book.specs.Chips.{chip}
 use Rattle.proof_book.specs.Allocations.{fresh-kept}

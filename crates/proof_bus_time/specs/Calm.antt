@@ -1,5 +1,5 @@
 -- Calm scripts: they write no ep_config, enable or disable nothing and, unless they may give, allocate nothing
-use mathlib.Core.Bool.{Bool, true, false, not}
+use mathlib.Core.Bool.{Bool, not}
 use Prim.Native.Nat.{ℕ}
 use Rattle.regs.specs.declared.Access.{Access}
 use Rattle.regs.specs.declared.Access.the-variants.{Read, Write, Wait, Callback}

@@ -1,19 +1,14 @@
 -- The same of the Rattle code: what its calls make of four drivers' lent bytes and the lent record. The contract of each call says that it is one step of
 -- the machine of calls that the bytes are; that of start-up, enabling and continue, with the record (call_bus_time/specs/Sharing.antt)
-use mathlib.Core.Bool.{Bool, cond}
+use mathlib.Core.Bool.{cond}
 use mathlib.Core.List.{List, [], _∷_}
-use mathlib.Core.Path.{_≡_, _∙_}
-use Prim.Native.Nat.{ℕ, _%_, _≤_, _<_}
+use mathlib.Core.Path.{_≡_}
+use Prim.Native.Nat.{ℕ, _%_}
 use lib.Dec.{eqb}
-use Rattle.state.specs.Driver.{Driver}
 use Rattle.model.specs.Answers.{Answer}
-use Rattle.model.specs.Calls.{Config, Op}
-use Rattle.model.specs.Machine.{Buf, Call, Machine, Ans}
+use Rattle.model.specs.Machine.{Buf, Ans}
 use Rattle.machine.specs.Suspended.{machineOf}
-use Rattle.machine.specs.Goes.{Called}
-use Rattle.call_bus_time.specs.Sharing.{Sort}
 use Rattle.proof_bus_time.specs.Four.{Four, Turn, called}
-use Rattle.proof_bus_time.specs.Enabled.{AtFirst, FourAtFirst}
 
 -- each driver's state and slot buffer by its number, and the record
 pub record Lent : Type 0 where

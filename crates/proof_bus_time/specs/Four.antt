@@ -1,5 +1,5 @@
 -- Up to four drivers and the one record of bus time that they share (document 02, request Seven)
-use mathlib.Core.Bool.{Bool, cond}
+use mathlib.Core.Bool.{cond}
 use mathlib.Core.List.{List, [], _∷_}
 use Prim.Native.Nat.{ℕ, _%_}
 use lib.Dec.{eqb}

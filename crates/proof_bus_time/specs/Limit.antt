@@ -1,10 +1,10 @@
 -- The time in use never passes 6,000
-use mathlib.Core.Bool.{Bool, true, false, cond, _&&_}
+use mathlib.Core.Bool.{Bool, true, false, cond}
 use mathlib.Core.List.{List, [], _∷_}
-use mathlib.Core.Path.{_≡_, refl, ap, sym, _∙_}
-use Prim.Native.Nat.{ℕ, _+_, _*_, _%_, _≤_, _<_}
+use mathlib.Core.Path.{_≡_, refl, _∙_}
+use Prim.Native.Nat.{ℕ, _+_, _%_, _≤_, _<_}
 use native.Mathlib.Omega.{arith}
-use lib.ListN.{length, length-set, getD, set, replicate}
+use lib.ListN.{length, length-set, getD, set}
 use borrow.Author.Tests.{ltb-false}
 use Rattle.regs.specs.declared.Access.{Access}
 use Rattle.regs.specs.declared.Access.the-variants.{Read, Write, Receive, Transmit, Ep0Dma, Wait, Callback}
@@ -18,7 +18,7 @@ use Rattle.model.specs.Machine.{Buf, Machine, Ans, ended, handed, told}
 use Rattle.machine.specs.Suspended.{drive}
 use Rattle.req_bus_time.specs.Time.{entryOf, total, inUse, passes, keepOf, uncharged}
 use Rattle.req_bus_time.specs.TimeLaws.{length-keep, keep-le, total-set}
-use Rattle.call_bus_time.specs.Sharing.{Sort, enabling, starting, going, apart, sortOf, chargeOn, written, timeAfter, settled}
+use Rattle.call_bus_time.specs.Sharing.{Sort, enabling, starting, going, apart, sortOf, chargeOn, written, settled}
 use Rattle.proof_bus_time.specs.Four.{Four, Turn, next, after}
 
 -- a record of four drivers within the limit

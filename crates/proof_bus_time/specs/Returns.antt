@@ -1,11 +1,10 @@
 -- Time does come back: with a disabling's writes, whatever is read, its endpoint's charge; with a bus reset's every charge. An enabling's charge stays to its
 -- end. By the accesses that the scripts hand out, as the history counts them
 use mathlib.Core.Bool.{Bool, true, false, cond}
-use mathlib.Core.Path.{_≡_, refl, ap, sym, _∙_}
+use mathlib.Core.Path.{_≡_, refl, ap, _∙_}
 use Prim.Native.Nat.{ℕ, zero, suc}
-use lib.Dec.{eqb}
 use borrow.Author.Tests.{eq-eqb}
-use Rattle.bits.specs.Bit.{isSet, withBit, pick}
+use Rattle.bits.specs.Bit.{isSet, withBit}
 use Rattle.bits.specs.BitLaws.{set-with}
 use Rattle.regs.specs.declared.Access.{Access}
 use Rattle.regs.specs.declared.Dir.{Dir}

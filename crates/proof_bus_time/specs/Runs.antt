@@ -14,7 +14,7 @@ use Rattle.machine.specs.Suspended.{driverOf, drive}
 use Rattle.machine.specs.Goes.{Called}
 use Rattle.proof_book.specs.Always as alone
 use Rattle.call_bus_time.specs.Sharing.{sortOf, timeAfter, turnedDown, settled, sharedCall}
-use Rattle.proof_bus_time.specs.Four.{Four, Turn, changed, next, after}
+use Rattle.proof_bus_time.specs.Four.{Four, Turn, next, after}
 
 -- was it turned down?
 abbrev pub isTurnedDown : Turn → Four → Bool

@@ -4,7 +4,7 @@
 -- values before the call s is the
 -- state, slots the slot buffer, time the record; z holds the parameters after the call, in their order; r is the answer
 use mathlib.Core.List.{[]}
-use mathlib.Core.Path.{_≡_, refl, ap, _∙_}
+use mathlib.Core.Path.{refl, ap}
 use lib.ListN.{length}
 use denote.Ref.{now}
 use Rattle.state.specs.State.{view}

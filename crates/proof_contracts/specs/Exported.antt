@@ -6,7 +6,7 @@
 -- parameters after the call, in their
 -- order; r is the word or, of a question, the number
 use mathlib.Core.List.{[]}
-use mathlib.Core.Path.{_≡_, refl, ap}
+use mathlib.Core.Path.{_≡_, refl}
 use Prim.Native.Nat.{_%_}
 use lib.ListN.{length}
 use denote.Ref.{now}

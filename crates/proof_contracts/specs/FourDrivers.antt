@@ -2,10 +2,9 @@
 -- the history of the calls says, and the
 -- question of the time in use answers that
 use mathlib.Core.List.{List}
-use mathlib.Core.Path.{_≡_, ap, subst, _∙_}
+use mathlib.Core.Path.{_≡_, ap, _∙_}
 use Prim.Native.Nat.{ℕ, _%_}
 use denote.Ref.{now}
-use Rattle.model.specs.Calls.{Config, Op}
 use Rattle.machine.specs.Suspended.{machineOf}
 use Rattle.req_bus_time.specs.Time.{inUse}
 use Rattle.call_bus_time.specs.Sharing.{sharedCall}

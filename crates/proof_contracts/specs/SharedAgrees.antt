@@ -1,6 +1,6 @@
 -- One call with the record of bus time: driver and book agree after it, row 19 included
 use mathlib.Core.Bool.{Bool, true, false, cond, _&&_, true≢false}
-use mathlib.Core.List.{List, [], _∷_}
+use mathlib.Core.List.{List}
 use mathlib.Core.Path.{_≡_, refl, ap, ap₂, subst, sym, _∙_}
 use Prim.Native.Nat.{ℕ, zero, suc}
 use lib.ListN.{set}

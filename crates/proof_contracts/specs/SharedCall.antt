@@ -2,7 +2,7 @@
 -- the one holds after the other
 use mathlib.Core.Bool.{Bool, true, false, cond, true≢false}
 use mathlib.Core.List.{List}
-use mathlib.Core.Path.{_≡_, refl, ap, ap₂, subst, sym, _∙_}
+use mathlib.Core.Path.{_≡_, refl, ap, subst, sym, _∙_}
 use Prim.Native.Nat.{ℕ}
 use Rattle.regs.specs.declared.Dir.{Dir}
 use Rattle.state.specs.Driver.{Driver}

@@ -6,7 +6,7 @@ use Rattle.state.specs.State.{view}
 use Rattle.state.specs.Driver.{Driver}
 use Rattle.model.specs.Answers.{Answer}
 use Rattle.model.specs.Calls.{Config, Op}
-use Rattle.model.specs.Machine.{Buf, Call, question, Question, Ans, told}
+use Rattle.model.specs.Machine.{Buf, Call, Question, Ans, told}
 use Rattle.machine.specs.declared.Step.{Step}
 use Rattle.machine.specs.Questions.{questionOf}
 use Rattle.machine.specs.Suspended.{machineOf, drive, answerOf, lentOr}

@@ -1,18 +1,17 @@
 -- "The end of an operation now gives the wake-ups as a list, in order, repeats included, at most 64 long": whatever the state's bytes are, an end's list
 -- is that of the state which the call leaves, or none, and the count that the call answers is its length.
 use mathlib.Core.Bool.{cond}
-use mathlib.Core.List.{List, []}
-use mathlib.Core.Logic.{_⊎_, inl, inr}
-use mathlib.Core.Path.{_≡_, sym, ap, subst, _∙_}
+use mathlib.Core.List.{List}
+use mathlib.Core.Logic.{inl, inr}
+use mathlib.Core.Path.{_≡_, sym, ap, subst}
 use Prim.Native.Nat.{ℕ, _≤_}
 use native.Mathlib.Omega.{arith}
 use lib.ListN.{length}
 use Rattle.state.specs.Driver.{Driver}
 use Rattle.state.specs.State.{view, saved}
-use Rattle.state.specs.Wakes.{listed}
 use Rattle.model.specs.Answers.{Answer, End}
 use Rattle.model.specs.Calls.{Config, Op}
-use Rattle.model.specs.Machine.{Buf, Call, Machine, Ans, ended}
+use Rattle.model.specs.Machine.{Buf, Call, Ans, ended}
 use Rattle.endpoint_common.specs.Answers.{front}
 use Rattle.endpoint_common.specs.Front.{front-length}
 use Rattle.machine.specs.declared.Suspended.{Suspended}

@@ -1,7 +1,7 @@
 -- What a refusal leaves, and which wake-ups an end gives, of a call that is left to its script: a rule for each form that the scripts have
 use mathlib.Core.Bool.{Bool, true, false, cond}
 use mathlib.Core.Path.{_≡_, refl, subst, sym}
-use mathlib.Core.Logic.{_⊎_, inl, inr}
+use mathlib.Core.Logic.{_⊎_, inr}
 use mathlib.Core.List.{List, []}
 use Prim.Native.Nat.{ℕ}
 use Rattle.state.specs.Driver.{Driver}

@@ -8,13 +8,13 @@ use Rattle.state.specs.Driver.{Driver}
 use Rattle.state.specs.State.{view, saved}
 use Rattle.state.specs.Fresh as fresh
 use Rattle.model.specs.Tree.{Out, ends, asks, bindOut}
-use Rattle.model.specs.Script.{Script, ret, _>>_, run, no-wakes}
+use Rattle.model.specs.Script.{ret, _>>_, run, no-wakes}
 use Rattle.model.specs.Statics.{flag}
 use Rattle.model.specs.Driver.{new}
 use Rattle.model.specs.Answers.{Answer, Refused, End, NotYet, Done, Shown}
 use Rattle.model.specs.Calls.{Config, Op, calls, startRow, passes, slots, irq, code}
 use Rattle.model.specs.Machine.{Buf, Call, start, begin, go, question, Way, idle, busy, Machine, Awaits, Ans, ended}
-use Rattle.model.specs.Machine.{handed, told, beside, begun, continued, started, stay, lentTo, over}
+use Rattle.model.specs.Machine.{handed, told, beside, begun, continued, started, stay, over}
 use Rattle.model_ops.specs.Rings.{St}
 use Rattle.model_ops.specs.Concrete.{concrete}
 use Rattle.driver.specs.Points as driver

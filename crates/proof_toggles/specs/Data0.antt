@@ -1,9 +1,8 @@
 -- DATA0 after a cleared halt, a configuration and a bus reset (USB 2.0, 9.1.1.5, 9.4.5): the toggle of the endpoint's control word, as it was last
 -- written, whatever it was before, whatever is read and whatever becomes of the state
 use mathlib.Core.Bool.{Bool, true, false, not, cond, _&&_}
-use mathlib.Core.List.{List}
-use mathlib.Core.Logic.{_⊎_, inl, inr, ⊎-elim}
-use mathlib.Core.Path.{_≡_, refl, ap, sym, _∙_}
+use mathlib.Core.Logic.{_⊎_, inl, inr}
+use mathlib.Core.Path.{_≡_, refl}
 use Prim.Native.Nat.{ℕ, zero, suc, _+_, _≤_, _<_}
 use native.Mathlib.Omega.{arith}
 use native.Mathlib.Decide.{ℕ-discrete}
@@ -11,7 +10,6 @@ use lib.Dec.{eqb}
 use borrow.Author.Tests.{eq-eqb}
 use Rattle.regs.specs.declared.Access.{Access}
 use Rattle.regs.specs.declared.Access.the-variants.{Read, Write, Receive, Transmit, Ep0Dma, Wait, Callback}
-use Rattle.regs.specs.declared.Reg.the-variants.{EpRxCtrl, EpTxCtrl}
 use Rattle.regs.specs.declared.Dir.{Dir}
 use Rattle.regs.specs.declared.Dir.the-variants.{Out, In}
 use Rattle.regs.specs.Registers.{ctrlOf}
@@ -22,7 +20,7 @@ use Rattle.model.specs.Tree.{ends}
 use Rattle.model.specs.Cells.{EpCore, ep-cell}
 use Rattle.model.specs.Script.{Ops, run, rows, switch, bus-reset}
 use Rattle.model.specs.Statics.{isOn, wakeAll}
-use Rattle.model.specs.Bus.{restarted, restartedOut, restartedIn, setStalled, setEnabled, setEnabledOut, setEnabledIn, nakAll, busReset}
+use Rattle.model.specs.Bus.{restarted, restartedOut, restartedIn, setStalled, setEnabled, setEnabledOut, nakAll, busReset}
 use Rattle.model.specs.Every.{Chip, Every, at-end, at-ask, sameReg}
 use Rattle.model.specs.EveryLaws.{every-bind, every-cond}
 use Rattle.model.specs.Usb20Toggles.{initial}
@@ -103,25 +101,19 @@ module _ {S : Type 0} (O : Ops S) where
 
   -- ---- a bus reset, of every endpoint
 
-  -- it is so, or the endpoint is among the n from f on
+  -- it is so, or the endpoint is among the n from f on; one further
+  next : (e n f b : ℕ) → IsData0 b ⊎ ((f ≤ e) × (e < f + suc n)) → Dec (f ≡ e)
+      → IsData0 (cond (eqb f e) (toggle (wordOf word.NAK word.DATA0 false)) b) ⊎ ((suc f ≤ e) × (e < suc f + n))
+  next e n f b (inl k) q = inl (either (eqb f e) b _ (word-data0 _ _) k)
+  next e n f b (inr k) (yes q) = inl (rw (eq-eqb f e q) (word-data0 _ _))
+  next e n f b (inr k) (no q) = inr (omega (arith, k .0, k .1), omega (arith, k .0, k .1))
+
   naks : (d : Dir) (e n f b : ℕ) (s : S) → IsData0 b ⊎ ((f ≤ e) × (e < f + n)) → Leaves d e IsData0 b (run O (nakAll {i = false} n f) s)
   unfolding nakAll
   naks d e zero f b s (inl h) = at-end h
   naks d e zero f b s (inr h) = absurd (omega (arith, h .0, h .1))
-  naks Out e (suc n) f b s h = at-ask tt (λ _ _ _ _. at-ask tt (λ _ t _ _. naks Out e n (suc f) _ t (go h (ℕ-discrete f e))))
-    where
-      go : IsData0 b ⊎ ((f ≤ e) × (e < f + suc n)) → Dec (f ≡ e)
-          → IsData0 (cond (eqb f e) (toggle (wordOf word.NAK word.DATA0 false)) b) ⊎ ((suc f ≤ e) × (e < suc f + n))
-      go (inl k) q = inl (either (eqb f e) b _ (word-data0 _ _) k)
-      go (inr k) (yes q) = inl (rw (eq-eqb f e q) (word-data0 _ _))
-      go (inr k) (no q) = inr (omega (arith, k .0, k .1), omega (arith, k .0, k .1))
-  naks In e (suc n) f b s h = at-ask tt (λ _ _ _ _. at-ask tt (λ _ t _ _. naks In e n (suc f) _ t (go h (ℕ-discrete f e))))
-    where
-      go : IsData0 b ⊎ ((f ≤ e) × (e < f + suc n)) → Dec (f ≡ e)
-          → IsData0 (cond (eqb f e) (toggle (wordOf word.NAK word.DATA0 false)) b) ⊎ ((suc f ≤ e) × (e < suc f + n))
-      go (inl k) q = inl (either (eqb f e) b _ (word-data0 _ _) k)
-      go (inr k) (yes q) = inl (rw (eq-eqb f e q) (word-data0 _ _))
-      go (inr k) (no q) = inr (omega (arith, k .0, k .1), omega (arith, k .0, k .1))
+  naks Out e (suc n) f b s h = at-ask tt (λ _ _ _ _. at-ask tt (λ _ t _ _. naks Out e n (suc f) _ t (next e n f b h (ℕ-discrete f e))))
+  naks In e (suc n) f b s h = at-ask tt (λ _ _ _ _. at-ask tt (λ _ t _ _. naks In e n (suc f) _ t (next e n f b h (ℕ-discrete f e))))
 
   first : (e b v : ℕ) → e ≤ 15 → toggle v ≡ number initial → IsData0 (cond (eqb 0 e) (toggle v) b) ⊎ ((1 ≤ e) × (e < 1 + 15))
   first e b v l h = go (ℕ-discrete 0 e)

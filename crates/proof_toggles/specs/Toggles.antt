@@ -2,12 +2,12 @@
 -- driver has all its records
 use mathlib.Core.Bool.{Bool, true, false, cond}
 use mathlib.Core.List.{List, []}
-use mathlib.Core.Path.{_≡_, refl, ap, sym, _∙_}
-use Prim.Native.Nat.{ℕ, _%_, _≤_, _<_}
+use mathlib.Core.Path.{_≡_, refl, ap, _∙_}
+use Prim.Native.Nat.{ℕ, _%_, _≤_}
 use native.Mathlib.Omega.{arith}
 use native.Mathlib.Decide.{decLt}
 use lib.Dec.{eqb}
-use lib.ListN.{length, getD, set, length-set}
+use lib.ListN.{length, getD, length-set}
 use lib.Seq.{set-out, getD-set-same}
 use Rattle.bits.specs.Bit.{isSet}
 use Rattle.regs.specs.declared.Dir.{Dir}
@@ -16,9 +16,8 @@ use Rattle.state.specs.declared.EpState.{EpState}
 use Rattle.state.specs.Driver.{Driver, key, noEp, epOn, withOn, withPacedOn}
 use Rattle.state.specs.Laws.{Sized, key-lt}
 use Rattle.ring.specs.Out.{armedAt}
-use Rattle.model.specs.Cells.{EpCore, ep-cell}
 use Rattle.model.specs.Script.{run}
-use Rattle.model.specs.Statics.{isOn, isoOuts, withArmed, withTog}
+use Rattle.model.specs.Statics.{isoOuts, withArmed, withTog}
 use Rattle.model.specs.Handler.{toggled}
 use Rattle.model.specs.Bus.{setStalled, setEnabledOut, setEnabledIn}
 use Rattle.model.specs.Every.{Every}
@@ -26,7 +25,7 @@ use Rattle.model.specs.Usb20Toggles.{Pid, Transaction, bitAfterAll, passed}
 use Rattle.model.specs.TogglesLaws.{number}
 use Rattle.model.specs.ToggledLaws.{toggling, KeepsRecord, Assigns, Toggled, toggled-meets}
 use Rattle.model.specs.RestartLaws as restart
-use Rattle.model.specs.RestartLaws.{Lawful, togOf, Restarts}
+use Rattle.model.specs.RestartLaws.{Lawful, Restarts}
 use Rattle.model_ops.specs.Records.{plainOf, merged, isoOut, configured, enabledOn}
 use Rattle.model_ops.specs.Rings.{St, emptied, emptiedOn, placeOn}
 use Rattle.model_ops.specs.Concrete.{concrete}

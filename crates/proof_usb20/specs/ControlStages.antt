@@ -1,4 +1,4 @@
--- Control stages equal USB 2.0's, over EVERY list of calls from an accepted start-up
+-- The observer of endpoint 0. ControlStagesLaws.antt proves: control stages equal USB 2.0's, over EVERY list of calls from an accepted start-up
 use Rattle.model.specs.AddressWrites.{Writes}
 use Rattle.model.specs.AddressCalls.{Addresses}
 use Rattle.proof_usb20.specs.Log.{Log, before, opens, saw, closes, Brings, Armed, Fair, Allowed}

@@ -6,10 +6,7 @@ use Prim.Native.Nat.{ℕ, zero}
 use Rattle.state.specs.Driver.{Driver}
 use Rattle.model.specs.Tree as tree
 use Rattle.model.specs.Script.{run}
-use Rattle.model.specs.Every as ways
 use Rattle.model.specs.EveryLaws as ways-laws
-use Rattle.model.specs.AddressWrites.{Writes}
-use Rattle.model.specs.AddressCalls.{Addresses}
 use Rattle.model.specs.AddressCallsLaws.{address-writes}
 use Rattle.model.specs.Answers.{Answer, Refused}
 use Rattle.model.specs.Calls.{Config, calls, startRow, Op, interrupt, slotted, other, aside, Slotted, SetEnabled}
@@ -21,9 +18,9 @@ use Rattle.model.specs.Machine.{Buf, Event, Machine, start, started}
 use Rattle.machine.specs.Suspended.{driverOf}
 use Rattle.model_ops.specs.Rings.{St}
 use Rattle.model_ops.specs.Concrete.{concrete}
-use Rattle.proof_usb20.specs.Log.{Log, before, opens, closes, Brings, Armed, Fair, Allowed, Poll, none, begins}
+use Rattle.proof_usb20.specs.Log.{Log, before, opens, closes, Armed, Poll, none, begins}
 use Rattle.proof_usb20.specs.Log.{pollSetup, pollOut, pollIn, pollStatus, pollOf, FairPoll}
-use Rattle.proof_usb20.specs.Observer.{Observer, startedBy, Reads, All}
+use Rattle.proof_usb20.specs.Observer.{startedBy, Reads, All}
 use Rattle.proof_usb20.specs.ExemptLaws.{differ}
 use Rattle.proof_usb20.specs.Watch.{at-end, at-ask}
 use Rattle.proof_usb20.specs.WatchLaws.{watch-more}
@@ -64,7 +61,6 @@ use Rattle.regs.specs.ControlWord as regs-controlword
 use Rattle.regs.specs.Enables as regs-enables
 use Rattle.regs.specs.Registers as regs-registers
 use Rattle.regs.specs.Status as regs-status
-use Rattle.model.specs.Answers as script-answers
 use Rattle.model.specs.Calls as script-calls
 use Rattle.model.specs.Control as script-control
 use Rattle.model.specs.Handler as script-handler
@@ -74,7 +70,6 @@ use Rattle.model.specs.Statics as script-statics
 use Rattle.state.specs.Driver as state-driver
 use Rattle.state.specs.Fresh as state-fresh
 use Rattle.state.specs.Wakes as state-wakes
-use Rattle.ring.specs.Slot as ring-slot
 use Rattle.proof_usb20.specs.ControlStages.{control}
 
 of-slotted : (o : Slotted) → Law (slotted o)

@@ -1,5 +1,5 @@
--- Data toggles equal USB 2.0's (8.6), over EVERY list of calls from an accepted start-up, of every endpoint that is
--- neither 0 nor isochronous
+-- The observers of an endpoint's toggle and control word. DataTogglesLaws.antt proves: data toggles equal USB 2.0's (8.6), over EVERY list of calls
+-- from an accepted start-up, of every endpoint that is neither 0 nor isochronous
 use mathlib.Core.Path.{_≡_}
 use Prim.Native.Nat.{ℕ}
 use Rattle.regs.specs.declared.Dir.{Dir}

@@ -1,7 +1,7 @@
 -- Log and state fit after each event of the bus: of the words, the pipe and the records alone
 use mathlib.Core.Bool.{Bool, true, false, cond}
 use mathlib.Core.Path.{_≡_, refl, sym, _∙_}
-use Prim.Native.Nat.{ℕ, _-_}
+use Prim.Native.Nat.{ℕ}
 use native.Mathlib.Omega.{arith}
 use Rattle.regs.specs.declared.Dir.the-variants.{Out, In}
 use Rattle.regs.specs.ControlWord as word

@@ -28,7 +28,7 @@ use Rattle.model_ops.specs.Rings.{St}
 use Rattle.model_ops.specs.Concrete.{concrete}
 use Rattle.proof_book.specs.TransferKindsLaws.{put-steady, act-steady}
 use Rattle.proof_usb20.specs.Pipe as pipe
-use Rattle.proof_usb20.specs.Pipe.{isReady, dataReady, packet}
+use Rattle.proof_usb20.specs.Pipe.{isReady, packet}
 use Rattle.proof_usb20.specs.Log.{Log, off, reads, withRx, withTx, withPhase, happens, ofToken}
 use Rattle.proof_usb20.specs.Watch.{at-end, at-ask}
 use Rattle.proof_usb20.specs.WatchLaws.{watch-bind, watch-more, watch-cond}
