@@ -3,12 +3,14 @@ use mathlib.Core.Bool.{Bool, true, false, cond}
 use mathlib.Core.List.{List, []}
 use mathlib.Core.Path.{_≡_, refl, sym, ap, subst, _∙_}
 use Prim.Native.Nat.{ℕ, _*_}
+use native.Mathlib.Omega.{arith}
 use lib.Dec.{eqb}
 use lib.ListN.{length}
 use Rattle.regs.specs.declared.Access.{Access}
 use Rattle.regs.specs.declared.Access.the-variants.{Read, Write}
 use Rattle.regs.specs.declared.Reg.the-variants.{IntFg, IntSt, MisSt, RxLen, FrameNo}
-use Rattle.regs.specs.Registers.{fitsIn}
+use Rattle.regs.specs.declared.Reg.{Reg}
+use Rattle.regs.specs.Registers.{fitsIn, numberOf}
 use Rattle.regs.specs.Flags.{TRANSFER, busRst, transfer, suspend, hstSof, fifoOv, setupAct}
 use Rattle.regs.specs.MisStatus.{sieFree}
 use Rattle.state.specs.declared.Allocator.{Allocator}
@@ -51,6 +53,9 @@ use Rattle.model.specs.declared.Transfer.{Transfer}
 use Rattle.model.specs.Handler.{nakNonIso}
 use Rattle.model.specs.Script.{run}
 use Rattle.model_ops.specs.Concrete.{concrete}
+use Rattle.call_answer_word.specs.Parts.{stepOf}
+use Rattle.call_answer_word.specs.Word.{Encodes, readWord, wordOf, accessWord}
+use Rattle.call_answer_word.specs.WordLaws as words
 use Rattle.call_readings.specs.Readings.{Lent, lent, Begins, Continues}
 use Rattle.call_readings.specs.Passing.{Framed, Flagged, Transferred}
 use Rattle.call_readings.specs.Standing.{standing, stands}
@@ -60,12 +65,16 @@ pub record At (p : Point) (xs : List ℕ) : Type 0 where
   pub tagged : saved xs .tag ≡ 6
   pub decoded : decode (saved xs) ≡ under.Interrupt p
 
-pub at-point : {r : Step} {q : Access} {p : Point} {xs ys : List ℕ} → Stands r q p xs ys → At p ys
+pub at-point : {r : ℕ} {q : Access} {p : Point} {xs ys : List ℕ} → Stands r q p xs ys → At p ys
 unfolding encode
 at-point {p = p} h = record {
   tagged = ap (λ (c : Saved). c .tag) (h .stored);
   decoded = ap decode (h .stored) ∙ decode-encode (under.Interrupt p);
 }
+
+-- its word says the access
+tells : {w : ℕ} {q : Access} {p : Point} {xs ys : List ℕ} → Stands w q p xs ys → stepOf w ≡ step.Asks q
+tells {w} {q} h = words.said w (step.Asks q) (h .answered) refl
 
 -- mis_st is awaited, as the saved bytes have it
 pub at-mis : (xs : List ℕ) (setup : Bool) → saved xs .tag ≡ 6 → saved xs .site ≡ 6 → setup ≡ isOn (saved xs .flag) → At (point.Mis setup) xs
@@ -92,19 +101,25 @@ continues i v p xs ys b time r at fit h saves = record {
 -- those with p′ saved
 pub passes : (i v : ℕ) (p p′ : Point) (q : Access) (xs ws ys : List ℕ) (b : Buf) (time : List ℕ) → At p xs
     → slotsFit (view xs) b ≡ true → fitsAt p v ≡ true → awaited q ≡ awaitsAt p′
-    → Stands (step.Asks q) q p′ ws ys → meaning (next.Asks q p′) (view ws) b ≡ denote p v (view xs, b)
+    → {w : ℕ} → Stands w q p′ ws ys → meaning (next.Asks q p′) (view ws) b ≡ denote p v (view xs, b)
     → Continues i v (lent xs b time) (step.Asks q) (lent ys b time)
-passes i v p p′ q xs ws ys b time at fit f l h m =
-    continues i v p xs ys b time (step.Asks q) at fit (went-on (saved xs) p v (view xs) b (at .decoded) f (stops-at h l b m)) (stored-at h xs)
+passes i v p p′ q xs ws ys b time at fit f l {w} h m =
+    let said = tells h in
+    let went = went-on (saved xs) p v (view xs) b (at .decoded) f (stops-at h l b m) in
+    continues i v p xs ys b time (step.Asks q) at fit
+    (subst (λ (z : Step). (answerOf z [] (view ys), machineOf ys b) ≡ resumed v (decode (saved xs)) (view xs) b) said went)
+    (subst (λ (z : Step). SavedByAnswer z xs ys) said (stored-at h .1 xs))
 
 -- no row stops the interrupt's begin: it stands at its first point
 pub begins : (xs ws ys : List ℕ) (b : Buf) (time : List ℕ) → eqb (stopOf (isIdle (decode (saved xs))) 2 (view xs .globals .stage)) 0 ≡ true
-    → view ws ≡ withWakes (view xs) none-woken → Stands (step.Asks (Read FrameNo 0)) (Read FrameNo 0) point.Frame ws ys
+    → view ws ≡ withWakes (view xs) none-woken → {w : ℕ} → Stands w (Read FrameNo 0) point.Frame ws ys
     → Begins (lent xs b time) (step.Asks (Read FrameNo 0)) (lent ys b time)
 unfolding halted
 begins xs ws ys b time e v h = record {
-  did = λ a c. back (interrupt-call (decode (saved xs)) (view xs) a c) (stops-at h refl c (interrupt-begun (view ws, c)) .there ∙ simp (v, e));
-  saves = stored-at h xs;
+  did = λ a c. back (interrupt-call (decode (saved xs)) (view xs) a c)
+      (ap (λ (z : Step). (answerOf z [] (view ys), machineOf ys c)) (sym (tells h))
+      ∙ (stops-at h refl c (interrupt-begun (view ws, c)) .there ∙ simp (v, e)));
+  saves = subst (λ (z : Step). SavedByAnswer z xs ys) (tells h) (stored-at h .1 xs);
   slots = refl;
   time = refl;
 }
@@ -114,9 +129,10 @@ pub still-fit : (d d′ : Driver) (b : Buf) → d′ .allocator ≡ d .allocator
 unfolding slotsFit
 still-fit d d′ b e h = ap (λ (x : Allocator). eqb (length b) (x .count * x .size)) e ∙ h
 
--- it stands there, whatever its answer is called
-pub asked : {r : Step} {q : Access} {p : Point} {xs ys : List ℕ} → Stands r q p xs ys → Stands (step.Asks q) q p xs ys
-asked h = record { answered = refl; viewed = h .viewed; stored = h .stored }
+-- the word that reads a register that no endpoint has
+reads : (r : Reg) → Encodes (readWord (numberOf r) 0) (step.Asks (Read r 0))
+unfolding wordOf accessWord
+reads r = words.says (readWord (numberOf r) 0) (step.Asks (Read r 0)) (step.Asks (Read r 0)) refl (omega arith) refl
 
 -- the same view
 on-view : (p : Point) (v : ℕ) (b : Buf) {d d′ : Driver} → d′ ≡ d → denote p v (d, b) ≡ denote p v (d′, b)
@@ -132,13 +148,13 @@ module _ (i frame : ℕ) (xs ws us : List ℕ) (b : Buf) (time : List ℕ)
   abbrev first : List ℕ
   first = standing ws point.Frame
 
-  at-first : Stands (step.Asks (Read FrameNo 0)) (Read FrameNo 0) point.Frame ws first
-  at-first = stands ws long (Read FrameNo 0) point.Frame
+  at-first : Stands (readWord (numberOf FrameNo) 0) (Read FrameNo 0) point.Frame ws first
+  at-first = stands ws long _ (Read FrameNo 0) point.Frame (reads FrameNo)
 
   fit-first : slotsFit (view first) b ≡ true
   fit-first = still-fit (view xs) (view first) b (ap (λ (d : Driver). d .allocator) (at-first .viewed ∙ cleared)) fit
 
-  pub framed : (ys : List ℕ) → Stands (step.Asks (Read IntFg 0)) (Read IntFg 0) point.Flags us ys → Framed i frame (lent xs b time) (lent ys b time)
+  pub framed : (ys : List ℕ) {w : ℕ} → Stands w (Read IntFg 0) point.Flags us ys → Framed i frame (lent xs b time) (lent ys b time)
   unfolding fitsAt
   framed ys h = (
     lent first b time,
@@ -154,15 +170,15 @@ module _ (i frame : ℕ) (xs ws us : List ℕ) (b : Buf) (time : List ℕ)
     abbrev second : List ℕ
     second = standing us point.Flags
 
-    at-second : Stands (step.Asks (Read IntFg 0)) (Read IntFg 0) point.Flags us second
-    at-second = stands us long-us (Read IntFg 0) point.Flags
+    at-second : Stands (readWord (numberOf IntFg) 0) (Read IntFg 0) point.Flags us second
+    at-second = stands us long-us _ (Read IntFg 0) point.Flags (reads IntFg)
 
     served : (d : Driver) → meaning (next.Asks (Read MisSt 0) (point.Mis setup)) d b ≡ denote point.Flags flags (d, b)
     unfolding afterFlags afterBusRst afterSuspend afterFifo
     served d = host-transfer flags setup d b act is-transfer ∙ simp (no-reset, no-suspend, no-fifo, no-host)
 
     pub flagged : (ys : List ℕ) → view us .allocator ≡ view ws .allocator
-        → Stands (step.Asks (Read MisSt 0)) (Read MisSt 0) (point.Mis setup) us ys → Flagged i frame flags (lent xs b time) (lent ys b time)
+        → {w : ℕ} → Stands w (Read MisSt 0) (point.Mis setup) us ys → Flagged i frame flags (lent xs b time) (lent ys b time)
     unfolding fitsAt
     flagged ys same h = (
       lent second b time,
@@ -184,11 +200,11 @@ module _ (i mis st len : ℕ) (setup : Bool) (xs : List ℕ) (b : Buf) (time : L
   abbrev size : List ℕ
   size = standing xs (point.Len setup false st)
 
-  at-status : Stands (step.Asks (Read IntSt 0)) (Read IntSt 0) (point.St setup false) xs status
-  at-status = stands xs long (Read IntSt 0) (point.St setup false)
+  at-status : Stands (readWord (numberOf IntSt) 0) (Read IntSt 0) (point.St setup false) xs status
+  at-status = stands xs long _ (Read IntSt 0) (point.St setup false) (reads IntSt)
 
-  at-size : Stands (step.Asks (Read RxLen 0)) (Read RxLen 0) (point.Len setup false st) xs size
-  at-size = stands xs long (Read RxLen 0) (point.Len setup false st)
+  at-size : Stands (readWord (numberOf RxLen) 0) (Read RxLen 0) (point.Len setup false st) xs size
+  at-size = stands xs long _ (Read RxLen 0) (point.Len setup false st) (reads RxLen)
 
   still : (ys : List ℕ) → view ys ≡ view xs → slotsFit (view ys) b ≡ true
   still ys e = still-fit (view xs) (view ys) b (ap (λ (d : Driver). d .allocator) e) fit
@@ -201,7 +217,7 @@ module _ (i mis st len : ℕ) (setup : Bool) (xs : List ℕ) (b : Buf) (time : L
   unfolding afterSt
   then-size d = refl
 
-  pub transferred : (q : Access) (p : Point) (ys : List ℕ) → awaited q ≡ awaitsAt p → Stands (step.Asks q) q p xs ys
+  pub transferred : (q : Access) (p : Point) (ys : List ℕ) → awaited q ≡ awaitsAt p → {w : ℕ} → Stands w q p xs ys
       → meaning (next.Asks q p) (view xs) b ≡ denote (point.Len setup false st) len (view xs, b)
       → Transferred (step.Asks q) i mis st len (lent xs b time) (lent ys b time)
   unfolding fitsAt

@@ -1,6 +1,6 @@
 -- The bytes of a state that stands at a point of the interrupt: as they were but for the 22 saved ones. What a call of one access would have stored and one
 -- that brings several readings passes over
-use mathlib.Core.Path.{_≡_, refl, ap, subst, _∙_}
+use mathlib.Core.Path.{_≡_, ap, subst, _∙_}
 use mathlib.Core.Logic.{_⊎_, inl, inr}
 use mathlib.Core.List.{List}
 use Prim.Native.Nat.{ℕ, _+_, _*_, _≤_}
@@ -20,6 +20,7 @@ use Rattle.irq_points.specs.Stands.{Stands}
 use Rattle.machine.specs.declared.Suspended.the-variants as under
 use Rattle.machine.specs.declared.Step.the-variants as step
 use Rattle.machine.specs.Suspended.{encode}
+use Rattle.call_answer_word.specs.Word.{Encodes}
 
 abbrev savedBytes : Saved → List ℕ
 savedBytes c = bytes savedWidths (savedAs c)
@@ -59,11 +60,11 @@ module _ (xs : List ℕ) (c : Saved) where
   saved-is long =
       ap savedIn (gets-puts xs 2817 (savedBytes c) (omega (arith, long))) ∙ ap savedOf (numbers-bytes savedWidths (savedAs c) tt)
 
--- it stands there: its access is the answer
-pub stands : (xs : List ℕ) → length xs ≡ 2839 → (q : Access) (p : Point) → Stands (step.Asks q) q p xs (standing xs p)
+-- it stands there: w, the word of its access, is the answer
+pub stands : (xs : List ℕ) → length xs ≡ 2839 → (w : ℕ) (q : Access) (p : Point) → Encodes w (step.Asks q) → Stands w q p xs (standing xs p)
 unfolding standing
-stands xs long q p = record {
-  answered = refl;
+stands xs long w q p says = record {
+  answered = says;
   viewed = view-stays xs (encode (under.Interrupt p));
   stored = saved-is xs (encode (under.Interrupt p)) long;
 }

@@ -17,7 +17,6 @@ use machine::stops::slots_fit;
 use machine::stops::stop;
 use model::Transfer;
 use regs::Access;
-use regs::Reg;
 use regs::flags;
 use regs::flags::TRANSFER;
 use regs::mis_status;
@@ -130,10 +129,10 @@ pub fn enter(s: &mut [u8; STATE_LEN], slots: &[u8], frame: u32, word: u32) -> En
         keep_frame(s, frame);
         sized(s);
         if is_transfer(word) {
-            stand_mis(s, Access::Read(Reg::MisSt, 0), flags::setup_act(byte(word)));
+            stand_mis(s, flags::setup_act(byte(word)));
             return Entered::Mis;
         }
-        stand_flags(s, Access::Read(Reg::IntFg, 0));
+        stand_flags(s);
         return Entered::Flags;
     }
     Entered::No
@@ -196,7 +195,7 @@ pub fn pass(s: &mut [u8; STATE_LEN], slots: &[u8], mis: u32, st: u32, len: u32) 
                 Passed::Nak(q)
             }
             NakNext::Ends => {
-                stand_released(s, Access::Write(Reg::IntFg, 0, TRANSFER), setup, x);
+                stand_released(s, TRANSFER, setup, x);
                 Passed::Released
             }
         }

@@ -3,7 +3,7 @@ use mathlib.Core.Path.{sym, ap, _∙_}
 use native.Mathlib.Omega.{arith}
 use Rattle.regs.specs.Flags.{setupAct}
 use Rattle.irq_transfer.specs.Laws.{wider}
-use Rattle.call_readings.specs.PassingLaws.{framed, flagged, asked}
+use Rattle.call_readings.specs.PassingLaws.{framed, flagged}
 use borrow.Author.Needs.{needs}
 use Rattle.call_readings.proofs.enter.Statement.{statement}
 use Rattle.call_readings.proofs.enter.Tie as tie
@@ -56,7 +56,7 @@ returns c i time =
     let setup = c .before .setup-act .ensures ∙ ap setupAct (c .before .before .byte .ensures) in
     flagged i (a .frame) (now (a .s)) _ _ (now (a .slots)) time (may .0) (may .1) (may .2)
     (at-clear-wakes .clear-wakes .ensures .0) (at-sized-arg2 .sized-arg2 .given .0) (kept .0) (a .word) _ (at-sized-arg4 .sized-arg4 .given .0)
-    (told .0) setup (told .1) (told .2) (told .3) (told .4) (told .5) _ (kept .1) (asked (c .stand-mis .ensures))
+    (told .0) setup (told .1) (told .2) (told .3) (told .4) (told .5) _ (kept .1) (c .stand-mis .ensures)
 
 stand-flags-requires : tie.Need-stand-flags-requires
 stand-flags-requires c κs = search needs
@@ -73,7 +73,7 @@ returns-2 c i time =
     let may = at-may-enter .may-enter .ensures (at-if1 .if1 .taken) in
     let kept = at-keep-frame .keep-frame .ensures in
     framed i (a .frame) (now (a .s)) _ _ (now (a .slots)) time (may .0) (may .1) (may .2)
-    (at-clear-wakes .clear-wakes .ensures .0) (at-sized-arg2 .sized-arg2 .given .0) (kept .0) _ (asked (c .stand-flags .ensures))
+    (at-clear-wakes .clear-wakes .ensures .0) (at-sized-arg2 .sized-arg2 .given .0) (kept .0) _ (c .stand-flags .ensures)
 
 returns-3 : tie.Need-returns-3
 returns-3 c = search needs

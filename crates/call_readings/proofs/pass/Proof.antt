@@ -11,7 +11,7 @@ use Rattle.irq_transfer.specs.Laws.{wider}
 use Rattle.irq_transfer.specs.Nak as nak
 use Rattle.irq.specs.Continuations.{enteredAs}
 use Rattle.irq.specs.Laws.{nak-linked}
-use Rattle.call_readings.specs.PassingLaws.{at-mis, asked, transferred, nak-first, released-first}
+use Rattle.call_readings.specs.PassingLaws.{at-mis, transferred, nak-first, released-first}
 use borrow.Author.Needs.{needs}
 use Rattle.call_readings.proofs.pass.Statement.{statement}
 use Rattle.call_readings.proofs.pass.Tie as tie
@@ -75,7 +75,7 @@ returns c i time =
     transferred i (a .mis) (a .st) (a .len) (the-setup .result) (now (a .s)) (now (a .slots)) time
     (at-mis (now (a .s)) (the-setup .result) (may .0) (may .1) (the-setup .ensures)) (at-sized-arg2 .sized-arg2 .given .0)
     (may .2) (may .3) (may .4) (may .5) (may .6) _ _ _
-    (nak-linked _ _ _ (c .before .before .before .n .given .1) (the-nak .ensures .1)) (asked (c .stand-nak .ensures))
+    (nak-linked _ _ _ (c .before .before .before .n .given .1) (the-nak .ensures .1)) (c .stand-nak .ensures)
     (nak-first (the-setup .result) (a .st) (a .len) _ d (now (a .slots)) y (the-nak .result) naks _ _ (c .before .before .before .n .given .1))
 
 returns-2 : tie.Need-returns-2
@@ -100,7 +100,7 @@ returns-2 c i time =
     (the-nak .ensures .0 (now (a .slots))) in
     transferred i (a .mis) (a .st) (a .len) (the-setup .result) (now (a .s)) (now (a .slots)) time
     (at-mis (now (a .s)) (the-setup .result) (may .0) (may .1) (the-setup .ensures)) (at-sized-arg2 .sized-arg2 .given .0)
-    (may .2) (may .3) (may .4) (may .5) (may .6) _ _ _ refl (asked (c .stand-released .ensures))
+    (may .2) (may .3) (may .4) (may .5) (may .6) _ _ _ refl (c .stand-released .ensures)
     (released-first (the-setup .result) (a .st) (a .len) _ d (now (a .slots)) y (the-nak .result) naks (c .before .before .enum-told .given .1))
 
 returns-3 : tie.Need-returns-3
