@@ -1,5 +1,5 @@
 -- A word says its answer: different answers have different words
-use mathlib.Core.Path.{_≡_, refl, sym, ap, _∙_}
+use mathlib.Core.Path.{_≡_, refl, sym, ap, subst, _∙_}
 use Prim.Native.Nat.{ℕ, _+_, _*_, _/_, _%_, _^_, _<_}
 use native.Mathlib.Omega.{arith}
 use Rattle.regs.specs.declared.Reg.{Reg}
@@ -165,3 +165,16 @@ says r step t e h k = (k ∙ ap wordOf (sym e), ap stepOf k ∙ (step-word t h �
 pub says-one : (r : ℕ) (a b : Step) → Encodes r a → Encodes r b → spoken a ≡ spoken b
 unfolding Encodes
 says-one r a b x y = sym (x .1) ∙ y .1
+
+-- of an answer that its word says whole
+pub said : (r : ℕ) (step : Step) → Encodes r step → spoken step ≡ step → stepOf r ≡ step
+unfolding Encodes
+said r step h e = h .1 ∙ e
+
+pub sound : (r : ℕ) (step : Step) → Encodes r step → spoken step ≡ step → Encodes r (stepOf r)
+sound r step h e = subst (λ (z : Step). Encodes r z) (sym (said r step h e)) h
+
+-- a refusal's
+pub refused-sound : (n : ℕ) → n < 2 ^ 8 → Encodes (n * 2 ^ 8) (Refused n)
+unfolding wordOf
+refused-sound n h = says (n * 2 ^ 8) (Refused n) (Refused n) refl h refl

@@ -1,10 +1,18 @@
 // A call's answer as one word of 64 bits.
 use machine::Step;
 use regs::Access;
+use regs::Reg;
 use regs::registers::number;
 ghost use mathlib.Core.Path.{_≡_};
+ghost use Rattle.regs.specs.declared.Access.the-variants as Access;
+ghost use Rattle.machine.specs.declared.Step.the-variants as Step;
 ghost use Rattle.call_answer_word.specs.Parts.{AccessFits, EndFits};
 ghost use Rattle.call_answer_word.specs.Word.{readWord, writeWord, accessWord, endWord, doneWord, shownWord, Encodes};
+
+// The words of two refusals: row 1, the slots' length; row 16, the reading's width.
+pub const ROW_1: u64 = 0x100;
+
+pub const ROW_16: u64 = 0x1000;
 
 fn read_word(register: u8, endpoint: u8) -> u64
     ensures { λ r. ⌜ r ≡ readWord register endpoint ⌝ }
@@ -38,6 +46,32 @@ fn end_word(n: u16, k: u8) -> u64
     ensures { λ _. ⌜ EndFits n k ⌝ }
 {
     5 + n as u64 * 0x100 + k as u64 * 0x100_0000
+}
+
+// The words of an interrupt's answers, each where it is made: a read or a write of a register of the whole block, any
+// access, the end.
+pub fn asks_read(register: Reg) -> u64
+    ensures { λ r. ⌜ Encodes r (Step.Asks (Access.Read register 0)) ⌝ }
+{
+    read_word(number(register), 0)
+}
+
+pub fn asks_write(register: Reg, value: u32) -> u64
+    ensures { λ r. ⌜ Encodes r (Step.Asks (Access.Write register 0 value)) ⌝ }
+{
+    write_word(number(register), 0, value)
+}
+
+pub fn asks(q: Access) -> u64
+    ensures { λ r. ⌜ Encodes r (Step.Asks q) ⌝ }
+{
+    access_word(q)
+}
+
+pub fn ended(n: u16, k: u8) -> u64
+    ensures { λ r. ⌜ Encodes r (Step.Ends n k) ⌝ }
+{
+    end_word(n, k)
 }
 
 fn done_word(n: u16) -> u64

@@ -5,7 +5,6 @@ use irq_points::stands::stand_moved_wrote;
 use irq_transfer::wait::byte;
 use iso_out::Check;
 use iso_out::CheckNext;
-use machine::Step;
 use model::Transfer;
 use model_ops::records::wake;
 use model_ops::rings::is_on;
@@ -36,12 +35,11 @@ ghost use Rattle.model_ops.specs.Concrete.{concrete};
 ghost use Rattle.irq.specs.Continuations.{finish, afterCheck, afterDispatch};
 ghost use Rattle.irq.specs.Points.{denote};
 ghost use Rattle.irq.specs.declared.Point.the-variants as Point;
-ghost use Rattle.irq_points.specs.Stands.{Stops};
-ghost use Rattle.machine.specs.Suspended.{Stored};
+ghost use Rattle.irq_points.specs.Stands.{Stops, Pins};
 
-pub fn after_moved_wrote(s: &mut [u8; STATE_LEN], d: Dir, setup: bool) -> Step
+pub fn after_moved_wrote(s: &mut [u8; STATE_LEN], d: Dir, setup: bool) -> u64
     ensures { λ r. ⌜ ((v : ℕ) (b : List ℕ) → Stops r (now (s .exit)) b (denote (Point.MovedWrote d setup) v (view (now (s .entry)), b))) ⌝ }
-    ensures { λ r. ⌜ Stored r (now (s .exit)) ⌝ }
+    ensures { λ r. ⌜ Pins r (now (s .exit)) ⌝ }
 {
     let mut r = load_ep(s, d, 0);
     r.ready = 1;
@@ -51,18 +49,18 @@ pub fn after_moved_wrote(s: &mut [u8; STATE_LEN], d: Dir, setup: bool) -> Step
     after_transfer(s, setup)
 }
 
-pub fn after_moved_read(s: &mut [u8; STATE_LEN], d: Dir, setup: bool, v: u32) -> Step
+pub fn after_moved_read(s: &mut [u8; STATE_LEN], d: Dir, setup: bool, v: u32) -> u64
     requires { ⌜ fitsIn v 8 ≡ true ⌝ }
     ensures { λ r. ⌜ ((b : List ℕ) → Stops r (now (s .exit)) b (denote (Point.MovedRead d setup) v (view (now (s .entry)), b))) ⌝ }
-    ensures { λ r. ⌜ Stored r (now (s .exit)) ⌝ }
+    ensures { λ r. ⌜ Pins r (now (s .exit)) ⌝ }
 {
     let word = control_word::nakflip(byte(v));
     stand_moved_wrote(s, Access::Write(ctrl_of(d), 0, word as u32), d, setup)
 }
 
-fn moved_on(s: &mut [u8; STATE_LEN], d: Dir, setup: bool) -> Step
+fn moved_on(s: &mut [u8; STATE_LEN], d: Dir, setup: bool) -> u64
     ensures { λ r. ⌜ ((b : List ℕ) → Stops r (now (s .exit)) b (finish setup (run concrete (movedOn {i = true} d) (view (now (s .entry)), b)))) ⌝ }
-    ensures { λ r. ⌜ Stored r (now (s .exit)) ⌝ }
+    ensures { λ r. ⌜ Pins r (now (s .exit)) ⌝ }
 {
     let r = load_ep(s, d, 0);
     if is_on(r.armed) {
@@ -72,9 +70,9 @@ fn moved_on(s: &mut [u8; STATE_LEN], d: Dir, setup: bool) -> Step
 }
 
 // The host's token for the other direction says that a stage went through (`ep0_moved_on`).
-pub fn ep0_moved_on(s: &mut [u8; STATE_LEN], setup: bool, x: Transfer) -> Step
+pub fn ep0_moved_on(s: &mut [u8; STATE_LEN], setup: bool, x: Transfer) -> u64
     ensures { λ r. ⌜ ((b : List ℕ) → Stops r (now (s .exit)) b (finish setup (run concrete (afterCheck x) (view (now (s .entry)), b)))) ⌝ }
-    ensures { λ r. ⌜ Stored r (now (s .exit)) ⌝ }
+    ensures { λ r. ⌜ Pins r (now (s .exit)) ⌝ }
 {
     if status::endpoint(x.st) == 0 {
         let t = status::token(x.st);
@@ -97,11 +95,11 @@ fn checked(
     x: Transfer,
     iso: bool,
     n: CheckNext,
-) -> Step
+) -> u64
     requires { ⌜ checks.Linked n ⌝ }
     ensures { λ r. ⌜ Stops r (now (s .exit)) (now (buf .entry))
         (finish setup (bindOut (checks.meaning x iso n (view (now (s .entry))) (now (buf .entry))) (λ _ u. run concrete (afterCheck x) u))) ⌝ }
-    ensures { λ r. ⌜ Stored r (now (s .exit)) ⌝ }
+    ensures { λ r. ⌜ Pins r (now (s .exit)) ⌝ }
 {
     match n {
         CheckNext::Asks(q, p) => stand_check(s, q, setup, x, iso, p),
@@ -117,10 +115,10 @@ pub fn after_checking(
     iso: bool,
     p: Check,
     v: u32,
-) -> Step
+) -> u64
     requires { ⌜ checks.fitsAt p v ≡ true ⌝ }
     ensures { λ r. ⌜ Stops r (now (s .exit)) (now (buf .exit)) (denote (Point.Check setup x iso p) v (view (now (s .entry)), now (buf .entry))) ⌝ }
-    ensures { λ r. ⌜ Stored r (now (s .exit)) ⌝ }
+    ensures { λ r. ⌜ Pins r (now (s .exit)) ⌝ }
 {
     let n = iso_out::iso_out_check_resume(s, buf, x, iso, p, v);
     checked(s, buf, setup, x, iso, n)
@@ -133,9 +131,9 @@ pub fn after_dispatch(
     setup: bool,
     x: Transfer,
     iso: bool,
-) -> Step
+) -> u64
     ensures { λ r. ⌜ Stops r (now (s .exit)) (now (buf .exit)) (finish setup (run concrete (afterDispatch x iso) (view (now (s .entry)), now (buf .entry)))) ⌝ }
-    ensures { λ r. ⌜ Stored r (now (s .exit)) ⌝ }
+    ensures { λ r. ⌜ Pins r (now (s .exit)) ⌝ }
 {
     if status::is_sof(x.st) {
         return after_transfer(s, setup);

@@ -3,7 +3,6 @@ use irq_points::stands::stand_setup_released;
 use irq_points::stands::stand_setup_rx;
 use irq_points::stands::stand_setup_tx;
 use irq_points::stands::stop;
-use machine::Step;
 use model_ops::records::wake;
 use model_ops::rings::setup_word;
 use regs::Access;
@@ -31,8 +30,7 @@ ghost use Rattle.model_ops.specs.Records.{plainOf, merged, mergedGlobals};
 ghost use Rattle.irq.specs.Continuations.{resultless, nakWord, afterSetupReleased, afterSetupTx, afterTransfer};
 ghost use Rattle.irq.specs.Points.{denote};
 ghost use Rattle.irq.specs.declared.Point.the-variants as Point;
-ghost use Rattle.irq_points.specs.Stands.{Stops};
-ghost use Rattle.machine.specs.Suspended.{Stored};
+ghost use Rattle.irq_points.specs.Stands.{Stops, Pins};
 
 // NAK, DATA0.
 fn nak_word() -> u32
@@ -42,21 +40,21 @@ fn nak_word() -> u32
 }
 
 // Whatever EP0 was doing is over.
-pub fn after_transfer(s: &mut [u8; STATE_LEN], setup: bool) -> Step
+pub fn after_transfer(s: &mut [u8; STATE_LEN], setup: bool) -> u64
     ensures { λ r. ⌜ ((b : List ℕ) → Stops r (now (s .exit)) b (go (resultless (afterTransfer setup)) (view (now (s .entry))) b)) ⌝ }
-    ensures { λ r. ⌜ Stored r (now (s .exit)) ⌝ }
+    ensures { λ r. ⌜ Pins r (now (s .exit)) ⌝ }
 {
     if setup {
-        return stand_setup_rx(s, Access::Write(Reg::EpRxCtrl, 0, nak_word()));
+        return stand_setup_rx(s, nak_word());
     }
     stop(s)
 }
 
-pub fn after_setup_rx(s: &mut [u8; STATE_LEN]) -> Step
+pub fn after_setup_rx(s: &mut [u8; STATE_LEN]) -> u64
     ensures { λ r. ⌜ ((v : ℕ) (b : List ℕ) → Stops r (now (s .exit)) b (denote Point.SetupRx v (view (now (s .entry)), b))) ⌝ }
-    ensures { λ r. ⌜ Stored r (now (s .exit)) ⌝ }
+    ensures { λ r. ⌜ Pins r (now (s .exit)) ⌝ }
 {
-    stand_setup_tx(s, Access::Write(Reg::EpTxCtrl, 0, nak_word()))
+    stand_setup_tx(s, nak_word())
 }
 
 // EP0 in a direction: not ready, not armed.
@@ -99,17 +97,17 @@ fn take(s: &mut [u8; STATE_LEN], buf: &[u8])
 }
 
 // The packet is taken in the call that clears the flag.
-pub fn after_setup_tx(s: &mut [u8; STATE_LEN], buf: &[u8]) -> Step
+pub fn after_setup_tx(s: &mut [u8; STATE_LEN], buf: &[u8]) -> u64
     ensures { λ r. ⌜ ((v : ℕ) → Stops r (now (s .exit)) (now (buf .entry)) (denote Point.SetupTx v (view (now (s .entry)), now (buf .entry)))) ⌝ }
-    ensures { λ r. ⌜ Stored r (now (s .exit)) ⌝ }
+    ensures { λ r. ⌜ Pins r (now (s .exit)) ⌝ }
 {
     take(s, buf);
-    stand_setup_released(s, Access::Write(Reg::IntFg, 0, flags::SETUP_ACT))
+    stand_setup_released(s, flags::SETUP_ACT)
 }
 
-pub fn after_setup_released(s: &mut [u8; STATE_LEN]) -> Step
+pub fn after_setup_released(s: &mut [u8; STATE_LEN]) -> u64
     ensures { λ r. ⌜ ((v : ℕ) (b : List ℕ) → Stops r (now (s .exit)) b (denote Point.SetupReleased v (view (now (s .entry)), b))) ⌝ }
-    ensures { λ r. ⌜ Stored r (now (s .exit)) ⌝ }
+    ensures { λ r. ⌜ Pins r (now (s .exit)) ⌝ }
 {
     wake(s, Dir::Out, 0);
     wake(s, Dir::In, 0);

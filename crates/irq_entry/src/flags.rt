@@ -10,7 +10,6 @@ use irq_points::stands::stand_mis;
 use irq_points::stands::stand_suspend;
 use irq_transfer::wait::byte;
 use irq_transfer::wait::short;
-use machine::Step;
 use model_ops::records::wake_bus;
 use regs::Access;
 use regs::Reg;
@@ -30,96 +29,95 @@ ghost use Rattle.model_ops.specs.Concrete.{go};
 ghost use Rattle.irq.specs.Continuations.{resultless, afterFrame, afterFlags, afterBusRst, afterSuspend, afterFifo, afterHost};
 ghost use Rattle.irq.specs.Points.{denote};
 ghost use Rattle.irq.specs.declared.Point.the-variants as Point;
-ghost use Rattle.irq_points.specs.Stands.{Stops};
-ghost use Rattle.machine.specs.Suspended.{Stored};
+ghost use Rattle.irq_points.specs.Stands.{Stops, Pins};
 
-pub fn after_host(s: &mut [u8; STATE_LEN], f: u8) -> Step
+pub fn after_host(s: &mut [u8; STATE_LEN], f: u8) -> u64
     ensures { λ r. ⌜ ((b : List ℕ) → Stops r (now (s .exit)) b (go (resultless (afterHost f)) (view (now (s .entry))) b)) ⌝ }
-    ensures { λ r. ⌜ Stored r (now (s .exit)) ⌝ }
+    ensures { λ r. ⌜ Pins r (now (s .exit)) ⌝ }
 {
     let setup = flags::setup_act(f);
     if flags::transfer(f) {
-        return stand_mis(s, Access::Read(Reg::MisSt, 0), setup);
+        return stand_mis(s, setup);
     }
     after_transfer(s, setup)
 }
 
-pub fn after_fifo(s: &mut [u8; STATE_LEN], f: u8) -> Step
+pub fn after_fifo(s: &mut [u8; STATE_LEN], f: u8) -> u64
     ensures { λ r. ⌜ ((b : List ℕ) → Stops r (now (s .exit)) b (go (resultless (afterFifo f)) (view (now (s .entry))) b)) ⌝ }
-    ensures { λ r. ⌜ Stored r (now (s .exit)) ⌝ }
+    ensures { λ r. ⌜ Pins r (now (s .exit)) ⌝ }
 {
     if flags::hst_sof(f) {
-        return stand_host(s, Access::Write(Reg::IntFg, 0, flags::HST_SOF), f);
+        return stand_host(s, flags::HST_SOF, f);
     }
     after_host(s, f)
 }
 
-fn fifo(s: &mut [u8; STATE_LEN], f: u8) -> Step
+fn fifo(s: &mut [u8; STATE_LEN], f: u8) -> u64
     ensures { λ r. ⌜ ((b : List ℕ) → Stops r (now (s .exit)) b (go (resultless (afterSuspend f)) (view (now (s .entry))) b)) ⌝ }
-    ensures { λ r. ⌜ Stored r (now (s .exit)) ⌝ }
+    ensures { λ r. ⌜ Pins r (now (s .exit)) ⌝ }
 {
     if flags::fifo_ov(f) {
-        return stand_fifo(s, Access::Write(Reg::IntFg, 0, flags::FIFO_OV), f);
+        return stand_fifo(s, flags::FIFO_OV, f);
     }
     after_fifo(s, f)
 }
 
 // The bus is woken after the mask (mod.rs 647).
-pub fn after_suspend(s: &mut [u8; STATE_LEN], f: u8) -> Step
+pub fn after_suspend(s: &mut [u8; STATE_LEN], f: u8) -> u64
     ensures { λ r. ⌜ ((v : ℕ) (b : List ℕ) → Stops r (now (s .exit)) b (denote (Point.Suspend f) v (view (now (s .entry)), b))) ⌝ }
-    ensures { λ r. ⌜ Stored r (now (s .exit)) ⌝ }
+    ensures { λ r. ⌜ Pins r (now (s .exit)) ⌝ }
 {
     wake_bus(s);
     fifo(s, f)
 }
 
 // The interrupt is masked: the main thread handles it (mod.rs 644-648).
-fn suspend(s: &mut [u8; STATE_LEN], f: u8) -> Step
+fn suspend(s: &mut [u8; STATE_LEN], f: u8) -> u64
     ensures { λ r. ⌜ ((b : List ℕ) → Stops r (now (s .exit)) b (go (resultless (afterBusRst f)) (view (now (s .entry))) b)) ⌝ }
-    ensures { λ r. ⌜ Stored r (now (s .exit)) ⌝ }
+    ensures { λ r. ⌜ Pins r (now (s .exit)) ⌝ }
 {
     if flags::suspend(f) {
         let g = load_globals(s);
         let word = int_en::with_suspend(g.int_en, false);
         set_int_en(s, word);
-        return stand_suspend(s, Access::Write(Reg::IntEn, 0, word as u32), f);
+        return stand_suspend(s, word as u32, f);
     }
     fifo(s, f)
 }
 
-pub fn after_bus_rst(s: &mut [u8; STATE_LEN], f: u8) -> Step
+pub fn after_bus_rst(s: &mut [u8; STATE_LEN], f: u8) -> u64
     ensures { λ r. ⌜ ((v : ℕ) (b : List ℕ) → Stops r (now (s .exit)) b (denote (Point.BusRst f) v (view (now (s .entry)), b))) ⌝ }
-    ensures { λ r. ⌜ Stored r (now (s .exit)) ⌝ }
+    ensures { λ r. ⌜ Pins r (now (s .exit)) ⌝ }
 {
     wake_bus(s);
     suspend(s, f)
 }
 
-pub fn after_flags(s: &mut [u8; STATE_LEN], v: u32) -> Step
+pub fn after_flags(s: &mut [u8; STATE_LEN], v: u32) -> u64
     requires { ⌜ fitsIn v 8 ≡ true ⌝ }
     ensures { λ r. ⌜ ((b : List ℕ) → Stops r (now (s .exit)) b (go (resultless (afterFlags v)) (view (now (s .entry))) b)) ⌝ }
-    ensures { λ r. ⌜ Stored r (now (s .exit)) ⌝ }
+    ensures { λ r. ⌜ Pins r (now (s .exit)) ⌝ }
 {
     let f = byte(v);
     if flags::bus_rst(f) {
         let g = load_globals(s);
         let word = int_en::with_bus_rst(g.int_en, false);
         set_int_en(s, word);
-        return stand_bus_rst(s, Access::Write(Reg::IntEn, 0, word as u32), f);
+        return stand_bus_rst(s, word as u32, f);
     }
     suspend(s, f)
 }
 
 // The microframe in which the interrupt began: what it admits carries it.
-pub fn after_frame(s: &mut [u8; STATE_LEN], v: u32) -> Step
+pub fn after_frame(s: &mut [u8; STATE_LEN], v: u32) -> u64
     requires { ⌜ fitsIn v 16 ≡ true ⌝ }
     ensures { λ r. ⌜ ((b : List ℕ) → Stops r (now (s .exit)) b (go (resultless (afterFrame v)) (view (now (s .entry))) b)) ⌝ }
-    ensures { λ r. ⌜ Stored r (now (s .exit)) ⌝ }
+    ensures { λ r. ⌜ Pins r (now (s .exit)) ⌝ }
 {
     let frame = short(v);
     let i = microframe_index(Frame(frame));
     let mut g = load_globals(s);
     g.entered = i.0;
     store_globals(s, g);
-    stand_flags(s, Access::Read(Reg::IntFg, 0))
+    stand_flags(s)
 }

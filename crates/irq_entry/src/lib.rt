@@ -13,7 +13,6 @@ use irq_transfer::settle::Settle;
 use irq_transfer::settle::SettleNext;
 use irq_transfer::wait::byte;
 use irq_transfer::wait::short;
-use machine::Step;
 use model::Transfer;
 use model_ops::rings::is_on;
 use regs::Access;
@@ -46,8 +45,7 @@ ghost use Rattle.model_ops.specs.Records.{plainOf};
 ghost use Rattle.irq.specs.Continuations.{finish, naksFirst, enteredAs, afterNak, afterRelease, afterSettle};
 ghost use Rattle.irq.specs.Points.{denote};
 ghost use Rattle.irq.specs.declared.Point.the-variants as Point;
-ghost use Rattle.irq_points.specs.Stands.{Stops};
-ghost use Rattle.machine.specs.Suspended.{Stored};
+ghost use Rattle.irq_points.specs.Stands.{Stops, Pins};
 
 // `iso` (mod.rs 718-722).
 fn iso_for(st: u8, o: EpState, n: EpState) -> bool
@@ -62,22 +60,22 @@ fn iso_for(st: u8, o: EpState, n: EpState) -> bool
     }
 }
 
-fn after_settle(s: &mut [u8; STATE_LEN], setup: bool, x: Transfer) -> Step
+fn after_settle(s: &mut [u8; STATE_LEN], setup: bool, x: Transfer) -> u64
     ensures { λ r. ⌜ ((b : List ℕ) → Stops r (now (s .exit)) b (finish setup (run concrete (afterSettle x) (view (now (s .entry)), b)))) ⌝ }
-    ensures { λ r. ⌜ Stored r (now (s .exit)) ⌝ }
+    ensures { λ r. ⌜ Pins r (now (s .exit)) ⌝ }
 {
     let ep = status::endpoint(x.st);
     let o = load_ep(s, Dir::Out, ep);
     let n = load_ep(s, Dir::In, ep);
     let iso = iso_for(x.st, o, n);
-    stand_frame_no(s, Access::Read(Reg::FrameNo, 0), setup, x, iso)
+    stand_frame_no(s, setup, x, iso)
 }
 
-fn then_settle(s: &mut [u8; STATE_LEN], setup: bool, x: Transfer, n: SettleNext) -> Step
+fn then_settle(s: &mut [u8; STATE_LEN], setup: bool, x: Transfer, n: SettleNext) -> u64
     requires { ⌜ settles.Linked n ⌝ }
     ensures { λ r. ⌜ ((b : List ℕ) → Stops r (now (s .exit)) b
         (finish setup (bindOut (settles.meaning x n (view (now (s .entry))) b) (λ y u. run concrete (afterSettle y) u)))) ⌝ }
-    ensures { λ r. ⌜ Stored r (now (s .exit)) ⌝ }
+    ensures { λ r. ⌜ Pins r (now (s .exit)) ⌝ }
 {
     match n {
         SettleNext::Asks(q, p) => stand_settle(s, q, setup, x, p),
@@ -85,18 +83,18 @@ fn then_settle(s: &mut [u8; STATE_LEN], setup: bool, x: Transfer, n: SettleNext)
     }
 }
 
-pub fn after_settling(s: &mut [u8; STATE_LEN], setup: bool, x: Transfer, p: Settle, v: u32) -> Step
+pub fn after_settling(s: &mut [u8; STATE_LEN], setup: bool, x: Transfer, p: Settle, v: u32) -> u64
     requires { ⌜ settles.fitsAt p v ≡ true ⌝ }
     ensures { λ r. ⌜ ((b : List ℕ) → Stops r (now (s .exit)) b (denote (Point.Settle setup x p) v (view (now (s .entry)), b))) ⌝ }
-    ensures { λ r. ⌜ Stored r (now (s .exit)) ⌝ }
+    ensures { λ r. ⌜ Pins r (now (s .exit)) ⌝ }
 {
     let n = settle::resume(s, x, p, v);
     then_settle(s, setup, x, n)
 }
 
-pub fn after_released(s: &mut [u8; STATE_LEN], setup: bool, x: Transfer) -> Step
+pub fn after_released(s: &mut [u8; STATE_LEN], setup: bool, x: Transfer) -> u64
     ensures { λ r. ⌜ ((b : List ℕ) → Stops r (now (s .exit)) b (finish setup (run concrete (afterRelease x) (view (now (s .entry)), b)))) ⌝ }
-    ensures { λ r. ⌜ Stored r (now (s .exit)) ⌝ }
+    ensures { λ r. ⌜ Pins r (now (s .exit)) ⌝ }
 {
     let n = settle::begin(s, x);
     match n {
@@ -106,18 +104,18 @@ pub fn after_released(s: &mut [u8; STATE_LEN], setup: bool, x: Transfer) -> Step
 }
 
 // Released early: int_st and rx_len are read (mod.rs 666-667).
-fn release(s: &mut [u8; STATE_LEN], setup: bool, x: Transfer) -> Step
+fn release(s: &mut [u8; STATE_LEN], setup: bool, x: Transfer) -> u64
     ensures { λ r. ⌜ ((b : List ℕ) → Stops r (now (s .exit)) b (finish setup (run concrete (afterNak x) (view (now (s .entry)), b)))) ⌝ }
-    ensures { λ r. ⌜ Stored r (now (s .exit)) ⌝ }
+    ensures { λ r. ⌜ Pins r (now (s .exit)) ⌝ }
 {
-    stand_released(s, Access::Write(Reg::IntFg, 0, TRANSFER), setup, x)
+    stand_released(s, TRANSFER, setup, x)
 }
 
-fn then_nak(s: &mut [u8; STATE_LEN], setup: bool, x: Transfer, n: NakNext) -> Step
+fn then_nak(s: &mut [u8; STATE_LEN], setup: bool, x: Transfer, n: NakNext) -> u64
     requires { ⌜ naks.Linked n ⌝ }
     ensures { λ r. ⌜ ((b : List ℕ) → Stops r (now (s .exit)) b
         (finish setup (bindOut (naks.meaning (x .st) n (view (now (s .entry))) b) (λ _ u. run concrete (afterNak x) u)))) ⌝ }
-    ensures { λ r. ⌜ Stored r (now (s .exit)) ⌝ }
+    ensures { λ r. ⌜ Pins r (now (s .exit)) ⌝ }
 {
     match n {
         NakNext::Asks(q, p) => stand_nak(s, q, setup, x, p),
@@ -125,10 +123,10 @@ fn then_nak(s: &mut [u8; STATE_LEN], setup: bool, x: Transfer, n: NakNext) -> St
     }
 }
 
-pub fn after_naking(s: &mut [u8; STATE_LEN], setup: bool, x: Transfer, p: Nak, v: u32) -> Step
+pub fn after_naking(s: &mut [u8; STATE_LEN], setup: bool, x: Transfer, p: Nak, v: u32) -> u64
     requires { ⌜ naks.fitsAt p v ≡ true ⌝ }
     ensures { λ r. ⌜ ((b : List ℕ) → Stops r (now (s .exit)) b (denote (Point.Nak setup x p) v (view (now (s .entry)), b))) ⌝ }
-    ensures { λ r. ⌜ Stored r (now (s .exit)) ⌝ }
+    ensures { λ r. ⌜ Pins r (now (s .exit)) ⌝ }
 {
     let n = nak::nak_non_iso_resume(x.st, p, v);
     then_nak(s, setup, x, n)
@@ -159,10 +157,10 @@ fn entered(busy: bool, st: u8, len: u16) -> Transfer
     }
 }
 
-pub fn after_len(s: &mut [u8; STATE_LEN], setup: bool, busy: bool, st: u8, v: u32) -> Step
+pub fn after_len(s: &mut [u8; STATE_LEN], setup: bool, busy: bool, st: u8, v: u32) -> u64
     requires { ⌜ fitsIn v 16 ≡ true ⌝ }
     ensures { λ r. ⌜ ((b : List ℕ) → Stops r (now (s .exit)) b (denote (Point.Len setup busy st) v (view (now (s .entry)), b))) ⌝ }
-    ensures { λ r. ⌜ Stored r (now (s .exit)) ⌝ }
+    ensures { λ r. ⌜ Pins r (now (s .exit)) ⌝ }
 {
     let x = entered(busy, st, short(v));
     if naks_first(busy, st) {
@@ -176,19 +174,19 @@ pub fn after_len(s: &mut [u8; STATE_LEN], setup: bool, busy: bool, st: u8, v: u3
     }
 }
 
-pub fn after_st(s: &mut [u8; STATE_LEN], setup: bool, busy: bool, v: u32) -> Step
+pub fn after_st(s: &mut [u8; STATE_LEN], setup: bool, busy: bool, v: u32) -> u64
     requires { ⌜ fitsIn v 8 ≡ true ⌝ }
     ensures { λ r. ⌜ ((b : List ℕ) → Stops r (now (s .exit)) b (denote (Point.St setup busy) v (view (now (s .entry)), b))) ⌝ }
-    ensures { λ r. ⌜ Stored r (now (s .exit)) ⌝ }
+    ensures { λ r. ⌜ Pins r (now (s .exit)) ⌝ }
 {
-    stand_len(s, Access::Read(Reg::RxLen, 0), setup, busy, byte(v))
+    stand_len(s, setup, busy, byte(v))
 }
 
-pub fn after_mis(s: &mut [u8; STATE_LEN], setup: bool, v: u32) -> Step
+pub fn after_mis(s: &mut [u8; STATE_LEN], setup: bool, v: u32) -> u64
     requires { ⌜ fitsIn v 8 ≡ true ⌝ }
     ensures { λ r. ⌜ ((b : List ℕ) → Stops r (now (s .exit)) b (denote (Point.Mis setup) v (view (now (s .entry)), b))) ⌝ }
-    ensures { λ r. ⌜ Stored r (now (s .exit)) ⌝ }
+    ensures { λ r. ⌜ Pins r (now (s .exit)) ⌝ }
 {
     let busy = !mis_status::sie_free(byte(v));
-    stand_st(s, Access::Read(Reg::IntSt, 0), setup, busy)
+    stand_st(s, setup, busy)
 }

@@ -1,4 +1,4 @@
--- Where an interrupt's call leaves it: at a point, whose bytes are saved and whose access is the answer; or at its end
+-- Where an interrupt's call leaves it: at a point, whose bytes are saved and whose access is the answer; or at its end. An answer is its word
 use mathlib.Core.Bool.{true}
 use mathlib.Core.List.{List, []}
 use mathlib.Core.Path.{_≡_}
@@ -12,14 +12,15 @@ use Rattle.model_ops.specs.Rings.{St}
 use Rattle.model_ops.specs.Concrete.{concrete}
 use Rattle.irq.specs.declared.Point.{Point}
 use Rattle.machine.specs.declared.Suspended.the-variants as under
-use Rattle.machine.specs.declared.Step.{Step}
 use Rattle.machine.specs.declared.Step.the-variants as step
-use Rattle.machine.specs.Suspended.{encode, finish, haltsAs, machineOf, answerOf}
+use Rattle.machine.specs.Suspended.{encode, finish, haltsAs, machineOf, answerOf, SavedByAnswer, Stored}
 use Rattle.machine.specs.Goes.{Called}
+use Rattle.call_answer_word.specs.Parts.{stepOf}
+use Rattle.call_answer_word.specs.Word.{Encodes}
 
--- the access q is answered, the view stays, and all 22 bytes of what is saved are the point's
-pub record Stands (r : Step) (q : Access) (p : Point) (xs ys : List ℕ) : Type 0 where
-  pub answered : r ≡ step.Asks q
+-- the word says the access q, the view stays, and all 22 bytes of what is saved are the point's
+pub record Stands (r : ℕ) (q : Access) (p : Point) (xs ys : List ℕ) : Type 0 where
+  pub answered : Encodes r (step.Asks q)
   pub viewed : view ys ≡ view xs
   pub stored : saved ys ≡ encode (under.Interrupt p)
 
@@ -27,6 +28,13 @@ pub record Stands (r : Step) (q : Access) (p : Point) (xs ys : List ℕ) : Type 
 unfoldable pub halted : Out St ℕ → Called
 halted o = haltsAs true (bindOut o (λ n t. run concrete (finish n) t))
 
--- the call's answer and the bytes that it leaves are where the rest o stops
-pub record Stops (r : Step) (ys : List ℕ) (b : Buf) (o : Out St ℕ) : Type 0 where
-  pub there : _≡_ {A = Called} (answerOf r [] (view ys), machineOf ys b) (halted o)
+-- the answer that the call's word says and the bytes that it leaves are where the rest o stops
+pub record Stops (r : ℕ) (ys : List ℕ) (b : Buf) (o : Out St ℕ) : Type 0 where
+  pub there : _≡_ {A = Called} (answerOf (stepOf r) [] (view ys), machineOf ys b) (halted o)
+
+-- the word is its answer's, and by that answer all 22 bytes are pinned; from those before, where a refusal keeps them
+abbrev pub Pins : ℕ → List ℕ → Type 0
+Pins r ys = Encodes r (stepOf r) × Stored (stepOf r) ys
+
+abbrev pub PinsFrom : ℕ → List ℕ → List ℕ → Type 0
+PinsFrom r xs ys = Encodes r (stepOf r) × SavedByAnswer (stepOf r) xs ys

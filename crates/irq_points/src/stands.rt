@@ -1,5 +1,9 @@
 // The interrupt stands at a point, or ends: the saved record's 22 bytes are stored where the point is made, and its access is the
 // answer.
+use call_answer_word::asks;
+use call_answer_word::asks_read;
+use call_answer_word::asks_write;
+use call_answer_word::ended;
 use irq_codec::check_as;
 use irq_codec::code;
 use irq_codec::complete_as;
@@ -18,12 +22,12 @@ use iso_in::complete::Complete;
 use iso_in::late::Late;
 use iso_in::sof::Sof;
 use iso_out::Check;
-use machine::Step;
 use machine::saved::nothing;
 use machine::woken::how_many;
 use model::Transfer;
 use regs::Access;
 use regs::Dir;
+use regs::Reg;
 use state::STATE_LEN;
 use state::Saved;
 use state::store_saved;
@@ -32,109 +36,165 @@ ghost use mathlib.Core.List.{List};
 ghost use Prim.Native.Nat.{ℕ};
 ghost use Rattle.state.specs.State.{view, saved};
 ghost use Rattle.model.specs.Tree.{ends};
+ghost use Rattle.regs.specs.declared.Access.the-variants as Access;
+ghost use Rattle.regs.specs.declared.Reg.the-variants as Reg;
 ghost use Rattle.irq.specs.declared.Point.the-variants as Point;
 ghost use Rattle.machine.specs.declared.Step.the-variants as Step;
-ghost use Rattle.machine.specs.Suspended.{withTag, Stored};
-ghost use Rattle.irq_points.specs.Stands.{Stands, Stops};
+ghost use Rattle.machine.specs.Suspended.{withTag};
+ghost use Rattle.call_answer_word.specs.Word.{Encodes};
+ghost use Rattle.irq_points.specs.Stands.{Stands, Stops, Pins};
 
-// The interrupt's tag, over what is saved of a point.
-fn stand(s: &mut [u8; STATE_LEN], q: Access, p: Saved) -> Step
-    ensures { λ r. ⌜ (r ≡ Step.Asks q) × ((view (now (s .exit)) ≡ view (now (s .entry))) × (saved (now (s .exit)) ≡ withTag 6 p)) ⌝ }
+// What is saved of a point, under the interrupt's tag.
+fn store(s: &mut [u8; STATE_LEN], p: Saved)
+    ensures { λ _. ⌜ (view (now (s .exit)) ≡ view (now (s .entry))) × (saved (now (s .exit)) ≡ withTag 6 p) ⌝ }
 {
     let mut c = p;
     c.tag = 6;
     store_saved(s, c);
-    Step::Asks(q)
+}
+
+// The word of an access is made where the point is: of a register it is a number that the compiler knows.
+fn stand(s: &mut [u8; STATE_LEN], q: Access, p: Saved) -> u64
+    ensures { λ r. ⌜ Encodes r (Step.Asks q) × ((view (now (s .exit)) ≡ view (now (s .entry))) × (saved (now (s .exit)) ≡ withTag 6 p)) ⌝ }
+{
+    store(s, p);
+    asks(q)
+}
+
+fn stand_read(s: &mut [u8; STATE_LEN], register: Reg, p: Saved) -> u64
+    ensures { λ r. ⌜ Encodes r (Step.Asks (Access.Read register 0))
+        × ((view (now (s .exit)) ≡ view (now (s .entry))) × (saved (now (s .exit)) ≡ withTag 6 p)) ⌝ }
+{
+    store(s, p);
+    asks_read(register)
+}
+
+fn stand_write(s: &mut [u8; STATE_LEN], register: Reg, value: u32, p: Saved) -> u64
+    ensures { λ r. ⌜ Encodes r (Step.Asks (Access.Write register 0 value))
+        × ((view (now (s .exit)) ≡ view (now (s .entry))) × (saved (now (s .exit)) ≡ withTag 6 p)) ⌝ }
+{
+    store(s, p);
+    asks_write(register, value)
 }
 
 // Int_fg is read.
-pub fn stand_flags(s: &mut [u8; STATE_LEN], q: Access) -> Step
-    ensures { λ r. ⌜ Stands r q Point.Flags (now (s .entry)) (now (s .exit)) ⌝ }
+pub fn stand_flags(s: &mut [u8; STATE_LEN]) -> u64
+    ensures { λ r. ⌜ Stands r (Access.Read Reg.IntFg 0) Point.Flags (now (s .entry)) (now (s .exit)) ⌝ }
 {
-    stand(s, q, code(1, false, early(false, 0), 0, none(false)))
+    stand_read(
+        s,
+        Reg::IntFg,
+        code(1, false, early(false, 0), 0, none(false)),
+    )
 }
 
 // The reset interrupt is masked.
-pub fn stand_bus_rst(s: &mut [u8; STATE_LEN], q: Access, f: u8) -> Step
-    ensures { λ r. ⌜ Stands r q (Point.BusRst f) (now (s .entry)) (now (s .exit)) ⌝ }
+pub fn stand_bus_rst(s: &mut [u8; STATE_LEN], value: u32, f: u8) -> u64
+    ensures { λ r. ⌜ Stands r (Access.Write Reg.IntEn 0 value) (Point.BusRst f) (now (s .entry)) (now (s .exit)) ⌝ }
 {
-    stand(s, q, code(2, false, early(false, f), 0, none(false)))
+    stand_write(
+        s,
+        Reg::IntEn,
+        value,
+        code(2, false, early(false, f), 0, none(false)),
+    )
 }
 
 // The suspend interrupt is.
-pub fn stand_suspend(s: &mut [u8; STATE_LEN], q: Access, f: u8) -> Step
-    ensures { λ r. ⌜ Stands r q (Point.Suspend f) (now (s .entry)) (now (s .exit)) ⌝ }
+pub fn stand_suspend(s: &mut [u8; STATE_LEN], value: u32, f: u8) -> u64
+    ensures { λ r. ⌜ Stands r (Access.Write Reg.IntEn 0 value) (Point.Suspend f) (now (s .entry)) (now (s .exit)) ⌝ }
 {
-    stand(s, q, code(3, false, early(false, f), 0, none(false)))
+    stand_write(
+        s,
+        Reg::IntEn,
+        value,
+        code(3, false, early(false, f), 0, none(false)),
+    )
 }
 
 // The FIFO flag is cleared.
-pub fn stand_fifo(s: &mut [u8; STATE_LEN], q: Access, f: u8) -> Step
-    ensures { λ r. ⌜ Stands r q (Point.Fifo f) (now (s .entry)) (now (s .exit)) ⌝ }
+pub fn stand_fifo(s: &mut [u8; STATE_LEN], value: u32, f: u8) -> u64
+    ensures { λ r. ⌜ Stands r (Access.Write Reg.IntFg 0 value) (Point.Fifo f) (now (s .entry)) (now (s .exit)) ⌝ }
 {
-    stand(s, q, code(4, false, early(false, f), 0, none(false)))
+    stand_write(
+        s,
+        Reg::IntFg,
+        value,
+        code(4, false, early(false, f), 0, none(false)),
+    )
 }
 
 // The host SOF flag is.
-pub fn stand_host(s: &mut [u8; STATE_LEN], q: Access, f: u8) -> Step
-    ensures { λ r. ⌜ Stands r q (Point.Host f) (now (s .entry)) (now (s .exit)) ⌝ }
+pub fn stand_host(s: &mut [u8; STATE_LEN], value: u32, f: u8) -> u64
+    ensures { λ r. ⌜ Stands r (Access.Write Reg.IntFg 0 value) (Point.Host f) (now (s .entry)) (now (s .exit)) ⌝ }
 {
-    stand(s, q, code(5, false, early(false, f), 0, none(false)))
+    stand_write(
+        s,
+        Reg::IntFg,
+        value,
+        code(5, false, early(false, f), 0, none(false)),
+    )
 }
 
 // Mis_st is read.
-pub fn stand_mis(s: &mut [u8; STATE_LEN], q: Access, setup: bool) -> Step
-    ensures { λ r. ⌜ Stands r q (Point.Mis setup) (now (s .entry)) (now (s .exit)) ⌝ }
+pub fn stand_mis(s: &mut [u8; STATE_LEN], setup: bool) -> u64
+    ensures { λ r. ⌜ Stands r (Access.Read Reg.MisSt 0) (Point.Mis setup) (now (s .entry)) (now (s .exit)) ⌝ }
 {
-    stand(s, q, code(6, setup, early(false, 0), 0, none(false)))
+    stand_read(
+        s,
+        Reg::MisSt,
+        code(6, setup, early(false, 0), 0, none(false)),
+    )
 }
 
 // Int_st.
-pub fn stand_st(s: &mut [u8; STATE_LEN], q: Access, setup: bool, busy: bool) -> Step
-    ensures { λ r. ⌜ Stands r q (Point.St setup busy) (now (s .entry)) (now (s .exit)) ⌝ }
+pub fn stand_st(s: &mut [u8; STATE_LEN], setup: bool, busy: bool) -> u64
+    ensures { λ r. ⌜ Stands r (Access.Read Reg.IntSt 0) (Point.St setup busy) (now (s .entry)) (now (s .exit)) ⌝ }
 {
-    stand(s, q, code(7, setup, early(busy, 0), 0, none(false)))
+    stand_read(
+        s,
+        Reg::IntSt,
+        code(7, setup, early(busy, 0), 0, none(false)),
+    )
 }
 
 // Rx_len.
-pub fn stand_len(s: &mut [u8; STATE_LEN], q: Access, setup: bool, busy: bool, st: u8) -> Step
-    ensures { λ r. ⌜ Stands r q (Point.Len setup busy st) (now (s .entry)) (now (s .exit)) ⌝ }
+pub fn stand_len(s: &mut [u8; STATE_LEN], setup: bool, busy: bool, st: u8) -> u64
+    ensures { λ r. ⌜ Stands r (Access.Read Reg.RxLen 0) (Point.Len setup busy st) (now (s .entry)) (now (s .exit)) ⌝ }
 {
-    stand(s, q, code(8, setup, early(busy, st), 0, none(false)))
+    stand_read(
+        s,
+        Reg::RxLen,
+        code(8, setup, early(busy, st), 0, none(false)),
+    )
 }
 
 // NAK before the release.
-pub fn stand_nak(s: &mut [u8; STATE_LEN], q: Access, setup: bool, x: Transfer, p: Nak) -> Step
+pub fn stand_nak(s: &mut [u8; STATE_LEN], q: Access, setup: bool, x: Transfer, p: Nak) -> u64
     ensures { λ r. ⌜ Stands r q (Point.Nak setup x p) (now (s .entry)) (now (s .exit)) ⌝ }
 {
     stand(s, q, code(9, setup, x, 0, nak_as(0, p)))
 }
 
 // The transfer flag is cleared.
-pub fn stand_released(s: &mut [u8; STATE_LEN], q: Access, setup: bool, x: Transfer) -> Step
-    ensures { λ r. ⌜ Stands r q (Point.Released setup x) (now (s .entry)) (now (s .exit)) ⌝ }
+pub fn stand_released(s: &mut [u8; STATE_LEN], value: u32, setup: bool, x: Transfer) -> u64
+    ensures { λ r. ⌜ Stands r (Access.Write Reg.IntFg 0 value) (Point.Released setup x) (now (s .entry)) (now (s .exit)) ⌝ }
 {
-    stand(s, q, code(10, setup, x, 0, none(false)))
+    stand_write(s, Reg::IntFg, value, code(10, setup, x, 0, none(false)))
 }
 
 // What was on the bus is waited for.
-pub fn stand_settle(s: &mut [u8; STATE_LEN], q: Access, setup: bool, x: Transfer, p: Settle) -> Step
+pub fn stand_settle(s: &mut [u8; STATE_LEN], q: Access, setup: bool, x: Transfer, p: Settle) -> u64
     ensures { λ r. ⌜ Stands r q (Point.Settle setup x p) (now (s .entry)) (now (s .exit)) ⌝ }
 {
     stand(s, q, code(11, setup, x, 0, settle_as(p)))
 }
 
 // Frame_no is read.
-pub fn stand_frame_no(
-    s: &mut [u8; STATE_LEN],
-    q: Access,
-    setup: bool,
-    x: Transfer,
-    iso: bool,
-) -> Step
-    ensures { λ r. ⌜ Stands r q (Point.FrameNo setup x iso) (now (s .entry)) (now (s .exit)) ⌝ }
+pub fn stand_frame_no(s: &mut [u8; STATE_LEN], setup: bool, x: Transfer, iso: bool) -> u64
+    ensures { λ r. ⌜ Stands r (Access.Read Reg.FrameNo 0) (Point.FrameNo setup x iso) (now (s .entry)) (now (s .exit)) ⌝ }
 {
-    stand(s, q, code(12, setup, x, 0, none(iso)))
+    stand_read(s, Reg::FrameNo, code(12, setup, x, 0, none(iso)))
 }
 
 // A SOF that was not handled.
@@ -146,7 +206,7 @@ pub fn stand_sof(
     iso: bool,
     frame: u16,
     p: Sof,
-) -> Step
+) -> u64
     ensures { λ r. ⌜ Stands r q (Point.Sof setup x iso frame p) (now (s .entry)) (now (s .exit)) ⌝ }
 {
     stand(s, q, code(13, setup, x, frame, sof_as(iso, p)))
@@ -161,7 +221,7 @@ pub fn stand_late(
     iso: bool,
     frame: u16,
     p: Late,
-) -> Step
+) -> u64
     ensures { λ r. ⌜ Stands r q (Point.Late setup x iso frame p) (now (s .entry)) (now (s .exit)) ⌝ }
 {
     stand(s, q, code(14, setup, x, frame, late_as(iso, p)))
@@ -176,7 +236,7 @@ pub fn stand_sof_arm(
     iso: bool,
     frame: u16,
     p: Sof,
-) -> Step
+) -> u64
     ensures { λ r. ⌜ Stands r q (Point.SofArm setup x iso frame p) (now (s .entry)) (now (s .exit)) ⌝ }
 {
     stand(s, q, code(15, setup, x, frame, sof_as(iso, p)))
@@ -190,7 +250,7 @@ pub fn stand_flip(
     setup: bool,
     x: Transfer,
     iso: bool,
-) -> Step
+) -> u64
     ensures { λ r. ⌜ Stands r q (Point.Flip d setup x iso) (now (s .entry)) (now (s .exit)) ⌝ }
 {
     stand(s, q, code(16, setup, x, 0, on_dir(d, iso)))
@@ -204,7 +264,7 @@ pub fn stand_flipped(
     setup: bool,
     x: Transfer,
     iso: bool,
-) -> Step
+) -> u64
     ensures { λ r. ⌜ Stands r q (Point.Flipped d setup x iso) (now (s .entry)) (now (s .exit)) ⌝ }
 {
     stand(s, q, code(17, setup, x, 0, on_dir(d, iso)))
@@ -219,7 +279,7 @@ pub fn stand_toggled(
     x: Transfer,
     iso: bool,
     p: Toggled,
-) -> Step
+) -> u64
     ensures { λ r. ⌜ Stands r q (Point.Toggled d setup x iso p) (now (s .entry)) (now (s .exit)) ⌝ }
 {
     stand(s, q, code(18, setup, x, 0, toggled_as(d, iso, p)))
@@ -233,7 +293,7 @@ pub fn stand_completing(
     x: Transfer,
     iso: bool,
     p: Complete,
-) -> Step
+) -> u64
     ensures { λ r. ⌜ Stands r q (Point.Completing setup x iso p) (now (s .entry)) (now (s .exit)) ⌝ }
 {
     stand(s, q, code(19, setup, x, 0, complete_as(iso, 0, p)))
@@ -247,53 +307,68 @@ pub fn stand_check(
     x: Transfer,
     iso: bool,
     p: Check,
-) -> Step
+) -> u64
     ensures { λ r. ⌜ Stands r q (Point.Check setup x iso p) (now (s .entry)) (now (s .exit)) ⌝ }
 {
     stand(s, q, code(20, setup, x, 0, check_as(iso, p)))
 }
 
 // EP0's control word is read, for its hidden stage.
-pub fn stand_moved_read(s: &mut [u8; STATE_LEN], q: Access, d: Dir, setup: bool) -> Step
+pub fn stand_moved_read(s: &mut [u8; STATE_LEN], q: Access, d: Dir, setup: bool) -> u64
     ensures { λ r. ⌜ Stands r q (Point.MovedRead d setup) (now (s .entry)) (now (s .exit)) ⌝ }
 {
     stand(s, q, code(21, setup, early(false, 0), 0, on_dir(d, false)))
 }
 
 // It answers NAK.
-pub fn stand_moved_wrote(s: &mut [u8; STATE_LEN], q: Access, d: Dir, setup: bool) -> Step
+pub fn stand_moved_wrote(s: &mut [u8; STATE_LEN], q: Access, d: Dir, setup: bool) -> u64
     ensures { λ r. ⌜ Stands r q (Point.MovedWrote d setup) (now (s .entry)) (now (s .exit)) ⌝ }
 {
     stand(s, q, code(22, setup, early(false, 0), 0, on_dir(d, false)))
 }
 
 // EP0's OUT answers NAK.
-pub fn stand_setup_rx(s: &mut [u8; STATE_LEN], q: Access) -> Step
-    ensures { λ r. ⌜ Stands r q Point.SetupRx (now (s .entry)) (now (s .exit)) ⌝ }
+pub fn stand_setup_rx(s: &mut [u8; STATE_LEN], value: u32) -> u64
+    ensures { λ r. ⌜ Stands r (Access.Write Reg.EpRxCtrl 0 value) Point.SetupRx (now (s .entry)) (now (s .exit)) ⌝ }
 {
-    stand(s, q, code(23, false, early(false, 0), 0, none(false)))
+    stand_write(
+        s,
+        Reg::EpRxCtrl,
+        value,
+        code(23, false, early(false, 0), 0, none(false)),
+    )
 }
 
 // And its IN.
-pub fn stand_setup_tx(s: &mut [u8; STATE_LEN], q: Access) -> Step
-    ensures { λ r. ⌜ Stands r q Point.SetupTx (now (s .entry)) (now (s .exit)) ⌝ }
+pub fn stand_setup_tx(s: &mut [u8; STATE_LEN], value: u32) -> u64
+    ensures { λ r. ⌜ Stands r (Access.Write Reg.EpTxCtrl 0 value) Point.SetupTx (now (s .entry)) (now (s .exit)) ⌝ }
 {
-    stand(s, q, code(24, false, early(false, 0), 0, none(false)))
+    stand_write(
+        s,
+        Reg::EpTxCtrl,
+        value,
+        code(24, false, early(false, 0), 0, none(false)),
+    )
 }
 
 // The setup flag is cleared.
-pub fn stand_setup_released(s: &mut [u8; STATE_LEN], q: Access) -> Step
-    ensures { λ r. ⌜ Stands r q Point.SetupReleased (now (s .entry)) (now (s .exit)) ⌝ }
+pub fn stand_setup_released(s: &mut [u8; STATE_LEN], value: u32) -> u64
+    ensures { λ r. ⌜ Stands r (Access.Write Reg.IntFg 0 value) Point.SetupReleased (now (s .entry)) (now (s .exit)) ⌝ }
 {
-    stand(s, q, code(25, false, early(false, 0), 0, none(false)))
+    stand_write(
+        s,
+        Reg::IntFg,
+        value,
+        code(25, false, early(false, 0), 0, none(false)),
+    )
 }
 
 // The interrupt has ended: nothing is under way, and its wake-ups are answered.
-pub fn stop(s: &mut [u8; STATE_LEN]) -> Step
+pub fn stop(s: &mut [u8; STATE_LEN]) -> u64
     ensures { λ r. ⌜ ((b : List ℕ) → Stops r (now (s .exit)) b (ends 0 (view (now (s .entry)), b))) ⌝ }
-    ensures { λ r. ⌜ Stored r (now (s .exit)) ⌝ }
+    ensures { λ r. ⌜ Pins r (now (s .exit)) ⌝ }
 {
     store_saved(s, nothing());
     let k = how_many(s);
-    Step::Ends(0, k)
+    ended(0, k)
 }

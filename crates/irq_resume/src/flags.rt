@@ -1,4 +1,5 @@
 // The microframe, then the flags but the setup's (mod.rs 634-655).
+use call_answer_word::ROW_16;
 use irq_entry::flags::after_bus_rst;
 use irq_entry::flags::after_fifo;
 use irq_entry::flags::after_flags;
@@ -6,7 +7,6 @@ use irq_entry::flags::after_frame;
 use irq_entry::flags::after_host;
 use irq_entry::flags::after_suspend;
 use irq_points::loads::st_byte;
-use machine::Step;
 use regs::registers::fits;
 use state::STATE_LEN;
 ghost use mathlib.Core.Path.{_≡_};
@@ -15,85 +15,87 @@ ghost use Prim.Native.Nat.{ℕ};
 ghost use Rattle.state.specs.State.{view, saved};
 ghost use Rattle.irq.specs.declared.Point.the-variants as Point;
 ghost use Rattle.machine.specs.declared.Suspended.the-variants as Under;
-ghost use Rattle.machine.specs.Suspended.{decode, machineOf, resumed, answerOf, SavedByAnswer};
+ghost use Rattle.machine.specs.Suspended.{decode, machineOf, resumed, answerOf};
+ghost use Rattle.call_answer_word.specs.Parts.{stepOf};
+ghost use Rattle.irq_points.specs.Stands.{PinsFrom};
 
 // frame_no, whose microframe index what the interrupt admits carries.
-pub fn resume_frame(s: &mut [u8; STATE_LEN], v: u32) -> Step
+pub fn resume_frame(s: &mut [u8; STATE_LEN], v: u32) -> u64
     requires { ⌜ decode (saved (now s)) ≡ Under.Interrupt Point.Frame ⌝ }
     ensures { λ r. ⌜ ((b : List ℕ) → (
-      answerOf r [] (view (now (s .exit))),
+      answerOf (stepOf r) [] (view (now (s .exit))),
       machineOf (now (s .exit)) b,
     ) ≡ resumed v (decode (saved (now (s .entry)))) (view (now (s .entry))) b) ⌝ }
-    ensures { λ r. ⌜ SavedByAnswer r (now (s .entry)) (now (s .exit)) ⌝ }
+    ensures { λ r. ⌜ PinsFrom r (now (s .entry)) (now (s .exit)) ⌝ }
 {
     if fits(v, 16) {
         return after_frame(s, v);
     }
-    Step::Refused(16)
+    ROW_16
 }
 
 // int_fg (mod.rs 637).
-pub fn resume_flags(s: &mut [u8; STATE_LEN], v: u32) -> Step
+pub fn resume_flags(s: &mut [u8; STATE_LEN], v: u32) -> u64
     requires { ⌜ decode (saved (now s)) ≡ Under.Interrupt Point.Flags ⌝ }
     ensures { λ r. ⌜ ((b : List ℕ) → (
-      answerOf r [] (view (now (s .exit))),
+      answerOf (stepOf r) [] (view (now (s .exit))),
       machineOf (now (s .exit)) b,
     ) ≡ resumed v (decode (saved (now (s .entry)))) (view (now (s .entry))) b) ⌝ }
-    ensures { λ r. ⌜ SavedByAnswer r (now (s .entry)) (now (s .exit)) ⌝ }
+    ensures { λ r. ⌜ PinsFrom r (now (s .entry)) (now (s .exit)) ⌝ }
 {
     if fits(v, 6) {
         return after_flags(s, v);
     }
-    Step::Refused(16)
+    ROW_16
 }
 
 // the reset interrupt is masked (mod.rs 640-643).
-pub fn resume_bus_rst(s: &mut [u8; STATE_LEN]) -> Step
+pub fn resume_bus_rst(s: &mut [u8; STATE_LEN]) -> u64
     requires { ⌜ decode (saved (now s)) ≡ Under.Interrupt (Point.BusRst ((saved (now s)) .st)) ⌝ }
     ensures { λ r. ⌜ ((v : ℕ) (b : List ℕ) → (
-      answerOf r [] (view (now (s .exit))),
+      answerOf (stepOf r) [] (view (now (s .exit))),
       machineOf (now (s .exit)) b,
     ) ≡ resumed v (decode (saved (now (s .entry)))) (view (now (s .entry))) b) ⌝ }
-    ensures { λ r. ⌜ SavedByAnswer r (now (s .entry)) (now (s .exit)) ⌝ }
+    ensures { λ r. ⌜ PinsFrom r (now (s .entry)) (now (s .exit)) ⌝ }
 {
     let f = st_byte(s);
     after_bus_rst(s, f)
 }
 
 // the suspend interrupt is (mod.rs 644-648).
-pub fn resume_suspend(s: &mut [u8; STATE_LEN]) -> Step
+pub fn resume_suspend(s: &mut [u8; STATE_LEN]) -> u64
     requires { ⌜ decode (saved (now s)) ≡ Under.Interrupt (Point.Suspend ((saved (now s)) .st)) ⌝ }
     ensures { λ r. ⌜ ((v : ℕ) (b : List ℕ) → (
-      answerOf r [] (view (now (s .exit))),
+      answerOf (stepOf r) [] (view (now (s .exit))),
       machineOf (now (s .exit)) b,
     ) ≡ resumed v (decode (saved (now (s .entry)))) (view (now (s .entry))) b) ⌝ }
-    ensures { λ r. ⌜ SavedByAnswer r (now (s .entry)) (now (s .exit)) ⌝ }
+    ensures { λ r. ⌜ PinsFrom r (now (s .entry)) (now (s .exit)) ⌝ }
 {
     let f = st_byte(s);
     after_suspend(s, f)
 }
 
 // the FIFO flag is cleared (mod.rs 649-651).
-pub fn resume_fifo(s: &mut [u8; STATE_LEN]) -> Step
+pub fn resume_fifo(s: &mut [u8; STATE_LEN]) -> u64
     requires { ⌜ decode (saved (now s)) ≡ Under.Interrupt (Point.Fifo ((saved (now s)) .st)) ⌝ }
     ensures { λ r. ⌜ ((v : ℕ) (b : List ℕ) → (
-      answerOf r [] (view (now (s .exit))),
+      answerOf (stepOf r) [] (view (now (s .exit))),
       machineOf (now (s .exit)) b,
     ) ≡ resumed v (decode (saved (now (s .entry)))) (view (now (s .entry))) b) ⌝ }
-    ensures { λ r. ⌜ SavedByAnswer r (now (s .entry)) (now (s .exit)) ⌝ }
+    ensures { λ r. ⌜ PinsFrom r (now (s .entry)) (now (s .exit)) ⌝ }
 {
     let f = st_byte(s);
     after_fifo(s, f)
 }
 
 // the host SOF flag is (mod.rs 652-655).
-pub fn resume_host(s: &mut [u8; STATE_LEN]) -> Step
+pub fn resume_host(s: &mut [u8; STATE_LEN]) -> u64
     requires { ⌜ decode (saved (now s)) ≡ Under.Interrupt (Point.Host ((saved (now s)) .st)) ⌝ }
     ensures { λ r. ⌜ ((v : ℕ) (b : List ℕ) → (
-      answerOf r [] (view (now (s .exit))),
+      answerOf (stepOf r) [] (view (now (s .exit))),
       machineOf (now (s .exit)) b,
     ) ≡ resumed v (decode (saved (now (s .entry)))) (view (now (s .entry))) b) ⌝ }
-    ensures { λ r. ⌜ SavedByAnswer r (now (s .entry)) (now (s .exit)) ⌝ }
+    ensures { λ r. ⌜ PinsFrom r (now (s .entry)) (now (s .exit)) ⌝ }
 {
     let f = st_byte(s);
     after_host(s, f)

@@ -1,7 +1,6 @@
 // The frame is read, and what was on the bus is its own (mod.rs 724-728).
 use crate::serving::serve;
 use irq_transfer::wait::short;
-use machine::Step;
 use model::Transfer;
 use regs::status;
 use state::STATE_LEN;
@@ -13,8 +12,7 @@ ghost use Rattle.state.specs.State.{view};
 ghost use Rattle.model.specs.Handler as script;
 ghost use Rattle.irq.specs.Points.{denote};
 ghost use Rattle.irq.specs.declared.Point.the-variants as Point;
-ghost use Rattle.irq_points.specs.Stands.{Stops};
-ghost use Rattle.machine.specs.Suspended.{Stored};
+ghost use Rattle.irq_points.specs.Stands.{Stops, Pins};
 
 // With this microframe's SOF handled, an isochronous IN's entry is its own (mod.rs 724-728).
 fn own_in(x: Transfer, iso: bool, sof: u16, frame: u16) -> bool
@@ -54,10 +52,10 @@ pub fn after_frame_no(
     x: Transfer,
     iso: bool,
     v: u32,
-) -> Step
+) -> u64
     requires { ⌜ fitsIn v 16 ≡ true ⌝ }
     ensures { λ r. ⌜ Stops r (now (s .exit)) (now (buf .exit)) (denote (Point.FrameNo setup x iso) v (view (now (s .entry)), now (buf .entry))) ⌝ }
-    ensures { λ r. ⌜ Stored r (now (s .exit)) ⌝ }
+    ensures { λ r. ⌜ Pins r (now (s .exit)) ⌝ }
 {
     let frame = short(v);
     let g = load_globals(s);

@@ -9,7 +9,6 @@ use iso_in::late::LateNext;
 use iso_in::sof;
 use iso_in::sof::Sof;
 use iso_in::sof::SofNext;
-use machine::Step;
 use model::Transfer;
 use regs::status;
 use state::STATE_LEN;
@@ -26,8 +25,7 @@ ghost use Rattle.model_ops.specs.Concrete.{concrete};
 ghost use Rattle.irq.specs.Continuations.{finish, sofDue, afterLate, afterSof, serving};
 ghost use Rattle.irq.specs.Points.{denote};
 ghost use Rattle.irq.specs.declared.Point.the-variants as Point;
-ghost use Rattle.irq_points.specs.Stands.{Stops};
-ghost use Rattle.machine.specs.Suspended.{Stored};
+ghost use Rattle.irq_points.specs.Stands.{Stops, Pins};
 
 // A transaction that is still on the bus is left to its own entry (mod.rs 748).
 fn after_late(
@@ -37,12 +35,12 @@ fn after_late(
     x: Transfer,
     iso: bool,
     frame: u16,
-) -> Step
+) -> u64
     ensures { λ r. ⌜ Stops r (now (s .exit)) (now (buf .exit)) (finish setup (run concrete (afterLate x iso frame) (
       view (now (s .entry)),
       now (buf .entry),
     ))) ⌝ }
-    ensures { λ r. ⌜ Stored r (now (s .exit)) ⌝ }
+    ensures { λ r. ⌜ Pins r (now (s .exit)) ⌝ }
 {
     if x.busy {
         return after_dispatch(s, buf, setup, x, iso);
@@ -58,11 +56,11 @@ fn then_late(
     iso: bool,
     frame: u16,
     n: LateNext,
-) -> Step
+) -> u64
     requires { ⌜ lates.Linked n ⌝ }
     ensures { λ r. ⌜ Stops r (now (s .exit)) (now (buf .exit)) (finish setup
         (bindOut (lates.meaning frame n (view (now (s .entry))) (now (buf .entry))) (λ _ u. run concrete (afterLate x iso frame) u))) ⌝ }
-    ensures { λ r. ⌜ Stored r (now (s .exit)) ⌝ }
+    ensures { λ r. ⌜ Pins r (now (s .exit)) ⌝ }
 {
     match n {
         LateNext::Asks(q, p) => stand_late(s, q, setup, x, iso, frame, p),
@@ -78,12 +76,12 @@ pub fn after_completions(
     iso: bool,
     frame: u16,
     p: Late,
-) -> Step
+) -> u64
     ensures { λ r. ⌜ ((v : ℕ) → Stops r (now (s .exit)) (now (buf .exit)) (denote (Point.Late setup x iso frame p) v (
       view (now (s .entry)),
       now (buf .entry),
     ))) ⌝ }
-    ensures { λ r. ⌜ Stored r (now (s .exit)) ⌝ }
+    ensures { λ r. ⌜ Pins r (now (s .exit)) ⌝ }
 {
     let n = late::resume(s, frame, p);
     then_late(s, buf, setup, x, iso, frame, n)
@@ -97,12 +95,12 @@ fn after_sof(
     x: Transfer,
     iso: bool,
     frame: u16,
-) -> Step
+) -> u64
     ensures { λ r. ⌜ Stops r (now (s .exit)) (now (buf .exit)) (finish setup (run concrete (afterSof x iso frame) (
       view (now (s .entry)),
       now (buf .entry),
     ))) ⌝ }
-    ensures { λ r. ⌜ Stored r (now (s .exit)) ⌝ }
+    ensures { λ r. ⌜ Pins r (now (s .exit)) ⌝ }
 {
     if x.late {
         let n = late::begin(s, frame);
@@ -119,11 +117,11 @@ fn then_sof(
     iso: bool,
     frame: u16,
     n: SofNext,
-) -> Step
+) -> u64
     requires { ⌜ sofs.Linked n ⌝ }
     ensures { λ r. ⌜ Stops r (now (s .exit)) (now (buf .exit))
         (finish setup (bindOut (sofs.meaning frame n (view (now (s .entry))) (now (buf .entry))) (λ _ u. run concrete (afterSof x iso frame) u))) ⌝ }
-    ensures { λ r. ⌜ Stored r (now (s .exit)) ⌝ }
+    ensures { λ r. ⌜ Pins r (now (s .exit)) ⌝ }
 {
     match n {
         SofNext::Asks(q, p) => stand_sof(s, q, setup, x, iso, frame, p),
@@ -140,10 +138,10 @@ pub fn after_on_sof(
     frame: u16,
     p: Sof,
     v: u32,
-) -> Step
+) -> u64
     requires { ⌜ sofs.fitsAt p v ≡ true ⌝ }
     ensures { λ r. ⌜ Stops r (now (s .exit)) (now (buf .exit)) (denote (Point.Sof setup x iso frame p) v (view (now (s .entry)), now (buf .entry))) ⌝ }
-    ensures { λ r. ⌜ Stored r (now (s .exit)) ⌝ }
+    ensures { λ r. ⌜ Pins r (now (s .exit)) ⌝ }
 {
     let n = sof::on_sof_resume(s, frame, p, v);
     then_sof(s, buf, setup, x, iso, frame, n)
@@ -166,9 +164,9 @@ pub fn serve(
     x: Transfer,
     iso: bool,
     frame: u16,
-) -> Step
+) -> u64
     ensures { λ r. ⌜ Stops r (now (s .exit)) (now (buf .exit)) (finish setup (run concrete (serving x iso frame) (view (now (s .entry)), now (buf .entry)))) ⌝ }
-    ensures { λ r. ⌜ Stored r (now (s .exit)) ⌝ }
+    ensures { λ r. ⌜ Pins r (now (s .exit)) ⌝ }
 {
     let g = load_globals(s);
     if sof_due(x, g.sof_frame, frame) {

@@ -18,7 +18,6 @@ use iso_in::first_in_frame;
 use iso_in::sof;
 use iso_in::sof::Sof;
 use iso_in::sof::SofNext;
-use machine::Step;
 use model::Transfer;
 use model_ops::records::wake;
 use regs::Access;
@@ -49,8 +48,7 @@ ghost use Rattle.model_ops.specs.Concrete.{concrete, go};
 ghost use Rattle.irq.specs.Continuations.{thenCheck, flipDone, passed, afterToggled};
 ghost use Rattle.irq.specs.Points.{denote};
 ghost use Rattle.irq.specs.declared.Point.the-variants as Point;
-ghost use Rattle.irq_points.specs.Stands.{Stops};
-ghost use Rattle.machine.specs.Suspended.{Stored};
+ghost use Rattle.irq_points.specs.Stands.{Stops, Pins};
 
 // A packet arrived (mod.rs 767-770).
 fn received(s: &mut [u8; STATE_LEN], ep: u8, len: u16)
@@ -108,12 +106,12 @@ pub fn after_flipped(
     setup: bool,
     x: Transfer,
     iso: bool,
-) -> Step
+) -> u64
     ensures { λ r. ⌜ ((v : ℕ) → Stops r (now (s .exit)) (now (buf .exit)) (denote (Point.Flipped d setup x iso) v (
       view (now (s .entry)),
       now (buf .entry),
     ))) ⌝ }
-    ensures { λ r. ⌜ Stored r (now (s .exit)) ⌝ }
+    ensures { λ r. ⌜ Pins r (now (s .exit)) ⌝ }
 {
     flip_done(s, d, x.len);
     after_dispatch(s, buf, setup, x, iso)
@@ -126,10 +124,10 @@ pub fn after_flip(
     x: Transfer,
     iso: bool,
     v: u32,
-) -> Step
+) -> u64
     requires { ⌜ fitsIn v 8 ≡ true ⌝ }
     ensures { λ r. ⌜ ((b : List ℕ) → Stops r (now (s .exit)) b (denote (Point.Flip d setup x iso) v (view (now (s .entry)), b))) ⌝ }
-    ensures { λ r. ⌜ Stored r (now (s .exit)) ⌝ }
+    ensures { λ r. ⌜ Pins r (now (s .exit)) ⌝ }
 {
     let word = control_word::flip(byte(v));
     stand_flipped(
@@ -151,10 +149,10 @@ fn after_passing(
     x: Transfer,
     iso: bool,
     b: bool,
-) -> Step
+) -> u64
     ensures { λ r. ⌜ Stops r (now (s .exit)) (now (buf .exit))
         (thenCheck setup x iso (run concrete (afterToggled d x b) (view (now (s .entry)), now (buf .entry)))) ⌝ }
-    ensures { λ r. ⌜ Stored r (now (s .exit)) ⌝ }
+    ensures { λ r. ⌜ Pins r (now (s .exit)) ⌝ }
 {
     if b {
         passed(s, d, status::endpoint(x.st), x.len);
@@ -172,11 +170,11 @@ fn then_toggled(
     x: Transfer,
     iso: bool,
     n: ToggledNext,
-) -> Step
+) -> u64
     requires { ⌜ toggles.Linked n ⌝ }
     ensures { λ r. ⌜ Stops r (now (s .exit)) (now (buf .exit)) (thenCheck setup x iso
         (bindOut (toggles.meaning d (endpoint (x .st)) n (view (now (s .entry))) (now (buf .entry))) (λ b u. run concrete (afterToggled d x b) u))) ⌝ }
-    ensures { λ r. ⌜ Stored r (now (s .exit)) ⌝ }
+    ensures { λ r. ⌜ Pins r (now (s .exit)) ⌝ }
 {
     match n {
         ToggledNext::Asks(q, p) => stand_toggled(s, q, d, setup, x, iso, p),
@@ -193,10 +191,10 @@ pub fn after_toggled(
     iso: bool,
     p: Toggled,
     v: u32,
-) -> Step
+) -> u64
     requires { ⌜ toggles.fitsAt p v ≡ true ⌝ }
     ensures { λ r. ⌜ Stops r (now (s .exit)) (now (buf .exit)) (denote (Point.Toggled d setup x iso p) v (view (now (s .entry)), now (buf .entry))) ⌝ }
-    ensures { λ r. ⌜ Stored r (now (s .exit)) ⌝ }
+    ensures { λ r. ⌜ Pins r (now (s .exit)) ⌝ }
 {
     let n = toggled::resume(s, d, status::endpoint(x.st), p, v);
     then_toggled(s, buf, d, setup, x, iso, n)
@@ -210,12 +208,12 @@ fn toggled_arm(
     setup: bool,
     x: Transfer,
     iso: bool,
-) -> Step
+) -> u64
     ensures { λ r. ⌜ Stops r (now (s .exit)) (now (buf .exit)) (thenCheck setup x iso (bindOut (run concrete (script.toggled {i = true} d (endpoint (x .st))) (
       view (now (s .entry)),
       now (buf .entry),
     )) (λ b u. run concrete (afterToggled d x b) u))) ⌝ }
-    ensures { λ r. ⌜ Stored r (now (s .exit)) ⌝ }
+    ensures { λ r. ⌜ Pins r (now (s .exit)) ⌝ }
 {
     let n = toggled::begin(d, status::endpoint(x.st));
     match n {
@@ -225,12 +223,12 @@ fn toggled_arm(
 }
 
 // The arms of OUT (mod.rs 755-771).
-fn out_arm(s: &mut [u8; STATE_LEN], buf: &mut [u8], setup: bool, x: Transfer, iso: bool) -> Step
+fn out_arm(s: &mut [u8; STATE_LEN], buf: &mut [u8], setup: bool, x: Transfer, iso: bool) -> u64
     ensures { λ r. ⌜ Stops r (now (s .exit)) (now (buf .exit)) (thenCheck setup x iso (run concrete (script.outArm {i = true} x iso) (
       view (now (s .entry)),
       now (buf .entry),
     ))) ⌝ }
-    ensures { λ r. ⌜ Stored r (now (s .exit)) ⌝ }
+    ensures { λ r. ⌜ Pins r (now (s .exit)) ⌝ }
 {
     if iso {
         return after_dispatch(s, buf, setup, x, iso);
@@ -251,10 +249,10 @@ fn then_complete(
     x: Transfer,
     iso: bool,
     n: CompleteNext,
-) -> Step
+) -> u64
     requires { ⌜ completes.Linked n ⌝ }
     ensures { λ r. ⌜ Stops r (now (s .exit)) (now (buf .exit)) (thenCheck setup x iso (completes.meaning n (view (now (s .entry))) (now (buf .entry)))) ⌝ }
-    ensures { λ r. ⌜ Stored r (now (s .exit)) ⌝ }
+    ensures { λ r. ⌜ Pins r (now (s .exit)) ⌝ }
 {
     match n {
         CompleteNext::Asks(q, p) => stand_completing(s, q, setup, x, iso, p),
@@ -269,12 +267,12 @@ pub fn after_completing(
     x: Transfer,
     iso: bool,
     p: Complete,
-) -> Step
+) -> u64
     ensures { λ r. ⌜ ((v : ℕ) → Stops r (now (s .exit)) (now (buf .exit)) (denote (Point.Completing setup x iso p) v (
       view (now (s .entry)),
       now (buf .entry),
     ))) ⌝ }
-    ensures { λ r. ⌜ Stored r (now (s .exit)) ⌝ }
+    ensures { λ r. ⌜ Pins r (now (s .exit)) ⌝ }
 {
     let n = complete::iso_in_complete_resume(s, p);
     then_complete(s, buf, setup, x, iso, n)
@@ -288,10 +286,10 @@ fn iso_in_arm(
     x: Transfer,
     iso: bool,
     frame: u16,
-) -> Step
+) -> u64
     ensures { λ r. ⌜ Stops r (now (s .exit)) (now (buf .exit))
         (thenCheck setup x iso (run concrete (script.isoInArm {i = true} (endpoint (x .st)) frame) (view (now (s .entry)), now (buf .entry)))) ⌝ }
-    ensures { λ r. ⌜ Stored r (now (s .exit)) ⌝ }
+    ensures { λ r. ⌜ Pins r (now (s .exit)) ⌝ }
 {
     let ep = status::endpoint(x.st);
     let g = load_globals(s);
@@ -317,12 +315,12 @@ fn in_arm(
     x: Transfer,
     iso: bool,
     frame: u16,
-) -> Step
+) -> u64
     ensures { λ r. ⌜ Stops r (now (s .exit)) (now (buf .exit)) (thenCheck setup x iso (run concrete (script.inArm {i = true} x iso frame) (
       view (now (s .entry)),
       now (buf .entry),
     ))) ⌝ }
-    ensures { λ r. ⌜ Stored r (now (s .exit)) ⌝ }
+    ensures { λ r. ⌜ Pins r (now (s .exit)) ⌝ }
 {
     if iso {
         return iso_in_arm(s, buf, setup, x, iso, frame);
@@ -341,10 +339,10 @@ fn then_sof_arm(
     iso: bool,
     frame: u16,
     n: SofNext,
-) -> Step
+) -> u64
     requires { ⌜ sofs.Linked n ⌝ }
     ensures { λ r. ⌜ Stops r (now (s .exit)) (now (buf .exit)) (thenCheck setup x iso (sofs.meaning frame n (view (now (s .entry))) (now (buf .entry)))) ⌝ }
-    ensures { λ r. ⌜ Stored r (now (s .exit)) ⌝ }
+    ensures { λ r. ⌜ Pins r (now (s .exit)) ⌝ }
 {
     match n {
         SofNext::Asks(q, p) => stand_sof_arm(s, q, setup, x, iso, frame, p),
@@ -366,21 +364,21 @@ pub fn after_sof_arm(
     frame: u16,
     p: Sof,
     v: u32,
-) -> Step
+) -> u64
     requires { ⌜ sofs.fitsAt p v ≡ true ⌝ }
     ensures { λ r. ⌜ Stops r (now (s .exit)) (now (buf .exit)) (denote (Point.SofArm setup x iso frame p) v (view (now (s .entry)), now (buf .entry))) ⌝ }
-    ensures { λ r. ⌜ Stored r (now (s .exit)) ⌝ }
+    ensures { λ r. ⌜ Pins r (now (s .exit)) ⌝ }
 {
     let n = sof::on_sof_resume(s, frame, p, v);
     then_sof_arm(s, buf, setup, x, iso, frame, n)
 }
 
 // SOF's own (mod.rs 750-754), after which nothing of the transfer is left.
-fn sof_arm(s: &mut [u8; STATE_LEN], setup: bool, x: Transfer, iso: bool, frame: u16) -> Step
+fn sof_arm(s: &mut [u8; STATE_LEN], setup: bool, x: Transfer, iso: bool, frame: u16) -> u64
     requires { ⌜ isSof (x .st) ≡ true ⌝ }
     ensures { λ r. ⌜ ((b : List ℕ) → Stops r (now (s .exit)) b
         (thenCheck setup x iso (run concrete (script.sofArm {i = true} frame) (view (now (s .entry)), b)))) ⌝ }
-    ensures { λ r. ⌜ Stored r (now (s .exit)) ⌝ }
+    ensures { λ r. ⌜ Pins r (now (s .exit)) ⌝ }
 {
     let g = load_globals(s);
     if g.sof_frame == frame {
@@ -400,10 +398,10 @@ pub fn dispatch(
     x: Transfer,
     iso: bool,
     frame: u16,
-) -> Step
+) -> u64
     ensures { λ r. ⌜ Stops r (now (s .exit)) (now (buf .exit)) (thenCheck setup x iso
         (run concrete (script.dispatch {i = true} (token (x .st)) x iso frame) (view (now (s .entry)), now (buf .entry)))) ⌝ }
-    ensures { λ r. ⌜ Stored r (now (s .exit)) ⌝ }
+    ensures { λ r. ⌜ Pins r (now (s .exit)) ⌝ }
 {
     let t = status::token(x.st);
     match t {

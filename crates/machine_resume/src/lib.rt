@@ -1,4 +1,5 @@
-// Continue: the operation under way goes on at its point, with the number brought.
+// Continue: the operation under way goes on at its point, with the number brought. An interrupt answers its word.
+use call_answer_word::ROW_1;
 use irq_points::loads::site_byte;
 use irq_resume::entry::resume_len;
 use irq_resume::entry::resume_mis;
@@ -41,15 +42,18 @@ ghost use Prim.Native.Nat.{ℕ};
 ghost use Rattle.state.specs.State.{view, saved};
 ghost use Rattle.model.specs.Machine.{go};
 ghost use Rattle.machine.specs.Suspended.{decode, machineOf, drive, resumed, answerOf, lentOr, BufferUnchangedOnRow1, SavedByAnswer};
+ghost use Rattle.call_answer_word.specs.Parts.{stepOf};
+ghost use Rattle.irq_points.specs.Stands.{PinsFrom};
 
-// Goes on at an interrupt's point: the one dispatch on what is saved.
-fn resume_interrupt(s: &mut [u8; STATE_LEN], slots: &mut [u8], v: u32) -> Step
+// Goes on at an interrupt's point: the one dispatch on what is saved. Each arm is a call and nothing after it, and answers
+// its own word.
+fn resume_interrupt(s: &mut [u8; STATE_LEN], slots: &mut [u8], v: u32) -> u64
     requires { ⌜ saved (now s) .tag ≡ 6 ⌝ }
     ensures { λ r. ⌜ (
-      answerOf r [] (view (now (s .exit))),
+      answerOf (stepOf r) [] (view (now (s .exit))),
       machineOf (now (s .exit)) (now (slots .exit)),
     ) ≡ resumed v (decode (saved (now (s .entry)))) (view (now (s .entry))) (now (slots .entry)) ⌝ }
-    ensures { λ r. ⌜ SavedByAnswer r (now (s .entry)) (now (s .exit)) ⌝ }
+    ensures { λ r. ⌜ PinsFrom r (now (s .entry)) (now (s .exit)) ⌝ }
 {
     let site = site_byte(s);
     match site {
@@ -102,19 +106,19 @@ fn resume_at(s: &mut [u8; STATE_LEN], slots: &mut [u8], v: u32) -> Step
 }
 
 // Goes on with the interrupt under way, with the number brought; the slots are as long as the driver's buffers.
-pub fn interrupt(s: &mut [u8; STATE_LEN], slots: &mut [u8], v: u32) -> Step
+pub fn interrupt(s: &mut [u8; STATE_LEN], slots: &mut [u8], v: u32) -> u64
     requires { ⌜ saved (now s) .tag ≡ 6 ⌝ }
     ensures { λ r. ⌜ ((a : List ℕ) → (
-      answerOf r [] (view (now (s .exit))),
+      answerOf (stepOf r) [] (view (now (s .exit))),
       machineOf (now (s .exit)) (lentOr (view (now (s .entry))) (now (slots .entry)) (now (slots .exit)) a),
     ) ≡ drive (go v) (machineOf (now (s .entry)) a) (now (slots .entry))) ⌝ }
     ensures { λ _. ⌜ BufferUnchangedOnRow1 (view (now (s .entry))) (now (slots .entry)) (now (slots .exit)) ⌝ }
-    ensures { λ r. ⌜ SavedByAnswer r (now (s .entry)) (now (s .exit)) ⌝ }
+    ensures { λ r. ⌜ PinsFrom r (now (s .entry)) (now (s .exit)) ⌝ }
 {
     if slots_fit(s, slots) {
         return resume_interrupt(s, slots, v);
     }
-    Step::Refused(1) // whatever is saved
+    ROW_1 // whatever is saved
 }
 
 // Goes on with any other operation, or with none.

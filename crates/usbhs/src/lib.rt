@@ -1,6 +1,7 @@
 // The driver's calls: what stops one, what it begins, what it answers. Each call is one step of the machine of calls (crate `machine`) that the
 // lent bytes are; start-up, enabling and continue also bring the record of bus time (crate `call_bus_time`).
 pub mod bus_begins; // bus_begins.rt: the bus, stalls, endpoints enabled
+pub mod operates; // operates.rt: continue, of any operation but the interrupt
 pub mod proceeds; // proceeds.rt: continue
 pub mod starting; // starting.rt: start-up, allocation, EP0's start
 

@@ -1,4 +1,5 @@
-use call_bus_time::charges::gone_on;
+use crate::operates::operate;
+use call_answer_step::step_of;
 use machine::Step;
 use machine::saved::tag;
 use req_bus_time::TIME_LEN;
@@ -12,10 +13,9 @@ ghost use Rattle.machine.specs.Suspended.{machineOf, answerOf, lentOr, BufferUn
 ghost use Rattle.call_bus_time.specs.Sharing.{sharedCall};
 
 // The tag of an interrupt's point.
-const INTERRUPT: u8 = 6;
+pub const INTERRUPT: u8 = 6;
 
-// Goes on with the operation under way: a write of ep_config gives back what it clears. An interrupt writes none, so the
-// record is not looked at.
+// Goes on with the operation under way. An interrupt writes no ep_config, so the record is not looked at.
 pub fn proceed(
     s: &mut [u8; STATE_LEN],
     slots: &mut [u8],
@@ -34,9 +34,7 @@ pub fn proceed(
     ensures { λ r. ⌜ SavedByAnswer r (now (s .entry)) (now (s .exit)) ⌝ }
 {
     if tag(s) == INTERRUPT {
-        return machine_resume::interrupt(s, slots, v);
+        return step_of(machine_resume::interrupt(s, slots, v));
     }
-    let step = machine_resume::operation(s, slots, v);
-    gone_on(time, driver, step);
-    step
+    operate(s, slots, time, driver, v)
 }

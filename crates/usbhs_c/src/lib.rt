@@ -11,14 +11,16 @@ use call_answer_word::continue_word;
 use call_answer_word::word_of;
 use inputs::dir_of;
 use inputs::flag_of;
+use machine::saved::tag;
 use req_bus_time::TIME_LEN;
 use setup::setup_word;
 use stamp::stamp_by;
 use state::STATE_LEN;
+use usbhs::proceeds::INTERRUPT;
 use woken::list_into;
 ghost use mathlib.Core.Path.{_≡_};
 ghost use Rattle.marks.specs.Copies.{over};
-ghost use Rattle.state.specs.State.{view};
+ghost use Rattle.state.specs.State.{view, saved};
 ghost use Rattle.state.specs.Wakes.{listed};
 ghost use Rattle.model.specs.Statics.{flag};
 ghost use Rattle.model.specs.Machine.{begin, go, start};
@@ -76,7 +78,22 @@ pub extern "C" fn usbhs_start(s: &mut [u8; STATE_LEN], maximum: u32) -> u64
     word_of(usbhs::starting::start(s, maximum))
 }
 
-// Goes on with the operation under way, with the number brought.
+// Any operation but the interrupt goes on; apart from usbhs_continue, which so keeps nothing over a call.
+fn operation_word(
+    s: &mut [u8; STATE_LEN],
+    slots: &mut [u8],
+    time: &mut [u16; TIME_LEN],
+    driver: u32,
+    value: u32,
+) -> u64
+    requires { ⌜ (saved (now s) .tag ≡ 6 → ⊥) ⌝ }
+    ensures { λ r. ⌜ AnswersCharged r driver (go value) (now (s .entry))
+        (now (s .exit)) (now (slots .entry)) (now (slots .exit)) (now (time .entry)) (now (time .exit)) ⌝ }
+{
+    continue_word(usbhs::operates::operate(s, slots, time, driver, value))
+}
+
+// Goes on with the operation under way, with the number brought. An interrupt answers its word by itself, and leaves the record of bus time.
 #[no_mangle]
 pub extern "C" fn usbhs_continue(
     s: &mut [u8; STATE_LEN],
@@ -88,7 +105,10 @@ pub extern "C" fn usbhs_continue(
     ensures { λ r. ⌜ AnswersCharged r driver (go value) (now (s .entry))
         (now (s .exit)) (now (slots .entry)) (now (slots .exit)) (now (time .entry)) (now (time .exit)) ⌝ }
 {
-    continue_word(usbhs::proceeds::proceed(s, slots, time, driver, value))
+    if tag(s) == INTERRUPT {
+        return machine_resume::interrupt(s, slots, value);
+    }
+    operation_word(s, slots, time, driver, value)
 }
 
 // The current microframe number.

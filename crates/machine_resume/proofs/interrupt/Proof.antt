@@ -4,6 +4,9 @@ use Rattle.machine.specs.Suspended.{decode}
 use Rattle.machine.specs.Lent.{as-lent}
 use Rattle.state.specs.State.{view, saved}
 use denote.Ref.{now}
+use Rattle.call_answer_word.specs.Parts.{stepOf}
+use Rattle.call_answer_word.specs.WordLaws.{refused-sound}
+use native.Mathlib.Omega.{arith}
 use mathlib.Core.Path.{refl, sym, _∙_}
 use borrow.Author.Needs.{needs}
 use Rattle.machine_resume.proofs.interrupt.Statement.{statement}
@@ -44,12 +47,13 @@ same-length-2 : tie.Need-same-length-2
 same-length-2 c = search needs
 
 returns-2 : tie.Need-returns-2
+unfolding stepOf
 returns-2 c = (
   λ a. back
       (proceeds (c .before .before .before .before .before .args .v) (decode (saved (now (c .before .before .before .before .before .args .s))))
       (view (now (c .before .before .before .before .before .args .s))) a (now (c .before .before .before .before .before .args .slots)))
       (simp (← c .before .slots-fit .ensures, c .if1 .left)),
-  (λ h. refl, refl),
+  (λ h. refl, (refused-sound 1 (omega arith), refl)),
 )
 
 pub interrupt-spec : {M : Type 1} → statement M

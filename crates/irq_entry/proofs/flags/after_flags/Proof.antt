@@ -20,8 +20,8 @@ with-bus-rst-requires c κs = search needs
 set-int-en-requires : tie.Need-set-int-en-requires
 set-int-en-requires c κs = search needs
 
-cast-t12 : tie.Need-cast-t12
-cast-t12 c = search needs
+cast-stand-bus-rst : tie.Need-cast-stand-bus-rst
+cast-stand-bus-rst c = search needs
 
 stand-bus-rst-requires : tie.Need-stand-bus-rst-requires
 stand-bus-rst-requires c κs = search needs
@@ -68,7 +68,7 @@ after-flags-spec =
     load-globals-requires
     with-bus-rst-requires
     set-int-en-requires
-    cast-t12
+    cast-stand-bus-rst
     stand-bus-rst-requires
     returns
     suspend-requires

@@ -17,8 +17,8 @@ with-suspend-requires c κs = search needs
 set-int-en-requires : tie.Need-set-int-en-requires
 set-int-en-requires c κs = search needs
 
-cast-t11 : tie.Need-cast-t11
-cast-t11 c = search needs
+cast-stand-suspend : tie.Need-cast-stand-suspend
+cast-stand-suspend c = search needs
 
 stand-suspend-requires : tie.Need-stand-suspend-requires
 stand-suspend-requires c κs = search needs
@@ -61,7 +61,7 @@ suspend-spec =
     load-globals-requires
     with-suspend-requires
     set-int-en-requires
-    cast-t11
+    cast-stand-suspend
     stand-suspend-requires
     returns
     fifo-requires

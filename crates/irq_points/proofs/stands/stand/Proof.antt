@@ -1,19 +1,22 @@
-use mathlib.Core.Path.{refl}
 use borrow.Author.Needs.{needs}
 use Rattle.irq_points.proofs.stands.stand.Statement.{statement}
 use Rattle.irq_points.proofs.stands.stand.Tie as tie
 
-store-saved-requires : tie.Need-store-saved-requires
-store-saved-requires c κs = search needs
+store-requires : tie.Need-store-requires
+store-requires c κs = search needs
+
+asks-requires : tie.Need-asks-requires
+asks-requires c κs = search needs
 
 returns : tie.Need-returns
 returns c =
-    let the-store-saved = c .store-saved in
-    (refl, (the-store-saved .ensures .0, the-store-saved .ensures .1))
+    let the-store = c .before .store in
+    (c .asks .ensures, (the-store .ensures .0, the-store .ensures .1))
 
 pub stand-spec : {M : Type 1} → statement M
 stand-spec =
     tie.close
     (tie.spec
-    store-saved-requires
+    store-requires
+    asks-requires
     returns)

@@ -1,8 +1,10 @@
 use Rattle.state.specs.Wakes.{listed}
 use Rattle.machine.specs.Suspended.{decode}
+use Rattle.call_answer_word.specs.WordLaws.{said}
 use Rattle.machine.specs.Counted.{front-take}
 use Rattle.irq_points.specs.Stands.{halted}
-use mathlib.Core.Path.{_∙_}
+use Rattle.irq_points.specs.StandsLaws.{pinned-end}
+use mathlib.Core.Path.{_∙_, refl}
 use borrow.Author.Needs.{needs}
 use Rattle.irq_points.proofs.stands.stop.Statement.{statement}
 use Rattle.irq_points.proofs.stands.stop.Tie as tie
@@ -16,15 +18,20 @@ store-saved-requires c κs = search needs
 how-many-requires : tie.Need-how-many-requires
 how-many-requires c κs = search needs
 
+ended-requires : tie.Need-ended-requires
+ended-requires c κs = search needs
+
 returns : tie.Need-returns
 unfolding halted decode listed
 returns c =
-    let the-store-saved = c .before .before .store-saved in
-    let the-nothing = c .before .before .before .nothing in (
+    let the-how-many = c .before .how-many in
+    let the-store-saved = c .before .before .before .store-saved in
+    let the-nothing = c .before .before .before .before .nothing in
+    let the-end = said _ _ (c .ended .ensures) refl in (
       λ b. record {
-        there = simp (c .how-many .ensures .0, front-take, the-store-saved .ensures .0, the-store-saved .ensures .1, the-nothing .ensures);
+        there = simp (the-end, the-how-many .ensures .0, front-take, the-store-saved .ensures .0, the-store-saved .ensures .1, the-nothing .ensures);
       },
-      λ xs. the-store-saved .ensures .1 ∙ the-nothing .ensures,
+      pinned-end _ _ _ _ (c .ended .ensures) (the-store-saved .ensures .1 ∙ the-nothing .ensures),
     )
 
 pub stop-spec : {M : Type 1} → statement M
@@ -34,4 +41,5 @@ stop-spec =
     nothing-requires
     store-saved-requires
     how-many-requires
+    ended-requires
     returns)

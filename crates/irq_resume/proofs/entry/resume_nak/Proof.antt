@@ -1,8 +1,9 @@
 use Rattle.irq_resume.specs.Sites.{loaded-nak}
-use Rattle.irq_resume.specs.Resumes.{went-on, stays-on}
+use Rattle.irq_resume.specs.Resumes.{went-on, stays-on, refused-16}
 use Rattle.irq_transfer.specs.Nak as naks
 use Rattle.irq_transfer.specs.declared.nak.Nak.{Nak}
 use Rattle.irq.specs.Points.{fitsAt}
+use Rattle.call_answer_word.specs.Parts.{stepOf}
 use Rattle.state.specs.State.{view, saved}
 use denote.Ref.{now}
 use mathlib.Core.Path.{_∙_, sym, refl, ap}
@@ -42,17 +43,17 @@ returns c =
           (loaded-nak _ _ _ _ (the-setup-at .ensures) (the-transfer-at .ensures) (the-nak-at .ensures)
           (c .before .before .before .before .before .before .before .before .before .before .pre))
           (sym (the-fits-at .ensures) ∙ the-if1 .taken) (the-after-naking .ensures .0 b),
-      the-after-naking .ensures .1 _,
+      (the-after-naking .ensures .1 .0, the-after-naking .ensures .1 .1 _),
     )
 
 returns-2 : tie.Need-returns-2
-unfolding fitsAt
+unfolding fitsAt stepOf
 returns-2 c =
     let a = c .before .before .before .before .args in
     let the-nak-at = c .before .before .nak-at in (
       λ b. stays-on (saved (now (a .s))) _ (a .v) (view (now (a .s))) b (c .before .before .before .before .pre)
           (ap (λ (z : Nak). naks.fitsAt z (a .v)) (sym (the-nak-at .ensures)) ∙ (sym (c .before .fits-at .ensures) ∙ c .if1 .left)),
-      refl,
+      (refused-16, refl),
     )
 
 pub resume-nak-spec : {M : Type 1} → statement M

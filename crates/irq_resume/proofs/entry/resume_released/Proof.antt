@@ -27,7 +27,7 @@ returns c =
       λ v b. went-on (saved (now (a .s))) _ v (view (now (a .s))) b
           (loaded-released _ _ _ (the-setup-at .ensures) (the-transfer-at .ensures)
           (c .before .before .before .before .before .before .pre)) refl (the-after-released .ensures .0 b),
-      the-after-released .ensures .1 _,
+      (the-after-released .ensures .1 .0, the-after-released .ensures .1 .1 _),
     )
 
 pub resume-released-spec : {M : Type 1} → statement M

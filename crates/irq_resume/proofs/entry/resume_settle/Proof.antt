@@ -1,8 +1,9 @@
 use Rattle.irq_resume.specs.Sites.{loaded-settle}
-use Rattle.irq_resume.specs.Resumes.{went-on, stays-on}
+use Rattle.irq_resume.specs.Resumes.{went-on, stays-on, refused-16}
 use Rattle.irq_transfer.specs.Settle as settles
 use Rattle.irq_transfer.specs.declared.settle.Settle.{Settle}
 use Rattle.irq.specs.Points.{fitsAt}
+use Rattle.call_answer_word.specs.Parts.{stepOf}
 use Rattle.state.specs.State.{view, saved}
 use denote.Ref.{now}
 use mathlib.Core.Path.{_∙_, sym, refl, ap}
@@ -42,18 +43,18 @@ returns c =
           (loaded-settle _ _ _ _ (the-setup-at .ensures) (the-transfer-at .ensures) (the-settle-at .ensures)
           (c .before .before .before .before .before .before .before .before .before .before .pre))
           (sym (the-fits-at .ensures) ∙ the-if1 .taken) (the-after-settling .ensures .0 b),
-      the-after-settling .ensures .1 _,
+      (the-after-settling .ensures .1 .0, the-after-settling .ensures .1 .1 _),
     )
 
 returns-2 : tie.Need-returns-2
-unfolding fitsAt
+unfolding fitsAt stepOf
 returns-2 c =
     let a = c .before .before .before .before .args in
     let the-settle-at = c .before .before .settle-at in (
       λ b. stays-on (saved (now (a .s))) _ (a .v) (view (now (a .s))) b (c .before .before .before .before .pre)
           (ap (λ (z : Settle). settles.fitsAt z (a .v)) (sym (the-settle-at .ensures))
           ∙ (sym (c .before .fits-at .ensures) ∙ c .if1 .left)),
-      refl,
+      (refused-16, refl),
     )
 
 pub resume-settle-spec : {M : Type 1} → statement M

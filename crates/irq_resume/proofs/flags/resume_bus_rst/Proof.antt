@@ -22,7 +22,7 @@ returns c =
     let the-after-bus-rst = c .after-bus-rst in (
       λ v b. went-on (saved (now (a .s))) _ v (view (now (a .s))) b
           (loaded-bus-rst _ _ (the-st-byte .ensures) (c .before .before .before .before .pre)) refl (the-after-bus-rst .ensures .0 v b),
-      the-after-bus-rst .ensures .1 _,
+      (the-after-bus-rst .ensures .1 .0, the-after-bus-rst .ensures .1 .1 _),
     )
 
 pub resume-bus-rst-spec : {M : Type 1} → statement M

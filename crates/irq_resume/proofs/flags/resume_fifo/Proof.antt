@@ -22,7 +22,7 @@ returns c =
     let the-after-fifo = c .after-fifo in (
       λ v b. went-on (saved (now (a .s))) _ v (view (now (a .s))) b
           (loaded-fifo _ _ (the-st-byte .ensures) (c .before .before .before .before .pre)) refl (the-after-fifo .ensures .0 b),
-      the-after-fifo .ensures .1 _,
+      (the-after-fifo .ensures .1 .0, the-after-fifo .ensures .1 .1 _),
     )
 
 pub resume-fifo-spec : {M : Type 1} → statement M

@@ -22,7 +22,7 @@ returns c =
     let the-after-host = c .after-host in (
       λ v b. went-on (saved (now (a .s))) _ v (view (now (a .s))) b
           (loaded-host _ _ (the-st-byte .ensures) (c .before .before .before .before .pre)) refl (the-after-host .ensures .0 b),
-      the-after-host .ensures .1 _,
+      (the-after-host .ensures .1 .0, the-after-host .ensures .1 .1 _),
     )
 
 pub resume-host-spec : {M : Type 1} → statement M

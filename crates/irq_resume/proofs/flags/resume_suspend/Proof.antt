@@ -22,7 +22,7 @@ returns c =
     let the-after-suspend = c .after-suspend in (
       λ v b. went-on (saved (now (a .s))) _ v (view (now (a .s))) b
           (loaded-suspend _ _ (the-st-byte .ensures) (c .before .before .before .before .pre)) refl (the-after-suspend .ensures .0 v b),
-      the-after-suspend .ensures .1 _,
+      (the-after-suspend .ensures .1 .0, the-after-suspend .ensures .1 .1 _),
     )
 
 pub resume-suspend-spec : {M : Type 1} → statement M

@@ -1,8 +1,9 @@
 use Rattle.irq_resume.specs.Sites.{loaded-check}
-use Rattle.irq_resume.specs.Resumes.{went-on, stays-on}
+use Rattle.irq_resume.specs.Resumes.{went-on, stays-on, refused-16}
 use Rattle.iso_out.specs.Points as checks
 use Rattle.iso_out.specs.declared.Check.{Check}
 use Rattle.irq.specs.Points.{fitsAt}
+use Rattle.call_answer_word.specs.Parts.{stepOf}
 use Rattle.state.specs.State.{view, saved}
 use denote.Ref.{now}
 use mathlib.Core.Path.{_∙_, sym, refl, ap}
@@ -49,17 +50,17 @@ returns c =
           (loaded-check _ _ _ _ _ (the-setup-at .ensures) (the-transfer-at .ensures) (the-iso-at .ensures) (the-check-at .ensures)
           (c .before .before .before .before .before .before .before .before .before .before .before .before .before .before .before .before .pre))
           (sym (the-fits-at .ensures) ∙ the-if1 .taken) (the-after-checking .ensures .0),
-      the-after-checking .ensures .1 _,
+      (the-after-checking .ensures .1 .0, the-after-checking .ensures .1 .1 _),
     )
 
 returns-2 : tie.Need-returns-2
-unfolding fitsAt
+unfolding fitsAt stepOf
 returns-2 c =
     let a = c .before .before .before .before .before .args in
     let the-check-at = c .before .before .check-at in (
       stays-on (saved (now (a .s))) _ (a .v) (view (now (a .s))) (now (a .slots)) (c .before .before .before .before .before .pre)
           (ap (λ (z : Check). checks.fitsAt z (a .v)) (sym (the-check-at .ensures)) ∙ (sym (c .before .fits-at .ensures) ∙ c .if1 .left)),
-      refl,
+      (refused-16, refl),
     )
 
 pub resume-check-spec : {M : Type 1} → statement M

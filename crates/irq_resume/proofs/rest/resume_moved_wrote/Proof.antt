@@ -27,7 +27,7 @@ returns c =
       λ v b. went-on (saved (now (a .s))) _ v (view (now (a .s))) b
           (loaded-moved-wrote _ _ _ (the-dir-at .ensures) (the-setup-at .ensures)
           (c .before .before .before .before .before .before .pre)) refl (the-after-moved-wrote .ensures .0 v b),
-      the-after-moved-wrote .ensures .1 _,
+      (the-after-moved-wrote .ensures .1 .0, the-after-moved-wrote .ensures .1 .1 _),
     )
 
 pub resume-moved-wrote-spec : {M : Type 1} → statement M

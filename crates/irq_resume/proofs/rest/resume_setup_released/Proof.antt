@@ -17,7 +17,7 @@ returns c =
     let the-after-setup-released = c .after-setup-released in (
       λ v b. went-on (saved (now (a .s))) _ v
           (view (now (a .s))) b (c .before .before .pre) refl (the-after-setup-released .ensures .0 v b),
-      the-after-setup-released .ensures .1 _,
+      (the-after-setup-released .ensures .1 .0, the-after-setup-released .ensures .1 .1 _),
     )
 
 pub resume-setup-released-spec : {M : Type 1} → statement M

@@ -16,7 +16,7 @@ returns c =
     let a = c .before .before .args in
     let the-after-setup-rx = c .after-setup-rx in (
       λ v b. went-on (saved (now (a .s))) _ v (view (now (a .s))) b (c .before .before .pre) refl (the-after-setup-rx .ensures .0 v b),
-      the-after-setup-rx .ensures .1 _,
+      (the-after-setup-rx .ensures .1 .0, the-after-setup-rx .ensures .1 .1 _),
     )
 
 pub resume-setup-rx-spec : {M : Type 1} → statement M

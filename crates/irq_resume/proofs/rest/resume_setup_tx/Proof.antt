@@ -20,7 +20,7 @@ returns c =
     let the-after-setup-tx = c .after-setup-tx in (
       λ v. went-on (saved (now (a .s))) _ v (view (now (a .s)))
           (now (a .slots)) (c .before .before .before .before .pre) refl (the-after-setup-tx .ensures .0 v),
-      the-after-setup-tx .ensures .1 _,
+      (the-after-setup-tx .ensures .1 .0, the-after-setup-tx .ensures .1 .1 _),
     )
 
 pub resume-setup-tx-spec : {M : Type 1} → statement M

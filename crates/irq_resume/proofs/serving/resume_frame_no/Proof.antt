@@ -1,6 +1,7 @@
 use Rattle.irq_resume.specs.Sites.{loaded-frame-no}
-use Rattle.irq_resume.specs.Resumes.{went-on, stays-on}
+use Rattle.irq_resume.specs.Resumes.{went-on, stays-on, refused-16}
 use Rattle.irq.specs.Points.{fitsAt}
+use Rattle.call_answer_word.specs.Parts.{stepOf}
 use Rattle.state.specs.State.{view, saved}
 use denote.Ref.{now}
 use mathlib.Core.Path.{_∙_, sym, refl}
@@ -43,16 +44,16 @@ returns c =
           (loaded-frame-no _ _ _ _ (the-setup-at .ensures) (the-transfer-at .ensures) (the-iso-at .ensures)
           (c .before .before .before .before .before .before .before .before .before .before .before .before .before .before .pre))
           (sym (the-fits2 .ensures) ∙ the-if1 .taken) (the-after-frame-no .ensures .0),
-      the-after-frame-no .ensures .1 _,
+      (the-after-frame-no .ensures .1 .0, the-after-frame-no .ensures .1 .1 _),
     )
 
 returns-2 : tie.Need-returns-2
-unfolding fitsAt
+unfolding fitsAt stepOf
 returns-2 c =
     let a = c .before .before .before .args in (
       stays-on (saved (now (a .s))) _ (a .v) (view (now (a .s)))
           (now (a .slots)) (c .before .before .before .pre) (sym (c .before .fits2 .ensures) ∙ c .if1 .left),
-      refl,
+      (refused-16, refl),
     )
 
 pub resume-frame-no-spec : {M : Type 1} → statement M

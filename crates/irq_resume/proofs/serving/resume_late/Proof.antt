@@ -44,7 +44,7 @@ returns c =
           (the-transfer-at .ensures) (the-iso-at .ensures) (the-frame-word .ensures) (the-late-at .ensures)
           (c .before .before .before .before .before .before .before .before .before .before .before .before .before .before .before .before .pre))
           refl (the-after-completions .ensures .0 v),
-      the-after-completions .ensures .1 _,
+      (the-after-completions .ensures .1 .0, the-after-completions .ensures .1 .1 _),
     )
 
 pub resume-late-spec : {M : Type 1} → statement M

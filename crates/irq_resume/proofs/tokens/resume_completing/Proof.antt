@@ -39,7 +39,7 @@ returns c =
           (loaded-completing _ _ _ _ _ (the-setup-at .ensures) (the-transfer-at .ensures) (the-iso-at .ensures) (the-complete-at .ensures)
           (c .before .before .before .before .before .before .before .before .before .before .before .before .before .before .pre)) refl
           (the-after-completing .ensures .0 v),
-      the-after-completing .ensures .1 _,
+      (the-after-completing .ensures .1 .0, the-after-completing .ensures .1 .1 _),
     )
 
 pub resume-completing-spec : {M : Type 1} → statement M

@@ -39,7 +39,7 @@ returns c =
           (loaded-flipped _ _ _ _ _ (the-dir-at .ensures) (the-setup-at .ensures) (the-transfer-at .ensures) (the-iso-at .ensures)
           (c .before .before .before .before .before .before .before .before .before .before .before .before .before .before .pre)) refl
           (the-after-flipped .ensures .0 v),
-      the-after-flipped .ensures .1 _,
+      (the-after-flipped .ensures .1 .0, the-after-flipped .ensures .1 .1 _),
     )
 
 pub resume-flipped-spec : {M : Type 1} → statement M

@@ -1,8 +1,9 @@
 use Rattle.irq_resume.specs.Sites.{loaded-toggled}
-use Rattle.irq_resume.specs.Resumes.{went-on, stays-on}
+use Rattle.irq_resume.specs.Resumes.{went-on, stays-on, refused-16}
 use Rattle.irq_transfer.specs.Toggled as toggleds
 use Rattle.irq_transfer.specs.declared.toggled.Toggled.{Toggled}
 use Rattle.irq.specs.Points.{fitsAt}
+use Rattle.call_answer_word.specs.Parts.{stepOf}
 use Rattle.state.specs.State.{view, saved}
 use denote.Ref.{now}
 use mathlib.Core.Path.{_∙_, sym, refl, ap}
@@ -57,18 +58,18 @@ returns c =
           (the-setup-at .ensures) (the-transfer-at .ensures) (the-iso-at .ensures) (the-toggled-at .ensures)
           (c .before .before .before .before .before .before .before .before .before .before .before .before .before .before .before .before .before .before
           .pre)) (sym (the-fits-at .ensures) ∙ the-if1 .taken) (the-after-toggled .ensures .0),
-      the-after-toggled .ensures .1 _,
+      (the-after-toggled .ensures .1 .0, the-after-toggled .ensures .1 .1 _),
     )
 
 returns-2 : tie.Need-returns-2
-unfolding fitsAt
+unfolding fitsAt stepOf
 returns-2 c =
     let a = c .before .before .before .before .before .args in
     let the-toggled-at = c .before .before .toggled-at in (
       stays-on (saved (now (a .s))) _ (a .v) (view (now (a .s))) (now (a .slots)) (c .before .before .before .before .before .pre)
           (ap (λ (z : Toggled). toggleds.fitsAt z (a .v)) (sym (the-toggled-at .ensures))
           ∙ (sym (c .before .fits-at .ensures) ∙ c .if1 .left)),
-      refl,
+      (refused-16, refl),
     )
 
 pub resume-toggled-spec : {M : Type 1} → statement M

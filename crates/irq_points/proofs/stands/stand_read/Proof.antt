@@ -1,0 +1,22 @@
+use borrow.Author.Needs.{needs}
+use Rattle.irq_points.proofs.stands.stand_read.Statement.{statement}
+use Rattle.irq_points.proofs.stands.stand_read.Tie as tie
+
+store-requires : tie.Need-store-requires
+store-requires c κs = search needs
+
+asks-read-requires : tie.Need-asks-read-requires
+asks-read-requires c κs = search needs
+
+returns : tie.Need-returns
+returns c =
+    let the-store = c .before .store in
+    (c .asks-read .ensures, (the-store .ensures .0, the-store .ensures .1))
+
+pub stand-read-spec : {M : Type 1} → statement M
+stand-read-spec =
+    tie.close
+    (tie.spec
+    store-requires
+    asks-read-requires
+    returns)

@@ -1,0 +1,22 @@
+use borrow.Author.Needs.{needs}
+use Rattle.irq_points.proofs.stands.stand_write.Statement.{statement}
+use Rattle.irq_points.proofs.stands.stand_write.Tie as tie
+
+store-requires : tie.Need-store-requires
+store-requires c κs = search needs
+
+asks-write-requires : tie.Need-asks-write-requires
+asks-write-requires c κs = search needs
+
+returns : tie.Need-returns
+returns c =
+    let the-store = c .before .store in
+    (c .asks-write .ensures, (the-store .ensures .0, the-store .ensures .1))
+
+pub stand-write-spec : {M : Type 1} → statement M
+stand-write-spec =
+    tie.close
+    (tie.spec
+    store-requires
+    asks-write-requires
+    returns)
