@@ -105,9 +105,18 @@ wrong_drivers_and_scripts() {
     tests/wrong-scripts/run --every-test
 }
 
-# target/staticlib/libCRATE.a and those for the chip, made in a tree of its own, so that it may run beside others
+# the exported calls from C, and so many of each on corrupted states
+calls_from_c() {
+    export ARCHIVES=made
+    tests/c/run
+    tests/c/run fuzz "$1"
+}
+
+# target/staticlib/libCRATE.a and those for the chip, once a check beside has proved the crates: made in a tree of its
+# own
 archives() {
     local tree
+    until [ -f target/stamp/usbhs_c ] && [ -f target/stamp/survey_c ]; do sleep 1; done
     # shellcheck source=tests/trees.sh
     . tests/trees.sh
     tree=$(mktemp -d)
