@@ -17,6 +17,9 @@ pub mod rows;
 mod stamps;
 pub mod survey;
 pub mod svg;
+#[allow(dead_code)]
+#[path = "../../../oracle/compare/src/together.rs"]
+mod together;
 pub mod visits;
 
 /// Why a command ends without its answer: what is wrong, in words.

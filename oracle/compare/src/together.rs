@@ -8,7 +8,14 @@ use crate::port::{DRIVER, TIME};
 extern "C" {
     fn usbhs_interrupt(s: *mut u8, slots: *mut u8, n: usize, t: *mut u16, driver: u32, frame: u32, flags: u32) -> u64;
     fn usbhs_continue_transfer(
-        s: *mut u8, slots: *mut u8, n: usize, t: *mut u16, driver: u32, mis: u32, st: u32, len: u32,
+        s: *mut u8,
+        slots: *mut u8,
+        n: usize,
+        t: *mut u16,
+        driver: u32,
+        mis: u32,
+        st: u32,
+        len: u32,
     ) -> u64;
 }
 
@@ -27,7 +34,7 @@ pub struct Lent {
     pub time: [u16; TIME],
 }
 
-struct Row {
+struct Brought {
     /// As it was before the first call.
     lent: Lent,
     /// The slots as the last call left them: where the chip has stored since, nothing is compared.
@@ -36,11 +43,14 @@ struct Row {
     numbers: Vec<u32>,
 }
 
-impl Row {
+impl Brought {
     /// The word that asks for the next number, if another may come.
     fn next(&self) -> Option<u64> {
-        let asked: [Option<u64>; 4] =
-            if self.begins { [Some(FRAME_NO), Some(INT_FG), None, None] } else { [None, Some(INT_ST), Some(RX_LEN), None] };
+        let asked: [Option<u64>; 4] = if self.begins {
+            [Some(FRAME_NO), Some(INT_FG), None, None]
+        } else {
+            [None, Some(INT_ST), Some(RX_LEN), None]
+        };
         asked[self.numbers.len()]
     }
 
@@ -67,7 +77,7 @@ impl Row {
 #[derive(Default)]
 pub struct Together {
     interrupts: u64,
-    row: Option<Row>,
+    brought: Option<Brought>,
     /// How many were compared.
     pub compared: usize,
 }
@@ -75,31 +85,34 @@ pub struct Together {
 impl Together {
     fn begin(&mut self, lent: Lent, begins: bool) {
         let last = lent.slots.clone();
-        self.row = Some(Row { lent, last, begins, numbers: vec![] });
+        self.brought = Some(Brought { lent, last, begins, numbers: vec![] });
     }
 
     pub fn before(&mut self, call: &Call, state: &[u8], slots: &[u8], time: &[u16; TIME]) {
-        match (call, &mut self.row) {
+        match (call, &mut self.brought) {
             (Call::Interrupt, _) => {
                 self.interrupts += 1;
-                self.row = None;
+                self.brought = None;
                 if self.interrupts % 8 == 0 {
                     self.begin(Lent { state: state.to_vec(), slots: slots.to_vec(), time: *time }, true);
                 }
             }
-            (Call::Continue(value), Some(row)) if row.last == slots => row.numbers.push(*value),
-            _ => self.row = None,
+            (Call::Continue(value), Some(brought)) if brought.last == slots => brought.numbers.push(*value),
+            _ => self.brought = None,
         }
     }
 
     pub fn after(&mut self, call: &Call, word: u64, state: &[u8], slots: &[u8], time: &[u16; TIME]) {
-        if let Some(mut row) = self.row.take() {
-            if row.next() == Some(word) {
-                row.last = slots.to_vec();
-                self.row = Some(row);
+        if let Some(mut brought) = self.brought.take() {
+            if brought.next() == Some(word) {
+                brought.last = slots.to_vec();
+                self.brought = Some(brought);
                 return;
             }
-            let same = row.made() == word && row.lent.state == state && row.lent.slots == slots && row.lent.time == *time;
+            let same = brought.made() == word
+                && brought.lent.state == state
+                && brought.lent.slots == slots
+                && brought.lent.time == *time;
             assert!(same, "readings brought together: another answer, or other bytes");
             self.compared += 1;
         }
