@@ -22,7 +22,8 @@ same-length c = search needs
 returns : tie.Need-returns
 returns c =
     let x = c .before .before .before .before .before .before .before .before .before .before .args in
-    let the-tag = sym (c .before .before .before .before .before .before .before .tag .ensures) ∙ c .before .before .before .before .before .before .if1 .taken in
+    let at-if1 = c .before .before .before .before .before .before in
+    let the-tag = sym (at-if1 .before .tag .ensures) ∙ at-if1 .if1 .taken in
     let the-step = c .step-of .ensures in
     let after = c .before .before .before .interrupt .last .0 in
     let ensures = c .before .before .before .interrupt .ensures in (
