@@ -37,7 +37,8 @@
  * before 9; 17, 18 and 19 as their calls say).
  * A refused call changes nothing, except that 9 and 10 of a poll end its request, and that 10
  * also forgets a packet that was ready. After a continue that is refused with 1 or 16 its reading
- * is still awaited; the access is not handed out again.
+ * is still awaited; the access is not handed out again. usbhs_interrupt and
+ * usbhs_continue_transfer are several calls, of which the last one is refused: see there.
  *
  *    1  a call with the slots: their length is not count times size, those of the last accepted
  *       start-up (0 before the first)
@@ -232,6 +233,11 @@ uint64_t usbhs_begin_interrupt(uint8_t state[USBHS_STATE_LEN]);
  * answer, a refusal too, is the answer of the whole; the numbers left over are not looked at. What is
  * lent is then as those calls leave it.
  *
+ * So usbhs_interrupt checks 3 and 4, then 1, then 16. After its 3 or 4 nothing is changed. After a 1
+ * or 16 of either call the interrupt is under way: go on with usbhs_continue, which after a 1 is to
+ * bring the first of the readings that a continue brings (frame_no, mis_st), and after a 16 the
+ * first one that was too wide for its register, and then the loop as ever.
+ *
  *     uint32_t frame = block_read(USBHS_FRAME_NO, 0), flags, status, transfer;
  *     flags = block_read(USBHS_INT_FG, 0);
  *     word = usbhs_interrupt(state, slots, sizeof slots, bus_time, 0, frame, flags);
@@ -243,6 +249,7 @@ uint64_t usbhs_begin_interrupt(uint8_t state[USBHS_STATE_LEN]);
  *     }
  *     to_end(word);    the loop with usbhs_continue
  */
+/* Does the word ask for that register, one of these five, which no endpoint has? */
 #define USBHS_ASKS(word, reg) ((unsigned)((word) & 0xFFFF) == ((unsigned)(reg) << 8 | USBHS_READ))
 uint64_t usbhs_interrupt(uint8_t state[USBHS_STATE_LEN], uint8_t *slots, usbhs_length slots_length,
     uint16_t time[USBHS_TIME_LEN], uint32_t driver, uint32_t frame_no, uint32_t int_fg);
