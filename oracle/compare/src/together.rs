@@ -93,7 +93,7 @@ impl Together {
             (Call::Interrupt, _) => {
                 self.interrupts += 1;
                 self.brought = None;
-                if self.interrupts % 8 == 0 {
+                if self.interrupts.is_multiple_of(8) {
                     self.begin(Lent { state: state.to_vec(), slots: slots.to_vec(), time: *time }, true);
                 }
             }
@@ -116,7 +116,7 @@ impl Together {
             assert!(same, "readings brought together: another answer, or other bytes");
             self.compared += 1;
         }
-        if matches!(*call, Call::Continue(_)) && word == MIS_ST && self.interrupts % 8 == 0 {
+        if matches!(*call, Call::Continue(_)) && word == MIS_ST && self.interrupts.is_multiple_of(8) {
             self.begin(Lent { state: state.to_vec(), slots: slots.to_vec(), time: *time }, false);
         }
     }
