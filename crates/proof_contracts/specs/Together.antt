@@ -1,5 +1,6 @@
 -- A call that brings several readings, in lists of calls: in its place stand the calls of one access each that it is, so that every theorem over lists
--- of calls speaks of it. Definitions
+-- of calls speaks of it. The run's slot buffer is any, a: it need not be the one that is lent, since the chip may have stored since the last call, and one
+-- of a wrong length (row 1) does not become the run's. Definitions. `continue-calls` and `interrupt-calls` (TogetherLaws.antt) make the list
 use mathlib.Core.Bool.{Bool, true, false}
 use mathlib.Core.List.{List, [], _∷_}
 use mathlib.Core.Path.{_≡_}
@@ -7,11 +8,11 @@ use Prim.Native.Nat.{ℕ}
 use Rattle.regs.specs.declared.Reg.{Reg}
 use Rattle.state.specs.State.{view}
 use Rattle.model.specs.Answers.{Answer}
-use Rattle.model.specs.Calls.{Config, Op}
-use Rattle.model.specs.Machine.{Buf, Call, go, Event, Ans, ended, handed, told}
+use Rattle.model.specs.Calls.{Config, Op, interrupt}
+use Rattle.model.specs.Machine.{Buf, Call, begin, go, Event, Ans, ended, handed, told}
 use Rattle.machine.specs.declared.Step.{Step}
-use Rattle.machine.specs.Suspended.{answerOf}
-use Rattle.call_readings.specs.Readings.{Reading, Lent, readsOf}
+use Rattle.machine.specs.Suspended.{answerOf, lentOr, BufferUnchangedOnRow1}
+use Rattle.call_readings.specs.Readings.{Reading, Lent, lent, readsOf}
 use Rattle.proof_contracts.specs.SharedPage.{Made}
 use Rattle.proof_contracts.specs.SavedPage.{Saving}
 
@@ -37,19 +38,37 @@ abbrev pub lastOf : Made → List Made → Made
 lastOf m [] = m
 lastOf m (k ∷ ks) = lastOf k ks
 
--- it answered r and left what was lent so
-pub record Leaves (m : Made) (r : Step) (l : Lent) : Type 0 where
+-- it answered r and left the state's bytes and the record as l has them, and b as the run's slot buffer
+pub record Leaves (m : Made) (r : Step) (l : Lent) (b : Buf) : Type 0 where
   pub answer : m .answer ≡ answerOf r [] (view (l .bytes))
   pub bytes : m .bytes ≡ l .bytes
-  pub slots : m .slots ≡ l .slots
+  pub slots : m .slots ≡ b
   pub time : m .time ≡ l .time
 
--- call c of driver i, and those that bring the readings: from what was lent, and the run's slot buffer a, they come to the answer r and leave l′
-pub record AreSteps (i : ℕ) (c : Call Config Op) (vs : List Reading) (l : Lent) (a : Buf) (r : Step) (l′ : Lent) : Type 0 where
-  pub first : Made
-  pub further : List Made
-  pub called : first .event ≡ event c (l .slots)
+-- a continue of driver i that brings v, and those that bring the readings: from what was lent, and the run's slot buffer a, they come to the answer r and
+-- leave l′. As with one continue (`IsStepCharged`, Steps.antt): where the length of the lent buffer is wrong the run's own stays, and the lent one too
+pub record AreSteps (i v : ℕ) (vs : List Reading) (l : Lent) (a : Buf) (r : Step) (l′ : Lent) (first : Made) (further : List Made) : Type 0 where
+  pub called : first .event ≡ event (go v) (l .slots)
   pub before : first .before ≡ l .time
   pub steps : Saving i (l .bytes) a (first ∷ further)
   pub turns : InTurn vs first further
-  pub leaves : Leaves (lastOf first further) r l′
+  pub leaves : Leaves (lastOf first further) r l′ (lentOr (view (l .bytes)) (l .slots) (l′ .slots) a)
+  pub kept : BufferUnchangedOnRow1 (view (l .bytes)) (l .slots) (l′ .slots)
+
+-- calls after m, which brought no slot buffer: none where m does not ask for the reading v; else a continue that brings it, and is the first that is
+-- lent the buffer, and those that bring the readings after it
+abbrev pub Followed : ℕ → Reading → List Reading → Lent → Step → Lent → Made → List Made → Type 0
+Followed i v vs l r l′ m [] = (asked (v .register) (m .answer) ≡ false) × Leaves m r l′ (m .slots) × (l′ .slots ≡ l .slots)
+Followed i v vs l r l′ m (k ∷ ks) =
+    (asked (v .register) (m .answer) ≡ true) × AreSteps i (v .value) vs (lent (m .bytes) (l .slots) (m .time)) (m .slots) r l′ k ks
+
+-- the interrupt's begin by driver i, and those that bring the readings. The begin brings neither the slot buffer nor the record: as with the begin alone
+-- (`IsStep`, Steps.antt) both stay as they stand then, b and what was lent
+pub record InterruptSteps (i : ℕ) (v : Reading) (vs : List Reading) (l : Lent) (a b : Buf) (r : Step) (l′ : Lent) (first : Made) (further : List Made)
+    : Type 0 where
+  pub called : first .event ≡ event (begin interrupt) b
+  pub before : first .before ≡ l .time
+  pub slots : first .slots ≡ b
+  pub time : first .time ≡ l .time
+  pub steps : Saving i (l .bytes) a (first ∷ further)
+  pub rest : Followed i v vs l r l′ first further
