@@ -33,6 +33,7 @@ impl Lent {
 
     /// The word that a call answers, by this driver's number in the record. `slice`: what a poll brings, of a write its
     /// data; `stamp`: the room of an open.
+    #[inline]
     pub fn made(&mut self, driver: u32, call: &Call, slice: &mut [u8], stamp: &mut u16) -> u64 {
         let (s, p, n, t) = self.parts();
         let m = length(slice);
