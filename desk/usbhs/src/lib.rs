@@ -4,6 +4,7 @@ pub mod args;
 pub mod card;
 pub mod channels;
 pub mod descriptor;
+#[allow(dead_code)]
 #[path = "../../../rust/port/src/exported.rs"]
 mod exported;
 #[path = "../../../rust/port/src/exported_survey.rs"]

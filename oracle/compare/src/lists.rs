@@ -127,17 +127,17 @@ impl Port {
 
     fn run(&mut self, call: &Call) -> (Vec<Answer>, Answer) {
         let begun = self.0.plain(call);
-        self.to_end(begun)
+        self.go_on(begun)
     }
 
-    fn to_end(&mut self, begun: u64) -> (Vec<Answer>, Answer) {
+    fn go_on(&mut self, begun: u64) -> (Vec<Answer>, Answer) {
         to_end(decode(begun), || decode(self.0.plain(&Call::Continue(0))))
     }
 
     fn allocate_all(&mut self, bytes: &[u8]) -> (Vec<Answer>, Answer) {
         // SAFETY: the state is lent, the bytes with their length
         let begun = unsafe { usbhs_allocate_all(self.0.state.as_mut_ptr(), bytes.as_ptr(), length(bytes)) };
-        self.to_end(begun)
+        self.go_on(begun)
     }
 
     /// The numbers given, the buffers that they take, the refusal.
