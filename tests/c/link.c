@@ -1,18 +1,8 @@
 /* The driver's exported calls from C, on the proved archive: a state before start-up; bus time that four drivers share;
    the parts of an answer's word; the tasks that an end wakes; a board's endpoints allocated as one operation; readings brought by one call. */
-#include <stdio.h>
 #include <string.h>
 #include "usbhs.h"
-
-static int failed;
-
-static void expect(const char *what, uint64_t got, uint64_t wanted)
-{
-    if (got != wanted) {
-        printf("%s: %llu, not %llu\n", what, (unsigned long long)got, (unsigned long long)wanted);
-        failed = 1;
-    }
-}
+#include "expect.h"
 
 #define DRIVERS 4
 #define SLOTS_LENGTH (4u * 1024)
@@ -110,23 +100,6 @@ static void wake_ups(uint8_t *state, uint8_t *slots, uint16_t *time)
     expect("bus reset: woken", usbhs_woken(state, room), 32);
     for (i = 0; i < 32; i++)
         expect("bus reset: who", room[i], (i + 16) % 32);
-}
-
-/* IN 1 isochronous and OUT 2 bulk in setting 0; IN 1 again, smaller and more often, and OUT 3 interrupt in setting 1 */
-static const uint8_t board[] = {
-    9, 2, 55, 0, 1, 1, 0, 0x80, 50,
-    9, 4, 0, 0, 2, 0xFF, 0, 0, 0,
-    7, 5, 0x81, 1, 0x00, 0x02, 4,
-    7, 5, 0x02, 2, 0x00, 0x02, 0,
-    9, 4, 0, 1, 2, 0xFF, 0, 0, 0,
-    7, 5, 0x81, 1, 0x00, 0x01, 1,
-    7, 5, 0x03, 3, 0x08, 0x00, 1,
-};
-
-static void refused(const char *what, uint64_t word, unsigned row)
-{
-    expect(what, USBHS_KIND(word), USBHS_REFUSED);
-    expect(what, USBHS_ROW(word), row);
 }
 
 static void wrote(const char *what, uint64_t word, unsigned reg, unsigned endpoint, unsigned value)

@@ -1,23 +1,7 @@
 /* Links the proved archive of the calls that take no driver, and checks values worked out by hand. */
-#include <stdio.h>
 #include <string.h>
 #include "usbhs_survey.h"
-
-static int failed;
-
-static void expect(const char *what, uint64_t got, uint64_t wanted)
-{
-    if (got != wanted) {
-        printf("%s: %llu, not %llu\n", what, (unsigned long long)got, (unsigned long long)wanted);
-        failed = 1;
-    }
-}
-
-static void refused(const char *what, uint64_t word, unsigned row)
-{
-    expect(what, USBHS_KIND(word), USBHS_REFUSED);
-    expect(what, USBHS_ROW(word), row);
-}
+#include "expect.h"
 
 static void ended(const char *what, uint64_t word, unsigned result)
 {
@@ -97,19 +81,10 @@ static void channels(void)
     expect("sixteen channels: behind", list[16].chosen, 0);
 }
 
-/* ---- a descriptor: IN 1 isochronous and OUT 2 bulk in setting 0; IN 1 again, smaller and more often, and OUT 3 interrupt in setting 1 */
+/* ---- a descriptor */
 
 static void descriptors(void)
 {
-    static const uint8_t board[] = {
-        9, 2, 55, 0, 1, 1, 0, 0x80, 50,
-        9, 4, 0, 0, 2, 0xFF, 0, 0, 0,
-        7, 5, 0x81, 1, 0x00, 0x02, 4,
-        7, 5, 0x02, 2, 0x00, 0x02, 0,
-        9, 4, 0, 1, 2, 0xFF, 0, 0, 0,
-        7, 5, 0x81, 1, 0x00, 0x01, 1,
-        7, 5, 0x03, 3, 0x08, 0x00, 1,
-    };
     static const uint8_t list[39] = {
         9, 2, 39, 0, 1, 0, 0, 0, 0,
         9, 4, 0, 0, 3, 0, 0, 0, 0,

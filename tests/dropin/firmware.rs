@@ -1,24 +1,17 @@
 //! A firmware over ch32-hal's names, the same with the Rust and with the proved driver: it starts up, enables an
 //! isochronous OUT, takes a packet, and says what stands in the registers.
 
-use ch32_hal::interrupt::typelevel::{Binding, Handler};
+mod board;
+
+use ch32_hal::interrupt::typelevel::Handler;
 use ch32_hal::peripherals::USBHS;
 use ch32_hal::usb::EndpointDataBuffer;
-use ch32_hal::usbhs::{self, Driver, Instance, InterruptHandler, WakeupInterruptHandler};
-use ch32_hal::Peri;
+use ch32_hal::usbhs::{Driver, InterruptHandler};
+use ch32_hal::{gpio, interrupt, peripherals, usbhs, Peri};
 use embassy_usb_driver::{Bus as _, Driver as _, EndpointConfig, EndpointType};
 use seam::reg;
 
-struct Pin;
-impl ch32_hal::gpio::Pin for Pin {}
-impl usbhs::DpPin<USBHS, 0> for Pin {}
-impl usbhs::DmPin<USBHS, 0> for Pin {}
-
-struct Irqs;
-type Global = <USBHS as Instance>::Interrupt;
-// SAFETY: nothing is bound
-unsafe impl Binding<Global, InterruptHandler<USBHS>> for Irqs {}
-unsafe impl Binding<<USBHS as Instance>::WakeupInterrupt, WakeupInterruptHandler<USBHS>> for Irqs {}
+use board::{Global, Irqs, Pin0};
 
 fn main() {
     seam::cheap();
@@ -26,7 +19,7 @@ fn main() {
     let memory = seam::Mapping::new(seam::ARENA);
     // SAFETY: zeroed, lent for the run
     let buffers = unsafe { &mut *memory.ptr().cast::<[EndpointDataBuffer<64>; 18]>() };
-    let mut driver = Driver::new(Peri::new(USBHS), Irqs, Peri::new(Pin), Peri::new(Pin), buffers);
+    let mut driver = Driver::new(Peri::new(USBHS), Irqs, Peri::new(Pin0), Peri::new(Pin0), buffers);
     let config = EndpointConfig {
         ep_type: EndpointType::Isochronous,
         addr: Some(1.into()),

@@ -26,11 +26,5 @@ fn run() -> Result<(), String> {
 }
 
 fn main() -> ExitCode {
-    match run() {
-        Ok(()) => ExitCode::SUCCESS,
-        Err(e) => {
-            eprintln!("incident: {e}");
-            ExitCode::from(2)
-        }
-    }
+    pictures::ended("incident", run())
 }

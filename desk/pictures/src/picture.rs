@@ -1,7 +1,7 @@
 //! The incident as a picture: both exports along the run, then the place where they part.
 
 use usbhs::output::thousands;
-use usbhs::svg::{Anchor, Svg};
+use usbhs::svg::{Anchor, Svg, BLUE as PORT, GREY, INK, RULE};
 
 use crate::incident::{flat, flat_topped, samples, Incident};
 
@@ -10,11 +10,7 @@ const LEFT: f64 = 74.0;
 const RIGHT: f64 = 22.0;
 const FULL: f64 = 32_767.0;
 
-const INK: &str = "#1d2733";
-const GREY: &str = "#6b7785";
-const RULE: &str = "#d5dbe2";
 const RUST: &str = "#6b4a33";
-const PORT: &str = "#1f5fa8";
 const RED: &str = "#d3222a";
 const FLAT: &str = "#e08a00";
 

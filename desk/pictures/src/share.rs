@@ -5,7 +5,7 @@ use std::path::Path;
 use std::process::ExitCode;
 
 use usbhs::output::thousands;
-use usbhs::svg::{Anchor, Svg};
+use usbhs::svg::{Anchor, Svg, BLUE as PORT, GREY, INK, RULE};
 
 const WIDTH: f64 = 1000.0;
 const LEFT: f64 = 330.0;
@@ -13,10 +13,6 @@ const RIGHT: f64 = 96.0;
 const TOP: f64 = 92.0;
 const ROW: f64 = 34.0;
 
-const INK: &str = "#1d2733";
-const GREY: &str = "#6b7785";
-const RULE: &str = "#d5dbe2";
-const PORT: &str = "#1f5fa8";
 const RUST: &str = "#b08968";
 
 /// The file: `title` and `note` with words, then `microframe NS` and lines `NAME | CALLS | PORT NS A CALL | RUST NS A
@@ -146,11 +142,5 @@ fn run() -> Result<(), String> {
 }
 
 fn main() -> ExitCode {
-    match run() {
-        Ok(()) => ExitCode::SUCCESS,
-        Err(e) => {
-            eprintln!("share: {e}");
-            ExitCode::from(2)
-        }
-    }
+    pictures::ended("share", run())
 }

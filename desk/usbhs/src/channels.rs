@@ -3,14 +3,13 @@
 use std::io::Write;
 
 use crate::args::Args;
+use crate::descriptor::{INTERRUPT, ISOCHRONOUS};
 use crate::json::Json;
 use crate::output::{count, thousands, written};
 use crate::{bad, image, rows, survey, Done};
 
 /// What periodic transfers may use of a microframe, in byte-times.
 const PERIODIC: u32 = 6_000;
-const ISOCHRONOUS: u16 = 38;
-const INTERRUPT: u16 = 55;
 
 struct Channel {
     name: String,

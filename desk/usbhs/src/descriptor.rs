@@ -9,6 +9,9 @@ use crate::{bad, image, preview, rows, survey, Done, Failure};
 
 /// A descriptor has at most so many bytes.
 pub const MOST: usize = 4_096;
+/// Byte-times that an endpoint is charged above its maximum.
+pub const ISOCHRONOUS: u16 = 38;
+pub const INTERRUPT: u16 = 55;
 const KINDS: [&str; 4] = ["control", "isochronous", "bulk", "interrupt"];
 
 /// An endpoint of the list.
@@ -37,8 +40,8 @@ impl Endpoint {
     /// Byte-times that it is charged once a microframe while it is enabled.
     pub fn charge(&self) -> u32 {
         match self.kind {
-            1 => self.maximum as u32 + 38,
-            3 => self.maximum as u32 + 55,
+            1 => u32::from(self.maximum) + u32::from(ISOCHRONOUS),
+            3 => u32::from(self.maximum) + u32::from(INTERRUPT),
             _ => 0,
         }
     }

@@ -4,10 +4,16 @@ pub mod args;
 pub mod card;
 pub mod channels;
 pub mod descriptor;
+#[allow(dead_code)]
+#[path = "../../../rust/port/src/exported.rs"]
+mod exported;
+#[path = "../../../rust/port/src/exported_survey.rs"]
+mod exported_survey;
 pub mod image;
 pub mod json;
+#[path = "../../../oracle/compare/src/lent.rs"]
+mod lent;
 pub mod output;
-#[allow(clippy::new_without_default)]
 #[path = "../../../oracle/compare/src/port.rs"]
 pub mod port;
 pub mod preview;

@@ -1,74 +1,15 @@
 //! The calls of include/usbhs_survey.h, and the preview of include/usbhs.h, on slices.
 
-/// A channel as include/usbhs_survey.h has it.
-#[repr(C)]
-struct Channel {
-    maximum: u16,
-    charge: u16,
-    chosen: u8,
-}
+use oracle::Call;
 
-extern "C" {
-    fn usbhs_best_set(
-        list: *mut Channel,
-        len: usize,
-        time: *const u16,
-        budget: u32,
-        total: *mut u32,
-        figure: *mut u32,
-        looked: *mut u32,
-    ) -> u64;
-    fn usbhs_between_visits(a: u32, b: u32, c: u32, d: u32, least: *mut u32, greatest: *mut u32) -> u64;
-    fn usbhs_data_crc(bytes: *const u8, len: usize) -> u32;
-    fn usbhs_card_new(writer: *mut u32);
-    fn usbhs_card_write(writer: *mut u32, block: *mut u8, len: usize, ep: u32, data: *const u8, size: usize) -> u64;
-    fn usbhs_card_finish(writer: *const u32, block: *mut u8, len: usize) -> u64;
-    fn usbhs_card_start(stream: *const u8, len: usize, place: *mut usize) -> u64;
-    fn usbhs_card_next(
-        stream: *const u8,
-        len: usize,
-        place: *mut usize,
-        ep: *mut u32,
-        room: *mut u8,
-        room_len: usize,
-    ) -> u64;
-    fn usbhs_card_read(
-        stream: *const u8,
-        len: usize,
-        place: *mut usize,
-        room: *mut u8,
-        room_len: usize,
-        count: *mut usize,
-        used: *mut usize,
-    ) -> u64;
-    fn usbhs_write_descriptor(bytes: *const u8, len: usize, room: *mut u8, room_len: usize) -> u64;
-    fn usbhs_start_up(
-        state: *mut u8,
-        slots: *mut u8,
-        len: usize,
-        time: *mut u16,
-        driver: u32,
-        size: u32,
-        count: u32,
-        callback: u32,
-    ) -> u64;
-    fn usbhs_continue(state: *mut u8, slots: *mut u8, len: usize, time: *mut u16, driver: u32, value: u32) -> u64;
-    fn usbhs_preview(
-        state: *const u8,
-        bytes: *const u8,
-        len: usize,
-        numbers: *mut u8,
-        buffers: *mut u32,
-        refusal: *mut u32,
-    ) -> u64;
-}
+use crate::exported::{length, usbhs_preview, Length, NUMBERS_LEN, TIME_LEN};
+use crate::exported_survey::*;
+use crate::lent::Lent;
 
-pub const BLOCK: usize = 512;
+pub use crate::exported_survey::BLOCK_LEN as BLOCK;
+
 /// A block's bytes of packet data.
 pub const DATA: usize = 504;
-pub const TIME: usize = 128;
-const STATE: usize = 2839;
-const NUMBERS: usize = 32;
 
 /// An answer's kind, and the row of a refusal.
 fn answered(word: u64) -> Result<u64, u8> {
@@ -92,7 +33,7 @@ pub fn best_set(channels: &[(u16, u16)], in_use: u32, budget: u32) -> Result<Bes
     let mut list: Vec<Channel> =
         channels.iter().map(|&(maximum, charge)| Channel { maximum, charge, chosen: 0 }).collect();
     // the record's numbers have 16 bits: what is in use stands in as many as are needed
-    let mut time = [0u16; TIME];
+    let mut time = [0u16; TIME_LEN];
     let mut left = in_use;
     for t in &mut time {
         *t = left.min(u16::MAX as u32) as u16;
@@ -103,7 +44,7 @@ pub fn best_set(channels: &[(u16, u16)], in_use: u32, budget: u32) -> Result<Bes
     let word = unsafe {
         usbhs_best_set(
             list.as_mut_ptr(),
-            list.len(),
+            length(&list),
             time.as_ptr(),
             budget,
             &mut best.total,
@@ -134,16 +75,16 @@ pub fn between_visits(a: u32, b: u32, c: u32, d: u32) -> Result<(Reached, Reache
 
 pub fn data_crc(bytes: &[u8]) -> u16 {
     // SAFETY: a slice with its own length
-    unsafe { usbhs_data_crc(bytes.as_ptr(), bytes.len()) as u16 }
+    unsafe { usbhs_data_crc(bytes.as_ptr(), length(bytes)) as u16 }
 }
 
 /// The endpoints of a configuration descriptor written out as one interface.
 pub fn write_descriptor(bytes: &[u8]) -> Result<Vec<u8>, u8> {
     let mut room = vec![0; 18 + 7 * 32];
+    let (from, n, m) = (bytes.as_ptr(), length(bytes), length(&room));
     // SAFETY: slices with their own lengths
-    let length =
-        answered(unsafe { usbhs_write_descriptor(bytes.as_ptr(), bytes.len(), room.as_mut_ptr(), room.len()) })?;
-    room.truncate(length as usize);
+    let written = answered(unsafe { usbhs_write_descriptor(from, n, room.as_mut_ptr(), m) })?;
+    room.truncate(written as usize);
     Ok(room)
 }
 
@@ -156,22 +97,20 @@ pub struct Previewed {
 
 /// The preview of a descriptor on a board that has just started up.
 pub fn preview(bytes: &[u8], size: u32, count: u32) -> Result<Previewed, u8> {
-    let (mut state, mut time, mut slots) = ([0u8; STATE], [0u16; TIME], vec![0u8; size as usize * count as usize]);
-    let (mut numbers, mut buffers, mut refusal) = ([0u8; NUMBERS], 0, 0);
-    // SAFETY: every slice is given with its own length
-    unsafe {
-        let (s, p, n, t) = (state.as_mut_ptr(), slots.as_mut_ptr(), slots.len(), time.as_mut_ptr());
-        let mut word = usbhs_start_up(s, p, n, t, 0, size, count, 0);
+    let mut lent = Lent::new(size as usize * count as usize);
+    let mut word = lent.plain(&Call::StartUp { size, count, callback: false });
+    answered(word)?;
+    while word & 15 != 5 {
+        word = lent.plain(&Call::Continue(0));
         answered(word)?;
-        while word & 15 != 5 {
-            word = usbhs_continue(s, p, n, t, 0, 0);
-            answered(word)?;
-        }
-        let given =
-            answered(usbhs_preview(s, bytes.as_ptr(), bytes.len(), numbers.as_mut_ptr(), &mut buffers, &mut refusal))?;
-        let refusal = if refusal == 0 { None } else { Some(refusal as u8) };
-        Ok(Previewed { numbers: numbers[..given as usize].to_vec(), buffers, refusal })
     }
+    let (mut numbers, mut buffers, mut refusal) = ([0u8; NUMBERS_LEN], 0, 0);
+    let (state, n) = (lent.state.as_ptr(), length(bytes));
+    // SAFETY: the state and three rooms are lent, the bytes with their length
+    let word = unsafe { usbhs_preview(state, bytes.as_ptr(), n, numbers.as_mut_ptr(), &mut buffers, &mut refusal) };
+    let given = answered(word)?;
+    let refusal = if refusal == 0 { None } else { Some(refusal as u8) };
+    Ok(Previewed { numbers: numbers[..given as usize].to_vec(), buffers, refusal })
 }
 
 const FULL: u64 = 1;
@@ -196,17 +135,10 @@ impl Writer {
     /// One packet more; each block that is full goes to `store`.
     pub fn write(&mut self, endpoint: u32, packet: &[u8], mut store: impl FnMut(&[u8; BLOCK])) -> Result<(), u8> {
         loop {
+            let (w, b, n) = (self.state.as_mut_ptr(), self.block.as_mut_ptr(), length(&self.block));
             // SAFETY: slices with their own lengths
-            let result = answered(unsafe {
-                usbhs_card_write(
-                    self.state.as_mut_ptr(),
-                    self.block.as_mut_ptr(),
-                    BLOCK,
-                    endpoint,
-                    packet.as_ptr(),
-                    packet.len(),
-                )
-            })?;
+            let word = unsafe { usbhs_card_write(w, b, n, endpoint, packet.as_ptr(), length(packet)) };
+            let result = answered(word)?;
             if result & FULL != 0 {
                 store(&self.block);
             }
@@ -218,8 +150,9 @@ impl Writer {
 
     /// The last block, where there is one.
     pub fn finish(mut self, store: impl FnOnce(&[u8; BLOCK])) -> Result<(), u8> {
+        let n = length(&self.block);
         // SAFETY: as above
-        let result = answered(unsafe { usbhs_card_finish(self.state.as_ptr(), self.block.as_mut_ptr(), BLOCK) })?;
+        let result = answered(unsafe { usbhs_card_finish(self.state.as_ptr(), self.block.as_mut_ptr(), n) })?;
         if result & FULL != 0 {
             store(&self.block);
         }
@@ -243,7 +176,7 @@ const ROOM: usize = 1 << 18;
 /// Reads a stream's packets, as many at a time as its room holds. This is the only place that asks the archive for
 /// packets.
 pub struct Reader {
-    place: usize,
+    place: Length,
     room: Vec<u8>,
     /// The packets that are read and not yet given stand here in the room, one behind the other.
     from: usize,
@@ -260,8 +193,8 @@ impl Reader {
     pub fn new(stream: &[u8]) -> Result<Self, u8> {
         let mut place = 0;
         // SAFETY: a slice with its own length
-        answered(unsafe { usbhs_card_start(stream.as_ptr(), stream.len(), &mut place) })?;
-        Ok(Self { place, room: vec![0; ROOM], from: 0, to: 0, begin: place, places: false, singly: 0 })
+        answered(unsafe { usbhs_card_start(stream.as_ptr(), length(stream), &mut place) })?;
+        Ok(Self { place, room: vec![0; ROOM], from: 0, to: 0, begin: place as usize, places: false, singly: 0 })
     }
 
     /// A reader that tells where each packet begins.
@@ -276,7 +209,7 @@ impl Reader {
 
     /// The block from which on nothing is read yet.
     pub fn block(&self) -> usize {
-        self.place / DATA
+        self.place as usize / DATA
     }
 
     /// Packets are read that are not yet given.
@@ -311,23 +244,15 @@ impl Reader {
         }
         let before = self.place;
         let (mut count, mut used) = (0, 0);
+        let (s, n, m) = (stream.as_ptr(), length(stream), length(&self.room));
         // the room holds every packet, and the stream is whole blocks: nothing is refused
         // SAFETY: slices with their own lengths
-        let more = answered(unsafe {
-            usbhs_card_read(
-                stream.as_ptr(),
-                stream.len(),
-                &mut self.place,
-                self.room.as_mut_ptr(),
-                self.room.len(),
-                &mut count,
-                &mut used,
-            )
-        }) == Ok(1);
-        (self.from, self.to, self.begin) = (0, used, before);
+        let word = unsafe { usbhs_card_read(s, n, &mut self.place, self.room.as_mut_ptr(), m, &mut count, &mut used) };
+        let more = answered(word) == Ok(1);
+        (self.from, self.to, self.begin) = (0, used as usize, before as usize);
         if more && self.places && before + used != self.place {
             // a dropped block stands among them: one at a time, they tell where they begin
-            (self.place, self.singly) = (before, count);
+            (self.place, self.singly) = (before, count as usize);
             return self.one(stream);
         }
         more
@@ -337,22 +262,15 @@ impl Reader {
     fn one(&mut self, stream: &[u8]) -> bool {
         self.singly -= 1;
         let mut endpoint = 0;
+        let room = &mut self.room[HEAD..];
+        let (s, n, m) = (stream.as_ptr(), length(stream), length(room));
         // SAFETY: slices with their own lengths
-        let word = unsafe {
-            usbhs_card_next(
-                stream.as_ptr(),
-                stream.len(),
-                &mut self.place,
-                &mut endpoint,
-                self.room[HEAD..].as_mut_ptr(),
-                self.room.len() - HEAD,
-            )
-        };
+        let word = unsafe { usbhs_card_next(s, n, &mut self.place, &mut endpoint, room.as_mut_ptr(), m) };
         let length = (word >> 8 & 0xFFFF) as usize;
         self.room[..2].copy_from_slice(&(length as u16).to_le_bytes());
         self.room[2] = endpoint as u8;
         (self.from, self.to) = (0, HEAD + length);
-        self.begin = self.place.saturating_sub(HEAD + length);
+        self.begin = (self.place as usize).saturating_sub(HEAD + length);
         word & 15 == 7
     }
 }

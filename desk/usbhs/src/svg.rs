@@ -2,6 +2,16 @@
 
 use std::fmt::Write;
 
+/// Colours.
+pub const INK: &str = "#1d2733";
+pub const GREY: &str = "#6b7785";
+pub const RULE: &str = "#d5dbe2";
+pub const BLUE: &str = "#1f5fa8";
+pub const PALE: &str = "#bcd6f2";
+pub const GREEN: &str = "#2a8a4a";
+pub const RED: &str = "#c8202a";
+pub const AMBER: &str = "#c77700";
+
 pub struct Svg {
     width: f64,
     height: f64,

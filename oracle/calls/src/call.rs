@@ -1,18 +1,19 @@
 //! Calls and answers, as `FORMAT.md` names them.
 
+/// By number: OUT 0, IN 1.
 #[derive(Clone, Copy, PartialEq, Eq, Debug)]
 pub enum Dir {
     Out,
     In,
 }
 
-/// bmAttributes bits 0-1 of an endpoint descriptor (USB 2.0, 9.6.6).
+/// In the order of bmAttributes bits 0-1 of an endpoint descriptor (USB 2.0, 9.6.6).
 #[derive(Clone, Copy, PartialEq, Eq, Debug)]
 pub enum Kind {
-    Control = 0,
-    Isochronous = 1,
-    Bulk = 2,
-    Interrupt = 3,
+    Control,
+    Isochronous,
+    Bulk,
+    Interrupt,
 }
 
 #[derive(Clone, PartialEq, Eq, Debug)]

@@ -1,6 +1,6 @@
 //! Edits of copies of the Rust: `branches.txt` (arms to count) and `mutations.txt` (changes to be noticed).
 
-use std::path::Path;
+use std::path::{Path, PathBuf};
 
 /// One line of one file, a part of it replaced.
 #[derive(Clone, Debug)]
@@ -69,6 +69,21 @@ pub fn copy(oracle: &Path, to: &Path, edits: &[Edit]) -> String {
             },
         })
         .collect()
+}
+
+/// For a build script: `lib.rs`, a copy of the four files with the edits of a list, which `number` has numbered, and
+/// `names.rs`, a constant with the names that it answers.
+pub fn build(list: &str, constant: &str, number: impl FnOnce(&mut [Edit]) -> Vec<String>) {
+    let of = |variable| PathBuf::from(std::env::var(variable).unwrap());
+    let oracle = of("CARGO_MANIFEST_DIR").join("..").canonicalize().unwrap();
+    let out = of("OUT_DIR");
+    for file in [list, "../docs/src", "original/src"] {
+        println!("cargo::rerun-if-changed={}", oracle.join(file).display());
+    }
+    let mut edits = parse(&std::fs::read_to_string(oracle.join(list)).unwrap());
+    let names = number(&mut edits);
+    std::fs::write(out.join("lib.rs"), copy(&oracle, &out, &edits)).unwrap();
+    std::fs::write(out.join("names.rs"), format!("pub const {constant}: &[&str] = &{names:#?};\n")).unwrap();
 }
 
 /// Numbers the arms: `HIT` and `BR(c)` become calls, the names are in the order of their numbers.

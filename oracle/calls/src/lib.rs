@@ -24,3 +24,24 @@ pub trait Driver {
     /// The slot buffer: `count * size` bytes of the last accepted start-up.
     fn slots(&mut self) -> &mut [u8];
 }
+
+/// A driver, and what is done with it and its answer after each call.
+pub struct After<'a, D, F> {
+    pub driver: &'a mut D,
+    pub then: F,
+}
+
+impl<D: Driver, F: FnMut(&mut D, &Call, Answer) -> Answer> Driver for After<'_, D, F> {
+    fn fresh(&mut self) {
+        self.driver.fresh();
+    }
+
+    fn call(&mut self, call: &Call) -> Answer {
+        let answer = self.driver.call(call);
+        (self.then)(self.driver, call, answer)
+    }
+
+    fn slots(&mut self) -> &mut [u8] {
+        self.driver.slots()
+    }
+}

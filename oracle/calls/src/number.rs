@@ -1,7 +1,7 @@
 //! Answers as the exported calls' 64-bit numbers, and entries as bytes for programs that read numbers.
 
 use crate::text::Entry;
-use crate::{Answer, Call, Dir, Wake};
+use crate::{Answer, Call, Wake};
 
 /// An answer that no exported call gives.
 pub const NOT_COMPARED: u64 = 15;
@@ -60,7 +60,6 @@ pub fn wake(code: u8) -> Wake {
 
 /// The call's number in `FORMAT.md`, its numbers and its bytes.
 pub fn call(c: &Call) -> (u8, [u32; 5], &[u8]) {
-    let d = |dir: Dir| (dir == Dir::In) as u32;
     let none: &[u8] = &[];
     let plain = |code: u8| (code, [0; 5], none);
     let ep = |code: u8, ep: u8| (code, [ep as u32, 0, 0, 0, 0], none);
@@ -69,16 +68,16 @@ pub fn call(c: &Call) -> (u8, [u32; 5], &[u8]) {
         Call::Continue(value) => (1, [value, 0, 0, 0, 0], none),
         Call::Allocate { kind, address, maximum, interval, dir } => {
             let address = address.map_or(256, u32::from);
-            (2, [kind as u32, address, maximum as u32, interval as u32, d(dir)], none)
+            (2, [kind as u32, address, maximum as u32, interval as u32, dir as u32], none)
         }
         Call::Start(maximum) => (3, [maximum as u32, 0, 0, 0, 0], none),
         Call::Interrupt => plain(4),
         Call::BusPoll => plain(5),
         Call::BusEnable => plain(6),
         Call::BusDisable => plain(7),
-        Call::SetEnabled { ep, dir, on } => (8, [ep as u32, d(dir), on as u32, 0, 0], none),
-        Call::SetStalled { ep, dir, on } => (9, [ep as u32, d(dir), on as u32, 0, 0], none),
-        Call::IsStalled { ep, dir } => (10, [ep as u32, d(dir), 0, 0, 0], none),
+        Call::SetEnabled { ep, dir, on } => (8, [ep as u32, dir as u32, on as u32, 0, 0], none),
+        Call::SetStalled { ep, dir, on } => (9, [ep as u32, dir as u32, on as u32, 0, 0], none),
+        Call::IsStalled { ep, dir } => (10, [ep as u32, dir as u32, 0, 0, 0], none),
         Call::SetPaced { ep, on } => (11, [ep as u32, on as u32, 0, 0, 0], none),
         Call::Advance(e) => ep(12, e),
         Call::Microframe => plain(13),
@@ -101,7 +100,7 @@ pub fn call(c: &Call) -> (u8, [u32; 5], &[u8]) {
         Call::Queue { ep, ref data } => (30, [ep as u32, 0, 0, 0, 0], data),
         Call::Pending(e) => ep(31, e),
         Call::Overruns(e) => ep(32, e),
-        Call::Enabled { ep, dir } => (33, [ep as u32, d(dir), 0, 0, 0], none),
+        Call::Enabled { ep, dir } => (33, [ep as u32, dir as u32, 0, 0, 0], none),
         Call::Store { offset, ref data } => (34, [offset, 0, 0, 0, 0], data),
         Call::Fill(seed) => (35, [seed as u32, 0, 0, 0, 0], none),
     }

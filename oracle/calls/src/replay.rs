@@ -1,4 +1,4 @@
-//! Makes calls and keeps what they answer; replays lists; compares two drivers call by call.
+//! Makes calls and keeps what they answer; replays lists.
 
 use crate::text::{self, Entry, Line, Printer};
 use crate::{Answer, Call, Driver};

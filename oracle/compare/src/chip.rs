@@ -6,7 +6,7 @@ use std::fmt::Write;
 
 use oracle::replay::Session;
 use oracle::text::Entry;
-use oracle::{Answer, Call, Driver};
+use oracle::{After, Call};
 
 use crate::port::Port;
 
@@ -22,13 +22,18 @@ pub struct Lists {
 
 impl Lists {
     pub fn add(&mut self, port: &mut Port, entries: &[Entry]) {
-        let mut digested = Digested { port, digest: 0, calls: 0 };
+        let mut digest = Digest::default();
+        let then = |port: &mut Port, call: &Call, answer| {
+            digest.after(port, call);
+            answer
+        };
+        let mut digested = After { driver: port, then };
         let mut session = Session::new(&mut digested);
         let own: Vec<Entry> = entries.iter().map(|e| session.call(&e.call)).collect();
         assert!(own.iter().all(|e| e.changed.len() < 256));
         self.bytes.extend(oracle::number::bytes(&own));
         self.count += 1;
-        let Digested { digest, calls, .. } = digested;
+        let Digest { digest, calls } = digest;
         writeln!(self.lines, "list {}: {calls} calls, digest {digest:08X}", self.count).unwrap();
     }
 
@@ -40,43 +45,29 @@ impl Lists {
     }
 }
 
-/// The port, and a digest of what it leaves.
-struct Digested<'a> {
-    port: &'a mut Port,
+/// A digest of what the port leaves.
+#[derive(Default)]
+struct Digest {
     digest: u32,
     calls: u32,
 }
 
-impl Digested<'_> {
+impl Digest {
     fn mix(&mut self, number: u32) {
         self.digest = (self.digest.rotate_left(5) ^ number).wrapping_mul(0x9E37_79B1);
     }
-}
 
-impl Driver for Digested<'_> {
-    fn fresh(&mut self) {
-        self.port.fresh();
-    }
-
-    fn slots(&mut self) -> &mut [u8] {
-        self.port.slots()
-    }
-
-    fn call(&mut self, call: &Call) -> Answer {
-        let answer = self.port.call(call);
+    fn after(&mut self, port: &Port, call: &Call) {
         self.calls += 1;
         if let Call::Open(_) = call {
-            let stamp = *self.port.stamps.last().unwrap();
-            self.mix(stamp.into());
+            self.mix((*port.stamps.last().unwrap()).into());
         }
-        for at in (0..STATE).step_by(4) {
-            self.mix(u32::from_le_bytes(self.port.state[at..at + 4].try_into().unwrap()));
+        for word in port.lent.state[..STATE].chunks_exact(4) {
+            self.mix(u32::from_le_bytes(word.try_into().unwrap()));
         }
-        for at in (0..crate::port::TIME).step_by(2) {
-            self.mix(u32::from(self.port.time[at]) | u32::from(self.port.time[at + 1]) << 16);
+        for two in port.lent.time.chunks_exact(2) {
+            self.mix(u32::from(two[0]) | u32::from(two[1]) << 16);
         }
-        let time = *self.port.times.last().unwrap();
-        self.mix(time);
-        answer
+        self.mix(*port.times.last().unwrap());
     }
 }

@@ -2,8 +2,12 @@
 
 pub mod begun;
 pub mod chip;
+pub mod clock;
 pub mod domain;
+#[path = "../../../rust/port/src/exported.rs"]
+pub mod exported;
 pub mod late;
+pub mod lent;
 mod misplaced;
 mod port;
 pub mod runs;

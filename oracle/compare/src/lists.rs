@@ -2,38 +2,10 @@
 //! board's endpoints one by one, in the order that the request says, up to the first refusal. The port must hand out all that the Rust hands out, or
 //! refuse as the Rust does and change nothing; its preview (request Four) must say the same before. Ends with 1 at the first difference.
 
-// links the port
-use compare as _;
-
+use compare::exported::{length, usbhs_allocate_all, usbhs_preview, NUMBERS_LEN};
+use compare::lent::Lent;
 use oracle::number;
 use oracle::{Answer, Call, Dir, Driver, Kind, Rng};
-
-extern "C" {
-    fn usbhs_start_up(
-        state: *mut u8,
-        slots: *mut u8,
-        len: usize,
-        time: *mut u16,
-        driver: u32,
-        size: u32,
-        count: u32,
-        callback: u32,
-    ) -> u64;
-    fn usbhs_continue(state: *mut u8, slots: *mut u8, len: usize, time: *mut u16, driver: u32, value: u32) -> u64;
-    fn usbhs_allocate(state: *mut u8, kind: u32, address: u32, maximum: u32, interval: u32, dir: u32) -> u64;
-    fn usbhs_allocate_all(state: *mut u8, bytes: *const u8, len: usize) -> u64;
-    fn usbhs_preview(
-        state: *const u8,
-        bytes: *const u8,
-        len: usize,
-        numbers: *mut u8,
-        buffers: *mut u32,
-        refusal: *mut u32,
-    ) -> u64;
-}
-
-/// At least as long as the port's state.
-const STATE: usize = 65_536;
 
 const KINDS: [Kind; 4] = [Kind::Control, Kind::Isochronous, Kind::Bulk, Kind::Interrupt];
 
@@ -136,9 +108,6 @@ fn to_end(mut answer: Answer, mut go_on: impl FnMut() -> Answer) -> (Vec<Answer>
     (accesses, answer)
 }
 
-/// The record of bus time, which allocations do not change.
-const TIME: usize = 128;
-
 /// An answer that is the end of an allocation wakes no task.
 fn decode(word: u64) -> Answer {
     number::decode(word, |n| {
@@ -147,59 +116,40 @@ fn decode(word: u64) -> Answer {
     })
 }
 
-struct Port {
-    state: Vec<u8>,
-    slots: Vec<u8>,
-    time: [u16; TIME],
-}
+struct Port(Lent);
 
 impl Port {
     fn start_up(size: u32, count: u32) -> Self {
-        let mut port = Self { state: vec![0; STATE], slots: vec![0; (size * count) as usize], time: [0; TIME] };
-        let (p, n, t) = (port.slots.as_mut_ptr(), port.slots.len(), port.time.as_mut_ptr());
-        // SAFETY: the exported calls are total; every slice is given with its own length
-        let begun = unsafe { usbhs_start_up(port.state.as_mut_ptr(), p, n, t, 0, size, count, 0) };
-        port.run(begun);
+        let mut port = Self(Lent::new((size * count) as usize));
+        port.run(&Call::StartUp { size, count, callback: false });
         port
     }
 
-    fn run(&mut self, begun: u64) -> (Vec<Answer>, Answer) {
-        let (p, n, t) = (self.slots.as_mut_ptr(), self.slots.len(), self.time.as_mut_ptr());
-        // SAFETY: as above
-        to_end(decode(begun), || decode(unsafe { usbhs_continue(self.state.as_mut_ptr(), p, n, t, 0, 0) }))
+    fn run(&mut self, call: &Call) -> (Vec<Answer>, Answer) {
+        let begun = self.0.plain(call);
+        self.go_on(begun)
+    }
+
+    fn go_on(&mut self, begun: u64) -> (Vec<Answer>, Answer) {
+        to_end(decode(begun), || decode(self.0.plain(&Call::Continue(0))))
     }
 
     fn allocate_all(&mut self, bytes: &[u8]) -> (Vec<Answer>, Answer) {
-        // SAFETY: as above
-        let begun = unsafe { usbhs_allocate_all(self.state.as_mut_ptr(), bytes.as_ptr(), bytes.len()) };
-        self.run(begun)
+        // SAFETY: the state is lent, the bytes with their length
+        let begun = unsafe { usbhs_allocate_all(self.0.state.as_mut_ptr(), bytes.as_ptr(), length(bytes)) };
+        self.go_on(begun)
     }
 
     /// The numbers given, the buffers that they take, the refusal.
     fn preview(&self, bytes: &[u8]) -> Result<(Vec<u8>, u32, u32), Answer> {
-        let (mut numbers, mut buffers, mut refusal) = ([0; 32], 0, 0);
+        let (mut numbers, mut buffers, mut refusal) = ([0; NUMBERS_LEN], 0, 0);
+        let (state, n) = (self.0.state.as_ptr(), length(bytes));
         // SAFETY: as above; the rooms are as long as the call says
-        let word = unsafe {
-            usbhs_preview(
-                self.state.as_ptr(),
-                bytes.as_ptr(),
-                bytes.len(),
-                numbers.as_mut_ptr(),
-                &mut buffers,
-                &mut refusal,
-            )
-        };
+        let word = unsafe { usbhs_preview(state, bytes.as_ptr(), n, numbers.as_mut_ptr(), &mut buffers, &mut refusal) };
         match decode(word) {
             Answer::End { result, .. } => Ok((numbers[..result as usize].to_vec(), buffers, refusal)),
             answer => Err(answer),
         }
-    }
-
-    /// An endpoint of any number.
-    fn one_more(&mut self) -> (Vec<Answer>, Answer) {
-        // SAFETY: as above
-        let begun = unsafe { usbhs_allocate(self.state.as_mut_ptr(), 2, 256, 8, 0, 1) };
-        self.run(begun)
     }
 }
 
@@ -263,7 +213,7 @@ fn main() {
         let count = rng.range(1, 64);
         let board = Board::random(&mut rng, size);
         let mut port = Port::start_up(size, count);
-        let before = port.state.clone();
+        let before = port.0.state.clone();
 
         let short = &board.bytes[..board.bytes.len() - 1];
         assert_eq!(port.allocate_all(short), (vec![], Answer::Refused(17)), "seed {seed}");
@@ -272,7 +222,7 @@ fn main() {
         let Some(list) = board.list() else {
             assert_eq!(port.allocate_all(&board.bytes), (vec![], Answer::Refused(18)), "seed {seed}");
             assert_eq!(port.preview(&board.bytes), Err(Answer::Refused(18)), "seed {seed}");
-            assert!(port.state == before, "seed {seed}");
+            assert!(port.0.state == before, "seed {seed}");
             errors[1] += 1;
             continue;
         };
@@ -282,11 +232,11 @@ fn main() {
         let wanted = one_by_one(&mut rust, size, &list);
         let said = (wanted.numbers.clone(), wanted.buffers, wanted.refusal);
         assert_eq!(port.preview(&board.bytes), Ok(said), "seed {seed}: {list:?}");
-        assert!(port.state == before, "seed {seed}");
+        assert!(port.0.state == before, "seed {seed}");
         let (own, end) = port.allocate_all(&board.bytes);
         if wanted.refusal != 0 {
             assert_eq!((own, end), (vec![], Answer::Refused(wanted.refusal as u8)), "seed {seed}: {list:?}");
-            assert!(port.state == before, "seed {seed}");
+            assert!(port.0.state == before, "seed {seed}");
             refused[wanted.refusal as usize] += 1;
             continue;
         }
@@ -294,7 +244,7 @@ fn main() {
         assert_eq!(end, Answer::End { result: list.len() as u32, wakes: vec![] }, "seed {seed}");
         // the states are alike: one more allocation answers alike
         let more = Call::Allocate { kind: Kind::Bulk, address: None, maximum: 8, interval: 0, dir: Dir::In };
-        assert_eq!(port.one_more(), run(&mut rust, more), "seed {seed}: {list:?}");
+        assert_eq!(port.run(&more), run(&mut rust, more), "seed {seed}: {list:?}");
         given += 1;
         accesses += own.len();
     }

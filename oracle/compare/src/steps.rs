@@ -4,51 +4,17 @@
 //! the resumption of its coroutine. Beside it the Rust in one go, where an access is a load or a store in the midst of its text.
 //! `steps OPERATION (port|stepped|whole) N` makes the operation N times and prints nothing: for counting instructions.
 
-// links the port
-use compare as _;
-
 use std::hint::black_box;
-use std::time::Instant;
 
+use compare::clock::{best, nanoseconds, ROUNDS};
+use compare::exported::usbhs_continue;
+use compare::lent::Lent;
 use oracle::{Call, Dir, Kind};
 use original::bench::Bare;
 use seam::{reg, Ask, Coroutine, Finish, Out};
 
-extern "C" {
-    fn usbhs_start_up(
-        state: *mut u8,
-        slots: *mut u8,
-        len: usize,
-        time: *mut u16,
-        driver: u32,
-        size: u32,
-        count: u32,
-        callback: u32,
-    ) -> u64;
-    fn usbhs_allocate(state: *mut u8, kind: u32, address: u32, maximum: u32, interval: u32, dir: u32) -> u64;
-    fn usbhs_start(state: *mut u8, maximum: u32) -> u64;
-    fn usbhs_continue(state: *mut u8, slots: *mut u8, len: usize, time: *mut u16, driver: u32, value: u32) -> u64;
-    fn usbhs_begin_bus_poll(state: *mut u8) -> u64;
-    fn usbhs_begin_interrupt(state: *mut u8) -> u64;
-    fn usbhs_begin_set_enabled(
-        state: *mut u8,
-        slots: *mut u8,
-        len: usize,
-        time: *mut u16,
-        driver: u32,
-        ep: u32,
-        dir: u32,
-        on: u32,
-    ) -> u64;
-    fn usbhs_begin_set_stalled(state: *mut u8, ep: u32, dir: u32, on: u32) -> u64;
-}
-
-const STATE: usize = 4096;
-const TIME: usize = 128;
 const SIZE: u32 = 64;
 const COUNT: u32 = 24;
-const ROUNDS: usize = 400;
-const TIMES: usize = 1000;
 
 /// What each register reads, and what was written last.
 #[derive(Clone, PartialEq)]
@@ -87,56 +53,21 @@ impl Registers {
     }
 }
 
-fn dir(d: Dir) -> u32 {
-    (d == Dir::In) as u32
-}
-
 struct Port {
-    state: Vec<u8>,
-    slots: Vec<u8>,
-    time: [u16; TIME],
+    lent: Lent,
     registers: Registers,
 }
 
 impl Port {
     fn new() -> Self {
-        Self {
-            state: vec![0; STATE],
-            slots: vec![0; (SIZE * COUNT) as usize],
-            time: [0; TIME],
-            registers: Registers::new(),
-        }
-    }
-
-    #[inline]
-    fn begin(&mut self, call: &Call) -> u64 {
-        let s = self.state.as_mut_ptr();
-        let (p, n, t) = (self.slots.as_mut_ptr(), self.slots.len(), self.time.as_mut_ptr());
-        // SAFETY: the exported calls are total; the state is longer than theirs, the slice is given with its length
-        unsafe {
-            match *call {
-                Call::StartUp { size, count, callback } => usbhs_start_up(s, p, n, t, 0, size, count, callback as u32),
-                Call::Allocate { kind, address, maximum, interval, dir: d } => {
-                    let address = address.map_or(256, u32::from);
-                    usbhs_allocate(s, kind as u32, address, maximum as u32, interval as u32, dir(d))
-                }
-                Call::Start(maximum) => usbhs_start(s, maximum as u32),
-                Call::BusPoll => usbhs_begin_bus_poll(s),
-                Call::Interrupt => usbhs_begin_interrupt(s),
-                Call::SetEnabled { ep, dir: d, on } => {
-                    usbhs_begin_set_enabled(s, p, n, t, 0, ep as u32, dir(d), on as u32)
-                }
-                Call::SetStalled { ep, dir: d, on } => usbhs_begin_set_stalled(s, ep as u32, dir(d), on as u32),
-                _ => unreachable!("{call:?} is not measured"),
-            }
-        }
+        Self { lent: Lent::new((SIZE * COUNT) as usize), registers: Registers::new() }
     }
 
     /// The whole operation; how many calls it took.
     #[inline(never)]
     fn operate(&mut self, call: &Call) -> u32 {
         let mut calls = 1;
-        let mut a = self.begin(call);
+        let mut a = self.lent.plain(call);
         loop {
             let value = match a & 15 {
                 1 => self.registers.read((a >> 8) as u8, (a >> 16) as u8),
@@ -146,26 +77,16 @@ impl Port {
                 _ => panic!("{call:?}: {a:#x}"),
             };
             calls += 1;
-            // SAFETY: as in `begin`
-            a = unsafe {
-                usbhs_continue(
-                    self.state.as_mut_ptr(),
-                    self.slots.as_mut_ptr(),
-                    self.slots.len(),
-                    self.time.as_mut_ptr(),
-                    0,
-                    value,
-                )
-            };
+            let (s, p, n, t) = self.lent.parts();
+            // SAFETY: all that is lent, the slots with their length
+            a = unsafe { usbhs_continue(s, p, n, t, 0, value) };
         }
     }
-}
 
-impl Port {
     fn made(&mut self, o: &Operation) -> u32 {
         if o.arrives {
             let at = self.registers.written[reg::EP_RX_DMA as usize][1] as usize;
-            self.slots[at..at + PACKET.len()].copy_from_slice(black_box(&PACKET));
+            self.lent.slots[at..at + PACKET.len()].copy_from_slice(black_box(&PACKET));
         }
         self.operate(&o.call)
     }
@@ -305,7 +226,7 @@ fn both(o: &Operation) -> (Port, Stepped, u32) {
     }
     // the ring of isochronous OUT 1, which lies first, is marked otherwise since request Eight
     let ring = 16 * SIZE as usize;
-    assert!(port.registers == told && port.slots[ring..] == rust.bare.slots()[ring..], "{}", o.name);
+    assert!(port.registers == told && port.lent.slots[ring..] == rust.bare.slots()[ring..], "{}", o.name);
     for (r, row) in rust.registers.reads.iter().enumerate() {
         for (e, &value) in row.iter().enumerate() {
             // the driver keeps these: they read as written
@@ -322,29 +243,18 @@ fn switches() -> f64 {
     const CALLS: u32 = 40;
     let mut on = Coroutine::new();
     let registers = Registers::new();
-    let mut best = f64::MAX;
-    for _ in 0..ROUNDS {
-        best = best.min(nanoseconds(|| {
-            let mut out = on.start(false, || {
-                for _ in 1..CALLS {
-                    black_box(seam::read(reg::INT_FG, 0));
-                }
-                Finish::Nothing
-            });
-            while let Out::Asked(Ask::Read { reg, ep }) = out {
-                out = on.resume(registers.read(reg, ep));
+    let operation = || {
+        let mut out = on.start(false, || {
+            for _ in 1..CALLS {
+                black_box(seam::read(reg::INT_FG, 0));
             }
-        }));
-    }
-    best / CALLS as f64
-}
-
-fn nanoseconds(mut operation: impl FnMut()) -> f64 {
-    let t = Instant::now();
-    for _ in 0..TIMES {
-        operation();
-    }
-    t.elapsed().as_nanos() as f64 / TIMES as f64
+            Finish::Nothing
+        });
+        while let Out::Asked(Ask::Read { reg, ep }) = out {
+            out = on.resume(registers.read(reg, ep));
+        }
+    };
+    best(operation) / CALLS as f64
 }
 
 fn measure(o: &Operation) {

@@ -4,7 +4,7 @@ use compare::runs::Runs;
 use compare::{domain, late};
 use oracle::replay::Session;
 use oracle::text::{print, Entry};
-use oracle::{Answer, Call, Driver};
+use oracle::{After, Answer, Call, Driver};
 
 use crate::{usbhs, DropIn};
 
@@ -13,29 +13,16 @@ const FRAME_NO: u8 = 4;
 /// Runs that are made on the Rust before the drop-in makes them: the shims are shared.
 pub const BATCH: u64 = 500;
 
-/// The drop-in; an interrupt's first reading, the frame of request One, is brought here: the Rust has not got it.
-struct Framed {
-    inner: DropIn,
-    interrupts: u16,
-}
-
-impl Driver for Framed {
-    fn fresh(&mut self) {
-        self.inner.fresh();
-    }
-
-    fn slots(&mut self) -> &mut [u8] {
-        self.inner.slots()
-    }
-
-    fn call(&mut self, call: &Call) -> Answer {
-        let answer = self.inner.call(call);
+/// After an interrupt's begin: its first reading, the frame of request One, is brought here, as the Rust has not got it.
+fn framed() -> impl FnMut(&mut DropIn, &Call, Answer) -> Answer {
+    let mut interrupts = 0u16;
+    move |dropin, call, answer| {
         if *call != Call::Interrupt || answer == Answer::Outside {
             return answer;
         }
         assert_eq!(answer, Answer::Read { reg: FRAME_NO, ep: 0 });
-        self.interrupts = self.interrupts.wrapping_add(1);
-        self.inner.call(&Call::Continue(self.interrupts.wrapping_mul(0x9E37).into()))
+        interrupts = interrupts.wrapping_add(1);
+        dropin.call(&Call::Continue(interrupts.wrapping_mul(0x9E37).into()))
     }
 }
 
@@ -71,7 +58,10 @@ impl Compared {
     }
 
     /// The first entry of a run of the Rust in which the drop-in differs, if one does.
-    fn check(&mut self, dropin: &mut Framed, name: &str, entries: &[Entry]) -> Result<(), String> {
+    fn check<F>(&mut self, dropin: &mut After<'_, DropIn, F>, name: &str, entries: &[Entry]) -> Result<(), String>
+    where
+        F: FnMut(&mut DropIn, &Call, Answer) -> Answer,
+    {
         let (expected, lengths) = late::by_rule(&domain::within_domain(entries));
         self.late += lengths.late;
         self.otherwise += lengths.otherwise;
@@ -95,7 +85,7 @@ impl Compared {
             self.count(e);
         }
         self.lists += 1;
-        if dropin.inner.front_untouched() {
+        if dropin.driver.front_untouched() {
             Ok(())
         } else {
             Err(format!("{name}: a byte in front of the buffer was written"))
@@ -109,7 +99,7 @@ impl Compared {
             made.push((name.into(), entries.to_vec()));
             Ok(())
         })?;
-        let mut dropin = Framed { inner: DropIn::new(), interrupts: 0 };
+        let mut dropin = After { driver: &mut DropIn::new(), then: framed() };
         made.iter().try_for_each(|(name, entries)| self.check(&mut dropin, name, entries))
     }
 

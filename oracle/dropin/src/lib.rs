@@ -1,7 +1,13 @@
 //! The drop-in (`rust/ch32_hal/usbhs`) over the oracle's shims, driven by the same files that drive the unchanged Rust.
 
 #[macro_use]
+#[allow(unused_macros)]
+#[path = "../../original/src/macros.rs"]
 mod macros;
+#[macro_use]
+mod probe;
+#[path = "../../original/src/board.rs"]
+mod board;
 #[path = "../../original/src/hal.rs"]
 mod hal;
 #[allow(dead_code)]

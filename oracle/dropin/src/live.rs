@@ -23,30 +23,20 @@ use std::sync::Arc;
 use std::task::Wake;
 
 use embassy_usb_driver::{
-    Bus as _, ControlPipe as _, Direction, Driver as _, Endpoint as _, EndpointAddress, EndpointConfig,
-    EndpointOut as _, EndpointType, Event,
+    Bus as _, ControlPipe as _, Direction, Driver as _, EndpointAddress, EndpointConfig, EndpointOut, EndpointType,
+    Event,
 };
 use oracle::Rng;
 use seam::{reg, Mapping, ARENA};
 
-use crate::interrupt::typelevel::{Binding, Handler};
+use crate::board::{Global, Irqs, Pin0};
+use crate::interrupt::typelevel::Handler;
 use crate::peripherals::USBHS;
 use crate::usb::EndpointDataBuffer;
-use crate::usbhs::{self, Driver, Instance, InterruptHandler, WakeupInterruptHandler};
+use crate::usbhs::{self, Driver, InterruptHandler};
 use crate::Peri;
 
 use host::{memory, Chip, Host, TRANSFER};
-
-pub struct Pin0;
-impl crate::gpio::Pin for Pin0 {}
-impl usbhs::DpPin<USBHS, 0> for Pin0 {}
-impl usbhs::DmPin<USBHS, 0> for Pin0 {}
-pub struct Irqs;
-pub type Global = <USBHS as Instance>::Interrupt;
-type Wakeup = <USBHS as Instance>::WakeupInterrupt;
-// SAFETY: nothing is bound
-unsafe impl Binding<Global, InterruptHandler<USBHS>> for Irqs {}
-unsafe impl Binding<Wakeup, WakeupInterruptHandler<USBHS>> for Irqs {}
 
 /// EP0, a bulk OUT, two isochronous rings, an isochronous IN.
 const BUFFERS: usize = 36;
@@ -184,8 +174,22 @@ fn execute(tasks: &mut [(&'static str, Option<Task>)]) -> Vec<&'static str> {
     }
 }
 
-fn config(ep_type: EndpointType, ep: u8) -> EndpointConfig {
+pub fn config(ep_type: EndpointType, ep: u8) -> EndpointConfig {
     EndpointConfig { ep_type, addr: Some(ep.into()), max_packet_size: SIZE as u16, interval_ms: 1 }
+}
+
+/// What a task got.
+type Got = Rc<RefCell<Vec<Vec<u8>>>>;
+
+/// The task of an OUT: twenty reads, and what is to be done after each.
+async fn reads(mut out: impl EndpointOut, got: Got, after: impl Fn()) {
+    out.wait_enabled().await;
+    for _ in 0..20 {
+        let mut buf = [0; SIZE];
+        let n = out.read(&mut buf).await.unwrap();
+        got.borrow_mut().push(buf[..n].to_vec());
+        after();
+    }
 }
 
 /// One run; answers how many interrupts fell, and how many packets were taken in the midst of one by the timer.
@@ -267,8 +271,8 @@ pub fn run(seed: u64) -> Result<(usize, usize), String> {
         usbhs::set_sof_callback(sof);
     }
     let mut driver = Driver::new(Peri::new(USBHS), Irqs, Peri::new(Pin0), Peri::new(Pin0), buffers);
-    let mut bulk_out = driver.alloc_endpoint_out(&config(EndpointType::Bulk, 1)).unwrap();
-    let mut iso_out = driver.alloc_endpoint_out(&config(EndpointType::Isochronous, 2)).unwrap();
+    let bulk_out = driver.alloc_endpoint_out(&config(EndpointType::Bulk, 1)).unwrap();
+    let iso_out = driver.alloc_endpoint_out(&config(EndpointType::Isochronous, 2)).unwrap();
     let _taken_out = driver.alloc_endpoint_out(&config(EndpointType::Isochronous, 3)).unwrap();
     let mut iso_in = config(EndpointType::Isochronous, 0x84);
     iso_in.max_packet_size = 8;
@@ -283,7 +287,7 @@ pub fn run(seed: u64) -> Result<(usize, usize), String> {
     }
     chip(|c| c.on = true);
 
-    let got: [Rc<RefCell<Vec<Vec<u8>>>>; 3] = Default::default();
+    let got: [Got; 3] = Default::default();
     let [got_bulk, got_iso, got_data] = [got[0].clone(), got[1].clone(), got[2].clone()];
     let answer = descriptor.clone();
     let mut tasks: Vec<(&str, Option<Task>)> = vec![
@@ -322,29 +326,8 @@ pub fn run(seed: u64) -> Result<(usize, usize), String> {
                 }
             })),
         ),
-        (
-            "the bulk OUT",
-            Some(Box::pin(async move {
-                bulk_out.wait_enabled().await;
-                for _ in 0..20 {
-                    let mut buf = [0; SIZE];
-                    let n = bulk_out.read(&mut buf).await.unwrap();
-                    got_bulk.borrow_mut().push(buf[..n].to_vec());
-                }
-            })),
-        ),
-        (
-            "the isochronous OUT",
-            Some(Box::pin(async move {
-                iso_out.wait_enabled().await;
-                for _ in 0..20 {
-                    let mut buf = [0; SIZE];
-                    let n = iso_out.read(&mut buf).await.unwrap();
-                    got_iso.borrow_mut().push(buf[..n].to_vec());
-                    chip(|c| c.waiting[2] -= 1);
-                }
-            })),
-        ),
+        ("the bulk OUT", Some(Box::pin(reads(bulk_out, got_bulk, || ())))),
+        ("the isochronous OUT", Some(Box::pin(reads(iso_out, got_iso, || chip(|c| c.waiting[2] -= 1))))),
     ];
     let left = execute(&mut tasks);
     drop(tasks);

@@ -4,14 +4,15 @@ use core::task::{Context, Poll, Waker};
 use std::pin::pin;
 
 use embassy_usb_driver::{
-    Bus as _, Direction, Driver as _, Endpoint as _, EndpointAddress, EndpointConfig, EndpointIn as _, EndpointInfo,
-    EndpointOut as _, EndpointType,
+    Bus as _, Direction, Driver as _, Endpoint as _, EndpointAddress, EndpointIn as _, EndpointInfo, EndpointOut as _,
+    EndpointType,
 };
 use seam::{reg, Mapping, ARENA};
 use usbhs_port::Refusal;
 
+use crate::board::{Global, Irqs, Pin0};
 use crate::interrupt::typelevel::Handler;
-use crate::live::{Global, Irqs, Pin0};
+use crate::live::config;
 use crate::peripherals::USBHS;
 use crate::usb::EndpointDataBuffer;
 use crate::usbhs::{self, Driver, InterruptHandler};
@@ -125,13 +126,7 @@ fn stamps() {
 /// runs.
 fn bus_time() {
     fresh(|mut driver| {
-        let config = EndpointConfig {
-            ep_type: EndpointType::Isochronous,
-            addr: Some(0x84.into()),
-            max_packet_size: 64,
-            interval_ms: 1,
-        };
-        driver.alloc_endpoint_in(&config).unwrap();
+        driver.alloc_endpoint_in(&config(EndpointType::Isochronous, 0x84)).unwrap();
         let (mut bus, _control) = driver.start(64);
         assert_eq!(usbhs::bus_time_in_use(), 0);
         bus.endpoint_set_enabled(0x84.into(), true);

@@ -3,4 +3,4 @@
 #![allow(unused_unsafe)]
 
 include!(concat!(env!("OUT_DIR"), "/lib.rs"));
-include!(concat!(env!("OUT_DIR"), "/changes.rs"));
+include!(concat!(env!("OUT_DIR"), "/names.rs"));

@@ -5,31 +5,18 @@ use core::pin::pin;
 use core::task::{Context, Poll, Waker};
 
 use embassy_usb_driver::{
-    Bus as _, ControlPipe as _, Direction, Driver as _, EndpointAddress, EndpointConfig, EndpointError, EndpointIn,
-    EndpointOut, EndpointType, Event,
+    Bus as _, ControlPipe as _, Driver as _, EndpointAddress, EndpointConfig, EndpointError, EndpointIn, EndpointOut,
+    Event,
 };
 use oracle::{Call, Dir, Kind};
 use seam::{Coroutine, Finish, Out};
 
-use crate::interrupt::typelevel::{Binding, Handler};
+use crate::board::{Global, Irqs, Pin0};
+use crate::interrupt::typelevel::Handler;
 use crate::peripherals::USBHS;
 use crate::usb::EndpointDataBuffer;
-use crate::usbhs::{
-    self, control::ControlPipe, probe, Bus, Driver, Instance, InterruptHandler, WakeupInterruptHandler,
-};
+use crate::usbhs::{self, control::ControlPipe, probe, Bus, Driver, InterruptHandler};
 use crate::Peri;
-
-struct Pin;
-impl crate::gpio::Pin for Pin {}
-impl usbhs::DpPin<USBHS, 0> for Pin {}
-impl usbhs::DmPin<USBHS, 0> for Pin {}
-
-struct Irqs;
-type Global = <USBHS as Instance>::Interrupt;
-type Wakeup = <USBHS as Instance>::WakeupInterrupt;
-// SAFETY: nothing is bound
-unsafe impl Binding<Global, InterruptHandler<USBHS>> for Irqs {}
-unsafe impl Binding<Wakeup, WakeupInterruptHandler<USBHS>> for Irqs {}
 
 type Side<const NR: usize, const SIZE: usize> = Driver<'static, USBHS, NR, SIZE>;
 type EpOut<const NR: usize, const SIZE: usize> = <Side<NR, SIZE> as embassy_usb_driver::Driver<'static>>::EndpointOut;
@@ -83,15 +70,8 @@ pub fn exact_objects(size: u32, count: u32) -> Option<Box<dyn Objects>> {
     })
 }
 
-fn direction(dir: Dir) -> Direction {
-    match dir {
-        Dir::Out => Direction::Out,
-        Dir::In => Direction::In,
-    }
-}
-
 fn address(ep: u8, dir: Dir) -> EndpointAddress {
-    EndpointAddress::from_parts(ep as usize, direction(dir))
+    EndpointAddress::from_parts(ep as usize, dir)
 }
 
 fn refusal(e: EndpointError) -> Finish {
@@ -136,19 +116,13 @@ impl<const NR: usize, const SIZE: usize> Held<NR, SIZE> {
     fn new_driver(&mut self, buffers: *mut u8, count: usize) -> Finish {
         // SAFETY: NR buffers, zeroed at least once, lent for the run
         let array = unsafe { &mut *buffers.cast::<[EndpointDataBuffer<SIZE>; NR]>() };
-        let mut driver = Driver::new(Peri::new(USBHS), Irqs, Peri::new(Pin), Peri::new(Pin), array);
+        let mut driver = Driver::new(Peri::new(USBHS), Irqs, Peri::new(Pin0), Peri::new(Pin0), array);
         probe::use_up(&mut driver, count);
         self.driver = Some(driver);
         Finish::Value(0)
     }
 
-    fn allocate(&mut self, kind: Kind, addr: Option<u8>, max_packet_size: u16, interval_ms: u8, dir: Dir) -> Finish {
-        let ep_type = match kind {
-            Kind::Control => EndpointType::Control,
-            Kind::Isochronous => EndpointType::Isochronous,
-            Kind::Bulk => EndpointType::Bulk,
-            Kind::Interrupt => EndpointType::Interrupt,
-        };
+    fn allocate(&mut self, ep_type: Kind, addr: Option<u8>, max_packet_size: u16, interval_ms: u8, dir: Dir) -> Finish {
         let config = EndpointConfig { ep_type, addr: addr.map(Into::into), max_packet_size, interval_ms };
         let driver = self.driver.as_mut().unwrap();
         let errors = seam::errors();

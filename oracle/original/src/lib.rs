@@ -3,6 +3,11 @@
 #[macro_use]
 #[path = "macros.rs"]
 mod macros;
+#[macro_use]
+#[path = "probe.rs"]
+mod probe;
+#[path = "board.rs"]
+mod board;
 #[path = "hal.rs"]
 mod hal;
 #[path = "held.rs"]

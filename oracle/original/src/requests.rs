@@ -122,7 +122,7 @@ impl Rust {
     /// The Rust says only no: the number is by the rows' order.
     pub(super) fn queue(&mut self, ep: u8, data: &[u8]) -> Answer {
         let e = ep as usize;
-        let enabled = usbhs::endpoint_enabled(e, Direction::In);
+        let enabled = usbhs::endpoint_enabled(e, Dir::In);
         if usbhs::iso_in_prime(e, data) {
             return Answer::End { result: 0, wakes: vec![] };
         }

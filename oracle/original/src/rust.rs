@@ -10,7 +10,6 @@ use seam::{reg, Ask, Coroutine, Finish, Mapping, Out, ARENA};
 
 use crate::held::{exact_objects, is_size, objects, Objects};
 use crate::usbhs::{self, probe};
-use embassy_usb_driver::Direction;
 
 /// Whose coroutine the operation under way runs on.
 #[derive(Clone, Copy, PartialEq, Eq)]
@@ -284,13 +283,7 @@ impl Driver for Rust {
             }
             Call::Pending(ep) => Answer::Number(usbhs::iso_in_pending(ep as usize) as u32),
             Call::Overruns(ep) => Answer::Number(usbhs::iso_out_overruns(ep as usize)),
-            Call::Enabled { ep, dir } => {
-                let direction = match dir {
-                    Dir::Out => Direction::Out,
-                    Dir::In => Direction::In,
-                };
-                Answer::Number(usbhs::endpoint_enabled(ep as usize, direction) as u32)
-            }
+            Call::Enabled { ep, dir } => Answer::Number(usbhs::endpoint_enabled(ep as usize, dir) as u32),
             _ => {
                 match call {
                     Call::SetEnabled { ep, dir: Dir::Out, .. } => self.takes[*ep as usize].abandon(),

@@ -1,7 +1,7 @@
 //! `original` once more, its arms counted: `build.rs` makes the copy.
 
 include!(concat!(env!("OUT_DIR"), "/lib.rs"));
-include!(concat!(env!("OUT_DIR"), "/arms.rs"));
+include!(concat!(env!("OUT_DIR"), "/names.rs"));
 
 /// How often each arm was reached, and whether all were that have to be.
 pub fn branch_table() -> (String, bool) {

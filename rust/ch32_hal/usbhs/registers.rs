@@ -27,6 +27,13 @@ fn bits<const N: usize>(of: [bool; N]) -> u32 {
     of.iter().rev().fold(0, |word, &bit| word << 1 | bit as u32)
 }
 
+/// The other way: each field by the bit of its number.
+macro_rules! set_bits {
+    ($of:ident, $on:ident: $($set:ident $bit:literal),*) => {
+        $($of.$set($on($bit));)*
+    };
+}
+
 fn tog(t: EpTog) -> u32 {
     match t {
         EpTog::DATA0 => 0,
@@ -45,61 +52,48 @@ fn to_tog(word: u32) -> EpTog {
     }
 }
 
-fn rx_word(v: EpRxCtrl) -> u32 {
-    let response = match v.mask_uep_r_res() {
-        EpRxResponse::ACK => 0,
-        EpRxResponse::NYET => 1,
-        EpRxResponse::NAK => 2,
-        EpRxResponse::STALL => 3,
+/// Of an endpoint's control word in one direction: the port's word of the PAC's value, and the value to write for a
+/// word. `before`: the value that was read just before, with its word; then only the fields that differ are set.
+macro_rules! control_word {
+    ($word:ident, $value:ident: $ctrl:ident, $response:ident $one:ident, $res:ident $set_res:ident,
+        $tog:ident $set_tog:ident, $auto:ident $set_auto:ident) => {
+        fn $word(v: $ctrl) -> u32 {
+            let response = match v.$res() {
+                $response::ACK => 0,
+                $response::$one => 1,
+                $response::NAK => 2,
+                $response::STALL => 3,
+            };
+            response | tog(v.$tog()) << 2 | (v.$auto() as u32) << 4
+        }
+
+        fn $value(before: Option<($ctrl, u32)>, word: u32) -> $ctrl {
+            let (mut v, changed) = before.map_or(($ctrl::default(), !0), |(v, read)| (v, word ^ read));
+            if changed & 3 != 0 {
+                v.$set_res(match word & 3 {
+                    0 => $response::ACK,
+                    1 => $response::$one,
+                    2 => $response::NAK,
+                    _ => $response::STALL,
+                });
+            }
+            if changed & 0xC != 0 {
+                v.$set_tog(to_tog(word));
+            }
+            if changed & 0x10 != 0 {
+                v.$set_auto(word & 0x10 != 0);
+            }
+            v
+        }
     };
-    response | tog(v.mask_uep_r_tog()) << 2 | (v.r_tog_auto() as u32) << 4
 }
 
-fn tx_word(v: EpTxCtrl) -> u32 {
-    let response = match v.mask_uep_t_res() {
-        EpTxResponse::ACK => 0,
-        EpTxResponse::_RESERVED_1 => 1,
-        EpTxResponse::NAK => 2,
-        EpTxResponse::STALL => 3,
-    };
-    response | tog(v.mask_uep_t_tog()) << 2 | (v.t_tog_auto() as u32) << 4
-}
+control_word!(rx_word, rx_value: EpRxCtrl, EpRxResponse NYET, mask_uep_r_res set_mask_uep_r_res,
+    mask_uep_r_tog set_mask_uep_r_tog, r_tog_auto set_r_tog_auto);
+control_word!(tx_word, tx_value: EpTxCtrl, EpTxResponse _RESERVED_1, mask_uep_t_res set_mask_uep_t_res,
+    mask_uep_t_tog set_mask_uep_t_tog, t_tog_auto set_t_tog_auto);
 
 /// Sets the fields of `changed`.
-fn set_rx(v: &mut EpRxCtrl, word: u32, changed: u32) {
-    if changed & 3 != 0 {
-        v.set_mask_uep_r_res(match word & 3 {
-            0 => EpRxResponse::ACK,
-            1 => EpRxResponse::NYET,
-            2 => EpRxResponse::NAK,
-            _ => EpRxResponse::STALL,
-        });
-    }
-    if changed & 0xC != 0 {
-        v.set_mask_uep_r_tog(to_tog(word));
-    }
-    if changed & 0x10 != 0 {
-        v.set_r_tog_auto(word & 0x10 != 0);
-    }
-}
-
-fn set_tx(v: &mut EpTxCtrl, word: u32, changed: u32) {
-    if changed & 3 != 0 {
-        v.set_mask_uep_t_res(match word & 3 {
-            0 => EpTxResponse::ACK,
-            1 => EpTxResponse::_RESERVED_1,
-            2 => EpTxResponse::NAK,
-            _ => EpTxResponse::STALL,
-        });
-    }
-    if changed & 0xC != 0 {
-        v.set_mask_uep_t_tog(to_tog(word));
-    }
-    if changed & 0x10 != 0 {
-        v.set_t_tog_auto(word & 0x10 != 0);
-    }
-}
-
 fn set_ctrl(v: &mut Ctrl, word: u32, changed: u32) {
     let on = |bit: u32| word >> bit & 1 != 0;
     let set = |bit: u32| changed >> bit & 1 != 0;
@@ -203,12 +197,8 @@ impl<T: Instance> Access for Chip<T> {
         let n = ep as usize;
         match register {
             Register::IntFg => r.int_fg().write(|w| {
-                w.set_bus_rst(on(0));
-                w.set_transfer(on(1));
-                w.set_suspend(on(2));
-                w.set_hst_sof(on(3));
-                w.set_fifo_ov(on(4));
-                w.set_setup_act(on(5));
+                set_bits!(w, on: set_bus_rst 0, set_transfer 1, set_suspend 2, set_hst_sof 3, set_fifo_ov 4,
+                    set_setup_act 5);
             }),
             Register::Ctrl => match last {
                 Before::Ctrl(mut v, read) => {
@@ -218,12 +208,8 @@ impl<T: Instance> Access for Chip<T> {
                 _ => r.ctrl().write(|w| set_ctrl(w, word, !0)),
             },
             Register::IntEn => r.int_en().write(|w| {
-                w.set_dev_nak(on(0));
-                w.set_fifo_ov(on(1));
-                w.set_setup_act(on(2));
-                w.set_suspend(on(3));
-                w.set_bus_rst(on(4));
-                w.set_transfer(on(5));
+                set_bits!(w, on: set_dev_nak 0, set_fifo_ov 1, set_setup_act 2, set_suspend 3, set_bus_rst 4,
+                    set_transfer 5);
                 // the port is told that there is a callback, as there may be one later
                 w.set_sof_act(on(6) && lent::with(|l| l.callback.is_some()));
             }),
@@ -246,20 +232,14 @@ impl<T: Instance> Access for Chip<T> {
             Register::EpTLen => d.ep_t_len(n).write(|w| w.set_len(word as u16)),
             Register::EpRxDma => d.ep_rx_dma(n - 1).write_value(lent::base().wrapping_add(word)),
             Register::EpTxDma => d.ep_tx_dma(n - 1).write_value(lent::base().wrapping_add(word)),
-            Register::EpRxCtrl => match last {
-                Before::Rx(e, mut v, read) if e == ep => {
-                    set_rx(&mut v, word, word ^ read);
-                    d.ep_rx_ctrl(n).write_value(v);
-                }
-                _ => d.ep_rx_ctrl(n).write(|w| set_rx(w, word, !0)),
-            },
-            Register::EpTxCtrl => match last {
-                Before::Tx(e, mut v, read) if e == ep => {
-                    set_tx(&mut v, word, word ^ read);
-                    d.ep_tx_ctrl(n).write_value(v);
-                }
-                _ => d.ep_tx_ctrl(n).write(|w| set_tx(w, word, !0)),
-            },
+            Register::EpRxCtrl => {
+                let before = if let Before::Rx(e, v, read) = last { (e == ep).then_some((v, read)) } else { None };
+                d.ep_rx_ctrl(n).write_value(rx_value(before, word));
+            }
+            Register::EpTxCtrl => {
+                let before = if let Before::Tx(e, v, read) = last { (e == ep).then_some((v, read)) } else { None };
+                d.ep_tx_ctrl(n).write_value(tx_value(before, word));
+            }
             // the port writes no other
             _ => {}
         }

@@ -1,25 +1,11 @@
 //! The exported calls of `usbhs.h`: the crate's only module with `unsafe`.
 #![allow(unsafe_code)]
 
+use crate::exported::*;
 use crate::{Answer, Woken, MOST_WAKES};
 
-/// `USBHS_STATE_LEN`.
-pub const STATE_LEN: usize = 2839;
-/// `USBHS_TIME_LEN`.
-pub const TIME_LEN: usize = 128;
-/// `USBHS_NUMBERS_LEN`.
-pub const NUMBERS_LEN: usize = 32;
 /// The longest buffer.
 pub const LONGEST: usize = 1024;
-/// `USBHS_ANY_ADDRESS`.
-const ANY_ADDRESS: u32 = 256;
-
-/// `usbhs_length`: 64 bits on every target.
-type Length = u64;
-
-fn length(bytes: &[u8]) -> Length {
-    bytes.len() as Length
-}
 
 /// The driver's state: bytes that only the driver understands.
 #[derive(Clone, PartialEq, Eq)]
@@ -75,11 +61,14 @@ pub enum Direction {
 
 /// An endpoint's transfer type.
 #[derive(Clone, Copy, Debug, PartialEq, Eq)]
-#[allow(missing_docs)]
 pub enum Transfer {
+    /// Requests: setup, data and status.
     Control = 0,
+    /// In bus time of its own, never repeated.
     Isochronous = 1,
+    /// In the bus time that is left.
     Bulk = 2,
+    /// In bus time of its own, repeated until it is through.
     Interrupt = 3,
 }
 
@@ -349,54 +338,4 @@ impl Port<'_> {
         // SAFETY: the state is only read
         unsafe { usbhs_enabled(self.state.0.as_ptr(), endpoint.into(), direction as u32) == 1 }
     }
-}
-
-type S = *mut u8;
-type Slots = *mut u8;
-type Bytes = *const u8;
-type Time = *mut u16;
-type U = u32;
-
-// as in usbhs.h; tests/header.rs compares
-extern "C" {
-    fn usbhs_start_up(s: S, slots: Bytes, n: Length, t: Time, driver: U, size: U, count: U, callback: U) -> u64;
-    fn usbhs_allocate(s: S, kind: U, address: U, maximum: U, interval: U, dir: U) -> u64;
-    fn usbhs_start(s: S, maximum: U) -> u64;
-    fn usbhs_allocate_all(s: S, bytes: Bytes, n: Length) -> u64;
-    fn usbhs_preview(s: Bytes, bytes: Bytes, n: Length, numbers: *mut u8, buffers: *mut U, refusal: *mut U) -> u64;
-    fn usbhs_continue(s: S, slots: Slots, n: Length, t: Time, driver: U, value: U) -> u64;
-    fn usbhs_begin_interrupt(s: S) -> u64;
-    fn usbhs_interrupt(s: S, slots: Slots, n: Length, t: Time, driver: U, frame: U, flags: U) -> u64;
-    fn usbhs_continue_transfer(s: S, slots: Slots, n: Length, t: Time, driver: U, mis: U, st: U, len: U) -> u64;
-    fn usbhs_begin_bus_poll(s: S) -> u64;
-    fn usbhs_begin_bus_enable(s: S) -> u64;
-    fn usbhs_begin_bus_disable(s: S) -> u64;
-    fn usbhs_begin_set_enabled(s: S, slots: Slots, n: Length, t: Time, driver: U, ep: U, dir: U, enabled: U) -> u64;
-    fn usbhs_begin_set_stalled(s: S, ep: U, dir: U, stalled: U) -> u64;
-    fn usbhs_begin_is_stalled(s: S, ep: U, dir: U) -> u64;
-    fn usbhs_set_paced(s: S, ep: U, paced: U) -> u64;
-    fn usbhs_begin_advance(s: S, ep: U) -> u64;
-    fn usbhs_begin_microframe(s: S) -> u64;
-    fn usbhs_begin_read(s: S, ep: U, length: U) -> u64;
-    fn usbhs_poll_read(s: S, slots: Bytes, n: Length, ep: U, slice: *mut u8, m: Length) -> u64;
-    fn usbhs_begin_write(s: S, slots: Slots, n: Length, ep: U, data: Bytes, m: Length) -> u64;
-    fn usbhs_poll_write(s: S, slots: Slots, n: Length, ep: U, data: Bytes, m: Length) -> u64;
-    fn usbhs_begin_setup(s: S) -> u64;
-    fn usbhs_poll_setup(s: S, packet: *mut u8) -> u64;
-    fn usbhs_begin_data_out(s: S, length: U, first: U) -> u64;
-    fn usbhs_poll_data_out(s: S, slots: Bytes, n: Length, slice: *mut u8, m: Length) -> u64;
-    fn usbhs_begin_data_in(s: S, slots: Slots, n: Length, data: Bytes, m: Length, first: U, last: U) -> u64;
-    fn usbhs_poll_data_in(s: S) -> u64;
-    fn usbhs_begin_accept(s: S) -> u64;
-    fn usbhs_begin_accept_set_address(s: S, address: U) -> u64;
-    fn usbhs_poll_accept(s: S) -> u64;
-    fn usbhs_begin_reject(s: S) -> u64;
-    fn usbhs_open(s: S, slots: Bytes, n: Length, ep: U, stamp: *mut u16) -> u64;
-    fn usbhs_close(s: S, ep: U) -> u64;
-    fn usbhs_queue(s: S, slots: Slots, n: Length, ep: U, data: Bytes, m: Length) -> u64;
-    fn usbhs_woken(s: Bytes, room: *mut u8) -> U;
-    fn usbhs_pending(s: Bytes, ep: U) -> U;
-    fn usbhs_overruns(s: Bytes, ep: U) -> U;
-    fn usbhs_enabled(s: Bytes, ep: U, dir: U) -> U;
-    fn usbhs_time_in_use(t: *const u16) -> U;
 }

@@ -47,12 +47,14 @@
 
 mod answer;
 mod calls;
+mod exported;
+#[cfg(feature = "survey")]
+mod exported_survey;
 mod run;
 #[cfg(feature = "survey")]
 pub mod survey;
 
 pub use answer::{Answer, Event, Refusal, Register, Task, Woken, MOST_WAKES};
-pub use calls::{
-    BusTime, Direction, Packet, Port, Preview, State, Transfer, LONGEST, NUMBERS_LEN, STATE_LEN, TIME_LEN,
-};
+pub use calls::{BusTime, Direction, Packet, Port, Preview, State, Transfer, LONGEST};
+pub use exported::{NUMBERS_LEN, STATE_LEN, TIME_LEN};
 pub use run::{run, Access, Lend};

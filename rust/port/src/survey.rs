@@ -32,28 +32,11 @@
 //! ```
 #![allow(unsafe_code)]
 
+use crate::exported::{length, Length};
+use crate::exported_survey::*;
 use crate::{Answer, BusTime, Refusal};
 
-/// `USBHS_BLOCK_LEN`.
-pub const BLOCK_LEN: usize = 512;
-
-type Length = u64;
-
-fn length<T>(of: &[T]) -> Length {
-    of.len() as Length
-}
-
-/// An optional channel. The layout is that of `struct usbhs_channel`.
-#[repr(C)]
-#[derive(Clone, Copy, Debug, Default, PartialEq, Eq)]
-pub struct Channel {
-    /// Its endpoint's maximum.
-    pub maximum: u16,
-    /// In byte-times of a microframe.
-    pub charge: u16,
-    /// Becomes 1 if the channel is chosen, 0 if not.
-    pub chosen: u8,
-}
+pub use crate::exported_survey::{Channel, BLOCK_LEN};
 
 /// The best set of channels that was found.
 #[derive(Clone, Copy, Debug, PartialEq, Eq)]
@@ -221,23 +204,4 @@ pub fn write_descriptor(descriptor: &[u8], room: &mut [u8]) -> Result<u16, Refus
         Answer::Done(n) => Ok(n),
         answer => answer.ended(),
     }
-}
-
-type Bytes = *const u8;
-type Numbers = *mut u32;
-type At = *mut Length;
-type U = u32;
-
-// as in usbhs_survey.h; tests/header.rs compares
-extern "C" {
-    fn usbhs_best_set(l: *mut Channel, n: Length, t: *const u16, b: U, t: Numbers, f: Numbers, k: Numbers) -> u64;
-    fn usbhs_between_visits(a: U, b: U, c: U, d: U, least: Numbers, greatest: Numbers) -> u64;
-    fn usbhs_data_crc(bytes: Bytes, n: Length) -> U;
-    fn usbhs_card_new(writer: Numbers);
-    fn usbhs_card_write(writer: Numbers, block: *mut u8, n: Length, ep: U, data: Bytes, m: Length) -> u64;
-    fn usbhs_card_finish(writer: *const U, block: *mut u8, n: Length) -> u64;
-    fn usbhs_card_start(stream: Bytes, n: Length, place: At) -> u64;
-    fn usbhs_card_next(stream: Bytes, n: Length, place: At, ep: Numbers, room: *mut u8, m: Length) -> u64;
-    fn usbhs_card_read(stream: Bytes, n: Length, at: At, room: *mut u8, m: Length, count: At, used: At) -> u64;
-    fn usbhs_write_descriptor(bytes: Bytes, n: Length, room: *mut u8, m: Length) -> u64;
 }

@@ -39,6 +39,7 @@ fn of_header(text: &str) -> Calls {
     calls
 }
 
+/// The last block of declarations, with the text's type names.
 fn of_rust(text: &str) -> Calls {
     let alias: BTreeMap<&str, &str> = text
         .lines()
@@ -54,9 +55,9 @@ fn of_rust(text: &str) -> Calls {
         let (pointer, last) = joined.rsplit_once(' ').unwrap_or(("", &joined));
         format!("{pointer} {}", alias.get(last).unwrap_or(&last)).trim().to_string()
     };
-    let block = text.split("extern \"C\" {").nth(1).unwrap();
+    let block = text.rsplit("extern \"C\" {").next().unwrap();
     let mut calls = Calls::new();
-    for line in block.split(';').filter_map(|l| l.trim().strip_prefix("fn ")) {
+    for line in block.split(';').filter_map(|l| l.trim().strip_prefix("pub fn ")) {
         let (name, rest) = line.split_once('(').unwrap();
         let (parameters, answer) = rest.rsplit_once(')').unwrap();
         let parameters = parameters.split(',').map(|p| plain(p.split_once(':').unwrap().1));
@@ -74,12 +75,13 @@ fn compare(header: &str, source: &str, at_least: usize) {
 
 #[test]
 fn driver() {
-    compare(include_str!("../../../include/usbhs.h"), include_str!("../src/calls.rs"), 38);
+    compare(include_str!("../../../include/usbhs.h"), include_str!("../src/exported.rs"), 38);
 }
 
 #[test]
 fn survey() {
-    compare(include_str!("../../../include/usbhs_survey.h"), include_str!("../src/survey.rs"), 10);
+    let source = concat!(include_str!("../src/exported.rs"), include_str!("../src/exported_survey.rs"));
+    compare(include_str!("../../../include/usbhs_survey.h"), source, 10);
 }
 
 /// The numbers that both have.

@@ -2,7 +2,7 @@
 
 use super::events::{Event, Lane, Place, Timeline, What};
 use crate::output::count;
-use crate::svg::{Anchor, Svg};
+use crate::svg::{Anchor, Svg, AMBER, BLUE, GREEN, GREY, INK, PALE, RED, RULE};
 
 const LEFT: f64 = 196.0;
 const RIGHT: f64 = 24.0;
@@ -14,15 +14,6 @@ const GAP: f64 = 12.0;
 const TOLD: usize = 16;
 /// What a ring of sixteen slots holds.
 const FULL: f64 = 15.0;
-
-const INK: &str = "#1d2733";
-const GREY: &str = "#6b7785";
-const RULE: &str = "#d5dbe2";
-const BLUE: &str = "#1f5fa8";
-const PALE: &str = "#bcd6f2";
-const GREEN: &str = "#2a8a4a";
-const RED: &str = "#c8202a";
-const AMBER: &str = "#c77700";
 
 struct Drawing<'a> {
     t: &'a Timeline,

@@ -60,26 +60,21 @@ impl Run<'_> {
         let iso = self.rng.chance(40);
         if self.rng.chance(50) {
             let Some(ep) = self.one_of(Dir::Out, iso) else { return };
-            if self.rng.chance(50) || self.reads >> ep & 1 == 0 {
+            if self.rng.chance(50) || !self.begun(ep, Dir::Out) {
                 let max = self.outs[ep as usize].unwrap().max as u32;
                 let length = match self.rng.below(10) {
                     0 if max > 0 => self.rng.below(max),
                     1 => max + self.rng.below(9),
                     _ => max,
                 };
-                if !matches!(self.operate(Call::Read { ep, length }), Answer::Refused(_)) {
-                    self.reads |= 1 << ep;
-                }
+                self.begin(ep, Dir::Out, Call::Read { ep, length });
             }
-            if self.rng.chance(75) && self.reads >> ep & 1 != 0 {
-                let a = self.call(Call::PollRead(ep));
-                if a != Answer::NotYet {
-                    self.reads &= !(1 << ep);
-                }
+            if self.rng.chance(75) {
+                self.poll(ep, Dir::Out);
             }
         } else {
             let Some(ep) = self.one_of(Dir::In, iso) else { return };
-            if self.rng.chance(50) || self.writes >> ep & 1 == 0 {
+            if self.rng.chance(50) || !self.begun(ep, Dir::In) {
                 let max = self.ins[ep as usize].unwrap().max as u32;
                 let n = match self.rng.below(10) {
                     0 => max + 1,
@@ -87,28 +82,38 @@ impl Run<'_> {
                     _ => self.rng.range(0, max),
                 };
                 let data = self.rng.bytes(n as usize);
-                if !matches!(self.operate(Call::Write { ep, data }), Answer::Refused(_)) {
-                    self.writes |= 1 << ep;
-                }
+                self.begin(ep, Dir::In, Call::Write { ep, data });
             }
-            if self.rng.chance(75) && self.writes >> ep & 1 != 0 {
-                let a = self.call(Call::PollWrite(ep));
-                if a != Answer::NotYet {
-                    self.writes &= !(1 << ep);
-                }
+            if self.rng.chance(75) {
+                self.poll(ep, Dir::In);
             }
+        }
+    }
+
+    fn begun(&self, ep: u8, dir: Dir) -> bool {
+        self.requests[dir as usize] >> ep & 1 != 0
+    }
+
+    /// The begin of a read or a write.
+    fn begin(&mut self, ep: u8, dir: Dir, call: Call) {
+        if !matches!(self.operate(call), Answer::Refused(_)) {
+            self.requests[dir as usize] |= 1 << ep;
+        }
+    }
+
+    /// A poll, if a request was begun.
+    fn poll(&mut self, ep: u8, dir: Dir) {
+        let call = if dir == Dir::Out { Call::PollRead(ep) } else { Call::PollWrite(ep) };
+        if self.begun(ep, dir) && self.call(call) != Answer::NotYet {
+            self.requests[dir as usize] &= !(1 << ep);
         }
     }
 
     /// Poll every request that was begun.
     pub(super) fn poll_all(&mut self) {
         for ep in 1..16 {
-            if self.reads >> ep & 1 != 0 && self.call(Call::PollRead(ep)) != Answer::NotYet {
-                self.reads &= !(1 << ep);
-            }
-            if self.writes >> ep & 1 != 0 && self.call(Call::PollWrite(ep)) != Answer::NotYet {
-                self.writes &= !(1 << ep);
-            }
+            self.poll(ep, Dir::Out);
+            self.poll(ep, Dir::In);
         }
     }
 

@@ -61,8 +61,8 @@ struct Run<'a> {
     len: u32,
     answer: Answer,
     left: i32,
-    reads: u32,
-    writes: u32,
+    /// The reads and the writes that were begun.
+    requests: [u32; 2],
     /// The firmware does nothing meanwhile: rings fill.
     flood: bool,
 }
@@ -121,8 +121,7 @@ pub fn run_of(driver: &mut dyn Driver, seed: u64, shape: Shape) -> Vec<Entry> {
         len: 0,
         answer: Answer::NotYet,
         left: length as i32,
-        reads: 0,
-        writes: 0,
+        requests: [0; 2],
         flood: false,
     };
     r.start_up();
@@ -326,7 +325,7 @@ impl Run<'_> {
         self.receive = [None; 16];
         self.config = 0;
         self.paced = 0;
-        (self.reads, self.writes) = (0, 0);
+        self.requests = [0; 2];
         self.index = if self.rng.chance(10) { self.rng.pick(&[0, 1, 16382, 16383]) } else { self.rng.below(16384) };
         self.size = match (self.shape.buffer, self.shape.size, self.shape.ep0) {
             (Some(b), ..) => b.0,

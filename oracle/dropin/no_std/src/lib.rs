@@ -1,27 +1,15 @@
 //! The drop-in names nothing of std: read as it would be in ch32-hal.
 #![no_std]
 
-macro_rules! error {
-    ($($arg:tt)*) => {
-        seam::error()
-    };
+/// Nothing is asked here.
+macro_rules! probe {
+    () => {};
 }
 
-macro_rules! foreach_peripheral {
-    ($($pat:tt => $code:tt;)*) => {
-        macro_rules! __foreach_peripheral_inner {
-            $(($pat) => $code;)*
-        }
-        __foreach_peripheral_inner!((usbhs, USBHS));
-    };
-}
-
-macro_rules! pin_trait {
-    ($signal:ident, $instance:path) => {
-        pub trait $signal<T: $instance, const REMAP: u8>: crate::gpio::Pin {}
-    };
-}
-
+#[macro_use]
+#[allow(unused_macros)]
+#[path = "../../../original/src/macros.rs"]
+mod macros;
 #[path = "../../../original/src/hal.rs"]
 mod hal;
 #[allow(dead_code, private_interfaces, clippy::all)]

@@ -1,19 +1,7 @@
 //! The traits and types of embassy-usb-driver that the four files name.
 #![allow(async_fn_in_trait)]
 
-#[derive(Clone, Copy, PartialEq, Eq, Debug)]
-pub enum Direction {
-    Out,
-    In,
-}
-
-#[derive(Clone, Copy, PartialEq, Eq, Debug)]
-pub enum EndpointType {
-    Control = 0b00,
-    Isochronous = 0b01,
-    Bulk = 0b10,
-    Interrupt = 0b11,
-}
+pub use oracle::{Dir as Direction, Kind as EndpointType};
 
 /// Bit 7: IN. Bits 0-6: the number.
 #[derive(Clone, Copy, PartialEq, Eq, Debug)]

@@ -1,33 +1,4 @@
-//! The macros that the drop-in calls, as in `original`, but for `probe`, which here asks the port's state: the state is
-//! bytes, so a question leaves it as it was.
-
-macro_rules! error {
-    ($($arg:tt)*) => {
-        seam::error()
-    };
-}
-
-macro_rules! foreach_peripheral {
-    ($($pat:tt => $code:tt;)*) => {
-        macro_rules! __foreach_peripheral_inner {
-            $(($pat) => $code;)*
-        }
-        __foreach_peripheral_inner!((usbhs, USBHS));
-    };
-}
-
-macro_rules! pin_trait {
-    (DpPin, $instance:path) => {
-        pin_trait!(@trait DpPin, $instance);
-        probe!();
-    };
-    (DmPin, $instance:path) => {
-        pin_trait!(@trait DmPin, $instance);
-    };
-    (@trait $signal:ident, $instance:path) => {
-        pub trait $signal<T: $instance, const REMAP: u8>: crate::gpio::Pin {}
-    };
-}
+//! As `original`'s, but that it asks the port: the state is bytes, which are put back after a question.
 
 macro_rules! probe {
     () => {
