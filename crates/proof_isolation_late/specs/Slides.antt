@@ -19,7 +19,7 @@ use Rattle.regs.specs.Registers.{ctrlOf}
 use Rattle.regs.specs.Status.{endpoint, token}
 use Rattle.state.specs.declared.Globals.{Globals}
 use Rattle.state.specs.Driver.{Driver, withWakes}
-use Rattle.state.specs.Wakes.{none-woken, listed, all-woken}
+use Rattle.state.specs.Wakes.{unwoken, listed, all-woken}
 use Rattle.model.specs.declared.Transfer.{Transfer}
 use Rattle.model.specs.Tree as tree
 use Rattle.model.specs.Tree.{ends, asks, bindOut}
@@ -158,8 +158,9 @@ module _ (c : Channel) where
   s-no-wakes : Slides (act no-wakes)
   s-no-wakes = record {
     free = λ s. free-end;
-    slid = λ o z s n p. subst (λ t. Slid o z (ends tt (actOn no-wakes s)) (ends tt t)) (sym (wakes-done c o s none-woken))
-        (slid-end (record { lawful = lawful-act c no-wakes refl (p .lawful); sees = seen-wakes o s none-woken ∙ p .sees }));
+    slid = λ o z s n p. subst (λ t. Slid o z (ends tt (actOn no-wakes s)) (ends tt t))
+        (sym (ap (λ w. (withWakes (done-by o s .0) (unwoken w), done-by o s .1)) (wakes-same c o s) ∙ wakes-done c o s (unwoken (s .0 .wakes))))
+        (slid-end (record { lawful = lawful-act c no-wakes refl (p .lawful); sees = seen-wakes o s (unwoken (s .0 .wakes)) ∙ p .sees }));
   }
 
   -- an arrival on the channel; on another
