@@ -16,7 +16,8 @@ use Rattle.proof_book.specs.TransferKinds.{Steady, Has}
 
 -- a change of other records than the endpoints'
 pub others : (d d′ : Driver) → d′ .eps ≡ d .eps → d′ .globals .«iso_out_eps» ≡ d .globals .«iso_out_eps»
-    → d′ .globals .«iso_in_every» ≡ d .globals .«iso_in_every» → d′ .allocator ≡ d .allocator → length (d′ .wakes .codes) ≡ length (d .wakes .codes) → Steady d d′
+    → d′ .globals .«iso_in_every» ≡ d .globals .«iso_in_every» → d′ .allocator ≡ d .allocator
+    → length (d′ .wakes .codes) ≡ length (d .wakes .codes) → Steady d d′
 unfolding epOn
 others d d′ p o i a c = record { places = rw p refl; flags = λ dir e. rw p refl; outs = o; every = i; allocator = a; codes = c }
 
