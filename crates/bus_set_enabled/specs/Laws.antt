@@ -3,13 +3,12 @@ use mathlib.Core.Path.{_≡_, refl, ap, _∙_}
 use mathlib.Core.Bool.{Bool, true, false}
 use mathlib.Core.List.{List}
 use Prim.Native.Nat.{ℕ}
-use lib.Seq.{set-set}
 use Rattle.regs.specs.declared.Access.the-variants.{Transmit}
 use Rattle.regs.specs.declared.Dir.{Dir}
 use Rattle.regs.specs.declared.Dir.the-variants.{Out, In}
 use Rattle.state.specs.declared.EpState.{EpState}
-use Rattle.state.specs.Driver.{Driver, key, epOn, withOn, withEps, withPacedOn}
-use Rattle.state.specs.Laws.{Sized, epOn-same}
+use Rattle.state.specs.Driver.{Driver, epOn, withOn, withPacedOn}
+use Rattle.state.specs.Laws.{Sized, epOn-same, withOn-twice}
 use Rattle.model.specs.Statics.{isOn, withArmed, renewed, wake}
 use Rattle.model.specs.Tree as tree
 use Rattle.model.specs.Tree.{asks}
@@ -30,10 +29,6 @@ both : (x : EpState) (armed : ℕ) → change (emptied x) armed ≡ resetAs x ar
 unfolding emptied
 both x armed = refl
 
-twice : (d : Driver) (dir : Dir) (e : ℕ) (x y : EpState) → withOn (withOn d dir e x) dir e y ≡ withOn d dir e y
-unfolding withOn
-twice d dir e x y = ap (withEps d) (set-set (d .eps) (key dir e) x y)
-
 ring-emptied : (d : Driver) (dir : Dir) (e : ℕ) → isoOut d dir e ≡ false → emptiedOn d dir e ≡ withOn d dir e (emptied (epOn d dir e))
 unfolding emptiedOn
 ring-emptied d dir e h = rw h refl
@@ -42,7 +37,7 @@ pub renew-both : (d : Driver) → Sized d → (dir : Dir) (e armed : ℕ)
     → isoOut d dir e ≡ false → renewedAs d dir e armed ≡ withOn d dir e (resetAs (epOn d dir e) armed)
 renew-both d s dir e armed h =
     ap (λ (x : Driver). withOn x dir e (change (epOn x dir e) armed)) (ring-emptied d dir e h)
-    ∙ (twice d dir e (emptied (epOn d dir e)) (change (epOn (withOn d dir e (emptied (epOn d dir e))) dir e) armed)
+    ∙ (withOn-twice d dir e (emptied (epOn d dir e)) (change (epOn (withOn d dir e (emptied (epOn d dir e))) dir e) armed)
     ∙ (ap (λ (r : EpState). withOn d dir e (change r armed)) (epOn-same d dir e (emptied (epOn d dir e)) s)
     ∙ ap (withOn d dir e) (both (epOn d dir e) armed)))
 

@@ -8,8 +8,7 @@ use lib.Dec.{eqb}
 use Rattle.regs.specs.declared.Dir.{Dir}
 use Rattle.regs.specs.declared.Dir.the-variants.{Out, In}
 use lib.ListN.{getD}
-use Rattle.state.specs.Driver.{Driver, epOn, key, noEp, withWakes}
-use Rattle.state.specs.Wakes.{none-woken}
+use Rattle.state.specs.Driver.{Driver, epOn, key, noEp, noneGathered}
 use Rattle.model.specs.Tree.{ends, asks}
 use Rattle.model.specs.Tree as tree
 use Rattle.model.specs.Script.{Script, run, test, _>>_, row, switch}
@@ -49,7 +48,7 @@ first-out e on true s = refl
 first-out e on false s = refl
 
 first-access : (dir : Dir) (e : ℕ) (on : Bool) (d : Driver) (b : Buf) → asksFirst (run concrete (resultless (script.setEnabled dir e on)) (d, b)) ≡ true
-first-access Out e on d b = first-out e on (isOn (epOn (withWakes d none-woken) Out e .iso)) (d, b)
+first-access Out e on d b = first-out e on (isOn (epOn (noneGathered d) Out e .iso)) (d, b)
 first-access In e on d b = refl
 
 abbrev answer : Called → Bool

@@ -12,8 +12,7 @@ use Rattle.req_descriptor.specs.Reading.{readingOf, listOf}
 use Rattle.req_preview.specs.declared.Shown.{Shown}
 use Rattle.req_preview.specs.Trial.{trialOf}
 use Rattle.state.specs.declared.Allocator.{Allocator}
-use Rattle.state.specs.Driver.{Driver, withWakes}
-use Rattle.state.specs.Wakes.{none-woken}
+use Rattle.state.specs.Driver.{Driver, noneGathered}
 use Rattle.model.specs.Tree as tree
 use Rattle.model.specs.Tree.{bindOut}
 use Rattle.model.specs.Script.{Script, run}
@@ -39,17 +38,17 @@ module _ (es : List Endpoint) (d : Driver) (b : Buf) (n : ℕ) (refusal : n ≡ 
   pub all-refused : (u : Suspended) → isIdle u ≡ true → (n ≡ 0 → ⊥) → (ended (Refused n), machineAt u d b) ≡ allocatedAll es d b
   all-refused u i h = ends-idle u d b (Refused n) i ∙ sym (tried-as ∙ rw (ne-eqb n 0 h))
 
-  given : n ≡ 0 → halts (bindOut (go (announceAll es) (withWakes (eachOn d es) none-woken) b) (λ k t. run concrete (finish k) t)) ≡ allocatedAll es d b
+  given : n ≡ 0 → halts (bindOut (go (announceAll es) (noneGathered (eachOn d es)) b) (λ k t. run concrete (finish k) t)) ≡ allocatedAll es d b
   given h = sym (tried-as ∙ rw (eq-eqb n 0 h)
       (ap (λ (o : tree.Out St Unit). halts (bindOut o (λ _ t. run {i = false} concrete (operation (announceAll es)) t))) (each-run es d b)))
 
   -- all are allocated, and no wake-up is gathered yet
   pub all-given : (between after : Driver) (o : tree.Out St ℕ)
-      → n ≡ 0 → o ≡ go (announceAll es) after b → after ≡ withWakes between none-woken → between ≡ eachOn d es
+      → n ≡ 0 → o ≡ go (announceAll es) after b → after ≡ noneGathered between → between ≡ eachOn d es
       → halts (bindOut o (λ k t. run concrete (finish k) t)) ≡ allocatedAll es d b
   all-given between after o h announced cleared each =
       ap (λ (x : tree.Out St ℕ). halts (bindOut x (λ k t. run concrete (finish k) t)))
-      (announced ∙ ap (λ (x : Driver). go (announceAll es) x b) (cleared ∙ ap (λ (x : Driver). withWakes x none-woken) each))
+      (announced ∙ ap (λ (x : Driver). go (announceAll es) x b) (cleared ∙ ap noneGathered each))
       ∙ given h
 
 -- ---- the call

@@ -15,8 +15,7 @@ use Rattle.regs.specs.Flags.{TRANSFER, busRst, transfer, suspend, hstSof, fifoO
 use Rattle.regs.specs.MisStatus.{sieFree}
 use Rattle.state.specs.declared.Allocator.{Allocator}
 use Rattle.state.specs.declared.Saved.{Saved}
-use Rattle.state.specs.Driver.{Driver, withWakes}
-use Rattle.state.specs.Wakes.{none-woken}
+use Rattle.state.specs.Driver.{Driver, noneGathered}
 use Rattle.state.specs.State.{view, saved}
 use Rattle.model.specs.Statics.{isOn}
 use Rattle.model.specs.Answers.{Refused}
@@ -112,7 +111,7 @@ passes i v p p′ q xs ws ys b time at fit f l {w} h m =
 
 -- no row stops the interrupt's begin: it stands at its first point
 pub begins : (xs ws ys : List ℕ) (b : Buf) (time : List ℕ) → eqb (stopOf (isIdle (decode (saved xs))) 2 (view xs .globals .stage)) 0 ≡ true
-    → view ws ≡ withWakes (view xs) none-woken → {w : ℕ} → Stands w (Read FrameNo 0) point.Frame ws ys
+    → view ws ≡ noneGathered (view xs) → {w : ℕ} → Stands w (Read FrameNo 0) point.Frame ws ys
     → Begins (lent xs b time) (step.Asks (Read FrameNo 0)) (lent ys b time)
 unfolding halted
 begins xs ws ys b time e v h = record {
@@ -143,7 +142,7 @@ on-view p v b e = ap (λ (z : Driver). denote p v (z, b)) (sym e)
 module _ (i frame : ℕ) (xs ws us : List ℕ) (b : Buf) (time : List ℕ)
     (free : eqb (stopOf (isIdle (decode (saved xs))) 2 (view xs .globals .stage)) 0 ≡ true)
     (fit : slotsFit (view xs) b ≡ true) (wide : fitsIn frame 16 ≡ true)
-    (cleared : view ws ≡ withWakes (view xs) none-woken) (long : length ws ≡ 2839)
+    (cleared : view ws ≡ noneGathered (view xs)) (long : length ws ≡ 2839)
     (kept : (c : Buf) → meaning (next.Asks (Read IntFg 0) point.Flags) (view us) c ≡ denote point.Frame frame (view ws, c)) where
   abbrev first : List ℕ
   first = standing ws point.Frame

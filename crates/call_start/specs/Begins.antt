@@ -6,8 +6,7 @@ use Rattle.regs.specs.declared.Dir.{Dir}
 use Rattle.alloc.specs.declared.Answer as alloc-answer
 use Rattle.alloc.specs.declared.Answer.the-variants as alloc
 use Rattle.alloc.specs.Alloc.{allocateOf, allocateEp0Of}
-use Rattle.state.specs.Driver.{Driver, withWakes}
-use Rattle.state.specs.Wakes.{none-woken}
+use Rattle.state.specs.Driver.{Driver, noneGathered}
 use Rattle.model.specs.Tree.{bindOut}
 use Rattle.model.specs.Cells.{allocator-cell}
 use Rattle.model.specs.Script.{Script, _>>=_, _>>_, get, act, allocate, allocate0, run}
@@ -45,7 +44,7 @@ module _ (u : Suspended) (d : Driver) (a b : Buf) (dir : Dir) (kind address maxi
       → Passes 1 u d
       → allocateOf (d .allocator) kind address maximum dir .answer ≡ alloc.Given e base slots
       → halts
-      (bindOut (go (newEndpoint dir kind maximum e) (withWakes (allocatedOn d dir kind address maximum interval) none-woken) b)
+      (bindOut (go (newEndpoint dir kind maximum e) (noneGathered (allocatedOn d dir kind address maximum interval)) b)
       (λ k t. run concrete (finish k) t))
       ≡ drive (begin (other (Allocate dir kind address maximum interval))) (machineAt u d a) b
   allocate-begins e base slots h given = back (allocates h) (ap allocated-to (sym given))
@@ -78,7 +77,7 @@ module _ (u : Suspended) (d : Driver) (a b : Buf) (maximum : ℕ) where
       (e base slots : ℕ)
       → Passes 1 u d
       → allocateEp0Of (d .allocator) maximum .answer ≡ alloc.Given e base slots
-      → halts (bindOut (go (startEp0 maximum) (withWakes (allocatedEp0 d maximum) none-woken) b) (λ k t. run concrete (finish k) t))
+      → halts (bindOut (go (startEp0 maximum) (noneGathered (allocatedEp0 d maximum)) b) (λ k t. run concrete (finish k) t))
       ≡ drive (begin (other (Start maximum))) (machineAt u d a) b
   start-begins e base slots h given = back (starts h) (ap started-to (sym given))
 

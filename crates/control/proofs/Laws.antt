@@ -15,8 +15,7 @@ use Rattle.regs.specs.ControlWord.{ACK, DATA1, wordOf}
 use Rattle.state.specs.declared.Globals.{Globals}
 use Rattle.state.specs.declared.Control.{Control}
 use Rattle.state.specs.declared.EpState.{EpState}
-use Rattle.state.specs.Driver.{Driver, epOn, withGlobals, withControl, withWakes}
-use Rattle.state.specs.Wakes.{none-woken}
+use Rattle.state.specs.Driver.{Driver, epOn, withGlobals, withControl, noneGathered}
 use Rattle.model.specs.Statics.{isOn, flag, withReady, withLen, withArmed, withSetup}
 use Rattle.model.specs.Tree.{ends}
 use Rattle.model.specs.Script.{ret}
@@ -46,7 +45,7 @@ unfolding fitsAt
 ack-fits Out v h = h
 ack-fits In v h = h
 
-module _ (d d1 d2 d3 : Driver) (b : List ℕ) (h2 : d2 ≡ withWakes d1 none-woken)
+module _ (d d1 d2 d3 : Driver) (b : List ℕ) (h2 : d2 ≡ noneGathered d1)
     (h3 : d3 ≡ modifiedOn In 0 (withReady 0) d2) (s : eqb (d .globals .stage) 2 ≡ true)
     (u : isOn (d .globals .«setup_ready») ≡ false) where
   pub accept-asks : d1 ≡ withControl d (requestOf ACCEPT 0) → begunAs (begun.Asks (Write EpTLen 0 0) point.StatusLen) d3 b ≡ go {i = false} beginAccept d b
@@ -56,7 +55,7 @@ module _ (d d1 d2 d3 : Driver) (b : List ℕ) (h2 : d2 ≡ withWakes d1 none-wok
       → begunAs (begun.Asks (Write EpTLen 0 0) point.StatusLen) d3 b ≡ go {i = false} (beginAcceptSetAddress a) d b
   address-asks a h1 = rw (h3, h2, h1, s, u)
 
-pub reject-asks : (d d1 d2 d3 d4 : Driver) → d1 ≡ withControl d no-control → d2 ≡ withWakes d1 none-woken → d3 ≡ modifiedOn Out 0 (withArmed 0) d2
+pub reject-asks : (d d1 d2 d3 d4 : Driver) → d1 ≡ withControl d no-control → d2 ≡ noneGathered d1 → d3 ≡ modifiedOn Out 0 (withArmed 0) d2
     → d4 ≡ modifiedOn In 0 (withArmed 0) d3 → eqb (d .globals .stage) 2 ≡ true
     → (b : List ℕ) → begunAs (begun.Asks (Read EpTxCtrl 0) point.StallIn) d4 b ≡ go {i = false} beginReject d b
 reject-asks d d1 d2 d3 d4 h1 h2 h3 h4 s b = rw (h4, h3, h2, h1, s)
@@ -66,7 +65,7 @@ reject-refused d s b = rw s
 
 -- ---- data_out
 
-module _ (d d1 d2 d3 : Driver) (b : List ℕ) (n : ℕ) (h1 : d1 ≡ withControl d (requestOf DATA-OUT n)) (h2 : d2 ≡ withWakes d1 none-woken)
+module _ (d d1 d2 d3 : Driver) (b : List ℕ) (n : ℕ) (h1 : d1 ≡ withControl d (requestOf DATA-OUT n)) (h2 : d2 ≡ noneGathered d1)
     (h3 : d3 ≡ modifiedOn Out 0 (λ p. withArmed 1 (withLen n (withReady 0 p))) d2)
     (s : eqb (d .globals .stage) 2 ≡ true) (m : ltb (d .globals .«ep0_max») n ≡ false) (u : isOn (d .globals .«setup_ready») ≡ false) where
   pub out-first : begunAs (begun.Asks (Write EpRxCtrl 0 (wordOf ACK DATA1 false)) point.Wrote) d3 b ≡ go {i = false} (beginDataOut n true) d b
@@ -77,7 +76,7 @@ module _ (d d1 d2 d3 : Driver) (b : List ℕ) (n : ℕ) (h1 : d1 ≡ withControl
 
 -- ---- data_in
 
-module _ (d d1 d2 d3 d4 : Driver) (b b1 bytes : List ℕ) (n : ℕ) (first : Bool) (e : n ≡ length bytes) (h2 : d2 ≡ withWakes d1 none-woken)
+module _ (d d1 d2 d3 d4 : Driver) (b b1 bytes : List ℕ) (n : ℕ) (first : Bool) (e : n ≡ length bytes) (h2 : d2 ≡ noneGathered d1)
     (f : b1 ≡ filledEp0 d2 bytes b) (h3 : d3 ≡ modifiedOn In 0 (withReady 0) d2) (s : eqb (d .globals .stage) 2 ≡ true)
     (m : ltb (d .globals .«ep0_max») (length bytes) ≡ false) (u : isOn (d .globals .«setup_ready») ≡ false) where
   pub in-last : (last : Bool) (w x : ℕ) → last ≡ true → w ≡ wordOf ACK DATA1 false → x ≡ flag last → d1 ≡ withControl d (dataInOf n x 1)
@@ -99,7 +98,7 @@ setup-done d d1 d2 g b e h1 h2 s o u = rw (h2, h1, e, s, o, u)
 
 module _ (d d1 d2 : Driver) (c : Control) (b : List ℕ) (e : c ≡ d .control) (h1 : d1 ≡ modifiedOn In 0 (withReady 0) d) (h2 : d2 ≡ withControl d1 no-control)
     (s : eqb (d .globals .stage) 2 ≡ true) (o : eqb (d .control .sort) ACCEPT ≡ true) (r : isOn (epOn d In 0 .ready) ≡ true) where
-  pub accept-address : (d3 : Driver) → d3 ≡ withWakes d2 none-woken → isOn (d .control .«sets_address») ≡ true
+  pub accept-address : (d3 : Driver) → d3 ≡ noneGathered d2 → isOn (d .control .«sets_address») ≡ true
       → polledAs (polled.Asks (Write DevAd 0 (c .address % 128)) point.Wrote) [] d3 b ≡ go {i = false} pollAccept d b
   accept-address d3 h3 a = rw (h3, h2, h1, e, s, o, r, a)
 

@@ -17,8 +17,7 @@ use Rattle.regs.specs.declared.Dir.the-variants.{Out, In}
 use Rattle.regs.specs.Registers.{fitsIn}
 use Rattle.regs.specs.Enables as enables
 use Rattle.state.specs.declared.EpState.{EpState}
-use Rattle.state.specs.Driver.{Driver, epOn, requestOn, withRequestOn, withWakes}
-use Rattle.state.specs.Wakes.{none-woken}
+use Rattle.state.specs.Driver.{Driver, epOn, requestOn, withRequestOn, noneGathered}
 use Rattle.model.specs.Tree as tree
 use Rattle.model.specs.Tree.{ends}
 use Rattle.model.specs.Cells.{EpCore}
@@ -69,7 +68,7 @@ module _ (d : Driver) (b : List ℕ) (e n : ℕ) (h : eqb (refusalOf d Out e) 0 
     read-short l = rw (started d Out e h, allocated d Out e h, o, l)
 
     module _ (l : ltb n (epOn d Out e .«max_len») ≡ false)
-        (d1 d2 : Driver) (h1 : d1 ≡ withRequestOn d Out e (begun n)) (h2 : d2 ≡ withWakes d1 none-woken) where
+        (d1 d2 : Driver) (h1 : d1 ≡ withRequestOn d Out e (begun n)) (h2 : d2 ≡ noneGathered d1) where
       pub read-iso : isOn (epOn d Out e .iso) ≡ true → begunAs (begun-as.Ends 0) d2 b ≡ go {i = false} (beginRead e n) d b
       read-iso i = rw (h2, h1, started d Out e h, allocated d Out e h, o, l, i)
 
@@ -93,7 +92,7 @@ module _ (d : Driver) (b bytes : List ℕ) (e : ℕ) (h : eqb (refusalOf d In e)
 
     module _ (l : ltb (epOn d In e .«max_len») (length bytes) ≡ false)
         (n : ℕ) (k : n ≡ length bytes) (d1 d2 : Driver) (h1 : d1 ≡ withRequestOn d In e (begun n))
-        (h2 : d2 ≡ withWakes d1 none-woken) where
+        (h2 : d2 ≡ noneGathered d1) where
       pub write-iso : isOn (epOn d In e .iso) ≡ true → begunAs (begun-as.Ends 0) d2 b ≡ go {i = false} (beginWrite e bytes) d b
       write-iso i = rw (h2, h1, k, started d In e h, allocated d In e h, o, l, i)
 

@@ -4,8 +4,8 @@ use mathlib.Core.List.{List}
 use Prim.Native.Nat.{ℕ, _+_, _*_}
 use Rattle.regs.specs.declared.Dir.{Dir}
 use Rattle.regs.specs.declared.Dir.the-variants.{Out, In}
-use Rattle.state.specs.Driver.{Driver, epOn, withOn, pacedOn, withPacedOn, requestOn, withRequestOn, withGlobals, withControl, withWakes}
-use Rattle.state.specs.Wakes.{none-woken, listed, all-woken}
+use Rattle.state.specs.Driver.{Driver, epOn, withOn, pacedOn, withPacedOn, requestOn, withRequestOn, withGlobals, withControl, withWakes, noneGathered}
+use Rattle.state.specs.Wakes.{listed, all-woken}
 use Rattle.marks.specs.Copies.{bytesAt}
 use Rattle.model.specs.Tree as tree
 use Rattle.model.specs.Cells.{Cell, Val, globals-cell, control-cell, allocator-cell, ep-cell, request-cell, paced-cell}
@@ -65,7 +65,7 @@ actOn (take-oldest e) s = (takeOn (s .0) e, s .1)
 actOn (enqueue e bytes) s = enqueueOn e bytes s
 actOn (allocate d kind address maximum interval) s = (allocatedOn (s .0) d kind address maximum interval, s .1)
 actOn (allocate0 maximum) s = (allocatedEp0 (s .0) maximum, s .1)
-actOn no-wakes s = (withWakes (s .0) none-woken, s .1)
+actOn no-wakes s = (noneGathered (s .0), s .1)
 actOn (waken codes) s = (withWakes (s .0) (all-woken codes (s .0 .wakes)), s .1)
 
 abbrev pub handOn : DmaStep → St → ℕ × St

@@ -138,12 +138,12 @@ recordedOn d e len = cond (hasRoomOut (epOn d Out e)) (writtenOn d e (slotOf (ep
 unfoldable pub admittedOn : Driver → ℕ → ℕ → Driver
 admittedOn d e len = withOn (recordedOn d e len) Out e (arrivedOf (epOn d Out e))
 
--- slot i armed: marked up to the endpoint's maximum, its address recorded
+-- slot i of a record armed: marked up to the endpoint's maximum, its address recorded
+abbrev pub armBy : ℕ → EpState → ℕ → St → ℕ × St
+armBy e r i s = let a = slotAddr r i in (a, (withOn (s .0) Out e (armedAt r a), armed (s .1) a (r .«max_len»)))
+
 abbrev pub armAt : ℕ → ℕ → St → ℕ × St
-armAt e i s =
-    let r = epOn (s .0) Out e in
-    let a = slotAddr r i in
-    (a, (withOn (s .0) Out e (armedAt r a), armed (s .1) a (r .«max_len»)))
+armAt e i s = armBy e (epOn (s .0) Out e) i s
 
 -- the head's
 abbrev pub armOn : ℕ → St → ℕ × St

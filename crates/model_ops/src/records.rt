@@ -79,12 +79,17 @@ pub fn set_enabled(s: &mut [u8; STATE_LEN], dir: Dir, e: u8, on: bool)
     state::set_ep_config(s, regs::enables::with_on(g.ep_config, dir, e, on));
 }
 
-// Is OUT e an enabled isochronous endpoint (mod.rs 95-101, 467)?
+// Is OUT e an enabled isochronous endpoint, by the kept words (mod.rs 95-101, 467)?
+pub fn receives(g: Globals, e: u8) -> bool
+    ensures { λ r. ⌜ r ≡ isSet (isoOuts g) (e % 16) ⌝ }
+{
+    mask_has(out_enabled(g.ep_config, g.iso_out_eps), e)
+}
+
 pub fn receiving(s: &[u8; STATE_LEN], e: u8) -> bool
     ensures { λ r. ⌜ r ≡ isSet (isoOuts (view (now (s .entry)) .globals)) (e % 16) ⌝ }
 {
-    let g = state::load_globals(s);
-    mask_has(out_enabled(g.ep_config, g.iso_out_eps), e)
+    receives(state::load_globals(s), e)
 }
 
 // The address of the endpoint's buffer, which of OUT is from now on the armed slot.

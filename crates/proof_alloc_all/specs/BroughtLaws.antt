@@ -12,8 +12,8 @@ use Rattle.regs.specs.declared.Dir.the-variants.{Out, In}
 use Rattle.regs.specs.declared.Reg.{Reg}
 use Rattle.state.specs.declared.Allocator.{Allocator}
 use Rattle.state.specs.declared.EpState.{EpState}
-use Rattle.state.specs.Wakes.{none-woken, listed}
-use Rattle.state.specs.Driver.{Driver, withWakes}
+use Rattle.state.specs.Wakes.{listed}
+use Rattle.state.specs.Driver.{Driver, noneGathered}
 use Rattle.alloc.specs.declared.Answer as alloc-answer
 use Rattle.alloc.specs.declared.Answer.the-variants as alloc
 use Rattle.alloc.specs.Alloc.{allocateOf}
@@ -167,7 +167,7 @@ singly g bs j (e ∷ es) d b =
 pub record InOrderAs (d : Driver) (b bytes : List ℕ) (f : Brings) (g : ℕ → Brings) (bs : ℕ → List ℕ) : Type 0 where
   pub hands : handsAs f 0 (run concrete (otherCode (AllocateAll bytes)) (d, b)) ≡ oneByOneAs g bs 0 (listOf bytes) d .0
   pub ends-so : endsAs f 0 (run concrete (otherCode (AllocateAll bytes)) (d, b))
-      ≡ (End (length (listOf bytes)) [], withWakes (oneByOneAs g bs 0 (listOf bytes) d .1) none-woken)
+      ≡ (End (length (listOf bytes)) [], noneGathered (oneByOneAs g bs 0 (listOf bytes) d .1))
 
 pub in-order-as : (d : Driver) (b bytes : List ℕ)
     → Settled d → d .globals .stage ≡ 1 → ((j : ℕ) → getD bytes j 0 < 256) → readingOf bytes .answer ≡ reading.Listed
@@ -180,5 +180,5 @@ in-order-as d b bytes s stage small reads given f g bs =
       hands = to-hands f 0 o o (whole bytes .same d b b) ∙ r .hands ∙ sym (ap (λ (x : List Access × Driver). x .0) z);
       ends-so =
           to-ends f 0 o o (whole bytes .same d b b) ∙ ap (λ (x : answers.Answer × St). (x .0, x .1 .0)) (r .ends-so)
-          ∙ sym (ap (λ (x : List Access × Driver). (End (length (listOf bytes)) [], withWakes (x .1) none-woken)) z);
+          ∙ sym (ap (λ (x : List Access × Driver). (End (length (listOf bytes)) [], noneGathered (x .1))) z);
     }

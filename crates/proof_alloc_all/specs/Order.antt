@@ -10,8 +10,8 @@ use Rattle.regs.specs.declared.Access.the-variants.{Write}
 use Rattle.regs.specs.declared.Reg.the-variants.{EpMaxLen}
 use Rattle.regs.specs.declared.Dir.{Dir}
 use Rattle.state.specs.declared.Allocator.{Allocator}
-use Rattle.state.specs.Wakes.{Wakes, none-woken}
-use Rattle.state.specs.Driver.{Driver, withWakes}
+use Rattle.state.specs.Wakes.{Wakes}
+use Rattle.state.specs.Driver.{Driver, noneGathered}
 use Rattle.alloc.specs.declared.Answer.{Answer}
 use Rattle.alloc.specs.declared.Answer.the-variants.{Refused, Given}
 use Rattle.req_descriptor.specs.declared.Endpoint.{Endpoint}
@@ -40,7 +40,7 @@ use Rattle.proof_alloc_all.specs.WalkLaws.{Chain}
 
 pub record Stepwise (es : List Endpoint) (d : Driver) (b : List ℕ) : Type 0 where
   pub hands : oneByOne es (d, b) .0 ≡ handed (d .allocator .size) (d .allocator .next * d .allocator .size) es
-  pub state : withWakes (oneByOne es (d, b) .1 .0) none-woken ≡ withWakes (eachOn d es) none-woken
+  pub state : noneGathered (oneByOne es (d, b) .1 .0) ≡ noneGathered (eachOn d es)
   pub bytes : oneByOne es (d, b) .1 .1 ≡ b
 
 -- a descriptor without error, none of whose endpoints would be refused: all that the operation hands out is what their own allocations hand out, one
@@ -48,4 +48,4 @@ pub record Stepwise (es : List Endpoint) (d : Driver) (b : List ℕ) : Type 0 wh
 pub record InOrder (d : Driver) (b bytes : List ℕ) : Type 0 where
   pub hands : handsOut (run concrete (otherCode (AllocateAll bytes)) (d, b)) ≡ oneByOne (listOf bytes) (d, b) .0
   pub ends-so : endsWith (run concrete (otherCode (AllocateAll bytes)) (d, b))
-      ≡ (End (length (listOf bytes)) [], (withWakes (oneByOne (listOf bytes) (d, b) .1 .0) none-woken, b))
+      ≡ (End (length (listOf bytes)) [], (noneGathered (oneByOne (listOf bytes) (d, b) .1 .0), b))

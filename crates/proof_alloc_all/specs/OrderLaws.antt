@@ -12,8 +12,8 @@ use Rattle.regs.specs.declared.Access.the-variants.{Write}
 use Rattle.regs.specs.declared.Reg.the-variants.{EpMaxLen}
 use Rattle.regs.specs.declared.Dir.{Dir}
 use Rattle.state.specs.declared.Allocator.{Allocator}
-use Rattle.state.specs.Wakes.{Wakes, none-woken, listed}
-use Rattle.state.specs.Driver.{Driver, epOn, withOn, withWakes, withAllocator}
+use Rattle.state.specs.Wakes.{Wakes, unwoken, listed}
+use Rattle.state.specs.Driver.{Driver, epOn, withOn, withWakes, withAllocator, noneGathered}
 use Rattle.alloc.specs.declared.Answer.{Answer}
 use Rattle.alloc.specs.declared.Answer.the-variants.{Refused, Given}
 use Rattle.alloc.specs.Alloc.{isIso, slotsOf, allocateOf}
@@ -116,6 +116,9 @@ unfolding eachOn
 each-wakes [] d w = refl
 each-wakes (e ∷ es) d w = ap (λ (z : Driver). eachOn z es) (one-wakes d w e) ∙ each-wakes es (oneOn d e) w
 
+each-quiet : (es : List Endpoint) (d : Driver) → eachOn d es .wakes ≡ d .wakes
+each-quiet es d = ap (λ (z : Driver). z .wakes) (each-wakes es d (d .wakes))
+
 -- ---- after all are allocated they lie one above the other
 
 stays : (es : List Endpoint) (d : Driver) (dir : Dir) (m kind maximum y : ℕ)
@@ -159,7 +162,7 @@ module _ (d : Driver) (b : List ℕ) (e : Endpoint) (n x slots : ℕ)
   lastly k u = ends (End k (listed (u .0 .wakes))) u
 
   abbrev buffer : Bool → ℕ × Driver → tree.Out St Unit
-  buffer c p = cond c (asks (dma (directionOf (e .address)) n (p .0)) (p .1, b) (λ _ u. ends tt u)) (ends tt (withWakes (oneOn d e) none-woken, b))
+  buffer c p = cond c (asks (dma (directionOf (e .address)) n (p .0)) (p .1, b) (λ _ u. ends tt u)) (ends tt (noneGathered (oneOn d e), b))
 
   abbrev tail : Bool → ℕ × Driver → tree.Out St answers.Answer
   tail c p = bindOut (bindOut (buffer c p) (λ _ u. ends n u)) lastly
@@ -174,16 +177,16 @@ module _ (d : Driver) (b : List ℕ) (e : Endpoint) (n x slots : ℕ)
       (ends (answers.Refused 4) (d, b))) (eq-eqb (d .globals .stage) 1 stage)
       ∙ ap as-answered q
 
-  place-is : placeOn (directionOf (e .address)) n (withWakes (oneOn d e) none-woken) ≡ pair x (withWakes (oneOn d e) none-woken)
+  place-is : placeOn (directionOf (e .address)) n (noneGathered (oneOn d e)) ≡ pair x (noneGathered (oneOn d e))
   place-is =
-      let o = owns-wakes (oneOn d e) none-woken (directionOf (e .address)) n (e .kind) (e .maximum) x (owns d e n x slots q s) in
-      placed (withWakes (oneOn d e) none-woken) (directionOf (e .address)) n x (o .base) (o .armed)
+      let o = owns-wakes (oneOn d e) (unwoken (oneOn d e .wakes)) (directionOf (e .address)) n (e .kind) (e .maximum) x (owns d e n x slots q s) in
+      placed (noneGathered (oneOn d e)) (directionOf (e .address)) n x (o .base) (o .armed)
 
-  tail-hands : (c : Bool) → handsOut (tail c (pair x (withWakes (oneOn d e) none-woken))) ≡ cond c (dma (directionOf (e .address)) n x ∷ []) []
+  tail-hands : (c : Bool) → handsOut (tail c (pair x (noneGathered (oneOn d e)))) ≡ cond c (dma (directionOf (e .address)) n x ∷ []) []
   tail-hands true = refl
   tail-hands false = refl
 
-  tail-ends : (c : Bool) → endsWith (tail c (pair x (withWakes (oneOn d e) none-woken))) ≡ (End n [], (withWakes (oneOn d e) none-woken, b))
+  tail-ends : (c : Bool) → endsWith (tail c (pair x (noneGathered (oneOn d e)))) ≡ (End n [], (noneGathered (oneOn d e), b))
   unfolding listed
   tail-ends true = refl
   tail-ends false = refl
@@ -194,7 +197,7 @@ module _ (d : Driver) (b : List ℕ) (e : Endpoint) (n x slots : ℕ)
       ∙ ap (λ (p : ℕ × Driver). Write EpMaxLen n (e .maximum) ∷ handsOut (tail (not (eqb (e .kind % 4) 0)) p)) place-is
       ∙ ap (λ (l : List Access). Write EpMaxLen n (e .maximum) ∷ l) (tail-hands (not (eqb (e .kind % 4) 0)))
 
-  pub one-ends : endsWith (run concrete (allocation e) (d, b)) ≡ (End n [], (withWakes (oneOn d e) none-woken, b))
+  pub one-ends : endsWith (run concrete (allocation e) (d, b)) ≡ (End n [], (noneGathered (oneOn d e), b))
   one-ends =
       ap endsWith runs
       ∙ ap (λ (p : ℕ × Driver). endsWith (tail (not (eqb (e .kind % 4) 0)) p)) place-is
@@ -204,8 +207,8 @@ stepwise : (es : List Endpoint) (d : Driver) (b : List ℕ) → Settled d → d 
 unfolding oneByOne eachOn Good
 stepwise [] d b s stage a g = record { hands = refl; state = refl; bytes = refl }
 stepwise (e ∷ es) d b s stage (goes-on _ _ _ n x slots q r) g =
-    let d2 = withWakes (oneOn d e) none-woken in
-    let t = settled-wakes (oneOn d e) none-woken (settled d e n x slots q s) in
+    let d2 = noneGathered (oneOn d e) in
+    let t = settled-wakes (oneOn d e) (unwoken (oneOn d e .wakes)) (settled d e n x slots q s) in
     let r1 = subst (λ (z : Allocator). Accepts z es) (sym (one-allocator d e n x slots q)) r in
     let v = gives (d .allocator) e n x slots q in
     let m = given-number (d .allocator) e n x slots q (g .0 .address) in
@@ -226,8 +229,9 @@ stepwise (e ∷ es) d b s stage (goes-on _ _ _ n x slots q r) g =
           ∙ ap (λ (z : ℕ). accesses (directionOf (e .address)) (e .address % 128) (e .kind) (e .maximum) z ++ handed (d .allocator .size)
           (d .allocator .next * d .allocator .size + slotsOf (isIso (e .kind)) (directionOf (e .address))
           * d .allocator .size) es) (v .starts);
-      state = ap (λ (z : St). withWakes (oneByOne es z .1 .0) none-woken) w
-          ∙ i .state ∙ ap (λ (z : Driver). withWakes z none-woken) (each-wakes es (oneOn d e) none-woken);
+      state = ap (λ (z : St). noneGathered (oneByOne es z .1 .0)) w ∙ i .state
+          ∙ ap noneGathered (each-wakes es (oneOn d e) (unwoken (oneOn d e .wakes)))
+          ∙ ap (λ (z : Wakes). withWakes (eachOn (oneOn d e) es) (unwoken z)) (sym (each-quiet es (oneOn d e)));
       bytes = ap (λ (z : St). oneByOne es z .1 .1) w ∙ i .bytes;
     }
 
@@ -265,8 +269,8 @@ in-order d b bytes s stage small reads given =
     let g = accepted bytes small reads .good in
     let o = one-by-one (d .allocator) es (few es g) in
     let a = accepts (o .run) (sym (ap (λ (t : Trial). t .refusal) (o .trial)) ∙ given) in
-    let D = withWakes (eachOn d es) none-woken in
-    let c = chain-wakes es (eachOn d es) none-woken (d .allocator .next * d .allocator .size) (chain es d s a g) in
+    let D = noneGathered (eachOn d es) in
+    let c = chain-wakes es (eachOn d es) (unwoken (eachOn d es .wakes)) (d .allocator .next * d .allocator .size) (chain es d s a g) in
     let h = all-hands es D b (d .allocator .next * d .allocator .size) c in
     let z = stepwise es d b s stage a g in
     let r : run concrete (otherCode (AllocateAll bytes)) (d, b) ≡ bindOut (go (announceAll es) D b) finishing =

@@ -6,8 +6,8 @@ use Prim.Native.Nat.{ℕ, _+_, _<_}
 use lib.ListN.{length, getD}
 use borrow.Author.Tests.{eq-eqb}
 use Rattle.state.specs.declared.Allocator.{Allocator}
-use Rattle.state.specs.Wakes.{none-woken}
-use Rattle.state.specs.Driver.{Driver, withWakes, withAllocator}
+use Rattle.state.specs.Wakes.{unwoken}
+use Rattle.state.specs.Driver.{Driver, withAllocator, noneGathered}
 use Rattle.alloc.specs.declared.Answer.{Answer}
 use Rattle.alloc.specs.declared.Answer.the-variants.{Refused}
 use Rattle.alloc.specs.Alloc.{allocateOf}
@@ -81,9 +81,9 @@ by-calls (stopped a e es n q l m) d b h s stage = record {
 }
 by-calls (goes a e es k base slots q ns buffers n c r) d b h s stage =
     let p = ap (λ (z : Allocator). asked z e .answer) h ∙ q in
-    let d2 = withWakes (oneOn d e) none-woken in
+    let d2 = noneGathered (oneOn d e) in
     let i = by-calls r d2 b (one-allocator d e k base slots p ∙ ap (λ (z : Allocator). asked z e .after) h)
-    (settled-wakes (oneOn d e) none-woken (settled d e k base slots p s)) (one-stage d e k base slots p ∙ stage) in
+    (settled-wakes (oneOn d e) (unwoken (oneOn d e .wakes)) (settled d e k base slots p s)) (one-stage d e k base slots p ∙ stage) in
     record {
       after = i .after;
       calls = ended (d, b) (d2, b) (i .after, b) e es k (one-ends d b e k base slots p s stage) ns n (i .calls);

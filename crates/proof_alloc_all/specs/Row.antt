@@ -6,8 +6,8 @@ use mathlib.Core.Path.{_≡_, refl, ap, sym, _∙_}
 use Prim.Native.Nat.{ℕ}
 use lib.Dec.{eqb}
 use borrow.Author.Tests.{eq-eqb, eqb-true}
-use Rattle.state.specs.Wakes.{none-woken, listed}
-use Rattle.state.specs.Driver.{Driver, withWakes}
+use Rattle.state.specs.Wakes.{listed}
+use Rattle.state.specs.Driver.{Driver, noneGathered}
 use Rattle.req_descriptor.specs.declared.Endpoint.{Endpoint}
 use Rattle.req_descriptor.specs.declared.Answer as reading-answer
 use Rattle.req_descriptor.specs.declared.Answer.the-variants as reading
@@ -60,7 +60,7 @@ tried-row es d b n = by (eqb n 0) refl
     by false e = refl
     by true e =
         ap (λ (o : tree.Out St Unit). rowOf (bindOut o (λ _ u. run {i = false} concrete (operation (announceAll es)) u))) (each-run es d b)
-        ∙ begun-row (go (announceAll es) (withWakes (eachOn d es) none-woken) b) ∙ sym (eqb-true n 0 e)
+        ∙ begun-row (go (announceAll es) (noneGathered (eachOn d es)) b) ∙ sym (eqb-true n 0 e)
 
 pub same-row : (d : Driver) (b bytes : List ℕ) → d .globals .stage ≡ 1
     → rowOf (run concrete (otherCode (AllocateAll bytes)) (d, b)) ≡ rowIn (previewOf (d .allocator) bytes)

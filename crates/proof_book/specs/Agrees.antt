@@ -6,7 +6,7 @@ use Rattle.regs.specs.declared.Dir.the-variants.{Out, In}
 use Rattle.regs.specs.Enables as enables
 use Rattle.state.specs.declared.Globals.{Globals}
 use Rattle.state.specs.declared.Allocator.{Allocator}
-use Rattle.state.specs.Wakes.{none-woken, listed, all-woken}
+use Rattle.state.specs.Wakes.{unwoken, listed, all-woken}
 use Rattle.state.specs.Driver.{Driver, epOn}
 use Rattle.model.specs.Cells.{EpCore}
 use Rattle.model.specs.Script.{Test, changed, waiting, room, opened, Look, marked, next-len, next-stamp, setup-word}
@@ -82,7 +82,7 @@ acts (take-oldest e) = act-take e
 acts (enqueue e bytes) = act-enqueue e bytes
 acts (allocate dir kind address maximum interval) = λ b d t r. (refl, allocates r dir kind address maximum interval)
 acts (allocate0 maximum) = λ b d t r. (refl, starts r maximum)
-acts no-wakes = λ b d t r. (refl, wakes-kept r none-woken none-woken refl)
+acts no-wakes = λ b d t r. (refl, wakes-kept r _ _ (ap unwoken (r .same .wakes)))
 acts (waken codes) = λ b d t r. (refl, wakes-kept r _ _ (ap (all-woken codes) (r .same .wakes)))
 
 pub hands : (q : DmaStep) → HandAgrees q

@@ -14,7 +14,7 @@ use Rattle.regs.specs.Enables as enables
 use Rattle.state.specs.declared.Globals.{Globals}
 use Rattle.state.specs.Ep.{newEp}
 use Rattle.state.specs.Kept.{withEpConfig, withEpType}
-use Rattle.state.specs.Wakes.{none-woken, listed, all-woken}
+use Rattle.state.specs.Wakes.{none-woken, unwoken, listed, all-woken}
 use Rattle.state.specs.Fresh.{freshGlobals, freshAllocator, noControl}
 use Rattle.state.specs.Driver.{noRequest}
 use Rattle.alloc.specs.declared.Answer.{Answer}
@@ -335,7 +335,7 @@ actB (take-oldest e) s = (takeB (s .0) e, s .1)
 actB (enqueue e bytes) s = enqueueB e bytes s
 actB (allocate d kind address maximum interval) s = (allocateB d kind address maximum interval (s .0), s .1)
 actB (allocate0 maximum) s = (allocateB0 maximum (s .0), s .1)
-actB no-wakes s = (withKept (s .0) (keptWakes (s .0 .kept) none-woken), s .1)
+actB no-wakes s = (withKept (s .0) (keptWakes (s .0 .kept) (unwoken (s .0 .kept .wakes))), s .1)
 actB (waken codes) s = (withKept (s .0) (keptWakes (s .0 .kept) (all-woken codes (s .0 .kept .wakes))), s .1)
 
 -- ---- changes with an access: the book is told the driver's addresses

@@ -20,6 +20,7 @@ use Rattle.state.specs.declared.Control.{Control}
 use Rattle.state.specs.Ep.{resetOf}
 use Rattle.state.specs.Kept.{withEpConfig}
 use Rattle.state.specs.Fresh.{clearStamps, noStamps}
+use Rattle.state.specs.WakesLaws.{all-long}
 use Rattle.state.specs.Driver.{Driver, key, noEp, epOn, withOn, withLenOn, withStampOn, withPacedOn, withRequestOn}
 use Rattle.ring.specs.Slot.{slotAddr, joinedOf, passedOf, hasWaiting}
 use Rattle.ring.specs.Out.{hasRoomOut, cappedAt, overrunOf, arrivedOf, armedAt, openedOf, closedOf}
@@ -88,9 +89,10 @@ module _ {X Y : Type 0} {f : EpState → X} {h : Driver → Y} where
 
 -- ---- rings, slots and wake-ups: all else stays, but at an allocation
 
--- all but rings, lengths, stamps, paced microframes and wake-ups; where an endpoint is turned on or off (`t`), but the kept ep_config too
-abbrev pub restOf : Bool → Driver → Globals × Allocator × List Request × Control
-restOf t d = (withEpConfig (cond t 0 (d .globals .«ep_config»)) (d .globals), d .allocator, d .requests, d .control)
+-- all but rings, lengths, stamps, paced microframes and wake-ups, of which the room stays; where an endpoint is turned on or off (`t`), but the kept
+-- ep_config too
+abbrev pub restOf : Bool → Driver → Globals × Allocator × List Request × Control × ℕ
+restOf t d = (withEpConfig (cond t 0 (d .globals .«ep_config»)) (d .globals), d .allocator, d .requests, d .control, length (d .wakes .codes))
 
 abbrev pub RingsOnly : Bool → Driver → Driver → Type 0
 RingsOnly t = Leaves plainOf (restOf t)
@@ -154,7 +156,9 @@ act-leaves (enqueue e bytes) m s = by (roomOn (s .0) e (length bytes))
 act-leaves (allocate d kind address maximum interval) m s = absurd (true≢false m)
 act-leaves (allocate0 maximum) m s = absurd (true≢false m)
 act-leaves no-wakes m s = others (s .0) _ refl refl
-act-leaves (waken codes) m s = others (s .0) _ refl refl
+act-leaves (waken codes) m s =
+    let x = restOf false (s .0) in
+    others (s .0) _ refl (λ i. (x .0, x .1, x .2, x .3, all-long codes (s .0 .wakes) i))
 
 -- a fact of each act: an allocation's, or what follows where rings alone change
 pub by-act : {K : Act → Driver → Type 0} (s : St) → ((q : Act) (d : Driver) → RingsOnly (turns q) (s .0) d → K q d)
@@ -213,18 +217,19 @@ hand-leaves place0 s = unchanged (s .0)
 abbrev pub givenOf : EpState → ℕ × ℕ × ℕ
 givenOf r = (r .iso, r .kind, r .«max_len»)
 
--- the stage, the two sets of isochronous endpoints, the kept ep_config, the allocator
-abbrev pub heldOf : Bool → Driver → ℕ × ℕ × ℕ × ℕ × Allocator
+-- the stage, the two sets of isochronous endpoints, the kept ep_config, the allocator, the room for wake-ups
+abbrev pub heldOf : Bool → Driver → ℕ × ℕ × ℕ × ℕ × Allocator × ℕ
 heldOf t d = (
   d .globals .stage,
   d .globals .«iso_out_eps»,
   d .globals .«iso_in_every»,
   cond t 0 (d .globals .«ep_config»),
   d .allocator,
+  length (d .wakes .codes),
 )
 
 -- and the requests
-abbrev pub heldAndRequests : Bool → Driver → (ℕ × ℕ × ℕ × ℕ × Allocator) × List Request
+abbrev pub heldAndRequests : Bool → Driver → (ℕ × ℕ × ℕ × ℕ × Allocator × ℕ) × List Request
 heldAndRequests t d = (heldOf t d, d .requests)
 
 abbrev pub GivenStays : Bool → Driver → Driver → Type 0
@@ -240,7 +245,7 @@ given-stays t p = narrow (λ r. r) (λ x. x .0) p
 pub rings-stay : (t : Bool) {d d′ : Driver} → RingsOnly t d d′ → RequestsStay t d d′
 rings-stay t p =
     narrow (λ r. (r .iso, r .kind, r .«max_len»))
-    (λ x. ((x .0 .stage, x .0 .«iso_out_eps», x .0 .«iso_in_every», x .0 .«ep_config», x .1), x .2)) p
+    (λ x. ((x .0 .stage, x .0 .«iso_out_eps», x .0 .«iso_in_every», x .0 .«ep_config», x .1, x .4), x .2)) p
 
 record-stays : (t : Bool) (d : Driver) (dir : Dir) (e : ℕ) (r : EpState) → givenOf r ≡ givenOf (epOn d dir e) → RequestsStay t d (withOn d dir e r)
 unfolding withOn

@@ -23,3 +23,5 @@ pub record Sorting (d : Driver) : Type 0 where
   -- a number that is not taken has no sort yet
   pub free : (dir : Dir) (e : ℕ) → isSet (takenIn (d .allocator) dir) (e % 16) ≡ false → sortsOf d dir e ≡ false
   pub has : Has (sortsOf d) d
+  -- room for 64 wake-ups
+  pub codes : length (d .wakes .codes) ≡ 64

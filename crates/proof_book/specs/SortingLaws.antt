@@ -64,6 +64,7 @@ steady-sorting p k = record {
     outs = λ e l h. ap isOn (p .flags Out e) ∙ k .has .outs e l (rw (p .outs) at h);
     every = λ e l h. ap isOn (p .flags In e) ∙ k .has .every e l (rw (p .every) at h);
   };
+  codes = p .codes ∙ k .codes;
 }
 
 -- ---- an allocator by which no more numbers are free
@@ -77,6 +78,7 @@ further-sorting k a s f = record {
   sound = s;
   free = λ dir e h. k .free dir e (f dir (e % 16) h);
   has = record { flags = λ dir e. refl; outs = k .has .outs; every = k .has .every };
+  codes = k .codes;
 }
 
 untaken : {a b : Allocator} {iso : Bool} {dir : Dir} {e : ℕ}
@@ -94,7 +96,7 @@ ep0-sorting : {d : Driver} → Sorting d → (maximum : ℕ) (z : Allocation) �
 unfolding startedWith withNext takenIn
 ep0-sorting {d = d} k maximum z s (kept c n w full) = further-sorting k (d .allocator) s (λ dir j h. h)
 ep0-sorting {d = d} k maximum z s (gave-ep0 m x small l) = steady-sorting
-    (others _ _ refl refl refl refl) (further-sorting k (withNext (d .allocator) (d .allocator .next + 1)) s same)
+    (others _ _ refl refl refl refl refl) (further-sorting k (withNext (d .allocator) (d .allocator .next + 1)) s same)
   where
     same : (dir : Dir) (j : ℕ) → isSet (takenIn (withNext (d .allocator) (d .allocator .next + 1)) dir) j ≡ false → isSet (takenIn (d .allocator) dir) j ≡ false
     same Out j h = h
@@ -202,6 +204,7 @@ module _ {d : Driver} (k : Sorting d) (dir : Dir) (kind maximum interval e base 
     sound = s;
     free = free-after;
     has = record { flags = λ dir e. refl; outs = among-after Out; every = among-after In };
+    codes = k .codes;
   }
 
 allocated-sorting : {d : Driver} → Sorting d → (dir : Dir) (kind address maximum interval : ℕ) (z : Allocation)
@@ -256,6 +259,7 @@ fresh-sorting c b row =
       sound = r .sound;
       free = unshaped r;
       has = record { flags = λ dir e. refl; outs = λ e l h. none e h; every = λ e l h. none e h };
+      codes = refl;
     }
 
 -- after every list of calls from an accepted start-up

@@ -18,6 +18,7 @@ pub record Steady (d d′ : Driver) : Type 0 where
   pub outs : d′ .globals .«iso_out_eps» ≡ d .globals .«iso_out_eps»
   pub every : d′ .globals .«iso_in_every» ≡ d .globals .«iso_in_every»
   pub allocator : d′ .allocator ≡ d .allocator
+  pub codes : length (d′ .wakes .codes) ≡ length (d .wakes .codes)
 
 -- ---- the instance
 

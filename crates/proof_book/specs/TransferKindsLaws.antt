@@ -2,6 +2,7 @@
 use mathlib.Core.Bool.{Bool, false}
 use mathlib.Core.Path.{_≡_, refl, ap, _∙_}
 use Prim.Native.Nat.{ℕ}
+use lib.ListN.{length}
 use Rattle.regs.specs.declared.Dir.{Dir}
 use Rattle.state.specs.Driver.{Driver, epOn}
 use Rattle.model.specs.Cells.{Cell, Val, globals-cell, control-cell, allocator-cell, ep-cell, request-cell, paced-cell}
@@ -15,9 +16,10 @@ use Rattle.proof_book.specs.TransferKinds.{Steady, Has}
 
 -- a change of other records than the endpoints'
 pub others : (d d′ : Driver) → d′ .eps ≡ d .eps → d′ .globals .«iso_out_eps» ≡ d .globals .«iso_out_eps»
-    → d′ .globals .«iso_in_every» ≡ d .globals .«iso_in_every» → d′ .allocator ≡ d .allocator → Steady d d′
+    → d′ .globals .«iso_in_every» ≡ d .globals .«iso_in_every» → d′ .allocator ≡ d .allocator
+    → length (d′ .wakes .codes) ≡ length (d .wakes .codes) → Steady d d′
 unfolding epOn
-others d d′ p o i a = record { places = rw p refl; flags = λ dir e. rw p refl; outs = o; every = i; allocator = a }
+others d d′ p o i a c = record { places = rw p refl; flags = λ dir e. rw p refl; outs = o; every = i; allocator = a; codes = c }
 
 -- what an allocation gave has the flag
 sorts-stay : (t : Bool) {d d′ : Driver} → GivenStays t d d′ → Steady d d′
@@ -27,6 +29,7 @@ sorts-stay t p = record {
   outs = λ i. p .rest i .1;
   every = λ i. p .rest i .2;
   allocator = λ i. p .rest i .4;
+  codes = λ i. p .rest i .5;
 }
 
 -- ---- each operation

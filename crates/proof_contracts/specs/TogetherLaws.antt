@@ -12,7 +12,7 @@ use Rattle.regs.specs.declared.Reg.{Reg}
 use Rattle.regs.specs.declared.Reg.the-variants.{IntFg, IntSt, RxLen, FrameNo}
 use Rattle.state.specs.State.{view}
 use Rattle.state.specs.Driver.{Driver}
-use Rattle.state.specs.Wakes.{none-woken}
+use Rattle.state.specs.Wakes.{unwoken}
 use Rattle.model.specs.Script.{Script, ret, test, run}
 use Rattle.model.specs.Answers.{Answer, Refused, resultless}
 use Rattle.model.specs.Handler.{stampedInterrupt}
@@ -306,7 +306,7 @@ abbrev fromStage : Bool → Script true Answer
 fromStage u = test u (resultless stampedInterrupt) (ret (Refused 4))
 
 module _ (v : ℕ) (b b′ : Buf) (n : Machine Answer Pages) (chip : LentAsLeft (go v) n b b′) where
-  woken : (u : Bool) → unless u (Chip (n .st) b b′) → unless u (Chip (withKept (n .st) (keptWakes (n .st .kept) none-woken)) b b′)
+  woken : (u : Bool) → unless u (Chip (n .st) b b′) → unless u (Chip (withKept (n .st) (keptWakes (n .st .kept) (unwoken (n .st .kept .wakes)))) b b′)
   woken true c = tt
   woken false c = record { long = c .long; others = λ k h. c .others k (record { outs = h .outs; ep0 = h .ep0 }) }
 

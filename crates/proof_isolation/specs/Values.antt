@@ -9,8 +9,7 @@ use Rattle.regs.specs.declared.Dir.{Dir}
 use Rattle.regs.specs.declared.Dir.the-variants.{Out, In}
 use Rattle.state.specs.declared.EpState.{EpState}
 use Rattle.state.specs.declared.Globals.{Globals}
-use Rattle.state.specs.Wakes.{none-woken, wakeCode, busCode, every-endpoint}
-use Rattle.state.specs.WakesLaws.{none-room}
+use Rattle.state.specs.Wakes.{wakeCode, busCode, every-endpoint}
 use Rattle.state.specs.Driver.{key, epOn, withOn}
 use Rattle.state.specs.Laws.{key-apart}
 use Rattle.model.specs.Cells.{EpCore, globals-cell, ep-cell}
@@ -28,8 +27,7 @@ use Rattle.proof_book.specs.TransferKindsLaws.{sorted}
 use Rattle.proof_isolation.specs.EqualExcept.{SameCodes, Stays, Channel, LowEquiv}
 use Rattle.proof_isolation.specs.Apart.{ApartBy, end, PairBy, Pair}
 use Rattle.proof_isolation.specs.Pairs.{Eq, Any, p-bind, p-same, p-get, p-put, p-act}
-use Rattle.proof_isolation.specs.Likes.{wakes-refl}
-use Rattle.proof_isolation.specs.Wakes.{all-same, own-woken}
+use Rattle.proof_isolation.specs.Wakes.{none-same, all-same, own-woken}
 use Rattle.proof_isolation.specs.Buts.{stays-any, but-globals, but-wakes, but-on, changed-seat, like-made, lawful-put, lawful-act}
 
 merged-stays : {r r′ : EpState} (v v′ : EpCore) → withReady 0 v′ ≡ withReady 0 v → Stays r r′ → Stays (merged r v) (merged r′ v′)
@@ -86,7 +84,7 @@ module _ (c : Channel) where
   begins-none : (s t : St) → LowEquiv c quiet s t → LowEquiv c quiet (actOn no-wakes s) (actOn no-wakes t)
   unfolding epOn
   begins-none s t l = like-made l (lawful-act c no-wakes refl (l .left)) (lawful-act c no-wakes refl (l .right))
-      (but-wakes (l .but) none-woken none-woken (wakes-refl (c .number) none-woken none-room)) (same-place (epOn (s .0) Out (c .number))) (l .bytes)
+      (but-wakes (l .but) _ _ (none-same (l .but .wakes))) (same-place (epOn (s .0) Out (c .number))) (l .bytes)
 
   wakens : (codes : List ℕ) (s t : St) → LowEquiv c quiet s t → LowEquiv c quiet (actOn (waken codes) s) (actOn (waken codes) t)
   unfolding epOn

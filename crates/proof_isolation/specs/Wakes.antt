@@ -9,8 +9,8 @@ use borrow.Author.Tests.{eq-eqb}
 use lib.Dec.{eqb}
 use lib.ListN.{length}
 use Rattle.regs.specs.declared.Dir.the-variants.{Out, In}
-use Rattle.state.specs.Wakes.{Wakes, wakeCode, listed, woken, all-woken}
-use Rattle.state.specs.WakesLaws.{Room, woken-full, woken-count, woken-keeps, woken-listed, listed-count}
+use Rattle.state.specs.Wakes.{Wakes, wakeCode, unwoken, listed, woken, all-woken}
+use Rattle.state.specs.WakesLaws.{Room, unwoken-room, unwoken-listed, woken-full, woken-count, woken-keeps, woken-listed, listed-count}
 use Rattle.proof_isolation.specs.EqualExcept.{without, others, OtherWakes}
 
 without-append : (o : ℕ) (l m : List ℕ) → without o (l ++ m) ≡ without o l ++ without o m
@@ -50,6 +50,14 @@ module _ (a : ℕ) (w : Wakes) (r : Room w) where
   others-woken x h = ap (λ l. others x l) (woken-listed a w r (room-before h)) ∙ without-append _ (listed w) (a ∷ [])
 
 module _ {x : ℕ} where
+  -- none in either
+  pub none-same : {w w′ : Wakes} → OtherWakes x w w′ → OtherWakes x (unwoken w) (unwoken w′)
+  none-same {w} {w′} h = record {
+    room = unwoken-room w (h .room .long);
+    room′ = unwoken-room w′ (h .room′ .long);
+    same = λ p q. ap (λ l. others x l) (unwoken-listed w ∙ sym (unwoken-listed w′));
+  }
+
   woken-same : {w w′ : Wakes} (a : ℕ) → OtherWakes x w w′ → OtherWakes x (woken a w) (woken a w′)
   woken-same {w} {w′} a h = record {
     room = room-woken a w (h .room);

@@ -7,7 +7,7 @@ use Prim.Native.Nat.{ℕ, _+_, _%_, _≤_}
 use native.Mathlib.Omega.{arith}
 use native.Mathlib.Decide.{ℕ-discrete}
 use lib.ListN.{getD, set}
-use lib.Seq.{set-set, set-comm}
+use lib.Seq.{set-comm}
 use Rattle.bits.specs.Bit.{isSet}
 use Rattle.regs.specs.declared.Dir.{Dir}
 use Rattle.regs.specs.declared.Dir.the-variants.{Out, In}
@@ -18,7 +18,7 @@ use Rattle.state.specs.declared.Globals.{Globals}
 use Rattle.state.specs.Wakes.{Wakes}
 use Rattle.state.specs.Driver.{Driver, key, lenKey, withEps, epOn, withOn, lenOn, withLenOn, stampOn, stampKey, withStampOn, pacedOn, requestOn}
 use Rattle.state.specs.Driver.{withWakes, withPacedOn, withRequestOn}
-use Rattle.state.specs.Laws.{Sized, epOn-same, epOn-other, withOn-back}
+use Rattle.state.specs.Laws.{Sized, epOn-same, epOn-other, withOn-back, withOn-twice}
 use Rattle.marks.specs.Copies.{bytesAt}
 use Rattle.marks.specs.Marks.{armed, isMarked, markedLen}
 use Rattle.marks.specs.Only.{Same}
@@ -101,10 +101,6 @@ on-comm : (d : Driver) (a : Dir) (e : ℕ) (r : EpState) (b : Dir) (f : ℕ) (q 
 unfolding withOn
 on-comm d a e r b f q n = ap (withEps d) (set-comm (d .eps) (key a e) (key b f) r q n)
 
-on-twice : (d : Driver) (a : Dir) (e : ℕ) (r q : EpState) → withOn (withOn d a e r) a e q ≡ withOn d a e q
-unfolding withOn
-on-twice d a e r q = ap (withEps d) (set-set (d .eps) (key a e) r q)
-
 on-key : (d : Driver) (a b : Dir) (e f : ℕ) (r : EpState) → key a e ≡ key b f → withOn d a e r ≡ withOn d b f r
 unfolding withOn
 on-key d a b e f r h = ap (λ k. withEps d (set (d .eps) k r)) h
@@ -125,9 +121,9 @@ module _ {g : EpState → EpState} (k : Gentle g) (e : ℕ) (d : Driver) (z : Si
         let r = epOn d Out e in
         on-key (changeOf g e d) dir Out a e _ p
         ∙ ap (λ (q : EpState). withOn (changeOf g e d) Out e (merged q v)) (key-ep (changeOf g e d) dir Out a e p ∙ epOn-same d Out e _ z)
-        ∙ on-twice d Out e (g r) (merged (g r) v)
+        ∙ withOn-twice d Out e (g r) (merged (g r) v)
         ∙ ap (λ (q : EpState). withOn d Out e q) (sym (k .merges r v))
-        ∙ sym (on-twice d Out e (merged r v) (g (merged r v)))
+        ∙ sym (withOn-twice d Out e (merged r v) (g (merged r v)))
         ∙ ap (λ (q : EpState). withOn (withOn d Out e (merged r v)) Out e (g q)) (sym (epOn-same d Out e (merged r v) z))
         ∙ ap (λ (x : Driver). withOn x Out e (g (epOn x Out e))) (ap (λ (q : EpState). withOn d Out e (merged q v)) (sym (key-ep d dir Out a e p))
         ∙ sym (on-key d dir Out a e (merged (epOn d dir a) v) p))

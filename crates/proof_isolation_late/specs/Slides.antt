@@ -19,16 +19,17 @@ use Rattle.regs.specs.Registers.{ctrlOf}
 use Rattle.regs.specs.Status.{endpoint, token}
 use Rattle.state.specs.declared.Globals.{Globals}
 use Rattle.state.specs.Driver.{Driver, withWakes}
-use Rattle.state.specs.Wakes.{none-woken, listed, all-woken}
+use Rattle.state.specs.Wakes.{Wakes, unwoken, listed, all-woken}
 use Rattle.model.specs.declared.Transfer.{Transfer}
 use Rattle.model.specs.Tree as tree
 use Rattle.model.specs.Tree.{ends, asks, bindOut}
 use Rattle.model.specs.Cells.{Cell, Val, EpCore, globals-cell, ep-cell}
-use Rattle.model.specs.Script.{Script, run, ret, bind, test, _>>=_, _>>_, when, read, write, callback, get, put, is, look, fetch, act, hand}
+use Rattle.model.specs.Script.{Script, Act, run, ret, bind, test, _>>=_, _>>_, when, read, write, callback, get, put, is, look, fetch, act, hand}
 use Rattle.model.specs.Script.{changed, waiting, marked, next-len, setup-word, gathered, complete, no-wakes, waken, arrive, send}
 use Rattle.model.specs.Statics.{isoInEvery, isoOuts, modify, modifyEp, modifyReg, modifyIntEn, wake, wakeBus}
 use Rattle.model.specs.Answers.{Answer, staged, resultless}
 use Rattle.model.specs.Simulates.{quiet}
+use Rattle.model.specs.TransferKinds.{allocates}
 use Rattle.model.specs.IsoIn.{firstInFrame, isoInLoad, isoInComplete, unseen, sofOne, sofWalk, onSof, lateOne, lateWalk}
 use Rattle.model.specs.IsoOut.{arrives, checkOne, checkWalk, isoOutCheck}
 use Rattle.model.specs.Handler.{looks, sieWait, nakNonIso, toggled, retake, settle, received, sent, sofArm, outArm, isoInArm, inArm, entered, framed, isoFor}
@@ -46,7 +47,7 @@ use Rattle.proof_isolation.specs.Settled.{isControl}
 use Rattle.proof_isolation.specs.Buts.{lawful-put, lawful-act, lawful-hand}
 use Rattle.proof_isolation_late.specs.Late.{Light, Other}
 use Rattle.proof_isolation.specs.Standing.{stops}
-use Rattle.proof_isolation_late.specs.Lights.{done-by, Seen}
+use Rattle.proof_isolation_late.specs.Lights.{done-by, Seen, seen}
 use Rattle.proof_isolation_late.specs.LightsLaws.{Shows, seen-arrive, get-done, put-done}
 use Rattle.proof_isolation_late.specs.LightsLaws.{seen-put, seen-wakes}
 use Rattle.proof_isolation_late.specs.LightsLaws.{changed-done, marked-done, setup-done, wakes-same, wakes-done, arrive-done}
@@ -147,20 +148,21 @@ module _ (c : Channel) where
     slid = λ o z s n p. subst (λ v. Slid o z (ends (listed (s .0 .wakes)) s) (ends v (done-by o s))) (sym (ap listed (wakes-same c o s))) (slid-end p);
   }
 
-  s-waken : (codes : List ℕ) → Slides (act (waken codes))
-  s-waken codes = record {
+  -- a change of the wake-ups alone
+  s-wakes : (q : Act) (f : Wakes → Wakes) → allocates q ≡ false → ((s : St) → actOn q s ≡ (withWakes (s .0) (f (s .0 .wakes)), s .1)) → Slides (act q)
+  s-wakes q f a e = record {
     free = λ s. free-end;
-    slid = λ o z s n p. subst (λ t. Slid o z (ends tt (actOn (waken codes) s)) (ends tt t))
-        (sym (ap (λ w. (withWakes (done-by o s .0) (all-woken codes w), done-by o s .1)) (wakes-same c o s) ∙ wakes-done c o s (all-woken codes (s .0 .wakes))))
-        (slid-end (record { lawful = lawful-act c (waken codes) refl (p .lawful); sees = seen-wakes o s (all-woken codes (s .0 .wakes)) ∙ p .sees }));
+    slid = λ o z s n p. subst (λ t. Slid o z (ends tt (actOn q s)) (ends tt t))
+        (sym (e (done-by o s) ∙ ap (λ w. (withWakes (done-by o s .0) (f w), done-by o s .1)) (wakes-same c o s)
+        ∙ wakes-done c o s (f (s .0 .wakes)) ∙ ap (done-by o) (sym (e s))))
+        (slid-end (record { lawful = lawful-act c q a (p .lawful); sees = ap (seen o) (e s) ∙ seen-wakes o s (f (s .0 .wakes)) ∙ p .sees }));
   }
 
+  s-waken : (codes : List ℕ) → Slides (act (waken codes))
+  s-waken codes = s-wakes (waken codes) (all-woken codes) refl (λ s. refl)
+
   s-no-wakes : Slides (act no-wakes)
-  s-no-wakes = record {
-    free = λ s. free-end;
-    slid = λ o z s n p. subst (λ t. Slid o z (ends tt (actOn no-wakes s)) (ends tt t)) (sym (wakes-done c o s none-woken))
-        (slid-end (record { lawful = lawful-act c no-wakes refl (p .lawful); sees = seen-wakes o s none-woken ∙ p .sees }));
-  }
+  s-no-wakes = s-wakes no-wakes unwoken refl (λ s. refl)
 
   -- an arrival on the channel; on another
   s-arrive : (e m : ℕ) → Slides (hand (arrive e m))

@@ -32,7 +32,7 @@ use Rattle.model.specs.Calls.{interrupt, code}
 use Rattle.model.specs.Answers.{End}
 use Rattle.model.specs.Machine.{ended}
 use Rattle.state.specs.Wakes.{wakeCode, listed}
-use Rattle.state.specs.WakesLaws.{none-room, none-listed, listed-count}
+use Rattle.state.specs.WakesLaws.{unwoken-room, unwoken-listed, listed-count}
 use Rattle.proof_wake_ups.specs.Rooms.{Few}
 use Rattle.proof_book.specs.Sorting.{Sorting}
 use Rattle.model_ops.specs.Rings.{St}
@@ -337,11 +337,11 @@ module _ (D : Dir) (E : ℕ) (z : (d : Dir) → Else D E d 0) where
     whole = k .places;
     sorts = λ _. record { flags = λ dir e. refl; outs = λ e l h. k .has .outs e l h; every = λ e l h. k .has .every e l h };
     plain = λ _. i;
-    room = λ _. none-room;
+    room = λ _. unwoken-room (s .0 .wakes) (k .codes);
   }
 
   heard-none : (s : St) → heard D E (concrete .act no-wakes s) ≡ 0
-  heard-none s = ap (howOften (wakeCode D E)) none-listed
+  heard-none s = ap (howOften (wakeCode D E)) (unwoken-listed (s .0 .wakes))
 
   -- fewer wake-ups than there is room for, so the list is not full
   ends-few : (y : Track) (t : St) → Kept D E true t → Heard D E y t → Few (ended (End 0 (listed (t .0 .wakes))))

@@ -10,9 +10,9 @@ use Rattle.bits.specs.Walk.{setBits}
 use Rattle.bits.specs.WalkLaws.{walk-length}
 use Rattle.regs.specs.declared.Access.{Access}
 use Rattle.regs.specs.declared.Reg.{Reg}
-use Rattle.state.specs.Driver.{Driver, withWakes}
-use Rattle.state.specs.Wakes.{none-woken, listed, all-woken}
-use Rattle.state.specs.WakesLaws.{Room, none-room, none-listed, all-room, all-listed, listed-count}
+use Rattle.state.specs.Driver.{Driver, withWakes, noneGathered}
+use Rattle.state.specs.Wakes.{listed, all-woken}
+use Rattle.state.specs.WakesLaws.{Room, unwoken-room, unwoken-listed, all-room, all-listed, listed-count}
 use Rattle.model.specs.Tree as tree
 use Rattle.model.specs.Tree.{Prog, bindOut}
 use Rattle.model.specs.Cells.{Cell, Val}
@@ -305,7 +305,7 @@ module _ {i : Bool} where
   within-operation {n = n} h x = record {
     on = λ t f s.
         twin-more
-        (ended-wakes x .on ((withWakes (t .0 .0) none-woken, []), t .1)
-        (record { room = none-room; list = none-listed }) (omega (arith, h)))
+        (ended-wakes x .on ((noneGathered (t .0 .0), []), t .1)
+        (record { room = unwoken-room (t .0 .0 .wakes) (f .room .long); list = unwoken-listed (t .0 .0 .wakes) }) (omega (arith, h)))
         (λ l g. omega (arith, grown-length g, h));
   }

@@ -9,7 +9,7 @@ use Rattle.state.specs.declared.Allocator.{Allocator}
 use Rattle.state.specs.declared.Globals.{Globals}
 use Rattle.state.specs.declared.Request.{Request}
 use Rattle.state.specs.declared.Control.{Control}
-use Rattle.state.specs.Wakes.{Wakes}
+use Rattle.state.specs.Wakes.{Wakes, unwoken}
 
 -- `eps` and `requests`: OUT 0 to 15, then IN 0 to 15; `lens`: 16 for each of `eps`; `stamps`: 16 for each OUT endpoint, the microframe with
 -- each packet; `paced`: a last microframe for each endpoint
@@ -178,6 +178,10 @@ withWakes d x = record {
   control = d .control;
   wakes = x;
 }
+
+-- no wake-up is gathered yet
+abbrev pub noneGathered : Driver → Driver
+noneGathered d = withWakes d (unwoken (d .wakes))
 
 -- the record of endpoint e, any number, in a direction
 unfoldable pub epOn : Driver → Dir → ℕ → EpState

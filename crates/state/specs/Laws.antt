@@ -5,7 +5,7 @@ use mathlib.Core.List.{List}
 use Prim.Native.Nat.{ℕ, _+_, _*_, _%_, _<_}
 use native.Mathlib.Omega.{arith}
 use lib.ListN.{length, getD, set}
-use lib.Seq.{getD-set-same, getD-set-other, set-getD}
+use lib.Seq.{getD-set-same, getD-set-other, set-getD, set-set}
 use Rattle.le_bytes.specs.Bytes.{gets, number}
 use Rattle.le_bytes.specs.TablesLaws.{length-tab}
 use Rattle.regs.specs.declared.Dir.{Dir}
@@ -69,9 +69,18 @@ unfolding stampKey
 stampKey-same e i f j h = (omega arith, omega arith)
 
 module _ (d : Driver) (dir : Dir) (e : ℕ) where
-  pub epOn-same : (r : EpState) → Sized d → epOn (withOn d dir e r) dir e ≡ r
+  -- a record that was stored and is loaded again is itself
+  pub epOn-stored : (r : EpState) → length (d .eps) ≡ 32 → epOn (withOn d dir e r) dir e ≡ r
   unfolding epOn withOn
-  epOn-same r s = getD-set-same (d .eps) (key dir e) r noEp (omega (arith, s .eps, key-lt dir e))
+  epOn-stored r h = getD-set-same (d .eps) (key dir e) r noEp (omega (arith, h, key-lt dir e))
+
+  pub epOn-same : (r : EpState) → Sized d → epOn (withOn d dir e r) dir e ≡ r
+  epOn-same r s = epOn-stored r (s .eps)
+
+  -- of two stores at one place the second is what counts
+  pub withOn-twice : (r q : EpState) → withOn (withOn d dir e r) dir e q ≡ withOn d dir e q
+  unfolding withOn
+  withOn-twice r q = ap (withEps d) (set-set (d .eps) (key dir e) r q)
 
   pub epOn-other : (r : EpState) (dir′ : Dir) (e′ : ℕ) → key dir′ e′ ≢ key dir e → epOn (withOn d dir e r) dir′ e′ ≡ epOn d dir′ e′
   unfolding epOn withOn

@@ -34,8 +34,13 @@ codesFrom a (suc n) = a ∷ codesFrom (a + 1) n
 unfoldable pub every-endpoint : List ℕ
 every-endpoint = codesFrom 16 16 ++ codesFrom 0 16
 
+-- as at power-on
 abbrev pub none-woken : Wakes
 none-woken = record { count = 0; codes = replicate 64 0 }
+
+-- an operation begins: none is listed, and the codes stand as they were
+abbrev pub unwoken : Wakes → Wakes
+unwoken w = withCount w 0
 
 -- "as a list, in order, repeats included"
 unfoldable pub listed : Wakes → List ℕ

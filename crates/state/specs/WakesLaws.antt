@@ -1,4 +1,5 @@
 -- One wake-up more stands last in the list, and as long as there are at most 64 none is lost. Assumes nothing.
+use mathlib.Core.Bool.{Bool, true, false, cond}
 use mathlib.Core.List.{List, [], _∷_, _++_, append-nil}
 use mathlib.Core.Path.{_≡_, refl, sym, ap, _∙_}
 use Prim.Native.Nat.{ℕ, zero, suc, _+_, _≤_, _<_}
@@ -6,9 +7,10 @@ use native.Mathlib.Omega.{arith}
 use native.Mathlib.Numerals.{add-one}
 use native.Mathlib.Nat.{add-zero}
 use borrow.Author.Tests.{lt-ltb, le-ltb}
+use lib.Dec.{ltb}
 use lib.ListN.{length, set, take, length-set}
 use lib.Seq.{take-suc-set, length-take-le, append-snoc}
-use Rattle.state.specs.Wakes.{Wakes, withCount, withCodes, codesFrom, none-woken, listed, woken, all-woken}
+use Rattle.state.specs.Wakes.{Wakes, withCount, withCodes, codesFrom, none-woken, unwoken, listed, woken, all-woken}
 
 -- room for 64, of which no more are taken
 pub record Room (w : Wakes) : Type 0 where
@@ -21,6 +23,14 @@ none-room = record { long = refl; within = omega arith }
 pub none-listed : listed none-woken ≡ []
 unfolding listed
 none-listed = refl
+
+-- an operation begins with the room that there was
+pub unwoken-room : (w : Wakes) → length (w .codes) ≡ 64 → Room (unwoken w)
+unwoken-room w h = record { long = h; within = omega arith }
+
+pub unwoken-listed : (w : Wakes) → listed (unwoken w) ≡ []
+unfolding listed
+unwoken-listed w = refl
 
 module _ (c : ℕ) (w : Wakes) where
   pub woken-room : w .count < 64 → woken c w ≡ withCount (withCodes w (set (w .codes) (w .count) c)) (w .count + 1)
@@ -45,7 +55,19 @@ module _ (c : ℕ) (w : Wakes) where
       ∙ ap (λ (n : ℕ). take n (set (w .codes) (w .count) c)) (add-one (w .count))
       ∙ take-suc-set (w .codes) (w .count) c (omega (arith, h, r .long))
 
+  woken-long : length (woken c w .codes) ≡ length (w .codes)
+  unfolding woken
+  woken-long = by (ltb (w .count) 64)
+    where
+      by : (b : Bool) → length (cond b (withCount (withCodes w (set (w .codes) (w .count) c)) (w .count + 1)) w .codes) ≡ length (w .codes)
+      by true = length-set (w .codes) (w .count) c
+      by false = refl
+
 -- several
+pub all-long : (cs : List ℕ) (w : Wakes) → length (all-woken cs w .codes) ≡ length (w .codes)
+all-long [] w = refl
+all-long (c ∷ cs) w = all-long cs (woken c w) ∙ woken-long c w
+
 pub all-room : (cs : List ℕ) (w : Wakes) → Room w → w .count + length cs ≤ 64 → Room (all-woken cs w)
 all-room [] w r h = r
 all-room (c ∷ cs) w r h =

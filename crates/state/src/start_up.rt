@@ -11,7 +11,6 @@ use crate::Request;
 use crate::STATE_LEN;
 use crate::Saved;
 use crate::clear_all_stamps;
-use crate::clear_wakes;
 use crate::codec::read_ep;
 use crate::codec::write_ep;
 use crate::codec::write_request;
@@ -20,6 +19,7 @@ use crate::store_allocator;
 use crate::store_control;
 use crate::store_globals;
 use crate::store_saved;
+use crate::wakes::fresh_wakes;
 use le_bytes::put16;
 ghost use mathlib.Core.Path.{_≡_};
 ghost use Prim.Native.Nat.{_+_, _≤_};
@@ -236,6 +236,6 @@ pub fn fresh(s: &mut [u8; STATE_LEN], size: u16, count: u16, callback: u8)
     fresh_globals(s, callback);
     fresh_allocator(s, size, count);
     fresh_control(s);
-    clear_wakes(s);
+    fresh_wakes(s);
     fresh_saved(s);
 }

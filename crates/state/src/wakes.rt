@@ -10,7 +10,7 @@ use regs::Dir;
 ghost use mathlib.Core.Path.{_≡_};
 ghost use Prim.Native.Nat.{_%_, _≤_};
 ghost use lib.ListN.{getD, set};
-ghost use Rattle.state.specs.Driver.{withWakes};
+ghost use Rattle.state.specs.Driver.{withWakes, noneGathered};
 ghost use Rattle.state.specs.State.{view, saved};
 ghost use Rattle.state.specs.Wakes.{wakeCode, none-woken, woken, withCount, withCodes};
 ghost use Rattle.state.specs.Fresh.{filled};
@@ -80,10 +80,19 @@ fn clear_codes(s: &mut [u8; STATE_LEN])
     }
 }
 
+// An operation begins: none is listed. What stands behind the list is left.
 pub fn clear_wakes(s: &mut [u8; STATE_LEN])
+    ensures { λ _. ⌜ view (now (s .exit)) ≡ noneGathered (view (now (s .entry))) ⌝ }
+    ensures { λ _. ⌜ saved (now (s .exit)) ≡ saved (now (s .entry)) ⌝ }
+{
+    store_count(s, 0);
+}
+
+// Start-up: every code 0.
+pub fn fresh_wakes(s: &mut [u8; STATE_LEN])
     ensures { λ _. ⌜ view (now (s .exit)) ≡ withWakes (view (now (s .entry))) none-woken ⌝ }
     ensures { λ _. ⌜ saved (now (s .exit)) ≡ saved (now (s .entry)) ⌝ }
 {
     clear_codes(s);
-    store_count(s, 0);
+    clear_wakes(s);
 }

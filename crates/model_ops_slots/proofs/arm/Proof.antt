@@ -2,9 +2,6 @@ use borrow.Author.Needs.{needs}
 use Rattle.model_ops_slots.proofs.arm.Statement.{statement}
 use Rattle.model_ops_slots.proofs.arm.Tie as tie
 
-load-ep-requires : tie.Need-load-ep-requires
-load-ep-requires c κs = search needs
-
 slot-addr-requires : tie.Need-slot-addr-requires
 slot-addr-requires c κs = search needs
 
@@ -21,28 +18,15 @@ same-length : tie.Need-same-length
 same-length c = search needs
 
 returns : tie.Need-returns
-returns c = (
-  simp (
-    c .before .before .before .before .before .before .before .slot-addr .ensures,
-    c .before .before .before .before .before .before .before .before .load-ep .ensures,
-  ),
-  (
-    simp (
-      c .before .before .before .before .store-ep .ensures .0,
-      c .before .before .before .before .before .armed .ensures,
-      c .before .before .before .before .before .before .before .slot-addr .ensures,
-      c .before .before .before .before .before .before .before .before .load-ep .ensures,
-    ),
-    (
-      simp (
-        c .before .before .iso-out-arm .ensures,
-        c .before .before .before .before .before .before .before .slot-addr .ensures,
-        c .before .before .before .before .before .before .before .before .load-ep .ensures,
+returns c =
+    let at = c .before .before .before .before .before .before .before .slot-addr .ensures in
+    let stored = c .before .before .before .before .store-ep .ensures in (
+      at,
+      (
+        simp (stored .0, c .before .before .before .before .before .armed .ensures, at),
+        (simp (c .before .before .iso-out-arm .ensures, at), stored .1),
       ),
-      c .before .before .before .before .store-ep .ensures .1,
-    ),
-  ),
-)
+    )
 
 pub arm-spec : {M : Type 1} → statement M
-arm-spec = tie.close (tie.spec load-ep-requires slot-addr-requires armed-requires store-ep-requires iso-out-arm-requires same-length returns)
+arm-spec = tie.close (tie.spec slot-addr-requires armed-requires store-ep-requires iso-out-arm-requires same-length returns)

@@ -1,25 +1,31 @@
 use mathlib.Core.Path.{_≡_, ap, _∙_}
 use mathlib.Core.List.{List}
 use Prim.Native.Nat.{ℕ}
+use lib.ListN.{length}
 use Rattle.regs.specs.declared.Dir.the-variants.{Out}
 use Rattle.state.specs.declared.EpState.{EpState}
 use Rattle.state.specs.Driver.{Driver, epOn}
 use Rattle.state.specs.State.{view}
-use Rattle.model_ops.specs.Rings.{St, admittedOn, armAt, arrivedAt}
+use Rattle.state.specs.Laws.{view-sized}
+use Rattle.ring.specs.Out.{arrivedOf}
+use Rattle.model_ops.specs.Rings.{St, recordedOn, armBy, arrivedAt}
+use Rattle.model_ops.specs.RingLaws.{arrived-once}
 use borrow.Author.Needs.{needs}
 use Rattle.model_ops_slots.proofs.arrived.Statement.{statement}
 use Rattle.model_ops_slots.proofs.arrived.Tie as tie
 
 -- the code's steps, each by its result
-stages : (e len : ℕ) (d : Driver) (b : List ℕ) {d′ : Driver} {r : EpState}
-    → d′ ≡ admittedOn d e len → r ≡ epOn d′ Out e → armAt e (r .head) (d′, b) ≡ arrivedAt e len (d, b)
-stages e len d b h₁ h₂ = simp (h₂, h₁)
+stages : (e len : ℕ) (d : Driver) (b : List ℕ) {d′ : Driver} {r x : EpState} → length (d .eps) ≡ 32
+    → r ≡ epOn d Out e → d′ ≡ recordedOn d e len → x ≡ arrivedOf r → armBy e x (x .head) (d′, b) ≡ arrivedAt e len (d, b)
+stages e len d b {d′} z h₁ h₂ h₃ =
+    ap (λ (q : EpState). armBy e q (q .head) (d′, b)) (h₃ ∙ ap arrivedOf h₁)
+    ∙ ap (λ (w : Driver). armBy e (arrivedOf (epOn d Out e)) (arrivedOf (epOn d Out e) .head) (w, b)) h₂ ∙ arrived-once e len d b z
 
-admit-requires : tie.Need-admit-requires
-admit-requires c κs = search needs
+record-requires : tie.Need-record-requires
+record-requires c κs = c .before .before .pre
 
-load-ep-requires : tie.Need-load-ep-requires
-load-ep-requires c κs = search needs
+arrived-requires : tie.Need-arrived-requires
+arrived-requires c κs = search needs
 
 arm-requires : tie.Need-arm-requires
 arm-requires c κs = search needs
@@ -29,19 +35,15 @@ same-length c = search needs
 
 returns : tie.Need-returns
 returns c =
-    let a = c .before .before .before .before .before .before .before .before .before .before .args in
-    let h = stages (a .e) (a .len)
-    (view (a .s .now)) (a .buf .now) (c .before .before .before .before .before .before .before .admit .ensures .0)
-    (c .before .before .before .before .before .load-ep .ensures) in (
-      c .before .before .arm .ensures .0 ∙ ap (λ (x : ℕ × St). x .0) h,
-      (
-        c .before .before .arm .ensures .1 .0 ∙ ap (λ (x : ℕ × St). x .1 .0) h,
-        (
-          c .before .before .arm .ensures .1 .1 .0 ∙ ap (λ (x : ℕ × St). x .1 .1) h,
-          c .before .before .arm .ensures .1 .1 .1 ∙ c .before .before .before .before .before .before .before .admit .ensures .1,
-        ),
-      ),
+    let st = c .before .before .before .before .before .before .before .before .before in
+    let a = st .args in
+    let recorded = c .before .before .before .before .before .before .«record» .ensures in
+    let r = c .before .before .arm .ensures in
+    let h = stages (a .e) (a .len) (view (a .s .now)) (a .buf .now) (view-sized (a .s .now) .eps) (st .pre .0) (recorded .0)
+    (c .before .before .before .before .before .arrived .ensures) in (
+      r .0 ∙ ap (λ (x : ℕ × St). x .0) h,
+      (r .1 .0 ∙ ap (λ (x : ℕ × St). x .1 .0) h, (r .1 .1 .0 ∙ ap (λ (x : ℕ × St). x .1 .1) h, r .1 .1 .1 ∙ recorded .1)),
     )
 
 pub arrived-spec : {M : Type 1} → statement M
-arrived-spec = tie.close (tie.spec admit-requires load-ep-requires arm-requires same-length returns)
+arrived-spec = tie.close (tie.spec record-requires arrived-requires arm-requires same-length returns)

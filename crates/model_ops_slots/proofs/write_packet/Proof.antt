@@ -3,9 +3,6 @@ use borrow.Author.Needs.{needs}
 use Rattle.model_ops_slots.proofs.write_packet.Statement.{statement}
 use Rattle.model_ops_slots.proofs.write_packet.Tie as tie
 
-load-globals-requires : tie.Need-load-globals-requires
-load-globals-requires c κs = search needs
-
 store-len-requires : tie.Need-store-len-requires
 store-len-requires c κs = search needs
 
@@ -14,9 +11,9 @@ store-stamp-requires c κs = search needs
 
 returns : tie.Need-returns
 returns c = (
-  simp (c .store-stamp .ensures .0, c .before .before .store-len .ensures .0, c .before .before .before .before .load-globals .ensures),
+  simp (c .store-stamp .ensures .0, c .before .before .store-len .ensures .0, c .before .before .before .before .pre),
   c .store-stamp .ensures .1 ∙ c .before .before .store-len .ensures .1,
 )
 
 pub write-packet-spec : {M : Type 1} → statement M
-write-packet-spec = tie.close (tie.spec load-globals-requires store-len-requires store-stamp-requires returns)
+write-packet-spec = tie.close (tie.spec store-len-requires store-stamp-requires returns)

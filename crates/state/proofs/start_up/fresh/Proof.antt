@@ -31,8 +31,8 @@ fresh-allocator-requires c κs = search needs
 fresh-control-requires : tie.Need-fresh-control-requires
 fresh-control-requires c κs = search needs
 
-clear-wakes-requires : tie.Need-clear-wakes-requires
-clear-wakes-requires c κs = search needs
+fresh-wakes-requires : tie.Need-fresh-wakes-requires
+fresh-wakes-requires c κs = search needs
 
 fresh-saved-requires : tie.Need-fresh-saved-requires
 fresh-saved-requires c κs = search needs
@@ -42,7 +42,7 @@ unfolding noStamps
 returns c =
     let st = c .before .before .before .before .before .before .before
     .before .before .before .before .before .before .before .before .before .before .before .before .before in (
-      c .fresh-saved .ensures .0 ∙ c .before .before .clear-wakes .ensures .0
+      c .fresh-saved .ensures .0 ∙ c .before .before .fresh-wakes .ensures .0
           ∙ ap (λ (d : Driver). withWakes d none-woken) (c .before .before .before .before .fresh-control .ensures
           ∙ ap (λ (d : Driver). withControl d noControl) (c .before .before .before .before .before .before .fresh-allocator .ensures
           ∙ ap (λ (d : Driver). withAllocator d (freshAllocator (st .args .size) (st .args .count)))
@@ -75,6 +75,6 @@ fresh-spec =
     fresh-globals-requires
     fresh-allocator-requires
     fresh-control-requires
-    clear-wakes-requires
+    fresh-wakes-requires
     fresh-saved-requires
     returns)
