@@ -27,12 +27,10 @@ at-site k {p} {xs} a e = on-site (saved xs) k (a .tagged) (a .numbered) ∙ ap u
 
 -- any other number
 first : (c : Saved) (k : ℕ) → NoneOf 25 k → point.Frame ≡ byNumber k c
-first c k (((((((((((((((((((((((((u, n1), n2), n3), n4), n5), n6), n7), n8), n9), n10), n11), n12), n13),
-    n14), n15), n16), n17), n18), n19), n20), n21), n22), n23), n24), n25) =
-    simp (ne-eqb k 1 n1, ne-eqb k 2 n2, ne-eqb k 3 n3, ne-eqb k 4 n4, ne-eqb k 5 n5, ne-eqb k 6 n6, ne-eqb k 7 n7, ne-eqb k 8 n8,
-    ne-eqb k 9 n9, ne-eqb k 10 n10, ne-eqb k 11 n11, ne-eqb k 12 n12, ne-eqb k 13 n13, ne-eqb k 14 n14, ne-eqb k 15 n15, ne-eqb k 16 n16,
-    ne-eqb k 17 n17, ne-eqb k 18 n18, ne-eqb k 19 n19, ne-eqb k 20 n20, ne-eqb k 21 n21, ne-eqb k 22 n22, ne-eqb k 23 n23, ne-eqb k 24 n24,
-    ne-eqb k 25 n25)
+first c k (((((((((((((((((((((((((z, a), b), d), e), f), g), h), i), j), l), m), n), o), p), q), r), s), t), u), v), w), x), y), A), B) =
+    simp (ne-eqb k 1 a, ne-eqb k 2 b, ne-eqb k 3 d, ne-eqb k 4 e, ne-eqb k 5 f, ne-eqb k 6 g, ne-eqb k 7 h, ne-eqb k 8 i, ne-eqb k 9 j)
+    (simp (ne-eqb k 10 l, ne-eqb k 11 m, ne-eqb k 12 n, ne-eqb k 13 o, ne-eqb k 14 p, ne-eqb k 15 q, ne-eqb k 16 r, ne-eqb k 17 s, ne-eqb k 18 t)
+    (simp (ne-eqb k 19 u, ne-eqb k 20 v, ne-eqb k 21 w, ne-eqb k 22 x, ne-eqb k 23 y, ne-eqb k 24 A, ne-eqb k 25 B)))
 
 pub at-first : (c : Saved) (k : ℕ) → c .tag ≡ 6 → c .site ≡ k → NoneOf 25 k → decode c ≡ under.Interrupt point.Frame
 at-first c k t h r = on-site c k t h ∙ ap under.Interrupt (sym (first c k r))

@@ -19,7 +19,7 @@ use Rattle.machine.specs.Stands.{NoneOf}
 use Rattle.machine_points.specs.Family.{Family}
 
 -- which point each number is
-pub read : (c : Saved) → c .tag ≡ 2 → decode c ≡ under.Bus (byNumber (c .sub) c)
+read : (c : Saved) → c .tag ≡ 2 → decode c ≡ under.Bus (byNumber (c .sub) c)
 unfolding codec.decode
 read c t = at-bus c (byNumber (c .sub) c) t refl
 
@@ -31,15 +31,13 @@ fits-word In e v h = h
 
 -- any other number
 first : (c : Saved) (k : ℕ) → NoneOf 23 k → point.Enable ≡ byNumber k c
-first c k (((((((((((((((((((((((u, n1), n2), n3), n4), n5), n6), n7), n8), n9), n10), n11), n12), n13),
-    n14), n15), n16), n17), n18), n19), n20), n21), n22), n23) =
-    simp (ne-eqb k 1 n1, ne-eqb k 2 n2, ne-eqb k 3 n3, ne-eqb k 4 n4, ne-eqb k 5 n5, ne-eqb k 6 n6, ne-eqb k 7 n7, ne-eqb k 8 n8,
-    ne-eqb k 9 n9, ne-eqb k 10 n10, ne-eqb k 11 n11, ne-eqb k 12 n12, ne-eqb k 13 n13, ne-eqb k 14 n14, ne-eqb k 15 n15, ne-eqb k 16 n16,
-    ne-eqb k 17 n17, ne-eqb k 18 n18, ne-eqb k 19 n19, ne-eqb k 20 n20, ne-eqb k 21 n21, ne-eqb k 22 n22, ne-eqb k 23 n23)
+first c k (((((((((((((((((((((((z, a), b), d), e), f), g), h), i), j), l), m), n), o), p), q), r), s), t), u), v), w), x), y) =
+    simp (ne-eqb k 1 a, ne-eqb k 2 b, ne-eqb k 3 d, ne-eqb k 4 e, ne-eqb k 5 f, ne-eqb k 6 g, ne-eqb k 7 h, ne-eqb k 8 i, ne-eqb k 9 j)
+    (simp (ne-eqb k 10 l, ne-eqb k 11 m, ne-eqb k 12 n, ne-eqb k 13 o, ne-eqb k 14 p, ne-eqb k 15 q, ne-eqb k 16 r, ne-eqb k 17 s, ne-eqb k 18 t)
+    (simp (ne-eqb k 19 u, ne-eqb k 20 v, ne-eqb k 21 w, ne-eqb k 22 x, ne-eqb k 23 y)))
 
 pub at-first : (c : Saved) (k : ℕ) → c .tag ≡ 2 → c .sub ≡ k → NoneOf 23 k → decode c ≡ under.Bus point.Enable
 at-first c k t h r = read c t ∙ ap under.Bus (ap (λ (n : ℕ). byNumber n c) h ∙ sym (first c k r))
 
-abbrev pub bus : Family under.Bus
-bus = record { fits = fitsAt; rest = denote; awaits = awaitsAt; mark = 2; byNumber = byNumber;
-  gone = gone-bus; stay = stay-bus; stood = λ q p d b h. simp h; read = read }
+pub bus : Family under.Bus fitsAt denote awaitsAt 2 byNumber
+bus = record { gone = gone-bus; stay = stay-bus; stood = λ q p d b h. simp h; read = read }

@@ -21,7 +21,7 @@ use Rattle.machine.specs.Stands.{NoneOf}
 use Rattle.machine_points.specs.Family.{Family}
 
 -- which point each number is
-pub read : (c : Saved) → c .tag ≡ 3 → decode c ≡ under.Control (byNumber (c .sub) c)
+read : (c : Saved) → c .tag ≡ 3 → decode c ≡ under.Control (byNumber (c .sub) c)
 unfolding codec.decode
 read c t = at-control c (byNumber (c .sub) c) t refl
 
@@ -33,12 +33,11 @@ fits-ack In v h = h
 
 -- any other number
 first : (c : Saved) (k : ℕ) → NoneOf 8 k → point.Wrote ≡ byNumber k c
-first c k ((((((((u, n1), n2), n3), n4), n5), n6), n7), n8) =
-    simp (ne-eqb k 1 n1, ne-eqb k 2 n2, ne-eqb k 3 n3, ne-eqb k 4 n4, ne-eqb k 5 n5, ne-eqb k 6 n6, ne-eqb k 7 n7, ne-eqb k 8 n8)
+first c k ((((((((z, a), b), d), e), f), g), h), i) =
+    simp (ne-eqb k 1 a, ne-eqb k 2 b, ne-eqb k 3 d, ne-eqb k 4 e, ne-eqb k 5 f, ne-eqb k 6 g, ne-eqb k 7 h, ne-eqb k 8 i)
 
 pub at-first : (c : Saved) (k : ℕ) → c .tag ≡ 3 → c .sub ≡ k → NoneOf 8 k → decode c ≡ under.Control point.Wrote
 at-first c k t h r = read c t ∙ ap under.Control (ap (λ (n : ℕ). byNumber n c) h ∙ sym (first c k r))
 
-abbrev pub control : Family under.Control
-control = record { fits = fitsAt; rest = λ p v t. run concrete (denote p v) t; awaits = awaitsAt; mark = 3; byNumber = byNumber;
-  gone = gone-control; stay = stay-control; stood = λ q p d b h. simp h; read = read }
+pub control : Family under.Control fitsAt (λ p v t. run concrete (denote p v) t) awaitsAt 3 byNumber
+control = record { gone = gone-control; stay = stay-control; stood = λ q p d b h. simp h; read = read }

@@ -21,7 +21,7 @@ use Rattle.machine.specs.Stands.{NoneOf}
 use Rattle.machine_points.specs.Family.{Family}
 
 -- which point each number is
-pub read : (c : Saved) → c .tag ≡ 4 → decode c ≡ under.Endpoint (byNumber (c .sub) c)
+read : (c : Saved) → c .tag ≡ 4 → decode c ≡ under.Endpoint (byNumber (c .sub) c)
 unfolding codec.decode
 read c t = at-endpoint c (byNumber (c .sub) c) t refl
 
@@ -33,12 +33,11 @@ fits-ack In e v h = h
 
 -- any other number
 first : (c : Saved) (k : ℕ) → NoneOf 2 k → point.Wrote ≡ byNumber k c
-first c k ((u, n1), n2) =
-    simp (ne-eqb k 1 n1, ne-eqb k 2 n2)
+first c k ((z, a), b) =
+    simp (ne-eqb k 1 a, ne-eqb k 2 b)
 
 pub at-first : (c : Saved) (k : ℕ) → c .tag ≡ 4 → c .sub ≡ k → NoneOf 2 k → decode c ≡ under.Endpoint point.Wrote
 at-first c k t h r = read c t ∙ ap under.Endpoint (ap (λ (n : ℕ). byNumber n c) h ∙ sym (first c k r))
 
-abbrev pub endpoint : Family under.Endpoint
-endpoint = record { fits = fitsAt; rest = λ p v t. run concrete (denote p v) t; awaits = awaitsAt; mark = 4; byNumber = byNumber;
-  gone = gone-endpoint; stay = stay-endpoint; stood = λ q p d b h. simp h; read = read }
+pub endpoint : Family under.Endpoint fitsAt (λ p v t. run concrete (denote p v) t) awaitsAt 4 byNumber
+endpoint = record { gone = gone-endpoint; stay = stay-endpoint; stood = λ q p d b h. simp h; read = read }

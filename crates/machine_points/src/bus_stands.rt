@@ -126,7 +126,11 @@ pub fn stand_no_length(s: &mut [u8; STATE_LEN], q: Access, e: u8, iso: bool, on:
 pub fn stand_words(s: &mut [u8; STATE_LEN], q: Access, d: Dir, e: u8, iso: bool, on: bool) -> Step
     ensures { λ r. ⌜ Stands r q (Under.Bus (Point.Words d e iso on)) (now (s .entry)) (now (s .exit)) ⌝ }
 {
-    stand(s, q, code(TAG, 21, dir_as(d), flag_of(on), flag_of(iso), 0, e))
+    stand(
+        s,
+        q,
+        code(TAG, 21, dir_as(d), flag_of(on), flag_of(iso), 0, e),
+    )
 }
 
 // Ep_type is set; enabled.

@@ -64,10 +64,13 @@ returns-4 c = (
 
 returns-5 : tie.Need-returns-5
 returns-5 c =
-    let stood = c .asks .ensures _ (as-control _ _ (c .before .encode .ensures)) in
-    (λ out b. handed-out stood _ (stood .answered) out b ∙ simp (c .before .before .before .before .n4 .given .1,
-    linked-polled _ _ _ (c .before .before .before .before .n4 .given .1) (c .before .before .before .before .before .before .pre .0)),
-    stored-by stood _ (stood .answered) _)
+    let stood = c .asks .ensures _ (as-control _ _ (c .before .encode .ensures)) in (
+      λ out b. handed-out stood _ (stood .answered) out b ∙ simp (
+        c .before .before .before .before .n4 .given .1,
+        linked-polled _ _ _ (c .before .before .before .before .n4 .given .1) (c .before .before .before .before .before .before .pre .0),
+      ),
+      stored-by stood _ (stood .answered) _,
+    )
 
 pub polled-control-spec : {M : Type 1} → statement M
 polled-control-spec =

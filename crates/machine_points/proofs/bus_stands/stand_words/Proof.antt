@@ -24,8 +24,12 @@ returns : tie.Need-returns
 unfolding encode codec.encode
 returns c =
     stands-at (c .stand .ensures)
-    (simp (c .before .code .ensures, c .before .before .flag-of2 .ensures, c .before .before .before .flag-of .ensures,
-      c .before .before .before .before .dir-as .ensures))
+    (simp (
+      c .before .code .ensures,
+      c .before .before .flag-of2 .ensures,
+      c .before .before .before .flag-of .ensures,
+      c .before .before .before .before .dir-as .ensures,
+    ))
 
 pub stand-words-spec : {M : Type 1} → statement M
 stand-words-spec = tie.close (tie.spec dir-as-requires flag-of-requires flag-of-requires-2 code-requires stand-requires returns)
